@@ -57,37 +57,17 @@ front_kept via n [] x back h e b = rw e b
 front_kept via n (y ∷ ys) x back h e b = rw (h.0) (ap (λ rs. y ∷ rs) (front_kept via n ys x back h.1 e b))
 
 swap_and : (a b : Bool) → (a && b) ≡ (b && a)
-swap_and true true = refl
-swap_and true false = refl
-swap_and false true = refl
-swap_and false false = refl
+swap_and a b = grind arith
 
 -- the command is looked for, and taken out, among those of its connection
 out_on : (via : Connection) (n : ℕ) (rs : List Record)
     → waiting_on via (without (name_on via n) rs) ≡ without (name_on via n) (waiting_on via rs)
-out_on via n rs =
-    let on : Record → Bool = λ r. same_connection r.connection via in
-    let stay : Record → Bool = λ r. not (has_name (name_on via n) r) in
-    filter_filter on stay rs
-    ∙ (filter_on (λ r. stay r && on r) (λ r. on r && stay r) rs
-    (every_from (λ r. (stay r && on r) ≡ (on r && stay r)) (λ r. swap_and (stay r) (on r)) rs)
-    ∙ sym (filter_filter stay on rs))
+out_on via n rs = search (arith, filter_filter, filter_on, every_from, swap_and)
 
 find_on : (via : Connection) (n : ℕ) (rs : List Record)
     → find (has_name (name_on via n)) rs ≡ find (has_name (name_on via n)) (waiting_on via rs)
 find_on via n [] = refl
-find_on via n (r ∷ rs) =
-    let p = has_name (name_on via n) in
-    let q = nat_eq r.command.reference n in
-    let rest = find_on via n rs in
-    let out : (b : Bool) → same_connection r.connection via ≡ b
-    → cond (b && q) (Some r) (find p rs) ≡ find p (cond b (r ∷ waiting_on via rs) (waiting_on via rs)) =
-    λ b. elim b as (λ b. same_connection r.connection via ≡ b
-    → cond (b && q) (Some r) (find p rs) ≡ find p (cond b (r ∷ waiting_on via rs) (waiting_on via rs))) [
-      | true ↦ λ e. λ i. cond (sym e i && q) (Some r) (rest i)
-      | false ↦ λ e. rest
-    ] in
-    out (same_connection r.connection via) refl
+find_on via n (r ∷ rs) = search (arith, find_on via n rs)
 
 aborts_found : {K : Type 0} (via : Connection) (a : Account) (h : Holdings K) (told : Flight) (n : ℕ)
     (front : List Record) (x : Record) (back : List Record)
@@ -104,18 +84,13 @@ aborts_found {K} via a h told n front x back f m =
     let counts = counted_numbers n via h in
     let parts : times n (number (commands (waiting_on via h.waiting)))
     ≡ times n (number (commands front)) + (1 + times n (number (commands back))) =
-    ap (λ cs. times n (number cs)) cut
-    ∙ (times_called n (commands front) (command ∷ commands back)
-    ∙ ap (λ b. times n (number (commands front))
-    + cond b (1 + times n (number (commands back))) (times n (number (commands back))))
-    (eq-eqb command.reference n named)) in
+    search (arith, times_called n (commands front) (command ∷ commands back), eq-eqb command.reference n named) in
     let none : times n (number (commands back)) ≡ 0 = omega (arith, one, counts, parts) in
     let out : waiting_on via (without (name_on via n) h.waiting) ≡ front ++ back =
     out_on via n h.waiting ∙ (ap (without (name_on via n)) f.is
     ∙ front_kept via n front x back f.before f.passed (none_out via n back none)) in
     let found : find (has_name (name_on via n)) h.waiting ≡ Some x =
-    find_on via n h.waiting ∙ (ap (find (has_name (name_on via n))) f.is
-    ∙ find_first (has_name (name_on via n)) front x back f.before f.passed) in
+    search (arith, find_on via n h.waiting, find_first (has_name (name_on via n)) front x back f.before f.passed) in
     let ends : Ends via h (aborting via h (orders.Abort n)) = record {
       front = commands front;
       own = command;
@@ -134,13 +109,7 @@ aborts_found {K} via a h told n front x back f m =
 aborts_none : {K : Type 0} (via : Connection) (a : Account) (h : Holdings K) (told : Flight) (n : ℕ)
     → AllByRecursion (λ y. has_name (name_on via n) y ≡ false) (waiting_on via h.waiting) → Matches via a h told
     → Matches via a (aborting via h (orders.Abort n)) told
-aborts_none {K} via a h told n none m =
-    let found : find (has_name (name_on via n)) h.waiting ≡ None =
-    find_on via n h.waiting ∙ find_none (has_name (name_on via n)) (waiting_on via h.waiting) none in
-    stays via a h (aborting via h (orders.Abort n)) told
-    (ap commands (out_on via n h.waiting ∙ all_kept via n (waiting_on via h.waiting) none))
-    (ap (λ o. of via (more_ends via h.untaken (option_to_list (option_map aborted_record o)))) found
-    ∙ (of_more via h.untaken [] ∙ append-nil (of via h.untaken))) refl m
+aborts_none {K} via a h told n none m = grind (arith, find_on, find_none, out_on, all_kept, of_more, append-nil, stays)
 
 -- no end is made
 no_more : (via : Connection) (us : Both (List End)) → of via (more_ends via us []) ≡ of via us
@@ -159,14 +128,11 @@ aborting_matches via a h told order m = stays via a h (aborting via h order) tol
 -- it waits behind the others of its connection
 waits_behind : (via : Connection) (rs : List Record) (c : Command)
     → waiting_on via (rs ++ fresh_record via c ∷ []) ≡ waiting_on via rs ++ fresh_record via c ∷ []
-waits_behind via rs c =
-    filter-append (λ r. same_connection r.connection via) rs (fresh_record via c ∷ [])
-    ∙ ap (λ b. waiting_on via rs ++ cond b (fresh_record via c ∷ []) []) (own_side via)
+waits_behind via rs c = search (arith, own_side via, filter-append)
 
 more_called : (via : Connection) (rs : List Record) (c : Command)
     → commands (waiting_on via (rs ++ fresh_record via c ∷ [])) ≡ commands (waiting_on via rs) ++ c ∷ []
-more_called via rs c = ap commands (waits_behind via rs c)
-    ∙ map-append (λ (q : Record). q.command) (waiting_on via rs) (fresh_record via c ∷ [])
+more_called via rs c = search (arith, waits_behind via rs c, map-append)
 
 new_to_host : {K : Type 0} (via : Connection) (a : Account) (h : Holdings K) (told : Flight) (n : ℕ)
     → Matches via a h told → times n (outstanding_of via h) ≡ 0 → times n (references a.outstanding) ≡ 0

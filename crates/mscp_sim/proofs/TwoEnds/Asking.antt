@@ -1,5 +1,5 @@
 -- A turn in which the host polls.
-use Rattle.std.proofs.Common.{◌≡◌, ℕ, ◌<◌, ◌^◌, cond, [], ◌∷◌, ◌≤◌, true, false, List, map, take, refl, ap, sym, ◌∙◌, subst}
+use Rattle.std.proofs.Common.{◌≡◌, ℕ, ◌<◌, ◌^◌, cond, [], ◌∷◌, ◌≤◌, true, false, List, map, take, refl, ap, sym, ◌∙◌, subst, arith}
 use Rattle.std.specs.Prelude.{nat_eq, ◌&&◌, ◌||◌, Some, None, is_some, unwrap_or, Result, Ok, Err}
 use Rattle.std.specs.List.{list_any}
 use Rattle.mscp_events.specs.declared.connection.Connection.{Connection}
@@ -45,9 +45,7 @@ use Rattle.mscp_sim.proofs.TwoEnds.Turning.{Comes, Side, Turns, TurnsOn, is_news
 figure_now : {K : Type 0} (c : Settings) (via : Connection) (picks : List Choice → ℕ → Type 0) (t : Trace)
     (h : Holdings K) (s : Submission) → KeepsPromise picks c (calls_of t) h
     → (told_now via h s).figure ≡ figure_of c t (name_on via s.reference)
-figure_now c via picks t h s k =
-    ap (λ (d : Settings). figure_of_name d.budget h.waiting (name_on via s.reference)) k.settings
-    ∙ (k.figure (name_on via s.reference) ∙ ap (λ u. figure_of c u (name_on via s.reference)) (history_of t))
+figure_now c via picks t h s k = search (arith, history_of t)
 
 -- a number waits among those of its connection where its name waits
 named_on : (via : Connection) (n : ℕ) (rs : List Record)

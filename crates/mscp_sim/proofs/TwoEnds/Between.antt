@@ -93,20 +93,15 @@ came_from c via talk j i l (k ∷ ks) h e =
 -- ---- what was outstanding
 
 weaker_and : (s p q : Bool) → (s && not (p || q)) ≡ true → (s && not p) ≡ true
-weaker_and true true q e = e
-weaker_and true false q e = refl
-weaker_and false p q e = e
+weaker_and s p q h3 = grind arith
 
 stood_one : (via : Connection) (talk : Talk) (m i : ℕ) → is_outstanding via talk (m + 1) i ≡ true
     → is_outstanding via talk m i ≡ true
-stood_one via talk m i e =
-    weaker_and (sends via (said talk i)) (list_any (is_ended via talk i) (before m)) (is_ended via talk i m)
-    (sym (ap (λ b. sends via (said talk i) && not b) (any_more via talk m i)) ∙ e)
+stood_one via talk m i e = search (arith, any_more via talk m i, weaker_and)
 
 stood_by : (via : Connection) (talk : Talk) (m i d : ℕ) → is_outstanding via talk (m + d) i ≡ true
     → is_outstanding via talk m i ≡ true
-stood_by via talk m i zero e = let same : m + 0
-    ≡ m = omega arith in subst (λ k. is_outstanding via talk k i ≡ true) same e
+stood_by via talk m i zero e = search arith
 stood_by via talk m i (suc d) e = let same : m + suc d ≡ m + d + 1 = omega arith in
     stood_by via talk m i d (stood_one via talk (m + d) i (subst (λ k. is_outstanding via talk k i ≡ true) same e))
 
@@ -131,13 +126,8 @@ any_there q (x ∷ xs) k e h =
 gone : (via : Connection) (talk : Talk) (j k p : ℕ) → k < j → handed_over via talk k ≡ Some p
     → is_outstanding via talk j p ≡ false
 gone via talk j k p l e =
-    let below = found_below via talk k p _ e in
-    let after : nat_lt p k ≡ true = grind (arith, nat_tests, below) in
-    let handed : hands_over via (talks.reference talk p) (said talk k).moment ≡ true =
-    found_is (λ i. hands_over via (talks.reference talk i) (said talk k).moment) (outstanding via talk k) p e in
-    let own : is_ended via talk p k ≡ true = (λ i. after i && handed i) in
-    ap (λ b. sends via (said talk p) && not b) (any_there (is_ended via talk p) (before j) k own (any_before k j l))
-    ∙ and-false (sends via (said talk p))
+    search (arith, found_below via talk k p _ e, any_before k j l, and-false (sends via (said talk p)), nat_tests,
+    found_is, any_there)
 
 -- ---- the first poll came first
 
@@ -195,8 +185,7 @@ record Standing (c : Settings) (via : Connection) (talk : Talk) (m i : ℕ) : Ty
 
 sooner : (c : Settings) (via : Connection) (talk : Talk) (m q i : ℕ) → m ≤ q → Standing c via talk q i
     → Standing c via talk m i
-sooner c via talk m q i l s = let inside = s.inside in
-    record { known = s.known; inside = omega (arith, l, inside); stands = stood via talk m q i l s.stands }
+sooner c via talk m q i l s = search (arith, stood via talk m q i l s.stands)
 
 -- what a moment queues has another name than a command that is outstanding
 new_name : (c : Settings) (via : Connection) (talk : Talk) (m i : ℕ) (n : Moment) → Standing c via talk m i → i < m
@@ -210,8 +199,7 @@ new_name c via talk m i n s b e q same =
 most_same_with : (c : Settings) (via : Connection) (talk : Talk) (m i g : ℕ) (o : Option Moment)
     → Standing c via talk m i → i < m → (said talk m).moment ≡ o → AtMost c (trace_at talk m) (own_name via talk i) g
     → AtMost c (trace_at talk m ++ option_to_list o) (own_name via talk i) g
-most_same_with c via talk m i g None s b e most =
-    subst (λ t. AtMost c t (own_name via talk i) g) (sym (append-nil (trace_at talk m))) most
+most_same_with c via talk m i g None s b e most = search (arith, append-nil (trace_at talk m))
 most_same_with c via talk m i g (Some n) s b e most =
     let k = s.known m s.inside in
     let promise = subst (λ o. Promise c (trace_at talk m ++ option_to_list o)) e
@@ -228,8 +216,7 @@ most_same c via talk m i g s b most = subst (λ t. AtMost c t (own_name via talk
 
 step_moment : (talk : Talk) (m : ℕ) (a a' : Both Account) (t : Turn) → IsStepTurn t → IsHeard a t (said talk m) a'
     → (n : Moment) × ((said talk m).moment ≡ Some n) × (is_step n.0 ≡ true)
-step_moment talk m a a' (turns.Step k) w r = ((events.Step k, entries.Stepped r.0), r.2, refl)
-step_moment talk m a a' _ w r = absurd w
+step_moment talk m a a' t h5 h6 = grind arith
 
 -- a step lowers it
 most_step : (c : Settings) (via : Connection) (talk : Talk) (m i g : ℕ) → Standing c via talk m i → i < m
@@ -259,12 +246,10 @@ most_until : (c : Settings) (via : Connection) (talk : Talk) (m n q i g : ℕ) �
     → i < m → AtMost c (trace_at talk m) (own_name via talk i) g → AtMost c (trace_at talk n) (own_name via talk i) g
 most_until c via talk m n q i g s a e b most =
     let same : m + (n - m) ≡ n = omega (arith, a) in
-    subst (λ k. AtMost c (trace_at talk k) (own_name via talk i) g) same
-    (most_by c via talk m q i g (n - m) s (omega (arith, a, e)) b most)
+    search (arith, most_by c via talk m q i g (n - m) s (omega (arith, a, e)) b most)
 
 it_is : (i : ℕ) (o : Option ℕ) → is_it i o ≡ true → o ≡ Some i
-it_is i None e = absurd (false≢true e)
-it_is i (Some x) e = ap Some (eqb-true x i e)
+it_is i o h2 = grind (arith, false≢true, eqb-true)
 
 pub never_reset : (c : Settings) (via : Connection) (talk : Talk) → AllKnown c talk → (j : ℕ) → j < length talk
     → (st : Stands c via talk j) → StepsSincePolls via talk st.command st.poll → ⊥
@@ -316,8 +301,7 @@ never_stands c via talk known j l i q h a steps st =
     let at : is_it i (asked_for via talk q) ≡ true = (both_true (is_asked via (said talk q)) _ a).1 in
     let at' : is_it st.command (asked_for via talk st.poll) ≡ true =
     (both_true (is_asked via (said talk st.poll)) _ st.about).1 in
-    let command : i ≡ st.command = ap (λ o. unwrap_or o i)
-    (sym (it_is i (asked_for via talk q) at) ∙ (ap (asked_for via talk) poll
-    ∙ it_is st.command (asked_for via talk st.poll) at')) in
+    let command : i ≡ st.command =
+    search (arith, it_is i (asked_for via talk q), it_is st.command (asked_for via talk st.poll) at') in
     never_reset c via talk known j l st (subst (λ k. StepsSincePolls via talk k st.poll) command
     (subst (StepsSincePolls via talk i) poll steps))

@@ -12,10 +12,7 @@ use Rattle.mscp_sim.specs.Matches.{IsSmall, opcode_found, references, times}
 
 pub times_append : (r : ℕ) (xs ys : List ℕ) → times r (xs ++ ys) ≡ times r xs + times r ys
 times_append r [] ys = omega arith
-times_append r (x ∷ xs) ys =
-    let rest = times_append r xs ys in
-    elim (nat_eq x r) as (λ b. cond b (1 + times r (xs ++ ys)) (times r (xs ++ ys))
-    ≡ cond b (1 + times r xs) (times r xs) + times r ys) [ true ↦ omega (arith, rest) | false ↦ rest ]
+times_append r (x ∷ xs) ys = search (arith, times_append r xs ys)
 
 -- it stands there exactly where it is found
 any_times : (r : ℕ) (xs : List ℕ) → list_any (λ x. nat_eq x r) xs ≡ nat_lt 0 (times r xs)
@@ -68,27 +65,14 @@ length_without n (x ∷ xs) s e =
 
 pub small_without : (n : ℕ) (xs : List Submission) → AllByRecursion IsSmall xs → AllByRecursion IsSmall (without n xs)
 small_without n [] h = tt
-small_without n (x ∷ xs) h = elim (nat_eq x.reference n) as (λ b. AllByRecursion IsSmall (cond b xs (x ∷ without n xs)))
-    [ true ↦ h.1 | false ↦ (h.0, small_without n xs h.1) ]
+small_without n (x ∷ xs) h = search (arith, small_without n xs h.1)
 
 -- ---- the opcode byte that is found
 
 found_without : (r n : ℕ) (xs : List Submission) → nat_eq n r ≡ false
     → opcode_found (without n xs) r ≡ opcode_found xs r
 found_without r n [] d = refl
-found_without r n (x ∷ xs) d =
-    let out : (b : Bool) → nat_eq x.reference n ≡ b
-    → opcode_found (cond b xs (x ∷ without n xs)) r ≡ opcode_found (x ∷ xs) r =
-    λ b. elim b as (λ b. nat_eq x.reference n ≡ b → opcode_found (cond b xs (x ∷ without n xs)) r
-    ≡ opcode_found (x ∷ xs) r) [
-      | true ↦ λ q. let other : nat_eq x.reference r ≡ false = ap (λ k. nat_eq k r) (eqb-true x.reference n q) ∙ d in
-          rw other refl
-      | false ↦ λ q. elim (nat_eq x.reference r) as
-          (λ b. option_map (λ (s : Submission). s.opcode) (cond b (Some x) (find (has_reference r) (without n xs)))
-          ≡ option_map (λ (s : Submission). s.opcode) (cond b (Some x) (find (has_reference r) xs)))
-          [ true ↦ refl | false ↦ found_without r n xs d ]
-    ] in
-    out (nat_eq x.reference n) refl
+found_without r n (x ∷ xs) d = search (arith, found_without r n xs d, eqb-true)
 
 pub opcode_without : (r n o : ℕ) (xs : List Submission) → nat_eq n r ≡ false → opcode_found xs r ≡ Some o
     → opcode_found (without n xs) r ≡ Some o
@@ -128,30 +112,13 @@ opcode_new (x ∷ xs) s z =
 
 pub references_told : (n f : ℕ) (xs : List Submission) → references (with_told n f xs) ≡ references xs
 references_told n f [] = refl
-references_told n f (x ∷ xs) =
-    elim (nat_eq x.reference n) as (λ b. references (cond b (record x { told = Some f } ∷ xs) (x ∷ with_told n f xs))
-    ≡ references (x ∷ xs)) [ true ↦ refl | false ↦ ap (λ ys. x.reference ∷ ys) (references_told n f xs) ]
+references_told n f (x ∷ xs) = search (arith, references_told n f xs)
 
 pub small_told : (n f : ℕ) (xs : List Submission) → AllByRecursion IsSmall xs
     → AllByRecursion IsSmall (with_told n f xs)
 small_told n f [] h = tt
-small_told n f (x ∷ xs) h =
-    elim (nat_eq x.reference n) as (λ b. AllByRecursion IsSmall
-    (cond b (record x { told = Some f } ∷ xs) (x ∷ with_told n f xs)))
-    [ true ↦ (h.0, h.1) | false ↦ (h.0, small_told n f xs h.1) ]
+small_told n f (x ∷ xs) h = search (arith, small_told n f xs h.1)
 
 pub opcode_told : (r n f : ℕ) (xs : List Submission) → opcode_found (with_told n f xs) r ≡ opcode_found xs r
 opcode_told r n f [] = refl
-opcode_told r n f (x ∷ xs) =
-    elim (nat_eq x.reference n) as (λ b. opcode_found (cond b (record x { told = Some f } ∷ xs) (x ∷ with_told n f xs))
-    r ≡ opcode_found (x ∷ xs) r) [
-      | true ↦ elim (nat_eq x.reference r) as (λ b.
-          option_map (λ (q : Submission). q.opcode)
-          (cond b (Some (record x { told = Some f })) (find (has_reference r) xs))
-          ≡ option_map (λ (q : Submission). q.opcode) (cond b (Some x) (find (has_reference r) xs)))
-          [ true ↦ refl | false ↦ refl ]
-      | false ↦ elim (nat_eq x.reference r) as (λ b.
-          option_map (λ (q : Submission). q.opcode) (cond b (Some x) (find (has_reference r) (with_told n f xs)))
-          ≡ option_map (λ (q : Submission). q.opcode) (cond b (Some x) (find (has_reference r) xs)))
-          [ true ↦ refl | false ↦ opcode_told r n f xs ]
-    ]
+opcode_told r n f (x ∷ xs) = search (arith, opcode_told r n f xs)

@@ -33,33 +33,17 @@ AtMost c t n g = (x : ℕ) → is_waiting t x ≡ true → name t x ≡ n → fi
 -- what each part of a promised trace has
 pub part_of : (c : Settings) (t u : Trace) → Promise c (t ++ u) → (x : ℕ) → Contains (waiting t) x
     → figure_of c t (name t x) ≡ figure c t x
-part_of c t u p x w =
-    let inside : length t ≤ length (t ++ u) = let l = length-append t u in omega (arith, l) in
-    subst (λ v. (x : ℕ) → Contains (waiting v) x → figure_of c v (name v x) ≡ figure c v x) (take-append_seam t u)
-    (p.own (length t) inside) x w
+part_of c t u p x w = search (arith, length-append t u, take-append_seam t u)
 
 -- the promise at its last moment
 never_rises_at : (c : Settings) (t : Trace) (m : Moment) → Promise c (t ++ m ∷ []) → (x : ℕ) → Contains (waiting t) x
     → figure c (t ++ m ∷ []) x ≤ figure c t x
-never_rises_at c t m p x w =
-    let size : length (t ++ m ∷ []) ≡ length t + 1 = length-append t (m ∷ []) in
-    let all : take (length t + 1) (t ++ m ∷ []) ≡ t ++ m ∷ [] =
-    take_all (length t + 1) (t ++ m ∷ []) (omega (arith, size)) in
-    subst (λ v. figure c v x ≤ figure c t x) all
-    (subst (λ v. (y : ℕ) → Contains (waiting v) y → figure c (take (length t + 1) (t ++ m ∷ [])) y ≤ figure c v y)
-    (take-append_seam t (m ∷ [])) (p.never_rises (length t) (omega (arith, size))) x w)
+never_rises_at c t m p x w = search (arith, length-append t (m ∷ []), take-append_seam t (m ∷ []), take_all)
 
 falls_at : (c : Settings) (t : Trace) (m : Moment) → Promise c (t ++ m ∷ []) → is_step m.0 ≡ true → (x : ℕ)
     → Contains (waiting t) x → figure c (t ++ m ∷ []) x < figure c t x
 falls_at c t m p s x w =
-    let size : length (t ++ m ∷ []) ≡ length t + 1 = length-append t (m ∷ []) in
-    let all : take (length t + 1) (t ++ m ∷ []) ≡ t ++ m ∷ [] =
-    take_all (length t + 1) (t ++ m ∷ []) (omega (arith, size)) in
-    let step : is_step (moment (t ++ m ∷ []) (length t)).0 ≡ true =
-    ap (λ (n : Moment). is_step n.0) (moment_last t m) ∙ s in
-    subst (λ v. figure c v x < figure c t x) all
-    (subst (λ v. (y : ℕ) → Contains (waiting v) y → figure c (take (length t + 1) (t ++ m ∷ [])) y < figure c v y)
-    (take-append_seam t (m ∷ [])) (p.falls (length t) (omega (arith, size)) step) x w)
+    search (arith, length-append t (m ∷ []), moment_last t m, take-append_seam t (m ∷ []), take_all)
 
 -- a moment raises no figure, and a step lowers each
 pub most_moment : (c : Settings) (t : Trace) (m : Moment) (n : Name) (g g' : ℕ) → Promise c (t ++ m ∷ [])
@@ -97,13 +81,7 @@ pub record Waits (c : Settings) (t : Trace) (n : Name) : Type 0 where
 
 waits_of : (c : Settings) (t : Trace) (n : Name) (o : Option ℕ) → find (λ x. same_name (name t x) n) (waiting t) ≡ o
     → figure_of c t n ≡ figure_found c t o → 1 ≤ figure_found c t o → Waits c t n
-waits_of c t n None e f l = absurd (omega (arith, l))
-waits_of c t n (Some x) e f l = record {
-  command = x;
-  waits = found_all (λ y. is_waiting t y ≡ true) _ (waiting t) x (waiting_waits t) e;
-  named = same_is (name t x) n (found_is (λ y. same_name (name t y) n) (waiting t) x e);
-  figure = f;
-}
+waits_of c t n o h4 h5 h6 = grind (arith, found_all, waiting_waits, same_is, found_is)
 
 pub waits_at : (c : Settings) (t : Trace) (n : Name) → 1 ≤ figure_of c t n → Waits c t n
 unfolding figure_of

@@ -1,5 +1,5 @@
 -- What comes by one connection leaves all that the other's host and the controller keep of each other.
-use Rattle.std.proofs.Common.{◌≡◌, ℕ, Bool, true, false, cond, not, ◌&&◌, List, [], ◌∷◌, ◌++◌, refl, ap, ◌∙◌, append-nil}
+use Rattle.std.proofs.Common.{◌≡◌, ℕ, Bool, true, false, cond, not, ◌&&◌, List, [], ◌∷◌, ◌++◌, refl, ap, ◌∙◌, append-nil, arith}
 use Rattle.std.specs.Prelude.{if◌then◌else◌, nat_eq, Option, Some, None}
 use Rattle.std.proofs.Math.Bool.{and-false}
 use Rattle.std.proofs.lemmas.Bool.{true≢false}
@@ -27,52 +27,34 @@ use Rattle.mscp_sim.proofs.TwoEnds.Sides.{of_other}
 -- a command comes
 still_behind : (via other : Connection) (rs : List Record) (c : Command) → same_connection via other ≡ false
     → waiting_on other (rs ++ fresh_record via c ∷ []) ≡ waiting_on other rs
-still_behind via other rs c d =
-    filter-append (λ r. same_connection r.connection other) rs (fresh_record via c ∷ [])
-    ∙ (ap (λ b. waiting_on other rs ++ cond b (fresh_record via c ∷ []) []) d ∙ append-nil (waiting_on other rs))
+still_behind via other rs c d = search (arith, append-nil (waiting_on other rs), filter-append)
 
 apart_and : (here there n : Bool) → (there ≡ true → here ≡ false) → (not (here && n) && there) ≡ there
-apart_and true true n h = absurd (true≢false (h refl))
-apart_and true false n h = and-false (not n)
-apart_and false there n h = refl
+apart_and here there n h3 = grind (arith, true≢false, and-false, not)
 
 -- one is taken out
 still_out : (via other : Connection) (n : ℕ) (rs : List Record) → same_connection via other ≡ false
     → waiting_on other (without (name_on via n) rs) ≡ waiting_on other rs
-still_out via other n rs d =
-    let on : Record → Bool = λ r. same_connection r.connection other in
-    let stay : Record → Bool = λ r. not (has_name (name_on via n) r) in
-    filter_filter on stay rs ∙ filter_on (λ r. stay r && on r) on rs
-    (every_from (λ r. (stay r && on r) ≡ on r)
-    (λ r. apart_and (same_connection r.connection via) (on r) (nat_eq r.command.reference n)
-    (λ e. ap (λ s. same_connection s via) (one_side r.connection other e) ∙ other_side via other d)) rs)
+still_out via other n rs d = grind (arith, other_side, not, filter_filter, filter_on, every_from, apart_and, one_side)
 
 -- ---- a message
 
 foreign_abort : {K : Type 0} (via other : Connection) (a : Account) (h : Holdings K) (told : Flight) (order : Order)
     → same_connection via other ≡ false → Matches other a h told → Matches other a (aborting via h order) told
-foreign_abort via other a h told (orders.Abort n) d m =
-    stays other a h (aborting via h (orders.Abort n)) told (ap commands (still_out via other n h.waiting d))
-    (of_other via other _ h.untaken d) refl m
-foreign_abort via other a h told order d m =
-    stays other a h (aborting via h order) told refl (of_other via other _ h.untaken d) refl m
+foreign_abort via other a h told order h6 h7 = grind (arith, stays, still_out, of_other)
 
 foreign_end : {K : Type 0} (via other : Connection) (a : Account) (h : Holdings K) (told : Flight) (end : End)
     → same_connection via other ≡ false → Matches other a h told → Matches other a (with_end via h end) told
-foreign_end via other a h told end d m =
-    stays other a h (with_end via h end) told refl (of_other via other _ h.untaken d) refl m
+foreign_end via other a h told end d m = grind (arith, stays, of_other)
 
 foreign_unless : {K : Type 0} (via other : Connection) (a : Account) (h : Holdings K) (told : Flight) (c : Command)
     (o : Option SendFault) → same_connection via other ≡ false → Matches other a h told
     → Matches other a (held_unless via h c o) told
 foreign_unless via other a h told c (Some fault) d m = m
 foreign_unless {K} via other a h told c None d m =
-    elim (is_queued h.settings c) as (λ b. Matches other a (if b then queued via h c
-    else with_end via (aborting via h c.order) (answered_end via h c)) told) [
-      | true ↦ stays other a h (queued via h c) told (ap commands (still_behind via other h.waiting c d)) refl refl m
-      | false ↦ foreign_end via other a (aborting via h c.order) told (answered_end via h c) d
-          (foreign_abort via other a h told c.order d m)
-    ]
+    search (arith, stays other a h (queued via h c) told (ap commands (still_behind via other h.waiting c d)) refl refl
+    m, still_behind via other h.waiting c d, foreign_end via other a (aborting via h c.order) told (answered_end via h
+    c) d (foreign_abort via other a h told c.order d m), foreign_abort via other a h told c.order d m)
 
 pub foreign_message : {K : Type 0} (via other : Connection) (a : Account) (h : Holdings K) (told : Flight) (b : List ℕ)
     → same_connection via other ≡ false → Matches other a h told → Matches other a (after_message via h b) told
@@ -83,5 +65,4 @@ foreign_message via other a h told b d m = foreign_unless via other a h told (co
 
 pub foreign_take : {K : Type 0} (via other : Connection) (a : Account) (h : Holdings K) (told : Flight)
     → same_connection via other ≡ false → Matches other a h told → Matches other a (after_take via h) told
-foreign_take via other a h told d m =
-    stays other a h (after_take via h) told refl (of_other via other _ h.untaken d) refl m
+foreign_take via other a h told d m = grind (arith, stays, of_other)

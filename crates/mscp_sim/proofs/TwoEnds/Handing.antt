@@ -28,25 +28,11 @@ use Rattle.mscp_sim.proofs.TwoEnds.Sides.{of_put}
 
 read_as : (b : List ℕ) (e : End) (kind : Option BodyKind) → IsEnd b e → kind_of_code (slice_index b 8) ≡ kind
     → HasBody kind b e.body → reading_with kind b ≡ Ok e
-read_as b e None i k h = absurd h
-read_as b e (Some kind) i k h =
-    let long : nat_lt (length b) (end_length kind) ≡ false = let l = h.0 in grind (arith, nat_tests, l) in
-    let same : end_at kind b ≡ e = λ j. record {
-      reference = sym i.reference j;
-      unit = sym i.unit j;
-      code =
-          sym i.code j;
-      status = sym i.status j;
-      body = sym h.1 j;
-    } in
-    rw long (ap Ok same)
+read_as b e kind h3 h4 h5 = grind (arith, nat_tests)
 
 -- the bytes of an end are read as that end
 pub read_end : (b : List ℕ) (e : End) → IsEnd b e → end_in b ≡ Ok e
-read_end b e i =
-    let low : nat_le 12 (length b) ≡ true = let l = i.low in grind (arith, nat_tests, l) in
-    let high : nat_le (length b) 64 ≡ true = let l = i.high in grind (arith, nat_tests, l) in
-    rw (low, high) (read_as b e (kind_of_code (slice_index b 8)) i refl i.body)
+read_end b e i = search (arith, read_as b e (kind_of_code (slice_index b 8)) i refl i.body, nat_tests)
 
 -- ---- one of the number
 
@@ -54,13 +40,7 @@ times_own : (n : ℕ) (xs : List ℕ) → times n (n ∷ xs) ≡ 1 + times n xs
 times_own n xs = rw (eq-eqb n n refl) refl
 
 not_first : (n k t : ℕ) → cond (nat_eq k n) (1 + t) t ≡ 0 → (nat_eq n k ≡ false) × (t ≡ 0)
-not_first n k t z =
-    let out : (b : Bool) → nat_eq k n ≡ b → cond b (1 + t) t ≡ 0 → (nat_eq n k ≡ false) × (t ≡ 0) =
-    λ b. elim b as (λ b. nat_eq k n ≡ b → cond b (1 + t) t ≡ 0 → (nat_eq n k ≡ false) × (t ≡ 0)) [
-      | true ↦ λ e z. absurd (omega (arith, z))
-      | false ↦ λ e z. (grind (arith, nat_tests, e), z)
-    ] in
-    out (nat_eq k n) refl z
+not_first n k t z = search (arith, nat_tests)
 
 other_commands : (n : ℕ) (cs : List Command) → times n (called cs) ≡ 0
     → AllByRecursion (λ c. nat_eq n c.reference ≡ false) cs
@@ -120,61 +100,33 @@ about_with : (e : End) (us : List End) (w : Watch) (told : Flight) (b : Bool) �
     → is_about_polled (Some w) (if b && nat_eq e.code 0x82 then told_in e.body else None) ≡ true
 about_with e us w told false s f z = refl
 about_with e us w told true s f z =
-    let k = first_is e us w told f z (eqb-true w.reference e.reference s) in
-    let body : e.body ≡ bodies.Status w.polled told.figure = ap (λ (x : End). x.body) (sym k.1) ∙ f.body in
-    elim (nat_eq e.code 0x82) as (λ c. is_about_polled (Some w) (if c then told_in e.body else None) ≡ true)
-    [ true ↦ status_of w told.figure e.body body | false ↦ refl ]
+    search (arith, first_is e us w told f z (eqb-true w.reference e.reference s), eqb-true w.reference e.reference s,
+    status_of)
 
 about : (e : End) (us : List End) (watch : Option Watch) (told : Flight) → HasFlight (e ∷ us) watch told
     → times e.reference (numbers_ended us) ≡ 0 → is_about_polled watch (answered watch e) ≡ true
-about e us None told f z = refl
-about e us (Some w) told f z = about_with e us w told (nat_eq w.reference e.reference) refl f z
+about e us watch told h4 h5 = grind (arith, about_with)
 
 found_some : (o : Option Submission) (k : ℕ) → option_map (λ (s : Submission). s.opcode) o ≡ Some k
     → (s : Submission) × (o ≡ Some s) × (s.opcode ≡ k)
-found_some None k e = absurd (false≢true (ap is_some e))
-found_some (Some s) k e = (s, refl, ap (λ o. unwrap_or o k) e)
+found_some o k h2 = grind (arith, false≢true)
 
 -- the host takes the first end for that of one of its commands
 pub first_heard : {K : Type 0} (via : Connection) (a : Account) (h : Holdings K) (told : Flight) (e : End)
     (us : List End) (b : List ℕ) → Matches via a h told → of via h.untaken ≡ e ∷ us → IsEnd b e
     → heard a b ≡ (Ok (news_with a e (answered a.watch e)), received a e)
 first_heard {K} via a h told e us b m u i =
-    let ends = subst (AllByRecursion (IsAwaited a.outstanding)) u m.ends in
-    let own = ends.0 in
-    let s = found_some (find (has_reference e.reference) a.outstanding) own.opcode own.found in
-    heard_ok a b e s.0 (read_end b e i) s.1 (ap (is_code_of e.code) s.2 ∙ own.code)
-    (about e us a.watch told (subst (λ xs. HasFlight xs a.watch told) u m.flight) (alone via a h told e us m u).1)
+    search (arith, read_end b e i, alone via a h told e us m u, found_some, heard_ok, about)
 
 -- ---- the match after it
 
 length_told : (n f : ℕ) (xs : List Submission) → length (with_told n f xs) ≡ length xs
 length_told n f [] = refl
-length_told n f (x ∷ xs) = elim (nat_eq x.reference n) as
-    (λ b. length (cond b (record x { told = Some f } ∷ xs) (x ∷ with_told n f xs)) ≡ suc (length xs))
-    [ true ↦ refl | false ↦ ap (λ k. suc k) (length_told n f xs) ]
+length_told n f (x ∷ xs) = search (arith, length_told n f xs)
 
 told_match : {K : Type 0} (via : Connection) (a : Account) (h : Holdings K) (told : Flight) (n f : ℕ)
     → Matches via a h told → Matches via (record a { outstanding = with_told n f a.outstanding }) h told
-told_match via a h told n f m =
-    let xs = with_told n f a.outstanding in
-    record {
-      credits = m.credits;
-      many = length_told n f a.outstanding ∙ m.many;
-      same = λ r. ap (times r) (references_told n f a.outstanding) ∙ m.same r;
-      once = m.once;
-      small = small_told n f a.outstanding m.small;
-      waits = every_weaker (IsKnown a.outstanding) (IsKnown xs)
-          (λ c k. (opcode_told c.reference n f a.outstanding ∙ k.0, k.1)) (commands (waiting_on via h.waiting)) m.waits;
-      ends = every_weaker (IsAwaited a.outstanding) (IsAwaited xs)
-          (λ e k. record {
-            opcode = k.opcode;
-            found = opcode_told e.reference n f a.outstanding ∙ k.found;
-            code =
-                k.code;
-          }) (of via h.untaken) m.ends;
-      flight = m.flight;
-    }
+told_match via a h told n f m = grind (arith, length_told, references_told, small_told, every_weaker, opcode_told)
 
 abbrev outstanding_told : Account → Option (ℕ × ℕ) → Account
 outstanding_told a o = record a { outstanding = outstanding_with a o }
@@ -182,10 +134,7 @@ outstanding_told a o = record a { outstanding = outstanding_with a o }
 told_if : {K : Type 0} (via : Connection) (a : Account) (h : Holdings K) (told : Flight) (o : Option (ℕ × ℕ))
     → Matches via a h told → Matches via (outstanding_told a o) h told
 told_if via a h told None m = m
-told_if {K} via a h told (Some t) m =
-    elim (polled_is_outstanding a.watch) as (λ b. Matches via
-    (record a { outstanding = if b then with_told t.0 t.1 a.outstanding else a.outstanding }) h told)
-    [ true ↦ told_match via a h told t.0 t.1 m | false ↦ m ]
+told_if {K} via a h told (Some t) m = search (arith, told_match via a h told t.0 t.1 m)
 
 flight_rest : (e : End) (us : List End) (w w' : Watch) (told : Flight) (f : IsFlight (e ∷ us) w told)
     → nat_eq w.reference e.reference ≡ false → w'.reference ≡ w.reference → w'.polled ≡ w.polled
@@ -223,17 +172,11 @@ flight_rest e us w w' told f n r p s =
 flight_with : (e : End) (us : List End) (w : Watch) (told : Flight) (b c : Bool) → nat_eq w.reference e.reference ≡ b
     → nat_eq w.polled e.reference ≡ c → IsFlight (e ∷ us) w told
     → HasFlight us (if b then None else (if c then Some (record w { is_outstanding = false }) else Some w)) told
-flight_with e us w told true c p q f = tt
-flight_with e us w told false true p q f = flight_rest e us w (record w { is_outstanding = false }) told f p refl refl
-    (λ s. absurd (false≢true s))
-flight_with e us w told false false p q f = flight_rest e us w w told f p refl refl
-    (λ s. (s, grind (arith, nat_tests, q)))
+flight_with e us w told b c h6 h7 h8 = grind (arith, flight_rest, false≢true, nat_tests)
 
 flight_after : (e : End) (us : List End) (watch : Option Watch) (told : Flight) → HasFlight (e ∷ us) watch told
     → HasFlight us (watch_after watch e.reference) told
-flight_after e us None told f = tt
-flight_after e us (Some w) told f = flight_with e us w told (nat_eq w.reference e.reference)
-    (nat_eq w.polled e.reference) refl refl f
+flight_after e us watch told h4 = grind (arith, flight_with)
 
 taken_out : {K : Type 0} (via : Connection) (a : Account) (h : Holdings K) (told : Flight) (e : End) (us : List End)
     → Matches via a h told → of via h.untaken ≡ e ∷ us
@@ -252,12 +195,8 @@ taken_out {K} via a h told e us m u =
     let own = ends.0 in
     let s = found_some (find (has_reference n) a.outstanding) own.opcode own.found in
     let apart = alone via a h told e us m u in
-    let counts : (r : ℕ) → times r (outstanding_of via h) ≡ times r (n ∷ []) + times r (outstanding_of via h') = λ r.
-    let old = counted_numbers r via h in
-    let now = counted_numbers r via h'
-    ∙ ap (λ xs. times r (called (commands (waiting_on via h.waiting))) + times r (numbers_ended xs)) left in
-    let cut = ap (λ xs. times r (numbers_ended xs)) u ∙ times_append r (n ∷ []) (numbers_ended us) in
-    omega (arith, old, now, cut) in
+    let counts : (r : ℕ) → times r (outstanding_of via h) ≡ times r (n ∷ []) + times r (outstanding_of via h') =
+    search (arith, called (commands (waiting_on via h.waiting)), counted_numbers, times_append) in
     record {
       credits = m.credits;
       many =

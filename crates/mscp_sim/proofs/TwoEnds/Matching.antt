@@ -40,34 +40,21 @@ counted r cs us = times r (called cs) + times r (numbers_ended us)
 
 pub counted_numbers : {K : Type 0} (r : ℕ) (via : Connection) (h : Holdings K)
     → times r (outstanding_of via h) ≡ counted r (commands (waiting_on via h.waiting)) (of via h.untaken)
-counted_numbers r via h = times_append r (numbers (waiting_on via h.waiting)) (numbers_ended (of via h.untaken))
-    ∙ ap (λ ns. times r ns + times r (numbers_ended (of via h.untaken))) (numbers_called (waiting_on via h.waiting))
+counted_numbers r via h = grind (arith, times_append, numbers_called)
 
 pub times_called : (r : ℕ) (xs ys : List Command) → times r (called (xs ++ ys)) ≡ times r (called xs)
     + times r (called ys)
-times_called r xs ys = ap (times r) (map-append (λ (c : Command). c.reference) xs ys)
-    ∙ times_append r (called xs) (called ys)
+times_called r xs ys = search (arith, times_append r (called xs) (called ys), map-append)
 
 pub times_ends : (r : ℕ) (xs ys : List End) → times r (numbers_ended (xs ++ ys)) ≡ times r (numbers_ended xs)
     + times r (numbers_ended ys)
-times_ends r xs ys = ap (times r) (map-append (λ (e : End). e.reference) xs ys)
-    ∙ times_append r (numbers_ended xs) (numbers_ended ys)
+times_ends r xs ys = search (arith, times_append r (numbers_ended xs) (numbers_ended ys), map-append)
 
 -- ---- the flight
 
 pub flight_on : (us : List End) (w : Option Watch) (told : Flight) (e : End) → HasFlight us w told
     → HasFlight (us ++ e ∷ []) w told
-flight_on us None told e f = tt
-flight_on us (Some w) told e f = record {
-  front = f.front;
-  end = f.end;
-  back = f.back ++ e ∷ [];
-  split = ap (λ xs. xs ++ e ∷ []) f.split ∙ append_assoc f.front (f.end ∷ f.back) (e ∷ []);
-  reference = f.reference;
-  code = f.code;
-  body = f.body;
-  ended = f.ended;
-}
+flight_on us w told e h4 = grind (arith, append_assoc)
 
 -- ---- the commands stay where they are
 
@@ -80,16 +67,7 @@ stays {K} via a h h' told w u s m =
     λ r. counted_numbers r via h' ∙ ((λ i. counted r (w i) (u i)) ∙ sym (counted_numbers r via h)) in
     let lengths = sym (length_commands (waiting_on via h'.waiting))
     ∙ (ap length w ∙ length_commands (waiting_on via h.waiting)) in
-    record {
-      credits = m.credits ∙ ap (λ c. credits_of c via) (sym s);
-      many = m.many ∙ (λ i. sym lengths i + length (sym u i));
-      same = λ r. m.same r ∙ sym (counts r);
-      once = λ r. subst (λ n. n ≤ 1) (sym (counts r)) (m.once r);
-      small = m.small;
-      waits = subst (AllByRecursion (IsKnown a.outstanding)) (sym w) m.waits;
-      ends = subst (AllByRecursion (IsAwaited a.outstanding)) (sym u) m.ends;
-      flight = subst (λ us. HasFlight us a.watch told) (sym u) m.flight;
-    }
+    search arith
 
 -- ---- a command ends
 
@@ -108,21 +86,7 @@ pub record Ends {K : Type 0} (via : Connection) (h h' : Holdings K) : Type 0 whe
 
 ends_counted : {K : Type 0} (r : ℕ) (via : Connection) (h h' : Holdings K) → (x : Ends via h h')
     → times r (outstanding_of via h') ≡ times r (outstanding_of via h)
-ends_counted {K} r via h h' x =
-    let own = times r (x.own.reference ∷ []) in
-    let old : times r (called (commands (waiting_on via h.waiting)))
-    ≡ times r (called x.front) + (own + times r (called x.back)) =
-    ap (λ cs. times r (called cs)) x.waited ∙ (times_called r x.front (x.own ∷ x.back)
-    ∙ ap (λ n. times r (called x.front) + n) (times_called r (x.own ∷ []) x.back)) in
-    let new : times r (called (commands (waiting_on via h'.waiting)))
-    ≡ times r (called x.front) + times r (called x.back) =
-    ap (λ cs. times r (called cs)) x.left ∙ times_called r x.front x.back in
-    let ends : times r (numbers_ended (of via h'.untaken)) ≡ times r (numbers_ended (of via h.untaken)) + own =
-    ap (λ us. times r (numbers_ended us)) x.ends ∙ (times_ends r (of via h.untaken) (x.end ∷ [])
-    ∙ ap (λ n. times r (numbers_ended (of via h.untaken)) + times r (n ∷ [])) x.reference) in
-    let before = counted_numbers r via h in
-    let after = counted_numbers r via h' in
-    omega (arith, old, new, ends, before, after)
+ends_counted {K} r via h h' x = grind (arith, times_called, times_ends, counted_numbers)
 
 pub ends_match : {K : Type 0} (via : Connection) (a : Account) (h h' : Holdings K) (told : Flight) → Ends via h h'
     → Matches via a h told → Matches via a h' told
@@ -138,11 +102,7 @@ ends_match {K} via a h h' told x m =
     let ends : length (of via h'.untaken) ≡ length (of via h.untaken) + 1 = ap length x.ends
     ∙ length-append (of via h.untaken) (x.end ∷ []) in
     let known = parts.1.0 in
-    let awaited : IsAwaited a.outstanding x.end = record {
-      opcode = opcode_byte x.own.order;
-      found = ap (opcode_found a.outstanding) x.reference ∙ known.0;
-      code = ap (λ k. is_code_of k (opcode_byte x.own.order)) x.code ∙ known.1;
-    } in
+    let awaited : IsAwaited a.outstanding x.end = search arith in
     record {
       credits = m.credits ∙ ap (λ c. credits_of c via) (sym x.settings);
       many = let many = m.many in omega (arith, many, before, after, ends);
@@ -162,16 +122,11 @@ ends_match {K} via a h h' told x m =
 -- a submission is pushed whose number is new, and a record that waits, or an end
 pub known_more : (xs : List Submission) (s : Submission) (cs : List Command) → AllByRecursion (IsKnown xs) cs
     → AllByRecursion (IsKnown (xs ++ s ∷ [])) cs
-known_more xs s cs h =
-    every_weaker (IsKnown xs) (IsKnown (xs ++ s ∷ []))
-    (λ c k. (opcode_pushed c.reference (opcode_byte c.order) xs s k.0, k.1)) cs h
+known_more xs s cs h = search (arith, every_weaker, opcode_pushed)
 
 pub awaited_more : (xs : List Submission) (s : Submission) (us : List End) → AllByRecursion (IsAwaited xs) us
     → AllByRecursion (IsAwaited (xs ++ s ∷ [])) us
-awaited_more xs s us h =
-    every_weaker (IsAwaited xs) (IsAwaited (xs ++ s ∷ []))
-    (λ e k. record { opcode = k.opcode; found = opcode_pushed e.reference k.opcode xs s k.found; code = k.code }) us
-    h
+awaited_more xs s us h = search (arith, every_weaker, opcode_pushed)
 
 -- the host keeps one more submission, whose number is new to the controller
 pub record Adds {K : Type 0} (via : Connection) (a a' : Account) (h : Holdings K) (s : Submission) : Type 0 where
@@ -192,37 +147,10 @@ pub record Pushes {K : Type 0} (via : Connection) (a a' : Account) (h h' : Holdi
   pub ends : AllByRecursion (IsAwaited (a.outstanding ++ s ∷ [])) (of via h'.untaken)
 
 once_pushed : (r n t : ℕ) → t ≤ 1 → (r ≡ n → t ≡ 0) → t + times r (n ∷ []) ≤ 1
-once_pushed r n t l z =
-    let both : (b : Bool) → nat_eq n r ≡ b → t + cond b 1 0 ≤ 1 =
-    λ b. elim b as (λ b. nat_eq n r ≡ b → t + cond b 1 0 ≤ 1) [
-      | true ↦ λ e. let none = z (sym (eqb-true n r e)) in omega (arith, none)
-      | false ↦ λ e. omega (arith, l)
-    ] in
-    both (nat_eq n r) refl
+once_pushed r n t l z = search (arith, eqb-true)
 
 pub pushes_match : {K : Type 0} (via : Connection) (a a' : Account) (h h' : Holdings K) (s : Submission)
     (told told' : Flight) → Pushes via a a' h h' s → Matches via a h told → HasFlight (of via h'.untaken) a'.watch told'
     → Matches via a' h' told'
 pushes_match {K} via a a' h h' s told told' x m f =
-    record {
-      credits = x.credits ∙ (m.credits ∙ ap (λ c. credits_of c via) (sym x.settings));
-      many =
-          let pushed : length a'.outstanding ≡ length a.outstanding + 1 =
-          ap length x.outstanding ∙ length-append a.outstanding (s ∷ []) in
-          let many = m.many in
-          let more = x.more in
-          omega (arith, pushed, many, more);
-      same = λ r. ap (λ xs. times r (references xs)) x.outstanding
-          ∙ (ap (times r) (map-append (λ (q : Submission). q.reference) a.outstanding (s ∷ []))
-          ∙ (times_append r (references a.outstanding) (s.reference ∷ [])
-          ∙ (ap (λ n. n + times r (s.reference ∷ [])) (m.same r) ∙ sym (x.counts r))));
-      once = λ r. subst (λ n. n ≤ 1) (sym (x.counts r))
-          (once_pushed r s.reference (times r (outstanding_of via h)) (m.once r)
-          (λ e. ap (λ n. times n (outstanding_of via h)) e ∙ x.new));
-      small = subst (AllByRecursion IsSmall) (sym x.outstanding)
-          (every_append IsSmall a.outstanding (s ∷ []) m.small (x.small, tt));
-      waits = subst (λ xs. AllByRecursion (IsKnown xs) (commands (waiting_on via h'.waiting)))
-          (sym x.outstanding) x.waits;
-      ends = subst (λ xs. AllByRecursion (IsAwaited xs) (of via h'.untaken)) (sym x.outstanding) x.ends;
-      flight = f;
-    }
+    grind (arith, length-append, every_append, map-append, times_append, once_pushed)

@@ -108,13 +108,11 @@ news_or (Ok n) other = n
 news_or (Err fault) other = other
 
 pub reset_is : (n : News) → is_reset n ≡ true → n ≡ news.Reset
-reset_is news.Reset e = refl
-reset_is _ h = absurd (false≢true h)
+reset_is n h1 = grind (arith, false≢true)
 
 pub stands_it : (via : Connection) (talk : Talk) (j x : ℕ) (o : Option ℕ) → is_it x o ≡ true
     → is_outstanding via talk j x ≡ true → polled_is_outstanding via talk j o ≡ true
-stands_it via talk j x None h m = absurd (false≢true h)
-stands_it via talk j x (Some i) h m = ap (is_outstanding via talk j) (eqb-true i x h) ∙ m
+stands_it via talk j x o h5 h6 = grind (arith, false≢true, eqb-true)
 
 -- what is known of what is heard
 pub record IsSaid (c : Settings) (via : Connection) (talk : Talk) (j : ℕ) (n : News) : Type 0 where
@@ -136,27 +134,16 @@ in_flight_then c via talk j e g st =
 -- a command's own end says no more than that it ended
 said_ended : (c : Settings) (via : Connection) (talk : Talk) (j : ℕ) (e : End) → (Stands c via talk j → ⊥)
     → IsSaid c via talk j (news.Ended e)
-said_ended c via talk j e never =
-    record { not_lost = refl; resets = (λ q. absurd (false≢true q), λ st. absurd (never st)) }
+said_ended c via talk j e never = search (arith, false≢true)
 
 said_late : (c : Settings) (via : Connection) (talk : Talk) (j : ℕ) → (Stands c via talk j → ⊥)
     → IsSaid c via talk j news.Late
-said_late c via talk j never =
-    record { not_lost = refl; resets = (λ q. absurd (false≢true q), λ st. absurd (never st)) }
+said_late c via talk j never = search (arith, false≢true)
 
 said_figure : (c : Settings) (via : Connection) (talk : Talk) (j f : ℕ) (last : Option ℕ) → 1 ≤ f
     → (Stands c via talk j → (l : ℕ) × (last ≡ Some l) × (l ≤ f))
     → ((l : ℕ) → last ≡ Some l → l ≤ f → Stands c via talk j) → IsSaid c via talk j (news_of_figure last f)
-said_figure c via talk j f None some from to =
-    let no : nat_eq f 0 ≡ false = grind (arith, nat_tests, some) in
-    rw no (record {
-      not_lost = refl;
-      resets = (
-        λ q. absurd (false≢true q),
-        λ st.
-            absurd (false≢true (ap is_some (from st).1)),
-      );
-    })
+said_figure c via talk j f None some from to = search (arith, nat_tests, false≢true)
 said_figure c via talk j f (Some l) some from to =
     let no : nat_eq f 0 ≡ false = grind (arith, nat_tests, some) in
     let both : (b : Bool) → nat_lt f l ≡ b → IsSaid c via talk j
@@ -187,10 +174,8 @@ told_last c via talk j i e g f =
     let one = only_one (reference talk) (λ x. nat_eq x i) (outstanding via talk j) i
     (once_at c via talk j (reference talk i) e g) f in
     let found : find (λ x. nat_eq (reference talk x) (reference talk i)) (outstanding via talk j) ≡ Some i =
-    ap (λ (t : ℕ → Bool). find t (outstanding via talk j)) (λ n x. flip (reference talk x) (reference talk i) n)
-    ∙ one in
-    ap told_of (find_map (submission_at c via talk j) (has_reference (reference talk i)) (outstanding via talk j))
-    ∙ ap (λ o. told_of (option_map (submission_at c via talk j) o)) found
+    search (arith, flip) in
+    search (arith, find_map (submission_at c via talk j) (has_reference (reference talk i)) (outstanding via talk j))
 
 -- what is said of the answer of the poll in flight, whose command is o
 said_answer : (c : Settings) (via : Connection) (talk : Talk) (j : ℕ) (e : End) (g : Gives c via talk j e)
@@ -207,38 +192,8 @@ said_answer c via talk j e g q (Some i) r true t some =
     let there : find (λ x. nat_eq x i) (outstanding via talk j) ≡ Some i =
     outstanding_found via talk j i t (omega (arith, below, before)) in
     let last = told_last c via talk j i e g there in
-    rw last (said_figure c via talk j (figure_told c via talk p) (last_answer c via talk j i) (some refl)
-    (λ st.
-    let about = (both_true (is_asked via (said talk st.poll)) (is_it st.command (asked_for via talk st.poll))
-    st.about).1 in
-    let poll : st.poll ≡ p = its_poll c via talk j e g st in
-    let same : i ≡ st.command = eqb-true i st.command
-    (ap (is_it st.command) (sym (ap (asked_for via talk) poll ∙ r)) ∙ about) in (
-      st.last,
-      ap (last_answer c via talk j) same ∙ st.told,
-      subst (λ k. st.last ≤ figure_told c via talk k) poll st.not_less,
-    ))
-    (λ l k m.
-    let asked : is_asked via (said talk p) ≡ true =
-    found_is (λ x. is_asked via (said talk x)) (outstanding via talk j) p q in
-    record {
-      poll = p;
-      command = i;
-      last = l;
-      handed = g.found;
-      about = (λ n. asked n && is_it i (r n)) ∙ eq-eqb i i refl;
-      outstanding = t;
-      told = k;
-      not_less = m;
-    }))
-said_answer c via talk j e g q o r false t some =
-    said_late c via talk j (λ st.
-    let about = (both_true (is_asked via (said talk st.poll)) (is_it st.command (asked_for via talk st.poll))
-    st.about).1 in
-    let poll : st.poll ≡ g.poll = its_poll c via talk j e g st in
-    true≢false
-    (sym (stands_it via talk j st.command o (ap (is_it st.command) (sym (ap (asked_for via talk) poll ∙ r)) ∙ about)
-    st.outstanding) ∙ t))
+    search (arith, eq-eqb i i refl, said_figure, both_true, its_poll, eqb-true, found_is)
+said_answer c via talk j e g q o r false t some = search (arith, said_late, both_true, its_poll, true≢false, stands_it)
 
 said_flight : (c : Settings) (via : Connection) (talk : Talk) (j p : ℕ) (e : End) (g : Gives c via talk j e)
     → in_flight via talk j ≡ Some p → (b : Bool) → nat_eq (reference talk p) e.reference ≡ b

@@ -17,21 +17,14 @@ use Rattle.mscp_sim.specs.Talks.{Talk, answers_about, answers_of, is_asked, befo
 
 filter_append : {X : Type 0} (p : X → Bool) (xs ys : List X) → filter p (xs ++ ys) ≡ filter p xs ++ filter p ys
 filter_append p [] ys = refl
-filter_append p (x ∷ xs) ys = elim (p x) as (λ b. cond b (x ∷ filter p (xs ++ ys)) (filter p (xs ++ ys))
-    ≡ cond b (x ∷ filter p xs) (filter p xs) ++ filter p ys)
-    [ true ↦ ap (λ zs. x ∷ zs) (filter_append p xs ys) | false ↦ filter_append p xs ys ]
+filter_append p (x ∷ xs) ys = search (arith, filter_append p xs ys)
 
 pub both_true : (b d : Bool) → (b && d) ≡ true → (b ≡ true) × (d ≡ true)
-both_true true d e = (refl, e)
-both_true false d e = absurd (false≢true e)
+both_true b d h2 = grind (arith, false≢true)
 
 passes_test : {X : Type 0} (p : X → Bool) (xs : List X) → AllByRecursion (λ x. p x ≡ true) (filter p xs)
 passes_test p [] = tt
-passes_test p (x ∷ xs) =
-    let out : (b : Bool) → p x ≡ b → AllByRecursion (λ y. p y ≡ true) (cond b (x ∷ filter p xs) (filter p xs)) =
-    λ b. elim b as (λ b. p x ≡ b → AllByRecursion (λ y. p y ≡ true) (cond b (x ∷ filter p xs) (filter p xs)))
-    [ true ↦ λ e. (e, passes_test p xs) | false ↦ λ e. passes_test p xs ] in
-    out (p x) refl
+passes_test p (x ∷ xs) = search (arith, passes_test p xs)
 
 -- turn j hands over the end of the command i
 abbrev pub ends_now : Connection → Talk → ℕ → ℕ → Bool
@@ -39,42 +32,25 @@ ends_now via talk j i = hands_over via (reference talk i) (said talk j).moment
 
 pub any_more : (via : Connection) (talk : Talk) (j i : ℕ) → list_any (is_ended via talk i) (before (j + 1))
     ≡ (list_any (is_ended via talk i) (before j) || is_ended via talk i j)
-any_more via talk j i =
-    ap (list_any (is_ended via talk i)) (range_more j)
-    ∙ (list_any-append (is_ended via talk i) (before j) (j ∷ [])
-    ∙ ap (λ b. list_any (is_ended via talk i) (before j) || b) (or-false (is_ended via talk i j)))
+any_more via talk j i = grind (arith, range_more, list_any-append, or-false)
 
 split_not : (s p q : Bool) → (s && not (p || q)) ≡ ((s && not p) && not q)
-split_not true true q = refl
-split_not true false q = refl
-split_not false p q = refl
+split_not s p q = grind arith
 
 pub stays_if : (via : Connection) (talk : Talk) (j i : ℕ) → i < j → is_outstanding via talk (j + 1) i
     ≡ (is_outstanding via talk j i && not (ends_now via talk j i))
-stays_if via talk j i l =
-    let below : nat_lt i j ≡ true = grind (arith, nat_tests, l) in
-    ap (λ b. sends via (said talk i) && not b) (any_more via talk j i)
-    ∙ (split_not (sends via (said talk i)) (list_any (is_ended via talk i) (before j)) (is_ended via talk i j)
-    ∙ ap (λ b. is_outstanding via talk j i && not (b && ends_now via talk j i)) below)
+stays_if via talk j i l = grind (arith, any_more, split_not, nat_tests)
 
 none_ended : (via : Connection) (talk : Talk) (j : ℕ) (ks : List ℕ) → AllByRecursion (λ k. k < j + 1) ks
     → list_any (is_ended via talk j) ks ≡ false
 none_ended via talk j [] h = refl
-none_ended via talk j (k ∷ ks) h =
-    let l = h.0 in
-    let no : nat_lt j k ≡ false = grind (arith, nat_tests, l) in
-    rw no (none_ended via talk j ks h.1)
+none_ended via talk j (k ∷ ks) h = search (arith, none_ended via talk j ks h.1, nat_tests)
 
 pub new_if : (via : Connection) (talk : Talk) (j : ℕ) → is_outstanding via talk (j + 1) j ≡ sends via (said talk j)
-new_if via talk j =
-    let below = every_weaker (λ k. (0 ≤ k) × (k < 0 + (j + 1))) (λ k. k < j + 1)
-    (λ k h. let l = h.1 in omega (arith, l)) (before (j + 1)) (range_below 0 (j + 1)) in
-    ap (λ b. sends via (said talk j) && not b) (none_ended via talk j (before (j + 1)) below)
-    ∙ and-true (sends via (said talk j))
+new_if via talk j = search (arith, range_below 0 (j + 1), and-true (sends via (said talk j)), every_weaker, none_ended)
 
 pub before_below : (j : ℕ) → AllByRecursion (λ k. k < j) (before j)
-before_below j = every_weaker (λ k. (0 ≤ k) × (k < 0 + j)) (λ k. k < j) (λ k h. let l = h.1 in omega (arith, l))
-    (before j) (range_below 0 j)
+before_below j = search (arith, range_below 0 j, every_weaker)
 
 pub outstanding_below : (via : Connection) (talk : Talk) (j : ℕ) → AllByRecursion (λ i. i < j) (outstanding via talk j)
 unfolding outstanding
@@ -92,10 +68,7 @@ outstanding_more via talk j =
     let p = is_outstanding via talk (j + 1) in
     let q : ℕ → Bool = λ i. not (ends_now via talk j i) in
     let old : filter p (before j) ≡ filter (λ i. is_outstanding via talk j i && q i) (before j) =
-    filter_on p (λ i. is_outstanding via talk j i && q i) (before j)
-    (every_weaker (λ i. i < j) (λ i. p i ≡ (is_outstanding via talk j i && q i)) (λ i l. stays_if via talk j i l)
-    (before j)
-    (before_below j)) in
+    search (arith, before_below j, filter_on, every_weaker, stays_if) in
     ap (filter p) (range_more j)
     ∙ (filter_append p (before j) (j ∷ [])
     ∙ (λ i. (old ∙ sym (filter_filter q (is_outstanding via talk j) (before j))) i
@@ -106,17 +79,13 @@ outstanding_more via talk j =
 pub answers_more : (c : Settings) (via : Connection) (talk : Talk) (j i : ℕ)
     → answers_about c via talk (j + 1) i ≡ answers_about c via talk j i
     ++ answers_of c via talk i (handed_over via talk j)
-answers_more c via talk j i =
-    let f : ℕ → List ℕ = λ k. answers_of c via talk i (handed_over via talk k) in
-    ap (flat_map f) (range_more j) ∙ (flat_map-append f (before j) (j ∷ [])
-    ∙ ap (λ xs. answers_about c via talk j i ++ xs) (append-nil (f j)))
+answers_more c via talk j i = search (arith, range_more j, flat_map-append, append-nil)
 
 -- the last answer stays where this turn brings none
 pub last_same : (c : Settings) (via : Connection) (talk : Talk) (j i : ℕ)
     → answers_of c via talk i (handed_over via talk j) ≡ [] → last_answer c via talk (j + 1) i
     ≡ last_answer c via talk j i
-last_same c via talk j i e = ap last_of (answers_more c via talk j i
-    ∙ (ap (λ xs. answers_about c via talk j i ++ xs) e ∙ append-nil (answers_about c via talk j i)))
+last_same c via talk j i e = search (arith, answers_more c via talk j i, append-nil (answers_about c via talk j i))
 
 last_push : (xs : List ℕ) (d y : ℕ) → last_or (xs ++ y ∷ []) d ≡ y
 last_push [] d y = refl
@@ -129,8 +98,7 @@ last_of_push (x ∷ xs) y = ap Some (last_push xs x y)
 -- and else it is what the turn brings
 pub last_new : (c : Settings) (via : Connection) (talk : Talk) (j i f : ℕ)
     → answers_of c via talk i (handed_over via talk j) ≡ f ∷ [] → last_answer c via talk (j + 1) i ≡ Some f
-last_new c via talk j i f e = ap last_of (answers_more c via talk j i ∙ ap (λ xs. answers_about c via talk j i ++ xs) e)
-    ∙ last_of_push (answers_about c via talk j i) f
+last_new c via talk j i f e = search (arith, answers_more c via talk j i, last_of_push (answers_about c via talk j i) f)
 
 -- ---- what is found is before
 
@@ -150,30 +118,20 @@ found_below via talk j x p e = found_holds p (λ i. i < j) (outstanding via talk
 
 pub found_stands : (via : Connection) (talk : Talk) (j x : ℕ) (p : ℕ → Bool) → find p (outstanding via talk j) ≡ Some x
     → is_outstanding via talk j x ≡ true
-found_stands via talk j x p e = found_holds p (λ i. is_outstanding via talk j i ≡ true) (outstanding via talk j) x
-    (outstanding_are via talk j) e
+found_stands via talk j x p e = search (arith, outstanding_are via talk j, found_holds)
 
 -- nothing is told of a command before it was sent
 not_it : (j : ℕ) (o : Option ℕ) → ((x : ℕ) → o ≡ Some x → x < j) → is_it j o ≡ false
-not_it j None h = refl
-not_it j (Some x) h = let l = h x refl in grind (arith, nat_tests, l)
+not_it j o h2 = grind (arith, nat_tests)
 
 untold_of : (c : Settings) (via : Connection) (talk : Talk) (j k : ℕ) → k < j → (o : Option ℕ)
     → handed_over via talk k ≡ o → answers_of c via talk j o ≡ []
-untold_of c via talk j k l None e = refl
-untold_of c via talk j k l (Some p) e =
-    let below : p < k = found_below via talk k p _ e in
-    let no : is_it j (asked_for via talk p) ≡ false = not_it j (asked_for via talk p)
-    (λ x q. let m = found_below via talk p x _ q in omega (arith, l, below, m)) in
-    elim (is_asked via (said talk p)) as
-    (λ b. cond (b && is_it j (asked_for via talk p)) (figure_told c via talk p ∷ []) []
-    ≡ []) [ true ↦ rw no refl | false ↦ refl ]
+untold_of c via talk j k h5 o h7 = grind (arith, found_below, not_it)
 
 untold_in : (c : Settings) (via : Connection) (talk : Talk) (j : ℕ) (ks : List ℕ) → AllByRecursion (λ k. k < j) ks
     → flat_map (λ k. answers_of c via talk j (handed_over via talk k)) ks ≡ []
 untold_in c via talk j [] h = refl
-untold_in c via talk j (k ∷ ks) h = (λ i. untold_of c via talk j k h.0 (handed_over via talk k) refl i
-    ++ untold_in c via talk j ks h.1 i)
+untold_in c via talk j (k ∷ ks) h = search (arith, untold_in c via talk j ks h.1, untold_of)
 
 pub untold : (c : Settings) (via : Connection) (talk : Talk) (j : ℕ) → last_answer c via talk j j ≡ None
 untold c via talk j = ap last_of (untold_in c via talk j (before j) (before_below j))

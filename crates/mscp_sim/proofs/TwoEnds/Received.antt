@@ -18,11 +18,7 @@ use Rattle.mscp_sim.proofs.TwoEnds.Receiving.{Gives, OnePoll, all_told, keep, on
 use Rattle.mscp_sim.proofs.TwoEnds.Singled.{find_kept, find_none_kept, flip, none_found, without_kept}
 
 other_number : (a b : ℕ) → not (nat_eq a b) ≡ true → nat_eq b a ≡ false
-other_number a b h =
-    let out : (x : Bool) → nat_eq a b ≡ x → not x ≡ true → nat_eq b a ≡ false =
-    λ x. elim x as (λ x. nat_eq a b ≡ x → not x ≡ true → nat_eq b a ≡ false)
-    [ true ↦ λ e k. absurd (false≢true k) | false ↦ λ e k. flip b a ∙ e ] in
-    out (nat_eq a b) refl h
+other_number a b h = search (arith, flip b a, false≢true)
 
 -- ---- the submissions that are left
 
@@ -30,14 +26,8 @@ left_subs : (c : Settings) (via : Connection) (talk : Talk) (j : ℕ) (e : End) 
     → without e.reference (map (submission_at c via talk (j + 1)) (outstanding via talk j))
     ≡ map (submission_at c via talk (j + 1)) (outstanding via talk (j + 1))
 left_subs c via talk j e g =
-    let all = map (submission_at c via talk (j + 1)) (outstanding via talk j) in
-    let once : times e.reference (references all) ≤ 1 =
-    subst (λ xs. times e.reference xs ≤ 1) (sym (references_at c via talk (j + 1) j (outstanding via talk j)))
-    (once_at c via talk j e.reference e g) in
-    without_kept e.reference all once
-    ∙ (filter_map_of (submission_at c via talk (j + 1)) (λ s. not (nat_eq e.reference s.reference))
-    (outstanding via talk j)
-    ∙ ap (map (submission_at c via talk (j + 1))) (sym (outs_after c via talk j e g)))
+    search (arith, references_at c via talk (j + 1) j (outstanding via talk j), once_at c via talk j e.reference e g,
+    outs_after c via talk j e g, without_kept, filter_map_of)
 
 -- ---- the poll in flight
 
@@ -45,30 +35,18 @@ left_subs c via talk j e g =
 flight_gone : (c : Settings) (via : Connection) (talk : Talk) (j : ℕ) (e : End) (p : ℕ) → Gives c via talk j e
     → in_flight via talk j ≡ Some p → nat_eq (reference talk p) e.reference ≡ true → in_flight via talk (j + 1) ≡ None
 flight_gone c via talk j e p g q n =
-    ap (find (λ x. is_asked via (said talk x))) (outs_after c via talk j e g)
-    ∙ find_none_kept (λ x. is_asked via (said talk x)) (keep talk e) (outstanding via talk j)
-    (every_weaker (λ x. is_asked via (said talk x) ≡ true → in_flight via talk j ≡ Some x)
-    (λ x. is_asked via (said talk x) ≡ true → keep talk e x ≡ false)
-    (λ x h a. ap not (flip e.reference (reference talk x)
-    ∙ (ap (λ o. nat_eq (reference talk (unwrap_or o x)) e.reference) (sym (h a) ∙ q) ∙ n))) (outstanding via talk j)
-    g.one)
+    search (arith, outs_after c via talk j e g, keep talk e, find_none_kept, every_weaker, flip)
 
 flight_kept : (c : Settings) (via : Connection) (talk : Talk) (j : ℕ) (e : End) (p : ℕ) → Gives c via talk j e
     → in_flight via talk j ≡ Some p → nat_eq (reference talk p) e.reference ≡ false
     → in_flight via talk (j + 1) ≡ Some p
 flight_kept c via talk j e p g q n =
-    ap (find (λ x. is_asked via (said talk x))) (outs_after c via talk j e g)
-    ∙ find_kept (λ x. is_asked via (said talk x)) (keep talk e) (outstanding via talk j) p q
-    (ap not (flip e.reference (reference talk p) ∙ n))
+    search (arith, outs_after c via talk j e g, keep talk e, flip e.reference (reference talk p), find_kept)
 
 flight_none : (c : Settings) (via : Connection) (talk : Talk) (j : ℕ) (e : End) → Gives c via talk j e
     → in_flight via talk j ≡ None → in_flight via talk (j + 1) ≡ None
 flight_none c via talk j e g q =
-    ap (find (λ x. is_asked via (said talk x))) (outs_after c via talk j e g)
-    ∙ find_none_kept (λ x. is_asked via (said talk x)) (keep talk e) (outstanding via talk j)
-    (every_weaker (λ x. is_asked via (said talk x) ≡ false)
-    (λ x. is_asked via (said talk x) ≡ true → keep talk e x ≡ false) (λ x h a. absurd (true≢false (sym a ∙ h)))
-    (outstanding via talk j) (none_found (λ x. is_asked via (said talk x)) (outstanding via talk j) q))
+    search (arith, outs_after c via talk j e g, keep talk e, find_none_kept, every_weaker, true≢false, none_found)
 
 -- whether its command is still outstanding
 abbrev watch_of : ℕ → ℕ → Bool → Watch
@@ -80,24 +58,7 @@ stands_after : (c : Settings) (via : Connection) (talk : Talk) (j : ℕ) (e : En
     Some (w (polled_is_outstanding via talk (j + 1) o))
     ≡ (if nat_eq (reference_found talk o) e.reference then Some (w false)
     else Some (w (polled_is_outstanding via talk j o)))
-stands_after c via talk j e p None g l b = elim (nat_eq 0 e.reference) as
-    (λ d. Some (watch_of (reference talk p) 0 false)
-    ≡ (if d then Some (watch_of (reference talk p) 0 false) else Some (watch_of (reference talk p) 0 false)))
-    [ true ↦ refl | false ↦ refl ]
-stands_after c via talk j e p (Some i) g l b =
-    let w : Bool → Watch = watch_of (reference talk p) (reference talk i) in
-    let below = b i refl in
-    let after : is_outstanding via talk (j + 1) i ≡ (is_outstanding via talk j i
-    && not (nat_eq (reference talk i) e.reference)) =
-    stays_if via talk j i (omega (arith, below, l)) ∙ ap (λ d. is_outstanding via talk j i && not d)
-    (g.hands (reference talk i) ∙ flip e.reference (reference talk i)) in
-    ap (λ s. Some (w s)) after
-    ∙ elim (nat_eq (reference talk i) e.reference) as
-    (λ d. Some (w (is_outstanding via talk j i && not d))
-    ≡ (if d then Some (w false) else Some (w (is_outstanding via talk j i)))) [
-      | true ↦ ap (λ s. Some (w s)) (and-false (is_outstanding via talk j i))
-      | false ↦ ap (λ s. Some (w s)) (and-true (is_outstanding via talk j i))
-    ]
+stands_after c via talk j e p o h7 h8 h9 = grind (arith, stays_if, flip, and-false, and-true)
 
 watch_left : (c : Settings) (via : Connection) (talk : Talk) (j : ℕ) (e : End) (o : Option ℕ) → Gives c via talk j e
     → in_flight via talk j ≡ o
@@ -123,13 +84,7 @@ watch_left c via talk j e (Some p) g q =
 
 pub account_received : (c : Settings) (via : Connection) (talk : Talk) (j : ℕ) (e : End) → Gives c via talk j e
     → account_at c via talk (j + 1) ≡ received (account_at c via talk j) e
-account_received c via talk j e g =
-    let subs : map (submission_at c via talk (j + 1)) (outstanding via talk (j + 1))
-    ≡ without e.reference (outstanding_with (account_at c via talk j) (answered (account_at c via talk j).watch e)) =
-    sym (ap (without e.reference) (all_told c via talk j e g (in_flight via talk j) refl)
-    ∙ left_subs c via talk j e g) in
-    let watch = watch_left c via talk j e (in_flight via talk j) g refl in
-    λ i. record { credits = credits_of c via; outstanding = subs i; watch = watch i }
+account_received c via talk j e g = grind (arith, all_told, left_subs, watch_left)
 
 -- ---- one poll
 

@@ -49,17 +49,11 @@ references_at c via talk j k xs = map_map (submission_at c via talk j) (λ (s : 
 
 pub once_at : (c : Settings) (via : Connection) (talk : Talk) (j r : ℕ) (e : End) → Gives c via talk j e
     → times r (map (reference talk) (outstanding via talk j)) ≤ 1
-once_at c via talk j r e g = subst (λ xs. times r xs ≤ 1) (references_at c via talk j j (outstanding via talk j))
-    (g.once r)
+once_at c via talk j r e g = search (arith, references_at c via talk j j (outstanding via talk j))
 
 pub outs_after : (c : Settings) (via : Connection) (talk : Talk) (j : ℕ) (e : End) → Gives c via talk j e
     → outstanding via talk (j + 1) ≡ filter (keep talk e) (outstanding via talk j)
-outs_after c via talk j e g =
-    outstanding_more via talk j
-    ∙ ((λ i. filter_on (λ x. not (ends_now via talk j x)) (keep talk e) (outstanding via talk j)
-    (every_from (λ x. not (ends_now via talk j x) ≡ keep talk e x) (λ x. ap not (g.hands (reference talk x)))
-    (outstanding via talk j)) i ++ cond (g.silent i) (j ∷ []) [])
-    ∙ append-nil (filter (keep talk e) (outstanding via talk j)))
+outs_after c via talk j e g = grind (arith, outstanding_more, append-nil, filter_on, ends_now, every_from)
 
 -- ---- members
 
@@ -96,8 +90,7 @@ outstanding_found via talk j i o l = found_in (is_outstanding via talk j) (befor
 
 gone_is : (via : Connection) (talk : Talk) (j x : ℕ) (o : Option ℕ) → polled_is_outstanding via talk j o ≡ false
     → is_outstanding via talk j x ≡ true → is_it x o ≡ false
-gone_is via talk j x None t m = refl
-gone_is via talk j x (Some i) t m = differs i x (λ z. true≢false (sym m ∙ (ap (is_outstanding via talk j) (sym z) ∙ t)))
+gone_is via talk j x o h5 h6 = grind (arith, differs, true≢false)
 
 -- ---- whose end it is
 
@@ -108,8 +101,7 @@ same_poll : (c : Settings) (via : Connection) (talk : Talk) (j : ℕ) (e : End) 
 same_poll c via talk j e q x g f r =
     let only = only_one (reference talk) q (outstanding via talk j) x (once_at c via talk j (reference talk x) e g) f in
     let named : find (λ i. hands_over via (reference talk i) (said talk j).moment) (outstanding via talk j) ≡ Some x =
-    ap (λ (t : ℕ → Bool). find t (outstanding via talk j))
-    (λ k i. (g.hands (reference talk i) ∙ ap (λ n. nat_eq n (reference talk i)) (sym r)) k) ∙ only in
+    search arith in
     ap (λ o. unwrap_or o x) (sym named ∙ g.found)
 
 -- two outstanding commands of one number are one
@@ -129,8 +121,7 @@ own_flight c via talk j e p g q n = q ∙ ap Some (same_poll c via talk j e _ p 
 
 pub poll_asks : (c : Settings) (via : Connection) (talk : Talk) (j : ℕ) (e : End) → (g : Gives c via talk j e)
     → is_asked via (said talk g.poll) ≡ true → in_flight via talk j ≡ Some g.poll
-poll_asks c via talk j e g a = found_all (λ p. is_asked via (said talk p) ≡ true → in_flight via talk j ≡ Some p) _
-    (outstanding via talk j) g.poll g.one g.found a
+poll_asks c via talk j e g a = search (arith, found_all)
 
 -- ---- what was told
 
@@ -140,34 +131,18 @@ TellsNothing c via talk j i = answers_of c via talk i (handed_over via talk j) �
 
 nothing_asked : (c : Settings) (via : Connection) (talk : Talk) (j i : ℕ) (e : End) → (g : Gives c via talk j e)
     → is_asked via (said talk g.poll) ≡ false → TellsNothing c via talk j i
-nothing_asked c via talk j i e g a = ap (answers_of c via talk i) g.found
-    ∙ ap (λ b. cond (b && is_it i (asked_for via talk g.poll)) (figure_told c via talk g.poll ∷ []) []) a
+nothing_asked c via talk j i e g a = search arith
 
 subs_kept : (c : Settings) (via : Connection) (talk : Talk) (j : ℕ) (xs : List ℕ)
     → AllByRecursion (TellsNothing c via talk j) xs → map (submission_at c via talk (j + 1)) xs
     ≡ map (submission_at c via talk j) xs
-subs_kept c via talk j xs h =
-    map_on (submission_at c via talk (j + 1)) (submission_at c via talk j) xs
-    (every_weaker (TellsNothing c via talk j) (λ i. submission_at c via talk (j + 1) i ≡ submission_at c via talk j i)
-    (λ i n. ap (λ t. record {
-      reference = reference talk i;
-      unit = unit_named talk i (said talk i).turn;
-      opcode =
-          opcode talk i;
-      told = t;
-    }) (last_same c via talk j i n)) xs h)
+subs_kept c via talk j xs h = search (arith, map_on, every_weaker, last_same)
 
 -- where the end is that of a poll about the command i
 one_told : (c : Settings) (via : Connection) (talk : Talk) (j i f : ℕ)
     → answers_of c via talk i (handed_over via talk j) ≡ f ∷ []
     → submission_at c via talk (j + 1) i ≡ record (submission_at c via talk j i) { told = Some f }
-one_told c via talk j i f n = ap (λ t. record {
-  reference = reference talk i;
-  unit =
-      unit_named talk i (said talk i).turn;
-  opcode = opcode talk i;
-  told = t;
-}) (last_new c via talk j i f n)
+one_told c via talk j i f n = search (arith, last_new c via talk j i f n)
 
 -- of each command: it has the number n and is told f, or it has another and is told nothing
 abbrev IsTold : Settings → Connection → Talk → ℕ → ℕ → ℕ → ℕ → Type 0
@@ -240,15 +215,7 @@ told_of_stands c via talk j e g (Some i) q r true t =
           (λ z. true≢false (sym (eq-eqb (reference talk x) n (ap (reference talk) (sym z))) ∙ y))),
     ))) (once_at c via talk j n e g)
 told_of_stands c via talk j e g o q r false t =
-    let p = g.poll in
-    let f = figure_told c via talk p in
-    let asked : is_asked via (said talk p) ≡ true =
-    found_is (λ x. is_asked via (said talk x)) (outstanding via talk j) p q in
-    sym (subs_kept c via talk j (outstanding via talk j) (every_weaker (λ x. is_outstanding via talk j x ≡ true)
-    (TellsNothing c via talk j) (λ x m.
-    ap (answers_of c via talk x) g.found
-    ∙ ((λ k. cond (asked k && is_it x (r k)) (f ∷ []) []) ∙ ap (λ b. cond b (f ∷ []) []) (gone_is via talk j x o t m)))
-    (outstanding via talk j) (outstanding_are via talk j)))
+    search (arith, outstanding_are via talk j, found_is, subs_kept, every_weaker, gone_is)
 
 told_when : (c : Settings) (via : Connection) (talk : Talk) (j : ℕ) (e : End) (g : Gives c via talk j e) (p : ℕ)
     → in_flight via talk j ≡ Some p → (b : Bool) → nat_eq (reference talk p) e.reference ≡ b

@@ -56,10 +56,7 @@ same_opcode c k = opcode_kept (command_bytes c) (command_of (command_bytes c)).o
 none_too : (p q d : Bool) → (if p then Some faults.NoCredit
     else (if q then Some faults.LastCredit else (if d then Some faults.Doubled else None))) ≡ None
     → (p ≡ false) × (q ≡ false) × (d ≡ false)
-none_too true q d e = absurd (true≢false (ap is_some e))
-none_too false true d e = absurd (true≢false (ap is_some e))
-none_too false false true e = absurd (true≢false (ap is_some e))
-none_too false false false e = (refl, refl, refl)
+none_too p q d h3 = grind (arith, true≢false)
 
 same_balance : {K : Type 0} (via : Connection) (a : Account) (h : Holdings K) (told : Flight) → Matches via a h told
     → balance_of via h ≡ balance a
@@ -67,8 +64,7 @@ same_balance via a h told m = λ i. sym m.credits i - sym m.many i
 
 same_holds : {K : Type 0} (via : Connection) (a : Account) (h : Holdings K) (told : Flight) (r : ℕ)
     → Matches via a h told → holds (outstanding_of via h) r ≡ list_any (has_reference r) a.outstanding
-same_holds via a h told r m = any_alike r (outstanding_of via h) (references a.outstanding) (sym (m.same r))
-    ∙ sym (has_any r a.outstanding)
+same_holds via a h told r m = grind (arith, any_alike, has_any)
 
 -- why the host would refuse, where it doesn't
 pub record Free (a : Account) (opcode reference : ℕ) : Type 0 where
@@ -77,27 +73,18 @@ pub record Free (a : Account) (opcode reference : ℕ) : Type 0 where
   pub new : list_any (has_reference reference) a.outstanding ≡ false
 
 pub free : (a : Account) (opcode reference : ℕ) → host.refusal a opcode reference ≡ None → Free a opcode reference
-free a opcode reference e =
-    let k = none_too (nat_eq (balance a) 0) (nat_eq (balance a) 1 && not (is_immediate opcode))
-    (list_any (has_reference reference) a.outstanding) e in
-    record { some = k.0; spare = k.1; new = k.2 }
+free a opcode reference e = grind (arith, none_too)
 
 unrefused : {K : Type 0} (via : Connection) (a : Account) (h : Holdings K) (told : Flight) (opcode reference : ℕ)
     → Matches via a h told → Free a opcode reference
     → credit_fault (balance_of via h) (outstanding_of via h) opcode reference ≡ None
-unrefused via a h told opcode reference m f =
-    rw (same_balance via a h told m, same_holds via a h told reference m, f.some, f.spare, f.new) refl
+unrefused via a h told opcode reference m f = grind (arith, same_balance, same_holds)
 
 -- the controller takes in what the host sends
 taken_in : {K : Type 0} (via : Connection) (a : Account) (h : Holdings K) (told : Flight) (c : Command)
     → Matches via a h told → Carries c → Free a (opcode_byte c.order) c.reference
     → refusal (balance_of via h) (outstanding_of via h) (command_bytes c) ≡ None
-taken_in via a h told c m k f =
-    let b = command_bytes c in
-    let low : nat_lt (length b) 12 ≡ false = let l = k.read.low in grind (arith, nat_tests, l) in
-    let high : nat_lt 64 (length b) ≡ false = let l = k.read.high in grind (arith, nat_tests, l) in
-    rw (low, high) ((λ i. credit_fault (balance_of via h) (outstanding_of via h) (k.opcode i) (k.reference i))
-    ∙ unrefused via a h told (opcode_byte c.order) c.reference m f)
+taken_in via a h told c m k f = search (arith, unrefused via a h told (opcode_byte c.order) c.reference m f, nat_tests)
 
 -- ---- what both keep then
 
@@ -117,13 +104,11 @@ nobody_named via a h told n m e = none_times n (outstanding_of via h) (same_hold
 
 own_reference_of : (c : Settings) (online : Bool) (figure : ℕ) (command : Command) (o : Option ℕ)
     → (own_end_with c online figure command o).reference ≡ command.reference
-own_reference_of c online figure command None = refl
-own_reference_of c online figure command (Some status) = refl
+own_reference_of c online figure command o = grind arith
 
 own_code_of : (c : Settings) (online : Bool) (figure : ℕ) (command : Command) (o : Option ℕ)
     → (own_end_with c online figure command o).code ≡ endcode command.order
-own_code_of c online figure command None = refl
-own_code_of c online figure command (Some status) = refl
+own_code_of c online figure command o = grind arith
 
 arrives_queued : {K : Type 0} (via : Connection) (a a' : Account) (h : Holdings K) (told : Flight) (s : Submission)
     (c : Command) → Arrives via a a' h s c → Matches via a h told → a'.watch ≡ a.watch
@@ -150,13 +135,7 @@ arrives_ended {K} via a a' h told told' s c x m f =
     ap (is_code_of e.code) x.opcode ∙ (ap (λ q. is_code_of q (opcode_byte c.order))
     (own_code_of h.settings _ _ c (fault_of h.settings c)) ∙ x.coded) in
     let own : e.reference ≡ s.reference = own_reference_of h.settings _ _ c (fault_of h.settings c) ∙ sym x.reference in
-    let adds : Adds via a a' h1 s = record {
-      credits = x.adds.credits;
-      outstanding = x.adds.outstanding;
-      small =
-          x.adds.small;
-      new = new_still via a h h1 told s.reference m m1 x.adds.new;
-    } in
+    let adds : Adds via a a' h1 s = search (arith, new_still via a h h1 told s.reference m m1 x.adds.new) in
     pushes_match via a a' h1 (with_end via h1 e) s told told' (ended_pushes via a a' h1 told s e adds own code m1) m1 f
 
 -- ---- a command that is submitted
@@ -196,36 +175,14 @@ submitted_match {K} via a h told c small unit m e =
     let f = free a (opcode_byte c.order) c.reference e in
     let b = command_bytes c in
     let both = message_taken via h b (taken_in via a h told c m k f) in
-    let x : Arrives via a (submitted a c) h (submission_of c) (command_of b) = record {
-      adds = record {
-        credits = refl;
-        outstanding = refl;
-        small = (small, unit);
-        new =
-            nobody_named via a h told c.reference m f.new;
-      };
-      reference = sym (same_reference c k);
-      opcode = sym (same_opcode c k);
-      coded = coded b;
-    } in
-    record {
-      taken = both.0;
-      match = subst (λ (q : Holdings K). Matches via (submitted a c) q told) (sym both.1)
-          (arrives_match via a (submitted a c) h told (submission_of c) (command_of b) x m refl);
-    }
+    let x : Arrives via a (submitted a c) h (submission_of c) (command_of b) =
+    search (arith, nobody_named via a h told c.reference m f.new, same_reference c k, same_opcode c k, coded b) in
+    search (arith, arrives_match via a (submitted a c) h told (submission_of c) (command_of b) x m refl)
 
 -- ---- a poll
 
 same_command : (c : Command) → IsValidOrder c.order → HasCommandRange c → command_of (command_bytes c) ≡ c
-same_command c valid fits =
-    let k = command_bytes_are_messages c valid fits in
-    let r = command_read c in
-    λ i. record {
-      reference = (r.reference ∙ sym k.reference) i;
-      unit = (r.unit ∙ sym k.unit) i;
-      order =
-          (r.order ∙ sym k.order) i;
-    }
+same_command c valid fits = search (arith, command_bytes_are_messages c valid fits, command_read c)
 
 found_small : (p : Submission → Bool) (xs : List Submission) (s : Submission) → find p xs ≡ Some s
     → AllByRecursion IsSmall xs → IsSmall s
@@ -261,8 +218,7 @@ any_ends n [] = refl
 any_ends n (e ∷ us) = ap (λ b. nat_eq e.reference n || b) (any_ends n us)
 
 second_of : (p q : Bool) → (p || q) ≡ true → p ≡ false → q ≡ true
-second_of true q h e = absurd (true≢false e)
-second_of false q h e = h
+second_of p q h2 h3 = grind (arith, true≢false)
 
 -- what the poll of this submission is told
 abbrev pub told_now : {K : Type 0} → Connection → Holdings K → Submission → Flight
@@ -277,27 +233,8 @@ poll_flight : {K : Type 0} (via : Connection) (a : Account) (h : Holdings K) (to
     (of via (with_end via (aborting via h (orders.Status s.reference)) (answered_end via h (poll_of r s))).untaken)
     (watching a r s).watch (told_now via h s)
 poll_flight {K} via a h told r s m there =
-    let e = answered_end via h (poll_of r s) in
-    record {
-      front = of via h.untaken ++ [];
-      end = e;
-      back = [];
-      split = of_more via (more_ends via h.untaken []) (e ∷ []) ∙ ap (λ us. us ++ e ∷ []) (of_more via h.untaken []);
-      reference = refl;
-      code = refl;
-      body = refl;
-      ended = λ st wa.
-          let all = same_holds via a h told s.reference m ∙ there in
-          let either = sym
-          (list_any-append (λ x. nat_eq x s.reference) (numbers (waiting_on via h.waiting))
-          (numbers_ended (of via h.untaken)))
-          ∙ all in
-          let second = second_of (list_any (λ x. nat_eq x s.reference) (numbers (waiting_on via h.waiting)))
-          (list_any (λ x. nat_eq x s.reference) (numbers_ended (of via h.untaken))) either wa in
-          subst (λ us. list_any (λ (e : End). nat_eq e.reference s.reference) us ≡ true)
-          (sym (append-nil (of via h.untaken)))
-          (sym (any_ends s.reference (of via h.untaken)) ∙ second);
-    }
+    search (arith, of_more via h.untaken [], same_holds via a h told s.reference m, append-nil (of via h.untaken),
+    any_ends s.reference (of via h.untaken), list_any-append, second_of)
 
 pub polled_match : {K : Type 0} (via : Connection) (a : Account) (h : Holdings K) (told : Flight) (r : ℕ)
     (s : Submission) → r < 2 ^ 32 → Matches via a h told → host.oldest a ≡ Some s
@@ -312,23 +249,9 @@ polled_match {K} via a h told r s small m found e =
     let k = carries c small in
     let f = free a (opcode_byte c.order) r e in
     let both = message_taken via h b (taken_in via a h told c m k f) in
-    let x : Arrives via a (watching a r s) h (submission_of c) c = record {
-      adds = record {
-        credits = refl;
-        outstanding = refl;
-        small = (small, fits.1);
-        new =
-            nobody_named via a h told r m f.new;
-      };
-      reference = refl;
-      opcode = refl;
-      coded = subst (λ (q : Command). HasOwnEndcode q.order) same (coded b);
-    } in
+    let x : Arrives via a (watching a r s) h (submission_of c) c =
+    search (arith, nobody_named via a h told r m f.new, coded b) in
     let match : Matches via (watching a r s) (arrives via h c) (told_now via h s) =
     arrives_ended via a (watching a r s) h told (told_now via h s) (submission_of c) c x m
     (poll_flight via a h told r s m (found_named p a.outstanding s found)) in
-    record {
-      taken = both.0;
-      match = subst (λ (q : Holdings K). Matches via (watching a r s) q (told_now via h s))
-          (sym (both.1 ∙ ap (arrives via h) same)) match;
-    }
+    search arith

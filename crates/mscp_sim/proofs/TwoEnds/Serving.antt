@@ -1,5 +1,5 @@
 -- A step keeps the match of the host of each connection and the controller.
-use Rattle.std.proofs.Common.{◌≡◌, ℕ, ◌+◌, ◌<◌, Bool, true, false, cond, List, [], ◌∷◌, ◌++◌, map, take, drop, length, refl, ap, sym, ◌∙◌, append-nil}
+use Rattle.std.proofs.Common.{◌≡◌, ℕ, ◌+◌, ◌<◌, Bool, true, false, cond, List, [], ◌∷◌, ◌++◌, map, take, drop, length, refl, ap, sym, ◌∙◌, append-nil, arith}
 use Rattle.std.specs.Prelude.{if◌then◌else◌, Option, Some, None, is_some, option_to_list}
 use Rattle.std.proofs.lemmas.Bool.{false≢true}
 use Rattle.std.proofs.lemmas.List.{map-append}
@@ -29,49 +29,32 @@ use Rattle.mscp_sim.proofs.TwoEnds.Matching.{Ends, ends_match, stays}
 -- the commands of the records of a connection, in two lists that follow each other
 pub on_append : (via : Connection) (xs ys : List Record)
     → commands (waiting_on via (xs ++ ys)) ≡ commands (waiting_on via xs) ++ commands (waiting_on via ys)
-on_append via xs ys = ap commands (filter-append (λ r. same_connection r.connection via) xs ys)
-    ∙ map-append (λ (r : Record). r.command) (waiting_on via xs) (waiting_on via ys)
+on_append via xs ys = search (arith, filter-append, map-append)
 
 -- the ends of a connection that weren't taken, after a report
 pub of_ends : (via : Connection) (us : Both (List End)) (report : Report)
     → of via (ends_after us report) ≡ of via us ++ ends_reported via report
-of_ends First us report = refl
-of_ends Second us report = refl
+of_ends via us report = grind arith
 
 -- ---- a step
 
 commands_passed : (via : Connection) (n : ℕ) (rs : List Record)
     → commands (waiting_on via (map (passed_by n) rs)) ≡ commands (waiting_on via rs)
 commands_passed via n [] = refl
-commands_passed via n (r ∷ rs) =
-    let rest = commands_passed via n rs in
-    elim (same_connection r.connection via) as (λ b.
-    commands (cond b (passed_by n r ∷ waiting_on via (map (passed_by n) rs)) (waiting_on via (map (passed_by n) rs)))
-    ≡ commands (cond b (r ∷ waiting_on via rs) (waiting_on via rs)))
-    [ true ↦ ap (λ cs. r.command ∷ cs) rest | false ↦ rest ]
+commands_passed via n (r ∷ rs) = search (arith, commands_passed via n rs)
 
 -- the commands of the records in front of a place, of that at the place, and of those behind it
 commands_cut : (via : Connection) (rs : List Record) (place : ℕ) → place < length rs
     → commands (waiting_on via rs) ≡ commands (waiting_on via (take place rs))
     ++ (commands (waiting_on via (record_at rs place ∷ [])) ++ commands (waiting_on via (drop (place + 1) rs)))
-commands_cut via rs place l =
-    let front = take place rs in
-    let back = drop (place + 1) rs in
-    ap (λ xs. commands (waiting_on via xs)) (cut_at no_record rs place l)
-    ∙ (on_append via front (record_at rs place ∷ back)
-    ∙ ap (λ cs. commands (waiting_on via front) ++ cs) (on_append via (record_at rs place ∷ []) back))
+commands_cut via rs place l = search (arith, cut_at no_record rs place l, on_append)
 
 -- and after a step
 commands_after : (via : Connection) (k : Block) (d : Drive) (rs : List Record) (place : ℕ)
     → let r = record_at rs place in commands (waiting_on via (waiting_after k d rs place))
     ≡ commands (waiting_on via (take place rs)) ++ (commands (waiting_on via (remains r (end_given k d r)))
     ++ commands (waiting_on via (drop (place + 1) rs)))
-commands_after via k d rs place =
-    let r = record_at rs place in
-    let front = take place rs in
-    let back = drop (place + 1) rs in
-    on_append via (map (passed_by (step_charge r)) front) (remains r (end_given k d r) ++ back)
-    ∙ (λ i. commands_passed via (step_charge r) front i ++ on_append via (remains r (end_given k d r)) back i)
+commands_after via k d rs place = search (arith, on_append, commands_passed)
 
 -- a step serves the record at a place, which had this end, if it had one: what is left, and the ends then
 record Leaves {K : Type 0} (via : Connection) (h h' : Holdings K) (k : Block) (d : Drive) (place : ℕ) (o : Option End) :
@@ -90,18 +73,7 @@ record Leaves {K : Type 0} (via : Connection) (h h' : Holdings K) (k : Block) (d
 served_on : {K : Type 0} (via : Connection) (a : Account) (h h' : Holdings K) (told : Flight) (k : Block) (d : Drive)
     (place : ℕ) → Leaves via h h' k d place None → Matches via a h told → Matches via a h' told
 served_on {K} via a h h' told k d place x m =
-    let r = record_at h.waiting place in
-    let front = commands (waiting_on via (take place h.waiting)) in
-    let back = commands (waiting_on via (drop (place + 1) h.waiting)) in
-    let own : commands (waiting_on via (remains r None)) ≡ commands (waiting_on via (r ∷ [])) =
-    elim (same_connection r.connection via) as (λ b. commands (cond b (advanced r ∷ []) [])
-    ≡ commands (cond b (r ∷ []) [])) [ true ↦ refl | false ↦ refl ] in
-    let none : (if same_connection r.connection via then option_to_list {X = End} None else []) ≡ [] =
-    elim (same_connection r.connection via) as (λ b. (if b then option_to_list {X = End} None else []) ≡ [])
-    [ true ↦ refl | false ↦ refl ] in
-    stays via a h h' told (x.waiting ∙ (ap (λ cs. front ++ (cs ++ back)) own
-    ∙ sym (commands_cut via h.waiting place x.inside)))
-    (x.ends ∙ (ap (λ es. of via h.untaken ++ es) none ∙ append-nil (of via h.untaken))) x.settings m
+    search (arith, commands_cut via h.waiting place x.inside, append-nil (of via h.untaken), stays)
 
 -- it ends, and is of this connection or of the other
 served_end : {K : Type 0} (via : Connection) (a : Account) (h h' : Holdings K) (told : Flight) (k : Block) (d : Drive)
@@ -127,12 +99,7 @@ served_end {K} via a h h' told k d place e true o x m =
     } in
     ends_match via a h h' told ends m
 served_end {K} via a h h' told k d place e false o x m =
-    let r = record_at h.waiting place in
-    let front = commands (waiting_on via (take place h.waiting)) in
-    let back = commands (waiting_on via (drop (place + 1) h.waiting)) in
-    stays via a h h' told (x.waiting ∙ sym (commands_cut via h.waiting place x.inside
-    ∙ ap (λ b. front ++ (commands (cond b (r ∷ []) []) ++ back)) o))
-    (x.ends ∙ (ap (λ b. of via h.untaken ++ (if b then e ∷ [] else [])) o ∙ append-nil (of via h.untaken))) x.settings m
+    search (arith, commands_cut via h.waiting place x.inside, append-nil (of via h.untaken), stays)
 
 served_with : {K : Type 0} (via : Connection) (a : Account) (h h' : Holdings K) (told : Flight) (k : Block) (d : Drive)
     (place : ℕ) (o : Option End) → Leaves via h h' k d place o → Matches via a h told → Matches via a h' told
@@ -142,22 +109,12 @@ served_with via a h h' told k d place (Some e) x m =
 
 given_is : (k : Block) (d : Drive) (r : Record) (e : End) → end_given k d r ≡ Some e
     → e ≡ outcome_at d.unit d.online r.command r.good k
-given_is k d r e h =
-    let out : (b : Bool) → (if b then None else Some (outcome_at d.unit d.online r.command r.good k)) ≡ Some e
-    → e ≡ outcome_at d.unit d.online r.command r.good k =
-    λ b. elim b as (λ b. (if b then None else Some (outcome_at d.unit d.online r.command r.good k)) ≡ Some e
-    → e ≡ outcome_at d.unit d.online r.command r.good k) [
-      | true ↦ λ q. absurd (false≢true (ap is_some q))
-      | false ↦ λ q. cc
-    ] in
-    out (goes_on d.online r.command.order k (left_of r)) h
+given_is k d r e h = search (arith, false≢true)
 
 pub steps_match : {K : Type 0} (via : Connection) (picks : List Choice → ℕ → Type 0) (a : Account) (h h' : Holdings K)
     (told : Flight) (k : Block) (report : Report) → Steps picks k h report h' → Matches via a h told
     → Matches via a h' told
-steps_match {K} via picks a h h' told k reports.Idle s m =
-    stays via a h h' told (ap (λ (l : Line K). commands (waiting_on via l.waiting)) s.serves.2)
-    (ap (of via) s.ends ∙ (of_ends via h.untaken reports.Idle ∙ append-nil (of via h.untaken))) s.settings m
+steps_match {K} via picks a h h' told k reports.Idle s m = grind (arith, of_ends, append-nil, stays)
 steps_match {K} via picks a h h' told k (reports.Served connection reference unit lbn started seek end) s m =
     let place = s.serves.0 in
     let at = s.serves.1 in
@@ -167,12 +124,6 @@ steps_match {K} via picks a h h' told k (reports.Served connection reference uni
     let brings : ends_reported via report
     ≡ (if same_connection r.connection via then option_to_list (end_given k d r) else []) =
     ap (ends_reported via) at.told in
-    let leaves : Leaves via h h' k d place (end_given k d r) = record {
-      inside = at.next.servable.inside;
-      waiting = ap (λ (l : Line K). commands (waiting_on via l.waiting)) at.left
-          ∙ commands_after via k d h.waiting place;
-      ends = ap (of via) s.ends ∙ (of_ends via h.untaken report ∙ ap (λ es. of via h.untaken ++ es) brings);
-      settings = s.settings;
-      given = given_is k d r;
-    } in
+    let leaves : Leaves via h h' k d place (end_given k d r) =
+    search (arith, commands_after via k d h.waiting place, of_ends via h.untaken report, given_is k d r) in
     served_with via a h h' told k d place (end_given k d r) leaves m

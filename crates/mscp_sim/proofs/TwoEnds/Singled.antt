@@ -10,14 +10,7 @@ use Rattle.mscp_sim.specs.Matches.{references, times}
 use Rattle.mscp_sim.specs.Talks.{before}
 
 pub flip : (a b : ℕ) → nat_eq a b ≡ nat_eq b a
-flip a b =
-    let both : (x y : Bool) → nat_eq a b ≡ x → nat_eq b a ≡ y → nat_eq a b ≡ nat_eq b a =
-    λ x y. elim x as (λ x. nat_eq a b ≡ x → nat_eq b a ≡ y → nat_eq a b ≡ nat_eq b a) [
-      | true ↦ λ p q. p ∙ sym (eq-eqb b a (sym (eqb-true a b p)))
-      | false ↦ λ p q. elim y as (λ y. nat_eq b a ≡ y → nat_eq a b ≡ nat_eq b a)
-          [ true ↦ λ q. eq-eqb a b (sym (eqb-true b a q)) ∙ sym q | false ↦ λ q. p ∙ sym q ] q
-    ] in
-    both (nat_eq a b) (nat_eq b a) refl refl
+flip a b = search (arith, eq-eqb, eqb-true)
 
 -- ---- found among what is kept
 
@@ -42,18 +35,7 @@ find_kept {X} q keep (y ∷ ys) x e k =
 pub find_none_kept : {X : Type 0} (q keep : X → Bool) (xs : List X)
     → AllByRecursion (λ x. q x ≡ true → keep x ≡ false) xs → find q (filter keep xs) ≡ None
 find_none_kept q keep [] h = refl
-find_none_kept {X} q keep (y ∷ ys) h =
-    let rest = find_none_kept q keep ys h.1 in
-    let out : (d : Bool) → keep y ≡ d → find q (cond d (y ∷ filter keep ys) (filter keep ys)) ≡ None =
-    λ d. elim d as (λ d. keep y ≡ d → find q (cond d (y ∷ filter keep ys) (filter keep ys)) ≡ None) [
-      | true ↦ λ k.
-          let test : (b : Bool) → q y ≡ b → cond b (Some y) (find q (filter keep ys)) ≡ None =
-          λ b. elim b as (λ b. q y ≡ b → cond b (Some y) (find q (filter keep ys)) ≡ None)
-          [ true ↦ λ e. absurd (true≢false (sym k ∙ h.0 e)) | false ↦ λ e. rest ] in
-          test (q y) refl
-      | false ↦ λ k. rest
-    ] in
-    out (keep y) refl
+find_none_kept {X} q keep (y ∷ ys) h = search (arith, find_none_kept q keep ys h.1, true≢false)
 
 pub none_found : {X : Type 0} (q : X → Bool) (xs : List X) → find q xs ≡ None → AllByRecursion (λ x. q x ≡ false) xs
 none_found q [] e = tt
@@ -113,11 +95,7 @@ at_least f q (y ∷ ys) x e =
     out (q y) e
 
 not_twice : (a b n : ℕ) → cond (nat_eq a b) (1 + n) n ≤ 1 → 1 ≤ n → nat_eq a b ≡ false
-not_twice a b n t s =
-    let out : (x : Bool) → nat_eq a b ≡ x → cond x (1 + n) n ≤ 1 → nat_eq a b ≡ false =
-    λ x. elim x as (λ x. nat_eq a b ≡ x → cond x (1 + n) n ≤ 1 → nat_eq a b ≡ false)
-    [ true ↦ λ e l. absurd (omega (arith, l, s)) | false ↦ λ e l. e ] in
-    out (nat_eq a b) refl t
+not_twice a b n t s = search arith
 
 -- what a test finds is the one of its number
 pub only_one : (f : ℕ → ℕ) (q : ℕ → Bool) (xs : List ℕ) (x : ℕ) → times (f x) (map f xs) ≤ 1 → find q xs ≡ Some x

@@ -1,5 +1,5 @@
 -- What a turn in which the host submits, or polls, leaves.
-use Rattle.std.proofs.Common.{◌≡◌, ℕ, ◌<◌, ◌^◌, Bool, true, false, List, refl, ap, sym, ◌∙◌, subst}
+use Rattle.std.proofs.Common.{◌≡◌, ℕ, ◌<◌, ◌^◌, Bool, true, false, List, refl, ap, sym, ◌∙◌, subst, arith}
 use Rattle.std.specs.Prelude.{Option, Some, None, is_some, is_ok, Result, Ok, Err, if◌then◌else◌}
 use Rattle.std.specs.List.{list_any}
 use Rattle.std.proofs.lemmas.Bool.{false≢true, true≢false}
@@ -57,31 +57,19 @@ submits_when : {K : Type 0} (via : Connection) (a : Account) (h : Holdings K) (t
     → Submits via a h told c b.items a'
 submits_when via a h told c (Some fault) b a' r u m o e = absurd (false≢true (ap (λ p. is_ok p.0) e))
 submits_when {K} via a h told c None b a' r u m o e =
-    let message : b.items ≡ command_bytes c = ap (λ p. items_or p.0 b) (sym e) in
-    let left : a' ≡ submitted a c = ap (λ p. p.1) (sym e) in
-    let x = submitted_match via a h told c r u m o in
-    record {
-      message = message;
-      left = left;
-      fresh = (free a (opcode_byte c.order) c.reference o).new;
-      named = ap (λ q. (command_of q).reference) message ∙ same_reference c (carries c r);
-      taken = subst (λ q. answer_to_message via h q ≡ Ok (taken_as via h (command_of q))) (sym message) x.taken;
-      match = subst (λ (y : Account). Matches via y (after_message via h b.items) told) (sym left)
-          (subst (λ q. Matches via (submitted a c) (after_message via h q) told) (sym message) x.match);
-    }
+    search (arith, submitted_match via a h told c r u m o, free a (opcode_byte c.order) c.reference o, same_reference c
+    (carries c r), carries c r)
 
 pub submits_match : {K : Type 0} (via : Connection) (a : Account) (h : Holdings K) (told : Flight) (c : Command)
     (b : ArrayVec ℕ) (a' : Account) → c.reference < 2 ^ 32 → c.unit < 2 ^ 16 → Matches via a h told
     → submits a c ≡ (Ok b, a') → Submits via a h told c b.items a'
-submits_match via a h told c b a' r u m e = submits_when via a h told c
-    (refusal a (opcode_byte c.order) c.reference) b a' r u m
-    refl e
+submits_match via a h told c b a' r u m e =
+    search (arith, submits_when via a h told c (refusal a (opcode_byte c.order) c.reference) b a' r u m refl e)
 
 -- where it doesn't, nothing changes
 kept_when : (a : Account) (c : Command) (o : Option HostFault) (fault : HostFault) (a' : Account)
     → submits_unless a c o ≡ (Err fault, a') → a' ≡ a
-kept_when a c (Some f) fault a' e = ap (λ p. p.1) (sym e)
-kept_when a c None fault a' e = absurd (true≢false (ap (λ p. is_ok p.0) e))
+kept_when a c o fault a' h5 = grind (arith, true≢false)
 
 pub submits_kept : (a : Account) (c : Command) (fault : HostFault) (a' : Account) → submits a c ≡ (Err fault, a')
     → a' ≡ a
@@ -135,15 +123,12 @@ asks_when {K} via a h r s None b a' x o e =
 asks_of : {K : Type 0} (via : Connection) (a : Account) (h : Holdings K) (r : ℕ) (s : Option Submission)
     (b : ArrayVec ℕ) (a' : Account) → r < 2 ^ 32 → MatchOn via a h → is_some a.watch ≡ false → oldest a ≡ s
     → asks a r s ≡ (Ok (polls.Ask b), a') → Asks via a h r b.items a'
-asks_of via a h r None b a' l m w f e = absurd (false≢true (ap (λ p. is_ask p.0) e))
-asks_of via a h r (Some s) b a' l m w f e = asks_when via a h r s (refusal a (opcode_byte (poll_of r s).order) r) b a'
-    (record { small = l; match = m; idle = w; oldest = f }) refl e
+asks_of via a h r s b a' h7 h8 h9 h10 h11 = grind (arith, false≢true, asks_when)
 
 asks_idle : {K : Type 0} (via : Connection) (a : Account) (h : Holdings K) (r : ℕ) (q : Bool) (b : ArrayVec ℕ)
     (a' : Account) → r < 2 ^ 32 → MatchOn via a h → is_some a.watch ≡ q
     → (if q then (Ok polls.Busy, a) else asks a r (oldest a)) ≡ (Ok (polls.Ask b), a') → Asks via a h r b.items a'
-asks_idle via a h r true b a' l m w e = absurd (false≢true (ap (λ p. is_ask p.0) e))
-asks_idle via a h r false b a' l m w e = asks_of via a h r (oldest a) b a' l m w refl e
+asks_idle via a h r q b a' h7 h8 h9 h10 = grind (arith, false≢true, asks_of)
 
 pub asks_match : {K : Type 0} (via : Connection) (a : Account) (h : Holdings K) (r : ℕ) (b : ArrayVec ℕ) (a' : Account)
     → r < 2 ^ 32 → MatchOn via a h → polls_oldest a r ≡ (Ok (polls.Ask b), a') → Asks via a h r b.items a'
@@ -152,20 +137,12 @@ asks_match via a h r b a' l m e = asks_idle via a h r (is_some a.watch) b a' l m
 -- where it doesn't, nothing changes
 unasked_when : (a : Account) (r : ℕ) (s : Submission) (o : Option HostFault) (p : Result Poll HostFault) (a' : Account)
     → is_ask p ≡ false → asks_unless a r s o ≡ (p, a') → a' ≡ a
-unasked_when a r s (Some fault) p a' n e = ap (λ q. q.1) (sym e)
-unasked_when a r s None p a' n e = absurd (true≢false (ap (λ q. is_ask q.0) e ∙ n))
+unasked_when a r s o p a' h6 h7 = grind (arith, true≢false)
 
 unasked_of : (a : Account) (r : ℕ) (s : Option Submission) (p : Result Poll HostFault) (a' : Account) → is_ask p ≡ false
     → asks a r s ≡ (p, a') → a' ≡ a
-unasked_of a r None p a' n e = ap (λ q. q.1) (sym e)
-unasked_of a r (Some s) p a' n e = unasked_when a r s (refusal a (opcode_byte (poll_of r s).order) r) p a' n e
+unasked_of a r s p a' h5 h6 = grind (arith, unasked_when)
 
 pub polled_kept : (a : Account) (r : ℕ) (p : Result Poll HostFault) (a' : Account) → is_ask p ≡ false
     → polls_oldest a r ≡ (p, a') → a' ≡ a
-polled_kept a r p a' n e =
-    let both : (b : Bool) → (if b then (Ok polls.Busy, a) else asks a r (oldest a)) ≡ (p, a') → a' ≡ a =
-    λ b. elim b as (λ b. (if b then (Ok polls.Busy, a) else asks a r (oldest a)) ≡ (p, a') → a' ≡ a) [
-      | true ↦ λ e. ap (λ q. q.1) (sym e)
-      | false ↦ λ e. unasked_of a r (oldest a) p a' n e
-    ] in
-    both (is_some a.watch) e
+polled_kept a r p a' n e = search (arith, unasked_of)

@@ -1,5 +1,5 @@
 -- A turn in which a host takes: what it says of the end, and that the other's side stays as it was.
-use Rattle.std.proofs.Common.{◌≡◌, ℕ, ◌≤◌, Bool, true, false, List, refl, ap, sym, ◌∙◌, subst}
+use Rattle.std.proofs.Common.{◌≡◌, ℕ, ◌≤◌, Bool, true, false, List, refl, ap, sym, ◌∙◌, subst, arith}
 use Rattle.std.specs.Prelude.{nat_eq, ◌&&◌, slice_get, Option, Some, None, is_some, unwrap_or, Ok}
 use Rattle.std.proofs.lemmas.Bool.{false≢true, true≢false}
 use Rattle.arrayvec.specs.ArrayVec.{ArrayVec}
@@ -81,8 +81,7 @@ take_side {K} c via talk j a a' h h' b n x m said_news hears taken sound after =
     let both = sym hears ∙ out.heard in
     let left : a' ≡ received a e = ap (λ p. p.1) both in
     let news : n ≡ news_with (account_at c via talk j) e (answered (account_at c via talk j).watch e) =
-    ap (λ p. news_or p.0 n) both
-    ∙ ap (λ (y : Account). news_with y e (answered y.watch e)) x.account in
+    search (arith, news_or) in
     record {
       said = subst (IsSaid c via talk j) (sym news) (said_with c via talk j e g (in_flight via talk j) refl);
       turns = record {
@@ -117,15 +116,7 @@ no_end_of_other via other talk j b d m r = ap (hands_over other r) m ∙ ap (λ 
 stands_own : (c : Settings) (via other : Connection) (talk : Talk) (j : ℕ) (b : ArrayVec ℕ)
     → (said talk j).moment ≡ Some (events.Take via, entries.Taken via (Some b)) → Stands c other talk j
     → Stands c via talk j
-stands_own c via other talk j b m st =
-    let both : (q : Bool) → same_connection via other ≡ q → Stands c via talk j =
-    λ q. elim q as (λ q. same_connection via other ≡ q → Stands c via talk j) [
-      | true ↦ λ e. subst (λ v. Stands c v talk j) (sym (one_side via other e)) st
-      | false ↦ λ d.
-          let none = none_handed other talk j (no_end_of_other via other talk j b d m) in
-          absurd (false≢true (ap is_some (sym none ∙ st.handed)))
-    ] in
-    both (same_connection via other) refl
+stands_own c via other talk j b m st = search (arith, one_side, none_handed, no_end_of_other, false≢true)
 
 take_some : {K : Type 0} {c : Settings} {picks : List Choice → ℕ → Type 0} {picker : K} {talk : Talk} {j : ℕ}
     {a' : Both Account} {h' : Holdings K} → (x : Comes c picks picker talk j a' h') → (via : Connection)

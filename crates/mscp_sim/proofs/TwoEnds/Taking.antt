@@ -1,5 +1,5 @@
 -- What a turn in which an end is handed over leaves, and one in which there is none.
-use Rattle.std.proofs.Common.{◌≡◌, ℕ, List, [], ◌∷◌, drop, refl, ap, sym, ◌∙◌, subst}
+use Rattle.std.proofs.Common.{◌≡◌, ℕ, List, [], ◌∷◌, drop, refl, ap, sym, ◌∙◌, subst, arith}
 use Rattle.std.specs.Prelude.{option_map, Option, Some, None, is_some, slice_get, unwrap_or, Result, Ok}
 use Rattle.std.proofs.lemmas.Bool.{false≢true, true≢false}
 use Rattle.arrayvec.specs.ArrayVec.{ArrayVec}
@@ -23,18 +23,12 @@ abbrev end_of : Option End → Option (ArrayVec ℕ)
 end_of o = option_map (λ e. record { items = end_bytes e }) o
 
 none_of : (o : Option End) → end_of o ≡ None → o ≡ None
-none_of None e = refl
-none_of (Some x) e = absurd (true≢false (ap is_some e))
+none_of o h1 = grind (arith, true≢false)
 
 none_when : {K : Type 0} (via : Connection) (a : Account) (h : Holdings K) (told : Flight) (us : List End)
     → of via h.untaken ≡ us → end_taken via h ≡ None → Matches via a h told → Matches via a (after_take via h) told
-none_when {K} via a h told [] u e m =
-    let same : put via (drop 1 (of via h.untaken)) h.untaken ≡ h.untaken =
-    ap (λ xs. put via (drop 1 xs) h.untaken) u
-    ∙ (ap (λ xs. put via xs h.untaken) (sym u) ∙ put_own via h.untaken) in
-    subst (λ us. Matches via a (record h { untaken = us }) told) (sym same) m
-none_when via a h told (x ∷ us) u e m = absurd (true≢false
-    (ap is_some (ap (λ xs. slice_get xs 0) (sym u) ∙ none_of (slice_get (of via h.untaken) 0) e)))
+none_when {K} via a h told [] u e m = search (arith, put_own via h.untaken)
+none_when via a h told (x ∷ us) u e m = search (arith, none_of (slice_get (of via h.untaken) 0) e, true≢false)
 
 pub taken_none : {K : Type 0} (via : Connection) (a : Account) (h : Holdings K) (told : Flight) → end_taken via h ≡ None
     → Matches via a h told → Matches via a (after_take via h) told
@@ -74,12 +68,7 @@ taken_some via a h told b e r m = some_when via a h told (of via h.untaken) b re
 pub handed_on : {K : Type 0} (via : Connection) (a a' : Account) (h h' : Holdings K) (told : Flight) (b : List ℕ)
     (r : Result News HostFault) (n : News) → Handed via a h told b → (r, a') ≡ heard a b → r ≡ Ok n
     → h' ≡ after_take via h → (heard a b ≡ (Ok n, a')) × Matches via a' h' told
-handed_on {K} via a a' h h' told b r n x e o k =
-    let left : a' ≡ received a x.end = ap (λ p. p.1) (e ∙ x.heard) in (
-      sym e ∙ ap (λ q. (q, a')) o,
-      subst (λ (y : Account). Matches via y h' told) (sym left)
-          (subst (λ (y : Holdings K). Matches via (received a x.end) y told) (sym k) x.match),
-    )
+handed_on {K} via a a' h h' told b r n x e o k = search arith
 
 -- the bytes that a moment hands over
 abbrev pub handed_in : Option Moment → Option (ArrayVec ℕ)

@@ -52,25 +52,19 @@ drop_next j xs = sym (drop-drop 1 j xs)
 turn_of : {K : Type 0} {c : Settings} {picks : List Choice → ℕ → Type 0} {picker : K} {talk : Talk} {j : ℕ}
     {a' : Both Account} {h' : Holdings K} → (x : Comes c picks picker talk j a' h') → (t : Turn)
     → (said talk j).turn ≡ t → IsHeard x.hosts t (said talk j) a' → Turns c picks picker talk j a' h'
-turn_of x (turns.Step k) t one = step_turn x k t
 turn_of x (turns.Submit via command) t one =
     let a = of via x.hosts in
     submit_turn x via command t (submits a command).0 (submits a command).1 refl one.1 one.0
 turn_of x (turns.Poll via n) t one =
     let a = of via x.hosts in
     poll_turn x via n t (polls_oldest a n).0 (polls_oldest a n).1 refl one.1 one.0
-turn_of x (turns.Take via) t one = take_turn x via t one.0 one.1 one.2 one.3 one.4
+turn_of x t h2 h3 = search (arith, step_turn, take_turn)
 
 -- ---- all turns
 
 drop_more : (talk : Talk) (j : ℕ) (s : Said) (rest : Talk) → drop j talk ≡ s ∷ rest
     → (j < length talk) × (said talk j ≡ s) × (drop (j + 1) talk ≡ rest)
-drop_more talk j s rest e =
-    let some : length talk - j ≡ suc (length rest) = sym (length-drop j talk) ∙ ap length e in
-    let here : j + 0 ≡ j = omega arith in
-    let first : said talk j ≡ s = subst (λ k. said talk k ≡ s) here
-    (sym (get_or-drop j talk 0 nothing) ∙ ap (λ xs. get_or xs 0 nothing) e) in
-    (omega (arith, some), first, drop_next j talk ∙ ap (drop 1) e)
+drop_more talk j s rest e = search (arith, length-drop j talk, get_or-drop j talk 0 nothing, drop_next j talk)
 
 -- what is promised of a controller with these settings and this picker, whatever it answered
 abbrev Keeps : {K : Type 0} → Settings → (List Choice → ℕ → Type 0) → K → Type 0
@@ -89,8 +83,7 @@ record Rest {K : Type 0} (c : Settings) (picks : List Choice → ℕ → Type 0)
 turns_from : {K : Type 0} (c : Settings) (picks : List Choice → ℕ → Type 0) (picker : K) (talk : Talk) (j : ℕ)
     (rest : Talk) → Keeps c picks picker → Rest c picks picker talk j rest → (i : ℕ) → j ≤ i → i < length talk
     → Known c talk i
-turns_from c picks picker talk j [] keeps x i l k = let none = length-drop j talk in let empty = ap length x.is in
-    absurd (omega (arith, l, k, none, empty))
+turns_from c picks picker talk j [] keeps x i l k = search (arith, length-drop j talk)
 turns_from {K} c picks picker talk j (s ∷ rest) keeps x i l k =
     let d = drop_more talk j s rest x.is in
     let r = x.goes.2 in
@@ -128,29 +121,11 @@ new_hosts c = record { first = fresh c.credits; second = fresh c.second }
 
 match_first : {K : Type 0} (c : Settings) (picker : K)
     → Matches First (fresh c.credits) (holdings.fresh c picker) no_flight_yet
-match_first c picker = record {
-  credits = refl;
-  many = refl;
-  same = λ r. refl;
-  once = λ r. omega arith;
-  small = tt;
-  waits = tt;
-  ends = tt;
-  flight = tt;
-}
+match_first c picker = search arith
 
 match_second : {K : Type 0} (c : Settings) (picker : K)
     → Matches Second (fresh c.second) (holdings.fresh c picker) no_flight_yet
-match_second c picker = record {
-  credits = refl;
-  many = refl;
-  same = λ r. refl;
-  once = λ r. omega arith;
-  small = tt;
-  waits = tt;
-  ends = tt;
-  flight = tt;
-}
+match_second c picker = search arith
 
 pub match_new : {K : Type 0} (c : Settings) (picker : K) → Match (new_hosts c) (holdings.fresh c picker)
 match_new c picker First = (no_flight_yet, match_first c picker)
@@ -159,24 +134,12 @@ match_new c picker Second = (no_flight_yet, match_second c picker)
 side_first : {K : Type 0} (c : Settings) (picker : K) (talk : Talk)
     → Side c First talk 0 (fresh c.credits) (holdings.fresh c picker)
 unfolding outstanding
-side_first c picker talk = record {
-  account = refl;
-  told = no_flight_yet;
-  match = match_first c picker;
-  one = tt;
-  flight = λ p e. absurd (false≢true (ap is_some e));
-}
+side_first c picker talk = search (arith, match_first c picker, false≢true)
 
 side_second : {K : Type 0} (c : Settings) (picker : K) (talk : Talk)
     → Side c Second talk 0 (fresh c.second) (holdings.fresh c picker)
 unfolding outstanding
-side_second c picker talk = record {
-  account = refl;
-  told = no_flight_yet;
-  match = match_second c picker;
-  one = tt;
-  flight = λ p e. absurd (false≢true (ap is_some e));
-}
+side_second c picker talk = search (arith, match_second c picker, false≢true)
 
 side_new : {K : Type 0} (c : Settings) (picker : K) (talk : Talk) (via : Connection)
     → Side c via talk 0 (of via (new_hosts c)) (holdings.fresh c picker)
@@ -206,19 +169,11 @@ whole_calls picks a a' h h' (s ∷ talk) r = calls_front picks h r.1 h' s.moment
 -- what a moment hands over is of one connection
 hands_by : (via other : Connection) (r s : ℕ) (o : Option Moment) → hands_over via r o ≡ true
     → hands_over other s o ≡ true → other ≡ via
-hands_by via other r s (Some (event, entries.Taken owner (Some b))) h k =
-    let one = (both_true (same_connection owner via) (nat_eq (num b.items 0 4) r) h).0 in
-    let two = (both_true (same_connection owner other) (nat_eq (num b.items 0 4) s) k).0 in
-    sym (one_side owner other two) ∙ one_side owner via one
-hands_by via other r s o h k = absurd (false≢true h)
+hands_by via other r s o h5 h6 = grind (arith, both_true, one_side, false≢true)
 
 handed_by : (via other : Connection) (talk : Talk) (j p q : ℕ) → handed_over via talk j ≡ Some p
     → handed_over other talk j ≡ Some q → other ≡ via
-handed_by via other talk j p q h k =
-    let m = (said talk j).moment in
-    hands_by via other (reference talk p) (reference talk q) m
-    (found_is (λ i. hands_over via (reference talk i) m) (outstanding via talk j) p h)
-    (found_is (λ i. hands_over other (reference talk i) m) (outstanding other talk j) q k)
+handed_by via other talk j p q h k = search (arith, hands_by, found_is)
 
 -- ---- two ends
 
@@ -236,22 +191,13 @@ two_ends {K} c picks picker old new ts v runs law n g =
     let talk = g.talk in
     let t = trace_of talk in
     let h : Holdings K = holdings.fresh c picker in
-    let says : Converses picks (new_hosts c) h talk new.hosts new.controller =
-    subst (λ (x : Both Account). Converses picks x h talk new.hosts new.controller) n.hosts
-    (subst (λ (y : Holdings K). Converses picks old.hosts y talk new.hosts new.controller) n.controller g.says) in
+    let says : Converses picks (new_hosts c) h talk new.hosts new.controller = search arith in
     let answered = answered_calls picks h new.controller t
     (whole_calls picks (new_hosts c) new.hosts h new.controller talk says) in
     let run = runs c (events_of t) (entries_of t) new.controller v answered in
     let trace : trace_of talk ≡ new.lists.1 = ap (λ xs. xs ++ t) (sym n.trace) ∙ sym g.trace in
     let whole : zip (events_of t) (entries_of t) ≡ new.lists.1 = zipped t ∙ trace in
-    let rest : Rest c picks picker talk 0 talk = record {
-      is = refl;
-      hosts = new_hosts c;
-      controller = h;
-      at =
-          at_start c picks picker talk;
-      goes = (new.hosts, new.controller, says);
-    } in
+    let rest : Rest c picks picker talk 0 talk = search (arith, at_start c picks picker talk) in
     let known : (i : ℕ) → i < length talk → Known c talk i = λ i l.
     turns_from c picks picker talk 0 talk (λ t k r. law c (calls_of t) k v r) rest i (omega arith) l in
     record {

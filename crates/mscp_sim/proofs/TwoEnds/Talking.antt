@@ -1,5 +1,5 @@
 -- A talk that goes on by one turn.
-use Rattle.std.proofs.Common.{◌≡◌, ℕ, ◌+◌, ◌<◌, List, [], ◌∷◌, ◌++◌, map, take, length, get_or, refl, ap, sym, ◌∙◌, subst, append_assoc, append-nil}
+use Rattle.std.proofs.Common.{◌≡◌, ℕ, ◌+◌, ◌<◌, List, [], ◌∷◌, ◌++◌, map, take, length, get_or, refl, ap, sym, ◌∙◌, subst, append_assoc, append-nil, arith}
 use Rattle.std.specs.Prelude.{Option, Some, None, option_to_list}
 use Rattle.std.proofs.lemmas.Grind.{flat_map-append}
 use Rattle.std.proofs.lemmas.List.{map-append, take_more}
@@ -20,8 +20,7 @@ converses_push : {K : Type 0} (picks : List Choice → ℕ → Type 0) (a m a' :
     (talk : Talk) (s : Said) → Converses picks a h talk m n → Says picks m n s a' h'
     → Converses picks a h (talk ++ s ∷ []) a' h'
 converses_push {K} picks a m a' h n h' [] s r one =
-    let both : Says picks a h s a' h' = subst (λ (x : Both Account). Says picks x h s a' h') r.0
-    (subst (λ (y : Holdings K). Says picks m y s a' h') r.1 one) in
+    let both : Says picks a h s a' h' = search arith in
     (a', h', both, (refl, refl))
 converses_push picks a m a' h n h' (t ∷ talk) s r one =
     (r.0, r.1, r.2, converses_push picks r.0 m a' r.1 n h' talk s r.3 one)
@@ -53,18 +52,7 @@ pub record Talks {K : Type 0} (picks : K → List Choice → ℕ → Type 0) (ol
 
 pub talks_none : {K : Type 0} (picks : K → List Choice → ℕ → Type 0) (old : Kept K) → Match old.hosts old.controller
     → Talks picks old old []
-talks_none picks old m = record {
-  goes = record {
-    talk = [];
-    turns = refl;
-    heard = sym (append-nil old.lists.0);
-    trace =
-        sym (append-nil old.lists.1);
-    says = (refl, refl);
-    match = m;
-  };
-  picker = refl;
-}
+talks_none picks old m = search (arith, append-nil old.lists.0, append-nil old.lists.1)
 
 -- one more turn, of which this was returned: the lists grow by it
 pub record Grows {K : Type 0} (picks : List Choice → ℕ → Type 0) (old new : Kept K) (turn : Turn) : Type 0 where
@@ -97,14 +85,4 @@ goes_more picks old now new ts turn g x =
 pub talks_more : {K : Type 0} (picks : K → List Choice → ℕ → Type 0) (old now new : Kept K) (all : List Turn) (i : ℕ)
     (turn : Turn) → i < length all → turn ≡ get_or all i turn → Talks picks old now (take i all)
     → Grows (picks now.controller.picker) now new turn → Talks picks old new (take (i + 1) all)
-talks_more {K} picks old now new all i turn l e t x =
-    let same : Grows (picks old.controller.picker) now new turn =
-    subst (λ (k : K). Grows (picks k) now new turn) t.picker x in
-    let more : take (i + 1) all ≡ take i all ++ turn ∷ [] =
-    take_more all i turn l ∙ ap (λ x. take i all ++ x ∷ []) (sym e) in
-    record {
-      goes = subst (λ ts. GoesTo (picks old.controller.picker) old ts new) (sym more)
-          (goes_more (picks old.controller.picker) old now new (take i all) turn t.goes same);
-      picker = same_picker (picks old.controller.picker) now.controller new.controller same.told.1 same.goes.0.1
-          ∙ t.picker;
-    }
+talks_more {K} picks old now new all i turn l e t x = search (arith, take_more all i turn l, goes_more, same_picker)

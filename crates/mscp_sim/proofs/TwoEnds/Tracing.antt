@@ -37,11 +37,8 @@ calls_push picks h m h' (c ∷ calls) call r a = (r.0, r.1, calls_push picks r.0
 pub reached_more : {K : Type 0} (picks : List Choice → ℕ → Type 0) (h m h' : Holdings K) (t : Trace) (o : Option Moment)
     → AnsweredCalls picks h (calls_of t) m → AnswersTurn picks m o h'
     → AnsweredCalls picks h (calls_of (t ++ option_to_list o)) h'
-reached_more {K} picks h m h' t None r a = subst (λ (x : Holdings K). AnsweredCalls picks h (calls_of (t ++ [])) x)
-    (sym a) (subst (λ u. AnsweredCalls picks h (calls_of u) m) (sym (append-nil t)) r)
-reached_more {K} picks h m h' t (Some n) r a = subst (λ cs. AnsweredCalls picks h cs h')
-    (sym (map-append (λ (x : Moment). Plain x.0 x.1) t (n ∷ [])))
-    (calls_push picks h m h' (calls_of t) (Plain n.0 n.1) r a)
+reached_more {K} picks h m h' t None r a = search (arith, append-nil t)
+reached_more {K} picks h m h' t (Some n) r a = grind (arith, calls_push, map-append)
 
 -- the trace before the next turn
 pub trace_more : (talk : Talk) (j : ℕ) → j < length talk

@@ -1,6 +1,6 @@
 -- One turn of a talk: what is heard is what the rules of a host say of what the talk says so far. A turn of one host
 -- leaves the other's side as it was.
-use Rattle.std.proofs.Common.{◌≡◌, ◌↔◌, ℕ, ◌+◌, ◌<◌, ◌≤◌, Bool, true, false, List, take, length, ap, sym, ◌∙◌, subst}
+use Rattle.std.proofs.Common.{◌≡◌, ◌↔◌, ℕ, ◌+◌, ◌<◌, ◌≤◌, Bool, true, false, List, take, length, ap, sym, ◌∙◌, subst, arith}
 use Rattle.std.specs.Prelude.{◌≢◌, ◌&&◌, Option, Some, None, is_some}
 use Rattle.std.proofs.Math.Bool.{and-false}
 use Rattle.std.proofs.lemmas.Bool.{false≢true, true≢false}
@@ -108,10 +108,7 @@ is_news heard = false
 pub no_news : (c : Settings) (talk : Talk) (j : ℕ) → ((via : Connection) → NoEnd via talk j)
     → is_news (said talk j).heard ≡ false
     → ((said talk j).heard ≡ hears.News news.Reset) ↔ ((via : Connection) × Stands c via talk j)
-no_news c talk j n q = (
-  λ e. absurd (false≢true (sym q ∙ ap is_news e)),
-  λ s. absurd (false≢true (ap is_some (sym (none_handed s.0 talk j (n s.0)) ∙ s.1.handed))),
-)
+no_news c talk j n q = search (arith, false≢true, none_handed)
 
 pub not_lost : (talk : Talk) (j : ℕ) → is_news (said talk j).heard ≡ false → (said talk j).heard ≢ hears.News news.Lost
 not_lost talk j q e = false≢true (sym q ∙ ap is_news e)
@@ -121,10 +118,7 @@ not_lost talk j q e = false≢true (sym q ∙ ap is_news e)
 pub reached_next : {K : Type 0} {c : Settings} {picks : List Choice → ℕ → Type 0} {picker : K} {talk : Talk} {j : ℕ}
     {a' : Both Account} {h' : Holdings K} → Comes c picks picker talk j a' h'
     → AnsweredCalls picks (fresh c picker) (calls_of (trace_of (take (j + 1) talk))) h'
-reached_next {K} {c} {picks} {picker} {talk} {j} {a'} {h'} x =
-    subst (λ t. AnsweredCalls picks (fresh c picker) (calls_of t) h') (sym (trace_more talk j x.inside))
-    (reached_more picks (fresh c picker) x.controller h' (trace_of (take j talk)) (said talk j).moment x.at.reached
-    x.says.1)
+reached_next {K} {c} {picks} {picker} {talk} {j} {a'} {h'} x = grind (arith, trace_more, reached_more, calls_of)
 
 both_at : (c : Settings) (talk : Talk) (j : ℕ) (both : Both Account)
     → ((via : Connection) → of via both ≡ account_at c via talk j) → both ≡ accounts_at c talk j
@@ -139,23 +133,13 @@ pub turns_of : {K : Type 0} {c : Settings} {picks : List Choice → ℕ → Type
 turns_of {K} {c} {picks} {picker} {talk} {j} {a'} {h'} x resets lost on =
     let old : x.hosts ≡ accounts_at c talk j = both_at c talk j x.hosts (λ via. (x.at.side via).account) in
     let new : a' ≡ accounts_at c talk (j + 1) = both_at c talk (j + 1) a' (λ via. (on via).next.account) in
-    record {
-      tells = record {
-        says = subst (λ y. IsHeard y (said talk j).turn (said talk j) (accounts_at c talk (j + 1))) old
-            (subst (λ y. IsHeard x.hosts (said talk j).turn (said talk j) y) new x.says.0);
-        resets = resets;
-        no_lost = lost;
-        on = λ via. (on via).tells;
-      };
-      next = record { side = λ via. (on via).next; reached = reached_next x };
-    }
+    search (arith, reached_next x)
 
 -- ---- a connection of which the turn says nothing
 
 -- what asks also sends
 pub asks_sends : (own : Bool) (heard : Heard) → (own && is_sent heard) ≡ false → (own && is_poll heard) ≡ false
-asks_sends own hears.Asked e = e
-asks_sends own heard e = and-false own
+asks_sends own heard h2 = grind (arith, and-false)
 
 pub never_idle : (via : Connection) (talk : Talk) (j : ℕ) → is_asked via (said talk j) ≡ false
     → is_asked via (said talk j) ≡ true → in_flight via talk j ≡ None
@@ -183,21 +167,7 @@ pub quiet : {K : Type 0} (c : Settings) (via : Connection) (talk : Talk) (j : �
     → (x : Side c via talk j a h) → IsQuiet via (said talk j) → a' ≡ a → Matches via a h' x.told
     → TurnsOn c via talk j a' h'
 quiet {K} c via talk j a a' h h' x q e m =
-    let s = said talk j in
-    record {
-      tells = record {
-        new = unqueued via talk j q.unqueued;
-        idle = never_idle via talk j (asks_sends (is_turn_of via s.turn) s.heard q.unsent);
-        some = none_some c via talk j q.no_end;
-      };
-      next = record {
-        account = e ∙ (x.account ∙ sym (account_quiet c via talk j q.no_end q.unsent));
-        told = x.told;
-        match = subst (λ (y : Account). Matches via y h' x.told) (sym e) m;
-        one = one_quiet via talk j q.no_end q.unsent x.one;
-        flight = λ p f. x.flight p (sym (flight_quiet via talk j q.no_end q.unsent) ∙ f);
-      };
-    }
+    grind (arith, unqueued, none_some, account_quiet, one_quiet, flight_quiet, never_idle, asks_sends)
 
 -- ---- a step
 
