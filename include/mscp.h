@@ -95,7 +95,7 @@ enum mscp_status {
     MSCP_NO_CREDIT = -3,    /* no credit is free */
     MSCP_LAST_CREDIT = -4,  /* one is free, which is kept for commands that are answered at once, as a poll */
     MSCP_DOUBLED = -5,      /* the reference number is outstanding */
-    MSCP_STALE = -6,        /* mscp_finish: the command of that connection and number isn't begun, or not any more */
+    MSCP_NOT_BEGUN = -6,    /* mscp_finish: the command of that connection and number isn't begun, or not any more */
     MSCP_BAD_STATUS = -7,   /* mscp_finish, mscp_step: the block's is neither 0 nor one of low five bits 5 to 31 */
     MSCP_UNREADABLE = -8,   /* mscp_host_receive: the bytes are no end */
     MSCP_UNKNOWN = -9,      /* mscp_host_receive: the end of no outstanding command */
@@ -542,7 +542,7 @@ MSCP_MUST_USE int32_t mscp_begin(struct mscp *mscp, struct mscp_upcoming *upcomi
 
 /* The step of the command that is begun, if that is of this connection and has this reference number. Its block had
  * this status: 0 for a good one, and with another the command ends. MSCP_DONE, or the first that holds of
- * MSCP_BAD_STATUS and MSCP_STALE (the command isn't begun, or not any more). Have one block at a time in work: a
+ * MSCP_BAD_STATUS and MSCP_NOT_BEGUN (the command isn't begun, or not any more). Have one block at a time in work: a
  * command is known by its connection and its number alone. */
 MSCP_MUST_USE int32_t mscp_finish(struct mscp *mscp, uint32_t connection, uint32_t reference, uint16_t status,
                                   struct mscp_report *report);
@@ -793,7 +793,7 @@ MSCP_INLINE const char *mscp_status_text(int64_t status)
     case MSCP_NO_CREDIT: return "no credit is free";
     case MSCP_LAST_CREDIT: return "the last credit is kept for commands that are answered at once";
     case MSCP_DOUBLED: return "the reference number is outstanding";
-    case MSCP_STALE: return "the command isn't begun";
+    case MSCP_NOT_BEGUN: return "the command isn't begun";
     case MSCP_BAD_STATUS: return "no status of a block";
     case MSCP_UNREADABLE: return "the bytes are no end";
     case MSCP_UNKNOWN: return "the end of no outstanding command";

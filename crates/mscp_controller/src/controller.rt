@@ -17,7 +17,7 @@ mod seeing;
 use crate::account::Accounts;
 use crate::answer::{controller_end, refused_end, unit_status_end};
 use crate::arrival::{is_immediate, judge, may_take_last_credit};
-use crate::entry::{Entry, SendFault, Sent, Stale};
+use crate::entry::{Entry, NotBegun, SendFault, Sent};
 use arrayvec::ArrayVec;
 use mscp_drive::Units;
 use mscp_events::{Block, Config, Connection, Event};
@@ -306,23 +306,27 @@ impl<K: Picker> Controller<K> {
         self.queue.begin()
     }
 
-    /// The step of the connection's command with this reference number, where it is begun: its block had this outcome. Else
-    /// it is stale: nothing changes, and the block counts for nothing. A command is known by its connection and its number
-    /// alone. So who begins anew after a step, an ABORT or a reset must let no finish of an older begin come any more: the
-    /// number may be the same.
+    /// The step of the connection's command with this reference number, if it is begun: its block had this outcome. If
+    /// no such command is begun, nothing changes, and the block counts for nothing. A command is known by its
+    /// connection and its number alone. So who begins anew after a step, an ABORT or a reset must let no finish of an
+    /// older begin come any more: the number may be the same.
+    ///
+    /// # Errors
+    ///
+    /// `NotBegun` if no command of this connection and reference number is begun.
     pub fn finish(
         &mut self,
         connection: Connection,
         reference: u32,
         block: Block,
-    ) -> Result<Report, Stale>
+    ) -> Result<Report, NotBegun>
         ensures finish { Finishes (K.picks self.old.picker) (name_on connection reference) block self.old result self.new }
         ensures account { IsBalanced self.new }
     {
         if self.queue.is_begun(connection, reference) {
             Ok(self.step(block))
         } else {
-            Err(Stale)
+            Err(NotBegun)
         }
     }
 

@@ -15,7 +15,7 @@ use Rattle.mscp_queue.specs.Names.{name_on}
 use Rattle.mscp_queue.specs.declared.upcoming.Upcoming.{Upcoming}
 use Rattle.mscp_events.specs.declared.connection.Connection.TheVariants.{First}
 use Rattle.mscp_controller.specs.Holdings.{Finishes, Foretells, Holdings, after_take}
-use Rattle.mscp_controller.specs.declared.entry.Stale.{Stale}
+use Rattle.mscp_controller.specs.declared.entry.NotBegun.{NotBegun}
 use Rattle.mscp_port.specs.declared.action.Action.{Action}
 use Rattle.mscp_port.specs.declared.action.Action.TheVariants as actions
 use Rattle.mscp_port.specs.declared.action.Outcome.{Outcome}
@@ -121,7 +121,7 @@ next_part (tasks.Transfer other) outcomes.Done job = behind_block job.kind job
 next_part task outcome job = None
 
 -- the end that a step brought, if it brought one
-abbrev pub end_brought : Result Report Stale → Option End
+abbrev pub end_brought : Result Report NotBegun → Option End
 end_brought (Ok (reports.Served via reference unit lbn started seek ended)) = ended
 end_brought result = None
 
@@ -154,7 +154,7 @@ pub record HeedsStep {K : Type 0} (via : Connection) (ended : Option End) (old n
 -- the controller is told of a step whose block had this outcome, and nothing is in hand
 pub record TakesBlock {K : Type 0} (picks : List Choice → ℕ → Type 0) (via : Connection) (reference : ℕ) (block : Block)
     (old new : Port K) : Type 0 where
-  pub finished : (result : Result Report Stale)
+  pub finished : (result : Result Report NotBegun)
       × Finishes picks (name_on via reference) block old.controller result new.controller
       × HeedsStep via (end_brought result) old new
 
