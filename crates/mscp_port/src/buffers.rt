@@ -1,6 +1,6 @@
 // What is kept of the commands that wait: where their data are in host memory.
 
-ghost use Rattle.std.specs.Prelude.{◌≡◌, ◌<◌, ◌⊎◌, ◌++◌, ◌∷◌, [], true, Contains, IfSome, None, length};
+ghost use Rattle.std.specs.Prelude.{◌≡◌, ◌<◌, ◌⊎◌, true, Contains, IfSome};
 ghost use Rattle.std.specs.List.{position};
 ghost use Rattle.mscp_port.specs.declared.buffers.Buffer.{Buffer as Kept};
 ghost use Rattle.mscp_port.specs.Blocks.{kept_of};

@@ -3,10 +3,8 @@
 ghost use Rattle.std.specs.Prelude.{◌≡◌, ◌+◌, ◌*◌, ◌≤◌, ◌<◌, ◌^◌, ◌++◌, [], flat_map, length, All, IfSome, slice_index_or, Ok};
 ghost use Rattle.arrayvec.specs.ArrayVec.{array_vec_len};
 ghost use Rattle.mscp_packet.specs.Ends.{HasBodyRange, HasEndRange};
-ghost use Rattle.mscp_events.specs.declared.connection.Connection.TheVariants.{First, Second};
-ghost use Rattle.mscp_events.specs.Both.{of};
 ghost use Rattle.mscp_controller.specs.Restored.{IsSound, made_of};
-ghost use Rattle.mscp_saved.specs.Ranges.{HasDriveRange, HasLimitRange, HasRange, HasUnitRange, HasWaitingRange};
+ghost use Rattle.mscp_saved.specs.Ranges.{HasDriveRange, HasLimitRange, HasUnitRange, HasWaitingRange};
 ghost use Rattle.mscp_saved.specs.Restored.{restored};
 ghost use Rattle.mscp_saved.specs.Saved.{begun_bytes, connection_byte, counts_bytes, counts_of, drive_bytes, end_cell, flag_byte, frame_bytes, head_with, identifiers_bytes, limits_bytes, saved_bytes, settings_bytes, sizes_bytes, waiting_bytes};
 

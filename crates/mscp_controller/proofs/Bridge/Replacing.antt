@@ -1,5 +1,5 @@
 -- A controller whose picker is replaced keeps the promise as one whose picker may pick what that of the call may.
-use Rattle.std.proofs.Common.{◌≡◌, ◌⊎◌, ◌∙◌, ℕ, Bool, true, false, List, [], ◌∷◌, Option, None, Some, Contains, inl, inr, refl, ap, sym, subst}
+use Rattle.std.proofs.Common.{◌≡◌, ◌∙◌, ℕ, true, false, List, [], ◌∷◌, Option, None, Some, inl, inr, refl, ap}
 use Rattle.std.specs.Prelude.{if◌then◌else◌, Ok, Err, Result}
 use Rattle.mscp_packet.specs.declared.command.Command.{Command}
 use Rattle.mscp_packet.specs.Commands.{command_of}
@@ -22,7 +22,7 @@ use Rattle.mscp_queue.specs.Views.{view_of}
 use Rattle.mscp_controller.specs.Arrival.{is_queued, refusal}
 use Rattle.mscp_controller.specs.Calls.{AnsweredCalls, AnswersCall, Begin, Call, Finish, Plain}
 use Rattle.mscp_controller.specs.Controllers.{KeepsPromise}
-use Rattle.mscp_controller.specs.Holdings.{Answers, Finishes, Foretells, Holdings, Steps, aborting, after_message, answer_to_message, answered_end, balance_of, fresh, held_unless, line_of, outstanding_of, queued, sent_unless, with_end}
+use Rattle.mscp_controller.specs.Holdings.{Answers, Finishes, Holdings, Steps, aborting, answered_end, balance_of, fresh, held_unless, line_of, outstanding_of, queued, sent_unless, with_end}
 use Rattle.mscp_controller.specs.Replacing.{AnsweredInTurn, Called, MayPickThen, Replaced, Turn, calls_of}
 use Rattle.mscp_controller.specs.declared.entry.Entry.{Entry}
 use Rattle.mscp_controller.specs.declared.entry.Entry.TheVariants as entries
