@@ -9,7 +9,7 @@ use Rattle.mscp_queue.specs.declared.report.Report.TheVariants as reports
 use Rattle.mscp_queue.specs.declared.upcoming.Upcoming.{Upcoming}
 use Rattle.mscp_controller.specs.declared.entry.NotBegun.{NotBegun}
 use Rattle.mscp_controller.specs.History.{Moment}
-use Rattle.mscp_controller.specs.Commands.{command, is_waiting, done}
+use Rattle.mscp_controller.specs.Commands.{is_waiting}
 use Rattle.mscp_controller.specs.Units.{cost}
 use Rattle.mscp_controller.specs.Legal.{IsLegal}
 use Rattle.mscp_controller.specs.Sweeping.{swept}
