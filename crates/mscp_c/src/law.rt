@@ -29,6 +29,7 @@ pub fn made_handles_are_valid(handle: &mut Handle)
     ensures valid { IsValid handle.old.held.settings }
     ensures same { handle.new ≡ handle.old }
 {
+    // A getter of the settings tells that they are valid.
     let _ = lend(handle).config().credits();
 }
 

@@ -274,7 +274,7 @@ impl<K: Picker> Controller<K> {
         ensures unchanged { IfErr result (λ fault. self.new ≡ self.old) }
         ensures account { IsBalanced self.new }
     {
-        // The account is one of the settings, also where a message is refused for its size.
+        // The account is known only where a field is used, and a message may be refused for its size before that.
         let _ = &self.config;
         let command = read_command(b)?;
         match self.credit_fault(connection, command.opcode(), command.reference) {

@@ -22,9 +22,7 @@ pub fn legal_traces_make_progress()
 /// hands the events on, and whether or not the answers are kept in a list.
 pub fn runs_keep_the_promise<K: Picker>(picker: &K)
     ensures { RunsKeepThePromise (K.picks picker.now) picker.now }
-{
-    let _ = picker;
-}
+{}
 
 /// The answers of a controller over this picker, one after the other from its making on, whoever calls it, are a legal
 /// trace, with all that is promised of one: a finish of a command that is begun is a step of it, and nothing else of
@@ -38,14 +36,10 @@ pub fn runs_keep_the_promise<K: Picker>(picker: &K)
 /// no room, is refused and changes nothing.
 pub fn controllers_keep_the_promise<K: Picker>(picker: &K)
     ensures { ControllersKeepThePromise (K.picks picker.now) picker.now }
-{
-    let _ = picker;
-}
+{}
 
 /// The same of a controller whose picker is replaced between calls, as often as one likes: its answers keep the promise as those
 /// of one picker do. Each start is one that may be picked of its view by the picker of a call which saw that view.
 pub fn replaced_pickers_keep_the_promise<K: Picker>(picker: &K)
     ensures { PromiseIsKeptInTurn K.picks picker.now }
-{
-    let _ = picker;
-}
+{}

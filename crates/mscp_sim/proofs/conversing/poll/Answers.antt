@@ -20,7 +20,7 @@ unreachable-requires g c =
     let kept = (polls_oldest a c.args.reference).1 in
     let ask : (polls_oldest a c.args.reference).0 ≡ Ok (polls.Ask c.in-Ok-Ask.message) =
     sym c.poll.ensures.answer ∙ (c.in-Ok-Ask.is ∙ ap Ok c.in-Ok-Ask.field-0-is) in
-    let x = asks_match via a c.args.controller.now c.args.reference c.in-Ok-Ask.message kept c.fit.ensures.reference
+    let x = asks_match via a c.args.controller.now c.args.reference c.in-Ok-Ask.message kept c.ranges.reference
     (c.requires via) (λ i. (ask i, kept)) in
     absurd (false≢true (ap is_ok (sym c.in-Err-send.is)
     ∙ not_refused via c.args.controller.now _ _ _ _ c.send.ensures.answer c.deref.ensures.0 x.taken))
@@ -34,7 +34,7 @@ returns-in-Err g c =
     let answer : (polls_oldest a c.args.reference).0 ≡ Err c.in-Err.fault = sym c.poll.ensures.answer ∙ c.in-Err.is in
     let left = c.poll.ensures.after ∙ (ap (λ y. put via y hosts)
     (polled_kept a c.args.reference (Err c.in-Err.fault) kept refl (λ i. (answer i, kept))) ∙ put_own via hosts) in (
-      ((rw answer (refl, refl), c.poll.ensures.after), refl, c.fit.ensures.reference),
+      ((rw answer (refl, refl), c.poll.ensures.after), refl, c.ranges.reference),
       subst (λ (y : Both Account). Match y c.args.controller.now) (sym left) c.requires,
     )
 
@@ -48,7 +48,7 @@ returns-in-Ok-Nothing g c =
     ∙ (c.in-Ok-Nothing.is ∙ ap Ok c.in-Ok-Nothing.field-0-is) in
     let left = c.poll.ensures.after ∙ (ap (λ y. put via y hosts)
     (polled_kept a c.args.reference (Ok polls.Nothing) kept refl (λ i. (answer i, kept))) ∙ put_own via hosts) in (
-      ((rw answer (refl, refl), c.poll.ensures.after), refl, c.fit.ensures.reference),
+      ((rw answer (refl, refl), c.poll.ensures.after), refl, c.ranges.reference),
       subst (λ (y : Both Account). Match y c.args.controller.now) (sym left) c.requires,
     )
 
@@ -62,7 +62,7 @@ returns-in-Ok-Busy g c =
     ∙ (c.in-Ok-Busy.is ∙ ap Ok c.in-Ok-Busy.field-0-is) in
     let left = c.poll.ensures.after ∙ (ap (λ y. put via y hosts)
     (polled_kept a c.args.reference (Ok polls.Busy) kept refl (λ i. (answer i, kept))) ∙ put_own via hosts) in (
-      ((rw answer (refl, refl), c.poll.ensures.after), refl, c.fit.ensures.reference),
+      ((rw answer (refl, refl), c.poll.ensures.after), refl, c.ranges.reference),
       subst (λ (y : Both Account). Match y c.args.controller.now) (sym left) c.requires,
     )
 
@@ -75,7 +75,7 @@ returns-in-Ok g c =
     let kept = (polls_oldest a c.args.reference).1 in
     let ask : (polls_oldest a c.args.reference).0 ≡ Ok (polls.Ask c.in-Ok-Ask.message) =
     sym c.poll.ensures.answer ∙ (c.in-Ok-Ask.is ∙ ap Ok c.in-Ok-Ask.field-0-is) in
-    let x = asks_match via a h c.args.reference c.in-Ok-Ask.message kept c.fit.ensures.reference (c.requires via)
+    let x = asks_match via a h c.args.reference c.in-Ok-Ask.message kept c.ranges.reference (c.requires via)
     (λ i. (ask i, kept)) in
     let event = c.event_of.ensures ∙ ap (λ b. events.Send via (record { items = b })) c.deref-in-Ok.ensures.0 in
     let sent = sym c.in-Ok.is ∙ (c.send.ensures.answer ∙ ap (answer_to_message via h) c.deref.ensures.0) in
@@ -86,7 +86,7 @@ returns-in-Ok g c =
       (
         (rw ask (c.in-Ok.sent, refl, refl), c.poll.ensures.after),
         (refl, sent, after),
-        c.fit.ensures.reference,
+        c.ranges.reference,
       ),
       subst (λ (y : Both Account). Match y c.send.new.self) (sym c.poll.ensures.after) match,
     )
