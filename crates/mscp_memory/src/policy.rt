@@ -1,6 +1,5 @@
 // Which picker serves.
 
-
 use mscp_controller::{Oldest, Picker, Sweep, View};
 
 /// Which picker says what starts.

@@ -83,7 +83,11 @@ fn is_not_begun_by(
     figures: &[(Connection, u32, u32)],
     balance: u32,
 ) {
-    same(rt, controller.finish(FIRST, reference, block), Err(NotBegun));
+    same(
+        rt,
+        controller.finish(FIRST, reference, block),
+        Err(NotBegun),
+    );
     shows(rt, controller, figures);
     has_free(rt, controller, FIRST, balance);
     takes_nothing(rt, controller, FIRST);
