@@ -9,7 +9,7 @@ ghost use Rattle.mscp_controller.specs.Arrival.{credit_fault, fault_of, holds, i
 ghost use Rattle.mscp_controller.specs.Accounts.{CanEnd, reported};
 ghost use Rattle.mscp_events.specs.Both.{of};
 ghost use Rattle.mscp_events.specs.Settings.{IsValid};
-ghost use Rattle.mscp_controller.specs.Holdings.{Answers, Finishes, Foretells, IsBalanced, Steps, aborting, after_message, after_take, answer_to_message, answered_end, arrives, balance_of, end_taken, with_end, fresh, outstanding_of, queued, reference_aborted, taken_as};
+ghost use Rattle.mscp_controller.specs.Holdings.{Answers, Finishes, Foretells, IsBalanced, Steps, aborting, after_message, after_take, answer_to_message, answered_end, arrives, balance_of, begun_step, end_taken, with_end, fresh, outstanding_of, queued, reference_aborted, taken_as};
 
 mod restoring;
 mod seeing;
@@ -301,6 +301,7 @@ impl<K: Picker> Controller<K> {
     /// `figure`, `balance`, `config`, `send` and `take` tell.
     pub fn begin(&mut self) -> Option<Upcoming>
         ensures begin { Foretells (K.picks self.old.picker) self.old result self.new }
+        ensures again { begun_step self.new ≡ result }
         ensures account { IsBalanced self.new }
     {
         self.queue.begin()

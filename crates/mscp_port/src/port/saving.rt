@@ -135,7 +135,7 @@ pub(super) fn put_rings(out: &mut ArrayVec<u8, ROOM>, rings: Option<Rings>)
     }
 }
 
-/// Appends a task.
+/// Appends a task, with four zeros where the format has room.
 pub(super) fn put_coded(out: &mut ArrayVec<u8, ROOM>, coded: Coded)
     requires { array_vec_len out.old + 17 ≤ 5272 }
     ensures items { out.new.items ≡ out.old.items ++ coded_bytes coded }
@@ -146,7 +146,7 @@ pub(super) fn put_coded(out: &mut ArrayVec<u8, ROOM>, coded: Coded)
     out.push(coded.whom);
     put_four(out, coded.first);
     put_four(out, coded.second);
-    put_four(out, coded.third);
+    put_four(out, 0);
     put_two(out, coded.two);
     out.push(coded.how);
 }
