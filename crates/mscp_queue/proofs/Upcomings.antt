@@ -1,6 +1,6 @@
 -- What is told of the step that is begun is told again.
 use Rattle.std.proofs.Common.{◌≡◌, ℕ, ◌+◌, ◌<◌, Bool, true, false, List, length, refl, ap, arith}
-use Rattle.std.specs.Prelude.{find, is_some, option_map, unwrap_or, IfSome, Option, Some, None, if◌then◌else◌}
+use Rattle.std.specs.Prelude.{is_some, option_map, unwrap_or, IfSome, Option, Some, None, if◌then◌else◌}
 use Rattle.std.specs.List.{position}
 use Rattle.std.proofs.lemmas.Bool.{and_parts, false≢true, lt-ltb}
 use Rattle.mscp_packet.specs.declared.command.Order.{Order}
