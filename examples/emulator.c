@@ -244,8 +244,8 @@ bool emulator_begin(struct emulator *emulator, struct job *job)
     return true;
 }
 
-/* A READ gives its bytes to the host only here, unless it is stale: no byte goes there once the host may have the end of
- * an ABORT. */
+/* A READ gives its bytes to the host only here, and only if it is still begun: no byte goes there once the host may
+ * have the end of an ABORT. */
 bool emulator_finish(struct emulator *emulator, struct job *job)
 {
     struct mscp_report report;
@@ -385,7 +385,7 @@ static void abort_in_between(void)
     check(emulator_begin(&disk, &job), "the READ begins");
     post(31, MSCP_ABORT, 30, 0, 0);
     emulator_receive(&disk);
-    check(!emulator_finish(&disk, &job), "it is stale");
+    check(!emulator_finish(&disk, &job), "it is begun no more");
     emulator_deliver(&disk);
     expect(30, 0x0002);
     expect(31, 0);

@@ -95,7 +95,7 @@ enum mscp_status {
     MSCP_NO_CREDIT = -3,    /* no credit is free */
     MSCP_LAST_CREDIT = -4,  /* one is free, which is kept for commands that are answered at once, as a poll */
     MSCP_DOUBLED = -5,      /* the reference number is outstanding */
-    MSCP_STALE = -6,        /* mscp_finish: the command of that connection and number isn't begun, or not any more */
+    MSCP_NOT_BEGUN = -6,    /* mscp_finish: the command of that connection and number isn't begun, or not any more */
     MSCP_BAD_STATUS = -7,   /* mscp_finish, mscp_step: the block's is neither 0 nor one of low five bits 5 to 31 */
     MSCP_UNREADABLE = -8,   /* mscp_host_receive: the bytes are no end */
     MSCP_UNKNOWN = -9,      /* mscp_host_receive: the end of no outstanding command */
@@ -208,10 +208,10 @@ struct mscp_unit {
 };
 
 /* The limits of a controller: no command waits for more than (credits - 1) * longest + budget steps, and with a second
- * connection for no more than (credits - 1 + second - 1) * longest + budget. Where a later command starts before a
- * waiting one, of either connection, that costs the budget of the waiting one all the steps that the later one takes:
- * its blocks, 1 where it has none. It may start only if no budget is overdrawn. So that later commands may go first so
- * many times, each time with a longest transfer, the budget is (uint64_t)times * longest. */
+ * connection for no more than (credits - 1 + second - 1) * longest + budget. If a later command of either connection
+ * starts before a waiting one, that costs the budget of the waiting one all the steps that the later one takes: one for
+ * each of its blocks, and 1 if it has none. It may start only if no budget is overdrawn. With a budget of
+ * (uint64_t)times * longest later commands may go first so many times, each time with a longest transfer. */
 struct mscp_limits {
     uint64_t id;      /* of the controller, which the host is told */
     uint64_t budget;  /* the blocks that later commands may have in all that start before a waiting command */
@@ -336,8 +336,8 @@ struct mscp_holder {
     uint8_t overdrawn;  /* whether it has less left of its budget than the other one takes */
 };
 
-/* What a received end says: of MSCP_ENDED all but the figure, of MSCP_FIRST and MSCP_PROGRESS the figure. The rest is
- * 0. */
+/* What a received end says. MSCP_ENDED fills all fields but the figure, and MSCP_FIRST and MSCP_PROGRESS fill the
+ * figure alone. Every other field is 0. */
 struct mscp_news {
     uint32_t figure;    /* of the polled command, in steps */
     uint32_t reference; /* of the command that ended */
@@ -373,7 +373,7 @@ size_t mscp_port_align(void);
  * static MSCP_ALIGNED uint64_t memory[(MSCP_HEAD + MSCP_SIZE) / sizeof(uint64_t)]; */
 #define MSCP_SIZE 15248u
 #define MSCP_HOST_SIZE 1056u
-#define MSCP_PORT_SIZE 17016u
+#define MSCP_PORT_SIZE 17008u
 
 /* Marks of handles on memory where nothing was made yet. */
 #define MSCP_ROOM UINT64_C(0x4D534350524F4F4D)
@@ -401,9 +401,9 @@ MSCP_INLINE struct mscp_port mscp_port_over(void *memory, size_t length)
 }
 
 /* The same with the handle at the head of the memory, whose own pointer then serves each call. A controller takes
- * MSCP_HEAD + mscp_size() bytes so. Where there isn't even room for a handle this answers one on no memory, for which
- * mscp_init says why: that one isn't in your memory, so free the memory and never what this answers. A controller that
- * is in the memory already is forgotten: of what lies there nothing is known but that it is room. */
+ * MSCP_HEAD + mscp_size() bytes so. If there isn't even room for a handle, this answers a handle on no memory, and
+ * mscp_init says why. That handle isn't in your memory, so free the memory and never what this answers. A controller
+ * that is in the memory already is forgotten: this call takes the memory for room, whatever lies there. */
 MSCP_INLINE struct mscp *mscp_in_memory(void *memory, size_t length)
 {
     static struct mscp null = {NULL, 0, 0, MSCP_ROOM};
@@ -449,8 +449,8 @@ MSCP_INLINE struct mscp_port *mscp_port_in_memory(void *memory, size_t length)
 
 /* The memory with the handle at its head lies here now: whoever moved it calls this before any other call. Its
  * alignment is the same. A controller, a host and a port have no pointer into themselves, and the drive's work goes on:
- * mscp_begin or mscp_port_next tells it again. Of a handle of mscp_over the first two fields say where its memory is:
- * set them, and no other. */
+ * mscp_begin or mscp_port_next tells it again. The first two fields of a handle that mscp_over made say where its
+ * memory is. If you move that memory, set these two fields, and no other. */
 MSCP_INLINE struct mscp *mscp_moved(void *memory)
 {
     struct mscp *handle = (struct mscp *)memory;
@@ -497,9 +497,9 @@ int32_t mscp_run_script_at(const uint8_t *script, size_t length, uint8_t *bytes,
                            uint32_t *line);
 int32_t mscp_show_packet_at(const uint8_t *word, size_t length, uint8_t *bytes, size_t room, size_t *count);
 
-/* ---- the controller. Each call but mscp_init and mscp_restore answers MSCP_NOT_MADE where there is none. Then each of
- * a connection answers MSCP_BAD_CONNECTION where its number is no enum mscp_connection, and nothing changes. A second
- * connection that has no credits takes no message in, and has no ends. */
+/* ---- the controller. Each call but mscp_init and mscp_restore answers MSCP_NOT_MADE if there is none. Otherwise a
+ * call that takes a connection answers MSCP_BAD_CONNECTION if its number is no enum mscp_connection, and changes
+ * nothing. A second connection that has no credits takes no message in, and has no ends. */
 
 /* Makes a controller in the handle's memory: of these limits, of so many units in rising order of their numbers, served
  * by a picker of enum mscp_picker. MSCP_DONE, or the first fault in this order: those of the memory (-11 to -15),
@@ -542,7 +542,7 @@ MSCP_MUST_USE int32_t mscp_begin(struct mscp *mscp, struct mscp_upcoming *upcomi
 
 /* The step of the command that is begun, if that is of this connection and has this reference number. Its block had
  * this status: 0 for a good one, and with another the command ends. MSCP_DONE, or the first that holds of
- * MSCP_BAD_STATUS and MSCP_STALE (the command isn't begun, or not any more). Have one block at a time in work: a
+ * MSCP_BAD_STATUS and MSCP_NOT_BEGUN (the command isn't begun, or not any more). Have one block at a time in work: a
  * command is known by its connection and its number alone. */
 MSCP_MUST_USE int32_t mscp_finish(struct mscp *mscp, uint32_t connection, uint32_t reference, uint16_t status,
                                   struct mscp_report *report);
@@ -551,17 +551,18 @@ MSCP_MUST_USE int32_t mscp_finish(struct mscp *mscp, uint32_t connection, uint32
  * holds of MSCP_BAD_STATUS and MSCP_NOTHING (no command waits). */
 MSCP_MUST_USE int32_t mscp_step(struct mscp *mscp, uint16_t status, struct mscp_report *report);
 
-/* The figures of the waiting commands of both connections, oldest first, as many as there is room for. How many wait: 0
- * to 63. */
+/* Lists the figures of the waiting commands of both connections, oldest first, as many as there is room for. It answers
+ * how many commands wait: 0 to 63. */
 MSCP_INLINE int32_t mscp_look(const struct mscp *mscp, struct mscp_waiting *list, size_t room)
 {
     struct mscp_waiting none = {0, 0, 0};
     return mscp_look_at(mscp, room == 0 ? &none : list, room);
 }
 
-/* Who keeps the connection's waiting command of this reference number back, oldest first, as many as there is room for.
- * How many do: 0 to 62; 0 too where none waits of it. While no other command is in service, one of which nobody does may
- * start. Of the command in service: who would keep it back if it had still to start. */
+/* Lists the commands that keep the connection's waiting command of this reference number back, oldest first, as many as
+ * there is room for. It answers how many keep it back: 0 to 62, and 0 too if no command of that number waits. While no
+ * other command is in service, a command that nobody keeps back may start. For the command in service this lists those
+ * that would keep it back if it had still to start. */
 MSCP_INLINE int32_t mscp_why(const struct mscp *mscp, uint32_t connection, uint32_t reference,
                              struct mscp_holder *list, size_t room)
 {
@@ -569,12 +570,12 @@ MSCP_INLINE int32_t mscp_why(const struct mscp *mscp, uint32_t connection, uint3
     return mscp_why_at(mscp, connection, reference, room == 0 ? &none : list, room);
 }
 
-/* How many steps the connection's waiting command of this reference number may still wait, at most; 0 where none waits
- * of it. */
+/* How many steps the connection's waiting command of this reference number may still wait, at most; 0 if no command of
+ * that number waits. */
 int64_t mscp_figure(const struct mscp *mscp, uint32_t connection, uint32_t reference);
 
-/* Of the connection, how many commands wait: 0 to 63. How many ends weren't taken, and how many credits are free: 0 to
- * 64. */
+/* How many commands of the connection wait: 0 to 63. How many of its ends weren't taken, and how many of its credits
+ * are free: 0 to 64. */
 int64_t mscp_waiting(const struct mscp *mscp, uint32_t connection);
 int64_t mscp_untaken(const struct mscp *mscp, uint32_t connection);
 int64_t mscp_balance(const struct mscp *mscp, uint32_t connection);
@@ -587,9 +588,9 @@ int32_t mscp_is_online(const struct mscp *mscp, uint16_t unit);
 /* As many bytes as a controller is saved as, at most: MSCP_SAVED_MAX. */
 size_t mscp_save_size(void);
 
-/* All that the calls tell of the controller, and its limits, units and picker, as bytes: at the front of those that
- * there is room for, and how many they are. docs/SAVED.md has their layout. MSCP_DONE, or MSCP_SMALL where there is
- * less room. The same state has the same bytes, on every machine. */
+/* Writes all that the calls tell of the controller, and its limits, units and picker, as `*length` bytes to the front
+ * of the room. docs/SAVED.md has their layout. MSCP_DONE, or MSCP_SMALL if the room has fewer bytes. The same state has
+ * the same bytes, on every machine. */
 MSCP_MUST_USE
 MSCP_INLINE int32_t mscp_save(const struct mscp *mscp, uint8_t *bytes, size_t room, size_t *length)
 {
@@ -598,9 +599,9 @@ MSCP_INLINE int32_t mscp_save(const struct mscp *mscp, uint8_t *bytes, size_t ro
 }
 
 /* Makes the controller that was saved, in the handle's memory: whatever is called then answers as if it had been called
- * there. MSCP_DONE, or the first fault of those of the memory (-11 to -15) and those of the bytes (-40 to -54). Bytes of
- * a stranger make a controller with which every call is safe, or none; what came to it before, only who saved it knows.
- * This takes up to 40 KiB of the stack, and mscp_save up to 12. */
+ * there. MSCP_DONE, or the first fault of those of the memory (-11 to -15) and those of the bytes (-40 to -54). Bytes
+ * of a stranger make a controller with which every call is safe, or none. Only whoever saved a controller knows what
+ * came to it before. This takes up to 40 KiB of the stack, and mscp_save up to 12. */
 MSCP_MUST_USE
 MSCP_INLINE int32_t mscp_restore(struct mscp *mscp, const uint8_t *bytes, size_t length)
 {
@@ -693,8 +694,9 @@ int32_t mscp_port_read_sa(const struct mscp_port *port);
 int32_t mscp_port_write_sa(struct mscp_port *port, uint16_t word);
 
 /* What the port wants done next. MSCP_DONE, or MSCP_NOTHING until a register is touched, a volume comes or goes, the
- * clock ticks, or it is to look again. Until it is told how that went it answers the same, unless a register is touched,
- * or the volume of its unit comes or goes: then a block isn't wanted any more. Do it before. */
+ * clock ticks, or it is to look again. Until the port is told how its action went it answers the same, unless a
+ * register is touched, or the volume of the action's unit comes or goes: then the port may not want a block any more.
+ * So do the action before either. */
 MSCP_MUST_USE int32_t mscp_port_next(struct mscp_port *port, struct mscp_action *action);
 
 /* These bytes were read in host memory, as it wanted: just as many. MSCP_DONE, or MSCP_UNASKED. */
@@ -710,11 +712,11 @@ MSCP_INLINE int32_t mscp_port_was_read(struct mscp_port *port, const uint8_t *by
  * MSCP_UNASKED. */
 MSCP_MUST_USE int32_t mscp_port_went(struct mscp_port *port, uint32_t outcome, uint16_t status);
 
-/* Where the machine has time for the disk: the port looks again whether its host has given slots for ends back, of
- * which nothing tells. MSCP_DONE. */
+/* The port looks again whether its host has given slots for ends back, since nothing else tells it so. Call this when
+ * the machine has time for the disk. MSCP_DONE. */
 int32_t mscp_port_look_again(struct mscp_port *port);
 
-/* A second went by. It looks again, too, and a host that was silent for too long is taken for dead. MSCP_DONE. */
+/* A second went by. The port looks again, too, and takes a host that was silent for too long for dead. MSCP_DONE. */
 int32_t mscp_port_tick(struct mscp_port *port);
 
 /* A volume came into a unit, in place of one that was there. With 0 it may be written on. MSCP_DONE, or
@@ -793,7 +795,7 @@ MSCP_INLINE const char *mscp_status_text(int64_t status)
     case MSCP_NO_CREDIT: return "no credit is free";
     case MSCP_LAST_CREDIT: return "the last credit is kept for commands that are answered at once";
     case MSCP_DOUBLED: return "the reference number is outstanding";
-    case MSCP_STALE: return "the command isn't begun";
+    case MSCP_NOT_BEGUN: return "the command isn't begun";
     case MSCP_BAD_STATUS: return "no status of a block";
     case MSCP_UNREADABLE: return "the bytes are no end";
     case MSCP_UNKNOWN: return "the end of no outstanding command";

@@ -181,7 +181,7 @@ static void a_read_that_is_polled(void)
     is("begin of nothing", mscp_begin(mscp, &next), MSCP_NOTHING);
     is("step of nothing", mscp_step(mscp, 0, &report), MSCP_NOTHING);
     is("what was told", next.lbn == 7 && report.lbn == 7, 1);
-    is("finish of nothing", mscp_finish(mscp, FIRST, 2, 0, &report), MSCP_STALE);
+    is("finish of nothing", mscp_finish(mscp, FIRST, 2, 0, &report), MSCP_NOT_BEGUN);
     is("a bad finish of nothing", mscp_finish(mscp, FIRST, 2, 4, &report), MSCP_BAD_STATUS);
     is("a bad step of nothing", mscp_step(mscp, 4, &report), MSCP_BAD_STATUS);
     is("read", mscp_send(mscp, FIRST, command(2, MSCP_READ, 1000, 40), 32, &sent), MSCP_QUEUED);
@@ -197,12 +197,12 @@ static void a_read_that_is_polled(void)
     is("begin", mscp_begin(mscp, &next), MSCP_DONE);
     is("what comes", next.reference == 2 && next.opcode == MSCP_READ && next.unit == 0 && next.bytes == 1000, 1);
     is("which block", next.touches && next.lbn == 40 && next.done == 0 && next.weight == 2, 1);
-    is("another's finish", mscp_finish(mscp, FIRST, 3, 0, &report), MSCP_STALE);
+    is("another's finish", mscp_finish(mscp, FIRST, 3, 0, &report), MSCP_NOT_BEGUN);
     is("a bad status", mscp_finish(mscp, FIRST, 2, 4, &report), MSCP_BAD_STATUS);
     is("finish", mscp_finish(mscp, FIRST, 2, 0, &report), MSCP_DONE);
     is("what was done", report.reference == 2 && report.touched && report.lbn == 40 && report.seek == 2, 1);
     is("it goes on", report.started && !report.ended, 1);
-    is("finish again", mscp_finish(mscp, FIRST, 2, 0, &report), MSCP_STALE);
+    is("finish again", mscp_finish(mscp, FIRST, 2, 0, &report), MSCP_NOT_BEGUN);
     is("a bad block", mscp_step(mscp, 0xE8, &report), MSCP_DONE);
     is("it ended", report.ended && report.status == 0xE8 && report.lbn == 41 && !report.started, 1);
     is("take", mscp_take(mscp, FIRST, &end), MSCP_DONE);
@@ -224,7 +224,7 @@ static void an_abort_in_between(void)
     is("begin", mscp_begin(mscp, &next), MSCP_DONE);
     is("abort", mscp_send(mscp, FIRST, command(3, MSCP_ABORT, 2, 0), 16, &sent), MSCP_ANSWERED);
     is("of it", sent.has_aborted && sent.aborted == 2 && sent.reference == 3, 1);
-    is("finish", mscp_finish(mscp, FIRST, 2, 0, &report), MSCP_STALE);
+    is("finish", mscp_finish(mscp, FIRST, 2, 0, &report), MSCP_NOT_BEGUN);
     is("its end first", mscp_take(mscp, FIRST, &end) == MSCP_DONE && number(end.bytes, 4) == 2, 1);
     is("aborted", number(end.bytes + 10, 2), 2);
     is("then that of the abort", mscp_take(mscp, FIRST, &end) == MSCP_DONE && number(end.bytes, 4) == 3, 1);

@@ -135,11 +135,11 @@ static void finishes(void)
     struct mscp_upcoming next;
     struct mscp_report report;
     is("begin", mscp_begin(mscp, &next) == MSCP_DONE && next.connection == FIRST && next.lbn == 40, 1);
-    is("the other's finish", mscp_finish(mscp, SECOND, 5, 0, &report), MSCP_STALE);
+    is("the other's finish", mscp_finish(mscp, SECOND, 5, 0, &report), MSCP_NOT_BEGUN);
     is("finish", mscp_finish(mscp, FIRST, 5, 0, &report) == MSCP_DONE && report.connection == FIRST, 1);
     is("step", mscp_step(mscp, 0, &report) == MSCP_DONE && report.ended && report.connection == FIRST, 1);
     is("begin", mscp_begin(mscp, &next) == MSCP_DONE && next.connection == SECOND && next.lbn == 80, 1);
-    is("the other's finish", mscp_finish(mscp, FIRST, 5, 0, &report), MSCP_STALE);
+    is("the other's finish", mscp_finish(mscp, FIRST, 5, 0, &report), MSCP_NOT_BEGUN);
     is("finish", mscp_finish(mscp, SECOND, 5, 0, &report) == MSCP_DONE && report.connection == SECOND, 1);
     is("it ended", report.ended && report.lbn == 80, 1);
     is("an end each", mscp_untaken(mscp, FIRST) == 1 && mscp_untaken(mscp, SECOND) == 1, 1);
@@ -217,7 +217,7 @@ static void without_a_second(void)
     is("a poll", mscp_send(mscp, SECOND, command(7, MSCP_GET_COMMAND_STATUS, 5, 0), 16, &sent), MSCP_NO_CREDIT);
     is("an abort", mscp_send(mscp, SECOND, command(7, MSCP_ABORT, 5, 0), 16, &sent), MSCP_NO_CREDIT);
     is("take", mscp_take(mscp, SECOND, &end), MSCP_NOTHING);
-    is("finish", mscp_finish(mscp, SECOND, 5, 0, &report), MSCP_STALE);
+    is("finish", mscp_finish(mscp, SECOND, 5, 0, &report), MSCP_NOT_BEGUN);
     is("figure", mscp_figure(mscp, SECOND, 5), 0);
     is("balance", mscp_balance(mscp, SECOND), 0);
     is("waiting", mscp_waiting(mscp, SECOND), 0);

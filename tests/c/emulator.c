@@ -136,7 +136,7 @@ static void full_rings(void)
     is("none is lost", ended, posted);
 }
 
-/* A reset empties the rings and the table, and what the drive has in work then is stale. */
+/* A reset empties the rings and the table, and what the drive has in work is begun no more. */
 static void reset_of_full_rings(void)
 {
     struct job job;
@@ -148,7 +148,7 @@ static void reset_of_full_rings(void)
     while (post(40, MSCP_GET_UNIT_STATUS, 0, 0, 0))
         continue;
     emulator_reset(&disk);
-    is("stale", emulator_finish(&disk, &job), false);
+    is("begun no more", emulator_finish(&disk, &job), false);
     is("nothing to do", emulator_turn(&disk), false);
     is("no end", emulator_next(&disk, &end), false);
     is("no buffer", disk.buffers_count, 0);

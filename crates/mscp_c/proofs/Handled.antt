@@ -61,7 +61,7 @@ picker_kept {K} picks old (calls.Begin None) new r = ap (λ (l : Line K). l.pick
 picker_kept {K} picks old (calls.Begin (Some upcoming)) new r = ap (λ (l : Line K). l.picker) r.begins.1.left
 picker_kept picks old (calls.Finish via reference k (Ok report)) new r =
     (owner_kept picks old new (events.Step k) (entries.Stepped report) r.1).1
-picker_kept {K} picks old (calls.Finish via reference k (Err stale)) new r = ap (λ (h : Holdings K). h.picker) r.1
+picker_kept {K} picks old (calls.Finish via reference k (Err not_begun)) new r = ap (λ (h : Holdings K). h.picker) r.1
 
 -- ---- what is known of a handle after calls of its controller
 

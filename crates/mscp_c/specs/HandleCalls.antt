@@ -11,7 +11,7 @@ use Rattle.mscp_events.specs.declared.event.Event.TheVariants as events
 use Rattle.mscp_controller.specs.declared.entry.Entry.TheVariants as entries
 use Rattle.mscp_controller.specs.declared.entry.SendFault.{SendFault}
 use Rattle.mscp_controller.specs.declared.entry.Sent.{Sent}
-use Rattle.mscp_controller.specs.declared.entry.Stale.{Stale}
+use Rattle.mscp_controller.specs.declared.entry.NotBegun.{NotBegun}
 use Rattle.mscp_events.specs.Settings.{Settings, IsValid}
 use Rattle.mscp_events.specs.Both.{of}
 use Rattle.mscp_controller.specs.Holdings.{after_message, after_take, answer_to_message, balance_of, end_taken, fresh, waiting_on}
@@ -157,7 +157,7 @@ TellsTaken via before status after next =
 -- the status was that of this block: a finish or a step is told
 abbrev pub TellsFinished : Connection → ℕ → Block → ReportOut → ℤ → ReportOut → List Call → Type 0
 TellsFinished via reference k before status after next =
-    (answer : Result Report Stale) × (next ≡ calls.Finish via reference k answer ∷ [])
+    (answer : Result Report NotBegun) × (next ≡ calls.Finish via reference k answer ∷ [])
     × (status ≡ finish_code answer) × (after ≡ finish_told answer before)
 
 abbrev pub TellsBlock : Connection → ℕ → ℕ → ReportOut → ℤ → ReportOut → List Call → Type 0

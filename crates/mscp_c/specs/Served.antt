@@ -5,12 +5,12 @@ use Rattle.mscp_events.specs.declared.connection.Connection.{Connection}
 use Rattle.mscp_queue.specs.declared.report.Report.{Report}
 use Rattle.mscp_queue.specs.declared.upcoming.Upcoming.{Upcoming}
 use Rattle.mscp_queue.specs.Names.{name_on}
-use Rattle.mscp_controller.specs.declared.entry.Stale.{Stale}
+use Rattle.mscp_controller.specs.declared.entry.NotBegun.{NotBegun}
 use Rattle.mscp_controller.specs.Holdings as controllers
 use Rattle.mscp_memory.specs.declared.controller.handle.Handle.{Handle}
 use Rattle.mscp_memory.specs.Policies.{PolicyPicks}
 use Rattle.mscp_memory.specs.ControllerHandles.{with_held}
-use Rattle.mscp_c.specs.declared.status.TheConstants.{STALE}
+use Rattle.mscp_c.specs.declared.status.TheConstants.{NOT_BEGUN}
 use Rattle.mscp_c.specs.declared.outs.UpcomingOut.{UpcomingOut}
 use Rattle.mscp_c.specs.declared.outs.ReportOut.{ReportOut}
 use Rattle.mscp_c.specs.Told.{begin_code, report_code, report_told, upcoming_told}
@@ -33,19 +33,19 @@ pub record TellsStep (k : Block)
   pub code : status ≡ report_code report
   pub told : after ≡ report_told report before
 
--- the status of a finish, and what is told of it. Of a stale one nothing is
-abbrev pub finish_code : Result Report Stale → ℤ
+-- the status of a finish, and what is told of it. A finish of a command that isn't begun tells nothing
+abbrev pub finish_code : Result Report NotBegun → ℤ
 finish_code (Ok report) = report_code report
-finish_code (Err stale) = STALE
+finish_code (Err not_begun) = NOT_BEGUN
 
-abbrev pub finish_told : Result Report Stale → ReportOut → ReportOut
+abbrev pub finish_told : Result Report NotBegun → ReportOut → ReportOut
 finish_told (Ok report) out = report_told report out
-finish_told (Err stale) out = out
+finish_told (Err not_begun) out = out
 
 -- they tell a finish that the controller may make
 pub record TellsFinish (via : Connection) (reference : ℕ) (k : Block)
     (old : Handle) (before : ReportOut) (status : ℤ) (new : Handle) (after : ReportOut) : Type 0 where
-  pub answer : Result Report Stale
+  pub answer : Result Report NotBegun
   pub finish : controllers.Finishes (PolicyPicks old.held.picker) (name_on via reference) k old.held answer new.held
   pub rest : new ≡ with_held old new.held
   pub code : status ≡ finish_code answer

@@ -11,14 +11,13 @@ use crate::status::{
     ANSWERED, BAD_BOUND, BAD_BUS, BAD_CONNECTION, BAD_CREDITS, BAD_HOST_CREDITS, BAD_LONGEST,
     BAD_OUTCOME, BAD_PICKER, BAD_STATUS, BAD_TIMEOUT, BUSY, DONE, DOUBLED, ENDED, FIRST,
     LAST_CREDIT, LATE, LONG, LOST, MADE, MANY_UNITS, MISALIGNED, NO_CREDIT, NO_HANDLE, NO_MEMORY,
-    NO_UNITS, NOT_MADE, NOTHING, PROGRESS, QUEUED, RESET, SAVED_BEGUN, SAVED_COMMAND,
+    NO_UNITS, NOT_BEGUN, NOT_MADE, NOTHING, PROGRESS, QUEUED, RESET, SAVED_BEGUN, SAVED_COMMAND,
     SAVED_CREDITS, SAVED_DOUBLED, SAVED_ENDS, SAVED_FORM, SAVED_HEADS, SAVED_LENGTH, SAVED_LIMITS,
     SAVED_MAGIC, SAVED_PASSED, SAVED_PICKER, SAVED_POLL, SAVED_SIZE, SAVED_STEPS, SAVED_UNITS,
     SAVED_VERSION, SCRIPT_BYTE, SCRIPT_CONFIG, SCRIPT_COUNT, SCRIPT_EVENTS, SCRIPT_HEADER,
     SCRIPT_HEX, SCRIPT_LINES, SCRIPT_LONG, SCRIPT_NUMBER, SCRIPT_SIZE, SCRIPT_STATUS, SCRIPT_UNIT,
-    SCRIPT_WORD, SHORT, SMALL, STALE, UNASKED, UNITS_FALL, UNKNOWN, UNKNOWN_UNIT, UNREADABLE,
-    WORD_CODE, WORD_HEX, WORD_LENGTH, WORD_LONG, WORD_SHORT, ZERO_CYLINDER, ZERO_GROUP, ZERO_SIZE,
-    ZERO_TRACK,
+    SCRIPT_WORD, SHORT, SMALL, UNASKED, UNITS_FALL, UNKNOWN, UNKNOWN_UNIT, UNREADABLE, WORD_CODE,
+    WORD_HEX, WORD_LENGTH, WORD_LONG, WORD_SHORT, ZERO_CYLINDER, ZERO_GROUP, ZERO_SIZE, ZERO_TRACK,
 };
 use mscp_controller::controllers_keep_the_promise;
 use mscp_memory::Policy;
@@ -30,6 +29,7 @@ pub fn made_handles_are_valid(handle: &mut Handle)
     ensures valid { IsValid handle.old.held.settings }
     ensures same { handle.new ≡ handle.old }
 {
+    // A getter of the settings tells that they are valid.
     let _ = lend(handle).config().credits();
 }
 
@@ -68,7 +68,7 @@ pub fn statuses_are_these()
     ensures no_credit { NO_CREDIT ≡ minus 3 }
     ensures last_credit { LAST_CREDIT ≡ minus 4 }
     ensures doubled { DOUBLED ≡ minus 5 }
-    ensures stale { STALE ≡ minus 6 }
+    ensures not_begun { NOT_BEGUN ≡ minus 6 }
     ensures bad_status { BAD_STATUS ≡ minus 7 }
     ensures unreadable { UNREADABLE ≡ minus 8 }
     ensures unknown { UNKNOWN ≡ minus 9 }

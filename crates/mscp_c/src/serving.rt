@@ -9,7 +9,7 @@ ghost use Rattle.mscp_c.specs.Told.{block_told};
 ghost use Rattle.mscp_c.specs.Served.{TellsBegin, TellsFinish, TellsStep};
 
 use crate::outs::{ReportOut, UpcomingOut};
-use crate::status::{BAD_CONNECTION, BAD_STATUS, NOT_MADE, STALE};
+use crate::status::{BAD_CONNECTION, BAD_STATUS, NOT_BEGUN, NOT_MADE};
 use crate::telling::{block_of, tell_report, tell_upcoming};
 use crate::units::connection_of;
 use mscp_memory::controller::{Handle, is_made, lend};
@@ -61,7 +61,7 @@ pub extern "C" fn mscp_finish(
     };
     match lend(handle).finish(connection, reference, block) {
         Ok(report) => tell_report(out, &report),
-        Err(_) => STALE,
+        Err(_) => NOT_BEGUN,
     }
 }
 

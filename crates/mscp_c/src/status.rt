@@ -48,8 +48,8 @@ pub(crate) const NO_CREDIT: i32 = -3;
 pub(crate) const LAST_CREDIT: i32 = -4;
 
 pub(crate) const DOUBLED: i32 = -5;
-/// No command of that reference number is begun.
-pub(crate) const STALE: i32 = -6;
+/// No command of that connection and reference number is begun.
+pub(crate) const NOT_BEGUN: i32 = -6;
 /// Neither 0 nor the status of a bad block.
 pub(crate) const BAD_STATUS: i32 = -7;
 /// The bytes are no end.

@@ -13,7 +13,7 @@ use Rattle.mscp_events.specs.declared.event.Event.{Event}
 use Rattle.mscp_events.specs.declared.event.Event.TheVariants as events
 use Rattle.mscp_controller.specs.declared.entry.Entry.{Entry}
 use Rattle.mscp_controller.specs.declared.entry.Entry.TheVariants as entries
-use Rattle.mscp_controller.specs.declared.entry.Stale.{Stale}
+use Rattle.mscp_controller.specs.declared.entry.NotBegun.{NotBegun}
 use Rattle.mscp_events.specs.Settings.{Settings}
 use Rattle.mscp_controller.specs.History.{Moment, Trace, Service, is_step, service_in}
 use Rattle.mscp_controller.specs.Commands.{command, connection, done, in_service, is_waiting, service_name, waiting, weight}
@@ -28,14 +28,15 @@ pub data Call : Type 0 where
   -- a begin, and what it told of the next step
   Begin : Option Upcoming → Call
   -- the finish of the command of this reference number on this connection, whose block had this outcome
-  Finish : Connection → ℕ → Block → Result Report Stale → Call
+  Finish : Connection → ℕ → Block → Result Report NotBegun → Call
 
--- the moments of a call: a finish that isn't stale is a step. One that is, and a begin, are no moment (profile)
+-- the moments of a call: a finish of what is begun is a step. A finish that fails is no moment, and nor is a begin
+-- (profile)
 abbrev pub moments_of : Call → List Moment
 moments_of (Plain event entry) = (event, entry) ∷ []
 moments_of (Begin upcoming) = []
 moments_of (Finish via reference k (Ok report)) = (events.Step k, entries.Stepped report) ∷ []
-moments_of (Finish via reference k (Err stale)) = []
+moments_of (Finish via reference k (Err not_begun)) = []
 
 -- the history of calls, oldest first (profile)
 abbrev pub history : List Call → Trace
@@ -57,7 +58,7 @@ abbrev pub service_of : Call → Option Service
 service_of (Plain event entry) = service_in entry
 service_of (Begin upcoming) = None
 service_of (Finish via reference k (Ok report)) = service_in (entries.Stepped report)
-service_of (Finish via reference k (Err stale)) = None
+service_of (Finish via reference k (Err not_begun)) = None
 
 -- the call was a step
 abbrev pub steps : Call → Bool
@@ -123,7 +124,7 @@ abbrev pub IsRightCall : Settings → List Call → Call → Type 0
 IsRightCall c so_far (Plain event entry) = Unit {0}
 IsRightCall c so_far (Begin upcoming) = IsForetold c (history so_far) upcoming
 IsRightCall c so_far (Finish via reference k (Ok report)) = IsBegun so_far (name_on via reference)
-IsRightCall c so_far (Finish via reference k (Err stale)) = Unit {0}
+IsRightCall c so_far (Finish via reference k (Err not_begun)) = Unit {0}
 
 -- the step serves what was told: this command and this block, and it is a start exactly if the command had no step
 -- (profile)
@@ -134,10 +135,10 @@ pub record IsAsTold (upcoming : Upcoming) (s : Service) : Type 0 where
   pub lbn : s.lbn ≡ upcoming.lbn
   pub started : s.started ≡ nat_eq upcoming.done 0
 
--- the call holds to what was begun: a begin tells the same, a step serves it, and no finish of it is stale (profile)
+-- the call holds to what was begun: a begin tells the same, a step serves it, and no finish of it fails (profile)
 abbrev pub HoldsTo : Upcoming → Call → Type 0
 HoldsTo upcoming (Begin again) = again ≡ Some upcoming
-HoldsTo upcoming (Finish via reference k (Err stale)) = upcoming_name upcoming ≢ name_on via reference
+HoldsTo upcoming (Finish via reference k (Err not_begun)) = upcoming_name upcoming ≢ name_on via reference
 HoldsTo upcoming call = IfSome (service_of call) (IsAsTold upcoming)
 
 -- the call holds to all that was begun

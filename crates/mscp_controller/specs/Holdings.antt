@@ -22,9 +22,9 @@ use Rattle.mscp_queue.specs.Records.{Record, aborted_record, fresh_record, has_n
 use Rattle.mscp_queue.specs.Names.{name_on, same_connection}
 use Rattle.mscp_queue.specs.Figures.{figure_of_name, figures}
 use Rattle.mscp_queue.specs.Lines.{Begins, Line, Serves}
-use Rattle.mscp_queue.specs.Serving.{begun_without, is_begun}
+use Rattle.mscp_queue.specs.Serving.{begun_without, is_begun, upcoming_begun}
 use Rattle.mscp_controller.specs.declared.entry.SendFault.{SendFault}
-use Rattle.mscp_controller.specs.declared.entry.Stale.{Stale}
+use Rattle.mscp_controller.specs.declared.entry.NotBegun.{NotBegun}
 use Rattle.mscp_controller.specs.declared.entry.Sent.{Sent}
 use Rattle.mscp_controller.specs.declared.entry.Sent.TheVariants as sents
 use Rattle.mscp_events.specs.declared.event.Event.{Event}
@@ -223,12 +223,16 @@ pub record Foretells {K : Type 0} (picks : List Choice → ℕ → Type 0)
   pub untaken : new.untaken ≡ old.untaken
   pub settings : new.settings ≡ old.settings
 
--- what a finish may answer, whose block had this outcome, and what is held after it: where the command of this name is
--- begun it is a step, and else it is stale and changes nothing (profile)
+-- what a begin told of the step that is begun, if one is: what it began waits, and had no step since (profile)
+abbrev pub begun_step : {K : Type 0} → Holdings K → Option Upcoming
+begun_step h = upcoming_begun h.drives h.waiting h.begun
+
+-- what a finish may answer, whose block had this outcome, and what is held after it: if the command of this name is
+-- begun the finish is a step, and otherwise it fails and changes nothing (profile)
 abbrev pub Finishes : {K : Type 0}
-    → (List Choice → ℕ → Type 0) → Name → Block → Holdings K → Result Report Stale → Holdings K → Type 0
+    → (List Choice → ℕ → Type 0) → Name → Block → Holdings K → Result Report NotBegun → Holdings K → Type 0
 Finishes picks name k old (Ok report) new = (is_begun name old.begun ≡ true) × Steps picks k old report new
-Finishes picks name k old (Err stale) new = (is_begun name old.begun ≡ false) × (new ≡ old)
+Finishes picks name k old (Err not_begun) new = (is_begun name old.begun ≡ false) × (new ≡ old)
 
 -- ---- a take
 

@@ -9,7 +9,7 @@ ghost use Rattle.mscp_controller.specs.Arrival.{credit_fault, fault_of, holds, i
 ghost use Rattle.mscp_controller.specs.Accounts.{CanEnd, reported};
 ghost use Rattle.mscp_events.specs.Both.{of};
 ghost use Rattle.mscp_events.specs.Settings.{IsValid};
-ghost use Rattle.mscp_controller.specs.Holdings.{Answers, Finishes, Foretells, IsBalanced, Steps, aborting, after_message, after_take, answer_to_message, answered_end, arrives, balance_of, end_taken, with_end, fresh, outstanding_of, queued, reference_aborted, taken_as};
+ghost use Rattle.mscp_controller.specs.Holdings.{Answers, Finishes, Foretells, IsBalanced, Steps, aborting, after_message, after_take, answer_to_message, answered_end, arrives, balance_of, begun_step, end_taken, with_end, fresh, outstanding_of, queued, reference_aborted, taken_as};
 
 mod restoring;
 mod seeing;
@@ -17,7 +17,7 @@ mod seeing;
 use crate::account::Accounts;
 use crate::answer::{controller_end, refused_end, unit_status_end};
 use crate::arrival::{is_immediate, judge, may_take_last_credit};
-use crate::entry::{Entry, SendFault, Sent, Stale};
+use crate::entry::{Entry, NotBegun, SendFault, Sent};
 use arrayvec::ArrayVec;
 use mscp_drive::Units;
 use mscp_events::{Block, Config, Connection, Event};
@@ -274,7 +274,7 @@ impl<K: Picker> Controller<K> {
         ensures unchanged { IfErr result (λ fault. self.new ≡ self.old) }
         ensures account { IsBalanced self.new }
     {
-        // The account is one of the settings, also where a message is refused for its size.
+        // The account is known only where a field is used, and a message may be refused for its size before that.
         let _ = &self.config;
         let command = read_command(b)?;
         match self.credit_fault(connection, command.opcode(), command.reference) {
@@ -301,28 +301,33 @@ impl<K: Picker> Controller<K> {
     /// `figure`, `balance`, `config`, `send` and `take` tell.
     pub fn begin(&mut self) -> Option<Upcoming>
         ensures begin { Foretells (K.picks self.old.picker) self.old result self.new }
+        ensures again { begun_step self.new ≡ result }
         ensures account { IsBalanced self.new }
     {
         self.queue.begin()
     }
 
-    /// The step of the connection's command with this reference number, where it is begun: its block had this outcome. Else
-    /// it is stale: nothing changes, and the block counts for nothing. A command is known by its connection and its number
-    /// alone. So who begins anew after a step, an ABORT or a reset must let no finish of an older begin come any more: the
-    /// number may be the same.
+    /// The step of the connection's command with this reference number, if it is begun: its block had this outcome. If
+    /// no such command is begun, nothing changes, and the block counts for nothing. A command is known by its
+    /// connection and its number alone. So who begins anew after a step, an ABORT or a reset must let no finish of an
+    /// older begin come any more: the number may be the same.
+    ///
+    /// # Errors
+    ///
+    /// `NotBegun` if no command of this connection and reference number is begun.
     pub fn finish(
         &mut self,
         connection: Connection,
         reference: u32,
         block: Block,
-    ) -> Result<Report, Stale>
+    ) -> Result<Report, NotBegun>
         ensures finish { Finishes (K.picks self.old.picker) (name_on connection reference) block self.old result self.new }
         ensures account { IsBalanced self.new }
     {
         if self.queue.is_begun(connection, reference) {
             Ok(self.step(block))
         } else {
-            Err(Stale)
+            Err(NotBegun)
         }
     }
 

@@ -36,7 +36,7 @@ impl From<PacketFault> for SendFault {
 
 /// Why a step can't be finished: no command of its connection and reference number is begun. Nothing is changed.
 #[derive(Clone, Copy, Debug, PartialEq, Eq)]
-pub struct Stale;
+pub struct NotBegun;
 
 /// What became of a message: each names its reference number.
 #[derive(Clone, Copy, Debug, PartialEq, Eq)]

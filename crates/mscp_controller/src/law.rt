@@ -22,15 +22,13 @@ pub fn legal_traces_make_progress()
 /// hands the events on, and whether or not the answers are kept in a list.
 pub fn runs_keep_the_promise<K: Picker>(picker: &K)
     ensures { RunsKeepThePromise (K.picks picker.now) picker.now }
-{
-    let _ = picker;
-}
+{}
 
 /// The answers of a controller over this picker, one after the other from its making on, whoever calls it, are a legal
-/// trace, with all that is promised of one: a finish that isn't stale is a step of it, and nothing else of begin and
-/// finish shows there. What was begun is what each begin tells and what the next step serves, until it is served or
-/// aborted; a finish is stale exactly where no command of its name is begun. Each start is one that the
-/// picker may pick in the view at its begin, or at the step where nothing was begun: where it picks as `Sweep` does,
+/// trace, with all that is promised of one: a finish of a command that is begun is a step of it, and nothing else of
+/// begin and finish shows there. What was begun is what each begin tells and what the next step serves, until it is
+/// served or aborted; a finish fails exactly if no command of its name is begun. Each start is one that the picker may
+/// pick in the view at its begin, or at the step where nothing was begun: where it picks as `Sweep` does,
 /// the one of least cost in that view, and of those the oldest. The figures and balances that it tells are always
 /// those of that trace, and so are the states and the heads of its units, and those that keep a command back: while nothing
 /// is in service a waiting command may start exactly if nobody keeps it back. After a reset it is as new, and what follows
@@ -38,14 +36,10 @@ pub fn runs_keep_the_promise<K: Picker>(picker: &K)
 /// no room, is refused and changes nothing.
 pub fn controllers_keep_the_promise<K: Picker>(picker: &K)
     ensures { ControllersKeepThePromise (K.picks picker.now) picker.now }
-{
-    let _ = picker;
-}
+{}
 
 /// The same of a controller whose picker is replaced between calls, as often as one likes: its answers keep the promise as those
 /// of one picker do. Each start is one that may be picked of its view by the picker of a call which saw that view.
 pub fn replaced_pickers_keep_the_promise<K: Picker>(picker: &K)
     ensures { PromiseIsKeptInTurn K.picks picker.now }
-{
-    let _ = picker;
-}
+{}

@@ -10,7 +10,7 @@ mod law;
 mod running;
 
 pub use crate::controller::Controller;
-pub use crate::entry::{Entry, SendFault, Sent, Stale};
+pub use crate::entry::{Entry, NotBegun, SendFault, Sent};
 pub use crate::law::{
     controllers_keep_the_promise, legal_traces_make_progress, replaced_pickers_keep_the_promise,
     runs_keep_the_promise,

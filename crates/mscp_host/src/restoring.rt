@@ -1,6 +1,6 @@
 // Bytes to a host.
 
-ghost use Rattle.std.specs.Prelude.{◌≡◌, ◌+◌, ◌*◌, ◌≤◌, length, IfOk, None};
+ghost use Rattle.std.specs.Prelude.{◌≡◌, ◌*◌, ◌≤◌, length, IfOk, None};
 ghost use Rattle.mscp_packet.specs.Parts.{parts_in};
 ghost use Rattle.mscp_host.specs.Restored.{account_fault, account_in, count_in, is_framed, head_fault, outstanding_in, restored, submission_in, told_in, watch_in};
 ghost use Rattle.mscp_host.specs.Saved.{saved_bytes};

@@ -1,6 +1,6 @@
 // A controller that answers what a log says, and what of its answers wasn't told yet.
 
-ghost use Rattle.std.specs.Prelude.{◌≡◌, ◌+◌, ◌-◌, ◌<◌, ◌^◌, ◌++◌, [], codes, length, true, false, OnOk, IfOk, None};
+ghost use Rattle.std.specs.Prelude.{◌≡◌, ◌+◌, ◌-◌, ◌<◌, ◌^◌, [], codes, length, true, false, OnOk, IfOk, None};
 ghost use Rattle.mscp_events.specs.Settings.{IsValid, Settings};
 ghost use Rattle.mscp_events.specs.declared.event.Event.TheVariants as events;
 ghost use Rattle.mscp_reader.specs.Requests.{events_of};

@@ -1,6 +1,6 @@
 // The rule that a line breaks.
 
-ghost use Rattle.std.specs.Prelude.{◌≡◌, ◌≤◌, IfSome, IfNone};
+ghost use Rattle.std.specs.Prelude.{◌≡◌, ◌≤◌};
 ghost use Rattle.mscp_events.specs.Settings.{IsValid, Settings};
 ghost use Rattle.mscp_controller.specs.History.{Trace};
 ghost use Rattle.mscp_controller.specs.Holdings.{fresh};

@@ -1,7 +1,5 @@
 // Which picker serves.
 
-ghost use Rattle.std.specs.Prelude.{◌≡◌};
-
 use mscp_controller::{Oldest, Picker, Sweep, View};
 
 /// Which picker says what starts.

@@ -9,7 +9,7 @@ use Rattle.mscp_queue.specs.declared.report.Report.TheVariants.{Idle, Served}
 use Rattle.mscp_queue.specs.declared.view.Choice.{Choice}
 use Rattle.mscp_queue.specs.Lines.{Line, Serves}
 use Rattle.mscp_queue.specs.Names.{name_on}
-use Rattle.mscp_controller.specs.declared.entry.Stale.{Stale}
+use Rattle.mscp_controller.specs.declared.entry.NotBegun.{NotBegun}
 use Rattle.mscp_controller.specs.Holdings.{Finishes, Holdings}
 use Rattle.mscp_port.specs.declared.port.Port.{Port}
 use Rattle.mscp_port.specs.Moved.{TakesBlock, anyhow}
@@ -32,7 +32,7 @@ serves_anyhow picks k old (Served via reference unit lbn started seek ended) new
 )
 
 finishes_anyhow : {K : Type 0} (picks : List Choice → ℕ → Type 0) (name : Name) (k : Block) (old : Holdings K)
-    (result : Result Report Stale) (new : Holdings K) → Finishes picks name k old result new
+    (result : Result Report NotBegun) (new : Holdings K) → Finishes picks name k old result new
     → Finishes anyhow name k old result new
 finishes_anyhow picks name k old (Ok report) new f = (
   f.0,
@@ -42,7 +42,7 @@ finishes_anyhow picks name k old (Ok report) new f = (
     settings = f.1.settings;
   },
 )
-finishes_anyhow picks name k old (Err stale) new f = f
+finishes_anyhow picks name k old (Err not_begun) new f = f
 
 -- a step that is taken by a picker is taken
 pub taken_anyhow : {K : Type 0} (picks : List Choice → ℕ → Type 0) (via : Connection) (reference : ℕ) (block : Block)

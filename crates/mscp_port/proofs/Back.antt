@@ -168,7 +168,6 @@ module _ {K : Type 0} (number : ℕ) (p : Port K) where
         whom = c.whom;
         first = four c.first h.first i;
         second = four c.second h.second i;
-        third = four c.third h.third i;
         two = two c.two h.two i;
         how = c.how;
       }

@@ -3,7 +3,7 @@ use Rattle.std.proofs.Common.{◌≡◌, ◌⊎◌, ℕ, List, Option, inl, inr,
 use Rattle.mscp_events.specs.declared.connection.Connection.TheVariants.{First}
 use Rattle.mscp_queue.specs.declared.upcoming.Upcoming.{Upcoming}
 use Rattle.mscp_queue.specs.declared.view.Choice.{Choice}
-use Rattle.mscp_controller.specs.Holdings.{Foretells, Holdings, after_take}
+use Rattle.mscp_controller.specs.Holdings.{Foretells, Holdings, after_take, begun_step}
 use Rattle.mscp_port.specs.declared.port.Port.{Port}
 use Rattle.mscp_port.specs.declared.task.Task.{Task}
 use Rattle.mscp_port.specs.Moved.{BeginsBlock, begun_task}
@@ -19,6 +19,7 @@ pub begun_behind : {K : Type 0} (picks_of : K → List Choice → ℕ → Type 0
     → (upcoming : Option Upcoming)
     × Foretells (picks_of between.controller.picker) between.controller upcoming new.controller
     × (task ≡ begun_task new.controller.settings.units new.buffers.items new.volumes upcoming)
+    × (begun_step new.controller ≡ upcoming)
     → BeginsBlock (picks_of old.controller.picker) task old new
 begun_behind picks_of task old between new either begun = record {
   begun = (
@@ -28,5 +29,6 @@ begun_behind picks_of task old between new either begun = record {
     subst (λ k. Foretells (picks_of k) between.controller begun.0 new.controller)
         (same_picker old.controller between.controller either) begun.1,
     begun.2,
+    begun.3,
   );
 }

@@ -19,7 +19,7 @@ use Rattle.mscp_queue.specs.Outcomes.{goes_on, outcome_at}
 use Rattle.mscp_queue.specs.Records.{Record, drive_at, has_name, left_of, name_of, record_at}
 use Rattle.mscp_queue.specs.Serving.{end_given, is_begun}
 use Rattle.mscp_queue.proofs.Named.{same_is}
-use Rattle.mscp_controller.specs.declared.entry.Stale.{Stale}
+use Rattle.mscp_controller.specs.declared.entry.NotBegun.{NotBegun}
 use Rattle.mscp_controller.specs.Holdings.{Finishes, Holdings}
 use Rattle.mscp_port.specs.declared.buffers.Buffer.{Buffer}
 use Rattle.mscp_port.specs.declared.port.Port.{Port}
@@ -113,9 +113,9 @@ pub record IsOf (via : Connection) (rs : List Record) (e : End) : Type 0 where
   pub unit : e.unit ≡ (record_at rs place).command.unit
 
 pub ended_of : {K : Type 0} (via : Connection) (reference : ℕ) (block : Block) (old new : Holdings K)
-    (result : Result Report Stale) (e : End) → Finishes anyhow (name_on via reference) block old result new
+    (result : Result Report NotBegun) (e : End) → Finishes anyhow (name_on via reference) block old result new
     → end_brought result ≡ Some e → IsOf via old.waiting e
-ended_of via reference block old new (Err stale) e f brought = absurd (none-some e brought)
+ended_of via reference block old new (Err not_begun) e f brought = absurd (none-some e brought)
 ended_of via reference block old new (Ok Idle) e f brought = absurd (none-some e brought)
 ended_of via reference block old new (Ok (Served other number unit lbn started seek ended)) e f brought =
     let place = f.1.serves.0 in
@@ -166,10 +166,10 @@ served_stays via reference bs b r k d o told named there is = elim (none_or_some
 ]
 
 module _ {K : Type 0} (said : ℕ → Buffer → Type 0) where
-  taken_keeps : (via : Connection) (reference : ℕ) (block : Block) (old new : Port K) (result : Result Report Stale)
+  taken_keeps : (via : Connection) (reference : ℕ) (block : Block) (old new : Port K) (result : Result Report NotBegun)
       → Finishes anyhow (name_on via reference) block old.controller result new.controller
       → HeedsStep via (end_brought result) old new → Keeps said old → Keeps said new
-  taken_keeps via reference block old new (Err stale) f heeds k =
+  taken_keeps via reference block old new (Err not_begun) f heeds k =
       keeps_same said old new (λ b there. subst (λ bs. Contains bs b) heeds.buffers there)
       (ap (λ h. h.waiting) f.1) k
   taken_keeps via reference block old new (Ok Idle) f heeds k =

@@ -12,7 +12,6 @@ use Rattle.mscp_queue.specs.declared.upcoming.Upcoming.{Upcoming}
 use Rattle.mscp_port.specs.declared.action.Outcome.{Outcome}
 use Rattle.mscp_port.specs.declared.action.Outcome.TheVariants as outcomes
 use Rattle.mscp_port.specs.declared.buffers.Buffer.{Buffer}
-use Rattle.mscp_port.specs.declared.buffers.Job.{Job}
 use Rattle.mscp_port.specs.declared.task.Task.{Task}
 use Rattle.mscp_port.specs.declared.task.Task.TheVariants as tasks
 use Rattle.mscp_port.specs.declared.volumes.Volume.{Volume}
@@ -37,12 +36,20 @@ writes moves.Read = false
 writes moves.Write = true
 
 -- what is done first for a block: the host's bytes are fetched, or the block is moved
-abbrev pub first_of : MoveKind → Job → Task
-first_of moves.Access job = tasks.Transfer job
-first_of moves.Erase job = tasks.Transfer job
-first_of moves.Compare job = tasks.Fetch job
-first_of moves.Read job = tasks.Transfer job
-first_of moves.Write job = tasks.Fetch job
+abbrev pub first_of : MoveKind → Task
+first_of moves.Access = tasks.Transfer
+first_of moves.Erase = tasks.Transfer
+first_of moves.Compare = tasks.Fetch
+first_of moves.Read = tasks.Transfer
+first_of moves.Write = tasks.Fetch
+
+-- how a step moves a block, and which: none of another order than a transfer, nor of one to a unit that is available
+abbrev pub moved_by : Order → Option ℕ → Option (MoveKind × ℕ)
+moved_by (orders.Move kind count first) (Some block) = Some (kind, block)
+moved_by order lbn = None
+
+abbrev pub move_of : Upcoming → Option (MoveKind × ℕ)
+move_of u = moved_by u.command.order u.lbn
 
 -- ---- why a step isn't taken
 
@@ -82,34 +89,19 @@ kept_at (Some place) buffers = slice_get buffers place
 abbrev pub kept_of : Connection → ℕ → List Buffer → Option Buffer
 kept_of via reference buffers = kept_at (position (is_of via reference) buffers) buffers
 
--- the step is taken with this outcome, and moves no block
-abbrev pub step_with : Upcoming → Block → Task
-step_with u block = tasks.Step u.connection u.command.reference block
-
-abbrev pub job_of : Upcoming → MoveKind → ℕ → Job
-job_of u kind block = record {
-  connection = u.connection;
-  reference = u.command.reference;
-  kind = kind;
-  unit = u.command.unit;
-  block = block;
-  done = u.done;
-}
-
 -- by its part of the buffer: past it memory isn't there, and a transfer of no bytes moves nothing
-abbrev pub part_task : Upcoming → MoveKind → ℕ → Option (ℕ × ℕ) → Task
-part_task u kind block None = step_with u (blocks.Bad 0x0069)
-part_task u kind block (Some part) =
-    if part.1 == 0 then step_with u blocks.Good else first_of kind (job_of u kind block)
+abbrev pub part_task : MoveKind → Option (ℕ × ℕ) → Task
+part_task kind None = tasks.Step (blocks.Bad 0x0069)
+part_task kind (Some part) = if part.1 == 0 then tasks.Step blocks.Good else first_of kind
 
-abbrev pub unless_refused : Upcoming → MoveKind → ℕ → Buffer → Option ℕ → Task
-unless_refused u kind block b None = part_task u kind block (part_of b u.done)
-unless_refused u kind block b (Some status) = step_with u (blocks.Bad status)
+abbrev pub unless_refused : Upcoming → MoveKind → Buffer → Option ℕ → Task
+unless_refused u kind b None = part_task kind (part_of b u.done)
+unless_refused u kind b (Some status) = tasks.Step (blocks.Bad status)
 
--- by its order and the block that it touches
-abbrev pub move_task : Upcoming → Order → Option ℕ → Buffer → Volume → Task
-move_task u (orders.Move kind count first) (Some block) b v = unless_refused u kind block b (refusal_of kind b v)
-move_task u order lbn b v = step_with u blocks.Good
+-- by how it moves a block, if it moves one
+abbrev pub move_task : Upcoming → Option (MoveKind × ℕ) → Buffer → Volume → Task
+move_task u None b v = tasks.Step blocks.Good
+move_task u (Some move) b v = unless_refused u move.0 b (refusal_of move.0 b v)
 
 abbrev pub is_available : Order → Bool
 is_available orders.Available = true
@@ -118,9 +110,9 @@ is_available order = false
 -- for a step of a command, of whose message this is kept, and whose unit has this volume. AVAILABLE wants no volume
 abbrev pub task_of : Upcoming → Buffer → Volume → Task
 task_of u b v =
-    if is_available u.command.order then step_with u blocks.Good
-    else if has_changed b v then step_with u (blocks.Bad 0xFFFF)
-    else move_task u u.command.order u.lbn b v
+    if is_available u.command.order then tasks.Step blocks.Good
+    else if has_changed b v then tasks.Step (blocks.Bad 0xFFFF)
+    else move_task u (move_of u) b v
 
 -- how a block was served whose action went so: memory isn't there, has a parity error, isn't mapped; bytes differ
 abbrev pub block_of : Outcome → Block

@@ -1,12 +1,8 @@
 -- What has no number of its own, as numbers, and what numbers stand for.
 use Rattle.std.specs.Prelude.{◌≡◌, ℕ, ◌%◌, ◌≤◌, ◌<◌, Bool, true, nat_eq, nat_le, nat_lt, if◌then◌else◌, Option, Some, None, is_some}
-use Rattle.mscp_packet.specs.declared.command.MoveKind.{MoveKind}
-use Rattle.mscp_packet.specs.declared.command.MoveKind.TheVariants as moves
 use Rattle.mscp_events.specs.declared.block.Block.{Block}
 use Rattle.mscp_events.specs.declared.block.Block.TheVariants.{Good, Bad}
-use Rattle.mscp_saved.specs.Read.{connection_in}
-use Rattle.mscp_saved.specs.Saved.{connection_byte, flag_byte}
-use Rattle.mscp_port.specs.declared.buffers.Job.{Job}
+use Rattle.mscp_saved.specs.Saved.{flag_byte}
 use Rattle.mscp_port.specs.declared.codes.Coded.{Coded}
 use Rattle.mscp_port.specs.declared.hardware.Bus.{Bus}
 use Rattle.mscp_port.specs.declared.hardware.Bus.TheVariants.{Q, Uni}
@@ -33,7 +29,7 @@ number_or_none (Some n) = n
 abbrev pub optional : {X : Type 0} → ℕ → X → Option X
 optional byte x = if nat_eq byte 1 then Some x else None
 
--- ---- a bus, a ring, and a transfer
+-- ---- a bus, and a ring
 
 abbrev pub bus_byte : Bus → ℕ
 bus_byte Q = 1
@@ -48,20 +44,6 @@ side_byte Commands = 2
 
 abbrev pub side_in : ℕ → Side
 side_in byte = if nat_eq byte 1 then Responses else Commands
-
-abbrev pub kind_byte : MoveKind → ℕ
-kind_byte moves.Access = 1
-kind_byte moves.Erase = 2
-kind_byte moves.Compare = 3
-kind_byte moves.Read = 4
-kind_byte moves.Write = 5
-
-abbrev pub kind_in : ℕ → MoveKind
-kind_in byte =
-    if nat_eq byte 1 then moves.Access else (
-    if nat_eq byte 2 then moves.Erase else (
-    if nat_eq byte 3 then moves.Compare else (
-    if nat_eq byte 4 then moves.Read else moves.Write)))
 
 -- ---- a stage: its number, and the word that it has
 
@@ -94,10 +76,10 @@ stage_in byte word =
     if nat_eq byte 8 then stages.Up else (
     if nat_eq byte 9 then stages.Dead word else stages.First))))))))
 
--- ---- a task: its number, and what is known for it
+-- ---- a task: its number, and what is known for it. Of which command and block it is, the controller knows
 
 abbrev pub nothing : Coded
-nothing = record { task = 0; whom = 0; first = 0; second = 0; third = 0; two = 0; how = 0 }
+nothing = record { task = 0; whom = 0; first = 0; second = 0; two = 0; how = 0 }
 
 -- the outcome of a block: whether it was bad, and the status
 abbrev pub bad_byte : Block → ℕ
@@ -110,28 +92,6 @@ bad_status (Bad status) = status
 
 abbrev pub block_in : ℕ → ℕ → Block
 block_in byte status = if nat_eq byte 1 then (if nat_le 5 (status % 32) then Bad status else Good) else Good
-
--- a step of a transfer
-abbrev pub coded_job : ℕ → Job → Coded
-coded_job task j = record {
-  task = task;
-  whom = connection_byte j.connection;
-  first = j.reference;
-  second = j.block;
-  third = j.done;
-  two = j.unit;
-  how = kind_byte j.kind;
-}
-
-abbrev pub job_in : Coded → Job
-job_in c = record {
-  connection = connection_in c.whom;
-  reference = c.first;
-  kind = kind_in c.how;
-  unit = c.two;
-  block = c.second;
-  done = c.third;
-}
 
 abbrev pub coded_task : Task → Coded
 coded_task tasks.Free = nothing
@@ -146,16 +106,10 @@ coded_task (tasks.Return side slot) = record nothing { task = 7; whom = side_byt
 coded_task (tasks.Neighbour side) = record nothing { task = 8; whom = side_byte side }
 coded_task (tasks.Word side) = record nothing { task = 9; whom = side_byte side }
 coded_task tasks.Interrupt = record nothing { task = 10 }
-coded_task (tasks.Step via reference block) = record nothing {
-  task = 11;
-  whom = connection_byte via;
-  first = reference;
-  two = bad_status block;
-  how = bad_byte block;
-}
-coded_task (tasks.Fetch job) = coded_job 12 job
-coded_task (tasks.Transfer job) = coded_job 13 job
-coded_task (tasks.Store job) = coded_job 14 job
+coded_task (tasks.Step block) = record nothing { task = 11; two = bad_status block; how = bad_byte block }
+coded_task tasks.Fetch = record nothing { task = 12 }
+coded_task tasks.Transfer = record nothing { task = 13 }
+coded_task tasks.Store = record nothing { task = 14 }
 
 -- the clearing of the area behind so many bytes, if they are parts of one
 abbrev pub clear_task : Option ℕ → Task
@@ -186,10 +140,10 @@ ring_task_in c =
 -- what is done for a command
 abbrev pub block_task_in : Coded → Task
 block_task_in c =
-    if nat_eq c.task 11 then tasks.Step (connection_in c.whom) c.first (block_in c.how c.two) else (
-    if nat_eq c.task 12 then tasks.Fetch (job_in c) else (
-    if nat_eq c.task 13 then tasks.Transfer (job_in c) else (
-    if nat_eq c.task 14 then tasks.Store (job_in c) else tasks.Interrupt)))
+    if nat_eq c.task 11 then tasks.Step (block_in c.how c.two) else (
+    if nat_eq c.task 12 then tasks.Fetch else (
+    if nat_eq c.task 13 then tasks.Transfer else (
+    if nat_eq c.task 14 then tasks.Store else tasks.Interrupt)))
 
 abbrev pub task_in : Coded → Task
 task_in c =
@@ -207,5 +161,5 @@ has_size c =
 abbrev pub IsTask : Task → Type 0
 IsTask (tasks.Clear done) = (done % 64 ≡ 0) × (done < 1032)
 IsTask (tasks.Text slot size foreign) = (12 ≤ size) × (size ≤ 64)
-IsTask (tasks.Step via reference (Bad status)) = 5 ≤ status % 32
+IsTask (tasks.Step (Bad status)) = 5 ≤ status % 32
 IsTask task = Unit {0}

@@ -6,7 +6,7 @@ use Rattle.mscp_events.specs.declared.block.Block.{Block}
 use Rattle.mscp_events.specs.declared.connection.Connection.{Connection}
 use Rattle.mscp_queue.specs.declared.report.Report.{Report}
 use Rattle.mscp_queue.specs.Names.{name_on}
-use Rattle.mscp_controller.specs.declared.entry.Stale.{Stale}
+use Rattle.mscp_controller.specs.declared.entry.NotBegun.{NotBegun}
 use Rattle.mscp_controller.specs.Holdings.{Finishes, Holdings}
 use Rattle.mscp_port.specs.declared.action.Action.TheVariants as actions
 use Rattle.mscp_port.specs.declared.buffers.Buffer.{Buffer}
@@ -49,7 +49,7 @@ mount_after code (Some b) m =
 -- by a call this end of Success came, of a command of this connection, to the unit at this place: the controller took
 -- the step that brought it
 pub record Ends {K : Type 0} (place : ℕ) (old new : Port K) (via : Connection) (e : End) : Type 0 where
-  pub step : (reference : ℕ) × (block : Block) × (result : Result Report Stale)
+  pub step : (reference : ℕ) × (block : Block) × (result : Result Report NotBegun)
       × Finishes anyhow (name_on via reference) block old.controller result new.controller
       × (end_brought result ≡ Some e)
   pub heeds : HeedsStep via (Some e) old new

@@ -92,16 +92,16 @@ IsReadingText task = ⊥
 
 -- it moves a block, or the bytes of one
 abbrev pub IsMoving : Task → Type 0
-IsMoving (tasks.Fetch job) = Unit {0}
-IsMoving (tasks.Transfer job) = Unit {0}
-IsMoving (tasks.Store job) = Unit {0}
+IsMoving tasks.Fetch = Unit {0}
+IsMoving tasks.Transfer = Unit {0}
+IsMoving tasks.Store = Unit {0}
 IsMoving task = ⊥
 
 -- a step of a command is taken, with a block or without one
 abbrev pub IsOfBlock : Task → Type 0
-IsOfBlock (tasks.Step via reference block) = Unit {0}
-IsOfBlock (tasks.Fetch job) = Unit {0}
-IsOfBlock (tasks.Transfer job) = Unit {0}
+IsOfBlock (tasks.Step block) = Unit {0}
+IsOfBlock tasks.Fetch = Unit {0}
+IsOfBlock tasks.Transfer = Unit {0}
 IsOfBlock task = ⊥
 
 -- what the port knows of its host's memory is what it knew, and what these bytes say that it wanted: the

@@ -41,7 +41,6 @@ coded_in b = record {
   whom = slice_index b 53;
   first = num b 54 4;
   second = num b 58 4;
-  third = num b 62 4;
   two = num b 66 2;
   how = slice_index b 68;
 }

@@ -76,12 +76,13 @@ area_bytes r = little_bytes 4 r.base ++ little_bytes 4 r.responses ++ little_byt
 abbrev pub rings_bytes : Option Rings → List ℕ
 rings_bytes rings = some_byte rings ∷ area_bytes (rings_or_none rings)
 
+-- with four zeros in front of the status of a block
 abbrev pub coded_bytes : Coded → List ℕ
 coded_bytes c =
     (c.task ∷ c.whom ∷ [])
     ++ little_bytes 4 c.first
     ++ little_bytes 4 c.second
-    ++ little_bytes 4 c.third
+    ++ little_bytes 4 0
     ++ little_bytes 2 c.two
     ++ (c.how ∷ [])
 
@@ -183,7 +184,6 @@ pub record HasBufferRange (b : Buffer) : Type 0 where
 pub record HasCodedRange (c : Coded) : Type 0 where
   pub first : c.first < 2 ^ 32
   pub second : c.second < 2 ^ 32
-  pub third : c.third < 2 ^ 32
   pub two : c.two < 2 ^ 16
 
 -- those of what the host has set

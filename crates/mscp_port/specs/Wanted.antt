@@ -11,7 +11,7 @@ use Rattle.mscp_port.specs.declared.task.Task.{Task}
 use Rattle.mscp_port.specs.declared.task.Task.TheVariants as tasks
 use Rattle.mscp_port.specs.Acted.{vector_in}
 use Rattle.mscp_port.specs.Areas.{Rings, end_of, slot_in, slots_of, start_of, word_of}
-use Rattle.mscp_port.specs.Moved.{move_wanted, part_now}
+use Rattle.mscp_port.specs.Moved.{block_begun, move_wanted}
 use Rattle.mscp_port.specs.Packets.{credits_told, packet_of}
 use Rattle.mscp_port.specs.Slots.{given_back, text_of}
 
@@ -42,7 +42,7 @@ InRings p action wanted = MatchOption p.rings (action ≡ actions.Pause) wanted
 abbrev pub IsWanted : {K : Type 0} → Port K → Task → Action → Type 0
 IsWanted p tasks.Free action = action ≡ actions.Rest
 IsWanted p tasks.Settle action = action ≡ actions.Pause
-IsWanted p (tasks.Step via reference block) action = action ≡ actions.Pause
+IsWanted p (tasks.Step block) action = action ≡ actions.Pause
 IsWanted p tasks.Interrupt action = action ≡ actions.Interrupt (vector_of p)
 IsWanted p (tasks.Slot side) action =
     InRings p action (λ r. action ≡ actions.Read (slot_in r side (given_in p side)) 4)
@@ -57,6 +57,6 @@ IsWanted p (tasks.Neighbour side) action =
 IsWanted p (tasks.Word side) action = InRings p action (λ r. Writes action (word_of r side) (little_bytes 2 1))
 IsWanted p (tasks.Clear done) action = InRings p action (λ r.
     Writes action (clear_from p r done) (replicate (min (end_of r - clear_from p r done) 64) 0))
-IsWanted p (tasks.Fetch job) action = action ≡ move_wanted p.task job (part_now p job)
-IsWanted p (tasks.Transfer job) action = action ≡ move_wanted p.task job (part_now p job)
-IsWanted p (tasks.Store job) action = action ≡ move_wanted p.task job (part_now p job)
+IsWanted p tasks.Fetch action = action ≡ move_wanted p (block_begun p)
+IsWanted p tasks.Transfer action = action ≡ move_wanted p (block_begun p)
+IsWanted p tasks.Store action = action ≡ move_wanted p (block_begun p)

@@ -1,13 +1,12 @@
 // What is kept of the commands that wait: where their data are in host memory.
 
-ghost use Rattle.std.specs.Prelude.{◌≡◌, ◌<◌, ◌⊎◌, ◌++◌, ◌∷◌, [], true, Contains, IfSome, None, length};
+ghost use Rattle.std.specs.Prelude.{◌≡◌, ◌<◌, ◌⊎◌, true, Contains, IfSome};
 ghost use Rattle.std.specs.List.{position};
 ghost use Rattle.mscp_port.specs.declared.buffers.Buffer.{Buffer as Kept};
 ghost use Rattle.mscp_port.specs.Blocks.{kept_of};
 ghost use Rattle.mscp_port.specs.Buffers.{IsInBuffer, buffer_in, four_or_zero as four_of, is_of, kept_beside, part_of, two_or_zero as two_of, without, without_aborted};
 
 use arrayvec::ArrayVec;
-use mscp_packet::MoveKind;
 use mscp_packet::fields::{four_at, two_at};
 use mscp_queue::Connection;
 
@@ -23,18 +22,6 @@ pub(crate) struct Buffer {
     pub flags: u16,
     /// How often the volume of its unit had changed when it came.
     pub changes: u32,
-}
-
-/// One step of a transfer.
-#[derive(Clone, Copy)]
-pub(crate) struct Job {
-    pub connection: Connection,
-    pub reference: u32,
-    pub kind: MoveKind,
-    pub unit: u16,
-    pub block: u32,
-    /// How many steps came before it.
-    pub done: u32,
 }
 
 /// The number in the four bytes from a place on, or 0 where the message is shorter.

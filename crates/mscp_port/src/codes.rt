@@ -1,35 +1,30 @@
 // What has no number of its own, as numbers, and what numbers stand for.
 
-ghost use Rattle.std.specs.Prelude.{◌≡◌, ◌<◌, ◌≤◌};
+ghost use Rattle.std.specs.Prelude.{◌≡◌};
 ghost use Rattle.mscp_port.specs.declared.task.Task.TheVariants as tasks;
-ghost use Rattle.mscp_port.specs.Codes.{IsTask, bad_byte, bad_status, block_in, block_task_in, bus_byte, bus_in, clear_task, coded_job, coded_task, early_task_in, has_size, job_in, kind_byte, kind_in, nothing, ring_task_in, side_byte, side_in, stage_byte, stage_in, stage_word, task_in, text_task};
+ghost use Rattle.mscp_port.specs.Codes.{IsTask, bad_byte, bad_status, block_in, block_task_in, bus_byte, bus_in, clear_task, coded_task, early_task_in, has_size, nothing, ring_task_in, side_byte, side_in, stage_byte, stage_in, stage_word, task_in, text_task};
 
-use crate::buffers::Job;
 use crate::hardware::Bus;
 use crate::rings::Side;
 use crate::sizes::{ClearSize, TextSize};
 use crate::slot::Descriptor;
 use crate::stage::Stage;
 use crate::task::Task;
-use mscp_packet::MoveKind;
-use mscp_queue::{Block, Connection, FaultStatus};
-use mscp_saved::{connection_byte, connection_in};
+use mscp_queue::{Block, FaultStatus};
 
 /// A task as numbers: which it is, and what is known for it. What it lacks is 0.
 #[derive(Clone, Copy)]
 pub(crate) struct Coded {
     pub task: u8,
-    /// The ring, the connection, or whether a text is for another connection than the disk's.
+    /// The ring, or whether a text is for another connection than the disk's.
     pub whom: u8,
-    /// How many bytes are clear, the descriptor of a slot, or the reference number of a command.
+    /// How many bytes are clear, or the descriptor of a slot.
     pub first: u32,
-    /// The length of a text, or a block.
+    /// The length of a text.
     pub second: u32,
-    /// How many steps came before.
-    pub third: u32,
-    /// The unit, or the status of a bad block.
+    /// The status of a bad block.
     pub two: u16,
-    /// Which transfer it is, or whether a block was bad.
+    /// Whether a block was bad.
     pub how: u8,
 }
 
@@ -39,7 +34,6 @@ const NOTHING: Coded = Coded {
     whom: 0,
     first: 0,
     second: 0,
-    third: 0,
     two: 0,
     how: 0,
 };
@@ -79,32 +73,6 @@ fn side_in(byte: u8) -> Side
         Side::Responses
     } else {
         Side::Commands
-    }
-}
-
-/// The number of a transfer's kind.
-fn kind_byte(kind: MoveKind) -> u8
-    ensures { result ≡ kind_byte kind }
-{
-    match kind {
-        MoveKind::Access => 1,
-        MoveKind::Erase => 2,
-        MoveKind::Compare => 3,
-        MoveKind::Read => 4,
-        MoveKind::Write => 5,
-    }
-}
-
-/// The kind of a transfer, by its number.
-fn kind_in(byte: u8) -> MoveKind
-    ensures { result ≡ kind_in byte }
-{
-    match byte {
-        1 => MoveKind::Access,
-        2 => MoveKind::Erase,
-        3 => MoveKind::Compare,
-        4 => MoveKind::Read,
-        _ => MoveKind::Write,
     }
 }
 
@@ -179,33 +147,11 @@ fn block_in(byte: u8, status: u16) -> Block
     }
 }
 
-/// A step of a transfer as numbers, for the task of this number.
-fn coded_job(task: u8, job: Job) -> Coded
-    ensures { result ≡ coded_job task job }
+/// A task of which nothing is known but which it is.
+fn bare(task: u8) -> Coded
+    ensures { result ≡ record nothing { task = task } }
 {
-    Coded {
-        task,
-        whom: connection_byte(job.connection),
-        first: job.reference,
-        second: job.block,
-        third: job.done,
-        two: job.unit,
-        how: kind_byte(job.kind),
-    }
-}
-
-/// The step of a transfer that numbers say.
-fn job_in(coded: Coded) -> Job
-    ensures { result ≡ job_in coded }
-{
-    Job {
-        connection: connection_in(coded.whom),
-        reference: coded.first,
-        kind: kind_in(coded.how),
-        unit: coded.two,
-        block: coded.second,
-        done: coded.third,
-    }
+    Coded { task, ..NOTHING }
 }
 
 /// A task that has to do with a ring.
@@ -231,18 +177,15 @@ fn of_packet(task: u8, slot: Descriptor) -> Coded
 }
 
 /// The taking of a step whose block had this outcome.
-fn coded_step(connection: Connection, reference: u32, block: Block) -> Coded
-    ensures value { result ≡ coded_task (tasks.Step connection reference block) }
-    ensures status { IsTask (tasks.Step connection reference block) }
+fn coded_step(block: Block) -> Coded
+    ensures value { result ≡ coded_task (tasks.Step block) }
+    ensures status { IsTask (tasks.Step block) }
 {
     let (how, two) = coded_block(block);
     Coded {
-        task: 11,
-        whom: connection_byte(connection),
-        first: reference,
         two,
         how,
-        ..NOTHING
+        ..bare(11)
     }
 }
 
@@ -253,7 +196,7 @@ pub(crate) fn coded_task(task: Task) -> Coded
 {
     match task {
         Task::Free => NOTHING,
-        Task::Settle => Coded { task: 1, ..NOTHING },
+        Task::Settle => bare(1),
         Task::Clear(done) => Coded {
             task: 2,
             first: done.get(),
@@ -277,14 +220,11 @@ pub(crate) fn coded_task(task: Task) -> Coded
         },
         Task::Neighbour(side) => of_ring(8, side),
         Task::Word(side) => of_ring(9, side),
-        Task::Interrupt => Coded {
-            task: 10,
-            ..NOTHING
-        },
-        Task::Step(connection, reference, block) => coded_step(connection, reference, block),
-        Task::Fetch(job) => coded_job(12, job),
-        Task::Transfer(job) => coded_job(13, job),
-        Task::Store(job) => coded_job(14, job),
+        Task::Interrupt => bare(10),
+        Task::Step(block) => coded_step(block),
+        Task::Fetch => bare(12),
+        Task::Transfer => bare(13),
+        Task::Store => bare(14),
     }
 }
 
@@ -355,16 +295,11 @@ fn ring_task_in(coded: Coded) -> Task
 fn block_task_in(coded: Coded) -> Task
     ensures { result ≡ block_task_in coded }
 {
-    let job = job_in(coded);
     match coded.task {
-        11 => Task::Step(
-            job.connection,
-            job.reference,
-            block_in(coded.how, coded.two),
-        ),
-        12 => Task::Fetch(job),
-        13 => Task::Transfer(job),
-        14 => Task::Store(job),
+        11 => Task::Step(block_in(coded.how, coded.two)),
+        12 => Task::Fetch,
+        13 => Task::Transfer,
+        14 => Task::Store,
         _ => Task::Interrupt,
     }
 }

@@ -1,6 +1,6 @@
 // A port: its registers, and what it knows.
 
-ghost use Rattle.std.specs.Prelude.{◌≡◌, ◌≢◌, ◌⊎◌, ◌↔◌, ◌≤◌, ◌<◌, ◌+◌, ◌%◌, ◌==◌, [], ℕ, true, Contains, IfErr, IfOk, IfSome, IsOk, None, Some};
+ghost use Rattle.std.specs.Prelude.{◌≡◌, ◌≢◌, ◌⊎◌, ◌↔◌, ◌≤◌, ◌<◌, ◌%◌, ◌==◌, ℕ, true, Contains, IfErr, IfOk, IfSome, IsOk, None};
 ghost use Rattle.mscp_events.specs.declared.connection.Connection.TheVariants.{First};
 ghost use Rattle.mscp_controller.specs.Holdings.{balance_of};
 ghost use Rattle.mscp_port.specs.declared.stage.Stage.TheVariants as stages;

@@ -4,13 +4,13 @@ ghost use Rattle.std.specs.Prelude.{◌≡◌, ◌≤◌, ℕ, Bool};
 ghost use Rattle.mscp_port.specs.declared.slot.Descriptor.{Descriptor as Slot};
 ghost use Rattle.mscp_port.specs.declared.task.Task.TheVariants as tasks;
 
-use crate::buffers::Job;
 use crate::rings::Side;
 use crate::sizes::{ClearSize, TextSize};
 use crate::slot::Descriptor;
-use mscp_queue::{Block, Connection};
+use mscp_queue::Block;
 
-/// What the port has in hand: the next action, with what is known for it.
+/// What the port has in hand: the next action, with what is known for it. Of a step of a command that is what the controller
+/// doesn't know: which step is begun, its block and its command are read there.
 #[derive(Clone, Copy)]
 pub(crate) enum Task {
     /// Nothing.
@@ -40,13 +40,13 @@ pub(crate) enum Task {
     /// The host is interrupted.
     Interrupt,
     /// A step of a command that moves no block, with this outcome, is taken once the machine went on a little.
-    Step(Connection, u32, Block),
+    Step(Block),
     /// The host's bytes are fetched.
-    Fetch(Job),
+    Fetch,
     /// A block is moved.
-    Transfer(Job),
+    Transfer,
     /// The host gets its bytes.
-    Store(Job),
+    Store,
 }
 
 impl Task {

@@ -39,3 +39,4 @@ pub mod CandidateLists
 pub mod CandidateCosts
 pub mod Stepping
 pub mod Restored
+pub mod Upcomings

@@ -1,5 +1,5 @@
 -- A step of the record at a place, as it is planned and written.
-use Rattle.std.proofs.Common.{◌≡◌, ℕ, ◌+◌, ◌<◌, ◌≤◌, Bool, true, false, cond, List, [], ◌∷◌, ◌++◌, map, take, drop, set, get_or, length, refl, ap, sym, ◌∙◌, subst, arith}
+use Rattle.std.proofs.Common.{◌≡◌, ℕ, ◌+◌, ◌<◌, ◌≤◌, Bool, true, false, cond, List, [], ◌∷◌, ◌++◌, map, take, drop, set, get_or, length, refl, ap, sym, ◌∙◌, subst}
 use Rattle.std.specs.Prelude.{is_some, option_map, Option, Some, None}
 use Rattle.std.specs.List.{refill}
 use Rattle.std.proofs.lemmas.List.{length-set}
@@ -10,7 +10,7 @@ use Rattle.mscp_queue.specs.declared.drive.Drive.{Drive}
 use Rattle.mscp_queue.specs.declared.name.Name.{Name}
 use Rattle.mscp_queue.specs.declared.plan.Plan.{Plan}
 use Rattle.mscp_queue.specs.declared.view.Choice.{Choice}
-use Rattle.mscp_queue.specs.Drives.{IsOnUnit, replaced}
+use Rattle.mscp_queue.specs.Drives.{IsOnUnit}
 use Rattle.mscp_queue.specs.Kept.{IsHeld}
 use Rattle.mscp_queue.specs.Candidates.{AreCandidates}
 use Rattle.mscp_queue.specs.Lines.{Line}

@@ -1,5 +1,5 @@
 -- What is true of each queue, whatever came to it.
-use Rattle.std.specs.Prelude.{◌≡◌, ◌≢◌, ℕ, ◌+◌, ◌*◌, ◌^◌, ◌<◌, ◌≤◌, Bool, true, false, ◌||◌, ◌-◌, if◌then◌else◌, nat_lt, option_map, is_some, unwrap_or, List, [], ◌∷◌, length, map, filter, count_by, All, Option, Some, None, ◌⊎◌, drop, slice_index_or}
+use Rattle.std.specs.Prelude.{◌≡◌, ◌≢◌, ℕ, ◌+◌, ◌*◌, ◌^◌, ◌<◌, ◌≤◌, Bool, true, false, ◌||◌, ◌-◌, if◌then◌else◌, nat_lt, option_map, is_some, unwrap_or, List, [], ◌∷◌, length, map, filter, count_by, All, IfSome, Option, Some, None, ◌⊎◌, drop, slice_index_or}
 use Rattle.std.specs.List.{AllByRecursion}
 use Rattle.mscp_packet.specs.declared.command.Command.{Command}
 use Rattle.mscp_packet.specs.declared.command.Order.{Order}
@@ -7,15 +7,15 @@ use Rattle.mscp_packet.specs.declared.command.Order.TheVariants as orders
 use Rattle.mscp_drive.specs.Shape.{Shape, one_block}
 use Rattle.mscp_drive.specs.UnitList.{IsUnitList, unit_found}
 use Rattle.mscp_queue.specs.declared.target.Target.{Target}
-use Rattle.mscp_events.specs.declared.block.Block.{Block}
 use Rattle.mscp_queue.specs.declared.drive.Drive.{Drive}
 use Rattle.mscp_queue.specs.declared.name.Name.{Name}
+use Rattle.mscp_queue.specs.declared.upcoming.Upcoming.{Upcoming}
 use Rattle.mscp_queue.specs.Targets.{targets_of, no_target}
 use Rattle.mscp_queue.specs.Orders.{first_block, is_move, is_sequential, order_weight}
 use Rattle.mscp_queue.specs.Drives.{IsOnUnit}
 use Rattle.mscp_queue.specs.Pairs.{Pairs}
 use Rattle.mscp_queue.specs.Records.{Record, has_name, is_in_service, name_of, record_at}
-use Rattle.mscp_queue.specs.Serving.{IsServable}
+use Rattle.mscp_queue.specs.Serving.{IsServable, has_block}
 use Rattle.mscp_queue.specs.Waiters.{Waiters}
 
 -- the units of drives
@@ -35,6 +35,11 @@ IsInside units number order = Unit {0}
 -- the command is to one of the units, which has the blocks of its steps
 abbrev pub HasBlocks : List Shape → Command → Type 0
 HasBlocks units command = (is_known units command.unit ≡ true) × IsInside units command.unit command.order
+
+-- what is told of a step is to one of the units, which has the block that the step touches, if it touches one
+pub record IsOfUnit (units : List Shape) (u : Upcoming) : Type 0 where
+  pub known : is_known units u.command.unit ≡ true
+  pub block : IfSome u.lbn (λ block. has_block units u.command.unit block ≡ true)
 
 -- a command that may wait is sequential or a transfer, to one of the units, and no step of it reaches past its unit
 pub record IsWaitable (longest : ℕ) (units : List Shape) (command : Command) : Type 0 where

@@ -1,8 +1,9 @@
 -- One step: what it does with a record and its drive, what is told of it before, and which record it may serve.
-use Rattle.std.specs.Prelude.{◌≡◌, ℕ, ◌+◌, ◌<◌, Bool, true, false, if◌then◌else◌, List, ◌++◌, length, map, take, drop, All, Option, Some, None, option_map}
+use Rattle.std.specs.Prelude.{◌≡◌, ℕ, ◌+◌, ◌<◌, Bool, true, false, if◌then◌else◌, List, ◌++◌, length, map, take, drop, All, find, nat_lt, Option, Some, None, option_map}
 use Rattle.mscp_packet.specs.declared.command.Order.{Order}
 use Rattle.mscp_packet.specs.declared.end.End.{End}
-use Rattle.mscp_drive.specs.Shape.{cylinder_of}
+use Rattle.mscp_drive.specs.Shape.{Shape, cylinder_of}
+use Rattle.mscp_drive.specs.UnitList.{unit_found}
 use Rattle.mscp_drive.specs.Heads.{distance}
 use Rattle.mscp_drive.specs.declared.head.Head.{Head}
 use Rattle.mscp_events.specs.declared.block.Block.{Block}
@@ -15,7 +16,7 @@ use Rattle.mscp_queue.specs.declared.view.Choice.{Choice}
 use Rattle.mscp_queue.specs.declared.name.Name.{Name}
 use Rattle.mscp_queue.specs.Names.{same_name}
 use Rattle.mscp_queue.specs.Outcomes.{block_touched, goes_on, head_after, outcome_at, state_after}
-use Rattle.mscp_queue.specs.Drives.{replaced}
+use Rattle.mscp_queue.specs.Drives.{drive_of, replaced}
 use Rattle.mscp_queue.specs.Records.{Record, drive_at, has_name, step_charge, is_unstarted, left_of, passed_by, record_at, remains}
 use Rattle.mscp_queue.specs.Views.{IsPick, is_open_at}
 
@@ -80,6 +81,15 @@ abbrev pub upcoming_of : Drive → Record → Upcoming
 upcoming_of d r =
     record { connection = r.connection; command = r.command; lbn = touched d r; done = r.done; weight = r.weight }
 
+-- the unit has this block, if it is one
+abbrev pub is_block_of : Option Shape → ℕ → Bool
+is_block_of None block = false
+is_block_of (Some unit) block = nat_lt block unit.size
+
+-- the unit of this number has this block
+abbrev pub has_block : List Shape → ℕ → ℕ → Bool
+has_block units unit block = is_block_of (unit_found units unit) block
+
 -- ---- a record among the others
 
 -- the waiting commands after a step of the record at a place: each one in front of a start was passed (profile)
@@ -103,6 +113,12 @@ is_begun name (Some begun) = same_name begun name
 -- what is begun without the command of this name: nothing, where it was that (profile)
 abbrev pub begun_without : Name → Option Name → Option Name
 begun_without name begun = if is_begun name begun then None else begun
+
+-- what is told of the step of the command that was begun, if one was: of the waiting one of this name (profile)
+abbrev pub upcoming_begun : List Drive → List Record → Option Name → Option Upcoming
+upcoming_begun ds rs None = None
+upcoming_begun ds rs (Some name) =
+    option_map (λ r. upcoming_of (drive_of ds r.command.unit) r) (find (has_name name) rs)
 
 -- the record at a place may be served next: it may be served, and it is what was begun, or where nothing was, it is in
 -- service or the picker may pick it (profile)

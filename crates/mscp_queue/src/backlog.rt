@@ -281,8 +281,8 @@ impl Backlog {
         self.clock = set_back(&mut self.slots, self.clock + 1);
     }
 
-    /// The command in service at the place leaves: nobody waits any more for what is left of it. A step that ends nothing is
-    /// quicker with this beside it.
+    /// The command in service at the place leaves: nobody waits any more for what is left of it. A step that ends no
+    /// command is quicker if this function isn't built into it.
     #[inline(never)]
     fn leave(&mut self, place: usize)
         requires place { place < length self.old.waiting }

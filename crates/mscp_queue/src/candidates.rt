@@ -1,6 +1,6 @@
 // What a picker would see of each command that waits.
 
-ghost use Rattle.std.specs.Prelude.{◌≡◌, ◌+◌, ◌++◌, ◌∷◌, ◌<◌, [], true, false, All, cond, length, map, take, drop};
+ghost use Rattle.std.specs.Prelude.{◌≡◌, ◌+◌, ◌++◌, ◌∷◌, ◌<◌, [], true, All, cond, length, map, take, drop};
 ghost use Rattle.std.specs.List.{list_any, position};
 ghost use Rattle.mscp_drive.specs.UnitList.{IsUnitList};
 ghost use Rattle.mscp_queue.specs.Kept.{CanBeShown, units_of};

@@ -166,8 +166,8 @@ impl Masks {
         with_bit(without(later, self.serving), slot, false)
     }
 
-    /// The command of a slot leaves it, whose unit's drive stands at this place. Where nobody else waits, no mask of those
-    /// that came earlier is of use, and each is written before it is.
+    /// The command of a slot leaves it, whose unit's drive stands at this place. If nobody else waits, `earlier` stays
+    /// as it is: `come` writes a slot's mask there, and nobody reads the mask before.
     pub fn leave(&mut self, slot: usize, drive: usize)
         requires slot { slot < 64 }
         requires drive { drive < 16 }

@@ -8,7 +8,7 @@ use Rattle.mscp_reader.specs.Lexical.{lines}
 use Rattle.mscp_reader.specs.declared.fault.Cause.{Cause}
 use Rattle.mscp_reader.specs.declared.fault.Cause.TheVariants as causes
 use Rattle.mscp_reader.specs.declared.fault.ScriptFault.{ScriptFault}
-use Rattle.mscp_reader.specs.Grammar.{Place, Begins, HasBudget, HasCredits, HasPassing, HasLongest, HasTimeout, HasUnits, HasGone, IsInHeader, after_line, next, next_unless_skipped, said_at}
+use Rattle.mscp_reader.specs.Grammar.{Place, HasGone, IsInHeader, after_line, next, next_unless_skipped, said_at}
 use Rattle.mscp_reader.specs.Outcome.{Heads, Leads, gone_or, headed, headed_on, in_line, lines_outcome, rest_headed, rest_outcome}
 use Rattle.mscp_reader.proofs.Outcomes.{ended_early, from_ok}
 

@@ -12,7 +12,7 @@ use Rattle.mscp_events.specs.Settings.{Settings}
 use Rattle.mscp_events.specs.declared.event.Event.{Event}
 use Rattle.mscp_reader.specs.Lexical.{lines}
 use Rattle.mscp_reader.specs.Requests.{request}
-use Rattle.mscp_reader.specs.Grammar.{Place, next_unless_skipped, Begins, HasBudget, HasCredits, HasPassing, HasLongest, HasTimeout, HasUnits, HasGone, IsInHeader, asked_after, said_at, next, after_line, credits, limit, limits, first_units, unit_or_go}
+use Rattle.mscp_reader.specs.Grammar.{Place, next_unless_skipped, Begins, HasCredits, HasLongest, HasTimeout, HasUnits, HasGone, IsInHeader, asked_after, said_at, next, after_line, credits, limit, limits, first_units, unit_or_go}
 use Rattle.mscp_reader.specs.Outcome.{Sets, all_read, asked_next, budget_of, in_line, limited, lines_outcome, rest_outcome}
 use Rattle.mscp_reader.specs.declared.header.Limit.{Limit}
 use Rattle.mscp_reader.specs.declared.header.Limit.TheVariants as ways

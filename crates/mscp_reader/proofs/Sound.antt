@@ -8,7 +8,7 @@ use Rattle.mscp_reader.specs.Lexical.{lines}
 use Rattle.mscp_reader.specs.declared.fault.Cause.{Cause}
 use Rattle.mscp_reader.specs.declared.fault.Cause.TheVariants as causes
 use Rattle.mscp_reader.specs.declared.fault.ScriptFault.{ScriptFault}
-use Rattle.mscp_reader.specs.Grammar.{Place, Begins, HasCredits, HasBudget, HasPassing, HasLongest, HasTimeout, HasUnits, HasGone, IsInHeader, after_line, after_lines, Reads, IsFault}
+use Rattle.mscp_reader.specs.Grammar.{Place, Begins, HasGone, IsInHeader, after_line, after_lines, Reads, IsFault}
 use Rattle.mscp_reader.specs.Outcome.{in_line, lines_outcome, all_read}
 
 -- ---- read

@@ -9,7 +9,7 @@ ghost use Rattle.mscp_reader.specs.Lexical as lexical;
 ghost use Rattle.mscp_reader.specs.Grammar as grammar;
 ghost use Rattle.mscp_reader.specs.Grammar.{Place, Begins, HasCredits, HasTimeout, HasUnits, HasGone};
 ghost use Rattle.mscp_events.specs.Both.{Both};
-ghost use Rattle.mscp_reader.specs.Outcome.{Sets, Heads, Leads, both_of, budget_of, in_line, limited, rest_headed, rest_outcome, settled, place_after};
+ghost use Rattle.mscp_reader.specs.Outcome.{Sets, Heads, Leads, both_of, budget_of, limited, rest_headed, rest_outcome, settled, place_after};
 
 use crate::fault::{Cause, ScriptFault};
 use crate::lines::Lines;

@@ -20,7 +20,7 @@ use Rattle.mscp_events.specs.declared.connection.Connection.TheVariants.{First, 
 use Rattle.mscp_queue.specs.declared.name.Name.{Name}
 use Rattle.mscp_queue.specs.Orders.{is_move, is_sequential, order_weight}
 use Rattle.mscp_queue.specs.Records.{Record}
-use Rattle.mscp_saved.specs.Ranges.{HasDriveRange, HasUnitRange, HasWaitingRange}
+use Rattle.mscp_saved.specs.Ranges.{HasDriveRange, HasSizesRange, HasWaitingRange}
 use Rattle.mscp_saved.specs.Read.{connection_in, drive_in, end_in, end_with, name_in, sized, waiting_in}
 use Rattle.mscp_saved.proofs.BackParts.{IsBack}
 use Rattle.mscp_saved.specs.Saved.{begun_connection, begun_reference, connection_byte, drive_bytes, end_cell, flag_byte, padded, waiting_bytes}
@@ -35,7 +35,7 @@ pub connection_back : (via : Connection) → connection_in (connection_byte via)
 connection_back First = refl
 connection_back Second = refl
 
-sized_is : (u : Shape) → HasUnitRange u → sized u ≡ u
+sized_is : (u : Shape) → HasSizesRange u → sized u ≡ u
 sized_is u h =
     λ i. if lt-ltb 0 u.track h.some_track i && (lt-ltb 0 u.group h.some_group i
     && (lt-ltb 0 u.cylinder h.some_cylinder i && lt-ltb 0 u.size h.some_size i)) then u else one_block
@@ -44,15 +44,15 @@ pub drive_back : (d : Drive) (t : List ℕ) → HasDriveRange d
     → drive_in (take 34 (drive_bytes d ++ t)) ≡ d
 drive_back d t h = λ i. record {
   unit = (ap sized (λ i. record {
-    number = two d.unit.number h.unit.number i;
-    track = two d.unit.track h.unit.track i;
-    group = two d.unit.group h.unit.group i;
-    cylinder = two d.unit.cylinder h.unit.cylinder i;
-    size = four d.unit.size h.unit.size i;
-    id = eight d.unit.id h.unit.id i;
-    media = four d.unit.media h.unit.media i;
-    serial = four d.unit.serial h.unit.serial i;
-  }) ∙ sized_is d.unit h.unit) i;
+    number = two d.unit.number h.unit.sizes.number i;
+    track = two d.unit.track h.unit.sizes.track i;
+    group = two d.unit.group h.unit.sizes.group i;
+    cylinder = two d.unit.cylinder h.unit.sizes.cylinder i;
+    size = four d.unit.size h.unit.sizes.size i;
+    id = eight d.unit.id h.unit.identifiers.id i;
+    media = four d.unit.media h.unit.identifiers.media i;
+    serial = four d.unit.serial h.unit.identifiers.serial i;
+  }) ∙ sized_is d.unit h.unit.sizes) i;
   online = flag_back d.online i;
   head = record { up = flag_back d.head.up i; cylinder = four d.head.cylinder h.cylinder i };
 }

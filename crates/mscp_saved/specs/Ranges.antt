@@ -8,20 +8,28 @@ use Rattle.mscp_drive.specs.Shape.{Shape}
 use Rattle.mscp_controller.specs.Holdings.{Holdings}
 use Rattle.mscp_events.specs.Settings.{Settings}
 
--- those of a unit, no size of which is zero
-pub record HasUnitRange (u : Shape) : Type 0 where
+-- a unit's number and its sizes, none of which is zero
+pub record HasSizesRange (u : Shape) : Type 0 where
   pub number : u.number < 2 ^ 16
   pub track : u.track < 2 ^ 16
   pub group : u.group < 2 ^ 16
   pub cylinder : u.cylinder < 2 ^ 16
   pub size : u.size < 2 ^ 32
-  pub id : u.id < 2 ^ 64
-  pub media : u.media < 2 ^ 32
-  pub serial : u.serial < 2 ^ 32
   pub some_track : 0 < u.track
   pub some_group : 0 < u.group
   pub some_cylinder : 0 < u.cylinder
   pub some_size : 0 < u.size
+
+-- its identifiers
+pub record HasIdentifiersRange (u : Shape) : Type 0 where
+  pub id : u.id < 2 ^ 64
+  pub media : u.media < 2 ^ 32
+  pub serial : u.serial < 2 ^ 32
+
+-- all of a unit
+pub record HasUnitRange (u : Shape) : Type 0 where
+  pub sizes : HasSizesRange u
+  pub identifiers : HasIdentifiersRange u
 
 -- those of a drive
 pub record HasDriveRange (d : Drive) : Type 0 where

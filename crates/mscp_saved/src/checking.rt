@@ -1,8 +1,7 @@
 // Whether what bytes say can be: what a controller with these settings can hold.
 
-ghost use Rattle.std.specs.Prelude.{◌≡◌, ◌+◌, ◌≤◌, ◌<◌, true, not, All, IfNone, length, filter, nat_lt};
+ghost use Rattle.std.specs.Prelude.{◌≡◌, ◌≤◌, ◌<◌, true, not, All, IfNone, length, filter, nat_lt};
 ghost use Rattle.std.specs.List.{list_all, position};
-ghost use Rattle.mscp_events.specs.declared.connection.Connection.TheVariants.{First, Second};
 ghost use Rattle.mscp_queue.specs.Kept.{IsWaitable};
 ghost use Rattle.mscp_queue.specs.Records.{has_name, is_in_service, is_unstarted, name_of};
 ghost use Rattle.mscp_queue.specs.Views.{fences, is_affordable, is_free, is_open};

@@ -9,6 +9,4 @@ use mscp_controller::Picker;
 /// `controllers_keep_the_promise`, is promised of one that was saved and restored, since it is the same value.
 pub fn restoring_is_faithful<K: Picker>(picker: &K)
     ensures { RestoringIsFaithful picker.now }
-{
-    let _ = picker;
-}
+{}

@@ -102,7 +102,6 @@ pub fn restore_fault<K: Picker>(bytes: &[u8], number: u8, picker: &K) -> Option<
     ensures value { restored number picker.now bytes.now ≡ unless (held_in picker.now bytes.now) result }
     ensures saved { IfNone result (IsSaved picker.now bytes.now) }
 {
-    let _ = picker;
     if let Some(fault) = frame_fault(bytes) {
         return Some(fault);
     }
@@ -127,7 +126,6 @@ pub fn saved_settings<K: Picker>(bytes: &[u8], picker: &K) -> Config
     requires { IsSaved picker.now bytes.now }
     ensures { result ≡ (held_in picker.now bytes.now).settings }
 {
-    let _ = picker;
     let Ok(config) = settings_in(bytes, drives_in(bytes).as_slice()) else {
         unreachable!();
     };

@@ -2,11 +2,9 @@
 
 ghost use Rattle.std.specs.Prelude.{◌≡◌, ◌+◌, ◌*◌, ◌≤◌, ◌<◌, ◌^◌, ◌++◌, [], flat_map, length, All, IfSome, slice_index_or, Ok};
 ghost use Rattle.arrayvec.specs.ArrayVec.{array_vec_len};
-ghost use Rattle.mscp_packet.specs.Ends.{HasBodyRange, HasEndRange};
-ghost use Rattle.mscp_events.specs.declared.connection.Connection.TheVariants.{First, Second};
-ghost use Rattle.mscp_events.specs.Both.{of};
+ghost use Rattle.mscp_packet.specs.Ends.{HasEndRange};
 ghost use Rattle.mscp_controller.specs.Restored.{IsSound, made_of};
-ghost use Rattle.mscp_saved.specs.Ranges.{HasDriveRange, HasLimitRange, HasRange, HasUnitRange, HasWaitingRange};
+ghost use Rattle.mscp_saved.specs.Ranges.{HasDriveRange, HasIdentifiersRange, HasLimitRange, HasSizesRange, HasWaitingRange};
 ghost use Rattle.mscp_saved.specs.Restored.{restored};
 ghost use Rattle.mscp_saved.specs.Saved.{begun_bytes, connection_byte, counts_bytes, counts_of, drive_bytes, end_cell, flag_byte, frame_bytes, head_with, identifiers_bytes, limits_bytes, saved_bytes, settings_bytes, sizes_bytes, waiting_bytes};
 
@@ -16,7 +14,7 @@ use arrayvec::ArrayVec;
 use mscp_controller::{Config, Connection, Controller, Drive, Name, Picker, Record};
 use mscp_drive::Unit;
 use mscp_packet::fields::{put_eight, put_four, put_two};
-use mscp_packet::{End, EndBody, write_command, write_end};
+use mscp_packet::{End, write_command, write_end};
 
 /// "MSCQ", as a number.
 pub(crate) const MAGIC: u32 = 0x5143_534D;
@@ -46,6 +44,7 @@ fn put_sizes(out: &mut ArrayVec<u8, ROOM>, unit: &Unit)
     requires { array_vec_len out.old + 12 ≤ 3664 }
     ensures items { out.new.items ≡ out.old.items ++ sizes_bytes unit.now }
     ensures len { array_vec_len out.new ≡ array_vec_len out.old + 12 }
+    ensures range { HasSizesRange unit.now }
 {
     put_two(out, unit.number());
     put_two(out, unit.track());
@@ -59,23 +58,11 @@ fn put_identifiers(out: &mut ArrayVec<u8, ROOM>, unit: &Unit)
     requires { array_vec_len out.old + 16 ≤ 3664 }
     ensures items { out.new.items ≡ out.old.items ++ identifiers_bytes unit.now }
     ensures len { array_vec_len out.new ≡ array_vec_len out.old + 16 }
+    ensures range { HasIdentifiersRange unit.now }
 {
     put_eight(out, unit.id());
     put_four(out, unit.media());
     put_four(out, unit.serial());
-}
-
-/// The numbers of a unit fit their types, and no size of it is zero.
-fn read_unit(unit: &Unit)
-    ensures { HasUnitRange unit.now }
-{
-    let _ = (
-        unit.number(),
-        unit.track(),
-        unit.group(),
-        unit.cylinder_size(),
-    );
-    let _ = (unit.size(), unit.id(), unit.media(), unit.serial());
 }
 
 /// Appends a drive.
@@ -85,7 +72,6 @@ fn put_drive(out: &mut ArrayVec<u8, ROOM>, drive: &Drive)
     ensures len { array_vec_len out.new ≡ array_vec_len out.old + 34 }
     ensures range { HasDriveRange drive.now }
 {
-    read_unit(&drive.unit);
     put_sizes(out, &drive.unit);
     put_identifiers(out, &drive.unit);
     put_one(out, flag_byte(drive.online));
@@ -107,61 +93,14 @@ fn put_waiting(out: &mut ArrayVec<u8, ROOM>, waiting: &Record)
     put_one(out, connection_byte(waiting.connection()));
 }
 
-/// The numbers of an end's body fit their types.
-fn read_body(body: &EndBody)
-    ensures { HasBodyRange body.now }
-{
-    match body {
-        EndBody::Bare => {}
-        EndBody::Abort(other) => {
-            let _other = *other;
-        }
-        EndBody::Status { other, figure } => {
-            let _ = (*other, *figure);
-        }
-        EndBody::UnitStatus {
-            id,
-            media,
-            track,
-            group,
-            cylinder,
-        } => {
-            let _ = (*id, *media, *track, *group, *cylinder);
-        }
-        EndBody::Controller { timeout, id } => {
-            let _ = (*timeout, *id);
-        }
-        EndBody::Online {
-            id,
-            media,
-            size,
-            serial,
-        } => {
-            let _ = (*id, *media, *size, *serial);
-        }
-        EndBody::Moved(count) => {
-            let _count = *count;
-        }
-    }
-}
-
-/// The numbers of an end fit their types.
-fn read_numbers(reference: u32, unit: u16, status: u16)
-    ensures { (reference < 2 ^ 32) × (unit < 2 ^ 16) × (status < 2 ^ 16) }
-{
-    let _ = (reference, unit, status);
-}
-
 /// Appends an end.
-fn put_end(out: &mut ArrayVec<u8, ROOM>, end: &End)
+fn put_end(out: &mut ArrayVec<u8, ROOM>, end: End)
     requires { array_vec_len out.old + 48 ≤ 3664 }
-    ensures items { out.new.items ≡ out.old.items ++ end_cell end.now }
+    ensures items { out.new.items ≡ out.old.items ++ end_cell end }
     ensures len { array_vec_len out.new ≡ array_vec_len out.old + 48 }
-    ensures range { HasEndRange end.now }
+    ensures range { HasEndRange end }
 {
-    read_numbers(end.reference, end.unit, end.status);
-    read_body(&end.body);
-    put_padded(out, write_end(end).as_slice(), 48);
+    put_padded(out, write_end(&end).as_slice(), 48);
 }
 
 /// Appends what was begun.
@@ -210,9 +149,9 @@ fn put_limits(out: &mut ArrayVec<u8, ROOM>, config: &Config)
     requires { array_vec_len out.old ≡ 12 }
     ensures items { out.new.items ≡ out.old.items ++ limits_bytes config.now }
     ensures len { array_vec_len out.new ≡ 28 }
-    ensures range { HasLimitRange config.now }
+    ensures credits { (config.now.credits < 2 ^ 32) × (config.now.second < 2 ^ 32) }
+    ensures blocks { (config.now.budget < 2 ^ 32) × (config.now.longest < 2 ^ 32) }
 {
-    let _ = (config.timeout(), config.id());
     put_four(out, config.credits());
     put_four(out, config.second());
     put_four(out, config.budget());
@@ -324,7 +263,7 @@ fn put_ends(out: &mut ArrayVec<u8, ROOM>, ends: &[End])
     ensures range { All HasEndRange ends.now }
 {
     for place in 0..ends.len() {
-        put_end(out, &end_at(ends, place));
+        put_end(out, end_at(ends, place));
     }
 }
 

@@ -1,6 +1,6 @@
 // Two hosts and a controller that talk.
 
-ghost use Rattle.std.specs.Prelude.{◌≡◌, ℕ, ◌+◌, ◌<◌, ◌≤◌, ◌^◌, [], ◌∷◌, ◌++◌, length, option_to_list, Some, IfOk};
+ghost use Rattle.std.specs.Prelude.{◌≡◌, ℕ, ◌+◌, ◌≤◌, [], ◌∷◌, ◌++◌, length, option_to_list, Some, IfOk};
 ghost use Rattle.mscp_events.specs.Settings.{IsValid};
 ghost use Rattle.mscp_events.specs.Both.{Both};
 ghost use Rattle.mscp_host.specs.Accounts.{Account};
@@ -70,27 +70,18 @@ fn event_of(connection: Connection, message: &[u8]) -> Event
     Event::Send(connection, all)
 }
 
-/// A reference number and a unit number fit their types.
-fn fit(reference: u32, unit: u16)
-    ensures reference { reference < 2 ^ 32 }
-    ensures unit { unit < 2 ^ 16 }
-{
-    let _ = (reference, unit);
-}
-
 /// The connection's host submits a command, and its message comes to the controller.
 fn submit<K: Picker>(
     hosts: &mut Hosts,
     controller: &mut Controller<K>,
     connection: Connection,
-    command: &Command,
+    command: Command,
 ) -> (Heard, Option<(Event, Entry)>)
     requires { Match hosts.old controller.old }
-    ensures { Goes (K.picks controller.old.picker) hosts.old controller.old (Turn.Submit connection command.now) result
+    ensures { Goes (K.picks controller.old.picker) hosts.old controller.old (Turn.Submit connection command) result
         hosts.new controller.new }
 {
-    fit(command.reference, command.unit);
-    match hosts.submit(connection, command) {
+    match hosts.submit(connection, &command) {
         Err(fault) => (Heard::Refused(fault), None),
         Ok(message) => match controller.send(connection, &message) {
             Ok(sent) => (
@@ -116,7 +107,6 @@ fn poll<K: Picker>(
     ensures { Goes (K.picks controller.old.picker) hosts.old controller.old (Turn.Poll connection reference) result
         hosts.new controller.new }
 {
-    fit(reference, 0);
     match hosts.poll(connection, reference) {
         Err(fault) => (Heard::Refused(fault), None),
         Ok(Poll::Nothing) => (Heard::Nothing, None),
@@ -191,7 +181,7 @@ fn hear<K: Picker>(
     ensures { Goes (K.picks controller.old.picker) hosts.old controller.old turn result hosts.new controller.new }
 {
     match turn {
-        Turn::Submit(connection, command) => submit(hosts, controller, connection, &command),
+        Turn::Submit(connection, command) => submit(hosts, controller, connection, command),
         Turn::Poll(connection, reference) => poll(hosts, controller, connection, reference),
         Turn::Step(block) => step(controller, block),
         Turn::Take(connection) => hand_over(hosts, controller, connection),

@@ -22,7 +22,7 @@ use Rattle.mscp_controller.specs.declared.entry.Entry.{Entry}
 use Rattle.mscp_controller.specs.declared.entry.Entry.TheVariants as entries
 use Rattle.mscp_controller.specs.declared.entry.SendFault.{SendFault}
 use Rattle.mscp_controller.specs.declared.entry.Sent.TheVariants as sents
-use Rattle.mscp_controller.specs.declared.entry.Stale.{Stale}
+use Rattle.mscp_controller.specs.declared.entry.NotBegun.{NotBegun}
 use Rattle.mscp_events.specs.Settings.{Settings, IsValid}
 use Rattle.mscp_controller.specs.Arrival.{is_queued, refusal}
 use Rattle.mscp_controller.specs.History.{Trace, Moment, Service, is_step, service_in}
@@ -265,7 +265,7 @@ only_begun c picks calls via number (Some n) q e b up y j is =
     ap (λ k. same_name k (name_on via number)) (ap upcoming_name (b.3.only up y j is).1 ∙ b.3.own) ∙ e
 
 finish : {K : Type 0} (picks : List Choice → ℕ → Type 0) (calls : List Call) (via : Connection) (number : ℕ) (k : Block)
-    (answer : Result Report Stale) (h h' : Holdings K) → IsValid h.settings → Agrees h.settings (history calls) h
+    (answer : Result Report NotBegun) (h h' : Holdings K) → IsValid h.settings → Agrees h.settings (history calls) h
     → IsLegal h.settings (history calls) → Holds h.settings picks calls h.begun
     → Finishes picks (name_on via number) k h answer h'
     → Turned h.settings picks calls (Finish via number k answer) h'
@@ -287,10 +287,10 @@ finish picks calls via number k (Ok report) h h' v a legal b r =
           (turns picks h h' (history calls) (events.Step k) (entries.Stepped report) v a r.1) r.1))
           (nothing_stepped calls call refl refl);
     }
-finish {K} picks calls via number k (Err stale) h h' v a legal b r =
+finish {K} picks calls via number k (Err not_begun) h h' v a legal b r =
     let c = h.settings in
     let t = history calls in
-    let call = Finish via number k (Err stale) in
+    let call = Finish via number k (Err not_begun) in
     let same : history (calls ++ call ∷ []) ≡ t = history_more calls call ∙ append-nil t in
     let held = ap (λ (x : Holdings K). x.begun) r.1 in
     record {
@@ -320,7 +320,7 @@ settings_kept : {K : Type 0} (picks : List Choice → ℕ → Type 0) (h h' : Ho
 settings_kept picks h h' (Plain event entry) r = (owner_kept picks h h' event entry r).0
 settings_kept picks h h' (Begin upcoming) r = r.settings
 settings_kept picks h h' (Finish via number k (Ok report)) r = r.1.settings
-settings_kept {K} picks h h' (Finish via number k (Err stale)) r = ap (λ (x : Holdings K). x.settings) r.1
+settings_kept {K} picks h h' (Finish via number k (Err not_begun)) r = ap (λ (x : Holdings K). x.settings) r.1
 
 -- what is known after each part of the calls
 pub record Knows {K : Type 0} (c : Settings) (picks : List Choice → ℕ → Type 0) (calls : List Call) (h : Holdings K) :

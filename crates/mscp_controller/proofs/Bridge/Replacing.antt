@@ -1,5 +1,5 @@
 -- A controller whose picker is replaced keeps the promise as one whose picker may pick what that of the call may.
-use Rattle.std.proofs.Common.{◌≡◌, ◌⊎◌, ◌∙◌, ℕ, Bool, true, false, List, [], ◌∷◌, Option, None, Some, Contains, inl, inr, refl, ap, sym, subst}
+use Rattle.std.proofs.Common.{◌≡◌, ◌∙◌, ℕ, true, false, List, [], ◌∷◌, Option, None, Some, inl, inr, refl, ap}
 use Rattle.std.specs.Prelude.{if◌then◌else◌, Ok, Err, Result}
 use Rattle.mscp_packet.specs.declared.command.Command.{Command}
 use Rattle.mscp_packet.specs.Commands.{command_of}
@@ -22,12 +22,12 @@ use Rattle.mscp_queue.specs.Views.{view_of}
 use Rattle.mscp_controller.specs.Arrival.{is_queued, refusal}
 use Rattle.mscp_controller.specs.Calls.{AnsweredCalls, AnswersCall, Begin, Call, Finish, Plain}
 use Rattle.mscp_controller.specs.Controllers.{KeepsPromise}
-use Rattle.mscp_controller.specs.Holdings.{Answers, Finishes, Foretells, Holdings, Steps, aborting, after_message, answer_to_message, answered_end, balance_of, fresh, held_unless, line_of, outstanding_of, queued, sent_unless, with_end}
+use Rattle.mscp_controller.specs.Holdings.{Answers, Finishes, Holdings, Steps, aborting, answered_end, balance_of, fresh, held_unless, line_of, outstanding_of, queued, sent_unless, with_end}
 use Rattle.mscp_controller.specs.Replacing.{AnsweredInTurn, Called, MayPickThen, Replaced, Turn, calls_of}
 use Rattle.mscp_controller.specs.declared.entry.Entry.{Entry}
 use Rattle.mscp_controller.specs.declared.entry.Entry.TheVariants as entries
 use Rattle.mscp_controller.specs.declared.entry.SendFault.{SendFault}
-use Rattle.mscp_controller.specs.declared.entry.Stale.{Stale}
+use Rattle.mscp_controller.specs.declared.entry.NotBegun.{NotBegun}
 use Rattle.mscp_controller.proofs.Bridge.Controllers.{keeps_promise}
 
 -- what is held, with another picker
@@ -126,11 +126,11 @@ answers_by {K} picks allowed a old new events.Look (entries.Looked list) allows 
 answers_by picks allowed a old new event entry allows r = absurd r
 
 finishes_by : {K : Type 0} (picks allowed : List Choice → ℕ → Type 0) (a : K) (name : Name) (k : Block)
-    (old new : Holdings K) (answer : Result Report Stale) → Allows (shown old) picks allowed
+    (old new : Holdings K) (answer : Result Report NotBegun) → Allows (shown old) picks allowed
     → Finishes picks name k old answer new → Finishes allowed name k (by a old) answer (by a new)
 finishes_by picks allowed a name k old new (Ok report) allows r =
     (r.0, steps_by picks allowed a k old new report allows r.1)
-finishes_by {K} picks allowed a name k old new (Err stale) allows r = (r.0, ap (λ (h : Holdings K). by a h) r.1)
+finishes_by {K} picks allowed a name k old new (Err not_begun) allows r = (r.0, ap (λ (h : Holdings K). by a h) r.1)
 
 call_by : {K : Type 0} (picks allowed : List Choice → ℕ → Type 0) (a : K) (old new : Holdings K) (call : Call)
     → Allows (shown old) picks allowed → AnswersCall picks old call new → AnswersCall allowed (by a old) call (by a new)

@@ -1,6 +1,6 @@
 -- Each legal trace keeps its promise.
 use Rattle.std.proofs.Common.{◌≡◌, ◌≢◌, ℕ, zero, suc, ◌+◌, ◌<◌, ◌≤◌, Bool, true, false, cond, List, [], ◌∷◌, ◌++◌, take, get_or, length, refl, ap, sym, ◌∙◌, subst, append-nil, arith}
-use Rattle.std.specs.Prelude.{filter, if◌then◌else◌, Option, Some, None, Contains, Ok, Err}
+use Rattle.std.specs.Prelude.{filter, if◌then◌else◌, Option, Some, None, Contains, Ok}
 use Rattle.std.proofs.lemmas.Bool.{false≢true}
 use Rattle.mscp_controller.proofs.Promise.Alone.{oldest_starts, one_served}
 use Rattle.mscp_controller.proofs.Promise.Shaped.{shaped}

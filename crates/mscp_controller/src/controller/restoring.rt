@@ -60,7 +60,6 @@ impl<K: Picker> Controller<K> {
         ensures value { result.now ≡ self.now.drives }
         ensures sound { IsSound self.now }
     {
-        let _ = &self.config;
         self.queue.drives()
     }
 

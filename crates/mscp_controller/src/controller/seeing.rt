@@ -3,6 +3,7 @@
 ghost use Rattle.std.specs.Prelude.{All, ◌≡◌, ◌+◌, ◌≤◌, length, IfNone, IfSome};
 ghost use Rattle.mscp_queue.specs.Drives.{is_online_in};
 ghost use Rattle.mscp_queue.specs.Figures.{figure_of_name, figures};
+ghost use Rattle.mscp_queue.specs.Kept.{IsOfUnit};
 ghost use Rattle.mscp_queue.specs.Names.{name_on};
 ghost use Rattle.mscp_queue.specs.Records.{IsServing, has_name, record_at};
 ghost use Rattle.mscp_queue.specs.Views.{is_open_at};
@@ -10,12 +11,12 @@ ghost use Rattle.mscp_queue.specs.Why.{holders_of_name, is_nobody};
 ghost use Rattle.std.specs.List.{position};
 ghost use Rattle.mscp_events.specs.Both.{of};
 ghost use Rattle.mscp_events.specs.Settings.{credits_of};
-ghost use Rattle.mscp_controller.specs.Holdings.{IsBalanced, balance_of, waiting_on};
+ghost use Rattle.mscp_controller.specs.Holdings.{IsBalanced, balance_of, begun_step, waiting_on};
 
 use crate::controller::Controller;
 use arrayvec::ArrayVec;
 use mscp_events::Connection;
-use mscp_queue::{Holder, Picker};
+use mscp_queue::{Holder, Picker, Upcoming};
 
 impl<K: Picker> Controller<K> {
     /// How many credits of the connection are free: each of its waiting commands and of its untaken ends holds one (manual,
@@ -83,6 +84,16 @@ impl<K: Picker> Controller<K> {
         ensures account { IsBalanced self.now }
     {
         self.queue.serving()
+    }
+
+    /// What the last `begin` told, if what it began is begun still: no step, no reset and no ABORT of that command came since.
+    /// Its unit is one of the settings, and the block that the step touches, if it touches one, is a block of that.
+    pub fn upcoming(&self) -> Option<Upcoming>
+        ensures value { result ≡ begun_step self.now }
+        ensures unit { IfSome result (λ u. IsOfUnit self.now.settings.units u) }
+        ensures account { IsBalanced self.now }
+    {
+        self.queue.upcoming()
     }
 
     /// By how many blocks the oldest waiting command was passed, 0 where none waits. No other was passed by more.

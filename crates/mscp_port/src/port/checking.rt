@@ -1,55 +1,61 @@
 // What is in hand is checked again: while it is, a volume may come or go.
 
-ghost use Rattle.std.specs.Prelude.{◌≡◌, ◌≤◌, ◌%◌, IfSome, None};
+ghost use Rattle.std.specs.Prelude.{◌≡◌, ◌≤◌, ◌%◌, true, IfSome, None};
+ghost use Rattle.mscp_queue.specs.Serving.{has_block};
 ghost use Rattle.mscp_port.specs.Blocks.{fault_with as fault_of};
-ghost use Rattle.mscp_port.specs.Moved.{MayMoveOn, fault_now, has_block};
+ghost use Rattle.mscp_port.specs.Moved.{MayMoveUnit, block_begun, fault_now};
 ghost use Rattle.mscp_port.specs.Volumes.{IsOnVolume, MayMove};
 
-use crate::buffers::{Buffer, Job, find_buffer};
+use crate::buffers::{Buffer, find_buffer};
 use crate::filling::STEP_WITHOUT_VOLUME;
 use crate::port::Port;
-use crate::port::serving::{DRIVE_ERROR, refusal};
+use crate::port::serving::{DRIVE_ERROR, move_of, refusal};
 use crate::volumes::Volume;
-use mscp_queue::Picker;
+use mscp_packet::MoveKind;
+use mscp_queue::{Picker, Upcoming};
 
-/// Why a step may not go on, if it may not, of whose command this is kept, and whose unit has this volume now.
-fn fault_with(job: &Job, buffer: &Buffer, volume: &Volume) -> Option<u16>
-    ensures value { result ≡ fault_of job.now.kind buffer.now volume.now }
+/// Why a step may not go on that moves a block so, if it may not, of whose command this is kept, and whose unit has this
+/// volume now.
+fn fault_with(kind: MoveKind, buffer: &Buffer, volume: &Volume) -> Option<u16>
+    ensures value { result ≡ fault_of kind buffer.now volume.now }
     ensures status { IfSome result (λ status. 5 ≤ status % 32) }
     // It goes on only on the volume that was there when its command came, and that its unit was brought online with.
     ensures safe { result ≡ None → IsOnVolume buffer.now volume.now }
-    ensures moves { result ≡ None → MayMove job.now.kind volume.now }
+    ensures moves { result ≡ None → MayMove kind volume.now }
 {
     if !volume.is_there || buffer.changes != volume.changes {
         return Some(STEP_WITHOUT_VOLUME);
     }
-    refusal(job.kind, buffer, volume)
+    refusal(kind, buffer, volume)
 }
 
 impl<K: Picker> Port<K> {
-    /// Whether the unit of this number has this block.
-    fn has_block(&self, unit: u16, block: u32) -> bool
-        ensures { result ≡ has_block self.now.controller.settings.units unit block }
+    /// The step that the controller has begun, with how it moves a block, and which, if it moves one. The block is one of its
+    /// unit's.
+    pub(crate) fn block_begun(&self) -> Option<(Upcoming, MoveKind, u32)>
+        ensures value { result ≡ block_begun self.now }
+        ensures block { IfSome result (λ m.
+            has_block self.now.controller.settings.units m.0.command.unit m.2 ≡ true) }
     {
-        match self.controller.config().units().find(unit) {
-            Some(unit) => block < unit.size(),
-            None => false,
-        }
+        let upcoming = self.controller.upcoming()?;
+        let (kind, block) = move_of(&upcoming)?;
+        Some((upcoming, kind, block))
     }
 
-    /// Why a step may not go on, if it may not.
-    pub(crate) fn fault_of(&self, job: &Job) -> Option<u16>
-        ensures value { result ≡ fault_now self.now job.now }
+    /// Why a step may not go on that moves a block so, if it may not.
+    pub(crate) fn fault_of(&self, upcoming: &Upcoming, kind: MoveKind) -> Option<u16>
+        ensures value { result ≡ fault_now self.now upcoming.now kind }
         ensures status { IfSome result (λ status. 5 ≤ status % 32) }
-        ensures moves { result ≡ None → MayMoveOn job.now.kind job.now.unit job.now.block self.now }
+        ensures moves { result ≡ None → MayMoveUnit kind upcoming.now.command.unit self.now }
     {
-        // Only restored bytes say a block that its unit hasn't.
-        if !self.has_block(job.unit, job.block) {
-            return Some(DRIVE_ERROR);
-        }
-        let buffer = find_buffer(self.buffers.as_slice(), job.connection, job.reference);
-        match (self.place_of(job.unit), buffer) {
-            (Some(place), Some(buffer)) => fault_with(job, &buffer, &self.volumes[place]),
+        let command = &upcoming.command;
+        let buffer = find_buffer(
+            self.buffers.as_slice(),
+            upcoming.connection,
+            command.reference,
+        );
+        match (self.place_of(command.unit), buffer) {
+            (Some(place), Some(buffer)) => fault_with(kind, &buffer, &self.volumes[place]),
             _ => Some(DRIVE_ERROR),
         }
     }

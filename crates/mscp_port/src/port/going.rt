@@ -12,8 +12,8 @@ ghost use Rattle.mscp_port.specs.Moved.{GoesOnWithBlock, Moves, MovesOn};
 ghost use Rattle.mscp_port.specs.Ports.{IsAsNew, IsOutcomeOf, in_hand};
 
 use crate::action::{Outcome, Unasked};
-use crate::buffers::Job;
 use crate::port::Port;
+use crate::port::serving::{DRIVE_ERROR, bad};
 use crate::rings::Side;
 use crate::sizes::{CLEARED, ClearSize};
 use crate::slot::Descriptor;
@@ -43,12 +43,8 @@ impl<K: Picker> Port<K> {
             // A fault at the interrupt word is ignored.
             Task::Word(_) => self.interrupt(),
             Task::Interrupt => self.task = Task::Free,
-            Task::Step(connection, reference, block) => {
-                self.finish(connection, reference, block);
-            }
-            Task::Fetch(job) | Task::Transfer(job) | Task::Store(job) => {
-                self.move_on(job, outcome);
-            }
+            Task::Step(block) => self.finish(block),
+            Task::Fetch | Task::Transfer | Task::Store => self.move_on(outcome),
         }
         Ok(())
     }
@@ -67,8 +63,8 @@ impl<K: Picker> Port<K> {
     }
 
     /// A part of a step was done, if what is kept of its command says what part.
-    fn move_on(&mut self, job: Job, outcome: Outcome)
-        ensures moves { MovesOn (K.picks self.old.controller.picker) outcome job self.old self.new }
+    fn move_on(&mut self, outcome: Outcome)
+        ensures moves { MovesOn (K.picks self.old.controller.picker) outcome self.old self.new }
         ensures blocks { GoesOnWithBlock self.old self.new }
         ensures frame { self.new ≡ record self.old {
           controller = self.new.controller;
@@ -80,9 +76,12 @@ impl<K: Picker> Port<K> {
         ensures buffers { (b : Kept) → Contains self.new.buffers.items b → Contains self.old.buffers.items b }
         ensures packet { in_hand self.new.task ≡ None }
     {
-        match self.part(&job) {
-            Some(_) => self.moved(job, outcome),
-            None => self.lost(job),
+        let Some((upcoming, kind, _)) = self.block_begun() else {
+            return self.finish(bad(DRIVE_ERROR));
+        };
+        match self.part(&upcoming, kind) {
+            Some(_) => self.moved(kind, outcome),
+            None => self.lost(&upcoming, kind),
         }
     }
 

@@ -1,6 +1,6 @@
 // What the port reads in host memory.
 
-ghost use Rattle.std.specs.Prelude.{◌≡◌, ◌≢◌, ◌≤◌, ◌<◌, ◌⊎◌, ◌++◌, ◌∷◌, [], ℕ, true, false, length, Bool, Contains, IfSome, IsErr, IsOk, OnErr, Option, None, Some, Ok, Err};
+ghost use Rattle.std.specs.Prelude.{◌≡◌, ◌≢◌, ◌≤◌, ◌⊎◌, ℕ, true, length, Bool, Contains, IfSome, Option, None, Ok, Err};
 ghost use Rattle.mscp_events.specs.declared.connection.Connection.TheVariants.{First};
 ghost use Rattle.mscp_controller.specs.Holdings.{after_message, answer_to_message};
 ghost use Rattle.mscp_controller.specs.declared.entry.SendFault.{SendFault as Refused};

@@ -110,7 +110,6 @@ fn coded_in(b: &[u8]) -> Coded
         whom: b[53],
         first: four_at(b, 54),
         second: four_at(b, 58),
-        third: four_at(b, 62),
         two: two_at(b, 66),
         how: b[68],
     }

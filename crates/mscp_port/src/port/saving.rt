@@ -4,9 +4,9 @@ ghost use Rattle.std.specs.Prelude.{◌≡◌, ◌+◌, ◌*◌, ◌≤◌, ◌<
 ghost use Rattle.arrayvec.specs.ArrayVec.{array_vec_len};
 ghost use Rattle.mscp_saved.specs.Saved.{flag_byte};
 ghost use Rattle.mscp_port.specs.Areas.{AreRings};
-ghost use Rattle.mscp_port.specs.Codes.{IsTask, coded_task, number_or_none, stage_word};
+ghost use Rattle.mscp_port.specs.Codes.{number_or_none, stage_word};
 ghost use Rattle.mscp_port.specs.Restored.{restored};
-ghost use Rattle.mscp_port.specs.Saved.{HasBufferRange, HasCodedRange, HasHandRange, HasStateRange, HasVolumeRange, area_bytes, buffer_bytes, coded_bytes, counts_bytes, frame_bytes, hand_bytes, hardware_bytes, head_bytes, host_bytes, lengths_bytes, mounted_bytes, outgoing_byte, outgoing_text, rings_bytes, saved_bytes, stage_bytes, state_bytes, volume_bytes, words_bytes, written_bytes};
+ghost use Rattle.mscp_port.specs.Saved.{HasBufferRange, HasCodedRange, HasHandRange, HasStateRange, HasVolumeRange, area_bytes, buffer_bytes, coded_bytes, counts_bytes, frame_bytes, hand_bytes, hardware_bytes, mounted_bytes, outgoing_byte, outgoing_text, rings_bytes, saved_bytes, stage_bytes, state_bytes, volume_bytes, words_bytes, written_bytes};
 
 use crate::buffers::Buffer;
 use crate::codes::{Coded, bus_byte, coded_task, stage_byte, stage_word};
@@ -135,7 +135,7 @@ pub(super) fn put_rings(out: &mut ArrayVec<u8, ROOM>, rings: Option<Rings>)
     }
 }
 
-/// Appends a task.
+/// Appends a task, with four zeros where the format has room.
 pub(super) fn put_coded(out: &mut ArrayVec<u8, ROOM>, coded: Coded)
     requires { array_vec_len out.old + 17 ≤ 5272 }
     ensures items { out.new.items ≡ out.old.items ++ coded_bytes coded }
@@ -146,7 +146,7 @@ pub(super) fn put_coded(out: &mut ArrayVec<u8, ROOM>, coded: Coded)
     out.push(coded.whom);
     put_four(out, coded.first);
     put_four(out, coded.second);
-    put_four(out, coded.third);
+    put_four(out, 0);
     put_two(out, coded.two);
     out.push(coded.how);
 }

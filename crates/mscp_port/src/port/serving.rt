@@ -1,18 +1,18 @@
 // How blocks are moved.
 
-ghost use Rattle.std.specs.Prelude.{◌≡◌, ◌≤◌, ◌%◌, ◌⊎◌, [], true, Contains, IfSome, MatchOption, Option, None, Some};
+ghost use Rattle.std.specs.Prelude.{◌≡◌, ◌≤◌, ◌%◌, ◌⊎◌, [], true, Contains, IfSome, Option, None, Some};
 ghost use Rattle.mscp_port.specs.declared.buffers.Buffer.{Buffer as Kept};
-ghost use Rattle.mscp_port.specs.Blocks.{block_of as block_after, first_of, has_host_bytes as has_bytes, refusal_of, task_of, writes as writes_to};
+ghost use Rattle.mscp_port.specs.Blocks.{block_of as block_after, first_of, has_host_bytes as has_bytes, move_of, refusal_of, task_of, writes as writes_to};
 ghost use Rattle.mscp_queue.specs.declared.upcoming.Upcoming.{Upcoming as Foretold};
-ghost use Rattle.mscp_controller.specs.Holdings.{Foretells};
-ghost use Rattle.mscp_port.specs.Moved.{GoesOnWithBlock, TakesBlock, anyhow, begun_task, fault_now, lost_with, next_part};
+ghost use Rattle.mscp_controller.specs.Holdings.{Foretells, begun_step};
+ghost use Rattle.mscp_port.specs.Moved.{FollowsPart, GoesOnWithBlock, TakesBegun, TakesBlock, anyhow, begun_task, fault_now, lost_with};
 ghost use Rattle.mscp_port.specs.Outgoings.{MayBegin};
 ghost use Rattle.mscp_port.specs.Ports.{IsMoving, IsOfBlock, in_hand};
 ghost use Rattle.mscp_port.specs.Volumes.{IsOnVolume, MayMove};
 ghost use Rattle.mscp_port.specs.declared.task.Task.TheVariants as tasks;
 
 use crate::action::Outcome;
-use crate::buffers::{Buffer, Job, find_buffer};
+use crate::buffers::{Buffer, find_buffer};
 use crate::filling::{STEP_WITHOUT_ONLINE, STEP_WITHOUT_VOLUME};
 use crate::port::Port;
 use crate::task::Task;
@@ -44,7 +44,7 @@ const PROTECTED: u16 = 0x2006;
 pub(crate) const DRIVE_ERROR: u16 = 0x000B;
 
 /// A block that ends its command with this status.
-fn bad(status: u16) -> Block
+pub(crate) fn bad(status: u16) -> Block
     requires { 5 ≤ status % 32 }
     ensures { result ≡ Block.Bad status }
 {
@@ -105,14 +105,25 @@ pub(crate) fn refusal(kind: MoveKind, buffer: &Buffer, volume: &Volume) -> Optio
 }
 
 /// What is done first for a step of a transfer: the bytes of host memory are fetched, or the block is moved.
-fn first_task(job: Job) -> Task
-    ensures value { result ≡ first_of job.kind job }
+fn first_task(kind: MoveKind) -> Task
+    ensures value { result ≡ first_of kind }
     ensures packet { in_hand result ≡ None }
     ensures block { IsOfBlock result }
 {
-    match job.kind {
-        MoveKind::Compare | MoveKind::Write => Task::Fetch(job),
-        MoveKind::Access | MoveKind::Erase | MoveKind::Read => Task::Transfer(job),
+    match kind {
+        MoveKind::Compare | MoveKind::Write => Task::Fetch,
+        MoveKind::Access | MoveKind::Erase | MoveKind::Read => Task::Transfer,
+    }
+}
+
+/// How a step moves a block, and which, if it moves one: a step of a transfer, to a unit that is online.
+pub(crate) fn move_of(upcoming: &Upcoming) -> Option<(MoveKind, u32)>
+    ensures value { result ≡ move_of upcoming.now }
+    ensures block { IfSome result (λ m. upcoming.now.lbn ≡ Some m.1) }
+{
+    match (upcoming.command.order, upcoming.lbn) {
+        (Order::Move(kind, ..), Some(block)) => Some((kind, block)),
+        _ => None,
     }
 }
 
@@ -124,32 +135,23 @@ fn task_for(upcoming: &Upcoming, buffer: &Buffer, volume: &Volume) -> Task
     // No block is moved on a volume that came after its command, or that its unit wasn't brought online with.
     ensures safe { IsMoving result → IsOnVolume buffer.now volume.now }
 {
-    let command = &upcoming.command;
-    let step = |block| Task::Step(upcoming.connection, command.reference, block);
-    if matches!(command.order, Order::Available) {
-        return step(Block::Good);
+    if matches!(upcoming.command.order, Order::Available) {
+        return Task::Step(Block::Good);
     }
     if !volume.is_there || buffer.changes != volume.changes {
-        return step(bad(STEP_WITHOUT_VOLUME));
+        return Task::Step(bad(STEP_WITHOUT_VOLUME));
     }
-    let (Order::Move(kind, ..), Some(block)) = (command.order, upcoming.lbn) else {
-        return step(Block::Good);
+    let Some((kind, _)) = move_of(upcoming) else {
+        return Task::Step(Block::Good);
     };
     if let Some(status) = refusal(kind, buffer, volume) {
-        return step(bad(status));
+        return Task::Step(bad(status));
     }
     match buffer.part(upcoming.done) {
-        None => step(bad(MISSING)),
+        None => Task::Step(bad(MISSING)),
         // A transfer of no bytes names a block, and moves nothing.
-        Some((_, 0)) => step(Block::Good),
-        Some(_) => first_task(Job {
-            connection: upcoming.connection,
-            reference: command.reference,
-            kind,
-            unit: command.unit,
-            block,
-            done: upcoming.done,
-        }),
+        Some((_, 0)) => Task::Step(Block::Good),
+        Some(_) => first_task(kind),
     }
 }
 
@@ -159,7 +161,8 @@ impl<K: Picker> Port<K> {
         ensures begins { (upcoming : Option Foretold)
             × Foretells (K.picks self.old.controller.picker) self.old.controller upcoming self.new.controller
             × (result
-            ≡ begun_task self.new.controller.settings.units self.new.buffers.items self.new.volumes upcoming) }
+            ≡ begun_task self.new.controller.settings.units self.new.buffers.items self.new.volumes upcoming)
+            × (begun_step self.new.controller ≡ upcoming) }
         ensures frame { self.new ≡ record self.old { controller = self.new.controller } }
         ensures packet { in_hand result ≡ None }
         ensures block { (result ≡ tasks.Free) ⊎ IsOfBlock result }
@@ -179,12 +182,12 @@ impl<K: Picker> Port<K> {
         );
         match (self.place_of(command.unit), buffer) {
             (Some(place), Some(buffer)) => task_for(&upcoming, &buffer, &self.volumes[place]),
-            _ => Task::Step(upcoming.connection, command.reference, bad(DRIVE_ERROR)),
+            _ => Task::Step(bad(DRIVE_ERROR)),
         }
     }
 
-    /// The step of a command is taken, whose block had this outcome.
-    pub(crate) fn finish(&mut self, connection: Connection, reference: u32, block: Block)
+    /// The step of the command of this connection and number is taken, if it is begun, whose block had this outcome.
+    fn finish_of(&mut self, connection: Connection, reference: u32, block: Block)
         ensures takes { TakesBlock (K.picks self.old.controller.picker) connection reference block self.old self.new }
         ensures whoever { TakesBlock anyhow connection reference block self.old self.new }
         ensures frame { self.new ≡ record self.old {
@@ -209,10 +212,10 @@ impl<K: Picker> Port<K> {
         }
     }
 
-    /// A step that may not go on ends its command: its volume has changed, or its buffer isn't known.
-    pub(crate) fn lost(&mut self, job: Job)
-        ensures takes { TakesBlock (K.picks self.old.controller.picker) job.connection job.reference
-            (lost_with (fault_now self.old job)) self.old self.new }
+    /// The step that is begun is taken, whose block had this outcome. Only restored bytes say that one is in hand where none is
+    /// begun.
+    pub(crate) fn finish(&mut self, block: Block)
+        ensures takes { TakesBegun (K.picks self.old.controller.picker) block self.old self.new }
         ensures blocks { GoesOnWithBlock self.old self.new }
         ensures frame { self.new ≡ record self.old {
           controller = self.new.controller;
@@ -224,20 +227,38 @@ impl<K: Picker> Port<K> {
         ensures buffers { (b : Kept) → Contains self.new.buffers.items b → Contains self.old.buffers.items b }
         ensures packet { in_hand self.new.task ≡ None }
     {
-        let status = match self.fault_of(&job) {
+        match self.controller.begun() {
+            Some(name) => self.finish_of(name.connection, name.reference, block),
+            None => self.task = Task::Free,
+        }
+    }
+
+    /// A step that may not go on ends its command: its volume has changed, or its buffer isn't known.
+    pub(crate) fn lost(&mut self, upcoming: &Upcoming, kind: MoveKind)
+        ensures takes { TakesBegun (K.picks self.old.controller.picker)
+            (lost_with (fault_now self.old upcoming.now kind)) self.old self.new }
+        ensures blocks { GoesOnWithBlock self.old self.new }
+        ensures frame { self.new ≡ record self.old {
+          controller = self.new.controller;
+          task = self.new.task;
+          buffers = self.new.buffers;
+          volumes = self.new.volumes;
+        } }
+        ensures settings { self.new.controller.settings ≡ self.old.controller.settings }
+        ensures buffers { (b : Kept) → Contains self.new.buffers.items b → Contains self.old.buffers.items b }
+        ensures packet { in_hand self.new.task ≡ None }
+    {
+        let status = match self.fault_of(upcoming, kind) {
             Some(status) => status,
             None => DRIVE_ERROR,
         };
-        self.finish(job.connection, job.reference, bad(status));
+        self.finish(bad(status));
     }
 
     /// A part of a step was done: the host's bytes are fetched, then the block is moved, and what was read goes to the host.
     /// A fault ends the command.
-    pub(crate) fn moved(&mut self, job: Job, outcome: Outcome)
-        ensures moves { MatchOption (next_part self.old.task outcome job)
-            (TakesBlock (K.picks self.old.controller.picker) job.connection job.reference (block_after outcome)
-            self.old self.new)
-            (λ task. self.new ≡ record self.old { task = task }) }
+    pub(crate) fn moved(&mut self, kind: MoveKind, outcome: Outcome)
+        ensures moves { FollowsPart (K.picks self.old.controller.picker) outcome kind self.old self.new }
         ensures blocks { GoesOnWithBlock self.old self.new }
         ensures frame { self.new ≡ record self.old {
           controller = self.new.controller;
@@ -250,11 +271,11 @@ impl<K: Picker> Port<K> {
         ensures packet { in_hand self.new.task ≡ None }
     {
         match self.task {
-            Task::Fetch(_) if outcome == Outcome::Done => self.task = Task::Transfer(job),
-            Task::Transfer(_) if outcome == Outcome::Done && job.kind == MoveKind::Read => {
-                self.task = Task::Store(job);
+            Task::Fetch if outcome == Outcome::Done => self.task = Task::Transfer,
+            Task::Transfer if outcome == Outcome::Done && kind == MoveKind::Read => {
+                self.task = Task::Store;
             }
-            _ => self.finish(job.connection, job.reference, block_of(outcome)),
+            _ => self.finish(block_of(outcome)),
         }
     }
 }

@@ -1,6 +1,6 @@
 // What the port wants done.
 
-ghost use Rattle.std.specs.Prelude.{◌≡◌, ◌≢◌, ◌≤◌, ◌<◌, ◌⊎◌, ◌+◌, ◌-◌, ◌*◌, ◌^◌, ℕ, true, false, length, Contains, IfSome, IsSome, min, replicate, if◌then◌else◌, None, Some};
+ghost use Rattle.std.specs.Prelude.{◌≡◌, ◌≢◌, ◌≤◌, ◌<◌, ◌⊎◌, ◌+◌, ◌-◌, ◌*◌, ◌^◌, ℕ, true, false, length, Contains, IfSome, IsSome, min, replicate, None, Some};
 ghost use Rattle.byteorder.specs.Endian.{little_bytes};
 ghost use Rattle.arrayvec.specs.ArrayVec.{ArrayVec as Written};
 ghost use Rattle.mscp_port.specs.declared.action.Action.TheVariants as actions;
@@ -14,14 +14,14 @@ ghost use Rattle.mscp_port.specs.Buffers.{IsInBuffer};
 ghost use Rattle.mscp_port.specs.Calls.{Wants};
 ghost use Rattle.mscp_port.specs.Ports.{HasNothingToHear, HasNothingToSay, IsAlive, IsDue, IsIdleUp, IsOfBlock, IsInSomeBuffer, IsWithin, in_hand};
 ghost use Rattle.mscp_packet.specs.declared.command.MoveKind.{MoveKind as Kind};
-ghost use Rattle.mscp_port.specs.Moved.{BeginsBlock, MayMoveOn, is_storing, move_wanted, part_kept, part_now};
+ghost use Rattle.mscp_port.specs.Moved.{BeginsBlock, MayMoveOn, MayMoveUnit, block_begun, is_storing, move_wanted, part_kept, part_now};
 ghost use Rattle.mscp_port.specs.Outgoings.{KeepsSaying, Says, TakesEnd, TellsNews};
 ghost use Rattle.mscp_port.specs.Packets.{credits_told, packet_of};
 ghost use Rattle.mscp_port.specs.Slots.{given_back, text_of};
 ghost use Rattle.mscp_port.specs.Wanted.{IsWanted, Writes, clear_from, given_in};
 
 use crate::action::Action;
-use crate::buffers::{Buffer, Job, find_buffer};
+use crate::buffers::{Buffer, find_buffer};
 use crate::port::Port;
 use crate::rings::{Rings, Side};
 use crate::sizes::{CLEARED, ClearSize};
@@ -29,8 +29,9 @@ use crate::slot::Descriptor;
 use crate::stage::Stage;
 use crate::task::Task;
 use arrayvec::ArrayVec;
+use mscp_packet::MoveKind;
 use mscp_packet::fields::{put, put_four, put_two};
-use mscp_queue::Picker;
+use mscp_queue::{Picker, Upcoming};
 
 /// The bytes of a packet's header, which stands in front of its text.
 const HEADER: u32 = 4;
@@ -88,11 +89,13 @@ fn number_before(rings: &Rings, side: Side, number: u32) -> u32
 }
 
 /// The part of the buffer that is kept of a step's command.
-fn part_in(buffers: &[Buffer], job: &Job) -> Option<(u32, u32)>
-    ensures value { result ≡ part_kept (kept_of job.now.connection job.now.reference buffers.now) job.now.done }
+fn part_in(buffers: &[Buffer], upcoming: &Upcoming) -> Option<(u32, u32)>
+    ensures value { result ≡ part_kept
+        (kept_of upcoming.now.connection upcoming.now.command.reference buffers.now) upcoming.now.done }
     ensures inside { IfSome result (λ part. (b : Kept) × Contains buffers.now b × IsInBuffer b part.0 part.1) }
 {
-    find_buffer(buffers, job.connection, job.reference)?.part(job.done)
+    let buffer = find_buffer(buffers, upcoming.connection, upcoming.command.reference)?;
+    buffer.part(upcoming.done)
 }
 
 impl<K: Picker> Port<K> {
@@ -206,7 +209,7 @@ impl<K: Picker> Port<K> {
                 address: rings.word(side),
                 bytes: interrupt_word(),
             },
-            (Task::Fetch(job) | Task::Transfer(job) | Task::Store(job), _) => self.moving(&job),
+            (Task::Fetch | Task::Transfer | Task::Store, _) => self.moving(),
             _ => Action::Pause,
         }
     }
@@ -263,37 +266,40 @@ impl<K: Picker> Port<K> {
     }
 
     /// A part of the buffer of a command is to be moved, or its block.
-    fn moving(&self, job: &Job) -> Action
+    fn moving(&self) -> Action
         ensures within { IsWithin self.now result }
-        ensures value { result ≡ move_wanted self.now.task job.now (part_now self.now job.now) }
+        ensures value { result ≡ move_wanted self.now (block_begun self.now) }
         ensures moves { (kind : Kind) (unit block count : ℕ) → result ≡ actions.Transfer kind unit block count
             → MayMoveOn kind unit block self.now }
         ensures some { result ≢ actions.Rest }
     {
-        match (self.task, self.part(job)) {
-            (Task::Fetch(_), Some((address, count))) => Action::Fetch { address, count },
-            (Task::Store(_), Some((address, count))) => Action::Store { address, count },
-            (Task::Transfer(_), Some((_, count))) => Action::Transfer {
-                kind: job.kind,
-                unit: job.unit,
-                block: job.block,
+        let Some((upcoming, kind, block)) = self.block_begun() else {
+            return Action::Pause;
+        };
+        match (self.task, self.part(&upcoming, kind)) {
+            (Task::Fetch, Some((address, count))) => Action::Fetch { address, count },
+            (Task::Store, Some((address, count))) => Action::Store { address, count },
+            (Task::Transfer, Some((_, count))) => Action::Transfer {
+                kind,
+                unit: upcoming.command.unit,
+                block,
                 count,
             },
             _ => Action::Pause,
         }
     }
 
-    /// The part of a command's buffer that a step is about, if the step may go on.
-    pub(crate) fn part(&self, job: &Job) -> Option<(u32, u32)>
-        ensures value { result ≡ part_now self.now job.now }
+    /// The part of a command's buffer that a step is about, which moves a block so, if the step may go on.
+    pub(crate) fn part(&self, upcoming: &Upcoming, kind: MoveKind) -> Option<(u32, u32)>
+        ensures value { result ≡ part_now self.now upcoming.now kind }
         ensures inside { IfSome result (λ part. IsInSomeBuffer self.now part.0 part.1) }
         ensures moves { IsSome result → is_storing self.now.task ≡ false
-            → MayMoveOn job.now.kind job.now.unit job.now.block self.now }
+            → MayMoveUnit kind upcoming.now.command.unit self.now }
     {
         // What was read goes to the host, even if its volume has gone since.
-        if !matches!(self.task, Task::Store(_)) && self.fault_of(job).is_some() {
+        if !matches!(self.task, Task::Store) && self.fault_of(upcoming, kind).is_some() {
             return None;
         }
-        part_in(self.buffers.as_slice(), job)
+        part_in(self.buffers.as_slice(), upcoming)
     }
 }

@@ -1,10 +1,11 @@
 // What a queue serves next, and its steps.
 
-ghost use Rattle.std.specs.Prelude.{◌≡◌, [], IfNone, IfSome, None};
+ghost use Rattle.std.specs.Prelude.{◌≡◌, ◌<◌, [], length, IfNone, IfSome, None, Some};
 ghost use Rattle.mscp_packet.specs.Ends.{IsOfKind};
-ghost use Rattle.mscp_queue.specs.Kept.{place_served, units_of};
+ghost use Rattle.mscp_queue.specs.Kept.{IsOfUnit, place_served, units_of};
 ghost use Rattle.mscp_queue.specs.Lines.{Begins, BeginsAt, Serves, ServesAt};
-ghost use Rattle.mscp_queue.specs.Serving.{IsNext, end_in};
+ghost use Rattle.mscp_queue.specs.Records.{drive_at, record_at};
+ghost use Rattle.mscp_queue.specs.Serving.{IsNext, end_in, upcoming_begun, upcoming_of};
 
 use crate::picker::Picker;
 use crate::plan::Plan;
@@ -51,24 +52,45 @@ impl<K: Picker> Queue<K> {
         ))
     }
 
-    /// Begins the record at the place.
-    fn begin_at(&mut self, place: usize) -> Upcoming
-        requires { IsNext (K.picks self.old.picker) self.old.budget self.old.drives self.old.waiting self.old.begun place }
-        ensures { BeginsAt (K.picks self.old.picker) self.old result self.new place }
+    /// What is told of the step of the record at the place.
+    fn upcoming_at(&self, place: usize) -> Upcoming
+        requires { place < length self.now.waiting }
+        ensures { result
+            ≡ upcoming_of (drive_at self.now.drives self.now.waiting place) (record_at self.now.waiting place) }
     {
-        self.begun = Some(place);
         let record = self.backlog.record(place);
         let drive = usize::from(self.backlog.target(place).drive);
         Upcoming::of(&self.drives[drive], record)
     }
 
+    /// Begins the record at the place.
+    fn begin_at(&mut self, place: usize) -> Upcoming
+        requires { IsNext (K.picks self.old.picker) self.old.budget self.old.drives self.old.waiting self.old.begun place }
+        ensures begins { BeginsAt (K.picks self.old.picker) self.old result self.new place }
+        ensures again { upcoming_begun self.new.drives self.new.waiting self.new.begun ≡ Some result }
+    {
+        let upcoming = self.upcoming_at(place);
+        self.begun = Some(place);
+        upcoming
+    }
+
     /// What the next step serves, if a command waits. Where nothing is in service and nothing was begun the picker picks
     /// it, and its choice is kept: until a step, a reset, or an abort of that command, this answers the same.
     pub fn begin(&mut self) -> Option<Upcoming>
-        ensures { Begins (K.picks self.old.picker) self.old result self.new }
+        ensures begins { Begins (K.picks self.old.picker) self.old result self.new }
+        ensures again { upcoming_begun self.new.drives self.new.waiting self.new.begun ≡ result }
     {
         let place = self.next_place()?;
         Some(self.begin_at(place))
+    }
+
+    /// What the last begin told, if what it began is begun still: neither served nor aborted since, nor the queue reset.
+    pub fn upcoming(&self) -> Option<Upcoming>
+        ensures value { result ≡ upcoming_begun self.now.drives self.now.waiting self.now.begun }
+        ensures unit { IfSome result (λ u. IsOfUnit (units_of self.now.drives) u) }
+    {
+        let place = self.begun?;
+        Some(self.upcoming_at(place))
     }
 
     /// Serves a block, with this outcome, to the record at the place: what the plan says is written, and reported.

@@ -4,7 +4,7 @@
 ghost use Rattle.std.specs.Prelude.{◌≡◌, ◌+◌, ◌≤◌, ◌++◌, length, codes, OnOk};
 ghost use Rattle.std.specs.List.{flat_map};
 ghost use Rattle.mscp_controller.specs.declared.entry.Entry.TheVariants as entries;
-ghost use Rattle.mscp_script.specs.Text.{aborted_part, block_word, connection_word, end_line, ended_part, entry_lines, figure_line, last_line, refusal_word, sent_line, step_line};
+ghost use Rattle.mscp_script.specs.Text.{aborted_part, block_word, connection_word, ended_part, entry_lines, figure_line, last_line, refusal_word, sent_line, step_line};
 
 use crate::reporting::tail::Tail;
 use crate::totals::Totals;

@@ -9,11 +9,11 @@ use Rattle.mscp_packet.specs.declared.command.Command.{Command}
 use Rattle.mscp_events.specs.declared.connection.Connection.{Connection}
 use Rattle.mscp_queue.specs.declared.view.Choice.{Choice}
 use Rattle.mscp_events.specs.Settings.{Settings}
-use Rattle.mscp_events.specs.Both.{Both, of}
+use Rattle.mscp_events.specs.Both.{Both, of, put}
 use Rattle.mscp_controller.specs.History.{Moment, queues}
 use Rattle.mscp_controller.proofs.Promise.Sides.{queues_by}
 use Rattle.mscp_controller.specs.Commands.{sent_command}
-use Rattle.mscp_controller.specs.Holdings.{Holdings}
+use Rattle.mscp_controller.specs.Holdings.{Holdings, after_message}
 use Rattle.mscp_host.specs.declared.news.HostFault.{HostFault}
 use Rattle.mscp_host.specs.Accounts.{Account, has_reference, submits, submitted}
 use Rattle.mscp_sim.specs.declared.conversing.Turn.TheVariants as turns
@@ -22,10 +22,9 @@ use Rattle.mscp_sim.specs.Matches.{Matches}
 use Rattle.mscp_sim.specs.Talks.{Talk, account_at, is_poll, is_sent, is_turn_of, hands_over, is_outstanding, outstanding, reference, said, submission_at}
 use Rattle.mscp_sim.specs.Conversing.{IsSound, AnswersTurn}
 use Rattle.mscp_sim.specs.TwoEnds.{IsSubmitted}
-use Rattle.mscp_sim.proofs.TwoEnds.Accounting.{NoEnd}
+use Rattle.mscp_sim.proofs.TwoEnds.Accounting.{NoEnd, account_submitted, sends_own, unasked, unsent_by_other}
 use Rattle.mscp_sim.proofs.TwoEnds.Receiving.{outstanding_found}
 use Rattle.mscp_sim.proofs.TwoEnds.Submitting.{submits_kept, submits_match}
-use Rattle.mscp_sim.proofs.TwoEnds.Accounting.{account_submitted, sends_own, unasked, unsent_by_other}
 use Rattle.mscp_sim.proofs.TwoEnds.Polling.{flight_submitted, one_submitted}
 use Rattle.mscp_sim.proofs.TwoEnds.Foreign.{foreign_message}
 use Rattle.mscp_sim.proofs.TwoEnds.Sides.{each_side, of_other, of_put, put_own}
@@ -35,8 +34,6 @@ use Rattle.mscp_queue.proofs.Named.{own_side}
 use Rattle.mscp_controller.specs.declared.entry.Sent.{Sent}
 use Rattle.mscp_events.specs.declared.event.Event.TheVariants as events
 use Rattle.mscp_controller.specs.declared.entry.Entry.TheVariants as entries
-use Rattle.mscp_events.specs.Both.{put}
-use Rattle.mscp_controller.specs.Holdings.{after_message}
 
 -- ---- a new number
 

@@ -5,7 +5,6 @@ use Rattle.mscp_packet.specs.declared.command.Order.TheVariants as orders
 use Rattle.mscp_events.specs.declared.block.Block.TheVariants.{Good}
 use Rattle.mscp_controller.specs.History.{Trace}
 use Rattle.mscp_controller.specs.Passing.{passed, startable}
-use Rattle.mscp_controller.specs.Figures.{figure}
 use Rattle.mscp_controller.specs.Legal.{IsLegal}
 use Rattle.mscp_controller.proofs.Bridge.Legals.{answers_by, legal_by}
 use Rattle.mscp_trials.proofs.Worked.Literals.{settings, came_online, read, queued, answered, aborted, aborted_from, looked, took, took_none, served, with_budget}

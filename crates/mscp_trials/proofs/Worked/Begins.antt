@@ -7,9 +7,9 @@ use Rattle.mscp_events.specs.declared.connection.Connection.TheVariants.{First}
 use Rattle.mscp_events.specs.declared.block.Block.TheVariants.{Good}
 use Rattle.mscp_queue.specs.declared.report.Report.TheVariants as reports
 use Rattle.mscp_queue.specs.declared.upcoming.Upcoming.{Upcoming}
-use Rattle.mscp_controller.specs.declared.entry.Stale.{Stale}
+use Rattle.mscp_controller.specs.declared.entry.NotBegun.{NotBegun}
 use Rattle.mscp_controller.specs.History.{Moment}
-use Rattle.mscp_controller.specs.Commands.{command, is_waiting, done}
+use Rattle.mscp_controller.specs.Commands.{is_waiting}
 use Rattle.mscp_controller.specs.Units.{cost}
 use Rattle.mscp_controller.specs.Legal.{IsLegal}
 use Rattle.mscp_controller.specs.Sweeping.{swept}
@@ -31,8 +31,8 @@ one_block r block = record {
   weight = 1;
 }
 
-abbrev stale : Stale
-stale = record {}
+abbrev not_begun : NotBegun
+not_begun = record {}
 
 -- A far read is begun. A near one comes, and changes nothing of that. The far one is aborted: it can't be finished any
 -- more, and the near one is begun and finished.
@@ -44,7 +44,7 @@ begun_and_aborted =
     ∷ plain (queued 2 0 (read 512 0))
     ∷ Begin (Some (one_block 1 60))
     ∷ plain (aborted 3 1)
-    ∷ Finish First 1 Good (Err stale)
+    ∷ Finish First 1 Good (Err not_begun)
     ∷ Begin (Some (one_block 2 0))
     ∷ Finish First 2 Good (Ok (reports.Served First 2 0 (Some 0) true 0 (moved 2 0 0 512)))
     ∷ []
@@ -86,9 +86,9 @@ other_block_unserved : HoldsToBegun (take 6 begun_and_aborted)
 other_block_unserved h = let e = ap (λ o. unwrap_or o 1) (h (one_block 1 60) 3 4 far_begun).lbn in
     absurd (omega (arith, e))
 
--- and no finish of the far one may be stale.
-far_not_stale : HoldsToBegun (take 6 begun_and_aborted) (Finish First 1 Good (Err stale)) → ⊥
-far_not_stale h = h (one_block 1 60) 3 4 far_begun refl
+-- and no finish of the far one may fail.
+far_can_finish : HoldsToBegun (take 6 begun_and_aborted) (Finish First 1 Good (Err not_begun)) → ⊥
+far_can_finish h = h (one_block 1 60) 3 4 far_begun refl
 
 -- Once it is aborted it is begun no more,
 far_aborted : is_waiting (history (take 8 begun_and_aborted)) 3 ≡ false
@@ -128,7 +128,7 @@ number_again =
     take 8 begun_and_aborted
     ++ plain (took (1 ∷ 0 ∷ 0 ∷ 0 ∷ 0 ∷ 0 ∷ 0 ∷ 0 ∷ 0xA1 ∷ 0 ∷ 2 ∷ replicate 21 0))
     ∷ plain (queued 1 0 (read 512 80))
-    ∷ Finish First 1 Good (Err stale)
+    ∷ Finish First 1 Good (Err not_begun)
     ∷ Begin (Some (one_block 1 80))
     ∷ Finish First 1 Good (Ok (reports.Served First 1 0 (Some 80) true 4 (moved 1 0 0 512)))
     ∷ []

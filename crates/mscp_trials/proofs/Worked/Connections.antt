@@ -20,9 +20,7 @@ use Rattle.mscp_events.specs.declared.event.Event.TheVariants as events
 use Rattle.mscp_controller.specs.declared.entry.Entry.TheVariants as entries
 use Rattle.mscp_events.specs.Settings.{Settings}
 use Rattle.mscp_controller.specs.History.{Trace, Moment}
-use Rattle.mscp_controller.specs.Commands.{command}
 use Rattle.mscp_controller.specs.Figures.{figure}
-use Rattle.mscp_controller.specs.Ends.{answer}
 use Rattle.mscp_controller.specs.Account.{balance, outstanding}
 use Rattle.mscp_controller.specs.Legal.{IsLegal, IsRight}
 use Rattle.mscp_controller.proofs.Bridge.Legals.{answers_by, legal_by}

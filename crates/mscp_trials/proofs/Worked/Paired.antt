@@ -16,8 +16,6 @@ use Rattle.mscp_events.specs.declared.event.Event.TheVariants as events
 use Rattle.mscp_controller.specs.declared.entry.Entry.TheVariants as entries
 use Rattle.mscp_controller.specs.declared.entry.Sent.{Sent}
 use Rattle.mscp_controller.specs.declared.entry.Sent.TheVariants as sents
-use Rattle.mscp_controller.specs.History.{moment}
-use Rattle.mscp_controller.specs.Commands.{command}
 use Rattle.mscp_events.specs.Settings.{Settings}
 use Rattle.mscp_trials.proofs.Worked.Literals.{onlined, read, settings}
 use Rattle.mscp_host.specs.Accounts.{fresh, polls_oldest}

@@ -4,8 +4,6 @@ use Rattle.std.specs.Prelude.{replicate, Some, None}
 use Rattle.mscp_packet.specs.declared.command.Order.TheVariants as orders
 use Rattle.mscp_events.specs.declared.block.Block.TheVariants.{Good}
 use Rattle.mscp_controller.specs.History.{Trace}
-use Rattle.mscp_controller.specs.Commands.{command}
-use Rattle.mscp_controller.specs.Passing.{passed}
 use Rattle.mscp_controller.specs.Figures.{figure}
 use Rattle.mscp_events.specs.declared.connection.Connection.TheVariants.{First}
 use Rattle.mscp_controller.specs.Account.{balance}

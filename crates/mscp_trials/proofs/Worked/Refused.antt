@@ -4,7 +4,6 @@ use Rattle.std.specs.Prelude.{replicate, None, Ok}
 use Rattle.mscp_packet.specs.declared.command.Order.TheVariants as orders
 use Rattle.mscp_controller.specs.declared.entry.Sent.TheVariants as sents
 use Rattle.mscp_controller.specs.History.{Trace}
-use Rattle.mscp_controller.specs.Commands.{command}
 use Rattle.mscp_controller.specs.Legal.{IsLegal}
 use Rattle.mscp_controller.proofs.Bridge.Legals.{answers_by, legal_by}
 use Rattle.mscp_trials.proofs.Worked.Literals.{settings, read, raw, queued, answered, took, looked}

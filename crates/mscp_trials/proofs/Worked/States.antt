@@ -7,7 +7,6 @@ use Rattle.mscp_events.specs.declared.block.Block.TheVariants.{Good, Bad}
 use Rattle.mscp_controller.specs.History.{Trace}
 use Rattle.mscp_controller.specs.Passing.{startable}
 use Rattle.mscp_controller.specs.Units.{is_online, head}
-use Rattle.mscp_controller.specs.Account.{ends}
 use Rattle.mscp_controller.specs.Legal.{IsLegal}
 use Rattle.mscp_controller.proofs.Bridge.Legals.{answers_by, legal_by}
 use Rattle.mscp_trials.proofs.Worked.Literals.{settings, came_online, read, queued, answered, took, served, moved, onlined, bare_end, took_online}

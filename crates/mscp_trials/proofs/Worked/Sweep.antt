@@ -3,8 +3,7 @@ use Rattle.std.proofs.Common.{◌≡◌, true, [], ◌∷◌, ◌++◌, map, tak
 use Rattle.std.specs.Prelude.{Some, None}
 use Rattle.mscp_events.specs.declared.block.Block.TheVariants.{Good}
 use Rattle.mscp_controller.specs.History.{Trace}
-use Rattle.mscp_controller.specs.Commands.{command}
-use Rattle.mscp_controller.specs.Passing.{passed, startable}
+use Rattle.mscp_controller.specs.Passing.{startable}
 use Rattle.mscp_controller.specs.Units.{cost}
 use Rattle.mscp_controller.specs.Legal.{IsLegal}
 use Rattle.mscp_controller.specs.Sweeping.{swept}

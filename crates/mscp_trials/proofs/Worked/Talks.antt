@@ -11,9 +11,6 @@ use Rattle.mscp_packet.specs.Ends.{end_bytes}
 use Rattle.mscp_events.specs.declared.block.Block.TheVariants.{Good}
 use Rattle.mscp_queue.specs.declared.report.Report.TheVariants as reports
 use Rattle.mscp_controller.specs.declared.entry.Sent.TheVariants as sents
-use Rattle.mscp_controller.specs.History.{moment}
-use Rattle.mscp_controller.specs.Commands.{command}
-use Rattle.mscp_controller.specs.Figures.{figure}
 use Rattle.mscp_trials.proofs.Worked.Literals.{answered, moved, onlined, queued, read, served, settings, took}
 use Rattle.mscp_host.specs.declared.news.News.TheVariants as news
 use Rattle.mscp_sim.specs.declared.conversing.Turn.TheVariants as turns

@@ -15,10 +15,6 @@ use Rattle.mscp_events.specs.declared.block.Block.TheVariants.{Good, Bad}
 use Rattle.mscp_controller.specs.declared.entry.SendFault.TheVariants as faults
 use Rattle.mscp_events.specs.Settings.{Settings}
 use Rattle.mscp_controller.specs.History.{Trace, Moment, Service}
-use Rattle.mscp_controller.specs.Commands.{command}
-use Rattle.mscp_controller.specs.Figures.{figure}
-use Rattle.mscp_controller.specs.Ends.{answer}
-use Rattle.mscp_controller.specs.Account.{ends}
 use Rattle.mscp_controller.specs.Legal.{IsRight, IsServed}
 use Rattle.mscp_controller.proofs.Promise.Waits.{waits_below}
 use Rattle.mscp_trials.proofs.Worked.Literals.{settings, came_online, read, queued, answered, refused, took, looked, served, moved, onlined, with_budget}

@@ -3,7 +3,7 @@
 use super::values::{FIRST, command};
 use crate::tests::checks::{holds, same};
 use mscp_controller::{
-    Block, Connection, Controller, Picker, Report, SendFault, Sent, Stale, Upcoming,
+    Block, Connection, Controller, NotBegun, Picker, Report, SendFault, Sent, Upcoming,
 };
 use mscp_packet::{Command, End, Order, read_end, write_command};
 use std::process::Abort;
@@ -114,13 +114,13 @@ pub fn steps<K: Picker>(
     same(rt, controller.step(block), report);
 }
 
-/// A finish with a good block does this, or is stale.
+/// A finish with a good block does this, or finds that no such command is begun.
 pub fn finishes<K: Picker>(
     rt: &impl Abort,
     controller: &mut Controller<K>,
     connection: Connection,
     reference: u32,
-    wanted: Result<Report, Stale>,
+    wanted: Result<Report, NotBegun>,
 ) {
     same(
         rt,

@@ -12,8 +12,8 @@ mod worst;
 
 use arrayvec::ArrayVec;
 use mscp_controller::{
-    Block, Config, Connection, Controller, FaultStatus, Oldest, Picker, Report, SendFault, Sent,
-    Stale, Sweep, Upcoming, View,
+    Block, Config, Connection, Controller, FaultStatus, NotBegun, Oldest, Picker, Report,
+    SendFault, Sent, Sweep, Upcoming, View,
 };
 use mscp_drive::{Unit, Units};
 use mscp_packet::{MoveKind, Order};

@@ -1,4 +1,4 @@
-// What begin tells, when a finish is stale, and what a reset leaves.
+// What begin tells, when a finish fails, and what a reset leaves.
 
 use super::*;
 use crate::tests::calls::{
@@ -44,7 +44,7 @@ fn is_aborted(rt: &impl Abort, done: u32, lbn: u32, bytes: u32) {
     }
     begins(rt, &mut controller, Some(upcoming(two, Some(lbn), done, 2)));
     aborts(rt, &mut controller, FIRST, 2, 1);
-    finishes(rt, &mut controller, FIRST, 1, Err(Stale));
+    finishes(rt, &mut controller, FIRST, 1, Err(NotBegun));
     shows(rt, &controller, &[]);
     has_free(rt, &controller, FIRST, 2);
     begins(rt, &mut controller, None);
@@ -57,25 +57,25 @@ fn is_aborted(rt: &impl Abort, done: u32, lbn: u32, bytes: u32) {
 // The block that is under way doesn't count, and each before it counts 512 bytes. Of the four credits two are the ends'
 // until these are taken.
 #[test]
-fn an_abort_of_what_was_begun_is_stale(rt: HostRuntime) {
+fn what_was_aborted_is_begun_no_more(rt: HostRuntime) {
     is_aborted(&rt, 0, 40, 0);
     is_aborted(&rt, 1, 41, 512);
 }
 
 // Block 40 is on cylinder 2, and the head on cylinder 0. The block that was under way moved no head.
 #[test]
-fn a_stale_block_moves_no_head(rt: HostRuntime) {
+fn a_block_of_what_was_aborted_moves_no_head(rt: HostRuntime) {
     let mut controller = ready(&rt, Oldest);
     queues(&rt, &mut controller, FIRST, &read(1, 512, 40));
     holds(&rt, controller.begin().is_some());
     aborts(&rt, &mut controller, FIRST, 2, 1);
-    finishes(&rt, &mut controller, FIRST, 1, Err(Stale));
+    finishes(&rt, &mut controller, FIRST, 1, Err(NotBegun));
     queues(&rt, &mut controller, FIRST, &read(3, 512, 40));
     steps(&rt, &mut controller, Block::Good, first_and_last(3, 40, 2));
 }
 
-/// A finish of this number by this block is stale, and these figures and this balance are left.
-fn is_stale_by(
+/// A finish of this number by this block fails, since no such command is begun. These figures and this balance stay.
+fn is_not_begun_by(
     rt: &impl Abort,
     controller: &mut Controller<Oldest>,
     reference: u32,
@@ -83,14 +83,18 @@ fn is_stale_by(
     figures: &[(Connection, u32, u32)],
     balance: u32,
 ) {
-    same(rt, controller.finish(FIRST, reference, block), Err(Stale));
+    same(
+        rt,
+        controller.finish(FIRST, reference, block),
+        Err(NotBegun),
+    );
     shows(rt, controller, figures);
     has_free(rt, controller, FIRST, balance);
     takes_nothing(rt, controller, FIRST);
 }
 
 /// The same, whatever the block.
-fn is_stale(
+fn is_not_begun(
     rt: &impl Abort,
     controller: &mut Controller<Oldest>,
     reference: u32,
@@ -98,8 +102,8 @@ fn is_stale(
     balance: u32,
 ) {
     let bad = Block::Bad(FaultStatus::new(0x000B).expect(rt, "a status"));
-    is_stale_by(rt, controller, reference, Block::Good, figures, balance);
-    is_stale_by(rt, controller, reference, bad, figures, balance);
+    is_not_begun_by(rt, controller, reference, Block::Good, figures, balance);
+    is_not_begun_by(rt, controller, reference, bad, figures, balance);
 }
 
 /// READ 1 of block 40 and READ 2 of block 0 wait.
@@ -121,26 +125,26 @@ fn begins_first(rt: &impl Abort, controller: &mut Controller<Oldest>) {
 const BOTH: [(Connection, u32, u32); 2] = [(FIRST, 1, 17), (FIRST, 2, 18)];
 
 #[test]
-fn a_stale_finish_changes_nothing(rt: HostRuntime) {
+fn a_finish_of_what_is_not_begun_changes_nothing(rt: HostRuntime) {
     let mut controller = with_two(&rt);
-    is_stale(&rt, &mut controller, 1, &BOTH, 2);
+    is_not_begun(&rt, &mut controller, 1, &BOTH, 2);
     begins_first(&rt, &mut controller);
-    is_stale(&rt, &mut controller, 2, &BOTH, 2);
-    is_stale(&rt, &mut controller, 3, &BOTH, 2);
+    is_not_begun(&rt, &mut controller, 2, &BOTH, 2);
+    is_not_begun(&rt, &mut controller, 3, &BOTH, 2);
     begins_first(&rt, &mut controller);
 }
 
 #[test]
-fn a_finish_of_what_ended_or_was_forgotten_is_stale(rt: HostRuntime) {
+fn what_ended_or_was_forgotten_is_begun_no_more(rt: HostRuntime) {
     let mut controller = with_two(&rt);
     begins_first(&rt, &mut controller);
     let report = first_and_last(1, 40, 2);
     finishes(&rt, &mut controller, FIRST, 1, Ok(report));
     takes(&rt, &mut controller, FIRST, read_ended(1, 0, 512));
-    is_stale(&rt, &mut controller, 1, &[(FIRST, 2, 17)], 3);
+    is_not_begun(&rt, &mut controller, 1, &[(FIRST, 2, 17)], 3);
     holds(&rt, controller.begin().is_some());
     controller.reset();
-    is_stale(&rt, &mut controller, 2, &[], 4);
+    is_not_begun(&rt, &mut controller, 2, &[], 4);
 }
 
 // Block 980 is on cylinder 49, the last.

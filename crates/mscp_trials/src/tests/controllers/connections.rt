@@ -90,7 +90,7 @@ fn a_step_is_finished_by_its_own_connection_and_ends_there(rt: HostRuntime) {
         (upcoming.connection, upcoming.command),
         (FIRST, one(1)),
     );
-    finishes(&rt, &mut controller, SECOND, 1, Err(Stale));
+    finishes(&rt, &mut controller, SECOND, 1, Err(NotBegun));
     let end = read_ended(1, 0, 512);
     let report = served(FIRST, 1, Some(0), true, 0, Some(end));
     finishes(&rt, &mut controller, FIRST, 1, Ok(report));
@@ -143,6 +143,6 @@ fn where_there_is_no_second_connection_it_has_nothing(rt: HostRuntime) {
     takes_nothing(&rt, &mut controller, SECOND);
     has_free(&rt, &controller, SECOND, 0);
     has_figure(&rt, &controller, SECOND, 1, 0);
-    finishes(&rt, &mut controller, SECOND, 1, Err(Stale));
+    finishes(&rt, &mut controller, SECOND, 1, Err(NotBegun));
     has_free(&rt, &controller, FIRST, 4);
 }

@@ -137,7 +137,7 @@ impl<K: Picker> Machine<K> {
 
     /// The drive is through with the work, and the block had this outcome. A READ fills the host's memory, unless the
     /// command was aborted in the meantime.
-    fn finish(&mut self, job: &Job, block: Block) -> Result<Report, Stale> {
+    fn finish(&mut self, job: &Job, block: Block) -> Result<Report, NotBegun> {
         let command = job.upcoming.command;
         let report = self
             .controller
@@ -249,7 +249,7 @@ fn what_was_aborted_meanwhile_leaves_the_memory_alone(rt: HostRuntime) {
     let abort = message(2, Order::Abort(1));
     same(&rt, machine.on_message(abort.as_slice()), Ok(()));
     let block = machine.work(&mut job);
-    same(&rt, machine.finish(&job, block), Err(Stale));
+    same(&rt, machine.finish(&job, block), Err(NotBegun));
     holds(&rt, are_all(&machine.memory, 7));
     same(&rt, end(&rt, &mut machine), (1, 0x0002, EndBody::Moved(0)));
     same(&rt, end(&rt, &mut machine), (2, 0, EndBody::Abort(1)));

@@ -49,8 +49,8 @@ const HEAD: [u8; 72] = [
     8, 0, 0, 0, 0, 0,
     // the base, and one slot in each ring
     1, 0x84, 0x0E, 0, 0, 1, 0, 0, 0, 1, 0, 0, 0,
-    // the transfer, on the first connection, of number 2, of block 4, one step behind the first, on unit 0: a READ
-    13, 1, 2, 0, 0, 0, 4, 0, 0, 0, 1, 0, 0, 0, 0, 0, 4,
+    // a transfer: of which command and which block is the controller's
+    13, 0, 0, 0, 0, 0, 0, 0, 0, 0, 0, 0, 0, 0, 0, 0, 0,
     // nothing goes out, and something is kept of one command
     0, 0, 1,
 ];
@@ -176,39 +176,46 @@ fn other_bytes_are_refused(rt: HostRuntime) {
 #[test]
 fn a_size_that_nothing_in_hand_has_is_refused(rt: HostRuntime) {
     let saved = in_the_middle(&rt).port.save(7);
-    // A text of 4 bytes, and 2 bytes of the area that are clear.
+    // A text of no bytes, of 11, and of 65; those of 12 and of 64 are texts.
     has_fault(&rt, &saved, 52, 5, RestoreFault::Size);
-    has_fault(&rt, &saved, 52, 2, RestoreFault::Size);
-    // Where the size is one, what a text lacks and a transfer has stands there still.
     let text = with(&saved, 52, 5);
     has_fault(&rt, &text, 58, 11, RestoreFault::Size);
-    has_fault(&rt, &text, 58, 12, RestoreFault::Form);
-    has_fault(&rt, &text, 58, 64, RestoreFault::Form);
+    holds(&rt, goes_on(&rt, with(&text, 58, 12).as_slice()));
+    holds(&rt, goes_on(&rt, with(&text, 58, 64).as_slice()));
     has_fault(&rt, &text, 58, 65, RestoreFault::Size);
-    // 64 bytes that are clear, 1,024, and 1,088.
+    // 2 bytes of the area that are clear, 64, 1,024, and 1,088.
     let clear = with(&saved, 52, 2);
-    has_fault(&rt, &clear, 54, 64, RestoreFault::Form);
+    has_fault(&rt, &clear, 54, 2, RestoreFault::Size);
+    holds(&rt, goes_on(&rt, with(&clear, 54, 64).as_slice()));
     let most = with(&clear, 55, 4);
-    has_fault(&rt, &most, 54, 0, RestoreFault::Form);
+    holds(&rt, goes_on(&rt, most.as_slice()));
     has_fault(&rt, &most, 54, 64, RestoreFault::Size);
 }
 
-/// The port that was to move a block moves none where another byte stands at a place. Its command ends.
-fn moves_nothing(rt: &impl Abort, place: usize, byte: u8) {
-    let bytes = with(&in_the_middle(rt).port.save(7), place, byte);
-    let mut port = Port::restore(bytes.as_slice(), 7, Sweep)
-        .ok()
-        .expect(rt, "a port");
-    holds(rt, port.next() == Action::Pause);
-    holds(rt, port.went(Outcome::Done).is_ok());
-    holds(rt, matches!(port.next(), Action::Read { count: 4, .. }));
+/// A transfer in hand says no connection, number, block, count of steps, unit or kind: these are the controller's.
+#[test]
+fn a_transfer_that_says_its_block_is_refused(rt: HostRuntime) {
+    let saved = in_the_middle(&rt).port.save(7);
+    for place in 53..69 {
+        has_fault(&rt, &saved, place, 1, RestoreFault::Form);
+    }
 }
 
+/// Where the controller has begun nothing, a transfer in hand moves nothing. The block is begun again.
 #[test]
-fn a_block_that_no_unit_has_is_not_moved(rt: HostRuntime) {
-    // Block 65,540 of unit 0, and block 4 of unit 9.
-    moves_nothing(&rt, 60, 1);
-    moves_nothing(&rt, 66, 9);
+fn a_block_that_is_not_begun_is_not_moved(rt: HostRuntime) {
+    let saved = in_the_middle(&rt).port.save(7);
+    let nowhere = with(&saved, 343, 0);
+    let bytes = with(&nowhere, 344, 0);
+    let mut port = Port::restore(bytes.as_slice(), 7, Sweep)
+        .ok()
+        .expect(&rt, "a port");
+    holds(&rt, port.next() == Action::Pause);
+    holds(&rt, port.went(Outcome::Done).is_ok());
+    holds(
+        &rt,
+        matches!(port.next(), Action::Transfer { block: 4, .. }),
+    );
 }
 
 #[test]
@@ -220,11 +227,10 @@ fn bytes_of_no_form_are_refused(rt: HostRuntime) {
     has_fault(&rt, &saved, 33, 10, RestoreFault::Form);
     has_fault(&rt, &saved, 34, 1, RestoreFault::Form);
     has_fault(&rt, &saved, 37, 1, RestoreFault::Form);
-    // No ring, no task, no kind, a text where nothing goes out.
+    // No ring, no task, a text where nothing goes out, no volume's flag.
     has_fault(&rt, &saved, 44, 129, RestoreFault::Form);
     has_fault(&rt, &saved, 48, 0, RestoreFault::Form);
     has_fault(&rt, &saved, 52, 15, RestoreFault::Form);
-    has_fault(&rt, &saved, 68, 6, RestoreFault::Form);
     has_fault(&rt, &saved, 69, 3, RestoreFault::Form);
     has_fault(&rt, &saved, 94, 1, RestoreFault::Form);
 }

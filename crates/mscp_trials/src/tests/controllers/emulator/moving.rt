@@ -141,16 +141,16 @@ fn arrivals_change_nothing_of_what_was_begun(rt: HostRuntime) {
     let mut job = machine.begin().expect(&rt, "the far READ");
     says(&rt, &mut machine, &transfer(33, 2, 512, 0, 1024), Ok(()));
     let block = machine.work(&mut job);
-    let report = machine.finish(&job, block).ok().expect(&rt, "not stale");
+    let report = machine.finish(&job, block).ok().expect(&rt, "it is begun");
     same(&rt, served(&report), Some((1, 0, Some(60))));
     part_has(&rt, &machine.memory, (0, 512), 60);
     serves(&rt, &mut machine, 2, 0);
 }
 
-/// The drive is through with what was begun: that is stale.
-fn is_stale(rt: &impl Abort, machine: &mut Machine<Oldest>, mut job: Job) {
+/// The drive is through with a command that is begun no more: its finish fails.
+fn is_begun_no_more(rt: &impl Abort, machine: &mut Machine<Oldest>, mut job: Job) {
     let block = machine.work(&mut job);
-    same(rt, machine.finish(&job, block), Err(Stale));
+    same(rt, machine.finish(&job, block), Err(NotBegun));
 }
 
 #[test]
@@ -160,7 +160,7 @@ fn a_reset_forgets_what_the_machine_had(rt: HostRuntime) {
     serves(&rt, &mut machine, 1, 40);
     let job = machine.begin().expect(&rt, "the second block");
     machine.on_reset();
-    is_stale(&rt, &mut machine, job);
+    is_begun_no_more(&rt, &mut machine, job);
     holds(&rt, machine.on_turn().is_none());
     takes_nothing(&rt, &mut machine.controller, Connection::First);
     holds(&rt, machine.buffers.is_empty());
