@@ -327,10 +327,6 @@ pub ahead_held : {A : Type 0} (c : Settings) (log : Log) (line : List ℕ) (judg
 ahead_held c log line judge s =
     held_of c (marked log) judge.controller (due judge) (owed judge) (told (line ++ 10 ∷ [])) s.counted.stood
 
--- what is due where it has a line
-pub short_some : (bytes : List ℕ) → HasShortLine bytes → bytes ≢ []
-short_some bytes h e = some_none h.0 10 h.1.0 (sym h.1.1 ∙ e)
-
 -- a line that is the whole has at most as many bytes
 pub short_whole : (bytes front : List ℕ) → bytes ≡ front ++ 10 ∷ [] → length bytes ≤ 108 → HasShortLine bytes
 short_whole bytes front e l = (front, ([], e), omega (arith, l, ap length e, length-append front (10 ∷ [])))

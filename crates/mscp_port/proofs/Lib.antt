@@ -3,7 +3,6 @@ pub mod Come
 pub mod Comes
 pub mod Coded
 pub mod Among
-pub mod Anyhow
 pub mod Begun
 pub mod Credited
 pub mod Credits

@@ -1,5 +1,5 @@
 -- What is kept of a command whose end comes was said by a message to the unit that the end names.
-use Rattle.std.proofs.Common.{◌≡◌, ◌⊎◌, ◌∙◌, ℕ, List, [], ◌∷◌, Option, None, Some, Contains, IfSome, inl, inr, refl, ap, sym, subst}
+use Rattle.std.proofs.Common.{◌≡◌, ◌∙◌, ℕ, List, [], ◌∷◌, Option, None, Some, Contains, IfSome, inl, inr, refl, ap, sym, subst}
 use Rattle.std.specs.Prelude.{Result, Ok, Err}
 use Rattle.std.specs.List.{position}
 use Rattle.std.proofs.lemmas.List.Elements.{All-get_or}
@@ -53,10 +53,6 @@ module _ {K : Type 0} (said : ℕ → Buffer → Type 0) (old new : Port K) (k :
   framed buffers controller =
       keeps_same said old new (λ b there. subst (λ bs. Contains bs b) (ap (λ x. x.items) buffers) there)
       (ap (λ (h : Holdings K). h.waiting) controller) k
-
-is_text : (t : Task) → (IsReadingText t → ⊥) ⊎ IsReadingText t
-is_text (tasks.Text slot size foreign) = inr tt
-is_text t = inl (λ h. h)
 
 text_heard : {K : Type 0} (said : ℕ → Buffer → Type 0) (bytes : List ℕ) (result : Result Unit Unasked)
     (old new : Port K) (t : Task) → old.task ≡ t → Hears bytes old result new → Keeps said old

@@ -1,5 +1,5 @@
 -- A counted's counts stay those of its commands.
-use Rattle.std.proofs.Common.{◌≡◌, ◌≢◌, ◌<◌, ◌≤◌, ◌+◌, ◌⊎◌, inl, inr, ℕ, zero, suc, Bool, true, false, cond, ◌||◌, List, [], ◌∷◌, ◌++◌, take, drop, set, get_or, length, sym, subst, ap, ◌∙◌, refl, arith}
+use Rattle.std.proofs.Common.{◌≡◌, ◌≢◌, ◌<◌, ◌≤◌, ◌+◌, ◌⊎◌, inl, inr, ℕ, Bool, true, false, cond, ◌||◌, List, [], ◌∷◌, ◌++◌, take, drop, set, get_or, length, sym, subst, ap, ◌∙◌, refl, arith}
 use Rattle.std.specs.Prelude.{nat_lt, count_by}
 use Rattle.std.specs.List.{list_any}
 use Rattle.std.proofs.lemmas.Bool.{eq-eqb, ne_eqb}
@@ -33,13 +33,6 @@ module _ {X : Type 0} (p : X → Bool) where
           none : (n : ℕ) → 0 + n ≡ n
           none n = omega arith
 
-  pub count_pushed : (xs : List X) (x : X) → count_by p (xs ++ x ∷ []) ≡ count_by p xs + cond (p x) 1 0
-  unfolding one_of
-  count_pushed xs x =
-      let parts = sum_by-append one_of xs (x ∷ []) in
-      let last = sum_by-cons one_of x [] in
-      omega (arith, parts, last)
-
   pub count_left : (d : X) (xs : List X) (place : ℕ) → place < length xs
       → count_by p (take place xs ++ drop (place + 1) xs) + cond (p (get_or xs place d)) 1 0 ≡ count_by p xs
   unfolding one_of
@@ -53,19 +46,6 @@ module _ {X : Type 0} (p : X → Bool) where
       omega (arith, whole, parts, more)
 
   -- an element that another takes the place of, which passes if it does
-  pub count_set : (d : X) (xs : List X) (place : ℕ) (x : X) → place < length xs → p x ≡ p (get_or xs place d)
-      → count_by p (set xs place x) ≡ count_by p xs
-  unfolding one_of
-  count_set d [] place x l e = refl
-  count_set d (y ∷ ys) zero x l e =
-      let old = sum_by-cons one_of y ys in
-      let new = sum_by-cons one_of x ys in
-      new ∙ ap (λ b. cond b 1 0 + count_by p ys) e ∙ sym old
-  count_set d (y ∷ ys) (suc place) x l e =
-      let rest = count_set d ys place x (omega (arith, l)) e in
-      let old = sum_by-cons one_of y ys in
-      let new = sum_by-cons one_of y (set ys place x) in
-      new ∙ ap (λ n. one_of y + n) rest ∙ sym old
 
 -- ---- the counts
 

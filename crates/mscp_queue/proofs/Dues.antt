@@ -1,5 +1,5 @@
 -- Each event keeps the dues, and a due less the clock is the figure.
-use Rattle.std.proofs.Common.{◌≡◌, ◌<◌, ◌≤◌, ◌+◌, ◌-◌, ◌⊎◌, inl, inr, ℕ, zero, suc, Bool, true, false, cond, List, [], ◌∷◌, ◌++◌, map, take, drop, get_or, length, sym, subst, ap, ◌∙◌, refl, arith}
+use Rattle.std.proofs.Common.{◌≡◌, ◌<◌, ◌≤◌, ◌+◌, ◌-◌, ℕ, zero, suc, Bool, true, false, cond, List, [], ◌∷◌, ◌++◌, map, take, drop, get_or, length, sym, subst, ap, ◌∙◌, refl, arith}
 use Rattle.std.specs.Prelude.{filter, nat_lt, sum_by}
 use Rattle.std.specs.List.{AllByRecursion}
 use Rattle.std.proofs.lemmas.Bool.{lt-ltb}
@@ -259,10 +259,6 @@ module _ (budget : ℕ) where
         (omega (arith, f, s, h), end_enough (b + left_of x.item) front a.1 i.1)
 
   -- ---- an abort of one that wasn't started
-
-  either : (t : Bool) → (t ≡ true) ⊎ (t ≡ false)
-  either true = inl refl
-  either false = inr refl
 
   fallen_unstarted : (c b n : ℕ) (ss : List Slot) → AreDue budget c (b + n) ss
       → AreDue budget c b (map (lowered_unless_serving n) ss)

@@ -53,22 +53,6 @@ others_differ name (r ∷ rs) (suc i) h l = others_differ name rs i h.1 (omega (
 not_unstarted : (r : Record) → is_in_service r ≡ true → is_unstarted r ≡ true → r.done < r.done
 not_unstarted r h e = let a = ltb-true 0 r.done h in let b = eqb-true r.done 0 e in omega arith
 
--- the record in service is next
-pub serving_next : (picks : List Choice → ℕ → Type 0) (budget : ℕ) (ds : List Drive) (rs : List Record)
-    (begun : Option Name) (place : ℕ) → begun ≡ None → position is_in_service rs ≡ Some place
-    → IsNext picks budget ds rs begun place
-serving_next picks budget ds rs begun place n h =
-    let f = found_at is_in_service rs place h in
-    record {
-      servable = record {
-        inside = f.0;
-        idle = λ e. absurd (omega (arith, not_unstarted (record_at rs place) f.1 e));
-        opens = λ e. absurd (omega (arith, not_unstarted (record_at rs place) f.1 e));
-      };
-      same = λ name e. absurd (none_begun begun name n e);
-      picked = λ b e. absurd (omega (arith, not_unstarted (record_at rs place) f.1 e));
-    }
-
 -- where none is, all are idle
 none_serving : (rs : List Record) → position is_in_service rs ≡ None → All (λ r. r.done ≡ 0) rs
 none_serving rs h =

@@ -1,5 +1,5 @@
 -- A queue as it was: its waiting commands in their slots, and what it knows of them.
-use Rattle.std.proofs.Common.{All, ◌≡◌, ◌+◌, ◌<◌, ◌≤◌, ◌^◌, ℕ, zero, suc, Bool, true, false, ◌||◌, List, [], ◌∷◌, ◌++◌, drop, get_or, length, append_assoc, append-nil, refl, ap, sym, subst, ◌∙◌, arith}
+use Rattle.std.proofs.Common.{All, ◌≡◌, ◌+◌, ◌<◌, ◌≤◌, ◌^◌, ℕ, zero, suc, Bool, true, false, ◌||◌, List, [], ◌∷◌, ◌++◌, drop, get_or, length, append-nil, refl, ap, sym, subst, ◌∙◌, arith}
 use Rattle.std.specs.Prelude.{sum_by, is_some, unwrap_or, Option, Some, None, IfNone, IfSome}
 use Rattle.std.specs.List.{list_any, position}
 use Rattle.std.proofs.lemmas.Bool.{false≢true, ltb-false, true≢false}
@@ -74,15 +74,6 @@ module _ (budget : ℕ) (us : List Shape) where
       (same, are_due (before + left_of r) rs)
 
   -- one more of them
-  pub slots_more : (all ss : List Slot) (s : Slot) (before behind : ℕ) (r : Record) (rs tail : List Record)
-      → rs ≡ r ∷ tail → behind ≡ sum_by left_if_serving tail → s ≡ slot_of budget us before behind r
-      → ss ++ slots_of budget us before rs ≡ all
-      → (ss ++ s ∷ []) ++ slots_of budget us (before + left_of r) tail ≡ all
-  slots_more all ss s before behind r rs tail e b is h =
-      append_assoc ss (s ∷ []) (slots_of budget us (before + left_of r) tail)
-      ∙ (ap (λ x. ss ++ x ∷ slots_of budget us (before + left_of r) tail)
-      (is ∙ ap (λ n. slot_of budget us before n r) b)
-      ∙ (ap (λ xs. ss ++ slots_of budget us before xs) (sym e) ∙ h))
 
   -- at the end they are all
   pub slots_all : (ss : List Slot) (before n : ℕ) (rs : List Record) → length rs ≤ n

@@ -11,9 +11,6 @@ use Rattle.mscp_queue.specs.Lanes.{IsLeast}
 use Rattle.mscp_queue.specs.Candidates.{costing, no_choice}
 use Rattle.mscp_queue.specs.Pickers.{IsRow, IsSweep, costs}
 
-cost_of : Choice → ℕ
-cost_of c = c.cost
-
 -- the costs, one of which left
 left_costs : (view : List Choice) (place : ℕ)
     → costs (take place view ++ drop (place + 1) view) ≡ take place (costs view) ++ drop (place + 1) (costs view)

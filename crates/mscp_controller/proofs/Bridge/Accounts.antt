@@ -1,6 +1,6 @@
 -- Accounts, one by one, and what is seen of them.
 use Rattle.std.proofs.Common.{◌≡◌, ◌+◌, false, List, [], ◌∷◌, ◌++◌, length, ap, refl, sym, ◌∙◌, append-nil, arith}
-use Rattle.std.specs.Prelude.{if◌then◌else◌, drop, option_to_list, Some, None}
+use Rattle.std.specs.Prelude.{if◌then◌else◌, option_to_list, Some, None}
 use Rattle.mscp_packet.specs.declared.end.End.{End}
 use Rattle.mscp_events.specs.declared.connection.Connection.{Connection}
 use Rattle.mscp_events.specs.declared.connection.Connection.TheVariants.{First, Second}
@@ -9,9 +9,9 @@ use Rattle.mscp_queue.specs.declared.report.Report.TheVariants as reports
 use Rattle.mscp_queue.specs.Names.{same_connection}
 use Rattle.mscp_controller.specs.declared.account.Account.{Account}
 use Rattle.mscp_controller.specs.declared.account.Accounts.{Accounts}
-use Rattle.mscp_controller.specs.Accounts.{CanEnd, account, come, ended, left, put_account, reported, taken, untaken_in}
-use Rattle.mscp_events.specs.Both.{Both, of, put}
-use Rattle.mscp_controller.specs.Holdings.{ends_after, ends_reported, more_ends}
+use Rattle.mscp_controller.specs.Accounts.{CanEnd, account, left, put_account, reported, untaken_in}
+use Rattle.mscp_events.specs.Both.{Both, of}
+use Rattle.mscp_controller.specs.Holdings.{ends_reported, more_ends}
 
 -- ---- one of them is changed
 
@@ -30,24 +30,10 @@ pub seen_of : (via : Connection) (a : Accounts) → of via (untaken_in a) ≡ (a
 seen_of First a = refl
 seen_of Second a = refl
 
-pub seen_come : (via : Connection) (a : Accounts) → untaken_in (put_account via (come (account via a)) a) ≡ untaken_in a
-seen_come First a = refl
-seen_come Second a = refl
-
-pub seen_ended : (via : Connection) (end : End) (a : Accounts)
-    → untaken_in (put_account via (ended end (account via a)) a) ≡ more_ends via (untaken_in a) (end ∷ [])
-seen_ended First end a = refl
-seen_ended Second end a = refl
-
 pub seen_left : (via : Connection) (end : End) (a : Accounts)
     → untaken_in (put_account via (left end (account via a)) a) ≡ more_ends via (untaken_in a) (end ∷ [])
 seen_left First end a = refl
 seen_left Second end a = refl
-
-pub seen_taken : (via : Connection) (a : Accounts) → untaken_in (put_account via (taken (account via a)) a)
-    ≡ put via (drop 1 (of via (untaken_in a))) (untaken_in a)
-seen_taken First a = refl
-seen_taken Second a = refl
 
 -- ---- a report
 
@@ -85,13 +71,6 @@ reported_at Second (reports.Served First reference unit lbn started seek (Some e
     record { waiting = omega arith; untaken = sym (append-nil a.second.untaken.items) }
 reported_at Second (reports.Served Second reference unit lbn started seek (Some end)) a k =
     record { waiting = omega (arith, k.0); untaken = refl }
-
-pub seen_reported : (report : Report) (a : Accounts) → CanEnd report a
-    → untaken_in (reported report a) ≡ ends_after (untaken_in a) report
-seen_reported report a k = λ i. record {
-  first = (reported_at First report a k).untaken i;
-  second = (reported_at Second report a k).untaken i;
-}
 
 -- the ends of a connection, once more went to it
 pub of_more : (via : Connection) (us : Both (List End)) (es : List End) → of via (more_ends via us es) ≡ of via us ++ es

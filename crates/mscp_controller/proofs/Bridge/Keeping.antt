@@ -1,10 +1,9 @@
 -- What each call keeps of what a controller holds.
-use Rattle.std.proofs.Common.{◌≡◌, ℕ, ◌+◌, ◌-◌, ◌<◌, ◌≤◌, Bool, true, false, cond, List, [], ◌∷◌, ◌++◌, map, length, drop, ap, refl, sym, subst, ◌∙◌, arith}
+use Rattle.std.proofs.Common.{◌≡◌, ℕ, ◌+◌, ◌-◌, ◌<◌, ◌≤◌, Bool, true, false, List, [], ◌∷◌, map, length, drop, ap, refl, sym, subst, ◌∙◌, arith}
 use Rattle.std.specs.Prelude.{if◌then◌else◌, option_to_list, slice_get, Option, Some, None, IfSome, is_some}
 use Rattle.std.proofs.lemmas.Bool.{false≢true}
 use Rattle.std.specs.List.{AllByRecursion}
 use Rattle.std.proofs.lemmas.List.{length-append, length-drop}
-use Rattle.mscp_packet.specs.declared.command.Command.{Command}
 use Rattle.mscp_packet.specs.declared.end.End.{End}
 use Rattle.mscp_packet.specs.Ends.{IsOfKind}
 use Rattle.mscp_drive.specs.Shape.{Shape}
@@ -20,19 +19,19 @@ use Rattle.mscp_queue.specs.Kept.{units_of}
 use Rattle.mscp_queue.specs.Lines as lines
 use Rattle.mscp_queue.specs.Lines.{Line, Serves}
 use Rattle.mscp_queue.specs.Names.{name_on, same_connection}
-use Rattle.mscp_queue.specs.Records.{Record, fresh_record, without}
+use Rattle.mscp_queue.specs.Records.{Record, without}
 use Rattle.mscp_queue.specs.Serving.{begun_without, end_in}
 use Rattle.mscp_queue.proofs.Lists.{every_append}
 use Rattle.mscp_queue.proofs.Named.{own_side}
 use Rattle.mscp_controller.specs.declared.account.Account.{Account}
 use Rattle.mscp_controller.specs.declared.account.Accounts.{Accounts}
-use Rattle.mscp_controller.specs.Accounts.{CanEnd, account, come, ended, fresh, left, put_account, reported, taken, untaken_in}
+use Rattle.mscp_controller.specs.Accounts.{CanEnd, account, fresh, left, put_account, reported, taken, untaken_in}
 use Rattle.mscp_events.specs.Settings.{Settings, IsValid, credits_of, room}
 use Rattle.mscp_controller.specs.Holdings.{ends_reported, waiting_on}
 use Rattle.mscp_events.specs.Both.{of}
 use Rattle.mscp_controller.specs.Kept.{IsAccount, IsHeld}
 use Rattle.mscp_controller.proofs.Bridge.Accounts.{each_account, of_more, reported_at, seen_left, seen_of}
-use Rattle.mscp_controller.proofs.Bridge.Counting.{count_stepped, other_count, own_count, push_count}
+use Rattle.mscp_controller.proofs.Bridge.Counting.{count_stepped, other_count, own_count}
 use Rattle.mscp_controller.proofs.Bridge.Owning.{stays}
 use Rattle.mscp_controller.proofs.Promise.Served.{some_same}
 use Rattle.mscp_controller.proofs.Promise.Sides.{sides_length}
@@ -164,49 +163,6 @@ held_stepped {K} c picks k old report new a h s u kind =
     })
 
 -- ---- a message
-
--- one more command waits
-pub held_queued : {K : Type 0} {c : Settings} {old new : Line K} {a : Accounts} (via : Connection) (k : Command)
-    → IsHeld c old a → new ≡ lines.pushed old via k
-    → 2 ≤ credits_of c via - (length (waiting_on via old.waiting) + length (account via a).untaken.items)
-    → IsHeld c new (put_account via (come (account via a)) a)
-held_queued {K} {c} {old} {new} {a} via k h e free =
-    let own = h.account via in
-    let counted = own.counted in
-    let ws = old.waiting ++ fresh_record via k ∷ [] in
-    let more = push_count via via old.waiting k ∙ ap (λ b. length (waiting_on via old.waiting) + cond b 1 0)
-    (own_side via) in
-    let own' : IsAccount c ws via (come (account via a)) = record {
-      counted = omega (arith, counted, more);
-      covered = omega (arith, counted, free);
-      fits = omega (arith, counted, free);
-      shaped = own.shaped;
-    } in
-    held_like h (still_by ws old.begun e)
-    (subst (λ (l : Line K). (via' : Connection)
-    → IsAccount c l.waiting via' (account via' (put_account via (come (account via a)) a))) (sym e)
-    (each_account (IsAccount c ws) via (come (account via a)) a own'
-    (λ other d. account_stays (h.account other) (push_count via other old.waiting k
-    ∙ (ap (λ b. length (waiting_on other old.waiting) + cond b 1 0) d ∙ omega arith)))))
-
--- an end is made
-pub held_ended : {K : Type 0} {c : Settings} {line : Line K} {a : Accounts} (via : Connection) (end : End)
-    → IsHeld c line a
-    → 1 ≤ credits_of c via - (length (waiting_on via line.waiting) + length (account via a).untaken.items)
-    → IsOfKind end → IsHeld c line (put_account via (ended end (account via a)) a)
-held_ended {K} {c} {line} {a} via end h free kind =
-    let own = h.account via in
-    let counted = own.counted in
-    let items = (account via a).untaken.items in
-    held_like h (record { room = refl; budget = refl; longest = refl; units = refl })
-    (each_account (IsAccount c line.waiting) via (ended end (account via a)) a
-    (record {
-      counted = counted;
-      covered = omega (arith, counted, free, length-append items (end ∷ []));
-      fits = own.fits;
-      shaped = every_append IsOfKind items (end ∷ []) own.shaped (kind, tt);
-    })
-    (λ other d. h.account other))
 
 -- an end is taken, if there is one
 rest_kinds : (es : List End) → AllByRecursion IsOfKind es → AllByRecursion IsOfKind (drop 1 es)

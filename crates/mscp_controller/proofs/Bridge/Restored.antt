@@ -1,18 +1,16 @@
 -- A controller as it was, and what is known of one that is.
-use Rattle.std.proofs.Common.{All, ◌≡◌, true, List, length, ap, sym, subst, ◌∙◌, arith}
-use Rattle.std.proofs.lemmas.List.Elements.{All-from_recursion, recursion_from_All}
-use Rattle.mscp_packet.specs.declared.end.End.{End}
+use Rattle.std.proofs.Common.{true, List, subst, arith}
+use Rattle.std.proofs.lemmas.List.Elements.{All-from_recursion}
 use Rattle.mscp_packet.specs.Ends.{IsOfKind}
 use Rattle.mscp_events.specs.declared.connection.Connection.{Connection}
 use Rattle.mscp_events.specs.declared.connection.Connection.TheVariants.{First, Second}
-use Rattle.mscp_queue.specs.Kept.{ArePassedInOrder, units_of}
+use Rattle.mscp_queue.specs.Kept.{ArePassedInOrder}
 use Rattle.mscp_queue.specs.Kept as queue
 use Rattle.mscp_queue.specs.Lines.{Line}
 use Rattle.mscp_queue.specs.Records.{Record}
 use Rattle.mscp_controller.specs.declared.account.Account.{Account}
 use Rattle.mscp_controller.specs.declared.account.Accounts.{Accounts}
 use Rattle.mscp_controller.specs.Accounts.{account, untaken_in}
-use Rattle.mscp_controller.specs.Holdings.{Holdings, waiting_on}
 use Rattle.mscp_controller.specs.Kept.{IsAccount, IsHeld}
 use Rattle.mscp_controller.specs.Restored.{IsCovered, IsSound}
 use Rattle.mscp_events.specs.Settings.{Settings, room}
@@ -51,50 +49,3 @@ sound_seen {c = c} {line} {accounts} h q o = record {
   first = covered_of (h.account First);
   second = covered_of (h.account Second);
 }
-
-own_account : {c : Settings} {rs : List Record} {via : Connection} {ends : List End} (own : Account)
-    → IsCovered c rs via ends → own.waiting ≡ length (waiting_on via rs) → own.untaken.items ≡ ends
-    → IsAccount c rs via own
-own_account {c} {rs} {via} {ends} own h counted e =
-    let covered = h.covered in
-    let fits = h.fits in
-    record {
-      counted = counted;
-      covered = omega (arith, counted, covered, ap length e);
-      fits = omega (arith, counted, fits);
-      shaped = recursion_from_All IsOfKind own.untaken.items (subst (All IsOfKind) (sym e) h.shaped);
-    }
-
--- a controller that is made of what is sound holds it
-pub held_restored : {K : Type 0} {h : Holdings K} {line : Line K} {accounts : Accounts} → IsSound h
-    → line ≡ record {
-      room = room h.settings;
-      budget = h.settings.budget;
-      longest = h.settings.longest;
-      waiting = h.waiting;
-      drives = h.drives;
-      begun = h.begun;
-      picker = h.picker;
-    }
-    → accounts ≡ record {
-      first = record { waiting = length (waiting_on First h.waiting); untaken = record { items = h.untaken.first } };
-      second = record { waiting = length (waiting_on Second h.waiting); untaken = record { items = h.untaken.second } };
-    }
-    → IsHeld h.settings line accounts
-held_restored {K} {h} {line} {accounts} s e a =
-    let c = h.settings in
-    let each : (via : Connection) → IsAccount c h.waiting via (account via accounts) =
-    λ via. elim via as (λ via. IsAccount c h.waiting via (account via accounts)) [
-      | First ↦ own_account accounts.first s.first (ap (λ (x : Accounts). x.first.waiting) a)
-          (ap (λ (x : Accounts). x.first.untaken.items) a)
-      | Second ↦ own_account accounts.second s.second (ap (λ (x : Accounts). x.second.waiting) a)
-          (ap (λ (x : Accounts). x.second.untaken.items) a)
-    ] in
-    record {
-      valid = s.valid;
-      account = λ via. subst (λ (l : Line K). IsAccount c l.waiting via (account via accounts)) (sym e) (each via);
-      same_room = ap (λ (l : Line K). l.room) e;
-      same_budget = ap (λ (l : Line K). l.budget) e;
-      same_longest = ap (λ (l : Line K). l.longest) e;
-      units = ap (λ (l : Line K). units_of l.drives) e ∙ s.units;
-    }

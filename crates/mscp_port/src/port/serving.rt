@@ -1,6 +1,6 @@
 // How blocks are moved.
 
-ghost use Rattle.std.specs.Prelude.{◌≡◌, ◌≤◌, ◌%◌, ◌⊎◌, [], true, Contains, IfSome, Option, None, Some};
+ghost use Rattle.std.specs.Prelude.{◌≡◌, ◌≤◌, ◌%◌, ◌⊎◌, [], Contains, IfSome, Option, None, Some};
 ghost use Rattle.mscp_port.specs.declared.buffers.Buffer.{Buffer as Kept};
 ghost use Rattle.mscp_port.specs.Blocks.{block_of as block_after, first_of, has_host_bytes as has_bytes, move_of, refusal_of, task_of, writes as writes_to};
 ghost use Rattle.mscp_queue.specs.declared.upcoming.Upcoming.{Upcoming as Foretold};

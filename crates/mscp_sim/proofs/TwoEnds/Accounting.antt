@@ -1,8 +1,7 @@
 -- What a host keeps is what the talk so far says: after a turn that hands over no end.
 use Rattle.std.proofs.Common.{◌≡◌, ℕ, ◌+◌, Bool, true, false, cond, List, [], ◌∷◌, ◌++◌, map, refl, ap, sym, ◌∙◌, append-nil, arith}
-use Rattle.std.specs.Prelude.{filter, find, nat_lt, not, ◌&&◌, ◌||◌, Option, Some, None, is_some, option_map, unwrap_or}
+use Rattle.std.specs.Prelude.{filter, find, not, ◌&&◌, Option, Some, None, is_some, option_map}
 use Rattle.std.specs.Option.{option_or}
-use Rattle.std.specs.List.{list_any}
 use Rattle.std.proofs.Math.Bool.{and-false, or-false}
 use Rattle.std.proofs.lemmas.Bool.{false≢true, true≢false}
 use Rattle.std.proofs.lemmas.List.{map-append}
@@ -12,14 +11,14 @@ use Rattle.mscp_events.specs.declared.connection.Connection.{Connection}
 use Rattle.mscp_queue.proofs.Lists.{every_from, filter_all}
 use Rattle.mscp_queue.proofs.Placed.{found_is, map_on}
 use Rattle.mscp_queue.proofs.Named.{own_side}
-use Rattle.mscp_events.specs.Settings.{Settings, credits_of}
+use Rattle.mscp_events.specs.Settings.{Settings}
 use Rattle.mscp_controller.specs.declared.entry.Sent.{Sent}
 use Rattle.mscp_host.specs.declared.submission.Submission.{Submission}
-use Rattle.mscp_host.specs.Accounts.{is_immediate, oldest, poll_of, submission_of, submitted, watching}
+use Rattle.mscp_host.specs.Accounts.{is_immediate, oldest, submitted, watching}
 use Rattle.mscp_sim.specs.declared.conversing.Turn.{Turn}
 use Rattle.mscp_sim.specs.declared.conversing.Turn.TheVariants as turns
 use Rattle.mscp_sim.specs.declared.conversing.Heard.TheVariants as hears
-use Rattle.mscp_sim.specs.Talks.{Said, Talk, account_at, answers_of, is_asked, before, handed_over, hands_over, in_flight, is_ended, is_poll, is_sent, is_turn_of, is_outstanding, last_answer, opcode, opcode_in, outstanding, asked_for, reference, reference_found, reference_in, said, sends, polled_is_outstanding, submission_at, unit_or_0, unit_in, unit_named, watch_at}
+use Rattle.mscp_sim.specs.Talks.{Said, Talk, account_at, answers_of, is_asked, handed_over, hands_over, in_flight, is_poll, is_sent, is_turn_of, is_outstanding, last_answer, opcode, opcode_in, outstanding, asked_for, reference, said, sends, polled_is_outstanding, submission_at, unit_in, unit_named, watch_at}
 use Rattle.mscp_sim.proofs.TwoEnds.Outstanding.{any_more, ends_now, found_stands, last_same, outstanding_more, untold}
 
 -- ---- whose turn it is

@@ -7,7 +7,6 @@ use Rattle.mscp_queue.specs.Names.{name_on, same_connection, same_name}
 use Rattle.mscp_queue.proofs.Named.{own_side}
 use Rattle.mscp_queue.specs.Records.{Record}
 use Rattle.mscp_queue.specs.declared.view.Choice.{Choice}
-use Rattle.mscp_queue.specs.Figures.{figure_of_name}
 use Rattle.mscp_queue.specs.Kept.{names}
 use Rattle.mscp_events.specs.Settings.{Settings}
 use Rattle.mscp_controller.specs.Commands.{name, waiting}

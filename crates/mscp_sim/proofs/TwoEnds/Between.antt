@@ -1,6 +1,6 @@
 -- Where a step lies between two polls about one command, the second is told less.
 use Rattle.std.proofs.Common.{◌≡◌, inl, inr, ⊎_elim, ℕ, zero, suc, ◌+◌, ◌-◌, ◌<◌, ◌≤◌, Bool, true, false, cond, List, [], ◌∷◌, ◌++◌, take, length, refl, ap, sym, ◌∙◌, subst, arith, append-nil}
-use Rattle.std.specs.Prelude.{flat_map, nat_eq, nat_lt, not, ◌&&◌, ◌||◌, Option, Some, None, is_some, option_to_list, unwrap_or}
+use Rattle.std.specs.Prelude.{flat_map, nat_eq, not, ◌&&◌, ◌||◌, Option, Some, None, is_some, option_to_list, unwrap_or}
 use Rattle.std.specs.List.{AllByRecursion, list_any}
 use Rattle.std.proofs.Math.Bool.{and-false, or-true}
 use Rattle.std.proofs.lemmas.Bool.{cases_eq, cases_lt, eqb-true, false≢true, true≢false}
@@ -16,14 +16,11 @@ use Rattle.mscp_controller.proofs.Promise.Sides.{queues_by}
 use Rattle.mscp_controller.specs.Commands.{sent_command}
 use Rattle.mscp_controller.specs.Figures.{figure, figure_of}
 use Rattle.mscp_controller.specs.Headline.{Promise}
-use Rattle.mscp_events.specs.declared.event.Event.TheVariants as events
-use Rattle.mscp_controller.specs.declared.entry.Entry.TheVariants as entries
 use Rattle.mscp_host.specs.Accounts.{Account}
 use Rattle.mscp_queue.proofs.Placed.{found_is}
 use Rattle.mscp_sim.specs.declared.conversing.Turn.{Turn}
-use Rattle.mscp_sim.specs.declared.conversing.Turn.TheVariants as turns
 use Rattle.mscp_sim.specs.Talks as talks
-use Rattle.mscp_sim.specs.Talks.{Talk, accounts_at, answers_of, is_asked, asks_about, before, handed_over, hands_over, is_ended, is_it, is_outstanding, last_of, outstanding, asked_for, reference_found, said, sends, figure_told, trace_of}
+use Rattle.mscp_sim.specs.Talks.{Talk, accounts_at, answers_of, is_asked, asks_about, before, handed_over, is_it, is_outstanding, last_of, outstanding, asked_for, reference_found, said, sends, figure_told, trace_of}
 use Rattle.mscp_sim.specs.TwoEnds.{IsHeard, IsStepTurn, Stands, StepsSincePolls}
 use Rattle.mscp_sim.proofs.TwoEnds.Figured.{AtMost, contains_waiting, most_moment, part_of, waits_at}
 use Rattle.mscp_sim.proofs.TwoEnds.Outstanding.{any_more, before_below, both_true, found_below, found_stands}

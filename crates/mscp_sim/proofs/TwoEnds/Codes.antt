@@ -1,12 +1,10 @@
 -- The endcodes of commands are those of their opcode bytes.
-use Rattle.std.proofs.Common.{◌≡◌, ℕ, true, false, List, refl, length, subst, arith}
-use Rattle.std.specs.Prelude.{find, nat_eq, nat_lt, if◌then◌else◌, slice_index, Option, Some, None}
+use Rattle.std.proofs.Common.{◌≡◌, ℕ, List, refl, arith}
+use Rattle.std.specs.Prelude.{find, nat_eq, slice_index, Option}
 use Rattle.std.proofs.lemmas.Bool.{eqb-true}
 use Rattle.mscp_packet.specs.declared.class.Opcode.{Opcode}
-use Rattle.mscp_packet.specs.declared.class.Opcode.TheVariants as codes
-use Rattle.mscp_packet.specs.declared.command.MoveKind.TheVariants as moves
 use Rattle.mscp_packet.specs.declared.command.Order.TheVariants as orders
-use Rattle.mscp_packet.specs.Opcodes.{least, row_of, opcode_of, opcodes}
+use Rattle.mscp_packet.specs.Opcodes.{row_of, opcode_of, opcodes}
 use Rattle.mscp_packet.specs.Commands.{command_of, order_with, parameters}
 use Rattle.mscp_packet.specs.Statuses.{invalid_length}
 use Rattle.mscp_queue.proofs.Placed.{found_is}

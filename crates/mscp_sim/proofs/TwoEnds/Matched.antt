@@ -1,5 +1,5 @@
 -- What the hosts of both connections and a controller keep of each other after a turn of one.
-use Rattle.std.proofs.Common.{◌≡◌, ℕ, false, List, sym, subst, arith}
+use Rattle.std.proofs.Common.{◌≡◌, ℕ, false, List, sym, subst}
 use Rattle.mscp_events.specs.declared.connection.Connection.{Connection}
 use Rattle.mscp_queue.specs.Names.{same_connection}
 use Rattle.mscp_events.specs.Both.{Both, of, put}

@@ -14,7 +14,7 @@ use Rattle.mscp_host.specs.declared.news.News.{News}
 use Rattle.mscp_host.specs.declared.news.News.TheVariants as news
 use Rattle.mscp_host.specs.declared.submission.Submission.{Submission}
 use Rattle.mscp_host.specs.Accounts as host
-use Rattle.mscp_host.specs.Accounts.{Account, answered, has_reference, heard, last_told, news_of_figure, news_with, told_of}
+use Rattle.mscp_host.specs.Accounts.{Account, answered, has_reference, heard, last_told, news_of_figure, news_with}
 use Rattle.mscp_queue.proofs.Placed.{found_is}
 use Rattle.mscp_sim.specs.declared.conversing.Heard.{Heard}
 use Rattle.mscp_sim.specs.declared.conversing.Heard.TheVariants as hears

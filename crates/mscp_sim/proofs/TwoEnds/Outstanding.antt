@@ -1,6 +1,6 @@
 -- Which commands are outstanding, and what was told of them, after one more turn.
-use Rattle.std.proofs.Common.{◌≡◌, ℕ, ◌+◌, ◌<◌, ◌≤◌, Bool, true, false, cond, List, [], ◌∷◌, ◌++◌, refl, ap, sym, ◌∙◌, subst, arith, append-nil}
-use Rattle.std.specs.Prelude.{filter, find, flat_map, nat_lt, not, ◌&&◌, ◌||◌, Option, Some, None, is_some, unwrap_or}
+use Rattle.std.proofs.Common.{◌≡◌, ℕ, ◌+◌, ◌<◌, Bool, true, false, cond, List, [], ◌∷◌, ◌++◌, refl, ap, sym, ◌∙◌, subst, arith, append-nil}
+use Rattle.std.specs.Prelude.{filter, find, flat_map, not, ◌&&◌, ◌||◌, Option, Some, None, is_some, unwrap_or}
 use Rattle.std.specs.List.{AllByRecursion, list_any}
 use Rattle.std.proofs.Math.Bool.{and-true, or-false}
 use Rattle.std.proofs.lemmas.Bool.{false≢true}
@@ -11,7 +11,7 @@ use Rattle.mscp_events.specs.declared.connection.Connection.{Connection}
 use Rattle.mscp_queue.proofs.Lists.{every_kept, every_weaker, filter_filter, filter_on, range_below, range_more}
 use Rattle.mscp_events.specs.Settings.{Settings}
 use Rattle.mscp_controller.specs.History.{last_or}
-use Rattle.mscp_sim.specs.Talks.{Talk, answers_about, answers_of, is_asked, before, handed_over, hands_over, is_ended, is_it, is_outstanding, last_answer, last_of, outstanding, asked_for, reference, said, sends, figure_told}
+use Rattle.mscp_sim.specs.Talks.{Talk, answers_about, answers_of, before, handed_over, hands_over, is_ended, is_it, is_outstanding, last_answer, last_of, outstanding, reference, said, sends}
 
 -- ---- one more turn
 

@@ -1,9 +1,8 @@
 -- At most one poll is outstanding, after a turn that hands over no end.
-use Rattle.std.proofs.Common.{◌≡◌, ℕ, ◌+◌, Bool, true, false, cond, [], ◌∷◌, ◌++◌, refl, ap, sym, ◌∙◌, subst, append-nil, arith}
-use Rattle.std.specs.Prelude.{find, Option, Some, None, is_some}
+use Rattle.std.proofs.Common.{◌≡◌, ℕ, ◌+◌, Bool, true, false, ap, append-nil, arith}
+use Rattle.std.specs.Prelude.{find, Option, Some, None}
 use Rattle.std.specs.Option.{option_or}
-use Rattle.std.specs.List.{AllByRecursion}
-use Rattle.std.proofs.lemmas.Bool.{false≢true, true≢false}
+use Rattle.std.proofs.lemmas.Bool.{true≢false}
 use Rattle.std.proofs.lemmas.List.Folds.{find-append}
 use Rattle.mscp_events.specs.declared.connection.Connection.{Connection}
 use Rattle.mscp_queue.proofs.Lists.{every_append, every_weaker}
@@ -27,9 +26,6 @@ flight_quiet via talk j n s = ap (find (asking via talk)) (outs_quiet via talk j
 pub one_quiet : (via : Connection) (talk : Talk) (j : ℕ) → NoEnd via talk j → sends via (said talk j) ≡ false
     → OnePoll via talk j → OnePoll via talk (j + 1)
 one_quiet via talk j n s o = search (arith, outs_quiet via talk j n s)
-
-or_left : (o : Option ℕ) (p : ℕ) (r : Option ℕ) → o ≡ Some p → option_or o r ≡ Some p
-or_left o p r h3 = grind (arith, false≢true)
 
 or_nothing : (o : Option ℕ) → option_or o None ≡ o
 or_nothing o = grind arith

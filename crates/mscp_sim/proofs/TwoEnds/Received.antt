@@ -1,6 +1,6 @@
 -- A whole turn: what the host keeps is what the talk says, and at most one poll is outstanding.
-use Rattle.std.proofs.Common.{◌≡◌, ℕ, ◌+◌, ◌<◌, ◌≤◌, Bool, true, false, map, refl, ap, sym, ◌∙◌, subst, arith}
-use Rattle.std.specs.Prelude.{filter, find, nat_eq, not, ◌&&◌, if◌then◌else◌, Option, Some, None, is_some, option_map, unwrap_or}
+use Rattle.std.proofs.Common.{◌≡◌, ℕ, ◌+◌, ◌<◌, Bool, true, false, map, refl, ap, sym, ◌∙◌, subst, arith}
+use Rattle.std.specs.Prelude.{filter, nat_eq, not, if◌then◌else◌, Option, Some, None, is_some, option_map}
 use Rattle.std.specs.List.{AllByRecursion}
 use Rattle.std.proofs.Math.Bool.{and-false, and-true}
 use Rattle.std.proofs.lemmas.Bool.{false≢true, true≢false}
@@ -8,10 +8,9 @@ use Rattle.mscp_packet.specs.declared.end.End.{End}
 use Rattle.mscp_events.specs.declared.connection.Connection.{Connection}
 use Rattle.mscp_queue.proofs.Lists.{every_filter, every_weaker}
 use Rattle.mscp_queue.proofs.Placed.{filter_map_of}
-use Rattle.mscp_events.specs.Settings.{Settings, credits_of}
+use Rattle.mscp_events.specs.Settings.{Settings}
 use Rattle.mscp_host.specs.declared.watch.Watch.{Watch}
-use Rattle.mscp_host.specs.Accounts.{answered, outstanding_with, received, watch_after, without}
-use Rattle.mscp_sim.specs.Matches.{references, times}
+use Rattle.mscp_host.specs.Accounts.{received, watch_after, without}
 use Rattle.mscp_sim.specs.Talks.{Talk, account_at, is_asked, in_flight, is_outstanding, outstanding, asked_for, reference, reference_found, said, polled_is_outstanding, submission_at, watch_at}
 use Rattle.mscp_sim.proofs.TwoEnds.Outstanding.{found_below, stays_if}
 use Rattle.mscp_sim.proofs.TwoEnds.Receiving.{Gives, OnePoll, all_told, keep, once_at, outs_after, references_at}

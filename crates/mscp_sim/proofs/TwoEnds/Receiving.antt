@@ -12,7 +12,7 @@ use Rattle.mscp_events.specs.Settings.{Settings}
 use Rattle.mscp_host.specs.declared.submission.Submission.{Submission}
 use Rattle.mscp_host.specs.Accounts.{answered, outstanding_with, told_in, with_told}
 use Rattle.mscp_sim.specs.Matches.{references, times}
-use Rattle.mscp_sim.specs.Talks.{Talk, account_at, answers_of, is_asked, before, handed_over, figure_told, hands_over, in_flight, is_it, is_outstanding, opcode, outstanding, asked_for, reference, reference_found, said, sends, polled_is_outstanding, submission_at, unit_named, watch_at}
+use Rattle.mscp_sim.specs.Talks.{Talk, account_at, answers_of, is_asked, before, handed_over, figure_told, hands_over, in_flight, is_it, is_outstanding, outstanding, asked_for, reference, reference_found, said, sends, polled_is_outstanding, submission_at, watch_at}
 use Rattle.mscp_sim.proofs.TwoEnds.Outstanding.{ends_now, found_below, last_new, last_same, outstanding_are, outstanding_more}
 use Rattle.mscp_sim.proofs.TwoEnds.Singled.{any_before, found_in, only_one}
 

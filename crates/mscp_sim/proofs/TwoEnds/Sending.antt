@@ -1,6 +1,6 @@
 -- What a host sends the controller takes in, and the match is kept.
-use Rattle.std.proofs.Common.{◌≡◌, ℕ, ◌+◌, ◌-◌, ◌<◌, ◌^◌, Bool, true, false, cond, List, [], ◌∷◌, ◌++◌, length, refl, ap, sym, ◌∙◌, subst, arith, append-nil}
-use Rattle.std.specs.Prelude.{find, nat_eq, nat_lt, not, ◌&&◌, ◌||◌, if◌then◌else◌, slice_index, Option, Some, None, is_some, unwrap_or, Ok}
+use Rattle.std.proofs.Common.{◌≡◌, ℕ, ◌+◌, ◌-◌, ◌<◌, ◌^◌, Bool, true, false, cond, List, [], ◌∷◌, ◌++◌, refl, ap, sym, ◌∙◌, subst, arith, append-nil}
+use Rattle.std.specs.Prelude.{find, nat_eq, not, ◌&&◌, ◌||◌, if◌then◌else◌, slice_index, Option, Some, None, is_some, unwrap_or, Ok}
 use Rattle.std.specs.List.{AllByRecursion, list_any}
 use Rattle.std.proofs.lemmas.List.Folds.{list_any-append}
 use Rattle.std.proofs.lemmas.Bool.{eq-eqb, false≢true, true≢false}
@@ -18,7 +18,7 @@ use Rattle.mscp_queue.specs.Names.{name_on}
 use Rattle.mscp_queue.specs.Figures.{figure_of_name}
 use Rattle.mscp_controller.specs.Arrival.{credit_fault, fault_of, holds, is_queued, refusal}
 use Rattle.mscp_controller.proofs.Bridge.Accounts.{of_more}
-use Rattle.mscp_controller.specs.Holdings.{Holdings, aborting, after_message, answer_to_message, answered_end, arrives, balance_of, more_ends, numbers, numbers_ended, with_end, outstanding_of, queued, taken_as, waiting_on}
+use Rattle.mscp_controller.specs.Holdings.{Holdings, aborting, after_message, answer_to_message, answered_end, arrives, balance_of, numbers, numbers_ended, with_end, outstanding_of, queued, taken_as, waiting_on}
 use Rattle.mscp_events.specs.Both.{of}
 use Rattle.mscp_host.specs.declared.news.HostFault.TheVariants as faults
 use Rattle.mscp_host.specs.declared.submission.Submission.{Submission}
@@ -28,7 +28,7 @@ use Rattle.mscp_events.specs.Settings.{Settings}
 use Rattle.mscp_queue.specs.Orders.{endcode}
 use Rattle.mscp_host.specs.Accounts as host
 use Rattle.mscp_host.specs.Accounts.{Account, balance, has_reference, is_code_of, is_immediate, poll_of, submission_of, submitted, watching}
-use Rattle.mscp_sim.specs.Matches.{Flight, HasFlight, HasOwnEndcode, IsSmall, Matches, references, times}
+use Rattle.mscp_sim.specs.Matches.{Flight, HasFlight, IsSmall, Matches, times}
 use Rattle.mscp_sim.proofs.TwoEnds.Codes.{coded}
 use Rattle.mscp_sim.proofs.TwoEnds.Counting.{any_alike, has_any}
 use Rattle.mscp_sim.proofs.TwoEnds.Matching.{Adds, flight_on, pushes_match}

@@ -1,7 +1,6 @@
 -- What each connection has one of.
-use Rattle.std.proofs.Common.{◌≡◌, Bool, true, false, refl, subst, arith}
+use Rattle.std.proofs.Common.{◌≡◌, false, arith}
 use Rattle.mscp_events.specs.declared.connection.Connection.{Connection}
-use Rattle.mscp_events.specs.declared.connection.Connection.TheVariants.{First, Second}
 use Rattle.mscp_queue.specs.Names.{same_connection}
 use Rattle.mscp_queue.proofs.Named.{one_side}
 use Rattle.std.proofs.lemmas.Bool.{true≢false}

@@ -20,10 +20,6 @@ use Rattle.mscp_sim.proofs.TwoEnds.Sending.{carries, free, polled_match, same_re
 
 -- ---- what was answered
 
-abbrev items_or : Result (ArrayVec ℕ) HostFault → ArrayVec ℕ → List ℕ
-items_or (Ok b) other = b.items
-items_or (Err fault) other = other.items
-
 -- the host asks
 abbrev pub is_ask : Result Poll HostFault → Bool
 is_ask (Ok (polls.Ask b)) = true

@@ -1,6 +1,6 @@
 -- A turn in which a host takes: what it says of the end, and that the other's side stays as it was.
-use Rattle.std.proofs.Common.{◌≡◌, ℕ, ◌≤◌, Bool, true, false, List, refl, ap, sym, ◌∙◌, subst, arith}
-use Rattle.std.specs.Prelude.{nat_eq, ◌&&◌, slice_get, Option, Some, None, is_some, unwrap_or, Ok}
+use Rattle.std.proofs.Common.{◌≡◌, ℕ, ◌≤◌, true, false, List, refl, ap, sym, ◌∙◌, subst, arith}
+use Rattle.std.specs.Prelude.{nat_eq, ◌&&◌, slice_get, Option, Some, None, unwrap_or, Ok}
 use Rattle.std.proofs.lemmas.Bool.{false≢true, true≢false}
 use Rattle.arrayvec.specs.ArrayVec.{ArrayVec}
 use Rattle.mscp_packet.specs.declared.end.End.{End}

@@ -1,16 +1,13 @@
 -- A whole talk: what is heard in each turn.
-use Rattle.std.proofs.Common.{◌≡◌, ⊎_elim, ℕ, suc, ◌+◌, ◌-◌, ◌<◌, ◌≤◌, true, false, List, [], ◌∷◌, ◌++◌, map, take, drop, length, get_or, refl, ap, sym, ◌∙◌, subst, arith}
-use Rattle.std.specs.Prelude.{nat_eq, zip, Option, Some, None, is_some, option_to_list}
+use Rattle.std.proofs.Common.{◌≡◌, ⊎_elim, ℕ, ◌+◌, ◌<◌, ◌≤◌, true, false, List, [], ◌∷◌, ◌++◌, map, take, drop, length, refl, ap, sym, ◌∙◌, subst, arith}
+use Rattle.std.specs.Prelude.{zip, Option, Some, None, option_to_list}
 use Rattle.std.proofs.lemmas.Bool.{cases_eq, false≢true}
 use Rattle.std.proofs.lemmas.List.{drop-drop, length-drop, get_or-drop}
-use Rattle.mscp_packet.specs.Number.{num}
 use Rattle.mscp_events.specs.declared.connection.Connection.{Connection}
 use Rattle.mscp_events.specs.declared.connection.Connection.TheVariants.{First, Second}
-use Rattle.mscp_queue.specs.Names.{same_connection}
 use Rattle.mscp_queue.proofs.Named.{one_side}
 use Rattle.mscp_queue.proofs.Placed.{found_is}
 use Rattle.mscp_queue.specs.declared.view.Choice.{Choice}
-use Rattle.mscp_controller.specs.declared.entry.Entry.TheVariants as entries
 use Rattle.mscp_events.specs.Both.{Both, of}
 use Rattle.mscp_controller.specs.Legal.{IsLegal, IsPicked}
 use Rattle.mscp_controller.specs.Sweeping.{IsSweeping}
@@ -27,7 +24,7 @@ use Rattle.mscp_sim.specs.declared.conversing.Turn.{Turn}
 use Rattle.mscp_sim.specs.declared.conversing.Turn.TheVariants as turns
 use Rattle.mscp_sim.specs.declared.conversing.Heard.TheVariants as hears
 use Rattle.mscp_sim.specs.Matches.{Flight, Match, Matches}
-use Rattle.mscp_sim.specs.Talks.{Said, Talk, handed_over, hands_over, outstanding, reference, said, trace_of}
+use Rattle.mscp_sim.specs.Talks.{Said, Talk, handed_over, hands_over, outstanding, said, trace_of}
 use Rattle.mscp_sim.specs.Conversing.{Converses, AnswersTurn, Says}
 use Rattle.mscp_sim.specs.TwoEnds.{AreTwoEnds, IsHeard, Stands}
 use Rattle.mscp_sim.proofs.TwoEnds.Asking.{poll_turn}

@@ -22,7 +22,7 @@ use Rattle.mscp_sim.specs.declared.conversing.Turn.TheVariants as turns
 use Rattle.mscp_sim.specs.declared.conversing.Heard.{Heard}
 use Rattle.mscp_sim.specs.declared.conversing.Heard.TheVariants as hears
 use Rattle.mscp_sim.specs.Matches.{Flight, Matches}
-use Rattle.mscp_sim.specs.Talks.{Said, Talk, account_at, accounts_at, is_asked, is_poll, is_sent, is_turn_of, asks_about, handed_over, hands_over, in_flight, is_outstanding, reference, said, sends, figure_told, trace_of}
+use Rattle.mscp_sim.specs.Talks.{Said, Talk, account_at, accounts_at, is_asked, is_poll, is_sent, asks_about, handed_over, hands_over, in_flight, is_outstanding, reference, said, sends, figure_told, trace_of}
 use Rattle.mscp_sim.specs.Conversing.{AnswersTurn, Says}
 use Rattle.mscp_sim.specs.TwoEnds.{IsHeard, Stands}
 use Rattle.mscp_sim.proofs.TwoEnds.Accounting.{NoEnd, account_quiet, none_handed, unsent}
