@@ -35,10 +35,7 @@ module _ {X : Type 0} (p : X → Bool) where
 
   pub count_pushed : (xs : List X) (x : X) → count_by p (xs ++ x ∷ []) ≡ count_by p xs + cond (p x) 1 0
   unfolding one_of
-  count_pushed xs x =
-      let parts = sum_by-append one_of xs (x ∷ []) in
-      let last = sum_by-cons one_of x [] in
-      omega (arith, parts, last)
+  count_pushed xs x = grind (arith, sum_by-append, one_of, sum_by-cons)
 
   pub count_left : (d : X) (xs : List X) (place : ℕ) → place < length xs
       → count_by p (take place xs ++ drop (place + 1) xs) + cond (p (get_or xs place d)) 1 0 ≡ count_by p xs
@@ -57,10 +54,7 @@ module _ {X : Type 0} (p : X → Bool) where
       → count_by p (set xs place x) ≡ count_by p xs
   unfolding one_of
   count_set d [] place x l e = refl
-  count_set d (y ∷ ys) zero x l e =
-      let old = sum_by-cons one_of y ys in
-      let new = sum_by-cons one_of x ys in
-      new ∙ ap (λ b. cond b 1 0 + count_by p ys) e ∙ sym old
+  count_set d (y ∷ ys) zero x l e = grind (arith, sum_by-cons, one_of)
   count_set d (y ∷ ys) (suc place) x l e =
       let rest = count_set d ys place x (omega (arith, l)) e in
       let old = sum_by-cons one_of y ys in
@@ -113,8 +107,4 @@ counted_left {counts} {choices} {new} place own n h long low l is less e =
 pub some_counted : {counts : List ℕ} {choices : List Choice} (place own : ℕ) → IsCounted counts choices → own < 256
     → place < length choices → own ≡ low_byte (get_or choices place no_choice).reference → 1 ≤ get_or counts own 0
 some_counted {counts} {choices} place own h low l is =
-    let x = get_or choices place no_choice in
-    let left = count_left (has_byte own) no_choice choices place l in
-    let on : bit (has_byte own x) ≡ 1 = ap bit (eq-eqb (low_byte x.reference) own (sym is)) in
-    let was = h.each own low in
-    omega (arith, left, on, was)
+    search (arith, count_left (has_byte own) no_choice choices place l, eq-eqb)

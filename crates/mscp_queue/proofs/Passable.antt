@@ -18,36 +18,30 @@ use Rattle.mscp_queue.proofs.Lists.{every_of, every_weaker, filter_all, range_be
 -- ---- all may start
 
 not_sequential : (o : Order) → is_move o ≡ true → is_sequential o ≡ false
-not_sequential (orders.Move kind count block) m = refl
-not_sequential _ m = absurd (false≢true m)
+not_sequential o h1 = grind (arith, false≢true)
 
 abbrev ArePassable : ℕ → ℕ → List Record → Type 0
 ArePassable budget longest rs = AllByRecursion (λ z. is_passable budget longest z ≡ true) rs
 
 unfenced : (a : Bool) → (a && false) ≡ false
-unfenced true = refl
-unfenced false = refl
+unfenced a = grind arith
 
 all_free : (budget longest : ℕ) (r : Record) (front : List Record) → is_sequential r.command.order ≡ false
     → ArePassable budget longest front → is_free r front ≡ true
 all_free budget longest r [] s h = refl
 all_free budget longest r (z ∷ zs) s h =
-    let own = not_sequential z.command.order (and_parts (is_move z.command.order) (nat_le (z.passed + longest) budget)
-    h.0).0 in
-    let same = nat_eq z.command.unit r.command.unit in
-    ap (λ b. not (same && (b || is_sequential r.command.order)) && is_free r zs) own
-    ∙ (ap (λ b. not (same && b) && is_free r zs) s
-    ∙ (ap (λ b. not b && is_free r zs) (unfenced same) ∙ all_free budget longest r zs s h.1))
+    search (arith, not_sequential z.command.order (and_parts (is_move z.command.order) (nat_le (z.passed + longest)
+    budget) h.0).0, and_parts (is_move z.command.order) (nat_le (z.passed + longest) budget) h.0, all_free budget
+    longest r zs s h.1, not, unfenced)
 
 all_affordable : (budget longest : ℕ) (r : Record) (front : List Record) → r.weight ≤ longest
     → ArePassable budget longest front
     → is_affordable budget r front ≡ true
 all_affordable budget longest r [] l h = refl
 all_affordable budget longest r (z ∷ zs) l h =
-    let own = leb-true (z.passed + longest) budget
-    (and_parts (is_move z.command.order) (nat_le (z.passed + longest) budget) h.0).1 in
-    ap (λ b. b && is_affordable budget r zs) (le-leb (z.passed + r.weight) budget (omega (arith, own, l)))
-    ∙ all_affordable budget longest r zs l h.1
+    search (arith, leb-true (z.passed + longest) budget (and_parts (is_move z.command.order) (nat_le (z.passed +
+    longest) budget) h.0).1, and_parts (is_move z.command.order) (nat_le (z.passed + longest) budget) h.0,
+    all_affordable budget longest r zs l h.1, le-leb)
 
 opens_at : (budget longest : ℕ) (rs : List Record) (place : ℕ) → ArePassable budget longest rs
     → All (λ r. r.weight ≤ longest) rs → place < length rs
