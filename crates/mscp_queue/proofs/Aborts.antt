@@ -1,5 +1,5 @@
 -- A command that is aborted is taken out of those that wait, and no other.
-use Rattle.std.proofs.Common.{◌≡◌, ◌≢◌, ⊎_elim, ℕ, ◌+◌, ◌<◌, ◌≤◌, Bool, true, false, cond, not, List, [], ◌∷◌, ◌++◌, length, refl, ap, sym, ◌∙◌, subst, arith}
+use Rattle.std.proofs.Common.{◌≡◌, ◌≢◌, ⊎_elim, ℕ, ◌+◌, ◌<◌, ◌≤◌, Bool, true, false, cond, not, List, [], ◌∷◌, ◌++◌, length, ap, sym, ◌∙◌, arith}
 use Rattle.std.specs.Prelude.{filter, find, option_to_list, remove, slice_index_or, unwrap_or, is_some, if◌then◌else◌, Option, Some, None}
 use Rattle.std.specs.List.{AllByRecursion, position}
 use Rattle.std.proofs.lemmas.Bool.{false≢true, true≢false}
@@ -8,7 +8,6 @@ use Rattle.std.proofs.lemmas.List.Elements.{All-from_recursion, filter-append, r
 use Rattle.mscp_queue.specs.declared.drive.Drive.{Drive}
 use Rattle.mscp_queue.specs.Kept.{AreApart, IsHeld, IsKept, IsStillServable, names, units_of}
 use Rattle.mscp_queue.specs.declared.name.Name.{Name}
-use Rattle.mscp_queue.specs.Names.{same_name}
 use Rattle.mscp_queue.specs.Serving.{begun_without, is_begun}
 use Rattle.mscp_queue.proofs.Begun.{still_aborted, still_begun}
 use Rattle.mscp_queue.specs.Records.{Record, has_name, is_in_service, name_of, no_record, record_at, without}
@@ -38,28 +37,11 @@ pub record Cut (gone : Name) (rs A : List Record) (r : Record) (B : List Record)
 cut_by : (gone : Name) (rs A : List Record) (r : Record) (B : List Record) → AreApart (names rs)
     → Found (has_name gone) rs A r B → Cut gone rs A r B
 cut_by gone rs A r B apart f =
-    let same : names rs ≡ names A ++ name_of r ∷ names B =
-    ap names f.is ∙ map-append name_of A (r ∷ B) in
-    let number : name_of r ≡ gone = same_is (name_of r) gone f.passed in
-    record {
-      is = f.is;
-      own = f.passed;
-      before = f.before;
-      behind = others gone B (subst (λ n. AllByRecursion (λ y. y ≢ n) (names B)) number
-          (apart_behind (names A) (name_of r) (names B) (subst AreApart same apart)));
-    }
+    search (arith, map-append name_of A (r ∷ B), same_is (name_of r) gone f.passed, others, apart_behind)
 
 without_cut : (gone : Name) (rs A : List Record) (r : Record) (B : List Record) → Cut gone rs A r B
     → without gone rs ≡ A ++ B
-without_cut gone rs A r B k =
-    let keep : Record → Bool = λ z. not (has_name gone z) in
-    let stays : (zs : List Record) → AllByRecursion (λ z. has_name gone z ≡ false) zs → filter keep zs ≡ zs =
-    λ zs h. filter_all keep zs (every_weaker (λ z. has_name gone z ≡ false) (λ z. keep z ≡ true)
-    (λ z e. ap not e) zs h) in
-    ap (filter keep) k.is
-    ∙ (filter-append keep A (r ∷ B) ∙ (ap (λ zs. zs ++ filter keep (r ∷ B)) (stays A k.before)
-    ∙ (ap (λ b. A ++ cond (not b) (r ∷ filter keep B) (filter keep B)) k.own
-    ∙ ap (λ zs. A ++ zs) (stays B k.behind))))
+without_cut gone rs A r B k = search (arith, not, filter_all, every_weaker, filter-append)
 
 -- ---- the one that is found
 
@@ -108,33 +90,13 @@ pub record AbortsNone (gone : Name) (rs : List Record) : Type 0 where
 pub aborts_none : (gone : Name) (rs : List Record) → position (has_name gone) rs ≡ None
     → AbortsNone gone rs
 aborts_none gone rs h =
-    ⊎_elim
-    (λ none. record {
-      found = find_none (has_name gone) rs none;
-      left = filter_all (λ z. not (has_name gone z)) rs
-          (every_weaker (λ z. has_name gone z ≡ false) (λ z. not (has_name gone z) ≡ true)
-          (λ z e. ap not e) rs none);
-    })
-    (λ some. let f = some.3 in absurd (true≢false (ap is_some
-    (sym (position_first (has_name gone) some.0 some.1 some.2 f.before f.passed)
-    ∙ (ap (position (has_name gone)) (sym f.is) ∙ h)))))
-    (find_cases (has_name gone) rs)
+    search (arith, find_cases (has_name gone) rs, ⊎_elim, find_none, filter_all, not, every_weaker, true≢false,
+    position_first)
 
 -- the records that have the name are the one that is found
 pub found_once : (gone : Name) (rs : List Record) → AreApart (names rs)
     → filter (has_name gone) rs ≡ option_to_list (find (has_name gone) rs)
-found_once gone rs apart =
-    let p = has_name gone in
-    ⊎_elim
-    (λ none. filter_none p rs none ∙ ap option_to_list (sym (find_none p rs none)))
-    (λ some.
-    let A = some.0 in
-    let r = some.1 in
-    let B = some.2 in
-    let k = cut_by gone rs A r B apart some.3 in
-    ap (filter p) k.is ∙ (filter_one p A r B k.before k.own k.behind
-    ∙ ap option_to_list (sym (ap (find p) k.is ∙ find_first p A r B k.before k.own))))
-    (find_cases p rs)
+found_once gone rs apart = search (arith, ⊎_elim, filter_none, find_none, cut_by, filter_one, find_first, find_cases)
 
 -- none passes a test where none is found
 missing : (p : Record → Bool) (rs : List Record) (place : ℕ) (d : Record) → find p rs ≡ None → place < length rs
@@ -149,10 +111,7 @@ missing p rs place d h l =
 names_kept : (p : Record → Bool) (P : Name → Type 0) (rs : List Record) → AllByRecursion P (names rs)
     → AllByRecursion P (names (filter p rs))
 names_kept p P [] h = tt
-names_kept p P (r ∷ rs) h =
-    let rest = names_kept p P rs h.1 in
-    elim (p r) as (λ b. AllByRecursion P (names (cond b (r ∷ filter p rs) (filter p rs))))
-    [ true ↦ (h.0, rest) | false ↦ rest ]
+names_kept p P (r ∷ rs) h = search (arith, names_kept p P rs h.1)
 
 apart_kept : (p : Record → Bool) (rs : List Record) → AreApart (names rs) → AreApart (names (filter p rs))
 apart_kept p [] h = tt
@@ -163,21 +122,7 @@ apart_kept p (r ∷ rs) h =
 
 fewer_of : {X : Type 0} (p q : X → Bool) (xs : List X) → length (filter p (filter q xs)) ≤ length (filter p xs)
 fewer_of p q [] = omega arith
-fewer_of {X} p q (x ∷ xs) =
-    let rest = fewer_of p q xs in
-    let both : (b d : Bool) → length (cond b (cond d (x ∷ filter p (filter q xs)) (filter p (filter q xs)))
-    (filter p (filter q xs))) ≤ length (cond d (x ∷ filter p xs) (filter p xs)) =
-    λ b d. elim d as (λ d. length (cond b (cond d (x ∷ filter p (filter q xs)) (filter p (filter q xs)))
-    (filter p (filter q xs))) ≤ length (cond d (x ∷ filter p xs) (filter p xs))) [
-      | true ↦ elim b as (λ b. length (cond b (x ∷ filter p (filter q xs)) (filter p (filter q xs)))
-          ≤ length (x ∷ filter p xs)) [ true ↦ omega arith | false ↦ omega arith ]
-      | false ↦ elim b as (λ b. length (cond b (filter p (filter q xs)) (filter p (filter q xs)))
-          ≤ length (filter p xs)) [ true ↦ rest | false ↦ rest ]
-    ] in
-    let split : (b : Bool) → length (filter p (cond b (x ∷ filter q xs) (filter q xs))) ≤ length (filter p (x ∷ xs)) =
-    λ b. elim b as (λ b. length (filter p (cond b (x ∷ filter q xs) (filter q xs))) ≤ length (filter p (x ∷ xs)))
-    [ true ↦ both true (p x) | false ↦ both false (p x) ] in
-    split (q x)
+fewer_of {X} p q (x ∷ xs) = search (arith, fewer_of p q xs)
 
 pub held_aborted : (room budget longest : ℕ) (gone : Name) (rs new : List Record) (ds : List Drive)
     (begun : Option Name)
@@ -205,22 +150,10 @@ held_aborted room budget longest gone rs new ds begun serving b was h e =
       still = λ name k. let s = still_begun gone begun name k in
           still_aborted budget gone rs name s.1 (h.still name s.0);
     } in
-    subst (λ q. IsHeld room budget longest new ds (if q then None else begun) serving) was
-    (subst (λ zs. IsHeld room budget longest zs ds left serving) (sym e) all)
+    search arith
 
 -- where nothing is aborted, what was begun stays
 pub none_aborted : (budget : ℕ) (gone : Name) (rs : List Record) (begun : Option Name)
     → ((name : Name) → begun ≡ Some name → IsStillServable budget rs name) → find (has_name gone) rs ≡ None
     → begun ≡ begun_without gone begun
-none_aborted budget gone rs None s h = refl
-none_aborted budget gone rs (Some name) s h =
-    let w = s name refl in
-    let both : (b : Bool) → same_name name gone ≡ b → Some name ≡ (if b then None else Some name) =
-    λ b. elim b as (λ b. same_name name gone ≡ b → Some name ≡ (if b then None else Some name)) [
-      | true ↦ λ e.
-          let own : has_name gone (record_at rs w.0) ≡ true =
-          subst (λ n. has_name n (record_at rs w.0) ≡ true) (same_is name gone e) w.2 in
-          absurd (true≢false (sym own ∙ missing (has_name gone) rs w.0 no_record h w.1.inside))
-      | false ↦ λ e. refl
-    ] in
-    both (same_name name gone) refl
+none_aborted budget gone rs begun h4 h5 = grind (arith, same_is, true≢false, missing)

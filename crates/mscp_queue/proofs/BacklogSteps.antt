@@ -10,7 +10,7 @@ use Rattle.mscp_queue.specs.declared.slots.Slot.{Slot}
 use Rattle.mscp_queue.specs.Dues.{AreDue, AreTimed, started}
 use Rattle.mscp_queue.specs.Waiters.{Waiters}
 use Rattle.mscp_queue.specs.Records.{Record, advanced, is_in_service, is_unstarted, left_of, no_record, passed_by, record_at, step_charge}
-use Rattle.mscp_queue.specs.Slots.{targets, items, lowered_by, no_slot, slot_at, with_due, with_item}
+use Rattle.mscp_queue.specs.Slots.{targets, items, lowered_by, slot_at, with_due, with_item}
 use Rattle.mscp_queue.proofs.Dues.{due_set_back, due_started, due_stepped, item_there, items_append, items_fallen, late}
 use Rattle.mscp_queue.proofs.Held.{AreIdle, passed_idle}
 use Rattle.mscp_queue.proofs.Lists.{every_weaker}
@@ -33,8 +33,7 @@ stepped clock place ss = set (started clock place ss) place
 
 set_mid : (A : List Slot) (y : Slot) (B : List Slot) (place : ℕ) → length A ≡ place
     → set (A ++ y ∷ B) place (with_item advanced (slot_at (A ++ y ∷ B) place)) ≡ A ++ with_item advanced y ∷ B
-set_mid A y B place l = set_at A y B (with_item advanced (slot_at (A ++ y ∷ B) place)) place l
-    ∙ ap (λ (s : Slot). A ++ with_item advanced s ∷ B) (get_or_at A y B no_slot place l)
+set_mid A y B place l = grind (arith, set_at, get_or_at)
 
 own_append : (xs ys : List Slot) → targets (xs ++ ys) ≡ targets xs ++ targets ys
 own_append xs ys = map-append (λ (s : Slot). s.target) xs ys
@@ -167,24 +166,7 @@ step_of {budget} {clock} {ss} {place} a l unfinished front back affordable =
 -- the command of its slot is the same
 pub started_item : (clock place : ℕ) (ss : List Slot) → place < length ss
     → (slot_at (started clock place ss) place).item ≡ (slot_at ss place).item
-started_item clock place ss l = by (is_unstarted (slot_at ss place).item) refl
-  where
-    y : Slot
-    y = slot_at ss place
-
-    F' : List Slot
-    F' = map (with_item (passed_by y.item.weight)) (take place ss)
-
-    by : (b : Bool) → is_unstarted y.item ≡ b → (slot_at (started clock place ss) place).item ≡ y.item
-    by true e =
-        let long : length F' ≡ place = length-map (take place ss) (with_item (passed_by y.item.weight))
-        ∙ length-take-le place ss (omega (arith, l)) in
-        ap (λ b. (slot_at (if b then F' ++ with_due (clock + y.item.weight) y ∷ drop (place + 1) ss else ss)
-        place).item) e
-        ∙ ap (λ (s : Slot). s.item) (get_or_at F' (with_due (clock + y.item.weight) y)
-        (drop (place + 1) ss) no_slot place long)
-    by false e = ap (λ b. (slot_at (if b then F'
-        ++ with_due (clock + y.item.weight) y ∷ drop (place + 1) ss else ss) place).item) e
+started_item clock place ss l = grind (arith, length-map, length-take-le, get_or_at)
 
 -- a step at a place, and then the clock may be set back
 pub step_timed : {budget clock total now : ℕ} {ss ss' new : List Slot} {place : ℕ} → AreTimed budget clock total ss
@@ -192,16 +174,7 @@ pub step_timed : {budget clock total now : ℕ} {ss ss' new : List Slot} {place 
     → new ≡ map (lowered_by (clock + 1 - now)) ss'
     → AreTimed budget now (total - 1) new
 step_timed {budget} {clock} {total} {now} {ss} {ss'} {new} {place} t step early below fell =
-    let n = clock + 1 - now in
-    let back : clock + 1 ≡ now + n = omega (arith, below) in
-    let left = ap (sum_by left_of) (ap items fell ∙ items_fallen n ss') in
-    record {
-      dues = subst (AreDue budget now 0) (sym fell)
-          (due_set_back budget now n 0 ss' (subst (λ k. AreDue budget k 0 ss') back step.dues));
-      left = omega (arith, left, step.left, t.left);
-      early = early;
-      fits = t.fits;
-    }
+    search (arith, items_fallen, due_set_back)
 
 pub step_late : {budget clock : ℕ} {ss new : List Slot} {place : ℕ} → IsStep budget clock ss new place
     → All (λ s. clock + 1 ≤ s.due) new
@@ -214,16 +187,11 @@ pub seen_step : {budget clock : ℕ} {ss ss' new : List Slot} {place : ℕ} (now
     → items new ≡ map (passed_by (step_charge (record_at rs place))) (take place rs)
     ++ advanced (record_at rs place) ∷ drop (place + 1) rs
 seen_step {budget} {clock} {ss} {ss'} {new} {place} now rs step l w fell =
-    let item = item_there ss place l ∙ ap (λ rs. record_at rs place) w in
-    let front = sym (take-map (λ (s : Slot). s.item) place ss) ∙ ap (take place) w in
-    let back = sym (drop-map (λ (s : Slot). s.item) (place + 1) ss) ∙ ap (drop (place + 1)) w in
-    ap items fell ∙ (items_fallen now ss' ∙ (step.waiting
-    ∙ (λ i. map (passed_by (step_charge (item i))) (front i) ++ advanced (item i) ∷ back i)))
+    search (arith, item_there ss place l, items_fallen now ss', take-map, drop-map)
 
 pub seen_own : {budget clock : ℕ} {ss ss' new : List Slot} {place : ℕ} (now : ℕ) → IsStep budget clock ss ss' place
     → new ≡ map (lowered_by now) ss' → targets new ≡ targets ss
-seen_own {budget} {clock} {ss} {ss'} {new} {place} now step fell =
-    ap targets fell ∙ (map_map (lowered_by now) (λ (s : Slot). s.target) ss' ∙ step.own)
+seen_own {budget} {clock} {ss} {ss'} {new} {place} now step fell = search (arith, map_map)
 
 -- the same as it is found out, step by step, of what callers see
 module _ {budget clock total : ℕ} {ss : List Slot} {now : Waiters} {place : ℕ} (t : AreTimed budget clock total ss)

@@ -1,7 +1,7 @@
 -- What a leave makes of the waiting commands, their dues, and what is left of all.
-use Rattle.std.proofs.Common.{◌≡◌, ◌<◌, ◌≤◌, ◌+◌, ◌-◌, ℕ, zero, suc, Bool, true, false, not, List, [], ◌∷◌, ◌++◌, map, take, drop, get_or, length, append_assoc, sym, subst, ap, ◌∙◌, refl, arith}
+use Rattle.std.proofs.Common.{◌≡◌, ◌<◌, ◌≤◌, ◌+◌, ◌-◌, ℕ, suc, Bool, true, false, not, List, [], ◌∷◌, ◌++◌, map, take, drop, get_or, length, append_assoc, sym, subst, ap, ◌∙◌, refl, arith}
 use Rattle.std.specs.Prelude.{All, if◌then◌else◌, sum_by}
-use Rattle.std.specs.List.{AllByRecursion, list_all}
+use Rattle.std.specs.List.{AllByRecursion}
 use Rattle.std.proofs.lemmas.List.{drop-map, get_or-map, length-take-le, map-append, take-map, take_more}
 use Rattle.std.proofs.lemmas.List.Elements.{All-from_recursion, recursion_from_All}
 use Rattle.std.proofs.lemmas.List.Sums.{sum_by-append, sum_by-cons}
@@ -10,9 +10,8 @@ use Rattle.mscp_queue.specs.declared.slots.Slot.{Slot}
 use Rattle.mscp_queue.specs.Dues.{AreDue, AreTimed}
 use Rattle.mscp_queue.specs.Waiters.{Waiters}
 use Rattle.mscp_queue.specs.Records.{Record, is_in_service, left_of}
-use Rattle.mscp_queue.specs.Masks.{keeps_back}
 use Rattle.mscp_queue.specs.Targets.{no_target}
-use Rattle.mscp_queue.specs.Slots.{targets, is_unfenced, is_unfenced_at, items, kind_of, kinds_of, lowered_by, lowered_unless_serving, no_kind, no_slot, slot_at}
+use Rattle.mscp_queue.specs.Slots.{targets, is_unfenced, is_unfenced_at, items, kind_of, kinds_of, lowered_by, lowered_unless_serving, no_slot, slot_at}
 use Rattle.mscp_queue.proofs.Dues.{abort_enough, due_aborted, due_ended, end_enough, items_append, items_fallen, items_unless}
 use Rattle.mscp_queue.proofs.Held.{AreIdle}
 use Rattle.mscp_queue.proofs.Placed.{at_place, cut_at, map_map}
@@ -26,16 +25,12 @@ cut ss place l = cut_at no_slot ss place l
 pub front_of : (P : Record → Type 0) (ss : List Slot) (rs : List Record) (place : ℕ) → items ss ≡ rs
     → All P (take place rs)
     → AllByRecursion P (items (take place ss))
-front_of P ss rs place w h =
-    subst (AllByRecursion P) (ap (take place) (sym w) ∙ take-map (λ (s : Slot). s.item) place ss)
-    (recursion_from_All P (take place rs) h)
+front_of P ss rs place w h = search (arith, recursion_from_All P (take place rs) h, take-map)
 
 pub back_of : (P : Record → Type 0) (ss : List Slot) (rs : List Record) (place : ℕ) → items ss ≡ rs
     → All P (drop place rs)
     → AllByRecursion P (items (drop place ss))
-back_of P ss rs place w h =
-    subst (AllByRecursion P) (ap (drop place) (sym w) ∙ drop-map (λ (s : Slot). s.item) place ss)
-    (recursion_from_All P (drop place rs) h)
+back_of P ss rs place w h = search (arith, recursion_from_All P (drop place rs) h, drop-map)
 
 pub of_items : (P : Record → Type 0) (ss : List Slot) → AllByRecursion P (items ss) → AllByRecursion (λ s. P s.item) ss
 of_items P [] h = tt
@@ -44,22 +39,13 @@ of_items P (s ∷ ss) h = (h.0, of_items P ss h.1)
 left_with : (front : List Slot) (y : Slot) (back : List Slot)
     → sum_by left_of (items (front ++ y ∷ back)) ≡ sum_by left_of (items (front ++ back)) + left_of y.item
 left_with front y back =
-    let a = ap (sum_by left_of) (items_append front (y ∷ back)) in
-    let b = ap (sum_by left_of) (items_append front back) in
-    omega (
-      arith,
-      a,
-      b,
-      sum_by-append left_of (items front) (y.item ∷ items back),
-      sum_by-append left_of (items front) (items back),
-      sum_by-cons left_of y.item (items back),
-    )
+    search (arith, items_append front (y ∷ back), items_append front back, sum_by-append left_of (items front) (y.item ∷
+    items back), sum_by-append left_of (items front) (items back), sum_by-cons left_of y.item (items back))
 
 pub left_at : (ss : List Slot) (place : ℕ) → place < length ss
     → sum_by left_of (items ss) ≡ sum_by left_of (items (take place ss ++ drop (place + 1) ss))
     + left_of (slot_at ss place).item
-left_at ss place l = ap (λ zs. sum_by left_of (items zs)) (cut ss place l)
-    ∙ left_with (take place ss) (slot_at ss place) (drop (place + 1) ss)
+left_at ss place l = search (arith, cut ss place l, left_with (take place ss) (slot_at ss place) (drop (place + 1) ss))
 
 -- ---- a command in service leaves
 
@@ -70,18 +56,7 @@ pub leave_timed : {budget clock total : ℕ} {ss ss' new : List Slot} {place n :
     → n ≡ left_of (slot_at ss place).item → ss' ≡ take place ss ++ drop (place + 1) ss → new ≡ map (lowered_by n) ss'
     → AreTimed budget clock (total - n) new
 leave_timed {budget} {clock} {total} {ss} {ss'} {new} {place} {n} t l serving front back e gone fell =
-    let y = slot_at ss place in
-    let F = take place ss in
-    let B = drop (place + 1) ss in
-    let is : new ≡ map (lowered_by (left_of y.item)) (F ++ B) = fell ∙ (λ i. map (lowered_by (e i)) (gone i)) in
-    let left = ap (sum_by left_of) (ap items is ∙ items_fallen (left_of y.item) (F ++ B)) in
-    record {
-      dues = subst (AreDue budget clock 0) (sym is)
-          (due_ended budget clock y B back serving 0 F (subst (AreDue budget clock 0) (cut ss place l) t.dues) front);
-      left = omega (arith, left, left_at ss place l, t.left, e);
-      early = t.early;
-      fits = t.fits;
-    }
+    search (arith, cut ss place l, left_at ss place l, items_fallen, due_ended)
 
 pub leave_enough : {budget clock total : ℕ} {ss ss' : List Slot} {place n : ℕ} → AreTimed budget clock total ss
     → place < length ss
@@ -100,11 +75,7 @@ leave_enough {budget} {clock} {total} {ss} {ss'} {place} {n} t l serving front b
 pub seen_left : {X : Type 0} (f : Slot → X) (n : ℕ) (ss ss' new : List Slot) (place : ℕ) (xs : List X)
     → ((s : Slot) → f (lowered_by n s) ≡ f s) → map f ss ≡ xs → ss' ≡ take place ss ++ drop (place + 1) ss
     → new ≡ map (lowered_by n) ss' → map f new ≡ take place xs ++ drop (place + 1) xs
-seen_left f n ss ss' new place xs same view gone fell =
-    ap (map f) fell ∙ (map_map (lowered_by n) f ss' ∙ ((λ i. map (λ s. same s i) (gone i))
-    ∙ (map-append f (take place ss) (drop (place + 1) ss)
-    ∙ ((λ i. sym (take-map f place ss) i ++ sym (drop-map f (place + 1) ss) i)
-    ∙ (λ i. take place (view i) ++ drop (place + 1) (view i))))))
+seen_left f n ss ss' new place xs same view gone fell = grind (arith, map_map, map-append, take-map, drop-map)
 
 -- ---- a command leaves that was never served
 
@@ -130,8 +101,7 @@ gone_behind ss ss' new place n l fell gone =
     let y = slot_at ss place in
     let B = map (lowered_unless_serving n) (drop (place + 1) ss) in
     let long : length F ≡ place = length-take-le place ss (omega (arith, l)) in
-    let one : ss' ≡ F ++ y ∷ B = fell ∙ (ap (λ zs. zs ++ B) (take_more ss place no_slot l)
-    ∙ append_assoc F (y ∷ []) B) in
+    let one : ss' ≡ F ++ y ∷ B = search (arith, take_more ss place no_slot l, append_assoc F (y ∷ []) B) in
     let at = at_place ss' F y B place no_slot one long in
     gone ∙ (λ i. at.before i ++ at.behind i)
 
@@ -141,22 +111,8 @@ pub leave_unstarted_timed : {budget clock total : ℕ} {ss ss' new : List Slot} 
     → ss' ≡ take (place + 1) ss ++ map (lowered_unless_serving n) (drop (place + 1) ss)
     → new ≡ take place ss' ++ drop (place + 1) ss' → AreTimed budget clock (total - n) new
 leave_unstarted_timed {budget} {clock} {total} {ss} {ss'} {new} {place} {n} t l idle e fell gone =
-    let y = slot_at ss place in
-    let F = take place ss in
-    let B = drop (place + 1) ss in
-    let is : new ≡ F ++ map (lowered_unless_serving (left_of y.item)) B =
-    gone_behind ss ss' new place n l fell gone ∙ ap (λ k. F ++ map (lowered_unless_serving k) B) e in
-    let same : items new ≡ items (F ++ B) = ap items is
-    ∙ (items_append F (map (lowered_unless_serving (left_of y.item)) B)
-    ∙ (ap (λ rs. items F ++ rs) (items_unless (left_of y.item) B) ∙ sym (items_append F B))) in
-    let left = ap (sum_by left_of) same in
-    record {
-      dues = subst (AreDue budget clock 0) (sym is)
-          (due_aborted budget clock 0 F y B (subst (AreDue budget clock 0) (cut ss place l) t.dues) idle);
-      left = omega (arith, left, left_at ss place l, t.left, e);
-      early = t.early;
-      fits = t.fits;
-    }
+    search (arith, gone_behind ss ss' new place n l fell gone, cut ss place l, left_at ss place l, items_append,
+    items_unless, due_aborted)
 
 pub seen_behind : {X : Type 0} (f : Slot → X) (n : ℕ) (ss ss' new : List Slot) (place : ℕ) (xs : List X)
     → ((s : Slot) → f (lowered_by n s) ≡ f s) → place < length ss → map f ss ≡ xs
@@ -185,17 +141,11 @@ kinds_are (s ∷ ss) = ap (λ ks. kind_of s ∷ ks) (kinds_are ss)
 pub unfenced_kinds : (ss : List Slot) (place : ℕ) (now : Waiters) (budget : ℕ)
     → record { budget = budget; waiting = items ss; targets = targets ss } ≡ now → place < length ss
     → is_unfenced (slot_at ss place) (take place ss) ≡ is_unfenced_at (kinds_of now.waiting now.targets) place
-unfenced_kinds ss place now budget view l =
-    let kind = get_or-map kind_of ss place no_slot no_kind l in
-    sym (all_shown (λ z. not (keeps_back z (kind_of (slot_at ss place)))) kind_of (take place ss))
-    ∙ ((λ i. list_all (λ z. not (keeps_back z (sym kind i))) (sym (take-map kind_of place ss) i))
-    ∙ (ap (λ ks. is_unfenced_at ks place) (sym (kinds_are ss))
-    ∙ ap (λ (w : Waiters). is_unfenced_at (kinds_of w.waiting w.targets) place) view))
+unfenced_kinds ss place now budget view l = grind (arith, get_or-map, take-map, kinds_are, all_shown, not)
 
 pub own_there : (ss : List Slot) (k : ℕ) → k < length ss → (slot_at ss k).target ≡ get_or (targets ss) k no_target
-own_there [] k l = absurd (omega (arith, l))
-own_there (s ∷ ss) zero l = refl
 own_there (s ∷ ss) (suc k) l = own_there ss k (omega (arith, l))
+own_there ss k h2 = grind arith
 
 pub of_targets : (P : Target → Type 0) (ss : List Slot) → AllByRecursion (λ s. P s.target) ss → AllByRecursion P
     (targets ss)

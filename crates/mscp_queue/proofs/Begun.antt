@@ -1,7 +1,7 @@
 -- Why what was begun stays lawful: what comes later and what is aborted takes nothing from an earlier command's
 -- freedom, and passes rise at starts alone.
 use Rattle.std.proofs.Common.{◌≡◌, ℕ, ◌+◌, Bool, true, false, cond, not, ◌&&◌, List, [], ◌∷◌, ◌++◌, take, drop, length, refl, ap, sym, ◌∙◌, subst, append_assoc, arith}
-use Rattle.std.specs.Prelude.{All, filter, if◌then◌else◌, is_some, nat_le, unwrap_or, Option, Some, None}
+use Rattle.std.specs.Prelude.{All, filter, Option, Some}
 use Rattle.std.specs.List.{AllByRecursion, list_all, range_with_len}
 use Rattle.std.proofs.lemmas.Bool.{and_parts, false≢true}
 use Rattle.std.proofs.lemmas.List.{length-append}
@@ -10,10 +10,10 @@ use Rattle.mscp_queue.specs.declared.drive.Drive.{Drive}
 use Rattle.mscp_queue.specs.declared.view.Choice.{Choice}
 use Rattle.mscp_queue.specs.Kept.{IsStillServable}
 use Rattle.mscp_queue.specs.declared.name.Name.{Name}
-use Rattle.mscp_queue.specs.Records.{Record, has_name, is_unstarted, name_of, no_record, record_at, charge, without}
+use Rattle.mscp_queue.specs.Records.{Record, has_name, is_unstarted, name_of, no_record, record_at, without}
 use Rattle.mscp_queue.specs.Names.{same_name}
 use Rattle.mscp_queue.specs.Serving.{IsServable, begun_without}
-use Rattle.mscp_queue.specs.Views.{IsPick, fences, is_affordable, is_free, is_open, is_open_at, open_places}
+use Rattle.mscp_queue.specs.Views.{IsPick, is_open, is_open_at, open_places}
 use Rattle.mscp_queue.proofs.Named.{same_is}
 use Rattle.mscp_queue.proofs.Lists.{every_append, every_filter, every_from, every_kept, every_weaker}
 use Rattle.mscp_queue.proofs.Placed.{at_place, cut_at}
@@ -57,12 +57,7 @@ servable budget rs front r back name own m =
 -- and one that stands at a place
 among : (budget : ℕ) (rs : List Record) (place : ℕ) → IsServable budget rs place
     → Among budget rs (take place rs) (record_at rs place) (drop (place + 1) rs)
-among budget rs place s = record {
-  is = cut_at no_record rs place s.inside;
-  idle =
-      λ e. recursion_from_All (λ z. z.done ≡ 0) rs (s.idle e);
-  opens = s.opens;
-}
+among budget rs place s = search (arith, cut_at no_record rs place s.inside, recursion_from_All)
 
 -- ---- a command comes
 
@@ -95,10 +90,7 @@ all_left p keep (r ∷ rs) h =
 -- a record that may start may start where fewer are in front of it
 open_left : (budget : ℕ) (r : Record) (keep : Record → Bool) (front : List Record) → is_open budget r front ≡ true
     → is_open budget r (filter keep front) ≡ true
-open_left budget r keep front h =
-    let b = and_parts (is_free r front) (is_affordable budget r front) h in
-    ap (λ q. q && is_affordable budget r (filter keep front)) (all_left (λ z. not (fences r z)) keep front b.0)
-    ∙ all_left (λ z. nat_le (z.passed + charge r) budget) keep front b.1
+open_left budget r keep front h = grind (arith, and_parts, all_left, not)
 
 pub still_aborted : (budget : ℕ) (gone : Name) (rs : List Record) (name : Name) → same_name name gone ≡ false
     → IsStillServable budget rs name → IsStillServable budget (without gone rs) name
@@ -122,13 +114,4 @@ still_aborted budget gone rs name other s =
 -- what is begun after an abort was begun before, and isn't what was aborted
 pub still_begun : (gone : Name) (begun : Option Name) (name : Name) → begun_without gone begun ≡ Some name
     → (begun ≡ Some name) × (same_name name gone ≡ false)
-still_begun gone None name e = absurd (false≢true (ap is_some e))
-still_begun gone (Some x) name e =
-    let both : (b : Bool) → same_name x gone ≡ b → (if b then None else Some x) ≡ Some name
-    → (Some x ≡ Some name) × (same_name name gone ≡ false) =
-    λ b. elim b as (λ b. same_name x gone ≡ b → (if b then None else Some x) ≡ Some name
-    → (Some x ≡ Some name) × (same_name name gone ≡ false)) [
-      | true ↦ λ q e. absurd (false≢true (ap is_some e))
-      | false ↦ λ q e. (e, ap (λ n. same_name n gone) (ap (λ o. unwrap_or o x) (sym e)) ∙ q)
-    ] in
-    both (same_name x gone) refl e
+still_begun gone begun name h3 = grind (arith, false≢true)

@@ -5,7 +5,6 @@ use Rattle.std.specs.Int.{bit_at}
 use Rattle.std.specs.List.{range_with_len}
 use Rattle.std.proofs.lemmas.List.FromFn.{get_or-map-range_with_len, length-range_with_len}
 use Rattle.mscp_packet.specs.declared.command.Order.{Order}
-use Rattle.mscp_packet.specs.declared.command.Order.TheVariants as orders
 use Rattle.mscp_drive.specs.declared.head.Head.{Head}
 use Rattle.mscp_drive.specs.Heads.{sweep_cost}
 use Rattle.std.proofs.lemmas.Bool.{eq-eqb, false≢true, ne_eqb}
@@ -64,9 +63,7 @@ candidates_whole {dirty} {ds} {rs} {cs} h known off =
 
 pub candidates_of : {ds : List Drive} {rs : List Record} {cs : List Choice} (dirty : ℕ) → cs ≡ map (choice_in ds) rs
     → AreCandidates dirty ds rs cs
-candidates_of {ds} {rs} {cs} dirty e = record {
-  sure = ap (map (sure_of dirty (units_of ds))) e ∙ map_map (choice_in ds) (sure_of dirty (units_of ds)) rs;
-}
+candidates_of {ds} {rs} {cs} dirty e = search (arith, map_map (choice_in ds) (sure_of dirty (units_of ds)) rs)
 
 -- what a picker sees of all
 pub all_choices : (ds : List Drive) (rs : List Record)
@@ -128,8 +125,7 @@ candidates_renewed {dirty} {dirty'} {at} {ds} {rs} {old} {new} h made set few kn
 -- a transfer's cost
 pub move_cost : (u : Shape) (head : Head) (o : Order) (to : ℕ) → is_move o ≡ true
     → to ≡ cylinder_of u (first_block o) → sweep_cost (last_cylinder u) head.cylinder head.up to ≡ order_cost u head o
-move_cost u head (orders.Move kind count block) to m e = ap (sweep_cost (last_cylinder u) head.cylinder head.up) e
-move_cost u head _ to m e = absurd (false≢true m)
+move_cost u head o to h4 h5 = grind (arith, false≢true)
 
 -- the choice at a place is of a command on a drive: where its first block lies, and what its start costs
 pub record IsOn (ds : List Drive) (r : Record) (d : Drive) (to : ℕ) : Type 0 where
@@ -175,9 +171,7 @@ pub all_on_drive : {at : ℕ} {ds : List Drive} {rs : List Record} {targets : Li
     → CanBeShown ds rs targets
     → All (λ r. is_move r.command.order ≡ true) rs → d ≡ get_or ds at d → AreOnDrive at d targets
 all_on_drive {at} {ds} {rs} {targets} d shown moves found place other l =
-    let many : length targets ≡ length rs = ap length shown.targeted ∙ length-map rs
-    (λ (r : Record). target_of (units_of ds)
-    r.command) in
+    let many : length targets ≡ length rs = search (arith, length-map) in
     λ e. (on_drive d (get_or targets place other) shown moves (omega (arith, l, many)) found
     (get_or_default targets place other no_target l) e).within
 

@@ -1,5 +1,5 @@
 -- What a queue keeps of its waiting commands for a picker stays true.
-use Rattle.std.proofs.Common.{◌≡◌, ◌≢◌, set, ℕ, ◌+◌, ◌<◌, ◌≤◌, Bool, true, false, cond, not, ◌||◌, List, [], ◌∷◌, ◌++◌, map, take, drop, get_or, length, refl, ap, sym, ◌∙◌, subst, arith}
+use Rattle.std.proofs.Common.{◌≡◌, ◌≢◌, set, ℕ, ◌+◌, ◌<◌, ◌≤◌, Bool, true, false, cond, not, ◌||◌, List, [], ◌∷◌, ◌++◌, map, take, drop, get_or, length, refl, ap, sym, ◌∙◌, arith}
 use Rattle.std.specs.Prelude.{find, nat_eq, nat_lt, unwrap_or, Some, None}
 use Rattle.std.specs.Int.{bit_at}
 use Rattle.std.specs.List.{list_any, position, position_or_len}
@@ -18,7 +18,7 @@ use Rattle.mscp_queue.specs.Candidates.{AreCandidates, choice_in, costing, has_c
 use Rattle.mscp_queue.specs.Masks.{IsSet}
 use Rattle.mscp_queue.specs.Names.{same_name}
 use Rattle.mscp_queue.specs.Records.{Record, advanced, has_name, name_of, no_record, passed_by, record_at}
-use Rattle.mscp_queue.specs.Views.{choice_name, choice_of}
+use Rattle.mscp_queue.specs.Views.{choice_name}
 use Rattle.mscp_queue.proofs.Placed.{map_map}
 use Rattle.mscp_queue.proofs.Unmoved.{made_served, map_cut}
 
@@ -26,8 +26,7 @@ use Rattle.mscp_queue.proofs.Unmoved.{made_served, map_cut}
 
 if_sure : {X : Type 0} (f : Choice → X) → ((c : Choice) → f (costing 0 c) ≡ f c) → (b : Bool) (c : Choice)
     → f (cond b (costing 0 c) c) ≡ f c
-if_sure f h true c = h c
-if_sure f h false c = refl
+if_sure f h1 b c = grind arith
 
 module _ (dirty : ℕ) (us : List Shape) where
   abbrev bits_of : Choice → Bool
@@ -98,14 +97,7 @@ pub candidates_pushed : {dirty : ℕ} {ds : List Drive} {rs rs' : List Record} {
     (c : Choice)
     → AreCandidates dirty ds rs cs → c ≡ choice_in ds r → cs' ≡ cs ++ c ∷ [] → rs' ≡ rs ++ r ∷ []
     → AreCandidates dirty ds rs' cs'
-candidates_pushed {dirty} {ds} {rs} {rs'} {cs} {cs'} r c h is e f =
-    let sure = sure_of dirty (units_of ds) in
-    let of : Record → Choice = λ r. sure (choice_in ds r) in
-    record {
-      sure = ap (map sure) e
-          ∙ (map-append sure cs (c ∷ [])
-          ∙ ((λ i. h.sure i ++ sure (is i) ∷ []) ∙ (sym (map-append of rs (r ∷ [])) ∙ ap (map of) (sym f))));
-    }
+candidates_pushed {dirty} {ds} {rs} {rs'} {cs} {cs'} r c h is e f = search (arith, map-append)
 
 pub candidates_left : {dirty : ℕ} {ds : List Drive} {rs rs' : List Record} {cs cs' : List Choice} (place : ℕ)
     → AreCandidates dirty ds rs cs → cs' ≡ take place cs ++ drop (place + 1) cs
@@ -123,22 +115,17 @@ candidates_left {dirty} {ds} {rs} {rs'} {cs} {cs'} place h e f =
 pub line_without : {dirty dirty' : ℕ} {ds : List Drive} {rs rs' : List Record} {cs cs' : List Choice} (place : ℕ)
     → AreCandidates dirty ds rs cs → cs' ≡ take place cs ++ drop (place + 1) cs → dirty' ≡ dirty
     → rs' ≡ take place rs ++ drop (place + 1) rs → AreCandidates dirty' ds rs' cs'
-line_without {dirty} {dirty'} {ds} {rs} {rs'} {cs} {cs'} place h e s f =
-    subst (λ k. AreCandidates k ds rs' cs') (sym s) (candidates_left place h e f)
+line_without {dirty} {dirty'} {ds} {rs} {rs'} {cs} {cs'} place h e s f = search (arith, candidates_left place h e f)
 
 pub line_with : {dirty dirty' : ℕ} {ds : List Drive} {rs rs' : List Record} {cs cs' : List Choice} (r : Record)
     (c : Choice)
     → AreCandidates dirty ds rs cs → c ≡ choice_in ds r → cs' ≡ cs ++ c ∷ [] → dirty' ≡ dirty → rs' ≡ rs ++ r ∷ []
     → AreCandidates dirty' ds rs' cs'
-line_with {dirty} {dirty'} {ds} {rs} {rs'} {cs} {cs'} r c h is e s f =
-    subst (λ k. AreCandidates k ds rs' cs') (sym s) (candidates_pushed r c h is e f)
+line_with {dirty} {dirty'} {ds} {rs} {rs'} {cs} {cs'} r c h is e s f = search (arith, candidates_pushed r c h is e f)
 
 pub none_listed : {dirty : ℕ} {ds : List Drive} {rs : List Record} {cs : List Choice} → rs ≡ [] → cs ≡ []
     → AreCandidates dirty ds rs cs
-none_listed {dirty} {ds} {rs} {cs} e f = record {
-  sure = ap (map (sure_of dirty (units_of ds))) f
-      ∙ sym (ap (map (λ (r : Record). sure_of dirty (units_of ds) (choice_in ds r))) e);
-}
+none_listed {dirty} {ds} {rs} {cs} e f = search arith
 
 -- ---- a drive serves
 
@@ -146,17 +133,7 @@ none_listed {dirty} {ds} {rs} {cs} e f = record {
 find_other : (n u : ℕ) (new : Drive) (ds : List Drive) → n ≢ u → new.unit.number ≡ u
     → find (has_number n) (replaced u new ds) ≡ find (has_number n) ds
 find_other n u new [] apart own = refl
-find_other n u new (d ∷ ds) apart own = by (has_number u d) refl (find_other n u new ds apart own)
-  where
-    by : (b : Bool) → has_number u d ≡ b → find (has_number n) (replaced u new ds) ≡ find (has_number n) ds
-        → cond (has_number n (cond b new d)) (Some (cond b new d)) (find (has_number n) (replaced u new ds))
-        ≡ cond (has_number n d) (Some d) (find (has_number n) ds)
-    by true e rest =
-        let off = ne_eqb new.unit.number n (λ e. apart (sym e ∙ own)) in
-        let there = ne_eqb d.unit.number n (λ f. apart (sym f ∙ eqb-true d.unit.number u e)) in
-        ap (λ b. cond b (Some new) (find (has_number n) (replaced u new ds))) off
-        ∙ (rest ∙ ap (λ b. cond b (Some d) (find (has_number n) ds)) (sym there))
-    by false e rest = ap (λ rest. cond (has_number n d) (Some d) rest) rest
+find_other n u new (d ∷ ds) apart own = search (arith, find_other n u new ds apart own, ne_eqb, eqb-true)
 
 pub drive_other : (n u : ℕ) (new : Drive) (ds : List Drive) → n ≢ u → new.unit.number ≡ u
     → drive_of (replaced u new ds) n ≡ drive_of ds n
@@ -177,11 +154,7 @@ module _ (dirty dirty' at u : ℕ) (us : List Shape) (few : length us ≤ 16) (s
 
   still : (n : ℕ) → nat_eq (bit_at dirty (unit_place us n)) 1 ≡ true → nat_eq (bit_at dirty'
       (unit_place us n)) 1 ≡ true
-  still n e = by (nat_eq (unit_place us n) at) refl
-    where
-      by : (b : Bool) → nat_eq (unit_place us n) at ≡ b → nat_eq (bit_at dirty' (unit_place us n)) 1 ≡ true
-      by true f = ap (λ x. nat_eq x 1) (bit_is n ∙ ap (λ b. cond b 1 (bit_at dirty (unit_place us n))) f)
-      by false f = ap (λ x. nat_eq x 1) (bit_is n ∙ ap (λ b. cond b 1 (bit_at dirty (unit_place us n))) f) ∙ e
+  still n e = search (arith, bit_is n)
 
   pub twice_sure : (c : Choice) → sure_of dirty' us (sure_of dirty us c) ≡ sure_of dirty' us c
   twice_sure c = by (nat_eq (bit_at dirty (unit_place us c.unit)) 1) refl
@@ -196,23 +169,7 @@ module _ (dirty dirty' at u : ℕ) (us : List Shape) (few : length us ≤ 16) (s
   -- a choice on another drive is as before, and nothing is sure of the cost of one on this drive
   pub sure_served : (ds : List Drive) (new : Drive) (r : Record) → at ≡ unit_place us u → new.unit.number ≡ u
       → sure_of dirty' us (choice_in ds r) ≡ sure_of dirty' us (choice_in (replaced u new ds) r)
-  sure_served ds new r is own = by (nat_eq r.command.unit u) refl
-    where
-      n : ℕ
-      n = r.command.unit
-
-      by : (b : Bool) → nat_eq r.command.unit u ≡ b
-          → sure_of dirty' us (choice_in ds r) ≡ sure_of dirty' us (choice_in (replaced u new ds) r)
-      by true e =
-          let same : unit_place us r.command.unit ≡ at = ap (unit_place us) (eqb-true r.command.unit u e) ∙ sym is in
-          let on : nat_eq (bit_at dirty' (unit_place us r.command.unit)) 1 ≡ true = ap (λ x. nat_eq x 1)
-          (bit_is r.command.unit ∙ ap (λ b. cond b 1 (bit_at dirty (unit_place us r.command.unit)))
-          (eq-eqb (unit_place us r.command.unit) at same)) in
-          ap (λ b. cond b (costing 0 (choice_in ds r)) (choice_in ds r)) on
-          ∙ ap (λ b. cond b (costing 0 (choice_in ds r)) (choice_in (replaced u new ds) r)) (sym on)
-      by false e =
-          ap (λ d. sure_of dirty' us (choice_of d r))
-          (sym (drive_other r.command.unit u new ds (λ f. false≢true (sym e ∙ eq-eqb r.command.unit u f)) own))
+  sure_served ds new r is own = grind (arith, eqb-true, bit_is, eq-eqb, drive_other, false≢true)
 
 pub candidates_served : {dirty dirty' place : ℕ} {ds ds' : List Drive} {rs rs' : List Record} {cs cs' : List Choice}
     (at u charge : ℕ) (new : Drive) (ends : Bool)
@@ -239,14 +196,7 @@ candidates_served {dirty} {dirty'} {place} {ds} {ds'} {rs} {rs'} {cs} {cs'} at u
     ∙ (λ i. map (λ (r : Record). sure_served dirty dirty' at u us few set ds new r is own i) rs))))) in
     let cut : (b : Bool) → map sure (cond b (take place cs ++ drop (place + 1) cs) cs)
     ≡ cond b (take place (map sure cs) ++ drop (place + 1) (map sure cs)) (map sure cs) =
-    λ b. elim b as (λ b. map sure (cond b (take place cs ++ drop (place + 1) cs) cs)
-    ≡ cond b (take place (map sure cs) ++ drop (place + 1) (map sure cs)) (map sure cs))
-    [ true ↦ sym (map_cut sure cs place) | false ↦ refl ] in
+    search (arith, map_cut sure cs place) in
     let all : map sure cs' ≡ map (λ r. sure (choice_in (replaced u new ds) r)) rs' =
-    ap (map sure) f ∙ (cut ends
-    ∙ ((λ i. cond ends (take place (moved i) ++ drop (place + 1) (moved i)) (moved i))
-    ∙ made_served F rs rs' place charge ends l e)) in
-    record {
-      sure = (λ i. map (sure_of dirty' (same i)) cs')
-          ∙ (all ∙ (λ i. map (λ r. sure_of dirty' (sym same i) (choice_in (sym now i) r)) rs'));
-    }
+    search (arith, made_served F rs rs' place charge ends l e) in
+    search arith

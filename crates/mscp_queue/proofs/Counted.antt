@@ -36,24 +36,14 @@ total_none zero = refl
 total_none (suc w) = let rest = total_none w in omega (arith, rest)
 
 same_suc : (k s : ℕ) → nat_eq (suc k) (suc s) ≡ nat_eq k s
-same_suc k s = by (same_or k s)
-  where
-    by : (k ≡ s) ⊎ (k ≢ s) → nat_eq (suc k) (suc s) ≡ nat_eq k s
-    by (inl e) = eq-eqb (suc k) (suc s) (ap suc e) ∙ sym (eq-eqb k s e)
-    by (inr d) = ne_eqb (suc k) (suc s) (λ e. d (omega (arith, e))) ∙ sym (ne_eqb k s d)
+same_suc k s = grind (arith, same_or, nat_eq, eq-eqb, ne_eqb)
 
 total_one : (w s : ℕ) → s < w → total w (λ k. bit (nat_eq k s)) ≡ 1
 unfolding total
 total_one zero s l = absurd (omega (arith, l))
-total_one (suc w) zero l =
-    let rest = total_on w (λ k. bit (nat_eq (suc k) 0)) (λ k. 0)
-    (λ k b. ap bit (ne_eqb (suc k) 0 (λ e. omega (arith, e)))) ∙ total_none w in
-    omega (arith, rest)
+total_one (suc w) zero l = search (arith, total_none w, total_on, nat_eq, ne_eqb)
 total_one (suc w) (suc s) l =
-    let first : bit (nat_eq 0 (suc s)) ≡ 0 = ap bit (ne_eqb 0 (suc s) (λ e. omega (arith, e))) in
-    let rest = total_on w (λ k. bit (nat_eq (suc k) (suc s))) (λ k. bit (nat_eq k s)) (λ k b. ap bit (same_suc k s))
-    ∙ total_one w s (omega (arith, l)) in
-    omega (arith, first, rest)
+    search (arith, nat_eq 0 (suc s), total_one w s (omega (arith, l)), ne_eqb, total_on, same_suc)
 
 -- slots that stand once are as many as there are
 total_has : (w : ℕ) (xs : List ℕ) → 64 ≤ w → AreSlots xs → total w (λ k. bit (has k xs)) ≡ length xs
@@ -88,8 +78,7 @@ total_bits (suc w) m l =
 
 pub ones_has : (m : ℕ) (xs : List ℕ) → m < 2 ^ 64 → IsMaskOf m (λ k. has k xs) → AreSlots xs
     → count_ones m ≡ length xs
-ones_has m xs small is a =
-    total_bits 64 m small ∙ (total_on 64 (bit_at m) (λ k. bit (has k xs)) is ∙ total_has 64 xs (omega arith) a)
+ones_has m xs small is a = search (arith, total_bits 64 m small, total_has 64 xs (omega arith) a, total_on)
 
 -- ---- the place of a slot
 
@@ -124,13 +113,6 @@ placed (s ∷ order) n e = by (same_or n s) (placed order n)
 -- at one alone
 pub one_place : (order : List ℕ) (k p : ℕ) → AreSlots order → k < length order → p < length order
     → get_or order k 0 ≡ get_or order p 0 → k ≡ p
-one_place [] k p a l b e = absurd (omega (arith, l))
-one_place (s ∷ order) zero zero a l b e = refl
-one_place (s ∷ order) zero (suc p) a l b e =
-    let bad = ap bit (sym (ap (λ n. has n order) e ∙ slot_has order p (omega (arith, b))) ∙ a.1) in
-    absurd (omega (arith, bad))
-one_place (s ∷ order) (suc k) zero a l b e =
-    let bad = ap bit (sym (ap (λ n. has n order) (sym e) ∙ slot_has order k (omega (arith, l))) ∙ a.1) in
-    absurd (omega (arith, bad))
 one_place (s ∷ order) (suc k) (suc p) a l b e =
     ap suc (one_place order k p a.2 (omega (arith, l)) (omega (arith, b)) e)
+one_place order k p h3 h4 h5 h6 = search (arith, slot_has)

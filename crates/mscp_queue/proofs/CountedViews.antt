@@ -93,8 +93,4 @@ counted_left {counts} {choices} {new} place own n h long low l is less e =
 pub some_counted : {counts : List ℕ} {choices : List Choice} (place own : ℕ) → IsCounted counts choices → own < 256
     → place < length choices → own ≡ low_byte (get_or choices place no_choice).reference → 1 ≤ get_or counts own 0
 some_counted {counts} {choices} place own h low l is =
-    let x = get_or choices place no_choice in
-    let left = count_left (has_byte own) no_choice choices place l in
-    let on : bit (has_byte own x) ≡ 1 = ap bit (eq-eqb (low_byte x.reference) own (sym is)) in
-    let was = h.each own low in
-    omega (arith, left, on, was)
+    search (arith, count_left (has_byte own) no_choice choices place l, eq-eqb)

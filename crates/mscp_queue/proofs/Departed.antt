@@ -1,7 +1,6 @@
 -- The masks stay those of the slots where a command leaves: at an end or an abort.
 use Rattle.std.proofs.Common.{◌≡◌, ◌≢◌, ◌<◌, ◌⊎◌, inl, inr, ℕ, Bool, true, false, ◌&&◌, ◌||◌, nat_eq, List, [], ◌∷◌, ◌++◌, sym, subst, ap, ◌∙◌, refl, arith}
 use Rattle.std.specs.Prelude.{slice_index_or}
-use Rattle.std.specs.Int.{bit_at}
 use Rattle.std.proofs.lemmas.Nat.Bits.{bit_at-zero}
 use Rattle.std.proofs.lemmas.List.{append-nil}
 use Rattle.mscp_queue.specs.declared.masks.Masks.{Masks}
@@ -23,8 +22,7 @@ slots_left (s ∷ order) n a = by (slots_left order n a.2) (same_or s n)
 module _ (earlier earlier' : ℕ → ℕ) (n : ℕ) (clear : (s : ℕ) → IsSet false n (earlier s) (earlier' s)) where
   cleared : (s : ℕ) (front : List ℕ) → IsMaskOf (earlier s) (λ k. has k front)
       → IsMaskOf (earlier' s) (λ k. has k (without n front))
-  cleared s front is = set_mask (earlier s) (earlier' s) n false _ _ (clear s) is (has_gone n front)
-      (λ k d. has_kept k n front d)
+  cleared s front is = search (arith, has_gone n front, set_mask, has_kept)
 
   earlier_left : (front order : List ℕ) → AreEarlier earlier front order
       → AreEarlier earlier' (without n front) (without n order)
@@ -51,10 +49,7 @@ module _ (earlier earlier' : ℕ → ℕ) (n : ℕ) (clear : (s : ℕ) → IsSet
 none_earlier : (m : ℕ) (earlier : ℕ → ℕ) (order : List ℕ) → m ≡ 0 → AreSlots order → IsMaskOf m (λ k. has k order)
     → AreEarlier earlier [] order
 none_earlier m earlier [] e a is = tt
-none_earlier m earlier (s ∷ order) e a is =
-    let bad = sym (is s a.0 ∙ ap (λ b. bit (b || has s order)) (eq_true s s refl))
-    ∙ ap (λ m. bit_at m s) e ∙ bit_at-zero s in
-    absurd (omega (arith, bad))
+none_earlier m earlier (s ∷ order) e a is = search (arith, eq_true s s refl, bit_at-zero s)
 
 earlier_kept : (kinds : ℕ → Kind) (order : List ℕ) (m m' : Masks) (n drive : ℕ) → AreMasks kinds order m
     → HasLeft n drive m m' → AreSlots (without n order) → IsMaskOf m'.waiting (λ k. has k (without n order))
@@ -112,10 +107,7 @@ without_none n (x ∷ xs) e =
 
 without_cuts : (front back : List ℕ) (n : ℕ) → has n front ≡ false → has n back ≡ false
     → without n (front ++ n ∷ back) ≡ front ++ back
-without_cuts front back n e f =
-    without_append n front (n ∷ back)
-    ∙ ap (λ xs. xs ++ without n (n ∷ back)) (without_none n front e)
-    ∙ ap (λ xs. front ++ xs) (ap (λ b. if_not b n (without n back)) (eq_true n n refl) ∙ without_none n back f)
+without_cuts front back n e f = grind (arith, without_append, without, without_none, eq_true, if_not)
 
 -- a slot stands once
 pub once_in : (front : List ℕ) (n : ℕ) (back : List ℕ) → AreSlots (front ++ n ∷ back)
@@ -134,6 +126,5 @@ pub masks_left : (kinds : ℕ → Kind) (front back : List ℕ) (m m' : Masks) (
     → AreMasks kinds (front ++ n ∷ back) m → n < 64 → HasLeft n (kinds n).drive m m'
     → AreMasks kinds (front ++ back) m'
 masks_left kinds front back m m' n masks low l =
-    let once = once_in front n back masks.apart in
-    subst (λ order. AreMasks kinds order m') (without_cuts front back n once.0 once.1)
-    (masks_without kinds (front ++ n ∷ back) m m' n masks low l)
+    search (arith, once_in front n back masks.apart, masks_without kinds (front ++ n ∷ back) m m' n masks low l,
+    without_cuts)

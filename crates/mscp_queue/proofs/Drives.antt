@@ -1,6 +1,6 @@
 -- Where the drive of a unit stands among the drives.
 use Rattle.std.proofs.Common.{◌≡◌, ℕ, zero, suc, ◌+◌, ◌<◌, Bool, true, false, cond, not, List, [], ◌∷◌, set, get_or, length, refl, ap, sym, ◌∙◌, subst, arith}
-use Rattle.std.specs.Prelude.{find, nat_eq, if◌then◌else◌, is_some, unwrap_or, Some, None}
+use Rattle.std.specs.Prelude.{find, nat_eq, if◌then◌else◌, is_some, unwrap_or, Some}
 use Rattle.std.specs.List.{AllByRecursion, position, position_or_len}
 use Rattle.std.proofs.lemmas.Bool.{eq-eqb, eqb-true, false≢true, lt-ltb, ne_eqb}
 use Rattle.std.proofs.lemmas.List.{get_or_default}
@@ -55,24 +55,13 @@ known_inside (d ∷ ds) n h = (known_at (d ∷ ds) n d h).inside
 
 pub place_found : (ds : List Drive) (n other : ℕ) → is_known (units_of ds) n ≡ true
     → unwrap_or (position (has_number n) ds) other ≡ drive_place ds n
-place_found ds n other h =
-    ap (λ b. unwrap_or (cond b (Some (drive_place ds n)) None) other)
-    (lt-ltb (drive_place ds n) (length ds) (known_inside ds n h))
+place_found ds n other h = grind (arith, lt-ltb, known_inside)
 
 -- units are told apart by the places of their drives
 pub apart_by_place : (ds : List Drive) (other : Drive) (a b : ℕ) → is_known (units_of ds) a ≡ true
     → is_known (units_of ds) b ≡ true → nat_eq (drive_place ds a) (drive_place ds b) ≡ nat_eq a b
 apart_by_place ds other a b h k =
-    let both : (q : Bool) → nat_eq a b ≡ q → nat_eq (drive_place ds a) (drive_place ds b) ≡ q =
-    λ q. elim q as (λ q. nat_eq a b ≡ q → nat_eq (drive_place ds a) (drive_place ds b) ≡ q) [
-      | true ↦ λ e. eq-eqb (drive_place ds a) (drive_place ds b) (ap (drive_place ds) (eqb-true a b e))
-      | false ↦ λ e. ne_eqb (drive_place ds a) (drive_place ds b) (λ same.
-          let na = (known_at ds a other h).number in
-          let nb = (known_at ds b other k).number in
-          let eq : a ≡ b = sym na ∙ (ap (λ i. (get_or ds i other).unit.number) same ∙ nb) in
-          false≢true (sym e ∙ eq-eqb a b eq))
-    ] in
-    both (nat_eq a b) refl
+    search (arith, known_at ds a other h, known_at ds b other k, eq-eqb, eqb-true, ne_eqb, false≢true)
 
 -- ---- one drive is replaced
 
@@ -98,17 +87,12 @@ set_is (x ∷ ds) (suc at) n new p l d e num =
     let less : x.unit.number < d.unit.number =
     subst (λ (q : Drive). x.unit.number < q.unit.number) there
     (All-from_recursion (λ (q : Drive). x.unit.number < q.unit.number) ds up at d below) in
-    (λ i. (sym (ap (λ b. if b then new else x) (ne_eqb x.unit.number n (λ s. omega (arith, s, num, less))))) i
-    ∷ set_is ds at n new p.1 below d e num i)
+    search (arith, set_is ds, ne_eqb)
 
 -- the drive of this number stands there
 pub place_is : (ds : List Drive) (at n : ℕ) (d : Drive) → Pairs Lower
     (units_of ds) → at < length ds → d ≡ get_or ds at d
     → d.unit.number ≡ n → drive_place ds n ≡ at
-place_is [] at n d p l e num = absurd (omega (arith, l))
-place_is (x ∷ ds) zero n d p l e num =
-    ap (λ b. cond (not b) (1 + drive_place ds n) 0) (eq-eqb x.unit.number n (ap (λ (q : Drive). q.unit.number) (sym e)
-    ∙ num))
 place_is (x ∷ ds) (suc at) n d p l e num =
     let below : at < length ds = omega (arith, l) in
     let up = every_mapped (λ (q : Drive). q.unit) (Lower x.unit) ds p.0 in
@@ -118,8 +102,8 @@ place_is (x ∷ ds) (suc at) n d p l e num =
     (All-from_recursion (λ (q : Drive). x.unit.number < q.unit.number) ds up at d below) in
     let rest = place_is ds at n d p.1 below e num in
     let next : 1 + at ≡ suc at = omega arith in
-    ap (λ b. cond (not b) (1 + drive_place ds n) 0) (ne_eqb x.unit.number n (λ s. omega (arith, s, num, less)))
-    ∙ (ap (λ k. 1 + k) rest ∙ next)
+    search (arith, not, ne_eqb)
+place_is ds at n d h4 h5 h6 h7 = search (arith, not, eq-eqb)
 
 pub set_replaced : (ds : List Drive) (at n : ℕ) (new other : Drive) → IsUnitList (units_of ds)
     → is_known (units_of ds) n ≡ true
@@ -127,7 +111,5 @@ pub set_replaced : (ds : List Drive) (at n : ℕ) (new other : Drive) → IsUnit
 set_replaced ds at n new other l known e =
     let d = get_or ds (drive_place ds n) other in
     let placed = known_at ds n other known in
-    let found : get_or ds at d ≡ d = ap (λ i. get_or ds i d) e
-    ∙ get_or_default ds (drive_place ds n) d other placed.inside in
-    set_is ds at n new (pairs_rise (units_of ds) l.rising) (omega (arith, e, placed.inside)) d
-    (sym found) placed.number
+    let found : get_or ds at d ≡ d = search (arith, get_or_default ds (drive_place ds n) d other placed.inside) in
+    search (arith, set_is ds, pairs_rise (units_of ds) l.rising)

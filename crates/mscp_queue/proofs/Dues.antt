@@ -1,5 +1,5 @@
 -- Each event keeps the dues, and a due less the clock is the figure.
-use Rattle.std.proofs.Common.{◌≡◌, ◌<◌, ◌≤◌, ◌+◌, ◌-◌, ℕ, zero, suc, Bool, true, false, cond, List, [], ◌∷◌, ◌++◌, map, take, drop, get_or, length, sym, subst, ap, ◌∙◌, refl, arith}
+use Rattle.std.proofs.Common.{◌≡◌, ◌<◌, ◌≤◌, ◌+◌, ◌-◌, ℕ, suc, Bool, true, false, cond, List, [], ◌∷◌, ◌++◌, map, take, drop, get_or, length, sym, subst, ap, ◌∙◌, refl, arith}
 use Rattle.std.specs.Prelude.{filter, nat_lt, sum_by}
 use Rattle.std.specs.List.{AllByRecursion}
 use Rattle.std.proofs.lemmas.Bool.{lt-ltb}
@@ -39,24 +39,16 @@ items_append (x ∷ xs) ys = ap (λ rs. x.item ∷ rs) (items_append xs ys)
 -- one between others that are not in service
 serving_mid : (front : List Record) (z : Record) (back : List Record) → AreIdle front → AreIdle back
     → sum_by left_if_serving (front ++ z ∷ back) ≡ left_if_serving z
-serving_mid [] z back i j =
-    let e : sum_by left_if_serving (z ∷ back) ≡ left_if_serving z =
-    omega (arith, serving_cons z back, idle_serving back j) in
-    e
+serving_mid [] z back i j = search (arith, serving_cons z back, idle_serving back j)
 serving_mid (r ∷ front) z back i j =
-    let e : sum_by left_if_serving (r ∷ (front ++ z ∷ back)) ≡ left_if_serving z =
-    omega (arith, serving_cons r (front ++ z ∷ back), idle_left r (idle_of r i.0), serving_mid front z back i.1 j) in
-    e
+    search (arith, serving_cons r (front ++ z ∷ back), idle_left r (idle_of r i.0), idle_of r i.0, serving_mid front z
+    back i.1 j)
 
 serving_without : (front : List Record) (x : Record) (back : List Record) → is_in_service x ≡ false
     → sum_by left_if_serving (front ++ x ∷ back) ≡ sum_by left_if_serving (front ++ back)
-serving_without [] x back e =
-    let k : sum_by left_if_serving (x ∷ back) ≡ sum_by left_if_serving back =
-    omega (arith, serving_cons x back, idle_left x e) in
-    k
+serving_without [] x back e = search (arith, serving_cons x back, idle_left x e)
 serving_without (r ∷ front) x back e =
-    serving_cons r (front ++ x ∷ back) ∙ ap (λ s. left_if_serving r + s) (serving_without front x back e)
-    ∙ sym (serving_cons r (front ++ back))
+    search (arith, serving_cons r (front ++ x ∷ back), serving_without front x back e, serving_cons r (front ++ back))
 
 idle_append : (xs ys : List Record) → AreIdle xs → AreIdle ys → AreIdle (xs ++ ys)
 idle_append [] ys i j = j
@@ -68,17 +60,11 @@ items_fallen n (s ∷ ss) = ap (λ rs. s.item ∷ rs) (items_fallen n ss)
 
 pub items_unless : (n : ℕ) (ss : List Slot) → items (map (lowered_unless_serving n) ss) ≡ items ss
 items_unless n [] = refl
-items_unless n (s ∷ ss) = by (is_in_service s.item) ∙ ap (λ rs. s.item ∷ rs) (items_unless n ss)
-  where
-    by : (t : Bool) → (cond t s (lowered_by n s)).item ∷ items (map (lowered_unless_serving n) ss) ≡ s.item
-        ∷ items (map (lowered_unless_serving n) ss)
-    by true = refl
-    by false = refl
+items_unless n (s ∷ ss) = search (arith, items_unless n ss)
 
 pub item_there : (ss : List Slot) (k : ℕ) → k < length ss → (slot_at ss k).item ≡ get_or (items ss) k no_record
-item_there [] k l = absurd (omega (arith, l))
-item_there (s ∷ ss) zero l = refl
 item_there (s ∷ ss) (suc k) l = item_there ss k (omega (arith, l))
+item_there ss k h2 = grind arith
 
 -- a place among waiting commands that stand in slots is a slot's, and the command stands there
 pub place_in : (ss : List Slot) {rs : List Record} {place : ℕ} → items ss ≡ rs → place < length rs → place < length ss
@@ -90,9 +76,7 @@ item_at ss {place = place} w l = item_there ss place (place_in ss w l) ∙ ap (�
 
 pub lowered_none : (n : ℕ) (ss : List Slot) → n ≡ 0 → ss ≡ map (lowered_by n) ss
 lowered_none n [] e = refl
-lowered_none n (s ∷ ss) e =
-    let same : s.due ≡ s.due - n = omega (arith, e) in
-    (λ i. record { item = s.item; target = s.target; due = same i } ∷ lowered_none n ss e i)
+lowered_none n (s ∷ ss) e = search (arith, lowered_none n ss e)
 
 module _ (budget : ℕ) where
   fig_idle : (b a : ℕ) (r : Record) → is_in_service r ≡ false → figure_in budget b a r ≡ b + a + (budget - r.passed)
@@ -132,13 +116,10 @@ module _ (budget : ℕ) where
       → AreDue budget (c + 1) b ss
   behind_step c b [] a i = tt
   behind_step c b (s ∷ ss) a i =
-      let f = fig_idle (b + 1) (serving ss) s.item (idle_of s.item i.0) in
-      let g = fig_idle b (serving ss) s.item (idle_of s.item i.0) in
-      let h = a.0 in (
-        omega (arith, f, g, h),
-        behind_step c (b + left_of s.item) ss
-            (at_before c (b + 1 + left_of s.item) (b + left_of s.item + 1) ss (omega arith) a.1) i.1,
-      )
+      search (arith, fig_idle (b + 1) (serving ss) s.item (idle_of s.item i.0), idle_of s.item i.0, fig_idle b (serving
+      ss) s.item (idle_of s.item i.0), behind_step c (b + left_of s.item) ss (at_before c (b + 1 + left_of s.item) (b +
+      left_of s.item + 1) ss (omega arith) a.1) i.1, at_before c (b + 1 + left_of s.item) (b + left_of s.item + 1) ss
+      (omega arith) a.1)
 
   module _ (c w : ℕ) (y z : Slot) (back : List Slot) (j : AreIdle (items back)) (idle : y.item.done ≡ 0)
       (weighs : left_of y.item ≡ w) (step : z.item ≡ advanced y.item) (due : z.due ≡ c + w) (some : 0 < w) where
@@ -210,15 +191,10 @@ module _ (budget : ℕ) where
       → AreDue budget c b (map (lowered_by n) ss)
   fallen c b n [] a i = tt
   fallen c b n (s ∷ ss) a i =
-      let same = items_fallen n ss in
-      let f = fig_idle (b + n) (serving ss) s.item (idle_of s.item i.0) in
-      let g = fig_idle b (serving ss) s.item (idle_of s.item i.0) in
-      let h = a.0 in
-      let head : s.due - n ≡ c + figure_in budget b (serving ss) s.item = omega (arith, f, g, h) in (
-        head ∙ ap (λ k. c + figure_in budget b k s.item) (ap (sum_by left_if_serving) (sym same)),
-        fallen c (b + left_of s.item) n ss (at_before c (b + n + left_of s.item) (b + left_of s.item
-            + n) ss (omega arith) a.1) i.1,
-      )
+      search (arith, items_fallen n ss, fig_idle (b + n) (serving ss) s.item (idle_of s.item i.0), idle_of s.item i.0,
+      fig_idle b (serving ss) s.item (idle_of s.item i.0), fallen c (b + left_of s.item) n ss (at_before c (b + n +
+      left_of s.item) (b + left_of s.item + n) ss (omega arith) a.1) i.1, at_before c (b + n + left_of s.item) (b +
+      left_of s.item + n) ss (omega arith) a.1)
 
   module _ (c : ℕ) (y : Slot) (back : List Slot) (j : AreIdle (items back)) (was : is_in_service y.item ≡ true) where
     pub due_ended : (b : ℕ) (front : List Slot) → AreDue budget c b (front ++ y ∷ back) → AreIdle (items front)
@@ -297,11 +273,10 @@ module _ (budget : ℕ) where
   behind_enough : (c b n : ℕ) (ss : List Slot) → AreDue budget c (b + n) ss
       → AllByRecursion (λ s. is_in_service s.item ≡ false → n ≤ s.due) ss
   behind_enough c b n [] a = tt
-  behind_enough c b n (s ∷ ss) a = (
-    λ e. let f = fig_idle (b + n) (serving ss) s.item e in let h = a.0 in omega (arith, f, h),
-    behind_enough c (b + left_of s.item) n ss
-        (at_before c (b + n + left_of s.item) (b + left_of s.item + n) ss (omega arith) a.1),
-  )
+  behind_enough c b n (s ∷ ss) a =
+      search (arith, behind_enough c (b + left_of s.item) n ss (at_before c (b + n + left_of s.item) (b + left_of s.item
+      + n) ss (omega arith) a.1), at_before c (b + n + left_of s.item) (b + left_of s.item + n) ss (omega arith) a.1,
+      fig_idle)
 
   pub abort_enough : (c b : ℕ) (front : List Slot) (x : Slot) (back : List Slot) → AreDue budget c b (front ++ x ∷ back)
       → AllByRecursion (λ s. is_in_service s.item ≡ false → left_of x.item ≤ s.due) back
@@ -313,13 +288,7 @@ module _ (budget : ℕ) where
   pub due_set_back : (c n b : ℕ) (ss : List Slot) → AreDue budget (c + n) b ss
       → AreDue budget c b (map (lowered_by n) ss)
   due_set_back c n b [] a = tt
-  due_set_back c n b (s ∷ ss) a =
-      let same = items_fallen n ss in
-      let h = a.0 in
-      let head : s.due - n ≡ c + figure_in budget b (serving ss) s.item = omega (arith, h) in (
-        head ∙ ap (λ k. c + figure_in budget b k s.item) (ap (sum_by left_if_serving) (sym same)),
-        due_set_back c n (b + left_of s.item) ss a.1,
-      )
+  due_set_back c n b (s ∷ ss) a = search (arith, items_fallen n ss, due_set_back c n (b + left_of s.item) ss a.1)
 
   pub late : (c b : ℕ) (ss : List Slot) → AreDue budget c b ss → AllByRecursion (λ s. c ≤ s.due) ss
   late c b [] a = tt
@@ -330,43 +299,21 @@ module _ (budget : ℕ) where
   tells : (c b : ℕ) (ss : List Slot) → AreDue budget c b ss → (k : ℕ) → k < length ss
       → (slot_at ss k).due ≡ c + figure_in budget (b + sum_by left_of (take k (items ss)))
       (sum_by left_if_serving (drop (k + 1) (items ss))) (slot_at ss k).item
-  tells c b [] a k l = absurd (omega (arith, l))
-  tells c b (s ∷ ss) a zero l =
-      let e : b ≡ b + 0 = omega arith in
-      a.0 ∙ ap (λ b. c + figure_in budget b (serving ss) s.item) e
   tells c b (s ∷ ss) a (suc k) l =
       let h = tells c (b + left_of s.item) ss a.1 k (omega (arith, l)) in
       let t = sum_by-cons left_of s.item (take k (items ss)) in
       let e : b + left_of s.item + sum_by left_of (take k (items ss)) ≡ b
       + sum_by left_of (s.item ∷ take k (items ss)) = omega (arith, t) in
       let rises : suc (k + 1) ≡ suc k + 1 = omega arith in
-      h ∙ ap (λ b. c + figure_in budget b (sum_by left_if_serving (drop (k + 1) (items ss))) (slot_at ss k).item) e
-      ∙ ap (λ n. c + figure_in budget (b + sum_by left_of (s.item ∷ take k (items ss)))
-      (sum_by left_if_serving (drop n (s.item ∷ items ss))) (slot_at ss k).item) rises
+      search arith
+  tells c b ss h3 k h5 = search arith
 
   -- what is left in service, by a filter
   filtered : (rs : List Record) → sum_by left_if_serving rs ≡ sum_by left_of (filter is_in_service rs)
   filtered [] = refl
-  filtered (r ∷ rs) = sum_by-cons left_if_serving r rs ∙ ap (λ s. left_if_serving r + s) (filtered rs)
-      ∙ by (is_in_service r)
-    where
-      by : (t : Bool) → cond t (left_of r) 0 + sum_by left_of (filter is_in_service rs)
-          ≡ sum_by left_of (cond t (r ∷ filter is_in_service rs) (filter is_in_service rs))
-      by true = sym (sum_by-cons left_of r (filter is_in_service rs))
-      by false = let e : 0 + sum_by left_of (filter is_in_service rs) ≡ sum_by left_of (filter is_in_service rs) =
-          omega arith in e
+  filtered (r ∷ rs) =
+      search (arith, sum_by-cons left_if_serving r rs, filtered rs, sum_by-cons left_of r (filter is_in_service rs))
 
   pub due_tells : (c : ℕ) (ss : List Slot) (k : ℕ) → AreDue budget c 0 ss → k < length ss
       → (slot_at ss k).due ≡ c + figure_at budget (items ss) k
-  due_tells c ss k a l =
-      let rs = items ss in
-      let f = filtered (drop (k + 1) rs) in
-      let sums : 0 + sum_by left_of (take k rs)
-      + sum_by left_if_serving (drop (k + 1) rs) ≡ sum_by left_of (take k rs)
-      + sum_by left_of (filter is_in_service (drop (k + 1) rs)) = omega (arith, f) in
-      let there = item_there ss k l in
-      tells c 0 ss a k l
-      ∙ ap (λ (r : Record). c + figure_in budget (0
-      + sum_by left_of (take k rs)) (sum_by left_if_serving (drop (k + 1) rs)) r) there
-      ∙ ap (λ n. c + cond (is_in_service (get_or rs k no_record)) (left_of (get_or rs k no_record)) (n
-      + (budget - (get_or rs k no_record).passed) + left_of (get_or rs k no_record))) sums
+  due_tells c ss k a l = search (arith, item_there ss k l, tells c 0 ss a k l, filtered)

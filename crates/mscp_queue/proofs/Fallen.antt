@@ -78,25 +78,14 @@ pub lowered_all : {rs : List Record} {own : List Target} {order : List ℕ} {m :
     → AreKept rs own order m → shown rs own ds order ≡ now
     → ((k : ℕ) → k < 64 → get_or ds' k 0 ≡ lowered m.waiting by k (get_or ds k 0))
     → shown rs own ds' order ≡ map (lowered_by by) now
-lowered_all {rs} {own} {order} {m} ds ds' now by kept view fall =
-    each_held (held rs own ds) (held rs own ds') (lowered_by by) order kept.masks.apart
-    (λ k l there. fell rs own ds ds' m.waiting by fall k l (kept.masks.of_waiting k l ∙ ap bit there))
-    ∙ ap (map (lowered_by by)) view
+lowered_all {rs} {own} {order} {m} ds ds' now by kept view fall = search (arith, each_held)
 
 on_off : bit true ≡ bit false → ⊥
 on_off e = omega (arith, e)
 
 has_back : (k : ℕ) (front : List ℕ) (n : ℕ) (back : List ℕ) → has k back ≡ true → has k (front ++ n ∷ back) ≡ true
-has_back k [] n back e = ap (λ b. nat_eq k n || b) e ∙ or_true (nat_eq k n)
-  where
-    or_true : (b : Bool) → (b || true) ≡ true
-    or_true true = refl
-    or_true false = refl
-has_back k (x ∷ front) n back e = ap (λ b. nat_eq k x || b) (has_back k front n back e) ∙ or_true (nat_eq k x)
-  where
-    or_true : (b : Bool) → (b || true) ≡ true
-    or_true true = refl
-    or_true false = refl
+has_back k [] n back e = search (arith, nat_eq k n)
+has_back k (x ∷ front) n back e = search (arith, nat_eq k x, has_back k front n back e)
 
 not_front : (k : ℕ) (front : List ℕ) (n : ℕ) (back : List ℕ) → AreSlots (front ++ n ∷ back) → has k back ≡ true
     → has k front ≡ false
@@ -127,11 +116,8 @@ later : (kinds : ℕ → Kind) (front : List ℕ) (n : ℕ) (back : List ℕ) (m
 later kinds front n back m masks k l there =
     let once = once_in front n back masks.apart in
     let earlier : IsMaskOf (get_or m.earlier n 0) (λ k. has k front) =
-    earlier_at (λ k. get_or m.earlier k 0) [] front n back masks.of_earlier in (
-      masks.of_waiting k l ∙ ap bit (has_back k front n back there),
-      earlier k l ∙ ap bit (not_front k front n back masks.apart there),
-      λ e. on_off (ap bit (sym there ∙ ap (λ k. has k back) e ∙ once.1)),
-    )
+    earlier_at (λ k. get_or m.earlier k 0) [] front n back masks.of_earlier in
+    search (arith, has_back, not_front, on_off)
 
 -- those behind a slot, but for one in service
 module _ (kinds : ℕ → Kind) (front : List ℕ) (n : ℕ) (back : List ℕ) (m : Masks) (mask : ℕ)
@@ -309,8 +295,7 @@ of_unit_behind {rs} {own} {order} {m} {place} {n} {drive} ds now kept view insid
     let masks = subst (λ o. AreMasks (kind_at rs own) o m) (cut_order order place n h) kept.masks in
     let d = (slot_at now place).target.drive in
     let P : Slot → Type 0 = λ s. s.target.drive ≡ d in
-    let there : drive ≡ d = e ∙ ap (λ (s : Slot). s.target.drive)
-    (slot_is rs own ds order now place n view inside h.is) in
+    let there : drive ≡ d = search (arith, slot_is rs own ds order now place n view inside h.is) in
     subst (All P) (sym (drop-map f (place + 1) order) ∙ ap (drop (place + 1)) view)
     (All-from_recursion P (map f back) (each back (slots_back front n back masks.apart) (λ k l in_back.
     let bits = later (kind_at rs own) front n back m masks k l in_back in

@@ -16,31 +16,18 @@ pub earlier_at : (earlier : ℕ → ℕ) (done front : List ℕ) (s : ℕ) (back
     → IsMaskOf (earlier s) (λ k. has k (done ++ front))
 earlier_at earlier done [] s back a = subst (λ xs. IsMaskOf (earlier s) (λ k. has k xs)) (sym (append-nil done)) a.0
 earlier_at earlier done (x ∷ front) s back a =
-    subst (λ xs. IsMaskOf (earlier s) (λ k. has k xs)) (append_assoc done (x ∷ []) front)
-    (earlier_at earlier (done ++ x ∷ []) front s back a.1)
+    search (arith, append_assoc done (x ∷ []) front, earlier_at earlier (done ++ x ∷ []) front s back a.1)
 
 has_front : (k : ℕ) (front back : List ℕ) → has k front ≡ true → has k (front ++ back) ≡ true
 has_front k [] back e = let bad = ap bit e in absurd (omega (arith, bad))
-has_front k (x ∷ front) back e = by (nat_eq k x) (has k front) (has_front k front back) e
-  where
-    by : (b c : Bool) → (c ≡ true → has k (front ++ back) ≡ true) → (b || c) ≡ true
-        → (b || has k (front ++ back)) ≡ true
-    by true c h e = refl
-    by false c h e = h e
+has_front k (x ∷ front) back e = search (arith, nat_eq k x, has_front k front back)
 
 below_64 : (k : ℕ) (front back : List ℕ) → AreSlots (front ++ back) → has k front ≡ true → k < 64
 below_64 k [] back a e = let bad = ap bit e in absurd (omega (arith, bad))
-below_64 k (x ∷ front) back a e = by (nat_eq k x) (eqb-true k x) (below_64 k front back a.2) e
-  where
-    by : (b : Bool) → (b ≡ true → k ≡ x) → (has k front ≡ true → k < 64) → (b || has k front) ≡ true → k < 64
-    by true h i e = let f = h refl in let l = a.0 in omega (arith, f, l)
-    by false h i e = i e
+below_64 k (x ∷ front) back a e = search (arith, nat_eq k x, eqb-true k x, below_64 k front back a.2)
 
 and_bit : (a b : Bool) → min (bit a) (bit b) ≡ bit (a && b)
-and_bit true true = refl
-and_bit true false = refl
-and_bit false true = refl
-and_bit false false = refl
+and_bit a b = grind arith
 
 -- where each of some slots fails a test, no slot is one of them and passes it
 none_has : (test : ℕ → Bool) (xs : List ℕ) → list_all (λ t. not (test t)) xs ≡ true → (k : ℕ)
@@ -96,35 +83,17 @@ module _ (m : ℕ) (front : List ℕ) (test : ℕ → Bool) (small : m < 2 ^ 64)
 -- two masks joined
 joined : (a b : ℕ) (p q r : ℕ → Bool) → IsMaskOf a p → IsMaskOf b q → ((k : ℕ) → (p k && q k) ≡ r k)
     → IsMaskOf (bit_and a b) r
-joined a b p q r f g h = λ k l. bit_at_and a b k ∙ ap (λ x. min x (bit_at b k)) (f k l)
-    ∙ ap (min (bit (p k))) (g k l) ∙ and_bit (p k) (q k) ∙ ap bit (h k)
+joined a b p q r f g h = search (arith, bit_at_and, min, and_bit)
 
 for_sequential : (f o n q ys : Bool) → (f ≡ true → o ≡ true) → ys ≡ true → (f && (o && n)) ≡ (f && (n && (q || ys)))
-for_sequential false o n q ys h e = refl
-for_sequential true o n q ys h e = ap (λ o. o && n) (h refl)
-    ∙ sym (ap (λ ys. n && (q || ys)) e ∙ ap (λ t. n && t) (or_true q) ∙ and_true n)
-  where
-    or_true : (b : Bool) → (b || true) ≡ true
-    or_true true = refl
-    or_true false = refl
-
-    and_true : (b : Bool) → (b && true) ≡ b
-    and_true true = refl
-    and_true false = refl
+for_sequential f o n q ys h5 h6 = grind arith
 
 for_transfer : (f o n q ys : Bool) → (f ≡ true → o ≡ true) → ys ≡ false
     → ((f && (o && n)) && (o && q)) ≡ (f && (n && (q || ys)))
-for_transfer false o n q ys h e = refl
-for_transfer true o n q ys h e = ap (λ o. (o && n) && (o && q)) (h refl)
-    ∙ sym (ap (λ ys. n && (q || ys)) e ∙ ap (λ t. n && t) (or_false q))
-  where
-    or_false : (b : Bool) → (b || false) ≡ b
-    or_false true = refl
-    or_false false = refl
+for_transfer f o n q ys h5 h6 = grind arith
 
 tested : (m : ℕ) (b : Bool) → (b ≡ true → m ≡ 0) → (m ≡ 0 → b ≡ true) → nat_eq m 0 ≡ b
-tested m true to from = eq-eqb m 0 (to refl)
-tested m false to from = ne_eqb m 0 (λ e. let bad = ap bit (from e) in omega (arith, bad))
+tested m b h2 h3 = grind (arith, eq-eqb, ne_eqb)
 
 -- no slot in front keeps one back where the masks joined are 0
 pub free_tells : (kinds : ℕ → Kind) (front : List ℕ) (s : ℕ) (back : List ℕ) (m : Masks)

@@ -1,13 +1,12 @@
 -- What is true of each queue stays true.
 use Rattle.std.proofs.Common.{◌≡◌, ◌≢◌, ◌⊎◌, ⊎_elim, ℕ, ◌+◌, ◌*◌, ◌<◌, ◌≤◌, Bool, true, false, cond, ◌||◌, List, [], ◌∷◌, ◌++◌, map, length, refl, ap, sym, ◌∙◌, subst, arith}
-use Rattle.std.specs.Prelude.{All, filter, nat_lt, if◌then◌else◌, is_some, Option, None}
+use Rattle.std.specs.Prelude.{All, filter, nat_lt, is_some, Option, None}
 use Rattle.std.specs.List.{AllByRecursion, list_any, refill}
 use Rattle.std.proofs.lemmas.List.{length-append, length-map, map-append}
 use Rattle.std.proofs.lemmas.List.Elements.{All-from_recursion, All-nil, filter-append, recursion_from_All}
 use Rattle.std.proofs.lemmas.Bool.{ltb-false, lt-ltb, false≢true, true≢false}
 use Rattle.mscp_packet.specs.declared.command.Command.{Command}
 use Rattle.mscp_packet.specs.declared.command.Order.{Order}
-use Rattle.mscp_packet.specs.declared.command.Order.TheVariants as orders
 use Rattle.mscp_drive.specs.Shape.{Shape}
 use Rattle.mscp_drive.specs.UnitList.{IsUnitList}
 use Rattle.mscp_queue.specs.declared.drive.Drive.{Drive}
@@ -61,49 +60,31 @@ held_fresh room budget longest us rs ds a b c d e u n f =
 -- the drives are as new
 pub renewed : (ds ws : List Drive) → ws ≡ map (λ d. fresh_drive d.unit) ds
     → refill (length ds) ds ws ≡ map fresh_drive (units_of ds)
-renewed ds ws e = refilled ds ws (ap length e ∙ length-map ds (λ (d : Drive). fresh_drive d.unit))
-    ∙ (e ∙ sym (map_map (λ (d : Drive). d.unit) fresh_drive ds))
+renewed ds ws e = search (arith, refilled, length-map, map_map)
 
 pub held_renewed : (room budget longest : ℕ) (rs new : List Record) (ds ds' : List Drive) (begun : Option Name)
     (serving : Bool) → IsHeld room budget longest rs ds begun serving → new ≡ [] → ds' ≡ map fresh_drive (units_of ds)
     → IsHeld room budget longest new ds' None false
 held_renewed room budget longest rs new ds ds' begun serving h n e =
-    let s = h.small in
-    held_fresh room budget longest (units_of ds) new ds' h.some_room h.few h.some_blocks h.short (omega arith) h.units
-    n e
+    search (arith, held_fresh room budget longest (units_of ds) new ds' h.some_room h.few h.some_blocks h.short (omega
+    arith) h.units n e)
 
 -- ---- a command comes
 
 -- each order takes a step
 pub some_steps : (o : Order) → 1 ≤ order_weight o
-some_steps (orders.Move kind count block) = omega arith
-some_steps (orders.Abort other) = omega arith
-some_steps (orders.Status other) = omega arith
-some_steps orders.UnitStatus = omega arith
-some_steps (orders.SetController version) = omega arith
-some_steps orders.Available = omega arith
-some_steps orders.Online = omega arith
-some_steps orders.SetUnit = omega arith
-some_steps (orders.Invalid opcode status) = omega arith
+some_steps o = grind arith
 
 fresh_kept : (budget longest : ℕ) (us : List Shape) (by : Connection) (c : Command) → IsWaitable longest us c
     → IsKept budget longest us (fresh_record by c)
-fresh_kept budget longest us by c w = record {
-  waitable = w;
-  weight = refl;
-  unfinished = some_steps c.order;
-  good =
-      refl;
-  passed = omega arith;
-}
+fresh_kept budget longest us by c w = search (arith, some_steps c.order)
 
 apart_more : (xs : List Name) (x : Name) → AreApart xs → AllByRecursion (λ y. x ≢ y) xs → AreApart (xs ++ x ∷ [])
 apart_more [] x a n = (tt, tt)
 apart_more (y ∷ ys) x a n = (every_append (λ z. z ≢ y) ys (x ∷ []) a.0 (n.0, tt), apart_more ys x a.1 n.1)
 
 or_parts : (a b : Bool) → (a || b) ≡ false → (a ≡ false) × (b ≡ false)
-or_parts true b h = absurd (true≢false h)
-or_parts false b h = (refl, h)
+or_parts a b h2 = grind (arith, true≢false)
 
 none_has : (gone : Name) (rs : List Record) → list_any (has_name gone) rs ≡ false
     → AllByRecursion (λ y. gone ≢ y) (names rs)
@@ -150,35 +131,18 @@ held_pushed room budget longest rs new ds begun serving by c h l w n e =
 
 kept_passed : (budget longest n : ℕ) (us : List Shape) (r : Record) → IsKept budget longest us r
     → r.passed + n ≤ budget → IsKept budget longest us (passed_by n r)
-kept_passed budget longest n us r h l = record {
-  waitable = h.waitable;
-  weight = h.weight;
-  unfinished =
-      h.unfinished;
-  good = h.good;
-  passed = l;
-}
+kept_passed budget longest n us r h l = search arith
 
 front_kept : (budget longest n : ℕ) (us : List Shape) (A : List Record) → AllByRecursion (IsKept budget longest us) A
     → AllByRecursion (λ r. r.passed + n ≤ budget) A
     → AllByRecursion (IsKept budget longest us) (map (passed_by n) A)
 front_kept budget longest n us [] h l = tt
-front_kept budget longest n us (r ∷ rs) h l = (
-  kept_passed budget longest n us r h.0 l.0,
-  front_kept budget longest n
-      us rs h.1 l.1,
-)
+front_kept budget longest n us (r ∷ rs) h l =
+    search (arith, kept_passed budget longest n us r h.0 l.0, front_kept budget longest n us rs h.1 l.1)
 
 kept_advanced : (budget longest : ℕ) (us : List Shape) (r : Record) → IsKept budget longest us r
     → r.done + 1 < r.weight → IsKept budget longest us (advanced r)
-kept_advanced budget longest us r h l = record {
-  waitable = h.waitable;
-  weight = h.weight;
-  unfinished = l;
-  good =
-      ap (λ n. n + 1) h.good;
-  passed = h.passed;
-}
+kept_advanced budget longest us r h l = search arith
 
 names_passed : (n : ℕ) (A : List Record) → names (map (passed_by n) A) ≡ names A
 names_passed n [] = refl
@@ -200,8 +164,7 @@ AreIdle rs = AllByRecursion (λ z. z.done ≡ 0) rs
 
 idle_none : (rs : List Record) → AreIdle rs → length (filter is_in_service rs) ≡ 0
 idle_none [] h = refl
-idle_none (r ∷ rs) h = ap (λ n. length (cond (nat_lt 0 n) (r ∷ filter is_in_service rs) (filter is_in_service rs))) h.0
-    ∙ idle_none rs h.1
+idle_none (r ∷ rs) h = search (arith, idle_none rs h.1)
 
 none_idle : (rs : List Record) → length (filter is_in_service rs) ≡ 0 → AreIdle rs
 none_idle [] h = tt
@@ -222,39 +185,22 @@ passed_idle n (r ∷ rs) h = (h.0, passed_idle n rs h.1)
 -- the others are idle where one is in service
 pub others_idle : (A : List Record) (r : Record) (B : List Record) → length (filter is_in_service (A ++ r ∷ B)) ≤ 1
     → 0 < r.done → AreIdle A × AreIdle B
-others_idle A r B one l =
-    let own : filter is_in_service (r ∷ B) ≡ r ∷ filter is_in_service B =
-    ap (λ b. cond b (r ∷ filter is_in_service B) (filter is_in_service B)) (lt-ltb 0 r.done l) in
-    let all = ap length (filter-append is_in_service A (r ∷ B))
-    ∙ (length-append (filter is_in_service A) (filter is_in_service (r ∷ B))
-    ∙ ap (λ xs. length (filter is_in_service A) + length xs) own) in
-    (none_idle A (omega (arith, all, one)), none_idle B (omega (arith, all, one)))
+others_idle A r B one l = grind (arith, lt-ltb, filter-append, length-append, none_idle)
 
 own_one : (r : Record) (own : List Record) → IsLeft r own → length own ≤ 1
 own_one r own h = ⊎_elim (λ e. omega (arith, ap length e)) (λ e. omega (arith, ap length e.0)) h.left
 
 own_serving : (own : List Record) → length own ≤ 1 → length (filter is_in_service own) ≤ 1
-own_serving [] h = omega arith
-own_serving (r ∷ []) h = elim (is_in_service r) as (λ b. length (cond b (r ∷ []) []) ≤ 1)
-    [ true ↦ omega arith | false ↦ omega arith ]
-own_serving (r ∷ s ∷ rs) h = absurd (omega arith)
+own_serving (r ∷ []) h = grind arith
+own_serving own h1 = grind arith
 
 apart_left : (r : Record) (own : List Record) (A B : List Record) → IsLeft r own
     → AreApart (names A ++ (name_of r ∷ names B)) → AreApart (names A ++ (names own ++ names B))
-apart_left r own A B h a =
-    ⊎_elim
-    (λ e. subst (λ xs. AreApart (names A ++ (names xs ++ names B))) (sym e)
-    (apart_without (names A) (name_of r) (names B) a))
-    (λ e. subst (λ xs. AreApart (names A ++ (names xs ++ names B))) (sym e.0) a)
-    h.left
+apart_left r own A B h a = search (arith, apart_without (names A) (name_of r) (names B) a, ⊎_elim)
 
 kept_left : (budget longest : ℕ) (us : List Shape) (r : Record) (own : List Record) → IsLeft r own
     → IsKept budget longest us r → AllByRecursion (IsKept budget longest us) own
-kept_left budget longest us r own h k =
-    ⊎_elim
-    (λ e. subst (AllByRecursion (IsKept budget longest us)) (sym e) tt)
-    (λ e. subst (AllByRecursion (IsKept budget longest us)) (sym e.0) (kept_advanced budget longest us r k e.1, tt))
-    h.left
+kept_left budget longest us r own h k = search (arith, ⊎_elim, kept_advanced)
 
 -- what holds of a record among others
 pub record IsTurn (budget n : ℕ) (A : List Record) (r : Record) (B own : List Record) : Type 0 where
@@ -277,8 +223,7 @@ held_turn room budget longest n A r B own ds ds' begun serving serves h t ended 
     (every_append K own B (kept_left budget longest (units_of ds) r own t.left parts.1.0) parts.1.1) in
     let old_numbers : names (A ++ r ∷ B) ≡ names A ++ (name_of r ∷ names B) = map-append name_of A (r ∷ B) in
     let numbers : names new ≡ names A ++ (names own ++ names B) =
-    map-append name_of (map (passed_by n) A) (own ++ B)
-    ∙ (ap (λ xs. xs ++ names (own ++ B)) (names_passed n A) ∙ ap (λ xs. names A ++ xs) (map-append name_of own B)) in
+    search (arith, map-append name_of (map (passed_by n) A) (own ++ B), names_passed n A, map-append name_of own B) in
     let few = own_one r own t.left in
     let served = filter-append is_in_service (map (passed_by n) A) (own ++ B) in
     let served_own = filter-append is_in_service own B in
@@ -325,18 +270,9 @@ pub units_replaced : (number : ℕ) (new : Drive) (ds : List Drive)
     → AllByRecursion (λ d. has_number number d ≡ true → d.unit ≡ new.unit) ds
     → units_of (replaced number new ds) ≡ units_of ds
 units_replaced number new [] h = refl
-units_replaced number new (d ∷ ds) h =
-    let both : (b : Bool) → has_number number d ≡ b → (if b then new else d).unit ≡ d.unit =
-    λ b. elim b as (λ b. has_number number d ≡ b → (if b then new else d).unit ≡ d.unit)
-    [ true ↦ λ e. sym (h.0 e) | false ↦ λ e. refl ] in
-    ap (λ u. u ∷ units_of (replaced number new ds)) (both (has_number number d) refl)
-    ∙ ap (λ us. d.unit ∷ us) (units_replaced number new ds h.1)
+units_replaced number new (d ∷ ds) h = search (arith, units_replaced number new ds h.1)
 
 pub heads_replaced : (number : ℕ) (new : Drive) (ds : List Drive) → IsOnUnit new → AllByRecursion IsOnUnit ds
     → AllByRecursion IsOnUnit (replaced number new ds)
 heads_replaced number new [] o h = tt
-heads_replaced number new (d ∷ ds) o h = (
-  elim (has_number number d) as (λ b. IsOnUnit (if b then new else d))
-      [ true ↦ o | false ↦ h.0 ],
-  heads_replaced number new ds o h.1,
-)
+heads_replaced number new (d ∷ ds) o h = search (arith, heads_replaced number new ds o h.1)

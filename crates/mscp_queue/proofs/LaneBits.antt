@@ -1,5 +1,5 @@
 -- The bits of a mask as the lanes of a vector.
-use Rattle.std.proofs.Common.{◌≡◌, ℕ, zero, suc, ◌-◌, ◌*◌, ◌^◌, ◌<◌, List, [], ◌∷◌, Bool, true, false, cond, nat_eq, ltb, min, length, get_or, replicate, refl, sym, ap, ◌∙◌, arith, bit_and}
+use Rattle.std.proofs.Common.{◌≡◌, ℕ, ◌-◌, ◌*◌, ◌^◌, ◌<◌, List, [], ◌∷◌, Bool, false, cond, nat_eq, ltb, min, length, get_or, replicate, sym, ap, ◌∙◌, arith, bit_and}
 use Rattle.std.specs.Int.{bit_at}
 use Rattle.std.specs.Simd.Lanes.{top, sel_l, zip2}
 use Rattle.std.proofs.lemmas.Bool.{eq-eqb, ne_eqb}
@@ -10,23 +10,17 @@ use Rattle.mscp_queue.specs.Lanes.{HasLanes, lowered}
 
 -- a lane of a comparison, as its top bit
 top_of : (b : Bool) → top 63 (cond b 18446744073709551615 0) ≡ b
-top_of true = refl
-top_of false = refl
+top_of b = grind arith
 
 abbrev pub test_lane : ℕ → ℕ → Bool
 test_lane bits place = top 63 (cond (nat_eq (bit_and bits place) place) 18446744073709551615 0)
 
 times_eq : (b place : ℕ) → b < 2 → 0 < place → nat_eq (b * place) place ≡ nat_eq b 1
-times_eq zero place l some = ne_eqb (0 * place) place (λ e. omega (arith, e, some))
-times_eq (suc zero) place l some = eq-eqb (1 * place) place (omega arith)
-times_eq (suc (suc b)) place l some = absurd (omega (arith, l))
+times_eq b place h2 h3 = grind (arith, ne_eqb, eq-eqb)
 
 -- the bit of a place is set exactly where it stands in the mask
 lane_bit : (bits k place : ℕ) → place ≡ 2 ^ k → 0 < place → test_lane bits place ≡ nat_eq (bit_at bits k) 1
-lane_bit bits k place is some = top_of (nat_eq (bit_and bits place) place)
-    ∙ (ap (λ (r : ℕ). nat_eq r place) (ap (bit_and bits) is ∙ (and_pow bits k ∙ ap (λ (p : ℕ). bit_at bits k * p)
-    (sym is)))
-    ∙ times_eq (bit_at bits k) place (bit_at-lt bits k) some)
+lane_bit bits k place is some = grind (arith, top_of, nat_eq, bit_and, and_pow, times_eq, bit_at-lt)
 
 abbrev pub eight_tests : ℕ → List Bool
 eight_tests bits = test_lane bits 1 ∷ test_lane bits 2 ∷ test_lane bits 4 ∷ test_lane bits 8
@@ -34,15 +28,7 @@ eight_tests bits = test_lane bits 1 ∷ test_lane bits 2 ∷ test_lane bits 4 �
 
 -- the bit of each lane
 pub bit_of_lane : (bits k : ℕ) → k < 8 → get_or (eight_tests bits) k false ≡ nat_eq (bit_at bits k) 1
-bit_of_lane bits zero l = lane_bit bits 0 1 refl (omega arith)
-bit_of_lane bits (suc zero) l = lane_bit bits 1 2 refl (omega arith)
-bit_of_lane bits (suc (suc zero)) l = lane_bit bits 2 4 refl (omega arith)
-bit_of_lane bits (suc (suc (suc zero))) l = lane_bit bits 3 8 refl (omega arith)
-bit_of_lane bits (suc (suc (suc (suc zero)))) l = lane_bit bits 4 16 refl (omega arith)
-bit_of_lane bits (suc (suc (suc (suc (suc zero))))) l = lane_bit bits 5 32 refl (omega arith)
-bit_of_lane bits (suc (suc (suc (suc (suc (suc zero)))))) l = lane_bit bits 6 64 refl (omega arith)
-bit_of_lane bits (suc (suc (suc (suc (suc (suc (suc zero))))))) l = lane_bit bits 7 128 refl (omega arith)
-bit_of_lane bits (suc (suc (suc (suc (suc (suc (suc (suc k)))))))) l = absurd (omega arith)
+bit_of_lane bits k h2 = grind (arith, lane_bit)
 
 chosen : (m x y a : ℕ) → (m ≡ 1 → x ≡ y) → cond (nat_eq m 1) x a ≡ cond (nat_eq m 1) y a
 chosen m x y a h = grind (arith, nat_tests, h)
@@ -69,12 +55,7 @@ module _ (v : List ℕ) (bits rest : ℕ) (len : length v ≡ 8) where
   -- the lanes whose bits are set, and one number in the others
   pub kept : HasLanes (sel_l (eight_tests bits) v (replicate 8 rest))
       (λ k. cond (nat_eq (bit_at bits k) 1) (get_or v k 0) rest)
-  kept = record {
-    long = length-sel_l (eight_tests bits) v (replicate 8 rest) (sym len) refl;
-    each = λ k l.
-        get_or-sel_l (eight_tests bits) v (replicate 8 rest) k 0 l (omega arith) l
-        ∙ (λ i. cond (bit_of_lane bits k l i) (get_or v k 0) (get_or-replicate 8 k rest 0 l i));
-  }
+  kept = grind (arith, length-sel_l, get_or-sel_l, bit_of_lane, get_or-replicate)
 
 lesser : (x y : ℕ) → cond (ltb x y) x y ≡ min x y
 lesser x y = grind (arith, nat_tests)
@@ -82,16 +63,7 @@ lesser x y = grind (arith, nat_tests)
 -- the lesser of each two lanes
 pub least_of_two : (a b : List ℕ) → length a ≡ 8 → length b ≡ 8
     → HasLanes (sel_l (zip2 ltb a b) a b) (λ k. min (get_or a k 0) (get_or b k 0))
-least_of_two a b p q =
-    let long : length (zip2 ltb a b) ≡ 8 = length-zip2 ltb a b (p ∙ sym q) ∙ p in
-    record {
-      long = length-sel_l (zip2 ltb a b) a b (long ∙ sym p) (long ∙ sym q) ∙ long;
-      each = λ k l.
-          get_or-sel_l (zip2 ltb a b) a b k 0 (omega arith) (omega arith) (omega arith)
-          ∙ ap (λ t. cond t (get_or a k 0) (get_or b k 0)) (get_or-zip2 ltb a b k 0 0 false (omega arith)
-          (omega arith))
-          ∙ lesser (get_or a k 0) (get_or b k 0);
-    }
+least_of_two a b p q = grind (arith, ltb, length-zip2, length-sel_l, get_or-sel_l, get_or-zip2, lesser)
 
 -- where all eight bits are set, each lane is kept
 pub all_kept : (v : List ℕ) (bits rest : ℕ) → length v ≡ 8 → bit_and bits 255 ≡ 255

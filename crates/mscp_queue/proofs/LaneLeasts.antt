@@ -1,5 +1,5 @@
 -- The least of lanes, of the masked costs in a lane, and of all masked costs.
-use Rattle.std.proofs.Common.{◌≡◌, ◌≢◌, ◌<◌, ◌≤◌, ◌+◌, ◌-◌, ◌*◌, ◌/◌, ◌%◌, ◌^◌, ◌⊎◌, inl, inr, ℕ, List, get_or, cond, nat_eq, min, ap, sym, subst, ◌∙◌, arith, w64, Option, Some, None, IfSome, IfNone, bit_and}
+use Rattle.std.proofs.Common.{◌≡◌, ◌≢◌, ◌<◌, ◌≤◌, ◌+◌, ◌-◌, ◌*◌, ◌/◌, ◌%◌, ◌^◌, ◌⊎◌, inl, inr, ℕ, List, get_or, cond, nat_eq, min, ap, sym, subst, ◌∙◌, arith, w64, Option, IfSome, IfNone, bit_and}
 use Rattle.std.specs.Int.{bit_at, trailing_zeros}
 use Rattle.std.proofs.lemmas.Bool.Decides.{nat_tests}
 use Rattle.std.proofs.lemmas.Nat.Bits.{bit_at_and, bit_at-trailing_zeros, bit_at-lt, bit_at-zero}
@@ -23,24 +23,7 @@ below_or_at k n l = grind arith
 
 module _ (v : List ℕ) (n x : ℕ) (old : IsLane v n x) where
   pub lane_more : IsLane v (n + 1) (min x (get_or v n 0))
-  lane_more = record {
-    below = λ k l. under k l (below_or_at k n l);
-    found = found_by (lower_or x (get_or v n 0));
-  }
-    where
-      under : (k : ℕ) → k < n + 1 → (k < n) ⊎ (k ≡ n) → min x (get_or v n 0) ≤ get_or v k 0
-      under k l (inl less) = let h = old.below k less in omega (arith, h)
-      under k l (inr same) = subst (λ k. min x (get_or v n 0) ≤ get_or v k 0) (sym same) (omega arith)
-
-      kept : x ≤ get_or v n 0 → (x ≡ 2 ^ 64 - 1) ⊎ ((k : ℕ) × (k < n) × (get_or v k 0 ≡ x))
-          → (min x (get_or v n 0) ≡ 2 ^ 64 - 1) ⊎ ((k : ℕ) × (k < n + 1) × (get_or v k 0 ≡ min x (get_or v n 0)))
-      kept l (inl most) = inl (omega arith)
-      kept l (inr h) = let e = h.2 in inr (h.0, omega (arith, h.1), omega (arith, e))
-
-      found_by : (x ≤ get_or v n 0) ⊎ (get_or v n 0 < x) → (min x (get_or v n 0) ≡ 2 ^ 64 - 1)
-          ⊎ ((k : ℕ) × (k < n + 1) × (get_or v k 0 ≡ min x (get_or v n 0)))
-      found_by (inl l) = kept l old.found
-      found_by (inr g) = inr (n, omega arith, omega arith)
+  lane_more = search (arith, lower_or x (get_or v n 0), min x (get_or v n 0), below_or_at)
 
 -- ---- the costs in one lane of each block
 
@@ -52,36 +35,10 @@ module _ (costs : List ℕ) (mask n j x : ℕ) (old : IsLow costs mask n j x) wh
   cost = get_or costs (8 * n + j) 0
 
   low_on : bit_at mask (8 * n + j) ≡ 1 → IsLow costs mask (n + 1) j (min x cost)
-  low_on set = record {
-    below = λ i l on. under i on (below_or_at i n l);
-    found = found_by (lower_or x cost);
-  }
-    where
-      under : (i : ℕ) → bit_at mask (8 * i + j) ≡ 1 → (i < n) ⊎ (i ≡ n) → min x cost ≤ get_or costs (8 * i + j) 0
-      under i on (inl less) = let h = old.below i less on in omega (arith, h)
-      under i on (inr same) = subst (λ i. min x cost ≤ get_or costs (8 * i + j) 0) (sym same) (omega arith)
-
-      kept : x ≤ cost → FoundLow costs mask j n x → FoundLow costs mask j (n + 1) (min x cost)
-      kept l (inl most) = inl (omega arith)
-      kept l (inr h) = let e = h.3 in inr (h.0, omega (arith, h.1), h.2, omega (arith, e))
-
-      found_by : (x ≤ cost) ⊎ (cost < x) → FoundLow costs mask j (n + 1) (min x cost)
-      found_by (inl l) = kept l old.found
-      found_by (inr g) = inr (n, omega arith, set, omega arith)
+  low_on set = search (arith, lower_or x cost, min x cost, below_or_at)
 
   low_off : bit_at mask (8 * n + j) ≢ 1 → IsLow costs mask (n + 1) j x
-  low_off clear = record {
-    below = λ i l on. under i on (below_or_at i n l);
-    found = kept old.found;
-  }
-    where
-      under : (i : ℕ) → bit_at mask (8 * i + j) ≡ 1 → (i < n) ⊎ (i ≡ n) → x ≤ get_or costs (8 * i + j) 0
-      under i on (inl less) = old.below i less on
-      under i on (inr same) = absurd (clear (subst (λ i. bit_at mask (8 * i + j) ≡ 1) same on))
-
-      kept : FoundLow costs mask j n x → FoundLow costs mask j (n + 1) x
-      kept (inl most) = inl most
-      kept (inr h) = inr (h.0, omega (arith, h.1), h.2, h.3)
+  low_off clear = search (arith, below_or_at)
 
   small : x ≤ 18446744073709551615 → min x 18446744073709551615 ≡ x
   small l = omega arith
@@ -96,15 +53,7 @@ module _ (costs : List ℕ) (mask n j x : ℕ) (old : IsLow costs mask n j x) wh
   off_is m a e = grind (arith, nat_tests, e)
 
   pub low_more : x ≤ 18446744073709551615 → IsLow costs mask (n + 1) j (min x (masked (bit_at mask (8 * n + j)) cost))
-  low_more fits = by (set_or (bit_at mask (8 * n + j)))
-    where
-      by : (bit_at mask (8 * n + j) ≡ 1) ⊎ (bit_at mask (8 * n + j) ≢ 1)
-          → IsLow costs mask (n + 1) j (min x (masked (bit_at mask (8 * n + j)) cost))
-      by (inl set) = subst (λ c. IsLow costs mask (n + 1) j (min x c))
-          (sym (on_is (bit_at mask (8 * n + j)) cost set)) (low_on set)
-      by (inr clear) =
-          subst (λ c. IsLow costs mask (n + 1) j (min x c)) (sym (off_is (bit_at mask (8 * n + j)) cost clear))
-          (subst (λ y. IsLow costs mask (n + 1) j y) (sym (small fits)) (low_off clear))
+  low_more fits = grind (arith, set_or, min, on_is, low_on, off_is, small, low_off)
 
 -- where no bit is set from a block on, its lanes hold nothing
 pub low_whole : (costs : List ℕ) (mask n j x : ℕ) → mask / 2 ^ (8 * n) ≡ 0 → n ≤ 8 → IsLow costs mask n j x
@@ -166,20 +115,7 @@ cost_of costs low mask x each lane = record {
 
 pub first_is_least : (costs : List ℕ) (mask x p : ℕ) → IsCost costs mask x → IsFirst costs mask x p
     → IsLeast costs mask p
-first_is_least costs mask x p cost first = record {
-  low = first.low;
-  masked = first.masked;
-  least = λ k l on. let one = cost.below k l on in let e = first.holds in omega (arith, one, e);
-  first = λ k l on.
-      let low = first.low in
-      let one = cost.below k (omega (arith, low)) on in
-      let two = first.first k l on in
-      let e = first.holds in
-      less (get_or costs k 0) x (get_or costs p 0) one two e;
-}
-  where
-    less : (a x b : ℕ) → x ≤ a → a ≢ x → b ≡ x → b < a
-    less a x b l n e = grind (arith, l, n, e)
+first_is_least costs mask x p cost first = search arith
 
 -- where no masked place holds the least cost, none is masked
 pub none_masked : (costs : List ℕ) (mask x : ℕ) → mask < 2 ^ 64 → ((k : ℕ) → get_or costs k 0 < 2 ^ 64)
@@ -280,10 +216,8 @@ module _ (costs part : List ℕ) (mask n x eight : ℕ)
 pub none_if : (costs : List ℕ) (mask x : ℕ) (p : Option ℕ) → mask < 2 ^ 64 → ((k : ℕ) → get_or costs k 0 < 2 ^ 64)
     → IsCost costs mask x
     → IfNone p ((k : ℕ) → k < 64 → bit_at mask k ≡ 1 → get_or costs k 0 ≢ x) → IfNone p (mask ≡ 0)
-none_if costs mask x None small fits low none = none_masked costs mask x small fits low none
-none_if costs mask x (Some p) small fits low none = none
+none_if costs mask x p h4 h5 h6 h7 = grind (arith, none_masked, small)
 
 pub some_if : (costs : List ℕ) (mask x : ℕ) (p : Option ℕ) → IsCost costs mask x
     → IfSome p (λ p. IsFirst costs mask x p) → IfSome p (λ p. IsLeast costs mask p)
-some_if costs mask x None low some = some
-some_if costs mask x (Some p) low some = first_is_least costs mask x p low some
+some_if costs mask x p h4 h5 = grind (arith, first_is_least)

@@ -13,16 +13,7 @@ use Rattle.mscp_queue.specs.Lanes.{HasLanes, lowered}
 pub whole_part : (part res : List ℕ) (bits by : ℕ) → length part ≡ 8
     → HasLanes res (λ k. lowered bits by k (get_or (chunk 0 8 part) k 0))
     → HasLanes (put_chunk 0 part res) (λ k. lowered bits by k (get_or part k 0))
-whole_part part res bits by len h =
-    let long = h.long in
-    let e : put_chunk 0 part res ≡ res = put_chunk_whole part res (omega arith) in
-    let same : HasLanes res (λ k. lowered bits by k (get_or part k 0)) = record {
-      long = h.long;
-      each = λ k l.
-          let zero_on : 0 + k ≡ k = omega arith in
-          h.each k l ∙ ap (λ x. lowered bits by k x) (get_or-chunk 0 8 part k 0 l ∙ ap (λ j. get_or part j 0) zero_on);
-    } in
-    subst (λ xs. HasLanes xs (λ k. lowered bits by k (get_or part k 0))) (sym e) same
+whole_part part res bits by len h = search (arith, put_chunk_whole part res (omega arith), get_or-chunk)
 
 -- the bits from place a on
 pub bit_from : (mask a k : ℕ) → bit_at (mask / 2 ^ a) k ≡ bit_at mask (a + k)
@@ -33,9 +24,7 @@ module _ (a n : ℕ) (xs : List ℕ) (eight : n ≡ 8) (room : a + 8 ≤ length 
   at_mid k l = get_or-take n (drop a xs) k 0 (omega arith) ∙ get_or-drop a xs k 0
 
   pub mid_long : length (mid_of a n xs) ≡ 8
-  mid_long =
-      let one = length-drop a xs in
-      length-take-le n (drop a xs) (omega (arith, one)) ∙ eight
+  mid_long = search (arith, length-drop a xs, length-take-le)
 
   module _ (ys : List ℕ) (len : length ys ≡ 8) where
     front_len : length (take a xs) ≡ a
@@ -101,8 +90,7 @@ pub next_at : (mask by a n e : ℕ) (old xs ys : List ℕ) → n ≡ 8 → a + 8
     → Lowered mask by a old xs
     → HasLanes ys (λ k. lowered (mask / 2 ^ a) by k (get_or (mid_of a n xs) k 0))
     → Lowered mask by e old (put_mid a n xs ys)
-next_at mask by a n e old xs ys eight up room h new =
-    subst (λ (e : ℕ). Lowered mask by e old (put_mid a n xs ys)) up (next mask by a n old xs ys eight room h new)
+next_at mask by a n e old xs ys eight up room h new = search (arith, next mask by a n old xs ys eight room h new)
 
 -- where no bit is set from place a on, all are done
 pub none_on : (mask by a : ℕ) (old xs : List ℕ) → mask / 2 ^ a ≡ 0 → Lowered mask by a old xs

@@ -41,13 +41,7 @@ every_parts P (x ∷ xs) ys h = let r = every_parts P xs ys h.1 in ((h.0, r.0), 
 pub every_filter : {X : Type 0} (P : X → Type 0) (p : X → Bool) → (xs : List X) → AllByRecursion P xs
     → AllByRecursion (λ x. P x × (p x ≡ true)) (filter p xs)
 every_filter P p [] h = tt
-every_filter {X} P p (x ∷ xs) h =
-    let rest = every_filter P p xs h.1 in
-    let both : (b : Bool) → p x ≡ b → AllByRecursion (λ (y : X). P y × (p y ≡ true))
-    (cond b (x ∷ filter p xs) (filter p xs)) =
-    λ b e. elim b as (λ b. p x ≡ b → AllByRecursion (λ (y : X). P y × (p y ≡ true))
-    (cond b (x ∷ filter p xs) (filter p xs))) [ true ↦ λ e. ((h.0, e), rest) | false ↦ λ e. rest ] e in
-    both (p x) refl
+every_filter {X} P p (x ∷ xs) h = search (arith, every_filter P p xs h.1)
 
 pub every_mapped : {X Y : Type 0} (f : X → Y) (P : Y → Type 0) (xs : List X) → AllByRecursion P (map f xs)
     → AllByRecursion (λ x. P (f x)) xs
@@ -57,21 +51,16 @@ every_mapped f P (x ∷ xs) h = (h.0, every_mapped f P xs h.1)
 -- a filter keeps no more than there is
 pub fewer : {X : Type 0} (p : X → Bool) (xs : List X) → length (filter p xs) ≤ length xs
 fewer p [] = omega arith
-fewer p (x ∷ xs) =
-    let rest = fewer p xs in
-    elim (p x) as (λ b. length (cond b (x ∷ filter p xs) (filter p xs)) ≤ length (x ∷ xs))
-    [ true ↦ omega arith | false ↦ omega arith ]
+fewer p (x ∷ xs) = search (arith, fewer p xs)
 
 pub filter_on : {X : Type 0} (p q : X → Bool) (xs : List X) → AllByRecursion (λ x. p x ≡ q x) xs
     → filter p xs ≡ filter q xs
 filter_on p q [] h = refl
-filter_on p q (x ∷ xs) h = ap (λ b. cond b (x ∷ filter p xs) (filter p xs)) h.0
-    ∙ ap (λ ys. cond (q x) (x ∷ ys) ys) (filter_on p q xs h.1)
+filter_on p q (x ∷ xs) h = search (arith, filter_on p q xs h.1)
 
 pub sum_on : {X : Type 0} (f g : X → ℕ) (xs : List X) → AllByRecursion (λ x. f x ≡ g x) xs → sum_by f xs ≡ sum_by g xs
 sum_on f g [] h = refl
-sum_on f g (x ∷ xs) h = sum_by-cons f x xs ∙ ap (λ n. n + sum_by f xs) h.0 ∙ ap (λ n. g x + n) (sum_on f g xs h.1)
-    ∙ sym (sum_by-cons g x xs)
+sum_on f g (x ∷ xs) h = search (arith, sum_by-cons f x xs, sum_on f g xs h.1, sum_by-cons g x xs)
 
 pub sum_none : {X : Type 0} (f : X → ℕ) (xs : List X) → AllByRecursion (λ x. f x ≡ 0) xs → sum_by f xs ≡ 0
 sum_none f [] h = refl
@@ -79,10 +68,7 @@ sum_none f (x ∷ xs) h = sum_by-cons f x xs ∙ ap (λ n. n + sum_by f xs) h.0 
 
 pub filter_filter : {X : Type 0} (p q : X → Bool) (xs : List X) → filter p (filter q xs) ≡ filter (λ x. q x && p x) xs
 filter_filter p q [] = refl
-filter_filter p q (x ∷ xs) =
-    elim (q x) as (λ b. filter p (cond b (x ∷ filter q xs) (filter q xs))
-    ≡ cond (b && p x) (x ∷ filter (λ x. q x && p x) xs) (filter (λ x. q x && p x) xs))
-    [ true ↦ ap (λ ys. cond (p x) (x ∷ ys) ys) (filter_filter p q xs) | false ↦ filter_filter p q xs ]
+filter_filter p q (x ∷ xs) = search (arith, filter_filter p q xs)
 
 pub filter_all : {X : Type 0} (p : X → Bool) (xs : List X) → AllByRecursion (λ x. p x ≡ true) xs → filter p xs ≡ xs
 filter_all p [] h = refl
@@ -95,10 +81,7 @@ filter_none p (x ∷ xs) h = ap (λ b. cond b (x ∷ filter p xs) (filter p xs))
 -- one element passes
 pub filter_one : {X : Type 0} (p : X → Bool) (xs : List X) (y : X) (ys : List X) → AllByRecursion (λ x. p x ≡ false) xs
     → p y ≡ true → AllByRecursion (λ x. p x ≡ false) ys → filter p (xs ++ y ∷ ys) ≡ y ∷ []
-filter_one p xs y ys h e k =
-    filter-append p xs (y ∷ ys)
-    ∙ (ap (λ l. l ++ cond (p y) (y ∷ filter p ys) (filter p ys)) (filter_none p xs h)
-    ∙ (ap (λ b. cond b (y ∷ filter p ys) (filter p ys)) e ∙ ap (λ l. y ∷ l) (filter_none p ys k)))
+filter_one p xs y ys h e k = search (arith, filter-append p xs (y ∷ ys), filter_none p xs h, filter_none p ys k)
 
 pub range_more : (n : ℕ) → range_with_len 0 (n + 1) ≡ range_with_len 0 n ++ n ∷ []
 range_more n = sym (map-id _) ∙ (map-range_with_len_more (λ (x : ℕ). x) 0 n n (omega arith)
@@ -106,20 +89,11 @@ range_more n = sym (map-id _) ∙ (map-range_with_len_more (λ (x : ℕ). x) 0 n
 
 pub range_below : (a n : ℕ) → AllByRecursion (λ x. (a ≤ x) × (x < a + n)) (range_with_len a n)
 range_below a zero = tt
-range_below a (suc n) = (
-  (omega arith, omega arith),
-  every_weaker (λ x. (a + 1 ≤ x) × (x < a + 1 + n))
-      (λ x. (a ≤ x) × (x < a + suc n)) (λ x h. (omega arith, omega arith)) (range_with_len (a + 1) n)
-      (range_below (a + 1) n),
-)
+range_below a (suc n) = search (arith, range_below (a + 1) n, every_weaker)
 
 pub pairs_range : (a n : ℕ) → Pairs ◌<◌ (range_with_len a n)
 pairs_range a zero = tt
-pairs_range a (suc n) = (
-  every_weaker (λ x. (a + 1 ≤ x) × (x < a + 1 + n)) (λ x. a < x) (λ x h. omega arith)
-      (range_with_len (a + 1) n) (range_below (a + 1) n),
-  pairs_range (a + 1) n,
-)
+pairs_range a (suc n) = search (arith, range_below (a + 1) n, pairs_range (a + 1) n, every_weaker)
 
 pub every_kept : {X : Type 0} (P : X → Type 0) (p : X → Bool) → (xs : List X) → AllByRecursion P xs
     → AllByRecursion P (filter p xs)
@@ -127,9 +101,7 @@ every_kept P p xs h = every_weaker (λ x. P x × (p x ≡ true)) P (λ x h. h.0)
 
 pub pairs_filter : {X : Type 0} (R : X → X → Type 0) (p : X → Bool) (xs : List X) → Pairs R xs → Pairs R (filter p xs)
 pairs_filter R p [] h = tt
-pairs_filter R p (x ∷ xs) h =
-    elim (p x) as (λ b. Pairs R (cond b (x ∷ filter p xs) (filter p xs)))
-    [ true ↦ (every_kept (R x) p xs h.0, pairs_filter R p xs h.1) | false ↦ pairs_filter R p xs h.1 ]
+pairs_filter R p (x ∷ xs) h = search (arith, every_kept (R x) p xs h.0, pairs_filter R p xs h.1)
 
 pub pairs_append : {X : Type 0} (R : X → X → Type 0) (xs : List X) (y : X) → Pairs R xs → AllByRecursion (λ x. R x y) xs
     → Pairs R (xs ++ y ∷ [])
@@ -140,9 +112,7 @@ pairs_append R (x ∷ xs) y h k = (every_append (R x) xs (y ∷ []) h.0 (k.0, tt
 pub pairs_middle : {X : Type 0} (R : X → X → Type 0) (xs : List X) (y : X) (ys : List X) → Pairs R (xs ++ y ∷ ys)
     → AllByRecursion (λ x. R x y) xs × AllByRecursion (R y) ys
 pairs_middle R [] y ys h = (tt, h.0)
-pairs_middle R (x ∷ xs) y ys h =
-    let rest = pairs_middle R xs y ys h.1 in
-    (((every_parts (R x) xs (y ∷ ys) h.0).1.0, rest.0), rest.1)
+pairs_middle R (x ∷ xs) y ys h = search (arith, pairs_middle R xs y ys h.1, every_parts (R x) xs (y ∷ ys) h.0)
 
 pub flat_on : {X Y : Type 0} (f g : X → List Y) (xs : List X) → AllByRecursion (λ x. f x ≡ g x) xs
     → flat_map f xs ≡ flat_map g xs
@@ -153,6 +123,4 @@ flat_on f g (x ∷ xs) h = ap (λ l. l ++ flat_map f xs) h.0 ∙ ap (λ l. g x +
 pub pairs_cut : {X : Type 0} (R : X → X → Type 0) (xs : List X) (y : X) (ys : List X) → Pairs R (xs ++ y ∷ ys)
     → Pairs R (xs ++ ys)
 pairs_cut R [] y ys h = h.1
-pairs_cut R (x ∷ xs) y ys h =
-    let parts = every_parts (R x) xs (y ∷ ys) h.0 in
-    (every_append (R x) xs ys parts.0 parts.1.1, pairs_cut R xs y ys h.1)
+pairs_cut R (x ∷ xs) y ys h = search (arith, every_parts (R x) xs (y ∷ ys) h.0, pairs_cut R xs y ys h.1, every_append)

@@ -35,15 +35,12 @@ behind_set f i xs ys d v l e =
 -- and it is read
 pub behind_read : {X : Type 0} (f : X → X) (i : ℕ) (xs ys : List X) (d : X) → i < length xs
     → ys ≡ map f (take i xs) ++ drop i xs → get_or ys i d ≡ get_or xs i d
-behind_read f i xs ys d l e =
-    ap (λ zs. get_or zs i d) (e ∙ ap (λ zs. map f (take i xs) ++ zs) (drop_more xs i d l))
-    ∙ get_or_at (map f (take i xs)) (get_or xs i d) (drop (i + 1) xs) d i (front_length f i xs (omega arith))
+behind_read f i xs ys d l e = grind (arith, drop_more, get_or_at, front_length)
 
 pub removed_at : {X : Type 0} (A : List X) (x : X) (B : List X) (i : ℕ) → length A ≡ i → remove (A ++ x ∷ B) i ≡ A ++ B
 removed_at A x B i l =
-    ap (λ ys. ys ++ drop (suc i) (A ++ x ∷ B)) (take_at A (x ∷ B) i l)
-    ∙ ap (λ ys. A ++ ys) (ap (drop (suc i)) (sym (append_assoc A (x ∷ []) B))
-    ∙ drop_at (A ++ x ∷ []) B (suc i) (omega (arith, length-append A (x ∷ []))))
+    search (arith, take_at A (x ∷ B) i l, append_assoc A (x ∷ []) B, drop_at (A ++ x ∷ []) B (suc i) (omega (arith,
+    length-append A (x ∷ []))), length-append A (x ∷ []))
 
 -- a slice that was lent and has as many elements is what is there then
 pub refilled : {X : Type 0} (xs ws : List X) → length ws ≡ length xs → refill (length xs) xs ws ≡ ws

@@ -34,11 +34,7 @@ has_other k n (x ∷ xs) e = ap (λ b. nat_eq k x || b) (has_other k n xs e)
 
 has_last : (n : ℕ) (xs : List ℕ) → has n (xs ++ n ∷ []) ≡ true
 has_last n [] = ap (λ b. b || false) (eq_true n n refl)
-has_last n (x ∷ xs) = ap (λ b. nat_eq n x || b) (has_last n xs) ∙ or_true (nat_eq n x)
-  where
-    or_true : (b : Bool) → (b || true) ≡ true
-    or_true true = refl
-    or_true false = refl
+has_last n (x ∷ xs) = search (arith, nat_eq n x, has_last n xs)
 
 pub has_kept : (k n : ℕ) (xs : List ℕ) → k ≢ n → has k (without n xs) ≡ has k xs
 has_kept k n [] e = refl
@@ -63,12 +59,7 @@ has_gone n (x ∷ xs) = by (has_gone n xs) (same_or x n)
 
 pub without_append : (n : ℕ) (xs ys : List ℕ) → without n (xs ++ ys) ≡ without n xs ++ without n ys
 without_append n [] ys = refl
-without_append n (x ∷ xs) ys = by (without_append n xs ys) (nat_eq x n)
-  where
-    by : without n (xs ++ ys) ≡ without n xs ++ without n ys → (b : Bool)
-        → if_not b x (without n (xs ++ ys)) ≡ if_not b x (without n xs) ++ without n ys
-    by h true = h
-    by h false = ap (λ zs. x ∷ zs) h
+without_append n (x ∷ xs) ys = search (arith, without_append n xs ys, nat_eq x n)
 
 -- ---- one mask
 
@@ -88,13 +79,11 @@ differ : (b : Bool) → b ≡ true → b ≡ false → bit true ≡ bit false
 differ b p q = ap bit (sym p ∙ q)
 
 pub off : (b c : Bool) → (b || c) ≡ false → (b ≡ false) × (c ≡ false)
-off false c e = (refl, e)
-off true c e = let bad = ap bit e in absurd (omega (arith, bad))
+off b c h2 = grind arith
 
 module _ (n s : ℕ) (order : List ℕ) (e : has n (s ∷ order) ≡ false) where
   pub not_here : s ≢ n
-  not_here f = let bad = differ (nat_eq n s) (eq_true n s (sym f)) (off (nat_eq n s) (has n order) e).0 in absurd
-      (omega (arith, bad))
+  not_here f = grind (arith, differ, nat_eq, eq_true, off)
 
   pub not_behind : has n order ≡ false
   not_behind = (off (nat_eq n s) (has n order) e).1
@@ -135,12 +124,7 @@ pub record Comes (kinds kinds' : ℕ → Kind) (order : List ℕ) (n : ℕ) : Ty
 -- a bit that is set or, where it is clear, left
 pub unit_set : (m m' n : ℕ) (on : Bool) → (on ≡ true → IsSet true n m m') → (on ≡ false → m' ≡ m) → bit_at m n ≡ 0
     → IsSet on n m m'
-unit_set m m' n true set same clear = set refl
-unit_set m m' n false set same clear = λ k l. ap (λ m. bit_at m k) (same refl) ∙ by k (same_or k n)
-  where
-    by : (k : ℕ) → (k ≡ n) ⊎ (k ≢ n) → bit_at m k ≡ cond (nat_eq k n) (cond false 1 0) (bit_at m k)
-    by k (inl s) = ap (bit_at m) s ∙ clear ∙ sym (ap (λ b. cond b (cond false 1 0) (bit_at m k)) (eq_true k n s))
-    by k (inr d) = sym (ap (λ b. cond b (cond false 1 0) (bit_at m k)) (eq_false k n d))
+unit_set m m' n on h4 h5 h6 = grind (arith, same_or, nat_eq, eq_true, eq_false)
 
 pub masks_pushed : (kinds kinds' : ℕ → Kind) (order : List ℕ) (m m' : Masks) (n : ℕ)
     → AreMasks kinds order m → Comes kinds kinds' order n
@@ -178,25 +162,7 @@ pub masks_served : (kinds kinds' : ℕ → Kind) (order : List ℕ) (m : Masks) 
     → (kinds' n).drive ≡ (kinds n).drive → (kinds' n).sequential ≡ (kinds n).sequential
     → IsSet (kinds' n).serving n m.serving v → AreMasks kinds' order (record m { serving = v })
 masks_served kinds kinds' order m v n masks in_order same drive ordered served =
-    let drives : (k : ℕ) → (kinds k).drive ≡ (kinds' k).drive = λ k. by_place k (λ s. s.drive) drive (same_or k n) in
-    let ordering : (k : ℕ) → (kinds k).sequential ≡ (kinds' k).sequential =
-    λ k. by_place k (λ s. s.sequential) ordered (same_or k n) in
-    record {
-      apart = masks.apart;
-      of_waiting = masks.of_waiting;
-      of_sequential = mask_same m.sequential _ _ (λ k. ap (λ b. has k order && b) (ordering k)) masks.of_sequential;
-      of_serving = set_mask m.serving v n (kinds' n).serving _ _ served masks.of_serving
-          (ap (λ b. b && (kinds' n).serving) in_order)
-          (λ k d. ap (λ s. has k order && s.serving) (same k d));
-      of_units = λ u. mask_same (slice_index_or m.units u 0) _ _
-          (λ k. ap (λ d. has k order && nat_eq d u) (drives k)) (masks.of_units u);
-      of_earlier = masks.of_earlier;
-    }
-  where
-    by_place : {X : Type 0} (k : ℕ) (f : Kind → X) → f (kinds' n) ≡ f (kinds n) → (k ≡ n) ⊎ (k ≢ n)
-        → f (kinds k) ≡ f (kinds' k)
-    by_place k f e (inl s) = ap (λ k. f (kinds k)) s ∙ sym e ∙ ap (λ k. f (kinds' k)) (sym s)
-    by_place k f e (inr d) = ap f (sym (same k d))
+    search (arith, same_or, mask_same, nat_eq)
 
 pub masks_same : (kinds kinds' : ℕ → Kind) (order : List ℕ) (m : Masks) → ((k : ℕ) → kinds' k ≡ kinds k)
     → AreMasks kinds order m → AreMasks kinds' order m
@@ -204,20 +170,13 @@ masks_same kinds kinds' order m same masks = subst (λ f. AreMasks f order m) (�
 
 -- a slot of the order is below 64, and the order is cut at it
 pub slot_low : (order : List ℕ) (place : ℕ) → AreSlots order → place < length order → get_or order place 0 < 64
-slot_low [] place a l = absurd (omega (arith, l))
-slot_low (s ∷ order) zero a l = a.0
 slot_low (s ∷ order) (suc place) a l = slot_low order place a.2 (omega (arith, l))
+slot_low order place h2 h3 = grind arith
 
 pub slot_has : (order : List ℕ) (place : ℕ) → place < length order → has (get_or order place 0) order ≡ true
-slot_has [] place l = absurd (omega (arith, l))
-slot_has (s ∷ order) zero l = ap (λ b. b || has s order) (eq_true s s refl)
 slot_has (s ∷ order) (suc place) l =
-    ap (λ b. nat_eq (get_or order place 0) s || b) (slot_has order place (omega (arith, l)))
-    ∙ or_true (nat_eq (get_or order place 0) s)
-  where
-    or_true : (b : Bool) → (b || true) ≡ true
-    or_true true = refl
-    or_true false = refl
+    search (arith, nat_eq (get_or order place 0) s, slot_has order place (omega (arith, l)))
+slot_has order place h2 = search (arith, eq_true)
 
 -- ---- the lowest free slot
 
@@ -268,22 +227,16 @@ some_free m order is few = λ e.
     full k l = bit_at_ones 64 k l
 
 pub off_bit : (b : Bool) → bit b ≡ 0 → b ≡ false
-off_bit true e = absurd (omega (arith, e))
-off_bit false e = refl
+off_bit b h1 = grind arith
 
 -- ---- one bit
 
 pub after_bit : (m k n old : ℕ) (on was : Bool) → on ≡ was → bit_at m n ≡ cond was 1 0 → (k ≢ n → bit_at m k ≡ old)
     → bit_at m k ≡ cond (nat_eq k n) (cond on 1 0) old
-after_bit m k n old on was e same other = by (same_or k n)
-  where
-    by : (k ≡ n) ⊎ (k ≢ n) → bit_at m k ≡ cond (nat_eq k n) (cond on 1 0) old
-    by (inl s) = ap (λ k. bit_at m k) s ∙ same ∙ sym (ap (λ b. cond b (cond on 1 0) old) (eq_true k n s) ∙ ap bit e)
-    by (inr d) = other d ∙ sym (ap (λ b. cond b (cond on 1 0) old) (eq_false k n d))
+after_bit m k n old on was e same other = search (arith, same_or, nat_eq, eq_true, eq_false)
 
 pub not_last : (m : ℕ) → m < 18446744073709551616 → m ≢ 18446744073709551615 → m + 1 < 18446744073709551616
 not_last m l n = grind (arith, l, n)
 
 pub one_bit : (b : Bool) → bit b ≡ 1 → b ≡ true
-one_bit true e = refl
-one_bit false e = absurd (omega (arith, e))
+one_bit b h1 = grind arith

@@ -1,30 +1,23 @@
 -- Names are the same exactly where both of their parts are.
-use Rattle.std.proofs.Common.{◌≡◌, ◌≢◌, Bool, true, false, ◌&&◌, ◌||◌, List, [], ◌∷◌, refl, ap, sym, ◌∙◌, subst}
+use Rattle.std.proofs.Common.{◌≡◌, ◌≢◌, true, false, ◌&&◌, ◌||◌, List, [], ◌∷◌, refl, ap, sym, ◌∙◌, subst, arith}
 use Rattle.std.specs.Prelude.{nat_eq}
 use Rattle.std.proofs.lemmas.Bool.{and_parts, and_right, eq-eqb, eqb-true, false≢true, ne_eqb, or_parts, true≢false}
 use Rattle.std.specs.List.{list_any}
 use Rattle.mscp_events.specs.declared.connection.Connection.{Connection}
-use Rattle.mscp_events.specs.declared.connection.Connection.TheVariants.{First, Second}
 use Rattle.mscp_queue.specs.declared.name.Name.{Name}
-use Rattle.mscp_queue.specs.Names.{name_on, same_connection, same_name}
+use Rattle.mscp_queue.specs.Names.{same_connection, same_name}
 use Rattle.mscp_queue.specs.declared.view.Choice.{Choice}
 use Rattle.mscp_queue.specs.Candidates.{has_choice_name}
 use Rattle.mscp_queue.specs.CountedViews.{has_byte, low_byte}
 
 pub one_side : (a b : Connection) → same_connection a b ≡ true → a ≡ b
-one_side First First h = refl
-one_side Second Second h = refl
-one_side _ _ h = absurd (false≢true h)
+one_side a b h2 = grind (arith, false≢true)
 
 pub same_is : (x y : Name) → same_name x y ≡ true → x ≡ y
-same_is x y h =
-    let p = and_parts (same_connection x.connection y.connection) (nat_eq x.reference y.reference) h in
-    ap (λ c. name_on c x.reference) (one_side x.connection y.connection p.0)
-    ∙ ap (name_on y.connection) (eqb-true x.reference y.reference p.1)
+same_is x y h = grind (arith, and_parts, one_side, eqb-true)
 
 pub own_side : (a : Connection) → same_connection a a ≡ true
-own_side First = refl
-own_side Second = refl
+own_side a = grind arith
 
 itself : (x : Name) → same_name x x ≡ true
 itself x = ap (λ b. b && nat_eq x.reference x.reference) (own_side x.connection) ∙ eq-eqb x.reference x.reference refl
@@ -36,13 +29,7 @@ pub differ_is : (x y : Name) → same_name x y ≡ false → x ≢ y
 differ_is x y h = λ e. true≢false (sym (is_same x y e) ∙ h)
 
 pub is_differ : (x y : Name) → x ≢ y → same_name x y ≡ false
-is_differ x y d =
-    let both : (b : Bool) → same_name x y ≡ b → same_name x y ≡ false =
-    λ b. elim b as (λ b. same_name x y ≡ b → same_name x y ≡ false) [
-      | true ↦ λ h. absurd (d (same_is x y h))
-      | false ↦ λ h. h
-    ] in
-    both (same_name x y) refl
+is_differ x y d = search (arith, same_is)
 
 -- where none has the low byte none has the name
 pub unnumbered : (name : Name) (cs : List Choice) → list_any (has_byte (low_byte name.reference)) cs ≡ false
@@ -58,7 +45,4 @@ unnumbered name (c ∷ cs) h =
     ∙ unnumbered name cs p.1
 
 pub other_side : (a b : Connection) → same_connection a b ≡ false → same_connection b a ≡ false
-other_side First First h = h
-other_side First Second h = h
-other_side Second First h = h
-other_side Second Second h = h
+other_side a b h2 = grind arith

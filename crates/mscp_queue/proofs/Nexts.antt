@@ -24,19 +24,7 @@ use Rattle.mscp_queue.proofs.Held.{others_idle}
 found_at : (p : Record → Bool) (rs : List Record) (place : ℕ) → position p rs ≡ Some place
     → (place < length rs) × (p (record_at rs place) ≡ true)
 found_at p rs place h =
-    ⊎_elim
-    (λ none. absurd (false≢true (ap is_some (sym (position_none p rs none) ∙ h))))
-    (λ some.
-    let A = some.0 in
-    let r = some.1 in
-    let B = some.2 in
-    let f = some.3 in
-    let first : length A ≡ place = ap (λ o. unwrap_or o place)
-    (sym (position_first p A r B f.before f.passed) ∙ (ap (position p) (sym f.is) ∙ h)) in (
-      omega (arith, first, ap length f.is, length-append A (r ∷ B)),
-      ap p (ap (λ l. record_at l place) f.is ∙ get_or_at A r B no_record place first) ∙ f.passed,
-    ))
-    (find_cases p rs)
+    search (arith, find_cases p rs, ⊎_elim, false≢true, position_none, position_first, length-append, get_or_at)
 
 none_begun : (begun : Option Name) (name : Name) → begun ≡ None → begun ≡ Some name → ⊥
 none_begun begun name n e = true≢false (ap is_some (sym e ∙ n))
@@ -46,9 +34,8 @@ some_is x y e = ap (λ o. unwrap_or o x) e
 
 others_differ : (name : Name) (rs : List Record) (i : ℕ) → AllByRecursion (λ y. y ≢ name) (names rs) → i < length rs
     → name_of (record_at rs i) ≢ name
-others_differ name [] i h l = λ e. absurd (omega (arith, l))
-others_differ name (r ∷ rs) zero h l = h.0
 others_differ name (r ∷ rs) (suc i) h l = others_differ name rs i h.1 (omega (arith, l))
+others_differ name rs i h3 h4 = grind arith
 
 not_unstarted : (r : Record) → is_in_service r ≡ true → is_unstarted r ≡ true → r.done < r.done
 not_unstarted r h e = let a = ltb-true 0 r.done h in let b = eqb-true r.done 0 e in omega arith
@@ -68,25 +55,14 @@ none_serving rs h =
 
 -- and where all are idle, none is
 pub idle_found : (rs : List Record) → All (λ r. r.done ≡ 0) rs → position is_in_service rs ≡ None
-idle_found rs h =
-    position_none is_in_service rs (every_weaker (λ r. r.done ≡ 0) (λ r. is_in_service r ≡ false)
-    (λ r e. ap (nat_lt 0) e) rs (recursion_from_All (λ r. r.done ≡ 0) rs h))
+idle_found rs h = search (arith, position_none, every_weaker, recursion_from_All)
 
 -- where none is, the record that is picked is
 pub picked_next : (picks : List Choice → ℕ → Type 0) (budget : ℕ) (ds : List Drive) (rs : List Record)
     (begun : Option Name) (place : ℕ) → begun ≡ None → position is_in_service rs ≡ None → place < length rs
     → IsPick picks budget ds rs place → IsNext picks budget ds rs begun place
 picked_next picks budget ds rs begun place n h l p =
-    record {
-      servable = record {
-        inside = l;
-        idle = λ e. none_serving rs h;
-        opens =
-            λ e. picked_opens picks budget ds rs place p;
-      };
-      same = λ name e. absurd (none_begun begun name n e);
-      picked = λ b e. p;
-    }
+    search (arith, none_serving rs h, picked_opens picks budget ds rs place p, none_begun)
 
 -- ---- what was begun
 
@@ -115,24 +91,13 @@ name_found rs name place None a l e h =
     (sym (position_first (has_name name) some.0 some.1 some.2 f.before f.passed)
     ∙ (ap (position (has_name name)) (sym f.is) ∙ sym h)))))
     (find_cases (has_name name) rs)
-name_found rs name place (Some other) a l e h =
-    let f = found_at (has_name name) rs other (sym h) in
-    ap Some (once rs other place a f.0 l (same_is (name_of (record_at rs other)) name f.1 ∙ sym e))
+name_found rs name place (Some other) a l e h = search (arith, found_at (has_name name) rs other (sym h), once, same_is)
 
 -- the record of what was begun is next
 begun_next : (picks : List Choice → ℕ → Type 0) (budget : ℕ) (ds : List Drive) (rs : List Record) (begun : Option Name)
     (name : Name) (place : ℕ) → AreApart (names rs) → begun ≡ Some name → IsStillServable budget rs name
     → position (has_name name) rs ≡ Some place → IsNext picks budget ds rs begun place
-begun_next picks budget ds rs begun name place a b s h =
-    let f = found_at (has_name name) rs place h in
-    let number : (i : ℕ) → has_name name (record_at rs i) ≡ true → name_of (record_at rs i) ≡ name =
-    λ i. same_is (name_of (record_at rs i)) name in
-    let here : s.0 ≡ place = once rs s.0 place a s.1.inside f.0 (number s.0 s.2 ∙ sym (number place f.1)) in
-    record {
-      servable = subst (IsServable budget rs) here s.1;
-      same = λ other e. subst (λ n. has_name n (record_at rs place) ≡ true) (some_is name other (sym b ∙ e)) f.1;
-      picked = λ n e. absurd (none_begun begun name n b);
-    }
+begun_next picks budget ds rs begun name place a b s h = grind (arith, found_at, same_is, once, some_is, none_begun)
 
 -- the record at the place that is known of what was begun is next
 pub known_next : (picks : List Choice → ℕ → Type 0) (budget : ℕ) (ds : List Drive) (rs : List Record) (place : ℕ)
@@ -147,16 +112,8 @@ known_next picks budget ds rs place a l s =
 pub serving_found : (rs : List Record) (place : ℕ) → length (filter is_in_service rs) ≤ 1 → place < length rs
     → is_in_service (record_at rs place) ≡ true → position is_in_service rs ≡ Some place
 serving_found rs place one l h =
-    let A = take place rs in
-    let r = record_at rs place in
-    let B = drop (place + 1) rs in
-    let cut = cut_at no_record rs place l in
-    let idle = (others_idle A r B (subst (λ zs. length (filter is_in_service zs) ≤ 1) cut one)
-    (ltb-true 0 r.done h)).0 in
-    ap (position is_in_service) cut
-    ∙ (position_first is_in_service A r B (every_weaker (λ z. z.done ≡ 0) (λ z. is_in_service z ≡ false)
-    (λ z e. ap (nat_lt 0) e) A idle) h
-    ∙ ap Some (length-take-le place rs (omega (arith, l))))
+    search (arith, cut_at no_record rs place l, length-take-le place rs (omega (arith, l)), others_idle, ltb-true,
+    position_first, every_weaker)
 
 zero_or : (n : ℕ) → (n ≡ 0) ⊎ (0 < n)
 zero_or n = grind arith
@@ -203,46 +160,16 @@ pub moved : (rs : List Record) (gone place k : ℕ) → gone < length rs → pla
     → place_without (Some place) gone ≡ Some k
     → (place ≢ gone) × (k < length (take gone rs ++ drop (gone + 1) rs))
     × (record_at (take gone rs ++ drop (gone + 1) rs) k ≡ record_at rs place)
-moved rs gone place k l m h = by (nat_lt place gone) (nat_lt gone place) refl refl h
-  where
-    A : List Record
-    A = take gone rs
-
-    B : List Record
-    B = drop (gone + 1) rs
-
-    long : length A ≡ gone
-    long = length-take-le gone rs (omega (arith, l))
-
-    by : (b c : Bool) → nat_lt place gone ≡ b → nat_lt gone place ≡ c
-        → (if b then Some place else if c then Some (place - 1) else None) ≡ Some k
-        → (place ≢ gone) × (k < length (A ++ B)) × (record_at (A ++ B) k ≡ record_at rs place)
-    by true c p q e =
-        let less = ltb-true place gone p in
-        let is : place ≡ k = ap (λ o. unwrap_or o k) e in (
-          λ s. omega (arith, s, less),
-          omega (arith, is, less, long, length-append A B),
-          ap (record_at (A ++ B)) (sym is) ∙ (get_or_append_left A B no_record place (omega (arith, less, long))
-              ∙ get_or-take gone rs place no_record less),
-        )
-    by false true p q e =
-        let more = ltb-true gone place q in
-        let is : place - 1 ≡ k = ap (λ o. unwrap_or o k) e in
-        let at : gone + 1 + (k - gone) ≡ place = omega (arith, is, more) in (
-          λ s. omega (arith, s, more),
-          omega (arith, is, more, long, length-append A B, length-drop (gone + 1) rs, m),
-          get_or-append_right A B gone k no_record long (omega (arith, is, more))
-              ∙ (get_or-drop (gone + 1) rs (k - gone) no_record ∙ ap (record_at rs) at),
-        )
-    by false false p q e = absurd (false≢true (ap is_some e))
+moved rs gone place k l m h =
+    grind (arith, length-take-le, ltb-true, length-append, get_or_append_left, get_or-take, length-drop,
+    get_or-append_right, get_or-drop, false≢true)
 
 pub waits_without : (rs new : List Record) (known : Option ℕ) (gone : ℕ) → gone < length rs → new ≡ take gone rs
     ++ drop (gone + 1) rs
     → ((place : ℕ) → known ≡ Some place → place < length rs)
     → (k : ℕ) → place_without known gone ≡ Some k → k < length new
 waits_without rs new None gone l e h k s = absurd (false≢true (ap is_some s))
-waits_without rs new (Some place) gone l e h k s =
-    subst (λ zs. k < length zs) (sym e) (moved rs gone place k l (h place refl) s).1
+waits_without rs new (Some place) gone l e h k s = search (arith, moved rs gone place k l (h place refl) s)
 
 pub served_without : (rs new : List Record) (known : Option ℕ) (gone : ℕ) → gone < length rs → new ≡ take gone rs
     ++ drop (gone + 1) rs
@@ -342,19 +269,5 @@ held_left {room} {budget} {longest} {rs} {new} {ds} gone begun serving h l e ser
     let all = held_aborted room budget longest name rs new ds (begun_name rs begun) (is_some serving) _ refl h is in
     let left = begun_left rs new begun gone h.apart l e waits in
     let whole : IsHeld room budget longest new ds (begun_without name (begun_name rs begun))
-    (is_some (place_without serving gone)) = record {
-      some_room = all.some_room;
-      few = all.few;
-      some_blocks = all.some_blocks;
-      short = all.short;
-      small = all.small;
-      fits = all.fits;
-      each = all.each;
-      apart = all.apart;
-      one = all.one;
-      idle = some_without rs new serving gone l e h.one served h.idle;
-      units = all.units;
-      heads = all.heads;
-      still = all.still;
-    } in
+    (is_some (place_without serving gone)) = search (arith, some_without rs new serving gone l e h.one served h.idle) in
     subst (λ (o : Option Name). IsHeld room budget longest new ds o (is_some (place_without serving gone))) left whole

@@ -1,9 +1,9 @@
 -- Who came earlier was passed at least as often, and how many of those that wait are sequential.
-use Rattle.std.proofs.Common.{◌≡◌, ℕ, ◌+◌, ◌<◌, ◌≤◌, Bool, true, false, cond, List, [], ◌∷◌, ◌++◌, map, take, drop, length, sym, subst, arith}
+use Rattle.std.proofs.Common.{◌≡◌, ℕ, ◌+◌, ◌<◌, ◌≤◌, Bool, cond, List, [], ◌∷◌, ◌++◌, map, take, drop, length, arith}
 use Rattle.std.specs.List.{AllByRecursion}
 use Rattle.mscp_queue.specs.Kept.{ArePassedInOrder}
 use Rattle.mscp_queue.specs.Orders.{is_sequential}
-use Rattle.mscp_queue.specs.Records.{Record, advanced, no_record, passed_by, record_at}
+use Rattle.mscp_queue.specs.Records.{Record, advanced, passed_by, record_at}
 use Rattle.mscp_queue.proofs.Lists.{every_append, every_parts, every_weaker}
 use Rattle.mscp_queue.proofs.Placed.{cut_at}
 
@@ -31,13 +31,10 @@ passed_below n top (r ∷ rs) h = (omega (arith, h.0), passed_below n top rs h.1
 
 left_below : (ends : Bool) (top : ℕ) (r : Record) (B : List Record) → AllByRecursion (λ z. z.passed ≤ top) (r ∷ B)
     → AllByRecursion (λ z. z.passed ≤ top) (own_left ends r ++ B)
-left_below true top r B h = h.1
-left_below false top r B h = h
+left_below ends top r B h4 = grind arith
 
 order_left : (n : ℕ) (ends : Bool) (A : List Record) (r : Record) (B : List Record) → ArePassedInOrder (A ++ r ∷ B)
     → ArePassedInOrder (map (passed_by n) A ++ (own_left ends r ++ B))
-order_left n true [] r B h = h.1
-order_left n false [] r B h = h
 order_left n ends (q ∷ qs) r B h =
     let low : Record → Type 0 = λ z. z.passed ≤ q.passed in
     let high : Record → Type 0 = λ z. z.passed ≤ q.passed + n in
@@ -47,9 +44,8 @@ order_left n ends (q ∷ qs) r B h =
       every_append high (map (passed_by n) qs) (own_left ends r ++ B) (passed_below n q.passed qs parts.0) behind,
       order_left n ends qs r B h.1,
     )
+order_left n ends A r B h5 = grind arith
 
 pub passed_left : (rs new : List Record) (place charge : ℕ) (ends : Bool) → place < length rs
     → new ≡ all_left charge ends place rs → ArePassedInOrder rs → ArePassedInOrder new
-passed_left rs new place charge ends l is h =
-    subst ArePassedInOrder (sym is) (order_left charge ends (take place rs) (record_at rs place) (drop (place + 1) rs)
-    (subst ArePassedInOrder (cut_at no_record rs place l) h))
+passed_left rs new place charge ends l is h = grind (arith, order_left, cut_at)

@@ -1,13 +1,12 @@
 -- Where all are transfers that the longest may still pass, each may start.
 use Rattle.std.proofs.Common.{◌≡◌, ℕ, ◌+◌, ◌<◌, ◌≤◌, Bool, true, false, cond, not, ◌&&◌, ◌||◌, List, [], ◌∷◌, take, get_or, length, refl, ap, sym, ◌∙◌, arith}
-use Rattle.std.specs.Prelude.{All, nat_eq, nat_le}
+use Rattle.std.specs.Prelude.{All, nat_le}
 use Rattle.std.specs.List.{AllByRecursion, list_all, range_with_len}
 use Rattle.std.proofs.lemmas.Bool.{and_parts, false≢true, le-leb, leb-true}
 use Rattle.std.proofs.lemmas.List.{get_or_default}
 use Rattle.std.proofs.lemmas.List.Sums.{sum_by-cons}
 use Rattle.std.proofs.lemmas.List.Elements.{All-from_recursion, All-take, recursion_from_All}
 use Rattle.mscp_packet.specs.declared.command.Order.{Order}
-use Rattle.mscp_packet.specs.declared.command.Order.TheVariants as orders
 use Rattle.mscp_queue.specs.Kept.{ArePassedInOrder, sequential_count}
 use Rattle.mscp_queue.specs.Orders.{is_move, is_sequential}
 use Rattle.mscp_queue.specs.Records.{Record, no_record, record_at}
@@ -18,36 +17,30 @@ use Rattle.mscp_queue.proofs.Lists.{every_of, every_weaker, filter_all, range_be
 -- ---- all may start
 
 not_sequential : (o : Order) → is_move o ≡ true → is_sequential o ≡ false
-not_sequential (orders.Move kind count block) m = refl
-not_sequential _ m = absurd (false≢true m)
+not_sequential o h1 = grind (arith, false≢true)
 
 abbrev ArePassable : ℕ → ℕ → List Record → Type 0
 ArePassable budget longest rs = AllByRecursion (λ z. is_passable budget longest z ≡ true) rs
 
 unfenced : (a : Bool) → (a && false) ≡ false
-unfenced true = refl
-unfenced false = refl
+unfenced a = grind arith
 
 all_free : (budget longest : ℕ) (r : Record) (front : List Record) → is_sequential r.command.order ≡ false
     → ArePassable budget longest front → is_free r front ≡ true
 all_free budget longest r [] s h = refl
 all_free budget longest r (z ∷ zs) s h =
-    let own = not_sequential z.command.order (and_parts (is_move z.command.order) (nat_le (z.passed + longest) budget)
-    h.0).0 in
-    let same = nat_eq z.command.unit r.command.unit in
-    ap (λ b. not (same && (b || is_sequential r.command.order)) && is_free r zs) own
-    ∙ (ap (λ b. not (same && b) && is_free r zs) s
-    ∙ (ap (λ b. not b && is_free r zs) (unfenced same) ∙ all_free budget longest r zs s h.1))
+    search (arith, not_sequential z.command.order (and_parts (is_move z.command.order) (nat_le (z.passed + longest)
+    budget) h.0).0, and_parts (is_move z.command.order) (nat_le (z.passed + longest) budget) h.0, all_free budget
+    longest r zs s h.1, not, unfenced)
 
 all_affordable : (budget longest : ℕ) (r : Record) (front : List Record) → r.weight ≤ longest
     → ArePassable budget longest front
     → is_affordable budget r front ≡ true
 all_affordable budget longest r [] l h = refl
 all_affordable budget longest r (z ∷ zs) l h =
-    let own = leb-true (z.passed + longest) budget
-    (and_parts (is_move z.command.order) (nat_le (z.passed + longest) budget) h.0).1 in
-    ap (λ b. b && is_affordable budget r zs) (le-leb (z.passed + r.weight) budget (omega (arith, own, l)))
-    ∙ all_affordable budget longest r zs l h.1
+    search (arith, leb-true (z.passed + longest) budget (and_parts (is_move z.command.order) (nat_le (z.passed +
+    longest) budget) h.0).1, and_parts (is_move z.command.order) (nat_le (z.passed + longest) budget) h.0,
+    all_affordable budget longest r zs l h.1, le-leb)
 
 opens_at : (budget longest : ℕ) (rs : List Record) (place : ℕ) → ArePassable budget longest rs
     → All (λ r. r.weight ≤ longest) rs → place < length rs

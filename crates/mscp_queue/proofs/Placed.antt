@@ -1,6 +1,6 @@
 -- Lists cut at a place, and lists that a function makes of others.
 use Rattle.std.proofs.Common.{◌≡◌, ◌⊎◌, ⊎_elim, inl, inr, ℕ, ◌+◌, ◌<◌, Bool, true, false, cond, not, ◌||◌, List, [], ◌∷◌, ◌++◌, map, take, drop, get_or, length, refl, ap, sym, ◌∙◌, subst, append_assoc, arith}
-use Rattle.std.specs.Prelude.{filter, find, nat_lt, sum_by, Option, Some, None, is_some}
+use Rattle.std.specs.Prelude.{filter, find, sum_by, Option, Some, None, is_some}
 use Rattle.std.specs.List.{AllByRecursion, list_any, position, position_or_len}
 use Rattle.std.proofs.lemmas.Bool.{cases_lt, false≢true, lt-ltb, le-ltb}
 use Rattle.std.proofs.lemmas.List.{drop_at, drop_more, get_or_append_left, get_or_at, length-append, take-append-drop, take-append-le, take_at}
@@ -22,10 +22,7 @@ sum_by_map f g (x ∷ xs) = sum_by-cons g (f x) (map f xs)
 pub filter_map_of : {X Y : Type 0} (f : X → Y) (p : Y → Bool) (xs : List X)
     → filter p (map f xs) ≡ map f (filter (λ x. p (f x)) xs)
 filter_map_of f p [] = refl
-filter_map_of f p (x ∷ xs) =
-    ap (λ ys. cond (p (f x)) (f x ∷ ys) ys) (filter_map_of f p xs)
-    ∙ elim (p (f x)) as (λ b. cond b (f x ∷ map f (filter (λ x. p (f x)) xs)) (map f (filter (λ x. p (f x)) xs))
-    ≡ map f (cond b (x ∷ filter (λ x. p (f x)) xs) (filter (λ x. p (f x)) xs))) [ true ↦ refl | false ↦ refl ]
+filter_map_of f p (x ∷ xs) = search (arith, filter_map_of f p xs)
 
 -- ---- a list at a place
 
@@ -37,13 +34,8 @@ pub record At {X : Type 0} (xs front : List X) (x : X) (back : List X) (k : ℕ)
 pub at_place : {X : Type 0} (xs front : List X) (x : X) (back : List X) (k : ℕ) (d : X) → xs ≡ front ++ x ∷ back
     → length front ≡ k → At xs front x back k d
 at_place {X} xs front x back k d e l =
-    let one : xs ≡ (front ++ x ∷ []) ++ back = e ∙ sym (append_assoc front (x ∷ []) back) in
-    let more : length (front ++ x ∷ []) ≡ k + 1 = omega (arith, length-append front (x ∷ [])) in
-    record {
-      item = ap (λ ys. get_or ys k d) e ∙ get_or_at front x back d k l;
-      before = ap (take k) e ∙ take_at front (x ∷ back) k l;
-      behind = ap (drop (k + 1)) one ∙ drop_at (front ++ x ∷ []) back (k + 1) more;
-    }
+    search (arith, append_assoc front (x ∷ []) back, length-append front (x ∷ []), get_or_at front x back d k l, take_at
+    front (x ∷ back) k l, drop_at)
 
 -- a list is cut at each of its places
 pub cut_at : {X : Type 0} (d : X) (xs : List X) (place : ℕ) → place < length xs
@@ -55,15 +47,7 @@ pub each_push : {X : Type 0} (d : X) (R : List X → X → Type 0) (xs : List X)
     → ((i : ℕ) → i < length xs → R (take i xs) (get_or xs i d)) → R xs x
     → (i : ℕ) → i < length (xs ++ x ∷ []) → R (take i (xs ++ x ∷ [])) (get_or (xs ++ x ∷ []) i d)
 each_push {X} d R xs x l r i h =
-    let ys = xs ++ x ∷ [] in
-    ⊎_elim
-    (λ b. subst (λ (y : X). R (take i ys) y) (sym (get_or_append_left xs (x ∷ []) d i b))
-    (subst (λ zs. R zs (get_or xs i d)) (sym (take-append-le i xs (x ∷ []) (omega (arith, b)))) (l i b)))
-    (λ b. let e : length xs ≡ i = omega (arith, b, h, length-append xs (x ∷ [])) in
-    subst (λ i. R (take i ys) (get_or ys i d)) e
-    (subst (λ (y : X). R (take (length xs) ys) y) (sym (get_or_at xs x [] d (length xs) refl))
-    (subst (λ zs. R zs x) (sym (take_at xs (x ∷ []) (length xs) refl)) r)))
-    (cases_lt i (length xs))
+    grind (arith, length-append, get_or_at, take_at, ⊎_elim, get_or_append_left, take-append-le, cases_lt)
 
 -- ---- the first element that passes a test
 
@@ -108,8 +92,7 @@ find_none p (y ∷ ys) h = ap (λ b. cond b (Some y) (find p ys)) h.0 ∙ find_n
 pub find_first : {X : Type 0} (p : X → Bool) (front : List X) (x : X) (back : List X)
     → AllByRecursion (λ y. p y ≡ false) front → p x ≡ true → find p (front ++ x ∷ back) ≡ Some x
 find_first p [] x back h e = ap (λ b. cond b (Some x) (find p back)) e
-find_first p (y ∷ ys) x back h e = ap (λ b. cond b (Some y) (find p (ys ++ x ∷ back))) h.0
-    ∙ find_first p ys x back h.1 e
+find_first p (y ∷ ys) x back h e = search (arith, find_first p ys x back h.1 e)
 
 -- what is found passes the test
 pub found_is : {X : Type 0} (p : X → Bool) (xs : List X) (x : X) → find p xs ≡ Some x → p x ≡ true
@@ -130,21 +113,15 @@ len_none p (y ∷ ys) h = ap (λ b. cond (not b) (1 + position_or_len p ys) 0) h
 len_first : {X : Type 0} (p : X → Bool) (front : List X) (x : X) (back : List X)
     → AllByRecursion (λ y. p y ≡ false) front → p x ≡ true → position_or_len p (front ++ x ∷ back) ≡ length front
 len_first p [] x back h e = ap (λ b. cond (not b) (1 + position_or_len p back) 0) e
-len_first p (y ∷ ys) x back h e = ap (λ b. cond (not b) (1 + position_or_len p (ys ++ x ∷ back)) 0) h.0
-    ∙ omega (arith, len_first p ys x back h.1 e)
+len_first p (y ∷ ys) x back h e = search (arith, len_first p ys x back h.1 e, not)
 
 pub position_none : {X : Type 0} (p : X → Bool) (xs : List X) → AllByRecursion (λ y. p y ≡ false) xs
     → position p xs ≡ None
-position_none p xs h =
-    ap (λ n. cond (nat_lt n (length xs)) (Some n) None) (len_none p xs h)
-    ∙ ap (λ b. cond b (Some (length xs)) None) (le-ltb (length xs) (length xs) (omega arith))
+position_none p xs h = search (arith, len_none p xs h, le-ltb (length xs) (length xs) (omega arith))
 
 pub position_first : {X : Type 0} (p : X → Bool) (front : List X) (x : X) (back : List X)
     → AllByRecursion (λ y. p y ≡ false) front → p x ≡ true → position p (front ++ x ∷ back) ≡ Some (length front)
-position_first p front x back h e =
-    ap (λ n. cond (nat_lt n (length (front ++ x ∷ back))) (Some n) None) (len_first p front x back h e)
-    ∙ ap (λ b. cond b (Some (length front)) None) (lt-ltb (length front) (length (front ++ x ∷ back))
-    (omega (arith, length-append front (x ∷ back))))
+position_first p front x back h e = grind (arith, len_first, lt-ltb, length-append)
 
 -- one is found where one passes
 pub position_any : {X : Type 0} (p : X → Bool) (xs : List X) → is_some (position p xs) ≡ list_any p xs

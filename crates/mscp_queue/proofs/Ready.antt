@@ -1,7 +1,7 @@
 -- What a queue knows stays true: the target of each command, in which order they were passed, and which places are
 -- known.
-use Rattle.std.proofs.Common.{◌≡◌, ℕ, suc, ◌+◌, ◌<◌, ◌≤◌, Bool, true, false, cond, not, List, [], ◌∷◌, ◌++◌, map, take, drop, get_or, length, refl, ap, sym, ◌∙◌, subst, arith}
-use Rattle.std.specs.Prelude.{All, filter, is_some, unwrap_or, Option, Some, None}
+use Rattle.std.proofs.Common.{◌≡◌, ℕ, ◌+◌, ◌<◌, ◌≤◌, Bool, true, false, cond, not, List, [], ◌∷◌, ◌++◌, map, take, drop, get_or, length, refl, ap, sym, ◌∙◌, subst, arith}
+use Rattle.std.specs.Prelude.{All, filter, is_some, Option, Some, None}
 use Rattle.std.specs.List.{AllByRecursion, list_any}
 use Rattle.std.proofs.lemmas.Bool.{false≢true, lt-ltb, ltb-true}
 use Rattle.std.proofs.lemmas.List.{get_or-map, get_or_append_left, get_or_at, length-append, length-map, length-take-le}
@@ -18,7 +18,7 @@ use Rattle.mscp_queue.specs.Targets.{target_of, targets_of, no_target}
 use Rattle.mscp_queue.specs.Waiters.{Waiters}
 use Rattle.mscp_queue.specs.Kept.{ArePassedInOrder, CanBeShown, IsHeld, IsReady, IsWaitable, begun_name, place_served, place_without, units_of}
 use Rattle.mscp_queue.specs.Names.{name_on}
-use Rattle.mscp_queue.specs.Records.{Record, advanced, drive_at, fresh_record, has_name, is_in_service, is_unstarted, name_of, no_record, passed_by, record_at, remains, step_charge}
+use Rattle.mscp_queue.specs.Records.{Record, advanced, drive_at, fresh_record, has_name, is_in_service, is_unstarted, no_record, passed_by, record_at, remains, step_charge}
 use Rattle.mscp_queue.specs.Serving.{IsServable, end_given, waiting_after}
 use Rattle.mscp_queue.proofs.Targets.{targets_cut, targets_ended, targets_kept, targets_pushed, place_same}
 use Rattle.mscp_queue.proofs.Drives.{drive_place, known_at}
@@ -45,8 +45,7 @@ drive_found {room} {budget} {longest} {rs} {ds} own place at h targeted l e =
     let of : Record → Target = λ r. target_of (units_of ds) r.command in
     let n = (record_at rs place).command.unit in
     let known = (h.each place no_record l).waitable.known in
-    let is : at ≡ drive_place ds n = e ∙ (ap (λ xs. (get_or xs place no_target).drive) targeted
-    ∙ (ap (λ (a : Target). a.drive) (get_or-map of rs place no_record no_target l) ∙ sym (place_same ds n))) in
+    let is : at ≡ drive_place ds n = search (arith, get_or-map of rs place no_record no_target l, place_same ds n) in
     record {
       inside = subst (λ k. k < length ds) (sym is) (known_at ds n (drive_at ds rs place) known).inside;
       is = λ other. ap (λ k. get_or ds k other) is ∙ (known_at ds n other known).drive;
@@ -56,30 +55,13 @@ drive_found {room} {budget} {longest} {rs} {ds} own place at h targeted l e =
 -- what waits can be shown
 pub can_be_shown : {room longest : ℕ} {w : Waiters} {ds : List Drive} {begun serving : Option ℕ}
     → IsReady room longest w ds begun serving → CanBeShown ds w.waiting w.targets
-can_be_shown {ds = ds} q =
-    let own = q.held in
-    let few = own.units.few in
-    let some = own.units.some in
-    let same = length-map ds (λ (d : Drive). d.unit) in
-    record {
-      few = omega (arith, own.fits, own.few);
-      drives = omega (arith, few, same);
-      some_drive = omega (arith, some, same);
-      heads = own.heads;
-      waitable = λ i other l. (own.each i other l).waitable.order;
-      weighs = λ i other l. let k = own.each i other l in
-          (omega (arith, k.unfinished), omega (arith, k.weight, k.waitable.short, own.short));
-      inside = λ i other l. let k = own.each i other l in (k.waitable.known, k.waitable.inside);
-      targeted = q.targeted;
-    }
+can_be_shown {ds = ds} q = search (arith, length-map)
 
 -- ---- a command comes
 
 begun_more : (rs : List Record) (x : Record) (begun : Option ℕ) → ((place : ℕ) → begun ≡ Some place → place < length rs)
     → begun_name rs begun ≡ begun_name (rs ++ x ∷ []) begun
-begun_more rs x None h = refl
-begun_more rs x (Some place) h = ap (λ (r : Record). Some (name_of r))
-    (sym (get_or_append_left rs (x ∷ []) no_record place (h place refl)))
+begun_more rs x begun h3 = grind (arith, get_or_append_left)
 
 pub ready_pushed : {room longest : ℕ} {w new : Waiters} {ds : List Drive} {begun serving : Option ℕ}
     (by : Connection) (c : Command) (target : Target)
@@ -154,8 +136,7 @@ ready_left {room} {longest} {w} {new} {ds} {begun} {serving} {begun'} {serving'}
       served = served_without rs new.waiting serving gone l e q.served;
       waits = waits_without rs new.waiting begun gone l e q.waits;
     } in
-    subst (λ (o : Option ℕ). IsReady room longest new ds o serving') (sym f)
-    (subst (λ (o : Option ℕ). IsReady room longest new ds (place_without begun gone) o) (sym g) all)
+    search arith
 
 -- ---- a step
 
@@ -193,28 +174,14 @@ targets_served : (us : List Shape) (rs new : List Record) (place charge : ℕ) (
     ++ (cond ends [] (advanced (record_at rs place) ∷ []) ++ drop (place + 1) rs)
     → cond ends (take place (targets_of us rs) ++ drop (place + 1) (targets_of us rs)) (targets_of us rs)
     ≡ targets_of us new
-targets_served us rs new place charge true l e =
-    let next : place + 1 ≡ suc place = omega arith in
-    ap (λ k. take place (targets_of us rs) ++ drop k (targets_of us rs)) next ∙ targets_ended us rs new place charge e
-targets_served us rs new place charge false l e = targets_kept us rs new place charge l e
+targets_served us rs new place charge ends h6 h7 = grind (arith, targets_ended, targets_kept)
 
 serving_served : (rs new : List Record) (place charge : ℕ) (ends : Bool) → place < length rs
     → new ≡ map (passed_by charge) (take place rs)
     ++ (cond ends [] (advanced (record_at rs place) ∷ []) ++ drop (place + 1) rs)
     → (k : ℕ) → place_served ends place ≡ Some k → (k < length new) × (is_in_service (record_at new k) ≡ true)
-serving_served rs new place charge true l e k s = absurd (false≢true (ap is_some s))
-serving_served rs new place charge false l e k s =
-    let A = map (passed_by charge) (take place rs) in
-    let r = advanced (record_at rs place) in
-    let B = drop (place + 1) rs in
-    let is : place ≡ k = ap (λ o. unwrap_or o k) s in
-    let long : length A ≡ k = length-map (take place rs) (passed_by charge)
-    ∙ length-take-le place rs (omega (arith, l)) ∙ is in (
-      omega (arith, ap length e, length-append A (r ∷ B), long),
-      ap (λ zs. is_in_service (record_at zs k)) e
-          ∙ ap (λ (z : Record). is_in_service z) (get_or_at A r B no_record k long)
-          ∙ lt-ltb 0 ((record_at rs place).done + 1) (omega arith),
-    )
+serving_served rs new place charge ends h5 h6 k h8 =
+    grind (arith, false≢true, length-map, length-take-le, length-append, get_or_at, lt-ltb)
 
 pub ready_step : {room longest place : ℕ} {w new : Waiters} {ds ds' : List Drive} {begun serving serving' : Option ℕ}
     {k : Block} {ends : Bool}
@@ -241,8 +208,7 @@ ready_step {room} {longest} {place} {w} {new} {ds} {ds'} {begun} {serving} {serv
     served_if false = refl
 
 remains_if : (r : Record) (o : Option End) → cond (is_some o) [] (advanced r ∷ []) ≡ remains r o
-remains_if r None = refl
-remains_if r (Some end) = refl
+remains_if r o = grind arith
 
 -- what a step leaves of those that wait
 pub left_is : (k : Block) (place : ℕ) (rs : List Record) (d : Drive) (ends : Bool)
@@ -250,7 +216,4 @@ pub left_is : (k : Block) (place : ℕ) (rs : List Record) (d : Drive) (ends : B
     → map (passed_by (step_charge (record_at rs place))) (take place rs)
     ++ (cond ends [] (advanced (record_at rs place) ∷ []) ++ drop (place + 1) rs)
     ≡ waiting_after k d rs place
-left_is k place rs d ends e =
-    let r = record_at rs place in
-    ap (λ zs. map (passed_by (step_charge r)) (take place rs) ++ (zs ++ drop (place + 1) rs))
-    (ap (λ b. cond b [] (advanced r ∷ [])) e ∙ remains_if r (end_given k d r))
+left_is k place rs d ends e = search (arith, remains_if)

@@ -1,10 +1,9 @@
 -- A queue as it was: its waiting commands in their slots, and what it knows of them.
-use Rattle.std.proofs.Common.{All, ◌≡◌, ◌+◌, ◌<◌, ◌≤◌, ◌^◌, ℕ, zero, suc, Bool, true, false, ◌||◌, List, [], ◌∷◌, ◌++◌, drop, get_or, length, append-nil, refl, ap, sym, subst, ◌∙◌, arith}
+use Rattle.std.proofs.Common.{All, ◌≡◌, ◌+◌, ◌<◌, ◌≤◌, ◌^◌, ℕ, suc, Bool, true, false, List, [], ◌∷◌, ◌++◌, drop, get_or, length, append-nil, refl, ap, ◌∙◌, arith}
 use Rattle.std.specs.Prelude.{sum_by, is_some, unwrap_or, Option, Some, None, IfNone, IfSome}
 use Rattle.std.specs.List.{list_any, position}
 use Rattle.std.proofs.lemmas.Bool.{false≢true, ltb-false, true≢false}
 use Rattle.std.proofs.lemmas.List.{drop_all}
-use Rattle.std.proofs.lemmas.List.Elements.{All-from_get_or}
 use Rattle.std.proofs.lemmas.List.Quantifiers.{position-Some}
 use Rattle.mscp_queue.specs.declared.drive.Drive.{Drive}
 use Rattle.mscp_queue.specs.declared.name.Name.{Name}
@@ -16,28 +15,19 @@ use Rattle.mscp_queue.specs.declared.slots.Slot.{Slot}
 use Rattle.mscp_drive.specs.Shape.{Shape}
 use Rattle.mscp_queue.specs.Targets.{target_of, targets_of}
 use Rattle.mscp_queue.specs.Dues.{AreDue, AreTimed, figure_in}
-use Rattle.mscp_queue.specs.Records.{Record, has_name, is_in_service, left_if_serving, left_of, name_of, no_record, record_at}
+use Rattle.mscp_queue.specs.Records.{Record, has_name, is_in_service, left_if_serving, left_of, no_record}
 use Rattle.mscp_queue.specs.Slots.{targets, items}
 
 -- ---- lists
 
 any_at : {X : Type 0} (p : X → Bool) (xs : List X) (k : ℕ) (d : X) → k < length xs → p (get_or xs k d) ≡ true
     → list_any p xs ≡ true
-any_at p [] k d l e = absurd (omega (arith, l))
-any_at p (x ∷ xs) zero d l e = ap (λ b. b || list_any p xs) e
-any_at p (x ∷ xs) (suc k) d l e = or_right (p x) (list_any p xs) (any_at p xs k d (omega (arith, l)) e)
-  where
-    or_right : (a b : Bool) → b ≡ true → (a || b) ≡ true
-    or_right true b e = refl
-    or_right false b e = e
+any_at p (x ∷ xs) (suc k) d l e = search (arith, any_at p xs k d (omega (arith, l)) e)
+any_at p xs k d h4 h5 = search arith
 
 none_at : {X : Type 0} (p : X → Bool) (xs : List X) (k : ℕ) (d : X) → k < length xs → list_any p xs ≡ false
     → p (get_or xs k d) ≡ false
-none_at p xs k d l e = by (p (get_or xs k d)) refl
-  where
-    by : (b : Bool) → p (get_or xs k d) ≡ b → p (get_or xs k d) ≡ false
-    by true is = absurd (false≢true (sym e ∙ any_at p xs k d l is))
-    by false is = is
+none_at p xs k d l e = grind (arith, false≢true, any_at)
 
 some_same : {X : Type 0} {x y : X} → Some x ≡ Some y → x ≡ y
 some_same {x = x} e = ap (λ o. unwrap_or o x) e
@@ -66,38 +56,23 @@ module _ (budget : ℕ) (us : List Shape) where
 
   pub are_due : (before : ℕ) (rs : List Record) → AreDue budget 0 before (slots_of budget us before rs)
   are_due before [] = tt
-  are_due before (r ∷ rs) =
-      let same : figure_in budget before (sum_by left_if_serving rs) r
-      ≡ 0 + figure_in budget before (sum_by left_if_serving (items (slots_of budget us (before + left_of r) rs))) r =
-      ap (λ xs. figure_in budget before (sum_by left_if_serving xs) r) (sym (items_of (before + left_of r) rs))
-      ∙ omega arith in
-      (same, are_due (before + left_of r) rs)
+  are_due before (r ∷ rs) = search (arith, items_of (before + left_of r) rs, are_due (before + left_of r) rs)
 
   -- one more of them
 
   -- at the end they are all
   pub slots_all : (ss : List Slot) (before n : ℕ) (rs : List Record) → length rs ≤ n
       → ss ++ slots_of budget us before (drop n rs) ≡ slots_of budget us 0 rs → ss ≡ slots_of budget us 0 rs
-  slots_all ss before n rs l h =
-      sym (append-nil ss) ∙ (ap (λ xs. ss ++ slots_of budget us before xs) (sym (drop_all n rs l)) ∙ h)
+  slots_all ss before n rs l h = search (arith, append-nil ss, drop_all n rs l)
 
   pub timed : (ss : List Slot) (total : ℕ) (rs : List Record) → budget < 2 ^ 32 → ss ≡ slots_of budget us 0 rs
       → total ≡ sum_by left_of rs → AreTimed budget 0 total ss
-  timed ss total rs fits e t = record {
-    dues = subst (AreDue budget 0 0) (sym e) (are_due 0 rs);
-    left = t ∙ ap (sum_by left_of) (sym (ap items e ∙ items_of 0 rs));
-    early = omega arith;
-    fits = fits;
-  }
+  timed ss total rs fits e t = search (arith, are_due 0 rs, items_of 0 rs)
 
   pub shown : (ss : List Slot) (rs : List Record) → ss ≡ slots_of budget us 0 rs
       → ◌≡◌ {A = Waiters} (record { budget = budget; waiting = items ss; targets = targets ss })
       (record { budget = budget; waiting = rs; targets = targets_of us rs })
-  shown ss rs e = λ i. record {
-    budget = budget;
-    waiting = (ap items e ∙ items_of 0 rs) i;
-    targets = (ap targets e ∙ targets_are 0 rs) i;
-  }
+  shown ss rs e = search (arith, items_of 0 rs, targets_are 0 rs)
 
 -- ---- what a queue knows
 
@@ -108,27 +83,19 @@ begun_some : (budget : ℕ) (rs : List Record) (name : Name) (place : Option ℕ
 begun_some budget rs name None still e =
     absurd (false≢true (ap is_some e ∙ (position_any (has_name name) rs
     ∙ any_at (has_name name) rs still.0 no_record still.1.inside still.2)))
-begun_some budget rs name (Some k) still e =
-    let found = position-Some (has_name name) rs k no_record (sym e) in (
-      ap (λ n. Some n) (same_is (name_of (record_at rs k)) name found.1),
-      λ j is. subst (λ n. n < length rs) (some_same is) found.0,
-    )
+begun_some budget rs name (Some k) still e = grind (arith, position-Some, same_is, some_same)
 
 pub begun_back : (budget : ℕ) (rs : List Record) (begun : Option Name) (place : Option ℕ)
     → ((name : Name) → begun ≡ Some name → IsStillServable budget rs name)
     → IfSome begun (λ name. place ≡ position (has_name name) rs) → IfNone begun (place ≡ None)
     → (begun_name rs place ≡ begun) × ((k : ℕ) → place ≡ Some k → k < length rs)
-begun_back budget rs None place still some none =
-    (ap (begun_name rs) none, λ k is. absurd (false≢true (ap is_some (sym none ∙ is))))
+begun_back budget rs None place still some none = search (arith, false≢true)
 begun_back budget rs (Some name) place still some none =
     begun_some budget rs name place (still name refl) some
 
 -- where nobody is in service nobody had a step
 idle_where : (rs : List Record) → is_some (position is_in_service rs) ≡ false → All (λ r. r.done ≡ 0) rs
-idle_where rs e = All-from_get_or (λ (r : Record). r.done ≡ 0) rs no_record (λ k l.
-    let not_served : is_in_service (record_at rs k) ≡ false =
-    none_at is_in_service rs k no_record l (sym (position_any is_in_service rs) ∙ e) in
-    omega (arith, ltb-false 0 (record_at rs k).done not_served))
+idle_where rs e = search (arith, position_any is_in_service rs, none_at, ltb-false)
 
 pub ready_restored : {room budget longest : ℕ} {w : Waiters} {rs : List Record} {ds : List Drive}
     {begun : Option Name} {place serving : Option ℕ}
@@ -138,45 +105,9 @@ pub ready_restored : {room budget longest : ℕ} {w : Waiters} {rs : List Record
     → serving ≡ position is_in_service rs
     → IsReady room longest w ds place serving
 ready_restored {room} {budget} {longest} {w} {rs} {ds} {begun} {place} {serving} h o e b s =
-    let all : IsReady room longest (record { budget = budget; waiting = rs; targets = targets_of (units_of ds) rs }) ds
-    place serving = record {
-      held = record {
-        some_room = h.some_room;
-        few = h.few;
-        some_blocks = h.some_blocks;
-        short = h.short;
-        small = h.small;
-        fits = h.fits;
-        each = h.each;
-        apart = h.apart;
-        one = h.one;
-        idle = λ none. idle_where rs (ap is_some (sym s) ∙ none);
-        units = h.units;
-        heads = h.heads;
-        still = λ name is. h.still name (sym b.0 ∙ is);
-      };
-      targeted = refl;
-      order = o;
-      served = λ k is. let found = position-Some is_in_service rs k no_record (sym s ∙ is) in (found.0, found.1);
-      waits = b.1;
-    } in
-    subst (λ (v : Waiters). IsReady room longest v ds place serving) (sym e) all
+    search (arith, idle_where, position-Some)
 
 -- and what one knows it was
 pub held_seen : {room budget longest : ℕ} {rs : List Record} {ds : List Drive} {begun : Option Name} {serving : Bool}
     → IsHeld room budget longest rs ds begun serving → IsHeld room budget longest rs ds begun true
-held_seen h = record {
-  some_room = h.some_room;
-  few = h.few;
-  some_blocks = h.some_blocks;
-  short = h.short;
-  small = h.small;
-  fits = h.fits;
-  each = h.each;
-  apart = h.apart;
-  one = h.one;
-  idle = λ e. absurd (true≢false e);
-  units = h.units;
-  heads = h.heads;
-  still = h.still;
-}
+held_seen h = search (arith, true≢false)

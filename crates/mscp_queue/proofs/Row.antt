@@ -2,7 +2,6 @@
 use Rattle.std.proofs.Common.{◌≡◌, ◌∙◌, ◌+◌, ◌-◌, ◌<◌, ◌≤◌, ◌^◌, ℕ, List, ◌++◌, map, take, drop, length, get_or, set, inl, inr, ap, sym, subst, arith}
 use Rattle.std.specs.Prelude.{Option, None, Some, IfNone, IfSome, unwrap_or}
 use Rattle.std.specs.List.{CopiedTo, SameBelow, drop-map, take-map}
-use Rattle.std.specs.Int.{bit_at}
 use Rattle.std.proofs.lemmas.Bool.{cases_eq, cases_lt}
 use Rattle.std.proofs.lemmas.Nat.Bits.{bit_at-zero, bit_at_ones, bit_at_ones_above}
 use Rattle.std.proofs.lemmas.List.{get_or-append_right, get_or-drop, get_or-map, get_or-set_other, get_or-set_same, get_or-take, get_or_append_left, length-append, length-drop, length-map, length-set, length-take-le, get_or_default, map-append}
@@ -23,46 +22,17 @@ left_costs view place =
 -- a list, one place of which left: in front of it as before, and behind it one further
 in_front : (xs : List ℕ) (place k : ℕ) → k < place → place < length xs
     → get_or (take place xs ++ drop (place + 1) xs) k 0 ≡ get_or xs k 0
-in_front xs place k l inside =
-    let long : length (take place xs) ≡ place = length-take-le place xs (omega arith) in
-    let front : k < length (take place xs) = omega (arith, long) in
-    get_or_append_left (take place xs) (drop (place + 1) xs) 0 k front ∙ get_or-take place xs k 0 l
+in_front xs place k l inside = grind (arith, length-take-le, get_or-take, get_or_append_left)
 
 behind : (xs : List ℕ) (place k : ℕ) → place ≤ k → place < length xs
     → get_or (take place xs ++ drop (place + 1) xs) k 0 ≡ get_or xs (k + 1) 0
-behind xs place k l inside =
-    let long : length (take place xs) ≡ place = length-take-le place xs (omega arith) in
-    get_or-append_right (take place xs) (drop (place + 1) xs) place k 0 long l
-    ∙ get_or-drop (place + 1) xs (k - place) 0
-    ∙ ap (λ i. get_or xs i 0) (omega arith)
+behind xs place k l inside = grind (arith, length-take-le, get_or-drop, get_or-append_right)
 
 pub row_left : (row new : List ℕ) (view : List Choice) (place : ℕ) → place < length view → IsRow row view
     → CopiedTo row new (place + 1) place (length view - (place + 1)) → SameBelow row new place
     → IsRow new (take place view ++ drop (place + 1) view)
 row_left row new view place inside r copied same =
-    let long : length (costs view) ≡ length view = length-map view (λ (c : Choice). c.cost) in
-    let left : length (take place view ++ drop (place + 1) view) + 1 ≡ length view =
-    omega (
-      arith,
-      length-append (take place view) (drop (place + 1) view),
-      length-take-le place view (omega arith),
-      length-drop (place + 1) view,
-    ) in
-    let few = r.few in
-    record {
-      few = omega (arith, left, few);
-      each = λ k l. elim (cases_lt k place) [
-        | inl before ↦ same k 0 before
-            ∙ r.each k (omega arith)
-            ∙ sym (in_front (costs view) place k before (omega (arith, long)))
-            ∙ sym (ap (λ xs. get_or xs k 0) (left_costs view place))
-        | inr after ↦ copied k 0 after (omega (arith, inside, l, left))
-            ∙ ap (λ i. get_or row i 0) (omega arith)
-            ∙ r.each (k + 1) (omega (arith, l, left))
-            ∙ sym (behind (costs view) place k after (omega (arith, long)))
-            ∙ sym (ap (λ xs. get_or xs k 0) (left_costs view place))
-      ];
-    }
+    grind (arith, length-append, length-take-le, length-drop, left_costs, length-map, cases_lt, in_front, behind)
 
 -- a cost is another
 pub row_set : (row : List ℕ) (view : List Choice) (place cost : ℕ) → place < length view → 64 ≤ length row
@@ -91,40 +61,12 @@ row_set row view place cost inside room r =
 pub swept : (row : List ℕ) (view : List Choice) (p : ℕ) → IsRow row view → IsLeast row (2 ^ length view - 1) p
     → IsSweep view p
 swept row view p r h =
-    let long : length (costs view) ≡ length view = length-map view (λ (c : Choice). c.cost) in
-    let few = r.few in
-    let bit = h.masked in
-    let there : p < length view = elim (cases_lt p (length view)) [
-      | inl below ↦ below
-      | inr past ↦ absurd (omega (arith, bit, bit_at_ones_above (length view) p past))
-    ] in
-    let own : get_or row p 0 ≡ get_or (costs view) p 0 = r.each p there in
-    record {
-      inside = omega (arith, there, long);
-      least = λ k other l.
-          let at : k < length view = omega (arith, l, long) in
-          let same : get_or row k 0 ≡ get_or (costs view) k 0 = r.each k at in
-          let any : get_or (costs view) k other ≡ get_or (costs view) k 0 =
-          get_or_default (costs view) k other 0 l in
-          omega (arith, own, same, any, h.least k (omega (arith, at, few)) (bit_at_ones (length view) k at));
-      first = λ k other l.
-          let front : k < p = omega (arith, l, length-take-le p (costs view) (omega (arith, there, long))) in
-          let at : k < length view = omega (arith, front, there) in
-          let same : get_or row k 0 ≡ get_or (costs view) k 0 = r.each k at in
-          let any : get_or (take p (costs view)) k other ≡ get_or (costs view) k 0 =
-          get_or-take p (costs view) k other front ∙ get_or_default (costs view) k other 0 (omega (arith, at, long)) in
-          omega (arith, own, same, any, h.first k front (bit_at_ones (length view) k at));
-    }
+    grind (arith, cases_lt, length-map, bit_at_ones_above, get_or_default, bit_at_ones, length-take-le, get_or-take)
 
 -- the place that is told is one, where there is a choice
 pub swept_there : (row : List ℕ) (view : List Choice) (mask : ℕ) (o : Option ℕ) → IsRow row view
     → mask ≡ 2 ^ length view - 1 → IfSome o (λ p. IsLeast row mask p) → IfNone o (mask ≡ 0) → 0 < length view
     → IsSweep view (unwrap_or o 0)
-swept_there row view mask None r e some none there = absurd (omega (
-  arith,
-  ap (λ m. bit_at m 0) (sym e ∙ none),
-  bit_at_ones (length view) 0 there,
-  bit_at-zero 0,
-))
+swept_there row view mask None r e some none there = search (arith, bit_at_ones (length view) 0 there, bit_at-zero 0)
 swept_there row view mask (Some p) r e some none there =
     swept row view p r (subst (λ m. IsLeast row m p) e some)

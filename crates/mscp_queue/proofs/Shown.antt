@@ -1,5 +1,5 @@
 -- What slots show once one of them holds something else.
-use Rattle.std.proofs.Common.{◌≡◌, ◌≢◌, ◌<◌, ◌+◌, ◌^◌, ◌⊎◌, inl, inr, ℕ, zero, suc, Bool, true, false, not, ◌&&◌, ◌||◌, nat_eq, List, [], ◌∷◌, ◌++◌, map, set, take, drop, get_or, length, sym, subst, ap, ◌∙◌, refl, arith}
+use Rattle.std.proofs.Common.{◌≡◌, ◌≢◌, ◌<◌, ◌+◌, ◌^◌, ◌⊎◌, inl, inr, ℕ, zero, suc, Bool, true, false, not, ◌&&◌, nat_eq, List, [], ◌∷◌, ◌++◌, map, set, take, drop, get_or, length, sym, subst, ap, ◌∙◌, refl, arith}
 use Rattle.std.specs.Prelude.{nat_lt, remove, slice_index_or}
 use Rattle.std.specs.List.{list_all}
 use Rattle.std.specs.Int.{bit_at}
@@ -8,11 +8,11 @@ use Rattle.std.proofs.lemmas.List.{drop-map, get_or_default, get_or-map, get_or-
 use Rattle.mscp_queue.specs.declared.target.Target.{Target}
 use Rattle.mscp_queue.specs.declared.slots.Slot.{Slot}
 use Rattle.mscp_queue.specs.declared.masks.Masks.{Masks}
-use Rattle.mscp_queue.specs.Masks.{AreMasks, AreSlots, HasCome, HasLeft, IsLowestFree, IsSet, Kind, bit, fences, has, keeps_back}
+use Rattle.mscp_queue.specs.Masks.{AreMasks, AreSlots, HasCome, HasLeft, IsLowestFree, IsSet, fences, has, keeps_back}
 use Rattle.mscp_queue.specs.Orders.{is_sequential}
 use Rattle.mscp_queue.specs.Records.{Record, advanced, is_in_service, is_unstarted, no_record, passed_by}
 use Rattle.mscp_queue.specs.Targets.{no_target}
-use Rattle.mscp_queue.specs.Slots.{AreKept, held, is_unfenced, kind_at, kind_of, no_slot, shown, slot_at, with_due, with_item}
+use Rattle.mscp_queue.specs.Slots.{AreKept, held, is_unfenced, kind_at, kind_of, shown, slot_at, with_due, with_item}
 use Rattle.mscp_queue.proofs.Freed.{free_tells}
 use Rattle.mscp_queue.proofs.Departed.{masks_left}
 use Rattle.mscp_queue.proofs.Masked.{has_other, masks_pushed, masks_same, masks_served, not_behind, not_here, off_bit, same_or, slot_has, slot_low}
@@ -23,11 +23,7 @@ module _ (rs : List Record) (own : List Target) (ds : List ℕ) (n : ℕ) (r : R
   held_then = held (set rs n r) (set own n a) (set ds n d)
 
   pub held_other : (k : ℕ) → k ≢ n → held_then k ≡ held rs own ds k
-  held_other k e = λ i. record {
-    item = get_or-set_other rs n k r no_record e i;
-    target = get_or-set_other own n k a no_target e i;
-    due = get_or-set_other ds n k d 0 e i;
-  }
+  held_other k e = search (arith, get_or-set_other)
 
   pub shown_other : (order : List ℕ) → has n order ≡ false → map held_then order ≡ shown rs own ds order
   shown_other [] e = refl
@@ -36,11 +32,7 @@ module _ (rs : List Record) (own : List Target) (ds : List ℕ) (n : ℕ) (r : R
 
   pub held_same : n < length rs → n < length own → n < length ds → held_then n
       ≡ record { item = r; target = a; due = d }
-  held_same l m k = λ i. record {
-    item = get_or-set_same rs n r no_record l i;
-    target = get_or-set_same own n a no_target m i;
-    due = get_or-set_same ds n d 0 k i;
-  }
+  held_same l m k = search (arith, get_or-set_same)
 
 -- ---- a slot of the order
 
@@ -60,24 +52,14 @@ long_shown rs own ds order now view = sym (length-map order (held rs own ds)) �
 -- what a slot holds is what is shown at its place
 pub slot_is : (rs : List Record) (own : List Target) (ds order : List ℕ) (now : List Slot) (place n : ℕ)
     → shown rs own ds order ≡ now → place < length now → n ≡ get_or order place 0 → held rs own ds n ≡ slot_at now place
-slot_is rs own ds order now place n view l is =
-    ap (held rs own ds) is
-    ∙ (sym (get_or-map (held rs own ds) order place 0 no_slot (omega (arith, long_shown rs own ds order now view, l)))
-    ∙ ap (λ ss. slot_at ss place) view)
+slot_is rs own ds order now place n view l is = grind (arith, get_or-map, long_shown)
 
 pub number_of : {rs : List Record} {own : List Target} {order seen : List ℕ} {m : Masks} {place n : ℕ} (ds : List ℕ)
     (now : List Slot)
     → AreKept rs own order m → shown rs own ds order ≡ now → place < length now → n ≡ get_or seen place 0 → seen ≡ order
     → IsNumber order place n
 number_of {rs} {own} {order} {seen} {m} {place} {n} ds now kept view inside e same =
-    let l : place < length order = omega (arith, inside, long_shown rs own ds order now view) in
-    let is : n ≡ get_or order place 0 = e ∙ ap (λ xs. get_or xs place 0) same in
-    record {
-      low = subst (λ k. k < 64) (sym is) (slot_low order place kept.masks.apart l);
-      taken = subst (λ k. has k order ≡ true) (sym is) (slot_has order place l);
-      inside = l;
-      is = is;
-    }
+    search (arith, long_shown rs own ds order now view, slot_low, slot_has)
 
 -- the record in it
 pub item_at : {rs : List Record} {own : List Target} {order : List ℕ} {m : Masks} {place n : ℕ} (ds : List ℕ)
@@ -92,8 +74,7 @@ item_at {rs} {own} {order} {m} {place} {n} ds now other kept view inside h =
 -- the order is cut at it
 pub cut_order : (order : List ℕ) (place n : ℕ) → IsNumber order place n
     → order ≡ take place order ++ n ∷ drop (place + 1) order
-cut_order order place n h = cut_at 0 order place h.inside
-    ∙ ap (λ k. take place order ++ k ∷ drop (place + 1) order) (sym h.is)
+cut_order order place n h = search (arith, cut_at 0 order place h.inside)
 
 -- a test of what is shown
 pub all_shown : {X Y : Type 0} (p : Y → Bool) (f : X → Y) (xs : List X)
@@ -121,18 +102,8 @@ unfenced_at {rs} {own} {order} {m} {place} {n} ds now kept view inside h small =
 -- ---- the command at a place leaves
 
 has_middle : (k n : ℕ) (front back : List ℕ) → has k (front ++ back) ≡ true → has k (front ++ n ∷ back) ≡ true
-has_middle k n [] back e = ap (λ b. nat_eq k n || b) e ∙ or_true (nat_eq k n)
-  where
-    or_true : (b : Bool) → (b || true) ≡ true
-    or_true true = refl
-    or_true false = refl
-has_middle k n (x ∷ front) back e = by (nat_eq k x) (has_middle k n front back) e
-  where
-    by : (b : Bool) → (has k (front ++ back) ≡ true → has k (front ++ n ∷ back) ≡ true)
-        → (b || has k (front ++ back)) ≡ true
-        → (b || has k (front ++ n ∷ back)) ≡ true
-    by true h e = refl
-    by false h e = h e
+has_middle k n [] back e = search (arith, nat_eq k n)
+has_middle k n (x ∷ front) back e = search (arith, nat_eq k x, has_middle k n front back)
 
 pub kept_left : {rs : List Record} {own : List Target} {order new : List ℕ} {m m' : Masks} {place n : ℕ}
     → AreKept rs own order m → IsNumber order place n → HasLeft n (kind_at rs own n).drive m m'
@@ -155,23 +126,12 @@ kept_left {rs} {own} {order} {new} {m} {m'} {place} {n} kept h left e =
 
 pub shown_left : {X Y : Type 0} (f : X → Y) (order new : List X) (now : List Y) (place : ℕ) → map f order ≡ now
     → new ≡ remove order place → map f new ≡ take place now ++ drop (place + 1) now
-shown_left f order new now place view e =
-    let next : suc place ≡ place + 1 = omega arith in
-    ap (map f) e ∙ (map-append f (take place order) (drop (suc place) order)
-    ∙ ((λ i. sym (take-map f place order) i ++ sym (drop-map f (suc place) order) i)
-    ∙ (λ i. take place (view i) ++ drop (next i) (view i))))
+shown_left f order new now place view e = grind (arith, map-append, take-map, drop-map)
 
 -- ---- a command comes
 
 pub serves_if : (n : ℕ) → not (nat_eq n 0) ≡ nat_lt 0 n
-serves_if n = by (pos_or n)
-  where
-    pos_or : (n : ℕ) → (n ≡ 0) ⊎ (0 < n)
-    pos_or n = grind arith
-
-    by : (n ≡ 0) ⊎ (0 < n) → not (nat_eq n 0) ≡ nat_lt 0 n
-    by (inl e) = ap not (eq-eqb n 0 e) ∙ sym (le-ltb 0 n (omega (arith, e)))
-    by (inr l) = ap not (ne_eqb n 0 (λ e. omega (arith, e, l))) ∙ sym (lt-ltb 0 n l)
+serves_if n = grind (arith, not, nat_eq, eq-eqb, le-ltb, ne_eqb, lt-ltb)
 
 pub kept_pushed : {rs : List Record} {own : List Target} {order new : List ℕ} {m m' : Masks} {n drive : ℕ}
     {sequential serving : Bool}
@@ -189,18 +149,8 @@ kept_pushed {rs} {own} {order} {new} {m} {m'} {n} {drive} {sequential}
     let target : get_or own' n no_target ≡ a = get_or-set_same own n a no_target
     (omega (arith, low, kept.targets_64)) in
     let none : has n order ≡ false = off_bit (has n order) (sym (kept.masks.of_waiting n low) ∙ free.free) in
-    let others : (k : ℕ) → k ≢ n → kinds' k ≡ kinds k = λ k d. λ i. record {
-      drive = (get_or-set_other own n k a no_target d i).drive;
-      sequential = is_sequential (get_or-set_other rs n k r no_record d i).command.order;
-      serving = is_in_service (get_or-set_other rs n k r no_record d i);
-    } in
-    let came : HasCome n (kinds' n).drive (kinds' n).sequential (kinds' n).serving m m' =
-    subst (λ d. HasCome n d (kinds' n).sequential (kinds' n).serving m m') (is_drive
-    ∙ ap (λ (q : Target). q.drive) (sym target))
-    (subst (λ b. HasCome n drive b (kinds' n).serving m m') (ordered
-    ∙ ap (λ (q : Record). is_sequential q.command.order) (sym item))
-    (subst (λ b. HasCome n drive sequential b m m') (served
-    ∙ ap (λ (q : Record). is_in_service q) (sym item)) comes)) in
+    let others : (k : ℕ) → k ≢ n → kinds' k ≡ kinds k = search (arith, get_or-set_other) in
+    let came : HasCome n (kinds' n).drive (kinds' n).sequential (kinds' n).serving m m' = search arith in
     subst (λ o. AreKept rs' own' o m') (sym e)
     (record {
       records_64 = length-set rs n r ∙ kept.records_64;
@@ -220,14 +170,7 @@ pub shown_pushed : {rs : List Record} {own : List Target} {order new : List ℕ}
     (s : Slot) → AreKept rs own order m → length ds ≡ 64 → IsLowestFree m.waiting n → shown rs own ds order ≡ now
     → new ≡ order ++ n ∷ [] → shown (set rs n s.item) (set own n s.target) (set ds n s.due) new ≡ now ++ s ∷ []
 shown_pushed {rs} {own} {order} {new} {m} {n} ds now s kept long free view e =
-    let low = free.low in
-    let none : has n order ≡ false = off_bit (has n order) (sym (kept.masks.of_waiting n low) ∙ free.free) in
-    let f = held (set rs n s.item) (set own n s.target) (set ds n s.due) in
-    ap (map f) e ∙ (map-append f order (n ∷ [])
-    ∙ ((λ i. shown_other rs own ds n s.item s.target s.due order none i
-    ++ held_same rs own ds n s.item s.target s.due (omega (arith, low, kept.records_64))
-    (omega (arith, low, kept.targets_64))
-    (omega (arith, low, long)) i ∷ []) ∙ ap (λ zs. zs ++ s ∷ []) view))
+    search (arith, off_bit, map-append, shown_other, held_same)
 
 -- ---- one slot changes
 
@@ -242,13 +185,7 @@ set_at_number f f' (s ∷ order) zero a l same = ap (λ ys. f' s ∷ ys) (rest o
     rest [] e = refl
     rest (x ∷ xs) e = λ i. same x (not_here s x xs e) i ∷ rest xs (not_behind s x xs e) i
 set_at_number f f' (s ∷ order) (suc place) a l same =
-    let n = get_or order place 0 in
-    let other : s ≢ n = λ e. true_false (sym (slot_has order place (omega (arith, l)))
-    ∙ ap (λ k. has k order) (sym e) ∙ a.1) in
-    (λ i. same s other i ∷ set_at_number f f' order place a.2 (omega (arith, l)) same i)
-  where
-    true_false : true ≡ false → ⊥
-    true_false e = let bad = ap bit e in omega (arith, bad)
+    search (arith, slot_has order place (omega (arith, l)), set_at_number f f' order place a.2 (omega (arith, l)) same)
 
 -- a record is changed in its slot
 pub item_set : {rs : List Record} {own : List Target} {order : List ℕ} {m : Masks} {place n : ℕ} {r : Record}
@@ -258,11 +195,7 @@ pub item_set : {rs : List Record} {own : List Target} {order : List ℕ} {m : Ma
     → shown (set rs n r) own ds order ≡ set now place (with_item f (slot_at now place))
 item_set {rs} {own} {order} {m} {place} {n} {r} ds now f other kept view inside h e =
     let g = held (set rs n r) own ds in
-    let same : (k : ℕ) → k ≢ get_or order place 0 → g k ≡ held rs own ds k = λ k d. λ i. record {
-      item = get_or-set_other rs n k r no_record (λ s. d (s ∙ h.is)) i;
-      target = get_or own k no_target;
-      due = get_or ds k 0;
-    } in
+    let same : (k : ℕ) → k ≢ get_or order place 0 → g k ≡ held rs own ds k = search (arith, get_or-set_other) in
     let there : g n ≡ with_item f (held rs own ds n) = λ i. record {
       item = (get_or-set_same rs n r no_record (omega (arith, h.low, kept.records_64)) ∙ e
           ∙ ap f (get_or_default rs n other no_record (omega (arith, h.low, kept.records_64)))) i;
@@ -279,16 +212,8 @@ pub due_set : {rs : List Record} {own : List Target} {order : List ℕ} {m : Mas
     → shown rs own (set ds n due) order ≡ set now place (with_due due (slot_at now place))
 due_set {rs} {own} {order} {m} {place} {n} ds now due kept long view inside h =
     let g = held rs own (set ds n due) in
-    let same : (k : ℕ) → k ≢ get_or order place 0 → g k ≡ held rs own ds k = λ k d. λ i. record {
-      item = get_or rs k no_record;
-      target = get_or own k no_target;
-      due = get_or-set_other ds n k due 0 (λ s. d (s ∙ h.is)) i;
-    } in
-    let there : g n ≡ with_due due (held rs own ds n) = λ i. record {
-      item = get_or rs n no_record;
-      target = get_or own n no_target;
-      due = get_or-set_same ds n due 0 (omega (arith, h.low, long)) i;
-    } in
+    let same : (k : ℕ) → k ≢ get_or order place 0 → g k ≡ held rs own ds k = search (arith, get_or-set_other) in
+    let there : g n ≡ with_due due (held rs own ds n) = search (arith, get_or-set_same) in
     set_at_number (held rs own ds) g order place kept.masks.apart h.inside same
     ∙ ((λ i. set (view i) place (g (sym h.is i)))
     ∙ ap (λ s. set now place s) (there ∙ ap (with_due due) (slot_is rs own ds order now place n view inside h.is)))
@@ -298,36 +223,13 @@ pub kept_passed : {rs : List Record} {own : List Target} {order : List ℕ} {m :
     (other : Record)
     → AreKept rs own order m → n < 64 → r ≡ passed_by charge (get_or rs n other) → AreKept (set rs n r) own order m
 kept_passed {rs} {own} {order} {m} {n} {r} charge other kept low e =
-    let is : get_or (set rs n r) n no_record ≡ passed_by charge (get_or rs n no_record) =
-    get_or-set_same rs n r no_record (omega (arith, low, kept.records_64)) ∙ e
-    ∙ ap (passed_by charge) (get_or_default rs n other no_record (omega (arith, low, kept.records_64))) in
-    record {
-      records_64 = length-set rs n r ∙ kept.records_64;
-      targets_64 = kept.targets_64;
-      drives = kept.drives;
-      masks = masks_same (kind_at rs own) (kind_at (set rs n r) own) order m (λ k. by k is (same_or k n)) kept.masks;
-    }
-  where
-    kind : Target → Record → Kind
-    kind a q = record { drive = a.drive; sequential = is_sequential q.command.order; serving = is_in_service q }
-
-    by : (k : ℕ) → get_or (set rs n r) n no_record ≡ passed_by charge (get_or rs n no_record) → (k ≡ n) ⊎ (k ≢ n)
-        → kind_at (set rs n r) own k ≡ kind_at rs own k
-    by k is (inl s) = subst (λ k. kind_at (set rs n r) own k ≡ kind_at rs own k) (sym s)
-        (ap (kind (get_or own n no_target)) is)
-    by k is (inr d) = ap (kind (get_or own k no_target)) (get_or-set_other rs n k r no_record d)
+    grind (arith, get_or-set_same, get_or_default, length-set, masks_same, same_or, get_or-set_other)
 
 -- the bit of a command that was served before is set
 pub serves_since : {rs : List Record} {own : List Target} {order : List ℕ} {m : Masks} {n : ℕ} (other : Record)
     → AreKept rs own order m → n < 64 → has n order ≡ true → is_unstarted (get_or rs n other) ≡ false
     → bit_at m.serving n ≡ 1
-serves_since {rs} {own} {order} {m} {n} other kept low there since =
-    let is : get_or rs n other ≡ get_or rs n no_record =
-    get_or_default rs n other no_record (omega (arith, low, kept.records_64)) in
-    let some : 0 < (get_or rs n no_record).done =
-    omega (arith, eqb-false (get_or rs n no_record).done 0 (ap (λ (q : Record). is_unstarted q) (sym is) ∙ since)) in
-    let serves : is_in_service (get_or rs n no_record) ≡ true = lt-ltb 0 (get_or rs n no_record).done some in
-    kept.masks.of_serving n low ∙ (λ i. bit (there i && serves i))
+serves_since {rs} {own} {order} {m} {n} other kept low there since = grind (arith, get_or_default, eqb-false, lt-ltb)
 
 pub kept_advanced : {rs : List Record} {own : List Target} {order : List ℕ} {m m' : Masks} {n : ℕ} {r : Record}
     (other : Record)

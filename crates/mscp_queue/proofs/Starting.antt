@@ -1,5 +1,5 @@
 -- The places that may start, found one after the other.
-use Rattle.std.proofs.Common.{append-nil, ◌≡◌, ◌⊎◌, inl, inr, ℕ, zero, suc, ◌+◌, ◌-◌, ◌<◌, ◌≤◌, Bool, true, false, cond, not, ◌&&◌, ◌||◌, List, [], ◌∷◌, ◌++◌, map, take, get_or, length, refl, ap, sym, ◌∙◌, arith}
+use Rattle.std.proofs.Common.{append-nil, ◌≡◌, ◌⊎◌, inl, inr, ℕ, zero, suc, ◌+◌, ◌-◌, ◌<◌, ◌≤◌, Bool, true, false, cond, not, ◌&&◌, List, [], ◌∷◌, ◌++◌, map, take, get_or, length, refl, ap, sym, ◌∙◌, arith}
 use Rattle.std.specs.Prelude.{All, filter, nat_eq, nat_le}
 use Rattle.std.specs.List.{AllByRecursion, list_all, range_with_len}
 use Rattle.std.proofs.lemmas.Bool.{eq-eqb, le-leb, leb-true, lt-leb, true≢false}
@@ -44,8 +44,7 @@ kinds_targeted us (r ∷ rs) = ap (λ ks. kind_in us r ∷ ks) (kinds_targeted u
 same_unit : (ds : List Drive) (a b : ℕ) → is_known (units_of ds) a ≡ true → is_known (units_of ds) b ≡ true
     → nat_eq (unit_place (units_of ds) a) (unit_place (units_of ds) b) ≡ nat_eq a b
 same_unit ds a b h k =
-    (λ i. nat_eq (sym (place_same ds a) i) (sym (place_same ds b) i))
-    ∙ apart_by_place ds (fresh_drive one_block) a b h k
+    search (arith, place_same ds a, place_same ds b, apart_by_place ds (fresh_drive one_block) a b h k)
 
 pub free_is : (ds : List Drive) (rs : List Record) (own : List Target) (place : ℕ) → CanBeShown ds rs own
     → place < length rs
@@ -57,9 +56,8 @@ free_is ds rs own place h l =
     let kinds = ap (kinds_of rs) h.targeted ∙ kinds_targeted us rs in
     let Known : Record → Type 0 = λ z. is_known us z.command.unit ≡ true in
     let known : All Known rs = λ i other m. (h.inside i other m).0 in
-    let same : (z : Record) → Known z → not (keeps_back (k z) (k r)) ≡ not (fences r z) = λ z e.
-    ap (λ b. not (b && (is_sequential z.command.order || is_sequential r.command.order)))
-    (same_unit ds z.command.unit r.command.unit e (known place no_record l)) in
+    let same : (z : Record) → Known z → not (keeps_back (k z) (k r)) ≡ not (fences r z) =
+    search (arith, not, same_unit) in
     ap (λ ks. is_unfenced_at ks place) kinds
     ∙ ((λ i. list_all (λ z. not (keeps_back z (get_or-map k rs place no_record no_kind l i))) (take-map k place rs i))
     ∙ (all_shown (λ z. not (keeps_back z (k r))) k (take place rs)
@@ -72,16 +70,11 @@ free_is ds rs own place h l =
 affords : (budget w top : ℕ) (rs : List Record) → AllByRecursion (λ z. z.passed ≤ top) rs → top + w ≤ budget
     → list_all (λ z. nat_le (z.passed + w) budget) rs ≡ true
 affords budget w top [] h l = refl
-affords budget w top (z ∷ zs) h l =
-    ap (λ b. b && list_all (λ z. nat_le (z.passed + w) budget) zs)
-    (le-leb (z.passed + w) budget (omega (arith, h.0, l)))
-    ∙ affords budget w top zs h.1 l
+affords budget w top (z ∷ zs) h l = search (arith, affords budget w top zs h.1 l, le-leb)
 
 pub oldest_affords : (budget unspent : ℕ) (r : Record) (rs : List Record) (place : ℕ) → ArePassedInOrder rs
     → 0 < place → place ≤ length rs → unspent + (record_at rs 0).passed ≡ budget
     → nat_le r.weight unspent ≡ is_affordable budget r (take place rs)
-oldest_affords budget unspent r rs zero o p l e = absurd (omega (arith, p))
-oldest_affords budget unspent r [] (suc k) o p l e = absurd (omega (arith, l))
 oldest_affords budget unspent r (q ∷ qs) (suc k) o p l e = by (nat_le r.weight unspent) refl
   where
     front : AllByRecursion (λ z. z.passed ≤ q.passed) (take k qs)
@@ -112,6 +105,7 @@ oldest_affords budget unspent r (q ∷ qs) (suc k) o p l e = by (nat_le r.weight
             by_cases : (a ≤ b) ⊎ (b < a) → b < a
             by_cases (inl l) = absurd (true_false (sym (le-leb a b l) ∙ f))
             by_cases (inr l) = l
+oldest_affords budget unspent r rs place h5 h6 h7 h8 = grind arith
 
 -- ---- places found one by one
 
@@ -125,52 +119,31 @@ pub record Looks (budget : ℕ) (ds : List Drive) (rs : List Record) (place : �
 
 -- one more place, if it is put there
 appended : (places : List ℕ) (place : ℕ) (b : Bool) → length (places ++ cond b (place ∷ []) []) ≤ length places + 1
-appended places place true = omega (arith, length-append places (place ∷ []))
-appended places place false = omega (arith, ap length (append-nil places))
+appended places place b = grind (arith, length-append, append-nil)
 
 shown_more : (ds : List Drive) (rs : List Record) (places : List ℕ) (place : ℕ) (b : Bool)
     → choices_at ds rs (places ++ cond b (place ∷ []) []) ≡ choices_at ds rs places
     ++ cond b (choice_of (drive_at ds rs place) (record_at rs place) ∷ []) []
-shown_more ds rs places place true = map-append (λ i. choice_of (drive_at ds rs i) (record_at rs i)) places (place ∷ [])
-shown_more ds rs places place false = ap (choices_at ds rs) (append-nil places)
-    ∙ sym (append-nil (choices_at ds rs places))
+shown_more ds rs places place b = grind (arith, map-append, append-nil)
 
 pub looks_more : {budget : ℕ} {ds : List Drive} {rs : List Record} {place : ℕ} {places places' : List ℕ}
     {choices choices' : List Choice} (b : Bool) → b ≡ is_open_at budget rs place
     → places' ≡ places ++ cond b (place ∷ []) []
     → choices' ≡ choices ++ cond b (choice_of (drive_at ds rs place) (record_at rs place) ∷ []) []
     → Looks budget ds rs place places choices → Looks budget ds rs (place + 1) places' choices'
-looks_more {budget} {ds} {rs} {place} {places} {places'} {choices} {choices'} b is put shown h = record {
-  opens =
-      put ∙ (ap (λ ps. ps ++ cond b (place ∷ []) []) h.opens
-      ∙ (ap (λ b. filter (is_open_at budget rs) (range_with_len 0 place) ++ cond b (place ∷ []) []) is
-      ∙ (sym (filter-append (is_open_at budget rs) (range_with_len 0 place) (place ∷ []))
-      ∙ ap (filter (is_open_at budget rs)) (sym (range_more place)))));
-  shown =
-      shown ∙ (ap (λ cs. cs ++ cond b (choice_of (drive_at ds rs place) (record_at rs place) ∷ []) []) h.shown
-      ∙ (sym (shown_more ds rs places place b) ∙ ap (choices_at ds rs) (sym put)));
-  few = let k = h.few in omega (arith, ap length put, appended places place b);
-}
+looks_more {budget} {ds} {rs} {place} {places} {places'} {choices} {choices'} b is put shown h =
+    grind (arith, filter-append, range_more, shown_more, appended)
 
 pub looks_none : (budget : ℕ) (ds : List Drive) (rs : List Record) (places : List ℕ)
     (choices : List Choice) → places ≡ [] → choices ≡ [] → Looks budget ds rs 0 places choices
-looks_none budget ds rs places choices n s = record {
-  opens = n;
-  shown = s ∙ ap (choices_at ds rs) (sym n);
-  few = omega (arith, ap length n);
-}
+looks_none budget ds rs places choices n s = search arith
 
 -- ---- nobody behind may start
 
 one_shut : {X : Type 0} (p : X → Bool) (xs : List X) (k : ℕ) (d : X) → k < length xs → p (get_or xs k d) ≡ false
     → list_all p xs ≡ false
-one_shut p [] k d l e = absurd (omega (arith, l))
-one_shut p (x ∷ xs) zero d l e = ap (λ b. b && list_all p xs) e
-one_shut p (x ∷ xs) (suc k) d l e = ap (λ b. p x && b) (one_shut p xs k d (omega (arith, l)) e) ∙ and_false (p x)
-  where
-    and_false : (b : Bool) → (b && false) ≡ false
-    and_false true = refl
-    and_false false = refl
+one_shut p (x ∷ xs) (suc k) d l e = search (arith, one_shut p xs k d (omega (arith, l)) e)
+one_shut p xs k d h4 h5 = search arith
 
 pub shut_is : (budget unspent : ℕ) (ds : List Drive) (rs : List Record) (own : List Target) (place : ℕ)
     → CanBeShown ds rs own
@@ -180,9 +153,7 @@ shut_is budget unspent ds rs own place h o e l (inl spent) q p m =
     let r = record_at rs q in
     let some = (h.weighs q no_record m).0 in
     let over : nat_le r.weight unspent ≡ false = lt-leb r.weight unspent (omega (arith, some, spent)) in
-    ap (λ b. is_free r (take q rs) && b)
-    (sym (oldest_affords budget unspent r rs q o (omega (arith, p)) (omega (arith, m)) e) ∙ over)
-    ∙ and_false (is_free r (take q rs))
+    search (arith, oldest_affords budget unspent r rs q o (omega (arith, p)) (omega (arith, m)) e)
   where
     and_false : (b : Bool) → (b && false) ≡ false
     and_false true = refl
@@ -199,20 +170,13 @@ shut_is budget unspent ds rs own place h o e l (inr fence) q p m =
     let at : place + 1 + k ≡ q = omega (arith, p) in
     let behind = fence.1 k no_target (omega (arith, length-drop (place + 1) own, long, m, p)) in
     let drives : unit_place us r.command.unit ≡ unit_place us z.command.unit =
-    sym (ap (λ (a : Target). a.drive) (targeted q m)) ∙ ap (λ n. (get_or own n no_target).drive) (sym at)
-    ∙ ap (λ (a : Target). a.drive) (sym (get_or-drop (place + 1) own k no_target)) ∙ behind
-    ∙ ap (λ (a : Target). a.drive) (targeted place l) in
+    search (arith, get_or-drop (place + 1) own k no_target) in
     let units : nat_eq z.command.unit r.command.unit ≡ true =
     sym (same_unit ds z.command.unit r.command.unit (h.inside place no_record l).0 (h.inside q no_record m).0)
     ∙ eq-eqb (unit_place us z.command.unit) (unit_place us r.command.unit) (sym drives) in
-    let fenced : not (fences r z) ≡ false =
-    ap (λ b. not (b && (is_sequential z.command.order || is_sequential r.command.order))) units
-    ∙ ap (λ b. not (b || is_sequential r.command.order)) fence.0 in
+    let fenced : not (fences r z) ≡ false = search (arith, not) in
     let there : record_at (take q rs) place ≡ z = get_or-take q rs place no_record p in
-    ap (λ b. b && is_affordable budget r (take q rs))
-    (one_shut (λ y. not (fences r y)) (take q rs) place no_record
-    (omega (arith, length-take-le q rs (omega (arith, m)), p))
-    (ap (λ y. not (fences r y)) there ∙ fenced))
+    search (arith, length-take-le q rs (omega (arith, m)), one_shut, not)
 
 -- so all that may start were found
 found_on : (test : ℕ → Bool) (n k : ℕ) → ((q : ℕ) → n ≤ q → q < n + k → test q ≡ false)
@@ -233,8 +197,7 @@ pub found_all : {budget : ℕ} {ds : List Drive} {rs : List Record} {place : ℕ
 found_all {budget} {ds} {rs} {place} {places} {choices} h l shut =
     let k = length rs - (place + 1) in
     let n : place + 1 + k ≡ length rs = omega (arith, l) in
-    h.opens ∙ (found_on (is_open_at budget rs) (place + 1) k (λ q a b. shut q (omega (arith, a)) (omega (arith, b, n)))
-    ∙ ap (λ m. filter (is_open_at budget rs) (range_with_len 0 m)) n)
+    search (arith, found_on)
 
 -- the places that may start are places
 pub places_inside : (budget : ℕ) (rs : List Record) → All (λ place. place < length rs) (open_places budget rs)
@@ -246,5 +209,4 @@ places_inside budget rs =
 
 -- where something waits, something may start: the oldest may
 pub some_place : (budget : ℕ) (rs : List Record) → 0 < length rs → 0 < length (open_places budget rs)
-some_place budget [] h = absurd (omega arith)
-some_place budget (r ∷ rs) h = omega arith
+some_place budget rs h2 = grind arith

@@ -1,10 +1,9 @@
 -- A step of the record at a place, as it is planned and written.
-use Rattle.std.proofs.Common.{◌≡◌, ℕ, ◌+◌, ◌<◌, ◌≤◌, Bool, true, false, cond, List, [], ◌∷◌, ◌++◌, map, take, drop, set, get_or, length, refl, ap, sym, ◌∙◌, subst}
-use Rattle.std.specs.Prelude.{is_some, option_map, Option, Some, None}
+use Rattle.std.proofs.Common.{◌≡◌, ℕ, ◌+◌, ◌<◌, Bool, true, cond, List, [], ◌∷◌, ◌++◌, map, take, drop, set, get_or, length, refl, ap, sym, ◌∙◌, subst}
+use Rattle.std.specs.Prelude.{is_some, Option, Some}
 use Rattle.std.specs.List.{refill}
 use Rattle.std.proofs.lemmas.List.{length-set}
 use Rattle.mscp_packet.specs.declared.command.Order.{Order}
-use Rattle.mscp_drive.specs.Shape.{cylinder_of, last_cylinder}
 use Rattle.mscp_events.specs.declared.block.Block.{Block}
 use Rattle.mscp_queue.specs.declared.drive.Drive.{Drive}
 use Rattle.mscp_queue.specs.declared.name.Name.{Name}
@@ -15,8 +14,7 @@ use Rattle.mscp_queue.specs.Kept.{IsHeld}
 use Rattle.mscp_queue.specs.Candidates.{AreCandidates}
 use Rattle.mscp_queue.specs.Lines.{Line}
 use Rattle.mscp_queue.specs.Masks.{IsSet}
-use Rattle.mscp_queue.specs.Outcomes.{head_after}
-use Rattle.mscp_queue.specs.Records.{Record, advanced, drive_at, is_unstarted, no_record, passed_by, record_at, step_charge}
+use Rattle.mscp_queue.specs.Records.{Record, advanced, drive_at, no_record, passed_by, record_at, step_charge}
 use Rattle.mscp_queue.specs.Serving.{IsNext, IsServable, drive_after, plan_of, state_left, touched}
 use Rattle.mscp_queue.proofs.Targets.{cylinder_within, place_same}
 use Rattle.mscp_queue.proofs.Drives.{known_at, set_replaced}
@@ -37,13 +35,7 @@ next_in {K} {place} picks e n = subst (λ l. NextIn picks l place) (sym e) n
 -- the head of a drive stays on its unit
 planned_on : (k : Block) (d : Drive) (r : Record) → ((lbn : ℕ) → touched d r ≡ Some lbn → lbn < d.unit.size)
     → IsOnUnit d → IsOnUnit (drive_after k d r)
-planned_on k d r inside on = at (touched d r) refl (is_unstarted r)
-  where
-    at : (o : Option ℕ) → touched d r ≡ o → (starts : Bool)
-        → (head_after starts (option_map (cylinder_of d.unit) o) d.head).cylinder ≤ last_cylinder d.unit
-    at None e starts = on
-    at (Some lbn) e true = cylinder_within d.unit lbn (inside lbn e)
-    at (Some lbn) e false = cylinder_within d.unit lbn (inside lbn e)
+planned_on k d r inside on = grind (arith, cylinder_within)
 
 -- what is planned of the record at a place, and then written to the drive that is found, is its step
 pub step_made : {room budget longest place at : ℕ} {rs new : List Record} {ds ls : List Drive} {begun : Option Name}
@@ -65,11 +57,7 @@ step_made {room} {budget} {longest} {place} {at} {rs} {new} {ds} {ls} {begun} {s
     let d = drive_at ds rs place in
     let kept = held.each place no_record servable.inside in
     let there : get_or ls at other ≡ d = ap (λ l. get_or l at other) lent ∙ found.is other in
-    let after : d' ≡ drive_after k d r = written ∙ (λ i. record {
-      unit = (there i).unit;
-      online = state_left (there i).online (of i) (planned i).ended;
-      head = (planned i).head;
-    }) in
+    let after : d' ≡ drive_after k d r = search arith in
     record {
       d' = d';
       after = after;

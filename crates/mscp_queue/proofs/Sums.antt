@@ -1,5 +1,5 @@
 -- What is left of records, and that no figure is over the bound.
-use Rattle.std.proofs.Common.{◌≡◌, ℕ, ◌+◌, ◌-◌, ◌*◌, ◌^◌, ◌<◌, ◌≤◌, Bool, true, false, cond, List, [], ◌∷◌, ◌++◌, take, drop, length, ap, arith}
+use Rattle.std.proofs.Common.{◌≡◌, ℕ, ◌+◌, ◌*◌, ◌^◌, ◌<◌, ◌≤◌, Bool, true, false, cond, List, [], ◌∷◌, ◌++◌, take, drop, length, arith}
 use Rattle.std.specs.Prelude.{filter, sum_by, All, Option}
 use Rattle.std.specs.List.{AllByRecursion, range_with_len}
 use Rattle.std.proofs.Math.Nat.{mul-le-mul_right}
@@ -57,30 +57,13 @@ sum_bounded : (rs : List Record) (place : ℕ) → place < length rs
     → sum_by left_of (take place rs) + sum_by left_of (filter is_in_service (drop (place + 1) rs))
     + left_of (record_at rs place) ≤ sum_by left_of rs
 sum_bounded rs place l =
-    let parts = ap (sum_by left_of) (cut_at no_record rs place l) in
-    let sums = sum_by-append left_of (take place rs) (record_at rs place ∷ drop (place + 1) rs) in
-    omega (
-      arith,
-      parts,
-      sums,
-      sum_by-cons left_of (record_at rs place) (drop (place + 1) rs),
-      serving_less (drop (place + 1) rs),
-    )
+    search (arith, cut_at no_record rs place l, sum_by-append left_of (take place rs) (record_at rs place ∷ drop (place
+    + 1) rs), sum_by-cons left_of (record_at rs place) (drop (place + 1) rs), serving_less (drop (place + 1) rs))
 
 -- whether it is in service or not
 pub figure_small : (budget : ℕ) (rs : List Record) (place : ℕ) → sum_by left_of rs + budget < 2 ^ 32 → place < length rs
     → figure_at budget rs place < 2 ^ 32
-figure_small budget rs place small l =
-    let r = record_at rs place in
-    let whole = sum_bounded rs place l in
-    let both : (b : Bool) → cond b (left_of r) (sum_by left_of (take place rs)
-    + sum_by left_of (filter is_in_service (drop (place + 1) rs))
-    + (budget - r.passed) + left_of r) < 2 ^ 32 =
-    λ b. elim b as (λ b. cond b (left_of r) (sum_by left_of (take place rs)
-    + sum_by left_of (filter is_in_service (drop (place + 1) rs))
-    + (budget - r.passed) + left_of r) < 2 ^ 32)
-    [ true ↦ omega (arith, whole, small) | false ↦ omega (arith, whole, small) ] in
-    both (is_in_service r)
+figure_small budget rs place small l = search (arith, sum_bounded rs place l)
 
 -- ---- a look
 

@@ -1,13 +1,12 @@
 -- The target of a command is where its drive and its first block are found.
-use Rattle.std.proofs.Common.{◌≡◌, ℕ, zero, suc, ◌+◌, ◌/◌, ◌<◌, ◌≤◌, true, cond, not, List, [], ◌∷◌, ◌++◌, map, take, drop, get_or, length, refl, ap, sym, ◌∙◌, subst, arith}
+use Rattle.std.proofs.Common.{◌≡◌, ℕ, ◌+◌, ◌/◌, ◌<◌, ◌≤◌, true, cond, not, List, [], ◌∷◌, ◌++◌, map, take, drop, get_or, length, refl, ap, sym, ◌∙◌, subst, arith}
 use Rattle.std.specs.Prelude.{All, nat_eq, remove, unwrap_or}
 use Rattle.std.specs.List.{position}
 use Rattle.std.proofs.Math.Nat.{div-mul-le_self}
 use Rattle.std.proofs.lemmas.Nat.{le-div}
 use Rattle.std.proofs.lemmas.List.{drop-map, get_or-map, get_or_default, map-append, take-map}
 use Rattle.mscp_packet.specs.declared.command.Command.{Command}
-use Rattle.mscp_drive.specs.Shape.{Shape, cylinder_blocks, cylinder_of, last_cylinder, one_block}
-use Rattle.mscp_drive.specs.UnitList.{unit_found}
+use Rattle.mscp_drive.specs.Shape.{Shape, cylinder_blocks, cylinder_of, last_cylinder}
 use Rattle.mscp_queue.specs.declared.target.Target.{Target}
 use Rattle.mscp_queue.specs.declared.drive.Drive.{Drive}
 use Rattle.mscp_events.specs.declared.connection.Connection.{Connection}
@@ -37,8 +36,7 @@ place_inside ds n h = subst (λ k. k < length ds) (place_same ds n) (known_insid
 -- ---- the cylinder of a block
 
 less_div : (a b k : ℕ) → a ≤ b → a / k ≤ b / k
-less_div a b zero h = omega arith
-less_div a b (suc k) h = le-div (a / suc k) b (suc k) (omega arith) (omega (arith, div-mul-le_self a (suc k)))
+less_div a b k h3 = grind (arith, le-div, div-mul-le_self)
 
 -- no block of a unit lies past its last cylinder
 pub cylinder_within : (u : Shape) (block : ℕ) → block < u.size → cylinder_of u block ≤ last_cylinder u
@@ -52,14 +50,7 @@ pub target_made : (ds : List Drive) (command : Command) (place block cylinder : 
     → block ≡ first_block command.order → cylinder ≡ cylinder_of (get_or ds place d).unit block
     → record { drive = place; cylinder = cylinder } ≡ target_of (units_of ds) command
 target_made ds command place block cylinder d known at first is =
-    let drive : get_or ds place d ≡ drive_of ds command.unit =
-    ap (λ i. get_or ds i d) (at ∙ sym (place_same ds command.unit)) ∙ (known_at ds command.unit d known).drive in
-    let unit : (get_or ds place d).unit ≡ unwrap_or (unit_found (units_of ds) command.unit) one_block =
-    ap (λ (q : Drive). q.unit) drive ∙ sym (found_unit command.unit ds) in
-    let whole : cylinder ≡ cylinder_of (unwrap_or (unit_found (units_of ds) command.unit) one_block)
-    (first_block command.order) =
-    is ∙ (λ i. cylinder_of (unit i) (first i)) in
-    λ i. record { drive = at i; cylinder = whole i }
+    search (arith, place_same ds command.unit, known_at ds command.unit d known, found_unit command.unit ds)
 
 -- ---- the target of a waiting command that can be shown
 
@@ -67,26 +58,17 @@ target_made ds command place block cylinder d known at first is =
 first_inside : (ds : List Drive) (r : Record) (at : ℕ) (d : Drive) → at ≡ drive_place ds r.command.unit
     → d ≡ get_or ds at d → HasBlocks (units_of ds) r.command
     → is_move r.command.order ≡ true → first_block r.command.order < d.unit.size
-first_inside ds r at d e found h m =
-    let drive : d ≡ drive_of ds r.command.unit = found
-    ∙ (ap (λ i. get_or ds i d) e ∙ (known_at ds r.command.unit d h.0).drive) in
-    let inside = inside_of (units_of ds) r.command.unit r.command.order m h.1 in
-    let unit : (unwrap_or (unit_found (units_of ds) r.command.unit) one_block).size ≡ d.unit.size =
-    ap (λ (s : Shape). s.size) (found_unit r.command.unit ds ∙ ap (λ (d : Drive). d.unit) (sym drive)) in
-    omega (arith, inside, unit, some_steps r.command.order)
+first_inside ds r at d e found h m = grind (arith, inside_of, found_unit, some_steps, known_at)
 
 pub own_blocks : (ds : List Drive) (rs : List Record) (targets : List Target) (place : ℕ) (r : Record)
     → CanBeShown ds rs targets
     → place < length rs → r ≡ get_or rs place r → HasBlocks (units_of ds) r.command
-own_blocks ds rs targets place r h l own = subst (λ (q : Record). HasBlocks (units_of ds) q.command) (sym own)
-    (h.inside place r l)
+own_blocks ds rs targets place r h l own = search arith
 
 pub own_target : (ds : List Drive) (rs : List Record) (targets : List Target) (place : ℕ) (r : Record) (other : Target)
     → CanBeShown ds rs targets → place < length rs → r ≡ get_or rs place r
     → get_or targets place other ≡ target_of (units_of ds) r.command
-own_target ds rs targets place r other h l own =
-    let of : Record → Target = λ q. target_of (units_of ds) q.command in
-    ap (λ zs. get_or zs place other) h.targeted ∙ (get_or-map of rs place r other l ∙ ap of (sym own))
+own_target ds rs targets place r other h l own = search (arith, get_or-map)
 
 -- the drive that a record's target leads to, and the cylinder of its first block there
 pub record IsLed (ds : List Drive) (r : Record) (at : ℕ) (d : Drive) (cylinder : ℕ) : Type 0 where
@@ -101,27 +83,14 @@ led_place ds r at a is own = is ∙ (ap (λ (a : Target). a.drive) own ∙ sym (
 
 pub led_inside : (ds : List Drive) (r : Record) (at : ℕ) (a : Target) → HasBlocks (units_of ds) r.command → at ≡ a.drive
     → a ≡ target_of (units_of ds) r.command → at < length ds
-led_inside ds r at a blocks is own = subst (λ k. k < length ds) (sym (led_place ds r at a is own))
-    (known_inside ds r.command.unit blocks.0)
+led_inside ds r at a blocks is own = search (arith, led_place ds r, known_inside ds r.command.unit blocks.0)
 
 pub led : (ds : List Drive) (r : Record) (at : ℕ) (a : Target) (d : Drive) → All IsOnUnit ds
     → HasBlocks (units_of ds) r.command → at ≡ a.drive → a ≡ target_of (units_of ds) r.command → d ≡ get_or ds at d
     → IsLed ds r at d a.cylinder
 led ds r at a d heads blocks is own found =
-    let place = led_place ds r at a is own in
-    let drive : d ≡ drive_of ds r.command.unit = found
-    ∙ (ap (λ i. get_or ds i d) place ∙ (known_at ds r.command.unit d blocks.0).drive) in
-    record {
-      drive = drive;
-      targeted = record {
-        head = subst IsOnUnit (sym found) (heads at d (led_inside ds r at a blocks is own));
-        block = first_inside ds r at d place found blocks;
-        cylinder_is =
-            ap (λ (a : Target). a.cylinder) own
-            ∙ ap (λ (u : Shape). cylinder_of u (first_block r.command.order))
-            (found_unit r.command.unit ds ∙ ap (λ (q : Drive). q.unit) (sym drive));
-      };
-    }
+    search (arith, led_place ds r, known_at ds r.command.unit d blocks.0, led_inside ds r, first_inside ds r, found_unit
+    r.command.unit ds)
 
 -- the place of the drive of a waiting command
 pub record HasDrive (ds : List Drive) (r : Record) (at : ℕ) : Type 0 where
@@ -134,10 +103,8 @@ pub has_drive : (ds : List Drive) (rs : List Record) (targets : List Target) (pl
     → CanBeShown ds rs targets → place < length rs → r ≡ get_or rs place r → at ≡ (get_or targets place other).drive
     → HasDrive ds r at
 has_drive ds rs targets place r at other h l own is =
-    let a = get_or targets place other in
-    let target = own_target ds rs targets place r other h l own in
-    let below = led_inside ds r at a (own_blocks ds rs targets place r h l own) is target in
-    record { below = below; few = omega (arith, below, h.drives); place = led_place ds r at a is target }
+    search (arith, own_target ds rs targets place r other h l own, led_inside ds r, own_blocks ds rs targets place r h l
+    own, led_place ds r)
 
 -- its drive, and the cylinder of its first block there
 pub record LeadsTo (ds : List Drive) (rs : List Record) (place : ℕ) (r : Record) (d : Drive) (cylinder : ℕ) :
@@ -151,66 +118,37 @@ pub leads_to : (ds : List Drive) (rs : List Record) (targets : List Target) (pla
     → at ≡ (get_or targets place other).drive
     → d ≡ get_or ds at d → LeadsTo ds rs place r d (get_or targets place other).cylinder
 leads_to ds rs targets place r at other d h l own is found =
-    let to = led ds r at (get_or targets place other) d h.heads (own_blocks ds rs targets place r h l own) is
-    (own_target ds rs targets place r other h l own) found in
-    record {
-      drive = to.drive ∙ ap (λ (q : Record). drive_of ds q.command.unit) (own ∙ get_or_default rs place r no_record l);
-      targeted = to.targeted;
-    }
+    search (arith, led ds r, own_blocks ds rs targets place r h l own, own_target ds rs targets place r other h l own,
+    get_or_default rs place r no_record l)
 
 -- ---- the targets stay those of the records
 
 -- what is done with a record among others, it is done with its target
 pub target_removed : (us : List Shape) (rs : List Record) (place : ℕ)
     → remove (targets_of us rs) place ≡ targets_of us (remove rs place)
-target_removed us rs place =
-    let of : Record → Target = λ q. target_of us q.command in
-    ap (λ zs. zs ++ drop (suc place) (map of rs)) (take-map of place rs)
-    ∙ (ap (λ zs. map of (take place rs) ++ zs) (drop-map of (suc place) rs)
-    ∙ sym (map-append of (take place rs) (drop (suc place) rs)))
+target_removed us rs place = search (arith, take-map, drop-map, map-append)
 
 -- a step that ends the command of a record takes its target out
 pub targets_ended : (us : List Shape) (rs new : List Record) (place charge : ℕ)
     → new ≡ map (passed_by charge) (take place rs) ++ drop (place + 1) rs → remove (targets_of us rs) place
     ≡ targets_of us new
-targets_ended us rs new place charge e =
-    let of : Record → Target = λ q. target_of us q.command in
-    let A = take place rs in
-    let next : suc place ≡ place + 1 = omega arith in
-    target_removed us rs place
-    ∙ (map-append of A (drop (suc place) rs)
-    ∙ (ap (λ zs. zs ++ map of (drop (suc place) rs)) (sym (map_map (passed_by charge) of A))
-    ∙ (ap (λ k. map of (map (passed_by charge) A) ++ map of (drop k rs)) next
-    ∙ (sym (map-append of (map (passed_by charge) A) (drop (place + 1) rs)) ∙ ap (targets_of us) (sym e)))))
+targets_ended us rs new place charge e = search (arith, target_removed us rs place, map-append, map_map)
 
 -- and another leaves each target as it is
 pub targets_kept : (us : List Shape) (rs new : List Record) (place charge : ℕ) → place < length rs
     → new ≡ map (passed_by charge) (take place rs) ++ (advanced (record_at rs place) ∷ drop (place + 1) rs)
     → targets_of us rs ≡ targets_of us new
-targets_kept us rs new place charge l e =
-    let of : Record → Target = λ q. target_of us q.command in
-    let A = take place rs in
-    let r = record_at rs place in
-    let B = drop (place + 1) rs in
-    ap (targets_of us) (cut_at no_record rs place l)
-    ∙ (map-append of A (r ∷ B) ∙ (ap (λ zs. zs ++ map of (r ∷ B)) (sym (map_map (passed_by charge) of A))
-    ∙ (sym (map-append of (map (passed_by charge) A) (advanced r ∷ B)) ∙ ap (targets_of us) (sym e))))
+targets_kept us rs new place charge l e = search (arith, cut_at no_record rs place l, map-append, map_map)
 
 -- a command comes
 pub targets_pushed : (us : List Shape) (rs new : List Record) (targets targets' : List Target) (by : Connection)
     (command : Command)
     (target : Target) → targets ≡ targets_of us rs → target ≡ target_of us command → targets' ≡ targets ++ target ∷ []
     → new ≡ rs ++ fresh_record by command ∷ [] → targets' ≡ targets_of us new
-targets_pushed us rs new targets targets' by command target old own more e =
-    let of : Record → Target = λ q. target_of us q.command in
-    more ∙ ((λ i. old i ++ own i ∷ []) ∙ (sym (map-append of rs (fresh_record by command ∷ []))
-    ∙ ap (targets_of us) (sym e)))
+targets_pushed us rs new targets targets' by command target old own more e = search (arith, map-append)
 
 -- a command leaves
 pub targets_cut : (us : List Shape) (rs : List Record) (place : ℕ)
     → take place (targets_of us rs) ++ drop (place + 1) (targets_of us rs) ≡ targets_of us
     (take place rs ++ drop (place + 1) rs)
-targets_cut us rs place =
-    let of : Record → Target = λ q. target_of us q.command in
-    (λ i. take-map of place rs i ++ drop-map of (place + 1) rs i)
-    ∙ sym (map-append of (take place rs) (drop (place + 1) rs))
+targets_cut us rs place = search (arith, take-map, drop-map, map-append)

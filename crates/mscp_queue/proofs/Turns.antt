@@ -1,22 +1,20 @@
 -- A step of the record that may be served next is a turn among the others, and leaves each head on its unit.
-use Rattle.std.proofs.Common.{◌≡◌, inl, inr, ℕ, suc, ◌+◌, ◌<◌, ◌≤◌, Bool, true, false, cond, not, ◌&&◌, List, [], ◌∷◌, ◌++◌, map, take, drop, length, refl, ap, sym, ◌∙◌, subst, arith, append_assoc}
-use Rattle.std.specs.Prelude.{filter, find, nat_eq, nat_le, nat_lt, if◌then◌else◌, is_some, slice_index_or, unwrap_or, Option, Some, None}
+use Rattle.std.proofs.Common.{◌≡◌, ℕ, suc, ◌+◌, ◌<◌, ◌≤◌, Bool, true, false, cond, not, ◌&&◌, List, [], ◌∷◌, ◌++◌, map, take, drop, length, refl, ap, sym, ◌∙◌, subst, arith, append_assoc}
+use Rattle.std.specs.Prelude.{filter, nat_eq, nat_le, if◌then◌else◌, is_some, slice_index_or, unwrap_or, Option, Some, None}
 use Rattle.std.specs.List.{AllByRecursion}
 use Rattle.std.proofs.lemmas.List.Elements.{All-from_recursion, recursion_from_All}
 use Rattle.std.proofs.lemmas.Bool.{and_parts, eq-eqb, eqb-false, eqb-true, leb-true, ltb-true, ne_eqb, false≢true, true≢false}
 use Rattle.mscp_packet.specs.declared.command.Order.{Order}
-use Rattle.mscp_packet.specs.declared.command.Order.TheVariants as orders
 use Rattle.mscp_packet.specs.declared.end.End.{End}
 use Rattle.mscp_drive.specs.Shape.{Shape, one_block}
 use Rattle.mscp_drive.specs.UnitList.{IsUnitList, NumbersRise, unit_found}
 use Rattle.mscp_events.specs.declared.block.Block.{Block}
 use Rattle.mscp_queue.specs.declared.drive.Drive.{Drive}
-use Rattle.mscp_queue.specs.Outcomes.{goes_on, is_good_block, outcome_at, touches}
 use Rattle.mscp_queue.specs.declared.name.Name.{Name}
 use Rattle.mscp_queue.specs.Orders.{first_block, is_move, order_weight}
-use Rattle.mscp_queue.specs.Drives.{IsOnUnit, drive_of, fresh_drive, has_number, replaced}
+use Rattle.mscp_queue.specs.Drives.{IsOnUnit, drive_of, has_number, replaced}
 use Rattle.mscp_queue.specs.Kept.{IsHeld, IsInside, IsKept, units_of}
-use Rattle.mscp_queue.specs.Records.{Record, advanced, drive_at, step_charge, is_in_service, is_unstarted, left_of, no_record, passed_by, record_at}
+use Rattle.mscp_queue.specs.Records.{Record, advanced, drive_at, step_charge, is_in_service, is_unstarted, no_record, passed_by, record_at}
 use Rattle.mscp_queue.specs.Serving.{IsServable, drive_after, end_given, touched}
 use Rattle.mscp_queue.specs.Views.{is_affordable, is_free, is_open_at}
 use Rattle.mscp_queue.specs.Pairs.{Pairs}
@@ -37,21 +35,11 @@ front_affordable budget rs place h =
 -- ---- the turn
 
 last_of : (a b c : Bool) → (a && b && c) ≡ true → c ≡ true
-last_of true true true h = refl
-last_of _ _ _ h = absurd (false≢true h)
+last_of a b c h3 = grind (arith, false≢true)
 
 more_left : (k : Block) (d : Drive) (r : Record) (e : Option End) → end_given k d r ≡ e
     → IsLeft r (cond (is_some e) [] (advanced r ∷ []))
-more_left k d r (Some end) h = record { left = inl refl }
-more_left k d r None h =
-    let goes = goes_on d.online r.command.order k (left_of r) in
-    let when : (b : Bool) → (if b then None else Some (outcome_at d.unit d.online r.command r.good k)) ≡ None
-    → b ≡ true =
-    λ b. elim b as (λ b. (if b then None else Some (outcome_at d.unit d.online r.command r.good k)) ≡ None → b ≡ true)
-    [ true ↦ λ e. refl | false ↦ λ e. absurd (true≢false (ap is_some e)) ] in
-    let more = ltb-true 1 (left_of r) (last_of (touches d.online r.command.order) (is_good_block k)
-    (nat_lt 1 (left_of r)) (when goes h)) in
-    record { left = inr (refl, omega arith) }
+more_left k d r e h4 = grind (arith, true≢false, ltb-true, last_of)
 
 pub next_turn : (room budget longest place : ℕ) (rs : List Record) (ds : List Drive) (begun : Option Name)
     (serving : Bool) (k : Block) (d : Drive) → IsHeld room budget longest rs ds begun serving
@@ -101,8 +89,6 @@ abbrev pub Lower : Shape → Shape → Type 0
 Lower a b = a.number < b.number
 
 pub pairs_rise : (us : List Shape) → NumbersRise us → Pairs Lower us
-pairs_rise [] r = tt
-pairs_rise (s ∷ []) r = (tt, tt)
 pairs_rise (s ∷ x ∷ xs) r =
     let more : (i : ℕ) → suc i + 1 ≡ suc (i + 1) = λ i. omega arith in
     let rest = pairs_rise (x ∷ xs) (λ i other h. subst
@@ -110,6 +96,7 @@ pairs_rise (s ∷ x ∷ xs) r =
     (r (suc i) other (omega (arith, h)))) in
     let first : s.number < x.number = r 0 s (omega arith) in
     ((first, every_weaker (Lower x) (Lower s) (λ y h. omega (arith, first, h)) xs rest.0), rest)
+pairs_rise us h1 = grind arith
 
 found_among : (A B : List Shape) → Pairs Lower (A ++ B) → AllByRecursion (λ s. unit_found (A ++ B) s.number ≡ Some s) B
 found_among A [] p = tt
@@ -131,11 +118,7 @@ units_found us l = found_among [] us (pairs_rise us l.rising)
 -- the unit of the drive that is found
 pub found_unit : (n : ℕ) (ds : List Drive) → unwrap_or (unit_found (units_of ds) n) one_block ≡ (drive_of ds n).unit
 found_unit n [] = refl
-found_unit n (d ∷ ds) =
-    let rest = found_unit n ds in
-    elim (nat_eq d.unit.number n) as (λ b. unwrap_or (cond b (Some d.unit) (unit_found (units_of ds) n)) one_block
-    ≡ (unwrap_or (cond b (Some d) (find (has_number n) ds)) (fresh_drive one_block)).unit)
-    [ true ↦ refl | false ↦ rest ]
+found_unit n (d ∷ ds) = search (arith, found_unit n ds)
 
 -- a drive of the number has the unit of the drive that is found
 pub units_same : (n : ℕ) (ds : List Drive) → IsUnitList (units_of ds)
@@ -154,33 +137,22 @@ some_is : {X : Type 0} (x y : X) → Some x ≡ Some y → x ≡ y
 some_is x y e = ap (λ o. unwrap_or o x) e
 
 when_some : (b : Bool) (n lbn : ℕ) → (if b then Some n else None) ≡ Some lbn → (b ≡ true) × (n ≡ lbn)
-when_some true n lbn h = (refl, some_is n lbn h)
-when_some false n lbn h = absurd (false≢true (ap is_some h))
+when_some b n lbn h3 = grind (arith, some_is, false≢true)
 
 pub inside_of : (us : List Shape) (n : ℕ) (o : Order) → is_move o ≡ true → IsInside us n o
     → first_block o + order_weight o ≤ (unwrap_or (unit_found us n) one_block).size
-inside_of us n (orders.Move kind count block) m h = h
-inside_of us n _ m h = absurd (false≢true m)
+inside_of us n o h3 h4 = grind (arith, false≢true)
 
 -- a block that is touched is one of the unit
 pub touched_inside : (budget longest : ℕ) (ds : List Drive) (r : Record) (d : Drive) → d ≡ drive_of ds r.command.unit
     → IsKept budget longest (units_of ds) r
     → (lbn : ℕ) → touched d r ≡ Some lbn → lbn < d.unit.size
-touched_inside budget longest ds r d e k lbn h =
-    let t = when_some (touches d.online r.command.order) (first_block r.command.order + r.done) lbn h in
-    let move = (and_parts (is_move r.command.order) d.online t.0).0 in
-    let inside = inside_of (units_of ds) r.command.unit r.command.order move k.waitable.inside in
-    let unit : (unwrap_or (unit_found (units_of ds) r.command.unit) one_block).size ≡ d.unit.size =
-    ap (λ (s : Shape). s.size) (found_unit r.command.unit ds ∙ ap (λ (d : Drive). d.unit) (sym e)) in
-    let weight = k.weight in
-    let unfinished = k.unfinished in
-    omega (arith, t.1, inside, unit)
+touched_inside budget longest ds r d e k lbn h = grind (arith, found_unit, when_some, and_parts, inside_of)
 
 -- ---- the whole step
 
 ended_if : (b : Bool) → not b ≡ false → b ≡ true
-ended_if true e = refl
-ended_if false e = absurd (true≢false e)
+ended_if b h1 = grind (arith, true≢false)
 
 -- a step of the record at a place, with the drive of its unit after it: what it makes of records and drives
 pub record StepMade (k : Block) (place : ℕ) (rs new : List Record) (ds ds' : List Drive) (ends : Bool) : Type 0 where
@@ -229,10 +201,7 @@ module _ {k : Block} {place : ℕ} {rs new : List Record} {ds ds' : List Drive} 
 
 head_found : (n : ℕ) (ds : List Drive) → AllByRecursion IsOnUnit ds → IsOnUnit (drive_of ds n)
 head_found n [] h = omega arith
-head_found n (d ∷ ds) h =
-    let rest = head_found n ds h.1 in
-    elim (has_number n d) as (λ b. IsOnUnit (unwrap_or (cond b (Some d) (find (has_number n) ds))
-    (fresh_drive one_block))) [ true ↦ h.0 | false ↦ rest ]
+head_found n (d ∷ ds) h = search (arith, head_found n ds h.1)
 
 -- the drive that is found has its head on its unit
 pub head_kept : (room budget longest n : ℕ) (rs : List Record) (ds : List Drive) (begun : Option Name) (serving : Bool)

@@ -1,7 +1,7 @@
 -- Who keeps a command back, found one after the other.
-use Rattle.std.proofs.Common.{◌≡◌, ℕ, zero, suc, ◌+◌, ◌≤◌, Bool, true, false, cond, not, ◌&&◌, ◌||◌, List, [], ◌∷◌, ◌++◌, map, take, length, refl, ap, sym, ◌∙◌, append-nil, subst, arith}
-use Rattle.std.specs.Prelude.{filter, nat_le}
-use Rattle.std.specs.List.{list_all, range_with_len}
+use Rattle.std.proofs.Common.{◌≡◌, ℕ, zero, suc, ◌+◌, ◌≤◌, Bool, cond, not, ◌&&◌, ◌||◌, List, [], ◌∷◌, ◌++◌, take, length, refl, ap, sym, ◌∙◌, append-nil, subst, arith}
+use Rattle.std.specs.Prelude.{nat_le}
+use Rattle.std.specs.List.{list_all}
 use Rattle.std.proofs.lemmas.List.{length-append, map-append}
 use Rattle.std.proofs.lemmas.List.Elements.{filter-append}
 use Rattle.std.proofs.lemmas.List.Folds.{list_all_more}
@@ -20,22 +20,11 @@ pub record Holders (budget : ℕ) (rs : List Record) (place count : ℕ) (holder
 among_more : (budget : ℕ) (rs : List Record) (place front : ℕ) → holders_among budget rs place (front + 1)
     ≡ holders_among budget rs place front ++ cond (keeps_back budget (record_at rs place) (record_at rs front))
     (holder_of budget (record_at rs place) (record_at rs front) ∷ []) []
-among_more budget rs place front =
-    let keep : ℕ → Bool = λ q. keeps_back budget (record_at rs place) (record_at rs q) in
-    let tell : ℕ → Holder = λ q. holder_of budget (record_at rs place) (record_at rs q) in
-    ap (λ ps. map tell (filter keep ps)) (range_more front)
-    ∙ (ap (map tell) (filter-append keep (range_with_len 0 front) (front ∷ []))
-    ∙ (map-append tell (filter keep (range_with_len 0 front)) (filter keep (front ∷ []))
-    ∙ ap (λ hs. holders_among budget rs place front ++ hs) (one tell (keep front))))
-  where
-    one : (tell : ℕ → Holder) (b : Bool) → map tell (cond b (front ∷ []) []) ≡ cond b (tell front ∷ []) []
-    one tell true = refl
-    one tell false = refl
+among_more budget rs place front = search (arith, range_more front, filter-append, map-append)
 
 appended : (holders : List Holder) (holder : Holder) (b : Bool)
     → length (holders ++ cond b (holder ∷ []) []) ≤ length holders + 1
-appended holders holder true = omega (arith, length-append holders (holder ∷ []))
-appended holders holder false = omega (arith, ap length (append-nil holders))
+appended holders holder b = grind (arith, length-append, append-nil)
 
 pub holders_more : {budget : ℕ} {rs : List Record} {place front : ℕ} {holders holders' : List Holder} (b : Bool)
     (holder : Holder)
@@ -43,33 +32,19 @@ pub holders_more : {budget : ℕ} {rs : List Record} {place front : ℕ} {holder
     → holder ≡ holder_of budget (record_at rs place) (record_at rs front)
     → holders' ≡ holders ++ cond b (holder ∷ []) []
     → Holders budget rs place front holders → Holders budget rs place (front + 1) holders'
-holders_more {budget} {rs} {place} {front} {holders} {holders'} b holder is what put h = record {
-  told =
-      let among = holders_among budget rs place front in
-      put ∙ (ap (λ hs. hs ++ cond b (holder ∷ []) []) h.told
-      ∙ (ap (λ b. among ++ cond b (holder ∷ []) []) is
-      ∙ (ap (λ x. among ++ cond (keeps_back budget (record_at rs place) (record_at rs front)) (x ∷ []) []) what
-      ∙ sym (among_more budget rs place front))));
-  few = let k = h.few in omega (arith, ap length put, appended holders holder b);
-}
+holders_more {budget} {rs} {place} {front} {holders} {holders'} b holder is what put h =
+    search (arith, among_more budget rs place front, appended)
 
 -- ---- nobody keeps back what may start
 
 none_more : (holders : List Holder) (holder : Holder) (b : Bool)
     → is_nobody (holders ++ cond b (holder ∷ []) []) ≡ (is_nobody holders && not b)
-none_more [] holder true = refl
-none_more [] holder false = refl
-none_more (x ∷ holders) holder b = refl
+none_more holders holder b = grind arith
 
 -- free and affordable so far, and the next neither fences nor is overdrawn
 parted : (free affordable fences affords : Bool) → ((free && affordable) && not (fences || not affords))
     ≡ ((free && not fences) && (affordable && affords))
-parted false affordable fences affords = refl
-parted true false true affords = refl
-parted true false false affords = refl
-parted true true true affords = refl
-parted true true false true = refl
-parted true true false false = refl
+parted free affordable fences affords = grind arith
 
 -- nobody in front of so many keeps the record at the place back exactly if it may start behind these
 pub none_keeps_back : (budget : ℕ) (rs : List Record) (place count : ℕ) → count ≤ length rs

@@ -5,7 +5,6 @@ use Rattle.std.proofs.Math.Bool.{and-false}
 use Rattle.std.proofs.lemmas.Bool.{true≢false}
 use Rattle.std.proofs.lemmas.List.{length-append}
 use Rattle.std.proofs.lemmas.List.Elements.{filter-append}
-use Rattle.mscp_packet.specs.declared.command.Command.{Command}
 use Rattle.mscp_packet.specs.declared.end.End.{End}
 use Rattle.mscp_events.specs.declared.block.Block.{Block}
 use Rattle.mscp_events.specs.declared.connection.Connection.{Connection}
@@ -15,7 +14,7 @@ use Rattle.mscp_queue.specs.declared.report.Report.TheVariants as reports
 use Rattle.mscp_queue.specs.declared.view.Choice.{Choice}
 use Rattle.mscp_queue.specs.Lines.{Line, Serves}
 use Rattle.mscp_queue.specs.Names.{name_on, same_connection}
-use Rattle.mscp_queue.specs.Records.{Record, advanced, drive_at, fresh_record, has_name, no_record, step_charge, passed_by, record_at, remains, without}
+use Rattle.mscp_queue.specs.Records.{Record, advanced, drive_at, has_name, no_record, step_charge, passed_by, record_at, remains, without}
 use Rattle.mscp_queue.specs.Serving.{end_given}
 use Rattle.mscp_queue.proofs.Lists.{every_from, filter_filter, filter_on}
 use Rattle.mscp_queue.proofs.Named.{one_side, other_side}
@@ -98,17 +97,6 @@ count_stepped {K} via picks k old (reports.Served connection reference unit lbn 
     )
 
 -- ---- a command comes
-
-pub push_count : (via other : Connection) (ws : List Record) (k : Command)
-    → length (waiting_on other (ws ++ fresh_record via k ∷ []))
-    ≡ length (waiting_on other ws) + cond (same_connection via other) 1 0
-push_count via other ws k =
-    let p : Record → Bool = λ r. same_connection r.connection other in
-    let new = fresh_record via k in
-    ap length (filter-append p ws (new ∷ []))
-    ∙ (length-append (waiting_on other ws) (waiting_on other (new ∷ []))
-    ∙ elim (same_connection via other) as (λ b. length (waiting_on other ws) + length (cond b (new ∷ []) [])
-    ≡ length (waiting_on other ws) + cond b 1 0) [ true ↦ refl | false ↦ refl ])
 
 -- ---- a command is aborted
 
