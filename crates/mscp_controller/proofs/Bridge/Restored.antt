@@ -41,29 +41,13 @@ pub sound_seen : {K : Type 0} {c : Settings} {line : Line K} {accounts : Account
       begun = line.begun;
       picker = line.picker;
     })
-sound_seen {c = c} {line} {accounts} h q o = record {
-  valid = h.valid;
-  queue = subst (λ n. queue.IsHeld (room c) c.budget n line.waiting line.drives line.begun true) h.same_longest
-      (subst (λ n. queue.IsHeld (room c) n line.longest line.waiting line.drives line.begun true) h.same_budget
-      (subst (λ n. queue.IsHeld n line.budget line.longest line.waiting line.drives line.begun true) h.same_room q));
-  order = o;
-  units = h.units;
-  first = covered_of (h.account First);
-  second = covered_of (h.account Second);
-}
+sound_seen {c = c} {line} {accounts} h q o = search (arith, covered_of (h.account First), covered_of (h.account Second))
 
 own_account : {c : Settings} {rs : List Record} {via : Connection} {ends : List End} (own : Account)
     → IsCovered c rs via ends → own.waiting ≡ length (waiting_on via rs) → own.untaken.items ≡ ends
     → IsAccount c rs via own
 own_account {c} {rs} {via} {ends} own h counted e =
-    let covered = h.covered in
-    let fits = h.fits in
-    record {
-      counted = counted;
-      covered = omega (arith, counted, covered, ap length e);
-      fits = omega (arith, counted, fits);
-      shaped = recursion_from_All IsOfKind own.untaken.items (subst (All IsOfKind) (sym e) h.shaped);
-    }
+    search (arith, recursion_from_All IsOfKind own.untaken.items (subst (All IsOfKind) (sym e) h.shaped))
 
 -- a controller that is made of what is sound holds it
 pub held_restored : {K : Type 0} {h : Holdings K} {line : Line K} {accounts : Accounts} → IsSound h

@@ -29,13 +29,7 @@ nobody t x e h = let l = ap length e in let k = h.1 in omega (arith, l, k)
 
 idle_right : (c : Settings) (t : Trace) (event : Event) (entry : Entry) → is_step event ≡ true → service_in entry ≡ None
     → IsRight c t event entry → waiting t ≡ []
-idle_right c t (events.Step k) (entries.Stepped reports.Idle) s e r = r
-idle_right c t (events.Step k) (entries.Stepped (reports.Served n a b d f g h)) s e r =
-    absurd (true≢false (ap is_some e))
-idle_right c t (events.Step k) (entries.Sent to sent) s e r = absurd r
-idle_right c t (events.Step k) (entries.Taken to taken) s e r = absurd r
-idle_right c t (events.Step k) (entries.Looked list) s e r = absurd r
-idle_right c t _ entry s e r = absurd (false≢true s)
+idle_right c t event entry h4 h5 h6 = grind (arith, true≢false, false≢true)
 
 pub falling : (c : Settings) (t : Trace) (m : Moment) → IsRight c t m.0 m.1 → Steady c t
     → Falling c t m
