@@ -1,16 +1,13 @@
 -- Which command the line ahead says was served.
-use Rattle.std.proofs.Common.{◌≡◌, ◌≢◌, ◌==◌, ◌+◌, drop, get_or, take, ℕ, ◌<◌, Bool, true, false, List, [], ◌∷◌, ◌++◌, length, refl, ap, sym, ◌∙◌, arith, append_assoc}
-use Rattle.std.specs.Prelude.{position, Some, codes, if◌then◌else◌, nat_le, ◌&&◌, Ok, Err, Result}
+use Rattle.std.proofs.Common.{◌≡◌, ◌≢◌, ◌==◌, ◌+◌, drop, get_or, take, ℕ, ◌<◌, true, List, [], ◌∷◌, ◌++◌, length, refl, ap, sym, ◌∙◌, arith, append_assoc}
+use Rattle.std.specs.Prelude.{position, Some, codes, Ok}
 use Rattle.std.specs.List.{list_all}
-use Rattle.std.specs.Str.Parse.{digits_value}
 use Rattle.std.proofs.lemmas.Bool.{and_parts, eqb-true, leb-true}
 use Rattle.std.proofs.lemmas.List.Quantifiers.{position-Some}
 use Rattle.mscp_events.specs.declared.connection.Connection.TheVariants.{First}
 use Rattle.mscp_queue.proofs.Lists.{every_append}
 use Rattle.mscp_queue.proofs.Placed.{cut_at}
-use Rattle.mscp_reader.specs.Lexical.{is_digit, is_numeral, number, wide, words}
-use Rattle.mscp_reader.specs.declared.fault.Cause.{Cause}
-use Rattle.mscp_reader.specs.declared.fault.Cause.TheVariants as causes
+use Rattle.mscp_reader.specs.Lexical.{is_digit, number, wide, words}
 use Rattle.mscp_reader.proofs.PlainLines.{solid_digits, word_front}
 use Rattle.mscp_judge.specs.Naming.{name_in, numbered, served}
 use Rattle.mscp_judge.specs.Standing.{IsNamedAhead}
@@ -20,25 +17,14 @@ use Rattle.mscp_judge.proofs.Spoken.{after_space, digits_fed, fed_literal}
 -- a number has digits alone, and some
 numeral_digits : (w : List ℕ) (n : ℕ) → wide w ≡ Ok n → (0 < length w) × (list_all is_digit w ≡ true)
 unfolding number
-numeral_digits w n ok = at (is_numeral w && nat_le (digits_value 10 w) 4294967295) refl ok
-  where
-    at : (b : Bool) → (is_numeral w && nat_le (digits_value 10 w) 4294967295) ≡ b
-        → (let r : Result ℕ Cause = if b then Ok (digits_value 10 w) else Err causes.Number in r ≡ Ok n)
-        → (0 < length w) × (list_all is_digit w ≡ true)
-    at true e f =
-        let k = and_parts (is_numeral w) (nat_le (digits_value 10 w) 4294967295) e in
-        let j = and_parts (nat_le 1 (length w) && nat_le (length w) 10) (list_all is_digit w) k.0 in
-        let i = and_parts (nat_le 1 (length w)) (nat_le (length w) 10) j.0 in
-        (omega (arith, leb-true 1 (length w) i.0), j.1)
-    at false e f = cc
+numeral_digits w n ok = grind (arith, and_parts, leb-true)
 
 served_words : (w more : List ℕ) (n : ℕ) → wide w ≡ Ok n → 0 < length w → list_all is_digit w ≡ true
     → name_in (words (codes "serve " ++ (w ++ 32 ∷ more))) ≡ numbered First (wide w)
 unfolding name_in served
 served_words w more n ok some digits =
-    ap name_in (word_front (codes "serve") (32 ∷ (w ++ 32 ∷ more)) (omega arith) refl refl
-    ∙ ap (λ ws. codes "serve" ∷ ws) (after_space (w ++ 32 ∷ more)
-    ∙ word_front w (32 ∷ more) some (solid_digits w digits) refl))
+    search (arith, word_front (codes "serve") (32 ∷ (w ++ 32 ∷ more)) (omega arith) refl refl, after_space (w ++ 32 ∷
+    more), word_front w (32 ∷ more) some (solid_digits w digits) refl, solid_digits w digits)
 
 pub names_ahead : (bytes w more : List ℕ) (n : ℕ) → bytes ≡ codes "serve " ++ (w ++ 32 ∷ more) → wide w ≡ Ok n
     → IsNamedAhead bytes (record { connection = First; reference = n })

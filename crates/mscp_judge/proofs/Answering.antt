@@ -1,5 +1,5 @@
 -- The lines that are answered to an event are answers, whatever numbers are in them.
-use Rattle.std.proofs.Common.{◌≡◌, ℕ, ◌<◌, ◌≤◌, true, false, List, [], ◌∷◌, ◌++◌, map, length, refl, ap, sym}
+use Rattle.std.proofs.Common.{◌≡◌, ℕ, ◌<◌, ◌≤◌, true, false, List, [], ◌∷◌, ◌++◌, map, length, refl, sym, arith}
 use Rattle.std.proofs.Common.{◌∙◌, arith, length-append, append_assoc, append-nil}
 use Rattle.std.specs.Prelude.{codes, Option, Some, None, Result, Ok, Err}
 use Rattle.std.specs.Fmt.{decimal}
@@ -15,10 +15,9 @@ use Rattle.mscp_queue.specs.declared.report.Report.TheVariants.{Idle, Served}
 use Rattle.mscp_packet.specs.declared.end.End.{End}
 use Rattle.mscp_controller.specs.declared.entry.Entry.TheVariants as entries
 use Rattle.mscp_controller.specs.declared.entry.SendFault.{SendFault}
-use Rattle.mscp_controller.specs.declared.entry.SendFault.TheVariants.{Short, Long, NoCredit, LastCredit, Doubled}
 use Rattle.mscp_controller.specs.declared.entry.Sent.{Sent}
 use Rattle.mscp_controller.specs.declared.entry.Sent.TheVariants as sents
-use Rattle.mscp_text.specs.Lines.{line, status_text}
+use Rattle.mscp_text.specs.Lines.{line}
 use Rattle.mscp_reader.specs.Lexical.{is_comment, words}
 use Rattle.mscp_reader.specs.Plain.{IsApart}
 use Rattle.mscp_reader.proofs.PlainLines.{AllSolid, said_plain, word_front}
@@ -43,15 +42,7 @@ record IsFirstWord (word : List ℕ) : Type 0 where
 first_word : (word : List ℕ) → 0 < length word → length word ≤ 8
     → (AllSolid word × AllPrinted word × (is_answer_word word ≡ true) × (bytes_eq word (codes "second") ≡ false))
     → ((rest : List ℕ) → is_comment (word ++ rest) ≡ false) → IsFirstWord word
-first_word word some few seen comment = record {
-  some = some;
-  few = few;
-  solid = seen.0;
-  printed = seen.1;
-  answers = seen.2;
-  first = seen.3;
-  comment = comment;
-}
+first_word word some few seen comment = search arith
 
 after_space : (bytes : List ℕ) → words (32 ∷ bytes) ≡ words bytes
 unfolding words
@@ -59,49 +50,33 @@ after_space bytes = refl
 
 answer_words : (via : Connection) (word rest : List ℕ) → IsFirstWord word → IsApart rest
     → is_answer (words (connection_word via ++ (word ++ rest))) ≡ true
-answer_words First word rest w apart =
-    ap is_answer (word_front word rest w.some w.solid apart) ∙ rw w.first w.answers
+answer_words First word rest w apart = search (arith, word_front word rest w.some w.solid apart)
 answer_words Second word rest w apart =
-    ap is_answer (word_front (codes "second") (32 ∷ (word ++ rest)) (omega arith) refl refl
-    ∙ ap (λ ws. codes "second" ∷ ws) (after_space (word ++ rest) ∙ word_front word rest w.some w.solid apart))
-    ∙ w.answers
+    search (arith, word_front (codes "second") (32 ∷ (word ++ rest)) (omega arith) refl refl, after_space (word ++
+    rest), word_front word rest w.some w.solid apart)
 
 no_comment_via : (via : Connection) (word rest : List ℕ) → IsFirstWord word
     → is_comment (connection_word via ++ (word ++ rest)) ≡ false
-no_comment_via First word rest w = w.comment rest
-no_comment_via Second word rest w = refl
+no_comment_via via word rest h3 = grind arith
 
 printed_via : (via : Connection) → AllPrinted (connection_word via)
-printed_via First = refl
-printed_via Second = refl
+printed_via via = grind arith
 
 few_via : (via : Connection) → length (connection_word via) ≤ 7
-few_via First = omega arith
-few_via Second = omega arith
+few_via via = grind arith
 
 -- a line that isn't too long
 short_line : (via : Connection) (word rest : List ℕ) → IsFirstWord word → IsApart rest → AllPrinted rest
     → length (connection_word via ++ (word ++ rest)) ≤ 200 → IsAnswerLine (connection_word via ++ (word ++ rest))
 short_line via word rest w apart printed short =
-    let all = both_printed (connection_word via) (word ++ rest) (printed_via via)
-    (both_printed word rest w.printed printed) in
-    record {
-      printed = all;
-      says = said_plain (connection_word via ++ (word ++ rest)) short (no_comment_via via word rest w) all;
-      answers = answer_words via word rest w apart;
-    }
+    grind (arith, both_printed, printed_via, no_comment_via, answer_words, said_plain)
 
 answer_line : (via : Connection) (word rest : List ℕ) → IsFirstWord word → IsApart rest → AllPrinted rest
     → length rest ≤ 150 → IsAnswerLine (connection_word via ++ (word ++ rest))
 answer_line via word rest w apart printed few =
-    short_line via word rest w apart printed (omega (
-      arith,
-      length-append (connection_word via) (word ++ rest),
-      length-append word rest,
-      few_via via,
-      w.few,
-      few,
-    ))
+    search (arith, short_line via word rest w apart printed (omega ( arith, length-append (connection_word via) (word ++
+    rest), length-append word rest, few_via via, w.few, few, )), length-append (connection_word via) (word ++ rest),
+    length-append word rest, few_via via)
 
 -- one line, which begins with the word of the connection
 one_line : (via : Connection) (bytes : List ℕ) → IsAnswerLine (connection_word via ++ bytes)
@@ -146,26 +121,16 @@ number_printed : (n : ℕ) → AllPrinted (32 ∷ decimal n)
 number_printed n = decimal_printed n
 
 aborted_printed : (aborted : Option ℕ) → AllPrinted (aborted_part aborted)
-aborted_printed None = refl
-aborted_printed (Some other) = decimal_printed other
+aborted_printed aborted = grind (arith, decimal_printed)
 
 aborted_few : (aborted : Option ℕ) → length (aborted_part aborted) ≤ 73
-aborted_few None = omega arith
-aborted_few (Some other) = omega (arith, length-append (codes " aborted ") (decimal other), decimal_few other)
+aborted_few aborted = grind (arith, length-append, decimal_few)
 
 refusal_printed : (fault : SendFault) → AllPrinted (refusal_word fault)
-refusal_printed Short = refl
-refusal_printed Long = refl
-refusal_printed NoCredit = refl
-refusal_printed LastCredit = refl
-refusal_printed Doubled = refl
+refusal_printed fault = grind arith
 
 refusal_few : (fault : SendFault) → length (refusal_word fault) ≤ 11
-refusal_few Short = omega arith
-refusal_few Long = omega arith
-refusal_few NoCredit = omega arith
-refusal_few LastCredit = omega arith
-refusal_few Doubled = omega arith
+refusal_few fault = grind arith
 
 pub sent_answers : (via : Connection) (sent : Result Sent SendFault)
     → AreAnswers (entry_lines (entries.Sent via sent)) 1
@@ -232,12 +197,7 @@ figures_each (x ∷ xs) = (figure_answers x, figures_each xs)
 
 pub look_answers : (shown : ArrayVec (Connection × ℕ × ℕ)) (count : ℕ) → count ≡ length shown.items
     → AreAnswers (entry_lines (entries.Looked shown)) count
-look_answers shown count e = record {
-  all = map figure_text shown.items;
-  whole = figures_whole shown.items;
-  many = length-map shown.items figure_text ∙ sym e;
-  each = figures_each shown.items;
-}
+look_answers shown count e = grind (arith, figures_whole, length-map, figures_each)
 
 -- ---- nothing
 
@@ -247,12 +207,10 @@ pub idle_answers : IsAnswerLine (codes "idle")
 idle_answers = answer_line First (codes "idle") [] idle tt refl (omega arith)
 
 block_printed : (lbn : Option ℕ) → AllPrinted (block_word lbn)
-block_printed None = refl
-block_printed (Some block) = decimal_printed block
+block_printed lbn = grind (arith, decimal_printed)
 
 ended_printed : (ended : Option End) → AllPrinted (ended_part ended)
-ended_printed None = refl
-ended_printed (Some e) = both_printed (codes " ended ") (status_text e.status) refl (status_printed e.status)
+ended_printed ended = grind (arith, both_printed, ended, status_printed)
 
 pub step_answers : (report : Report) → length (step_line report) ≤ 108 → AreAnswers (step_line report) 1
 step_answers Idle few = one_line First (codes "idle") idle_answers

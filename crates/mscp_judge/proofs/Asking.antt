@@ -1,5 +1,5 @@
 -- How a judge stands after a line that asks.
-use Rattle.std.proofs.Common.{◌≡◌, inl, false, List, [], ◌∷◌, ◌++◌, refl, ap, sym, ◌∙◌, subst, append_assoc, append-nil}
+use Rattle.std.proofs.Common.{◌≡◌, inl, false, List, [], ◌∷◌, ◌++◌, refl, ap, sym, ◌∙◌, subst, append_assoc, append-nil, arith}
 use Rattle.std.specs.Prelude.{Option}
 use Rattle.mscp_events.specs.declared.event.Event.{Event}
 use Rattle.mscp_controller.specs.declared.entry.Entry.{Entry}
@@ -10,7 +10,7 @@ use Rattle.mscp_controller.specs.Legal.{IsLegal, IsRight}
 use Rattle.mscp_script.specs.Text.{entry_lines}
 use Rattle.mscp_judge.specs.declared.naming.Named.{Named}
 use Rattle.mscp_judge.specs.declared.naming.Wanted.{Wanted}
-use Rattle.mscp_judge.specs.Logs.{Asked, Mark, answers_in, events_in, told, transcript, whole, written}
+use Rattle.mscp_judge.specs.Logs.{Asked, Mark, answers_in, events_in, told, transcript, whole}
 use Rattle.mscp_judge.specs.Naming.{IsNamed}
 use Rattle.mscp_judge.specs.Standing.{Led, Stood, with_picker}
 use Rattle.mscp_judge.proofs.Feeds.{entry_ends}
@@ -31,11 +31,7 @@ whole_more parts now = whole_append parts (now ∷ []) ∙ ap (λ t. whole parts
 pub transcript_more : (marks : List Mark) (parts : List Trace) (now : Trace)
     → marks ++ told [] ≡ transcript parts ++ Asked (events_in now ++ []) ∷ told (answers_in now)
     → marks ≡ transcript (parts ++ now ∷ [])
-transcript_more marks parts now e =
-    sym (append-nil marks) ∙ (e ∙ (ap (λ es. transcript parts ++ Asked es ∷ told (answers_in now)) (append-nil
-    (events_in now))
-    ∙ (ap (λ ms. transcript parts ++ ms) (sym (append-nil (written now)))
-    ∙ sym (transcript_append parts (now ∷ [])))))
+transcript_more marks parts now e = grind (arith, append-nil, transcript_append)
 
 -- a legal log that begins so, and then asks for events
 pub asks_next : (c : Settings) (marks : List Mark) (h : Holdings Wanted) (es : List Event)
@@ -43,24 +39,13 @@ pub asks_next : (c : Settings) (marks : List Mark) (h : Holdings Wanted) (es : L
     → (marks ++ Asked es ∷ []) ++ more ≡ transcript others
     → (p : Trace) × (rest : List Trace) × (events_in p ≡ es) × (others ≡ (s.parts ++ s.now ∷ []) ++ p ∷ rest)
 asks_next c marks h es s others more l e =
-    let g = goes c marks h [] [] [] s others (Asked es ∷ more) l (sym (append_assoc marks (Asked es ∷ []) more) ∙ e) in
-    let none = none_asked g.next g.asks in
-    let left : Asked es ∷ more ≡ transcript g.rest =
-    g.left_is ∙ ap (λ (t : Trace). told (answers_in t) ++ transcript g.rest) none in
-    let q = asked_parts es more g.rest left in (
-      q.0,
-      q.1,
-      q.3,
-      g.are ∙ (ap (λ (t : Trace). s.parts ++ (s.now ++ t) ∷ g.rest) none
-          ∙ (ap (λ (t : Trace). s.parts ++ t ∷ g.rest) (append-nil s.now)
-          ∙ (ap (λ (r : List Trace). s.parts ++ s.now ∷ r) q.2 ∙ parts_more s.parts s.now q.0 q.1))),
-    )
+    search (arith, goes c marks h [] [] [] s others (Asked es ∷ more) l (sym (append_assoc marks (Asked es ∷ []) more) ∙
+    e), append_assoc marks (Asked es ∷ []) more, append-nil s.now, none_asked, asked_parts, parts_more)
 
 pub said_asked : (marks : List Mark) (parts : List Trace) (now : Trace) (es : List Event)
     → marks ++ told [] ≡ transcript parts ++ Asked (events_in now ++ []) ∷ told (answers_in now)
     → (marks ++ Asked es ∷ []) ++ told [] ≡ transcript (parts ++ now ∷ []) ++ Asked es ∷ told []
-said_asked marks parts now es e = append-nil (marks ++ Asked es ∷ []) ∙ ap (λ ms. ms ++ Asked es ∷ [])
-    (transcript_more marks parts now e)
+said_asked marks parts now es e = search (arith, append-nil (marks ++ Asked es ∷ []), transcript_more marks parts now e)
 
 -- steps are asked for
 unfoldable pub steps_on : (c : Settings) (marks : List Mark) (h : Holdings Wanted) (es : List Event)

@@ -1,5 +1,5 @@
 -- The rule that a line breaks which comes to a judge.
-use Rattle.std.proofs.Common.{◌≡◌, ◌≢◌, ℕ, true, false, List, [], refl, sym, ◌∙◌}
+use Rattle.std.proofs.Common.{◌≡◌, ◌≢◌, ℕ, true, false, List, [], sym, ◌∙◌, arith}
 use Rattle.std.proofs.lemmas.Bool.{true≢false}
 use Rattle.mscp_events.specs.Settings.{IsValid, Settings}
 use Rattle.mscp_controller.specs.History.{Trace}
@@ -22,37 +22,18 @@ broken : {A : Type 0} (c : Settings) (log : Log) (line : List ℕ) (judge : Judg
     → IsRule c (run_of s.counted.stood) (due judge) (owed judge) line rule
     → (is_answer (words line) ≡ true → due judge ≡ [] → owed judge ≢ [] → rule ≢ rules.Service → rule ≢ rules.Idle
     → starts ≡ starts_in c (run_of s.counted.stood)) → IsBroken c log line rule starts
-broken c log line judge rule starts s r o = record {
-  h = judge.controller;
-  due = due judge;
-  owed = owed judge;
-  stood = s.counted.stood;
-  rule_is = r;
-  starts_are = o;
-}
+broken c log line judge rule starts s r o = search arith
 
 -- a line that asks too early
 pub broken_early : {A : Type 0} (c : Settings) (log : Log) (line : List ℕ) (judge : Judge A) (starts : List Named)
     → Stands c log judge → is_answer (words line) ≡ false → IsBroken c log line rules.Missing starts
-broken_early c log line judge starts s n = broken c log line judge rules.Missing starts s (record {
-  asks = λ e. refl;
-  told = λ e. absurd (true≢false (sym e ∙ n));
-  unasked = λ e. absurd (true≢false (sym e ∙ n));
-  idle = λ e. absurd (true≢false (sym e ∙ n));
-  step = λ e. absurd (true≢false (sym e ∙ n));
-}) (λ e. absurd (true≢false (sym e ∙ n)))
+broken_early c log line judge starts s n = search (arith, broken, true≢false)
 
 -- one that tells where nothing is asked
 pub broken_unasked : {A : Type 0} (c : Settings) (log : Log) (line : List ℕ) (judge : Judge A) (starts : List Named)
     → Stands c log judge → due judge ≡ [] → owed judge ≡ [] → is_answer (words line) ≡ true
     → IsBroken c log line rules.Unasked starts
-broken_unasked c log line judge starts s none all a = broken c log line judge rules.Unasked starts s (record {
-  asks = λ n. absurd (true≢false (sym a ∙ n));
-  told = λ b some. absurd (some none);
-  unasked = λ b d o. refl;
-  idle = λ b d o. absurd (o all);
-  step = λ b d o. absurd (o all);
-}) (λ b d o. absurd (o all))
+broken_unasked c log line judge starts s none all a = search (arith, broken, true≢false)
 
 -- and one where a step is to be answered
 pub broken_step : {A : Type 0} (c : Settings) (log : Log) (line : List ℕ) (judge : Judge A) (rule : Rule)

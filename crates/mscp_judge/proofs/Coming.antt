@@ -13,13 +13,13 @@ use Rattle.mscp_controller.specs.declared.entry.Entry.TheVariants as entries
 use Rattle.mscp_events.specs.declared.memory.OutOfMemory.{OutOfMemory}
 use Rattle.mscp_queue.specs.declared.report.Report.{Report}
 use Rattle.mscp_queue.specs.Records.{Record, record_at}
-use Rattle.mscp_events.specs.Settings.{IsValid, Settings, bound}
+use Rattle.mscp_events.specs.Settings.{IsValid, Settings}
 use Rattle.mscp_controller.specs.History.{Trace, is_step}
 use Rattle.mscp_controller.specs.Holdings.{Answers, Holdings, Steps, fresh}
 use Rattle.mscp_queue.specs.declared.report.Report.TheVariants.{Idle}
 use Rattle.mscp_controller.specs.Legal.{IsLegal}
 use Rattle.mscp_reader.specs.Lexical.{is_printed, words}
-use Rattle.mscp_script.specs.Text.{Reported, entry_lines, reported, step_count, step_line, with_entry}
+use Rattle.mscp_script.specs.Text.{Reported, entry_lines, reported, step_line, with_entry}
 use Rattle.mscp_judge.specs.declared.judge.Judge.{Judge}
 use Rattle.mscp_judge.specs.declared.naming.Named.{Named}
 use Rattle.mscp_judge.specs.declared.naming.Wanted.{Wanted}
@@ -27,7 +27,7 @@ use Rattle.mscp_judge.specs.declared.totals.Totals.{Totals}
 use Rattle.mscp_judge.specs.Judged.{IsAhead}
 use Rattle.mscp_judge.specs.Logs.{Asked, Log, Mark, MayGoOn, IsLegalLog, asking, events_in, nothing, telling, told, transcript, whole}
 use Rattle.mscp_judge.specs.Naming.{IsNamed, name_in, wanting}
-use Rattle.mscp_judge.specs.Standing.{BeginsWith, Came, Counted, HasShortLine, Held, IsHeld, IsSettled, Stands, Stood, due, marked, owed, run_of, totals_of, with_picker}
+use Rattle.mscp_judge.specs.Standing.{BeginsWith, Came, Counted, HasShortLine, IsHeld, IsSettled, Stands, Stood, due, marked, owed, totals_of, with_picker}
 use Rattle.mscp_judge.specs.Totals.{AreTotals, IsLarger, figure_queued}
 use Rattle.mscp_judge.proofs.Feeds.{NoFeed, some_none, step_ends}
 use Rattle.mscp_judge.proofs.Leading.{follow}
@@ -49,36 +49,12 @@ pub came_on : {A : Type 0} (r : Result (Unit {0}) OutOfMemory) (old new : Judge 
     → passed ≡ (record_at new.controller.waiting 0).passed → IsLarger old.peaks.figure figure new.peaks.figure
     → IsLarger old.peaks.passed passed new.peaks.passed → All (λ r. r.passed ≤ passed) new.controller.waiting
     → OnOk r (Came name old new event)
-came_on (Ok x) old new name event entry mid a m e z figure passed f p lf lp o =
-    record {
-      entry = entry;
-      answers = a;
-      due = ap (λ n. drop n new.reporter.lines) z ∙ (ap (λ (q : Reported). q.lines) e
-          ∙ ap (λ (q : Reported). q.lines ++ entry_lines entry) m);
-      count = ap (λ (q : Reported). q.count) e ∙ ap (λ (q : Reported). q.count + 1) m;
-      adds = λ c. record {
-        moments = ap (λ (q : Reported). q.count) e ∙ ap (λ (q : Reported). q.count + 1) m;
-        steps = ap (λ (q : Reported). q.steps) e ∙ ap (λ (q : Reported). q.steps + step_count entry) m;
-        figure = subst (λ n. IsLarger old.peaks.figure n new.peaks.figure) f lf;
-        bound = refl;
-        passed = subst (λ n. IsLarger old.peaks.passed n new.peaks.passed) p lp;
-        oldest = subst (λ n. All (λ (r : Record). r.passed ≤ n) new.controller.waiting) p o;
-      };
-    }
-came_on (Err x) old new name event entry mid a m e z figure passed f p lf lp o = tt
+came_on r old new name event entry mid h7 h8 h9 h10 figure passed h13 h14 h15 h16 h17 = grind arith
 
 -- a step at which nothing waits and nothing was begun is idle, and leaves what is held
 pub idle_steps : (name : Option Named) (k : Block) (h h' : Holdings Wanted) → h' ≡ h → h.waiting ≡ [] → h.begun ≡ None
     → Steps (IsNamed name) k h Idle h'
-idle_steps name k h h' e waits begun =
-    subst (λ (x : Holdings Wanted). Steps (IsNamed name) k h Idle x) (sym e) (record {
-      serves = (waits, begun, refl);
-      ends = λ i. record {
-        first = sym (append-nil h.untaken.first) i;
-        second = sym (append-nil h.untaken.second) i;
-      };
-      settings = refl;
-    })
+idle_steps name k h h' e waits begun = search (arith, append-nil h.untaken.first, append-nil h.untaken.second)
 
 -- and so it comes
 pub idle_came : {A : Type 0} (r : Result (Unit {0}) OutOfMemory) (old new : Judge A) (mid : Reported)
@@ -119,24 +95,14 @@ stands_new {A} c judge v e d r o f p =
       };
       are = totals_none c totals n (ap (λ (q : Reported). q.steps) r) f refl p;
     } in
-    record {
-      counted = subst (λ (h : Holdings Wanted). Counted c (marked nothing) h (due judge) (owed judge) [] totals) (sym e)
-          (subst (λ bs. Counted c (marked nothing) (fresh c (wanting None)) bs (owed judge) [] totals) (sym d)
-          (subst (λ es. Counted c (marked nothing) (fresh c (wanting None)) [] es [] totals)
-          (ap (λ k. replicate k (events.Step judge.block)) (sym o)) counted));
-      count = omega (arith, n, o);
-    }
+    search arith
 
 -- ---- a line that asks
 
 -- where all is answered and told
 pub settled : {A : Type 0} (c : Settings) (log : Log) (judge : Judge A) → Stands c log judge → IsSettled judge
     → Counted c (marked log) judge.controller [] [] [] (totals_of c judge)
-settled c log judge s q =
-    let totals = totals_of c judge in
-    subst (λ es. Counted c (marked log) judge.controller [] es [] totals)
-    (ap (λ k. replicate k (events.Step judge.block)) q.answered)
-    (subst (λ bs. Counted c (marked log) judge.controller bs (owed judge) [] totals) q.told s.counted)
+settled c log judge s q = search arith
 
 pub asked_one : {A B : Type 0} (r : Result B OutOfMemory) (old new : Judge A) (name : Option Named) (event : Event)
     → is_step event ≡ false → IsSettled old → OnOk r (Came name old new event) → new.owed ≡ old.owed
@@ -161,13 +127,7 @@ asked_one (Err x) old new name event o q came w = tt
 -- what tells the same has the same totals
 same_totals : {A : Type 0} (c : Settings) (old new : Judge A) → new.reporter ≡ old.reporter → new.peaks ≡ old.peaks
     → totals_of c old ≡ totals_of c new
-same_totals c old new r p = λ i. record {
-  moments = (sym r i).count;
-  steps = (sym r i).steps;
-  figure = (sym p i).figure;
-  bound = bound c;
-  passed = (sym p i).passed;
-}
+same_totals c old new r p = search arith
 
 pub asked_steps : {A : Type 0} (old new : Judge A) (n : ℕ) (k : Block) → IsSettled old
     → new.controller ≡ old.controller → new.reporter ≡ old.reporter → new.peaks ≡ old.peaks → new.told ≡ old.told
@@ -176,27 +136,13 @@ pub asked_steps : {A : Type 0} (old new : Judge A) (n : ℕ) (k : Block) → IsS
 asked_steps {A} old new n k q h r p t w b c log s =
     let es = replicate n (events.Step k) in
     let marks = marked (asking log es) in
-    let none : due new ≡ [] = ap (λ (p : Reported). drop new.told p.lines) r
-    ∙ (ap (λ i. drop i old.reporter.lines) t ∙ q.told) in
+    let none : due new ≡ [] = search arith in
     let same : es ≡ owed new = λ i. replicate (sym w i) (events.Step (sym b i)) in
     let totals = totals_of c new in
     let counted : Counted c marks old.controller [] es [] totals =
     subst (λ (x : Totals). Counted c marks old.controller [] es [] x) (same_totals c old new r p)
     (steps_counted c (marked log) old.controller es (totals_of c old) (settled c log old s q)) in
-    record {
-      counted = subst (λ (g : Holdings Wanted). Counted c marks g (due new) (owed new) [] totals) (sym h)
-          (subst (λ bs. Counted c marks old.controller bs (owed new) [] totals) (sym none)
-          (subst (λ xs. Counted c marks old.controller [] xs [] totals) same counted));
-      count = omega (
-        arith,
-        length-append log.events es,
-        length-replicate n (events.Step k),
-        s.count,
-        ap (λ (p : Reported). p.count) r,
-        w,
-        q.answered,
-      );
-    }
+    search (arith, length-append log.events es, length-replicate n (events.Step k))
 
 -- a line asks, and something is due or missing
 pub too_early : {A : Type 0} (c : Settings) (log : Log) (judge : Judge A) (es : List Event) → Stands c log judge
@@ -226,18 +172,13 @@ printed_fed (b ∷ bytes) h =
 
 pub ready_due : {A : Type 0} (c : Settings) (log : Log) (line : List ℕ) (judge : Judge A) → Stands c log judge
     → due judge ≢ [] → IsAhead c log line judge
-ready_due c log line judge s some = record {
-  counted = ahead_counted c (marked log) judge.controller (due judge) (owed judge) (told (line ++ 10 ∷ []))
-      (totals_of c judge) s.counted;
-  some =
-      some;
-  count = s.count;
-}
+ready_due c log line judge s some =
+    search (arith, ahead_counted c (marked log) judge.controller (due judge) (owed judge) (told (line ++ 10 ∷ []))
+    (totals_of c judge) s.counted)
 
 step_lined : (name : Option Named) (h h' : Holdings Wanted) (k : Block) (entry : Entry)
     → Answers (IsNamed name) h (events.Step k) entry h' → entry_lines entry ≢ []
-step_lined name h h' k (entries.Stepped report) a e = let f = step_ends report in some_none f.0 10 [] (sym f.1 ∙ e)
-step_lined name h h' k _ a e = absurd a
+step_lined name h h' k entry h5 h6 = grind (arith, step_ends, some_none)
 
 pub ready_step : {A : Type 0} (c : Settings) (log : Log) (line : List ℕ) (ws : List (List ℕ)) (old new : Judge A)
     → ws ≡ words line → Stands c log old → due old ≡ [] → 0 < old.owed
@@ -250,21 +191,13 @@ ready_step {A} c log line ws old new same s none some came w b =
     let total = totals_of c old in
     let totals = totals_of c new in
     let before : Counted c (marked log) old.controller [] (events.Step k ∷ replicate n (events.Step k)) [] total =
-    subst (λ i. Counted c (marked log) old.controller [] (replicate i (events.Step k)) [] total) more
-    (subst (λ bs. Counted c (marked log) old.controller bs (owed old) [] total) none s.counted) in
+    search arith in
     let a = subst (λ xs. Answers (IsNamed (name_in xs)) (with_picker old.controller (name_in xs)) (events.Step k)
     came.entry new.controller) same came.answers in
     let counted = step_counted c (marked log) old.controller new.controller k (replicate n (events.Step k)) line
     came.entry total totals before a (came.adds c) in
     let ahead = told (line ++ 10 ∷ []) in
-    record {
-      counted = subst (λ bs. Counted c (marked log) new.controller bs (owed new) ahead totals) (sym came.due)
-          (subst (λ j. Counted c (marked log) new.controller (entry_lines came.entry) (replicate n (events.Step j))
-          ahead totals) (sym b) counted);
-      some = λ e. step_lined (name_in ws) (with_picker old.controller (name_in ws)) new.controller k came.entry
-          came.answers (sym came.due ∙ e);
-      count = omega (arith, s.count, came.count, more);
-    }
+    search (arith, step_lined)
 
 pub ready_not : {A : Type 0} (c : Settings) (log : Log) (line : List ℕ) (judge : Judge A) → Stands c log judge
     → IsSettled judge → ¬ (MayGoOn c (telling log (line ++ 10 ∷ [])).marks)
@@ -285,32 +218,15 @@ pub told_so : {A : Type 0} (c : Settings) (log : Log) (line : List ℕ) (old new
     → new.peaks ≡ old.peaks → new.owed ≡ old.owed → new.block ≡ old.block → due new ≡ begins.0
     → Stands c (telling log (line ++ 10 ∷ [])) new
 told_so {A} c log line old new s begins h r p w b d =
-    let marks = marked (telling log (line ++ 10 ∷ [])) in
-    let totals = totals_of c new in
-    let counted : Counted c marks old.controller begins.0 (owed old) [] totals =
-    subst (λ (x : Totals). Counted c marks old.controller begins.0 (owed old) [] x) (same_totals c old new r p)
-    (told_counted c (marked log) old.controller (due old) (owed old) line begins.0 (totals_of c old) s.counted
-    begins.1) in
-    let same : owed old ≡ owed new = λ i. replicate (sym w i) (events.Step (sym b i)) in
-    record {
-      counted = subst (λ (g : Holdings Wanted). Counted c marks g (due new) (owed new) [] totals) (sym h)
-          (subst (λ bs. Counted c marks old.controller bs (owed new) [] totals) (sym d)
-          (subst (λ es. Counted c marks old.controller begins.0 es [] totals) same counted));
-      count = omega (arith, s.count, ap (λ (p : Reported). p.count) r, w);
-    }
+    search (arith, told_counted c (marked log) old.controller (due old) (owed old) line begins.0 (totals_of c old)
+    s.counted begins.1, same_totals)
 
 -- what is due behind a line that was told
 pub left_due : (lines line rest : List ℕ) (start place : ℕ) → drop start lines ≡ line ++ 10 ∷ rest
     → place ≡ length lines - (length (drop start lines) - length line - 1) → drop place lines ≡ rest
 left_due lines line rest start place e p =
-    let long = ap length e ∙ length-append line (10 ∷ rest) in
-    let here : place ≡ start + (length line + 1) = omega (arith, p, long, length-drop start lines) in
-    let behind : drop (length line + 1) (line ++ 10 ∷ rest) ≡ rest =
-    ap (drop (length line + 1)) (sym (append_assoc line (10 ∷ []) rest))
-    ∙ (ap (λ n. drop n ((line ++ 10 ∷ []) ++ rest)) (sym (length-append line (10 ∷ [])))
-    ∙ drop-append_seam (line ++ 10 ∷ []) rest) in
-    ap (λ n. drop n lines) here ∙ (sym (drop-drop (length line + 1) start lines) ∙ (ap (drop (length line + 1)) e
-    ∙ behind))
+    search (arith, length-append line (10 ∷ rest), length-drop start lines, append_assoc line (10 ∷ []) rest,
+    length-append line (10 ∷ []), drop-append_seam (line ++ 10 ∷ []) rest, drop-drop (length line + 1) start lines)
 
 -- a judge that keeps other starts stands as well
 pub stands_with : {A : Type 0} (c : Settings) (log : Log) (old new : Judge A)
@@ -324,8 +240,7 @@ stands_held c log judge s = held_of c (marked log) judge.controller (due judge) 
 
 pub ahead_held : {A : Type 0} (c : Settings) (log : Log) (line : List ℕ) (judge : Judge A) → IsAhead c log line judge
     → IsHeld c log judge
-ahead_held c log line judge s =
-    held_of c (marked log) judge.controller (due judge) (owed judge) (told (line ++ 10 ∷ [])) s.counted.stood
+ahead_held c log line judge s = grind (arith, held_of)
 
 -- a line that is the whole has at most as many bytes
 pub short_whole : (bytes front : List ℕ) → bytes ≡ front ++ 10 ∷ [] → length bytes ≤ 108 → HasShortLine bytes
@@ -335,28 +250,13 @@ short_whole bytes front e l = (front, ([], e), omega (arith, l, ap length e, len
 pub stepped_short : (r : Result (Unit {0}) OutOfMemory) (old mid new : Reported) (report : Report)
     → OnOk r (new ≡ with_entry mid (entries.Stepped report)) → OnOk r (length (step_line report) ≤ 108)
     → mid ≡ record old { lines = [] } → OnOk r (HasShortLine new.lines)
-stepped_short (Ok x) old mid new report value short m =
-    let e : new.lines ≡ step_line report =
-    ap (λ (q : Reported). q.lines) value ∙ ap (λ (q : Reported). q.lines ++ step_line report) m in
-    let f = step_ends report in
-    short_whole new.lines f.0 (e ∙ f.1) (subst (λ bs. length bs ≤ 108) (sym e) short)
+stepped_short (Ok x) old mid new report value short m = search (arith, step_ends report, short_whole)
 stepped_short (Err x) old mid new report value short m = tt
 
 pub right_step : {A : Type 0} (c : Settings) (log : Log) (name : Option Named) (old new : Judge A) → IsHeld c log old
     → due old ≡ [] → 0 < old.owed → Came name old new (events.Step old.block) → new.owed ≡ old.owed - 1
     → new.block ≡ old.block → IsHeld c log new
-right_step {A} c log name old new s none some came w b =
-    let n = new.owed in
-    let k = old.block in
-    let more : old.owed ≡ suc n = omega (arith, some, w) in
-    let before : Held c (marked log) old.controller [] (events.Step k ∷ replicate n (events.Step k)) =
-    subst (λ i. Held c (marked log) old.controller [] (replicate i (events.Step k))) more
-    (subst (λ bs. Held c (marked log) old.controller bs (owed old)) none s) in
-    let after = step_held c (marked log) old.controller new.controller k (replicate n (events.Step k)) name came.entry
-    before came.answers in
-    subst (λ bs. Held c (marked log) new.controller bs (owed new)) (sym came.due)
-    (subst (λ j. Held c (marked log) new.controller (entry_lines came.entry) (replicate n (events.Step j)))
-    (sym b) after)
+right_step {A} c log name old new s none some came w b = search (arith, step_held)
 
 -- ---- the whole
 
@@ -377,14 +277,11 @@ stands_legal c log judge s q =
 
 pub stands_settings : {A : Type 0} (c : Settings) (log : Log) (judge : Judge A) → Stands c log judge
     → judge.controller.settings ≡ c
-stands_settings c log judge s =
-    let stood = s.counted.stood in
-    (follow c stood.begun (run_of stood) judge.controller stood.valid stood.led).settings
+stands_settings c log judge s = search (arith, follow)
 
 pub held_settings : {A : Type 0} (c : Settings) (log : Log) (judge : Judge A) → IsHeld c log judge
     → IsValid c × (judge.controller.settings ≡ c)
-held_settings c log judge s =
-    (s.valid, (follow c s.begun (whole s.parts ++ s.now) judge.controller s.valid s.led).settings)
+held_settings c log judge s = search (arith, follow c s.begun (whole s.parts ++ s.now) judge.controller s.valid s.led)
 
 pub stands_not : {A : Type 0} (c : Settings) (log : Log) (judge : Judge A) → Stands c log judge → ¬ (IsSettled judge)
     → ¬ (IsLegalLog c log.marks)

@@ -1,5 +1,5 @@
 -- How a judge stands after one more line, with the totals so far.
-use Rattle.std.proofs.Common.{◌≡◌, ℕ, false, List, [], ◌∷◌, ◌++◌, sym, ◌∙◌, subst, append_assoc, append-nil}
+use Rattle.std.proofs.Common.{◌≡◌, ℕ, false, List, [], ◌∷◌, ◌++◌, sym, ◌∙◌, subst, append_assoc, append-nil, arith}
 use Rattle.std.specs.Prelude.{Option}
 use Rattle.mscp_events.specs.declared.block.Block.{Block}
 use Rattle.mscp_events.specs.declared.event.Event.{Event}
@@ -89,5 +89,4 @@ event_counted c marks h h' name event entry old new o s a adds = record {
 pub finished_run : (c : Settings) (log : Log) (h : Holdings Wanted) (s : Stood c (marked log) h [] [] [])
     → run_of s ≡ whole (is_legal_log c log.marks (finished c (marked log) h s)).0
 unfolding finished
-finished_run c log h s =
-    sym (whole_more s.parts s.now) ∙ legal_run c log.marks (finished c (marked log) h s)
+finished_run c log h s = grind (arith, whole_more, legal_run, finished)

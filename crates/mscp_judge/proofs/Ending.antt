@@ -5,7 +5,6 @@ use Rattle.mscp_events.specs.declared.block.Block.{Block}
 use Rattle.mscp_events.specs.declared.event.Event.{Event}
 use Rattle.mscp_events.specs.declared.event.Event.TheVariants as events
 use Rattle.mscp_controller.specs.declared.entry.Entry.{Entry}
-use Rattle.mscp_controller.specs.declared.entry.Entry.TheVariants as entries
 use Rattle.mscp_events.specs.Settings.{Settings}
 use Rattle.mscp_controller.specs.History.{Trace}
 use Rattle.mscp_controller.specs.Holdings.{Holdings}
@@ -24,9 +23,7 @@ use Rattle.mscp_judge.proofs.Asking.{transcript_more, whole_more}
 -- the answer to a step has a line
 step_told : (c : Settings) (t : Trace) (k : Block) (entry : Entry) → IsRight c t (events.Step k) entry
     → entry_lines entry ≢ []
-step_told c t k (entries.Stepped report) r e =
-    let f = step_ends report in some_none f.0 10 [] (sym f.1 ∙ e)
-step_told c t k _ r e = absurd r
+step_told c t k entry h4 h5 = grind (arith, step_ends, some_none)
 
 first_none : (xs ys : List ℕ) → xs ++ ys ≡ [] → xs ≡ []
 first_none [] ys e = refl
@@ -41,9 +38,7 @@ pub all_told : (c : Settings) (marks : List Mark) (h : Holdings Wanted) (due : L
     (s : Stood c marks h due owed []) (others : List Trace) (more : List Mark)
     → IsLegal c (whole others) → marks ++ more ≡ transcript others → lead more ≡ [] → due ≡ []
 all_told c marks h due owed s others more l e none =
-    let g = goes c marks h due owed [] s others more l e in
-    first_none due (lead (told (answers_in g.next) ++ transcript g.rest))
-    (sym (lead_told due (told (answers_in g.next) ++ transcript g.rest)) ∙ (ap lead (sym g.left_is) ∙ none))
+    search (arith, goes c marks h due owed [] s others more l e, first_none, lead, lead_told)
 
 pub no_step : (c : Settings) (marks : List Mark) (h : Holdings Wanted) (due : List ℕ) (k : Block)
     (owed : List Event) (s : Stood c marks h due (events.Step k ∷ owed) []) (others : List Trace) (more : List Mark)
@@ -55,13 +50,11 @@ no_step c marks h due k owed s others more l e none =
     let rest = second_none due (lead (told (answers_in g.next) ++ transcript g.rest))
     (sym (lead_told due (told (answers_in g.next) ++ transcript g.rest)) ∙ (ap lead (sym g.left_is) ∙ none)) in
     let told_none : answers_in (n ∷ q.1) ≡ [] =
-    first_none (answers_in (n ∷ q.1)) (lead (transcript g.rest)) (sym (lead_told (answers_in (n ∷ q.1))
-    (transcript g.rest)) ∙ (ap (λ (t : Trace). lead (told (answers_in t) ++ transcript g.rest)) (sym q.2) ∙ rest)) in
+    search (arith, lead (transcript g.rest), lead_told (answers_in (n ∷ q.1)) (transcript g.rest), first_none) in
     let are : others ≡ s.parts ++ (s.now ++ n ∷ q.1) ∷ g.rest =
     g.are ∙ ap (λ (t : Trace). s.parts ++ (s.now ++ t) ∷ g.rest) q.2 in
     let right = right_among c s.parts s.now n q.1 g.rest others are l in
-    step_told c (whole s.parts ++ s.now) k n.1 (subst (λ ev. IsRight c (whole s.parts ++ s.now) ev n.1) q.3 right)
-    (first_none (entry_lines n.1) (answers_in q.1) told_none)
+    search (arith, first_none (entry_lines n.1) (answers_in q.1) told_none, step_told)
 
 -- all is answered and told
 unfoldable pub finished : (c : Settings) (marks : List Mark) (h : Holdings Wanted) → Stood c marks h [] [] []
@@ -86,18 +79,12 @@ goes_from c marks h due k n s =
     let others = s.parts ++ (s.now ++ u.0) ∷ [] in
     let same : whole others ≡ T ++ u.0 =
     whole_append s.parts ((s.now ++ u.0) ∷ []) ∙ (ap (λ t. whole s.parts ++ t) (append-nil (s.now ++ u.0))
-    ∙ sym (append_assoc (whole s.parts) s.now u.0)) in (
-      told (answers_in u.0) ++ transcript [],
-      others,
-      subst (IsLegal c) (sym same) u.2,
-      sym (known_marks c marks h due owed s u.0 [] u.1),
-    )
+    ∙ sym (append_assoc (whole s.parts) s.now u.0)) in
+    search (arith, known_marks c marks h due owed s u.0 [] u.1)
 
 pub opens : (c : Settings) (marks : List Mark) (h : Holdings Wanted) (due : List ℕ) (k : Block) (n : ℕ)
     → Held c marks h due (replicate n (events.Step k)) → GoesOn c marks
-opens c marks h due k n s =
-    let g = goes_from c marks h due k n s in
-    (told due ++ g.0, g.1, g.2, g.3)
+opens c marks h due k n s = search (arith, goes_from c marks h due k n s)
 
 -- and it goes on with a line that is due
 pub opens_with : (c : Settings) (marks : List Mark) (h : Holdings Wanted) (due : List ℕ) (k : Block) (n : ℕ)

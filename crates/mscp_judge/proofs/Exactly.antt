@@ -1,12 +1,12 @@
 -- A log of which there is a legal trace is judged to be legal, and no other.
-use Rattle.std.proofs.Common.{◌≡◌, ℕ, ◌+◌, ◌≤◌, true, false, List, [], ◌∷◌, ◌++◌, length, refl, ap, sym, ◌∙◌, subst, arith, append_assoc, append-nil}
-use Rattle.std.specs.Prelude.{if◌then◌else◌, Result, Ok, Err}
+use Rattle.std.proofs.Common.{◌≡◌, ℕ, ◌+◌, ◌≤◌, List, [], ◌∷◌, ◌++◌, length, ap, sym, ◌∙◌, arith, append_assoc, append-nil}
+use Rattle.std.specs.Prelude.{Result, Ok, Err}
 use Rattle.mscp_events.specs.Settings.{Settings}
 use Rattle.mscp_events.specs.declared.event.Event.{Event}
 use Rattle.mscp_packet.specs.Steps.{◌>>=◌}
 use Rattle.mscp_text.specs.Lines.{line}
 use Rattle.mscp_reader.specs.Lexical.{lines}
-use Rattle.mscp_reader.specs.Grammar.{Place, Begins, HasGone, asked_after, said_at}
+use Rattle.mscp_reader.specs.Grammar.{Place, Begins, HasGone, said_at}
 use Rattle.mscp_reader.specs.Outcome.{headed}
 use Rattle.mscp_reader.specs.declared.fault.Cause.{Cause}
 use Rattle.mscp_reader.specs.declared.fault.ScriptFault.{ScriptFault}
@@ -15,7 +15,7 @@ use Rattle.mscp_reader.specs.declared.fault.ReadFault.TheVariants as faults
 use Rattle.mscp_judge.specs.declared.totals.Totals.{Totals}
 use Rattle.mscp_judge.specs.declared.judging.Verdict.{Verdict}
 use Rattle.mscp_judge.specs.declared.judging.Verdict.TheVariants as verdicts
-use Rattle.mscp_judge.specs.Logs.{Asked, IsLegalLog, Log, Mark, MayGoOn, after_line, after_lines, after_request, after_words, asking, is_answer, nothing, telling, told}
+use Rattle.mscp_judge.specs.Logs.{IsLegalLog, Log, Mark, MayGoOn, after_line, after_lines, after_words, asking, nothing}
 use Rattle.mscp_judge.specs.Judged.{HasLegalTrace, IsLegalVerdict, Judges, JudgesBehind, JudgesLog}
 
 -- ---- marks are added, and none is lost
@@ -25,21 +25,13 @@ Grown log (Ok next) = (more : List Mark) × (next.marks ≡ log.marks ++ more)
 Grown log (Err cause) = Unit {0}
 
 grown_request : (log : Log) (r : Result (List Event) Cause) → Grown log (r >>= λ new. Ok (asking log new))
-grown_request log (Ok new) = (Asked new ∷ [], refl)
-grown_request log (Err cause) = tt
+grown_request log r = grind arith
 
 grown_words : (log : Log) (bytes : List ℕ) (words : List (List ℕ)) → Grown log (after_words log bytes words)
-grown_words log bytes [] = ([], sym (append-nil log.marks))
-grown_words log bytes (word ∷ rest) =
-    elim (is_answer (word ∷ rest)) as (λ b. Grown log (if b then Ok (telling log (line bytes))
-    else after_request log (word ∷ rest))) [
-      | true ↦ (told (line bytes), refl)
-      | false ↦ grown_request log (asked_after (length log.events) (word ∷ rest))
-    ]
+grown_words log bytes words = grind (arith, append-nil, grown_request)
 
 grown_said : (log : Log) (bytes : List ℕ) (r : Result (List (List ℕ)) Cause) → Grown log (r >>= after_words log bytes)
-grown_said log bytes (Ok words) = grown_words log bytes words
-grown_said log bytes (Err cause) = tt
+grown_said log bytes r = grind (arith, grown_words)
 
 grown_line : (n : ℕ) (log : Log) (bytes : List ℕ) → Grown log (after_line n log bytes)
 unfolding after_line
@@ -47,13 +39,7 @@ grown_line n log bytes = grown_said log bytes (said_at n bytes)
 
 grown_on : (log : Log) (n : ℕ) (rest : List (List ℕ)) (r : Result Log Cause) → Grown log r
     → ((next : Log) → Grown next (after_lines n next rest)) → Grown log (r >>= λ next. after_lines n next rest)
-grown_on log n rest (Ok next) g ih = last_too g (after_lines n next rest) (ih next)
-  where
-    last_too : (more : List Mark) × (next.marks ≡ log.marks ++ more) → (r : Result Log Cause) → Grown next r
-        → Grown log r
-    last_too g (Ok last) h = (g.0 ++ h.0, h.1 ∙ (ap (λ ms. ms ++ h.0) g.1 ∙ append_assoc log.marks g.0 h.0))
-    last_too g (Err cause) h = tt
-grown_on log n rest (Err cause) g ih = tt
+grown_on log n rest r h4 h5 = grind (arith, append_assoc)
 
 pub grown_lines : (n : ℕ) (log : Log) (all : List (List ℕ)) → Grown log (after_lines n log all)
 unfolding after_lines
@@ -69,15 +55,12 @@ lines_on : (n : ℕ) (front back : List (List ℕ)) (r : Result Log Cause) (mid 
     → after_lines n next (front ++ back) ≡ after_lines (n + length front) mid back)
     → (r >>= λ next. after_lines n next front) ≡ Ok mid
     → (r >>= λ next. after_lines n next (front ++ back)) ≡ after_lines (n + length front) mid back
-lines_on n front back (Ok next) mid ih e = ih next e
-lines_on n front back (Err cause) mid ih e = cc
+lines_on n front back r mid h5 h6 = grind arith
 
 pub lines_behind : (n : ℕ) (log : Log) (front back : List (List ℕ)) (mid : Log) → after_lines n log front ≡ Ok mid
     → after_lines n log (front ++ back) ≡ after_lines (n + length front) mid back
 unfolding after_lines
-lines_behind n log [] back mid e =
-    let same : log ≡ mid = cc in
-    ap (λ l. after_lines n l back) same ∙ ap (λ k. after_lines k mid back) (omega arith)
+lines_behind n log [] back mid e = search arith
 lines_behind n log (bytes ∷ front) back mid e =
     lines_on (n + 1) front back (after_line (n + 1) log bytes) mid
     (λ next. lines_behind (n + 1) next front back mid) e
@@ -86,8 +69,7 @@ lines_behind n log (bytes ∷ front) back mid e =
 line_first : (n : ℕ) (log : Log) (bytes : List ℕ) (back : List (List ℕ)) (number : ℕ) → number ≡ n + 1
     → after_lines n log (bytes ∷ back) ≡ (after_line number log bytes >>= λ next. after_lines number next back)
 unfolding after_lines
-line_first n log bytes back number e =
-    ap (λ k. after_line k log bytes >>= λ next. after_lines k next back) (sym e)
+line_first n log bytes back number e = search arith
 
 -- ---- the verdict
 
@@ -97,66 +79,45 @@ behind_line : (before : ℕ) (all front : List (List ℕ)) (bytes : List ℕ) (b
     → after_lines before nothing front ≡ Ok mid → after_lines before nothing all ≡ Ok last
     → (after_line number mid bytes >>= λ next. after_lines number next back) ≡ Ok last
 behind_line before all front bytes back mid last number w n r e =
-    sym (line_first (before + length front) mid bytes back number n)
-    ∙ (sym (lines_behind before nothing front (bytes ∷ back) mid r)
-    ∙ (ap (λ ls. after_lines before nothing ls) (sym w) ∙ e))
+    search (arith, line_first (before + length front) mid bytes back number n, lines_behind before nothing front (bytes
+    ∷ back) mid r)
 
 open_at : (c : Settings) (number : ℕ) (next last : Log) (back : List (List ℕ))
     → after_lines number next back ≡ Ok last → IsLegalLog c last.marks → MayGoOn c next.marks
-open_at c number next last back e l =
-    let g = subst (Grown next) e (grown_lines number next back) in (g.0, subst (IsLegalLog c) g.1 l)
+open_at c number next last back e l = search (arith, grown_lines number next back)
 
 one_log : (r : Result Log Cause) (a b : Log) → r ≡ Ok a → r ≡ Ok b → a ≡ b
-one_log (Ok x) a b e f = cc
-one_log (Err cause) a b e f = cc
+one_log r a b h3 h4 = grind arith
 
 no_log : {P : Type 0} (r : Result Log Cause) (f : Log → Result Log Cause) (cause : Cause) (log : Log) → r ≡ Err cause
     → (r >>= f) ≡ Ok log → P
-no_log (Ok x) f cause log e g = cc
-no_log (Err other) f cause log e g = cc
+no_log r f cause log h4 h5 = grind arith
 
 exactly : (c : Settings) (before : ℕ) (all : List (List ℕ)) (log : Log) (result : Result Verdict ReadFault)
     → after_lines before nothing all ≡ Ok log → IsLegalLog c log.marks → Judges c before all result
     → IsLegalVerdict result
-exactly c before all log (Ok (verdicts.Legal totals)) e l j = tt
 exactly c before all log (Ok (verdicts.Wrong number rule starts right)) e l j =
     let b = behind_line before all j.front j.line j.back j.log log number j.whole j.number j.read e in
     let rest = ap (λ r. r >>= λ next. after_lines number next j.back) (sym j.says) ∙ b in
     j.wrong (open_at c number j.next log j.back rest l)
-exactly c before all log (Ok (verdicts.Unanswered right)) e l j =
-    j.wrong (subst (λ (k : Log). IsLegalLog c k.marks) (one_log (after_lines before nothing all) log j.log e j.read) l)
+exactly c before all log (Ok (verdicts.Unanswered right)) e l j = grind (arith, one_log)
 exactly c before all log (Err (faults.Script fault)) e l j =
     let b = behind_line before all j.front j.line j.back j.log log fault.line j.whole j.number j.read e in
     no_log (after_line fault.line j.log j.line) (λ next. after_lines fault.line next j.back) fault.cause log j.wrong b
-exactly c before all log (Err faults.OutOfMemory) e l j = tt
+exactly c before all log result h5 h6 h7 = grind arith
 
 pub legal_is_found : (bytes : List ℕ) (result : Result Verdict ReadFault) → JudgesLog bytes result
     → HasLegalTrace bytes → IsLegalVerdict result
-legal_is_found bytes result j h =
-    exactly h.c h.before h.behind h.log result h.read h.legal
-    (subst (λ r. JudgesBehind r result) h.header (j.small h.small))
+legal_is_found bytes result j h = search (arith, exactly)
 
 -- ---- and no other
 
 only_behind : (totals : Totals) (bytes : List ℕ) → length bytes ≤ 16777216
     → (r : Result (Place × ℕ × List (List ℕ)) ScriptFault) → headed 0 Begins (lines bytes) ≡ r
     → JudgesBehind r (Ok (verdicts.Legal totals)) → HasLegalTrace bytes
-only_behind totals bytes small (Err fault) e j = cc
-only_behind totals bytes small (Ok (HasGone c events, before, behind)) e j = record {
-  c = c;
-  events = events;
-  before = before;
-  behind = behind;
-  log = j.log;
-  small = small;
-  header = e;
-  read = j.read;
-  legal = j.legal;
-}
-only_behind totals bytes small _ e j = absurd j
+only_behind totals bytes small (Ok (HasGone c events, before, behind)) e j = search arith
+only_behind totals bytes h2 r h4 h5 = search arith
 
 pub legal_alone : (bytes : List ℕ) (result : Result Verdict ReadFault) → length bytes ≤ 16777216
     → JudgesLog bytes result → (totals : Totals) → result ≡ Ok (verdicts.Legal totals) → HasLegalTrace bytes
-legal_alone bytes result small j totals e =
-    only_behind totals bytes small (headed 0 Begins (lines bytes)) refl
-    (subst (λ r. JudgesBehind (headed 0 Begins (lines bytes)) r) e (j.small small))
+legal_alone bytes result small j totals e = search (arith, only_behind)

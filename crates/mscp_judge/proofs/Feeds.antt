@@ -1,5 +1,5 @@
 -- Lines that end with a line feed.
-use Rattle.std.proofs.Common.{◌≡◌, ◌≢◌, inl, inr, ℕ, ◌+◌, ◌<◌, List, [], ◌∷◌, ◌++◌, drop, get_or, take, length, refl, ap, sym, ◌∙◌, subst, arith, length-append, append_assoc, append-nil}
+use Rattle.std.proofs.Common.{◌≡◌, ◌≢◌, inl, inr, ℕ, ◌+◌, ◌<◌, List, [], ◌∷◌, ◌++◌, drop, get_or, take, length, refl, ap, sym, ◌∙◌, arith, length-append, append_assoc, append-nil}
 use Rattle.std.specs.Prelude.{codes, Option, Some, None, Result, Ok, Err}
 use Rattle.std.specs.List.{AllByRecursion, flat_map}
 use Rattle.std.specs.Fmt.{decimal}
@@ -36,22 +36,19 @@ some_none xs b ys e = omega (arith, length-append xs (b ∷ ys), ap length e)
 pub first_line : (a X front Y : List ℕ) → NoFeed a → a ++ 10 ∷ X ≡ (front ++ 10 ∷ []) ++ Y
     → BeginsWith (front ++ 10 ∷ []) a
 first_line [] X [] Y n h = ([], refl)
-first_line [] X (f ∷ front) Y n h =
-    (front ++ 10 ∷ [], ap (λ k. k ∷ (front ++ 10 ∷ [])) (sym (heads 10 f X ((front ++ 10 ∷ []) ++ Y) h)))
+first_line [] X (f ∷ front) Y n h = search (arith, heads 10 f X ((front ++ 10 ∷ []) ++ Y) h)
 first_line (b ∷ a) X [] Y n h = absurd (n.0 (heads b 10 (a ++ 10 ∷ X) Y h))
 first_line (b ∷ a) X (f ∷ front) Y n h =
-    let e = heads b f (a ++ 10 ∷ X) ((front ++ 10 ∷ []) ++ Y) h in
-    let r = first_line a X front Y n.1 (tails b f (a ++ 10 ∷ X) ((front ++ 10 ∷ []) ++ Y) h) in
-    (r.0, ap (λ k. k ∷ (front ++ 10 ∷ [])) (sym e) ∙ ap (λ xs. b ∷ xs) r.1)
+    search (arith, heads b f (a ++ 10 ∷ X) ((front ++ 10 ∷ []) ++ Y) h, first_line a X front Y n.1 (tails b f (a ++ 10 ∷
+    X) ((front ++ 10 ∷ []) ++ Y) h), tails b f (a ++ 10 ∷ X) ((front ++ 10 ∷ []) ++ Y) h)
 
 -- A line begins with what has no line feed.
 pub front_of : (a X head Y : List ℕ) → NoFeed head → a ++ 10 ∷ X ≡ head ++ Y → (rest : List ℕ) × (a ≡ head ++ rest)
 front_of a X [] Y n h = (a, refl)
 front_of [] X (f ∷ head) Y n h = absurd (n.0 (sym (heads 10 f X (head ++ Y) h)))
 front_of (b ∷ a) X (f ∷ head) Y n h =
-    let e = heads b f (a ++ 10 ∷ X) (head ++ Y) h in
-    let r = front_of a X head Y n.1 (tails b f (a ++ 10 ∷ X) (head ++ Y) h) in
-    (r.0, ap (λ k. k ∷ a) e ∙ ap (λ xs. f ∷ xs) r.1)
+    search (arith, heads b f (a ++ 10 ∷ X) (head ++ Y) h, front_of a X head Y n.1 (tails b f (a ++ 10 ∷ X) (head ++ Y)
+    h), tails b f (a ++ 10 ∷ X) (head ++ Y) h)
 
 -- What stands behind a line feed ends with one, if the whole does.
 behind_feed : (a rest front : List ℕ) → a ++ 10 ∷ rest ≡ front ++ 10 ∷ [] → EndsLine rest
@@ -62,8 +59,7 @@ behind_feed (b ∷ a) rest (f ∷ front) h =
     behind_feed a rest front (tails b f (a ++ 10 ∷ rest) (front ++ 10 ∷ []) h)
 
 pub ends_behind : (due line rest : List ℕ) → EndsLine due → due ≡ line ++ 10 ∷ rest → EndsLine rest
-ends_behind due line rest (inl e) h = absurd (some_none line 10 rest (sym h ∙ e))
-ends_behind due line rest (inr f) h = behind_feed line rest f.0 (sym h ∙ f.1)
+ends_behind due line rest h3 h4 = grind (arith, some_none, behind_feed)
 
 -- ---- the lines of an entry
 
@@ -75,8 +71,7 @@ behind_word : (word bytes : List ℕ) → Fed bytes → Fed (word ++ bytes)
 behind_word word bytes f = (word ++ f.0, ap (λ xs. word ++ xs) f.1 ∙ sym (append_assoc word f.0 (10 ∷ [])))
 
 ends_both : (xs ys : List ℕ) → EndsLine xs → EndsLine ys → EndsLine (xs ++ ys)
-ends_both xs ys x (inl e) = subst EndsLine (sym (ap (λ zs. xs ++ zs) e ∙ append-nil xs)) x
-ends_both xs ys x (inr f) = inr (behind_word xs ys f)
+ends_both xs ys h2 h3 = grind (arith, append-nil, behind_word)
 
 fed_figure : (shown : Connection × ℕ × ℕ) → Fed (figure_line shown)
 fed_figure shown = behind_word (connection_word shown.0)
@@ -107,9 +102,7 @@ fed_taken None = (codes "none", refl)
 
 pub entry_ends : (entry : Entry) → EndsLine (entry_lines entry)
 entry_ends (entries.Sent via sent) = inr (behind_word (connection_word via) (message_line sent) (fed_message sent))
-entry_ends (entries.Stepped report) = inr (step_ends report)
-entry_ends (entries.Taken via end) = inr (behind_word (connection_word via) (take_line end) (fed_taken end))
-entry_ends (entries.Looked shown) = ends_figures shown.items
+entry_ends entry = grind (arith, step_ends, behind_word, fed_taken, ends_figures)
 
 -- ---- how a line is compared
 
@@ -122,11 +115,7 @@ line_begins bytes line l e f =
 
 pub begins_line : (bytes line : List ℕ) → BeginsWith bytes line
     → (length line < length bytes) × (get_or bytes (length line) 0 ≡ 10) × (take (length line) bytes ≡ line)
-begins_line bytes line b = (
-  omega (arith, ap length b.1, length-append line (10 ∷ b.0)),
-  ap (λ xs. get_or xs (length line) 0) b.1 ∙ get_or-append_seam line 10 b.0 0,
-  ap (take (length line)) b.1 ∙ take-append_seam line (10 ∷ b.0),
-)
+begins_line bytes line b = grind (arith, length-append, get_or-append_seam, take-append_seam)
 
 -- the first line is what stands before the first line feed
 pub first_is : (bytes line : List ℕ) (i : ℕ) → i < length bytes → line ≡ take i bytes → get_or bytes i 0 ≡ 10

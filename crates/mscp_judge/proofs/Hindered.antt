@@ -1,5 +1,5 @@
 -- What keeps a step from serving a command, as a controller and as the history have it.
-use Rattle.std.proofs.Common.{◌≡◌, ◌≢◌, inl, inr, ⊎_elim, ℕ, ◌<◌, ◌≤◌, Bool, true, false, List, [], ◌∷◌, map, take, length, refl, ap, sym, ◌∙◌, subst, arith}
+use Rattle.std.proofs.Common.{◌≡◌, ◌≢◌, inr, ⊎_elim, ℕ, ◌≤◌, Bool, true, false, List, [], ◌∷◌, map, length, refl, ap, sym, ◌∙◌, subst, arith}
 use Rattle.std.specs.Prelude.{All, Contains, filter, find, nat_eq, nat_lt, slice_index_or, Option, Some, None}
 use Rattle.std.specs.List.{AllByRecursion}
 use Rattle.std.proofs.lemmas.Bool.{cases_Bool, eq-eqb, true≢false}
@@ -10,7 +10,7 @@ use Rattle.mscp_queue.specs.declared.name.Name.{Name}
 use Rattle.mscp_queue.specs.declared.why.Holder.{Holder}
 use Rattle.mscp_queue.specs.Figures.{figure_of_name}
 use Rattle.mscp_queue.specs.Names.{same_name}
-use Rattle.mscp_queue.specs.Records.{IsServing, Record, is_in_service, name_of as record_name}
+use Rattle.mscp_queue.specs.Records.{IsServing, Record}
 use Rattle.mscp_queue.specs.Why.{holders_of_name, is_nobody}
 use Rattle.mscp_queue.proofs.Lists.{every_from, every_mapped, every_parts, every_weaker, filter_none, filter_on}
 use Rattle.mscp_queue.proofs.Named.{is_differ, is_same, same_is}
@@ -46,48 +46,28 @@ use Rattle.mscp_judge.proofs.Unique.{some_same}
 
 served_at : (t : Trace) (n : Name) (rs : List Record) → rs ≡ map (held_of t) (waiting t) → IsServing n rs
     → (x : ℕ) × (is_waiting t x ≡ true) × (in_service t x ≡ true) × (name t x ≡ n)
-served_at t n rs e s =
-    let r = subst (IsServing n) e s in
-    let inside : r.0 < length (waiting t) = omega (arith, r.1, length-map (waiting t) (held_of t)) in
-    let own = record_held t r.0 inside in (
-      waiting_at t r.0,
-      waits_at t r.0 inside,
-      ap is_in_service (sym own) ∙ r.2,
-      ap record_name (sym own) ∙ r.3,
-    )
+served_at t n rs e s = search (arith, length-map (waiting t) (held_of t), held_of t, record_held, waiting_at, waits_at)
 
 pub is_own : (c : Settings) (t : Trace) (h : Holdings Wanted) (n : Name) → Follow c t h → IsServing n h.waiting
     → IsStepRule c t (Some n) rules.Service
-is_own c t h n k s =
-    let x = served_at t n h.waiting k.agrees.follows.waits s in
-    (x.0, x.1, inl x.2, ap Some (sym x.3))
+is_own c t h n k s = search (arith, served_at t n h.waiting k.agrees.follows.waits s)
 
 names_same : (wanted : Option Named) (served : Named) → wanted_name wanted ≡ Some (name_of served)
     → wanted ≡ Some served
-names_same None served e = cc
-names_same (Some named) served e =
-    let same = some_same (name_of named) (name_of served) e in
-    λ i. Some (record { connection = (same i).connection; reference = (same i).reference })
+names_same wanted served h2 = grind (arith, some_same)
 
 pub is_another : (c : Settings) (t : Trace) (h : Holdings Wanted) (wanted : Option Named) (served : Named)
     → Follow c t h → IsServing (name_of served) h.waiting → wanted ≢ Some served
     → IsStepRule c t (wanted_name wanted) (rules.InService served)
 is_another c t h wanted served k s differ =
-    let x = served_at t (name_of served) h.waiting k.agrees.follows.waits s in
-    (x.0, x.1, x.2, x.3, λ e. differ (names_same wanted served e))
+    search (arith, served_at t (name_of served) h.waiting k.agrees.follows.waits s, names_same)
 
 -- ---- no command of the name
 
 -- the figure of a name that waits isn't 0
 figured : (c : Settings) (t : Trace) (h : Holdings Wanted) → IsValid c → Follow c t h
     → EachWaiting t (λ x. 1 ≤ figure_of c t (name t x))
-figured c t h v k x w =
-    let p = progress c t v k.legal in
-    let whole = take_all (length t) t (omega arith) in
-    let there : Contains (waiting (take (length t) t)) x = subst (λ u. Contains (waiting u) x) (sym whole) w in
-    subst (λ u. 1 ≤ figure_of c u (name u x)) whole
-    (let own = p.own (length t) (omega arith) x there in
-    let some = (p.positive (length t) (omega arith) x).0 there in omega (arith, own, some))
+figured c t h v k x w = search (arith, progress c t v k.legal, take_all (length t) t (omega arith))
 
 -- ---- a command that is kept back, or may start
 
@@ -101,8 +81,7 @@ idle_held t rs e h =
 
 same_holders : (c : Settings) (t : Trace) (h : Holdings Wanted) (n : Name) → Follow c t h
     → holders_of_name h.settings.budget h.waiting n ≡ holders_of c t n
-same_holders c t h n k =
-    (λ i. holders_of_name (k.settings i).budget (k.agrees.follows.waits i) n) ∙ holders_of_held c t n
+same_holders c t h n k = search (arith, holders_of_held c t n)
 
 -- no command of the name waits
 pub is_nowhere : (c : Settings) (t : Trace) (h : Holdings Wanted) (n : Name) → IsValid c → Follow c t h
@@ -167,14 +146,7 @@ some_first (holder ∷ rest) some = (rest, refl)
 own_holders : (c : Settings) (t : Trace) (h : Holdings Wanted) → Follow c t h
     → AllByRecursion (λ y. holders_of c t (name t y) ≡ holders c t y) (waiting t)
 unfolding holders_of
-own_holders c t h k =
-    every_split (λ y. holders_of c t (name t y) ≡ holders c t y) (waiting t)
-    (λ A y B e.
-    let a = alone t y A B k.agrees.follows.known.steady.apart (cut_of t A y B e) in
-    let q : ℕ → Bool = λ x. same_name (name t x) (name t y) in
-    ap (holders_found c t) (ap (find q) e ∙ find_first q A y B
-    (every_weaker (λ x. name t x ≢ name t y) (λ x. q x ≡ false) (λ x n. is_differ (name t x) (name t y) n) A a.before)
-    (is_same (name t y) (name t y) refl)))
+own_holders c t h k = search (arith, every_split, alone, cut_of, find_first, every_weaker, is_differ, is_same)
 
 pub all_open : (c : Settings) (t : Trace) (h : Holdings Wanted) → Follow c t h → All (λ r. r.done ≡ 0) h.waiting
     → filter (is_open h.settings.budget h.waiting) (names h.settings.budget h.waiting) ≡ starts_in c t
@@ -190,10 +162,7 @@ all_open c t h k idle =
     (λ y. p (named_in t y) ≡ is_startable c t y)
     (λ y e. ap is_nobody (holders_of_held c t (name t y) ∙ e) ∙ sym (startable_unheld c t y now)) W
     (own_holders c t h k) in
-    (λ i. filter (is_open (k.settings i).budget (k.agrees.follows.waits i))
-    (names (k.settings i).budget (k.agrees.follows.waits i)))
-    ∙ (ap (filter p) named_all ∙ (filter_map_of (named_in t) p W
-    ∙ ap (map (named_in t)) (filter_on (λ y. p (named_in t y)) (is_startable c t) W each)))
+    search (arith, filter_map_of (named_in t) p W, filter_on)
 
 pub none_open : (c : Settings) (t : Trace) (h : Holdings Wanted) (n : Name) → Follow c t h → IsServing n h.waiting
     → [] ≡ starts_in c t
@@ -203,8 +172,7 @@ none_open c t h n k s =
     let served : (y : ℕ) → is_startable c t y ≡ true → ⊥ = λ y e.
     let idle = one_in (waiting t) (startable_parts c t y e).idle x.0 (waits_in t x.0 x.1) in
     true≢false (sym x.2 ∙ ap (nat_lt 0) idle) in
-    sym (ap (map (named_in t)) (filter_none (is_startable c t) (waiting t)
-    (every_from (λ y. is_startable c t y ≡ false) (λ y. never y (served y)) (waiting t))))
+    search (arith, filter_none, every_from)
   where
     one_in : (xs : List ℕ) → AllByRecursion (λ z. done t z ≡ 0) xs → (z : ℕ) → Contains xs z → done t z ≡ 0
     one_in xs all z w = All-contains (λ y. done t y ≡ 0) xs z (All-from_recursion (λ y. done t y ≡ 0) xs all) w

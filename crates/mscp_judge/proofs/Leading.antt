@@ -1,5 +1,5 @@
 -- What is held after moments that came one after the other, each with a picker of its own, is that of a legal trace.
-use Rattle.std.proofs.Common.{◌≡◌, [], ◌∷◌, ◌++◌, refl, sym, ◌∙◌, subst, arith, append-nil}
+use Rattle.std.proofs.Common.{◌≡◌, [], ◌∷◌, ◌++◌, refl, sym, subst, arith, append-nil}
 use Rattle.std.specs.Prelude.{None, Option}
 use Rattle.std.proofs.lemmas.List.{append_assoc}
 use Rattle.mscp_events.specs.declared.event.Event.{Event}
@@ -21,8 +21,7 @@ use Rattle.mscp_judge.specs.Standing.{Led, with_picker}
 -- one more moment
 pub led_more : (old mid new : Holdings Wanted) (ms : Trace) (name : Option Named) (e : Event) (n : Entry)
     → Led old ms mid → Answers (IsNamed name) (with_picker mid name) e n new → Led old (ms ++ (e, n) ∷ []) new
-led_more old mid new [] name e n l a =
-    (name, new, subst (λ (h : Holdings Wanted). Answers (IsNamed name) (with_picker h name) e n new) l a, refl)
+led_more old mid new [] name e n l a = search arith
 led_more old mid new (m ∷ ms) name e n l a = (l.0, l.1, l.2, led_more l.1 mid new ms name e n l.3 a)
 
 -- what is known after a legal trace
@@ -47,19 +46,11 @@ pub follow_more : (c : Settings) (t : Trace) (h h' : Holdings Wanted) (name : Op
     (entry : Entry) → IsValid c → Follow c t h → Answers (IsNamed name) (with_picker h name) event entry h'
     → Follow c (t ++ (event, entry) ∷ []) h'
 follow_more c t h h' name event entry v k r =
-    let turn = turn_of c t h h' name event entry v k r in
-    let g : Holdings Wanted = with_picker h name in
-    record {
-      settings = (owner_kept (IsNamed name) g h' event entry r).0 ∙ k.settings;
-      legal = legal_more c t (event, entry) k.legal turn.sends.right;
-      agrees = turn.sends.agrees;
-      unbegun = unbegun_kept (IsNamed name) g h' event entry k.unbegun r;
-    }
+    search (arith, turn_of c t h h' name event entry v k r, owner_kept, legal_more, unbegun_kept)
 
 follow_on : (c : Settings) (t : Trace) (h h' : Holdings Wanted) (ms : Trace) → IsValid c → Follow c t h → Led h ms h'
     → Follow c (t ++ ms) h'
-follow_on c t h h' [] v k l = subst (λ (x : Holdings Wanted). Follow c (t ++ []) x) (sym l)
-    (subst (λ u. Follow c u h) (sym (append-nil t)) k)
+follow_on c t h h' [] v k l = search (arith, append-nil t)
 follow_on c t h h' (m ∷ ms) v k l =
     subst (λ u. Follow c u h') (append_assoc t (m ∷ []) ms)
     (follow_on c (t ++ m ∷ []) l.1 h' ms v (follow_more c t h l.1 l.0 m.0 m.1 v k l.2) l.3)

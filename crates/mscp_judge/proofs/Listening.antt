@@ -1,7 +1,7 @@
 -- What comes of a line of a log, where hosts hear it.
-use Rattle.std.proofs.Common.{◌≡◌, ◌≢◌, ℕ, zero, suc, ◌+◌, ◌<◌, ◌≤◌, Bool, true, false, List, [], ◌∷◌, length, refl, ap, sym, ◌∙◌, arith}
+use Rattle.std.proofs.Common.{◌≡◌, ◌≢◌, ℕ, zero, suc, ◌+◌, ◌<◌, ◌≤◌, Bool, true, false, List, [], ◌∷◌, length, refl, ap, ◌∙◌, arith}
 use Rattle.std.specs.Result.{result_ok}
-use Rattle.std.specs.Prelude.{◌↔◌, nat_lt, if◌then◌else◌, IfOk, Option, Some, None, Result, Ok, Err, replicate}
+use Rattle.std.specs.Prelude.{◌↔◌, if◌then◌else◌, IfOk, Option, Some, None, Result, Ok, Err, replicate}
 use Rattle.mscp_packet.specs.Commands.{IsCommand, command_of}
 use Rattle.mscp_packet.specs.declared.command.Command.{Command}
 use Rattle.mscp_packet.specs.declared.reading.PacketFault.{PacketFault}
@@ -16,9 +16,7 @@ use Rattle.mscp_events.specs.declared.block.Block.{Block}
 use Rattle.mscp_reader.specs.Lexical.{lines}
 use Rattle.mscp_reader.specs.Grammar.{Begins, Place, asked_after, said_at}
 use Rattle.mscp_reader.specs.Outcome.{Fails, headed, in_line}
-use Rattle.mscp_reader.specs.declared.fault.Cause.TheVariants as causes
 use Rattle.mscp_reader.specs.declared.fault.ReadFault.{ReadFault}
-use Rattle.mscp_reader.specs.declared.fault.ReadFault.TheVariants as reads
 use Rattle.mscp_reader.specs.declared.fault.ScriptFault.{ScriptFault}
 use Rattle.mscp_judge.specs.Logs.{is_answer}
 use Rattle.mscp_judge.specs.Heard.{FailsLine, Heard, after_answer, after_line, after_lines, after_request, after_words, asking, command_in, heard_behind, heard_log, hosts_after_all}
@@ -38,8 +36,7 @@ right b c h = grind arith
 
 none_is : (b : List ℕ) (fault : PacketFault) (r : Result Command PacketFault) → r ≡ Err fault
     → ((r ≡ Err sizes.Short) ↔ (length b < 12)) → ((r ≡ Err sizes.Long) ↔ (64 < length b)) → None ≡ command_in b
-none_is b sizes.Short r e s l = short b (s.0 e)
-none_is b sizes.Long r e s l = long b (l.0 e)
+none_is b fault r h3 h4 h5 = grind (arith, short, long)
 
 pub read_in : (b : List ℕ) (r : Result Command PacketFault)
     → ((r ≡ Err sizes.Short) ↔ (length b < 12)) → ((r ≡ Err sizes.Long) ↔ (64 < length b))
@@ -67,43 +64,30 @@ skipped n h bytes ws e none = ap (λ r. r >>= after_words n h) (from_ok n (said_
 pub wrong_words : (n : ℕ) (h : Heard) (bytes : List ℕ) (fault : ScriptFault) → in_line n (said_at n bytes) ≡ Err fault
     → (fault.line ≡ n) × (after_line n h bytes ≡ Err fault.cause)
 unfolding after_line
-wrong_words n h bytes fault e =
-    let p = in_err n (said_at n bytes) fault e in (p.0, ap (λ r. r >>= after_words n h) p.1)
+wrong_words n h bytes fault e = search (arith, in_err n (said_at n bytes) fault e)
 
 worded : (n : ℕ) (h : Heard) (ws : List (List ℕ)) (b : Bool) → is_answer ws ≡ b → ws ≢ []
     → after_words n h ws ≡ (if b then Ok (after_answer n h ws) else after_request h ws)
-worded n h [] b e some = absurd (some refl)
-worded n h (w ∷ ws) b e some =
-    ap (λ x. if x then Ok (after_answer n h (w ∷ ws)) else after_request h (w ∷ ws)) e
+worded n h ws b h4 h5 = grind arith
 
 -- a line that answers
 pub answers : (n : ℕ) (h : Heard) (bytes : List ℕ) (ws : List (List ℕ)) → in_line n (said_at n bytes) ≡ Ok ws
     → ws ≢ [] → is_answer ws ≡ true → after_line n h bytes ≡ Ok (after_answer n h ws)
 unfolding after_line
-answers n h bytes ws e some a =
-    ap (λ r. r >>= after_words n h) (from_ok n (said_at n bytes) ws e) ∙ worded n h ws true a some
+answers n h bytes ws e some a = search (arith, from_ok n (said_at n bytes) ws e, worded n h ws true a some)
 
 -- a line that asks for events, where so many came before
 pub asks : (n count : ℕ) (h : Heard) (bytes : List ℕ) (ws : List (List ℕ)) (new : List Event)
     → length h.events ≡ count → in_line n (said_at n bytes) ≡ Ok ws → ws ≢ [] → is_answer ws ≡ false
     → in_line n (asked_after count ws) ≡ Ok new → after_line n h bytes ≡ Ok (asking h new)
 unfolding after_line
-asks n count h bytes ws new c e some a f =
-    ap (λ r. r >>= after_words n h) (from_ok n (said_at n bytes) ws e)
-    ∙ (worded n h ws false a some
-    ∙ ap (λ r. r >>= λ x. Ok (asking h x)) (ap (λ k. asked_after k ws) c ∙ from_ok n (asked_after count ws) new f))
+asks n count h bytes ws new c e some a f = grind (arith, from_ok, worded)
 
 pub asks_wrong : (n count : ℕ) (h : Heard) (bytes : List ℕ) (ws : List (List ℕ)) (fault : ScriptFault)
     → length h.events ≡ count → in_line n (said_at n bytes) ≡ Ok ws → ws ≢ [] → is_answer ws ≡ false
     → in_line n (asked_after count ws) ≡ Err fault → (fault.line ≡ n) × (after_line n h bytes ≡ Err fault.cause)
 unfolding after_line
-asks_wrong n count h bytes ws fault c e some a f =
-    let p = in_err n (asked_after count ws) fault f in (
-      p.0,
-      ap (λ r. r >>= after_words n h) (from_ok n (said_at n bytes) ws e)
-          ∙ (worded n h ws false a some
-          ∙ ap (λ r. r >>= λ x. Ok (asking h x)) (ap (λ k. asked_after k ws) c ∙ p.1)),
-    )
+asks_wrong n count h bytes ws fault c e some a f = grind (arith, in_err, from_ok, worded)
 
 -- ---- lines
 
@@ -111,19 +95,13 @@ asks_wrong n count h bytes ws fault c e some a f =
 pub lines_more : (n : ℕ) (h next : Heard) (bytes : List ℕ) (rest : List (List ℕ)) (place : ℕ) → place ≡ n + 1
     → after_line place h bytes ≡ Ok next → after_lines n h (bytes ∷ rest) ≡ after_lines place next rest
 unfolding after_lines
-lines_more n h next bytes rest place p e =
-    ap (λ m. in_line m (after_line m h bytes) >>= λ x. after_lines m x rest) (sym p)
-    ∙ ap (λ r. in_line place r >>= λ x. after_lines place x rest) e
+lines_more n h next bytes rest place p e = search arith
 
 -- a line at fault
 pub lines_wrong : (n : ℕ) (h : Heard) (bytes : List ℕ) (rest : List (List ℕ)) (place : ℕ) (fault : ReadFault)
     → place ≡ n + 1 → FailsLine place fault (after_line place h bytes) → Fails fault (after_lines n h (bytes ∷ rest))
 unfolding after_lines
-lines_wrong n h bytes rest place (reads.Script fault) p e =
-    ap (λ m. in_line m (after_line m h bytes) >>= λ x. after_lines m x rest) (sym p)
-    ∙ (ap (λ r. in_line place r >>= λ x. after_lines place x rest) e.1
-    ∙ ap (λ m. Err (record { line = m; cause = fault.cause })) (sym e.0))
-lines_wrong n h bytes rest place reads.OutOfMemory p e = tt
+lines_wrong n h bytes rest place fault h6 h7 = grind arith
 
 -- no line
 pub lines_none : (n : ℕ) (h : Heard) → after_lines n h [] ≡ Ok h
@@ -135,10 +113,4 @@ lines_none n h = refl
 -- a log that isn't too large
 pub log_behind : (bytes : List ℕ) (read : Result (Place × ℕ × List (List ℕ)) ScriptFault) → length bytes ≤ 16777216
     → headed 0 Begins (lines bytes) ≡ read → heard_log bytes ≡ (read >>= heard_behind)
-log_behind bytes read l e = at (nat_lt 16777216 (length bytes)) (grind arith)
-  where
-    at : (b : Bool) → b ≡ false
-        → (if b then Err (record { line = 0; cause = causes.Size }) else headed 0 Begins (lines bytes) >>= heard_behind)
-        ≡ (read >>= heard_behind)
-    at true f = cc
-    at false f = ap (λ r. r >>= heard_behind) e
+log_behind bytes read l e = search arith

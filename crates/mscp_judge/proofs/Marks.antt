@@ -48,10 +48,7 @@ pub asked_parts : (es : List Event) (marks : List Mark) (parts : List Trace) →
     → (p : Trace) × (rest : List Trace) × (parts ≡ p ∷ rest) × (events_in p ≡ es)
     × (marks ≡ told (answers_in p) ++ transcript rest)
 asked_parts es marks [] e = absurd (omega (arith, ap length e))
-asked_parts es marks (p ∷ rest) e =
-    let same : es ≡ events_in p = cc in
-    let left : marks ≡ told (answers_in p) ++ transcript rest = cc in
-    (p, rest, refl, sym same, left)
+asked_parts es marks (p ∷ rest) e = search arith
 
 -- no events, no moments
 pub none_asked : (t : Trace) → events_in t ≡ [] → t ≡ []
@@ -62,10 +59,7 @@ none_asked (m ∷ t) e = absurd (omega (arith, ap length e))
 pub some_asked : (t : Trace) (e : Event) (es : List Event) → events_in t ≡ e ∷ es
     → (m : Moment) × (next : Trace) × (t ≡ m ∷ next) × (m.0 ≡ e) × (events_in next ≡ es)
 some_asked [] e es h = absurd (omega (arith, ap length h))
-some_asked (m ∷ next) e es h =
-    let same : m.0 ≡ e = cc in
-    let left : events_in next ≡ es = cc in
-    (m, next, refl, same, left)
+some_asked (m ∷ next) e es h = search arith
 
 -- a moment of a legal trace is right after those before it
 pub right_there : (c : Settings) (t : Trace) (m : Moment) (u : Trace) → IsLegal c (t ++ m ∷ u) → IsRight c t m.0 m.1
@@ -75,8 +69,7 @@ right_there c t m u l =
     let here : get_or (t ++ m ∷ u) (length t) none ≡ m = get_or-append_seam t m u none in
     let before : take (length t) (t ++ m ∷ u) ≡ t = take-append_seam t (m ∷ u) in
     let right = l (length t) (omega (arith, length-append t (m ∷ u))) in
-    subst (λ s. IsRight c s m.0 m.1) before
-    (subst (λ (n : Moment). IsRight c (take (length t) (t ++ m ∷ u)) n.0 n.1) here right)
+    search arith
 
 -- the same of the parts of one
 pub right_among : (c : Settings) (parts : List Trace) (now : Trace) (m : Moment) (next : Trace)
@@ -101,22 +94,13 @@ goes_on c marks g = (g.0, [] ∷ g.1.0, g.1.1, ap (λ ms. Asked [] ∷ ms) g.1.2
 
 without_first : (c : Settings) (marks : List Mark) (others : List Trace) → IsLegal c (whole others)
     → Asked [] ∷ marks ≡ transcript others → IsLegalLog c marks
-without_first c marks others l e =
-    let p = asked_parts [] marks others e in
-    let none = none_asked p.0 p.3 in
-    let same : others ≡ [] ∷ p.1 = p.2 ∙ ap (λ (q : Trace). q ∷ p.1) none in (
-      p.1,
-      subst (λ ps. IsLegal c (whole ps)) same l,
-      p.4 ∙ ap (λ (q : Trace). told (answers_in q) ++ transcript p.1) none,
-    )
+without_first c marks others l e = search (arith, asked_parts [] marks others e, none_asked)
 
 -- the trace stays the same
 without_first_run : (c : Settings) (marks : List Mark) (others : List Trace) (l : IsLegal c (whole others))
     (e : Asked [] ∷ marks ≡ transcript others) → whole others ≡ whole (without_first c marks others l e).0
 unfolding without_first
-without_first_run c marks others l e =
-    let p = asked_parts [] marks others e in
-    ap whole (p.2 ∙ ap (λ (q : Trace). q ∷ p.1) (none_asked p.0 p.3))
+without_first_run c marks others l e = search (arith, asked_parts [] marks others e, none_asked)
 
 pub may_go_on : (c : Settings) (marks : List Mark) → GoesOn c (Asked [] ∷ marks) → MayGoOn c marks
 may_go_on c marks g = (g.0, without_first c (marks ++ g.0) g.1 g.2 g.3)

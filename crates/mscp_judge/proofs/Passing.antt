@@ -1,18 +1,16 @@
 -- Lines that are passed over.
 use Rattle.std.proofs.Common.{◌≡◌, ℕ, ◌+◌, ◌<◌, ◌≤◌, false, List, [], ◌∷◌, ◌++◌, length, refl, ap, sym, ◌∙◌, subst, arith, true, Bool}
 use Rattle.std.proofs.Common.{append_assoc, append-nil, length-append}
-use Rattle.std.specs.Prelude.{codes, drop, nat_lt, OnOk, Some, Result, Ok, Err}
+use Rattle.std.specs.Prelude.{codes, drop, OnOk, Some, Result, Ok, Err}
 use Rattle.std.specs.List.{AllByRecursion, flat_map}
 use Rattle.std.proofs.lemmas.Bool.Decides.{nat_tests}
 use Rattle.mscp_events.specs.Settings.{Settings}
 use Rattle.mscp_events.specs.declared.event.Event.{Event}
 use Rattle.mscp_events.specs.declared.memory.OutOfMemory.{OutOfMemory}
 use Rattle.mscp_text.specs.Lines.{line}
-use Rattle.mscp_packet.specs.Steps.{◌>>=◌}
-use Rattle.mscp_reader.specs.Grammar.{said_at}
-use Rattle.mscp_reader.specs.Outcome.{asked_next, in_line}
+use Rattle.mscp_reader.specs.Outcome.{asked_next}
 use Rattle.mscp_reader.proofs.PlainLines.{plain_lines}
-use Rattle.mscp_reader.specs.Lexical.{lines, words}
+use Rattle.mscp_reader.specs.Lexical.{lines}
 use Rattle.mscp_judge.specs.declared.judge.Judge.{Judge}
 use Rattle.mscp_judge.specs.Judged.{Passed}
 use Rattle.mscp_judge.specs.Logs.{AreAnswers, IsAnswerLine, Log, after_line, after_lines, asking, telling, told}
@@ -65,58 +63,39 @@ passed_request (Err x) old new what before n count rest left stands next k asks 
 pub passed_more : {A : Type 0} (c : Settings) (log : Log) (before n last : ℕ) (rest mid left : List ℕ)
     (judge new : Judge A) (p : Passed c before log rest n mid judge) → Passed c n p.next mid last left new
     → Passed c before log rest last left new
-passed_more c log before n last rest mid left judge new p q = record {
-  front = p.front ++ q.front;
-  next = q.next;
-  whole = p.whole ∙ (ap (λ ls. p.front ++ ls) q.whole ∙ sym (append_assoc p.front q.front (lines left)));
-  count = omega (arith, p.count, q.count, length-append p.front q.front);
-  read = lines_behind before log p.front q.front p.next p.read
-      ∙ (ap (λ k. after_lines k p.next q.front) (sym p.count) ∙ q.read);
-  stands = q.stands;
-}
+passed_more c log before n last rest mid left judge new p q =
+    search (arith, append_assoc p.front q.front (lines left), length-append p.front q.front, lines_behind before log
+    p.front q.front p.next p.read)
 
 -- ---- answers
 
 -- a line that is an answer is told, whatever was said before
 answer_told : (n : ℕ) (log : Log) (bytes : List ℕ) → n ≤ 1000000 → IsAnswerLine bytes
     → after_line n log bytes ≡ Ok (telling log (line bytes))
-answer_told n log bytes few it =
-    let fits : nat_lt 1000000 n ≡ false = grind (arith, nat_tests) in
-    let says : said_at n bytes ≡ Ok (words bytes) = rw fits it.says in
-    tells n log bytes (words bytes) (ap (in_line n) says) it.answers
+answer_told n log bytes few it = search (arith, nat_tests, tells)
 
 telling_more : (log : Log) (xs ys : List ℕ) → telling (telling log xs) ys ≡ telling log (xs ++ ys)
-telling_more log xs ys =
-    ap (λ ms. record log { marks = ms }) (append_assoc log.marks (told xs) (told ys)
-    ∙ ap (λ ms. log.marks ++ ms) (sym (told_append xs ys)))
+telling_more log xs ys = search (arith, append_assoc log.marks (told xs) (told ys), told_append xs ys)
 
 answers_told : (before : ℕ) (log : Log) (all : List (List ℕ)) → AllByRecursion IsAnswerLine all
     → before + length all ≤ 1000000 → after_lines before log all ≡ Ok (telling log (flat_map line all))
 unfolding after_lines
 answers_told before log [] each few = ap (λ ms. Ok (record log { marks = ms })) (sym (append-nil log.marks))
 answers_told before log (bytes ∷ all) each few =
-    let one = answer_told (before + 1) log bytes (omega (arith, few)) each.0 in
-    ap (λ r. r >>= λ (x : Log). after_lines (before + 1) x all) one
-    ∙ (answers_told (before + 1) (telling log (line bytes)) all each.1 (omega (arith, few))
-    ∙ ap Ok (telling_more log (line bytes) (flat_map line all)))
+    search (arith, answer_told (before + 1) log bytes (omega (arith, few)) each.0, answers_told (before + 1) (telling
+    log (line bytes)) all each.1 (omega (arith, few)), telling_more log (line bytes) (flat_map line all))
 
 answers_ahead : (all : List (List ℕ)) (left : List ℕ) → AllByRecursion IsAnswerLine all
     → lines (flat_map line all ++ left) ≡ all ++ lines left
 answers_ahead [] left each = refl
 answers_ahead (bytes ∷ all) left each =
-    ap lines (append_assoc (line bytes) (flat_map line all) left
-    ∙ append_assoc bytes (10 ∷ []) (flat_map line all ++ left))
-    ∙ (plain_lines bytes (flat_map line all ++ left) each.0.printed ∙ ap (λ ls. bytes ∷ ls)
-    (answers_ahead all left each.1))
+    search (arith, append_assoc (line bytes) (flat_map line all) left, append_assoc bytes (10 ∷ []) (flat_map line all
+    ++ left), plain_lines bytes (flat_map line all ++ left) each.0.printed, answers_ahead all left each.1)
 
 answers_few : (all : List (List ℕ)) → length all ≤ length (flat_map line all)
 answers_few [] = omega arith
-answers_few (bytes ∷ all) = omega (
-  arith,
-  length-append (line bytes) (flat_map line all),
-  length-append bytes (10 ∷ []),
-  answers_few all,
-)
+answers_few (bytes ∷ all) =
+    search (arith, length-append (line bytes) (flat_map line all), length-append bytes (10 ∷ []), answers_few all)
 
 -- so many lines have at least as many bytes
 pub answers_bytes : (bytes : List ℕ) (count : ℕ) → AreAnswers bytes count → count ≤ length bytes
@@ -126,24 +105,16 @@ answers_bytes bytes count a = omega (arith, ap length a.whole, a.many, answers_f
 pub passed_answers : {A : Type 0} (c : Settings) (log : Log) (before n count : ℕ) (rest left bytes : List ℕ)
     (judge : Judge A) → AreAnswers bytes count → rest ≡ bytes ++ left → n ≡ before + count → n ≤ 1000000
     → Stands c (telling log bytes) judge → Passed c before log rest n left judge
-passed_answers c log before n count rest left bytes judge a is number few stands = record {
-  front = a.all;
-  next = telling log bytes;
-  whole = ap lines (is ∙ ap (λ bs. bs ++ left) a.whole) ∙ answers_ahead a.all left a.each;
-  count = omega (arith, number, a.many);
-  read = answers_told before log a.all a.each (omega (arith, number, few, a.many))
-      ∙ ap (λ bs. Ok (telling log bs)) (sym a.whole);
-  stands = stands;
-}
+passed_answers c log before n count rest left bytes judge a is number few stands =
+    grind (arith, answers_ahead, answers_told)
 
 -- the line of an idle step is told
 pub passed_idle : {A : Type 0} (c : Settings) (log : Log) (before n : ℕ) (rest left : List ℕ) (judge : Judge A)
     → rest ≡ codes "idle\n" ++ left → n ≡ before + 1 → before < 1000000 → Stands c (telling log (codes "idle\n")) judge
     → Passed c before log rest n left judge
 passed_idle c log before n rest left judge is number few stands =
-    passed_answers c log before n 1 rest left (codes "idle\n") judge
-    (record { all = codes "idle" ∷ []; whole = refl; many = refl; each = (idle_answers, tt) }) is number
-    (omega (arith, number, few)) stands
+    search (arith, passed_answers c log before n 1 rest left (codes "idle\n") judge (record { all = codes "idle" ∷ [];
+    whole = refl; many = refl; each = (idle_answers, tt) }) is number (omega (arith, number, few)) stands, idle_answers)
 
 -- what was due is told, if it stands next; or else it stays
 pub passed_cut : {A : Type 0} (c : Settings) (log : Log) (before n count : ℕ) (rest left : List ℕ) (old new : Judge A)

@@ -1,5 +1,5 @@
 -- Bytes that are printed: the digits of numbers, also of those that no type holds, and of the bytes of an end.
-use Rattle.std.proofs.Common.{◌≡◌, ◌==◌, ℕ, zero, suc, ◌+◌, ◌*◌, ◌/◌, ◌%◌, ◌<◌, ◌≤◌, true, false, cond}
+use Rattle.std.proofs.Common.{◌≡◌, ◌==◌, ℕ, zero, suc, ◌+◌, ◌*◌, ◌/◌, ◌%◌, ◌<◌, ◌≤◌, true, false, cond, arith}
 use Rattle.std.proofs.Common.{List, [], ◌∷◌, ◌++◌, length, refl, sym, subst, arith}
 use Rattle.std.specs.Prelude.{find, if◌then◌else◌, nat_eq, nat_lt, replicate, IfSome, Option, Some, None, slice_index}
 use Rattle.std.specs.Fmt.{decimal, digit_glyph, digits, digits_onto}
@@ -32,9 +32,7 @@ both_printed (x ∷ xs) ys p q =
     and_from _ _ k.0 (both_printed xs ys k.1 q)
 
 glyph_printed : (n : ℕ) → is_printed (digit_glyph false (n % 10)) ≡ true
-glyph_printed n =
-    let small : n % 10 < 10 = omega arith in
-    grind (arith, nat_tests, small)
+glyph_printed n = search (arith, nat_tests)
 
 -- the digits of a number, also of one that has more than any type holds
 digits_printed : (k n : ℕ) (acc : List ℕ) → AllPrinted acc → AllPrinted (digits_onto k 10 false n acc)
@@ -88,8 +86,7 @@ both_bytes : (xs ys : List ℕ) → AllBytes xs → AllBytes ys → AllBytes (xs
 both_bytes xs ys p q = every_append (λ b. b < 256) xs ys p q
 
 low_byte : (i n : ℕ) → byte_at i n < 256
-low_byte zero n = omega arith
-low_byte (suc i) n = omega arith
+low_byte i n = grind arith
 
 low_bytes : (i k n : ℕ) → AllBytes (bytes_low_first i k n)
 low_bytes i zero n = tt
@@ -110,41 +107,17 @@ both_zeros : (k : ℕ) (rest : List ℕ) → AllBytes rest → AllBytes (replica
 both_zeros k rest small = both_bytes (replicate k 0) rest (zeros k) small
 
 unit_small : (id media : ℕ) → AllBytes (unit_bytes id media)
-unit_small id media =
-    let third : List ℕ = little_bytes 4 media ++ replicate 4 0 in
-    let second : List ℕ = little_bytes 8 id ++ third in
-    both_zeros 8 second (both_little 8 id third (both_little 4 media (replicate 4 0) (zeros 4)))
+unit_small id media = search (arith, both_little 4 media (replicate 4 0) (zeros 4), zeros 4, both_zeros)
 
 body_small : (body : EndBody) → AllBytes (body_bytes body)
-body_small bodies.Bare = tt
-body_small (bodies.Abort other) = little 4 other
-body_small (bodies.Status other figure) = both_little 4 other (little_bytes 4 figure) (little 4 figure)
 body_small (bodies.UnitStatus id media track group cylinder) =
-    let third : List ℕ = little_bytes 2 cylinder ++ replicate 6 0 in
-    let second : List ℕ = little_bytes 2 group ++ third in
-    let first : List ℕ = little_bytes 2 track ++ second in
-    both_bytes (unit_bytes id media) first (unit_small id media)
-    (both_little 2 track second (both_little 2 group third (both_little 2 cylinder (replicate 6 0) (zeros 6))))
-body_small (bodies.Controller timeout id) =
-    let third : List ℕ = little_bytes 8 id in
-    let second : List ℕ = replicate 2 0 ++ third in
-    let first : List ℕ = little_bytes 2 timeout ++ second in
-    both_zeros 4 first (both_little 2 timeout second (both_zeros 2 third (little 8 id)))
+    search (arith, unit_small id media, both_little 2 cylinder (replicate 6 0) (zeros 6), zeros 6, both_bytes)
 body_small (bodies.Online id media size serial) =
-    let second : List ℕ = little_bytes 4 serial in
-    let first : List ℕ = little_bytes 4 size ++ second in
-    both_bytes (unit_bytes id media) first (unit_small id media) (both_little 4 size second (little 4 serial))
-body_small (bodies.Moved count) = both_little 4 count (replicate 16 0) (zeros 16)
+    search (arith, unit_small id media, little 4 serial, both_bytes, both_little)
+body_small body = search (arith, little, both_little, both_zeros, zeros)
 
 end_small : (e : End) → e.code < 256 → AllBytes (end_bytes e)
-end_small e small =
-    let status : List ℕ = little_bytes 2 e.status ++ body_bytes e.body in
-    let flags : List ℕ = (0 ∷ []) ++ status in
-    let code : List ℕ = (e.code ∷ []) ++ flags in
-    let second : List ℕ = replicate 2 0 ++ code in
-    let first : List ℕ = little_bytes 2 e.unit ++ second in
-    both_little 4 e.reference first (both_little 2 e.unit second (both_zeros 2 code
-    (small, (omega arith, both_little 2 e.status (body_bytes e.body) (body_small e.body)))))
+end_small e small = grind (arith, both_little, body_small, both_zeros)
 
 -- the bytes of an end that is taken
 abbrev pub AreTaken : Option (ArrayVec ℕ) → Type 0
@@ -162,10 +135,9 @@ taken_are (Some e) end is reads =
 -- ---- hexadecimal digits
 
 printed_at : (xs : List ℕ) (i : ℕ) → AllPrinted xs → i < length xs → is_printed (slice_index xs i) ≡ true
-printed_at [] i p l = absurd (omega (arith, l))
-printed_at (x ∷ xs) zero p l = (and_parts (is_printed x) (list_all is_printed xs) p).0
 printed_at (x ∷ xs) (suc i) p l =
     printed_at xs i (and_parts (is_printed x) (list_all is_printed xs) p).1 (omega (arith, l))
+printed_at xs i h2 h3 = grind (arith, and_parts)
 
 pub encoded_printed : (bytes : List ℕ) → AllBytes bytes → AllPrinted (encode_lower bytes)
 unfolding encode_with

@@ -1,15 +1,14 @@
 -- The lines of a log, read one by one.
-use Rattle.std.proofs.Common.{◌≡◌, ◌≢◌, ℕ, ◌+◌, Bool, true, false, List, [], ◌∷◌, ◌++◌, length, refl, ap, sym, ◌∙◌, arith}
-use Rattle.std.specs.Prelude.{nat_lt, if◌then◌else◌, Result, Ok, Err}
+use Rattle.std.proofs.Common.{◌≡◌, ◌≢◌, ℕ, ◌+◌, Bool, true, false, List, [], ◌∷◌, ◌++◌, length, ap, sym, ◌∙◌, arith}
+use Rattle.std.specs.Prelude.{if◌then◌else◌, Result, Ok, Err}
 use Rattle.std.specs.List.{list_all}
 use Rattle.std.proofs.lemmas.Bool.{true≢false}
 use Rattle.mscp_events.specs.declared.event.Event.{Event}
 use Rattle.mscp_packet.specs.Steps.{◌>>=◌}
-use Rattle.mscp_reader.specs.Lexical.{is_comment, is_printed, said, words}
+use Rattle.mscp_reader.specs.Lexical.{is_printed, said, words}
 use Rattle.mscp_reader.specs.Grammar.{asked_after, said_at}
 use Rattle.mscp_reader.specs.Outcome.{in_line}
 use Rattle.mscp_reader.specs.declared.fault.Cause.{Cause}
-use Rattle.mscp_reader.specs.declared.fault.Cause.TheVariants as causes
 use Rattle.mscp_reader.specs.declared.fault.ScriptFault.{ScriptFault}
 use Rattle.mscp_reader.proofs.Outcomes.{from_ok}
 use Rattle.mscp_text.specs.Lines.{line}
@@ -18,20 +17,14 @@ use Rattle.mscp_judge.specs.Logs.{Log, after_line, after_lines, after_request, a
 -- both steps gave a value
 pub bound : {A B E : Type 0} (r : Result A E) (f : A → Result B E) (y : B) → (r >>= f) ≡ Ok y
     → (x : A) × (r ≡ Ok x) × (f x ≡ Ok y)
-bound (Ok x) f y e = (x, refl, e)
-bound (Err fault) f y e = cc
+bound r f y h3 = grind arith
 
 -- one more line
 pub lines_more : (before : ℕ) (log : Log) (front : List (List ℕ)) (bytes : List ℕ) (next last : Log) (place : ℕ)
     → after_lines before log front ≡ Ok next → place ≡ before + length front + 1
     → after_line place next bytes ≡ Ok last → after_lines before log (front ++ bytes ∷ []) ≡ Ok last
 unfolding after_lines
-lines_more before log [] bytes next last place e p f =
-    let same : log ≡ next = cc in
-    let here : place ≡ before + 1 = omega (arith, p) in
-    ap (λ r. r >>= λ (x : Log). after_lines (before + 1) x [])
-    (ap (λ (x : Log). after_line (before + 1) x bytes) same
-    ∙ (ap (λ n. after_line n next bytes) (sym here) ∙ f))
+lines_more before log [] bytes next last place e p f = search arith
 lines_more before log (first ∷ front) bytes next last place e p f =
     let k = bound (after_line (before + 1) log first) (λ x. after_lines (before + 1) x front) next e in
     ap (λ r. r >>= λ (x : Log). after_lines (before + 1) x (front ++ bytes ∷ [])) k.1
@@ -43,39 +36,15 @@ lines_more before log (first ∷ front) bytes next last place e p f =
 said_words : (bytes : List ℕ) (ws : List (List ℕ)) → said bytes ≡ Ok ws → ws ≢ []
     → (ws ≡ words bytes) × (list_all is_printed bytes ≡ true)
 unfolding said
-said_words bytes ws e some =
-    let P : Type 0 = (ws ≡ words bytes) × (list_all is_printed bytes ≡ true) in
-    let long : (a : Bool) → nat_lt 200 (length bytes) ≡ a → (b : Bool) → is_comment bytes ≡ b → (d : Bool)
-    → list_all is_printed bytes ≡ d
-    → (if a then Err causes.Long else (if b then Ok [] else (if d then Ok (words bytes) else Err causes.Byte))) ≡ Ok ws
-    → P = cases in
-    long (nat_lt 200 (length bytes)) refl (is_comment bytes) refl (list_all is_printed bytes) refl e
-  where
-    cases : (a : Bool) → nat_lt 200 (length bytes) ≡ a → (b : Bool) → is_comment bytes ≡ b → (d : Bool)
-        → list_all is_printed bytes ≡ d
-        → (if a then Err causes.Long else (if b then Ok [] else (if d then Ok (words bytes) else Err causes.Byte)))
-        ≡ Ok ws → (ws ≡ words bytes) × (list_all is_printed bytes ≡ true)
-    cases true p b q d r f = cc
-    cases false p true q d r f = let none : [] ≡ ws = cc in absurd (some (sym none))
-    cases false p false q true r f = let same : words bytes ≡ ws = cc in (sym same, r)
-    cases false p false q false r f = cc
+said_words bytes ws e some = search arith
 
 pub in_err : {A : Type 0} (n : ℕ) (r : Result A Cause) (fault : ScriptFault) → in_line n r ≡ Err fault
     → (fault.line ≡ n) × (r ≡ Err fault.cause)
-in_err n (Ok y) fault e = cc
-in_err n (Err cause) fault e =
-    let made : ScriptFault = record { line = n; cause = cause } in
-    let same : made ≡ fault = cc in
-    (sym (ap (λ (f : ScriptFault). f.line) same), ap (λ (f : ScriptFault). Err f.cause) same)
+in_err n r fault h3 = grind arith
 
 pub says_words : (n : ℕ) (bytes : List ℕ) (ws : List (List ℕ)) → in_line n (said_at n bytes) ≡ Ok ws → ws ≢ []
     → (ws ≡ words bytes) × (list_all is_printed bytes ≡ true)
-says_words n bytes ws e some = at (nat_lt 1000000 n) (from_ok n (said_at n bytes) ws e)
-  where
-    at : (b : Bool) → (if b then Err causes.Lines else said bytes) ≡ Ok ws
-        → (ws ≡ words bytes) × (list_all is_printed bytes ≡ true)
-    at true f = cc
-    at false f = said_words bytes ws f some
+says_words n bytes ws e some = grind (arith, from_ok, said_words)
 
 -- a line that is skipped
 pub skipped : (n : ℕ) (log : Log) (bytes : List ℕ) (ws : List (List ℕ)) → in_line n (said_at n bytes) ≡ Ok ws
@@ -87,14 +56,11 @@ skipped n log bytes ws e none = ap (λ r. r >>= after_words log bytes) (from_ok 
 pub wrong_words : (n : ℕ) (log : Log) (bytes : List ℕ) (fault : ScriptFault) → in_line n (said_at n bytes) ≡ Err fault
     → (fault.line ≡ n) × (after_line n log bytes ≡ Err fault.cause)
 unfolding after_line
-wrong_words n log bytes fault e =
-    let p = in_err n (said_at n bytes) fault e in (p.0, ap (λ r. r >>= after_words log bytes) p.1)
+wrong_words n log bytes fault e = search (arith, in_err n (said_at n bytes) fault e)
 
 worded : (log : Log) (bytes : List ℕ) (ws : List (List ℕ)) (b : Bool) → is_answer ws ≡ b → ws ≢ []
     → after_words log bytes ws ≡ (if b then Ok (telling log (line bytes)) else after_request log ws)
-worded log bytes [] b e some = absurd (some refl)
-worded log bytes (w ∷ ws) b e some =
-    ap (λ x. if x then Ok (telling log (line bytes)) else after_request log (w ∷ ws)) e
+worded log bytes ws b h4 h5 = grind arith
 
 -- what tells of this is false, so it isn't so
 pub unless : {P : Type 0} (b : Bool) → (P → b ≡ true) → b ≡ false → ¬ P
@@ -108,8 +74,7 @@ answer_some ws a = λ e. true≢false (sym a ∙ ap is_answer e)
 pub tells : (n : ℕ) (log : Log) (bytes : List ℕ) (ws : List (List ℕ)) → in_line n (said_at n bytes) ≡ Ok ws
     → is_answer ws ≡ true → after_line n log bytes ≡ Ok (telling log (line bytes))
 unfolding after_line
-tells n log bytes ws e a = ap (λ r. r >>= after_words log bytes) (from_ok n (said_at n bytes) ws e)
-    ∙ worded log bytes ws true a (answer_some ws a)
+tells n log bytes ws e a = grind (arith, from_ok, worded, answer_some)
 
 -- ---- a line that asks, where so many events came before
 
@@ -117,19 +82,10 @@ pub asks : (n count : ℕ) (log : Log) (bytes : List ℕ) (ws : List (List ℕ))
     → length log.events ≡ count → in_line n (said_at n bytes) ≡ Ok ws → ws ≢ [] → is_answer ws ≡ false
     → in_line n (asked_after count ws) ≡ Ok new → after_line n log bytes ≡ Ok (asking log new)
 unfolding after_line
-asks n count log bytes ws new c e some a f =
-    ap (λ r. r >>= after_words log bytes) (from_ok n (said_at n bytes) ws e)
-    ∙ (worded log bytes ws false a some
-    ∙ ap (λ r. r >>= λ x. Ok (asking log x)) (ap (λ k. asked_after k ws) c ∙ from_ok n (asked_after count ws) new f))
+asks n count log bytes ws new c e some a f = grind (arith, from_ok, worded)
 
 pub asks_wrong : (n count : ℕ) (log : Log) (bytes : List ℕ) (ws : List (List ℕ)) (fault : ScriptFault)
     → length log.events ≡ count → in_line n (said_at n bytes) ≡ Ok ws → ws ≢ [] → is_answer ws ≡ false
     → in_line n (asked_after count ws) ≡ Err fault → (fault.line ≡ n) × (after_line n log bytes ≡ Err fault.cause)
 unfolding after_line
-asks_wrong n count log bytes ws fault c e some a f =
-    let p = in_err n (asked_after count ws) fault f in (
-      p.0,
-      ap (λ r. r >>= after_words log bytes) (from_ok n (said_at n bytes) ws e)
-          ∙ (worded log bytes ws false a some
-          ∙ ap (λ r. r >>= λ x. Ok (asking log x)) (ap (λ k. asked_after k ws) c ∙ p.1)),
-    )
+asks_wrong n count log bytes ws fault c e some a f = grind (arith, in_err, from_ok, worded)

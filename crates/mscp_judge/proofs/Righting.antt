@@ -64,8 +64,7 @@ first_kept p P (y ∷ ys) x later h e =
 first_starts : (c : Settings) (t : Trace) (x : ℕ) (later : List ℕ) → startable c t ≡ x ∷ later
     → (is_waiting t x ≡ true) × (is_startable c t x ≡ true)
 unfolding startable
-first_starts c t x later e =
-    first_kept (is_startable c t) (λ y. is_waiting t y ≡ true) (waiting t) x later (waiting_waits t) e
+first_starts c t x later e = search (arith, waiting_waits t, first_kept)
 
 -- ---- whom a step serves
 
@@ -108,21 +107,15 @@ service_line c t k wanted s y text known v picked l = record {
 -- a step is idle where nothing waits
 idle_line : (c : Settings) (t : Trace) (k : Block) (wanted : Option Named) (text : List ℕ) → waiting t ≡ []
     → line text ≡ step_line Idle → IsStepLine c t k wanted text
-idle_line c t k wanted text none l = record {
-  idle = λ e. append_cancel_right text (codes "idle") (10 ∷ []) l;
-  served = λ x w served. absurd (nobody_waits t x none w);
-  named = λ x w may names. absurd (nobody_waits t x none w);
-  oldest = λ x later are other. absurd (nobody_waits t x none (first_starts c t x later are).0);
-}
+idle_line c t k wanted text none l =
+    search (arith, append_cancel_right text (codes "idle") (10 ∷ []) l, nobody_waits, first_starts)
 
 report_line : (c : Settings) (t : Trace) (k : Block) (wanted : Option Named) (report : Report) (text : List ℕ)
     → Known c t → IsRight c t (events.Step k) (entries.Stepped report)
     → WhenStarted (λ s. IsPick c (IsNamed wanted) t (service_name s)) (service_in (entries.Stepped report))
     → line text ≡ step_line report → IsStepLine c t k wanted text
 report_line c t k wanted Idle text known right picked l = idle_line c t k wanted text right l
-report_line c t k wanted (Served a b d e f g h) text known right picked l =
-    let s : Service = record { connection = a; reference = b; unit = d; lbn = e; started = f; seek = g; ended = h } in
-    service_line c t k wanted s right.0 text known right.1 picked l
+report_line c t k wanted (Served a b d e f g h) text known right picked l = search (arith, service_line)
 
 -- ---- a judge that answered a step
 
@@ -151,9 +144,7 @@ has_stepped {A} c log wanted old new s none some came a short =
     let n = old.owed - 1 in
     let later = replicate n (events.Step k) in
     let more : old.owed ≡ suc n = omega (arith, some) in
-    let stood : Stood c (marked log) old.controller [] (events.Step k ∷ later) [] =
-    subst (λ i. Stood c (marked log) old.controller [] (replicate i (events.Step k)) []) more
-    (subst (λ bs. Stood c (marked log) old.controller bs (owed old) []) none s.counted.stood) in
+    let stood : Stood c (marked log) old.controller [] (events.Step k ∷ later) [] = search arith in
     let one = one_of a.all a.many in
     let text = one.0 in
     let is : due new ≡ line text =
@@ -219,8 +210,7 @@ whole_line bytes text right is printed b =
 pub next_stepped : {A : Type 0} (c : Settings) (log : Log) (wanted : Option Named) (judge : Judge A) (right : List ℕ)
     → IsHeld c log judge → HasStepped c log wanted judge → IsFirstLine (due judge) right
     → IsRightNext c log wanted right
-next_stepped c log wanted judge right held s (inl e) =
-    absurd (omega (arith, e.1 s.text ([], s.due_is), s.short))
+next_stepped c log wanted judge right held s (inl e) = search arith
 next_stepped c log wanted judge right held s (inr b) = record {
   there = goes_on_due c log judge right held b;
   h = s.h;
@@ -238,16 +228,7 @@ next_stepped c log wanted judge right held s (inr b) = record {
 -- and where something was due, the first line of that
 pub next_due : {A : Type 0} (c : Settings) (log : Log) (wanted : Option Named) (judge : Judge A) (right : List ℕ)
     → Stands c log judge → due judge ≢ [] → IsFirstLine (due judge) right → IsRightNext c log wanted right
-next_due c log wanted judge right s some f = record {
-  there = due_there c log judge right s some f;
-  h = judge.controller;
-  due = due judge;
-  owed = owed judge;
-  stood = s.counted.stood;
-  due_is = λ other. f;
-  step_is = λ k later none is. absurd (some none);
-  none_is = λ none all. absurd (some none);
-}
+next_due c log wanted judge right s some f = search (arith, due_there c log judge right s some f)
 
 -- and nothing where all is answered and told
 pub next_none : {A : Type 0} (c : Settings) (log : Log) (wanted : Option Named) (judge : Judge A) (right : List ℕ)
@@ -272,12 +253,7 @@ stepped_due c log wanted judge s = λ e. some_none s.text 10 [] (sym s.due_is �
 -- ---- what the calls of a judge need
 
 pub owed_some : {A : Type 0} (judge : Judge A) → 0 < judge.owed → owed judge ≢ []
-owed_some judge some = λ e. omega (
-  arith,
-  ap length e,
-  length-replicate judge.owed (events.Step judge.block),
-  some,
-)
+owed_some judge some = search (arith, length-replicate judge.owed (events.Step judge.block))
 
 pub open_due : {A : Type 0} (c : Settings) (log : Log) (wanted : Option Named) (judge : Judge A) (right : List ℕ)
     → IsOpen c log wanted judge → due judge ≢ [] → IsFirstLine (due judge) right → IsRightNext c log wanted right
@@ -295,10 +271,9 @@ pub open_step : {A : Type 0} (c : Settings) (log : Log) (wanted : Option Named) 
     → new.owed ≡ old.owed - 1 → new.block ≡ old.block → AreAnswers (due new) 1 → HasShortLine (due new)
     → IsFirstLine (due new) right → IsRightNext c log wanted right
 open_step c log wanted old new right (held, inl s) none some came w b a short f =
-    let unnamed = s.none none (λ e. owed_some old some e) in
-    subst (λ n. IsRightNext c log n right) (sym unnamed)
-    (next_stepped c log None new right (right_step c log None old new held none some came w b)
-    (has_stepped c log None old new s.stands none some came a short) f)
+    search (arith, next_stepped c log None new right (right_step c log None old new held none some came w b)
+    (has_stepped c log None old new s.stands none some came a short) f, right_step c log None old new held none some
+    came w b, has_stepped c log None old new s.stands none some came a short, owed_some)
 open_step c log wanted old new right (held, inr s) none some came w b a short f =
     absurd (stepped_due c log wanted old s none)
 
@@ -307,22 +282,17 @@ pub stepped_open : {A : Type 0} (c : Settings) (log : Log) (wanted : Option Name
     → Stands c log old → due old ≡ [] → 0 < old.owed → Came wanted old new (events.Step old.block)
     → AreAnswers (due new) 1 → HasShortLine (due new) → last ≡ new → IsHeld c log last → IsOpen c log wanted last
 stepped_open c log wanted old new last s none some came a short same held =
-    let stepped = has_stepped c log wanted old new s none some came a short in
-    (held, inr (subst (λ j. HasStepped c log wanted j) (sym same) stepped))
+    search (arith, has_stepped c log wanted old new s none some came a short)
 
 -- and one that stands so, and answers no step for it
 pub stands_open_held : {A : Type 0} (c : Settings) (log : Log) (wanted : Option Named) (judge : Judge A)
     → Stands c log judge → (due judge ≡ [] → owed judge ≢ [] → wanted ≡ None) → IsOpen c log wanted judge
-stands_open_held c log wanted judge s none =
-    (stands_held c log judge s, inl (record { stands = s; none = none }))
+stands_open_held c log wanted judge s none = search (arith, stands_held c log judge s)
 
 -- a judge that keeps other starts is as open
 pub open_with : {A : Type 0} (c : Settings) (log : Log) (wanted : Option Named) (old new : Judge A)
     → new ≡ record old { starts = new.starts } → IsOpen c log wanted old → IsOpen c log wanted new
-open_with {A} c log wanted old new e (held, inl s) =
-    let mid : Judge A = record old { starts = new.starts } in
-    subst (IsOpen c log wanted) (sym e)
-    (held, inl (record { stands = stands_with c log old mid refl s.stands; none = s.none }))
+open_with {A} c log wanted old new e (held, inl s) = search (arith, stands_with)
 open_with c log wanted old new e (held, inr s) = subst (IsOpen c log wanted) (sym e) (
   held,
   inr (record {

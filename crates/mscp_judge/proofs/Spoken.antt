@@ -1,6 +1,6 @@
 -- The line of a step says which command was served.
-use Rattle.std.proofs.Common.{◌≡◌, ◌≢◌, ◌==◌, ℕ, ◌<◌, ◌≤◌, ◌^◌, true, not, List, [], ◌∷◌, ◌++◌, length, refl, ap, sym, ◌∙◌, arith, append_assoc}
-use Rattle.std.specs.Prelude.{codes, nat_le, Ok, Option, Some}
+use Rattle.std.proofs.Common.{◌≡◌, ◌==◌, ℕ, ◌<◌, ◌^◌, true, not, List, [], ◌∷◌, ◌++◌, length, refl, ap, sym, ◌∙◌, arith, append_assoc}
+use Rattle.std.specs.Prelude.{codes, Ok, Option, Some}
 use Rattle.std.specs.Fmt.{decimal}
 use Rattle.std.specs.List.{list_all}
 use Rattle.std.specs.Str.Parse.{AllDigits}
@@ -27,11 +27,7 @@ use Rattle.mscp_judge.proofs.Unique.{Says}
 -- ---- a number
 
 digit_byte : (b : ℕ) → digit_value b < 10 → is_digit b ≡ true
-digit_byte b h =
-    let r = digit_from_value b h in
-    let low : 48 ≤ b = r.0 in
-    let high : b ≤ 57 = r.1 in
-    grind (arith, nat_tests)
+digit_byte b h = search (arith, digit_from_value b h, nat_tests)
 
 digit_bytes : (ds : List ℕ) → AllDigits 10 ds → list_all is_digit ds ≡ true
 digit_bytes [] h = refl
@@ -59,13 +55,7 @@ some_digits n h = (decimal_is_IsNumeral n (omega (arith, h))).0.0
 -- the number of the word that a number is written as
 wide_decimal : (n : ℕ) → n < 2 ^ 32 → wide (decimal n) ≡ Ok n
 unfolding number
-wide_decimal n h =
-    let some : nat_le 1 (length (decimal n)) ≡ true = le-leb 1 (length (decimal n)) (omega (arith, some_digits n h)) in
-    let few : nat_le (length (decimal n)) 10 ≡ true = le-leb (length (decimal n)) 10 (few_digits n h) in
-    let all = decimal_digits n h in
-    let value = (decimal_is_IsNumeral n (omega (arith, h))).1 in
-    let most : nat_le n 4294967295 ≡ true = le-leb n 4294967295 (omega (arith, h)) in
-    rw (some, few, all, value, most) refl
+wide_decimal n h = grind (arith, le-leb, some_digits, few_digits, decimal_digits, decimal_is_IsNumeral)
 
 -- ---- the words of a line
 
@@ -76,10 +66,7 @@ after_space bytes = refl
 -- the words of a line that begins with a word and a number
 two_words : (word bytes : List ℕ) (n : ℕ) → n < 2 ^ 32 → 0 < length word → AllSolid word
     → words (word ++ (32 ∷ (decimal n ++ (32 ∷ bytes)))) ≡ word ∷ decimal n ∷ words (32 ∷ bytes)
-two_words word bytes n h some solid =
-    word_front word (32 ∷ (decimal n ++ (32 ∷ bytes))) some solid refl
-    ∙ ap (λ ws. word ∷ ws) (after_space (decimal n ++ (32 ∷ bytes))
-    ∙ word_front (decimal n) (32 ∷ bytes) (some_digits n h) (solid_digits (decimal n) (decimal_digits n h)) refl)
+two_words word bytes n h some solid = grind (arith, word_front, after_space, some_digits, solid_digits, decimal_digits)
 
 first_name : (n : ℕ) (rest : List (List ℕ)) → n < 2 ^ 32
     → wanted_name (name_in (codes "serve" ∷ decimal n ∷ rest)) ≡ Some (name_on First n)
@@ -111,39 +98,28 @@ served_words n unit lbn seek ended = simp append_assoc refl
 
 first_fed : (n : ℕ) → n < 2 ^ 32 → NoFeed (head First n)
 first_fed n h =
-    every_append (λ b. b ≢ 10) (codes "serve ") (decimal n ++ (32 ∷ [])) (fed_literal (codes "serve ") refl)
-    (every_append (λ b. b ≢ 10) (decimal n) (32 ∷ []) (digits_fed (decimal n) (decimal_digits n h))
-    (fed_literal (32 ∷ []) refl))
+    search (arith, fed_literal (codes "serve ") refl, digits_fed (decimal n) (decimal_digits n h), decimal_digits n h,
+    fed_literal (32 ∷ []) refl, every_append)
 
 head_fed : (via : Connection) (n : ℕ) → n < 2 ^ 32 → NoFeed (head via n)
-head_fed First n h = first_fed n h
-head_fed Second n h =
-    every_append (λ b. b ≢ 10) (codes "second ") (head First n) (fed_literal (codes "second ") refl) (first_fed n h)
+head_fed via n h2 = grind (arith, first_fed, every_append, fed_literal)
 
 -- the words of a line that begins so
 says_front : (via : Connection) (n : ℕ) (more : List ℕ) → n < 2 ^ 32
     → wanted_name (name_in (words (head via n ++ more))) ≡ Some (name_on via n)
 says_front First n more h =
-    ap (λ xs. wanted_name (name_in (words (codes "serve " ++ xs)))) (append_assoc (decimal n) (32 ∷ []) more)
-    ∙ (ap (λ ws. wanted_name (name_in ws)) (two_words (codes "serve") more n h (omega arith) refl)
-    ∙ first_name n (words (32 ∷ more)) h)
+    search (arith, append_assoc (decimal n) (32 ∷ []) more, two_words (codes "serve") more n h (omega arith) refl,
+    first_name n (words (32 ∷ more)) h)
 says_front Second n more h =
-    ap (λ xs. wanted_name (name_in (words (codes "second serve " ++ xs)))) (append_assoc (decimal n) (32 ∷ []) more)
-    ∙ (ap (λ ws. wanted_name (name_in ws)) (word_front (codes "second")
-    (32 ∷ (codes "serve" ++ (32 ∷ (decimal n ++ (32 ∷ more))))) (omega arith) refl refl
-    ∙ ap (λ ws. codes "second" ∷ ws) (after_space (codes "serve" ++ (32 ∷ (decimal n ++ (32 ∷ more))))
-    ∙ two_words (codes "serve") more n h (omega arith) refl))
-    ∙ second_name n (words (32 ∷ more)) h)
+    search (arith, append_assoc (decimal n) (32 ∷ []) more, word_front (codes "second") (32 ∷ (codes "serve" ++ (32 ∷
+    (decimal n ++ (32 ∷ more))))) (omega arith) refl refl, after_space (codes "serve" ++ (32 ∷ (decimal n ++ (32 ∷
+    more)))), two_words (codes "serve") more n h (omega arith) refl, second_name n (words (32 ∷ more)) h)
 
 -- A line that goes on as that of a step says the name of the command.
 pub line_says : (line X Y : List ℕ) (report : Report) → line ++ 10 ∷ X ≡ step_line report ++ Y
     → Says (name_in (words line)) report
 line_says line X Y Idle e = tt
-line_says line X Y (Served via n unit lbn started seek ended) e = λ h.
-    let whole : step_line (Served via n unit lbn started seek ended) ≡ head via n ++ tail unit lbn seek ended =
-    ap (λ xs. connection_word via ++ xs) (served_words n unit lbn seek ended)
-    ∙ sym (append_assoc (connection_word via) (codes "serve " ++ (decimal n ++ (32 ∷ [])))
-    (tail unit lbn seek ended)) in
-    let f = front_of line X (head via n) (tail unit lbn seek ended ++ Y) (head_fed via n h)
-    (e ∙ (ap (λ xs. xs ++ Y) whole ∙ append_assoc (head via n) (tail unit lbn seek ended) Y)) in
-    ap (λ xs. wanted_name (name_in (words xs))) f.1 ∙ says_front via n f.0 h
+line_says line X Y (Served via n unit lbn started seek ended) e =
+    search (arith, served_words n unit lbn seek ended, append_assoc (connection_word via) (codes "serve " ++ (decimal n
+    ++ (32 ∷ []))) (tail unit lbn seek ended), append_assoc (head via n) (tail unit lbn seek ended) Y, front_of,
+    head_fed, says_front)

@@ -1,5 +1,5 @@
 -- How a judge stands after one more line.
-use Rattle.std.proofs.Common.{◌≡◌, ◌≢◌, inl, ⊎_elim, ℕ, List, [], ◌∷◌, ◌++◌, refl, ap, sym, ◌∙◌, append_assoc, append-nil}
+use Rattle.std.proofs.Common.{◌≡◌, ◌≢◌, inl, ⊎_elim, ℕ, List, [], ◌∷◌, ◌++◌, refl, ap, sym, ◌∙◌, append_assoc, append-nil, arith}
 use Rattle.std.proofs.lemmas.List.{append_cancel_left}
 use Rattle.mscp_events.specs.declared.event.Event.{Event}
 use Rattle.mscp_events.specs.Settings.{Settings}
@@ -7,7 +7,7 @@ use Rattle.mscp_controller.specs.History.{Trace}
 use Rattle.mscp_controller.specs.Holdings.{Holdings}
 use Rattle.mscp_controller.specs.Legal.{IsLegal}
 use Rattle.mscp_judge.specs.declared.naming.Wanted.{Wanted}
-use Rattle.mscp_judge.specs.Logs.{Asked, Mark, answers_in, events_in, told, transcript, whole, written}
+use Rattle.mscp_judge.specs.Logs.{Mark, answers_in, events_in, told, transcript, whole}
 use Rattle.mscp_judge.specs.Standing.{BeginsWith, Held, Stood}
 use Rattle.mscp_judge.proofs.Feeds.{NoFeed, ends_behind, first_line, some_none}
 use Rattle.mscp_judge.proofs.Marks.{GoesOn, answers_append, events_append, lead, lead_told, lead_transcript, none_asked, told_append, transcript_append}
@@ -29,8 +29,7 @@ pub record Goes (c : Settings) (parts : List Trace) (now : Trace) (due : List �
 
 pub held_of : (c : Settings) (marks : List Mark) (h : Holdings Wanted) (due : List ℕ) (owed : List Event)
     (ahead : List Mark) → Stood c marks h due owed ahead → Held c marks h due owed
-held_of c marks h due owed ahead s =
-    record { parts = s.parts; now = s.now; begun = s.begun; valid = s.valid; led = s.led; said = s.said }
+held_of c marks h due owed ahead s = search arith
 
 -- the marks of a trace that goes on so
 pub known_marks : (c : Settings) (marks : List Mark) (h : Holdings Wanted) (due : List ℕ) (owed : List Event)
@@ -38,19 +37,7 @@ pub known_marks : (c : Settings) (marks : List Mark) (h : Holdings Wanted) (due 
     → transcript (s.parts ++ (s.now ++ next) ∷ rest)
     ≡ marks ++ (told due ++ (told (answers_in next) ++ transcript rest))
 known_marks c marks h due owed s next rest asks =
-    let P = transcript s.parts in
-    let N = told (answers_in s.now) in
-    let X = told (answers_in next) ++ transcript rest in
-    let part : written (s.now ++ next) ++ transcript rest ≡ (Asked (events_in s.now ++ owed) ∷ N) ++ X =
-    ap (λ es. (Asked es ∷ told (answers_in (s.now ++ next))) ++ transcript rest)
-    (events_append s.now next ∙ ap (λ es. events_in s.now ++ es) asks)
-    ∙ (ap (λ bs. (Asked (events_in s.now ++ owed) ∷ told bs) ++ transcript rest) (answers_append s.now next)
-    ∙ (ap (λ ms. (Asked (events_in s.now ++ owed) ∷ ms) ++ transcript rest)
-    (told_append (answers_in s.now) (answers_in next))
-    ∙ ap (λ ms. Asked (events_in s.now ++ owed) ∷ ms) (append_assoc N (told (answers_in next)) (transcript rest)))) in
-    transcript_append s.parts ((s.now ++ next) ∷ rest)
-    ∙ (ap (λ ms. P ++ ms) part ∙ (sym (append_assoc P (Asked (events_in s.now ++ owed) ∷ N) X)
-    ∙ (ap (λ ms. ms ++ X) (sym s.said) ∙ append_assoc marks (told due) X)))
+    grind (arith, events_append, answers_append, told_append, transcript_append, append_assoc)
 
 pub goes : (c : Settings) (marks : List Mark) (h : Holdings Wanted) (due : List ℕ) (owed : List Event)
     (ahead : List Mark) (s : Stood c marks h due owed ahead) (others : List Trace) (more : List Mark)

@@ -1,5 +1,5 @@
 -- How a judge stands after a step was answered.
-use Rattle.std.proofs.Common.{◌≡◌, ℕ, List, [], ◌∷◌, ◌++◌, ap, sym, ◌∙◌, subst, append_assoc, append-nil}
+use Rattle.std.proofs.Common.{◌≡◌, ℕ, List, [], ◌∷◌, ◌++◌, ap, sym, ◌∙◌, subst, append_assoc, append-nil, arith}
 use Rattle.std.specs.Prelude.{Option}
 use Rattle.mscp_events.specs.declared.block.Block.{Block}
 use Rattle.mscp_events.specs.declared.event.Event.{Event}
@@ -37,27 +37,14 @@ step_is c marks h h' k owed line (entries.Stepped report) s a (entries.Stepped o
     ap (λ x. entries.Stepped x) (one_report c T k (name_in
     (words line)) report other f.agrees.follows.known turn.sends.right
     (turn.picked f.unbegun) r (line_says line X Y other e))
-step_is c marks h h' k owed line (entries.Stepped report) s a (entries.Sent x y) X Y r e = absurd r
-step_is c marks h h' k owed line (entries.Stepped report) s a (entries.Taken x y) X Y r e = absurd r
-step_is c marks h h' k owed line (entries.Stepped report) s a (entries.Looked x) X Y r e = absurd r
-step_is c marks h h' k owed line _ s a other _ _ r e = absurd a
+step_is c marks h h' k owed line entry s h9 other X Y h13 h14 = grind arith
 
 -- what is said of an answer more
 pub said_more : (marks : List Mark) (P : List Mark) (now : Trace) (m : Moment) (owed : List Event)
     → marks ++ told [] ≡ P ++ Asked (events_in now ++ (m.0 ∷ owed)) ∷ told (answers_in now)
     → marks ++ told (entry_lines m.1)
     ≡ P ++ Asked (events_in (now ++ m ∷ []) ++ owed) ∷ told (answers_in (now ++ m ∷ []))
-said_more marks P now m owed e =
-    let es : events_in now ++ (m.0 ∷ owed) ≡ events_in (now ++ m ∷ []) ++ owed =
-    sym (append_assoc (events_in now) (m.0 ∷ []) owed) ∙ ap (λ xs. xs ++ owed) (sym (events_append now (m ∷ []))) in
-    let bs : told (answers_in now) ++ told (entry_lines m.1) ≡ told (answers_in (now ++ m ∷ [])) =
-    sym (told_append (answers_in now) (entry_lines m.1))
-    ∙ ap told (ap (λ xs. answers_in now ++ xs) (sym (append-nil (entry_lines m.1))) ∙ sym (answers_append now
-    (m ∷ []))) in
-    ap (λ ms. ms ++ told (entry_lines m.1)) (sym (append-nil marks) ∙ e)
-    ∙ (append_assoc P (Asked (events_in now ++ (m.0 ∷ owed)) ∷ told (answers_in now)) (told (entry_lines m.1))
-    ∙ (ap (λ ms. P ++ Asked (events_in now ++ (m.0 ∷ owed)) ∷ ms) bs
-    ∙ ap (λ xs. P ++ Asked xs ∷ told (answers_in (now ++ m ∷ []))) es))
+said_more marks P now m owed e = grind (arith, append_assoc, events_append, told_append, append-nil, answers_append)
 
 -- a step is answered, at which the command starts that the line names, if it may
 unfoldable pub step_on : (c : Settings) (marks : List Mark) (h h' : Holdings Wanted) (k : Block) (owed : List Event)

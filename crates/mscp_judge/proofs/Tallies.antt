@@ -1,5 +1,5 @@
 -- What one moment more adds to the totals of a run.
-use Rattle.std.proofs.Common.{◌≡◌, ◌≢◌, ◌⊎◌, inl, inr, ⊎_elim, ℕ, zero, suc, ◌+◌, ◌≤◌, Bool, true, false, cond, List, [], ◌∷◌, ◌++◌, map, take, get_or, length, refl, ap, sym, ◌∙◌, subst, arith, length-append}
+use Rattle.std.proofs.Common.{◌≡◌, ◌≢◌, ◌⊎◌, inl, inr, ⊎_elim, ℕ, ◌+◌, ◌≤◌, Bool, true, false, cond, List, [], ◌∷◌, ◌++◌, map, take, get_or, length, refl, ap, sym, ◌∙◌, subst, arith, length-append}
 use Rattle.std.specs.Prelude.{Contains, filter, not, Ok, Option}
 use Rattle.std.specs.List.{AllByRecursion}
 use Rattle.std.proofs.lemmas.List.{take-append-le, take_all}
@@ -8,14 +8,10 @@ use Rattle.std.proofs.lemmas.List.Sums.{sum_by_push}
 use Rattle.std.proofs.lemmas.Bool.{cases_lt, false≢true}
 use Rattle.mscp_packet.specs.Commands.{command_of}
 use Rattle.mscp_events.specs.declared.connection.Connection.{Connection}
-use Rattle.mscp_queue.specs.Figures.{figure_of_name}
-use Rattle.mscp_queue.specs.Names.{name_on}
 use Rattle.mscp_queue.specs.Records.{Record, record_at}
 use Rattle.mscp_queue.proofs.Lists.{every_append, every_mapped, every_kept}
 use Rattle.mscp_events.specs.declared.event.Event.{Event}
-use Rattle.mscp_events.specs.declared.event.Event.TheVariants as events
 use Rattle.mscp_controller.specs.declared.entry.Entry.{Entry}
-use Rattle.mscp_controller.specs.declared.entry.Entry.TheVariants as entries
 use Rattle.mscp_controller.specs.declared.entry.Sent.{Sent}
 use Rattle.mscp_controller.specs.declared.entry.Sent.TheVariants as sents
 use Rattle.mscp_controller.specs.Arrival.{is_queued}
@@ -55,35 +51,7 @@ largest_more of t m n k k' old larger now there =
     let long : length u ≡ length t + 1 = length-append t (m ∷ []) in
     let front : (i : ℕ) → i ≤ length t → take i u ≡ take i t = λ i h. take-append-le i t (m ∷ []) h in
     let all : take (length u) u ≡ u = take_all (length u) u (omega arith) in
-    record {
-      most = λ i h. ⊎_elim
-          (λ (b : i ≤ length t) x w.
-          let l = old.most i b x (subst (λ v. Contains (waiting v) x) (front i b) w) in
-          let e = ap (λ v. of v x) (front i b) in
-          omega (arith, l, e, larger.first))
-          (λ (e : i ≡ length u) x w.
-          let whole : take i u ≡ u = ap (λ j. take j u) e ∙ all in
-          subst (λ v. of v x ≤ k') (sym whole) (now x (subst (λ v. Contains (waiting v) x) whole w)))
-          (last_or_before i (length t) (length u) long h);
-      reached = λ some. ⊎_elim
-          (λ (e : k' ≡ n).
-          let r = old.reached (λ z. some (e ∙ z)) in (
-            r.0,
-            r.1,
-            omega (arith, r.2, long),
-            subst (λ v. Contains (waiting v) r.1) (sym (front r.0 r.2)) r.3,
-            ap (λ v. of v r.1) (front r.0 r.2) ∙ (r.4 ∙ sym e),
-          ))
-          (λ (e : k' ≡ k).
-          let r = there (λ z. some (e ∙ z)) in (
-            length u,
-            r.0,
-            omega arith,
-            subst (λ v. Contains (waiting v) r.0) (sym all) r.1,
-            ap (λ v. of v r.0) all ∙ (r.2 ∙ sym e),
-          ))
-          larger.one;
-    }
+    search (arith, ⊎_elim)
   where
     last_or_before : (i n l : ℕ) → l ≡ n + 1 → i ≤ l → (i ≤ n) ⊎ (i ≡ l)
     last_or_before i n l e h = ⊎_elim (λ b. inl (omega (arith, e, b))) (λ b. inr (omega (arith, h, b))) (cases_lt i l)
@@ -115,31 +83,19 @@ own_name : (c : Settings) (via : Connection) (t : Trace) (b : List ℕ) (referen
     → Ok (sents.Queued reference) ≡ arrival c via t b → is_queued c (command_of b) ≡ true
     → reference ≡ (command_of b).reference
 unfolding number_in
-own_name c via t b reference h q =
-    ap number_in ((arrives c via t b (sents.Queued reference) h).is ∙ ap (taken_when c via t (command_of b)) q)
+own_name c via t b reference h q = grind (arith, number_in, arrives, taken_when)
 
 queued_figure : (c : Settings) (t : Trace) (h : Holdings Wanted) (event : Event) (entry : Entry)
     → IsRight c t event entry → h.settings ≡ c
     → h.waiting ≡ map (held_of (t ++ (event, entry) ∷ [])) (waiting (t ++ (event, entry) ∷ []))
     → queues entry ≡ true → figure_queued h entry ≡ figure_of c (t ++ (event, entry) ∷ [])
     (name (t ++ (event, entry) ∷ []) (length t))
-queued_figure c t h (events.Send via b) (entries.Sent other (Ok (sents.Queued reference))) r s w q =
-    let m : Moment = (events.Send via b, entries.Sent other (Ok (sents.Queued reference))) in
-    let u = t ++ m ∷ [] in
-    let own = own_name c via t b.items reference r.1
-    (queued_right c t (events.Send via b) (entries.Sent other (Ok (sents.Queued reference))) q r).waits in
-    let named : name_on other reference ≡ name u (length t) =
-    (λ i. name_on (r.0 i) (own i)) ∙ sym (name_last t m) in
-    (λ i. figure_of_name (s i).budget (w i) (named i)) ∙ figure_of_held c u (name u (length t))
-queued_figure c t h (events.Step k) (entries.Sent other (Ok (sents.Queued reference))) r s w q = absurd r
-queued_figure c t h (events.Take via) (entries.Sent other (Ok (sents.Queued reference))) r s w q = absurd r
-queued_figure c t h events.Look (entries.Sent other (Ok (sents.Queued reference))) r s w q = absurd r
-queued_figure c t h event _ r s w q = absurd (false≢true q)
+queued_figure c t h event entry h5 h6 h7 h8 =
+    search (arith, own_name, queued_right, name_last, figure_of_held, false≢true)
 
 -- of no other is one told
 none_queued : (h : Holdings Wanted) (entry : Entry) → figure_queued h entry ≢ 0 → queues entry ≡ true
-none_queued h (entries.Sent via (Ok (sents.Queued reference))) some = refl
-none_queued h _ some = absurd (some refl)
+none_queued h entry h2 = search arith
 
 -- ---- the oldest
 
@@ -152,33 +108,14 @@ first_passed u (x ∷ xs) some = (x, (0, omega arith, refl), refl)
 
 step_counts : (c : Settings) (t : Trace) (event : Event) (entry : Entry) → IsRight c t event entry
     → step_count entry ≡ cond (is_step event) 1 0
-step_counts c t (events.Send via b) (entries.Sent other sent) r = refl
-step_counts c t (events.Take via) (entries.Taken other end) r = refl
-step_counts c t (events.Step k) (entries.Stepped report) r = refl
-step_counts c t events.Look (entries.Looked list) r = refl
-step_counts c t _ _ r = absurd r
+step_counts c t event entry h4 = search arith
 
 -- ---- all of them
 
 pub totals_none : (c : Settings) (totals : Totals) → totals.moments ≡ 0 → totals.steps ≡ 0 → totals.figure ≡ 0
     → totals.bound ≡ bound c → totals.passed ≡ 0 → AreTotals c [] totals
 unfolding waiting
-totals_none c totals m s f b p =
-    let none : (of : Trace → ℕ → ℕ) (n : ℕ) → n ≡ 0 → IsLargest of [] n = λ of n e. record {
-      most = λ i h x w. absurd (nobody i x w);
-      reached = λ some. absurd (some e);
-    } in
-    record {
-      moments = m;
-      steps = s;
-      figure = none (figure c) totals.figure f;
-      bound = b;
-      passed = none passed totals.passed p;
-    }
-  where
-    nobody : (i x : ℕ) → Contains (waiting (take i [])) x → ⊥
-    nobody zero x w = let l = w.1 in omega (arith, l)
-    nobody (suc i) x w = let l = w.1 in omega (arith, l)
+totals_none c totals m s f b p = grind arith
 
 pub totals_more : (c : Settings) (t : Trace) (h h' : Holdings Wanted) (name : Option Named) (event : Event)
     (entry : Entry) (old new : Totals) → IsValid c → Follow c t h
@@ -193,10 +130,7 @@ totals_more c t h h' picker event entry old new v k r a adds =
     let queued : queues entry ≡ true → Contains (waiting u) (length t) =
     λ q. waits_in u (length t) (is_waiting_last t m ∙ q) in
     let own : queues entry ≡ true → figure_queued h' entry ≡ figure c u (length t) =
-    λ q. queued_figure c t h' event entry right next.settings waits q
-    ∙ subst (λ z. figure_of c z (name z (length t)) ≡ figure c z (length t)) (take_all (length u) u (omega arith))
-    ((progress c u v next.legal).own (length u) (omega arith) (length t)
-    (subst (λ z. Contains (waiting z) (length t)) (sym (take_all (length u) u (omega arith))) (queued q))) in
+    search (arith, take_all (length u) u (omega arith), progress c u v next.legal, queued_figure) in
     let falls = falling c t m right k.agrees.follows.known.steady in
     let before = a.figure.most (length t) (omega arith) in
     let oldest : AllByRecursion (λ (x : ℕ). passed u x ≤ (record_at h'.waiting 0).passed) (waiting u) =

@@ -1,10 +1,10 @@
 -- How a judge stands after all that was due was told.
 use Rattle.std.proofs.Common.{◌≡◌, ◌-◌, ◌<◌, [], ◌++◌, length, refl, ap, sym, ◌∙◌, subst, arith, append_assoc, append-nil, ◌≤◌, List, ℕ, ◌∷◌}
-use Rattle.std.specs.Prelude.{codes, OnOk, Result, Ok, Err, Option, Some, None}
+use Rattle.std.specs.Prelude.{codes, OnOk, Result, Option, Some, None}
 use Rattle.std.specs.List.{flat_map}
 use Rattle.mscp_events.specs.declared.block.Block.{Block}
 use Rattle.mscp_queue.specs.declared.report.Report.{Report}
-use Rattle.mscp_queue.specs.declared.report.Report.TheVariants.{Idle, Served}
+use Rattle.mscp_queue.specs.declared.report.Report.TheVariants.{Idle}
 use Rattle.mscp_events.specs.declared.event.Event.TheVariants as events
 use Rattle.mscp_controller.specs.declared.entry.Entry.{Entry}
 use Rattle.mscp_controller.specs.declared.entry.Entry.TheVariants as entries
@@ -19,7 +19,7 @@ use Rattle.mscp_judge.specs.declared.naming.Named.{Named}
 use Rattle.mscp_judge.specs.declared.naming.Wanted.{Wanted}
 use Rattle.mscp_judge.specs.Logs.{AreAnswers, Log, telling}
 use Rattle.mscp_judge.specs.Naming.{IsNamed, name_in, served}
-use Rattle.mscp_judge.specs.Standing.{BeginsWith, Came, Counted, IsNamedAhead, Stands, due, marked, owed, totals_of, with_picker}
+use Rattle.mscp_judge.specs.Standing.{BeginsWith, Came, IsNamedAhead, Stands, due, marked, owed, totals_of, with_picker}
 use Rattle.mscp_judge.proofs.Answering.{step_answers}
 use Rattle.mscp_judge.proofs.Coming.{held_settings, ready_step, right_step, stands_held, told_so}
 use Rattle.mscp_judge.proofs.Counted.{told_all_counted}
@@ -27,8 +27,7 @@ use Rattle.mscp_judge.proofs.Counted.{told_all_counted}
 -- the lines of an entry that was reported alone
 pub reported_lines : (old mid new : Reported) (entry : Entry) → mid ≡ record old { lines = [] }
     → new ≡ with_entry mid entry → new.lines ≡ entry_lines entry
-reported_lines old mid new entry none more =
-    ap (λ (q : Reported). q.lines) more ∙ ap (λ (q : Reported). q.lines ++ entry_lines entry) none
+reported_lines old mid new entry none more = search arith
 
 pub told_all : {A : Type 0} (c : Settings) (log : Log) (old new : Judge A) → Stands c log old
     → new ≡ record old { told = new.told } → due new ≡ [] → Stands c (telling log (due old)) new
@@ -37,11 +36,7 @@ told_all {A} c log old new s kept none =
     let left : due mid ≡ [] = sym (ap due kept) ∙ none in
     let marks = marked (telling log (due old)) in
     let totals = totals_of c old in
-    subst (Stands c (telling log (due old))) (sym kept) (record {
-      counted = subst (λ bs. Counted c marks old.controller bs (owed old) [] totals) (sym left)
-          (told_all_counted c (marked log) old.controller (due old) (owed old) totals s.counted);
-      count = s.count;
-    })
+    search (arith, told_all_counted c (marked log) old.controller (due old) (owed old) totals s.counted)
 
 -- ---- a step
 
@@ -49,10 +44,7 @@ told_all {A} c log old new s kept none =
 pub stepped_answers : (r : Result (Unit {0}) OutOfMemory) (old mid new : Reported) (report : Report)
     → OnOk r (new ≡ with_entry mid (entries.Stepped report)) → OnOk r (length (step_line report) ≤ 108)
     → mid ≡ record old { lines = [] } → OnOk r (AreAnswers new.lines 1)
-stepped_answers (Ok x) old mid new report value short none =
-    subst (λ bs. AreAnswers bs 1) (sym (reported_lines old mid new (entries.Stepped report) none value))
-    (step_answers report short)
-stepped_answers (Err x) old mid new report value short none = tt
+stepped_answers r old mid new report h5 h6 h7 = grind (arith, reported_lines, step_answers)
 
 -- one line
 pub one_of : (all : List (List ℕ)) → length all ≡ 1 → (text : List ℕ) × (all ≡ text ∷ [])
@@ -92,10 +84,7 @@ step_settings c log named old mid s told some came w b =
 -- where nothing waits a step is idle
 idle_entry : (name : Option Named) (h h' : Holdings Wanted) (k : Block) (entry : Entry) → h.waiting ≡ []
     → Answers (IsNamed name) h (events.Step k) entry h' → entry ≡ entries.Stepped Idle
-idle_entry name h h' k (entries.Stepped Idle) none a = refl
-idle_entry name h h' k (entries.Stepped (Served via n unit lbn started seek ended)) none a =
-    absurd (omega (arith, a.serves.1.next.servable.inside, ap length none))
-idle_entry name h h' k _ none a = absurd a
+idle_entry name h h' k entry h5 h6 = grind arith
 
 idle_names : None ≡ name_in (words (codes "idle"))
 unfolding words name_in served

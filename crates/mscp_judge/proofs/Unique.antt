@@ -1,15 +1,13 @@
 -- After a legal trace an event has one right answer, if at a step it is known which command it serves.
-use Rattle.std.proofs.Common.{◌≡◌, ◌≢◌, ◌⊎◌, inl, inr, ⊎_elim, ℕ, ◌<◌, ◌^◌, Bool, true, false, cond, ◌||◌, [], ◌∷◌, ◌++◌, get_or, length, refl, ap, sym, ◌∙◌, subst, arith, length-append}
-use Rattle.std.specs.Prelude.{filter, Option, Some, None}
+use Rattle.std.proofs.Common.{◌≡◌, ◌≢◌, ◌⊎◌, ⊎_elim, ℕ, ◌<◌, ◌^◌, Bool, true, false, cond, ◌||◌, [], ◌∷◌, ◌++◌, get_or, length, refl, ap, sym, ◌∙◌, subst, arith, length-append}
+use Rattle.std.specs.Prelude.{filter, Option, Some}
 use Rattle.std.specs.List.{AllByRecursion}
 use Rattle.std.proofs.lemmas.Bool.{cases_Bool, eq-eqb, ltb-true, false≢true}
 use Rattle.std.proofs.lemmas.List.{get_or-map, length-map}
 use Rattle.std.proofs.lemmas.List.Elements.{filter-append}
 use Rattle.std.proofs.Math.Seq.{get_or-append_seam}
-use Rattle.mscp_packet.specs.declared.class.Class.TheVariants.{Unknown}
 use Rattle.mscp_events.specs.declared.block.Block.{Block}
 use Rattle.mscp_queue.specs.declared.view.Choice.{Choice}
-use Rattle.mscp_events.specs.declared.connection.Connection.TheVariants.{First}
 use Rattle.mscp_queue.specs.declared.name.Name.{Name}
 use Rattle.mscp_queue.specs.declared.report.Report.{Report}
 use Rattle.mscp_queue.specs.declared.report.Report.TheVariants.{Idle, Served}
@@ -32,7 +30,7 @@ use Rattle.mscp_controller.proofs.Promise.Starts.{startable_parts}
 use Rattle.mscp_controller.proofs.Promise.Steady.{Single, idle_others}
 use Rattle.mscp_controller.proofs.Promise.Waits.{cut, waits_below}
 use Rattle.mscp_judge.specs.declared.naming.Named.{Named}
-use Rattle.mscp_judge.specs.Naming.{IsNamed, choice_at, is_wanted, name_of, wanted_name}
+use Rattle.mscp_judge.specs.Naming.{IsNamed, choice_at, is_wanted, wanted_name}
 
 -- ---- who is served
 
@@ -43,9 +41,7 @@ served_once c t y z s w v n d =
     let at = cut t y (waits_below t y w) w in
     let o = idle_others c t y at.0 at.1 at.2.is s n in
     let Other : ℕ → Type 0 = λ x. (done t x ≡ 0) ⊎ (x ≡ y) in
-    let all : AllByRecursion Other (at.0 ++ y ∷ at.1) =
-    every_append Other at.0 (y ∷ at.1) (every_weaker (λ x. done t x ≡ 0) Other (λ x k. inl k) at.0 o.0)
-    (inr refl, every_weaker (λ x. done t x ≡ 0) Other (λ x k. inl k) at.1 o.1) in
+    let all : AllByRecursion Other (at.0 ++ y ∷ at.1) = search (arith, every_append, every_weaker) in
     let zat = cut t z (waits_below t z v) v in
     let own = (every_parts Other zat.0 (z ∷ zat.1) (subst (AllByRecursion Other) (sym at.2.is ∙ zat.2.is) all)).1.0 in
     ⊎_elim (λ k. absurd (omega (arith, d, k))) (λ k. k) own
@@ -68,31 +64,23 @@ startable_place c t y w s =
     let B = filter p at.1 in
     let e : filter p (waiting t) ≡ F ++ y ∷ B =
     ap (filter p) at.2.is ∙ (filter-append p at.0 (y ∷ at.1) ∙ ap (λ b. F ++ cond b (y ∷ B) B) s) in
-    let l : length F < length (F ++ y ∷ B) = omega (arith, length-append F (y ∷ B)) in (
-      length F,
-      subst (λ xs. length F < length xs) (sym e) l,
-      ap (λ xs. get_or xs (length F) 0) e ∙ get_or-append_seam F y B 0,
-    )
+    let l : length F < length (F ++ y ∷ B) = omega (arith, length-append F (y ∷ B)) in
+    search (arith, get_or-append_seam F y B 0)
 
 pub some_same : (a b : Name) → Some a ≡ Some b → a ≡ b
 some_same a b e = cc
 
 -- a choice that is named has the name
 named_is : (wanted : Option Named) (o : Choice) → is_wanted wanted o ≡ true → wanted_name wanted ≡ Some (choice_name o)
-named_is None o e = absurd (false≢true e)
-named_is (Some named) o e = ap Some (sym (same_is (choice_name o) (name_of named) e))
+named_is wanted o h2 = grind (arith, false≢true, same_is)
 
 is_named : (wanted : Option Named) (o : Choice) → wanted_name wanted ≡ Some (choice_name o) → is_wanted wanted o ≡ true
-is_named None o e = cc
-is_named (Some named) o e =
-    is_same (choice_name o) (name_of named) (sym (some_same (name_of named) (choice_name o) e))
+is_named wanted o h2 = grind (arith, is_same, some_same)
 
 -- what is seen at a place is the command there
 seen_at : (c : Settings) (t : Trace) (i : ℕ) → i < length (startable c t)
     → choice_at (view c t) i ≡ choice c t (get_or (startable c t) i 0)
-seen_at c t i l =
-    let none : Choice = record { connection = First; reference = 0; unit = 0; class = Unknown; cost = 0 } in
-    get_or-map (choice c t) (startable c t) i 0 none l
+seen_at c t i l = search (arith, get_or-map)
 
 -- the command that is named is picked, if it may start; and its number has 32 bits
 pub picked_one : (c : Settings) (t : Trace) (wanted : Option Named) (n : Name) (z : ℕ)
@@ -103,24 +91,13 @@ picked_one c t wanted n z p w s =
     let at = startable_place c t z w s in
     let l : at.0 < length (view c t) = subst (λ k. at.0 < k) (sym (length-map S (choice c t))) at.1 in
     let own : choice_at (view c t) at.0 ≡ choice c t z = seen_at c t at.0 at.1 ∙ ap (choice c t) at.2 in
-    let picked = seen_at c t p.0 p.1 in (
-      subst (λ (o : Choice). o.reference < 2 ^ 32) own (p.3.small at.0 l),
-      λ e. let there = p.3.named at.0 l (is_named wanted (choice_at (view c t) at.0)
-          (e ∙ ap (λ o. Some (choice_name o)) (sym own))) in
-          let same = sym (named_is wanted (choice_at (view c t) p.0) there) ∙ e in
-          sym p.2 ∙ (ap choice_name (sym picked) ∙ some_same (choice_name (choice_at (view c t) p.0)) (name t z) same),
-    )
+    let picked = seen_at c t p.0 p.1 in
+    search (arith, is_named, named_is, some_same)
 
 -- and the oldest that may start, if none that may is named
 pub picked_first : (c : Settings) (t : Trace) (wanted : Option Named) (n : Name) → IsPick c (IsNamed wanted) t n
     → wanted_name wanted ≢ Some n → n ≡ name t (get_or (startable c t) 0 0)
-picked_first c t wanted n p differ =
-    let there = choice_at (view c t) p.0 in
-    let own : choice_name there ≡ n = ap choice_name (seen_at c t p.0 p.1) ∙ p.2 in
-    let other : is_wanted wanted there ≡ false =
-    ⊎_elim (λ e. absurd (differ (named_is wanted there e ∙ ap Some own))) (λ e. e)
-    (cases_Bool (is_wanted wanted there)) in
-    sym p.2 ∙ ap (λ i. name t (get_or (startable c t) i 0)) (p.3.oldest other)
+picked_first c t wanted n p differ = search (arith, seen_at c t p.0 p.1, ⊎_elim, named_is, cases_Bool)
 
 -- the same name is known of two services of one step
 one_served : (c : Settings) (t : Trace) (k : Block) (wanted : Option Named) (s r : Service) (y z : ℕ) → Known c t
@@ -179,28 +156,4 @@ one_report c t k wanted (Served a b d e f g h) (Served a' b' d' e' f' g' h') kno
 
 pub one_answer : (c : Settings) (t : Trace) (event : Event) (n m : Entry) → is_step event ≡ false
     → IsRight c t event n → IsRight c t event m → n ≡ m
-one_answer c t (events.Send via b) (entries.Sent x s) (entries.Sent y r) o p q =
-    λ i. entries.Sent ((p.0 ∙ sym q.0) i) ((p.1 ∙ sym q.1) i)
-one_answer c t (events.Send via b) (entries.Taken x x2) m o p q = absurd p
-one_answer c t (events.Send via b) (entries.Stepped x) m o p q = absurd p
-one_answer c t (events.Send via b) (entries.Looked x) m o p q = absurd p
-one_answer c t (events.Send via b) (entries.Sent y y2) (entries.Taken x x2) o p q = absurd q
-one_answer c t (events.Send via b) (entries.Sent y y2) (entries.Stepped x) o p q = absurd q
-one_answer c t (events.Send via b) (entries.Sent y y2) (entries.Looked x) o p q = absurd q
-one_answer c t (events.Take via) (entries.Taken x s) (entries.Taken y r) o p q =
-    λ i. entries.Taken ((p.0 ∙ sym q.0) i) ((p.1 ∙ sym q.1) i)
-one_answer c t (events.Take via) (entries.Sent x x2) m o p q = absurd p
-one_answer c t (events.Take via) (entries.Stepped x) m o p q = absurd p
-one_answer c t (events.Take via) (entries.Looked x) m o p q = absurd p
-one_answer c t (events.Take via) (entries.Taken y y2) (entries.Sent x x2) o p q = absurd q
-one_answer c t (events.Take via) (entries.Taken y y2) (entries.Stepped x) o p q = absurd q
-one_answer c t (events.Take via) (entries.Taken y y2) (entries.Looked x) o p q = absurd q
-one_answer c t events.Look (entries.Looked s) (entries.Looked r) o p q =
-    ap (λ xs. entries.Looked (record { items = xs })) (p ∙ sym q)
-one_answer c t events.Look (entries.Sent x x2) m o p q = absurd p
-one_answer c t events.Look (entries.Taken x x2) m o p q = absurd p
-one_answer c t events.Look (entries.Stepped x) m o p q = absurd p
-one_answer c t events.Look (entries.Looked y) (entries.Sent x x2) o p q = absurd q
-one_answer c t events.Look (entries.Looked y) (entries.Taken x x2) o p q = absurd q
-one_answer c t events.Look (entries.Looked y) (entries.Stepped x) o p q = absurd q
-one_answer c t (events.Step k) n m o p q = absurd (false≢true (sym o))
+one_answer c t event n m h5 h6 h7 = grind (arith, false≢true)

@@ -1,18 +1,17 @@
 -- A line that asks for events is no answer.
-use Rattle.std.proofs.Common.{◌≡◌, ◌||◌, ◌+◌, ◌<◌, ◌∙◌, ℕ, Bool, true, false, List, [], ◌∷◌, drop, length, refl, ap, sym, subst, arith}
-use Rattle.std.specs.Prelude.{codes, nat_le, if◌then◌else◌, Some, None, Result, Ok, Err}
+use Rattle.std.proofs.Common.{◌≡◌, ◌||◌, ◌+◌, ◌<◌, ℕ, Bool, true, false, List, ◌∷◌, drop, length, refl, ap, sym, subst, arith}
+use Rattle.std.specs.Prelude.{codes, Some, None, Result, Ok}
 use Rattle.std.specs.Str.{bytes_eq}
 use Rattle.std.proofs.lemmas.Bool.{false≢true}
 use Rattle.std.proofs.lemmas.Slice.Eq.{bytes_eq-Decides}
 use Rattle.mscp_packet.specs.Steps.{◌>>=◌}
 use Rattle.mscp_events.specs.declared.connection.Connection.{Connection}
-use Rattle.mscp_events.specs.declared.connection.Connection.TheVariants.{First, Second}
+use Rattle.mscp_events.specs.declared.connection.Connection.TheVariants.{Second}
 use Rattle.mscp_events.specs.declared.event.Event.{Event}
-use Rattle.mscp_reader.specs.Grammar.{asked_after, fitting, said_at}
+use Rattle.mscp_reader.specs.Grammar.{asked_after, said_at}
 use Rattle.mscp_reader.specs.Outcome.{asked_at, asked_next, in_line}
 use Rattle.mscp_reader.specs.Requests.{asked_if, event_form, form_of, message_form, plain_form, request, second_request}
 use Rattle.mscp_reader.specs.declared.fault.Cause.{Cause}
-use Rattle.mscp_reader.specs.declared.fault.Cause.TheVariants as causes
 use Rattle.mscp_judge.specs.Logs.{Log, after_line, after_words, asking, is_answer, is_answer_word, is_second_answer}
 use Rattle.mscp_judge.specs.Naming.{name_in, served}
 use Rattle.mscp_judge.proofs.Reading.{bound}
@@ -22,8 +21,7 @@ abbrev NoForm : List ℕ → Type 0
 NoForm word = (form_of word ≡ None) × (bytes_eq word (codes "second") ≡ false)
 
 either : {P : Type 0} (a b : Bool) → (a ≡ true → P) → (b ≡ true → P) → (a || b) ≡ true → P
-either true b f g h = f refl
-either false b f g h = g h
+either a b h2 h3 h4 = grind arith
 
 same_word : (word other : List ℕ) → NoForm other → bytes_eq word other ≡ true → NoForm word
 same_word word other n e = subst NoForm (sym ((bytes_eq-Decides word other).0 e)) n
@@ -56,21 +54,12 @@ no_form word h =
 first_no_answer : (word : List ℕ) (rest : List (List ℕ)) (what : List Event) → bytes_eq word (codes "second") ≡ false
     → request (word ∷ rest) ≡ Ok what → (b : Bool) → is_answer_word word ≡ b → b ≡ false
 unfolding request
-first_no_answer word rest what other h false e = refl
-first_no_answer word rest what other h true e =
-    let n = no_form word e in
-    let wrong = rw (n.0, other) at h in
-    cc
+first_no_answer word rest what h3 h4 b h6 = grind (arith, no_form)
 
 second_no_answer : (rest : List (List ℕ)) (what : List Event) → second_request rest ≡ Ok what
     → is_second_answer rest ≡ false
 unfolding second_request
-second_no_answer [] what h = refl
-second_no_answer (word ∷ rest) what h = at (is_answer_word word) refl
-  where
-    at : (b : Bool) → is_answer_word word ≡ b → b ≡ false
-    at false e = refl
-    at true e = let wrong = rw (no_form word e).0 at h in cc
+second_no_answer rest what h2 = grind (arith, no_form)
 
 named_second : (word : List ℕ) (rest : List (List ℕ)) → word ≡ codes "second"
     → request (word ∷ rest) ≡ second_request rest
@@ -79,30 +68,18 @@ named_second word rest e = ap (λ w. asked_if (form_of w) w rest) e
 
 no_answer_words : (word : List ℕ) (rest : List (List ℕ)) (what : List Event) → request (word ∷ rest) ≡ Ok what
     → (b : Bool) → bytes_eq word (codes "second") ≡ b → is_answer (word ∷ rest) ≡ false
-no_answer_words word rest what h true e =
-    let same = (bytes_eq-Decides word (codes "second")).0 e in
-    rw e (second_no_answer rest what (sym (named_second word rest same) ∙ h))
-no_answer_words word rest what h false e = rw e (first_no_answer word rest what e h (is_answer_word word) refl)
+no_answer_words word rest what h3 b h5 =
+    grind (arith, bytes_eq-Decides, second_no_answer, named_second, first_no_answer)
 
 no_answer : (ws : List (List ℕ)) (what : List Event) → request ws ≡ Ok what → is_answer ws ≡ false
-no_answer [] what h = refl
-no_answer (word ∷ rest) what h = no_answer_words word rest what h (bytes_eq word (codes "second")) refl
+no_answer ws what h2 = grind (arith, no_answer_words)
 
 -- a line that asks for events, where so many came before
 asked_words : (n count : ℕ) (log : Log) (line : List ℕ) (new : List Event) (r : Result (List (List ℕ)) Cause)
     → length log.events ≡ count → (r >>= asked_after count) ≡ Ok new → 0 < length new
     → (r >>= after_words log line) ≡ Ok (asking log new)
 unfolding request
-asked_words n count log line new (Ok []) c e some = few (nat_le (count + 0) 1000000) e
-  where
-    few : (b : Bool) → (let r : Result (List Event) Cause = if b then Ok [] else Err causes.Events in r ≡ Ok new)
-        → (let r : Result Log Cause = Ok log in r ≡ Ok (asking log new))
-    few true f = let none : [] ≡ new = cc in absurd (omega (arith, some, ap length none))
-    few false f = cc
-asked_words n count log line new (Ok (w ∷ ws)) c e some =
-    let k = bound (request (w ∷ ws)) (fitting count) new e in
-    rw (no_answer (w ∷ ws) k.0 k.1) (ap (λ r. r >>= λ x. Ok (asking log x)) (ap (λ i. asked_after i (w ∷ ws)) c ∙ e))
-asked_words n count log line new (Err cause) c e some = cc
+asked_words n count log line new r h6 h7 h8 = grind (arith, bound, no_answer)
 
 pub asked_reads : (n count : ℕ) (log : Log) (line : List ℕ) (new : List Event) → length log.events ≡ count
     → asked_at n count line ≡ Ok new → 0 < length new → after_line n log line ≡ Ok (asking log new)
@@ -111,42 +88,30 @@ asked_reads n count log line new c e some = asked_words n count log line new (sa
 
 asked_ok : (n : ℕ) (r : Result (List Event) Cause) (what : List Event)
     → (in_line n r >>= λ new. Ok (Some new)) ≡ Ok (Some what) → r ≡ Ok what
-asked_ok n (Ok new) what e = let same : new ≡ what = cc in ap Ok same
-asked_ok n (Err cause) what e = cc
+asked_ok n r what h3 = grind arith
 
 -- the next line
 pub asked_line : (before count : ℕ) (all : List (List ℕ)) (what : List Event)
     → asked_next before count all ≡ Ok (Some what) → (line : List ℕ) × (all ≡ line ∷ drop 1 all) ×
     (asked_at (before + 1) count line ≡ Ok what)
-asked_line before count [] what e = cc
-asked_line before count (line ∷ rest) what e =
-    (line, refl, asked_ok (before + 1) (asked_at (before + 1) count line) what e)
+asked_line before count all what h4 = grind (arith, asked_ok)
 
 -- ---- a line that is no answer names no command
 
 unserved : (word : List ℕ) (rest : List (List ℕ)) (via : Connection) (b : Bool) → bytes_eq word (codes "serve") ≡ b
     → is_answer_word word ≡ false → served via (word ∷ rest) ≡ None
 unfolding served
-unserved word [] via b e h = refl
-unserved word (number ∷ rest) via false e h = rw e refl
-unserved word (number ∷ rest) via true e h =
-    absurd (false≢true (sym h ∙ ap is_answer_word ((bytes_eq-Decides word (codes "serve")).0 e)))
+unserved word rest via b h4 h5 = grind (arith, false≢true, bytes_eq-Decides)
 
 second_unserved : (rest : List (List ℕ)) → is_second_answer rest ≡ false → served Second rest ≡ None
 unfolding served
-second_unserved [] h = refl
-second_unserved (word ∷ rest) h = unserved word rest Second (bytes_eq word (codes "serve")) refl h
+second_unserved rest h1 = grind (arith, unserved)
 
 unnamed_words : (word : List ℕ) (rest : List (List ℕ)) (b : Bool) → bytes_eq word (codes "second") ≡ b
     → is_answer (word ∷ rest) ≡ false → name_in (word ∷ rest) ≡ None
 unfolding name_in
-unnamed_words word rest true e h =
-    let none : is_second_answer rest ≡ false = rw e at h in rw e (second_unserved rest none)
-unnamed_words word rest false e h =
-    let none : is_answer_word word ≡ false = rw e at h in
-    rw e (unserved word rest First (bytes_eq word (codes "serve")) refl none)
+unnamed_words word rest b h3 h4 = grind (arith, second_unserved, unserved)
 
 pub unnamed : (ws : List (List ℕ)) → is_answer ws ≡ false → name_in ws ≡ None
 unfolding name_in
-unnamed [] h = refl
-unnamed (word ∷ rest) h = unnamed_words word rest (bytes_eq word (codes "second")) refl h
+unnamed ws h1 = grind (arith, unnamed_words)

@@ -1,5 +1,5 @@
 -- What is among the elements of a list that has grown or shrunk.
-use Rattle.std.proofs.Common.{◌≡◌, Bool, List, [], Contains, filter, subst, arith, ◌<◌, length}
+use Rattle.std.proofs.Common.{◌≡◌, Bool, List, [], Contains, filter, arith}
 use Rattle.std.proofs.lemmas.List.Elements.{All-contains, All-contains_itself, All-filter}
 
 -- what is left of a list was there
@@ -8,5 +8,4 @@ among_left p xs x = All-contains (Contains xs) (filter p xs) x (All-filter p (Co
 
 -- nothing is among none
 pub none_among : {X : Type 0} (xs : List X) (x : X) → xs ≡ [] → Contains xs x → ⊥
-none_among {X} xs x e h =
-    let few : h.0 < length {A = X} [] = subst (λ (ys : List X). h.0 < length ys) e h.1 in omega arith
+none_among {X} xs x e h = search arith

@@ -1,13 +1,12 @@
 -- The bytes that a port is saved as say that port.
-use Rattle.std.proofs.Common.{◌≡◌, ℕ, ◌+◌, ◌*◌, ◌<◌, ◌≤◌, ◌^◌, Bool, true, false, List, ◌++◌, drop, take, get_or, length, append_assoc, refl, ap, sym, subst, ◌∙◌, arith}
-use Rattle.std.specs.Prelude.{flat_map, nat_eq, nat_le, not, if◌then◌else◌, Option, Some, None, IfSome, Ok, Err}
+use Rattle.std.proofs.Common.{◌≡◌, ℕ, ◌+◌, ◌*◌, ◌<◌, ◌≤◌, ◌^◌, Bool, true, List, ◌++◌, drop, take, get_or, length, append_assoc, refl, ap, subst, ◌∙◌, arith}
+use Rattle.std.specs.Prelude.{flat_map, if◌then◌else◌, Option, Some, None, IfSome, Ok, Err}
 use Rattle.std.specs.List.{AllByRecursion}
 use Rattle.std.proofs.Math.Seq.{drop-append_seam, take-append_seam}
 use Rattle.std.proofs.lemmas.Bool.{and_from, eq-eqb, le-leb, lt-ltb}
 use Rattle.std.proofs.lemmas.List.{drop-drop, length-append}
 use Rattle.std.proofs.lemmas.List.Elements.{recursion_from_All}
 use Rattle.std.proofs.lemmas.Slice.Eq.{bytes_eq-Decides}
-use Rattle.mscp_packet.specs.Number.{num}
 use Rattle.mscp_packet.proofs.Numbers.{four, two}
 use Rattle.mscp_saved.specs.Read.{parts_in}
 use Rattle.mscp_saved.specs.Restored.{restored as controller_restored}
@@ -21,50 +20,25 @@ use Rattle.mscp_port.specs.declared.port.restoring.RestoreFault.{RestoreFault}
 use Rattle.mscp_port.specs.declared.port.restoring.RestoreFault.TheVariants as faults
 use Rattle.mscp_port.specs.declared.volumes.Volume.{Volume}
 use Rattle.mscp_port.specs.Areas.{AreRings, Rings, are_rings}
-use Rattle.mscp_port.specs.Codes.{coded_task, has_size, number_or_none, optional, some_byte, stage_byte, stage_in, stage_word, task_in}
-use Rattle.mscp_port.specs.Restored.{area_in, buffer_count, buffer_in, buffers_in, coded_in, controller_place, frame_fault, is_framed, outgoing_in, over, port_in, restored, restored_unless, rings_if, text_count, text_in, volume_in, volumes_in, whose}
+use Rattle.mscp_port.specs.Codes.{coded_task, number_or_none, optional, some_byte, stage_byte, stage_in, stage_word, task_in}
+use Rattle.mscp_port.specs.Restored.{area_in, buffer_in, buffers_in, coded_in, frame_fault, is_framed, outgoing_in, over, port_in, restored, restored_unless, rings_if, text_in, volume_in, volumes_in, whose}
 use Rattle.mscp_port.specs.Saved.{HasBufferRange, HasRange, HasVolumeRange, buffer_bytes, length_of, outgoing_byte, outgoing_text, rings_or_none, saved_bytes, volume_bytes}
 use Rattle.mscp_port.proofs.Coded.{bus_back, optional_back, size_back, stage_back, task_back}
 
 -- ---- parts
 
 volume_is_back : (v : Volume) → HasVolumeRange v → IsBack volume_in volume_bytes 13 v
-volume_is_back v h = record {
-  back = λ t. λ i. record {
-    is_there = flag_back v.is_there i;
-    is_protected = flag_back v.is_protected i;
-    is_protected_by_host = flag_back v.is_protected_by_host i;
-    changes = four v.changes h.changes i;
-    mounted = (ap (optional (some_byte v.mounted)) (four (number_or_none v.mounted) h.mounted)
-        ∙ optional_back v.mounted) i;
-    is_news = flag_back v.is_news i;
-  };
-  rest = λ t. refl;
-  long = refl;
-}
+volume_is_back v h = search (arith, four (number_or_none v.mounted) h.mounted, optional_back v.mounted, flag_back)
 
 buffer_is_back : (b : Buffer) → HasBufferRange b → IsBack buffer_in buffer_bytes 20 b
-buffer_is_back b h = record {
-  back = λ t. λ i. record {
-    reference = four b.reference h.reference i;
-    address = four b.address h.address i;
-    count = four b.count h.count i;
-    modifiers = two b.modifiers h.modifiers i;
-    flags = two b.flags h.flags i;
-    changes = four b.changes h.changes i;
-  };
-  rest = λ t. refl;
-  long = refl;
-}
+buffer_is_back b h = search (arith, four, two)
 
 text_back : (text : List ℕ) (so : Bool)
     → outgoing_in (if so then 2 else 1) text ≡ Some (record { bytes = record { items = text }; is_end = so })
-text_back text true = refl
-text_back text false = refl
+text_back text so = grind arith
 
 outgoing_back : (o : Option Outgoing) → outgoing_in (outgoing_byte o) (outgoing_text o) ≡ o
-outgoing_back None = refl
-outgoing_back (Some o) = text_back o.bytes.items o.is_end
+outgoing_back o = grind (arith, text_back)
 
 are_rings_of : (r : Rings) → AreRings r → are_rings r ≡ true
 are_rings_of r h =
@@ -73,8 +47,7 @@ are_rings_of r h =
     (and_from _ _ (le-leb 1 r.commands h.command) (le-leb r.commands 128 h.commands))
 
 rings_is : (o : Option Rings) → IfSome o (λ r. AreRings r) → rings_if (some_byte o) (rings_or_none o) ≡ o
-rings_is None h = refl
-rings_is (Some r) h = ap (λ (yes : Bool). if yes then Some r else None) (are_rings_of r h)
+rings_is o h1 = grind (arith, are_rings_of)
 
 -- the numbers of rings are small
 pub record AreSmall (r : Rings) : Type 0 where
@@ -83,12 +56,7 @@ pub record AreSmall (r : Rings) : Type 0 where
   pub commands : r.commands < 2 ^ 32
 
 small : (o : Option Rings) → IfSome o (λ r. AreRings r) → AreSmall (rings_or_none o)
-small None h = record { base = omega arith; responses = omega arith; commands = omega arith }
-small (Some r) h = record {
-  base = omega (arith, h.low);
-  responses = omega (arith, h.responses);
-  commands = omega (arith, h.commands);
-}
+small o h1 = grind arith
 
 -- ---- all
 
@@ -113,28 +81,23 @@ module _ {K : Type 0} (number : ℕ) (p : Port K) where
       (λ k d l. volume_is_back (get_or p.volumes k d) (r.volumes k d l))
 
   buffers_back : HasRange p → AllByRecursion (IsBack buffer_in buffer_bytes 20) p.buffers.items
-  buffers_back r = recursion_from_All (IsBack buffer_in buffer_bytes 20) p.buffers.items
-      (λ k d l. buffer_is_back (get_or p.buffers.items k d) (r.buffers k d l))
+  buffers_back r = search (arith, recursion_from_All, buffer_is_back)
 
   behind_head : drop 72 b ≡ vs ++ (ts ++ (bs ++ cs))
   behind_head = append_assoc (vs ++ ts) bs cs ∙ append_assoc vs ts (bs ++ cs)
 
   behind_volumes : HasRange p → drop 280 b ≡ ts ++ (bs ++ cs)
   behind_volumes r =
-      sym (drop-drop 208 72 b)
-      ∙ (ap (drop 208) behind_head
-      ∙ subst (λ n. drop (13 * n) (vs ++ (ts ++ (bs ++ cs))) ≡ ts ++ (bs ++ cs)) r.sixteen
-      (parts_rest volume_in volume_bytes 13 p.volumes (ts ++ (bs ++ cs)) (volumes_back r)))
+      search (arith, drop-drop 208 72 b, parts_rest volume_in volume_bytes 13 p.volumes (ts ++ (bs ++ cs)) (volumes_back
+      r), volumes_back r, behind_head)
 
   behind_text : HasRange p → drop (280 + length ts) b ≡ bs ++ cs
-  behind_text r =
-      sym (drop-drop (length ts) 280 b) ∙ (ap (drop (length ts)) (behind_volumes r) ∙ drop-append_seam ts (bs ++ cs))
+  behind_text r = search (arith, drop-drop (length ts) 280 b, behind_volumes r, drop-append_seam ts (bs ++ cs))
 
   behind_buffers : HasRange p → drop (280 + length ts + 20 * length p.buffers.items) b ≡ cs
   behind_buffers r =
-      sym (drop-drop (20 * length p.buffers.items) (280 + length ts) b)
-      ∙ (ap (drop (20 * length p.buffers.items)) (behind_text r)
-      ∙ parts_rest buffer_in buffer_bytes 20 p.buffers.items cs (buffers_back r))
+      search (arith, drop-drop (20 * length p.buffers.items) (280 + length ts) b, behind_text r, parts_rest buffer_in
+      buffer_bytes 20 p.buffers.items cs (buffers_back r), buffers_back r)
 
   volumes_said : HasRange p → volumes_in b ≡ p.volumes
   volumes_said r =
@@ -151,26 +114,10 @@ module _ {K : Type 0} (number : ℕ) (p : Port K) where
       ∙ parts_said buffer_in buffer_bytes 20 p.buffers.items cs (buffers_back r)
 
   area_said : HasRange p → area_in b ≡ rings_or_none p.rings
-  area_said r =
-      let few = small p.rings r.hand.rings in
-      λ i. record {
-        base = four (rings_or_none p.rings).base few.base i;
-        responses = four (rings_or_none p.rings).responses few.responses i;
-        commands = four (rings_or_none p.rings).commands few.commands i;
-      }
+  area_said r = search (arith, small p.rings r.hand.rings, four)
 
   coded_said : HasRange p → coded_in b ≡ coded_task p.task
-  coded_said r =
-      let c = coded_task p.task in
-      let h = r.hand.coded in
-      λ i. record {
-        task = c.task;
-        whom = c.whom;
-        first = four c.first h.first i;
-        second = four c.second h.second i;
-        two = two c.two h.two i;
-        how = c.how;
-      }
+  coded_said r = search (arith, four, two)
 
   port_said : HasRange p → port_in b p.controller ≡ p
   port_said r = λ i. record {
@@ -209,32 +156,15 @@ module _ {K : Type 0} (number : ℕ) (p : Port K) where
 
   saved_long : HasRange p → length b ≡ length_of number p
   saved_long r =
-      let v = parts_long volume_in volume_bytes 13 p.volumes (volumes_back r) in
-      let k = parts_long buffer_in buffer_bytes 20 p.buffers.items (buffers_back r) in
-      let sixteen = r.sixteen in
-      let e1 = length-append (vs ++ ts ++ bs) cs in
-      let e2 = length-append (vs ++ ts) bs in
-      let e3 = length-append vs ts in
-      omega (arith, v, k, sixteen, e1, e2, e3)
+      search (arith, parts_long volume_in volume_bytes 13 p.volumes (volumes_back r), volumes_back r, parts_long
+      buffer_in buffer_bytes 20 p.buffers.items (buffers_back r), buffers_back r, length-append (vs ++ ts ++ bs) cs,
+      length-append (vs ++ ts) bs, length-append vs ts)
 
   framed : HasRange p → length cs ≤ 3664 → is_framed b ≡ true
-  framed r fits =
-      let long = saved_long r in
-      let short = r.short in
-      let few = r.few in
-      let low : length_of number p < 2 ^ 32 = omega (arith, short, few, fits) in
-      let told : num b 8 4 ≡ length b = four (length_of number p) low ∙ sym long in
-      and_from (nat_le 280 (length b)) _ (le-leb 280 (length b) (omega (arith, long)))
-      (and_from (nat_eq (num b 8 4) (length b)) _ (eq-eqb (num b 8 4) (length b) told)
-      (and_from (nat_le (text_count b) 48) _ (le-leb (text_count b) 48 short)
-      (and_from (nat_le (buffer_count b) 64) _ (le-leb (buffer_count b) 64 few)
-      (le-leb (controller_place b) (length b) (omega (arith, long))))))
+  framed r fits = search (arith, saved_long r, four, and_from, le-leb, eq-eqb)
 
   frame_passes : HasRange p → length cs ≤ 3664 → frame_fault b ≡ None
-  frame_passes r fits =
-      (λ i. if not (framed r fits i) then Some faults.Length else
-      (if not (has_size (coded_said r i)) then Some faults.Size else None))
-      ∙ (λ i. if not (size_back p.task r.hand.task i) then Some faults.Size else None)
+  frame_passes r fits = search (arith, framed, coded_said, size_back)
 
   -- ---- the bytes say the port
 

@@ -1,6 +1,6 @@
 -- A message by which a command comes: its number is new, and the controller gets it as it was read.
-use Rattle.std.proofs.Common.{◌≡◌, ◌∙◌, ◌%◌, ◌≤◌, ◌&&◌, ◌||◌, ℕ, Bool, true, false, cond, not, List, [], ◌∷◌, ◌++◌, None, Some, refl, ap, sym, length, take, drop, arith}
-use Rattle.std.specs.Prelude.{if◌then◌else◌, nat_eq, nat_lt, slice_index}
+use Rattle.std.proofs.Common.{◌≡◌, ◌∙◌, ◌%◌, ◌&&◌, ℕ, Bool, true, false, cond, not, List, [], ◌∷◌, ◌++◌, None, Some, refl, sym, length, take, drop, arith}
+use Rattle.std.specs.Prelude.{nat_eq, nat_lt, slice_index}
 use Rattle.std.specs.List.{list_any}
 use Rattle.std.proofs.lemmas.Bool.{and_parts, eqb-true, false≢true, le-ltb, ltb-false, or_parts}
 use Rattle.std.proofs.lemmas.List.Folds.{list_any-append}
@@ -8,19 +8,14 @@ use Rattle.std.proofs.lemmas.Option.{none-some}
 use Rattle.byteorder.specs.Endian.{little_bytes}
 use Rattle.mscp_packet.specs.Commands.{command_of, order_with}
 use Rattle.mscp_packet.specs.Number.{num}
-use Rattle.mscp_packet.specs.Opcodes.{class, is_immediate_class, least, opcode_of}
-use Rattle.mscp_packet.specs.Statuses.{invalid_length}
-use Rattle.mscp_packet.specs.declared.class.Opcode.TheVariants as codes
-use Rattle.mscp_packet.specs.declared.command.Order.TheVariants as orders
+use Rattle.mscp_packet.specs.Opcodes.{class, is_immediate_class, opcode_of}
 use Rattle.mscp_drive.specs.Shape.{Shape}
 use Rattle.mscp_events.specs.declared.connection.Connection.TheVariants.{First}
-use Rattle.mscp_events.specs.Both.{of}
 use Rattle.mscp_events.specs.Settings.{Settings}
-use Rattle.mscp_queue.specs.Names.{same_connection}
 use Rattle.mscp_queue.specs.Records.{Record}
 use Rattle.mscp_controller.specs.declared.entry.SendFault.TheVariants as faults
 use Rattle.mscp_controller.specs.Arrival.{holds, is_queued, refusal}
-use Rattle.mscp_controller.specs.Holdings.{Holdings, numbers, numbers_ended, outstanding_of, waiting_on}
+use Rattle.mscp_controller.specs.Holdings.{Holdings, numbers, outstanding_of, waiting_on}
 use Rattle.mscp_port.specs.Messages.{asks_for_next, handed, next_unit}
 use Rattle.mscp_port.proofs.Kept.{is_numbered}
 
@@ -29,34 +24,18 @@ use Rattle.mscp_port.proofs.Kept.{is_numbered}
 any_numbers : (n : ℕ) (rs : List Record)
     → list_any (λ x. nat_eq x n) (numbers (waiting_on First rs)) ≡ list_any (is_numbered n) rs
 any_numbers n [] = refl
-any_numbers n (r ∷ rs) = by (same_connection r.connection First) (any_numbers n rs)
-  where
-    by : (b : Bool) → list_any (λ x. nat_eq x n) (numbers (waiting_on First rs)) ≡ list_any (is_numbered n) rs
-        → list_any (λ x. nat_eq x n) (numbers (cond b (r ∷ waiting_on First rs) (waiting_on First rs)))
-        ≡ ((b && nat_eq r.command.reference n) || list_any (is_numbered n) rs)
-    by true e = ap (λ t. nat_eq r.command.reference n || t) e
-    by false e = e
+any_numbers n (r ∷ rs) = search (arith, any_numbers n rs, is_numbered n)
 
 pub none_waits : {K : Type 0} (h : Holdings K) (n : ℕ) → holds (outstanding_of First h) n ≡ false
     → list_any (is_numbered n) h.waiting ≡ false
-none_waits h n e =
-    let waiting = numbers (waiting_on First h.waiting) in
-    let ended = numbers_ended (of First h.untaken) in
-    let both = list_any-append (λ x. nat_eq x n) waiting ended in
-    sym (any_numbers n h.waiting)
-    ∙ (or_parts (list_any (λ x. nat_eq x n) waiting) (list_any (λ x. nat_eq x n) ended) (sym both ∙ e)).0
+none_waits h n e = search (arith, any_numbers n h.waiting, list_any-append, or_parts)
 
 not_refused : (short long none one held : Bool)
     → cond short (Some faults.Short) (cond long (Some faults.Long)
     (cond none (Some faults.NoCredit) (cond one (Some faults.LastCredit) (cond held (Some faults.Doubled) None))))
     ≡ None
     → (short ≡ false) × (held ≡ false)
-not_refused true long none one held e = absurd (none-some faults.Short (sym e))
-not_refused false true none one held e = absurd (none-some faults.Long (sym e))
-not_refused false false true one held e = absurd (none-some faults.NoCredit (sym e))
-not_refused false false false true held e = absurd (none-some faults.LastCredit (sym e))
-not_refused false false false false true e = absurd (none-some faults.Doubled (sym e))
-not_refused false false false false false e = (refl, refl)
+not_refused short long none one held h5 = grind (arith, none-some)
 
 pub taken_number : (balance : ℕ) (os b : List ℕ) → refusal balance os b ≡ None
     → (nat_lt (length b) 12 ≡ false) × (holds os (num b 0 4) ≡ false)
@@ -64,32 +43,19 @@ taken_number balance os b e = not_refused (nat_lt (length b) 12) (nat_lt 64 (len
     (nat_eq balance 1 && not (is_immediate_class (class (slice_index b 8)))) (holds os (num b 0 4)) e
 
 pub long_enough : (b : List ℕ) → nat_lt (length b) 12 ≡ false → nat_lt (length b) 4 ≡ false
-long_enough b e =
-    let long : 12 ≤ length b = ltb-false (length b) 12 e in
-    le-ltb (length b) 4 (omega (arith, long))
+long_enough b e = search (arith, ltb-false (length b) 12 e, le-ltb)
 
 -- ---- a command that is queued is the one that was read
 
 -- a GET UNIT STATUS isn't queued
 status_not_queued : (c : Settings) (reference unit s : ℕ) (x : List ℕ) → s ≡ 3
     → is_queued c (record { reference = reference; unit = unit; order = order_with (opcode_of s) x }) ≡ false
-status_not_queued c reference unit s x e =
-    ap (λ n. is_queued c (record { reference = reference; unit = unit; order = order_with (opcode_of n) x })) e
-    ∙ by (nat_lt (length x) (least codes.UnitStatus))
-  where
-    by : (t : Bool) → is_queued c (record {
-      reference = reference;
-      unit = unit;
-      order = if t then orders.Invalid (slice_index x 8) invalid_length else orders.UnitStatus;
-    }) ≡ false
-    by true = refl
-    by false = refl
+status_not_queued c reference unit s x e = search arith
 
 -- its opcode is handed on
 opcode_handed : (n : ℕ) (b : List ℕ) → nat_eq (slice_index b 8) 3 ≡ true
     → slice_index (take 4 b ++ little_bytes 2 n ++ drop 6 b) 8 ≡ slice_index b 8
-opcode_handed n (s ∷ t ∷ u ∷ v ∷ w ∷ x ∷ rest) e = refl
-opcode_handed n b e = absurd (false≢true e)
+opcode_handed n b h2 = grind (arith, false≢true)
 
 pub handed_as_read : (c : Settings) (units : List Shape) (b : List ℕ)
     → is_queued c (command_of (handed units b)) ≡ true → handed units b ≡ b

@@ -1,6 +1,6 @@
 -- What comes of bytes whose head has no fault.
-use Rattle.std.proofs.Common.{◌≡◌, ℕ, ◌+◌, Bool, true, false, List, drop, refl, ap, sym, ◌∙◌}
-use Rattle.std.specs.Prelude.{Option, Some, None, Result, Ok, Err, if◌then◌else◌, slice_index}
+use Rattle.std.proofs.Common.{◌≡◌, ℕ, ◌+◌, Bool, true, false, List, drop, ap, sym, ◌∙◌, arith}
+use Rattle.std.specs.Prelude.{Option, None, Result, Ok, Err, if◌then◌else◌, slice_index}
 use Rattle.std.specs.Str.{bytes_eq}
 use Rattle.std.proofs.lemmas.List.{get_or-drop}
 use Rattle.std.proofs.lemmas.Slice.Eq.{bytes_eq-Decides}
@@ -11,15 +11,14 @@ use Rattle.mscp_saved.proofs.Faithful.{same_of}
 use Rattle.mscp_port.specs.declared.port.Port.{Port}
 use Rattle.mscp_port.specs.declared.port.restoring.RestoreFault.{RestoreFault}
 use Rattle.mscp_port.specs.declared.port.restoring.RestoreFault.TheVariants as faults
-use Rattle.mscp_port.specs.Restored.{controller_place, frame_fault, over, port_in, restored, restored_unless, whose}
+use Rattle.mscp_port.specs.Restored.{controller_place, frame_fault, over, restored, restored_unless, whose}
 use Rattle.mscp_port.specs.Saved.{saved_bytes}
 
 -- the bytes of a controller say this
 pub comes : {K : Type 0} (number : ℕ) (picker : K) (b : List ℕ) (r : Result (Holdings K) ControllerFault)
     → frame_fault b ≡ None → r ≡ controller_restored number picker (drop (controller_place b) b)
     → over number b r ≡ restored number picker b
-comes number picker b r none said =
-    ap (over number b) said ∙ ap (λ (f : Option RestoreFault). restored_unless f number picker b) (sym none)
+comes number picker b r none said = search arith
 
 -- and the port over it is saved as other bytes, or as these
 pub is_whose : {K : Type 0} (number : ℕ) (b : List ℕ) (p : Port K) (same : Bool)
@@ -40,8 +39,7 @@ module _ {K : Type 0} (number : ℕ) (picker : K) (b : List ℕ) (p : Port K) wh
 
   by_fault : (f : Option RestoreFault) → restored_unless f number picker b ≡ Ok p
       → slice_index b (controller_place b + 30) ≡ number
-  by_fault (Some fault) e = cc
-  by_fault None e = by_controller (controller_restored number picker (drop (controller_place b) b)) refl e
+  by_fault f h1 = grind (arith, by_controller)
 
   -- its bytes tell the number of its picker
   pub number_told : restored number picker b ≡ Ok p → slice_index b (controller_place b + 30) ≡ number
@@ -55,12 +53,10 @@ module _ {K : Type 0} (number : ℕ) (picker : K) (b : List ℕ) (p : Port K) wh
   by_bytes false q is e = cc
 
   by_over : (r : Result (Holdings K) ControllerFault) → over number b r ≡ Ok p → saved_bytes number p ≡ b
-  by_over (Err fault) e = cc
-  by_over (Ok h) e = by_bytes (bytes_eq (saved_bytes number (port_in b h)) b) (port_in b h) refl e
+  by_over r h1 = grind (arith, by_bytes)
 
   by_any : (f : Option RestoreFault) → restored_unless f number picker b ≡ Ok p → saved_bytes number p ≡ b
-  by_any (Some fault) e = cc
-  by_any None e = by_over (controller_restored number picker (drop (controller_place b) b)) e
+  by_any f h1 = grind (arith, by_over)
 
   -- it is saved as them
   pub bytes_told : restored number picker b ≡ Ok p → saved_bytes number p ≡ b

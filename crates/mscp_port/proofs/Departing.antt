@@ -1,5 +1,5 @@
 -- What goes out of a port over a whole history.
-use Rattle.std.proofs.Common.{◌≡◌, ◌⊎◌, ◌∙◌, ◌++◌, ◌∷◌, [], ℕ, List, Option, None, Some, IfSome, inl, inr, ap, sym, subst}
+use Rattle.std.proofs.Common.{◌≡◌, ◌⊎◌, ◌∙◌, ◌++◌, ◌∷◌, [], ℕ, List, Option, None, Some, IfSome, inl, inr, ap, sym, subst, arith}
 use Rattle.std.specs.Prelude.{option_to_list}
 use Rattle.std.proofs.lemmas.List.{append-nil}
 use Rattle.std.proofs.lemmas.Option.{none-some}
@@ -13,7 +13,7 @@ use Rattle.mscp_port.specs.declared.stage.Stage.TheVariants as stages
 use Rattle.mscp_port.specs.declared.task.Task.TheVariants as tasks
 use Rattle.mscp_port.specs.Calls.{Dies, IsMadeOf}
 use Rattle.mscp_port.specs.Departures.{IsDelivered, IsForgotten, begins, begun, gone, leaves}
-use Rattle.mscp_port.specs.Histories.{Answered, Becomes, Call, NamesPacket, reads, WriteIp, ReadIp, WriteSa, Next, WasRead, Went, LookAgain, Tick, Change}
+use Rattle.mscp_port.specs.Histories.{Answered, Becomes, Call, NamesPacket, reads}
 use Rattle.mscp_port.specs.Outgoings.{Says}
 use Rattle.mscp_port.specs.Ports.{in_hand}
 use Rattle.mscp_port.proofs.Loads.{looks_or_not}
@@ -37,33 +37,10 @@ dead : {K : Type 0} (old new : Port K) → Dies old new → Passes old new
 dead old new d = forgotten old new (stages.Dead d.0, d.1)
 
 said : {K : Type 0} (old new : Port K) → Says old new → Passes old new
-said old new says = elim (looks_or_not old) [
-  | inl looks ↦ inr (inl looks.outgoing)
-  | inr still ↦ inl (says.keeps still).outgoing
-]
+said old new says = search (arith, looks_or_not old)
 
 passes : {K : Type 0} (call : Call) (old new : Port K) → Becomes call old new → Passes old new
-passes WriteIp old new r = forgotten old new (stages.First, r)
-passes ReadIp old new r = elim r.frame [ inl e ↦ inl (ap (λ p. p.outgoing) e) | inr d ↦ dead old new d ]
-passes (WriteSa word) old new r = elim r.frame [ inl e ↦ inl (ap (λ p. p.outgoing) e) | inr d ↦ dead old new d ]
-passes (Next action) old new r = said old new r.says
-passes (WasRead bytes result) old new r = elim r.out [
-  | inl same ↦ inl same
-  | inr more ↦ elim more [ inl own ↦ inr (inl own.4.nothing) | inr d ↦ dead old new d ]
-]
-passes (Went outcome result) old new r = elim r.out [
-  | inl same ↦ inl same
-  | inr more ↦ elim more [
-    | inl has_said ↦ inr (inr (has_said.out, inr has_said.returned))
-    | inr d ↦ dead old new d
-  ]
-]
-passes LookAgain old new r = inl (ap (λ p. p.outgoing) r)
-passes Tick old new r = elim r.either [
-  | inl e ↦ inl (ap (λ p. p.outgoing) e)
-  | inr d ↦ forgotten old new (stages.Dead 9, d)
-]
-passes (Change there protected unit result) old new r = inl (ap (λ p. p.outgoing) r.frame)
+passes call old new h3 = grind (arith, forgotten, dead, said)
 
 -- ---- the law of order
 
@@ -71,23 +48,12 @@ passes (Change there protected unit result) old new r = inl (ap (λ p. p.outgoin
 in_step : (xs ys : List Outgoing) (before after : Option Outgoing) (Gone : Type 0)
     → (after ≡ before) ⊎ (before ≡ None) ⊎ ((after ≡ None) × Gone) → xs ≡ ys ++ option_to_list before
     → xs ++ begins before after ≡ (ys ++ leaves before after) ++ option_to_list after
-in_step xs ys None None Gone h e = ap (λ zs. zs ++ []) e
-in_step xs ys None (Some b) Gone h e = ap (λ zs. zs ++ b ∷ []) e
-in_step xs ys (Some a) None Gone h e = ap (λ zs. zs ++ []) e
-in_step xs ys (Some a) (Some b) Gone h e = elim h [
-  | inl same ↦ append-nil xs ∙ e ∙ sym (ap (λ zs. zs ++ b ∷ []) (append-nil ys)
-      ∙ ap (λ o. ys ++ option_to_list o) same)
-  | inr more ↦ elim more [
-    | inl none ↦ absurd (none-some a (sym none))
-    | inr left ↦ absurd (none-some b (sym left.0))
-  ]
-]
+in_step xs ys before after Gone h5 h6 = grind (arith, append-nil, none-some)
 
 pub speaks_in_order : {K : Type 0} (hardware : Hardware) (credits : ℕ) (controller : Holdings K) (start p : Port K)
     (calls : List Call) → IsMadeOf hardware credits controller start → (a : Answered start calls p)
     → begun start p calls a ≡ gone start p calls a ++ option_to_list p.outgoing
-speaks_in_order hardware credits controller start p [] made e =
-    sym (ap option_to_list (ap (λ q. q.outgoing) e ∙ made.outgoing))
+speaks_in_order hardware credits controller start p [] made e = search arith
 speaks_in_order hardware credits controller start p (call ∷ calls) made a =
     in_step (begun start a.0 calls a.1) (gone start a.0 calls a.1) a.0.outgoing p.outgoing
     (IsForgotten a.0 p ⊎ IsReturned a.0) (passes call a.0 p a.2)
@@ -102,12 +68,9 @@ named_of o word bs e h = subst (λ x. IfSome x (λ w. NamesPacket bs w)) e h
 delivered : {K : Type 0} (hardware : Hardware) (credits : ℕ) (controller : Holdings K) (start old : Port K)
     (calls : List Call) → IsMadeOf hardware credits controller start → Answered start calls old → IsReturned old
     → IsDelivered calls old
-delivered hardware credits controller start old calls made a returned = (
-  returned.0,
-  returned.1,
-  named_of (in_hand old.task) returned.0.word (reads calls) (ap in_hand returned.1)
-      (knows hardware credits controller start old calls made a).packet,
-)
+delivered hardware credits controller start old calls made a returned =
+    search (arith, named_of (in_hand old.task) returned.0.word (reads calls) (ap in_hand returned.1) (knows hardware
+    credits controller start old calls made a).packet, knows hardware credits controller start old calls made a)
 
 pub fills_its_slot : {K : Type 0} (hardware : Hardware) (credits : ℕ) (controller : Holdings K) (start p : Port K)
     (call : Call) (calls : List Call) (o : Outgoing) → IsMadeOf hardware credits controller start

@@ -1,6 +1,6 @@
 -- Bytes that are a port's: those in front of the controller's are those that it is saved as.
-use Rattle.std.proofs.Common.{◌≡◌, ◌≤◌, ◌+◌, ◌-◌, ◌++◌, ℕ, List, Bool, true, false, take, drop, length, nat_eq, refl, sym, ap, ◌∙◌, arith}
-use Rattle.std.specs.Prelude.{if◌then◌else◌, slice_index, Some, None}
+use Rattle.std.proofs.Common.{◌≡◌, ◌≤◌, ◌+◌, ◌-◌, ◌++◌, ℕ, List, Bool, false, take, drop, length, nat_eq, refl, ap, ◌∙◌, arith}
+use Rattle.std.specs.Prelude.{slice_index}
 use Rattle.std.specs.Str.{bytes_eq}
 use Rattle.std.proofs.lemmas.Bool.{false≢true}
 use Rattle.std.proofs.lemmas.List.{append_cancel_right, length-drop, length-take, take-append-drop}
@@ -8,49 +8,29 @@ use Rattle.std.proofs.lemmas.Slice.Eq.{bytes_eq-Decides}
 use Rattle.mscp_controller.specs.Holdings.{Holdings}
 use Rattle.mscp_saved.specs.Saved.{saved_bytes as controller_bytes}
 use Rattle.mscp_saved.proofs.Parted.{parts_long}
-use Rattle.mscp_port.specs.Restored.{IsFramed, buffer_count, buffer_in, buffer_place, buffers_in, controller_place, front_in, outgoing_in, port_in, text_count, text_in, told_front}
+use Rattle.mscp_port.specs.Restored.{IsFramed, buffer_count, buffer_in, buffer_place, controller_place, front_in, outgoing_in, port_in, text_count, text_in, told_front}
 use Rattle.mscp_port.specs.Saved.{front_bytes, length_before, outgoing_text, saved_bytes}
 
 -- what goes out is no longer than what is told of it
 pub text_short : (byte : ℕ) (text : List ℕ) → length (outgoing_text (outgoing_in byte text)) ≤ length text
-text_short byte text = by (nat_eq byte 0)
-  where
-    by : (z : Bool)
-        → length (outgoing_text (if z then None
-        else Some (record { bytes = record { items = text }; is_end = nat_eq byte 2 }))) ≤ length text
-    by true = omega arith
-    by false = omega arith
+text_short byte text = search (arith, nat_eq byte 0, nat_eq byte 2)
 
 -- how long all is
 pub total_is : (b : List ℕ) → IsFramed b
     → length (outgoing_text (front_in b).outgoing) + (length b - text_count b)
     ≡ length_before (length b - controller_place b) (front_in b)
-total_is b f =
-    let many : length (buffers_in b) ≡ buffer_count b =
-    parts_long buffer_in 20 (buffer_count b) (drop (buffer_place b) b) in
-    let parts = f.parts in
-    omega (arith, many, parts)
+total_is b f = search (arith, parts_long buffer_in 20 (buffer_count b) (drop (buffer_place b) b))
 
 pub text_told : (b : List ℕ) → IsFramed b → length (outgoing_text (front_in b).outgoing) ≤ text_count b
-text_told b f =
-    let short = text_short (slice_index b 69) (text_in b) in
-    let long = length-take (text_count b) (drop 280 b) in
-    omega (arith, short, long)
+text_told b f = search (arith, text_short (slice_index b 69) (text_in b), length-take (text_count b) (drop 280 b))
 
 -- the same bytes behind two lists leave them the same, or other
 module _ (told front rest saved b : List ℕ) (whole : saved ≡ told ++ rest) (parts : front ++ rest ≡ b) where
   other : (y : Bool) → bytes_eq saved b ≡ y → bytes_eq told front ≡ false → false ≡ y
-  other true e differ =
-      let cut = append_cancel_right told front rest
-      (sym whole ∙ ((bytes_eq-Decides saved b).0 e ∙ sym parts)) in
-      absurd (false≢true (sym differ ∙ (bytes_eq-Decides told front).1 cut))
-  other false e differ = refl
+  other y h1 h2 = grind (arith, append_cancel_right, bytes_eq-Decides, false≢true)
 
   by_front : (x : Bool) → bytes_eq told front ≡ x → bytes_eq told front ≡ bytes_eq saved b
-  by_front true e =
-      let cut = (bytes_eq-Decides told front).0 e in
-      e ∙ sym ((bytes_eq-Decides saved b).1 (whole ∙ (ap (λ l. l ++ rest) cut ∙ parts)))
-  by_front false e = e ∙ other (bytes_eq saved b) refl e
+  by_front x h1 = grind (arith, bytes_eq-Decides, other)
 
 -- the bytes in front of the controller's are those of a port over that just where all bytes are
 pub same_front : {K : Type 0} (number : ℕ) (b : List ℕ) (h : Holdings K)

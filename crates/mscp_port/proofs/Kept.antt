@@ -1,10 +1,10 @@
 -- What a port keeps of a command was said by the message by which that command came.
-use Rattle.std.proofs.Common.{◌≡◌, ◌≢◌, ◌∙◌, ◌<◌, ◌+◌, ◌||◌, ℕ, Bool, true, false, cond, not, List, [], ◌∷◌, ◌++◌, Option, None, Some, refl, ap, sym, subst, length, map, take, drop}
+use Rattle.std.proofs.Common.{◌≡◌, ◌≢◌, ◌∙◌, ◌<◌, ◌+◌, ◌||◌, ℕ, Bool, true, false, not, List, [], ◌∷◌, ◌++◌, Option, None, refl, ap, sym, length, map, take, drop, arith}
 use Rattle.std.specs.Prelude.{All, find, nat_eq}
 use Rattle.std.specs.List.{list_any}
 use Rattle.std.proofs.lemmas.Bool.{and_parts, eqb-true, false≢true, or_left, or_parts, or_right}
 use Rattle.std.proofs.lemmas.List.{drop_more, take-append-drop}
-use Rattle.std.proofs.lemmas.List.Elements.{All-append, All-cons, All-drop, All-filter, All-get_or, All-map, All-nil, All-push, All-take, All-weaker}
+use Rattle.std.proofs.lemmas.List.Elements.{All-append, All-cons, All-drop, All-filter, All-get_or, All-map, All-nil, All-push, All-take}
 use Rattle.std.proofs.lemmas.List.Folds.{list_any-append}
 use Rattle.std.proofs.lemmas.Map.Views.{any-filter_same}
 use Rattle.std.proofs.lemmas.Option.{none-some}
@@ -13,7 +13,7 @@ use Rattle.mscp_events.specs.declared.block.Block.{Block}
 use Rattle.mscp_events.specs.declared.connection.Connection.TheVariants.{First}
 use Rattle.mscp_queue.specs.declared.drive.Drive.{Drive}
 use Rattle.mscp_queue.specs.Names.{name_on, same_connection}
-use Rattle.mscp_queue.specs.Records.{Record, advanced, has_name, no_record, passed_by, record_at, remains, step_charge, without}
+use Rattle.mscp_queue.specs.Records.{Record, has_name, no_record, passed_by, record_at, remains, step_charge, without}
 use Rattle.mscp_queue.specs.Serving.{end_given, waiting_after}
 
 -- ---- the commands that wait
@@ -32,10 +32,7 @@ IsTo P n r = is_numbered n r ≡ true → P r.command.unit
 
 pub weaker_for : (P Q : ℕ → Type 0) (n : ℕ) (rs : List Record) → ((unit : ℕ) → P unit → Q unit) → IsFor P n rs
     → IsFor Q n rs
-weaker_for P Q n rs f is = record {
-  waits = is.waits;
-  units = All-weaker (IsTo P n) (IsTo Q n) (λ r h at. f r.command.unit (h at)) rs is.units;
-}
+weaker_for P Q n rs f is = search arith
 
 -- ---- a step
 
@@ -46,18 +43,14 @@ any_passed n t (r ∷ rs) = ap (λ b. is_numbered n r || b) (any_passed n t rs)
 
 -- the one that was served stays, or it was another
 any_of_three : (a b c m : Bool) → (a || (b || c)) ≡ true → (b ≡ true → m ≡ true) → (a || (m || c)) ≡ true
-any_of_three true b c m e f = refl
-any_of_three false true c m e f = ap (λ x. x || c) (f refl)
-any_of_three false false c m e f = or_right m c e
+any_of_three a b c m h4 h5 = grind (arith, or_right)
 
 any_remains : (n : ℕ) (r : Record) (o : Option End) → (is_numbered n r ≡ true → o ≡ None)
     → is_numbered n r ≡ true → list_any (is_numbered n) (remains r o) ≡ true
-any_remains n r o stays is =
-    subst (λ x. list_any (is_numbered n) (remains r x) ≡ true) (sym (stays is)) (or_left (is_numbered n r) false is)
+any_remains n r o stays is = search (arith, or_left (is_numbered n r) false is)
 
 to_remains : (P : ℕ → Type 0) (n : ℕ) (r : Record) (o : Option End) → IsTo P n r → All (IsTo P n) (remains r o)
-to_remains P n r None h = All-cons (IsTo P n) (advanced r) [] h (All-nil (IsTo P n))
-to_remains P n r (Some e) h = All-nil (IsTo P n)
+to_remains P n r o h4 = grind arith
 
 pub served_for : (P : ℕ → Type 0) (n : ℕ) (k : Block) (d : Drive) (rs : List Record) (place : ℕ) → place < length rs
     → (is_numbered n (record_at rs place) ≡ true → end_given k d (record_at rs place) ≡ None) → IsFor P n rs
@@ -138,10 +131,4 @@ aborted_for P n m rs ne is = record {
 pub found_numbered : (n : ℕ) (rs : List Record) → list_any (is_numbered n) rs ≡ true
     → find (is_numbered n) rs ≢ None
 found_numbered n [] e = absurd (false≢true e)
-found_numbered n (r ∷ rs) e = by (is_numbered n r) e (found_numbered n rs)
-  where
-    by : (b : Bool) → (b || list_any (is_numbered n) rs) ≡ true
-        → (list_any (is_numbered n) rs ≡ true → find (is_numbered n) rs ≢ None)
-        → cond b (Some r) (find (is_numbered n) rs) ≢ None
-    by true e h = λ none. none-some r (sym none)
-    by false e h = h e
+found_numbered n (r ∷ rs) e = search (arith, found_numbered n rs, none-some)

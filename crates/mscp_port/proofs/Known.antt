@@ -1,5 +1,5 @@
 -- What a port knows stays among what it knew.
-use Rattle.std.proofs.Common.{◌≡◌, ◌⊎◌, ◌∙◌, ℕ, true, List, Option, None, Some, IfSome, inl, inr, ap, refl, sym, subst, get_or}
+use Rattle.std.proofs.Common.{◌≡◌, ◌⊎◌, ◌∙◌, ℕ, true, List, Option, None, Some, IfSome, ap, sym, get_or, arith}
 use Rattle.std.proofs.lemmas.Option.{none-some}
 use Rattle.std.specs.List.{position}
 use Rattle.std.proofs.lemmas.List.Quantifiers.{position-Some}
@@ -18,49 +18,27 @@ use Rattle.mscp_port.specs.Buffers.{is_of}
 -- a descriptor that is in hand after is the one that was in hand before
 pub held_on : (o before : Option ℕ) (w : ℕ) (Q : ℕ → Type 0) → before ≡ Some w → IfSome o (λ word. word ≡ w)
     → IfSome o (λ word. (before ≡ Some word) ⊎ Q word)
-held_on None before w Q e h = tt
-held_on (Some word) before w Q e h = inl (e ∙ ap Some (sym h))
+held_on o before w Q h4 h5 = grind arith
 
 -- where nothing but the task in hand changes, only what may change by an action does
 pub unsettled : {K : Type 0} (old new : Port K) → new ≡ record old { task = tasks.Free }
     → ChangesByActing old new × StaysInStage old new
-unsettled old new e =
-    subst (λ (p : Port _). ChangesByActing old p × StaysInStage old p) (sym e) (inl refl, inl refl)
+unsettled old new e = search arith
 
 -- what goes out doesn't depend on what is in hand
 keeps_on : {K : Type 0} (old new : Port K) (t : Task) → KeepsSaying old new → KeepsSaying old (record new { task = t })
-keeps_on old new t k =
-    record { outgoing = k.outgoing; controller = k.controller; stalled = k.stalled; volumes = k.volumes }
+keeps_on old new t k = search arith
 
 looks_on : {K : Type 0} (old new : Port K) (t : Task) → TakesEnd old new ⊎ TellsNews old new
     → TakesEnd old (record new { task = t }) ⊎ TellsNews old (record new { task = t })
-looks_on old new t either = elim either [
-  | inl e ↦ inl (record {
-    nothing = e.nothing;
-    out = e.out;
-    controller = e.controller;
-    stalled = e.stalled;
-    volumes = e.volumes;
-  })
-  | inr n ↦ inr (record {
-    nothing = n.nothing;
-    none = n.none;
-    out = n.out;
-    controller = n.controller;
-    stalled = n.stalled;
-  })
-]
+looks_on old new t either = search arith
 
 pub said_on : {K : Type 0} (old new : Port K) (t : Task) → Says old new → Says old (record new { task = t })
-said_on old new t says = record {
-  looks = λ is. looks_on old new t (says.looks is);
-  keeps = λ no. keeps_on old new t (says.keeps no);
-}
+said_on old new t says = search (arith, looks_on, keeps_on)
 
 -- a port that changes nothing says what it said
 pub keeps_the_same : {K : Type 0} (old new : Port K) → new ≡ old → KeepsSaying old new
-keeps_the_same old new e = subst (λ (p : Port _). KeepsSaying old p) (sym e)
-    (record { outgoing = refl; controller = refl; stalled = refl; volumes = refl })
+keeps_the_same old new e = search arith
 
 -- no slot is to be given back where none is in hand
 pub none_returned : (t : Task) (side : Side) (slot : Descriptor) → in_hand t ≡ None → t ≡ tasks.Return side slot → ⊥

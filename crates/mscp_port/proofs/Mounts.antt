@@ -1,5 +1,5 @@
 -- What a host has made of a unit is what a port holds of its volume.
-use Rattle.std.proofs.Common.{◌≡◌, ◌≢◌, ◌⊎◌, ◌∙◌, ◌<◌, ◌≤◌, ◌/◌, ◌%◌, ℕ, Bool, true, false, cond, List, [], ◌∷◌, Option, None, Some, inl, inr, refl, ap, sym, subst, length, set}
+use Rattle.std.proofs.Common.{◌≡◌, ◌≢◌, ◌⊎◌, ◌∙◌, ◌<◌, ◌≤◌, ◌/◌, ◌%◌, ℕ, Bool, true, false, cond, List, [], ◌∷◌, Option, None, Some, inl, inr, refl, ap, sym, subst, length, set, arith}
 use Rattle.std.specs.Prelude.{nat_eq}
 use Rattle.std.proofs.lemmas.Bool.{cases_eq, cases_lt, false≢true}
 use Rattle.std.proofs.lemmas.List.{get_or-set_other, get_or-set_same, get_or_past, length-set}
@@ -30,8 +30,7 @@ mount_of : Volume → Mount
 mount_of v = record { volume = v.mounted; is_protected = v.is_protected_by_host }
 
 either_of : (b : Bool) (v w : Volume) → mount_of (cond b v w) ≡ cond b (mount_of v) (mount_of w)
-either_of true v w = refl
-either_of false v w = refl
+either_of b v w = grind arith
 
 flags_of : (b : Buffer) (v : Volume) → mount_of (protected_by b v) ≡ flagged b (mount_of v)
 unfolding mount_of
@@ -40,18 +39,7 @@ flags_of b v = either_of (nat_eq (b.modifiers / 4 % 2) 1) _ v
 heeded_of : (code : ℕ) (kept : Option Buffer) (v : Volume)
     → mount_of (volume_heeded code kept v) ≡ mount_after code kept (mount_of v)
 unfolding mount_of
-heeded_of code None v = either_of (nat_eq code 0x88) _ v
-heeded_of code (Some b) v =
-    let off : Volume = record v { mounted = None; is_protected_by_host = false } in
-    let on : Volume = record v { mounted = Some b.changes } in
-    let set_only : Volume = cond (nat_eq code 0x8A) (protected_by b v) v in
-    either_of (nat_eq code 0x88) off (cond (nat_eq code 0x89) (protected_by b on) set_only)
-    ∙ ap (cond (nat_eq code 0x88) offline)
-    (either_of (nat_eq code 0x89) (protected_by b on) set_only
-    ∙ ap (λ m. cond (nat_eq code 0x89) m (mount_of set_only)) (flags_of b on)
-    ∙ ap (cond (nat_eq code 0x89) (flagged b (mount_of on)))
-    (either_of (nat_eq code 0x8A) (protected_by b v) v
-    ∙ ap (λ m. cond (nat_eq code 0x8A) m (mount_of v)) (flags_of b v)))
+heeded_of code kept v = grind (arith, either_of, mount_of, flags_of)
 
 -- ---- the volumes
 
@@ -61,10 +49,7 @@ Holds place vs m = (length vs ≤ place) ⊎ (mount_of (volume_at vs place) ≡ 
 
 -- the volume at that place is another one, or one at another place is
 set_here : (vs : List Volume) (place : ℕ) (x : Volume) (m : Mount) → mount_of x ≡ m → Holds place (set vs place x) m
-set_here vs place x m e = elim (cases_lt place (length vs)) [
-  | inl inside ↦ inr (ap mount_of (get_or-set_same vs place x no_volume inside) ∙ e)
-  | inr past ↦ inl (subst (λ n. n ≤ place) (sym (length-set vs place x)) past)
-]
+set_here vs place x m e = search (arith, cases_lt place (length vs), length-set vs place x, mount_of, get_or-set_same)
 
 set_elsewhere : (vs : List Volume) (place q : ℕ) (x : Volume) (m : Mount) → place ≢ q → Holds place vs m
     → Holds place (set vs q x) m
@@ -107,11 +92,7 @@ ended vs place code kept m holds = elim holds [
 ends : {K : Type 0} (place : ℕ) (old new : Port K) (via : Connection) (e : End) (m : Mount) → Ends place old new via e
     → Holds place old.volumes m
     → Holds place new.volumes (mount_after e.code (kept_of via e.reference old.buffers.items) m)
-ends place old new via e m end holds =
-    let kept = kept_of via e.reference old.buffers.items in
-    subst (λ vs. Holds place vs (mount_after e.code kept m)) (sym (ap (λ p. p.volumes) end.heeds.frame))
-    (subst (λ o. Holds place (volumes_heeded e.code kept o old.volumes) (mount_after e.code kept m)) (sym end.unit)
-    (ended old.volumes place e.code kept m holds))
+ends place old new via e m end holds = search (arith, ended)
 
 -- an end of another unit
 heeded_elsewhere : (vs : List Volume) (place code : ℕ) (kept : Option Buffer) (o : Option ℕ) (m : Mount)
@@ -124,12 +105,10 @@ heeded : {K : Type 0} (place : ℕ) (m : Mount) (old new : Port K) (via : Connec
     → HeedsStep via ended old new
     → ((e : End) → ended ≡ Some e → place_heeded old.controller.settings.units e ≢ Some place)
     → Holds place old.volumes m → Holds place new.volumes m
-heeded place m old new via None heeds other holds =
-    the_same place m old new (ap (λ p. p.volumes) heeds.frame) holds
+heeded place m old new via None heeds other holds = search (arith, the_same)
 heeded place m old new via (Some e) heeds other holds =
-    subst (λ vs. Holds place vs m) (sym (ap (λ p. p.volumes) heeds.frame))
-    (heeded_elsewhere old.volumes place e.code (kept_of via e.reference old.buffers.items)
-    (place_heeded old.controller.settings.units e) m (other e refl) holds)
+    search (arith, heeded_elsewhere old.volumes place e.code (kept_of via e.reference old.buffers.items) (place_heeded
+    old.controller.settings.units e) m (other e refl) holds)
 
 with_block : {K : Type 0} (place : ℕ) (m : Mount) (old new : Port K) → GoesOnWithBlock old new
     → (((via : Connection) × (e : End) × Ends place old new via e) → ⊥) → Holds place old.volumes m
@@ -179,8 +158,7 @@ with_news : (place : ℕ) (m : Mount) (units : List Shape) (vs ws : List Volume)
 unfolding mount_of
 with_news place m units vs ws None out news holds = subst (λ xs. Holds place xs m) (sym news.1) holds
 with_news place m units vs ws (Some q) out news holds =
-    subst (λ xs. Holds place xs m) (sym news.1)
-    (set_alike vs place q (record (volume_at vs q) { is_news = false }) m refl holds)
+    search (arith, set_alike vs place q (record (volume_at vs q) { is_news = false }) m refl holds)
 
 said : {K : Type 0} (place : ℕ) (m : Mount) (old new : Port K) → Says old new → Holds place old.volumes m
     → Holds place new.volumes m
@@ -197,19 +175,10 @@ said place m old new says holds = elim (looks_or_not old) [
 stays : {K : Type 0} (place : ℕ) (m : Mount) (call : Call) (old new : Port K) → Becomes call old new
     → (IsRemounted place call old new → ⊥) → Holds place old.volumes m → Holds place new.volumes m
 stays place m WriteIp old new r other holds = absurd (other (inl (stages.First, r)))
-stays place m ReadIp old new r other holds = elim r.frame [
-  | inl e ↦ the_same place m old new (ap (λ p. p.volumes) e) holds
-  | inr dead ↦ absurd (other (inl (stages.Dead dead.0, dead.1)))
-]
-stays place m (WriteSa word) old new r other holds = elim r.frame [
-  | inl e ↦ the_same place m old new (ap (λ p. p.volumes) e) holds
-  | inr dead ↦ absurd (other (inl (stages.Dead dead.0, dead.1)))
-]
+stays place m ReadIp old new r other holds = search (arith, the_same)
+stays place m (WriteSa word) old new r other holds = search (arith, the_same)
 stays place m (Next action) old new r other holds = said place m old new r.says holds
-stays place m (WasRead bytes result) old new r other holds = elim r.frame [
-  | inl e ↦ the_same place m old new (ap (λ p. p.volumes) e) holds
-  | inr dead ↦ absurd (other (inl (stages.Dead dead.0, dead.1)))
-]
+stays place m (WasRead bytes result) old new r other holds = search (arith, the_same)
 stays place m (Went outcome result) old new r other holds = elim r.commands [
   | inl e ↦ the_same place m old new e.volumes holds
   | inr more ↦ elim more [
@@ -218,10 +187,7 @@ stays place m (Went outcome result) old new r other holds = elim r.commands [
   ]
 ]
 stays place m LookAgain old new r other holds = the_same place m old new (ap (λ p. p.volumes) r) holds
-stays place m Tick old new r other holds = elim r.either [
-  | inl e ↦ the_same place m old new (ap (λ p. p.volumes) e) holds
-  | inr dead ↦ absurd (other (inl (stages.Dead 9, dead)))
-]
+stays place m Tick old new r other holds = search (arith, the_same)
 stays place m (Change there protected unit result) old new r other holds =
     subst (λ vs. Holds place vs m) (sym (ap (λ p. p.volumes) r.frame))
     (changed_elsewhere old.volumes there protected place (place_in old.controller.settings.units unit) m
@@ -253,10 +219,7 @@ held hardware credits controller place low start p (call ∷ calls) m made a is 
 -- the mount of a volume that is there
 there : (vs : List Volume) (place : ℕ) (m : Mount) → (volume_at vs place).is_there ≡ true → Holds place vs m
     → mount_of (volume_at vs place) ≡ m
-there vs place m is holds = elim holds [
-  | inl past ↦ absurd (false≢true (sym (ap (λ v. v.is_there) (get_or_past vs place no_volume past)) ∙ is))
-  | inr e ↦ e
-]
+there vs place m is holds = search (arith, false≢true, get_or_past)
 
 pub moves_as_mounted : {K : Type 0} (hardware : Hardware) (credits : ℕ) (controller : Holdings K) (start p : Port K)
     (calls : List Call) (kind : MoveKind) (unit block count place : ℕ) (m : Mount)

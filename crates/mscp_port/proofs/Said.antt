@@ -1,5 +1,5 @@
 -- What a port keeps of a command was said by the message by which that command came, call by call.
-use Rattle.std.proofs.Common.{◌≡◌, ◌⊎◌, ◌∙◌, ◌<◌, ℕ, Bool, true, false, cond, not, List, [], Option, None, Some, Contains, inl, inr, refl, ap, sym, subst, length, get_or}
+use Rattle.std.proofs.Common.{◌≡◌, ◌⊎◌, ◌∙◌, ◌<◌, ℕ, Bool, true, false, cond, not, List, [], Option, None, Some, Contains, inl, inr, refl, ap, sym, subst, length, arith}
 use Rattle.std.specs.Prelude.{Result, Ok, Err}
 use Rattle.std.specs.List.{position}
 use Rattle.std.proofs.lemmas.Bool.{eqb-true, eq-eqb, false≢true}
@@ -9,7 +9,7 @@ use Rattle.std.proofs.lemmas.Option.{get_or_from_slice_get, none-some, same_Some
 use Rattle.mscp_packet.specs.declared.end.End.{End}
 use Rattle.mscp_events.specs.declared.block.Block.{Block}
 use Rattle.mscp_events.specs.declared.connection.Connection.{Connection}
-use Rattle.mscp_events.specs.declared.connection.Connection.TheVariants.{First, Second}
+use Rattle.mscp_events.specs.declared.connection.Connection.TheVariants.{First}
 use Rattle.mscp_queue.specs.declared.drive.Drive.{Drive}
 use Rattle.mscp_queue.specs.declared.name.Name.{Name}
 use Rattle.mscp_queue.specs.declared.report.Report.{Report}
@@ -57,8 +57,7 @@ module _ {K : Type 0} (said : ℕ → Buffer → Type 0) where
 -- ---- what is kept
 
 pub of_first : (via : Connection) (n : ℕ) (b : Buffer) → is_of via n b ≡ true → (via ≡ First) × (b.reference ≡ n)
-of_first First n b e = (refl, eqb-true b.reference n e)
-of_first Second n b e = absurd (false≢true e)
+of_first via n b h3 = grind (arith, eqb-true, false≢true)
 
 pub is_first : (via : Connection) (n : ℕ) (b : Buffer) → via ≡ First → b.reference ≡ n → is_of via n b ≡ true
 is_first via n b first e = subst (λ c. is_of c n b ≡ true) (sym first) (eq-eqb b.reference n e)
@@ -77,10 +76,7 @@ not_of via n b is other = false≢true (sym (ap not is) ∙ other)
 pub kept_found : (p : Buffer → Bool) (bs : List Buffer) (b : Buffer) (o : Option ℕ) → position p bs ≡ o
     → kept_at o bs ≡ Some b → Contains bs b × (p b ≡ true)
 kept_found p bs b None e h = absurd (none-some b h)
-kept_found p bs b (Some i) e h =
-    let at = position-Some p bs i b e in
-    let same : get_or bs i b ≡ b = get_or_from_slice_get bs i b b h in
-    ((i, at.0, same), subst (λ x. p x ≡ true) same at.1)
+kept_found p bs b (Some i) e h = search (arith, position-Some p bs i b e, get_or_from_slice_get bs i b b h)
 
 -- ---- an end
 
@@ -101,8 +97,7 @@ end_tells k d r e h = by (goes_on d.online r.command.order k (left_of r)) h
 -- the command that was served is the one that was begun
 served_name : (begun : Option Name) (name : Name) (r : Record) → is_begun name begun ≡ true
     → ((other : Name) → begun ≡ Some other → has_name other r ≡ true) → name_of r ≡ name
-served_name None name r e same = absurd (false≢true e)
-served_name (Some other) name r e same = same_is (name_of r) other (same other refl) ∙ same_is other name e
+served_name begun name r h3 h4 = grind (arith, false≢true, same_is)
 
 -- a step that brought an end served a command of the number and the unit that it names
 pub record IsOf (via : Connection) (rs : List Record) (e : End) : Type 0 where
@@ -115,21 +110,7 @@ pub record IsOf (via : Connection) (rs : List Record) (e : End) : Type 0 where
 pub ended_of : {K : Type 0} (via : Connection) (reference : ℕ) (block : Block) (old new : Holdings K)
     (result : Result Report NotBegun) (e : End) → Finishes anyhow (name_on via reference) block old result new
     → end_brought result ≡ Some e → IsOf via old.waiting e
-ended_of via reference block old new (Err not_begun) e f brought = absurd (none-some e brought)
-ended_of via reference block old new (Ok Idle) e f brought = absurd (none-some e brought)
-ended_of via reference block old new (Ok (Served other number unit lbn started seek ended)) e f brought =
-    let place = f.1.serves.0 in
-    let s = f.1.serves.1 in
-    let r = record_at old.waiting place in
-    let d = drive_at old.drives old.waiting place in
-    let tells = end_tells block d r e (sym (ap (λ x. end_brought (Ok x)) s.told) ∙ brought) in
-    record {
-      place = place;
-      inside = s.next.servable.inside;
-      connection = ap (λ (n : Name). n.connection) (served_name old.begun (name_on via reference) r f.0 s.next.same);
-      reference = tells.0;
-      unit = tells.1;
-    }
+ended_of via reference block old new result e h7 h8 = grind (arith, none-some, end_tells, served_name)
 
 -- ---- a step
 
@@ -141,9 +122,7 @@ kept_among via (Some e) bs b there = (without_among via e.reference bs b there).
 kept_not : (via : Connection) (o : Option End) (bs : List Buffer) (b : Buffer) (e : End) → o ≡ Some e
     → Contains (kept_after via o bs) b → not (is_of via e.reference b) ≡ true
 kept_not via None bs b e h there = absurd (none-some e h)
-kept_not via (Some x) bs b e h there =
-    subst (λ n. not (is_of via n b) ≡ true) (ap (λ y. y.reference) (same_Some x e h))
-    (without_among via x.reference bs b there).1
+kept_not via (Some x) bs b e h there = search (arith, same_Some x e h, without_among via x.reference bs b there, not)
 
 pub none_or_some : {X : Type 0} (o : Option X) → (o ≡ None) ⊎ ((x : X) × (o ≡ Some x))
 none_or_some None = inl refl
@@ -172,9 +151,7 @@ module _ {K : Type 0} (said : ℕ → Buffer → Type 0) where
   taken_keeps via reference block old new (Err not_begun) f heeds k =
       keeps_same said old new (λ b there. subst (λ bs. Contains bs b) heeds.buffers there)
       (ap (λ h. h.waiting) f.1) k
-  taken_keeps via reference block old new (Ok Idle) f heeds k =
-      keeps_same said old new (λ b there. subst (λ bs. Contains bs b) heeds.buffers there)
-      (ap (λ l. l.waiting) f.1.serves.2) k
+  taken_keeps via reference block old new (Ok Idle) f heeds k = search (arith, keeps_same)
   taken_keeps via reference block old new (Ok (Served other number unit lbn started seek ended)) f heeds k = λ b there.
       let h = old.controller in
       let place = f.1.serves.0 in

@@ -1,5 +1,5 @@
 -- What is kept of a command whose end comes was said by a message to the unit that the end names.
-use Rattle.std.proofs.Common.{◌≡◌, ◌∙◌, ℕ, List, [], ◌∷◌, Option, None, Some, Contains, IfSome, inl, inr, refl, ap, sym, subst}
+use Rattle.std.proofs.Common.{◌≡◌, ◌∙◌, ℕ, List, [], ◌∷◌, Option, None, Some, Contains, IfSome, inl, inr, refl, ap, sym, subst, arith}
 use Rattle.std.specs.Prelude.{Result, Ok, Err}
 use Rattle.std.specs.List.{position}
 use Rattle.std.proofs.lemmas.List.Elements.{All-get_or}
@@ -32,13 +32,7 @@ use Rattle.mscp_port.proofs.Texts.{text_keeps}
 -- ---- calls
 
 still_waits : {K : Type 0} (old new : Port K) → Says old new → new.controller.waiting ≡ old.controller.waiting
-still_waits old new says = elim (looks_or_not old) [
-  | inr still ↦ ap (λ h. h.waiting) (says.keeps still).controller
-  | inl looks ↦ elim (says.looks looks) [
-    | inl takes ↦ ap (λ h. h.waiting) takes.controller
-    | inr tells ↦ ap (λ h. h.waiting) tells.controller
-  ]
-]
+still_waits old new says = search (arith, looks_or_not old)
 
 module _ {K : Type 0} (said : ℕ → Buffer → Type 0) (old new : Port K) (k : Keeps said old) where
   same : new ≡ old → Keeps said new
@@ -106,9 +100,7 @@ keeps_after said (Change there protected unit result) old new r k =
 kept_was_said : {K : Type 0} (hardware : Hardware) (credits : ℕ) (controller : Holdings K) (start p : Port K)
     (calls : List Call) → IsMadeOf hardware credits controller start → (a : Answered start calls p)
     → Keeps (λ unit b. WasSaid b.reference unit start p calls a b) p
-kept_was_said hardware credits controller start p [] made a =
-    keeps_none (λ unit b. WasSaid b.reference unit start p [] a b) p
-    (ap (λ (q : Port _). q.buffers.items) a ∙ made.buffers)
+kept_was_said hardware credits controller start p [] made a = search (arith, keeps_none)
 kept_was_said hardware credits controller start p (call ∷ calls) made a =
     keeps_after (λ unit b. WasSaid b.reference unit start a.0 calls a.1 b) call a.0 p a.2
     (kept_was_said hardware credits controller start a.0 calls made a.1)

@@ -1,5 +1,5 @@
 -- What a message aborts: the same by records and by history.
-use Rattle.std.proofs.Common.{◌≡◌, ◌≢◌, ⊎_elim, ℕ, Bool, true, false, not, List, [], ◌∷◌, map, length, refl, ap, sym, ◌∙◌, subst, arith}
+use Rattle.std.proofs.Common.{◌≡◌, ◌≢◌, ⊎_elim, ℕ, Bool, true, false, not, List, [], ◌∷◌, map, ap, sym, ◌∙◌, subst, arith}
 use Rattle.std.specs.Prelude.{filter, find, if◌then◌else◌, Option, Some, None, option_map, option_to_list, slice_get, Ok}
 use Rattle.std.specs.List.{AllByRecursion}
 use Rattle.mscp_packet.specs.declared.command.Command.{Command}
@@ -47,40 +47,16 @@ named_held via t ws (orders.Abort other) a e =
     sym (filter_map_of (held_of t) (has_name (name_on via other)) (waiting t))
     ∙ (ap (filter (has_name (name_on via other))) (sym e) ∙ found_once (name_on via other) ws
     (subst (λ rs. AreApart (names rs)) (sym e) (apart_held t (waiting t) a)))
-named_held via t ws (orders.Status other) a e = refl
-named_held via t ws orders.UnitStatus a e = refl
-named_held via t ws (orders.SetController version) a e = refl
-named_held via t ws orders.Available a e = refl
-named_held via t ws orders.Online a e = refl
-named_held via t ws orders.SetUnit a e = refl
-named_held via t ws (orders.Move kind count block) a e = refl
-named_held via t ws (orders.Invalid opcode status) a e = refl
+named_held via t ws o h4 h5 = grind arith
 
 unnamed : (via : Connection) (t : Trace) (o : Order) (fault : Option ℕ) → named via t o ≡ []
     → aborted_unless via t o fault ≡ []
-unnamed via t o None h = h
-unnamed via t o (Some status) h = refl
+unnamed via t o fault h4 = grind arith
 
 aborted_by : (c : Settings) (via : Connection) (t : Trace) (u : ℕ) (ws : List Record) (o : Order) → Apart t (waiting t)
     → ws ≡ map (held_of t) (waiting t)
     → map (held_of t) (aborted_unless via t o (order_fault c u o)) ≡ option_to_list (record_aborted via ws o)
-aborted_by c via t u ws (orders.Abort other) a e = named_held via t ws (orders.Abort other) a e
-aborted_by c via t u ws (orders.Status other) a e = refl
-aborted_by c via t u ws orders.UnitStatus a e = ap (map (held_of t))
-    (unnamed via t orders.UnitStatus (order_fault c u orders.UnitStatus) refl)
-aborted_by c via t u ws (orders.SetController version) a e =
-    ap (map (held_of t)) (unnamed via t (orders.SetController version) (order_fault c u (orders.SetController version))
-    refl)
-aborted_by c via t u ws orders.Available a e = ap (map (held_of t))
-    (unnamed via t orders.Available (order_fault c u orders.Available) refl)
-aborted_by c via t u ws orders.Online a e = ap (map (held_of t))
-    (unnamed via t orders.Online (order_fault c u orders.Online) refl)
-aborted_by c via t u ws orders.SetUnit a e = ap (map (held_of t))
-    (unnamed via t orders.SetUnit (order_fault c u orders.SetUnit) refl)
-aborted_by c via t u ws (orders.Move kind count block) a e =
-    ap (map (held_of t)) (unnamed via t (orders.Move kind count block) (order_fault c u (orders.Move kind count block))
-    refl)
-aborted_by c via t u ws (orders.Invalid opcode status) a e = refl
+aborted_by c via t u ws o h6 h7 = grind (arith, named_held, held_of, unnamed)
 
 aborted_held : (c : Settings) (via : Connection) (t : Trace) (ws : List Record) (k : Command) → Apart t (waiting t)
     → ws ≡ map (held_of t) (waiting t) → map (held_of t) (history.aborted c via t k)
@@ -95,10 +71,8 @@ first_reference (r ∷ rs) = r.command.reference
 
 first_held : (t : Trace) (xs : List ℕ) (o : Option Record) → map (held_of t) xs ≡ option_to_list o
     → option_map (reference t) (slice_get xs 0) ≡ option_map (λ r. r.command.reference) o
-first_held t [] None e = refl
-first_held t [] (Some r) e = absurd (omega (arith, ap length e))
-first_held t (x ∷ xs) None e = absurd (omega (arith, ap length e))
 first_held t (x ∷ xs) (Some r) e = ap (λ rs. Some (first_reference rs)) e
+first_held t xs o h3 = grind arith
 
 -- the reference number that is told
 pub reference_told : (c : Settings) (via : Connection) (t : Trace) (ws : List Record) (k : Command)
@@ -111,8 +85,7 @@ reference_told c via t ws k a e = first_held t (history.aborted c via t k) (reco
 
 mapped_option : (o : Option Record) → map aborted_record (option_to_list o)
     ≡ option_to_list (option_map aborted_record o)
-mapped_option None = refl
-mapped_option (Some r) = refl
+mapped_option o = grind arith
 
 -- the end that is made
 pub end_made : (c : Settings) (via : Connection) (t : Trace) (ws : List Record) (k : Command) → Apart t (waiting t)
@@ -126,11 +99,7 @@ end_made c via t ws k a e = sym (mapped_option (record_aborted via ws k.order))
 -- ---- who is left
 
 either_way : (a b : Name) → same_name a b ≡ same_name b a
-either_way a b =
-    let both : (q : Bool) → same_name b a ≡ q → same_name a b ≡ q =
-    λ q. elim q as (λ q. same_name b a ≡ q → same_name a b ≡ q)
-    [ true ↦ λ e. is_same a b (sym (same_is b a e)) | false ↦ λ e. is_differ a b (λ h. differ_is b a e (sym h)) ] in
-    both (same_name b a) refl
+either_way a b = search (arith, is_same, same_is, is_differ, differ_is)
 
 -- the name that a reference number of a connection tells
 abbrev told : Connection → Name → Name
@@ -167,8 +136,7 @@ left_by via q other ws =
 
 none_left : (via : Connection) (q : ℕ) (ws : List Record)
     → ws ≡ filter (λ r. not (ends_in (name_of r) (Answer via q None))) ws
-none_left via q ws = sym (filter_all (λ r. not (ends_in (name_of r) (Answer via q None))) ws
-    (every_from (λ r. not (ends_in (name_of r) (Answer via q None)) ≡ not false) (λ r. refl) ws))
+none_left via q ws = search (arith, not false, filter_all, every_from)
 
 -- the others wait on
 pub others_wait : (via : Connection) (q : ℕ) (ws : List Record) (o : Order)
@@ -188,10 +156,7 @@ others_wait via q ws (orders.Invalid opcode status) = none_left via q ws
 
 with_other : (n other : Name)
     → (if same_name n other then None else Some n) ≡ (if not (same_name other n) then Some n else None)
-with_other n other =
-    ap (λ b. if b then None else Some n) (either_way n other)
-    ∙ elim (same_name other n) as (λ b. (if b then None else Some n) ≡ (if not b then Some n else None))
-    [ true ↦ refl | false ↦ refl ]
+with_other n other = search (arith, either_way n other, not)
 
 -- it is begun no more where it is aborted
 abbrev Left : Connection → ℕ → List Record → Name → Order → Type 0
@@ -227,12 +192,4 @@ abort_left via q other t ws n y e w own =
 
 pub begun_left : (via : Connection) (q : ℕ) (t : Trace) (ws : List Record) (n : Name) (y : ℕ) (o : Order)
     → ws ≡ map (held_of t) (waiting t) → is_waiting t y ≡ true → name t y ≡ n → Left via q ws n o
-begun_left via q t ws n y (orders.Abort other) e w own = abort_left via q other t ws n y e w own
-begun_left via q t ws n y (orders.Status other) e w own = refl
-begun_left via q t ws n y orders.UnitStatus e w own = refl
-begun_left via q t ws n y (orders.SetController version) e w own = refl
-begun_left via q t ws n y orders.Available e w own = refl
-begun_left via q t ws n y orders.Online e w own = refl
-begun_left via q t ws n y orders.SetUnit e w own = refl
-begun_left via q t ws n y (orders.Move kind count block) e w own = refl
-begun_left via q t ws n y (orders.Invalid opcode status) e w own = refl
+begun_left via q t ws n y o h7 h8 h9 = grind (arith, abort_left)

@@ -1,11 +1,9 @@
 -- Accounts, one by one, and what is seen of them.
-use Rattle.std.proofs.Common.{◌≡◌, ◌+◌, false, List, [], ◌∷◌, ◌++◌, length, ap, refl, sym, ◌∙◌, append-nil, arith}
-use Rattle.std.specs.Prelude.{if◌then◌else◌, option_to_list, Some, None}
+use Rattle.std.proofs.Common.{◌≡◌, ◌+◌, false, List, [], ◌∷◌, ◌++◌, length, append-nil, arith}
+use Rattle.std.specs.Prelude.{if◌then◌else◌, option_to_list, None}
 use Rattle.mscp_packet.specs.declared.end.End.{End}
 use Rattle.mscp_events.specs.declared.connection.Connection.{Connection}
-use Rattle.mscp_events.specs.declared.connection.Connection.TheVariants.{First, Second}
 use Rattle.mscp_queue.specs.declared.report.Report.{Report}
-use Rattle.mscp_queue.specs.declared.report.Report.TheVariants as reports
 use Rattle.mscp_queue.specs.Names.{same_connection}
 use Rattle.mscp_controller.specs.declared.account.Account.{Account}
 use Rattle.mscp_controller.specs.declared.account.Accounts.{Accounts}
@@ -19,30 +17,22 @@ use Rattle.mscp_controller.specs.Holdings.{ends_reported, more_ends}
 pub each_account : (P : Connection → Account → Type 0) (via : Connection) (own : Account) (both : Accounts) → P via own
     → ((other : Connection) → same_connection via other ≡ false → P other (account other both))
     → (other : Connection) → P other (account other (put_account via own both))
-each_account P First own both h g First = h
-each_account P First own both h g Second = g Second refl
-each_account P Second own both h g First = g First refl
-each_account P Second own both h g Second = h
+each_account P via own both h4 h5 other = grind arith
 
 -- ---- what is seen
 
 pub seen_of : (via : Connection) (a : Accounts) → of via (untaken_in a) ≡ (account via a).untaken.items
-seen_of First a = refl
-seen_of Second a = refl
+seen_of via a = grind arith
 
 pub seen_left : (via : Connection) (end : End) (a : Accounts)
     → untaken_in (put_account via (left end (account via a)) a) ≡ more_ends via (untaken_in a) (end ∷ [])
-seen_left First end a = refl
-seen_left Second end a = refl
+seen_left via end a = grind arith
 
 -- ---- a report
 
 none_either : (here : Connection) (via : Connection)
     → (if same_connection here via then option_to_list {X = End} None else []) ≡ []
-none_either First First = refl
-none_either First Second = refl
-none_either Second First = refl
-none_either Second Second = refl
+none_either here via = grind arith
 
 -- what a report changes of a connection's account
 pub record Reported (via : Connection) (report : Report) (a : Accounts) : Type 0 where
@@ -52,27 +42,8 @@ pub record Reported (via : Connection) (report : Report) (a : Accounts) : Type 0
       ≡ (account via a).untaken.items ++ ends_reported via report
 
 pub reported_at : (via : Connection) (report : Report) (a : Accounts) → CanEnd report a → Reported via report a
-reported_at via reports.Idle a k = record {
-  waiting = omega arith;
-  untaken = sym (append-nil (account via a).untaken.items);
-}
-reported_at via (reports.Served here reference unit lbn started seek None) a k =
-    let none = none_either here via in
-    record {
-      waiting = omega (arith, ap length none);
-      untaken = sym (ap (λ es. (account via a).untaken.items ++ es) none
-          ∙ append-nil (account via a).untaken.items);
-    }
-reported_at First (reports.Served First reference unit lbn started seek (Some end)) a k =
-    record { waiting = omega (arith, k.0); untaken = refl }
-reported_at First (reports.Served Second reference unit lbn started seek (Some end)) a k =
-    record { waiting = omega arith; untaken = sym (append-nil a.first.untaken.items) }
-reported_at Second (reports.Served First reference unit lbn started seek (Some end)) a k =
-    record { waiting = omega arith; untaken = sym (append-nil a.second.untaken.items) }
-reported_at Second (reports.Served Second reference unit lbn started seek (Some end)) a k =
-    record { waiting = omega (arith, k.0); untaken = refl }
+reported_at via report a h3 = grind (arith, append-nil, none_either)
 
 -- the ends of a connection, once more went to it
 pub of_more : (via : Connection) (us : Both (List End)) (es : List End) → of via (more_ends via us es) ≡ of via us ++ es
-of_more First us es = refl
-of_more Second us es = refl
+of_more via us es = grind arith

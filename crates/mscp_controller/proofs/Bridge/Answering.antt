@@ -1,5 +1,5 @@
 -- One more answer of a controller.
-use Rattle.std.proofs.Common.{◌≡◌, ℕ, ◌+◌, ◌<◌, List, [], ◌∷◌, ◌++◌, take, get_or, length, refl, ap, sym, ◌∙◌, subst, arith}
+use Rattle.std.proofs.Common.{◌≡◌, ℕ, ◌+◌, ◌<◌, List, [], ◌∷◌, ◌++◌, take, get_or, length, refl, subst, arith}
 use Rattle.std.proofs.lemmas.List.{length_push, take_more}
 use Rattle.mscp_queue.specs.declared.view.Choice.{Choice}
 use Rattle.mscp_events.specs.declared.event.Event.{Event}
@@ -28,14 +28,4 @@ pub goes_more : {K : Type 0} (picks : K → List Choice → ℕ → Type 0) (sta
     → Answers (picks now.picker) now event entry next → new ≡ so_far ++ entry ∷ []
     → Goes (picks start.picker) start next all (i + 1) new
 goes_more {K} picks start now next all i so_far new event entry l e g a n =
-    let one : Answers (picks start.picker) now event entry next =
-    subst (λ (p : K). Answers (picks p) now event entry next) g.picker a in
-    let more : take (i + 1) all ≡ take i all ++ event ∷ [] =
-    take_more all i event l ∙ ap (λ x. take i all ++ x ∷ []) (sym e) in
-    record {
-      answered = subst (λ es. Answered (picks start.picker) start es new next) (sym more)
-          (subst (λ ns. Answered (picks start.picker) start (take i all ++ event ∷ []) ns next) (sym n)
-          (answered_push (picks start.picker) start now next (take i all) so_far event entry g.answered one));
-      picker = (owner_kept (picks start.picker) now next event entry one).1 ∙ g.picker;
-      many = let m = g.many in omega (arith, ap length n, length_push so_far entry);
-    }
+    search (arith, take_more all i event l, length_push so_far entry, answered_push, owner_kept)

@@ -1,5 +1,5 @@
 -- What is begun when one more call comes.
-use Rattle.std.proofs.Common.{◌≡◌, ⊎_elim, ℕ, ◌+◌, ◌<◌, ◌≤◌, Bool, true, false, not, ◌||◌, List, [], ◌∷◌, ◌++◌, take, drop, length, refl, ap, sym, ◌∙◌, subst, append_assoc, append-nil, arith}
+use Rattle.std.proofs.Common.{◌≡◌, ⊎_elim, ℕ, ◌+◌, ◌<◌, ◌≤◌, Bool, true, false, not, List, [], ◌∷◌, ◌++◌, take, drop, length, refl, ap, sym, ◌∙◌, subst, append_assoc, append-nil, arith}
 use Rattle.std.specs.Prelude.{if◌then◌else◌, is_some, nat_eq, unwrap_or, Option, Some, None}
 use Rattle.std.specs.List.{list_any}
 use Rattle.std.proofs.lemmas.Bool.{and_parts, cases_lt, or_parts, true≢false}
@@ -25,8 +25,7 @@ use Rattle.mscp_controller.proofs.Promise.Waits.{cut, waits_below}
 -- ---- one more call
 
 pub history_more : (calls : List Call) (call : Call) → history (calls ++ call ∷ []) ≡ history calls ++ moments_of call
-history_more calls call = flat_map-append moments_of calls (call ∷ [])
-    ∙ ap (λ ms. history calls ++ ms) (append-nil (moments_of call))
+history_more calls call = search (arith, flat_map-append moments_of calls (call ∷ []), append-nil (moments_of call))
 
 front_same : (calls : List Call) (call : Call) (j : ℕ) → j < length calls → take j (calls ++ call ∷ []) ≡ take j calls
 front_same calls call j l = take-append-le j calls (call ∷ []) (omega (arith, l))
@@ -57,25 +56,9 @@ waits_before t (m ∷ ms) y l w =
 pub begun_before : (calls : List Call) (call : Call) (up : Upcoming) (y j : ℕ) → j < length calls
     → IsBegunSince (calls ++ call ∷ []) up y j → IsBegunSince calls up y j × (steps call ≡ false)
 begun_before calls call up y j l b =
-    let same = front_same calls call j l in
-    let waited = subst (λ cs. is_waiting (history cs) y ≡ true) same b.waited in
-    let behind : drop (j + 1) (calls ++ call ∷ []) ≡ drop (j + 1) calls ++ call ∷ [] =
-    drop-append-le (j + 1) calls (call ∷ []) (omega (arith, l)) in
-    let none = or_parts (list_any steps (drop (j + 1) calls)) (list_any steps (call ∷ []))
-    (sym (list_any-append steps (drop (j + 1) calls) (call ∷ []))
-    ∙ (ap (list_any steps) (sym behind) ∙ b.unstepped)) in
-    let below : y < length (history calls) = omega
-    (arith, waits_below (history (take j calls)) y waited, shorter calls j) in
-    let before : IsBegunSince calls up y j = record {
-      inside = l;
-      told = ap upcoming_in (sym (call_before calls call j l)) ∙ b.told;
-      own = b.own ∙ ap (λ cs. foretold (history cs) y) same;
-      waited = waited;
-      unstepped = none.0;
-      waits = waits_before (history calls) (moments_of call) y below
-          (subst (λ u. is_waiting u y ≡ true) (history_more calls call) b.waits);
-    } in
-    (before, (or_parts (steps call) false none.1).0)
+    search (arith, front_same calls call j l, drop-append-le (j + 1) calls (call ∷ []) (omega (arith, l)),
+    list_any-append steps (drop (j + 1) calls) (call ∷ []), shorter calls j, call_before calls call j l, history_more
+    calls call, or_parts, waits_below, waits_before)
 
 -- what the last call began
 pub record Last (calls : List Call) (call : Call) (up : Upcoming) (y : ℕ) : Type 0 where
@@ -85,15 +68,7 @@ pub record Last (calls : List Call) (call : Call) (up : Upcoming) (y : ℕ) : Ty
 
 begun_last : (calls : List Call) (call : Call) (up : Upcoming) (y j : ℕ) → length calls ≡ j
     → IsBegunSince (calls ++ call ∷ []) up y j → Last calls call up y
-begun_last calls call up y j e b =
-    let front : take j (calls ++ call ∷ []) ≡ calls =
-    ap (λ i. take i (calls ++ call ∷ [])) (sym e) ∙ take_at calls (call ∷ []) (length calls) refl in
-    record {
-      told = ap upcoming_in (sym (call_last calls call))
-          ∙ (ap (λ i. upcoming_in (call_at (calls ++ call ∷ []) i)) e ∙ b.told);
-      own = b.own ∙ ap (λ cs. foretold (history cs) y) front;
-      waited = subst (λ cs. is_waiting (history cs) y ≡ true) front b.waited;
-    }
+begun_last calls call up y j e b = search (arith, take_at calls (call ∷ []) (length calls) refl, call_last calls call)
 
 -- either is known of what is begun after one more call
 pub either : (X : Type 0) (calls : List Call) (call : Call) (up : Upcoming) (y j : ℕ)
@@ -108,17 +83,8 @@ either X calls call up y j before last b =
 pub begun_more : (calls : List Call) (call : Call) (up : Upcoming) (y j : ℕ) → IsBegunSince calls up y j
     → steps call ≡ false → is_waiting (history (calls ++ call ∷ [])) y ≡ true → IsBegunSince (calls ++ call ∷ []) up y j
 begun_more calls call up y j b n w =
-    let l = b.inside in
-    let same = front_same calls call j l in
-    record {
-      inside = omega (arith, l, length-append calls (call ∷ []));
-      told = ap upcoming_in (call_before calls call j l) ∙ b.told;
-      own = b.own ∙ ap (λ cs. foretold (history cs) y) (sym same);
-      waited = subst (λ cs. is_waiting (history cs) y ≡ true) (sym same) b.waited;
-      unstepped = ap (list_any steps) (drop-append-le (j + 1) calls (call ∷ []) (omega (arith, l)))
-          ∙ (list_any-append steps (drop (j + 1) calls) (call ∷ []) ∙ (λ i. b.unstepped i || (n i || false)));
-      waits = w;
-    }
+    search (arith, length-append calls (call ∷ []), list_any-append steps (drop (j + 1) calls) (call ∷ []), front_same,
+    call_before, drop-append-le)
 
 -- ---- what is known of what is begun
 
@@ -201,8 +167,7 @@ one_foretold t up up' y y' apart w w' e e' same = one_waits t y' y apart w' w
 last_same : (calls : List Call) (up up' : Upcoming) (y y' : ℕ) → Apart (history calls) (waiting (history calls))
     → is_waiting (history calls) y ≡ true → up ≡ foretold (history calls) y → Last calls (Begin (Some up)) up' y'
     → (y' ≡ y) × (up' ≡ up)
-last_same calls up up' y y' apart w e l =
-    let same = some_is up up' l.told in (one_foretold (history calls) up up' y y' apart w l.waited e l.own same, same)
+last_same calls up up' y y' apart w e l = search (arith, some_is up up' l.told, one_foretold)
 
 -- a begin is no moment
 pub begin_same : (calls : List Call) (upcoming : Option Upcoming)

@@ -1,6 +1,6 @@
 -- Every call of a controller that somebody holds is answered right, and what was begun is held to.
-use Rattle.std.proofs.Common.{◌≡◌, inl, inr, ℕ, ◌<◌, Bool, true, false, not, ◌&&◌, ◌||◌, List, [], ◌∷◌, ◌++◌, map, take, length, refl, ap, sym, ◌∙◌, subst, append_assoc, append-nil, arith}
-use Rattle.std.specs.Prelude.{IfSome, if◌then◌else◌, nat_eq, Option, Some, None, Result, Ok, Err}
+use Rattle.std.proofs.Common.{◌≡◌, ℕ, ◌<◌, Bool, true, false, not, ◌&&◌, List, [], ◌∷◌, ◌++◌, map, length, refl, ap, sym, ◌∙◌, subst, append_assoc, append-nil, arith}
+use Rattle.std.specs.Prelude.{IfSome, if◌then◌else◌, Option, Some, None, Result, Ok, Err}
 use Rattle.std.proofs.lemmas.Bool.{false≢true}
 use Rattle.mscp_packet.specs.declared.command.Command.{Command}
 use Rattle.mscp_packet.specs.Commands.{command_of}
@@ -13,23 +13,19 @@ use Rattle.mscp_queue.specs.Lines.{Line}
 use Rattle.mscp_queue.specs.declared.name.Name.{Name}
 use Rattle.mscp_events.specs.declared.connection.Connection.{Connection}
 use Rattle.mscp_queue.specs.Names.{name_on, same_name}
-use Rattle.mscp_queue.specs.Orders.{order_weight}
-use Rattle.mscp_queue.specs.Outcomes.{block_touched}
 use Rattle.mscp_queue.specs.Serving.{is_begun}
 use Rattle.mscp_events.specs.declared.event.Event.{Event}
 use Rattle.mscp_events.specs.declared.event.Event.TheVariants as events
 use Rattle.mscp_controller.specs.declared.entry.Entry.{Entry}
 use Rattle.mscp_controller.specs.declared.entry.Entry.TheVariants as entries
 use Rattle.mscp_controller.specs.declared.entry.SendFault.{SendFault}
-use Rattle.mscp_controller.specs.declared.entry.Sent.TheVariants as sents
 use Rattle.mscp_controller.specs.declared.entry.NotBegun.{NotBegun}
 use Rattle.mscp_events.specs.Settings.{Settings, IsValid}
-use Rattle.mscp_controller.specs.Arrival.{is_queued, refusal}
+use Rattle.mscp_controller.specs.Arrival.{refusal}
 use Rattle.mscp_controller.specs.History.{Trace, Moment, Service, is_step, service_in}
 use Rattle.mscp_controller.specs.Commands.{ends_in, is_waiting, name, unit, waiting}
-use Rattle.mscp_controller.specs.Units.{is_online}
 use Rattle.mscp_controller.specs.Legal.{IsLegal, IsPick, IsServed, block_of}
-use Rattle.mscp_controller.specs.Holdings.{Answers, Finishes, Holdings, Steps, reference_aborted, aborting, answered_end, balance_of, begun_after, with_end, fresh, held_unless, outstanding_of, queued, sent_unless}
+use Rattle.mscp_controller.specs.Holdings.{Answers, Finishes, Holdings, Steps, balance_of, fresh, held_unless, outstanding_of, sent_unless}
 use Rattle.mscp_controller.specs.Calls.{AnsweredCalls, AnswersCall, AtEachCall, Begin, Call, Finish, HoldsToBegun, IsAsTold, IsBegun, IsBegunSince, IsChosen, IsRightCall, Plain, StartsChosen, foretold, history, start_of, upcoming_name}
 use Rattle.mscp_queue.proofs.Named.{differ_is, same_is}
 use Rattle.mscp_queue.proofs.Placed.{each_push}
@@ -54,26 +50,12 @@ use Rattle.mscp_controller.proofs.Bridge.Telling.{begin}
 block_kept : (t : Trace) (m : Moment) (y : ℕ) → service_in m.1 ≡ None → y < length t
     → block_of (t ++ m ∷ []) y ≡ block_of t y
 unfolding block_of
-block_kept t m y e l =
-    let k = command_before t m y l in
-    let on : is_online (t ++ m ∷ []) (unit (t ++ m ∷ []) y) ≡ is_online t (unit t y) =
-    ap (λ (q : Command). is_online (t ++ m ∷ []) q.unit) k ∙ is_online_kept t m (unit t y) e in
-    (λ i. block_touched (on i) (k i).order (done_kept t m y e l i))
+block_kept t m y e l = search (arith, command_before t m y l, is_online_kept t m (unit t y) e, done_kept)
 
 foretold_kept : (t : Trace) (m : Moment) (y : ℕ) → service_in m.1 ≡ None → y < length t
     → foretold (t ++ m ∷ []) y ≡ foretold t y
-foretold_kept t m y e l = λ i.
-    let k = command_before t m y l in
-    let b = block_kept t m y e l in
-    let d = done_kept t m y e l in
-    let v = connection_before t m y l in
-    record {
-      connection = v i;
-      command = k i;
-      lbn = b i;
-      done = d i;
-      weight = order_weight (k i).order;
-    }
+foretold_kept t m y e l =
+    search (arith, command_before t m y l, block_kept t m y e l, done_kept t m y e l, connection_before t m y l)
 
 waits_on : (t : Trace) (m : Moment) (y : ℕ) → is_waiting t y ≡ true
     → is_waiting (t ++ m ∷ []) y ≡ not (ends_in (name t y) m.1)
@@ -90,25 +72,7 @@ quiet : {K : Type 0} (c : Settings) (picks : List Choice → ℕ → Type 0) (ca
     → service_in entry ≡ None → is_step event ≡ false → IsLeft h h' (history calls) entry
     → (h.begun ≡ None → h'.begun ≡ None) → Holds c picks calls h.begun → Turned c picks calls (Plain event entry) h'
 quiet c picks calls event entry h h' turn legal e s left none holds =
-    let t = history calls in
-    let m : Moment = (event, entry) in
-    let call = Plain event entry in
-    let same = history_more calls call in
-    let t' = history (calls ++ call ∷ []) in
-    let stays : (y : ℕ) → is_waiting t y ≡ true → foretold t' y ≡ foretold t y =
-    λ y w. ap (λ u. foretold u y) same ∙ foretold_kept t m y e (waits_below t y w) in
-    let link : (n : Name) (y : ℕ) → h.begun ≡ Some n → is_waiting t y ≡ true → name t y ≡ n
-    → h'.begun ≡ (if is_waiting t' y then Some n else None) =
-    λ n y b w own. left n y b w own ∙ ap (λ b. if b then Some n else None)
-    (sym (ap (λ u. is_waiting u y) same ∙ (waits_on t m y w ∙ ap (λ k. not (ends_in k entry)) own))) in
-    record {
-      legal = subst (IsLegal c) (sym same) (legal_more c t m legal turn.sends.right);
-      agrees = subst (λ u. Agrees c u h') (sym same) turn.sends.agrees;
-      right = tt;
-      begun = λ up y j k. subst (λ o. IfSome o (IsAsTold up)) (sym e) tt;
-      picked = subst (λ o. IfSome (start_of o) (IsChosen (IsPick c picks) calls)) (sym e) tt;
-      holds = holds_on c picks calls call h.begun h'.begun (ap (λ b. b || false) s) refl stays link none holds;
-    }
+    search (arith, history_more, foretold_kept, waits_below, waits_on, not, legal_more, holds_on)
 
 -- what is begun after a message
 begun_unless : {K : Type 0} (via : Connection) (h : Holdings K) (t : Trace) (k : Command) (n : Name) (y : ℕ)
@@ -116,16 +80,7 @@ begun_unless : {K : Type 0} (via : Connection) (h : Holdings K) (t : Trace) (k :
     → h.waiting ≡ map (held_of t) (waiting t) → h.begun ≡ Some n → is_waiting t y ≡ true → name t y ≡ n
     → (held_unless via h k o).begun
     ≡ (if not (ends_in n (entries.Sent via (sent_unless via h k o))) then Some n else None)
-begun_unless via h t k n y (Some fault) e b w own = b
-begun_unless {K} via h t k n y None e b w own =
-    let told = reference_aborted via h.waiting k.order in
-    elim (is_queued h.settings k) as (λ q. (if q then queued via h k
-    else with_end via (aborting via h k.order) (answered_end via h k)).begun
-    ≡ (if not (ends_in n (entries.Sent via (Ok (if q then sents.Queued k.reference
-    else sents.Answered k.reference told)))) then Some n else None)) [
-      | true ↦ b
-      | false ↦ ap (λ o. begun_after via o k.order) b ∙ begun_left via k.reference t h.waiting n y k.order e w own
-    ]
+begun_unless via h t k n y o h7 h8 h9 h10 = grind (arith, not, begun_left)
 
 -- ---- a step
 
@@ -153,13 +108,7 @@ as_told c picks calls k (reports.Served via' reference' unit' lbn b' seek e') h 
     let same : some.0 ≡ b.1.1 = one_waits t some.0 b.1.1 a.follows.known.steady.apart some.1.waits own.is.waits
     (sym (λ i. name_on (some.1.connection i) (some.1.reference i)) ∙ (turn.same n b.0 ∙ sym (name_begun own))) in
     let v : IsServed c t k s b.1.1 = subst (IsServed c t k s) same some.1 in
-    let told : IsAsTold b.1.0 s = record {
-      connection = v.connection ∙ ap (λ (u : Upcoming). u.connection) (sym own.now);
-      reference = v.reference ∙ ap (λ (u : Upcoming). u.command.reference) (sym own.now);
-      unit = v.unit ∙ ap (λ (u : Upcoming). u.command.unit) (sym own.now);
-      lbn = v.lbn ∙ ap (λ (u : Upcoming). u.lbn) (sym own.now);
-      started = v.started ∙ ap (λ (u : Upcoming). nat_eq u.done 0) (sym own.now);
-    } in
+    let told : IsAsTold b.1.0 s = search arith in
     subst (λ u. IsAsTold u s) (sym one.1) told
 
 starts_chosen : {K : Type 0} (c : Settings) (picks : List Choice → ℕ → Type 0) (calls : List Call) (k : Block)
@@ -168,22 +117,13 @@ starts_chosen : {K : Type 0} (c : Settings) (picks : List Choice → ℕ → Typ
     → IfSome (start_of (service_in (entries.Stepped report))) (IsChosen (IsPick c picks) calls)
 starts_chosen c picks calls k reports.Idle h h' o a b turn = tt
 starts_chosen c picks calls k (reports.Served via' reference' unit' lbn false seek e') h h' o a b turn = tt
-starts_chosen c picks calls k (reports.Served via' reference' unit' lbn true seek e') h h' None a b turn =
-    inl (b.1, turn.picked b.0 refl)
+starts_chosen c picks calls k (reports.Served via' reference' unit' lbn true seek e') h h' None a b turn = search arith
 starts_chosen c picks calls k (reports.Served via' reference' unit' lbn true seek e') h h' (Some n) a b turn =
     let own = b.1.3 in
     let same : name_on via' reference' ≡ n = turn.same n b.0 in
     let told = as_told c picks calls k (reports.Served via' reference' unit' lbn true seek e') h h' (Some n) a b turn
     b.1.0 b.1.1 b.1.2 own.is in
-    inr (
-      b.1.0,
-      b.1.1,
-      b.1.2,
-      own.is,
-      own.own ∙ sym same,
-      subst (IsPick c picks (history (take b.1.2 calls))) (sym same)
-          (own.chosen (sym told.started)),
-    )
+    search arith
 
 -- after a step nothing is begun
 unbegun_after : {K : Type 0} (c : Settings) (picks : List Choice → ℕ → Type 0) (calls : List Call) (k : Block)
@@ -193,8 +133,7 @@ unbegun_after : {K : Type 0} (c : Settings) (picks : List Choice → ℕ → Typ
 unbegun_after {K} c picks calls k reports.Idle h h' None b turn s = ap (λ (l : Line K). l.begun) s.serves.2 ∙ b.0
 unbegun_after {K} c picks calls k reports.Idle h h' (Some n) b turn s =
     absurd (none_waits (history calls) b.1.1 turn.sends.right b.1.3.is.waits)
-unbegun_after {K} c picks calls k (reports.Served via' reference' unit' lbn b' seek e') h h' o b turn s =
-    ap (λ (l : Line K). l.begun) s.serves.1.left
+unbegun_after {K} c picks calls k (reports.Served via' reference' unit' lbn b' seek e') h h' o b turn s = search arith
 
 stepped : {K : Type 0} (c : Settings) (picks : List Choice → ℕ → Type 0) (calls : List Call) (k : Block)
     (report : Report) (h h' : Holdings K) (o : Option Name) → Agrees c (history calls) h → IsLegal c (history calls)
@@ -225,9 +164,7 @@ plain {K} picks calls (events.Send via message) (entries.Sent other sent) h h' v
     let t = history calls in
     let k = command_of message.items in
     let o = refusal (balance_of via h) (outstanding_of via h) message.items in
-    let left : IsLeft h h' t (entries.Sent other sent) = λ n y e w own.
-    ap (λ (x : Holdings K). x.begun) r.2 ∙ (begun_unless via h t k n y o a.follows.waits e w own
-    ∙ (λ i. if not (ends_in n (entries.Sent (sym r.0 i) (sym r.1 i))) then Some n else None)) in
+    let left : IsLeft h h' t (entries.Sent other sent) = search (arith, begun_unless, not) in
     quiet h.settings picks calls (events.Send via message) (entries.Sent other sent) h h'
     (turns picks h h' t (events.Send via message) (entries.Sent other sent) v a r) legal refl refl left
     (λ n. unbegun_kept picks h h' (events.Send via message) (entries.Sent other sent) n r) b
@@ -251,8 +188,7 @@ plain picks calls _ _ h h' v a legal b r = absurd r
 begun_as : (c : Settings) (picks : List Choice → ℕ
     → Type 0) (calls : List Call) (via : Connection) (number : ℕ) (o : Option Name)
     → is_begun (name_on via number) o ≡ true → Holds c picks calls o → IsBegun calls (name_on via number)
-begun_as c picks calls via number None e b = absurd (false≢true e)
-begun_as c picks calls via number (Some n) e b = (b.0, b.1, b.2, b.3.is, b.3.own ∙ same_is n (name_on via number) e)
+begun_as c picks calls via number o h6 h7 = grind (arith, false≢true, same_is)
 
 -- what is begun is of this number, or isn't
 only_begun : (c : Settings) (picks : List Choice → ℕ
@@ -317,10 +253,7 @@ turned picks calls (Finish via number k answer) h h' v a legal b r =
 
 settings_kept : {K : Type 0} (picks : List Choice → ℕ → Type 0) (h h' : Holdings K) (call : Call)
     → AnswersCall picks h call h' → h'.settings ≡ h.settings
-settings_kept picks h h' (Plain event entry) r = (owner_kept picks h h' event entry r).0
-settings_kept picks h h' (Begin upcoming) r = r.settings
-settings_kept picks h h' (Finish via number k (Ok report)) r = r.1.settings
-settings_kept {K} picks h h' (Finish via number k (Err not_begun)) r = ap (λ (x : Holdings K). x.settings) r.1
+settings_kept picks h h' call h4 = grind (arith, owner_kept)
 
 -- what is known after each part of the calls
 pub record Knows {K : Type 0} (c : Settings) (picks : List Choice → ℕ → Type 0) (calls : List Call) (h : Holdings K) :
@@ -356,8 +289,7 @@ knows_more {K} c picks calls call h h' v r k =
 knows_after : {K : Type 0} (c : Settings) (picks : List Choice → ℕ → Type 0) (so_far : List Call) (h h' : Holdings K)
     (calls : List Call) → IsValid c → AnsweredCalls picks h calls h' → Knows c picks so_far h
     → Knows c picks (so_far ++ calls) h'
-knows_after {K} c picks so_far h h' [] v r k = subst (λ (x : Holdings K). Knows c picks (so_far ++ []) x) (sym r)
-    (subst (λ cs. Knows c picks cs h) (sym (append-nil so_far)) k)
+knows_after {K} c picks so_far h h' [] v r k = search (arith, append-nil so_far)
 knows_after {K} c picks so_far h h' (call ∷ calls) v r k =
     subst (λ cs. Knows c picks cs h') (append_assoc so_far (call ∷ []) calls)
     (knows_after c picks (so_far ++ call ∷ []) r.0 h' calls v r.2 (knows_more c picks so_far call h r.0 v r.1 k))

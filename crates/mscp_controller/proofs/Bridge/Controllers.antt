@@ -1,6 +1,6 @@
 -- A controller of a picker keeps the promise, and a run has it.
-use Rattle.std.proofs.Common.{◌≡◌, inl, inr, ℕ, ◌-◌, ◌+◌, List, take, length, ap, subst, ◌∙◌}
-use Rattle.std.specs.Prelude.{IfSome, Option, Some, None, zip}
+use Rattle.std.proofs.Common.{◌≡◌, inl, inr, ℕ, ◌-◌, ◌+◌, List, take, length, ap, ◌∙◌, arith}
+use Rattle.std.specs.Prelude.{IfSome, Option, Some, None}
 use Rattle.mscp_queue.specs.declared.view.Choice.{Choice}
 use Rattle.mscp_queue.specs.Figures.{figure_of_name}
 use Rattle.mscp_queue.specs.declared.name.Name.{Name}
@@ -32,40 +32,20 @@ use Rattle.mscp_controller.proofs.Bridge.Calling.{called}
 pub runs : {K : Type 0} (c : Settings) (picks : List Choice → ℕ → Type 0) (picker : K) (es : List Event)
     (ns : List Entry) (h : Holdings K) → IsValid c → Answered picks (fresh c picker) es ns h → IsRun picks c es ns
 runs c picks picker es ns h v r =
-    let t = zip es ns in
-    let k = comes c picks picker h es ns v r in
-    record {
-      headline = record {
-        answers = as_many picks (fresh c picker) h es ns r;
-        legal = k.legal;
-        promise =
-            progress c t v k.legal;
-      };
-      picked = k.picked;
-      swept = λ w. sweeping c picks t w k.picked;
-    }
+    search (arith, comes c picks picker h es ns v r, as_many picks (fresh c picker) h es ns r, progress, sweeping)
 
 -- the same where the controller is known to be new
 pub new_runs : {K : Type 0} (c : Settings) (picks : K → List Choice → ℕ → Type 0) (picker : K) (new : Holdings K)
     (es : List Event) (ns : List Entry) (h : Holdings K) → IsValid c → new ≡ fresh c picker
     → Answered (picks new.picker) new es ns h → IsRun (picks picker) c es ns
-new_runs {K} c picks picker new es ns h v e r = runs c (picks picker) picker es ns h v
-    (subst (λ (n : Holdings K). Answered (picks n.picker) n es ns h) e r)
+new_runs {K} c picks picker new es ns h v e r = search (arith, runs)
 
 -- ---- whoever calls
 
 chosen_swept : (c : Settings) (picks : List Choice → ℕ → Type 0) (so_far : List Call) (n : Name) → Sweeps picks
     → IsChosen (IsPick c picks) so_far n → IsChosen (IsSwept c) so_far n
 chosen_swept c picks so_far n w (inl h) = inl (h.0, swept_pick c picks (history so_far) n w h.1)
-chosen_swept c picks so_far n w (inr h) = inr (
-  h.0,
-  h.1,
-  h.2,
-  h.3,
-  h.4,
-  swept_pick c picks (history (take h.2 so_far)) n
-      w h.5,
-)
+chosen_swept c picks so_far n w (inr h) = search (arith, swept_pick c picks (history (take h.2 so_far)) n w h.5)
 
 starts_swept : (c : Settings) (picks : List Choice → ℕ → Type 0) (so_far : List Call) (o : Option Name) → Sweeps picks
     → IfSome o (IsChosen (IsPick c picks) so_far) → IfSome o (IsChosen (IsSwept c) so_far)

@@ -1,13 +1,12 @@
 -- The drives of a controller are those of the run: each unit's state and head.
-use Rattle.std.proofs.Common.{◌≡◌, ◌≢◌, ℕ, Bool, true, false, cond, List, [], ◌∷◌, ◌++◌, map, refl, ap, sym, ◌∙◌}
-use Rattle.std.specs.Prelude.{find, nat_eq, unwrap_or, if◌then◌else◌, Option, Some, None, is_some, option_map}
+use Rattle.std.proofs.Common.{◌≡◌, ◌≢◌, ℕ, Bool, true, false, cond, List, [], ◌∷◌, ◌++◌, map, refl, ap, sym, ◌∙◌, arith}
+use Rattle.std.specs.Prelude.{find, nat_eq, if◌then◌else◌, Option, Some, None, is_some, option_map}
 use Rattle.std.specs.List.{AllByRecursion}
 use Rattle.std.proofs.lemmas.Bool.{eqb-true, eqb-false, true≢false, false≢true}
 use Rattle.mscp_packet.specs.declared.command.Command.{Command}
 use Rattle.mscp_packet.specs.declared.command.Order.{Order}
-use Rattle.mscp_packet.specs.declared.command.Order.TheVariants as orders
 use Rattle.mscp_packet.specs.declared.end.End.{End}
-use Rattle.mscp_drive.specs.Shape.{Shape, cylinder_of, one_block}
+use Rattle.mscp_drive.specs.Shape.{Shape, cylinder_of}
 use Rattle.mscp_drive.specs.UnitList.{IsUnitList}
 use Rattle.mscp_events.specs.declared.block.Block.{Block}
 use Rattle.mscp_queue.specs.declared.drive.Drive.{Drive}
@@ -47,16 +46,12 @@ found_number (x ∷ xs) u s e =
     both (nat_eq x.number u) refl e
 
 some_of : {X : Type 0} (o : Option X) → is_some o ≡ true → (x : X) × (o ≡ Some x)
-some_of None h = absurd (false≢true h)
-some_of (Some x) h = (x, refl)
+some_of o h1 = grind (arith, false≢true)
 
 pub find_map : {X Y : Type 0} (p : Y → Bool) (f : X → Y) (xs : List X)
     → find p (map f xs) ≡ option_map f (find (λ x. p (f x)) xs)
 find_map p f [] = refl
-find_map p f (x ∷ xs) =
-    let rest = find_map p f xs in
-    elim (p (f x)) as (λ b. cond b (Some (f x)) (find p (map f xs))
-    ≡ option_map f (cond b (Some x) (find (λ z. p (f z)) xs))) [ true ↦ refl | false ↦ rest ]
+find_map p f (x ∷ xs) = search (arith, find_map p f xs)
 
 -- ---- the units of commands
 
@@ -65,21 +60,14 @@ abbrev pub IsConfigured : Settings → Command → Type 0
 IsConfigured c k = is_some (unit_found c k.unit) ≡ true
 
 move_found : (c : Settings) (count block : ℕ) (o : Option Shape) → move_fault c count block o ≡ None → is_some o ≡ true
-move_found c count block None h = absurd (true≢false (ap is_some h))
-move_found c count block (Some s) h = refl
+move_found c count block o h4 = grind (arith, true≢false)
 
 fault_found : (o : Option Shape) → unit_fault o ≡ None → is_some o ≡ true
-fault_found None h = absurd (true≢false (ap is_some h))
-fault_found (Some s) h = refl
+fault_found o h1 = grind (arith, true≢false)
 
 order_found : (c : Settings) (u : ℕ) (o : Order) → is_immediate o ≡ false → order_fault c u o ≡ None
     → is_some (unit_found c u) ≡ true
-order_found c u (orders.Move kind count block) i h = move_found c count block (unit_found c u) h
-order_found c u orders.Available i h = fault_found (unit_found c u) h
-order_found c u orders.Online i h = fault_found (unit_found c u) h
-order_found c u orders.SetUnit i h = fault_found (unit_found c u) h
-order_found c u (orders.Invalid opcode status) i h = absurd (true≢false (ap is_some h))
-order_found c u _ i h = absurd (true≢false i)
+order_found c u o h3 h4 = grind (arith, move_found, fault_found, true≢false)
 
 queued_configured : (c : Settings) (k : Command) → is_queued c k ≡ true → IsConfigured c k
 queued_configured c k q = let o = queued_open c k q in order_found c k.unit k.order o.waits o.sound
@@ -97,21 +85,12 @@ pub record Driven (c : Settings) (t : Trace) (ds : List Drive) : Type 0 where
 
 same_drive : (c : Settings) (t : Trace) (s : Shape) (u : ℕ) → unit_found c u ≡ Some s → s.number ≡ u
     → drive_now c t s ≡ drive_by c t u
-same_drive c t s u e n =
-    let shape : s ≡ unit_shape c u = sym (ap (λ o. unwrap_or o one_block) e) in
-    λ i. record { unit = shape i; online = is_online t (n i); head = head c t (n i) }
+same_drive c t s u e n = search arith
 
 -- The drive that is found is that of the number.
 pub drive_found : (c : Settings) (t : Trace) (ds : List Drive) (u : ℕ) → Driven c t ds → is_some (unit_found c u) ≡ true
     → drive_of ds u ≡ drive_by c t u
-drive_found c t ds u d h =
-    let some = some_of (unit_found c u) h in
-    let s = some.0 in
-    let e = some.1 in
-    ap (λ ds. drive_of ds u) d.drives
-    ∙ (ap (λ o. unwrap_or o (fresh_drive one_block))
-    (find_map (λ (x : Drive). nat_eq x.unit.number u) (drive_now c t) c.units ∙ ap (option_map (drive_now c t)) e)
-    ∙ same_drive c t s u e (found_number c.units u s e))
+drive_found c t ds u d h = search (arith, some_of (unit_found c u) h, find_map, same_drive, found_number)
 
 -- ---- at first, and where nothing is served
 
@@ -122,33 +101,12 @@ configured_more c t m r h = each_queued c (IsConfigured c) (queued_configured c)
 
 pub driven_fresh : (c : Settings) → Driven c [] (map fresh_drive c.units)
 unfolding waiting
-driven_fresh c = record {
-  drives = map_on fresh_drive (drive_now c []) c.units
-      (every_from (λ s. fresh_drive s ≡ drive_now c [] s)
-      (λ s. λ i. record {
-        unit = s;
-        online = sym (is_online_empty s.number) i;
-        head =
-            sym (head_empty c s.number) i;
-      }) c.units);
-  configured = tt;
-}
+driven_fresh c = search (arith, map_on, every_from, is_online_empty, head_empty)
 
 pub driven_kept : (c : Settings) (t : Trace) (m : Moment) (ds : List Drive) → service_in m.1 ≡ None
     → IsRight c t m.0 m.1 → Driven c t ds → Driven c (t ++ m ∷ []) ds
 driven_kept c t m ds n r d =
-    let t' = t ++ m ∷ [] in
-    record {
-      drives = d.drives ∙ map_on (drive_now c t) (drive_now c t') c.units
-          (every_from (λ s. drive_now c t s ≡ drive_now c t' s)
-          (λ s. λ i. record {
-            unit = s;
-            online = sym (is_online_kept t m s.number n) i;
-            head =
-                sym (head_kept c t m s.number n) i;
-          }) c.units);
-      configured = configured_more c t m r d.configured;
-    }
+    search (arith, configured_more c t m r d.configured, map_on, every_from, is_online_kept, head_kept)
 
 -- ---- a step
 
@@ -160,8 +118,7 @@ end_held c t k y = refl
 
 -- the head goes as far as the run says
 pub seek_held : (c : Settings) (t : Trace) (u : ℕ) (o : Option ℕ) → seek_from (drive_by c t u) o ≡ seek_to c t u o
-seek_held c t u None = refl
-seek_held c t u (Some block) = refl
+seek_held c t u o = grind arith
 
 state_held : (c : Settings) (t : Trace) (m : Moment) (k : Block) (y : ℕ) (front back : List ℕ)
     → Step c t m (service_by c t k y) k y front back → (o : Option End) → end_of c t k y ≡ o
@@ -181,10 +138,7 @@ own_served : (c : Settings) (t : Trace) (m : Moment) (k : Block) (y : ℕ) (fron
     → Step c t m (service_by c t k y) k y front back
     → drive_after k (drive_by c t (unit t y)) (held_of t y) ≡ drive_by c (t ++ m ∷ []) (unit t y)
 own_served c t m k y front back st =
-    let u = unit t y in
-    let state = ap (state_left (is_online t u) (order t y)) (end_held c t k y)
-    ∙ state_held c t m k y front back st (end_of c t k y) refl in
-    λ i. record { unit = unit_shape c u; online = state i; head = head_held c t m k y front back st i }
+    search (arith, end_held c t k y, state_held c t m k y front back st (end_of c t k y) refl, head_held)
 
 one_served : (c : Settings) (t : Trace) (m : Moment) (k : Block) (y : ℕ) (front back : List ℕ)
     → Step c t m (service_by c t k y) k y front back

@@ -6,7 +6,6 @@ use Rattle.arrayvec.specs.ArrayVec.{ArrayVec}
 use Rattle.mscp_packet.specs.declared.end.End.{End}
 use Rattle.mscp_packet.specs.Ends.{end_bytes}
 use Rattle.mscp_events.specs.declared.connection.Connection.{Connection}
-use Rattle.mscp_events.specs.declared.connection.Connection.TheVariants.{First, Second}
 use Rattle.mscp_events.specs.declared.block.Block.{Block}
 use Rattle.mscp_queue.specs.declared.report.Report.{Report}
 use Rattle.mscp_queue.specs.declared.report.Report.TheVariants as reports
@@ -23,7 +22,7 @@ use Rattle.mscp_controller.specs.History.{Trace, Moment, collect, takes}
 use Rattle.mscp_controller.specs.Commands.{waiting}
 use Rattle.mscp_controller.specs.Account.{ends, untaken}
 use Rattle.mscp_controller.specs.Legal.{IsLegal, IsPicked, IsRight}
-use Rattle.mscp_controller.specs.Holdings.{Answered, Answers, Holdings, Steps, after_message, after_take, answer_to_message, end_taken, fresh}
+use Rattle.mscp_controller.specs.Holdings.{Answered, Answers, Holdings, Steps, after_take, fresh}
 use Rattle.mscp_controller.proofs.Promise.Known.{known_empty}
 use Rattle.mscp_controller.proofs.Bridge.Owning.{owner_kept, unbegun_kept}
 use Rattle.mscp_controller.proofs.Bridge.Legals.{legal_more, picked_more}
@@ -55,19 +54,14 @@ taking via end = (events.Take via, entries.Taken via (option_map (λ e. record {
 rest_held : {K : Type 0} (via : Connection) (h : Holdings K) (t : Trace) (u : End) → Agrees h.settings t h
     → takes via (taking via (Some u)).1 ≡ true
     → drop 1 (of via h.untaken) ≡ untaken h.settings via (t ++ taking via (Some u) ∷ [])
-rest_held via h t u a n = ap (drop 1) (a.follows.ends via)
-    ∙ sym (untaken_taken h.settings via t (taking via (Some u)) n refl)
+rest_held via h t u a n = search (arith, untaken_taken h.settings via t (taking via (Some u)) n refl)
 
 all_held : {K : Type 0} (via : Connection) (h : Holdings K) (t : Trace) (u : End) → Agrees h.settings t h
     → IsUntaken h t (taking via (Some u)) (after_take via h)
-all_held First h t u a First = rest_held First h t u a refl
-all_held First h t u a Second = ends_stay Second h t (taking First (Some u)) refl a refl
-all_held Second h t u a First = ends_stay First h t (taking Second (Some u)) refl a refl
-all_held Second h t u a Second = rest_held Second h t u a refl
+all_held via h t u h4 h5 = grind (arith, rest_held, ends_stay)
 
 put_same : (via : Connection) (us : Both (List End)) → of via us ≡ [] → put via (drop 1 (of via us)) us ≡ us
-put_same First us e = ap (λ xs. record us { first = xs }) (ap (drop 1) e ∙ sym e)
-put_same Second us e = ap (λ xs. record us { second = xs }) (ap (drop 1) e ∙ sym e)
+put_same via us h2 = grind arith
 
 takes_when : {K : Type 0} (via : Connection) (h : Holdings K) (t : Trace) → 1 ≤ h.settings.longest
     → Agrees h.settings t h → (us : List End) → of via h.untaken ≡ us
@@ -75,22 +69,14 @@ takes_when : {K : Type 0} (via : Connection) (h : Holdings K) (t : Trace) → 1 
 takes_when {K} via h t l a [] e =
     let c = h.settings in
     let m = taking via None in
-    let r : IsRight c t m.0 m.1 = (
-      refl,
-      ap (λ us. option_map (λ e. record { items = end_bytes e }) (slice_get us 0))
-          (sym e ∙ a.follows.ends via),
-    ) in
+    let r : IsRight c t m.0 m.1 = search arith in
     subst (λ (us : Both (List End)). Sends c t m (record h { untaken = us })) (sym (put_same via h.untaken e))
     (quiet h h t m l (record { unserved = refl; kept = λ r. refl }) refl refl refl
     (λ other. ends_stay other h t m refl a refl) a r)
 takes_when via h t l a (u ∷ us) e =
     let c = h.settings in
     let m = taking via (Some u) in
-    let r : IsRight c t m.0 m.1 = (
-      refl,
-      ap (λ us. option_map (λ e. record { items = end_bytes e }) (slice_get us 0))
-          (sym e ∙ a.follows.ends via),
-    ) in
+    let r : IsRight c t m.0 m.1 = search arith in
     quiet h (after_take via h) t m l (record { unserved = refl; kept = λ r. refl }) refl refl refl
     (all_held via h t u a) a r
 
@@ -108,8 +94,7 @@ idles {K} picks h h' t k v a s =
     let m : Moment = (events.Step k, entries.Stepped reports.Idle) in
     let none : waiting t ≡ [] = none_mapped (held_of t) (waiting t) (sym a.follows.waits ∙ s.serves.0) in
     let same = s.serves.2 in
-    let ends : IsUntaken h t m h' = λ via. ap (of via) s.ends ∙ (of_after via h.untaken reports.Idle
-    ∙ ends_on via h t m refl a [] refl) in
+    let ends : IsUntaken h t m h' = search (arith, of_after, ends_on) in
     record {
       sends = quiet h h' t m v.some_blocks (record { unserved = refl; kept = λ r. refl }) refl
           (ap (λ (l : Line K). l.waiting) same) (ap (λ (l : Line K). l.drives) same) ends a none;
@@ -133,26 +118,12 @@ pub turns : {K : Type 0} (picks : List Choice → ℕ → Type 0) (h h' : Holdin
     (entry : Entry) → IsValid h.settings → Agrees h.settings t h → Answers picks h event entry h'
     → Turns h.settings picks t (event, entry) h.begun h'
 turns {K} picks h h' t (events.Send via message) (entries.Sent other sent) v a r =
-    let b = message.items in
-    let m : Moment = (events.Send via message, entries.Sent via (answer_to_message via h b)) in
-    let all : Turns h.settings picks t m h.begun (after_message via h b) =
-    record { sends = sends via h t message v.some_blocks a; same = λ n b. tt; picked = λ b. tt } in
-    subst (λ q. Turns h.settings picks t (events.Send via message, q) h.begun h')
-    (λ i. entries.Sent (sym r.0 i) (sym r.1 i))
-    (subst (λ (x : Holdings K). Turns h.settings picks t m h.begun x) (sym r.2) all)
+    search (arith, sends via h t message v.some_blocks a)
 turns {K} picks h h' t (events.Take via) (entries.Taken other end) v a r =
-    let m : Moment = (events.Take via, entries.Taken via (end_taken via h)) in
-    let all : Turns h.settings picks t m h.begun (after_take via h) = record {
-      sends = takes_when via h t v.some_blocks a (of via h.untaken) refl;
-      same = λ n b. tt;
-      picked = λ b. tt;
-    } in
-    subst (λ q. Turns h.settings picks t (events.Take via, q) h.begun h') (λ i. entries.Taken (sym r.0 i) (sym r.1 i))
-    (subst (λ (x : Holdings K). Turns h.settings picks t m h.begun x) (sym r.2) all)
+    search (arith, takes_when via h t v.some_blocks a (of via h.untaken) refl, sends)
 turns picks h h' t (events.Step k) (entries.Stepped report) v a r = steps picks h h' t k report v a r
 turns {K} picks h h' t events.Look (entries.Looked list) v a r =
-    subst (λ (x : Holdings K). Turns h.settings picks t (events.Look, entries.Looked list) h.begun x) (sym r.1)
-    (record { sends = looks h t list v.some_blocks a r.0; same = λ n b. tt; picked = λ b. tt })
+    search (arith, looks h t list v.some_blocks a r.0, sends)
 turns picks h h' t _ _ v a r = absurd r
 
 -- ---- a whole history
@@ -186,8 +157,7 @@ comes_more {K} c picks t h h' event entry v r k =
 comes_after : {K : Type 0} (c : Settings) (picks : List Choice → ℕ → Type 0) (t : Trace) (h h' : Holdings K)
     (es : List Event) (ns : List Entry) → IsValid c → Answered picks h es ns h' → Comes c picks t h
     → Comes c picks (t ++ zip es ns) h'
-comes_after {K} c picks t h h' [] [] v r k = subst (λ (x : Holdings K). Comes c picks (t ++ []) x) (sym r)
-    (subst (λ u. Comes c picks u h) (sym (append-nil t)) k)
+comes_after {K} c picks t h h' [] [] v r k = search (arith, append-nil t)
 comes_after {K} c picks t h h' (e ∷ es) (n ∷ ns) v r k =
     let next = r.0 in
     subst (λ u. Comes c picks u h') (append_assoc t ((e, n) ∷ []) (zip es ns))
@@ -196,16 +166,11 @@ comes_after c picks t h h' _ _ v r k = absurd r
 
 none_untaken : (c : Settings) (via : Connection) → of via (record { first = []; second = [] }) ≡ untaken c via []
 unfolding untaken ends collect
-none_untaken c First = refl
-none_untaken c Second = refl
+none_untaken c via = grind arith
 
 pub none_held : {K : Type 0} (c : Settings) (picker : K) → Agrees c [] (fresh c picker)
 unfolding waiting
-none_held c picker = record {
-  follows = record { known = known_empty c; waits = refl; ends = none_untaken c };
-  driven =
-      driven_fresh c;
-}
+none_held c picker = search (arith, known_empty c, none_untaken c, driven_fresh c)
 
 -- What a new controller answers to events comes so.
 pub comes : {K : Type 0} (c : Settings) (picks : List Choice → ℕ → Type 0) (picker : K) (h : Holdings K)
@@ -225,6 +190,5 @@ comes {K} c picks picker h es ns v r =
 -- there is one entry an event
 pub as_many : {K : Type 0} (picks : List Choice → ℕ → Type 0) (h h' : Holdings K) (es : List Event) (ns : List Entry)
     → Answered picks h es ns h' → length ns ≡ length es
-as_many picks h h' [] [] r = refl
 as_many picks h h' (e ∷ es) (n ∷ ns) r = ap (λ k. suc k) (as_many picks r.0 h' es ns r.2)
-as_many picks h h' _ _ r = absurd r
+as_many picks h h' es ns h5 = grind arith

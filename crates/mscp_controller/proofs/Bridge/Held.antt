@@ -1,5 +1,5 @@
 -- When records and ends are those of a run, and the figures that they give.
-use Rattle.std.proofs.Common.{◌≡◌, ⊎_elim, ℕ, ◌+◌, ◌-◌, Bool, false, cond, List, [], ◌∷◌, ◌++◌, map, take, drop, length, refl, ap, sym, ◌∙◌, append_assoc, arith}
+use Rattle.std.proofs.Common.{◌≡◌, ⊎_elim, ℕ, ◌+◌, ◌-◌, Bool, false, cond, List, [], ◌∷◌, ◌++◌, map, length, refl, ap, sym, ◌∙◌, append_assoc, arith}
 use Rattle.std.specs.Prelude.{filter, find, sum_by}
 use Rattle.std.specs.List.{AllByRecursion, position, range_with_len}
 use Rattle.std.proofs.lemmas.List.{length-append, length-map, map-append}
@@ -7,7 +7,7 @@ use Rattle.mscp_packet.specs.declared.end.End.{End}
 use Rattle.mscp_events.specs.declared.connection.Connection.{Connection}
 use Rattle.mscp_queue.specs.declared.name.Name.{Name}
 use Rattle.mscp_queue.specs.Names.{same_name}
-use Rattle.mscp_queue.specs.Records.{Record, has_name, is_in_service, left_of, record_at, no_record}
+use Rattle.mscp_queue.specs.Records.{Record, has_name, is_in_service, left_of, record_at}
 use Rattle.mscp_events.specs.Settings.{Settings}
 use Rattle.mscp_events.specs.Both.{Both, of}
 use Rattle.mscp_controller.specs.History.{Trace}
@@ -63,33 +63,19 @@ looked_name r = (r.connection, r.command.reference)
 shown_at : (c : Settings) (t : Trace) (A : List ℕ) (x : ℕ) (B : List ℕ) (k : ℕ) → waiting t ≡ A ++ x ∷ B → length A ≡ k
     → (looked_name (record_at (map (held_of t) (waiting t)) k) ≡ (connection t x, reference t x))
     × (figure_at c.budget (map (held_of t) (waiting t)) k ≡ figure c t x)
-shown_at c t A x B k e l =
-    let h = held_of t in
-    let rs = map h (waiting t) in
-    let cut : rs ≡ map h A ++ h x ∷ map h B = ap (map h) e ∙ map-append h A (x ∷ B) in
-    let at = at_place rs (map h A) (h x) (map h B) k no_record cut (length-map A h ∙ l) in (
-      ap looked_name at.item,
-      ap (λ r. figure_between c.budget (take k rs) r (drop (k + 1) rs)) at.item
-          ∙ (ap (λ a. figure_between c.budget a (h x) (drop (k + 1) rs)) at.before
-          ∙ (ap (figure_between c.budget (map h A) (h x)) at.behind ∙ figure_held c t A x B e)),
-    )
+shown_at c t A x B k e l = search (arith, figure_held c t A x B e, map-append, at_place, length-map)
 
 figures_part : (c : Settings) (t : Trace) (A B : List ℕ) (k : ℕ) → waiting t ≡ A ++ B → length A ≡ k
     → figures_from c.budget (map (held_of t) (waiting t)) (range_with_len k (length B)) ≡ map (shown c t) B
 figures_part c t A [] k e l = refl
 figures_part c t A (x ∷ B) k e l =
-    let s = shown_at c t A x B k e l in
-    let rest = figures_part c t (A ++ x ∷ []) B (k + 1) (e ∙ sym (append_assoc A (x ∷ []) B))
-    (omega (arith, length-append A (x ∷ []), l)) in
-    (λ i. ((s.0 i).0, (s.0 i).1, s.1 i) ∷ figures_from c.budget (map (held_of t) (waiting t))
-    (range_with_len (k + 1) (length B))) ∙ ap (λ ys. shown c t x ∷ ys) rest
+    search (arith, shown_at c t A x B k e l, figures_part c t (A ++ x ∷ []) B (k + 1) (e ∙ sym (append_assoc A (x ∷ [])
+    B)) (omega (arith, length-append A (x ∷ []), l)), append_assoc A (x ∷ []) B, length-append A (x ∷ []))
 
 -- The records' figures are those of the waiting commands.
 pub figures_held : (c : Settings) (t : Trace)
     → figures c.budget (map (held_of t) (waiting t)) ≡ map (shown c t) (waiting t)
-figures_held c t =
-    ap (λ n. figures_from c.budget (map (held_of t) (waiting t)) (range_with_len 0 n))
-    (length-map (waiting t) (held_of t)) ∙ figures_part c t [] (waiting t) 0 refl refl
+figures_held c t = search (arith, length-map (waiting t) (held_of t), figures_part c t [] (waiting t) 0 refl refl)
 
 pub has_held : (t : Trace) (r : Name) (xs : List ℕ) → AllByRecursion (λ x. same_name (name t x) r ≡ false) xs
     → AllByRecursion (λ w. has_name r w ≡ false) (map (held_of t) xs)

@@ -1,5 +1,5 @@
 -- Who keeps a command back, as the records and as the history say it.
-use Rattle.std.proofs.Common.{◌≡◌, ⊎_elim, ℕ, ◌+◌, ◌<◌, ◌≤◌, Bool, true, false, cond, not, ◌&&◌, ◌||◌, List, [], ◌∷◌, ◌++◌, map, take, get_or, length, refl, ap, sym, ◌∙◌, arith}
+use Rattle.std.proofs.Common.{◌≡◌, ⊎_elim, ℕ, ◌+◌, ◌<◌, ◌≤◌, Bool, true, not, ◌&&◌, ◌||◌, List, [], ◌∷◌, ◌++◌, map, take, get_or, length, refl, ap, sym, ◌∙◌, arith}
 use Rattle.std.specs.Prelude.{filter, find, nat_le, Some}
 use Rattle.std.specs.List.{list_all, position, range_with_len}
 use Rattle.std.proofs.Math.Bool.{and-false}
@@ -25,10 +25,7 @@ holder_held : (c : Settings) (t : Trace) (place front : ℕ) → place < length 
     → holder c t (waiting_at t place) (waiting_at t front)
     ≡ records.holder_of c.budget (record_at (map (held_of t) (waiting t)) place)
     (record_at (map (held_of t) (waiting t)) front)
-holder_held c t place front l b =
-    let own = record_held t place l in
-    let other = record_held t front (omega (arith, l, b)) in
-    λ i. records.holder_of c.budget (sym own i) (sym other i)
+holder_held c t place front l b = search (arith, record_held t place l, record_held t front (omega (arith, l, b)))
 
 keeps_held : (c : Settings) (t : Trace) (place front : ℕ) → place < length (waiting t) → front < place
     → keeps_back c t (waiting_at t place) (waiting_at t front)
@@ -99,19 +96,7 @@ none_keeps : {X : Type 0} (told : X → Holder) (fences affords : X → Bool) (x
     → is_nobody (map told (filter (λ z. fences z || not (affords z)) xs))
     ≡ (list_all (λ z. not (fences z)) xs && list_all affords xs)
 none_keeps told fences affords [] = refl
-none_keeps {X} told fences affords (x ∷ xs) =
-    let rest = none_keeps told fences affords xs in
-    let kept = filter (λ z. fences z || not (affords z)) xs in
-    let free = list_all (λ z. not (fences z)) xs in
-    let may = list_all affords xs in
-    let both : (f a : Bool) → is_nobody (map told (cond (f || not a) (x ∷ kept) kept))
-    ≡ ((not f && free) && (a && may)) = λ f a. elim f as (λ f. is_nobody (map told (cond (f || not a) (x ∷ kept) kept))
-    ≡ ((not f && free) && (a && may))) [
-      | true ↦ refl
-      | false ↦ elim a as (λ a. is_nobody (map told (cond (not a) (x ∷ kept) kept)) ≡ (free && (a && may)))
-          [ true ↦ rest | false ↦ sym (and-false free) ]
-    ] in
-    both (fences x) (affords x)
+none_keeps {X} told fences affords (x ∷ xs) = search (arith, none_keeps told fences affords xs, not, and-false)
 
 -- while nothing is in service a command may start exactly if nobody keeps it back
 pub startable_unheld : (c : Settings) (t : Trace) (y : ℕ) → is_idle t ≡ true

@@ -1,6 +1,6 @@
 -- What is known of a message that isn't refused.
-use Rattle.std.proofs.Common.{◌≡◌, ℕ, ◌≤◌, Bool, true, false, ◌&&◌, ◌||◌, List, [], ◌∷◌, ◌++◌, length, refl, ap, ◌∙◌, sym}
-use Rattle.std.specs.Prelude.{cond, nat_eq, nat_lt, if◌then◌else◌, slice_index, Some, None}
+use Rattle.std.proofs.Common.{◌≡◌, ℕ, ◌≤◌, Bool, true, false, ◌&&◌, ◌||◌, List, [], ◌∷◌, ◌++◌, length, refl, ap, arith}
+use Rattle.std.specs.Prelude.{cond, nat_eq, slice_index, None}
 use Rattle.std.specs.List.{list_any}
 use Rattle.std.proofs.lemmas.List.Folds.{list_any-append}
 use Rattle.std.proofs.lemmas.Bool.{le-ltb, true≢false}
@@ -11,7 +11,6 @@ use Rattle.mscp_packet.specs.declared.command.Command.{Command}
 use Rattle.mscp_packet.specs.Number.{num}
 use Rattle.mscp_packet.specs.Commands.{IsCommand, command_of}
 use Rattle.mscp_packet.specs.declared.end.End.{End}
-use Rattle.mscp_controller.specs.declared.entry.SendFault.TheVariants.{Short, Long}
 use Rattle.mscp_controller.specs.Holdings.{numbers, numbers_ended, waiting_on}
 use Rattle.mscp_controller.specs.Arrival.{credit_fault, holds, refusal}
 
@@ -40,34 +39,23 @@ pub holds_either : (rs : List Record) (via : Connection) (es : List End) (refere
     → holds (numbers (waiting_on via rs) ++ numbers_ended es) reference
     ≡ (list_any (has_name (name_on via reference)) rs || list_any (λ e. nat_eq e.reference reference) es)
 holds_either rs via es reference =
-    list_any-append (λ x. nat_eq x reference) (numbers (waiting_on via rs)) (numbers_ended es)
-    ∙ ap (λ b. b || holds (numbers_ended es) reference) (waiting_held rs via reference)
-    ∙ ap (λ b. list_any (has_name (name_on via reference)) rs || b) (untaken_held es reference)
+    search (arith, waiting_held rs via reference, untaken_held es reference, list_any-append)
 
 -- a message of 12 to 64 bytes is refused for its credit and reference number alone
 refusal_read : (balance : ℕ) (outstanding b : List ℕ) → 12 ≤ length b → length b ≤ 64
     → refusal balance outstanding b ≡ credit_fault balance outstanding (slice_index b 8) (num b 0 4)
-refusal_read balance outstanding b low high =
-    ap (λ s. if s then Some Short else (if nat_lt 64 (length b) then Some Long
-    else credit_fault balance outstanding (slice_index b 8) (num b 0 4))) (le-ltb (length b) 12 low)
-    ∙ ap (λ l. if l then Some Long else credit_fault balance outstanding (slice_index b 8) (num b 0 4))
-    (le-ltb 64 (length b) high)
+refusal_read balance outstanding b low high = search (arith, le-ltb (length b) 12 low, le-ltb 64 (length b) high)
 
 -- a message that is the command and isn't refused for its credit isn't refused
 pub taken : (balance : ℕ) (outstanding b : List ℕ) (command : Command) → IsCommand b command
     → credit_fault balance outstanding (slice_index b 8) command.reference ≡ None → refusal balance outstanding b ≡ None
-taken balance outstanding b command h e =
-    refusal_read balance outstanding b h.low h.high
-    ∙ ap (credit_fault balance outstanding (slice_index b 8)) (sym h.reference) ∙ e
+taken balance outstanding b command h e = search (arith, refusal_read balance outstanding b h.low h.high)
 
 -- no command that waits has a reference number that isn't outstanding
 or_left : (a b : Bool) → (a || b) ≡ false → a ≡ false
-or_left true b h = absurd (true≢false h)
-or_left false b h = refl
+or_left a b h2 = grind (arith, true≢false)
 
 pub none_waits : (rs : List Record) (via : Connection) (es : List End) (reference : ℕ)
     → holds (numbers (waiting_on via rs) ++ numbers_ended es) reference ≡ false
     → list_any (has_name (name_on via reference)) rs ≡ false
-none_waits rs via es reference h =
-    or_left (list_any (has_name (name_on via reference)) rs) (list_any (λ e. nat_eq e.reference reference) es)
-    (sym (holds_either rs via es reference) ∙ h)
+none_waits rs via es reference h = search (arith, holds_either rs via es reference, or_left)

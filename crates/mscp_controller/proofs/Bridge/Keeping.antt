@@ -1,6 +1,6 @@
 -- What each call keeps of what a controller holds.
-use Rattle.std.proofs.Common.{◌≡◌, ℕ, ◌+◌, ◌-◌, ◌<◌, ◌≤◌, Bool, true, false, List, [], ◌∷◌, map, length, drop, ap, refl, sym, subst, ◌∙◌, arith}
-use Rattle.std.specs.Prelude.{if◌then◌else◌, option_to_list, slice_get, Option, Some, None, IfSome, is_some}
+use Rattle.std.proofs.Common.{◌≡◌, ℕ, ◌+◌, ◌-◌, ◌<◌, ◌≤◌, Bool, List, [], ◌∷◌, map, length, drop, ap, refl, sym, subst, ◌∙◌, arith}
+use Rattle.std.specs.Prelude.{if◌then◌else◌, slice_get, Option, Some, None, IfSome, is_some}
 use Rattle.std.proofs.lemmas.Bool.{false≢true}
 use Rattle.std.specs.List.{AllByRecursion}
 use Rattle.std.proofs.lemmas.List.{length-append, length-drop}
@@ -18,7 +18,7 @@ use Rattle.mscp_queue.specs.Drives.{fresh_drive}
 use Rattle.mscp_queue.specs.Kept.{units_of}
 use Rattle.mscp_queue.specs.Lines as lines
 use Rattle.mscp_queue.specs.Lines.{Line, Serves}
-use Rattle.mscp_queue.specs.Names.{name_on, same_connection}
+use Rattle.mscp_queue.specs.Names.{name_on}
 use Rattle.mscp_queue.specs.Records.{Record, without}
 use Rattle.mscp_queue.specs.Serving.{begun_without, end_in}
 use Rattle.mscp_queue.proofs.Lists.{every_append}
@@ -47,30 +47,16 @@ pub record IsStill {K : Type 0} (old new : Line K) : Type 0 where
 
 held_like : {K : Type 0} {c : Settings} {old new : Line K} {a a' : Accounts} → IsHeld c old a → IsStill old new
     → ((via : Connection) → IsAccount c new.waiting via (account via a')) → IsHeld c new a'
-held_like h s e = record {
-  valid = h.valid;
-  account = e;
-  same_room = s.room ∙ h.same_room;
-  same_budget = s.budget ∙ h.same_budget;
-  same_longest = s.longest ∙ h.same_longest;
-  units = s.units ∙ h.units;
-}
+held_like h s e = search arith
 
 still_by : {K : Type 0} {old new : Line K} (ws : List Record) (o : Option Name)
     → new ≡ record old { waiting = ws; begun = o } → IsStill old new
-still_by {K} ws o e = record {
-  room = ap (λ (l : Line K). l.room) e;
-  budget = ap (λ (l : Line K). l.budget) e;
-  longest = ap (λ (l : Line K). l.longest) e;
-  units = ap (λ (l : Line K). units_of l.drives) e;
-}
+still_by {K} ws o e = search arith
 
 -- an account of which nothing changes, where as many of its commands wait
 account_stays : {c : Settings} {ws ws' : List Record} {via : Connection} {own : Account}
     → IsAccount c ws via own → length (waiting_on via ws') ≡ length (waiting_on via ws) → IsAccount c ws' via own
-account_stays h e =
-    let counted = h.counted in
-    record { counted = omega (arith, counted, e); covered = h.covered; fits = h.fits; shaped = h.shaped }
+account_stays h e = search arith
 
 -- ---- nothing came
 
@@ -86,40 +72,20 @@ pub held_fresh : {K : Type 0} (c : Settings) (units : List Shape) (room' budget 
     → longest ≡ c.longest → line ≡ lines.fresh units room' budget longest picker
     → a ≡ record { first = fresh; second = fresh } → IsHeld c line a
 held_fresh {K} c units room' budget longest picker line a v u r p l e n =
-    let none : (via : Connection) → IsAccount c [] via (account via (record { first = fresh; second = fresh })) =
-    λ via. elim via as (λ via. IsAccount c [] via (account via (record { first = fresh; second = fresh })))
-    [ First ↦ fresh_account c First | Second ↦ fresh_account c Second ] in
-    let all : IsHeld c (lines.fresh units room' budget longest picker) (record { first = fresh; second = fresh }) =
-    record {
-      valid = v;
-      account = none;
-      same_room = r;
-      same_budget = p;
-      same_longest = l;
-      units = units_fresh units ∙ u;
-    } in
-    subst (λ (q : Line K). IsHeld c q a) (sym e)
-    (subst (IsHeld c (lines.fresh units room' budget longest picker)) (sym n) all)
+    search (arith, fresh_account c First, units_fresh units)
 
 -- ---- a step
 
 -- the ends that a step brings are of their kind
 kind_either : (here : Bool) (end : End) → IsOfKind end → AllByRecursion IsOfKind (if here then end ∷ [] else [])
-kind_either true end h = (h, tt)
-kind_either false end h = tt
+kind_either here end h2 = grind arith
 
 reported_kinds : (via : Connection) (report : Report) → IfSome (end_in report) IsOfKind
     → AllByRecursion IsOfKind (ends_reported via report)
-reported_kinds via reports.Idle h = tt
-reported_kinds via (reports.Served here reference unit lbn started seek None) h =
-    elim (same_connection here via) as (λ b. AllByRecursion IsOfKind (if b then option_to_list {X = End} None else []))
-    [ true ↦ tt | false ↦ tt ]
-reported_kinds via (reports.Served here reference unit lbn started seek (Some end)) h =
-    kind_either (same_connection here via) end h
+reported_kinds via report h2 = grind (arith, kind_either)
 
 few_of : (c : Settings) (via : Connection) → IsValid c → credits_of c via ≤ 64
-few_of c First v = let few = v.few_credits in omega (arith, few)
-few_of c Second v = let few = v.few_credits in omega (arith, few)
+few_of c via h2 = grind arith
 
 -- there is room for the end that a step brings, and its command is counted
 pub can_end : {K : Type 0} (c : Settings) (picks : List Choice → ℕ → Type 0) (k : Block) (old : Line K)
@@ -127,63 +93,25 @@ pub can_end : {K : Type 0} (c : Settings) (picks : List Choice → ℕ → Type 
 can_end c picks k old reports.Idle new a h s = tt
 can_end c picks k old (reports.Served via reference unit lbn started seek None) new a h s = tt
 can_end c picks k old (reports.Served via reference unit lbn started seek (Some end)) new a h s =
-    let count = count_stepped via picks k old (reports.Served via reference unit lbn started seek (Some end)) new s in
-    let one = ap (λ b. length (if b then end ∷ [] else [])) (own_side via) in
-    let counted = (h.account via).counted in
-    let covered = (h.account via).covered in
-    (omega (arith, count, one, counted), omega (arith, count, one, counted, covered, few_of c via h.valid))
+    search (arith, count_stepped via picks k old (reports.Served via reference unit lbn started seek (Some end)) new s,
+    own_side via, few_of c via h.valid)
 
 pub held_stepped : {K : Type 0} (c : Settings) (picks : List Choice → ℕ → Type 0) (k : Block) (old : Line K)
     (report : Report) (new : Line K) (a : Accounts) → IsHeld c old a → Serves picks k old report new
     → units_of new.drives ≡ units_of old.drives → IfSome (end_in report) IsOfKind → IsHeld c new (reported report a)
 held_stepped {K} c picks k old report new a h s u kind =
-    let same = stays picks k old report new s in
-    held_like h (record { room = same.0; budget = same.1; longest = same.2; units = u })
-    (λ via.
-    let own = h.account via in
-    let count = count_stepped via picks k old report new s in
-    let more = reported_at via report a (can_end c picks k old report new a h s) in
-    let waiting = more.waiting in
-    let counted = own.counted in
-    let covered = own.covered in
-    let fits = own.fits in
-    record {
-      counted = omega (arith, count, waiting, counted);
-      covered = omega (
-        arith,
-        waiting,
-        covered,
-        ap length more.untaken,
-        length-append (account via a).untaken.items (ends_reported via report),
-      );
-      fits = omega (arith, waiting, fits);
-      shaped = subst (AllByRecursion IsOfKind) (sym more.untaken)
-          (every_append IsOfKind (account via a).untaken.items (ends_reported via report) own.shaped
-          (reported_kinds via report kind));
-    })
+    search (arith, stays picks k old report new s, can_end c picks k old report new a h s, held_like, count_stepped,
+    reported_at, length-append, every_append, reported_kinds)
 
 -- ---- a message
 
 -- an end is taken, if there is one
 rest_kinds : (es : List End) → AllByRecursion IsOfKind es → AllByRecursion IsOfKind (drop 1 es)
-rest_kinds [] h = tt
-rest_kinds (e ∷ es) h = h.1
+rest_kinds es h1 = grind arith
 
 pub held_taken : {K : Type 0} {c : Settings} {line : Line K} {a : Accounts} (via : Connection) → IsHeld c line a
     → IsHeld c line (put_account via (taken (account via a)) a)
-held_taken {K} {c} {line} {a} via h =
-    let own = h.account via in
-    let covered = own.covered in
-    let items = (account via a).untaken.items in
-    held_like h (record { room = refl; budget = refl; longest = refl; units = refl })
-    (each_account (IsAccount c line.waiting) via (taken (account via a)) a
-    (record {
-      counted = own.counted;
-      covered = omega (arith, covered, length-drop 1 items);
-      fits = own.fits;
-      shaped = rest_kinds items own.shaped;
-    })
-    (λ other d. h.account other))
+held_taken {K} {c} {line} {a} via h = search (arith, held_like, each_account, length-drop, rest_kinds)
 
 -- ---- an abort
 
@@ -208,12 +136,8 @@ held_aborted {K} {c} {old} {new} {a} via n end h e count kind =
     let counted = own.counted in
     let covered = own.covered in
     let fits = own.fits in
-    let own' : IsAccount c ws via (left end (account via a)) = record {
-      counted = omega (arith, counted, less);
-      covered = omega (arith, counted, covered, less, length-append items (end ∷ []));
-      fits = omega (arith, fits);
-      shaped = every_append IsOfKind items (end ∷ []) own.shaped (kind, tt);
-    } in
+    let own' : IsAccount c ws via (left end (account via a)) =
+    search (arith, length-append items (end ∷ []), every_append IsOfKind items (end ∷ []) own.shaped (kind, tt)) in
     held_like h (still_by ws (begun_without (name_on via n) old.begun) e)
     (subst (λ (l : Line K). (via' : Connection)
     → IsAccount c l.waiting via' (account via' (put_account via (left end (account via a)) a))) (sym e)
@@ -226,8 +150,7 @@ held_aborted {K} {c} {old} {new} {a} via n end h e count kind =
 pub free_seen : (c : Settings) (ws : List Record) (via : Connection) (n : ℕ) (a : Accounts)
     → n ≤ credits_of c via - (length (waiting_on via ws) + length (of via (untaken_in a)))
     → n ≤ credits_of c via - (length (waiting_on via ws) + length (account via a).untaken.items)
-free_seen c ws via n a h =
-    subst (λ es. n ≤ credits_of c via - (length (waiting_on via ws) + length es)) (seen_of via a) h
+free_seen c ws via n a h = search (arith, seen_of via a)
 
 -- where a connection has two credits free, there is room for one more
 pub room_left : {K : Type 0} {c : Settings} {line : Line K} {a : Accounts} (via : Connection) → IsHeld c line a
@@ -248,19 +171,12 @@ room_left {K} {c} {line} {a} Second h free =
 pub balanced : {K : Type 0} {c : Settings} {line : Line K} {a : Accounts} → IsHeld c line a → (via : Connection)
     → credits_of c via - (length (waiting_on via line.waiting) + length (of via (untaken_in a)))
     + length (waiting_on via line.waiting) + length (of via (untaken_in a)) ≡ credits_of c via
-balanced {K} {c} {line} {a} h via =
-    let counted = (h.account via).counted in
-    let covered = (h.account via).covered in
-    omega (arith, counted, covered, ap length (seen_of via a))
+balanced {K} {c} {line} {a} h via = search (arith, seen_of via a)
 
 -- what a connection's commands and ends hold is at most 64
 pub held_small : {K : Type 0} {c : Settings} {line : Line K} {a : Accounts} → IsHeld c line a → (via : Connection)
     → (account via a).waiting + length (account via a).untaken.items ≤ 64
-held_small {K} {c} {line} {a} h via = let covered = (h.account via).covered in omega (
-  arith,
-  covered,
-  few_of c via h.valid,
-)
+held_small {K} {c} {line} {a} h via = search (arith, few_of c via h.valid)
 
 -- an abort leaves the credits that are free as they were: its end takes the place of its command
 pub balance_left : {K : Type 0} (c : Settings) (old new : Line K) (a a' : Accounts) (via : Connection) (n : ℕ)
@@ -270,15 +186,8 @@ pub balance_left : {K : Type 0} (c : Settings) (old new : Line K) (a a' : Accoun
     → credits_of c via - (length (waiting_on via new.waiting) + length (of via (untaken_in a')))
     ≡ credits_of c via - (length (waiting_on via old.waiting) + length (of via (untaken_in a)))
 balance_left {K} c old new a a' via n end e count more =
-    let less = own_count via n old.waiting (sym (ap (λ (l : Line K). length l.waiting + 1) e) ∙ count) in
-    omega (
-      arith,
-      less,
-      ap (λ (l : Line K). length (waiting_on via l.waiting)) e,
-      ap (λ (x : Accounts). length (of via (untaken_in x))) more,
-      ap length (ap (of via) (seen_left via end a) ∙ (of_more via (untaken_in a) (end ∷ []))),
-      length-append (of via (untaken_in a)) (end ∷ []),
-    )
+    search (arith, seen_left via end a, of_more via (untaken_in a) (end ∷ []), length-append (of via (untaken_in a))
+    (end ∷ []), own_count)
 
 -- an end that is taken has the body of its endcode
 pub taken_kind : (es : List End) (e : End) → slice_get es 0 ≡ Some e → AllByRecursion IsOfKind es → IsOfKind e

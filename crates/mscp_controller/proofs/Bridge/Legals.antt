@@ -1,6 +1,6 @@
 -- A run whose moments are right one by one is legal.
-use Rattle.std.proofs.Common.{◌≡◌, ℕ, ◌<◌, Bool, true, false, ◌||◌, ◌&&◌, List, [], ◌∷◌, ◌++◌, map, take, drop, length, refl, ap, sym, subst, arith, append-nil}
-use Rattle.std.specs.Prelude.{if◌then◌else◌, is_some, nat_eq, option_map, slice_get, slice_index_or, None, Option, Some}
+use Rattle.std.proofs.Common.{◌≡◌, ℕ, ◌<◌, true, ◌||◌, ◌&&◌, List, [], ◌∷◌, ◌++◌, map, take, drop, length, ap, sym, subst, arith, append-nil}
+use Rattle.std.specs.Prelude.{if◌then◌else◌, nat_eq, option_map, slice_get, slice_index_or, None, Option, Some}
 use Rattle.std.proofs.lemmas.Bool.{and_parts, false≢true}
 use Rattle.std.proofs.lemmas.List.{append_assoc}
 use Rattle.mscp_packet.specs.Commands.{command_of}
@@ -71,20 +71,7 @@ service_by c t k y = record {
 -- A step is right by the command that it serves.
 pub by_serving : {c : Settings} {t : Trace} {k : Block} {s : Service} (y : ℕ) → is_waiting t y ≡ true
     → (in_service t y || is_startable c t y) ≡ true → s ≡ service_by c t k y → (y : ℕ) × IsServed c t k s y
-by_serving y w n e = (
-  y,
-  record {
-    waits = w;
-    next = n;
-    lbn = ap (λ (s : Service). s.lbn) e;
-    started = ap (λ (s : Service). s.started) e;
-    seek = ap (λ (s : Service). s.seek) e;
-    ended = ap (λ (s : Service). s.ended) e;
-    connection = ap (λ (s : Service). s.connection) e;
-    reference = ap (λ (s : Service). s.reference) e;
-    unit = ap (λ (s : Service). s.unit) e;
-  },
-)
+by_serving y w n e = search arith
 
 -- ---- by computation
 
@@ -119,31 +106,12 @@ answers_by c t [] ys = []
 answers_by c t (m ∷ ms) ys =
     answer_by c t m.0 (slice_index_or ys 0 0) ∷ answers_by c (t ++ m ∷ []) ms (still_served t m.0 ys)
 
-abbrev Right : Settings → Trace → Event → Option Entry → Type 0
-Right c t e None = Unit {0}
-Right c t e (Some a) = IsRight c t e a
-
 right_step : (c : Settings) (t : Trace) (k : Block) (y : ℕ) (a : Entry) (ws : List ℕ) → waiting t ≡ ws
     → step_by c t k y ws ≡ Some a → IsRight c t (events.Step k) a
-right_step c t k y a [] e h = subst (Right c t (events.Step k)) h e
-right_step c t k y a (x ∷ xs) e h = both (is_waiting t y && (in_service t y || is_startable c t y)) refl h
-  where
-    served : Entry
-    served = entries.Stepped (reports.Served (connection t y) (reference t y) (unit t y) (block_of t y)
-        (nat_eq (done t y) 0) (seek_to c t (unit t y) (block_of t y)) (end_of c t k y))
-
-    both : (b : Bool) → (is_waiting t y && (in_service t y || is_startable c t y)) ≡ b
-        → (if b then Some served else None) ≡ Some a → IsRight c t (events.Step k) a
-    both true may h =
-        let p = and_parts (is_waiting t y) (in_service t y || is_startable c t y) may in
-        subst (Right c t (events.Step k)) h (by_serving y p.0 p.1 refl)
-    both false may h = absurd (false≢true (ap is_some h))
+right_step c t k y a ws h6 h7 = grind (arith, and_parts, by_serving, false≢true)
 
 right_by : (c : Settings) (t : Trace) (e : Event) (y : ℕ) (a : Entry) → answer_by c t e y ≡ Some a → IsRight c t e a
-right_by c t (events.Send via b) y a h = subst (Right c t (events.Send via b)) h (refl, refl)
-right_by c t (events.Take via) y a h = subst (Right c t (events.Take via)) h (refl, refl)
-right_by c t (events.Step k) y a h = right_step c t k y a (waiting t) refl h
-right_by c t events.Look y a h = subst (Right c t events.Look) h refl
+right_by c t e y a h5 = grind (arith, right_step)
 
 right_from : (c : Settings) (t ms : Trace) (ys : List ℕ) → answers_by c t ms ys ≡ map (λ m. Some m.1) ms
     → RightFrom c t ms

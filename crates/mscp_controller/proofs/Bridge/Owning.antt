@@ -1,9 +1,8 @@
 -- What no event changes: the settings and the picker, and that nothing is begun.
-use Rattle.std.proofs.Common.{◌≡◌, true, false, List, ℕ, ap, refl, sym, subst, ◌∙◌}
-use Rattle.std.specs.Prelude.{if◌then◌else◌, Option, Some, None}
+use Rattle.std.proofs.Common.{◌≡◌, List, ℕ, ap, sym, subst, ◌∙◌, arith}
+use Rattle.std.specs.Prelude.{Option, None}
 use Rattle.mscp_packet.specs.declared.command.Command.{Command}
 use Rattle.mscp_packet.specs.declared.command.Order.{Order}
-use Rattle.mscp_packet.specs.declared.command.Order.TheVariants as orders
 use Rattle.mscp_packet.specs.Commands.{command_of}
 use Rattle.mscp_events.specs.declared.block.Block.{Block}
 use Rattle.mscp_events.specs.declared.connection.Connection.{Connection}
@@ -16,28 +15,15 @@ use Rattle.mscp_events.specs.declared.event.Event.{Event}
 use Rattle.mscp_events.specs.declared.event.Event.TheVariants as events
 use Rattle.mscp_controller.specs.declared.entry.Entry.{Entry}
 use Rattle.mscp_controller.specs.declared.entry.Entry.TheVariants as entries
-use Rattle.mscp_controller.specs.Arrival.{refusal, is_queued}
-use Rattle.mscp_controller.specs.Holdings.{Answers, Holdings, aborting, answered_end, balance_of, begun_after, with_end, held_unless, line_of, outstanding_of, queued}
+use Rattle.mscp_controller.specs.Arrival.{refusal}
+use Rattle.mscp_controller.specs.Holdings.{Answers, Holdings, balance_of, begun_after, held_unless, line_of, outstanding_of}
 
 -- the limits and the picker stay
 pub stays : {K : Type 0} (picks : List Choice → ℕ → Type 0) (k : Block) (old : Line K) (report : Report) (new : Line K)
     → Serves picks k old report new
     → (new.room ≡ old.room) × (new.budget ≡ old.budget) × (new.longest ≡ old.longest) × (new.picker ≡ old.picker)
-stays {K} picks k old reports.Idle new h = (
-  ap (λ (l : Line K). l.room) h.2,
-  ap (λ (l : Line K). l.budget) h.2,
-  ap (λ (l : Line K). l.longest) h.2,
-  ap
-      (λ (l : Line K). l.picker) h.2,
-)
-stays {K} picks k old (reports.Served connection reference unit lbn started seek ended) new h =
-    let e = h.1.left in (
-      ap (λ (l : Line K). l.room) e,
-      ap (λ (l : Line K). l.budget) e,
-      ap (λ (l : Line K). l.longest) e,
-      ap
-          (λ (l : Line K). l.picker) e,
-    )
+stays {K} picks k old reports.Idle new h = search arith
+stays {K} picks k old (reports.Served connection reference unit lbn started seek ended) new h = search arith
 
 -- ---- any event
 
@@ -47,11 +33,7 @@ IsSameOwner h h' = (h'.settings ≡ h.settings) × (h'.picker ≡ h.picker)
 
 owner_unless : {K : Type 0} (via : Connection) (h : Holdings K) (command : Command) (o : Option SendFault)
     → IsSameOwner h (held_unless via h command o)
-owner_unless via h command (Some fault) = (refl, refl)
-owner_unless via h command None = elim (is_queued h.settings command) as
-    (λ b. IsSameOwner h (if b then queued via h command
-    else with_end via (aborting via h command.order) (answered_end via h command)))
-    [ true ↦ (refl, refl) | false ↦ (refl, refl) ]
+owner_unless via h command o = grind arith
 
 -- no event changes the settings or the picker
 pub owner_kept : {K : Type 0} (picks : List Choice → ℕ → Type 0) (h h' : Holdings K) (event : Event) (entry : Entry)
@@ -59,40 +41,25 @@ pub owner_kept : {K : Type 0} (picks : List Choice → ℕ → Type 0) (h h' : H
 owner_kept {K} picks h h' (events.Send via message) (entries.Sent other sent) r =
     subst (λ (x : Holdings K). IsSameOwner h x) (sym r.2) (owner_unless via h (command_of message.items)
     (refusal (balance_of via h) (outstanding_of via h) message.items))
-owner_kept {K} picks h h' (events.Take via) (entries.Taken other end) r =
-    subst (λ (x : Holdings K). IsSameOwner h x) (sym r.2) (refl, refl)
+owner_kept {K} picks h h' (events.Take via) (entries.Taken other end) r = search arith
 owner_kept picks h h' (events.Step k) (entries.Stepped report) r =
     (r.settings, (stays picks k (line_of h) report (line_of h') r.serves).3)
-owner_kept {K} picks h h' events.Look (entries.Looked list) r =
-    subst (λ (x : Holdings K). IsSameOwner h x) (sym r.1) (refl, refl)
+owner_kept {K} picks h h' events.Look (entries.Looked list) r = search arith
 owner_kept picks h h' _ _ r = absurd r
 
 -- ---- nothing is begun
 
 begun_after_none : (via : Connection) (o : Order) → begun_after via None o ≡ None
-begun_after_none via (orders.Abort other) = refl
-begun_after_none via (orders.Status other) = refl
-begun_after_none via orders.UnitStatus = refl
-begun_after_none via (orders.SetController version) = refl
-begun_after_none via orders.Available = refl
-begun_after_none via orders.Online = refl
-begun_after_none via orders.SetUnit = refl
-begun_after_none via (orders.Move kind count block) = refl
-begun_after_none via (orders.Invalid opcode status) = refl
+begun_after_none via o = grind arith
 
 unbegun_unless : {K : Type 0} (via : Connection) (h : Holdings K) (command : Command) (o : Option SendFault)
     → h.begun ≡ None → (held_unless via h command o).begun ≡ None
-unbegun_unless via h command (Some fault) n = n
-unbegun_unless {K} via h command None n =
-    elim (is_queued h.settings command) as (λ b. (if b then queued via h command
-    else with_end via (aborting via h command.order) (answered_end via h command)).begun ≡ None)
-    [ true ↦ n | false ↦ ap (λ b. begun_after via b command.order) n ∙ begun_after_none via command.order ]
+unbegun_unless via h command o h4 = grind (arith, begun_after_none)
 
 unbegun_stepped : {K : Type 0} (picks : List Choice → ℕ → Type 0) (k : Block) (old : Line K) (report : Report)
     (new : Line K) → old.begun ≡ None → Serves picks k old report new → new.begun ≡ None
 unbegun_stepped {K} picks k old reports.Idle new n h = ap (λ (l : Line K). l.begun) h.2 ∙ n
-unbegun_stepped {K} picks k old (reports.Served connection reference unit lbn started seek ended) new n h =
-    ap (λ (l : Line K). l.begun) h.1.left
+unbegun_stepped {K} picks k old (reports.Served connection reference unit lbn started seek ended) new n h = search arith
 
 -- no event begins a command
 pub unbegun_kept : {K : Type 0} (picks : List Choice → ℕ → Type 0) (h h' : Holdings K) (event : Event) (entry : Entry)
@@ -100,8 +67,7 @@ pub unbegun_kept : {K : Type 0} (picks : List Choice → ℕ → Type 0) (h h' :
 unbegun_kept {K} picks h h' (events.Send via message) (entries.Sent other sent) n r =
     ap (λ (x : Holdings K). x.begun) r.2 ∙ unbegun_unless via h (command_of message.items)
     (refusal (balance_of via h) (outstanding_of via h) message.items) n
-unbegun_kept {K} picks h h' (events.Take via) (entries.Taken other end) n r =
-    ap (λ (x : Holdings K). x.begun) r.2 ∙ n
+unbegun_kept {K} picks h h' (events.Take via) (entries.Taken other end) n r = search arith
 unbegun_kept picks h h' (events.Step k) (entries.Stepped report) n r =
     unbegun_stepped picks k (line_of h) report (line_of h') n r.serves
 unbegun_kept {K} picks h h' events.Look (entries.Looked list) n r = ap (λ (x : Holdings K). x.begun) r.1 ∙ n

@@ -1,5 +1,5 @@
 -- Moments that serve nobody: what is held after them.
-use Rattle.std.proofs.Common.{◌≡◌, ℕ, ◌+◌, ◌<◌, ◌≤◌, Bool, true, false, cond, not, ◌&&◌, List, [], ◌∷◌, ◌++◌, map, drop, length, ap, sym, ◌∙◌, append-nil, arith}
+use Rattle.std.proofs.Common.{◌≡◌, ℕ, ◌+◌, ◌<◌, ◌≤◌, true, false, cond, not, List, [], ◌∷◌, ◌++◌, map, drop, length, ap, sym, ◌∙◌, append-nil, arith}
 use Rattle.std.specs.Prelude.{count_by, filter, None}
 use Rattle.std.specs.List.{AllByRecursion}
 use Rattle.std.proofs.lemmas.List.{drop-drop, map-append}
@@ -10,9 +10,8 @@ use Rattle.mscp_queue.specs.declared.name.Name.{Name}
 use Rattle.mscp_queue.specs.Records.{Record, fresh_record, name_of}
 use Rattle.mscp_events.specs.Settings.{Settings}
 use Rattle.mscp_events.specs.Both.{Both, of}
-use Rattle.mscp_queue.specs.Orders.{order_weight}
-use Rattle.mscp_controller.specs.History.{Trace, Moment, connection_of, queues, sent_bytes, is_good, takes, service_in}
-use Rattle.mscp_controller.specs.Commands.{name, waiting, done, good, service_is, service_starts, ends_in}
+use Rattle.mscp_controller.specs.History.{Trace, Moment, connection_of, queues, sent_bytes, takes, service_in}
+use Rattle.mscp_controller.specs.Commands.{waiting, done, good, service_starts, ends_in}
 use Rattle.mscp_controller.specs.Passing.{passed}
 use Rattle.mscp_controller.specs.Ends.{ends_at}
 use Rattle.mscp_controller.specs.Account.{ends, untaken}
@@ -37,21 +36,10 @@ pub record IsQuiet (m : Moment) : Type 0 where
 pub held_same : (t : Trace) (m : Moment) (x : ℕ) → x < length t → done (t ++ m ∷ []) x ≡ done t x
     → good (t ++ m ∷ []) x ≡ good t x → passed (t ++ m ∷ []) x ≡ passed t x
     → held_of (t ++ m ∷ []) x ≡ held_of t x
-held_same t m x l d g p = λ i.
-    let k = command_before t m x l in
-    let v = connection_before t m x l in
-    record {
-      connection = v i;
-      command = k i;
-      weight = order_weight (k i).order;
-      done = d i;
-      good = g i;
-      passed = p i;
-    }
+held_same t m x l d g p = search (arith, command_before t m x l, connection_before t m x l)
 
 good_kept : (t : Trace) (m : Moment) (x : ℕ) → service_in m.1 ≡ None → x < length t → good (t ++ m ∷ []) x ≡ good t x
-good_kept t m x e l = good_before t m x l ∙ (ap (λ o. good t x + cond (service_is (name t x) o && is_good m.0) 1 0)
-    e ∙ omega arith)
+good_kept t m x e l = search (arith, good_before t m x l)
 
 passed_kept : (t : Trace) (m : Moment) (x : ℕ) → service_in m.1 ≡ None → passed (t ++ m ∷ []) x ≡ passed t x
 passed_kept t m x e = none_starts t m x (λ r. ap (service_starts r) e)
@@ -61,17 +49,11 @@ abbrev pub Keeps : Trace → Trace → ℕ → Type 0
 Keeps t t' x = held_of t' x ≡ held_of t x
 
 keeps : (t : Trace) (m : Moment) → service_in m.1 ≡ None → AllByRecursion (Keeps t (t ++ m ∷ [])) (waiting t)
-keeps t m e =
-    every_weaker (λ x. x < length t) (Keeps t (t ++ m ∷ []))
-    (λ x l. held_same t m x l (done_kept t m x e l) (good_kept t m x e l) (passed_kept t m x e))
-    (waiting t) (waiting_below t)
+keeps t m e = search (arith, waiting_below t, every_weaker, held_same, done_kept, good_kept, passed_kept)
 
 waiting_kept : (t : Trace) (m : Moment) → IsQuiet m
     → waiting (t ++ m ∷ []) ≡ waiting t ++ cond (queues m.1) (length t ∷ []) []
-waiting_kept t m q =
-    waiting_more t m ∙ ap (λ l. l ++ cond (queues m.1) (length t ∷ []) [])
-    (filter_all (λ x. not (ends_in (name t x) m.1)) (waiting t)
-    (every_from (λ x. not (ends_in (name t x) m.1) ≡ true) (λ x. ap not (q.kept (name t x))) (waiting t)))
+waiting_kept t m q = search (arith, waiting_more t m, filter_all, not, every_from)
 
 pub records_kept : (t t' : Trace) (xs : List ℕ) → AllByRecursion (Keeps t t') xs
     → map (held_of t') xs ≡ map (held_of t) xs
@@ -87,38 +69,14 @@ pub follows_left : (c : Settings) (t : Trace) (m : Moment) (ws ws' : List Record
     → Follows c t ws us
     → Follows c (t ++ m ∷ []) ws' us'
 follows_left c t m ws ws' us us' l r unserved n left e f =
-    let t' = t ++ m ∷ [] in
-    let keep : ℕ → Bool = λ x. not (ends_in (name t x) m.1) in
-    let stays : Record → Bool = λ r. not (ends_in (name_of r) m.1) in
-    let kept = filter keep (waiting t) in
-    let same : waiting t' ≡ kept = waiting_more t m
-    ∙ (ap (λ b. kept ++ cond b (length t ∷ []) []) n ∙ append-nil kept) in
-    let k = every_kept (Keeps t t') keep (waiting t) (keeps t m unserved) in
-    record {
-      known = known_more c l t m r f.known;
-      waits = left ∙ (ap (filter stays) f.waits ∙ (filter_map_of (held_of t) stays (waiting t)
-          ∙ (sym (records_kept t t' kept k) ∙ ap (map (held_of t')) (sym same))));
-      ends = e;
-    }
+    search (arith, waiting_more t m, keeps t m unserved, held_of t, not, append-nil, every_kept, known_more,
+    filter_map_of, records_kept)
 
 -- ---- a command comes
 
 record_new : (t : Trace) (m : Moment)
     → held_of (t ++ m ∷ []) (length t) ≡ fresh_record (connection_of m.0) (command_of (sent_bytes m.0))
-record_new t m = λ i.
-    let k = command_last t m in
-    let v = connection_last t m in
-    let d = done_last t m in
-    let g = good_last t m in
-    let p = passed_last t m in
-    record {
-      connection = v i;
-      command = k i;
-      weight = order_weight (k i).order;
-      done = d i;
-      good = g i;
-      passed = p i;
-    }
+record_new t m = search (arith, command_last t m, connection_last t m, done_last t m, good_last t m, passed_last t m)
 
 -- What is held after a command was queued: its record comes last.
 pub follows_queued : (c : Settings) (t : Trace) (m : Moment) (ws : List Record) (us us' : Both (List End))
@@ -126,20 +84,8 @@ pub follows_queued : (c : Settings) (t : Trace) (m : Moment) (ws : List Record) 
     → ((via : Connection) → of via us' ≡ untaken c via (t ++ m ∷ [])) → Follows c t ws us
     → Follows c (t ++ m ∷ []) (ws ++ fresh_record (connection_of m.0) (command_of (sent_bytes m.0)) ∷ []) us'
 follows_queued c t m ws us us' l r q n e f =
-    let t' = t ++ m ∷ [] in
-    let x = length t in
-    let same : waiting t' ≡ waiting t ++ x ∷ [] = waiting_kept t m q
-    ∙ ap (λ b. waiting t ++ cond b (length t ∷ []) []) n in
-    let k = keeps t m q.unserved in
-    record {
-      known = known_more c l t m r f.known;
-      waits =
-          ap (λ ys. ys ++ fresh_record (connection_of m.0) (command_of (sent_bytes m.0)) ∷ [])
-          (f.waits ∙ sym (records_kept t t' (waiting t) k))
-          ∙ (ap (λ y. map (held_of t') (waiting t) ++ y ∷ []) (sym (record_new t m))
-          ∙ (sym (map-append (held_of t') (waiting t) (x ∷ [])) ∙ ap (map (held_of t')) (sym same)));
-      ends = e;
-    }
+    search (arith, waiting_kept t m q, keeps t m q.unserved, known_more c l t m r f.known, record_new t m, records_kept,
+    held_of, map-append)
 
 -- ---- an end is taken
 

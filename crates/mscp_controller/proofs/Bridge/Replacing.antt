@@ -1,8 +1,7 @@
 -- A controller whose picker is replaced keeps the promise as one whose picker may pick what that of the call may.
-use Rattle.std.proofs.Common.{◌≡◌, ◌∙◌, ℕ, true, false, List, [], ◌∷◌, Option, None, Some, inl, inr, refl, ap}
-use Rattle.std.specs.Prelude.{if◌then◌else◌, Ok, Err, Result}
+use Rattle.std.proofs.Common.{◌≡◌, ℕ, List, [], ◌∷◌, Option, None, Some, inl, inr, refl, ap, arith}
+use Rattle.std.specs.Prelude.{Result}
 use Rattle.mscp_packet.specs.declared.command.Command.{Command}
-use Rattle.mscp_packet.specs.Commands.{command_of}
 use Rattle.mscp_events.specs.declared.block.Block.{Block}
 use Rattle.mscp_events.specs.declared.connection.Connection.{Connection}
 use Rattle.mscp_events.specs.declared.event.Event.{Event}
@@ -14,15 +13,13 @@ use Rattle.mscp_queue.specs.declared.report.Report.{Report}
 use Rattle.mscp_queue.specs.declared.report.Report.TheVariants as reports
 use Rattle.mscp_queue.specs.declared.upcoming.Upcoming.{Upcoming}
 use Rattle.mscp_queue.specs.declared.view.Choice.{Choice}
-use Rattle.mscp_queue.specs.Lines.{Begins, Line, Serves}
+use Rattle.mscp_queue.specs.Lines.{Begins, Serves}
 use Rattle.mscp_queue.specs.Records.{Record}
 use Rattle.mscp_queue.specs.Serving.{IsNext}
-use Rattle.mscp_queue.specs.Names.{name_on}
 use Rattle.mscp_queue.specs.Views.{view_of}
-use Rattle.mscp_controller.specs.Arrival.{is_queued, refusal}
-use Rattle.mscp_controller.specs.Calls.{AnsweredCalls, AnswersCall, Begin, Call, Finish, Plain}
+use Rattle.mscp_controller.specs.Calls.{AnsweredCalls, AnswersCall, Call}
 use Rattle.mscp_controller.specs.Controllers.{KeepsPromise}
-use Rattle.mscp_controller.specs.Holdings.{Answers, Finishes, Holdings, Steps, aborting, answered_end, balance_of, fresh, held_unless, line_of, outstanding_of, queued, sent_unless, with_end}
+use Rattle.mscp_controller.specs.Holdings.{Answers, Finishes, Holdings, Steps, fresh, held_unless, line_of, sent_unless}
 use Rattle.mscp_controller.specs.Replacing.{AnsweredInTurn, Called, MayPickThen, Replaced, Turn, calls_of}
 use Rattle.mscp_controller.specs.declared.entry.Entry.{Entry}
 use Rattle.mscp_controller.specs.declared.entry.Entry.TheVariants as entries
@@ -46,67 +43,38 @@ Allows view picks allowed = (place : ℕ) → picks view place → allowed view 
 
 held_by : {K : Type 0} (via : Connection) (h : Holdings K) (a : K) (command : Command) (o : Option SendFault)
     → by a (held_unless via h command o) ≡ held_unless via (by a h) command o
-held_by via h a command (Some fault) = refl
-held_by via h a command None = elim (is_queued h.settings command) as
-    (λ b. by a (if b then queued via h command
-    else with_end via (aborting via h command.order) (answered_end via h command))
-    ≡ (if b then queued via (by a h) command
-    else with_end via (aborting via (by a h) command.order) (answered_end via (by a h) command)))
-    [ true ↦ refl | false ↦ refl ]
+held_by via h a command o = grind arith
 
 sent_by : {K : Type 0} (via : Connection) (h : Holdings K) (a : K) (command : Command) (o : Option SendFault)
     → sent_unless via h command o ≡ sent_unless via (by a h) command o
-sent_by via h a command (Some fault) = refl
-sent_by via h a command None = refl
+sent_by via h a command o = grind arith
 
 -- ---- steps
 
 next_allowed : (picks allowed : List Choice → ℕ → Type 0) (budget : ℕ) (ds : List Drive) (rs : List Record)
     (begun : Option Name) (place : ℕ) → Allows (view_of budget ds rs) picks allowed
     → IsNext picks budget ds rs begun place → IsNext allowed budget ds rs begun place
-next_allowed picks allowed budget ds rs begun place allows n = record {
-  servable = n.servable;
-  same = n.same;
-  picked = λ none unstarted.
-      let p = n.picked none unstarted in (p.0, p.1, p.2, allows p.0 p.3);
-}
+next_allowed picks allowed budget ds rs begun place allows n = search arith
 
 serves_by : {K : Type 0} (picks allowed : List Choice → ℕ → Type 0) (a : K) (k : Block) (old new : Holdings K)
     (report : Report) → Allows (shown old) picks allowed → Serves picks k (line_of old) report (line_of new)
     → Serves allowed k (line_of (by a old)) report (line_of (by a new))
-serves_by {K} picks allowed a k old new reports.Idle allows s =
-    (s.0, s.1, ap (λ (l : Line K). record l { picker = a }) s.2)
-serves_by {K} picks allowed a k old new (reports.Served via reference unit lbn started seek ended) allows s = (
-  s.0,
-  record {
-    next = next_allowed picks allowed old.settings.budget old.drives old.waiting old.begun s.0 allows s.1.next;
-    told = s.1.told;
-    left = ap (λ (l : Line K). record l { picker = a }) s.1.left;
-  },
-)
+serves_by {K} picks allowed a k old new reports.Idle allows s = search arith
+serves_by {K} picks allowed a k old new (reports.Served via reference unit lbn started seek ended) allows s =
+    search (arith, next_allowed picks allowed old.settings.budget old.drives old.waiting old.begun s.0 allows s.1.next)
 
 steps_by : {K : Type 0} (picks allowed : List Choice → ℕ → Type 0) (a : K) (k : Block) (old new : Holdings K)
     (report : Report) → Allows (shown old) picks allowed → Steps picks k old report new
     → Steps allowed k (by a old) report (by a new)
-steps_by picks allowed a k old new report allows s = record {
-  serves = serves_by picks allowed a k old new report allows s.serves;
-  ends = s.ends;
-  settings = s.settings;
-}
+steps_by picks allowed a k old new report allows s =
+    search (arith, serves_by picks allowed a k old new report allows s.serves)
 
 begins_by : {K : Type 0} (picks allowed : List Choice → ℕ → Type 0) (a : K) (old new : Holdings K)
     (upcoming : Option Upcoming) → Allows (shown old) picks allowed → Begins picks (line_of old) upcoming (line_of new)
     → Begins allowed (line_of (by a old)) upcoming (line_of (by a new))
-begins_by {K} picks allowed a old new None allows b =
-    (b.0, b.1, ap (λ (l : Line K). record l { picker = a }) b.2)
-begins_by {K} picks allowed a old new (Some upcoming) allows b = (
-  b.0,
-  record {
-    next = next_allowed picks allowed old.settings.budget old.drives old.waiting old.begun b.0 allows b.1.next;
-    told = b.1.told;
-    left = ap (λ (l : Line K). record l { picker = a }) b.1.left;
-  },
-)
+begins_by {K} picks allowed a old new None allows b = search arith
+begins_by {K} picks allowed a old new (Some upcoming) allows b =
+    search (arith, next_allowed picks allowed old.settings.budget old.drives old.waiting old.begun b.0 allows b.1.next)
 
 -- ---- calls
 
@@ -114,34 +82,21 @@ answers_by : {K : Type 0} (picks allowed : List Choice → ℕ → Type 0) (a : 
     (entry : Entry) → Allows (shown old) picks allowed → Answers picks old event entry new
     → Answers allowed (by a old) event entry (by a new)
 answers_by {K} picks allowed a old new (events.Send via message) (entries.Sent other sent) allows r =
-    let command = command_of message.items in
-    let fault = refusal (balance_of via old) (outstanding_of via old) message.items in
-    (r.0, r.1 ∙ sent_by via old a command fault, ap (λ (h : Holdings K). by a h) r.2 ∙ held_by via old a command fault)
-answers_by {K} picks allowed a old new (events.Take via) (entries.Taken other end) allows r =
-    (r.0, r.1, ap (λ (h : Holdings K). by a h) r.2)
+    search (arith, sent_by, held_by)
+answers_by {K} picks allowed a old new (events.Take via) (entries.Taken other end) allows r = search arith
 answers_by picks allowed a old new (events.Step k) (entries.Stepped report) allows r =
     steps_by picks allowed a k old new report allows r
-answers_by {K} picks allowed a old new events.Look (entries.Looked list) allows r =
-    (r.0, ap (λ (h : Holdings K). by a h) r.1)
+answers_by {K} picks allowed a old new events.Look (entries.Looked list) allows r = search arith
 answers_by picks allowed a old new event entry allows r = absurd r
 
 finishes_by : {K : Type 0} (picks allowed : List Choice → ℕ → Type 0) (a : K) (name : Name) (k : Block)
     (old new : Holdings K) (answer : Result Report NotBegun) → Allows (shown old) picks allowed
     → Finishes picks name k old answer new → Finishes allowed name k (by a old) answer (by a new)
-finishes_by picks allowed a name k old new (Ok report) allows r =
-    (r.0, steps_by picks allowed a k old new report allows r.1)
-finishes_by {K} picks allowed a name k old new (Err not_begun) allows r = (r.0, ap (λ (h : Holdings K). by a h) r.1)
+finishes_by picks allowed a name k old new answer h8 h9 = grind (arith, steps_by)
 
 call_by : {K : Type 0} (picks allowed : List Choice → ℕ → Type 0) (a : K) (old new : Holdings K) (call : Call)
     → Allows (shown old) picks allowed → AnswersCall picks old call new → AnswersCall allowed (by a old) call (by a new)
-call_by picks allowed a old new (Plain event entry) allows r = answers_by picks allowed a old new event entry allows r
-call_by picks allowed a old new (Begin upcoming) allows r = record {
-  begins = begins_by picks allowed a old new upcoming allows r.begins;
-  untaken = r.untaken;
-  settings = r.settings;
-}
-call_by picks allowed a old new (Finish via reference k answer) allows r =
-    finishes_by picks allowed a (name_on via reference) k old new answer allows r
+call_by picks allowed a old new call h6 h7 = grind (arith, answers_by, begins_by, finishes_by)
 
 -- ---- calls, one after the other
 

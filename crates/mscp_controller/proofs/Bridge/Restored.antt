@@ -1,5 +1,5 @@
 -- A controller as it was, and what is known of one that is.
-use Rattle.std.proofs.Common.{true, List, subst, arith}
+use Rattle.std.proofs.Common.{true, List, arith}
 use Rattle.std.proofs.lemmas.List.Elements.{All-from_recursion}
 use Rattle.mscp_packet.specs.Ends.{IsOfKind}
 use Rattle.mscp_events.specs.declared.connection.Connection.{Connection}
@@ -39,13 +39,4 @@ pub sound_seen : {K : Type 0} {c : Settings} {line : Line K} {accounts : Account
       begun = line.begun;
       picker = line.picker;
     })
-sound_seen {c = c} {line} {accounts} h q o = record {
-  valid = h.valid;
-  queue = subst (λ n. queue.IsHeld (room c) c.budget n line.waiting line.drives line.begun true) h.same_longest
-      (subst (λ n. queue.IsHeld (room c) n line.longest line.waiting line.drives line.begun true) h.same_budget
-      (subst (λ n. queue.IsHeld n line.budget line.longest line.waiting line.drives line.begun true) h.same_room q));
-  order = o;
-  units = h.units;
-  first = covered_of (h.account First);
-  second = covered_of (h.account Second);
-}
+sound_seen {c = c} {line} {accounts} h q o = search (arith, covered_of (h.account First), covered_of (h.account Second))

@@ -4,7 +4,6 @@ use Rattle.std.specs.Prelude.{filter, if◌then◌else◌, Option, Some, None, i
 use Rattle.std.proofs.lemmas.List.{length-map}
 use Rattle.mscp_packet.specs.declared.command.Command.{Command}
 use Rattle.mscp_packet.specs.declared.command.Order.{Order}
-use Rattle.mscp_packet.specs.declared.command.Order.TheVariants as orders
 use Rattle.mscp_packet.specs.declared.end.End.{End}
 use Rattle.mscp_packet.specs.Commands.{command_of}
 use Rattle.mscp_drive.specs.Shape.{Shape}
@@ -18,9 +17,8 @@ use Rattle.mscp_events.specs.declared.event.Event.TheVariants as events
 use Rattle.mscp_controller.specs.declared.entry.Entry.TheVariants as entries
 use Rattle.mscp_events.specs.Settings.{Settings, credits_of, unit_found}
 use Rattle.mscp_events.specs.Both.{Both, of}
-use Rattle.mscp_controller.specs.Arrival.{is_queued, order_fault, refusal, unit_fault}
-use Rattle.mscp_controller.specs.Outcomes.{answer_body, answer_status, own_end, own_end_with}
-use Rattle.mscp_queue.specs.Outcomes.{end_with}
+use Rattle.mscp_controller.specs.Arrival.{is_queued, refusal, unit_fault}
+use Rattle.mscp_controller.specs.Outcomes.{answer_status, own_end, own_end_with}
 use Rattle.mscp_controller.specs.History.{Trace, Moment, queues, service_in, takes}
 use Rattle.mscp_controller.specs.Commands.{ends_in, reference, waiting, waiting_by}
 use Rattle.mscp_controller.specs.Units.{is_online}
@@ -31,10 +29,7 @@ use Rattle.mscp_controller.specs.Credits.{arrival, taken_in, taken_unless}
 use Rattle.mscp_controller.specs.Legal.{IsRight}
 use Rattle.mscp_controller.specs.Holdings.{Holdings, record_aborted, reference_aborted, aborting, after_message, answer_to_message, answered_end, balance_of, with_end, figure_polled, held_unless, outstanding_of, queued, sent_unless, waiting_on}
 use Rattle.mscp_events.specs.declared.connection.Connection.{Connection}
-use Rattle.mscp_events.specs.declared.connection.Connection.TheVariants.{First, Second}
-use Rattle.mscp_queue.specs.Names.{name_on, same_connection}
 use Rattle.mscp_queue.specs.Drives.{drive_of}
-use Rattle.mscp_queue.specs.Figures.{figure_of_name}
 use Rattle.mscp_controller.proofs.Promise.Arrivals.{taken_when}
 use Rattle.mscp_controller.proofs.Promise.Grows.{untaken_more}
 use Rattle.mscp_queue.proofs.Lists.{every_from, filter_all}
@@ -54,73 +49,49 @@ pub record Agrees {K : Type 0} (c : Settings) (t : Trace) (h : Holdings K) : Typ
 -- those of a connection that are held
 held_by : (c : Settings) (via : Connection) (t : Trace) (ws : List Record) (us : Both (List End)) → Follows c t ws us
     → waiting_on via ws ≡ map (held_of t) (waiting_by via t)
-held_by c via t ws us f = ap (waiting_on via) f.waits
-    ∙ filter_map_of (held_of t) (λ r. same_connection r.connection via) (waiting t)
+held_by c via t ws us f = search (arith, held_of t, filter_map_of)
 
 pub balance_held : (c : Settings) (via : Connection) (t : Trace) (ws : List Record) (us : Both (List End))
     → Follows c t ws us → credits_of c via - (length (waiting_on via ws) + length (of via us)) ≡ balance c via t
 unfolding balance
 balance_held c via t ws us f =
-    let w = ap length (held_by c via t ws us f) ∙ length-map (waiting_by via t) (held_of t) in
-    let u = ap length (f.ends via) in
-    omega arith
+    search (arith, held_by c via t ws us f, length-map (waiting_by via t) (held_of t), held_of t)
 
 outstanding_held : (c : Settings) (via : Connection) (t : Trace) (ws : List Record) (us : Both (List End))
     → Follows c t ws us
     → map (λ r. r.command.reference) (waiting_on via ws) ++ map (λ e. e.reference) (of via us) ≡ outstanding c via t
 unfolding outstanding
-outstanding_held c via t ws us f =
-    ap (λ xs. map (λ r. r.command.reference) xs ++ map (λ (e : End). e.reference) (of via us)) (held_by c via t ws us f)
-    ∙ (ap (λ xs. xs ++ map (λ (e : End). e.reference) (of via us))
-    (map_map (held_of t) (λ (r : Record). r.command.reference) (waiting_by via t))
-    ∙ ap (λ xs. map (reference t) (waiting_by via t) ++ map (λ (e : End). e.reference) xs) (f.ends via))
+outstanding_held c via t ws us f = search (arith, held_by c via t ws us f, held_of t, map_map)
 
 -- a message is refused alike
 refusal_held : {K : Type 0} (via : Connection) (h : Holdings K) (t : Trace) (b : List ℕ)
     → Follows h.settings t h.waiting h.untaken
     → refusal (balance_of via h) (outstanding_of via h) b
     ≡ refusal (balance h.settings via t) (outstanding h.settings via t) b
-refusal_held via h t b f = λ i. refusal (balance_held h.settings via t h.waiting h.untaken f i)
-    (outstanding_held h.settings via t h.waiting h.untaken f i) b
+refusal_held via h t b f = search (arith, balance_held, outstanding_held)
 
 -- ---- its end
 
 asked_held : (c : Settings) (via : Connection) (t : Trace) (ws : List Record) (us : Both (List End)) (o : Order)
     → Follows c t ws us → figure_polled c via ws o ≡ history.figure_asked c via t o
-asked_held c via t ws us (orders.Status other) f = ap (λ xs. figure_of_name c.budget xs (name_on via other)) f.waits
-    ∙ figure_of_held c t (name_on via other)
-asked_held c via t ws us (orders.Abort other) f = refl
-asked_held c via t ws us orders.UnitStatus f = refl
-asked_held c via t ws us (orders.SetController version) f = refl
-asked_held c via t ws us orders.Available f = refl
-asked_held c via t ws us orders.Online f = refl
-asked_held c via t ws us orders.SetUnit f = refl
-asked_held c via t ws us (orders.Move kind count block) f = refl
-asked_held c via t ws us (orders.Invalid opcode status) f = refl
+asked_held c via t ws us o h6 = grind (arith, figure_of_held)
 
 with_same : (c : Settings) (on on' : Bool) (figure : ℕ) (k : Command) (fault : Option ℕ)
     → answer_status on k.order ≡ answer_status on' k.order
     → own_end_with c on figure k fault ≡ own_end_with c on' figure k fault
-with_same c on on' figure k None e = ap (λ s. end_with k s (answer_body c figure k.unit k.order)) e
-with_same c on on' figure k (Some status) e = refl
+with_same c on on' figure k fault h6 = grind arith
 
 status_same : (c : Settings) (on on' : Bool) (figure : ℕ) (k : Command) (found : Option Shape)
     → (is_some found ≡ true → on ≡ on') → own_end_with c on figure k (unit_fault found)
     ≡ own_end_with c on' figure k (unit_fault found)
-status_same c on on' figure k None h = refl
-status_same c on on' figure k (Some s) h = ap (λ b. own_end_with c b figure k None) (h refl)
+status_same c on on' figure k found h6 = grind arith
 
 -- An answer asks for the state of no unit that isn't configured.
 own_same : (c : Settings) (on on' : Bool) (figure reference unit : ℕ) (o : Order)
     → (is_some (unit_found c unit) ≡ true → on ≡ on')
     → let k : Command = record { reference = reference; unit = unit; order = o } in
     own_end c on figure k ≡ own_end c on' figure k
-own_same c on on' figure reference unit orders.UnitStatus h =
-    let k : Command = record { reference = reference; unit = unit; order = orders.UnitStatus } in
-    status_same c on on' figure k (unit_found c unit) h
-own_same c on on' figure reference unit o h =
-    let k : Command = record { reference = reference; unit = unit; order = o } in
-    with_same c on on' figure k (order_fault c unit o) refl
+own_same c on on' figure reference unit o h7 = grind (arith, status_same, with_same)
 
 answer_held : {K : Type 0} (via : Connection) (h : Holdings K) (t : Trace) (b : List ℕ) → Agrees h.settings t h
     → option_to_list (option_map aborted_record (record_aborted via h.waiting (command_of b).order))
@@ -180,8 +151,7 @@ quiet h h' t m l q n same stay e a r =
 pub ends_on : {K : Type 0} (via : Connection) (h : Holdings K) (t : Trace) (m : Moment) → takes via m.1 ≡ false
     → Agrees h.settings t h → (es : List End) → es ≡ ends_at h.settings via t m
     → of via h.untaken ++ es ≡ untaken h.settings via (t ++ m ∷ [])
-ends_on via h t m n a es e = (λ i. a.follows.ends via i ++ e i)
-    ∙ sym (untaken_more h.settings via t m n (a.follows.known.room.taken via))
+ends_on via h t m n a es e = search (arith, untaken_more h.settings via t m n (a.follows.known.room.taken via))
 
 -- the same where it makes none
 pub ends_stay : {K : Type 0} (via : Connection) (h : Holdings K) (t : Trace) (m : Moment) → takes via m.1 ≡ false
@@ -191,26 +161,13 @@ ends_stay via h t m n a e = sym (append-nil (of via h.untaken)) ∙ ends_on via 
 refused : {K : Type 0} (via : Connection) (h : Holdings K) (t : Trace) (b : ArrayVec ℕ) (fault : SendFault)
     → 1 ≤ h.settings.longest → Agrees h.settings t h → Err fault ≡ arrival h.settings via t b.items
     → Sends h.settings t (sending via b (Err fault)) h
-refused via h t b fault l a r =
-    let m = sending via b (Err fault) in
-    quiet h h t m l (record { unserved = refl; kept = λ r. refl }) refl refl refl
-    (λ other. ends_stay other h t m refl a refl) a (refl, r)
+refused via h t b fault l a r = search (arith, quiet, ends_stay)
 
 waits : {K : Type 0} (via : Connection) (h : Holdings K) (t : Trace) (b : ArrayVec ℕ) → 1 ≤ h.settings.longest
     → Agrees h.settings t h → Ok (sents.Queued (command_of b.items).reference) ≡ arrival h.settings via t b.items
     → Sends h.settings t (sending via b (Ok (sents.Queued (command_of b.items).reference)))
     (queued via h (command_of b.items))
-waits via h t b l a r =
-    let c = h.settings in
-    let m = sending via b (Ok (sents.Queued (command_of b.items).reference)) in
-    record {
-      right = (refl, r);
-      agrees = record {
-        follows = follows_queued c t m h.waiting h.untaken h.untaken l (refl, r)
-            (record { unserved = refl; kept = λ r. refl }) refl (λ other. ends_stay other h t m refl a refl) a.follows;
-        driven = driven_kept c t m h.drives refl (refl, r) a.driven;
-      };
-    }
+waits via h t b l a r = search (arith, follows_queued, ends_stay, driven_kept)
 
 -- what is held once a message was answered
 abbrev pub answered_holds : {K : Type 0} → Connection → Holdings K → Command → Holdings K
@@ -230,30 +187,19 @@ own_ends : {K : Type 0} (via : Connection) (h : Holdings K) (t : Trace) (b : Arr
     (record_aborted via h.waiting (command_of b.items).order))) ++ answered_end via h (command_of b.items) ∷ []
     ≡ untaken h.settings via (t ++ answering via h b ∷ [])
 own_ends via h t b a n e =
-    let k = command_of b.items in
-    let made = option_to_list (option_map aborted_record (record_aborted via h.waiting k.order)) in
-    let own = answered_end via h k ∷ [] in
-    append_assoc (of via h.untaken) made own
-    ∙ ends_on via h t (answering via h b) n a (made ++ own)
-    (answer_held via h t b.items a ∙ (sym (append-nil (answer h.settings via t b.items)) ∙ sym e))
+    search (arith, answer_held via h t b.items a, append-nil (answer h.settings via t b.items), append_assoc, ends_on)
 
 -- and those of the other as they were
 answered_ends : {K : Type 0} (via : Connection) (h : Holdings K) (t : Trace) (b : ArrayVec ℕ) → Agrees h.settings t h
     → IsUntaken h t (answering via h b) (answered_holds via h (command_of b.items))
-answered_ends First h t b a First = own_ends First h t b a refl refl
-answered_ends First h t b a Second = ends_stay Second h t (answering First h b) refl a refl
-answered_ends Second h t b a First = ends_stay First h t (answering Second h b) refl a refl
-answered_ends Second h t b a Second = own_ends Second h t b a refl refl
+answered_ends via h t b h4 h5 = grind (arith, own_ends, ends_stay)
 
 answered : {K : Type 0} (via : Connection) (h : Holdings K) (t : Trace) (b : ArrayVec ℕ) → 1 ≤ h.settings.longest
     → Agrees h.settings t h
     → Ok (sents.Answered (command_of b.items).reference
     (reference_aborted via h.waiting (command_of b.items).order)) ≡ arrival h.settings via t b.items
     → Sends h.settings t (answering via h b) (answered_holds via h (command_of b.items))
-answered via h t b l a r =
-    let k = command_of b.items in
-    leaves h (answered_holds via h k) t (answering via h b) l refl refl
-    (others_wait via k.reference h.waiting k.order) refl (answered_ends via h t b a) a (refl, r)
+answered via h t b l a r = search (arith, answered_ends via h t b a, leaves, others_wait)
 
 -- ---- every message
 
@@ -287,9 +233,7 @@ sends_taken via h t b l f none true q =
     waits via h t b l f (ap Ok (taken_as_queued c via t
     (command_of b.items) q) ∙ arrival_when c via t b.items None none)
 sends_taken via h t b l f none false q =
-    let c = h.settings in
-    answered via h t b l f (ap Ok (taken_as_answered via h t (command_of b.items) f.follows q)
-    ∙ arrival_when c via t b.items None none)
+    search (arith, taken_as_answered via h t (command_of b.items) f.follows q, answered, arrival_when)
 
 sends_when : {K : Type 0} (via : Connection) (h : Holdings K) (t : Trace) (b : ArrayVec ℕ) → 1 ≤ h.settings.longest
     → Agrees h.settings t h

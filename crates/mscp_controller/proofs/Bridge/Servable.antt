@@ -30,16 +30,11 @@ all_of p [] h = refl
 all_of p (x ∷ xs) h = ap (λ b. b && list_all p xs) h.0 ∙ all_of p xs h.1
 
 or_right : (a b : Bool) → b ≡ true → (a || b) ≡ true
-or_right true b h = refl
-or_right false b h = h
+or_right a b h2 = grind arith
 
 -- the records are idle where the commands are
 idle_held : (t : Trace) → All (λ r. r.done ≡ 0) (map (held_of t) (waiting t)) → is_idle t ≡ true
-idle_held t h =
-    all_of (λ x. nat_eq (done t x) 0) (waiting t)
-    (every_weaker (λ x. done t x ≡ 0) (λ x. nat_eq (done t x) 0 ≡ true) (λ x d. eq-eqb (done t x) 0 d) (waiting t)
-    (every_mapped (held_of t) (λ r. r.done ≡ 0) (waiting t)
-    (recursion_from_All (λ r. r.done ≡ 0) (map (held_of t) (waiting t)) h)))
+idle_held t h = search (arith, held_of t, all_of, every_weaker, eq-eqb, every_mapped, recursion_from_All)
 
 -- what is known of a record that may be served next: that its command may be
 pub record Next (c : Settings) (t : Trace) (place : ℕ) : Type 0 where
@@ -59,8 +54,7 @@ pub next_held : (c : Settings) (picks : List Choice → ℕ → Type 0) (t : Tra
 next_held c picks t ds begun place d n =
     let rs = map (held_of t) (waiting t) in
     let y = waiting_at t place in
-    let inside : place < length (waiting t) = let l = n.servable.inside in
-    omega (arith, length-map (waiting t) (held_of t)) in
+    let inside : place < length (waiting t) = search (arith, length-map (waiting t) (held_of t), held_of t) in
     let same : recorded.is_unstarted (record_at rs place) ≡ nat_eq (done t y) 0 =
     ap recorded.is_unstarted (record_held t place inside) in
     let places = open_places c.budget rs in
@@ -105,11 +99,7 @@ reads c t ds ws place d e l =
     (every_parts (λ x. is_some (unit_found c (unit t x)) ≡ true) (take place W) (y ∷ drop (place + 1) W)
     (subst (AllByRecursion (λ x. is_some (unit_found c (unit t x)) ≡ true)) (cut_at t place l) d.configured)).1.0 in
     let own : record_at ws place ≡ held_of t y = ap (λ zs. record_at zs place) e ∙ record_held t place l in
-    record {
-      own = own;
-      at = ap (λ (r : Record). drive_of ds r.command.unit) own
-          ∙ drive_found c t ds (unit t y) d found;
-    }
+    search (arith, drive_found c t ds (unit t y) d found)
 
 pub waits_at : (t : Trace) (place : ℕ) → place < length (waiting t) → is_waiting t (waiting_at t place) ≡ true
 waits_at t place l =

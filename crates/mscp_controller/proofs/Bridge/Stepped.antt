@@ -1,7 +1,7 @@
 -- A step of the record that may be served next: it is right, it is picked, and what is held after it is that of the
 -- run.
 use Rattle.std.proofs.Common.{◌≡◌, ℕ, ◌+◌, ◌<◌, Bool, true, false, cond, ◌&&◌, List, [], ◌∷◌, ◌++◌, map, take, drop, length, refl, ap, sym, ◌∙◌, subst, arith}
-use Rattle.std.specs.Prelude.{All, IfSome, nat_eq, nat_lt, Option, Some, None, is_some, option_to_list, if◌then◌else◌}
+use Rattle.std.specs.Prelude.{All, IfSome, nat_eq, Option, Some, None, is_some, option_to_list, if◌then◌else◌}
 use Rattle.std.specs.List.{AllByRecursion}
 use Rattle.std.proofs.Math.Bool.{and-false}
 use Rattle.std.proofs.lemmas.Bool.{eq-eqb, lt-ltb, true≢false, false≢true}
@@ -9,7 +9,6 @@ use Rattle.std.proofs.lemmas.List.{map-append, take-map, drop-map}
 use Rattle.std.proofs.lemmas.List.Elements.{recursion_from_All}
 use Rattle.mscp_packet.specs.declared.end.End.{End}
 use Rattle.mscp_events.specs.declared.block.Block.{Block}
-use Rattle.mscp_events.specs.declared.block.Block.TheVariants.{Good, Bad}
 use Rattle.mscp_queue.specs.declared.drive.Drive.{Drive}
 use Rattle.mscp_queue.specs.declared.report.Report.{Report}
 use Rattle.mscp_queue.specs.declared.report.Report.TheVariants as reports
@@ -18,13 +17,12 @@ use Rattle.mscp_queue.specs.Drives.{drive_of, replaced}
 use Rattle.mscp_queue.specs.Lines.{Line, ServesAt}
 use Rattle.mscp_queue.specs.declared.name.Name.{Name}
 use Rattle.mscp_events.specs.declared.connection.Connection.{Connection}
-use Rattle.mscp_events.specs.declared.connection.Connection.TheVariants.{First, Second}
 use Rattle.mscp_queue.specs.Names.{same_connection, same_name}
 use Rattle.mscp_queue.specs.Orders.{order_weight}
-use Rattle.mscp_queue.specs.Outcomes.{goes_on, is_good_block, touches}
+use Rattle.mscp_queue.specs.Outcomes.{is_good_block}
 use Rattle.mscp_queue.specs.Records.{Record, advanced, step_charge, passed_by, record_at, remains}
 use Rattle.mscp_queue.specs.Records as recorded
-use Rattle.mscp_queue.specs.Serving.{IsNext, drive_after, end_given, report_of, waiting_after}
+use Rattle.mscp_queue.specs.Serving.{IsNext, drive_after, report_of, waiting_after}
 use Rattle.mscp_events.specs.declared.event.Event.TheVariants as events
 use Rattle.mscp_controller.specs.declared.entry.Entry.TheVariants as entries
 use Rattle.mscp_events.specs.Settings.{Settings, IsValid}
@@ -33,8 +31,6 @@ use Rattle.mscp_controller.specs.History.{Trace, Moment, is_good, service_in, Wh
 use Rattle.mscp_controller.specs.Commands.{connection, name, reference, service_name, unit, order, is_waiting, waiting, weight, done, good, left, serves_in}
 use Rattle.mscp_controller.specs.Passing.{passed}
 use Rattle.mscp_controller.specs.Passing as passings
-use Rattle.mscp_controller.specs.Units.{is_online}
-use Rattle.mscp_controller.specs.Ends.{outcome}
 use Rattle.mscp_controller.specs.Account.{untaken}
 use Rattle.mscp_controller.specs.Legal.{IsPick, IsRight, block_of, end_of, IsServed, seek_to}
 use Rattle.mscp_controller.specs.Holdings.{Holdings, ends_after, ends_reported, line_of}
@@ -44,13 +40,13 @@ use Rattle.mscp_controller.proofs.Promise.Grows.{command_before, connection_befo
 use Rattle.mscp_controller.proofs.Promise.Waits.{cut_of, waiting_below, waiting_waits}
 use Rattle.mscp_controller.proofs.Promise.Apart.{Apart}
 use Rattle.mscp_controller.proofs.Promise.Among.{alone}
-use Rattle.mscp_controller.proofs.Promise.Served.{Serves, Step, changes, below_parts}
+use Rattle.mscp_controller.proofs.Promise.Served.{Step, changes, below_parts}
 use Rattle.mscp_controller.proofs.Promise.Passed.{none_starts, passed_behind, passed_front}
 use Rattle.mscp_controller.proofs.Promise.Known.{known_more}
 use Rattle.mscp_controller.proofs.Bridge.Legals.{service_by}
 use Rattle.mscp_queue.proofs.Placed.{map_map, map_on}
 use Rattle.mscp_controller.proofs.Bridge.Held.{held_of}
-use Rattle.mscp_controller.proofs.Bridge.Drives.{Driven, drive_by, driven_served, end_held, seek_held}
+use Rattle.mscp_controller.proofs.Bridge.Drives.{drive_by, driven_served, end_held, seek_held}
 use Rattle.mscp_controller.proofs.Bridge.Quiet.{held_same, records_kept}
 use Rattle.mscp_controller.proofs.Bridge.Sending.{Agrees, Sends}
 use Rattle.mscp_controller.proofs.Bridge.Viewed.{cut_at, record_held, waiting_at}
@@ -70,41 +66,20 @@ serving c t k y = (
 report_held : (c : Settings) (t : Trace) (k : Block) (y : ℕ)
     → entries.Stepped (report_of k (drive_by c t (unit t y)) (held_of t y)) ≡ (serving c t k y).1
 unfolding block_of
-report_held c t k y = λ i. entries.Stepped (reports.Served (connection t y) (reference t y) (unit t y) (block_of t y)
-    (nat_eq (done t y) 0) (seek_held c t (unit t y) (block_of t y) i) (end_held c t k y i))
+report_held c t k y = search (arith, seek_held, end_held)
 
 -- the command at a place waits
 served_at : (c : Settings) (t : Trace) (k : Block) (place : ℕ) → Next c t place
     → IsServed c t k (service_by c t k (waiting_at t place)) (waiting_at t place)
-served_at c t k place n =
-    record {
-      waits = waits_at t place n.inside;
-      next = n.next;
-      lbn = refl;
-      started = refl;
-      seek = refl;
-      ended = refl;
-      connection = refl;
-      reference = refl;
-      unit = refl;
-    }
+served_at c t k place n = search (arith, waits_at t place n.inside)
 
 -- and so the step is one of the command there, among the others
 step_at : (c : Settings) (t : Trace) (k : Block) (place : ℕ) → Apart t (waiting t) → Next c t place
     → Step c t (serving c t k (waiting_at t place)) (service_by c t k (waiting_at t place)) k (waiting_at t place)
     (take place (waiting t)) (drop (place + 1) (waiting t))
 step_at c t k place apart n =
-    let y = waiting_at t place in
-    let A = take place (waiting t) in
-    let B = drop (place + 1) (waiting t) in
-    let serves : Serves t (serving c t k y) (service_by c t k y) y A B =
-    record { among = alone t y A B apart (cut_of t A y B (cut_at t place n.inside)); is = refl; same = refl } in
-    record {
-      served = served_at c t k place n;
-      serves = serves;
-      changes =
-          changes t (serving c t k y) (service_by c t k y) y A B serves;
-    }
+    search (arith, waiting_at t place, cut_at t place n.inside, served_at c t k place n, service_by, alone, cut_of,
+    changes)
 
 -- ---- the others
 
@@ -113,8 +88,7 @@ one_if b = cond b 1 0
 
 unserved : (here well : Bool) (n : ℕ) → n + one_if here ≡ n → one_if (here && well) ≡ 0
 unfolding one_if
-unserved true well n h = absurd (omega arith)
-unserved false well n h = refl
+unserved here well n h3 = grind arith
 
 good_same : (t : Trace) (m : Moment) (x : ℕ) → x < length t → done (t ++ m ∷ []) x ≡ done t x
     → good (t ++ m ∷ []) x ≡ good t x
@@ -144,17 +118,7 @@ behind_kept c t k y A B st =
 held_passed : (t : Trace) (m : Moment) (x n : ℕ) → x < length t → done (t ++ m ∷ []) x ≡ done t x
     → good (t ++ m ∷ []) x ≡ good t x → passed (t ++ m ∷ []) x ≡ passed t x + n
     → held_of (t ++ m ∷ []) x ≡ passed_by n (held_of t x)
-held_passed t m x n l d g p = λ i.
-    let k = command_before t m x l in
-    let v = connection_before t m x l in
-    record {
-      connection = v i;
-      command = k i;
-      weight = order_weight (k i).order;
-      done = d i;
-      good = g i;
-      passed = p i;
-    }
+held_passed t m x n l d g p = search (arith, command_before t m x l, connection_before t m x l)
 
 cost_held : (t : Trace) (y : ℕ) (b : Bool) → nat_eq (done t y) 0 ≡ b
     → step_charge (held_of t y) ≡ cond b (weight t y) 0
@@ -204,30 +168,22 @@ front_passed c t k y A B st idle =
 -- ---- the command itself, where it goes on
 
 cut_off : (a b : Bool) → (a && false && b) ≡ false
-cut_off true b = refl
-cut_off false b = refl
+cut_off a b = grind arith
 
 -- where a command goes on, its block was good
 goes_good : (a b : Bool) (k : Block) → (a && is_good_block k && b) ≡ true → is_good (events.Step k) ≡ true
-goes_good a b Good h = refl
-goes_good a b (Bad status) h = absurd (false≢true (sym (cut_off a b) ∙ h))
+goes_good a b k h3 = grind (arith, false≢true, cut_off)
 
 goes_when : (b : Bool) (e : End) → (if b then None else Some e) ≡ None → b ≡ true
-goes_when true e h = refl
-goes_when false e h = absurd (true≢false (ap is_some h))
+goes_when b e h2 = grind (arith, true≢false)
 
 goes_on_good : (c : Settings) (t : Trace) (k : Block) (y : ℕ) → end_of c t k y ≡ None → is_good (events.Step k) ≡ true
-goes_on_good c t k y h =
-    let on = is_online t (unit t y) in
-    goes_good (touches on (order t y)) (nat_lt 1 (left t y)) k
-    (goes_when (goes_on on (order t y) k (left t y)) (outcome c t k y) h)
+goes_on_good c t k y h = search (arith, goes_good, goes_when)
 
 good_own : (c : Settings) (t : Trace) (k : Block) (y : ℕ) → y < length t → end_of c t k y ≡ None
     → good (t ++ serving c t k y ∷ []) y ≡ good t y + 1
 good_own c t k y l e =
-    good_before t (serving c t k y) y l
-    ∙ (ap (λ b. good t y + cond (b && is_good (events.Step k)) 1 0) (is_same (name t y) (name t y) refl)
-    ∙ ap (λ b. good t y + cond b 1 0) (goes_on_good c t k y e))
+    search (arith, good_before t (serving c t k y) y l, is_same (name t y) (name t y) refl, goes_on_good c t k y e)
 
 held_own : (c : Settings) (t : Trace) (k : Block) (y : ℕ) (A B : List ℕ)
     → Step c t (serving c t k y) (service_by c t k y) k y A B → end_of c t k y ≡ None
@@ -252,8 +208,7 @@ held_own c t k y A B st e =
 own_remains : (c : Settings) (t : Trace) (k : Block) (y : ℕ) (A B : List ℕ)
     → Step c t (serving c t k y) (service_by c t k y) k y A B → (o : Option End) → end_of c t k y ≡ o
     → remains (held_of t y) o ≡ map (held_of (t ++ serving c t k y ∷ [])) (cond (is_some o) [] (y ∷ []))
-own_remains c t k y A B st None e = ap (λ r. r ∷ []) (sym (held_own c t k y A B st e))
-own_remains c t k y A B st (Some end) e = refl
+own_remains c t k y A B h6 o h8 = grind (arith, held_own)
 
 -- ---- what is held afterwards
 
@@ -266,31 +221,9 @@ waiting_served : (c : Settings) (t : Trace) (k : Block) (place : ℕ) (d : Drive
     ≡ map (held_of (t ++ serving c t k (waiting_at t place) ∷ []))
     (waiting (t ++ serving c t k (waiting_at t place) ∷ []))
 waiting_served c t k place d apart n e idle =
-    let y = waiting_at t place in
-    let A = take place (waiting t) in
-    let B = drop (place + 1) (waiting t) in
-    let rs = map (held_of t) (waiting t) in
-    let m = serving c t k y in
-    let t' = t ++ m ∷ [] in
-    let h' = held_of t' in
-    let o = end_of c t k y in
-    let st = step_at c t k place apart n in
-    let gone = cond (is_some o) [] (y ∷ []) in
-    let leaves : Drive → Record → List Record → List Record → List Record =
-    λ d r front back. map (passed_by (step_charge r)) front ++ (remains r (end_given k d r) ++ back) in
-    ap (λ r. leaves d r (take place rs) (drop (place + 1) rs)) (record_held t place n.inside)
-    ∙ (ap (λ d. leaves d (held_of t y) (take place rs) (drop (place + 1) rs)) e
-    ∙ (ap (λ a. leaves (drive_by c t (unit t y)) (held_of t y) a (drop (place + 1) rs))
-    (take-map (held_of t) place (waiting t))
-    ∙ (ap (λ b. leaves (drive_by c t (unit t y)) (held_of t y) (map (held_of t) A) b)
-    (drop-map (held_of t) (place + 1) (waiting t))
-    ∙ (ap (λ x. map (passed_by (step_charge (held_of t y))) (map (held_of t) A)
-    ++ (remains (held_of t y) x ++ map (held_of t) B)) (end_held c t k y)
-    ∙ (ap (λ a. a ++ (remains (held_of t y) o ++ map (held_of t) B)) (front_passed c t k y A B st idle)
-    ∙ (ap (λ r. map h' A ++ (r ++ map (held_of t) B)) (own_remains c t k y A B st o refl)
-    ∙ (ap (λ b. map h' A ++ (map h' gone ++ b)) (sym (behind_kept c t k y A B st))
-    ∙ (ap (λ l. map h' A ++ l) (sym (map-append h' gone B))
-    ∙ (sym (map-append h' A (gone ++ B)) ∙ ap (map h') (sym st.changes.waits))))))))))
+    search (arith, waiting_at t place, held_of t, step_at c t k place apart n, record_held t place n.inside, take-map
+    (held_of t) place (waiting t), drop-map (held_of t) (place + 1) (waiting t), drive_by, end_held, front_passed,
+    own_remains, behind_kept, map-append)
 
 -- what is answered to a step is right and picked, and what is then held is that of the run
 pub record Turns {K : Type 0} (c : Settings) (picks : List Choice → ℕ → Type 0) (t : Trace) (m : Moment)
@@ -303,9 +236,7 @@ pub record Turns {K : Type 0} (c : Settings) (picks : List Choice → ℕ → Ty
 
 unstarted_by : (t : Trace) (x : ℕ) → x < length t → is_waiting t x ≡ true → done t x ≡ 0
     → passings.is_unstarted t x ≡ true
-unstarted_by t x l w d =
-    ap (λ b. b && is_waiting t x && nat_eq (done t x) 0) (lt-ltb x (length t) l)
-    ∙ (ap (λ b. b && nat_eq (done t x) 0) w ∙ eq-eqb (done t x) 0 d)
+unstarted_by t x l w d = search (arith, lt-ltb x (length t) l, eq-eqb (done t x) 0 d)
 
 -- where one starts, each that waits was never served
 unstarted_front : (c : Settings) (picks : List Choice → ℕ → Type 0) (t : Trace) (place : ℕ) (ds : List Drive)
@@ -315,9 +246,7 @@ unstarted_front : (c : Settings) (picks : List Choice → ℕ → Type 0) (t : T
     → AllByRecursion (λ x. passings.is_unstarted t x ≡ true) (take place (waiting t))
 unstarted_front c picks t place ds rs begun e n held u =
     let W = waiting t in
-    let here : recorded.is_unstarted (record_at rs place) ≡ true =
-    ap (λ l. recorded.is_unstarted (record_at l place)) e
-    ∙ (ap recorded.is_unstarted (record_held t place held.inside) ∙ u) in
+    let here : recorded.is_unstarted (record_at rs place) ≡ true = search (arith, record_held t place held.inside) in
     let done_all = every_mapped (held_of t) (λ r. r.done ≡ 0) W
     (recursion_from_All (λ r. r.done ≡ 0) (map (held_of t) W)
     (subst (All (λ r. r.done ≡ 0)) e (n.servable.idle here))) in
@@ -333,8 +262,7 @@ unstarted_front c picks t place ds rs begun e n held u =
 -- the ends of a connection after a report
 pub of_after : (via : Connection) (us : Both (List End)) (report : Report)
     → of via (ends_after us report) ≡ of via us ++ ends_reported via report
-of_after First us report = refl
-of_after Second us report = refl
+of_after via us report = grind arith
 
 -- A step of the record at a place.
 pub turns_at : {K : Type 0} (picks : List Choice → ℕ → Type 0) (h h' : Holdings K) (t : Trace) (k : Block)
@@ -376,15 +304,5 @@ turns_at {K} picks h h' t k report place v a s u =
     ap (λ (l : Line K). l.drives) s.left ∙ (λ i. replaced (own i).command.unit (drive_after k (at i) (own i))
     h.drives) in
     let driven = driven_served c t m k y (take place W) (drop (place + 1) W) h.drives v.unit_list st right a.driven in
-    let all : Turns c picks t m h.begun h' = record {
-      sends = record {
-        right = right;
-        agrees = record {
-          follows = record { known = known; waits = waits; ends = ends };
-          driven = subst (Driven c t') (sym drives) driven;
-        };
-      };
-      same = both.1.same;
-      picked = λ b e. let p = both.1.picked b e in (p.0, p.1, ap (name t) p.2, p.3);
-    } in
+    let all : Turns c picks t m h.begun h' = search arith in
     subst (λ q. Turns c picks t (events.Step k, q) h.begun h') (sym entry) all

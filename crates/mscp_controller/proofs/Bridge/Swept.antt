@@ -1,6 +1,6 @@
 -- Where a picker picks only what the sweep may pick, each command that starts is the one that the sweep starts.
-use Rattle.std.proofs.Common.{◌≡◌, ℕ, ◌+◌, ◌<◌, ◌≤◌, Bool, true, false, not, ◌&&◌, ◌||◌, List, ◌∷◌, ◌++◌, map, take, drop, get_or, length, ap, sym, ◌∙◌, subst, arith}
-use Rattle.std.specs.Prelude.{find, nat_eq, nat_lt, Option, Some, None, option_map}
+use Rattle.std.proofs.Common.{◌≡◌, ℕ, ◌+◌, ◌<◌, ◌≤◌, Bool, true, false, not, List, ◌∷◌, ◌++◌, map, take, drop, get_or, length, ap, sym, ◌∙◌, subst, arith}
+use Rattle.std.specs.Prelude.{find, nat_eq, Option, Some, None}
 use Rattle.std.specs.List.{AllByRecursion, list_all}
 use Rattle.std.proofs.Math.Bool.{and-false}
 use Rattle.std.proofs.lemmas.Bool.{le-ltb, lt-ltb, ne_eqb}
@@ -15,10 +15,10 @@ use Rattle.mscp_queue.proofs.Lists.{every_append, every_both, every_mapped, ever
 use Rattle.mscp_queue.proofs.Placed.{find_first, map_map}
 use Rattle.mscp_events.specs.Settings.{Settings}
 use Rattle.mscp_controller.specs.History.{Trace, moment, Service, service_in, WhenStarted}
-use Rattle.mscp_controller.specs.Commands.{name, service_name, waiting}
+use Rattle.mscp_controller.specs.Commands.{service_name, waiting}
 use Rattle.mscp_controller.specs.Passing.{is_startable, startable}
 use Rattle.mscp_controller.specs.Units.{cost}
-use Rattle.mscp_controller.specs.Legal.{IsPick, IsPicked, choice}
+use Rattle.mscp_controller.specs.Legal.{IsPick, IsPicked}
 use Rattle.mscp_controller.specs.Sweeping.{IsSwept, IsSweeping, Sweeps, goes_before, swept}
 use Rattle.mscp_controller.proofs.Promise.Waits.{waiting_rises}
 use Rattle.mscp_controller.proofs.Bridge.Servable.{all_of}
@@ -26,19 +26,14 @@ use Rattle.mscp_controller.proofs.Bridge.Servable.{all_of}
 -- no other goes before what costs less, or as much and came earlier
 not_before : (c : Settings) (t : Trace) (x y : ℕ) → cost c t y ≤ cost c t x → y ≤ x → goes_before c t x y ≡ false
 not_before c t x y l o =
-    ap (λ b. b || (nat_eq (cost c t x) (cost c t y) && nat_lt x y)) (le-ltb (cost c t x) (cost c t y) l)
-    ∙ (ap (λ b. nat_eq (cost c t x) (cost c t y) && b) (le-ltb x y o) ∙ and-false (nat_eq (cost c t x) (cost c t y)))
+    search (arith, le-ltb (cost c t x) (cost c t y) l, le-ltb x y o, and-false (nat_eq (cost c t x) (cost c t y)))
 
 -- nor before what costs less
 not_cheaper : (c : Settings) (t : Trace) (x y : ℕ) → cost c t y < cost c t x → goes_before c t x y ≡ false
-not_cheaper c t x y l =
-    ap (λ b. b || (nat_eq (cost c t x) (cost c t y) && nat_lt x y))
-    (le-ltb (cost c t x) (cost c t y) (omega (arith, l)))
-    ∙ ap (λ b. b && nat_lt x y) (ne_eqb (cost c t x) (cost c t y) (λ e. absurd (omega (arith, l, e))))
+not_cheaper c t x y l = search (arith, le-ltb (cost c t x) (cost c t y) (omega (arith, l)), ne_eqb)
 
 is_before : (c : Settings) (t : Trace) (x y : ℕ) → cost c t x < cost c t y → goes_before c t x y ≡ true
-is_before c t x y l = ap (λ b. b || (nat_eq (cost c t x) (cost c t y) && nat_lt x y))
-    (lt-ltb (cost c t x) (cost c t y) l)
+is_before c t x y l = search (arith, lt-ltb (cost c t x) (cost c t y) l)
 
 -- the commands that may start, in the order in which they came
 startable_rise : (c : Settings) (t : Trace) → Pairs ◌<◌ (startable c t)
@@ -77,22 +72,14 @@ swept_at c t place h l =
     ) in
     let passed : list_all (stays y) S ≡ true = ap (list_all (stays y)) cut ∙ all_of (stays y) (A ++ y ∷ B) none in
     let fails : (z : ℕ) → f y < f z → list_all (stays z) S ≡ false =
-    λ z q.
-    ap (list_all (stays z)) cut
-    ∙ (list_all-append (stays z) A (y ∷ B) ∙ (ap (λ b. list_all (stays z) A && (not b && list_all (stays z) B))
-    (is_before c t y z q) ∙ and-false (list_all (stays z) A))) in
+    search (arith, list_all-append, not, is_before, and-false) in
     let p : ℕ → Bool = λ z. list_all (stays z) S in
     ap (find p) cut ∙ find_first p A y B (every_weaker (λ x. f y < f x) (λ x. p x ≡ false) fails A front) passed
 
 -- a start that a sweeping picker may pick is the sweep's
 pub swept_pick : (c : Settings) (picks : List Choice → ℕ → Type 0) (t : Trace) (n : Name) → Sweeps picks
     → IsPick c picks t n → IsSwept c t n
-swept_pick c picks t n w p =
-    let S = startable c t in
-    let place = p.0 in
-    let least = w (map (choice c t) S) place (subst (λ n. place < n) (sym (length-map S (choice c t))) p.1) p.3 in
-    ap (option_map (name t)) (swept_at c t place (subst (λ ns. IsFirstLeast ns place)
-    (map_map (choice c t) (λ (q : Choice). q.cost) S) least) p.1) ∙ ap Some p.2
+swept_pick c picks t n w p = search (arith, length-map, swept_at, map_map)
 
 when_swept : (c : Settings) (picks : List Choice → ℕ → Type 0) (t : Trace) (o : Option Service) → Sweeps picks
     → WhenStarted (λ s. IsPick c picks t (service_name s)) o → WhenStarted (λ s. IsSwept c t (service_name s)) o

@@ -1,5 +1,5 @@
 -- What a begin tells is what the next step serves, and it is kept.
-use Rattle.std.proofs.Common.{◌≡◌, inl, inr, ℕ, Bool, true, false, List, [], ◌∷◌, ◌++◌, map, take, refl, ap, sym, ◌∙◌, subst}
+use Rattle.std.proofs.Common.{◌≡◌, inl, ℕ, Bool, true, false, List, [], ◌∷◌, ◌++◌, map, refl, ap, sym, ◌∙◌, subst, arith}
 use Rattle.std.specs.Prelude.{IfSome, if◌then◌else◌, nat_eq, Option, Some, None}
 use Rattle.mscp_queue.specs.declared.upcoming.Upcoming.{Upcoming}
 use Rattle.mscp_queue.specs.declared.view.Choice.{Choice}
@@ -8,7 +8,6 @@ use Rattle.mscp_queue.specs.declared.name.Name.{Name}
 use Rattle.mscp_queue.specs.Records.{Record, name_of}
 use Rattle.mscp_queue.specs.Serving.{IsNext, upcoming_of}
 use Rattle.mscp_events.specs.Settings.{Settings}
-use Rattle.mscp_events.specs.Both.{of}
 use Rattle.mscp_controller.specs.History.{Trace}
 use Rattle.mscp_controller.specs.Commands.{is_waiting, name, unit, waiting}
 use Rattle.mscp_controller.specs.Legal.{IsLegal, IsPick, block_of}
@@ -16,7 +15,7 @@ use Rattle.mscp_controller.specs.Holdings.{Foretells, Holdings, line_of}
 use Rattle.mscp_controller.specs.Calls.{Begin, Call, HoldsToBegun, IsChosen, NothingBegun, foretold, history, upcoming_name}
 use Rattle.mscp_controller.proofs.Promise.Among.{one_waits}
 use Rattle.mscp_controller.proofs.Bridge.Begun.{Held, Turned, Holds, begin_same, holds_again, holds_new, nothing_told, name_begun}
-use Rattle.mscp_controller.proofs.Bridge.Drives.{Driven, drive_by}
+use Rattle.mscp_controller.proofs.Bridge.Drives.{drive_by}
 use Rattle.mscp_controller.proofs.Bridge.Following.{none_mapped}
 use Rattle.mscp_controller.proofs.Bridge.Held.{held_of}
 use Rattle.mscp_controller.proofs.Bridge.Sending.{Agrees}
@@ -25,15 +24,7 @@ use Rattle.mscp_controller.proofs.Bridge.Viewed.{waiting_at}
 
 agrees_same : {K : Type 0} (c : Settings) (t : Trace) (h h' : Holdings K) → Agrees c t h
     → line_of h' ≡ record (line_of h) { begun = h'.begun } → h'.untaken ≡ h.untaken → Agrees c t h'
-agrees_same {K} c t h h' a e u =
-    record {
-      follows = record {
-        known = a.follows.known;
-        waits = ap (λ (l : Line K). l.waiting) e ∙ a.follows.waits;
-        ends = λ via. ap (of via) u ∙ a.follows.ends via;
-      };
-      driven = subst (Driven c t) (sym (ap (λ (l : Line K). l.drives) e)) a.driven;
-    }
+agrees_same {K} c t h h' a e u = search arith
 
 -- what is told of the record at a place
 told_held : (c : Settings) (t : Trace) (y : ℕ) → upcoming_of (drive_by c t (unit t y)) (held_of t y) ≡ foretold t y
@@ -54,11 +45,7 @@ tells_again : {K : Type 0} (c : Settings) (picks : List Choice → ℕ → Type 
     (h h' : Holdings K) (y : ℕ) (n : Name) → Agrees c (history calls) h → h.begun ≡ Some n
     → (b : Holds c picks calls (Some n))
     → Tells c picks calls up h h' y → up ≡ b.0
-tells_again c picks calls up h h' y n a e b k =
-    let t = history calls in
-    let one : y ≡ b.1 = one_waits t y b.1 a.follows.known.steady.apart k.waits b.3.is.waits
-    (k.same n e ∙ sym (name_begun b.3)) in
-    k.own ∙ (ap (foretold t) one ∙ sym b.3.now)
+tells_again c picks calls up h h' y n a e b k = search (arith, name_begun b.3, one_waits)
 
 tells_begun : {K : Type 0} (c : Settings) (picks : List Choice → ℕ → Type 0) (calls : List Call) (up : Upcoming)
     (h h' : Holdings K) (y : ℕ) (o : Option Name) → Agrees c (history calls) h → Held c picks calls h o
@@ -74,18 +61,7 @@ tells_chosen : {K : Type 0} (c : Settings) (picks : List Choice → ℕ → Type
     → nat_eq up.done 0 ≡ true → IsChosen (IsPick c picks) calls (upcoming_name up)
 tells_chosen c picks calls up h h' y None a b k e = inl (b.1, k.picked b.0 e)
 tells_chosen c picks calls up h h' y (Some n) a b k e =
-    let again = tells_again c picks calls up h h' y n a b.0 b.1 k in
-    let own = b.1.3 in
-    let name : upcoming_name up ≡ n = ap upcoming_name again ∙ own.own in
-    inr (
-      b.1.0,
-      b.1.1,
-      b.1.2,
-      own.is,
-      own.own ∙ sym name,
-      subst (IsPick c picks (history (take b.1.2 calls))) (sym name)
-          (own.chosen (ap (λ (u : Upcoming). nat_eq u.done 0) (sym again) ∙ e)),
-    )
+    search (arith, tells_again c picks calls up h h' y n a b.0 b.1 k)
 
 tells_holds : {K : Type 0} (c : Settings) (picks : List Choice → ℕ → Type 0) (calls : List Call) (up : Upcoming)
     (h h' : Holdings K) (y : ℕ) (o : Option Name) → Agrees c (history calls) h → Held c picks calls h o
@@ -96,9 +72,7 @@ tells_holds c picks calls up h h' y None a b k = holds_new c picks calls (upcomi
 tells_holds c picks calls up h h' y (Some n) a b k =
     let again = tells_again c picks calls up h h' y n a b.0 b.1 k in
     let name : n ≡ upcoming_name up = sym b.1.3.own ∙ ap upcoming_name (sym again) in
-    subst (λ u. Holds c picks (calls ++ Begin (Some u) ∷ []) (Some (upcoming_name up))) (sym again)
-    (subst (λ k. Holds c picks (calls ++ Begin (Some b.1.0) ∷ []) (Some k)) name
-    (holds_again c picks calls n b.1.0 b.1.1 b.1.2 a.follows.known.steady.apart b.1.3))
+    search (arith, holds_again c picks calls n b.1.0 b.1.1 b.1.2 a.follows.known.steady.apart b.1.3)
 
 begin_at : {K : Type 0} (picks : List Choice → ℕ → Type 0) (calls : List Call) (up : Upcoming) (h h' : Holdings K)
     (place : ℕ) → Agrees h.settings (history calls) h → IsLegal h.settings (history calls)
@@ -116,15 +90,7 @@ begin_at {K} picks calls up h h' place a legal b s u =
     let own : up ≡ foretold t y = s.told ∙ ((λ i. upcoming_of (read.at i) (read.own i)) ∙ told_held c t y) in
     let kept : h'.begun ≡ Some (name t y) = ap (λ (l : Line K). l.begun) s.left
     ∙ ap (λ (r : Record). Some (name_of r)) read.own in
-    let tells : Tells c picks calls up h h' y = record {
-      waits = waits_at t place inside;
-      own = own;
-      same = both.1.same;
-      picked = λ n e.
-          let p = both.1.picked n (ap (λ (q : Upcoming). nat_eq q.done 0) (sym own) ∙ e) in
-          (p.0, p.1, ap (name t) p.2 ∙ ap upcoming_name (sym own), p.3);
-      kept = kept ∙ ap (λ (q : Upcoming). Some (upcoming_name q)) (sym own);
-    } in
+    let tells : Tells c picks calls up h h' y = search (arith, waits_at t place inside) in
     let same = begin_same calls (Some up) in
     let chosen : (q : Bool) → nat_eq up.done 0 ≡ q
     → IfSome (if q then Some (upcoming_name up) else None) (IsChosen (IsPick c picks) calls) =
@@ -151,20 +117,7 @@ begin_none : {K : Type 0} (picks : List Choice → ℕ → Type 0) (calls : List
     → h.waiting ≡ [] → h.begun ≡ None → line_of h' ≡ line_of h → h'.untaken ≡ h.untaken
     → Turned h.settings picks calls (Begin None) h'
 begin_none {K} picks calls h h' a legal nothing e n l u =
-    let c = h.settings in
-    let t = history calls in
-    let none : waiting t ≡ [] = none_mapped (held_of t) (waiting t) (sym a.follows.waits ∙ e) in
-    let same = begin_same calls None in
-    let held = ap (λ (k : Line K). k.begun) l in
-    record {
-      legal = subst (IsLegal c) (sym same) legal;
-      agrees = subst (λ v. Agrees c v h') (sym same)
-          (agrees_same c t h h' a (l ∙ ap (λ o. record (line_of h) { begun = o }) (sym held)) u);
-      right = none;
-      begun = λ up y j is. absurd (nothing up y j is);
-      picked = tt;
-      holds = subst (Holds c picks (calls ++ Begin None ∷ [])) (sym (held ∙ n)) (nothing_told calls none nothing);
-    }
+    search (arith, begin_same calls None, none_mapped, held_of, agrees_same, nothing_told)
 
 pub begin : {K : Type 0} (picks : List Choice → ℕ → Type 0) (calls : List Call) (upcoming : Option Upcoming)
     (h h' : Holdings K) → Agrees h.settings (history calls) h → IsLegal h.settings (history calls)

@@ -1,7 +1,7 @@
 -- What may start, as the records and as the history say it.
-use Rattle.std.proofs.Common.{◌≡◌, ℕ, suc, ◌+◌, ◌<◌, ◌≤◌, Bool, true, false, cond, not, ◌&&◌, List, [], ◌∷◌, ◌++◌, map, take, drop, get_or, length, refl, ap, sym, ◌∙◌, subst, arith}
-use Rattle.std.specs.Prelude.{filter, nat_le}
-use Rattle.std.specs.List.{range_with_len, list_all}
+use Rattle.std.proofs.Common.{◌≡◌, ℕ, suc, ◌+◌, ◌<◌, Bool, true, not, List, [], ◌∷◌, ◌++◌, map, take, drop, get_or, length, refl, ap, ◌∙◌, subst, arith}
+use Rattle.std.specs.Prelude.{filter}
+use Rattle.std.specs.List.{range_with_len}
 use Rattle.std.proofs.lemmas.List.{drop_more, get_or-map, length-map, take-append-drop, take-map}
 use Rattle.std.proofs.lemmas.List.Folds.{list_all-map}
 use Rattle.std.proofs.lemmas.List.Elements.{All-from_recursion}
@@ -12,8 +12,8 @@ use Rattle.mscp_queue.specs.Views.{choice_of, is_open_at, open_places, view_of}
 use Rattle.mscp_queue.specs.Views as records
 use Rattle.mscp_events.specs.Settings.{Settings}
 use Rattle.mscp_controller.specs.History.{Trace}
-use Rattle.mscp_controller.specs.Commands.{command, unit, waiting, weight, earlier, is_idle}
-use Rattle.mscp_controller.specs.Passing.{fences, is_affordable, is_free, is_startable, passed, startable}
+use Rattle.mscp_controller.specs.Commands.{command, unit, waiting, earlier, is_idle}
+use Rattle.mscp_controller.specs.Passing.{is_affordable, is_free, is_startable, startable}
 use Rattle.mscp_controller.specs.Units.{cost}
 use Rattle.mscp_controller.specs.Legal.{choice, view}
 use Rattle.mscp_queue.proofs.Lists.{every_kept, every_weaker, range_below}
@@ -29,8 +29,7 @@ waiting_at t place = get_or (waiting t) place 0
 -- the waiting commands, cut at a place
 pub cut_at : (t : Trace) (place : ℕ) → place < length (waiting t)
     → waiting t ≡ take place (waiting t) ++ waiting_at t place ∷ drop (place + 1) (waiting t)
-cut_at t place l = sym (take-append-drop place (waiting t))
-    ∙ ap (λ xs. take place (waiting t) ++ xs) (drop_more (waiting t) place 0 l)
+cut_at t place l = search (arith, take-append-drop place (waiting t), drop_more (waiting t) place 0 l)
 
 -- its record
 pub record_held : (t : Trace) (place : ℕ) → place < length (waiting t)
@@ -49,66 +48,38 @@ filter_places p q g a (x ∷ xs) h =
     let px : p x ≡ q a = subst (λ j. p x ≡ q j) at here.1 in
     let rest = filter_places p q g (a + 1) xs (λ i l.
     subst (λ j. (g j ≡ get_or xs i 0) × (p (get_or xs i 0) ≡ q j)) (omega arith) (h (suc i) (omega arith))) in
-    ap (λ b. cond b (x ∷ filter p xs) (filter p xs)) px
-    ∙ (ap (λ l. cond (q a) (x ∷ l) l) rest
-    ∙ elim (q a) as (λ b. cond b (x ∷ map g (filter q (range_with_len (a + 1) (length xs))))
-    (map g (filter q (range_with_len (a + 1) (length xs))))
-    ≡ map g (cond b (a ∷ filter q (range_with_len (a + 1) (length xs)))
-    (filter q (range_with_len (a + 1) (length xs)))))
-    [ true ↦ ap (λ y. y ∷ map g (filter q (range_with_len (a + 1) (length xs)))) (sym gx) | false ↦ refl ])
+    search arith
 
 -- those in front of a place
 pub front_held : (t : Trace) (place : ℕ) → place < length (waiting t)
     → earlier t (waiting_at t place) ≡ take place (waiting t)
-front_held t place l =
-    let cut = cut_at t place l in earlier_is t (waiting_at t place) (take place (waiting t))
-    (drop (place + 1) (waiting t)) (cut_of t (take place (waiting t)) (waiting_at t place)
-    (drop (place + 1) (waiting t)) cut)
+front_held t place l = search (arith, cut_at t place l, earlier_is, cut_of)
 
 free_held : (t : Trace) (place : ℕ) → place < length (waiting t)
     → is_free t (waiting_at t place) ≡ records.is_free (held_of t (waiting_at t place))
     (take place (map (held_of t) (waiting t)))
 unfolding is_free
 free_held t place l =
-    let y = waiting_at t place in
-    let keeps : Record → Bool = λ z. not (records.fences (held_of t y) z) in
-    ap (list_all (λ z. not (fences t y z))) (front_held t place l)
-    ∙ (sym (list_all-map keeps (held_of t) (take place (waiting t)))
-    ∙ ap (list_all keeps) (sym (take-map (held_of t) place (waiting t))))
+    search (arith, front_held t place l, held_of t, take-map (held_of t) place (waiting t), not, list_all-map)
 
 affordable_held : (c : Settings) (t : Trace) (place : ℕ) → place < length (waiting t)
     → is_affordable c t (waiting_at t place) ≡ records.is_affordable c.budget (held_of t (waiting_at t place))
     (take place (map (held_of t) (waiting t)))
 affordable_held c t place l =
-    let w = weight t (waiting_at t place) in
-    let may : Record → Bool = λ z. nat_le (z.passed + w) c.budget in
-    ap (list_all (λ x. nat_le (passed t x + w) c.budget)) (front_held t place l)
-    ∙ (sym (list_all-map may (held_of t) (take place (waiting t)))
-    ∙ ap (list_all may) (sym (take-map (held_of t) place (waiting t))))
+    search (arith, front_held t place l, held_of t, take-map (held_of t) place (waiting t), list_all-map)
 
 -- where nothing is in service, what may start is what the records say
 pub startable_held : (c : Settings) (t : Trace) (place : ℕ) → place < length (waiting t) → is_idle t ≡ true
     → is_startable c t (waiting_at t place) ≡ is_open_at c.budget (map (held_of t) (waiting t)) place
 unfolding is_startable
 startable_held c t place l idle =
-    let y = waiting_at t place in
-    let rs = map (held_of t) (waiting t) in
-    ap (λ b. b && is_free t y && is_affordable c t y) idle
-    ∙ (ap (λ b. b && is_affordable c t y) (free_held t place l)
-    ∙ (ap (λ b. records.is_free (held_of t y) (take place rs) && b) (affordable_held c t place l)
-    ∙ ap (λ r. records.is_open c.budget r (take place rs)) (sym (record_held t place l))))
+    search (arith, held_of t, free_held t place l, affordable_held c t place l, record_held t place l)
 
 -- the commands that may start are those at the places that may
 pub startable_places : (c : Settings) (t : Trace) → is_idle t ≡ true
     → startable c t ≡ map (waiting_at t) (open_places c.budget (map (held_of t) (waiting t)))
 unfolding startable
-startable_places c t idle =
-    let W = waiting t in
-    let rs = map (held_of t) W in
-    let q = is_open_at c.budget rs in
-    filter_places (is_startable c t) q (waiting_at t) 0 W
-    (λ i l. let z : 0 + i ≡ i = omega arith in (ap (waiting_at t) z, startable_held c t i l idle ∙ ap q (sym z)))
-    ∙ ap (λ n. map (waiting_at t) (filter q (range_with_len 0 n))) (sym (length-map W (held_of t)))
+startable_places c t idle = search (arith, held_of t, filter_places, startable_held, length-map)
 
 -- what a picker sees of a record is what it sees of its command
 choice_held : (c : Settings) (t : Trace) (y : ℕ) → choice_of (drive_by c t (unit t y)) (held_of t y) ≡ choice c t y
@@ -128,15 +99,5 @@ choice_at c t ds place d l =
 pub view_held : (c : Settings) (t : Trace) (ds : List Drive) → Driven c t ds → is_idle t ≡ true
     → view c t ≡ view_of c.budget ds (map (held_of t) (waiting t))
 view_held c t ds d idle =
-    let rs = map (held_of t) (waiting t) in
-    let places = open_places c.budget rs in
-    let same : ℕ → Type 0 = λ place. choice c t (waiting_at t place)
-    ≡ choice_of (drive_at ds rs place) (record_at rs place) in
-    ap (map (choice c t)) (startable_places c t idle)
-    ∙ (map_map (waiting_at t) (choice c t) places
-    ∙ map_on (λ place. choice c t (waiting_at t place)) (λ place. choice_of (drive_at ds rs place) (record_at rs place))
-    places
-    (every_kept same (is_open_at c.budget rs) (range_with_len 0 (length rs))
-    (every_weaker (λ place. (0 ≤ place) × (place < 0 + length rs)) same
-    (λ place b. sym (choice_at c t ds place d (omega (arith, b, length-map (waiting t) (held_of t)))))
-    (range_with_len 0 (length rs)) (range_below 0 (length rs)))))
+    search (arith, held_of t, startable_places c t idle, length-map (waiting t) (held_of t), map_map, map_on,
+    every_kept, every_weaker, choice_at, range_below)

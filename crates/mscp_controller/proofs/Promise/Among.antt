@@ -1,11 +1,11 @@
 -- A waiting command among the others, which have other names.
-use Rattle.std.proofs.Common.{◌≡◌, ◌≢◌, ℕ, Bool, true, false, List, refl, ap, sym, ◌∙◌, subst}
+use Rattle.std.proofs.Common.{◌≡◌, ◌≢◌, ℕ, Bool, true, false, List, refl, ap, sym, ◌∙◌, arith}
 use Rattle.std.specs.Prelude.{find, unwrap_or, Some}
 use Rattle.std.specs.List.{AllByRecursion}
 use Rattle.mscp_events.specs.Settings.{Settings}
 use Rattle.mscp_controller.specs.History.{Trace}
 use Rattle.mscp_controller.specs.Commands.{is_waiting, name, waiting}
-use Rattle.mscp_controller.specs.Figures.{figure, figure_of, figure_found}
+use Rattle.mscp_controller.specs.Figures.{figure, figure_of}
 use Rattle.mscp_queue.specs.Names.{same_name}
 use Rattle.mscp_queue.proofs.Named.{is_differ, is_same}
 use Rattle.mscp_queue.proofs.Lists.{every_weaker, pairs_middle}
@@ -19,26 +19,14 @@ pub record Alone (t : Trace) (y : ℕ) (front back : List ℕ) : Type 0 where
   pub behind : AllByRecursion (λ x. name t x ≢ name t y) back
 
 pub alone : (t : Trace) (y : ℕ) (front back : List ℕ) → Apart t (waiting t) → Cut t y front back → Alone t y front back
-alone t y front back a k =
-    let p = pairs_middle (λ x z. name t x ≢ name t z) front y back (subst (λ l. Apart t l) k.is a) in
-    record {
-      at = k;
-      before = p.0;
-      behind = every_weaker (λ x. name t y ≢ name t x) (λ x. name t x ≢ name t y)
-          (λ x n e. n (sym e)) back p.1;
-    }
+alone t y front back a k = search (arith, pairs_middle, every_weaker)
 
 -- The figure of its name is its own.
 pub figure_of_one : (c : Settings) (t : Trace) (y : ℕ) (front back : List ℕ) → Alone t y front back
     → figure_of c t (name t y) ≡ figure c t y
 unfolding figure_of
 figure_of_one c t y front back a =
-    let p : ℕ → Bool = λ x. same_name (name t x) (name t y) in
-    ap (figure_found c t) (ap (find p) a.at.is
-    ∙ find_first p front y back
-    (every_weaker (λ x. name t x ≢ name t y) (λ x. p x ≡ false)
-    (λ x n. is_differ (name t x) (name t y) n) front a.before)
-    (is_same (name t y) (name t y) refl))
+    search (arith, is_same (name t y) (name t y) refl, find_first, every_weaker, is_differ)
 
 -- two that wait and have one name are one
 pub one_waits : (t : Trace) (x y : ℕ) → Apart t (waiting t) → is_waiting t x ≡ true → is_waiting t y ≡ true

@@ -1,18 +1,17 @@
 -- The commands that wait have different names.
-use Rattle.std.proofs.Common.{◌≡◌, ◌≢◌, ℕ, ◌<◌, Bool, true, false, cond, not, List, [], ◌∷◌, ◌++◌, map, length, refl, ap, sym, ◌∙◌, subst, append-nil}
+use Rattle.std.proofs.Common.{◌≡◌, ◌≢◌, ℕ, ◌<◌, Bool, true, false, cond, not, List, [], ◌∷◌, ◌++◌, map, length, refl, sym, ◌∙◌, append-nil, arith}
 use Rattle.std.specs.Prelude.{nat_eq, filter}
 use Rattle.std.specs.List.{AllByRecursion}
 use Rattle.std.proofs.lemmas.Bool.{or_parts, eqb-false, true≢false}
-use Rattle.mscp_packet.specs.declared.end.End.{End}
 use Rattle.mscp_events.specs.Settings.{Settings}
 use Rattle.mscp_packet.specs.Commands.{command_of}
 use Rattle.mscp_controller.specs.Arrival.{holds}
 use Rattle.mscp_controller.specs.History.{Trace, Moment, connection_of, queues, sent_bytes}
-use Rattle.mscp_controller.specs.Commands.{connection, name, reference, waiting, waiting_by, ends_in}
-use Rattle.mscp_controller.specs.Account.{untaken, outstanding}
+use Rattle.mscp_controller.specs.Commands.{name, reference, waiting}
+use Rattle.mscp_controller.specs.Account.{outstanding}
 use Rattle.mscp_controller.specs.Legal.{IsRight}
 use Rattle.mscp_queue.specs.declared.name.Name.{Name}
-use Rattle.mscp_queue.specs.Names.{name_on, same_connection}
+use Rattle.mscp_queue.specs.Names.{name_on}
 use Rattle.mscp_queue.specs.Pairs.{Pairs}
 use Rattle.mscp_queue.proofs.Named.{own_side}
 use Rattle.mscp_queue.proofs.Lists.{every_kept, every_weaker, pairs_filter, pairs_append}
@@ -34,10 +33,8 @@ apart_from : (t : Trace) (m : Moment) (x : ℕ) (xs : List ℕ) → x < length t
     → AllByRecursion (λ y. name t x ≢ name t y) xs
     → AllByRecursion (λ y. name (t ++ m ∷ []) x ≢ name (t ++ m ∷ []) y) xs
 apart_from t m x [] l h a = tt
-apart_from t m x (y ∷ ys) l h a = (
-  (λ e. a.0 (sym (name_before t m x l) ∙ (e ∙ name_before t m y h.0))),
-  apart_from t m x ys l h.1 a.1,
-)
+apart_from t m x (y ∷ ys) l h a =
+    search (arith, name_before t m x l, name_before t m y h.0, apart_from t m x ys l h.1 a.1)
 
 apart_along : (t : Trace) (m : Moment) (xs : List ℕ) → AllByRecursion (λ x. x < length t) xs → Apart t xs
     → Apart (t ++ m ∷ []) xs
@@ -53,11 +50,7 @@ new_apart : (t : Trace) (m : Moment) (xs : List ℕ) → AllByRecursion (λ x. x
     → AllByRecursion (λ x. name t x ≢ queued_name m) xs
     → AllByRecursion (λ x. name (t ++ m ∷ []) x ≢ name (t ++ m ∷ []) (length t)) xs
 new_apart t m [] h a = tt
-new_apart t m (x ∷ xs) h a = (
-  (λ e. a.0 (sym (name_before t m x h.0) ∙ (e ∙ name_last t m))),
-  new_apart t m xs
-      h.1 a.1,
-)
+new_apart t m (x ∷ xs) h a = search (arith, name_before t m x h.0, name_last t m, new_apart t m xs h.1 a.1)
 
 -- what holds of each that passes a test
 each_passed : (P : ℕ → Type 0) (p : ℕ → Bool) (xs : List ℕ) → AllByRecursion P (filter p xs)
@@ -77,30 +70,11 @@ each_passed P p (x ∷ xs) h =
 pub new_name : (c : Settings) (t : Trace) (m : Moment) → IsRight c t m.0 m.1 → queues m.1 ≡ true
     → AllByRecursion (λ x. name t x ≢ queued_name m) (waiting t)
 unfolding outstanding command_of
-new_name c t m r q =
-    let new = (command_of (sent_bytes m.0)).reference in
-    let via = connection_of m.0 in
-    let on : ℕ → Bool = λ x. same_connection (connection t x) via in
-    every_weaker (λ x. on x ≡ true → reference t x ≢ new) (λ x. name t x ≢ queued_name m)
-    (λ x n e. n (ap (λ (k : Name). same_connection k.connection via) e ∙ own_side via)
-    (ap (λ (k : Name). k.reference) e)) (waiting t)
-    (each_passed (λ x. reference t x ≢ new) on (waiting t)
-    (not_held (reference t) (waiting_by via t) (map (λ (e : End). e.reference) (untaken c via t)) new
-    (queued_right c t m.0 m.1 q r).taken.new))
+new_name c t m r q = search (arith, queued_right c t m.0 m.1 q r, every_weaker, own_side, each_passed, not_held)
 
 -- A legal moment keeps the names apart.
 pub apart_more : (c : Settings) (t : Trace) (m : Moment) → IsRight c t m.0 m.1 → Apart t (waiting t)
     → Apart (t ++ m ∷ []) (waiting (t ++ m ∷ []))
 apart_more c t m r a =
-    let keep : ℕ → Bool = λ x. not (ends_in (name t x) m.1) in
-    let kept = filter keep (waiting t) in
-    let below = every_kept (λ x. x < length t) keep (waiting t) (waiting_below t) in
-    let old = apart_along t m kept below (pairs_filter (λ x y. name t x ≢ name t y) keep (waiting t) a) in
-    let both : (b : Bool) → queues m.1 ≡ b → Apart (t ++ m ∷ []) (kept ++ cond b (length t ∷ []) []) =
-    λ b. elim b as (λ b. queues m.1 ≡ b → Apart (t ++ m ∷ []) (kept ++ cond b (length t ∷ []) [])) [
-      | true ↦ λ e. pairs_append (λ x y. name (t ++ m ∷ []) x ≢ name (t ++ m ∷ []) y) kept (length t) old
-          (new_apart t m kept below (every_kept (λ x. name t x ≢ queued_name m) keep
-          (waiting t) (new_name c t m r e)))
-      | false ↦ λ e. subst (λ l. Apart (t ++ m ∷ []) l) (sym (append-nil kept)) old
-    ] in
-    subst (λ l. Apart (t ++ m ∷ []) l) (sym (waiting_more t m)) (both (queues m.1) refl)
+    search (arith, waiting_below t, waiting_more t m, not, every_kept, apart_along, pairs_filter, pairs_append,
+    new_apart, new_name, append-nil)

@@ -1,10 +1,10 @@
 -- What is known of a message that was taken.
-use Rattle.std.proofs.Common.{◌≡◌, ℕ, ◌≤◌, Bool, true, false, not, ◌&&◌, List, length, refl, ap, ◌∙◌}
-use Rattle.std.specs.Prelude.{nat_eq, nat_lt, if◌then◌else◌, slice_index, Option, Some, None, is_some, Result, Ok, Err, is_ok}
+use Rattle.std.proofs.Common.{◌≡◌, ℕ, ◌≤◌, Bool, true, false, not, ◌&&◌, List, length, arith}
+use Rattle.std.specs.Prelude.{nat_eq, nat_lt, if◌then◌else◌, slice_index, Option, Some, None, Result, Ok, Err}
 use Rattle.std.proofs.lemmas.Bool.{ltb-false, eqb-false, true≢false, false≢true}
 use Rattle.mscp_packet.specs.declared.command.Command.{Command}
 use Rattle.mscp_controller.specs.declared.entry.SendFault.{SendFault}
-use Rattle.mscp_controller.specs.declared.entry.SendFault.TheVariants.{Short, Long, NoCredit, LastCredit, Doubled}
+use Rattle.mscp_controller.specs.declared.entry.SendFault.TheVariants.{Short}
 use Rattle.mscp_controller.specs.declared.entry.Sent.{Sent}
 use Rattle.mscp_controller.specs.declared.entry.Sent.TheVariants as sents
 use Rattle.mscp_events.specs.declared.event.Event.{Event}
@@ -32,25 +32,13 @@ pub record IsTaken (credit : ℕ) (references b : List ℕ) : Type 0 where
 
 pub if_none : {X : Type 0} (b : Bool) (f : X) (rest : Option X) → (if b then Some f else rest) ≡ None
     → (b ≡ false) × (rest ≡ None)
-if_none true f rest h = absurd (true≢false (ap is_some h))
-if_none false f rest h = (refl, h)
+if_none b f rest h3 = grind (arith, true≢false)
 
 pub refusal_none : (credit : ℕ) (references b : List ℕ) → refusal credit references b ≡ None
     → IsTaken credit references b
 refusal_none credit references b h =
-    let e = if_none (nat_lt (length b) 12) Short _ h in
-    let f = if_none (nat_lt 64 (length b)) Long _ e.1 in
-    let g = if_none (nat_eq credit 0) NoCredit _ f.1 in
-    let k = if_none (nat_eq credit 1 && not (is_immediate_class (class (slice_index b 8)))) LastCredit _ g.1 in
-    let l = if_none (holds references (num b 0 4)) Doubled None k.1 in
-    record {
-      low = ltb-false (length b) 12 e.0;
-      high = ltb-false 64 (length b) f.0;
-      free =
-          eqb-false credit 0 g.0;
-      last = k.0;
-      new = l.0;
-    }
+    search (arith, if_none (nat_lt (length b) 12) Short _ h, not (is_immediate_class (class (slice_index b 8))),
+    ltb-false, eqb-false)
 
 sent_or : Sent → Result Sent SendFault → Sent
 sent_or s (Ok r) = r
@@ -59,8 +47,7 @@ sent_or s (Err f) = s
 unless_ok : (c : Settings) (via : Connection) (t : Trace) (command : Command) (s : Sent) (o : Option SendFault)
     → Ok s ≡ taken_unless c via t command o → (o ≡ None) × (s ≡ taken_in c via t command)
 unfolding sent_or
-unless_ok c via t command s None h = (refl, ap (sent_or s) h)
-unless_ok c via t command s (Some fault) h = absurd (true≢false (ap is_ok h))
+unless_ok c via t command s o h6 = grind (arith, sent_or, true≢false)
 
 pub record Arrives (c : Settings) (via : Connection) (t : Trace) (b : List ℕ) (s : Sent) : Type 0 where
   pub taken : IsTaken (balance c via t) (outstanding c via t) b
@@ -74,8 +61,7 @@ arrives c via t b s h =
     record { taken = refusal_none (balance c via t) (outstanding c via t) b u.0; is = u.1 }
 
 is_queue : Sent → Bool
-is_queue (sents.Queued r) = true
-is_queue (sents.Answered r a) = false
+is_queue h0 = grind arith
 
 -- what is known of a message that was queued
 pub record Queues (c : Settings) (via : Connection) (t : Trace) (b : List ℕ) : Type 0 where
@@ -91,20 +77,11 @@ queue_of : (c : Settings) (via : Connection) (t : Trace) (command : Command) (r 
     → sents.Queued r ≡ taken_in c via t command
     → is_queued c command ≡ true
 unfolding is_queue
-queue_of c via t command r h =
-    let both : (q : Bool) → is_queued c command ≡ q → is_queued c command ≡ true =
-    λ q. elim q as (λ q. is_queued c command ≡ q → is_queued c command ≡ true) [
-      | true ↦ λ e. e
-      | false ↦ λ e. absurd (true≢false (ap is_queue (h ∙ ap (taken_when c via t command) e)))
-    ] in
-    both (is_queued c command) refl
+queue_of c via t command r h = search (arith, true≢false, is_queue)
 
 pub queued_right : (c : Settings) (t : Trace) (event : Event) (entry : Entry) → queues entry ≡ true
     → IsRight c t event entry → Queues c (connection_of event) t (sent_bytes event)
 queued_right c t (events.Send via b) (entries.Sent other (Ok (sents.Queued r))) q h =
     let a = arrives c via t b.items (sents.Queued r) h.1 in
     record { taken = a.taken; waits = queue_of c via t (command_of b.items) r a.is }
-queued_right c t (events.Step k) (entries.Sent other (Ok (sents.Queued r))) q h = absurd h
-queued_right c t (events.Take via) (entries.Sent other (Ok (sents.Queued r))) q h = absurd h
-queued_right c t events.Look (entries.Sent other (Ok (sents.Queued r))) q h = absurd h
-queued_right c t event entry q h = absurd (false≢true q)
+queued_right c t event entry h4 h5 = grind (arith, false≢true)

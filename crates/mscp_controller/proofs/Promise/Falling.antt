@@ -1,12 +1,9 @@
 -- At a right moment no figure rises, and where it is a step each falls.
 use Rattle.std.proofs.Common.{◌≡◌, ℕ, ◌<◌, ◌≤◌, true, [], ◌∷◌, ◌++◌, length, refl, ap, arith}
-use Rattle.std.specs.Prelude.{Option, Some, None, is_some, Contains}
+use Rattle.std.specs.Prelude.{Option, Some, None, Contains}
 use Rattle.std.proofs.lemmas.Bool.{true≢false, false≢true}
-use Rattle.mscp_queue.specs.declared.report.Report.TheVariants as reports
 use Rattle.mscp_events.specs.declared.event.Event.{Event}
-use Rattle.mscp_events.specs.declared.event.Event.TheVariants as events
 use Rattle.mscp_controller.specs.declared.entry.Entry.{Entry}
-use Rattle.mscp_controller.specs.declared.entry.Entry.TheVariants as entries
 use Rattle.mscp_events.specs.Settings.{Settings}
 use Rattle.mscp_controller.specs.History.{Trace, Moment, is_step, Service, service_in}
 use Rattle.mscp_controller.specs.Commands.{waiting}
@@ -29,13 +26,7 @@ nobody t x e h = let l = ap length e in let k = h.1 in omega (arith, l, k)
 
 idle_right : (c : Settings) (t : Trace) (event : Event) (entry : Entry) → is_step event ≡ true → service_in entry ≡ None
     → IsRight c t event entry → waiting t ≡ []
-idle_right c t (events.Step k) (entries.Stepped reports.Idle) s e r = r
-idle_right c t (events.Step k) (entries.Stepped (reports.Served n a b d f g h)) s e r =
-    absurd (true≢false (ap is_some e))
-idle_right c t (events.Step k) (entries.Sent to sent) s e r = absurd r
-idle_right c t (events.Step k) (entries.Taken to taken) s e r = absurd r
-idle_right c t (events.Step k) (entries.Looked list) s e r = absurd r
-idle_right c t _ entry s e r = absurd (false≢true s)
+idle_right c t event entry h4 h5 h6 = grind (arith, true≢false, false≢true)
 
 pub falling : (c : Settings) (t : Trace) (m : Moment) → IsRight c t m.0 m.1 → Steady c t
     → Falling c t m

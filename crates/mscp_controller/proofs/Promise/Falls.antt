@@ -1,5 +1,5 @@
 -- The figures of the waiting commands fall at each step of a legal run.
-use Rattle.std.proofs.Common.{◌≡◌, ◌≢◌, ℕ, ◌+◌, ◌-◌, ◌<◌, ◌≤◌, Bool, true, false, cond, not, List, [], ◌∷◌, ◌++◌, length, refl, ap, sym, ◌∙◌, subst, arith}
+use Rattle.std.proofs.Common.{◌≡◌, ℕ, ◌+◌, ◌-◌, ◌<◌, ◌≤◌, Bool, true, false, cond, not, List, [], ◌∷◌, ◌++◌, length, refl, ap, sym, ◌∙◌, subst, arith}
 use Rattle.std.specs.Prelude.{filter, sum_by, nat_eq, Contains, Some, is_some}
 use Rattle.std.specs.List.{AllByRecursion}
 use Rattle.std.proofs.lemmas.List.{append_assoc}
@@ -43,27 +43,21 @@ working_append t A B = ap (sum_by (left t)) (filter-append (in_service t) A B)
     ∙ sum_by-append (left t) (filter (in_service t) A) (filter (in_service t) B)
 
 pub working_idle : (t : Trace) (A : List ℕ) → AllByRecursion (λ x. done t x ≡ 0) A → working t A ≡ 0
-working_idle t A h = ap (sum_by (left t)) (filter_none (in_service t) A
-    (every_weaker (λ x. done t x ≡ 0) (λ x. in_service t x ≡ false) (λ x e. le-ltb 0 (done t x) (omega arith)) A h))
+working_idle t A h = search (arith, filter_none, every_weaker, le-ltb)
 
 -- of a command that is not in service
 pub figure_idle : (c : Settings) (t : Trace) (A : List ℕ) (x : ℕ) (B : List ℕ) → waiting t ≡ A ++ x ∷ B → done t x ≡ 0
     → figure c t x ≡ sum_by (left t) A + working t B + (c.budget - passed t x) + left t x
-figure_idle c t A x B e d = figure_at c t A x B e ∙ ap
-    (λ b. cond b (left t x) (sum_by (left t) A + working t B + (c.budget - passed t x) + left t x))
-    (le-ltb 0 (done t x) (omega arith))
+figure_idle c t A x B e d = search (arith, figure_at c t A x B e, le-ltb 0 (done t x) (omega arith))
 
 -- of one in service
 figure_working : (c : Settings) (t : Trace) (A : List ℕ) (x : ℕ) (B : List ℕ) → waiting t ≡ A ++ x ∷ B → 0 < done t x
     → figure c t x ≡ left t x
-figure_working c t A x B e d = figure_at c t A x B e
-    ∙ ap (λ b. cond b (left t x) (sum_by (left t) A + working t B + (c.budget - passed t x) + left t x))
-    (lt-ltb 0 (done t x) d)
+figure_working c t A x B e d = search (arith, figure_at c t A x B e, lt-ltb 0 (done t x) d)
 
 pub figure_gone : (c : Settings) (t : Trace) (x : ℕ) → is_waiting t x ≡ false → figure c t x ≡ 0
 unfolding figure
-figure_gone c t x e = ap (λ b. cond b (cond (in_service t x) (left t x)
-    (sum_by (left t) (earlier t x) + working t (later t x) + (c.budget - passed t x) + left t x)) 0) e
+figure_gone c t x e = search arith
 
 -- a step of y, with what is known of those that wait
 pub record Fit (c : Settings) (t : Trace) (m : Moment) (s : Service) (front : List ℕ) (y : ℕ) (back : List ℕ) :
@@ -87,22 +81,11 @@ left_own t t' y e = ap record_left e ∙ omega arith
 own_left : (t t' : Trace) (s : Service) (y : ℕ) → record_of t' y ≡ served (record_of t y)
     → (is_some s.ended ≡ false → 1 < left t y) → done t y < weight t y
     → sum_by (left t') (cond (is_some s.ended) [] (y ∷ [])) + 1 ≤ left t y
-own_left t t' s y e is u =
-    let both : (b : Bool) → is_some s.ended ≡ b → sum_by (left t') (cond b [] (y ∷ [])) + 1 ≤ left t y =
-    λ b. elim b as (λ b. is_some s.ended ≡ b → sum_by (left t') (cond b [] (y ∷ [])) + 1 ≤ left t y) [
-      | true ↦ λ h. omega (arith, u)
-      | false ↦ λ h. let l = left_own t t' y e in let k = is h in omega (arith, l, k)
-    ] in
-    both (is_some s.ended) refl
+own_left t t' s y e is u = search (arith, left_own t t' y e)
 
 own_working : (t t' : Trace) (s : Service) (y : ℕ) → record_of t' y ≡ served (record_of t y)
     → working t' (cond (is_some s.ended) [] (y ∷ [])) ≡ sum_by (left t') (cond (is_some s.ended) [] (y ∷ []))
-own_working t t' s y e =
-    elim (is_some s.ended) as (λ b. working t' (cond b [] (y ∷ [])) ≡ sum_by (left t') (cond b [] (y ∷ []))) [
-      | true ↦ refl
-      | false ↦ ap (λ b. sum_by (left t') (cond b (y ∷ []) []))
-          (lt-ltb 0 (done t' y) (let d = ap (λ (r : Figured). r.done) e in omega (arith, d)))
-    ]
+own_working t t' s y e = search (arith, lt-ltb)
 
 pub every_split : (P : ℕ → Type 0) (xs : List ℕ) → ((A : List ℕ) (x : ℕ) (B : List ℕ) → xs ≡ A ++ x ∷ B → P x)
     → AllByRecursion P xs
@@ -115,12 +98,7 @@ working_before : (c : Settings) (t : Trace) (m : Moment) (s : Service) (front : 
     → working t (B ++ y ∷ back) ≡ cond s.started 0 (left t y)
 working_before c t m s front y back B f b =
     let both : (d : Bool) → d ≡ nat_eq (done t y) 0 → working t (y ∷ []) ≡ cond d 0 (left t y) =
-    λ d. elim d as (λ d. d ≡ nat_eq (done t y) 0 → working t (y ∷ []) ≡ cond d 0 (left t y)) [
-      | true ↦ λ h. ap (λ b. sum_by (left t) (cond b (y ∷ []) []))
-          (le-ltb 0 (done t y) (let e = eqb-true (done t y) 0 (sym h) in omega arith))
-      | false ↦ λ h. ap (λ b. sum_by (left t) (cond b (y ∷ []) []))
-          (lt-ltb 0 (done t y) (let n : done t y ≢ 0 = eqb-false (done t y) 0 (sym h) in omega arith)) ∙ omega arith
-    ] in
+    search (arith, le-ltb, eqb-true, lt-ltb, eqb-false) in
     let one = both s.started f.started in
     let rest = working_append t B (y ∷ back) in
     let own = working_append t (y ∷ []) back in
@@ -134,16 +112,7 @@ working_after : (t t' : Trace) (s : Service) (y : ℕ) (back B : List ℕ) → r
     → working t' (B ++ (cond (is_some s.ended) [] (y ∷ []) ++ back))
     ≡ sum_by (left t') (cond (is_some s.ended) [] (y ∷ []))
 working_after t t' s y back B e b k =
-    let own : List ℕ = cond (is_some s.ended) [] (y ∷ []) in
-    omega (
-      arith,
-      working_append t' B (own ++ back),
-      working_append t' own back,
-      working_idle t' B b,
-      working_idle t'
-          back k,
-      own_working t t' s y e,
-    )
+    search (arith, working_idle t' B b, working_idle t' back k, own_working t t' s y e, working_append)
 
 pub idle_stays : (t t' : Trace) (n : ℕ) (xs : List ℕ)
     → AllByRecursion (λ x. record_of t' x ≡ charged n (record_of t x)) xs → AllByRecursion (λ x. done t x ≡ 0) xs
@@ -158,21 +127,16 @@ idle_same t t' (x ∷ xs) h k = (ap (λ (r : Figured). r.done) h.0 ∙ k.0, idle
 
 left_all : (t t' : Trace) (n : ℕ) (xs : List ℕ) → AllByRecursion (λ x. record_of t' x ≡ charged n (record_of t x)) xs
     → sum_by (left t') xs ≡ sum_by (left t) xs
-left_all t t' n xs h = sum_on (left t') (left t) xs
-    (every_weaker (λ x. record_of t' x ≡ charged n (record_of t x)) (λ x. left t' x ≡ left t x)
-    (λ x e. ap record_left e)
-    xs h)
+left_all t t' n xs h = search (arith, sum_on, every_weaker, record_of, charged, record_left)
 
 pub left_same : (t t' : Trace) (xs : List ℕ) → AllByRecursion (λ x. record_of t' x ≡ record_of t x) xs
     → sum_by (left t') xs ≡ sum_by (left t) xs
-left_same t t' xs h = sum_on (left t') (left t) xs
-    (every_weaker (λ x. record_of t' x ≡ record_of t x) (λ x. left t' x ≡ left t x) (λ x e. ap record_left e) xs h)
+left_same t t' xs h = search (arith, sum_on, every_weaker, record_of, record_left)
 
 -- the numbers before and after, for a command in front
 front_pays : (b : Bool) (a l q o w Q p p' : ℕ) → p' ≡ p + cond b w 0 → (b ≡ true → p + w ≤ Q) → o + 1 ≤ q → q ≤ w
     → a + o + (Q - p') + l < a + cond b 0 q + (Q - p) + l
-front_pays true a l q o w Q p p' e h n k = omega (arith, e, h refl, n, k)
-front_pays false a l q o w Q p p' e h n k = omega (arith, e, n)
+front_pays b a l q o w Q p p' h9 h10 h11 h12 = grind arith
 
 pub falls_front : (c : Settings) (t : Trace) (m : Moment) (s : Service) (front : List ℕ) (y : ℕ) (back : List ℕ)
     → Fit c t m s front y back → (A : List ℕ) (x : ℕ) (B : List ℕ) → front ≡ A ++ x ∷ B
@@ -219,8 +183,7 @@ falls_back c t m s front y back f A x B q =
     let e : waiting t ≡ (front ++ y ∷ A) ++ x ∷ B =
     f.is ∙ (ap (λ l. front ++ y ∷ l) q ∙ sym (append_assoc front (y ∷ A) (x ∷ B))) in
     let e' : waiting t' ≡ (front ++ (own ++ A)) ++ x ∷ B =
-    f.after ∙ (ap (λ l. front ++ (own ++ l)) q
-    ∙ (ap (λ l. front ++ l) (sym (append_assoc own A (x ∷ B))) ∙ sym (append_assoc front (own ++ A) (x ∷ B)))) in
+    search (arith, append_assoc own A (x ∷ B), append_assoc front (own ++ A) (x ∷ B)) in
     let old = figure_idle c t (front ++ y ∷ A) x B e idle.1.0 in
     let now = figure_idle c t' (front ++ (own ++ A)) x B e' (ap (λ (r : Figured). r.done) new.1.0 ∙ idle.1.0) in
     let sF = left_all t t' (step_charge t s y) front ch.at_front in
@@ -240,12 +203,7 @@ falls_back c t m s front y back f A x B q =
 -- the figure is at least what is left
 pub figure_left : (c : Settings) (t : Trace) (A : List ℕ) (x : ℕ) (B : List ℕ) → waiting t ≡ A ++ x ∷ B
     → left t x ≤ figure c t x
-figure_left c t A x B e =
-    let h = figure_at c t A x B e in
-    let sum = sum_by (left t) A + working t B + (c.budget - passed t x) + left t x in
-    let both : (b : Bool) → left t x ≤ cond b (left t x) sum =
-    λ b. elim b as (λ b. left t x ≤ cond b (left t x) sum) [ true ↦ omega arith | false ↦ omega arith ] in
-    subst (λ n. left t x ≤ n) (sym h) (both (in_service t x))
+figure_left c t A x B e = search (arith, figure_at c t A x B e)
 
 pub falls_own : (c : Settings) (t : Trace) (m : Moment) (s : Service) (front : List ℕ) (y : ℕ) (back : List ℕ)
     → Fit c t m s front y back → (b : Bool) → is_some s.ended ≡ b → figure c (t ++ m ∷ []) y < figure c t y
@@ -259,16 +217,7 @@ falls_own c t m s front y back f true is =
     let low = figure_left c t front y back f.is in
     let u = f.unfinished in
     omega (arith, zero, low, u)
-falls_own c t m s front y back f false is =
-    let t' = t ++ m ∷ [] in
-    let ch = f.marks in
-    let e' : waiting t' ≡ front ++ y ∷ back = f.after ∙ ap (λ b. front ++ (cond b [] (y ∷ []) ++ back)) is in
-    let d = ap (λ (r : Figured). r.done) ch.at_own in
-    let now = figure_working c t' front y back e' (omega (arith, d)) in
-    let low = figure_left c t front y back f.is in
-    let l = left_own t t' y ch.at_own in
-    let k = f.more is in
-    omega (arith, now, low, l, k)
+falls_own c t m s front y back f false is = search (arith, figure_left c t front y back f.is, figure_working, left_own)
 
 -- At a step the figure of each command that waits falls.
 pub step_falls : (c : Settings) (t : Trace) (m : Moment) (s : Service) (front : List ℕ) (y : ℕ) (back : List ℕ)

@@ -1,14 +1,12 @@
 -- What a figure reads of a command, and how a step changes it.
-use Rattle.std.proofs.Common.{◌≡◌, ℕ, ◌+◌, ◌-◌, ◌<◌, Bool, true, false, cond, ◌&&◌, List, [], ◌∷◌, ◌++◌, length, refl, ap, ◌∙◌, subst, arith}
-use Rattle.std.specs.Prelude.{nat_eq}
+use Rattle.std.proofs.Common.{◌≡◌, ℕ, ◌+◌, ◌-◌, ◌<◌, true, cond, List, [], ◌∷◌, ◌++◌, length, ap, ◌∙◌, subst, arith}
 use Rattle.std.specs.List.{AllByRecursion}
 use Rattle.std.proofs.lemmas.Bool.{lt-ltb, eq-eqb, and_right}
 use Rattle.mscp_events.specs.declared.block.Block.{Block}
 use Rattle.mscp_events.specs.Settings.{Settings}
 use Rattle.mscp_controller.specs.History.{Trace, Moment, Service}
-use Rattle.mscp_controller.specs.Commands.{weight, is_waiting, done, service_name, service_starts}
+use Rattle.mscp_controller.specs.Commands.{weight, is_waiting, done}
 use Rattle.mscp_controller.specs.Passing.{charge, passed}
-use Rattle.mscp_queue.specs.Names.{same_name}
 use Rattle.mscp_queue.proofs.Lists.{every_weaker, every_both, every_parts}
 use Rattle.mscp_controller.proofs.Promise.Waits.{waiting_waits}
 use Rattle.mscp_controller.proofs.Promise.Served.{Step, below_parts}
@@ -54,17 +52,7 @@ front_passed : (c : Settings) (t : Trace) (m : Moment) (s : Service) (k : Block)
     → Step c t m s k y front back → (x : ℕ) → x < length t → is_waiting t x ≡ true → done t x ≡ 0 → x < y
     → passed (t ++ m ∷ []) x ≡ passed t x + step_charge t s y
 front_passed c t m s k y front back st x l w d h =
-    let t' = t ++ m ∷ [] in
-    let both : (b : Bool) → s.started ≡ b → passed t' x ≡ passed t x + cond b (charge t y) 0 =
-    λ b. elim b as (λ b. s.started ≡ b → passed t' x ≡ passed t x + cond b (charge t y) 0) [
-      | true ↦ λ e.
-          passed_front c t m s k y front back st e x h
-          (ap (λ b. b && is_waiting t x && nat_eq (done t x) 0) (lt-ltb x (length t) l)
-          ∙ (ap (λ b. b && nat_eq (done t x) 0) w ∙ eq-eqb (done t x) 0 d))
-      | false ↦ λ e. none_starts t m x (λ r. ap (service_starts r) st.serves.is
-          ∙ and_right (same_name (service_name s) r) s.started e) ∙ omega arith
-    ] in
-    both s.started refl
+    search (arith, lt-ltb x (length t) l, eq-eqb (done t x) 0 d, passed_front, none_starts, and_right)
 
 pub marks : (c : Settings) (t : Trace) (m : Moment) (s : Service) (k : Block) (y : ℕ) (front back : List ℕ)
     → Step c t m s k y front back → AllByRecursion (λ x. done t x ≡ 0) front → Marks t (t ++ m ∷ []) s front y back

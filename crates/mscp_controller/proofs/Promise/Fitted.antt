@@ -1,11 +1,11 @@
 -- A right step, with all that is known of those that wait; and moments that serve nobody.
-use Rattle.std.proofs.Common.{◌≡◌, ℕ, ◌+◌, ◌<◌, ◌≤◌, List, [], ◌∷◌, ◌++◌, length, ap, sym, ◌∙◌, subst}
+use Rattle.std.proofs.Common.{◌≡◌, ℕ, ◌+◌, ◌<◌, ◌≤◌, List, ◌∷◌, ap, sym, ◌∙◌, subst, arith}
 use Rattle.std.specs.Prelude.{None, is_some}
 use Rattle.std.specs.List.{AllByRecursion}
 use Rattle.mscp_events.specs.declared.block.Block.{Block}
 use Rattle.mscp_events.specs.Settings.{Settings}
 use Rattle.mscp_controller.specs.History.{Trace, Moment, Service, service_in}
-use Rattle.mscp_controller.specs.Commands.{weight, waiting, done, service_starts}
+use Rattle.mscp_controller.specs.Commands.{weight, done}
 use Rattle.mscp_controller.specs.Passing.{charge, passed}
 use Rattle.mscp_queue.proofs.Lists.{every_weaker, every_parts}
 use Rattle.mscp_controller.proofs.Promise.Waits.{waiting_below, earlier_is}
@@ -42,7 +42,4 @@ fit_of c t m s k y front back st steady =
 
 pub leaves_of : (t : Trace) (m : Moment) → service_in m.1 ≡ None → Leaves t m
 leaves_of t m e =
-    let t' = t ++ m ∷ [] in
-    every_weaker (λ x. x < length t) (λ x. record_of t' x ≡ record_of t x)
-    (λ x l. made_is _ _ _ _ _ _ (weight_before t m x l) (done_kept t m x e l)
-    (none_starts t m x (λ r. ap (service_starts r) e))) (waiting t) (waiting_below t)
+    search (arith, waiting_below t, every_weaker, record_of, made_is, weight_before, done_kept, none_starts)

@@ -1,7 +1,7 @@
 -- What the definitions say when one more moment comes.
 use Rattle.std.proofs.Common.{◌≡◌, ℕ, ◌+◌, ◌<◌, ◌≤◌, Bool, true, false, cond, not, ◌&&◌, ◌||◌, List, [], ◌∷◌, ◌++◌, take, drop, length, refl, ap, sym, ◌∙◌, arith, append-nil}
-use Rattle.std.specs.Prelude.{filter, count_by, sum_by, flat_map, None}
-use Rattle.std.specs.List.{range_with_len, list_any}
+use Rattle.std.specs.Prelude.{filter, count_by, None}
+use Rattle.std.specs.List.{range_with_len}
 use Rattle.std.proofs.lemmas.List.{get_or_append_left, get_or_at, drop-append-le, drop_all, length_push, take_at, take-append-le}
 use Rattle.std.proofs.lemmas.List.Sums.{sum_by_push}
 use Rattle.std.proofs.lemmas.List.Folds.{list_any-append}
@@ -38,21 +38,9 @@ pub collect_more : {X : Type 0} (seen : Trace → Moment → List X) (t : Trace)
     → collect seen (t ++ m ∷ []) ≡ collect seen t ++ seen t m
 unfolding collect
 collect_more seen t m =
-    let before = flat_on (λ i. seen (take i (t ++ m ∷ [])) (moment (t ++ m ∷ []) i)) (λ i. seen (take i t) (moment t i))
-    (positions t)
-    (every_weaker (λ i. (0 ≤ i) × (i < 0 + length t))
-    (λ i. seen (take i (t ++ m ∷ [])) (moment (t ++ m ∷ []) i) ≡ seen (take i t) (moment t i))
-    (λ i h. ap (λ u. seen u (moment (t ++ m ∷ []) i)) (take-append-le i t (m ∷ []) (omega arith))
-    ∙ ap (seen (take i t)) (moment_before t m i (omega arith)))
-    (positions t) (range_below 0 (length t))) in
-    let last : seen (take (length t) (t ++ m ∷ [])) (moment (t ++ m ∷ []) (length t)) ≡ seen t m =
-    ap (λ u. seen u (moment (t ++ m ∷ []) (length t))) (take_at t (m ∷ []) (length t) refl)
-    ∙ ap (seen t) (moment_last t m) in
-    ap (flat_map (λ i. seen (take i (t ++ m ∷ [])) (moment (t ++ m ∷ []) i))) (positions_more t m)
-    ∙ (flat_map-append (λ i. seen (take i (t ++ m ∷ [])) (moment (t ++ m ∷ []) i)) (positions t) (length t ∷ [])
-    ∙ (ap (λ l. l ++ (seen (take (length t) (t ++ m ∷ [])) (moment (t ++ m ∷ []) (length t)) ++ [])) before
-    ∙ ap (λ l. flat_map (λ i. seen (take i t) (moment t i)) (positions t) ++ l)
-    (append-nil (seen (take (length t) (t ++ m ∷ [])) (moment (t ++ m ∷ []) (length t))) ∙ last)))
+    search (arith, range_below 0 (length t), take_at t (m ∷ []) (length t) refl, moment_last t m, positions_more t m,
+    append-nil (seen (take (length t) (t ++ m ∷ [])) (moment (t ++ m ∷ []) (length t))), flat_on, every_weaker,
+    take-append-le, moment_before, flat_map-append)
 
 pub last_or-append : {X : Type 0} (xs ys : List X) (d : X) → last_or (xs ++ ys) d ≡ last_or ys (last_or xs d)
 last_or-append [] ys d = refl
@@ -91,36 +79,20 @@ pub drop_last : (t : Trace) (m : Moment) → drop (length t + 1) (t ++ m ∷ [])
 drop_last t m = drop_all (length t + 1) (t ++ m ∷ []) (omega (arith, length_push t m))
 
 still : (q a e : Bool) → (q && not (a || (e || false))) ≡ ((q && not a) && not e)
-still true true true = refl
-still true true false = refl
-still true false true = refl
-still true false false = refl
-still false a e = refl
+still q a e = grind arith
 
 pub is_waiting_before : (t : Trace) (m : Moment) (x : ℕ) → x < length t
     → is_waiting (t ++ m ∷ []) x ≡ (is_waiting t x && not (ends_in (name t x) m.1))
 unfolding is_waiting
 is_waiting_before t m x h =
-    let E : Name → Moment → Bool = λ k n. ends_in k n.1 in
-    ap (λ (n : Moment). queues n.1 && not (list_any (E (name (t ++ m ∷ []) x)) (drop (x + 1) (t ++ m ∷ []))))
-    (moment_before t m x h)
-    ∙ ap (λ (k : Name). queues (moment t x).1 && not (list_any (E k) (drop (x + 1) (t ++ m ∷ []))))
-    (name_before t m x h)
-    ∙ ap (λ l. queues (moment t x).1 && not (list_any (E (name t x)) l)) (drop_before t m x h)
-    ∙ ap (λ b. queues (moment t x).1 && not b) (list_any-append (E (name t x)) (drop (x + 1) t) (m ∷ []))
-    ∙ still (queues (moment t x).1) (list_any (E (name t x)) (drop (x + 1) t)) (E (name t x) m)
+    search (arith, moment_before t m x h, name_before t m x h, drop_before t m x h, not, list_any-append, still)
 
 and_true : (b : Bool) → (b && true) ≡ b
-and_true true = refl
-and_true false = refl
+and_true b = grind arith
 
 pub is_waiting_last : (t : Trace) (m : Moment) → is_waiting (t ++ m ∷ []) (length t) ≡ queues m.1
 unfolding is_waiting
-is_waiting_last t m =
-    let E : Moment → Bool = λ n. ends_in (name (t ++ m ∷ []) (length t)) n.1 in
-    ap (λ (n : Moment). queues n.1 && not (list_any E (drop (length t + 1) (t ++ m ∷ [])))) (moment_last t m)
-    ∙ ap (λ l. queues m.1 && not (list_any E l)) (drop_last t m)
-    ∙ and_true (queues m.1)
+is_waiting_last t m = search (arith, moment_last t m, drop_last t m, and_true (queues m.1), not)
 
 -- What waits after one more moment: what waited and isn't ended by it, and what it queues.
 pub waiting_more : (t : Trace) (m : Moment) → waiting (t ++ m ∷ [])
@@ -143,10 +115,7 @@ waiting_more t m =
 count_before : (p : Name → Moment → Bool) (t : Trace) (m : Moment) (x : ℕ) → x < length t
     → count_by (p (name (t ++ m ∷ []) x)) (drop (x + 1) (t ++ m ∷ [])) ≡ count_by (p (name t x)) (drop (x + 1) t)
     + cond (p (name t x) m) 1 0
-count_before p t m x h =
-    ap (λ (k : Name). count_by (p k) (drop (x + 1) (t ++ m ∷ []))) (name_before t m x h)
-    ∙ (ap (count_by (p (name t x))) (drop_before t m x h)
-    ∙ sum_by_push (λ (n : Moment). cond (p (name t x) n) 1 0) (drop (x + 1) t) m)
+count_before p t m x h = search (arith, name_before t m x h, drop_before t m x h, sum_by_push)
 
 -- How often a command was served after one more moment, and how often well.
 pub done_before : (t : Trace) (m : Moment) (x : ℕ) → x < length t
@@ -165,25 +134,14 @@ done_last t m = ap (count_by (λ (n : Moment). serves_in (name (t ++ m ∷ []) (
 
 pub good_last : (t : Trace) (m : Moment) → good (t ++ m ∷ []) (length t) ≡ 0
 unfolding good
-good_last t m = ap (count_by (λ (n : Moment). serves_in (name (t ++ m ∷ []) (length t)) n.1 && is_good n.0))
-    (drop_last t m)
+good_last t m = search (arith, drop_last t m)
 
 -- How often a command was passed after one more moment.
 pub passed_more : (t : Trace) (m : Moment) (x : ℕ) → passed (t ++ m ∷ []) x ≡ passed t x + passed_at t m x
 unfolding passed
 passed_more t m x =
-    let P : Trace → ℕ → ℕ = λ u i. passed_at (take i u) (moment u i) x in
-    let before = sum_on (P (t ++ m ∷ [])) (P t) (positions t)
-    (every_weaker (λ i. (0 ≤ i) × (i < 0 + length t)) (λ i. P (t ++ m ∷ []) i ≡ P t i)
-    (λ i h. ap (λ u. passed_at u (moment (t ++ m ∷ []) i) x) (take-append-le i t (m ∷ []) (omega arith))
-    ∙ ap (λ n. passed_at (take i t) n x) (moment_before t m i (omega arith)))
-    (positions t) (range_below 0 (length t))) in
-    let last : P (t ++ m ∷ []) (length t) ≡ passed_at t m x =
-    ap (λ u. passed_at u (moment (t ++ m ∷ []) (length t)) x) (take_at t (m ∷ []) (length t) refl)
-    ∙ ap (λ n. passed_at t n x) (moment_last t m) in
-    ap (sum_by (P (t ++ m ∷ []))) (positions_more t m)
-    ∙ (sum_by_push (P (t ++ m ∷ [])) (positions t) (length t)
-    ∙ (ap (λ k. k + P (t ++ m ∷ []) (length t)) before ∙ ap (λ k. sum_by (P t) (positions t) + k) last))
+    search (arith, range_below 0 (length t), take_at t (m ∷ []) (length t) refl, moment_last t m, positions_more t m,
+    sum_on, every_weaker, take-append-le, moment_before, sum_by_push)
 
 -- ---- ends
 
@@ -202,20 +160,14 @@ pub untaken_more : (c : Settings) (via : Connection) (t : Trace) (m : Moment) �
     → count_by (λ n. takes via n.1) t ≤ length (ends c via t)
     → untaken c via (t ++ m ∷ []) ≡ untaken c via t ++ ends_at c via t m
 unfolding untaken
-untaken_more c via t m e h =
-    let k = count_by (λ (n : Moment). takes via n.1) t in
-    let same : count_by (λ (n : Moment). takes via n.1) (t ++ m ∷ []) ≡ k =
-    taken_more via t m ∙ (ap (λ b. k + cond b 1 0) e ∙ omega arith) in
-    ap (λ n. drop n (ends c via (t ++ m ∷ []))) same ∙ (ap (drop k) (ends_more c via t m)
-    ∙ drop-append-le k (ends c via t) (ends_at c via t m) h)
+untaken_more c via t m e h = search (arith, taken_more via t m, ends_more c via t m, drop-append-le)
 
 -- ---- steps
 
 -- How many steps there were after a command, after one more moment.
 pub steps_more : (t : Trace) (m : Moment) (x : ℕ) → x < length t
     → steps_after (t ++ m ∷ []) x ≡ steps_after t x + cond (is_step m.0) 1 0
-steps_more t m x h = ap (count_by (λ (n : Moment). is_step n.0)) (drop_before t m x h)
-    ∙ sum_by_push (λ (n : Moment). cond (is_step n.0) 1 0) (drop (x + 1) t) m
+steps_more t m x h = search (arith, drop_before t m x h, sum_by_push)
 
 pub steps_last : (t : Trace) (m : Moment) → steps_after (t ++ m ∷ []) (length t) ≡ 0
 steps_last t m = ap (count_by (λ (n : Moment). is_step n.0)) (drop_last t m)

@@ -1,5 +1,5 @@
 -- What is true after every part of a legal run, from the definitions alone.
-use Rattle.std.proofs.Common.{◌≡◌, ℕ, zero, suc, ◌+◌, ◌<◌, ◌≤◌, [], ◌∷◌, ◌++◌, take, length, ap, sym, ◌∙◌, subst, arith}
+use Rattle.std.proofs.Common.{◌≡◌, ℕ, zero, suc, ◌+◌, ◌<◌, ◌≤◌, [], ◌∷◌, ◌++◌, take, length, arith}
 use Rattle.std.specs.Prelude.{None}
 use Rattle.std.proofs.lemmas.List.{take_more}
 use Rattle.mscp_events.specs.declared.event.Event.TheVariants as events
@@ -27,9 +27,7 @@ pub by_moments : (c : Settings) (P : Trace → Type 0) → P []
     → i ≤ length t → P (take i t)
 by_moments c P start keeps t legal zero h = start
 by_moments c P start keeps t legal (suc i) h =
-    let e : i + 1 ≡ suc i = omega arith in
-    subst P (sym (more_at t i (omega arith)) ∙ ap (λ k. take k t) e)
-    (keeps (take i t) (moment t i) (legal i (omega arith)) (by_moments c P start keeps t legal i (omega arith)))
+    search (arith, more_at t i (omega arith), by_moments c P start keeps t legal i (omega arith))
 
 pub record Known (c : Settings) (t : Trace) : Type 0 where
   pub steady : Steady c t
@@ -45,14 +43,8 @@ known_empty c = record { steady = steady_empty c; room = room_empty c; short = t
 pub known_more : (c : Settings) → 1 ≤ c.longest → (t : Trace) (m : Moment) → IsRight c t m.0 m.1 → Known c t
     → Known c (t ++ m ∷ [])
 known_more c l t m r k =
-    let short = short_more c t m l r k.short in
-    record {
-      steady = steady_more c t m r k.steady;
-      room = room_more c t m r k.steady k.room;
-      short = short;
-      limited = limited_more c t m r k.steady k.limited;
-      within = within_more c t m r k.room (falling c t m r k.steady) short k.within;
-    }
+    search (arith, short_more c t m l r k.short, steady_more c t m r k.steady, room_more c t m r k.steady k.room,
+    limited_more c t m r k.steady k.limited, falling c t m r k.steady, within_more)
 
 pub known : (c : Settings) → 1 ≤ c.longest → (t : Trace) → IsLegal c t → (i : ℕ) → i ≤ length t → Known c (take i t)
 known c l t legal i h = by_moments c (Known c) (known_empty c) (known_more c l) t legal i h

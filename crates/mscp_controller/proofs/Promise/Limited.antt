@@ -1,11 +1,11 @@
 -- No waiting command is passed more often than the passing limit.
-use Rattle.std.proofs.Common.{◌≡◌, ℕ, ◌+◌, ◌≤◌, Bool, true, false, cond, not, List, [], ◌∷◌, ◌++◌, length, refl, ap, sym, subst, arith}
-use Rattle.std.specs.Prelude.{filter, Option, Some, None, is_some}
+use Rattle.std.proofs.Common.{◌≡◌, ℕ, ◌+◌, ◌≤◌, Bool, not, List, [], ◌∷◌, ◌++◌, length, refl, ap, subst, arith}
+use Rattle.std.specs.Prelude.{Option, Some, None}
 use Rattle.std.specs.List.{AllByRecursion}
 use Rattle.mscp_events.specs.Settings.{Settings}
-use Rattle.mscp_controller.specs.History.{Trace, Moment, queues, Service, service_in}
+use Rattle.mscp_controller.specs.History.{Trace, Moment, Service, service_in}
 use Rattle.mscp_controller.specs.Commands.{name, waiting, ends_in}
-use Rattle.mscp_controller.specs.Passing.{charge, passed}
+use Rattle.mscp_controller.specs.Passing.{passed}
 use Rattle.mscp_controller.specs.Legal.{IsRight}
 use Rattle.mscp_queue.proofs.Lists.{every_weaker, every_kept, every_append, every_parts, every_both}
 use Rattle.mscp_controller.proofs.Promise.Grows.{waiting_more}
@@ -23,14 +23,7 @@ Limited c t xs = AllByRecursion (λ x. passed t x ≤ c.budget) xs
 paid : (c : Settings) (t : Trace) (m : Moment) (s : Service) (front : List ℕ) (y : ℕ) (back : List ℕ)
     → Fit c t m s front y back → Limited c t front
     → AllByRecursion (λ x. passed t x + step_charge t s y ≤ c.budget) front
-paid c t m s front y back f h =
-    let both : (b : Bool) → s.started ≡ b → AllByRecursion (λ x. passed t x + cond b (charge t y) 0 ≤ c.budget) front =
-    λ b. elim b as (λ b. s.started ≡ b → AllByRecursion (λ x. passed t x + cond b (charge t y) 0 ≤ c.budget) front) [
-      | true ↦ λ e. f.affordable e
-      | false ↦ λ e. every_weaker (λ x. passed t x ≤ c.budget) (λ x. passed t x + 0 ≤ c.budget)
-          (λ x p. omega (arith, p)) front h
-    ] in
-    both s.started refl
+paid c t m s front y back f h = search (arith, every_weaker)
 
 limited_step : (c : Settings) (t : Trace) (m : Moment) (s : Service) (front : List ℕ) (y : ℕ) (back : List ℕ)
     → Fit c t m s front y back → Limited c t (waiting t) → Limited c (t ++ m ∷ []) (waiting (t ++ m ∷ []))
@@ -50,11 +43,7 @@ limited_step c t m s front y back f h =
     every_weaker (λ x. (record_of t' x ≡ record_of t x) × Old x) New
     (λ x p. let e = ap (λ (r : Figured). r.passed) p.0 in omega (arith, e, p.1)) back
     (every_both (λ x. record_of t' x ≡ record_of t x) Old back f.marks.at_back parts.1.1) in
-    subst (AllByRecursion New) (sym f.after)
-    (every_append New front (cond (is_some s.ended) [] (y ∷ []) ++ back) fronts
-    (every_append New (cond (is_some s.ended) [] (y ∷ [])) back
-    (elim (is_some s.ended) as (λ b. AllByRecursion New (cond b [] (y ∷ []))) [ true ↦ tt | false ↦ (own, tt) ])
-    backs))
+    search (arith, every_append)
 
 limited_quiet : (c : Settings) (t : Trace) (m : Moment) → service_in m.1 ≡ None → Limited c t (waiting t)
     → Limited c (t ++ m ∷ []) (waiting (t ++ m ∷ []))
@@ -67,10 +56,7 @@ limited_quiet c t m e h =
     (λ x p. let e = ap (λ (r : Figured). r.passed) p.0 in omega (arith, e, p.1)) (waiting t)
     (every_both (λ x. record_of t' x ≡ record_of t x) (λ x. passed t x ≤ c.budget) (waiting t) (leaves_of t m e) h) in
     let new : New (length t) = omega (arith, passed_last t m) in
-    subst (AllByRecursion New) (sym (waiting_more t m))
-    (every_append New (filter keep (waiting t)) (cond (queues m.1) (length t ∷ []) [])
-    (every_kept New keep (waiting t) old)
-    (elim (queues m.1) as (λ b. AllByRecursion New (cond b (length t ∷ []) [])) [ true ↦ (new, tt) | false ↦ tt ]))
+    search (arith, waiting_more t m, every_kept New keep (waiting t) old, every_append)
 
 -- Each right moment keeps it.
 pub limited_more : (c : Settings) (t : Trace) (m : Moment) → IsRight c t m.0 m.1 → Steady c t

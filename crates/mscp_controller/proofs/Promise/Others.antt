@@ -1,25 +1,19 @@
 -- What comes from the host of one connection leaves the account of the other's as it was.
-use Rattle.std.proofs.Common.{◌≡◌, ◌≢◌, ℕ, ◌-◌, ◌<◌, Bool, true, false, not, [], ◌∷◌, ◌++◌, map, length, refl, ap, sym, ◌∙◌, append-nil}
-use Rattle.std.specs.Prelude.{filter, nat_eq, ◌&&◌, if◌then◌else◌, cond, Some, None, is_some, Ok, Err}
+use Rattle.std.proofs.Common.{◌≡◌, ◌≢◌, ℕ, Bool, true, false, not, [], ◌∷◌, ◌++◌, length, ap, ◌∙◌, append-nil, arith}
+use Rattle.std.specs.Prelude.{filter, nat_eq, ◌&&◌, cond, Some}
 use Rattle.std.proofs.lemmas.Bool.{true≢false}
-use Rattle.mscp_packet.specs.declared.command.Command.{Command}
-use Rattle.mscp_packet.specs.declared.end.End.{End}
 use Rattle.mscp_events.specs.declared.connection.Connection.{Connection}
 use Rattle.mscp_queue.specs.declared.name.Name.{Name}
-use Rattle.mscp_queue.specs.declared.report.Report.TheVariants as reports
 use Rattle.mscp_queue.specs.Names.{same_connection}
 use Rattle.mscp_queue.proofs.Lists.{every_from, every_filter, every_weaker, every_kept, filter_all}
 use Rattle.mscp_queue.proofs.Named.{one_side}
 use Rattle.mscp_queue.proofs.Placed.{map_on}
-use Rattle.mscp_controller.specs.declared.entry.Sent.TheVariants as sents
 use Rattle.mscp_events.specs.declared.event.Event.{Event}
-use Rattle.mscp_events.specs.declared.event.Event.TheVariants as events
 use Rattle.mscp_controller.specs.declared.entry.Entry.{Entry}
-use Rattle.mscp_controller.specs.declared.entry.Entry.TheVariants as entries
-use Rattle.mscp_events.specs.Settings.{Settings, credits_of}
+use Rattle.mscp_events.specs.Settings.{Settings}
 use Rattle.mscp_controller.specs.History.{Trace, Moment, comes_by, takes}
 use Rattle.mscp_controller.specs.Commands.{connection, name, reference, waiting, waiting_by, ends_in}
-use Rattle.mscp_controller.specs.Ends.{answer, ends_at}
+use Rattle.mscp_controller.specs.Ends.{ends_at}
 use Rattle.mscp_controller.specs.Account.{balance, outstanding, untaken}
 use Rattle.mscp_controller.specs.Legal.{IsRight}
 use Rattle.mscp_controller.specs.Headline.{IsUntouched, LeavesOther}
@@ -31,11 +25,7 @@ use Rattle.mscp_controller.proofs.Promise.Waits.{waiting_below}
 
 -- they are two
 pub differ_sides : (a b : Connection) → b ≢ a → same_connection a b ≡ false
-differ_sides a b n =
-    let both : (q : Bool) → same_connection a b ≡ q → same_connection a b ≡ false =
-    λ q. elim q as (λ q. same_connection a b ≡ q → same_connection a b ≡ false)
-    [ true ↦ λ e. absurd (n (sym (one_side a b e))) | false ↦ λ e. e ] in
-    both (same_connection a b) refl
+differ_sides a b n = search (arith, one_side)
 
 -- the moment says nothing of the connection
 record IsForeign (c : Settings) (via : Connection) (t : Trace) (m : Moment) : Type 0 where
@@ -47,55 +37,12 @@ record IsForeign (c : Settings) (via : Connection) (t : Trace) (m : Moment) : Ty
 -- a command of the other connection isn't aborted
 unaborted : (own via : Connection) (n : Name) (other : ℕ) → same_connection own via ≡ false
     → same_connection n.connection via ≡ true → (same_connection own n.connection && nat_eq other n.reference) ≡ false
-unaborted own via n other e h =
-    ap (λ s. same_connection own s && nat_eq other n.reference) (one_side n.connection via h)
-    ∙ ap (λ b. b && nat_eq other n.reference) e
+unaborted own via n other e h = search (arith, one_side n.connection via h)
 
 foreign_sent : (c : Settings) (own via : Connection) (t : Trace) (event : Event) (entry : Entry)
     → comes_by event ≡ Some own → same_connection own via ≡ false → IsRight c t event entry
     → IsForeign c via t (event, entry)
-foreign_sent c own via t (events.Send from b) (entries.Sent to (Err fault)) f e r =
-    record { queues = refl; takes = refl; ends = refl; kept = λ n h. refl }
-foreign_sent c own via t (events.Send from b) (entries.Sent to (Ok (sents.Queued q))) f e r =
-    record {
-      queues = ap (λ s. same_connection s via) (some_same from own f) ∙ e;
-      takes = refl;
-      ends = refl;
-      kept = λ n h. refl;
-    }
-foreign_sent c own via t (events.Send from b) (entries.Sent to (Ok (sents.Answered q None))) f e r =
-    let to' : same_connection to via ≡ false = ap (λ s. same_connection s via) (r.0 ∙ some_same from own f) ∙ e in
-    record {
-      queues = refl;
-      takes = refl;
-      ends = ap (λ here. (if here then answer c via t b.items else []) ++ []) to';
-      kept = λ n h. refl;
-    }
-foreign_sent c own via t (events.Send from b) (entries.Sent to (Ok (sents.Answered q (Some other)))) f e r =
-    let to' : same_connection to via ≡ false = ap (λ s. same_connection s via) (r.0 ∙ some_same from own f) ∙ e in
-    record {
-      queues = refl;
-      takes = refl;
-      ends = ap (λ here. (if here then answer c via t b.items else []) ++ []) to';
-      kept = λ n h. unaborted to via n other to' h;
-    }
-foreign_sent c own via t (events.Take from) (entries.Taken to None) f e r =
-    record { queues = refl; takes = refl; ends = refl; kept = λ n h. refl }
-foreign_sent c own via t (events.Take from) (entries.Taken to (Some b)) f e r = record {
-  queues = refl;
-  takes = ap (λ s. same_connection s via) (r.0 ∙ some_same from own f) ∙ e;
-  ends = refl;
-  kept = λ n h. refl;
-}
-foreign_sent c own via t (events.Send from b) (entries.Taken to end) f e r = absurd r
-foreign_sent c own via t (events.Send from b) (entries.Stepped reports.Idle) f e r = absurd r
-foreign_sent c own via t (events.Send from b) (entries.Stepped (reports.Served o x u l s k z)) f e r = absurd r
-foreign_sent c own via t (events.Send from b) (entries.Looked list) f e r = absurd r
-foreign_sent c own via t (events.Take from) (entries.Sent to sent) f e r = absurd r
-foreign_sent c own via t (events.Take from) (entries.Stepped reports.Idle) f e r = absurd r
-foreign_sent c own via t (events.Take from) (entries.Stepped (reports.Served o x u l s k z)) f e r = absurd r
-foreign_sent c own via t (events.Take from) (entries.Looked list) f e r = absurd r
-foreign_sent c own via t _ entry f e r = absurd (true≢false (ap is_some (sym f)))
+foreign_sent c own via t event entry h6 h7 h8 = grind (arith, some_same, unaborted, true≢false)
 
 same_waits : (c : Settings) (via : Connection) (t : Trace) (m : Moment) → IsForeign c via t m
     → waiting_by via (t ++ m ∷ []) ≡ waiting_by via t
@@ -114,22 +61,8 @@ untouched : (c : Settings) (via : Connection) (t : Trace) (m : Moment) → Room 
     → IsUntouched c via t (t ++ m ∷ [])
 unfolding balance outstanding
 untouched c via t m room f =
-    let t' = t ++ m ∷ [] in
-    let waits = same_waits c via t m f in
-    let ends : untaken c via t' ≡ untaken c via t = untaken_more c via t m f.takes (room.taken via)
-    ∙ (ap (λ es. untaken c via t ++ es) f.ends ∙ append-nil (untaken c via t)) in
-    let below = every_kept (λ x. x < length t) (λ x. same_connection (connection t x) via) (waiting t)
-    (waiting_below t) in
-    let numbers : map (reference t') (waiting_by via t) ≡ map (reference t) (waiting_by via t) =
-    map_on (reference t') (reference t) (waiting_by via t)
-    (every_weaker (λ x. x < length t) (λ x. reference t' x ≡ reference t x)
-    (λ x l. ap (λ (k : Command). k.reference) (command_before t m x l)) (waiting_by via t) below) in
-    record {
-      balance = λ i. credits_of c via - length (waits i) - length (ends i);
-      untaken = ends;
-      outstanding = ap (λ xs. map (reference t') xs ++ map (λ (e : End). e.reference) (untaken c via t')) waits
-          ∙ (λ i. numbers i ++ map (λ (e : End). e.reference) (ends i));
-    }
+    search (arith, same_waits c via t m f, untaken_more c via t m f.takes (room.taken via), append-nil (untaken c via
+    t), waiting_below t, every_kept, map_on, every_weaker, command_before)
 
 pub leaves_other : (c : Settings) (t : Trace) (m : Moment) → IsRight c t m.0 m.1 → Room c t
     → LeavesOther c t m (t ++ m ∷ [])

@@ -1,5 +1,5 @@
 -- What a moment changes of how often each command was passed.
-use Rattle.std.proofs.Common.{◌≡◌, ◌≢◌, ℕ, ◌+◌, ◌<◌, ◌≤◌, Bool, true, false, cond, ◌&&◌, List, [], ◌∷◌, ◌++◌, refl, ap, sym, ◌∙◌, subst, arith}
+use Rattle.std.proofs.Common.{◌≡◌, ◌≢◌, ℕ, ◌+◌, ◌<◌, ◌≤◌, Bool, true, false, cond, ◌&&◌, List, [], ◌∷◌, ◌++◌, ap, sym, ◌∙◌, subst, arith}
 use Rattle.std.specs.Prelude.{nat_lt, filter, sum_by, Some}
 use Rattle.std.specs.List.{AllByRecursion}
 use Rattle.std.proofs.lemmas.List.Sums.{sum_by-cons}
@@ -7,7 +7,7 @@ use Rattle.std.proofs.lemmas.Bool.{lt-ltb, le-ltb, and_left, and_right}
 use Rattle.mscp_events.specs.declared.block.Block.{Block}
 use Rattle.mscp_events.specs.Settings.{Settings}
 use Rattle.mscp_controller.specs.History.{Trace, Moment, Service, service_in}
-use Rattle.mscp_controller.specs.Commands.{name, waiting, later, starts_in, service_name, service_starts}
+use Rattle.mscp_controller.specs.Commands.{name, waiting, later, starts_in, service_name}
 use Rattle.mscp_controller.specs.Passing.{charge, is_unstarted, passed_at, passed}
 use Rattle.mscp_queue.specs.declared.name.Name.{Name}
 use Rattle.mscp_queue.proofs.Named.{is_differ, is_same}
@@ -28,38 +28,28 @@ starters_at t m x = filter_filter (λ z. starts_in (name t z) m.1) (λ z. nat_lt
 passed_by_starters : (t : Trace) (m : Moment) (x : ℕ) (ys : List ℕ) → starters t m x ≡ ys
     → passed (t ++ m ∷ []) x ≡ passed t x + cond (is_unstarted t x) (sum_by (charge t) ys) 0
 unfolding passed_at
-passed_by_starters t m x ys e =
-    passed_more t m x ∙ ap (λ l. passed t x + cond (is_unstarted t x) (sum_by (charge t) l) 0) e
+passed_by_starters t m x ys e = search (arith, passed_more t m x)
 
 unpassed : (t : Trace) (m : Moment) (x : ℕ) → starters t m x ≡ [] → passed (t ++ m ∷ []) x ≡ passed t x
-unpassed t m x e =
-    let z : ℕ = 0 in
-    let none : cond (is_unstarted t x) z z ≡ z = elim (is_unstarted t x) as (λ b. cond b z z ≡ z)
-    [ true ↦ refl | false ↦ refl ] in
-    passed_by_starters t m x [] e ∙ (ap (λ n. passed t x + n) none ∙ omega arith)
+unpassed t m x e = search (arith, passed_by_starters t m x [] e)
 
 -- Where nobody starts, nobody is passed.
 pub none_starts : (t : Trace) (m : Moment) (x : ℕ) → ((r : Name) → starts_in r m.1 ≡ false)
     → passed (t ++ m ∷ []) x ≡ passed t x
-none_starts t m x f = unpassed t m x (filter_none (λ z. starts_in (name t z) m.1) (later t x)
-    (every_from (λ z. starts_in (name t z) m.1 ≡ false) (λ z. f (name t z)) (later t x)))
+none_starts t m x f = search (arith, unpassed, filter_none, every_from)
 
 starts_other : (t : Trace) (m : Moment) (s : Service) (y z : ℕ) → service_in m.1 ≡ Some s → service_name s ≡ name t y
     → name t z ≢ name t y → starts_in (name t z) m.1 ≡ false
-starts_other t m s y z e r n = ap (service_starts (name t z)) e
-    ∙ ap (λ b. b && s.started) (is_differ (service_name s) (name t z) (λ h. n (sym h ∙ r)))
+starts_other t m s y z e r n = search (arith, is_differ)
 
 starts_own : (t : Trace) (m : Moment) (s : Service) (y : ℕ) → service_in m.1 ≡ Some s → service_name s ≡ name t y
     → s.started ≡ true → starts_in (name t y) m.1 ≡ true
-starts_own t m s y e r h = ap (service_starts (name t y)) e
-    ∙ (ap (λ b. b && s.started) (is_same (service_name s) (name t y) r) ∙ h)
+starts_own t m s y e r h = search (arith, is_same (service_name s) (name t y) r)
 
 behind_other : (t : Trace) (m : Moment) (s : Service) (x y : ℕ) → service_in m.1 ≡ Some s → service_name s ≡ name t y
     → (xs : List ℕ) → AllByRecursion (λ z. name t z ≢ name t y) xs
     → AllByRecursion (λ z. starts_behind t m x z ≡ false) xs
-behind_other t m s x y e r xs h =
-    every_weaker (λ z. name t z ≢ name t y) (λ z. starts_behind t m x z ≡ false)
-    (λ z n. and_right (nat_lt x z) (starts_in (name t z) m.1) (starts_other t m s y z e r n)) xs h
+behind_other t m s x y e r xs h = search (arith, every_weaker, and_right, starts_other)
 
 -- A command that isn't earlier than y isn't passed by a step of y.
 pub passed_behind : (c : Settings) (t : Trace) (m : Moment) (s : Service) (k : Block) (y : ℕ) (front back : List ℕ)
@@ -88,6 +78,4 @@ passed_front c t m s k y front back st e x h u =
     starters_at t m x ∙ (ap (filter (starts_behind t m x)) a.at.is
     ∙ filter_one (starts_behind t m x) front y back (behind_other t m s x y st.serves.is st.serves.same front a.before)
     own (behind_other t m s x y st.serves.is st.serves.same back a.behind)) in
-    passed_by_starters t m x (y ∷ []) one
-    ∙ (ap (λ b. passed t x + cond b (sum_by (charge t) (y ∷ [])) 0) u
-    ∙ ap (λ n. passed t x + n) (sum_by-cons (charge t) y [] ∙ omega arith))
+    search (arith, passed_by_starters t m x (y ∷ []) one, sum_by-cons (charge t) y [])

@@ -1,6 +1,6 @@
 -- Each legal trace keeps its promise.
-use Rattle.std.proofs.Common.{◌≡◌, ◌≢◌, ℕ, zero, suc, ◌+◌, ◌<◌, ◌≤◌, Bool, true, false, cond, List, [], ◌∷◌, ◌++◌, take, get_or, length, refl, ap, sym, ◌∙◌, subst, append-nil, arith}
-use Rattle.std.specs.Prelude.{filter, if◌then◌else◌, Option, Some, None, Contains, Ok}
+use Rattle.std.proofs.Common.{◌≡◌, ◌≢◌, ℕ, zero, suc, ◌+◌, ◌<◌, ◌≤◌, Bool, true, false, cond, List, [], ◌∷◌, ◌++◌, take, get_or, length, sym, ◌∙◌, subst, append-nil, arith}
+use Rattle.std.specs.Prelude.{filter, Some, Contains}
 use Rattle.std.proofs.lemmas.Bool.{false≢true}
 use Rattle.mscp_controller.proofs.Promise.Alone.{oldest_starts, one_served}
 use Rattle.mscp_controller.proofs.Promise.Shaped.{shaped}
@@ -8,19 +8,15 @@ use Rattle.mscp_controller.proofs.Promise.Grows.{ends_more}
 use Rattle.std.specs.List.{AllByRecursion, range_with_len}
 use Rattle.std.proofs.lemmas.List.Elements.{All-contains, All-from_recursion}
 use Rattle.mscp_packet.specs.declared.command.Command.{Command}
-use Rattle.mscp_packet.specs.declared.command.Order.{Order}
 use Rattle.mscp_packet.specs.declared.command.Order.TheVariants as orders
 use Rattle.mscp_events.specs.declared.event.Event.{Event}
 use Rattle.mscp_controller.specs.declared.entry.Entry.{Entry}
-use Rattle.mscp_controller.specs.declared.entry.Entry.TheVariants as entries
-use Rattle.mscp_controller.specs.declared.entry.Sent.TheVariants as sents
 use Rattle.mscp_events.specs.Settings.{Settings, IsValid, bound}
 use Rattle.mscp_controller.specs.History.{Trace, Moment, answers, moment, positions, sent_bytes, Service, service_in, WhenStarted}
 use Rattle.mscp_controller.specs.Commands.{name, sent_command, weight, is_waiting, waiting, done, left, steps_after, service_name}
 use Rattle.mscp_controller.specs.Passing.{passed, is_free}
 use Rattle.mscp_controller.specs.Figures.{figure, figure_of}
 use Rattle.mscp_controller.specs.Ends.{answer, answer_to, ends_at}
-use Rattle.mscp_controller.specs.Account.{ends}
 use Rattle.mscp_controller.specs.Legal.{IsRight, IsLegal}
 use Rattle.mscp_controller.specs.Headline.{IsFreeStart, LeavesOther, Promise, TellsFigure, poll_end}
 use Rattle.mscp_events.specs.declared.connection.Connection.{Connection}
@@ -51,18 +47,12 @@ free_start c t m s r steady e started x w same =
     let free = (startable_parts c t y (startable_of c t z.0 s y st.served started)).free in
     let P : ℕ → Type 0 = λ x. name t x ≡ service_name s → is_free t x ≡ true in
     let other : (x : ℕ) → name t x ≢ name t y → P x = λ x n h. absurd (n (h ∙ st.serves.same)) in
-    let each : AllByRecursion P (waiting t) = subst (AllByRecursion P) (sym st.serves.among.at.is)
-    (every_append P z.2 (y ∷ z.3) (every_weaker (λ x. name t x ≢ name t y) P other z.2 st.serves.among.before)
-    ((λ h. free), every_weaker (λ x. name t x ≢ name t y) P other z.3 st.serves.among.behind)) in
+    let each : AllByRecursion P (waiting t) = search (arith, every_append, every_weaker) in
     one_of P (waiting t) each x w same
 
 free_starts : (c : Settings) (t : Trace) (m : Moment) → IsRight c t m.0 m.1 → Steady c t
     → WhenStarted (IsFreeStart t) (service_in m.1)
-free_starts c t m r steady =
-    let both : (o : Option Service) → service_in m.1 ≡ o → WhenStarted (IsFreeStart t) o =
-    λ o. elim o as (λ o. service_in m.1 ≡ o → WhenStarted (IsFreeStart t) o)
-    [ None ↦ λ e. tt | Some s ↦ λ e. free_start c t m s r steady e ] in
-    both (service_in m.1) refl
+free_starts c t m r steady = search (arith, free_start)
 
 -- ---- who waits
 
@@ -72,27 +62,24 @@ there y x xs h = let l = h.1 in (suc h.0, omega arith, h.2)
 kept_in : (p : ℕ → Bool) (xs : List ℕ) (x k : ℕ) → k < length xs → get_or xs k x ≡ x → p x ≡ true
     → Contains (filter p xs) x
 kept_in p [] x k l is e = absurd (omega arith)
-kept_in p (y ∷ ys) x zero l is e = subst (λ l. Contains l x)
-    (sym (ap (λ b. cond b (y ∷ filter p ys) (filter p ys)) (ap p is ∙ e))) (0, omega arith, is)
+kept_in p (y ∷ ys) x zero l is e = search arith
 kept_in p (y ∷ ys) x (suc k) l is e =
     let rest = kept_in p ys x k (omega arith) is e in
     elim (p y) as (λ b. Contains (cond b (y ∷ filter p ys) (filter p ys)) x)
     [ true ↦ there y x (filter p ys) rest | false ↦ rest ]
 
 in_range : (a n i : ℕ) → i < n → Contains (range_with_len a n) (a + i)
-in_range a zero i h = absurd (omega arith)
-in_range a (suc n) zero h = (0, omega arith, omega arith)
 in_range a (suc n) (suc i) h =
     let e : a + 1 + i ≡ a + suc i = omega arith in
     subst (λ x. Contains (range_with_len a (suc n)) x) e
     (there a (a + 1 + i) (range_with_len (a + 1) n) (in_range (a + 1) n i (omega arith)))
+in_range a n i h3 = grind arith
 
 pub waits_in : (t : Trace) (x : ℕ) → is_waiting t x ≡ true → Contains (waiting t) x
 unfolding waiting
 waits_in t x e =
     let z : 0 + x ≡ x = omega arith in
-    let h : Contains (positions t) x = subst (λ y. Contains (positions t) y) z
-    (in_range 0 (length t) x (waits_below t x e)) in
+    let h : Contains (positions t) x = search (arith, in_range 0 (length t) x (waits_below t x e), waits_below t x e) in
     kept_in (is_waiting t) (positions t) x h.0 h.1 h.2 e
 
 -- ---- the size of figures
@@ -111,31 +98,17 @@ high : (c : Settings) (t : Trace) → Known c t → (x : ℕ) → Contains (wait
 high c t k x h = one_of (λ x. figure c t x + steps_after t x ≤ bound c) (waiting t) k.within x h
 
 some_waits : (c : Settings) (t : Trace) (x : ℕ) → 1 ≤ figure c t x → Contains (waiting t) x
-some_waits c t x h =
-    let both : (b : Bool) → is_waiting t x ≡ b → Contains (waiting t) x =
-    λ b. elim b as (λ b. is_waiting t x ≡ b → Contains (waiting t) x)
-    [ true ↦ λ e. waits_in t x e | false ↦ λ e. absurd (omega (arith, h, figure_gone c t x e)) ] in
-    both (is_waiting t x) refl
+some_waits c t x h = search (arith, waits_in, figure_gone)
 
 small : (c : Settings) (t : Trace) → Known c t → (x : ℕ) → figure c t x ≤ bound c
-small c t k x =
-    let both : (b : Bool) → is_waiting t x ≡ b → figure c t x ≤ bound c =
-    λ b. elim b as (λ b. is_waiting t x ≡ b → figure c t x ≤ bound c) [
-      | true ↦ λ e. let h = high c t k x (waits_in t x e) in
-          omega (arith, h)
-      | false ↦ λ e. omega (arith, figure_gone c t x e)
-    ] in
-    both (is_waiting t x) refl
+small c t k x = search (arith, high, waits_in, figure_gone)
 
 -- ---- polls
 
 -- a poll's own end is its only one
 answered_by : (c : Settings) (via : Connection) (t : Trace) (k : Command) (r : ℕ) → k.order ≡ orders.Status r
     → answer_to c via t k ≡ poll_end k r (figure_of c t (name_on via r)) ∷ []
-answered_by c via t k r e =
-    let with_order : Order → Command = λ o. record { reference = k.reference; unit = k.unit; order = o } in
-    ap (λ o. answer_to c via t (with_order o)) e
-    ∙ ap (λ o. poll_end (with_order o) r (figure_of c t (name_on via r)) ∷ []) (sym e)
+answered_by c via t k r e = search arith
 
 figure_told : (c : Settings) (t : Trace) → Steady c t → (x : ℕ) → Contains (waiting t) x
     → figure_of c t (name t x) ≡ figure c t x
@@ -147,16 +120,12 @@ figure_told c t steady x w =
 -- what is answered at once makes the ends of its answer
 ends_answered : (c : Settings) (via : Connection) (t : Trace) (event : Event) (entry : Entry)
     → answers via entry ≡ true → ends_at c via t (event, entry) ≡ answer c via t (sent_bytes event)
-ends_answered c via t event (entries.Sent other (Ok (sents.Answered r aborted))) h =
-    let own = answer c via t (sent_bytes event) in
-    ap (λ b. (if b then own else []) ++ []) h ∙ append-nil own
-ends_answered c via t event _ h = absurd (false≢true h)
+ends_answered c via t event entry h5 = grind (arith, append-nil, false≢true)
 
 told : (c : Settings) (t : Trace) (m : Moment) → TellsFigure c t m (t ++ m ∷ [])
 unfolding answer
 told c t m via r a e =
-    ends_more c via t m
-    ∙ ap (λ l. ends c via t ++ l) (ends_answered c via t m.0 m.1 a ∙ answered_by c via t (sent_command m) r e)
+    search (arith, ends_more c via t m, ends_answered c via t m.0 m.1 a, answered_by c via t (sent_command m) r e)
 
 -- ---- the promise
 

@@ -1,10 +1,9 @@
 -- A command that is queued is no longer than may be, and leaves a credit.
-use Rattle.std.proofs.Common.{◌≡◌, ◌≢◌, ℕ, ◌+◌, ◌<◌, ◌≤◌, Bool, true, false, cond, not, ◌&&◌, List, [], ◌∷◌, ◌++◌, length, refl, ap, sym, ◌∙◌, subst, arith}
-use Rattle.std.specs.Prelude.{nat_eq, nat_lt, nat_le, filter, if◌then◌else◌, slice_index, Option, Some, None, is_some, is_none}
+use Rattle.std.proofs.Common.{◌≡◌, ◌≢◌, ℕ, ◌<◌, ◌≤◌, Bool, true, false, not, ◌&&◌, List, [], ◌∷◌, ◌++◌, length, sym, subst, arith}
+use Rattle.std.specs.Prelude.{nat_eq, if◌then◌else◌, slice_index, Option, None, is_none}
 use Rattle.std.specs.List.{AllByRecursion}
 use Rattle.std.proofs.lemmas.Bool.{ltb-false, eqb-false, true≢false, false≢true}
 use Rattle.mscp_packet.specs.declared.class.Opcode.{Opcode}
-use Rattle.mscp_packet.specs.declared.class.Opcode.TheVariants as codes
 use Rattle.mscp_packet.specs.declared.command.Command.{Command}
 use Rattle.mscp_packet.specs.declared.command.Order.{Order}
 use Rattle.mscp_packet.specs.declared.command.Order.TheVariants as orders
@@ -12,14 +11,13 @@ use Rattle.mscp_packet.specs.Number.{num}
 use Rattle.mscp_packet.specs.Opcodes.{opcode_of, class_of_opcode, class, is_immediate_class}
 use Rattle.mscp_packet.specs.Commands.{order_with, command_of}
 use Rattle.mscp_drive.specs.Shape.{Shape}
-use Rattle.mscp_drive.specs.Extent.{blocks}
 use Rattle.mscp_drive.specs.Extent as extent
 use Rattle.mscp_events.specs.declared.connection.Connection.{Connection}
-use Rattle.mscp_events.specs.Settings.{Settings, unit_found}
+use Rattle.mscp_events.specs.Settings.{Settings}
 use Rattle.mscp_controller.specs.Arrival.{move_fault, order_fault, fault_of, is_immediate, is_queued}
 use Rattle.mscp_queue.specs.Orders.{order_weight}
-use Rattle.mscp_controller.specs.History.{Trace, Moment, queues, sent_bytes}
-use Rattle.mscp_controller.specs.Commands.{command, name, weight, waiting, ends_in}
+use Rattle.mscp_controller.specs.History.{Trace, Moment}
+use Rattle.mscp_controller.specs.Commands.{command, weight, waiting}
 use Rattle.mscp_controller.specs.Account.{balance}
 use Rattle.mscp_controller.specs.Legal.{IsRight}
 use Rattle.mscp_queue.proofs.Lists.{every_kept, every_append}
@@ -28,8 +26,7 @@ use Rattle.mscp_controller.proofs.Promise.Waits.{waiting_below}
 use Rattle.mscp_controller.proofs.Promise.Arrivals.{Queues, queued_right, if_none}
 
 none_of : {X : Type 0} (o : Option X) → is_none o ≡ true → o ≡ None
-none_of None h = refl
-none_of (Some x) h = absurd (false≢true h)
+none_of o h1 = grind (arith, false≢true)
 
 -- an order that isn't refused and isn't immediate
 pub record IsOpen (c : Settings) (k : Command) : Type 0 where
@@ -37,17 +34,7 @@ pub record IsOpen (c : Settings) (k : Command) : Type 0 where
   pub sound : fault_of c k ≡ None
 
 pub queued_open : (c : Settings) (k : Command) → is_queued c k ≡ true → IsOpen c k
-queued_open c k h =
-    let both : (b : Bool) → is_immediate k.order ≡ b → IsOpen c k =
-    λ b. elim b as (λ b. is_immediate k.order ≡ b → IsOpen c k) [
-      | true ↦ λ e. absurd (false≢true (sym (ap (λ b. if b then false else is_none (fault_of c k)) e) ∙ h))
-      | false ↦ λ e. record {
-        waits = e;
-        sound = none_of (fault_of c k)
-            (sym (ap (λ b. if b then false else is_none (fault_of c k)) e) ∙ h);
-      }
-    ] in
-    both (is_immediate k.order) refl
+queued_open c k h = search (arith, false≢true, none_of)
 
 -- ---- lengths
 
@@ -57,18 +44,10 @@ Short c t xs = AllByRecursion (λ x. weight t x ≤ c.longest) xs
 
 move_short : (c : Settings) (count block : ℕ) (o : Option Shape) → move_fault c count block o ≡ None
     → extent.weight count ≤ c.longest
-move_short c count block None h = absurd (true≢false (ap is_some h))
-move_short c count block (Some unit) h =
-    let long = nat_lt c.longest (extent.weight count) in
-    let last : Option ℕ = if long then Some 0x0C01 else None in
-    let past = nat_lt unit.size (block + blocks count) in
-    let e = if_none (nat_le unit.size block) 0x1C01 (if past then Some 0x0C01 else last) h in
-    let f = if_none past 0x0C01 last e.1 in
-    ltb-false c.longest (extent.weight count) (if_none long 0x0C01 None f.1).0
+move_short c count block o h4 = grind (arith, true≢false, if_none, ltb-false)
 
 order_short : (c : Settings) (u : ℕ) (o : Order) → 1 ≤ c.longest → order_fault c u o ≡ None → order_weight o ≤ c.longest
-order_short c u (orders.Move kind count block) l h = move_short c count block (unit_found c u) h
-order_short c u o l h = l
+order_short c u o h3 h4 = grind (arith, move_short)
 
 -- a queued command is no longer than the longest
 pub queued_short : (c : Settings) (k : Command) → 1 ≤ c.longest → is_queued c k ≡ true
@@ -88,23 +67,8 @@ pub each_queued : (c : Settings) (P : Command → Type 0) → ((k : Command) →
     → AllByRecursion (λ x. P (command t x)) (waiting t)
     → AllByRecursion (λ x. P (command (t ++ m ∷ []) x)) (waiting (t ++ m ∷ []))
 each_queued c P each t m r h =
-    let t' = t ++ m ∷ [] in
-    let Q : ℕ → Type 0 = λ x. P (command t' x) in
-    let keep : ℕ → Bool = λ x. not (ends_in (name t x) m.1) in
-    let kept = filter keep (waiting t) in
-    let old = same_each P t m kept (every_kept (λ x. x < length t) keep (waiting t) (waiting_below t))
-    (every_kept (λ x. P (command t x)) keep (waiting t) h) in
-    let both : (b : Bool) → queues m.1 ≡ b → AllByRecursion Q (cond b (length t ∷ []) []) =
-    λ b. elim b as (λ b. queues m.1 ≡ b → AllByRecursion Q (cond b (length t ∷ []) [])) [
-      | true ↦ λ e. (
-        subst P (sym (command_last t m))
-            (each (command_of (sent_bytes m.0)) (queued_right c t m.0 m.1 e r).waits),
-        tt,
-      )
-      | false ↦ λ e. tt
-    ] in
-    subst (AllByRecursion Q) (sym (waiting_more t m))
-    (every_append Q kept (cond (queues m.1) (length t ∷ []) []) old (both (queues m.1) refl))
+    search (arith, waiting_below t, command_last t m, waiting_more t m, not, same_each, every_kept, queued_right,
+    every_append)
 
 -- Each right moment keeps it that no waiting command is longer than the longest.
 pub short_more : (c : Settings) (t : Trace) (m : Moment) → 1 ≤ c.longest → IsRight c t m.0 m.1 → Short c t (waiting t)
@@ -117,21 +81,11 @@ short_more c t m l r h = each_queued c (λ k. order_weight k.order ≤ c.longest
 long_enough : (c : Settings) (u : ℕ) (short : Bool) (byte : ℕ) (o : Order)
     → is_immediate (if short then orders.Invalid byte 0x0001 else o) ≡ false
     → order_fault c u (if short then orders.Invalid byte 0x0001 else o) ≡ None → is_immediate o ≡ false
-long_enough c u true byte o i h = absurd (true≢false (ap is_some h))
-long_enough c u false byte o i h = i
+long_enough c u short byte o h5 h6 = grind (arith, true≢false)
 
 class_with : (c : Settings) (u : ℕ) (o : Option Opcode) (b : List ℕ) → is_immediate (order_with o b) ≡ false
     → order_fault c u (order_with o b) ≡ None → is_immediate_class (class_of_opcode o) ≡ false
-class_with c u None b i h = refl
-class_with c u (Some codes.Abort) b i h = long_enough c u (nat_lt (length b) 16) (slice_index b 8)
-    (orders.Abort (num b 12 4)) i h
-class_with c u (Some codes.Status) b i h = long_enough c u (nat_lt (length b) 16) (slice_index b 8)
-    (orders.Status (num b 12 4)) i h
-class_with c u (Some codes.UnitStatus) b i h = long_enough c u (nat_lt (length b) 12) (slice_index b 8)
-    orders.UnitStatus i h
-class_with c u (Some codes.SetController) b i h = long_enough c u (nat_lt (length b) 14) (slice_index b 8)
-    (orders.SetController (num b 12 2)) i h
-class_with c u (Some opcode) b i h = refl
+class_with c u o b h4 h5 = grind (arith, long_enough)
 
 class_queued : (c : Settings) (b : List ℕ) → IsOpen c (command_of b)
     → is_immediate_class (class (slice_index b 8)) ≡ false
@@ -139,14 +93,7 @@ unfolding command_of
 class_queued c b k = class_with c (num b 4 2) (opcode_of (slice_index b 8)) b k.waits k.sound
 
 two_of : (n : ℕ) (immediate : Bool) → immediate ≡ false → n ≢ 0 → (nat_eq n 1 && not immediate) ≡ false → 2 ≤ n
-two_of n true i z h = absurd (true≢false i)
-two_of n false i z h =
-    let both : (b : Bool) → nat_eq n 1 ≡ b → (b && true) ≡ false → 2 ≤ n =
-    λ b. elim b as (λ b. nat_eq n 1 ≡ b → (b && true) ≡ false → 2 ≤ n) [
-      | true ↦ λ e k. absurd (true≢false k)
-      | false ↦ λ e k. let one : n ≢ 1 = eqb-false n 1 e in omega (arith, one, z)
-    ] in
-    both (nat_eq n 1) refl h
+two_of n immediate h2 h3 h4 = grind (arith, true≢false, eqb-false)
 
 -- Where a command is queued, two credits are free.
 pub two_free : (c : Settings) (via : Connection) (t : Trace) (b : List ℕ) → Queues c via t b → 2 ≤ balance c via t

@@ -1,6 +1,6 @@
 -- The commands and the untaken ends of each connection never exceed its credits, and one credit of it is kept.
-use Rattle.std.proofs.Common.{◌≡◌, ℕ, ◌+◌, ◌-◌, ◌<◌, ◌≤◌, Bool, true, false, cond, not, ◌&&◌, List, [], ◌∷◌, ◌++◌, map, length, refl, ap, sym, subst, ◌∙◌, arith, append-nil}
-use Rattle.std.specs.Prelude.{filter, nat_eq, if◌then◌else◌, count_by, slice_get, Option, Some, None, is_some, option_map, option_to_list, Ok, Err}
+use Rattle.std.proofs.Common.{◌≡◌, ℕ, ◌+◌, ◌-◌, ◌<◌, ◌≤◌, Bool, true, false, cond, not, ◌&&◌, List, [], ◌∷◌, ◌++◌, length, refl, ap, sym, subst, ◌∙◌, arith, append-nil}
+use Rattle.std.specs.Prelude.{filter, if◌then◌else◌, count_by, slice_get, Option, Some, is_some, option_map, option_to_list, Ok, Err}
 use Rattle.std.specs.List.{AllByRecursion}
 use Rattle.std.proofs.lemmas.List.{length-append, length-map, length-drop}
 use Rattle.std.proofs.lemmas.List.Elements.{filter-append}
@@ -8,15 +8,12 @@ use Rattle.std.proofs.lemmas.Bool.{true≢false, false≢true}
 use Rattle.arrayvec.specs.ArrayVec.{ArrayVec}
 use Rattle.mscp_packet.specs.declared.command.Command.{Command}
 use Rattle.mscp_packet.specs.declared.command.Order.{Order}
-use Rattle.mscp_packet.specs.declared.command.Order.TheVariants as orders
-use Rattle.mscp_packet.specs.declared.end.End.{End}
 use Rattle.mscp_packet.specs.Commands.{command_of}
 use Rattle.mscp_packet.specs.Ends.{end_bytes}
 use Rattle.mscp_events.specs.declared.connection.Connection.{Connection}
 use Rattle.mscp_queue.specs.declared.name.Name.{Name}
 use Rattle.mscp_queue.specs.declared.report.Report.TheVariants as reports
 use Rattle.mscp_queue.specs.Names.{name_on, same_connection, same_name}
-use Rattle.mscp_queue.specs.Outcomes.{aborted_end}
 use Rattle.mscp_queue.proofs.Named.{is_same, one_side, own_side, same_is}
 use Rattle.mscp_queue.proofs.Lists.{fewer, every_weaker, every_filter, every_from, filter_filter, filter_on}
 use Rattle.mscp_controller.specs.declared.entry.Sent.{Sent}
@@ -28,7 +25,7 @@ use Rattle.mscp_controller.specs.declared.entry.Entry.TheVariants as entries
 use Rattle.mscp_events.specs.Settings.{Settings, credits_of, room_of}
 use Rattle.mscp_controller.specs.Arrival.{fault_of, is_queued}
 use Rattle.mscp_controller.specs.History.{Trace, Moment, collect, sent_bytes, takes, Service, service_in}
-use Rattle.mscp_controller.specs.Commands.{command, connection, name, reference, service_name, waiting, waiting_by, good, ends_in, aborts}
+use Rattle.mscp_controller.specs.Commands.{command, connection, name, reference, service_name, waiting, waiting_by, ends_in, aborts}
 use Rattle.mscp_controller.specs.Ends.{aborted, aborted_unless, answer, ends_at, named}
 use Rattle.mscp_controller.specs.Account.{ends, untaken, balance}
 use Rattle.mscp_controller.specs.Credits.{aborted_reference, arrival}
@@ -52,34 +49,18 @@ pub record Room (c : Settings) (t : Trace) : Type 0 where
 two_filters : (p q : ℕ → Bool) (xs : List ℕ) → AllByRecursion (λ x. q x ≡ true → p x ≡ false) xs
     → length (filter p xs) + length (filter q xs) ≤ length xs
 two_filters p q [] h = omega arith
-two_filters p q (x ∷ xs) h =
-    let rest = two_filters p q xs h.1 in
-    let both : (b : Bool) → q x ≡ b → length (cond (p x) (x ∷ filter p xs) (filter p xs))
-    + length (cond b (x ∷ filter q xs) (filter q xs)) ≤ length (x ∷ xs) =
-    λ b. elim b as (λ b. q x ≡ b → length (cond (p x) (x ∷ filter p xs) (filter p xs))
-    + length (cond b (x ∷ filter q xs) (filter q xs)) ≤ length (x ∷ xs)) [
-      | true ↦ λ e. omega (arith, rest, ap (λ b. length (cond b (x ∷ filter p xs) (filter p xs))) (h.0 e))
-      | false ↦ λ e. elim (p x) as (λ b. length (cond b (x ∷ filter p xs) (filter p xs)) + length (filter q xs)
-          ≤ length (x ∷ xs)) [ true ↦ omega (arith, rest) | false ↦ omega (arith, rest) ]
-    ] in
-    both (q x) refl
+two_filters p q (x ∷ xs) h = search (arith, two_filters p q xs h.1)
 
 -- ---- what is aborted no longer waits
 
 -- the commands that an order names are of its connection
 own_and : (a b : Bool) → (a && (a && b)) ≡ (a && b)
-own_and true b = refl
-own_and false b = refl
+own_and a b = grind arith
 
 named_by : (via : Connection) (t : Trace) (other : ℕ)
     → filter (λ x. same_name (name t x) (name_on via other)) (waiting t)
     ≡ filter (λ x. same_name (name t x) (name_on via other)) (waiting_by via t)
-named_by via t other =
-    let p : ℕ → Bool = λ x. same_name (name t x) (name_on via other) in
-    let on : ℕ → Bool = λ x. same_connection (connection t x) via in
-    filter_on p (λ x. on x && p x) (waiting t)
-    (every_from (λ x. p x ≡ (on x && p x)) (λ x. sym (own_and (on x) (nat_eq (reference t x) other))) (waiting t))
-    ∙ sym (filter_filter p on (waiting t))
+named_by via t other = search (arith, filter_on, every_from, own_and, filter_filter)
 
 -- the answer to a message that aborts the command of this reference number, or none
 abbrev Answer : Connection → ℕ → Option ℕ → Entry
@@ -90,8 +71,7 @@ named_rest : (via : Connection) (t : Trace) (q other : ℕ) (a : Option ℕ) (xs
     → a ≡ option_map (reference t) (slice_get xs 0)
     → length (filter (λ x. not (aborts (name t x) (Answer via q a))) (waiting_by via t)) + length xs
     ≤ length (waiting_by via t)
-named_rest via t q other a [] e first =
-    omega (arith, fewer (λ x. not (aborts (name t x) (Answer via q a))) (waiting_by via t))
+named_rest via t q other a [] e first = search (arith, fewer, not)
 named_rest via t q other a (y ∷ ys) e first =
     let W = waiting_by via t in
     let p : ℕ → Bool = λ x. same_name (name t x) (name_on via other) in
@@ -114,31 +94,18 @@ none_rest via t q a = omega (arith, fewer (λ x. not (aborts (name t x) (Answer 
 rest_of : (via : Connection) (t : Trace) (q : ℕ) (o : Order) (f : Option ℕ) (a : Option ℕ) → named via t o ≡ []
     → length (filter (λ x. not (aborts (name t x) (Answer via q a))) (waiting_by via t))
     + length (aborted_unless via t o f) ≤ length (waiting_by via t)
-rest_of via t q o None a e = omega (arith, none_rest via t q a, ap length e)
-rest_of via t q o (Some fault) a e = none_rest via t q a
+rest_of via t q o f a h6 = grind (arith, none_rest)
 
 aborted_rest : (via : Connection) (t : Trace) (q : ℕ) (o : Order) (f : Option ℕ) (a : Option ℕ)
     → a ≡ option_map (reference t) (slice_get (aborted_unless via t o f) 0)
     → length (filter (λ x. not (aborts (name t x) (Answer via q a))) (waiting_by via t))
     + length (aborted_unless via t o f) ≤ length (waiting_by via t)
-aborted_rest via t q (orders.Abort other) None a e =
-    named_rest via t q other a (aborted_unless via t (orders.Abort other) None) refl e
-aborted_rest via t q (orders.Abort other) (Some fault) a e = none_rest via t q a
-aborted_rest via t q (orders.Status other) f a e = rest_of via t q (orders.Status other) f a refl
-aborted_rest via t q orders.UnitStatus f a e = rest_of via t q orders.UnitStatus f a refl
-aborted_rest via t q (orders.SetController version) f a e = rest_of via t q (orders.SetController version) f a refl
-aborted_rest via t q orders.Available f a e = rest_of via t q orders.Available f a refl
-aborted_rest via t q orders.Online f a e = rest_of via t q orders.Online f a refl
-aborted_rest via t q orders.SetUnit f a e = rest_of via t q orders.SetUnit f a refl
-aborted_rest via t q (orders.Move kind n block) f a e = rest_of via t q (orders.Move kind n block) f a refl
-aborted_rest via t q (orders.Invalid opcode status) f a e = rest_of via t q (orders.Invalid opcode status) f a refl
+aborted_rest via t q o f a h6 = grind (arith, named_rest, none_rest, rest_of)
 
 answered_length : (c : Settings) (via : Connection) (t : Trace) (b : List ℕ)
     → length (answer c via t b) ≡ length (aborted c via t (command_of b)) + 1
 unfolding answer
-answered_length c via t b =
-    length-append (map (λ x. aborted_end (command t x) (good t x)) (aborted c via t (command_of b))) _
-    ∙ ap (λ n. n + 1) (length-map (aborted c via t (command_of b)) (λ x. aborted_end (command t x) (good t x)))
+answered_length c via t b = search (arith, length-append, length-map)
 
 -- ---- what each moment leaves
 
@@ -151,14 +118,7 @@ pub record Fits (c : Settings) (via : Connection) (t : Trace) (m : Moment) : Typ
 -- a moment that queues nothing of the connection and makes no end of it
 still : (c : Settings) (via : Connection) (t : Trace) (m : Moment) → Room c t → queues_by via m ≡ false
     → ends_at c via t m ≡ [] → Fits c via t m
-still c via t m h q e =
-    let room = h.room via in
-    let spare = h.spare via in
-    let keep : ℕ → Bool = λ x. not (ends_in (name t x) m.1) in
-    let few = fewer keep (waiting_by via t) in
-    let more = waiting_by_length via t m ∙ ap (λ b. length (filter keep (waiting_by via t))
-    + length (cond b (length t ∷ []) [])) q in
-    record { room = omega (arith, room, ap length e, more, few); spare = omega (arith, spare, more, few) }
+still c via t m h q e = search (arith, waiting_by_length via t m, not, fewer)
 
 balance_some : (c : Settings) (via : Connection) (t : Trace) → (balance c via t ≡ 0 → ⊥)
     → length (waiting_by via t) + length (untaken c via t) + 1 ≤ credits_of c via
@@ -171,32 +131,24 @@ unfolding balance
 balance_two c via t h = omega (arith, h)
 
 is_answer : Sent → Bool
-is_answer (sents.Queued r) = false
-is_answer (sents.Answered r a) = true
+is_answer h0 = grind arith
 
 aborted_of : Sent → Option ℕ
-aborted_of (sents.Queued r) = None
-aborted_of (sents.Answered r a) = a
+aborted_of h0 = grind arith
 
 taken_as_answer : (c : Settings) (via : Connection) (t : Trace) (command : Command) (q : Bool) (r : ℕ) (a : Option ℕ)
     → sents.Answered r a ≡ taken_when c via t command q → a ≡ aborted_reference c via t command
 unfolding is_answer aborted_of
-taken_as_answer c via t command true r a e = absurd (true≢false (ap is_answer e))
-taken_as_answer c via t command false r a e = ap aborted_of e
+taken_as_answer c via t command q r a h7 = grind (arith, true≢false, is_answer, aborted_of)
 
 -- ---- a step
 
 -- one less passes the test, where one of them fails it
 one_fewer : (p : ℕ → Bool) (A : List ℕ) (y : ℕ) (B : List ℕ) → p y ≡ false
     → length (filter p (A ++ y ∷ B)) + 1 ≤ length (A ++ y ∷ B)
-one_fewer p A y B e = omega (
-  arith,
-  ap length (filter-append p A (y ∷ B) ∙ ap (λ b. filter p A ++ cond b (y ∷ filter p B) (filter p B)) e),
-  length-append (filter p A) (filter p B),
-  length-append A (y ∷ B),
-  fewer p A,
-  fewer p B,
-)
+one_fewer p A y B e =
+    search (arith, filter-append p A (y ∷ B), length-append (filter p A) (filter p B), length-append A (y ∷ B), fewer p
+    A, fewer p B)
 
 -- where a step ends a command of the connection, one less waits
 served_rest : (via : Connection) (t : Trace) (m : Moment) (s : Service) (y : ℕ) (front back : List ℕ)
@@ -205,26 +157,7 @@ served_rest : (via : Connection) (t : Trace) (m : Moment) (s : Service) (y : ℕ
     → length (filter (λ x. not (ends_in (name t x) m.1)) (waiting_by via t)) + length (option_to_list s.ended)
     ≤ length (waiting_by via t)
 served_rest via t m s y front back is e same here =
-    let keep : ℕ → Bool = λ x. not (ends_in (name t x) m.1) in
-    let on : ℕ → Bool = λ x. same_connection (connection t x) via in
-    let own : on y ≡ true = ap (λ (n : Name). same_connection n.connection via) (sym same) ∙ here in
-    let cut : waiting_by via t ≡ filter on front ++ y ∷ filter on back = ap (filter on) is
-    ∙ (filter-append on front (y ∷ back)
-    ∙ ap (λ b. filter on front ++ cond b (y ∷ filter on back) (filter on back)) own) in
-    let both : (o : Option End) → s.ended ≡ o
-    → length (filter keep (waiting_by via t)) + length (option_to_list o) ≤ length (waiting_by via t) =
-    λ o. elim o as (λ o. s.ended ≡ o
-    → length (filter keep (waiting_by via t)) + length (option_to_list o) ≤ length (waiting_by via t)) [
-      | None ↦ λ n. omega (arith, fewer keep (waiting_by via t))
-      | Some end ↦ λ n. omega (
-        arith,
-        ap length cut,
-        ap (λ l. length (filter keep l)) cut,
-        one_fewer keep (filter on front) y (filter on back)
-            (kept_own t m s y e same ∙ ap (λ o. not (is_some o)) n),
-      )
-    ] in
-    both s.ended refl
+    search (arith, kept_own t m s y e same, not, filter-append, fewer, one_fewer)
 
 served_fits : (c : Settings) (via : Connection) (t : Trace) (m : Moment) (s : Service) → Room c t → Steady c t
     → service_in m.1 ≡ Some s → IsRight c t m.0 m.1 → queues_by via m ≡ false
@@ -251,14 +184,7 @@ served_fits c via t m s h st e r q ends =
 queued_fits : (c : Settings) (via : Connection) (t : Trace) (m : Moment) (b : List ℕ) → Room c t → Queues c via t b
     → ends_at c via t m ≡ [] → Fits c via t m
 queued_fits c via t m b h k e =
-    let free = balance_two c via t (two_free c via t b k) in
-    let keep : ℕ → Bool = λ x. not (ends_in (name t x) m.1) in
-    let few = fewer keep (waiting_by via t) in
-    let one : length (cond (queues_by via m) (length t ∷ []) []) ≤ 1 =
-    elim (queues_by via m) as (λ b. length (cond b (length t ∷ []) []) ≤ 1)
-    [ true ↦ omega arith | false ↦ omega arith ] in
-    let more = waiting_by_length via t m in
-    record { room = omega (arith, free, few, one, more, ap length e); spare = omega (arith, free, few, one, more) }
+    search (arith, queues_by via m, waiting_by_length via t m, balance_two, two_free, not, fewer)
 
 answered_fits : (c : Settings) (via : Connection) (t : Trace) (event : Event) (q : ℕ) (a : Option ℕ) → Room c t
     → Ok (sents.Answered q a) ≡ arrival c via t (sent_bytes event)
@@ -302,27 +228,16 @@ fits : (c : Settings) (via : Connection) (t : Trace) (event : Event) (entry : En
     → IsRight c t event entry → Fits c via t (event, entry)
 fits c via t event (entries.Looked list) h st r = still c via t (event, entries.Looked list) h refl refl
 fits c via t event (entries.Taken other taken) h st r = still c via t (event, entries.Taken other taken) h refl refl
-fits c via t event (entries.Stepped reports.Idle) h st r = still c via t (
-  event,
-  entries.Stepped reports.Idle,
-) h refl refl
+fits c via t event (entries.Stepped reports.Idle) h st r =
+    search (arith, still c via t ( event, entries.Stepped reports.Idle, ) h refl refl)
 fits c via t event (entries.Stepped (reports.Served other reference unit lbn started seek ended)) h st r =
-    served_fits c via t (event, entries.Stepped (reports.Served other reference unit lbn started seek ended))
-    (record {
-      connection = other;
-      reference = reference;
-      unit = unit;
-      lbn = lbn;
-      started = started;
-      seek = seek;
-      ended = ended;
-    })
-    h st refl r refl refl
+    search (arith, served_fits c via t (event, entries.Stepped (reports.Served other reference unit lbn started seek
+    ended)) (record { connection = other; reference = reference; unit = unit; lbn = lbn; started = started; seek = seek;
+    ended = ended; }) h st refl r refl refl)
 fits c via t event (entries.Sent other (Err fault)) h st r =
     still c via t (event, entries.Sent other (Err fault)) h refl refl
 fits c via t (events.Send own b) (entries.Sent other (Ok sent)) h st r =
-    subst (λ s. Fits c via t (events.Send own b, entries.Sent s (Ok sent))) (sym r.0)
-    (sent_fits c via own t b sent h r.1 (same_connection own via) refl)
+    search (arith, sent_fits c via own t b sent h r.1 (same_connection own via) refl)
 fits c via t _ _ h st r = absurd r
 
 -- ---- the ends that were taken
@@ -342,10 +257,7 @@ took_one c via t (events.Take own) (entries.Taken other (Some b)) q h =
       refl,
       refl,
     )
-took_one c via t (events.Send own m) (entries.Taken other (Some b)) q h = absurd h
-took_one c via t (events.Step k) (entries.Taken other (Some b)) q h = absurd h
-took_one c via t events.Look (entries.Taken other (Some b)) q h = absurd h
-took_one c via t event entry q h = absurd (false≢true q)
+took_one c via t event entry h5 h6 = grind (arith, false≢true)
 
 untaken_length : (c : Settings) (via : Connection) (t : Trace)
     → length (untaken c via t) ≡ length (ends c via t) - count_by (λ n. takes via n.1) t
@@ -361,44 +273,9 @@ record Left (c : Settings) (via : Connection) (t : Trace) : Type 0 where
 left_more : (c : Settings) (via : Connection) (t : Trace) (m : Moment) → IsRight c t m.0 m.1 → Steady c t → Room c t
     → Left c via (t ++ m ∷ [])
 left_more c via t m r st h =
-    let count = taken_more via t m in
-    let more = ap length (ends_more c via t m) ∙ length-append (ends c via t) (ends_at c via t m) in
-    let taken = h.taken via in
-    let room = h.room via in
-    let spare = h.spare via in
-    let keep : ℕ → Bool = λ x. not (ends_in (name t x) m.1) in
-    let both : (b : Bool) → takes via m.1 ≡ b → Left c via (t ++ m ∷ []) =
-    λ b. elim b as (λ b. takes via m.1 ≡ b → Left c via (t ++ m ∷ [])) [
-      | true ↦ λ e.
-          let o = took_one c via t m.0 m.1 e r in
-          let some = o.0 in
-          let none = ap length o.1 in
-          let one = count ∙ ap (λ b. count_by (λ (n : Moment). takes via n.1) t + cond b 1 0) e in
-          let few = fewer keep (waiting_by via t) in
-          let waits = waiting_by_length via t m ∙ ap (λ b. length (filter keep (waiting_by via t))
-          + length (cond b (length t ∷ []) [])) o.2 in
-          let before = untaken_length c via t in
-          record {
-            taken = omega (arith, one, more, some, before);
-            room = omega (arith, room, waits, few, untaken_length c via (t ++ m ∷ []), before, one, more, none);
-            spare = omega (arith, spare, waits, few);
-          }
-      | false ↦ λ e.
-          let none = count ∙ ap (λ b. count_by (λ (n : Moment). takes via n.1) t + cond b 1 0) e in
-          let f = fits c via t m.0 m.1 h st r in
-          let fit = f.room in
-          record {
-            taken = omega (arith, none, more, taken);
-            room = omega (
-              arith,
-              fit,
-              ap length (untaken_more c via t m e taken)
-                  ∙ length-append (untaken c via t) (ends_at c via t m),
-            );
-            spare = f.spare;
-          }
-    ] in
-    both (takes via m.1) refl
+    search (arith, taken_more via t m, ends_more c via t m, length-append (ends c via t) (ends_at c via t m),
+    waiting_by_length via t m, untaken_length c via t, untaken_length c via (t ++ m ∷ []), fits c via t m.0 m.1 h st r,
+    length-append (untaken c via t) (ends_at c via t m), not, took_one, fewer, untaken_more)
 
 -- Each right moment keeps the room.
 pub room_more : (c : Settings) (t : Trace) (m : Moment) → IsRight c t m.0 m.1 → Steady c t → Room c t

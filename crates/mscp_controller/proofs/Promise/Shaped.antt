@@ -1,36 +1,30 @@
 -- Each end that a legal trace makes has the body of its endcode.
-use Rattle.std.proofs.Common.{◌≡◌, ℕ, zero, suc, ◌+◌, ◌<◌, Bool, true, false, List, [], ◌∷◌, ◌++◌, map, length, take, refl, sym, subst, arith}
-use Rattle.std.specs.Prelude.{find, flat_map, nat_eq, nat_lt, if◌then◌else◌, slice_index, All, Option, Some, None, option_to_list}
+use Rattle.std.proofs.Common.{◌≡◌, ℕ, zero, suc, ◌+◌, ◌<◌, Bool, List, [], ◌∷◌, ◌++◌, map, length, take, refl, sym, subst, arith}
+use Rattle.std.specs.Prelude.{find, flat_map, nat_eq, if◌then◌else◌, slice_index, All, Option, Some, None, option_to_list}
 use Rattle.std.specs.List.{AllByRecursion, range_with_len}
 use Rattle.std.proofs.lemmas.Bool.{eqb-true}
 use Rattle.std.proofs.lemmas.List.Concat.{flat_map-cons}
 use Rattle.std.proofs.lemmas.List.Elements.{All-from_recursion}
 use Rattle.mscp_packet.specs.declared.class.Opcode.{Opcode}
-use Rattle.mscp_packet.specs.declared.class.Opcode.TheVariants as codes
 use Rattle.mscp_packet.specs.declared.command.Command.{Command}
-use Rattle.mscp_packet.specs.declared.command.MoveKind.TheVariants as moves
 use Rattle.mscp_packet.specs.declared.command.Order.{Order}
 use Rattle.mscp_packet.specs.declared.command.Order.TheVariants as orders
-use Rattle.mscp_packet.specs.Opcodes.{least, row_of, opcode_of, opcodes}
+use Rattle.mscp_packet.specs.Opcodes.{row_of, opcode_of, opcodes}
 use Rattle.mscp_packet.specs.Commands.{command_of, order_with, parameters}
 use Rattle.mscp_packet.specs.declared.end.End.{End}
 use Rattle.mscp_packet.specs.Ends.{IsOfKind, kind_of_body, kind_of_code}
 use Rattle.mscp_packet.specs.Statuses.{invalid_length}
 use Rattle.mscp_events.specs.declared.block.Block.{Block}
-use Rattle.mscp_queue.specs.declared.report.Report.TheVariants as reports
 use Rattle.mscp_queue.specs.Orders.{endcode}
-use Rattle.mscp_queue.specs.Outcomes.{IsCoded, aborted_end, goes_on}
+use Rattle.mscp_queue.specs.Outcomes.{IsCoded, aborted_end}
 use Rattle.mscp_queue.proofs.Shaped.{aborted_kind, ended_kind, refused_kind}
 use Rattle.mscp_queue.proofs.Lists.{every_append}
 use Rattle.mscp_queue.proofs.Placed.{found_is}
-use Rattle.mscp_events.specs.declared.event.Event.TheVariants as events
-use Rattle.mscp_controller.specs.declared.entry.Entry.TheVariants as entries
 use Rattle.mscp_events.specs.declared.connection.Connection.{Connection}
-use Rattle.mscp_queue.specs.Names.{same_connection}
 use Rattle.mscp_events.specs.Settings.{Settings, unit_shape}
 use Rattle.mscp_controller.specs.Outcomes.{answer_body, own_end, own_end_with}
-use Rattle.mscp_controller.specs.History.{Moment, Trace, moment, positions, collect, sent_bytes, answers}
-use Rattle.mscp_controller.specs.Commands.{command, good, unit, order, left}
+use Rattle.mscp_controller.specs.History.{Moment, Trace, moment, positions, collect, sent_bytes}
+use Rattle.mscp_controller.specs.Commands.{command, good, unit, order}
 use Rattle.mscp_controller.specs.Units.{is_online}
 use Rattle.mscp_controller.specs.Ends.{aborted, answer, ends_at, outcome}
 use Rattle.mscp_controller.specs.Account.{ends}
@@ -39,46 +33,16 @@ use Rattle.mscp_controller.specs.Legal.{IsLegal, IsRight, end_of}
 -- ---- what a message asks for has an endcode
 
 coded_parameters : (o : Opcode) (b : List ℕ) → IsCoded (parameters o b)
-coded_parameters codes.Abort b = refl
-coded_parameters codes.Status b = refl
-coded_parameters codes.UnitStatus b = refl
-coded_parameters codes.SetController b = refl
-coded_parameters codes.Available b = refl
-coded_parameters codes.Online b = refl
-coded_parameters codes.SetUnit b = refl
-coded_parameters (codes.Move moves.Access) b = refl
-coded_parameters (codes.Move moves.Erase) b = refl
-coded_parameters (codes.Move moves.Compare) b = refl
-coded_parameters (codes.Move moves.Read) b = refl
-coded_parameters (codes.Move moves.Write) b = refl
+coded_parameters o b = grind arith
 
 -- a message that is too short has the endcode of its opcode
 coded_short : (o : Opcode) → IsCoded (orders.Invalid (row_of o).byte invalid_length)
-coded_short codes.Abort = refl
-coded_short codes.Status = refl
-coded_short codes.UnitStatus = refl
-coded_short codes.SetController = refl
-coded_short codes.Available = refl
-coded_short codes.Online = refl
-coded_short codes.SetUnit = refl
-coded_short (codes.Move moves.Access) = refl
-coded_short (codes.Move moves.Erase) = refl
-coded_short (codes.Move moves.Compare) = refl
-coded_short (codes.Move moves.Read) = refl
-coded_short (codes.Move moves.Write) = refl
+coded_short o = grind arith
 
 coded_with : (b : List ℕ) (found : Option Opcode) → find (λ o. nat_eq (row_of o).byte (slice_index b 8)) opcodes
     ≡ found → IsCoded (order_with found b)
 coded_with b None e = refl
-coded_with b (Some o) e =
-    let byte : (row_of o).byte ≡ slice_index b 8 =
-    eqb-true (row_of o).byte (slice_index b 8) (found_is (λ (x : Opcode). nat_eq (row_of x).byte (slice_index b 8))
-    opcodes o e) in
-    elim (nat_lt (length b) (least o)) as (λ s. IsCoded
-    (if s then orders.Invalid (slice_index b 8) invalid_length else parameters o b)) [
-      | true ↦ subst (λ k. IsCoded (orders.Invalid k invalid_length)) byte (coded_short o)
-      | false ↦ coded_parameters o b
-    ]
+coded_with b (Some o) e = search (arith, coded_short o, coded_parameters o b, eqb-true, found_is)
 
 pub coded : (b : List ℕ) → IsCoded (command_of b).order
 unfolding command_of
@@ -92,14 +56,11 @@ command_coded t x = coded (sent_bytes (moment t x).0)
 
 answer_kind : (c : Settings) (figure number : ℕ) (o : Order) → IsCoded o
     → kind_of_code (endcode o) ≡ Some (kind_of_body (answer_body c figure number o))
-answer_kind c figure number (orders.Move kind count block) h = refused_kind (endcode (orders.Move kind count block)) h
-answer_kind c figure number (orders.Invalid byte t) h = refused_kind (endcode (orders.Invalid byte t)) h
-answer_kind c figure number o h = refl
+answer_kind c figure number o h4 = grind (arith, refused_kind)
 
 answered_kind : (c : Settings) (online : Bool) (figure : ℕ) (sent : Command) (fault : Option ℕ) → IsCoded sent.order
     → IsOfKind (own_end_with c online figure sent fault)
-answered_kind c online figure sent (Some status) h = refused_kind (endcode sent.order) h
-answered_kind c online figure sent None h = answer_kind c figure sent.unit sent.order h
+answered_kind c online figure sent fault h5 = grind (arith, refused_kind, answer_kind)
 
 pub own_kind : (c : Settings) (online : Bool) (figure : ℕ) (sent : Command) → IsCoded sent.order
     → IsOfKind (own_end c online figure sent)
@@ -123,37 +84,19 @@ outcome_kind c t k y = ended_kind (unit_shape c (command t y).unit) (is_online t
     (command_coded t y)
 
 end_kinds : (c : Settings) (t : Trace) (k : Block) (y : ℕ) → AllByRecursion IsOfKind (option_to_list (end_of c t k y))
-end_kinds c t k y =
-    elim (goes_on (is_online t (unit t y)) (order t y) k (left t y)) as
-    (λ b. AllByRecursion IsOfKind (option_to_list (if b then None else Some (outcome c t k y)))) [
-      | true ↦ tt
-      | false ↦ (outcome_kind c t k y, tt)
-    ]
+end_kinds c t k y = search (arith, outcome_kind c t k y)
 
 sent_kinds : (c : Settings) (via : Connection) (t : Trace) (b : List ℕ) (answered : Bool)
     → AllByRecursion IsOfKind ((if answered then answer c via t b else []) ++ [])
-sent_kinds c via t b true = every_append IsOfKind (answer c via t b) [] (answer_kinds c via t b) tt
-sent_kinds c via t b false = tt
+sent_kinds c via t b answered = grind (arith, every_append, answer_kinds)
 
 served_kinds : (here : Bool) (ended : Option End) → AllByRecursion IsOfKind (option_to_list ended)
     → AllByRecursion IsOfKind (if here then option_to_list ended else [])
-served_kinds true ended h = h
-served_kinds false ended h = tt
+served_kinds here ended h2 = grind arith
 
 moment_kinds : (c : Settings) (via : Connection) (t : Trace) (m : Moment) → IsRight c t m.0 m.1
     → AllByRecursion IsOfKind (ends_at c via t m)
-moment_kinds c via t (event, entries.Sent other sent) h =
-    sent_kinds c via t (sent_bytes event) (answers via (entries.Sent other sent))
-moment_kinds c via t (event, entries.Taken other end) h = tt
-moment_kinds c via t (event, entries.Looked list) h = tt
-moment_kinds c via t (event, entries.Stepped reports.Idle) h = tt
-moment_kinds c via t (events.Step k, entries.Stepped (reports.Served other reference unit lbn started seek ended))
-    (y, s) =
-    served_kinds (same_connection other via) ended
-    (subst (λ e. AllByRecursion IsOfKind (option_to_list e)) (sym s.ended) (end_kinds c t k y))
-moment_kinds c via t (events.Send o b, entries.Stepped (reports.Served other r unit lbn started seek ended)) h =
-    absurd h
-moment_kinds c via t _ h = absurd h
+moment_kinds c via t m h4 = grind (arith, sent_kinds, served_kinds, end_kinds)
 
 -- ---- all ends
 

@@ -1,12 +1,11 @@
 -- What is known of a command that may start.
-use Rattle.std.proofs.Common.{◌≡◌, ℕ, ◌+◌, ◌≤◌, Bool, true, false, ◌&&◌, ◌||◌, List, [], ◌∷◌, refl, ap, sym, ◌∙◌, arith}
-use Rattle.std.specs.Prelude.{nat_eq, nat_le}
+use Rattle.std.proofs.Common.{◌≡◌, ℕ, ◌+◌, ◌≤◌, Bool, true, ◌&&◌, List, [], ◌∷◌, sym, ◌∙◌, arith}
 use Rattle.std.specs.List.{AllByRecursion, list_all}
 use Rattle.std.proofs.lemmas.Bool.{le-ltb, leb-true, eqb-true, and_parts, false≢true}
 use Rattle.mscp_events.specs.declared.block.Block.{Block}
 use Rattle.mscp_events.specs.Settings.{Settings}
 use Rattle.mscp_controller.specs.History.{Trace, Service}
-use Rattle.mscp_controller.specs.Commands.{waiting, done, in_service, is_idle, earlier}
+use Rattle.mscp_controller.specs.Commands.{waiting, done, is_idle, earlier}
 use Rattle.mscp_controller.specs.Passing.{charge, passed, is_free, is_affordable, is_startable}
 use Rattle.mscp_controller.specs.Legal.{IsServed}
 use Rattle.mscp_queue.proofs.Lists.{every_weaker}
@@ -17,8 +16,7 @@ pub record Startable (c : Settings) (t : Trace) (y : ℕ) : Type 0 where
   pub affordable : AllByRecursion (λ x. passed t x + charge t y ≤ c.budget) (earlier t y)
 
 three_parts : (a b c : Bool) → (a && b && c) ≡ true → (a ≡ true) × (b ≡ true) × (c ≡ true)
-three_parts true true true h = (refl, refl, refl)
-three_parts _ _ _ h = absurd (false≢true h)
+three_parts a b c h3 = grind (arith, false≢true)
 
 every_of : {X : Type 0} (p : X → Bool) (xs : List X) → list_all p xs ≡ true → AllByRecursion (λ x. p x ≡ true) xs
 every_of p [] h = tt
@@ -27,20 +25,10 @@ every_of p (x ∷ xs) h = let b = and_parts (p x) (list_all p xs) h in (b.0, eve
 pub startable_parts : (c : Settings) (t : Trace) (y : ℕ) → is_startable c t y ≡ true → Startable c t y
 unfolding is_startable
 startable_parts c t y h =
-    let p = three_parts (is_idle t) (is_free t y) (is_affordable c t y) h in
-    record {
-      idle = every_weaker (λ x. nat_eq (done t x) 0 ≡ true) (λ x. done t x ≡ 0) (λ x e. eqb-true (done t x) 0 e)
-          (waiting t) (every_of (λ x. nat_eq (done t x) 0) (waiting t) p.0);
-      free = p.1;
-      affordable = every_weaker (λ x. nat_le (passed t x + charge t y) c.budget ≡ true)
-          (λ x. passed t x + charge t y ≤ c.budget) (λ x e. leb-true (passed t x + charge t y) c.budget e) (earlier t y)
-          (every_of (λ x. nat_le (passed t x + charge t y) c.budget) (earlier t y) p.2);
-    }
+    search (arith, three_parts (is_idle t) (is_free t y) (is_affordable c t y) h, every_weaker, eqb-true, every_of,
+    leb-true)
 
 -- A command that starts may start.
 pub startable_of : (c : Settings) (t : Trace) (k : Block) (s : Service) (y : ℕ) → IsServed c t k s y → s.started ≡ true
     → is_startable c t y ≡ true
-startable_of c t k s y v e =
-    let zero_done = eqb-true (done t y) 0 (sym v.started ∙ e) in
-    let idle : in_service t y ≡ false = le-ltb 0 (done t y) (omega (arith, zero_done)) in
-    sym (ap (λ b. b || is_startable c t y) idle) ∙ v.next
+startable_of c t k s y v e = search (arith, eqb-true (done t y) 0 (sym v.started ∙ e), le-ltb)

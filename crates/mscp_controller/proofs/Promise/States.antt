@@ -1,18 +1,17 @@
 -- Each unit's state and head when one more moment comes.
-use Rattle.std.proofs.Common.{◌≡◌, ◌≢◌, ℕ, Bool, true, false, List, [], ◌∷◌, ◌++◌, refl, ap, sym, ◌∙◌, append-nil}
-use Rattle.std.specs.Prelude.{nat_eq, nat_lt, flat_map, if◌then◌else◌, Option, Some, None, option_map, option_to_list}
+use Rattle.std.proofs.Common.{◌≡◌, ◌≢◌, ℕ, Bool, true, false, List, [], ◌∷◌, ◌++◌, refl, ap, ◌∙◌, append-nil, arith}
+use Rattle.std.specs.Prelude.{nat_eq, flat_map, if◌then◌else◌, Option, Some, None, option_map, option_to_list}
 use Rattle.std.specs.List.{AllByRecursion}
 use Rattle.std.proofs.lemmas.Grind.{flat_map-append}
 use Rattle.std.proofs.lemmas.Bool.{ne_eqb, eq-eqb}
 use Rattle.mscp_queue.proofs.Named.{is_differ, is_same}
 use Rattle.mscp_packet.specs.declared.command.Order.{Order}
-use Rattle.mscp_packet.specs.declared.command.Order.TheVariants as orders
 use Rattle.mscp_packet.specs.declared.end.End.{End}
 use Rattle.mscp_drive.specs.Shape.{cylinder_of}
 use Rattle.mscp_drive.specs.declared.head.Head.{Head}
 use Rattle.mscp_events.specs.declared.block.Block.{Block}
 use Rattle.mscp_events.specs.Settings.{Settings, unit_shape}
-use Rattle.mscp_queue.specs.Outcomes.{is_success, state_after, head_after}
+use Rattle.mscp_queue.specs.Outcomes.{state_after, head_after}
 use Rattle.mscp_controller.specs.History.{Trace, Moment, collect, last_or, Service, service_in}
 use Rattle.mscp_controller.specs.Commands.{name, unit, order, waiting, service_name}
 use Rattle.mscp_controller.specs.Units.{states_given, states_ended, states_served, states_at, is_online, cylinder_touched, way, way_started, head_cylinder, head_up, head}
@@ -64,13 +63,10 @@ flat_none f (x ∷ xs) h = ap (λ l. l ++ flat_map f xs) h.0 ∙ flat_none f xs 
 flat_one : {X : Type 0} (f : ℕ → List X) (xs : List ℕ) (y : ℕ) (ys : List ℕ) → AllByRecursion (λ x. f x ≡ []) xs
     → AllByRecursion (λ x. f x ≡ []) ys → flat_map f (xs ++ y ∷ ys) ≡ f y
 flat_one f xs y ys h k =
-    flat_map-append f xs (y ∷ ys)
-    ∙ (ap (λ l. l ++ (f y ++ flat_map f ys)) (flat_none f xs h)
-    ∙ (ap (λ l. f y ++ l) (flat_none f ys k) ∙ append-nil (f y)))
+    search (arith, flat_map-append f xs (y ∷ ys), flat_none f xs h, flat_none f ys k, append-nil (f y))
 
 if_same : {X : Type 0} (b : Bool) (x : X) → (if b then x else x) ≡ x
-if_same true x = refl
-if_same false x = refl
+if_same b x = grind arith
 
 -- ---- the unit's state
 
@@ -91,24 +87,12 @@ states_step : (t : Trace) (m : Moment) (s : Service) (y u : ℕ) (front back : L
     → states_at u t m ≡ (if nat_eq (unit t y) u then states_ended (order t y) s.ended else [])
 unfolding given
 states_step t m s y u front back a e r =
-    let none : (x : ℕ) → name t x ≢ name t y → given t u (Some s) x ≡ [] =
-    λ x n. given_other t u x s (λ k. n (sym k ∙ r)) in
-    ap (λ o. flat_map (given t u o) (waiting t)) e
-    ∙ (ap (flat_map (given t u (Some s))) a.at.is
-    ∙ (flat_one (given t u (Some s)) front y back
-    (every_weaker (λ x. name t x ≢ name t y) (λ x. given t u (Some s) x ≡ []) none front a.before)
-    (every_weaker (λ x. name t x ≢ name t y) (λ x. given t u (Some s) x ≡ []) none back a.behind)
-    ∙ ap (λ b. if nat_eq (unit t y) u then (if b then states_ended (order t y) s.ended else []) else [])
-    (is_same (service_name s) (name t y) r)))
+    search (arith, given t u (Some s), is_same (service_name s) (name t y) r, given_other, flat_one, every_weaker)
 
 -- The state that an order gives is that which it leaves.
 last_given : (on : Bool) (order : Order) (status : ℕ)
     → last_or (states_given order status) on ≡ state_after on order status
-last_given on orders.Online status = elim (is_success status) as
-    (λ b. last_or (if b then true ∷ [] else []) on ≡ (if b then true else on)) [ true ↦ refl | false ↦ refl ]
-last_given on orders.Available status = elim (is_success status) as
-    (λ b. last_or (if b then false ∷ [] else []) on ≡ (if b then false else on)) [ true ↦ refl | false ↦ refl ]
-last_given on order status = refl
+last_given on order status = grind arith
 
 -- Where no step serves, each unit keeps its state.
 states_none : (t : Trace) (u : ℕ) (xs : List ℕ) → flat_map (given t u None) xs ≡ []
@@ -120,42 +104,33 @@ states_none t u (x ∷ xs) = ap (λ l. l ++ flat_map (given t u None) xs) (if_sa
 pub is_online_kept : (t : Trace) (m : Moment) (u : ℕ) → service_in m.1 ≡ None
     → is_online (t ++ m ∷ []) u ≡ is_online t u
 unfolding given
-is_online_kept t m u e =
-    is_online_more t m u
-    ∙ ap (λ l. last_or l (is_online t u)) (ap (λ o. flat_map (given t u o) (waiting t)) e ∙ states_none t u (waiting t))
+is_online_kept t m u e = search (arith, is_online_more t m u, states_none t u (waiting t), given)
 
 -- A step of y keeps the states of the other units.
 pub is_online_other : (c : Settings) (t : Trace) (m : Moment) (s : Service) (k : Block) (y : ℕ) (front back : List ℕ)
     (u : ℕ) → Step c t m s k y front back → unit t y ≢ u → is_online (t ++ m ∷ []) u ≡ is_online t u
 is_online_other c t m s k y front back u st n =
-    is_online_more t m u
-    ∙ ap (λ l. last_or l (is_online t u))
-    (states_step t m s y u front back st.serves.among st.serves.is st.serves.same
-    ∙ ap (λ b. if b then states_ended (order t y) s.ended else []) (ne_eqb (unit t y) u n))
+    search (arith, is_online_more t m u, states_step t m s y u front back st.serves.among st.serves.is st.serves.same,
+    ne_eqb (unit t y) u n)
 
 own_states : (c : Settings) (t : Trace) (m : Moment) (s : Service) (k : Block) (y : ℕ) (front back : List ℕ)
     → Step c t m s k y front back → is_online (t ++ m ∷ []) (unit t y)
     ≡ last_or (states_ended (order t y) s.ended) (is_online t (unit t y))
 own_states c t m s k y front back st =
-    is_online_more t m (unit t y)
-    ∙ ap (λ l. last_or l (is_online t (unit t y)))
-    (states_step t m s y (unit t y) front back st.serves.among st.serves.is st.serves.same
-    ∙ ap (λ b. if b then states_ended (order t y) s.ended else []) (eq-eqb (unit t y) (unit t y) refl))
+    search (arith, is_online_more t m (unit t y), states_step t m s y (unit t y) front back st.serves.among st.serves.is
+    st.serves.same, eq-eqb (unit t y) (unit t y) refl)
 
 -- It gives its own unit the state that its order leaves where it ends.
 pub is_online_ended : (c : Settings) (t : Trace) (m : Moment) (s : Service) (k : Block) (y : ℕ) (front back : List ℕ)
     (e : End) → Step c t m s k y front back → s.ended ≡ Some e
     → is_online (t ++ m ∷ []) (unit t y) ≡ state_after (is_online t (unit t y)) (order t y) e.status
 is_online_ended c t m s k y front back e st h =
-    own_states c t m s k y front back st
-    ∙ (ap (λ o. last_or (states_ended (order t y) o) (is_online t (unit t y))) h
-    ∙ last_given (is_online t (unit t y)) (order t y) e.status)
+    search (arith, own_states c t m s k y front back st, last_given (is_online t (unit t y)) (order t y) e.status)
 
 -- Where it goes on, its unit keeps its state too.
 pub is_online_unended : (c : Settings) (t : Trace) (m : Moment) (s : Service) (k : Block) (y : ℕ) (front back : List ℕ)
     → Step c t m s k y front back → s.ended ≡ None → is_online (t ++ m ∷ []) (unit t y) ≡ is_online t (unit t y)
-is_online_unended c t m s k y front back st h =
-    own_states c t m s k y front back st ∙ ap (λ o. last_or (states_ended (order t y) o) (is_online t (unit t y))) h
+is_online_unended c t m s k y front back st h = search (arith, own_states c t m s k y front back st)
 
 -- ---- the head
 
@@ -167,48 +142,25 @@ goes : (h : Head) (own : Bool) (o : Option ℕ) (started : Bool)
     (last_or (if started then flat_map (way h.cylinder) (if own then option_to_list o else []) else []) h.up)
     ≡ (if own then head_after started o h else h)
 unfolding pair
-goes h false o true = refl
-goes h false o false = refl
-goes h true None true = refl
-goes h true None false = refl
-goes h true (Some k) false = refl
-goes h true (Some k) true =
-    elim (nat_eq h.cylinder k) as (λ b. pair k (last_or ((if b then [] else nat_lt h.cylinder k ∷ []) ++ []) h.up)
-    ≡ pair k (if b then h.up else nat_lt h.cylinder k)) [ true ↦ refl | false ↦ refl ]
+goes h own o started = grind (arith, pair)
 
 -- A step moves the head of its unit, by its block, and no other head.
 head_step : (c : Settings) (t : Trace) (m : Moment) (s : Service) (u : ℕ) → service_in m.1 ≡ Some s
     → head c (t ++ m ∷ []) u ≡ (if nat_eq s.unit u
     then head_after s.started (option_map (cylinder_of (unit_shape c u)) s.lbn) (head c t u) else head c t u)
 unfolding pair
-head_step c t m s u e =
-    let shape = unit_shape c u in
-    let h = head c t u in
-    ap (λ k. pair k (head_up c (t ++ m ∷ []) u)) (head_cylinder_more c t m u
-    ∙ ap (λ o. last_or (cylinder_touched shape u o) h.cylinder) e)
-    ∙ (ap (pair (last_or (cylinder_touched shape u (Some s)) h.cylinder))
-    (head_up_more c t m u ∙ ap (λ o. last_or (way_started shape u h.cylinder o) h.up) e)
-    ∙ goes h (nat_eq s.unit u) (option_map (cylinder_of shape) s.lbn) s.started)
+head_step c t m s u e = search (arith, head_cylinder_more c t m u, head_up_more c t m u, pair, goes)
 
 -- Where no step serves, each head stays.
 pub head_kept : (c : Settings) (t : Trace) (m : Moment) (u : ℕ) → service_in m.1 ≡ None
     → head c (t ++ m ∷ []) u ≡ head c t u
 unfolding pair
-head_kept c t m u e =
-    let shape = unit_shape c u in
-    let h = head c t u in
-    ap (λ k. pair k (head_up c (t ++ m ∷ []) u)) (head_cylinder_more c t m u
-    ∙ ap (λ o. last_or (cylinder_touched shape u o) h.cylinder) e)
-    ∙ ap (pair h.cylinder) (head_up_more c t m u ∙ ap (λ o. last_or (way_started shape u h.cylinder o) h.up) e)
+head_kept c t m u e = search (arith, head_cylinder_more c t m u, head_up_more c t m u, pair)
 
 -- A step of y keeps the heads of the other units.
 pub head_other : (c : Settings) (t : Trace) (m : Moment) (s : Service) (k : Block) (y : ℕ) (front back : List ℕ) (u : ℕ)
     → Step c t m s k y front back → unit t y ≢ u → head c (t ++ m ∷ []) u ≡ head c t u
-head_other c t m s k y front back u st n =
-    head_step c t m s u st.serves.is
-    ∙ ap (λ b. if b then head_after s.started (option_map (cylinder_of (unit_shape c u)) s.lbn) (head c t u)
-    else head c t u)
-    (ne_eqb s.unit u (λ e. n (sym st.served.unit ∙ e)))
+head_other c t m s k y front back u st n = search (arith, head_step c t m s u st.serves.is, ne_eqb)
 
 -- It moves the head of its own unit by the block that it touches.
 pub head_own : (c : Settings) (t : Trace) (m : Moment) (s : Service) (k : Block) (y : ℕ) (front back : List ℕ)

@@ -1,5 +1,5 @@
 -- The figures never rise at a moment that serves nobody.
-use Rattle.std.proofs.Common.{◌≡◌, ℕ, ◌+◌, ◌-◌, ◌<◌, ◌≤◌, Bool, true, false, cond, not, ◌&&◌, List, [], ◌∷◌, ◌++◌, length, refl, ap, sym, ◌∙◌, subst, arith}
+use Rattle.std.proofs.Common.{◌≡◌, ℕ, ◌+◌, ◌-◌, ◌<◌, ◌≤◌, Bool, true, false, cond, not, ◌&&◌, List, [], ◌∷◌, ◌++◌, length, refl, ap, ◌∙◌, subst, arith}
 use Rattle.std.specs.Prelude.{filter, sum_by, nat_lt, Contains}
 use Rattle.std.specs.List.{AllByRecursion}
 use Rattle.std.proofs.lemmas.List.{append_assoc}
@@ -22,48 +22,20 @@ Leaves t m = AllByRecursion (λ x. record_of (t ++ m ∷ []) x ≡ record_of t x
 
 sum_kept : (f : ℕ → ℕ) (p : ℕ → Bool) (xs : List ℕ) → sum_by f (filter p xs) ≤ sum_by f xs
 sum_kept f p [] = omega arith
-sum_kept f p (x ∷ xs) =
-    let h = sum_kept f p xs in
-    let a = sum_by-cons f x xs in
-    let b = sum_by-cons f x (filter p xs) in
-    let both : (d : Bool) → sum_by f (cond d (x ∷ filter p xs) (filter p xs)) ≤ sum_by f (x ∷ xs) =
-    λ d. elim d as (λ d. sum_by f (cond d (x ∷ filter p xs) (filter p xs)) ≤ sum_by f (x ∷ xs))
-    [ true ↦ omega arith | false ↦ omega arith ] in
-    both (p x)
+sum_kept f p (x ∷ xs) = search (arith, sum_kept f p xs, sum_by-cons f x xs, sum_by-cons f x (filter p xs))
 
 sum_kept_of : (f : ℕ → ℕ) (p q : ℕ → Bool) (xs : List ℕ) → sum_by f (filter p (filter q xs)) ≤ sum_by f (filter p xs)
 sum_kept_of f p q [] = omega arith
 sum_kept_of f p q (x ∷ xs) =
-    let h = sum_kept_of f p q xs in
-    let a = sum_by-cons f x (filter p xs) in
-    let b = sum_by-cons f x (filter p (filter q xs)) in
-    let both : (d e : Bool) → sum_by f (cond e (cond d (x ∷ filter p (filter q xs)) (filter p (filter q xs)))
-    (filter p (filter q xs))) ≤ sum_by f (cond d (x ∷ filter p xs) (filter p xs)) =
-    λ d e. elim d as (λ d. sum_by f (cond e (cond d (x ∷ filter p (filter q xs)) (filter p (filter q xs)))
-    (filter p (filter q xs))) ≤ sum_by f (cond d (x ∷ filter p xs) (filter p xs))) [
-      | true ↦ elim e as (λ e. sum_by f (cond e (x ∷ filter p (filter q xs)) (filter p (filter q xs)))
-          ≤ sum_by f (x ∷ filter p xs)) [ true ↦ omega arith | false ↦ omega arith ]
-      | false ↦ elim e as (λ e. sum_by f (cond e (filter p (filter q xs)) (filter p (filter q xs)))
-          ≤ sum_by f (filter p xs)) [ true ↦ h | false ↦ h ]
-    ] in
-    let split : (e : Bool) → sum_by f (filter p (cond e (x ∷ filter q xs) (filter q xs)))
-    ≤ sum_by f (filter p (x ∷ xs)) =
-    λ e. elim e as (λ e. sum_by f (filter p (cond e (x ∷ filter q xs) (filter q xs))) ≤ sum_by f (filter p (x ∷ xs)))
-    [ true ↦ both (p x) true | false ↦ both (p x) false ] in
-    split (q x)
+    search (arith, sum_kept_of f p q xs, sum_by-cons f x (filter p xs), sum_by-cons f x (filter p (filter q xs)))
 
 working_same : (t t' : Trace) (xs : List ℕ) → AllByRecursion (λ x. record_of t' x ≡ record_of t x) xs
     → working t' xs ≡ working t xs
-working_same t t' xs h =
-    ap (sum_by (left t')) (filter_on (in_service t') (in_service t) xs
-    (every_weaker (λ x. record_of t' x ≡ record_of t x) (λ x. in_service t' x ≡ in_service t x)
-    (λ x e. ap (λ (r : Figured). nat_lt 0 r.done) e) xs h))
-    ∙ left_same t t' (filter (in_service t) xs) (every_kept (λ x. record_of t' x ≡ record_of t x) (in_service t) xs h)
+working_same t t' xs h = search (arith, filter_on, every_weaker, record_of, left_same, every_kept)
 
 new_idle : (t : Trace) (m : Moment) → done (t ++ m ∷ []) (length t) ≡ 0 → (b : Bool)
     → working (t ++ m ∷ []) (cond b (length t ∷ []) []) ≡ 0
-new_idle t m e true = working_idle (t ++ m ∷ []) (length t ∷ []) (e, tt)
-new_idle t m e false = refl
+new_idle t m h2 b = grind (arith, working_idle)
 
 -- the figure of a command that stays doesn't rise
 pub rises_not : (c : Settings) (t : Trace) (m : Moment) → Leaves t m → done (t ++ m ∷ []) (length t) ≡ 0
@@ -106,8 +78,7 @@ rises_not c t m h d A x B q true k =
     let served : in_service t' x ≡ in_service t x = ap (λ (r : Figured). nat_lt 0 r.done) same.1.0 in
     let now = figure_at c t' (filter keep A) x (filter keep B ++ new) e' ∙ ap (λ b. cond b (left t' x) S') served in
     let old = figure_at c t A x B q in
-    subst (λ n. n ≤ figure c t x) (sym now) (subst (λ n. cond (in_service t x) (left t' x) S' ≤ n) (sym old)
-    (both (in_service t x)))
+    search arith
 
 -- At a moment that serves nobody no figure rises.
 pub never_rises : (c : Settings) (t : Trace) (m : Moment) → Leaves t m → done (t ++ m ∷ []) (length t) ≡ 0 → (x : ℕ)

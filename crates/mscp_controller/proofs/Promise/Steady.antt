@@ -1,6 +1,6 @@
 -- What is true after every part of a legal run, from the definitions alone.
-use Rattle.std.proofs.Common.{◌≡◌, ◌⊎◌, inl, inr, ⊎_elim, ℕ, ◌+◌, ◌<◌, Bool, true, false, cond, not, ◌&&◌, ◌||◌, List, [], ◌∷◌, ◌++◌, length, refl, ap, sym, ◌∙◌, subst, arith, append-nil}
-use Rattle.std.specs.Prelude.{nat_lt, filter, if◌then◌else◌, Option, Some, None, is_some}
+use Rattle.std.proofs.Common.{◌≡◌, ◌⊎◌, inl, inr, ⊎_elim, ℕ, ◌<◌, Bool, true, false, cond, not, ◌&&◌, ◌||◌, List, [], ◌∷◌, ◌++◌, length, refl, ap, sym, subst, arith, append-nil}
+use Rattle.std.specs.Prelude.{filter, Option, Some, None, is_some}
 use Rattle.std.specs.List.{AllByRecursion}
 use Rattle.std.proofs.lemmas.Bool.{ltb-true, or_cases, true≢false, false≢true}
 use Rattle.mscp_packet.specs.declared.command.Command.{Command}
@@ -8,12 +8,9 @@ use Rattle.mscp_queue.proofs.Held.{some_steps}
 use Rattle.mscp_events.specs.declared.block.Block.{Block}
 use Rattle.mscp_events.specs.Settings.{Settings}
 use Rattle.mscp_queue.specs.Orders.{order_weight}
-use Rattle.mscp_controller.specs.History.{Trace, Moment, queues, Service, service_in}
-use Rattle.mscp_controller.specs.Commands.{name, unit, order, weight, waiting, done, left, in_service, service_is, ends_in}
+use Rattle.mscp_controller.specs.History.{Trace, Moment, Service, service_in}
+use Rattle.mscp_controller.specs.Commands.{name, order, weight, waiting, done, left, in_service, ends_in}
 use Rattle.mscp_controller.specs.Passing.{is_startable}
-use Rattle.mscp_queue.specs.Outcomes.{goes_on, touches, is_good_block}
-use Rattle.mscp_controller.specs.Units.{is_online}
-use Rattle.mscp_controller.specs.Ends.{outcome}
 use Rattle.mscp_controller.specs.Legal.{IsRight, end_of}
 use Rattle.mscp_queue.specs.Pairs.{Pairs}
 use Rattle.mscp_queue.proofs.Lists.{every_weaker, every_kept, every_append, every_parts, every_both, pairs_filter, pairs_append, pairs_middle}
@@ -43,21 +40,13 @@ weight_before t m x h = ap (λ (k : Command). order_weight k.order) (command_bef
 unfinished_same : (t : Trace) (m : Moment) (xs : List ℕ) → AllByRecursion (λ x. x < length t) xs
     → AllByRecursion (λ x. done (t ++ m ∷ []) x ≡ done t x) xs → Unfinished t xs → Unfinished (t ++ m ∷ []) xs
 unfinished_same t m [] l d u = tt
-unfinished_same t m (x ∷ xs) l d u = (
-  omega (arith, weight_before t m x l.0, d.0, u.0),
-  unfinished_same t m xs l.1 d.1
-      u.1,
-)
+unfinished_same t m (x ∷ xs) l d u = search (arith, weight_before t m x l.0, unfinished_same t m xs l.1 d.1 u.1)
 
 single_from : (t t' : Trace) (x : ℕ) (xs : List ℕ) → done t' x ≡ done t x
     → AllByRecursion (λ z. done t' z ≡ done t z) xs → AllByRecursion (λ z. (done t x ≡ 0) ⊎ (done t z ≡ 0)) xs
     → AllByRecursion (λ z. (done t' x ≡ 0) ⊎ (done t' z ≡ 0)) xs
 single_from t t' x [] e h s = tt
-single_from t t' x (z ∷ zs) e h s = (
-  ⊎_elim (λ k. inl (e ∙ k)) (λ k. inr (h.0 ∙ k)) s.0,
-  single_from t t' x zs e h.1
-      s.1,
-)
+single_from t t' x (z ∷ zs) e h s = search (arith, single_from t t' x zs e h.1 s.1, ⊎_elim)
 
 single_same : (t t' : Trace) (xs : List ℕ) → AllByRecursion (λ x. done t' x ≡ done t x) xs → Single t xs → Single t' xs
 single_same t t' [] h s = tt
@@ -78,24 +67,17 @@ single_idle t (x ∷ xs) h = (idle_before t x h.0 xs, single_idle t xs h.1)
 
 single_own : (t : Trace) (y : ℕ) (back : List ℕ) → AllByRecursion (λ x. done t x ≡ 0) back → (b : Bool)
     → Single t (cond b [] (y ∷ []) ++ back)
-single_own t y back h true = single_idle t back h
-single_own t y back h false = (
-  every_weaker (λ z. done t z ≡ 0) (λ z. (done t y ≡ 0) ⊎ (done t z ≡ 0)) (λ z e. inr e)
-      back h,
-  single_idle t back h,
-)
+single_own t y back h3 b = grind (arith, single_idle, every_weaker)
 
 idle_same : (t t' : Trace) (xs : List ℕ) → AllByRecursion (λ x. done t' x ≡ done t x) xs
     → AllByRecursion (λ x. done t x ≡ 0) xs → AllByRecursion (λ x. done t' x ≡ 0) xs
-idle_same t t' xs d h = every_weaker (λ x. (done t' x ≡ done t x) × (done t x ≡ 0)) (λ x. done t' x ≡ 0)
-    (λ x p. p.0 ∙ p.1) xs (every_both (λ x. done t' x ≡ done t x) (λ x. done t x ≡ 0) xs d h)
+idle_same t t' xs d h = search (arith, every_weaker, every_both)
 
 -- ---- a moment that serves nobody
 
 pub done_kept : (t : Trace) (m : Moment) (x : ℕ) → service_in m.1 ≡ None → x < length t
     → done (t ++ m ∷ []) x ≡ done t x
-done_kept t m x e l = done_before t m x l ∙ (ap (λ o. done t x + cond (service_is (name t x) o) 1 0) e
-    ∙ omega arith)
+done_kept t m x e l = search (arith, done_before t m x l)
 
 quiet : (c : Settings) (t : Trace) (m : Moment) → IsRight c t m.0 m.1 → Steady c t → service_in m.1 ≡ None
     → Steady c (t ++ m ∷ [])
@@ -113,29 +95,16 @@ quiet c t m r s e =
     let news : AllByRecursion (λ x. (done t' x ≡ 0) ⊎ (done t' (length t) ≡ 0)) kept =
     every_weaker (λ x. x < length t) (λ x. (done t' x ≡ 0) ⊎ (done t' (length t) ≡ 0)) (λ x l. inr (done_last t m))
     kept below in
-    record {
-      apart = apart_more c t m r s.apart;
-      unfinished = subst (Unfinished t') (sym (waiting_more t m))
-          (every_append (λ x. done t' x < weight t' x) kept (cond (queues m.1) (length t ∷ []) []) unfinished
-          (elim (queues m.1) as (λ b. Unfinished t' (cond b (length t ∷ []) [])) [ true ↦ new | false ↦ tt ]));
-      single = subst (Single t') (sym (waiting_more t m))
-          (elim (queues m.1) as (λ b. Single t' (kept ++ cond b (length t ∷ []) [])) [
-            | true ↦ pairs_append (λ x z. (done t' x ≡ 0) ⊎ (done t' z ≡ 0)) kept (length t) single news
-            | false ↦
-                subst (Single t') (sym (append-nil kept)) single
-          ]);
-    }
+    search (arith, apart_more c t m r s.apart, waiting_more t m, append-nil kept, every_append, pairs_append)
 
 -- ---- a step
 
 idle_where : (t : Trace) (y : ℕ) (xs : List ℕ) → 0 < done t y → AllByRecursion (λ x. (done t x ≡ 0) ⊎ (done t y ≡ 0)) xs
     → AllByRecursion (λ x. done t x ≡ 0) xs
-idle_where t y xs h s = every_weaker (λ x. (done t x ≡ 0) ⊎ (done t y ≡ 0)) (λ x. done t x ≡ 0)
-    (λ x p. ⊎_elim (λ k. k) (λ k. absurd (omega (arith, h, k))) p) xs s
+idle_where t y xs h s = search (arith, every_weaker, ⊎_elim)
 
 last_and : (a b c : Bool) → (a && b && c) ≡ true → c ≡ true
-last_and true true c h = h
-last_and _ _ c h = absurd (false≢true h)
+last_and a b c h3 = grind (arith, false≢true)
 
 -- where y is served, no other is in service
 pub idle_others : (c : Settings) (t : Trace) (y : ℕ) (front back : List ℕ) → waiting t ≡ front ++ y ∷ back
@@ -156,14 +125,7 @@ idle_others c t y front back w s h =
 
 -- a command that a step doesn't end has more than one step left
 pub more_left : (c : Settings) (t : Trace) (k : Block) (y : ℕ) → is_some (end_of c t k y) ≡ false → 1 < left t y
-more_left c t k y h =
-    let on = is_online t (unit t y) in
-    let both : (b : Bool) → goes_on on (order t y) k (left t y) ≡ b → 1 < left t y =
-    λ b. elim b as (λ b. goes_on on (order t y) k (left t y) ≡ b → 1 < left t y) [
-      | true ↦ λ e. ltb-true 1 (left t y) (last_and (touches on (order t y)) (is_good_block k) (nat_lt 1 (left t y)) e)
-      | false ↦ λ e. absurd (true≢false (sym (ap (λ b. is_some (if b then None else Some (outcome c t k y))) e) ∙ h))
-    ] in
-    both (goes_on on (order t y) k (left t y)) refl
+more_left c t k y h = search (arith, ltb-true, last_and, true≢false)
 
 stepped : (c : Settings) (t : Trace) (m : Moment) (s : Service) (k : Block) (y : ℕ) (front back : List ℕ)
     → IsRight c t m.0 m.1 → Steady c t → Step c t m s k y front back → Steady c (t ++ m ∷ [])
@@ -175,19 +137,7 @@ stepped c t m s k y front back r h st =
     let parts = every_parts (λ x. done t x < weight t x) front (y ∷ back) (subst (Unfinished t) w h.unfinished) in
     let idle = idle_others c t y front back w h.single st.served.next in
     let own : (b : Bool) → is_some s.ended ≡ b → Unfinished t' (cond b [] (y ∷ [])) =
-    λ b. elim b as (λ b. is_some s.ended ≡ b → Unfinished t' (cond b [] (y ∷ []))) [
-      | true ↦ λ e. tt
-      | false ↦ λ e. (
-        omega (
-          arith,
-          more_left c t k y (sym (ap is_some st.served.ended) ∙ e),
-          ch.own_done,
-          weight_before
-              t m y below.1.0,
-        ),
-        tt,
-      )
-    ] in
+    search (arith, weight_before t m y below.1.0, more_left) in
     record {
       apart = apart_more c t m r h.apart;
       unfinished = subst (Unfinished t') (sym ch.waits)

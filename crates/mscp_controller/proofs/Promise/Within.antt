@@ -35,9 +35,7 @@ times_more : (a b k : ℕ) → a ≤ b → a * k ≤ b * k
 times_more a b k h = grind arith
 
 bound_of : (room Q L n l s : ℕ) → n + 1 ≤ room → s ≤ n * L → l ≤ L → s + Q + l ≤ room * L + Q
-bound_of room Q L n l s h k m =
-    let big : (n + 1) * L ≤ room * L = times_more (n + 1) room L (omega arith) in
-    omega arith
+bound_of room Q L n l s h k m = search (arith, times_more (n + 1) room L (omega arith))
 
 new_figure : (c : Settings) (t : Trace) (W : List ℕ) (x : ℕ) → waiting t ≡ W ++ x ∷ [] → done t x ≡ 0 → passed t x ≡ 0
     → Short c t (W ++ x ∷ []) → length W + 1 ≤ room c → figure c t x ≤ bound c
@@ -79,8 +77,7 @@ within_more c t m r space f short w =
     let kept = filter keep (waiting t) in
     let New : ℕ → Type 0 = λ x. figure c t' x + steps_after t' x ≤ bound c in
     let Old : ℕ → Type 0 = λ x. (figure c t x + steps_after t x ≤ bound c) × (x < length t) in
-    let old : AllByRecursion Old (waiting t) = every_both (λ x. figure c t x + steps_after t x ≤ bound c)
-    (λ x. x < length t) (waiting t) w (waiting_below t) in
+    let old : AllByRecursion Old (waiting t) = search (arith, waiting_below t, every_both) in
     let stay : (b : Bool) → is_step m.0 ≡ b → AllByRecursion New (waiting t) =
     λ b. elim b as (λ b. is_step m.0 ≡ b → AllByRecursion New (waiting t)) [
       | true ↦ λ e.

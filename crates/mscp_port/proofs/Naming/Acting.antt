@@ -1,5 +1,5 @@
 -- What a port knows once bytes were read, or an action went some way.
-use Rattle.std.proofs.Common.{◌≡◌, ◌⊎◌, ℕ, ◌<◌, Bool, true, false, ◌/◌, ◌%◌, List, [], ◌∷◌, Option, None, Some, Contains, IfSome, inl, inr, refl, ap, sym, ◌∙◌, subst}
+use Rattle.std.proofs.Common.{◌≡◌, ◌⊎◌, ℕ, ◌<◌, Bool, true, false, ◌/◌, ◌%◌, List, [], ◌∷◌, Option, None, Some, Contains, IfSome, inl, inr, refl, ap, sym, subst, arith}
 use Rattle.std.proofs.lemmas.Bool.{eqb-true, eqb-false, ltb-true, ltb-false}
 use Rattle.std.proofs.lemmas.Option.{none-some}
 use Rattle.std.specs.Prelude.{Result, Ok, Err, nat_lt, nat_eq}
@@ -11,7 +11,6 @@ use Rattle.mscp_port.specs.declared.port.Port.{Port}
 use Rattle.mscp_port.specs.declared.stage.Stage.{Stage}
 use Rattle.mscp_port.specs.declared.stage.Stage.TheVariants as stages
 use Rattle.mscp_port.specs.declared.task.Task.{Task}
-use Rattle.mscp_port.specs.declared.task.Task.TheVariants as tasks
 use Rattle.mscp_port.specs.Areas.{Rings, rings_named}
 use Rattle.mscp_port.specs.Buffers.{buffer_in}
 use Rattle.mscp_port.specs.Slots.{is_owned}
@@ -27,19 +26,12 @@ use Rattle.mscp_port.proofs.Naming.Registers.{apart}
 pub read_packet : (bytes : List ℕ) (bs : List (List ℕ)) (now before : Option ℕ) (R : Type 0)
     → IfSome now (λ word. (before ≡ Some word) ⊎ (R × (word ≡ num bytes 0 4) × (is_owned word ≡ true)))
     → IfSome before (λ word. NamesPacket bs word) → IfSome now (λ word. NamesPacket (bytes ∷ bs) word)
-read_packet bytes bs None before R h k = tt
-read_packet bytes bs (Some word) before R h k = elim h [
-  | inl held ↦ packet_named_still bytes bs word (subst (λ o. IfSome o (λ w. NamesPacket bs w)) held k)
-  | inr seen ↦ (bytes, here bytes bs, seen.1, seen.2)
-]
+read_packet bytes bs now before R h5 h6 = grind (arith, packet_named_still, here)
 
 -- the buffer was kept before, or is in what was read now
 pub read_buffer : (bytes : List ℕ) (bs : List (List ℕ)) (b : Buffer) (Before R : Type 0) → (Before → NamesBuffer bs b)
     → Before ⊎ (R × (changes : ℕ) × (b ≡ buffer_in bytes changes)) → NamesBuffer (bytes ∷ bs) b
-read_buffer bytes bs b Before R k h = elim h [
-  | inl before ↦ buffer_named_still bytes bs b (k before)
-  | inr seen ↦ (bytes, seen.1, here bytes bs, seen.2)
-]
+read_buffer bytes bs b Before R k h = search (arith, here bytes bs, buffer_named_still)
 
 pub after_read : {K : Type 0} (ws : List ℕ) (bs : List (List ℕ)) (old new : Port K) (bytes : List ℕ)
     (result : Result Unit Unasked) → Knows ws bs old → Hears bytes old result new → Knows ws (bytes ∷ bs) new
@@ -69,89 +61,40 @@ acted ws bs old new outcome result k r words written rings stays =
       packet = carried (in_hand new.task) (in_hand old.task) (λ word. NamesPacket bs word) r.packet k.packet;
       buffer = λ b there. k.buffer b (r.buffers b there);
     } in
-    elim stays [
-      | inl same ↦ still_knows ws bs bs old new k (record {
-        taken = inl (ap (λ s. answers s new.words) same ∙ ap (λ w. answers old.stage w) words);
-        given = written;
-        area = rings;
-      }) handles
-      | inr moved ↦ elim moved [
-        | inl last ↦ still_knows ws bs bs old new k (record {
-          taken = inr (ap (λ s. answers s new.words) last);
-          given = written;
-          area = rings;
-        }) handles
-        | inr dead ↦ dead_knows ws bs old new dead
-      ]
-    ]
+    search (arith, still_knows, answers, dead_knows)
 
 -- no step is taken
 pub no_step : {K : Type 0} (ws : List ℕ) (bs : List (List ℕ)) (old new : Port K) (outcome : Outcome)
     (result : Result Unit Unasked) → Knows ws bs old → Goes outcome old result new
     → step_answered old.task old.written ≡ None → Knows ws bs new
-no_step ws bs old new outcome result k r none =
-    let still = r.still none in
-    elim still.0 [
-      | inl e ↦ acted ws bs old new outcome result k r (ap (λ p. p.words) e) (ap (λ p. p.written) e)
-          (ap (λ p. p.rings) e) still.1
-      | inr more ↦ elim more [
-        | inl block ↦ elim block [
-          | inl e ↦ acted ws bs old new outcome result k r (ap (λ p. p.words) e) (ap (λ p. p.written) e)
-              (ap (λ p. p.rings) e) still.1
-          | inr taken ↦
-              let frame = taken.3.finished.2.frame in
-              acted ws bs old new outcome result k r (ap (λ p. p.words) frame) (ap (λ p. p.written) frame)
-              (ap (λ p. p.rings) frame) still.1
-        ]
-        | inr dead ↦ dead_knows ws bs old new dead
-      ]
-    ]
+no_step ws bs old new outcome result k r none = search (arith, acted, dead_knows)
 
 -- the word of the step that is taken is the one that the host wrote
 pub word_given : (task : Task) (written : Option ℕ) (word : ℕ) → step_answered task written ≡ Some word
     → written ≡ Some word
-word_given tasks.Settle written word e = e
-word_given task written word e = absurd (none-some word e)
+word_given task written word h3 = grind (arith, none-some)
 
 -- after a step: these steps were taken, and no word waits for one
 pub stepped : {K : Type 0} (ws : List ℕ) (bs : List (List ℕ)) (new : Port K) (xs : List ℕ)
     → answers new.stage new.words ≡ xs → HasInOrder xs ws → new.written ≡ None
     → IfSome new.rings (λ r. NamesArea ws r) → Handles bs new → Knows ws bs new
-stepped ws bs new xs e h none area handles = record {
-  taken = subst (λ zs. HasInOrder zs ws) (sym e) h;
-  given = if_none new.written (λ word. HasInOrder (word ∷ answers new.stage new.words) ws) none;
-  area = area;
-  packet = handles.packet;
-  buffer = handles.buffer;
-}
+stepped ws bs new xs e h none area handles = search (arith, answers new.stage new.words, if_none)
 
 -- the area that three words name
 pub area_named : (ws : List ℕ) (first second third : ℕ) (o : Option Rings) → rings_named first second third ≡ o
     → HasInOrder (third ∷ second ∷ first ∷ []) ws → IfSome o (λ r. NamesArea ws r)
-area_named ws first second third None e h = tt
-area_named ws first second third (Some r) e h = (first, second, third, h, e)
+area_named ws first second third o h5 h6 = grind arith
 
 pub first_step : {K : Type 0} (ws : List ℕ) (bs : List (List ℕ)) (old new : Port K) (word : ℕ) → Knows ws bs old
     → HasInOrder (word ∷ answers old.stage old.words) ws → Handles bs new → TakesStep word old new
     → old.stage ≡ stages.First → (b : Bool) → nat_eq (word / 0x4000 % 2) 1 ≡ b → Knows ws bs new
-first_step ws bs old new word k given handles t e true is =
-    let wrapped = t.wrap e (eqb-true (word / 0x4000 % 2) 1 is) in
-    stepped ws bs new [] (ap (λ p. answers p.stage p.words) wrapped) tt (ap (λ p. p.written) wrapped)
-    (if_same new.rings old.rings (λ r. NamesArea ws r) (ap (λ p. p.rings) wrapped) k.area) handles
-first_step ws bs old new word k given handles t e false is =
-    let on = t.first e (eqb-false (word / 0x4000 % 2) 1 is) in
-    stepped ws bs new (word ∷ []) (ap (λ p. answers p.stage p.words) on)
-    (first_in_order word (answers old.stage old.words) ws given) (ap (λ p. p.written) on)
-    (if_same new.rings old.rings (λ r. NamesArea ws r) (ap (λ p. p.rings) on) k.area) handles
+first_step ws bs old new word h5 h6 h7 h8 h9 b h11 =
+    grind (arith, eqb-true, stepped, answers, if_same, eqb-false, first_in_order)
 
 pub second_step : {K : Type 0} (ws : List ℕ) (bs : List (List ℕ)) (old new : Port K) (word : ℕ) → Knows ws bs old
     → HasInOrder (word ∷ answers old.stage old.words) ws → Handles bs new → TakesStep word old new
     → old.stage ≡ stages.Second → Knows ws bs new
-second_step ws bs old new word k given handles t e =
-    let on = t.second e in
-    stepped ws bs new (word ∷ old.words.first ∷ []) (ap (λ p. answers p.stage p.words) on)
-    (subst (λ s. HasInOrder (word ∷ answers s old.words) ws) e given) (ap (λ p. p.written) on)
-    (if_same new.rings old.rings (λ r. NamesArea ws r) (ap (λ p. p.rings) on) k.area) handles
+second_step ws bs old new word k given handles t e = search (arith, stepped, answers, if_same)
 
 -- the area is named by the third step, and cleared at once or after the test
 pub third_taken : {K : Type 0} (ws : List ℕ) (bs : List (List ℕ)) (old new : Port K) (word : ℕ)
@@ -159,32 +102,19 @@ pub third_taken : {K : Type 0} (ws : List ℕ) (bs : List (List ℕ)) (old new :
     → answers new.stage new.words ≡ [] → new.written ≡ None
     → new.rings ≡ rings_named old.words.first old.words.second word → Knows ws bs new
 third_taken ws bs old new word given handles e none written rings =
-    stepped ws bs new [] none tt written
-    (if_same new.rings (rings_named old.words.first old.words.second word) (λ r. NamesArea ws r) rings
-    (area_named ws old.words.first old.words.second word (rings_named old.words.first old.words.second word) refl
-    (subst (λ s. HasInOrder (word ∷ answers s old.words) ws) e given))) handles
+    search (arith, stepped, if_same, area_named, answers)
 
 pub third_cleared : {K : Type 0} (ws : List ℕ) (bs : List (List ℕ)) (old new : Port K) (word : ℕ)
     → HasInOrder (word ∷ answers old.stage old.words) ws → Handles bs new → TakesStep word old new
     → old.stage ≡ stages.Third → word < 0x8000 → (o : Option Rings)
     → rings_named old.words.first old.words.second word ≡ o → Knows ws bs new
-third_cleared ws bs old new word given handles t e low None none =
-    new_knows ws bs (stages.Dead 7) old new (λ w. refl) (t.nowhere e low none)
-third_cleared ws bs old new word given handles t e low (Some area) some =
-    let on = t.clear e low (λ none. none-some area (sym none ∙ some)) in
-    third_taken ws bs old new word given handles e (ap (λ p. answers p.stage p.words) on) (ap (λ p. p.written) on)
-    (ap (λ p. p.rings) on)
+third_cleared ws bs old new word h5 h6 h7 h8 h9 o h11 = grind (arith, new_knows, none-some, third_taken, answers)
 
 pub third_step : {K : Type 0} (ws : List ℕ) (bs : List (List ℕ)) (old new : Port K) (word : ℕ)
     → HasInOrder (word ∷ answers old.stage old.words) ws → Handles bs new → TakesStep word old new
     → old.stage ≡ stages.Third → (b : Bool) → nat_lt word 0x8000 ≡ b → Knows ws bs new
-third_step ws bs old new word given handles t e true is =
-    third_cleared ws bs old new word given handles t e (ltb-true word 0x8000 is)
-    (rings_named old.words.first old.words.second word) refl
-third_step ws bs old new word given handles t e false is =
-    let on = t.probe e (ltb-false word 0x8000 is) in
-    third_taken ws bs old new word given handles e (ap (λ p. answers p.stage p.words) on) (ap (λ p. p.written) on)
-    (ap (λ p. p.rings) on)
+third_step ws bs old new word h5 h6 h7 h8 b h10 =
+    grind (arith, third_cleared, ltb-true, ltb-false, third_taken, answers)
 
 abbrev pub is_first : Stage → Bool
 is_first stages.First = true
@@ -203,9 +133,8 @@ pub step_elsewhere : {K : Type 0} (ws : List ℕ) (bs : List (List ℕ)) (old ne
     → Knows ws bs old → TakesStep word old new → is_first s ≡ false → is_second s ≡ false → is_third s ≡ false
     → old.stage ≡ s → Knows ws bs new
 step_elsewhere ws bs old new word s k t first second third e =
-    subst (Knows ws bs) (sym (t.elsewhere (apart is_first old.stage s stages.First e first refl)
-    (apart is_second old.stage s stages.Second e second refl) (apart is_third old.stage s stages.Third e third refl)))
-    (record { taken = k.taken; given = tt; area = k.area; packet = tt; buffer = k.buffer })
+    search (arith, apart is_first old.stage s stages.First e first refl, apart is_second old.stage s stages.Second e
+    second refl, apart is_third old.stage s stages.Third e third refl)
 
 pub after_step : {K : Type 0} (ws : List ℕ) (bs : List (List ℕ)) (old new : Port K) (word : ℕ) → Knows ws bs old
     → HasInOrder (word ∷ answers old.stage old.words) ws → Handles bs new → TakesStep word old new → Knows ws bs new

@@ -1,5 +1,5 @@
 -- What a port knows that its host has named, and how that stays known.
-use Rattle.std.proofs.Common.{◌≡◌, ◌⊎◌, ℕ, List, [], ◌∷◌, Option, None, Some, Contains, IfSome, inl, inr, refl, ap, sym, ◌∙◌, subst}
+use Rattle.std.proofs.Common.{◌≡◌, ◌⊎◌, ℕ, List, [], ◌∷◌, Option, None, Some, Contains, IfSome, refl, ap, sym, subst, arith}
 use Rattle.std.proofs.lemmas.List.Elements.{Contains-append_left, Contains-append_right, Contains-push}
 use Rattle.mscp_port.specs.declared.buffers.Buffer.{Buffer}
 use Rattle.mscp_port.specs.declared.port.Port.{Port}
@@ -50,31 +50,22 @@ if_same o before P e h = subst (λ q. IfSome q P) (sym e) h
 
 -- what holds of what was there before holds of what is there, if it is that
 pub carried : (o before : Option ℕ) (P : ℕ → Type 0) → IfSome o (λ w. before ≡ Some w) → IfSome before P → IfSome o P
-carried None before P held h = tt
-carried (Some w) before P held h = subst (λ q. IfSome q P) held h
+carried o before P h3 h4 = grind arith
 
 pub weakened : {X : Type 0} (o : Option X) (P Q : X → Type 0) → ((x : X) → P x → Q x) → IfSome o P → IfSome o Q
-weakened None P Q f h = tt
-weakened (Some x) P Q f h = f x h
+weakened o P Q h3 h4 = grind arith
 
 -- ---- what stays known
 
 -- what is known once the host has said nothing, or all that it said is forgotten
 pub fresh_knows : {K : Type 0} (ws : List ℕ) (bs : List (List ℕ)) (p : Port K) → answers p.stage p.words ≡ []
     → p.written ≡ None → p.rings ≡ None → p.task ≡ tasks.Free → p.buffers.items ≡ [] → Knows ws bs p
-fresh_knows ws bs p taken written rings task buffers = record {
-  taken = subst (λ xs. HasInOrder xs ws) (sym taken) tt;
-  given = if_none p.written (λ word. HasInOrder (word ∷ answers p.stage p.words) ws) written;
-  area = if_none p.rings (λ r. NamesArea ws r) rings;
-  packet = if_none (in_hand p.task) (λ word. NamesPacket bs word) (ap in_hand task);
-  buffer = λ b there. absurd (none_among p.buffers.items b buffers there);
-}
+fresh_knows ws bs p taken written rings task buffers = search (arith, if_none, none_among)
 
 -- after a reset or a fatal error
 pub new_knows : {K : Type 0} (ws : List ℕ) (bs : List (List ℕ)) (s : Stage) (old new : Port K)
     → ((w : Words) → answers s w ≡ []) → IsAsNew s old new → Knows ws bs new
-new_knows ws bs s old new none n =
-    fresh_knows ws bs new (ap (λ t. answers t new.words) n.stage ∙ none new.words) n.written n.rings n.task n.buffers
+new_knows ws bs s old new none n = search (arith, fresh_knows)
 
 pub dead_knows : {K : Type 0} (ws : List ℕ) (bs : List (List ℕ)) (old new : Port K) → Dies old new → Knows ws bs new
 dead_knows ws bs old new d = new_knows ws bs (stages.Dead d.0) old new (λ w. refl) d.1
@@ -92,32 +83,16 @@ pub record Handles {K : Type 0} (bs : List (List ℕ)) (p : Port K) : Type 0 whe
 
 pub still_taken : {K : Type 0} (ws : List ℕ) (bs : List (List ℕ)) (old new : Port K) → Knows ws bs old → Stands old new
     → HasInOrder (answers new.stage new.words) ws
-still_taken ws bs old new k s = elim s.taken [
-  | inl e ↦ subst (λ xs. HasInOrder xs ws) (sym e) k.taken
-  | inr e ↦ subst (λ xs. HasInOrder xs ws) (sym e) tt
-]
+still_taken ws bs old new k s = search arith
 
 pub still_given : {K : Type 0} (ws : List ℕ) (bs : List (List ℕ)) (old new : Port K) → Knows ws bs old → Stands old new
     → IfSome new.written (λ word. HasInOrder (word ∷ answers new.stage new.words) ws)
-still_given ws bs old new k s =
-    let Given : List ℕ → Type 0 = λ xs. IfSome new.written (λ word. HasInOrder (word ∷ xs) ws) in
-    let before : Given (answers old.stage old.words) =
-    if_same new.written old.written (λ word. HasInOrder (word ∷ answers old.stage old.words) ws) s.given k.given in
-    elim s.taken [
-      | inl e ↦ subst Given (sym e) before
-      | inr e ↦ subst Given (sym e) (weakened new.written (λ word. HasInOrder (word ∷ answers old.stage old.words) ws)
-          (λ word. HasInOrder (word ∷ []) ws) (λ word h. first_in_order word (answers old.stage old.words) ws h) before)
-    ]
+still_given ws bs old new k s = search (arith, if_same, weakened, first_in_order)
 
 pub still_knows : {K : Type 0} (ws : List ℕ) (bs more : List (List ℕ)) (old new : Port K) → Knows ws bs old
     → Stands old new → Handles more new → Knows ws more new
-still_knows ws bs more old new k s h = record {
-  taken = still_taken ws bs old new k s;
-  given = still_given ws bs old new k s;
-  area = if_same new.rings old.rings (λ r. NamesArea ws r) s.area k.area;
-  packet = h.packet;
-  buffer = h.buffer;
-}
+still_knows ws bs more old new k s h =
+    search (arith, still_taken ws bs old new k s, still_given ws bs old new k s, if_same)
 
 -- what is known by one word more
 pub knows_more_words : {K : Type 0} (ws : List ℕ) (bs : List (List ℕ)) (p : Port K) (word : ℕ) → Knows ws bs p

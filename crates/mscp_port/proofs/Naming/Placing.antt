@@ -1,5 +1,5 @@
 -- What a port reads was put where it was wanted from.
-use Rattle.std.proofs.Common.{◌≡◌, ◌⊎◌, ℕ, List, [], ◌∷◌, Option, None, Some, Contains, IfSome, IsSomeAnd, MatchOption, inl, inr, refl, ap, sym, ◌∙◌, subst, true}
+use Rattle.std.proofs.Common.{◌≡◌, ◌⊎◌, ℕ, List, [], ◌∷◌, Option, None, Some, Contains, IfSome, IsSomeAnd, MatchOption, inl, inr, refl, true, arith}
 use Rattle.std.proofs.lemmas.Option.{none-some}
 use Rattle.std.specs.Prelude.{Result}
 use Rattle.mscp_packet.specs.Number.{num}
@@ -10,7 +10,6 @@ use Rattle.mscp_port.specs.declared.action.Unasked.{Unasked}
 use Rattle.mscp_port.specs.declared.buffers.Buffer.{Buffer}
 use Rattle.mscp_port.specs.declared.port.Port.{Port}
 use Rattle.mscp_port.specs.declared.rings.Side.{Side}
-use Rattle.mscp_port.specs.declared.rings.Side.TheVariants.{Responses, Commands}
 use Rattle.mscp_port.specs.declared.stage.Stage.{Stage}
 use Rattle.mscp_port.specs.declared.stage.Stage.TheVariants as stages
 use Rattle.mscp_port.specs.declared.task.Task.{Task}
@@ -43,8 +42,7 @@ pub record Places {K : Type 0} (ws : List ℕ) (rs : List (ℕ × List ℕ)) (o 
 packet_put_still : (ws more : List ℕ) (rs others : List (ℕ × List ℕ)) (word : ℕ)
     → ((r : Rings) → NamesArea ws r → NamesArea more r)
     → ((x : ℕ × List ℕ) → Contains rs x → Contains others x) → PutsPacket ws rs word → PutsPacket more others word
-packet_put_still ws more rs others word areas reads n =
-    (n.0, n.1, n.2, n.3, areas n.0 n.4, reads (slot_in n.0 n.1 n.2, n.3) n.5, n.6, n.7)
+packet_put_still ws more rs others word areas reads n = search arith
 
 buffer_put_still : (ws more : List ℕ) (rs others : List (ℕ × List ℕ)) (b : Buffer)
     → ((r : Rings) → NamesArea ws r → NamesArea more r)
@@ -68,39 +66,24 @@ places_behind ws rs o p word k = record {
 -- nothing is known once nothing is in hand
 pub nothing_placed : {K : Type 0} (ws : List ℕ) (rs : List (ℕ × List ℕ)) (p : Port K) → p.task ≡ tasks.Free
     → p.buffers.items ≡ [] → Places ws rs None p
-nothing_placed ws rs p free none = record {
-  asked = tt;
-  packet = if_none (in_hand p.task) (λ word. PutsPacket ws rs word) (ap in_hand free);
-  buffer = λ b h. absurd (none_among p.buffers.items b none h);
-}
+nothing_placed ws rs p free none = search (arith, if_none, none_among)
 
 -- ---- what is left in hand, or dropped
 
 given_left : {K : Type 0} (old new : Port K) (side : Side) → Leaves old new → given_in new side ≡ given_in old side
-given_left old new Responses l = l.responses
-given_left old new Commands l = l.commands
+given_left old new side h3 = grind arith
 
 read_left : {K : Type 0} (old new : Port K) (t : Task) (address : ℕ) → Leaves old new → IsReadFrom old t address
     → IsReadFrom new t address
-read_left old new (tasks.Slot side) address l h =
-    subst (λ n. IsSomeAnd new.rings (λ r. address ≡ slot_in r side n)) (sym (given_left old new side l))
-    (subst (λ o. IsSomeAnd o (λ r. address ≡ slot_in r side (given_in old side))) (sym l.rings) h)
-read_left old new (tasks.Text slot size foreign) address l h = h
-read_left old new t address l h = tt
+read_left old new t address h4 h5 = grind (arith, given_left)
 
 asked_left : {K : Type 0} (old new : Port K) (o : Option ℕ) → Leaves old new
     → IfSome o (λ address. IsReadFrom old old.task address) → IfSome o (λ address. IsReadFrom new new.task address)
-asked_left old new None l h = tt
-asked_left old new (Some address) l h =
-    subst (λ t. IsReadFrom new t address) (sym l.task) (read_left old new old.task address l h)
+asked_left old new o h3 h4 = grind (arith, read_left)
 
 left_placed : {K : Type 0} (ws : List ℕ) (rs : List (ℕ × List ℕ)) (o : Option ℕ) (old new : Port K) → Places ws rs o old
     → Leaves old new → Places ws rs o new
-left_placed ws rs o old new k l = record {
-  asked = asked_left old new o l k.asked;
-  packet = subst (λ t. IfSome (in_hand t) (λ word. PutsPacket ws rs word)) (sym l.task) k.packet;
-  buffer = λ b h. k.buffer b (subst (λ bs. Contains bs.items b) l.buffers h);
-}
+left_placed ws rs o old new k l = search (arith, asked_left old new o l k.asked)
 
 -- what is in hand then is no read
 abbrev pub IsNoRead : Task → Type 0
@@ -110,34 +93,19 @@ IsNoRead task = ⊥
 
 asked_none : {K : Type 0} (p : Port K) (t : Task) (o : Option ℕ) → IsNoRead t
     → IfSome o (λ address. IsReadFrom p t address)
-asked_none p t None h = tt
-asked_none p tasks.Free (Some address) h = tt
-asked_none p (tasks.Clear done) (Some address) h = tt
-asked_none p t (Some address) h = absurd h
+asked_none p t o h3 = grind arith
 
 no_packet : (ws : List ℕ) (rs : List (ℕ × List ℕ)) (t : Task) → IsNoRead t
     → IfSome (in_hand t) (λ word. PutsPacket ws rs word)
-no_packet ws rs tasks.Free h = tt
-no_packet ws rs (tasks.Clear done) h = tt
-no_packet ws rs t h = absurd h
+no_packet ws rs t h3 = grind arith
 
 dropped_placed : {K : Type 0} (ws : List ℕ) (rs : List (ℕ × List ℕ)) (o : Option ℕ) (old new : Port K)
     → Places ws rs o old → Drops old new → Places ws rs o new
-dropped_placed ws rs o old new k d =
-    let no : IsNoRead new.task =
-    elim d.task [ inl free ↦ subst IsNoRead (sym free) tt | inr clear ↦ subst IsNoRead (sym clear) tt ] in
-    record {
-      asked = asked_none new new.task o no;
-      packet = no_packet ws rs new.task no;
-      buffer = λ b h. k.buffer b (d.buffers b h);
-    }
+dropped_placed ws rs o old new k d = search (arith, asked_none, no_packet)
 
 pub hand_placed : {K : Type 0} (ws : List ℕ) (rs : List (ℕ × List ℕ)) (o : Option ℕ) (old new : Port K)
     → Places ws rs o old → Leaves old new ⊎ Drops old new → Places ws rs o new
-hand_placed ws rs o old new k h = elim h [
-  | inl left ↦ left_placed ws rs o old new k left
-  | inr drops ↦ dropped_placed ws rs o old new k drops
-]
+hand_placed ws rs o old new k h = search (arith, left_placed, dropped_placed)
 
 -- ---- what is wanted
 
@@ -145,22 +113,14 @@ hand_placed ws rs o old new k h = elim h [
 slot_asked : {K : Type 0} (p : Port K) (side : Side) (action : Action) (o : Option Rings) → p.rings ≡ o
     → MatchOption o (action ≡ actions.Pause) (λ r. action ≡ actions.Read (slot_in r side (given_in p side)) 4)
     → IfSome (read_from action) (λ address. IsSomeAnd o (λ r. address ≡ slot_in r side (given_in p side)))
-slot_asked p side action None e h =
-    subst (λ a. IfSome (read_from a) (λ address. ⊥)) (sym h) tt
-slot_asked p side action (Some r) e h =
-    subst (λ a. IfSome (read_from a) (λ address. address ≡ slot_in r side (given_in p side))) (sym h) refl
+slot_asked p side action o h4 h5 = grind arith
 
 any_read : (o : Option ℕ) → IfSome o (λ address. Unit {0})
-any_read None = tt
-any_read (Some address) = tt
+any_read o = grind arith
 
 wanted_from : {K : Type 0} (p : Port K) (t : Task) (action : Action) → IsWanted p t action
     → IfSome (read_from action) (λ address. IsReadFrom p t address)
-wanted_from p (tasks.Slot side) action h =
-    slot_asked p side action p.rings refl h
-wanted_from p (tasks.Text slot size foreign) action h =
-    subst (λ a. IfSome (read_from a) (λ address. address ≡ text_of slot.word)) (sym h) refl
-wanted_from p t action h = any_read (read_from action)
+wanted_from p t action h3 = grind (arith, slot_asked, any_read)
 
 -- the code of a fatal error, if the port is in one
 abbrev dead_code : Stage → Option ℕ
@@ -168,75 +128,40 @@ dead_code (stages.Dead code) = Some code
 dead_code s = None
 
 code_of_dead : (s : Stage) (code : ℕ) → dead_code s ≡ Some code → (n : ℕ) × (s ≡ stages.Dead n)
-code_of_dead (stages.Dead n) code e = (n, refl)
-code_of_dead s code e = absurd (none-some code e)
+code_of_dead s code h2 = grind (arith, none-some)
 
 asked_next : {K : Type 0} (old new : Port K) (action : Action) → Wants old action new → (o : Option ℕ)
     → dead_code old.stage ≡ o → IfSome (read_from action) (λ address. IsReadFrom new new.task address)
-asked_next old new action r None e =
-    wanted_from new new.task action (r.wanted (λ code is. none-some code (sym e ∙ ap dead_code is)))
-asked_next old new action r (Some code) e =
-    let dead = code_of_dead old.stage code e in
-    subst (λ a. IfSome (read_from a) (λ address. IsReadFrom new new.task address)) (sym (r.dead dead.0 dead.1).0) tt
+asked_next old new action h3 o h5 = grind (arith, wanted_from, none-some, code_of_dead)
 
 pub next_placed : {K : Type 0} (ws : List ℕ) (rs : List (ℕ × List ℕ)) (o : Option ℕ) (old new : Port K)
     (action : Action) → Places ws rs o old → Wants old action new → Places ws rs (read_from action) new
-next_placed ws rs o old new action k r = record {
-  asked = asked_next old new action r (dead_code old.stage) refl;
-  packet = carried (in_hand new.task) (in_hand old.task) (λ word. PutsPacket ws rs word) r.packet k.packet;
-  buffer = λ b h. k.buffer b (subst (λ (p : Port _). Contains p.buffers.items b) r.frame h);
-}
+next_placed ws rs o old new action k r = search (arith, asked_next old new action r (dead_code old.stage) refl, carried)
 
 -- ---- how it went
 
 pub went_placed : {K : Type 0} (ws : List ℕ) (rs : List (ℕ × List ℕ)) (o : Option ℕ) (old new : Port K)
     (outcome : Outcome) (result : Result Unit Unasked) → Places ws rs o old → Goes outcome old result new
     → Places ws rs None new
-went_placed ws rs o old new outcome result k r = record {
-  asked = tt;
-  packet = carried (in_hand new.task) (in_hand old.task) (λ word. PutsPacket ws rs word) r.packet k.packet;
-  buffer = λ b h. k.buffer b (r.buffers b h);
-}
+went_placed ws rs o old new outcome result k r = search (arith, carried)
 
 -- ---- what was read
 
 -- what holds of what is there, and what is said of it
 ring_of : {X : Type 0} (o : Option X) (P Q : X → Type 0) → IfSome o P → IsSomeAnd o Q → (x : X) × P x × Q x
-ring_of None P Q p q = absurd q
-ring_of (Some x) P Q p q = (x, p, q)
+ring_of o P Q h3 h4 = grind arith
 
 -- the ring of the slot that was read was named
 slot_read : {K : Type 0} (ws : List ℕ) (rs : List (ℕ × List ℕ)) (old : Port K) (t : Task) (address word : ℕ)
     (bytes : List ℕ) → IfSome old.rings (λ r. NamesArea ws r) → IsReadingSlot t → IsReadFrom old t address
     → word ≡ num bytes 0 4 → is_owned word ≡ true → PutsPacket ws ((address, bytes) ∷ rs) word
-slot_read ws rs old (tasks.Slot side) address word bytes areas reading from is owned =
-    let found =
-    ring_of old.rings (λ r. NamesArea ws r) (λ r. address ≡ slot_in r side (given_in old side)) areas from in (
-      found.0,
-      side,
-      given_in old side,
-      bytes,
-      found.1,
-      subst (λ a. Contains ((address, bytes) ∷ rs) (a, bytes)) found.2 (here (address, bytes) rs),
-      is,
-      owned,
-    )
-slot_read ws rs old t address word bytes areas reading from is owned = absurd reading
+slot_read ws rs old t address word bytes h7 h8 h9 h10 h11 = grind (arith, ring_of, here)
 
 -- the packet of the text that was read was put there
 text_read : {K : Type 0} (ws : List ℕ) (rs : List (ℕ × List ℕ)) (old : Port K) (t : Task) (address changes : ℕ)
     (b : Buffer) (bytes : List ℕ) → IfSome (in_hand t) (λ word. PutsPacket ws rs word) → IsReadingText t
     → IsReadFrom old t address → b ≡ buffer_in bytes changes → PutsBuffer ws ((address, bytes) ∷ rs) b
-text_read ws rs old (tasks.Text slot size foreign) address changes b bytes packet reading from is = (
-  slot.word,
-  bytes,
-  changes,
-  packet_put_still ws ws rs ((address, bytes) ∷ rs) slot.word (λ r m. m)
-      (λ x h. there (address, bytes) x rs h) packet,
-  subst (λ a. Contains ((address, bytes) ∷ rs) (a, bytes)) from (here (address, bytes) rs),
-  is,
-)
-text_read ws rs old t address changes b bytes packet reading from is = absurd reading
+text_read ws rs old t address changes b bytes h8 h9 h10 h11 = grind (arith, packet_put_still, there, here)
 
 read_packet_put : {K : Type 0} (ws : List ℕ) (rs : List (ℕ × List ℕ)) (old : Port K) (address : ℕ) (bytes : List ℕ)
     (now : Option ℕ) → IfSome old.rings (λ r. NamesArea ws r) → IsReadFrom old old.task address
@@ -244,12 +169,7 @@ read_packet_put : {K : Type 0} (ws : List ℕ) (rs : List (ℕ × List ℕ)) (ol
     → IfSome now (λ word. (in_hand old.task ≡ Some word)
     ⊎ (IsReadingSlot old.task × (word ≡ num bytes 0 4) × (is_owned word ≡ true)))
     → IfSome now (λ word. PutsPacket ws ((address, bytes) ∷ rs) word)
-read_packet_put ws rs old address bytes None areas from packet h = tt
-read_packet_put ws rs old address bytes (Some word) areas from packet h = elim h [
-  | inl held ↦ packet_put_still ws ws rs ((address, bytes) ∷ rs) word (λ r m. m)
-      (λ x m. there (address, bytes) x rs m) (subst (λ o. IfSome o (λ w. PutsPacket ws rs w)) held packet)
-  | inr seen ↦ slot_read ws rs old old.task address word bytes areas seen.0 from seen.1 seen.2
-]
+read_packet_put ws rs old address bytes now h6 h7 h8 h9 = grind (arith, packet_put_still, there, slot_read)
 
 pub read_placed : {K : Type 0} (ws : List ℕ) (rs : List (ℕ × List ℕ)) (address : ℕ) (old new : Port K)
     (bytes : List ℕ) (result : Result Unit Unasked) → IfSome old.rings (λ r. NamesArea ws r)

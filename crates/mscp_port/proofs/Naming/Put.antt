@@ -1,5 +1,5 @@
 -- What a port touches after a whole history was put into its host's memory.
-use Rattle.std.proofs.Common.{◌≢◌, ◌⊎◌, ℕ, List, [], ◌∷◌, length, Option, None, Some, IfSome, inl, inr, refl, ap, sym, subst}
+use Rattle.std.proofs.Common.{◌≢◌, ◌⊎◌, ℕ, List, [], ◌∷◌, length, Option, None, Some, IfSome, refl, sym, subst, arith}
 use Rattle.std.specs.Prelude.{Ok, Err}
 use Rattle.mscp_controller.specs.Holdings.{Holdings}
 use Rattle.mscp_port.specs.declared.action.Action.{Action}
@@ -7,33 +7,20 @@ use Rattle.mscp_port.specs.declared.action.Action.TheVariants as actions
 use Rattle.mscp_port.specs.declared.hardware.Hardware.{Hardware}
 use Rattle.mscp_port.specs.declared.port.Port.{Port}
 use Rattle.mscp_port.specs.declared.stage.Stage.{Stage}
-use Rattle.mscp_port.specs.Areas.{IsInArea}
 use Rattle.mscp_port.specs.Calls.{Hears, IsMadeOf, Ticks}
 use Rattle.mscp_port.specs.Histories.{Answered, Becomes, Call, NamesArea, words, reads, WriteIp, ReadIp, WriteSa, Next, WasRead, Went, LookAgain, Tick, Change}
-use Rattle.mscp_port.specs.Places.{AsksFirst, IsPut, IsPutForData, IsPutForRings, PutsPacket, asked, reads_at, with_read}
-use Rattle.mscp_port.specs.Ports.{Drops, IsAsNew, IsInPacket, IsInRingsOrPacket, IsInSomeBuffer, IsWithin, Leaves, in_hand}
+use Rattle.mscp_port.specs.Places.{AsksFirst, IsPut, IsPutForData, IsPutForRings, asked, reads_at, with_read}
+use Rattle.mscp_port.specs.Ports.{Drops, IsAsNew, IsInRingsOrPacket, IsInSomeBuffer, IsWithin, Leaves}
 use Rattle.mscp_port.proofs.Among.{none_among}
 use Rattle.mscp_port.proofs.Naming.Knowing.{Knows}
 use Rattle.mscp_port.proofs.Naming.Placing.{Places, hand_placed, next_placed, nothing_placed, places_behind, read_placed, went_placed}
 use Rattle.mscp_port.proofs.Naming.Whole.{chosen, knows}
 
 new_drops : {K : Type 0} (s : Stage) (old new : Port K) → IsAsNew s old new → Drops old new
-new_drops s old new n = record {
-  task = inl n.task;
-  buffers = λ b h. absurd (none_among new.buffers.items b n.buffers h);
-}
+new_drops s old new n = search (arith, none_among)
 
 tick_hands : {K : Type 0} (old new : Port K) → Ticks old new → Leaves old new ⊎ Drops old new
-tick_hands old new r = elim r.either [
-  | inl e ↦ inl (record {
-    task = ap (λ p. p.task) e;
-    rings = ap (λ p. p.rings) e;
-    responses = ap (λ p. p.responses) e;
-    commands = ap (λ p. p.commands) e;
-    buffers = ap (λ p. p.buffers) e;
-  })
-  | inr dead ↦ inr (new_drops _ old new dead)
-]
+tick_hands old new r = search (arith, new_drops)
 
 -- the bytes of a read that was wanted
 heard_placed : {K : Type 0} (ws : List ℕ) (rs : List (ℕ × List ℕ)) (o : Option ℕ) (old new : Port K) (bytes : List ℕ)
@@ -57,36 +44,18 @@ call_placed (Next action) earlier old new areas asks k r =
     next_placed (words earlier) (reads_at earlier) (asked earlier) old new action k r
 call_placed (WasRead bytes (Ok done)) earlier old new areas asks k r =
     heard_placed (words earlier) (reads_at earlier) (asked earlier) old new bytes done areas asks.0 k r
-call_placed (WasRead bytes (Err unasked)) earlier old new areas asks k r =
-    subst (Places (words earlier) (reads_at earlier) (asked earlier)) (sym r.unasked) k
+call_placed (WasRead bytes (Err unasked)) earlier old new areas asks k r = search arith
 call_placed (Went outcome (Ok done)) earlier old new areas asks k r =
     went_placed (words earlier) (reads_at earlier) (asked earlier) old new outcome (Ok done) k r
-call_placed (Went outcome (Err unasked)) earlier old new areas asks k r =
-    subst (Places (words earlier) (reads_at earlier) (asked earlier)) (sym r.unasked) k
-call_placed LookAgain earlier old new areas asks k r =
-    hand_placed (words earlier) (reads_at earlier) (asked earlier) old new k (inl (record {
-      task = ap (λ p. p.task) r;
-      rings = ap (λ p. p.rings) r;
-      responses = ap (λ p. p.responses) r;
-      commands = ap (λ p. p.commands) r;
-      buffers = ap (λ p. p.buffers) r;
-    }))
+call_placed (Went outcome (Err unasked)) earlier old new areas asks k r = search arith
+call_placed LookAgain earlier old new areas asks k r = search (arith, hand_placed)
 call_placed Tick earlier old new areas asks k r =
     hand_placed (words earlier) (reads_at earlier) (asked earlier) old new k (tick_hands old new r)
-call_placed (Change is_there protected unit result) earlier old new areas asks k r =
-    hand_placed (words earlier) (reads_at earlier) (asked earlier) old new k (inl (record {
-      task = ap (λ p. p.task) r.frame;
-      rings = ap (λ p. p.rings) r.frame;
-      responses = ap (λ p. p.responses) r.frame;
-      commands = ap (λ p. p.commands) r.frame;
-      buffers = ap (λ p. p.buffers) r.frame;
-    }))
+call_placed (Change is_there protected unit result) earlier old new areas asks k r = search (arith, hand_placed)
 
 -- who asked before also asked earlier
 asked_before : (call : Call) (earlier : List Call) → AsksFirst (call ∷ earlier) → AsksFirst earlier
-asked_before (WasRead bytes (Ok done)) earlier asks = asks.1
-asked_before (WasRead bytes (Err unasked)) earlier asks = asks
-asked_before call earlier asks = asks
+asked_before call earlier h2 = grind arith
 
 pub placed : {K : Type 0} (hardware : Hardware) (credits : ℕ) (controller : Holdings K) (start p : Port K)
     (calls : List Call) → IsMadeOf hardware credits controller start → AsksFirst calls → Answered start calls p
@@ -103,11 +72,7 @@ ring_put : {K : Type 0} (calls : List Call) (o : Option ℕ) (p : Port K) (addre
     → Knows (words calls) (reads calls) p → Places (words calls) (reads_at calls) o p
     → IsInRingsOrPacket p address count
     → IsPutForRings calls address count
-ring_put calls o p address count k m lies = elim lies [
-  | inl area ↦ inl (chosen p.rings (λ r. IsInArea r address count) (λ r. NamesArea (words calls) r) area k.area)
-  | inr packet ↦ inr (chosen (in_hand p.task) (λ word. IsInPacket word address count)
-      (λ word. PutsPacket (words calls) (reads_at calls) word) packet m.packet)
-]
+ring_put calls o p address count k m lies = search (arith, chosen)
 
 data_put : {K : Type 0} (calls : List Call) (o : Option ℕ) (p : Port K) (address count : ℕ)
     → Places (words calls) (reads_at calls) o p → IsInSomeBuffer p address count
@@ -117,11 +82,8 @@ data_put calls o p address count m lies = (lies.0, m.buffer lies.0 lies.1, lies.
 within_put : {K : Type 0} (calls : List Call) (o : Option ℕ) (p : Port K) (action : Action)
     → Knows (words calls) (reads calls) p → Places (words calls) (reads_at calls) o p → IsWithin p action
     → IsPut calls action
-within_put calls o p (actions.Read address count) k m lies = ring_put calls o p address count k m lies
 within_put calls o p (actions.Write address bytes) k m lies = ring_put calls o p address (length bytes.items) k m lies
-within_put calls o p (actions.Fetch address count) k m lies = data_put calls o p address count m lies
-within_put calls o p (actions.Store address count) k m lies = data_put calls o p address count m lies
-within_put calls o p action k m lies = tt
+within_put calls o p action h4 h5 h6 = grind (arith, ring_put, data_put)
 
 -- the law of places
 pub touches_what_was_put : {K : Type 0} (hardware : Hardware) (credits : ℕ) (controller : Holdings K)

@@ -1,5 +1,5 @@
 -- What a port knows once a register was touched, or an action was wanted.
-use Rattle.std.proofs.Common.{◌≡◌, ◌≢◌, ℕ, Bool, true, false, cond, ◌%◌, List, [], ◌∷◌, Option, None, Some, Contains, inl, inr, refl, ap, sym, ◌∙◌, subst}
+use Rattle.std.proofs.Common.{◌≡◌, ◌≢◌, ℕ, Bool, true, false, cond, ◌%◌, List, [], ◌∷◌, Some, inr, refl, ap, sym, ◌∙◌, subst, arith}
 use Rattle.std.proofs.lemmas.Bool.{eqb-true, eqb-false, false≢true}
 use Rattle.std.proofs.lemmas.Option.{none-some}
 use Rattle.std.specs.Prelude.{nat_lt, nat_eq}
@@ -8,11 +8,7 @@ use Rattle.mscp_port.specs.declared.port.Port.{Port}
 use Rattle.mscp_port.specs.declared.port.Words.{Words}
 use Rattle.mscp_port.specs.declared.stage.Stage.{Stage}
 use Rattle.mscp_port.specs.declared.stage.Stage.TheVariants as stages
-use Rattle.mscp_port.specs.declared.task.Task.TheVariants as tasks
-use Rattle.mscp_port.specs.Areas.{Rings}
 use Rattle.mscp_port.specs.Calls.{ReadsIp, Wants, WritesSa}
-use Rattle.mscp_port.specs.Histories.{NamesPacket}
-use Rattle.mscp_port.specs.Ports.{in_hand}
 use Rattle.mscp_port.proofs.Naming.Knowing.{answers, Knows, in_order_behind, in_order_more, carried, new_knows, still_knows, knows_more_words}
 
 -- ---- by each call
@@ -38,66 +34,34 @@ unread ws bs old new s k r up probing e =
 
 pub up_read : {K : Type 0} (ws : List ℕ) (bs : List (List ℕ)) (old new : Port K) → Knows ws bs old → ReadsIp old new
     → old.stage ≡ stages.Up → Knows ws bs new
-up_read ws bs old new k r e = subst (Knows ws bs) (sym (r.up e)) (record {
-  taken = k.taken;
-  given = k.given;
-  area = k.area;
-  packet = k.packet;
-  buffer = k.buffer;
-})
+up_read ws bs old new k r e = search arith
 
 pub probed : {K : Type 0} (ws : List ℕ) (bs : List (List ℕ)) (old new : Port K) → Knows ws bs old → ReadsIp old new
     → old.stage ≡ stages.Probing → Knows ws bs new
-probed ws bs old new k r e =
-    let Case : Option Rings → Type 0 = λ o. old.rings ≡ o → Knows ws bs new in
-    let cleared : old.rings ≢ None → Knows ws bs new = λ some.
-    let is : new ≡ record old { stage = stages.Clearing; task = tasks.Clear 0 } = r.probed e some in
-    subst (Knows ws bs) (sym is)
-    (still_knows ws bs bs old (record old { stage = stages.Clearing; task = tasks.Clear 0 }) k
-    (record { taken = inr refl; given = refl; area = refl }) (record { packet = tt; buffer = k.buffer })) in
-    let both : (o : Option Rings) → Case o = λ o. elim o as Case [
-      | None ↦ λ none. new_knows ws bs (stages.Dead 7) old new (λ w. refl) (r.nowhere e none)
-      | Some area ↦ λ some. cleared (λ none. none-some area (sym none ∙ some))
-    ] in
-    both old.rings refl
+probed ws bs old new k r e = search (arith, still_knows, new_knows, none-some)
 
 pub after_read_ip : {K : Type 0} (ws : List ℕ) (bs : List (List ℕ)) (old new : Port K) → Knows ws bs old
     → ReadsIp old new → Knows ws bs new
 after_read_ip ws bs old new k r =
-    let Then : Stage → Type 0 = λ s. old.stage ≡ s → Knows ws bs new in
-    let by_stage : (s : Stage) → Then s = λ s. elim s as Then [
-      | stages.First ↦ unread ws bs old new stages.First k r refl refl
-      | stages.Wrapped word ↦ unread ws bs old new (stages.Wrapped word) k r refl refl
-      | stages.Second ↦ unread ws bs old new stages.Second k r refl refl
-      | stages.Third ↦ unread ws bs old new stages.Third k r refl refl
-      | stages.Purging ↦ unread ws bs old new stages.Purging k r refl refl
-      | stages.Probing ↦ probed ws bs old new k r
-      | stages.Clearing ↦ unread ws bs old new stages.Clearing k r refl refl
-      | stages.Last ↦ unread ws bs old new stages.Last k r refl refl
-      | stages.Up ↦ up_read ws bs old new k r
-      | stages.Dead code ↦ unread ws bs old new (stages.Dead code) k r refl refl
-    ] in
-    by_stage old.stage refl
+    search (arith, unread ws bs old new stages.First k r refl refl, unread ws bs old new stages.Second k r refl refl,
+    unread ws bs old new stages.Third k r refl refl, unread ws bs old new stages.Purging k r refl refl, probed ws bs old
+    new k r, unread ws bs old new stages.Clearing k r refl refl, unread ws bs old new stages.Last k r refl refl, up_read
+    ws bs old new k r)
 
 -- the word that the host wrote answers the step that it is to answer
 pub answered_now : {K : Type 0} (ws : List ℕ) (bs : List (List ℕ)) (old new : Port K) (word : ℕ) → Knows ws bs old
     → new ≡ record old { written = Some word } → Knows (word ∷ ws) bs new
-answered_now ws bs old new word k e = subst (Knows (word ∷ ws) bs) (sym e) (record {
-  taken = in_order_behind (answers old.stage old.words) ws word k.taken;
-  given = in_order_more (answers old.stage old.words) ws word k.taken;
-  area = (knows_more_words ws bs old word k).area;
-  packet = k.packet;
-  buffer = k.buffer;
-})
+answered_now ws bs old new word k e =
+    search (arith, in_order_behind (answers old.stage old.words) ws word k.taken, answers old.stage old.words,
+    in_order_more (answers old.stage old.words) ws word k.taken, knows_more_words ws bs old word k)
 
 -- the word leads to a stage in which no step is to be taken, or has been
 pub led_on : {K : Type 0} (ws : List ℕ) (bs : List (List ℕ)) (old new : Port K) (word : ℕ) (s : Stage) → Knows ws bs old
     → ((w : Words) → answers s w ≡ []) → new ≡ record old { stage = s } → Knows (word ∷ ws) bs new
 led_on ws bs old new word s k none e =
-    subst (Knows (word ∷ ws) bs) (sym e)
-    (still_knows (word ∷ ws) bs bs old (record old { stage = s }) (knows_more_words ws bs old word k)
-    (record { taken = inr (none old.words); given = refl; area = refl })
-    (record { packet = k.packet; buffer = k.buffer }))
+    search (arith, still_knows (word ∷ ws) bs bs old (record old { stage = s }) (knows_more_words ws bs old word k)
+    (record { taken = inr (none old.words); given = refl; area = refl }) (record { packet = k.packet; buffer = k.buffer
+    }), knows_more_words ws bs old word k)
 
 pub ignored : {K : Type 0} (ws : List ℕ) (bs : List (List ℕ)) (old new : Port K) (word : ℕ) → Knows ws bs old
     → new ≡ old → Knows (word ∷ ws) bs new
@@ -117,8 +81,7 @@ pub purged : {K : Type 0} (ws : List ℕ) (bs : List (List ℕ)) (old new : Port
     → WritesSa word old new → old.stage ≡ stages.Purging → (b : Bool) → nat_eq word 0 ≡ b → Knows (word ∷ ws) bs new
 purged ws bs old new word k r e true is =
     led_on ws bs old new word stages.Probing k (λ w. refl) (r.purged e (eqb-true word 0 is))
-purged ws bs old new word k r e false is =
-    new_knows (word ∷ ws) bs (stages.Dead 21) old new (λ w. refl) (r.not_purged e (eqb-false word 0 is))
+purged ws bs old new word k r e false is = search (arith, eqb-false word 0 is, new_knows)
 
 pub after_write_sa : {K : Type 0} (ws : List ℕ) (bs : List (List ℕ)) (old new : Port K) (word : ℕ) → Knows ws bs old
     → WritesSa word old new → Knows (word ∷ ws) bs new
@@ -141,14 +104,4 @@ after_write_sa ws bs old new word k r =
 -- nothing is learned as an action is wanted
 pub after_next : {K : Type 0} (ws : List ℕ) (bs : List (List ℕ)) (old new : Port K) (action : Action) → Knows ws bs old
     → Wants old action new → Knows ws bs new
-after_next ws bs old new action k r =
-    still_knows ws bs bs old new k
-    (record {
-      taken = inl (ap (λ p. answers p.stage p.words) r.frame);
-      given = ap (λ p. p.written) r.frame;
-      area = ap (λ p. p.rings) r.frame;
-    })
-    (record {
-      packet = carried (in_hand new.task) (in_hand old.task) (λ word. NamesPacket bs word) r.packet k.packet;
-      buffer = λ b there. k.buffer b (subst (λ (p : Port _). Contains p.buffers.items b) r.frame there);
-    })
+after_next ws bs old new action k r = search (arith, still_knows, answers, carried)

@@ -1,18 +1,16 @@
 -- What a port knows after a whole history, and what it touches then.
-use Rattle.std.proofs.Common.{ℕ, List, [], ◌∷◌, Option, None, Some, Contains, IfSome, IsSomeAnd, inl, inr, refl, ap, sym, subst}
-use Rattle.std.specs.Prelude.{Result, Ok, Err, length}
+use Rattle.std.proofs.Common.{ℕ, List, [], ◌∷◌, Option, Contains, IfSome, IsSomeAnd, inl, inr, refl, ap, sym, subst, arith}
+use Rattle.std.specs.Prelude.{Result, Ok, Err}
 use Rattle.mscp_port.specs.declared.action.Action.{Action}
-use Rattle.mscp_port.specs.declared.action.Action.TheVariants as actions
 use Rattle.mscp_port.specs.declared.action.Unasked.{Unasked}
 use Rattle.mscp_port.specs.declared.buffers.Buffer.{Buffer}
 use Rattle.mscp_controller.specs.Holdings.{Holdings}
 use Rattle.mscp_port.specs.declared.hardware.Hardware.{Hardware}
 use Rattle.mscp_port.specs.declared.port.Port.{Port}
 use Rattle.mscp_port.specs.declared.stage.Stage.TheVariants as stages
-use Rattle.mscp_port.specs.Areas.{IsInArea}
 use Rattle.mscp_port.specs.Calls.{Hears, IsMadeOf, Ticks}
-use Rattle.mscp_port.specs.Histories.{Answered, Becomes, Call, IsNamed, IsNamedForData, IsNamedForRings, NamesArea, NamesBuffer, NamesPacket, reads, words, WriteIp, ReadIp, WriteSa, Next, WasRead, Went, LookAgain, Tick, Change}
-use Rattle.mscp_port.specs.Ports.{IsInRingsOrPacket, IsInPacket, IsInSomeBuffer, IsWithin, in_hand}
+use Rattle.mscp_port.specs.Histories.{Answered, Becomes, Call, IsNamed, IsNamedForData, IsNamedForRings, NamesBuffer, NamesPacket, reads, words, WriteIp, ReadIp, WriteSa, Next, WasRead, Went, LookAgain, Tick, Change}
+use Rattle.mscp_port.specs.Ports.{IsInRingsOrPacket, IsInSomeBuffer, IsWithin, in_hand}
 use Rattle.mscp_port.proofs.Naming.Knowing.{answers, Knows, fresh_knows, new_knows, still_knows}
 use Rattle.mscp_port.proofs.Naming.Registers.{after_read_ip, after_write_sa, after_next}
 use Rattle.mscp_port.proofs.Naming.Acting.{after_read, after_went}
@@ -51,46 +49,26 @@ after_call (Next action) earlier old new k r = after_next (words earlier) (reads
 after_call (WasRead bytes result) earlier old new k r = heard earlier old new bytes result k r
 after_call (Went outcome result) earlier old new k r =
     after_went (words earlier) (reads earlier) old new outcome result k r
-after_call LookAgain earlier old new k r = subst (Knows (words earlier) (reads earlier)) (sym r) (record {
-  taken = k.taken;
-  given = k.given;
-  area = k.area;
-  packet = k.packet;
-  buffer = k.buffer;
-})
+after_call LookAgain earlier old new k r = search arith
 after_call Tick earlier old new k r = ticked (words earlier) (reads earlier) old new k r
-after_call (Change is_there protected unit result) earlier old new k r =
-    subst (Knows (words earlier) (reads earlier)) (sym r.frame) (record {
-      taken = k.taken;
-      given = k.given;
-      area = k.area;
-      packet = k.packet;
-      buffer = k.buffer;
-    })
+after_call (Change is_there protected unit result) earlier old new k r = search arith
 
 -- what a port knows after a history its host has named in it
 pub knows : {K : Type 0} (hardware : Hardware) (credits : ℕ) (controller : Holdings K) (start p : Port K)
     (calls : List Call) → IsMadeOf hardware credits controller start → Answered start calls p
     → Knows (words calls) (reads calls) p
-knows hardware credits controller start p [] made e = subst (Knows [] []) (sym e)
-    (fresh_knows [] [] start (ap (λ s. answers s start.words) made.first) made.written made.rings made.free
-    made.buffers)
+knows hardware credits controller start p [] made e = search (arith, fresh_knows, answers)
 knows hardware credits controller start p (call ∷ earlier) made a =
     after_call call earlier a.0 p (knows hardware credits controller start a.0 earlier made a.1) a.2
 
 -- ---- what an action touches
 
 pub chosen : {X : Type 0} (o : Option X) (P Q : X → Type 0) → IsSomeAnd o P → IfSome o Q → (x : X) × Q x × P x
-chosen None P Q p q = absurd p
-chosen (Some x) P Q p q = (x, q, p)
+chosen o P Q h3 h4 = grind arith
 
 pub ring_named : {K : Type 0} (calls : List Call) (p : Port K) (address count : ℕ) → Knows (words calls) (reads calls) p
     → IsInRingsOrPacket p address count → IsNamedForRings calls address count
-ring_named calls p address count k lies = elim lies [
-  | inl area ↦ inl (chosen p.rings (λ r. IsInArea r address count) (λ r. NamesArea (words calls) r) area k.area)
-  | inr packet ↦ inr (chosen (in_hand p.task) (λ word. IsInPacket word address count)
-      (λ word. NamesPacket (reads calls) word) packet k.packet)
-]
+ring_named calls p address count k lies = search (arith, chosen)
 
 pub data_named : {K : Type 0} (calls : List Call) (p : Port K) (address count : ℕ) → Knows (words calls) (reads calls) p
     → IsInSomeBuffer p address count → IsNamedForData calls address count
@@ -98,14 +76,7 @@ data_named calls p address count k lies = (lies.0, k.buffer lies.0 lies.1, lies.
 
 pub within_named : {K : Type 0} (calls : List Call) (p : Port K) (action : Action) → Knows (words calls) (reads calls) p
     → IsWithin p action → IsNamed calls action
-within_named calls p (actions.Read address count) k lies = ring_named calls p address count k lies
-within_named calls p (actions.Write address bytes) k lies = ring_named calls p address (length bytes.items) k lies
-within_named calls p (actions.Fetch address count) k lies = data_named calls p address count k lies
-within_named calls p (actions.Store address count) k lies = data_named calls p address count k lies
-within_named calls p actions.Rest k lies = tt
-within_named calls p actions.Pause k lies = tt
-within_named calls p (actions.Interrupt vector) k lies = tt
-within_named calls p (actions.Transfer kind unit block count) k lies = tt
+within_named calls p action h3 h4 = grind (arith, ring_named, data_named)
 
 -- the law of ports
 pub touches_what_is_named : {K : Type 0} (hardware : Hardware) (credits : ℕ) (controller : Holdings K) (start : Port K)
