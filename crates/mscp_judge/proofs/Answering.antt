@@ -52,8 +52,13 @@ answer_words : (via : Connection) (word rest : List ℕ) → IsFirstWord word �
     → is_answer (words (connection_word via ++ (word ++ rest))) ≡ true
 answer_words First word rest w apart = search (arith, word_front word rest w.some w.solid apart)
 answer_words Second word rest w apart =
-    search (arith, word_front (codes "second") (32 ∷ (word ++ rest)) (omega arith) refl refl, after_space (word ++
-    rest), word_front word rest w.some w.solid apart)
+    search (
+      arith,
+      word_front (codes "second") (32 ∷ (word ++ rest)) (omega arith) refl refl,
+      after_space (word ++
+          rest),
+      word_front word rest w.some w.solid apart,
+    )
 
 no_comment_via : (via : Connection) (word rest : List ℕ) → IsFirstWord word
     → is_comment (connection_word via ++ (word ++ rest)) ≡ false
@@ -74,9 +79,21 @@ short_line via word rest w apart printed short =
 answer_line : (via : Connection) (word rest : List ℕ) → IsFirstWord word → IsApart rest → AllPrinted rest
     → length rest ≤ 150 → IsAnswerLine (connection_word via ++ (word ++ rest))
 answer_line via word rest w apart printed few =
-    search (arith, short_line via word rest w apart printed (omega ( arith, length-append (connection_word via) (word ++
-    rest), length-append word rest, few_via via, w.few, few, )), length-append (connection_word via) (word ++ rest),
-    length-append word rest, few_via via)
+    search (
+      arith,
+      short_line via word rest w apart printed (omega (
+        arith,
+        length-append (connection_word via) (word ++
+            rest),
+        length-append word rest,
+        few_via via,
+        w.few,
+        few,
+      )),
+      length-append (connection_word via) (word ++ rest),
+      length-append word rest,
+      few_via via,
+    )
 
 -- one line, which begins with the word of the connection
 one_line : (via : Connection) (bytes : List ℕ) → IsAnswerLine (connection_word via ++ bytes)

@@ -173,8 +173,11 @@ printed_fed (b ∷ bytes) h =
 pub ready_due : {A : Type 0} (c : Settings) (log : Log) (line : List ℕ) (judge : Judge A) → Stands c log judge
     → due judge ≢ [] → IsAhead c log line judge
 ready_due c log line judge s some =
-    search (arith, ahead_counted c (marked log) judge.controller (due judge) (owed judge) (told (line ++ 10 ∷ []))
-    (totals_of c judge) s.counted)
+    search (
+      arith,
+      ahead_counted c (marked log) judge.controller (due judge) (owed judge) (told (line ++ 10 ∷ []))
+          (totals_of c judge) s.counted,
+    )
 
 step_lined : (name : Option Named) (h h' : Holdings Wanted) (k : Block) (entry : Entry)
     → Answers (IsNamed name) h (events.Step k) entry h' → entry_lines entry ≢ []
@@ -218,15 +221,26 @@ pub told_so : {A : Type 0} (c : Settings) (log : Log) (line : List ℕ) (old new
     → new.peaks ≡ old.peaks → new.owed ≡ old.owed → new.block ≡ old.block → due new ≡ begins.0
     → Stands c (telling log (line ++ 10 ∷ [])) new
 told_so {A} c log line old new s begins h r p w b d =
-    search (arith, told_counted c (marked log) old.controller (due old) (owed old) line begins.0 (totals_of c old)
-    s.counted begins.1, same_totals)
+    search (
+      arith,
+      told_counted c (marked log) old.controller (due old) (owed old) line begins.0 (totals_of c old)
+          s.counted begins.1,
+      same_totals,
+    )
 
 -- what is due behind a line that was told
 pub left_due : (lines line rest : List ℕ) (start place : ℕ) → drop start lines ≡ line ++ 10 ∷ rest
     → place ≡ length lines - (length (drop start lines) - length line - 1) → drop place lines ≡ rest
 left_due lines line rest start place e p =
-    search (arith, length-append line (10 ∷ rest), length-drop start lines, append_assoc line (10 ∷ []) rest,
-    length-append line (10 ∷ []), drop-append_seam (line ++ 10 ∷ []) rest, drop-drop (length line + 1) start lines)
+    search (
+      arith,
+      length-append line (10 ∷ rest),
+      length-drop start lines,
+      append_assoc line (10 ∷ []) rest,
+      length-append line (10 ∷ []),
+      drop-append_seam (line ++ 10 ∷ []) rest,
+      drop-drop (length line + 1) start lines,
+    )
 
 -- a judge that keeps other starts stands as well
 pub stands_with : {A : Type 0} (c : Settings) (log : Log) (old new : Judge A)

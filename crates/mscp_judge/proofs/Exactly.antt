@@ -79,8 +79,12 @@ behind_line : (before : ℕ) (all front : List (List ℕ)) (bytes : List ℕ) (b
     → after_lines before nothing front ≡ Ok mid → after_lines before nothing all ≡ Ok last
     → (after_line number mid bytes >>= λ next. after_lines number next back) ≡ Ok last
 behind_line before all front bytes back mid last number w n r e =
-    search (arith, line_first (before + length front) mid bytes back number n, lines_behind before nothing front (bytes
-    ∷ back) mid r)
+    search (
+      arith,
+      line_first (before + length front) mid bytes back number n,
+      lines_behind before nothing front (bytes
+          ∷ back) mid r,
+    )
 
 open_at : (c : Settings) (number : ℕ) (next last : Log) (back : List (List ℕ))
     → after_lines number next back ≡ Ok last → IsLegalLog c last.marks → MayGoOn c next.marks

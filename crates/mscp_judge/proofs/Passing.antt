@@ -64,8 +64,13 @@ pub passed_more : {A : Type 0} (c : Settings) (log : Log) (before n last : ℕ) 
     (judge new : Judge A) (p : Passed c before log rest n mid judge) → Passed c n p.next mid last left new
     → Passed c before log rest last left new
 passed_more c log before n last rest mid left judge new p q =
-    search (arith, append_assoc p.front q.front (lines left), length-append p.front q.front, lines_behind before log
-    p.front q.front p.next p.read)
+    search (
+      arith,
+      append_assoc p.front q.front (lines left),
+      length-append p.front q.front,
+      lines_behind before log
+          p.front q.front p.next p.read,
+    )
 
 -- ---- answers
 
@@ -82,15 +87,26 @@ answers_told : (before : ℕ) (log : Log) (all : List (List ℕ)) → AllByRecur
 unfolding after_lines
 answers_told before log [] each few = ap (λ ms. Ok (record log { marks = ms })) (sym (append-nil log.marks))
 answers_told before log (bytes ∷ all) each few =
-    search (arith, answer_told (before + 1) log bytes (omega (arith, few)) each.0, answers_told (before + 1) (telling
-    log (line bytes)) all each.1 (omega (arith, few)), telling_more log (line bytes) (flat_map line all))
+    search (
+      arith,
+      answer_told (before + 1) log bytes (omega (arith, few)) each.0,
+      answers_told (before + 1) (telling
+          log (line bytes)) all each.1 (omega (arith, few)),
+      telling_more log (line bytes) (flat_map line all),
+    )
 
 answers_ahead : (all : List (List ℕ)) (left : List ℕ) → AllByRecursion IsAnswerLine all
     → lines (flat_map line all ++ left) ≡ all ++ lines left
 answers_ahead [] left each = refl
 answers_ahead (bytes ∷ all) left each =
-    search (arith, append_assoc (line bytes) (flat_map line all) left, append_assoc bytes (10 ∷ []) (flat_map line all
-    ++ left), plain_lines bytes (flat_map line all ++ left) each.0.printed, answers_ahead all left each.1)
+    search (
+      arith,
+      append_assoc (line bytes) (flat_map line all) left,
+      append_assoc bytes (10 ∷ []) (flat_map line all
+          ++ left),
+      plain_lines bytes (flat_map line all ++ left) each.0.printed,
+      answers_ahead all left each.1,
+    )
 
 answers_few : (all : List (List ℕ)) → length all ≤ length (flat_map line all)
 answers_few [] = omega arith
@@ -113,8 +129,16 @@ pub passed_idle : {A : Type 0} (c : Settings) (log : Log) (before n : ℕ) (rest
     → rest ≡ codes "idle\n" ++ left → n ≡ before + 1 → before < 1000000 → Stands c (telling log (codes "idle\n")) judge
     → Passed c before log rest n left judge
 passed_idle c log before n rest left judge is number few stands =
-    search (arith, passed_answers c log before n 1 rest left (codes "idle\n") judge (record { all = codes "idle" ∷ [];
-    whole = refl; many = refl; each = (idle_answers, tt) }) is number (omega (arith, number, few)) stands, idle_answers)
+    search (
+      arith,
+      passed_answers c log before n 1 rest left (codes "idle\n") judge (record {
+        all = codes "idle" ∷ [];
+        whole = refl;
+        many = refl;
+        each = (idle_answers, tt);
+      }) is number (omega (arith, number, few)) stands,
+      idle_answers,
+    )
 
 -- what was due is told, if it stands next; or else it stays
 pub passed_cut : {A : Type 0} (c : Settings) (log : Log) (before n count : ℕ) (rest left : List ℕ) (old new : Judge A)

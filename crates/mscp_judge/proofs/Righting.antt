@@ -271,9 +271,15 @@ pub open_step : {A : Type 0} (c : Settings) (log : Log) (wanted : Option Named) 
     → new.owed ≡ old.owed - 1 → new.block ≡ old.block → AreAnswers (due new) 1 → HasShortLine (due new)
     → IsFirstLine (due new) right → IsRightNext c log wanted right
 open_step c log wanted old new right (held, inl s) none some came w b a short f =
-    search (arith, next_stepped c log None new right (right_step c log None old new held none some came w b)
-    (has_stepped c log None old new s.stands none some came a short) f, right_step c log None old new held none some
-    came w b, has_stepped c log None old new s.stands none some came a short, owed_some)
+    search (
+      arith,
+      next_stepped c log None new right (right_step c log None old new held none some came w b)
+          (has_stepped c log None old new s.stands none some came a short) f,
+      right_step c log None old new held none some
+          came w b,
+      has_stepped c log None old new s.stands none some came a short,
+      owed_some,
+    )
 open_step c log wanted old new right (held, inr s) none some came w b a short f =
     absurd (stepped_due c log wanted old s none)
 

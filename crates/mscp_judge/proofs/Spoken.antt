@@ -98,8 +98,14 @@ served_words n unit lbn seek ended = simp append_assoc refl
 
 first_fed : (n : ℕ) → n < 2 ^ 32 → NoFeed (head First n)
 first_fed n h =
-    search (arith, fed_literal (codes "serve ") refl, digits_fed (decimal n) (decimal_digits n h), decimal_digits n h,
-    fed_literal (32 ∷ []) refl, every_append)
+    search (
+      arith,
+      fed_literal (codes "serve ") refl,
+      digits_fed (decimal n) (decimal_digits n h),
+      decimal_digits n h,
+      fed_literal (32 ∷ []) refl,
+      every_append,
+    )
 
 head_fed : (via : Connection) (n : ℕ) → n < 2 ^ 32 → NoFeed (head via n)
 head_fed via n h2 = grind (arith, first_fed, every_append, fed_literal)
@@ -108,18 +114,36 @@ head_fed via n h2 = grind (arith, first_fed, every_append, fed_literal)
 says_front : (via : Connection) (n : ℕ) (more : List ℕ) → n < 2 ^ 32
     → wanted_name (name_in (words (head via n ++ more))) ≡ Some (name_on via n)
 says_front First n more h =
-    search (arith, append_assoc (decimal n) (32 ∷ []) more, two_words (codes "serve") more n h (omega arith) refl,
-    first_name n (words (32 ∷ more)) h)
+    search (
+      arith,
+      append_assoc (decimal n) (32 ∷ []) more,
+      two_words (codes "serve") more n h (omega arith) refl,
+      first_name n (words (32 ∷ more)) h,
+    )
 says_front Second n more h =
-    search (arith, append_assoc (decimal n) (32 ∷ []) more, word_front (codes "second") (32 ∷ (codes "serve" ++ (32 ∷
-    (decimal n ++ (32 ∷ more))))) (omega arith) refl refl, after_space (codes "serve" ++ (32 ∷ (decimal n ++ (32 ∷
-    more)))), two_words (codes "serve") more n h (omega arith) refl, second_name n (words (32 ∷ more)) h)
+    search (
+      arith,
+      append_assoc (decimal n) (32 ∷ []) more,
+      word_front (codes "second") (32 ∷ (codes "serve" ++ (32 ∷
+          (decimal n ++ (32 ∷ more))))) (omega arith) refl refl,
+      after_space (codes "serve" ++ (32 ∷ (decimal n ++ (32 ∷
+          more)))),
+      two_words (codes "serve") more n h (omega arith) refl,
+      second_name n (words (32 ∷ more)) h,
+    )
 
 -- A line that goes on as that of a step says the name of the command.
 pub line_says : (line X Y : List ℕ) (report : Report) → line ++ 10 ∷ X ≡ step_line report ++ Y
     → Says (name_in (words line)) report
 line_says line X Y Idle e = tt
 line_says line X Y (Served via n unit lbn started seek ended) e =
-    search (arith, served_words n unit lbn seek ended, append_assoc (connection_word via) (codes "serve " ++ (decimal n
-    ++ (32 ∷ []))) (tail unit lbn seek ended), append_assoc (head via n) (tail unit lbn seek ended) Y, front_of,
-    head_fed, says_front)
+    search (
+      arith,
+      served_words n unit lbn seek ended,
+      append_assoc (connection_word via) (codes "serve " ++ (decimal n
+          ++ (32 ∷ []))) (tail unit lbn seek ended),
+      append_assoc (head via n) (tail unit lbn seek ended) Y,
+      front_of,
+      head_fed,
+      says_front,
+    )

@@ -88,16 +88,28 @@ module _ {K : Type 0} (number : ℕ) (p : Port K) where
 
   behind_volumes : HasRange p → drop 280 b ≡ ts ++ (bs ++ cs)
   behind_volumes r =
-      search (arith, drop-drop 208 72 b, parts_rest volume_in volume_bytes 13 p.volumes (ts ++ (bs ++ cs)) (volumes_back
-      r), volumes_back r, behind_head)
+      search (
+        arith,
+        drop-drop 208 72 b,
+        parts_rest volume_in volume_bytes 13 p.volumes (ts ++ (bs ++ cs)) (volumes_back
+            r),
+        volumes_back r,
+        behind_head,
+      )
 
   behind_text : HasRange p → drop (280 + length ts) b ≡ bs ++ cs
   behind_text r = search (arith, drop-drop (length ts) 280 b, behind_volumes r, drop-append_seam ts (bs ++ cs))
 
   behind_buffers : HasRange p → drop (280 + length ts + 20 * length p.buffers.items) b ≡ cs
   behind_buffers r =
-      search (arith, drop-drop (20 * length p.buffers.items) (280 + length ts) b, behind_text r, parts_rest buffer_in
-      buffer_bytes 20 p.buffers.items cs (buffers_back r), buffers_back r)
+      search (
+        arith,
+        drop-drop (20 * length p.buffers.items) (280 + length ts) b,
+        behind_text r,
+        parts_rest buffer_in
+            buffer_bytes 20 p.buffers.items cs (buffers_back r),
+        buffers_back r,
+      )
 
   volumes_said : HasRange p → volumes_in b ≡ p.volumes
   volumes_said r =
@@ -156,9 +168,17 @@ module _ {K : Type 0} (number : ℕ) (p : Port K) where
 
   saved_long : HasRange p → length b ≡ length_of number p
   saved_long r =
-      search (arith, parts_long volume_in volume_bytes 13 p.volumes (volumes_back r), volumes_back r, parts_long
-      buffer_in buffer_bytes 20 p.buffers.items (buffers_back r), buffers_back r, length-append (vs ++ ts ++ bs) cs,
-      length-append (vs ++ ts) bs, length-append vs ts)
+      search (
+        arith,
+        parts_long volume_in volume_bytes 13 p.volumes (volumes_back r),
+        volumes_back r,
+        parts_long
+            buffer_in buffer_bytes 20 p.buffers.items (buffers_back r),
+        buffers_back r,
+        length-append (vs ++ ts ++ bs) cs,
+        length-append (vs ++ ts) bs,
+        length-append vs ts,
+      )
 
   framed : HasRange p → length cs ≤ 3664 → is_framed b ≡ true
   framed r fits = search (arith, saved_long r, four, and_from, le-leb, eq-eqb)

@@ -69,8 +69,12 @@ delivered : {K : Type 0} (hardware : Hardware) (credits : ℕ) (controller : Hol
     (calls : List Call) → IsMadeOf hardware credits controller start → Answered start calls old → IsReturned old
     → IsDelivered calls old
 delivered hardware credits controller start old calls made a returned =
-    search (arith, named_of (in_hand old.task) returned.0.word (reads calls) (ap in_hand returned.1) (knows hardware
-    credits controller start old calls made a).packet, knows hardware credits controller start old calls made a)
+    search (
+      arith,
+      named_of (in_hand old.task) returned.0.word (reads calls) (ap in_hand returned.1) (knows hardware
+          credits controller start old calls made a).packet,
+      knows hardware credits controller start old calls made a,
+    )
 
 pub fills_its_slot : {K : Type 0} (hardware : Hardware) (credits : ℕ) (controller : Holdings K) (start p : Port K)
     (call : Call) (calls : List Call) (o : Outgoing) → IsMadeOf hardware credits controller start

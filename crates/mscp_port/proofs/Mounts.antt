@@ -107,8 +107,11 @@ heeded : {K : Type 0} (place : ℕ) (m : Mount) (old new : Port K) (via : Connec
     → Holds place old.volumes m → Holds place new.volumes m
 heeded place m old new via None heeds other holds = search (arith, the_same)
 heeded place m old new via (Some e) heeds other holds =
-    search (arith, heeded_elsewhere old.volumes place e.code (kept_of via e.reference old.buffers.items) (place_heeded
-    old.controller.settings.units e) m (other e refl) holds)
+    search (
+      arith,
+      heeded_elsewhere old.volumes place e.code (kept_of via e.reference old.buffers.items) (place_heeded
+          old.controller.settings.units e) m (other e refl) holds,
+    )
 
 with_block : {K : Type 0} (place : ℕ) (m : Mount) (old new : Port K) → GoesOnWithBlock old new
     → (((via : Connection) × (e : End) × Ends place old new via e) → ⊥) → Holds place old.volumes m

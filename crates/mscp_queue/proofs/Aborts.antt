@@ -90,8 +90,17 @@ pub record AbortsNone (gone : Name) (rs : List Record) : Type 0 where
 pub aborts_none : (gone : Name) (rs : List Record) → position (has_name gone) rs ≡ None
     → AbortsNone gone rs
 aborts_none gone rs h =
-    search (arith, find_cases (has_name gone) rs, ⊎_elim, find_none, filter_all, not, every_weaker, true≢false,
-    position_first)
+    search (
+      arith,
+      find_cases (has_name gone) rs,
+      ⊎_elim,
+      find_none,
+      filter_all,
+      not,
+      every_weaker,
+      true≢false,
+      position_first,
+    )
 
 -- the records that have the name are the one that is found
 pub found_once : (gone : Name) (rs : List Record) → AreApart (names rs)

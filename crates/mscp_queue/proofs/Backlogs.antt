@@ -39,8 +39,15 @@ of_items P (s ∷ ss) h = (h.0, of_items P ss h.1)
 left_with : (front : List Slot) (y : Slot) (back : List Slot)
     → sum_by left_of (items (front ++ y ∷ back)) ≡ sum_by left_of (items (front ++ back)) + left_of y.item
 left_with front y back =
-    search (arith, items_append front (y ∷ back), items_append front back, sum_by-append left_of (items front) (y.item ∷
-    items back), sum_by-append left_of (items front) (items back), sum_by-cons left_of y.item (items back))
+    search (
+      arith,
+      items_append front (y ∷ back),
+      items_append front back,
+      sum_by-append left_of (items front) (y.item ∷
+          items back),
+      sum_by-append left_of (items front) (items back),
+      sum_by-cons left_of y.item (items back),
+    )
 
 pub left_at : (ss : List Slot) (place : ℕ) → place < length ss
     → sum_by left_of (items ss) ≡ sum_by left_of (items (take place ss ++ drop (place + 1) ss))
@@ -111,8 +118,15 @@ pub leave_unstarted_timed : {budget clock total : ℕ} {ss ss' new : List Slot} 
     → ss' ≡ take (place + 1) ss ++ map (lowered_unless_serving n) (drop (place + 1) ss)
     → new ≡ take place ss' ++ drop (place + 1) ss' → AreTimed budget clock (total - n) new
 leave_unstarted_timed {budget} {clock} {total} {ss} {ss'} {new} {place} {n} t l idle e fell gone =
-    search (arith, gone_behind ss ss' new place n l fell gone, cut ss place l, left_at ss place l, items_append,
-    items_unless, due_aborted)
+    search (
+      arith,
+      gone_behind ss ss' new place n l fell gone,
+      cut ss place l,
+      left_at ss place l,
+      items_append,
+      items_unless,
+      due_aborted,
+    )
 
 pub seen_behind : {X : Type 0} (f : Slot → X) (n : ℕ) (ss ss' new : List Slot) (place : ℕ) (xs : List X)
     → ((s : Slot) → f (lowered_by n s) ≡ f s) → place < length ss → map f ss ≡ xs

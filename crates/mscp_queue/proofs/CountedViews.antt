@@ -44,7 +44,6 @@ module _ {X : Type 0} (p : X → Bool) where
       let parts = sum_by-append one_of front back in
       let more = sum_by-cons one_of x back in
       omega (arith, whole, parts, more)
-
   -- an element that another takes the place of, which passes if it does
 
 -- ---- the counts

@@ -126,5 +126,9 @@ pub masks_left : (kinds : ℕ → Kind) (front back : List ℕ) (m m' : Masks) (
     → AreMasks kinds (front ++ n ∷ back) m → n < 64 → HasLeft n (kinds n).drive m m'
     → AreMasks kinds (front ++ back) m'
 masks_left kinds front back m m' n masks low l =
-    search (arith, once_in front n back masks.apart, masks_without kinds (front ++ n ∷ back) m m' n masks low l,
-    without_cuts)
+    search (
+      arith,
+      once_in front n back masks.apart,
+      masks_without kinds (front ++ n ∷ back) m m' n masks low l,
+      without_cuts,
+    )

@@ -41,8 +41,14 @@ serving_mid : (front : List Record) (z : Record) (back : List Record) → AreIdl
     → sum_by left_if_serving (front ++ z ∷ back) ≡ left_if_serving z
 serving_mid [] z back i j = search (arith, serving_cons z back, idle_serving back j)
 serving_mid (r ∷ front) z back i j =
-    search (arith, serving_cons r (front ++ z ∷ back), idle_left r (idle_of r i.0), idle_of r i.0, serving_mid front z
-    back i.1 j)
+    search (
+      arith,
+      serving_cons r (front ++ z ∷ back),
+      idle_left r (idle_of r i.0),
+      idle_of r i.0,
+      serving_mid front z
+          back i.1 j,
+    )
 
 serving_without : (front : List Record) (x : Record) (back : List Record) → is_in_service x ≡ false
     → sum_by left_if_serving (front ++ x ∷ back) ≡ sum_by left_if_serving (front ++ back)
@@ -116,10 +122,17 @@ module _ (budget : ℕ) where
       → AreDue budget (c + 1) b ss
   behind_step c b [] a i = tt
   behind_step c b (s ∷ ss) a i =
-      search (arith, fig_idle (b + 1) (serving ss) s.item (idle_of s.item i.0), idle_of s.item i.0, fig_idle b (serving
-      ss) s.item (idle_of s.item i.0), behind_step c (b + left_of s.item) ss (at_before c (b + 1 + left_of s.item) (b +
-      left_of s.item + 1) ss (omega arith) a.1) i.1, at_before c (b + 1 + left_of s.item) (b + left_of s.item + 1) ss
-      (omega arith) a.1)
+      search (
+        arith,
+        fig_idle (b + 1) (serving ss) s.item (idle_of s.item i.0),
+        idle_of s.item i.0,
+        fig_idle b (serving
+            ss) s.item (idle_of s.item i.0),
+        behind_step c (b + left_of s.item) ss (at_before c (b + 1 + left_of s.item) (b +
+            left_of s.item + 1) ss (omega arith) a.1) i.1,
+        at_before c (b + 1 + left_of s.item) (b + left_of s.item + 1) ss
+            (omega arith) a.1,
+      )
 
   module _ (c w : ℕ) (y z : Slot) (back : List Slot) (j : AreIdle (items back)) (idle : y.item.done ≡ 0)
       (weighs : left_of y.item ≡ w) (step : z.item ≡ advanced y.item) (due : z.due ≡ c + w) (some : 0 < w) where
@@ -191,10 +204,17 @@ module _ (budget : ℕ) where
       → AreDue budget c b (map (lowered_by n) ss)
   fallen c b n [] a i = tt
   fallen c b n (s ∷ ss) a i =
-      search (arith, items_fallen n ss, fig_idle (b + n) (serving ss) s.item (idle_of s.item i.0), idle_of s.item i.0,
-      fig_idle b (serving ss) s.item (idle_of s.item i.0), fallen c (b + left_of s.item) n ss (at_before c (b + n +
-      left_of s.item) (b + left_of s.item + n) ss (omega arith) a.1) i.1, at_before c (b + n + left_of s.item) (b +
-      left_of s.item + n) ss (omega arith) a.1)
+      search (
+        arith,
+        items_fallen n ss,
+        fig_idle (b + n) (serving ss) s.item (idle_of s.item i.0),
+        idle_of s.item i.0,
+        fig_idle b (serving ss) s.item (idle_of s.item i.0),
+        fallen c (b + left_of s.item) n ss (at_before c (b + n +
+            left_of s.item) (b + left_of s.item + n) ss (omega arith) a.1) i.1,
+        at_before c (b + n + left_of s.item) (b +
+            left_of s.item + n) ss (omega arith) a.1,
+      )
 
   module _ (c : ℕ) (y : Slot) (back : List Slot) (j : AreIdle (items back)) (was : is_in_service y.item ≡ true) where
     pub due_ended : (b : ℕ) (front : List Slot) → AreDue budget c b (front ++ y ∷ back) → AreIdle (items front)
@@ -274,9 +294,13 @@ module _ (budget : ℕ) where
       → AllByRecursion (λ s. is_in_service s.item ≡ false → n ≤ s.due) ss
   behind_enough c b n [] a = tt
   behind_enough c b n (s ∷ ss) a =
-      search (arith, behind_enough c (b + left_of s.item) n ss (at_before c (b + n + left_of s.item) (b + left_of s.item
-      + n) ss (omega arith) a.1), at_before c (b + n + left_of s.item) (b + left_of s.item + n) ss (omega arith) a.1,
-      fig_idle)
+      search (
+        arith,
+        behind_enough c (b + left_of s.item) n ss (at_before c (b + n + left_of s.item) (b + left_of s.item
+            + n) ss (omega arith) a.1),
+        at_before c (b + n + left_of s.item) (b + left_of s.item + n) ss (omega arith) a.1,
+        fig_idle,
+      )
 
   pub abort_enough : (c b : ℕ) (front : List Slot) (x : Slot) (back : List Slot) → AreDue budget c b (front ++ x ∷ back)
       → AllByRecursion (λ s. is_in_service s.item ≡ false → left_of x.item ≤ s.due) back

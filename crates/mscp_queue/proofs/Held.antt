@@ -66,8 +66,11 @@ pub held_renewed : (room budget longest : ℕ) (rs new : List Record) (ds ds' : 
     (serving : Bool) → IsHeld room budget longest rs ds begun serving → new ≡ [] → ds' ≡ map fresh_drive (units_of ds)
     → IsHeld room budget longest new ds' None false
 held_renewed room budget longest rs new ds ds' begun serving h n e =
-    search (arith, held_fresh room budget longest (units_of ds) new ds' h.some_room h.few h.some_blocks h.short (omega
-    arith) h.units n e)
+    search (
+      arith,
+      held_fresh room budget longest (units_of ds) new ds' h.some_room h.few h.some_blocks h.short (omega
+          arith) h.units n e,
+    )
 
 -- ---- a command comes
 

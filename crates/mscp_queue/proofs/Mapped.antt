@@ -39,8 +39,16 @@ behind_read f i xs ys d l e = grind (arith, drop_more, get_or_at, front_length)
 
 pub removed_at : {X : Type 0} (A : List X) (x : X) (B : List X) (i : ℕ) → length A ≡ i → remove (A ++ x ∷ B) i ≡ A ++ B
 removed_at A x B i l =
-    search (arith, take_at A (x ∷ B) i l, append_assoc A (x ∷ []) B, drop_at (A ++ x ∷ []) B (suc i) (omega (arith,
-    length-append A (x ∷ []))), length-append A (x ∷ []))
+    search (
+      arith,
+      take_at A (x ∷ B) i l,
+      append_assoc A (x ∷ []) B,
+      drop_at (A ++ x ∷ []) B (suc i) (omega (
+        arith,
+        length-append A (x ∷ []),
+      )),
+      length-append A (x ∷ []),
+    )
 
 -- a slice that was lent and has as many elements is what is there then
 pub refilled : {X : Type 0} (xs ws : List X) → length ws ≡ length xs → refill (length xs) xs ws ≡ ws

@@ -112,8 +112,15 @@ known_next picks budget ds rs place a l s =
 pub serving_found : (rs : List Record) (place : ℕ) → length (filter is_in_service rs) ≤ 1 → place < length rs
     → is_in_service (record_at rs place) ≡ true → position is_in_service rs ≡ Some place
 serving_found rs place one l h =
-    search (arith, cut_at no_record rs place l, length-take-le place rs (omega (arith, l)), others_idle, ltb-true,
-    position_first, every_weaker)
+    search (
+      arith,
+      cut_at no_record rs place l,
+      length-take-le place rs (omega (arith, l)),
+      others_idle,
+      ltb-true,
+      position_first,
+      every_weaker,
+    )
 
 zero_or : (n : ℕ) → (n ≡ 0) ⊎ (0 < n)
 zero_or n = grind arith
@@ -161,8 +168,18 @@ pub moved : (rs : List Record) (gone place k : ℕ) → gone < length rs → pla
     → (place ≢ gone) × (k < length (take gone rs ++ drop (gone + 1) rs))
     × (record_at (take gone rs ++ drop (gone + 1) rs) k ≡ record_at rs place)
 moved rs gone place k l m h =
-    grind (arith, length-take-le, ltb-true, length-append, get_or_append_left, get_or-take, length-drop,
-    get_or-append_right, get_or-drop, false≢true)
+    grind (
+      arith,
+      length-take-le,
+      ltb-true,
+      length-append,
+      get_or_append_left,
+      get_or-take,
+      length-drop,
+      get_or-append_right,
+      get_or-drop,
+      false≢true,
+    )
 
 pub waits_without : (rs new : List Record) (known : Option ℕ) (gone : ℕ) → gone < length rs → new ≡ take gone rs
     ++ drop (gone + 1) rs

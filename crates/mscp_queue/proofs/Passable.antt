@@ -29,18 +29,30 @@ all_free : (budget longest : ℕ) (r : Record) (front : List Record) → is_sequ
     → ArePassable budget longest front → is_free r front ≡ true
 all_free budget longest r [] s h = refl
 all_free budget longest r (z ∷ zs) s h =
-    search (arith, not_sequential z.command.order (and_parts (is_move z.command.order) (nat_le (z.passed + longest)
-    budget) h.0).0, and_parts (is_move z.command.order) (nat_le (z.passed + longest) budget) h.0, all_free budget
-    longest r zs s h.1, not, unfenced)
+    search (
+      arith,
+      not_sequential z.command.order (and_parts (is_move z.command.order) (nat_le (z.passed + longest)
+          budget) h.0).0,
+      and_parts (is_move z.command.order) (nat_le (z.passed + longest) budget) h.0,
+      all_free budget
+          longest r zs s h.1,
+      not,
+      unfenced,
+    )
 
 all_affordable : (budget longest : ℕ) (r : Record) (front : List Record) → r.weight ≤ longest
     → ArePassable budget longest front
     → is_affordable budget r front ≡ true
 all_affordable budget longest r [] l h = refl
 all_affordable budget longest r (z ∷ zs) l h =
-    search (arith, leb-true (z.passed + longest) budget (and_parts (is_move z.command.order) (nat_le (z.passed +
-    longest) budget) h.0).1, and_parts (is_move z.command.order) (nat_le (z.passed + longest) budget) h.0,
-    all_affordable budget longest r zs l h.1, le-leb)
+    search (
+      arith,
+      leb-true (z.passed + longest) budget (and_parts (is_move z.command.order) (nat_le (z.passed +
+          longest) budget) h.0).1,
+      and_parts (is_move z.command.order) (nat_le (z.passed + longest) budget) h.0,
+      all_affordable budget longest r zs l h.1,
+      le-leb,
+    )
 
 opens_at : (budget longest : ℕ) (rs : List Record) (place : ℕ) → ArePassable budget longest rs
     → All (λ r. r.weight ≤ longest) rs → place < length rs

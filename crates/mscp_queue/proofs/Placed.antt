@@ -34,8 +34,15 @@ pub record At {X : Type 0} (xs front : List X) (x : X) (back : List X) (k : ℕ)
 pub at_place : {X : Type 0} (xs front : List X) (x : X) (back : List X) (k : ℕ) (d : X) → xs ≡ front ++ x ∷ back
     → length front ≡ k → At xs front x back k d
 at_place {X} xs front x back k d e l =
-    search (arith, append_assoc front (x ∷ []) back, length-append front (x ∷ []), get_or_at front x back d k l, take_at
-    front (x ∷ back) k l, drop_at)
+    search (
+      arith,
+      append_assoc front (x ∷ []) back,
+      length-append front (x ∷ []),
+      get_or_at front x back d k l,
+      take_at
+          front (x ∷ back) k l,
+      drop_at,
+    )
 
 -- a list is cut at each of its places
 pub cut_at : {X : Type 0} (d : X) (xs : List X) (place : ℕ) → place < length xs

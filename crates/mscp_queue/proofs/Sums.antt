@@ -57,8 +57,14 @@ sum_bounded : (rs : List Record) (place : ℕ) → place < length rs
     → sum_by left_of (take place rs) + sum_by left_of (filter is_in_service (drop (place + 1) rs))
     + left_of (record_at rs place) ≤ sum_by left_of rs
 sum_bounded rs place l =
-    search (arith, cut_at no_record rs place l, sum_by-append left_of (take place rs) (record_at rs place ∷ drop (place
-    + 1) rs), sum_by-cons left_of (record_at rs place) (drop (place + 1) rs), serving_less (drop (place + 1) rs))
+    search (
+      arith,
+      cut_at no_record rs place l,
+      sum_by-append left_of (take place rs) (record_at rs place ∷ drop (place
+          + 1) rs),
+      sum_by-cons left_of (record_at rs place) (drop (place + 1) rs),
+      serving_less (drop (place + 1) rs),
+    )
 
 -- whether it is in service or not
 pub figure_small : (budget : ℕ) (rs : List Record) (place : ℕ) → sum_by left_of rs + budget < 2 ^ 32 → place < length rs

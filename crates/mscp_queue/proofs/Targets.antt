@@ -89,8 +89,15 @@ pub led : (ds : List Drive) (r : Record) (at : ℕ) (a : Target) (d : Drive) →
     → HasBlocks (units_of ds) r.command → at ≡ a.drive → a ≡ target_of (units_of ds) r.command → d ≡ get_or ds at d
     → IsLed ds r at d a.cylinder
 led ds r at a d heads blocks is own found =
-    search (arith, led_place ds r, known_at ds r.command.unit d blocks.0, led_inside ds r, first_inside ds r, found_unit
-    r.command.unit ds)
+    search (
+      arith,
+      led_place ds r,
+      known_at ds r.command.unit d blocks.0,
+      led_inside ds r,
+      first_inside ds r,
+      found_unit
+          r.command.unit ds,
+    )
 
 -- the place of the drive of a waiting command
 pub record HasDrive (ds : List Drive) (r : Record) (at : ℕ) : Type 0 where
@@ -103,8 +110,14 @@ pub has_drive : (ds : List Drive) (rs : List Record) (targets : List Target) (pl
     → CanBeShown ds rs targets → place < length rs → r ≡ get_or rs place r → at ≡ (get_or targets place other).drive
     → HasDrive ds r at
 has_drive ds rs targets place r at other h l own is =
-    search (arith, own_target ds rs targets place r other h l own, led_inside ds r, own_blocks ds rs targets place r h l
-    own, led_place ds r)
+    search (
+      arith,
+      own_target ds rs targets place r other h l own,
+      led_inside ds r,
+      own_blocks ds rs targets place r h l
+          own,
+      led_place ds r,
+    )
 
 -- its drive, and the cylinder of its first block there
 pub record LeadsTo (ds : List Drive) (rs : List Record) (place : ℕ) (r : Record) (d : Drive) (cylinder : ℕ) :
@@ -118,8 +131,13 @@ pub leads_to : (ds : List Drive) (rs : List Record) (targets : List Target) (pla
     → at ≡ (get_or targets place other).drive
     → d ≡ get_or ds at d → LeadsTo ds rs place r d (get_or targets place other).cylinder
 leads_to ds rs targets place r at other d h l own is found =
-    search (arith, led ds r, own_blocks ds rs targets place r h l own, own_target ds rs targets place r other h l own,
-    get_or_default rs place r no_record l)
+    search (
+      arith,
+      led ds r,
+      own_blocks ds rs targets place r h l own,
+      own_target ds rs targets place r other h l own,
+      get_or_default rs place r no_record l,
+    )
 
 -- ---- the targets stay those of the records
 

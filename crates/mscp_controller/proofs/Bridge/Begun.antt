@@ -56,9 +56,19 @@ waits_before t (m ∷ ms) y l w =
 pub begun_before : (calls : List Call) (call : Call) (up : Upcoming) (y j : ℕ) → j < length calls
     → IsBegunSince (calls ++ call ∷ []) up y j → IsBegunSince calls up y j × (steps call ≡ false)
 begun_before calls call up y j l b =
-    search (arith, front_same calls call j l, drop-append-le (j + 1) calls (call ∷ []) (omega (arith, l)),
-    list_any-append steps (drop (j + 1) calls) (call ∷ []), shorter calls j, call_before calls call j l, history_more
-    calls call, or_parts, waits_below, waits_before)
+    search (
+      arith,
+      front_same calls call j l,
+      drop-append-le (j + 1) calls (call ∷ []) (omega (arith, l)),
+      list_any-append steps (drop (j + 1) calls) (call ∷ []),
+      shorter calls j,
+      call_before calls call j l,
+      history_more
+          calls call,
+      or_parts,
+      waits_below,
+      waits_before,
+    )
 
 -- what the last call began
 pub record Last (calls : List Call) (call : Call) (up : Upcoming) (y : ℕ) : Type 0 where
@@ -83,8 +93,14 @@ either X calls call up y j before last b =
 pub begun_more : (calls : List Call) (call : Call) (up : Upcoming) (y j : ℕ) → IsBegunSince calls up y j
     → steps call ≡ false → is_waiting (history (calls ++ call ∷ [])) y ≡ true → IsBegunSince (calls ++ call ∷ []) up y j
 begun_more calls call up y j b n w =
-    search (arith, length-append calls (call ∷ []), list_any-append steps (drop (j + 1) calls) (call ∷ []), front_same,
-    call_before, drop-append-le)
+    search (
+      arith,
+      length-append calls (call ∷ []),
+      list_any-append steps (drop (j + 1) calls) (call ∷ []),
+      front_same,
+      call_before,
+      drop-append-le,
+    )
 
 -- ---- what is known of what is begun
 

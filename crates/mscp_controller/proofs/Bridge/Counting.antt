@@ -37,8 +37,13 @@ remains_count via r e = grind arith
 parts_count : (via : Connection) (A B C : List Record) → length (waiting_on via (A ++ (B ++ C)))
     ≡ length (waiting_on via A) + (length (waiting_on via B) + length (waiting_on via C))
 parts_count via A B C =
-    search (arith, length-append (waiting_on via A) (waiting_on via (B ++ C)), length-append (waiting_on via B)
-    (waiting_on via C), filter-append)
+    search (
+      arith,
+      length-append (waiting_on via A) (waiting_on via (B ++ C)),
+      length-append (waiting_on via B)
+          (waiting_on via C),
+      filter-append,
+    )
 
 -- where a command ends, one less waits of its connection
 count_after : (via : Connection) (n place : ℕ) (rs : List Record) (e : Option End) → place < length rs

@@ -69,8 +69,14 @@ figures_part : (c : Settings) (t : Trace) (A B : List ℕ) (k : ℕ) → waiting
     → figures_from c.budget (map (held_of t) (waiting t)) (range_with_len k (length B)) ≡ map (shown c t) B
 figures_part c t A [] k e l = refl
 figures_part c t A (x ∷ B) k e l =
-    search (arith, shown_at c t A x B k e l, figures_part c t (A ++ x ∷ []) B (k + 1) (e ∙ sym (append_assoc A (x ∷ [])
-    B)) (omega (arith, length-append A (x ∷ []), l)), append_assoc A (x ∷ []) B, length-append A (x ∷ []))
+    search (
+      arith,
+      shown_at c t A x B k e l,
+      figures_part c t (A ++ x ∷ []) B (k + 1) (e ∙ sym (append_assoc A (x ∷ [])
+          B)) (omega (arith, length-append A (x ∷ []), l)),
+      append_assoc A (x ∷ []) B,
+      length-append A (x ∷ []),
+    )
 
 -- The records' figures are those of the waiting commands.
 pub figures_held : (c : Settings) (t : Trace)

@@ -93,15 +93,28 @@ pub can_end : {K : Type 0} (c : Settings) (picks : List Choice → ℕ → Type 
 can_end c picks k old reports.Idle new a h s = tt
 can_end c picks k old (reports.Served via reference unit lbn started seek None) new a h s = tt
 can_end c picks k old (reports.Served via reference unit lbn started seek (Some end)) new a h s =
-    search (arith, count_stepped via picks k old (reports.Served via reference unit lbn started seek (Some end)) new s,
-    own_side via, few_of c via h.valid)
+    search (
+      arith,
+      count_stepped via picks k old (reports.Served via reference unit lbn started seek (Some end)) new s,
+      own_side via,
+      few_of c via h.valid,
+    )
 
 pub held_stepped : {K : Type 0} (c : Settings) (picks : List Choice → ℕ → Type 0) (k : Block) (old : Line K)
     (report : Report) (new : Line K) (a : Accounts) → IsHeld c old a → Serves picks k old report new
     → units_of new.drives ≡ units_of old.drives → IfSome (end_in report) IsOfKind → IsHeld c new (reported report a)
 held_stepped {K} c picks k old report new a h s u kind =
-    search (arith, stays picks k old report new s, can_end c picks k old report new a h s, held_like, count_stepped,
-    reported_at, length-append, every_append, reported_kinds)
+    search (
+      arith,
+      stays picks k old report new s,
+      can_end c picks k old report new a h s,
+      held_like,
+      count_stepped,
+      reported_at,
+      length-append,
+      every_append,
+      reported_kinds,
+    )
 
 -- ---- a message
 
@@ -186,8 +199,14 @@ pub balance_left : {K : Type 0} (c : Settings) (old new : Line K) (a a' : Accoun
     → credits_of c via - (length (waiting_on via new.waiting) + length (of via (untaken_in a')))
     ≡ credits_of c via - (length (waiting_on via old.waiting) + length (of via (untaken_in a)))
 balance_left {K} c old new a a' via n end e count more =
-    search (arith, seen_left via end a, of_more via (untaken_in a) (end ∷ []), length-append (of via (untaken_in a))
-    (end ∷ []), own_count)
+    search (
+      arith,
+      seen_left via end a,
+      of_more via (untaken_in a) (end ∷ []),
+      length-append (of via (untaken_in a))
+          (end ∷ []),
+      own_count,
+    )
 
 -- an end that is taken has the body of its endcode
 pub taken_kind : (es : List End) (e : End) → slice_get es 0 ≡ Some e → AllByRecursion IsOfKind es → IsOfKind e

@@ -69,8 +69,18 @@ pub follows_left : (c : Settings) (t : Trace) (m : Moment) (ws ws' : List Record
     → Follows c t ws us
     → Follows c (t ++ m ∷ []) ws' us'
 follows_left c t m ws ws' us us' l r unserved n left e f =
-    search (arith, waiting_more t m, keeps t m unserved, held_of t, not, append-nil, every_kept, known_more,
-    filter_map_of, records_kept)
+    search (
+      arith,
+      waiting_more t m,
+      keeps t m unserved,
+      held_of t,
+      not,
+      append-nil,
+      every_kept,
+      known_more,
+      filter_map_of,
+      records_kept,
+    )
 
 -- ---- a command comes
 
@@ -84,8 +94,16 @@ pub follows_queued : (c : Settings) (t : Trace) (m : Moment) (ws : List Record) 
     → ((via : Connection) → of via us' ≡ untaken c via (t ++ m ∷ [])) → Follows c t ws us
     → Follows c (t ++ m ∷ []) (ws ++ fresh_record (connection_of m.0) (command_of (sent_bytes m.0)) ∷ []) us'
 follows_queued c t m ws us us' l r q n e f =
-    search (arith, waiting_kept t m q, keeps t m q.unserved, known_more c l t m r f.known, record_new t m, records_kept,
-    held_of, map-append)
+    search (
+      arith,
+      waiting_kept t m q,
+      keeps t m q.unserved,
+      known_more c l t m r f.known,
+      record_new t m,
+      records_kept,
+      held_of,
+      map-append,
+    )
 
 -- ---- an end is taken
 

@@ -78,8 +78,16 @@ step_at : (c : Settings) (t : Trace) (k : Block) (place : ℕ) → Apart t (wait
     → Step c t (serving c t k (waiting_at t place)) (service_by c t k (waiting_at t place)) k (waiting_at t place)
     (take place (waiting t)) (drop (place + 1) (waiting t))
 step_at c t k place apart n =
-    search (arith, waiting_at t place, cut_at t place n.inside, served_at c t k place n, service_by, alone, cut_of,
-    changes)
+    search (
+      arith,
+      waiting_at t place,
+      cut_at t place n.inside,
+      served_at c t k place n,
+      service_by,
+      alone,
+      cut_of,
+      changes,
+    )
 
 -- ---- the others
 
@@ -221,9 +229,22 @@ waiting_served : (c : Settings) (t : Trace) (k : Block) (place : ℕ) (d : Drive
     ≡ map (held_of (t ++ serving c t k (waiting_at t place) ∷ []))
     (waiting (t ++ serving c t k (waiting_at t place) ∷ []))
 waiting_served c t k place d apart n e idle =
-    search (arith, waiting_at t place, held_of t, step_at c t k place apart n, record_held t place n.inside, take-map
-    (held_of t) place (waiting t), drop-map (held_of t) (place + 1) (waiting t), drive_by, end_held, front_passed,
-    own_remains, behind_kept, map-append)
+    search (
+      arith,
+      waiting_at t place,
+      held_of t,
+      step_at c t k place apart n,
+      record_held t place n.inside,
+      take-map
+          (held_of t) place (waiting t),
+      drop-map (held_of t) (place + 1) (waiting t),
+      drive_by,
+      end_held,
+      front_passed,
+      own_remains,
+      behind_kept,
+      map-append,
+    )
 
 -- what is answered to a step is right and picked, and what is then held is that of the run
 pub record Turns {K : Type 0} (c : Settings) (picks : List Choice → ℕ → Type 0) (t : Trace) (m : Moment)

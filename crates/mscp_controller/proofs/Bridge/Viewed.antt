@@ -99,5 +99,15 @@ choice_at c t ds place d l =
 pub view_held : (c : Settings) (t : Trace) (ds : List Drive) → Driven c t ds → is_idle t ≡ true
     → view c t ≡ view_of c.budget ds (map (held_of t) (waiting t))
 view_held c t ds d idle =
-    search (arith, held_of t, startable_places c t idle, length-map (waiting t) (held_of t), map_map, map_on,
-    every_kept, every_weaker, choice_at, range_below)
+    search (
+      arith,
+      held_of t,
+      startable_places c t idle,
+      length-map (waiting t) (held_of t),
+      map_map,
+      map_on,
+      every_kept,
+      every_weaker,
+      choice_at,
+      range_below,
+    )

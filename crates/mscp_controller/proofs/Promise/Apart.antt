@@ -76,5 +76,16 @@ new_name c t m r q = search (arith, queued_right c t m.0 m.1 q r, every_weaker, 
 pub apart_more : (c : Settings) (t : Trace) (m : Moment) → IsRight c t m.0 m.1 → Apart t (waiting t)
     → Apart (t ++ m ∷ []) (waiting (t ++ m ∷ []))
 apart_more c t m r a =
-    search (arith, waiting_below t, waiting_more t m, not, every_kept, apart_along, pairs_filter, pairs_append,
-    new_apart, new_name, append-nil)
+    search (
+      arith,
+      waiting_below t,
+      waiting_more t m,
+      not,
+      every_kept,
+      apart_along,
+      pairs_filter,
+      pairs_append,
+      new_apart,
+      new_name,
+      append-nil,
+    )

@@ -37,8 +37,13 @@ if_none b f rest h3 = grind (arith, true≢false)
 pub refusal_none : (credit : ℕ) (references b : List ℕ) → refusal credit references b ≡ None
     → IsTaken credit references b
 refusal_none credit references b h =
-    search (arith, if_none (nat_lt (length b) 12) Short _ h, not (is_immediate_class (class (slice_index b 8))),
-    ltb-false, eqb-false)
+    search (
+      arith,
+      if_none (nat_lt (length b) 12) Short _ h,
+      not (is_immediate_class (class (slice_index b 8))),
+      ltb-false,
+      eqb-false,
+    )
 
 sent_or : Sent → Result Sent SendFault → Sent
 sent_or s (Ok r) = r

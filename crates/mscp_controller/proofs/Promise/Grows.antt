@@ -38,9 +38,19 @@ pub collect_more : {X : Type 0} (seen : Trace → Moment → List X) (t : Trace)
     → collect seen (t ++ m ∷ []) ≡ collect seen t ++ seen t m
 unfolding collect
 collect_more seen t m =
-    search (arith, range_below 0 (length t), take_at t (m ∷ []) (length t) refl, moment_last t m, positions_more t m,
-    append-nil (seen (take (length t) (t ++ m ∷ [])) (moment (t ++ m ∷ []) (length t))), flat_on, every_weaker,
-    take-append-le, moment_before, flat_map-append)
+    search (
+      arith,
+      range_below 0 (length t),
+      take_at t (m ∷ []) (length t) refl,
+      moment_last t m,
+      positions_more t m,
+      append-nil (seen (take (length t) (t ++ m ∷ [])) (moment (t ++ m ∷ []) (length t))),
+      flat_on,
+      every_weaker,
+      take-append-le,
+      moment_before,
+      flat_map-append,
+    )
 
 pub last_or-append : {X : Type 0} (xs ys : List X) (d : X) → last_or (xs ++ ys) d ≡ last_or ys (last_or xs d)
 last_or-append [] ys d = refl
@@ -140,8 +150,18 @@ good_last t m = search (arith, drop_last t m)
 pub passed_more : (t : Trace) (m : Moment) (x : ℕ) → passed (t ++ m ∷ []) x ≡ passed t x + passed_at t m x
 unfolding passed
 passed_more t m x =
-    search (arith, range_below 0 (length t), take_at t (m ∷ []) (length t) refl, moment_last t m, positions_more t m,
-    sum_on, every_weaker, take-append-le, moment_before, sum_by_push)
+    search (
+      arith,
+      range_below 0 (length t),
+      take_at t (m ∷ []) (length t) refl,
+      moment_last t m,
+      positions_more t m,
+      sum_on,
+      every_weaker,
+      take-append-le,
+      moment_before,
+      sum_by_push,
+    )
 
 -- ---- ends
 

@@ -43,8 +43,15 @@ known_empty c = record { steady = steady_empty c; room = room_empty c; short = t
 pub known_more : (c : Settings) → 1 ≤ c.longest → (t : Trace) (m : Moment) → IsRight c t m.0 m.1 → Known c t
     → Known c (t ++ m ∷ [])
 known_more c l t m r k =
-    search (arith, short_more c t m l r k.short, steady_more c t m r k.steady, room_more c t m r k.steady k.room,
-    limited_more c t m r k.steady k.limited, falling c t m r k.steady, within_more)
+    search (
+      arith,
+      short_more c t m l r k.short,
+      steady_more c t m r k.steady,
+      room_more c t m r k.steady k.room,
+      limited_more c t m r k.steady k.limited,
+      falling c t m r k.steady,
+      within_more,
+    )
 
 pub known : (c : Settings) → 1 ≤ c.longest → (t : Trace) → IsLegal c t → (i : ℕ) → i ≤ length t → Known c (take i t)
 known c l t legal i h = by_moments c (Known c) (known_empty c) (known_more c l) t legal i h

@@ -61,8 +61,18 @@ untouched : (c : Settings) (via : Connection) (t : Trace) (m : Moment) → Room 
     → IsUntouched c via t (t ++ m ∷ [])
 unfolding balance outstanding
 untouched c via t m room f =
-    search (arith, same_waits c via t m f, untaken_more c via t m f.takes (room.taken via), append-nil (untaken c via
-    t), waiting_below t, every_kept, map_on, every_weaker, command_before)
+    search (
+      arith,
+      same_waits c via t m f,
+      untaken_more c via t m f.takes (room.taken via),
+      append-nil (untaken c via
+          t),
+      waiting_below t,
+      every_kept,
+      map_on,
+      every_weaker,
+      command_before,
+    )
 
 pub leaves_other : (c : Settings) (t : Trace) (m : Moment) → IsRight c t m.0 m.1 → Room c t
     → LeavesOther c t m (t ++ m ∷ [])

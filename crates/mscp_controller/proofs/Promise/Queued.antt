@@ -67,8 +67,17 @@ pub each_queued : (c : Settings) (P : Command → Type 0) → ((k : Command) →
     → AllByRecursion (λ x. P (command t x)) (waiting t)
     → AllByRecursion (λ x. P (command (t ++ m ∷ []) x)) (waiting (t ++ m ∷ []))
 each_queued c P each t m r h =
-    search (arith, waiting_below t, command_last t m, waiting_more t m, not, same_each, every_kept, queued_right,
-    every_append)
+    search (
+      arith,
+      waiting_below t,
+      command_last t m,
+      waiting_more t m,
+      not,
+      same_each,
+      every_kept,
+      queued_right,
+      every_append,
+    )
 
 -- Each right moment keeps it that no waiting command is longer than the longest.
 pub short_more : (c : Settings) (t : Trace) (m : Moment) → 1 ≤ c.longest → IsRight c t m.0 m.1 → Short c t (waiting t)

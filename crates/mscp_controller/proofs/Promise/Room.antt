@@ -147,8 +147,15 @@ taken_as_answer c via t command q r a h7 = grind (arith, true≢false, is_answer
 one_fewer : (p : ℕ → Bool) (A : List ℕ) (y : ℕ) (B : List ℕ) → p y ≡ false
     → length (filter p (A ++ y ∷ B)) + 1 ≤ length (A ++ y ∷ B)
 one_fewer p A y B e =
-    search (arith, filter-append p A (y ∷ B), length-append (filter p A) (filter p B), length-append A (y ∷ B), fewer p
-    A, fewer p B)
+    search (
+      arith,
+      filter-append p A (y ∷ B),
+      length-append (filter p A) (filter p B),
+      length-append A (y ∷ B),
+      fewer p
+          A,
+      fewer p B,
+    )
 
 -- where a step ends a command of the connection, one less waits
 served_rest : (via : Connection) (t : Trace) (m : Moment) (s : Service) (y : ℕ) (front back : List ℕ)
@@ -229,11 +236,24 @@ fits : (c : Settings) (via : Connection) (t : Trace) (event : Event) (entry : En
 fits c via t event (entries.Looked list) h st r = still c via t (event, entries.Looked list) h refl refl
 fits c via t event (entries.Taken other taken) h st r = still c via t (event, entries.Taken other taken) h refl refl
 fits c via t event (entries.Stepped reports.Idle) h st r =
-    search (arith, still c via t ( event, entries.Stepped reports.Idle, ) h refl refl)
+    search (arith, still c via t (event, entries.Stepped reports.Idle) h refl refl)
 fits c via t event (entries.Stepped (reports.Served other reference unit lbn started seek ended)) h st r =
-    search (arith, served_fits c via t (event, entries.Stepped (reports.Served other reference unit lbn started seek
-    ended)) (record { connection = other; reference = reference; unit = unit; lbn = lbn; started = started; seek = seek;
-    ended = ended; }) h st refl r refl refl)
+    search (
+      arith,
+      served_fits c via t (
+        event,
+        entries.Stepped (reports.Served other reference unit lbn started seek
+            ended),
+      ) (record {
+        connection = other;
+        reference = reference;
+        unit = unit;
+        lbn = lbn;
+        started = started;
+        seek = seek;
+        ended = ended;
+      }) h st refl r refl refl,
+    )
 fits c via t event (entries.Sent other (Err fault)) h st r =
     still c via t (event, entries.Sent other (Err fault)) h refl refl
 fits c via t (events.Send own b) (entries.Sent other (Ok sent)) h st r =
@@ -273,9 +293,21 @@ record Left (c : Settings) (via : Connection) (t : Trace) : Type 0 where
 left_more : (c : Settings) (via : Connection) (t : Trace) (m : Moment) → IsRight c t m.0 m.1 → Steady c t → Room c t
     → Left c via (t ++ m ∷ [])
 left_more c via t m r st h =
-    search (arith, taken_more via t m, ends_more c via t m, length-append (ends c via t) (ends_at c via t m),
-    waiting_by_length via t m, untaken_length c via t, untaken_length c via (t ++ m ∷ []), fits c via t m.0 m.1 h st r,
-    length-append (untaken c via t) (ends_at c via t m), not, took_one, fewer, untaken_more)
+    search (
+      arith,
+      taken_more via t m,
+      ends_more c via t m,
+      length-append (ends c via t) (ends_at c via t m),
+      waiting_by_length via t m,
+      untaken_length c via t,
+      untaken_length c via (t ++ m ∷ []),
+      fits c via t m.0 m.1 h st r,
+      length-append (untaken c via t) (ends_at c via t m),
+      not,
+      took_one,
+      fewer,
+      untaken_more,
+    )
 
 -- Each right moment keeps the room.
 pub room_more : (c : Settings) (t : Trace) (m : Moment) → IsRight c t m.0 m.1 → Steady c t → Room c t

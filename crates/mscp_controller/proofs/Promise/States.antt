@@ -110,15 +110,24 @@ is_online_kept t m u e = search (arith, is_online_more t m u, states_none t u (w
 pub is_online_other : (c : Settings) (t : Trace) (m : Moment) (s : Service) (k : Block) (y : ℕ) (front back : List ℕ)
     (u : ℕ) → Step c t m s k y front back → unit t y ≢ u → is_online (t ++ m ∷ []) u ≡ is_online t u
 is_online_other c t m s k y front back u st n =
-    search (arith, is_online_more t m u, states_step t m s y u front back st.serves.among st.serves.is st.serves.same,
-    ne_eqb (unit t y) u n)
+    search (
+      arith,
+      is_online_more t m u,
+      states_step t m s y u front back st.serves.among st.serves.is st.serves.same,
+      ne_eqb (unit t y) u n,
+    )
 
 own_states : (c : Settings) (t : Trace) (m : Moment) (s : Service) (k : Block) (y : ℕ) (front back : List ℕ)
     → Step c t m s k y front back → is_online (t ++ m ∷ []) (unit t y)
     ≡ last_or (states_ended (order t y) s.ended) (is_online t (unit t y))
 own_states c t m s k y front back st =
-    search (arith, is_online_more t m (unit t y), states_step t m s y (unit t y) front back st.serves.among st.serves.is
-    st.serves.same, eq-eqb (unit t y) (unit t y) refl)
+    search (
+      arith,
+      is_online_more t m (unit t y),
+      states_step t m s y (unit t y) front back st.serves.among st.serves.is
+          st.serves.same,
+      eq-eqb (unit t y) (unit t y) refl,
+    )
 
 -- It gives its own unit the state that its order leaves where it ends.
 pub is_online_ended : (c : Settings) (t : Trace) (m : Moment) (s : Service) (k : Block) (y : ℕ) (front back : List ℕ)

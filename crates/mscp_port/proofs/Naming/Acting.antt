@@ -133,8 +133,13 @@ pub step_elsewhere : {K : Type 0} (ws : List ℕ) (bs : List (List ℕ)) (old ne
     → Knows ws bs old → TakesStep word old new → is_first s ≡ false → is_second s ≡ false → is_third s ≡ false
     → old.stage ≡ s → Knows ws bs new
 step_elsewhere ws bs old new word s k t first second third e =
-    search (arith, apart is_first old.stage s stages.First e first refl, apart is_second old.stage s stages.Second e
-    second refl, apart is_third old.stage s stages.Third e third refl)
+    search (
+      arith,
+      apart is_first old.stage s stages.First e first refl,
+      apart is_second old.stage s stages.Second e
+          second refl,
+      apart is_third old.stage s stages.Third e third refl,
+    )
 
 pub after_step : {K : Type 0} (ws : List ℕ) (bs : List (List ℕ)) (old new : Port K) (word : ℕ) → Knows ws bs old
     → HasInOrder (word ∷ answers old.stage old.words) ws → Handles bs new → TakesStep word old new → Knows ws bs new

@@ -43,25 +43,45 @@ probed ws bs old new k r e = search (arith, still_knows, new_knows, none-some)
 pub after_read_ip : {K : Type 0} (ws : List ℕ) (bs : List (List ℕ)) (old new : Port K) → Knows ws bs old
     → ReadsIp old new → Knows ws bs new
 after_read_ip ws bs old new k r =
-    search (arith, unread ws bs old new stages.First k r refl refl, unread ws bs old new stages.Second k r refl refl,
-    unread ws bs old new stages.Third k r refl refl, unread ws bs old new stages.Purging k r refl refl, probed ws bs old
-    new k r, unread ws bs old new stages.Clearing k r refl refl, unread ws bs old new stages.Last k r refl refl, up_read
-    ws bs old new k r)
+    search (
+      arith,
+      unread ws bs old new stages.First k r refl refl,
+      unread ws bs old new stages.Second k r refl refl,
+      unread ws bs old new stages.Third k r refl refl,
+      unread ws bs old new stages.Purging k r refl refl,
+      probed ws bs old
+          new k r,
+      unread ws bs old new stages.Clearing k r refl refl,
+      unread ws bs old new stages.Last k r refl refl,
+      up_read
+          ws bs old new k r,
+    )
 
 -- the word that the host wrote answers the step that it is to answer
 pub answered_now : {K : Type 0} (ws : List ℕ) (bs : List (List ℕ)) (old new : Port K) (word : ℕ) → Knows ws bs old
     → new ≡ record old { written = Some word } → Knows (word ∷ ws) bs new
 answered_now ws bs old new word k e =
-    search (arith, in_order_behind (answers old.stage old.words) ws word k.taken, answers old.stage old.words,
-    in_order_more (answers old.stage old.words) ws word k.taken, knows_more_words ws bs old word k)
+    search (
+      arith,
+      in_order_behind (answers old.stage old.words) ws word k.taken,
+      answers old.stage old.words,
+      in_order_more (answers old.stage old.words) ws word k.taken,
+      knows_more_words ws bs old word k,
+    )
 
 -- the word leads to a stage in which no step is to be taken, or has been
 pub led_on : {K : Type 0} (ws : List ℕ) (bs : List (List ℕ)) (old new : Port K) (word : ℕ) (s : Stage) → Knows ws bs old
     → ((w : Words) → answers s w ≡ []) → new ≡ record old { stage = s } → Knows (word ∷ ws) bs new
 led_on ws bs old new word s k none e =
-    search (arith, still_knows (word ∷ ws) bs bs old (record old { stage = s }) (knows_more_words ws bs old word k)
-    (record { taken = inr (none old.words); given = refl; area = refl }) (record { packet = k.packet; buffer = k.buffer
-    }), knows_more_words ws bs old word k)
+    search (
+      arith,
+      still_knows (word ∷ ws) bs bs old (record old { stage = s }) (knows_more_words ws bs old word k)
+          (record { taken = inr (none old.words); given = refl; area = refl }) (record {
+            packet = k.packet;
+            buffer = k.buffer;
+          }),
+      knows_more_words ws bs old word k,
+    )
 
 pub ignored : {K : Type 0} (ws : List ℕ) (bs : List (List ℕ)) (old new : Port K) (word : ℕ) → Knows ws bs old
     → new ≡ old → Knows (word ∷ ws) bs new

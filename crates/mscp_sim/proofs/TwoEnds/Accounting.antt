@@ -150,5 +150,18 @@ pub account_asked : (c : Settings) (via : Connection) (talk : Talk) (j r : ℕ) 
     → is_some (account_at c via talk j).watch ≡ false → oldest (account_at c via talk j) ≡ Some s
     → account_at c via talk (j + 1) ≡ watching (account_at c via talk j) r s
 account_asked c via talk j r s n t h w o =
-    search (arith, polls_of c via talk j s o, own_side via, no_flight via talk j (in_flight via talk j) w, sends_own,
-    asks_own, found_is, unit_same, subs_sent, outs_sent, find-append, outstanding_same, found_stands)
+    search (
+      arith,
+      polls_of c via talk j s o,
+      own_side via,
+      no_flight via talk j (in_flight via talk j) w,
+      sends_own,
+      asks_own,
+      found_is,
+      unit_same,
+      subs_sent,
+      outs_sent,
+      find-append,
+      outstanding_same,
+      found_stands,
+    )

@@ -123,8 +123,15 @@ any_there q (x ∷ xs) k e h =
 gone : (via : Connection) (talk : Talk) (j k p : ℕ) → k < j → handed_over via talk k ≡ Some p
     → is_outstanding via talk j p ≡ false
 gone via talk j k p l e =
-    search (arith, found_below via talk k p _ e, any_before k j l, and-false (sends via (said talk p)), nat_tests,
-    found_is, any_there)
+    search (
+      arith,
+      found_below via talk k p _ e,
+      any_before k j l,
+      and-false (sends via (said talk p)),
+      nat_tests,
+      found_is,
+      any_there,
+    )
 
 -- ---- the first poll came first
 

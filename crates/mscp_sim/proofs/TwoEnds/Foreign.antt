@@ -51,9 +51,15 @@ foreign_unless : {K : Type 0} (via other : Connection) (a : Account) (h : Holdin
     → Matches other a (held_unless via h c o) told
 foreign_unless via other a h told c (Some fault) d m = m
 foreign_unless {K} via other a h told c None d m =
-    search (arith, stays other a h (queued via h c) told (ap commands (still_behind via other h.waiting c d)) refl refl
-    m, still_behind via other h.waiting c d, foreign_end via other a (aborting via h c.order) told (answered_end via h
-    c) d (foreign_abort via other a h told c.order d m), foreign_abort via other a h told c.order d m)
+    search (
+      arith,
+      stays other a h (queued via h c) told (ap commands (still_behind via other h.waiting c d)) refl refl
+          m,
+      still_behind via other h.waiting c d,
+      foreign_end via other a (aborting via h c.order) told (answered_end via h
+          c) d (foreign_abort via other a h told c.order d m),
+      foreign_abort via other a h told c.order d m,
+    )
 
 pub foreign_message : {K : Type 0} (via other : Connection) (a : Account) (h : Holdings K) (told : Flight) (b : List ℕ)
     → same_connection via other ≡ false → Matches other a h told → Matches other a (after_message via h b) told

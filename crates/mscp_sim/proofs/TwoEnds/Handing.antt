@@ -100,8 +100,12 @@ about_with : (e : End) (us : List End) (w : Watch) (told : Flight) (b : Bool) �
     → is_about_polled (Some w) (if b && nat_eq e.code 0x82 then told_in e.body else None) ≡ true
 about_with e us w told false s f z = refl
 about_with e us w told true s f z =
-    search (arith, first_is e us w told f z (eqb-true w.reference e.reference s), eqb-true w.reference e.reference s,
-    status_of)
+    search (
+      arith,
+      first_is e us w told f z (eqb-true w.reference e.reference s),
+      eqb-true w.reference e.reference s,
+      status_of,
+    )
 
 about : (e : End) (us : List End) (watch : Option Watch) (told : Flight) → HasFlight (e ∷ us) watch told
     → times e.reference (numbers_ended us) ≡ 0 → is_about_polled watch (answered watch e) ≡ true

@@ -47,5 +47,13 @@ flight_asked via talk j n s a e = grind (arith, outs_sent, find-append)
 pub one_asked : (via : Connection) (talk : Talk) (j : ℕ) → NoEnd via talk j → sends via (said talk j) ≡ true
     → is_asked via (said talk j) ≡ true → in_flight via talk j ≡ None → OnePoll via talk (j + 1)
 one_asked via talk j n s a e =
-    search (arith, outs_sent via talk j n s, none_found (asking via talk) (outstanding via talk j) e, flight_asked via
-    talk j n s a e, every_append, every_weaker, true≢false)
+    search (
+      arith,
+      outs_sent via talk j n s,
+      none_found (asking via talk) (outstanding via talk j) e,
+      flight_asked via
+          talk j n s a e,
+      every_append,
+      every_weaker,
+      true≢false,
+    )

@@ -25,8 +25,14 @@ left_subs : (c : Settings) (via : Connection) (talk : Talk) (j : ℕ) (e : End) 
     → without e.reference (map (submission_at c via talk (j + 1)) (outstanding via talk j))
     ≡ map (submission_at c via talk (j + 1)) (outstanding via talk (j + 1))
 left_subs c via talk j e g =
-    search (arith, references_at c via talk (j + 1) j (outstanding via talk j), once_at c via talk j e.reference e g,
-    outs_after c via talk j e g, without_kept, filter_map_of)
+    search (
+      arith,
+      references_at c via talk (j + 1) j (outstanding via talk j),
+      once_at c via talk j e.reference e g,
+      outs_after c via talk j e g,
+      without_kept,
+      filter_map_of,
+    )
 
 -- ---- the poll in flight
 

@@ -233,8 +233,15 @@ poll_flight : {K : Type 0} (via : Connection) (a : Account) (h : Holdings K) (to
     (of via (with_end via (aborting via h (orders.Status s.reference)) (answered_end via h (poll_of r s))).untaken)
     (watching a r s).watch (told_now via h s)
 poll_flight {K} via a h told r s m there =
-    search (arith, of_more via h.untaken [], same_holds via a h told s.reference m, append-nil (of via h.untaken),
-    any_ends s.reference (of via h.untaken), list_any-append, second_of)
+    search (
+      arith,
+      of_more via h.untaken [],
+      same_holds via a h told s.reference m,
+      append-nil (of via h.untaken),
+      any_ends s.reference (of via h.untaken),
+      list_any-append,
+      second_of,
+    )
 
 pub polled_match : {K : Type 0} (via : Connection) (a : Account) (h : Holdings K) (told : Flight) (r : ℕ)
     (s : Submission) → r < 2 ^ 32 → Matches via a h told → host.oldest a ≡ Some s

@@ -53,8 +53,14 @@ submits_when : {K : Type 0} (via : Connection) (a : Account) (h : Holdings K) (t
     → Submits via a h told c b.items a'
 submits_when via a h told c (Some fault) b a' r u m o e = absurd (false≢true (ap (λ p. is_ok p.0) e))
 submits_when {K} via a h told c None b a' r u m o e =
-    search (arith, submitted_match via a h told c r u m o, free a (opcode_byte c.order) c.reference o, same_reference c
-    (carries c r), carries c r)
+    search (
+      arith,
+      submitted_match via a h told c r u m o,
+      free a (opcode_byte c.order) c.reference o,
+      same_reference c
+          (carries c r),
+      carries c r,
+    )
 
 pub submits_match : {K : Type 0} (via : Connection) (a : Account) (h : Holdings K) (told : Flight) (c : Command)
     (b : ArrayVec ℕ) (a' : Account) → c.reference < 2 ^ 32 → c.unit < 2 ^ 16 → Matches via a h told
