@@ -1,6 +1,6 @@
 -- The bytes of a part say that part.
-use Rattle.std.proofs.Common.{◌≡◌, ℕ, ◌<◌, ◌^◌, Bool, true, false, ◌||◌, List, [], ◌++◌, take, drop, length, refl, ap, sym, subst, ◌∙◌}
-use Rattle.std.specs.Prelude.{slice_index, if◌then◌else◌, nat_eq, ◌&&◌, Option, Some, None}
+use Rattle.std.proofs.Common.{◌≡◌, ℕ, ◌<◌, ◌^◌, Bool, true, ◌||◌, List, [], ◌++◌, take, drop, length, refl, ap, sym, subst, ◌∙◌, arith}
+use Rattle.std.specs.Prelude.{slice_index, nat_eq, Option}
 use Rattle.std.proofs.lemmas.Bool.{false≢true, lt-ltb}
 use Rattle.mscp_packet.specs.Commands.{HasRange, command_bytes, command_of}
 use Rattle.mscp_packet.specs.Ends.{HasEndRange, IsOfKind}
@@ -13,32 +13,27 @@ use Rattle.mscp_packet.specs.declared.end.EndBody.{EndBody}
 use Rattle.mscp_packet.specs.declared.end.EndBody.TheVariants as bodies
 use Rattle.mscp_packet.specs.Number.{num}
 use Rattle.mscp_packet.proofs.Numbers.{eight, four, two}
-use Rattle.mscp_drive.specs.Shape.{Shape, one_block}
+use Rattle.mscp_drive.specs.Shape.{Shape}
 use Rattle.mscp_queue.specs.declared.drive.Drive.{Drive}
 use Rattle.mscp_events.specs.declared.connection.Connection.{Connection}
-use Rattle.mscp_events.specs.declared.connection.Connection.TheVariants.{First, Second}
 use Rattle.mscp_queue.specs.declared.name.Name.{Name}
 use Rattle.mscp_queue.specs.Orders.{is_move, is_sequential, order_weight}
 use Rattle.mscp_queue.specs.Records.{Record}
 use Rattle.mscp_saved.specs.Ranges.{HasDriveRange, HasSizesRange, HasWaitingRange}
-use Rattle.mscp_saved.specs.Read.{connection_in, drive_in, end_in, end_with, name_in, sized, waiting_in}
+use Rattle.mscp_saved.specs.Read.{connection_in, drive_in, end_in, name_in, sized, waiting_in}
 use Rattle.mscp_saved.proofs.BackParts.{IsBack}
 use Rattle.mscp_saved.specs.Saved.{begun_connection, begun_reference, connection_byte, drive_bytes, end_cell, flag_byte, padded, waiting_bytes}
 
 -- ---- a drive
 
 pub flag_back : (so : Bool) → nat_eq (flag_byte so) 1 ≡ so
-flag_back true = refl
-flag_back false = refl
+flag_back so = grind arith
 
 pub connection_back : (via : Connection) → connection_in (connection_byte via) ≡ via
-connection_back First = refl
-connection_back Second = refl
+connection_back via = grind arith
 
 sized_is : (u : Shape) → HasSizesRange u → sized u ≡ u
-sized_is u h =
-    λ i. if lt-ltb 0 u.track h.some_track i && (lt-ltb 0 u.group h.some_group i
-    && (lt-ltb 0 u.cylinder h.some_cylinder i && lt-ltb 0 u.size h.some_size i)) then u else one_block
+sized_is u h = search (arith, lt-ltb)
 
 pub drive_back : (d : Drive) (t : List ℕ) → HasDriveRange d
     → drive_in (take 34 (drive_bytes d ++ t)) ≡ d
@@ -64,37 +59,14 @@ command_back : (n u : ℕ) (o : Order) (t : List ℕ) → (is_sequential o || is
     → command_of (take 32 (padded 32 (command_bytes (record { reference = n; unit = u; order = o })) ++ t))
     ≡ record { reference = n; unit = u; order = o }
 unfolding command_of
-command_back n u orders.Available t w a b h =
-    λ i. record { reference = four n a i; unit = two u b i; order = orders.Available }
-command_back n u orders.Online t w a b h =
-    λ i. record { reference = four n a i; unit = two u b i; order = orders.Online }
-command_back n u orders.SetUnit t w a b h =
-    λ i. record { reference = four n a i; unit = two u b i; order = orders.SetUnit }
-command_back n u (orders.Move moves.Access count block) t w a b h = λ i. record {
-  reference = four n a i;
-  unit = two u b i;
-  order = orders.Move moves.Access (four count h.0 i) (four block h.1 i);
-}
-command_back n u (orders.Move moves.Erase count block) t w a b h = λ i. record {
-  reference = four n a i;
-  unit = two u b i;
-  order = orders.Move moves.Erase (four count h.0 i) (four block h.1 i);
-}
-command_back n u (orders.Move moves.Compare count block) t w a b h = λ i. record {
-  reference = four n a i;
-  unit = two u b i;
-  order = orders.Move moves.Compare (four count h.0 i) (four block h.1 i);
-}
-command_back n u (orders.Move moves.Read count block) t w a b h = λ i. record {
-  reference = four n a i;
-  unit = two u b i;
-  order = orders.Move moves.Read (four count h.0 i) (four block h.1 i);
-}
-command_back n u (orders.Move moves.Write count block) t w a b h = λ i. record {
-  reference = four n a i;
-  unit = two u b i;
-  order = orders.Move moves.Write (four count h.0 i) (four block h.1 i);
-}
+command_back n u orders.Available t w a b h = search (arith, four, two)
+command_back n u orders.Online t w a b h = search (arith, four, two)
+command_back n u orders.SetUnit t w a b h = search (arith, four, two)
+command_back n u (orders.Move moves.Access count block) t w a b h = search (arith, four, two)
+command_back n u (orders.Move moves.Erase count block) t w a b h = search (arith, four, two)
+command_back n u (orders.Move moves.Compare count block) t w a b h = search (arith, four, two)
+command_back n u (orders.Move moves.Read count block) t w a b h = search (arith, four, two)
+command_back n u (orders.Move moves.Write count block) t w a b h = search (arith, four, two)
 command_back n u o t w a b h = absurd (false≢true w)
 
 -- what bytes say that have a command, a connection and two numbers at their places
@@ -102,8 +74,7 @@ record_back : (via : Connection) (c : Command) (d p : ℕ) (b : List ℕ) → co
     → connection_in (slice_index b 40) ≡ via → num b 32 4 ≡ d → num b 36 4 ≡ p
     → waiting_in b
     ≡ record { connection = via; command = c; weight = order_weight c.order; done = d; good = d; passed = p }
-record_back via c d p b e v f g = λ i.
-    record { connection = v i; command = e i; weight = order_weight (e i).order; done = f i; good = f i; passed = g i }
+record_back via c d p b e v f g = search arith
 
 abbrev waiter : Connection → ℕ → ℕ → Order → ℕ → ℕ → Record
 waiter via n u o d p = record {
@@ -155,11 +126,7 @@ waiter_back via n u o d p t w a b h f g = absurd (false≢true w)
 
 waiter_rest : (via : Connection) (n u : ℕ) (o : Order) (d p : ℕ) (t : List ℕ)
     → (is_sequential o || is_move o) ≡ true → drop 41 (waiting_bytes (waiter via n u o d p) ++ t) ≡ t
-waiter_rest via n u orders.Available d p t w = refl
-waiter_rest via n u orders.Online d p t w = refl
-waiter_rest via n u orders.SetUnit d p t w = refl
-waiter_rest via n u (orders.Move kind count block) d p t w = refl
-waiter_rest via n u o d p t w = absurd (false≢true w)
+waiter_rest via n u o d p t h7 = grind (arith, false≢true)
 
 -- ---- an end
 
@@ -169,81 +136,17 @@ end n u code status body = record { reference = n; unit = u; code = code; status
 end_back : (n u code status : ℕ) (body : EndBody) (t : List ℕ) → IsOfKind (end n u code status body)
     → HasEndRange (end n u code status body)
     → end_in (take 48 (end_cell (end n u code status body) ++ t)) ≡ end n u code status body
-end_back n u code status bodies.Bare t k h =
-    ap (λ o. end_with o (take 48 (end_cell (end n u code status bodies.Bare) ++ t))) k
-    ∙ λ i. record {
-      reference = four n h.0 i;
-      unit = two u h.1 i;
-      code = code;
-      status = two status h.2 i;
-      body = bodies.Bare;
-    }
-end_back n u code status (bodies.Abort other) t k h =
-    ap (λ o. end_with o (take 48 (end_cell (end n u code status (bodies.Abort other)) ++ t))) k
-    ∙ λ i. record {
-      reference = four n h.0 i;
-      unit = two u h.1 i;
-      code = code;
-      status = two status h.2 i;
-      body = bodies.Abort (four other h.3 i);
-    }
-end_back n u code status (bodies.Status other figure) t k h =
-    ap (λ o. end_with o (take 48 (end_cell (end n u code status (bodies.Status other figure)) ++ t))) k
-    ∙ λ i. record {
-      reference = four n h.0 i;
-      unit = two u h.1 i;
-      code = code;
-      status = two status h.2 i;
-      body = bodies.Status (four other h.3.0 i) (four figure h.3.1 i);
-    }
-end_back n u code status (bodies.UnitStatus id media track group cylinder) t k h =
-    ap (λ o. end_with o
-    (take 48 (end_cell (end n u code status (bodies.UnitStatus id media track group cylinder)) ++ t))) k
-    ∙ λ i. record {
-      reference = four n h.0 i;
-      unit = two u h.1 i;
-      code = code;
-      status = two status h.2 i;
-      body = bodies.UnitStatus (eight id h.3.0 i) (four media h.3.1 i) (two track h.3.2 i) (two group h.3.3 i)
-          (two cylinder h.3.4 i);
-    }
-end_back n u code status (bodies.Controller timeout id) t k h =
-    ap (λ o. end_with o (take 48 (end_cell (end n u code status (bodies.Controller timeout id)) ++ t))) k
-    ∙ λ i. record {
-      reference = four n h.0 i;
-      unit = two u h.1 i;
-      code = code;
-      status = two status h.2 i;
-      body = bodies.Controller (two timeout h.3.0 i) (eight id h.3.1 i);
-    }
-end_back n u code status (bodies.Online id media size serial) t k h =
-    ap (λ o. end_with o (take 48 (end_cell (end n u code status (bodies.Online id media size serial)) ++ t))) k
-    ∙ λ i. record {
-      reference = four n h.0 i;
-      unit = two u h.1 i;
-      code = code;
-      status = two status h.2 i;
-      body = bodies.Online (eight id h.3.0 i) (four media h.3.1 i) (four size h.3.2 i) (four serial h.3.3 i);
-    }
-end_back n u code status (bodies.Moved count) t k h =
-    ap (λ o. end_with o (take 48 (end_cell (end n u code status (bodies.Moved count)) ++ t))) k
-    ∙ λ i. record {
-      reference = four n h.0 i;
-      unit = two u h.1 i;
-      code = code;
-      status = two status h.2 i;
-      body = bodies.Moved (four count h.3 i);
-    }
+end_back n u code status bodies.Bare t k h = search (arith, four, two)
+end_back n u code status (bodies.Abort other) t k h = search (arith, four, two)
+end_back n u code status (bodies.Status other figure) t k h = search (arith, four, two)
+end_back n u code status (bodies.UnitStatus id media track group cylinder) t k h = search (arith, four, two, eight)
+end_back n u code status (bodies.Controller timeout id) t k h = search (arith, four, two, eight)
+end_back n u code status (bodies.Online id media size serial) t k h = search (arith, four, two, eight)
+end_back n u code status (bodies.Moved count) t k h = search (arith, four, two)
 
 end_rest : (n u code status : ℕ) (body : EndBody) (t : List ℕ)
     → drop 48 (end_cell (end n u code status body) ++ t) ≡ t
-end_rest n u code status bodies.Bare t = refl
-end_rest n u code status (bodies.Abort other) t = refl
-end_rest n u code status (bodies.Status other figure) t = refl
-end_rest n u code status (bodies.UnitStatus id media track group cylinder) t = refl
-end_rest n u code status (bodies.Controller timeout id) t = refl
-end_rest n u code status (bodies.Online id media size serial) t = refl
-end_rest n u code status (bodies.Moved count) t = refl
+end_rest n u code status body t = grind arith
 
 -- ---- each part
 
@@ -252,11 +155,7 @@ drive_is_back d h = record { back = λ t. drive_back d t h; rest = λ t. refl; l
 
 waiter_long : (via : Connection) (n u : ℕ) (o : Order) (d p : ℕ) → (is_sequential o || is_move o) ≡ true
     → length (waiting_bytes (waiter via n u o d p)) ≡ 41
-waiter_long via n u orders.Available d p w = refl
-waiter_long via n u orders.Online d p w = refl
-waiter_long via n u orders.SetUnit d p w = refl
-waiter_long via n u (orders.Move kind count block) d p w = refl
-waiter_long via n u o d p w = absurd (false≢true w)
+waiter_long via n u o d p h6 = grind (arith, false≢true)
 
 -- of a waiting command it is known how many steps it takes, and that all that it had were good
 pub waiting_is_back : (r : Record) → HasWaitingRange r
@@ -281,18 +180,10 @@ waiting_is_back r h w weight good =
     })
 
 end_long : (n u code status : ℕ) (body : EndBody) → length (end_cell (end n u code status body)) ≡ 48
-end_long n u code status bodies.Bare = refl
-end_long n u code status body = refl
+end_long n u code status body = grind arith
 
 pub end_is_back : (e : End) → IsOfKind e → HasEndRange e → IsBack (λ b. end_in b) end_cell 48 e
-end_is_back e k h = record {
-  back = λ t. end_back e.reference e.unit e.code e.status e.body t k h;
-  rest = λ t. end_rest e.reference e.unit e.code e.status e.body t;
-  long = end_long e.reference e.unit e.code e.status e.body;
-}
+end_is_back e k h = search (arith, end_long e.reference e.unit e.code e.status e.body, end_back, end_rest)
 
 pub begun_back : (begun : Option Name) → name_in (begun_connection begun) (begun_reference begun) ≡ begun
-begun_back None = refl
-begun_back (Some name) = elim name.connection as (λ via.
-    name_in (connection_byte via) name.reference ≡ Some (record { connection = via; reference = name.reference }))
-    [ First ↦ refl | Second ↦ refl ]
+begun_back begun = grind arith

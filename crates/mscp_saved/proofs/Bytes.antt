@@ -1,25 +1,21 @@
 -- Bytes that grow at their end.
-use Rattle.std.proofs.Common.{◌≡◌, ℕ, zero, suc, ◌≤◌, List, ◌∷◌, ◌++◌, take, append_assoc, refl, ap, ◌∙◌, arith}
+use Rattle.std.proofs.Common.{◌≡◌, ℕ, suc, ◌≤◌, List, ◌∷◌, ◌++◌, take, append_assoc, ap, ◌∙◌, arith}
 use Rattle.std.specs.Prelude.{replicate}
 use Rattle.byteorder.specs.Endian.{little_bytes}
 
 -- the first of many zeros are zeros
 pub first_zeros : (n k : ℕ) → k ≤ n → take {A = ℕ} k (replicate n 0) ≡ replicate k 0
-first_zeros n zero l = refl
-first_zeros zero (suc k) l = absurd (omega (arith, l))
 first_zeros (suc n) (suc k) l = ap (λ xs. 0 ∷ xs) (first_zeros n k (omega (arith, l)))
+first_zeros n k h2 = grind arith
 
 -- a number of so many bytes behind others
 pub grow : (xs a : List ℕ) (n x x' : ℕ) {ys zs : List ℕ} → ys ≡ xs ++ a → zs ≡ ys ++ little_bytes n x → x ≡ x'
     → zs ≡ xs ++ (a ++ little_bytes n x')
-grow xs a n x x' e f g =
-    f ∙ (ap (λ l. l ++ little_bytes n x) e ∙ (append_assoc xs a (little_bytes n x)
-    ∙ ap (λ n'. xs ++ (a ++ little_bytes n n')) g))
+grow xs a n x x' e f g = search (arith, append_assoc xs a (little_bytes n x))
 
 -- more bytes behind others
 pub more : (xs a b b' : List ℕ) {ys zs : List ℕ} → ys ≡ xs ++ a → zs ≡ ys ++ b → b ≡ b' → zs ≡ xs ++ (a ++ b')
-more xs a b b' e f g =
-    f ∙ (ap (λ l. l ++ b) e ∙ (append_assoc xs a b ∙ ap (λ t. xs ++ (a ++ t)) g))
+more xs a b b' e f g = search (arith, append_assoc xs a b)
 
 -- the first bytes behind others
 pub first : (xs b b' : List ℕ) {zs : List ℕ} → zs ≡ xs ++ b → b ≡ b' → zs ≡ xs ++ b'

@@ -1,15 +1,14 @@
 -- What is sound passes each test.
-use Rattle.std.proofs.Common.{All, ◌≡◌, ◌≢◌, ℕ, zero, suc, ◌+◌, ◌<◌, ◌≤◌, ◌^◌, Bool, true, false, ◌&&◌, ◌||◌, List, [], ◌∷◌, get_or, length, refl, ap, sym, subst, ◌∙◌, arith}
-use Rattle.std.specs.Prelude.{◌⊎◌, ◌==◌, filter, nat_eq, nat_le, nat_lt, not, if◌then◌else◌, unwrap_or, Option, Some, None, is_none, is_some}
-use Rattle.std.specs.List.{AllByRecursion, list_all, position}
+use Rattle.std.proofs.Common.{All, ◌≡◌, ◌≢◌, ℕ, zero, suc, ◌+◌, ◌<◌, ◌≤◌, Bool, true, false, ◌&&◌, List, [], ◌∷◌, get_or, length, refl, subst, arith}
+use Rattle.std.specs.Prelude.{◌⊎◌, ◌==◌, filter, nat_eq, nat_le, nat_lt, not, unwrap_or, Option, Some, None, is_none, is_some}
+use Rattle.std.specs.List.{AllByRecursion, list_all}
 use Rattle.std.proofs.lemmas.Bool.{and_from, eq-eqb, false≢true, le-leb, le-ltb, lt-leb, lt-ltb, ne_eqb, not_from_false, or_left, or_right}
 use Rattle.std.proofs.lemmas.List.Elements.{recursion_from_All}
 use Rattle.mscp_packet.specs.declared.command.Order.{Order}
-use Rattle.mscp_packet.specs.declared.command.Order.TheVariants as orders
 use Rattle.mscp_packet.specs.declared.end.End.{End}
-use Rattle.mscp_packet.specs.Ends.{IsOfKind, kind_of_body, kind_of_code}
-use Rattle.mscp_drive.specs.Extent.{blocks, invalid_block, invalid_byte_count, weight}
-use Rattle.mscp_drive.specs.Shape.{Shape, last_cylinder, one_block}
+use Rattle.mscp_packet.specs.Ends.{IsOfKind}
+use Rattle.mscp_drive.specs.Extent.{weight}
+use Rattle.mscp_drive.specs.Shape.{Shape, one_block}
 use Rattle.mscp_queue.specs.declared.drive.Drive.{Drive}
 use Rattle.mscp_events.specs.declared.connection.Connection.{Connection}
 use Rattle.mscp_events.specs.declared.connection.Connection.TheVariants.{First, Second}
@@ -24,10 +23,8 @@ use Rattle.mscp_queue.proofs.Nexts.{name_found}
 use Rattle.mscp_controller.specs.Arrival.{is_queued, move_fault, unit_fault}
 use Rattle.mscp_controller.specs.Holdings.{Holdings, waiting_on}
 use Rattle.mscp_controller.specs.Restored.{IsCovered, IsSound}
-use Rattle.mscp_events.specs.Settings.{IsValid, Settings, bound, credits_of, limit_fault, room_of, unit_found}
-use Rattle.mscp_events.specs.declared.config.ConfigFault.TheVariants.{Credits, Longest, Timeout, Figure}
-use Rattle.mscp_saved.specs.declared.fault.RestoreFault.TheVariants as faults
-use Rattle.mscp_saved.specs.Restored.{are_apart, are_ends, are_on_units, are_passed, is_covered, may_be_begun, may_serve, may_serve_at, parts_fault, settings_fault}
+use Rattle.mscp_events.specs.Settings.{IsValid, Settings, credits_of, limit_fault, room_of}
+use Rattle.mscp_saved.specs.Restored.{are_apart, are_ends, are_on_units, are_passed, is_covered, may_be_begun, may_serve, parts_fault, settings_fault}
 use Rattle.mscp_saved.proofs.Rising.{test_of_units}
 use Rattle.mscp_saved.proofs.Sound.{Passes}
 
@@ -37,17 +34,10 @@ no_second : (n : ℕ) → (n ≡ 0) ⊎ (2 ≤ n) → (n == 1) ≡ false
 no_second n h = ne_eqb n 1 (λ e. omega (arith, h, e))
 
 limits_pass : (c : Settings) → IsValid c → is_some (limit_fault c) ≡ false
-limits_pass c v = λ i. is_some (
-    if le-ltb c.credits 2 v.some_credits i || (no_second c.second v.second_credits i
-    || le-ltb 64 (c.credits + c.second) v.few_credits i) then Some Credits else (
-    if le-ltb c.longest 1 v.some_blocks i || le-ltb 8388608 c.longest v.few_blocks i then Some Longest else (
-    if le-ltb c.timeout 1 v.some_seconds i || le-ltb 255 c.timeout v.few_seconds i then Some Timeout else (
-    if lt-leb (2 ^ 32) (bound c) v.small_bound i then Some Figure else None))))
+limits_pass c v = search (arith, le-ltb, no_second, lt-leb)
 
 pub settings_pass : (c : Settings) → IsValid c → settings_fault c ≡ None
-settings_pass c v = λ i.
-    if not (test_of_units c.units v.unit_list i) then Some faults.Units
-    else (if limits_pass c v i then Some faults.Limits else None)
+settings_pass c v = search (arith, test_of_units, limits_pass)
 
 -- ---- each test
 
@@ -57,9 +47,7 @@ each_passes p P f [] h = refl
 each_passes p P f (x ∷ xs) h = and_from (p x) (list_all p xs) (f x h.0) (each_passes p P f xs h.1)
 
 heads_pass : (ds : List Drive) → All IsOnUnit ds → are_on_units ds ≡ true
-heads_pass ds h =
-    each_passes (λ (d : Drive). nat_le d.head.cylinder (last_cylinder d.unit)) IsOnUnit
-    (λ d. le-leb d.head.cylinder (last_cylinder d.unit)) ds (recursion_from_All IsOnUnit ds h)
+heads_pass ds h = search (arith, recursion_from_All IsOnUnit ds h, each_passes, le-leb)
 
 covered_passes : (c : Settings) (rs : List Record) (via : Connection) (ends : List End) → IsCovered c rs via ends
     → is_covered c rs via ends ≡ true
@@ -70,29 +58,17 @@ covered_passes c rs via ends h =
     (le-leb (length (waiting_on via rs)) (room_of c via) h.fits)
 
 known_unit : (o : Option Shape) → is_some o ≡ true → is_none (unit_fault o) ≡ true
-known_unit None h = absurd (false≢true h)
-known_unit (Some u) h = refl
+known_unit o h1 = grind (arith, false≢true)
 
 known_move : (c : Settings) (count block : ℕ) (o : Option Shape) → is_some o ≡ true
     → block + weight count ≤ (unwrap_or o one_block).size → weight count ≤ c.longest
     → is_none (move_fault c count block o) ≡ true
-known_move c count block None h inside short = absurd (false≢true h)
-known_move c count block (Some u) h inside short =
-    let most : 1 ≤ weight count = omega arith in
-    let fewer : blocks count ≤ weight count = omega arith in
-    λ i. is_none (if lt-leb u.size block (omega (arith, inside, most)) i then Some invalid_block else (
-    if le-ltb u.size (block + blocks count) (omega (arith, inside, fewer)) i then Some invalid_byte_count else (
-    if le-ltb c.longest (weight count) short i then Some invalid_byte_count else None)))
+known_move c count block o h4 h5 h6 = grind (arith, false≢true, lt-leb, le-ltb)
 
 waitable_queued : (c : Settings) (n u : ℕ) (o : Order)
     → IsWaitable c.longest c.units (record { reference = n; unit = u; order = o })
     → is_queued c (record { reference = n; unit = u; order = o }) ≡ true
-waitable_queued c n u (orders.Move kind count block) w =
-    known_move c count block (unit_found c u) w.known w.inside w.short
-waitable_queued c n u orders.Available w = known_unit (unit_found c u) w.known
-waitable_queued c n u orders.Online w = known_unit (unit_found c u) w.known
-waitable_queued c n u orders.SetUnit w = known_unit (unit_found c u) w.known
-waitable_queued c n u o w = absurd (false≢true w.order)
+waitable_queued c n u o h4 = grind (arith, known_move, known_unit, false≢true)
 
 apart_passes : (rs : List Record) → AreApart (names rs) → are_apart rs ≡ true
 apart_passes [] h = refl
@@ -114,9 +90,7 @@ passed_pass most (r ∷ rs) few order =
     (passed_pass r.passed rs order.0 order.1)
 
 some_code : (e : End) → IsOfKind e → not (nat_eq e.code 0) ≡ true
-some_code e k =
-    not_from_false (nat_eq e.code 0) (ne_eqb e.code 0 (λ z.
-    let none : kind_of_code 0 ≡ Some (kind_of_body e.body) = sym (ap kind_of_code z) ∙ k in cc))
+some_code e k = search (arith, not_from_false, ne_eqb)
 
 ends_pass : (ends : List End) → All IsOfKind ends → are_ends ends ≡ true
 ends_pass ends h =
@@ -138,13 +112,7 @@ serves budget rs place h = by (record_at rs place).done refl
 
 begun_passes : (budget : ℕ) (rs : List Record) (begun : Option Name) → AreApart (names rs)
     → ((name : Name) → begun ≡ Some name → IsStillServable budget rs name) → may_be_begun budget rs begun ≡ true
-begun_passes budget rs None apart still = refl
-begun_passes budget rs (Some name) apart still =
-    let s = still name refl in
-    let place = s.0 in
-    let e = name_found rs name place (position (has_name name) rs) apart s.1.inside
-    (same_is (name_of (record_at rs place)) name s.2) refl in
-    ap (may_serve_at budget rs) e ∙ serves budget rs place s.1
+begun_passes budget rs begun h3 h4 = grind (arith, name_found, same_is, serves)
 
 -- ---- all
 
@@ -181,13 +149,4 @@ passes_all h s =
 
 pub parts_pass : {K : Type 0} (h : Holdings K) → IsSound h
     → parts_fault h.settings h.drives h.waiting h.untaken.first h.untaken.second h.begun ≡ None
-parts_pass h s =
-    let p = passes_all h s in
-    λ i. if not (p.heads i) then Some faults.Heads else (
-    if not (p.first_covered i && p.second_covered i) then Some faults.Credits else (
-    if not (p.queued i) then Some faults.Command else (
-    if not (p.apart i) then Some faults.Doubled else (
-    if not (p.unfinished i) then Some faults.Steps else (
-    if not (p.passed i) then Some faults.Passed else (
-    if not (p.first_ends i && p.second_ends i) then Some faults.Ends else (
-    if not (p.servable i) then Some faults.Begun else None)))))))
+parts_pass h s = search (arith, passes_all h s)

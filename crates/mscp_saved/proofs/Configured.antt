@@ -1,6 +1,6 @@
 -- What comes of settings.
-use Rattle.std.proofs.Common.{◌≡◌, true, false, List, refl, ap, sym, subst, ◌∙◌}
-use Rattle.std.specs.Prelude.{Option, Some, None, is_some, not, if◌then◌else◌, Ok, Err}
+use Rattle.std.proofs.Common.{◌≡◌, true, false, List, subst, arith}
+use Rattle.std.specs.Prelude.{Option, Some, None, is_some, if◌then◌else◌, Ok, Err}
 use Rattle.std.proofs.lemmas.Bool.{false_from_ne_true}
 use Rattle.mscp_drive.specs.Shape.{Shape}
 use Rattle.mscp_drive.specs.UnitList.{IsUnitList}
@@ -12,38 +12,26 @@ use Rattle.mscp_saved.proofs.Rising.{test_of_units, units_of_test}
 
 after_units : (c : Settings) → are_units c.units ≡ true
     → settings_fault c ≡ (if is_some (limit_fault c) then Some faults.Limits else None)
-after_units c e =
-    ap (λ b. if not b then Some faults.Units else (if is_some (limit_fault c) then Some faults.Limits else None)) e
+after_units c e = search arith
 
 pub no_units : (c : Settings) {us : List Shape} → (IsUnitList us → Unit {0} → ⊥) → us ≡ c.units
     → Err faults.Units ≡ unless c (settings_fault c)
-no_units c {us} none e =
-    let bad : are_units c.units ≡ false = false_from_ne_true (are_units c.units)
-    (λ t. none (subst IsUnitList (sym e) (units_of_test c.units t)) tt) in
-    sym (ap (λ b. unless c (if not b then Some faults.Units
-    else (if is_some (limit_fault c) then Some faults.Limits else None))) bad)
+no_units c {us} none e = search (arith, false_from_ne_true, units_of_test)
 
 given : (c : Settings) (o : Option ConfigFault) (x : Settings) → Ok x ≡ configured_unless c o
     → (is_some o ≡ false) × (x ≡ c)
-given c None x e = (refl, cc)
-given c (Some fault) x e = cc
+given c o x h3 = grind arith
 
 refused : (c : Settings) (o : Option ConfigFault) (fault : ConfigFault) → Err fault ≡ configured_unless c o
     → is_some o ≡ true
-refused c None fault e = cc
-refused c (Some other) fault e = refl
+refused c o fault h3 = grind arith
 
 pub settings_made : (c : Settings) {x : Settings} {us : List Shape} → IsUnitList us → us ≡ c.units → Ok x ≡ configured c
     → Ok x ≡ unless c (settings_fault c)
 settings_made c {x} units e made =
-    let parts = given c (limit_fault c) x made in
-    let good : are_units c.units ≡ true = test_of_units c.units (subst IsUnitList e units) in
-    ap Ok parts.1
-    ∙ sym (ap (unless c) (after_units c good ∙ ap (λ b. if b then Some faults.Limits else None) parts.0))
+    search (arith, given c (limit_fault c) x made, test_of_units c.units (subst IsUnitList e units), after_units)
 
 pub settings_refused : (c : Settings) {us : List Shape} {fault : ConfigFault} → IsUnitList us → us ≡ c.units
     → Err fault ≡ configured c → Err faults.Limits ≡ unless c (settings_fault c)
 settings_refused c {fault = fault} units e made =
-    let good : are_units c.units ≡ true = test_of_units c.units (subst IsUnitList e units) in
-    sym (ap (unless c) (after_units c good
-    ∙ ap (λ b. if b then Some faults.Limits else None) (refused c (limit_fault c) fault made)))
+    search (arith, test_of_units c.units (subst IsUnitList e units), refused c (limit_fault c) fault made, after_units)

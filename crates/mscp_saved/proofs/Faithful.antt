@@ -1,13 +1,11 @@
 -- What is saved is restored, and what is restored is saved as the same bytes.
-use Rattle.std.proofs.Common.{All, ◌≡◌, ℕ, ◌+◌, ◌<◌, ◌^◌, true, List, get_or, length, refl, ap, sym, ◌∙◌, arith}
-use Rattle.std.specs.Prelude.{nat_eq, nat_le, not, if◌then◌else◌, slice_index, Option, Some, None, Ok}
-use Rattle.std.specs.Str.{bytes_eq}
+use Rattle.std.proofs.Common.{All, ◌≡◌, ℕ, true, List, get_or, ap, sym, ◌∙◌, arith}
+use Rattle.std.specs.Prelude.{not, if◌then◌else◌, Option, Some, None, Ok}
 use Rattle.std.proofs.lemmas.Bool.{and_from, eq-eqb, le-leb}
 use Rattle.std.proofs.lemmas.List.Elements.{recursion_from_All}
 use Rattle.std.proofs.lemmas.Slice.Eq.{bytes_eq-Decides}
 use Rattle.mscp_packet.specs.declared.end.End.{End}
 use Rattle.mscp_packet.specs.Ends.{HasEndRange, IsOfKind}
-use Rattle.mscp_packet.specs.Number.{num}
 use Rattle.mscp_packet.proofs.Numbers.{four}
 use Rattle.mscp_controller.specs.Holdings.{Holdings}
 use Rattle.mscp_controller.specs.Restored.{IsSound}
@@ -17,7 +15,7 @@ use Rattle.mscp_saved.specs.Faithful.{RestoringIsFaithful}
 use Rattle.mscp_saved.specs.Ranges.{HasRange}
 use Rattle.mscp_saved.specs.Read.{drive_in, end_in, held_in, waiting_in}
 use Rattle.mscp_saved.specs.Restored.{first_of, form_fault, frame_fault, is_framed, parts_fault, restored, settings_fault}
-use Rattle.mscp_saved.specs.Saved.{drive_bytes, end_cell, saved_bytes, saved_length, waiting_bytes}
+use Rattle.mscp_saved.specs.Saved.{drive_bytes, end_cell, saved_bytes, waiting_bytes}
 use Rattle.mscp_saved.proofs.Back.{drive_is_back, end_is_back, waiting_is_back}
 use Rattle.mscp_saved.proofs.BackParts.{IsBack}
 use Rattle.mscp_saved.proofs.Complete.{parts_pass, settings_pass}
@@ -44,34 +42,14 @@ are_back h s r = record {
 
 framed : {K : Type 0} (number : ℕ) (h : Holdings K) → IsSound h → AreBack h
     → is_framed (saved_bytes number h) ≡ true
-framed number h s a =
-    let b = saved_bytes number h in
-    let nd = length h.drives in
-    let nw = length h.waiting in
-    let nf = length h.untaken.first in
-    let ns = length h.untaken.second in
-    let long = saved_long number h a in
-    let sizes = sizes_of s in
-    let few = sizes.drives in
-    let parts = sizes.parts in
-    let small : saved_length nd nw (nf + ns) < 2 ^ 32 = omega (arith, few, parts) in
-    let told : num b 8 4 ≡ length b = four (saved_length nd nw (nf + ns)) small ∙ sym long in
-    and_from (nat_le 48 (length b)) _ (le-leb 48 (length b) (omega (arith, long)))
-    (and_from (nat_eq (num b 8 4) (length b)) _ (eq-eqb (num b 8 4) (length b) told)
-    (and_from (nat_eq (saved_length nd nw (nf + ns)) (length b)) _
-    (eq-eqb (saved_length nd nw (nf + ns)) (length b) (sym long))
-    (and_from (nat_le nd 16) (nat_le (nw + (nf + ns)) 64) (le-leb nd 16 few)
-    (le-leb (nw + (nf + ns)) 64 (omega (arith, parts))))))
+framed number h s a = search (arith, saved_long number h a, sizes_of s, four, and_from, le-leb, eq-eqb)
 
 frame_passes : {K : Type 0} (number : ℕ) (h : Holdings K) → IsSound h → AreBack h
     → frame_fault (saved_bytes number h) ≡ None
 frame_passes number h s a = λ i. if not (framed number h s a i) then Some faults.Length else None
 
 form_passes : {K : Type 0} (number : ℕ) (h : Holdings K) → form_fault number (saved_bytes number h) h ≡ None
-form_passes number h =
-    let b = saved_bytes number h in
-    λ i. if not (eq-eqb number number refl i) then Some faults.Picker
-    else (if not ((bytes_eq-Decides b b).1 refl i) then Some faults.Form else None)
+form_passes number h = search (arith, eq-eqb, bytes_eq-Decides)
 
 pub back_of : {K : Type 0} (number : ℕ) (h : Holdings K) → IsSound h → HasRange h
     → restored number h.picker (saved_bytes number h) ≡ Ok h
@@ -87,19 +65,12 @@ back_of {K} number h s r =
     ∙ ap Ok e
 
 first_none : (o other : Option RestoreFault) → first_of o other ≡ None → other ≡ None
-first_none None other e = e
-first_none (Some fault) other e = cc
+first_none o other h2 = grind arith
 
 pub same_of : {K : Type 0} (number : ℕ) (picker : K) (h : Holdings K) (b : List ℕ) → restored number picker b ≡ Ok h
     → (saved_bytes number h ≡ b) × (h.picker ≡ picker)
 same_of {K} number picker h b e =
-    let made = ok_is (sym e) in
-    let form = first_none _ _ (first_none _ _ (first_none (frame_fault b) _ made.0)) in
-    let p = next (nat_eq (slice_index b 30) number) faults.Picker _ form in
-    let q = next (bytes_eq (saved_bytes number (held_in picker b)) b) faults.Form None p.1 in (
-      ap (saved_bytes number) made.1 ∙ (bytes_eq-Decides (saved_bytes number (held_in picker b)) b).0 q.0,
-      ap (λ (h : Holdings K). h.picker) made.1,
-    )
+    search (arith, ok_is (sym e), bytes_eq-Decides (saved_bytes number (held_in picker b)) b, first_none, next)
 
 pub restoring_is_faithful : {K : Type 0} (picker : K) → RestoringIsFaithful picker
 restoring_is_faithful picker = record {

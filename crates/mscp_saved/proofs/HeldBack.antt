@@ -1,15 +1,14 @@
 -- The bytes of a controller say it.
-use Rattle.std.proofs.Common.{◌≡◌, ℕ, ◌+◌, ◌*◌, ◌<◌, ◌^◌, List, [], ◌++◌, drop, length, append_assoc, append-nil, ap, sym, ◌∙◌, arith}
-use Rattle.std.specs.Prelude.{flat_map, Option, Some, None, IfSome}
+use Rattle.std.proofs.Common.{◌≡◌, ℕ, ◌+◌, ◌*◌, ◌<◌, ◌^◌, List, [], ◌++◌, drop, length, append_assoc, append-nil, ap, ◌∙◌, arith}
+use Rattle.std.specs.Prelude.{flat_map, Option, IfSome}
 use Rattle.std.specs.List.{AllByRecursion}
 use Rattle.std.proofs.lemmas.List.{drop-drop, length-append}
 use Rattle.mscp_packet.proofs.Numbers.{eight, four, two}
 use Rattle.mscp_queue.specs.declared.name.Name.{Name}
 use Rattle.mscp_queue.specs.Kept.{units_of}
 use Rattle.mscp_controller.specs.Holdings.{Holdings}
-use Rattle.mscp_controller.specs.Restored.{made_of}
 use Rattle.mscp_saved.specs.Ranges.{HasRange}
-use Rattle.mscp_saved.specs.Read.{all_waiting_in, begun_in, drive_in, drives_in, end_in, first_in, held_in, name_in, parts_in, second_in, settings_in, waiting_in}
+use Rattle.mscp_saved.specs.Read.{all_waiting_in, begun_in, drive_in, drives_in, end_in, first_in, held_in, name_in, second_in, settings_in, waiting_in}
 use Rattle.mscp_saved.specs.Saved.{begun_connection, begun_reference, drive_bytes, end_cell, saved_bytes, saved_length, waiting_bytes}
 use Rattle.mscp_saved.proofs.Back.{begun_back}
 use Rattle.mscp_saved.proofs.BackParts.{IsBack, parts_long, parts_rest, parts_said}
@@ -38,51 +37,54 @@ module _ {K : Type 0} (number : ℕ) (h : Holdings K) where
   ss = flat_map end_cell h.untaken.second
 
   behind_head : drop 48 b ≡ ds ++ (rs ++ (fs ++ ss))
-  behind_head =
-      append_assoc (ds ++ rs) fs ss ∙ append_assoc ds rs (fs ++ ss)
+  behind_head = search (arith, append_assoc (ds ++ rs) fs ss, append_assoc ds rs (fs ++ ss))
 
   behind_drives : AreBack h → drop (48 + 34 * length h.drives) b ≡ rs ++ (fs ++ ss)
   behind_drives a =
-      sym (drop-drop (34 * length h.drives) 48 b)
-      ∙ (ap (drop (34 * length h.drives)) behind_head
-      ∙ parts_rest drive_in drive_bytes 34 h.drives (rs ++ (fs ++ ss)) a.drives)
+      search (
+        arith,
+        drop-drop (34 * length h.drives) 48 b,
+        parts_rest drive_in drive_bytes 34 h.drives (rs ++ (fs ++
+            ss)) a.drives,
+        behind_head,
+      )
 
   behind_waiting : AreBack h → drop (48 + 34 * length h.drives + 41 * length h.waiting) b ≡ fs ++ ss
   behind_waiting a =
-      sym (drop-drop (41 * length h.waiting) (48 + 34 * length h.drives) b)
-      ∙ (ap (drop (41 * length h.waiting)) (behind_drives a)
-      ∙ parts_rest waiting_in waiting_bytes 41 h.waiting (fs ++ ss) a.waiting)
+      search (
+        arith,
+        drop-drop (41 * length h.waiting) (48 + 34 * length h.drives) b,
+        behind_drives a,
+        parts_rest
+            waiting_in waiting_bytes 41 h.waiting (fs ++ ss) a.waiting,
+      )
 
   behind_first : AreBack h
       → drop (48 + 34 * length h.drives + 41 * length h.waiting + 48 * length h.untaken.first) b ≡ ss ++ []
   behind_first a =
-      sym (drop-drop (48 * length h.untaken.first) (48 + 34 * length h.drives + 41 * length h.waiting) b)
-      ∙ (ap (drop (48 * length h.untaken.first)) (behind_waiting a)
-      ∙ (parts_rest end_in end_cell 48 h.untaken.first ss a.first ∙ sym (append-nil ss)))
+      search (
+        arith,
+        drop-drop (48 * length h.untaken.first) (48 + 34 * length h.drives + 41 * length h.waiting) b,
+        behind_waiting a,
+        parts_rest end_in end_cell 48 h.untaken.first ss a.first,
+        append-nil ss,
+      )
 
   drives_said : AreBack h → drives_in b ≡ h.drives
-  drives_said a =
-      ap (parts_in drive_in 34 (length h.drives)) behind_head
-      ∙ parts_said drive_in drive_bytes 34 h.drives (rs ++ (fs ++ ss)) a.drives
+  drives_said a = search (arith, parts_said drive_in drive_bytes 34 h.drives (rs ++ (fs ++ ss)) a.drives, behind_head)
 
   waiting_said : AreBack h → all_waiting_in b ≡ h.waiting
   waiting_said a =
-      ap (parts_in waiting_in 41 (length h.waiting)) (behind_drives a)
-      ∙ parts_said waiting_in waiting_bytes 41 h.waiting (fs ++ ss) a.waiting
+      search (arith, behind_drives a, parts_said waiting_in waiting_bytes 41 h.waiting (fs ++ ss) a.waiting)
 
   first_said : AreBack h → first_in b ≡ h.untaken.first
-  first_said a =
-      ap (parts_in end_in 48 (length h.untaken.first)) (behind_waiting a)
-      ∙ parts_said end_in end_cell 48 h.untaken.first ss a.first
+  first_said a = search (arith, behind_waiting a, parts_said end_in end_cell 48 h.untaken.first ss a.first)
 
   second_said : AreBack h → second_in b ≡ h.untaken.second
-  second_said a =
-      ap (parts_in end_in 48 (length h.untaken.second)) (behind_first a)
-      ∙ parts_said end_in end_cell 48 h.untaken.second [] a.second
+  second_said a = search (arith, behind_first a, parts_said end_in end_cell 48 h.untaken.second [] a.second)
 
   begun_small : (begun : Option Name) → IfSome begun (λ name. name.reference < 2 ^ 32) → begun_reference begun < 2 ^ 32
-  begun_small None r = omega arith
-  begun_small (Some name) r = r
+  begun_small begun h1 = grind arith
 
   begun_said : HasRange h → begun_in b ≡ h.begun
   begun_said r =
@@ -90,29 +92,24 @@ module _ {K : Type 0} (number : ℕ) (h : Holdings K) where
       ∙ begun_back h.begun
 
   settings_said : HasRange h → AreBack h → settings_in b (drives_in b) ≡ record h.settings { units = units_of h.drives }
-  settings_said r a = λ i. record {
-    credits = four h.settings.credits r.limits.credits i;
-    second = four h.settings.second r.limits.second i;
-    budget = four h.settings.budget r.limits.budget i;
-    longest = four h.settings.longest r.limits.longest i;
-    timeout = two h.settings.timeout r.limits.timeout i;
-    id = eight h.settings.id r.limits.id i;
-    units = units_of (drives_said a i);
-  }
+  settings_said r a = search (arith, four, two, eight, drives_said)
 
   pub held_said : HasRange h → units_of h.drives ≡ h.settings.units → AreBack h → held_in h.picker b ≡ h
   held_said r units a =
-      λ i. made_of ((settings_said r a ∙ ap (λ us. record h.settings { units = us }) units) i) (waiting_said a i)
-      (first_said a i) (second_said a i) (drives_said a i) (begun_said r i) h.picker
+      search (arith, settings_said r a, waiting_said, first_said, second_said, drives_said, begun_said)
 
   pub saved_long : AreBack h → length b
       ≡ saved_length (length h.drives) (length h.waiting) (length h.untaken.first + length h.untaken.second)
   saved_long a =
-      let d = parts_long drive_in drive_bytes 34 h.drives a.drives in
-      let w = parts_long waiting_in waiting_bytes 41 h.waiting a.waiting in
-      let f = parts_long end_in end_cell 48 h.untaken.first a.first in
-      let s = parts_long end_in end_cell 48 h.untaken.second a.second in
-      let e1 = length-append (ds ++ rs ++ fs) ss in
-      let e2 = length-append (ds ++ rs) fs in
-      let e3 = length-append ds rs in
-      omega (arith, d, w, f, s, e1, e2, e3)
+      search (
+        arith,
+        parts_long drive_in drive_bytes 34 h.drives a.drives,
+        parts_long waiting_in waiting_bytes 41
+            h.waiting a.waiting,
+        parts_long end_in end_cell 48 h.untaken.first a.first,
+        parts_long end_in end_cell 48
+            h.untaken.second a.second,
+        length-append (ds ++ rs ++ fs) ss,
+        length-append (ds ++ rs) fs,
+        length-append ds rs,
+      )

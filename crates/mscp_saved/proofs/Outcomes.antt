@@ -1,9 +1,8 @@
 -- What comes of bytes, step by step.
-use Rattle.std.proofs.Common.{All, ◌≡◌, ℕ, zero, suc, List, true, drop, refl, ap, sym, subst, ◌∙◌}
+use Rattle.std.proofs.Common.{All, ◌≡◌, ℕ, zero, suc, List, true, drop, refl, ap, sym, subst, ◌∙◌, arith}
 use Rattle.std.specs.Prelude.{Option, Some, None, slice_index, Ok, Err}
 use Rattle.std.proofs.lemmas.List.Elements.{All-nil, All-push}
 use Rattle.mscp_packet.specs.declared.end.BodyKind.{BodyKind}
-use Rattle.mscp_packet.specs.declared.end.BodyKind.TheVariants as kinds
 use Rattle.mscp_packet.specs.declared.end.End.{End}
 use Rattle.mscp_packet.specs.Ends.{body_at, kind_of_body, kind_of_code}
 use Rattle.mscp_queue.specs.declared.drive.Drive.{Drive}
@@ -31,17 +30,10 @@ read_waiting : (b : List ℕ) → IsReadWaiting (waiting_in b)
 read_waiting b = record { weight = refl; good = refl }
 
 kind_back : (kind : BodyKind) (b : List ℕ) → Some kind ≡ Some (kind_of_body (body_at kind b))
-kind_back kinds.Bare b = refl
-kind_back kinds.Abort b = refl
-kind_back kinds.Status b = refl
-kind_back kinds.UnitStatus b = refl
-kind_back kinds.Controller b = refl
-kind_back kinds.Online b = refl
-kind_back kinds.Moved b = refl
+kind_back kind b = grind arith
 
 shaped_with : (o : Option BodyKind) (b : List ℕ) → kind_of_code (slice_index b 8) ≡ o → IsShapedIf (end_with o b)
-shaped_with None b e = λ some. absurd (some refl)
-shaped_with (Some kind) b e = λ some. e ∙ kind_back kind b
+shaped_with o b h2 = grind (arith, kind_back)
 
 shaped_in : (b : List ℕ) → IsShapedIf (end_in b)
 shaped_in b = shaped_with (kind_of_code (slice_index b 8)) b refl
@@ -61,9 +53,7 @@ pub record IsRead (b : List ℕ) (c : Settings) (ds : List Drive) (rs : List Rec
 pub held_is : {K : Type 0} (picker : K) {b : List ℕ} {c : Settings} {ds : List Drive} {rs : List Record}
     {first second : List End} {begun : Option Name} → IsRead b c ds rs first second begun
     → made_of c rs first second ds begun picker ≡ held_in picker b
-held_is picker {b} h = λ i.
-    made_of ((h.settings ∙ ap (settings_in b) h.drives) i) (h.waiting i) (h.first_ends i) (h.second_ends i)
-    (h.drives i) (h.named i) picker
+held_is picker {b} h = search arith
 
 pub sound_read : {K : Type 0} (picker : K) {b : List ℕ} {c : Settings} {ds : List Drive} {rs : List Record}
     {first second : List End} {begun : Option Name} → IsRead b c ds rs first second begun → IsValid c
@@ -82,33 +72,18 @@ sound_read picker {b} {c} {ds} {rs} {first} {second} {begun} h valid none waitab
 
 -- a fault, or what there is where there is none
 pub ok_is : {X : Type 0} {x y : X} {o : Option RestoreFault} → Ok y ≡ unless x o → (o ≡ None) × (y ≡ x)
-ok_is {x = x} {y} {o} e = by o e
-  where
-    by : (o : Option RestoreFault) → Ok y ≡ unless x o → (o ≡ None) × (y ≡ x)
-    by None e = (refl, cc)
-    by (Some fault) e = cc
+ok_is {x = x} {y} {o} e = search arith
 
 pub err_is : {X : Type 0} (x : X) {o : Option RestoreFault} {fault : RestoreFault} → Err fault ≡ unless x o
     → o ≡ Some fault
-err_is x {o} {fault} e = by o e
-  where
-    by : (o : Option RestoreFault) → Err fault ≡ unless x o → o ≡ Some fault
-    by None e = cc
-    by (Some other) e = cc
+err_is x {o} {fault} e = search arith
 
 -- what was read is what is said
 pub read_of : (b : List ℕ) {c : Settings} {d d1 d2 : List Drive} {w w2 : List Record} {f f2 s s2 : List End}
     {g : Option Name} → d ≡ drives_in b → d1 ≡ d → Ok c ≡ unless (settings_in b d1) (settings_fault (settings_in b d1))
     → d2 ≡ d → w ≡ all_waiting_in b → w2 ≡ w → f ≡ first_in b → f2 ≡ f → s ≡ second_in b → s2 ≡ s → g ≡ begun_in b
     → IsRead b c d2 w2 f2 s2 g
-read_of b {c} {d} {d1} {d2} ds one made two ws w fs f ss s g = record {
-  settings = (ok_is made).1 ∙ ap (settings_in b) (one ∙ sym two);
-  drives = two ∙ ds;
-  waiting = w ∙ ws;
-  first_ends = f ∙ fs;
-  second_ends = s ∙ ss;
-  named = g;
-}
+read_of b {c} {d} {d1} {d2} ds one made two ws w fs f ss s g = search (arith, ok_is made)
 
 -- the settings have no fault
 pub settings_good : (b : List ℕ) {c : Settings} {d d1 : List Drive} → d ≡ drives_in b → d1 ≡ d
@@ -120,9 +95,7 @@ pub parts_back : {b : List ℕ} {c : Settings} {ds : List Drive} {rs : List Reco
     {begun : Option Name} → IsRead b c ds rs first second begun
     → parts_fault (settings_in b (drives_in b)) (drives_in b) (all_waiting_in b) (first_in b) (second_in b) (begun_in b)
     ≡ parts_fault c ds rs first second begun
-parts_back {b} h = sym (λ i.
-    parts_fault ((h.settings ∙ ap (settings_in b) h.drives) i) (h.drives i) (h.waiting i) (h.first_ends i)
-    (h.second_ends i) (h.named i))
+parts_back {b} h = search arith
 
 -- there is a head
 pub frame_none : (b : List ℕ) → frame_fault b ≡ None → is_framed b ≡ true
@@ -134,5 +107,4 @@ pub comes : {K : Type 0} (number : ℕ) (picker : K) (b : List ℕ) (frame setti
     → parts_fault (settings_in b (drives_in b)) (drives_in b) (all_waiting_in b) (first_in b) (second_in b) (begun_in b)
     ≡ parts → form_fault number b (held_in picker b) ≡ form
     → unless (held_in picker b) (first_of frame (first_of settings (first_of parts form))) ≡ restored number picker b
-comes number picker b frame settings parts form e1 e2 e3 e4 =
-    λ i. unless (held_in picker b) (first_of (sym e1 i) (first_of (sym e2 i) (first_of (sym e3 i) (sym e4 i))))
+comes number picker b frame settings parts form e1 e2 e3 e4 = search arith

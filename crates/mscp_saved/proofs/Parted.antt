@@ -19,23 +19,21 @@ use Rattle.mscp_saved.proofs.Outcomes.{IsRead, comes, frame_none, held_is, parts
 pub parts_long : {X : Type 0} (f : List ℕ → X) (size n : ℕ) (b : List ℕ) → length (parts_in f size n b) ≡ n
 parts_long f size zero b = refl
 parts_long f size (suc n) b =
-    let before = parts_long f size n b in
-    let all = length-append (parts_in f size n b) (f (part size n b) ∷ []) in
-    omega (arith, before, all)
+    search (arith, parts_long f size n b, length-append (parts_in f size n b) (f (part size n b) ∷ []))
 
 -- no more than a controller has
 pub parts_few : (b : List ℕ) {rs : List Record} {first second : List End} → is_framed b ≡ true
     → rs ≡ all_waiting_in b → first ≡ first_in b → second ≡ second_in b
     → length rs + length first + length second ≤ 64
 parts_few b {rs} {first} {second} framed w f s =
-    let few = (framed_of b framed).parts in
-    let waiting : length rs ≡ waiting_count b =
-    ap length w ∙ parts_long waiting_in 41 (waiting_count b) (drop (waiting_place b) b) in
-    let of_first : length first ≡ first_count b =
-    ap length f ∙ parts_long end_in 48 (first_count b) (drop (first_place b) b) in
-    let of_second : length second ≡ second_count b =
-    ap length s ∙ parts_long end_in 48 (second_count b) (drop (second_place b) b) in
-    omega (arith, few, waiting, of_first, of_second)
+    search (
+      arith,
+      framed_of b framed,
+      parts_long waiting_in 41 (waiting_count b) (drop (waiting_place b) b),
+      parts_long
+          end_in 48 (first_count b) (drop (first_place b) b),
+      parts_long end_in 48 (second_count b) (drop (second_place b) b),
+    )
 
 module _ {K : Type 0} (number : ℕ) (picker : K) {b : List ℕ} {c : Settings} {ds : List Drive} {rs : List Record}
     {first second : List End} {begun : Option Name} (h : IsRead b c ds rs first second begun)

@@ -1,9 +1,8 @@
 -- Parts that are read one after the other.
-use Rattle.std.proofs.Common.{◌≡◌, ℕ, ◌+◌, List, [], ◌∷◌, ◌++◌, add-one, ap, ◌∙◌}
+use Rattle.std.proofs.Common.{◌≡◌, ℕ, ◌+◌, List, [], ◌∷◌, ◌++◌, add-one, arith}
 use Rattle.mscp_saved.specs.Read.{part, parts_in}
 
 -- one more is read
 pub part_more : {X : Type 0} (f : List ℕ → X) (size n : ℕ) (b : List ℕ) {xs ys : List X} {x : X} {p : List ℕ}
     → xs ≡ parts_in f size n b → p ≡ part size n b → x ≡ f p → ys ≡ xs ++ x ∷ [] → ys ≡ parts_in f size (n + 1) b
-part_more f size n b {x = x} e is read more =
-    rw (add-one) (more ∙ (ap (λ l. l ++ x ∷ []) e ∙ ap (λ y. parts_in f size n b ++ y ∷ []) (read ∙ ap f is)))
+part_more f size n b {x = x} e is read more = search (arith, add-one)

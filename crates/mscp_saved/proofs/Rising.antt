@@ -48,8 +48,4 @@ rises number (u ∷ us) first rest =
     (rest_of u us rest))
 
 pub test_of_units : (us : List Shape) → IsUnitList us → are_units us ≡ true
-test_of_units [] h = absurd (omega (arith, h.some))
-test_of_units (u ∷ us) h =
-    and_from (nat_le (length (u ∷ us)) 16) (rise_above u.number us) (le-leb (length (u ∷ us)) 16 h.few)
-    (rises u.number us (λ d l. h.rising 0 d (omega (arith, l)))
-    (rest_of u us h.rising))
+test_of_units us h1 = grind (arith, and_from, le-leb, rises, rest_of)

@@ -1,5 +1,5 @@
 -- What passes each test is sound.
-use Rattle.std.proofs.Common.{All, ◌≡◌, ◌≢◌, ℕ, ◌+◌, ◌<◌, ◌≤◌, Bool, true, false, ◌&&◌, ◌||◌, List, [], ◌∷◌, get_or, length, refl, ap, sym, subst, ◌∙◌, arith}
+use Rattle.std.proofs.Common.{All, ◌≡◌, ◌≢◌, ℕ, ◌+◌, ◌<◌, ◌≤◌, Bool, true, false, ◌&&◌, ◌||◌, List, [], ◌∷◌, length, refl, ap, sym, subst, ◌∙◌, arith}
 use Rattle.std.specs.Prelude.{filter, nat_eq, nat_le, nat_lt, not, if◌then◌else◌, Option, Some, None}
 use Rattle.std.specs.List.{AllByRecursion, list_all, position}
 use Rattle.std.proofs.lemmas.Bool.{and_parts, eqb-false, eqb-true, false≢true, leb-true, ltb-true, not-true, true≢false}
@@ -7,7 +7,6 @@ use Rattle.std.proofs.lemmas.List.Elements.{All-from_recursion}
 use Rattle.std.proofs.lemmas.List.Quantifiers.{position-Some}
 use Rattle.mscp_packet.specs.declared.end.End.{End}
 use Rattle.mscp_packet.specs.Ends.{IsOfKind}
-use Rattle.mscp_drive.specs.Shape.{last_cylinder}
 use Rattle.mscp_drive.specs.UnitList.{IsUnitList}
 use Rattle.mscp_queue.specs.declared.drive.Drive.{Drive}
 use Rattle.mscp_events.specs.declared.connection.Connection.{Connection}
@@ -46,8 +45,7 @@ pub record Passes (c : Settings) (ds : List Drive) (rs : List Record) (first sec
 
 pub next : (b : Bool) (fault : RestoreFault) (o : Option RestoreFault) → (if not b then Some fault else o) ≡ None
     → (b ≡ true) × (o ≡ None)
-next true fault o e = (refl, e)
-next false fault o e = cc
+next b fault o h3 = grind arith
 
 pub passes_of : (c : Settings) (ds : List Drive) (rs : List Record) (first second : List End) (begun : Option Name)
     → parts_fault c ds rs first second begun ≡ None → Passes c ds rs first second begun
@@ -84,9 +82,7 @@ all_that p P f xs e =
     All-from_recursion P xs (every_weaker (λ x. p x ≡ true) P f xs (every_of p xs e))
 
 heads_of : (ds : List Drive) → are_on_units ds ≡ true → All IsOnUnit ds
-heads_of ds e =
-    all_that (λ (d : Drive). nat_le d.head.cylinder (last_cylinder d.unit)) IsOnUnit
-    (λ d. leb-true d.head.cylinder (last_cylinder d.unit)) ds e
+heads_of ds e = search (arith, all_that, leb-true)
 
 -- an end, if it has an endcode, has the body of that
 abbrev pub IsShapedIf : End → Type 0
@@ -102,13 +98,13 @@ shaped_of ends shaped e =
 covered_of : (c : Settings) (rs : List Record) (via : Connection) (ends : List End) → is_covered c rs via ends ≡ true
     → All IsShapedIf ends → are_ends ends ≡ true → IsCovered c rs via ends
 covered_of c rs via ends e shaped some =
-    let p = and_parts (nat_le (length (waiting_on via rs) + length ends) (credits_of c via))
-    (nat_le (length (waiting_on via rs)) (room_of c via)) e in
-    record {
-      covered = leb-true (length (waiting_on via rs) + length ends) (credits_of c via) p.0;
-      fits = leb-true (length (waiting_on via rs)) (room_of c via) p.1;
-      shaped = shaped_of ends shaped some;
-    }
+    search (
+      arith,
+      and_parts (nat_le (length (waiting_on via rs) + length ends) (credits_of c via)) (nat_le (length
+          (waiting_on via rs)) (room_of c via)) e,
+      shaped_of ends shaped some,
+      leb-true,
+    )
 
 apart_of : (rs : List Record) → are_apart rs ≡ true → AreApart (names rs)
 apart_of [] e = tt
@@ -154,17 +150,10 @@ kept_of c ds rs e waitable read unfinished passed =
     all_that (λ (r : Record). nat_lt r.done r.weight) (λ r. r.done < r.weight) (λ r. ltb-true r.done r.weight) rs p.0 in
     let few : All (λ r. r.passed ≤ c.budget) rs =
     All-from_recursion (λ (r : Record). r.passed ≤ c.budget) rs (passed_of c.budget rs passed).0 in
-    λ k d l. record {
-      waitable = subst (λ us. IsWaitable c.longest us (get_or rs k d).command) (sym e) (waitable k d l);
-      weight = (read k d l).weight;
-      unfinished = left k d l;
-      good = (read k d l).good;
-      passed = few k d l;
-    }
+    search arith
 
 zeros_of : (rs : List Record) → list_all is_unstarted rs ≡ true → All (λ r. r.done ≡ 0) rs
-zeros_of rs e =
-    all_that is_unstarted (λ (r : Record). r.done ≡ 0) (λ r. eqb-true r.done 0) rs e
+zeros_of rs e = search (arith, all_that, eqb-true)
 
 servable_of : (budget : ℕ) (rs : List Record) (place : ℕ) → place < length rs → may_serve budget rs place ≡ true
     → IsServable budget rs place

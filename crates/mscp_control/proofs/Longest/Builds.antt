@@ -30,7 +30,4 @@ rest_next c s t i = let e : i + 1 ≡ suc i = omega arith in ap (λ k. rest_on c
 -- short one, and those of the other long ones. The end of the last isn't taken.
 pub moments_enough : (R L Q : ℕ) → 2 ≤ R → 1 ≤ L
     → 3 + R + L + 1 + 3 * Q + (R - 2) * (L + 1) + L ≤ R * L + Q + 2 * Q + 2 * R + 2
-moments_enough R L Q many some =
-    let a : R ≡ R - 2 + 2 = omega (arith, many) in
-    let b : R * L ≡ (R - 2 + 2) * L = ap (λ i. i * L) a in
-    omega (arith, b, many, some)
+moments_enough R L Q many some = search arith

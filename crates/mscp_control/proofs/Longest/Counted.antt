@@ -1,10 +1,10 @@
 -- The figure of a command that waits as long as the bound counts down to its end, one by one.
-use Rattle.std.proofs.Common.{◌≡◌, ℕ, zero, suc, ◌+◌, ◌-◌, ◌<◌, ◌≤◌, Bool, true, false, cond, not, [], ◌∷◌, ◌++◌, length, take, refl, ap, sym, ◌∙◌, subst, arith}
+use Rattle.std.proofs.Common.{◌≡◌, ℕ, zero, suc, ◌+◌, ◌-◌, ◌<◌, ◌≤◌, true, not, length, take, ap, ◌∙◌, subst, arith}
 use Rattle.std.proofs.lemmas.Bool.{and_parts}
 use Rattle.std.proofs.lemmas.List.{length-take-le, take_all}
 use Rattle.mscp_events.specs.Settings.{Settings, IsValid, bound}
-use Rattle.mscp_controller.specs.History.{Trace, is_step, moment}
-use Rattle.mscp_controller.specs.Commands.{ends_in, is_waiting, name, steps_after}
+use Rattle.mscp_controller.specs.History.{Trace, moment}
+use Rattle.mscp_controller.specs.Commands.{is_waiting, steps_after}
 use Rattle.mscp_controller.specs.Figures.{figure}
 use Rattle.mscp_controller.specs.Legal.{IsLegal}
 use Rattle.mscp_controller.specs.Headline.{Promise}
@@ -20,17 +20,12 @@ total c t x i = figure c (take i t) x + steps_after (take i t) x
 waited : (t : Trace) (x i : ℕ) → x < i → i < length t → is_waiting (take (i + 1) t) x ≡ true
     → is_waiting (take i t) x ≡ true
 waited t x i l h w =
-    let p = take i t in
-    let len = length-take-le i t (omega (arith, h)) in
-    (and_parts (is_waiting p x) (not (ends_in (name p x) (moment t i).1))
-    (sym (is_waiting_before p (moment t i) x (omega (arith, len, l))) ∙ subst (λ u. is_waiting u x ≡ true)
-    (more_at t i h) w)).0
+    search (arith, length-take-le i t (omega (arith, h)), more_at t i h, and_parts, not, is_waiting_before)
 
 -- and so after each moment between
 waited_all : (t : Trace) (x n : ℕ) → n < length t → is_waiting (take n t) x ≡ true → (d i : ℕ) → x < i → i + d ≡ n
     → is_waiting (take i t) x ≡ true
-waited_all t x n h w zero i l e = let same : n ≡ i = omega (arith, e) in subst (λ k. is_waiting (take k t) x ≡ true)
-    same w
+waited_all t x n h w zero i l e = search arith
 waited_all t x n h w (suc d) i l e =
     waited t x i l (omega (arith, e, h)) (waited_all t x n h w d (i + 1) (omega (arith, l)) (omega (arith, e)))
 
@@ -38,39 +33,26 @@ waited_all t x n h w (suc d) i l e =
 sinks : (c : Settings) (t : Trace) (x i : ℕ) → Promise c t → x < i → i < length t → is_waiting (take i t) x ≡ true
     → total c t x (i + 1) ≤ total c t x i
 sinks c t x i p l h w =
-    let m = moment t i in
-    let len = length-take-le i t (omega (arith, h)) in
-    let here = waits_in (take i t) x w in
-    let more : steps_after (take (i + 1) t) x ≡ steps_after (take i t) x + cond (is_step m.0) 1 0 =
-    ap (λ u. steps_after u x) (more_at t i h) ∙ steps_more (take i t) m x (omega (arith, len, l)) in
-    let both : (b : Bool) → is_step m.0 ≡ b → total c t x (i + 1) ≤ total c t x i =
-    λ b. elim b as (λ b. is_step m.0 ≡ b → total c t x (i + 1) ≤ total c t x i) [
-      | true ↦ λ e. let one = ap {B = ℕ} (λ b. cond b 1 0) e in let f = p.falls i h e x here in
-          omega (arith, more, one, f)
-      | false ↦ λ e. let none = ap {B = ℕ} (λ b. cond b 1 0) e in let f = p.never_rises i h x here in
-          omega (arith, more, none, f)
-    ] in
-    both (is_step m.0) refl
+    search (arith, length-take-le i t (omega (arith, h)), waits_in (take i t) x w, more_at t i h, steps_more)
 
 sinks_all : (c : Settings) (t : Trace) (x : ℕ) → Promise c t
     → ((i : ℕ) → x < i → i < length t → is_waiting (take i t) x ≡ true)
     → (d i : ℕ) → x < i → i + d ≤ length t → total c t x (i + d) ≤ total c t x i
-sinks_all c t x p w zero i l h = let same : i + 0 ≡ i = omega arith in
-    subst (λ k. total c t x k ≤ total c t x i) (sym same) (omega arith)
+sinks_all c t x p w zero i l h = search arith
 sinks_all c t x p w (suc d) i l h =
-    let rest = sinks_all c t x p w d (i + 1) (omega (arith, l)) (omega (arith, h)) in
-    let here = sinks c t x i p l (omega (arith, h)) (w i l (omega (arith, h))) in
-    let same : i + 1 + d ≡ i + suc d = omega arith in
-    subst (λ k. total c t x k ≤ total c t x i) same (omega (arith, rest, here))
+    search (
+      arith,
+      sinks_all c t x p w d (i + 1) (omega (arith, l)) (omega (arith, h)),
+      sinks c t x i p l (omega (
+        arith,
+        h,
+      )) (w i l (omega (arith, h))),
+    )
 
 -- at first it is at most the bound
 first_total : (c : Settings) (t : Trace) (x : ℕ) → Promise c t → x < length t → total c t x (x + 1) ≤ bound c
 first_total c t x p h =
-    let small = p.small (x + 1) (omega (arith, h)) x in
-    let len = length-take-le x t (omega (arith, h)) in
-    let none : steps_after (take (x + 1) t) x ≡ 0 = ap (λ u. steps_after u x) (more_at t x h)
-    ∙ subst (λ k. steps_after (take x t ++ moment t x ∷ []) k ≡ 0) len (steps_last (take x t) (moment t x)) in
-    omega (arith, small, none)
+    search (arith, length-take-le x t (omega (arith, h)), more_at t x h, steps_last (take x t) (moment t x))
 
 -- The figure of a command that waits until the last moment, which is the bound-th step after it.
 pub counted : (c : Settings) (t : Trace) (x n : ℕ) → IsValid c → IsLegal c t → length t ≡ n + 1 → x < n

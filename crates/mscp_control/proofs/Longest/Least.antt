@@ -153,22 +153,13 @@ least c s w many fits =
 -- The same, by the unit's number.
 pub least_of : (c : Settings) (number : ℕ) (s : Shape) → IsValid c → number < 2 ^ 16 → unit_found c number ≡ Some s
     → 2 ≤ room c → c.longest ≤ s.size → IsLegal c (worst_of c s) × WaitsTheBound c number (worst_of c s)
-least_of c number s valid small found many fits =
-    let own = found_number c.units number s found in
-    let w : IsUnit c s = record {
-      valid = valid;
-      found = ap (unit_found c) own ∙ found;
-      small = subst (λ n. n < 2 ^ 16) (sym own) small;
-    } in
-    let both = least c s w many fits in
-    (both.0, subst (λ n. WaitsTheBound c n (worst_of c s)) own both.1)
+least_of c number s valid small found many fits = search (arith, found_number c.units number s found, least)
 
 -- The same, where the unit was looked for.
 pub least_found : (c : Settings) (number : ℕ) (us : List Shape) (found : Option Shape) (s : Shape) → IsValid c
     → number < 2 ^ 16 → us ≡ c.units → found ≡ list.unit_found us number → found ≡ Some s → 2 ≤ room c
     → c.longest ≤ s.size → IsLegal c (worst_of c s) × WaitsTheBound c number (worst_of c s)
-least_found c number us found s valid small same is some =
-    least_of c number s valid small (ap (λ us. list.unit_found us number) (sym same) ∙ (sym is ∙ some))
+least_found c number us found s valid small same is some = search (arith, least_of)
 
 -- The bound is the least.
 pub the_least : (c : Settings) (number : ℕ) → IsValid c → number < 2 ^ 16 → can_wait_the_bound c number ≡ true

@@ -1,6 +1,6 @@
 -- What is held after one more moment of a run that is written out: a message that is queued, a take, or a good step.
-use Rattle.std.proofs.Common.{◌≡◌, ◌≢◌, ℕ, ◌+◌, ◌-◌, ◌<◌, ◌≤◌, ◌^◌, Bool, true, false, cond, not, ◌&&◌, List, [], ◌∷◌, ◌++◌, map, drop, length, refl, ap, sym, ◌∙◌, subst, arith}
-use Rattle.std.specs.Prelude.{nat_eq, find, slice_index, slice_get, unwrap_or, if◌then◌else◌, Option, Some, None, is_some, option_map, Ok}
+use Rattle.std.proofs.Common.{◌≡◌, ℕ, ◌+◌, ◌-◌, ◌<◌, ◌≤◌, ◌^◌, true, false, not, List, [], ◌∷◌, ◌++◌, map, drop, length, refl, ap, sym, ◌∙◌, subst, arith}
+use Rattle.std.specs.Prelude.{find, slice_index, slice_get, if◌then◌else◌, Option, Some, None, is_some, option_map, Ok}
 use Rattle.std.proofs.lemmas.Bool.{eq-eqb, ne_eqb, le-ltb, true≢false, false≢true}
 use Rattle.arrayvec.specs.ArrayVec.{ArrayVec}
 use Rattle.mscp_packet.specs.declared.command.Command.{Command}
@@ -10,7 +10,7 @@ use Rattle.mscp_packet.specs.Ends.{end_bytes}
 use Rattle.mscp_packet.specs.Number.{num}
 use Rattle.mscp_packet.specs.Opcodes.{class, is_immediate_class}
 use Rattle.mscp_packet.proofs.Commands.{command_bytes_are_messages}
-use Rattle.mscp_drive.specs.Shape.{Shape, one_block}
+use Rattle.mscp_drive.specs.Shape.{Shape}
 use Rattle.mscp_events.specs.declared.block.Block.TheVariants.{Good}
 use Rattle.mscp_queue.specs.declared.drive.Drive.{Drive}
 use Rattle.mscp_events.specs.declared.connection.Connection.{Connection}
@@ -18,7 +18,7 @@ use Rattle.mscp_queue.specs.declared.name.Name.{Name}
 use Rattle.mscp_queue.specs.declared.view.Choice.{Choice}
 use Rattle.mscp_queue.specs.Drives.{drive_of, fresh_drive, has_number, replaced}
 use Rattle.mscp_queue.specs.Lines.{ServesAt}
-use Rattle.mscp_queue.specs.Records.{Record, fresh_record, has_name, name_of, no_record, passed_by, record_at, remains, step_charge}
+use Rattle.mscp_queue.specs.Records.{Record, fresh_record, name_of, no_record, passed_by, record_at, remains, step_charge}
 use Rattle.mscp_queue.specs.Serving.{IsServable, drive_after, drives_after, end_given, report_of, waiting_after}
 use Rattle.mscp_queue.proofs.Named.{is_same}
 use Rattle.mscp_queue.proofs.Placed.{at_place}
@@ -29,7 +29,6 @@ use Rattle.mscp_events.specs.Settings.{Settings, IsValid, credits_of, unit_found
 use Rattle.mscp_events.specs.Both.{Both, of, put}
 use Rattle.mscp_controller.specs.Controllers.{drive_now}
 use Rattle.mscp_controller.specs.Arrival.{holds, is_queued, refusal}
-use Rattle.mscp_controller.specs.declared.entry.SendFault.TheVariants.{Short, Long, NoCredit, LastCredit, Doubled}
 use Rattle.mscp_controller.specs.History.{Moment, Trace}
 use Rattle.mscp_controller.specs.Holdings.{Holdings, aborting, after_message, after_take, answer_to_message, answered_end, balance_of, ends_after, fresh, held_unless, line_of, numbers, numbers_ended, outstanding_of, queued, reference_aborted, sent_unless, waiting_on, with_end}
 use Rattle.mscp_controller.specs.Legal.{IsLegal}
@@ -74,21 +73,13 @@ holding c rs us ds begun =
 
 drive_at_first : (c : Settings) (s : Shape) → unit_found c s.number ≡ Some s
     → drive_of (map fresh_drive c.units) s.number ≡ fresh_drive s
-drive_at_first c s found =
-    ap (λ o. unwrap_or o (fresh_drive one_block)) (find_map (has_number s.number) fresh_drive c.units
-    ∙ ap (option_map fresh_drive) found)
+drive_at_first c s found = search (arith, find_map (has_number s.number) fresh_drive c.units)
 
 pub holds_none : (c : Settings) (s : Shape) → IsUnit c s → Holds c s [] [] nothing (fresh_drive s)
 holds_none c s w =
     let none : Unit {0} = tt in
     let a : Agrees c [] (fresh c none) = none_held c none in
-    record {
-      legal = λ i l. absurd (omega (arith, l));
-      drives = map fresh_drive c.units;
-      follows = a.follows;
-      driven = a.driven;
-      here = drive_at_first c s w.found;
-    }
+    search (arith, drive_at_first c s w.found)
 
 -- ---- a message
 
@@ -101,15 +92,7 @@ message_is k m = λ i. record { reference = sym m.reference i; unit = sym m.unit
 unrefused : (credit : ℕ) (references b : List ℕ) (reference : ℕ) → 12 ≤ length b → length b ≤ 64 → 2 ≤ credit
     → reference ≡ num b 0 4 → holds references reference ≡ false → refusal credit references b ≡ None
 unrefused credit references b reference low high two same new =
-    let none : credit ≢ 0 = λ e. omega (arith, e, two) in
-    let one : credit ≢ 1 = λ e. omega (arith, e, two) in
-    let other = not (is_immediate_class (class (slice_index b 8))) in
-    let held : holds references (num b 0 4) ≡ false = subst (λ r. holds references r ≡ false) same new in
-    λ i. if le-ltb (length b) 12 low i then Some Short else (
-    if le-ltb 64 (length b) high i then Some Long else (
-    if ne_eqb credit 0 none i then Some NoCredit else (
-    if (ne_eqb credit 1 one i) && other then Some LastCredit else (
-    if held i then Some Doubled else None))))
+    search (arith, not (is_immediate_class (class (slice_index b 8))), le-ltb, ne_eqb)
 
 -- what may be sent: its numbers fit, there are two free credits, and its own number is free
 pub record MaySend (c : Settings) (rs : List Record) (us : Both (List End)) (via : Connection) (k : Command) :
@@ -151,13 +134,7 @@ holds_queued c s t rs us d via k w may h =
     subst (λ r. Sends c t (sending via message r) (queued via held k)) told
     (subst (λ (x : Holdings (Unit {0})). Sends c t (sending via message (answer_to_message via held b)) x) left
     first) in
-    record {
-      legal = legal_more c t (queueing via k) h.legal all.right;
-      drives = h.drives;
-      follows = all.agrees.follows;
-      driven = all.agrees.driven;
-      here = h.here;
-    }
+    search (arith, legal_more c t (queueing via k) h.legal all.right)
 
 -- ---- a take
 
@@ -184,26 +161,11 @@ holds_taken c s t rs us d via end w one rest h =
 put_back : (number : ℕ) (d : Drive) (ds : List Drive) → d.unit.number ≡ number
     → is_some (find (has_number number) ds) ≡ true → drive_of (replaced number d ds) number ≡ d
 put_back number d [] own h = absurd (false≢true h)
-put_back number d (x ∷ xs) own h =
-    let rest = put_back number d xs own in
-    let Goal : Bool → Type 0 = λ b. is_some (cond b (Some x) (find (has_number number) xs)) ≡ true
-    → nat_eq x.unit.number number ≡ b
-    → unwrap_or (find (has_number number) (cond b d x ∷ replaced number d xs)) (fresh_drive one_block) ≡ d in
-    let both : (b : Bool) → Goal b =
-    λ b. elim b as Goal [
-      | true ↦ λ h e. ap (λ b. unwrap_or (cond b (Some d) (find (has_number number) (replaced number d xs)))
-          (fresh_drive one_block)) (eq-eqb d.unit.number number own)
-      | false ↦ λ h e. ap (λ b. unwrap_or (cond b (Some x) (find (has_number number) (replaced number d xs)))
-          (fresh_drive one_block)) e ∙ rest h
-    ] in
-    both (nat_eq x.unit.number number) h refl
+put_back number d (x ∷ xs) own h = search (arith, put_back number d xs own, eq-eqb d.unit.number number own)
 
 found_there : (c : Settings) (s : Shape) (t : Trace) (ds : List Drive) → IsUnit c s → Driven c t ds
     → is_some (find (has_number s.number) ds) ≡ true
-found_there c s t ds w driven =
-    ap (λ ds. is_some (find (has_number s.number) ds)) driven.drives
-    ∙ (ap is_some (find_map (has_number s.number) (drive_now c t) c.units)
-    ∙ ap (λ o. is_some (option_map (drive_now c t) o)) w.found)
+found_there c s t ds w driven = search (arith, find_map (has_number s.number) (drive_now c t) c.units)
 
 -- what a good step of a record on this drive reports, as a moment
 abbrev pub stepped : Drive → Record → Moment
@@ -234,15 +196,8 @@ holds_stepped c s t A r B us d w unit own can h =
       begun = None;
       picker = tt;
     } in
-    let serves : ServesAt any Good (line_of old) report (line_of new) place = record {
-      next = record {
-        servable = can;
-        same = λ other e. ap (has_name other) at.item ∙ is_same name other (some_same name other e);
-        picked = λ e. absurd (true≢false (ap is_some e));
-      };
-      told = sym (λ i. report_of Good (drive i) (at.item i));
-      left = refl;
-    } in
+    let serves : ServesAt any Good (line_of old) report (line_of new) place =
+    search (arith, is_same, some_same, true≢false) in
     let turn = turns_at any old new t Good report place w.valid
     (record { follows = h.follows; driven = h.driven }) serves refl in
     let all = turn.sends in

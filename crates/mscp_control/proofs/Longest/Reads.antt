@@ -1,6 +1,6 @@
 -- The READs of the run that is written out: they may be sent, and what is held of them.
-use Rattle.std.proofs.Common.{◌≡◌, ◌≢◌, ℕ, zero, suc, ◌+◌, ◌-◌, ◌*◌, ◌<◌, ◌≤◌, ◌^◌, ◌/◌, Bool, true, false, cond, ◌||◌, List, [], ◌∷◌, ◌++◌, map, length, refl, ap, ◌∙◌, append-nil, arith}
-use Rattle.std.specs.Prelude.{filter, max, nat_lt, if◌then◌else◌, Some, None, is_none}
+use Rattle.std.proofs.Common.{◌≡◌, ℕ, zero, suc, ◌+◌, ◌-◌, ◌*◌, ◌<◌, ◌≤◌, ◌^◌, ◌/◌, Bool, true, false, List, [], ◌∷◌, ◌++◌, map, length, refl, ap, ◌∙◌, append-nil, arith}
+use Rattle.std.specs.Prelude.{filter, max, nat_lt, if◌then◌else◌}
 use Rattle.std.specs.List.{AllByRecursion, range_with_len}
 use Rattle.std.proofs.lemmas.Bool.{le-ltb, lt-leb, ltb-false, ltb-true, ne_eqb}
 use Rattle.std.proofs.lemmas.List.{length-map, map-append}
@@ -9,14 +9,13 @@ use Rattle.mscp_drive.specs.Extent as extent
 use Rattle.mscp_drive.specs.Shape.{Shape}
 use Rattle.mscp_events.specs.declared.connection.Connection.{Connection}
 use Rattle.mscp_events.specs.declared.connection.Connection.TheVariants.{First, Second}
-use Rattle.mscp_queue.specs.Names.{same_connection}
 use Rattle.mscp_queue.specs.Records.{Record, fresh_record, passed_by}
 use Rattle.mscp_queue.proofs.Lists.{range_more}
 use Rattle.mscp_queue.proofs.Placed.{map_map}
 use Rattle.mscp_control.specs.declared.worst_case.Transfer.{Transfer}
 use Rattle.mscp_events.specs.Settings.{Settings, IsValid, credits_of, room, room_of}
 use Rattle.mscp_events.specs.Both.{of}
-use Rattle.mscp_controller.specs.Arrival.{holds, is_queued, move_fault}
+use Rattle.mscp_controller.specs.Arrival.{holds, is_queued}
 use Rattle.mscp_controller.specs.Holdings.{numbers, numbers_ended, waiting_on}
 use Rattle.mscp_control.specs.Worst.{connection_at, long_read, read_command, short_read}
 use Rattle.mscp_controller.proofs.Promise.Sides.{sides_length}
@@ -52,44 +51,19 @@ weighs c s x r = let some = r.some in ap (max 1) r.blocks ∙ omega (arith, some
 -- when it comes
 pub record_fresh : (c : Settings) (s : Shape) (x : Transfer) → IsRead c s x
     → fresh_record x.connection (read_command s x) ≡ record_of s x 0 0
-record_fresh c s x r = λ i. record {
-  connection = x.connection;
-  command = read_command s x;
-  weight = weighs c s x r i;
-  done = 0;
-  good = 0;
-  passed = 0;
-}
+record_fresh c s x r = search (arith, weighs)
 
 -- it is queued
 queues_read : (c : Settings) (s : Shape) (x : Transfer) → IsUnit c s → IsRead c s x
     → is_queued c (read_command s x) ≡ true
-queues_read c s x w r =
-    let some = r.some in
-    let inside = r.inside in
-    let short = r.short in
-    let blocks = r.blocks in
-    let weight = weighs c s x r in
-    let a = lt-leb s.size x.first (omega (arith, some, inside)) in
-    let b = le-ltb s.size (x.first + extent.blocks x.bytes) (omega (arith, inside, blocks)) in
-    let d = le-ltb c.longest (extent.weight x.bytes) (omega (arith, short, weight)) in
-    ap (λ o. is_none (move_fault c x.bytes x.first o)) w.found
-    ∙ (λ i. is_none (if a i then Some extent.invalid_block else (
-    if b i then Some extent.invalid_byte_count else (
-    if d i then Some extent.invalid_byte_count else None))))
+queues_read c s x w r = search (arith, weighs c s x r, lt-leb, le-ltb)
 
 -- it may be sent where there are credits, and nothing of its number
 pub may_send : (c : Settings) (s : Shape) (x : Transfer) (rs : List Record) → IsUnit c s → IsRead c s x
     → 2 ≤ credits_of c x.connection - (length (waiting_on x.connection rs) + length (of x.connection nothing))
     → holds (numbers (waiting_on x.connection rs) ++ numbers_ended (of x.connection nothing)) x.reference ≡ false
     → MaySend c rs nothing x.connection (read_command s x)
-may_send c s x rs w r credit new = record {
-  order = tt;
-  range = (r.reference, w.small, (r.bytes, r.first));
-  queued = queues_read c s x w r;
-  credit = credit;
-  new = new;
-}
+may_send c s x rs w r credit new = search (arith, queues_read c s x w r)
 
 -- ---- the READs of the run
 
@@ -102,36 +76,10 @@ room_few c v = let few = v.few_credits in omega (arith, few)
 
 pub long_is : (c : Settings) (s : Shape) (i : ℕ) → IsUnit c s → c.longest ≤ s.size → i < room c
     → IsRead c s (long_read c i)
-long_is c s i w fits l =
-    let some = w.valid.some_blocks in
-    let few = w.valid.few_blocks in
-    let small = room_few c w.valid in
-    record {
-      blocks = 512_blocks c.longest some;
-      some = some;
-      inside = omega (arith, fits);
-      short = omega arith;
-      full = omega (arith, some);
-      reference = omega (arith, l, small);
-      bytes = omega (arith, few);
-      first = omega arith;
-    }
+long_is c s i w fits l = search (arith, room_few c w.valid, 512_blocks)
 
 pub short_is : (c : Settings) (s : Shape) → IsUnit c s → c.longest ≤ s.size → IsRead c s (short_read c)
-short_is c s w fits =
-    let some = w.valid.some_blocks in
-    let few = w.valid.few_blocks in
-    let small = room_few c w.valid in
-    record {
-      blocks = refl;
-      some = omega arith;
-      inside = omega (arith, fits, some);
-      short = some;
-      full = omega arith;
-      reference = omega (arith, small);
-      bytes = omega arith;
-      first = omega (arith, few);
-    }
+short_is c s w fits = search (arith, room_few c w.valid)
 
 -- ---- their records
 
@@ -148,11 +96,7 @@ length_longs c s p a k = length-map (range_with_len a k) (long_record c s p) ∙
 
 pub longs_more : (c : Settings) (s : Shape) (p i : ℕ)
     → longs c s p 0 (suc i) ≡ longs c s p 0 i ++ long_record c s p i ∷ []
-longs_more c s p i =
-    let e : suc i ≡ i + 1 = omega arith in
-    ap (λ k. longs c s p 0 k) e
-    ∙ (ap (map (long_record c s p)) (range_more i)
-    ∙ map-append (long_record c s p) (range_with_len 0 i) (i ∷ []))
+longs_more c s p i = search (arith, range_more i, map-append (long_record c s p) (range_with_len 0 i) (i ∷ []))
 
 -- once one more block has passed them
 pub longs_passed : (c : Settings) (s : Shape) (p a k : ℕ)
@@ -167,44 +111,20 @@ longs_idle c s p a (suc k) = (refl, longs_idle c s p (a + 1) k)
 on_first : (c : Settings) (s : Shape) (p a k : ℕ)
     → length (waiting_on First (longs c s p a k)) + (k - (room_of c First - a)) ≡ k
 on_first c s p a zero = omega arith
-on_first c s p a (suc k) =
-    let rest = on_first c s p (a + 1) k in
-    let r = long_record c s p a in
-    let W = waiting_on First (longs c s p (a + 1) k) in
-    let both : (b : Bool) → nat_lt a (room_of c First) ≡ b
-    → length (cond (same_connection (if b then First else Second) First) (r ∷ W) W)
-    + (suc k - (room_of c First - a)) ≡ suc k =
-    λ b. elim b as (λ b. nat_lt a (room_of c First) ≡ b
-    → length (cond (same_connection (if b then First else Second) First) (r ∷ W) W)
-    + (suc k - (room_of c First - a)) ≡ suc k) [
-      | true ↦ λ e. let l = ltb-true a (room_of c First) e in omega (arith, l, rest)
-      | false ↦ λ e. let l = ltb-false a (room_of c First) e in omega (arith, l, rest)
-    ] in
-    both (nat_lt a (room_of c First)) refl
+on_first c s p a (suc k) = search (arith, on_first c s p (a + 1) k, ltb-true, ltb-false)
 
 -- none of them has a later number
 unheld : (c : Settings) (s : Shape) (q : Record → Bool) (p a k n : ℕ) → a + k ≤ n
     → holds (numbers (filter q (longs c s p a k))) n ≡ false
 unheld c s q p a zero n h = refl
-unheld c s q p a (suc k) n h =
-    let rest = unheld c s q p (a + 1) k n (omega (arith, h)) in
-    let r = long_record c s p a in
-    let F = filter q (longs c s p (a + 1) k) in
-    let other : a ≢ n = λ e. omega (arith, e, h) in
-    elim (q r) as (λ b. holds (numbers (cond b (r ∷ F) F)) n ≡ false)
-    [ true ↦ ap (λ b. b || holds (numbers F) n) (ne_eqb a n other) ∙ rest | false ↦ rest ]
+unheld c s q p a (suc k) n h = search (arith, unheld c s q p (a + 1) k n (omega (arith, h)), ne_eqb)
 
 none_of : (via : Connection) → of via nothing ≡ []
-none_of First = refl
-none_of Second = refl
+none_of via = grind arith
 
 new_among : (c : Settings) (s : Shape) (via : Connection) (p a k n : ℕ) → a + k ≤ n
     → holds (numbers (waiting_on via (longs c s p a k)) ++ numbers_ended (of via nothing)) n ≡ false
-new_among c s via p a k n h =
-    let here = numbers (waiting_on via (longs c s p a k)) in
-    ap (λ es. holds (here ++ numbers_ended es) n) (none_of via)
-    ∙ (ap (λ ns. holds ns n) (append-nil here)
-    ∙ unheld c s (λ r. same_connection r.connection via) p a k n h)
+new_among c s via p a k n h = search (arith, none_of via, append-nil, unheld)
 
 -- a long one may be sent, where those before it wait
 pub long_sent : (c : Settings) (s : Shape) (i : ℕ) → IsUnit c s → c.longest ≤ s.size → i < room c
@@ -217,19 +137,11 @@ long_sent c s i w fits l =
     let Credit : Connection → Type 0 = λ via.
     2 ≤ credits_of c via - (length (waiting_on via rs) + length (of via nothing)) in
     let both : (b : Bool) → nat_lt i (room_of c First) ≡ b → Credit (if b then First else Second) =
-    λ b. elim b as (λ b. nat_lt i (room_of c First) ≡ b → Credit (if b then First else Second)) [
-      | true ↦ λ e. let h = ltb-true i (room_of c First) e in omega (arith, first, h)
-      | false ↦ λ e. let h = ltb-false i (room_of c First) e in omega (arith, first, h, all, sides, l)
-    ] in
+    search (arith, ltb-true, ltb-false) in
     may_send c s (long_read c i) rs w (long_is c s i w fits l) (both (nat_lt i (room_of c First)) refl)
     (new_among c s (connection_at c i) 0 0 i i (omega arith))
 
 -- a short one may be sent, where all long ones but the first wait
 pub short_sent : (c : Settings) (s : Shape) (p : ℕ) → IsUnit c s → c.longest ≤ s.size
     → MaySend c (longs c s p 1 (room c - 1)) nothing First (read_command s (short_read c))
-short_sent c s p w fits =
-    let rs = longs c s p 1 (room c - 1) in
-    let first = on_first c s p 1 (room c - 1) in
-    let some = w.valid.some_credits in
-    may_send c s (short_read c) rs w (short_is c s w fits) (omega (arith, first, some))
-    (new_among c s First p 1 (room c - 1) (room c) (omega (arith, some)))
+short_sent c s p w fits = search (arith, on_first c s p 1 (room c - 1), short_is c s w fits, may_send, new_among)

@@ -1,6 +1,6 @@
 -- What is held while the READs of the run that is written out come and run.
 use Rattle.std.proofs.Common.{◌≡◌, ◌≢◌, ℕ, zero, suc, ◌+◌, ◌-◌, ◌*◌, ◌<◌, ◌≤◌, Bool, true, false, cond, not, ◌&&◌, List, [], ◌∷◌, ◌++◌, map, length, refl, ap, sym, ◌∙◌, subst, append-nil, arith}
-use Rattle.std.specs.Prelude.{is_none, min, nat_eq, nat_lt, drop, if◌then◌else◌, Option, Some, None}
+use Rattle.std.specs.Prelude.{min, nat_eq, nat_lt, drop, if◌then◌else◌, Option, Some, None}
 use Rattle.std.specs.List.{AllByRecursion}
 use Rattle.std.proofs.Math.Bool.{and-false}
 use Rattle.std.proofs.Math.Nat.{zero-div}
@@ -8,20 +8,18 @@ use Rattle.std.proofs.lemmas.Bool.{eqb-true, le-leb, le-ltb, lt-ltb, ltb-false, 
 use Rattle.std.proofs.lemmas.List.{length-append}
 use Rattle.std.proofs.lemmas.List.Elements.{All-from_recursion}
 use Rattle.mscp_packet.specs.declared.end.End.{End}
-use Rattle.mscp_packet.specs.declared.end.EndBody.TheVariants as bodies
 use Rattle.mscp_packet.specs.declared.command.MoveKind.TheVariants.{Read}
 use Rattle.mscp_packet.specs.declared.command.Order.TheVariants as orders
-use Rattle.mscp_packet.specs.Statuses.{success}
 use Rattle.mscp_drive.specs.declared.head.Head.{Head}
 use Rattle.mscp_drive.specs.Heads.{distance}
 use Rattle.mscp_drive.specs.Shape.{Shape, cylinder_of}
 use Rattle.mscp_events.specs.declared.block.Block.TheVariants.{Good}
 use Rattle.mscp_queue.specs.declared.drive.Drive.{Drive}
 use Rattle.mscp_events.specs.declared.connection.Connection.{Connection}
-use Rattle.mscp_events.specs.declared.connection.Connection.TheVariants.{First, Second}
+use Rattle.mscp_events.specs.declared.connection.Connection.TheVariants.{First}
 use Rattle.mscp_queue.specs.declared.report.Report.{Report}
 use Rattle.mscp_queue.specs.declared.report.Report.TheVariants.{Served}
-use Rattle.mscp_queue.specs.Outcomes.{end_with, head_after, outcome_at}
+use Rattle.mscp_queue.specs.Outcomes.{head_after}
 use Rattle.mscp_queue.specs.Records.{Record, fresh_record, no_record, passed_by, remains, step_charge}
 use Rattle.mscp_queue.specs.Serving.{IsServable, drive_after, end_given, report_of, state_left}
 use Rattle.mscp_queue.specs.Views.{is_affordable, is_free, is_open}
@@ -32,7 +30,6 @@ use Rattle.mscp_events.specs.declared.event.Event.TheVariants as events
 use Rattle.mscp_controller.specs.declared.entry.Entry.TheVariants as entries
 use Rattle.mscp_control.specs.declared.worst_case.Transfer.{Transfer}
 use Rattle.mscp_events.specs.Settings.{Settings, room}
-use Rattle.mscp_controller.specs.Arrival.{unit_fault}
 use Rattle.mscp_events.specs.Both.{Both, of, put}
 use Rattle.mscp_controller.specs.History.{Trace}
 use Rattle.mscp_controller.specs.Holdings.{ends_after}
@@ -54,10 +51,7 @@ pub record Stands (c : Settings) (s : Shape) (t : Trace) (rs : List Record) (us 
 
 pub stands_as : (c : Settings) (s : Shape) (t t' : Trace) (rs rs' : List Record) (us us' : Both (List End)) (b b' : ℕ)
     → t ≡ t' → rs ≡ rs' → us ≡ us' → b ≡ b' → Stands c s t rs us b → Stands c s t' rs' us' b'
-stands_as c s t t' rs rs' us us' b b' et er eu eb h =
-    subst (λ t. Stands c s t rs' us' b') et
-    (subst (λ rs. Stands c s t rs us' b') er
-    (subst (λ (us : Both (List End)). Stands c s t rs us b') eu (subst (λ b. Stands c s t rs us b) eb h)))
+stands_as c s t t' rs rs' us us' b b' et er eu eb h = search arith
 
 -- ---- one step of a READ
 
@@ -70,47 +64,24 @@ least_bytes bytes n h = omega (arith, h)
 
 ended_is : (c : Settings) (s : Shape) (x : Transfer) (j p block : ℕ) (up : Bool) → IsRead c s x → j < x.blocks
     → end_given Good (drive_on s block up) (record_of s x j p) ≡ ended s x j
-ended_is c s x j p block up r l =
-    let k = read_command s x in
-    let full = r.full in
-    let both : (b : Bool) → nat_lt 1 (x.blocks - j) ≡ b
-    → (if b then None else Some (outcome_at s true k j Good)) ≡ (if b then None else Some (read_end s x)) =
-    λ b. elim b as (λ b. nat_lt 1 (x.blocks - j) ≡ b
-    → (if b then None else Some (outcome_at s true k j Good)) ≡ (if b then None else Some (read_end s x))) [
-      | true ↦ λ e. refl
-      | false ↦ λ e.
-          let last = ltb-false 1 (x.blocks - j) e in
-          ap (λ n. Some (end_with k success (bodies.Moved n)))
-          (least_bytes x.bytes (512 * (j + 1)) (omega (arith, full, last, l)))
-    ] in
-    both (nat_lt 1 (x.blocks - j)) refl
+ended_is c s x j p block up r l = search (arith, ltb-false, least_bytes)
 
 report_is : (c : Settings) (s : Shape) (x : Transfer) (from j p : ℕ) (up : Bool) → IsRead c s x → j < x.blocks
     → report_of Good (drive_on s (block_before x from j) up) (record_of s x j p) ≡ read_report s x from j
-report_is c s x from j p up r l = ap (λ o. Served x.connection x.reference s.number (Some (x.first + j)) (nat_eq j 0)
-    (distance (cylinder_of s (block_before x from j)) (cylinder_of s (x.first + j))) o)
-    (ended_is c s x j p (block_before x from j) up r l)
+report_is c s x from j p up r l = search (arith, ended_is c s x j p (block_before x from j) up r l)
 
 state_moved : (kind_bytes first : ℕ) (o : Option End) → state_left true (orders.Move Read kind_bytes first) o ≡ true
-state_moved bytes first None = refl
-state_moved bytes first (Some e) = refl
+state_moved kind_bytes first o = grind arith
 
 head_to : (b : Bool) (to : ℕ) (h : Head)
     → head_after b (Some to) h ≡ record { cylinder = to; up = (head_after b (Some to) h).up }
-head_to true to h = refl
-head_to false to h = refl
+head_to b to h = grind arith
 
 drive_is : (s : Shape) (x : Transfer) (j p block : ℕ) (up : Bool)
     → let h : Head = record { cylinder = cylinder_of s block; up = up } in
     drive_after Good (drive_on s block up) (record_of s x j p)
     ≡ drive_on s (x.first + j) (head_after (nat_eq j 0) (Some (cylinder_of s (x.first + j))) h).up
-drive_is s x j p block up =
-    let h : Head = record { cylinder = cylinder_of s block; up = up } in
-    λ i. record {
-      unit = s;
-      online = state_moved x.bytes x.first (end_given Good (drive_on s block up) (record_of s x j p)) i;
-      head = head_to (nat_eq j 0) (cylinder_of s (x.first + j)) h i;
-    }
+drive_is s x j p block up = search (arith, record_of s x j p, state_moved, head_to)
 
 -- what is held after a step of the READ behind these
 pub stands_stepped : (c : Settings) (s : Shape) (t : Trace) (A : List Record) (x : Transfer) (from j p : ℕ)
@@ -130,14 +101,7 @@ stands_stepped c s t A x from j p B us w r l can h =
     let end = ended_is c s x j p (block_before x from j) h.up r l in
     let left : Option End → List Record = λ o. map (passed_by (step_charge k)) A ++ (remains k o ++ B) in
     let t' = t ++ stepping s x from j ∷ [] in
-    record {
-      up = up;
-      holds = subst (λ (q : Drive). Holds c s t' (left (ended s x j)) (ends_after us (read_report s x from j)) q)
-          (drive_is s x j p (block_before x from j) h.up)
-          (subst (λ o. Holds c s t' (left o) (ends_after us (read_report s x from j)) (drive_after Good d k)) end
-          (subst (λ q. Holds c s (t ++ (events.Step Good, entries.Stepped q) ∷ []) (left (end_given Good d k))
-          (ends_after us q) (drive_after Good d k)) report first));
-    }
+    search (arith, drive_is s x j p (block_before x from j) h.up)
 
 -- ---- the oldest runs
 
@@ -153,8 +117,7 @@ oldest_can c s x j p B idle = record {
 -- a report that brings no end
 quiet : (via : Connection) (reference unit : ℕ) (lbn : Option ℕ) (started : Bool) (seek : ℕ)
     → ends_after nothing (Served via reference unit lbn started seek None) ≡ nothing
-quiet First reference unit lbn started seek = refl
-quiet Second reference unit lbn started seek = refl
+quiet via reference unit lbn started seek = grind arith
 
 -- all its steps but the last
 pub runs_part : (c : Settings) (s : Shape) (t : Trace) (x : Transfer) (from p : ℕ) (B : List Record) → IsUnit c s
@@ -189,15 +152,13 @@ runs_part c s t x from p B w r idle h (suc j) l =
 -- ends that are untaken once a report brought one
 made : (via : Connection) (reference unit : ℕ) (lbn : Option ℕ) (started : Bool) (seek : ℕ) (e : End)
     → of via (ends_after nothing (Served via reference unit lbn started seek (Some e))) ≡ e ∷ []
-made First reference unit lbn started seek e = refl
-made Second reference unit lbn started seek e = refl
+made via reference unit lbn started seek e = grind arith
 
 -- and once that was taken
 handed : (via : Connection) (reference unit : ℕ) (lbn : Option ℕ) (started : Bool) (seek : ℕ) (e : End)
     → let us = ends_after nothing (Served via reference unit lbn started seek (Some e)) in
     put via (drop 1 (of via us)) us ≡ nothing
-handed First reference unit lbn started seek e = refl
-handed Second reference unit lbn started seek e = refl
+handed via reference unit lbn started seek e = grind arith
 
 -- the last step of a READ behind these, and its end is taken
 stands_ended : (c : Settings) (s : Shape) (t : Trace) (A : List Record) (x : Transfer) (from j p : ℕ)
@@ -248,16 +209,7 @@ runs_whole c s t x from p block B w r idle last h =
 
 -- the unit is online
 online_first : (c : Settings) (s : Shape) → IsUnit c s → MaySend c [] nothing First (online_command s (room c))
-online_first c s w =
-    let some = w.valid.some_credits in
-    let few = w.valid.few_credits in
-    record {
-      order = tt;
-      range = (omega (arith, few), w.small, tt);
-      queued = ap (λ o. is_none (unit_fault o)) w.found;
-      credit = omega (arith, some);
-      new = refl;
-    }
+online_first c s w = search arith
 
 zero_cylinder : (s : Shape) → 0 ≡ cylinder_of s 0
 zero_cylinder s = sym (zero-div (s.track * s.group * s.cylinder))
@@ -266,11 +218,7 @@ pub opened_stands : (c : Settings) (s : Shape) → IsUnit c s → Stands c s (op
 opened_stands c s w =
     let k = online_command s (room c) in
     let sent = holds_queued c s [] [] nothing (fresh_drive s) First k w (online_first c s w) (holds_none c s w) in
-    let can : IsServable c.budget (fresh_record First k ∷ []) 0 = record {
-      inside = omega arith;
-      idle = λ e. All-from_recursion (λ r. r.done ≡ 0) (fresh_record First k ∷ []) (refl, tt);
-      opens = λ e. refl;
-    } in
+    let can : IsServable c.budget (fresh_record First k ∷ []) 0 = search arith in
     let stepped = holds_stepped c s (queueing First k ∷ []) [] (fresh_record First k) [] nothing (fresh_drive s) w refl
     refl can sent in
     let us : Both (List End) = record { first = online_end s (room c) ∷ []; second = [] } in
@@ -373,8 +321,7 @@ pub rest_stands : (c : Settings) (s : Shape) (t : Trace) (p : ℕ) → IsUnit c 
 rest_stands c s t p w fits h zero l e =
     let one : 1 ≡ 0 + 1 = omega arith in
     let many : room c - 1 ≡ suc l = omega (arith, e) in
-    stands_as c s t t (longs c s p 1 (room c - 1)) (longs c s p (0 + 1) (suc l)) nothing nothing (c.longest - 1)
-    (c.longest - 1) refl (ap (λ a. longs c s p a (room c - 1)) one ∙ ap (λ k. longs c s p (0 + 1) k) many) refl refl h
+    search (arith, longs c s p 1 (room c - 1), longs c s p (0 + 1) (suc l), stands_as, nothing)
 rest_stands c s t p w fits h (suc i) l e =
     let before = rest_stands c s t p w fits h i (suc l) (omega (arith, e)) in
     let some = w.valid.some_blocks in
@@ -383,5 +330,4 @@ rest_stands c s t p w fits h (suc i) l e =
     let ran = runs_whole c s (rest_on c s t i) (long_read c (i + 1)) (c.longest - 1) p (c.longest - 1) B w is
     (longs_idle c s p (i + 1 + 1) (suc l)) (omega (arith, some)) before in
     let a : i + 1 + 1 ≡ suc i + 1 = omega arith in
-    stands_as c s (rest_on c s t (suc i)) (rest_on c s t (suc i)) B (longs c s p (suc i + 1) (suc l)) nothing nothing
-    (c.longest - 1) (c.longest - 1) refl (ap (λ b. longs c s p b (suc l)) a) refl refl ran
+    search (arith, longs c s p (suc i + 1) (suc l), stands_as, nothing)

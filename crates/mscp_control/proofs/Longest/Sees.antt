@@ -33,16 +33,7 @@ sees_as t y n number k k' e h = subst (λ k. Sees t y n number k) e h
 -- it has come
 pub sees_first : (t : Trace) (via : Connection) (k : Command) → command_of (command_bytes k) ≡ k
     → Sees (t ++ queueing via k ∷ []) (length t) (name_on via k.reference) k.unit 0
-sees_first t via k same =
-    let m = queueing via k in
-    let whole = command_last t m ∙ same in
-    record {
-      inside = omega (arith, length_push t m);
-      named = λ i. name_on (connection_last t m i) (whole i).reference;
-      of_unit = ap (λ (q : Command). q.unit) whole;
-      waits = is_waiting_last t m;
-      steps = steps_last t m;
-    }
+sees_first t via k same = search (arith, command_last, length_push, connection_last, is_waiting_last, steps_last)
 
 -- a moment that doesn't end it
 pub sees_more : (t : Trace) (y : ℕ) (n : Name) (number k : ℕ) (m : Moment) → ends_in n m.1 ≡ false
@@ -62,8 +53,7 @@ sees_more t y n number k m e h =
 -- a step that ends no command of its name
 unended : (s : Shape) (x : Transfer) (from j : ℕ) (n : Name)
     → (same_name (name_on x.connection x.reference) n ≡ false) → ends_in n (stepping s x from j).1 ≡ false
-unended s x from j n other =
-    ap (λ b. b && is_some (if nat_lt 1 (x.blocks - j) then None else Some (read_end s x))) other
+unended s x from j n other = search arith
 
 -- so many steps of another command
 pub sees_steps : (s : Shape) (x : Transfer) (from : ℕ) (t : Trace) (y : ℕ) (n : Name) (number k : ℕ)

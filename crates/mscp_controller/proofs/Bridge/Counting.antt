@@ -73,11 +73,6 @@ count_stepped {K} via picks k old (reports.Served connection reference unit lbn 
 
 -- ---- a command comes
 
-pub push_count : (via other : Connection) (ws : List Record) (k : Command)
-    → length (waiting_on other (ws ++ fresh_record via k ∷ []))
-    ≡ length (waiting_on other ws) + cond (same_connection via other) 1 0
-push_count via other ws k = search (arith, filter-append, length-append)
-
 -- ---- a command is aborted
 
 -- the others keep their commands
