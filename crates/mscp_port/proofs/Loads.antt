@@ -88,18 +88,22 @@ with_news : (units : List Shape) (vs ws : List Volume) (o : Option ℕ) (out : O
 with_news units vs ws o out h5 = grind (arith, the_same, set_one)
 
 is_free : Task → Bool
-is_free h0 = grind arith
+is_free tasks.Free = true
+is_free task = false
 
 free_or_not : (t : Task) → (t ≡ tasks.Free) ⊎ (t ≢ tasks.Free)
 unfolding is_free
-free_or_not t = grind (arith, false≢true, is_free)
+free_or_not tasks.Free = inl refl
+free_or_not t = inr (λ e. false≢true (ap is_free e))
 
 is_up : Stage → Bool
-is_up h0 = grind arith
+is_up stages.Up = true
+is_up s = false
 
 up_or_not : (s : Stage) → (s ≡ stages.Up) ⊎ (s ≢ stages.Up)
 unfolding is_up
-up_or_not s = grind (arith, false≢true, is_up)
+up_or_not stages.Up = inl refl
+up_or_not s = inr (λ e. false≢true (ap is_up e))
 
 none_or_not : {X : Type 0} (o : Option X) → (o ≡ None) ⊎ (o ≢ None)
 none_or_not o = grind (arith, none-some)

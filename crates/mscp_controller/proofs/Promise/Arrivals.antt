@@ -66,7 +66,8 @@ arrives c via t b s h =
     record { taken = refusal_none (balance c via t) (outstanding c via t) b u.0; is = u.1 }
 
 is_queue : Sent → Bool
-is_queue h0 = grind arith
+is_queue (sents.Queued r) = true
+is_queue (sents.Answered r a) = false
 
 -- what is known of a message that was queued
 pub record Queues (c : Settings) (via : Connection) (t : Trace) (b : List ℕ) : Type 0 where

@@ -1,6 +1,6 @@
 -- The commands and the untaken ends of each connection never exceed its credits, and one credit of it is kept.
 use Rattle.std.proofs.Common.{◌≡◌, ℕ, ◌+◌, ◌-◌, ◌<◌, ◌≤◌, Bool, true, false, cond, not, ◌&&◌, List, [], ◌∷◌, ◌++◌, length, refl, ap, sym, subst, ◌∙◌, arith, append-nil}
-use Rattle.std.specs.Prelude.{filter, if◌then◌else◌, count_by, slice_get, Option, Some, is_some, option_map, option_to_list, Ok, Err}
+use Rattle.std.specs.Prelude.{filter, if◌then◌else◌, count_by, slice_get, Option, Some, None, is_some, option_map, option_to_list, Ok, Err}
 use Rattle.std.specs.List.{AllByRecursion}
 use Rattle.std.proofs.lemmas.List.{length-append, length-map, length-drop}
 use Rattle.std.proofs.lemmas.List.Elements.{filter-append}
@@ -131,10 +131,12 @@ unfolding balance
 balance_two c via t h = omega (arith, h)
 
 is_answer : Sent → Bool
-is_answer h0 = grind arith
+is_answer (sents.Queued r) = false
+is_answer (sents.Answered r a) = true
 
 aborted_of : Sent → Option ℕ
-aborted_of h0 = grind arith
+aborted_of (sents.Queued r) = None
+aborted_of (sents.Answered r a) = a
 
 taken_as_answer : (c : Settings) (via : Connection) (t : Trace) (command : Command) (q : Bool) (r : ℕ) (a : Option ℕ)
     → sents.Answered r a ≡ taken_when c via t command q → a ≡ aborted_reference c via t command
