@@ -4,6 +4,7 @@ use Rattle.std.specs.List.{list_any}
 use Rattle.mscp_packet.specs.declared.command.Order.{Order}
 use Rattle.mscp_packet.specs.declared.command.Order.TheVariants as orders
 use Rattle.mscp_packet.specs.declared.command.Command.{Command}
+use Rattle.mscp_packet.specs.Commands.{order_class}
 use Rattle.mscp_packet.specs.Number.{num}
 use Rattle.mscp_packet.specs.Opcodes.{class, is_immediate_class}
 use Rattle.mscp_packet.specs.Statuses.{invalid_version, unit_offline}
@@ -40,11 +41,7 @@ refusal balance outstanding b =
 
 -- answered when it comes, without a step (manual, "Command Categories and Execution Order")
 abbrev pub is_immediate : Order → Bool
-is_immediate (orders.Abort other) = true
-is_immediate (orders.Status other) = true
-is_immediate orders.UnitStatus = true
-is_immediate (orders.SetController version) = true
-is_immediate order = false
+is_immediate order = is_immediate_class (order_class order)
 
 -- the status that refuses a transfer to a unit that may not be configured (manual)
 abbrev pub move_fault : Settings → ℕ → ℕ → Option Shape → Option ℕ

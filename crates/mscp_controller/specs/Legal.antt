@@ -14,7 +14,7 @@ use Rattle.mscp_drive.specs.Heads.{distance}
 use Rattle.mscp_queue.specs.declared.view.Choice.{Choice}
 use Rattle.mscp_events.specs.declared.connection.Connection.{Connection}
 use Rattle.mscp_queue.specs.declared.name.Name.{Name}
-use Rattle.mscp_queue.specs.Orders.{order_class}
+use Rattle.mscp_packet.specs.Commands.{order_class}
 use Rattle.mscp_events.specs.Settings.{Settings, unit_shape}
 use Rattle.mscp_queue.specs.Outcomes.{block_touched, goes_on}
 use Rattle.mscp_controller.specs.History.{Trace, moment, Service, service_in, WhenStarted}

@@ -2,7 +2,7 @@
 
 ghost use Rattle.std.specs.Prelude.{◌≡◌, ◌+◌, ◌≤◌, ◌^◌, IfOk};
 ghost use Rattle.mscp_packet.specs.Opcodes.{class, is_immediate_class};
-ghost use Rattle.mscp_controller.specs.Arrival.{is_immediate, judged, move_fault, unit_fault, version_fault};
+ghost use Rattle.mscp_controller.specs.Arrival.{judged, move_fault, unit_fault, version_fault};
 ghost use Rattle.mscp_queue.specs.Orders.{first_block};
 ghost use Rattle.mscp_events.specs.Settings.{unit_found};
 ghost use Rattle.mscp_drive.specs.Extent.{weighed, weight};
@@ -65,14 +65,4 @@ pub(crate) fn judge(config: &Config, command: &Command) -> Result<u32, u16>
         }
         Order::SetController(version) => judge_version(version),
     }
-}
-
-/// Whether the order is answered when it comes.
-pub(crate) fn is_immediate(order: &Order) -> bool
-    ensures { result ≡ is_immediate order.now }
-{
-    matches!(
-        order,
-        Order::Abort(_) | Order::Status(_) | Order::UnitStatus | Order::SetController(_)
-    )
 }

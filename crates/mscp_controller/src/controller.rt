@@ -16,7 +16,7 @@ mod seeing;
 
 use crate::account::Accounts;
 use crate::answer::{controller_end, refused_end, unit_status_end};
-use crate::arrival::{is_immediate, judge, may_take_last_credit};
+use crate::arrival::{judge, may_take_last_credit};
 use crate::entry::{Entry, NotBegun, SendFault, Sent};
 use arrayvec::ArrayVec;
 use mscp_drive::Units;
@@ -250,7 +250,7 @@ impl<K: Picker> Controller<K> {
         ensures account { IsBalanced self.new }
     {
         let aborted = match judge(&self.config, &command) {
-            Ok(weight) if !is_immediate(&command.order) => {
+            Ok(weight) if !command.order.class().is_immediate() => {
                 self.queue(connection, &command, weight);
                 return Sent::Queued(command.reference);
             }

@@ -60,21 +60,13 @@ answer_words Second word rest w apart =
       word_front word rest w.some w.solid apart,
     )
 
-no_comment_via : (via : Connection) (word rest : List ℕ) → IsFirstWord word
-    → is_comment (connection_word via ++ (word ++ rest)) ≡ false
-no_comment_via via word rest h3 = grind arith
-
-printed_via : (via : Connection) → AllPrinted (connection_word via)
-printed_via via = grind arith
-
 few_via : (via : Connection) → length (connection_word via) ≤ 7
 few_via via = grind arith
 
 -- a line that isn't too long
 short_line : (via : Connection) (word rest : List ℕ) → IsFirstWord word → IsApart rest → AllPrinted rest
     → length (connection_word via ++ (word ++ rest)) ≤ 200 → IsAnswerLine (connection_word via ++ (word ++ rest))
-short_line via word rest w apart printed short =
-    grind (arith, both_printed, printed_via, no_comment_via, answer_words, said_plain)
+short_line via word rest w apart printed short = search (arith, both_printed, answer_words, said_plain)
 
 answer_line : (via : Connection) (word rest : List ℕ) → IsFirstWord word → IsApart rest → AllPrinted rest
     → length rest ≤ 150 → IsAnswerLine (connection_word via ++ (word ++ rest))

@@ -66,11 +66,6 @@ lines_behind n log (bytes ∷ front) back mid e =
     (λ next. lines_behind (n + 1) next front back mid) e
     ∙ ap (λ k. after_lines k mid back) (omega arith)
 
-line_first : (n : ℕ) (log : Log) (bytes : List ℕ) (back : List (List ℕ)) (number : ℕ) → number ≡ n + 1
-    → after_lines n log (bytes ∷ back) ≡ (after_line number log bytes >>= λ next. after_lines number next back)
-unfolding after_lines
-line_first n log bytes back number e = search arith
-
 -- ---- the verdict
 
 -- what is behind a line that was read
@@ -78,20 +73,13 @@ behind_line : (before : ℕ) (all front : List (List ℕ)) (bytes : List ℕ) (b
     (number : ℕ) → all ≡ front ++ bytes ∷ back → number ≡ before + length front + 1
     → after_lines before nothing front ≡ Ok mid → after_lines before nothing all ≡ Ok last
     → (after_line number mid bytes >>= λ next. after_lines number next back) ≡ Ok last
+unfolding after_lines
 behind_line before all front bytes back mid last number w n r e =
-    search (
-      arith,
-      line_first (before + length front) mid bytes back number n,
-      lines_behind before nothing front (bytes
-          ∷ back) mid r,
-    )
+    search (arith, lines_behind before nothing front (bytes ∷ back) mid r)
 
 open_at : (c : Settings) (number : ℕ) (next last : Log) (back : List (List ℕ))
     → after_lines number next back ≡ Ok last → IsLegalLog c last.marks → MayGoOn c next.marks
 open_at c number next last back e l = search (arith, grown_lines number next back)
-
-one_log : (r : Result Log Cause) (a b : Log) → r ≡ Ok a → r ≡ Ok b → a ≡ b
-one_log r a b h3 h4 = grind arith
 
 no_log : {P : Type 0} (r : Result Log Cause) (f : Log → Result Log Cause) (cause : Cause) (log : Log) → r ≡ Err cause
     → (r >>= f) ≡ Ok log → P
@@ -104,7 +92,7 @@ exactly c before all log (Ok (verdicts.Wrong number rule starts right)) e l j =
     let b = behind_line before all j.front j.line j.back j.log log number j.whole j.number j.read e in
     let rest = ap (λ r. r >>= λ next. after_lines number next j.back) (sym j.says) ∙ b in
     j.wrong (open_at c number j.next log j.back rest l)
-exactly c before all log (Ok (verdicts.Unanswered right)) e l j = grind (arith, one_log)
+exactly c before all log (Ok (verdicts.Unanswered right)) e l j = search arith
 exactly c before all log (Err (faults.Script fault)) e l j =
     let b = behind_line before all j.front j.line j.back j.log log fault.line j.whole j.number j.read e in
     no_log (after_line fault.line j.log j.line) (λ next. after_lines fault.line next j.back) fault.cause log j.wrong b

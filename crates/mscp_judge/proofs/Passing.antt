@@ -13,7 +13,7 @@ use Rattle.mscp_reader.proofs.PlainLines.{plain_lines}
 use Rattle.mscp_reader.specs.Lexical.{lines}
 use Rattle.mscp_judge.specs.declared.judge.Judge.{Judge}
 use Rattle.mscp_judge.specs.Judged.{Passed}
-use Rattle.mscp_judge.specs.Logs.{AreAnswers, IsAnswerLine, Log, after_line, after_lines, asking, telling, told}
+use Rattle.mscp_judge.specs.Logs.{AreAnswers, IsAnswerLine, Log, after_lines, asking, telling, told}
 use Rattle.mscp_judge.specs.Standing.{Stands, due}
 use Rattle.mscp_judge.proofs.Answering.{idle_answers}
 use Rattle.mscp_judge.proofs.Exactly.{lines_behind}
@@ -74,14 +74,6 @@ passed_more c log before n last rest mid left judge new p q =
 
 -- ---- answers
 
--- a line that is an answer is told, whatever was said before
-answer_told : (n : ℕ) (log : Log) (bytes : List ℕ) → n ≤ 1000000 → IsAnswerLine bytes
-    → after_line n log bytes ≡ Ok (telling log (line bytes))
-answer_told n log bytes few it = search (arith, nat_tests, tells)
-
-telling_more : (log : Log) (xs ys : List ℕ) → telling (telling log xs) ys ≡ telling log (xs ++ ys)
-telling_more log xs ys = search (arith, append_assoc log.marks (told xs) (told ys), told_append xs ys)
-
 answers_told : (before : ℕ) (log : Log) (all : List (List ℕ)) → AllByRecursion IsAnswerLine all
     → before + length all ≤ 1000000 → after_lines before log all ≡ Ok (telling log (flat_map line all))
 unfolding after_lines
@@ -89,10 +81,11 @@ answers_told before log [] each few = ap (λ ms. Ok (record log { marks = ms }))
 answers_told before log (bytes ∷ all) each few =
     search (
       arith,
-      answer_told (before + 1) log bytes (omega (arith, few)) each.0,
-      answers_told (before + 1) (telling
-          log (line bytes)) all each.1 (omega (arith, few)),
-      telling_more log (line bytes) (flat_map line all),
+      answers_told (before + 1) (telling log (line bytes)) all each.1 (omega (arith, few)),
+      nat_tests,
+      tells,
+      append_assoc,
+      told_append,
     )
 
 answers_ahead : (all : List (List ℕ)) (left : List ℕ) → AllByRecursion IsAnswerLine all

@@ -32,19 +32,14 @@ lines_more before log (first ∷ front) bytes next last place e p f =
 
 -- ---- what a line says
 
--- the words of a line that has some are its own, and it is printed
-said_words : (bytes : List ℕ) (ws : List (List ℕ)) → said bytes ≡ Ok ws → ws ≢ []
-    → (ws ≡ words bytes) × (list_all is_printed bytes ≡ true)
-unfolding said
-said_words bytes ws e some = search arith
-
 pub in_err : {A : Type 0} (n : ℕ) (r : Result A Cause) (fault : ScriptFault) → in_line n r ≡ Err fault
     → (fault.line ≡ n) × (r ≡ Err fault.cause)
 in_err n r fault h3 = grind arith
 
 pub says_words : (n : ℕ) (bytes : List ℕ) (ws : List (List ℕ)) → in_line n (said_at n bytes) ≡ Ok ws → ws ≢ []
     → (ws ≡ words bytes) × (list_all is_printed bytes ≡ true)
-says_words n bytes ws e some = grind (arith, from_ok, said_words)
+unfolding said
+says_words n bytes ws e some = search (arith, from_ok)
 
 -- a line that is skipped
 pub skipped : (n : ℕ) (log : Log) (bytes : List ℕ) (ws : List (List ℕ)) → in_line n (said_at n bytes) ≡ Ok ws

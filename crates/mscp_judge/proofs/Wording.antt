@@ -9,7 +9,7 @@ use Rattle.mscp_events.specs.declared.connection.Connection.{Connection}
 use Rattle.mscp_events.specs.declared.connection.Connection.TheVariants.{Second}
 use Rattle.mscp_events.specs.declared.event.Event.{Event}
 use Rattle.mscp_reader.specs.Grammar.{asked_after, said_at}
-use Rattle.mscp_reader.specs.Outcome.{asked_at, asked_next, in_line}
+use Rattle.mscp_reader.specs.Outcome.{asked_at, asked_next}
 use Rattle.mscp_reader.specs.Requests.{asked_if, event_form, form_of, message_form, plain_form, request, second_request}
 use Rattle.mscp_reader.specs.declared.fault.Cause.{Cause}
 use Rattle.mscp_judge.specs.Logs.{Log, after_line, after_words, asking, is_answer, is_answer_word, is_second_answer}
@@ -56,23 +56,14 @@ first_no_answer : (word : List ℕ) (rest : List (List ℕ)) (what : List Event)
 unfolding request
 first_no_answer word rest what h3 h4 b h6 = grind (arith, no_form)
 
-second_no_answer : (rest : List (List ℕ)) (what : List Event) → second_request rest ≡ Ok what
-    → is_second_answer rest ≡ false
-unfolding second_request
-second_no_answer rest what h2 = grind (arith, no_form)
-
 named_second : (word : List ℕ) (rest : List (List ℕ)) → word ≡ codes "second"
     → request (word ∷ rest) ≡ second_request rest
 unfolding request form_of plain_form message_form event_form
 named_second word rest e = ap (λ w. asked_if (form_of w) w rest) e
 
-no_answer_words : (word : List ℕ) (rest : List (List ℕ)) (what : List Event) → request (word ∷ rest) ≡ Ok what
-    → (b : Bool) → bytes_eq word (codes "second") ≡ b → is_answer (word ∷ rest) ≡ false
-no_answer_words word rest what h3 b h5 =
-    grind (arith, bytes_eq-Decides, second_no_answer, named_second, first_no_answer)
-
 no_answer : (ws : List (List ℕ)) (what : List Event) → request ws ≡ Ok what → is_answer ws ≡ false
-no_answer ws what h2 = grind (arith, no_answer_words)
+unfolding second_request
+no_answer ws what h2 = search (arith, bytes_eq-Decides, named_second, first_no_answer, no_form)
 
 -- a line that asks for events, where so many came before
 asked_words : (n count : ℕ) (log : Log) (line : List ℕ) (new : List Event) (r : Result (List (List ℕ)) Cause)
@@ -86,15 +77,11 @@ pub asked_reads : (n count : ℕ) (log : Log) (line : List ℕ) (new : List Even
 unfolding after_line
 asked_reads n count log line new c e some = asked_words n count log line new (said_at n line) c e some
 
-asked_ok : (n : ℕ) (r : Result (List Event) Cause) (what : List Event)
-    → (in_line n r >>= λ new. Ok (Some new)) ≡ Ok (Some what) → r ≡ Ok what
-asked_ok n r what h3 = grind arith
-
 -- the next line
 pub asked_line : (before count : ℕ) (all : List (List ℕ)) (what : List Event)
     → asked_next before count all ≡ Ok (Some what) → (line : List ℕ) × (all ≡ line ∷ drop 1 all) ×
     (asked_at (before + 1) count line ≡ Ok what)
-asked_line before count all what h4 = grind (arith, asked_ok)
+asked_line before count all what h4 = search arith
 
 -- ---- a line that is no answer names no command
 
@@ -107,11 +94,6 @@ second_unserved : (rest : List (List ℕ)) → is_second_answer rest ≡ false �
 unfolding served
 second_unserved rest h1 = grind (arith, unserved)
 
-unnamed_words : (word : List ℕ) (rest : List (List ℕ)) (b : Bool) → bytes_eq word (codes "second") ≡ b
-    → is_answer (word ∷ rest) ≡ false → name_in (word ∷ rest) ≡ None
-unfolding name_in
-unnamed_words word rest b h3 h4 = grind (arith, second_unserved, unserved)
-
 pub unnamed : (ws : List (List ℕ)) → is_answer ws ≡ false → name_in ws ≡ None
 unfolding name_in
-unnamed ws h1 = grind (arith, unnamed_words)
+unnamed ws h1 = search (arith, second_unserved, unserved)

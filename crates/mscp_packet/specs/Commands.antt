@@ -5,7 +5,8 @@ use Rattle.byteorder.specs.Endian.{little_bytes}
 use Rattle.mscp_packet.specs.Number.{num}
 use Rattle.mscp_packet.specs.Places.{Field, field}
 use Rattle.mscp_packet.specs.Statuses.{invalid_length, invalid_opcode}
-use Rattle.mscp_packet.specs.Opcodes.{least, opcode_of, row_of}
+use Rattle.mscp_packet.specs.Opcodes.{class_of_opcode, least, opcode_of, row_of}
+use Rattle.mscp_packet.specs.declared.class.Class.{Class}
 use Rattle.mscp_packet.specs.declared.class.Opcode.{Opcode}
 use Rattle.mscp_packet.specs.declared.class.Opcode.TheVariants as codes
 use Rattle.mscp_packet.specs.declared.command.Order.{Order}
@@ -70,6 +71,11 @@ opcode_byte orders.Online = (row_of codes.Online).byte
 opcode_byte orders.SetUnit = (row_of codes.SetUnit).byte
 opcode_byte (orders.Move kind count block) = (row_of (codes.Move kind)).byte
 opcode_byte (orders.Invalid byte status) = byte
+
+-- how it is scheduled (manual, "Command Categories and Execution Order"): what is no valid command as what has no known
+-- opcode
+abbrev pub order_class : Order → Class
+order_class order = class_of_opcode (order_opcode order)
 
 -- what is written from byte 12 on (manual, "Command Messages"). The controller flags and the host timeout of SET
 -- CONTROLLER CHARACTERISTICS are zero, and so is the buffer descriptor of a transfer (profile)

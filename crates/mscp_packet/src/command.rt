@@ -2,7 +2,7 @@
 
 ghost use Rattle.std.specs.Prelude.{◌≡◌};
 
-use crate::class::Opcode;
+use crate::class::{Class, Opcode};
 
 /// The five transfers.
 #[derive(Clone, Copy, Debug, PartialEq, Eq)]
@@ -43,6 +43,37 @@ pub enum Order {
     Invalid { opcode: u8, status: u16 },
 }
 
+impl Order {
+    ghost use Rattle.std.specs.Prelude.{ok_or};
+    ghost use Rattle.mscp_packet.specs.Commands.{opcode_byte, order_class, order_opcode};
+
+    /// The opcode, or the byte of what is no valid command.
+    fn opcode(&self) -> Result<Opcode, u8>
+        ensures { result ≡ ok_or (order_opcode self.now) (opcode_byte self.now) }
+    {
+        Ok(match self {
+            Order::Abort(_) => Opcode::Abort,
+            Order::Status(_) => Opcode::Status,
+            Order::UnitStatus => Opcode::UnitStatus,
+            Order::SetController(_) => Opcode::SetController,
+            Order::Available => Opcode::Available,
+            Order::Online => Opcode::Online,
+            Order::SetUnit => Opcode::SetUnit,
+            Order::Move(kind, ..) => Opcode::Move(*kind),
+            Order::Invalid { opcode, .. } => return Err(*opcode),
+        })
+    }
+
+    /// How it is scheduled (manual, "Command Categories and Execution Order"): by its opcode's line of the table, and
+    /// `Unknown` if it is no valid command's.
+    pub fn class(&self) -> Class
+        ensures { result ≡ order_class self.now }
+    {
+        self.opcode()
+            .map_or(Class::Unknown, |opcode| opcode.line().class)
+    }
+}
+
 /// A command: its reference number, the unit that it is for, and what it asks for (manual, "Command Messages").
 #[derive(Clone, Copy, Debug, PartialEq, Eq)]
 pub struct Command {
@@ -58,18 +89,10 @@ impl Command {
     pub fn opcode(&self) -> u8
         ensures { result ≡ opcode_byte self.now.order }
     {
-        let opcode = match self.order {
-            Order::Abort(_) => Opcode::Abort,
-            Order::Status(_) => Opcode::Status,
-            Order::UnitStatus => Opcode::UnitStatus,
-            Order::SetController(_) => Opcode::SetController,
-            Order::Available => Opcode::Available,
-            Order::Online => Opcode::Online,
-            Order::SetUnit => Opcode::SetUnit,
-            Order::Move(kind, ..) => Opcode::Move(kind),
-            Order::Invalid { opcode, .. } => return opcode,
-        };
-        opcode.line().byte
+        match self.order.opcode() {
+            Ok(opcode) => opcode.line().byte,
+            Err(byte) => byte,
+        }
     }
 }
 

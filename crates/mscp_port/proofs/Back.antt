@@ -1,6 +1,6 @@
 -- The bytes that a port is saved as say that port.
 use Rattle.std.proofs.Common.{◌≡◌, ℕ, ◌+◌, ◌*◌, ◌<◌, ◌≤◌, ◌^◌, Bool, true, List, ◌++◌, drop, take, get_or, length, append_assoc, refl, ap, subst, ◌∙◌, arith}
-use Rattle.std.specs.Prelude.{flat_map, if◌then◌else◌, Option, Some, None, IfSome, Ok, Err}
+use Rattle.std.specs.Prelude.{flat_map, if◌then◌else◌, Option, None, IfSome, Ok, Err}
 use Rattle.std.specs.List.{AllByRecursion}
 use Rattle.std.proofs.Math.Seq.{drop-append_seam, take-append_seam}
 use Rattle.std.proofs.lemmas.Bool.{and_from, eq-eqb, le-leb, lt-ltb}
@@ -19,7 +19,7 @@ use Rattle.mscp_port.specs.declared.port.Port.{Port}
 use Rattle.mscp_port.specs.declared.port.restoring.RestoreFault.{RestoreFault}
 use Rattle.mscp_port.specs.declared.port.restoring.RestoreFault.TheVariants as faults
 use Rattle.mscp_port.specs.declared.volumes.Volume.{Volume}
-use Rattle.mscp_port.specs.Areas.{AreRings, Rings, are_rings}
+use Rattle.mscp_port.specs.Areas.{AreRings, Rings}
 use Rattle.mscp_port.specs.Codes.{coded_task, number_or_none, optional, some_byte, stage_byte, stage_in, stage_word, task_in}
 use Rattle.mscp_port.specs.Restored.{area_in, buffer_in, buffers_in, coded_in, frame_fault, is_framed, outgoing_in, over, port_in, restored, restored_unless, rings_if, text_in, volume_in, volumes_in, whose}
 use Rattle.mscp_port.specs.Saved.{HasBufferRange, HasRange, HasVolumeRange, buffer_bytes, length_of, outgoing_byte, outgoing_text, rings_or_none, saved_bytes, volume_bytes}
@@ -33,21 +33,11 @@ volume_is_back v h = search (arith, four (number_or_none v.mounted) h.mounted, o
 buffer_is_back : (b : Buffer) → HasBufferRange b → IsBack buffer_in buffer_bytes 20 b
 buffer_is_back b h = search (arith, four, two)
 
-text_back : (text : List ℕ) (so : Bool)
-    → outgoing_in (if so then 2 else 1) text ≡ Some (record { bytes = record { items = text }; is_end = so })
-text_back text so = grind arith
-
 outgoing_back : (o : Option Outgoing) → outgoing_in (outgoing_byte o) (outgoing_text o) ≡ o
-outgoing_back o = grind (arith, text_back)
-
-are_rings_of : (r : Rings) → AreRings r → are_rings r ≡ true
-are_rings_of r h =
-    and_from _ _ (and_from _ _ (and_from _ _ (le-leb 8 r.base h.room) (lt-ltb r.base 0x8000_0000 h.low))
-    (and_from _ _ (le-leb 1 r.responses h.response) (le-leb r.responses 128 h.responses)))
-    (and_from _ _ (le-leb 1 r.commands h.command) (le-leb r.commands 128 h.commands))
+outgoing_back o = search arith
 
 rings_is : (o : Option Rings) → IfSome o (λ r. AreRings r) → rings_if (some_byte o) (rings_or_none o) ≡ o
-rings_is o h1 = grind (arith, are_rings_of)
+rings_is o h1 = search (arith, and_from, le-leb, lt-ltb)
 
 -- the numbers of rings are small
 pub record AreSmall (r : Rings) : Type 0 where

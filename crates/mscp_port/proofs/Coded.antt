@@ -2,29 +2,21 @@
 use Rattle.std.proofs.Common.{◌≡◌, ℕ, ◌%◌, ◌≤◌, ◌<◌, Bool, true, nat_eq, nat_le, ap, arith}
 use Rattle.std.specs.Prelude.{if◌then◌else◌, Option, Some, None}
 use Rattle.std.proofs.lemmas.Bool.{and_from, eq-eqb, le-leb, lt-ltb}
-use Rattle.mscp_events.specs.declared.block.Block.TheVariants.{Good, Bad}
 use Rattle.mscp_saved.proofs.Back.{flag_back}
 use Rattle.mscp_port.specs.declared.hardware.Bus.{Bus}
-use Rattle.mscp_port.specs.declared.rings.Side.{Side}
 use Rattle.mscp_port.specs.declared.stage.Stage.{Stage}
 use Rattle.mscp_port.specs.declared.task.Task.{Task}
-use Rattle.mscp_port.specs.Codes.{IsTask, block_in, bus_byte, bus_in, coded_task, has_size, number_or_none, optional, side_byte, side_in, some_byte, stage_byte, stage_in, stage_word, task_in}
+use Rattle.mscp_port.specs.Codes.{IsTask, bus_byte, bus_in, coded_task, has_size, number_or_none, optional, some_byte, stage_byte, stage_in, stage_word, task_in}
 use Rattle.mscp_port.specs.Sizes.{clear_size, text_size}
 
 pub bus_back : (bus : Bus) → bus_in (bus_byte bus) ≡ bus
 bus_back bus = grind arith
-
-side_back : (side : Side) → side_in (side_byte side) ≡ side
-side_back side = grind arith
 
 pub stage_back : (stage : Stage) → stage_in (stage_byte stage) (stage_word stage) ≡ stage
 stage_back stage = grind arith
 
 pub optional_back : (o : Option ℕ) → optional (some_byte o) (number_or_none o) ≡ o
 optional_back o = grind arith
-
-bad_back : (status : ℕ) → 5 ≤ status % 32 → block_in 1 status ≡ Bad status
-bad_back status h = ap (λ (low : Bool). if low then Bad status else Good) (le-leb 5 (status % 32) h)
 
 -- a size that there may be
 is_clear_size : (done : ℕ) → done % 64 ≡ 0 → done < 1032 → clear_size done ≡ Some done
@@ -43,4 +35,4 @@ size_back task h1 = grind (arith, is_clear_size, is_text_size)
 
 -- the numbers of a task say that task
 pub task_back : (task : Task) → IsTask task → task_in (coded_task task) ≡ task
-task_back task h1 = grind (arith, is_clear_size, side_back, flag_back, is_text_size, bad_back)
+task_back task h1 = search (arith, is_clear_size, flag_back, is_text_size, le-leb)

@@ -1,14 +1,13 @@
 -- A message by which a command comes: its number is new, and the controller gets it as it was read.
-use Rattle.std.proofs.Common.{◌≡◌, ◌∙◌, ◌%◌, ◌&&◌, ℕ, Bool, true, false, cond, not, List, [], ◌∷◌, ◌++◌, None, Some, refl, sym, length, take, drop, arith}
+use Rattle.std.proofs.Common.{◌≡◌, ◌&&◌, ℕ, Bool, true, false, cond, not, List, [], ◌∷◌, None, Some, refl, length, arith}
 use Rattle.std.specs.Prelude.{nat_eq, nat_lt, slice_index}
 use Rattle.std.specs.List.{list_any}
 use Rattle.std.proofs.lemmas.Bool.{and_parts, eqb-true, false≢true, le-ltb, ltb-false, or_parts}
 use Rattle.std.proofs.lemmas.List.Folds.{list_any-append}
 use Rattle.std.proofs.lemmas.Option.{none-some}
-use Rattle.byteorder.specs.Endian.{little_bytes}
-use Rattle.mscp_packet.specs.Commands.{command_of, order_with}
+use Rattle.mscp_packet.specs.Commands.{command_of}
 use Rattle.mscp_packet.specs.Number.{num}
-use Rattle.mscp_packet.specs.Opcodes.{class, is_immediate_class, opcode_of}
+use Rattle.mscp_packet.specs.Opcodes.{class, is_immediate_class}
 use Rattle.mscp_drive.specs.Shape.{Shape}
 use Rattle.mscp_events.specs.declared.connection.Connection.TheVariants.{First}
 use Rattle.mscp_events.specs.Settings.{Settings}
@@ -16,7 +15,7 @@ use Rattle.mscp_queue.specs.Records.{Record}
 use Rattle.mscp_controller.specs.declared.entry.SendFault.TheVariants as faults
 use Rattle.mscp_controller.specs.Arrival.{holds, is_queued, refusal}
 use Rattle.mscp_controller.specs.Holdings.{Holdings, numbers, outstanding_of, waiting_on}
-use Rattle.mscp_port.specs.Messages.{asks_for_next, handed, next_unit}
+use Rattle.mscp_port.specs.Messages.{handed}
 use Rattle.mscp_port.proofs.Kept.{is_numbered}
 
 -- ---- its number is new
@@ -47,28 +46,7 @@ long_enough b e = search (arith, ltb-false (length b) 12 e, le-ltb)
 
 -- ---- a command that is queued is the one that was read
 
--- a GET UNIT STATUS isn't queued
-status_not_queued : (c : Settings) (reference unit s : ℕ) (x : List ℕ) → s ≡ 3
-    → is_queued c (record { reference = reference; unit = unit; order = order_with (opcode_of s) x }) ≡ false
-status_not_queued c reference unit s x e = search arith
-
--- its opcode is handed on
-opcode_handed : (n : ℕ) (b : List ℕ) → nat_eq (slice_index b 8) 3 ≡ true
-    → slice_index (take 4 b ++ little_bytes 2 n ++ drop 6 b) 8 ≡ slice_index b 8
-opcode_handed n b h2 = grind (arith, false≢true)
-
 pub handed_as_read : (c : Settings) (units : List Shape) (b : List ℕ)
     → is_queued c (command_of (handed units b)) ≡ true → handed units b ≡ b
 unfolding command_of
-handed_as_read c units b q = by (asks_for_next b) refl q
-  where
-    named : List ℕ
-    named = take 4 b ++ little_bytes 2 (next_unit units (num b 4 2)) ++ drop 6 b
-
-    by : (t : Bool) → asks_for_next b ≡ t → is_queued c (command_of (cond t named b)) ≡ true → cond t named b ≡ b
-    by false e h = refl
-    by true e h =
-        let p = and_parts (nat_eq (slice_index b 8) 3) (nat_eq (num b 10 2 % 2) 1) e in
-        let opcode = opcode_handed (next_unit units (num b 4 2)) b p.0 ∙ eqb-true (slice_index b 8) 3 p.0 in
-        absurd (false≢true (sym (status_not_queued c (num named 0 4) (num named 4 2) (slice_index named 8) named opcode)
-        ∙ h))
+handed_as_read c units b q = search (arith, and_parts, eqb-true, false≢true)

@@ -1,6 +1,6 @@
 -- What a host is told of credits over a whole history.
-use Rattle.std.proofs.Common.{◌≡◌, ◌⊎◌, ◌∙◌, ◌+◌, ◌-◌, ◌≤◌, ◌∷◌, [], ℕ, Bool, true, false, cond, List, Option, None, Some, inl, inr, refl, ap, sym, arith}
-use Rattle.std.specs.Prelude.{Result, Ok, Err, min}
+use Rattle.std.proofs.Common.{◌≡◌, ◌⊎◌, ◌∙◌, ◌+◌, ◌-◌, ◌∷◌, [], ℕ, Bool, true, false, List, inl, inr, refl, ap, sym, arith}
+use Rattle.std.specs.Prelude.{Result, Ok, Err}
 use Rattle.std.proofs.Math.Nat.{min-le_left}
 use Rattle.std.proofs.lemmas.Bool.{false≢true}
 use Rattle.mscp_controller.specs.Holdings.{Holdings}
@@ -8,7 +8,6 @@ use Rattle.mscp_port.specs.declared.action.Outcome.{Outcome}
 use Rattle.mscp_port.specs.declared.action.Outcome.TheVariants as outcomes
 use Rattle.mscp_port.specs.declared.action.Unasked.{Unasked}
 use Rattle.mscp_port.specs.declared.hardware.Hardware.{Hardware}
-use Rattle.mscp_port.specs.declared.port.Outgoing.{Outgoing}
 use Rattle.mscp_port.specs.declared.port.Port.{Port}
 use Rattle.mscp_port.specs.declared.slot.Descriptor.{Descriptor}
 use Rattle.mscp_port.specs.declared.stage.Stage.TheVariants as stages
@@ -18,7 +17,7 @@ use Rattle.mscp_port.specs.Acted.{WritesOut}
 use Rattle.mscp_port.specs.Calls.{Goes, HoldsPacket, IsMadeOf}
 use Rattle.mscp_port.specs.Departures.{IsForgotten, IsWritten, Told, ends_in}
 use Rattle.mscp_port.specs.Histories.{Answered, Becomes, Call, WriteIp, ReadIp, WriteSa, Next, WasRead, Went, LookAgain, Tick, Change}
-use Rattle.mscp_port.specs.Packets.{credits_told, credits_with}
+use Rattle.mscp_port.specs.Packets.{credits_told}
 
 -- ---- a call
 
@@ -77,17 +76,6 @@ counts (Change there protected unit result) old new r =
 
 -- ---- the law
 
--- a packet tells as many as it counts off, and for an end one more
-by_kind : (u c m e : ℕ) (ended : Bool) → c + u ≡ m + e
-    → (c + cond ended (1 + min u 14) 0) + (u - (cond ended (1 + min u 14) 0 - 1)) ≡ m + (e + cond ended 1 0)
-by_kind u c m e true h = let least : min u 14 ≤ u = min-le_left u 14 in omega (arith, h, least)
-by_kind u c m e false h = omega (arith, h)
-
-packet_counts : (u c m e : ℕ) (o : Option Outgoing) → c + u ≡ m + e
-    → (c + credits_with u o) + (u - (credits_with u o - 1)) ≡ m + (e + ends_in o)
-packet_counts u c m e None h = omega (arith, h)
-packet_counts u c m e (Some o) h = by_kind u c m e o.is_end h
-
 -- what is told of a packet that was written
 written : {K : Type 0} (call : Call) (old new : Port K) → IsWritten call old → Becomes call old new
     → (slot : Descriptor) × WritesOut outcomes.Done slot old new
@@ -112,10 +100,7 @@ after_written : {K : Type 0} (old new : Port K) (slot : Descriptor) (told ended 
     → WritesOut outcomes.Done slot old new
     → told + old.untold ≡ old.more + ended
     → (told + credits_told old) + new.untold ≡ new.more + (ended + ends_in old.outgoing)
-after_written old new slot told ended w e =
-    ap (λ (p : Port _). told + credits_told old + p.untold) (w.done refl)
-    ∙ packet_counts old.untold told old.more ended old.outgoing e
-    ∙ ap (λ m. m + (ended + ends_in old.outgoing)) (sym (ap (λ p. p.more) (w.done refl)))
+after_written old new slot told ended w e = search (arith, min-le_left)
 
 pub tells_its_credits : {K : Type 0} (hardware : Hardware) (credits : ℕ) (controller : Holdings K) (start p : Port K)
     (calls : List Call) (told ends : ℕ) → IsMadeOf hardware credits controller start → (a : Answered start calls p)

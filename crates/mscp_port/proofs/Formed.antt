@@ -1,6 +1,5 @@
 -- Bytes that are a port's: those in front of the controller's are those that it is saved as.
 use Rattle.std.proofs.Common.{◌≡◌, ◌≤◌, ◌+◌, ◌-◌, ◌++◌, ℕ, List, Bool, false, take, drop, length, nat_eq, refl, ap, ◌∙◌, arith}
-use Rattle.std.specs.Prelude.{slice_index}
 use Rattle.std.specs.Str.{bytes_eq}
 use Rattle.std.proofs.lemmas.Bool.{false≢true}
 use Rattle.std.proofs.lemmas.List.{append_cancel_right, length-drop, length-take, take-append-drop}
@@ -8,12 +7,8 @@ use Rattle.std.proofs.lemmas.Slice.Eq.{bytes_eq-Decides}
 use Rattle.mscp_controller.specs.Holdings.{Holdings}
 use Rattle.mscp_saved.specs.Saved.{saved_bytes as controller_bytes}
 use Rattle.mscp_saved.proofs.Parted.{parts_long}
-use Rattle.mscp_port.specs.Restored.{IsFramed, buffer_count, buffer_in, buffer_place, controller_place, front_in, outgoing_in, port_in, text_count, text_in, told_front}
+use Rattle.mscp_port.specs.Restored.{IsFramed, buffer_count, buffer_in, buffer_place, controller_place, front_in, port_in, text_count, told_front}
 use Rattle.mscp_port.specs.Saved.{front_bytes, length_before, outgoing_text, saved_bytes}
-
--- what goes out is no longer than what is told of it
-pub text_short : (byte : ℕ) (text : List ℕ) → length (outgoing_text (outgoing_in byte text)) ≤ length text
-text_short byte text = search (arith, nat_eq byte 0, nat_eq byte 2)
 
 -- how long all is
 pub total_is : (b : List ℕ) → IsFramed b
@@ -22,7 +17,7 @@ pub total_is : (b : List ℕ) → IsFramed b
 total_is b f = search (arith, parts_long buffer_in 20 (buffer_count b) (drop (buffer_place b) b))
 
 pub text_told : (b : List ℕ) → IsFramed b → length (outgoing_text (front_in b).outgoing) ≤ text_count b
-text_told b f = search (arith, text_short (slice_index b 69) (text_in b), length-take (text_count b) (drop 280 b))
+text_told b f = grind (arith, length-take, nat_eq)
 
 -- the same bytes behind two lists leave them the same, or other
 module _ (told front rest saved b : List ℕ) (whole : saved ≡ told ++ rest) (parts : front ++ rest ≡ b) where

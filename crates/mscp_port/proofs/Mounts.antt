@@ -1,6 +1,5 @@
 -- What a host has made of a unit is what a port holds of its volume.
-use Rattle.std.proofs.Common.{◌≡◌, ◌≢◌, ◌⊎◌, ◌∙◌, ◌<◌, ◌≤◌, ◌/◌, ◌%◌, ℕ, Bool, true, false, cond, List, [], ◌∷◌, Option, None, Some, inl, inr, refl, ap, sym, subst, length, set, arith}
-use Rattle.std.specs.Prelude.{nat_eq}
+use Rattle.std.proofs.Common.{◌≡◌, ◌≢◌, ◌⊎◌, ◌∙◌, ◌<◌, ◌≤◌, ℕ, Bool, true, false, List, [], ◌∷◌, Option, None, Some, inl, inr, refl, ap, sym, subst, length, set, arith}
 use Rattle.std.proofs.lemmas.Bool.{cases_eq, cases_lt, false≢true}
 use Rattle.std.proofs.lemmas.List.{get_or-set_other, get_or-set_same, get_or_past, length-set}
 use Rattle.mscp_drive.specs.Shape.{Shape}
@@ -18,10 +17,10 @@ use Rattle.mscp_port.specs.Blocks.{kept_of, writes}
 use Rattle.mscp_port.specs.Calls.{IsMadeOf}
 use Rattle.mscp_port.specs.Departures.{IsForgotten}
 use Rattle.mscp_port.specs.Histories.{Answered, Becomes, Call, WriteIp, ReadIp, WriteSa, Next, WasRead, Went, LookAgain, Tick, Change}
-use Rattle.mscp_port.specs.Mounted.{Ends, IsChangeAt, IsMounted, IsRemounted, Mount, flagged, mount_after, offline}
+use Rattle.mscp_port.specs.Mounted.{Ends, IsChangeAt, IsMounted, IsRemounted, Mount, mount_after, offline}
 use Rattle.mscp_port.specs.Moved.{GoesOnWithBlock, HeedsStep, end_brought, place_heeded}
 use Rattle.mscp_port.specs.Outgoings.{IsNews, Says, news_place}
-use Rattle.mscp_port.specs.Volumes.{MayMove, no_volume, place_in, protected_by, volume_at, volume_changed, volume_heeded, volumes_changed, volumes_heeded}
+use Rattle.mscp_port.specs.Volumes.{MayMove, no_volume, place_in, volume_at, volume_changed, volume_heeded, volumes_changed, volumes_heeded}
 use Rattle.mscp_port.proofs.Loads.{looks_or_not}
 
 -- ---- a volume
@@ -29,17 +28,10 @@ use Rattle.mscp_port.proofs.Loads.{looks_or_not}
 mount_of : Volume → Mount
 mount_of v = record { volume = v.mounted; is_protected = v.is_protected_by_host }
 
-either_of : (b : Bool) (v w : Volume) → mount_of (cond b v w) ≡ cond b (mount_of v) (mount_of w)
-either_of b v w = grind arith
-
-flags_of : (b : Buffer) (v : Volume) → mount_of (protected_by b v) ≡ flagged b (mount_of v)
-unfolding mount_of
-flags_of b v = either_of (nat_eq (b.modifiers / 4 % 2) 1) _ v
-
 heeded_of : (code : ℕ) (kept : Option Buffer) (v : Volume)
     → mount_of (volume_heeded code kept v) ≡ mount_after code kept (mount_of v)
 unfolding mount_of
-heeded_of code kept v = grind (arith, either_of, mount_of, flags_of)
+heeded_of code kept v = search (arith, mount_of)
 
 -- ---- the volumes
 

@@ -1,6 +1,6 @@
 -- A command that is aborted is taken out of those that wait, and no other.
 use Rattle.std.proofs.Common.{◌≡◌, ◌≢◌, ⊎_elim, ℕ, ◌+◌, ◌<◌, ◌≤◌, Bool, true, false, cond, not, List, [], ◌∷◌, ◌++◌, length, ap, sym, ◌∙◌, arith}
-use Rattle.std.specs.Prelude.{filter, find, option_to_list, remove, slice_index_or, unwrap_or, is_some, if◌then◌else◌, Option, Some, None}
+use Rattle.std.specs.Prelude.{filter, find, option_to_list, remove, slice_index_or, is_some, if◌then◌else◌, Option, Some, None}
 use Rattle.std.specs.List.{AllByRecursion, position}
 use Rattle.std.proofs.lemmas.Bool.{false≢true, true≢false}
 use Rattle.std.proofs.lemmas.List.{get_or_at, length-append, map-append}
@@ -10,7 +10,7 @@ use Rattle.mscp_queue.specs.Kept.{AreApart, IsHeld, IsKept, IsStillServable, nam
 use Rattle.mscp_queue.specs.declared.name.Name.{Name}
 use Rattle.mscp_queue.specs.Serving.{begun_without, is_begun}
 use Rattle.mscp_queue.proofs.Begun.{still_aborted, still_begun}
-use Rattle.mscp_queue.specs.Records.{Record, has_name, is_in_service, name_of, no_record, record_at, without}
+use Rattle.mscp_queue.specs.Records.{Record, has_name, is_in_service, name_of, record_at, without}
 use Rattle.mscp_queue.proofs.Lists.{every_kept, every_weaker, fewer, filter_all, filter_none, filter_one}
 use Rattle.mscp_queue.proofs.Named.{is_differ, same_is}
 use Rattle.mscp_queue.proofs.Mapped.{removed_at}
@@ -39,10 +39,6 @@ cut_by : (gone : Name) (rs A : List Record) (r : Record) (B : List Record) → A
 cut_by gone rs A r B apart f =
     search (arith, map-append name_of A (r ∷ B), same_is (name_of r) gone f.passed, others, apart_behind)
 
-without_cut : (gone : Name) (rs A : List Record) (r : Record) (B : List Record) → Cut gone rs A r B
-    → without gone rs ≡ A ++ B
-without_cut gone rs A r B k = search (arith, not, filter_all, every_weaker, filter-append)
-
 -- ---- the one that is found
 
 -- what is taken out where a record is found at a place
@@ -55,32 +51,22 @@ pub record Aborts (gone : Name) (rs : List Record) (place : ℕ) : Type 0 where
 pub aborts_at : (gone : Name) (rs : List Record) (place : ℕ) → AreApart (names rs)
     → position (has_name gone) rs ≡ Some place → Aborts gone rs place
 aborts_at gone rs place apart h =
-    ⊎_elim
-    (λ none. absurd (false≢true (ap is_some (sym (position_none (has_name gone) rs none) ∙ h))))
-    (λ some.
-    let A = some.0 in
-    let r = some.1 in
-    let B = some.2 in
-    let f = some.3 in
-    let k = cut_by gone rs A r B apart f in
-    let first : length A ≡ place = ap (λ o. unwrap_or o place)
-    (sym (position_first (has_name gone) A r B f.before f.passed)
-    ∙ (ap (position (has_name gone)) (sym f.is) ∙ h)) in
-    let at : record_at rs place ≡ r = ap (λ zs. record_at zs place) f.is ∙ get_or_at A r B no_record place first in
-    record {
-      inside = omega (arith, first, ap length f.is, length-append A (r ∷ B));
-      found = ap (find (has_name gone)) f.is
-          ∙ (find_first (has_name gone) A r B f.before f.passed ∙ ap Some (sym at));
-      left = ap (λ zs. remove zs place) f.is ∙ (removed_at A r B place first ∙ sym (without_cut gone rs A r B k));
-      count = omega (
-        arith,
-        ap length f.is,
-        length-append A (r ∷ B),
-        ap length (without_cut gone rs A r B k),
-        length-append A B,
-      );
-    })
-    (find_cases (has_name gone) rs)
+    search (
+      arith,
+      false≢true,
+      position_none,
+      cut_by,
+      position_first,
+      get_or_at,
+      length-append,
+      find_first,
+      removed_at,
+      find_cases,
+      not,
+      filter_all,
+      every_weaker,
+      filter-append,
+    )
 
 -- nothing is taken out where none is found
 pub record AbortsNone (gone : Name) (rs : List Record) : Type 0 where

@@ -93,12 +93,6 @@ place_of {dirty} {ds} {rs} {cs} name h =
 
 -- ---- a command comes, or leaves
 
-pub candidates_pushed : {dirty : ℕ} {ds : List Drive} {rs rs' : List Record} {cs cs' : List Choice} (r : Record)
-    (c : Choice)
-    → AreCandidates dirty ds rs cs → c ≡ choice_in ds r → cs' ≡ cs ++ c ∷ [] → rs' ≡ rs ++ r ∷ []
-    → AreCandidates dirty ds rs' cs'
-candidates_pushed {dirty} {ds} {rs} {rs'} {cs} {cs'} r c h is e f = search (arith, map-append)
-
 pub candidates_left : {dirty : ℕ} {ds : List Drive} {rs rs' : List Record} {cs cs' : List Choice} (place : ℕ)
     → AreCandidates dirty ds rs cs → cs' ≡ take place cs ++ drop (place + 1) cs
     → rs' ≡ take place rs ++ drop (place + 1) rs → AreCandidates dirty ds rs' cs'
@@ -121,7 +115,7 @@ pub line_with : {dirty dirty' : ℕ} {ds : List Drive} {rs rs' : List Record} {c
     (c : Choice)
     → AreCandidates dirty ds rs cs → c ≡ choice_in ds r → cs' ≡ cs ++ c ∷ [] → dirty' ≡ dirty → rs' ≡ rs ++ r ∷ []
     → AreCandidates dirty' ds rs' cs'
-line_with {dirty} {dirty'} {ds} {rs} {rs'} {cs} {cs'} r c h is e s f = search (arith, candidates_pushed r c h is e f)
+line_with {dirty} {dirty'} {ds} {rs} {rs'} {cs} {cs'} r c h is e s f = search (arith, map-append)
 
 pub none_listed : {dirty : ℕ} {ds : List Drive} {rs : List Record} {cs : List Choice} → rs ≡ [] → cs ≡ []
     → AreCandidates dirty ds rs cs

@@ -35,15 +35,12 @@ unfolding total
 total_none zero = refl
 total_none (suc w) = let rest = total_none w in omega (arith, rest)
 
-same_suc : (k s : ℕ) → nat_eq (suc k) (suc s) ≡ nat_eq k s
-same_suc k s = grind (arith, same_or, nat_eq, eq-eqb, ne_eqb)
-
 total_one : (w s : ℕ) → s < w → total w (λ k. bit (nat_eq k s)) ≡ 1
 unfolding total
 total_one zero s l = absurd (omega (arith, l))
 total_one (suc w) zero l = search (arith, total_none w, total_on, nat_eq, ne_eqb)
 total_one (suc w) (suc s) l =
-    search (arith, nat_eq 0 (suc s), total_one w s (omega (arith, l)), ne_eqb, total_on, same_suc)
+    search (arith, nat_eq 0 (suc s), total_one w s (omega (arith, l)), ne_eqb, total_on, same_or, nat_eq, eq-eqb)
 
 -- slots that stand once are as many as there are
 total_has : (w : ℕ) (xs : List ℕ) → 64 ≤ w → AreSlots xs → total w (λ k. bit (has k xs)) ≡ length xs

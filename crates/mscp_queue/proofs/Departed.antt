@@ -105,10 +105,6 @@ without_none n (x ∷ xs) e =
     ap (λ b. if_not b x (without n xs)) (eq_false x n (not_here n x xs e))
     ∙ ap (λ xs. x ∷ xs) (without_none n xs (not_behind n x xs e))
 
-without_cuts : (front back : List ℕ) (n : ℕ) → has n front ≡ false → has n back ≡ false
-    → without n (front ++ n ∷ back) ≡ front ++ back
-without_cuts front back n e f = grind (arith, without_append, without, without_none, eq_true, if_not)
-
 -- a slot stands once
 pub once_in : (front : List ℕ) (n : ℕ) (back : List ℕ) → AreSlots (front ++ n ∷ back)
     → (has n front ≡ false) × (has n back ≡ false)
@@ -130,5 +126,9 @@ masks_left kinds front back m m' n masks low l =
       arith,
       once_in front n back masks.apart,
       masks_without kinds (front ++ n ∷ back) m m' n masks low l,
-      without_cuts,
+      without_append,
+      without,
+      without_none,
+      eq_true,
+      if_not,
     )

@@ -26,9 +26,6 @@ below_64 : (k : ℕ) (front back : List ℕ) → AreSlots (front ++ back) → ha
 below_64 k [] back a e = let bad = ap bit e in absurd (omega (arith, bad))
 below_64 k (x ∷ front) back a e = search (arith, nat_eq k x, eqb-true k x, below_64 k front back a.2)
 
-and_bit : (a b : Bool) → min (bit a) (bit b) ≡ bit (a && b)
-and_bit a b = grind arith
-
 -- where each of some slots fails a test, no slot is one of them and passes it
 none_has : (test : ℕ → Bool) (xs : List ℕ) → list_all (λ t. not (test t)) xs ≡ true → (k : ℕ)
     → (has k xs && test k) ≡ false
@@ -83,7 +80,7 @@ module _ (m : ℕ) (front : List ℕ) (test : ℕ → Bool) (small : m < 2 ^ 64)
 -- two masks joined
 joined : (a b : ℕ) (p q r : ℕ → Bool) → IsMaskOf a p → IsMaskOf b q → ((k : ℕ) → (p k && q k) ≡ r k)
     → IsMaskOf (bit_and a b) r
-joined a b p q r f g h = search (arith, bit_at_and, min, and_bit)
+joined a b p q r f g h = search (arith, bit_at_and, min)
 
 for_sequential : (f o n q ys : Bool) → (f ≡ true → o ≡ true) → ys ≡ true → (f && (o && n)) ≡ (f && (n && (q || ys)))
 for_sequential f o n q ys h5 h6 = grind arith

@@ -1,5 +1,5 @@
 -- The bits of a mask as the lanes of a vector.
-use Rattle.std.proofs.Common.{◌≡◌, ℕ, ◌-◌, ◌*◌, ◌^◌, ◌<◌, List, [], ◌∷◌, Bool, false, cond, nat_eq, ltb, min, length, get_or, replicate, sym, ap, ◌∙◌, arith, bit_and}
+use Rattle.std.proofs.Common.{◌≡◌, ℕ, ◌-◌, ◌<◌, List, [], ◌∷◌, Bool, false, cond, nat_eq, ltb, min, length, get_or, replicate, sym, ap, ◌∙◌, arith, bit_and}
 use Rattle.std.specs.Int.{bit_at}
 use Rattle.std.specs.Simd.Lanes.{top, sel_l, zip2}
 use Rattle.std.proofs.lemmas.Bool.{eq-eqb, ne_eqb}
@@ -8,19 +8,8 @@ use Rattle.std.proofs.lemmas.Bool.Decides.{nat_tests}
 use Rattle.std.proofs.lemmas.Simd.{length-sel_l, get_or-sel_l, length-zip2, get_or-zip2, get_or-replicate}
 use Rattle.mscp_queue.specs.Lanes.{HasLanes, lowered}
 
--- a lane of a comparison, as its top bit
-top_of : (b : Bool) → top 63 (cond b 18446744073709551615 0) ≡ b
-top_of b = grind arith
-
 abbrev pub test_lane : ℕ → ℕ → Bool
 test_lane bits place = top 63 (cond (nat_eq (bit_and bits place) place) 18446744073709551615 0)
-
-times_eq : (b place : ℕ) → b < 2 → 0 < place → nat_eq (b * place) place ≡ nat_eq b 1
-times_eq b place h2 h3 = grind (arith, ne_eqb, eq-eqb)
-
--- the bit of a place is set exactly where it stands in the mask
-lane_bit : (bits k place : ℕ) → place ≡ 2 ^ k → 0 < place → test_lane bits place ≡ nat_eq (bit_at bits k) 1
-lane_bit bits k place is some = grind (arith, top_of, nat_eq, bit_and, and_pow, times_eq, bit_at-lt)
 
 abbrev pub eight_tests : ℕ → List Bool
 eight_tests bits = test_lane bits 1 ∷ test_lane bits 2 ∷ test_lane bits 4 ∷ test_lane bits 8
@@ -28,7 +17,7 @@ eight_tests bits = test_lane bits 1 ∷ test_lane bits 2 ∷ test_lane bits 4 �
 
 -- the bit of each lane
 pub bit_of_lane : (bits k : ℕ) → k < 8 → get_or (eight_tests bits) k false ≡ nat_eq (bit_at bits k) 1
-bit_of_lane bits k h2 = grind (arith, lane_bit)
+bit_of_lane bits k h2 = search (arith, nat_eq, bit_and, and_pow, bit_at-lt, ne_eqb, eq-eqb)
 
 chosen : (m x y a : ℕ) → (m ≡ 1 → x ≡ y) → cond (nat_eq m 1) x a ≡ cond (nat_eq m 1) y a
 chosen m x y a h = grind (arith, nat_tests, h)

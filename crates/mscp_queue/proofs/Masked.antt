@@ -164,10 +164,6 @@ pub masks_served : (kinds kinds' : ℕ → Kind) (order : List ℕ) (m : Masks) 
 masks_served kinds kinds' order m v n masks in_order same drive ordered served =
     search (arith, same_or, mask_same, nat_eq)
 
-pub masks_same : (kinds kinds' : ℕ → Kind) (order : List ℕ) (m : Masks) → ((k : ℕ) → kinds' k ≡ kinds k)
-    → AreMasks kinds order m → AreMasks kinds' order m
-masks_same kinds kinds' order m same masks = subst (λ f. AreMasks f order m) (λ i k. sym (same k) i) masks
-
 -- a slot of the order is below 64, and the order is cut at it
 pub slot_low : (order : List ℕ) (place : ℕ) → AreSlots order → place < length order → get_or order place 0 < 64
 slot_low (s ∷ order) (suc place) a l = slot_low order place a.2 (omega (arith, l))

@@ -53,10 +53,6 @@ none_serving rs h =
     ∙ (ap (position is_in_service) (sym f.is) ∙ h)))))
     (find_cases is_in_service rs)
 
--- and where all are idle, none is
-pub idle_found : (rs : List Record) → All (λ r. r.done ≡ 0) rs → position is_in_service rs ≡ None
-idle_found rs h = search (arith, position_none, every_weaker, recursion_from_All)
-
 -- where none is, the record that is picked is
 pub picked_next : (picks : List Choice → ℕ → Type 0) (budget : ℕ) (ds : List Drive) (rs : List Record)
     (begun : Option Name) (place : ℕ) → begun ≡ None → position is_in_service rs ≡ None → place < length rs
@@ -93,20 +89,11 @@ name_found rs name place None a l e h =
     (find_cases (has_name name) rs)
 name_found rs name place (Some other) a l e h = search (arith, found_at (has_name name) rs other (sym h), once, same_is)
 
--- the record of what was begun is next
-begun_next : (picks : List Choice → ℕ → Type 0) (budget : ℕ) (ds : List Drive) (rs : List Record) (begun : Option Name)
-    (name : Name) (place : ℕ) → AreApart (names rs) → begun ≡ Some name → IsStillServable budget rs name
-    → position (has_name name) rs ≡ Some place → IsNext picks budget ds rs begun place
-begun_next picks budget ds rs begun name place a b s h = grind (arith, found_at, same_is, once, some_is, none_begun)
-
 -- the record at the place that is known of what was begun is next
 pub known_next : (picks : List Choice → ℕ → Type 0) (budget : ℕ) (ds : List Drive) (rs : List Record) (place : ℕ)
     → AreApart (names rs) → place < length rs → IsStillServable budget rs (name_of (record_at rs place))
     → IsNext picks budget ds rs (Some (name_of (record_at rs place))) place
-known_next picks budget ds rs place a l s =
-    let name = name_of (record_at rs place) in
-    begun_next picks budget ds rs (Some name) name place a refl s
-    (name_found rs name place (position (has_name name) rs) a l refl refl)
+known_next picks budget ds rs place a l s = search (arith, name_found, found_at, same_is, once, some_is, none_begun)
 
 -- the place of the one in service
 pub serving_found : (rs : List Record) (place : ℕ) → length (filter is_in_service rs) ≤ 1 → place < length rs
@@ -158,7 +145,7 @@ serving_is_next picks budget ds rs begun place one l h still =
 pub nobody_found : (rs : List Record) (serving : Option ℕ) → serving ≡ None
     → (is_some serving ≡ false → All (λ r. r.done ≡ 0) rs)
     → position is_in_service rs ≡ None
-nobody_found rs serving e h = idle_found rs (h (ap is_some e))
+nobody_found rs serving e h = search (arith, position_none, every_weaker, recursion_from_All)
 
 -- ---- a place that is known, once a command left
 

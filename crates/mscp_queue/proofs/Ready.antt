@@ -7,7 +7,6 @@ use Rattle.std.proofs.lemmas.Bool.{false≢true, lt-ltb, ltb-true}
 use Rattle.std.proofs.lemmas.List.{get_or-map, get_or_append_left, get_or_at, length-append, length-map, length-take-le}
 use Rattle.std.proofs.lemmas.List.Elements.{All-from_recursion}
 use Rattle.mscp_packet.specs.declared.command.Command.{Command}
-use Rattle.mscp_packet.specs.declared.end.End.{End}
 use Rattle.mscp_queue.specs.declared.target.Target.{Target}
 use Rattle.mscp_drive.specs.Shape.{Shape}
 use Rattle.mscp_events.specs.declared.block.Block.{Block}
@@ -18,9 +17,9 @@ use Rattle.mscp_queue.specs.Targets.{target_of, targets_of, no_target}
 use Rattle.mscp_queue.specs.Waiters.{Waiters}
 use Rattle.mscp_queue.specs.Kept.{ArePassedInOrder, CanBeShown, IsHeld, IsReady, IsWaitable, begun_name, place_served, place_without, units_of}
 use Rattle.mscp_queue.specs.Names.{name_on}
-use Rattle.mscp_queue.specs.Records.{Record, advanced, drive_at, fresh_record, has_name, is_in_service, is_unstarted, no_record, passed_by, record_at, remains, step_charge}
+use Rattle.mscp_queue.specs.Records.{Record, advanced, drive_at, fresh_record, has_name, is_in_service, is_unstarted, no_record, passed_by, record_at, step_charge}
 use Rattle.mscp_queue.specs.Serving.{IsServable, end_given, waiting_after}
-use Rattle.mscp_queue.proofs.Targets.{targets_cut, targets_ended, targets_kept, targets_pushed, place_same}
+use Rattle.mscp_queue.proofs.Targets.{targets_cut, targets_kept, targets_pushed, place_same}
 use Rattle.mscp_queue.proofs.Drives.{drive_place, known_at}
 use Rattle.mscp_queue.proofs.Held.{held_pushed, others_idle}
 use Rattle.mscp_queue.proofs.Lists.{every_from, pairs_append, pairs_cut}
@@ -28,6 +27,10 @@ use Rattle.mscp_queue.proofs.Nexts.{held_left, served_without, waits_without}
 use Rattle.mscp_queue.proofs.Ordered.{passed_left}
 use Rattle.mscp_queue.proofs.Placed.{cut_at}
 use Rattle.mscp_queue.proofs.Turns.{StepMade, held_step, next_turn, units_step}
+use Rattle.std.proofs.lemmas.List.{map-append}
+use Rattle.mscp_queue.proofs.Placed.{map_map}
+use Rattle.std.proofs.lemmas.List.{take-map}
+use Rattle.std.proofs.lemmas.List.{drop-map}
 
 -- ---- the target of a command
 
@@ -174,7 +177,7 @@ targets_served : (us : List Shape) (rs new : List Record) (place charge : ℕ) (
     ++ (cond ends [] (advanced (record_at rs place) ∷ []) ++ drop (place + 1) rs)
     → cond ends (take place (targets_of us rs) ++ drop (place + 1) (targets_of us rs)) (targets_of us rs)
     ≡ targets_of us new
-targets_served us rs new place charge ends h6 h7 = grind (arith, targets_ended, targets_kept)
+targets_served us rs new place charge ends h6 h7 = search (arith, targets_kept, map-append, map_map, take-map, drop-map)
 
 serving_served : (rs new : List Record) (place charge : ℕ) (ends : Bool) → place < length rs
     → new ≡ map (passed_by charge) (take place rs)
@@ -207,13 +210,10 @@ ready_step {room} {longest} {place} {w} {new} {ds} {ds'} {begun} {serving} {serv
     served_if true = refl
     served_if false = refl
 
-remains_if : (r : Record) (o : Option End) → cond (is_some o) [] (advanced r ∷ []) ≡ remains r o
-remains_if r o = grind arith
-
 -- what a step leaves of those that wait
 pub left_is : (k : Block) (place : ℕ) (rs : List Record) (d : Drive) (ends : Bool)
     → ends ≡ is_some (end_given k d (record_at rs place))
     → map (passed_by (step_charge (record_at rs place))) (take place rs)
     ++ (cond ends [] (advanced (record_at rs place) ∷ []) ++ drop (place + 1) rs)
     ≡ waiting_after k d rs place
-left_is k place rs d ends e = search (arith, remains_if)
+left_is k place rs d ends e = search arith

@@ -25,10 +25,6 @@ any_at : {X : Type 0} (p : X → Bool) (xs : List X) (k : ℕ) (d : X) → k < l
 any_at p (x ∷ xs) (suc k) d l e = search (arith, any_at p xs k d (omega (arith, l)) e)
 any_at p xs k d h4 h5 = search arith
 
-none_at : {X : Type 0} (p : X → Bool) (xs : List X) (k : ℕ) (d : X) → k < length xs → list_any p xs ≡ false
-    → p (get_or xs k d) ≡ false
-none_at p xs k d l e = grind (arith, false≢true, any_at)
-
 some_same : {X : Type 0} {x y : X} → Some x ≡ Some y → x ≡ y
 some_same {x = x} e = ap (λ o. unwrap_or o x) e
 
@@ -95,7 +91,7 @@ begun_back budget rs (Some name) place still some none =
 
 -- where nobody is in service nobody had a step
 idle_where : (rs : List Record) → is_some (position is_in_service rs) ≡ false → All (λ r. r.done ≡ 0) rs
-idle_where rs e = search (arith, position_any is_in_service rs, none_at, ltb-false)
+idle_where rs e = search (arith, position_any is_in_service rs, ltb-false, false≢true, any_at)
 
 pub ready_restored : {room budget longest : ℕ} {w : Waiters} {rs : List Record} {ds : List Drive}
     {begun : Option Name} {place serving : Option ℕ}

@@ -5,19 +5,14 @@ use Rattle.std.proofs.lemmas.Bool.{false≢true}
 use Rattle.mscp_packet.specs.declared.command.Command.{Command}
 use Rattle.mscp_packet.specs.declared.command.Order.{Order}
 use Rattle.mscp_packet.specs.declared.end.BodyKind.{BodyKind}
-use Rattle.mscp_packet.specs.declared.end.BodyKind.TheVariants as kinds
 use Rattle.mscp_packet.specs.Ends.{IsOfKind, kind_of_body, kind_of_code, refused_body, zero_body}
 use Rattle.mscp_drive.specs.Shape.{Shape}
 use Rattle.mscp_events.specs.declared.block.Block.{Block}
 use Rattle.mscp_queue.specs.declared.drive.Drive.{Drive}
 use Rattle.mscp_queue.specs.Orders.{endcode, is_move, is_sequential}
-use Rattle.mscp_queue.specs.Outcomes.{IsCoded, aborted_end, moved_body, online_body, outcome_at, outcome_body}
+use Rattle.mscp_queue.specs.Outcomes.{IsCoded, aborted_end, moved_body, outcome_at, outcome_body}
 use Rattle.mscp_queue.specs.Records.{Record}
 use Rattle.mscp_queue.specs.Serving.{end_given}
-
--- what is sequential or a transfer has an endcode
-pub waitable_coded : (o : Order) → (is_sequential o || is_move o) ≡ true → IsCoded o
-waitable_coded o h1 = grind (arith, false≢true)
 
 of_kind : (o : Option BodyKind) → is_some o ≡ true → o ≡ Some (kind_of_body (zero_body o))
 of_kind o h1 = grind (arith, false≢true)
@@ -34,12 +29,9 @@ moved_kind o good h2 = grind (arith, refused_kind)
 pub aborted_kind : (c : Command) (good : ℕ) → IsCoded c.order → IsOfKind (aborted_end c good)
 aborted_kind c good h = moved_kind c.order good h
 
-online_kind : (s : Shape) (status : ℕ) → Some kinds.Online ≡ Some (kind_of_body (online_body s status))
-online_kind s status = search arith
-
 outcome_kind : (s : Shape) (status good : ℕ) (o : Order) → IsCoded o
     → kind_of_code (endcode o) ≡ Some (kind_of_body (outcome_body s status o good))
-outcome_kind s status good o h4 = grind (arith, online_kind, moved_kind)
+outcome_kind s status good o h4 = search (arith, moved_kind)
 
 -- and one that a step ends
 pub ended_kind : (s : Shape) (online : Bool) (c : Command) (good : ℕ) (k : Block) → IsCoded c.order
@@ -51,4 +43,4 @@ ended_kind s online c good k h = outcome_kind s _ _ c.order h
 -- a step that ends a command that may wait gives it an end of its kind
 pub given_kind : (k : Block) (d : Drive) (r : Record)
     → (is_sequential r.command.order || is_move r.command.order) ≡ true → IfSome (end_given k d r) IsOfKind
-given_kind k d r h = grind (arith, ended_kind, waitable_coded)
+given_kind k d r h = search (arith, ended_kind, false≢true)

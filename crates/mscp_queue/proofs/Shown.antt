@@ -15,7 +15,7 @@ use Rattle.mscp_queue.specs.Targets.{no_target}
 use Rattle.mscp_queue.specs.Slots.{AreKept, held, is_unfenced, kind_at, kind_of, shown, slot_at, with_due, with_item}
 use Rattle.mscp_queue.proofs.Freed.{free_tells}
 use Rattle.mscp_queue.proofs.Departed.{masks_left}
-use Rattle.mscp_queue.proofs.Masked.{has_other, masks_pushed, masks_same, masks_served, not_behind, not_here, off_bit, same_or, slot_has, slot_low}
+use Rattle.mscp_queue.proofs.Masked.{has_other, masks_pushed, masks_served, not_behind, not_here, off_bit, same_or, slot_has, slot_low}
 use Rattle.mscp_queue.proofs.Placed.{cut_at}
 
 module _ (rs : List Record) (own : List Target) (ds : List ℕ) (n : ℕ) (r : Record) (a : Target) (d : ℕ) where
@@ -223,7 +223,7 @@ pub kept_passed : {rs : List Record} {own : List Target} {order : List ℕ} {m :
     (other : Record)
     → AreKept rs own order m → n < 64 → r ≡ passed_by charge (get_or rs n other) → AreKept (set rs n r) own order m
 kept_passed {rs} {own} {order} {m} {n} {r} charge other kept low e =
-    grind (arith, get_or-set_same, get_or_default, length-set, masks_same, same_or, get_or-set_other)
+    search (arith, get_or-set_same, get_or_default, length-set, same_or, get_or-set_other)
 
 -- the bit of a command that was served before is set
 pub serves_since : {rs : List Record} {own : List Target} {order : List ℕ} {m : Masks} {n : ℕ} (other : Record)

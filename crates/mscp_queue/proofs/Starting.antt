@@ -121,18 +121,13 @@ pub record Looks (budget : ℕ) (ds : List Drive) (rs : List Record) (place : �
 appended : (places : List ℕ) (place : ℕ) (b : Bool) → length (places ++ cond b (place ∷ []) []) ≤ length places + 1
 appended places place b = grind (arith, length-append, append-nil)
 
-shown_more : (ds : List Drive) (rs : List Record) (places : List ℕ) (place : ℕ) (b : Bool)
-    → choices_at ds rs (places ++ cond b (place ∷ []) []) ≡ choices_at ds rs places
-    ++ cond b (choice_of (drive_at ds rs place) (record_at rs place) ∷ []) []
-shown_more ds rs places place b = grind (arith, map-append, append-nil)
-
 pub looks_more : {budget : ℕ} {ds : List Drive} {rs : List Record} {place : ℕ} {places places' : List ℕ}
     {choices choices' : List Choice} (b : Bool) → b ≡ is_open_at budget rs place
     → places' ≡ places ++ cond b (place ∷ []) []
     → choices' ≡ choices ++ cond b (choice_of (drive_at ds rs place) (record_at rs place) ∷ []) []
     → Looks budget ds rs place places choices → Looks budget ds rs (place + 1) places' choices'
 looks_more {budget} {ds} {rs} {place} {places} {places'} {choices} {choices'} b is put shown h =
-    grind (arith, filter-append, range_more, shown_more, appended)
+    search (arith, filter-append, range_more, appended, map-append, append-nil)
 
 pub looks_none : (budget : ℕ) (ds : List Drive) (rs : List Record) (places : List ℕ)
     (choices : List Choice) → places ≡ [] → choices ≡ [] → Looks budget ds rs 0 places choices

@@ -1,19 +1,19 @@
 -- The target of a command is where its drive and its first block are found.
-use Rattle.std.proofs.Common.{◌≡◌, ℕ, ◌+◌, ◌/◌, ◌<◌, ◌≤◌, true, cond, not, List, [], ◌∷◌, ◌++◌, map, take, drop, get_or, length, refl, ap, sym, ◌∙◌, subst, arith}
-use Rattle.std.specs.Prelude.{All, nat_eq, remove, unwrap_or}
+use Rattle.std.proofs.Common.{◌≡◌, ℕ, ◌+◌, ◌<◌, ◌≤◌, true, cond, not, List, [], ◌∷◌, ◌++◌, map, take, drop, get_or, length, refl, ap, sym, ◌∙◌, subst, arith}
+use Rattle.std.specs.Prelude.{All, nat_eq, unwrap_or}
 use Rattle.std.specs.List.{position}
 use Rattle.std.proofs.Math.Nat.{div-mul-le_self}
 use Rattle.std.proofs.lemmas.Nat.{le-div}
 use Rattle.std.proofs.lemmas.List.{drop-map, get_or-map, get_or_default, map-append, take-map}
 use Rattle.mscp_packet.specs.declared.command.Command.{Command}
-use Rattle.mscp_drive.specs.Shape.{Shape, cylinder_blocks, cylinder_of, last_cylinder}
+use Rattle.mscp_drive.specs.Shape.{Shape, cylinder_of, last_cylinder}
 use Rattle.mscp_queue.specs.declared.target.Target.{Target}
 use Rattle.mscp_queue.specs.declared.drive.Drive.{Drive}
 use Rattle.mscp_events.specs.declared.connection.Connection.{Connection}
 use Rattle.mscp_queue.specs.Targets.{IsTargeted, target_of, targets_of, unit_place}
 use Rattle.mscp_queue.specs.Drives.{IsOnUnit, drive_of, has_number}
 use Rattle.mscp_queue.specs.Kept.{CanBeShown, HasBlocks, is_known, units_of}
-use Rattle.mscp_queue.specs.Orders.{first_block, is_move}
+use Rattle.mscp_queue.specs.Orders.{first_block}
 use Rattle.mscp_queue.specs.Records.{Record, advanced, drive_at, fresh_record, no_record, passed_by, record_at}
 use Rattle.mscp_queue.proofs.Drives.{drive_place, known_at, known_inside}
 use Rattle.mscp_queue.proofs.Placed.{cut_at, map_map}
@@ -35,12 +35,9 @@ place_inside ds n h = subst (λ k. k < length ds) (place_same ds n) (known_insid
 
 -- ---- the cylinder of a block
 
-less_div : (a b k : ℕ) → a ≤ b → a / k ≤ b / k
-less_div a b k h3 = grind (arith, le-div, div-mul-le_self)
-
 -- no block of a unit lies past its last cylinder
 pub cylinder_within : (u : Shape) (block : ℕ) → block < u.size → cylinder_of u block ≤ last_cylinder u
-cylinder_within u block h = less_div _ _ (cylinder_blocks u) (omega arith)
+cylinder_within u block h = search (arith, le-div, div-mul-le_self)
 
 -- ---- a target
 
@@ -53,12 +50,6 @@ target_made ds command place block cylinder d known at first is =
     search (arith, place_same ds command.unit, known_at ds command.unit d known, found_unit command.unit ds)
 
 -- ---- the target of a waiting command that can be shown
-
--- a unit that has the blocks of a transfer has the first of them
-first_inside : (ds : List Drive) (r : Record) (at : ℕ) (d : Drive) → at ≡ drive_place ds r.command.unit
-    → d ≡ get_or ds at d → HasBlocks (units_of ds) r.command
-    → is_move r.command.order ≡ true → first_block r.command.order < d.unit.size
-first_inside ds r at d e found h m = grind (arith, inside_of, found_unit, some_steps, known_at)
 
 pub own_blocks : (ds : List Drive) (rs : List Record) (targets : List Target) (place : ℕ) (r : Record)
     → CanBeShown ds rs targets
@@ -94,9 +85,11 @@ led ds r at a d heads blocks is own found =
       led_place ds r,
       known_at ds r.command.unit d blocks.0,
       led_inside ds r,
-      first_inside ds r,
-      found_unit
-          r.command.unit ds,
+      found_unit r.command.unit ds,
+      inside_of,
+      found_unit,
+      some_steps,
+      known_at,
     )
 
 -- the place of the drive of a waiting command
@@ -140,17 +133,6 @@ leads_to ds rs targets place r at other d h l own is found =
     )
 
 -- ---- the targets stay those of the records
-
--- what is done with a record among others, it is done with its target
-pub target_removed : (us : List Shape) (rs : List Record) (place : ℕ)
-    → remove (targets_of us rs) place ≡ targets_of us (remove rs place)
-target_removed us rs place = search (arith, take-map, drop-map, map-append)
-
--- a step that ends the command of a record takes its target out
-pub targets_ended : (us : List Shape) (rs new : List Record) (place charge : ℕ)
-    → new ≡ map (passed_by charge) (take place rs) ++ drop (place + 1) rs → remove (targets_of us rs) place
-    ≡ targets_of us new
-targets_ended us rs new place charge e = search (arith, target_removed us rs place, map-append, map_map)
 
 -- and another leaves each target as it is
 pub targets_kept : (us : List Shape) (rs new : List Record) (place charge : ℕ) → place < length rs

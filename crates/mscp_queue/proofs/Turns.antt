@@ -1,6 +1,6 @@
 -- A step of the record that may be served next is a turn among the others, and leaves each head on its unit.
 use Rattle.std.proofs.Common.{◌≡◌, ℕ, suc, ◌+◌, ◌<◌, ◌≤◌, Bool, true, false, cond, not, ◌&&◌, List, [], ◌∷◌, ◌++◌, map, take, drop, length, refl, ap, sym, ◌∙◌, subst, arith, append_assoc}
-use Rattle.std.specs.Prelude.{filter, nat_eq, nat_le, if◌then◌else◌, is_some, slice_index_or, unwrap_or, Option, Some, None}
+use Rattle.std.specs.Prelude.{filter, nat_eq, nat_le, is_some, slice_index_or, unwrap_or, Option, Some, None}
 use Rattle.std.specs.List.{AllByRecursion}
 use Rattle.std.proofs.lemmas.List.Elements.{All-from_recursion, recursion_from_All}
 use Rattle.std.proofs.lemmas.Bool.{and_parts, eq-eqb, eqb-false, eqb-true, leb-true, ltb-true, ne_eqb, false≢true, true≢false}
@@ -136,9 +136,6 @@ units_same n ds l =
 some_is : {X : Type 0} (x y : X) → Some x ≡ Some y → x ≡ y
 some_is x y e = ap (λ o. unwrap_or o x) e
 
-when_some : (b : Bool) (n lbn : ℕ) → (if b then Some n else None) ≡ Some lbn → (b ≡ true) × (n ≡ lbn)
-when_some b n lbn h3 = grind (arith, some_is, false≢true)
-
 pub inside_of : (us : List Shape) (n : ℕ) (o : Order) → is_move o ≡ true → IsInside us n o
     → first_block o + order_weight o ≤ (unwrap_or (unit_found us n) one_block).size
 inside_of us n o h3 h4 = grind (arith, false≢true)
@@ -147,7 +144,7 @@ inside_of us n o h3 h4 = grind (arith, false≢true)
 pub touched_inside : (budget longest : ℕ) (ds : List Drive) (r : Record) (d : Drive) → d ≡ drive_of ds r.command.unit
     → IsKept budget longest (units_of ds) r
     → (lbn : ℕ) → touched d r ≡ Some lbn → lbn < d.unit.size
-touched_inside budget longest ds r d e k lbn h = grind (arith, found_unit, when_some, and_parts, inside_of)
+touched_inside budget longest ds r d e k lbn h = search (arith, found_unit, and_parts, inside_of, some_is, false≢true)
 
 -- ---- the whole step
 

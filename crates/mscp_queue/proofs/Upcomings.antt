@@ -1,19 +1,18 @@
 -- What is told of the step that is begun is told again.
 use Rattle.std.proofs.Common.{◌≡◌, ℕ, ◌+◌, ◌<◌, Bool, true, false, List, length, refl, ap, arith}
-use Rattle.std.specs.Prelude.{is_some, option_map, unwrap_or, IfSome, Option, Some, None, if◌then◌else◌}
+use Rattle.std.specs.Prelude.{option_map, IfSome, Some, None, if◌then◌else◌}
 use Rattle.std.specs.List.{position}
 use Rattle.std.proofs.lemmas.Bool.{and_parts, false≢true, lt-ltb}
 use Rattle.mscp_packet.specs.declared.command.Order.{Order}
-use Rattle.mscp_drive.specs.Shape.{Shape, one_block}
-use Rattle.mscp_drive.specs.UnitList.{unit_found}
+use Rattle.mscp_drive.specs.Shape.{Shape}
 use Rattle.mscp_queue.specs.declared.drive.Drive.{Drive}
 use Rattle.mscp_queue.specs.declared.upcoming.Upcoming.{Upcoming}
 use Rattle.mscp_queue.specs.Drives.{drive_of}
 use Rattle.mscp_queue.specs.Kept.{AreApart, IsInside, IsKept, IsOfUnit, is_known, names}
-use Rattle.mscp_queue.specs.Orders.{first_block, is_move, order_weight}
+use Rattle.mscp_queue.specs.Orders.{first_block, order_weight}
 use Rattle.mscp_queue.specs.Outcomes.{touches}
 use Rattle.mscp_queue.specs.Records.{Record, drive_at, has_name, name_of, record_at}
-use Rattle.mscp_queue.specs.Serving.{has_block, is_block_of, upcoming_begun, upcoming_of}
+use Rattle.mscp_queue.specs.Serving.{has_block, upcoming_begun, upcoming_of}
 use Rattle.mscp_queue.proofs.Aborts.{aborts_at}
 use Rattle.mscp_queue.proofs.Nexts.{name_found}
 use Rattle.mscp_queue.proofs.Turns.{inside_of}
@@ -28,21 +27,12 @@ told_at ds rs place apart inside =
     let found = name_found rs name place (position (has_name name) rs) apart inside refl refl in
     ap (option_map told) (aborts_at name rs place apart found).found
 
--- a block in front of the end of a unit that is there is one of it
-is_block : (o : Option Shape) (block : ℕ) → is_some o ≡ true → block < (unwrap_or o one_block).size
-    → is_block_of o block ≡ true
-is_block None block some inside = absurd (false≢true some)
-is_block (Some unit) block some inside = lt-ltb block unit.size inside
-
 -- each block of a transfer inside its unit is one of it
 has_it : (units : List Shape) (unit : ℕ) (online : Bool) (order : Order) (done : ℕ) (b : Bool)
     → touches online order ≡ b → is_known units unit ≡ true → IsInside units unit order → done < order_weight order
     → IfSome (if b then Some (first_block order + done) else None) (λ block. has_block units unit block ≡ true)
 has_it units unit online order done false e known inside more = tt
-has_it units unit online order done true e known inside more =
-    let move = (and_parts (is_move order) online e).0 in
-    let all = inside_of units unit order move inside in
-    is_block (unit_found units unit) (first_block order + done) known (omega (arith, all, more))
+has_it units unit online order done true e known inside more = search (arith, and_parts, inside_of, false≢true, lt-ltb)
 
 -- what is told of a command that waits is of one of the units
 pub of_unit : (budget longest : ℕ) (units : List Shape) (d : Drive) (r : Record) → IsKept budget longest units r

@@ -1,9 +1,7 @@
 -- What an order is to a queue. Nothing here asks what came before it.
 use Rattle.std.specs.Prelude.{ℕ, Bool, true, false, bit_or, if◌then◌else◌, ◌==◌}
-use Rattle.mscp_packet.specs.declared.class.Class.{Class}
 use Rattle.mscp_packet.specs.declared.command.Order.{Order}
 use Rattle.mscp_packet.specs.declared.command.Order.TheVariants as orders
-use Rattle.mscp_packet.specs.Opcodes.{class}
 use Rattle.mscp_packet.specs.Commands.{opcode_byte}
 use Rattle.mscp_packet.specs.Statuses.{invalid_opcode}
 use Rattle.mscp_drive.specs.declared.head.Head.{Head}
@@ -27,10 +25,6 @@ is_sequential order = false
 abbrev pub is_move : Order → Bool
 is_move (orders.Move kind count block) = true
 is_move order = false
-
--- the class of an order, by its opcode (manual, "Command Categories and Execution Order")
-abbrev pub order_class : Order → Class
-order_class order = class (opcode_byte order)
 
 -- the first block of an order: 0 where it has none
 abbrev pub first_block : Order → ℕ

@@ -6,7 +6,7 @@ ghost use Rattle.mscp_queue.specs.Records.{advanced, fresh_record, has_name, lef
 
 use crate::name::Name;
 use mscp_events::Connection;
-use mscp_packet::{Command, Order};
+use mscp_packet::{Class, Command, Order};
 use std::marker::Model;
 
 /// A waiting command: the connection that it came by, what it asks for, how many steps it takes, how many it had, and by
@@ -121,8 +121,7 @@ impl Record {
     pub fn is_sequential(&self) -> bool
         ensures { result ≡ is_sequential self.now.command.order }
     {
-        let order = &self.order;
-        matches!(order, Order::Available | Order::Online | Order::SetUnit)
+        matches!(self.order.class(), Class::Sequential)
     }
 
     /// How many steps the command had.

@@ -18,49 +18,28 @@ use crate::record::Record;
 use crate::target::Target;
 use crate::view::{Choice, View};
 use arrayvec::ArrayVec;
-use mscp_packet::{Class, Order};
-
-/// Whether the order is that of a transfer.
-fn is_transfer(order: &Order) -> bool
-    ensures { result ≡ is_move order.now }
-{
-    matches!(order, Order::Move(..))
-}
-
-/// What a picker sees of a record of a transfer, whose unit's drive is this, and whose first block is on this cylinder.
-#[tactic(auto, using(crate::proofs::Targets::cylinder_within))]
-fn transfer_choice(record: &Record, drive: &Drive, cylinder: u32) -> Choice
-    requires transfer { is_move «record».now.command.order ≡ true }
-    requires targeted { IsTargeted drive.now cylinder «record».now }
-    ensures { result ≡ choice_of drive.now «record».now }
-{
-    let command = record.command();
-    Choice {
-        reference: command.reference,
-        unit: command.unit,
-        connection: record.connection(),
-        class: Class::Free,
-        cost: drive.head.cost(&drive.unit, cylinder),
-    }
-}
+use mscp_packet::Class;
 
 /// What a picker sees of a record, whose unit's drive is this, and whose first block is on this cylinder. A start that is
 /// no transfer's costs nothing.
+#[tactic(auto, using(crate::proofs::Targets::cylinder_within))]
 fn choice_of(record: &Record, drive: &Drive, cylinder: u32) -> Choice
     requires waitable { (is_sequential «record».now.command.order || is_move «record».now.command.order) ≡ true }
     requires targeted { IsTargeted drive.now cylinder «record».now }
     ensures { result ≡ choice_of drive.now «record».now }
 {
     let command = record.command();
-    if is_transfer(&command.order) {
-        return transfer_choice(record, drive, cylinder);
-    }
+    let class = command.order.class();
+    let cost = match class {
+        Class::Free => drive.head.cost(&drive.unit, cylinder),
+        _ => 0,
+    };
     Choice {
         reference: command.reference,
         unit: command.unit,
         connection: record.connection(),
-        class: Class::Sequential,
-        cost: 0,
+        class,
+        cost,
     }
 }
 

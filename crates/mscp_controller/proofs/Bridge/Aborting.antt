@@ -18,7 +18,6 @@ use Rattle.mscp_queue.proofs.Placed.{filter_map_of, find_cases, find_first, find
 use Rattle.mscp_controller.specs.declared.entry.Entry.TheVariants as entries
 use Rattle.mscp_controller.specs.declared.entry.Sent.TheVariants as sents
 use Rattle.mscp_events.specs.Settings.{Settings}
-use Rattle.mscp_controller.specs.Arrival.{order_fault}
 use Rattle.mscp_controller.specs.History.{Trace}
 use Rattle.mscp_controller.specs.Commands.{command, name, reference, waiting, good, ends_in, is_waiting}
 use Rattle.mscp_controller.specs.Ends as history
@@ -53,15 +52,10 @@ unnamed : (via : Connection) (t : Trace) (o : Order) (fault : Option ℕ) → na
     → aborted_unless via t o fault ≡ []
 unnamed via t o fault h4 = grind arith
 
-aborted_by : (c : Settings) (via : Connection) (t : Trace) (u : ℕ) (ws : List Record) (o : Order) → Apart t (waiting t)
-    → ws ≡ map (held_of t) (waiting t)
-    → map (held_of t) (aborted_unless via t o (order_fault c u o)) ≡ option_to_list (record_aborted via ws o)
-aborted_by c via t u ws o h6 h7 = grind (arith, named_held, held_of, unnamed)
-
 aborted_held : (c : Settings) (via : Connection) (t : Trace) (ws : List Record) (k : Command) → Apart t (waiting t)
     → ws ≡ map (held_of t) (waiting t) → map (held_of t) (history.aborted c via t k)
     ≡ option_to_list (record_aborted via ws k.order)
-aborted_held c via t ws k a e = aborted_by c via t k.unit ws k.order a e
+aborted_held c via t ws k a e = search (arith, named_held, held_of, unnamed)
 
 -- ---- what is told of it
 

@@ -1,6 +1,5 @@
 -- Accounts, one by one, and what is seen of them.
 use Rattle.std.proofs.Common.{◌≡◌, ◌+◌, false, List, [], ◌∷◌, ◌++◌, length, append-nil, arith}
-use Rattle.std.specs.Prelude.{if◌then◌else◌, option_to_list, None}
 use Rattle.mscp_packet.specs.declared.end.End.{End}
 use Rattle.mscp_events.specs.declared.connection.Connection.{Connection}
 use Rattle.mscp_queue.specs.declared.report.Report.{Report}
@@ -30,10 +29,6 @@ seen_left via end a = grind arith
 
 -- ---- a report
 
-none_either : (here : Connection) (via : Connection)
-    → (if same_connection here via then option_to_list {X = End} None else []) ≡ []
-none_either here via = grind arith
-
 -- what a report changes of a connection's account
 pub record Reported (via : Connection) (report : Report) (a : Accounts) : Type 0 where
   pub waiting : (account via (reported report a)).waiting + length (ends_reported via report)
@@ -42,7 +37,7 @@ pub record Reported (via : Connection) (report : Report) (a : Accounts) : Type 0
       ≡ (account via a).untaken.items ++ ends_reported via report
 
 pub reported_at : (via : Connection) (report : Report) (a : Accounts) → CanEnd report a → Reported via report a
-reported_at via report a h3 = grind (arith, append-nil, none_either)
+reported_at via report a h3 = search (arith, append-nil)
 
 -- the ends of a connection, once more went to it
 pub of_more : (via : Connection) (us : Both (List End)) (es : List End) → of via (more_ends via us es) ≡ of via us ++ es

@@ -1,5 +1,5 @@
 -- What is begun when one more call comes.
-use Rattle.std.proofs.Common.{◌≡◌, ⊎_elim, ℕ, ◌+◌, ◌<◌, ◌≤◌, Bool, true, false, not, List, [], ◌∷◌, ◌++◌, take, drop, length, refl, ap, sym, ◌∙◌, subst, append_assoc, append-nil, arith}
+use Rattle.std.proofs.Common.{◌≡◌, ℕ, ◌+◌, ◌<◌, ◌≤◌, Bool, true, false, not, List, [], ◌∷◌, ◌++◌, take, drop, length, refl, ap, sym, ◌∙◌, subst, append_assoc, append-nil, arith}
 use Rattle.std.specs.Prelude.{if◌then◌else◌, is_some, nat_eq, unwrap_or, Option, Some, None}
 use Rattle.std.specs.List.{list_any}
 use Rattle.std.proofs.lemmas.Bool.{and_parts, cases_lt, or_parts, true≢false}
@@ -52,42 +52,33 @@ waits_before t (m ∷ ms) y l w =
     (subst (λ u. is_waiting u y ≡ true) (sym (append_assoc t (m ∷ []) ms)) w) in
     (and_parts (is_waiting t y) (not (ends_in (name t y) m.1)) (sym (is_waiting_before t m y l) ∙ one)).0
 
--- what was begun before the last call, and that the last was no step
-pub begun_before : (calls : List Call) (call : Call) (up : Upcoming) (y j : ℕ) → j < length calls
-    → IsBegunSince (calls ++ call ∷ []) up y j → IsBegunSince calls up y j × (steps call ≡ false)
-begun_before calls call up y j l b =
-    search (
-      arith,
-      front_same calls call j l,
-      drop-append-le (j + 1) calls (call ∷ []) (omega (arith, l)),
-      list_any-append steps (drop (j + 1) calls) (call ∷ []),
-      shorter calls j,
-      call_before calls call j l,
-      history_more
-          calls call,
-      or_parts,
-      waits_below,
-      waits_before,
-    )
-
 -- what the last call began
 pub record Last (calls : List Call) (call : Call) (up : Upcoming) (y : ℕ) : Type 0 where
   pub told : upcoming_in call ≡ Some up
   pub own : up ≡ foretold (history calls) y
   pub waited : is_waiting (history calls) y ≡ true
 
-begun_last : (calls : List Call) (call : Call) (up : Upcoming) (y j : ℕ) → length calls ≡ j
-    → IsBegunSince (calls ++ call ∷ []) up y j → Last calls call up y
-begun_last calls call up y j e b = search (arith, take_at calls (call ∷ []) (length calls) refl, call_last calls call)
-
 -- either is known of what is begun after one more call
 pub either : (X : Type 0) (calls : List Call) (call : Call) (up : Upcoming) (y j : ℕ)
     → (IsBegunSince calls up y j → steps call ≡ false → X) → (Last calls call up y → X)
     → IsBegunSince (calls ++ call ∷ []) up y j → X
 either X calls call up y j before last b =
-    ⊎_elim (λ l. let k = begun_before calls call up y j l b in before k.0 k.1)
-    (λ l. last (begun_last calls call up y j (let i = b.inside in
-    omega (arith, l, i, length-append calls (call ∷ []))) b)) (cases_lt j (length calls))
+    search (
+      arith,
+      length-append,
+      cases_lt,
+      front_same,
+      drop-append-le,
+      list_any-append,
+      shorter,
+      call_before,
+      history_more,
+      or_parts,
+      waits_below,
+      waits_before,
+      take_at,
+      call_last,
+    )
 
 -- what was begun is begun after a call that is no step, where it still waits
 pub begun_more : (calls : List Call) (call : Call) (up : Upcoming) (y j : ℕ) → IsBegunSince calls up y j
@@ -174,16 +165,10 @@ nothing_stepped calls call s q up y j b = either ⊥ calls call up y j (λ k z. 
 some_is : (up up' : Upcoming) → Some up ≡ Some up' → up' ≡ up
 some_is up up' e = ap (λ o. unwrap_or o up) (sym e)
 
--- two that are foretold alike and wait are one
-one_foretold : (t : Trace) (up up' : Upcoming) (y y' : ℕ) → Apart t (waiting t) → is_waiting t y ≡ true
-    → is_waiting t y' ≡ true → up ≡ foretold t y → up' ≡ foretold t y' → up' ≡ up → y' ≡ y
-one_foretold t up up' y y' apart w w' e e' same = one_waits t y' y apart w' w
-    (ap upcoming_name (sym e' ∙ (same ∙ e)))
-
 last_same : (calls : List Call) (up up' : Upcoming) (y y' : ℕ) → Apart (history calls) (waiting (history calls))
     → is_waiting (history calls) y ≡ true → up ≡ foretold (history calls) y → Last calls (Begin (Some up)) up' y'
     → (y' ≡ y) × (up' ≡ up)
-last_same calls up up' y y' apart w e l = search (arith, some_is up up' l.told, one_foretold)
+last_same calls up up' y y' apart w e l = search (arith, some_is up up' l.told, one_waits)
 
 -- a begin is no moment
 pub begin_same : (calls : List Call) (upcoming : Option Upcoming)

@@ -1,5 +1,5 @@
 -- Every call of a controller that somebody holds is answered right, and what was begun is held to.
-use Rattle.std.proofs.Common.{◌≡◌, ℕ, ◌<◌, Bool, true, false, not, ◌&&◌, List, [], ◌∷◌, ◌++◌, map, length, refl, ap, sym, ◌∙◌, subst, append_assoc, append-nil, arith}
+use Rattle.std.proofs.Common.{◌≡◌, ℕ, ◌<◌, Bool, true, false, not, List, [], ◌∷◌, ◌++◌, map, length, refl, ap, sym, ◌∙◌, subst, append_assoc, append-nil, arith}
 use Rattle.std.specs.Prelude.{IfSome, if◌then◌else◌, Option, Some, None, Result, Ok, Err}
 use Rattle.std.proofs.lemmas.Bool.{false≢true}
 use Rattle.mscp_packet.specs.declared.command.Command.{Command}
@@ -52,15 +52,6 @@ block_kept : (t : Trace) (m : Moment) (y : ℕ) → service_in m.1 ≡ None → 
 unfolding block_of
 block_kept t m y e l = search (arith, command_before t m y l, is_online_kept t m (unit t y) e, done_kept)
 
-foretold_kept : (t : Trace) (m : Moment) (y : ℕ) → service_in m.1 ≡ None → y < length t
-    → foretold (t ++ m ∷ []) y ≡ foretold t y
-foretold_kept t m y e l =
-    search (arith, command_before t m y l, block_kept t m y e l, done_kept t m y e l, connection_before t m y l)
-
-waits_on : (t : Trace) (m : Moment) (y : ℕ) → is_waiting t y ≡ true
-    → is_waiting (t ++ m ∷ []) y ≡ not (ends_in (name t y) m.1)
-waits_on t m y w = is_waiting_before t m y (waits_below t y w) ∙ ap (λ b. b && not (ends_in (name t y) m.1)) w
-
 -- what is begun after a moment that serves nobody: what was, unless it was ended
 abbrev IsLeft : {K : Type 0} → Holdings K → Holdings K → Trace → Entry → Type 0
 IsLeft h h' t entry = (n : Name) (y : ℕ) → h.begun ≡ Some n → is_waiting t y ≡ true → name t y ≡ n
@@ -72,7 +63,19 @@ quiet : {K : Type 0} (c : Settings) (picks : List Choice → ℕ → Type 0) (ca
     → service_in entry ≡ None → is_step event ≡ false → IsLeft h h' (history calls) entry
     → (h.begun ≡ None → h'.begun ≡ None) → Holds c picks calls h.begun → Turned c picks calls (Plain event entry) h'
 quiet c picks calls event entry h h' turn legal e s left none holds =
-    search (arith, history_more, foretold_kept, waits_below, waits_on, not, legal_more, holds_on)
+    search (
+      arith,
+      history_more,
+      waits_below,
+      not,
+      legal_more,
+      holds_on,
+      command_before,
+      block_kept,
+      done_kept,
+      connection_before,
+      is_waiting_before,
+    )
 
 -- what is begun after a message
 begun_unless : {K : Type 0} (via : Connection) (h : Holdings K) (t : Trace) (k : Command) (n : Name) (y : ℕ)

@@ -12,14 +12,14 @@ use Rattle.mscp_events.specs.declared.block.Block.{Block}
 use Rattle.mscp_queue.specs.declared.drive.Drive.{Drive}
 use Rattle.mscp_events.specs.Settings.{Settings, unit_found, unit_shape}
 use Rattle.mscp_queue.specs.Drives.{drive_of, fresh_drive, has_number, replaced}
-use Rattle.mscp_controller.specs.Arrival.{is_immediate, is_queued, move_fault, order_fault, unit_fault}
+use Rattle.mscp_controller.specs.Arrival.{is_immediate, is_queued, order_fault}
 use Rattle.mscp_queue.specs.Outcomes.{head_after}
 use Rattle.mscp_controller.specs.History.{Trace, Moment, service_in}
 use Rattle.mscp_controller.specs.Commands.{command, order, unit, waiting, done}
 use Rattle.mscp_controller.specs.Units.{head, is_online}
 use Rattle.mscp_controller.specs.Ends.{outcome}
-use Rattle.mscp_controller.specs.Legal.{IsRight, block_of, end_of, seek_to}
-use Rattle.mscp_queue.specs.Serving.{drive_after, end_given, seek_from, state_left, touched}
+use Rattle.mscp_controller.specs.Legal.{IsRight, block_of, end_of}
+use Rattle.mscp_queue.specs.Serving.{drive_after, end_given, state_left, touched}
 use Rattle.mscp_controller.specs.Controllers.{drive_now}
 use Rattle.mscp_queue.proofs.Lists.{every_from, every_weaker}
 use Rattle.mscp_controller.proofs.Promise.Served.{Step, some_same}
@@ -45,9 +45,6 @@ found_number (x ∷ xs) u s e =
     ] in
     both (nat_eq x.number u) refl e
 
-some_of : {X : Type 0} (o : Option X) → is_some o ≡ true → (x : X) × (o ≡ Some x)
-some_of o h1 = grind (arith, false≢true)
-
 pub find_map : {X Y : Type 0} (p : Y → Bool) (f : X → Y) (xs : List X)
     → find p (map f xs) ≡ option_map f (find (λ x. p (f x)) xs)
 find_map p f [] = refl
@@ -59,15 +56,9 @@ find_map p f (x ∷ xs) = search (arith, find_map p f xs)
 abbrev pub IsConfigured : Settings → Command → Type 0
 IsConfigured c k = is_some (unit_found c k.unit) ≡ true
 
-move_found : (c : Settings) (count block : ℕ) (o : Option Shape) → move_fault c count block o ≡ None → is_some o ≡ true
-move_found c count block o h4 = grind (arith, true≢false)
-
-fault_found : (o : Option Shape) → unit_fault o ≡ None → is_some o ≡ true
-fault_found o h1 = grind (arith, true≢false)
-
 order_found : (c : Settings) (u : ℕ) (o : Order) → is_immediate o ≡ false → order_fault c u o ≡ None
     → is_some (unit_found c u) ≡ true
-order_found c u o h3 h4 = grind (arith, move_found, fault_found, true≢false)
+order_found c u o h3 h4 = search (arith, true≢false)
 
 queued_configured : (c : Settings) (k : Command) → is_queued c k ≡ true → IsConfigured c k
 queued_configured c k q = let o = queued_open c k q in order_found c k.unit k.order o.waits o.sound
@@ -90,7 +81,7 @@ same_drive c t s u e n = search arith
 -- The drive that is found is that of the number.
 pub drive_found : (c : Settings) (t : Trace) (ds : List Drive) (u : ℕ) → Driven c t ds → is_some (unit_found c u) ≡ true
     → drive_of ds u ≡ drive_by c t u
-drive_found c t ds u d h = search (arith, some_of (unit_found c u) h, find_map, same_drive, found_number)
+drive_found c t ds u d h = search (arith, find_map, same_drive, found_number, false≢true)
 
 -- ---- at first, and where nothing is served
 
@@ -115,10 +106,6 @@ pub end_held : (c : Settings) (t : Trace) (k : Block) (y : ℕ)
     → end_given k (drive_by c t (unit t y)) (held_of t y) ≡ end_of c t k y
 unfolding outcome
 end_held c t k y = refl
-
--- the head goes as far as the run says
-pub seek_held : (c : Settings) (t : Trace) (u : ℕ) (o : Option ℕ) → seek_from (drive_by c t u) o ≡ seek_to c t u o
-seek_held c t u o = grind arith
 
 state_held : (c : Settings) (t : Trace) (m : Moment) (k : Block) (y : ℕ) (front back : List ℕ)
     → Step c t m (service_by c t k y) k y front back → (o : Option End) → end_of c t k y ≡ o

@@ -1,5 +1,5 @@
 -- What is known of a message that isn't refused.
-use Rattle.std.proofs.Common.{◌≡◌, ℕ, ◌≤◌, Bool, true, false, ◌&&◌, ◌||◌, List, [], ◌∷◌, ◌++◌, length, refl, ap, arith}
+use Rattle.std.proofs.Common.{◌≡◌, ℕ, Bool, true, false, ◌&&◌, ◌||◌, List, [], ◌∷◌, ◌++◌, refl, ap, arith}
 use Rattle.std.specs.Prelude.{cond, nat_eq, slice_index, None}
 use Rattle.std.specs.List.{list_any}
 use Rattle.std.proofs.lemmas.List.Folds.{list_any-append}
@@ -8,7 +8,6 @@ use Rattle.mscp_events.specs.declared.connection.Connection.{Connection}
 use Rattle.mscp_queue.specs.Names.{name_on, same_connection}
 use Rattle.mscp_queue.specs.Records.{Record, has_name}
 use Rattle.mscp_packet.specs.declared.command.Command.{Command}
-use Rattle.mscp_packet.specs.Number.{num}
 use Rattle.mscp_packet.specs.Commands.{IsCommand, command_of}
 use Rattle.mscp_packet.specs.declared.end.End.{End}
 use Rattle.mscp_controller.specs.Holdings.{numbers, numbers_ended, waiting_on}
@@ -34,22 +33,10 @@ untaken_held : (es : List End) (reference : ℕ)
 untaken_held [] reference = refl
 untaken_held (e ∷ es) reference = ap (λ b. nat_eq e.reference reference || b) (untaken_held es reference)
 
--- a reference number is outstanding where it waits or has an end that wasn't taken
-pub holds_either : (rs : List Record) (via : Connection) (es : List End) (reference : ℕ)
-    → holds (numbers (waiting_on via rs) ++ numbers_ended es) reference
-    ≡ (list_any (has_name (name_on via reference)) rs || list_any (λ e. nat_eq e.reference reference) es)
-holds_either rs via es reference =
-    search (arith, waiting_held rs via reference, untaken_held es reference, list_any-append)
-
--- a message of 12 to 64 bytes is refused for its credit and reference number alone
-refusal_read : (balance : ℕ) (outstanding b : List ℕ) → 12 ≤ length b → length b ≤ 64
-    → refusal balance outstanding b ≡ credit_fault balance outstanding (slice_index b 8) (num b 0 4)
-refusal_read balance outstanding b low high = search (arith, le-ltb (length b) 12 low, le-ltb 64 (length b) high)
-
 -- a message that is the command and isn't refused for its credit isn't refused
 pub taken : (balance : ℕ) (outstanding b : List ℕ) (command : Command) → IsCommand b command
     → credit_fault balance outstanding (slice_index b 8) command.reference ≡ None → refusal balance outstanding b ≡ None
-taken balance outstanding b command h e = search (arith, refusal_read balance outstanding b h.low h.high)
+taken balance outstanding b command h e = search (arith, le-ltb)
 
 -- no command that waits has a reference number that isn't outstanding
 or_left : (a b : Bool) → (a || b) ≡ false → a ≡ false
@@ -58,4 +45,4 @@ or_left a b h2 = grind (arith, true≢false)
 pub none_waits : (rs : List Record) (via : Connection) (es : List End) (reference : ℕ)
     → holds (numbers (waiting_on via rs) ++ numbers_ended es) reference ≡ false
     → list_any (has_name (name_on via reference)) rs ≡ false
-none_waits rs via es reference h = search (arith, holds_either rs via es reference, or_left)
+none_waits rs via es reference h = search (arith, or_left, waiting_held, untaken_held, list_any-append)

@@ -27,7 +27,7 @@ use Rattle.mscp_controller.specs.declared.account.Account.{Account}
 use Rattle.mscp_controller.specs.declared.account.Accounts.{Accounts}
 use Rattle.mscp_controller.specs.Accounts.{CanEnd, account, fresh, left, put_account, reported, taken, untaken_in}
 use Rattle.mscp_events.specs.Settings.{Settings, IsValid, credits_of, room}
-use Rattle.mscp_controller.specs.Holdings.{ends_reported, waiting_on}
+use Rattle.mscp_controller.specs.Holdings.{waiting_on}
 use Rattle.mscp_events.specs.Both.{of}
 use Rattle.mscp_controller.specs.Kept.{IsAccount, IsHeld}
 use Rattle.mscp_controller.proofs.Bridge.Accounts.{each_account, of_more, reported_at, seen_left, seen_of}
@@ -64,25 +64,17 @@ units_fresh : (us : List Shape) → units_of (map fresh_drive us) ≡ us
 units_fresh [] = refl
 units_fresh (u ∷ us) = ap (λ vs. u ∷ vs) (units_fresh us)
 
-fresh_account : (c : Settings) (via : Connection) → IsAccount c [] via fresh
-fresh_account c via = record { counted = refl; covered = omega arith; fits = omega arith; shaped = tt }
-
 pub held_fresh : {K : Type 0} (c : Settings) (units : List Shape) (room' budget longest : ℕ) (picker : K)
     (line : Line K) (a : Accounts) → IsValid c → units ≡ c.units → room' ≡ room c → budget ≡ c.budget
     → longest ≡ c.longest → line ≡ lines.fresh units room' budget longest picker
     → a ≡ record { first = fresh; second = fresh } → IsHeld c line a
-held_fresh {K} c units room' budget longest picker line a v u r p l e n =
-    search (arith, fresh_account c First, units_fresh units)
+held_fresh {K} c units room' budget longest picker line a v u r p l e n = search (arith, units_fresh units)
 
 -- ---- a step
 
 -- the ends that a step brings are of their kind
 kind_either : (here : Bool) (end : End) → IsOfKind end → AllByRecursion IsOfKind (if here then end ∷ [] else [])
 kind_either here end h2 = grind arith
-
-reported_kinds : (via : Connection) (report : Report) → IfSome (end_in report) IsOfKind
-    → AllByRecursion IsOfKind (ends_reported via report)
-reported_kinds via report h2 = grind (arith, kind_either)
 
 few_of : (c : Settings) (via : Connection) → IsValid c → credits_of c via ≤ 64
 few_of c via h2 = grind arith
@@ -113,7 +105,7 @@ held_stepped {K} c picks k old report new a h s u kind =
       reported_at,
       length-append,
       every_append,
-      reported_kinds,
+      kind_either,
     )
 
 -- ---- a message

@@ -2,7 +2,6 @@
 use Rattle.std.proofs.Common.{◌≡◌, List, ℕ, ap, sym, subst, ◌∙◌, arith}
 use Rattle.std.specs.Prelude.{Option, None}
 use Rattle.mscp_packet.specs.declared.command.Command.{Command}
-use Rattle.mscp_packet.specs.declared.command.Order.{Order}
 use Rattle.mscp_packet.specs.Commands.{command_of}
 use Rattle.mscp_events.specs.declared.block.Block.{Block}
 use Rattle.mscp_events.specs.declared.connection.Connection.{Connection}
@@ -16,7 +15,7 @@ use Rattle.mscp_events.specs.declared.event.Event.TheVariants as events
 use Rattle.mscp_controller.specs.declared.entry.Entry.{Entry}
 use Rattle.mscp_controller.specs.declared.entry.Entry.TheVariants as entries
 use Rattle.mscp_controller.specs.Arrival.{refusal}
-use Rattle.mscp_controller.specs.Holdings.{Answers, Holdings, balance_of, begun_after, held_unless, line_of, outstanding_of}
+use Rattle.mscp_controller.specs.Holdings.{Answers, Holdings, balance_of, held_unless, line_of, outstanding_of}
 
 -- the limits and the picker stay
 pub stays : {K : Type 0} (picks : List Choice → ℕ → Type 0) (k : Block) (old : Line K) (report : Report) (new : Line K)
@@ -49,17 +48,9 @@ owner_kept picks h h' _ _ r = absurd r
 
 -- ---- nothing is begun
 
-begun_after_none : (via : Connection) (o : Order) → begun_after via None o ≡ None
-begun_after_none via o = grind arith
-
 unbegun_unless : {K : Type 0} (via : Connection) (h : Holdings K) (command : Command) (o : Option SendFault)
     → h.begun ≡ None → (held_unless via h command o).begun ≡ None
-unbegun_unless via h command o h4 = grind (arith, begun_after_none)
-
-unbegun_stepped : {K : Type 0} (picks : List Choice → ℕ → Type 0) (k : Block) (old : Line K) (report : Report)
-    (new : Line K) → old.begun ≡ None → Serves picks k old report new → new.begun ≡ None
-unbegun_stepped {K} picks k old reports.Idle new n h = ap (λ (l : Line K). l.begun) h.2 ∙ n
-unbegun_stepped {K} picks k old (reports.Served connection reference unit lbn started seek ended) new n h = search arith
+unbegun_unless via h command o h4 = search arith
 
 -- no event begins a command
 pub unbegun_kept : {K : Type 0} (picks : List Choice → ℕ → Type 0) (h h' : Holdings K) (event : Event) (entry : Entry)
@@ -68,7 +59,6 @@ unbegun_kept {K} picks h h' (events.Send via message) (entries.Sent other sent) 
     ap (λ (x : Holdings K). x.begun) r.2 ∙ unbegun_unless via h (command_of message.items)
     (refusal (balance_of via h) (outstanding_of via h) message.items) n
 unbegun_kept {K} picks h h' (events.Take via) (entries.Taken other end) n r = search arith
-unbegun_kept picks h h' (events.Step k) (entries.Stepped report) n r =
-    unbegun_stepped picks k (line_of h) report (line_of h') n r.serves
+unbegun_kept picks h h' (events.Step k) (entries.Stepped report) n r = search arith
 unbegun_kept {K} picks h h' events.Look (entries.Looked list) n r = ap (λ (x : Holdings K). x.begun) r.1 ∙ n
 unbegun_kept picks h h' _ _ n r = absurd r

@@ -11,7 +11,7 @@ use Rattle.mscp_queue.specs.Records.{Record, fresh_record, name_of}
 use Rattle.mscp_events.specs.Settings.{Settings}
 use Rattle.mscp_events.specs.Both.{Both, of}
 use Rattle.mscp_controller.specs.History.{Trace, Moment, connection_of, queues, sent_bytes, takes, service_in}
-use Rattle.mscp_controller.specs.Commands.{waiting, done, good, service_starts, ends_in}
+use Rattle.mscp_controller.specs.Commands.{waiting, done, good, ends_in}
 use Rattle.mscp_controller.specs.Passing.{passed}
 use Rattle.mscp_controller.specs.Ends.{ends_at}
 use Rattle.mscp_controller.specs.Account.{ends, untaken}
@@ -38,22 +38,12 @@ pub held_same : (t : Trace) (m : Moment) (x : ℕ) → x < length t → done (t 
     → held_of (t ++ m ∷ []) x ≡ held_of t x
 held_same t m x l d g p = search (arith, command_before t m x l, connection_before t m x l)
 
-good_kept : (t : Trace) (m : Moment) (x : ℕ) → service_in m.1 ≡ None → x < length t → good (t ++ m ∷ []) x ≡ good t x
-good_kept t m x e l = search (arith, good_before t m x l)
-
-passed_kept : (t : Trace) (m : Moment) (x : ℕ) → service_in m.1 ≡ None → passed (t ++ m ∷ []) x ≡ passed t x
-passed_kept t m x e = none_starts t m x (λ r. ap (service_starts r) e)
-
 -- the record of each that waits stays
 abbrev pub Keeps : Trace → Trace → ℕ → Type 0
 Keeps t t' x = held_of t' x ≡ held_of t x
 
 keeps : (t : Trace) (m : Moment) → service_in m.1 ≡ None → AllByRecursion (Keeps t (t ++ m ∷ [])) (waiting t)
-keeps t m e = search (arith, waiting_below t, every_weaker, held_same, done_kept, good_kept, passed_kept)
-
-waiting_kept : (t : Trace) (m : Moment) → IsQuiet m
-    → waiting (t ++ m ∷ []) ≡ waiting t ++ cond (queues m.1) (length t ∷ []) []
-waiting_kept t m q = search (arith, waiting_more t m, filter_all, not, every_from)
+keeps t m e = search (arith, waiting_below t, every_weaker, held_same, done_kept, good_before, none_starts)
 
 pub records_kept : (t t' : Trace) (xs : List ℕ) → AllByRecursion (Keeps t t') xs
     → map (held_of t') xs ≡ map (held_of t) xs
@@ -84,10 +74,6 @@ follows_left c t m ws ws' us us' l r unserved n left e f =
 
 -- ---- a command comes
 
-record_new : (t : Trace) (m : Moment)
-    → held_of (t ++ m ∷ []) (length t) ≡ fresh_record (connection_of m.0) (command_of (sent_bytes m.0))
-record_new t m = search (arith, command_last t m, connection_last t m, done_last t m, good_last t m, passed_last t m)
-
 -- What is held after a command was queued: its record comes last.
 pub follows_queued : (c : Settings) (t : Trace) (m : Moment) (ws : List Record) (us us' : Both (List End))
     → 1 ≤ c.longest → IsRight c t m.0 m.1 → IsQuiet m → queues m.1 ≡ true
@@ -96,13 +82,20 @@ pub follows_queued : (c : Settings) (t : Trace) (m : Moment) (ws : List Record) 
 follows_queued c t m ws us us' l r q n e f =
     search (
       arith,
-      waiting_kept t m q,
       keeps t m q.unserved,
       known_more c l t m r f.known,
-      record_new t m,
       records_kept,
       held_of,
       map-append,
+      waiting_more,
+      filter_all,
+      not,
+      every_from,
+      command_last,
+      connection_last,
+      done_last,
+      good_last,
+      passed_last,
     )
 
 -- ---- an end is taken

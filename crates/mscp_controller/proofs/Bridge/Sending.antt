@@ -6,7 +6,6 @@ use Rattle.mscp_packet.specs.declared.command.Command.{Command}
 use Rattle.mscp_packet.specs.declared.command.Order.{Order}
 use Rattle.mscp_packet.specs.declared.end.End.{End}
 use Rattle.mscp_packet.specs.Commands.{command_of}
-use Rattle.mscp_drive.specs.Shape.{Shape}
 use Rattle.mscp_queue.specs.declared.drive.Drive.{Drive}
 use Rattle.mscp_queue.specs.Records.{Record, aborted_record, name_of}
 use Rattle.mscp_controller.specs.declared.entry.SendFault.{SendFault}
@@ -17,8 +16,8 @@ use Rattle.mscp_events.specs.declared.event.Event.TheVariants as events
 use Rattle.mscp_controller.specs.declared.entry.Entry.TheVariants as entries
 use Rattle.mscp_events.specs.Settings.{Settings, credits_of, unit_found}
 use Rattle.mscp_events.specs.Both.{Both, of}
-use Rattle.mscp_controller.specs.Arrival.{is_queued, refusal, unit_fault}
-use Rattle.mscp_controller.specs.Outcomes.{answer_status, own_end, own_end_with}
+use Rattle.mscp_controller.specs.Arrival.{is_queued, refusal}
+use Rattle.mscp_controller.specs.Outcomes.{own_end}
 use Rattle.mscp_controller.specs.History.{Trace, Moment, queues, service_in, takes}
 use Rattle.mscp_controller.specs.Commands.{ends_in, reference, waiting, waiting_by}
 use Rattle.mscp_controller.specs.Units.{is_online}
@@ -76,22 +75,12 @@ asked_held : (c : Settings) (via : Connection) (t : Trace) (ws : List Record) (u
     → Follows c t ws us → figure_polled c via ws o ≡ history.figure_asked c via t o
 asked_held c via t ws us o h6 = grind (arith, figure_of_held)
 
-with_same : (c : Settings) (on on' : Bool) (figure : ℕ) (k : Command) (fault : Option ℕ)
-    → answer_status on k.order ≡ answer_status on' k.order
-    → own_end_with c on figure k fault ≡ own_end_with c on' figure k fault
-with_same c on on' figure k fault h6 = grind arith
-
-status_same : (c : Settings) (on on' : Bool) (figure : ℕ) (k : Command) (found : Option Shape)
-    → (is_some found ≡ true → on ≡ on') → own_end_with c on figure k (unit_fault found)
-    ≡ own_end_with c on' figure k (unit_fault found)
-status_same c on on' figure k found h6 = grind arith
-
 -- An answer asks for the state of no unit that isn't configured.
 own_same : (c : Settings) (on on' : Bool) (figure reference unit : ℕ) (o : Order)
     → (is_some (unit_found c unit) ≡ true → on ≡ on')
     → let k : Command = record { reference = reference; unit = unit; order = o } in
     own_end c on figure k ≡ own_end c on' figure k
-own_same c on on' figure reference unit o h7 = grind (arith, status_same, with_same)
+own_same c on on' figure reference unit o h7 = search arith
 
 answer_held : {K : Type 0} (via : Connection) (h : Holdings K) (t : Trace) (b : List ℕ) → Agrees h.settings t h
     → option_to_list (option_map aborted_record (record_aborted via h.waiting (command_of b).order))

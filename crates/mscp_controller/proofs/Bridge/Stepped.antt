@@ -1,7 +1,7 @@
 -- A step of the record that may be served next: it is right, it is picked, and what is held after it is that of the
 -- run.
 use Rattle.std.proofs.Common.{◌≡◌, ℕ, ◌+◌, ◌<◌, Bool, true, false, cond, ◌&&◌, List, [], ◌∷◌, ◌++◌, map, take, drop, length, refl, ap, sym, ◌∙◌, subst, arith}
-use Rattle.std.specs.Prelude.{All, IfSome, nat_eq, Option, Some, None, is_some, option_to_list, if◌then◌else◌}
+use Rattle.std.specs.Prelude.{All, IfSome, nat_eq, Option, Some, None, option_to_list, if◌then◌else◌}
 use Rattle.std.specs.List.{AllByRecursion}
 use Rattle.std.proofs.Math.Bool.{and-false}
 use Rattle.std.proofs.lemmas.Bool.{eq-eqb, lt-ltb, true≢false, false≢true}
@@ -19,8 +19,7 @@ use Rattle.mscp_queue.specs.declared.name.Name.{Name}
 use Rattle.mscp_events.specs.declared.connection.Connection.{Connection}
 use Rattle.mscp_queue.specs.Names.{same_connection, same_name}
 use Rattle.mscp_queue.specs.Orders.{order_weight}
-use Rattle.mscp_queue.specs.Outcomes.{is_good_block}
-use Rattle.mscp_queue.specs.Records.{Record, advanced, step_charge, passed_by, record_at, remains}
+use Rattle.mscp_queue.specs.Records.{Record, advanced, step_charge, passed_by, record_at}
 use Rattle.mscp_queue.specs.Records as recorded
 use Rattle.mscp_queue.specs.Serving.{IsNext, drive_after, report_of, waiting_after}
 use Rattle.mscp_events.specs.declared.event.Event.TheVariants as events
@@ -46,7 +45,7 @@ use Rattle.mscp_controller.proofs.Promise.Known.{known_more}
 use Rattle.mscp_controller.proofs.Bridge.Legals.{service_by}
 use Rattle.mscp_queue.proofs.Placed.{map_map, map_on}
 use Rattle.mscp_controller.proofs.Bridge.Held.{held_of}
-use Rattle.mscp_controller.proofs.Bridge.Drives.{drive_by, driven_served, end_held, seek_held}
+use Rattle.mscp_controller.proofs.Bridge.Drives.{drive_by, driven_served, end_held}
 use Rattle.mscp_controller.proofs.Bridge.Quiet.{held_same, records_kept}
 use Rattle.mscp_controller.proofs.Bridge.Sending.{Agrees, Sends}
 use Rattle.mscp_controller.proofs.Bridge.Viewed.{cut_at, record_held, waiting_at}
@@ -66,7 +65,7 @@ serving c t k y = (
 report_held : (c : Settings) (t : Trace) (k : Block) (y : ℕ)
     → entries.Stepped (report_of k (drive_by c t (unit t y)) (held_of t y)) ≡ (serving c t k y).1
 unfolding block_of
-report_held c t k y = search (arith, seek_held, end_held)
+report_held c t k y = search (arith, end_held)
 
 -- the command at a place waits
 served_at : (c : Settings) (t : Trace) (k : Block) (place : ℕ) → Next c t place
@@ -178,15 +177,8 @@ front_passed c t k y A B st idle =
 cut_off : (a b : Bool) → (a && false && b) ≡ false
 cut_off a b = grind arith
 
--- where a command goes on, its block was good
-goes_good : (a b : Bool) (k : Block) → (a && is_good_block k && b) ≡ true → is_good (events.Step k) ≡ true
-goes_good a b k h3 = grind (arith, false≢true, cut_off)
-
-goes_when : (b : Bool) (e : End) → (if b then None else Some e) ≡ None → b ≡ true
-goes_when b e h2 = grind (arith, true≢false)
-
 goes_on_good : (c : Settings) (t : Trace) (k : Block) (y : ℕ) → end_of c t k y ≡ None → is_good (events.Step k) ≡ true
-goes_on_good c t k y h = search (arith, goes_good, goes_when)
+goes_on_good c t k y h = search (arith, false≢true, cut_off, true≢false)
 
 good_own : (c : Settings) (t : Trace) (k : Block) (y : ℕ) → y < length t → end_of c t k y ≡ None
     → good (t ++ serving c t k y ∷ []) y ≡ good t y + 1
@@ -213,11 +205,6 @@ held_own c t k y A B st e =
       passed = p i;
     }
 
-own_remains : (c : Settings) (t : Trace) (k : Block) (y : ℕ) (A B : List ℕ)
-    → Step c t (serving c t k y) (service_by c t k y) k y A B → (o : Option End) → end_of c t k y ≡ o
-    → remains (held_of t y) o ≡ map (held_of (t ++ serving c t k y ∷ [])) (cond (is_some o) [] (y ∷ []))
-own_remains c t k y A B h6 o h8 = grind (arith, held_own)
-
 -- ---- what is held afterwards
 
 -- the records after a step of the one at the place
@@ -235,15 +222,14 @@ waiting_served c t k place d apart n e idle =
       held_of t,
       step_at c t k place apart n,
       record_held t place n.inside,
-      take-map
-          (held_of t) place (waiting t),
+      take-map (held_of t) place (waiting t),
       drop-map (held_of t) (place + 1) (waiting t),
       drive_by,
       end_held,
       front_passed,
-      own_remains,
       behind_kept,
       map-append,
+      held_own,
     )
 
 -- what is answered to a step is right and picked, and what is then held is that of the run

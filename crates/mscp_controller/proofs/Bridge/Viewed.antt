@@ -13,7 +13,7 @@ use Rattle.mscp_queue.specs.Views as records
 use Rattle.mscp_events.specs.Settings.{Settings}
 use Rattle.mscp_controller.specs.History.{Trace}
 use Rattle.mscp_controller.specs.Commands.{command, unit, waiting, earlier, is_idle}
-use Rattle.mscp_controller.specs.Passing.{is_affordable, is_free, is_startable, startable}
+use Rattle.mscp_controller.specs.Passing.{is_free, is_startable, startable}
 use Rattle.mscp_controller.specs.Units.{cost}
 use Rattle.mscp_controller.specs.Legal.{choice, view}
 use Rattle.mscp_queue.proofs.Lists.{every_kept, every_weaker, range_below}
@@ -62,18 +62,12 @@ unfolding is_free
 free_held t place l =
     search (arith, front_held t place l, held_of t, take-map (held_of t) place (waiting t), not, list_all-map)
 
-affordable_held : (c : Settings) (t : Trace) (place : ℕ) → place < length (waiting t)
-    → is_affordable c t (waiting_at t place) ≡ records.is_affordable c.budget (held_of t (waiting_at t place))
-    (take place (map (held_of t) (waiting t)))
-affordable_held c t place l =
-    search (arith, front_held t place l, held_of t, take-map (held_of t) place (waiting t), list_all-map)
-
 -- where nothing is in service, what may start is what the records say
 pub startable_held : (c : Settings) (t : Trace) (place : ℕ) → place < length (waiting t) → is_idle t ≡ true
     → is_startable c t (waiting_at t place) ≡ is_open_at c.budget (map (held_of t) (waiting t)) place
 unfolding is_startable
 startable_held c t place l idle =
-    search (arith, held_of t, free_held t place l, affordable_held c t place l, record_held t place l)
+    search (arith, held_of t, free_held t place l, record_held t place l, front_held, held_of, take-map, list_all-map)
 
 -- the commands that may start are those at the places that may
 pub startable_places : (c : Settings) (t : Trace) → is_idle t ≡ true

@@ -79,15 +79,9 @@ abbrev pub taken_when : Settings → Connection → Trace → Command → Bool �
 taken_when c via t command q =
     if q then sents.Queued command.reference else sents.Answered command.reference (aborted_reference c via t command)
 
-queue_of : (c : Settings) (via : Connection) (t : Trace) (command : Command) (r : ℕ)
-    → sents.Queued r ≡ taken_in c via t command
-    → is_queued c command ≡ true
-unfolding is_queue
-queue_of c via t command r h = search (arith, true≢false, is_queue)
-
 pub queued_right : (c : Settings) (t : Trace) (event : Event) (entry : Entry) → queues entry ≡ true
     → IsRight c t event entry → Queues c (connection_of event) t (sent_bytes event)
+unfolding is_queue
 queued_right c t (events.Send via b) (entries.Sent other (Ok (sents.Queued r))) q h =
-    let a = arrives c via t b.items (sents.Queued r) h.1 in
-    record { taken = a.taken; waits = queue_of c via t (command_of b.items) r a.is }
+    search (arith, arrives, true≢false, is_queue)
 queued_right c t event entry h4 h5 = grind (arith, false≢true)

@@ -83,10 +83,6 @@ own_left : (t t' : Trace) (s : Service) (y : ℕ) → record_of t' y ≡ served 
     → sum_by (left t') (cond (is_some s.ended) [] (y ∷ [])) + 1 ≤ left t y
 own_left t t' s y e is u = search (arith, left_own t t' y e)
 
-own_working : (t t' : Trace) (s : Service) (y : ℕ) → record_of t' y ≡ served (record_of t y)
-    → working t' (cond (is_some s.ended) [] (y ∷ [])) ≡ sum_by (left t') (cond (is_some s.ended) [] (y ∷ []))
-own_working t t' s y e = search (arith, lt-ltb)
-
 pub every_split : (P : ℕ → Type 0) (xs : List ℕ) → ((A : List ℕ) (x : ℕ) (B : List ℕ) → xs ≡ A ++ x ∷ B → P x)
     → AllByRecursion P xs
 every_split P [] f = tt
@@ -112,7 +108,7 @@ working_after : (t t' : Trace) (s : Service) (y : ℕ) (back B : List ℕ) → r
     → working t' (B ++ (cond (is_some s.ended) [] (y ∷ []) ++ back))
     ≡ sum_by (left t') (cond (is_some s.ended) [] (y ∷ []))
 working_after t t' s y back B e b k =
-    search (arith, working_idle t' B b, working_idle t' back k, own_working t t' s y e, working_append)
+    search (arith, working_idle t' B b, working_idle t' back k, working_append, lt-ltb)
 
 pub idle_stays : (t t' : Trace) (n : ℕ) (xs : List ℕ)
     → AllByRecursion (λ x. record_of t' x ≡ charged n (record_of t x)) xs → AllByRecursion (λ x. done t x ≡ 0) xs

@@ -9,7 +9,7 @@ use Rattle.mscp_events.specs.Settings.{Settings}
 use Rattle.mscp_controller.specs.History.{Trace, Moment, moment}
 use Rattle.mscp_controller.specs.Commands.{waiting}
 use Rattle.mscp_controller.specs.Legal.{IsRight, IsLegal}
-use Rattle.mscp_controller.proofs.Promise.Steady.{Steady, steady_empty, steady_more}
+use Rattle.mscp_controller.proofs.Promise.Steady.{Steady, steady_more}
 use Rattle.mscp_controller.proofs.Promise.Room.{Room, room_empty, room_more}
 use Rattle.mscp_controller.proofs.Promise.Queued.{Short, short_more}
 use Rattle.mscp_controller.proofs.Promise.Limited.{Limited, limited_more}
@@ -38,7 +38,7 @@ pub record Known (c : Settings) (t : Trace) : Type 0 where
 
 pub known_empty : (c : Settings) → Known c []
 unfolding waiting
-known_empty c = record { steady = steady_empty c; room = room_empty c; short = tt; limited = tt; within = tt }
+known_empty c = search (arith, room_empty)
 
 pub known_more : (c : Settings) → 1 ≤ c.longest → (t : Trace) (m : Moment) → IsRight c t m.0 m.1 → Known c t
     → Known c (t ++ m ∷ [])

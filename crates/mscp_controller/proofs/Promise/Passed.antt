@@ -38,10 +38,6 @@ pub none_starts : (t : Trace) (m : Moment) (x : ℕ) → ((r : Name) → starts_
     → passed (t ++ m ∷ []) x ≡ passed t x
 none_starts t m x f = search (arith, unpassed, filter_none, every_from)
 
-starts_other : (t : Trace) (m : Moment) (s : Service) (y z : ℕ) → service_in m.1 ≡ Some s → service_name s ≡ name t y
-    → name t z ≢ name t y → starts_in (name t z) m.1 ≡ false
-starts_other t m s y z e r n = search (arith, is_differ)
-
 starts_own : (t : Trace) (m : Moment) (s : Service) (y : ℕ) → service_in m.1 ≡ Some s → service_name s ≡ name t y
     → s.started ≡ true → starts_in (name t y) m.1 ≡ true
 starts_own t m s y e r h = search (arith, is_same (service_name s) (name t y) r)
@@ -49,7 +45,7 @@ starts_own t m s y e r h = search (arith, is_same (service_name s) (name t y) r)
 behind_other : (t : Trace) (m : Moment) (s : Service) (x y : ℕ) → service_in m.1 ≡ Some s → service_name s ≡ name t y
     → (xs : List ℕ) → AllByRecursion (λ z. name t z ≢ name t y) xs
     → AllByRecursion (λ z. starts_behind t m x z ≡ false) xs
-behind_other t m s x y e r xs h = search (arith, every_weaker, and_right, starts_other)
+behind_other t m s x y e r xs h = search (arith, every_weaker, and_right, is_differ)
 
 -- A command that isn't earlier than y isn't passed by a step of y.
 pub passed_behind : (c : Settings) (t : Trace) (m : Moment) (s : Service) (k : Block) (y : ℕ) (front back : List ℕ)

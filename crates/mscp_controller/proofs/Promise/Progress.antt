@@ -7,20 +7,14 @@ use Rattle.mscp_controller.proofs.Promise.Shaped.{shaped}
 use Rattle.mscp_controller.proofs.Promise.Grows.{ends_more}
 use Rattle.std.specs.List.{AllByRecursion, range_with_len}
 use Rattle.std.proofs.lemmas.List.Elements.{All-contains, All-from_recursion}
-use Rattle.mscp_packet.specs.declared.command.Command.{Command}
-use Rattle.mscp_packet.specs.declared.command.Order.TheVariants as orders
-use Rattle.mscp_events.specs.declared.event.Event.{Event}
-use Rattle.mscp_controller.specs.declared.entry.Entry.{Entry}
 use Rattle.mscp_events.specs.Settings.{Settings, IsValid, bound}
-use Rattle.mscp_controller.specs.History.{Trace, Moment, answers, moment, positions, sent_bytes, Service, service_in, WhenStarted}
-use Rattle.mscp_controller.specs.Commands.{name, sent_command, weight, is_waiting, waiting, done, left, steps_after, service_name}
+use Rattle.mscp_controller.specs.History.{Trace, Moment, moment, positions, Service, service_in, WhenStarted}
+use Rattle.mscp_controller.specs.Commands.{name, weight, is_waiting, waiting, done, left, steps_after, service_name}
 use Rattle.mscp_controller.specs.Passing.{passed, is_free}
 use Rattle.mscp_controller.specs.Figures.{figure, figure_of}
-use Rattle.mscp_controller.specs.Ends.{answer, answer_to, ends_at}
+use Rattle.mscp_controller.specs.Ends.{answer}
 use Rattle.mscp_controller.specs.Legal.{IsRight, IsLegal}
-use Rattle.mscp_controller.specs.Headline.{IsFreeStart, LeavesOther, Promise, TellsFigure, poll_end}
-use Rattle.mscp_events.specs.declared.connection.Connection.{Connection}
-use Rattle.mscp_queue.specs.Names.{name_on}
+use Rattle.mscp_controller.specs.Headline.{IsFreeStart, LeavesOther, Promise, TellsFigure}
 use Rattle.mscp_queue.proofs.Lists.{every_weaker, every_append, every_both}
 use Rattle.mscp_controller.proofs.Promise.Among.{alone, figure_of_one}
 use Rattle.mscp_controller.proofs.Promise.Waits.{cut_of, waits_below}
@@ -105,11 +99,6 @@ small c t k x = search (arith, high, waits_in, figure_gone)
 
 -- ---- polls
 
--- a poll's own end is its only one
-answered_by : (c : Settings) (via : Connection) (t : Trace) (k : Command) (r : ℕ) → k.order ≡ orders.Status r
-    → answer_to c via t k ≡ poll_end k r (figure_of c t (name_on via r)) ∷ []
-answered_by c via t k r e = search arith
-
 figure_told : (c : Settings) (t : Trace) → Steady c t → (x : ℕ) → Contains (waiting t) x
     → figure_of c t (name t x) ≡ figure c t x
 figure_told c t steady x w =
@@ -117,15 +106,9 @@ figure_told c t steady x w =
     one_of P (waiting t) (every_split P (waiting t)
     (λ A y B e. figure_of_one c t y A B (alone t y A B steady.apart (cut_of t A y B e)))) x w
 
--- what is answered at once makes the ends of its answer
-ends_answered : (c : Settings) (via : Connection) (t : Trace) (event : Event) (entry : Entry)
-    → answers via entry ≡ true → ends_at c via t (event, entry) ≡ answer c via t (sent_bytes event)
-ends_answered c via t event entry h5 = grind (arith, append-nil, false≢true)
-
 told : (c : Settings) (t : Trace) (m : Moment) → TellsFigure c t m (t ++ m ∷ [])
 unfolding answer
-told c t m via r a e =
-    search (arith, ends_more c via t m, ends_answered c via t m.0 m.1 a, answered_by c via t (sent_command m) r e)
+told c t m via r a e = search (arith, ends_more c via t m, append-nil, false≢true)
 
 -- ---- the promise
 

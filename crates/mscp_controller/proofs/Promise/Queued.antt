@@ -3,18 +3,14 @@ use Rattle.std.proofs.Common.{◌≡◌, ◌≢◌, ℕ, ◌<◌, ◌≤◌, Boo
 use Rattle.std.specs.Prelude.{nat_eq, if◌then◌else◌, slice_index, Option, None, is_none}
 use Rattle.std.specs.List.{AllByRecursion}
 use Rattle.std.proofs.lemmas.Bool.{ltb-false, eqb-false, true≢false, false≢true}
-use Rattle.mscp_packet.specs.declared.class.Opcode.{Opcode}
 use Rattle.mscp_packet.specs.declared.command.Command.{Command}
 use Rattle.mscp_packet.specs.declared.command.Order.{Order}
 use Rattle.mscp_packet.specs.declared.command.Order.TheVariants as orders
-use Rattle.mscp_packet.specs.Number.{num}
-use Rattle.mscp_packet.specs.Opcodes.{opcode_of, class_of_opcode, class, is_immediate_class}
-use Rattle.mscp_packet.specs.Commands.{order_with, command_of}
-use Rattle.mscp_drive.specs.Shape.{Shape}
-use Rattle.mscp_drive.specs.Extent as extent
+use Rattle.mscp_packet.specs.Opcodes.{class, is_immediate_class}
+use Rattle.mscp_packet.specs.Commands.{command_of}
 use Rattle.mscp_events.specs.declared.connection.Connection.{Connection}
 use Rattle.mscp_events.specs.Settings.{Settings}
-use Rattle.mscp_controller.specs.Arrival.{move_fault, order_fault, fault_of, is_immediate, is_queued}
+use Rattle.mscp_controller.specs.Arrival.{order_fault, fault_of, is_immediate, is_queued}
 use Rattle.mscp_queue.specs.Orders.{order_weight}
 use Rattle.mscp_controller.specs.History.{Trace, Moment}
 use Rattle.mscp_controller.specs.Commands.{command, weight, waiting}
@@ -42,12 +38,8 @@ queued_open c k h = search (arith, false≢true, none_of)
 abbrev pub Short : Settings → Trace → List ℕ → Type 0
 Short c t xs = AllByRecursion (λ x. weight t x ≤ c.longest) xs
 
-move_short : (c : Settings) (count block : ℕ) (o : Option Shape) → move_fault c count block o ≡ None
-    → extent.weight count ≤ c.longest
-move_short c count block o h4 = grind (arith, true≢false, if_none, ltb-false)
-
 order_short : (c : Settings) (u : ℕ) (o : Order) → 1 ≤ c.longest → order_fault c u o ≡ None → order_weight o ≤ c.longest
-order_short c u o h3 h4 = grind (arith, move_short)
+order_short c u o h3 h4 = search (arith, true≢false, if_none, ltb-false)
 
 -- a queued command is no longer than the longest
 pub queued_short : (c : Settings) (k : Command) → 1 ≤ c.longest → is_queued c k ≡ true
@@ -92,14 +84,10 @@ long_enough : (c : Settings) (u : ℕ) (short : Bool) (byte : ℕ) (o : Order)
     → order_fault c u (if short then orders.Invalid byte 0x0001 else o) ≡ None → is_immediate o ≡ false
 long_enough c u short byte o h5 h6 = grind (arith, true≢false)
 
-class_with : (c : Settings) (u : ℕ) (o : Option Opcode) (b : List ℕ) → is_immediate (order_with o b) ≡ false
-    → order_fault c u (order_with o b) ≡ None → is_immediate_class (class_of_opcode o) ≡ false
-class_with c u o b h4 h5 = grind (arith, long_enough)
-
 class_queued : (c : Settings) (b : List ℕ) → IsOpen c (command_of b)
     → is_immediate_class (class (slice_index b 8)) ≡ false
 unfolding command_of
-class_queued c b k = class_with c (num b 4 2) (opcode_of (slice_index b 8)) b k.waits k.sound
+class_queued c b k = search (arith, long_enough)
 
 two_of : (n : ℕ) (immediate : Bool) → immediate ≡ false → n ≢ 0 → (nat_eq n 1 && not immediate) ≡ false → 2 ≤ n
 two_of n immediate h2 h3 h4 = grind (arith, true≢false, eqb-false)

@@ -1,5 +1,5 @@
 -- The commands and the untaken ends of each connection never exceed its credits, and one credit of it is kept.
-use Rattle.std.proofs.Common.{◌≡◌, ℕ, ◌+◌, ◌-◌, ◌<◌, ◌≤◌, Bool, true, false, cond, not, ◌&&◌, List, [], ◌∷◌, ◌++◌, length, refl, ap, sym, subst, ◌∙◌, arith, append-nil}
+use Rattle.std.proofs.Common.{◌≡◌, ℕ, ◌+◌, ◌-◌, ◌<◌, ◌≤◌, Bool, true, false, cond, not, List, [], ◌∷◌, ◌++◌, length, refl, ap, sym, subst, ◌∙◌, arith, append-nil}
 use Rattle.std.specs.Prelude.{filter, if◌then◌else◌, count_by, slice_get, Option, Some, None, is_some, option_map, option_to_list, Ok, Err}
 use Rattle.std.specs.List.{AllByRecursion}
 use Rattle.std.proofs.lemmas.List.{length-append, length-map, length-drop}
@@ -53,14 +53,10 @@ two_filters p q (x ∷ xs) h = search (arith, two_filters p q xs h.1)
 
 -- ---- what is aborted no longer waits
 
--- the commands that an order names are of its connection
-own_and : (a b : Bool) → (a && (a && b)) ≡ (a && b)
-own_and a b = grind arith
-
 named_by : (via : Connection) (t : Trace) (other : ℕ)
     → filter (λ x. same_name (name t x) (name_on via other)) (waiting t)
     ≡ filter (λ x. same_name (name t x) (name_on via other)) (waiting_by via t)
-named_by via t other = search (arith, filter_on, every_from, own_and, filter_filter)
+named_by via t other = search (arith, filter_on, every_from, filter_filter)
 
 -- the answer to a message that aborts the command of this reference number, or none
 abbrev Answer : Connection → ℕ → Option ℕ → Entry
@@ -145,20 +141,6 @@ taken_as_answer c via t command q r a h7 = grind (arith, true≢false, is_answer
 
 -- ---- a step
 
--- one less passes the test, where one of them fails it
-one_fewer : (p : ℕ → Bool) (A : List ℕ) (y : ℕ) (B : List ℕ) → p y ≡ false
-    → length (filter p (A ++ y ∷ B)) + 1 ≤ length (A ++ y ∷ B)
-one_fewer p A y B e =
-    search (
-      arith,
-      filter-append p A (y ∷ B),
-      length-append (filter p A) (filter p B),
-      length-append A (y ∷ B),
-      fewer p
-          A,
-      fewer p B,
-    )
-
 -- where a step ends a command of the connection, one less waits
 served_rest : (via : Connection) (t : Trace) (m : Moment) (s : Service) (y : ℕ) (front back : List ℕ)
     → waiting t ≡ front ++ y ∷ back → service_in m.1 ≡ Some s → service_name s ≡ name t y
@@ -166,7 +148,7 @@ served_rest : (via : Connection) (t : Trace) (m : Moment) (s : Service) (y : ℕ
     → length (filter (λ x. not (ends_in (name t x) m.1)) (waiting_by via t)) + length (option_to_list s.ended)
     ≤ length (waiting_by via t)
 served_rest via t m s y front back is e same here =
-    search (arith, kept_own t m s y e same, not, filter-append, fewer, one_fewer)
+    search (arith, kept_own t m s y e same, not, filter-append, fewer, length-append)
 
 served_fits : (c : Settings) (via : Connection) (t : Trace) (m : Moment) (s : Service) → Room c t → Steady c t
     → service_in m.1 ≡ Some s → IsRight c t m.0 m.1 → queues_by via m ≡ false
@@ -281,11 +263,6 @@ took_one c via t (events.Take own) (entries.Taken other (Some b)) q h =
     )
 took_one c via t event entry h5 h6 = grind (arith, false≢true)
 
-untaken_length : (c : Settings) (via : Connection) (t : Trace)
-    → length (untaken c via t) ≡ length (ends c via t) - count_by (λ n. takes via n.1) t
-unfolding untaken
-untaken_length c via t = length-drop (count_by (λ (n : Moment). takes via n.1) t) (ends c via t)
-
 -- what one moment leaves of one connection's
 record Left (c : Settings) (via : Connection) (t : Trace) : Type 0 where
   taken : count_by (λ m. takes via m.1) t ≤ length (ends c via t)
@@ -294,6 +271,7 @@ record Left (c : Settings) (via : Connection) (t : Trace) : Type 0 where
 
 left_more : (c : Settings) (via : Connection) (t : Trace) (m : Moment) → IsRight c t m.0 m.1 → Steady c t → Room c t
     → Left c via (t ++ m ∷ [])
+unfolding untaken
 left_more c via t m r st h =
     search (
       arith,
@@ -301,14 +279,13 @@ left_more c via t m r st h =
       ends_more c via t m,
       length-append (ends c via t) (ends_at c via t m),
       waiting_by_length via t m,
-      untaken_length c via t,
-      untaken_length c via (t ++ m ∷ []),
       fits c via t m.0 m.1 h st r,
       length-append (untaken c via t) (ends_at c via t m),
       not,
       took_one,
       fewer,
       untaken_more,
+      length-drop,
     )
 
 -- Each right moment keeps the room.

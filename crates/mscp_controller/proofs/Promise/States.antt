@@ -5,7 +5,6 @@ use Rattle.std.specs.List.{AllByRecursion}
 use Rattle.std.proofs.lemmas.Grind.{flat_map-append}
 use Rattle.std.proofs.lemmas.Bool.{ne_eqb, eq-eqb}
 use Rattle.mscp_queue.proofs.Named.{is_differ, is_same}
-use Rattle.mscp_packet.specs.declared.command.Order.{Order}
 use Rattle.mscp_packet.specs.declared.end.End.{End}
 use Rattle.mscp_drive.specs.Shape.{cylinder_of}
 use Rattle.mscp_drive.specs.declared.head.Head.{Head}
@@ -14,7 +13,7 @@ use Rattle.mscp_events.specs.Settings.{Settings, unit_shape}
 use Rattle.mscp_queue.specs.Outcomes.{state_after, head_after}
 use Rattle.mscp_controller.specs.History.{Trace, Moment, collect, last_or, Service, service_in}
 use Rattle.mscp_controller.specs.Commands.{name, unit, order, waiting, service_name}
-use Rattle.mscp_controller.specs.Units.{states_given, states_ended, states_served, states_at, is_online, cylinder_touched, way, way_started, head_cylinder, head_up, head}
+use Rattle.mscp_controller.specs.Units.{states_ended, states_served, states_at, is_online, cylinder_touched, way, way_started, head_cylinder, head_up, head}
 use Rattle.mscp_queue.proofs.Lists.{every_weaker}
 use Rattle.mscp_controller.proofs.Promise.Grows.{last_more}
 use Rattle.mscp_controller.proofs.Promise.Among.{Alone}
@@ -74,25 +73,21 @@ if_same b x = grind arith
 given : Trace → ℕ → Option Service → ℕ → List Bool
 given t u o x = if nat_eq (unit t x) u then states_served (name t x) (order t x) o else []
 
-given_other : (t : Trace) (u x : ℕ) (s : Service) → service_name s ≢ name t x → given t u (Some s) x ≡ []
-unfolding given
-given_other t u x s n =
-    ap (λ b. if nat_eq (unit t x) u then (if b then states_ended (order t x) s.ended else []) else [])
-    (is_differ (service_name s) (name t x) n)
-    ∙ if_same (nat_eq (unit t x) u) []
-
 -- A step of y gives a state to y's unit alone, and only where it ends y.
 states_step : (t : Trace) (m : Moment) (s : Service) (y u : ℕ) (front back : List ℕ) → Alone t y front back
     → service_in m.1 ≡ Some s → service_name s ≡ name t y
     → states_at u t m ≡ (if nat_eq (unit t y) u then states_ended (order t y) s.ended else [])
 unfolding given
 states_step t m s y u front back a e r =
-    search (arith, given t u (Some s), is_same (service_name s) (name t y) r, given_other, flat_one, every_weaker)
-
--- The state that an order gives is that which it leaves.
-last_given : (on : Bool) (order : Order) (status : ℕ)
-    → last_or (states_given order status) on ≡ state_after on order status
-last_given on order status = grind arith
+    search (
+      arith,
+      given t u (Some s),
+      is_same (service_name s) (name t y) r,
+      flat_one,
+      every_weaker,
+      is_differ,
+      if_same,
+    )
 
 -- Where no step serves, each unit keeps its state.
 states_none : (t : Trace) (u : ℕ) (xs : List ℕ) → flat_map (given t u None) xs ≡ []
@@ -133,8 +128,7 @@ own_states c t m s k y front back st =
 pub is_online_ended : (c : Settings) (t : Trace) (m : Moment) (s : Service) (k : Block) (y : ℕ) (front back : List ℕ)
     (e : End) → Step c t m s k y front back → s.ended ≡ Some e
     → is_online (t ++ m ∷ []) (unit t y) ≡ state_after (is_online t (unit t y)) (order t y) e.status
-is_online_ended c t m s k y front back e st h =
-    search (arith, own_states c t m s k y front back st, last_given (is_online t (unit t y)) (order t y) e.status)
+is_online_ended c t m s k y front back e st h = search (arith, own_states c t m s k y front back st)
 
 -- Where it goes on, its unit keeps its state too.
 pub is_online_unended : (c : Settings) (t : Trace) (m : Moment) (s : Service) (k : Block) (y : ℕ) (front back : List ℕ)

@@ -1,5 +1,5 @@
 -- What is true after every part of a legal run, from the definitions alone.
-use Rattle.std.proofs.Common.{◌≡◌, ◌⊎◌, inl, inr, ⊎_elim, ℕ, ◌<◌, Bool, true, false, cond, not, ◌&&◌, ◌||◌, List, [], ◌∷◌, ◌++◌, length, refl, ap, sym, subst, arith, append-nil}
+use Rattle.std.proofs.Common.{◌≡◌, ◌⊎◌, inl, inr, ⊎_elim, ℕ, ◌<◌, Bool, true, false, cond, not, ◌||◌, List, [], ◌∷◌, ◌++◌, length, refl, ap, sym, subst, arith, append-nil}
 use Rattle.std.specs.Prelude.{filter, Option, Some, None, is_some}
 use Rattle.std.specs.List.{AllByRecursion}
 use Rattle.std.proofs.lemmas.Bool.{ltb-true, or_cases, true≢false, false≢true}
@@ -103,9 +103,6 @@ idle_where : (t : Trace) (y : ℕ) (xs : List ℕ) → 0 < done t y → AllByRec
     → AllByRecursion (λ x. done t x ≡ 0) xs
 idle_where t y xs h s = search (arith, every_weaker, ⊎_elim)
 
-last_and : (a b c : Bool) → (a && b && c) ≡ true → c ≡ true
-last_and a b c h3 = grind (arith, false≢true)
-
 -- where y is served, no other is in service
 pub idle_others : (c : Settings) (t : Trace) (y : ℕ) (front back : List ℕ) → waiting t ≡ front ++ y ∷ back
     → Single t (waiting t) → (in_service t y || is_startable c t y) ≡ true
@@ -125,7 +122,7 @@ idle_others c t y front back w s h =
 
 -- a command that a step doesn't end has more than one step left
 pub more_left : (c : Settings) (t : Trace) (k : Block) (y : ℕ) → is_some (end_of c t k y) ≡ false → 1 < left t y
-more_left c t k y h = search (arith, ltb-true, last_and, true≢false)
+more_left c t k y h = search (arith, ltb-true, true≢false, false≢true)
 
 stepped : (c : Settings) (t : Trace) (m : Moment) (s : Service) (k : Block) (y : ℕ) (front back : List ℕ)
     → IsRight c t m.0 m.1 → Steady c t → Step c t m s k y front back → Steady c (t ++ m ∷ [])
@@ -159,7 +156,3 @@ steady_more c t m r h =
       | Some s ↦ λ e. let z = step_right c t m s h.apart e r in stepped c t m s z.0 z.1 z.2 z.3 r h z.4
     ] in
     both (service_in m.1) refl
-
-pub steady_empty : (c : Settings) → Steady c []
-unfolding waiting
-steady_empty c = record { apart = tt; unfinished = tt; single = tt }

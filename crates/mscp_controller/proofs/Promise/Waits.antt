@@ -28,13 +28,9 @@ passed_at_past : (t : Trace) (m : Moment) (x : ℕ) → length t ≤ x → passe
 unfolding passed_at
 passed_at_past t m x h = search (arith, le-ltb x (length t) h)
 
-pub passed_past : (t : Trace) (x : ℕ) → length t ≤ x → passed t x ≡ 0
-unfolding passed
-passed_past t x h = search (arith, range_below 0 (length t), sum_none, every_weaker, passed_at_past, length-take)
-
 pub passed_last : (t : Trace) (m : Moment) → passed (t ++ m ∷ []) (length t) ≡ 0
-passed_last t m = passed_more t m (length t) ∙ (ap (λ n. n + passed_at t m (length t))
-    (passed_past t (length t) (omega arith)) ∙ ap (λ n. 0 + n) (passed_at_past t m (length t) (omega arith)))
+unfolding passed
+passed_last t m = search (arith, passed_more, passed_at_past, range_below, sum_none, every_weaker, length-take)
 
 -- a waiting command cuts the list of those that wait
 pub record Cut (t : Trace) (y : ℕ) (front back : List ℕ) : Type 0 where

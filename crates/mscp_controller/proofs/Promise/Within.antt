@@ -31,11 +31,8 @@ every_contained P xs h = recursion_from_All P xs (λ k d l. h (get_or xs k d) (C
 
 -- ---- a new command
 
-times_more : (a b k : ℕ) → a ≤ b → a * k ≤ b * k
-times_more a b k h = grind arith
-
 bound_of : (room Q L n l s : ℕ) → n + 1 ≤ room → s ≤ n * L → l ≤ L → s + Q + l ≤ room * L + Q
-bound_of room Q L n l s h k m = search (arith, times_more (n + 1) room L (omega arith))
+bound_of room Q L n l s h k m = search arith
 
 new_figure : (c : Settings) (t : Trace) (W : List ℕ) (x : ℕ) → waiting t ≡ W ++ x ∷ [] → done t x ≡ 0 → passed t x ≡ 0
     → Short c t (W ++ x ∷ []) → length W + 1 ≤ room c → figure c t x ≤ bound c

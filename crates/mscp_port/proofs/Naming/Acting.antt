@@ -1,5 +1,5 @@
 -- What a port knows once bytes were read, or an action went some way.
-use Rattle.std.proofs.Common.{◌≡◌, ◌⊎◌, ℕ, ◌<◌, Bool, true, false, ◌/◌, ◌%◌, List, [], ◌∷◌, Option, None, Some, Contains, IfSome, inl, inr, refl, ap, sym, subst, arith}
+use Rattle.std.proofs.Common.{◌≡◌, ◌⊎◌, ℕ, Bool, true, false, ◌/◌, ◌%◌, List, [], ◌∷◌, Option, None, Some, Contains, IfSome, inl, inr, refl, ap, sym, subst, arith}
 use Rattle.std.proofs.lemmas.Bool.{eqb-true, eqb-false, ltb-true, ltb-false}
 use Rattle.std.proofs.lemmas.Option.{none-some}
 use Rattle.std.specs.Prelude.{Result, Ok, Err, nat_lt, nat_eq}
@@ -11,7 +11,7 @@ use Rattle.mscp_port.specs.declared.port.Port.{Port}
 use Rattle.mscp_port.specs.declared.stage.Stage.{Stage}
 use Rattle.mscp_port.specs.declared.stage.Stage.TheVariants as stages
 use Rattle.mscp_port.specs.declared.task.Task.{Task}
-use Rattle.mscp_port.specs.Areas.{Rings, rings_named}
+use Rattle.mscp_port.specs.Areas.{rings_named}
 use Rattle.mscp_port.specs.Buffers.{buffer_in}
 use Rattle.mscp_port.specs.Slots.{is_owned}
 use Rattle.mscp_port.specs.Calls.{Goes, Hears, StaysInStage, TakesStep, step_answered}
@@ -80,11 +80,6 @@ pub stepped : {K : Type 0} (ws : List ℕ) (bs : List (List ℕ)) (new : Port K)
     → IfSome new.rings (λ r. NamesArea ws r) → Handles bs new → Knows ws bs new
 stepped ws bs new xs e h none area handles = search (arith, answers new.stage new.words, if_none)
 
--- the area that three words name
-pub area_named : (ws : List ℕ) (first second third : ℕ) (o : Option Rings) → rings_named first second third ≡ o
-    → HasInOrder (third ∷ second ∷ first ∷ []) ws → IfSome o (λ r. NamesArea ws r)
-area_named ws first second third o h5 h6 = grind arith
-
 pub first_step : {K : Type 0} (ws : List ℕ) (bs : List (List ℕ)) (old new : Port K) (word : ℕ) → Knows ws bs old
     → HasInOrder (word ∷ answers old.stage old.words) ws → Handles bs new → TakesStep word old new
     → old.stage ≡ stages.First → (b : Bool) → nat_eq (word / 0x4000 % 2) 1 ≡ b → Knows ws bs new
@@ -101,20 +96,13 @@ pub third_taken : {K : Type 0} (ws : List ℕ) (bs : List (List ℕ)) (old new :
     → HasInOrder (word ∷ answers old.stage old.words) ws → Handles bs new → old.stage ≡ stages.Third
     → answers new.stage new.words ≡ [] → new.written ≡ None
     → new.rings ≡ rings_named old.words.first old.words.second word → Knows ws bs new
-third_taken ws bs old new word given handles e none written rings =
-    search (arith, stepped, if_same, area_named, answers)
-
-pub third_cleared : {K : Type 0} (ws : List ℕ) (bs : List (List ℕ)) (old new : Port K) (word : ℕ)
-    → HasInOrder (word ∷ answers old.stage old.words) ws → Handles bs new → TakesStep word old new
-    → old.stage ≡ stages.Third → word < 0x8000 → (o : Option Rings)
-    → rings_named old.words.first old.words.second word ≡ o → Knows ws bs new
-third_cleared ws bs old new word h5 h6 h7 h8 h9 o h11 = grind (arith, new_knows, none-some, third_taken, answers)
+third_taken ws bs old new word given handles e none written rings = search (arith, stepped, if_same, answers)
 
 pub third_step : {K : Type 0} (ws : List ℕ) (bs : List (List ℕ)) (old new : Port K) (word : ℕ)
     → HasInOrder (word ∷ answers old.stage old.words) ws → Handles bs new → TakesStep word old new
     → old.stage ≡ stages.Third → (b : Bool) → nat_lt word 0x8000 ≡ b → Knows ws bs new
 third_step ws bs old new word h5 h6 h7 h8 b h10 =
-    grind (arith, third_cleared, ltb-true, ltb-false, third_taken, answers)
+    search (arith, ltb-true, ltb-false, third_taken, answers, new_knows, none-some)
 
 abbrev pub is_first : Stage → Bool
 is_first stages.First = true

@@ -127,12 +127,9 @@ abbrev dead_code : Stage → Option ℕ
 dead_code (stages.Dead code) = Some code
 dead_code s = None
 
-code_of_dead : (s : Stage) (code : ℕ) → dead_code s ≡ Some code → (n : ℕ) × (s ≡ stages.Dead n)
-code_of_dead s code h2 = grind (arith, none-some)
-
 asked_next : {K : Type 0} (old new : Port K) (action : Action) → Wants old action new → (o : Option ℕ)
     → dead_code old.stage ≡ o → IfSome (read_from action) (λ address. IsReadFrom new new.task address)
-asked_next old new action h3 o h5 = grind (arith, wanted_from, none-some, code_of_dead)
+asked_next old new action h3 o h5 = search (arith, wanted_from, none-some)
 
 pub next_placed : {K : Type 0} (ws : List ℕ) (rs : List (ℕ × List ℕ)) (o : Option ℕ) (old new : Port K)
     (action : Action) → Places ws rs o old → Wants old action new → Places ws rs (read_from action) new

@@ -3,5 +3,4 @@ use Rattle.std.proofs.Common.{◌-◌, arith}
 use Rattle.mscp_queue.proofs.backlog.set_back.Goals as goal
 
 pub returns-then-clock-lt-CLOCK_END-clause-dues : goal.returns-then-clock-lt-CLOCK_END-clause-dues
-returns-then-clock-lt-CLOCK_END-clause-dues c =
-    lowered_none (c.args.clock - c.args.clock) c.args.slots.now (omega arith)
+returns-then-clock-lt-CLOCK_END-clause-dues c = search (arith, lowered_none)

@@ -19,13 +19,7 @@ lowest m small (inr f) =
     positive m h = grind (arith, h)
 
 pub returns-then-lowest-count-clause-some : goal.returns-then-lowest-count-clause-some
-returns-then-lowest-count-clause-some c =
-    let m = c.args.mask in (
-      c.if-lowest-count.true,
-      (lowest m c.ranges.mask.fits (same_or m 0)).0
-          (omega (arith, c.if-lowest-count.true, c.requires)),
-    )
+returns-then-lowest-count-clause-some c = search (arith, lowest, same_or)
 
 pub returns-else-lowest-count-clause-none : goal.returns-else-lowest-count-clause-none
-returns-else-lowest-count-clause-none c = λ k l.
-    (lowest c.args.mask c.ranges.mask.fits (same_or c.args.mask 0)).1 k (omega (arith, l, c.if-lowest-count.false))
+returns-else-lowest-count-clause-none c = search (arith, lowest, same_or)

@@ -1,20 +1,14 @@
-use Rattle.std.proofs.Common.{w64}
+use Rattle.std.proofs.Common.{arith}
 use Rattle.std.proofs.lemmas.Nat.Bits.{bit_at_set_same, bit_at_set_other, bit_at_clear_same, bit_at_clear_other}
 use Rattle.std.proofs.lemmas.Nat.{and_le_l}
 use Rattle.mscp_queue.proofs.Masked.{after_bit}
 use Rattle.mscp_queue.proofs.masks.with_bit.Goals as goal
 
 pub returns-then-on-clause-set : goal.returns-then-on-clause-set
-returns-then-on-clause-set c = λ k l.
-    after_bit _ k c.args.slot _ c.args.on _ c.if-on.true
-    (bit_at_set_same w64 c.args.mask c.args.slot c.requires)
-    (λ d. bit_at_set_other w64 c.args.mask c.args.slot c.requires k d)
+returns-then-on-clause-set c = search (arith, after_bit, bit_at_set_same, bit_at_set_other)
 
 pub returns-else-on-clause-set : goal.returns-else-on-clause-set
-returns-else-on-clause-set c = λ k l.
-    after_bit _ k c.args.slot _ c.args.on _ c.if-on.false
-    (bit_at_clear_same w64 c.args.mask c.args.slot c.requires)
-    (λ d. bit_at_clear_other w64 c.args.mask c.args.slot c.requires k l d)
+returns-else-on-clause-set c = search (arith, after_bit, bit_at_clear_same, bit_at_clear_other)
 
 pub returns-else-on-clause-fewer : goal.returns-else-on-clause-fewer
 returns-else-on-clause-fewer c = λ e. and_le_l c.args.mask _

@@ -4,8 +4,8 @@ use Rattle.std.proofs.lemmas.List.{length-map}
 use Rattle.std.proofs.lemmas.List.FromFn.{get_or-range_with_len, length-range_with_len}
 use Rattle.mscp_queue.specs.declared.drive.Drive.{Drive}
 use Rattle.mscp_queue.specs.declared.view.Choice.{Choice}
-use Rattle.mscp_queue.specs.Records.{Record, drive_at, record_at}
-use Rattle.mscp_queue.specs.Views.{AllMayStart, choice_of, choices_at, open_places, view_of}
+use Rattle.mscp_queue.specs.Records.{Record}
+use Rattle.mscp_queue.specs.Views.{AllMayStart, choices_at, open_places, view_of}
 use Rattle.mscp_queue.proofs.CandidateCosts.{all_choices, candidates_of}
 use Rattle.mscp_queue.proofs.Starting.{places_inside, some_place}
 use Rattle.mscp_queue.proofs.start.picked_place.Goals as goal
@@ -19,19 +19,7 @@ record AllPicked (budget : ℕ) (ds : List Drive) (rs : List Record) (view : Lis
 
 all_picked : (budget : ℕ) (ds : List Drive) (rs : List Record) (view : List Choice) → 0 < length rs
     → AllMayStart budget rs → view ≡ choices_at ds rs (range_with_len 0 (length rs)) → AllPicked budget ds rs view
-all_picked budget ds rs view some h is =
-    let opens = h.places in
-    let long : length view ≡ length rs = ap length is
-    ∙ (length-map (range_with_len 0 (length rs)) (λ place. choice_of (drive_at ds rs place) (record_at rs place))
-    ∙ length-range_with_len 0 (length rs)) in
-    let any : 0 < length view = omega (arith, long, some) in
-    record {
-      opens = opens;
-      shown = is ∙ ap (choices_at ds rs) (sym opens);
-      some = any;
-      inside = λ place l. let below =
-          l any in omega (arith, below, long);
-    }
+all_picked budget ds rs view some h is = search (arith, length-map, length-range_with_len)
 
 from_0 : (n : ℕ) → 0 + n ≡ n
 from_0 n = omega arith
@@ -70,12 +58,7 @@ record IsChosen (budget i : ℕ) (rs : List Record) (view : List Choice) : Type 
 chosen : (budget i : ℕ) (ds : List Drive) (rs : List Record) (view : List Choice) → 0 < length rs
     → view ≡ view_of budget ds rs
     → (0 < length view → i < length view) → IsChosen budget i rs view
-chosen budget i ds rs view l is place =
-    let many = ap length is
-    ∙ length-map (open_places budget rs) (λ place. choice_of (drive_at ds rs place) (record_at rs place)) in
-    let any : 0 < length view = omega (arith, many, some_place budget rs l) in
-    let inside = place any in
-    record { some = any; below = omega (arith, many, inside) }
+chosen budget i ds rs view l is place = search (arith, length-map, some_place)
 
 pub returns-clause-inside : goal.returns-clause-inside
 returns-clause-inside g c =

@@ -23,6 +23,4 @@ returns-then-is_shut-clause-view c =
     ∙ ap (choices_at c.args.drives.now c.args.backlog.now.waiting) (returns-then-is_shut-clause-places c)
 
 pub loop-place-preserved : goal.loop-place-preserved
-loop-place-preserved c =
-    looks_more c.may_start-starts.result c.may_start-starts.ensures c.show_if.ensures.kept c.show_if.ensures.shown
-    c.loop-place.invariant
+loop-place-preserved c = search (arith, looks_more)

@@ -1,5 +1,4 @@
-use Rattle.std.proofs.Common.{[], ◌∷◌, ◌++◌, true, ap, inl, refl, sym, ◌∙◌, arith}
-use Rattle.mscp_queue.specs.Views.{choice_of, choices_at}
+use Rattle.std.proofs.Common.{[], true, inl, refl, sym, arith}
 use Rattle.mscp_queue.proofs.Starting.{found_all, looks_more, looks_none, shut_is}
 use Rattle.mscp_queue.proofs.start.show_oldest.Goals as goal
 
@@ -13,8 +12,4 @@ returns-clause-places c =
     (omega (arith, c.requires.spent)) c.requires.some (inl refl)))
 
 pub returns-clause-view : goal.returns-clause-view
-returns-clause-view c =
-    let at = c.targeted_at-cylinder.ensures in
-    let own = c.choice_of.ensures ∙ (λ i. choice_of (at.drive i) (at.«record» i)) in
-    c.push.ensures ∙ ((λ i. c.requires.view i ++ own i ∷ [])
-    ∙ ap (choices_at c.args.drives.now c.args.backlog.now.waiting) (sym (returns-clause-places c)))
+returns-clause-view c = search (arith, returns-clause-places)

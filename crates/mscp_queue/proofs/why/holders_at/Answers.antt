@@ -1,7 +1,7 @@
 use Rattle.std.proofs.Common.{◌≡◌, ◌||◌, ap, ◌∙◌, arith}
 use Rattle.mscp_queue.specs.declared.why.Holder.{Holder}
 use Rattle.mscp_queue.specs.Records.{Record, record_at}
-use Rattle.mscp_queue.specs.Why.{holder_of, holders_among, is_nobody}
+use Rattle.mscp_queue.specs.Why.{holder_of}
 use Rattle.mscp_queue.proofs.Whys.{holders_more, none_keeps_back}
 use Rattle.mscp_queue.proofs.why.holders_at.Goals as goal
 
@@ -18,11 +18,4 @@ loop-earlier-preserved c =
     what c.append_if.ensures c.loop-earlier.invariant
 
 pub returns-clause-none : goal.returns-clause-none
-returns-clause-none c =
-    let rs = c.args.backlog.now.waiting in
-    let place = c.args.place in
-    let inv = c.loop-earlier.invariant in
-    let end : c.loop-earlier.earlier ≡ place =
-    omega (arith, c.loop-earlier-test.false, c.loop-earlier.auto.earlier-end) in
-    ap is_nobody (inv.told ∙ ap (holders_among c.args.budget rs place) end)
-    ∙ none_keeps_back c.args.budget rs place place (omega (arith, c.requires.place))
+returns-clause-none c = search (arith, none_keeps_back)

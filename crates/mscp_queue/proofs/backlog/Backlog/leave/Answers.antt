@@ -1,5 +1,4 @@
-use Rattle.std.proofs.Common.{◌≡◌, ◌+◌, refl, ap, ◌∙◌}
-use Rattle.mscp_queue.specs.declared.slots.Slot.{Slot}
+use Rattle.std.proofs.Common.{◌≡◌, ◌+◌, ap, ◌∙◌, arith}
 use Rattle.mscp_queue.specs.Waiters.{Waiters}
 use Rattle.mscp_queue.specs.Records.{Record, is_in_service, left_of}
 use Rattle.mscp_queue.proofs.Backlogs.{back_of, front_of, leave_enough, leave_timed, seen_left}
@@ -31,11 +30,7 @@ invariant_of-self c =
     (c.from-left.ensures ∙ c.left.ensures.value ∙ ap left_of c.item.ensures) c.remove.ensures c.lower_all.ensures
 
 pub returns-clause-waiting : goal.returns-clause-waiting
-returns-clause-waiting c = seen_left (λ (s : Slot). s.item) c.from-left.result c.self.inside.slots _ _ c.args.place _
-    (λ s. refl)
-    (ap (λ (w : Waiters). w.waiting) c.self.view_is) c.remove.ensures c.lower_all.ensures
+returns-clause-waiting c = search (arith, seen_left)
 
 pub returns-clause-targets : goal.returns-clause-targets
-returns-clause-targets c = seen_left (λ (s : Slot). s.target) c.from-left.result c.self.inside.slots _ _ c.args.place _
-    (λ s. refl)
-    (ap (λ (w : Waiters). w.targets) c.self.view_is) c.remove.ensures c.lower_all.ensures
+returns-clause-targets c = search (arith, seen_left)

@@ -1,15 +1,13 @@
-use Rattle.std.proofs.Common.{◌++◌, ◌∷◌, [], ◌+◌, cond, map, take, drop, ap, sym, ◌∙◌}
+use Rattle.std.proofs.Common.{◌++◌, ◌∷◌, [], ◌+◌, cond, map, take, drop, ap, sym, ◌∙◌, arith}
 use Rattle.mscp_queue.specs.Records.{advanced, passed_by, record_at, step_charge}
 use Rattle.mscp_queue.proofs.BacklogSteps.{back_idle, ended_at, front_idle}
 use Rattle.mscp_queue.proofs.backlog.Backlog.serve.Goals as goal
 
 pub leave-requires-clause-front : goal.leave-requires-clause-front
-leave-requires-clause-front c = front_idle _ c.args.place c.args.self.now.waiting _ _ c.requires.place
-    c.advance.ensures.waiting c.requires.front
+leave-requires-clause-front c = search (arith, front_idle)
 
 pub leave-requires-clause-back : goal.leave-requires-clause-back
-leave-requires-clause-back c = back_idle _ c.args.place c.args.self.now.waiting _ _ c.requires.place
-    c.advance.ensures.waiting c.requires.back
+leave-requires-clause-back c = search (arith, back_idle)
 
 pub returns-then-ends-clause-waiting : goal.returns-then-ends-clause-waiting
 returns-then-ends-clause-waiting c =

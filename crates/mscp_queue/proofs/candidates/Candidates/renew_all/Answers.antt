@@ -1,4 +1,4 @@
-use Rattle.std.proofs.Common.{arith, ◌<◌, refl, subst}
+use Rattle.std.proofs.Common.{arith, subst}
 use Rattle.std.specs.Prelude.{false}
 use Rattle.mscp_queue.specs.Masks.{IsSet}
 use Rattle.mscp_queue.proofs.CandidateCosts.{candidates_renewed, candidates_whole}
@@ -18,12 +18,4 @@ loop-at-preserved c =
     c.requires.waiting.drives (λ k other l. (c.requires.waiting.inside k other l).0)
 
 pub loop-at-smaller : goal.loop-at-smaller
-loop-at-smaller c =
-    let some = c.in-Some.ensures.some in
-    let inside = some.0 in
-    let low : c.in-Some.at < 64 = omega (arith, inside, c.requires.waiting.drives) in
-    let dirty = c.renew.ensures.dirty in
-    let less = c.with_bit-self.ensures.fewer refl in
-    less_left c.loop-at.self.dirty c.with_bit-self.result c.in-Some.at low some.1
-    (subst (λ dirty. IsSet false c.in-Some.at dirty c.with_bit-self.result) dirty c.with_bit-self.ensures.set)
-    (omega (arith, less, dirty))
+loop-at-smaller c = search (arith, less_left)

@@ -1,22 +1,15 @@
-use Rattle.std.proofs.Common.{◌≡◌, ◌<◌, length, ap, sym, subst, ◌∙◌}
-use Rattle.std.specs.Prelude.{Some, find, option_map}
+use Rattle.std.proofs.Common.{◌≡◌, ◌<◌, length, ap, sym, subst, ◌∙◌, arith}
 use Rattle.mscp_queue.specs.Kept.{begun_name}
 use Rattle.mscp_queue.specs.Lines.{Line, aborting}
 use Rattle.mscp_queue.specs.Names.{name_on}
-use Rattle.mscp_queue.specs.Records.{aborted_record, has_name, name_of, record_at}
+use Rattle.mscp_queue.specs.Records.{name_of, record_at}
 use Rattle.mscp_queue.proofs.Aborts.{aborts_at, aborts_none, none_aborted}
 use Rattle.mscp_queue.proofs.CandidateLists.{place_of}
 use Rattle.mscp_queue.proofs.Nexts.{named_at}
 use Rattle.mscp_queue.proofs.queue.Queue.abort.Goals as goal
 
 pub returns-in_err-place-clause-end : goal.returns-in_err-place-clause-end
-returns-in_err-place-clause-end g c =
-    let K = g.row.K.Denot in
-    let name = name_on c.args.connection c.args.reference in
-    let none = aborts_none name c.self.inside.backlog.waiting (sym (c.place_of.ensures
-    ∙ place_of name c.self.invariant.listed) ∙ c.in_err-place.was) in
-    c.from_residual.ensures ∙ (ap (option_map aborted_record) (sym none.found)
-    ∙ ap (λ (l : Line K). option_map aborted_record (find (has_name name) l.waiting)) c.self.view_is)
+returns-in_err-place-clause-end g c = search (arith, aborts_none, place_of)
 
 pub returns-in_err-place-clause-after : goal.returns-in_err-place-clause-after
 returns-in_err-place-clause-after g c =
@@ -49,16 +42,7 @@ abort_at-requires g c =
     subst (λ (l : Line K). c.in_ok-place.place < length l.waiting) c.self.view_is at.inside
 
 pub returns-clause-end : goal.returns-clause-end
-returns-clause-end g c =
-    let K = g.row.K.Denot in
-    let place = c.in_ok-place.place in
-    let name = name_on c.args.connection c.args.reference in
-    let at = aborts_at name c.self.inside.backlog.waiting place c.self.invariant.ready.held.apart
-    (sym (c.place_of.ensures ∙ place_of name c.self.invariant.listed) ∙ c.in_ok-place.was) in
-    ap Some c.abort_at.ensures.end
-    ∙ subst (λ (l : Line K). Some (aborted_record (record_at l.waiting place))
-    ≡ option_map aborted_record (find (has_name name) l.waiting)) c.self.view_is
-    (ap (option_map aborted_record) (sym at.found))
+returns-clause-end g c = search (arith, aborts_at, place_of)
 
 pub returns-clause-after : goal.returns-clause-after
 returns-clause-after g c =

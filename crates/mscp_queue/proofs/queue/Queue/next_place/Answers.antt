@@ -1,6 +1,6 @@
-use Rattle.std.proofs.Common.{◌≡◌, ap, subst, sym}
+use Rattle.std.proofs.Common.{◌≡◌, ap, subst, sym, arith}
 use Rattle.std.specs.Prelude.{Some}
-use Rattle.mscp_queue.specs.Kept.{CanBeShown, begun_name}
+use Rattle.mscp_queue.specs.Kept.{begun_name}
 use Rattle.mscp_queue.specs.Lines.{Line}
 use Rattle.mscp_queue.specs.Records.{name_of, record_at}
 use Rattle.mscp_queue.specs.Serving.{IsNext}
@@ -35,8 +35,7 @@ returns-in-Some-begun-clause-some g c =
 
 pub picked_place-requires-clause-waiting : goal.picked_place-requires-clause-waiting
 picked_place-requires-clause-waiting g c =
-    subst (λ ds. CanBeShown ds c.self.inside.backlog.waiting c.self.inside.backlog.targets)
-    (sym c.as_slice.ensures.value) (can_be_shown c.self.invariant.ready)
+    search (arith, can_be_shown, c.as_slice.ensures.value, c.self.invariant.ready)
 
 pub returns-clause-some : goal.returns-clause-some
 returns-clause-some g c =

@@ -2,8 +2,6 @@ use Rattle.std.proofs.Common.{◌≡◌, ◌<◌, ◌++◌, ◌∷◌, [], false
 use Rattle.std.specs.List.{list_any}
 use Rattle.std.proofs.lemmas.List.{length-map}
 use Rattle.mscp_packet.specs.declared.command.Command.{Command}
-use Rattle.mscp_queue.specs.declared.target.Target.{Target}
-use Rattle.mscp_queue.specs.declared.drive.Drive.{Drive}
 use Rattle.mscp_queue.specs.Targets.{target_of}
 use Rattle.mscp_queue.specs.Kept.{IsWaitable, units_of}
 use Rattle.mscp_queue.specs.Lines.{Line}
@@ -17,26 +15,7 @@ use Rattle.mscp_queue.proofs.Sums.{held_small}
 use Rattle.mscp_queue.proofs.queue.Queue.push.Goals as goal
 
 pub push-requires-clause-drive : goal.push-requires-clause-drive
-push-requires-clause-drive g c =
-    let K = g.row.K.Denot in
-    let ds = c.self.inside.drives.items in
-    let command : Command = record {
-      reference = c.args.new.reference;
-      unit = c.args.new.unit;
-      order =
-          c.args.new.order;
-    } in
-    let waitable = subst (λ (l : Line K). IsWaitable l.longest (units_of l.drives) command)
-    (sym c.self.view_is) c.requires.waitable in
-    let few = c.self.invariant.ready.held.units.few in
-    omega (
-      arith,
-      ap (λ (a : Target). a.drive) (c.of-target.ensures ∙ ap
-          (λ ds. target_of (units_of ds) command) c.as_slice.ensures.value),
-      place_inside ds c.args.new.unit waitable.known,
-      few,
-      length-map ds (λ (d : Drive). d.unit),
-    )
+push-requires-clause-drive g c = search (arith, place_inside, length-map)
 
 pub push-requires-clause-small : goal.push-requires-clause-small
 push-requires-clause-small g c = held_small c.self.invariant.ready.held

@@ -1,12 +1,11 @@
-use Rattle.std.proofs.Common.{length, refl, ap, subst, sym, ◌∙◌}
+use Rattle.std.proofs.Common.{length, refl, ap, subst, sym, ◌∙◌, arith}
 use Rattle.std.specs.Prelude.{is_some, map, None}
 use Rattle.std.specs.List.{refill}
 use Rattle.std.proofs.lemmas.Bool.{false≢true}
 use Rattle.mscp_queue.specs.declared.drive.Drive.{Drive}
 use Rattle.mscp_queue.specs.Drives.{fresh_drive}
 use Rattle.mscp_queue.specs.Waiters.{Waiters}
-use Rattle.mscp_queue.specs.Kept.{IsReady, begun_name, units_of}
-use Rattle.mscp_queue.specs.Lines.{Line, fresh}
+use Rattle.mscp_queue.specs.Kept.{IsReady, begun_name}
 use Rattle.mscp_queue.proofs.CandidateLists.{none_listed}
 use Rattle.mscp_queue.proofs.Held.{held_renewed, renewed}
 use Rattle.mscp_queue.proofs.queue.Queue.reset.Goals as goal
@@ -33,19 +32,4 @@ invariant_of-self g c =
     }
 
 pub returns : goal.returns
-returns g c =
-    let q = c.self.inside in
-    let K = g.row.K.Denot in
-    let drives = renewed q.drives.items c.renew_drives.new.drives
-    (c.renew_drives.ensures ∙ ap (map (λ (d : Drive). fresh_drive d.unit)) c.as_mut_slice.ensures.value) in
-    (λ i. record {
-      room = q.room;
-      budget = (c.clear.ensures i).budget;
-      longest = q.longest;
-      waiting = (c.clear.ensures i).waiting;
-      drives =
-          drives i;
-      begun = None;
-      picker = q.picker;
-    })
-    ∙ ap (λ (l : Line K). fresh (units_of l.drives) l.room l.budget l.longest l.picker) c.self.view_is
+returns g c = search (arith, renewed)

@@ -1,18 +1,15 @@
-use Rattle.std.proofs.Common.{arith, ◌≡◌, ◌<◌, length, get_or, ap, subst, sym, ◌∙◌}
-use Rattle.std.specs.Prelude.{◌||◌, true, IfSome, None}
+use Rattle.std.proofs.Common.{arith, ◌<◌, length, get_or, ap, subst, sym, ◌∙◌}
+use Rattle.std.specs.Prelude.{None}
 use Rattle.std.proofs.lemmas.List.{length-map}
 use Rattle.mscp_packet.specs.declared.command.Command.{Command}
-use Rattle.mscp_packet.specs.Ends.{IsOfKind}
 use Rattle.mscp_queue.specs.declared.target.Target.{Target}
 use Rattle.mscp_queue.specs.declared.drive.Drive.{Drive}
-use Rattle.mscp_queue.specs.declared.plan.Plan.{Plan}
 use Rattle.mscp_queue.specs.declared.report.Report.TheVariants.{Served}
 use Rattle.mscp_queue.specs.Drives.{replaced}
 use Rattle.mscp_queue.specs.Kept.{units_of}
 use Rattle.mscp_queue.specs.Lines.{Line, served}
-use Rattle.mscp_queue.specs.Orders.{is_move, is_sequential}
-use Rattle.mscp_queue.specs.Records.{Record, drive_at, is_unstarted, no_record, record_at}
-use Rattle.mscp_queue.specs.Serving.{end_in, plan_of, report_of}
+use Rattle.mscp_queue.specs.Records.{Record, drive_at, is_unstarted, record_at}
+use Rattle.mscp_queue.specs.Serving.{plan_of, report_of}
 use Rattle.mscp_queue.proofs.CandidateLists.{as_many}
 use Rattle.mscp_queue.proofs.Ready.{can_serve, drive_found, left_is, ready_step}
 use Rattle.mscp_queue.proofs.Shaped.{given_kind}
@@ -55,10 +52,7 @@ serve-requires-clause-affordable g c =
     (can_serve c.args.block.now ready.held servable).affordable
 
 pub serve-requires-2-clause-place : goal.serve-requires-2-clause-place
-serve-requires-2-clause-place g c =
-    let ready = c.self.invariant.ready in
-    let servable = (next_in g.K.Picker.picks c.self.view_is c.requires).servable in
-    omega (arith, servable.inside, as_many c.self.invariant.listed)
+serve-requires-2-clause-place g c = search (arith, next_in, as_many)
 
 pub serve-requires-2-clause-drive : goal.serve-requires-2-clause-drive
 serve-requires-2-clause-drive g c =
@@ -107,14 +101,7 @@ returns-clause-units g c =
     units_step made ready.held.units ∙ ap (λ (l : Line g.row.K.Denot). units_of l.drives) c.self.view_is
 
 pub returns-clause-shaped : goal.returns-clause-shaped
-returns-clause-shaped g c =
-    let ready = c.self.invariant.ready in
-    let servable = (next_in g.K.Picker.picks c.self.view_is c.requires).servable in
-    let CanWait : Record → Type 0 = λ r. (is_sequential r.command.order || is_move r.command.order) ≡ true in
-    subst (λ e. IfSome e IsOfKind)
-    (sym (ap end_in c.report.ensures ∙ ap (λ (p : Plan). p.ended) c.of-plan.ensures))
-    (given_kind c.args.block.now c.index-deref-at.result c.record.result.now
-    (subst CanWait (sym c.record.ensures) (ready.held.each c.args.place no_record servable.inside).waitable.order))
+returns-clause-shaped g c = search (arith, next_in, given_kind)
 
 pub returns-clause-served : goal.returns-clause-served
 returns-clause-served g c =

@@ -1,5 +1,4 @@
-use Rattle.std.proofs.Common.{ap, sym, ◌∙◌, arith}
-use Rattle.mscp_queue.specs.Records.{Record, advanced}
+use Rattle.std.proofs.Common.{arith}
 use Rattle.mscp_queue.proofs.Shown.{item_at, item_set, kept_advanced, number_of, serves_since}
 use Rattle.mscp_queue.proofs.slots.Slots.advance.Goals as goal
 
@@ -28,15 +27,7 @@ bounds-self-inside-slot-2 c =
     c.deref.ensures.0).low
 
 pub advance-requires : goal.advance-requires
-advance-requires c =
-    let n = number_of c.self.inside.dues c.args.self.now c.self.invariant c.self.view_is c.requires.place
-    c.from-slot.ensures
-    c.deref.ensures.0 in
-    let is = ap (λ (q : Record). q.done) (item_at c.self.inside.dues c.args.self.now c.index-self-slot-2.result
-    c.self.invariant
-    c.self.view_is c.requires.place n) in
-    let own = ap (λ (q : Record). q.done) c.index-self-slot-2.is in
-    omega (arith, is, own, c.requires.unfinished)
+advance-requires c = search (arith, number_of, item_at)
 
 pub serve-requires-clause-slot : goal.serve-requires-clause-slot
 serve-requires-clause-slot c =
@@ -44,11 +35,7 @@ serve-requires-clause-slot c =
     c.deref.ensures.0).low
 
 pub serve-requires-clause-since : goal.serve-requires-clause-since
-serve-requires-clause-since c = λ since.
-    let n = number_of c.self.inside.dues c.args.self.now c.self.invariant c.self.view_is c.requires.place
-    c.from-slot.ensures
-    c.deref.ensures.0 in
-    serves_since c.index-self-slot.result c.self.invariant n.low n.taken (sym c.is_unstarted-starts.ensures ∙ since)
+serve-requires-clause-since c = search (arith, number_of, serves_since)
 
 pub invariant_of-self : goal.invariant_of-self
 invariant_of-self c =
@@ -60,9 +47,4 @@ invariant_of-self c =
     c.serve.ensures.set
 
 pub returns : goal.returns
-returns c =
-    let n = number_of c.self.inside.dues c.args.self.now c.self.invariant c.self.view_is c.requires.place
-    c.from-slot.ensures
-    c.deref.ensures.0 in
-    item_set c.self.inside.dues c.args.self.now advanced c.index-self-slot-2.result c.self.invariant c.self.view_is
-    c.requires.place n c.advance.ensures
+returns c = search (arith, number_of, item_set)

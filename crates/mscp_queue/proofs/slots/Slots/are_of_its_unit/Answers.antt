@@ -9,20 +9,10 @@ bounds-self-inside-slot c =
     c.deref.ensures.0).low
 
 pub is_last_unit-requires-clause-slot : goal.is_last_unit-requires-clause-slot
-is_last_unit-requires-clause-slot c =
-    (number_of c.self.inside.dues c.args.self.now c.self.invariant c.self.view_is c.requires c.from-slot.ensures
-    c.deref.ensures.0).low
+is_last_unit-requires-clause-slot c = search (arith, number_of)
 
 pub is_last_unit-requires-clause-drive : goal.is_last_unit-requires-clause-drive
-is_last_unit-requires-clause-drive c =
-    let n = number_of c.self.inside.dues c.args.self.now c.self.invariant c.self.view_is c.requires c.from-slot.ensures
-    c.deref.ensures.0 in
-    let few = c.self.invariant.drives c.from-slot.result n.taken in
-    omega (arith, few, c.from-drive.ensures)
+is_last_unit-requires-clause-drive c = search (arith, number_of)
 
 pub returns : goal.returns
-returns c = λ e.
-    let n = number_of c.self.inside.dues c.args.self.now c.self.invariant c.self.view_is c.requires c.from-slot.ensures
-    c.deref.ensures.0 in
-    of_unit_behind c.self.inside.dues c.args.self.now c.self.invariant c.self.view_is c.requires n c.from-drive.ensures
-    (c.is_last_unit.ensures e)
+returns c = search (arith, number_of, of_unit_behind)

@@ -1,3 +1,4 @@
+use Rattle.std.proofs.Common.{arith}
 use Rattle.mscp_queue.proofs.Fallen.{enough_all, lowered_all}
 use Rattle.mscp_queue.proofs.slots.Slots.lower_all.Goals as goal
 
@@ -5,5 +6,4 @@ pub lower-requires : goal.lower-requires
 lower-requires c = enough_all c.self.inside.dues c.args.self.now c.args.by c.self.invariant c.self.view_is c.requires
 
 pub returns : goal.returns
-returns c = lowered_all c.self.inside.dues c.lower.new.dues c.args.self.now c.args.by c.self.invariant c.self.view_is
-    c.lower.ensures
+returns c = search (arith, lowered_all)

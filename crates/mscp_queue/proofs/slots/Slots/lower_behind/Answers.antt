@@ -1,3 +1,4 @@
+use Rattle.std.proofs.Common.{arith}
 use Rattle.mscp_queue.proofs.Fallen.{enough_behind, lowered_behind}
 use Rattle.mscp_queue.proofs.Shown.{number_of}
 use Rattle.mscp_queue.proofs.slots.Slots.lower_behind.Goals as goal
@@ -8,19 +9,7 @@ behind-requires c =
     c.deref.ensures.0).low
 
 pub lower-requires : goal.lower-requires
-lower-requires c =
-    let n = number_of c.self.inside.dues c.args.self.now c.self.invariant c.self.view_is c.requires.place
-    c.from-slot.ensures
-    c.deref.ensures.0 in
-    enough_behind c.self.inside.dues c.self.inside.dues c.args.self.now c.args.by c.behind.result c.self.invariant
-    c.self.view_is
-    c.requires.place n c.behind.ensures c.requires.enough
+lower-requires c = search (arith, number_of, enough_behind)
 
 pub returns : goal.returns
-returns c =
-    let n = number_of c.self.inside.dues c.args.self.now c.self.invariant c.self.view_is c.requires.place
-    c.from-slot.ensures
-    c.deref.ensures.0 in
-    lowered_behind c.self.inside.dues c.lower.new.dues c.args.self.now c.args.by c.behind.result c.self.invariant
-    c.self.view_is
-    c.requires.place n c.behind.ensures c.lower.ensures
+returns c = search (arith, number_of, lowered_behind)

@@ -1,5 +1,4 @@
-use Rattle.std.proofs.Common.{ap, arith}
-use Rattle.mscp_queue.specs.Records.{Record, passed_by}
+use Rattle.std.proofs.Common.{arith}
 use Rattle.mscp_queue.proofs.Shown.{item_at, item_set, kept_passed, number_of}
 use Rattle.mscp_queue.proofs.slots.Slots.pass.Goals as goal
 
@@ -16,15 +15,7 @@ bounds-self-inside-slot c =
     c.deref.ensures.0).low
 
 pub pass-requires : goal.pass-requires
-pass-requires c =
-    let n = number_of c.self.inside.dues c.args.self.now c.self.invariant c.self.view_is c.requires.place
-    c.from-slot.ensures
-    c.deref.ensures.0 in
-    let is = ap (λ (q : Record). q.passed) (item_at c.self.inside.dues c.args.self.now c.index-self-slot.result
-    c.self.invariant
-    c.self.view_is c.requires.place n) in
-    let own = ap (λ (q : Record). q.passed) c.index-self-slot.is in
-    omega (arith, is, own, c.requires.small)
+pass-requires c = search (arith, number_of, item_at)
 
 pub invariant_of-self : goal.invariant_of-self
 invariant_of-self c =
@@ -35,10 +26,4 @@ invariant_of-self c =
     c.pass.ensures
 
 pub returns : goal.returns
-returns c =
-    let n = number_of c.self.inside.dues c.args.self.now c.self.invariant c.self.view_is c.requires.place
-    c.from-slot.ensures
-    c.deref.ensures.0 in
-    item_set c.self.inside.dues c.args.self.now
-    (passed_by c.args.charge) c.index-self-slot.result c.self.invariant c.self.view_is
-    c.requires.place n c.pass.ensures
+returns c = search (arith, number_of, item_set)

@@ -17,7 +17,4 @@ invariant_of-self c =
     ∙ serves_if c.args.new.item.done) c.come.ensures c.push.ensures.items
 
 pub returns : goal.returns
-returns c =
-    shown_pushed c.self.inside.dues c.args.self.now c.args.new c.self.invariant c.self.told
-    c.lowest_free-slot.ensures c.self.view_is
-    c.push.ensures.items
+returns c = search (arith, shown_pushed)

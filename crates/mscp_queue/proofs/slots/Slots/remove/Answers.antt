@@ -1,6 +1,5 @@
 use Rattle.std.proofs.Common.{subst, arith}
 use Rattle.mscp_queue.specs.Masks.{HasLeft}
-use Rattle.mscp_queue.specs.Slots.{held}
 use Rattle.mscp_queue.proofs.Shown.{kept_left, number_of, shown_left}
 use Rattle.mscp_queue.proofs.slots.Slots.remove.Goals as goal
 
@@ -10,14 +9,7 @@ bounds-self-inside-slot c =
     c.deref.ensures.0).low
 
 pub leave-requires : goal.leave-requires
-leave-requires c =
-    let n = number_of c.self.inside.dues c.args.self.now c.self.invariant c.self.view_is c.requires c.from-slot.ensures
-    c.deref.ensures.0 in
-    let few = c.self.invariant.drives c.from-slot.result n.taken in
-    record {
-      slot = n.low;
-      drive = omega (arith, few, c.from.ensures);
-    }
+leave-requires c = search (arith, number_of)
 
 pub invariant_of-self : goal.invariant_of-self
 invariant_of-self c =
@@ -29,7 +21,4 @@ invariant_of-self c =
     c.remove.ensures.items
 
 pub returns : goal.returns
-returns c =
-    let s = c.self.inside in
-    shown_left (held s.records s.targets s.dues) s.order.items _ c.args.self.now c.args.place c.self.view_is
-    c.remove.ensures.items
+returns c = search (arith, shown_left)

@@ -1,4 +1,4 @@
-use Rattle.std.proofs.Common.{arith, ◌≤◌, get_or, set, ◌∙◌, ap, refl, sym, subst}
+use Rattle.std.proofs.Common.{arith, ◌≤◌, get_or, set, ◌∙◌, ap, sym, subst}
 use Rattle.mscp_drive.specs.Shape.{last_cylinder}
 use Rattle.mscp_queue.specs.declared.target.Target.{Target}
 use Rattle.mscp_queue.specs.Targets.{no_target}
@@ -10,9 +10,7 @@ use Rattle.mscp_queue.proofs.Shown.{long_shown}
 use Rattle.mscp_queue.proofs.slots.Slots.renew.Goals as goal
 
 pub loop-slot-init : goal.loop-slot-init
-loop-slot-init c =
-    all_left c.args.at c.args.drive.now c.self.inside.dues c.args.self.now c.args.view.now c.self.invariant
-    c.self.view_is c.requires.long
+loop-slot-init c = search (arith, all_left)
 
 pub cost-requires-clause-target : goal.cost-requires-clause-target
 cost-requires-clause-target c =
@@ -40,10 +38,7 @@ set_cost-requires c =
     )
 
 pub loop-slot-smaller : goal.loop-slot-smaller
-loop-slot-smaller c =
-    let some = c.in-Some.ensures.some in
-    less_left c.loop-slot.left c.with_bit-left.result c.in-Some.slot some.0 some.1 c.with_bit-left.ensures.set
-    (c.with_bit-left.ensures.fewer refl)
+loop-slot-smaller c = search (arith, less_left)
 
 pub loop-slot-preserved : goal.loop-slot-preserved
 loop-slot-preserved c =
@@ -63,10 +58,4 @@ loop-slot-preserved c =
     ∙ ap (λ k. set c.loop-slot.view k (costing c.cost.result (get_or c.loop-slot.view k no_choice))) place)
 
 pub returns : goal.returns
-returns c =
-    let s = c.self.inside in
-    let order = s.order.items in
-    let many = long_shown s.records s.targets s.dues order c.args.self.now c.self.view_is in
-    none_left c.loop-slot.invariant
-    (λ k l. slot_low order k c.self.invariant.masks.apart (omega (arith, l, many, c.requires.long)))
-    c.in_default.ensures.none
+returns c = search (arith, long_shown, none_left, slot_low)

@@ -1,3 +1,4 @@
+use Rattle.std.proofs.Common.{arith}
 use Rattle.mscp_queue.proofs.Shown.{due_set, number_of}
 use Rattle.mscp_queue.proofs.slots.Slots.set_due.Goals as goal
 
@@ -7,7 +8,4 @@ bounds-self-inside-slot c =
     c.deref.ensures.0).low
 
 pub returns : goal.returns
-returns c =
-    let n = number_of c.self.inside.dues c.args.self.now c.self.invariant c.self.view_is c.requires c.from-slot.ensures
-    c.deref.ensures.0 in
-    due_set c.self.inside.dues c.args.self.now c.args.due c.self.invariant c.self.told c.self.view_is c.requires n
+returns c = search (arith, number_of, due_set)
