@@ -33,6 +33,13 @@ untaken_held : (es : List End) (reference : ℕ)
 untaken_held [] reference = refl
 untaken_held (e ∷ es) reference = ap (λ b. nat_eq e.reference reference || b) (untaken_held es reference)
 
+-- a reference number is outstanding where it waits or has an end that wasn't taken
+pub holds_either : (rs : List Record) (via : Connection) (es : List End) (reference : ℕ)
+    → holds (numbers (waiting_on via rs) ++ numbers_ended es) reference
+    ≡ (list_any (has_name (name_on via reference)) rs || list_any (λ e. nat_eq e.reference reference) es)
+holds_either rs via es reference =
+    search (arith, waiting_held rs via reference, untaken_held es reference, list_any-append)
+
 -- a message that is the command and isn't refused for its credit isn't refused
 pub taken : (balance : ℕ) (outstanding b : List ℕ) (command : Command) → IsCommand b command
     → credit_fault balance outstanding (slice_index b 8) command.reference ≡ None → refusal balance outstanding b ≡ None
@@ -45,4 +52,4 @@ or_left a b h2 = grind (arith, true≢false)
 pub none_waits : (rs : List Record) (via : Connection) (es : List End) (reference : ℕ)
     → holds (numbers (waiting_on via rs) ++ numbers_ended es) reference ≡ false
     → list_any (has_name (name_on via reference)) rs ≡ false
-none_waits rs via es reference h = search (arith, or_left, waiting_held, untaken_held, list_any-append)
+none_waits rs via es reference h = search (arith, holds_either rs via es reference, or_left)
