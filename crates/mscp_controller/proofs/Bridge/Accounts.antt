@@ -1,12 +1,12 @@
 -- Accounts, one by one, and what is seen of them.
-use Rattle.std.proofs.Common.{◌≡◌, ◌+◌, false, List, [], ◌∷◌, ◌++◌, length, append-nil, arith}
+use Rattle.std.proofs.Common.{◌≡◌, ◌+◌, false, List, [], ◌∷◌, ◌++◌, length, arith}
 use Rattle.mscp_packet.specs.declared.end.End.{End}
 use Rattle.mscp_events.specs.declared.connection.Connection.{Connection}
 use Rattle.mscp_queue.specs.declared.report.Report.{Report}
 use Rattle.mscp_queue.specs.Names.{same_connection}
 use Rattle.mscp_controller.specs.declared.account.Account.{Account}
 use Rattle.mscp_controller.specs.declared.account.Accounts.{Accounts}
-use Rattle.mscp_controller.specs.Accounts.{CanEnd, account, left, put_account, reported, untaken_in}
+use Rattle.mscp_controller.specs.Accounts.{account, left, put_account, reported, untaken_in}
 use Rattle.mscp_events.specs.Both.{Both, of}
 use Rattle.mscp_controller.specs.Holdings.{ends_reported, more_ends}
 
@@ -35,9 +35,6 @@ pub record Reported (via : Connection) (report : Report) (a : Accounts) : Type 0
       ≡ (account via a).waiting
   pub untaken : (account via (reported report a)).untaken.items
       ≡ (account via a).untaken.items ++ ends_reported via report
-
-pub reported_at : (via : Connection) (report : Report) (a : Accounts) → CanEnd report a → Reported via report a
-reported_at via report a h3 = search (arith, append-nil)
 
 -- the ends of a connection, once more went to it
 pub of_more : (via : Connection) (us : Both (List End)) (es : List End) → of via (more_ends via us es) ≡ of via us ++ es

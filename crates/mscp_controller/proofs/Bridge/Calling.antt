@@ -1,5 +1,5 @@
 -- Every call of a controller that somebody holds is answered right, and what was begun is held to.
-use Rattle.std.proofs.Common.{◌≡◌, ℕ, ◌<◌, Bool, true, false, not, List, [], ◌∷◌, ◌++◌, map, length, refl, ap, sym, ◌∙◌, subst, append_assoc, append-nil, arith}
+use Rattle.std.proofs.Common.{◌≡◌, ℕ, ◌<◌, Bool, true, false, not, List, [], ◌∷◌, ◌++◌, map, refl, ap, sym, ◌∙◌, subst, append_assoc, append-nil, arith}
 use Rattle.std.specs.Prelude.{IfSome, if◌then◌else◌, Option, Some, None, Result, Ok, Err}
 use Rattle.std.proofs.lemmas.Bool.{false≢true}
 use Rattle.mscp_packet.specs.declared.command.Command.{Command}
@@ -46,12 +46,6 @@ use Rattle.mscp_controller.proofs.Bridge.Telling.{begin}
 
 -- ---- an event that serves nobody
 
--- what is told of a command that isn't served stays
-block_kept : (t : Trace) (m : Moment) (y : ℕ) → service_in m.1 ≡ None → y < length t
-    → block_of (t ++ m ∷ []) y ≡ block_of t y
-unfolding block_of
-block_kept t m y e l = search (arith, command_before t m y l, is_online_kept t m (unit t y) e, done_kept)
-
 -- what is begun after a moment that serves nobody: what was, unless it was ended
 abbrev IsLeft : {K : Type 0} → Holdings K → Holdings K → Trace → Entry → Type 0
 IsLeft h h' t entry = (n : Name) (y : ℕ) → h.begun ≡ Some n → is_waiting t y ≡ true → name t y ≡ n
@@ -62,6 +56,7 @@ quiet : {K : Type 0} (c : Settings) (picks : List Choice → ℕ → Type 0) (ca
     → IsLegal c (history calls)
     → service_in entry ≡ None → is_step event ≡ false → IsLeft h h' (history calls) entry
     → (h.begun ≡ None → h'.begun ≡ None) → Holds c picks calls h.begun → Turned c picks calls (Plain event entry) h'
+unfolding block_of
 quiet c picks calls event entry h h' turn legal e s left none holds =
     search (
       arith,
@@ -71,10 +66,10 @@ quiet c picks calls event entry h h' turn legal e s left none holds =
       legal_more,
       holds_on,
       command_before,
-      block_kept,
       done_kept,
       connection_before,
       is_waiting_before,
+      is_online_kept,
     )
 
 -- what is begun after a message

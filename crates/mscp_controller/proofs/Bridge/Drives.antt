@@ -4,7 +4,6 @@ use Rattle.std.specs.Prelude.{find, nat_eq, if◌then◌else◌, Option, Some, N
 use Rattle.std.specs.List.{AllByRecursion}
 use Rattle.std.proofs.lemmas.Bool.{eqb-true, eqb-false, true≢false, false≢true}
 use Rattle.mscp_packet.specs.declared.command.Command.{Command}
-use Rattle.mscp_packet.specs.declared.command.Order.{Order}
 use Rattle.mscp_packet.specs.declared.end.End.{End}
 use Rattle.mscp_drive.specs.Shape.{Shape, cylinder_of}
 use Rattle.mscp_drive.specs.UnitList.{IsUnitList}
@@ -12,7 +11,7 @@ use Rattle.mscp_events.specs.declared.block.Block.{Block}
 use Rattle.mscp_queue.specs.declared.drive.Drive.{Drive}
 use Rattle.mscp_events.specs.Settings.{Settings, unit_found, unit_shape}
 use Rattle.mscp_queue.specs.Drives.{drive_of, fresh_drive, has_number, replaced}
-use Rattle.mscp_controller.specs.Arrival.{is_immediate, is_queued, order_fault}
+use Rattle.mscp_controller.specs.Arrival.{is_queued}
 use Rattle.mscp_queue.specs.Outcomes.{head_after}
 use Rattle.mscp_controller.specs.History.{Trace, Moment, service_in}
 use Rattle.mscp_controller.specs.Commands.{command, order, unit, waiting, done}
@@ -56,12 +55,8 @@ find_map p f (x ∷ xs) = search (arith, find_map p f xs)
 abbrev pub IsConfigured : Settings → Command → Type 0
 IsConfigured c k = is_some (unit_found c k.unit) ≡ true
 
-order_found : (c : Settings) (u : ℕ) (o : Order) → is_immediate o ≡ false → order_fault c u o ≡ None
-    → is_some (unit_found c u) ≡ true
-order_found c u o h3 h4 = search (arith, true≢false)
-
 queued_configured : (c : Settings) (k : Command) → is_queued c k ≡ true → IsConfigured c k
-queued_configured c k q = let o = queued_open c k q in order_found c k.unit k.order o.waits o.sound
+queued_configured c k q = search (arith, queued_open, true≢false)
 
 -- ---- drives
 

@@ -30,11 +30,12 @@ use Rattle.mscp_events.specs.Settings.{Settings, IsValid, credits_of, room}
 use Rattle.mscp_controller.specs.Holdings.{waiting_on}
 use Rattle.mscp_events.specs.Both.{of}
 use Rattle.mscp_controller.specs.Kept.{IsAccount, IsHeld}
-use Rattle.mscp_controller.proofs.Bridge.Accounts.{each_account, of_more, reported_at, seen_left, seen_of}
+use Rattle.mscp_controller.proofs.Bridge.Accounts.{each_account, of_more, seen_left, seen_of}
 use Rattle.mscp_controller.proofs.Bridge.Counting.{count_stepped, other_count, own_count}
 use Rattle.mscp_controller.proofs.Bridge.Owning.{stays}
 use Rattle.mscp_controller.proofs.Promise.Served.{some_same}
 use Rattle.mscp_controller.proofs.Promise.Sides.{sides_length}
+use Rattle.std.proofs.Common.{append-nil}
 
 -- ---- the accounts
 
@@ -102,10 +103,10 @@ held_stepped {K} c picks k old report new a h s u kind =
       can_end c picks k old report new a h s,
       held_like,
       count_stepped,
-      reported_at,
       length-append,
       every_append,
       kind_either,
+      append-nil,
     )
 
 -- ---- a message

@@ -48,16 +48,10 @@ owner_kept picks h h' _ _ r = absurd r
 
 -- ---- nothing is begun
 
-unbegun_unless : {K : Type 0} (via : Connection) (h : Holdings K) (command : Command) (o : Option SendFault)
-    → h.begun ≡ None → (held_unless via h command o).begun ≡ None
-unbegun_unless via h command o h4 = search arith
-
 -- no event begins a command
 pub unbegun_kept : {K : Type 0} (picks : List Choice → ℕ → Type 0) (h h' : Holdings K) (event : Event) (entry : Entry)
     → h.begun ≡ None → Answers picks h event entry h' → h'.begun ≡ None
-unbegun_kept {K} picks h h' (events.Send via message) (entries.Sent other sent) n r =
-    ap (λ (x : Holdings K). x.begun) r.2 ∙ unbegun_unless via h (command_of message.items)
-    (refusal (balance_of via h) (outstanding_of via h) message.items) n
+unbegun_kept {K} picks h h' (events.Send via message) (entries.Sent other sent) n r = search arith
 unbegun_kept {K} picks h h' (events.Take via) (entries.Taken other end) n r = search arith
 unbegun_kept picks h h' (events.Step k) (entries.Stepped report) n r = search arith
 unbegun_kept {K} picks h h' events.Look (entries.Looked list) n r = ap (λ (x : Holdings K). x.begun) r.1 ∙ n

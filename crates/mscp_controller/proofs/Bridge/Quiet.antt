@@ -17,13 +17,14 @@ use Rattle.mscp_controller.specs.Ends.{ends_at}
 use Rattle.mscp_controller.specs.Account.{ends, untaken}
 use Rattle.mscp_controller.specs.Legal.{IsRight}
 use Rattle.mscp_queue.proofs.Lists.{every_kept, every_weaker, every_from, filter_all}
-use Rattle.mscp_controller.proofs.Promise.Grows.{command_before, command_last, connection_before, connection_last, done_last, good_before, good_last, waiting_more, taken_more, ends_more}
+use Rattle.mscp_controller.proofs.Promise.Grows.{command_before, command_last, connection_before, connection_last, done_last, good_before, waiting_more, taken_more, ends_more}
 use Rattle.mscp_controller.proofs.Promise.Waits.{waiting_below, passed_last}
 use Rattle.mscp_controller.proofs.Promise.Steady.{done_kept}
 use Rattle.mscp_controller.proofs.Promise.Passed.{none_starts}
 use Rattle.mscp_controller.proofs.Promise.Known.{known_more}
 use Rattle.mscp_queue.proofs.Placed.{filter_map_of, map_on}
 use Rattle.mscp_controller.proofs.Bridge.Held.{held_of, Follows}
+use Rattle.mscp_controller.proofs.Promise.Grows.{drop_last}
 
 -- the moment serves nobody and ends nobody
 pub record IsQuiet (m : Moment) : Type 0 where
@@ -79,6 +80,7 @@ pub follows_queued : (c : Settings) (t : Trace) (m : Moment) (ws : List Record) 
     → 1 ≤ c.longest → IsRight c t m.0 m.1 → IsQuiet m → queues m.1 ≡ true
     → ((via : Connection) → of via us' ≡ untaken c via (t ++ m ∷ [])) → Follows c t ws us
     → Follows c (t ++ m ∷ []) (ws ++ fresh_record (connection_of m.0) (command_of (sent_bytes m.0)) ∷ []) us'
+unfolding good
 follows_queued c t m ws us us' l r q n e f =
     search (
       arith,
@@ -94,8 +96,8 @@ follows_queued c t m ws us us' l r q n e f =
       command_last,
       connection_last,
       done_last,
-      good_last,
       passed_last,
+      drop_last,
     )
 
 -- ---- an end is taken

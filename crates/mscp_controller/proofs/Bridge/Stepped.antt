@@ -174,11 +174,8 @@ front_passed c t k y A B st idle =
 
 -- ---- the command itself, where it goes on
 
-cut_off : (a b : Bool) → (a && false && b) ≡ false
-cut_off a b = grind arith
-
 goes_on_good : (c : Settings) (t : Trace) (k : Block) (y : ℕ) → end_of c t k y ≡ None → is_good (events.Step k) ≡ true
-goes_on_good c t k y h = search (arith, false≢true, cut_off, true≢false)
+goes_on_good c t k y h = search (arith, false≢true, true≢false)
 
 good_own : (c : Settings) (t : Trace) (k : Block) (y : ℕ) → y < length t → end_of c t k y ≡ None
     → good (t ++ serving c t k y ∷ []) y ≡ good t y + 1

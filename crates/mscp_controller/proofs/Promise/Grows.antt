@@ -142,10 +142,6 @@ pub done_last : (t : Trace) (m : Moment) → done (t ++ m ∷ []) (length t) ≡
 unfolding done
 done_last t m = ap (count_by (λ (n : Moment). serves_in (name (t ++ m ∷ []) (length t)) n.1)) (drop_last t m)
 
-pub good_last : (t : Trace) (m : Moment) → good (t ++ m ∷ []) (length t) ≡ 0
-unfolding good
-good_last t m = search (arith, drop_last t m)
-
 -- How often a command was passed after one more moment.
 pub passed_more : (t : Trace) (m : Moment) (x : ℕ) → passed (t ++ m ∷ []) x ≡ passed t x + passed_at t m x
 unfolding passed

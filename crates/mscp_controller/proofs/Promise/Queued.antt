@@ -1,12 +1,11 @@
 -- A command that is queued is no longer than may be, and leaves a credit.
 use Rattle.std.proofs.Common.{◌≡◌, ◌≢◌, ℕ, ◌<◌, ◌≤◌, Bool, true, false, not, ◌&&◌, List, [], ◌∷◌, ◌++◌, length, sym, subst, arith}
-use Rattle.std.specs.Prelude.{nat_eq, if◌then◌else◌, slice_index, Option, None, is_none}
+use Rattle.std.specs.Prelude.{nat_eq, if◌then◌else◌, Option, None, is_none}
 use Rattle.std.specs.List.{AllByRecursion}
 use Rattle.std.proofs.lemmas.Bool.{ltb-false, eqb-false, true≢false, false≢true}
 use Rattle.mscp_packet.specs.declared.command.Command.{Command}
 use Rattle.mscp_packet.specs.declared.command.Order.{Order}
 use Rattle.mscp_packet.specs.declared.command.Order.TheVariants as orders
-use Rattle.mscp_packet.specs.Opcodes.{class, is_immediate_class}
 use Rattle.mscp_packet.specs.Commands.{command_of}
 use Rattle.mscp_events.specs.declared.connection.Connection.{Connection}
 use Rattle.mscp_events.specs.Settings.{Settings}
@@ -38,13 +37,10 @@ queued_open c k h = search (arith, false≢true, none_of)
 abbrev pub Short : Settings → Trace → List ℕ → Type 0
 Short c t xs = AllByRecursion (λ x. weight t x ≤ c.longest) xs
 
-order_short : (c : Settings) (u : ℕ) (o : Order) → 1 ≤ c.longest → order_fault c u o ≡ None → order_weight o ≤ c.longest
-order_short c u o h3 h4 = search (arith, true≢false, if_none, ltb-false)
-
 -- a queued command is no longer than the longest
 pub queued_short : (c : Settings) (k : Command) → 1 ≤ c.longest → is_queued c k ≡ true
     → order_weight k.order ≤ c.longest
-queued_short c k l q = order_short c k.unit k.order l (queued_open c k q).sound
+queued_short c k l q = search (arith, queued_open, true≢false, if_none, ltb-false)
 
 -- ---- what holds of each command that is queued
 
@@ -84,15 +80,10 @@ long_enough : (c : Settings) (u : ℕ) (short : Bool) (byte : ℕ) (o : Order)
     → order_fault c u (if short then orders.Invalid byte 0x0001 else o) ≡ None → is_immediate o ≡ false
 long_enough c u short byte o h5 h6 = grind (arith, true≢false)
 
-class_queued : (c : Settings) (b : List ℕ) → IsOpen c (command_of b)
-    → is_immediate_class (class (slice_index b 8)) ≡ false
-unfolding command_of
-class_queued c b k = search (arith, long_enough)
-
 two_of : (n : ℕ) (immediate : Bool) → immediate ≡ false → n ≢ 0 → (nat_eq n 1 && not immediate) ≡ false → 2 ≤ n
 two_of n immediate h2 h3 h4 = grind (arith, true≢false, eqb-false)
 
 -- Where a command is queued, two credits are free.
 pub two_free : (c : Settings) (via : Connection) (t : Trace) (b : List ℕ) → Queues c via t b → 2 ≤ balance c via t
-two_free c via t b q = two_of (balance c via t) (is_immediate_class (class (slice_index b 8)))
-    (class_queued c b (queued_open c (command_of b) q.waits)) q.taken.free q.taken.last
+unfolding command_of
+two_free c via t b q = search (arith, two_of, queued_open, long_enough)

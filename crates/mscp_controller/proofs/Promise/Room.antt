@@ -1,5 +1,5 @@
 -- The commands and the untaken ends of each connection never exceed its credits, and one credit of it is kept.
-use Rattle.std.proofs.Common.{◌≡◌, ℕ, ◌+◌, ◌-◌, ◌<◌, ◌≤◌, Bool, true, false, cond, not, List, [], ◌∷◌, ◌++◌, length, refl, ap, sym, subst, ◌∙◌, arith, append-nil}
+use Rattle.std.proofs.Common.{◌≡◌, ℕ, ◌+◌, ◌-◌, ◌<◌, ◌≤◌, Bool, true, false, not, List, [], ◌∷◌, ◌++◌, length, refl, ap, sym, subst, ◌∙◌, arith, append-nil}
 use Rattle.std.specs.Prelude.{filter, if◌then◌else◌, count_by, slice_get, Option, Some, None, is_some, option_map, option_to_list, Ok, Err}
 use Rattle.std.specs.List.{AllByRecursion}
 use Rattle.std.proofs.lemmas.List.{length-append, length-map, length-drop}
@@ -25,7 +25,7 @@ use Rattle.mscp_controller.specs.declared.entry.Entry.TheVariants as entries
 use Rattle.mscp_events.specs.Settings.{Settings, credits_of, room_of}
 use Rattle.mscp_controller.specs.Arrival.{fault_of, is_queued}
 use Rattle.mscp_controller.specs.History.{Trace, Moment, collect, sent_bytes, takes, Service, service_in}
-use Rattle.mscp_controller.specs.Commands.{command, connection, name, reference, service_name, waiting, waiting_by, ends_in, aborts}
+use Rattle.mscp_controller.specs.Commands.{command, connection, name, reference, waiting, waiting_by, aborts}
 use Rattle.mscp_controller.specs.Ends.{aborted, aborted_unless, answer, ends_at, named}
 use Rattle.mscp_controller.specs.Account.{ends, untaken, balance}
 use Rattle.mscp_controller.specs.Credits.{aborted_reference, arrival}
@@ -141,34 +141,11 @@ taken_as_answer c via t command q r a h7 = grind (arith, true≢false, is_answer
 
 -- ---- a step
 
--- where a step ends a command of the connection, one less waits
-served_rest : (via : Connection) (t : Trace) (m : Moment) (s : Service) (y : ℕ) (front back : List ℕ)
-    → waiting t ≡ front ++ y ∷ back → service_in m.1 ≡ Some s → service_name s ≡ name t y
-    → same_connection s.connection via ≡ true
-    → length (filter (λ x. not (ends_in (name t x) m.1)) (waiting_by via t)) + length (option_to_list s.ended)
-    ≤ length (waiting_by via t)
-served_rest via t m s y front back is e same here =
-    search (arith, kept_own t m s y e same, not, filter-append, fewer, length-append)
-
 served_fits : (c : Settings) (via : Connection) (t : Trace) (m : Moment) (s : Service) → Room c t → Steady c t
     → service_in m.1 ≡ Some s → IsRight c t m.0 m.1 → queues_by via m ≡ false
     → ends_at c via t m ≡ (if same_connection s.connection via then option_to_list s.ended else []) → Fits c via t m
 served_fits c via t m s h st e r q ends =
-    let z = step_right c t m s st.apart e r in
-    let both : (b : Bool) → same_connection s.connection via ≡ b → Fits c via t m =
-    λ b. elim b as (λ b. same_connection s.connection via ≡ b → Fits c via t m) [
-      | true ↦ λ here.
-          let room = h.room via in
-          let spare = h.spare via in
-          let keep : ℕ → Bool = λ x. not (ends_in (name t x) m.1) in
-          let rest = served_rest via t m s z.1 z.2 z.3 z.4.serves.among.at.is e z.4.serves.same here in
-          let more = waiting_by_length via t m ∙ ap (λ b. length (filter keep (waiting_by via t))
-          + length (cond b (length t ∷ []) [])) q in
-          let made = ap length (ends ∙ ap (λ b. if b then option_to_list s.ended else []) here) in
-          record { room = omega (arith, room, rest, more, made); spare = omega (arith, spare, rest, more) }
-      | false ↦ λ there. still c via t m h q (ends ∙ ap (λ b. if b then option_to_list s.ended else []) there)
-    ] in
-    both (same_connection s.connection via) refl
+    search (arith, step_right, waiting_by_length, still, kept_own, not, filter-append, fewer, length-append)
 
 -- ---- a message
 

@@ -39,10 +39,7 @@ judged_fault c before all front bytes back log number judge (faults.Script fault
 judged_fault c before all front bytes back log number judge faults.OutOfMemory w n r o h = tt
 
 pub loop-bytes-init : goal.loop-bytes-init
-loop-bytes-init g c = record {
-  passed = λ d s. c.in_ok-pass_lines.ensures.passed (ap Ok c.if-not-branch.false) d nothing s;
-  few = c.in_ok-pass_lines.ensures.count;
-}
+loop-bytes-init g c = search arith
 
 pub returns-then-not-branch : goal.returns-then-not-branch
 returns-then-not-branch g c = λ d s.

@@ -1,4 +1,4 @@
-use Rattle.std.proofs.Common.{ap, sym, ◌∙◌}
+use Rattle.std.proofs.Common.{ap, sym, ◌∙◌, arith}
 use Rattle.std.proofs.lemmas.Result.{err_from_is_err_and}
 use Rattle.mscp_reader.specs.Lexical.{words}
 use Rattle.mscp_reader.specs.Requests.{events_of}
@@ -19,25 +19,17 @@ returns-in_err-words-clause-hears g c =
     c.in_err-words.ensures.words)
 
 pub returns-then-is_empty-clause-hears : goal.returns-then-is_empty-clause-hears
-returns-then-is_empty-clause-hears g c = λ d log s. (
-  log,
-  skipped c.args.number log c.args.bytes.now _ c.in_ok-words.ensures.words (c.is_empty.ensures.0 c.if-is_empty.true),
-  s,
-)
+returns-then-is_empty-clause-hears g c = search (arith, skipped)
 
 pub hear-requires-clause-words : goal.hear-requires-clause-words
-hear-requires-clause-words g c =
-    (says_words c.args.number c.args.bytes.now _ c.in_ok-words.ensures.words
-    (answer_some _ (sym c.is_answer.ensures ∙ c.if-is_answer.true))).0
+hear-requires-clause-words g c = search (arith, says_words, answer_some)
 
 pub hear-requires-clause-answer : goal.hear-requires-clause-answer
 hear-requires-clause-answer g c =
     ap is_answer (sym (hear-requires-clause-words g c)) ∙ (sym c.is_answer.ensures ∙ c.if-is_answer.true)
 
 pub hear-requires-clause-printed : goal.hear-requires-clause-printed
-hear-requires-clause-printed g c =
-    (says_words c.args.number c.args.bytes.now _ c.in_ok-words.ensures.words
-    (answer_some _ (sym c.is_answer.ensures ∙ c.if-is_answer.true))).1
+hear-requires-clause-printed g c = search (arith, says_words, answer_some)
 
 pub returns-then-is_answer-clause-hears : goal.returns-then-is_answer-clause-hears
 returns-then-is_answer-clause-hears g c = λ d log s. (
@@ -72,11 +64,7 @@ returns-in-Ok-clause-hears g c = λ d log s.
     )
 
 pub returns-in-Ok-clause-breaks : goal.returns-in-Ok-clause-breaks
-returns-in-Ok-clause-breaks g c = λ wanted d log s.
-    broken_early d log c.args.bytes.now c.args.judge.now _ s
-    (ap is_answer (sym (says_words c.args.number c.args.bytes.now _ c.in_ok-words.ensures.words
-    (unless _ c.is_empty.ensures.1 c.if-is_empty.false)).0)
-    ∙ (sym c.is_answer.ensures ∙ c.if-is_answer.false))
+returns-in-Ok-clause-breaks g c = search (arith, broken_early, says_words, unless)
 
 pub returns-in_ok-ask-in-Ok-2-clause-hears : goal.returns-in_ok-ask-in-Ok-2-clause-hears
 returns-in_ok-ask-in-Ok-2-clause-hears g c = λ d log s.

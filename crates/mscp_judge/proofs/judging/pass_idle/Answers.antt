@@ -4,12 +4,7 @@ use Rattle.mscp_judge.proofs.Passing.{passed_idle, passed_more, passed_none}
 use Rattle.mscp_judge.proofs.judging.pass_idle.Goals as goal
 
 pub loop-rest-init : goal.loop-rest-init
-loop-rest-init g c = record {
-  passed = λ d log s.
-      passed_none d log c.args.lines.now.number c.args.lines.now.rest.now _ _ c.args.judge.now refl refl s;
-  few = c.requires;
-  left = omega arith;
-}
+loop-rest-init g c = search (arith, passed_none)
 
 pub loop-rest-preserved : goal.loop-rest-preserved
 loop-rest-preserved g c = record {

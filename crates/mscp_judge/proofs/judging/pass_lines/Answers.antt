@@ -1,14 +1,9 @@
-use Rattle.std.proofs.Common.{refl, ap, arith, Ok}
+use Rattle.std.proofs.Common.{ap, arith, Ok}
 use Rattle.mscp_judge.proofs.Passing.{passed_more, passed_none}
 use Rattle.mscp_judge.proofs.judging.pass_lines.Goals as goal
 
 pub loop-judge-init : goal.loop-judge-init
-loop-judge-init g c = record {
-  passed = λ d log s.
-      passed_none d log c.args.lines.now.number c.args.lines.now.rest.now _ _ c.args.judge.now refl refl s;
-  few = c.requires;
-  left = omega arith;
-}
+loop-judge-init g c = search (arith, passed_none)
 
 pub returns-then-not-branch-clause-wrong : goal.returns-then-not-branch-clause-wrong
 returns-then-not-branch-clause-wrong g c = λ is d log s.

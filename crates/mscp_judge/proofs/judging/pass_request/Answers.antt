@@ -1,16 +1,13 @@
-use Rattle.std.proofs.Common.{refl, Ok}
+use Rattle.std.proofs.Common.{Ok, arith}
 use Rattle.mscp_reader.specs.Requests.{events_of}
 use Rattle.mscp_judge.proofs.Passing.{passed_cut, passed_more, passed_none, passed_request}
 use Rattle.mscp_judge.proofs.judging.pass_request.Goals as goal
 
 pub returns-then-not-is_settled-clause-passed : goal.returns-then-not-is_settled-clause-passed
-returns-then-not-is_settled-clause-passed g c = λ d log s.
-    passed_none d log c.args.lines.now.number c.args.lines.now.rest.now _ _ c.args.judge.now refl refl s
+returns-then-not-is_settled-clause-passed g c = search (arith, passed_none)
 
 pub returns-in_default-clause-passed : goal.returns-in_default-clause-passed
-returns-in_default-clause-passed g c = λ d log s.
-    passed_none d log c.args.lines.now.number c.args.lines.now.rest.now _ _ c.args.judge.now
-    c.in_default.ensures.none.0 c.in_default.ensures.none.1 s
+returns-in_default-clause-passed g c = search (arith, passed_none)
 
 pub returns-clause-passed : goal.returns-clause-passed
 returns-clause-passed g c = λ d log s.

@@ -5,16 +5,10 @@ use Rattle.mscp_judge.proofs.Telling.{step_settings, told_step}
 use Rattle.mscp_judge.proofs.judging.pass_steps.Goals as goal
 
 pub loop-named-init : goal.loop-named-init
-loop-named-init g c = record {
-  passed = λ d log s.
-      passed_none d log c.args.lines.now.number c.args.lines.now.rest.now _ _ c.args.judge.now refl refl s;
-  few = c.requires;
-  left = omega arith;
-}
+loop-named-init g c = search (arith, passed_none)
 
 pub returns-then-is_rule_wanted-clause-passed : goal.returns-then-is_rule_wanted-clause-passed
-returns-then-is_rule_wanted-clause-passed g c = λ is d log s.
-    passed_none d log c.args.lines.now.number c.args.lines.now.rest.now _ _ c.args.judge.now refl refl s
+returns-then-is_rule_wanted-clause-passed g c = search (arith, passed_none)
 
 pub returns-then-not-cut_due-clause-wrong : goal.returns-then-not-cut_due-clause-wrong
 returns-then-not-cut_due-clause-wrong g c = λ is d log s.

@@ -1,4 +1,4 @@
-use Rattle.std.proofs.Common.{◌≡◌, ◌≢◌, [], sym, ◌∙◌, subst, arith}
+use Rattle.std.proofs.Common.{◌≡◌, ◌≢◌, sym, ◌∙◌, subst, arith}
 use Rattle.std.specs.Prelude.{Option, Some}
 use Rattle.std.proofs.lemmas.Grind.{common_steps}
 use Rattle.mscp_judge.specs.declared.naming.Named.{Named}
@@ -35,16 +35,7 @@ returns-then-figure-eq0 c = λ d t begun v led.
     (sym c.figure.ensures.value ∙ c.if-figure-eq0.true))
 
 pub returns-then-is_empty : goal.returns-then-is_empty
-returns-then-is_empty c = λ d t begun v led.
-    let none : c.holders-holders.result.items ≡ [] = grind (arith, common_steps) in
-    subst (λ (n : Option Named). IsStepRule d t (wanted_name n) rules.Service) (sym c.in-Some-wanted.is)
-    (is_free_to d t c.args.controller.now _ (follow d begun t c.args.controller.now v led) c.in_default.ensures.none
-    (λ e. c.if-figure-eq0.false (c.figure.ensures.value ∙ e)) (sym c.holders-holders.ensures.holders ∙ none))
+returns-then-is_empty c = search (arith, common_steps, is_free_to, follow)
 
 pub returns-else-is_empty : goal.returns-else-is_empty
-returns-else-is_empty c = λ d t begun v led.
-    let some : c.holders-holders.result.items ≢ [] = λ e. let no : ⊥ = grind (arith, common_steps) in no in
-    let first = some_first c.holders-holders.result.items some in
-    rw (c.deref.ensures.0, c.in-Some-wanted.is) (is_kept_back d t c.args.controller.now _ _ first.0
-    (follow d begun t c.args.controller.now v led) c.in_default.ensures.none
-    (sym c.holders-holders.ensures.holders ∙ first.1))
+returns-else-is_empty c = search (arith, common_steps, some_first, is_kept_back, follow)

@@ -1,8 +1,6 @@
-use Rattle.std.proofs.Common.{sym, ◌∙◌}
+use Rattle.std.proofs.Common.{sym, ◌∙◌, arith}
 use Rattle.std.proofs.lemmas.Result.{err_from_is_err_and}
-use Rattle.mscp_reader.specs.Requests.{events_of}
 use Rattle.mscp_reader.specs.Lexical.{words}
-use Rattle.mscp_judge.specs.Heard.{after_answer, asking}
 use Rattle.mscp_judge.proofs.Listening.{answers, asks, asks_wrong, skipped, wrong_words}
 use Rattle.mscp_judge.proofs.Reading.{unless}
 use Rattle.mscp_judge.proofs.hearing.Hearing.line.Goals as goal
@@ -14,20 +12,10 @@ returns-in_err-words-clause-heard g c =
     c.in_err-words.ensures.words)
 
 pub returns-then-is_empty-clause-heard : goal.returns-then-is_empty-clause-heard
-returns-then-is_empty-clause-heard g c = λ h s. (
-  h,
-  skipped c.args.number h c.args.bytes.now _ c.in_ok-words.ensures.words (c.is_empty.ensures.0 c.if-is_empty.true),
-  s,
-)
+returns-then-is_empty-clause-heard g c = search (arith, skipped)
 
 pub returns-then-is_answer-clause-heard : goal.returns-then-is_answer-clause-heard
-returns-then-is_answer-clause-heard g c = λ h s. (
-  after_answer c.args.number h (words c.in_ok-words.words.rest.now),
-  answers c.args.number h c.args.bytes.now _ c.in_ok-words.ensures.words
-      (unless _ c.is_empty.ensures.1 c.if-is_empty.false)
-      (sym c.is_answer.ensures ∙ c.if-is_answer.true),
-  c.in_ok-answer.ensures.heard h s,
-)
+returns-then-is_answer-clause-heard g c = search (arith, answers, unless)
 
 pub returns-in-Err-clause-heard : goal.returns-in-Err-clause-heard
 returns-in-Err-clause-heard g c =
@@ -36,11 +24,4 @@ returns-in-Err-clause-heard g c =
     (sym c.is_answer.ensures ∙ c.if-is_answer.false) c.in-Err.ensures.asks
 
 pub returns-in-Ok-clause-heard : goal.returns-in-Ok-clause-heard
-returns-in-Ok-clause-heard g c = λ h s.
-    let new = events_of c.in-Ok.request in (
-      asking h new,
-      asks c.args.number _ h c.args.bytes.now _ new (sym s.count) c.in_ok-words.ensures.words
-          (unless _ c.is_empty.ensures.1 c.if-is_empty.false)
-          (sym c.is_answer.ensures ∙ c.if-is_answer.false) c.in-Ok.ensures.asks,
-      c.ask.ensures.heard h s,
-    )
+returns-in-Ok-clause-heard g c = search (arith, asks, unless)

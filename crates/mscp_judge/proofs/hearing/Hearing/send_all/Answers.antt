@@ -1,4 +1,4 @@
-use Rattle.std.proofs.Common.{◌∙◌, subst, sym}
+use Rattle.std.proofs.Common.{◌∙◌, subst, arith}
 use Rattle.mscp_judge.specs.Heard.{IsHeard, sends_on}
 use Rattle.mscp_judge.proofs.Listening.{steps_send}
 use Rattle.mscp_judge.proofs.hearing.Hearing.send_all.Goals as goal
@@ -9,6 +9,4 @@ returns-in-Send-clause-heard g c = λ h s.
     (c.as_slice.ensures.value ∙ c.write_command.ensures.bytes) (c.send.ensures.heard h s))
 
 pub returns-in-Steps-clause-heard : goal.returns-in-Steps-clause-heard
-returns-in-Steps-clause-heard g c = λ h s.
-    rw c.in-Steps.is (subst (λ hosts. IsHeard (record h { hosts = hosts }) c.args.self.now)
-    (sym (steps_send h.hosts c.in-Steps.field-1 c.in-Steps.field-0)) s)
+returns-in-Steps-clause-heard g c = search (arith, steps_send)

@@ -10,8 +10,7 @@ use Rattle.mscp_judge.proofs.Righting.{stands_open_held}
 use Rattle.mscp_judge.proofs.judge.Judge.hear.Goals as goal
 
 pub tell_due-requires-clause-due : goal.tell_due-requires-clause-due
-tell_due-requires-clause-due g c =
-    λ e. let none : c.due.result.now ≡ [] = c.due.ensures ∙ e in let no : ⊥ = grind (arith, common_steps) in no
+tell_due-requires-clause-due g c = search (arith, common_steps)
 
 pub returns-then-self-eq0-clause-tells : goal.returns-then-self-eq0-clause-tells
 returns-then-self-eq0-clause-tells g c =
@@ -24,11 +23,7 @@ returns-then-self-eq0-clause-tells g c =
     )
 
 pub returns-then-self-eq0-clause-breaks : goal.returns-then-self-eq0-clause-breaks
-returns-then-self-eq0-clause-breaks g c =
-    let none : c.due.result.now ≡ [] = grind (arith, common_steps) in
-    λ wanted d log s. broken_unasked d log c.args.line.now c.args.self.now _ s (sym c.due.ensures ∙ none)
-    (ap (λ n. replicate n (events.Step c.args.self.now.block)) c.if-self-eq0.true) c.requires.answer
+returns-then-self-eq0-clause-breaks g c = search (arith, common_steps, broken_unasked)
 
 pub returns-then-not-is_empty-clause-tells : goal.returns-then-not-is_empty-clause-tells
-returns-then-not-is_empty-clause-tells g c = λ d log s.
-    c.tell_due.ensures.tells d log (name_in (words c.args.line.now)) s
+returns-then-not-is_empty-clause-tells g c = search (arith, c.tell_due.ensures.tells)

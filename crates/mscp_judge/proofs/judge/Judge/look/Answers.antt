@@ -1,7 +1,6 @@
-use Rattle.std.proofs.Common.{refl, sym, subst, Ok}
+use Rattle.std.proofs.Common.{refl, Ok, arith}
 use Rattle.mscp_controller.specs.declared.entry.Entry.TheVariants as entries
 use Rattle.mscp_events.specs.declared.event.Event.TheVariants as events
-use Rattle.mscp_judge.specs.Logs.{AreAnswers}
 use Rattle.mscp_judge.proofs.Answering.{look_answers}
 use Rattle.mscp_judge.proofs.Coming.{came_on}
 use Rattle.mscp_judge.proofs.Telling.{reported_lines}
@@ -15,8 +14,4 @@ returns-clause-came g c = came_on (Ok tt) c.args.self.now _ c.args.self.now.cont
     c.rise.ensures.passed c.most_passed.ensures.most
 
 pub returns-clause-answers : goal.returns-clause-answers
-returns-clause-answers g c =
-    subst (λ bs. AreAnswers bs c.len.result)
-    (sym (reported_lines c.args.self.now.reporter c.forget_lines.new.self c.looked.new.self
-    (entries.Looked c.look-shown.result) c.forget_lines.ensures c.in_ok-looked.ensures))
-    (look_answers c.look-shown.result c.len.result c.len.ensures.value)
+returns-clause-answers g c = search (arith, reported_lines, look_answers)

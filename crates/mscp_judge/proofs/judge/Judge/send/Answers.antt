@@ -1,7 +1,6 @@
-use Rattle.std.proofs.Common.{refl, sym, subst, Ok}
+use Rattle.std.proofs.Common.{refl, Ok, arith}
 use Rattle.mscp_controller.specs.declared.entry.Entry.TheVariants as entries
 use Rattle.mscp_events.specs.declared.event.Event.TheVariants as events
-use Rattle.mscp_judge.specs.Logs.{AreAnswers}
 use Rattle.mscp_judge.proofs.Answering.{sent_answers}
 use Rattle.mscp_judge.proofs.Coming.{came_on}
 use Rattle.mscp_judge.proofs.Telling.{reported_lines}
@@ -16,8 +15,4 @@ returns-clause-came g c = came_on (Ok tt) c.args.self.now _ c.args.self.now.cont
     c.rise.ensures.passed c.most_passed.ensures.most
 
 pub returns-clause-answers : goal.returns-clause-answers
-returns-clause-answers g c =
-    subst (λ bs. AreAnswers bs 1)
-    (sym (reported_lines c.args.self.now.reporter c.forget_lines.new.self c.sent.new.self
-    (entries.Sent c.args.connection c.send-sent.result) c.forget_lines.ensures c.in_ok-sent.ensures))
-    (sent_answers c.args.connection c.send-sent.result)
+returns-clause-answers g c = search (arith, reported_lines, sent_answers)

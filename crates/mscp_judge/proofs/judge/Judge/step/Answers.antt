@@ -1,4 +1,4 @@
-use Rattle.std.proofs.Common.{refl, subst}
+use Rattle.std.proofs.Common.{refl, subst, arith}
 use Rattle.mscp_controller.specs.declared.entry.Entry.TheVariants as entries
 use Rattle.mscp_events.specs.declared.event.Event.TheVariants as events
 use Rattle.mscp_judge.proofs.Coming.{came_on, stepped_short}
@@ -20,11 +20,7 @@ returns-clause-came g c =
     c.rise.ensures.passed c.most_passed.ensures.most
 
 pub returns-clause-short : goal.returns-clause-short
-returns-clause-short g c =
-    stepped_short c.stepped.result c.args.self.now.reporter c.forget_lines.new.self c.stepped.new.self
-    c.step-report.result c.stepped.ensures.value c.stepped.ensures.short c.forget_lines.ensures
+returns-clause-short g c = search (arith, stepped_short)
 
 pub returns-clause-answers : goal.returns-clause-answers
-returns-clause-answers g c =
-    stepped_answers c.stepped.result c.args.self.now.reporter c.forget_lines.new.self c.stepped.new.self
-    c.step-report.result c.stepped.ensures.value c.stepped.ensures.short c.forget_lines.ensures
+returns-clause-answers g c = search (arith, stepped_answers)

@@ -1,4 +1,4 @@
-use Rattle.std.proofs.Common.{◌++◌, [], ◌∷◌, ◌∙◌, ap, subst, sym}
+use Rattle.std.proofs.Common.{◌++◌, [], ◌∷◌, subst, sym, arith}
 use Rattle.mscp_judge.specs.Judged.{IsTold}
 use Rattle.mscp_judge.specs.Logs.{telling}
 use Rattle.mscp_judge.specs.Rules.{due_rule}
@@ -25,5 +25,4 @@ returns-clause-tells g c = λ d log wanted s.
 
 pub returns-clause-rule : goal.returns-clause-rule
 returns-clause-rule g c =
-    let kept = c.tell.ensures.kept c.if-tell.false in
-    c.due_rule.ensures ∙ ap (λ bs. due_rule bs c.args.line.now) (c.due.ensures ∙ ap due kept)
+    search (arith, c.tell.ensures.kept, c.if-tell.false, c.due_rule.ensures, c.due.ensures)
