@@ -1,16 +1,5 @@
 -- Which command the line ahead says was served.
-use Rattle.std.proofs.Common.{◌≡◌, ◌≢◌, ◌==◌, ◌+◌, drop, get_or, take, ℕ, ◌<◌, true, List, [], ◌∷◌, ◌++◌, length, refl, ap, sym, ◌∙◌, arith, append_assoc}
-use Rattle.std.specs.Prelude.{position, Some, codes, Ok}
-use Rattle.std.specs.List.{list_all}
-use Rattle.std.proofs.lemmas.Bool.{and_parts, eqb-true, leb-true}
-use Rattle.std.proofs.lemmas.List.Quantifiers.{position-Some}
-use Rattle.mscp_events.specs.declared.connection.Connection.TheVariants.{First}
-use Rattle.mscp_queue.proofs.Lists.{every_append}
-use Rattle.mscp_queue.proofs.Placed.{cut_at}
-use Rattle.mscp_reader.specs.Lexical.{is_digit, number, wide, words}
-use Rattle.mscp_reader.proofs.PlainLines.{solid_digits, word_front}
-use Rattle.mscp_judge.specs.Naming.{name_in, numbered, served}
-use Rattle.mscp_judge.specs.Standing.{IsNamedAhead}
+use Rattle.mscp_judge.proofs.Common.{◌≡◌, ◌≢◌, ◌==◌, ◌+◌, drop, get_or, take, ℕ, ◌<◌, true, List, [], ◌∷◌, ◌++◌, length, refl, ap, sym, ◌∙◌, arith, append_assoc, position, Some, codes, Ok, list_all, and_parts, eqb-true, leb-true, position-Some, First, every_append, cut_at, is_digit, number, wide, words, solid_digits, word_front, name_in, numbered, served, IsNamedAhead}
 use Rattle.mscp_judge.proofs.Feeds.{NoFeed, front_of}
 use Rattle.mscp_judge.proofs.Spoken.{after_space, digits_fed, fed_literal}
 

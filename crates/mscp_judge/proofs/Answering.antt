@@ -1,28 +1,7 @@
 -- The lines that are answered to an event are answers, whatever numbers are in them.
-use Rattle.std.proofs.Common.{◌≡◌, ℕ, ◌<◌, ◌≤◌, true, false, List, [], ◌∷◌, ◌++◌, map, length, refl, sym, arith}
-use Rattle.std.proofs.Common.{◌∙◌, arith, length-append, append_assoc, append-nil}
-use Rattle.std.specs.Prelude.{codes, Option, Some, None, Result, Ok, Err}
-use Rattle.std.specs.Fmt.{decimal}
-use Rattle.std.specs.List.{AllByRecursion, flat_map}
-use Rattle.std.specs.Str.{bytes_eq}
-use Rattle.std.proofs.lemmas.List.{length-map}
-use Rattle.arrayvec.specs.ArrayVec.{ArrayVec}
-use Rattle.hex.specs.Hex.{encode_lower}
-use Rattle.mscp_events.specs.declared.connection.Connection.{Connection}
-use Rattle.mscp_events.specs.declared.connection.Connection.TheVariants.{First, Second}
-use Rattle.mscp_queue.specs.declared.report.Report.{Report}
-use Rattle.mscp_queue.specs.declared.report.Report.TheVariants.{Idle, Served}
-use Rattle.mscp_packet.specs.declared.end.End.{End}
+use Rattle.mscp_judge.proofs.Common.{◌≡◌, ℕ, ◌<◌, ◌≤◌, true, false, List, [], ◌∷◌, ◌++◌, map, length, refl, sym, arith, ◌∙◌, length-append, append_assoc, append-nil, codes, Option, Some, None, Result, Ok, Err, decimal, AllByRecursion, flat_map, bytes_eq, length-map, ArrayVec, encode_lower, Connection, First, Second, Report, Idle, Served, End, SendFault, Sent, line, is_comment, words, IsApart, AllSolid, said_plain, word_front, aborted_part, block_word, connection_word, ended_part, entry_lines, figure_line, refusal_word, step_line, AreAnswers, IsAnswerLine, is_answer, is_answer_word}
 use Rattle.mscp_controller.specs.declared.entry.Entry.TheVariants as entries
-use Rattle.mscp_controller.specs.declared.entry.SendFault.{SendFault}
-use Rattle.mscp_controller.specs.declared.entry.Sent.{Sent}
 use Rattle.mscp_controller.specs.declared.entry.Sent.TheVariants as sents
-use Rattle.mscp_text.specs.Lines.{line}
-use Rattle.mscp_reader.specs.Lexical.{is_comment, words}
-use Rattle.mscp_reader.specs.Plain.{IsApart}
-use Rattle.mscp_reader.proofs.PlainLines.{AllSolid, said_plain, word_front}
-use Rattle.mscp_script.specs.Text.{aborted_part, block_word, connection_word, ended_part, entry_lines, figure_line, refusal_word, step_line}
-use Rattle.mscp_judge.specs.Logs.{AreAnswers, IsAnswerLine, is_answer, is_answer_word}
 use Rattle.mscp_judge.proofs.Printed.{AllPrinted, AreTaken, both_printed, decimal_few, decimal_printed, encoded_length}
 use Rattle.mscp_judge.proofs.Printed.{encoded_printed, status_printed}
 

@@ -1,18 +1,5 @@
 -- How a judge stands after a line that asks.
-use Rattle.std.proofs.Common.{◌≡◌, inl, false, List, [], ◌∷◌, ◌++◌, refl, ap, sym, ◌∙◌, subst, append_assoc, append-nil, arith}
-use Rattle.std.specs.Prelude.{Option}
-use Rattle.mscp_events.specs.declared.event.Event.{Event}
-use Rattle.mscp_controller.specs.declared.entry.Entry.{Entry}
-use Rattle.mscp_events.specs.Settings.{Settings}
-use Rattle.mscp_controller.specs.History.{Moment, Trace, is_step}
-use Rattle.mscp_controller.specs.Holdings.{Answers, Holdings, fresh}
-use Rattle.mscp_controller.specs.Legal.{IsLegal, IsRight}
-use Rattle.mscp_script.specs.Text.{entry_lines}
-use Rattle.mscp_judge.specs.declared.naming.Named.{Named}
-use Rattle.mscp_judge.specs.declared.naming.Wanted.{Wanted}
-use Rattle.mscp_judge.specs.Logs.{Asked, Mark, answers_in, events_in, told, transcript, whole}
-use Rattle.mscp_judge.specs.Naming.{IsNamed}
-use Rattle.mscp_judge.specs.Standing.{Led, Stood, with_picker}
+use Rattle.mscp_judge.proofs.Common.{◌≡◌, inl, false, List, [], ◌∷◌, ◌++◌, refl, ap, sym, ◌∙◌, subst, append_assoc, append-nil, arith, Option, Event, Entry, Settings, Moment, Trace, is_step, Answers, Holdings, fresh, IsLegal, IsRight, entry_lines, Named, Wanted, Asked, Mark, answers_in, events_in, told, transcript, whole, IsNamed, Led, Stood, with_picker}
 use Rattle.mscp_judge.proofs.Feeds.{entry_ends}
 use Rattle.mscp_judge.proofs.Leading.{follow, led_more, turn_of}
 use Rattle.mscp_judge.proofs.Marks.{asked_parts, none_asked, right_among, some_asked, transcript_append, whole_append}

@@ -1,21 +1,6 @@
 -- The rule that a line breaks which comes to a judge.
-use Rattle.std.proofs.Common.{◌≡◌, ◌≢◌, ℕ, true, false, List, [], sym, ◌∙◌, arith}
-use Rattle.std.proofs.lemmas.Bool.{true≢false}
-use Rattle.mscp_events.specs.Settings.{IsValid, Settings}
-use Rattle.mscp_controller.specs.History.{Trace}
-use Rattle.mscp_controller.specs.Holdings.{fresh}
-use Rattle.mscp_reader.specs.Lexical.{words}
-use Rattle.mscp_judge.specs.declared.judge.Judge.{Judge}
-use Rattle.mscp_judge.specs.declared.naming.Named.{Named}
-use Rattle.mscp_judge.specs.declared.naming.Wanted.{Wanted}
-use Rattle.mscp_judge.specs.declared.rules.Rule.{Rule}
+use Rattle.mscp_judge.proofs.Common.{◌≡◌, ◌≢◌, ℕ, true, false, List, [], sym, ◌∙◌, arith, true≢false, IsValid, Settings, Trace, fresh, words, Judge, Named, Wanted, Rule, IsBroken, Log, is_answer, name_in, wanted_name, IsRule, IsStepRule, is_service, starts_in, Led, Stands, due, owed, run_of}
 use Rattle.mscp_judge.specs.declared.rules.Rule.TheVariants as rules
-use Rattle.mscp_judge.specs.Judged.{IsBroken}
-use Rattle.mscp_judge.specs.Logs.{Log, is_answer}
-use Rattle.mscp_judge.specs.Naming.{name_in, wanted_name}
-use Rattle.mscp_judge.specs.Rules.{IsRule, IsStepRule, is_service}
-use Rattle.mscp_judge.specs.Starts.{starts_in}
-use Rattle.mscp_judge.specs.Standing.{Led, Stands, due, owed, run_of}
 
 broken : {A : Type 0} (c : Settings) (log : Log) (line : List ℕ) (judge : Judge A) (rule : Rule)
     (starts : List Named) (s : Stands c log judge)

@@ -1,34 +1,7 @@
 -- What a call leaves, as a judge stands then.
-use Rattle.std.proofs.Common.{◌≡◌, ◌≢◌, inl, ℕ, zero, suc, ◌+◌, ◌-◌, ◌<◌, true, false, List, [], ◌∷◌, ◌++◌, drop, length, replicate, refl, ap, sym, ◌∙◌, subst, arith, length-append, length-drop, drop-drop, append_assoc, append-nil}
-use Rattle.std.specs.Prelude.{All, OnOk, Result, Ok, Err, None, ◌≤◌, Option}
-use Rattle.std.specs.List.{list_all}
-use Rattle.std.proofs.Math.Seq.{drop-append_seam}
-use Rattle.std.proofs.lemmas.List.{length-replicate}
-use Rattle.std.proofs.lemmas.Bool.{and_parts, false≢true}
-use Rattle.mscp_events.specs.declared.block.Block.{Block}
-use Rattle.mscp_events.specs.declared.event.Event.{Event}
+use Rattle.mscp_judge.proofs.Common.{◌≡◌, ◌≢◌, inl, ℕ, zero, suc, ◌+◌, ◌-◌, ◌<◌, true, false, List, [], ◌∷◌, ◌++◌, drop, length, replicate, refl, ap, sym, ◌∙◌, subst, arith, length-append, length-drop, drop-drop, append_assoc, append-nil, All, OnOk, Result, Ok, Err, None, ◌≤◌, Option, list_all, drop-append_seam, length-replicate, and_parts, false≢true, Block, Event, Entry, OutOfMemory, Report, Record, record_at, IsValid, Settings, Trace, is_step, Answers, Holdings, Steps, fresh, Idle, IsLegal, is_printed, words, Reported, entry_lines, reported, step_line, with_entry, Judge, Named, Wanted, Totals, IsAhead, Asked, Log, Mark, MayGoOn, IsLegalLog, asking, events_in, nothing, telling, told, transcript, whole, IsNamed, name_in, wanting, BeginsWith, Came, Counted, HasShortLine, IsHeld, IsSettled, Stands, Stood, due, marked, owed, totals_of, with_picker, AreTotals, IsLarger, figure_queued}
 use Rattle.mscp_events.specs.declared.event.Event.TheVariants as events
-use Rattle.mscp_controller.specs.declared.entry.Entry.{Entry}
 use Rattle.mscp_controller.specs.declared.entry.Entry.TheVariants as entries
-use Rattle.mscp_events.specs.declared.memory.OutOfMemory.{OutOfMemory}
-use Rattle.mscp_queue.specs.declared.report.Report.{Report}
-use Rattle.mscp_queue.specs.Records.{Record, record_at}
-use Rattle.mscp_events.specs.Settings.{IsValid, Settings}
-use Rattle.mscp_controller.specs.History.{Trace, is_step}
-use Rattle.mscp_controller.specs.Holdings.{Answers, Holdings, Steps, fresh}
-use Rattle.mscp_queue.specs.declared.report.Report.TheVariants.{Idle}
-use Rattle.mscp_controller.specs.Legal.{IsLegal}
-use Rattle.mscp_reader.specs.Lexical.{is_printed, words}
-use Rattle.mscp_script.specs.Text.{Reported, entry_lines, reported, step_line, with_entry}
-use Rattle.mscp_judge.specs.declared.judge.Judge.{Judge}
-use Rattle.mscp_judge.specs.declared.naming.Named.{Named}
-use Rattle.mscp_judge.specs.declared.naming.Wanted.{Wanted}
-use Rattle.mscp_judge.specs.declared.totals.Totals.{Totals}
-use Rattle.mscp_judge.specs.Judged.{IsAhead}
-use Rattle.mscp_judge.specs.Logs.{Asked, Log, Mark, MayGoOn, IsLegalLog, asking, events_in, nothing, telling, told, transcript, whole}
-use Rattle.mscp_judge.specs.Naming.{IsNamed, name_in, wanting}
-use Rattle.mscp_judge.specs.Standing.{BeginsWith, Came, Counted, HasShortLine, IsHeld, IsSettled, Stands, Stood, due, marked, owed, totals_of, with_picker}
-use Rattle.mscp_judge.specs.Totals.{AreTotals, IsLarger, figure_queued}
 use Rattle.mscp_judge.proofs.Feeds.{NoFeed, some_none, step_ends}
 use Rattle.mscp_judge.proofs.Leading.{follow}
 use Rattle.mscp_judge.proofs.Marks.{asked_parts, goes_on, is_legal_log, is_whole, lead, may_go_on}

@@ -1,22 +1,6 @@
 -- How a judge stands after one more line, with the totals so far.
-use Rattle.std.proofs.Common.{◌≡◌, ℕ, false, List, [], ◌∷◌, ◌++◌, sym, ◌∙◌, subst, append_assoc, append-nil, arith}
-use Rattle.std.specs.Prelude.{Option}
-use Rattle.mscp_events.specs.declared.block.Block.{Block}
-use Rattle.mscp_events.specs.declared.event.Event.{Event}
+use Rattle.mscp_judge.proofs.Common.{◌≡◌, ℕ, false, List, [], ◌∷◌, ◌++◌, sym, ◌∙◌, subst, append_assoc, append-nil, arith, Option, Block, Event, Entry, Settings, is_step, Answers, Holdings, words, entry_lines, Named, Wanted, Totals, Asked, Log, Mark, told, whole, IsNamed, name_in, Counted, Stood, marked, run_of, with_picker, Adds, AreTotals}
 use Rattle.mscp_events.specs.declared.event.Event.TheVariants as events
-use Rattle.mscp_controller.specs.declared.entry.Entry.{Entry}
-use Rattle.mscp_events.specs.Settings.{Settings}
-use Rattle.mscp_controller.specs.History.{is_step}
-use Rattle.mscp_controller.specs.Holdings.{Answers, Holdings}
-use Rattle.mscp_reader.specs.Lexical.{words}
-use Rattle.mscp_script.specs.Text.{entry_lines}
-use Rattle.mscp_judge.specs.declared.naming.Named.{Named}
-use Rattle.mscp_judge.specs.declared.naming.Wanted.{Wanted}
-use Rattle.mscp_judge.specs.declared.totals.Totals.{Totals}
-use Rattle.mscp_judge.specs.Logs.{Asked, Log, Mark, told, whole}
-use Rattle.mscp_judge.specs.Naming.{IsNamed, name_in}
-use Rattle.mscp_judge.specs.Standing.{Counted, Stood, marked, run_of, with_picker}
-use Rattle.mscp_judge.specs.Totals.{Adds, AreTotals}
 use Rattle.mscp_judge.proofs.Leading.{follow}
 use Rattle.mscp_judge.proofs.Marks.{is_legal_log, legal_run}
 use Rattle.mscp_judge.proofs.Standing.{ahead_of, told_all_on, told_line, told_on}

@@ -1,18 +1,6 @@
 -- Where a line asks too early, where a log ends, and how a legal one goes on.
-use Rattle.std.proofs.Common.{◌≡◌, ◌≢◌, ℕ, List, [], ◌∷◌, ◌++◌, length, refl, ap, sym, ◌∙◌, subst, arith, append_assoc, append-nil}
-use Rattle.std.specs.Prelude.{replicate}
-use Rattle.mscp_events.specs.declared.block.Block.{Block}
-use Rattle.mscp_events.specs.declared.event.Event.{Event}
+use Rattle.mscp_judge.proofs.Common.{◌≡◌, ◌≢◌, ℕ, List, [], ◌∷◌, ◌++◌, length, refl, ap, sym, ◌∙◌, subst, arith, append_assoc, append-nil, replicate, Block, Event, Entry, Settings, Trace, Holdings, IsLegal, IsRight, entry_lines, Wanted, Mark, answers_in, told, transcript, whole, BeginsWith, Held, Stood}
 use Rattle.mscp_events.specs.declared.event.Event.TheVariants as events
-use Rattle.mscp_controller.specs.declared.entry.Entry.{Entry}
-use Rattle.mscp_events.specs.Settings.{Settings}
-use Rattle.mscp_controller.specs.History.{Trace}
-use Rattle.mscp_controller.specs.Holdings.{Holdings}
-use Rattle.mscp_controller.specs.Legal.{IsLegal, IsRight}
-use Rattle.mscp_script.specs.Text.{entry_lines}
-use Rattle.mscp_judge.specs.declared.naming.Wanted.{Wanted}
-use Rattle.mscp_judge.specs.Logs.{Mark, answers_in, told, transcript, whole}
-use Rattle.mscp_judge.specs.Standing.{BeginsWith, Held, Stood}
 use Rattle.mscp_judge.proofs.Existing.{steps_exist}
 use Rattle.mscp_judge.proofs.Feeds.{some_none, step_ends}
 use Rattle.mscp_judge.proofs.Leading.{follow}

@@ -1,22 +1,7 @@
 -- A log of which there is a legal trace is judged to be legal, and no other.
-use Rattle.std.proofs.Common.{◌≡◌, ℕ, ◌+◌, ◌≤◌, List, [], ◌∷◌, ◌++◌, length, ap, sym, ◌∙◌, arith, append_assoc, append-nil}
-use Rattle.std.specs.Prelude.{Result, Ok, Err}
-use Rattle.mscp_events.specs.Settings.{Settings}
-use Rattle.mscp_events.specs.declared.event.Event.{Event}
-use Rattle.mscp_packet.specs.Steps.{◌>>=◌}
-use Rattle.mscp_text.specs.Lines.{line}
-use Rattle.mscp_reader.specs.Lexical.{lines}
-use Rattle.mscp_reader.specs.Grammar.{Place, Begins, HasGone, said_at}
-use Rattle.mscp_reader.specs.Outcome.{headed}
-use Rattle.mscp_reader.specs.declared.fault.Cause.{Cause}
-use Rattle.mscp_reader.specs.declared.fault.ScriptFault.{ScriptFault}
-use Rattle.mscp_reader.specs.declared.fault.ReadFault.{ReadFault}
+use Rattle.mscp_judge.proofs.Common.{◌≡◌, ℕ, ◌+◌, ◌≤◌, List, [], ◌∷◌, ◌++◌, length, ap, sym, ◌∙◌, arith, append_assoc, append-nil, Result, Ok, Err, Settings, Event, ◌>>=◌, line, lines, Place, Begins, HasGone, said_at, headed, Cause, ScriptFault, ReadFault, Totals, Verdict, IsLegalLog, Log, Mark, MayGoOn, after_line, after_lines, after_words, asking, nothing, HasLegalTrace, IsLegalVerdict, Judges, JudgesBehind, JudgesLog}
 use Rattle.mscp_reader.specs.declared.fault.ReadFault.TheVariants as faults
-use Rattle.mscp_judge.specs.declared.totals.Totals.{Totals}
-use Rattle.mscp_judge.specs.declared.judging.Verdict.{Verdict}
 use Rattle.mscp_judge.specs.declared.judging.Verdict.TheVariants as verdicts
-use Rattle.mscp_judge.specs.Logs.{IsLegalLog, Log, Mark, MayGoOn, after_line, after_lines, after_words, asking, nothing}
-use Rattle.mscp_judge.specs.Judged.{HasLegalTrace, IsLegalVerdict, Judges, JudgesBehind, JudgesLog}
 
 -- ---- marks are added, and none is lost
 

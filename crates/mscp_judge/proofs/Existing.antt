@@ -1,22 +1,7 @@
 -- After each legal trace a step has a right answer.
-use Rattle.std.proofs.Common.{◌≡◌, ℕ, zero, suc, Bool, true, false, ◌||◌, List, [], ◌∷◌, ◌++◌, refl, ap, sym, ◌∙◌, subst, arith, append_assoc, append-nil}
-use Rattle.std.specs.Prelude.{nat_eq, replicate, slice_get, ◌&&◌}
-use Rattle.std.specs.List.{AllByRecursion, list_all}
-use Rattle.std.proofs.lemmas.Bool.{false≢true, lt-ltb}
-use Rattle.mscp_events.specs.declared.block.Block.{Block}
-use Rattle.mscp_queue.specs.declared.report.Report.TheVariants.{Idle, Served}
+use Rattle.mscp_judge.proofs.Common.{◌≡◌, ℕ, zero, suc, Bool, true, false, ◌||◌, List, [], ◌∷◌, ◌++◌, refl, ap, sym, ◌∙◌, subst, arith, append_assoc, append-nil, nat_eq, replicate, slice_get, ◌&&◌, AllByRecursion, list_all, false≢true, lt-ltb, Block, Idle, Served, Entry, IsValid, Settings, Moment, Trace, connection, done, in_service, is_idle, is_waiting, reference, unit, waiting, is_startable, IsLegal, IsRight, block_of, end_of, seek_to, oldest_starts, waiting_waits, by_serving, legal_more, events_in}
 use Rattle.mscp_events.specs.declared.event.Event.TheVariants as events
-use Rattle.mscp_controller.specs.declared.entry.Entry.{Entry}
 use Rattle.mscp_controller.specs.declared.entry.Entry.TheVariants as entries
-use Rattle.mscp_events.specs.Settings.{IsValid, Settings}
-use Rattle.mscp_controller.specs.History.{Moment, Trace}
-use Rattle.mscp_controller.specs.Commands.{connection, done, in_service, is_idle, is_waiting, reference, unit, waiting}
-use Rattle.mscp_controller.specs.Passing.{is_startable}
-use Rattle.mscp_controller.specs.Legal.{IsLegal, IsRight, block_of, end_of, seek_to}
-use Rattle.mscp_controller.proofs.Promise.Alone.{oldest_starts}
-use Rattle.mscp_controller.proofs.Promise.Waits.{waiting_waits}
-use Rattle.mscp_controller.proofs.Bridge.Legals.{by_serving, legal_more}
-use Rattle.mscp_judge.specs.Logs.{events_in}
 
 -- a step may serve y
 serves : (c : Settings) (t : Trace) (k : Block) (y : ℕ) → is_waiting t y ≡ true

@@ -1,23 +1,7 @@
 -- Lines that end with a line feed.
-use Rattle.std.proofs.Common.{◌≡◌, ◌≢◌, inl, inr, ℕ, ◌+◌, ◌<◌, List, [], ◌∷◌, ◌++◌, drop, get_or, take, length, refl, ap, sym, ◌∙◌, arith, length-append, append_assoc, append-nil}
-use Rattle.std.specs.Prelude.{codes, Option, Some, None, Result, Ok, Err}
-use Rattle.std.specs.List.{AllByRecursion, flat_map}
-use Rattle.std.specs.Fmt.{decimal}
-use Rattle.std.proofs.Math.Seq.{get_or-append_seam, take-append_seam}
-use Rattle.mscp_queue.proofs.Placed.{cut_at}
-use Rattle.hex.specs.Hex.{encode_lower}
-use Rattle.arrayvec.specs.ArrayVec.{ArrayVec}
-use Rattle.mscp_events.specs.declared.connection.Connection.{Connection}
-use Rattle.mscp_queue.specs.declared.report.Report.{Report}
-use Rattle.mscp_queue.specs.declared.report.Report.TheVariants.{Idle, Served}
-use Rattle.mscp_controller.specs.declared.entry.Entry.{Entry}
+use Rattle.mscp_judge.proofs.Common.{◌≡◌, ◌≢◌, inl, inr, ℕ, ◌+◌, ◌<◌, List, [], ◌∷◌, ◌++◌, drop, get_or, take, length, refl, ap, sym, ◌∙◌, arith, length-append, append_assoc, append-nil, codes, Option, Some, None, Result, Ok, Err, AllByRecursion, flat_map, decimal, get_or-append_seam, take-append_seam, cut_at, encode_lower, ArrayVec, Connection, Report, Idle, Served, Entry, SendFault, Sent, line, aborted_part, block_word, connection_word, ended_part, entry_lines, figure_line, message_line, refusal_word, step_line, take_line, BeginsWith, EndsLine}
 use Rattle.mscp_controller.specs.declared.entry.Entry.TheVariants as entries
-use Rattle.mscp_controller.specs.declared.entry.SendFault.{SendFault}
-use Rattle.mscp_controller.specs.declared.entry.Sent.{Sent}
 use Rattle.mscp_controller.specs.declared.entry.Sent.TheVariants as sents
-use Rattle.mscp_text.specs.Lines.{line}
-use Rattle.mscp_script.specs.Text.{aborted_part, block_word, connection_word, ended_part, entry_lines, figure_line, message_line, refusal_word, step_line, take_line}
-use Rattle.mscp_judge.specs.Standing.{BeginsWith, EndsLine}
 
 -- no byte is a line feed
 abbrev pub NoFeed : List ℕ → Type 0

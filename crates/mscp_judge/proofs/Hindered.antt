@@ -1,44 +1,6 @@
 -- What keeps a step from serving a command, as a controller and as the history have it.
-use Rattle.std.proofs.Common.{◌≡◌, ◌≢◌, inr, ⊎_elim, ℕ, ◌≤◌, Bool, true, false, List, [], ◌∷◌, map, length, refl, ap, sym, ◌∙◌, subst, arith}
-use Rattle.std.specs.Prelude.{All, Contains, filter, find, nat_eq, nat_lt, slice_index_or, Option, Some, None}
-use Rattle.std.specs.List.{AllByRecursion}
-use Rattle.std.proofs.lemmas.Bool.{cases_Bool, eq-eqb, true≢false}
-use Rattle.std.proofs.lemmas.List.{length-map, take_all}
-use Rattle.std.proofs.lemmas.List.Elements.{All-contains, All-from_recursion, recursion_from_All}
-use Rattle.mscp_events.specs.declared.connection.Connection.TheVariants.{First}
-use Rattle.mscp_queue.specs.declared.name.Name.{Name}
-use Rattle.mscp_queue.specs.declared.why.Holder.{Holder}
-use Rattle.mscp_queue.specs.Figures.{figure_of_name}
-use Rattle.mscp_queue.specs.Names.{same_name}
-use Rattle.mscp_queue.specs.Records.{IsServing, Record}
-use Rattle.mscp_queue.specs.Why.{holders_of_name, is_nobody}
-use Rattle.mscp_queue.proofs.Lists.{every_from, every_mapped, every_parts, every_weaker, filter_none, filter_on}
-use Rattle.mscp_queue.proofs.Named.{is_differ, is_same, same_is}
-use Rattle.mscp_queue.proofs.Placed.{filter_map_of, find_cases, find_first, find_none, map_map}
-use Rattle.mscp_events.specs.Settings.{IsValid, Settings}
-use Rattle.mscp_controller.specs.History.{Trace}
-use Rattle.mscp_controller.specs.Commands.{done, in_service, is_idle, is_waiting, name, waiting}
-use Rattle.mscp_controller.specs.Figures.{figure_found, figure_of}
-use Rattle.mscp_controller.specs.Headline.{EachWaiting}
-use Rattle.mscp_controller.specs.Holders.{holders, holders_found, holders_of}
-use Rattle.mscp_controller.specs.Holdings.{Holdings}
-use Rattle.mscp_controller.specs.Legal.{shown}
-use Rattle.mscp_controller.specs.Passing.{is_startable, startable}
-use Rattle.mscp_controller.proofs.Bridge.Held.{figure_of_held, figures_held, held_of}
-use Rattle.mscp_controller.proofs.Bridge.Holders.{holders_of_held, startable_unheld}
-use Rattle.mscp_controller.proofs.Bridge.Servable.{all_of, waits_at}
-use Rattle.mscp_controller.proofs.Bridge.Viewed.{record_held, waiting_at}
-use Rattle.mscp_controller.proofs.Promise.Among.{alone}
-use Rattle.mscp_controller.proofs.Promise.Falls.{every_split}
-use Rattle.mscp_controller.proofs.Promise.Progress.{progress, waits_in}
-use Rattle.mscp_controller.proofs.Promise.Starts.{startable_parts}
-use Rattle.mscp_controller.proofs.Promise.Waits.{cut_of, waiting_waits}
-use Rattle.mscp_judge.specs.declared.naming.Named.{Named}
-use Rattle.mscp_judge.specs.declared.naming.Wanted.{Wanted}
+use Rattle.mscp_judge.proofs.Common.{◌≡◌, ◌≢◌, inr, ⊎_elim, ℕ, ◌≤◌, Bool, true, false, List, [], ◌∷◌, map, length, refl, ap, sym, ◌∙◌, subst, arith, All, Contains, filter, find, nat_eq, nat_lt, slice_index_or, Option, Some, None, AllByRecursion, cases_Bool, eq-eqb, true≢false, length-map, take_all, All-contains, All-from_recursion, recursion_from_All, First, Name, Holder, figure_of_name, same_name, IsServing, Record, holders_of_name, is_nobody, every_from, every_mapped, every_parts, every_weaker, filter_none, filter_on, is_differ, is_same, same_is, filter_map_of, find_cases, find_first, find_none, map_map, IsValid, Settings, Trace, done, in_service, is_idle, is_waiting, name, waiting, figure_found, figure_of, EachWaiting, holders, holders_found, holders_of, Holdings, shown, is_startable, startable, figure_of_held, figures_held, held_of, holders_of_held, startable_unheld, all_of, waits_at, record_held, waiting_at, alone, every_split, progress, waits_in, startable_parts, cut_of, waiting_waits, Named, Wanted, name_of, wanted_name, IsStepRule, is_open, named, named_in, names, starts_in}
 use Rattle.mscp_judge.specs.declared.rules.Rule.TheVariants as rules
-use Rattle.mscp_judge.specs.Naming.{name_of, wanted_name}
-use Rattle.mscp_judge.specs.Rules.{IsStepRule}
-use Rattle.mscp_judge.specs.Starts.{is_open, named, named_in, names, starts_in}
 use Rattle.mscp_judge.proofs.Leading.{Follow}
 use Rattle.mscp_judge.proofs.Unique.{some_same}
 

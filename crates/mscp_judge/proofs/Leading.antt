@@ -1,22 +1,5 @@
 -- What is held after moments that came one after the other, each with a picker of its own, is that of a legal trace.
-use Rattle.std.proofs.Common.{◌≡◌, [], ◌∷◌, ◌++◌, refl, sym, subst, arith, append-nil}
-use Rattle.std.specs.Prelude.{None, Option}
-use Rattle.std.proofs.lemmas.List.{append_assoc}
-use Rattle.mscp_events.specs.declared.event.Event.{Event}
-use Rattle.mscp_controller.specs.declared.entry.Entry.{Entry}
-use Rattle.mscp_events.specs.Settings.{IsValid, Settings}
-use Rattle.mscp_controller.specs.History.{Moment, Trace}
-use Rattle.mscp_controller.specs.Holdings.{Answers, Holdings, fresh}
-use Rattle.mscp_controller.specs.Legal.{IsLegal}
-use Rattle.mscp_controller.proofs.Bridge.Following.{none_held, turns}
-use Rattle.mscp_controller.proofs.Bridge.Legals.{legal_more}
-use Rattle.mscp_controller.proofs.Bridge.Owning.{owner_kept, unbegun_kept}
-use Rattle.mscp_controller.proofs.Bridge.Sending.{Agrees}
-use Rattle.mscp_controller.proofs.Bridge.Stepped.{Turns}
-use Rattle.mscp_judge.specs.declared.naming.Named.{Named}
-use Rattle.mscp_judge.specs.declared.naming.Wanted.{Wanted}
-use Rattle.mscp_judge.specs.Naming.{IsNamed}
-use Rattle.mscp_judge.specs.Standing.{Led, with_picker}
+use Rattle.mscp_judge.proofs.Common.{◌≡◌, [], ◌∷◌, ◌++◌, refl, sym, subst, arith, append-nil, None, Option, append_assoc, Event, Entry, IsValid, Settings, Moment, Trace, Answers, Holdings, fresh, IsLegal, none_held, turns, legal_more, owner_kept, unbegun_kept, Agrees, Turns, Named, Wanted, IsNamed, Led, with_picker}
 
 -- one more moment
 pub led_more : (old mid new : Holdings Wanted) (ms : Trace) (name : Option Named) (e : Event) (n : Entry)

@@ -22,4 +22,5 @@ mod Answering
 mod Telling
 mod Righting
 mod Passing
+pub mod Common
 pub mod Exactly

@@ -1,26 +1,8 @@
 -- What comes of a line of a log, where hosts hear it.
-use Rattle.std.proofs.Common.{◌≡◌, ◌≢◌, ℕ, zero, suc, ◌+◌, ◌<◌, ◌≤◌, Bool, true, false, List, [], ◌∷◌, length, refl, ap, ◌∙◌, arith}
-use Rattle.std.specs.Result.{result_ok}
-use Rattle.std.specs.Prelude.{◌↔◌, if◌then◌else◌, IfOk, Option, Some, None, Result, Ok, Err, replicate}
-use Rattle.mscp_packet.specs.Commands.{IsCommand, command_of}
-use Rattle.mscp_packet.specs.declared.command.Command.{Command}
-use Rattle.mscp_packet.specs.declared.reading.PacketFault.{PacketFault}
+use Rattle.mscp_judge.proofs.Common.{◌≡◌, ◌≢◌, ℕ, zero, suc, ◌+◌, ◌<◌, ◌≤◌, Bool, true, false, List, [], ◌∷◌, length, refl, ap, ◌∙◌, arith, result_ok, ◌↔◌, if◌then◌else◌, IfOk, Option, Some, None, Result, Ok, Err, replicate, IsCommand, command_of, Command, PacketFault, Both, Event, command_is, Account, ◌>>=◌, Block, lines, Begins, Place, asked_after, said_at, Fails, headed, in_line, ReadFault, ScriptFault, is_answer, FailsLine, Heard, after_answer, after_request, command_in, heard_behind, heard_log, hosts_after_all, from_ok}
+use Rattle.mscp_judge.specs.Heard.{after_line, after_lines, after_words, asking}
 use Rattle.mscp_packet.specs.declared.reading.PacketFault.TheVariants as sizes
-use Rattle.mscp_events.specs.Both.{Both}
-use Rattle.mscp_events.specs.declared.event.Event.{Event}
 use Rattle.mscp_events.specs.declared.event.Event.TheVariants as events
-use Rattle.mscp_controller.proofs.Bridge.Judging.{command_is}
-use Rattle.mscp_host.specs.Accounts.{Account}
-use Rattle.mscp_packet.specs.Steps.{◌>>=◌}
-use Rattle.mscp_events.specs.declared.block.Block.{Block}
-use Rattle.mscp_reader.specs.Lexical.{lines}
-use Rattle.mscp_reader.specs.Grammar.{Begins, Place, asked_after, said_at}
-use Rattle.mscp_reader.specs.Outcome.{Fails, headed, in_line}
-use Rattle.mscp_reader.specs.declared.fault.ReadFault.{ReadFault}
-use Rattle.mscp_reader.specs.declared.fault.ScriptFault.{ScriptFault}
-use Rattle.mscp_judge.specs.Logs.{is_answer}
-use Rattle.mscp_judge.specs.Heard.{FailsLine, Heard, after_answer, after_line, after_lines, after_request, after_words, asking, command_in, heard_behind, heard_log, hosts_after_all}
-use Rattle.mscp_reader.proofs.Outcomes.{from_ok}
 use Rattle.mscp_judge.proofs.Reading.{in_err}
 
 -- ---- a message

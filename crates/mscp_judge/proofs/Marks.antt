@@ -1,18 +1,7 @@
 -- The marks of a log, taken apart.
-use Rattle.std.proofs.Common.{◌≡◌, ℕ, List, [], ◌∷◌, ◌++◌, take, get_or, length, refl, ap, sym, ◌∙◌, subst, arith, length-append, append_assoc}
-use Rattle.std.specs.Prelude.{None}
-use Rattle.std.proofs.lemmas.Grind.{flat_map-append}
-use Rattle.std.proofs.lemmas.List.{map-append}
-use Rattle.std.proofs.Math.Seq.{get_or-append_seam, take-append_seam}
-use Rattle.mscp_events.specs.declared.connection.Connection.TheVariants.{First}
-use Rattle.mscp_events.specs.declared.event.Event.{Event}
+use Rattle.mscp_judge.proofs.Common.{◌≡◌, ℕ, List, [], ◌∷◌, ◌++◌, take, get_or, length, refl, ap, sym, ◌∙◌, subst, arith, length-append, append_assoc, None, flat_map-append, map-append, get_or-append_seam, take-append_seam, First, Event, Settings, Moment, Trace, moment, IsLegal, IsRight, entry_lines, Asked, IsLegalLog, Mark, MayGoOn, Told, answers_in, events_in, told, transcript, whole, written}
 use Rattle.mscp_events.specs.declared.event.Event.TheVariants as events
 use Rattle.mscp_controller.specs.declared.entry.Entry.TheVariants as entries
-use Rattle.mscp_events.specs.Settings.{Settings}
-use Rattle.mscp_controller.specs.History.{Moment, Trace, moment}
-use Rattle.mscp_controller.specs.Legal.{IsLegal, IsRight}
-use Rattle.mscp_script.specs.Text.{entry_lines}
-use Rattle.mscp_judge.specs.Logs.{Asked, IsLegalLog, Mark, MayGoOn, Told, answers_in, events_in, told, transcript, whole, written}
 
 pub told_append : (xs ys : List ℕ) → told (xs ++ ys) ≡ told xs ++ told ys
 told_append xs ys = map-append (λ b. Told b) xs ys

@@ -1,20 +1,5 @@
 -- Lines that are passed over.
-use Rattle.std.proofs.Common.{◌≡◌, ℕ, ◌+◌, ◌<◌, ◌≤◌, false, List, [], ◌∷◌, ◌++◌, length, refl, ap, sym, ◌∙◌, subst, arith, true, Bool}
-use Rattle.std.proofs.Common.{append_assoc, append-nil, length-append}
-use Rattle.std.specs.Prelude.{codes, drop, OnOk, Some, Result, Ok, Err}
-use Rattle.std.specs.List.{AllByRecursion, flat_map}
-use Rattle.std.proofs.lemmas.Bool.Decides.{nat_tests}
-use Rattle.mscp_events.specs.Settings.{Settings}
-use Rattle.mscp_events.specs.declared.event.Event.{Event}
-use Rattle.mscp_events.specs.declared.memory.OutOfMemory.{OutOfMemory}
-use Rattle.mscp_text.specs.Lines.{line}
-use Rattle.mscp_reader.specs.Outcome.{asked_next}
-use Rattle.mscp_reader.proofs.PlainLines.{plain_lines}
-use Rattle.mscp_reader.specs.Lexical.{lines}
-use Rattle.mscp_judge.specs.declared.judge.Judge.{Judge}
-use Rattle.mscp_judge.specs.Judged.{Passed}
-use Rattle.mscp_judge.specs.Logs.{AreAnswers, IsAnswerLine, Log, after_lines, asking, telling, told}
-use Rattle.mscp_judge.specs.Standing.{Stands, due}
+use Rattle.mscp_judge.proofs.Common.{◌≡◌, ℕ, ◌+◌, ◌<◌, ◌≤◌, false, List, [], ◌∷◌, ◌++◌, length, refl, ap, sym, ◌∙◌, subst, arith, true, Bool, append_assoc, append-nil, length-append, codes, drop, OnOk, Some, Result, Ok, Err, AllByRecursion, flat_map, nat_tests, Settings, Event, OutOfMemory, line, asked_next, plain_lines, lines, Judge, Passed, AreAnswers, IsAnswerLine, Log, after_lines, asking, telling, told, Stands, due}
 use Rattle.mscp_judge.proofs.Answering.{idle_answers}
 use Rattle.mscp_judge.proofs.Exactly.{lines_behind}
 use Rattle.mscp_judge.proofs.Marks.{told_append}

@@ -1,25 +1,6 @@
 -- Bytes that are printed: the digits of numbers, also of those that no type holds, and of the bytes of an end.
-use Rattle.std.proofs.Common.{◌≡◌, ◌==◌, ℕ, zero, suc, ◌+◌, ◌*◌, ◌/◌, ◌%◌, ◌<◌, ◌≤◌, true, false, cond, arith}
-use Rattle.std.proofs.Common.{List, [], ◌∷◌, ◌++◌, length, refl, sym, subst, arith}
-use Rattle.std.specs.Prelude.{find, if◌then◌else◌, nat_eq, nat_lt, replicate, IfSome, Option, Some, None, slice_index}
-use Rattle.std.specs.Fmt.{decimal, digit_glyph, digits, digits_onto}
-use Rattle.std.specs.Int.{byte_at, bytes_high_first, bytes_low_first, to_be_bytes, w16}
-use Rattle.std.specs.List.{AllByRecursion, list_all}
-use Rattle.std.specs.Option.{option_map}
-use Rattle.std.proofs.lemmas.Bool.{and_from, and_parts, eqb-true, ltb-true}
-use Rattle.std.proofs.lemmas.Bool.Decides.{nat_tests}
-use Rattle.arrayvec.specs.ArrayVec.{ArrayVec}
-use Rattle.byteorder.specs.Endian.{little_bytes}
-use Rattle.hex.specs.Hex.{encode_lower, encode_with, lower_digits}
-use Rattle.mscp_packet.specs.declared.end.BodyKind.{BodyKind}
-use Rattle.mscp_packet.specs.declared.end.EndBody.{EndBody}
+use Rattle.mscp_judge.proofs.Common.{◌≡◌, ◌==◌, ℕ, zero, suc, ◌+◌, ◌*◌, ◌/◌, ◌%◌, ◌<◌, ◌≤◌, true, false, cond, arith, List, [], ◌∷◌, ◌++◌, length, refl, sym, subst, find, if◌then◌else◌, nat_eq, nat_lt, replicate, IfSome, Option, Some, None, slice_index, decimal, digit_glyph, digits, digits_onto, byte_at, bytes_high_first, bytes_low_first, to_be_bytes, w16, AllByRecursion, list_all, option_map, and_from, and_parts, eqb-true, ltb-true, nat_tests, ArrayVec, little_bytes, encode_lower, encode_with, lower_digits, BodyKind, EndBody, End, HasBody, IsEnd, body_bytes, end_bytes, endcodes, unit_bytes, bytes_span, every_append, status_text, is_printed}
 use Rattle.mscp_packet.specs.declared.end.EndBody.TheVariants as bodies
-use Rattle.mscp_packet.specs.declared.end.End.{End}
-use Rattle.mscp_packet.specs.Ends.{HasBody, IsEnd, body_bytes, end_bytes, endcodes, unit_bytes}
-use Rattle.mscp_packet.proofs.Ends.{bytes_span}
-use Rattle.mscp_queue.proofs.Lists.{every_append}
-use Rattle.mscp_text.specs.Lines.{status_text}
-use Rattle.mscp_reader.specs.Lexical.{is_printed}
 
 -- ---- numbers
 abbrev pub AllPrinted : List ℕ → Type 0

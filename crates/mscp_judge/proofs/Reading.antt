@@ -1,18 +1,6 @@
 -- The lines of a log, read one by one.
-use Rattle.std.proofs.Common.{◌≡◌, ◌≢◌, ℕ, ◌+◌, Bool, true, false, List, [], ◌∷◌, ◌++◌, length, ap, sym, ◌∙◌, arith}
-use Rattle.std.specs.Prelude.{if◌then◌else◌, Result, Ok, Err}
-use Rattle.std.specs.List.{list_all}
-use Rattle.std.proofs.lemmas.Bool.{true≢false}
-use Rattle.mscp_events.specs.declared.event.Event.{Event}
-use Rattle.mscp_packet.specs.Steps.{◌>>=◌}
-use Rattle.mscp_reader.specs.Lexical.{is_printed, said, words}
-use Rattle.mscp_reader.specs.Grammar.{asked_after, said_at}
-use Rattle.mscp_reader.specs.Outcome.{in_line}
-use Rattle.mscp_reader.specs.declared.fault.Cause.{Cause}
-use Rattle.mscp_reader.specs.declared.fault.ScriptFault.{ScriptFault}
-use Rattle.mscp_reader.proofs.Outcomes.{from_ok}
-use Rattle.mscp_text.specs.Lines.{line}
-use Rattle.mscp_judge.specs.Logs.{Log, after_line, after_lines, after_request, after_words, asking, is_answer, telling}
+use Rattle.mscp_judge.proofs.Common.{◌≡◌, ◌≢◌, ℕ, ◌+◌, Bool, true, false, List, [], ◌∷◌, ◌++◌, length, ap, sym, ◌∙◌, arith, if◌then◌else◌, Result, Ok, Err, list_all, true≢false, Event, ◌>>=◌, is_printed, said, words, asked_after, said_at, in_line, Cause, ScriptFault, from_ok, line, Log, after_line, after_lines, after_words, asking, is_answer, telling}
+use Rattle.mscp_judge.specs.Logs.{after_request}
 
 -- both steps gave a value
 pub bound : {A B E : Type 0} (r : Result A E) (f : A → Result B E) (y : B) → (r >>= f) ≡ Ok y

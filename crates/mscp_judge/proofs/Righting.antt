@@ -1,37 +1,7 @@
 -- The line of a step that was answered is the right one.
-use Rattle.std.proofs.Common.{◌≡◌, ◌≢◌, inl, inr, ℕ, suc, ◌-◌, ◌<◌, ◌≤◌, Bool, true, false, cond, List, [], ◌∷◌, ◌++◌, get_or, length, refl, ap, sym, ◌∙◌, subst, arith, length-append, append-nil}
-use Rattle.std.specs.Prelude.{codes, filter, replicate, Option, Some, None}
-use Rattle.std.specs.List.{AllByRecursion, flat_map, list_all}
-use Rattle.std.proofs.lemmas.Bool.{eq-eqb, ltb-true}
-use Rattle.std.proofs.lemmas.List.{append_cancel_right, length-replicate}
-use Rattle.mscp_events.specs.declared.block.Block.{Block}
-use Rattle.mscp_events.specs.declared.event.Event.{Event}
+use Rattle.mscp_judge.proofs.Common.{◌≡◌, ◌≢◌, inl, inr, ℕ, suc, ◌-◌, ◌<◌, ◌≤◌, Bool, true, false, cond, List, [], ◌∷◌, ◌++◌, get_or, length, refl, ap, sym, ◌∙◌, subst, arith, length-append, append-nil, codes, filter, replicate, Option, Some, None, AllByRecursion, flat_map, list_all, eq-eqb, ltb-true, append_cancel_right, length-replicate, Block, Event, IsValid, Settings, name_on, Report, Idle, Served, Entry, Service, Trace, WhenStarted, service_in, done, is_waiting, name, service_name, waiting, is_startable, startable, Answers, Holdings, fresh, IsPick, IsRight, IsServed, one_waits, Known, startable_of, waiting_waits, line, is_printed, entry_lines, step_line, Judge, Named, Wanted, AreAnswers, IsAnswerLine, IsRightThere, Log, telling, IsNamed, HasStepped, IsOpen, IsRightNext, IsServiceLine, IsStepLine, report_in, BeginsWith, Came, HasShortLine, IsFirstLine, IsHeld, IsSettled, Led, Stands, Stood, due, marked, owed, run_of, with_picker}
 use Rattle.mscp_events.specs.declared.event.Event.TheVariants as events
-use Rattle.mscp_events.specs.Settings.{IsValid, Settings}
-use Rattle.mscp_queue.specs.Names.{name_on}
-use Rattle.mscp_queue.specs.declared.report.Report.{Report}
-use Rattle.mscp_queue.specs.declared.report.Report.TheVariants.{Idle, Served}
-use Rattle.mscp_controller.specs.declared.entry.Entry.{Entry}
 use Rattle.mscp_controller.specs.declared.entry.Entry.TheVariants as entries
-use Rattle.mscp_controller.specs.History.{Service, Trace, WhenStarted, service_in}
-use Rattle.mscp_controller.specs.Commands.{done, is_waiting, name, service_name, waiting}
-use Rattle.mscp_controller.specs.Passing.{is_startable, startable}
-use Rattle.mscp_controller.specs.Holdings.{Answers, Holdings, fresh}
-use Rattle.mscp_controller.specs.Legal.{IsPick, IsRight, IsServed}
-use Rattle.mscp_controller.proofs.Promise.Among.{one_waits}
-use Rattle.mscp_controller.proofs.Promise.Known.{Known}
-use Rattle.mscp_controller.proofs.Promise.Starts.{startable_of}
-use Rattle.mscp_controller.proofs.Promise.Waits.{waiting_waits}
-use Rattle.mscp_text.specs.Lines.{line}
-use Rattle.mscp_reader.specs.Lexical.{is_printed}
-use Rattle.mscp_script.specs.Text.{entry_lines, step_line}
-use Rattle.mscp_judge.specs.declared.judge.Judge.{Judge}
-use Rattle.mscp_judge.specs.declared.naming.Named.{Named}
-use Rattle.mscp_judge.specs.declared.naming.Wanted.{Wanted}
-use Rattle.mscp_judge.specs.Logs.{AreAnswers, IsAnswerLine, IsRightThere, Log, telling}
-use Rattle.mscp_judge.specs.Naming.{IsNamed}
-use Rattle.mscp_judge.specs.Rights.{HasStepped, IsOpen, IsRightNext, IsServiceLine, IsStepLine, report_in}
-use Rattle.mscp_judge.specs.Standing.{BeginsWith, Came, HasShortLine, IsFirstLine, IsHeld, IsSettled, Led, Stands, Stood, due, marked, owed, run_of, with_picker}
 use Rattle.mscp_judge.proofs.Coming.{printed_fed, ready_due, ready_not, right_step, stands_held, stands_with, told_not}
 use Rattle.mscp_judge.proofs.Ending.{opens_with}
 use Rattle.mscp_judge.proofs.Feeds.{front_of, some_none}

@@ -1,26 +1,5 @@
 -- The line of a step says which command was served.
-use Rattle.std.proofs.Common.{◌≡◌, ◌==◌, ℕ, ◌<◌, ◌^◌, true, not, List, [], ◌∷◌, ◌++◌, length, refl, ap, sym, ◌∙◌, arith, append_assoc}
-use Rattle.std.specs.Prelude.{codes, Ok, Option, Some}
-use Rattle.std.specs.Fmt.{decimal}
-use Rattle.std.specs.List.{list_all}
-use Rattle.std.specs.Str.Parse.{AllDigits}
-use Rattle.std.specs.Char.{digit_value}
-use Rattle.std.proofs.lemmas.Bool.Decides.{nat_tests}
-use Rattle.std.proofs.lemmas.Bool.{and_from, and_parts, false≢true, le-leb}
-use Rattle.std.proofs.lemmas.Fmt.{decimal_is_IsNumeral}
-use Rattle.std.proofs.lemmas.Str.Parse.{digit_from_value}
-use Rattle.mscp_packet.specs.declared.end.End.{End}
-use Rattle.mscp_events.specs.declared.connection.Connection.{Connection}
-use Rattle.mscp_events.specs.declared.connection.Connection.TheVariants.{First, Second}
-use Rattle.mscp_queue.specs.declared.report.Report.{Report}
-use Rattle.mscp_queue.specs.declared.report.Report.TheVariants.{Idle, Served}
-use Rattle.mscp_queue.specs.Names.{name_on}
-use Rattle.mscp_queue.proofs.Lists.{every_append}
-use Rattle.mscp_reader.specs.Lexical.{is_digit, number, wide, words}
-use Rattle.mscp_reader.proofs.Digits.{few_digits}
-use Rattle.mscp_reader.proofs.PlainLines.{AllSolid, solid_digits, word_front}
-use Rattle.mscp_script.specs.Text.{block_word, connection_word, ended_part, step_line}
-use Rattle.mscp_judge.specs.Naming.{name_in, numbered, served, wanted_name}
+use Rattle.mscp_judge.proofs.Common.{◌≡◌, ◌==◌, ℕ, ◌<◌, ◌^◌, true, not, List, [], ◌∷◌, ◌++◌, length, refl, ap, sym, ◌∙◌, arith, append_assoc, codes, Ok, Option, Some, decimal, list_all, AllDigits, digit_value, nat_tests, and_from, and_parts, false≢true, le-leb, decimal_is_IsNumeral, digit_from_value, End, Connection, First, Second, Report, Idle, Served, name_on, every_append, is_digit, number, wide, words, few_digits, AllSolid, solid_digits, word_front, block_word, connection_word, ended_part, step_line, name_in, numbered, served, wanted_name}
 use Rattle.mscp_judge.proofs.Feeds.{NoFeed, front_of}
 use Rattle.mscp_judge.proofs.Unique.{Says}
 

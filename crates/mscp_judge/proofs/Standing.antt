@@ -1,14 +1,5 @@
 -- How a judge stands after one more line.
-use Rattle.std.proofs.Common.{◌≡◌, ◌≢◌, inl, ⊎_elim, ℕ, List, [], ◌∷◌, ◌++◌, refl, ap, sym, ◌∙◌, append_assoc, append-nil, arith}
-use Rattle.std.proofs.lemmas.List.{append_cancel_left}
-use Rattle.mscp_events.specs.declared.event.Event.{Event}
-use Rattle.mscp_events.specs.Settings.{Settings}
-use Rattle.mscp_controller.specs.History.{Trace}
-use Rattle.mscp_controller.specs.Holdings.{Holdings}
-use Rattle.mscp_controller.specs.Legal.{IsLegal}
-use Rattle.mscp_judge.specs.declared.naming.Wanted.{Wanted}
-use Rattle.mscp_judge.specs.Logs.{Mark, answers_in, events_in, told, transcript, whole}
-use Rattle.mscp_judge.specs.Standing.{BeginsWith, Held, Stood}
+use Rattle.mscp_judge.proofs.Common.{◌≡◌, ◌≢◌, inl, ⊎_elim, ℕ, List, [], ◌∷◌, ◌++◌, refl, ap, sym, ◌∙◌, append_assoc, append-nil, arith, append_cancel_left, Event, Settings, Trace, Holdings, IsLegal, Wanted, Mark, answers_in, events_in, told, transcript, whole, BeginsWith, Held, Stood}
 use Rattle.mscp_judge.proofs.Feeds.{NoFeed, ends_behind, first_line, some_none}
 use Rattle.mscp_judge.proofs.Marks.{GoesOn, answers_append, events_append, lead, lead_told, lead_transcript, none_asked, told_append, transcript_append}
 

@@ -1,22 +1,7 @@
 -- How a judge stands after a step was answered.
-use Rattle.std.proofs.Common.{◌≡◌, ℕ, List, [], ◌∷◌, ◌++◌, ap, sym, ◌∙◌, subst, append_assoc, append-nil, arith}
-use Rattle.std.specs.Prelude.{Option}
-use Rattle.mscp_events.specs.declared.block.Block.{Block}
-use Rattle.mscp_events.specs.declared.event.Event.{Event}
+use Rattle.mscp_judge.proofs.Common.{◌≡◌, ℕ, List, [], ◌∷◌, ◌++◌, ap, sym, ◌∙◌, subst, append_assoc, append-nil, arith, Option, Block, Event, Entry, Settings, Moment, Trace, Answers, Holdings, fresh, IsRight, words, entry_lines, Named, Wanted, Asked, Mark, answers_in, events_in, told, transcript, whole, IsNamed, name_in, Held, Led, Stood, with_picker}
 use Rattle.mscp_events.specs.declared.event.Event.TheVariants as events
-use Rattle.mscp_controller.specs.declared.entry.Entry.{Entry}
 use Rattle.mscp_controller.specs.declared.entry.Entry.TheVariants as entries
-use Rattle.mscp_events.specs.Settings.{Settings}
-use Rattle.mscp_controller.specs.History.{Moment, Trace}
-use Rattle.mscp_controller.specs.Holdings.{Answers, Holdings, fresh}
-use Rattle.mscp_controller.specs.Legal.{IsRight}
-use Rattle.mscp_reader.specs.Lexical.{words}
-use Rattle.mscp_script.specs.Text.{entry_lines}
-use Rattle.mscp_judge.specs.declared.naming.Named.{Named}
-use Rattle.mscp_judge.specs.declared.naming.Wanted.{Wanted}
-use Rattle.mscp_judge.specs.Logs.{Asked, Mark, answers_in, events_in, told, transcript, whole}
-use Rattle.mscp_judge.specs.Naming.{IsNamed, name_in}
-use Rattle.mscp_judge.specs.Standing.{Held, Led, Stood, with_picker}
 use Rattle.mscp_judge.proofs.Feeds.{entry_ends}
 use Rattle.mscp_judge.proofs.Leading.{follow, led_more, turn_of}
 use Rattle.mscp_judge.proofs.Marks.{answers_append, events_append, lead, lead_told, right_among, some_asked, told_append}

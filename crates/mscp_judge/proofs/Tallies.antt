@@ -1,42 +1,6 @@
 -- What one moment more adds to the totals of a run.
-use Rattle.std.proofs.Common.{◌≡◌, ◌≢◌, ◌⊎◌, inl, inr, ⊎_elim, ℕ, ◌+◌, ◌≤◌, Bool, true, false, cond, List, [], ◌∷◌, ◌++◌, map, take, get_or, length, refl, ap, sym, ◌∙◌, subst, arith, length-append}
-use Rattle.std.specs.Prelude.{Contains, filter, not, Ok, Option}
-use Rattle.std.specs.List.{AllByRecursion}
-use Rattle.std.proofs.lemmas.List.{take-append-le, take_all}
-use Rattle.std.proofs.lemmas.List.Elements.{All-contains, All-contains_itself, recursion_from_All, All-from_recursion}
-use Rattle.std.proofs.lemmas.List.Sums.{sum_by_push}
-use Rattle.std.proofs.lemmas.Bool.{cases_lt, false≢true}
-use Rattle.mscp_packet.specs.Commands.{command_of}
-use Rattle.mscp_events.specs.declared.connection.Connection.{Connection}
-use Rattle.mscp_queue.specs.Records.{Record, record_at}
-use Rattle.mscp_queue.proofs.Lists.{every_append, every_mapped, every_kept}
-use Rattle.mscp_events.specs.declared.event.Event.{Event}
-use Rattle.mscp_controller.specs.declared.entry.Entry.{Entry}
-use Rattle.mscp_controller.specs.declared.entry.Sent.{Sent}
+use Rattle.mscp_judge.proofs.Common.{◌≡◌, ◌≢◌, ◌⊎◌, inl, inr, ⊎_elim, ℕ, ◌+◌, ◌≤◌, Bool, true, false, cond, List, [], ◌∷◌, ◌++◌, map, take, get_or, length, refl, ap, sym, ◌∙◌, subst, arith, length-append, Contains, filter, not, Ok, Option, AllByRecursion, take-append-le, take_all, All-contains, All-contains_itself, recursion_from_All, All-from_recursion, sum_by_push, cases_lt, false≢true, command_of, Connection, Record, record_at, every_append, every_mapped, every_kept, Event, Entry, Sent, is_queued, arrival, IsValid, Settings, bound, Moment, Trace, is_step, queues, ends_in, name, waiting, passed, figure, figure_of, EachWaiting, Answers, Holdings, IsRight, name_last, arrives, queued_right, taken_when, falling, is_waiting_last, waiting_more, progress, waits_in, figure_of_held, held_of, step_count, Named, Wanted, Totals, IsNamed, with_picker, Adds, AreTotals, IsLarger, IsLargest, figure_queued}
 use Rattle.mscp_controller.specs.declared.entry.Sent.TheVariants as sents
-use Rattle.mscp_controller.specs.Arrival.{is_queued}
-use Rattle.mscp_controller.specs.Credits.{arrival}
-use Rattle.mscp_events.specs.Settings.{IsValid, Settings, bound}
-use Rattle.mscp_controller.specs.History.{Moment, Trace, is_step, queues}
-use Rattle.mscp_controller.specs.Commands.{ends_in, name, waiting}
-use Rattle.mscp_controller.specs.Passing.{passed}
-use Rattle.mscp_controller.specs.Figures.{figure, figure_of}
-use Rattle.mscp_controller.specs.Headline.{EachWaiting}
-use Rattle.mscp_controller.specs.Holdings.{Answers, Holdings}
-use Rattle.mscp_controller.specs.Legal.{IsRight}
-use Rattle.mscp_controller.proofs.Promise.Apart.{name_last}
-use Rattle.mscp_controller.proofs.Promise.Arrivals.{arrives, queued_right, taken_when}
-use Rattle.mscp_controller.proofs.Promise.Falling.{falling}
-use Rattle.mscp_controller.proofs.Promise.Grows.{is_waiting_last, waiting_more}
-use Rattle.mscp_controller.proofs.Promise.Progress.{progress, waits_in}
-use Rattle.mscp_controller.proofs.Bridge.Held.{figure_of_held, held_of}
-use Rattle.mscp_script.specs.Text.{step_count}
-use Rattle.mscp_judge.specs.declared.naming.Named.{Named}
-use Rattle.mscp_judge.specs.declared.naming.Wanted.{Wanted}
-use Rattle.mscp_judge.specs.declared.totals.Totals.{Totals}
-use Rattle.mscp_judge.specs.Naming.{IsNamed}
-use Rattle.mscp_judge.specs.Standing.{with_picker}
-use Rattle.mscp_judge.specs.Totals.{Adds, AreTotals, IsLarger, IsLargest, figure_queued}
 use Rattle.mscp_judge.proofs.Leading.{Follow, follow_more, turn_of}
 
 -- ---- the largest

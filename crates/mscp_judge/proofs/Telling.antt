@@ -1,25 +1,7 @@
 -- How a judge stands after all that was due was told.
-use Rattle.std.proofs.Common.{◌≡◌, ◌-◌, ◌<◌, [], ◌++◌, length, refl, ap, sym, ◌∙◌, subst, arith, append_assoc, append-nil, ◌≤◌, List, ℕ, ◌∷◌}
-use Rattle.std.specs.Prelude.{codes, OnOk, Result, Option, Some, None}
-use Rattle.std.specs.List.{flat_map}
-use Rattle.mscp_events.specs.declared.block.Block.{Block}
-use Rattle.mscp_queue.specs.declared.report.Report.{Report}
-use Rattle.mscp_queue.specs.declared.report.Report.TheVariants.{Idle}
+use Rattle.mscp_judge.proofs.Common.{◌≡◌, ◌-◌, ◌<◌, [], ◌++◌, length, refl, ap, sym, ◌∙◌, subst, arith, append_assoc, append-nil, ◌≤◌, List, ℕ, ◌∷◌, codes, OnOk, Result, Option, Some, None, flat_map, Block, Report, Idle, Entry, OutOfMemory, IsValid, Settings, Answers, Holdings, line, words, Reported, entry_lines, step_line, with_entry, Judge, Named, Wanted, AreAnswers, Log, telling, IsNamed, name_in, served, BeginsWith, Came, IsNamedAhead, Stands, due, marked, owed, totals_of, with_picker}
 use Rattle.mscp_events.specs.declared.event.Event.TheVariants as events
-use Rattle.mscp_controller.specs.declared.entry.Entry.{Entry}
 use Rattle.mscp_controller.specs.declared.entry.Entry.TheVariants as entries
-use Rattle.mscp_events.specs.declared.memory.OutOfMemory.{OutOfMemory}
-use Rattle.mscp_events.specs.Settings.{IsValid, Settings}
-use Rattle.mscp_controller.specs.Holdings.{Answers, Holdings}
-use Rattle.mscp_text.specs.Lines.{line}
-use Rattle.mscp_reader.specs.Lexical.{words}
-use Rattle.mscp_script.specs.Text.{Reported, entry_lines, step_line, with_entry}
-use Rattle.mscp_judge.specs.declared.judge.Judge.{Judge}
-use Rattle.mscp_judge.specs.declared.naming.Named.{Named}
-use Rattle.mscp_judge.specs.declared.naming.Wanted.{Wanted}
-use Rattle.mscp_judge.specs.Logs.{AreAnswers, Log, telling}
-use Rattle.mscp_judge.specs.Naming.{IsNamed, name_in, served}
-use Rattle.mscp_judge.specs.Standing.{BeginsWith, Came, IsNamedAhead, Stands, due, marked, owed, totals_of, with_picker}
 use Rattle.mscp_judge.proofs.Answering.{step_answers}
 use Rattle.mscp_judge.proofs.Coming.{held_settings, ready_step, right_step, stands_held, told_so}
 use Rattle.mscp_judge.proofs.Counted.{told_all_counted}

@@ -1,36 +1,7 @@
 -- After a legal trace an event has one right answer, if at a step it is known which command it serves.
-use Rattle.std.proofs.Common.{◌≡◌, ◌≢◌, ◌⊎◌, ⊎_elim, ℕ, ◌<◌, ◌^◌, Bool, true, false, cond, ◌||◌, [], ◌∷◌, ◌++◌, get_or, length, refl, ap, sym, ◌∙◌, subst, arith, length-append}
-use Rattle.std.specs.Prelude.{filter, Option, Some}
-use Rattle.std.specs.List.{AllByRecursion}
-use Rattle.std.proofs.lemmas.Bool.{cases_Bool, eq-eqb, ltb-true, false≢true}
-use Rattle.std.proofs.lemmas.List.{get_or-map, length-map}
-use Rattle.std.proofs.lemmas.List.Elements.{filter-append}
-use Rattle.std.proofs.Math.Seq.{get_or-append_seam}
-use Rattle.mscp_events.specs.declared.block.Block.{Block}
-use Rattle.mscp_queue.specs.declared.view.Choice.{Choice}
-use Rattle.mscp_queue.specs.declared.name.Name.{Name}
-use Rattle.mscp_queue.specs.declared.report.Report.{Report}
-use Rattle.mscp_queue.specs.declared.report.Report.TheVariants.{Idle, Served}
-use Rattle.mscp_queue.specs.Names.{name_on}
-use Rattle.mscp_queue.specs.Views.{choice_name}
-use Rattle.mscp_queue.proofs.Lists.{every_append, every_parts, every_weaker}
-use Rattle.mscp_queue.proofs.Named.{is_same, same_is}
-use Rattle.mscp_events.specs.declared.event.Event.{Event}
+use Rattle.mscp_judge.proofs.Common.{◌≡◌, ◌≢◌, ◌⊎◌, ⊎_elim, ℕ, ◌<◌, ◌^◌, Bool, true, false, cond, ◌||◌, [], ◌∷◌, ◌++◌, get_or, length, refl, ap, sym, ◌∙◌, subst, arith, length-append, filter, Option, Some, AllByRecursion, cases_Bool, eq-eqb, ltb-true, false≢true, get_or-map, length-map, filter-append, get_or-append_seam, Block, Choice, Name, Report, Idle, Served, name_on, choice_name, every_append, every_parts, every_weaker, is_same, same_is, Event, Entry, Settings, Service, Trace, WhenStarted, is_step, service_in, done, in_service, is_waiting, name, reference, service_name, waiting, is_startable, startable, IsPick, IsRight, IsServed, choice, view, one_waits, Known, startable_parts, Single, idle_others, cut, waits_below, Named, IsNamed, choice_at, is_wanted, wanted_name}
 use Rattle.mscp_events.specs.declared.event.Event.TheVariants as events
-use Rattle.mscp_controller.specs.declared.entry.Entry.{Entry}
 use Rattle.mscp_controller.specs.declared.entry.Entry.TheVariants as entries
-use Rattle.mscp_events.specs.Settings.{Settings}
-use Rattle.mscp_controller.specs.History.{Service, Trace, WhenStarted, is_step, service_in}
-use Rattle.mscp_controller.specs.Commands.{done, in_service, is_waiting, name, reference, service_name, waiting}
-use Rattle.mscp_controller.specs.Passing.{is_startable, startable}
-use Rattle.mscp_controller.specs.Legal.{IsPick, IsRight, IsServed, choice, view}
-use Rattle.mscp_controller.proofs.Promise.Among.{one_waits}
-use Rattle.mscp_controller.proofs.Promise.Known.{Known}
-use Rattle.mscp_controller.proofs.Promise.Starts.{startable_parts}
-use Rattle.mscp_controller.proofs.Promise.Steady.{Single, idle_others}
-use Rattle.mscp_controller.proofs.Promise.Waits.{cut, waits_below}
-use Rattle.mscp_judge.specs.declared.naming.Named.{Named}
-use Rattle.mscp_judge.specs.Naming.{IsNamed, choice_at, is_wanted, wanted_name}
 
 -- ---- who is served
 

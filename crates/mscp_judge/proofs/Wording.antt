@@ -1,19 +1,5 @@
 -- A line that asks for events is no answer.
-use Rattle.std.proofs.Common.{◌≡◌, ◌||◌, ◌+◌, ◌<◌, ℕ, Bool, true, false, List, ◌∷◌, drop, length, refl, ap, sym, subst, arith}
-use Rattle.std.specs.Prelude.{codes, Some, None, Result, Ok}
-use Rattle.std.specs.Str.{bytes_eq}
-use Rattle.std.proofs.lemmas.Bool.{false≢true}
-use Rattle.std.proofs.lemmas.Slice.Eq.{bytes_eq-Decides}
-use Rattle.mscp_packet.specs.Steps.{◌>>=◌}
-use Rattle.mscp_events.specs.declared.connection.Connection.{Connection}
-use Rattle.mscp_events.specs.declared.connection.Connection.TheVariants.{Second}
-use Rattle.mscp_events.specs.declared.event.Event.{Event}
-use Rattle.mscp_reader.specs.Grammar.{asked_after, said_at}
-use Rattle.mscp_reader.specs.Outcome.{asked_at, asked_next}
-use Rattle.mscp_reader.specs.Requests.{asked_if, event_form, form_of, message_form, plain_form, request, second_request}
-use Rattle.mscp_reader.specs.declared.fault.Cause.{Cause}
-use Rattle.mscp_judge.specs.Logs.{Log, after_line, after_words, asking, is_answer, is_answer_word, is_second_answer}
-use Rattle.mscp_judge.specs.Naming.{name_in, served}
+use Rattle.mscp_judge.proofs.Common.{◌≡◌, ◌||◌, ◌+◌, ◌<◌, ℕ, Bool, true, false, List, ◌∷◌, drop, length, refl, ap, sym, subst, arith, codes, Some, None, Result, Ok, bytes_eq, false≢true, bytes_eq-Decides, ◌>>=◌, Connection, Second, Event, asked_after, said_at, asked_at, asked_next, asked_if, event_form, form_of, message_form, plain_form, request, second_request, Cause, Log, after_line, after_words, asking, is_answer, is_answer_word, is_second_answer, name_in, served}
 use Rattle.mscp_judge.proofs.Reading.{bound}
 
 -- a word of no line that asks

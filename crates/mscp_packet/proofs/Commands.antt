@@ -1,14 +1,8 @@
 -- What is written of a command.
-use Rattle.std.proofs.Common.{◌≡◌, ℕ, ◌≤◌, length, refl, sym, ap, arith}
-use Rattle.std.specs.Prelude.{slice_index}
+use Rattle.mscp_packet.proofs.Common.{◌≡◌, ℕ, ◌≤◌, length, refl, sym, ap, arith, slice_index, IsZeroBeside, opcode_of, CommandBytesAreMessages, HasRange, IsCommand, IsValidOrder, command_bytes, command_fields, command_of, order_with, written, Command, Order}
 use Rattle.mscp_packet.proofs.Numbers.{two, four}
 use Rattle.mscp_packet.proofs.Blanks.{zero_beside}
-use Rattle.mscp_packet.specs.Places.{IsZeroBeside}
-use Rattle.mscp_packet.specs.Opcodes.{opcode_of}
-use Rattle.mscp_packet.specs.Commands.{CommandBytesAreMessages, HasRange, IsCommand, IsValidOrder, command_bytes, command_fields, command_of, order_with, written}
-use Rattle.mscp_packet.specs.declared.command.Command.{Command}
 use Rattle.mscp_packet.specs.declared.command.MoveKind.TheVariants as moves
-use Rattle.mscp_packet.specs.declared.command.Order.{Order}
 use Rattle.mscp_packet.specs.declared.command.Order.TheVariants as orders
 
 abbrev command : ℕ → ℕ → Order → Command

@@ -1,17 +1,9 @@
 -- What is written of an end.
-use Rattle.std.proofs.Common.{◌≡◌, ℕ, ◌≤◌, Bool, true, false, List, length, refl, sym, ap, subst, arith}
-use Rattle.std.specs.Prelude.{nat_lt, if◌then◌else◌, slice_index, Option, Some, None, Result, Ok, Err}
-use Rattle.std.proofs.lemmas.Bool.{ltb-true, ltb-false}
+use Rattle.mscp_packet.proofs.Common.{◌≡◌, ℕ, ◌≤◌, Bool, true, false, List, length, refl, sym, ap, subst, arith, nat_lt, if◌then◌else◌, slice_index, Option, Some, None, Result, Ok, Err, ltb-true, ltb-false, IsZeroBeside, EndBytesAreMessages, HasBody, HasBodyRange, IsEnd, IsUnder, body_at, end_at, end_bytes, end_fields, end_length, kind_of_body, kind_of_code, reading_with, BodyKind, EndBody, End, EndFault}
 use Rattle.mscp_packet.proofs.Numbers.{two, four, eight}
 use Rattle.mscp_packet.proofs.Blanks.{zero_beside}
-use Rattle.mscp_packet.specs.Places.{IsZeroBeside}
-use Rattle.mscp_packet.specs.Ends.{EndBytesAreMessages, HasBody, HasBodyRange, IsEnd, IsUnder, body_at, end_at, end_bytes, end_fields, end_length, kind_of_body, kind_of_code, reading_with}
-use Rattle.mscp_packet.specs.declared.end.BodyKind.{BodyKind}
 use Rattle.mscp_packet.specs.declared.end.BodyKind.TheVariants as kinds
-use Rattle.mscp_packet.specs.declared.end.EndBody.{EndBody}
 use Rattle.mscp_packet.specs.declared.end.EndBody.TheVariants as bodies
-use Rattle.mscp_packet.specs.declared.end.End.{End}
-use Rattle.mscp_packet.specs.declared.reading.EndFault.{EndFault}
 use Rattle.mscp_packet.specs.declared.reading.EndFault.TheVariants as faults
 
 abbrev end : ℕ → ℕ → ℕ → ℕ → EndBody → End

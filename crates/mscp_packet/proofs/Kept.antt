@@ -1,14 +1,7 @@
 -- The opcode byte of a message is that of its command.
-use Rattle.std.proofs.Common.{◌≡◌, ℕ, Bool, true, false, cond, List, [], ◌∷◌, length, refl, ap, sym, ◌∙◌}
-use Rattle.std.specs.Prelude.{find, nat_eq, nat_lt, if◌then◌else◌, is_some, Option, Some, None, slice_index, unwrap_or}
-use Rattle.std.proofs.lemmas.Bool.{eqb-true, false≢true}
-use Rattle.mscp_packet.specs.declared.class.Opcode.{Opcode}
+use Rattle.mscp_packet.proofs.Common.{◌≡◌, ℕ, Bool, true, false, cond, List, [], ◌∷◌, length, refl, ap, sym, ◌∙◌, find, nat_eq, nat_lt, if◌then◌else◌, is_some, Option, Some, None, slice_index, unwrap_or, eqb-true, false≢true, Opcode, Order, least, row_of, opcode_of, opcodes, opcode_byte, order_with, parameters, invalid_length}
 use Rattle.mscp_packet.specs.declared.class.Opcode.TheVariants as codes
-use Rattle.mscp_packet.specs.declared.command.Order.{Order}
 use Rattle.mscp_packet.specs.declared.command.Order.TheVariants as orders
-use Rattle.mscp_packet.specs.Opcodes.{least, row_of, opcode_of, opcodes}
-use Rattle.mscp_packet.specs.Commands.{opcode_byte, order_with, parameters}
-use Rattle.mscp_packet.specs.Statuses.{invalid_length}
 
 -- what is found of a byte has that byte
 found_byte : (os : List Opcode) (byte : ℕ) (o : Opcode) → find (λ x. nat_eq (row_of x).byte byte) os ≡ Some o

@@ -1,5 +1,5 @@
 -- The bytes of a number, the lowest first, give it back.
-use Rattle.std.proofs.Common.{◌≡◌, ℕ, ◌+◌, ◌*◌, ◌/◌, ◌%◌, ◌^◌, ◌<◌, arith}
+use Rattle.mscp_packet.proofs.Common.{◌≡◌, ℕ, ◌+◌, ◌*◌, ◌/◌, ◌%◌, ◌^◌, ◌<◌, arith}
 
 pub two : (x : ℕ) → x < 2 ^ 16 → 0 + x % 256 * 1 + x / 256 % 256 * 256 ≡ x
 two x h = omega arith

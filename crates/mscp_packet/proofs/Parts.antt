@@ -1,9 +1,5 @@
 -- Parts behind one another, as they are written and as they are read.
-use Rattle.std.proofs.Common.{All, ◌≡◌, ℕ, zero, suc, ◌+◌, ◌-◌, ◌*◌, ◌<◌, List, [], ◌∷◌, ◌++◌, take, drop, get_or, length, append_assoc, append-nil, refl, ap, sym, subst, ◌∙◌, arith}
-use Rattle.std.specs.Prelude.{flat_map}
-use Rattle.std.proofs.lemmas.List.{drop-drop, length-drop, take_all, take_more}
-use Rattle.std.proofs.lemmas.List.Elements.{All-more}
-use Rattle.mscp_packet.specs.Parts.{parts_in}
+use Rattle.mscp_packet.proofs.Common.{All, ◌≡◌, ℕ, zero, suc, ◌+◌, ◌-◌, ◌*◌, ◌<◌, List, [], ◌∷◌, ◌++◌, take, drop, get_or, length, append_assoc, append-nil, refl, ap, sym, subst, ◌∙◌, arith, flat_map, drop-drop, length-drop, take_all, take_more, All-more, parts_in}
 
 pub flat_append : {X : Type 0} (f : X → List ℕ) (xs ys : List X)
     → flat_map f (xs ++ ys) ≡ flat_map f xs ++ flat_map f ys

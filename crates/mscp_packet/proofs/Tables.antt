@@ -1,11 +1,6 @@
 -- The tables, line by line.
-use Rattle.std.proofs.Common.{◌≡◌, ◌+◌, ◌<◌, ◌≤◌, refl, arith}
-use Rattle.std.specs.Prelude.{Some}
-use Rattle.mscp_packet.specs.Opcodes.{opcode_of, row_of}
+use Rattle.mscp_packet.proofs.Common.{◌≡◌, ◌+◌, ◌<◌, ◌≤◌, refl, arith, Some, opcode_of, row_of, kind_of_code, IsSound, Opcode}
 use Rattle.mscp_packet.proofs.Ends.{length_span}
-use Rattle.mscp_packet.specs.Ends.{kind_of_code}
-use Rattle.mscp_packet.specs.Table.{IsSound}
-use Rattle.mscp_packet.specs.declared.class.Opcode.{Opcode}
 use Rattle.mscp_packet.specs.declared.class.Opcode.TheVariants as codes
 use Rattle.mscp_packet.specs.declared.command.MoveKind.TheVariants as moves
 

@@ -1,6 +1,5 @@
 -- What is among the elements of a list that has grown or shrunk.
-use Rattle.std.proofs.Common.{◌≡◌, Bool, List, [], Contains, filter, arith}
-use Rattle.std.proofs.lemmas.List.Elements.{All-contains, All-contains_itself, All-filter}
+use Rattle.mscp_port.proofs.Common.{◌≡◌, Bool, List, [], Contains, filter, arith, All-contains, All-contains_itself, All-filter}
 
 -- what is left of a list was there
 pub among_left : {X : Type 0} (p : X → Bool) (xs : List X) (x : X) → Contains (filter p xs) x → Contains xs x

@@ -1,28 +1,7 @@
 -- The bytes that a port is saved as say that port.
-use Rattle.std.proofs.Common.{◌≡◌, ℕ, ◌+◌, ◌*◌, ◌<◌, ◌≤◌, ◌^◌, Bool, true, List, ◌++◌, drop, take, get_or, length, append_assoc, refl, ap, subst, ◌∙◌, arith}
-use Rattle.std.specs.Prelude.{flat_map, if◌then◌else◌, Option, None, IfSome, Ok, Err}
-use Rattle.std.specs.List.{AllByRecursion}
-use Rattle.std.proofs.Math.Seq.{drop-append_seam, take-append_seam}
-use Rattle.std.proofs.lemmas.Bool.{and_from, eq-eqb, le-leb, lt-ltb}
-use Rattle.std.proofs.lemmas.List.{drop-drop, length-append}
-use Rattle.std.proofs.lemmas.List.Elements.{recursion_from_All}
-use Rattle.std.proofs.lemmas.Slice.Eq.{bytes_eq-Decides}
-use Rattle.mscp_packet.proofs.Numbers.{four, two}
-use Rattle.mscp_saved.specs.Read.{parts_in}
-use Rattle.mscp_saved.specs.Restored.{restored as controller_restored}
-use Rattle.mscp_saved.specs.Saved.{saved_bytes as controller_bytes}
-use Rattle.mscp_saved.proofs.Back.{flag_back}
-use Rattle.mscp_saved.proofs.BackParts.{IsBack, parts_long, parts_rest, parts_said}
-use Rattle.mscp_port.specs.declared.buffers.Buffer.{Buffer}
-use Rattle.mscp_port.specs.declared.port.Outgoing.{Outgoing}
-use Rattle.mscp_port.specs.declared.port.Port.{Port}
-use Rattle.mscp_port.specs.declared.port.restoring.RestoreFault.{RestoreFault}
+use Rattle.mscp_port.proofs.Common.{◌≡◌, ℕ, ◌+◌, ◌*◌, ◌<◌, ◌≤◌, ◌^◌, Bool, true, List, ◌++◌, drop, take, get_or, length, append_assoc, refl, ap, subst, ◌∙◌, arith, flat_map, if◌then◌else◌, Option, None, IfSome, Ok, Err, AllByRecursion, drop-append_seam, take-append_seam, and_from, eq-eqb, le-leb, lt-ltb, drop-drop, length-append, recursion_from_All, bytes_eq-Decides, four, two, parts_in, controller_restored, controller_bytes, flag_back, IsBack, parts_rest, parts_said, Buffer, Outgoing, Port, RestoreFault, Volume, AreRings, Rings, coded_task, number_or_none, optional, some_byte, stage_byte, stage_in, stage_word, task_in, area_in, buffer_in, buffers_in, coded_in, frame_fault, is_framed, outgoing_in, over, port_in, restored, restored_unless, rings_if, text_in, volume_in, volumes_in, whose, HasBufferRange, HasRange, HasVolumeRange, buffer_bytes, length_of, outgoing_byte, outgoing_text, rings_or_none, saved_bytes, volume_bytes}
+use Rattle.mscp_saved.proofs.BackParts.{parts_long}
 use Rattle.mscp_port.specs.declared.port.restoring.RestoreFault.TheVariants as faults
-use Rattle.mscp_port.specs.declared.volumes.Volume.{Volume}
-use Rattle.mscp_port.specs.Areas.{AreRings, Rings}
-use Rattle.mscp_port.specs.Codes.{coded_task, number_or_none, optional, some_byte, stage_byte, stage_in, stage_word, task_in}
-use Rattle.mscp_port.specs.Restored.{area_in, buffer_in, buffers_in, coded_in, frame_fault, is_framed, outgoing_in, over, port_in, restored, restored_unless, rings_if, text_in, volume_in, volumes_in, whose}
-use Rattle.mscp_port.specs.Saved.{HasBufferRange, HasRange, HasVolumeRange, buffer_bytes, length_of, outgoing_byte, outgoing_text, rings_or_none, saved_bytes, volume_bytes}
 use Rattle.mscp_port.proofs.Coded.{bus_back, optional_back, size_back, stage_back, task_back}
 
 -- ---- parts

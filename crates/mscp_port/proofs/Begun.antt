@@ -1,12 +1,5 @@
 -- What the controller begins for a port, behind an end that may have been taken.
-use Rattle.std.proofs.Common.{◌≡◌, ◌⊎◌, ℕ, List, Option, inl, inr, ap, subst}
-use Rattle.mscp_events.specs.declared.connection.Connection.TheVariants.{First}
-use Rattle.mscp_queue.specs.declared.upcoming.Upcoming.{Upcoming}
-use Rattle.mscp_queue.specs.declared.view.Choice.{Choice}
-use Rattle.mscp_controller.specs.Holdings.{Foretells, Holdings, after_take, begun_step}
-use Rattle.mscp_port.specs.declared.port.Port.{Port}
-use Rattle.mscp_port.specs.declared.task.Task.{Task}
-use Rattle.mscp_port.specs.Moved.{BeginsBlock, begun_task}
+use Rattle.mscp_port.proofs.Common.{◌≡◌, ◌⊎◌, ℕ, List, Option, inl, inr, ap, subst, First, Upcoming, Choice, Foretells, Holdings, after_take, begun_step, Port, Task, BeginsBlock, begun_task}
 
 -- the picker stays where an end is taken
 same_picker : {K : Type 0} (old held : Holdings K) → (held ≡ old) ⊎ (held ≡ after_take First old)

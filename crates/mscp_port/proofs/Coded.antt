@@ -1,13 +1,5 @@
 -- What is a number stands for what it is the number of.
-use Rattle.std.proofs.Common.{◌≡◌, ℕ, ◌%◌, ◌≤◌, ◌<◌, Bool, true, nat_eq, nat_le, ap, arith}
-use Rattle.std.specs.Prelude.{if◌then◌else◌, Option, Some, None}
-use Rattle.std.proofs.lemmas.Bool.{and_from, eq-eqb, le-leb, lt-ltb}
-use Rattle.mscp_saved.proofs.Back.{flag_back}
-use Rattle.mscp_port.specs.declared.hardware.Bus.{Bus}
-use Rattle.mscp_port.specs.declared.stage.Stage.{Stage}
-use Rattle.mscp_port.specs.declared.task.Task.{Task}
-use Rattle.mscp_port.specs.Codes.{IsTask, bus_byte, bus_in, coded_task, has_size, number_or_none, optional, some_byte, stage_byte, stage_in, stage_word, task_in}
-use Rattle.mscp_port.specs.Sizes.{clear_size, text_size}
+use Rattle.mscp_port.proofs.Common.{◌≡◌, ℕ, ◌%◌, ◌≤◌, ◌<◌, Bool, true, nat_eq, nat_le, ap, arith, if◌then◌else◌, Option, Some, None, and_from, eq-eqb, le-leb, lt-ltb, flag_back, Bus, Stage, Task, IsTask, bus_byte, bus_in, coded_task, has_size, number_or_none, optional, some_byte, stage_byte, stage_in, stage_word, task_in, clear_size, text_size}
 
 pub bus_back : (bus : Bus) → bus_in (bus_byte bus) ≡ bus
 bus_back bus = grind arith

@@ -1,21 +1,6 @@
 -- A message by which a command comes: its number is new, and the controller gets it as it was read.
-use Rattle.std.proofs.Common.{◌≡◌, ◌&&◌, ℕ, Bool, true, false, cond, not, List, [], ◌∷◌, None, Some, refl, length, arith}
-use Rattle.std.specs.Prelude.{nat_eq, nat_lt, slice_index}
-use Rattle.std.specs.List.{list_any}
-use Rattle.std.proofs.lemmas.Bool.{and_parts, eqb-true, false≢true, le-ltb, ltb-false, or_parts}
-use Rattle.std.proofs.lemmas.List.Folds.{list_any-append}
-use Rattle.std.proofs.lemmas.Option.{none-some}
-use Rattle.mscp_packet.specs.Commands.{command_of}
-use Rattle.mscp_packet.specs.Number.{num}
-use Rattle.mscp_packet.specs.Opcodes.{class, is_immediate_class}
-use Rattle.mscp_drive.specs.Shape.{Shape}
-use Rattle.mscp_events.specs.declared.connection.Connection.TheVariants.{First}
-use Rattle.mscp_events.specs.Settings.{Settings}
-use Rattle.mscp_queue.specs.Records.{Record}
+use Rattle.mscp_port.proofs.Common.{◌≡◌, ◌&&◌, ℕ, Bool, true, false, cond, not, List, [], ◌∷◌, None, Some, refl, length, arith, nat_eq, nat_lt, slice_index, list_any, and_parts, eqb-true, false≢true, le-ltb, ltb-false, or_parts, list_any-append, none-some, command_of, num, class, is_immediate_class, Shape, First, Settings, Record, holds, is_queued, refusal, Holdings, numbers, outstanding_of, waiting_on, handed}
 use Rattle.mscp_controller.specs.declared.entry.SendFault.TheVariants as faults
-use Rattle.mscp_controller.specs.Arrival.{holds, is_queued, refusal}
-use Rattle.mscp_controller.specs.Holdings.{Holdings, numbers, outstanding_of, waiting_on}
-use Rattle.mscp_port.specs.Messages.{handed}
 use Rattle.mscp_port.proofs.Kept.{is_numbered}
 
 -- ---- its number is new

@@ -1,18 +1,6 @@
 -- What comes of bytes whose head has no fault.
-use Rattle.std.proofs.Common.{◌≡◌, ℕ, ◌+◌, Bool, true, false, List, drop, ap, sym, ◌∙◌, arith}
-use Rattle.std.specs.Prelude.{Option, None, Result, Ok, Err, if◌then◌else◌, slice_index}
-use Rattle.std.specs.Str.{bytes_eq}
-use Rattle.std.proofs.lemmas.List.{get_or-drop}
-use Rattle.std.proofs.lemmas.Slice.Eq.{bytes_eq-Decides}
-use Rattle.mscp_controller.specs.Holdings.{Holdings}
-use Rattle.mscp_saved.specs.declared.fault.RestoreFault.{RestoreFault as ControllerFault}
-use Rattle.mscp_saved.specs.Restored.{restored as controller_restored}
-use Rattle.mscp_saved.proofs.Faithful.{same_of}
-use Rattle.mscp_port.specs.declared.port.Port.{Port}
-use Rattle.mscp_port.specs.declared.port.restoring.RestoreFault.{RestoreFault}
+use Rattle.mscp_port.proofs.Common.{◌≡◌, ℕ, ◌+◌, Bool, true, false, List, drop, ap, sym, ◌∙◌, arith, Option, None, Result, Ok, Err, if◌then◌else◌, slice_index, bytes_eq, get_or-drop, bytes_eq-Decides, Holdings, ControllerFault, controller_restored, same_of, Port, RestoreFault, controller_place, frame_fault, over, restored, restored_unless, whose, saved_bytes}
 use Rattle.mscp_port.specs.declared.port.restoring.RestoreFault.TheVariants as faults
-use Rattle.mscp_port.specs.Restored.{controller_place, frame_fault, over, restored, restored_unless, whose}
-use Rattle.mscp_port.specs.Saved.{saved_bytes}
 
 -- the bytes of a controller say this
 pub comes : {K : Type 0} (number : ℕ) (picker : K) (b : List ℕ) (r : Result (Holdings K) ControllerFault)

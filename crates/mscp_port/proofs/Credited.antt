@@ -1,23 +1,8 @@
 -- What a host is told of credits over a whole history.
-use Rattle.std.proofs.Common.{◌≡◌, ◌⊎◌, ◌∙◌, ◌+◌, ◌-◌, ◌∷◌, [], ℕ, Bool, true, false, List, inl, inr, refl, ap, sym, arith}
-use Rattle.std.specs.Prelude.{Result, Ok, Err}
-use Rattle.std.proofs.Math.Nat.{min-le_left}
-use Rattle.std.proofs.lemmas.Bool.{false≢true}
-use Rattle.mscp_controller.specs.Holdings.{Holdings}
-use Rattle.mscp_port.specs.declared.action.Outcome.{Outcome}
+use Rattle.mscp_port.proofs.Common.{◌≡◌, ◌⊎◌, ◌∙◌, ◌+◌, ◌-◌, ◌∷◌, [], ℕ, Bool, true, false, List, inl, inr, refl, ap, sym, arith, Result, Ok, Err, min-le_left, false≢true, Holdings, Outcome, Unasked, Hardware, Port, Descriptor, Task, WritesOut, Goes, HoldsPacket, IsMadeOf, IsForgotten, IsWritten, Told, ends_in, Answered, Becomes, Call, WriteIp, ReadIp, WriteSa, Next, WasRead, Went, LookAgain, Tick, Change, credits_told}
 use Rattle.mscp_port.specs.declared.action.Outcome.TheVariants as outcomes
-use Rattle.mscp_port.specs.declared.action.Unasked.{Unasked}
-use Rattle.mscp_port.specs.declared.hardware.Hardware.{Hardware}
-use Rattle.mscp_port.specs.declared.port.Port.{Port}
-use Rattle.mscp_port.specs.declared.slot.Descriptor.{Descriptor}
 use Rattle.mscp_port.specs.declared.stage.Stage.TheVariants as stages
-use Rattle.mscp_port.specs.declared.task.Task.{Task}
 use Rattle.mscp_port.specs.declared.task.Task.TheVariants as tasks
-use Rattle.mscp_port.specs.Acted.{WritesOut}
-use Rattle.mscp_port.specs.Calls.{Goes, HoldsPacket, IsMadeOf}
-use Rattle.mscp_port.specs.Departures.{IsForgotten, IsWritten, Told, ends_in}
-use Rattle.mscp_port.specs.Histories.{Answered, Becomes, Call, WriteIp, ReadIp, WriteSa, Next, WasRead, Went, LookAgain, Tick, Change}
-use Rattle.mscp_port.specs.Packets.{credits_told}
 
 -- ---- a call
 

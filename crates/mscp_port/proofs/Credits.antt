@@ -1,22 +1,6 @@
 -- A port has a credit for each message of a host that has no more commands outstanding than it may.
-use Rattle.std.proofs.Common.{◌≡◌, ◌≢◌, ◌∙◌, ◌+◌, ◌-◌, ◌<◌, ◌≤◌, ℕ, Bool, true, false, List, [], ◌∷◌, length, Option, None, Some, inl, inr, refl, ap, subst, arith}
-use Rattle.std.specs.Prelude.{Result, Ok, Err}
-use Rattle.std.proofs.lemmas.Bool.{false≢true}
-use Rattle.std.proofs.lemmas.List.{length-append, length-map}
-use Rattle.std.proofs.lemmas.Option.{none-some}
-use Rattle.mscp_queue.proofs.Masked.{eq_false}
-use Rattle.mscp_events.specs.declared.connection.Connection.TheVariants.{First}
-use Rattle.mscp_controller.specs.declared.entry.SendFault.{SendFault}
+use Rattle.mscp_port.proofs.Common.{◌≡◌, ◌≢◌, ◌∙◌, ◌+◌, ◌-◌, ◌<◌, ◌≤◌, ℕ, Bool, true, false, List, [], ◌∷◌, length, Option, None, Some, inl, inr, refl, ap, subst, arith, Result, Ok, Err, false≢true, length-append, length-map, none-some, eq_false, First, SendFault, Sent, refusal, Holdings, answer_to_message, balance_of, outstanding_of, waiting_on, numbers, numbers_ended, of, credits_of, Hardware, Port, IsMadeOf, Ticks, Answered, Becomes, Call, HasCredit, WriteIp, ReadIp, WriteSa, Next, WasRead, Went, LookAgain, Tick, Change}
 use Rattle.mscp_controller.specs.declared.entry.SendFault.TheVariants as faults
-use Rattle.mscp_controller.specs.declared.entry.Sent.{Sent}
-use Rattle.mscp_controller.specs.Arrival.{refusal}
-use Rattle.mscp_controller.specs.Holdings.{Holdings, answer_to_message, balance_of, outstanding_of, waiting_on, numbers, numbers_ended}
-use Rattle.mscp_events.specs.Both.{of}
-use Rattle.mscp_events.specs.Settings.{credits_of}
-use Rattle.mscp_port.specs.declared.hardware.Hardware.{Hardware}
-use Rattle.mscp_port.specs.declared.port.Port.{Port}
-use Rattle.mscp_port.specs.Calls.{IsMadeOf, Ticks}
-use Rattle.mscp_port.specs.Histories.{Answered, Becomes, Call, HasCredit, WriteIp, ReadIp, WriteSa, Next, WasRead, Went, LookAgain, Tick, Change}
 
 -- ---- the settings stay
 

@@ -1,21 +1,7 @@
 -- What goes out of a port over a whole history.
-use Rattle.std.proofs.Common.{◌≡◌, ◌⊎◌, ◌∙◌, ◌++◌, ◌∷◌, [], ℕ, List, Option, None, Some, IfSome, inl, inr, ap, sym, subst, arith}
-use Rattle.std.specs.Prelude.{option_to_list}
-use Rattle.std.proofs.lemmas.List.{append-nil}
-use Rattle.std.proofs.lemmas.Option.{none-some}
-use Rattle.mscp_controller.specs.Holdings.{Holdings}
-use Rattle.mscp_port.specs.declared.hardware.Hardware.{Hardware}
-use Rattle.mscp_port.specs.declared.port.Outgoing.{Outgoing}
-use Rattle.mscp_port.specs.declared.port.Port.{Port}
-use Rattle.mscp_port.specs.declared.rings.Side.TheVariants.{Responses}
-use Rattle.mscp_port.specs.declared.slot.Descriptor.{Descriptor}
+use Rattle.mscp_port.proofs.Common.{◌≡◌, ◌⊎◌, ◌∙◌, ◌++◌, ◌∷◌, [], ℕ, List, Option, None, Some, IfSome, inl, inr, ap, sym, subst, arith, option_to_list, append-nil, none-some, Holdings, Hardware, Outgoing, Port, Responses, Descriptor, Dies, IsMadeOf, IsDelivered, IsForgotten, begins, begun, gone, leaves, Answered, Becomes, Call, NamesPacket, reads, Says, in_hand}
 use Rattle.mscp_port.specs.declared.stage.Stage.TheVariants as stages
 use Rattle.mscp_port.specs.declared.task.Task.TheVariants as tasks
-use Rattle.mscp_port.specs.Calls.{Dies, IsMadeOf}
-use Rattle.mscp_port.specs.Departures.{IsDelivered, IsForgotten, begins, begun, gone, leaves}
-use Rattle.mscp_port.specs.Histories.{Answered, Becomes, Call, NamesPacket, reads}
-use Rattle.mscp_port.specs.Outgoings.{Says}
-use Rattle.mscp_port.specs.Ports.{in_hand}
 use Rattle.mscp_port.proofs.Loads.{looks_or_not}
 use Rattle.mscp_port.proofs.Naming.Whole.{knows}
 

@@ -1,14 +1,5 @@
 -- Bytes that are a port's: those in front of the controller's are those that it is saved as.
-use Rattle.std.proofs.Common.{◌≡◌, ◌≤◌, ◌+◌, ◌-◌, ◌++◌, ℕ, List, Bool, false, take, drop, length, nat_eq, refl, ap, ◌∙◌, arith}
-use Rattle.std.specs.Str.{bytes_eq}
-use Rattle.std.proofs.lemmas.Bool.{false≢true}
-use Rattle.std.proofs.lemmas.List.{append_cancel_right, length-drop, length-take, take-append-drop}
-use Rattle.std.proofs.lemmas.Slice.Eq.{bytes_eq-Decides}
-use Rattle.mscp_controller.specs.Holdings.{Holdings}
-use Rattle.mscp_saved.specs.Saved.{saved_bytes as controller_bytes}
-use Rattle.mscp_saved.proofs.Parted.{parts_long}
-use Rattle.mscp_port.specs.Restored.{IsFramed, buffer_count, buffer_in, buffer_place, controller_place, front_in, port_in, text_count, told_front}
-use Rattle.mscp_port.specs.Saved.{front_bytes, length_before, outgoing_text, saved_bytes}
+use Rattle.mscp_port.proofs.Common.{◌≡◌, ◌≤◌, ◌+◌, ◌-◌, ◌++◌, ℕ, List, Bool, false, take, drop, length, nat_eq, refl, ap, ◌∙◌, arith, bytes_eq, false≢true, append_cancel_right, length-drop, length-take, take-append-drop, bytes_eq-Decides, Holdings, controller_bytes, parts_long, IsFramed, buffer_count, buffer_in, buffer_place, controller_place, front_in, port_in, text_count, told_front, front_bytes, length_before, outgoing_text, saved_bytes}
 
 -- how long all is
 pub total_is : (b : List ℕ) → IsFramed b

@@ -1,20 +1,5 @@
 -- What a port keeps of a command was said by the message by which that command came.
-use Rattle.std.proofs.Common.{◌≡◌, ◌≢◌, ◌∙◌, ◌<◌, ◌+◌, ◌||◌, ℕ, Bool, true, false, not, List, [], ◌∷◌, ◌++◌, Option, None, refl, ap, sym, length, map, take, drop, arith}
-use Rattle.std.specs.Prelude.{All, find, nat_eq}
-use Rattle.std.specs.List.{list_any}
-use Rattle.std.proofs.lemmas.Bool.{and_parts, eqb-true, false≢true, or_left, or_parts, or_right}
-use Rattle.std.proofs.lemmas.List.{drop_more, take-append-drop}
-use Rattle.std.proofs.lemmas.List.Elements.{All-append, All-cons, All-drop, All-filter, All-get_or, All-map, All-nil, All-push, All-take}
-use Rattle.std.proofs.lemmas.List.Folds.{list_any-append}
-use Rattle.std.proofs.lemmas.Map.Views.{any-filter_same}
-use Rattle.std.proofs.lemmas.Option.{none-some}
-use Rattle.mscp_packet.specs.declared.end.End.{End}
-use Rattle.mscp_events.specs.declared.block.Block.{Block}
-use Rattle.mscp_events.specs.declared.connection.Connection.TheVariants.{First}
-use Rattle.mscp_queue.specs.declared.drive.Drive.{Drive}
-use Rattle.mscp_queue.specs.Names.{name_on, same_connection}
-use Rattle.mscp_queue.specs.Records.{Record, has_name, no_record, passed_by, record_at, remains, step_charge, without}
-use Rattle.mscp_queue.specs.Serving.{end_given, waiting_after}
+use Rattle.mscp_port.proofs.Common.{◌≡◌, ◌≢◌, ◌∙◌, ◌<◌, ◌+◌, ◌||◌, ℕ, Bool, true, false, not, List, [], ◌∷◌, ◌++◌, Option, None, refl, ap, sym, length, map, take, drop, arith, All, find, nat_eq, list_any, and_parts, eqb-true, false≢true, or_left, or_parts, or_right, drop_more, take-append-drop, All-append, All-cons, All-drop, All-filter, All-get_or, All-map, All-nil, All-push, All-take, list_any-append, any-filter_same, none-some, End, Block, First, Drive, name_on, same_connection, Record, has_name, no_record, passed_by, record_at, remains, step_charge, without, end_given, waiting_after}
 
 -- ---- the commands that wait
 

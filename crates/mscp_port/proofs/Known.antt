@@ -1,19 +1,6 @@
 -- What a port knows stays among what it knew.
-use Rattle.std.proofs.Common.{◌≡◌, ◌⊎◌, ◌∙◌, ℕ, true, List, Option, None, Some, IfSome, ap, sym, get_or, arith}
-use Rattle.std.proofs.lemmas.Option.{none-some}
-use Rattle.std.specs.List.{position}
-use Rattle.std.proofs.lemmas.List.Quantifiers.{position-Some}
-use Rattle.mscp_events.specs.declared.connection.Connection.{Connection}
-use Rattle.mscp_port.specs.declared.buffers.Buffer.{Buffer}
-use Rattle.mscp_port.specs.declared.port.Port.{Port}
-use Rattle.mscp_port.specs.declared.rings.Side.{Side}
-use Rattle.mscp_port.specs.declared.slot.Descriptor.{Descriptor}
-use Rattle.mscp_port.specs.declared.task.Task.{Task}
+use Rattle.mscp_port.proofs.Common.{◌≡◌, ◌⊎◌, ◌∙◌, ℕ, true, List, Option, None, Some, IfSome, ap, sym, get_or, arith, none-some, position, position-Some, Connection, Buffer, Port, Side, Descriptor, Task, KeepsSaying, Says, TakesEnd, TellsNews, in_hand, ChangesByActing, StaysInStage, is_of}
 use Rattle.mscp_port.specs.declared.task.Task.TheVariants as tasks
-use Rattle.mscp_port.specs.Outgoings.{KeepsSaying, Says, TakesEnd, TellsNews}
-use Rattle.mscp_port.specs.Ports.{in_hand}
-use Rattle.mscp_port.specs.Calls.{ChangesByActing, StaysInStage}
-use Rattle.mscp_port.specs.Buffers.{is_of}
 
 -- a descriptor that is in hand after is the one that was in hand before
 pub held_on : (o before : Option ℕ) (w : ℕ) (Q : ℕ → Type 0) → before ≡ Some w → IfSome o (λ word. word ≡ w)

@@ -1,3 +1,4 @@
+pub mod Common
 pub mod Back
 pub mod Come
 pub mod Comes

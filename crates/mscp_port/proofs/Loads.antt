@@ -1,34 +1,8 @@
 -- What was told of the volumes is what a port knows of them.
-use Rattle.std.proofs.Common.{◌≡◌, ◌≢◌, ◌⊎◌, ◌∙◌, ◌<◌, ℕ, Bool, true, false, cond, List, [], ◌∷◌, Option, None, Some, inl, inr, refl, ap, sym, length, get_or, set, arith}
-use Rattle.std.specs.Prelude.{Result, nat_eq}
-use Rattle.std.proofs.lemmas.Bool.{cases_eq, cases_lt, eqb-true, false≢true}
-use Rattle.std.proofs.lemmas.List.{get_or-set_other, get_or-set_same, get_or_past, length-set}
-use Rattle.std.proofs.lemmas.List.Quantifiers.{position-Some}
-use Rattle.std.proofs.lemmas.Option.{none-some}
-use Rattle.mscp_queue.proofs.Masked.{eq_false, eq_true}
-use Rattle.mscp_drive.specs.Shape.{Shape, one_block}
-use Rattle.mscp_packet.specs.declared.end.End.{End}
-use Rattle.mscp_packet.specs.declared.command.MoveKind.{MoveKind}
-use Rattle.mscp_events.specs.declared.connection.Connection.{Connection}
-use Rattle.mscp_controller.specs.Holdings.{Holdings}
+use Rattle.mscp_port.proofs.Common.{◌≡◌, ◌≢◌, ◌⊎◌, ◌∙◌, ◌<◌, ℕ, Bool, true, false, cond, List, [], ◌∷◌, Option, None, Some, inl, inr, refl, ap, sym, length, get_or, set, arith, Result, nat_eq, cases_eq, cases_lt, eqb-true, false≢true, get_or-set_other, get_or-set_same, get_or_past, length-set, position-Some, none-some, eq_false, eq_true, Shape, one_block, End, MoveKind, Connection, Holdings, Buffer, Hardware, Port, NoUnit, Stage, Task, Volume, writes, Changes, IsMadeOf, Answered, Becomes, Call, WriteIp, ReadIp, WriteSa, Next, WasRead, Went, LookAgain, Tick, Change, is_loaded, is_locked, GoesOnWithBlock, volumes_after, IsNews, LooksForOut, Says, IsAsNew, no_volume, place_in, protected_by, volume_at, volume_changed, volume_heeded, volumes_changed, volumes_heeded}
 use Rattle.mscp_port.specs.declared.action.Action.TheVariants as actions
-use Rattle.mscp_port.specs.declared.buffers.Buffer.{Buffer}
-use Rattle.mscp_port.specs.declared.hardware.Hardware.{Hardware}
-use Rattle.mscp_port.specs.declared.port.Port.{Port}
-use Rattle.mscp_port.specs.declared.port.watching.NoUnit.{NoUnit}
-use Rattle.mscp_port.specs.declared.stage.Stage.{Stage}
 use Rattle.mscp_port.specs.declared.stage.Stage.TheVariants as stages
-use Rattle.mscp_port.specs.declared.task.Task.{Task}
 use Rattle.mscp_port.specs.declared.task.Task.TheVariants as tasks
-use Rattle.mscp_port.specs.declared.volumes.Volume.{Volume}
-use Rattle.mscp_port.specs.Blocks.{writes}
-use Rattle.mscp_port.specs.Calls.{Changes, IsMadeOf}
-use Rattle.mscp_port.specs.Histories.{Answered, Becomes, Call, WriteIp, ReadIp, WriteSa, Next, WasRead, Went, LookAgain, Tick, Change}
-use Rattle.mscp_port.specs.Loaded.{is_loaded, is_locked}
-use Rattle.mscp_port.specs.Moved.{GoesOnWithBlock, volumes_after}
-use Rattle.mscp_port.specs.Outgoings.{IsNews, LooksForOut, Says}
-use Rattle.mscp_port.specs.Ports.{IsAsNew}
-use Rattle.mscp_port.specs.Volumes.{no_volume, place_in, protected_by, volume_at, volume_changed, volume_heeded, volumes_changed, volumes_heeded}
 use Rattle.mscp_port.proofs.Credits.{settings_stay}
 
 -- ---- a volume

@@ -1,26 +1,7 @@
 -- What a host has made of a unit is what a port holds of its volume.
-use Rattle.std.proofs.Common.{◌≡◌, ◌≢◌, ◌⊎◌, ◌∙◌, ◌<◌, ◌≤◌, ℕ, Bool, true, false, List, [], ◌∷◌, Option, None, Some, inl, inr, refl, ap, sym, subst, length, set, arith}
-use Rattle.std.proofs.lemmas.Bool.{cases_eq, cases_lt, false≢true}
-use Rattle.std.proofs.lemmas.List.{get_or-set_other, get_or-set_same, get_or_past, length-set}
-use Rattle.mscp_drive.specs.Shape.{Shape}
-use Rattle.mscp_packet.specs.declared.end.End.{End}
-use Rattle.mscp_packet.specs.declared.command.MoveKind.{MoveKind}
-use Rattle.mscp_events.specs.declared.connection.Connection.{Connection}
-use Rattle.mscp_controller.specs.Holdings.{Holdings}
+use Rattle.mscp_port.proofs.Common.{◌≡◌, ◌≢◌, ◌⊎◌, ◌∙◌, ◌<◌, ◌≤◌, ℕ, Bool, true, false, List, [], ◌∷◌, Option, None, Some, inl, inr, refl, ap, sym, subst, length, set, arith, cases_eq, cases_lt, false≢true, get_or-set_other, get_or-set_same, get_or_past, length-set, Shape, End, MoveKind, Connection, Holdings, Buffer, Hardware, Port, Volume, kept_of, writes, IsMadeOf, IsForgotten, Answered, Becomes, Call, WriteIp, ReadIp, WriteSa, Next, WasRead, Went, LookAgain, Tick, Change, Ends, IsChangeAt, IsMounted, IsRemounted, Mount, mount_after, offline, GoesOnWithBlock, HeedsStep, end_brought, place_heeded, IsNews, Says, news_place, MayMove, no_volume, place_in, volume_at, volume_changed, volume_heeded, volumes_changed, volumes_heeded}
 use Rattle.mscp_port.specs.declared.action.Action.TheVariants as actions
-use Rattle.mscp_port.specs.declared.buffers.Buffer.{Buffer}
-use Rattle.mscp_port.specs.declared.hardware.Hardware.{Hardware}
-use Rattle.mscp_port.specs.declared.port.Port.{Port}
 use Rattle.mscp_port.specs.declared.stage.Stage.TheVariants as stages
-use Rattle.mscp_port.specs.declared.volumes.Volume.{Volume}
-use Rattle.mscp_port.specs.Blocks.{kept_of, writes}
-use Rattle.mscp_port.specs.Calls.{IsMadeOf}
-use Rattle.mscp_port.specs.Departures.{IsForgotten}
-use Rattle.mscp_port.specs.Histories.{Answered, Becomes, Call, WriteIp, ReadIp, WriteSa, Next, WasRead, Went, LookAgain, Tick, Change}
-use Rattle.mscp_port.specs.Mounted.{Ends, IsChangeAt, IsMounted, IsRemounted, Mount, mount_after, offline}
-use Rattle.mscp_port.specs.Moved.{GoesOnWithBlock, HeedsStep, end_brought, place_heeded}
-use Rattle.mscp_port.specs.Outgoings.{IsNews, Says, news_place}
-use Rattle.mscp_port.specs.Volumes.{MayMove, no_volume, place_in, volume_at, volume_changed, volume_heeded, volumes_changed, volumes_heeded}
 use Rattle.mscp_port.proofs.Loads.{looks_or_not}
 
 -- ---- a volume

@@ -1,33 +1,6 @@
 -- What a port keeps of a command was said by the message by which that command came, call by call.
-use Rattle.std.proofs.Common.{◌≡◌, ◌⊎◌, ◌∙◌, ◌<◌, ℕ, Bool, true, false, cond, not, List, [], Option, None, Some, Contains, inl, inr, refl, ap, sym, subst, length, arith}
-use Rattle.std.specs.Prelude.{Result, Ok, Err}
-use Rattle.std.specs.List.{position}
-use Rattle.std.proofs.lemmas.Bool.{eqb-true, eq-eqb, false≢true}
-use Rattle.std.proofs.lemmas.List.Elements.{All-contains, filter_passes}
-use Rattle.std.proofs.lemmas.List.Quantifiers.{position-Some}
-use Rattle.std.proofs.lemmas.Option.{get_or_from_slice_get, none-some, same_Some}
-use Rattle.mscp_packet.specs.declared.end.End.{End}
-use Rattle.mscp_events.specs.declared.block.Block.{Block}
-use Rattle.mscp_events.specs.declared.connection.Connection.{Connection}
-use Rattle.mscp_events.specs.declared.connection.Connection.TheVariants.{First}
-use Rattle.mscp_queue.specs.declared.drive.Drive.{Drive}
-use Rattle.mscp_queue.specs.declared.name.Name.{Name}
-use Rattle.mscp_queue.specs.declared.report.Report.{Report}
-use Rattle.mscp_queue.specs.declared.report.Report.TheVariants.{Idle, Served}
-use Rattle.mscp_queue.specs.Names.{name_on}
-use Rattle.mscp_queue.specs.Outcomes.{goes_on, outcome_at}
-use Rattle.mscp_queue.specs.Records.{Record, drive_at, has_name, left_of, name_of, record_at}
-use Rattle.mscp_queue.specs.Serving.{end_given, is_begun}
-use Rattle.mscp_queue.proofs.Named.{same_is}
-use Rattle.mscp_controller.specs.declared.entry.NotBegun.{NotBegun}
-use Rattle.mscp_controller.specs.Holdings.{Finishes, Holdings}
-use Rattle.mscp_port.specs.declared.buffers.Buffer.{Buffer}
-use Rattle.mscp_port.specs.declared.port.Port.{Port}
-use Rattle.mscp_port.specs.Blocks.{kept_at}
-use Rattle.mscp_port.specs.Buffers.{is_of, without}
-use Rattle.mscp_port.specs.Histories.{Call}
-use Rattle.mscp_port.specs.Kept.{IsSaidBy}
-use Rattle.mscp_port.specs.Moved.{GoesOnWithBlock, HeedsStep, anyhow, end_brought, kept_after}
+use Rattle.mscp_port.proofs.Common.{◌≡◌, ◌⊎◌, ◌∙◌, ◌<◌, ℕ, Bool, true, false, cond, not, List, [], Option, None, Some, Contains, inl, inr, refl, ap, sym, subst, length, arith, Result, Ok, Err, position, eqb-true, eq-eqb, false≢true, All-contains, filter_passes, position-Some, get_or_from_slice_get, none-some, same_Some, End, Block, Connection, First, Drive, Name, Report, Idle, Served, name_on, goes_on, outcome_at, Record, drive_at, has_name, left_of, name_of, record_at, end_given, is_begun, same_is, NotBegun, Finishes, Holdings, Buffer, Port, kept_at, is_of, Call, IsSaidBy, GoesOnWithBlock, HeedsStep, anyhow, end_brought, kept_after}
+use Rattle.mscp_port.specs.Buffers.{without}
 use Rattle.mscp_port.proofs.Among.{among_left, none_among}
 use Rattle.mscp_port.proofs.Kept.{IsFor, is_numbered, served_for, weaker_for}
 

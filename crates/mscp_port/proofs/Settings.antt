@@ -1,7 +1,5 @@
 -- The settings of a port's controller stay, whatever is sent to it.
-use Rattle.std.proofs.Common.{◌≡◌, ℕ, List, arith}
-use Rattle.mscp_events.specs.declared.connection.Connection.{Connection}
-use Rattle.mscp_controller.specs.Holdings.{Holdings, after_message}
+use Rattle.mscp_port.proofs.Common.{◌≡◌, ℕ, List, arith, Connection, Holdings, after_message}
 
 pub settings_after : {K : Type 0} (via : Connection) (h : Holdings K) (b : List ℕ)
     → (after_message via h b).settings ≡ h.settings

@@ -1,29 +1,6 @@
 -- What is kept of a command whose end comes was said by a message to the unit that the end names.
-use Rattle.std.proofs.Common.{◌≡◌, ◌∙◌, ℕ, List, [], ◌∷◌, Option, None, Some, Contains, IfSome, inl, inr, refl, ap, sym, subst, arith}
-use Rattle.std.specs.Prelude.{Result, Ok, Err}
-use Rattle.std.specs.List.{position}
-use Rattle.std.proofs.lemmas.List.Elements.{All-get_or}
-use Rattle.mscp_packet.specs.declared.end.End.{End}
-use Rattle.mscp_events.specs.declared.connection.Connection.{Connection}
-use Rattle.mscp_events.specs.declared.connection.Connection.TheVariants.{First}
-use Rattle.mscp_queue.specs.Names.{name_on}
-use Rattle.mscp_queue.specs.Records.{name_of, no_record, record_at}
-use Rattle.mscp_queue.proofs.Named.{is_same}
-use Rattle.mscp_controller.specs.Holdings.{Holdings}
-use Rattle.mscp_port.specs.declared.action.Unasked.{Unasked}
-use Rattle.mscp_port.specs.declared.buffers.Buffer.{Buffer}
-use Rattle.mscp_port.specs.declared.hardware.Hardware.{Hardware}
-use Rattle.mscp_port.specs.declared.port.Port.{Port}
-use Rattle.mscp_port.specs.declared.task.Task.{Task}
+use Rattle.mscp_port.proofs.Common.{◌≡◌, ◌∙◌, ℕ, List, [], ◌∷◌, Option, None, Some, Contains, IfSome, inl, inr, refl, ap, sym, subst, arith, Result, Ok, Err, position, All-get_or, End, Connection, First, name_on, name_of, no_record, record_at, is_same, Holdings, Unasked, Buffer, Hardware, Port, Task, kept_of, is_of, Dies, Hears, IsMadeOf, Answered, Becomes, Call, WriteIp, ReadIp, WriteSa, Next, WasRead, Went, LookAgain, Tick, Change, WasSaid, Ends, Says, IsReadingText}
 use Rattle.mscp_port.specs.declared.task.Task.TheVariants as tasks
-use Rattle.mscp_port.specs.Blocks.{kept_of}
-use Rattle.mscp_port.specs.Buffers.{is_of}
-use Rattle.mscp_port.specs.Calls.{Dies, Hears, IsMadeOf}
-use Rattle.mscp_port.specs.Histories.{Answered, Becomes, Call, WriteIp, ReadIp, WriteSa, Next, WasRead, Went, LookAgain, Tick, Change}
-use Rattle.mscp_port.specs.Kept.{WasSaid}
-use Rattle.mscp_port.specs.Mounted.{Ends}
-use Rattle.mscp_port.specs.Outgoings.{Says}
-use Rattle.mscp_port.specs.Ports.{IsReadingText}
 use Rattle.mscp_port.proofs.Kept.{IsTo}
 use Rattle.mscp_port.proofs.Loads.{looks_or_not}
 use Rattle.mscp_port.proofs.Said.{Keeps, More, ended_of, goes_on_keeps, keeps_none, keeps_same, kept_found, more, of_first}

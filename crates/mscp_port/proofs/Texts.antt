@@ -1,35 +1,10 @@
 -- What is kept once the text of a command was read.
-use Rattle.std.proofs.Common.{◌≡◌, ◌≢◌, ◌⊎◌, ◌∙◌, ℕ, Bool, true, false, cond, List, [], ◌∷◌, ◌++◌, Option, None, Some, Contains, inl, inr, refl, ap, sym, subst, length}
-use Rattle.std.specs.Prelude.{Result, Ok, Err, IsOk, find, nat_eq, nat_lt, option_map}
-use Rattle.std.specs.List.{list_any}
-use Rattle.std.proofs.lemmas.Bool.{and_parts, eq-eqb, eqb-true, false≢true}
-use Rattle.std.proofs.lemmas.List.Elements.{Contains-push_cases}
-use Rattle.std.proofs.lemmas.Option.{none-some, same_Some}
-use Rattle.mscp_packet.specs.Commands.{command_of}
-use Rattle.mscp_packet.specs.Number.{num}
-use Rattle.mscp_packet.specs.declared.command.Order.{Order}
+use Rattle.mscp_port.proofs.Common.{◌≡◌, ◌≢◌, ◌⊎◌, ◌∙◌, ℕ, Bool, true, false, cond, List, [], ◌∷◌, ◌++◌, Option, None, Some, Contains, inl, inr, refl, ap, sym, subst, length, Result, Ok, Err, IsOk, find, nat_eq, nat_lt, option_map, list_any, and_parts, eq-eqb, eqb-true, false≢true, Contains-push_cases, none-some, same_Some, command_of, num, Order, First, same_connection, Record, fresh_record, SendFault, Sent, is_queued, refusal, Holdings, aborting, answered_end, arrives, balance_of, held_unless, outstanding_of, queued, reference_aborted, sent_unless, taken_as, unaborted, with_end, Unasked, Buffer, Port, Descriptor, kept_beside, without_aborted, Hears, WasRead, handed, own_end, IsReadingText, SeesText, answered_to, changes_at, kept_of_sent, place_in}
+use Rattle.mscp_port.specs.Buffers.{buffer_in}
 use Rattle.mscp_packet.specs.declared.command.Order.TheVariants as orders
-use Rattle.mscp_events.specs.declared.connection.Connection.TheVariants.{First}
-use Rattle.mscp_queue.specs.Names.{same_connection}
-use Rattle.mscp_queue.specs.Records.{Record, fresh_record}
-use Rattle.mscp_controller.specs.declared.entry.SendFault.{SendFault}
 use Rattle.mscp_controller.specs.declared.entry.SendFault.TheVariants as faults
-use Rattle.mscp_controller.specs.declared.entry.Sent.{Sent}
 use Rattle.mscp_controller.specs.declared.entry.Sent.TheVariants as sents
-use Rattle.mscp_controller.specs.Arrival.{is_queued, refusal}
-use Rattle.mscp_controller.specs.Holdings.{Holdings, aborting, answered_end, arrives, balance_of, held_unless, outstanding_of, queued, reference_aborted, sent_unless, taken_as, unaborted, with_end}
-use Rattle.mscp_port.specs.declared.action.Unasked.{Unasked}
-use Rattle.mscp_port.specs.declared.buffers.Buffer.{Buffer}
-use Rattle.mscp_port.specs.declared.port.Port.{Port}
-use Rattle.mscp_port.specs.declared.slot.Descriptor.{Descriptor}
 use Rattle.mscp_port.specs.declared.task.Task.TheVariants as tasks
-use Rattle.mscp_port.specs.Buffers.{buffer_in, kept_beside, without_aborted}
-use Rattle.mscp_port.specs.Calls.{Hears}
-use Rattle.mscp_port.specs.Histories.{WasRead}
-use Rattle.mscp_port.specs.Messages.{handed, own_end}
-use Rattle.mscp_port.specs.Ports.{IsReadingText}
-use Rattle.mscp_port.specs.Seen.{SeesText, answered_to, changes_at, kept_of_sent}
-use Rattle.mscp_port.specs.Volumes.{place_in}
 use Rattle.mscp_port.proofs.Come.{handed_as_read, long_enough, none_waits, taken_number}
 use Rattle.mscp_port.proofs.Kept.{IsFor, aborted_for, beside_for, come_for, found_numbered, is_numbered}
 use Rattle.mscp_port.proofs.Said.{Keeps, More, is_first, keeps_none, keeps_same, more, none_or_some, not_of, without_among}

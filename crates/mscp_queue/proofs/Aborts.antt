@@ -1,16 +1,6 @@
 -- A command that is aborted is taken out of those that wait, and no other.
-use Rattle.std.proofs.Common.{◌≡◌, ◌≢◌, ⊎_elim, ℕ, ◌+◌, ◌<◌, ◌≤◌, Bool, true, false, cond, not, List, [], ◌∷◌, ◌++◌, length, ap, sym, ◌∙◌, arith}
-use Rattle.std.specs.Prelude.{filter, find, option_to_list, remove, slice_index_or, is_some, if◌then◌else◌, Option, Some, None}
-use Rattle.std.specs.List.{AllByRecursion, position}
-use Rattle.std.proofs.lemmas.Bool.{false≢true, true≢false}
-use Rattle.std.proofs.lemmas.List.{get_or_at, length-append, map-append}
-use Rattle.std.proofs.lemmas.List.Elements.{All-from_recursion, filter-append, recursion_from_All}
-use Rattle.mscp_queue.specs.declared.drive.Drive.{Drive}
-use Rattle.mscp_queue.specs.Kept.{AreApart, IsHeld, IsKept, IsStillServable, names, units_of}
-use Rattle.mscp_queue.specs.declared.name.Name.{Name}
-use Rattle.mscp_queue.specs.Serving.{begun_without, is_begun}
+use Rattle.mscp_queue.proofs.Common.{◌≡◌, ◌≢◌, ⊎_elim, ℕ, ◌+◌, ◌<◌, ◌≤◌, Bool, true, false, cond, not, List, [], ◌∷◌, ◌++◌, length, ap, sym, ◌∙◌, arith, filter, find, option_to_list, remove, slice_index_or, is_some, if◌then◌else◌, Option, Some, None, AllByRecursion, position, false≢true, true≢false, get_or_at, length-append, map-append, All-from_recursion, filter-append, recursion_from_All, Drive, AreApart, IsHeld, IsKept, IsStillServable, names, units_of, Name, begun_without, is_begun, Record, has_name, is_in_service, name_of, record_at, without}
 use Rattle.mscp_queue.proofs.Begun.{still_aborted, still_begun}
-use Rattle.mscp_queue.specs.Records.{Record, has_name, is_in_service, name_of, record_at, without}
 use Rattle.mscp_queue.proofs.Lists.{every_kept, every_weaker, fewer, filter_all, filter_none, filter_one}
 use Rattle.mscp_queue.proofs.Named.{is_differ, same_is}
 use Rattle.mscp_queue.proofs.Mapped.{removed_at}

@@ -1,16 +1,5 @@
 -- What a step makes of the waiting commands, their dues, and what is left of all.
-use Rattle.std.proofs.Common.{◌≡◌, ◌<◌, ◌≤◌, ◌+◌, ◌-◌, ℕ, Bool, true, false, cond, List, [], ◌∷◌, ◌++◌, map, take, drop, set, length, sym, subst, ap, ◌∙◌, refl, arith}
-use Rattle.std.specs.Prelude.{All, if◌then◌else◌, nat_eq, sum_by}
-use Rattle.std.specs.List.{AllByRecursion}
-use Rattle.std.proofs.lemmas.Bool.{eqb-false, eqb-true, lt-ltb}
-use Rattle.std.proofs.lemmas.List.{drop-map, get_or_at, length-map, length-take-le, map-append, set_at, take-map}
-use Rattle.std.proofs.lemmas.List.Elements.{All-from_recursion, recursion_from_All}
-use Rattle.std.proofs.lemmas.List.Sums.{sum_by-append, sum_by-cons}
-use Rattle.mscp_queue.specs.declared.slots.Slot.{Slot}
-use Rattle.mscp_queue.specs.Dues.{AreDue, AreTimed, started}
-use Rattle.mscp_queue.specs.Waiters.{Waiters}
-use Rattle.mscp_queue.specs.Records.{Record, advanced, is_in_service, is_unstarted, left_of, no_record, passed_by, record_at, step_charge}
-use Rattle.mscp_queue.specs.Slots.{targets, items, lowered_by, slot_at, with_due, with_item}
+use Rattle.mscp_queue.proofs.Common.{◌≡◌, ◌<◌, ◌≤◌, ◌+◌, ◌-◌, ℕ, Bool, true, false, cond, List, [], ◌∷◌, ◌++◌, map, take, drop, set, length, sym, subst, ap, ◌∙◌, refl, arith, All, if◌then◌else◌, nat_eq, sum_by, AllByRecursion, eqb-false, eqb-true, lt-ltb, drop-map, get_or_at, length-map, length-take-le, map-append, set_at, take-map, All-from_recursion, recursion_from_All, sum_by-append, sum_by-cons, Slot, AreDue, AreTimed, started, Waiters, Record, advanced, is_in_service, is_unstarted, left_of, no_record, passed_by, record_at, step_charge, targets, items, lowered_by, slot_at, with_due, with_item}
 use Rattle.mscp_queue.proofs.Dues.{due_set_back, due_started, due_stepped, item_there, items_append, items_fallen, late}
 use Rattle.mscp_queue.proofs.Held.{AreIdle, passed_idle}
 use Rattle.mscp_queue.proofs.Lists.{every_weaker}

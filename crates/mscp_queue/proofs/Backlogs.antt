@@ -1,17 +1,5 @@
 -- What a leave makes of the waiting commands, their dues, and what is left of all.
-use Rattle.std.proofs.Common.{◌≡◌, ◌<◌, ◌≤◌, ◌+◌, ◌-◌, ℕ, suc, Bool, true, false, not, List, [], ◌∷◌, ◌++◌, map, take, drop, get_or, length, append_assoc, sym, subst, ap, ◌∙◌, refl, arith}
-use Rattle.std.specs.Prelude.{All, if◌then◌else◌, sum_by}
-use Rattle.std.specs.List.{AllByRecursion}
-use Rattle.std.proofs.lemmas.List.{drop-map, get_or-map, length-take-le, map-append, take-map, take_more}
-use Rattle.std.proofs.lemmas.List.Elements.{All-from_recursion, recursion_from_All}
-use Rattle.std.proofs.lemmas.List.Sums.{sum_by-append, sum_by-cons}
-use Rattle.mscp_queue.specs.declared.target.Target.{Target}
-use Rattle.mscp_queue.specs.declared.slots.Slot.{Slot}
-use Rattle.mscp_queue.specs.Dues.{AreDue, AreTimed}
-use Rattle.mscp_queue.specs.Waiters.{Waiters}
-use Rattle.mscp_queue.specs.Records.{Record, is_in_service, left_of}
-use Rattle.mscp_queue.specs.Targets.{no_target}
-use Rattle.mscp_queue.specs.Slots.{targets, is_unfenced, is_unfenced_at, items, kind_of, kinds_of, lowered_by, lowered_unless_serving, no_slot, slot_at}
+use Rattle.mscp_queue.proofs.Common.{◌≡◌, ◌<◌, ◌≤◌, ◌+◌, ◌-◌, ℕ, suc, Bool, true, false, not, List, [], ◌∷◌, ◌++◌, map, take, drop, get_or, length, append_assoc, sym, subst, ap, ◌∙◌, refl, arith, All, if◌then◌else◌, sum_by, AllByRecursion, drop-map, get_or-map, length-take-le, map-append, take-map, take_more, All-from_recursion, recursion_from_All, sum_by-append, sum_by-cons, Target, Slot, AreDue, AreTimed, Waiters, Record, is_in_service, left_of, no_target, targets, is_unfenced, is_unfenced_at, items, kind_of, kinds_of, lowered_by, lowered_unless_serving, no_slot, slot_at}
 use Rattle.mscp_queue.proofs.Dues.{abort_enough, due_aborted, due_ended, end_enough, items_append, items_fallen, items_unless}
 use Rattle.mscp_queue.proofs.Held.{AreIdle}
 use Rattle.mscp_queue.proofs.Placed.{at_place, cut_at, map_map}

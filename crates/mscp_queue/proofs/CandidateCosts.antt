@@ -1,30 +1,8 @@
 -- The costs of what a queue keeps of its waiting commands for a picker, and how they are found anew.
-use Rattle.std.proofs.Common.{All, ◌≡◌, ◌≢◌, ◌⊎◌, inl, inr, set, ℕ, ◌+◌, ◌<◌, ◌≤◌, Bool, true, false, cond, List, map, get_or, length, refl, ap, sym, ◌∙◌, subst, arith}
-use Rattle.std.specs.Prelude.{nat_eq}
-use Rattle.std.specs.Int.{bit_at}
-use Rattle.std.specs.List.{range_with_len}
-use Rattle.std.proofs.lemmas.List.FromFn.{get_or-map-range_with_len, length-range_with_len}
-use Rattle.mscp_packet.specs.declared.command.Order.{Order}
-use Rattle.mscp_drive.specs.declared.head.Head.{Head}
-use Rattle.mscp_drive.specs.Heads.{sweep_cost}
-use Rattle.std.proofs.lemmas.Bool.{eq-eqb, false≢true, ne_eqb}
-use Rattle.std.proofs.lemmas.List.{ext_get_or, get_or_default, get_or-map, length-map}
-use Rattle.mscp_drive.specs.Shape.{Shape, cylinder_of, last_cylinder, one_block}
-use Rattle.mscp_queue.specs.Orders.{first_block, is_move, order_cost}
-use Rattle.mscp_queue.specs.declared.drive.Drive.{Drive}
-use Rattle.mscp_queue.specs.declared.view.Choice.{Choice}
-use Rattle.mscp_queue.specs.Targets.{target_of, no_target, unit_place}
-use Rattle.mscp_queue.specs.Drives.{fresh_drive}
-use Rattle.mscp_queue.specs.Kept.{CanBeShown, is_known, units_of}
-use Rattle.mscp_queue.specs.Candidates.{AreOnDrive, AreCandidates, IsRecosted, IsRenewed, choice_in, cost_on, costing, costing_if, no_choice, sure_of}
-use Rattle.mscp_queue.specs.Masks.{IsSet}
-use Rattle.mscp_queue.specs.Records.{Record, no_record, record_at}
-use Rattle.mscp_queue.specs.Views.{choices_at}
+use Rattle.mscp_queue.proofs.Common.{All, ◌≡◌, ◌≢◌, ◌⊎◌, inl, inr, set, ℕ, ◌+◌, ◌<◌, ◌≤◌, Bool, true, false, cond, List, map, get_or, length, refl, ap, sym, ◌∙◌, subst, arith, nat_eq, bit_at, range_with_len, get_or-map-range_with_len, length-range_with_len, Order, Head, sweep_cost, eq-eqb, false≢true, ne_eqb, ext_get_or, get_or_default, get_or-map, length-map, Shape, cylinder_of, last_cylinder, one_block, first_block, is_move, order_cost, Drive, Choice, target_of, no_target, unit_place, fresh_drive, CanBeShown, is_known, units_of, AreOnDrive, AreCandidates, IsRecosted, IsRenewed, choice_in, cost_on, costing, costing_if, no_choice, sure_of, IsSet, Record, no_record, record_at, choices_at, IsUnitList, Target}
 use Rattle.mscp_queue.proofs.Targets.{cylinder_within, led, own_target, own_blocks, place_inside, place_same}
 use Rattle.mscp_queue.proofs.Drives.{known_at, place_is}
 use Rattle.mscp_queue.proofs.Turns.{pairs_rise}
-use Rattle.mscp_drive.specs.UnitList.{IsUnitList}
-use Rattle.mscp_queue.specs.declared.target.Target.{Target}
 use Rattle.mscp_queue.proofs.Masked.{same_or}
 use Rattle.mscp_queue.proofs.Placed.{map_map}
 use Rattle.mscp_queue.proofs.CandidateLists.{as_many, at_place, sure_but}

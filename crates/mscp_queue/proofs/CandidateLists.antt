@@ -1,24 +1,5 @@
 -- What a queue keeps of its waiting commands for a picker stays true.
-use Rattle.std.proofs.Common.{◌≡◌, ◌≢◌, set, ℕ, ◌+◌, ◌<◌, ◌≤◌, Bool, true, false, cond, not, ◌||◌, List, [], ◌∷◌, ◌++◌, map, take, drop, get_or, length, refl, ap, sym, ◌∙◌, arith}
-use Rattle.std.specs.Prelude.{find, nat_eq, nat_lt, unwrap_or, Some, None}
-use Rattle.std.specs.Int.{bit_at}
-use Rattle.std.specs.List.{list_any, position, position_or_len}
-use Rattle.std.proofs.lemmas.Bool.{eq-eqb, eqb-true, false≢true, ne_eqb}
-use Rattle.std.proofs.lemmas.List.{get_or-map, length-map, map-append}
-use Rattle.mscp_packet.specs.declared.command.Command.{Command}
-use Rattle.mscp_drive.specs.Shape.{Shape, one_block}
-use Rattle.mscp_queue.specs.declared.drive.Drive.{Drive}
-use Rattle.mscp_events.specs.declared.connection.Connection.{Connection}
-use Rattle.mscp_queue.specs.declared.name.Name.{Name}
-use Rattle.mscp_queue.specs.declared.view.Choice.{Choice}
-use Rattle.mscp_queue.specs.Targets.{unit_place}
-use Rattle.mscp_queue.specs.Drives.{drive_of, fresh_drive, has_number, replaced}
-use Rattle.mscp_queue.specs.Kept.{names, units_of}
-use Rattle.mscp_queue.specs.Candidates.{AreCandidates, choice_in, costing, has_choice_name, no_choice, sure_of}
-use Rattle.mscp_queue.specs.Masks.{IsSet}
-use Rattle.mscp_queue.specs.Names.{same_name}
-use Rattle.mscp_queue.specs.Records.{Record, advanced, has_name, name_of, no_record, passed_by, record_at}
-use Rattle.mscp_queue.specs.Views.{choice_name}
+use Rattle.mscp_queue.proofs.Common.{◌≡◌, ◌≢◌, set, ℕ, ◌+◌, ◌<◌, ◌≤◌, Bool, true, false, cond, not, ◌||◌, List, [], ◌∷◌, ◌++◌, map, take, drop, get_or, length, refl, ap, sym, ◌∙◌, arith, find, nat_eq, nat_lt, unwrap_or, Some, None, bit_at, list_any, position, position_or_len, eq-eqb, eqb-true, false≢true, ne_eqb, get_or-map, length-map, map-append, Command, Shape, one_block, Drive, Connection, Name, Choice, unit_place, drive_of, fresh_drive, has_number, replaced, names, units_of, AreCandidates, choice_in, costing, has_choice_name, no_choice, sure_of, IsSet, same_name, Record, advanced, has_name, name_of, no_record, passed_by, record_at, choice_name}
 use Rattle.mscp_queue.proofs.Placed.{map_map}
 use Rattle.mscp_queue.proofs.Unmoved.{made_served, map_cut}
 

@@ -1,7 +1,5 @@
 -- One mask of many is cleared.
-use Rattle.std.proofs.Common.{◌≡◌, ◌≢◌, ◌<◌, ◌≤◌, ◌+◌, ◌⊎◌, inl, inr, ℕ, List, length, get_or, set, false, sym, subst, ◌∙◌, arith}
-use Rattle.std.proofs.lemmas.List.{get_or-set_same, get_or-set_other}
-use Rattle.mscp_queue.specs.Masks.{IsSet}
+use Rattle.mscp_queue.proofs.Common.{◌≡◌, ◌≢◌, ◌<◌, ◌≤◌, ◌+◌, ◌⊎◌, inl, inr, ℕ, List, length, get_or, set, false, sym, subst, ◌∙◌, arith, get_or-set_same, get_or-set_other, IsSet}
 
 below_or : (s n : ℕ) → s < n + 1 → (s < n) ⊎ (s ≡ n)
 below_or s n l = grind arith

@@ -1,14 +1,7 @@
 -- How many bits of a mask are set: as many as there are slots in it.
-use Rattle.std.proofs.Common.{◌≡◌, ◌≢◌, ◌<◌, ◌≤◌, ◌+◌, ◌^◌, ◌%◌, ◌/◌, ◌⊎◌, inl, inr, ℕ, zero, suc, true, false, ◌||◌, nat_eq, List, [], ◌∷◌, count_ones, length, get_or, take, drop, sym, subst, ap, ◌∙◌, refl, arith}
-use Rattle.std.specs.Int.{bit_at}
-use Rattle.std.proofs.lemmas.Bool.{eq-eqb, ne_eqb}
-use Rattle.std.proofs.lemmas.List.{length-take-le}
-use Rattle.std.proofs.lemmas.Nat.Bits.{bit_at-suc, bit_at_lowest}
+use Rattle.mscp_queue.proofs.Common.{◌≡◌, ◌≢◌, ◌<◌, ◌≤◌, ◌+◌, ◌^◌, ◌%◌, ◌/◌, ◌⊎◌, inl, inr, ℕ, zero, suc, true, false, ◌||◌, nat_eq, List, [], ◌∷◌, count_ones, length, get_or, take, drop, sym, subst, ap, ◌∙◌, refl, arith, bit_at, eq-eqb, ne_eqb, length-take-le, bit_at-suc, bit_at_lowest, slice_index_or, Masks, AreEarlier, AreMasks, AreSlots, IsMaskOf, Kind, bit, has}
 use lib.Count.{ones_step, ones-le}
 use native.Mathlib.Nat.{pow-suc}
-use Rattle.std.specs.Prelude.{slice_index_or}
-use Rattle.mscp_queue.specs.declared.masks.Masks.{Masks}
-use Rattle.mscp_queue.specs.Masks.{AreEarlier, AreMasks, AreSlots, IsMaskOf, Kind, bit, has}
 use Rattle.mscp_queue.proofs.Fallen.{slots_front}
 use Rattle.mscp_queue.proofs.Freed.{earlier_at}
 use Rattle.mscp_queue.proofs.Masked.{same_or, slot_has}

@@ -1,14 +1,5 @@
 -- A counted's counts stay those of its commands.
-use Rattle.std.proofs.Common.{◌≡◌, ◌≢◌, ◌<◌, ◌≤◌, ◌+◌, ◌⊎◌, inl, inr, ℕ, Bool, true, false, cond, ◌||◌, List, [], ◌∷◌, ◌++◌, take, drop, set, get_or, length, sym, subst, ap, ◌∙◌, refl, arith}
-use Rattle.std.specs.Prelude.{nat_lt, count_by}
-use Rattle.std.specs.List.{list_any}
-use Rattle.std.proofs.lemmas.Bool.{eq-eqb, ne_eqb}
-use Rattle.std.proofs.lemmas.List.{get_or-set_other, get_or-set_same}
-use Rattle.std.proofs.lemmas.List.Sums.{sum_by-append, sum_by-cons}
-use Rattle.mscp_queue.specs.declared.view.Choice.{Choice}
-use Rattle.mscp_queue.specs.Candidates.{no_choice}
-use Rattle.mscp_queue.specs.Masks.{bit}
-use Rattle.mscp_queue.specs.CountedViews.{IsCounted, has_byte, low_byte}
+use Rattle.mscp_queue.proofs.Common.{◌≡◌, ◌≢◌, ◌<◌, ◌≤◌, ◌+◌, ◌⊎◌, inl, inr, ℕ, Bool, true, false, cond, ◌||◌, List, [], ◌∷◌, ◌++◌, take, drop, set, get_or, length, sym, subst, ap, ◌∙◌, refl, arith, nat_lt, count_by, list_any, eq-eqb, ne_eqb, get_or-set_other, get_or-set_same, sum_by-append, sum_by-cons, Choice, no_choice, bit, IsCounted, has_byte, low_byte}
 use Rattle.mscp_queue.proofs.Masked.{same_or}
 use Rattle.mscp_queue.proofs.Placed.{cut_at}
 

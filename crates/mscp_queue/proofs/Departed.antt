@@ -1,10 +1,5 @@
 -- The masks stay those of the slots where a command leaves: at an end or an abort.
-use Rattle.std.proofs.Common.{◌≡◌, ◌≢◌, ◌<◌, ◌⊎◌, inl, inr, ℕ, Bool, true, false, ◌&&◌, ◌||◌, nat_eq, List, [], ◌∷◌, ◌++◌, sym, subst, ap, ◌∙◌, refl, arith}
-use Rattle.std.specs.Prelude.{slice_index_or}
-use Rattle.std.proofs.lemmas.Nat.Bits.{bit_at-zero}
-use Rattle.std.proofs.lemmas.List.{append-nil}
-use Rattle.mscp_queue.specs.declared.masks.Masks.{Masks}
-use Rattle.mscp_queue.specs.Masks.{AreEarlier, AreMasks, AreSlots, HasLeft, IsMaskOf, IsSet, Kind, bit, has}
+use Rattle.mscp_queue.proofs.Common.{◌≡◌, ◌≢◌, ◌<◌, ◌⊎◌, inl, inr, ℕ, Bool, true, false, ◌&&◌, ◌||◌, nat_eq, List, [], ◌∷◌, ◌++◌, sym, subst, ap, ◌∙◌, refl, arith, slice_index_or, bit_at-zero, append-nil, Masks, AreEarlier, AreMasks, AreSlots, HasLeft, IsMaskOf, IsSet, Kind, bit, has}
 use Rattle.mscp_queue.proofs.Masked.{eq_false, eq_true, has_gone, has_kept, if_not, not_behind, not_here, off, same_or, set_mask, unit_set, without, without_append}
 
 slots_left : (order : List ℕ) (n : ℕ) → AreSlots order → AreSlots (without n order)

@@ -1,16 +1,5 @@
 -- Where the drive of a unit stands among the drives.
-use Rattle.std.proofs.Common.{◌≡◌, ℕ, zero, suc, ◌+◌, ◌<◌, Bool, true, false, cond, not, List, [], ◌∷◌, set, get_or, length, refl, ap, sym, ◌∙◌, subst, arith}
-use Rattle.std.specs.Prelude.{find, nat_eq, if◌then◌else◌, is_some, unwrap_or, Some}
-use Rattle.std.specs.List.{AllByRecursion, position, position_or_len}
-use Rattle.std.proofs.lemmas.Bool.{eq-eqb, eqb-true, false≢true, lt-ltb, ne_eqb}
-use Rattle.std.proofs.lemmas.List.{get_or_default}
-use Rattle.std.proofs.lemmas.List.Elements.{All-from_recursion}
-use Rattle.mscp_drive.specs.UnitList.{IsUnitList}
-use Rattle.mscp_queue.specs.declared.drive.Drive.{Drive}
-use Rattle.mscp_drive.specs.Shape.{one_block}
-use Rattle.mscp_queue.specs.Drives.{drive_of, fresh_drive, has_number, replaced}
-use Rattle.mscp_queue.specs.Kept.{is_known, units_of}
-use Rattle.mscp_queue.specs.Pairs.{Pairs}
+use Rattle.mscp_queue.proofs.Common.{◌≡◌, ℕ, zero, suc, ◌+◌, ◌<◌, Bool, true, false, cond, not, List, [], ◌∷◌, set, get_or, length, refl, ap, sym, ◌∙◌, subst, arith, find, nat_eq, if◌then◌else◌, is_some, unwrap_or, Some, AllByRecursion, position, position_or_len, eq-eqb, eqb-true, false≢true, lt-ltb, ne_eqb, get_or_default, All-from_recursion, IsUnitList, Drive, one_block, drive_of, fresh_drive, has_number, replaced, is_known, units_of, Pairs}
 use Rattle.mscp_queue.proofs.Lists.{every_mapped}
 use Rattle.mscp_queue.proofs.Turns.{Lower, pairs_rise}
 

@@ -1,15 +1,5 @@
 -- Each event keeps the dues, and a due less the clock is the figure.
-use Rattle.std.proofs.Common.{◌≡◌, ◌<◌, ◌≤◌, ◌+◌, ◌-◌, ℕ, suc, Bool, true, false, cond, List, [], ◌∷◌, ◌++◌, map, take, drop, get_or, length, sym, subst, ap, ◌∙◌, refl, arith}
-use Rattle.std.specs.Prelude.{filter, nat_lt, sum_by}
-use Rattle.std.specs.List.{AllByRecursion}
-use Rattle.std.proofs.lemmas.Bool.{lt-ltb}
-use Rattle.std.proofs.lemmas.List.{length-map}
-use Rattle.std.proofs.lemmas.List.Sums.{sum_by-cons}
-use Rattle.mscp_queue.specs.declared.slots.Slot.{Slot}
-use Rattle.mscp_queue.specs.Dues.{AreDue, figure_in}
-use Rattle.mscp_queue.specs.Figures.{figure_at}
-use Rattle.mscp_queue.specs.Records.{Record, advanced, is_in_service, left_if_serving, left_of, no_record, passed_by, record_at}
-use Rattle.mscp_queue.specs.Slots.{items, lowered_by, lowered_unless_serving, slot_at, with_item}
+use Rattle.mscp_queue.proofs.Common.{◌≡◌, ◌<◌, ◌≤◌, ◌+◌, ◌-◌, ℕ, suc, Bool, true, false, cond, List, [], ◌∷◌, ◌++◌, map, take, drop, get_or, length, sym, subst, ap, ◌∙◌, refl, arith, filter, nat_lt, sum_by, AllByRecursion, lt-ltb, length-map, sum_by-cons, Slot, AreDue, figure_in, figure_at, Record, advanced, is_in_service, left_if_serving, left_of, no_record, passed_by, record_at, items, lowered_by, lowered_unless_serving, slot_at, with_item}
 use Rattle.mscp_queue.proofs.Held.{AreIdle}
 
 abbrev serving : List Slot → ℕ

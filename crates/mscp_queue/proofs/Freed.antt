@@ -1,14 +1,5 @@
 -- The masks tell which commands no earlier one keeps back.
-use Rattle.std.proofs.Common.{◌≡◌, ◌≢◌, ◌<◌, ◌^◌, ◌⊎◌, inl, inr, ℕ, Bool, true, false, not, ◌&&◌, ◌||◌, nat_eq, min, bit_and, List, [], ◌∷◌, ◌++◌, sym, subst, ap, ◌∙◌, refl, arith, w64}
-use Rattle.std.specs.Int.{bit_at, trailing_zeros}
-use Rattle.std.specs.List.{list_all}
-use Rattle.std.proofs.lemmas.Bool.{eqb-true, eq-eqb, ne_eqb}
-use Rattle.std.proofs.lemmas.List.{append_assoc, append-nil}
-use Rattle.std.proofs.lemmas.Nat.{and_le_l}
-use Rattle.std.proofs.lemmas.Nat.Bits.{bit_at_and, bit_at-trailing_zeros, bit_at-zero}
-use Rattle.std.specs.Prelude.{slice_index_or}
-use Rattle.mscp_queue.specs.declared.masks.Masks.{Masks}
-use Rattle.mscp_queue.specs.Masks.{AreEarlier, AreMasks, AreSlots, IsMaskOf, Kind, bit, fences, has, keeps_back}
+use Rattle.mscp_queue.proofs.Common.{◌≡◌, ◌≢◌, ◌<◌, ◌^◌, ◌⊎◌, inl, inr, ℕ, Bool, true, false, not, ◌&&◌, ◌||◌, nat_eq, min, bit_and, List, [], ◌∷◌, ◌++◌, sym, subst, ap, ◌∙◌, refl, arith, w64, bit_at, trailing_zeros, list_all, eqb-true, eq-eqb, ne_eqb, append_assoc, append-nil, and_le_l, bit_at_and, bit_at-trailing_zeros, bit_at-zero, slice_index_or, Masks, AreEarlier, AreMasks, AreSlots, IsMaskOf, Kind, bit, fences, has, keeps_back}
 
 -- the mask of a slot in the order holds those in front of it
 pub earlier_at : (earlier : ℕ → ℕ) (done front : List ℕ) (s : ℕ) (back : List ℕ)

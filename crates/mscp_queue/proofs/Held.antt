@@ -1,22 +1,5 @@
 -- What is true of each queue stays true.
-use Rattle.std.proofs.Common.{◌≡◌, ◌≢◌, ◌⊎◌, ⊎_elim, ℕ, ◌+◌, ◌*◌, ◌<◌, ◌≤◌, Bool, true, false, cond, ◌||◌, List, [], ◌∷◌, ◌++◌, map, length, refl, ap, sym, ◌∙◌, subst, arith}
-use Rattle.std.specs.Prelude.{All, filter, nat_lt, is_some, Option, None}
-use Rattle.std.specs.List.{AllByRecursion, list_any, refill}
-use Rattle.std.proofs.lemmas.List.{length-append, length-map, map-append}
-use Rattle.std.proofs.lemmas.List.Elements.{All-from_recursion, All-nil, filter-append, recursion_from_All}
-use Rattle.std.proofs.lemmas.Bool.{ltb-false, lt-ltb, false≢true, true≢false}
-use Rattle.mscp_packet.specs.declared.command.Command.{Command}
-use Rattle.mscp_packet.specs.declared.command.Order.{Order}
-use Rattle.mscp_drive.specs.Shape.{Shape}
-use Rattle.mscp_drive.specs.UnitList.{IsUnitList}
-use Rattle.mscp_queue.specs.declared.drive.Drive.{Drive}
-use Rattle.mscp_events.specs.declared.connection.Connection.{Connection}
-use Rattle.mscp_queue.specs.Drives.{IsOnUnit, fresh_drive, has_number, replaced}
-use Rattle.mscp_queue.specs.Kept.{AreApart, IsHeld, IsKept, IsWaitable, names, units_of}
-use Rattle.mscp_queue.specs.declared.name.Name.{Name}
-use Rattle.mscp_queue.specs.Names.{name_on}
-use Rattle.mscp_queue.specs.Orders.{order_weight}
-use Rattle.mscp_queue.specs.Records.{Record, advanced, fresh_record, has_name, is_in_service, name_of, passed_by}
+use Rattle.mscp_queue.proofs.Common.{◌≡◌, ◌≢◌, ◌⊎◌, ⊎_elim, ℕ, ◌+◌, ◌*◌, ◌<◌, ◌≤◌, Bool, true, false, cond, ◌||◌, List, [], ◌∷◌, ◌++◌, map, length, refl, ap, sym, ◌∙◌, subst, arith, All, filter, nat_lt, is_some, Option, None, AllByRecursion, list_any, refill, length-append, length-map, map-append, All-from_recursion, All-nil, filter-append, recursion_from_All, ltb-false, lt-ltb, false≢true, true≢false, Command, Order, Shape, IsUnitList, Drive, Connection, IsOnUnit, fresh_drive, has_number, replaced, AreApart, IsHeld, IsKept, IsWaitable, names, units_of, Name, name_on, order_weight, Record, advanced, fresh_record, has_name, is_in_service, name_of, passed_by}
 use Rattle.mscp_queue.proofs.Named.{differ_is}
 use Rattle.mscp_queue.proofs.Lists.{every_append, every_parts}
 use Rattle.mscp_queue.proofs.Mapped.{refilled}

@@ -1,12 +1,5 @@
 -- The bits of a mask as the lanes of a vector.
-use Rattle.std.proofs.Common.{◌≡◌, ℕ, ◌-◌, ◌<◌, List, [], ◌∷◌, Bool, false, cond, nat_eq, ltb, min, length, get_or, replicate, sym, ap, ◌∙◌, arith, bit_and}
-use Rattle.std.specs.Int.{bit_at}
-use Rattle.std.specs.Simd.Lanes.{top, sel_l, zip2}
-use Rattle.std.proofs.lemmas.Bool.{eq-eqb, ne_eqb}
-use Rattle.std.proofs.lemmas.Nat.Bits.{and_pow, bit_at-lt, bit_at_and, bit_at_ones}
-use Rattle.std.proofs.lemmas.Bool.Decides.{nat_tests}
-use Rattle.std.proofs.lemmas.Simd.{length-sel_l, get_or-sel_l, length-zip2, get_or-zip2, get_or-replicate}
-use Rattle.mscp_queue.specs.Lanes.{HasLanes, lowered}
+use Rattle.mscp_queue.proofs.Common.{◌≡◌, ℕ, ◌-◌, ◌<◌, List, [], ◌∷◌, Bool, false, cond, nat_eq, ltb, min, length, get_or, replicate, sym, ap, ◌∙◌, arith, bit_and, bit_at, top, sel_l, zip2, eq-eqb, ne_eqb, and_pow, bit_at-lt, bit_at_and, bit_at_ones, nat_tests, length-sel_l, get_or-sel_l, length-zip2, get_or-zip2, get_or-replicate, HasLanes, lowered}
 
 abbrev pub test_lane : ℕ → ℕ → Bool
 test_lane bits place = top 63 (cond (nat_eq (bit_and bits place) place) 18446744073709551615 0)

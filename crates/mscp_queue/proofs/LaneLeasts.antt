@@ -1,10 +1,6 @@
 -- The least of lanes, of the masked costs in a lane, and of all masked costs.
-use Rattle.std.proofs.Common.{◌≡◌, ◌≢◌, ◌<◌, ◌≤◌, ◌+◌, ◌-◌, ◌*◌, ◌/◌, ◌%◌, ◌^◌, ◌⊎◌, inl, inr, ℕ, List, get_or, cond, nat_eq, min, ap, sym, subst, ◌∙◌, arith, w64, Option, IfSome, IfNone, bit_and}
-use Rattle.std.specs.Int.{bit_at, trailing_zeros}
-use Rattle.std.proofs.lemmas.Bool.Decides.{nat_tests}
-use Rattle.std.proofs.lemmas.Nat.Bits.{bit_at_and, bit_at-trailing_zeros, bit_at-lt, bit_at-zero}
+use Rattle.mscp_queue.proofs.Common.{◌≡◌, ◌≢◌, ◌<◌, ◌≤◌, ◌+◌, ◌-◌, ◌*◌, ◌/◌, ◌%◌, ◌^◌, ◌⊎◌, inl, inr, ℕ, List, get_or, cond, nat_eq, min, ap, sym, subst, ◌∙◌, arith, w64, Option, IfSome, IfNone, bit_and, bit_at, trailing_zeros, nat_tests, bit_at_and, bit_at-trailing_zeros, bit_at-lt, bit_at-zero, IsCost, IsFirst, IsLane, IsLeast, IsLow}
 use Rattle.mscp_queue.proofs.LaneParts.{bit_from}
-use Rattle.mscp_queue.specs.Lanes.{IsCost, IsFirst, IsLane, IsLeast, IsLow}
 
 abbrev FoundLow : List ℕ → ℕ → ℕ → ℕ → ℕ → Type 0
 FoundLow costs mask j n x = (x ≡ 2 ^ 64 - 1)

@@ -1,13 +1,6 @@
 -- Eight of sixty-four numbers, and what a write to them leaves.
-use Rattle.std.proofs.Common.{◌≡◌, ◌⊎◌, inl, inr, ℕ, ◌+◌, ◌-◌, ◌/◌, ◌%◌, ◌^◌, ◌<◌, ◌≤◌, List, ◌++◌, length, get_or, cond, nat_eq, take, drop, sym, ap, subst, ◌∙◌, arith}
-use Rattle.std.specs.Int.{bit_at}
-use Rattle.std.specs.Simd.Lanes.{chunk, put_chunk}
-use Rattle.std.proofs.lemmas.Nat.{shr-shr}
-use Rattle.std.proofs.lemmas.Nat.Bits.{bit_at-zero}
-use Rattle.std.proofs.lemmas.List.{get_or-take, get_or-drop, get_or_append_left, get_or-append_right, length-take-le, length-append, length-drop}
-use Rattle.std.proofs.lemmas.Simd.{put_chunk_whole, get_or-chunk}
+use Rattle.mscp_queue.proofs.Common.{◌≡◌, ◌⊎◌, inl, inr, ℕ, ◌+◌, ◌-◌, ◌/◌, ◌%◌, ◌^◌, ◌<◌, ◌≤◌, List, ◌++◌, length, get_or, cond, nat_eq, take, drop, sym, ap, subst, ◌∙◌, arith, bit_at, chunk, put_chunk, shr-shr, bit_at-zero, get_or-take, get_or-drop, get_or_append_left, get_or-append_right, length-take-le, length-append, length-drop, put_chunk_whole, get_or-chunk, HasLanes, lowered}
 use borrow.Rule.Slice.PartMut.{mid_of, put_mid}
-use Rattle.mscp_queue.specs.Lanes.{HasLanes, lowered}
 
 -- a store over the whole of eight numbers
 pub whole_part : (part res : List ℕ) (bits by : ℕ) → length part ≡ 8

@@ -1,14 +1,5 @@
 -- Names are the same exactly where both of their parts are.
-use Rattle.std.proofs.Common.{◌≡◌, ◌≢◌, true, false, ◌&&◌, ◌||◌, List, [], ◌∷◌, refl, ap, sym, ◌∙◌, subst, arith}
-use Rattle.std.specs.Prelude.{nat_eq}
-use Rattle.std.proofs.lemmas.Bool.{and_parts, and_right, eq-eqb, eqb-true, false≢true, ne_eqb, or_parts, true≢false}
-use Rattle.std.specs.List.{list_any}
-use Rattle.mscp_events.specs.declared.connection.Connection.{Connection}
-use Rattle.mscp_queue.specs.declared.name.Name.{Name}
-use Rattle.mscp_queue.specs.Names.{same_connection, same_name}
-use Rattle.mscp_queue.specs.declared.view.Choice.{Choice}
-use Rattle.mscp_queue.specs.Candidates.{has_choice_name}
-use Rattle.mscp_queue.specs.CountedViews.{has_byte, low_byte}
+use Rattle.mscp_queue.proofs.Common.{◌≡◌, ◌≢◌, true, false, ◌&&◌, ◌||◌, List, [], ◌∷◌, refl, ap, sym, ◌∙◌, subst, arith, nat_eq, and_parts, and_right, eq-eqb, eqb-true, false≢true, ne_eqb, or_parts, true≢false, list_any, Connection, Name, same_connection, same_name, Choice, has_choice_name, has_byte, low_byte}
 
 pub one_side : (a b : Connection) → same_connection a b ≡ true → a ≡ b
 one_side a b h2 = grind (arith, false≢true)

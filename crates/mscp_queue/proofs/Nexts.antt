@@ -1,18 +1,5 @@
 -- Which record is served next: what was begun, or else that in service, or else one that may be picked.
-use Rattle.std.proofs.Common.{◌≡◌, ◌≢◌, ⊎_elim, ◌⊎◌, inl, inr, ℕ, zero, suc, ◌+◌, ◌-◌, ◌<◌, ◌≤◌, Bool, true, false, List, [], ◌∷◌, ◌++◌, take, drop, length, refl, ap, sym, ◌∙◌, subst, arith}
-use Rattle.std.specs.Prelude.{All, filter, if◌then◌else◌, is_some, nat_lt, unwrap_or, Option, Some, None}
-use Rattle.std.specs.List.{AllByRecursion, position}
-use Rattle.std.proofs.lemmas.List.{get_or_append_left, get_or-append_right, get_or_at, get_or-drop, get_or-take, length-append, length-drop, length-take-le}
-use Rattle.std.proofs.lemmas.List.Elements.{All-from_recursion, recursion_from_All}
-use Rattle.std.proofs.lemmas.Bool.{eq-eqb, eqb-true, false≢true, lt-ltb, ltb-false, ltb-true, true≢false}
-use Rattle.mscp_queue.specs.declared.drive.Drive.{Drive}
-use Rattle.mscp_queue.specs.declared.view.Choice.{Choice}
-use Rattle.mscp_queue.specs.Kept.{AreApart, IsHeld, IsStillServable, begun_name, names, place_without}
-use Rattle.mscp_queue.specs.declared.name.Name.{Name}
-use Rattle.mscp_queue.specs.Names.{same_name}
-use Rattle.mscp_queue.specs.Records.{Record, has_name, is_in_service, is_unstarted, name_of, no_record, record_at, without}
-use Rattle.mscp_queue.specs.Serving.{IsNext, IsServable, begun_without}
-use Rattle.mscp_queue.specs.Views.{IsPick}
+use Rattle.mscp_queue.proofs.Common.{◌≡◌, ◌≢◌, ⊎_elim, ◌⊎◌, inl, inr, ℕ, zero, suc, ◌+◌, ◌-◌, ◌<◌, ◌≤◌, Bool, true, false, List, [], ◌∷◌, ◌++◌, take, drop, length, refl, ap, sym, ◌∙◌, subst, arith, All, filter, if◌then◌else◌, is_some, nat_lt, unwrap_or, Option, Some, None, AllByRecursion, position, get_or_append_left, get_or-append_right, get_or_at, get_or-drop, get_or-take, length-append, length-drop, length-take-le, All-from_recursion, recursion_from_All, eq-eqb, eqb-true, false≢true, lt-ltb, ltb-false, ltb-true, true≢false, Drive, Choice, AreApart, IsHeld, IsStillServable, begun_name, names, place_without, Name, same_name, Record, has_name, is_in_service, is_unstarted, name_of, no_record, record_at, without, IsNext, IsServable, begun_without, IsPick}
 use Rattle.mscp_queue.proofs.Begun.{picked_opens}
 use Rattle.mscp_queue.proofs.Named.{is_differ, is_same, same_is}
 use Rattle.mscp_queue.proofs.Lists.{every_append, every_parts, every_weaker}

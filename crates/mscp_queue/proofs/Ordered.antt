@@ -1,9 +1,5 @@
 -- Who came earlier was passed at least as often, and how many of those that wait are sequential.
-use Rattle.std.proofs.Common.{◌≡◌, ℕ, ◌+◌, ◌<◌, ◌≤◌, Bool, cond, List, [], ◌∷◌, ◌++◌, map, take, drop, length, arith}
-use Rattle.std.specs.List.{AllByRecursion}
-use Rattle.mscp_queue.specs.Kept.{ArePassedInOrder}
-use Rattle.mscp_queue.specs.Orders.{is_sequential}
-use Rattle.mscp_queue.specs.Records.{Record, advanced, passed_by, record_at}
+use Rattle.mscp_queue.proofs.Common.{◌≡◌, ℕ, ◌+◌, ◌<◌, ◌≤◌, Bool, cond, List, [], ◌∷◌, ◌++◌, map, take, drop, length, arith, AllByRecursion, ArePassedInOrder, is_sequential, Record, advanced, passed_by, record_at}
 use Rattle.mscp_queue.proofs.Lists.{every_append, every_parts, every_weaker}
 use Rattle.mscp_queue.proofs.Placed.{cut_at}
 

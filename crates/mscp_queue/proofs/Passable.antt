@@ -1,16 +1,5 @@
 -- Where all are transfers that the longest may still pass, each may start.
-use Rattle.std.proofs.Common.{◌≡◌, ℕ, ◌+◌, ◌<◌, ◌≤◌, Bool, true, false, cond, not, ◌&&◌, ◌||◌, List, [], ◌∷◌, take, get_or, length, refl, ap, sym, ◌∙◌, arith}
-use Rattle.std.specs.Prelude.{All, nat_le}
-use Rattle.std.specs.List.{AllByRecursion, list_all, range_with_len}
-use Rattle.std.proofs.lemmas.Bool.{and_parts, false≢true, le-leb, leb-true}
-use Rattle.std.proofs.lemmas.List.{get_or_default}
-use Rattle.std.proofs.lemmas.List.Sums.{sum_by-cons}
-use Rattle.std.proofs.lemmas.List.Elements.{All-from_recursion, All-take, recursion_from_All}
-use Rattle.mscp_packet.specs.declared.command.Order.{Order}
-use Rattle.mscp_queue.specs.Kept.{ArePassedInOrder, sequential_count}
-use Rattle.mscp_queue.specs.Orders.{is_move, is_sequential}
-use Rattle.mscp_queue.specs.Records.{Record, no_record, record_at}
-use Rattle.mscp_queue.specs.Views.{AllMayStart, is_affordable, is_free, is_open_at, is_passable, open_places}
+use Rattle.mscp_queue.proofs.Common.{◌≡◌, ℕ, ◌+◌, ◌<◌, ◌≤◌, Bool, true, false, cond, not, ◌&&◌, ◌||◌, List, [], ◌∷◌, take, get_or, length, refl, ap, sym, ◌∙◌, arith, All, nat_le, AllByRecursion, list_all, range_with_len, and_parts, false≢true, le-leb, leb-true, get_or_default, sum_by-cons, All-from_recursion, All-take, recursion_from_All, Order, ArePassedInOrder, sequential_count, is_move, is_sequential, Record, no_record, record_at, AllMayStart, is_affordable, is_free, is_open_at, is_passable, open_places}
 use Rattle.mscp_queue.proofs.Ordered.{one_if}
 use Rattle.mscp_queue.proofs.Lists.{every_of, every_weaker, filter_all, range_below}
 

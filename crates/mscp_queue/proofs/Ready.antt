@@ -1,24 +1,6 @@
 -- What a queue knows stays true: the target of each command, in which order they were passed, and which places are
 -- known.
-use Rattle.std.proofs.Common.{◌≡◌, ℕ, ◌+◌, ◌<◌, ◌≤◌, Bool, true, false, cond, not, List, [], ◌∷◌, ◌++◌, map, take, drop, get_or, length, refl, ap, sym, ◌∙◌, subst, arith}
-use Rattle.std.specs.Prelude.{All, filter, is_some, Option, Some, None}
-use Rattle.std.specs.List.{AllByRecursion, list_any}
-use Rattle.std.proofs.lemmas.Bool.{false≢true, lt-ltb, ltb-true}
-use Rattle.std.proofs.lemmas.List.{get_or-map, get_or_append_left, get_or_at, length-append, length-map, length-take-le}
-use Rattle.std.proofs.lemmas.List.Elements.{All-from_recursion}
-use Rattle.mscp_packet.specs.declared.command.Command.{Command}
-use Rattle.mscp_queue.specs.declared.target.Target.{Target}
-use Rattle.mscp_drive.specs.Shape.{Shape}
-use Rattle.mscp_events.specs.declared.block.Block.{Block}
-use Rattle.mscp_queue.specs.declared.drive.Drive.{Drive}
-use Rattle.mscp_events.specs.declared.connection.Connection.{Connection}
-use Rattle.mscp_queue.specs.declared.name.Name.{Name}
-use Rattle.mscp_queue.specs.Targets.{target_of, targets_of, no_target}
-use Rattle.mscp_queue.specs.Waiters.{Waiters}
-use Rattle.mscp_queue.specs.Kept.{ArePassedInOrder, CanBeShown, IsHeld, IsReady, IsWaitable, begun_name, place_served, place_without, units_of}
-use Rattle.mscp_queue.specs.Names.{name_on}
-use Rattle.mscp_queue.specs.Records.{Record, advanced, drive_at, fresh_record, has_name, is_in_service, is_unstarted, no_record, passed_by, record_at, step_charge}
-use Rattle.mscp_queue.specs.Serving.{IsServable, end_given, waiting_after}
+use Rattle.mscp_queue.proofs.Common.{◌≡◌, ℕ, ◌+◌, ◌<◌, ◌≤◌, Bool, true, false, cond, not, List, [], ◌∷◌, ◌++◌, map, take, drop, get_or, length, refl, ap, sym, ◌∙◌, subst, arith, All, filter, is_some, Option, Some, None, AllByRecursion, list_any, false≢true, lt-ltb, ltb-true, get_or-map, get_or_append_left, get_or_at, length-append, length-map, length-take-le, All-from_recursion, Command, Target, Shape, Block, Drive, Connection, Name, target_of, targets_of, no_target, Waiters, ArePassedInOrder, CanBeShown, IsHeld, IsReady, IsWaitable, begun_name, place_served, place_without, units_of, name_on, Record, advanced, drive_at, fresh_record, has_name, is_in_service, is_unstarted, no_record, passed_by, record_at, step_charge, IsServable, end_given, waiting_after, map-append, take-map, drop-map}
 use Rattle.mscp_queue.proofs.Targets.{targets_cut, targets_kept, targets_pushed, place_same}
 use Rattle.mscp_queue.proofs.Drives.{drive_place, known_at}
 use Rattle.mscp_queue.proofs.Held.{held_pushed, others_idle}
@@ -27,10 +9,7 @@ use Rattle.mscp_queue.proofs.Nexts.{held_left, served_without, waits_without}
 use Rattle.mscp_queue.proofs.Ordered.{passed_left}
 use Rattle.mscp_queue.proofs.Placed.{cut_at}
 use Rattle.mscp_queue.proofs.Turns.{StepMade, held_step, next_turn, units_step}
-use Rattle.std.proofs.lemmas.List.{map-append}
 use Rattle.mscp_queue.proofs.Placed.{map_map}
-use Rattle.std.proofs.lemmas.List.{take-map}
-use Rattle.std.proofs.lemmas.List.{drop-map}
 
 -- ---- the target of a command
 

@@ -1,19 +1,5 @@
 -- The costs on one drive are found anew, slot by slot.
-use Rattle.std.proofs.Common.{◌≡◌, ◌<◌, ◌≤◌, ℕ, Bool, true, false, ◌&&◌, nat_eq, List, set, get_or, length, ap, refl, arith}
-use Rattle.std.specs.Prelude.{slice_index_or}
-use Rattle.std.specs.Int.{bit_at}
-use Rattle.std.proofs.lemmas.Bool.{eq-eqb, eqb-true, ne_eqb}
-use Rattle.std.proofs.lemmas.List.{get_or-map, get_or-set_other, get_or-set_same, length-map, length-set}
-use Rattle.mscp_queue.specs.declared.target.Target.{Target}
-use Rattle.mscp_queue.specs.declared.drive.Drive.{Drive}
-use Rattle.mscp_queue.specs.declared.masks.Masks.{Masks}
-use Rattle.mscp_queue.specs.declared.slots.Slot.{Slot}
-use Rattle.mscp_queue.specs.declared.view.Choice.{Choice}
-use Rattle.mscp_queue.specs.Targets.{no_target}
-use Rattle.mscp_queue.specs.Candidates.{IsRecosted, cost_on, costing, no_choice, recosted}
-use Rattle.mscp_queue.specs.Masks.{IsSet, bit, has}
-use Rattle.mscp_queue.specs.Records.{Record}
-use Rattle.mscp_queue.specs.Slots.{AreKept, targets, shown}
+use Rattle.mscp_queue.proofs.Common.{◌≡◌, ◌<◌, ◌≤◌, ℕ, Bool, true, false, ◌&&◌, nat_eq, List, set, get_or, length, ap, refl, arith, slice_index_or, bit_at, eq-eqb, eqb-true, ne_eqb, get_or-map, get_or-set_other, get_or-set_same, length-map, length-set, Target, Drive, Masks, Slot, Choice, no_target, IsRecosted, cost_on, costing, no_choice, recosted, IsSet, bit, has, Record, AreKept, targets, shown}
 use Rattle.mscp_queue.proofs.Counted.{placed}
 use Rattle.mscp_queue.proofs.Masked.{one_bit, same_or, slot_has, slot_low}
 use Rattle.mscp_queue.proofs.Shown.{IsNumber, long_shown, slot_is}

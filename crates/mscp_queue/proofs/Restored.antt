@@ -1,22 +1,7 @@
 -- A queue as it was: its waiting commands in their slots, and what it knows of them.
-use Rattle.std.proofs.Common.{All, ◌≡◌, ◌+◌, ◌<◌, ◌≤◌, ◌^◌, ℕ, suc, Bool, true, false, List, [], ◌∷◌, ◌++◌, drop, get_or, length, append-nil, refl, ap, ◌∙◌, arith}
-use Rattle.std.specs.Prelude.{sum_by, is_some, unwrap_or, Option, Some, None, IfNone, IfSome}
-use Rattle.std.specs.List.{list_any, position}
-use Rattle.std.proofs.lemmas.Bool.{false≢true, ltb-false, true≢false}
-use Rattle.std.proofs.lemmas.List.{drop_all}
-use Rattle.std.proofs.lemmas.List.Quantifiers.{position-Some}
-use Rattle.mscp_queue.specs.declared.drive.Drive.{Drive}
-use Rattle.mscp_queue.specs.declared.name.Name.{Name}
-use Rattle.mscp_queue.specs.Kept.{ArePassedInOrder, IsHeld, IsReady, IsStillServable, begun_name, units_of}
-use Rattle.mscp_queue.specs.Waiters.{Waiters}
+use Rattle.mscp_queue.proofs.Common.{All, ◌≡◌, ◌+◌, ◌<◌, ◌≤◌, ◌^◌, ℕ, suc, Bool, true, false, List, [], ◌∷◌, ◌++◌, drop, get_or, length, append-nil, refl, ap, ◌∙◌, arith, sum_by, is_some, unwrap_or, Option, Some, None, IfNone, IfSome, list_any, position, false≢true, ltb-false, true≢false, drop_all, position-Some, Drive, Name, ArePassedInOrder, IsHeld, IsReady, IsStillServable, begun_name, units_of, Waiters, Slot, Shape, target_of, targets_of, AreDue, AreTimed, figure_in, Record, has_name, is_in_service, left_if_serving, left_of, no_record, targets, items}
 use Rattle.mscp_queue.proofs.Named.{same_is}
 use Rattle.mscp_queue.proofs.Placed.{position_any}
-use Rattle.mscp_queue.specs.declared.slots.Slot.{Slot}
-use Rattle.mscp_drive.specs.Shape.{Shape}
-use Rattle.mscp_queue.specs.Targets.{target_of, targets_of}
-use Rattle.mscp_queue.specs.Dues.{AreDue, AreTimed, figure_in}
-use Rattle.mscp_queue.specs.Records.{Record, has_name, is_in_service, left_if_serving, left_of, no_record}
-use Rattle.mscp_queue.specs.Slots.{targets, items}
 
 -- ---- lists
 

@@ -1,14 +1,5 @@
 -- The costs of a view in a row of their own, and the first of the least of them.
-use Rattle.std.proofs.Common.{◌≡◌, ◌∙◌, ◌+◌, ◌-◌, ◌<◌, ◌≤◌, ◌^◌, ℕ, List, ◌++◌, map, take, drop, length, get_or, set, inl, inr, ap, sym, subst, arith}
-use Rattle.std.specs.Prelude.{Option, None, Some, IfNone, IfSome, unwrap_or}
-use Rattle.std.specs.List.{CopiedTo, SameBelow, drop-map, take-map}
-use Rattle.std.proofs.lemmas.Bool.{cases_eq, cases_lt}
-use Rattle.std.proofs.lemmas.Nat.Bits.{bit_at-zero, bit_at_ones, bit_at_ones_above}
-use Rattle.std.proofs.lemmas.List.{get_or-append_right, get_or-drop, get_or-map, get_or-set_other, get_or-set_same, get_or-take, get_or_append_left, length-append, length-drop, length-map, length-set, length-take-le, get_or_default, map-append}
-use Rattle.mscp_queue.specs.declared.view.Choice.{Choice}
-use Rattle.mscp_queue.specs.Lanes.{IsLeast}
-use Rattle.mscp_queue.specs.Candidates.{costing, no_choice}
-use Rattle.mscp_queue.specs.Pickers.{IsRow, IsSweep, costs}
+use Rattle.mscp_queue.proofs.Common.{◌≡◌, ◌∙◌, ◌+◌, ◌-◌, ◌<◌, ◌≤◌, ◌^◌, ℕ, List, ◌++◌, map, take, drop, length, get_or, set, inl, inr, ap, sym, subst, arith, Option, None, Some, IfNone, IfSome, unwrap_or, CopiedTo, SameBelow, drop-map, take-map, cases_eq, cases_lt, bit_at-zero, bit_at_ones, bit_at_ones_above, get_or-append_right, get_or-drop, get_or-map, get_or-set_other, get_or-set_same, get_or-take, get_or_append_left, length-append, length-drop, length-map, length-set, length-take-le, get_or_default, map-append, Choice, IsLeast, costing, no_choice, IsRow, IsSweep, costs}
 
 -- the costs, one of which left
 left_costs : (view : List Choice) (place : ℕ)

@@ -1,18 +1,5 @@
 -- The ends of commands have the bodies of their endcodes.
-use Rattle.std.proofs.Common.{◌≡◌, ℕ, Bool, true, arith}
-use Rattle.std.specs.Prelude.{◌||◌, Option, Some, IfSome, is_some}
-use Rattle.std.proofs.lemmas.Bool.{false≢true}
-use Rattle.mscp_packet.specs.declared.command.Command.{Command}
-use Rattle.mscp_packet.specs.declared.command.Order.{Order}
-use Rattle.mscp_packet.specs.declared.end.BodyKind.{BodyKind}
-use Rattle.mscp_packet.specs.Ends.{IsOfKind, kind_of_body, kind_of_code, refused_body, zero_body}
-use Rattle.mscp_drive.specs.Shape.{Shape}
-use Rattle.mscp_events.specs.declared.block.Block.{Block}
-use Rattle.mscp_queue.specs.declared.drive.Drive.{Drive}
-use Rattle.mscp_queue.specs.Orders.{endcode, is_move, is_sequential}
-use Rattle.mscp_queue.specs.Outcomes.{IsCoded, aborted_end, moved_body, outcome_at, outcome_body}
-use Rattle.mscp_queue.specs.Records.{Record}
-use Rattle.mscp_queue.specs.Serving.{end_given}
+use Rattle.mscp_queue.proofs.Common.{◌≡◌, ℕ, Bool, true, arith, ◌||◌, Option, Some, IfSome, is_some, false≢true, Command, Order, BodyKind, IsOfKind, kind_of_body, kind_of_code, refused_body, zero_body, Shape, Block, Drive, endcode, is_move, is_sequential, IsCoded, aborted_end, moved_body, outcome_at, outcome_body, Record, end_given}
 
 of_kind : (o : Option BodyKind) → is_some o ≡ true → o ≡ Some (kind_of_body (zero_body o))
 of_kind o h1 = grind (arith, false≢true)

@@ -1,18 +1,5 @@
 -- What slots show once one of them holds something else.
-use Rattle.std.proofs.Common.{◌≡◌, ◌≢◌, ◌<◌, ◌+◌, ◌^◌, ◌⊎◌, inl, inr, ℕ, zero, suc, Bool, true, false, not, ◌&&◌, nat_eq, List, [], ◌∷◌, ◌++◌, map, set, take, drop, get_or, length, sym, subst, ap, ◌∙◌, refl, arith}
-use Rattle.std.specs.Prelude.{nat_lt, remove, slice_index_or}
-use Rattle.std.specs.List.{list_all}
-use Rattle.std.specs.Int.{bit_at}
-use Rattle.std.proofs.lemmas.Bool.{eq-eqb, eqb-false, le-ltb, lt-ltb, ne_eqb}
-use Rattle.std.proofs.lemmas.List.{drop-map, get_or_default, get_or-map, get_or-set_same, get_or-set_other, length-map, length-set, map-append, take-map}
-use Rattle.mscp_queue.specs.declared.target.Target.{Target}
-use Rattle.mscp_queue.specs.declared.slots.Slot.{Slot}
-use Rattle.mscp_queue.specs.declared.masks.Masks.{Masks}
-use Rattle.mscp_queue.specs.Masks.{AreMasks, AreSlots, HasCome, HasLeft, IsLowestFree, IsSet, fences, has, keeps_back}
-use Rattle.mscp_queue.specs.Orders.{is_sequential}
-use Rattle.mscp_queue.specs.Records.{Record, advanced, is_in_service, is_unstarted, no_record, passed_by}
-use Rattle.mscp_queue.specs.Targets.{no_target}
-use Rattle.mscp_queue.specs.Slots.{AreKept, held, is_unfenced, kind_at, kind_of, shown, slot_at, with_due, with_item}
+use Rattle.mscp_queue.proofs.Common.{◌≡◌, ◌≢◌, ◌<◌, ◌+◌, ◌^◌, ◌⊎◌, inl, inr, ℕ, zero, suc, Bool, true, false, not, ◌&&◌, nat_eq, List, [], ◌∷◌, ◌++◌, map, set, take, drop, get_or, length, sym, subst, ap, ◌∙◌, refl, arith, nat_lt, remove, slice_index_or, list_all, bit_at, eq-eqb, eqb-false, le-ltb, lt-ltb, ne_eqb, drop-map, get_or_default, get_or-map, get_or-set_same, get_or-set_other, length-map, length-set, map-append, take-map, Target, Slot, Masks, AreMasks, AreSlots, HasCome, HasLeft, IsLowestFree, IsSet, fences, has, keeps_back, is_sequential, Record, advanced, is_in_service, is_unstarted, no_record, passed_by, no_target, AreKept, held, is_unfenced, kind_at, kind_of, shown, slot_at, with_due, with_item}
 use Rattle.mscp_queue.proofs.Freed.{free_tells}
 use Rattle.mscp_queue.proofs.Departed.{masks_left}
 use Rattle.mscp_queue.proofs.Masked.{has_other, masks_pushed, masks_served, not_behind, not_here, off_bit, same_or, slot_has, slot_low}

@@ -1,22 +1,6 @@
 -- The places that may start, found one after the other.
-use Rattle.std.proofs.Common.{append-nil, ◌≡◌, ◌⊎◌, inl, inr, ℕ, zero, suc, ◌+◌, ◌-◌, ◌<◌, ◌≤◌, Bool, true, false, cond, not, ◌&&◌, List, [], ◌∷◌, ◌++◌, map, take, get_or, length, refl, ap, sym, ◌∙◌, arith}
-use Rattle.std.specs.Prelude.{All, filter, nat_eq, nat_le}
-use Rattle.std.specs.List.{AllByRecursion, list_all, range_with_len}
-use Rattle.std.proofs.lemmas.Bool.{eq-eqb, le-leb, leb-true, lt-leb, true≢false}
-use Rattle.std.proofs.lemmas.List.{get_or-map, get_or-drop, get_or-take, length-append, length-drop, length-map, length-take-le, map-append, take-map}
-use Rattle.std.proofs.lemmas.List.Elements.{All-from_recursion, All-take, filter-append, recursion_from_All}
-use Rattle.mscp_drive.specs.Shape.{Shape, one_block}
-use Rattle.mscp_queue.specs.declared.target.Target.{Target}
-use Rattle.mscp_queue.specs.declared.drive.Drive.{Drive}
-use Rattle.mscp_queue.specs.declared.view.Choice.{Choice}
-use Rattle.mscp_queue.specs.Targets.{target_of, targets_of, no_target, unit_place}
-use Rattle.mscp_queue.specs.Drives.{fresh_drive}
-use Rattle.mscp_queue.specs.Kept.{ArePassedInOrder, CanBeShown, IsShut, is_known, units_of}
-use Rattle.mscp_queue.specs.Masks.{Kind, keeps_back}
-use Rattle.mscp_queue.specs.Orders.{is_sequential}
-use Rattle.mscp_queue.specs.Records.{Record, drive_at, is_in_service, no_record, record_at}
-use Rattle.mscp_queue.specs.Slots.{is_unfenced_at, kinds_of, no_kind}
-use Rattle.mscp_queue.specs.Views.{choice_of, choices_at, fences, is_affordable, is_free, is_open_at, open_places}
+use Rattle.mscp_queue.proofs.Common.{append-nil, ◌≡◌, ◌⊎◌, inl, inr, ℕ, zero, suc, ◌+◌, ◌-◌, ◌<◌, ◌≤◌, Bool, true, false, cond, not, ◌&&◌, List, [], ◌∷◌, ◌++◌, map, take, get_or, length, refl, ap, sym, ◌∙◌, arith, All, filter, nat_eq, nat_le, AllByRecursion, list_all, range_with_len, eq-eqb, le-leb, leb-true, lt-leb, true≢false, get_or-map, get_or-drop, get_or-take, length-append, length-drop, length-map, length-take-le, map-append, take-map, All-from_recursion, All-take, filter-append, recursion_from_All, Shape, one_block, Target, Drive, Choice, target_of, targets_of, no_target, unit_place, fresh_drive, ArePassedInOrder, CanBeShown, IsShut, is_known, units_of, Kind, keeps_back, is_sequential, Record, drive_at, is_in_service, no_record, record_at, is_unfenced_at, kinds_of, no_kind, choice_of, choices_at, is_affordable, is_free, is_open_at, open_places}
+use Rattle.mscp_queue.specs.Views.{fences}
 use Rattle.mscp_queue.proofs.Targets.{place_same}
 use Rattle.mscp_queue.proofs.Drives.{apart_by_place}
 use Rattle.mscp_queue.proofs.Lists.{every_kept, every_weaker, range_below, range_more}

@@ -1,21 +1,5 @@
 -- A step of the record at a place, as it is planned and written.
-use Rattle.std.proofs.Common.{◌≡◌, ℕ, ◌+◌, ◌<◌, Bool, true, cond, List, [], ◌∷◌, ◌++◌, map, take, drop, set, get_or, length, refl, ap, sym, ◌∙◌, subst, arith}
-use Rattle.std.specs.Prelude.{is_some, Option, Some}
-use Rattle.std.specs.List.{refill}
-use Rattle.std.proofs.lemmas.List.{length-set}
-use Rattle.mscp_packet.specs.declared.command.Order.{Order}
-use Rattle.mscp_events.specs.declared.block.Block.{Block}
-use Rattle.mscp_queue.specs.declared.drive.Drive.{Drive}
-use Rattle.mscp_queue.specs.declared.name.Name.{Name}
-use Rattle.mscp_queue.specs.declared.plan.Plan.{Plan}
-use Rattle.mscp_queue.specs.declared.view.Choice.{Choice}
-use Rattle.mscp_queue.specs.Drives.{IsOnUnit}
-use Rattle.mscp_queue.specs.Kept.{IsHeld}
-use Rattle.mscp_queue.specs.Candidates.{AreCandidates}
-use Rattle.mscp_queue.specs.Lines.{Line}
-use Rattle.mscp_queue.specs.Masks.{IsSet}
-use Rattle.mscp_queue.specs.Records.{Record, advanced, drive_at, no_record, passed_by, record_at, step_charge}
-use Rattle.mscp_queue.specs.Serving.{IsNext, IsServable, drive_after, plan_of, state_left, touched}
+use Rattle.mscp_queue.proofs.Common.{◌≡◌, ℕ, ◌+◌, ◌<◌, Bool, true, cond, List, [], ◌∷◌, ◌++◌, map, take, drop, set, get_or, length, refl, ap, sym, ◌∙◌, subst, arith, is_some, Option, Some, refill, length-set, Order, Block, Drive, Name, Plan, Choice, IsOnUnit, IsHeld, AreCandidates, Line, IsSet, Record, advanced, drive_at, no_record, passed_by, record_at, step_charge, IsNext, IsServable, drive_after, plan_of, state_left, touched}
 use Rattle.mscp_queue.proofs.Targets.{cylinder_within, place_same}
 use Rattle.mscp_queue.proofs.Drives.{known_at, set_replaced}
 use Rattle.mscp_queue.proofs.CandidateLists.{candidates_served}

@@ -1,18 +1,6 @@
 -- What is left of records, and that no figure is over the bound.
-use Rattle.std.proofs.Common.{◌≡◌, ℕ, ◌+◌, ◌*◌, ◌^◌, ◌<◌, ◌≤◌, Bool, true, false, cond, List, [], ◌∷◌, ◌++◌, take, drop, length, arith}
-use Rattle.std.specs.Prelude.{filter, sum_by, All, Option}
-use Rattle.std.specs.List.{AllByRecursion, range_with_len}
-use Rattle.std.proofs.Math.Nat.{mul-le-mul_right}
-use Rattle.std.proofs.lemmas.List.Elements.{recursion_from_All}
-use Rattle.std.proofs.lemmas.List.FromFn.{map-range_with_len_more}
-use Rattle.std.proofs.lemmas.List.Sums.{sum_by-append, sum_by-cons}
-use Rattle.mscp_queue.specs.declared.drive.Drive.{Drive}
-use Rattle.mscp_events.specs.declared.connection.Connection.{Connection}
-use Rattle.mscp_queue.specs.declared.name.Name.{Name}
-use Rattle.mscp_queue.specs.Kept.{IsHeld}
-use Rattle.mscp_queue.specs.Figures.{figure_at, figures_from, looked_at}
+use Rattle.mscp_queue.proofs.Common.{◌≡◌, ℕ, ◌+◌, ◌*◌, ◌^◌, ◌<◌, ◌≤◌, Bool, true, false, cond, List, [], ◌∷◌, ◌++◌, take, drop, length, arith, filter, sum_by, All, Option, AllByRecursion, range_with_len, mul-le-mul_right, recursion_from_All, map-range_with_len_more, sum_by-append, sum_by-cons, Drive, Connection, Name, IsHeld, figure_at, figures_from, looked_at, Record, is_in_service, left_of, no_record, record_at}
 use Rattle.mscp_queue.proofs.Placed.{cut_at}
-use Rattle.mscp_queue.specs.Records.{Record, is_in_service, left_of, no_record, record_at}
 
 -- no more is left than the longest
 abbrev pub IsShort : ℕ → Record → Type 0

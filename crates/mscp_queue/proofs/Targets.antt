@@ -1,20 +1,5 @@
 -- The target of a command is where its drive and its first block are found.
-use Rattle.std.proofs.Common.{◌≡◌, ℕ, ◌+◌, ◌<◌, ◌≤◌, true, cond, not, List, [], ◌∷◌, ◌++◌, map, take, drop, get_or, length, refl, ap, sym, ◌∙◌, subst, arith}
-use Rattle.std.specs.Prelude.{All, nat_eq, unwrap_or}
-use Rattle.std.specs.List.{position}
-use Rattle.std.proofs.Math.Nat.{div-mul-le_self}
-use Rattle.std.proofs.lemmas.Nat.{le-div}
-use Rattle.std.proofs.lemmas.List.{drop-map, get_or-map, get_or_default, map-append, take-map}
-use Rattle.mscp_packet.specs.declared.command.Command.{Command}
-use Rattle.mscp_drive.specs.Shape.{Shape, cylinder_of, last_cylinder}
-use Rattle.mscp_queue.specs.declared.target.Target.{Target}
-use Rattle.mscp_queue.specs.declared.drive.Drive.{Drive}
-use Rattle.mscp_events.specs.declared.connection.Connection.{Connection}
-use Rattle.mscp_queue.specs.Targets.{IsTargeted, target_of, targets_of, unit_place}
-use Rattle.mscp_queue.specs.Drives.{IsOnUnit, drive_of, has_number}
-use Rattle.mscp_queue.specs.Kept.{CanBeShown, HasBlocks, is_known, units_of}
-use Rattle.mscp_queue.specs.Orders.{first_block}
-use Rattle.mscp_queue.specs.Records.{Record, advanced, drive_at, fresh_record, no_record, passed_by, record_at}
+use Rattle.mscp_queue.proofs.Common.{◌≡◌, ℕ, ◌+◌, ◌<◌, ◌≤◌, true, cond, not, List, [], ◌∷◌, ◌++◌, map, take, drop, get_or, length, refl, ap, sym, ◌∙◌, subst, arith, All, nat_eq, unwrap_or, position, div-mul-le_self, le-div, drop-map, get_or-map, get_or_default, map-append, take-map, Command, Shape, cylinder_of, last_cylinder, Target, Drive, Connection, IsTargeted, target_of, targets_of, unit_place, IsOnUnit, drive_of, has_number, CanBeShown, HasBlocks, is_known, units_of, first_block, Record, advanced, drive_at, fresh_record, no_record, passed_by, record_at}
 use Rattle.mscp_queue.proofs.Drives.{drive_place, known_at, known_inside}
 use Rattle.mscp_queue.proofs.Placed.{cut_at, map_map}
 use Rattle.mscp_queue.proofs.Held.{some_steps}

@@ -1,23 +1,5 @@
 -- A step of the record that may be served next is a turn among the others, and leaves each head on its unit.
-use Rattle.std.proofs.Common.{◌≡◌, ℕ, suc, ◌+◌, ◌<◌, ◌≤◌, Bool, true, false, cond, not, ◌&&◌, List, [], ◌∷◌, ◌++◌, map, take, drop, length, refl, ap, sym, ◌∙◌, subst, arith, append_assoc}
-use Rattle.std.specs.Prelude.{filter, nat_eq, nat_le, is_some, slice_index_or, unwrap_or, Option, Some, None}
-use Rattle.std.specs.List.{AllByRecursion}
-use Rattle.std.proofs.lemmas.List.Elements.{All-from_recursion, recursion_from_All}
-use Rattle.std.proofs.lemmas.Bool.{and_parts, eq-eqb, eqb-false, eqb-true, leb-true, ltb-true, ne_eqb, false≢true, true≢false}
-use Rattle.mscp_packet.specs.declared.command.Order.{Order}
-use Rattle.mscp_packet.specs.declared.end.End.{End}
-use Rattle.mscp_drive.specs.Shape.{Shape, one_block}
-use Rattle.mscp_drive.specs.UnitList.{IsUnitList, NumbersRise, unit_found}
-use Rattle.mscp_events.specs.declared.block.Block.{Block}
-use Rattle.mscp_queue.specs.declared.drive.Drive.{Drive}
-use Rattle.mscp_queue.specs.declared.name.Name.{Name}
-use Rattle.mscp_queue.specs.Orders.{first_block, is_move, order_weight}
-use Rattle.mscp_queue.specs.Drives.{IsOnUnit, drive_of, has_number, replaced}
-use Rattle.mscp_queue.specs.Kept.{IsHeld, IsInside, IsKept, units_of}
-use Rattle.mscp_queue.specs.Records.{Record, advanced, drive_at, step_charge, is_in_service, is_unstarted, no_record, passed_by, record_at}
-use Rattle.mscp_queue.specs.Serving.{IsServable, drive_after, end_given, touched}
-use Rattle.mscp_queue.specs.Views.{is_affordable, is_free, is_open_at}
-use Rattle.mscp_queue.specs.Pairs.{Pairs}
+use Rattle.mscp_queue.proofs.Common.{◌≡◌, ℕ, suc, ◌+◌, ◌<◌, ◌≤◌, Bool, true, false, cond, not, ◌&&◌, List, [], ◌∷◌, ◌++◌, map, take, drop, length, refl, ap, sym, ◌∙◌, subst, arith, append_assoc, filter, nat_eq, nat_le, is_some, slice_index_or, unwrap_or, Option, Some, None, AllByRecursion, All-from_recursion, recursion_from_All, and_parts, eq-eqb, eqb-false, eqb-true, leb-true, ltb-true, ne_eqb, false≢true, true≢false, Order, End, Shape, one_block, IsUnitList, NumbersRise, unit_found, Block, Drive, Name, first_block, is_move, order_weight, IsOnUnit, drive_of, has_number, replaced, IsHeld, IsInside, IsKept, units_of, Record, advanced, drive_at, step_charge, is_in_service, is_unstarted, no_record, passed_by, record_at, IsServable, drive_after, end_given, touched, is_affordable, is_free, is_open_at, Pairs}
 use Rattle.mscp_queue.proofs.Lists.{every_mapped, every_of, every_parts, every_weaker, pairs_middle}
 use Rattle.mscp_queue.proofs.Placed.{cut_at, find_first}
 use Rattle.mscp_queue.proofs.Held.{AreIdle, IsLeft, IsTurn, held_turn, heads_replaced, others_idle, units_replaced}

@@ -1,6 +1,5 @@
 -- A charge of 0 leaves each record as it was.
-use Rattle.std.proofs.Common.{◌≡◌, List, [], ◌∷◌, map, refl, ap, ◌∙◌, ◌+◌, ℕ, arith}
-use Rattle.mscp_queue.specs.Records.{Record, passed_by}
+use Rattle.mscp_queue.proofs.Common.{◌≡◌, List, [], ◌∷◌, map, refl, ap, ◌∙◌, ◌+◌, ℕ, arith, Record, passed_by}
 
 same : (n : ℕ) → n + 0 ≡ n
 same n = omega arith

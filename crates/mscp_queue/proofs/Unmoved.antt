@@ -1,9 +1,5 @@
 -- What is made of a record's connection and command alone stays, whatever its command is passed by or served.
-use Rattle.std.proofs.Common.{◌≡◌, ℕ, ◌+◌, ◌<◌, Bool, true, false, cond, List, [], ◌∷◌, ◌++◌, map, take, drop, length, arith}
-use Rattle.std.proofs.lemmas.List.{drop-map, map-append, take-map}
-use Rattle.mscp_packet.specs.declared.command.Command.{Command}
-use Rattle.mscp_events.specs.declared.connection.Connection.{Connection}
-use Rattle.mscp_queue.specs.Records.{Record, advanced, no_record, passed_by, record_at}
+use Rattle.mscp_queue.proofs.Common.{◌≡◌, ℕ, ◌+◌, ◌<◌, Bool, true, false, cond, List, [], ◌∷◌, ◌++◌, map, take, drop, length, arith, drop-map, map-append, take-map, Command, Connection, Record, advanced, no_record, passed_by, record_at}
 use Rattle.mscp_queue.proofs.Placed.{cut_at, map_map}
 
 -- what is made of each

@@ -1,18 +1,5 @@
 -- What is told of the step that is begun is told again.
-use Rattle.std.proofs.Common.{◌≡◌, ℕ, ◌+◌, ◌<◌, Bool, true, false, List, length, refl, ap, arith}
-use Rattle.std.specs.Prelude.{option_map, IfSome, Some, None, if◌then◌else◌}
-use Rattle.std.specs.List.{position}
-use Rattle.std.proofs.lemmas.Bool.{and_parts, false≢true, lt-ltb}
-use Rattle.mscp_packet.specs.declared.command.Order.{Order}
-use Rattle.mscp_drive.specs.Shape.{Shape}
-use Rattle.mscp_queue.specs.declared.drive.Drive.{Drive}
-use Rattle.mscp_queue.specs.declared.upcoming.Upcoming.{Upcoming}
-use Rattle.mscp_queue.specs.Drives.{drive_of}
-use Rattle.mscp_queue.specs.Kept.{AreApart, IsInside, IsKept, IsOfUnit, is_known, names}
-use Rattle.mscp_queue.specs.Orders.{first_block, order_weight}
-use Rattle.mscp_queue.specs.Outcomes.{touches}
-use Rattle.mscp_queue.specs.Records.{Record, drive_at, has_name, name_of, record_at}
-use Rattle.mscp_queue.specs.Serving.{has_block, upcoming_begun, upcoming_of}
+use Rattle.mscp_queue.proofs.Common.{◌≡◌, ℕ, ◌+◌, ◌<◌, Bool, true, false, List, length, refl, ap, arith, option_map, IfSome, Some, None, if◌then◌else◌, position, and_parts, false≢true, lt-ltb, Order, Shape, Drive, Upcoming, drive_of, AreApart, IsInside, IsKept, IsOfUnit, is_known, names, first_block, order_weight, touches, Record, drive_at, has_name, name_of, record_at, has_block, upcoming_begun, upcoming_of}
 use Rattle.mscp_queue.proofs.Aborts.{aborts_at}
 use Rattle.mscp_queue.proofs.Nexts.{name_found}
 use Rattle.mscp_queue.proofs.Turns.{inside_of}

@@ -1,14 +1,7 @@
 -- Who keeps a command back, found one after the other.
-use Rattle.std.proofs.Common.{◌≡◌, ℕ, zero, suc, ◌+◌, ◌≤◌, Bool, cond, not, ◌&&◌, ◌||◌, List, [], ◌∷◌, ◌++◌, take, length, refl, ap, sym, ◌∙◌, append-nil, subst, arith}
-use Rattle.std.specs.Prelude.{nat_le}
-use Rattle.std.specs.List.{list_all}
-use Rattle.std.proofs.lemmas.List.{length-append, map-append}
-use Rattle.std.proofs.lemmas.List.Elements.{filter-append}
-use Rattle.std.proofs.lemmas.List.Folds.{list_all_more}
-use Rattle.mscp_queue.specs.declared.why.Holder.{Holder}
-use Rattle.mscp_queue.specs.Records.{Record, no_record, record_at, charge}
-use Rattle.mscp_queue.specs.Views.{fences, is_open}
-use Rattle.mscp_queue.specs.Why.{holder_of, holders_among, is_nobody, keeps_back}
+use Rattle.mscp_queue.proofs.Common.{◌≡◌, ℕ, zero, suc, ◌+◌, ◌≤◌, Bool, cond, not, ◌&&◌, ◌||◌, List, [], ◌∷◌, ◌++◌, take, length, refl, ap, sym, ◌∙◌, append-nil, subst, arith, nat_le, list_all, length-append, map-append, filter-append, list_all_more, Holder, Record, no_record, record_at, charge, is_open, holder_of, holders_among, is_nobody}
+use Rattle.mscp_queue.specs.Views.{fences}
+use Rattle.mscp_queue.specs.Why.{keeps_back}
 use Rattle.mscp_queue.proofs.Lists.{range_more}
 
 -- what is known of those that were looked at: who of them keeps the record at the place back

@@ -1,11 +1,5 @@
 -- The first line of a text, and the first word of a line.
-use Rattle.std.proofs.Common.{◌≡◌, ◌≢◌, get_or, ◌==◌, ◌<◌, ◌≤◌, ◌+◌, suc, ℕ, Bool, true, false, cond, List, [], ◌∷◌, length, take, drop, map, refl, sym, ap, ◌∙◌, arith}
-use Rattle.std.specs.Prelude.{nat_lt, position, unwrap_or, Some, None}
-use Rattle.std.proofs.lemmas.Bool.Decides.{nat_tests}
-use Rattle.std.specs.List.{filter, slice_split, position_or_len}
-use Rattle.std.specs.Str.Lines.{strip_carriage_return}
-use Rattle.std.proofs.lemmas.Grind.{common_steps}
-use Rattle.mscp_reader.specs.Lexical.{lines, words, without_empty_last, is_some_word}
+use Rattle.mscp_reader.proofs.Common.{◌≡◌, ◌≢◌, get_or, ◌==◌, ◌<◌, ◌≤◌, ◌+◌, suc, ℕ, Bool, true, false, cond, List, [], ◌∷◌, length, take, drop, map, refl, sym, ap, ◌∙◌, arith, nat_lt, position, unwrap_or, Some, None, nat_tests, filter, slice_split, position_or_len, strip_carriage_return, common_steps, lines, words, without_empty_last, is_some_word}
 
 -- how many stand before the first that passes, or all
 abbrev pub front_len : (ℕ → Bool) → List ℕ → ℕ

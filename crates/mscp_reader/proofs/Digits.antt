@@ -1,15 +1,5 @@
 -- Decimal digits.
-use Rattle.std.proofs.Common.{◌≡◌, ◌<◌, ◌≤◌, ◌+◌, ◌-◌, ◌*◌, ◌^◌, ℕ, true, List, take, length, get_or, arith}
-use Rattle.std.specs.Fmt.{decimal}
-use Rattle.std.proofs.lemmas.Fmt.{length-decimal-le}
-use Rattle.std.specs.List.{list_all}
-use Rattle.std.specs.Str.Parse.{digits_value}
-use Rattle.std.proofs.lemmas.Bool.Decides.{nat_tests}
-use Rattle.std.proofs.lemmas.Grind.{common_steps}
-use Rattle.std.proofs.lemmas.Int.Digits.{digits_value_more}
-use Rattle.std.proofs.lemmas.Str.{digit_value_digit}
-use Rattle.std.proofs.lemmas.List.Folds.{list_all_more}
-use Rattle.mscp_reader.specs.Lexical.{is_digit}
+use Rattle.mscp_reader.proofs.Common.{◌≡◌, ◌<◌, ◌≤◌, ◌+◌, ◌-◌, ◌*◌, ◌^◌, ℕ, true, List, take, length, get_or, arith, decimal, length-decimal-le, list_all, digits_value, nat_tests, common_steps, digits_value_more, digit_value_digit, list_all_more, is_digit}
 
 pub value_more : (word : List ℕ) (i v : ℕ) → i < length word → 48 ≤ get_or word i 0 → get_or word i 0 ≤ 57
     → v ≡ digits_value 10 (take i word) → v * 10 + (get_or word i 0 - 48) ≡ digits_value 10 (take (i + 1) word)

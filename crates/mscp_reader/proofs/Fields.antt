@@ -1,8 +1,5 @@
 -- So many fields are one or two, and those behind them.
-use Rattle.std.proofs.Common.{◌≡◌, ℕ, List, [], ◌∷◌, refl}
-use Rattle.std.specs.Prelude.{Ok}
-use Rattle.mscp_packet.specs.Steps.{◌>>=◌}
-use Rattle.mscp_reader.specs.Requests.{two, four, five}
+use Rattle.mscp_reader.proofs.Common.{◌≡◌, ℕ, List, [], ◌∷◌, refl, Ok, ◌>>=◌, two, four, five}
 
 pub four_by_two : (a b : List ℕ) (rest : List (List ℕ))
     → four (a ∷ b ∷ rest) ≡ (two rest >>= λ f. Ok (a, b, f.0, f.1))

@@ -1,15 +1,6 @@
 -- What a line does to a header.
-use Rattle.std.proofs.Common.{◌≡◌, ◌+◌, ◌⊎◌, ⊎_elim, inl, inr, ℕ, List, [], ◌∷◌, refl, ap, sym, ◌∙◌}
-use Rattle.std.specs.Prelude.{Result, Ok, Err}
-use Rattle.mscp_packet.specs.Steps.{◌>>=◌, Gives}
-use Rattle.mscp_events.specs.Settings.{Settings}
-use Rattle.mscp_events.specs.declared.event.Event.{Event}
-use Rattle.mscp_reader.specs.Lexical.{lines}
-use Rattle.mscp_reader.specs.declared.fault.Cause.{Cause}
+use Rattle.mscp_reader.proofs.Common.{◌≡◌, ◌+◌, ◌⊎◌, ⊎_elim, inl, inr, ℕ, List, [], ◌∷◌, refl, ap, sym, ◌∙◌, Result, Ok, Err, ◌>>=◌, Gives, Settings, Event, lines, Cause, ScriptFault, Place, HasGone, IsInHeader, after_line, next, next_unless_skipped, said_at, Heads, Leads, gone_or, headed, headed_on, in_line, lines_outcome, rest_headed, rest_outcome}
 use Rattle.mscp_reader.specs.declared.fault.Cause.TheVariants as causes
-use Rattle.mscp_reader.specs.declared.fault.ScriptFault.{ScriptFault}
-use Rattle.mscp_reader.specs.Grammar.{Place, HasGone, IsInHeader, after_line, next, next_unless_skipped, said_at}
-use Rattle.mscp_reader.specs.Outcome.{Heads, Leads, gone_or, headed, headed_on, in_line, lines_outcome, rest_headed, rest_outcome}
 use Rattle.mscp_reader.proofs.Outcomes.{ended_early, from_ok}
 
 -- before the header's end

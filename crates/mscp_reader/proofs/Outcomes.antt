@@ -1,20 +1,6 @@
 -- What a line does to the outcome.
-use Rattle.std.proofs.Common.{◌≡◌, ◌+◌, ◌≤◌, ◌++◌, ℕ, List, [], ◌∷◌, length, drop, refl, sym, ap, ◌∙◌, arith}
-use Rattle.std.specs.Prelude.{codes, Option, Some, None, Result, Ok, Err}
-use Rattle.std.proofs.lemmas.Bool.Decides.{nat_tests}
-use Rattle.std.proofs.lemmas.List.{append-nil}
-use Rattle.mscp_packet.specs.Steps.{◌>>=◌, Gives}
-use Rattle.mscp_reader.specs.declared.fault.Cause.{Cause}
+use Rattle.mscp_reader.proofs.Common.{◌≡◌, ◌+◌, ◌≤◌, ◌++◌, ℕ, List, [], ◌∷◌, length, drop, refl, sym, ap, ◌∙◌, arith, codes, Option, Some, None, Result, Ok, Err, nat_tests, append-nil, ◌>>=◌, Gives, Cause, ScriptFault, Both, Settings, Event, lines, request, Place, next_unless_skipped, Begins, HasCredits, HasLongest, HasTimeout, HasUnits, HasGone, IsInHeader, asked_after, said_at, next, after_line, credits, limit, limits, first_units, unit_or_go, Sets, all_read, asked_next, budget_of, in_line, limited, lines_outcome, rest_outcome, Limit}
 use Rattle.mscp_reader.specs.declared.fault.Cause.TheVariants as causes
-use Rattle.mscp_reader.specs.declared.fault.ScriptFault.{ScriptFault}
-use Rattle.mscp_events.specs.Both.{Both}
-use Rattle.mscp_events.specs.Settings.{Settings}
-use Rattle.mscp_events.specs.declared.event.Event.{Event}
-use Rattle.mscp_reader.specs.Lexical.{lines}
-use Rattle.mscp_reader.specs.Requests.{request}
-use Rattle.mscp_reader.specs.Grammar.{Place, next_unless_skipped, Begins, HasCredits, HasLongest, HasTimeout, HasUnits, HasGone, IsInHeader, asked_after, said_at, next, after_line, credits, limit, limits, first_units, unit_or_go}
-use Rattle.mscp_reader.specs.Outcome.{Sets, all_read, asked_next, budget_of, in_line, limited, lines_outcome, rest_outcome}
-use Rattle.mscp_reader.specs.declared.header.Limit.{Limit}
 use Rattle.mscp_reader.specs.declared.header.Limit.TheVariants as ways
 
 pub from_ok : {A : Type 0} (n : ℕ) (r : Result A Cause) (x : A) → in_line n r ≡ Ok x → r ≡ Ok x

@@ -1,27 +1,8 @@
 -- Plain lines: what is cut off them, and what they say.
-use Rattle.std.proofs.Common.{◌≡◌, ◌<◌, ◌≤◌, ◌+◌, ◌-◌, ◌==◌, ◌&&◌, ◌∙◌, ℕ, Bool, true, false, not, suc, zero, subst, map, List, [], ◌∷◌, ◌++◌, length, take, drop, get_or, refl, sym, ap, arith, Ok, Err}
-use Rattle.std.specs.Prelude.{position, unwrap_or, nat_le, nat_lt, if◌then◌else◌, replicate, Some, Result}
-use Rattle.std.specs.List.{filter, list_all, slice_split}
-use Rattle.std.specs.Str.Lines.{strip_carriage_return}
-use Rattle.std.proofs.lemmas.Bool.{and_parts, and_from}
-use Rattle.std.proofs.lemmas.Bool.Decides.{nat_tests}
-use Rattle.std.proofs.lemmas.List.{append_assoc, append-nil, length-append, length-drop, length-take-le, take-append-drop, take_all}
-use Rattle.std.specs.Str.Parse.{digits_value}
-use Rattle.mscp_packet.specs.declared.command.Order.{Order}
+use Rattle.mscp_reader.proofs.Common.{◌≡◌, ◌<◌, ◌≤◌, ◌+◌, ◌-◌, ◌==◌, ◌&&◌, ◌∙◌, ℕ, Bool, true, false, not, suc, zero, subst, map, List, [], ◌∷◌, ◌++◌, length, take, drop, get_or, refl, sym, ap, arith, Ok, Err, position, unwrap_or, nat_le, nat_lt, if◌then◌else◌, replicate, Some, Result, filter, list_all, slice_split, strip_carriage_return, and_parts, and_from, nat_tests, append_assoc, append-nil, length-append, length-drop, length-take-le, take-append-drop, take_all, digits_value, Order, MoveKind, is_comment, is_digit, is_numeral, is_printed, is_some_word, lines, narrow, number, said, steps_in, wide, without_empty_last, words, Asks, Cuts, CutsWord, Ends, IsApart, IsNumeral, IsPlain, is_letter, asked, event_form, form_of, message_form, plain_form, request, sent, fitting, said_at, asked_next, Form, Cause, Good, First, Event}
 use Rattle.mscp_packet.specs.declared.command.Order.TheVariants as orders
-use Rattle.mscp_packet.specs.declared.command.MoveKind.{MoveKind}
-use Rattle.mscp_reader.specs.Lexical.{is_comment, is_digit, is_numeral, is_printed, is_some_word, lines, narrow, number, said, steps_in, wide, without_empty_last, words}
-use Rattle.mscp_reader.specs.Plain.{Asks, Cuts, CutsWord, Ends, IsApart, IsNumeral, IsPlain, is_letter}
-use Rattle.mscp_reader.specs.Requests.{asked, event_form, form_of, message_form, plain_form, request, sent}
-use Rattle.mscp_reader.specs.Grammar.{fitting, said_at}
-use Rattle.mscp_reader.specs.Outcome.{asked_next}
-use Rattle.mscp_reader.specs.declared.events.Form.{Form}
 use Rattle.mscp_reader.specs.declared.events.Form.TheVariants as forms
-use Rattle.mscp_reader.specs.declared.fault.Cause.{Cause}
 use Rattle.mscp_reader.specs.declared.fault.Cause.TheVariants as causes
-use Rattle.mscp_events.specs.declared.block.Block.TheVariants.{Good}
-use Rattle.mscp_events.specs.declared.connection.Connection.TheVariants.{First}
-use Rattle.mscp_events.specs.declared.event.Event.{Event}
 use Rattle.mscp_events.specs.declared.event.Event.TheVariants as events
 use Rattle.mscp_reader.proofs.Cuts.{front_len, front_len_is, parts_after, split_parts, words_none}
 

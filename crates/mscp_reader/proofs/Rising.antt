@@ -1,13 +1,5 @@
 -- A list of units with one more.
-use Rattle.std.proofs.Common.{◌≡◌, ◌<◌, ◌+◌, ◌++◌, ℕ, zero, suc, Bool, true, false, ◌&&◌, List, [], ◌∷◌, length, get_or, refl, arith, ⊎_elim}
-use Rattle.std.specs.Prelude.{nat_lt}
-use Rattle.std.specs.List.{list_all}
-use Rattle.std.proofs.lemmas.Bool.{cases_lt}
-use Rattle.std.proofs.lemmas.Bool.Decides.{nat_tests}
-use Rattle.std.proofs.lemmas.Grind.{common_steps}
-use Rattle.mscp_drive.specs.Shape.{Shape}
-use Rattle.mscp_reader.specs.Grammar.{has_room}
-use Rattle.mscp_drive.specs.UnitList.{IsUnitList, NumbersRise}
+use Rattle.mscp_reader.proofs.Common.{◌≡◌, ◌<◌, ◌+◌, ◌++◌, ℕ, zero, suc, Bool, true, false, ◌&&◌, List, [], ◌∷◌, length, get_or, refl, arith, ⊎_elim, nat_lt, list_all, cases_lt, nat_tests, common_steps, Shape, has_room, IsUnitList, NumbersRise}
 
 both : (a b : Bool) → (a && b) ≡ true → (a ≡ true) × (b ≡ true)
 both true true e = (refl, refl)

@@ -1,15 +1,6 @@
 -- The outcome of all lines is that the script is read, or its first fault.
-use Rattle.std.proofs.Common.{◌≡◌, ◌≤◌, ◌+◌, ◌++◌, ◌⊎◌, inl, inr, ℕ, List, [], ◌∷◌, length, refl, sym, ap, subst, ◌∙◌, arith, ⊎_elim}
-use Rattle.std.specs.Prelude.{Result, Ok, Err}
-use Rattle.mscp_events.specs.Settings.{Settings}
-use Rattle.mscp_events.specs.declared.event.Event.{Event}
-use Rattle.mscp_packet.specs.Steps.{◌>>=◌}
-use Rattle.mscp_reader.specs.Lexical.{lines}
-use Rattle.mscp_reader.specs.declared.fault.Cause.{Cause}
+use Rattle.mscp_reader.proofs.Common.{◌≡◌, ◌≤◌, ◌+◌, ◌++◌, ◌⊎◌, inl, inr, ℕ, List, [], ◌∷◌, length, refl, sym, ap, subst, ◌∙◌, arith, ⊎_elim, Result, Ok, Err, Settings, Event, ◌>>=◌, lines, Cause, ScriptFault, Place, Begins, HasGone, IsInHeader, after_line, after_lines, Reads, IsFault, in_line, lines_outcome, all_read}
 use Rattle.mscp_reader.specs.declared.fault.Cause.TheVariants as causes
-use Rattle.mscp_reader.specs.declared.fault.ScriptFault.{ScriptFault}
-use Rattle.mscp_reader.specs.Grammar.{Place, Begins, HasGone, IsInHeader, after_line, after_lines, Reads, IsFault}
-use Rattle.mscp_reader.specs.Outcome.{in_line, lines_outcome, all_read}
 
 -- ---- read
 

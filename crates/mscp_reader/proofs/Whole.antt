@@ -1,17 +1,6 @@
 -- A script is read, or has its first fault, just where its outcome says so. So it has one meaning.
-use Rattle.std.proofs.Common.{◌≡◌, ◌<◌, ◌≤◌, ◌+◌, ◌++◌, inl, ℕ, List, [], ◌∷◌, length, Bool, true, false, cond, refl, sym, ap, subst, ◌∙◌, arith, ⊎_elim}
-use Rattle.std.specs.Prelude.{nat_lt, Result, Ok, Err}
-use Rattle.std.proofs.lemmas.Bool.Decides.{nat_tests}
-use Rattle.mscp_events.specs.Settings.{Settings}
-use Rattle.mscp_events.specs.declared.event.Event.{Event}
-use Rattle.mscp_packet.specs.Steps.{◌>>=◌}
-use Rattle.mscp_reader.specs.Lexical.{lines}
-use Rattle.mscp_reader.specs.declared.fault.Cause.{Cause}
+use Rattle.mscp_reader.proofs.Common.{◌≡◌, ◌<◌, ◌≤◌, ◌+◌, ◌++◌, inl, ℕ, List, [], ◌∷◌, length, Bool, true, false, cond, refl, sym, ap, subst, ◌∙◌, arith, ⊎_elim, nat_lt, Result, Ok, Err, nat_tests, Settings, Event, ◌>>=◌, lines, Cause, ScriptFault, ReadFault, Place, Begins, HasGone, IsInHeader, after_line, after_lines, Reads, IsAtFault, HasNoGo, IsFault, in_line, lines_outcome, script_outcome, Tells}
 use Rattle.mscp_reader.specs.declared.fault.Cause.TheVariants as causes
-use Rattle.mscp_reader.specs.declared.fault.ScriptFault.{ScriptFault}
-use Rattle.mscp_reader.specs.declared.fault.ReadFault.{ReadFault}
-use Rattle.mscp_reader.specs.Grammar.{Place, Begins, HasGone, IsInHeader, after_line, after_lines, Reads, IsAtFault, HasNoGo, IsFault}
-use Rattle.mscp_reader.specs.Outcome.{in_line, lines_outcome, script_outcome, Tells}
 use Rattle.mscp_reader.proofs.Outcomes.{ended_early}
 use Rattle.mscp_reader.proofs.Sound.{is_read, is_fault}
 

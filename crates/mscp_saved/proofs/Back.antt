@@ -1,28 +1,10 @@
 -- The bytes of a part say that part.
-use Rattle.std.proofs.Common.{◌≡◌, ℕ, ◌<◌, ◌^◌, Bool, true, ◌||◌, List, [], ◌++◌, take, drop, length, refl, ap, sym, subst, ◌∙◌, arith}
-use Rattle.std.specs.Prelude.{slice_index, nat_eq, Option}
-use Rattle.std.proofs.lemmas.Bool.{false≢true, lt-ltb}
-use Rattle.mscp_packet.specs.Commands.{HasRange, command_bytes, command_of}
-use Rattle.mscp_packet.specs.Ends.{HasEndRange, IsOfKind}
-use Rattle.mscp_packet.specs.declared.command.Command.{Command}
+use Rattle.mscp_saved.proofs.Common.{◌≡◌, ℕ, ◌<◌, ◌^◌, Bool, true, ◌||◌, List, [], ◌++◌, take, drop, length, refl, ap, sym, subst, ◌∙◌, arith, slice_index, nat_eq, Option, false≢true, lt-ltb, command_bytes, command_of, HasEndRange, IsOfKind, Command, Order, End, EndBody, num, eight, four, two, Shape, Drive, Connection, Name, is_move, is_sequential, order_weight, Record, HasDriveRange, HasSizesRange, HasWaitingRange, connection_in, drive_in, end_in, name_in, sized, waiting_in, begun_connection, begun_reference, connection_byte, drive_bytes, end_cell, flag_byte, padded, waiting_bytes}
+use Rattle.mscp_packet.specs.Commands.{HasRange}
 use Rattle.mscp_packet.specs.declared.command.MoveKind.TheVariants as moves
-use Rattle.mscp_packet.specs.declared.command.Order.{Order}
 use Rattle.mscp_packet.specs.declared.command.Order.TheVariants as orders
-use Rattle.mscp_packet.specs.declared.end.End.{End}
-use Rattle.mscp_packet.specs.declared.end.EndBody.{EndBody}
 use Rattle.mscp_packet.specs.declared.end.EndBody.TheVariants as bodies
-use Rattle.mscp_packet.specs.Number.{num}
-use Rattle.mscp_packet.proofs.Numbers.{eight, four, two}
-use Rattle.mscp_drive.specs.Shape.{Shape}
-use Rattle.mscp_queue.specs.declared.drive.Drive.{Drive}
-use Rattle.mscp_events.specs.declared.connection.Connection.{Connection}
-use Rattle.mscp_queue.specs.declared.name.Name.{Name}
-use Rattle.mscp_queue.specs.Orders.{is_move, is_sequential, order_weight}
-use Rattle.mscp_queue.specs.Records.{Record}
-use Rattle.mscp_saved.specs.Ranges.{HasDriveRange, HasSizesRange, HasWaitingRange}
-use Rattle.mscp_saved.specs.Read.{connection_in, drive_in, end_in, name_in, sized, waiting_in}
 use Rattle.mscp_saved.proofs.BackParts.{IsBack}
-use Rattle.mscp_saved.specs.Saved.{begun_connection, begun_reference, connection_byte, drive_bytes, end_cell, flag_byte, padded, waiting_bytes}
 
 -- ---- a drive
 

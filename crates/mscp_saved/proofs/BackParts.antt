@@ -1,9 +1,5 @@
 -- Parts that are behind one another are read back.
-use Rattle.std.proofs.Common.{◌≡◌, ℕ, zero, suc, ◌*◌, List, [], ◌∷◌, ◌++◌, take, drop, length, append_assoc, refl, arith}
-use Rattle.std.specs.Prelude.{flat_map}
-use Rattle.std.specs.List.{AllByRecursion}
-use Rattle.std.proofs.lemmas.List.{drop-drop, length-append}
-use Rattle.mscp_saved.specs.Read.{part, parts_in}
+use Rattle.mscp_saved.proofs.Common.{◌≡◌, ℕ, zero, suc, ◌*◌, List, [], ◌∷◌, ◌++◌, take, drop, length, append_assoc, refl, arith, flat_map, AllByRecursion, drop-drop, length-append, part, parts_in}
 
 -- what is written of something is so long, and is read as it, whatever is behind
 pub record IsBack {X : Type 0} (f : List ℕ → X) (g : X → List ℕ) (size : ℕ) (x : X) : Type 0 where

@@ -1,7 +1,5 @@
 -- Bytes that grow at their end.
-use Rattle.std.proofs.Common.{◌≡◌, ℕ, suc, ◌≤◌, List, ◌∷◌, ◌++◌, take, append_assoc, ap, ◌∙◌, arith}
-use Rattle.std.specs.Prelude.{replicate}
-use Rattle.byteorder.specs.Endian.{little_bytes}
+use Rattle.mscp_saved.proofs.Common.{◌≡◌, ℕ, suc, ◌≤◌, List, ◌∷◌, ◌++◌, take, append_assoc, ap, ◌∙◌, arith, replicate, little_bytes}
 
 -- the first of many zeros are zeros
 pub first_zeros : (n k : ℕ) → k ≤ n → take {A = ℕ} k (replicate n 0) ≡ replicate k 0

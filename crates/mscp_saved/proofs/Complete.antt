@@ -1,30 +1,5 @@
 -- What is sound passes each test.
-use Rattle.std.proofs.Common.{All, ◌≡◌, ◌≢◌, ℕ, zero, suc, ◌+◌, ◌<◌, ◌≤◌, Bool, true, false, ◌&&◌, List, [], ◌∷◌, get_or, length, refl, subst, arith}
-use Rattle.std.specs.Prelude.{◌⊎◌, ◌==◌, filter, nat_eq, nat_le, nat_lt, not, unwrap_or, Option, Some, None, is_none, is_some}
-use Rattle.std.specs.List.{AllByRecursion, list_all}
-use Rattle.std.proofs.lemmas.Bool.{and_from, eq-eqb, false≢true, le-leb, le-ltb, lt-leb, lt-ltb, ne_eqb, not_from_false, or_left, or_right}
-use Rattle.std.proofs.lemmas.List.Elements.{recursion_from_All}
-use Rattle.mscp_packet.specs.declared.command.Order.{Order}
-use Rattle.mscp_packet.specs.declared.end.End.{End}
-use Rattle.mscp_packet.specs.Ends.{IsOfKind}
-use Rattle.mscp_drive.specs.Extent.{weight}
-use Rattle.mscp_drive.specs.Shape.{Shape, one_block}
-use Rattle.mscp_queue.specs.declared.drive.Drive.{Drive}
-use Rattle.mscp_events.specs.declared.connection.Connection.{Connection}
-use Rattle.mscp_events.specs.declared.connection.Connection.TheVariants.{First, Second}
-use Rattle.mscp_queue.specs.declared.name.Name.{Name}
-use Rattle.mscp_queue.specs.Drives.{IsOnUnit}
-use Rattle.mscp_queue.specs.Kept.{AreApart, ArePassedInOrder, IsStillServable, IsWaitable, names}
-use Rattle.mscp_queue.specs.Records.{Record, has_name, is_in_service, is_unstarted, name_of, record_at}
-use Rattle.mscp_queue.specs.Serving.{IsServable}
-use Rattle.mscp_queue.specs.Views.{is_open_at}
-use Rattle.mscp_queue.proofs.Named.{is_differ, same_is}
-use Rattle.mscp_queue.proofs.Nexts.{name_found}
-use Rattle.mscp_controller.specs.Arrival.{is_queued, move_fault, unit_fault}
-use Rattle.mscp_controller.specs.Holdings.{Holdings, waiting_on}
-use Rattle.mscp_controller.specs.Restored.{IsCovered, IsSound}
-use Rattle.mscp_events.specs.Settings.{IsValid, Settings, credits_of, limit_fault, room_of}
-use Rattle.mscp_saved.specs.Restored.{are_apart, are_ends, are_on_units, are_passed, is_covered, may_be_begun, may_serve, parts_fault, settings_fault}
+use Rattle.mscp_saved.proofs.Common.{All, ◌≡◌, ◌≢◌, ℕ, zero, suc, ◌+◌, ◌<◌, ◌≤◌, Bool, true, false, ◌&&◌, List, [], ◌∷◌, get_or, length, refl, subst, arith, ◌⊎◌, ◌==◌, filter, nat_eq, nat_le, nat_lt, not, unwrap_or, Option, Some, None, is_none, is_some, AllByRecursion, list_all, and_from, eq-eqb, false≢true, le-leb, le-ltb, lt-leb, lt-ltb, ne_eqb, not_from_false, or_left, or_right, recursion_from_All, Order, End, IsOfKind, weight, Shape, one_block, Drive, Connection, First, Second, Name, IsOnUnit, AreApart, ArePassedInOrder, IsStillServable, IsWaitable, names, Record, has_name, is_in_service, is_unstarted, name_of, record_at, IsServable, is_open_at, is_differ, same_is, name_found, is_queued, move_fault, unit_fault, Holdings, waiting_on, IsCovered, IsSound, IsValid, Settings, credits_of, limit_fault, room_of, are_apart, are_ends, are_on_units, are_passed, is_covered, may_be_begun, may_serve, parts_fault, settings_fault}
 use Rattle.mscp_saved.proofs.Rising.{test_of_units}
 use Rattle.mscp_saved.proofs.Sound.{Passes}
 

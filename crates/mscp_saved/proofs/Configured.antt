@@ -1,13 +1,6 @@
 -- What comes of settings.
-use Rattle.std.proofs.Common.{◌≡◌, true, false, List, subst, arith}
-use Rattle.std.specs.Prelude.{Option, Some, None, is_some, if◌then◌else◌, Ok, Err}
-use Rattle.std.proofs.lemmas.Bool.{false_from_ne_true}
-use Rattle.mscp_drive.specs.Shape.{Shape}
-use Rattle.mscp_drive.specs.UnitList.{IsUnitList}
-use Rattle.mscp_events.specs.declared.config.ConfigFault.{ConfigFault}
-use Rattle.mscp_events.specs.Settings.{Settings, configured, configured_unless, limit_fault}
+use Rattle.mscp_saved.proofs.Common.{◌≡◌, true, false, List, subst, arith, Option, Some, None, is_some, if◌then◌else◌, Ok, Err, false_from_ne_true, Shape, IsUnitList, ConfigFault, Settings, configured, configured_unless, limit_fault, are_units, settings_fault, unless}
 use Rattle.mscp_saved.specs.declared.fault.RestoreFault.TheVariants as faults
-use Rattle.mscp_saved.specs.Restored.{are_units, settings_fault, unless}
 use Rattle.mscp_saved.proofs.Rising.{test_of_units, units_of_test}
 
 after_units : (c : Settings) → are_units c.units ≡ true

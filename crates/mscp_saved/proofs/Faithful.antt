@@ -1,21 +1,6 @@
 -- What is saved is restored, and what is restored is saved as the same bytes.
-use Rattle.std.proofs.Common.{All, ◌≡◌, ℕ, true, List, get_or, ap, sym, ◌∙◌, arith}
-use Rattle.std.specs.Prelude.{not, if◌then◌else◌, Option, Some, None, Ok}
-use Rattle.std.proofs.lemmas.Bool.{and_from, eq-eqb, le-leb}
-use Rattle.std.proofs.lemmas.List.Elements.{recursion_from_All}
-use Rattle.std.proofs.lemmas.Slice.Eq.{bytes_eq-Decides}
-use Rattle.mscp_packet.specs.declared.end.End.{End}
-use Rattle.mscp_packet.specs.Ends.{HasEndRange, IsOfKind}
-use Rattle.mscp_packet.proofs.Numbers.{four}
-use Rattle.mscp_controller.specs.Holdings.{Holdings}
-use Rattle.mscp_controller.specs.Restored.{IsSound}
-use Rattle.mscp_saved.specs.declared.fault.RestoreFault.{RestoreFault}
+use Rattle.mscp_saved.proofs.Common.{All, ◌≡◌, ℕ, true, List, get_or, ap, sym, ◌∙◌, arith, not, if◌then◌else◌, Option, Some, None, Ok, and_from, eq-eqb, le-leb, recursion_from_All, bytes_eq-Decides, End, HasEndRange, IsOfKind, four, Holdings, IsSound, RestoreFault, RestoringIsFaithful, HasRange, drive_in, end_in, held_in, waiting_in, first_of, form_fault, frame_fault, is_framed, parts_fault, restored, settings_fault, drive_bytes, end_cell, saved_bytes, waiting_bytes}
 use Rattle.mscp_saved.specs.declared.fault.RestoreFault.TheVariants as faults
-use Rattle.mscp_saved.specs.Faithful.{RestoringIsFaithful}
-use Rattle.mscp_saved.specs.Ranges.{HasRange}
-use Rattle.mscp_saved.specs.Read.{drive_in, end_in, held_in, waiting_in}
-use Rattle.mscp_saved.specs.Restored.{first_of, form_fault, frame_fault, is_framed, parts_fault, restored, settings_fault}
-use Rattle.mscp_saved.specs.Saved.{drive_bytes, end_cell, saved_bytes, waiting_bytes}
 use Rattle.mscp_saved.proofs.Back.{drive_is_back, end_is_back, waiting_is_back}
 use Rattle.mscp_saved.proofs.BackParts.{IsBack}
 use Rattle.mscp_saved.proofs.Complete.{parts_pass, settings_pass}

@@ -1,9 +1,5 @@
 -- Bytes whose head tells how many they are.
-use Rattle.std.proofs.Common.{◌≡◌, ◌+◌, ◌*◌, ◌≤◌, true, List, length, ℕ, arith}
-use Rattle.std.specs.Prelude.{nat_le}
-use Rattle.std.proofs.lemmas.Bool.{and_parts, eqb-true, leb-true}
-use Rattle.mscp_saved.specs.Read.{drive_count, first_count, second_count, waiting_count}
-use Rattle.mscp_saved.specs.Restored.{is_framed}
+use Rattle.mscp_saved.proofs.Common.{◌≡◌, ◌+◌, ◌*◌, ◌≤◌, true, List, length, ℕ, arith, nat_le, and_parts, eqb-true, leb-true, drive_count, first_count, second_count, waiting_count, is_framed}
 
 pub record IsFramed (b : List ℕ) : Type 0 where
   pub head : 48 ≤ length b

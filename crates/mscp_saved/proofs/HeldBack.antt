@@ -1,15 +1,5 @@
 -- The bytes of a controller say it.
-use Rattle.std.proofs.Common.{◌≡◌, ℕ, ◌+◌, ◌*◌, ◌<◌, ◌^◌, List, [], ◌++◌, drop, length, append_assoc, append-nil, ap, ◌∙◌, arith}
-use Rattle.std.specs.Prelude.{flat_map, Option, IfSome}
-use Rattle.std.specs.List.{AllByRecursion}
-use Rattle.std.proofs.lemmas.List.{drop-drop, length-append}
-use Rattle.mscp_packet.proofs.Numbers.{eight, four, two}
-use Rattle.mscp_queue.specs.declared.name.Name.{Name}
-use Rattle.mscp_queue.specs.Kept.{units_of}
-use Rattle.mscp_controller.specs.Holdings.{Holdings}
-use Rattle.mscp_saved.specs.Ranges.{HasRange}
-use Rattle.mscp_saved.specs.Read.{all_waiting_in, begun_in, drive_in, drives_in, end_in, first_in, held_in, name_in, second_in, settings_in, waiting_in}
-use Rattle.mscp_saved.specs.Saved.{begun_connection, begun_reference, drive_bytes, end_cell, saved_bytes, saved_length, waiting_bytes}
+use Rattle.mscp_saved.proofs.Common.{◌≡◌, ℕ, ◌+◌, ◌*◌, ◌<◌, ◌^◌, List, [], ◌++◌, drop, length, append_assoc, append-nil, ap, ◌∙◌, arith, flat_map, Option, IfSome, AllByRecursion, drop-drop, length-append, eight, four, two, Name, units_of, Holdings, HasRange, all_waiting_in, begun_in, drive_in, drives_in, end_in, first_in, held_in, name_in, second_in, settings_in, waiting_in, begun_connection, begun_reference, drive_bytes, end_cell, saved_bytes, saved_length, waiting_bytes}
 use Rattle.mscp_saved.proofs.Back.{begun_back}
 use Rattle.mscp_saved.proofs.BackParts.{IsBack, parts_long, parts_rest, parts_said}
 

@@ -1,21 +1,6 @@
 -- What comes of bytes, step by step.
-use Rattle.std.proofs.Common.{All, ◌≡◌, ℕ, zero, suc, List, true, drop, refl, ap, sym, subst, ◌∙◌, arith}
-use Rattle.std.specs.Prelude.{Option, Some, None, slice_index, Ok, Err}
-use Rattle.std.proofs.lemmas.List.Elements.{All-nil, All-push}
-use Rattle.mscp_packet.specs.declared.end.BodyKind.{BodyKind}
-use Rattle.mscp_packet.specs.declared.end.End.{End}
-use Rattle.mscp_packet.specs.Ends.{body_at, kind_of_body, kind_of_code}
-use Rattle.mscp_queue.specs.declared.drive.Drive.{Drive}
-use Rattle.mscp_queue.specs.declared.name.Name.{Name}
-use Rattle.mscp_queue.specs.Kept.{IsWaitable}
-use Rattle.mscp_queue.specs.Records.{Record}
-use Rattle.mscp_controller.specs.Restored.{IsSound, made_of}
-use Rattle.mscp_events.specs.Settings.{IsValid, Settings}
-use Rattle.mscp_saved.specs.declared.fault.RestoreFault.{RestoreFault}
+use Rattle.mscp_saved.proofs.Common.{All, ◌≡◌, ℕ, zero, suc, List, true, drop, refl, ap, sym, subst, ◌∙◌, arith, Option, Some, None, slice_index, Ok, Err, All-nil, All-push, BodyKind, End, body_at, kind_of_body, kind_of_code, Drive, Name, IsWaitable, Record, IsSound, made_of, IsValid, Settings, RestoreFault, all_waiting_in, begun_in, drives_in, end_in, end_with, first_count, first_in, first_place, held_in, part, parts_in, second_count, second_in, second_place, settings_in, waiting_count, waiting_in, waiting_place, end_size, waiting_size, first_of, form_fault, frame_fault, is_framed, parts_fault, restored, settings_fault, unless}
 use Rattle.mscp_saved.specs.declared.fault.RestoreFault.TheVariants as faults
-use Rattle.mscp_saved.specs.Read.{all_waiting_in, begun_in, drives_in, end_in, end_with, first_count, first_in, first_place, held_in, part, parts_in, second_count, second_in, second_place, settings_in, waiting_count, waiting_in, waiting_place}
-use Rattle.mscp_saved.specs.Saved.{end_size, waiting_size}
-use Rattle.mscp_saved.specs.Restored.{first_of, form_fault, frame_fault, is_framed, parts_fault, restored, settings_fault, unless}
 use Rattle.mscp_saved.proofs.Sound.{IsReadWaiting, IsShapedIf, next, sound_of}
 
 -- ---- what is read

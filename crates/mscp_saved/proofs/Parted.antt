@@ -1,17 +1,5 @@
 -- What comes of bytes whose parts were read.
-use Rattle.std.proofs.Common.{All, ◌≡◌, ℕ, zero, suc, ◌+◌, ◌≤◌, List, [], ◌∷◌, drop, length, refl, ap, sym, subst, ◌∙◌, arith, true}
-use Rattle.std.specs.Prelude.{Option, Some, None, IfNone, Err}
-use Rattle.std.proofs.lemmas.List.{length-append}
-use Rattle.mscp_packet.specs.declared.end.End.{End}
-use Rattle.mscp_queue.specs.declared.drive.Drive.{Drive}
-use Rattle.mscp_queue.specs.declared.name.Name.{Name}
-use Rattle.mscp_queue.specs.Kept.{IsWaitable}
-use Rattle.mscp_queue.specs.Records.{Record}
-use Rattle.mscp_controller.specs.Restored.{IsSound, made_of}
-use Rattle.mscp_events.specs.Settings.{IsValid, Settings}
-use Rattle.mscp_saved.specs.declared.fault.RestoreFault.{RestoreFault}
-use Rattle.mscp_saved.specs.Read.{all_waiting_in, drives_in, first_count, first_in, first_place, end_in, held_in, part, parts_in, second_count, second_in, second_place, settings_in, waiting_count, waiting_in, waiting_place}
-use Rattle.mscp_saved.specs.Restored.{IsSaved, first_of, form_fault, frame_fault, is_framed, parts_fault, restored, settings_fault, unless}
+use Rattle.mscp_saved.proofs.Common.{All, ◌≡◌, ℕ, zero, suc, ◌+◌, ◌≤◌, List, [], ◌∷◌, drop, length, refl, ap, sym, subst, ◌∙◌, arith, true, Option, Some, None, IfNone, Err, length-append, End, Drive, Name, IsWaitable, Record, IsSound, made_of, IsValid, Settings, RestoreFault, all_waiting_in, drives_in, first_count, first_in, first_place, end_in, held_in, part, parts_in, second_count, second_in, second_place, settings_in, waiting_count, waiting_in, waiting_place, IsSaved, first_of, form_fault, frame_fault, is_framed, parts_fault, restored, settings_fault, unless}
 use Rattle.mscp_saved.proofs.Framed.{framed_of}
 use Rattle.mscp_saved.proofs.Outcomes.{IsRead, comes, frame_none, held_is, parts_back, sound_read}
 

@@ -1,6 +1,5 @@
 -- Parts that are read one after the other.
-use Rattle.std.proofs.Common.{◌≡◌, ℕ, ◌+◌, List, [], ◌∷◌, ◌++◌, add-one, arith}
-use Rattle.mscp_saved.specs.Read.{part, parts_in}
+use Rattle.mscp_saved.proofs.Common.{◌≡◌, ℕ, ◌+◌, List, [], ◌∷◌, ◌++◌, add-one, arith, part, parts_in}
 
 -- one more is read
 pub part_more : {X : Type 0} (f : List ℕ → X) (size n : ℕ) (b : List ℕ) {xs ys : List X} {x : X} {p : List ℕ}

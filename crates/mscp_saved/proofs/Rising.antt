@@ -1,10 +1,5 @@
 -- Units whose numbers rise.
-use Rattle.std.proofs.Common.{◌≡◌, ℕ, zero, suc, ◌+◌, ◌<◌, true, List, [], ◌∷◌, get_or, length, refl, subst, arith}
-use Rattle.std.specs.Prelude.{nat_lt, nat_le}
-use Rattle.std.proofs.lemmas.Bool.{and_from, and_parts, false≢true, le-leb, leb-true, lt-ltb, ltb-true}
-use Rattle.mscp_drive.specs.Shape.{Shape}
-use Rattle.mscp_drive.specs.UnitList.{IsUnitList, NumbersRise}
-use Rattle.mscp_saved.specs.Restored.{are_units, rise_above}
+use Rattle.mscp_saved.proofs.Common.{◌≡◌, ℕ, zero, suc, ◌+◌, ◌<◌, true, List, [], ◌∷◌, get_or, length, refl, subst, arith, nat_lt, nat_le, and_from, and_parts, false≢true, le-leb, leb-true, lt-ltb, ltb-true, Shape, IsUnitList, NumbersRise, are_units, rise_above}
 
 rising_at : (number : ℕ) (us : List Shape) → rise_above number us ≡ true → (i : ℕ) (d : Shape) → i < length us
     → (number < (get_or us zero d).number)

@@ -1,11 +1,5 @@
 -- How much there is of each part of a controller.
-use Rattle.std.proofs.Common.{◌+◌, ◌<◌, ◌≤◌, length, arith}
-use Rattle.std.proofs.lemmas.List.{length-map}
-use Rattle.mscp_queue.specs.declared.drive.Drive.{Drive}
-use Rattle.mscp_queue.specs.Records.{Record}
-use Rattle.mscp_controller.specs.Holdings.{Holdings}
-use Rattle.mscp_controller.specs.Restored.{IsSound}
-use Rattle.mscp_controller.proofs.Promise.Sides.{sides_length}
+use Rattle.mscp_saved.proofs.Common.{◌+◌, ◌<◌, ◌≤◌, length, arith, length-map, Drive, Record, Holdings, IsSound, sides_length}
 
 pub record HasSizes {K : Type 0} (h : Holdings K) : Type 0 where
   pub some_drive : 0 < length h.drives

@@ -1,32 +1,6 @@
 -- What passes each test is sound.
-use Rattle.std.proofs.Common.{All, ◌≡◌, ◌≢◌, ℕ, ◌+◌, ◌<◌, ◌≤◌, Bool, true, false, ◌&&◌, ◌||◌, List, [], ◌∷◌, length, refl, ap, sym, subst, ◌∙◌, arith}
-use Rattle.std.specs.Prelude.{filter, nat_eq, nat_le, nat_lt, not, if◌then◌else◌, Option, Some, None}
-use Rattle.std.specs.List.{AllByRecursion, list_all, position}
-use Rattle.std.proofs.lemmas.Bool.{and_parts, eqb-false, eqb-true, false≢true, leb-true, ltb-true, not-true, true≢false}
-use Rattle.std.proofs.lemmas.List.Elements.{All-from_recursion}
-use Rattle.std.proofs.lemmas.List.Quantifiers.{position-Some}
-use Rattle.mscp_packet.specs.declared.end.End.{End}
-use Rattle.mscp_packet.specs.Ends.{IsOfKind}
-use Rattle.mscp_drive.specs.UnitList.{IsUnitList}
-use Rattle.mscp_queue.specs.declared.drive.Drive.{Drive}
-use Rattle.mscp_events.specs.declared.connection.Connection.{Connection}
-use Rattle.mscp_events.specs.declared.connection.Connection.TheVariants.{First, Second}
-use Rattle.mscp_queue.specs.declared.name.Name.{Name}
-use Rattle.mscp_queue.specs.Drives.{IsOnUnit}
-use Rattle.mscp_queue.specs.Kept.{AreApart, ArePassedInOrder, IsKept, IsStillServable, IsWaitable, names, units_of}
-use Rattle.mscp_queue.specs.Orders.{order_weight}
-use Rattle.mscp_queue.specs.Records.{Record, has_name, is_in_service, is_unstarted, name_of, no_record, record_at}
-use Rattle.mscp_queue.specs.Serving.{IsServable}
-use Rattle.mscp_queue.specs.Views.{is_open_at}
-use Rattle.mscp_queue.proofs.Lists.{every_of, every_weaker}
-use Rattle.mscp_queue.proofs.Named.{differ_is}
-use Rattle.mscp_controller.specs.Holdings.{waiting_on}
-use Rattle.mscp_controller.specs.Restored.{IsCovered, IsSound, made_of}
-use Rattle.mscp_events.specs.Settings.{IsValid, Settings, credits_of, room_of}
-use Rattle.mscp_controller.proofs.Promise.Sides.{sides_length}
-use Rattle.mscp_saved.specs.declared.fault.RestoreFault.{RestoreFault}
+use Rattle.mscp_saved.proofs.Common.{All, ◌≡◌, ◌≢◌, ℕ, ◌+◌, ◌<◌, ◌≤◌, Bool, true, false, ◌&&◌, ◌||◌, List, [], ◌∷◌, length, refl, ap, sym, subst, ◌∙◌, arith, filter, nat_eq, nat_le, nat_lt, not, if◌then◌else◌, Option, Some, None, AllByRecursion, list_all, position, and_parts, eqb-false, eqb-true, false≢true, leb-true, ltb-true, not-true, true≢false, All-from_recursion, position-Some, End, IsOfKind, IsUnitList, Drive, Connection, First, Second, Name, IsOnUnit, AreApart, ArePassedInOrder, IsKept, IsStillServable, IsWaitable, names, units_of, order_weight, Record, has_name, is_in_service, is_unstarted, name_of, no_record, record_at, IsServable, is_open_at, every_of, every_weaker, differ_is, waiting_on, IsCovered, IsSound, made_of, IsValid, Settings, credits_of, room_of, sides_length, RestoreFault, are_apart, are_ends, are_on_units, are_passed, are_queued, are_unfinished, is_covered, may_be_begun, may_serve, may_serve_at, parts_fault}
 use Rattle.mscp_saved.specs.declared.fault.RestoreFault.TheVariants as faults
-use Rattle.mscp_saved.specs.Restored.{are_apart, are_ends, are_on_units, are_passed, are_queued, are_unfinished, is_covered, may_be_begun, may_serve, may_serve_at, parts_fault}
 
 -- ---- no fault
 

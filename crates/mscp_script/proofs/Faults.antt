@@ -1,15 +1,8 @@
 -- What a script's fault comes from, where a simulation ends with one.
-use Rattle.std.proofs.Common.{◌≡◌, Bool, true, false, refl, ap, sym, ◌∙◌, subst}
-use Rattle.std.specs.Prelude.{IsErrAnd, Result, Ok, Err}
-use Rattle.std.proofs.lemmas.Bool.{true≢false}
-use Rattle.mscp_script.specs.declared.reading.ReadAllFault.{ReadAllFault}
+use Rattle.mscp_script.proofs.Common.{◌≡◌, Bool, true, false, refl, ap, sym, ◌∙◌, subst, IsErrAnd, Result, Ok, Err, true≢false, ReadAllFault, ReadFault, ScriptFault, SimFault, sim_of_reading, sim_of_script}
 use Rattle.mscp_script.specs.declared.reading.ReadAllFault.TheVariants as readings
-use Rattle.mscp_reader.specs.declared.fault.ReadFault.{ReadFault}
 use Rattle.mscp_reader.specs.declared.fault.ReadFault.TheVariants as scripts
-use Rattle.mscp_reader.specs.declared.fault.ScriptFault.{ScriptFault}
-use Rattle.mscp_script.specs.declared.simulation.SimFault.{SimFault}
 use Rattle.mscp_script.specs.declared.simulation.SimFault.TheVariants as faults
-use Rattle.mscp_script.specs.Simulated.{sim_of_reading, sim_of_script}
 
 abbrev is_script : SimFault → Bool
 is_script (faults.Script fault) = true

@@ -1,9 +1,5 @@
 -- When the bytes that were read are the front of all, and the rest is what is left.
-use Rattle.std.proofs.Common.{◌≡◌, ◌<◌, ◌≤◌, ℕ, List, [], ◌++◌, length, take, drop, Option, Some, None, ap, subst, ◌∙◌, arith}
-use Rattle.std.proofs.lemmas.List.{take-append-le}
-use Rattle.std.proofs.lemmas.Grind.{common_steps}
-use Rattle.std.specs.Io.KnownBytes.{Consumes, IsAtEnd}
-use Rattle.mscp_script.specs.Whole.{IsFront, IsRest}
+use Rattle.mscp_script.proofs.Common.{◌≡◌, ◌<◌, ◌≤◌, ℕ, List, [], ◌++◌, length, take, drop, Option, Some, None, ap, subst, ◌∙◌, arith, take-append-le, common_steps, Consumes, IsAtEnd, IsFront, IsRest}
 
 full_list : (xs ys all : List ℕ) (n : ℕ) → length all ≡ n → xs ≡ all ++ ys → all ≡ take n xs
 full_list xs ys all n e h = grind (arith, common_steps, take-append-le)

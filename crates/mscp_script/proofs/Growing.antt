@@ -1,18 +1,5 @@
 -- A report grows by an entry as the run does.
-use Rattle.std.proofs.Common.{◌≡◌, ℕ, ◌+◌, List, [], ◌∷◌, ◌++◌, length-append, replicate, Result, Ok, Err, OnOk, ap, subst, sym, ◌∙◌, refl}
-use Rattle.std.specs.List.{flat_map}
-use Rattle.std.proofs.lemmas.List.Sums.{sum_by_push}
-use Rattle.std.proofs.lemmas.List.{append_assoc, flat_map_more, replicate_more}
-use Rattle.mscp_queue.specs.declared.view.Choice.{Choice}
-use Rattle.mscp_queue.specs.Pickers.{IsSweep}
-use Rattle.mscp_events.specs.declared.memory.OutOfMemory.{OutOfMemory}
-use Rattle.mscp_events.specs.declared.event.Event.{Event}
-use Rattle.mscp_controller.specs.declared.entry.Entry.{Entry}
-use Rattle.mscp_events.specs.Settings.{Settings}
-use Rattle.mscp_controller.specs.Holdings.{Answered, Answers, Holdings, fresh}
-use Rattle.mscp_script.specs.Running.{Meets, Ran, Runs}
-use Rattle.mscp_script.specs.declared.running.Run.{Run}
-use Rattle.mscp_script.specs.Text.{Reported, ended_count, entry_lines, queued_count, reported, seek_of, step_count, with_entry}
+use Rattle.mscp_script.proofs.Common.{◌≡◌, ℕ, ◌+◌, List, [], ◌∷◌, ◌++◌, length-append, replicate, Result, Ok, Err, OnOk, ap, subst, sym, ◌∙◌, refl, flat_map, sum_by_push, append_assoc, flat_map_more, replicate_more, Choice, IsSweep, OutOfMemory, Event, Entry, Settings, Answered, Answers, Holdings, fresh, Meets, Ran, Runs, Run, Reported, ended_count, entry_lines, queued_count, reported, seek_of, step_count, with_entry}
 
 pub reported_more : (all : List Entry) (entry : Entry) → with_entry (reported all) entry ≡ reported (all ++ entry ∷ [])
 reported_more all entry =

@@ -1,12 +1,5 @@
 -- What is told of the lines of a script is told of its bytes.
-use Rattle.std.proofs.Common.{ℕ, List, length, ◌≤◌, Result, Ok, Err, IfOk}
-use Rattle.mscp_reader.specs.Lexical.{lines}
-use Rattle.mscp_reader.specs.Grammar.{Begins}
-use Rattle.mscp_reader.specs.Outcome.{lines_outcome}
-use Rattle.mscp_reader.specs.declared.fault.ReadFault.{ReadFault}
-use Rattle.mscp_reader.proofs.Sound.{is_read}
-use Rattle.mscp_script.specs.Running.{TellsReport}
-use Rattle.mscp_script.specs.Simulated.{IsReport}
+use Rattle.mscp_script.proofs.Common.{ℕ, List, length, ◌≤◌, Result, Ok, Err, IfOk, lines, Begins, lines_outcome, ReadFault, is_read, TellsReport, IsReport}
 
 pub told_report : {X : Type 0} (view : X → List ℕ) (bytes : List ℕ) (r : Result X ReadFault)
     → length bytes ≤ 16777216 → TellsReport view r (lines_outcome 0 Begins (lines bytes))

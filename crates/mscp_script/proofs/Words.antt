@@ -1,9 +1,5 @@
 -- The words of a command line.
-use Rattle.std.proofs.Common.{◌≡◌, ◌<◌, ◌≤◌, ℕ, Bool, true, false, List, [], ◌∷◌, length, map, get_or, refl, arith, Err}
-use Rattle.std.specs.Prelude.{codes}
-use Rattle.std.specs.Bool.{Decides}
-use Rattle.std.proofs.lemmas.Slice.Eq.{bytes_eq-Decides}
-use Rattle.mscp_script.specs.Chosen.{chosen}
+use Rattle.mscp_script.proofs.Common.{◌≡◌, ◌<◌, ◌≤◌, ℕ, Bool, true, false, List, [], ◌∷◌, length, map, get_or, refl, arith, Err, codes, Decides, bytes_eq-Decides, chosen}
 use Rattle.mscp_script.specs.declared.choosing.LineFault.TheVariants as faults
 
 -- a list of two words

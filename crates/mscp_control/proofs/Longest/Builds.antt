@@ -1,11 +1,5 @@
 -- One more round of each loop that writes the longest run.
-use Rattle.std.proofs.Common.{◌≡◌, ℕ, suc, ◌*◌, ◌≤◌, ◌+◌, ◌-◌, [], ◌∷◌, ◌++◌, ap, arith}
-use Rattle.mscp_drive.specs.Shape.{Shape}
-use Rattle.mscp_events.specs.declared.connection.Connection.TheVariants.{First}
-use Rattle.mscp_control.specs.declared.worst_case.Transfer.{Transfer}
-use Rattle.mscp_events.specs.Settings.{Settings}
-use Rattle.mscp_controller.specs.History.{Trace}
-use Rattle.mscp_control.specs.Worst.{come_on, connection_at, long_read, pass_on, queueing, read_command, rest_on, runs_on, short_read, stepping, steps_on}
+use Rattle.mscp_control.proofs.Common.{◌≡◌, ℕ, suc, ◌*◌, ◌≤◌, ◌+◌, ◌-◌, [], ◌∷◌, ◌++◌, ap, arith, Shape, First, Transfer, Settings, Trace, come_on, connection_at, long_read, pass_on, queueing, read_command, rest_on, runs_on, short_read, stepping, steps_on}
 
 pub steps_next : (s : Shape) (x : Transfer) (from : ℕ) (t : Trace) (j : ℕ)
     → steps_on s x from t (j + 1) ≡ steps_on s x from t j ++ stepping s x from j ∷ []

@@ -1,16 +1,5 @@
 -- The figure of a command that waits as long as the bound counts down to its end, one by one.
-use Rattle.std.proofs.Common.{◌≡◌, ℕ, zero, suc, ◌+◌, ◌-◌, ◌<◌, ◌≤◌, true, not, length, take, ap, ◌∙◌, subst, arith}
-use Rattle.std.proofs.lemmas.Bool.{and_parts}
-use Rattle.std.proofs.lemmas.List.{length-take-le, take_all}
-use Rattle.mscp_events.specs.Settings.{Settings, IsValid, bound}
-use Rattle.mscp_controller.specs.History.{Trace, moment}
-use Rattle.mscp_controller.specs.Commands.{is_waiting, steps_after}
-use Rattle.mscp_controller.specs.Figures.{figure}
-use Rattle.mscp_controller.specs.Legal.{IsLegal}
-use Rattle.mscp_controller.specs.Headline.{Promise}
-use Rattle.mscp_controller.proofs.Promise.Grows.{is_waiting_before, steps_last, steps_more}
-use Rattle.mscp_controller.proofs.Promise.Known.{more_at}
-use Rattle.mscp_controller.proofs.Promise.Progress.{progress, waits_in}
+use Rattle.mscp_control.proofs.Common.{◌≡◌, ℕ, zero, suc, ◌+◌, ◌-◌, ◌<◌, ◌≤◌, true, not, length, take, ap, ◌∙◌, subst, arith, and_parts, length-take-le, take_all, Settings, IsValid, bound, Trace, moment, is_waiting, steps_after, figure, IsLegal, Promise, is_waiting_before, steps_last, steps_more, more_at, progress, waits_in}
 
 -- what its figure and its steps so far come to, after so many moments
 abbrev total : Settings → Trace → ℕ → ℕ → ℕ

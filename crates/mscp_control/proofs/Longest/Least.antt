@@ -1,26 +1,6 @@
 -- The run that is written out is legal, and its last command waits as long as the bound.
-use Rattle.std.proofs.Common.{◌≡◌, ◌≢◌, ℕ, suc, ◌+◌, ◌-◌, ◌*◌, ◌<◌, ◌≤◌, ◌^◌, true, false, not, ◌&&◌, List, [], ◌∷◌, ◌++◌, take, length, refl, ap, sym, ◌∙◌, subst, arith}
-use Rattle.std.specs.Prelude.{nat_le, nat_lt, if◌then◌else◌, Option, Some, None, is_some}
-use Rattle.std.proofs.lemmas.Bool.{and_parts, false≢true, leb-true, le-ltb, true≢false}
-use Rattle.std.proofs.lemmas.List.{length_push, take_at}
-use Rattle.std.proofs.lemmas.List.Elements.{All-contains, All-from_recursion}
-use Rattle.mscp_packet.specs.declared.command.Command.{Command}
-use Rattle.mscp_drive.specs.Shape.{Shape}
+use Rattle.mscp_control.proofs.Common.{◌≡◌, ◌≢◌, ℕ, suc, ◌+◌, ◌-◌, ◌*◌, ◌<◌, ◌≤◌, ◌^◌, true, false, not, ◌&&◌, List, [], ◌∷◌, ◌++◌, take, length, refl, ap, sym, ◌∙◌, subst, arith, nat_le, nat_lt, if◌then◌else◌, Option, Some, None, is_some, and_parts, false≢true, leb-true, le-ltb, true≢false, length_push, take_at, All-contains, All-from_recursion, Command, Shape, First, Name, name_on, is_same, Settings, IsValid, bound, room, unit_found, Trace, ends_in, is_waiting, steps_after, waiting, IsLegal, WaitsTheBound, can_wait_the_bound, has_longest, come_on, connection_at, long_read, opened, pass_on, read_command, read_end, rest_on, runs_on, stepping, steps_on, worst_of, command_before, is_waiting_before, steps_more, waits_in, waiting_waits, found_number}
 use Rattle.mscp_drive.specs.UnitList as list
-use Rattle.mscp_events.specs.declared.connection.Connection.TheVariants.{First}
-use Rattle.mscp_queue.specs.declared.name.Name.{Name}
-use Rattle.mscp_queue.specs.Names.{name_on}
-use Rattle.mscp_queue.proofs.Named.{is_same}
-use Rattle.mscp_events.specs.Settings.{Settings, IsValid, bound, room, unit_found}
-use Rattle.mscp_controller.specs.History.{Trace}
-use Rattle.mscp_controller.specs.Commands.{ends_in, is_waiting, steps_after, waiting}
-use Rattle.mscp_controller.specs.Legal.{IsLegal}
-use Rattle.mscp_control.specs.Longest.{WaitsTheBound, can_wait_the_bound, has_longest}
-use Rattle.mscp_control.specs.Worst.{come_on, connection_at, long_read, opened, pass_on, read_command, read_end, rest_on, runs_on, stepping, steps_on, worst_of}
-use Rattle.mscp_controller.proofs.Promise.Grows.{command_before, is_waiting_before, steps_more}
-use Rattle.mscp_controller.proofs.Promise.Progress.{waits_in}
-use Rattle.mscp_controller.proofs.Promise.Waits.{waiting_waits}
-use Rattle.mscp_controller.proofs.Bridge.Drives.{found_number}
 use Rattle.mscp_control.proofs.Longest.Counted.{counted}
 use Rattle.mscp_control.proofs.Longest.Moments.{IsUnit, message_sent, nothing}
 use Rattle.mscp_control.proofs.Longest.Reads.{long_is, long_sent, longs, longs_idle, record_of}

@@ -1,45 +1,8 @@
 -- What is held after one more moment of a run that is written out: a message that is queued, a take, or a good step.
-use Rattle.std.proofs.Common.{◌≡◌, ℕ, ◌+◌, ◌-◌, ◌<◌, ◌≤◌, ◌^◌, true, false, not, List, [], ◌∷◌, ◌++◌, map, drop, length, refl, ap, sym, ◌∙◌, subst, arith}
-use Rattle.std.specs.Prelude.{find, slice_index, slice_get, if◌then◌else◌, Option, Some, None, is_some, option_map, Ok}
-use Rattle.std.proofs.lemmas.Bool.{eq-eqb, ne_eqb, le-ltb, true≢false, false≢true}
-use Rattle.arrayvec.specs.ArrayVec.{ArrayVec}
-use Rattle.mscp_packet.specs.declared.command.Command.{Command}
-use Rattle.mscp_packet.specs.declared.end.End.{End}
-use Rattle.mscp_packet.specs.Commands.{HasCommandRange, IsCommand, IsValidOrder, command_bytes, command_of}
-use Rattle.mscp_packet.specs.Ends.{end_bytes}
-use Rattle.mscp_packet.specs.Number.{num}
-use Rattle.mscp_packet.specs.Opcodes.{class, is_immediate_class}
-use Rattle.mscp_packet.proofs.Commands.{command_bytes_are_messages}
-use Rattle.mscp_drive.specs.Shape.{Shape}
-use Rattle.mscp_events.specs.declared.block.Block.TheVariants.{Good}
-use Rattle.mscp_queue.specs.declared.drive.Drive.{Drive}
-use Rattle.mscp_events.specs.declared.connection.Connection.{Connection}
-use Rattle.mscp_queue.specs.declared.name.Name.{Name}
-use Rattle.mscp_queue.specs.declared.view.Choice.{Choice}
-use Rattle.mscp_queue.specs.Drives.{drive_of, fresh_drive, has_number, replaced}
-use Rattle.mscp_queue.specs.Lines.{ServesAt}
-use Rattle.mscp_queue.specs.Records.{Record, fresh_record, name_of, no_record, passed_by, record_at, remains, step_charge}
-use Rattle.mscp_queue.specs.Serving.{IsServable, drive_after, drives_after, end_given, report_of, waiting_after}
-use Rattle.mscp_queue.proofs.Named.{is_same}
-use Rattle.mscp_queue.proofs.Placed.{at_place}
+use Rattle.mscp_control.proofs.Common.{◌≡◌, ℕ, ◌+◌, ◌-◌, ◌<◌, ◌≤◌, ◌^◌, true, false, not, List, [], ◌∷◌, ◌++◌, map, drop, length, refl, ap, sym, ◌∙◌, subst, arith, find, slice_index, slice_get, if◌then◌else◌, Option, Some, None, is_some, option_map, Ok, eq-eqb, ne_eqb, le-ltb, true≢false, false≢true, ArrayVec, Command, End, HasCommandRange, IsCommand, IsValidOrder, command_bytes, command_of, end_bytes, num, class, is_immediate_class, command_bytes_are_messages, Shape, Good, Drive, Connection, Name, Choice, drive_of, fresh_drive, has_number, replaced, ServesAt, Record, fresh_record, name_of, no_record, passed_by, record_at, remains, step_charge, IsServable, drive_after, drives_after, end_given, report_of, waiting_after, is_same, at_place, Settings, IsValid, credits_of, unit_found, Both, of, put, drive_now, holds, is_queued, refusal, Moment, Trace, Holdings, aborting, after_message, after_take, answer_to_message, answered_end, balance_of, ends_after, fresh, held_unless, line_of, numbers, numbers_ended, outstanding_of, queued, reference_aborted, sent_unless, waiting_on, with_end, IsLegal, handing, queueing, some_same, Driven, find_map, none_held, turns, Follows, legal_more, Agrees, Sends, sending, sends, turns_at}
 use Rattle.mscp_events.specs.declared.event.Event.TheVariants as events
 use Rattle.mscp_controller.specs.declared.entry.Entry.TheVariants as entries
 use Rattle.mscp_controller.specs.declared.entry.Sent.TheVariants as sents
-use Rattle.mscp_events.specs.Settings.{Settings, IsValid, credits_of, unit_found}
-use Rattle.mscp_events.specs.Both.{Both, of, put}
-use Rattle.mscp_controller.specs.Controllers.{drive_now}
-use Rattle.mscp_controller.specs.Arrival.{holds, is_queued, refusal}
-use Rattle.mscp_controller.specs.History.{Moment, Trace}
-use Rattle.mscp_controller.specs.Holdings.{Holdings, aborting, after_message, after_take, answer_to_message, answered_end, balance_of, ends_after, fresh, held_unless, line_of, numbers, numbers_ended, outstanding_of, queued, reference_aborted, sent_unless, waiting_on, with_end}
-use Rattle.mscp_controller.specs.Legal.{IsLegal}
-use Rattle.mscp_control.specs.Worst.{handing, queueing}
-use Rattle.mscp_controller.proofs.Promise.Served.{some_same}
-use Rattle.mscp_controller.proofs.Bridge.Drives.{Driven, find_map}
-use Rattle.mscp_controller.proofs.Bridge.Following.{none_held, turns}
-use Rattle.mscp_controller.proofs.Bridge.Held.{Follows}
-use Rattle.mscp_controller.proofs.Bridge.Legals.{legal_more}
-use Rattle.mscp_controller.proofs.Bridge.Sending.{Agrees, Sends, sending, sends}
-use Rattle.mscp_controller.proofs.Bridge.Stepped.{turns_at}
 
 -- no end is untaken
 abbrev pub nothing : Both (List End)

@@ -1,24 +1,6 @@
 -- The READs of the run that is written out: they may be sent, and what is held of them.
-use Rattle.std.proofs.Common.{◌≡◌, ℕ, zero, suc, ◌+◌, ◌-◌, ◌*◌, ◌<◌, ◌≤◌, ◌^◌, ◌/◌, Bool, true, false, List, [], ◌∷◌, ◌++◌, map, length, refl, ap, ◌∙◌, append-nil, arith}
-use Rattle.std.specs.Prelude.{filter, max, nat_lt, if◌then◌else◌}
-use Rattle.std.specs.List.{AllByRecursion, range_with_len}
-use Rattle.std.proofs.lemmas.Bool.{le-ltb, lt-leb, ltb-false, ltb-true, ne_eqb}
-use Rattle.std.proofs.lemmas.List.{length-map, map-append}
-use Rattle.std.proofs.lemmas.List.FromFn.{length-range_with_len}
+use Rattle.mscp_control.proofs.Common.{◌≡◌, ℕ, zero, suc, ◌+◌, ◌-◌, ◌*◌, ◌<◌, ◌≤◌, ◌^◌, ◌/◌, Bool, true, false, List, [], ◌∷◌, ◌++◌, map, length, refl, ap, ◌∙◌, append-nil, arith, filter, max, nat_lt, if◌then◌else◌, AllByRecursion, range_with_len, le-ltb, lt-leb, ltb-false, ltb-true, ne_eqb, length-map, map-append, length-range_with_len, Shape, Connection, First, Second, Record, fresh_record, passed_by, range_more, map_map, Transfer, Settings, IsValid, credits_of, room, room_of, of, holds, is_queued, numbers, numbers_ended, waiting_on, connection_at, long_read, read_command, short_read, sides_length}
 use Rattle.mscp_drive.specs.Extent as extent
-use Rattle.mscp_drive.specs.Shape.{Shape}
-use Rattle.mscp_events.specs.declared.connection.Connection.{Connection}
-use Rattle.mscp_events.specs.declared.connection.Connection.TheVariants.{First, Second}
-use Rattle.mscp_queue.specs.Records.{Record, fresh_record, passed_by}
-use Rattle.mscp_queue.proofs.Lists.{range_more}
-use Rattle.mscp_queue.proofs.Placed.{map_map}
-use Rattle.mscp_control.specs.declared.worst_case.Transfer.{Transfer}
-use Rattle.mscp_events.specs.Settings.{Settings, IsValid, credits_of, room, room_of}
-use Rattle.mscp_events.specs.Both.{of}
-use Rattle.mscp_controller.specs.Arrival.{holds, is_queued}
-use Rattle.mscp_controller.specs.Holdings.{numbers, numbers_ended, waiting_on}
-use Rattle.mscp_control.specs.Worst.{connection_at, long_read, read_command, short_read}
-use Rattle.mscp_controller.proofs.Promise.Sides.{sides_length}
 use Rattle.mscp_control.proofs.Longest.Moments.{IsUnit, MaySend, nothing}
 
 -- ---- one READ

@@ -1,39 +1,8 @@
 -- What is held while the READs of the run that is written out come and run.
-use Rattle.std.proofs.Common.{◌≡◌, ◌≢◌, ℕ, zero, suc, ◌+◌, ◌-◌, ◌*◌, ◌<◌, ◌≤◌, Bool, true, false, cond, not, ◌&&◌, List, [], ◌∷◌, ◌++◌, map, length, refl, ap, sym, ◌∙◌, subst, append-nil, arith}
-use Rattle.std.specs.Prelude.{min, nat_eq, nat_lt, drop, if◌then◌else◌, Option, Some, None}
-use Rattle.std.specs.List.{AllByRecursion}
-use Rattle.std.proofs.Math.Bool.{and-false}
-use Rattle.std.proofs.Math.Nat.{zero-div}
-use Rattle.std.proofs.lemmas.Bool.{eqb-true, le-leb, le-ltb, lt-ltb, ltb-false, ne_eqb}
-use Rattle.std.proofs.lemmas.List.{length-append}
-use Rattle.std.proofs.lemmas.List.Elements.{All-from_recursion}
-use Rattle.mscp_packet.specs.declared.end.End.{End}
-use Rattle.mscp_packet.specs.declared.command.MoveKind.TheVariants.{Read}
+use Rattle.mscp_control.proofs.Common.{◌≡◌, ◌≢◌, ℕ, zero, suc, ◌+◌, ◌-◌, ◌*◌, ◌<◌, ◌≤◌, Bool, true, false, cond, not, ◌&&◌, List, [], ◌∷◌, ◌++◌, map, length, refl, ap, sym, ◌∙◌, subst, append-nil, arith, min, nat_eq, nat_lt, drop, if◌then◌else◌, Option, Some, None, AllByRecursion, and-false, zero-div, eqb-true, le-leb, le-ltb, lt-ltb, ltb-false, ne_eqb, length-append, All-from_recursion, End, Read, Head, distance, Shape, cylinder_of, Good, Drive, Connection, First, Report, Served, head_after, Record, fresh_record, no_record, passed_by, remains, step_charge, IsServable, drive_after, end_given, report_of, state_left, is_affordable, is_free, is_open, every_append, at_place, fresh_drive, Transfer, Settings, room, Both, of, put, Trace, ends_after, block_before, come_on, connection_at, long_read, online_command, online_end, opened, pass_on, queueing, read_command, read_end, read_report, rest_on, runs_on, short_read, stepping, steps_on}
 use Rattle.mscp_packet.specs.declared.command.Order.TheVariants as orders
-use Rattle.mscp_drive.specs.declared.head.Head.{Head}
-use Rattle.mscp_drive.specs.Heads.{distance}
-use Rattle.mscp_drive.specs.Shape.{Shape, cylinder_of}
-use Rattle.mscp_events.specs.declared.block.Block.TheVariants.{Good}
-use Rattle.mscp_queue.specs.declared.drive.Drive.{Drive}
-use Rattle.mscp_events.specs.declared.connection.Connection.{Connection}
-use Rattle.mscp_events.specs.declared.connection.Connection.TheVariants.{First}
-use Rattle.mscp_queue.specs.declared.report.Report.{Report}
-use Rattle.mscp_queue.specs.declared.report.Report.TheVariants.{Served}
-use Rattle.mscp_queue.specs.Outcomes.{head_after}
-use Rattle.mscp_queue.specs.Records.{Record, fresh_record, no_record, passed_by, remains, step_charge}
-use Rattle.mscp_queue.specs.Serving.{IsServable, drive_after, end_given, report_of, state_left}
-use Rattle.mscp_queue.specs.Views.{is_affordable, is_free, is_open}
-use Rattle.mscp_queue.proofs.Lists.{every_append}
-use Rattle.mscp_queue.proofs.Placed.{at_place}
-use Rattle.mscp_queue.specs.Drives.{fresh_drive}
 use Rattle.mscp_events.specs.declared.event.Event.TheVariants as events
 use Rattle.mscp_controller.specs.declared.entry.Entry.TheVariants as entries
-use Rattle.mscp_control.specs.declared.worst_case.Transfer.{Transfer}
-use Rattle.mscp_events.specs.Settings.{Settings, room}
-use Rattle.mscp_events.specs.Both.{Both, of, put}
-use Rattle.mscp_controller.specs.History.{Trace}
-use Rattle.mscp_controller.specs.Holdings.{ends_after}
-use Rattle.mscp_control.specs.Worst.{block_before, come_on, connection_at, long_read, online_command, online_end, opened, pass_on, queueing, read_command, read_end, read_report, rest_on, runs_on, short_read, stepping, steps_on}
 use Rattle.mscp_control.proofs.Longest.Moments.{Holds, IsUnit, MaySend, holds_none, holds_queued, holds_stepped, holds_taken, nothing}
 use Rattle.mscp_control.proofs.Longest.Reads.{IsRead, long_is, long_sent, longs, longs_idle, longs_more, longs_passed, record_fresh, record_of, short_is, short_sent}
 

@@ -1,23 +1,5 @@
 -- The command that waits as long as the bound, while others come and run.
-use Rattle.std.proofs.Common.{◌≡◌, ◌≢◌, ℕ, zero, suc, ◌+◌, ◌-◌, ◌*◌, ◌<◌, Bool, true, false, cond, not, ◌&&◌, [], ◌∷◌, ◌++◌, length, refl, ap, ◌∙◌, subst, arith}
-use Rattle.std.specs.Prelude.{nat_lt, if◌then◌else◌, Some, None, is_some}
-use Rattle.std.proofs.Math.Bool.{and-false}
-use Rattle.std.proofs.lemmas.Bool.{lt-ltb}
-use Rattle.std.proofs.lemmas.List.{length_push}
-use Rattle.mscp_packet.specs.declared.command.Command.{Command}
-use Rattle.mscp_packet.specs.Commands.{command_bytes, command_of}
-use Rattle.mscp_drive.specs.Shape.{Shape}
-use Rattle.mscp_events.specs.declared.connection.Connection.{Connection}
-use Rattle.mscp_events.specs.declared.connection.Connection.TheVariants.{First}
-use Rattle.mscp_queue.specs.declared.name.Name.{Name}
-use Rattle.mscp_queue.specs.Names.{name_on, same_name}
-use Rattle.mscp_queue.proofs.Named.{is_differ}
-use Rattle.mscp_control.specs.declared.worst_case.Transfer.{Transfer}
-use Rattle.mscp_events.specs.Settings.{Settings, room}
-use Rattle.mscp_controller.specs.History.{Moment, Trace, is_step}
-use Rattle.mscp_controller.specs.Commands.{ends_in, is_waiting, name, steps_after, unit}
-use Rattle.mscp_control.specs.Worst.{connection_at, handing, long_read, pass_on, queueing, read_command, read_end, rest_on, runs_on, short_read, stepping, steps_on}
-use Rattle.mscp_controller.proofs.Promise.Grows.{command_before, command_last, connection_last, is_waiting_before, is_waiting_last, name_before, steps_last, steps_more}
+use Rattle.mscp_control.proofs.Common.{◌≡◌, ◌≢◌, ℕ, zero, suc, ◌+◌, ◌-◌, ◌*◌, ◌<◌, Bool, true, false, cond, not, ◌&&◌, [], ◌∷◌, ◌++◌, length, refl, ap, ◌∙◌, subst, arith, nat_lt, if◌then◌else◌, Some, None, is_some, and-false, lt-ltb, length_push, Command, command_bytes, command_of, Shape, Connection, First, Name, name_on, same_name, is_differ, Transfer, Settings, room, Moment, Trace, is_step, ends_in, is_waiting, name, steps_after, unit, connection_at, handing, long_read, pass_on, queueing, read_command, read_end, rest_on, runs_on, short_read, stepping, steps_on, command_before, command_last, connection_last, is_waiting_before, is_waiting_last, name_before, steps_last, steps_more}
 
 -- the command of this name, which came at y and is of this unit, still waits, and has seen so many steps
 pub record Sees (t : Trace) (y : ℕ) (n : Name) (number k : ℕ) : Type 0 where

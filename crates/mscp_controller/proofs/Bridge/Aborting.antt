@@ -1,28 +1,9 @@
 -- What a message aborts: the same by records and by history.
-use Rattle.std.proofs.Common.{◌≡◌, ◌≢◌, ⊎_elim, ℕ, Bool, true, false, not, List, [], ◌∷◌, map, ap, sym, ◌∙◌, subst, arith}
-use Rattle.std.specs.Prelude.{filter, find, if◌then◌else◌, Option, Some, None, option_map, option_to_list, slice_get, Ok}
-use Rattle.std.specs.List.{AllByRecursion}
-use Rattle.mscp_packet.specs.declared.command.Command.{Command}
-use Rattle.mscp_packet.specs.declared.command.Order.{Order}
+use Rattle.mscp_controller.proofs.Common.{◌≡◌, ◌≢◌, ⊎_elim, ℕ, Bool, true, false, not, List, [], ◌∷◌, map, ap, sym, ◌∙◌, subst, arith, filter, find, if◌then◌else◌, Option, Some, None, option_map, option_to_list, slice_get, Ok, AllByRecursion, Command, Order, AreApart, names, Name, aborted_end, Record, aborted_record, has_name, name_of, without, Connection, name_on, same_name, differ_is, is_differ, is_same, same_is, found_once, every_from, every_mapped, every_parts, every_weaker, filter_all, filter_on, filter_map_of, find_cases, find_first, find_none, map_map, Settings, Trace, command, name, reference, waiting, good, ends_in, is_waiting, aborted_unless, named, record_aborted, reference_aborted, begun_after, unaborted}
 use Rattle.mscp_packet.specs.declared.command.Order.TheVariants as orders
-use Rattle.mscp_queue.specs.Kept.{AreApart, names}
-use Rattle.mscp_queue.specs.declared.name.Name.{Name}
-use Rattle.mscp_queue.specs.Outcomes.{aborted_end}
-use Rattle.mscp_queue.specs.Records.{Record, aborted_record, has_name, name_of, without}
-use Rattle.mscp_events.specs.declared.connection.Connection.{Connection}
-use Rattle.mscp_queue.specs.Names.{name_on, same_name}
-use Rattle.mscp_queue.proofs.Named.{differ_is, is_differ, is_same, same_is}
-use Rattle.mscp_queue.proofs.Aborts.{found_once}
-use Rattle.mscp_queue.proofs.Lists.{every_from, every_mapped, every_parts, every_weaker, filter_all, filter_on}
-use Rattle.mscp_queue.proofs.Placed.{filter_map_of, find_cases, find_first, find_none, map_map}
 use Rattle.mscp_controller.specs.declared.entry.Entry.TheVariants as entries
 use Rattle.mscp_controller.specs.declared.entry.Sent.TheVariants as sents
-use Rattle.mscp_events.specs.Settings.{Settings}
-use Rattle.mscp_controller.specs.History.{Trace}
-use Rattle.mscp_controller.specs.Commands.{command, name, reference, waiting, good, ends_in, is_waiting}
 use Rattle.mscp_controller.specs.Ends as history
-use Rattle.mscp_controller.specs.Ends.{aborted_unless, named}
-use Rattle.mscp_controller.specs.Holdings.{record_aborted, reference_aborted, begun_after, unaborted}
 use Rattle.mscp_controller.proofs.Promise.Apart.{Apart}
 use Rattle.mscp_controller.proofs.Promise.Waits.{cut, waits_below}
 use Rattle.mscp_controller.proofs.Bridge.Held.{held_of}

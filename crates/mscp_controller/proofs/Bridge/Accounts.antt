@@ -1,14 +1,6 @@
 -- Accounts, one by one, and what is seen of them.
-use Rattle.std.proofs.Common.{◌≡◌, ◌+◌, false, List, [], ◌∷◌, ◌++◌, length, arith}
-use Rattle.mscp_packet.specs.declared.end.End.{End}
-use Rattle.mscp_events.specs.declared.connection.Connection.{Connection}
-use Rattle.mscp_queue.specs.declared.report.Report.{Report}
-use Rattle.mscp_queue.specs.Names.{same_connection}
-use Rattle.mscp_controller.specs.declared.account.Account.{Account}
-use Rattle.mscp_controller.specs.declared.account.Accounts.{Accounts}
-use Rattle.mscp_controller.specs.Accounts.{account, left, put_account, reported, untaken_in}
-use Rattle.mscp_events.specs.Both.{Both, of}
-use Rattle.mscp_controller.specs.Holdings.{ends_reported, more_ends}
+use Rattle.mscp_controller.proofs.Common.{◌≡◌, ◌+◌, false, List, [], ◌∷◌, ◌++◌, length, arith, End, Connection, Report, same_connection, Account, Accounts, account, put_account, reported, untaken_in, Both, of, ends_reported, more_ends}
+use Rattle.mscp_controller.specs.Accounts.{left}
 
 -- ---- one of them is changed
 

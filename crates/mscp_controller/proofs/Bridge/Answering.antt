@@ -1,10 +1,5 @@
 -- One more answer of a controller.
-use Rattle.std.proofs.Common.{◌≡◌, ℕ, ◌+◌, ◌<◌, List, [], ◌∷◌, ◌++◌, take, get_or, length, refl, subst, arith}
-use Rattle.std.proofs.lemmas.List.{length_push, take_more}
-use Rattle.mscp_queue.specs.declared.view.Choice.{Choice}
-use Rattle.mscp_events.specs.declared.event.Event.{Event}
-use Rattle.mscp_controller.specs.declared.entry.Entry.{Entry}
-use Rattle.mscp_controller.specs.Holdings.{Answered, Answers, Holdings}
+use Rattle.mscp_controller.proofs.Common.{◌≡◌, ℕ, ◌+◌, ◌<◌, List, [], ◌∷◌, ◌++◌, take, get_or, length, refl, subst, arith, length_push, take_more, Choice, Event, Entry, Answered, Answers, Holdings}
 use Rattle.mscp_controller.proofs.Bridge.Owning.{owner_kept}
 
 -- one more answer, behind the others

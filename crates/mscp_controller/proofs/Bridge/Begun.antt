@@ -1,24 +1,8 @@
 -- What is begun when one more call comes.
-use Rattle.std.proofs.Common.{◌≡◌, ℕ, ◌+◌, ◌<◌, ◌≤◌, Bool, true, false, not, List, [], ◌∷◌, ◌++◌, take, drop, length, refl, ap, sym, ◌∙◌, subst, append_assoc, append-nil, arith}
-use Rattle.std.specs.Prelude.{if◌then◌else◌, is_some, nat_eq, unwrap_or, Option, Some, None}
-use Rattle.std.specs.List.{list_any}
-use Rattle.std.proofs.lemmas.Bool.{and_parts, cases_lt, or_parts, true≢false}
-use Rattle.std.proofs.lemmas.List.{drop-append-le, drop_all, get_or_append_left, get_or_at, length-append, length_push, take-append-drop, take-append-le, take_at}
-use Rattle.std.proofs.lemmas.List.Folds.{list_any-append}
-use Rattle.std.proofs.lemmas.Grind.{flat_map-append}
-use Rattle.mscp_queue.specs.declared.upcoming.Upcoming.{Upcoming}
-use Rattle.mscp_queue.specs.declared.view.Choice.{Choice}
-use Rattle.mscp_queue.specs.declared.name.Name.{Name}
-use Rattle.mscp_events.specs.Settings.{Settings}
-use Rattle.mscp_controller.specs.History.{Trace}
-use Rattle.mscp_controller.specs.Commands.{ends_in, is_waiting, name, waiting}
-use Rattle.mscp_controller.specs.Legal.{IsLegal, IsPick}
-use Rattle.mscp_controller.specs.Calls.{Call, HoldsToBegun, IsBegunSince, IsRightCall, NothingBegun, StartsChosen, call_at, foretold, history, moments_of, steps, upcoming_in, upcoming_name}
-use Rattle.mscp_controller.specs.Calls.{Begin}
+use Rattle.mscp_controller.proofs.Common.{◌≡◌, ℕ, ◌+◌, ◌<◌, ◌≤◌, Bool, true, false, not, List, [], ◌∷◌, ◌++◌, take, drop, length, refl, ap, sym, ◌∙◌, subst, append_assoc, append-nil, arith, if◌then◌else◌, is_some, nat_eq, unwrap_or, Option, Some, None, list_any, and_parts, cases_lt, or_parts, true≢false, drop-append-le, drop_all, get_or_append_left, get_or_at, length-append, length_push, take-append-drop, take-append-le, take_at, list_any-append, flat_map-append, Upcoming, Choice, Name, Settings, Trace, ends_in, is_waiting, name, waiting, IsLegal, IsPick, Call, HoldsToBegun, IsBegunSince, IsRightCall, NothingBegun, StartsChosen, call_at, foretold, history, moments_of, steps, upcoming_in, upcoming_name, Begin, Holdings}
 use Rattle.mscp_controller.proofs.Promise.Apart.{Apart}
 use Rattle.mscp_controller.proofs.Promise.Among.{one_waits}
 use Rattle.mscp_controller.proofs.Promise.Grows.{is_waiting_before}
-use Rattle.mscp_controller.specs.Holdings.{Holdings}
 use Rattle.mscp_controller.proofs.Bridge.Sending.{Agrees}
 use Rattle.mscp_controller.proofs.Promise.Waits.{cut, waits_below}
 

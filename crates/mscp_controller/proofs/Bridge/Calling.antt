@@ -1,34 +1,8 @@
 -- Every call of a controller that somebody holds is answered right, and what was begun is held to.
-use Rattle.std.proofs.Common.{◌≡◌, ℕ, ◌<◌, Bool, true, false, not, List, [], ◌∷◌, ◌++◌, map, refl, ap, sym, ◌∙◌, subst, append_assoc, append-nil, arith}
-use Rattle.std.specs.Prelude.{IfSome, if◌then◌else◌, Option, Some, None, Result, Ok, Err}
-use Rattle.std.proofs.lemmas.Bool.{false≢true}
-use Rattle.mscp_packet.specs.declared.command.Command.{Command}
-use Rattle.mscp_packet.specs.Commands.{command_of}
-use Rattle.mscp_events.specs.declared.block.Block.{Block}
-use Rattle.mscp_queue.specs.declared.report.Report.{Report}
+use Rattle.mscp_controller.proofs.Common.{◌≡◌, ℕ, ◌<◌, Bool, true, false, not, List, [], ◌∷◌, ◌++◌, map, refl, ap, sym, ◌∙◌, subst, append_assoc, append-nil, arith, IfSome, if◌then◌else◌, Option, Some, None, Result, Ok, Err, false≢true, Command, command_of, Block, Report, Upcoming, Choice, Line, Name, Connection, name_on, same_name, is_begun, Event, Entry, SendFault, NotBegun, Settings, IsValid, refusal, Trace, Moment, Service, is_step, service_in, ends_in, is_waiting, name, unit, waiting, IsLegal, IsPick, IsServed, block_of, Answers, Finishes, Holdings, Steps, balance_of, fresh, held_unless, outstanding_of, sent_unless, AnsweredCalls, AnswersCall, AtEachCall, Begin, Call, Finish, HoldsToBegun, IsAsTold, IsBegun, IsBegunSince, IsChosen, IsRightCall, Plain, StartsChosen, foretold, history, start_of, upcoming_name, differ_is, same_is, each_push}
 use Rattle.mscp_queue.specs.declared.report.Report.TheVariants as reports
-use Rattle.mscp_queue.specs.declared.upcoming.Upcoming.{Upcoming}
-use Rattle.mscp_queue.specs.declared.view.Choice.{Choice}
-use Rattle.mscp_queue.specs.Lines.{Line}
-use Rattle.mscp_queue.specs.declared.name.Name.{Name}
-use Rattle.mscp_events.specs.declared.connection.Connection.{Connection}
-use Rattle.mscp_queue.specs.Names.{name_on, same_name}
-use Rattle.mscp_queue.specs.Serving.{is_begun}
-use Rattle.mscp_events.specs.declared.event.Event.{Event}
 use Rattle.mscp_events.specs.declared.event.Event.TheVariants as events
-use Rattle.mscp_controller.specs.declared.entry.Entry.{Entry}
 use Rattle.mscp_controller.specs.declared.entry.Entry.TheVariants as entries
-use Rattle.mscp_controller.specs.declared.entry.SendFault.{SendFault}
-use Rattle.mscp_controller.specs.declared.entry.NotBegun.{NotBegun}
-use Rattle.mscp_events.specs.Settings.{Settings, IsValid}
-use Rattle.mscp_controller.specs.Arrival.{refusal}
-use Rattle.mscp_controller.specs.History.{Trace, Moment, Service, is_step, service_in}
-use Rattle.mscp_controller.specs.Commands.{ends_in, is_waiting, name, unit, waiting}
-use Rattle.mscp_controller.specs.Legal.{IsLegal, IsPick, IsServed, block_of}
-use Rattle.mscp_controller.specs.Holdings.{Answers, Finishes, Holdings, Steps, balance_of, fresh, held_unless, outstanding_of, sent_unless}
-use Rattle.mscp_controller.specs.Calls.{AnsweredCalls, AnswersCall, AtEachCall, Begin, Call, Finish, HoldsToBegun, IsAsTold, IsBegun, IsBegunSince, IsChosen, IsRightCall, Plain, StartsChosen, foretold, history, start_of, upcoming_name}
-use Rattle.mscp_queue.proofs.Named.{differ_is, same_is}
-use Rattle.mscp_queue.proofs.Placed.{each_push}
 use Rattle.mscp_controller.proofs.Promise.Among.{one_waits}
 use Rattle.mscp_controller.proofs.Promise.Grows.{command_before, connection_before, is_waiting_before}
 use Rattle.mscp_controller.proofs.Promise.States.{is_online_kept}

@@ -1,25 +1,6 @@
 -- A controller of a picker keeps the promise, and a run has it.
-use Rattle.std.proofs.Common.{◌≡◌, inl, inr, ℕ, ◌-◌, ◌+◌, List, take, length, ap, ◌∙◌, arith}
-use Rattle.std.specs.Prelude.{IfSome, Option, Some, None}
-use Rattle.mscp_queue.specs.declared.view.Choice.{Choice}
-use Rattle.mscp_queue.specs.Figures.{figure_of_name}
-use Rattle.mscp_queue.specs.declared.name.Name.{Name}
-use Rattle.mscp_queue.specs.Records.{name_of}
-use Rattle.mscp_queue.specs.Why.{holders_of_name}
-use Rattle.mscp_queue.specs.Kept.{names}
-use Rattle.mscp_queue.proofs.Placed.{map_map}
-use Rattle.mscp_events.specs.declared.event.Event.{Event}
-use Rattle.mscp_controller.specs.declared.entry.Entry.{Entry}
-use Rattle.mscp_events.specs.Settings.{Settings, IsValid, credits_of}
-use Rattle.mscp_events.specs.Both.{of}
-use Rattle.mscp_controller.specs.Holdings.{Answered, Holdings, fresh, waiting_on}
-use Rattle.mscp_controller.specs.Runs.{IsRun}
-use Rattle.mscp_controller.specs.Legal.{IsPick}
-use Rattle.mscp_controller.specs.Sweeping.{IsSwept, Sweeps}
-use Rattle.mscp_controller.specs.Calls.{AnsweredCalls, Call, IsChosen, call_at, history, starts}
-use Rattle.mscp_controller.specs.Controllers.{KeepsPromise}
+use Rattle.mscp_controller.proofs.Common.{◌≡◌, inl, inr, ℕ, ◌-◌, ◌+◌, List, take, length, ap, ◌∙◌, arith, IfSome, Option, Some, None, Choice, figure_of_name, Name, name_of, holders_of_name, names, map_map, Event, Entry, Settings, IsValid, credits_of, of, Answered, Holdings, fresh, waiting_on, IsRun, IsPick, IsSwept, Sweeps, AnsweredCalls, Call, IsChosen, call_at, history, starts, KeepsPromise, waiting}
 use Rattle.mscp_controller.proofs.Bridge.Swept.{sweeping, swept_pick}
-use Rattle.mscp_controller.specs.Commands.{waiting}
 use Rattle.mscp_controller.proofs.Bridge.Held.{figure_of_held, held_of}
 use Rattle.mscp_controller.proofs.Bridge.Holders.{holders_of_held, startable_unheld}
 use Rattle.mscp_controller.proofs.Promise.Progress.{progress}

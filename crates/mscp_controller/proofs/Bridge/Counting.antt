@@ -1,24 +1,6 @@
 -- How many commands of each connection wait.
-use Rattle.std.proofs.Common.{◌≡◌, ℕ, ◌+◌, ◌<◌, Bool, true, false, not, ◌&&◌, List, [], ◌∷◌, ◌++◌, map, length, take, drop, ap, refl, arith}
-use Rattle.std.specs.Prelude.{if◌then◌else◌, option_to_list, Option}
-use Rattle.std.proofs.Math.Bool.{and-false}
-use Rattle.std.proofs.lemmas.Bool.{true≢false}
-use Rattle.std.proofs.lemmas.List.{length-append}
-use Rattle.std.proofs.lemmas.List.Elements.{filter-append}
-use Rattle.mscp_packet.specs.declared.end.End.{End}
-use Rattle.mscp_events.specs.declared.block.Block.{Block}
-use Rattle.mscp_events.specs.declared.connection.Connection.{Connection}
-use Rattle.mscp_events.specs.declared.connection.Connection.TheVariants.{First, Second}
-use Rattle.mscp_queue.specs.declared.report.Report.{Report}
+use Rattle.mscp_controller.proofs.Common.{◌≡◌, ℕ, ◌+◌, ◌<◌, Bool, true, false, not, ◌&&◌, List, [], ◌∷◌, ◌++◌, map, length, take, drop, ap, refl, arith, if◌then◌else◌, option_to_list, Option, and-false, true≢false, length-append, filter-append, End, Block, Connection, First, Second, Report, Choice, Line, Serves, name_on, same_connection, Record, no_record, passed_by, record_at, remains, without, every_from, filter_filter, filter_on, one_side, other_side, cut_at, ends_reported, waiting_on}
 use Rattle.mscp_queue.specs.declared.report.Report.TheVariants as reports
-use Rattle.mscp_queue.specs.declared.view.Choice.{Choice}
-use Rattle.mscp_queue.specs.Lines.{Line, Serves}
-use Rattle.mscp_queue.specs.Names.{name_on, same_connection}
-use Rattle.mscp_queue.specs.Records.{Record, no_record, passed_by, record_at, remains, without}
-use Rattle.mscp_queue.proofs.Lists.{every_from, filter_filter, filter_on}
-use Rattle.mscp_queue.proofs.Named.{one_side, other_side}
-use Rattle.mscp_queue.proofs.Placed.{cut_at}
-use Rattle.mscp_controller.specs.Holdings.{ends_reported, waiting_on}
 use Rattle.mscp_controller.proofs.Promise.Sides.{sides_length}
 
 -- ---- a step

@@ -1,30 +1,7 @@
 -- The drives of a controller are those of the run: each unit's state and head.
-use Rattle.std.proofs.Common.{◌≡◌, ◌≢◌, ℕ, Bool, true, false, cond, List, [], ◌∷◌, ◌++◌, map, refl, ap, sym, ◌∙◌, arith}
-use Rattle.std.specs.Prelude.{find, nat_eq, if◌then◌else◌, Option, Some, None, is_some, option_map}
-use Rattle.std.specs.List.{AllByRecursion}
-use Rattle.std.proofs.lemmas.Bool.{eqb-true, eqb-false, true≢false, false≢true}
-use Rattle.mscp_packet.specs.declared.command.Command.{Command}
-use Rattle.mscp_packet.specs.declared.end.End.{End}
-use Rattle.mscp_drive.specs.Shape.{Shape, cylinder_of}
-use Rattle.mscp_drive.specs.UnitList.{IsUnitList}
-use Rattle.mscp_events.specs.declared.block.Block.{Block}
-use Rattle.mscp_queue.specs.declared.drive.Drive.{Drive}
-use Rattle.mscp_events.specs.Settings.{Settings, unit_found, unit_shape}
-use Rattle.mscp_queue.specs.Drives.{drive_of, fresh_drive, has_number, replaced}
-use Rattle.mscp_controller.specs.Arrival.{is_queued}
-use Rattle.mscp_queue.specs.Outcomes.{head_after}
-use Rattle.mscp_controller.specs.History.{Trace, Moment, service_in}
-use Rattle.mscp_controller.specs.Commands.{command, order, unit, waiting, done}
-use Rattle.mscp_controller.specs.Units.{head, is_online}
-use Rattle.mscp_controller.specs.Ends.{outcome}
-use Rattle.mscp_controller.specs.Legal.{IsRight, block_of, end_of}
-use Rattle.mscp_queue.specs.Serving.{drive_after, end_given, state_left, touched}
-use Rattle.mscp_controller.specs.Controllers.{drive_now}
-use Rattle.mscp_queue.proofs.Lists.{every_from, every_weaker}
+use Rattle.mscp_controller.proofs.Common.{◌≡◌, ◌≢◌, ℕ, Bool, true, false, cond, List, [], ◌∷◌, ◌++◌, map, refl, ap, sym, ◌∙◌, arith, find, nat_eq, if◌then◌else◌, Option, Some, None, is_some, option_map, AllByRecursion, eqb-true, eqb-false, true≢false, false≢true, Command, End, Shape, cylinder_of, IsUnitList, Block, Drive, Settings, unit_found, unit_shape, drive_of, fresh_drive, has_number, replaced, is_queued, head_after, Trace, Moment, service_in, command, order, unit, waiting, done, head, is_online, outcome, IsRight, block_of, end_of, drive_after, end_given, state_left, touched, drive_now, every_from, every_weaker, units_found, map_map, map_on}
 use Rattle.mscp_controller.proofs.Promise.Served.{Step, some_same}
 use Rattle.mscp_controller.proofs.Promise.Queued.{each_queued, queued_open}
-use Rattle.mscp_queue.proofs.Turns.{units_found}
-use Rattle.mscp_queue.proofs.Placed.{map_map, map_on}
 use Rattle.mscp_controller.proofs.Bridge.Legals.{service_by}
 use Rattle.mscp_controller.proofs.Promise.States.{head_empty, head_kept, head_other, head_own, is_online_empty, is_online_ended, is_online_kept, is_online_other, is_online_unended}
 use Rattle.mscp_controller.proofs.Bridge.Held.{held_of}

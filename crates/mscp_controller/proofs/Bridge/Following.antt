@@ -1,28 +1,8 @@
 -- Every answer is right and picked, and what is then held is that of the run.
-use Rattle.std.proofs.Common.{◌≡◌, ℕ, suc, ◌≤◌, true, List, [], ◌∷◌, ◌++◌, map, drop, length, refl, ap, sym, ◌∙◌, subst, append-nil, arith}
-use Rattle.std.specs.Prelude.{zip, slice_get, Option, Some, None, option_map}
-use Rattle.std.proofs.lemmas.List.{append_assoc}
-use Rattle.arrayvec.specs.ArrayVec.{ArrayVec}
-use Rattle.mscp_packet.specs.declared.end.End.{End}
-use Rattle.mscp_packet.specs.Ends.{end_bytes}
-use Rattle.mscp_events.specs.declared.connection.Connection.{Connection}
-use Rattle.mscp_events.specs.declared.block.Block.{Block}
-use Rattle.mscp_queue.specs.declared.report.Report.{Report}
+use Rattle.mscp_controller.proofs.Common.{◌≡◌, ℕ, suc, ◌≤◌, true, List, [], ◌∷◌, ◌++◌, map, drop, length, refl, ap, sym, ◌∙◌, subst, append-nil, arith, zip, slice_get, Option, Some, None, option_map, append_assoc, ArrayVec, End, end_bytes, Connection, Block, Report, Choice, figures, Line, Event, Entry, Settings, IsValid, Both, of, put, Trace, Moment, collect, takes, waiting, ends, untaken, IsLegal, IsPicked, IsRight, Answered, Answers, Holdings, Steps, after_take, fresh}
 use Rattle.mscp_queue.specs.declared.report.Report.TheVariants as reports
-use Rattle.mscp_queue.specs.declared.view.Choice.{Choice}
-use Rattle.mscp_queue.specs.Figures.{figures}
-use Rattle.mscp_queue.specs.Lines.{Line}
-use Rattle.mscp_events.specs.declared.event.Event.{Event}
 use Rattle.mscp_events.specs.declared.event.Event.TheVariants as events
-use Rattle.mscp_controller.specs.declared.entry.Entry.{Entry}
 use Rattle.mscp_controller.specs.declared.entry.Entry.TheVariants as entries
-use Rattle.mscp_events.specs.Settings.{Settings, IsValid}
-use Rattle.mscp_events.specs.Both.{Both, of, put}
-use Rattle.mscp_controller.specs.History.{Trace, Moment, collect, takes}
-use Rattle.mscp_controller.specs.Commands.{waiting}
-use Rattle.mscp_controller.specs.Account.{ends, untaken}
-use Rattle.mscp_controller.specs.Legal.{IsLegal, IsPicked, IsRight}
-use Rattle.mscp_controller.specs.Holdings.{Answered, Answers, Holdings, Steps, after_take, fresh}
 use Rattle.mscp_controller.proofs.Promise.Known.{known_empty}
 use Rattle.mscp_controller.proofs.Bridge.Owning.{owner_kept, unbegun_kept}
 use Rattle.mscp_controller.proofs.Bridge.Legals.{legal_more, picked_more}

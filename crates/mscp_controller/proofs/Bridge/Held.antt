@@ -1,25 +1,7 @@
 -- When records and ends are those of a run, and the figures that they give.
-use Rattle.std.proofs.Common.{◌≡◌, ⊎_elim, ℕ, ◌+◌, ◌-◌, Bool, false, cond, List, [], ◌∷◌, ◌++◌, map, length, refl, ap, sym, ◌∙◌, append_assoc, arith}
-use Rattle.std.specs.Prelude.{filter, find, sum_by}
-use Rattle.std.specs.List.{AllByRecursion, position, range_with_len}
-use Rattle.std.proofs.lemmas.List.{length-append, length-map, map-append}
-use Rattle.mscp_packet.specs.declared.end.End.{End}
-use Rattle.mscp_events.specs.declared.connection.Connection.{Connection}
-use Rattle.mscp_queue.specs.declared.name.Name.{Name}
-use Rattle.mscp_queue.specs.Names.{same_name}
-use Rattle.mscp_queue.specs.Records.{Record, has_name, is_in_service, left_of, record_at}
-use Rattle.mscp_events.specs.Settings.{Settings}
-use Rattle.mscp_events.specs.Both.{Both, of}
-use Rattle.mscp_controller.specs.History.{Trace}
-use Rattle.mscp_controller.specs.Commands.{command, connection, name, reference, weight, waiting, done, good, left, in_service}
-use Rattle.mscp_controller.specs.Passing.{passed}
-use Rattle.mscp_controller.specs.Figures.{figure, figure_found, figure_of}
-use Rattle.mscp_controller.specs.Account.{untaken}
-use Rattle.mscp_controller.specs.Legal.{shown}
-use Rattle.mscp_queue.specs.Figures.{figure_at, figure_between, figure_of_name, figures, figures_from, figure_at_place}
+use Rattle.mscp_controller.proofs.Common.{◌≡◌, ⊎_elim, ℕ, ◌+◌, ◌-◌, Bool, false, cond, List, [], ◌∷◌, ◌++◌, map, length, refl, ap, sym, ◌∙◌, append_assoc, arith, filter, find, sum_by, AllByRecursion, position, range_with_len, length-append, length-map, map-append, End, Connection, Name, same_name, Record, has_name, is_in_service, left_of, record_at, Settings, Both, of, Trace, command, connection, name, reference, weight, waiting, done, good, left, in_service, passed, figure, figure_found, figure_of, untaken, shown, figure_at, figure_between, figure_of_name, figures, figures_from, figure_at_place, at_place, find_cases, find_none, find_first, position_none, position_first, filter_map_of, sum_by_map}
 use Rattle.mscp_controller.proofs.Promise.Falls as falls
 use Rattle.mscp_controller.proofs.Promise.Known.{Known}
-use Rattle.mscp_queue.proofs.Placed.{at_place, find_cases, find_none, find_first, position_none, position_first, filter_map_of, sum_by_map}
 
 -- the record of a command
 abbrev pub held_of : Trace → ℕ → Record

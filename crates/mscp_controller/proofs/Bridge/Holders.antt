@@ -1,22 +1,6 @@
 -- Who keeps a command back, as the records and as the history say it.
-use Rattle.std.proofs.Common.{◌≡◌, ⊎_elim, ℕ, ◌+◌, ◌<◌, ◌≤◌, Bool, true, not, ◌&&◌, ◌||◌, List, [], ◌∷◌, ◌++◌, map, take, get_or, length, refl, ap, sym, ◌∙◌, arith}
-use Rattle.std.specs.Prelude.{filter, find, nat_le, Some}
-use Rattle.std.specs.List.{list_all, position, range_with_len}
-use Rattle.std.proofs.Math.Bool.{and-false}
-use Rattle.std.proofs.lemmas.List.{get_or-take, length-append, length-map, length-take-le, map-append}
-use Rattle.mscp_queue.specs.declared.name.Name.{Name}
-use Rattle.mscp_queue.specs.declared.why.Holder.{Holder}
-use Rattle.mscp_queue.specs.Names.{same_name}
-use Rattle.mscp_queue.specs.Records.{has_name, record_at}
+use Rattle.mscp_controller.proofs.Common.{◌≡◌, ⊎_elim, ℕ, ◌+◌, ◌<◌, ◌≤◌, Bool, true, not, ◌&&◌, ◌||◌, List, [], ◌∷◌, ◌++◌, map, take, get_or, length, refl, ap, sym, ◌∙◌, arith, filter, find, nat_le, Some, list_all, position, range_with_len, and-false, get_or-take, length-append, length-map, length-take-le, map-append, Name, Holder, same_name, has_name, record_at, is_nobody, every_kept, every_weaker, range_below, at_place, find_cases, find_first, find_none, map_map, map_on, position_first, position_none, Settings, Trace, earlier, is_idle, name, waiting, holder, holders, holders_found, holders_of, keeps_back, fences, is_free, is_startable, passed, charge}
 use Rattle.mscp_queue.specs.Why as records
-use Rattle.mscp_queue.specs.Why.{is_nobody}
-use Rattle.mscp_queue.proofs.Lists.{every_kept, every_weaker, range_below}
-use Rattle.mscp_queue.proofs.Placed.{at_place, find_cases, find_first, find_none, map_map, map_on, position_first, position_none}
-use Rattle.mscp_events.specs.Settings.{Settings}
-use Rattle.mscp_controller.specs.History.{Trace}
-use Rattle.mscp_controller.specs.Commands.{earlier, is_idle, name, waiting}
-use Rattle.mscp_controller.specs.Holders.{holder, holders, holders_found, holders_of, keeps_back}
-use Rattle.mscp_controller.specs.Passing.{fences, is_free, is_startable, passed, charge}
 use Rattle.mscp_controller.proofs.Bridge.Held.{has_held, held_of}
 use Rattle.mscp_controller.proofs.Bridge.Viewed.{filter_places, front_held, record_held, waiting_at}
 

@@ -1,17 +1,5 @@
 -- What is known of a message that isn't refused.
-use Rattle.std.proofs.Common.{◌≡◌, ℕ, Bool, true, false, ◌&&◌, ◌||◌, List, [], ◌∷◌, ◌++◌, refl, ap, arith}
-use Rattle.std.specs.Prelude.{cond, nat_eq, slice_index, None}
-use Rattle.std.specs.List.{list_any}
-use Rattle.std.proofs.lemmas.List.Folds.{list_any-append}
-use Rattle.std.proofs.lemmas.Bool.{le-ltb, true≢false}
-use Rattle.mscp_events.specs.declared.connection.Connection.{Connection}
-use Rattle.mscp_queue.specs.Names.{name_on, same_connection}
-use Rattle.mscp_queue.specs.Records.{Record, has_name}
-use Rattle.mscp_packet.specs.declared.command.Command.{Command}
-use Rattle.mscp_packet.specs.Commands.{IsCommand, command_of}
-use Rattle.mscp_packet.specs.declared.end.End.{End}
-use Rattle.mscp_controller.specs.Holdings.{numbers, numbers_ended, waiting_on}
-use Rattle.mscp_controller.specs.Arrival.{credit_fault, holds, refusal}
+use Rattle.mscp_controller.proofs.Common.{◌≡◌, ℕ, Bool, true, false, ◌&&◌, ◌||◌, List, [], ◌∷◌, ◌++◌, refl, ap, arith, cond, nat_eq, slice_index, None, list_any, list_any-append, le-ltb, true≢false, Connection, name_on, same_connection, Record, has_name, Command, IsCommand, command_of, End, numbers, numbers_ended, waiting_on, credit_fault, holds, refusal}
 
 -- a message is the command that it is read as
 pub command_is : (b : List ℕ) (c : Command) → IsCommand b c → c ≡ command_of b

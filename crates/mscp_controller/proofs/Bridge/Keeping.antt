@@ -1,41 +1,13 @@
 -- What each call keeps of what a controller holds.
-use Rattle.std.proofs.Common.{◌≡◌, ℕ, ◌+◌, ◌-◌, ◌<◌, ◌≤◌, Bool, List, [], ◌∷◌, map, length, drop, ap, refl, sym, subst, ◌∙◌, arith}
-use Rattle.std.specs.Prelude.{if◌then◌else◌, slice_get, Option, Some, None, IfSome, is_some}
-use Rattle.std.proofs.lemmas.Bool.{false≢true}
-use Rattle.std.specs.List.{AllByRecursion}
-use Rattle.std.proofs.lemmas.List.{length-append, length-drop}
-use Rattle.mscp_packet.specs.declared.end.End.{End}
-use Rattle.mscp_packet.specs.Ends.{IsOfKind}
-use Rattle.mscp_drive.specs.Shape.{Shape}
-use Rattle.mscp_events.specs.declared.block.Block.{Block}
-use Rattle.mscp_events.specs.declared.connection.Connection.{Connection}
-use Rattle.mscp_events.specs.declared.connection.Connection.TheVariants.{First, Second}
-use Rattle.mscp_queue.specs.declared.name.Name.{Name}
-use Rattle.mscp_queue.specs.declared.report.Report.{Report}
+use Rattle.mscp_controller.proofs.Common.{◌≡◌, ℕ, ◌+◌, ◌-◌, ◌<◌, ◌≤◌, Bool, List, [], ◌∷◌, map, length, drop, ap, refl, sym, subst, ◌∙◌, arith, if◌then◌else◌, slice_get, Option, Some, None, IfSome, is_some, false≢true, AllByRecursion, length-append, length-drop, End, IsOfKind, Shape, Block, Connection, First, Second, Name, Report, Choice, fresh_drive, units_of, Line, Serves, name_on, Record, without, begun_without, end_in, every_append, own_side, Account, Accounts, CanEnd, account, put_account, reported, taken, untaken_in, Settings, IsValid, credits_of, room, waiting_on, of, IsAccount, IsHeld, append-nil}
+use Rattle.mscp_controller.specs.Accounts.{fresh, left}
 use Rattle.mscp_queue.specs.declared.report.Report.TheVariants as reports
-use Rattle.mscp_queue.specs.declared.view.Choice.{Choice}
-use Rattle.mscp_queue.specs.Drives.{fresh_drive}
-use Rattle.mscp_queue.specs.Kept.{units_of}
 use Rattle.mscp_queue.specs.Lines as lines
-use Rattle.mscp_queue.specs.Lines.{Line, Serves}
-use Rattle.mscp_queue.specs.Names.{name_on}
-use Rattle.mscp_queue.specs.Records.{Record, without}
-use Rattle.mscp_queue.specs.Serving.{begun_without, end_in}
-use Rattle.mscp_queue.proofs.Lists.{every_append}
-use Rattle.mscp_queue.proofs.Named.{own_side}
-use Rattle.mscp_controller.specs.declared.account.Account.{Account}
-use Rattle.mscp_controller.specs.declared.account.Accounts.{Accounts}
-use Rattle.mscp_controller.specs.Accounts.{CanEnd, account, fresh, left, put_account, reported, taken, untaken_in}
-use Rattle.mscp_events.specs.Settings.{Settings, IsValid, credits_of, room}
-use Rattle.mscp_controller.specs.Holdings.{waiting_on}
-use Rattle.mscp_events.specs.Both.{of}
-use Rattle.mscp_controller.specs.Kept.{IsAccount, IsHeld}
 use Rattle.mscp_controller.proofs.Bridge.Accounts.{each_account, of_more, seen_left, seen_of}
 use Rattle.mscp_controller.proofs.Bridge.Counting.{count_stepped, other_count, own_count}
 use Rattle.mscp_controller.proofs.Bridge.Owning.{stays}
 use Rattle.mscp_controller.proofs.Promise.Served.{some_same}
 use Rattle.mscp_controller.proofs.Promise.Sides.{sides_length}
-use Rattle.std.proofs.Common.{append-nil}
 
 -- ---- the accounts
 

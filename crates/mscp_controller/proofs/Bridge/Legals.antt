@@ -1,29 +1,8 @@
 -- A run whose moments are right one by one is legal.
-use Rattle.std.proofs.Common.{◌≡◌, ℕ, ◌<◌, true, ◌||◌, ◌&&◌, List, [], ◌∷◌, ◌++◌, map, take, drop, length, ap, sym, subst, arith, append-nil}
-use Rattle.std.specs.Prelude.{if◌then◌else◌, nat_eq, option_map, slice_get, slice_index_or, None, Option, Some}
-use Rattle.std.proofs.lemmas.Bool.{and_parts, false≢true}
-use Rattle.std.proofs.lemmas.List.{append_assoc}
-use Rattle.mscp_packet.specs.Commands.{command_of}
-use Rattle.mscp_packet.specs.Ends.{end_bytes}
-use Rattle.mscp_events.specs.declared.block.Block.{Block}
-use Rattle.mscp_events.specs.declared.connection.Connection.TheVariants.{First}
-use Rattle.mscp_events.specs.Settings.{Settings}
-use Rattle.mscp_controller.specs.History.{Trace, Moment, moment, collect, Service, service_in, WhenStarted}
-use Rattle.mscp_controller.specs.Account.{balance, ends, outstanding, untaken}
-use Rattle.mscp_controller.specs.Commands.{command, connection, reference, service_name, unit, is_waiting, waiting, done, good, in_service}
-use Rattle.mscp_controller.specs.Credits.{arrival}
-use Rattle.mscp_controller.specs.Ends.{answer, outcome}
-use Rattle.mscp_controller.specs.Figures.{figure, figure_of}
-use Rattle.mscp_controller.specs.Passing.{is_free, is_startable, passed, passed_at, startable}
-use Rattle.mscp_controller.specs.Units.{head_cylinder, head_up, is_online}
-use Rattle.mscp_queue.specs.declared.view.Choice.{Choice}
-use Rattle.mscp_controller.specs.Legal.{IsPick, IsPicked, IsRight, IsLegal, IsServed, block_of, seek_to, end_of, shown}
-use Rattle.mscp_events.specs.declared.event.Event.{Event}
+use Rattle.mscp_controller.proofs.Common.{◌≡◌, ℕ, ◌<◌, true, ◌||◌, ◌&&◌, List, [], ◌∷◌, ◌++◌, map, take, drop, length, ap, sym, subst, arith, append-nil, if◌then◌else◌, nat_eq, option_map, slice_get, slice_index_or, None, Option, Some, and_parts, false≢true, append_assoc, command_of, end_bytes, Block, First, Settings, Trace, Moment, moment, collect, Service, service_in, WhenStarted, balance, ends, outstanding, untaken, command, connection, reference, service_name, unit, is_waiting, waiting, done, good, in_service, arrival, answer, outcome, figure, figure_of, is_free, is_startable, passed, passed_at, startable, head_cylinder, head_up, is_online, Choice, IsPick, IsPicked, IsRight, IsLegal, IsServed, block_of, seek_to, end_of, shown, Event, Entry, each_push}
 use Rattle.mscp_events.specs.declared.event.Event.TheVariants as events
-use Rattle.mscp_controller.specs.declared.entry.Entry.{Entry}
 use Rattle.mscp_queue.specs.declared.report.Report.TheVariants as reports
 use Rattle.mscp_controller.specs.declared.entry.Entry.TheVariants as entries
-use Rattle.mscp_queue.proofs.Placed.{each_push}
 
 -- each moment is right after those before it
 abbrev pub RightFrom : Settings → Trace → Trace → Type 0

@@ -1,28 +1,10 @@
 -- Moments that serve nobody: what is held after them.
-use Rattle.std.proofs.Common.{◌≡◌, ℕ, ◌+◌, ◌<◌, ◌≤◌, true, false, cond, not, List, [], ◌∷◌, ◌++◌, map, drop, length, ap, sym, ◌∙◌, append-nil, arith}
-use Rattle.std.specs.Prelude.{count_by, filter, None}
-use Rattle.std.specs.List.{AllByRecursion}
-use Rattle.std.proofs.lemmas.List.{drop-drop, map-append}
-use Rattle.mscp_packet.specs.declared.end.End.{End}
-use Rattle.mscp_packet.specs.Commands.{command_of}
-use Rattle.mscp_events.specs.declared.connection.Connection.{Connection}
-use Rattle.mscp_queue.specs.declared.name.Name.{Name}
-use Rattle.mscp_queue.specs.Records.{Record, fresh_record, name_of}
-use Rattle.mscp_events.specs.Settings.{Settings}
-use Rattle.mscp_events.specs.Both.{Both, of}
-use Rattle.mscp_controller.specs.History.{Trace, Moment, connection_of, queues, sent_bytes, takes, service_in}
-use Rattle.mscp_controller.specs.Commands.{waiting, done, good, ends_in}
-use Rattle.mscp_controller.specs.Passing.{passed}
-use Rattle.mscp_controller.specs.Ends.{ends_at}
-use Rattle.mscp_controller.specs.Account.{ends, untaken}
-use Rattle.mscp_controller.specs.Legal.{IsRight}
-use Rattle.mscp_queue.proofs.Lists.{every_kept, every_weaker, every_from, filter_all}
+use Rattle.mscp_controller.proofs.Common.{◌≡◌, ℕ, ◌+◌, ◌<◌, ◌≤◌, true, false, cond, not, List, [], ◌∷◌, ◌++◌, map, drop, length, ap, sym, ◌∙◌, append-nil, arith, count_by, filter, None, AllByRecursion, drop-drop, map-append, End, command_of, Connection, Name, Record, fresh_record, name_of, Settings, Both, of, Trace, Moment, connection_of, queues, sent_bytes, takes, service_in, waiting, done, good, ends_in, passed, ends_at, ends, untaken, IsRight, every_kept, every_weaker, every_from, filter_all, filter_map_of, map_on}
 use Rattle.mscp_controller.proofs.Promise.Grows.{command_before, command_last, connection_before, connection_last, done_last, good_before, waiting_more, taken_more, ends_more}
 use Rattle.mscp_controller.proofs.Promise.Waits.{waiting_below, passed_last}
 use Rattle.mscp_controller.proofs.Promise.Steady.{done_kept}
 use Rattle.mscp_controller.proofs.Promise.Passed.{none_starts}
 use Rattle.mscp_controller.proofs.Promise.Known.{known_more}
-use Rattle.mscp_queue.proofs.Placed.{filter_map_of, map_on}
 use Rattle.mscp_controller.proofs.Bridge.Held.{held_of, Follows}
 use Rattle.mscp_controller.proofs.Promise.Grows.{drop_last}
 

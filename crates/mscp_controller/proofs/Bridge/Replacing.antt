@@ -1,30 +1,8 @@
 -- A controller whose picker is replaced keeps the promise as one whose picker may pick what that of the call may.
-use Rattle.std.proofs.Common.{◌≡◌, ℕ, List, [], ◌∷◌, Option, None, Some, inl, inr, refl, ap, arith}
-use Rattle.std.specs.Prelude.{Result}
-use Rattle.mscp_packet.specs.declared.command.Command.{Command}
-use Rattle.mscp_events.specs.declared.block.Block.{Block}
-use Rattle.mscp_events.specs.declared.connection.Connection.{Connection}
-use Rattle.mscp_events.specs.declared.event.Event.{Event}
+use Rattle.mscp_controller.proofs.Common.{◌≡◌, ℕ, List, [], ◌∷◌, Option, None, Some, inl, inr, refl, ap, arith, Result, Command, Block, Connection, Event, IsValid, Settings, Drive, Name, Report, Upcoming, Choice, Begins, Serves, Record, IsNext, view_of, AnsweredCalls, AnswersCall, Call, KeepsPromise, Answers, Finishes, Holdings, Steps, fresh, held_unless, line_of, sent_unless, AnsweredInTurn, Called, MayPickThen, Replaced, Turn, calls_of, Entry, SendFault, NotBegun}
 use Rattle.mscp_events.specs.declared.event.Event.TheVariants as events
-use Rattle.mscp_events.specs.Settings.{IsValid, Settings}
-use Rattle.mscp_queue.specs.declared.drive.Drive.{Drive}
-use Rattle.mscp_queue.specs.declared.name.Name.{Name}
-use Rattle.mscp_queue.specs.declared.report.Report.{Report}
 use Rattle.mscp_queue.specs.declared.report.Report.TheVariants as reports
-use Rattle.mscp_queue.specs.declared.upcoming.Upcoming.{Upcoming}
-use Rattle.mscp_queue.specs.declared.view.Choice.{Choice}
-use Rattle.mscp_queue.specs.Lines.{Begins, Serves}
-use Rattle.mscp_queue.specs.Records.{Record}
-use Rattle.mscp_queue.specs.Serving.{IsNext}
-use Rattle.mscp_queue.specs.Views.{view_of}
-use Rattle.mscp_controller.specs.Calls.{AnsweredCalls, AnswersCall, Call}
-use Rattle.mscp_controller.specs.Controllers.{KeepsPromise}
-use Rattle.mscp_controller.specs.Holdings.{Answers, Finishes, Holdings, Steps, fresh, held_unless, line_of, sent_unless}
-use Rattle.mscp_controller.specs.Replacing.{AnsweredInTurn, Called, MayPickThen, Replaced, Turn, calls_of}
-use Rattle.mscp_controller.specs.declared.entry.Entry.{Entry}
 use Rattle.mscp_controller.specs.declared.entry.Entry.TheVariants as entries
-use Rattle.mscp_controller.specs.declared.entry.SendFault.{SendFault}
-use Rattle.mscp_controller.specs.declared.entry.NotBegun.{NotBegun}
 use Rattle.mscp_controller.proofs.Bridge.Controllers.{keeps_promise}
 
 -- what is held, with another picker

@@ -1,19 +1,6 @@
 -- A controller as it was, and what is known of one that is.
-use Rattle.std.proofs.Common.{true, List, arith}
-use Rattle.std.proofs.lemmas.List.Elements.{All-from_recursion}
-use Rattle.mscp_packet.specs.Ends.{IsOfKind}
-use Rattle.mscp_events.specs.declared.connection.Connection.{Connection}
-use Rattle.mscp_events.specs.declared.connection.Connection.TheVariants.{First, Second}
-use Rattle.mscp_queue.specs.Kept.{ArePassedInOrder}
+use Rattle.mscp_controller.proofs.Common.{true, List, arith, All-from_recursion, IsOfKind, Connection, First, Second, ArePassedInOrder, Line, Record, Account, Accounts, account, untaken_in, IsAccount, IsHeld, IsCovered, IsSound, Settings, room}
 use Rattle.mscp_queue.specs.Kept as queue
-use Rattle.mscp_queue.specs.Lines.{Line}
-use Rattle.mscp_queue.specs.Records.{Record}
-use Rattle.mscp_controller.specs.declared.account.Account.{Account}
-use Rattle.mscp_controller.specs.declared.account.Accounts.{Accounts}
-use Rattle.mscp_controller.specs.Accounts.{account, untaken_in}
-use Rattle.mscp_controller.specs.Kept.{IsAccount, IsHeld}
-use Rattle.mscp_controller.specs.Restored.{IsCovered, IsSound}
-use Rattle.mscp_events.specs.Settings.{Settings, room}
 
 covered_of : {c : Settings} {rs : List Record} {via : Connection} {own : Account} → IsAccount c rs via own
     → IsCovered c rs via own.untaken.items

@@ -1,38 +1,11 @@
 -- A message: the answer to it is right, and what is held after it.
-use Rattle.std.proofs.Common.{◌≡◌, ℕ, ◌+◌, ◌-◌, ◌≤◌, Bool, true, false, not, List, [], ◌∷◌, ◌++◌, map, length, refl, ap, sym, ◌∙◌, subst, append-nil, append_assoc, arith}
-use Rattle.std.specs.Prelude.{filter, if◌then◌else◌, Option, Some, None, is_some, option_map, option_to_list, Result, Ok, Err}
-use Rattle.std.proofs.lemmas.List.{length-map}
-use Rattle.mscp_packet.specs.declared.command.Command.{Command}
-use Rattle.mscp_packet.specs.declared.command.Order.{Order}
-use Rattle.mscp_packet.specs.declared.end.End.{End}
-use Rattle.mscp_packet.specs.Commands.{command_of}
-use Rattle.mscp_queue.specs.declared.drive.Drive.{Drive}
-use Rattle.mscp_queue.specs.Records.{Record, aborted_record, name_of}
-use Rattle.mscp_controller.specs.declared.entry.SendFault.{SendFault}
-use Rattle.mscp_controller.specs.declared.entry.Sent.{Sent}
+use Rattle.mscp_controller.proofs.Common.{◌≡◌, ℕ, ◌+◌, ◌-◌, ◌≤◌, Bool, true, false, not, List, [], ◌∷◌, ◌++◌, map, length, refl, ap, sym, ◌∙◌, subst, append-nil, append_assoc, arith, filter, if◌then◌else◌, Option, Some, None, is_some, option_map, option_to_list, Result, Ok, Err, length-map, Command, Order, End, command_of, Drive, Record, aborted_record, name_of, SendFault, Sent, ArrayVec, Settings, credits_of, unit_found, Both, of, is_queued, refusal, own_end, Trace, Moment, queues, service_in, takes, ends_in, reference, waiting, waiting_by, is_online, answer, ends_at, untaken, balance, outstanding, arrival, taken_in, taken_unless, IsRight, Holdings, record_aborted, reference_aborted, aborting, after_message, answer_to_message, answered_end, balance_of, with_end, figure_polled, held_unless, outstanding_of, queued, sent_unless, waiting_on, Connection, drive_of, every_from, filter_all, filter_map_of, map_map}
 use Rattle.mscp_controller.specs.declared.entry.Sent.TheVariants as sents
-use Rattle.arrayvec.specs.ArrayVec.{ArrayVec}
 use Rattle.mscp_events.specs.declared.event.Event.TheVariants as events
 use Rattle.mscp_controller.specs.declared.entry.Entry.TheVariants as entries
-use Rattle.mscp_events.specs.Settings.{Settings, credits_of, unit_found}
-use Rattle.mscp_events.specs.Both.{Both, of}
-use Rattle.mscp_controller.specs.Arrival.{is_queued, refusal}
-use Rattle.mscp_controller.specs.Outcomes.{own_end}
-use Rattle.mscp_controller.specs.History.{Trace, Moment, queues, service_in, takes}
-use Rattle.mscp_controller.specs.Commands.{ends_in, reference, waiting, waiting_by}
-use Rattle.mscp_controller.specs.Units.{is_online}
-use Rattle.mscp_controller.specs.Ends.{answer, ends_at}
-use Rattle.mscp_controller.specs.Account.{untaken, balance, outstanding}
 use Rattle.mscp_controller.specs.Ends as history
-use Rattle.mscp_controller.specs.Credits.{arrival, taken_in, taken_unless}
-use Rattle.mscp_controller.specs.Legal.{IsRight}
-use Rattle.mscp_controller.specs.Holdings.{Holdings, record_aborted, reference_aborted, aborting, after_message, answer_to_message, answered_end, balance_of, with_end, figure_polled, held_unless, outstanding_of, queued, sent_unless, waiting_on}
-use Rattle.mscp_events.specs.declared.connection.Connection.{Connection}
-use Rattle.mscp_queue.specs.Drives.{drive_of}
 use Rattle.mscp_controller.proofs.Promise.Arrivals.{taken_when}
 use Rattle.mscp_controller.proofs.Promise.Grows.{untaken_more}
-use Rattle.mscp_queue.proofs.Lists.{every_from, filter_all}
-use Rattle.mscp_queue.proofs.Placed.{filter_map_of, map_map}
 use Rattle.mscp_controller.proofs.Bridge.Held.{held_of, Follows, figure_of_held}
 use Rattle.mscp_controller.proofs.Bridge.Aborting.{end_made, others_wait, reference_told}
 use Rattle.mscp_controller.proofs.Bridge.Quiet.{IsQuiet, follows_left, follows_queued}

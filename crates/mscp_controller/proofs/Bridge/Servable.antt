@@ -1,25 +1,6 @@
 -- The record that may be served next: the run serves its command next, too.
-use Rattle.std.proofs.Common.{◌≡◌, ℕ, ◌+◌, ◌<◌, Bool, true, false, ◌&&◌, ◌||◌, List, [], ◌∷◌, map, take, drop, get_or, length, refl, ap, sym, ◌∙◌, subst, arith}
-use Rattle.std.specs.Prelude.{All, nat_eq, Option, Some, None, is_some}
-use Rattle.std.specs.List.{AllByRecursion, list_all}
-use Rattle.std.proofs.lemmas.Bool.{eq-eqb, eqb-false, lt-ltb}
-use Rattle.std.proofs.lemmas.List.{get_or-map, length-map}
-use Rattle.std.proofs.lemmas.List.Elements.{recursion_from_All}
-use Rattle.mscp_queue.specs.declared.drive.Drive.{Drive}
-use Rattle.mscp_queue.specs.declared.view.Choice.{Choice}
-use Rattle.mscp_queue.specs.Drives.{drive_of}
-use Rattle.mscp_queue.specs.declared.name.Name.{Name}
-use Rattle.mscp_queue.specs.Records.{Record, name_of, record_at}
+use Rattle.mscp_controller.proofs.Common.{◌≡◌, ℕ, ◌+◌, ◌<◌, Bool, true, false, ◌&&◌, ◌||◌, List, [], ◌∷◌, map, take, drop, get_or, length, refl, ap, sym, ◌∙◌, subst, arith, All, nat_eq, Option, Some, None, is_some, AllByRecursion, list_all, eq-eqb, eqb-false, lt-ltb, get_or-map, length-map, recursion_from_All, Drive, Choice, drive_of, Name, Record, name_of, record_at, IsNext, open_places, Settings, unit_found, Trace, name, unit, is_idle, is_waiting, waiting, done, in_service, is_startable, startable, view, same_is, every_mapped, every_weaker, every_parts}
 use Rattle.mscp_queue.specs.Records as recorded
-use Rattle.mscp_queue.specs.Serving.{IsNext}
-use Rattle.mscp_queue.specs.Views.{open_places}
-use Rattle.mscp_events.specs.Settings.{Settings, unit_found}
-use Rattle.mscp_controller.specs.History.{Trace}
-use Rattle.mscp_controller.specs.Commands.{name, unit, is_idle, is_waiting, waiting, done, in_service}
-use Rattle.mscp_controller.specs.Passing.{is_startable, startable}
-use Rattle.mscp_controller.specs.Legal.{view}
-use Rattle.mscp_queue.proofs.Named.{same_is}
-use Rattle.mscp_queue.proofs.Lists.{every_mapped, every_weaker, every_parts}
 use Rattle.mscp_controller.proofs.Promise.Waits.{waiting_waits}
 use Rattle.mscp_controller.proofs.Bridge.Held.{held_of}
 use Rattle.mscp_controller.proofs.Bridge.Drives.{Driven, drive_by, drive_found}

@@ -1,40 +1,11 @@
 -- A step of the record that may be served next: it is right, it is picked, and what is held after it is that of the
 -- run.
-use Rattle.std.proofs.Common.{◌≡◌, ℕ, ◌+◌, ◌<◌, Bool, true, false, cond, ◌&&◌, List, [], ◌∷◌, ◌++◌, map, take, drop, length, refl, ap, sym, ◌∙◌, subst, arith}
-use Rattle.std.specs.Prelude.{All, IfSome, nat_eq, Option, Some, None, option_to_list, if◌then◌else◌}
-use Rattle.std.specs.List.{AllByRecursion}
-use Rattle.std.proofs.Math.Bool.{and-false}
-use Rattle.std.proofs.lemmas.Bool.{eq-eqb, lt-ltb, true≢false, false≢true}
-use Rattle.std.proofs.lemmas.List.{map-append, take-map, drop-map}
-use Rattle.std.proofs.lemmas.List.Elements.{recursion_from_All}
-use Rattle.mscp_packet.specs.declared.end.End.{End}
-use Rattle.mscp_events.specs.declared.block.Block.{Block}
-use Rattle.mscp_queue.specs.declared.drive.Drive.{Drive}
-use Rattle.mscp_queue.specs.declared.report.Report.{Report}
+use Rattle.mscp_controller.proofs.Common.{◌≡◌, ℕ, ◌+◌, ◌<◌, Bool, true, false, cond, ◌&&◌, List, [], ◌∷◌, ◌++◌, map, take, drop, length, refl, ap, sym, ◌∙◌, subst, arith, All, IfSome, nat_eq, Option, Some, None, option_to_list, if◌then◌else◌, AllByRecursion, and-false, eq-eqb, lt-ltb, true≢false, false≢true, map-append, take-map, drop-map, recursion_from_All, End, Block, Drive, Report, Choice, drive_of, replaced, Line, ServesAt, Name, Connection, same_connection, same_name, order_weight, Record, advanced, step_charge, passed_by, record_at, IsNext, drive_after, report_of, waiting_after, Settings, IsValid, Both, of, Trace, Moment, is_good, service_in, WhenStarted, connection, name, reference, service_name, unit, order, is_waiting, waiting, weight, done, good, left, serves_in, passed, untaken, IsPick, IsRight, block_of, end_of, IsServed, seek_to, Holdings, ends_after, ends_reported, line_of, is_same, every_mapped, every_weaker, every_both, every_from, every_parts, map_map, map_on}
 use Rattle.mscp_queue.specs.declared.report.Report.TheVariants as reports
-use Rattle.mscp_queue.specs.declared.view.Choice.{Choice}
-use Rattle.mscp_queue.specs.Drives.{drive_of, replaced}
-use Rattle.mscp_queue.specs.Lines.{Line, ServesAt}
-use Rattle.mscp_queue.specs.declared.name.Name.{Name}
-use Rattle.mscp_events.specs.declared.connection.Connection.{Connection}
-use Rattle.mscp_queue.specs.Names.{same_connection, same_name}
-use Rattle.mscp_queue.specs.Orders.{order_weight}
-use Rattle.mscp_queue.specs.Records.{Record, advanced, step_charge, passed_by, record_at}
 use Rattle.mscp_queue.specs.Records as recorded
-use Rattle.mscp_queue.specs.Serving.{IsNext, drive_after, report_of, waiting_after}
 use Rattle.mscp_events.specs.declared.event.Event.TheVariants as events
 use Rattle.mscp_controller.specs.declared.entry.Entry.TheVariants as entries
-use Rattle.mscp_events.specs.Settings.{Settings, IsValid}
-use Rattle.mscp_events.specs.Both.{Both, of}
-use Rattle.mscp_controller.specs.History.{Trace, Moment, is_good, service_in, WhenStarted}
-use Rattle.mscp_controller.specs.Commands.{connection, name, reference, service_name, unit, order, is_waiting, waiting, weight, done, good, left, serves_in}
-use Rattle.mscp_controller.specs.Passing.{passed}
 use Rattle.mscp_controller.specs.Passing as passings
-use Rattle.mscp_controller.specs.Account.{untaken}
-use Rattle.mscp_controller.specs.Legal.{IsPick, IsRight, block_of, end_of, IsServed, seek_to}
-use Rattle.mscp_controller.specs.Holdings.{Holdings, ends_after, ends_reported, line_of}
-use Rattle.mscp_queue.proofs.Named.{is_same}
-use Rattle.mscp_queue.proofs.Lists.{every_mapped, every_weaker, every_both, every_from, every_parts}
 use Rattle.mscp_controller.proofs.Promise.Grows.{command_before, connection_before, done_before, good_before, untaken_more}
 use Rattle.mscp_controller.proofs.Promise.Waits.{cut_of, waiting_below, waiting_waits}
 use Rattle.mscp_controller.proofs.Promise.Apart.{Apart}
@@ -43,7 +14,6 @@ use Rattle.mscp_controller.proofs.Promise.Served.{Step, changes, below_parts}
 use Rattle.mscp_controller.proofs.Promise.Passed.{none_starts, passed_behind, passed_front}
 use Rattle.mscp_controller.proofs.Promise.Known.{known_more}
 use Rattle.mscp_controller.proofs.Bridge.Legals.{service_by}
-use Rattle.mscp_queue.proofs.Placed.{map_map, map_on}
 use Rattle.mscp_controller.proofs.Bridge.Held.{held_of}
 use Rattle.mscp_controller.proofs.Bridge.Drives.{drive_by, driven_served, end_held}
 use Rattle.mscp_controller.proofs.Bridge.Quiet.{held_same, records_kept}

@@ -1,25 +1,5 @@
 -- Where a picker picks only what the sweep may pick, each command that starts is the one that the sweep starts.
-use Rattle.std.proofs.Common.{◌≡◌, ℕ, ◌+◌, ◌<◌, ◌≤◌, Bool, true, false, not, List, ◌∷◌, ◌++◌, map, take, drop, get_or, length, ap, sym, ◌∙◌, subst, arith}
-use Rattle.std.specs.Prelude.{find, nat_eq, Option, Some, None}
-use Rattle.std.specs.List.{AllByRecursion, list_all}
-use Rattle.std.proofs.Math.Bool.{and-false}
-use Rattle.std.proofs.lemmas.Bool.{le-ltb, lt-ltb, ne_eqb}
-use Rattle.std.proofs.lemmas.List.{drop_more, get_or-map, length-map, take-append-drop, take-map}
-use Rattle.std.proofs.lemmas.List.Elements.{recursion_from_All}
-use Rattle.std.proofs.lemmas.List.Folds.{list_all-append}
-use Rattle.mscp_queue.specs.declared.view.Choice.{Choice}
-use Rattle.mscp_queue.specs.declared.name.Name.{Name}
-use Rattle.mscp_queue.specs.Pickers.{IsFirstLeast}
-use Rattle.mscp_queue.specs.Pairs.{Pairs}
-use Rattle.mscp_queue.proofs.Lists.{every_append, every_both, every_mapped, every_parts, every_weaker, pairs_filter, pairs_middle}
-use Rattle.mscp_queue.proofs.Placed.{find_first, map_map}
-use Rattle.mscp_events.specs.Settings.{Settings}
-use Rattle.mscp_controller.specs.History.{Trace, moment, Service, service_in, WhenStarted}
-use Rattle.mscp_controller.specs.Commands.{service_name, waiting}
-use Rattle.mscp_controller.specs.Passing.{is_startable, startable}
-use Rattle.mscp_controller.specs.Units.{cost}
-use Rattle.mscp_controller.specs.Legal.{IsPick, IsPicked}
-use Rattle.mscp_controller.specs.Sweeping.{IsSwept, IsSweeping, Sweeps, goes_before, swept}
+use Rattle.mscp_controller.proofs.Common.{◌≡◌, ℕ, ◌+◌, ◌<◌, ◌≤◌, Bool, true, false, not, List, ◌∷◌, ◌++◌, map, take, drop, get_or, length, ap, sym, ◌∙◌, subst, arith, find, nat_eq, Option, Some, None, AllByRecursion, list_all, and-false, le-ltb, lt-ltb, ne_eqb, drop_more, get_or-map, length-map, take-append-drop, take-map, recursion_from_All, list_all-append, Choice, Name, IsFirstLeast, Pairs, every_append, every_both, every_mapped, every_parts, every_weaker, pairs_filter, pairs_middle, find_first, map_map, Settings, Trace, moment, Service, service_in, WhenStarted, service_name, waiting, is_startable, startable, cost, IsPick, IsPicked, IsSwept, IsSweeping, Sweeps, goes_before, swept}
 use Rattle.mscp_controller.proofs.Promise.Waits.{waiting_rises}
 use Rattle.mscp_controller.proofs.Bridge.Servable.{all_of}
 

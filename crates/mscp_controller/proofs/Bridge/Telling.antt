@@ -1,18 +1,5 @@
 -- What a begin tells is what the next step serves, and it is kept.
-use Rattle.std.proofs.Common.{◌≡◌, inl, ℕ, Bool, true, false, List, [], ◌∷◌, ◌++◌, map, refl, ap, sym, ◌∙◌, subst, arith}
-use Rattle.std.specs.Prelude.{IfSome, if◌then◌else◌, nat_eq, Option, Some, None}
-use Rattle.mscp_queue.specs.declared.upcoming.Upcoming.{Upcoming}
-use Rattle.mscp_queue.specs.declared.view.Choice.{Choice}
-use Rattle.mscp_queue.specs.Lines.{BeginsAt, Line}
-use Rattle.mscp_queue.specs.declared.name.Name.{Name}
-use Rattle.mscp_queue.specs.Records.{Record, name_of}
-use Rattle.mscp_queue.specs.Serving.{IsNext, upcoming_of}
-use Rattle.mscp_events.specs.Settings.{Settings}
-use Rattle.mscp_controller.specs.History.{Trace}
-use Rattle.mscp_controller.specs.Commands.{is_waiting, name, unit, waiting}
-use Rattle.mscp_controller.specs.Legal.{IsLegal, IsPick, block_of}
-use Rattle.mscp_controller.specs.Holdings.{Foretells, Holdings, line_of}
-use Rattle.mscp_controller.specs.Calls.{Begin, Call, HoldsToBegun, IsChosen, NothingBegun, foretold, history, upcoming_name}
+use Rattle.mscp_controller.proofs.Common.{◌≡◌, inl, ℕ, Bool, true, false, List, [], ◌∷◌, ◌++◌, map, refl, ap, sym, ◌∙◌, subst, arith, IfSome, if◌then◌else◌, nat_eq, Option, Some, None, Upcoming, Choice, BeginsAt, Line, Name, Record, name_of, IsNext, upcoming_of, Settings, Trace, is_waiting, name, unit, waiting, IsLegal, IsPick, block_of, Foretells, Holdings, line_of, Begin, Call, HoldsToBegun, IsChosen, NothingBegun, foretold, history, upcoming_name}
 use Rattle.mscp_controller.proofs.Promise.Among.{one_waits}
 use Rattle.mscp_controller.proofs.Bridge.Begun.{Held, Turned, Holds, begin_same, holds_again, holds_new, nothing_told, name_begun}
 use Rattle.mscp_controller.proofs.Bridge.Drives.{drive_by}

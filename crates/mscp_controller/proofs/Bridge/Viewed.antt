@@ -1,23 +1,6 @@
 -- What may start, as the records and as the history say it.
-use Rattle.std.proofs.Common.{◌≡◌, ℕ, suc, ◌+◌, ◌<◌, Bool, true, not, List, [], ◌∷◌, ◌++◌, map, take, drop, get_or, length, refl, ap, ◌∙◌, subst, arith}
-use Rattle.std.specs.Prelude.{filter}
-use Rattle.std.specs.List.{range_with_len}
-use Rattle.std.proofs.lemmas.List.{drop_more, get_or-map, length-map, take-append-drop, take-map}
-use Rattle.std.proofs.lemmas.List.Folds.{list_all-map}
-use Rattle.std.proofs.lemmas.List.Elements.{All-from_recursion}
-use Rattle.mscp_queue.specs.declared.drive.Drive.{Drive}
-use Rattle.mscp_queue.specs.Drives.{drive_of}
-use Rattle.mscp_queue.specs.Records.{Record, drive_at, no_record, record_at}
-use Rattle.mscp_queue.specs.Views.{choice_of, is_open_at, open_places, view_of}
+use Rattle.mscp_controller.proofs.Common.{◌≡◌, ℕ, suc, ◌+◌, ◌<◌, Bool, true, not, List, [], ◌∷◌, ◌++◌, map, take, drop, get_or, length, refl, ap, ◌∙◌, subst, arith, filter, range_with_len, drop_more, get_or-map, length-map, take-append-drop, take-map, list_all-map, All-from_recursion, Drive, drive_of, Record, drive_at, no_record, record_at, choice_of, is_open_at, open_places, view_of, Settings, Trace, command, unit, waiting, earlier, is_idle, is_free, is_startable, startable, cost, choice, view, every_kept, every_weaker, range_below, map_map, map_on}
 use Rattle.mscp_queue.specs.Views as records
-use Rattle.mscp_events.specs.Settings.{Settings}
-use Rattle.mscp_controller.specs.History.{Trace}
-use Rattle.mscp_controller.specs.Commands.{command, unit, waiting, earlier, is_idle}
-use Rattle.mscp_controller.specs.Passing.{is_free, is_startable, startable}
-use Rattle.mscp_controller.specs.Units.{cost}
-use Rattle.mscp_controller.specs.Legal.{choice, view}
-use Rattle.mscp_queue.proofs.Lists.{every_kept, every_weaker, range_below}
-use Rattle.mscp_queue.proofs.Placed.{map_map, map_on}
 use Rattle.mscp_controller.proofs.Promise.Waits.{cut_of, earlier_is}
 use Rattle.mscp_controller.proofs.Bridge.Drives.{Driven, IsConfigured, drive_by, drive_found}
 use Rattle.mscp_controller.proofs.Bridge.Held.{held_of}

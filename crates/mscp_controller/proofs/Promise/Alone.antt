@@ -1,13 +1,5 @@
 -- At most one command is in service, and if none is, the oldest that waits may start.
-use Rattle.std.proofs.Common.{◌≡◌, ◌⊎◌, ⊎_elim, ℕ, ◌<◌, ◌≤◌, true, not, List, [], ◌∷◌, length, ap, arith}
-use Rattle.std.specs.Prelude.{filter, slice_get, Some, is_some}
-use Rattle.std.specs.List.{AllByRecursion}
-use Rattle.std.proofs.lemmas.Bool.{false≢true, ltb-true}
-use Rattle.mscp_queue.proofs.Lists.{every_weaker, filter_none}
-use Rattle.mscp_events.specs.Settings.{Settings}
-use Rattle.mscp_controller.specs.History.{Trace}
-use Rattle.mscp_controller.specs.Commands.{done, in_service, is_idle, waiting}
-use Rattle.mscp_controller.specs.Passing.{is_free, is_startable}
+use Rattle.mscp_controller.proofs.Common.{◌≡◌, ◌⊎◌, ⊎_elim, ℕ, ◌<◌, ◌≤◌, true, not, List, [], ◌∷◌, length, ap, arith, filter, slice_get, Some, is_some, AllByRecursion, false≢true, ltb-true, every_weaker, filter_none, Settings, Trace, done, in_service, is_idle, waiting, is_free, is_startable}
 use Rattle.mscp_controller.proofs.Promise.Steady.{Single}
 use Rattle.mscp_controller.proofs.Promise.Waits.{cut_of, earlier_is}
 

@@ -1,15 +1,5 @@
 -- A waiting command among the others, which have other names.
-use Rattle.std.proofs.Common.{◌≡◌, ◌≢◌, ℕ, Bool, true, false, List, refl, ap, sym, ◌∙◌, arith}
-use Rattle.std.specs.Prelude.{find, unwrap_or, Some}
-use Rattle.std.specs.List.{AllByRecursion}
-use Rattle.mscp_events.specs.Settings.{Settings}
-use Rattle.mscp_controller.specs.History.{Trace}
-use Rattle.mscp_controller.specs.Commands.{is_waiting, name, waiting}
-use Rattle.mscp_controller.specs.Figures.{figure, figure_of}
-use Rattle.mscp_queue.specs.Names.{same_name}
-use Rattle.mscp_queue.proofs.Named.{is_differ, is_same}
-use Rattle.mscp_queue.proofs.Lists.{every_weaker, pairs_middle}
-use Rattle.mscp_queue.proofs.Placed.{find_first}
+use Rattle.mscp_controller.proofs.Common.{◌≡◌, ◌≢◌, ℕ, Bool, true, false, List, refl, ap, sym, ◌∙◌, arith, find, unwrap_or, Some, AllByRecursion, Settings, Trace, is_waiting, name, waiting, figure, figure_of, same_name, is_differ, is_same, every_weaker, pairs_middle, find_first}
 use Rattle.mscp_controller.proofs.Promise.Waits.{Cut, cut, waits_below}
 use Rattle.mscp_controller.proofs.Promise.Apart.{Apart}
 

@@ -1,20 +1,5 @@
 -- The commands that wait have different names.
-use Rattle.std.proofs.Common.{◌≡◌, ◌≢◌, ℕ, ◌<◌, Bool, true, false, cond, not, List, [], ◌∷◌, ◌++◌, map, length, refl, sym, ◌∙◌, append-nil, arith}
-use Rattle.std.specs.Prelude.{nat_eq, filter}
-use Rattle.std.specs.List.{AllByRecursion}
-use Rattle.std.proofs.lemmas.Bool.{or_parts, eqb-false, true≢false}
-use Rattle.mscp_events.specs.Settings.{Settings}
-use Rattle.mscp_packet.specs.Commands.{command_of}
-use Rattle.mscp_controller.specs.Arrival.{holds}
-use Rattle.mscp_controller.specs.History.{Trace, Moment, connection_of, queues, sent_bytes}
-use Rattle.mscp_controller.specs.Commands.{name, reference, waiting}
-use Rattle.mscp_controller.specs.Account.{outstanding}
-use Rattle.mscp_controller.specs.Legal.{IsRight}
-use Rattle.mscp_queue.specs.declared.name.Name.{Name}
-use Rattle.mscp_queue.specs.Names.{name_on}
-use Rattle.mscp_queue.specs.Pairs.{Pairs}
-use Rattle.mscp_queue.proofs.Named.{own_side}
-use Rattle.mscp_queue.proofs.Lists.{every_kept, every_weaker, pairs_filter, pairs_append}
+use Rattle.mscp_controller.proofs.Common.{◌≡◌, ◌≢◌, ℕ, ◌<◌, Bool, true, false, cond, not, List, [], ◌∷◌, ◌++◌, map, length, refl, sym, ◌∙◌, append-nil, arith, nat_eq, filter, AllByRecursion, or_parts, eqb-false, true≢false, Settings, command_of, holds, Trace, Moment, connection_of, queues, sent_bytes, name, reference, waiting, outstanding, IsRight, Name, name_on, Pairs, own_side, every_kept, every_weaker, pairs_filter, pairs_append}
 use Rattle.mscp_controller.proofs.Promise.Grows.{command_last, connection_last, name_before, waiting_more}
 use Rattle.mscp_controller.proofs.Promise.Waits.{waiting_below}
 use Rattle.mscp_controller.proofs.Promise.Arrivals.{queued_right}

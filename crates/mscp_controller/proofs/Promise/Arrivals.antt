@@ -1,26 +1,8 @@
 -- What is known of a message that was taken.
-use Rattle.std.proofs.Common.{◌≡◌, ℕ, ◌≤◌, Bool, true, false, not, ◌&&◌, List, length, arith}
-use Rattle.std.specs.Prelude.{nat_eq, nat_lt, if◌then◌else◌, slice_index, Option, Some, None, Result, Ok, Err}
-use Rattle.std.proofs.lemmas.Bool.{ltb-false, eqb-false, true≢false, false≢true}
-use Rattle.mscp_packet.specs.declared.command.Command.{Command}
-use Rattle.mscp_controller.specs.declared.entry.SendFault.{SendFault}
-use Rattle.mscp_controller.specs.declared.entry.SendFault.TheVariants.{Short}
-use Rattle.mscp_controller.specs.declared.entry.Sent.{Sent}
+use Rattle.mscp_controller.proofs.Common.{◌≡◌, ℕ, ◌≤◌, Bool, true, false, not, ◌&&◌, List, length, arith, nat_eq, nat_lt, if◌then◌else◌, slice_index, Option, Some, None, Result, Ok, Err, ltb-false, eqb-false, true≢false, false≢true, Command, SendFault, Short, Sent, Event, Entry, Connection, Settings, num, class, is_immediate_class, command_of, is_queued, holds, refusal, Trace, connection_of, queues, sent_bytes, aborted_reference, taken_in, taken_unless, arrival, balance, outstanding, IsRight}
 use Rattle.mscp_controller.specs.declared.entry.Sent.TheVariants as sents
-use Rattle.mscp_events.specs.declared.event.Event.{Event}
 use Rattle.mscp_events.specs.declared.event.Event.TheVariants as events
-use Rattle.mscp_controller.specs.declared.entry.Entry.{Entry}
 use Rattle.mscp_controller.specs.declared.entry.Entry.TheVariants as entries
-use Rattle.mscp_events.specs.declared.connection.Connection.{Connection}
-use Rattle.mscp_events.specs.Settings.{Settings}
-use Rattle.mscp_packet.specs.Number.{num}
-use Rattle.mscp_packet.specs.Opcodes.{class, is_immediate_class}
-use Rattle.mscp_packet.specs.Commands.{command_of}
-use Rattle.mscp_controller.specs.Arrival.{is_queued, holds, refusal}
-use Rattle.mscp_controller.specs.History.{Trace, connection_of, queues, sent_bytes}
-use Rattle.mscp_controller.specs.Credits.{aborted_reference, taken_in, taken_unless, arrival}
-use Rattle.mscp_controller.specs.Account.{balance, outstanding}
-use Rattle.mscp_controller.specs.Legal.{IsRight}
 
 -- no reason to refuse it
 pub record IsTaken (credit : ℕ) (references b : List ℕ) : Type 0 where

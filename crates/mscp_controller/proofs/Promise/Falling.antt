@@ -1,14 +1,5 @@
 -- At a right moment no figure rises, and where it is a step each falls.
-use Rattle.std.proofs.Common.{◌≡◌, ℕ, ◌<◌, ◌≤◌, true, [], ◌∷◌, ◌++◌, length, refl, ap, arith}
-use Rattle.std.specs.Prelude.{Option, Some, None, Contains}
-use Rattle.std.proofs.lemmas.Bool.{true≢false, false≢true}
-use Rattle.mscp_events.specs.declared.event.Event.{Event}
-use Rattle.mscp_controller.specs.declared.entry.Entry.{Entry}
-use Rattle.mscp_events.specs.Settings.{Settings}
-use Rattle.mscp_controller.specs.History.{Trace, Moment, is_step, Service, service_in}
-use Rattle.mscp_controller.specs.Commands.{waiting}
-use Rattle.mscp_controller.specs.Figures.{figure}
-use Rattle.mscp_controller.specs.Legal.{IsRight}
+use Rattle.mscp_controller.proofs.Common.{◌≡◌, ℕ, ◌<◌, ◌≤◌, true, [], ◌∷◌, ◌++◌, length, refl, ap, arith, Option, Some, None, Contains, true≢false, false≢true, Event, Entry, Settings, Trace, Moment, is_step, Service, service_in, waiting, figure, IsRight}
 use Rattle.mscp_controller.proofs.Promise.Grows.{done_last}
 use Rattle.mscp_controller.proofs.Promise.Served.{step_right}
 use Rattle.mscp_controller.proofs.Promise.Steady.{Steady}

@@ -1,17 +1,5 @@
 -- The figures of the waiting commands fall at each step of a legal run.
-use Rattle.std.proofs.Common.{◌≡◌, ℕ, ◌+◌, ◌-◌, ◌<◌, ◌≤◌, Bool, true, false, cond, not, List, [], ◌∷◌, ◌++◌, length, refl, ap, sym, ◌∙◌, subst, arith}
-use Rattle.std.specs.Prelude.{filter, sum_by, nat_eq, Contains, Some, is_some}
-use Rattle.std.specs.List.{AllByRecursion}
-use Rattle.std.proofs.lemmas.List.{append_assoc}
-use Rattle.std.proofs.lemmas.List.Elements.{filter-append, All-from_recursion, All-contains}
-use Rattle.std.proofs.lemmas.List.Sums.{sum_by-append, sum_by-cons}
-use Rattle.std.proofs.lemmas.Bool.{lt-ltb, le-ltb, and_right, eqb-true, eqb-false}
-use Rattle.mscp_events.specs.Settings.{Settings}
-use Rattle.mscp_controller.specs.History.{Trace, Moment, Service, service_in}
-use Rattle.mscp_controller.specs.Commands.{name, weight, is_waiting, waiting, done, left, in_service, earlier, later, ends_in, service_name}
-use Rattle.mscp_controller.specs.Passing.{charge, passed}
-use Rattle.mscp_controller.specs.Figures.{figure}
-use Rattle.mscp_queue.proofs.Lists.{every_weaker, every_append, every_parts, filter_none, sum_on}
+use Rattle.mscp_controller.proofs.Common.{◌≡◌, ℕ, ◌+◌, ◌-◌, ◌<◌, ◌≤◌, Bool, true, false, cond, not, List, [], ◌∷◌, ◌++◌, length, refl, ap, sym, ◌∙◌, subst, arith, filter, sum_by, nat_eq, Contains, Some, is_some, AllByRecursion, append_assoc, filter-append, All-from_recursion, All-contains, sum_by-append, sum_by-cons, lt-ltb, le-ltb, and_right, eqb-true, eqb-false, Settings, Trace, Moment, Service, service_in, name, weight, is_waiting, waiting, done, left, in_service, earlier, later, ends_in, service_name, charge, passed, figure, every_weaker, every_append, every_parts, filter_none, sum_on}
 use Rattle.mscp_controller.proofs.Promise.Grows.{is_waiting_before}
 use Rattle.mscp_controller.proofs.Promise.Waits.{waiting_waits, waiting_below, cut_of, earlier_is, later_is}
 use Rattle.mscp_controller.proofs.Promise.Served.{kept_own}

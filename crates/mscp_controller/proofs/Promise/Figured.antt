@@ -1,13 +1,5 @@
 -- What a figure reads of a command, and how a step changes it.
-use Rattle.std.proofs.Common.{◌≡◌, ℕ, ◌+◌, ◌-◌, ◌<◌, true, cond, List, [], ◌∷◌, ◌++◌, length, ap, ◌∙◌, subst, arith}
-use Rattle.std.specs.List.{AllByRecursion}
-use Rattle.std.proofs.lemmas.Bool.{lt-ltb, eq-eqb, and_right}
-use Rattle.mscp_events.specs.declared.block.Block.{Block}
-use Rattle.mscp_events.specs.Settings.{Settings}
-use Rattle.mscp_controller.specs.History.{Trace, Moment, Service}
-use Rattle.mscp_controller.specs.Commands.{weight, is_waiting, done}
-use Rattle.mscp_controller.specs.Passing.{charge, passed}
-use Rattle.mscp_queue.proofs.Lists.{every_weaker, every_both, every_parts}
+use Rattle.mscp_controller.proofs.Common.{◌≡◌, ℕ, ◌+◌, ◌-◌, ◌<◌, true, cond, List, [], ◌∷◌, ◌++◌, length, ap, ◌∙◌, subst, arith, AllByRecursion, lt-ltb, eq-eqb, and_right, Block, Settings, Trace, Moment, Service, weight, is_waiting, done, charge, passed, every_weaker, every_both, every_parts}
 use Rattle.mscp_controller.proofs.Promise.Waits.{waiting_waits}
 use Rattle.mscp_controller.proofs.Promise.Served.{Step, below_parts}
 use Rattle.mscp_controller.proofs.Promise.Steady.{weight_before}

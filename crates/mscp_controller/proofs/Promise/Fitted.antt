@@ -1,13 +1,5 @@
 -- A right step, with all that is known of those that wait; and moments that serve nobody.
-use Rattle.std.proofs.Common.{◌≡◌, ℕ, ◌+◌, ◌<◌, ◌≤◌, List, ◌∷◌, ap, sym, ◌∙◌, subst, arith}
-use Rattle.std.specs.Prelude.{None, is_some}
-use Rattle.std.specs.List.{AllByRecursion}
-use Rattle.mscp_events.specs.declared.block.Block.{Block}
-use Rattle.mscp_events.specs.Settings.{Settings}
-use Rattle.mscp_controller.specs.History.{Trace, Moment, Service, service_in}
-use Rattle.mscp_controller.specs.Commands.{weight, done}
-use Rattle.mscp_controller.specs.Passing.{charge, passed}
-use Rattle.mscp_queue.proofs.Lists.{every_weaker, every_parts}
+use Rattle.mscp_controller.proofs.Common.{◌≡◌, ℕ, ◌+◌, ◌<◌, ◌≤◌, List, ◌∷◌, ap, sym, ◌∙◌, subst, arith, None, is_some, AllByRecursion, Block, Settings, Trace, Moment, Service, service_in, weight, done, charge, passed, every_weaker, every_parts}
 use Rattle.mscp_controller.proofs.Promise.Waits.{waiting_below, earlier_is}
 use Rattle.mscp_controller.proofs.Promise.Served.{Step}
 use Rattle.mscp_controller.proofs.Promise.Starts.{startable_of, startable_parts}

@@ -1,26 +1,7 @@
 -- What the definitions say when one more moment comes.
-use Rattle.std.proofs.Common.{◌≡◌, ℕ, ◌+◌, ◌<◌, ◌≤◌, Bool, true, false, cond, not, ◌&&◌, ◌||◌, List, [], ◌∷◌, ◌++◌, take, drop, length, refl, ap, sym, ◌∙◌, arith, append-nil}
-use Rattle.std.specs.Prelude.{filter, count_by, None}
-use Rattle.std.specs.List.{range_with_len}
-use Rattle.std.proofs.lemmas.List.{get_or_append_left, get_or_at, drop-append-le, drop_all, length_push, take_at, take-append-le}
-use Rattle.std.proofs.lemmas.List.Sums.{sum_by_push}
-use Rattle.std.proofs.lemmas.List.Folds.{list_any-append}
-use Rattle.std.proofs.lemmas.List.Elements.{filter-append}
-use Rattle.std.proofs.lemmas.Grind.{flat_map-append}
+use Rattle.mscp_controller.proofs.Common.{◌≡◌, ℕ, ◌+◌, ◌<◌, ◌≤◌, Bool, true, false, cond, not, ◌&&◌, ◌||◌, List, [], ◌∷◌, ◌++◌, take, drop, length, refl, ap, sym, ◌∙◌, arith, append-nil, filter, count_by, None, range_with_len, get_or_append_left, get_or_at, drop-append-le, drop_all, length_push, take_at, take-append-le, sum_by_push, list_any-append, filter-append, flat_map-append, command_of, Settings, Trace, Moment, moment, positions, collect, connection_of, last_or, queues, sent_bytes, is_good, is_step, takes, command, connection, name, is_waiting, waiting, done, good, steps_after, serves_in, ends_in, passed_at, passed, ends_at, ends, untaken, Connection, First, Name, name_on, filter_on, filter_filter, sum_on, flat_on, every_weaker, range_more, range_below}
 use Rattle.mscp_events.specs.declared.event.Event.TheVariants as events
 use Rattle.mscp_controller.specs.declared.entry.Entry.TheVariants as entries
-use Rattle.mscp_packet.specs.Commands.{command_of}
-use Rattle.mscp_events.specs.Settings.{Settings}
-use Rattle.mscp_controller.specs.History.{Trace, Moment, moment, positions, collect, connection_of, last_or, queues, sent_bytes, is_good, is_step, takes}
-use Rattle.mscp_controller.specs.Commands.{command, connection, name, is_waiting, waiting, done, good, steps_after, serves_in, ends_in}
-use Rattle.mscp_controller.specs.Passing.{passed_at, passed}
-use Rattle.mscp_controller.specs.Ends.{ends_at}
-use Rattle.mscp_controller.specs.Account.{ends, untaken}
-use Rattle.mscp_events.specs.declared.connection.Connection.{Connection}
-use Rattle.mscp_events.specs.declared.connection.Connection.TheVariants.{First}
-use Rattle.mscp_queue.specs.declared.name.Name.{Name}
-use Rattle.mscp_queue.specs.Names.{name_on}
-use Rattle.mscp_queue.proofs.Lists.{filter_on, filter_filter, sum_on, flat_on, every_weaker, range_more, range_below}
 
 pub moment_before : (t : Trace) (m : Moment) (x : ℕ) → x < length t → moment (t ++ m ∷ []) x ≡ moment t x
 unfolding moment

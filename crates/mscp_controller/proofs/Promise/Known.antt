@@ -1,14 +1,7 @@
 -- What is true after every part of a legal run, from the definitions alone.
-use Rattle.std.proofs.Common.{◌≡◌, ℕ, zero, suc, ◌+◌, ◌<◌, ◌≤◌, [], ◌∷◌, ◌++◌, take, length, arith}
-use Rattle.std.specs.Prelude.{None}
-use Rattle.std.proofs.lemmas.List.{take_more}
+use Rattle.mscp_controller.proofs.Common.{◌≡◌, ℕ, zero, suc, ◌+◌, ◌<◌, ◌≤◌, [], ◌∷◌, ◌++◌, take, length, arith, None, take_more, First, Settings, Trace, Moment, moment, waiting, IsRight, IsLegal}
 use Rattle.mscp_events.specs.declared.event.Event.TheVariants as events
 use Rattle.mscp_controller.specs.declared.entry.Entry.TheVariants as entries
-use Rattle.mscp_events.specs.declared.connection.Connection.TheVariants.{First}
-use Rattle.mscp_events.specs.Settings.{Settings}
-use Rattle.mscp_controller.specs.History.{Trace, Moment, moment}
-use Rattle.mscp_controller.specs.Commands.{waiting}
-use Rattle.mscp_controller.specs.Legal.{IsRight, IsLegal}
 use Rattle.mscp_controller.proofs.Promise.Steady.{Steady, steady_more}
 use Rattle.mscp_controller.proofs.Promise.Room.{Room, room_empty, room_more}
 use Rattle.mscp_controller.proofs.Promise.Queued.{Short, short_more}

@@ -1,13 +1,5 @@
 -- No waiting command is passed more often than the passing limit.
-use Rattle.std.proofs.Common.{◌≡◌, ℕ, ◌+◌, ◌≤◌, Bool, not, List, [], ◌∷◌, ◌++◌, length, refl, ap, subst, arith}
-use Rattle.std.specs.Prelude.{Option, Some, None}
-use Rattle.std.specs.List.{AllByRecursion}
-use Rattle.mscp_events.specs.Settings.{Settings}
-use Rattle.mscp_controller.specs.History.{Trace, Moment, Service, service_in}
-use Rattle.mscp_controller.specs.Commands.{name, waiting, ends_in}
-use Rattle.mscp_controller.specs.Passing.{passed}
-use Rattle.mscp_controller.specs.Legal.{IsRight}
-use Rattle.mscp_queue.proofs.Lists.{every_weaker, every_kept, every_append, every_parts, every_both}
+use Rattle.mscp_controller.proofs.Common.{◌≡◌, ℕ, ◌+◌, ◌≤◌, Bool, not, List, [], ◌∷◌, ◌++◌, length, refl, ap, subst, arith, Option, Some, None, AllByRecursion, Settings, Trace, Moment, Service, service_in, name, waiting, ends_in, passed, IsRight, every_weaker, every_kept, every_append, every_parts, every_both}
 use Rattle.mscp_controller.proofs.Promise.Grows.{waiting_more}
 use Rattle.mscp_controller.proofs.Promise.Waits.{passed_last}
 use Rattle.mscp_controller.proofs.Promise.Served.{step_right}

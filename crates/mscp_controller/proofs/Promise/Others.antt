@@ -1,22 +1,5 @@
 -- What comes from the host of one connection leaves the account of the other's as it was.
-use Rattle.std.proofs.Common.{◌≡◌, ◌≢◌, ℕ, Bool, true, false, not, [], ◌∷◌, ◌++◌, length, ap, ◌∙◌, append-nil, arith}
-use Rattle.std.specs.Prelude.{filter, nat_eq, ◌&&◌, cond, Some}
-use Rattle.std.proofs.lemmas.Bool.{true≢false}
-use Rattle.mscp_events.specs.declared.connection.Connection.{Connection}
-use Rattle.mscp_queue.specs.declared.name.Name.{Name}
-use Rattle.mscp_queue.specs.Names.{same_connection}
-use Rattle.mscp_queue.proofs.Lists.{every_from, every_filter, every_weaker, every_kept, filter_all}
-use Rattle.mscp_queue.proofs.Named.{one_side}
-use Rattle.mscp_queue.proofs.Placed.{map_on}
-use Rattle.mscp_events.specs.declared.event.Event.{Event}
-use Rattle.mscp_controller.specs.declared.entry.Entry.{Entry}
-use Rattle.mscp_events.specs.Settings.{Settings}
-use Rattle.mscp_controller.specs.History.{Trace, Moment, comes_by, takes}
-use Rattle.mscp_controller.specs.Commands.{connection, name, reference, waiting, waiting_by, ends_in}
-use Rattle.mscp_controller.specs.Ends.{ends_at}
-use Rattle.mscp_controller.specs.Account.{balance, outstanding, untaken}
-use Rattle.mscp_controller.specs.Legal.{IsRight}
-use Rattle.mscp_controller.specs.Headline.{IsUntouched, LeavesOther}
+use Rattle.mscp_controller.proofs.Common.{◌≡◌, ◌≢◌, ℕ, Bool, true, false, not, [], ◌∷◌, ◌++◌, length, ap, ◌∙◌, append-nil, arith, filter, nat_eq, ◌&&◌, cond, Some, true≢false, Connection, Name, same_connection, every_from, every_filter, every_weaker, every_kept, filter_all, one_side, map_on, Event, Entry, Settings, Trace, Moment, comes_by, takes, connection, name, reference, waiting, waiting_by, ends_in, ends_at, balance, outstanding, untaken, IsRight, IsUntouched, LeavesOther}
 use Rattle.mscp_controller.proofs.Promise.Grows.{command_before, untaken_more}
 use Rattle.mscp_controller.proofs.Promise.Room.{Room}
 use Rattle.mscp_controller.proofs.Promise.Served.{some_same}

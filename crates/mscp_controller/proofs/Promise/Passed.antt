@@ -1,17 +1,5 @@
 -- What a moment changes of how often each command was passed.
-use Rattle.std.proofs.Common.{◌≡◌, ◌≢◌, ℕ, ◌+◌, ◌<◌, ◌≤◌, Bool, true, false, cond, ◌&&◌, List, [], ◌∷◌, ◌++◌, ap, sym, ◌∙◌, subst, arith}
-use Rattle.std.specs.Prelude.{nat_lt, filter, sum_by, Some}
-use Rattle.std.specs.List.{AllByRecursion}
-use Rattle.std.proofs.lemmas.List.Sums.{sum_by-cons}
-use Rattle.std.proofs.lemmas.Bool.{lt-ltb, le-ltb, and_left, and_right}
-use Rattle.mscp_events.specs.declared.block.Block.{Block}
-use Rattle.mscp_events.specs.Settings.{Settings}
-use Rattle.mscp_controller.specs.History.{Trace, Moment, Service, service_in}
-use Rattle.mscp_controller.specs.Commands.{name, waiting, later, starts_in, service_name}
-use Rattle.mscp_controller.specs.Passing.{charge, is_unstarted, passed_at, passed}
-use Rattle.mscp_queue.specs.declared.name.Name.{Name}
-use Rattle.mscp_queue.proofs.Named.{is_differ, is_same}
-use Rattle.mscp_queue.proofs.Lists.{every_weaker, every_append, every_from, filter_filter, filter_none, filter_one}
+use Rattle.mscp_controller.proofs.Common.{◌≡◌, ◌≢◌, ℕ, ◌+◌, ◌<◌, ◌≤◌, Bool, true, false, cond, ◌&&◌, List, [], ◌∷◌, ◌++◌, ap, sym, ◌∙◌, subst, arith, nat_lt, filter, sum_by, Some, AllByRecursion, sum_by-cons, lt-ltb, le-ltb, and_left, and_right, Block, Settings, Trace, Moment, Service, service_in, name, waiting, later, starts_in, service_name, charge, is_unstarted, passed_at, passed, Name, is_differ, is_same, every_weaker, every_append, every_from, filter_filter, filter_none, filter_one}
 use Rattle.mscp_controller.proofs.Promise.Grows.{passed_more}
 use Rattle.mscp_controller.proofs.Promise.Served.{Step}
 

@@ -1,21 +1,8 @@
 -- Each legal trace keeps its promise.
-use Rattle.std.proofs.Common.{◌≡◌, ◌≢◌, ℕ, zero, suc, ◌+◌, ◌<◌, ◌≤◌, Bool, true, false, cond, List, [], ◌∷◌, ◌++◌, take, get_or, length, sym, ◌∙◌, subst, append-nil, arith}
-use Rattle.std.specs.Prelude.{filter, Some, Contains}
-use Rattle.std.proofs.lemmas.Bool.{false≢true}
+use Rattle.mscp_controller.proofs.Common.{◌≡◌, ◌≢◌, ℕ, zero, suc, ◌+◌, ◌<◌, ◌≤◌, Bool, true, false, cond, List, [], ◌∷◌, ◌++◌, take, get_or, length, sym, ◌∙◌, subst, append-nil, arith, filter, Some, Contains, false≢true, AllByRecursion, range_with_len, All-contains, All-from_recursion, Settings, IsValid, bound, Trace, Moment, moment, positions, Service, service_in, WhenStarted, name, weight, is_waiting, waiting, done, left, steps_after, service_name, passed, is_free, figure, figure_of, answer, IsRight, IsLegal, IsFreeStart, LeavesOther, Promise, TellsFigure, every_weaker, every_append, every_both}
 use Rattle.mscp_controller.proofs.Promise.Alone.{oldest_starts, one_served}
 use Rattle.mscp_controller.proofs.Promise.Shaped.{shaped}
 use Rattle.mscp_controller.proofs.Promise.Grows.{ends_more}
-use Rattle.std.specs.List.{AllByRecursion, range_with_len}
-use Rattle.std.proofs.lemmas.List.Elements.{All-contains, All-from_recursion}
-use Rattle.mscp_events.specs.Settings.{Settings, IsValid, bound}
-use Rattle.mscp_controller.specs.History.{Trace, Moment, moment, positions, Service, service_in, WhenStarted}
-use Rattle.mscp_controller.specs.Commands.{name, weight, is_waiting, waiting, done, left, steps_after, service_name}
-use Rattle.mscp_controller.specs.Passing.{passed, is_free}
-use Rattle.mscp_controller.specs.Figures.{figure, figure_of}
-use Rattle.mscp_controller.specs.Ends.{answer}
-use Rattle.mscp_controller.specs.Legal.{IsRight, IsLegal}
-use Rattle.mscp_controller.specs.Headline.{IsFreeStart, LeavesOther, Promise, TellsFigure}
-use Rattle.mscp_queue.proofs.Lists.{every_weaker, every_append, every_both}
 use Rattle.mscp_controller.proofs.Promise.Among.{alone, figure_of_one}
 use Rattle.mscp_controller.proofs.Promise.Waits.{cut_of, waits_below}
 use Rattle.mscp_controller.proofs.Promise.Served.{step_right}

@@ -1,21 +1,6 @@
 -- A command that is queued is no longer than may be, and leaves a credit.
-use Rattle.std.proofs.Common.{◌≡◌, ◌≢◌, ℕ, ◌<◌, ◌≤◌, Bool, true, false, not, ◌&&◌, List, [], ◌∷◌, ◌++◌, length, sym, subst, arith}
-use Rattle.std.specs.Prelude.{nat_eq, if◌then◌else◌, Option, None, is_none}
-use Rattle.std.specs.List.{AllByRecursion}
-use Rattle.std.proofs.lemmas.Bool.{ltb-false, eqb-false, true≢false, false≢true}
-use Rattle.mscp_packet.specs.declared.command.Command.{Command}
-use Rattle.mscp_packet.specs.declared.command.Order.{Order}
+use Rattle.mscp_controller.proofs.Common.{◌≡◌, ◌≢◌, ℕ, ◌<◌, ◌≤◌, Bool, true, false, not, ◌&&◌, List, [], ◌∷◌, ◌++◌, length, sym, subst, arith, nat_eq, if◌then◌else◌, Option, None, is_none, AllByRecursion, ltb-false, eqb-false, true≢false, false≢true, Command, Order, command_of, Connection, Settings, order_fault, fault_of, is_immediate, is_queued, order_weight, Trace, Moment, command, weight, waiting, balance, IsRight, every_kept, every_append}
 use Rattle.mscp_packet.specs.declared.command.Order.TheVariants as orders
-use Rattle.mscp_packet.specs.Commands.{command_of}
-use Rattle.mscp_events.specs.declared.connection.Connection.{Connection}
-use Rattle.mscp_events.specs.Settings.{Settings}
-use Rattle.mscp_controller.specs.Arrival.{order_fault, fault_of, is_immediate, is_queued}
-use Rattle.mscp_queue.specs.Orders.{order_weight}
-use Rattle.mscp_controller.specs.History.{Trace, Moment}
-use Rattle.mscp_controller.specs.Commands.{command, weight, waiting}
-use Rattle.mscp_controller.specs.Account.{balance}
-use Rattle.mscp_controller.specs.Legal.{IsRight}
-use Rattle.mscp_queue.proofs.Lists.{every_kept, every_append}
 use Rattle.mscp_controller.proofs.Promise.Grows.{command_before, command_last, waiting_more}
 use Rattle.mscp_controller.proofs.Promise.Waits.{waiting_below}
 use Rattle.mscp_controller.proofs.Promise.Arrivals.{Queues, queued_right, if_none}

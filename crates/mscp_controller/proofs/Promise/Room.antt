@@ -1,35 +1,9 @@
 -- The commands and the untaken ends of each connection never exceed its credits, and one credit of it is kept.
-use Rattle.std.proofs.Common.{◌≡◌, ℕ, ◌+◌, ◌-◌, ◌<◌, ◌≤◌, Bool, true, false, not, List, [], ◌∷◌, ◌++◌, length, refl, ap, sym, subst, ◌∙◌, arith, append-nil}
-use Rattle.std.specs.Prelude.{filter, if◌then◌else◌, count_by, slice_get, Option, Some, None, is_some, option_map, option_to_list, Ok, Err}
-use Rattle.std.specs.List.{AllByRecursion}
-use Rattle.std.proofs.lemmas.List.{length-append, length-map, length-drop}
-use Rattle.std.proofs.lemmas.List.Elements.{filter-append}
-use Rattle.std.proofs.lemmas.Bool.{true≢false, false≢true}
-use Rattle.arrayvec.specs.ArrayVec.{ArrayVec}
-use Rattle.mscp_packet.specs.declared.command.Command.{Command}
-use Rattle.mscp_packet.specs.declared.command.Order.{Order}
-use Rattle.mscp_packet.specs.Commands.{command_of}
-use Rattle.mscp_packet.specs.Ends.{end_bytes}
-use Rattle.mscp_events.specs.declared.connection.Connection.{Connection}
-use Rattle.mscp_queue.specs.declared.name.Name.{Name}
+use Rattle.mscp_controller.proofs.Common.{◌≡◌, ℕ, ◌+◌, ◌-◌, ◌<◌, ◌≤◌, Bool, true, false, not, List, [], ◌∷◌, ◌++◌, length, refl, ap, sym, subst, ◌∙◌, arith, append-nil, filter, if◌then◌else◌, count_by, slice_get, Option, Some, None, is_some, option_map, option_to_list, Ok, Err, AllByRecursion, length-append, length-map, length-drop, filter-append, true≢false, false≢true, ArrayVec, Command, Order, command_of, end_bytes, Connection, Name, name_on, same_connection, same_name, is_same, one_side, own_side, same_is, fewer, every_weaker, every_filter, every_from, filter_filter, filter_on, Sent, Event, Entry, Settings, credits_of, room_of, fault_of, is_queued, Trace, Moment, collect, sent_bytes, takes, Service, service_in, command, connection, name, reference, waiting, waiting_by, aborts, aborted, aborted_unless, answer, ends_at, named, ends, untaken, balance, aborted_reference, arrival, IsRight}
 use Rattle.mscp_queue.specs.declared.report.Report.TheVariants as reports
-use Rattle.mscp_queue.specs.Names.{name_on, same_connection, same_name}
-use Rattle.mscp_queue.proofs.Named.{is_same, one_side, own_side, same_is}
-use Rattle.mscp_queue.proofs.Lists.{fewer, every_weaker, every_filter, every_from, filter_filter, filter_on}
-use Rattle.mscp_controller.specs.declared.entry.Sent.{Sent}
 use Rattle.mscp_controller.specs.declared.entry.Sent.TheVariants as sents
-use Rattle.mscp_events.specs.declared.event.Event.{Event}
 use Rattle.mscp_events.specs.declared.event.Event.TheVariants as events
-use Rattle.mscp_controller.specs.declared.entry.Entry.{Entry}
 use Rattle.mscp_controller.specs.declared.entry.Entry.TheVariants as entries
-use Rattle.mscp_events.specs.Settings.{Settings, credits_of, room_of}
-use Rattle.mscp_controller.specs.Arrival.{fault_of, is_queued}
-use Rattle.mscp_controller.specs.History.{Trace, Moment, collect, sent_bytes, takes, Service, service_in}
-use Rattle.mscp_controller.specs.Commands.{command, connection, name, reference, waiting, waiting_by, aborts}
-use Rattle.mscp_controller.specs.Ends.{aborted, aborted_unless, answer, ends_at, named}
-use Rattle.mscp_controller.specs.Account.{ends, untaken, balance}
-use Rattle.mscp_controller.specs.Credits.{aborted_reference, arrival}
-use Rattle.mscp_controller.specs.Legal.{IsRight}
 use Rattle.mscp_controller.proofs.Promise.Grows.{ends_more, taken_more, untaken_more}
 use Rattle.mscp_controller.proofs.Promise.Arrivals.{Queues, arrives, queued_right, taken_when}
 use Rattle.mscp_controller.proofs.Promise.Queued.{two_free}

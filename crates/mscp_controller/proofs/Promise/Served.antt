@@ -1,23 +1,8 @@
 -- What waits after a step, and how often each command was served.
-use Rattle.std.proofs.Common.{◌≡◌, ◌≢◌, ℕ, ◌+◌, ◌<◌, Bool, true, false, cond, not, ◌&&◌, List, [], ◌∷◌, ◌++◌, length, refl, ap, sym, ◌∙◌, subst, arith, append-nil}
-use Rattle.std.specs.Prelude.{filter, Option, Some, None, is_some}
-use Rattle.std.specs.List.{AllByRecursion}
-use Rattle.std.proofs.lemmas.List.Elements.{filter-append}
-use Rattle.std.proofs.lemmas.Bool.{false≢true}
-use Rattle.mscp_events.specs.declared.block.Block.{Block}
+use Rattle.mscp_controller.proofs.Common.{◌≡◌, ◌≢◌, ℕ, ◌+◌, ◌<◌, Bool, true, false, cond, not, ◌&&◌, List, [], ◌∷◌, ◌++◌, length, refl, ap, sym, ◌∙◌, subst, arith, append-nil, filter, Option, Some, None, is_some, AllByRecursion, filter-append, false≢true, Block, Event, Entry, Settings, Trace, Moment, queues, Service, service_in, name, waiting, done, service_is, service_name, service_ends, ends_in, IsRight, IsServed, Name, name_on, is_differ, is_same, every_weaker, every_both, every_parts, filter_all}
 use Rattle.mscp_queue.specs.declared.report.Report.TheVariants as reports
-use Rattle.mscp_events.specs.declared.event.Event.{Event}
 use Rattle.mscp_events.specs.declared.event.Event.TheVariants as events
-use Rattle.mscp_controller.specs.declared.entry.Entry.{Entry}
 use Rattle.mscp_controller.specs.declared.entry.Entry.TheVariants as entries
-use Rattle.mscp_events.specs.Settings.{Settings}
-use Rattle.mscp_controller.specs.History.{Trace, Moment, queues, Service, service_in}
-use Rattle.mscp_controller.specs.Commands.{name, waiting, done, service_is, service_name, service_ends, ends_in}
-use Rattle.mscp_controller.specs.Legal.{IsRight, IsServed}
-use Rattle.mscp_queue.specs.declared.name.Name.{Name}
-use Rattle.mscp_queue.specs.Names.{name_on}
-use Rattle.mscp_queue.proofs.Named.{is_differ, is_same}
-use Rattle.mscp_queue.proofs.Lists.{every_weaker, every_both, every_parts, filter_all}
 use Rattle.mscp_controller.proofs.Promise.Grows.{done_before, waiting_more}
 use Rattle.mscp_controller.proofs.Promise.Waits.{Cut, cut, waits_below, waiting_below}
 use Rattle.mscp_controller.proofs.Promise.Apart.{Apart}

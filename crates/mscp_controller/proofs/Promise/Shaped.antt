@@ -1,34 +1,6 @@
 -- Each end that a legal trace makes has the body of its endcode.
-use Rattle.std.proofs.Common.{◌≡◌, ℕ, zero, suc, ◌+◌, ◌<◌, Bool, List, [], ◌∷◌, ◌++◌, map, length, take, refl, sym, subst, arith}
-use Rattle.std.specs.Prelude.{find, flat_map, nat_eq, if◌then◌else◌, slice_index, All, Option, Some, None, option_to_list}
-use Rattle.std.specs.List.{AllByRecursion, range_with_len}
-use Rattle.std.proofs.lemmas.Bool.{eqb-true}
-use Rattle.std.proofs.lemmas.List.Concat.{flat_map-cons}
-use Rattle.std.proofs.lemmas.List.Elements.{All-from_recursion}
-use Rattle.mscp_packet.specs.declared.class.Opcode.{Opcode}
-use Rattle.mscp_packet.specs.declared.command.Command.{Command}
-use Rattle.mscp_packet.specs.declared.command.Order.{Order}
+use Rattle.mscp_controller.proofs.Common.{◌≡◌, ℕ, zero, suc, ◌+◌, ◌<◌, Bool, List, [], ◌∷◌, ◌++◌, map, length, take, refl, sym, subst, arith, find, flat_map, nat_eq, if◌then◌else◌, slice_index, All, Option, Some, None, option_to_list, AllByRecursion, range_with_len, eqb-true, flat_map-cons, All-from_recursion, Opcode, Command, Order, row_of, opcode_of, opcodes, command_of, order_with, parameters, End, IsOfKind, kind_of_body, kind_of_code, invalid_length, Block, endcode, IsCoded, aborted_end, aborted_kind, ended_kind, refused_kind, every_append, found_is, Connection, Settings, unit_shape, answer_body, own_end, own_end_with, Moment, Trace, moment, positions, collect, sent_bytes, command, good, unit, order, is_online, aborted, answer, ends_at, outcome, ends, IsLegal, IsRight, end_of}
 use Rattle.mscp_packet.specs.declared.command.Order.TheVariants as orders
-use Rattle.mscp_packet.specs.Opcodes.{row_of, opcode_of, opcodes}
-use Rattle.mscp_packet.specs.Commands.{command_of, order_with, parameters}
-use Rattle.mscp_packet.specs.declared.end.End.{End}
-use Rattle.mscp_packet.specs.Ends.{IsOfKind, kind_of_body, kind_of_code}
-use Rattle.mscp_packet.specs.Statuses.{invalid_length}
-use Rattle.mscp_events.specs.declared.block.Block.{Block}
-use Rattle.mscp_queue.specs.Orders.{endcode}
-use Rattle.mscp_queue.specs.Outcomes.{IsCoded, aborted_end}
-use Rattle.mscp_queue.proofs.Shaped.{aborted_kind, ended_kind, refused_kind}
-use Rattle.mscp_queue.proofs.Lists.{every_append}
-use Rattle.mscp_queue.proofs.Placed.{found_is}
-use Rattle.mscp_events.specs.declared.connection.Connection.{Connection}
-use Rattle.mscp_events.specs.Settings.{Settings, unit_shape}
-use Rattle.mscp_controller.specs.Outcomes.{answer_body, own_end, own_end_with}
-use Rattle.mscp_controller.specs.History.{Moment, Trace, moment, positions, collect, sent_bytes}
-use Rattle.mscp_controller.specs.Commands.{command, good, unit, order}
-use Rattle.mscp_controller.specs.Units.{is_online}
-use Rattle.mscp_controller.specs.Ends.{aborted, answer, ends_at, outcome}
-use Rattle.mscp_controller.specs.Account.{ends}
-use Rattle.mscp_controller.specs.Legal.{IsLegal, IsRight, end_of}
 
 -- ---- what a message asks for has an endcode
 

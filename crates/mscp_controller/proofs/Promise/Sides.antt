@@ -1,14 +1,5 @@
 -- What waits by connection.
-use Rattle.std.proofs.Common.{◌≡◌, ◌+◌, Bool, cond, not, ◌&&◌, List, [], ◌∷◌, ◌++◌, length, refl, arith}
-use Rattle.std.specs.Prelude.{filter}
-use Rattle.std.proofs.lemmas.List.{length-append}
-use Rattle.std.proofs.lemmas.List.Elements.{filter-append}
-use Rattle.mscp_events.specs.declared.connection.Connection.{Connection}
-use Rattle.mscp_events.specs.declared.connection.Connection.TheVariants.{First, Second}
-use Rattle.mscp_queue.specs.Names.{same_connection}
-use Rattle.mscp_queue.proofs.Lists.{every_weaker, filter_filter, filter_on}
-use Rattle.mscp_controller.specs.History.{Trace, Moment, connection_of, queues}
-use Rattle.mscp_controller.specs.Commands.{connection, name, waiting, waiting_by, ends_in}
+use Rattle.mscp_controller.proofs.Common.{◌≡◌, ◌+◌, Bool, cond, not, ◌&&◌, List, [], ◌∷◌, ◌++◌, length, refl, arith, filter, length-append, filter-append, Connection, First, Second, same_connection, every_weaker, filter_filter, filter_on, Trace, Moment, connection_of, queues, connection, name, waiting, waiting_by, ends_in}
 use Rattle.mscp_controller.proofs.Promise.Grows.{connection_before, connection_last, waiting_more}
 use Rattle.mscp_controller.proofs.Promise.Waits.{waiting_below}
 

@@ -1,14 +1,5 @@
 -- What is known of a command that may start.
-use Rattle.std.proofs.Common.{◌≡◌, ℕ, ◌+◌, ◌≤◌, Bool, true, ◌&&◌, List, [], ◌∷◌, sym, ◌∙◌, arith}
-use Rattle.std.specs.List.{AllByRecursion, list_all}
-use Rattle.std.proofs.lemmas.Bool.{le-ltb, leb-true, eqb-true, and_parts, false≢true}
-use Rattle.mscp_events.specs.declared.block.Block.{Block}
-use Rattle.mscp_events.specs.Settings.{Settings}
-use Rattle.mscp_controller.specs.History.{Trace, Service}
-use Rattle.mscp_controller.specs.Commands.{waiting, done, is_idle, earlier}
-use Rattle.mscp_controller.specs.Passing.{charge, passed, is_free, is_affordable, is_startable}
-use Rattle.mscp_controller.specs.Legal.{IsServed}
-use Rattle.mscp_queue.proofs.Lists.{every_weaker}
+use Rattle.mscp_controller.proofs.Common.{◌≡◌, ℕ, ◌+◌, ◌≤◌, Bool, true, ◌&&◌, List, [], ◌∷◌, sym, ◌∙◌, arith, AllByRecursion, list_all, le-ltb, leb-true, eqb-true, and_parts, false≢true, Block, Settings, Trace, Service, waiting, done, is_idle, earlier, charge, passed, is_free, is_affordable, is_startable, IsServed, every_weaker}
 
 pub record Startable (c : Settings) (t : Trace) (y : ℕ) : Type 0 where
   pub idle : AllByRecursion (λ x. done t x ≡ 0) (waiting t)

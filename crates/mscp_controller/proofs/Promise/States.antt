@@ -1,20 +1,5 @@
 -- Each unit's state and head when one more moment comes.
-use Rattle.std.proofs.Common.{◌≡◌, ◌≢◌, ℕ, Bool, true, false, List, [], ◌∷◌, ◌++◌, refl, ap, ◌∙◌, append-nil, arith}
-use Rattle.std.specs.Prelude.{nat_eq, flat_map, if◌then◌else◌, Option, Some, None, option_map, option_to_list}
-use Rattle.std.specs.List.{AllByRecursion}
-use Rattle.std.proofs.lemmas.Grind.{flat_map-append}
-use Rattle.std.proofs.lemmas.Bool.{ne_eqb, eq-eqb}
-use Rattle.mscp_queue.proofs.Named.{is_differ, is_same}
-use Rattle.mscp_packet.specs.declared.end.End.{End}
-use Rattle.mscp_drive.specs.Shape.{cylinder_of}
-use Rattle.mscp_drive.specs.declared.head.Head.{Head}
-use Rattle.mscp_events.specs.declared.block.Block.{Block}
-use Rattle.mscp_events.specs.Settings.{Settings, unit_shape}
-use Rattle.mscp_queue.specs.Outcomes.{state_after, head_after}
-use Rattle.mscp_controller.specs.History.{Trace, Moment, collect, last_or, Service, service_in}
-use Rattle.mscp_controller.specs.Commands.{name, unit, order, waiting, service_name}
-use Rattle.mscp_controller.specs.Units.{states_ended, states_served, states_at, is_online, cylinder_touched, way, way_started, head_cylinder, head_up, head}
-use Rattle.mscp_queue.proofs.Lists.{every_weaker}
+use Rattle.mscp_controller.proofs.Common.{◌≡◌, ◌≢◌, ℕ, Bool, true, false, List, [], ◌∷◌, ◌++◌, refl, ap, ◌∙◌, append-nil, arith, nat_eq, flat_map, if◌then◌else◌, Option, Some, None, option_map, option_to_list, AllByRecursion, flat_map-append, ne_eqb, eq-eqb, is_differ, is_same, End, cylinder_of, Head, Block, Settings, unit_shape, state_after, head_after, Trace, Moment, collect, last_or, Service, service_in, name, unit, order, waiting, service_name, states_ended, states_served, states_at, is_online, cylinder_touched, way, way_started, head_cylinder, head_up, head, every_weaker}
 use Rattle.mscp_controller.proofs.Promise.Grows.{last_more}
 use Rattle.mscp_controller.proofs.Promise.Among.{Alone}
 use Rattle.mscp_controller.proofs.Promise.Served.{Step}

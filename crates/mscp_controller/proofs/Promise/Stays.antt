@@ -1,16 +1,5 @@
 -- The figures never rise at a moment that serves nobody.
-use Rattle.std.proofs.Common.{◌≡◌, ℕ, ◌+◌, ◌-◌, ◌<◌, ◌≤◌, Bool, true, false, cond, not, ◌&&◌, List, [], ◌∷◌, ◌++◌, length, refl, ap, ◌∙◌, subst, arith}
-use Rattle.std.specs.Prelude.{filter, sum_by, nat_lt, Contains}
-use Rattle.std.specs.List.{AllByRecursion}
-use Rattle.std.proofs.lemmas.List.{append_assoc}
-use Rattle.std.proofs.lemmas.List.Elements.{filter-append, All-from_recursion, All-contains}
-use Rattle.std.proofs.lemmas.List.Sums.{sum_by-cons}
-use Rattle.mscp_events.specs.Settings.{Settings}
-use Rattle.mscp_controller.specs.History.{Trace, Moment, queues}
-use Rattle.mscp_controller.specs.Commands.{name, is_waiting, waiting, done, left, in_service, ends_in}
-use Rattle.mscp_controller.specs.Passing.{passed}
-use Rattle.mscp_controller.specs.Figures.{figure}
-use Rattle.mscp_queue.proofs.Lists.{every_weaker, every_parts, every_kept, filter_on}
+use Rattle.mscp_controller.proofs.Common.{◌≡◌, ℕ, ◌+◌, ◌-◌, ◌<◌, ◌≤◌, Bool, true, false, cond, not, ◌&&◌, List, [], ◌∷◌, ◌++◌, length, refl, ap, ◌∙◌, subst, arith, filter, sum_by, nat_lt, Contains, AllByRecursion, append_assoc, filter-append, All-from_recursion, All-contains, sum_by-cons, Settings, Trace, Moment, queues, name, is_waiting, waiting, done, left, in_service, ends_in, passed, figure, every_weaker, every_parts, every_kept, filter_on}
 use Rattle.mscp_controller.proofs.Promise.Grows.{is_waiting_before, waiting_more}
 use Rattle.mscp_controller.proofs.Promise.Waits.{waiting_waits, waiting_below}
 use Rattle.mscp_controller.proofs.Promise.Figured.{Figured, record_of, record_left}

@@ -1,19 +1,5 @@
 -- What is true after every part of a legal run, from the definitions alone.
-use Rattle.std.proofs.Common.{◌≡◌, ◌⊎◌, inl, inr, ⊎_elim, ℕ, ◌<◌, Bool, true, false, cond, not, ◌||◌, List, [], ◌∷◌, ◌++◌, length, refl, ap, sym, subst, arith, append-nil}
-use Rattle.std.specs.Prelude.{filter, Option, Some, None, is_some}
-use Rattle.std.specs.List.{AllByRecursion}
-use Rattle.std.proofs.lemmas.Bool.{ltb-true, or_cases, true≢false, false≢true}
-use Rattle.mscp_packet.specs.declared.command.Command.{Command}
-use Rattle.mscp_queue.proofs.Held.{some_steps}
-use Rattle.mscp_events.specs.declared.block.Block.{Block}
-use Rattle.mscp_events.specs.Settings.{Settings}
-use Rattle.mscp_queue.specs.Orders.{order_weight}
-use Rattle.mscp_controller.specs.History.{Trace, Moment, Service, service_in}
-use Rattle.mscp_controller.specs.Commands.{name, order, weight, waiting, done, left, in_service, ends_in}
-use Rattle.mscp_controller.specs.Passing.{is_startable}
-use Rattle.mscp_controller.specs.Legal.{IsRight, end_of}
-use Rattle.mscp_queue.specs.Pairs.{Pairs}
-use Rattle.mscp_queue.proofs.Lists.{every_weaker, every_kept, every_append, every_parts, every_both, pairs_filter, pairs_append, pairs_middle}
+use Rattle.mscp_controller.proofs.Common.{◌≡◌, ◌⊎◌, inl, inr, ⊎_elim, ℕ, ◌<◌, Bool, true, false, cond, not, ◌||◌, List, [], ◌∷◌, ◌++◌, length, refl, ap, sym, subst, arith, append-nil, filter, Option, Some, None, is_some, AllByRecursion, ltb-true, or_cases, true≢false, false≢true, Command, some_steps, Block, Settings, order_weight, Trace, Moment, Service, service_in, name, order, weight, waiting, done, left, in_service, ends_in, is_startable, IsRight, end_of, Pairs, every_weaker, every_kept, every_append, every_parts, every_both, pairs_filter, pairs_append, pairs_middle}
 use Rattle.mscp_controller.proofs.Promise.Grows.{command_before, done_before, done_last, waiting_more}
 use Rattle.mscp_controller.proofs.Promise.Waits.{waiting_below}
 use Rattle.mscp_controller.proofs.Promise.Apart.{Apart, apart_more}

@@ -1,15 +1,5 @@
 -- What is true of the waiting commands of every run.
-use Rattle.std.proofs.Common.{◌≡◌, ℕ, zero, suc, ◌+◌, ◌-◌, ◌<◌, ◌≤◌, true, cond, not, List, [], ◌∷◌, ◌++◌, length, ap, ◌∙◌, arith, append-nil}
-use Rattle.std.specs.Prelude.{filter}
-use Rattle.std.specs.List.{AllByRecursion, range_with_len}
-use Rattle.std.proofs.lemmas.List.{length-take, get_or_past}
-use Rattle.std.proofs.lemmas.List.Elements.{filter-append}
-use Rattle.std.proofs.lemmas.Bool.{le-ltb, lt-ltb, ltb-true, ltb-false, true≢false}
-use Rattle.mscp_controller.specs.History.{Trace, Moment, moment, positions}
-use Rattle.mscp_controller.specs.Commands.{is_waiting, waiting, earlier, later}
-use Rattle.mscp_controller.specs.Passing.{passed_at, passed}
-use Rattle.mscp_queue.specs.Pairs.{Pairs}
-use Rattle.mscp_queue.proofs.Lists.{filter_all, filter_none, pairs_middle, sum_none, every_weaker, every_kept, every_filter, range_below, pairs_range, pairs_filter}
+use Rattle.mscp_controller.proofs.Common.{◌≡◌, ℕ, zero, suc, ◌+◌, ◌-◌, ◌<◌, ◌≤◌, true, cond, not, List, [], ◌∷◌, ◌++◌, length, ap, ◌∙◌, arith, append-nil, filter, AllByRecursion, range_with_len, length-take, get_or_past, filter-append, le-ltb, lt-ltb, ltb-true, ltb-false, true≢false, Trace, Moment, moment, positions, is_waiting, waiting, earlier, later, passed_at, passed, Pairs, filter_all, filter_none, pairs_middle, sum_none, every_weaker, every_kept, every_filter, range_below, pairs_range, pairs_filter}
 use Rattle.mscp_controller.proofs.Promise.Grows.{passed_more}
 
 pub waiting_below : (t : Trace) → AllByRecursion (λ x. x < length t) (waiting t)

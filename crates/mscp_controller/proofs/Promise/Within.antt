@@ -1,19 +1,5 @@
 -- The figure of each command that waits, and the steps that it has seen, stay within the bound.
-use Rattle.std.proofs.Common.{◌≡◌, ℕ, ◌+◌, ◌*◌, ◌<◌, ◌≤◌, Bool, true, false, cond, not, List, [], ◌∷◌, ◌++◌, get_or, length, refl, ap, sym, ◌∙◌, subst, arith, append-nil}
-use Rattle.std.specs.Prelude.{filter, sum_by, Contains}
-use Rattle.std.specs.List.{AllByRecursion}
-use Rattle.std.proofs.lemmas.List.Elements.{All-from_recursion, recursion_from_All, Contains-get_or}
-use Rattle.std.proofs.lemmas.List.Sums.{sum_by-le}
-use Rattle.mscp_events.specs.declared.connection.Connection.{Connection}
-use Rattle.mscp_events.specs.declared.connection.Connection.TheVariants.{First, Second}
-use Rattle.mscp_events.specs.Settings.{Settings, bound, room}
-use Rattle.mscp_controller.specs.History.{Trace, Moment, connection_of, queues, is_step, sent_bytes}
-use Rattle.mscp_controller.specs.Commands.{connection, name, weight, waiting, done, left, steps_after, ends_in}
-use Rattle.mscp_controller.specs.Passing.{passed}
-use Rattle.mscp_controller.specs.Figures.{figure}
-use Rattle.mscp_controller.specs.Account.{balance}
-use Rattle.mscp_controller.specs.Legal.{IsRight}
-use Rattle.mscp_queue.proofs.Lists.{fewer, every_weaker, every_kept, every_append, every_parts, every_both}
+use Rattle.mscp_controller.proofs.Common.{◌≡◌, ℕ, ◌+◌, ◌*◌, ◌<◌, ◌≤◌, Bool, true, false, cond, not, List, [], ◌∷◌, ◌++◌, get_or, length, refl, ap, sym, ◌∙◌, subst, arith, append-nil, filter, sum_by, Contains, AllByRecursion, All-from_recursion, recursion_from_All, Contains-get_or, sum_by-le, Connection, First, Second, Settings, bound, room, Trace, Moment, connection_of, queues, is_step, sent_bytes, connection, name, weight, waiting, done, left, steps_after, ends_in, passed, figure, balance, IsRight, fewer, every_weaker, every_kept, every_append, every_parts, every_both}
 use Rattle.mscp_controller.proofs.Promise.Grows.{waiting_more, done_last, steps_more, steps_last}
 use Rattle.mscp_controller.proofs.Promise.Waits.{waiting_below, passed_last}
 use Rattle.mscp_controller.proofs.Promise.Arrivals.{queued_right}

@@ -1,22 +1,7 @@
 -- What a port knows once bytes were read, or an action went some way.
-use Rattle.std.proofs.Common.{◌≡◌, ◌⊎◌, ℕ, Bool, true, false, ◌/◌, ◌%◌, List, [], ◌∷◌, Option, None, Some, Contains, IfSome, inl, inr, refl, ap, sym, subst, arith}
-use Rattle.std.proofs.lemmas.Bool.{eqb-true, eqb-false, ltb-true, ltb-false}
-use Rattle.std.proofs.lemmas.Option.{none-some}
-use Rattle.std.specs.Prelude.{Result, Ok, Err, nat_lt, nat_eq}
-use Rattle.mscp_packet.specs.Number.{num}
-use Rattle.mscp_port.specs.declared.action.Outcome.{Outcome}
-use Rattle.mscp_port.specs.declared.action.Unasked.{Unasked}
-use Rattle.mscp_port.specs.declared.buffers.Buffer.{Buffer}
-use Rattle.mscp_port.specs.declared.port.Port.{Port}
-use Rattle.mscp_port.specs.declared.stage.Stage.{Stage}
-use Rattle.mscp_port.specs.declared.stage.Stage.TheVariants as stages
-use Rattle.mscp_port.specs.declared.task.Task.{Task}
-use Rattle.mscp_port.specs.Areas.{rings_named}
+use Rattle.mscp_port.proofs.Common.{◌≡◌, ◌⊎◌, ℕ, Bool, true, false, ◌/◌, ◌%◌, List, [], ◌∷◌, Option, None, Some, Contains, IfSome, inl, inr, refl, ap, sym, subst, arith, eqb-true, eqb-false, ltb-true, ltb-false, none-some, Result, Ok, Err, nat_lt, nat_eq, num, Outcome, Unasked, Buffer, Port, Stage, Task, rings_named, is_owned, Goes, Hears, StaysInStage, TakesStep, step_answered, HasInOrder, NamesArea, NamesBuffer, NamesPacket, words, IsReadingSlot, IsReadingText, in_hand}
 use Rattle.mscp_port.specs.Buffers.{buffer_in}
-use Rattle.mscp_port.specs.Slots.{is_owned}
-use Rattle.mscp_port.specs.Calls.{Goes, Hears, StaysInStage, TakesStep, step_answered}
-use Rattle.mscp_port.specs.Histories.{HasInOrder, NamesArea, NamesBuffer, NamesPacket, words}
-use Rattle.mscp_port.specs.Ports.{IsReadingSlot, IsReadingText, in_hand}
+use Rattle.mscp_port.specs.declared.stage.Stage.TheVariants as stages
 use Rattle.mscp_port.proofs.Naming.Knowing.{answers, Knows, first_in_order, if_none, if_same, carried, new_knows, dead_knows, Handles, still_knows, here, packet_named_still, buffer_named_still}
 use Rattle.mscp_port.proofs.Naming.Registers.{apart}
 

@@ -1,15 +1,7 @@
 -- What a port knows that its host has named, and how that stays known.
-use Rattle.std.proofs.Common.{◌≡◌, ◌⊎◌, ℕ, List, [], ◌∷◌, Option, None, Some, Contains, IfSome, refl, ap, sym, subst, arith}
-use Rattle.std.proofs.lemmas.List.Elements.{Contains-append_left, Contains-append_right, Contains-push}
-use Rattle.mscp_port.specs.declared.buffers.Buffer.{Buffer}
-use Rattle.mscp_port.specs.declared.port.Port.{Port}
-use Rattle.mscp_port.specs.declared.port.Words.{Words}
-use Rattle.mscp_port.specs.declared.stage.Stage.{Stage}
+use Rattle.mscp_port.proofs.Common.{◌≡◌, ◌⊎◌, ℕ, List, [], ◌∷◌, Option, None, Some, Contains, IfSome, refl, ap, sym, subst, arith, Contains-append_left, Contains-append_right, Contains-push, Buffer, Port, Words, Stage, Dies, HasInOrder, NamesArea, NamesBuffer, NamesPacket, IsAsNew, in_hand}
 use Rattle.mscp_port.specs.declared.stage.Stage.TheVariants as stages
 use Rattle.mscp_port.specs.declared.task.Task.TheVariants as tasks
-use Rattle.mscp_port.specs.Calls.{Dies}
-use Rattle.mscp_port.specs.Histories.{HasInOrder, NamesArea, NamesBuffer, NamesPacket}
-use Rattle.mscp_port.specs.Ports.{IsAsNew, in_hand}
 use Rattle.mscp_port.proofs.Among.{none_among}
 
 -- the words of the steps that were taken since, the last one first

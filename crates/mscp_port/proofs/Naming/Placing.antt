@@ -1,27 +1,9 @@
 -- What a port reads was put where it was wanted from.
-use Rattle.std.proofs.Common.{◌≡◌, ◌⊎◌, ℕ, List, [], ◌∷◌, Option, None, Some, Contains, IfSome, IsSomeAnd, MatchOption, inl, inr, refl, true, arith}
-use Rattle.std.proofs.lemmas.Option.{none-some}
-use Rattle.std.specs.Prelude.{Result}
-use Rattle.mscp_packet.specs.Number.{num}
-use Rattle.mscp_port.specs.declared.action.Action.{Action}
-use Rattle.mscp_port.specs.declared.action.Action.TheVariants as actions
-use Rattle.mscp_port.specs.declared.action.Outcome.{Outcome}
-use Rattle.mscp_port.specs.declared.action.Unasked.{Unasked}
-use Rattle.mscp_port.specs.declared.buffers.Buffer.{Buffer}
-use Rattle.mscp_port.specs.declared.port.Port.{Port}
-use Rattle.mscp_port.specs.declared.rings.Side.{Side}
-use Rattle.mscp_port.specs.declared.stage.Stage.{Stage}
-use Rattle.mscp_port.specs.declared.stage.Stage.TheVariants as stages
-use Rattle.mscp_port.specs.declared.task.Task.{Task}
-use Rattle.mscp_port.specs.declared.task.Task.TheVariants as tasks
-use Rattle.mscp_port.specs.Areas.{Rings, slot_in}
+use Rattle.mscp_port.proofs.Common.{◌≡◌, ◌⊎◌, ℕ, List, [], ◌∷◌, Option, None, Some, Contains, IfSome, IsSomeAnd, MatchOption, inl, inr, refl, true, arith, none-some, Result, num, Action, Outcome, Unasked, Buffer, Port, Side, Stage, Task, Rings, slot_in, Goes, Hears, Wants, NamesArea, PutsBuffer, PutsPacket, read_from, Drops, IsReadingSlot, IsReadingText, Leaves, in_hand, is_owned, text_of, IsWanted, given_in}
 use Rattle.mscp_port.specs.Buffers.{buffer_in}
-use Rattle.mscp_port.specs.Calls.{Goes, Hears, Wants}
-use Rattle.mscp_port.specs.Histories.{NamesArea}
-use Rattle.mscp_port.specs.Places.{PutsBuffer, PutsPacket, read_from}
-use Rattle.mscp_port.specs.Ports.{Drops, IsReadingSlot, IsReadingText, Leaves, in_hand}
-use Rattle.mscp_port.specs.Slots.{is_owned, text_of}
-use Rattle.mscp_port.specs.Wanted.{IsWanted, given_in}
+use Rattle.mscp_port.specs.declared.action.Action.TheVariants as actions
+use Rattle.mscp_port.specs.declared.stage.Stage.TheVariants as stages
+use Rattle.mscp_port.specs.declared.task.Task.TheVariants as tasks
 use Rattle.mscp_port.proofs.Among.{none_among}
 use Rattle.mscp_port.proofs.Naming.Knowing.{carried, here, if_none, in_order_behind, there, weakened}
 

@@ -1,16 +1,6 @@
 -- What a port touches after a whole history was put into its host's memory.
-use Rattle.std.proofs.Common.{◌≢◌, ◌⊎◌, ℕ, List, [], ◌∷◌, length, Option, None, Some, IfSome, refl, sym, subst, arith}
-use Rattle.std.specs.Prelude.{Ok, Err}
-use Rattle.mscp_controller.specs.Holdings.{Holdings}
-use Rattle.mscp_port.specs.declared.action.Action.{Action}
+use Rattle.mscp_port.proofs.Common.{◌≢◌, ◌⊎◌, ℕ, List, [], ◌∷◌, length, Option, None, Some, IfSome, refl, sym, subst, arith, Ok, Err, Holdings, Action, Hardware, Port, Stage, Hears, IsMadeOf, Ticks, Answered, Becomes, Call, NamesArea, words, reads, WriteIp, ReadIp, WriteSa, Next, WasRead, Went, LookAgain, Tick, Change, AsksFirst, IsPut, IsPutForData, IsPutForRings, asked, reads_at, with_read, Drops, IsAsNew, IsInRingsOrPacket, IsInSomeBuffer, IsWithin, Leaves}
 use Rattle.mscp_port.specs.declared.action.Action.TheVariants as actions
-use Rattle.mscp_port.specs.declared.hardware.Hardware.{Hardware}
-use Rattle.mscp_port.specs.declared.port.Port.{Port}
-use Rattle.mscp_port.specs.declared.stage.Stage.{Stage}
-use Rattle.mscp_port.specs.Calls.{Hears, IsMadeOf, Ticks}
-use Rattle.mscp_port.specs.Histories.{Answered, Becomes, Call, NamesArea, words, reads, WriteIp, ReadIp, WriteSa, Next, WasRead, Went, LookAgain, Tick, Change}
-use Rattle.mscp_port.specs.Places.{AsksFirst, IsPut, IsPutForData, IsPutForRings, asked, reads_at, with_read}
-use Rattle.mscp_port.specs.Ports.{Drops, IsAsNew, IsInRingsOrPacket, IsInSomeBuffer, IsWithin, Leaves}
 use Rattle.mscp_port.proofs.Among.{none_among}
 use Rattle.mscp_port.proofs.Naming.Knowing.{Knows}
 use Rattle.mscp_port.proofs.Naming.Placing.{Places, hand_placed, next_placed, nothing_placed, places_behind, read_placed, went_placed}

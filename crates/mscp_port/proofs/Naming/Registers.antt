@@ -1,14 +1,6 @@
 -- What a port knows once a register was touched, or an action was wanted.
-use Rattle.std.proofs.Common.{◌≡◌, ◌≢◌, ℕ, Bool, true, false, cond, ◌%◌, List, [], ◌∷◌, Some, inr, refl, ap, sym, ◌∙◌, subst, arith}
-use Rattle.std.proofs.lemmas.Bool.{eqb-true, eqb-false, false≢true}
-use Rattle.std.proofs.lemmas.Option.{none-some}
-use Rattle.std.specs.Prelude.{nat_lt, nat_eq}
-use Rattle.mscp_port.specs.declared.action.Action.{Action}
-use Rattle.mscp_port.specs.declared.port.Port.{Port}
-use Rattle.mscp_port.specs.declared.port.Words.{Words}
-use Rattle.mscp_port.specs.declared.stage.Stage.{Stage}
+use Rattle.mscp_port.proofs.Common.{◌≡◌, ◌≢◌, ℕ, Bool, true, false, cond, ◌%◌, List, [], ◌∷◌, Some, inr, refl, ap, sym, ◌∙◌, subst, arith, eqb-true, eqb-false, false≢true, none-some, nat_lt, nat_eq, Action, Port, Words, Stage, ReadsIp, Wants, WritesSa}
 use Rattle.mscp_port.specs.declared.stage.Stage.TheVariants as stages
-use Rattle.mscp_port.specs.Calls.{ReadsIp, Wants, WritesSa}
 use Rattle.mscp_port.proofs.Naming.Knowing.{answers, Knows, in_order_behind, in_order_more, carried, new_knows, still_knows, knows_more_words}
 
 -- ---- by each call

@@ -1,16 +1,6 @@
 -- What a port knows after a whole history, and what it touches then.
-use Rattle.std.proofs.Common.{ℕ, List, [], ◌∷◌, Option, Contains, IfSome, IsSomeAnd, inl, inr, refl, ap, sym, subst, arith}
-use Rattle.std.specs.Prelude.{Result, Ok, Err}
-use Rattle.mscp_port.specs.declared.action.Action.{Action}
-use Rattle.mscp_port.specs.declared.action.Unasked.{Unasked}
-use Rattle.mscp_port.specs.declared.buffers.Buffer.{Buffer}
-use Rattle.mscp_controller.specs.Holdings.{Holdings}
-use Rattle.mscp_port.specs.declared.hardware.Hardware.{Hardware}
-use Rattle.mscp_port.specs.declared.port.Port.{Port}
+use Rattle.mscp_port.proofs.Common.{ℕ, List, [], ◌∷◌, Option, Contains, IfSome, IsSomeAnd, inl, inr, refl, ap, sym, subst, arith, Result, Ok, Err, Action, Unasked, Buffer, Holdings, Hardware, Port, Hears, IsMadeOf, Ticks, Answered, Becomes, Call, IsNamed, IsNamedForData, IsNamedForRings, NamesBuffer, NamesPacket, reads, words, WriteIp, ReadIp, WriteSa, Next, WasRead, Went, LookAgain, Tick, Change, IsInRingsOrPacket, IsInSomeBuffer, IsWithin, in_hand}
 use Rattle.mscp_port.specs.declared.stage.Stage.TheVariants as stages
-use Rattle.mscp_port.specs.Calls.{Hears, IsMadeOf, Ticks}
-use Rattle.mscp_port.specs.Histories.{Answered, Becomes, Call, IsNamed, IsNamedForData, IsNamedForRings, NamesBuffer, NamesPacket, reads, words, WriteIp, ReadIp, WriteSa, Next, WasRead, Went, LookAgain, Tick, Change}
-use Rattle.mscp_port.specs.Ports.{IsInRingsOrPacket, IsInSomeBuffer, IsWithin, in_hand}
 use Rattle.mscp_port.proofs.Naming.Knowing.{answers, Knows, fresh_knows, new_knows, still_knows}
 use Rattle.mscp_port.proofs.Naming.Registers.{after_read_ip, after_write_sa, after_next}
 use Rattle.mscp_port.proofs.Naming.Acting.{after_read, after_went}

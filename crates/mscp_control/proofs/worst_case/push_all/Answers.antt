@@ -1,5 +1,4 @@
-use Rattle.std.proofs.Common.{[], ◌∷◌, ◌++◌, ap, sym, ◌∙◌, arith}
-use Rattle.mscp_control.specs.Worst.{queueing, read_command}
+use Rattle.mscp_control.proofs.Common.{[], ◌∷◌, ◌++◌, ap, sym, ◌∙◌, arith, queueing, read_command}
 use Rattle.mscp_control.proofs.Longest.Builds.{come_next}
 use Rattle.mscp_control.proofs.worst_case.push_all.Goals as goal
 

@@ -1,6 +1,4 @@
-use Rattle.std.proofs.Common.{◌≡◌, ◌+◌}
-use Rattle.std.specs.Prelude.{vec_capacity, vec_len}
-use Rattle.mscp_control.specs.Worst.{come_on}
+use Rattle.mscp_control.proofs.Common.{◌≡◌, ◌+◌, vec_capacity, vec_len, come_on}
 use Rattle.mscp_control.proofs.worst_case.push_all.Given as goal
 
 abbrev pub invariant-loop-before : goal.invariant-loop-before

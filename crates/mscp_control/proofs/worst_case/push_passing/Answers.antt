@@ -1,7 +1,4 @@
-use Rattle.std.proofs.Common.{◌-◌, [], ◌∷◌, ◌++◌, ap, sym, ◌∙◌, arith}
-use Rattle.mscp_events.specs.declared.connection.Connection.TheVariants.{First}
-use Rattle.mscp_control.specs.declared.worst_case.Transfer.{Transfer}
-use Rattle.mscp_control.specs.Worst.{queueing, read_command, runs_on}
+use Rattle.mscp_control.proofs.Common.{◌-◌, [], ◌∷◌, ◌++◌, ap, sym, ◌∙◌, arith, First, Transfer, queueing, read_command, runs_on}
 use Rattle.mscp_control.proofs.Longest.Builds.{pass_next}
 use Rattle.mscp_control.proofs.worst_case.push_passing.Goals as goal
 

@@ -1,6 +1,4 @@
-use Rattle.std.proofs.Common.{◌≡◌, ◌+◌, ◌*◌}
-use Rattle.std.specs.Prelude.{vec_capacity, vec_len}
-use Rattle.mscp_control.specs.Worst.{rest_on}
+use Rattle.mscp_control.proofs.Common.{◌≡◌, ◌+◌, ◌*◌, vec_capacity, vec_len, rest_on}
 use Rattle.mscp_control.proofs.worst_case.push_rest.Given as goal
 
 abbrev pub invariant-loop-before : goal.invariant-loop-before

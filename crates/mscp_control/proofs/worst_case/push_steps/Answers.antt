@@ -1,5 +1,4 @@
-use Rattle.std.proofs.lemmas.Grind.{common_steps}
-use Rattle.std.proofs.Common.{arith}
+use Rattle.mscp_control.proofs.Common.{common_steps, arith}
 use Rattle.mscp_control.proofs.worst_case.push_steps.Goals as goal
 
 pub loop-after-init : goal.loop-after-init

@@ -1,7 +1,4 @@
-use Rattle.std.proofs.Common.{ap, sym, subst, arith}
-use Rattle.std.specs.Prelude.{option_copied}
-use Rattle.mscp_controller.specs.Legal.{IsLegal}
-use Rattle.mscp_control.specs.Longest.{WaitsTheBound}
+use Rattle.mscp_control.proofs.Common.{ap, sym, subst, arith, option_copied, IsLegal, WaitsTheBound}
 use Rattle.mscp_control.proofs.Longest.Least.{least_found}
 use Rattle.mscp_control.proofs.worst_case.worst_in.Goals as goal
 

@@ -1,6 +1,4 @@
-use Rattle.std.proofs.Common.{ap, arith}
-use Rattle.mscp_control.specs.declared.worst_case.Transfer.{Transfer}
-use Rattle.mscp_events.specs.Settings.{room}
+use Rattle.mscp_control.proofs.Common.{ap, arith, Transfer, room}
 use Rattle.mscp_control.proofs.Longest.Builds.{moments_enough}
 use Rattle.mscp_control.proofs.worst_case.written.Goals as goal
 

@@ -1,4 +1,4 @@
-use Rattle.std.proofs.Common.{◌+◌, ap, ◌∙◌, arith}
+use Rattle.mscp_controller.proofs.Common.{◌+◌, ap, ◌∙◌, arith}
 use Rattle.mscp_controller.proofs.Bridge.Answering.{goes_more}
 use Rattle.mscp_controller.proofs.running.answer_each.Goals as goal
 

@@ -1,5 +1,4 @@
-use Rattle.std.proofs.Common.{◌≡◌}
-use Rattle.std.specs.Prelude.{vec_capacity, vec_len}
+use Rattle.mscp_controller.proofs.Common.{◌≡◌, vec_capacity, vec_len}
 use Rattle.mscp_controller.proofs.Bridge.Answering.{Goes}
 use Rattle.mscp_controller.proofs.running.answer_each.Given as goal
 

@@ -1,5 +1,4 @@
-use Rattle.std.proofs.Common.{arith}
-use Rattle.std.proofs.lemmas.Result.{err_from_is_err_and}
+use Rattle.mscp_judge.proofs.Common.{arith, err_from_is_err_and}
 use Rattle.mscp_judge.proofs.Listening.{lines_more, lines_none, lines_wrong}
 use Rattle.mscp_judge.proofs.hearing.hear_lines.Goals as goal
 

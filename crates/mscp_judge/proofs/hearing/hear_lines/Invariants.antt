@@ -1,6 +1,5 @@
-use Rattle.std.proofs.Common.{◌≡◌, ◌≤◌, length}
-use Rattle.mscp_reader.specs.Lexical.{lines}
-use Rattle.mscp_judge.specs.Heard.{Heard, IsHeard, after_lines, silence}
+use Rattle.mscp_judge.proofs.Common.{◌≡◌, ◌≤◌, length, lines, Heard, IsHeard, silence}
+use Rattle.mscp_judge.specs.Heard.{after_lines}
 use Rattle.mscp_judge.proofs.hearing.hear_lines.Given as goal
 
 abbrev pub invariant-loop-bytes : goal.invariant-loop-bytes

@@ -1,5 +1,4 @@
-use Rattle.std.proofs.Common.{arith}
-use Rattle.mscp_reader.proofs.Headers.{headed_gone}
+use Rattle.mscp_judge.proofs.Common.{arith, headed_gone}
 use Rattle.mscp_judge.proofs.Listening.{log_behind}
 use Rattle.mscp_judge.proofs.hearing.hear_log.Goals as goal
 

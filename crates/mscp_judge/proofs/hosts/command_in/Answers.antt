@@ -1,4 +1,4 @@
-use Rattle.std.proofs.Common.{arith}
+use Rattle.mscp_judge.proofs.Common.{arith}
 use Rattle.mscp_judge.proofs.Listening.{read_in}
 use Rattle.mscp_judge.proofs.hosts.command_in.Goals as goal
 

@@ -1,8 +1,4 @@
-use Rattle.std.proofs.Common.{◌++◌, ◌-◌, refl, drop, length, ap, sym, ◌∙◌, arith, length-drop}
-use Rattle.std.proofs.lemmas.Bool.Decides.{Decides-eqb}
-use Rattle.std.proofs.lemmas.List.{take_all}
-use Rattle.std.proofs.lemmas.Slice.Eq.{starts_is}
-use Rattle.mscp_judge.specs.Standing.{due}
+use Rattle.mscp_judge.proofs.Common.{◌++◌, ◌-◌, refl, drop, length, ap, sym, ◌∙◌, arith, length-drop, Decides-eqb, take_all, starts_is, due}
 use Rattle.mscp_judge.proofs.Passing.{answers_bytes}
 use Rattle.mscp_judge.proofs.judging.cut_due.Goals as goal
 

@@ -1,18 +1,5 @@
-use Rattle.std.proofs.Common.{◌≡◌, ℕ, ◌+◌, List, [], ◌∷◌, ◌++◌, length, Ok, Err, refl, ap, sym, ◌∙◌, subst, arith, length-append, append_assoc, append-nil}
-use Rattle.std.specs.Prelude.{None}
-use Rattle.std.proofs.lemmas.Result.{err_from_is_err_and}
-use Rattle.mscp_events.specs.Settings.{Settings}
-use Rattle.mscp_controller.proofs.Promise.Progress.{progress}
-use Rattle.mscp_reader.specs.Lexical.{lines, words}
-use Rattle.mscp_reader.specs.declared.fault.ReadFault.{ReadFault}
+use Rattle.mscp_judge.proofs.Common.{◌≡◌, ℕ, ◌+◌, List, [], ◌∷◌, ◌++◌, length, Ok, Err, refl, ap, sym, ◌∙◌, subst, arith, length-append, append_assoc, append-nil, None, err_from_is_err_and, Settings, progress, lines, words, ReadFault, Judge, Breaks, Hears, IsBroken, Judges, Tells, Log, MayGoOn, after_lines, nothing, whole, Totals, name_in, totals_of, AreTotals}
 use Rattle.mscp_reader.specs.declared.fault.ReadFault.TheVariants as faults
-use Rattle.mscp_judge.specs.declared.judge.Judge.{Judge}
-use Rattle.mscp_judge.specs.Judged.{Breaks, Hears, IsBroken, Judges, Tells}
-use Rattle.mscp_judge.specs.Logs.{Log, MayGoOn, after_lines, nothing, whole}
-use Rattle.mscp_judge.specs.declared.totals.Totals.{Totals}
-use Rattle.mscp_judge.specs.Naming.{name_in}
-use Rattle.mscp_judge.specs.Standing.{totals_of}
-use Rattle.mscp_judge.specs.Totals.{AreTotals}
 use Rattle.mscp_judge.proofs.Coming.{held_settings, stands_legal, stands_not, stands_open, stands_settings}
 use Rattle.mscp_judge.proofs.Exactly.{lines_behind}
 use Rattle.mscp_judge.proofs.Righting.{stands_open_held}

@@ -1,8 +1,4 @@
-use Rattle.std.proofs.Common.{◌+◌, ◌≤◌, length}
-use Rattle.mscp_events.specs.Settings.{Settings}
-use Rattle.mscp_judge.specs.Judged.{Passed}
-use Rattle.mscp_judge.specs.Logs.{nothing}
-use Rattle.mscp_judge.specs.Standing.{Stands}
+use Rattle.mscp_judge.proofs.Common.{◌+◌, ◌≤◌, length, Settings, Passed, nothing, Stands}
 use Rattle.mscp_judge.proofs.judging.find.Given as goal
 
 abbrev pub invariant-loop-bytes : goal.invariant-loop-bytes

@@ -1,10 +1,4 @@
-use Rattle.std.proofs.Common.{ap, sym, ◌∙◌, arith}
-use Rattle.std.proofs.lemmas.Result.{err_from_is_err_and}
-use Rattle.mscp_reader.specs.Lexical.{words}
-use Rattle.mscp_reader.specs.Requests.{events_of}
-use Rattle.mscp_text.specs.Lines.{line}
-use Rattle.mscp_judge.specs.Logs.{asking, is_answer, telling}
-use Rattle.mscp_judge.specs.Naming.{name_in}
+use Rattle.mscp_judge.proofs.Common.{ap, sym, ◌∙◌, arith, err_from_is_err_and, words, events_of, line, asking, is_answer, telling, name_in}
 use Rattle.mscp_judge.proofs.Breaking.{broken_early}
 use Rattle.mscp_judge.proofs.Coming.{too_early}
 use Rattle.mscp_judge.proofs.Righting.{stands_open_held}

@@ -1,4 +1,4 @@
-use Rattle.std.proofs.Common.{arith}
+use Rattle.mscp_judge.proofs.Common.{arith}
 use Rattle.mscp_judge.proofs.judging.judge_lines.Goals as goal
 
 pub returns-in-Some : goal.returns-in-Some

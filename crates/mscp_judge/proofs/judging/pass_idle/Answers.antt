@@ -1,5 +1,4 @@
-use Rattle.std.proofs.Common.{length, refl, ap, arith, length-append}
-use Rattle.std.specs.Prelude.{codes}
+use Rattle.mscp_judge.proofs.Common.{length, refl, ap, arith, length-append, codes}
 use Rattle.mscp_judge.proofs.Passing.{passed_idle, passed_more, passed_none}
 use Rattle.mscp_judge.proofs.judging.pass_idle.Goals as goal
 

@@ -1,8 +1,4 @@
-use Rattle.std.proofs.Common.{◌+◌, ◌≤◌, length}
-use Rattle.mscp_events.specs.Settings.{Settings}
-use Rattle.mscp_judge.specs.Judged.{Passed}
-use Rattle.mscp_judge.specs.Logs.{Log}
-use Rattle.mscp_judge.specs.Standing.{Stands}
+use Rattle.mscp_judge.proofs.Common.{◌+◌, ◌≤◌, length, Settings, Passed, Log, Stands}
 use Rattle.mscp_judge.proofs.judging.pass_idle.Given as goal
 
 abbrev pub invariant-loop-rest : goal.invariant-loop-rest

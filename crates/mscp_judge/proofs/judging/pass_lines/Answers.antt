@@ -1,4 +1,4 @@
-use Rattle.std.proofs.Common.{ap, arith, Ok}
+use Rattle.mscp_judge.proofs.Common.{ap, arith, Ok}
 use Rattle.mscp_judge.proofs.Passing.{passed_more, passed_none}
 use Rattle.mscp_judge.proofs.judging.pass_lines.Goals as goal
 

@@ -1,5 +1,4 @@
-use Rattle.std.proofs.Common.{Ok, arith}
-use Rattle.mscp_reader.specs.Requests.{events_of}
+use Rattle.mscp_judge.proofs.Common.{Ok, arith, events_of}
 use Rattle.mscp_judge.proofs.Passing.{passed_cut, passed_more, passed_none, passed_request}
 use Rattle.mscp_judge.proofs.judging.pass_request.Goals as goal
 

@@ -1,5 +1,4 @@
-use Rattle.std.proofs.Common.{refl, ap, ◌∙◌, arith}
-use Rattle.mscp_judge.specs.Standing.{due}
+use Rattle.mscp_judge.proofs.Common.{refl, ap, ◌∙◌, arith, due}
 use Rattle.mscp_judge.proofs.Passing.{passed_answers, passed_more, passed_none}
 use Rattle.mscp_judge.proofs.Telling.{step_settings, told_step}
 use Rattle.mscp_judge.proofs.judging.pass_steps.Goals as goal

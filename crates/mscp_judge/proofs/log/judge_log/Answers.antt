@@ -1,5 +1,4 @@
-use Rattle.std.proofs.Common.{arith}
-use Rattle.mscp_reader.proofs.Headers.{headed_gone}
+use Rattle.mscp_judge.proofs.Common.{arith, headed_gone}
 use Rattle.mscp_judge.proofs.Exactly.{legal_alone, legal_is_found}
 use Rattle.mscp_judge.proofs.log.judge_log.Goals as goal
 

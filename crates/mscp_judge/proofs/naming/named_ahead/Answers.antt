@@ -1,5 +1,4 @@
-use Rattle.std.proofs.Common.{◌++◌, ◌+◌, drop, take, ap, sym, ◌∙◌}
-use Rattle.std.specs.Prelude.{codes}
+use Rattle.mscp_judge.proofs.Common.{◌++◌, ◌+◌, drop, take, ap, sym, ◌∙◌, codes}
 use Rattle.mscp_judge.proofs.Ahead.{names_ahead, spaced}
 use Rattle.mscp_judge.proofs.naming.named_ahead.Goals as goal
 

@@ -1,5 +1,4 @@
-use Rattle.std.proofs.Common.{◌∙◌}
-use Rattle.mscp_judge.specs.Rules.{answer_rule}
+use Rattle.mscp_judge.proofs.Common.{◌∙◌, answer_rule}
 use Rattle.mscp_judge.proofs.rules.due_rule.Goals as goal
 
 pub returns : goal.returns

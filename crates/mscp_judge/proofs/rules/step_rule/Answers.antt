@@ -1,10 +1,5 @@
-use Rattle.std.proofs.Common.{◌≡◌, ◌≢◌, sym, ◌∙◌, subst, arith}
-use Rattle.std.specs.Prelude.{Option, Some}
-use Rattle.std.proofs.lemmas.Grind.{common_steps}
-use Rattle.mscp_judge.specs.declared.naming.Named.{Named}
+use Rattle.mscp_judge.proofs.Common.{◌≡◌, ◌≢◌, sym, ◌∙◌, subst, arith, Option, Some, common_steps, Named, wanted_name, IsStepRule}
 use Rattle.mscp_judge.specs.declared.rules.Rule.TheVariants as rules
-use Rattle.mscp_judge.specs.Naming.{wanted_name}
-use Rattle.mscp_judge.specs.Rules.{IsStepRule}
 use Rattle.mscp_judge.proofs.Leading.{follow}
 use Rattle.mscp_judge.proofs.Hindered.{is_another, is_free_to, is_kept_back, is_nowhere, is_own, is_unnamed, some_first}
 use Rattle.mscp_judge.proofs.rules.step_rule.Goals as goal

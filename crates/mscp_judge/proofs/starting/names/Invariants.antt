@@ -1,5 +1,4 @@
-use Rattle.std.proofs.Common.{◌≡◌, map, take}
-use Rattle.mscp_judge.specs.Starts.{named}
+use Rattle.mscp_judge.proofs.Common.{◌≡◌, map, take, named}
 use Rattle.mscp_judge.proofs.starting.names.Given as goal
 
 abbrev pub invariant-loop-place : goal.invariant-loop-place

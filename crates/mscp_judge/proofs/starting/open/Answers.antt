@@ -1,8 +1,4 @@
-use Rattle.std.proofs.Common.{arith}
-use Rattle.std.proofs.lemmas.Grind.{common_steps}
-use Rattle.std.proofs.lemmas.List.Elements.{filter_more}
-use Rattle.mscp_events.specs.declared.connection.Connection.TheVariants.{First}
-use Rattle.mscp_judge.specs.declared.naming.Named.{Named}
+use Rattle.mscp_judge.proofs.Common.{arith, common_steps, filter_more, First, Named}
 use Rattle.mscp_judge.proofs.starting.open.Goals as goal
 
 -- a name past the end

@@ -1,6 +1,4 @@
-use Rattle.std.proofs.Common.{◌≡◌, ◌≤◌, length, take}
-use Rattle.std.specs.Prelude.{filter}
-use Rattle.mscp_judge.specs.Starts.{is_open}
+use Rattle.mscp_judge.proofs.Common.{◌≡◌, ◌≤◌, length, take, filter, is_open}
 use Rattle.mscp_judge.proofs.starting.open.Given as goal
 
 abbrev pub invariant-loop-place : goal.invariant-loop-place

@@ -1,4 +1,4 @@
-use Rattle.std.proofs.Common.{arith}
+use Rattle.mscp_judge.proofs.Common.{arith}
 use Rattle.mscp_judge.proofs.Leading.{follow}
 use Rattle.mscp_judge.proofs.Hindered.{all_open, none_open}
 use Rattle.mscp_judge.proofs.starting.starts.Goals as goal

@@ -1,10 +1,4 @@
-use Rattle.std.proofs.Common.{◌≡◌, Option, Some, None, refl, sym, ◌∙◌, rules, tests}
-use Rattle.std.specs.Prelude.{nat_eq}
-use Rattle.std.specs.Option.{option_map}
-use Rattle.std.proofs.lemmas.Iterator.{YieldsList-from_slice}
-use Rattle.std.proofs.lemmas.Iterator.Consumers.{YieldsList-from_copied}
-use Rattle.std.proofs.lemmas.Iterator.Search.{find_from_yields_List}
-use Rattle.mscp_packet.specs.Opcodes.{row_of, opcodes}
+use Rattle.mscp_packet.proofs.Common.{◌≡◌, Option, Some, None, refl, sym, ◌∙◌, rules, tests, nat_eq, option_map, YieldsList-from_slice, YieldsList-from_copied, find_from_yields_List, row_of, opcodes}
 use Rattle.mscp_packet.proofs.class.opcode_of.Goals as goal
 
 option_map_same : {X : Type 0} (o : Option X) → option_map (λ x. x) o ≡ o

@@ -1,5 +1,4 @@
-use Rattle.std.proofs.Common.{◌≡◌, List, ℕ, subst, sym, rules}
-use Rattle.mscp_packet.specs.Commands.{command_bytes, command_of, IsCommand}
+use Rattle.mscp_packet.proofs.Common.{◌≡◌, List, ℕ, subst, sym, rules, command_bytes, command_of, IsCommand}
 use Rattle.mscp_packet.proofs.Commands.{command_read}
 use Rattle.mscp_packet.proofs.law.read_written_command.Goals as goal
 

@@ -1,6 +1,4 @@
-use Rattle.std.proofs.Common.{◌≡◌, ◌≤◌, List, ℕ, length, inr, subst, sym, rules, arith}
-use Rattle.std.specs.Prelude.{slice_index}
-use Rattle.mscp_packet.specs.Ends.{end_bytes, kind_of_code, reading_with}
+use Rattle.mscp_packet.proofs.Common.{◌≡◌, ◌≤◌, List, ℕ, length, inr, subst, sym, rules, arith, slice_index, end_bytes, kind_of_code, reading_with}
 use Rattle.mscp_packet.proofs.Ends.{IsAnswer, answer_is, bytes_span}
 use Rattle.mscp_packet.proofs.law.read_written_end.Goals as goal
 

@@ -1,4 +1,4 @@
-use Rattle.std.proofs.Common.{append_assoc}
+use Rattle.mscp_packet.proofs.Common.{append_assoc}
 use Rattle.mscp_packet.proofs.writing.put_body.Goals as goal
 
 pub returns-in-Controller-clause-items : goal.returns-in-Controller-clause-items

@@ -1,4 +1,4 @@
-use Rattle.std.proofs.Common.{append_assoc}
+use Rattle.mscp_packet.proofs.Common.{append_assoc}
 use Rattle.mscp_packet.proofs.writing.put_unit.Goals as goal
 
 pub returns-clause-items : goal.returns-clause-items

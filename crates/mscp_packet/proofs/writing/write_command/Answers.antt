@@ -1,6 +1,4 @@
-use Rattle.std.proofs.Common.{List, ℕ, subst, sym}
-use Rattle.mscp_packet.specs.Commands.{command_fields, IsCommand}
-use Rattle.mscp_packet.specs.Places.{IsZeroBeside}
+use Rattle.mscp_packet.proofs.Common.{List, ℕ, subst, sym, command_fields, IsCommand, IsZeroBeside}
 use Rattle.mscp_packet.proofs.Commands.{command_bytes_are_messages, command_zeros}
 use Rattle.mscp_packet.proofs.writing.write_command.Goals as goal
 

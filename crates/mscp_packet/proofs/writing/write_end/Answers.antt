@@ -1,6 +1,4 @@
-use Rattle.std.proofs.Common.{List, ℕ, subst, sym}
-use Rattle.mscp_packet.specs.Ends.{end_fields, IsEnd}
-use Rattle.mscp_packet.specs.Places.{IsZeroBeside}
+use Rattle.mscp_packet.proofs.Common.{List, ℕ, subst, sym, end_fields, IsEnd, IsZeroBeside}
 use Rattle.mscp_packet.proofs.Ends.{end_bytes_are_messages, end_zeros}
 use Rattle.mscp_packet.proofs.writing.write_end.Goals as goal
 

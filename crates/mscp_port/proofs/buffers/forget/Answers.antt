@@ -1,6 +1,4 @@
-use Rattle.std.proofs.Common.{rules, not, subst, Contains}
-use Rattle.arrayvec.proofs.ArrayVecLemmas.{filter-from_retain}
-use Rattle.mscp_port.specs.Buffers.{is_of}
+use Rattle.mscp_port.proofs.Common.{rules, not, subst, Contains, filter-from_retain, is_of}
 use Rattle.mscp_port.proofs.Among.{among_left}
 use Rattle.mscp_port.proofs.buffers.forget.Goals as goal
 

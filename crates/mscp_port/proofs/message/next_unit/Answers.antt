@@ -1,5 +1,4 @@
-use Rattle.std.proofs.Common.{ap, ◌∙◌}
-use Rattle.mscp_port.specs.Messages.{number_or_zero}
+use Rattle.mscp_port.proofs.Common.{ap, ◌∙◌, number_or_zero}
 use Rattle.mscp_port.proofs.message.next_unit.Goals as goal
 
 pub returns-in-Some : goal.returns-in-Some

@@ -1,5 +1,4 @@
-use Rattle.std.proofs.Common.{◌≢◌, ◌∙◌, ◌<◌, ◌≤◌, ℕ, length, ap, arith, get_or-set_other, get_or-set_same, below_more}
-use Rattle.mscp_port.specs.Volumes.{volume_reset}
+use Rattle.mscp_port.proofs.Common.{◌≢◌, ◌∙◌, ◌<◌, ◌≤◌, ℕ, length, ap, arith, get_or-set_other, get_or-set_same, below_more, volume_reset}
 use Rattle.mscp_port.proofs.volumes.reset_all.Goals as goal
 
 pub loop-volume-preserved : goal.loop-volume-preserved

@@ -1,5 +1,4 @@
-use Rattle.std.proofs.Common.{◌≡◌, ℕ, ◌<◌, ◌≤◌, get_or}
-use Rattle.mscp_port.specs.Volumes.{no_volume, volume_reset}
+use Rattle.mscp_port.proofs.Common.{◌≡◌, ℕ, ◌<◌, ◌≤◌, get_or, no_volume, volume_reset}
 use Rattle.mscp_port.proofs.volumes.reset_all.Given as goal
 
 abbrev pub invariant-loop-volume : goal.invariant-loop-volume

@@ -1,4 +1,4 @@
-use Rattle.std.proofs.Common.{arith}
+use Rattle.mscp_queue.proofs.Common.{arith}
 use Rattle.mscp_queue.proofs.Mapped.{behind_read, behind_set}
 use Rattle.mscp_queue.proofs.backlog.start.Goals as goal
 

@@ -1,5 +1,4 @@
-use Rattle.std.proofs.Common.{◌≡◌, length, map, take}
-use Rattle.mscp_queue.specs.Drives.{fresh_drive}
+use Rattle.mscp_queue.proofs.Common.{◌≡◌, length, map, take, fresh_drive}
 use Rattle.mscp_queue.proofs.drive.drives_of.Given as goal
 
 abbrev pub invariant-loop-unit : goal.invariant-loop-unit

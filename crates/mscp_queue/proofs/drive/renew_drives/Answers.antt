@@ -1,4 +1,4 @@
-use Rattle.std.proofs.Common.{arith}
+use Rattle.mscp_queue.proofs.Common.{arith}
 use Rattle.mscp_queue.proofs.Mapped.{mapped_more}
 use Rattle.mscp_queue.proofs.drive.renew_drives.Goals as goal
 

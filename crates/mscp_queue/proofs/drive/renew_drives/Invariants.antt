@@ -1,6 +1,4 @@
-use Rattle.std.proofs.Common.{◌≡◌, ◌++◌, map, take, drop}
-use Rattle.mscp_queue.specs.declared.drive.Drive.{Drive}
-use Rattle.mscp_queue.specs.Drives.{fresh_drive}
+use Rattle.mscp_queue.proofs.Common.{◌≡◌, ◌++◌, map, take, drop, Drive, fresh_drive}
 use Rattle.mscp_queue.proofs.drive.renew_drives.Given as goal
 
 abbrev pub invariant-loop-drive : goal.invariant-loop-drive

@@ -1,6 +1,4 @@
-use Rattle.std.proofs.Common.{eqb, sym, ap, ◌∙◌, arith, w64}
-use Rattle.std.specs.Int.{bit_at}
-use Rattle.std.proofs.lemmas.Simd.{bitmask_splat}
+use Rattle.mscp_queue.proofs.Common.{eqb, sym, ap, ◌∙◌, arith, w64, bit_at, bitmask_splat}
 use Rattle.mscp_queue.proofs.LaneHits.{hit_inside, hit_equal, equal_hit}
 use Rattle.mscp_queue.proofs.lanes.equal_eight.Goals as goal
 

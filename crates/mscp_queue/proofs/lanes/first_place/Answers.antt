@@ -1,5 +1,4 @@
-use Rattle.std.proofs.Common.{◌<◌, ◌^◌, ◌*◌, ◌/◌, bit_and, arith}
-use Rattle.std.proofs.lemmas.Nat.{and_le_l}
+use Rattle.mscp_queue.proofs.Common.{◌<◌, ◌^◌, ◌*◌, ◌/◌, bit_and, arith, and_le_l}
 use Rattle.mscp_queue.proofs.LaneLeasts.{first_of, none_more}
 use Rattle.mscp_queue.proofs.lanes.first_place.Goals as goal
 

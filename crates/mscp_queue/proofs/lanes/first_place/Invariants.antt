@@ -1,5 +1,4 @@
-use Rattle.std.specs.Prelude.{◌≡◌, ◌≢◌, ◌<◌, ◌*◌, ℕ, slice_index}
-use Rattle.std.specs.Int.{bit_at}
+use Rattle.mscp_queue.proofs.Common.{◌≡◌, ◌≢◌, ◌<◌, ◌*◌, ℕ, slice_index, bit_at}
 use Rattle.mscp_queue.proofs.lanes.first_place.Given as goal
 
 abbrev pub invariant-loop-block : goal.invariant-loop-block

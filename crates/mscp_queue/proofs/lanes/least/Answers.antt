@@ -1,4 +1,4 @@
-use Rattle.std.proofs.Common.{arith}
+use Rattle.mscp_queue.proofs.Common.{arith}
 use Rattle.mscp_queue.proofs.LaneLeasts.{none_if, some_if}
 use Rattle.mscp_queue.proofs.lanes.least.Goals as goal
 

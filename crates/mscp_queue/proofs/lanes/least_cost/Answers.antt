@@ -1,6 +1,4 @@
-use Rattle.std.proofs.Common.{◌≡◌, get_or, subst, arith}
-use Rattle.std.proofs.lemmas.Simd.{Each1-get_or}
-use Rattle.mscp_queue.specs.Lanes.{IsLow}
+use Rattle.mscp_queue.proofs.Common.{◌≡◌, get_or, subst, arith, Each1-get_or, IsLow}
 use Rattle.mscp_queue.proofs.LaneLeasts.{low_more, low_whole, cost_of, masked}
 use Rattle.mscp_queue.proofs.LaneParts.{bit_from}
 use Rattle.mscp_queue.proofs.lanes.least_cost.Goals as goal

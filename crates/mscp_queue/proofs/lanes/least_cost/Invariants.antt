@@ -1,5 +1,4 @@
-use Rattle.std.specs.Prelude.{◌<◌, ℕ, slice_index, length, ◌≡◌}
-use Rattle.mscp_queue.specs.Lanes.{IsLow}
+use Rattle.mscp_queue.proofs.Common.{◌<◌, ℕ, slice_index, length, ◌≡◌, IsLow}
 use Rattle.mscp_queue.proofs.lanes.least_cost.Given as goal
 
 abbrev pub invariant-loop-block : goal.invariant-loop-block

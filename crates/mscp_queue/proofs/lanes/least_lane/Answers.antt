@@ -1,4 +1,4 @@
-use Rattle.std.proofs.Common.{arith}
+use Rattle.mscp_queue.proofs.Common.{arith}
 use Rattle.mscp_queue.proofs.LaneLeasts.{lane_more}
 use Rattle.mscp_queue.proofs.lanes.least_lane.Goals as goal
 

@@ -1,4 +1,4 @@
-use Rattle.mscp_queue.specs.Lanes.{IsLane}
+use Rattle.mscp_queue.proofs.Common.{IsLane}
 use Rattle.mscp_queue.proofs.lanes.least_lane.Given as goal
 
 abbrev pub invariant-loop-place : goal.invariant-loop-place

@@ -1,8 +1,5 @@
-use Rattle.std.proofs.Common.{min, sym, subst, ltb, get_or, w64}
-use Rattle.std.proofs.lemmas.Simd.{tops_compared}
-use Rattle.std.specs.Simd.Lanes.{sel_l}
+use Rattle.mscp_queue.proofs.Common.{min, sym, subst, ltb, get_or, w64, tops_compared, sel_l, HasLanes}
 use Rattle.mscp_queue.proofs.LaneBits.{least_of_two}
-use Rattle.mscp_queue.specs.Lanes.{HasLanes}
 use Rattle.mscp_queue.proofs.lanes.lesser_eight.Goals as goal
 
 pub returns : goal.returns

@@ -1,4 +1,4 @@
-use Rattle.std.proofs.Common.{◌+◌, ◌*◌, ◌-◌, arith}
+use Rattle.mscp_queue.proofs.Common.{◌+◌, ◌*◌, ◌-◌, arith}
 use Rattle.mscp_queue.proofs.LaneParts.{next_at, none_on, at_mid, bit_from}
 use Rattle.mscp_queue.proofs.lanes.lower.Goals as goal
 

@@ -1,4 +1,4 @@
-use Rattle.std.proofs.Common.{◌*◌}
+use Rattle.mscp_queue.proofs.Common.{◌*◌}
 use Rattle.mscp_queue.proofs.LaneParts.{Lowered}
 use Rattle.mscp_queue.proofs.lanes.lower.Given as goal
 

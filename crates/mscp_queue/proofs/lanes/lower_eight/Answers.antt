@@ -1,5 +1,4 @@
-use Rattle.std.proofs.Common.{◌≤◌, arith, w64, Fits, get_or}
-use Rattle.std.proofs.lemmas.Simd.{Each1-get_or}
+use Rattle.mscp_queue.proofs.Common.{◌≤◌, arith, w64, Fits, get_or, Each1-get_or}
 use Rattle.mscp_queue.proofs.LaneBits.{selected}
 use Rattle.mscp_queue.proofs.lanes.lower_eight.Goals as goal
 

@@ -1,5 +1,4 @@
-use Rattle.std.proofs.Common.{◌<◌, length, ◌∙◌, arith}
-use Rattle.std.proofs.lemmas.List.{length-set}
+use Rattle.mscp_queue.proofs.Common.{◌<◌, length, ◌∙◌, arith, length-set}
 use Rattle.mscp_queue.proofs.Cleared.{next_above, next_below}
 use Rattle.mscp_queue.proofs.masks.clear_in_all.Goals as goal
 

@@ -1,5 +1,4 @@
-use Rattle.std.specs.Prelude.{◌≡◌, ◌<◌, ◌≤◌, ℕ, slice_index_or, length, false}
-use Rattle.mscp_queue.specs.Masks.{IsSet}
+use Rattle.mscp_queue.proofs.Common.{◌≡◌, ◌<◌, ◌≤◌, ℕ, slice_index_or, length, false, IsSet}
 use Rattle.mscp_queue.proofs.masks.clear_in_all.Given as goal
 
 abbrev pub invariant-loop-i : goal.invariant-loop-i

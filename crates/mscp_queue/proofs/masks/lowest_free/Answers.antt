@@ -1,7 +1,4 @@
-use Rattle.std.proofs.Common.{w64, sym, subst}
-use Rattle.std.specs.Int.{trailing_ones}
-use Rattle.std.proofs.lemmas.Nat.Bits.{bit_at-trailing_ones}
-use Rattle.mscp_queue.specs.Masks.{IsLowestFree}
+use Rattle.mscp_queue.proofs.Common.{w64, sym, subst, trailing_ones, bit_at-trailing_ones, IsLowestFree}
 use Rattle.mscp_queue.proofs.Masked.{not_last}
 use Rattle.mscp_queue.proofs.masks.lowest_free.Goals as goal
 

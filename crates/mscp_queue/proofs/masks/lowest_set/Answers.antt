@@ -1,7 +1,4 @@
-use Rattle.std.proofs.Common.{◌⊎◌, inl, inr, ◌≡◌, ◌≢◌, ◌<◌, ℕ, ap, ◌∙◌, arith, w64}
-use Rattle.std.specs.Int.{bit_at, trailing_zeros}
-use Rattle.std.specs.Int.Count.{trailing_of_zero}
-use Rattle.std.proofs.lemmas.Nat.Bits.{bit_at-trailing_zeros, bit_at-zero}
+use Rattle.mscp_queue.proofs.Common.{◌⊎◌, inl, inr, ◌≡◌, ◌≢◌, ◌<◌, ℕ, ap, ◌∙◌, arith, w64, bit_at, trailing_zeros, trailing_of_zero, bit_at-trailing_zeros, bit_at-zero}
 use Rattle.mscp_queue.proofs.Masked.{same_or}
 use Rattle.mscp_queue.proofs.masks.lowest_set.Goals as goal
 

@@ -1,6 +1,4 @@
-use Rattle.std.proofs.Common.{arith}
-use Rattle.std.proofs.lemmas.Nat.Bits.{bit_at_set_same, bit_at_set_other, bit_at_clear_same, bit_at_clear_other}
-use Rattle.std.proofs.lemmas.Nat.{and_le_l}
+use Rattle.mscp_queue.proofs.Common.{arith, bit_at_set_same, bit_at_set_other, bit_at_clear_same, bit_at_clear_other, and_le_l}
 use Rattle.mscp_queue.proofs.Masked.{after_bit}
 use Rattle.mscp_queue.proofs.masks.with_bit.Goals as goal
 

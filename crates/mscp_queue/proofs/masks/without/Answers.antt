@@ -1,5 +1,4 @@
-use Rattle.std.proofs.Common.{arith}
-use Rattle.std.proofs.lemmas.Nat.Bits.{bit_at_and, bit_at_not}
+use Rattle.mscp_queue.proofs.Common.{arith, bit_at_and, bit_at_not}
 use Rattle.mscp_queue.proofs.masks.without.Goals as goal
 
 pub returns : goal.returns

@@ -1,5 +1,4 @@
-use Rattle.std.proofs.Common.{ap, ◌∙◌}
-use Rattle.mscp_queue.specs.Views.{choice_of}
+use Rattle.mscp_queue.proofs.Common.{ap, ◌∙◌, choice_of}
 use Rattle.mscp_queue.proofs.Targets.{led, led_inside}
 use Rattle.mscp_queue.proofs.start.choice_in.Goals as goal
 

@@ -1,5 +1,4 @@
-use Rattle.std.proofs.Common.{arith, sym, ◌∙◌}
-use Rattle.std.proofs.lemmas.Bool.{leb-true}
+use Rattle.mscp_queue.proofs.Common.{arith, sym, ◌∙◌, leb-true}
 use Rattle.mscp_queue.proofs.Passable.{none_counted, passed_most}
 use Rattle.mscp_queue.proofs.start.may_all_start.Goals as goal
 

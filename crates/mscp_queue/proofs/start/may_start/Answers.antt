@@ -1,5 +1,4 @@
-use Rattle.std.proofs.Common.{arith}
-use Rattle.std.proofs.lemmas.Bool.{eq-eqb}
+use Rattle.mscp_queue.proofs.Common.{arith, eq-eqb}
 use Rattle.mscp_queue.proofs.Starting.{free_is, oldest_affords}
 use Rattle.mscp_queue.proofs.start.may_start.Goals as goal
 

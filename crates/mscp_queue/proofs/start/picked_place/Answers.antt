@@ -1,11 +1,4 @@
-use Rattle.std.proofs.Common.{◌≡◌, ℕ, ◌∙◌, ◌+◌, ◌<◌, List, ap, subst, sym, length, get_or, arith}
-use Rattle.std.specs.List.{range_with_len}
-use Rattle.std.proofs.lemmas.List.{length-map}
-use Rattle.std.proofs.lemmas.List.FromFn.{get_or-range_with_len, length-range_with_len}
-use Rattle.mscp_queue.specs.declared.drive.Drive.{Drive}
-use Rattle.mscp_queue.specs.declared.view.Choice.{Choice}
-use Rattle.mscp_queue.specs.Records.{Record}
-use Rattle.mscp_queue.specs.Views.{AllMayStart, choices_at, open_places, view_of}
+use Rattle.mscp_queue.proofs.Common.{◌≡◌, ℕ, ◌∙◌, ◌+◌, ◌<◌, List, ap, subst, sym, length, get_or, arith, range_with_len, length-map, get_or-range_with_len, length-range_with_len, Drive, Choice, Record, AllMayStart, choices_at, open_places, view_of}
 use Rattle.mscp_queue.proofs.CandidateCosts.{all_choices, candidates_of}
 use Rattle.mscp_queue.proofs.Starting.{places_inside, some_place}
 use Rattle.mscp_queue.proofs.start.picked_place.Goals as goal

@@ -1,6 +1,4 @@
-use Rattle.std.proofs.Common.{◌≡◌, ◌+◌, ◌<◌, length, ap, ◌∙◌, arith}
-use Rattle.mscp_queue.specs.Records.{record_at}
-use Rattle.mscp_queue.specs.Views.{choices_at}
+use Rattle.mscp_queue.proofs.Common.{◌≡◌, ◌+◌, ◌<◌, length, ap, ◌∙◌, arith, record_at, choices_at}
 use Rattle.mscp_queue.proofs.Starting.{found_all, looks_more, shut_is}
 use Rattle.mscp_queue.proofs.start.show_each.Goals as goal
 

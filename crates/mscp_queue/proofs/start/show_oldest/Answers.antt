@@ -1,4 +1,4 @@
-use Rattle.std.proofs.Common.{[], true, inl, refl, sym, arith}
+use Rattle.mscp_queue.proofs.Common.{[], true, inl, refl, sym, arith}
 use Rattle.mscp_queue.proofs.Starting.{found_all, looks_more, looks_none, shut_is}
 use Rattle.mscp_queue.proofs.start.show_oldest.Goals as goal
 

@@ -1,8 +1,4 @@
-use Rattle.std.proofs.Common.{ap, subst, sym, ◌∙◌}
-use Rattle.std.proofs.lemmas.List.{get_or_default}
-use Rattle.mscp_queue.specs.declared.target.Target.{Target}
-use Rattle.mscp_queue.specs.Targets.{no_target}
-use Rattle.mscp_queue.specs.Records.{no_record, record_at}
+use Rattle.mscp_queue.proofs.Common.{ap, subst, sym, ◌∙◌, get_or_default, Target, no_target, no_record, record_at}
 use Rattle.mscp_queue.proofs.Targets.{LeadsTo, has_drive, leads_to}
 use Rattle.mscp_queue.proofs.start.targeted_at.Goals as goal
 

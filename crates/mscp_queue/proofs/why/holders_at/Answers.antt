@@ -1,7 +1,4 @@
-use Rattle.std.proofs.Common.{◌≡◌, ◌||◌, ap, ◌∙◌, arith}
-use Rattle.mscp_queue.specs.declared.why.Holder.{Holder}
-use Rattle.mscp_queue.specs.Records.{Record, record_at}
-use Rattle.mscp_queue.specs.Why.{holder_of}
+use Rattle.mscp_queue.proofs.Common.{◌≡◌, ◌||◌, ap, ◌∙◌, arith, Holder, Record, record_at, holder_of}
 use Rattle.mscp_queue.proofs.Whys.{holders_more, none_keeps_back}
 use Rattle.mscp_queue.proofs.why.holders_at.Goals as goal
 

@@ -1,6 +1,4 @@
-use Rattle.mscp_reader.specs.Lexical.{words}
-use Rattle.mscp_reader.specs.Grammar.{Begins, HasCredits}
-use Rattle.mscp_reader.specs.Outcome.{both_of}
+use Rattle.mscp_reader.proofs.Common.{words, Begins, HasCredits, both_of}
 use Rattle.mscp_reader.proofs.Headers.{line_heads}
 use Rattle.mscp_reader.proofs.Outcomes.{next_credits}
 use Rattle.mscp_reader.proofs.header.read_credits.Goals as goal

@@ -1,8 +1,4 @@
-use Rattle.std.proofs.Common.{[], ◌∙◌}
-use Rattle.std.proofs.lemmas.Result.{err_from_is_err_and}
-use Rattle.std.specs.Prelude.{Ok, Err}
-use Rattle.mscp_events.specs.Settings.{Settings}
-use Rattle.mscp_reader.specs.Grammar.{Begins, HasGone}
+use Rattle.mscp_reader.proofs.Common.{[], ◌∙◌, err_from_is_err_and, Ok, Err, Settings, Begins, HasGone}
 use Rattle.mscp_reader.proofs.Headers.{heads_lead}
 use Rattle.mscp_reader.proofs.header.read_header.Goals as goal
 

@@ -1,7 +1,4 @@
-use Rattle.std.proofs.Common.{◌≡◌, length}
-use Rattle.mscp_drive.specs.UnitList.{IsUnitList}
-use Rattle.mscp_reader.specs.Grammar.{Begins, HasUnits}
-use Rattle.mscp_reader.specs.Outcome.{rest_headed, settled}
+use Rattle.mscp_reader.proofs.Common.{◌≡◌, length, IsUnitList, Begins, HasUnits, rest_headed, settled}
 use Rattle.mscp_reader.proofs.header.read_header.Given as goal
 
 abbrev pub invariant-loop-config : goal.invariant-loop-config

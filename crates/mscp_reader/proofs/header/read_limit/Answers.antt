@@ -1,6 +1,4 @@
-use Rattle.mscp_reader.specs.Lexical.{words}
-use Rattle.mscp_reader.specs.Grammar.{HasCredits}
-use Rattle.mscp_reader.specs.Outcome.{limited}
+use Rattle.mscp_reader.proofs.Common.{words, HasCredits, limited}
 use Rattle.mscp_reader.proofs.Headers.{line_heads}
 use Rattle.mscp_reader.proofs.Outcomes.{next_limit}
 use Rattle.mscp_reader.proofs.header.read_limit.Goals as goal

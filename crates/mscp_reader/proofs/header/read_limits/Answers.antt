@@ -1,6 +1,4 @@
-use Rattle.std.proofs.Common.{◌∙◌}
-use Rattle.std.proofs.lemmas.Result.{err_from_is_err_and}
-use Rattle.mscp_reader.specs.Outcome.{both_of, budget_of}
+use Rattle.mscp_reader.proofs.Common.{◌∙◌, err_from_is_err_and, both_of, budget_of}
 use Rattle.mscp_reader.proofs.Outcomes.{sets_longest, sets_timeout}
 use Rattle.mscp_reader.proofs.header.read_limits.Goals as goal
 

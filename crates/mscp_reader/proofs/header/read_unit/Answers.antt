@@ -1,7 +1,4 @@
-use Rattle.std.proofs.Common.{[]}
-use Rattle.mscp_reader.specs.Lexical.{words}
-use Rattle.mscp_reader.specs.Grammar.{HasTimeout, HasUnits}
-use Rattle.mscp_reader.specs.Outcome.{settled}
+use Rattle.mscp_reader.proofs.Common.{[], words, HasTimeout, HasUnits, settled}
 use Rattle.mscp_reader.proofs.Headers.{line_heads}
 use Rattle.mscp_reader.proofs.Outcomes.{gives_made, next_timeout}
 use Rattle.mscp_reader.proofs.header.read_unit.Goals as goal

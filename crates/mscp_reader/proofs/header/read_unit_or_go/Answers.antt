@@ -1,4 +1,4 @@
-use Rattle.mscp_reader.specs.Lexical.{words}
+use Rattle.mscp_reader.proofs.Common.{words}
 use Rattle.mscp_reader.proofs.Headers.{line_heads}
 use Rattle.mscp_reader.proofs.Outcomes.{next_units}
 use Rattle.mscp_reader.proofs.header.read_unit_or_go.Goals as goal

@@ -1,6 +1,4 @@
-use Rattle.std.proofs.Common.{◌≡◌, take}
-use Rattle.std.specs.List.{list_all}
-use Rattle.mscp_reader.specs.Lexical.{is_printed}
+use Rattle.mscp_reader.proofs.Common.{◌≡◌, take, list_all, is_printed}
 use Rattle.mscp_reader.proofs.lines.is_printed.Given as goal
 
 abbrev pub invariant-loop-byte : goal.invariant-loop-byte

@@ -1,4 +1,4 @@
-use Rattle.std.proofs.Common.{rules, ◌≤◌, arith, get_or}
+use Rattle.mscp_reader.proofs.Common.{rules, ◌≤◌, arith, get_or}
 use Rattle.mscp_reader.proofs.Digits.{value_more, all_more, small_more}
 use Rattle.mscp_reader.proofs.numbers.number.Goals as goal
 

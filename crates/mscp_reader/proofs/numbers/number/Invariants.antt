@@ -1,7 +1,4 @@
-use Rattle.std.proofs.Common.{◌≡◌, ◌<◌, ◌^◌, true, take}
-use Rattle.std.specs.List.{list_all}
-use Rattle.std.specs.Str.Parse.{digits_value}
-use Rattle.mscp_reader.specs.Lexical.{is_digit}
+use Rattle.mscp_reader.proofs.Common.{◌≡◌, ◌<◌, ◌^◌, true, take, list_all, digits_value, is_digit}
 use Rattle.mscp_reader.proofs.numbers.number.Given as goal
 
 abbrev pub invariant-loop-digit : goal.invariant-loop-digit

@@ -1,9 +1,4 @@
-use Rattle.std.proofs.Common.{◌≡◌, ◌==◌, ℕ, Bool, true, false, List, length, refl, arith}
-use Rattle.std.specs.Prelude.{nat_lt, position, Option, Some, None}
-use Rattle.std.proofs.lemmas.Bool.{lt-ltb}
-use Rattle.std.proofs.lemmas.Bool.Decides.{nat_tests}
-use Rattle.std.proofs.lemmas.List.Sums.{position_or_len_is}
-use Rattle.memchr.specs.Find.{IsFirstByte, is_byte}
+use Rattle.mscp_reader.proofs.Common.{◌≡◌, ◌==◌, ℕ, Bool, true, false, List, length, refl, arith, nat_lt, position, Option, Some, None, lt-ltb, nat_tests, position_or_len_is, IsFirstByte, is_byte}
 use Rattle.mscp_reader.proofs.pieces.feed_in.Goals as goal
 
 not_true : (b : Bool) → ¬ (b ≡ true) → b ≡ false

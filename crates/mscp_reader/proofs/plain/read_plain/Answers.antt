@@ -1,7 +1,4 @@
-use Rattle.std.proofs.Common.{◌≡◌, ◌++◌, ◌∙◌, sym, true}
-use Rattle.std.specs.List.{list_all}
-use Rattle.std.proofs.lemmas.List.{take-append-drop}
-use Rattle.mscp_reader.specs.Plain.{is_letter}
+use Rattle.mscp_reader.proofs.Common.{◌≡◌, ◌++◌, ◌∙◌, sym, true, list_all, take-append-drop, is_letter}
 use Rattle.mscp_reader.proofs.PlainLines.{plain_is}
 use Rattle.mscp_reader.proofs.plain.read_plain.Goals as goal
 

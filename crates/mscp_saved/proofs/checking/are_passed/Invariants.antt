@@ -1,5 +1,4 @@
-use Rattle.std.proofs.Common.{◌≡◌, drop}
-use Rattle.mscp_saved.specs.Restored.{are_passed}
+use Rattle.mscp_saved.proofs.Common.{◌≡◌, drop, are_passed}
 use Rattle.mscp_saved.proofs.checking.are_passed.Given as goal
 
 abbrev pub invariant-loop-place : goal.invariant-loop-place

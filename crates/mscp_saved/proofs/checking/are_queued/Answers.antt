@@ -1,10 +1,4 @@
-use Rattle.std.proofs.Common.{◌∙◌, ap, sym, subst}
-use Rattle.std.proofs.lemmas.Bool.{and_from}
-use Rattle.std.proofs.lemmas.List.Folds.{list_all_more}
-use Rattle.mscp_queue.specs.Kept.{IsWaitable}
-use Rattle.mscp_queue.specs.Records.{Record}
-use Rattle.mscp_controller.specs.Arrival.{is_queued}
-use Rattle.mscp_packet.proofs.Parts.{each_more}
+use Rattle.mscp_saved.proofs.Common.{◌∙◌, ap, sym, subst, and_from, list_all_more, IsWaitable, Record, is_queued, each_more}
 use Rattle.mscp_saved.proofs.checking.are_queued.Goals as goal
 
 pub loop-place-preserved : goal.loop-place-preserved

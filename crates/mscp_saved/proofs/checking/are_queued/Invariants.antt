@@ -1,6 +1,4 @@
-use Rattle.std.proofs.Common.{All, ◌≡◌, true, take}
-use Rattle.mscp_queue.specs.Kept.{IsWaitable}
-use Rattle.mscp_saved.specs.Restored.{are_queued}
+use Rattle.mscp_saved.proofs.Common.{All, ◌≡◌, true, take, IsWaitable, are_queued}
 use Rattle.mscp_saved.proofs.checking.are_queued.Given as goal
 
 abbrev pub invariant-loop-place : goal.invariant-loop-place

@@ -1,6 +1,4 @@
-use Rattle.std.proofs.Common.{◌≡◌, ◌≤◌, length, take}
-use Rattle.std.specs.Prelude.{filter}
-use Rattle.mscp_queue.specs.Records.{is_in_service}
+use Rattle.mscp_saved.proofs.Common.{◌≡◌, ◌≤◌, length, take, filter, is_in_service}
 use Rattle.mscp_saved.proofs.checking.count_in_service.Given as goal
 
 abbrev pub invariant-loop-place : goal.invariant-loop-place

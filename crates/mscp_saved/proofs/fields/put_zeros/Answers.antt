@@ -1,4 +1,4 @@
-use Rattle.std.proofs.Common.{◌++◌, ap, ◌∙◌}
+use Rattle.mscp_saved.proofs.Common.{◌++◌, ap, ◌∙◌}
 use Rattle.mscp_saved.proofs.Bytes.{first_zeros}
 use Rattle.mscp_saved.proofs.fields.put_zeros.Goals as goal
 

@@ -1,6 +1,4 @@
-use Rattle.std.proofs.Common.{drop, ap, ◌∙◌}
-use Rattle.std.proofs.lemmas.List.{take_rest}
-use Rattle.mscp_saved.specs.Read.{drive_in, parts_in}
+use Rattle.mscp_saved.proofs.Common.{drop, ap, ◌∙◌, take_rest, drive_in, parts_in}
 use Rattle.mscp_saved.proofs.framing.drives_in.Goals as goal
 
 pub returns-clause-value : goal.returns-clause-value

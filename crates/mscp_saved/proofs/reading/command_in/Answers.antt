@@ -1,4 +1,4 @@
-use Rattle.mscp_controller.proofs.Bridge.Judging.{command_is}
+use Rattle.mscp_saved.proofs.Common.{command_is}
 use Rattle.mscp_saved.proofs.reading.command_in.Goals as goal
 
 pub returns : goal.returns

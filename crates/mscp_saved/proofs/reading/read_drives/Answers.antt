@@ -1,5 +1,4 @@
-use Rattle.std.proofs.Common.{arith}
-use Rattle.mscp_saved.specs.Read.{drive_in}
+use Rattle.mscp_saved.proofs.Common.{arith, drive_in}
 use Rattle.mscp_saved.proofs.PartsRead.{part_more}
 use Rattle.mscp_saved.proofs.reading.read_drives.Goals as goal
 

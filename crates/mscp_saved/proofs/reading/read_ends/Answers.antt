@@ -1,5 +1,4 @@
-use Rattle.std.proofs.Common.{arith}
-use Rattle.mscp_saved.specs.Read.{end_in}
+use Rattle.mscp_saved.proofs.Common.{arith, end_in}
 use Rattle.mscp_saved.proofs.PartsRead.{part_more}
 use Rattle.mscp_saved.proofs.reading.read_ends.Goals as goal
 

@@ -1,6 +1,4 @@
-use Rattle.std.proofs.Common.{◌≡◌}
-use Rattle.arrayvec.specs.ArrayVec.{array_vec_len}
-use Rattle.mscp_saved.specs.Read.{waiting_in, parts_in}
+use Rattle.mscp_saved.proofs.Common.{◌≡◌, array_vec_len, waiting_in, parts_in}
 use Rattle.mscp_saved.proofs.reading.read_waiting.Given as goal
 
 abbrev pub invariant-loop-place : goal.invariant-loop-place

@@ -1,5 +1,4 @@
-use Rattle.std.proofs.Common.{sym, ◌≤◌, length, arith}
-use Rattle.std.proofs.lemmas.List.{length-take-le}
+use Rattle.mscp_saved.proofs.Common.{sym, ◌≤◌, length, arith, length-take-le}
 use Rattle.mscp_saved.proofs.reading.waiting_in.Goals as goal
 
 pub slice_bounds-command_in-end : goal.slice_bounds-command_in-end

@@ -1,12 +1,4 @@
-use Rattle.std.proofs.Common.{◌≡◌, ◌∙◌, ap, sym}
-use Rattle.std.specs.Prelude.{Option, None}
-use Rattle.mscp_queue.specs.declared.name.Name.{Name}
-use Rattle.mscp_controller.specs.Holdings.{Holdings}
-use Rattle.mscp_controller.specs.Restored.{made_of}
-use Rattle.mscp_saved.specs.declared.fault.RestoreFault.{RestoreFault}
-use Rattle.mscp_saved.specs.Read.{begun_in}
-use Rattle.mscp_saved.specs.Restored.{first_of, form_fault, form_unless, parts_fault}
-use Rattle.mscp_saved.specs.Saved.{saved_bytes}
+use Rattle.mscp_saved.proofs.Common.{◌≡◌, ◌∙◌, ap, sym, Option, None, Name, Holdings, made_of, RestoreFault, begun_in, first_of, form_fault, form_unless, parts_fault, saved_bytes}
 use Rattle.mscp_saved.proofs.restoring.parts_or_form_fault.Goals as goal
 
 pub returns-clause-fault : goal.returns-clause-fault

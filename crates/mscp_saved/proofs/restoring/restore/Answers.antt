@@ -1,8 +1,4 @@
-use Rattle.std.proofs.Common.{◌∙◌, ap, sym}
-use Rattle.std.specs.Prelude.{Ok}
-use Rattle.mscp_controller.specs.Holdings.{Holdings}
-use Rattle.mscp_saved.specs.Read.{held_in}
-use Rattle.mscp_saved.specs.Restored.{unless}
+use Rattle.mscp_saved.proofs.Common.{◌∙◌, ap, sym, Ok, Holdings, held_in, unless}
 use Rattle.mscp_saved.proofs.Faithful.{same_of}
 use Rattle.mscp_saved.proofs.restoring.restore.Goals as goal
 

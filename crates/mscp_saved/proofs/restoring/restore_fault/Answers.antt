@@ -1,6 +1,4 @@
-use Rattle.std.proofs.Common.{◌∙◌, ap, sym, refl}
-use Rattle.mscp_saved.specs.Read.{settings_in}
-use Rattle.mscp_saved.specs.Restored.{settings_fault}
+use Rattle.mscp_saved.proofs.Common.{◌∙◌, ap, sym, refl, settings_in, settings_fault}
 use Rattle.mscp_saved.proofs.Outcomes.{err_is, frame_none, read_of, settings_good}
 use Rattle.mscp_saved.proofs.Parted.{parted, parts_few, saved_if, settings_refused}
 use Rattle.mscp_saved.proofs.restoring.restore_fault.Goals as goal

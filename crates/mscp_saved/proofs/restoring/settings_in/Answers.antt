@@ -1,7 +1,4 @@
-use Rattle.std.proofs.Common.{◌∙◌, ap, sym}
-use Rattle.std.specs.Prelude.{Ok}
-use Rattle.mscp_events.specs.Settings.{configured}
-use Rattle.mscp_saved.specs.Read.{settings_in}
+use Rattle.mscp_saved.proofs.Common.{◌∙◌, ap, sym, Ok, configured, settings_in}
 use Rattle.mscp_saved.proofs.Configured.{no_units, settings_made, settings_refused}
 use Rattle.mscp_saved.proofs.restoring.settings_in.Goals as goal
 

@@ -1,6 +1,4 @@
-use Rattle.std.proofs.Common.{◌≡◌, take}
-use Rattle.arrayvec.specs.ArrayVec.{array_vec_len}
-use Rattle.mscp_queue.specs.Kept.{units_of}
+use Rattle.mscp_saved.proofs.Common.{◌≡◌, take, array_vec_len, units_of}
 use Rattle.mscp_saved.proofs.restoring.units_of.Given as goal
 
 abbrev pub invariant-loop-drive : goal.invariant-loop-drive

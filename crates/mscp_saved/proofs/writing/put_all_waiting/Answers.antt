@@ -1,8 +1,4 @@
-use Rattle.std.proofs.Common.{◌<◌, length, sym, arith}
-use Rattle.mscp_queue.specs.Records.{no_record}
-use Rattle.mscp_saved.specs.Ranges.{HasWaitingRange}
-use Rattle.mscp_saved.specs.Saved.{waiting_bytes}
-use Rattle.mscp_packet.proofs.Parts.{each_more, written_more}
+use Rattle.mscp_saved.proofs.Common.{◌<◌, length, sym, arith, no_record, HasWaitingRange, waiting_bytes, each_more, written_more}
 use Rattle.mscp_saved.proofs.writing.put_all_waiting.Goals as goal
 
 pub loop-place-preserved : goal.loop-place-preserved

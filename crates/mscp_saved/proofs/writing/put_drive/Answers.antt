@@ -1,4 +1,4 @@
-use Rattle.std.proofs.Common.{◌∷◌, [], refl, ap}
+use Rattle.mscp_saved.proofs.Common.{◌∷◌, [], refl, ap}
 use Rattle.mscp_saved.proofs.Bytes.{grow, more}
 use Rattle.mscp_saved.proofs.writing.put_drive.Goals as goal
 

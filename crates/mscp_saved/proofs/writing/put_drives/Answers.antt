@@ -1,7 +1,4 @@
-use Rattle.std.proofs.Common.{sym, arith}
-use Rattle.mscp_saved.specs.Ranges.{HasDriveRange}
-use Rattle.mscp_saved.specs.Saved.{drive_bytes}
-use Rattle.mscp_packet.proofs.Parts.{each_more, written_more}
+use Rattle.mscp_saved.proofs.Common.{sym, arith, HasDriveRange, drive_bytes, each_more, written_more}
 use Rattle.mscp_saved.proofs.writing.put_drives.Goals as goal
 
 pub loop-place-preserved : goal.loop-place-preserved

@@ -1,8 +1,4 @@
-use Rattle.std.proofs.Common.{All, ◌≡◌, ◌+◌, ◌*◌, ◌++◌, take}
-use Rattle.std.specs.Prelude.{flat_map}
-use Rattle.arrayvec.specs.ArrayVec.{array_vec_len}
-use Rattle.mscp_saved.specs.Ranges.{HasDriveRange}
-use Rattle.mscp_saved.specs.Saved.{drive_bytes}
+use Rattle.mscp_saved.proofs.Common.{All, ◌≡◌, ◌+◌, ◌*◌, ◌++◌, take, flat_map, array_vec_len, HasDriveRange, drive_bytes}
 use Rattle.mscp_saved.proofs.writing.put_drives.Given as goal
 
 abbrev pub invariant-loop-place : goal.invariant-loop-place

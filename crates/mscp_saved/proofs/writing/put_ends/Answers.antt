@@ -1,7 +1,4 @@
-use Rattle.std.proofs.Common.{sym, arith}
-use Rattle.mscp_packet.specs.Ends.{HasEndRange}
-use Rattle.mscp_saved.specs.Saved.{end_cell}
-use Rattle.mscp_packet.proofs.Parts.{each_more, written_more}
+use Rattle.mscp_saved.proofs.Common.{sym, arith, HasEndRange, end_cell, each_more, written_more}
 use Rattle.mscp_saved.proofs.writing.put_ends.Goals as goal
 
 pub loop-place-preserved : goal.loop-place-preserved

@@ -1,8 +1,4 @@
-use Rattle.std.proofs.Common.{All, ◌≡◌, ◌+◌, ◌*◌, ◌++◌, take}
-use Rattle.std.specs.Prelude.{flat_map}
-use Rattle.arrayvec.specs.ArrayVec.{array_vec_len}
-use Rattle.mscp_packet.specs.Ends.{HasEndRange}
-use Rattle.mscp_saved.specs.Saved.{end_cell}
+use Rattle.mscp_saved.proofs.Common.{All, ◌≡◌, ◌+◌, ◌*◌, ◌++◌, take, flat_map, array_vec_len, HasEndRange, end_cell}
 use Rattle.mscp_saved.proofs.writing.put_ends.Given as goal
 
 abbrev pub invariant-loop-place : goal.invariant-loop-place

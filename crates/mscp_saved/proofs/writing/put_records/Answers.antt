@@ -1,6 +1,4 @@
-use Rattle.std.proofs.Common.{sym, arith}
-use Rattle.mscp_saved.specs.Saved.{waiting_bytes}
-use Rattle.mscp_packet.proofs.Parts.{written_more}
+use Rattle.mscp_saved.proofs.Common.{sym, arith, waiting_bytes, written_more}
 use Rattle.mscp_saved.proofs.writing.put_records.Goals as goal
 
 pub loop-place-preserved : goal.loop-place-preserved

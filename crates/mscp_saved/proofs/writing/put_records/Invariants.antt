@@ -1,7 +1,4 @@
-use Rattle.std.proofs.Common.{◌≡◌, ◌+◌, ◌*◌, ◌++◌, take}
-use Rattle.std.specs.Prelude.{flat_map}
-use Rattle.arrayvec.specs.ArrayVec.{array_vec_len}
-use Rattle.mscp_saved.specs.Saved.{waiting_bytes}
+use Rattle.mscp_saved.proofs.Common.{◌≡◌, ◌+◌, ◌*◌, ◌++◌, take, flat_map, array_vec_len, waiting_bytes}
 use Rattle.mscp_saved.proofs.writing.put_records.Given as goal
 
 abbrev pub invariant-loop-place : goal.invariant-loop-place

@@ -1,4 +1,4 @@
-use Rattle.std.proofs.Common.{refl}
+use Rattle.mscp_saved.proofs.Common.{refl}
 use Rattle.mscp_saved.proofs.Bytes.{first, grow, more}
 use Rattle.mscp_saved.proofs.writing.put_settings.Goals as goal
 

@@ -1,5 +1,4 @@
-use Rattle.std.proofs.Common.{ap}
-use Rattle.byteorder.specs.Endian.{little_bytes}
+use Rattle.mscp_saved.proofs.Common.{ap, little_bytes}
 use Rattle.mscp_saved.proofs.Bytes.{first, grow}
 use Rattle.mscp_saved.proofs.writing.put_sizes.Goals as goal
 

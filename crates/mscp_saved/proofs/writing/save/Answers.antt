@@ -1,11 +1,4 @@
-use Rattle.std.proofs.Common.{All, ◌≡◌, ◌∙◌, ◌<◌, ◌^◌, List, length, ap, subst, arith, rules}
-use Rattle.std.specs.Prelude.{IfSome}
-use Rattle.mscp_packet.specs.declared.end.End.{End}
-use Rattle.mscp_packet.specs.Ends.{HasEndRange}
-use Rattle.mscp_queue.specs.declared.drive.Drive.{Drive}
-use Rattle.mscp_saved.specs.Ranges.{HasDriveRange, HasLimitRange, HasRange}
-use Rattle.mscp_saved.specs.Restored.{restored}
-use Rattle.mscp_saved.specs.Saved.{saved_bytes}
+use Rattle.mscp_saved.proofs.Common.{All, ◌≡◌, ◌∙◌, ◌<◌, ◌^◌, List, length, ap, subst, arith, rules, IfSome, End, HasEndRange, Drive, HasDriveRange, HasLimitRange, HasRange, restored, saved_bytes}
 use Rattle.mscp_saved.proofs.Faithful.{back_of}
 use Rattle.mscp_saved.proofs.Sizes.{sizes_of}
 use Rattle.mscp_saved.proofs.writing.save.Goals as goal

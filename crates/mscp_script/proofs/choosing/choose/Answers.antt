@@ -1,5 +1,4 @@
-use Rattle.std.proofs.Common.{◌∙◌}
-use Rattle.std.specs.String.{string_bytes}
+use Rattle.mscp_script.proofs.Common.{◌∙◌, string_bytes}
 use Rattle.mscp_script.proofs.Words.{neither, two_words}
 use Rattle.mscp_script.proofs.choosing.choose.Goals as goal
 

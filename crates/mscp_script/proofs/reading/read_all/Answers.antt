@@ -1,7 +1,5 @@
-use Rattle.std.proofs.Common.{arith}
-use Rattle.std.proofs.lemmas.List.{length-take}
+use Rattle.mscp_script.proofs.Common.{arith, length-take, most_read}
 use Rattle.mscp_script.proofs.Fronts.{front_full, front_end, rest_full, rest_end}
-use Rattle.mscp_script.specs.Whole.{most_read}
 use Rattle.mscp_script.proofs.reading.read_all.Goals as goal
 use Rattle.mscp_script.proofs.reading.read_all.Goals.{else-loop-buf-test, then-loop-buf-test+in-Ok+then-count-eq0}
 

@@ -1,6 +1,4 @@
-use Rattle.std.proofs.Common.{◌≡◌, ◌≤◌, ◌-◌, false, length, vec_len}
-use Rattle.std.specs.Io.KnownBytes.{Consumes}
-use Rattle.mscp_script.specs.Whole.{most_read}
+use Rattle.mscp_script.proofs.Common.{◌≡◌, ◌≤◌, ◌-◌, false, length, vec_len, Consumes, most_read}
 use Rattle.mscp_script.proofs.reading.read_all.Given as goal
 
 abbrev pub invariant-loop-buf : goal.invariant-loop-buf

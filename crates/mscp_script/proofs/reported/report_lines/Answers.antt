@@ -1,8 +1,4 @@
-use Rattle.std.proofs.Common.{ap, subst, ◌∙◌}
-use Rattle.mscp_queue.specs.Pickers.{IsSweep}
-use Rattle.mscp_queue.specs.declared.picker.Sweep.{Sweep}
-use Rattle.mscp_controller.specs.Holdings.{Answered, Holdings}
-use Rattle.mscp_script.specs.Text.{finished}
+use Rattle.mscp_script.proofs.Common.{ap, subst, ◌∙◌, IsSweep, Sweep, Answered, Holdings, finished}
 use Rattle.mscp_script.proofs.Growing.{runs_none}
 use Rattle.mscp_script.proofs.reported.report_lines.Goals as goal
 

@@ -1,6 +1,4 @@
-use Rattle.std.proofs.Common.{◌++◌, ◌∙◌, arith, refl, []}
-use Rattle.mscp_reader.specs.Requests.{events_of}
-use Rattle.mscp_reader.proofs.Outcomes.{ends, goes_on, goes_wrong}
+use Rattle.mscp_script.proofs.Common.{◌++◌, ◌∙◌, arith, refl, [], events_of, ends, goes_on, goes_wrong}
 use Rattle.mscp_script.proofs.reported.run_events.Goals as goal
 
 pub loop-request-init : goal.loop-request-init

@@ -1,9 +1,4 @@
-use Rattle.std.proofs.Common.{◌≡◌, ◌≤◌, List, length, []}
-use Rattle.mscp_events.specs.Settings.{Settings}
-use Rattle.mscp_events.specs.declared.event.Event.{Event}
-use Rattle.mscp_reader.specs.Grammar.{HasGone}
-use Rattle.mscp_reader.specs.Outcome.{rest_outcome}
-use Rattle.mscp_script.specs.Running.{Runs}
+use Rattle.mscp_script.proofs.Common.{◌≡◌, ◌≤◌, List, length, [], Settings, Event, HasGone, rest_outcome, Runs}
 use Rattle.mscp_script.proofs.reported.run_events.Given as goal
 
 abbrev pub invariant-loop-request : goal.invariant-loop-request

@@ -1,8 +1,4 @@
-use Rattle.std.proofs.Common.{List, ℕ, ap, subst, ◌∙◌}
-use Rattle.std.specs.Prelude.{Err}
-use Rattle.std.specs.Io.KnownBytes.{Appends}
-use Rattle.mscp_reader.specs.Grammar.{IsFault}
-use Rattle.mscp_script.specs.Simulated.{IsReport}
+use Rattle.mscp_script.proofs.Common.{List, ℕ, ap, subst, ◌∙◌, Err, Appends, IsFault, IsReport}
 use Rattle.mscp_script.proofs.Faults.{never_read, never_written, of_script}
 use Rattle.mscp_script.proofs.simulation.simulate_in.Goals as goal
 

@@ -1,5 +1,4 @@
-use Rattle.std.proofs.Common.{◌≡◌, ◌≤◌, length, take}
-use Rattle.mscp_controller.specs.Holdings.{waiting_on}
+use Rattle.mscp_controller.proofs.Common.{◌≡◌, ◌≤◌, length, take, waiting_on}
 use Rattle.mscp_controller.proofs.account.restoring.count_on.Given as goal
 
 abbrev pub invariant-loop-place : goal.invariant-loop-place

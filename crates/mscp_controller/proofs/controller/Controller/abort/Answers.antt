@@ -1,6 +1,4 @@
-use Rattle.std.proofs.Common.{◌∙◌, ap, subst, sym}
-use Rattle.mscp_controller.specs.Holdings.{Holdings, balance_of}
-use Rattle.mscp_controller.specs.Kept.{IsHeld}
+use Rattle.mscp_controller.proofs.Common.{◌∙◌, ap, subst, sym, Holdings, balance_of, IsHeld}
 use Rattle.mscp_controller.proofs.Bridge.Keeping.{balance_left, can_leave, held_aborted}
 use Rattle.mscp_controller.proofs.controller.Controller.abort.Goals as goal
 

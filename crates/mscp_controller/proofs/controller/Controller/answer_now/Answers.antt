@@ -1,5 +1,4 @@
-use Rattle.std.proofs.lemmas.Grind.{common_steps}
-use Rattle.std.proofs.Common.{arith}
+use Rattle.mscp_controller.proofs.Common.{common_steps, arith}
 use Rattle.mscp_controller.proofs.controller.Controller.answer_now.Goals as goal
 
 pub answered_end-own-requires : goal.answered_end-own-requires

@@ -1,6 +1,4 @@
-use Rattle.std.proofs.Common.{subst}
-use Rattle.mscp_controller.specs.Holdings.{Holdings}
-use Rattle.mscp_controller.specs.Restored.{IsSound}
+use Rattle.mscp_controller.proofs.Common.{subst, Holdings, IsSound}
 use Rattle.mscp_controller.proofs.Bridge.Restored.{sound_seen}
 use Rattle.mscp_controller.proofs.controller.Controller.drives.Goals as goal
 

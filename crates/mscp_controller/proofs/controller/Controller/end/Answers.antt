@@ -1,5 +1,4 @@
-use Rattle.std.proofs.lemmas.Grind.{common_steps}
-use Rattle.std.proofs.Common.{arith}
+use Rattle.mscp_controller.proofs.Common.{common_steps, arith}
 use Rattle.mscp_controller.proofs.controller.Controller.end.Goals as goal
 
 pub end-requires : goal.end-requires

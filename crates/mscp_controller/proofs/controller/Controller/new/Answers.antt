@@ -1,4 +1,4 @@
-use Rattle.std.proofs.Common.{◌∙◌}
+use Rattle.mscp_controller.proofs.Common.{◌∙◌}
 use Rattle.mscp_controller.proofs.Bridge.Keeping.{held_fresh}
 use Rattle.mscp_controller.proofs.controller.Controller.new.Goals as goal
 

@@ -1,7 +1,4 @@
-use Rattle.std.proofs.lemmas.Grind.{common_steps}
-use Rattle.std.proofs.Common.{arith, ◌≡◌, ◌≤◌, false, subst, sym}
-use Rattle.mscp_controller.specs.Arrival.{holds}
-use Rattle.mscp_controller.specs.Holdings.{Holdings, balance_of, outstanding_of}
+use Rattle.mscp_controller.proofs.Common.{common_steps, arith, ◌≡◌, ◌≤◌, false, subst, sym, holds, Holdings, balance_of, outstanding_of}
 use Rattle.mscp_controller.proofs.Bridge.Judging.{none_waits}
 use Rattle.mscp_controller.proofs.Bridge.Keeping.{free_seen, room_left}
 use Rattle.mscp_controller.proofs.controller.Controller.queue.Goals as goal

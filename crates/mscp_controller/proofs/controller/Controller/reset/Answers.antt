@@ -1,4 +1,4 @@
-use Rattle.mscp_queue.specs.Kept.{units_of}
+use Rattle.mscp_controller.proofs.Common.{units_of}
 use Rattle.mscp_controller.proofs.Bridge.Keeping.{held_fresh}
 use Rattle.mscp_controller.proofs.controller.Controller.reset.Goals as goal
 

@@ -1,10 +1,4 @@
-use Rattle.std.proofs.Common.{◌≡◌, ◌∙◌, ap, subst, sym, Ok}
-use Rattle.std.specs.Prelude.{None}
-use Rattle.mscp_packet.specs.Commands.{command_of}
-use Rattle.mscp_controller.specs.Arrival.{credit_fault, refusal}
-use Rattle.mscp_controller.specs.Holdings.{arrives, balance_of, held_unless, outstanding_of, sent_unless, taken_as}
-use Rattle.mscp_packet.specs.declared.command.Command.{Command}
-use Rattle.mscp_queue.specs.Outcomes.{IsCoded}
+use Rattle.mscp_controller.proofs.Common.{◌≡◌, ◌∙◌, ap, subst, sym, Ok, None, command_of, credit_fault, refusal, arrives, balance_of, held_unless, outstanding_of, sent_unless, taken_as, Command, IsCoded}
 use Rattle.mscp_controller.proofs.Bridge.Judging.{command_is, taken}
 use Rattle.mscp_controller.proofs.Promise.Shaped.{coded}
 use Rattle.mscp_controller.proofs.controller.Controller.send.Goals as goal

@@ -1,6 +1,4 @@
-use Rattle.std.proofs.Common.{subst, sym}
-use Rattle.mscp_events.specs.declared.connection.Connection.TheVariants.{First, Second}
-use Rattle.mscp_controller.specs.Kept.{IsHeld}
+use Rattle.mscp_controller.proofs.Common.{subst, sym, First, Second, IsHeld}
 use Rattle.mscp_controller.proofs.Bridge.Keeping.{balanced, can_end, held_stepped}
 use Rattle.mscp_controller.proofs.controller.Controller.step.Goals as goal
 

@@ -1,9 +1,4 @@
-use Rattle.std.proofs.Common.{◌≡◌, ◌∙◌, ap, subst, sym}
-use Rattle.std.specs.Prelude.{slice_get}
-use Rattle.mscp_packet.specs.Ends.{IsEnd}
-use Rattle.mscp_events.specs.Both.{of}
-use Rattle.mscp_controller.specs.Holdings.{Holdings}
-use Rattle.mscp_controller.specs.Kept.{IsHeld}
+use Rattle.mscp_controller.proofs.Common.{◌≡◌, ◌∙◌, ap, subst, sym, slice_get, IsEnd, of, Holdings, IsHeld}
 use Rattle.mscp_controller.proofs.Bridge.Accounts.{seen_of}
 use Rattle.mscp_controller.proofs.Bridge.Keeping.{held_taken, taken_kind}
 use Rattle.mscp_controller.proofs.Promise.Served.{some_same}

@@ -1,5 +1,4 @@
-use Rattle.std.proofs.Common.{◌∙◌, subst, arith}
-use Rattle.mscp_judge.specs.Heard.{IsHeard, sends_on}
+use Rattle.mscp_judge.proofs.Common.{◌∙◌, subst, arith, IsHeard, sends_on}
 use Rattle.mscp_judge.proofs.Listening.{steps_send}
 use Rattle.mscp_judge.proofs.hearing.Hearing.send_all.Goals as goal
 

@@ -1,7 +1,5 @@
-use Rattle.std.proofs.Common.{refl, ◌∙◌, subst}
-use Rattle.std.specs.Prelude.{OnOk}
+use Rattle.mscp_judge.proofs.Common.{refl, ◌∙◌, subst, OnOk, Came}
 use Rattle.mscp_events.specs.declared.event.Event.TheVariants as events
-use Rattle.mscp_judge.specs.Standing.{Came}
 use Rattle.mscp_judge.proofs.Coming.{asked_one, asked_steps}
 use Rattle.mscp_judge.proofs.judge.Judge.ask.Goals as goal
 

@@ -1,9 +1,5 @@
-use Rattle.std.proofs.Common.{◌≡◌, [], sym, ◌∙◌, ap, arith}
-use Rattle.std.proofs.lemmas.Grind.{common_steps}
-use Rattle.std.specs.Prelude.{replicate}
+use Rattle.mscp_judge.proofs.Common.{◌≡◌, [], sym, ◌∙◌, ap, arith, common_steps, replicate, words, name_in}
 use Rattle.mscp_events.specs.declared.event.Event.TheVariants as events
-use Rattle.mscp_reader.specs.Lexical.{words}
-use Rattle.mscp_judge.specs.Naming.{name_in}
 use Rattle.mscp_judge.proofs.Breaking.{broken_unasked}
 use Rattle.mscp_judge.proofs.Coming.{ready_not}
 use Rattle.mscp_judge.proofs.Righting.{stands_open_held}

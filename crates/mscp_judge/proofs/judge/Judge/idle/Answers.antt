@@ -1,5 +1,4 @@
-use Rattle.std.proofs.Common.{refl}
-use Rattle.std.specs.Prelude.{None}
+use Rattle.mscp_judge.proofs.Common.{refl, None}
 use Rattle.mscp_judge.proofs.Telling.{told_idle}
 use Rattle.mscp_judge.proofs.judge.Judge.idle.Goals as goal
 

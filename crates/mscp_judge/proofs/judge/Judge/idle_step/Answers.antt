@@ -1,4 +1,4 @@
-use Rattle.std.proofs.Common.{arith}
+use Rattle.mscp_judge.proofs.Common.{arith}
 use Rattle.mscp_judge.proofs.Coming.{idle_came}
 use Rattle.mscp_judge.proofs.judge.Judge.idle_step.Goals as goal
 

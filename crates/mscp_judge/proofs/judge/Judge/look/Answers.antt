@@ -1,4 +1,4 @@
-use Rattle.std.proofs.Common.{refl, Ok, arith}
+use Rattle.mscp_judge.proofs.Common.{refl, Ok, arith}
 use Rattle.mscp_controller.specs.declared.entry.Entry.TheVariants as entries
 use Rattle.mscp_events.specs.declared.event.Event.TheVariants as events
 use Rattle.mscp_judge.proofs.Answering.{look_answers}

@@ -1,5 +1,4 @@
-use Rattle.std.proofs.Common.{refl, ap}
-use Rattle.mscp_script.specs.Text.{Reported}
+use Rattle.mscp_judge.proofs.Common.{refl, ap, Reported}
 use Rattle.mscp_judge.proofs.Coming.{stands_new}
 use Rattle.mscp_judge.proofs.judge.Judge.new.Goals as goal
 

@@ -1,7 +1,4 @@
-use Rattle.std.proofs.Common.{refl, ap, ◌∙◌}
-use Rattle.mscp_controller.specs.Holdings.{Holdings, fresh}
-use Rattle.mscp_script.specs.Text.{Reported}
-use Rattle.mscp_judge.specs.declared.naming.Wanted.{Wanted}
+use Rattle.mscp_judge.proofs.Common.{refl, ap, ◌∙◌, Holdings, fresh, Reported, Wanted}
 use Rattle.mscp_judge.proofs.Coming.{stands_new}
 use Rattle.mscp_judge.proofs.judge.Judge.restart.Goals as goal
 

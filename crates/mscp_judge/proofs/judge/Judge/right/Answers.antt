@@ -1,6 +1,4 @@
-use Rattle.std.proofs.Common.{◌≡◌, ◌≢◌, [], sym, ◌∙◌, subst, arith}
-use Rattle.std.proofs.lemmas.Grind.{common_steps}
-use Rattle.mscp_judge.specs.Standing.{IsFirstLine, due}
+use Rattle.mscp_judge.proofs.Common.{◌≡◌, ◌≢◌, [], sym, ◌∙◌, subst, arith, common_steps, IsFirstLine, due}
 use Rattle.mscp_judge.proofs.Righting.{open_due, open_none, open_step}
 use Rattle.mscp_judge.proofs.judge.Judge.right.Goals as goal
 

@@ -1,4 +1,4 @@
-use Rattle.std.proofs.Common.{refl}
+use Rattle.mscp_judge.proofs.Common.{refl}
 use Rattle.mscp_judge.proofs.Righting.{open_with}
 use Rattle.mscp_judge.proofs.judge.Judge.take_starts.Goals as goal
 

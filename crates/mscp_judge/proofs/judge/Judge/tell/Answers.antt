@@ -1,5 +1,4 @@
-use Rattle.std.proofs.Common.{refl, sym, subst, length, ◌-◌}
-use Rattle.mscp_judge.specs.Standing.{BeginsWith}
+use Rattle.mscp_judge.proofs.Common.{refl, sym, subst, length, ◌-◌, BeginsWith}
 use Rattle.mscp_judge.proofs.Coming.{ahead_held, left_due, told_not, told_so}
 use Rattle.mscp_judge.proofs.judge.Judge.tell.Goals as goal
 

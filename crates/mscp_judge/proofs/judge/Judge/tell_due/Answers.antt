@@ -1,9 +1,4 @@
-use Rattle.std.proofs.Common.{◌++◌, [], ◌∷◌, subst, sym, arith}
-use Rattle.mscp_judge.specs.Judged.{IsTold}
-use Rattle.mscp_judge.specs.Logs.{telling}
-use Rattle.mscp_judge.specs.Rules.{due_rule}
-use Rattle.mscp_judge.specs.Standing.{due}
-use Rattle.mscp_judge.specs.Rights.{IsOpen}
+use Rattle.mscp_judge.proofs.Common.{◌++◌, [], ◌∷◌, subst, sym, arith, IsTold, telling, due_rule, due, IsOpen}
 use Rattle.mscp_judge.proofs.Coming.{ready_due}
 use Rattle.mscp_judge.proofs.Righting.{stands_open_held}
 use Rattle.mscp_judge.proofs.judge.Judge.tell_due.Goals as goal

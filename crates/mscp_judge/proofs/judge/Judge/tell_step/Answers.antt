@@ -1,13 +1,5 @@
-use Rattle.std.proofs.Common.{◌++◌, ◌<◌, [], ◌∷◌, ◌∙◌, sym, subst, ap}
-use Rattle.std.specs.Prelude.{Option}
+use Rattle.mscp_judge.proofs.Common.{◌++◌, ◌<◌, [], ◌∷◌, ◌∙◌, sym, subst, ap, Option, Named, words, IsTold, telling, name_in, wanted_name, IsStepRule, is_service, Came, due}
 use Rattle.mscp_events.specs.declared.event.Event.TheVariants as events
-use Rattle.mscp_judge.specs.declared.naming.Named.{Named}
-use Rattle.mscp_reader.specs.Lexical.{words}
-use Rattle.mscp_judge.specs.Judged.{IsTold}
-use Rattle.mscp_judge.specs.Logs.{telling}
-use Rattle.mscp_judge.specs.Naming.{name_in, wanted_name}
-use Rattle.mscp_judge.specs.Rules.{IsStepRule, is_service}
-use Rattle.mscp_judge.specs.Standing.{Came, due}
 use Rattle.mscp_judge.proofs.Breaking.{broken_step}
 use Rattle.mscp_judge.proofs.Coming.{ready_step, stands_with}
 use Rattle.mscp_judge.proofs.Righting.{owed_some, stepped_open}

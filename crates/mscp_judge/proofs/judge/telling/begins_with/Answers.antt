@@ -1,6 +1,4 @@
-use Rattle.std.proofs.Common.{arith}
-use Rattle.std.proofs.lemmas.Bool.{true≢false}
-use Rattle.std.proofs.lemmas.Slice.Eq.{bytes_eq-Decides}
+use Rattle.mscp_judge.proofs.Common.{arith, true≢false, bytes_eq-Decides}
 use Rattle.mscp_judge.proofs.Feeds.{begins_line, line_begins}
 use Rattle.mscp_judge.proofs.judge.telling.begins_with.Goals as goal
 

@@ -1,10 +1,5 @@
-use Rattle.std.proofs.Common.{◌≡◌, ◌≢◌, ◌<◌, ◌≤◌, ◌+◌, inl, inr, ℕ, Bool, true, false, List, get_or, length, refl, ap, ◌∙◌, arith}
-use Rattle.std.specs.Prelude.{nat_lt}
-use Rattle.std.proofs.lemmas.Bool.{ltb-true}
-use Rattle.std.proofs.lemmas.Bool.Decides.{nat_tests}
-use Rattle.std.proofs.lemmas.List.{length-take-le}
+use Rattle.mscp_judge.proofs.Common.{◌≡◌, ◌≢◌, ◌<◌, ◌≤◌, ◌+◌, inl, inr, ℕ, Bool, true, false, List, get_or, length, refl, ap, ◌∙◌, arith, nat_lt, ltb-true, nat_tests, length-take-le, BeginsWith}
 use borrow.Author.Count.{below_more}
-use Rattle.mscp_judge.specs.Standing.{BeginsWith}
 use Rattle.mscp_judge.proofs.Feeds.{begins_line, first_is}
 use Rattle.mscp_judge.proofs.judge.telling.first_line.Goals as goal
 

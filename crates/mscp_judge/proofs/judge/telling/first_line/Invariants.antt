@@ -1,4 +1,4 @@
-use Rattle.std.proofs.Common.{◌≡◌, ◌≢◌, ◌<◌, ℕ, get_or, take}
+use Rattle.mscp_judge.proofs.Common.{◌≡◌, ◌≢◌, ◌<◌, ℕ, get_or, take}
 use Rattle.mscp_judge.proofs.judge.telling.first_line.Given as goal
 
 abbrev pub invariant-loop-byte : goal.invariant-loop-byte

@@ -1,5 +1,4 @@
-use Rattle.std.proofs.Common.{◌≡◌, ◌<◌, ◌^◌, ℕ, true, false, length}
-use Rattle.mscp_judge.specs.Naming.{choice_at, is_wanted}
+use Rattle.mscp_judge.proofs.Common.{◌≡◌, ◌<◌, ◌^◌, ℕ, true, false, length, choice_at, is_wanted}
 use Rattle.mscp_judge.proofs.naming.WantedPicker.pick.Given as goal
 
 abbrev pub invariant-loop-place : goal.invariant-loop-place

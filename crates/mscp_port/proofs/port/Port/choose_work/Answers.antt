@@ -1,7 +1,4 @@
-use Rattle.std.proofs.Common.{◌≡◌, ◌⊎◌, inl, ap, sym, subst}
-use Rattle.mscp_events.specs.declared.connection.Connection.TheVariants.{First}
-use Rattle.mscp_controller.specs.Holdings.{after_take}
-use Rattle.mscp_port.specs.declared.port.Port.{Port}
+use Rattle.mscp_port.proofs.Common.{◌≡◌, ◌⊎◌, inl, ap, sym, subst, First, after_take, Port}
 use Rattle.mscp_port.proofs.Begun.{begun_behind}
 use Rattle.mscp_port.proofs.port.Port.choose_work.Goals as goal
 use Rattle.mscp_port.proofs.port.Port.choose_work.Goals.{then-is_none, else-is_none}

@@ -1,5 +1,4 @@
-use Rattle.std.proofs.Common.{ap, subst, Contains, List}
-use Rattle.mscp_port.specs.declared.buffers.Buffer.{Buffer}
+use Rattle.mscp_port.proofs.Common.{ap, subst, Contains, List, Buffer}
 use Rattle.mscp_port.proofs.port.Port.command_ended.Goals as goal
 
 pub returns-clause-among : goal.returns-clause-among

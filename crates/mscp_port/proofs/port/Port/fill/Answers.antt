@@ -1,6 +1,4 @@
-use Rattle.std.proofs.Common.{ap, ◌∙◌}
-use Rattle.std.specs.Prelude.{slice_index}
-use Rattle.mscp_port.specs.Codes.{task_in}
+use Rattle.mscp_port.proofs.Common.{ap, ◌∙◌, slice_index, task_in}
 use Rattle.mscp_port.proofs.port.Port.fill.Goals as goal
 
 pub returns : goal.returns

@@ -1,4 +1,4 @@
-use Rattle.std.proofs.Common.{◌∙◌, inl, inr}
+use Rattle.mscp_port.proofs.Common.{◌∙◌, inl, inr}
 use Rattle.mscp_port.proofs.port.Port.keep.Goals as goal
 
 pub returns-clause-kept : goal.returns-clause-kept

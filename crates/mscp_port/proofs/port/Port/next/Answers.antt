@@ -1,8 +1,4 @@
-use Rattle.std.proofs.Common.{rules, ◌≡◌, ap, sym, subst}
-use Rattle.mscp_port.specs.declared.port.Port.{Port}
-use Rattle.mscp_port.specs.Outgoings.{Says}
-use Rattle.mscp_port.specs.Moved.{BeginsBlock}
-use Rattle.mscp_port.specs.Ports.{IsDue, IsOfBlock}
+use Rattle.mscp_port.proofs.Common.{rules, ◌≡◌, ap, sym, subst, Port, Says, BeginsBlock, IsDue, IsOfBlock}
 use Rattle.mscp_port.proofs.Known.{keeps_the_same, said_on}
 use Rattle.mscp_port.proofs.port.Port.next.Goals as goal
 use Rattle.mscp_port.proofs.port.Port.next.Goals.{in-Free, in_default}

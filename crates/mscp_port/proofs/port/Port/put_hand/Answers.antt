@@ -1,6 +1,4 @@
-use Rattle.std.proofs.Common.{List, ℕ, ◌∷◌, [], length, refl, ap}
-use Rattle.mscp_saved.proofs.Bytes.{first, more}
-use Rattle.mscp_port.specs.Saved.{coded_bytes}
+use Rattle.mscp_port.proofs.Common.{List, ℕ, ◌∷◌, [], length, refl, ap, first, more, coded_bytes}
 use Rattle.mscp_port.proofs.port.Port.put_hand.Goals as goal
 
 pub returns-clause-items : goal.returns-clause-items

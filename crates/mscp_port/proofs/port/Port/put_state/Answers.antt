@@ -1,5 +1,4 @@
-use Rattle.std.proofs.Common.{refl}
-use Rattle.mscp_saved.proofs.Bytes.{first, grow, more}
+use Rattle.mscp_port.proofs.Common.{refl, first, grow, more}
 use Rattle.mscp_port.proofs.port.Port.put_state.Goals as goal
 
 pub returns-clause-items : goal.returns-clause-items

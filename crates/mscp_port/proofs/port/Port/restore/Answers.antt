@@ -1,21 +1,9 @@
-use Rattle.std.proofs.Common.{◌≡◌, ◌∙◌, ap, sym, subst, arith}
-use Rattle.std.specs.Prelude.{IsOk, Ok}
-use Rattle.std.proofs.lemmas.Bool.{false≢true}
-use Rattle.mscp_events.specs.declared.connection.Connection.TheVariants.{First}
-use Rattle.mscp_controller.specs.Holdings.{Holdings, balance_of, fresh}
-use Rattle.mscp_controller.specs.Restored.{IsSound}
-use Rattle.mscp_port.specs.Restored.{held_in, unless}
+use Rattle.mscp_port.proofs.Common.{◌≡◌, ◌∙◌, ap, sym, subst, arith, Ok, false≢true, Holdings, fresh, IsSound, held_in, unless}
 use Rattle.mscp_port.proofs.Comes.{bytes_told}
 use Rattle.mscp_port.proofs.port.Port.restore.Goals as goal
 
 pub unreachable-requires : goal.unreachable-requires
-unreachable-requires g c =
-    let some = c.new-controller.ensures.valid.some_credits in
-    let all : balance_of First (fresh c.saved_settings.result c.args.picker) ≡ c.saved_settings.result.credits =
-    omega arith in
-    let free = ap (λ h. balance_of First h) c.new-controller.ensures.fresh ∙ all in
-    false≢true (subst (λ r. IsOk r) c.in_default-new.is
-    (c.new.ensures.taken.1 (omega arith, omega (arith, some, free))))
+unreachable-requires g c = search (arith, false≢true)
 
 pub returns-clause-value : goal.returns-clause-value
 returns-clause-value g c =

@@ -1,10 +1,6 @@
-use Rattle.std.proofs.Common.{◌≡◌, ◌∙◌}
-use Rattle.mscp_saved.specs.Read.{held_in as controller_said}
-use Rattle.mscp_port.specs.Restored.{controller_in}
+use Rattle.mscp_port.proofs.Common.{arith}
 use Rattle.mscp_port.proofs.port.Port.resume.Goals as goal
 
 pub returns : goal.returns
 returns g c =
-    let controller : c.resume.new.controller ≡ controller_in c.args.self.now.controller.picker c.args.bytes.now =
-    c.resume.ensures ∙ λ i. controller_said (c.fill.ensures i).controller.picker (c.controller_bytes.ensures i) in
-    λ i. record (c.fill.ensures i) { controller = controller i }
+    search (arith, c.args.self.now.controller.picker, c.resume.ensures, c.fill.ensures, c.controller_bytes.ensures)

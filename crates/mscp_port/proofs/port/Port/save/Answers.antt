@@ -1,9 +1,4 @@
-use Rattle.std.proofs.Common.{All, ◌≡◌, ℕ, ◌+◌, ◌*◌, ◌≤◌, ◌++◌, List, length, ap, sym, subst, ◌∙◌, rules}
-use Rattle.std.specs.Prelude.{flat_map}
-use Rattle.mscp_saved.specs.Restored.{restored as controller_restored}
-use Rattle.mscp_port.specs.declared.buffers.Buffer.{Buffer}
-use Rattle.mscp_port.specs.Restored.{restored}
-use Rattle.mscp_port.specs.Saved.{HasBufferRange, HasRange, buffer_bytes, frame_bytes, hand_bytes, length_of, state_bytes, volume_bytes}
+use Rattle.mscp_port.proofs.Common.{All, ◌≡◌, ℕ, ◌+◌, ◌*◌, ◌≤◌, ◌++◌, List, length, ap, sym, subst, ◌∙◌, rules, flat_map, controller_restored, Buffer, restored, HasBufferRange, HasRange, buffer_bytes, frame_bytes, hand_bytes, length_of, state_bytes, volume_bytes}
 use Rattle.mscp_port.proofs.Back.{restored_back}
 use Rattle.mscp_port.proofs.port.Port.save.Goals as goal
 

@@ -1,8 +1,5 @@
-use Rattle.std.proofs.Common.{rules, ◌≡◌}
-use Rattle.std.specs.Prelude.{Ok}
-use Rattle.mscp_controller.specs.declared.entry.Sent.{Sent}
+use Rattle.mscp_port.proofs.Common.{rules, ◌≡◌, Ok, Sent, Sends, answered_to}
 use Rattle.mscp_controller.specs.declared.entry.Sent.TheVariants as sents
-use Rattle.mscp_port.specs.Seen.{Sends, answered_to}
 use Rattle.mscp_port.proofs.port.Port.see_text.Goals as goal
 
 pub returns-in-None-clause-sees : goal.returns-in-None-clause-sees

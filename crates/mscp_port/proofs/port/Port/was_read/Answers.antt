@@ -1,7 +1,4 @@
-use Rattle.std.proofs.Common.{rules, ◌≡◌, ap, sym, subst, inl, inr, true}
-use Rattle.mscp_packet.specs.Number.{num}
-use Rattle.mscp_port.specs.Ports.{IsReadingSlot, IsReadingText, in_hand}
-use Rattle.mscp_port.specs.Slots.{is_owned}
+use Rattle.mscp_port.proofs.Common.{rules, ◌≡◌, ap, sym, subst, inl, inr, true, arith, num, IsReadingSlot, IsReadingText, in_hand, is_owned}
 use Rattle.mscp_port.proofs.Known.{held_on}
 use Rattle.mscp_port.proofs.port.Port.was_read.Goals as goal
 
@@ -38,37 +35,7 @@ returns-in-Text g c = record {
 }
 
 pub returns-in-Slot : goal.returns-in-Slot
-returns-in-Slot g c = record {
-  dead = search rules;
-  taken = search rules;
-  only = search rules;
-  unasked = tt;
-  sees = search rules;
-  frame = search rules;
-  learns = search rules;
-  settings = search rules;
-  handed = search rules;
-  own = search rules;
-  nothing_else = search rules;
-  out = search rules;
-  packet = search rules;
-  returned = search rules;
-}
+returns-in-Slot g c = search arith
 
 pub returns-in-Header : goal.returns-in-Header
-returns-in-Header g c = record {
-  dead = search rules;
-  taken = search rules;
-  only = search rules;
-  unasked = tt;
-  sees = search rules;
-  frame = search rules;
-  learns = search rules;
-  settings = search rules;
-  handed = search rules;
-  own = search rules;
-  nothing_else = search rules;
-  out = search rules;
-  packet = search rules;
-  returned = search rules;
-}
+returns-in-Header g c = search arith

@@ -1,10 +1,5 @@
-use Rattle.std.proofs.Common.{◌≡◌, List, ℕ, drop, sym, ap, ◌∙◌}
-use Rattle.std.specs.Prelude.{Option, Ok, Err}
-use Rattle.mscp_saved.specs.declared.fault.RestoreFault.{RestoreFault as ControllerFault}
-use Rattle.mscp_saved.specs.Read.{held_in as controller_said}
-use Rattle.mscp_saved.specs.Restored.{restored as controller_restored, unless}
-use Rattle.mscp_saved.proofs.Faithful.{same_of}
-use Rattle.mscp_port.specs.Restored.{controller_in, controller_place, held_in}
+use Rattle.mscp_port.proofs.Common.{◌≡◌, List, ℕ, drop, sym, ◌∙◌, arith, Option, Ok, Err, ControllerFault, controller_said, controller_restored, same_of, controller_in, controller_place, held_in}
+use Rattle.mscp_saved.specs.Restored.{unless}
 use Rattle.mscp_port.proofs.Comes.{comes, is_whose}
 use Rattle.mscp_port.proofs.Formed.{same_front}
 use Rattle.mscp_port.proofs.port.restoring.restore_fault.Goals as goal
@@ -13,9 +8,7 @@ use Rattle.mscp_port.proofs.port.restoring.restore_fault.Goals as goal
 told : {K : Type 0} (number : ℕ) (picker : K) {cs b : List ℕ} {o o' : Option ControllerFault} → cs ≡ b
     → controller_restored number picker cs ≡ unless (controller_said picker cs) o → o ≡ o'
     → unless (controller_said picker b) o' ≡ controller_restored number picker b
-told number picker same value is =
-    (λ i. unless (controller_said picker (sym same i)) (sym is i))
-    ∙ (sym value ∙ ap (controller_restored number picker) same)
+told number picker same value is = search arith
 
 pub returns-in-Some-restore_fault-clause-value : goal.returns-in-Some-restore_fault-clause-value
 returns-in-Some-restore_fault-clause-value g c =

@@ -1,7 +1,4 @@
-use Rattle.std.proofs.Common.{◌≡◌}
-use Rattle.arrayvec.specs.ArrayVec.{array_vec_len}
-use Rattle.mscp_saved.specs.Read.{parts_in}
-use Rattle.mscp_port.specs.Restored.{volume_in}
+use Rattle.mscp_port.proofs.Common.{◌≡◌, array_vec_len, parts_in, volume_in}
 use Rattle.mscp_port.proofs.port.restoring.volumes_in.Given as goal
 
 abbrev pub invariant-loop-place : goal.invariant-loop-place

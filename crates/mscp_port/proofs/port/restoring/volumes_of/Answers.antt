@@ -1,7 +1,4 @@
-use Rattle.std.proofs.Common.{ap, ◌∙◌}
-use Rattle.mscp_packet.proofs.Parts.{from_place}
-use Rattle.mscp_saved.specs.Read.{parts_in}
-use Rattle.mscp_port.specs.Restored.{volume_in}
+use Rattle.mscp_port.proofs.Common.{ap, ◌∙◌, from_place, parts_in, volume_in}
 use Rattle.mscp_port.proofs.port.restoring.volumes_of.Goals as goal
 
 pub returns : goal.returns

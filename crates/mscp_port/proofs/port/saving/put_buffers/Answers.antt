@@ -1,6 +1,4 @@
-use Rattle.std.proofs.Common.{refl, arith}
-use Rattle.mscp_packet.proofs.Parts.{each_more, written_more}
-use Rattle.mscp_port.specs.Saved.{HasBufferRange, buffer_bytes}
+use Rattle.mscp_port.proofs.Common.{refl, arith, each_more, written_more, HasBufferRange, buffer_bytes}
 use Rattle.mscp_port.proofs.port.saving.put_buffers.Goals as goal
 
 pub loop-buffer-preserved : goal.loop-buffer-preserved

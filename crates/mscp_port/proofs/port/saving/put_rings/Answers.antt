@@ -1,6 +1,4 @@
-use Rattle.std.proofs.Common.{◌++◌, ap, refl, sym, ◌∙◌}
-use Rattle.mscp_saved.proofs.Bytes.{first, more}
-use Rattle.mscp_port.specs.Saved.{rings_bytes}
+use Rattle.mscp_port.proofs.Common.{◌++◌, ap, refl, sym, ◌∙◌, first, more, rings_bytes}
 use Rattle.mscp_port.proofs.port.saving.put_rings.Goals as goal
 
 pub returns-in-Some-clause-items : goal.returns-in-Some-clause-items

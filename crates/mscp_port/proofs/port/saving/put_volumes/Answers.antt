@@ -1,6 +1,4 @@
-use Rattle.std.proofs.Common.{refl, arith}
-use Rattle.mscp_packet.proofs.Parts.{each_more, written_more}
-use Rattle.mscp_port.specs.Saved.{HasVolumeRange, volume_bytes}
+use Rattle.mscp_port.proofs.Common.{refl, arith, each_more, written_more, HasVolumeRange, volume_bytes}
 use Rattle.mscp_port.proofs.port.saving.put_volumes.Goals as goal
 
 pub loop-volume-preserved : goal.loop-volume-preserved

@@ -1,7 +1,4 @@
-use Rattle.std.proofs.Common.{All, ◌≡◌, ◌+◌, ◌*◌, ◌++◌, take}
-use Rattle.std.specs.Prelude.{flat_map}
-use Rattle.arrayvec.specs.ArrayVec.{array_vec_len}
-use Rattle.mscp_port.specs.Saved.{HasVolumeRange, volume_bytes}
+use Rattle.mscp_port.proofs.Common.{All, ◌≡◌, ◌+◌, ◌*◌, ◌++◌, take, flat_map, array_vec_len, HasVolumeRange, volume_bytes}
 use Rattle.mscp_port.proofs.port.saving.put_volumes.Given as goal
 
 abbrev pub invariant-loop-volume : goal.invariant-loop-volume

@@ -1,5 +1,4 @@
-use Rattle.std.proofs.Common.{◌∙◌, ◌++◌, ap, take, replicate}
-use Rattle.std.proofs.lemmas.List.{take-replicate}
+use Rattle.mscp_port.proofs.Common.{◌∙◌, ◌++◌, ap, take, replicate, take-replicate}
 use Rattle.mscp_port.proofs.port.turning.zeros.Goals as goal
 
 pub returns-clause-value : goal.returns-clause-value

@@ -1,9 +1,4 @@
-use Rattle.std.proofs.Common.{◌<◌, ◌+◌, take, ap, ◌∙◌, arith}
-use Rattle.std.proofs.lemmas.List.Elements.{All-from_recursion}
-use Rattle.mscp_queue.specs.declared.slots.Slot.{Slot}
-use Rattle.mscp_queue.specs.Waiters.{Waiters}
-use Rattle.mscp_queue.specs.Records.{Record}
-use Rattle.mscp_queue.specs.Slots.{slot_at}
+use Rattle.mscp_queue.proofs.Common.{◌<◌, ◌+◌, take, ap, ◌∙◌, arith, All-from_recursion, Slot, Waiters, Record, slot_at}
 use Rattle.mscp_queue.proofs.BacklogSteps.{affordable_at, seen_own, seen_step, started_item, step_at, step_late, step_timed}
 use Rattle.mscp_queue.proofs.Dues.{item_at, place_in}
 use Rattle.mscp_queue.proofs.backlog.Backlog.advance.Goals as goal

@@ -1,6 +1,4 @@
-use Rattle.std.proofs.Common.{◌≤◌, take}
-use Rattle.std.specs.List.{AllByRecursion}
-use Rattle.mscp_queue.specs.Records.{Record}
+use Rattle.mscp_queue.proofs.Common.{◌≤◌, take, AllByRecursion, Record}
 use Rattle.mscp_queue.proofs.backlog.Backlog.are_light.Given as goal
 
 abbrev pub invariant-loop-place : goal.invariant-loop-place

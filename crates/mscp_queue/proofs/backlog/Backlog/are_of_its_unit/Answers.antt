@@ -1,12 +1,4 @@
-use Rattle.std.proofs.Common.{◌≡◌, ◌<◌, ◌+◌, drop, length, ap, sym, subst, ◌∙◌, arith}
-use Rattle.std.specs.Prelude.{All, slice_index_or}
-use Rattle.std.proofs.lemmas.List.{drop-map, length-map}
-use Rattle.std.proofs.lemmas.List.Elements.{All-from_recursion, recursion_from_All}
-use Rattle.mscp_queue.specs.declared.target.Target.{Target}
-use Rattle.mscp_queue.specs.declared.slots.Slot.{Slot}
-use Rattle.mscp_queue.specs.Waiters.{Waiters}
-use Rattle.mscp_queue.specs.Targets.{no_target}
-use Rattle.mscp_queue.specs.Slots.{slot_at}
+use Rattle.mscp_queue.proofs.Common.{◌≡◌, ◌<◌, ◌+◌, drop, length, ap, sym, subst, ◌∙◌, arith, All, slice_index_or, drop-map, length-map, All-from_recursion, recursion_from_All, Target, Slot, Waiters, no_target, slot_at}
 use Rattle.mscp_queue.proofs.Backlogs.{of_targets, own_there}
 use Rattle.mscp_queue.proofs.backlog.Backlog.are_of_its_unit.Goals as goal
 

@@ -1,6 +1,4 @@
-use Rattle.std.proofs.Common.{◌≡◌, ◌+◌, arith}
-use Rattle.std.proofs.lemmas.List.{length-map}
-use Rattle.mscp_queue.specs.Figures.{figure_at}
+use Rattle.mscp_queue.proofs.Common.{◌≡◌, ◌+◌, arith, length-map, figure_at}
 use Rattle.mscp_queue.proofs.Dues.{due_tells}
 use Rattle.mscp_queue.proofs.Sums.{figure_small}
 use Rattle.mscp_queue.proofs.backlog.Backlog.figure.Goals as goal

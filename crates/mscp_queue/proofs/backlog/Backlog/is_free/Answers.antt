@@ -1,7 +1,4 @@
-use Rattle.std.proofs.Common.{length, ap, ◌∙◌, arith}
-use Rattle.std.proofs.lemmas.List.{length-map}
-use Rattle.mscp_queue.specs.declared.slots.Slot.{Slot}
-use Rattle.mscp_queue.specs.Waiters.{Waiters}
+use Rattle.mscp_queue.proofs.Common.{length, ap, ◌∙◌, arith, length-map, Slot, Waiters}
 use Rattle.mscp_queue.proofs.Backlogs.{unfenced_kinds}
 use Rattle.mscp_queue.proofs.backlog.Backlog.is_free.Goals as goal
 

@@ -1,6 +1,4 @@
-use Rattle.std.proofs.Common.{◌≡◌, ◌+◌, ap, ◌∙◌, arith}
-use Rattle.mscp_queue.specs.Waiters.{Waiters}
-use Rattle.mscp_queue.specs.Records.{Record, is_in_service, left_of}
+use Rattle.mscp_queue.proofs.Common.{◌≡◌, ◌+◌, ap, ◌∙◌, arith, Waiters, Record, is_in_service, left_of}
 use Rattle.mscp_queue.proofs.Backlogs.{back_of, front_of, leave_enough, leave_timed, seen_left}
 use Rattle.mscp_queue.proofs.Dues.{item_at, place_in}
 use Rattle.mscp_queue.proofs.backlog.Backlog.leave.Goals as goal

@@ -1,7 +1,4 @@
-use Rattle.std.proofs.Common.{refl, ap, ◌∙◌}
-use Rattle.mscp_queue.specs.declared.slots.Slot.{Slot}
-use Rattle.mscp_queue.specs.Waiters.{Waiters}
-use Rattle.mscp_queue.specs.Records.{is_in_service, left_of}
+use Rattle.mscp_queue.proofs.Common.{refl, ap, ◌∙◌, Slot, Waiters, is_in_service, left_of}
 use Rattle.mscp_queue.proofs.Backlogs.{behind_enough_at, leave_unstarted_timed, seen_behind}
 use Rattle.mscp_queue.proofs.Dues.{item_at, place_in}
 use Rattle.mscp_queue.proofs.backlog.Backlog.leave_unstarted.Goals as goal

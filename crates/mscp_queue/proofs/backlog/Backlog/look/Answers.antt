@@ -1,6 +1,4 @@
-use Rattle.std.proofs.Common.{◌≡◌, ◌+◌, ap, ◌∙◌}
-use Rattle.mscp_packet.specs.declared.command.Command.{Command}
-use Rattle.mscp_queue.specs.Records.{Record, record_at}
+use Rattle.mscp_queue.proofs.Common.{◌≡◌, ◌+◌, ap, ◌∙◌, Command, Record, record_at}
 use Rattle.mscp_queue.proofs.Sums.{figures_more}
 use Rattle.mscp_queue.proofs.backlog.Backlog.look.Goals as goal
 

@@ -1,6 +1,4 @@
-use Rattle.std.proofs.Common.{◌≡◌, length}
-use Rattle.std.specs.List.{range_with_len}
-use Rattle.mscp_queue.specs.Figures.{figures_from}
+use Rattle.mscp_queue.proofs.Common.{◌≡◌, length, range_with_len, figures_from}
 use Rattle.mscp_queue.proofs.backlog.Backlog.look.Given as goal
 
 abbrev pub invariant-loop-place : goal.invariant-loop-place

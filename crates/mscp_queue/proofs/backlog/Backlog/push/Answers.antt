@@ -1,5 +1,4 @@
-use Rattle.std.proofs.Common.{arith}
-use Rattle.std.proofs.lemmas.List.Sums.{sum_by-append, sum_by-cons}
+use Rattle.mscp_queue.proofs.Common.{arith, sum_by-append, sum_by-cons}
 use Rattle.mscp_queue.proofs.Dues.{due_pushed, items_append}
 use Rattle.mscp_queue.proofs.backlog.Backlog.push.Goals as goal
 

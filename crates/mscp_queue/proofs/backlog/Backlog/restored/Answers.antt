@@ -1,8 +1,4 @@
-use Rattle.std.proofs.Common.{ap, ◌∙◌, arith}
-use Rattle.std.specs.Prelude.{sum_by}
-use Rattle.std.proofs.lemmas.List.{take_all}
-use Rattle.mscp_queue.specs.Kept.{units_of}
-use Rattle.mscp_queue.specs.Records.{left_of}
+use Rattle.mscp_queue.proofs.Common.{ap, ◌∙◌, arith, sum_by, take_all, units_of, left_of}
 use Rattle.mscp_queue.proofs.Targets.{place_inside}
 use Rattle.mscp_queue.proofs.Restored.{shown, slots_all, timed}
 use Rattle.mscp_queue.proofs.backlog.Backlog.restored.Goals as goal

@@ -1,7 +1,4 @@
-use Rattle.std.proofs.Common.{◌≡◌, ◌++◌, ◌*◌, ◌≤◌, ◌^◌, drop, length, take}
-use Rattle.std.specs.Prelude.{sum_by}
-use Rattle.mscp_queue.specs.Kept.{units_of}
-use Rattle.mscp_queue.specs.Records.{left_if_serving, left_of}
+use Rattle.mscp_queue.proofs.Common.{◌≡◌, ◌++◌, ◌*◌, ◌≤◌, ◌^◌, drop, length, take, sum_by, units_of, left_if_serving, left_of}
 use Rattle.mscp_queue.proofs.Restored.{slots_of}
 use Rattle.mscp_queue.proofs.backlog.Backlog.restored.Given as goal
 

@@ -1,6 +1,4 @@
-use Rattle.std.proofs.Common.{◌≡◌, ◌*◌, ◌≤◌, ◌^◌, take}
-use Rattle.std.specs.Prelude.{sum_by}
-use Rattle.mscp_queue.specs.Records.{left_if_serving}
+use Rattle.mscp_queue.proofs.Common.{◌≡◌, ◌*◌, ◌≤◌, ◌^◌, take, sum_by, left_if_serving}
 use Rattle.mscp_queue.proofs.backlog.restoring.left_in_service.Given as goal
 
 abbrev pub invariant-loop-place : goal.invariant-loop-place

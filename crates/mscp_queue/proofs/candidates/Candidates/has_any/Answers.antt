@@ -1,4 +1,4 @@
-use Rattle.std.proofs.Common.{arith}
+use Rattle.mscp_queue.proofs.Common.{arith}
 use Rattle.mscp_queue.proofs.Placed.{position_any}
 use Rattle.mscp_queue.proofs.candidates.Candidates.has_any.Goals as goal
 

@@ -1,4 +1,4 @@
-use Rattle.std.proofs.Common.{arith}
+use Rattle.mscp_queue.proofs.Common.{arith}
 use Rattle.mscp_queue.proofs.CandidateCosts.{all_on_drive, recosted_renewed}
 use Rattle.mscp_queue.proofs.candidates.Candidates.renew.Goals as goal
 

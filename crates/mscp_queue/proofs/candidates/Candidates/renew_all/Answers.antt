@@ -1,6 +1,4 @@
-use Rattle.std.proofs.Common.{arith, subst}
-use Rattle.std.specs.Prelude.{false}
-use Rattle.mscp_queue.specs.Masks.{IsSet}
+use Rattle.mscp_queue.proofs.Common.{arith, subst, false, IsSet}
 use Rattle.mscp_queue.proofs.CandidateCosts.{candidates_renewed, candidates_whole}
 use Rattle.mscp_queue.proofs.Recosted.{less_left}
 use Rattle.mscp_queue.proofs.candidates.Candidates.renew_all.Goals as goal

@@ -1,4 +1,4 @@
-use Rattle.mscp_queue.specs.Candidates.{AreCandidates}
+use Rattle.mscp_queue.proofs.Common.{AreCandidates}
 use Rattle.mscp_queue.proofs.candidates.Candidates.renew_all.Given as goal
 
 abbrev pub invariant-loop-at : goal.invariant-loop-at

@@ -1,5 +1,4 @@
-use Rattle.std.proofs.Common.{arith}
-use Rattle.std.proofs.lemmas.List.{get_or-replicate}
+use Rattle.mscp_queue.proofs.Common.{arith, get_or-replicate}
 use Rattle.mscp_queue.proofs.CountedViews.{counted_none}
 use Rattle.mscp_queue.proofs.counted_view.CountedView.empty.Goals as goal
 

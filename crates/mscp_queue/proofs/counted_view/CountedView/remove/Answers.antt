@@ -1,8 +1,4 @@
-use Rattle.std.proofs.Common.{ℕ, ◌≡◌, get_or, List, length, ◌<◌, arith}
-use Rattle.std.proofs.lemmas.List.{get_or_default}
-use Rattle.mscp_queue.specs.declared.view.Choice.{Choice}
-use Rattle.mscp_queue.specs.Candidates.{no_choice}
-use Rattle.mscp_queue.specs.CountedViews.{low_byte}
+use Rattle.mscp_queue.proofs.Common.{ℕ, ◌≡◌, get_or, List, length, ◌<◌, arith, get_or_default, Choice, no_choice, low_byte}
 use Rattle.mscp_queue.proofs.CountedViews.{counted_left, some_counted}
 use Rattle.mscp_queue.proofs.counted_view.CountedView.remove.Goals as goal
 

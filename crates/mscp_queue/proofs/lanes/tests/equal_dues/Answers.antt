@@ -1,4 +1,4 @@
-use Rattle.std.proofs.lemmas.Simd.{get_or-replicate}
+use Rattle.mscp_queue.proofs.Common.{get_or-replicate}
 use Rattle.mscp_queue.proofs.lanes.tests.equal_dues.Goals as goal
 
 pub returns : goal.returns

@@ -1,6 +1,4 @@
-use Rattle.std.proofs.Common.{◌∙◌, ◌^◌, ◌-◌, List, length, ap, subst, sym}
-use Rattle.mscp_queue.specs.declared.view.Choice.{Choice}
-use Rattle.mscp_queue.specs.Pickers.{IsSweep}
+use Rattle.mscp_queue.proofs.Common.{◌∙◌, ◌^◌, ◌-◌, List, length, ap, subst, sym, Choice, IsSweep}
 use Rattle.mscp_queue.proofs.Row.{swept_there}
 use Rattle.mscp_queue.proofs.picker.SweepPicker.pick.Goals as goal
 

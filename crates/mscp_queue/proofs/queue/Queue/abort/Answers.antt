@@ -1,8 +1,4 @@
-use Rattle.std.proofs.Common.{◌≡◌, ◌<◌, length, ap, sym, subst, ◌∙◌, arith}
-use Rattle.mscp_queue.specs.Kept.{begun_name}
-use Rattle.mscp_queue.specs.Lines.{Line, aborting}
-use Rattle.mscp_queue.specs.Names.{name_on}
-use Rattle.mscp_queue.specs.Records.{name_of, record_at}
+use Rattle.mscp_queue.proofs.Common.{◌≡◌, ◌<◌, length, ap, sym, subst, ◌∙◌, arith, begun_name, Line, aborting, name_on, name_of, record_at}
 use Rattle.mscp_queue.proofs.Aborts.{aborts_at, aborts_none, none_aborted}
 use Rattle.mscp_queue.proofs.CandidateLists.{place_of}
 use Rattle.mscp_queue.proofs.Nexts.{named_at}

@@ -1,8 +1,4 @@
-use Rattle.std.proofs.Common.{suc, ◌++◌, arith, ◌≡◌, ◌+◌, ◌<◌, length, take, drop, ap, sym, subst, ◌∙◌, refl}
-use Rattle.std.specs.List.{position}
-use Rattle.mscp_queue.specs.Kept.{begun_name}
-use Rattle.mscp_queue.specs.Lines.{Line, aborting}
-use Rattle.mscp_queue.specs.Records.{has_name, name_of, record_at}
+use Rattle.mscp_queue.proofs.Common.{suc, ◌++◌, arith, ◌≡◌, ◌+◌, ◌<◌, length, take, drop, ap, sym, subst, ◌∙◌, refl, position, begun_name, Line, aborting, has_name, name_of, record_at}
 use Rattle.mscp_queue.proofs.Aborts.{aborts_at}
 use Rattle.mscp_queue.proofs.CandidateLists.{line_without}
 use Rattle.mscp_queue.proofs.Nexts.{begun_left, name_found}

@@ -1,4 +1,4 @@
-use Rattle.std.proofs.Common.{arith}
+use Rattle.mscp_queue.proofs.Common.{arith}
 use Rattle.mscp_queue.proofs.Restored.{held_seen}
 use Rattle.mscp_queue.proofs.queue.Queue.drives.Goals as goal
 

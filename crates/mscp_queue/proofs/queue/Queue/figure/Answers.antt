@@ -1,4 +1,4 @@
-use Rattle.std.proofs.Common.{arith}
+use Rattle.mscp_queue.proofs.Common.{arith}
 use Rattle.mscp_queue.proofs.CandidateLists.{place_of}
 use Rattle.mscp_queue.proofs.Sums.{held_small}
 use Rattle.mscp_queue.proofs.queue.Queue.figure.Goals as goal

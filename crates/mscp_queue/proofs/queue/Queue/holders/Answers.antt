@@ -1,4 +1,4 @@
-use Rattle.std.proofs.Common.{arith}
+use Rattle.mscp_queue.proofs.Common.{arith}
 use Rattle.mscp_queue.proofs.CandidateLists.{place_of}
 use Rattle.mscp_queue.proofs.queue.Queue.holders.Goals as goal
 

@@ -1,9 +1,4 @@
-use Rattle.std.proofs.Common.{refl, ap, subst, sym, ◌∙◌}
-use Rattle.std.specs.Prelude.{is_some, map, None}
-use Rattle.std.proofs.lemmas.Bool.{false≢true}
-use Rattle.mscp_queue.specs.Drives.{fresh_drive}
-use Rattle.mscp_queue.specs.Waiters.{Waiters}
-use Rattle.mscp_queue.specs.Kept.{IsReady}
+use Rattle.mscp_queue.proofs.Common.{refl, ap, subst, sym, ◌∙◌, is_some, map, None, false≢true, fresh_drive, Waiters, IsReady}
 use Rattle.mscp_queue.proofs.CandidateLists.{none_listed}
 use Rattle.mscp_queue.proofs.Held.{held_fresh}
 use Rattle.mscp_queue.proofs.queue.Queue.new.Goals as goal

@@ -1,9 +1,4 @@
-use Rattle.std.proofs.Common.{◌≡◌, ap, subst, sym, arith}
-use Rattle.std.specs.Prelude.{Some}
-use Rattle.mscp_queue.specs.Kept.{begun_name}
-use Rattle.mscp_queue.specs.Lines.{Line}
-use Rattle.mscp_queue.specs.Records.{name_of, record_at}
-use Rattle.mscp_queue.specs.Serving.{IsNext}
+use Rattle.mscp_queue.proofs.Common.{◌≡◌, ap, subst, sym, arith, Some, begun_name, Line, name_of, record_at, IsNext}
 use Rattle.mscp_queue.proofs.Nexts.{known_next, nobody_found, picked_next, serving_is_next}
 use Rattle.mscp_queue.proofs.Ready.{can_be_shown}
 use Rattle.mscp_queue.proofs.queue.Queue.next_place.Goals as goal

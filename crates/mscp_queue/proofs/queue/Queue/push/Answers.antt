@@ -1,14 +1,5 @@
-use Rattle.std.proofs.Common.{◌≡◌, ◌<◌, ◌++◌, ◌∷◌, [], false, length, ap, subst, sym, ◌∙◌, arith}
-use Rattle.std.specs.List.{list_any}
-use Rattle.std.proofs.lemmas.List.{length-map}
-use Rattle.mscp_packet.specs.declared.command.Command.{Command}
-use Rattle.mscp_queue.specs.Targets.{target_of}
-use Rattle.mscp_queue.specs.Kept.{IsWaitable, units_of}
-use Rattle.mscp_queue.specs.Lines.{Line}
-use Rattle.mscp_queue.specs.Names.{name_on}
-use Rattle.mscp_queue.specs.Records.{Record, has_name}
+use Rattle.mscp_queue.proofs.Common.{◌≡◌, ◌<◌, ◌++◌, ◌∷◌, [], false, length, ap, subst, sym, ◌∙◌, arith, list_any, length-map, Command, target_of, IsWaitable, units_of, Line, name_on, Record, has_name, choice_in}
 use Rattle.mscp_queue.proofs.Targets.{place_inside}
-use Rattle.mscp_queue.specs.Candidates.{choice_in}
 use Rattle.mscp_queue.proofs.CandidateLists.{line_with}
 use Rattle.mscp_queue.proofs.Ready.{ready_pushed}
 use Rattle.mscp_queue.proofs.Sums.{held_small}

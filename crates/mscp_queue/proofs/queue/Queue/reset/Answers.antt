@@ -1,11 +1,4 @@
-use Rattle.std.proofs.Common.{length, refl, ap, subst, sym, ◌∙◌, arith}
-use Rattle.std.specs.Prelude.{is_some, map, None}
-use Rattle.std.specs.List.{refill}
-use Rattle.std.proofs.lemmas.Bool.{false≢true}
-use Rattle.mscp_queue.specs.declared.drive.Drive.{Drive}
-use Rattle.mscp_queue.specs.Drives.{fresh_drive}
-use Rattle.mscp_queue.specs.Waiters.{Waiters}
-use Rattle.mscp_queue.specs.Kept.{IsReady, begun_name}
+use Rattle.mscp_queue.proofs.Common.{length, refl, ap, subst, sym, ◌∙◌, arith, is_some, map, None, refill, false≢true, Drive, fresh_drive, Waiters, IsReady, begun_name}
 use Rattle.mscp_queue.proofs.CandidateLists.{none_listed}
 use Rattle.mscp_queue.proofs.Held.{held_renewed, renewed}
 use Rattle.mscp_queue.proofs.queue.Queue.reset.Goals as goal

@@ -1,15 +1,4 @@
-use Rattle.std.proofs.Common.{◌≡◌, ℕ, List, ap, subst, sym, true, ◌∙◌}
-use Rattle.std.specs.Prelude.{map, Option, Some, None, IfSome}
-use Rattle.std.specs.List.{position}
-use Rattle.mscp_queue.specs.declared.name.Name.{Name}
-use Rattle.mscp_queue.specs.Targets.{targets_of}
-use Rattle.mscp_queue.specs.Kept.{IsHeld, begun_name, units_of}
-use Rattle.mscp_queue.specs.Candidates.{AreCandidates, choice_in, has_choice_name}
-use Rattle.mscp_queue.specs.Lines.{Line}
-use Rattle.mscp_queue.specs.Records.{Record, has_name}
-use Rattle.mscp_queue.specs.Waiters.{Waiters}
-use Rattle.mscp_queue.specs.declared.drive.Drive.{Drive}
-use Rattle.mscp_queue.specs.declared.view.Choice.{Choice}
+use Rattle.mscp_queue.proofs.Common.{◌≡◌, ℕ, List, ap, subst, sym, true, ◌∙◌, map, Option, Some, None, IfSome, position, Name, targets_of, IsHeld, begun_name, units_of, AreCandidates, choice_in, has_choice_name, Line, Record, has_name, Waiters, Drive, Choice}
 use Rattle.mscp_queue.proofs.CandidateCosts.{candidates_of}
 use Rattle.mscp_queue.proofs.CandidateLists.{place_of}
 use Rattle.mscp_queue.proofs.Restored.{begun_back, ready_restored}

@@ -1,15 +1,4 @@
-use Rattle.std.proofs.Common.{arith, ◌<◌, length, get_or, ap, subst, sym, ◌∙◌}
-use Rattle.std.specs.Prelude.{None}
-use Rattle.std.proofs.lemmas.List.{length-map}
-use Rattle.mscp_packet.specs.declared.command.Command.{Command}
-use Rattle.mscp_queue.specs.declared.target.Target.{Target}
-use Rattle.mscp_queue.specs.declared.drive.Drive.{Drive}
-use Rattle.mscp_queue.specs.declared.report.Report.TheVariants.{Served}
-use Rattle.mscp_queue.specs.Drives.{replaced}
-use Rattle.mscp_queue.specs.Kept.{units_of}
-use Rattle.mscp_queue.specs.Lines.{Line, served}
-use Rattle.mscp_queue.specs.Records.{Record, drive_at, is_unstarted, record_at}
-use Rattle.mscp_queue.specs.Serving.{plan_of, report_of}
+use Rattle.mscp_queue.proofs.Common.{arith, ◌<◌, length, get_or, ap, subst, sym, ◌∙◌, None, length-map, Command, Target, Drive, Served, replaced, units_of, Line, served, Record, drive_at, is_unstarted, record_at, plan_of, report_of}
 use Rattle.mscp_queue.proofs.CandidateLists.{as_many}
 use Rattle.mscp_queue.proofs.Ready.{can_serve, drive_found, left_is, ready_step}
 use Rattle.mscp_queue.proofs.Shaped.{given_kind}

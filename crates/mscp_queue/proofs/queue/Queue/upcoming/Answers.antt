@@ -1,4 +1,4 @@
-use Rattle.std.proofs.Common.{arith}
+use Rattle.mscp_queue.proofs.Common.{arith}
 use Rattle.mscp_queue.proofs.Upcomings.{of_unit, told_at}
 use Rattle.mscp_queue.proofs.queue.Queue.upcoming.Goals as goal
 

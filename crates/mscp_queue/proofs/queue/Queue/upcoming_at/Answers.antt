@@ -1,8 +1,4 @@
-use Rattle.std.proofs.Common.{◌≡◌, ◌<◌, length, get_or, ap, subst, sym, ◌∙◌}
-use Rattle.mscp_queue.specs.declared.target.Target.{Target}
-use Rattle.mscp_queue.specs.Lines.{Line}
-use Rattle.mscp_queue.specs.Records.{drive_at, record_at}
-use Rattle.mscp_queue.specs.Serving.{upcoming_of}
+use Rattle.mscp_queue.proofs.Common.{◌≡◌, ◌<◌, length, get_or, ap, subst, sym, ◌∙◌, Target, Line, drive_at, record_at, upcoming_of}
 use Rattle.mscp_queue.proofs.Ready.{drive_found}
 use Rattle.mscp_queue.proofs.queue.Queue.upcoming_at.Goals as goal
 

@@ -1,5 +1,4 @@
-use Rattle.std.proofs.Common.{◌≡◌, map, take, length}
-use Rattle.mscp_queue.specs.Candidates.{choice_in}
+use Rattle.mscp_queue.proofs.Common.{◌≡◌, map, take, length, choice_in}
 use Rattle.mscp_queue.proofs.queue.restoring.candidates_of.Given as goal
 
 abbrev pub invariant-loop-place : goal.invariant-loop-place

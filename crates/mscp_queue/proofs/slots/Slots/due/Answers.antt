@@ -1,5 +1,4 @@
-use Rattle.std.proofs.Common.{ap}
-use Rattle.mscp_queue.specs.declared.slots.Slot.{Slot}
+use Rattle.mscp_queue.proofs.Common.{ap, Slot}
 use Rattle.mscp_queue.proofs.Shown.{number_of, slot_is}
 use Rattle.mscp_queue.proofs.slots.Slots.due.Goals as goal
 

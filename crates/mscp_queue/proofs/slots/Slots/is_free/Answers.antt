@@ -1,5 +1,4 @@
-use Rattle.std.proofs.Common.{arith}
-use Rattle.std.proofs.lemmas.List.{get_or_default}
+use Rattle.mscp_queue.proofs.Common.{arith, get_or_default}
 use Rattle.mscp_queue.proofs.Shown.{number_of, unfenced_at}
 use Rattle.mscp_queue.proofs.slots.Slots.is_free.Goals as goal
 

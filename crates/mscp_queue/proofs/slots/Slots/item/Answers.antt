@@ -1,7 +1,4 @@
-use Rattle.std.proofs.Common.{ap, ◌∙◌, arith}
-use Rattle.std.proofs.lemmas.List.{get_or_default}
-use Rattle.mscp_queue.specs.declared.slots.Slot.{Slot}
-use Rattle.mscp_queue.specs.Records.{no_record}
+use Rattle.mscp_queue.proofs.Common.{ap, ◌∙◌, arith, get_or_default, Slot, no_record}
 use Rattle.mscp_queue.proofs.Shown.{number_of, slot_is}
 use Rattle.mscp_queue.proofs.slots.Slots.item.Goals as goal
 

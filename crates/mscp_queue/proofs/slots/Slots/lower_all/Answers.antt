@@ -1,4 +1,4 @@
-use Rattle.std.proofs.Common.{arith}
+use Rattle.mscp_queue.proofs.Common.{arith}
 use Rattle.mscp_queue.proofs.Fallen.{enough_all, lowered_all}
 use Rattle.mscp_queue.proofs.slots.Slots.lower_all.Goals as goal
 

@@ -1,4 +1,4 @@
-use Rattle.std.proofs.Common.{arith}
+use Rattle.mscp_queue.proofs.Common.{arith}
 use Rattle.mscp_queue.proofs.Fallen.{enough_behind, lowered_behind}
 use Rattle.mscp_queue.proofs.Shown.{number_of}
 use Rattle.mscp_queue.proofs.slots.Slots.lower_behind.Goals as goal

@@ -1,8 +1,4 @@
-use Rattle.std.proofs.Common.{not, ap, sym, ◌∙◌}
-use Rattle.std.specs.List.{list_all}
-use Rattle.mscp_queue.specs.declared.slots.Slot.{Slot}
-use Rattle.mscp_queue.specs.Orders.{is_sequential}
-use Rattle.mscp_queue.specs.Slots.{held}
+use Rattle.mscp_queue.proofs.Common.{not, ap, sym, ◌∙◌, list_all, Slot, is_sequential, held}
 use Rattle.mscp_queue.proofs.Freed.{none_tells}
 use Rattle.mscp_queue.proofs.Shown.{all_shown}
 use Rattle.mscp_queue.proofs.slots.Slots.none_is_sequential.Goals as goal

@@ -1,4 +1,4 @@
-use Rattle.std.proofs.Common.{arith}
+use Rattle.mscp_queue.proofs.Common.{arith}
 use Rattle.mscp_queue.proofs.Shown.{item_at, item_set, kept_passed, number_of}
 use Rattle.mscp_queue.proofs.slots.Slots.pass.Goals as goal
 

@@ -1,5 +1,4 @@
-use Rattle.std.proofs.Common.{arith}
-use Rattle.std.proofs.lemmas.List.{length-set}
+use Rattle.mscp_queue.proofs.Common.{arith, length-set}
 use Rattle.mscp_queue.proofs.Mapped.{mapped_more}
 use Rattle.mscp_queue.proofs.slots.Slots.pass_front.Goals as goal
 

@@ -1,6 +1,4 @@
-use Rattle.std.proofs.Common.{◌≡◌, ◌++◌, map, take, drop, length}
-use Rattle.mscp_queue.specs.Records.{passed_by}
-use Rattle.mscp_queue.specs.Slots.{with_item}
+use Rattle.mscp_queue.proofs.Common.{◌≡◌, ◌++◌, map, take, drop, length, passed_by, with_item}
 use Rattle.mscp_queue.proofs.slots.Slots.pass_front.Given as goal
 
 abbrev pub invariant-loop-i : goal.invariant-loop-i

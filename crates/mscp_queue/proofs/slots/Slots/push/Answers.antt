@@ -1,4 +1,4 @@
-use Rattle.std.proofs.Common.{not, ap, ◌∙◌, arith}
+use Rattle.mscp_queue.proofs.Common.{not, ap, ◌∙◌, arith}
 use Rattle.mscp_queue.proofs.Masked.{some_free}
 use Rattle.mscp_queue.proofs.Shown.{kept_pushed, long_shown, serves_if, shown_pushed}
 use Rattle.mscp_queue.proofs.slots.Slots.push.Goals as goal

@@ -1,5 +1,4 @@
-use Rattle.std.proofs.Common.{subst, arith}
-use Rattle.mscp_queue.specs.Masks.{HasLeft}
+use Rattle.mscp_queue.proofs.Common.{subst, arith, HasLeft}
 use Rattle.mscp_queue.proofs.Shown.{kept_left, number_of, shown_left}
 use Rattle.mscp_queue.proofs.slots.Slots.remove.Goals as goal
 

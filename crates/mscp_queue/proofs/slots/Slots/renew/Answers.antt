@@ -1,8 +1,4 @@
-use Rattle.std.proofs.Common.{arith, ◌≤◌, get_or, set, ◌∙◌, ap, sym, subst}
-use Rattle.mscp_drive.specs.Shape.{last_cylinder}
-use Rattle.mscp_queue.specs.declared.target.Target.{Target}
-use Rattle.mscp_queue.specs.Targets.{no_target}
-use Rattle.mscp_queue.specs.Candidates.{cost_on, costing, no_choice}
+use Rattle.mscp_queue.proofs.Common.{arith, ◌≤◌, get_or, set, ◌∙◌, ap, sym, subst, last_cylinder, Target, no_target, cost_on, costing, no_choice}
 use Rattle.mscp_queue.proofs.Counted.{one_place, place_counted}
 use Rattle.mscp_queue.proofs.Masked.{slot_low}
 use Rattle.mscp_queue.proofs.Recosted.{all_left, less_left, next_slot, none_left, recost_more, there}

@@ -1,4 +1,4 @@
-use Rattle.mscp_queue.specs.Slots.{targets}
+use Rattle.mscp_queue.proofs.Common.{targets}
 use Rattle.mscp_queue.proofs.Recosted.{Recosting}
 use Rattle.mscp_queue.proofs.slots.Slots.renew.Given as goal
 

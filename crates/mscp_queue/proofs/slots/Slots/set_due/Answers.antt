@@ -1,4 +1,4 @@
-use Rattle.std.proofs.Common.{arith}
+use Rattle.mscp_queue.proofs.Common.{arith}
 use Rattle.mscp_queue.proofs.Shown.{due_set, number_of}
 use Rattle.mscp_queue.proofs.slots.Slots.set_due.Goals as goal
 

@@ -1,4 +1,4 @@
-use Rattle.std.proofs.Common.{arith}
+use Rattle.mscp_queue.proofs.Common.{arith}
 use Rattle.mscp_queue.proofs.Targets.{target_made}
 use Rattle.mscp_queue.proofs.target.Target.of.Goals as goal
 

@@ -1,4 +1,4 @@
-use Rattle.std.proofs.Common.{◌≡◌, take}
+use Rattle.mscp_queue.proofs.Common.{◌≡◌, take}
 use Rattle.mscp_queue.proofs.view.View.new.Given as goal
 
 abbrev pub invariant-loop-choice : goal.invariant-loop-choice

@@ -1,7 +1,4 @@
-use Rattle.std.proofs.Common.{◌≡◌, ◌∙◌, ◌-◌, ◌+◌, ◌<◌, ◌++◌, suc, List, take, drop, length, ap, subst, sym, arith}
-use Rattle.std.specs.List.{CopiedTo}
-use Rattle.mscp_queue.specs.declared.view.Choice.{Choice}
-use Rattle.mscp_queue.specs.Pickers.{IsRow}
+use Rattle.mscp_queue.proofs.Common.{◌≡◌, ◌∙◌, ◌-◌, ◌+◌, ◌<◌, ◌++◌, suc, List, take, drop, length, ap, subst, sym, arith, CopiedTo, Choice, IsRow}
 use Rattle.mscp_queue.proofs.Row.{row_left}
 use Rattle.mscp_queue.proofs.view.View.remove.Goals as goal
 

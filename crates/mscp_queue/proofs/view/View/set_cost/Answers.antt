@@ -1,4 +1,4 @@
-use Rattle.std.proofs.Common.{arith}
+use Rattle.mscp_queue.proofs.Common.{arith}
 use Rattle.mscp_queue.proofs.Row.{row_set}
 use Rattle.mscp_queue.proofs.view.View.set_cost.Goals as goal
 

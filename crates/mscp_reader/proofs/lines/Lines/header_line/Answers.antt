@@ -1,9 +1,4 @@
-use Rattle.std.proofs.Common.{◌≡◌, ◌+◌, ◌∙◌, arith, Ok}
-use Rattle.std.proofs.lemmas.Grind.{common_steps}
-use Rattle.std.proofs.lemmas.Result.{err_from_is_err_and}
-use Rattle.mscp_reader.specs.Lexical.{words}
-use Rattle.mscp_reader.specs.Grammar.{said_at}
-use Rattle.mscp_reader.specs.Outcome.{in_line}
+use Rattle.mscp_reader.proofs.Common.{◌≡◌, ◌+◌, ◌∙◌, arith, Ok, common_steps, err_from_is_err_and, words, said_at, in_line}
 use Rattle.mscp_reader.proofs.Headers.{header_ends, header_skips, header_speaks, header_wrong}
 use Rattle.mscp_reader.proofs.lines.Lines.header_line.Goals as goal
 

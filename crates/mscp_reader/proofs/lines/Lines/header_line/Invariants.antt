@@ -1,6 +1,4 @@
-use Rattle.std.proofs.Common.{◌≡◌, ◌≤◌, length}
-use Rattle.mscp_reader.specs.Grammar.{IsInHeader, Place}
-use Rattle.mscp_reader.specs.Outcome.{rest_headed}
+use Rattle.mscp_reader.proofs.Common.{◌≡◌, ◌≤◌, length, IsInHeader, Place, rest_headed}
 use Rattle.mscp_reader.proofs.lines.Lines.header_line.Given as goal
 
 abbrev pub invariant-loop-bytes : goal.invariant-loop-bytes

@@ -1,4 +1,4 @@
-use Rattle.std.proofs.Common.{arith}
+use Rattle.mscp_reader.proofs.Common.{arith}
 use Rattle.mscp_reader.proofs.PlainLines.{plain_next}
 use Rattle.mscp_reader.proofs.lines.Lines.plain_request.Goals as goal
 

@@ -1,5 +1,4 @@
-use Rattle.std.proofs.Common.{drop, ap, ◌∙◌, sym}
-use Rattle.mscp_reader.specs.Lexical.{lines}
+use Rattle.mscp_reader.proofs.Common.{drop, ap, ◌∙◌, sym, lines}
 use Rattle.mscp_reader.proofs.lines.Lines.worded_request.Goals as goal
 
 pub returns-in_default-clause-rest : goal.returns-in_default-clause-rest

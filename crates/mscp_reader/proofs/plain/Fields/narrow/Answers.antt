@@ -1,4 +1,4 @@
-use Rattle.std.proofs.Common.{◌≤◌, arith}
+use Rattle.mscp_reader.proofs.Common.{◌≤◌, arith}
 use Rattle.mscp_reader.proofs.PlainLines.{narrow_is}
 use Rattle.mscp_reader.proofs.plain.Fields.narrow.Goals as goal
 

@@ -1,5 +1,4 @@
-use Rattle.std.proofs.Common.{rules, ◌≢◌, ◌<◌, sym, ◌∙◌, arith, length, get_or}
-use Rattle.std.proofs.lemmas.Grind.{common_steps}
+use Rattle.mscp_reader.proofs.Common.{rules, ◌≢◌, ◌<◌, sym, ◌∙◌, arith, length, get_or, common_steps}
 use Rattle.mscp_reader.proofs.Cuts.{word_ahead}
 use Rattle.mscp_reader.proofs.words.Words.next_word.Goals as goal
 use Rattle.mscp_reader.proofs.words.Words.next_word.Goals.{in_default, in_default-2}

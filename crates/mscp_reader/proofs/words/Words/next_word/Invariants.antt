@@ -1,5 +1,4 @@
-use Rattle.std.proofs.Common.{◌≡◌, length}
-use Rattle.mscp_reader.specs.Lexical.{words}
+use Rattle.mscp_reader.proofs.Common.{◌≡◌, length, words}
 use Rattle.mscp_reader.proofs.words.Words.next_word.Given as goal
 
 abbrev pub invariant-loop-self : goal.invariant-loop-self

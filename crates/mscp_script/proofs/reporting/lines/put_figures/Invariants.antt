@@ -1,6 +1,4 @@
-use Rattle.std.proofs.Common.{◌≡◌, ◌++◌, take}
-use Rattle.std.specs.List.{flat_map}
-use Rattle.mscp_script.specs.Text.{figure_line}
+use Rattle.mscp_script.proofs.Common.{◌≡◌, ◌++◌, take, flat_map, figure_line}
 use Rattle.mscp_script.proofs.reporting.lines.put_figures.Given as goal
 
 abbrev pub invariant-loop-command : goal.invariant-loop-command

@@ -1,4 +1,4 @@
-use Rattle.std.proofs.Common.{refl}
+use Rattle.mscp_script.proofs.Common.{refl}
 use Rattle.mscp_controller.specs.declared.entry.Entry.TheVariants as entries
 use Rattle.mscp_script.proofs.Growing.{ran_on}
 use Rattle.mscp_script.proofs.running.Run.look.Goals as goal

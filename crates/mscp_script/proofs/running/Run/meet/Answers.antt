@@ -1,6 +1,5 @@
-use Rattle.std.proofs.Common.{OnOk, ◌∙◌, subst}
+use Rattle.mscp_script.proofs.Common.{OnOk, ◌∙◌, subst, Ran}
 use Rattle.mscp_events.specs.declared.event.Event.TheVariants as events
-use Rattle.mscp_script.specs.Running.{Ran}
 use Rattle.mscp_script.proofs.Growing.{meets_ok}
 use Rattle.mscp_script.proofs.running.Run.meet.Goals as goal
 

@@ -1,4 +1,4 @@
-use Rattle.std.proofs.Common.{arith}
+use Rattle.mscp_script.proofs.Common.{arith}
 use Rattle.mscp_script.proofs.Growing.{meets_more, ran_count}
 use Rattle.mscp_script.proofs.running.Run.steps.Goals as goal
 

@@ -1,6 +1,4 @@
-use Rattle.std.proofs.Common.{Bool, ◌∷◌, [], refl, ap}
-use Rattle.mscp_saved.specs.Saved.{flag_byte}
-use Rattle.mscp_saved.proofs.Bytes.{first, more}
+use Rattle.mscp_port.proofs.Common.{Bool, ◌∷◌, [], refl, ap, flag_byte, first, more}
 use Rattle.mscp_port.proofs.port.restoring.front.put_told_counts.Goals as goal
 
 pub returns-clause-items : goal.returns-clause-items

@@ -1,9 +1,4 @@
-use Rattle.std.proofs.Common.{ℕ, List, ◌∷◌, [], drop, length, sym, ap, ◌∙◌}
-use Rattle.mscp_saved.proofs.Bytes.{first, more}
-use Rattle.mscp_saved.proofs.Parted.{parts_long}
-use Rattle.mscp_port.specs.Codes.{coded_task, task_in}
-use Rattle.mscp_port.specs.Restored.{buffer_count, buffer_in, buffer_place}
-use Rattle.mscp_port.specs.Saved.{coded_bytes, outgoing_byte, outgoing_text, rings_bytes, stage_bytes, written_bytes}
+use Rattle.mscp_port.proofs.Common.{ℕ, List, ◌∷◌, [], drop, length, sym, ap, ◌∙◌, first, more, parts_long, coded_task, task_in, buffer_count, buffer_in, buffer_place, coded_bytes, outgoing_byte, outgoing_text, rings_bytes, stage_bytes, written_bytes}
 use Rattle.mscp_port.proofs.port.restoring.front.put_told_hand.Goals as goal
 
 pub returns-clause-items : goal.returns-clause-items

@@ -1,7 +1,4 @@
-use Rattle.std.proofs.Common.{refl, ap}
-use Rattle.mscp_packet.specs.Number.{num}
-use Rattle.mscp_saved.proofs.Bytes.{first, grow, more}
-use Rattle.mscp_port.specs.Saved.{hardware_bytes, words_bytes}
+use Rattle.mscp_port.proofs.Common.{refl, ap, num, first, grow, more, hardware_bytes, words_bytes}
 use Rattle.mscp_port.proofs.port.restoring.front.put_told_state.Goals as goal
 
 pub returns-clause-items : goal.returns-clause-items

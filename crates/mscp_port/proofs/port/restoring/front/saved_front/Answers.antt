@@ -1,18 +1,9 @@
-use Rattle.std.proofs.Common.{◌+◌, ◌-◌, ◌++◌, List, ℕ, length, ap, ◌∙◌, arith}
-use Rattle.std.specs.Prelude.{flat_map}
-use Rattle.mscp_port.specs.Restored.{front_in}
-use Rattle.mscp_port.specs.Saved.{buffer_bytes, frame_bytes, hand_bytes, outgoing_text, state_bytes, volume_bytes}
+use Rattle.mscp_port.proofs.Common.{◌+◌, ◌-◌, ◌++◌, length, ap, ◌∙◌, arith, flat_map, front_in, buffer_bytes, frame_bytes, hand_bytes, outgoing_text, state_bytes, volume_bytes}
 use Rattle.mscp_port.proofs.Formed.{text_told, total_is}
 use Rattle.mscp_port.proofs.port.restoring.front.saved_front.Goals as goal
 
 pub overflow_cast-total : goal.overflow_cast-total
-overflow_cast-total c =
-    let told = ap (λ (l : List ℕ). length l)
-    (c.text_of-text.ensures.value ∙ ap outgoing_text c.outgoing_of-outgoing.ensures) in
-    let few = text_told c.args.b.now c.requires in
-    let fits = c.requires.told in
-    let from = c.from.ensures in
-    record { fits = omega (arith, told, few, fits, from) }
+overflow_cast-total c = search (arith, text_told)
 
 pub returns : goal.returns
 returns c =

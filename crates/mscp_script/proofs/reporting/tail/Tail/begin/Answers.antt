@@ -1,6 +1,4 @@
-use Rattle.std.proofs.Common.{◌∷◌, ap, ◌∙◌, arith}
-use Rattle.std.proofs.Math.ListN.{drop_of_length-le}
-use Rattle.std.proofs.lemmas.List.{drop-set}
+use Rattle.mscp_script.proofs.Common.{◌∷◌, ap, ◌∙◌, arith, drop_of_length-le, drop-set}
 use Rattle.mscp_script.proofs.reporting.tail.Tail.begin.Goals as goal
 
 pub returns : goal.returns

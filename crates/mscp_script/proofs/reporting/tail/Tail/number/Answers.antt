@@ -1,7 +1,4 @@
-use Rattle.std.proofs.Common.{drop, length, ap, arith}
-use Rattle.std.specs.Fmt.{decimal}
-use Rattle.std.proofs.lemmas.List.{length-append, length-drop}
-use Rattle.mscp_reader.proofs.Digits.{few_digits}
+use Rattle.mscp_script.proofs.Common.{drop, length, ap, arith, decimal, length-append, length-drop, few_digits}
 use Rattle.mscp_script.proofs.reporting.tail.Tail.number.Goals as goal
 
 pub write_digits-self-inside-requires : goal.write_digits-self-inside-requires
