@@ -192,7 +192,24 @@ static void attention(void)
     }
 }
 
-/* A host that is silent for 60 seconds is taken for dead, unless it wants no timeout. */
+/* A volume that the host has brought online since it came is no news. */
+static void no_stale_attention(void)
+{
+    uint8_t packet[68], text[32] = {0};
+    build(&RQDX3);
+    initialise(0x1000, 4, 4, 0);
+    is("it comes", mscp_port_volume_came(machine.port, 3, 0), MSCP_DONE);
+    send_command(3, 1, MSCP_ONLINE, 0, 0, 0);
+    expect(1, 0x89, 0);
+    text[8] = MSCP_SET_CONTROLLER_CHARACTERISTICS;
+    text[14] = 0x80;
+    send(text, 32);
+    expect(0, 0x84, 0);
+    run(MOST_ACTIONS);
+    is("a message", take(packet), 0);
+}
+
+/* A host that is silent for longer than 60 seconds is taken for dead, unless it wants no timeout. */
 static void silent_hosts(void)
 {
     uint8_t text[32] = {0};
@@ -204,7 +221,7 @@ static void silent_hosts(void)
             send(text, 32);
             expect(0, 0x84, 0);
         }
-        for (unsigned second = 0; second < 59; second++)
+        for (unsigned second = 0; second < 60; second++)
             mscp_port_tick(machine.port);
         is("SA", mscp_port_read_sa(machine.port), 0);
         mscp_port_tick(machine.port);
@@ -259,6 +276,7 @@ int main(void)
     volume_changes_amid_a_block(false);
     volume_changes_amid_a_block(true);
     attention();
+    no_stale_attention();
     silent_hosts();
     return wrong;
 }

@@ -303,8 +303,8 @@ pub record IsQuiet {K : Type 0} (p : Port K) : Type 0 where
 -- a second went by: the ring of responses is looked at again, and where it is quiet the seconds are counted off. A host
 -- that was silent for too long is taken for dead
 pub record Ticks {K : Type 0} (old new : Port K) : Type 0 where
-  pub counts : IsQuiet old → 1 < old.left → new ≡ record old { is_full = false; left = old.left - 1 }
-  pub silent : IsQuiet old → old.left ≤ 1 → IsAsNew (stages.Dead 9) old new
+  pub counts : IsQuiet old → 0 < old.left → new ≡ record old { is_full = false; left = old.left - 1 }
+  pub silent : IsQuiet old → old.left ≡ 0 → IsAsNew (stages.Dead 9) old new
   pub busy : (IsQuiet old → ⊥) → new ≡ record old { is_full = false; left = old.timeout }
   pub either : (new ≡ record old { is_full = false; left = new.left }) ⊎ IsAsNew (stages.Dead 9) old new
 

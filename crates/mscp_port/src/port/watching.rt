@@ -56,15 +56,15 @@ impl<K: Picker> Port<K> {
         self.is_full = false;
     }
 
-    /// A second went by: the port looks at the ring of responses again, and a host that was silent for too long is taken for
-    /// dead.
+    /// A second went by: the port looks at the ring of responses again, and a host that was silent for longer than its timeout
+    /// is taken for dead. A part of a second that had gone by when it last was heard isn't held against it.
     pub fn tick(&mut self)
         ensures { Ticks self.old self.new }
     {
         self.look_again();
         if !self.is_quiet() {
             self.left = self.timeout;
-        } else if self.left > 1 {
+        } else if self.left > 0 {
             self.left -= 1;
         } else {
             self.die(9);
