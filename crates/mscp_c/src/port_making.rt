@@ -53,9 +53,7 @@ fn init(
         Ok(config) => config,
         Err(fault) => return Err(PortInitFault::Controller(fault)),
     };
-    let Some(hardware) = hardware_of(hardware) else {
-        return Err(PortInitFault::Bus);
-    };
+    let hardware = hardware_of(hardware).ok_or(PortInitFault::Bus)?;
     if credits > 63 {
         return Err(PortInitFault::Credits);
     }

@@ -30,9 +30,9 @@ use denote.Triple.Walked.{Stays, walk_of, says, stay_dropped, Goes-spent_ref, en
 use Rattle.mscp_memory.specs.PortHandles.{is_made, is_room, with_held}
 use Rattle.mscp_memory.specs.Rooms.{if_fml}
 use Rattle.mscp_memory.specs.PortRoom.{row as T}
-use Rattle.mscp_memory.specs.contracts.port.lending.lend as f
-use Rattle.mscp_memory.proofs.port.lending.lend.Statement.{statement}
-use Rattle.mscp_memory.proofs.port.lending.lend.Code as code
+use Rattle.mscp_memory.specs.contracts.port.calls.lend as f
+use Rattle.mscp_memory.proofs.port.calls.lend.Statement.{statement}
+use Rattle.mscp_memory.proofs.port.calls.lend.Code as code
 use Rattle.mscp_memory.specs.declared.port.handle.Handle.{Handle}
 use Rattle.mscp_memory.specs.contracts.port.handle.Handle.{the_type, the_row as R}
 use Rattle.mscp_memory.proofs.port.handle.Handle.TheLaws.{lowers}

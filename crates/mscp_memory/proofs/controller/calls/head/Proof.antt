@@ -18,14 +18,14 @@ use denote.Steps.{nothing, owned, opens, closes, peeks}
 use denote.Struct.Owning.{shape, to}
 use denote.Struct.Struct.{Struct}
 use denote.Triple.Walked.{Stays, walk_of, says, stay_ref, Goes-ref, ends_at}
-use Rattle.mscp_memory.specs.contracts.host.handle.Handle.{the_type, the_row as R}
+use Rattle.mscp_memory.specs.contracts.controller.handle.Handle.{the_type, the_row as R}
 use Rattle.mscp_memory.specs.contracts.head.Head.{the_row as H}
-use Rattle.mscp_memory.specs.HostHandles.{head_of}
+use Rattle.mscp_memory.specs.ControllerHandles.{head_of}
 use Rattle.mscp_memory.proofs.Heads.{head_val, head_is, good, made, Fits}
-use Rattle.mscp_memory.proofs.host.handle.Handle.TheLaws.{lowers}
-use Rattle.mscp_memory.specs.contracts.host.reading.head as f
-use Rattle.mscp_memory.proofs.host.reading.head.Statement.{statement}
-use Rattle.mscp_memory.proofs.host.reading.head.Code as code
+use Rattle.mscp_memory.proofs.controller.handle.Handle.TheLaws.{lowers}
+use Rattle.mscp_memory.specs.contracts.controller.calls.head as f
+use Rattle.mscp_memory.proofs.controller.calls.head.Statement.{statement}
+use Rattle.mscp_memory.proofs.controller.calls.head.Code as code
 
 abbrev stayed : Stays f.ended.signature.params f.ended.kept
 stayed = (stay_ref (0 ∷ []) tt (plain (λ _. R)), tt)

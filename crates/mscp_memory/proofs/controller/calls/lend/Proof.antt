@@ -27,15 +27,15 @@ use denote.Follow.{follows, Part, lends_Part}
 use denote.Struct.Owning.{shape, to}
 use denote.Struct.Struct.{Struct}
 use denote.Triple.Walked.{Stays, walk_of, says, stay_dropped, Goes-spent_ref, ends_at}
-use Rattle.mscp_memory.specs.HostHandles.{is_made, is_room, with_held}
+use Rattle.mscp_memory.specs.ControllerHandles.{is_made, is_room, with_held}
 use Rattle.mscp_memory.specs.Rooms.{if_fml}
-use Rattle.mscp_memory.specs.HostRoom.{row as T}
-use Rattle.mscp_memory.specs.contracts.host.lending.lend as f
-use Rattle.mscp_memory.proofs.host.lending.lend.Statement.{statement}
-use Rattle.mscp_memory.proofs.host.lending.lend.Code as code
-use Rattle.mscp_memory.specs.declared.host.handle.Handle.{Handle}
-use Rattle.mscp_memory.specs.contracts.host.handle.Handle.{the_type, the_row as R}
-use Rattle.mscp_memory.proofs.host.handle.Handle.TheLaws.{lowers}
+use Rattle.mscp_memory.specs.ControllerRoom.{row as T}
+use Rattle.mscp_memory.specs.contracts.controller.calls.lend as f
+use Rattle.mscp_memory.proofs.controller.calls.lend.Statement.{statement}
+use Rattle.mscp_memory.proofs.controller.calls.lend.Code as code
+use Rattle.mscp_memory.specs.declared.controller.handle.Handle.{Handle}
+use Rattle.mscp_memory.specs.contracts.controller.handle.Handle.{the_type, the_row as R}
+use Rattle.mscp_memory.proofs.controller.handle.Handle.TheLaws.{lowers}
 
 abbrev stayed : Stays f.ended.signature.params f.ended.kept
 stayed = (stay_dropped (mut_ref_to (0 ∷ []) tt (plain (λ _. R))) no, tt)
@@ -44,11 +44,11 @@ stayed = (stay_dropped (mut_ref_to (0 ∷ []) tt (plain (λ _. R))) no, tt)
 abbrev memory : Handle → Bool → Fml
 memory h y = if_fml y (lies_at T full_share h.at h.held) (if_fml (is_room h) (room_at T h.at) ftrue)
 
--- all of the handle but the host
+-- all of the handle but the controller
 abbrev rest : Handle → List Val → ℕ → ℕ → Fml
 rest h us b o = fsep ((Struct (shape the_type)).own_val (to the_type h) us) (cell_at full_share R.mir us b o)
 
--- with any host there, it is the handle of that host
+-- with any controller there, it is the handle of that controller
 back : {M : Type 1} {𝓤 : Ura M} (𝓛 : Logic 𝓤) (h : Handle) (us : List Val) (b o b' o' : ℕ) → h.at ≡ block_ptr b' o'
     → is_made h ≡ true
     → (w : T.Denot) → ent 𝓤 (sep 𝓤 (sem 𝓛 ((mem T).own_at w b' o')) (sem 𝓛 (rest h us b o)))
@@ -82,7 +82,7 @@ lend_spec 𝓤 𝓛 𝓜 𝓡 wired =
     let word = lowers.val_is h us is ∙ ap (λ (p : Ptr). lowers.lowered (record h { at = p }) ∷ []) e in
     let Cell = λ (ws : List Val). ‵ (cell_at full_share R.mir ws b o) in
     rewrite ! 2 Cell word refl $
-    -- [the host; what the fields own; the struct's cell; the open borrow, in three entries]
+    -- [the controller; what the fields own; the struct's cell; the open borrow, in three entries]
     first ! $ blocks ! $
     sets ! (of_opd ! (load ! (through ! refl (fld ! refl (stop !))) (look_in ! 2 (sub ! 0 refl (whole !))))) refl
     (tt, tt) $
@@ -92,7 +92,7 @@ lend_spec 𝓤 𝓛 𝓜 𝓡 wired =
     sets ! (of_opd ! (get ! refl)) refl (tt, tt) $
     rewrite ! 2 Cell (sym word) refl $
     move ! (1 ∷ 2 ∷ []) $ fjoin ! $
-    -- [the rest; the host; the open borrow, in three entries]
+    -- [the rest; the controller; the open borrow, in three entries]
     move ! (2 ∷ 3 ∷ 4 ∷ 1 ∷ 0 ∷ []) $ group ! 5 $
     use1 𝓛 (later (some (λ (δ : GName). raw (Part 𝓛 R T (with_held h) (named 0) κ q b o b' o' γ (sem 𝓛 (rest h us b o))
     (back 𝓛 h us b o b' o' e made) h.held δ))))

@@ -1,4 +1,4 @@
--- `place` moves a port into the room that a handle has. Assumes `Logic`.
+-- `place` moves a controller into the room that a handle has. Assumes `Logic`.
 use Rattle.std.proofs.Common.{◌≡◌, List, [], ◌∷◌, ◌++◌, refl, sym, ap, ◌∙◌, lit<}
 use Rattle.std.proofs.raw_atomic.Walks.{proved_at}
 use Rattle.std.proofs.VecSteps.Shapes.{after}
@@ -17,9 +17,7 @@ use types.ByLocal.{alloc_all, pass_all, free_all, look_at, get, through, sets, e
 use seplogic.Ra.Ura.{Ura}
 use types.Logic.{Logic, sem}
 use types.Part.{whole, sub, look_in, store_in}
-use denote.Exit.{Last, left, rest, yes}
-use denote.Param.Mute.{blank}
-use lib.Dec.{T}
+use denote.Exit.{yes}
 use denote.RattleType.{RattleType}
 use denote.Laws.{shows}
 use denote.Shadow.{makes_shadow}
@@ -31,23 +29,22 @@ use denote.RawPtr.{Ptr, block_ptr, ptr_val, lies_at, room_at, in_a_block}
 use denote.Ref.{MutRef}
 use denote.Signature.{plain}
 use denote.Steps.{nothing, heard, opens, closes, peeks, facts}
-use denote.Triple.Walked.{Stays, walk_of, says, stay_dropped, stay_ref, Goes-ref, ends_at}
-use Rattle.mscp_memory.specs.PortHandles.{is_room, placed}
-use Rattle.mscp_memory.proofs.Placing.{one, big_lit, unmade, Goes-blank}
+use denote.Triple.Walked.{Stays, walk_of, says, stay_dropped, stay_ref, Goes-ref, Goes-dropped, ends_at}
+use Rattle.mscp_memory.specs.ControllerHandles.{is_room, placed}
+use Rattle.mscp_memory.proofs.Placing.{one, big_lit, unmade}
 use Rattle.mscp_memory.specs.Rooms.{if_fml, place_fault}
-use Rattle.mscp_memory.specs.PortRoom.{is_made_of, row as T', row_alignment, row_size}
-use Rattle.mscp_memory.specs.declared.port.marks.TheConstants.{ROOM}
-use Rattle.mscp_memory.specs.declared.port.handle.Handle.{Handle}
-use Rattle.mscp_memory.specs.contracts.port.handle.Handle.{the_type, the_row as R}
-use Rattle.std.specs.Prelude.{◌^◌, ◌<◌, nat_eq, Option, None, Some}
-use Rattle.mscp_port.specs.declared.port.Outgoing.{Outgoing}
-use Rattle.mscp_memory.proofs.port.handle.Handle.TheLaws.{lowers}
-use Rattle.mscp_port.proofs.port.Port.TheLaws as ports
+use Rattle.mscp_memory.specs.ControllerRoom.{is_made_of, row as T', row_alignment, row_size}
+use Rattle.mscp_memory.specs.declared.controller.marks.TheConstants.{ROOM}
+use Rattle.mscp_memory.specs.declared.controller.handle.Handle.{Handle}
+use Rattle.mscp_memory.specs.contracts.controller.handle.Handle.{the_type, the_row as R}
+use Rattle.std.specs.Prelude.{◌^◌, ◌<◌, nat_eq}
+use Rattle.mscp_memory.proofs.controller.handle.Handle.TheLaws.{lowers}
+use Rattle.mscp_controller.proofs.controller.Controller.TheLaws as controllers
 use Rattle.mscp_memory.specs.contracts.policy.Policy as policy
 use Rattle.mscp_memory.proofs.policy.Policy.TheLaws as policies
-use Rattle.mscp_memory.specs.contracts.port.placing.place as f
-use Rattle.mscp_memory.proofs.port.placing.place.Statement.{statement}
-use Rattle.mscp_memory.proofs.port.placing.place.Code as code
+use Rattle.mscp_memory.specs.contracts.controller.calls.place as f
+use Rattle.mscp_memory.proofs.controller.calls.place.Statement.{statement}
+use Rattle.mscp_memory.proofs.controller.calls.place.Code as code
 
 -- what is room isn't made
 not_made : (h : Handle) → is_room h ≡ true → is_made_of h.mark ≡ false
@@ -72,15 +69,6 @@ made_words 𝓛 h a n m = makes_shadow 𝓛 (Words.own_val (to the_type h) (word
       (refl, (refl, ((refl, a), ((refl, n), ((refl, m), tt))))),
     )
 
--- nothing is left of a port that was moved, whatever goes out
-quiet_with : (x : T'.Denot) (o : Option Outgoing) (w : Last (T'.exit yes) (record x { outgoing = o }))
-    → T (blank (left (T'.exit yes) (record x { outgoing = o }) w))
-quiet_with x None w = tt
-quiet_with x (Some o) w = tt
-
-quiet : (x : T'.Denot) (w : Last (T'.exit yes) x) → T (blank (left (T'.exit yes) x w))
-quiet x w = quiet_with x x.outgoing w
-
 abbrev stayed : Stays f.ended.signature.params f.ended.kept
 stayed = (stay_ref (0 ∷ []) tt (plain (λ _. R)), (stay_dropped (plain (λ _. T')) yes, tt))
 
@@ -89,12 +77,12 @@ place_spec 𝓤 𝓛 𝓜 𝓡 wired =
     let c = f.clauses 𝓛 𝓜.mem 𝓡.returns in let W = walk_of 𝓛 f.ended stayed c in let 𝓣 = tables 𝓤 𝓛.H 𝓜 𝓡 𝓡.env in
     proved_at 𝓛 f.ended stayed c 𝓜 𝓡 (
       Goes-ref 𝓛 1 0 tt (plain (λ _. R)),
-      (Goes-blank 𝓛 1 (plain (λ _. T')) yes (λ κs. quiet), tt),
+      (Goes-dropped 𝓛 1 (plain (λ _. T')) yes (λ κs x w. refl), tt),
     )
     f.Key.name code.function (code.unfolded 𝓤 𝓛.H 𝓜 𝓡 wired) (λ y are.
     let κ = y.0.0.0 in let q = y.0.1.0 in let a = y.0.3 in let vss = y.0.4 in
     let b = a.0.ref_ptr.0 in let o = a.0.ref_ptr.1 in let h = a.0.now in let x = a.1.0 in
-    let got = one (lone T'.mir) vss.1.0 (((ports.the_row_laws policy.the_row policies.the_row_laws).lawful
+    let got = one (lone T'.mir) vss.1.0 (((controllers.the_row_laws policy.the_row policies.the_row_laws).lawful
     𝓛).typed x vss.1.0 are.1.0) in
     let v : Val = got.0 in let good = got.2 in
     qed 𝓛 (((‵ (flft κ q) ⊛ ‵ ftrue) ⊛ ‵ ((MutRef (named 0) κ R).own_val a.0 vss.0) ⊛ ‵ (T'.own_val x vss.1.0) ⊛ ‵
@@ -113,7 +101,7 @@ place_spec 𝓤 𝓛 𝓜 𝓡 wired =
     let w = lowers.val_is h us is ∙ ap (λ (p : Ptr). word (record h { at = p })) e in
     let Cell = λ (ws : List Val). ‵ (cell_at full_share R.mir ws b o) in
     rewrite ! 1 Cell w refl $
-    -- [the room; the struct's cell; the open borrow, in three entries; what `handle` is; what the port owns]
+    -- [the room; the struct's cell; the open borrow, in three entries; what `handle` is; what the controller owns]
     first ! $ blocks ! $
     sets ! (of_opd ! (load ! (through ! refl (fld ! refl (stop !))) (look_in ! 1 (sub ! 0 refl (whole !))))) refl
     (tt, tt) $
@@ -123,8 +111,8 @@ place_spec 𝓤 𝓛 𝓜 𝓡 wired =
     assigns ! (of_opd ! (big_lit ! (record { fits = lit< tt }))) (through ! refl (fld ! refl (stop !)))
     (store_in ! 1 (sub ! 3 refl (whole !)) (tt, record { fits = lit< tt })) $
     sets ! (of_opd ! (unit_lit !)) refl (tt, tt) $
-    -- [the port's bytes; the struct's cell; the open borrow, in three entries; what `handle` is; what the
-    -- port owns]
+    -- [the controller's bytes; the struct's cell; the open borrow, in three entries; what `handle` is; what the
+    -- controller owns]
     let g = placed h x in
     move ! (0 ∷ 6 ∷ []) $ use2 𝓛 (‵ (lies_at T' full_share (block_ptr b' o') x))
     (part_in 𝓛 T' refl full_share x b' o' v) $
@@ -133,7 +121,7 @@ place_spec 𝓤 𝓛 𝓜 𝓡 wired =
     use0 𝓛 (‵ (Words.own_val (to the_type g) (word g))) (made_words 𝓛 g s.1.1.1.0.1 s.1.1.1.1.0.1 (lit< tt)) $ fjoin ! $
     move ! (1 ∷ []) $ closes ! tt R g (word g) b o $
     returns ! (look_at ! 0 refl) $ free_all ! refl $ move ! (3 ∷ []) $
-    suffices ! _ (ends_at 𝓛 f.ended stayed c y vunit tt (g, (rest (T'.exit yes) x, tt)) (tt, (tt, tt))) $ says ! refl $
+    suffices ! _ (ends_at 𝓛 f.ended stayed c y vunit tt (g, (tt, tt)) (tt, (tt, tt))) $ says ! refl $
     group ! 3 $ nothing ! $ nothing ! $ join ! $ move ! (1 ∷ 0 ∷ []) $ join ! $ nothing ! $ move ! (2 ∷ 0 ∷ []) $ join !
     $ frame ! $ frame ! $
     feq_i ! _ (vunit ∷ []) _ refl $ done !)))))))

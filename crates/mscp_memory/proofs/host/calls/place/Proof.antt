@@ -40,9 +40,9 @@ use Rattle.mscp_memory.specs.contracts.host.handle.Handle.{the_type, the_row as 
 use Rattle.std.specs.Prelude.{◌^◌, ◌<◌, nat_eq}
 use Rattle.mscp_memory.proofs.host.handle.Handle.TheLaws.{lowers}
 use Rattle.mscp_host.proofs.host.Host.TheLaws as hosts
-use Rattle.mscp_memory.specs.contracts.host.placing.place as f
-use Rattle.mscp_memory.proofs.host.placing.place.Statement.{statement}
-use Rattle.mscp_memory.proofs.host.placing.place.Code as code
+use Rattle.mscp_memory.specs.contracts.host.calls.place as f
+use Rattle.mscp_memory.proofs.host.calls.place.Statement.{statement}
+use Rattle.mscp_memory.proofs.host.calls.place.Code as code
 
 -- what is room isn't made
 not_made : (h : Handle) → is_room h ≡ true → is_made_of h.mark ≡ false
