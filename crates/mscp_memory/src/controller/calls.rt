@@ -3,33 +3,20 @@
 ghost use Rattle.std.specs.Prelude.{◌≡◌, true};
 ghost use Rattle.std.specs.Borrow.{Lends, sem};
 ghost use Rattle.mscp_memory.specs.contracts.controller.handle.Handle.{the_row};
-ghost use Rattle.mscp_memory.specs.ControllerRoom.{row};
-ghost use Rattle.mscp_memory.specs.ControllerHandles.{head_of, is_made, is_room, placed, room_fault, with_held};
+ghost use Rattle.mscp_memory.specs.ControllerHandles.{is_made, is_room, placed, room_fault, row, with_held};
 
 use crate::controller::handle::Handle;
 use crate::controller::marks::{KIND, MADE};
-use crate::fault::RoomFault;
-use crate::head::{self, Head};
+use crate::fault::{self, RoomFault};
 use crate::policy::Policy;
 use mscp_controller::Controller;
-
-/// What the caller gave.
-fn head(handle: &mut Handle) -> Head
-    ensures { (result ≡ head_of handle.old) × (handle.new ≡ handle.old) }
-{
-    Head {
-        address: handle.address,
-        length: handle.length,
-        mark: handle.mark,
-    }
-}
 
 /// Whether its memory holds a controller.
 pub fn is_made(handle: &mut Handle) -> bool
     ensures value { result ≡ is_made handle.old }
     ensures same { handle.new ≡ handle.old }
 {
-    head(handle).mark == MADE
+    handle.mark == MADE
 }
 
 /// Why its memory is no room for a controller, if it isn't.
@@ -37,7 +24,7 @@ pub fn room_fault(handle: &mut Handle) -> Option<RoomFault>
     ensures value { result ≡ room_fault handle.old }
     ensures same { handle.new ≡ handle.old }
 {
-    head::room_fault(head(handle), KIND)
+    fault::room_fault(handle.address, handle.length, handle.mark, KIND)
 }
 
 /// The controller.

@@ -12,12 +12,13 @@ use mir.Val.{Val, vptr}
 use seplogic.Ra.Ura.{Ura}
 use contract.Running.{tables}
 use types.Logic.{Logic, sem}
-use types.Kit.{‵, raw, ◌⊛◌, some, later, at_ret, ◌$◌, ◌∵◌, !, qed, done, move, keep, use1, split, join, fsplit, fsplit3, fjoin, fpack, pick, await, rewrite, suffices, frame, group, by}
+use types.Kit.{‵, raw, ◌⊛◌, some, later, at_ret, ◌$◌, ◌∵◌, !, qed, done, move, keep, drop, use0, use1, split, join, fsplit, fsplit3, fjoin, fpack, pick, await, rewrite, suffices, frame, group, by}
 use types.Run.{enter, of_opd, addr, load, stop, fld, first, blocks, exec, returns}
 use types.ByLocal.{alloc_all, pass_all, free_all, look_at, get, through, sets, sets_last, env}
 use types.Part.{whole, sub, look_in}
 use denote.Exit.{no}
 use denote.Laws.{shows}
+use denote.Shadow.{makes_shadow}
 use denote.Memory.{mem, cell_at, part_of}
 use denote.RawPtr.{Ptr, block_ptr, lies_at, room_at, in_a_block}
 use denote.Ref.{MutRef, mut_vals, mut_Tells}
@@ -27,14 +28,14 @@ use denote.Follow.{follows, Part, lends_Part}
 use denote.Struct.Owning.{shape, to}
 use denote.Struct.Struct.{Struct}
 use denote.Triple.Walked.{Stays, walk_of, says, stay_dropped, Goes-spent_ref, ends_at}
-use Rattle.mscp_memory.specs.HostHandles.{is_made, is_room, with_held}
+use Rattle.mscp_memory.specs.HostHandles.{Handle, is_made, is_room, row as T, with_held}
 use Rattle.mscp_memory.specs.Rooms.{if_fml}
-use Rattle.mscp_memory.specs.HostRoom.{row as T}
 use Rattle.mscp_memory.specs.contracts.host.calls.lend as f
 use Rattle.mscp_memory.proofs.host.calls.lend.Statement.{statement}
 use Rattle.mscp_memory.proofs.host.calls.lend.Code as code
-use Rattle.mscp_memory.specs.declared.host.handle.Handle.{Handle}
-use Rattle.mscp_memory.specs.contracts.host.handle.Handle.{the_type, the_row as R}
+use Rattle.mscp_memory.specs.declared.host.handle.Handle.TheView.{inverse}
+use Rattle.mscp_memory.specs.contracts.host.handle.Handle.{the_row as R}
+use Rattle.mscp_memory.specs.contracts.host.handle.Handle.TheInside.{the_type}
 use Rattle.mscp_memory.proofs.host.handle.Handle.TheLaws.{lowers}
 
 abbrev stayed : Stays f.ended.signature.params f.ended.kept
@@ -46,7 +47,7 @@ memory h y = if_fml y (lies_at T full_share h.at h.held) (if_fml (is_room h) (ro
 
 -- all of the handle but the host
 abbrev rest : Handle → List Val → ℕ → ℕ → Fml
-rest h us b o = fsep ((Struct (shape the_type)).own_val (to the_type h) us) (cell_at full_share R.mir us b o)
+rest h us b o = fsep ((Struct (shape the_type)).own_val (to the_type (inverse h)) us) (cell_at full_share R.mir us b o)
 
 -- with any host there, it is the handle of that host
 back : {M : Type 1} {𝓤 : Ura M} (𝓛 : Logic 𝓤) (h : Handle) (us : List Val) (b o b' o' : ℕ) → h.at ≡ block_ptr b' o'
@@ -58,7 +59,10 @@ back 𝓛 h us b o b' o' e made w =
     qed 𝓛 (‵ (lies_at T full_share (block_ptr b' o') w) ∷ ‵ (rest h us b o) ∷ []) ∵
     rewrite ! 0 (λ (p : Ptr). ‵ (lies_at T full_share p w)) (sym e) refl $
     rewrite ! 0 (λ (y : Bool). ‵ (memory (with_held h w) y)) (sym made) refl $
-    move ! (1 ∷ []) $ fsplit ! $ move ! (0 ∷ 2 ∷ 1 ∷ []) $ fjoin ! $ move ! (1 ∷ 0 ∷ []) $ fjoin ! $
+    move ! (1 ∷ []) $ fsplit ! $ move ! (0 ∷ 2 ∷ 1 ∷ []) $ fjoin ! $
+    use0 𝓛 (‵ ftrue) (makes_shadow 𝓛 ftrue tt tt) $
+    fpack ! _ (λ (z : (with_held h w ≡ with_held h w) × Unit {0}). ftrue) (refl, tt) $
+    move ! (1 ∷ 0 ∷ []) $ fjoin ! $ move ! (1 ∷ 0 ∷ []) $ fjoin ! $
     fpack ! (List Val) (λ vs. fsep (cell_at full_share R.mir vs b o) (R.own_val (with_held h w) vs)) us $ done !
 
 pub lend_spec : {M : Type 1} → statement M
@@ -76,7 +80,8 @@ lend_spec 𝓤 𝓛 𝓜 𝓡 wired =
     split ! $ split ! $ move ! (2 ∷ []) $ split ! $ keep ! (0 ∷ 2 ∷ []) $
     enter ! _ _ _ _ _ $ alloc_all ! (λ l. pass_all ! refl ((tt, tt), tt) $
     fsplit3 ! $ move ! (1 ∷ 2 ∷ 3 ∷ []) $ opens ! tt R b o (λ us.
-    move ! (1 ∷ []) $ peeks ! R _ (shows 𝓛 R) h us (λ is. fsplit ! $ move ! (1 ∷ []) $
+    move ! (1 ∷ []) $ peeks ! R _ (shows 𝓛 R) h us (λ is.
+    fsplit ! $ move ! (1 ∷ []) $ drop ! $ fsplit ! $ move ! (1 ∷ []) $
     rewrite ! 0 (λ (y : Bool). ‵ (memory h y)) made refl $
     in_a_block ! h.at (λ p. lies_at T full_share p h.held) (id⊢ 𝓤 _) (λ b' o' e.
     let word = lowers.val_is h us is ∙ ap (λ (p : Ptr). lowers.lowered (record h { at = p }) ∷ []) e in

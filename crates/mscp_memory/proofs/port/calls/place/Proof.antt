@@ -11,7 +11,7 @@ use mir.Syntax.{named, w64}
 use mir.Val.{Val, vunit, vint}
 use prog.Wp.{WpFn}
 use contract.Running.{tables}
-use types.Kit.{‵, raw, ◌⊛◌, prop, at_ret, ◌$◌, ◌∵◌, !, qed, done, move, keep, use0, use2, split, join, fsplit, fsplit3, fjoin, feq_i, rewrite, regoal, suffices, frame, group}
+use types.Kit.{‵, raw, ◌⊛◌, prop, at_ret, ◌$◌, ◌∵◌, !, qed, done, move, keep, use0, use2, split, join, fsplit, fsplit3, fjoin, fpack, drop, feq_i, rewrite, regoal, suffices, frame, group}
 use types.Run.{enter, of_opd, load, unit_lit, init, stop, fld, assigns, assigns_last, first, blocks, exec, returns}
 use types.ByLocal.{alloc_all, pass_all, free_all, look_at, get, through, sets, env}
 use seplogic.Ra.Ura.{Ura}
@@ -32,13 +32,13 @@ use denote.Ref.{MutRef}
 use denote.Signature.{plain}
 use denote.Steps.{nothing, heard, opens, closes, peeks, facts}
 use denote.Triple.Walked.{Stays, walk_of, says, stay_dropped, stay_ref, Goes-ref, ends_at}
-use Rattle.mscp_memory.specs.PortHandles.{is_room, placed}
+use Rattle.mscp_memory.specs.PortHandles.{Handle, is_made, is_room, placed, row as T', row_alignment, row_size}
 use Rattle.mscp_memory.proofs.Placing.{one, big_lit, unmade, Goes-blank}
 use Rattle.mscp_memory.specs.Rooms.{if_fml, place_fault}
-use Rattle.mscp_memory.specs.PortRoom.{is_made_of, row as T', row_alignment, row_size}
 use Rattle.mscp_memory.specs.declared.port.marks.TheConstants.{ROOM}
-use Rattle.mscp_memory.specs.declared.port.handle.Handle.{Handle}
-use Rattle.mscp_memory.specs.contracts.port.handle.Handle.{the_type, the_row as R}
+use Rattle.mscp_memory.specs.declared.port.handle.Handle.TheView.{inverse}
+use Rattle.mscp_memory.specs.contracts.port.handle.Handle.{the_row as R}
+use Rattle.mscp_memory.specs.contracts.port.handle.Handle.TheInside.{the_type}
 use Rattle.std.specs.Prelude.{◌^◌, ◌<◌, nat_eq, Option, None, Some}
 use Rattle.mscp_port.specs.declared.port.Outgoing.{Outgoing}
 use Rattle.mscp_memory.proofs.port.handle.Handle.TheLaws.{lowers}
@@ -50,8 +50,8 @@ use Rattle.mscp_memory.proofs.port.calls.place.Statement.{statement}
 use Rattle.mscp_memory.proofs.port.calls.place.Code as code
 
 -- what is room isn't made
-not_made : (h : Handle) → is_room h ≡ true → is_made_of h.mark ≡ false
-not_made h e = unmade (is_made_of h.mark) (nat_eq h.mark ROOM) (place_fault h.address h.length row_size row_alignment) e
+not_made : (h : Handle) → is_room h ≡ true → is_made h ≡ false
+not_made h e = unmade (is_made h) (nat_eq h.mark ROOM) (place_fault h.address h.length row_size row_alignment) e
 
 -- what the memory is, by what its mark says
 abbrev memory : Handle → Bool → Bool → Fml
@@ -65,8 +65,8 @@ word h = lowers.lowered h ∷ []
 
 made_words : {M : Type 1} {𝓤 : Ura M} (𝓛 : Logic 𝓤) (h : Handle) → h.address < 2 ^ 64 → h.length < 2 ^ 64
     → h.mark < 2 ^ 64
-    → ent 𝓤 (emp 𝓤) (sem 𝓛 (Words.own_val (to the_type h) (word h)))
-made_words 𝓛 h a n m = makes_shadow 𝓛 (Words.own_val (to the_type h) (word h))
+    → ent 𝓤 (emp 𝓤) (sem 𝓛 (Words.own_val (to the_type (inverse h)) (word h)))
+made_words 𝓛 h a n m = makes_shadow 𝓛 (Words.own_val (to the_type (inverse h)) (word h))
     (λ _. (tt, (tt, ((tt, tt), ((tt, tt), ((tt, tt), tt)))))) (
       (ptr_val h.at ∷ [], (vint w64 h.address ∷ [], (vint w64 h.length ∷ [], (vint w64 h.mark ∷ [], tt)))),
       (refl, (refl, ((refl, a), ((refl, n), ((refl, m), tt))))),
@@ -106,7 +106,8 @@ place_spec 𝓤 𝓛 𝓜 𝓡 wired =
     enter ! _ _ _ _ _ $ alloc_all ! (λ l. pass_all ! refl ((tt, tt), (good, tt)) $
     fsplit3 ! $ move ! (1 ∷ 2 ∷ 3 ∷ []) $ opens ! tt R b o (λ us.
     move ! (1 ∷ []) $ peeks ! R _ (shows 𝓛 R) h us
-    (λ is. fsplit ! $ facts ! Words _ (shows 𝓛 Words) (to the_type h) us (λ s.
+    (λ is. fsplit ! $ move ! (1 ∷ []) $ drop ! $ fsplit ! $
+    facts ! Words _ (shows 𝓛 Words) (to the_type (inverse h)) us (λ s.
     rewrite ! 0 (λ (z : Bool). ‵ (memory h z (is_room h))) (not_made h room) refl $ rewrite ! 0
     (λ (z : Bool). ‵ (memory h false z)) room refl $
     in_a_block ! h.at (λ p. room_at T' p) (id⊢ 𝓤 _) (λ b' o' e.
@@ -130,7 +131,10 @@ place_spec 𝓤 𝓛 𝓜 𝓡 wired =
     (part_in 𝓛 T' refl full_share x b' o' v) $
     rewrite ! 0 (λ (p : Ptr). ‵ (lies_at T' full_share p x)) (sym e) refl $
     rewrite ! 1 Cell (sym (ap (λ (p : Ptr). word (record g { at = p })) e)) refl $
-    use0 𝓛 (‵ (Words.own_val (to the_type g) (word g))) (made_words 𝓛 g s.1.1.1.0.1 s.1.1.1.1.0.1 (lit< tt)) $ fjoin ! $
+    use0 𝓛 (‵ (Words.own_val (to the_type (inverse g)) (word g))) (made_words 𝓛 g s.1.1.1.0.1 s.1.1.1.1.0.1 (lit< tt)) $
+    fjoin ! $ use0 𝓛 (‵ ftrue) (makes_shadow 𝓛 ftrue tt tt) $
+    fpack ! _ (λ (z : (g ≡ g) × Unit {0}). ftrue) (refl, tt) $
+    move ! (1 ∷ 0 ∷ []) $ fjoin ! $
     move ! (1 ∷ []) $ closes ! tt R g (word g) b o $
     returns ! (look_at ! 0 refl) $ free_all ! refl $ move ! (3 ∷ []) $
     suffices ! _ (ends_at 𝓛 f.ended stayed c y vunit tt (g, (rest (T'.exit yes) x, tt)) (tt, (tt, tt))) $ says ! refl $
