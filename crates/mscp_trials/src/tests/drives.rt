@@ -78,38 +78,27 @@ fn a_transfer_is_weighed(rt: HostRuntime) {
     same(&rt, longest, Ok(8388608));
 }
 
-/// A READ on a cylinder costs so much.
-fn costs(rt: &impl Abort, cylinder: u32, up: bool, to: u32, cost: u64) {
-    let unit = usual(0);
-    let head = Head { cylinder, up };
-    holds(rt, cylinder <= unit.last_cylinder());
-    holds(rt, to <= unit.last_cylinder());
-    same(rt, head.cost(&unit, to), cost);
-}
-
+// A READ on the cylinder to which the head goes costs so much.
 #[test]
 fn a_sweep_goes_on_to_the_end_before_it_turns(rt: HostRuntime) {
-    costs(&rt, 10, true, 5, 83);
-    costs(&rt, 10, true, 30, 20);
-    costs(&rt, 10, true, 8, 80);
-    costs(&rt, 30, true, 5, 63);
-    costs(&rt, 30, true, 8, 60);
-    costs(&rt, 8, false, 5, 3);
-    costs(&rt, 8, false, 9, 17);
+    let unit = usual(0);
+    for (cylinder, up, to, cost) in [
+        (10, true, 5, 83),
+        (10, true, 30, 20),
+        (10, true, 8, 80),
+        (30, true, 5, 63),
+        (30, true, 8, 60),
+        (8, false, 5, 3),
+        (8, false, 9, 17),
+    ] {
+        let head = Head { cylinder, up };
+        holds(&rt, cylinder <= unit.last_cylinder());
+        holds(&rt, to <= unit.last_cylinder());
+        same_of(&rt, (cylinder, to), head.cost(&unit, to), cost);
+    }
 }
 
-/// A head goes so far to a cylinder, and a start there leaves it on this way.
-fn turns(rt: &impl Abort, (cylinder, up): (u32, bool), to: u32, turned: bool, far: u32) {
-    let head = Head { cylinder, up };
-    let started = Head {
-        cylinder: to,
-        up: turned,
-    };
-    same(rt, head.moved(to), started);
-    same(rt, head.carried(to), Head { cylinder: to, up });
-    same(rt, head.distance(to), far);
-}
-
+// A head goes so far to a cylinder, and a start there leaves it on this way.
 #[test]
 fn a_start_turns_the_head_and_a_later_block_does_not(rt: HostRuntime) {
     let new = Head {
@@ -117,12 +106,20 @@ fn a_start_turns_the_head_and_a_later_block_does_not(rt: HostRuntime) {
         up: true,
     };
     same(&rt, Head::default(), new);
-    turns(&rt, (10, true), 30, true, 20);
-    turns(&rt, (10, true), 5, false, 5);
-    turns(&rt, (10, false), 30, true, 20);
-    turns(&rt, (10, false), 5, false, 5);
-    turns(&rt, (10, true), 10, true, 0);
-    turns(&rt, (10, false), 10, false, 0);
+    for (cylinder, up, to, turned, far) in [
+        (10, true, 30, true, 20),
+        (10, true, 5, false, 5),
+        (10, false, 30, true, 20),
+        (10, false, 5, false, 5),
+        (10, true, 10, true, 0),
+        (10, false, 10, false, 0),
+    ] {
+        let head = Head { cylinder, up };
+        let moved = head.moved(to);
+        same_of(&rt, (to, up), (moved.cylinder, moved.up), (to, turned));
+        same_of(&rt, (to, up), head.carried(to), Head { cylinder: to, up });
+        same_of(&rt, (to, up), head.distance(to), far);
+    }
 }
 
 #[test]

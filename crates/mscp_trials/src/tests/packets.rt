@@ -46,24 +46,6 @@ fn ones(code: u8) -> [u8; 64] {
     bytes
 }
 
-/// A command of ones is read as this order.
-fn orders(rt: &impl Abort, opcode: u8, order: Order) {
-    let wanted = command(0xFFFF_FFFF, 0xFFFF, order);
-    same(rt, read_command(&ones(opcode)), Ok(wanted));
-}
-
-/// An end of ones is read with this body.
-fn tells(rt: &impl Abort, code: u8, body: EndBody) {
-    let wanted = End {
-        reference: 0xFFFF_FFFF,
-        unit: 0xFFFF,
-        code,
-        status: 0xFFFF,
-        body,
-    };
-    same(rt, read_end(&ones(code)), Ok(wanted));
-}
-
 #[test]
 fn what_is_not_named_is_ignored(rt: HostRuntime) {
     let all = 0xFFFF_FFFF;
@@ -71,17 +53,30 @@ fn what_is_not_named_is_ignored(rt: HostRuntime) {
         opcode: 0x13,
         status: 0x0801,
     };
+    for (opcode, order) in [
+        (0x04, Order::SetController(0xFFFF)),
+        (0x0A, Order::SetUnit),
+        (0x12, Order::Move(MoveKind::Erase, all, all)),
+        (0x13, unknown),
+    ] {
+        let wanted = command(all, 0xFFFF, order);
+        same_of(&rt, opcode, read_command(&ones(opcode)), Ok(wanted));
+    }
     let controller = EndBody::Controller {
         timeout: 0xFFFF,
         id: u64::MAX,
     };
-    orders(&rt, 0x04, Order::SetController(0xFFFF));
-    orders(&rt, 0x0A, Order::SetUnit);
-    orders(&rt, 0x12, Order::Move(MoveKind::Erase, all, all));
-    orders(&rt, 0x13, unknown);
-    tells(&rt, 0x88, EndBody::Bare);
-    tells(&rt, 0x84, controller);
-    tells(&rt, 0x92, EndBody::Moved(all));
+    for (code, body) in [
+        (0x88, EndBody::Bare),
+        (0x84, controller),
+        (0x92, EndBody::Moved(all)),
+    ] {
+        let wanted = End {
+            unit: 0xFFFF,
+            ..ended(all, code, 0xFFFF, body)
+        };
+        same_of(&rt, code, read_end(&ones(code)), Ok(wanted));
+    }
 }
 
 /// Bytes that are all zeros but for the opcode or endcode.
