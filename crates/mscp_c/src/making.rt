@@ -39,7 +39,7 @@ pub(crate) fn config_of(limits: &Limits, units: &[UnitIn]) -> Result<Config, Ini
     ensures { result ≡ config_answer limits.now units.now }
 {
     let units = units_of(units)?;
-    Config::new(
+    match Config::new(
         limits.credits,
         limits.second,
         limits.budget,
@@ -47,8 +47,10 @@ pub(crate) fn config_of(limits: &Limits, units: &[UnitIn]) -> Result<Config, Ini
         limits.timeout,
         limits.id,
         units,
-    )
-    .map_err(InitFault::Limits)
+    ) {
+        Ok(config) => Ok(config),
+        Err(fault) => Err(InitFault::Limits(fault)),
+    }
 }
 
 /// Makes a controller in the room that the handle has, or says why not, and then nothing changes.
@@ -65,10 +67,16 @@ fn init(
     if let Some(fault) = room_fault(handle) {
         return Err(InitFault::Room(fault));
     }
-    let policy = policy_of(picker).ok_or(InitFault::Picker)?;
-    let config = config_of(limits, units)?;
-    place(handle, Controller::new(config, policy));
-    Ok(())
+    let Some(policy) = policy_of(picker) else {
+        return Err(InitFault::Picker);
+    };
+    match config_of(limits, units) {
+        Ok(config) => {
+            place(handle, Controller::new(config, policy));
+            Ok(())
+        }
+        Err(fault) => Err(fault),
+    }
 }
 
 /// Makes a controller of these limits and units in the room that the handle has.

@@ -53,7 +53,9 @@ fn init(
         Ok(config) => config,
         Err(fault) => return Err(PortInitFault::Controller(fault)),
     };
-    let hardware = hardware_of(hardware).ok_or(PortInitFault::Bus)?;
+    let Some(hardware) = hardware_of(hardware) else {
+        return Err(PortInitFault::Bus);
+    };
     if credits > 63 {
         return Err(PortInitFault::Credits);
     }

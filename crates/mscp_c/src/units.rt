@@ -96,7 +96,10 @@ pub(crate) fn units_of(given: &[UnitIn]) -> Result<Units, InitFault>
     }
     let mut list: ArrayVec<Unit, 16> = ArrayVec::new();
     for i in 0..given.len() {
-        list.push(unit_of(&given[i]).map_err(InitFault::Unit)?);
+        match unit_of(&given[i]) {
+            Ok(unit) => list.push(unit),
+            Err(fault) => return Err(InitFault::Unit(fault)),
+        }
     }
     match Units::new(list.as_slice()) {
         Ok(units) => Ok(units),
