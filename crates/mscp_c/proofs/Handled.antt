@@ -30,9 +30,8 @@ use Rattle.mscp_controller.specs.Calls as calls
 use Rattle.mscp_controller.specs.Calls.{AnsweredCalls, AnswersCall, Call, history}
 use Rattle.mscp_controller.specs.Controllers.{ControllersKeepThePromise}
 use Rattle.mscp_controller.proofs.Bridge.Owning.{owner_kept}
-use Rattle.mscp_memory.specs.declared.controller.handle.Handle.{Handle}
+use Rattle.mscp_memory.specs.ControllerHandles.{Handle, Held}
 use Rattle.mscp_memory.specs.declared.policy.Policy.{Policy}
-use Rattle.mscp_memory.specs.ControllerRoom.{Held}
 use Rattle.mscp_memory.specs.Policies.{PolicyPicks}
 use Rattle.mscp_c.specs.declared.outs.HolderOut.{HolderOut}
 use Rattle.mscp_c.specs.declared.outs.PacketOut.{PacketOut}

@@ -1,5 +1,7 @@
 pub mod Policies
 pub mod PortHandled
+pub mod Lent
+pub mod PortLent
 pub mod Ascending
 pub mod Configured
 pub mod Handled

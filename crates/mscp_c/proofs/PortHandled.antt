@@ -4,8 +4,7 @@ use Rattle.std.specs.Prelude.{MatchOption}
 use Rattle.mscp_port.specs.declared.action.Outcome.{Outcome}
 use Rattle.mscp_port.specs.Histories.{Answered, Becomes, Call}
 use Rattle.mscp_port.specs.Histories as calls
-use Rattle.mscp_memory.specs.declared.port.handle.Handle.{Handle}
-use Rattle.mscp_memory.specs.PortRoom.{Held}
+use Rattle.mscp_memory.specs.PortHandles.{Handle, Held}
 use Rattle.mscp_c.specs.declared.status.TheConstants.{BAD_OUTCOME}
 use Rattle.mscp_c.specs.PortGiven.{outcome_given}
 use Rattle.mscp_c.specs.PortHandleCalls.{AnsweredByHandle, AnswersHandle, HandleCall, KeepsPortPromise, LookAgain, Next, ReadIp, ReadSa, Resume, Tells, TellsOutcome, Tick, VolumeCame, VolumeWent, WasRead, Went, WriteIp, WriteSa}

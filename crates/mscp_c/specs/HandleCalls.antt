@@ -22,10 +22,8 @@ use Rattle.mscp_controller.specs.Holders.{holders_of}
 use Rattle.mscp_controller.specs.Calls as calls
 use Rattle.mscp_controller.specs.Calls.{Call, history}
 use Rattle.mscp_controller.specs.Controllers.{KeepsPromise, drive_now}
-use Rattle.mscp_memory.specs.declared.controller.handle.Handle.{Handle}
+use Rattle.mscp_memory.specs.ControllerHandles.{Handle, Held, with_held}
 use Rattle.mscp_memory.specs.declared.policy.Policy.{Policy}
-use Rattle.mscp_memory.specs.ControllerHandles.{with_held}
-use Rattle.mscp_memory.specs.ControllerRoom.{Held}
 use Rattle.mscp_memory.specs.Policies.{PolicyPicks}
 use Rattle.mscp_c.specs.declared.status.TheConstants.{BAD_CONNECTION, BAD_STATUS}
 use Rattle.mscp_c.specs.declared.outs.SentOut.{SentOut}

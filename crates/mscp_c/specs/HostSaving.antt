@@ -4,8 +4,7 @@ use Rattle.mscp_host.specs.declared.restoring.RestoreFault.{RestoreFault}
 use Rattle.mscp_host.specs.Accounts.{Account}
 use Rattle.mscp_host.specs.Restored.{restored}
 use Rattle.mscp_memory.specs.declared.fault.RoomFault.{RoomFault}
-use Rattle.mscp_memory.specs.declared.host.handle.Handle.{Handle}
-use Rattle.mscp_memory.specs.HostHandles.{placed, room_fault}
+use Rattle.mscp_memory.specs.HostHandles.{Handle, placed, room_fault}
 use Rattle.mscp_c.specs.declared.status.TheConstants.{DONE}
 use Rattle.mscp_c.specs.Statuses.{host_restore_code, room_code}
 

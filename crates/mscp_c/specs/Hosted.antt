@@ -15,8 +15,7 @@ use Rattle.mscp_host.specs.declared.news.Poll.{Poll}
 use Rattle.mscp_host.specs.declared.news.Poll.TheVariants as polls
 use Rattle.mscp_host.specs.Accounts.{Account, fresh, submits}
 use Rattle.mscp_memory.specs.declared.fault.RoomFault.{RoomFault}
-use Rattle.mscp_memory.specs.declared.host.handle.Handle.{Handle}
-use Rattle.mscp_memory.specs.HostHandles.{placed, room_fault}
+use Rattle.mscp_memory.specs.HostHandles.{Handle, placed, room_fault}
 use Rattle.mscp_c.specs.declared.status.TheConstants as status
 use Rattle.mscp_c.specs.declared.outs.PacketOut.{PacketOut}
 use Rattle.mscp_c.specs.declared.outs.NewsOut.{NewsOut}

@@ -2,9 +2,8 @@
 use Rattle.std.specs.Prelude.{ℕ, ℤ, List, Option, Some, None, is_none, option_map, unwrap_or, Result, Ok, Err}
 use Rattle.mscp_controller.specs.Holdings.{fresh}
 use Rattle.mscp_events.specs.Settings.{Settings, limit_fault}
-use Rattle.mscp_memory.specs.declared.controller.handle.Handle.{Handle}
+use Rattle.mscp_memory.specs.ControllerHandles.{Handle, placed, room_fault}
 use Rattle.mscp_memory.specs.declared.policy.Policy.TheVariants.{Oldest}
-use Rattle.mscp_memory.specs.ControllerHandles.{placed, room_fault}
 use Rattle.mscp_c.specs.declared.status.TheConstants.{DONE, BAD_PICKER}
 use Rattle.mscp_c.specs.declared.units.Limits.{Limits}
 use Rattle.mscp_c.specs.declared.units.UnitIn.{UnitIn}

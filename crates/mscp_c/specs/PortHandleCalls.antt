@@ -7,8 +7,7 @@ use Rattle.mscp_port.specs.declared.port.watching.NoUnit.{NoUnit}
 use Rattle.mscp_port.specs.Calls as ports
 use Rattle.mscp_port.specs.Histories.{Answered, Call}
 use Rattle.mscp_port.specs.Histories as calls
-use Rattle.mscp_memory.specs.declared.port.handle.Handle.{Handle}
-use Rattle.mscp_memory.specs.PortRoom.{Held}
+use Rattle.mscp_memory.specs.PortHandles.{Handle, Held}
 use Rattle.mscp_c.specs.declared.outs.ActionOut.{ActionOut}
 use Rattle.mscp_c.specs.declared.status.TheConstants.{BAD_OUTCOME, DONE}
 use Rattle.mscp_c.specs.PortGiven.{outcome_given}

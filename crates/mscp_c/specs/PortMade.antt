@@ -1,7 +1,6 @@
 -- What comes of an init of a port.
 use Rattle.std.specs.Prelude.{ℕ, ℤ, ◌||◌, Bool, true, false, List, Option, Some, None, is_none, nat_eq, nat_le, option_map, Result, Ok, Err}
-use Rattle.mscp_memory.specs.declared.port.handle.Handle.{Handle}
-use Rattle.mscp_memory.specs.PortHandles.{room_fault}
+use Rattle.mscp_memory.specs.PortHandles.{Handle, room_fault}
 use Rattle.mscp_c.specs.declared.port_given.HardwareIn.{HardwareIn}
 use Rattle.mscp_c.specs.declared.port_given.PortInitFault.{PortInitFault}
 use Rattle.mscp_c.specs.declared.port_given.PortInitFault.TheVariants as faults

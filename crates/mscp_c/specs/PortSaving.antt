@@ -3,9 +3,7 @@ use Rattle.std.specs.Prelude.{ℕ, ℤ, ◌+◌, nat_eq, if◌then◌else◌, Li
 use Rattle.mscp_memory.specs.declared.fault.RoomFault.{RoomFault}
 use Rattle.mscp_memory.specs.declared.policy.Policy.{Policy}
 use Rattle.mscp_memory.specs.declared.policy.Policy.TheVariants.{Oldest, Sweep}
-use Rattle.mscp_memory.specs.declared.port.handle.Handle.{Handle}
-use Rattle.mscp_memory.specs.PortHandles.{placed, room_fault}
-use Rattle.mscp_memory.specs.PortRoom.{Held}
+use Rattle.mscp_memory.specs.PortHandles.{Handle, Held, placed, room_fault}
 use Rattle.mscp_port.specs.declared.port.restoring.RestoreFault.{RestoreFault}
 use Rattle.mscp_port.specs.Restored.{controller_place, restored}
 use Rattle.mscp_port.specs.Saved.{saved_bytes}

@@ -7,10 +7,8 @@ use Rattle.mscp_port.specs.declared.action.Unasked.{Unasked}
 use Rattle.mscp_port.specs.declared.port.watching.NoUnit.{NoUnit}
 use Rattle.mscp_port.specs.declared.task.Task.TheVariants as tasks
 use Rattle.mscp_port.specs.Calls as ports
-use Rattle.mscp_memory.specs.declared.port.handle.Handle.{Handle}
+use Rattle.mscp_memory.specs.PortHandles.{Handle, Held, placed, with_held}
 use Rattle.mscp_memory.specs.declared.policy.Policy.TheVariants.{Oldest}
-use Rattle.mscp_memory.specs.PortHandles.{placed, with_held}
-use Rattle.mscp_memory.specs.PortRoom.{Held}
 use Rattle.mscp_memory.specs.Policies.{PolicyPicks}
 use Rattle.mscp_port.specs.Moved.{BeginsBlock, Moves}
 use Rattle.mscp_port.specs.Ports.{IsAlive, IsOfBlock}

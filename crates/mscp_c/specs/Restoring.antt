@@ -2,7 +2,7 @@
 use Rattle.std.specs.Prelude.{ℕ, nat_eq, if◌then◌else◌, List, slice_index, Result}
 use Rattle.mscp_memory.specs.declared.policy.Policy.{Policy}
 use Rattle.mscp_memory.specs.declared.policy.Policy.TheVariants.{Oldest, Sweep}
-use Rattle.mscp_memory.specs.ControllerRoom.{Held}
+use Rattle.mscp_memory.specs.ControllerHandles.{Held}
 use Rattle.mscp_saved.specs.declared.fault.RestoreFault.{RestoreFault}
 use Rattle.mscp_saved.specs.Restored.{restored}
 use Rattle.mscp_saved.specs.Saved.{saved_bytes}

@@ -1,9 +1,7 @@
 -- What comes of a save and of a restore of a controller.
 use Rattle.std.specs.Prelude.{ℕ, Bool, nat_le, ℤ, if◌then◌else◌, List, ◌++◌, length, drop, Option, Some, None, Result, Ok, Err}
 use Rattle.mscp_memory.specs.declared.fault.RoomFault.{RoomFault}
-use Rattle.mscp_memory.specs.declared.controller.handle.Handle.{Handle}
-use Rattle.mscp_memory.specs.ControllerHandles.{placed, room_fault}
-use Rattle.mscp_memory.specs.ControllerRoom.{Held}
+use Rattle.mscp_memory.specs.ControllerHandles.{Handle, Held, placed, room_fault}
 use Rattle.mscp_saved.specs.declared.fault.RestoreFault.{RestoreFault}
 use Rattle.mscp_c.specs.declared.status.TheConstants.{DONE, SMALL}
 use Rattle.mscp_c.specs.Restoring.{restored_by}

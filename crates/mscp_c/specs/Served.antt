@@ -7,9 +7,8 @@ use Rattle.mscp_queue.specs.declared.upcoming.Upcoming.{Upcoming}
 use Rattle.mscp_queue.specs.Names.{name_on}
 use Rattle.mscp_controller.specs.declared.entry.NotBegun.{NotBegun}
 use Rattle.mscp_controller.specs.Holdings as controllers
-use Rattle.mscp_memory.specs.declared.controller.handle.Handle.{Handle}
+use Rattle.mscp_memory.specs.ControllerHandles.{Handle, with_held}
 use Rattle.mscp_memory.specs.Policies.{PolicyPicks}
-use Rattle.mscp_memory.specs.ControllerHandles.{with_held}
 use Rattle.mscp_c.specs.declared.status.TheConstants.{NOT_BEGUN}
 use Rattle.mscp_c.specs.declared.outs.UpcomingOut.{UpcomingOut}
 use Rattle.mscp_c.specs.declared.outs.ReportOut.{ReportOut}

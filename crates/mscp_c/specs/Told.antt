@@ -19,7 +19,7 @@ use Rattle.mscp_queue.specs.Why.{holders_of_name}
 use Rattle.mscp_controller.specs.declared.entry.SendFault.{SendFault}
 use Rattle.mscp_controller.specs.declared.entry.Sent.{Sent}
 use Rattle.mscp_controller.specs.declared.entry.Sent.TheVariants.{Queued, Answered}
-use Rattle.mscp_memory.specs.ControllerRoom.{Held}
+use Rattle.mscp_memory.specs.ControllerHandles.{Held}
 use Rattle.mscp_c.specs.declared.status.TheConstants as status
 use Rattle.mscp_c.specs.declared.outs.SentOut.{SentOut}
 use Rattle.mscp_c.specs.declared.outs.PacketOut.{PacketOut}

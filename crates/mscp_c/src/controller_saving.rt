@@ -2,8 +2,7 @@
 
 ghost use Rattle.std.specs.Prelude.{◌≡◌, true, false, Ok};
 ghost use Rattle.mscp_controller.specs.Holdings.{fresh};
-ghost use Rattle.mscp_memory.specs.ControllerHandles.{is_made, is_room, placed};
-ghost use Rattle.mscp_memory.specs.declared.controller.handle.Handle.{Handle};
+ghost use Rattle.mscp_memory.specs.ControllerHandles.{Handle, is_made, is_room, placed};
 ghost use Rattle.mscp_c.specs.HandleCalls as calls;
 ghost use Rattle.mscp_c.specs.HandleCalls.{AnswersHandle};
 ghost use Rattle.mscp_c.specs.Restoring.{policy_named, policy_number, restored_by, saved_by};

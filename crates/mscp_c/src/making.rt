@@ -2,8 +2,7 @@
 
 ghost use Rattle.std.specs.Prelude.{◌≡◌, true, false};
 ghost use Rattle.mscp_controller.specs.Holdings.{fresh};
-ghost use Rattle.mscp_memory.specs.ControllerRoom.{row_alignment, row_size};
-ghost use Rattle.mscp_memory.specs.ControllerHandles.{is_made, with_held};
+ghost use Rattle.mscp_memory.specs.ControllerHandles.{is_made, row_alignment, row_size, with_held};
 ghost use Rattle.mscp_c.specs.Made.{config_answer, init_answer, init_fault, inits, made_unless};
 
 use crate::status::{DONE, NOT_MADE, init_code};

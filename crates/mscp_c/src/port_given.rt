@@ -43,25 +43,19 @@ fn bus_of(number: u8) -> Option<Bus>
 pub(crate) fn hardware_of(given: &HardwareIn) -> Option<Hardware>
     ensures { result ≡ hardware_given given.now }
 {
-    match bus_of(given.bus) {
-        Some(bus) => Some(Hardware {
-            bus,
-            model: given.model,
-            software: given.software,
-            version: given.version,
-        }),
-        None => None,
-    }
+    Some(Hardware {
+        bus: bus_of(given.bus)?,
+        model: given.model,
+        software: given.software,
+        version: given.version,
+    })
 }
 
 /// A block that couldn't be moved, where this is the status of one.
 fn failed(status: u16) -> Option<Outcome>
     ensures { result ≡ fault_given status }
 {
-    match FaultStatus::new(status) {
-        Some(fault) => Some(Outcome::Failed(fault)),
-        None => None,
-    }
+    FaultStatus::new(status).map(Outcome::Failed)
 }
 
 /// How an action went, by this number, and by this status where its block couldn't be moved.

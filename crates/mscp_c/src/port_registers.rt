@@ -1,4 +1,5 @@
 // The registers of a port.
+#![tactic(auto, using(crate::proofs::Lent::lent_back))]
 
 ghost use Rattle.std.specs.Prelude.{◌≡◌, true, false, pos};
 ghost use Rattle.mscp_port.specs.Calls.{ReadsIp, WritesIp, WritesSa, sa_of};

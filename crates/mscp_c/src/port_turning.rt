@@ -8,7 +8,7 @@ ghost use Rattle.mscp_c.specs.PortServed.{TellsHeard, TellsWanted, TellsWent};
 use crate::outs::ActionOut;
 use crate::port_given::outcome_of;
 use crate::port_telling::tell_action;
-use crate::status::{BAD_OUTCOME, DONE, NOT_MADE, UNASKED};
+use crate::status::{BAD_OUTCOME, NOT_MADE, told_code};
 use mscp_memory::port::{Handle, is_made, lend};
 
 /// What the port wants done next.
@@ -34,10 +34,7 @@ pub extern "C" fn mscp_port_was_read_at(handle: &mut Handle, bytes: &[u8]) -> i3
     if !is_made(handle) {
         return NOT_MADE;
     }
-    match lend(handle).was_read(bytes) {
-        Ok(()) => DONE,
-        Err(_) => UNASKED,
-    }
+    told_code(lend(handle).was_read(bytes))
 }
 
 /// What the port wanted went so: by this number, and by this status where its block couldn't be moved.
@@ -55,8 +52,5 @@ pub extern "C" fn mscp_port_went(handle: &mut Handle, outcome: u32, status: u16)
     let Some(outcome) = outcome_of(outcome, status) else {
         return BAD_OUTCOME;
     };
-    match lend(handle).went(outcome) {
-        Ok(()) => DONE,
-        Err(_) => UNASKED,
-    }
+    told_code(lend(handle).went(outcome))
 }

@@ -5,7 +5,7 @@ ghost use Rattle.mscp_port.specs.Calls.{LooksAgain, Ticks};
 ghost use Rattle.mscp_memory.specs.PortHandles.{is_made};
 ghost use Rattle.mscp_c.specs.PortServed.{Holds, TellsVolume};
 
-use crate::status::{DONE, NOT_MADE, UNKNOWN_UNIT};
+use crate::status::{DONE, NOT_MADE, volume_code};
 use mscp_memory::port::{Handle, is_made, lend};
 
 /// The host may have given slots of its ring of ends back, of which nothing tells.
@@ -46,10 +46,7 @@ pub extern "C" fn mscp_port_volume_came(handle: &mut Handle, unit: u16, is_prote
     if !is_made(handle) {
         return NOT_MADE;
     }
-    match lend(handle).volume_came(unit, is_protected != 0) {
-        Ok(()) => DONE,
-        Err(_) => UNKNOWN_UNIT,
-    }
+    volume_code(lend(handle).volume_came(unit, is_protected != 0))
 }
 
 /// The volume of a unit went.
@@ -61,8 +58,5 @@ pub extern "C" fn mscp_port_volume_went(handle: &mut Handle, unit: u16) -> i32
     if !is_made(handle) {
         return NOT_MADE;
     }
-    match lend(handle).volume_went(unit) {
-        Ok(()) => DONE,
-        Err(_) => UNKNOWN_UNIT,
-    }
+    volume_code(lend(handle).volume_went(unit))
 }

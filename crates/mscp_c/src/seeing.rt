@@ -1,4 +1,5 @@
 // The calls that change nothing.
+#![tactic(auto, using(crate::proofs::Lent::lent_back))]
 
 ghost use Rattle.std.specs.Prelude.{◌≡◌, true, false, pos, length, IfSome, None};
 ghost use Rattle.mscp_queue.specs.Drives.{is_online_in};

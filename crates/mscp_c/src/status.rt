@@ -5,6 +5,7 @@ ghost use Rattle.mscp_c.specs.Statuses.{host_code, host_restore_code, limits_cod
 ghost use Rattle.mscp_c.specs.Made.{init_code};
 ghost use Rattle.mscp_c.specs.Running.{cause_code, show_code};
 ghost use Rattle.mscp_c.specs.PortMade.{port_init_code};
+ghost use Rattle.mscp_c.specs.PortServed.{told_code, volume_code};
 
 use crate::port_given::PortInitFault;
 use crate::units::InitFault;
@@ -12,7 +13,7 @@ use mscp_controller::{ConfigFault, SendFault};
 use mscp_drive::{UnitFault, UnitsFault};
 use mscp_host::{HostFault, RestoreFault as HostRestoreFault};
 use mscp_memory::RoomFault;
-use mscp_port::RestoreFault as PortRestoreFault;
+use mscp_port::{NoUnit, RestoreFault as PortRestoreFault, Unasked};
 use mscp_saved::RestoreFault;
 use mscp_script::{Cause, ShowFault};
 
@@ -334,6 +335,20 @@ pub(crate) fn port_restore_code(fault: PortRestoreFault) -> i32
         PortRestoreFault::Controller(fault) => restore_code(fault),
         PortRestoreFault::Form => SAVED_FORM,
     }
+}
+
+/// The status of what was told of a port's action.
+pub(crate) fn told_code(answer: Result<(), Unasked>) -> i32
+    ensures { result ≡ told_code answer }
+{
+    if answer.is_ok() { DONE } else { UNASKED }
+}
+
+/// The status of a volume that came or went.
+pub(crate) fn volume_code(answer: Result<(), NoUnit>) -> i32
+    ensures { result ≡ volume_code answer }
+{
+    if answer.is_ok() { DONE } else { UNKNOWN_UNIT }
 }
 
 /// The status of what is wrong in a line of a script.

@@ -114,10 +114,7 @@ pub(crate) fn tell_report(out: &mut ReportOut, report: &Report) -> i32
                 lbn: lbn.unwrap_or(0),
                 seek,
                 unit,
-                status: match ended {
-                    Some(end) => end.status,
-                    None => 0,
-                },
+                status: ended.map_or(0, |end| end.status),
                 touched: flag(lbn.is_some()),
                 started: flag(started),
                 ended: flag(ended.is_some()),
@@ -164,8 +161,5 @@ pub(crate) fn block_of(status: u16) -> Option<Block>
     if status == 0 {
         return Some(Block::Good);
     }
-    match FaultStatus::new(status) {
-        Some(fault) => Some(Block::Bad(fault)),
-        None => None,
-    }
+    FaultStatus::new(status).map(Block::Bad)
 }

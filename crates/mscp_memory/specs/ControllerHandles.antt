@@ -1,22 +1,45 @@
 -- What a handle on a controller's memory is.
-use Rattle.std.specs.Prelude.{Bool, Option, is_none}
-use Rattle.mscp_memory.specs.declared.controller.handle.Handle.{Handle}
-use Rattle.mscp_memory.specs.declared.controller.marks.TheConstants.{MADE}
+use Rattle.std.specs.Prelude.{ℕ, Bool, nat_eq, Option, is_none}
+use Rattle.std.specs.Borrow.{RattleType}
+use Rattle.mscp_controller.specs.Holdings.{Holdings}
+use Rattle.mscp_controller.specs.contracts.controller.Controller as controllers
+use Rattle.mscp_memory.specs.contracts.policy.Policy as policies
+use Rattle.mscp_memory.specs.declared.policy.Policy.{Policy}
+use Rattle.mscp_memory.specs.declared.controller.marks.TheConstants.{ROOM, MADE}
 use Rattle.mscp_memory.specs.declared.fault.RoomFault.{RoomFault}
-use Rattle.mscp_memory.specs.declared.head.Head.{Head}
-use Rattle.mscp_memory.specs.ControllerRoom.{Held, is_made_of, fault_of}
+use Rattle.mscp_memory.specs.declared.fault.Kind.{Kind}
+use Rattle.mscp_memory.specs.Rooms.{HandleOf, align_of, kind_fault, size_of}
 
--- what C said of it
-abbrev pub head_of : Handle → Head
-head_of h = record { address = h.address; length = h.length; mark = h.mark }
+-- what a controller holds, whose picker is chosen as it is made
+abbrev pub Held : Type 0
+Held = Holdings Policy
+
+-- how such a controller lies in memory
+abbrev pub row : RattleType
+row = controllers.the_row policies.the_row
+
+-- how many bytes such a controller takes, and what its address is a multiple of: the type's own
+abbrev pub row_size : ℕ
+row_size = size_of row
+
+abbrev pub row_alignment : ℕ
+row_alignment = align_of row
+
+-- the marks of handles on memory for one, and the room that it takes
+abbrev pub kind : Kind
+kind = record { room = ROOM; made = MADE; size = row_size; align = row_alignment }
+
+-- a handle, as callers see it
+abbrev pub Handle : Type 0
+Handle = HandleOf Held
 
 -- whether its memory holds a controller
 abbrev pub is_made : Handle → Bool
-is_made h = is_made_of h.mark
+is_made h = nat_eq h.mark MADE
 
 -- why its memory is no room for one, if it isn't
 abbrev pub room_fault : Handle → Option RoomFault
-room_fault h = fault_of h.address h.length h.mark
+room_fault h = kind_fault h.address h.length h.mark kind
 
 -- whether its memory is room for one
 abbrev pub is_room : Handle → Bool

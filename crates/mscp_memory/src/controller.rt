@@ -1,13 +1,9 @@
 //! A controller in memory.
 
+mod calls;
 mod handle;
-mod lending;
 mod marks;
-mod placing;
-mod reading;
 
+pub use crate::controller::calls::{is_made, lend, place, room_fault};
 pub use crate::controller::handle::Handle;
-pub use crate::controller::lending::lend;
 pub use crate::controller::marks::{ALIGN, MADE, ROOM, SIZE};
-pub use crate::controller::placing::place;
-pub use crate::controller::reading::{is_made, room_fault};

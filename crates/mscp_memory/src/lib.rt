@@ -3,7 +3,6 @@
 
 pub mod controller;
 mod fault;
-mod head;
 pub mod host;
 mod law;
 mod policy;

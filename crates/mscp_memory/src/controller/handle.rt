@@ -1,6 +1,6 @@
 // A handle on memory for a controller.
 
-ghost use Rattle.mscp_memory.specs.ControllerRoom.{Held};
+ghost use Rattle.mscp_memory.specs.ControllerHandles.{Held};
 
 use std::marker::Model;
 
@@ -16,14 +16,14 @@ pub struct Handle {
 }
 
 impl Model for Handle {
-    ghost use base.Fml.{ftrue};
-    ghost use Rattle.std.specs.Prelude.{is_none};
-    ghost use Rattle.std.specs.Borrow.{full_share};
-    ghost use Rattle.std.specs.Ptr.{lies_at, room_at};
-    ghost use Rattle.mscp_memory.specs.Rooms.{if_fml};
-    ghost use Rattle.mscp_memory.specs.ControllerRoom.{fault_of, is_made_of, row};
+    ghost use Rattle.mscp_memory.specs.Rooms.{HandleOf, owned_by};
+    ghost use Rattle.mscp_memory.specs.ControllerHandles.{Held, kind, row};
 
-    ghost also_owns = { λ h.
-        if_fml (is_made_of h.mark) (lies_at row full_share h.at h.held)
-        (if_fml (is_none (fault_of h.address h.length h.mark)) (room_at row h.at) ftrue) };
+    ghost Value = { HandleOf Held };
+
+    ghost view = { λ h. record { at = h.at; address = h.address; length = h.length; mark = h.mark; held = h.held } };
+
+    ghost inverse = { λ h. record { at = h.at; address = h.address; length = h.length; mark = h.mark; held = h.held } };
+
+    ghost also_owns = { λ h. owned_by row kind (view h) };
 }

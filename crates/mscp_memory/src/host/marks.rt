@@ -1,6 +1,6 @@
 // The marks of handles, and the room that a host takes.
 
-use crate::head::Kind;
+use crate::fault::Kind;
 use mscp_host::Host;
 use std::mem::{align_of, size_of};
 

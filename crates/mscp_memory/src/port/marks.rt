@@ -1,6 +1,6 @@
 // The marks of handles, and the room that a port takes.
 
-use crate::head::Kind;
+use crate::fault::Kind;
 use crate::policy::Policy;
 use mscp_port::Port;
 use std::mem::{align_of, size_of};

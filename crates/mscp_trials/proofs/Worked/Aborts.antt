@@ -39,14 +39,12 @@ passer =
     ∷ looked ((1, 5) ∷ [])
     ∷ []
 
-pub passer_legal : IsLegal (settings 5 1) passer
+passer_holds :
+    IsLegal (settings 5 1) passer
+    -- It was passed by all four all the same.
+    × (passed passer 3 ≡ 4)
 unfolding answers_by
-passer_legal = legal_by (settings 5 1) passer (0 ∷ 4 ∷ []) refl
-
--- It was passed by all four all the same.
-passer_passed : passed passer 3 ≡ 4
-unfolding answers_by
-passer_passed = refl
+passer_holds = (legal_by (settings 5 1) passer (0 ∷ 4 ∷ []) refl, refl)
 
 -- The same with a budget of four: one step is left for the first, which nobody may pass any more.
 abbrev pub spent : Trace
@@ -61,14 +59,12 @@ spent =
     ∷ looked ((1, 1) ∷ [])
     ∷ []
 
-pub spent_legal : IsLegal (with_budget 5 4) spent
+spent_holds :
+    IsLegal (with_budget 5 4) spent
+    -- With a budget of three the second, which weighs four, may not start before the first.
+    × (startable (with_budget 5 3) (take 5 spent) ≡ 3 ∷ [])
 unfolding answers_by
-spent_legal = legal_by (with_budget 5 4) spent (0 ∷ 4 ∷ []) refl
-
--- With a budget of three the second, which weighs four, may not start before the first.
-too_heavy : startable (with_budget 5 3) (take 5 spent) ≡ 3 ∷ []
-unfolding answers_by
-too_heavy = refl
+spent_holds = (legal_by (with_budget 5 4) spent (0 ∷ 4 ∷ []) refl, refl)
 
 -- The same where the first, which waits, is aborted: the figure of that in service stays.
 abbrev pub overtaken : Trace

@@ -49,14 +49,12 @@ begun_and_aborted =
     ∷ Finish First 2 Good (Ok (reports.Served First 2 0 (Some 0) true 0 (moved 2 0 0 512)))
     ∷ []
 
-begun_legal : IsLegal (settings 8 8) (history begun_and_aborted)
+begun_and_told :
+    IsLegal (settings 8 8) (history begun_and_aborted)
+    -- It is told of the far one,
+    × IsForetold (settings 8 8) (history (take 4 begun_and_aborted)) (Some (one_block 1 60))
 unfolding answers_by cost swept
-begun_legal = legal_by (settings 8 8) (history begun_and_aborted) (0 ∷ 4 ∷ []) refl
-
--- It is told of the far one,
-far_told : IsForetold (settings 8 8) (history (take 4 begun_and_aborted)) (Some (one_block 1 60))
-unfolding answers_by cost swept
-far_told = (3, refl, refl, refl)
+begun_and_told = (legal_by (settings 8 8) (history begun_and_aborted) (0 ∷ 4 ∷ []) refl, (3, refl, refl, refl))
 
 -- which is begun when the near one has come, though the sweep would start that one.
 far_begun : IsBegunSince (take 6 begun_and_aborted) (one_block 1 60) 3 4
@@ -90,15 +88,13 @@ other_block_unserved h = let e = ap (λ o. unwrap_or o 1) (h (one_block 1 60) 3 
 far_can_finish : HoldsToBegun (take 6 begun_and_aborted) (Finish First 1 Good (Err not_begun)) → ⊥
 far_can_finish h = h (one_block 1 60) 3 4 far_begun refl
 
--- Once it is aborted it is begun no more,
-far_aborted : is_waiting (history (take 8 begun_and_aborted)) 3 ≡ false
+near_next :
+    -- Once it is aborted it is begun no more,
+    (is_waiting (history (take 8 begun_and_aborted)) 3 ≡ false)
+    -- the near one is told then,
+    × IsForetold (settings 8 8) (history (take 9 begun_and_aborted)) (Some (one_block 2 0))
 unfolding answers_by cost swept
-far_aborted = refl
-
--- the near one is told then,
-near_told : IsForetold (settings 8 8) (history (take 9 begun_and_aborted)) (Some (one_block 2 0))
-unfolding answers_by cost swept
-near_told = (4, refl, refl, refl)
+near_next = (refl, (4, refl, refl, refl))
 
 -- and what is finished is that one.
 near_finished : IsBegun (take 10 begun_and_aborted) (name_on First 2)

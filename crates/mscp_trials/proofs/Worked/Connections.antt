@@ -63,20 +63,15 @@ shared =
     ∷ took Second ((1 ∷ 0 ∷ 0 ∷ 0 ∷ 0 ∷ 0 ∷ 0 ∷ 0 ∷ 0xA1 ∷ 0 ∷ 0 ∷ 0 ∷ 0 ∷ 2 ∷ 0 ∷ 0 ∷ []) ++ replicate 16 0)
     ∷ []
 
-shared_legal : IsLegal (of_both 4) shared
+shared_holds :
+    IsLegal (of_both 4) shared
+    -- The end of the ONLINE is the first host's, who didn't take it.
+    × ((balance (of_both 4) First shared ≡ 3) × (balance (of_both 4) Second shared ≡ 4))
+    -- A reference number of the other host is none of one's own.
+    × ((outstanding (of_both 4) First (take 3 shared) ≡ 1 ∷ [])
+    × (outstanding (of_both 4) Second (take 3 shared) ≡ 1 ∷ 2 ∷ []))
 unfolding answers_by
-shared_legal = legal_by (of_both 4) shared (0 ∷ 1 ∷ []) refl
-
--- The end of the ONLINE is the first host's, who didn't take it.
-shared_balances : (balance (of_both 4) First shared ≡ 3) × (balance (of_both 4) Second shared ≡ 4)
-unfolding answers_by
-shared_balances = (refl, refl)
-
--- A reference number of the other host is none of one's own.
-outstanding_apart : (outstanding (of_both 4) First (take 3 shared) ≡ 1 ∷ [])
-    × (outstanding (of_both 4) Second (take 3 shared) ≡ 1 ∷ 2 ∷ [])
-unfolding answers_by
-outstanding_apart = (refl, refl)
+shared_holds = (legal_by (of_both 4) shared (0 ∷ 1 ∷ []) refl, (refl, refl), (refl, refl))
 
 -- ---- what isn't right
 

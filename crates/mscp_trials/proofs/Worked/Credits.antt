@@ -22,14 +22,12 @@ last_credit =
     ∷ answered 4 0 (orders.Status 1)
     ∷ []
 
-pub last_credit_legal : IsLegal (settings 2 2) last_credit
+last_credit_holds :
+    IsLegal (settings 2 2) last_credit
+    -- One end is left.
+    × (balance (settings 2 2) First last_credit ≡ 0)
 unfolding answers_by
-last_credit_legal = legal_by (settings 2 2) last_credit [] refl
-
--- One end is left.
-last_credit_balance : balance (settings 2 2) First last_credit ≡ 0
-unfolding answers_by
-last_credit_balance = refl
+last_credit_holds = (legal_by (settings 2 2) last_credit [] refl, refl)
 
 -- A reference number may be used again once its end is taken.
 abbrev pub doubled : Trace
@@ -54,14 +52,12 @@ lengths =
     ∷ raw (replicate 65 0) (Err faults.Long)
     ∷ []
 
-pub lengths_legal : IsLegal (settings 4 2) lengths
+lengths_holds :
+    IsLegal (settings 4 2) lengths
+    -- All credits are there.
+    × (balance (settings 4 2) First lengths ≡ 4)
 unfolding answers_by
-lengths_legal = legal_by (settings 4 2) lengths [] refl
-
--- All credits are there.
-lengths_balance : balance (settings 4 2) First lengths ≡ 4
-unfolding answers_by
-lengths_balance = refl
+lengths_holds = (legal_by (settings 4 2) lengths [] refl, refl)
 
 -- Where nothing came there is nothing to serve, to take or to look at.
 abbrev pub nothing : Trace

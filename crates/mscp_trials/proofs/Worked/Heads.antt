@@ -25,24 +25,16 @@ up_and_down =
     ∷ served Good 2 0 (Some 100) true 3 (moved 2 0 0 512)
     ∷ []
 
-pub up_and_down_legal : IsLegal (settings 8 8) up_and_down
+up_and_down_holds :
+    IsLegal (settings 8 8) up_and_down
+    -- At first it goes up.
+    × (head (settings 8 8) (take 5 up_and_down) 0 ≡ record { cylinder = 10; up = true })
+    -- It goes on up.
+    × (head (settings 8 8) (take 9 up_and_down) 0 ≡ record { cylinder = 30; up = true })
+    -- Then it goes down.
+    × (head (settings 8 8) (take 10 up_and_down) 0 ≡ record { cylinder = 8; up = false })
 unfolding answers_by
-up_and_down_legal = legal_by (settings 8 8) up_and_down (0 ∷ 3 ∷ 6 ∷ 7 ∷ 5 ∷ []) refl
-
--- At first it goes up.
-up_and_down_up : head (settings 8 8) (take 5 up_and_down) 0 ≡ record { cylinder = 10; up = true }
-unfolding answers_by
-up_and_down_up = refl
-
--- It goes on up.
-up_and_down_on : head (settings 8 8) (take 9 up_and_down) 0 ≡ record { cylinder = 30; up = true }
-unfolding answers_by
-up_and_down_on = refl
-
--- Then it goes down.
-up_and_down_down : head (settings 8 8) (take 10 up_and_down) 0 ≡ record { cylinder = 8; up = false }
-unfolding answers_by
-up_and_down_down = refl
+up_and_down_holds = (legal_by (settings 8 8) up_and_down (0 ∷ 3 ∷ 6 ∷ 7 ∷ 5 ∷ []) refl, refl, refl, refl)
 
 -- A head that goes down to a transfer goes up with it to the next cylinder.
 abbrev pub carried : Trace
@@ -55,19 +47,14 @@ carried =
     ∷ served Good 2 0 (Some 40) false 1 (moved 2 0 0 1024)
     ∷ []
 
-pub carried_legal : IsLegal (settings 8 8) carried
+carried_holds :
+    IsLegal (settings 8 8) carried
+    -- The transfer began on the way down.
+    × (head (settings 8 8) (take 7 carried) 0 ≡ record { cylinder = 1; up = false })
+    -- Its later block does not turn the head.
+    × (head (settings 8 8) carried 0 ≡ record { cylinder = 2; up = false })
 unfolding answers_by
-carried_legal = legal_by (settings 8 8) carried (0 ∷ 3 ∷ 5 ∷ 5 ∷ []) refl
-
--- The transfer began on the way down.
-carried_started : head (settings 8 8) (take 7 carried) 0 ≡ record { cylinder = 1; up = false }
-unfolding answers_by
-carried_started = refl
-
--- Its later block does not turn the head.
-carried_keeps : head (settings 8 8) carried 0 ≡ record { cylinder = 2; up = false }
-unfolding answers_by
-carried_keeps = refl
+carried_holds = (legal_by (settings 8 8) carried (0 ∷ 3 ∷ 5 ∷ 5 ∷ []) refl, refl, refl)
 
 -- A bad block is touched too: the head is on its cylinder.
 abbrev pub bad_touched : Trace
@@ -77,14 +64,12 @@ bad_touched =
     ∷ served (Bad 0x000B) 1 0 (Some 800) true 40 (moved 1 0 0x000B 0)
     ∷ []
 
-pub bad_touched_legal : IsLegal (settings 4 2) bad_touched
+bad_touched_holds :
+    IsLegal (settings 4 2) bad_touched
+    -- The head is there.
+    × (head (settings 4 2) bad_touched 0 ≡ record { cylinder = 40; up = true })
 unfolding answers_by
-bad_touched_legal = legal_by (settings 4 2) bad_touched (0 ∷ 3 ∷ []) refl
-
--- The head is there.
-bad_touched_head : head (settings 4 2) bad_touched 0 ≡ record { cylinder = 40; up = true }
-unfolding answers_by
-bad_touched_head = refl
+bad_touched_holds = (legal_by (settings 4 2) bad_touched (0 ∷ 3 ∷ []) refl, refl)
 
 -- Two units: orders of one do not hold up the other, and each has its own head.
 abbrev pub two_heads : Trace
@@ -116,21 +101,13 @@ two_heads =
     ∷ served Good 3 0 (Some 0) true 20 (moved 3 0 0 512)
     ∷ []
 
-pub two_heads_legal : IsLegal (two_units 8 2) two_heads
+two_heads_holds :
+    IsLegal (two_units 8 2) two_heads
+    -- The first read of each unit may start.
+    × (startable (two_units 8 2) (take 10 two_heads) ≡ 6 ∷ 9 ∷ [])
+    -- The head of the first unit went up and down.
+    × (head (two_units 8 2) two_heads 0 ≡ record { cylinder = 0; up = false })
+    -- That of the second never moved.
+    × (head (two_units 8 2) two_heads 1 ≡ record { cylinder = 0; up = true })
 unfolding answers_by
-two_heads_legal = legal_by (two_units 8 2) two_heads (0 ∷ 1 ∷ 9 ∷ 6 ∷ 7 ∷ 8 ∷ []) refl
-
--- The first read of each unit may start.
-two_heads_startable : startable (two_units 8 2) (take 10 two_heads) ≡ 6 ∷ 9 ∷ []
-unfolding answers_by
-two_heads_startable = refl
-
--- The head of the first unit went up and down.
-two_heads_first : head (two_units 8 2) two_heads 0 ≡ record { cylinder = 0; up = false }
-unfolding answers_by
-two_heads_first = refl
-
--- That of the second never moved.
-two_heads_second : head (two_units 8 2) two_heads 1 ≡ record { cylinder = 0; up = true }
-unfolding answers_by
-two_heads_second = refl
+two_heads_holds = (legal_by (two_units 8 2) two_heads (0 ∷ 1 ∷ 9 ∷ 6 ∷ 7 ∷ 8 ∷ []) refl, refl, refl, refl)

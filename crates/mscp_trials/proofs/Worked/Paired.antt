@@ -99,37 +99,30 @@ second_told : figure_told both Second paired 6 ≡ 20
 unfolding answers_by outstanding
 second_told = refl
 
--- the first end is that of the first host's poll, and none of the second's, though that has the same number
-first_handed : handed_over First paired 7 ≡ Some 5
+handed :
+    -- the first end is that of the first host's poll, and none of the second's, though that has the same number
+    (handed_over First paired 7 ≡ Some 5)
+    × (handed_over Second paired 7 ≡ None)
+    × (handed_over Second paired 8 ≡ Some 6)
 unfolding outstanding
-first_handed = refl
+handed = (refl, refl, refl)
 
-second_unhanded : handed_over Second paired 7 ≡ None
-unfolding outstanding
-second_unhanded = refl
-
-second_handed : handed_over Second paired 8 ≡ Some 6
-unfolding outstanding
-second_handed = refl
-
--- then the first keeps what it was told
-first_kept : account_at both First paired 8 ≡ record {
-  credits = 4;
-  outstanding = record { reference = 1; unit = 0; opcode = 0x21; told = Some 18 } ∷ [];
-  watch = None;
-}
+kept :
+    -- then the first keeps what it was told
+    (account_at both First paired 8 ≡ record {
+      credits = 4;
+      outstanding = record { reference = 1; unit = 0; opcode = 0x21; told = Some 18 } ∷ [];
+      watch = None;
+    })
+    -- and the second still waits for its answer
+    × (account_at both Second paired 8 ≡ record {
+      credits = 4;
+      outstanding = record { reference = 1; unit = 0; opcode = 0x21; told = None }
+          ∷ record { reference = 10; unit = 0; opcode = 0x02; told = None } ∷ [];
+      watch = Some (record { reference = 10; polled = 1; is_outstanding = true });
+    })
 unfolding answers_by outstanding
-first_kept = refl
-
--- and the second still waits for its answer
-second_kept : account_at both Second paired 8 ≡ record {
-  credits = 4;
-  outstanding = record { reference = 1; unit = 0; opcode = 0x21; told = None }
-      ∷ record { reference = 10; unit = 0; opcode = 0x02; told = None } ∷ [];
-  watch = Some (record { reference = 10; polled = 1; is_outstanding = true });
-}
-unfolding answers_by outstanding
-second_kept = refl
+kept = (refl, refl)
 
 -- where there is no second connection, nothing is kept for it
 absent_kept : account_at (settings 4 2) Second (hands First online_end news.Late ∷ []) 1 ≡ fresh 0

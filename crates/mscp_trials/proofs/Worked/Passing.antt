@@ -20,19 +20,14 @@ in_order =
     ∷ served Good 3 0 (Some 60) true 1 (moved 3 0 0 512)
     ∷ []
 
-pub in_order_legal : IsLegal (settings 5 0) in_order
+in_order_holds :
+    IsLegal (settings 5 0) in_order
+    -- Each time the first alone may start.
+    × (startable (settings 5 0) (take 6 in_order) ≡ 3 ∷ [])
+    -- Then the second.
+    × (startable (settings 5 0) (take 7 in_order) ≡ 4 ∷ [])
 unfolding answers_by
-in_order_legal = legal_by (settings 5 0) in_order (0 ∷ 3 ∷ 4 ∷ 5 ∷ []) refl
-
--- Each time the first alone may start.
-in_order_startable : startable (settings 5 0) (take 6 in_order) ≡ 3 ∷ []
-unfolding answers_by
-in_order_startable = refl
-
--- Then the second.
-in_order_startable_then : startable (settings 5 0) (take 7 in_order) ≡ 4 ∷ []
-unfolding answers_by
-in_order_startable_then = refl
+in_order_holds = (legal_by (settings 5 0) in_order (0 ∷ 3 ∷ 4 ∷ 5 ∷ []) refl, refl, refl)
 
 -- The same where one may be passed by a block: the second starts first, and then the first has to.
 abbrev pub passed_once : Trace
@@ -50,24 +45,16 @@ passed_once =
     ∷ looked []
     ∷ []
 
-pub passed_once_legal : IsLegal (with_budget 5 1) passed_once
+passed_once_holds :
+    IsLegal (with_budget 5 1) passed_once
+    -- At first any may start.
+    × (startable (with_budget 5 1) (take 7 passed_once) ≡ 3 ∷ 4 ∷ 5 ∷ [])
+    -- Then the first has nothing left of its budget.
+    × (startable (with_budget 5 1) (take 9 passed_once) ≡ 3 ∷ [])
+    -- It was passed by one block.
+    × (passed (take 9 passed_once) 3 ≡ 1)
 unfolding answers_by
-passed_once_legal = legal_by (with_budget 5 1) passed_once (0 ∷ 4 ∷ 3 ∷ 5 ∷ []) refl
-
--- At first any may start.
-passed_once_startable : startable (with_budget 5 1) (take 7 passed_once) ≡ 3 ∷ 4 ∷ 5 ∷ []
-unfolding answers_by
-passed_once_startable = refl
-
--- Then the first has nothing left of its budget.
-passed_once_startable_then : startable (with_budget 5 1) (take 9 passed_once) ≡ 3 ∷ []
-unfolding answers_by
-passed_once_startable_then = refl
-
--- It was passed by one block.
-passed_once_passes : passed (take 9 passed_once) 3 ≡ 1
-unfolding answers_by
-passed_once_passes = refl
+passed_once_holds = (legal_by (with_budget 5 1) passed_once (0 ∷ 4 ∷ 3 ∷ 5 ∷ []) refl, refl, refl, refl)
 
 -- The same where one may be passed by two blocks: both others start before the first.
 abbrev pub passed_twice : Trace
@@ -81,19 +68,14 @@ passed_twice =
     ∷ served Good 1 0 (Some 800) true 37 (moved 1 0 0 512)
     ∷ []
 
-pub passed_twice_legal : IsLegal (with_budget 5 2) passed_twice
+passed_twice_holds :
+    IsLegal (with_budget 5 2) passed_twice
+    -- The first was passed by two blocks.
+    × (passed (take 8 passed_twice) 3 ≡ 2)
+    -- The second, which started first, was never passed.
+    × (passed (take 8 passed_twice) 4 ≡ 0)
 unfolding answers_by
-passed_twice_legal = legal_by (with_budget 5 2) passed_twice (0 ∷ 4 ∷ 5 ∷ 3 ∷ []) refl
-
--- The first was passed by two blocks.
-passed_twice_passes : passed (take 8 passed_twice) 3 ≡ 2
-unfolding answers_by
-passed_twice_passes = refl
-
--- The second, which started first, was never passed.
-passed_twice_second : passed (take 8 passed_twice) 4 ≡ 0
-unfolding answers_by
-passed_twice_second = refl
+passed_twice_holds = (legal_by (with_budget 5 2) passed_twice (0 ∷ 4 ∷ 5 ∷ 3 ∷ []) refl, refl, refl)
 
 -- A start passes every earlier command that waits, not the oldest alone.
 abbrev pub passed_each : Trace
@@ -107,19 +89,14 @@ passed_each =
     ∷ served Good 1 0 (Some 800) true 36 (moved 1 0 0 512)
     ∷ []
 
-pub passed_each_legal : IsLegal (with_budget 8 1) passed_each
+passed_each_holds :
+    IsLegal (with_budget 8 1) passed_each
+    -- The second was passed by the fourth, as the first was.
+    × (passed (take 8 passed_each) 4 ≡ 1)
+    -- So the third may not start before the second.
+    × (startable (with_budget 8 1) (take 9 passed_each) ≡ 4 ∷ [])
 unfolding answers_by
-passed_each_legal = legal_by (with_budget 8 1) passed_each (0 ∷ 6 ∷ 3 ∷ []) refl
-
--- The second was passed by the fourth, as the first was.
-passed_each_passes : passed (take 8 passed_each) 4 ≡ 1
-unfolding answers_by
-passed_each_passes = refl
-
--- So the third may not start before the second.
-passed_each_startable : startable (with_budget 8 1) (take 9 passed_each) ≡ 4 ∷ []
-unfolding answers_by
-passed_each_startable = refl
+passed_each_holds = (legal_by (with_budget 8 1) passed_each (0 ∷ 6 ∷ 3 ∷ []) refl, refl, refl)
 
 -- A later command in service counts in the figure of an earlier one.
 abbrev pub overtaken : Trace

@@ -25,14 +25,12 @@ polled =
     ∷ took ((1 ∷ 0 ∷ 0 ∷ 0 ∷ 0 ∷ 0 ∷ 0 ∷ 0 ∷ 0xA1 ∷ 0 ∷ 0 ∷ 0 ∷ 0 ∷ 4 ∷ 0 ∷ 0 ∷ []) ++ replicate 16 0)
     ∷ []
 
-pub polled_legal : IsLegal (settings 4 0) polled
+polled_holds :
+    IsLegal (settings 4 0) polled
+    -- Before its first step two steps are left.
+    × (figure (settings 4 0) (take 4 polled) 3 ≡ 2)
 unfolding answers_by
-polled_legal = legal_by (settings 4 0) polled (0 ∷ 3 ∷ 3 ∷ []) refl
-
--- Before its first step two steps are left.
-polled_figure : figure (settings 4 0) (take 4 polled) 3 ≡ 2
-unfolding answers_by
-polled_figure = refl
+polled_holds = (legal_by (settings 4 0) polled (0 ∷ 3 ∷ 3 ∷ []) refl, refl)
 
 -- The same where one may be passed twice: each pass that may still come counts as the longest transfer. The
 -- head goes up two cylinders.
@@ -48,19 +46,14 @@ watched =
     ∷ took ((1 ∷ 0 ∷ 0 ∷ 0 ∷ 0 ∷ 0 ∷ 0 ∷ 0 ∷ 0xA1 ∷ 0 ∷ 0 ∷ 0 ∷ 0 ∷ 4 ∷ 0 ∷ 0 ∷ []) ++ replicate 16 0)
     ∷ []
 
-pub watched_legal : IsLegal (settings 4 2) watched
+watched_holds :
+    IsLegal (settings 4 2) watched
+    -- At first it is 2 * 8 + 2.
+    × (figure (settings 4 2) (take 4 watched) 3 ≡ 18)
+    -- Where everything was taken all credits are back.
+    × (balance (settings 4 2) First watched ≡ 4)
 unfolding answers_by
-watched_legal = legal_by (settings 4 2) watched (0 ∷ 3 ∷ 3 ∷ []) refl
-
--- At first it is 2 * 8 + 2.
-watched_figure : figure (settings 4 2) (take 4 watched) 3 ≡ 18
-unfolding answers_by
-watched_figure = refl
-
--- Where everything was taken all credits are back.
-watched_balance : balance (settings 4 2) First watched ≡ 4
-unfolding answers_by
-watched_balance = refl
+watched_holds = (legal_by (settings 4 2) watched (0 ∷ 3 ∷ 3 ∷ []) refl, refl, refl)
 
 -- A poll of a reference that nothing waits under is answered 0.
 abbrev pub unknown_polled : Trace

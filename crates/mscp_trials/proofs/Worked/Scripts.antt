@@ -51,39 +51,26 @@ reading = 0
 
 -- ---- lines, words and numbers
 
--- the last line may lack its line feed, and one carriage return is dropped at each line's end
-lines_cut : lines (codes "a" ++ 10 ∷ 10 ∷ codes "b" ++ 13 ∷ 10 ∷ 13 ∷ 13 ∷ []) ≡ codes "a" ∷ [] ∷ codes "b" ∷ (13 ∷ [])
-    ∷ []
+lines_are :
+    -- the last line may lack its line feed, and one carriage return is dropped at each line's end
+    (lines (codes "a" ++ 10 ∷ 10 ∷ codes "b" ++ 13 ∷ 10 ∷ 13 ∷ 13 ∷ []) ≡ codes "a" ∷ [] ∷ codes "b" ∷ (13 ∷ [])
+    ∷ [])
+    × (lines (codes "a" ++ 10 ∷ []) ≡ codes "a" ∷ [])
+    × (lines [] ≡ [])
 unfolding lines
-lines_cut = refl
-
-lines_ended : lines (codes "a" ++ 10 ∷ []) ≡ codes "a" ∷ []
-unfolding lines
-lines_ended = refl
-
-lines_of_nothing : lines [] ≡ []
-unfolding lines
-lines_of_nothing = refl
+lines_are = (refl, refl, refl)
 
 words_cut : words (codes "  step   12 ") ≡ codes "step" ∷ codes "12" ∷ []
 unfolding words
 words_cut = refl
 
-number_padded : number 4294967295 (codes "0000000012") ≡ Ok 12
+numbers_are :
+    (number 4294967295 (codes "0000000012") ≡ Ok 12)
+    × (number 4294967295 (codes "00000000012") ≡ Err causes.Number)
+    × (number 4294967295 (codes "4294967295") ≡ Ok 4294967295)
+    × (number 4294967295 (codes "4294967296") ≡ Err causes.Number)
 unfolding number
-number_padded = refl
-
-number_of_eleven : number 4294967295 (codes "00000000012") ≡ Err causes.Number
-unfolding number
-number_of_eleven = refl
-
-number_greatest : number 4294967295 (codes "4294967295") ≡ Ok 4294967295
-unfolding number
-number_greatest = refl
-
-number_past : number 4294967295 (codes "4294967296") ≡ Err causes.Number
-unfolding number
-number_past = refl
+numbers_are = (refl, refl, refl, refl)
 
 -- ---- scripts that are read
 
@@ -132,101 +119,68 @@ both_read = is_read (text both) (record (settings (shape 0 ∷ [])) { second = 3
 abbrev Faulty : List (List ℕ) → ℕ → Cause → Type 0
 Faulty all n cause = IsFault (text all) (at_line n cause)
 
--- a comment may be too long as well
-long_fault : Faulty (header ++ replicate 201 32 ∷ []) 7 causes.Long
-unfolding reading
-long_fault = is_fault (text (header ++ replicate 201 32 ∷ [])) (at_line 7 causes.Long) (lit≤ tt) refl
-
--- `second` alone
-alone_fault : Faulty (header ++ codes "second" ∷ []) 7 causes.Count
-unfolding reading
-alone_fault = is_fault (text (header ++ codes "second" ∷ [])) (at_line 7 causes.Count) (lit≤ tt) refl
-
--- `second` before a line that is of no host, whatever its fields are
-hostless_fault : Faulty (header ++ codes "second look 1" ∷ []) 7 causes.Word
-unfolding reading
-hostless_fault = is_fault (text (header ++ codes "second look 1" ∷ [])) (at_line 7 causes.Word) (lit≤ tt) refl
-
--- three numbers of credits
-three_fault : Faulty (codes "credits 4 4 4" ∷ []) 1 causes.Count
-unfolding reading
-three_fault = is_fault (text (codes "credits 4 4 4" ∷ [])) (at_line 1 causes.Count) (lit≤ tt) refl
-
--- a tab
-byte_fault : Faulty (header ++ (9 ∷ codes "take") ∷ []) 7 causes.Byte
-unfolding reading
-byte_fault = is_fault (text (header ++ (9 ∷ codes "take") ∷ [])) (at_line 7 causes.Byte) (lit≤ tt) refl
-
--- a line of the header that comes again
-again_fault : Faulty (header ++ codes "credits 4" ∷ []) 7 causes.Word
-unfolding reading
-again_fault = is_fault (text (header ++ codes "credits 4" ∷ [])) (at_line 7 causes.Word) (lit≤ tt) refl
-
--- another line of the header than is due
-word_first_fault : Faulty (codes "passing 0" ∷ []) 1 causes.Word
-unfolding reading
-word_first_fault = is_fault (text (codes "passing 0" ∷ [])) (at_line 1 causes.Word) (lit≤ tt) refl
-
--- spaces before what would be a comment
-word_comment_fault : Faulty (header ++ codes " # no comment" ∷ []) 7 causes.Word
-unfolding reading
-word_comment_fault = is_fault (text (header ++ codes " # no comment" ∷ [])) (at_line 7 causes.Word) (lit≤ tt) refl
-
--- a word too many
-count_fault : Faulty (header ++ codes "take 1" ∷ []) 7 causes.Count
-unfolding reading
-count_fault = is_fault (text (header ++ codes "take 1" ∷ [])) (at_line 7 causes.Count) (lit≤ tt) refl
-
--- too few words come before a wrong number
-count_first_fault : Faulty (header ++ codes "read 1 x" ∷ []) 7 causes.Count
-unfolding reading
-count_first_fault = is_fault (text (header ++ codes "read 1 x" ∷ [])) (at_line 7 causes.Count) (lit≤ tt) refl
-
--- no step
-zero_steps_fault : Faulty (header ++ codes "step 0" ∷ []) 7 causes.Number
-unfolding reading
-zero_steps_fault = is_fault (text (header ++ codes "step 0" ∷ [])) (at_line 7 causes.Number) (lit≤ tt) refl
-
--- an odd number of digits
-odd_digits_fault : Faulty (header ++ codes "packet abc" ∷ []) 7 causes.Hex
-unfolding reading
-odd_digits_fault = is_fault (text (header ++ codes "packet abc" ∷ [])) (at_line 7 causes.Hex) (lit≤ tt) refl
-
--- too few digits of a status
-hex_four_fault : Faulty (header ++ codes "bad 0" ∷ []) 7 causes.Hex
-unfolding reading
-hex_four_fault = is_fault (text (header ++ codes "bad 0" ∷ [])) (at_line 7 causes.Hex) (lit≤ tt) refl
-
--- code 4
-code_four_fault : Faulty (header ++ codes "bad 0004" ∷ []) 7 causes.Status
-unfolding reading
-code_four_fault = is_fault (text (header ++ codes "bad 0004" ∷ [])) (at_line 7 causes.Status) (lit≤ tt) refl
-
--- a size of zero
-no_size_fault : Faulty (limits_lines ++ codes "unit 0 0 2 1 1000" ∷ []) 5 causes.Unit
-unfolding reading
-no_size_fault = is_fault (text (limits_lines ++ codes "unit 0 0 2 1 1000" ∷ [])) (at_line 5 causes.Unit) (lit≤ tt) refl
-
--- a number that doesn't rise
-unit_again_fault : Faulty (limits_lines ++ codes "unit 3 10 2 1 1000" ∷ codes "unit 3 10 2 1 1000" ∷ []) 6 causes.Unit
-unfolding reading
-unit_again_fault =
-    is_fault (text (limits_lines ++ codes "unit 3 10 2 1 1000" ∷ codes "unit 3 10 2 1 1000" ∷ []))
-    (at_line 6 causes.Unit) (lit≤ tt) refl
-
--- one credit: at go, before what comes later
-one_credit_fault : Faulty (codes "credits 1" ∷ codes "passing 0" ∷ codes "longest 8" ∷ codes "timeout 60"
+faults_are :
+    -- a comment may be too long as well
+    Faulty (header ++ replicate 201 32 ∷ []) 7 causes.Long
+    -- `second` alone
+    × Faulty (header ++ codes "second" ∷ []) 7 causes.Count
+    -- `second` before a line that is of no host, whatever its fields are
+    × Faulty (header ++ codes "second look 1" ∷ []) 7 causes.Word
+    -- three numbers of credits
+    × Faulty (codes "credits 4 4 4" ∷ []) 1 causes.Count
+    -- a tab
+    × Faulty (header ++ (9 ∷ codes "take") ∷ []) 7 causes.Byte
+    -- a line of the header that comes again
+    × Faulty (header ++ codes "credits 4" ∷ []) 7 causes.Word
+    -- another line of the header than is due
+    × Faulty (codes "passing 0" ∷ []) 1 causes.Word
+    -- spaces before what would be a comment
+    × Faulty (header ++ codes " # no comment" ∷ []) 7 causes.Word
+    -- a word too many
+    × Faulty (header ++ codes "take 1" ∷ []) 7 causes.Count
+    -- too few words come before a wrong number
+    × Faulty (header ++ codes "read 1 x" ∷ []) 7 causes.Count
+    -- no step
+    × Faulty (header ++ codes "step 0" ∷ []) 7 causes.Number
+    -- an odd number of digits
+    × Faulty (header ++ codes "packet abc" ∷ []) 7 causes.Hex
+    -- too few digits of a status
+    × Faulty (header ++ codes "bad 0" ∷ []) 7 causes.Hex
+    -- code 4
+    × Faulty (header ++ codes "bad 0004" ∷ []) 7 causes.Status
+    -- a size of zero
+    × Faulty (limits_lines ++ codes "unit 0 0 2 1 1000" ∷ []) 5 causes.Unit
+    -- a number that doesn't rise
+    × Faulty (limits_lines ++ codes "unit 3 10 2 1 1000" ∷ codes "unit 3 10 2 1 1000" ∷ []) 6 causes.Unit
+    -- one credit: at go, before what comes later
+    × Faulty (codes "credits 1" ∷ codes "passing 0" ∷ codes "longest 8" ∷ codes "timeout 60"
     ∷ codes "unit 0 10 2 1 1000" ∷ codes "go" ∷ codes "wrong" ∷ []) 6 causes.Config
+    -- the script ends before go
+    × Faulty (limits_lines ++ [] ∷ []) 6 causes.Header
 unfolding reading
-one_credit_fault =
-    is_fault (text (codes "credits 1" ∷ codes "passing 0" ∷ codes "longest 8" ∷ codes "timeout 60"
-    ∷ codes "unit 0 10 2 1 1000" ∷ codes "go" ∷ codes "wrong" ∷ []))
-    (at_line 6 causes.Config) (lit≤ tt) refl
-
--- the script ends before go
-no_go_fault : Faulty (limits_lines ++ [] ∷ []) 6 causes.Header
-unfolding reading
-no_go_fault = is_fault (text (limits_lines ++ [] ∷ [])) (at_line 6 causes.Header) (lit≤ tt) refl
+faults_are = (
+  is_fault (text (header ++ replicate 201 32 ∷ [])) (at_line 7 causes.Long) (lit≤ tt) refl,
+  is_fault (text (header ++ codes "second" ∷ [])) (at_line 7 causes.Count) (lit≤ tt) refl,
+  is_fault (text (header ++ codes "second look 1" ∷ [])) (at_line 7 causes.Word) (lit≤ tt) refl,
+  is_fault (text (codes "credits 4 4 4" ∷ [])) (at_line 1 causes.Count) (lit≤ tt) refl,
+  is_fault (text (header ++ (9 ∷ codes "take") ∷ [])) (at_line 7 causes.Byte) (lit≤ tt) refl,
+  is_fault (text (header ++ codes "credits 4" ∷ [])) (at_line 7 causes.Word) (lit≤ tt) refl,
+  is_fault (text (codes "passing 0" ∷ [])) (at_line 1 causes.Word) (lit≤ tt) refl,
+  is_fault (text (header ++ codes " # no comment" ∷ [])) (at_line 7 causes.Word) (lit≤ tt) refl,
+  is_fault (text (header ++ codes "take 1" ∷ [])) (at_line 7 causes.Count) (lit≤ tt) refl,
+  is_fault (text (header ++ codes "read 1 x" ∷ [])) (at_line 7 causes.Count) (lit≤ tt) refl,
+  is_fault (text (header ++ codes "step 0" ∷ [])) (at_line 7 causes.Number) (lit≤ tt) refl,
+  is_fault (text (header ++ codes "packet abc" ∷ [])) (at_line 7 causes.Hex) (lit≤ tt) refl,
+  is_fault (text (header ++ codes "bad 0" ∷ [])) (at_line 7 causes.Hex) (lit≤ tt) refl,
+  is_fault (text (header ++ codes "bad 0004" ∷ [])) (at_line 7 causes.Status) (lit≤ tt) refl,
+  is_fault (text (limits_lines ++ codes "unit 0 0 2 1 1000" ∷ [])) (at_line 5 causes.Unit) (lit≤ tt) refl,
+  is_fault (text (limits_lines ++ codes "unit 3 10 2 1 1000" ∷ codes "unit 3 10 2 1 1000" ∷ []))
+      (at_line 6 causes.Unit) (lit≤ tt) refl,
+  is_fault (text (codes "credits 1" ∷ codes "passing 0" ∷ codes "longest 8"
+      ∷ codes "timeout 60" ∷ codes "unit 0 10 2 1 1000" ∷ codes "go" ∷ codes "wrong" ∷ []))
+      (at_line 6 causes.Config) (lit≤ tt) refl,
+  is_fault (text (limits_lines ++ [] ∷ [])) (at_line 6 causes.Header) (lit≤ tt) refl,
+)
 
 -- line 1,000,001, whatever stands in it
 lines_fault : (p : Place) (line : List ℕ) → after_line 1000000 p line ≡ Err causes.Lines

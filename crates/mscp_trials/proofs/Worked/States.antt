@@ -20,14 +20,12 @@ twice_online =
     ∷ took_online 1 0 1
     ∷ []
 
-pub twice_online_legal : IsLegal (settings 4 2) twice_online
+twice_online_holds :
+    IsLegal (settings 4 2) twice_online
+    -- The unit stays online.
+    × (is_online twice_online 0 ≡ true)
 unfolding answers_by
-twice_online_legal = legal_by (settings 4 2) twice_online (0 ∷ 3 ∷ []) refl
-
--- The unit stays online.
-twice_online_stays : is_online twice_online 0 ≡ true
-unfolding answers_by
-twice_online_stays = refl
+twice_online_holds = (legal_by (settings 4 2) twice_online (0 ∷ 3 ∷ []) refl, refl)
 
 -- Orders keep their places on a unit: a read between ONLINE and AVAILABLE finds it online, and one after them
 -- available.
@@ -47,24 +45,16 @@ made_available =
     ∷ took ((4 ∷ 0 ∷ 0 ∷ 0 ∷ 0 ∷ 0 ∷ 0 ∷ 0 ∷ 0xA1 ∷ 0 ∷ 4 ∷ 0 ∷ 0 ∷ 0 ∷ 0 ∷ 0 ∷ []) ++ replicate 16 0)
     ∷ []
 
-pub made_available_legal : IsLegal (settings 5 2) made_available
+made_available_holds :
+    IsLegal (settings 5 2) made_available
+    -- At first the ONLINE alone may start.
+    × (startable (settings 5 2) (take 4 made_available) ≡ 0 ∷ [])
+    -- After two steps the unit is online.
+    × (is_online (take 6 made_available) 0 ≡ true)
+    -- At last it is available.
+    × (is_online made_available 0 ≡ false)
 unfolding answers_by
-made_available_legal = legal_by (settings 5 2) made_available (0 ∷ 1 ∷ 2 ∷ 3 ∷ []) refl
-
--- At first the ONLINE alone may start.
-made_available_startable : startable (settings 5 2) (take 4 made_available) ≡ 0 ∷ []
-unfolding answers_by
-made_available_startable = refl
-
--- After two steps the unit is online.
-made_available_online : is_online (take 6 made_available) 0 ≡ true
-unfolding answers_by
-made_available_online = refl
-
--- At last it is available.
-made_available_then : is_online made_available 0 ≡ false
-unfolding answers_by
-made_available_then = refl
+made_available_holds = (legal_by (settings 5 2) made_available (0 ∷ 1 ∷ 2 ∷ 3 ∷ []) refl, refl, refl, refl)
 
 -- The same where the last read is of a far block, and that is bad: it is never touched, and the head stays.
 abbrev pub available_before_bad : Trace
@@ -83,14 +73,12 @@ available_before_bad =
     ∷ took ((4 ∷ 0 ∷ 0 ∷ 0 ∷ 0 ∷ 0 ∷ 0 ∷ 0 ∷ 0xA1 ∷ 0 ∷ 4 ∷ 0 ∷ 0 ∷ 0 ∷ 0 ∷ 0 ∷ []) ++ replicate 16 0)
     ∷ []
 
-pub available_before_bad_legal : IsLegal (settings 5 2) available_before_bad
+available_before_bad_holds :
+    IsLegal (settings 5 2) available_before_bad
+    -- The head is where it was.
+    × (head (settings 5 2) available_before_bad 0 ≡ record { cylinder = 0; up = true })
 unfolding answers_by
-available_before_bad_legal = legal_by (settings 5 2) available_before_bad (0 ∷ 1 ∷ 2 ∷ 3 ∷ []) refl
-
--- The head is where it was.
-available_before_bad_head : head (settings 5 2) available_before_bad 0 ≡ record { cylinder = 0; up = true }
-unfolding answers_by
-available_before_bad_head = refl
+available_before_bad_holds = (legal_by (settings 5 2) available_before_bad (0 ∷ 1 ∷ 2 ∷ 3 ∷ []) refl, refl)
 
 -- An ONLINE that goes wrong tells nothing, and leaves the unit available.
 abbrev pub bad_online : Trace
@@ -105,14 +93,12 @@ bad_online =
     ++ (replicate 8 0 ++ ((0x0A ∷ 0 ∷ 2 ∷ 0 ∷ 1 ∷ 0 ∷ []) ++ replicate 6 0)))))
     ∷ []
 
-pub bad_online_legal : IsLegal (settings 4 2) bad_online
+bad_online_holds :
+    IsLegal (settings 4 2) bad_online
+    -- The unit is available.
+    × (is_online bad_online 0 ≡ false)
 unfolding answers_by
-bad_online_legal = legal_by (settings 4 2) bad_online (0 ∷ []) refl
-
--- The unit is available.
-bad_online_state : is_online bad_online 0 ≡ false
-unfolding answers_by
-bad_online_state = refl
+bad_online_holds = (legal_by (settings 4 2) bad_online (0 ∷ []) refl, refl)
 
 -- An AVAILABLE that goes wrong leaves the unit online.
 abbrev pub bad_available : Trace
@@ -127,14 +113,12 @@ bad_available =
     ++ (replicate 8 0 ++ ((0x0A ∷ 0 ∷ 2 ∷ 0 ∷ 1 ∷ 0 ∷ []) ++ replicate 6 0)))))
     ∷ []
 
-pub bad_available_legal : IsLegal (settings 4 2) bad_available
+bad_available_holds :
+    IsLegal (settings 4 2) bad_available
+    -- The unit is online.
+    × (is_online bad_available 0 ≡ true)
 unfolding answers_by
-bad_available_legal = legal_by (settings 4 2) bad_available (0 ∷ 3 ∷ []) refl
-
--- The unit is online.
-bad_available_state : is_online bad_available 0 ≡ true
-unfolding answers_by
-bad_available_state = refl
+bad_available_holds = (legal_by (settings 4 2) bad_available (0 ∷ 3 ∷ []) refl, refl)
 
 -- What is told of a unit that is available.
 abbrev pub unit_asked : Trace
@@ -180,11 +164,9 @@ unit_set =
     ++ (replicate 8 0 ++ (0xE8 ∷ 3 ∷ 0 ∷ 0 ∷ 1 ∷ 0 ∷ 0 ∷ 0 ∷ [])))))
     ∷ []
 
-pub unit_set_legal : IsLegal (settings 4 2) unit_set
+unit_set_holds :
+    IsLegal (settings 4 2) unit_set
+    -- The unit is available.
+    × (is_online unit_set 0 ≡ false)
 unfolding answers_by
-unit_set_legal = legal_by (settings 4 2) unit_set (0 ∷ []) refl
-
--- The unit is available.
-unit_set_state : is_online unit_set 0 ≡ false
-unfolding answers_by
-unit_set_state = refl
+unit_set_holds = (legal_by (settings 4 2) unit_set (0 ∷ []) refl, refl)

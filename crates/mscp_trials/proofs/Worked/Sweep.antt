@@ -14,92 +14,56 @@ use Rattle.mscp_trials.proofs.Worked.Passing.{in_order, passed_once, passed_twic
 
 -- ---- a head that goes up serves what lies above it, turns, and serves what lies below
 
--- From cylinder 10 on the way up, to cylinders 5, 30 and 8.
-from_ten : map (cost (settings 8 8) (take 8 up_and_down)) (startable (settings 8 8) (take 8 up_and_down)) ≡ 83 ∷ 20 ∷ 80
-    ∷ []
+from_ten_and_on :
+    -- From cylinder 10 on the way up, to cylinders 5, 30 and 8.
+    (map (cost (settings 8 8) (take 8 up_and_down)) (startable (settings 8 8) (take 8 up_and_down)) ≡ 83 ∷ 20 ∷ 80
+    ∷ [])
+    -- So the third of the four comes first,
+    × (swept (settings 8 8) (take 8 up_and_down) ≡ Some 6)
+    -- from cylinder 30 the others are as far as the end of the unit and back,
+    × (map (cost (settings 8 8) (take 9 up_and_down)) (startable (settings 8 8) (take 9 up_and_down)) ≡ 63 ∷ 60
+    ∷ [])
+    -- the fourth comes then,
+    × (swept (settings 8 8) (take 9 up_and_down) ≡ Some 7)
+    -- and from cylinder 8 on the way down it is no way to cylinder 5.
+    × (map (cost (settings 8 8) (take 10 up_and_down)) (startable (settings 8 8) (take 10 up_and_down)) ≡ 3 ∷ [])
+    -- So the second comes last.
+    × (swept (settings 8 8) (take 10 up_and_down) ≡ Some 5)
+    -- Where nothing waits, nothing is swept.
+    × (swept (settings 8 8) up_and_down ≡ None)
 unfolding answers_by cost swept
-from_ten = refl
-
--- So the third of the four comes first,
-third_first : swept (settings 8 8) (take 8 up_and_down) ≡ Some 6
-unfolding answers_by cost swept
-third_first = refl
-
--- from cylinder 30 the others are as far as the end of the unit and back,
-from_thirty : map (cost (settings 8 8) (take 9 up_and_down)) (startable (settings 8 8) (take 9 up_and_down)) ≡ 63 ∷ 60
-    ∷ []
-unfolding answers_by cost swept
-from_thirty = refl
-
--- the fourth comes then,
-fourth_then : swept (settings 8 8) (take 9 up_and_down) ≡ Some 7
-unfolding answers_by cost swept
-fourth_then = refl
-
--- and from cylinder 8 on the way down it is no way to cylinder 5.
-down_to_five : map (cost (settings 8 8) (take 10 up_and_down)) (startable (settings 8 8) (take 10 up_and_down)) ≡ 3 ∷ []
-unfolding answers_by cost swept
-down_to_five = refl
-
--- So the second comes last.
-second_last : swept (settings 8 8) (take 10 up_and_down) ≡ Some 5
-unfolding answers_by cost swept
-second_last = refl
-
--- Where nothing waits, nothing is swept.
-none_left : swept (settings 8 8) up_and_down ≡ None
-unfolding answers_by cost swept
-none_left = refl
+from_ten_and_on = (refl, refl, refl, refl, refl, refl, refl)
 
 -- ---- the budget comes first: of those that may start the sweep takes the cheapest
 
--- None may be passed: the first is taken, though both others are nearer.
-kept_in_order : swept (settings 5 0) (take 6 in_order) ≡ Some 3
+kept_in_order_and_on :
+    -- None may be passed: the first is taken, though both others are nearer.
+    (swept (settings 5 0) (take 6 in_order) ≡ Some 3)
+    -- Each may be passed by one block: the nearest is taken,
+    × (swept (with_budget 5 1) (take 7 passed_once) ≡ Some 4)
+    -- and then the one that was passed.
+    × (swept (with_budget 5 1) (take 9 passed_once) ≡ Some 3)
+    -- Each may be passed by two blocks: the nearest is taken,
+    × (swept (with_budget 5 2) (take 6 passed_twice) ≡ Some 4)
+    -- and then the next,
+    × (swept (with_budget 5 2) (take 7 passed_twice) ≡ Some 5)
+    -- and then the one that was passed twice.
+    × (swept (with_budget 5 2) (take 8 passed_twice) ≡ Some 3)
 unfolding answers_by cost swept
-kept_in_order = refl
-
--- Each may be passed by one block: the nearest is taken,
-nearest_first : swept (with_budget 5 1) (take 7 passed_once) ≡ Some 4
-unfolding answers_by cost swept
-nearest_first = refl
-
--- and then the one that was passed.
-passed_then : swept (with_budget 5 1) (take 9 passed_once) ≡ Some 3
-unfolding answers_by cost swept
-passed_then = refl
-
--- Each may be passed by two blocks: the nearest is taken,
-nearest_twice : swept (with_budget 5 2) (take 6 passed_twice) ≡ Some 4
-unfolding answers_by cost swept
-nearest_twice = refl
-
--- and then the next,
-next_nearest : swept (with_budget 5 2) (take 7 passed_twice) ≡ Some 5
-unfolding answers_by cost swept
-next_nearest = refl
-
--- and then the one that was passed twice.
-passed_last : swept (with_budget 5 2) (take 8 passed_twice) ≡ Some 3
-unfolding answers_by cost swept
-passed_last = refl
+kept_in_order_and_on = (refl, refl, refl, refl, refl, refl)
 
 -- ---- over all units
 
--- The second unit's head is on the cylinder of its read.
-other_unit : swept (two_units 8 2) (take 10 two_heads) ≡ Some 9
+other_unit_and_on :
+    -- The second unit's head is on the cylinder of its read.
+    (swept (two_units 8 2) (take 10 two_heads) ≡ Some 9)
+    -- The first unit's head is 20 cylinders away from its read, and what stands behind the read has to wait.
+    × (swept (two_units 8 2) (take 11 two_heads) ≡ Some 6)
+    -- A sequential command costs nothing.
+    × (map (cost (two_units 8 2) (take 12 two_heads)) (startable (two_units 8 2) (take 12 two_heads)) ≡ 0
+    ∷ [])
 unfolding answers_by cost swept
-other_unit = refl
-
--- The first unit's head is 20 cylinders away from its read, and what stands behind the read has to wait.
-own_unit : swept (two_units 8 2) (take 11 two_heads) ≡ Some 6
-unfolding answers_by cost swept
-own_unit = refl
-
--- A sequential command costs nothing.
-sequential_is_free : map (cost (two_units 8 2) (take 12 two_heads)) (startable (two_units 8 2) (take 12 two_heads)) ≡ 0
-    ∷ []
-unfolding answers_by cost swept
-sequential_is_free = refl
+other_unit_and_on = (refl, refl, refl)
 
 -- ---- of commands that cost as much the oldest
 
@@ -115,22 +79,14 @@ as_far =
     ∷ served Good 3 0 (Some 60) true 3 (moved 3 0 0 512)
     ∷ []
 
-pub as_far_legal : IsLegal (settings 8 8) as_far
+as_far_holds :
+    IsLegal (settings 8 8) as_far
+    -- A transfer that began on the way down went up to cylinder 2 with its later block, and its head still goes down.
+    × (map (cost (settings 8 8) (take 11 as_far)) (startable (settings 8 8) (take 11 as_far)) ≡ 5 ∷ 2 ∷ 2
+    ∷ [])
+    -- So the two reads of cylinder 0 come before that of cylinder 3, the older one first,
+    × (swept (settings 8 8) (take 11 as_far) ≡ Some 9)
+    -- and then the other one.
+    × (swept (settings 8 8) (take 12 as_far) ≡ Some 10)
 unfolding answers_by cost swept
-as_far_legal = legal_by (settings 8 8) as_far (0 ∷ 3 ∷ 5 ∷ 5 ∷ 9 ∷ 10 ∷ 8 ∷ []) refl
-
--- A transfer that began on the way down went up to cylinder 2 with its later block, and its head still goes down.
-on_the_way_down : map (cost (settings 8 8) (take 11 as_far)) (startable (settings 8 8) (take 11 as_far)) ≡ 5 ∷ 2 ∷ 2
-    ∷ []
-unfolding answers_by cost swept
-on_the_way_down = refl
-
--- So the two reads of cylinder 0 come before that of cylinder 3, the older one first,
-oldest_of_two : swept (settings 8 8) (take 11 as_far) ≡ Some 9
-unfolding answers_by cost swept
-oldest_of_two = refl
-
--- and then the other one.
-then_the_other : swept (settings 8 8) (take 12 as_far) ≡ Some 10
-unfolding answers_by cost swept
-then_the_other = refl
+as_far_holds = (legal_by (settings 8 8) as_far (0 ∷ 3 ∷ 5 ∷ 5 ∷ 9 ∷ 10 ∷ 8 ∷ []) refl, refl, refl, refl)

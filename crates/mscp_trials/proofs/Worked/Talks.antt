@@ -116,13 +116,11 @@ second_told : figure_told (settings 4 2) First moving 7 ≡ 1
 unfolding answers_by outstanding
 second_told = refl
 
-third_told : figure_told (settings 4 2) First moving 10 ≡ 0
+third_told_and_on :
+    (figure_told (settings 4 2) First moving 10 ≡ 0)
+    × (last_answer (settings 4 2) First moving 8 3 ≡ Some 18)
 unfolding answers_by outstanding
-third_told = refl
-
-last_before : last_answer (settings 4 2) First moving 8 3 ≡ Some 18
-unfolding answers_by outstanding
-last_before = refl
+third_told_and_on = (refl, refl)
 
 -- the second answer doesn't stand: 1 is less than 18
 falls : Stands (settings 4 2) First moving 8 → ⊥
@@ -182,17 +180,15 @@ again =
     ∷ hands (answer 12 18) (news.First 18)
     ∷ []
 
--- of the second nothing was told yet
-untold : last_answer (settings 4 2) First again 13 10 ≡ None
+untold_and_on :
+    -- of the second nothing was told yet
+    (last_answer (settings 4 2) First again 13 10 ≡ None)
+    -- though the figure is the one that was last told of the first
+    × (account_at (settings 4 2) First again 13 ≡ record {
+      credits = 4;
+      outstanding = record { reference = 1; unit = 0; opcode = 0x21; told = None }
+          ∷ record { reference = 12; unit = 0; opcode = 0x02; told = None } ∷ [];
+      watch = Some (record { reference = 12; polled = 1; is_outstanding = true });
+    })
 unfolding answers_by outstanding
-untold = refl
-
--- though the figure is the one that was last told of the first
-kept_again : account_at (settings 4 2) First again 13 ≡ record {
-  credits = 4;
-  outstanding = record { reference = 1; unit = 0; opcode = 0x21; told = None }
-      ∷ record { reference = 12; unit = 0; opcode = 0x02; told = None } ∷ [];
-  watch = Some (record { reference = 12; polled = 1; is_outstanding = true });
-}
-unfolding answers_by outstanding
-kept_again = refl
+untold_and_on = (refl, refl)

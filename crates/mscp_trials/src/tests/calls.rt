@@ -1,172 +1,147 @@
-// One call of a controller each, and what it answers.
+// A controller on trial: a call each, and what it answers.
 
-use super::values::{FIRST, command};
+use super::values::{FIRST, SECOND, command};
 use crate::tests::checks::{holds, same};
 use mscp_controller::{
-    Block, Connection, Controller, NotBegun, Picker, Report, SendFault, Sent, Upcoming,
+    Block, Config, Connection, Controller, NotBegun, Picker, Report, SendFault, Sent, Upcoming,
 };
 use mscp_packet::{Command, End, Order, read_end, write_command};
 use std::process::Abort;
 
-/// What is said to a command.
-pub fn sent<K: Picker>(
-    controller: &mut Controller<K>,
-    connection: Connection,
-    command: &Command,
-) -> Result<Sent, SendFault> {
-    controller.send(connection, write_command(command).as_slice())
+/// A controller, and who is told of a wrong answer.
+#[derive(Drop)]
+pub struct Trial<'a, R, K> {
+    pub rt: &'a R,
+    pub controller: Controller<K>,
 }
 
-/// The command waits.
-pub fn queues<K: Picker>(
-    rt: &impl Abort,
-    controller: &mut Controller<K>,
-    connection: Connection,
-    command: &Command,
-) {
-    let queued = Ok(Sent::Queued(command.reference));
-    same(rt, sent(controller, connection, command), queued);
-}
+impl<'a, R: Abort, K: Picker> Trial<'a, R, K> {
+    /// A new controller.
+    pub fn new(rt: &'a R, config: Config, picker: K) -> Trial<'a, R, K> {
+        let controller = Controller::new(config, picker);
+        Trial { rt, controller }
+    }
 
-/// The command has its end at once, and has aborted this one, or none.
-pub fn answers<K: Picker>(
-    rt: &impl Abort,
-    controller: &mut Controller<K>,
-    connection: Connection,
-    command: &Command,
-    aborted: Option<u32>,
-) {
-    let reference = command.reference;
-    let answered = Ok(Sent::Answered { reference, aborted });
-    same(rt, sent(controller, connection, command), answered);
-}
+    /// A new controller whose unit 0 is online.
+    pub fn online(rt: &'a R, config: Config, picker: K) -> Trial<'a, R, K> {
+        let mut trial = Trial::new(rt, config, picker);
+        trial.bring_online(0);
+        trial
+    }
 
-/// An ABORT of the other command finds it.
-pub fn aborts<K: Picker>(
-    rt: &impl Abort,
-    controller: &mut Controller<K>,
-    connection: Connection,
-    reference: u32,
-    other: u32,
-) {
-    let abort = command(reference, Order::Abort(other));
-    answers(rt, controller, connection, &abort, Some(other));
-}
+    /// What is said to a command.
+    pub fn sent(&mut self, connection: Connection, command: &Command) -> Result<Sent, SendFault> {
+        let message = write_command(command);
+        self.controller.send(connection, message.as_slice())
+    }
 
-/// The command is refused.
-pub fn refuses<K: Picker>(
-    rt: &impl Abort,
-    controller: &mut Controller<K>,
-    connection: Connection,
-    command: &Command,
-    fault: SendFault,
-) {
-    same(rt, sent(controller, connection, command), Err(fault));
-}
+    /// The command waits.
+    pub fn queues(&mut self, connection: Connection, command: &Command) {
+        let sent = self.sent(connection, command);
+        same(self.rt, sent, Ok(Sent::Queued(command.reference)));
+    }
 
-/// The oldest end that wasn't taken is this one.
-pub fn takes<K: Picker>(
-    rt: &impl Abort,
-    controller: &mut Controller<K>,
-    connection: Connection,
-    end: End,
-) {
-    let bytes = controller.take(connection).expect(rt, "an end");
-    same(rt, read_end(bytes.as_slice()), Ok(end));
-}
+    /// The command has its end at once, and has aborted this one, or none.
+    pub fn answers(&mut self, connection: Connection, command: &Command, aborted: Option<u32>) {
+        let reference = command.reference;
+        let sent = self.sent(connection, command);
+        same(self.rt, sent, Ok(Sent::Answered { reference, aborted }));
+    }
 
-/// The oldest end that wasn't taken has these bytes.
-pub fn takes_bytes<K: Picker>(
-    rt: &impl Abort,
-    controller: &mut Controller<K>,
-    connection: Connection,
-    wanted: &[u8],
-) {
-    let bytes = controller.take(connection).expect(rt, "an end");
-    same(rt, bytes.as_slice(), wanted);
-}
+    /// An ABORT of the other command finds it.
+    pub fn aborts(&mut self, connection: Connection, reference: u32, other: u32) {
+        let abort = command(reference, Order::Abort(other));
+        self.answers(connection, &abort, Some(other));
+    }
 
-/// Each end was taken.
-pub fn takes_nothing<K: Picker>(
-    rt: &impl Abort,
-    controller: &mut Controller<K>,
-    connection: Connection,
-) {
-    holds(rt, controller.take(connection).is_none());
-}
+    /// The command is refused.
+    pub fn refuses(&mut self, connection: Connection, command: &Command, fault: SendFault) {
+        let sent = self.sent(connection, command);
+        same(self.rt, sent, Err(fault));
+    }
 
-/// This is begun, or nothing.
-pub fn begins<K: Picker>(
-    rt: &impl Abort,
-    controller: &mut Controller<K>,
-    upcoming: Option<Upcoming>,
-) {
-    same(rt, controller.begin(), upcoming);
-}
+    /// The bytes of the oldest end that wasn't taken are these.
+    pub fn takes_bytes(&mut self, connection: Connection, wanted: &[u8]) {
+        let bytes = self.controller.take(connection).expect(self.rt, "an end");
+        same(self.rt, bytes.as_slice(), wanted);
+    }
 
-/// A step with this block does this.
-pub fn steps<K: Picker>(
-    rt: &impl Abort,
-    controller: &mut Controller<K>,
-    block: Block,
-    report: Report,
-) {
-    same(rt, controller.step(block), report);
-}
+    /// The oldest end that wasn't taken is this one.
+    pub fn takes(&mut self, connection: Connection, end: End) {
+        let bytes = self.controller.take(connection).expect(self.rt, "an end");
+        same(self.rt, read_end(bytes.as_slice()), Ok(end));
+    }
 
-/// A finish with a good block does this, or finds that no such command is begun.
-pub fn finishes<K: Picker>(
-    rt: &impl Abort,
-    controller: &mut Controller<K>,
-    connection: Connection,
-    reference: u32,
-    wanted: Result<Report, NotBegun>,
-) {
-    same(
-        rt,
-        controller.finish(connection, reference, Block::Good),
-        wanted,
-    );
-}
+    /// Each end was taken.
+    pub fn takes_nothing(&mut self, connection: Connection) {
+        holds(self.rt, self.controller.take(connection).is_none());
+    }
 
-/// So many credits are free.
-pub fn has_free<K: Picker>(
-    rt: &impl Abort,
-    controller: &Controller<K>,
-    connection: Connection,
-    credits: u32,
-) {
-    same(rt, controller.balance(connection), credits);
-}
+    /// This is begun, or nothing.
+    pub fn begins(&mut self, upcoming: Option<Upcoming>) {
+        same(self.rt, self.controller.begin(), upcoming);
+    }
 
-/// The command has this figure.
-pub fn has_figure<K: Picker>(
-    rt: &impl Abort,
-    controller: &Controller<K>,
-    connection: Connection,
-    reference: u32,
-    figure: u32,
-) {
-    same(rt, controller.figure(connection, reference), figure);
-}
+    /// A step with this block does this.
+    pub fn steps(&mut self, block: Block, report: Report) {
+        same(self.rt, self.controller.step(block), report);
+    }
 
-/// These wait, with these figures.
-pub fn shows<K: Picker>(
-    rt: &impl Abort,
-    controller: &Controller<K>,
-    figures: &[(Connection, u32, u32)],
-) {
-    same(rt, controller.look().as_slice(), figures);
-}
+    /// So many steps with good blocks are made.
+    pub fn makes_steps(&mut self, count: u32) {
+        for _ in 0..count {
+            let _report = self.controller.step(Block::Good);
+        }
+    }
 
-/// Brings a unit online, and takes the end.
-pub fn bring_online<K: Picker>(rt: &impl Abort, controller: &mut Controller<K>, unit: u16) {
-    let online = Command {
-        reference: 900,
-        unit,
-        order: Order::Online,
-    };
-    queues(rt, controller, FIRST, &online);
-    let _report = controller.step(Block::Good);
-    holds(rt, controller.take(FIRST).is_some());
+    /// A finish with this block does this, or finds that no such command is begun.
+    pub fn finishes(
+        &mut self,
+        connection: Connection,
+        reference: u32,
+        block: Block,
+        wanted: Result<Report, NotBegun>,
+    ) {
+        let report = self.controller.finish(connection, reference, block);
+        same(self.rt, report, wanted);
+    }
+
+    /// So many credits are free.
+    pub fn has_free(&self, connection: Connection, credits: u32) {
+        same(self.rt, self.controller.balance(connection), credits);
+    }
+
+    /// The command has this figure.
+    pub fn has_figure(&self, connection: Connection, reference: u32, figure: u32) {
+        same(
+            self.rt,
+            self.controller.figure(connection, reference),
+            figure,
+        );
+    }
+
+    /// These wait, with these figures.
+    pub fn shows(&self, figures: &[(Connection, u32, u32)]) {
+        same(self.rt, self.controller.look().as_slice(), figures);
+    }
+
+    /// So many commands of each connection wait, and so many ends of each weren't taken.
+    pub fn keeps(&self, waiting: [u32; 2], untaken: [u32; 2]) {
+        let controller = &self.controller;
+        let waits = [controller.waiting(FIRST), controller.waiting(SECOND)];
+        let ends = [controller.untaken(FIRST), controller.untaken(SECOND)];
+        same(self.rt, (waits, ends), (waiting, untaken));
+    }
+
+    /// Brings a unit online, and takes the end.
+    pub fn bring_online(&mut self, unit: u16) {
+        let online = Command {
+            reference: 900,
+            unit,
+            order: Order::Online,
+        };
+        self.queues(FIRST, &online);
+        self.makes_steps(1);
+        holds(self.rt, self.controller.take(FIRST).is_some());
+    }
 }

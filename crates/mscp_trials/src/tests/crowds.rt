@@ -1,8 +1,8 @@
 // Sixty-three commands over four units.
 
-use super::calls::{bring_online, has_free, queues};
+use super::calls::Trial;
 use super::values::{FIRST, limits, unit};
-use mscp_controller::{Controller, Picker};
+use mscp_controller::Picker;
 use mscp_packet::{Command, MoveKind, Order};
 use std::process::Abort;
 
@@ -22,22 +22,17 @@ pub fn one_of_many(reference: u32) -> Command {
     }
 }
 
-/// A controller of four units that are online, where each command may be passed by three of the longest transfers.
-fn of_four_units<K: Picker>(rt: &impl Abort, picker: K) -> Controller<K> {
+/// A controller of four units that are online, to which commands 1 to 63 came. Each may be passed by three of the longest
+/// transfers.
+pub fn full<R: Abort, K: Picker>(rt: &R, picker: K) -> Trial<'_, R, K> {
     let four = [unit(rt, 0), unit(rt, 1), unit(rt, 2), unit(rt, 3)];
-    let mut controller = Controller::new(limits(rt, (64, 0), 24, &four), picker);
+    let mut trial = Trial::new(rt, limits(rt, (64, 0), 24, &four), picker);
     for number in 0..4 {
-        bring_online(rt, &mut controller, number);
+        trial.bring_online(number);
     }
-    controller
-}
-
-/// Such a controller, to which commands 1 to 63 came.
-pub fn full<K: Picker>(rt: &impl Abort, picker: K) -> Controller<K> {
-    let mut controller = of_four_units(rt, picker);
     for reference in 1..64 {
-        queues(rt, &mut controller, FIRST, &one_of_many(reference));
+        trial.queues(FIRST, &one_of_many(reference));
     }
-    has_free(rt, &controller, FIRST, 1);
-    controller
+    trial.has_free(FIRST, 1);
+    trial
 }

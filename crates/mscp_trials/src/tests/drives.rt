@@ -1,6 +1,6 @@
 // Units of 1000 blocks, 20 of them a cylinder, and units of the largest sizes.
 
-use crate::tests::checks::{holds, same};
+use crate::tests::checks::{holds, same, same_of};
 use mscp_drive::{Head, Unit, UnitFault, Units, UnitsFault};
 use std::process::Abort;
 
@@ -16,82 +16,61 @@ fn usual(number: u16) -> Unit {
 fn the_numbers_of_a_unit_are_kept(rt: HostRuntime) {
     let unit = usual(7);
     same(&rt, (unit.number(), unit.size()), (7, 1000));
-    same(
-        &rt,
-        (unit.track(), unit.group(), unit.cylinder_size()),
-        (10, 2, 1),
-    );
+    let sizes = (unit.track(), unit.group(), unit.cylinder_size());
+    same(&rt, sizes, (10, 2, 1));
     same(&rt, (unit.id(), unit.media(), unit.serial()), (1, 2, 3));
-}
-
-/// A unit of these sizes has this fault.
-fn has_fault(rt: &impl Abort, sizes: (u16, u16, u16), size: u32, fault: UnitFault) {
-    let unit = Unit::new(0, sizes.0, sizes.1, sizes.2, size, 0, 0, 0);
-    same(rt, unit, Err(fault));
 }
 
 #[test]
 fn the_first_size_of_zero_is_the_fault(rt: HostRuntime) {
-    has_fault(&rt, (0, 0, 0), 0, UnitFault::ZeroTrack);
-    has_fault(&rt, (10, 0, 0), 0, UnitFault::ZeroGroup);
-    has_fault(&rt, (10, 2, 0), 0, UnitFault::ZeroCylinder);
-    has_fault(&rt, (10, 2, 1), 0, UnitFault::ZeroSize);
-}
-
-/// The block is on this cylinder.
-fn is_on(rt: &impl Abort, unit: &Unit, block: u32, cylinder: u32) {
-    same(rt, unit.cylinder(block), cylinder);
-}
-
-/// The last cylinder is this one.
-fn ends_on(rt: &impl Abort, unit: &Unit, cylinder: u32) {
-    same(rt, unit.last_cylinder(), cylinder);
+    for (track, group, cylinder, fault) in [
+        (0, 0, 0, UnitFault::ZeroTrack),
+        (10, 0, 0, UnitFault::ZeroGroup),
+        (10, 2, 0, UnitFault::ZeroCylinder),
+        (10, 2, 1, UnitFault::ZeroSize),
+    ] {
+        let unit = Unit::new(0, track, group, cylinder, 0, 0, 0, 0);
+        same(&rt, unit, Err(fault));
+    }
 }
 
 #[test]
 fn a_block_has_a_cylinder(rt: HostRuntime) {
     let unit = usual(0);
-    ends_on(&rt, &unit, 49);
-    is_on(&rt, &unit, 0, 0);
-    is_on(&rt, &unit, 19, 0);
-    is_on(&rt, &unit, 20, 1);
-    is_on(&rt, &unit, 40, 2);
-    is_on(&rt, &unit, 800, 40);
-    is_on(&rt, &unit, 999, 49);
+    same(&rt, unit.last_cylinder(), 49);
+    for (block, cylinder) in [(0, 0), (19, 0), (20, 1), (40, 2), (800, 40), (999, 49)] {
+        same_of(&rt, block, unit.cylinder(block), cylinder);
+    }
 }
 
 #[test]
 fn the_largest_units_have_cylinders(rt: HostRuntime) {
     let largest = made(0, (65535, 65535, 65535), 4294967295).unwrap_or_default();
     same(&rt, largest.track(), 65535);
-    is_on(&rt, &largest, 4294967295, 0);
-    ends_on(&rt, &largest, 0);
+    same(&rt, largest.cylinder(4294967295), 0);
+    same(&rt, largest.last_cylinder(), 0);
     let least = made(0, (1, 1, 1), 4294967295).unwrap_or_default();
-    ends_on(&rt, &least, 4294967294);
+    same(&rt, least.last_cylinder(), 4294967294);
 }
 
-/// A transfer of so many bytes from a block on has this weight, or status, where 8 blocks are the longest.
-fn weighs(rt: &impl Abort, block: u32, bytes: u32, weight: Result<u32, u16>) {
-    same(rt, usual(0).check(block, bytes, 8), weight);
-}
-
+// Where 8 blocks are the longest, a transfer of so many bytes from a block on has this weight, or status.
 #[test]
 fn a_transfer_is_weighed(rt: HostRuntime) {
-    weighs(&rt, 999, 512, Ok(1));
-    weighs(&rt, 999, 513, Err(0x0C01));
-    weighs(&rt, 1000, 0, Err(0x1C01));
-    weighs(&rt, 0, 0, Ok(1));
-    weighs(&rt, 999, 0, Ok(1));
-    weighs(&rt, 0, 513, Ok(2));
-    weighs(&rt, 0, 4096, Ok(8));
-    weighs(&rt, 0, 4097, Err(0x0C01));
-    weighs(&rt, 1, 4294967295, Err(0x0C01));
-    weighs(&rt, 4294967295, 0, Err(0x1C01));
-    weighs(&rt, 4294967295, 4294967295, Err(0x1C01));
-}
-
-#[test]
-fn the_longest_transfer_is_weighed(rt: HostRuntime) {
+    for (block, bytes, weight) in [
+        (999, 512, Ok(1)),
+        (999, 513, Err(0x0C01)),
+        (1000, 0, Err(0x1C01)),
+        (0, 0, Ok(1)),
+        (999, 0, Ok(1)),
+        (0, 513, Ok(2)),
+        (0, 4096, Ok(8)),
+        (0, 4097, Err(0x0C01)),
+        (1, 4294967295, Err(0x0C01)),
+        (4294967295, 0, Err(0x1C01)),
+        (4294967295, 4294967295, Err(0x1C01)),
+    ] {
+        same_of(&rt, (block, bytes), usual(0).check(block, bytes, 8), weight);
+    }
     let largest = made(0, (1, 1, 1), 4294967295).unwrap_or_default();
     let past = largest.check(4294967294, 4294967295, 8388608);
     same(&rt, past, Err(0x0C01));
@@ -99,38 +78,27 @@ fn the_longest_transfer_is_weighed(rt: HostRuntime) {
     same(&rt, longest, Ok(8388608));
 }
 
-/// A READ on a cylinder costs so much.
-fn costs(rt: &impl Abort, cylinder: u32, up: bool, to: u32, cost: u64) {
-    let unit = usual(0);
-    let head = Head { cylinder, up };
-    holds(rt, cylinder <= unit.last_cylinder());
-    holds(rt, to <= unit.last_cylinder());
-    same(rt, head.cost(&unit, to), cost);
-}
-
+// A READ on the cylinder to which the head goes costs so much.
 #[test]
 fn a_sweep_goes_on_to_the_end_before_it_turns(rt: HostRuntime) {
-    costs(&rt, 10, true, 5, 83);
-    costs(&rt, 10, true, 30, 20);
-    costs(&rt, 10, true, 8, 80);
-    costs(&rt, 30, true, 5, 63);
-    costs(&rt, 30, true, 8, 60);
-    costs(&rt, 8, false, 5, 3);
-    costs(&rt, 8, false, 9, 17);
+    let unit = usual(0);
+    for (cylinder, up, to, cost) in [
+        (10, true, 5, 83),
+        (10, true, 30, 20),
+        (10, true, 8, 80),
+        (30, true, 5, 63),
+        (30, true, 8, 60),
+        (8, false, 5, 3),
+        (8, false, 9, 17),
+    ] {
+        let head = Head { cylinder, up };
+        holds(&rt, cylinder <= unit.last_cylinder());
+        holds(&rt, to <= unit.last_cylinder());
+        same_of(&rt, (cylinder, to), head.cost(&unit, to), cost);
+    }
 }
 
-/// A head goes so far to a cylinder, and a start there leaves it on this way.
-fn turns(rt: &impl Abort, (cylinder, up): (u32, bool), to: u32, turned: bool, far: u32) {
-    let head = Head { cylinder, up };
-    let started = Head {
-        cylinder: to,
-        up: turned,
-    };
-    same(rt, head.moved(to), started);
-    same(rt, head.carried(to), Head { cylinder: to, up });
-    same(rt, head.distance(to), far);
-}
-
+// A head goes so far to a cylinder, and a start there leaves it on this way.
 #[test]
 fn a_start_turns_the_head_and_a_later_block_does_not(rt: HostRuntime) {
     let new = Head {
@@ -138,48 +106,44 @@ fn a_start_turns_the_head_and_a_later_block_does_not(rt: HostRuntime) {
         up: true,
     };
     same(&rt, Head::default(), new);
-    turns(&rt, (10, true), 30, true, 20);
-    turns(&rt, (10, true), 5, false, 5);
-    turns(&rt, (10, false), 30, true, 20);
-    turns(&rt, (10, false), 5, false, 5);
-    turns(&rt, (10, true), 10, true, 0);
-    turns(&rt, (10, false), 10, false, 0);
-}
-
-/// A list of these units has this fault.
-fn is_refused(rt: &impl Abort, units: &[Unit], fault: UnitsFault) {
-    same(rt, Units::new(units).err(), Some(fault));
+    for (cylinder, up, to, turned, far) in [
+        (10, true, 30, true, 20),
+        (10, true, 5, false, 5),
+        (10, false, 30, true, 20),
+        (10, false, 5, false, 5),
+        (10, true, 10, true, 0),
+        (10, false, 10, false, 0),
+    ] {
+        let head = Head { cylinder, up };
+        let moved = head.moved(to);
+        same_of(&rt, (to, up), (moved.cylinder, moved.up), (to, turned));
+        same_of(&rt, (to, up), head.carried(to), Head { cylinder: to, up });
+        same_of(&rt, (to, up), head.distance(to), far);
+    }
 }
 
 #[test]
 fn a_list_of_units_rises(rt: HostRuntime) {
     let [a, b, c] = [usual(2), usual(5), usual(65535)];
-    is_refused(&rt, &[], UnitsFault::Empty);
-    is_refused(&rt, &[a; 16], UnitsFault::NotAscending);
-    is_refused(&rt, &[a; 17], UnitsFault::TooMany);
-    is_refused(&rt, &[a, a], UnitsFault::NotAscending);
-    is_refused(&rt, &[a, c, b], UnitsFault::NotAscending);
+    same(&rt, Units::new(&[]), Err(UnitsFault::Empty));
+    same(&rt, Units::new(&[a; 16]), Err(UnitsFault::NotAscending));
+    same(&rt, Units::new(&[a; 17]), Err(UnitsFault::TooMany));
+    same(&rt, Units::new(&[a, a]), Err(UnitsFault::NotAscending));
+    same(&rt, Units::new(&[a, c, b]), Err(UnitsFault::NotAscending));
     let most: [Unit; 16] = std::array::from_fn(|i| usual(i as u16));
     holds(&rt, Units::new(&most).is_ok());
 }
 
-/// The list finds this under a number.
-fn finds(rt: &impl Abort, units: &Units, number: u16, wanted: Option<&Unit>) {
-    same(rt, units.find(number), wanted);
-}
-
 #[test]
 fn units_are_found_and_made_again(rt: HostRuntime) {
-    let [a, b, c] = [usual(2), usual(5), usual(65535)];
-    let Ok(units) = Units::new(&[a, b, c]) else {
-        panic!(rt; "the numbers rise");
-    };
-    same(&rt, units.list(), [a, b, c].as_slice());
-    finds(&rt, &units, 2, Some(&a));
-    finds(&rt, &units, 5, Some(&b));
-    finds(&rt, &units, 65535, Some(&c));
+    let list = [usual(2), usual(5), usual(65535)];
+    let units = Units::new(&list).ok().expect(&rt, "the numbers rise");
+    same(&rt, units.list(), list.as_slice());
+    for unit in &list {
+        same(&rt, units.find(unit.number()), Some(unit));
+    }
     for absent in [0, 3, 6, 65534] {
-        finds(&rt, &units, absent, None);
+        same_of(&rt, absent, units.find(absent), None);
     }
     same(&rt, Units::new(units.list()), Ok(units));
 }

@@ -63,11 +63,8 @@ end 0200000000000000820000ff
 second end abababababababababababababababababababababababababababababababababababababababababababababababab
 steps 2 seeks 8589934590 pending 0
 ";
-    same(
-        &rt,
-        report(rt.alloc(), &entries)?.as_slice(),
-        wanted.as_bytes(),
-    );
+    let text = report(rt.alloc(), &entries)?;
+    same(&rt, text.as_slice(), wanted.as_bytes());
     Ok(())
 }
 

@@ -22,17 +22,11 @@ fn figure(count: u64) -> u64
     (448 + count) * 8_388_608
 }
 
-/// Appends a line of this number between two texts.
-fn put(text: &mut String, before: &str, number: u64, after: &str) -> Result<(), Fail> {
-    writeln!(text, "{before}{number}{after}")?;
-    Ok(())
-}
-
 /// 63 READs of all bytes that a message can name, and a step between two looks.
 fn script(rt: &impl AllocGlobal) -> Result<String, Fail> {
     let mut script = String::from_str(rt.alloc(), HEADER)?;
     for number in 1..64u64 {
-        put(&mut script, "read ", number, " 0 4294967295 0")?;
+        writeln!(script, "read {number} 0 4294967295 0")?;
     }
     script.push_str("look\nstep 1\nlook\n")?;
     Ok(script)
@@ -43,8 +37,8 @@ fn put_figures(text: &mut String, first: u64) -> Result<(), Fail>
     requires { first ≤ 64 }
 {
     for number in first..64u64 {
-        write!(text, "figure {number}")?;
-        put(text, " ", figure(number + 1 - first), "")?;
+        let figure = figure(number + 1 - first);
+        writeln!(text, "figure {number} {figure}")?;
     }
     Ok(())
 }
@@ -53,7 +47,7 @@ fn put_figures(text: &mut String, first: u64) -> Result<(), Fail>
 fn report(rt: &impl AllocGlobal) -> Result<String, Fail> {
     let mut report = String::new(rt.alloc());
     for number in 1..64u64 {
-        put(&mut report, "queued ", number, "")?;
+        writeln!(report, "queued {number}")?;
     }
     put_figures(&mut report, 1)?;
     report.push_str("serve 1 unit 0 block none seek 0 ended 0004\n")?;

@@ -10,40 +10,21 @@ use super::values::config;
 use crate::tests::checks::{holds, same, same_of};
 use mscp_controller::{Block, Connection, Event, Sweep, run};
 use mscp_sim::{Heard, ShowFault, Turn, converse, read_script, report, show_packet};
+use std::fmt::Write;
 use std::process::Abort;
 use std::test::Fail;
 
 const NOTHING: &[u8] = b"steps 0 seeks 0 pending 0\n";
 
+// No events, a header alone, and a talk of no turns.
 #[test]
-fn no_events_want_no_memory(rt: HostRuntime) -> Result<(), Fail> {
+fn nothing_wants_no_memory(rt: HostRuntime) -> Result<(), Fail> {
     let entries = run(rt.alloc(), config(&rt, 4, 16), Sweep, &[])?;
     same(&rt, entries.len(), 0);
     same(&rt, report(rt.alloc(), &entries)?.as_slice(), NOTHING);
-    Ok(())
-}
-
-#[test]
-fn a_header_alone_wants_no_memory(rt: HostRuntime) -> Result<(), Fail> {
-    is_told_by_both(&rt, HEADER.as_bytes(), 0, NOTHING)
-}
-
-#[test]
-fn a_talk_of_no_turns_wants_no_memory(rt: HostRuntime) -> Result<(), Fail> {
+    is_told_by_both(&rt, HEADER.as_bytes(), 0, NOTHING)?;
     let talk = converse(rt.alloc(), config(&rt, 4, 16), Sweep, &[])?;
-    same(&rt, talk.heard.len(), 0);
-    same(&rt, talk.trace.len(), 0);
-    Ok(())
-}
-
-/// Appends the hexadecimal digits of bytes.
-fn put_digits(text: &mut String, bytes: &[u8]) -> Result<(), Fail> {
-    let digits = b"0123456789abcdef";
-    for byte in bytes {
-        for nibble in [byte / 16, byte % 16] {
-            text.push(char::from(digits[usize::from(nibble)]))?;
-        }
-    }
+    same(&rt, (talk.heard.len(), talk.trace.len()), (0, 0));
     Ok(())
 }
 
@@ -76,8 +57,7 @@ fn is_shown(
     bytes: &[u8],
     wanted: Result<&str, ShowFault>,
 ) -> Result<(), Fail> {
-    let mut word = String::new(rt.alloc());
-    put_digits(&mut word, bytes)?;
+    let word = hex::encode(rt.alloc(), bytes)?;
     match (show_packet(rt.alloc(), word.as_str()), wanted) {
         (Ok(line), Ok(wanted)) => holds(rt, line.starts_with(wanted.as_bytes())),
         (Err(fault), Err(wanted)) => same_of(rt, word.as_str(), fault, wanted),
@@ -99,7 +79,7 @@ fn every_packet_is_shown_or_has_its_fault(rt: HostRuntime) -> Result<(), Fail> {
 
 /// Appends a message, with a step and a take after it: as events, and as a script.
 fn add_message(
-    rt: &impl Abort,
+    rt: &(impl Abort + AllocGlobal),
     events: &mut Vec<Event>,
     script: &mut String,
     bytes: &[u8],
@@ -107,9 +87,8 @@ fn add_message(
     events.push(event_of(rt, Connection::First, bytes))?;
     events.push(Event::Step(Block::Good))?;
     events.push(Event::Take(Connection::First))?;
-    script.push_str("packet ")?;
-    put_digits(script, bytes)?;
-    script.push_str("\nstep 1\ntake\n")?;
+    let digits = hex::encode(rt.alloc(), bytes)?;
+    writeln!(script, "packet {digits}\nstep 1\ntake")?;
     Ok(())
 }
 
@@ -147,38 +126,24 @@ fn every_message_is_run_and_reported(rt: HostRuntime) -> Result<(), Fail> {
 fn a_talk_of_many_turns_is_heard(rt: HostRuntime) -> Result<(), Fail> {
     let turns = vec![in rt.alloc(); Turn::Take(Connection::First); 1_000_000]?;
     let talk = converse(rt.alloc(), config(&rt, 4, 16), Sweep, &turns)?;
-    same(&rt, talk.heard.len(), 1_000_000);
-    same(&rt, talk.trace.len(), 1_000_000);
+    let counts = (talk.heard.len(), talk.trace.len());
+    same(&rt, counts, (1_000_000, 1_000_000));
     same(&rt, talk.heard.last(), Some(&Heard::Quiet));
     Ok(())
-}
-
-/// A header of two credits, a READ, and so many polls of it, with a look before the end of each is taken.
-fn polls(rt: &impl AllocGlobal, count: u32) -> Result<String, Fail> {
-    let header = "credits 2\npassing 2\nlongest 8\ntimeout 60\nunit 0 10 2 1 1000\ngo\n";
-    let mut script = String::from_str(rt.alloc(), header)?;
-    script.push_str("read 1 0 512 0\n")?;
-    for _poll in 0..count {
-        script.push_str("status 3 1\nlook\ntake\n")?;
-    }
-    Ok(script)
-}
-
-/// What is told then.
-fn answers(rt: &impl AllocGlobal, count: u32) -> Result<String, Fail> {
-    let mut report = String::from_str(rt.alloc(), "queued 1\n")?;
-    for _poll in 0..count {
-        report.push_str("answered 3\nfigure 1 17\n")?;
-        report.push_str("end 0300000000000000820000000100000011000000\n")?;
-    }
-    report.push_str("steps 0 seeks 0 pending 1\n")?;
-    Ok(report)
 }
 
 // A READ waits, and takes one of two credits. It is polled so often that both are taken at each look.
 #[test]
 fn a_long_run_without_credits_is_run(rt: HostRuntime) -> Result<(), Fail> {
-    let script = polls(&rt, 10_000)?;
-    let wanted = answers(&rt, 10_000)?;
+    let header = "credits 2\npassing 2\nlongest 8\ntimeout 60\nunit 0 10 2 1 1000\ngo\n";
+    let mut script = String::from_str(rt.alloc(), header)?;
+    script.push_str("read 1 0 512 0\n")?;
+    let mut wanted = String::from_str(rt.alloc(), "queued 1\n")?;
+    for _poll in 0..10_000 {
+        script.push_str("status 3 1\nlook\ntake\n")?;
+        wanted.push_str("answered 3\nfigure 1 17\n")?;
+        wanted.push_str("end 0300000000000000820000000100000011000000\n")?;
+    }
+    wanted.push_str("steps 0 seeks 0 pending 1\n")?;
     is_told_by_both(&rt, script.as_bytes(), 30_001, wanted.as_bytes())
 }

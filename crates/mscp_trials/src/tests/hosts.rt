@@ -104,13 +104,10 @@ fn says_what_each_answer_tells(rt: HostRuntime) {
     is_told(&rt, &mut host, 15, 2, News::Progress(2));
     ends(&rt, &mut host, read_end(1));
     has_free(&rt, &host, 4);
-}
-
-#[test]
-fn a_first_answer_of_0_is_lost(rt: HostRuntime) {
-    let mut host = new_host(&rt, 4);
-    submits(&rt, &mut host, &read(1));
-    is_told(&rt, &mut host, 10, 0, News::Lost);
+    // A first answer of 0.
+    submits(&rt, &mut host, &read(2));
+    asks(&rt, &mut host, 16, &status_bytes(16, 2));
+    hears(&rt, &mut host, answer(16, 2, 0), Ok(News::Lost));
 }
 
 #[test]
@@ -182,27 +179,24 @@ fn with_the_opcode_of_an_end(rt: &impl Abort) -> Host {
     host
 }
 
-/// The host knows of no command that this end is of, and its credits stay.
-fn is_unknown(rt: &impl Abort, host: &mut Host, end: End) {
-    hears(rt, host, end, Err(HostFault::Unknown));
-    has_free(rt, host, 5);
-}
-
-/// The host can't read these bytes.
-fn is_unreadable(rt: &impl Abort, host: &mut Host, bytes: &[u8]) {
-    holds(rt, host.receive(bytes) == Err(HostFault::Unreadable));
-}
-
+// The host knows of no command that one of the first five is of, and its credits stay. It can't read the others.
 #[test]
 fn refuses_ends_that_are_none_of_its_commands(rt: HostRuntime) {
     let mut host = with_the_opcode_of_an_end(&rt);
-    is_unknown(&rt, &mut host, read_end(2));
-    is_unknown(&rt, &mut host, ended(1, 0xA2, 0, EndBody::Moved(1024)));
-    is_unknown(&rt, &mut host, ended(5, 0x90, 0, EndBody::Moved(0)));
-    is_unknown(&rt, &mut host, answer(10, 5, 3));
-    is_unknown(&rt, &mut host, answer(11, 1, 3));
-    is_unreadable(&rt, &mut host, b"");
-    is_unreadable(&rt, &mut host, b"\x01\0\0\0\0\0\0\0\xa1\0\0\0");
+    for end in [
+        read_end(2),
+        ended(1, 0xA2, 0, EndBody::Moved(1024)),
+        ended(5, 0x90, 0, EndBody::Moved(0)),
+        answer(10, 5, 3),
+        answer(11, 1, 3),
+    ] {
+        hears(&rt, &mut host, end, Err(HostFault::Unknown));
+        has_free(&rt, &host, 5);
+    }
+    let short = b"\x01\0\0\0\0\0\0\0\xa1\0\0\0";
+    for bytes in [b"".as_slice(), short.as_slice()] {
+        holds(&rt, host.receive(bytes) == Err(HostFault::Unreadable));
+    }
 }
 
 // Whatever the command, the end of an unknown opcode is one of its ends.
@@ -218,15 +212,14 @@ fn an_end_of_endcode_0x80_is_of_any_command(rt: HostRuntime) {
 
 #[test]
 fn each_fault_has_its_text(rt: HostRuntime) -> Result<(), Fail> {
-    let cases = [
+    for (fault, text) in [
         (HostFault::Credits, "credits"),
         (HostFault::NoCredit, "no-credit"),
         (HostFault::LastCredit, "last-credit"),
         (HostFault::Doubled, "doubled"),
         (HostFault::Unreadable, "unreadable"),
         (HostFault::Unknown, "unknown"),
-    ];
-    for (fault, text) in cases {
+    ] {
         same(&rt, fault.to_string(rt.alloc())?.as_str(), text);
     }
     Ok(())

@@ -8,7 +8,7 @@ use super::values::{FIRST, command, config};
 use crate::Scarce;
 use crate::tests::checks::{holds, same, same_of};
 use linked_list_allocator::LocalHeap;
-use mscp_controller::{Block, Config, Entry, Event, OutOfMemory, Sweep, run, run_in};
+use mscp_controller::{Block, Entry, Event, OutOfMemory, Sweep, run, run_in};
 use mscp_host::News;
 use mscp_packet::{MoveKind, Order, write_command};
 use mscp_sim::{
@@ -95,11 +95,11 @@ fn takes(rt: &(impl Abort + AllocGlobal)) -> Vec<Event> {
 }
 
 /// A heap of so many bytes.
-fn heap_of(rt: &(impl Abort + AllocGlobal), bytes: usize) -> LocalHeap {
+pub(super) fn heap_of(rt: &(impl Abort + AllocGlobal), bytes: usize) -> LocalHeap {
     LocalHeap::new(rt.alloc(), bytes).ok().expect(rt, "memory")
 }
 
-// All of it is used.
+// All of it is used, and an entry less is too little.
 #[test]
 fn the_bytes_of_the_entries_are_enough_for_a_run(rt: HostRuntime) {
     let heap = heap_of(&rt, 1000 * size_of::<Entry>());
@@ -108,24 +108,16 @@ fn the_bytes_of_the_entries_are_enough_for_a_run(rt: HostRuntime) {
         .expect(&rt, "room for the entries");
     same(&rt, entries.len(), 1000);
     same(&rt, heap.used(), heap.size());
-}
-
-#[test]
-fn an_entry_less_is_too_little_for_a_run(rt: HostRuntime) {
-    let heap = heap_of(&rt, 999 * size_of::<Entry>());
-    let refused = run_in(&heap, config(&rt, 4, 16), Sweep, &takes(&rt)).err();
+    let less = heap_of(&rt, 999 * size_of::<Entry>());
+    let refused = run_in(&less, config(&rt, 4, 16), Sweep, &takes(&rt)).err();
     same(&rt, refused, Some(OutOfMemory));
-    same(&rt, heap.used(), 0);
+    same(&rt, less.used(), 0);
 }
 
 #[test]
 fn report_is_refused_memory(rt: HostRuntime) -> Result<(), Fail> {
-    let entries = run(
-        rt.alloc(),
-        config(&rt, 5, 8),
-        Sweep,
-        &passed_and_aborted(&rt),
-    )?;
+    let events = passed_and_aborted(&rt);
+    let entries = run(rt.alloc(), config(&rt, 5, 8), Sweep, &events)?;
     for number in 1..MANY {
         let heap = Scarce::new(rt.alloc(), number);
         match report_in(&heap, &entries) {
@@ -142,13 +134,6 @@ fn report_is_refused_memory(rt: HostRuntime) -> Result<(), Fail> {
     panic!(rt; "a report never found memory");
 }
 
-/// The script is read whole, with these ten events.
-fn is_the_script(rt: &impl Abort, read: &Config, made: &[Event], events: &[Event]) {
-    same(rt, read, &config(rt, 4, 16));
-    same(rt, made, events);
-    same(rt, made.len(), 10);
-}
-
 #[test]
 fn read_script_is_refused_memory(rt: HostRuntime) -> Result<(), Fail> {
     let whole = read_script(rt.alloc(), SCRIPT)?;
@@ -158,12 +143,9 @@ fn read_script_is_refused_memory(rt: HostRuntime) -> Result<(), Fail> {
             Err(ReadFault::OutOfMemory) => nothing_is_kept(&rt, &heap, true),
             Err(ReadFault::Script(_)) => panic!(rt; "it has no fault"),
             Ok(script) => {
-                is_the_script(
-                    &rt,
-                    &script.config,
-                    script.events.as_slice(),
-                    whole.events.as_slice(),
-                );
+                same(&rt, &script.config, &config(&rt, 4, 16));
+                same(&rt, script.events.as_slice(), whole.events.as_slice());
+                same(&rt, script.events.len(), 10);
                 drop(script);
                 nothing_is_kept(&rt, &heap, false);
                 holds(&rt, number > 1);
@@ -201,23 +183,14 @@ fn simulate_is_refused_memory(rt: HostRuntime) {
 }
 
 /// The line of each kind of packet, or its fault.
+#[rattlefmt::skip]
 const SHOWN: [(&str, Result<&[u8], ShowFault>); 6] = [
-    (
-        "0100000000000000210000000004000000000000000000000000000028000000",
-        Ok(b"command 1 unit 0 READ bytes 1024 block 40\n"),
-    ),
-    (
-        "0200000000000000820000000100000012000000",
-        Ok(b"end 2 unit 0 code 82 status 0000 of 1 figure 18\n"),
-    ),
-    (
-        "050000000000000013000000",
-        Ok(b"command 5 unit 0 unknown opcode 19\n"),
-    ),
-    (
-        "050000000000000080000108",
-        Ok(b"end 5 unit 0 code 80 status 0801\n"),
-    ),
+    ("0100000000000000210000000004000000000000000000000000000028000000",
+        Ok(b"command 1 unit 0 READ bytes 1024 block 40\n")),
+    ("0200000000000000820000000100000012000000",
+        Ok(b"end 2 unit 0 code 82 status 0000 of 1 figure 18\n")),
+    ("050000000000000013000000", Ok(b"command 5 unit 0 unknown opcode 19\n")),
+    ("050000000000000080000108", Ok(b"end 5 unit 0 code 80 status 0801\n")),
     ("0500", Err(ShowFault::Short)),
     ("0", Err(ShowFault::Hex)),
 ];
@@ -273,18 +246,13 @@ fn polled_twice() -> [Turn; 8] {
     ]
 }
 
-/// This is heard of the talk, in which so much came to the controller.
-fn is_the_talk(rt: &impl Abort, heard: &[Heard], came: usize) {
-    let wanted = [
-        Heard::Asked,
-        Heard::News(News::First(18)),
-        Heard::Asked,
-        Heard::News(News::Reset),
-    ];
-    same(rt, heard.len(), 8);
-    same(rt, came, 8);
-    same(rt, heard.get(4..), Some(wanted.as_slice()));
-}
+/// What is heard in the last four turns.
+const ANSWERS: [Heard; 4] = [
+    Heard::Asked,
+    Heard::News(News::First(18)),
+    Heard::Asked,
+    Heard::News(News::Reset),
+];
 
 #[test]
 fn converse_is_refused_memory(rt: HostRuntime) {
@@ -293,7 +261,9 @@ fn converse_is_refused_memory(rt: HostRuntime) {
         match converse_in(&heap, config(&rt, 4, 16), Sweep, &polled_twice()) {
             Err(OutOfMemory) => nothing_is_kept(&rt, &heap, true),
             Ok(talk) => {
-                is_the_talk(&rt, talk.heard.as_slice(), talk.trace.len());
+                same(&rt, (talk.heard.len(), talk.trace.len()), (8, 8));
+                let heard = talk.heard.as_slice().get(4..);
+                same(&rt, heard, Some(ANSWERS.as_slice()));
                 drop(talk);
                 nothing_is_kept(&rt, &heap, false);
                 same(&rt, number, 3);

@@ -1,7 +1,6 @@
 // Every opcode, in every length, of zeros and of ones: each comes to a controller of its own. What is wanted is worked out
 // from the table of opcodes below, and from the rules of arrival.
 
-use super::calls::has_free;
 use super::values::{FIRST, config};
 use crate::tests::checks::{holds, same, same_of};
 use arrayvec::ArrayVec;
@@ -132,11 +131,8 @@ fn judged(
     match answered(rt, opcode, length, fill) {
         None => (Ok(Sent::Queued(reference)), None),
         Some(end) => {
-            let sent = Sent::Answered {
-                reference,
-                aborted: None,
-            };
-            (Ok(sent), Some(end))
+            let aborted = None;
+            (Ok(Sent::Answered { reference, aborted }), Some(end))
         }
     }
 }
@@ -155,10 +151,11 @@ fn is_judged(rt: &impl Abort, opcode: u8, fill: u8, length: usize) {
     let mut controller = Controller::new(config(rt, 4, 16), Oldest);
     let sent = controller.send(FIRST, some);
     let (wanted, end) = judged(rt, opcode, length, fill);
-    same_of(rt, (opcode, length, fill), sent, wanted);
-    has_free(rt, &controller, FIRST, if wanted.is_ok() { 3 } else { 4 });
-    let taken = controller.take(FIRST);
-    same_of(rt, (opcode, length, fill), taken, end);
+    let row = (opcode, length, fill);
+    same_of(rt, row, sent, wanted);
+    let free = if wanted.is_ok() { 3 } else { 4 };
+    same_of(rt, row, controller.balance(FIRST), free);
+    same_of(rt, row, controller.take(FIRST), end);
 }
 
 #[test]

@@ -2,11 +2,11 @@
 
 ghost use Rattle.std.specs.Prelude.{◌<◌, ◌≤◌};
 
-use super::calls::{bring_online, has_figure, queues, steps, takes_nothing};
+use super::calls::Trial;
 use super::controllers::Newest;
 use super::values::{FIRST, config, read, read_ended, served};
 use crate::tests::checks::{holds, same};
-use mscp_controller::{Block, Controller, Report, run};
+use mscp_controller::{Block, Report, run};
 use mscp_sim::{read_script, report};
 use sha2::{Digest, Sha256};
 use std::process::Abort;
@@ -37,58 +37,51 @@ fn serving(reference: u32, lbn: u32, place: u32, from: u32) -> Report {
     served(FIRST, reference, Some(lbn), place == 0, seek, ended)
 }
 
-/// Serves a READ to its end, from where the head is, and answers where it is then.
-fn serve(rt: &impl Abort, controller: &mut Controller<Newest>, reference: u32, from: u32) -> u32
-    requires { reference ≤ 63 }
-{
-    let first = first_block(reference);
-    let mut head = from;
-    for place in 0..BLOCKS {
-        let report = serving(reference, first + place, place, head);
-        steps(rt, controller, Block::Good, report);
-        head = first + place;
+impl<R: Abort> Trial<'_, R, Newest> {
+    /// Serves a READ to its end, from where the head is, and answers where it is then.
+    fn serve(&mut self, reference: u32, from: u32) -> u32
+        requires { reference ≤ 63 }
+    {
+        let first = first_block(reference);
+        let mut head = from;
+        for place in 0..BLOCKS {
+            self.steps(Block::Good, serving(reference, first + place, place, head));
+            head = first + place;
+        }
+        head
     }
-    head
-}
 
-/// Fills all places. A later one waits for all before it too.
-fn fill(rt: &impl Abort, controller: &mut Controller<Newest>) {
-    for number in 1..64u32 {
-        let read = read(number, 512 * BLOCKS, first_block(number));
-        queues(rt, controller, FIRST, &read);
-        has_figure(rt, controller, FIRST, number, BLOCKS * number + BUDGET);
+    /// Fills all places. A later one waits for all before it too.
+    fn fill(&mut self) {
+        for number in 1..64u32 {
+            self.queues(FIRST, &read(number, 512 * BLOCKS, first_block(number)));
+            self.has_figure(FIRST, number, BLOCKS * number + BUDGET);
+        }
     }
-}
 
-/// Empties them, with the head here, and answers where it is then. The figure of the first is its own blocks and the budget
-/// less the blocks of those that passed it.
-fn empty(rt: &impl Abort, controller: &mut Controller<Newest>, from: u32) -> u32 {
-    let mut head = from;
-    for passed in 0..PLACES {
-        let figure = BLOCKS + BUDGET - BLOCKS * passed;
-        has_figure(rt, controller, FIRST, 1, figure);
-        head = serve(rt, controller, PLACES - passed, head);
+    /// Empties them, with the head here, and answers where it is then. The figure of the first is its own blocks and the
+    /// budget less the blocks of those that passed it. An end of each is taken.
+    fn empty(&mut self, from: u32) -> u32 {
+        let mut head = from;
+        for passed in 0..PLACES {
+            self.has_figure(FIRST, 1, BLOCKS + BUDGET - BLOCKS * passed);
+            head = self.serve(PLACES - passed, head);
+        }
+        for _number in 0..PLACES {
+            holds(self.rt, self.controller.take(FIRST).is_some());
+        }
+        self.takes_nothing(FIRST);
+        head
     }
-    head
-}
-
-/// Takes an end of each.
-fn take_all(rt: &impl Abort, controller: &mut Controller<Newest>) {
-    for _number in 0..PLACES {
-        holds(rt, controller.take(FIRST).is_some());
-    }
-    takes_nothing(rt, controller, FIRST);
 }
 
 #[test]
 fn sixty_three_places_are_filled_and_emptied(rt: HostRuntime) {
-    let mut controller = Controller::new(config(&rt, 64, u64::from(BUDGET)), Newest);
-    bring_online(&rt, &mut controller, 0);
+    let mut trial = Trial::online(&rt, config(&rt, 64, u64::from(BUDGET)), Newest);
     let mut head = 0;
     for _round in 0..100 {
-        fill(&rt, &mut controller);
-        head = empty(&rt, &mut controller, head);
-        take_all(&rt, &mut controller);
+        trial.fill();
+        head = trial.empty(head);
     }
 }
 

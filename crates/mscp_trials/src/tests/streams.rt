@@ -154,13 +154,8 @@ fn a_writer_that_fails_at_any_call_is_told(rt: HostRuntime) {
         for call in 1..=REPORT.len().div_ceil(taken) {
             let (answer, bytes) = simulated_by(rt.alloc(), (4096, NEVER), (taken, call));
             same_of(&rt, (taken, call), answer, Err(SimFault::Write));
-            let before = (call - 1) * taken;
-            same_of(
-                &rt,
-                (taken, call),
-                Some(bytes.as_slice()),
-                REPORT.get(..before),
-            );
+            let before = REPORT.get(..(call - 1) * taken);
+            same_of(&rt, (taken, call), Some(bytes.as_slice()), before);
         }
     }
 }

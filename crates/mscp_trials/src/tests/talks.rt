@@ -3,7 +3,9 @@
 mod paired;
 
 use super::moments::{Moments, event_of};
-use super::values::{FIRST, SECOND, limits, online_ended, read, read_ended, served, unit};
+use super::values::{
+    FIRST, SECOND, limits, online_ended, read, read_ended, read_message, served, unit,
+};
 use crate::tests::checks::{holds, same};
 use mscp_controller::{Block, Connection, Entry, Report, Sent, Sweep};
 use mscp_host::{HostFault, News};
@@ -168,24 +170,6 @@ fn a_number_used_again_is_another_command(rt: HostRuntime) {
     told.is_heard(&rt);
 }
 
-/// The message of a READ of 1024 bytes at block 40.
-fn message(reference: u8) -> [u8; 32] {
-    let mut message = [0; 32];
-    message[0] = reference;
-    message[8] = 0x21;
-    message[13] = 4;
-    message[28] = 40;
-    message
-}
-
-/// GET COMMAND STATUS 10 about command 1.
-const ASKED: [u8; 16] = [10, 0, 0, 0, 0, 0, 0, 0, 2, 0, 0, 0, 1, 0, 0, 0];
-
-/// The end of it, with figure 18.
-const ANSWER: [u8; 20] = [
-    10, 0, 0, 0, 0, 0, 0, 0, 0x82, 0, 0, 0, 1, 0, 0, 0, 18, 0, 0, 0,
-];
-
 #[test]
 fn says_what_never_reaches_the_controller(rt: HostRuntime) {
     let mut told = Told::new(&rt);
@@ -200,24 +184,21 @@ fn says_what_never_reaches_the_controller(rt: HostRuntime) {
     told.takes(&rt, FIRST, Heard::News(News::First(18)));
     let mut came = Moments::new(&rt);
     came.takes_nothing(&rt, FIRST);
-    came.queues(&rt, 1, &message(1));
-    came.answers(&rt, 10, &ASKED);
-    came.queues(&rt, 2, &message(2));
-    came.takes(&rt, &ANSWER);
+    came.queues(&rt, 1, &read_message(1, 0, 1024, 40));
+    came.answers(&rt, 10, b"\x0a\0\0\0\0\0\0\0\x02\0\0\0\x01\0\0\0");
+    came.queues(&rt, 2, &read_message(2, 0, 1024, 40));
+    came.takes(&rt, b"\x0a\0\0\0\0\0\0\0\x82\0\0\0\x01\0\0\0\x12\0\0\0");
     came.are(&rt, told.talk(&rt, 0).trace.as_slice());
 }
 
 #[test]
 fn a_poll_names_the_unit_of_its_command(rt: HostRuntime) {
     let mut told = Told::new(&rt);
-    told.queues(
-        &rt,
-        FIRST,
-        Command {
-            unit: 300,
-            ..ONLINE
-        },
-    );
+    let online = Command {
+        unit: 300,
+        ..ONLINE
+    };
+    told.queues(&rt, FIRST, online);
     told.is_told(&rt, 10, News::First(17));
     let asked = [10, 0, 0, 0, 44, 1, 0, 0, 2, 0, 0, 0, 9, 0, 0, 0];
     let answered = Sent::Answered {

@@ -19,11 +19,8 @@ fn each_fault_of_a_call_has_its_text(rt: HostRuntime) {
     told(&rt, &ShowFault::Code, "packet: code");
     told(&rt, &ShowFault::Length, "packet: length");
     told(&rt, &ShowFault::OutOfMemory, "out of memory");
-    told(
-        &rt,
-        &LineFault::Usage,
-        "usage: mscpq [run FILE | packet HEX]",
-    );
+    let usage = "usage: mscpq [run FILE | packet HEX]";
+    told(&rt, &LineFault::Usage, usage);
     told(&rt, &SimFault::Read, "cannot read");
     told(&rt, &SimFault::Write, "cannot write");
     told(&rt, &SimFault::OutOfMemory, "out of memory");

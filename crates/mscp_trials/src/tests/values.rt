@@ -1,6 +1,6 @@
 // Units, configurations, commands, ends and reports that several tests are about.
 
-use mscp_controller::{Config, Connection, Report};
+use mscp_controller::{Block, Config, Connection, FaultStatus, Report};
 use mscp_drive::{Unit, Units};
 use mscp_packet::{Command, End, EndBody, MoveKind, Order};
 use std::process::Abort;
@@ -47,6 +47,16 @@ pub fn command(reference: u32, order: Order) -> Command {
 /// A READ of so many bytes of unit 0, from a block on.
 pub fn read(reference: u32, bytes: u32, block: u32) -> Command {
     command(reference, Order::Move(MoveKind::Read, bytes, block))
+}
+
+/// A GET COMMAND STATUS of the other command.
+pub fn poll(reference: u32, other: u32) -> Command {
+    command(reference, Order::Status(other))
+}
+
+/// Data Error.
+pub fn bad(rt: &impl Abort) -> Block {
+    Block::Bad(FaultStatus::new(0x000B).expect(rt, "a status"))
 }
 
 /// The end of a command to unit 0.
@@ -100,4 +110,21 @@ pub fn served(
         seek,
         ended,
     }
+}
+
+/// These bytes, and zeros behind them.
+pub fn padded<const COUNT: usize>(start: &[u8]) -> [u8; COUNT] {
+    let mut all = [0; COUNT];
+    for (byte, given) in all.iter_mut().zip(start) {
+        *byte = *given;
+    }
+    all
+}
+
+/// The message of a READ of at most 65535 bytes of a unit, from a block on.
+pub fn read_message(reference: u8, unit: u8, bytes: u16, block: u8) -> [u8; 32] {
+    let [low, high] = bytes.to_le_bytes();
+    let mut message = padded(&[reference, 0, 0, 0, unit, 0, 0, 0, 0x21, 0, 0, 0, low, high]);
+    message[28] = block;
+    message
 }

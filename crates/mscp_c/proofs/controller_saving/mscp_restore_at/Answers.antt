@@ -2,8 +2,7 @@ use Rattle.std.proofs.Common.{rules, ◌≡◌, ◌∙◌, ap, pos, refl, sym}
 use Rattle.std.specs.Prelude.{Option, None, Ok, Err}
 use Rattle.mscp_controller.specs.Holdings.{fresh}
 use Rattle.mscp_memory.specs.declared.fault.RoomFault.{RoomFault}
-use Rattle.mscp_memory.specs.declared.controller.handle.Handle.{Handle}
-use Rattle.mscp_memory.specs.ControllerHandles.{placed, room_fault, with_held}
+use Rattle.mscp_memory.specs.ControllerHandles.{Handle, placed, room_fault, with_held}
 use Rattle.mscp_saved.specs.Read.{held_in}
 use Rattle.mscp_c.specs.Restoring.{policy_named, restored_by}
 use Rattle.mscp_c.specs.Saving.{placed_or, restores_unless}

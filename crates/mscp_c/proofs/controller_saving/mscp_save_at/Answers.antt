@@ -1,8 +1,6 @@
 use Rattle.std.proofs.Common.{◌≡◌, ◌∙◌, ℕ, List, Ok, ap, subst, sym}
 use Rattle.mscp_memory.specs.declared.policy.Policy.{Policy}
-use Rattle.mscp_memory.specs.ControllerRoom.{Held}
-use Rattle.mscp_memory.specs.ControllerHandles.{with_held}
-use Rattle.mscp_memory.specs.declared.controller.handle.Handle.{Handle}
+use Rattle.mscp_memory.specs.ControllerHandles.{Handle, Held, with_held}
 use Rattle.mscp_saved.specs.Saved.{saved_bytes}
 use Rattle.mscp_saved.specs.Restored.{restored}
 use Rattle.mscp_c.specs.Restoring.{policy_named, policy_number, restored_by, saved_by}

@@ -2,8 +2,7 @@ use Rattle.std.proofs.Common.{◌≡◌, Ok, ap, sym, ◌∙◌}
 use Rattle.mscp_host.specs.Accounts.{Account}
 use Rattle.mscp_host.specs.Restored.{restored}
 use Rattle.mscp_host.specs.Saved.{saved_bytes}
-use Rattle.mscp_memory.specs.declared.host.handle.Handle.{Handle}
-use Rattle.mscp_memory.specs.HostHandles.{with_held}
+use Rattle.mscp_memory.specs.HostHandles.{Handle, with_held}
 use Rattle.mscp_c.proofs.host_saving.mscp_host_save_at.Goals as goal
 
 pub returns-clause-back : goal.returns-clause-back

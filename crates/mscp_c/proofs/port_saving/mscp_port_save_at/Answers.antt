@@ -2,9 +2,7 @@ use Rattle.std.proofs.Common.{◌≡◌, ◌∙◌, ℕ, List, ap, rules, subst,
 use Rattle.std.specs.Prelude.{Ok, nat_eq, if◌then◌else◌}
 use Rattle.mscp_memory.specs.declared.policy.Policy.{Policy}
 use Rattle.mscp_memory.specs.declared.policy.Policy.TheVariants.{Oldest, Sweep}
-use Rattle.mscp_memory.specs.declared.port.handle.Handle.{Handle}
-use Rattle.mscp_memory.specs.PortHandles.{with_held}
-use Rattle.mscp_memory.specs.PortRoom.{Held}
+use Rattle.mscp_memory.specs.PortHandles.{Handle, Held, with_held}
 use Rattle.mscp_port.specs.Restored.{restored}
 use Rattle.mscp_port.specs.Saved.{saved_bytes}
 use Rattle.mscp_port.proofs.Comes.{number_told}

@@ -1,20 +1,19 @@
 // Who is served, under one picker and under another.
 
 use super::Newest;
-use crate::tests::calls::{bring_online, queues};
+use crate::tests::calls::Trial;
 use crate::tests::checks::{same, same_of};
 use crate::tests::values::{FIRST, command, limits, read, unit};
-use mscp_controller::{Block, Controller, Oldest, Picker, Report, Sweep};
+use mscp_controller::{Block, Oldest, Picker, Report, Sweep};
 use mscp_packet::{Command, Order};
 use std::process::Abort;
 
 /// A controller of two units with 8 credits, which may pass each command by so many blocks.
-fn controller<K: Picker>(rt: &impl Abort, budget: u64, picker: K) -> Controller<K> {
+fn controller<R: Abort, K: Picker>(rt: &R, budget: u64, picker: K) -> Trial<'_, R, K> {
     let config = limits(rt, (8, 0), budget, &[unit(rt, 0), unit(rt, 1)]);
-    let mut controller = Controller::new(config, picker);
-    bring_online(rt, &mut controller, 0);
-    bring_online(rt, &mut controller, 1);
-    controller
+    let mut trial = Trial::online(rt, config, picker);
+    trial.bring_online(1);
+    trial
 }
 
 /// A READ of one block.
@@ -25,17 +24,36 @@ fn one(reference: u32, unit: u16, block: u32) -> Command {
     }
 }
 
-fn send<K: Picker>(rt: &impl Abort, controller: &mut Controller<K>, commands: &[Command]) {
-    for command in commands {
-        queues(rt, controller, FIRST, command);
+impl<R: Abort, K: Picker> Trial<'_, R, K> {
+    /// These come.
+    fn get(&mut self, commands: &[Command]) {
+        for command in commands {
+            self.queues(FIRST, command);
+        }
     }
-}
 
-/// The command that a step serves, 0 if none waits.
-fn next<K: Picker>(controller: &mut Controller<K>) -> u32 {
-    match controller.step(Block::Good) {
-        Report::Served { reference, .. } => reference,
-        Report::Idle => 0,
+    /// The command that a step serves, 0 if none waits, and for which the head crosses so many cylinders.
+    fn next(&mut self) -> (u32, u32) {
+        match self.controller.step(Block::Good) {
+            Report::Served {
+                reference,
+                seek,
+                ..
+            } => (reference, seek),
+            Report::Idle => (0, 0),
+        }
+    }
+
+    /// Four steps serve these.
+    fn serves_each(&mut self, wanted: [u32; 4]) {
+        for reference in wanted {
+            same_of(self.rt, wanted, self.next().0, reference);
+        }
+    }
+
+    /// The next step serves this command, and the head crosses so many cylinders for it.
+    fn serves(&mut self, wanted: u32, cylinders: u32) {
+        same(self.rt, self.next(), (wanted, cylinders));
     }
 }
 
@@ -47,16 +65,9 @@ fn serves_of<K: Picker + Drop>(
     commands: &[Command; 4],
     wanted: [u32; 4],
 ) {
-    let mut controller = controller(rt, budget, picker);
-    send(rt, &mut controller, commands);
-    are_next(rt, &mut controller, wanted);
-}
-
-/// Four steps serve these.
-fn are_next<K: Picker>(rt: &impl Abort, controller: &mut Controller<K>, wanted: [u32; 4]) {
-    for reference in wanted {
-        same_of(rt, wanted, next(controller), reference);
-    }
+    let mut trial = controller(rt, budget, picker);
+    trial.get(commands);
+    trial.serves_each(wanted);
 }
 
 // A SET UNIT CHARACTERISTICS stands between two reads of its unit, beside a read of another unit.
@@ -79,34 +90,17 @@ fn a_command_is_passed_by_the_budget_at_most(rt: HostRuntime) {
 #[test]
 fn a_start_passes_every_earlier_command(rt: HostRuntime) {
     let mut newest = controller(&rt, 1, Newest);
-    send(
-        &rt,
-        &mut newest,
-        &[one(1, 0, 0), one(2, 0, 0), one(3, 0, 0)],
-    );
-    same(&rt, next(&mut newest), 3);
-    queues(&rt, &mut newest, FIRST, &one(4, 0, 0));
-    are_next(&rt, &mut newest, [1, 2, 4, 0]);
-}
-
-/// The next step serves this command, and the head crosses so many cylinders for it.
-fn serves(rt: &impl Abort, controller: &mut Controller<Sweep>, wanted: u32, cylinders: u32) {
-    let Report::Served {
-        reference,
-        seek,
-        ..
-    } = controller.step(Block::Good)
-    else {
-        panic!(rt; "a command waits");
-    };
-    same(rt, (reference, seek), (wanted, cylinders));
+    newest.get(&[one(1, 0, 0), one(2, 0, 0), one(3, 0, 0)]);
+    newest.serves(3, 0);
+    newest.queues(FIRST, &one(4, 0, 0));
+    newest.serves_each([1, 2, 4, 0]);
 }
 
 /// A sweep whose head went up to cylinder 10.
-fn on_cylinder_10(rt: &impl Abort) -> Controller<Sweep> {
+fn on_cylinder_10<R: Abort>(rt: &R) -> Trial<'_, R, Sweep> {
     let mut sweep = controller(rt, 16, Sweep);
-    queues(rt, &mut sweep, FIRST, &one(1, 0, 200));
-    serves(rt, &mut sweep, 1, 10);
+    sweep.queues(FIRST, &one(1, 0, 200));
+    sweep.serves(1, 10);
     sweep
 }
 
@@ -114,11 +108,11 @@ fn on_cylinder_10(rt: &impl Abort) -> Controller<Sweep> {
 #[test]
 fn a_start_below_turns_the_head(rt: HostRuntime) {
     let mut sweep = on_cylinder_10(&rt);
-    queues(&rt, &mut sweep, FIRST, &one(2, 0, 199));
-    serves(&rt, &mut sweep, 2, 1);
-    send(&rt, &mut sweep, &[one(3, 0, 200), one(4, 0, 160)]);
-    serves(&rt, &mut sweep, 4, 1);
-    serves(&rt, &mut sweep, 3, 2);
+    sweep.queues(FIRST, &one(2, 0, 199));
+    sweep.serves(2, 1);
+    sweep.get(&[one(3, 0, 200), one(4, 0, 160)]);
+    sweep.serves(4, 1);
+    sweep.serves(3, 2);
 }
 
 // The second block of the READ of blocks 199 and 200 carries the head up to cylinder 10 again, but doesn't turn it. So it
@@ -126,10 +120,10 @@ fn a_start_below_turns_the_head(rt: HostRuntime) {
 #[test]
 fn the_head_turns_at_a_start_alone(rt: HostRuntime) {
     let mut sweep = on_cylinder_10(&rt);
-    queues(&rt, &mut sweep, FIRST, &read(2, 1024, 199));
-    serves(&rt, &mut sweep, 2, 1);
-    serves(&rt, &mut sweep, 2, 1);
-    send(&rt, &mut sweep, &[one(3, 0, 220), one(4, 0, 100)]);
-    serves(&rt, &mut sweep, 4, 5);
-    serves(&rt, &mut sweep, 3, 6);
+    sweep.queues(FIRST, &read(2, 1024, 199));
+    sweep.serves(2, 1);
+    sweep.serves(2, 1);
+    sweep.get(&[one(3, 0, 220), one(4, 0, 100)]);
+    sweep.serves(4, 5);
+    sweep.serves(3, 6);
 }

@@ -1,12 +1,11 @@
 // Whole runs, and the memory that they ask for.
 
 use crate::tests::moments::Moments;
-use crate::tests::values::{FIRST, config, ended, served};
+use crate::tests::values::{FIRST, bad, config, ended, padded, served};
 use arrayvec::ArrayVec;
 use mscp_controller::{Entry, Event, SendFault};
 use mscp_packet::EndBody;
-use mscp_queue::{Block, FaultStatus, Oldest, Report};
-use std::process::Abort;
+use mscp_queue::{Block, Oldest, Report};
 
 #[test]
 fn run_finds_memory(rt: HostRuntime) {
@@ -32,9 +31,10 @@ fn a_short_message_costs_no_credit(rt: HostRuntime) {
     moments.are_run(&rt, config(&rt, 2, 0), Oldest);
 }
 
-/// An ONLINE whose block is bad tells zeros.
-fn bad_online(rt: &impl Abort, moments: &mut Moments) {
-    let status = FaultStatus::new(0x000B).expect(rt, "a status");
+// An ONLINE whose block is bad tells zeros.
+#[test]
+fn a_bad_online_leaves_the_unit_available(rt: HostRuntime) {
+    let mut moments = Moments::new(&rt);
     let body = EndBody::Online {
         id: 0,
         media: 0,
@@ -43,24 +43,11 @@ fn bad_online(rt: &impl Abort, moments: &mut Moments) {
     };
     let end = ended(1, 0x89, 0x000B, body);
     let report = served(FIRST, 1, None, true, 0, Some(end));
-    moments.queues(rt, 1, &[1, 0, 0, 0, 0, 0, 0, 0, 9, 0, 0, 0]);
-    moments.steps(rt, Block::Bad(status), report);
-    let mut told = [0; 44];
-    told[0] = 1;
-    told[8] = 0x89;
-    told[10] = 0x0B;
-    moments.takes(rt, &told);
-}
-
-#[test]
-fn a_bad_online_leaves_the_unit_available(rt: HostRuntime) {
-    let mut moments = Moments::new(&rt);
-    bad_online(&rt, &mut moments);
+    moments.queues(&rt, 1, &[1, 0, 0, 0, 0, 0, 0, 0, 9, 0, 0, 0]);
+    moments.steps(&rt, bad(&rt), report);
+    moments.takes(&rt, &padded::<44>(b"\x01\0\0\0\0\0\0\0\x89\0\x0b"));
     moments.answers(&rt, 2, &[2, 0, 0, 0, 0, 0, 0, 0, 3, 0, 0, 0]);
-    let mut status = [0; 48];
-    status[0] = 2;
-    status[8] = 0x83;
-    status[10] = 0x04;
+    let mut status = padded::<48>(b"\x02\0\0\0\0\0\0\0\x83\0\x04");
     status[20] = 1;
     status[36] = 10;
     status[38] = 2;
@@ -69,38 +56,19 @@ fn a_bad_online_leaves_the_unit_available(rt: HostRuntime) {
     moments.are_run(&rt, config(&rt, 4, 16), Oldest);
 }
 
-/// A message, or the end, of a transfer of no bytes: its number, unit, opcode or endcode, and status.
-fn transfer(reference: u8, unit: u8, code: u8, status: u8) -> [u8; 32] {
-    let mut message = [0; 32];
-    message[0] = reference;
-    message[4] = unit;
-    message[8] = code;
-    message[10] = status;
-    message
-}
-
 // An unknown opcode, a READ of a unit that isn't there, a READ of 31 bytes, and a version that isn't 0.
 #[test]
 fn commands_that_are_not_valid_are_answered_at_once(rt: HostRuntime) {
     let mut moments = Moments::new(&rt);
     moments.answers(&rt, 5, b"\x05\0\0\0\0\0\0\0\x13\0\0\0");
     moments.takes(&rt, b"\x05\0\0\0\0\0\0\0\x80\0\x01\x08");
-    let mut no_unit = transfer(6, 7, 0x21, 0);
-    no_unit[13] = 2;
+    let no_unit = padded::<32>(b"\x06\0\0\0\x07\0\0\0\x21\0\0\0\0\x02");
     moments.answers(&rt, 6, &no_unit);
-    moments.takes(&rt, &transfer(6, 7, 0xA1, 0x03));
-    let mut short = [0; 31];
-    short[0] = 8;
-    short[8] = 0x21;
-    moments.answers(&rt, 8, &short);
-    moments.takes(&rt, &transfer(8, 0, 0xA1, 0x01));
+    moments.takes(&rt, &padded::<32>(b"\x06\0\0\0\x07\0\0\0\xa1\0\x03"));
+    moments.answers(&rt, 8, &padded::<31>(b"\x08\0\0\0\0\0\0\0\x21"));
+    moments.takes(&rt, &padded::<32>(b"\x08\0\0\0\0\0\0\0\xa1\0\x01"));
     moments.answers(&rt, 1, b"\x01\0\0\0\0\0\0\0\x04\0\0\0\x01\0");
-    let mut version = [0; 28];
-    version[0] = 1;
-    version[8] = 0x84;
-    version[10] = 0x01;
-    version[11] = 0x0C;
-    moments.takes(&rt, &version);
+    moments.takes(&rt, &padded::<28>(b"\x01\0\0\0\0\0\0\0\x84\0\x01\x0c"));
     moments.are_run(&rt, config(&rt, 5, 16), Oldest);
 }
 
@@ -116,11 +84,7 @@ fn a_poll_of_a_number_that_is_not_there_is_answered_by_zero(rt: HostRuntime) {
 fn a_host_is_told_of_its_controller(rt: HostRuntime) {
     let mut moments = Moments::new(&rt);
     moments.answers(&rt, 1, b"\x01\0\0\0\0\0\0\0\x04\0\0\0\0\0");
-    let mut told = [0; 28];
-    told[0] = 1;
-    told[8] = 0x84;
-    told[16] = 60;
-    told[20] = 1;
-    moments.takes(&rt, &told);
+    let told = b"\x01\0\0\0\0\0\0\0\x84\0\0\0\0\0\0\0\x3c\0\0\0\x01";
+    moments.takes(&rt, &padded::<28>(told));
     moments.are_run(&rt, config(&rt, 4, 16), Oldest);
 }

@@ -4,8 +4,8 @@ mod faults;
 mod flips;
 mod rounds;
 
-use crate::tests::calls::sent;
-use crate::tests::checks::holds;
+use crate::tests::calls::Trial;
+use crate::tests::checks::{holds, same};
 use crate::tests::values::{FIRST, SECOND, command, limits, unit};
 use arrayvec::ArrayVec;
 use mscp_controller::{Block, Connection, Controller, Sweep};
@@ -59,27 +59,39 @@ fn small(rt: &impl Abort) -> ArrayVec<u8, ROOM> {
 }
 
 /// A controller of these credits and of that unit.
-fn controller(rt: &impl Abort, credits: u32, second: u32, budget: u64) -> Controller<Sweep> {
+fn controller<R: Abort>(rt: &R, credits: u32, second: u32, budget: u64) -> Trial<'_, R, Sweep> {
     let config = limits(rt, (credits, second), budget, &[unit(rt, 0)]);
-    Controller::new(config, Sweep)
+    Trial::new(rt, config, Sweep)
 }
 
-/// Sends a command that is not refused.
-fn send(
-    rt: &impl Abort,
-    controller: &mut Controller<Sweep>,
-    connection: Connection,
-    reference: u32,
-    order: Order,
-) {
-    let sent = sent(controller, connection, &command(reference, order));
-    holds(rt, sent.is_ok());
-}
+impl<R: Abort> Trial<'_, R, Sweep> {
+    /// A command comes that is not refused.
+    fn gets(&mut self, connection: Connection, reference: u32, order: Order) {
+        let sent = self.sent(connection, &command(reference, order));
+        holds(self.rt, sent.is_ok());
+    }
 
-/// ONLINE 900 is served, and its end waits.
-fn come_online(rt: &impl Abort, controller: &mut Controller<Sweep>) {
-    send(rt, controller, FIRST, 900, Order::Online);
-    let _served = controller.step(Block::Good);
+    /// ONLINE 900 is served, and its end waits.
+    fn comes_online(&mut self) {
+        self.gets(FIRST, 900, Order::Online);
+        self.makes_steps(1);
+    }
+
+    /// No command waits.
+    fn waits_for_nothing(&self) {
+        same(self.rt, self.controller.waiting(FIRST), 0);
+        same(self.rt, self.controller.waiting(SECOND), 0);
+    }
+
+    /// The controller as bytes.
+    fn bytes(&self) -> ArrayVec<u8, ROOM> {
+        save(&self.controller, 7)
+    }
+
+    /// The controller is saved as these bytes.
+    fn is_saved_as(&self, bytes: &[u8]) {
+        holds(self.rt, self.bytes().as_slice() == bytes);
+    }
 }
 
 /// A transfer of so many blocks, up to 255, from a block on.
@@ -88,26 +100,21 @@ fn transfer(kind: MoveKind, blocks: u8, from: u32) -> Order {
 }
 
 /// The controller of these bytes.
-fn restored(rt: &impl Abort, bytes: &[u8]) -> Controller<Sweep> {
-    restore(bytes, 7, Sweep)
-        .ok()
-        .expect(rt, "the bytes of a controller")
-}
-
-/// The controller is saved as these bytes.
-fn is_saved_as(rt: &impl Abort, controller: &Controller<Sweep>, bytes: &[u8]) {
-    holds(rt, save(controller, 7).as_slice() == bytes);
+fn restored<'a, R: Abort>(rt: &'a R, bytes: &[u8]) -> Option<Trial<'a, R, Sweep>> {
+    let controller = restore(bytes, 7, Sweep).ok()?;
+    Some(Trial { rt, controller })
 }
 
 #[test]
 fn the_bytes_are_these(rt: HostRuntime) {
     let mut saved = controller(&rt, 4, 2, 16);
-    come_online(&rt, &mut saved);
-    send(&rt, &mut saved, FIRST, 1, transfer(MoveKind::Read, 2, 40));
-    let _first = saved.step(Block::Good);
-    send(&rt, &mut saved, SECOND, 1, transfer(MoveKind::Write, 1, 0));
-    holds(&rt, saved.begin().is_some());
+    saved.comes_online();
+    saved.gets(FIRST, 1, transfer(MoveKind::Read, 2, 40));
+    saved.makes_steps(1);
+    saved.gets(SECOND, 1, transfer(MoveKind::Write, 1, 0));
+    holds(&rt, saved.controller.begin().is_some());
     let bytes = small(&rt);
-    is_saved_as(&rt, &saved, bytes.as_slice());
-    is_saved_as(&rt, &restored(&rt, bytes.as_slice()), bytes.as_slice());
+    saved.is_saved_as(&bytes);
+    let again = restored(&rt, &bytes).expect(&rt, "a controller's bytes");
+    again.is_saved_as(&bytes);
 }

@@ -1,8 +1,9 @@
 // The traces in which a command waits longest.
 
 use crate::tests::checks::same;
+use crate::tests::memory::heap_of;
 use crate::tests::moments::Moments;
-use crate::tests::values::{FIRST, ended, read_ended};
+use crate::tests::values::{FIRST, ended, padded, read_ended, read_message};
 use linked_list_allocator::LocalHeap;
 use mscp_control::{worst, worst_in};
 use mscp_controller::{Block, Config, Connection, Entry, Event, OutOfMemory, Picker, Report, View};
@@ -58,32 +59,16 @@ fn comes_online(rt: &impl Abort, moments: &mut Moments) {
     };
     let report = served(2, None, true, 0, Some(ended(2, 0x89, 0, body)));
     moments.steps(rt, Block::Good, report);
-    let mut end = [0; 44];
-    end[0] = 2;
-    end[4] = 3;
-    end[8] = 0x89;
+    let mut end = padded::<44>(&[2, 0, 0, 0, 3, 0, 0, 0, 0x89]);
     end[20] = 1;
     end[36] = 2;
     end[40] = 1;
     moments.takes(rt, &end);
 }
 
-/// The message of a READ of at most 1023 bytes.
-fn message(reference: u8, bytes: u16, block: u8) -> [u8; 32] {
-    let mut message = [0; 32];
-    let [low, high] = bytes.to_le_bytes();
-    message[0] = reference;
-    message[4] = 3;
-    message[8] = 0x21;
-    message[12] = low;
-    message[13] = high;
-    message[28] = block;
-    message
-}
-
 /// A READ comes.
 fn reads(rt: &impl Abort, moments: &mut Moments, reference: u8, bytes: u16, block: u8) {
-    let message = message(reference, bytes, block);
+    let message = read_message(reference, 3, bytes, block);
     moments.queues(rt, u32::from(reference), &message);
 }
 
@@ -93,32 +78,28 @@ fn starts(rt: &impl Abort, moments: &mut Moments, reference: u32, block: u32, se
     moments.steps(rt, Block::Good, report);
 }
 
-/// Its last step, which is its first too, or not.
+/// Its last step, which is its first too, or not. Its end is taken.
 fn ends(
     rt: &impl Abort,
     moments: &mut Moments,
-    (reference, bytes): (u32, u32),
+    (reference, bytes): (u8, u16),
     block: u32,
     started: bool,
     seek: u32,
 ) {
-    let end = read_ended(reference, 0, bytes);
-    let report = served(reference, Some(block), started, seek, Some(end));
+    let number = u32::from(reference);
+    let end = read_ended(number, 0, u32::from(bytes));
+    let report = served(number, Some(block), started, seek, Some(end));
     moments.steps(rt, Block::Good, report);
-}
-
-/// The end of a READ is taken.
-fn is_taken(rt: &impl Abort, moments: &mut Moments, reference: u8, bytes: u16) {
-    let mut end = message(reference, bytes, 0);
-    end[8] = 0xA1;
-    moments.takes(rt, &end);
+    let mut bytes = read_message(reference, 3, bytes, 0);
+    bytes[8] = 0xA1;
+    moments.takes(rt, &bytes);
 }
 
 /// READ 2 of one block comes, is served at once, and its end is taken.
 fn passes(rt: &impl Abort, moments: &mut Moments) {
     reads(rt, moments, 2, 512, 1);
     ends(rt, moments, (2, 512), 1, true, 0);
-    is_taken(rt, moments, 2, 512);
 }
 
 // Three credits, transfers of at most 2 blocks, and a budget of one such pass, 2 blocks: command 1, which is sent last of
@@ -131,11 +112,11 @@ fn worst_finds_memory(rt: HostRuntime) {
     reads(&rt, &mut wanted, 1, 1023, 0);
     starts(&rt, &mut wanted, 0, 0, 0);
     ends(&rt, &mut wanted, (0, 1023), 1, false, 1);
-    is_taken(&rt, &mut wanted, 0, 1023);
     passes(&rt, &mut wanted);
     passes(&rt, &mut wanted);
     starts(&rt, &mut wanted, 1, 0, 1);
-    ends(&rt, &mut wanted, (1, 1023), 1, false, 1);
+    let end = read_ended(1, 0, 1023);
+    wanted.steps(&rt, Block::Good, served(1, Some(1), false, 1, Some(end)));
     let config = config(&rt, (3, 0, 2, 2));
     wanted.are(&rt, trace_of(&rt, &config).as_slice());
 }
@@ -266,34 +247,23 @@ fn there_is_none_where_nothing_can_pass_or_no_unit_has_the_blocks(rt: HostRuntim
 }
 
 /// A heap of the bytes of so many moments.
-fn heap_of(rt: &(impl Abort + AllocGlobal), moments: u16) -> LocalHeap {
-    let bytes = usize::from(moments) * size_of::<(Event, Entry)>();
-    LocalHeap::new(rt.alloc(), bytes).ok().expect(rt, "memory")
+fn room_for(rt: &(impl Abort + AllocGlobal), moments: u16) -> LocalHeap {
+    heap_of(rt, usize::from(moments) * size_of::<(Event, Entry)>())
 }
 
-/// A heap that has just the bytes of so many moments is enough, and all of it is used.
-fn is_enough(rt: &(impl Abort + AllocGlobal), limits: Limits, moments: u16) {
-    let heap = heap_of(rt, moments);
+/// A heap that has just the bytes of so many moments is enough, all of it is used, and no less serve.
+fn asks_for(rt: &(impl Abort + AllocGlobal), limits: Limits, moments: u16) {
+    let heap = room_for(rt, moments);
     let trace = worst_in(&heap, &config(rt, limits), 3)
         .ok()
         .expect(rt, "room for the moments")
         .expect(rt, "another command can pass");
     same(rt, trace.len(), usize::from(moments));
     same(rt, heap.used(), heap.size());
-}
-
-/// With these bytes there is no answer.
-fn is_too_small(rt: &(impl Abort + AllocGlobal), limits: Limits, moments: u16) {
-    let heap = heap_of(rt, moments);
-    let refused = worst_in(&heap, &config(rt, limits), 3).err();
+    let less = room_for(rt, moments.saturating_sub(1));
+    let refused = worst_in(&less, &config(rt, limits), 3).err();
     same(rt, refused, Some(OutOfMemory));
-    same(rt, heap.used(), 0);
-}
-
-/// The trace asks for so many moments, and no less serve.
-fn asks_for(rt: &(impl Abort + AllocGlobal), limits: Limits, moments: u16) {
-    is_enough(rt, limits, moments);
-    is_too_small(rt, limits, moments.saturating_sub(1));
+    same(rt, less.used(), 0);
 }
 
 #[test]

@@ -63,11 +63,10 @@ const VOLUMES: [u8; 26] = [
 /// What is kept of the READ: its number, address and count, no modifiers, no flags, and the volume that changed once.
 const BUFFER: [u8; 20] = [2, 0, 0, 0, 0, 4, 0, 0, 0, 8, 0, 0, 0, 0, 0, 0, 1, 0, 0, 0];
 
-/// The port that its bytes say, with the picker of number 7.
-fn again(rt: &impl Abort, port: &Port<Sweep>) -> Port<Sweep> {
-    Port::restore(port.save(7).as_slice(), 7, Sweep)
-        .ok()
-        .expect(rt, "what was saved")
+/// The port that these bytes say, with the picker of number 7.
+fn restored(rt: &impl Abort, bytes: &[u8]) -> Port<Sweep> {
+    let port = Port::restore(bytes, 7, Sweep);
+    port.ok().expect(rt, "the bytes of a port")
 }
 
 #[test]
@@ -89,9 +88,8 @@ fn write(rt: &impl Abort, stays: &mut Machine, moves: &mut Machine, word: u16) {
 
 /// It sends a message to both.
 fn send(rt: &impl Abort, stays: &mut Machine, moves: &mut Machine, message: &[u8]) {
-    let length = u32::try_from(message.len())
-        .ok()
-        .expect(rt, "a short message");
+    let length = u32::try_from(message.len()).ok();
+    let length = length.expect(rt, "a short message");
     SLOTS.put(stays, length, message);
     SLOTS.put(moves, length, message);
     go_on_alike(rt, stays, moves);
@@ -115,13 +113,11 @@ fn a_port_goes_on_from_its_bytes(rt: HostRuntime) {
 
 /// One action of both, of which the second one is another port before. Whether there was one.
 fn act_alike(rt: &impl Abort, stays: &mut Machine, moves: &mut Machine) -> bool {
-    moves.port = again(rt, &moves.port);
+    moves.port = restored(rt, &moves.port.save(7));
     let acted = stays.act(rt);
     same(rt, moves.act(rt), acted);
-    holds(
-        rt,
-        moves.port.save(7).as_slice() == stays.port.save(7).as_slice(),
-    );
+    let saved = stays.port.save(7);
+    holds(rt, moves.port.save(7).as_slice() == saved.as_slice());
     holds(rt, moves.memory[..] == stays.memory[..]);
     moves.was_interrupted(rt, stays.interrupts);
     acted
@@ -147,13 +143,14 @@ fn with(bytes: &[u8], place: usize, byte: u8) -> ArrayVec<u8, ROOM> {
     edited
 }
 
+/// With this picker these bytes have this fault.
+fn is_refused(rt: &impl Abort, bytes: &[u8], picker: u8, fault: RestoreFault) {
+    holds(rt, Port::restore(bytes, picker, Sweep).err() == Some(fault));
+}
+
 /// These bytes with another one at a place have this fault.
 fn has_fault(rt: &impl Abort, saved: &[u8], place: usize, byte: u8, fault: RestoreFault) {
-    let bytes = with(saved, place, byte);
-    holds(
-        rt,
-        Port::restore(bytes.as_slice(), 7, Sweep).err() == Some(fault),
-    );
+    is_refused(rt, with(saved, place, byte).as_slice(), 7, fault);
 }
 
 #[test]
@@ -207,15 +204,11 @@ fn a_block_that_is_not_begun_is_not_moved(rt: HostRuntime) {
     let saved = in_the_middle(&rt).port.save(7);
     let nowhere = with(&saved, 343, 0);
     let bytes = with(&nowhere, 344, 0);
-    let mut port = Port::restore(bytes.as_slice(), 7, Sweep)
-        .ok()
-        .expect(&rt, "a port");
+    let mut port = restored(&rt, &bytes);
     holds(&rt, port.next() == Action::Pause);
     holds(&rt, port.went(Outcome::Done).is_ok());
-    holds(
-        &rt,
-        matches!(port.next(), Action::Transfer { block: 4, .. }),
-    );
+    let next = port.next();
+    holds(&rt, matches!(next, Action::Transfer { block: 4, .. }));
 }
 
 #[test]
@@ -235,28 +228,14 @@ fn bytes_of_no_form_are_refused(rt: HostRuntime) {
     has_fault(&rt, &saved, 94, 1, RestoreFault::Form);
 }
 
-/// What comes of all of these bytes but the last.
-fn fault_without_the_last(bytes: &[u8]) -> Option<RestoreFault> {
-    let last = bytes.len().checked_sub(1)?;
-    Port::restore(&bytes[..last], 7, Sweep).err()
-}
-
 #[test]
 fn another_picker_and_fewer_bytes_are_refused(rt: HostRuntime) {
     let saved = in_the_middle(&rt).port.save(7);
-    let other_picker = RestoreFault::Controller(ControllerFault::Picker);
-    holds(
-        &rt,
-        Port::restore(&saved, 8, Sweep).err() == Some(other_picker),
-    );
-    holds(
-        &rt,
-        fault_without_the_last(&saved) == Some(RestoreFault::Length),
-    );
-    holds(
-        &rt,
-        Port::restore(&[], 7, Sweep).err() == Some(RestoreFault::Length),
-    );
+    let picker = RestoreFault::Controller(ControllerFault::Picker);
+    is_refused(&rt, &saved, 8, picker);
+    let fewer = saved.as_slice().split_last().expect(&rt, "525 bytes");
+    is_refused(&rt, fewer.1, 7, RestoreFault::Length);
+    is_refused(&rt, &[], 7, RestoreFault::Length);
 }
 
 /// Whether these bytes are a port's. It is saved as they are, and what comes then does no harm.

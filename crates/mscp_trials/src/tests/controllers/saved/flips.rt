@@ -4,20 +4,21 @@ use super::*;
 use crate::tests::checks::{holds, same};
 
 /// Some of both connections wait, ends weren't taken, and one was passed.
-fn mixed(rt: &impl Abort) -> Controller<Sweep> {
+fn mixed<R: Abort>(rt: &R) -> Trial<'_, R, Sweep> {
     let mut both = controller(rt, 6, 8, 16);
-    come_online(rt, &mut both);
-    send(rt, &mut both, SECOND, 1, transfer(MoveKind::Read, 3, 100));
-    send(rt, &mut both, FIRST, 1, transfer(MoveKind::Erase, 2, 7));
-    let _passed = both.step(Block::Good);
-    same(rt, both.most_passed(), 2);
-    send(rt, &mut both, FIRST, 2, Order::Available);
-    send(rt, &mut both, SECOND, 8, Order::Status(1));
+    both.comes_online();
+    both.gets(SECOND, 1, transfer(MoveKind::Read, 3, 100));
+    both.gets(FIRST, 1, transfer(MoveKind::Erase, 2, 7));
+    both.makes_steps(1);
+    same(rt, both.controller.most_passed(), 2);
+    both.gets(FIRST, 2, Order::Available);
+    both.gets(SECOND, 8, Order::Status(1));
     both
 }
 
 /// Each call is made until nothing waits, and each answer is one.
-fn run_on(rt: &impl Abort, controller: &mut Controller<Sweep>) {
+fn run_on(trial: &mut Trial<'_, impl Abort, Sweep>) {
+    let controller = &mut trial.controller;
     for connection in [FIRST, SECOND] {
         let _refused = controller.send(connection, &[5, 0, 0, 0, 0, 0, 0, 0, 9, 0, 0, 0]);
         let _holders = controller.holders(connection, 1);
@@ -30,18 +31,17 @@ fn run_on(rt: &impl Abort, controller: &mut Controller<Sweep>) {
             let _end = controller.take(connection);
         }
     }
-    same(rt, controller.waiting(FIRST), 0);
-    same(rt, controller.waiting(SECOND), 0);
-    controller.reset();
+    trial.waits_for_nothing();
+    trial.controller.reset();
 }
 
 /// Whether these bytes are a controller's: it is saved as they are, and runs on.
 fn goes_on(rt: &impl Abort, bytes: &[u8]) -> bool {
-    let Ok(mut again) = restore(bytes, 7, Sweep) else {
+    let Some(mut again) = restored(rt, bytes) else {
         return false;
     };
-    is_saved_as(rt, &again, bytes);
-    run_on(rt, &mut again);
+    again.is_saved_as(bytes);
+    run_on(&mut again);
     true
 }
 
@@ -63,7 +63,8 @@ fn are_taken(rt: &impl Abort, saved: &[u8], least: usize) {
 #[test]
 fn a_flipped_bit_does_no_harm(rt: HostRuntime) {
     // Any numbers may stand for the controller's identifier and those of its unit: these are 192 bits.
-    are_taken(&rt, save(&controller(&rt, 4, 2, 16), 7).as_slice(), 192);
-    are_taken(&rt, small(&rt).as_slice(), 192);
-    are_taken(&rt, save(&mixed(&rt), 7).as_slice(), 192);
+    for trial in [controller(&rt, 4, 2, 16), mixed(&rt)] {
+        are_taken(&rt, &trial.bytes(), 192);
+    }
+    are_taken(&rt, &small(&rt), 192);
 }

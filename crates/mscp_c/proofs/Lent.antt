@@ -1,0 +1,7 @@
+-- A handle whose value was lent and came back as it was.
+use Rattle.std.proofs.Common.{◌≡◌, ◌∙◌, ap}
+use Rattle.mscp_memory.specs.Rooms.{HandleOf}
+
+pub lent_back : {X : Type 0} (h old : HandleOf X) (x : X) → x ≡ h.held → h ≡ old
+    → (let back : HandleOf X = record h { held = x } in back ≡ old)
+lent_back {X} h old x same kept = ap (λ (y : X). record h { held = y }) same ∙ kept

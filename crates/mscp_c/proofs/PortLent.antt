@@ -1,0 +1,68 @@
+-- A port that was lent from a handle and changed by a call: what the call tells.
+use Rattle.std.proofs.Common.{◌≡◌, ◌∙◌, ℕ, ℤ, Bool, List, ap, subst}
+use Rattle.std.specs.Prelude.{Result, IsOk}
+use Rattle.mscp_port.specs.declared.action.Action.{Action}
+use Rattle.mscp_port.specs.declared.action.Outcome.{Outcome}
+use Rattle.mscp_port.specs.declared.action.Unasked.{Unasked}
+use Rattle.mscp_port.specs.declared.port.watching.NoUnit.{NoUnit}
+use Rattle.mscp_port.specs.declared.task.Task.TheVariants as tasks
+use Rattle.mscp_port.specs.Calls.{Changes, Goes, Hears, Wants}
+use Rattle.mscp_port.specs.Moved.{BeginsBlock, Moves}
+use Rattle.mscp_port.specs.Ports.{IsAlive, IsOfBlock}
+use Rattle.mscp_memory.specs.Policies.{PolicyPicks}
+use Rattle.mscp_memory.specs.PortHandles.{Handle, Held, with_held}
+use Rattle.mscp_c.specs.declared.outs.ActionOut.{ActionOut}
+use Rattle.mscp_c.specs.PortServed.{TellsHeard, TellsVolume, TellsWanted, TellsWent, told_code, volume_code}
+use Rattle.mscp_c.specs.PortTold.{action_told, next_code}
+
+module _ (h old : Handle) (x new : Held) (same : x ≡ h.held) (kept : h ≡ old) where
+  was : x ≡ old.held
+  was = same ∙ ap (λ (g : Handle). g.held) kept
+
+  rest : with_held h new ≡ with_held old new
+  rest = ap (λ (g : Handle). with_held g new) kept
+
+  pub volume_told : (unit : ℕ) (there protected : Bool) (answer : Result (Unit {0}) NoUnit) (status : ℤ)
+      → Changes there protected unit x answer new → status ≡ volume_code answer
+      → TellsVolume unit there protected old status (with_held h new)
+  volume_told unit there protected answer status changes code = record {
+    answer = answer;
+    changes = subst (λ (p : Held). Changes there protected unit p answer new) was changes;
+    rest = rest;
+    code = code;
+  }
+
+  pub heard_told : (bytes : List ℕ) (answer : Result (Unit {0}) Unasked) (status : ℤ) → Hears bytes x answer new
+      → status ≡ told_code answer → TellsHeard bytes old status (with_held h new)
+  heard_told bytes answer status hears code = record {
+    answer = answer;
+    hears = subst (λ (p : Held). Hears bytes p answer new) was hears;
+    rest = rest;
+    code = code;
+  }
+
+  pub went_told : (outcome : Outcome) (answer : Result (Unit {0}) Unasked) (status : ℤ) → Goes outcome x answer new
+      → (IsOk answer → Moves (PolicyPicks x.controller.picker) outcome x new) → status ≡ told_code answer
+      → TellsWent outcome old status (with_held h new)
+  went_told outcome answer status goes moves code = record {
+    answer = answer;
+    goes = subst (λ (p : Held). Goes outcome p answer new) was goes;
+    moves = subst (λ (p : Held). IsOk answer → Moves (PolicyPicks p.controller.picker) outcome p new) was moves;
+    rest = rest;
+    code = code;
+  }
+
+  pub wanted_told : (action : Action) (status : ℤ) (before after : ActionOut) → Wants x action new
+      → (IsAlive x → x.task ≡ tasks.Free → IsOfBlock new.task
+      → BeginsBlock (PolicyPicks x.controller.picker) new.task x new)
+      → status ≡ next_code action → after ≡ action_told action before
+      → TellsWanted old before status (with_held h new) after
+  wanted_told action status before after wants begins code told = record {
+    action = action;
+    wants = subst (λ (p : Held). Wants p action new) was wants;
+    begins = subst (λ (p : Held). IsAlive p → p.task ≡ tasks.Free → IsOfBlock new.task
+        → BeginsBlock (PolicyPicks p.controller.picker) new.task p new) was begins;
+    rest = rest;
+    code = code;
+    told = told;
+  }
