@@ -1,18 +1,9 @@
 -- What becomes of units, of which each is good by itself.
 --     rises, steps      the test tells whether the numbers rise
 --     taken, refused    what is answered, by what `Units::new` answers
-use Rattle.std.proofs.Common.{◌≡◌, ℕ, zero, suc, ◌+◌, ◌<◌, ◌≤◌, List, [], ◌∷◌, length, map, Bool, true, false, nat_lt, ◌&&◌, refl, slice_index_or, add-one, None, Result, Ok, Err, subst, sym, ◌∙◌}
-use Rattle.std.specs.Prelude.{◌↔◌}
-use Rattle.std.proofs.lemmas.List.{length-map}
+use Rattle.mscp_c.proofs.Common.{◌≡◌, ℕ, zero, suc, ◌+◌, ◌<◌, ◌≤◌, List, [], ◌∷◌, length, map, Bool, true, false, nat_lt, ◌&&◌, refl, slice_index_or, add-one, None, Result, Ok, Err, subst, sym, ◌∙◌, ◌↔◌, length-map, false_from_ne_true, false≢true, Shape, IsUnitList, NumbersRise, UnitsFault, TooMany, NotAscending, Empty, UnitIn, first_fault, numbers_rise, rises_above, unit_given, units_answer}
 use native.Mathlib.Omega.{arith}
-use Rattle.std.proofs.lemmas.Bool.{false_from_ne_true, false≢true}
-use Rattle.mscp_drive.specs.Shape.{Shape}
-use Rattle.mscp_drive.specs.UnitList.{IsUnitList, NumbersRise}
-use Rattle.mscp_drive.specs.declared.units.UnitsFault.{UnitsFault}
-use Rattle.mscp_drive.specs.declared.units.UnitsFault.TheVariants.{TooMany, NotAscending, Empty}
-use Rattle.mscp_c.specs.declared.units.UnitIn.{UnitIn}
 use Rattle.mscp_c.specs.declared.units.InitFault.TheVariants as faults
-use Rattle.mscp_c.specs.Given.{first_fault, numbers_rise, rises_above, unit_given, units_answer}
 
 -- those of the rest rise too
 later : (v : Shape) (us : List Shape) → NumbersRise (v ∷ us) → NumbersRise us

@@ -1,18 +1,6 @@
 -- Why units, limits and a host's credits are refused, by what became of them.
-use Rattle.std.proofs.Common.{◌≡◌, ◌<◌, ◌≤◌, ℕ, List, true, nat_eq, nat_le, ◌||◌, Ok, Err, refl}
+use Rattle.mscp_c.proofs.Common.{◌≡◌, ◌<◌, ◌≤◌, ℕ, List, true, nat_eq, nat_le, ◌||◌, Ok, Err, refl, Option, Some, None, IsSome, OnErr, false≢true, First, balance_of, fresh, Settings, PortInitFault, InitFault, Limits, UnitIn, settings_given, config_unless, port_init_answer}
 use native.Mathlib.Omega.{arith}
-use Rattle.std.specs.Prelude.{Option, Some, None, IsSome, OnErr}
-use Rattle.std.proofs.lemmas.Bool.{false≢true}
-use Rattle.mscp_events.specs.declared.connection.Connection.TheVariants.{First}
-use Rattle.mscp_controller.specs.Holdings.{balance_of, fresh}
-use Rattle.mscp_events.specs.Settings.{Settings}
-use Rattle.mscp_c.specs.declared.port_given.PortInitFault.{PortInitFault}
-use Rattle.mscp_c.specs.declared.units.InitFault.{InitFault}
-use Rattle.mscp_c.specs.declared.units.Limits.{Limits}
-use Rattle.mscp_c.specs.declared.units.UnitIn.{UnitIn}
-use Rattle.mscp_c.specs.Given.{settings_given}
-use Rattle.mscp_c.specs.Made.{config_unless}
-use Rattle.mscp_c.specs.PortMade.{port_init_answer}
 
 pub config_refused : (o : Option InitFault) (l : Limits) (us : List UnitIn) (fault : InitFault)
     → config_unless o l us ≡ Err fault → o ≡ Some fault

@@ -1,48 +1,10 @@
 -- Calls on a handle are calls of the controller that its memory holds.
-use Rattle.std.proofs.Common.{◌≡◌, ℕ, List, [], ◌∷◌, ◌++◌, length, map, refl, ap, sym, ◌∙◌, subst, append_assoc, append-nil}
-use Rattle.std.specs.Prelude.{ℤ, pos, filter, MatchOption, Option, Some, None, Ok, Err}
-use Rattle.std.proofs.lemmas.List.{length-map}
-use Rattle.arrayvec.specs.ArrayVec.{ArrayVec}
-use Rattle.mscp_events.specs.declared.connection.Connection.{Connection}
-use Rattle.mscp_queue.specs.declared.name.Name.{Name}
-use Rattle.mscp_queue.specs.Names.{name_on, same_connection}
-use Rattle.mscp_events.specs.declared.block.Block.{Block}
-use Rattle.mscp_queue.specs.declared.drive.Drive.{Drive}
-use Rattle.mscp_queue.specs.declared.view.Choice.{Choice}
-use Rattle.mscp_queue.specs.Drives.{is_online_in}
-use Rattle.mscp_queue.specs.declared.why.Holder.{Holder}
-use Rattle.mscp_queue.specs.Figures.{figure_of_name}
-use Rattle.mscp_queue.specs.Why.{holders_of_name}
-use Rattle.mscp_queue.specs.Lines.{Line}
-use Rattle.mscp_queue.specs.Records.{Record, name_of}
-use Rattle.mscp_queue.proofs.Placed.{filter_map_of}
+use Rattle.mscp_c.proofs.Common.{◌≡◌, ℕ, List, [], ◌∷◌, ◌++◌, length, map, refl, ap, sym, ◌∙◌, subst, append_assoc, append-nil, ℤ, pos, filter, MatchOption, Option, Some, None, Ok, Err, length-map, ArrayVec, Connection, Name, name_on, same_connection, Block, Drive, Choice, is_online_in, Holder, figure_of_name, holders_of_name, Line, Record, name_of, filter_map_of, Settings, IsValid, balance, untaken, of, figure_of, holders_of, Trace, Holdings, answer_to_message, balance_of, end_taken, fresh, waiting_on, connection, name, waiting, waiting_by, AnsweredCalls, AnswersCall, Call, history, ControllersKeepThePromise, owner_kept, Policy, PolicyPicks, HolderOut, PacketOut, ReportOut, SentOut, BAD_CONNECTION, BAD_STATUS, connection_given, block_told, figure_in, figures_in, flag, holders_in, holders_told, TellsFinish, TellsStep, AnsweredByHandle, AnswersFinish, AnswersHandle, AnswersOf, AnswersSend, AnswersTake, AnswersWhy, HandleCall, HandlesKeepThePromise, Refuses, Tells, TellsAll, TellsBlock, TellsFinished, TellsRefused, TellsSent, TellsStepped, TellsTaken, TellsWhy}
+use Rattle.mscp_memory.specs.ControllerHandles.{Handle, Held}
 use Rattle.mscp_events.specs.declared.event.Event.TheVariants as events
 use Rattle.mscp_controller.specs.declared.entry.Entry.TheVariants as entries
-use Rattle.mscp_events.specs.Settings.{Settings, IsValid}
-use Rattle.mscp_controller.specs.Account.{balance, untaken}
-use Rattle.mscp_events.specs.Both.{of}
-use Rattle.mscp_controller.specs.Figures.{figure_of}
-use Rattle.mscp_controller.specs.Holders.{holders_of}
-use Rattle.mscp_controller.specs.History.{Trace}
-use Rattle.mscp_controller.specs.Holdings.{Holdings, answer_to_message, balance_of, end_taken, fresh, waiting_on}
-use Rattle.mscp_controller.specs.Commands.{connection, name, waiting, waiting_by}
 use Rattle.mscp_controller.specs.Calls as calls
-use Rattle.mscp_controller.specs.Calls.{AnsweredCalls, AnswersCall, Call, history}
-use Rattle.mscp_controller.specs.Controllers.{ControllersKeepThePromise}
-use Rattle.mscp_controller.proofs.Bridge.Owning.{owner_kept}
-use Rattle.mscp_memory.specs.ControllerHandles.{Handle, Held}
-use Rattle.mscp_memory.specs.declared.policy.Policy.{Policy}
-use Rattle.mscp_memory.specs.Policies.{PolicyPicks}
-use Rattle.mscp_c.specs.declared.outs.HolderOut.{HolderOut}
-use Rattle.mscp_c.specs.declared.outs.PacketOut.{PacketOut}
-use Rattle.mscp_c.specs.declared.outs.ReportOut.{ReportOut}
-use Rattle.mscp_c.specs.declared.outs.SentOut.{SentOut}
-use Rattle.mscp_c.specs.declared.status.TheConstants.{BAD_CONNECTION, BAD_STATUS}
-use Rattle.mscp_c.specs.Given.{connection_given}
-use Rattle.mscp_c.specs.Told.{block_told, figure_in, figures_in, flag, holders_in, holders_told}
-use Rattle.mscp_c.specs.Served.{TellsFinish, TellsStep}
 use Rattle.mscp_c.specs.HandleCalls as made
-use Rattle.mscp_c.specs.HandleCalls.{AnsweredByHandle, AnswersFinish, AnswersHandle, AnswersOf, AnswersSend, AnswersTake, AnswersWhy, HandleCall, HandlesKeepThePromise, Refuses, Tells, TellsAll, TellsBlock, TellsFinished, TellsRefused, TellsSent, TellsStepped, TellsTaken, TellsWhy}
 
 -- ---- one more call of a controller
 

@@ -1,6 +1,5 @@
 -- A handle whose value was lent and came back as it was.
-use Rattle.std.proofs.Common.{◌≡◌, ◌∙◌, ap}
-use Rattle.mscp_memory.specs.Rooms.{HandleOf}
+use Rattle.mscp_c.proofs.Common.{◌≡◌, ◌∙◌, ap, HandleOf}
 
 pub lent_back : {X : Type 0} (h old : HandleOf X) (x : X) → x ≡ h.held → h ≡ old
     → (let back : HandleOf X = record h { held = x } in back ≡ old)

@@ -1,3 +1,4 @@
+pub mod Common
 pub mod Policies
 pub mod PortHandled
 pub mod Lent

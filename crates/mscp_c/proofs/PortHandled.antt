@@ -1,14 +1,8 @@
 -- Calls on a port's handle are calls of the port.
-use Rattle.std.proofs.Common.{◌≡◌, ◌++◌, ◌∷◌, [], ℕ, ℤ, List, Option, None, Some, refl, ap, sym, subst}
-use Rattle.std.specs.Prelude.{MatchOption}
-use Rattle.mscp_port.specs.declared.action.Outcome.{Outcome}
-use Rattle.mscp_port.specs.Histories.{Answered, Becomes, Call}
+use Rattle.mscp_c.proofs.Common.{◌≡◌, ◌++◌, ◌∷◌, [], ℕ, ℤ, List, Option, None, Some, refl, ap, sym, subst, MatchOption, Outcome, Answered, Becomes, Handle, Held, BAD_OUTCOME, outcome_given, KeepsPortPromise, LookAgain, Next, ReadIp, ReadSa, Resume, TellsOutcome, Tick, VolumeCame, VolumeWent, WasRead, Went, WriteIp, WriteSa, TellsWent}
+use Rattle.mscp_port.specs.Histories.{Call}
+use Rattle.mscp_c.specs.PortHandleCalls.{AnsweredByHandle, AnswersHandle, HandleCall, Tells}
 use Rattle.mscp_port.specs.Histories as calls
-use Rattle.mscp_memory.specs.PortHandles.{Handle, Held}
-use Rattle.mscp_c.specs.declared.status.TheConstants.{BAD_OUTCOME}
-use Rattle.mscp_c.specs.PortGiven.{outcome_given}
-use Rattle.mscp_c.specs.PortHandleCalls.{AnsweredByHandle, AnswersHandle, HandleCall, KeepsPortPromise, LookAgain, Next, ReadIp, ReadSa, Resume, Tells, TellsOutcome, Tick, VolumeCame, VolumeWent, WasRead, Went, WriteIp, WriteSa}
-use Rattle.mscp_c.specs.PortServed.{TellsWent}
 
 -- what a call on a handle tells, and the call of the port that it is
 record Is (call : HandleCall) (old new : Held) : Type 0 where

@@ -1,19 +1,6 @@
 -- A port that was lent from a handle and changed by a call: what the call tells.
-use Rattle.std.proofs.Common.{◌≡◌, ◌∙◌, ℕ, ℤ, Bool, List, ap, subst}
-use Rattle.std.specs.Prelude.{Result, IsOk}
-use Rattle.mscp_port.specs.declared.action.Action.{Action}
-use Rattle.mscp_port.specs.declared.action.Outcome.{Outcome}
-use Rattle.mscp_port.specs.declared.action.Unasked.{Unasked}
-use Rattle.mscp_port.specs.declared.port.watching.NoUnit.{NoUnit}
+use Rattle.mscp_c.proofs.Common.{◌≡◌, ◌∙◌, ℕ, ℤ, Bool, List, ap, subst, Result, IsOk, Action, Outcome, Unasked, NoUnit, Changes, Goes, Hears, Wants, BeginsBlock, Moves, IsAlive, IsOfBlock, PolicyPicks, Handle, Held, with_held, ActionOut, TellsHeard, TellsVolume, TellsWanted, TellsWent, told_code, volume_code, action_told, next_code}
 use Rattle.mscp_port.specs.declared.task.Task.TheVariants as tasks
-use Rattle.mscp_port.specs.Calls.{Changes, Goes, Hears, Wants}
-use Rattle.mscp_port.specs.Moved.{BeginsBlock, Moves}
-use Rattle.mscp_port.specs.Ports.{IsAlive, IsOfBlock}
-use Rattle.mscp_memory.specs.Policies.{PolicyPicks}
-use Rattle.mscp_memory.specs.PortHandles.{Handle, Held, with_held}
-use Rattle.mscp_c.specs.declared.outs.ActionOut.{ActionOut}
-use Rattle.mscp_c.specs.PortServed.{TellsHeard, TellsVolume, TellsWanted, TellsWent, told_code, volume_code}
-use Rattle.mscp_c.specs.PortTold.{action_told, next_code}
 
 module _ (h old : Handle) (x new : Held) (same : x ≡ h.held) (kept : h ≡ old) where
   was : x ≡ old.held

@@ -1,13 +1,7 @@
 -- What a message is read as.
-use Rattle.std.proofs.Common.{◌≡◌, ℕ, ◌<◌, List, length, Ok, Err, Result, IfOk, refl, ap, ◌∙◌}
+use Rattle.mscp_c.proofs.Common.{◌≡◌, ℕ, ◌<◌, List, length, Ok, Err, Result, IfOk, refl, ap, ◌∙◌, ◌↔◌, Command, PacketFault, IsCommand, command_of, command_is, message_read}
 use native.Mathlib.Omega.{arith}
-use Rattle.std.specs.Prelude.{◌↔◌}
-use Rattle.mscp_packet.specs.declared.command.Command.{Command}
-use Rattle.mscp_packet.specs.declared.reading.PacketFault.{PacketFault}
 use Rattle.mscp_packet.specs.declared.reading.PacketFault.TheVariants as sizes
-use Rattle.mscp_packet.specs.Commands.{IsCommand, command_of}
-use Rattle.mscp_controller.proofs.Bridge.Judging.{command_is}
-use Rattle.mscp_c.specs.Hosted.{message_read}
 
 short : (b : List ℕ) → length b < 12 → Err sizes.Short ≡ message_read b
 short b l = grind arith

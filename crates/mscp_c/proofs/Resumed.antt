@@ -1,13 +1,6 @@
 -- What comes of a restore, by what is told of the bytes.
-use Rattle.std.proofs.Common.{◌≡◌, ◌∙◌, ℕ, List, ap, sym}
-use Rattle.std.specs.Prelude.{Option}
-use Rattle.mscp_memory.specs.declared.policy.Policy.{Policy}
-use Rattle.mscp_saved.specs.declared.fault.RestoreFault.{RestoreFault}
-use Rattle.mscp_saved.specs.Read.{held_in}
-use Rattle.mscp_saved.specs.Restored.{restored, unless}
-use Rattle.mscp_port.specs.declared.port.restoring.RestoreFault.{RestoreFault as PortFault}
+use Rattle.mscp_c.proofs.Common.{◌≡◌, ◌∙◌, ℕ, List, ap, sym, Option, Policy, RestoreFault, held_in, restored, unless, PortFault, policy_named, policy_number, restored_by}
 use Rattle.mscp_port.specs.Restored as ports
-use Rattle.mscp_c.specs.Restoring.{policy_named, policy_number, restored_by}
 use Rattle.mscp_c.specs.PortSaving as saving
 
 -- the bytes say the controller with the policy that they name, or this fault

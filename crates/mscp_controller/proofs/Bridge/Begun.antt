@@ -14,10 +14,6 @@ history_more calls call = search (arith, flat_map-append moments_of calls (call 
 front_same : (calls : List Call) (call : Call) (j : ℕ) → j < length calls → take j (calls ++ call ∷ []) ≡ take j calls
 front_same calls call j l = take-append-le j calls (call ∷ []) (omega (arith, l))
 
-call_before : (calls : List Call) (call : Call) (j : ℕ) → j < length calls
-    → call_at (calls ++ call ∷ []) j ≡ call_at calls j
-call_before calls call j l = get_or_append_left calls (call ∷ []) (Begin None) j l
-
 call_last : (calls : List Call) (call : Call) → call_at (calls ++ call ∷ []) (length calls) ≡ call
 call_last calls call = get_or_at calls call [] (Begin None) (length calls) refl
 
@@ -55,13 +51,13 @@ either X calls call up y j before last b =
       drop-append-le,
       list_any-append,
       shorter,
-      call_before,
       history_more,
       or_parts,
       waits_below,
       waits_before,
       take_at,
       call_last,
+      get_or_append_left,
     )
 
 -- what was begun is begun after a call that is no step, where it still waits
@@ -73,8 +69,8 @@ begun_more calls call up y j b n w =
       length-append calls (call ∷ []),
       list_any-append steps (drop (j + 1) calls) (call ∷ []),
       front_same,
-      call_before,
       drop-append-le,
+      get_or_append_left,
     )
 
 -- ---- what is known of what is begun

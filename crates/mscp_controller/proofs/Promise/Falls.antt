@@ -62,14 +62,11 @@ pub record Fit (c : Settings) (t : Trace) (m : Moment) (s : Service) (front : Li
   pub idle_back : AllByRecursion (λ x. done t x ≡ 0) back
   pub affordable : s.started ≡ true → AllByRecursion (λ x. passed t x + charge t y ≤ c.budget) front
 
-left_own : (t t' : Trace) (y : ℕ) → record_of t' y ≡ served (record_of t y) → left t' y ≡ left t y - 1
-left_own t t' y e = ap record_left e ∙ omega arith
-
 -- what the step leaves of y, in sums
 own_left : (t t' : Trace) (s : Service) (y : ℕ) → record_of t' y ≡ served (record_of t y)
     → (is_some s.ended ≡ false → 1 < left t y) → done t y < weight t y
     → sum_by (left t') (cond (is_some s.ended) [] (y ∷ [])) + 1 ≤ left t y
-own_left t t' s y e is u = search (arith, left_own t t' y e)
+own_left t t' s y e is u = search (arith, record_left)
 
 pub every_split : (P : ℕ → Type 0) (xs : List ℕ) → ((A : List ℕ) (x : ℕ) (B : List ℕ) → xs ≡ A ++ x ∷ B → P x)
     → AllByRecursion P xs
@@ -201,7 +198,8 @@ falls_own c t m s front y back f true is =
     let low = figure_left c t front y back f.is in
     let u = f.unfinished in
     omega (arith, zero, low, u)
-falls_own c t m s front y back f false is = search (arith, figure_left c t front y back f.is, figure_working, left_own)
+falls_own c t m s front y back f false is =
+    search (arith, figure_left c t front y back f.is, figure_working, record_left)
 
 -- At a step the figure of each command that waits falls.
 pub step_falls : (c : Settings) (t : Trace) (m : Moment) (s : Service) (front : List ℕ) (y : ℕ) (back : List ℕ)

@@ -1,5 +1,5 @@
 -- What the definitions say when one more moment comes.
-use Rattle.mscp_controller.proofs.Common.{◌≡◌, ℕ, ◌+◌, ◌<◌, ◌≤◌, Bool, true, false, cond, not, ◌&&◌, ◌||◌, List, [], ◌∷◌, ◌++◌, take, drop, length, refl, ap, sym, ◌∙◌, arith, append-nil, filter, count_by, None, range_with_len, get_or_append_left, get_or_at, drop-append-le, drop_all, length_push, take_at, take-append-le, sum_by_push, list_any-append, filter-append, flat_map-append, command_of, Settings, Trace, Moment, moment, positions, collect, connection_of, last_or, queues, sent_bytes, is_good, is_step, takes, command, connection, name, is_waiting, waiting, done, good, steps_after, serves_in, ends_in, passed_at, passed, ends_at, ends, untaken, Connection, First, Name, name_on, filter_on, filter_filter, sum_on, flat_on, every_weaker, range_more, range_below}
+use Rattle.mscp_controller.proofs.Common.{◌≡◌, ℕ, ◌+◌, ◌<◌, ◌≤◌, Bool, true, false, cond, not, ◌&&◌, ◌||◌, List, [], ◌∷◌, ◌++◌, take, drop, length, refl, ap, sym, ◌∙◌, arith, append-nil, filter, count_by, None, range_with_len, get_or_append_left, get_or_at, drop-append-le, drop_all, length_push, take_at, take-append-le, sum_by_push, list_any-append, filter-append, flat_map-append, command_of, Settings, Trace, Moment, moment, positions, collect, connection_of, last_or, queues, sent_bytes, is_good, is_step, takes, command, connection, name, is_waiting, waiting, done, good, steps_after, serves_in, ends_in, passed_at, passed, ends_at, ends, untaken, Connection, First, name_on, filter_on, filter_filter, sum_on, flat_on, every_weaker, range_more, range_below}
 use Rattle.mscp_events.specs.declared.event.Event.TheVariants as events
 use Rattle.mscp_controller.specs.declared.entry.Entry.TheVariants as entries
 
@@ -36,11 +36,6 @@ collect_more seen t m =
 pub last_or-append : {X : Type 0} (xs ys : List X) (d : X) → last_or (xs ++ ys) d ≡ last_or ys (last_or xs d)
 last_or-append [] ys d = refl
 last_or-append (x ∷ xs) ys d = last_or-append xs ys x
-
--- The last that was collected: what is seen in the moment, or else what it was.
-pub last_more : {X : Type 0} (seen : Trace → Moment → List X) (d : X) (t : Trace) (m : Moment)
-    → last_or (collect seen (t ++ m ∷ [])) d ≡ last_or (seen t m) (last_or (collect seen t) d)
-last_more seen d t m = ap (λ l. last_or l d) (collect_more seen t m) ∙ last_or-append (collect seen t) (seen t m) d
 
 -- ---- commands
 
@@ -102,22 +97,16 @@ waiting_more t m =
     ∙ ap (λ b. filter (λ x. not (ends_in (name t x) m.1)) (filter (is_waiting t) (positions t))
     ++ cond b (length t ∷ []) []) (is_waiting_last t m)))
 
--- a count of what came after x, at a test of its name
-count_before : (p : Name → Moment → Bool) (t : Trace) (m : Moment) (x : ℕ) → x < length t
-    → count_by (p (name (t ++ m ∷ []) x)) (drop (x + 1) (t ++ m ∷ [])) ≡ count_by (p (name t x)) (drop (x + 1) t)
-    + cond (p (name t x) m) 1 0
-count_before p t m x h = search (arith, name_before t m x h, drop_before t m x h, sum_by_push)
-
 -- How often a command was served after one more moment, and how often well.
 pub done_before : (t : Trace) (m : Moment) (x : ℕ) → x < length t
     → done (t ++ m ∷ []) x ≡ done t x + cond (serves_in (name t x) m.1) 1 0
 unfolding done
-done_before t m x h = count_before (λ k n. serves_in k n.1) t m x h
+done_before t m x h = search (arith, name_before, drop_before, sum_by_push)
 
 pub good_before : (t : Trace) (m : Moment) (x : ℕ) → x < length t
     → good (t ++ m ∷ []) x ≡ good t x + cond (serves_in (name t x) m.1 && is_good m.0) 1 0
 unfolding good
-good_before t m x h = count_before (λ k n. serves_in k n.1 && is_good n.0) t m x h
+good_before t m x h = search (arith, name_before, drop_before, sum_by_push)
 
 pub done_last : (t : Trace) (m : Moment) → done (t ++ m ∷ []) (length t) ≡ 0
 unfolding done

@@ -56,21 +56,17 @@ named_rest via t q other a (y ∷ ys) e first =
     (sym (same_is (name t x) (name_on via other) h)))) W) in
     omega (arith, two, ap length (sym (named_by via t other) ∙ e))
 
-none_rest : (via : Connection) (t : Trace) (q : ℕ) (a : Option ℕ)
-    → length (filter (λ x. not (aborts (name t x) (Answer via q a))) (waiting_by via t)) + 0 ≤ length (waiting_by via t)
-none_rest via t q a = omega (arith, fewer (λ x. not (aborts (name t x) (Answer via q a))) (waiting_by via t))
-
 -- an order that names none aborts none
 rest_of : (via : Connection) (t : Trace) (q : ℕ) (o : Order) (f : Option ℕ) (a : Option ℕ) → named via t o ≡ []
     → length (filter (λ x. not (aborts (name t x) (Answer via q a))) (waiting_by via t))
     + length (aborted_unless via t o f) ≤ length (waiting_by via t)
-rest_of via t q o f a h6 = grind (arith, none_rest)
+rest_of via t q o f a h6 = search (arith, fewer)
 
 aborted_rest : (via : Connection) (t : Trace) (q : ℕ) (o : Order) (f : Option ℕ) (a : Option ℕ)
     → a ≡ option_map (reference t) (slice_get (aborted_unless via t o f) 0)
     → length (filter (λ x. not (aborts (name t x) (Answer via q a))) (waiting_by via t))
     + length (aborted_unless via t o f) ≤ length (waiting_by via t)
-aborted_rest via t q o f a h6 = grind (arith, named_rest, none_rest, rest_of)
+aborted_rest via t q o f a h6 = search (arith, named_rest, rest_of, fewer)
 
 answered_length : (c : Settings) (via : Connection) (t : Trace) (b : List ℕ)
     → length (answer c via t b) ≡ length (aborted c via t (command_of b)) + 1

@@ -1,8 +1,9 @@
 -- Each unit's state and head when one more moment comes.
 use Rattle.mscp_controller.proofs.Common.{◌≡◌, ◌≢◌, ℕ, Bool, true, false, List, [], ◌∷◌, ◌++◌, refl, ap, ◌∙◌, append-nil, arith, nat_eq, flat_map, if◌then◌else◌, Option, Some, None, option_map, option_to_list, AllByRecursion, flat_map-append, ne_eqb, eq-eqb, is_differ, is_same, End, cylinder_of, Head, Block, Settings, unit_shape, state_after, head_after, Trace, Moment, collect, last_or, Service, service_in, name, unit, order, waiting, service_name, states_ended, states_served, states_at, is_online, cylinder_touched, way, way_started, head_cylinder, head_up, head, every_weaker}
-use Rattle.mscp_controller.proofs.Promise.Grows.{last_more}
 use Rattle.mscp_controller.proofs.Promise.Among.{Alone}
 use Rattle.mscp_controller.proofs.Promise.Served.{Step}
+use Rattle.mscp_controller.proofs.Promise.Grows.{collect_more}
+use Rattle.mscp_controller.proofs.Promise.Grows.{last_or-append}
 
 -- ---- at first
 
@@ -22,21 +23,21 @@ head_empty c u = refl
 pub is_online_more : (t : Trace) (m : Moment) (u : ℕ)
     → is_online (t ++ m ∷ []) u ≡ last_or (states_at u t m) (is_online t u)
 unfolding is_online
-is_online_more t m u = last_more (states_at u) false t m
+is_online_more t m u = search (arith, collect_more, last_or-append)
 
 -- A head stands at the block that the moment touches, or else where it was.
 pub head_cylinder_more : (c : Settings) (t : Trace) (m : Moment) (u : ℕ)
     → head_cylinder c (t ++ m ∷ []) u ≡ last_or (cylinder_touched (unit_shape c u) u (service_in m.1))
     (head_cylinder c t u)
 unfolding head_cylinder
-head_cylinder_more c t m u = last_more (λ s n. cylinder_touched (unit_shape c u) u (service_in n.1)) 0 t m
+head_cylinder_more c t m u = search (arith, collect_more, last_or-append)
 
 -- It goes the way that the moment starts it, or else as it did.
 pub head_up_more : (c : Settings) (t : Trace) (m : Moment) (u : ℕ)
     → head_up c (t ++ m ∷ []) u ≡ last_or (way_started (unit_shape c u) u (head_cylinder c t u) (service_in m.1))
     (head_up c t u)
 unfolding head_up
-head_up_more c t m u = last_more (λ s n. way_started (unit_shape c u) u (head_cylinder c s u) (service_in n.1)) true t m
+head_up_more c t m u = search (arith, collect_more, last_or-append)
 
 -- ---- lists where one element counts
 
@@ -132,13 +133,6 @@ goes : (h : Head) (own : Bool) (o : Option ℕ) (started : Bool)
 unfolding pair
 goes h own o started = grind (arith, pair)
 
--- A step moves the head of its unit, by its block, and no other head.
-head_step : (c : Settings) (t : Trace) (m : Moment) (s : Service) (u : ℕ) → service_in m.1 ≡ Some s
-    → head c (t ++ m ∷ []) u ≡ (if nat_eq s.unit u
-    then head_after s.started (option_map (cylinder_of (unit_shape c u)) s.lbn) (head c t u) else head c t u)
-unfolding pair
-head_step c t m s u e = search (arith, head_cylinder_more c t m u, head_up_more c t m u, pair, goes)
-
 -- Where no step serves, each head stays.
 pub head_kept : (c : Settings) (t : Trace) (m : Moment) (u : ℕ) → service_in m.1 ≡ None
     → head c (t ++ m ∷ []) u ≡ head c t u
@@ -148,15 +142,12 @@ head_kept c t m u e = search (arith, head_cylinder_more c t m u, head_up_more c 
 -- A step of y keeps the heads of the other units.
 pub head_other : (c : Settings) (t : Trace) (m : Moment) (s : Service) (k : Block) (y : ℕ) (front back : List ℕ) (u : ℕ)
     → Step c t m s k y front back → unit t y ≢ u → head c (t ++ m ∷ []) u ≡ head c t u
-head_other c t m s k y front back u st n = search (arith, head_step c t m s u st.serves.is, ne_eqb)
+unfolding pair
+head_other c t m s k y front back u st n = search (arith, ne_eqb, head_cylinder_more, head_up_more, pair, goes)
 
 -- It moves the head of its own unit by the block that it touches.
 pub head_own : (c : Settings) (t : Trace) (m : Moment) (s : Service) (k : Block) (y : ℕ) (front back : List ℕ)
     → Step c t m s k y front back → head c (t ++ m ∷ []) (unit t y)
     ≡ head_after s.started (option_map (cylinder_of (unit_shape c (unit t y))) s.lbn) (head c t (unit t y))
-head_own c t m s k y front back st =
-    let u = unit t y in
-    head_step c t m s u st.serves.is
-    ∙ ap (λ b. if b then head_after s.started (option_map (cylinder_of (unit_shape c u)) s.lbn) (head c t u)
-    else head c t u)
-    (eq-eqb s.unit u st.served.unit)
+unfolding pair
+head_own c t m s k y front back st = search (arith, eq-eqb, head_cylinder_more, head_up_more, pair, goes)

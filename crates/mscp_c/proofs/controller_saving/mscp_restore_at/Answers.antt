@@ -1,11 +1,5 @@
-use Rattle.std.proofs.Common.{rules, ◌≡◌, ◌∙◌, ap, pos, refl, sym}
-use Rattle.std.specs.Prelude.{Option, None, Ok, Err}
-use Rattle.mscp_controller.specs.Holdings.{fresh}
-use Rattle.mscp_memory.specs.declared.fault.RoomFault.{RoomFault}
-use Rattle.mscp_memory.specs.ControllerHandles.{Handle, placed, room_fault, with_held}
-use Rattle.mscp_saved.specs.Read.{held_in}
-use Rattle.mscp_c.specs.Restoring.{policy_named, restored_by}
-use Rattle.mscp_c.specs.Saving.{placed_or, restores_unless}
+use Rattle.mscp_c.proofs.Common.{rules, ◌≡◌, ◌∙◌, ap, pos, refl, sym, Option, None, Ok, Err, fresh, RoomFault, placed, room_fault, held_in, policy_named, restored_by, placed_or, restores_unless}
+use Rattle.mscp_memory.specs.ControllerHandles.{Handle, with_held}
 use Rattle.mscp_c.proofs.Resumed.{comes_of}
 use Rattle.mscp_c.proofs.controller_saving.mscp_restore_at.Goals as goal
 

@@ -1,10 +1,5 @@
-use Rattle.std.proofs.Common.{◌≡◌, ◌∙◌, ℕ, List, Ok, ap, subst, sym}
-use Rattle.mscp_memory.specs.declared.policy.Policy.{Policy}
+use Rattle.mscp_c.proofs.Common.{◌≡◌, ◌∙◌, ℕ, List, Ok, ap, subst, sym, Policy, saved_bytes, restored, policy_named, policy_number, restored_by, saved_by, room_after}
 use Rattle.mscp_memory.specs.ControllerHandles.{Handle, Held, with_held}
-use Rattle.mscp_saved.specs.Saved.{saved_bytes}
-use Rattle.mscp_saved.specs.Restored.{restored}
-use Rattle.mscp_c.specs.Restoring.{policy_named, policy_number, restored_by, saved_by}
-use Rattle.mscp_c.specs.Saving.{room_after}
 use Rattle.mscp_c.proofs.Policies.{number_back}
 use Rattle.mscp_c.proofs.controller_saving.mscp_save_at.Goals as goal
 

@@ -1,5 +1,4 @@
-use Rattle.std.proofs.Common.{◌≡◌, Ok, ap, sym, ◌∙◌}
-use Rattle.mscp_host.specs.Accounts.{Account}
+use Rattle.mscp_c.proofs.Common.{◌≡◌, Ok, ap, sym, ◌∙◌, Account}
 use Rattle.mscp_host.specs.Restored.{restored}
 use Rattle.mscp_host.specs.Saved.{saved_bytes}
 use Rattle.mscp_memory.specs.HostHandles.{Handle, with_held}

@@ -1,6 +1,5 @@
-use Rattle.std.proofs.Common.{◌∙◌, ap, sym, Err}
+use Rattle.mscp_c.proofs.Common.{◌∙◌, ap, sym, Err, submits_read}
 use Rattle.mscp_memory.specs.HostHandles.{with_held}
-use Rattle.mscp_c.specs.Hosted.{submits_read}
 use Rattle.mscp_c.proofs.hosting.mscp_host_submit_at.Goals as goal
 
 pub returns-in-Err-Short-clause-after : goal.returns-in-Err-Short-clause-after

@@ -1,4 +1,4 @@
-use Rattle.std.proofs.Common.{ap}
+use Rattle.mscp_c.proofs.Common.{ap}
 use Rattle.mscp_memory.specs.ControllerHandles.{with_held}
 use Rattle.mscp_c.proofs.law.made_handles_are_valid.Goals as goal
 

@@ -1,6 +1,4 @@
-use Rattle.std.proofs.Common.{rules, ◌≡◌, ◌∙◌, sym}
-use Rattle.std.specs.Prelude.{Some}
-use Rattle.mscp_c.specs.Made.{config_fault}
+use Rattle.mscp_c.proofs.Common.{rules, ◌≡◌, ◌∙◌, sym, Some, config_fault}
 use Rattle.mscp_c.proofs.Configured.{config_refused}
 use Rattle.mscp_c.proofs.making.init.Goals as goal
 

@@ -1,10 +1,4 @@
-use Rattle.std.proofs.Common.{rules, ◌≡◌, ◌∙◌, ◌<◌, ap, sym, subst}
-use Rattle.std.proofs.lemmas.Bool.{false≢true}
-use Rattle.std.specs.Prelude.{Some, IsOk}
-use Rattle.mscp_events.specs.declared.connection.Connection.TheVariants.{First}
-use Rattle.mscp_controller.specs.Holdings.{balance_of}
-use Rattle.mscp_events.specs.Settings.{Settings}
-use Rattle.mscp_c.specs.Made.{config_fault}
+use Rattle.mscp_c.proofs.Common.{rules, ◌≡◌, ◌∙◌, ◌<◌, ap, sym, subst, false≢true, Some, IsOk, First, balance_of, Settings, config_fault}
 use Rattle.mscp_c.proofs.Configured.{all_free, config_refused, config_taken, credits_refused}
 use Rattle.mscp_c.proofs.port_making.init.Goals as goal
 

@@ -1,6 +1,4 @@
-use Rattle.std.proofs.Common.{◌≡◌, subst}
-use Rattle.std.specs.Prelude.{OnErr}
-use Rattle.mscp_c.specs.PortMade.{port_init_fault}
+use Rattle.mscp_c.proofs.Common.{◌≡◌, subst, OnErr, port_init_fault}
 use Rattle.mscp_c.proofs.Configured.{refused_answer}
 use Rattle.mscp_c.proofs.port_making.mscp_port_init_at.Goals as goal
 

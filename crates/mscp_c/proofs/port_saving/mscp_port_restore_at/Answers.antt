@@ -1,7 +1,5 @@
-use Rattle.std.proofs.Common.{rules, ◌≡◌, ◌∙◌, ap, pos, sym}
-use Rattle.std.specs.Prelude.{Option, None, Ok, Err}
-use Rattle.mscp_memory.specs.declared.fault.RoomFault.{RoomFault}
-use Rattle.mscp_memory.specs.PortHandles.{Handle, placed, room_fault, with_held}
+use Rattle.mscp_c.proofs.Common.{rules, ◌≡◌, ◌∙◌, ap, pos, sym, Option, None, Ok, Err, RoomFault, Handle, with_held}
+use Rattle.mscp_memory.specs.PortHandles.{placed, room_fault}
 use Rattle.mscp_port.specs.Restored.{held_in}
 use Rattle.mscp_c.specs.PortSaving.{placed_or, policy_named, restored_by, restores_unless}
 use Rattle.mscp_c.proofs.Resumed.{port_comes_of}

@@ -1,14 +1,7 @@
-use Rattle.std.proofs.Common.{◌≡◌, ◌∙◌, ℕ, List, ap, rules, subst, sym}
-use Rattle.std.specs.Prelude.{Ok, nat_eq, if◌then◌else◌}
-use Rattle.mscp_memory.specs.declared.policy.Policy.{Policy}
-use Rattle.mscp_memory.specs.declared.policy.Policy.TheVariants.{Oldest, Sweep}
-use Rattle.mscp_memory.specs.PortHandles.{Handle, Held, with_held}
+use Rattle.mscp_c.proofs.Common.{◌≡◌, ◌∙◌, ℕ, List, ap, rules, subst, sym, Ok, nat_eq, if◌then◌else◌, Policy, Oldest, Sweep, Handle, Held, with_held, number_told, policy_number, room_after, save_code}
 use Rattle.mscp_port.specs.Restored.{restored}
 use Rattle.mscp_port.specs.Saved.{saved_bytes}
-use Rattle.mscp_port.proofs.Comes.{number_told}
 use Rattle.mscp_c.specs.PortSaving.{policy_named, restored_by, saved_by}
-use Rattle.mscp_c.specs.Restoring.{policy_number}
-use Rattle.mscp_c.specs.Saving.{room_after, save_code}
 use Rattle.mscp_c.proofs.Policies.{number_back}
 use Rattle.mscp_c.proofs.port_saving.mscp_port_save_at.Goals as goal
 

@@ -1,4 +1,4 @@
-use Rattle.std.proofs.Common.{rules}
+use Rattle.mscp_c.proofs.Common.{rules}
 use Rattle.mscp_c.proofs.PortLent.{wanted_told}
 use Rattle.mscp_c.proofs.port_turning.mscp_port_next.Goals as goal
 

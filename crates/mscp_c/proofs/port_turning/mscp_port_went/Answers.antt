@@ -1,8 +1,4 @@
-use Rattle.std.proofs.Common.{rules, ◌≡◌, ◌∙◌, subst, sym, to_z, of_z, w32, Some}
-use Rattle.std.specs.Prelude.{IfSome}
-use Rattle.mscp_memory.specs.PortHandles.{with_held}
-use Rattle.mscp_c.specs.PortGiven.{outcome_given}
-use Rattle.mscp_c.specs.PortServed.{TellsWent}
+use Rattle.mscp_c.proofs.Common.{rules, ◌≡◌, ◌∙◌, subst, sym, to_z, of_z, w32, Some, IfSome, with_held, outcome_given, TellsWent}
 use Rattle.mscp_c.proofs.PortLent.{went_told}
 use Rattle.mscp_c.proofs.port_turning.mscp_port_went.Goals as goal
 

@@ -1,4 +1,4 @@
-use Rattle.std.proofs.Common.{rules, not, true, ◌==◌}
+use Rattle.mscp_c.proofs.Common.{rules, not, true, ◌==◌}
 use Rattle.mscp_c.proofs.PortLent.{volume_told}
 use Rattle.mscp_c.proofs.port_watching.mscp_port_volume_came.Goals as goal
 

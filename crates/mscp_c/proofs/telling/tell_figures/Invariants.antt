@@ -1,5 +1,4 @@
-use Rattle.std.proofs.Common.{◌≡◌, map, take, drop, length}
-use Rattle.mscp_c.specs.Told.{figure_told}
+use Rattle.mscp_c.proofs.Common.{◌≡◌, map, take, drop, length, figure_told}
 use Rattle.mscp_c.proofs.telling.tell_figures.Given as goal
 
 abbrev pub invariant-loop-i : goal.invariant-loop-i

@@ -1,5 +1,4 @@
-use Rattle.std.proofs.Common.{◌≡◌, map, take, drop, length}
-use Rattle.mscp_c.specs.Told.{holder_told}
+use Rattle.mscp_c.proofs.Common.{◌≡◌, map, take, drop, length, holder_told}
 use Rattle.mscp_c.proofs.telling.tell_holders.Given as goal
 
 abbrev pub invariant-loop-i : goal.invariant-loop-i

@@ -1,8 +1,5 @@
-use Rattle.std.proofs.Common.{◌≡◌, ◌∙◌, ap, map, Ok, None, subst}
-use Rattle.std.proofs.lemmas.Grind.{common_steps}
+use Rattle.mscp_c.proofs.Common.{◌≡◌, ◌∙◌, ap, map, Ok, None, subst, common_steps, IsUnitList, first_fault, unit_given}
 use native.Mathlib.Omega.{arith}
-use Rattle.mscp_drive.specs.UnitList.{IsUnitList}
-use Rattle.mscp_c.specs.Given.{first_fault, unit_given}
 use Rattle.mscp_c.proofs.Ascending.{refused, taken}
 use Rattle.mscp_c.proofs.units.units_of.Goals as goal
 

@@ -1,5 +1,4 @@
-use Rattle.std.proofs.Common.{◌≡◌, map, take, drop}
-use Rattle.mscp_c.specs.Given.{first_fault, unit_given}
+use Rattle.mscp_c.proofs.Common.{◌≡◌, map, take, drop, first_fault, unit_given}
 use Rattle.mscp_c.proofs.units.units_of.Given as goal
 
 abbrev pub invariant-loop-i : goal.invariant-loop-i
