@@ -78,11 +78,7 @@ found_out h j x p e = found (λ i. is_outstanding h j i ≡ true) p (outstanding
 abbrev pub AtMostOne : (ℕ → ℕ → Type 0) → History → ℕ → Type 0
 AtMostOne R h j = (x y : ℕ) → is_outstanding h j x ≡ true → is_outstanding h j y ≡ true → R x y → x ≡ y
 
--- what is outstanding then was so before, or was sent just now
-record OutThen (h : History) (j x : ℕ) : Type 0 where
-  was : (x < j) × (is_outstanding h j x ≡ true)
-
-was_out : (h : History) (j x : ℕ) → is_outstanding h (j + 1) x ≡ true → x < j → is_outstanding h j x ≡ true
+pub was_out : (h : History) (j x : ℕ) → is_outstanding h (j + 1) x ≡ true → x < j → is_outstanding h j x ≡ true
 was_out h j x e l = grind (arith, out_old, false≢true)
 
 pub one_more : (R : ℕ → ℕ → Type 0) (h : History) (j : ℕ) → ((x y : ℕ) → R x y → R y x)

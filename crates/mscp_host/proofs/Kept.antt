@@ -19,7 +19,7 @@ use Rattle.mscp_host.proofs.Lists.{filter_all, find_map, find_none}
 abbrev pub NoEnd : History → ℕ → Type 0
 NoEnd h j = end_heard (moment h j) ≡ None
 
-none_handed : (h : History) (j : ℕ) → NoEnd h j → handed_over h j ≡ None
+pub none_handed : (h : History) (j : ℕ) → NoEnd h j → handed_over h j ≡ None
 none_handed h j n = find_none _ (outstanding h j) (out_all _ h j (λ x e. ap (λ o. is_end_of (reference h x) o) n))
 
 none_told : (h : History) (j i : ℕ) → NoEnd h j → last_told h (j + 1) i ≡ last_told h j i

@@ -95,7 +95,7 @@ tells_of h j n x f b p o a t q d s e = grind (arith, false≢true)
 tells : (h : History) (j : ℕ) (n : News) (x : IsHeard h j n) → is_figure n ≡ true → Tells h j n
 tells h j n x f = tells_of h j n x f _ refl _ refl _ refl _ refl x.says
 
-it_is : (i : ℕ) (o : Option ℕ) → is_it i o ≡ true → o ≡ Some i
+pub it_is : (i : ℕ) (o : Option ℕ) → is_it i o ≡ true → o ≡ Some i
 it_is i o e = grind (arith, false≢true, eqb-true)
 
 told_says : (h : History) (j poll command figure : ℕ) (n : News) → IsHeard h j n → IsTold h j poll command figure
@@ -130,7 +130,7 @@ heard_some (Receive b (Ok n)) figure e = (n, refl)
 heard_some m figure e = absurd (false≢true (ap is_some e))
 
 -- what is heard, if it is a figure
-resets_if : (h : History) (j : ℕ) → ((n : News) → news_heard (moment h j) ≡ Some n → IsHeard h j n)
+pub resets_if : (h : History) (j : ℕ) → ((n : News) → news_heard (moment h j) ≡ Some n → IsHeard h j n)
     → (news_heard (moment h j) ≡ Some news.Reset) ↔ Stands h j
 resets_if h j ends = (
   (λ q.
@@ -151,7 +151,7 @@ resets_if h j ends = (
       ∙ (ap (λ o. news_of_figure o st.figure) st.before ∙ figure_reset st.last st.figure st.not_less))),
 )
 
-losses_if : (h : History) (j : ℕ) → ((n : News) → news_heard (moment h j) ≡ Some n → IsHeard h j n)
+pub losses_if : (h : History) (j : ℕ) → ((n : News) → news_heard (moment h j) ≡ Some n → IsHeard h j n)
     → (news_heard (moment h j) ≡ Some news.Lost) ↔ IsLost h j
 losses_if h j ends = (
   (λ q.

@@ -1,17 +1,17 @@
 -- What a host keeps, as the list so far says it, after a moment in which an end is heard.
-use Rattle.std.proofs.Common.{◌≡◌, ℕ, ◌+◌, ◌<◌, Bool, true, false, cond, [], ◌∷◌, ◌++◌, map, refl, ap, sym, ◌∙◌, arith, append-nil}
+use Rattle.std.proofs.Common.{◌≡◌, ℕ, ◌+◌, ◌<◌, Bool, true, false, cond, [], ◌∷◌, ◌++◌, map, ⊎_elim, refl, ap, sym, ◌∙◌, arith, append-nil}
 use Rattle.std.specs.Prelude.{◌&&◌, filter, find, nat_eq, not, if◌then◌else◌, Option, Some, None, is_some, option_map}
 use Rattle.std.proofs.Math.Bool.{and-false, and-true}
-use Rattle.std.proofs.lemmas.Bool.{eqb-true, eq-eqb, false_from_ne_true, false≢true, true≢false}
+use Rattle.std.proofs.lemmas.Bool.{cases_lt, eqb-true, eq-eqb, false_from_ne_true, false≢true, true≢false}
 use Rattle.mscp_packet.specs.declared.end.End.{End}
 use Rattle.mscp_host.specs.declared.watch.Watch.{Watch}
 use Rattle.mscp_host.specs.declared.news.News.TheVariants as news
 use Rattle.mscp_host.specs.Accounts as host
 use Rattle.mscp_host.specs.Accounts.{Account, answered, has_reference, is_about_polled, outstanding_with, news_of_figure, news_with, received, status_end, told_in, told_of as told_of_submission, watch_after, with_told, without}
 use Rattle.mscp_host.specs.Apart.{are_apart}
-use Rattle.mscp_host.specs.Histories.{History, account_at, asked_for, asks_about, end_heard, figure_from, figure_in, found_stands, handed_over, in_flight, is_end_of, is_it, is_outstanding, is_poll, is_sent, last_found, last_told, moment, news_at, outstanding, reference, reference_found, says_of, submission_at, told_at, watch_at}
+use Rattle.mscp_host.specs.Histories.{History, Moment, account_at, asked_for, asks_about, end_heard, figure_from, figure_in, found_stands, handed_over, in_flight, is_end_of, is_it, is_outstanding, is_poll, is_sent, last_found, last_told, moment, news_at, outstanding, reference, reference_found, says_of, submission_at, told_at, watch_at}
 use Rattle.mscp_host.proofs.Apart.{apart_told}
-use Rattle.mscp_host.proofs.Collected.{AtMostOne, each_out, ends_now, found_before, found_out, last_then, out_all, outstanding_more}
+use Rattle.mscp_host.proofs.Collected.{AtMostOne, each_out, ends_now, found_before, found_out, last_then, out_all, out_below, out_new, outstanding_more, was_out}
 use Rattle.mscp_host.proofs.Kept.{ends_found, stands_then}
 use Rattle.mscp_host.proofs.Lists.{every_weaker, filter_map_of, find_filter, find_map, find_none, find_on, map_map, map_on, none_found}
 use Rattle.mscp_host.proofs.Single.{told_each, told_now, without_kept}
@@ -52,6 +52,26 @@ flies_of credits h j x (Some p) a q e f =
 pub flies : (credits : ℕ) (h : History) (j x : ℕ) → IsApart credits h j
     → is_outstanding h j x ≡ true → is_poll (moment h x) ≡ true → in_flight h j ≡ Some x
 flies credits h j x a e f = flies_of credits h j x (in_flight h j) a refl e f
+
+-- a poll that is in flight after j was so before, where none was sent at j
+pub flight_back : (credits : ℕ) (h : History) (j p : ℕ) → IsApart credits h j → is_poll (moment h j) ≡ false
+    → in_flight h (j + 1) ≡ Some p → in_flight h j ≡ Some p
+flight_back credits h j p a n f =
+    let own = found_out h (j + 1) p _ f in
+    let l = out_below h (j + 1) p own.0 in
+    ⊎_elim (λ less. flies credits h j p a (was_out h j p own.0 less) own.1)
+    (λ more. let same : p ≡ j = omega (arith, l, more) in
+    absurd (true≢false (sym own.1 ∙ (ap (λ x. is_poll (moment h x)) same ∙ n)))) (cases_lt p j)
+
+poll_sent : (m : Moment) → is_poll m ≡ true → is_sent m ≡ true
+poll_sent m e = grind (arith, false≢true)
+
+-- and else it is that of j
+pub flight_new : (credits : ℕ) (h : History) (j p : ℕ) → IsApart credits h (j + 1) → is_poll (moment h j) ≡ true
+    → in_flight h (j + 1) ≡ Some p → p ≡ j
+flight_new credits h j p a n f =
+    let own = found_out h (j + 1) p _ f in
+    a.polls p j own.0 (out_new h j ∙ poll_sent (moment h j) n) (own.1, n)
 
 -- ---- what it tells
 

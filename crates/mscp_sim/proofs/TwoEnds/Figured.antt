@@ -1,7 +1,7 @@
 -- The figures of the waiting commands of one name: nothing raises them, and a step lowers them.
 use Rattle.std.proofs.Common.{◌≡◌, ◌⊎◌, ⊎_elim, ℕ, suc, ◌+◌, ◌-◌, ◌<◌, ◌≤◌, true, List, [], ◌∷◌, ◌++◌, length, refl, ap, sym, ◌∙◌, subst, arith}
 use Rattle.std.specs.Prelude.{find, not, ◌&&◌, Contains, Option}
-use Rattle.std.proofs.lemmas.Bool.{cases_lt}
+use Rattle.std.proofs.lemmas.Bool.{and_parts, cases_lt}
 use Rattle.std.proofs.lemmas.List.{length-append, take_all}
 use Rattle.std.proofs.Math.Seq.{take-append_seam}
 use Rattle.mscp_queue.specs.declared.name.Name.{Name}
@@ -14,9 +14,7 @@ use Rattle.mscp_controller.specs.Figures.{figure, figure_found, figure_of}
 use Rattle.mscp_controller.specs.Headline.{Promise}
 use Rattle.mscp_controller.proofs.Promise.Grows.{command_last, connection_last, name_before, is_waiting_before, is_waiting_last, moment_last}
 use Rattle.mscp_controller.proofs.Promise.Waits.{cut, waiting_waits, waits_below}
-use Rattle.mscp_queue.proofs.Placed.{found_is}
-use Rattle.mscp_sim.proofs.TwoEnds.Outstanding.{both_true}
-use Rattle.mscp_sim.proofs.TwoEnds.Receiving.{found_all}
+use Rattle.mscp_host.proofs.Lists.{found}
 
 contains_in : (A : List ℕ) (x : ℕ) (B : List ℕ) → Contains (A ++ x ∷ B) x
 contains_in [] x B = (0, omega arith, refl)
@@ -56,7 +54,7 @@ most_moment c t m n g g' p new way most x w r =
     ⊎_elim
     (λ below.
     let was : (is_waiting t x && not (ends_in (name t x) m.1)) ≡ true = sym (is_waiting_before t m x below) ∙ w in
-    let waits = (both_true (is_waiting t x) _ was).0 in
+    let waits = (and_parts (is_waiting t x) _ was).0 in
     let named : name t x ≡ n = sym (name_before t m x below) ∙ r in
     let old = most x waits named in
     let there = contains_waiting t x waits in
@@ -81,7 +79,7 @@ pub record Waits (c : Settings) (t : Trace) (n : Name) : Type 0 where
 
 waits_of : (c : Settings) (t : Trace) (n : Name) (o : Option ℕ) → find (λ x. same_name (name t x) n) (waiting t) ≡ o
     → figure_of c t n ≡ figure_found c t o → 1 ≤ figure_found c t o → Waits c t n
-waits_of c t n o h4 h5 h6 = grind (arith, found_all, waiting_waits, same_is, found_is)
+waits_of c t n o h4 h5 h6 = grind (arith, found, waiting_waits, same_is)
 
 pub waits_at : (c : Settings) (t : Trace) (n : Name) → 1 ≤ figure_of c t n → Waits c t n
 unfolding figure_of
