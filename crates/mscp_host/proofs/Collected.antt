@@ -9,7 +9,7 @@ use Rattle.std.proofs.lemmas.Bool.Decides.{nat_tests}
 use Rattle.std.proofs.lemmas.Grind.{flat_map-append}
 use Rattle.std.proofs.lemmas.List.Elements.{filter-append}
 use Rattle.std.proofs.lemmas.List.Folds.{list_any-append}
-use Rattle.mscp_host.specs.Histories.{History, asked_for, before, end_heard, figure_from, handed_over, is_end_of, is_ended, is_it, is_outstanding, is_sent, last_told, moment, outstanding, reference, told_at}
+use Rattle.mscp_host.specs.Histories.{History, before, end_heard, figure_from, handed_over, is_end_of, is_ended, is_it, is_outstanding, is_sent, last_told, moment, outstanding, reference, told_at}
 use Rattle.mscp_host.proofs.Lists.{before_at, before_below, before_more, every_kept, every_passes, every_weaker, filter_filter, filter_on, found, last_more}
 
 -- ---- which are outstanding
@@ -104,11 +104,7 @@ one_more R h j turn new old x y ex ey r =
 -- ---- what was told
 
 pub last_then : (h : History) (j i : ℕ) → last_told h (j + 1) i ≡ option_or (told_at h i j) (last_told h j i)
-last_then h j i =
-    ap (λ ks. last_or None (flat_map (λ k. option_to_list (told_at h i k)) ks)) (before_more j)
-    ∙ (ap (last_or None) (flat_map-append (λ k. option_to_list (told_at h i k)) (before j) (j ∷ [])
-    ∙ ap (λ xs. flat_map (λ k. option_to_list (told_at h i k)) (before j) ++ xs) (append-nil (option_to_list (told_at h i j))))
-    ∙ last_more None (flat_map (λ k. option_to_list (told_at h i k)) (before j)) (told_at h i j))
+last_then h j i = search (arith, before_more, flat_map-append, append-nil, last_more)
 
 pub found_before : (h : History) (j x : ℕ) (p : ℕ → Bool) → find p (outstanding h j) ≡ Some x → x < j
 found_before h j x p e = out_below h j x (found_out h j x p e).0
@@ -120,10 +116,7 @@ not_before j p o f l = grind (arith, nat_tests)
 untold_from : (h : History) (j k : ℕ) (o : Option ℕ) → ((x : ℕ) → o ≡ Some x → x < k) → k ≤ j
     → figure_from h j k o ≡ None
 untold_from h j k None f l = refl
-untold_from h j k (Some p) f l =
-    let m : p < k = f p refl in
-    let no = not_before j p (asked_for h p) (λ x e. found_before h p x _ e) (omega (arith, l, m)) in
-    rw (no, and-false) refl
+untold_from h j k (Some p) f l = search (arith, not_before, found_before, and-false)
 
 pub untold_at : (h : History) (j k : ℕ) → k ≤ j → told_at h j k ≡ None
 untold_at h j k l = untold_from h j k (handed_over h k) (λ x e. found_before h k x _ e) l

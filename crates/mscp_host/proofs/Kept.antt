@@ -127,10 +127,7 @@ polls_of credits h j s e = polls_when credits h j s (asked_for h j) refl (sym (o
 -- that command is outstanding, and stays so
 asked_stands : (h : History) (j i : ℕ) → NoEnd h j → asked_for h j ≡ Some i
     → found_stands h (j + 1) (asked_for h j) ≡ true
-asked_stands h j i n e =
-    stands_then h j j (omega arith)
-    ∙ (λ k. found_stands h j (e k) && not (none_ends h j (asked_for h j) n k))
-    ∙ ap (λ b. b && true) (found_out h j i _ e).0
+asked_stands h j i n e = search (arith, stands_then, none_ends, found_out)
 
 pub account_asked : (credits : ℕ) (h : History) (j r : ℕ) (s : Submission) (b : ArrayVec ℕ)
     → moment h j ≡ Ask r (Ok (polls.Ask b)) → in_flight h j ≡ None → oldest (account_at credits h j) ≡ Some s

@@ -1,13 +1,13 @@
 -- The whole history: all that is promised of a host.
 use Rattle.std.proofs.Common.{◌≡◌, ◌↔◌, ℕ, zero, suc, ◌+◌, ◌<◌, ◌≤◌, Bool, true, false, drop, length, refl, ap, sym, ◌∙◌, subst, arith}
-use Rattle.std.specs.Prelude.{◌&&◌, if◌then◌else◌, Option, Some, None, is_some, unwrap_or, IfSome, Ok}
+use Rattle.std.specs.Prelude.{if◌then◌else◌, Option, Some, None, is_some, IfSome, Ok}
 use Rattle.std.proofs.lemmas.Bool.{and_parts, eqb-true, eq-eqb, false≢true}
 use Rattle.std.proofs.lemmas.Bool.Decides.{nat_tests}
 use Rattle.std.proofs.lemmas.List.{drop_more, drop_all}
 use Rattle.mscp_host.specs.declared.news.News.{News}
 use Rattle.mscp_host.specs.declared.news.News.TheVariants as news
 use Rattle.mscp_host.specs.Accounts.{Account, fresh, news_of_figure}
-use Rattle.mscp_host.specs.Histories.{Moment, Other, Receive, History, account_at, asked_for, asks_about, end_heard, figure_in, found_stands, is_it, is_outstanding, is_poll, last_told, moment, news_heard, outstanding, says_of}
+use Rattle.mscp_host.specs.Histories.{Moment, Other, Receive, History, account_at, asked_for, end_heard, figure_in, found_stands, is_it, is_poll, last_told, moment, news_heard, outstanding, says_of}
 use Rattle.mscp_host.specs.Law.{Answered, Answers, HostsKeepTheirHistory, IsHeard, IsLost, IsTold, Stands}
 use Rattle.mscp_host.proofs.Collected.{out_below}
 use Rattle.mscp_host.proofs.Received.{IsApart}
@@ -20,17 +20,7 @@ record Reached (credits : ℕ) (h : History) (last : Account) (j : ℕ) : Type 0
 
 pub start : (credits : ℕ) (h : History) → (account_at credits h 0 ≡ fresh credits) × IsApart credits h 0
 unfolding outstanding
-start credits h = (
-  refl,
-  record {
-    submissions = refl;
-    names = λ x y a b r. none_before x a;
-    polls = λ x y a b r. none_before x a;
-  },
-)
-  where
-    none_before : {P : Type 0} (x : ℕ) → is_outstanding h 0 x ≡ true → P
-    none_before x a = let l = out_below h 0 x a in absurd (omega (arith, l))
+start credits h = search (arith, out_below)
 
 -- the next moment
 record Next (credits : ℕ) (h : History) (last : Account) (j : ℕ) : Type 0 where
@@ -78,18 +68,7 @@ tells_of : (h : History) (j : ℕ) (n : News) (x : IsHeard h j n) → is_figure 
     → is_poll (moment h x.command) ≡ b → (o : Option ℕ) → asked_for h x.command ≡ o → (t : Option ℕ)
     → figure_in (Some x.end) ≡ t → (d : Bool) → found_stands h j o ≡ d
     → n ≡ says_of h j x.end o (if b then t else None) → Tells h j n
-tells_of h j n x f true p (Some i) a (Some g) q true s e = record {
-  poll = x.command;
-  command = i;
-  figure = g;
-  is_told = record {
-    handed = x.handed;
-    about = (λ k. p k && is_it i (a k)) ∙ eq-eqb i i refl;
-    outstanding = s;
-    tells = ap figure_in x.heard ∙ q;
-  };
-  says = e ∙ ap (λ d. if d then news_of_figure (last_told h j i) g else news.Late) s;
-}
+tells_of h j n x f true p (Some i) a (Some g) q true s e = grind (arith, eq-eqb)
 tells_of h j n x f b p o a t q d s e = grind (arith, false≢true)
 
 tells : (h : History) (j : ℕ) (n : News) (x : IsHeard h j n) → is_figure n ≡ true → Tells h j n
@@ -100,14 +79,7 @@ it_is i o e = grind (arith, false≢true, eqb-true)
 
 told_says : (h : History) (j poll command figure : ℕ) (n : News) → IsHeard h j n → IsTold h j poll command figure
     → n ≡ news_of_figure (last_told h j command) figure
-told_says h j poll command figure n x t =
-    let same : x.command ≡ poll = ap (λ o. unwrap_or o poll) (sym x.handed ∙ t.handed) in
-    let about = and_parts (is_poll (moment h x.command)) (is_it command (asked_for h x.command))
-    (subst (λ p. asks_about h command p ≡ true) (sym same) t.about) in
-    let figure_is : figure_in (Some x.end) ≡ Some figure = ap figure_in (sym x.heard) ∙ t.tells in
-    let asked : asked_for h x.command ≡ Some command = it_is command (asked_for h x.command) about.1 in
-    x.says ∙ ((λ k. says_of h j x.end (asked k) (if about.0 k then figure_is k else None))
-    ∙ ap (λ d. if d then news_of_figure (last_told h j command) figure else news.Late) t.outstanding)
+told_says h j poll command figure n x t = search (arith, and_parts, tells, it_is)
 
 reset_figure : (last : Option ℕ) (figure : ℕ) → news_of_figure last figure ≡ news.Reset
     → (l : ℕ) × (last ≡ Some l) × (l ≤ figure)

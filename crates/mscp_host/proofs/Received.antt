@@ -1,5 +1,5 @@
 -- What a host keeps, as the list so far says it, after a moment in which an end is heard.
-use Rattle.std.proofs.Common.{◌≡◌, ℕ, ◌+◌, ◌<◌, Bool, true, false, cond, [], ◌∷◌, ◌++◌, map, ⊎_elim, refl, ap, sym, ◌∙◌, arith, append-nil}
+use Rattle.std.proofs.Common.{◌≡◌, ℕ, ◌+◌, ◌<◌, Bool, true, false, map, ⊎_elim, refl, ap, sym, ◌∙◌, arith, append-nil}
 use Rattle.std.specs.Prelude.{◌&&◌, filter, find, nat_eq, not, if◌then◌else◌, Option, Some, None, is_some, option_map}
 use Rattle.std.proofs.Math.Bool.{and-false, and-true}
 use Rattle.std.proofs.lemmas.Bool.{cases_lt, eqb-true, eq-eqb, false_from_ne_true, false≢true, true≢false}
@@ -159,17 +159,7 @@ untold_when {credits} {h} {j} {e} {p} x i f =
 -- of those that are outstanding the polled one alone has its number
 same_name : (credits : ℕ) (h : History) (j i y n : ℕ) → IsApart credits h j → is_outstanding h j i ≡ true
     → is_outstanding h j y ≡ true → reference h i ≡ n → nat_eq i y ≡ nat_eq (reference h y) n
-same_name credits h j i y n a ei ey r =
-    let to : nat_eq i y ≡ true → nat_eq (reference h y) n ≡ true =
-    λ q. eq-eqb (reference h y) n (ap (reference h) (sym (eqb-true i y q)) ∙ r) in
-    let from : nat_eq (reference h y) n ≡ true → nat_eq i y ≡ true =
-    λ q. eq-eqb i y (a.names i y ei ey (r ∙ sym (eqb-true (reference h y) n q))) in
-    same_bool (nat_eq i y) (nat_eq (reference h y) n) to from
-  where
-    same_bool : (b d : Bool) → (b ≡ true → d ≡ true) → (d ≡ true → b ≡ true) → b ≡ d
-    same_bool true d f g = sym (f refl)
-    same_bool false true f g = g refl
-    same_bool false false f g = refl
+same_name credits h j i y n a ei ey r = search (arith, eq-eqb, eqb-true)
 
 gone : (h : History) (j i : ℕ) (o : Option ℕ) → found_stands h j o ≡ false → is_outstanding h j i ≡ true
     → is_it i o ≡ false
@@ -218,9 +208,7 @@ ends_is {credits} {h} {j} {e} {p} x i = ap (is_end_of (reference h i)) x.heard
 
 outs_after : {credits : ℕ} {h : History} {j : ℕ} {e : End} {p : ℕ} → Hears credits h j e p
     → outstanding h (j + 1) ≡ filter (λ i. not (nat_eq (reference h i) e.reference)) (outstanding h j)
-outs_after {credits} {h} {j} {e} {p} x =
-    outstanding_more h j
-    ∙ ((λ k. filter (λ i. not (ends_is x i k)) (outstanding h j) ++ cond (x.silent k) (j ∷ []) []) ∙ append-nil _)
+outs_after {credits} {h} {j} {e} {p} x = search (arith, outstanding_more, ends_is, append-nil)
 
 pub apart_with : (a : Account) (t : Option (ℕ × ℕ)) → are_apart (outstanding_with a t) ≡ are_apart a.outstanding
 apart_with a None = refl

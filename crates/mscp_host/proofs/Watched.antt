@@ -50,10 +50,7 @@ module _ (p : Submission → Bool) where
 
 -- another number isn't that of the one that leaves
 other_status : (n r : ℕ) (s : Submission) → nat_eq n r ≡ false → is_status n s ≡ true → has_reference r s ≡ false
-other_status n r s other e =
-    let p = and_parts (has_reference n s) _ e in
-    let mine = p.0 in
-    grind (arith, mine, other)
+other_status n r s other e = search (arith, and_parts)
 
 other_poll : (n u r : ℕ) (s : Submission) → nat_eq n r ≡ false → is_poll n u s ≡ true → has_reference r s ≡ false
 other_poll n u r s other e = other_status n r s other (and_parts (is_status n s) (nat_eq s.unit u) e).0
