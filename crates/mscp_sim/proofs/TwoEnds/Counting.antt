@@ -17,9 +17,7 @@ times_append r (x ∷ xs) ys = search (arith, times_append r xs ys)
 -- it stands there exactly where it is found
 any_times : (r : ℕ) (xs : List ℕ) → list_any (λ x. nat_eq x r) xs ≡ nat_lt 0 (times r xs)
 any_times r [] = refl
-any_times r (x ∷ xs) =
-    elim (nat_eq x r) as (λ b. (b || list_any (λ y. nat_eq y r) xs) ≡ nat_lt 0 (cond b (1 + times r xs) (times r xs)))
-    [ true ↦ grind (arith, nat_tests) | false ↦ any_times r xs ]
+any_times r (x ∷ xs) = search (arith, any_times r xs, nat_tests)
 
 pub any_alike : (r : ℕ) (xs ys : List ℕ) → times r xs ≡ times r ys
     → list_any (λ x. nat_eq x r) xs ≡ list_any (λ x. nat_eq x r) ys

@@ -1,5 +1,5 @@
 -- What each host did in a turn is a moment of its own history.
-use Rattle.std.proofs.Common.{◌≡◌, ℕ, ◌<◌, Bool, true, false, length, refl, ap, sym, ◌∙◌, subst, arith}
+use Rattle.std.proofs.Common.{◌≡◌, ℕ, ◌<◌, Bool, true, false, length, refl, ap, sym, ◌∙◌, arith}
 use Rattle.std.specs.Prelude.{if◌then◌else◌, Option, Some, None, Result, Ok, Err}
 use Rattle.std.proofs.lemmas.Bool.{false≢true, true≢false}
 use Rattle.std.proofs.lemmas.List.{get_or-map}
@@ -61,10 +61,7 @@ take_answers via old s (Some b) new m x = rw (x.1, m) x.2
 both_answers : (via : Connection) (old new : Both Account) (k : Account) (m : host.Moment) → new ≡ put via k old
     → Answers (of via old) m k → (other : Connection)
     → Answers (of other old) (if same_connection via other then m else Other) (of other new)
-both_answers via old new k m p e =
-    each_side (λ other. Answers (of other old) (if same_connection via other then m else Other) (of other new)) via
-    (rw (own_side via) (subst (Answers (of via old) m) (sym (ap (of via) p ∙ of_put via k old)) e))
-    (λ other d. rw d (ap (of other) p ∙ of_other via other k old d))
+both_answers via old new k m p e = search (arith, each_side, own_side, of_put, of_other)
 
 pub answers : (old new : Both Account) (s : Said) (t : Turn) → IsHeard old t s new → (via : Connection)
     → Answers (of via old) (heard_by via t s.heard s.moment) (of via new)
@@ -106,7 +103,4 @@ said_news old new s (turns.Submit via command) n x e =
     absurd (true≢false (sym (ap is_news e) ∙ submits_quiet via s _ x.0))
 said_news old new s (turns.Poll via r) n x e = absurd (true≢false (sym (ap is_news e) ∙ asks_quiet via s _ x.0))
 said_news old new s (turns.Step block) n x e = absurd (false≢true (ap is_news (sym x.1 ∙ e)))
-said_news old new s (turns.Take via) n x e = (
-  via,
-  rw (own_side via) (taken_news via (of via old) x.1 s x.0 n x.2 x.3 e),
-)
+said_news old new s (turns.Take via) n x e = search (arith, own_side, taken_news)

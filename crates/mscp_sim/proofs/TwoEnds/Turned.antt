@@ -16,7 +16,7 @@ use Rattle.mscp_queue.proofs.Named.{one_side, own_side}
 use Rattle.mscp_controller.specs.declared.entry.Entry.TheVariants as entries
 use Rattle.mscp_controller.specs.declared.entry.Sent.{Sent}
 use Rattle.mscp_controller.specs.Commands.{sent_command}
-use Rattle.mscp_controller.specs.History.{Moment, queues}
+use Rattle.mscp_controller.specs.History.{Moment}
 use Rattle.mscp_controller.specs.Holdings.{Holdings, after_message, after_take, end_taken}
 use Rattle.mscp_controller.proofs.Promise.Sides.{queues_by}
 use Rattle.mscp_host.specs.declared.news.HostFault.{HostFault}
@@ -51,17 +51,6 @@ abbrev pub told_after : {K : Type 0} → Both Account → Holdings K → Said �
 told_after a h s t via told =
     told_then (is_poll (heard_by via t s.heard s.moment)) (oldest (of via a)) via h told
 
--- the match of a connection is kept in a turn
-abbrev Keeps : {K : Type 0} → Both Account → Holdings K → Said → Turn → Both Account → Holdings K → Connection → Type 0
-Keeps a h s t a' h' via =
-    (told : Flight) → Matches via (of via a) h told → Matches via (of via a') h' (told_after a h s t via told)
-
--- where its host polls not, and keeps this account
-unasked : {K : Type 0} (a a' : Both Account) (h h' : Holdings K) (s : Said) (t : Turn) (via : Connection) (k : Account)
-    → is_poll (heard_by via t s.heard s.moment) ≡ false → of via a' ≡ k
-    → ((told : Flight) → Matches via (of via a) h told → Matches via k h' told) → Keeps a h s t a' h' via
-unasked {K} a a' h h' s t via k n e f told m = rw n (subst (λ y. Matches via y h' told) (sym e) (f told m))
-
 abbrev is_asked : Heard → Bool
 is_asked hears.Asked = true
 is_asked heard = false
@@ -70,69 +59,11 @@ no_poll : (via : Connection) (t : Turn) (heard : Heard) (m : Option Moment) → 
     → is_poll (heard_by via t heard m) ≡ false
 no_poll via t heard m e = grind (arith, true≢false)
 
--- nothing comes to the controller
-kept_back : {K : Type 0} (picks : List Choice → ℕ → Type 0) (a a' : Both Account) (h h' : Holdings K) (s : Said)
-    (t : Turn) → s.moment ≡ None → is_asked s.heard ≡ false → a' ≡ a → AnswersTurn picks h s.moment h'
-    → (via : Connection) → Keeps a h s t a' h' via
-kept_back {K} picks a a' h h' s t none n e answers via =
-    let left : h' ≡ h = subst (λ o. AnswersTurn picks h o h') none answers in
-    unasked a a' h h' s t via (of via a) (no_poll via t s.heard s.moment n) (ap (of via) e)
-    (λ told m. subst (λ (y : Holdings K). Matches via (of via a) y told) (sym left) m)
+no_take : (via other : Connection) (heard : Heard) (m : Option Moment)
+    → is_poll (heard_by other (turns.Take via) heard m) ≡ false
+no_take via other heard m = grind arith
 
--- a message comes: the other connection is left as it was
-message_keeps : {K : Type 0} (a a' : Both Account) (h h' : Holdings K) (s : Said) (t : Turn) (via : Connection)
-    (b : List ℕ) (k : Account)
-    → ((other : Connection) → same_connection via other ≡ false → heard_by other t s.heard s.moment ≡ host.Other)
-    → a' ≡ put via k a → h' ≡ after_message via h b
-    → ((told : Flight) → Matches via (of via a) h told → Matches via k (after_message via h b)
-    (told_after a h s t via told))
-    → (other : Connection) → Keeps a h s t a' h' other
-message_keeps {K} a a' h h' s t via b k part p after own =
-    each_side (Keeps a h s t a' h') via
-    (λ told m. subst (λ y. Matches via y h' (told_after a h s t via told)) (sym (ap (of via) p ∙ of_put via k a))
-    (subst (λ (y : Holdings K). Matches via k y (told_after a h s t via told)) (sym after) (own told m)))
-    (λ other d. unasked a a' h h' s t other (of other a) (ap is_poll (part other d))
-    (ap (of other) p ∙ of_other via other k a d)
-    (λ told m. subst (λ (y : Holdings K). Matches other (of other a) y told) (sym after)
-    (foreign_message via other (of other a) h told b d m)))
-
-submit_keeps : {K : Type 0} (picks : List Choice → ℕ → Type 0) (a a' : Both Account) (h h' : Holdings K) (s : Said)
-    (via : Connection) (command : Command) (o : Result (ArrayVec ℕ) HostFault) (k : Account)
-    → (command.reference < 2 ^ 32) × (command.unit < 2 ^ 16) → submits (of via a) command ≡ (o, k) → a' ≡ put via k a
-    → IsSubmitted via s o → AnswersTurn picks h s.moment h' → (other : Connection)
-    → Keeps a h s (turns.Submit via command) a' h' other
-submit_keeps picks a a' h h' s via command (Err fault) k small e p x answers =
-    kept_back picks a a' h h' s (turns.Submit via command) x.1 (ap is_asked x.0)
-    (p ∙ (ap (λ y. put via y a) (submits_kept (of via a) command fault k e) ∙ put_own via a)) answers
-submit_keeps picks a a' h h' s via command (Ok b) k small e p x answers =
-    let t = turns.Submit via command in
-    message_keeps a a' h h' s t via b.items k (λ other d. rw d refl) p
-    (subst (λ o. AnswersTurn picks h o h') x.2 answers).2
-    (λ told m. rw (no_poll via t s.heard s.moment (ap is_asked x.1))
-    (submits_match via (of via a) h told command b k small.0 small.1 m e).match)
-
-poll_keeps : {K : Type 0} (picks : List Choice → ℕ → Type 0) (a a' : Both Account) (h h' : Holdings K) (s : Said)
-    (via : Connection) (r : ℕ) (o : Result Poll HostFault) (k : Account)
-    → r < 2 ^ 32 → polls_oldest (of via a) r ≡ (o, k) → a' ≡ put via k a
-    → IsPolled via s o → AnswersTurn picks h s.moment h' → (other : Connection)
-    → Keeps a h s (turns.Poll via r) a' h' other
-poll_keeps picks a a' h h' s via r (Ok (polls.Ask b)) k small e p x answers =
-    message_keeps a a' h h' s (turns.Poll via r) via b.items k (λ other d. rw d refl) p
-    (subst (λ o. AnswersTurn picks h o h') x.2 answers).2
-    (λ told m.
-    let y = asks_match via (of via a) h r b k small (told, m) e in
-    rw (x.1, x.2, own_side via, y.oldest) y.match)
-poll_keeps picks a a' h h' s via r (Err fault) k small e p x answers =
-    kept_back picks a a' h h' s (turns.Poll via r) x.1 (ap is_asked x.0)
-    (p ∙ (ap (λ y. put via y a) (polled_kept (of via a) r (Err fault) k refl e) ∙ put_own via a)) answers
-poll_keeps picks a a' h h' s via r (Ok polls.Nothing) k small e p x answers =
-    kept_back picks a a' h h' s (turns.Poll via r) x.1 (ap is_asked x.0)
-    (p ∙ (ap (λ y. put via y a) (polled_kept (of via a) r (Ok polls.Nothing) k refl e) ∙ put_own via a)) answers
-poll_keeps picks a a' h h' s via r (Ok polls.Busy) k small e p x answers =
-    kept_back picks a a' h h' s (turns.Poll via r) x.1 (ap is_asked x.0)
-    (p ∙ (ap (λ y. put via y a) (polled_kept (of via a) r (Ok polls.Busy) k refl e) ∙ put_own via a)) answers
-
--- an end is handed over, or none
+-- an end is handed over to a connection, or none
 take_own : {K : Type 0} (via : Connection) (a k : Account) (h : Holdings K) (heard : Heard) (end : Option (ArrayVec ℕ))
     (told : Flight) → IsHanded a end heard k → end ≡ end_taken via h
     → ((b : ArrayVec ℕ) (e : End) → end ≡ Some b → slice_get (of via h.untaken) 0 ≡ Some e → IsEnd b.items e)
@@ -143,46 +74,99 @@ take_own {K} via a k h heard (Some b) told x e sound m =
     let out = taken_some via a h told b (sym e) (λ end f. sound b end refl f) m in
     subst (λ y. Matches via y (after_take via h) told) (ap (λ q. q.1) (sym out.heard ∙ x.2)) out.match
 
-no_take : (via other : Connection) (heard : Heard) (m : Option Moment)
-    → is_poll (heard_by other (turns.Take via) heard m) ≡ false
-no_take via other heard m = grind arith
+module _ {K : Type 0} (picks : List Choice → ℕ → Type 0) (a a' : Both Account) (h h' : Holdings K) (s : Said) where
+  -- the match of a connection is kept in a turn
+  abbrev Keeps : Turn → Connection → Type 0
+  Keeps t via = (told : Flight) → Matches via (of via a) h told → Matches via (of via a') h' (told_after a h s t via told)
 
-take_keeps : {K : Type 0} (picks : List Choice → ℕ → Type 0) (a a' : Both Account) (h h' : Holdings K) (s : Said)
-    (via : Connection) → IsHeard a (turns.Take via) s a' → AnswersTurn picks h s.moment h'
-    → IsSound h (turns.Take via) s.moment → (other : Connection) → Keeps a h s (turns.Take via) a' h' other
-take_keeps {K} picks a a' h h' s via x answers sound =
-    let t = turns.Take via in
-    let answer = subst (λ o. AnswersTurn picks h o h') x.2 answers in
-    each_side (Keeps a h s t a' h') via
-    (unasked a a' h h' s t via x.1 (no_take via via s.heard s.moment) (ap (of via) x.4 ∙ of_put via x.1 a)
-    (λ told m. subst (λ (y : Holdings K). Matches via x.1 y told) (sym answer.2)
-    (take_own via (of via a) x.1 h s.heard x.0 told x.3 answer.1
-    (λ b e q. sound b e (x.2 ∙ ap (λ end. Some (events.Take via, entries.Taken via end)) q)) m)))
-    (λ other d. unasked a a' h h' s t other (of other a) (no_take via other s.heard s.moment) (ap (of other) x.4 ∙ of_other via other x.1 a d)
-    (λ told m. subst (λ (y : Holdings K). Matches other (of other a) y told) (sym answer.2)
-    (foreign_take via other (of other a) h told d m)))
+  -- where its host polls not, and keeps this account
+  unasked : (t : Turn) (via : Connection) (k : Account) → is_poll (heard_by via t s.heard s.moment) ≡ false
+      → of via a' ≡ k → ((told : Flight) → Matches via (of via a) h told → Matches via k h' told) → Keeps t via
+  unasked t via k n e f told m = rw n (subst (λ y. Matches via y h' told) (sym e) (f told m))
 
-keeps : {K : Type 0} (picks : List Choice → ℕ → Type 0) (a a' : Both Account) (h h' : Holdings K) (s : Said) (t : Turn)
-    → IsHeard a t s a' → AnswersTurn picks h s.moment h' → IsSound h t s.moment → (via : Connection)
-    → Keeps a h s t a' h' via
-keeps picks a a' h h' s (turns.Submit via command) x answers sound =
-    submit_keeps picks a a' h h' s via command _ _ sound refl x.1 x.0 answers
-keeps picks a a' h h' s (turns.Poll via r) x answers sound =
-    poll_keeps picks a a' h h' s via r _ _ sound refl x.1 x.0 answers
-keeps picks a a' h h' s (turns.Step k) x answers sound = λ via.
-    unasked a a' h h' s (turns.Step k) via (of via a) refl (ap (of via) x.3)
-    (λ told m. steps_match via picks (of via a) h h' told k x.0 (subst (λ o. AnswersTurn picks h o h') x.2 answers) m)
-keeps picks a a' h h' s (turns.Take via) x answers sound = take_keeps picks a a' h h' s via x answers sound
+  -- nothing comes to the controller
+  kept_back : (t : Turn) (other : Connection) (k : Account) → s.moment ≡ None → is_asked s.heard ≡ false
+      → a' ≡ put other k a → k ≡ of other a → AnswersTurn picks h s.moment h' → (via : Connection) → Keeps t via
+  kept_back t other k none n p e answers via =
+      let left : h' ≡ h = subst (λ o. AnswersTurn picks h o h') none answers in
+      let same : a' ≡ a = p ∙ (ap (λ y. put other y a) e ∙ put_own other a) in
+      unasked t via (of via a) (no_poll via t s.heard s.moment n) (ap (of via) same)
+      (λ told m. subst (λ (y : Holdings K). Matches via (of via a) y told) (sym left) m)
 
-pub says_keeps : {K : Type 0} (picks : List Choice → ℕ → Type 0) (a a' : Both Account) (h h' : Holdings K) (s : Said)
-    → Says picks a h s a' h' → (via : Connection) (told : Flight) → Matches via (of via a) h told
-    → Matches via (of via a') h' (told_after a h s s.turn via told)
-says_keeps picks a a' h h' s x = keeps picks a a' h h' s s.turn x.0 x.1 x.2
+  -- the other connection is left as it was
+  other_kept : (t : Turn) (via other : Connection) (k : Account) (after : Holdings K) → same_connection via other ≡ false
+      → is_poll (heard_by other t s.heard s.moment) ≡ false → a' ≡ put via k a → h' ≡ after
+      → ((told : Flight) → Matches other (of other a) h told → Matches other (of other a) after told) → Keeps t other
+  other_kept t via other k after d n p e f =
+      unasked t other (of other a) n (ap (of other) p ∙ of_other via other k a d)
+      (λ told m. subst (λ (y : Holdings K). Matches other (of other a) y told) (sym e) (f told m))
 
--- so the match is kept after what is said
-pub with_match : {K : Type 0} (picks : List Choice → ℕ → Type 0) (a a' : Both Account) (h h' : Holdings K) (s : Said)
-    → Says picks a h s a' h' → Match a h → Says picks a h s a' h' × Match a' h'
-with_match picks a a' h h' s x m = (x, λ via. (_, says_keeps picks a a' h h' s x via (m via).0 (m via).1))
+  -- a message comes
+  message_keeps : (t : Turn) (via : Connection) (b : List ℕ) (k : Account)
+      → ((other : Connection) → same_connection via other ≡ false → heard_by other t s.heard s.moment ≡ host.Other)
+      → a' ≡ put via k a → h' ≡ after_message via h b
+      → ((told : Flight) → Matches via (of via a) h told → Matches via k (after_message via h b)
+      (told_after a h s t via told)) → (other : Connection) → Keeps t other
+  message_keeps t via b k part p after own =
+      each_side (Keeps t) via
+      (λ told m. subst (λ y. Matches via y h' (told_after a h s t via told)) (sym (ap (of via) p ∙ of_put via k a))
+      (subst (λ (y : Holdings K). Matches via k y (told_after a h s t via told)) (sym after) (own told m)))
+      (λ other d. other_kept t via other k (after_message via h b) d (ap is_poll (part other d)) p after
+      (λ told. foreign_message via other (of other a) h told b d))
+
+  submit_keeps : (via : Connection) (command : Command) (o : Result (ArrayVec ℕ) HostFault) (k : Account)
+      → (command.reference < 2 ^ 32) × (command.unit < 2 ^ 16) → submits (of via a) command ≡ (o, k) → a' ≡ put via k a
+      → IsSubmitted via s o → AnswersTurn picks h s.moment h' → (other : Connection)
+      → Keeps (turns.Submit via command) other
+  submit_keeps via command (Err fault) k small e p x answers =
+      kept_back (turns.Submit via command) via k x.1 (ap is_asked x.0) p (submits_kept (of via a) command fault k e)
+      answers
+  submit_keeps via command (Ok b) k small e p x answers =
+      let t = turns.Submit via command in
+      message_keeps t via b.items k (λ other d. rw d refl) p (subst (λ o. AnswersTurn picks h o h') x.2 answers).2
+      (λ told m. rw (no_poll via t s.heard s.moment (ap is_asked x.1))
+      (submits_match via (of via a) h told command b k small.0 small.1 m e).match)
+
+  poll_keeps : (via : Connection) (r : ℕ) (o : Result Poll HostFault) (k : Account) → r < 2 ^ 32
+      → polls_oldest (of via a) r ≡ (o, k) → a' ≡ put via k a → IsPolled via s o → AnswersTurn picks h s.moment h'
+      → (other : Connection) → Keeps (turns.Poll via r) other
+  poll_keeps via r (Ok (polls.Ask b)) k small e p x answers =
+      message_keeps (turns.Poll via r) via b.items k (λ other d. rw d refl) p
+      (subst (λ o. AnswersTurn picks h o h') x.2 answers).2
+      (λ told m.
+      let y = asks_match via (of via a) h r b k small (told, m) e in
+      rw (x.1, x.2, own_side via, y.oldest) y.match)
+  poll_keeps via r o k small e p x answers =
+      kept_back (turns.Poll via r) via k x.1 (ap is_asked x.0) p (polled_kept (of via a) r o k refl e) answers
+
+  take_keeps : (via : Connection) → IsHeard a (turns.Take via) s a' → AnswersTurn picks h s.moment h'
+      → IsSound h (turns.Take via) s.moment → (other : Connection) → Keeps (turns.Take via) other
+  take_keeps via x answers sound =
+      let answer = subst (λ o. AnswersTurn picks h o h') x.2 answers in
+      each_side (Keeps (turns.Take via)) via
+      (unasked (turns.Take via) via x.1 (no_take via via s.heard s.moment) (ap (of via) x.4 ∙ of_put via x.1 a)
+      (λ told m. subst (λ (y : Holdings K). Matches via x.1 y told) (sym answer.2)
+      (take_own via (of via a) x.1 h s.heard x.0 told x.3 answer.1
+      (λ b e q. sound b e (x.2 ∙ ap (λ end. Some (events.Take via, entries.Taken via end)) q)) m)))
+      (λ other d. other_kept (turns.Take via) via other x.1 (after_take via h) d (no_take via other s.heard s.moment) x.4
+      answer.2 (λ told. foreign_take via other (of other a) h told d))
+
+  keeps : (t : Turn) → IsHeard a t s a' → AnswersTurn picks h s.moment h' → IsSound h t s.moment → (via : Connection)
+      → Keeps t via
+  keeps (turns.Submit via command) x answers sound = submit_keeps via command _ _ sound refl x.1 x.0 answers
+  keeps (turns.Poll via r) x answers sound = poll_keeps via r _ _ sound refl x.1 x.0 answers
+  keeps (turns.Step k) x answers sound = λ via.
+      unasked (turns.Step k) via (of via a) refl (ap (of via) x.3)
+      (λ told m. steps_match via picks (of via a) h h' told k x.0 (subst (λ o. AnswersTurn picks h o h') x.2 answers) m)
+  keeps (turns.Take via) x answers sound = take_keeps via x answers sound
+
+  pub says_keeps : Says picks a h s a' h' → (via : Connection) (told : Flight) → Matches via (of via a) h told
+      → Matches via (of via a') h' (told_after a h s s.turn via told)
+  says_keeps x = keeps s.turn x.0 x.1 x.2
+
+  -- so the match is kept after what is said
+  pub with_match : Says picks a h s a' h' → Match a h → Says picks a h s a' h' × Match a' h'
+  with_match x m = (x, λ via. (_, says_keeps x via (m via).0 (m via).1))
 
 -- ---- what is queued, and what is heard
 
@@ -201,16 +185,7 @@ message_sent : (via other : Connection) (s : Said) (t : Turn) (b : ArrayVec ℕ)
     → heard_by other t s.heard s.moment ≡ part → is_sent part ≡ true
     → (command_of b.items).reference ≡ reference_in part → (m : Moment) → s.moment ≡ Some m
     → queues_by via m ≡ true → IsSentBy via s t m
-message_sent via other s t b sent part e p is n m f q =
-    let same : m ≡ (events.Send other b, entries.Sent other (Ok sent)) = ap (λ o. unwrap_or o m) (sym f ∙ e) in
-    let by = and_parts (queues (entries.Sent other (Ok sent))) (same_connection other via)
-    (ap (queues_by via) (sym same) ∙ q) in
-    let own : other ≡ via = one_side other via by.1 in
-    subst (λ v. IsSentBy v s t m) own (
-      ap is_sent p ∙ is,
-      ap (λ o. (sent_command o).reference) same
-          ∙ (n ∙ sym (ap reference_in p)),
-    )
+message_sent via other s t b sent part e p is n m f q = search (arith, and_parts, queues_by, one_side)
 
 submit_sent : {K : Type 0} (a : Both Account) (h : Holdings K) (s : Said) (other : Connection) (command : Command)
     (o : Result (ArrayVec ℕ) HostFault) (k : Account) → (command.reference < 2 ^ 32) × (command.unit < 2 ^ 16)

@@ -23,7 +23,7 @@ use Rattle.mscp_controller.proofs.Promise.Sides.{queues_by}
 use Rattle.mscp_host.specs.declared.news.News.TheVariants as news
 use Rattle.mscp_host.specs.declared.submission.Submission.{Submission}
 use Rattle.mscp_host.specs.Accounts.{Account, oldest}
-use Rattle.mscp_host.specs.Histories.{asked_for, asks_about, end_heard, figure_in, found_stands, handed_over, in_flight, is_end_of, is_it, is_outstanding, is_poll, is_sent, moment, news_heard, reference, reference_found, reference_in, submission_at, watch_at}
+use Rattle.mscp_host.specs.Histories.{History, asked_for, asks_about, end_heard, figure_in, found_stands, handed_over, in_flight, is_end_of, is_it, is_outstanding, is_poll, is_sent, moment, news_heard, reference, reference_found, reference_in, submission_at, watch_at}
 use Rattle.mscp_host.specs.Law.{Answers, Stands}
 use Rattle.mscp_host.proofs.Collected.{found_out}
 use Rattle.mscp_host.proofs.Kept.{oldest_is}
@@ -132,43 +132,6 @@ never_lost c talk j a a' l says on q =
     let some = told.1 lost.is_told.outstanding in
     absurd (omega (arith, zero, some))
 
--- ---- both connections
-
-reached_next : {K : Type 0} {c : Settings} {picks : List Choice → ℕ → Type 0} {picker : K} {talk : Talk} {j : ℕ}
-    {a' : Both Account} {h' : Holdings K} → Comes c picks picker talk j a' h'
-    → AnsweredCalls picks (fresh c picker) (calls_of (trace_of (take (j + 1) talk))) h'
-reached_next {K} {c} {picks} {picker} {talk} {j} {a'} {h'} x = grind (arith, trace_more, reached_more, calls_of)
-
--- a turn, of what it says of each connection
-pub turns_of : {K : Type 0} {c : Settings} {picks : List Choice → ℕ → Type 0} {picker : K} {talk : Talk} {j : ℕ}
-    {a' : Both Account} {h' : Holdings K} → (x : Comes c picks picker talk j a' h')
-    → ((via : Connection) → TurnsOn c via talk j (of via a') h') → Turns c picks picker talk j a' h'
-turns_of {K} {c} {picks} {picker} {talk} {j} {a'} {h'} x on =
-    let old : x.hosts ≡ accounts_at c talk j = both_at c talk j x.hosts (λ via. (x.at.side via).account) in
-    let new : a' ≡ accounts_at c talk (j + 1) = both_at c talk (j + 1) a' (λ via. (on via).next.account) in
-    let tells = λ (via : Connection). (on via).tells in
-    record {
-      tells = record {
-        says = subst (λ a. IsHeard a (said talk j).turn (said talk j) (accounts_at c talk (j + 1))) old
-            (subst (IsHeard x.hosts (said talk j).turn (said talk j)) new x.says.0);
-        resets = resets_of c talk j x.hosts a' x.inside x.says.0 tells;
-        no_lost = never_lost c talk j x.hosts a' x.inside x.says.0 tells;
-        on = tells;
-      };
-      next = record { side = λ via. (on via).next; reached = reached_next x };
-    }
-
--- ---- one connection
-
--- what is known of its host
-pub goes_of : {K : Type 0} {c : Settings} {picks : List Choice → ℕ → Type 0} {picker : K} {talk : Talk} {j : ℕ}
-    {a' : Both Account} {h' : Holdings K} → (x : Comes c picks picker talk j a' h') → (via : Connection)
-    → Goes (credits_of c via) (history via talk) j (of via a')
-goes_of {K} {c} {picks} {picker} {talk} {j} {a'} {h'} x via =
-    step (credits_of c via) (history via talk) j (of via a') _ (x.at.side via).apart (moment_is via talk j x.inside)
-    (subst (λ a. Answers a (own_part via (said talk j)) (of via a')) (x.at.side via).account
-    (answers x.hosts a' (said talk j) (said talk j).turn x.says.0 via))
-
 -- ---- a poll
 
 -- what the controller tells now of a number
@@ -193,42 +156,6 @@ some_now c via picks t h s k w =
     some_figure c t (name_on via s.reference) promise
     (ap (list_any (λ m. same_name m (name_on via s.reference))) (sym waits)
     ∙ (sym (named_on via s.reference h.waiting) ∙ w))
-
-match_at : {K : Type 0} {c : Settings} {picks : List Choice → ℕ → Type 0} {picker : K} {talk : Talk} {j : ℕ}
-    {a' : Both Account} {h' : Holdings K} → (x : Comes c picks picker talk j a' h') → Match x.hosts x.controller
-match_at x via = ((x.at.side via).told, (x.at.side via).match)
-
--- what the poll of this turn is told
-told_figure : {K : Type 0} {c : Settings} {picks : List Choice → ℕ → Type 0} {picker : K} {talk : Talk} {j : ℕ}
-    {a' : Both Account} {h' : Holdings K} → (x : Comes c picks picker talk j a' h') → (via : Connection)
-    → (i : ℕ) → asked_for (history via talk) j ≡ Some i
-    → IsFigured c via talk (told_then true (oldest (of via x.hosts)) via x.controller (x.at.side via).told) j
-told_figure {K} {c} {picks} {picker} {talk} {j} {a'} {h'} x via i about =
-    let h = history via talk in
-    let t = trace_of (take j talk) in
-    let s = submission_at h j i in
-    let old : oldest (of via x.hosts) ≡ Some s = ap oldest (x.at.side via).account
-    ∙ (oldest_is (credits_of c via) h j ∙ ap (option_map (submission_at h j)) about) in
-    let figure = figure_now c via picks t x.controller s x.keeps in
-    rw old (
-      figure ∙ ap (λ o. figure_of c t (name_on via (reference_found h o))) (sym about),
-      λ w. subst (λ y. 1 ≤ y) (sym figure) (some_now c via picks t x.controller s x.keeps w),
-    )
-
-flight_then : {K : Type 0} {c : Settings} {picks : List Choice → ℕ → Type 0} {picker : K} {talk : Talk} {j : ℕ}
-    {a' : Both Account} {h' : Holdings K} → (x : Comes c picks picker talk j a' h') → (via : Connection)
-    → (b : Bool) → is_poll (own_part via (said talk j)) ≡ b → (p : ℕ)
-    → in_flight (history via talk) (j + 1) ≡ Some p
-    → IsFigured c via talk (told_then b (oldest (of via x.hosts)) via x.controller (x.at.side via).told) p
-flight_then {K} {c} {picks} {picker} {talk} {j} {a'} {h'} x via true n p f =
-    let goes = goes_of x via in
-    let poll = ap is_poll (moment_is via talk j x.inside) ∙ n in
-    subst (IsFigured c via talk _)
-    (sym (flight_new (credits_of c via) (history via talk) j p goes.apart poll f))
-    (told_figure x via (goes.polls poll).1 (goes.polls poll).2)
-flight_then {K} {c} {picks} {picker} {talk} {j} {a'} {h'} x via false n p f =
-    (x.at.side via).flight p (flight_back (credits_of c via) (history via talk) j p (x.at.side via).apart
-    (ap is_poll (moment_is via talk j x.inside) ∙ n) f)
 
 -- ---- an end
 
@@ -261,44 +188,101 @@ some_end : (r : ℕ) (o : Option End) → is_end_of r o ≡ true → (e : End) �
 some_end r None h = absurd (false≢true h)
 some_end r (Some e) h = (e, refl, eqb-true r e.reference h)
 
-figures_of : {K : Type 0} {c : Settings} {picks : List Choice → ℕ → Type 0} {picker : K} {talk : Talk} {j : ℕ}
-    {a' : Both Account} {h' : Holdings K} → (x : Comes c picks picker talk j a' h') → (via : Connection) (i p : ℕ)
-    → handed_over (history via talk) j ≡ Some p → asks_about (history via talk) i p ≡ true
-    → (figure_in (end_heard (own_part via (said talk j))) ≡ Some (figure_told c via talk p))
-    × (is_outstanding (history via talk) j i ≡ true → 1 ≤ figure_told c via talk p)
-figures_of {K} {c} {picks} {picker} {talk} {j} {a'} {h'} x via i p f about =
-    let h = history via talk in
-    let side = x.at.side via in
-    let own = found_out h j p _ f in
-    let end = some_end (reference h p) _ own.1 in
-    let heard = ap end_heard (sym (moment_is via talk j x.inside)) ∙ end.1 in
-    let first = first_of picks x.hosts a' x.controller h' (said talk j) x.says (match_at x) via end.0 heard in
-    let parts = and_parts (is_poll (moment h p)) (is_it i (asked_for h p)) about in
-    let told = answer_is side end.0 first.0 first.1 i p (flies (credits_of c via) h j p side.apart own.0 parts.0)
-    end.2 (it_is i (asked_for h p) parts.1) in
-    (ap figure_in heard ∙ told.0, told.1)
-
 -- ---- the turn
 
-pub turn : {K : Type 0} {c : Settings} {picks : List Choice → ℕ → Type 0} {picker : K} {talk : Talk} {j : ℕ}
-    {a' : Both Account} {h' : Holdings K} → Comes c picks picker talk j a' h' → Turns c picks picker talk j a' h'
-turn {K} {c} {picks} {picker} {talk} {j} {a'} {h'} x = turns_of x (λ via.
-    let side = x.at.side via in
-    let goes = goes_of x via in
-    let at = moment_is via talk j x.inside in
-    record {
+module _ {K : Type 0} {c : Settings} {picks : List Choice → ℕ → Type 0} {picker : K} {talk : Talk} {j : ℕ}
+    {a' : Both Account} {h' : Holdings K} (x : Comes c picks picker talk j a' h') where
+  reached_next : AnsweredCalls picks (fresh c picker) (calls_of (trace_of (take (j + 1) talk))) h'
+  reached_next = grind (arith, trace_more, reached_more, calls_of)
+
+  match_at : Match x.hosts x.controller
+  match_at via = ((x.at.side via).told, (x.at.side via).match)
+
+  -- a turn, of what it says of each connection
+  turns_of : ((via : Connection) → TurnsOn c via talk j (of via a') h') → Turns c picks picker talk j a' h'
+  turns_of on =
+      let old : x.hosts ≡ accounts_at c talk j = both_at c talk j x.hosts (λ via. (x.at.side via).account) in
+      let new : a' ≡ accounts_at c talk (j + 1) = both_at c talk (j + 1) a' (λ via. (on via).next.account) in
+      let tells = λ (via : Connection). (on via).tells in
+      record {
+        tells = record {
+          says = subst (λ a. IsHeard a (said talk j).turn (said talk j) (accounts_at c talk (j + 1))) old
+              (subst (IsHeard x.hosts (said talk j).turn (said talk j)) new x.says.0);
+          resets = resets_of c talk j x.hosts a' x.inside x.says.0 tells;
+          no_lost = never_lost c talk j x.hosts a' x.inside x.says.0 tells;
+          on = tells;
+        };
+        next = record { side = λ via. (on via).next; reached = reached_next };
+      }
+
+  -- what is known of one connection: its history is h, and the turn is this moment of it
+  module _ (via : Connection) where
+    abbrev h : History
+    h = history via talk
+
+    at : moment h j ≡ own_part via (said talk j)
+    at = moment_is via talk j x.inside
+
+    goes_of : Goes (credits_of c via) h j (of via a')
+    goes_of = step (credits_of c via) h j (of via a') _ (x.at.side via).apart at
+        (subst (λ a. Answers a (own_part via (said talk j)) (of via a')) (x.at.side via).account
+        (answers x.hosts a' (said talk j) (said talk j).turn x.says.0 via))
+
+    -- what the poll of this turn is told
+    told_figure : (i : ℕ) → asked_for h j ≡ Some i
+        → IsFigured c via talk (told_then true (oldest (of via x.hosts)) via x.controller (x.at.side via).told) j
+    told_figure i about =
+        let t = trace_of (take j talk) in
+        let s = submission_at h j i in
+        let old : oldest (of via x.hosts) ≡ Some s = ap oldest (x.at.side via).account
+        ∙ (oldest_is (credits_of c via) h j ∙ ap (option_map (submission_at h j)) about) in
+        let figure = figure_now c via picks t x.controller s x.keeps in
+        rw old (
+          figure ∙ ap (λ o. figure_of c t (name_on via (reference_found h o))) (sym about),
+          λ w. subst (λ y. 1 ≤ y) (sym figure) (some_now c via picks t x.controller s x.keeps w),
+        )
+
+    flight_then : (b : Bool) → is_poll (own_part via (said talk j)) ≡ b → (p : ℕ) → in_flight h (j + 1) ≡ Some p
+        → IsFigured c via talk (told_then b (oldest (of via x.hosts)) via x.controller (x.at.side via).told) p
+    flight_then true n p f =
+        subst (IsFigured c via talk _)
+        (sym (flight_new (credits_of c via) h j p goes_of.apart (ap is_poll at ∙ n) f))
+        (told_figure (goes_of.polls (ap is_poll at ∙ n)).1 (goes_of.polls (ap is_poll at ∙ n)).2)
+    flight_then false n p f = (x.at.side via).flight p
+        (flight_back (credits_of c via) h j p (x.at.side via).apart (ap is_poll at ∙ n) f)
+
+    figures_of : (i p : ℕ) → handed_over h j ≡ Some p → asks_about h i p ≡ true
+        → (figure_in (end_heard (own_part via (said talk j))) ≡ Some (figure_told c via talk p))
+        × (is_outstanding h j i ≡ true → 1 ≤ figure_told c via talk p)
+    figures_of i p f about =
+        let side = x.at.side via in
+        let own = found_out h j p _ f in
+        let end = some_end (reference h p) _ own.1 in
+        let heard = ap end_heard (sym at) ∙ end.1 in
+        let first = first_of picks x.hosts a' x.controller h' (said talk j) x.says match_at via end.0 heard in
+        let parts = and_parts (is_poll (moment h p)) (is_it i (asked_for h p)) about in
+        let told = answer_is side end.0 first.0 first.1 i p (flies (credits_of c via) h j p side.apart own.0 parts.0)
+        end.2 (it_is i (asked_for h p) parts.1) in
+        (ap figure_in heard ∙ told.0, told.1)
+
+    turn_on : TurnsOn c via talk j (of via a') h'
+    turn_on = record {
       tells = record {
-        goes = subst (Goes (credits_of c via) (history via talk) j) goes.kept goes;
+        goes = subst (Goes (credits_of c via) h j) goes_of.kept goes_of;
         sent = λ m f q.
-            let by = sent_of x.hosts a' x.controller (said talk j) (said talk j).turn x.says.0 x.says.2 (match_at x)
+            let by = sent_of x.hosts a' x.controller (said talk j) (said talk j).turn x.says.0 x.says.2 match_at
             via m f q in (by.0, by.1 ∙ sym (ap reference_in at));
-        figures = figures_of x via;
+        figures = figures_of;
       };
       next = record {
-        account = goes.kept;
-        apart = goes.apart;
-        told = told_after x.hosts x.controller (said talk j) (said talk j).turn via side.told;
-        match = says_keeps picks x.hosts a' x.controller h' (said talk j) x.says via side.told side.match;
-        flight = flight_then x via _ refl;
+        account = goes_of.kept;
+        apart = goes_of.apart;
+        told = told_after x.hosts x.controller (said talk j) (said talk j).turn via (x.at.side via).told;
+        match = says_keeps picks x.hosts a' x.controller h' (said talk j) x.says via (x.at.side via).told
+            (x.at.side via).match;
+        flight = flight_then _ refl;
       };
-    })
+    }
+
+  pub turn : Turns c picks picker talk j a' h'
+  turn = turns_of turn_on
