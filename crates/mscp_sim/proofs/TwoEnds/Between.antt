@@ -106,185 +106,170 @@ record EndsPoll (h : History) (k p : ℕ) : Type 0 where
   pub handed : handed_over h k ≡ Some p
   pub asked : is_poll (moment h p) ≡ true
 
-order_of : (c : Settings) (via : Connection) (talk : Talk) (j k p q : ℕ) → AllKnown c talk → j < length talk → k < j
-    → EndsPoll (history via talk) k p → EndsPoll (history via talk) j q → p < q
-order_of c via talk j k p q known l m first second =
-    let h = history via talk in
-    let pk = found_before h k p _ first.handed in
-    let out_p = (found_out h k p _ first.handed).0 in
-    let out_q = (found_out h j q _ second.handed).0 in
-    ⊎_elim (λ less. less)
-    (λ more.
-    let one = ((known p (omega (arith, pk, m, l))).tells.on via).goes.apart in
-    let same = one.polls p q (stood h (p + 1) k p (omega (arith, pk)) (omega arith) out_p)
-    (stood h (p + 1) j q (omega (arith, pk, m)) (omega (arith, more)) out_q) (first.asked, second.asked) in
-    absurd (gone h j k p m first.handed (subst (λ x. is_outstanding h j x ≡ true) (sym same) out_q)))
-    (cases_lt p q)
-
--- ---- figures
-
--- the name of the command i of a connection
-abbrev own_name : Connection → Talk → ℕ → Name
-own_name via talk i = name_on via (reference (history via talk) i)
-
-abbrev trace_at : Talk → ℕ → Trace
-trace_at talk m = trace_of (take m talk)
-
-first_most : (c : Settings) (talk : Talk) (p : ℕ) (n : Name) → AllKnown c talk → p < length talk
-    → AtMost c (trace_at talk p) n (figure_of c (trace_at talk p) n)
-first_most c talk p n known l x w r =
-    let t = trace_at talk p in
-    let promise = subst (Promise c) (trace_more talk p l) (known p l).promise in
-    let own = part_of c t (option_to_list (said talk p).moment) promise x (contains_waiting t x w) in
-    let same : figure_of c t n ≡ figure c t x = ap (figure_of c t) (sym r) ∙ own in
-    omega (arith, same)
-
--- ---- from poll to poll
-
--- the command i is outstanding before turn m, and each turn is known
-record Standing (c : Settings) (via : Connection) (talk : Talk) (m i : ℕ) : Type 0 where
-  pub known : AllKnown c talk
-  pub inside : m < length talk
-  pub stands : is_outstanding (history via talk) m i ≡ true
-
-sooner : (c : Settings) (via : Connection) (talk : Talk) (m q i : ℕ) → m ≤ q → i < m → Standing c via talk q i
-    → Standing c via talk m i
-sooner c via talk m q i l b s =
-    let m_in = s.inside in
-    record { known = s.known; inside = omega (arith, l, m_in); stands = stood (history via talk) m q i l b s.stands }
-
 sent_no_end : (m : host.Moment) → is_sent m ≡ true → end_heard m ≡ None
 sent_no_end m e = grind (arith, false≢true)
 
--- what a moment queues has another name than a command that is outstanding
-new_name : (c : Settings) (via : Connection) (talk : Talk) (m i : ℕ) (n : Moment) → Standing c via talk m i → i < m
-    → (said talk m).moment ≡ Some n → queues n.1 ≡ true
-    → name_on (connection_of n.0) (sent_command n).reference ≡ own_name via talk i → ⊥
-new_name c via talk m i n s b e q same =
-    let h = history via talk in
-    let by : connection_of n.0 ≡ via = ap (λ (k : Name). k.connection) same in
-    let own : queues_by via n ≡ true = (λ i. q i && same_connection (by i) via) ∙ own_side via in
-    let tells = (s.known m s.inside).tells.on via in
-    let sent = tells.sent n e own in
-    let at = moment_is via talk m s.inside in
-    let still = out_old h m i b ∙ (λ k. s.stands k && not (is_end_of (reference h i)
-    ((ap end_heard at ∙ sent_no_end (own_part via (said talk m)) sent.0) k))) in
-    let one : i ≡ m = tells.goes.apart.names i m still (out_new h m ∙ (ap is_sent at ∙ sent.0))
-    (sym (ap (λ (k : Name). k.reference) same) ∙ sent.1) in
-    absurd (omega (arith, one, b))
-
-most_same_with : (c : Settings) (via : Connection) (talk : Talk) (m i g : ℕ) (o : Option Moment)
-    → Standing c via talk m i → i < m → (said talk m).moment ≡ o → AtMost c (trace_at talk m) (own_name via talk i) g
-    → AtMost c (trace_at talk m ++ option_to_list o) (own_name via talk i) g
-most_same_with c via talk m i g None s b e most = search (arith, append-nil (trace_at talk m))
-most_same_with c via talk m i g (Some n) s b e most =
-    let k = s.known m s.inside in
-    let promise = subst (λ o. Promise c (trace_at talk m ++ option_to_list o)) e
-    (subst (Promise c) (trace_more talk m s.inside) k.promise) in
-    most_moment c (trace_at talk m) n (own_name via talk i) g g promise (new_name c via talk m i n s b e)
-    (inl refl) most
-
--- a turn raises no figure of a command that is outstanding
-most_same : (c : Settings) (via : Connection) (talk : Talk) (m i g : ℕ) → Standing c via talk m i → i < m
-    → AtMost c (trace_at talk m) (own_name via talk i) g
-    → AtMost c (trace_at talk (m + 1)) (own_name via talk i) g
-most_same c via talk m i g s b most = subst (λ t. AtMost c t (own_name via talk i) g)
-    (sym (trace_more talk m s.inside)) (most_same_with c via talk m i g (said talk m).moment s b refl most)
-
 step_moment : (talk : Talk) (m : ℕ) (a a' : Both Account) (t : Turn) → IsStepTurn t → IsHeard a t (said talk m) a'
     → (n : Moment) × ((said talk m).moment ≡ Some n) × (is_step n.0 ≡ true)
-step_moment talk m a a' t h5 h6 = grind arith
+step_moment talk m a a' t w s = grind arith
 
--- a step lowers it
-most_step : (c : Settings) (via : Connection) (talk : Talk) (m i g : ℕ) → Standing c via talk m i → i < m
-    → IsStepTurn (said talk m).turn → AtMost c (trace_at talk m) (own_name via talk i) g
-    → AtMost c (trace_at talk (m + 1)) (own_name via talk i) (g - 1)
-most_step c via talk m i g s b w most =
-    let k = s.known m s.inside in
-    let n = step_moment talk m (accounts_at c talk m) (accounts_at c talk (m + 1)) (said talk m).turn w k.tells.says in
-    let more : trace_at talk (m + 1) ≡ trace_at talk m ++ n.0 ∷ [] =
-    trace_more talk m s.inside ∙ ap (λ o. trace_at talk m ++ option_to_list o) n.1 in
-    subst (λ t. AtMost c t (own_name via talk i) (g - 1)) (sym more)
-    (most_moment c (trace_at talk m) n.0 (own_name via talk i) g (g - 1) (subst (Promise c) more k.promise)
-    (new_name c via talk m i n.0 s b n.1) (inr (n.2, refl)) most)
+-- of a talk each turn of which is known, the history of the host of one connection
+module _ (c : Settings) (via : Connection) (talk : Talk) (known : AllKnown c talk) where
+  abbrev h : History
+  h = history via talk
 
-most_by : (c : Settings) (via : Connection) (talk : Talk) (m q i g d : ℕ) → Standing c via talk q i → m + d ≤ q → i < m
-    → AtMost c (trace_at talk m) (own_name via talk i) g
-    → AtMost c (trace_at talk (m + d)) (own_name via talk i) g
-most_by c via talk m q i g zero s e b most = let same : m ≡ m + 0 = omega arith in
-    subst (λ k. AtMost c (trace_at talk k) (own_name via talk i) g) same most
-most_by c via talk m q i g (suc d) s e b most =
-    let same : m + d + 1 ≡ m + suc d = omega arith in
-    subst (λ k. AtMost c (trace_at talk k) (own_name via talk i) g) same
-    (most_same c via talk (m + d) i g (sooner c via talk (m + d) q i (omega (arith, e)) (omega (arith, b)) s) (omega (arith, b))
-    (most_by c via talk m q i g d s (omega (arith, e)) b most))
+  order_of : (j k p q : ℕ) → j < length talk → k < j → EndsPoll h k p → EndsPoll h j q → p < q
+  order_of j k p q l m first second =
+      let pk = found_before h k p _ first.handed in
+      let out_p = (found_out h k p _ first.handed).0 in
+      let out_q = (found_out h j q _ second.handed).0 in
+      ⊎_elim (λ less. less)
+      (λ more.
+      let one = ((known p (omega (arith, pk, m, l))).tells.on via).goes.apart in
+      let same = one.polls p q (stood h (p + 1) k p (omega (arith, pk)) (omega arith) out_p)
+      (stood h (p + 1) j q (omega (arith, pk, m)) (omega (arith, more)) out_q) (first.asked, second.asked) in
+      absurd (gone h j k p m first.handed (subst (λ x. is_outstanding h j x ≡ true) (sym same) out_q)))
+      (cases_lt p q)
 
-most_until : (c : Settings) (via : Connection) (talk : Talk) (m n q i g : ℕ) → Standing c via talk q i → m ≤ n → n ≤ q
-    → i < m → AtMost c (trace_at talk m) (own_name via talk i) g → AtMost c (trace_at talk n) (own_name via talk i) g
-most_until c via talk m n q i g s a e b most =
-    let same : m + (n - m) ≡ n = omega (arith, a) in
-    search (arith, most_by c via talk m q i g (n - m) s (omega (arith, a, e)) b most)
+  -- ---- figures
 
-pub never_reset : (c : Settings) (via : Connection) (talk : Talk) → AllKnown c talk → (j : ℕ) → j < length talk
-    → (st : Stands (history via talk) j) → StepsSincePolls via talk st.command st.poll → ⊥
-never_reset c via talk known j l st steps =
-    let h = history via talk in
-    let i = st.command in
-    let q = st.poll in
-    let n = own_name via talk i in
-    let came = came_from h j i st.last st.before in
-    let p = came.poll in
-    let early = came.early in
-    let ap_ = and_parts (is_poll (moment h p)) (is_it i (asked_for h p)) came.about in
-    let aq = and_parts (is_poll (moment h q)) (is_it i (asked_for h q)) st.is_told.about in
-    let pp : asked_for h p ≡ Some i = it_is i (asked_for h p) ap_.1 in
-    let pq : asked_for h q ≡ Some i = it_is i (asked_for h q) aq.1 in
-    let less = order_of c via talk j came.turn p q known l early
-    (record { handed = came.handed; asked = ap_.0 }) (record { handed = st.is_told.handed; asked = aq.0 }) in
-    let qj : q < j = found_before h j q _ st.is_told.handed in
-    let ql : q < length talk = omega (arith, qj, l) in
-    let ip : i < p = found_before h p i _ pp in
-    let step = steps p less came.about in
-    let s : Standing c via talk q i = sooner c via talk q j i (omega (arith, qj)) (omega (arith, ip, less))
-    (record { known = known; inside = l; stands = st.is_told.outstanding }) in
-    let g = figure_of c (trace_at talk p) n in
-    let tells = λ (k : ℕ) (m : k < length talk). ((known k m).tells.on via).figures in
-    let first_told = tells came.turn (omega (arith, early, l)) i p came.handed came.about in
-    let second_told = tells j l i q st.is_told.handed st.is_told.about in
-    let at = λ (k : ℕ) (m : k < length talk). ap (λ x. figure_in (end_heard x)) (moment_is via talk k m) in
-    let first : st.last ≡ g = ap (λ o. unwrap_or o 0)
-    (sym came.told ∙ (at came.turn (omega (arith, early, l)) ∙ first_told.0))
-    ∙ ap (λ o. figure_of c (trace_at talk p) (name_on via (reference_found h o))) pp in
-    let second : st.figure ≡ figure_of c (trace_at talk q) n = ap (λ o. unwrap_or o 0)
-    (sym st.is_told.tells ∙ (at j l ∙ second_told.0))
-    ∙ ap (λ o. figure_of c (trace_at talk q) (name_on via (reference_found h o))) pq in
-    let at_p = first_most c talk p n known (omega (arith, less, ql)) in
-    let pk = step.1 in
-    let kq = step.2 in
-    let at_k = most_until c via talk p step.0 q i g s (omega (arith, pk)) (omega (arith, kq)) ip at_p in
-    let after = most_step c via talk step.0 i g
-    (sooner c via talk step.0 q i (omega (arith, kq)) (omega (arith, ip, pk)) s) (omega (arith, ip, pk)) step.3 at_k in
-    let at_q = most_until c via talk (step.0 + 1) q q i (g - 1) s (omega (arith, kq)) (omega arith)
-    (omega (arith, ip, pk)) after in
-    let some : 1 ≤ figure_of c (trace_at talk q) n =
-    subst (λ o. 1 ≤ figure_of c (trace_at talk q) (name_on via (reference_found h o))) pq
-    (second_told.1 st.is_told.outstanding) in
-    let x = waits_at c (trace_at talk q) n some in
-    let low = at_q x.command x.waits x.named in
-    let fig = x.figure in
-    let high = st.not_less in
-    omega (arith, low, fig, high, first, second, some)
+  -- the name of the command i
+  abbrev own_name : ℕ → Name
+  own_name i = name_on via (reference h i)
 
--- the answer of the poll q about the command i doesn't stand where a step lies between it and each one before
-pub never_stands : (c : Settings) (via : Connection) (talk : Talk) → AllKnown c talk → (j : ℕ) → j < length talk
-    → (i q : ℕ) → handed_over (history via talk) j ≡ Some q → asks_about (history via talk) i q ≡ true
-    → StepsSincePolls via talk i q → Stands (history via talk) j → ⊥
-never_stands c via talk known j l i q f a steps st =
-    let h = history via talk in
-    let poll : q ≡ st.poll = ap (λ o. unwrap_or o q) (sym f ∙ st.is_told.handed) in
-    let at = (and_parts (is_poll (moment h q)) _ a).1 in
-    let at' = (and_parts (is_poll (moment h st.poll)) _ st.is_told.about).1 in
-    let command : i ≡ st.command = ap (λ o. unwrap_or o i) (sym (it_is i (asked_for h q) at)
-    ∙ (ap (asked_for h) poll ∙ it_is st.command (asked_for h st.poll) at')) in
-    never_reset c via talk known j l st (subst (λ k. StepsSincePolls via talk k st.poll) command
-    (subst (StepsSincePolls via talk i) poll steps))
+  abbrev trace_at : ℕ → Trace
+  trace_at m = trace_of (take m talk)
+
+  -- no figure of it is over g before turn m
+  abbrev Most : ℕ → ℕ → ℕ → Type 0
+  Most m i g = AtMost c (trace_at m) (own_name i) g
+
+  first_most : (p i : ℕ) → p < length talk → Most p i (figure_of c (trace_at p) (own_name i))
+  first_most p i l x w r =
+      let t = trace_at p in
+      let promise = subst (Promise c) (trace_more talk p l) (known p l).promise in
+      let own = part_of c t (option_to_list (said talk p).moment) promise x (contains_waiting t x w) in
+      let same : figure_of c t (own_name i) ≡ figure c t x = ap (figure_of c t) (sym r) ∙ own in
+      omega (arith, same)
+
+  -- ---- from poll to poll
+
+  -- the command i is outstanding before turn m
+  record Standing (m i : ℕ) : Type 0 where
+    pub inside : m < length talk
+    pub stands : is_outstanding h m i ≡ true
+
+  sooner : (m q i : ℕ) → m ≤ q → i < m → Standing q i → Standing m i
+  sooner m q i l b s = let inside = s.inside in
+      record { inside = omega (arith, l, inside); stands = stood h m q i l b s.stands }
+
+  -- what a moment queues has another name
+  new_name : (m i : ℕ) (n : Moment) → Standing m i → i < m → (said talk m).moment ≡ Some n → queues n.1 ≡ true
+      → name_on (connection_of n.0) (sent_command n).reference ≡ own_name i → ⊥
+  new_name m i n s b e q same =
+      let by : connection_of n.0 ≡ via = ap (λ (k : Name). k.connection) same in
+      let own : queues_by via n ≡ true = (λ i. q i && same_connection (by i) via) ∙ own_side via in
+      let tells = (known m s.inside).tells.on via in
+      let sent = tells.sent n e own in
+      let at = moment_is via talk m s.inside in
+      let still = out_old h m i b ∙ (λ k. s.stands k && not (is_end_of (reference h i)
+      ((ap end_heard at ∙ sent_no_end (own_part via (said talk m)) sent.0) k))) in
+      let one : i ≡ m = tells.goes.apart.names i m still (out_new h m ∙ (ap is_sent at ∙ sent.0))
+      (sym (ap (λ (k : Name). k.reference) same) ∙ sent.1) in
+      absurd (omega (arith, one, b))
+
+  most_same_with : (m i g : ℕ) (o : Option Moment) → Standing m i → i < m → (said talk m).moment ≡ o → Most m i g
+      → AtMost c (trace_at m ++ option_to_list o) (own_name i) g
+  most_same_with m i g None s b e most = search (arith, append-nil (trace_at m))
+  most_same_with m i g (Some n) s b e most =
+      let promise = subst (λ o. Promise c (trace_at m ++ option_to_list o)) e
+      (subst (Promise c) (trace_more talk m s.inside) (known m s.inside).promise) in
+      most_moment c (trace_at m) n (own_name i) g g promise (new_name m i n s b e) (inl refl) most
+
+  -- a turn raises no figure of a command that is outstanding
+  most_same : (m i g : ℕ) → Standing m i → i < m → Most m i g → Most (m + 1) i g
+  most_same m i g s b most = subst (λ t. AtMost c t (own_name i) g) (sym (trace_more talk m s.inside))
+      (most_same_with m i g (said talk m).moment s b refl most)
+
+  -- a step lowers it
+  most_step : (m i g : ℕ) → Standing m i → i < m → IsStepTurn (said talk m).turn → Most m i g → Most (m + 1) i (g - 1)
+  most_step m i g s b w most =
+      let k = known m s.inside in
+      let n = step_moment talk m (accounts_at c talk m) (accounts_at c talk (m + 1)) (said talk m).turn w k.tells.says in
+      let more : trace_at (m + 1) ≡ trace_at m ++ n.0 ∷ [] =
+      trace_more talk m s.inside ∙ ap (λ o. trace_at m ++ option_to_list o) n.1 in
+      subst (λ t. AtMost c t (own_name i) (g - 1)) (sym more)
+      (most_moment c (trace_at m) n.0 (own_name i) g (g - 1) (subst (Promise c) more k.promise)
+      (new_name m i n.0 s b n.1) (inr (n.2, refl)) most)
+
+  most_by : (m q i g d : ℕ) → Standing q i → m + d ≤ q → i < m → Most m i g → Most (m + d) i g
+  most_by m q i g zero s e b most = let same : m ≡ m + 0 = omega arith in subst (λ k. Most k i g) same most
+  most_by m q i g (suc d) s e b most =
+      let same : m + d + 1 ≡ m + suc d = omega arith in
+      let inside : i < m + d = omega (arith, b) in
+      subst (λ k. Most k i g) same (most_same (m + d) i g (sooner (m + d) q i (omega (arith, e)) inside s) inside
+      (most_by m q i g d s (omega (arith, e)) b most))
+
+  most_until : (m n q i g : ℕ) → Standing q i → m ≤ n → n ≤ q → i < m → Most m i g → Most n i g
+  most_until m n q i g s a e b most =
+      let same : m + (n - m) ≡ n = omega (arith, a) in
+      search (arith, most_by m q i g (n - m) s (omega (arith, a, e)) b most)
+
+  -- an end tells the figure of its poll
+  tells : (j i p f : ℕ) → j < length talk → handed_over h j ≡ Some p → asks_about h i p ≡ true
+      → figure_in (end_heard (moment h j)) ≡ Some f → f ≡ figure_of c (trace_at p) (own_name i)
+  tells j i p f l q about e =
+      ap (λ o. unwrap_or o f) (sym e ∙ (ap (λ x. figure_in (end_heard x)) (moment_is via talk j l)
+      ∙ (((known j l).tells.on via).figures i p q about).0))
+      ∙ ap (λ o. figure_of c (trace_at p) (name_on via (reference_found h o)))
+      (it_is i (asked_for h p) (and_parts (is_poll (moment h p)) _ about).1)
+
+  pub never_reset : (j : ℕ) → j < length talk → (st : Stands h j) → StepsSincePolls via talk st.command st.poll → ⊥
+  never_reset j l st steps =
+      let i = st.command in
+      let q = st.poll in
+      let told = st.is_told in
+      let came = came_from h j i st.last st.before in
+      let p = came.poll in
+      let early = came.early in
+      let asked_p = and_parts (is_poll (moment h p)) (is_it i (asked_for h p)) came.about in
+      let asked_q = and_parts (is_poll (moment h q)) (is_it i (asked_for h q)) told.about in
+      let less = order_of j came.turn p q l early (record { handed = came.handed; asked = asked_p.0 })
+      (record { handed = told.handed; asked = asked_q.0 }) in
+      let qj : q < j = found_before h j q _ told.handed in
+      let ip : i < p = found_before h p i _ (it_is i (asked_for h p) asked_p.1) in
+      let step = steps p less came.about in
+      let pk = step.1 in
+      let kq = step.2 in
+      let s : Standing q i = sooner q j i (omega (arith, qj)) (omega (arith, ip, less))
+      (record { inside = l; stands = told.outstanding }) in
+      let g = figure_of c (trace_at p) (own_name i) in
+      let first : st.last ≡ g =
+      tells came.turn i p st.last (omega (arith, early, l)) came.handed came.about came.told in
+      let second : st.figure ≡ figure_of c (trace_at q) (own_name i) =
+      tells j i q st.figure l told.handed told.about told.tells in
+      let at_k = most_until p step.0 q i g s (omega (arith, pk)) (omega (arith, kq)) ip
+      (first_most p i (omega (arith, less, qj, l))) in
+      let after = most_step step.0 i g (sooner step.0 q i (omega (arith, kq)) (omega (arith, ip, pk)) s)
+      (omega (arith, ip, pk)) step.3 at_k in
+      let at_q = most_until (step.0 + 1) q q i (g - 1) s (omega (arith, kq)) (omega arith) (omega (arith, ip, pk)) after in
+      let some : 1 ≤ figure_of c (trace_at q) (own_name i) =
+      subst (λ o. 1 ≤ figure_of c (trace_at q) (name_on via (reference_found h o))) (it_is i (asked_for h q) asked_q.1)
+      ((((known j l).tells.on via).figures i q told.handed told.about).1 told.outstanding) in
+      let x = waits_at c (trace_at q) (own_name i) some in
+      let low = at_q x.command x.waits x.named in
+      let fig = x.figure in
+      let high = st.not_less in
+      omega (arith, low, fig, high, first, second, some)
+
+  -- the answer of the poll q about the command i doesn't stand where a step lies between it and each one before
+  pub never_stands : (j : ℕ) → j < length talk → (i q : ℕ) → handed_over h j ≡ Some q → asks_about h i q ≡ true
+      → StepsSincePolls via talk i q → Stands h j → ⊥
+  never_stands j l i q f a steps st =
+      let poll : q ≡ st.poll = ap (λ o. unwrap_or o q) (sym f ∙ st.is_told.handed) in
+      let at = (and_parts (is_poll (moment h q)) _ a).1 in
+      let at' = (and_parts (is_poll (moment h st.poll)) _ st.is_told.about).1 in
+      let command : i ≡ st.command = ap (λ o. unwrap_or o i) (sym (it_is i (asked_for h q) at)
+      ∙ (ap (asked_for h) poll ∙ it_is st.command (asked_for h st.poll) at')) in
+      never_reset j l st (subst (λ k. StepsSincePolls via talk k st.poll) command
+      (subst (StepsSincePolls via talk i) poll steps))

@@ -15,7 +15,7 @@ times_append r [] ys = omega arith
 times_append r (x ∷ xs) ys = search (arith, times_append r xs ys)
 
 -- it stands there exactly where it is found
-any_times : (r : ℕ) (xs : List ℕ) → list_any (λ x. nat_eq x r) xs ≡ nat_lt 0 (times r xs)
+pub any_times : (r : ℕ) (xs : List ℕ) → list_any (λ x. nat_eq x r) xs ≡ nat_lt 0 (times r xs)
 any_times r [] = refl
 any_times r (x ∷ xs) = search (arith, any_times r xs, nat_tests)
 
