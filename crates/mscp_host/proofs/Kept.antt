@@ -25,8 +25,7 @@ none_handed h j n = find_none _ (outstanding h j) (out_all _ h j (λ x e. ap (λ
 none_told : (h : History) (j i : ℕ) → NoEnd h j → last_told h (j + 1) i ≡ last_told h j i
 none_told h j i n = search (arith, last_then, none_handed)
 
-all_stay : (h : History) (j : ℕ) → NoEnd h j
-    → filter (λ i. not (ends_now h j i)) (outstanding h j) ≡ outstanding h j
+all_stay : (h : History) (j : ℕ) → NoEnd h j → filter (λ i. not (ends_now h j i)) (outstanding h j) ≡ outstanding h j
 all_stay h j n = filter_all _ (outstanding h j) (out_all _ h j (λ x e. ap (λ o. not (is_end_of (reference h x) o)) n))
 
 pub outs_then : (h : History) (j : ℕ) → NoEnd h j
@@ -45,7 +44,8 @@ stands_of h j (Some x) f = out_old h j x (f x refl)
 
 -- the command that a poll is about is still outstanding, unless it ends now
 pub stands_then : (h : History) (j p : ℕ) → p ≤ j
-    → found_stands h (j + 1) (asked_for h p) ≡ (found_stands h j (asked_for h p) && not (ends_found h j (asked_for h p)))
+    → found_stands h (j + 1) (asked_for h p)
+    ≡ (found_stands h j (asked_for h p) && not (ends_found h j (asked_for h p)))
 stands_then h j p l = stands_of h j (asked_for h p)
     (λ x e. let m : x < p = found_before h p x _ e in omega (arith, l, m))
 
@@ -95,8 +95,7 @@ flight_sent : (h : History) (j : ℕ) → NoEnd h j → is_sent (moment h j) ≡
 flight_sent h j n s = grind (arith, outs_then, find-append)
 
 pub account_submitted : (credits : ℕ) (h : History) (j : ℕ) (command : Command) (b : ArrayVec ℕ)
-    → moment h j ≡ Submit command (Ok b)
-    → account_at credits h (j + 1) ≡ submitted (account_at credits h j) command
+    → moment h j ≡ Submit command (Ok b) → account_at credits h (j + 1) ≡ submitted (account_at credits h j) command
 account_submitted credits h j command b m =
     grind (arith, subs_sent, flight_sent, or_nothing, watches_same, flight_before)
 
@@ -106,8 +105,7 @@ pub oldest_is : (credits : ℕ) (h : History) (j : ℕ)
     → oldest (account_at credits h j) ≡ option_map (submission_at h j) (asked_for h j)
 oldest_is credits h j = search (arith, find_map)
 
-unit_same : (h : History) (i : ℕ) (m : Moment) → not (is_immediate (opcode_in m)) ≡ true
-    → unit_in m ≡ unit_named h i m
+unit_same : (h : History) (i : ℕ) (m : Moment) → not (is_immediate (opcode_in m)) ≡ true → unit_in m ≡ unit_named h i m
 unit_same h i m e = grind (arith, false≢true)
 
 -- the submission that a poll is about

@@ -84,8 +84,7 @@ pub none_found : {X : Type 0} (p : X → Bool) (xs : List X) → find p xs ≡ N
 none_found p [] e = tt
 none_found p (x ∷ xs) e = search (arith, none_found p xs, false≢true)
 
-pub none_any : {X : Type 0} (p : X → Bool) (xs : List X) → list_any p xs ≡ false
-    → AllByRecursion (λ x. p x ≡ false) xs
+pub none_any : {X : Type 0} (p : X → Bool) (xs : List X) → list_any p xs ≡ false → AllByRecursion (λ x. p x ≡ false) xs
 none_any p [] e = tt
 none_any p (x ∷ xs) e = search (arith, none_any p xs, true≢false)
 

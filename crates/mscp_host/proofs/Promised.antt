@@ -32,7 +32,7 @@ next : (credits : ℕ) (h : History) (last : Account) (j : ℕ) → j < length h
     → Next credits h last j
 next credits h last j l x =
     let rest = subst (λ xs. Answered (account_at credits h j) xs last) (drop_more h j Other l) x.rest in
-    let goes = step credits h j rest.0 (moment h j) x.apart refl rest.1 in
+    let goes = step credits h j x.apart rest.0 (moment h j) refl rest.1 in
     record {
       answers = subst (Answers (account_at credits h j) (moment h j)) goes.kept rest.1;
       goes = subst (Goes credits h j) goes.kept goes;

@@ -131,8 +131,7 @@ oldest_more s n (x ∷ rest) e = by (not (is_immediate x.opcode)) refl (oldest_m
 polled_without : (r n : ℕ) (xs : List Submission) (o : Option Submission) → nat_eq n r ≡ false
     → is_polled n xs o ≡ true → is_polled n (without r xs) o ≡ true
 polled_without r n xs None other e = e
-polled_without r n xs (Some s) other e =
-    any_without (is_poll n s.unit) r (λ x. other_poll n s.unit r x other) xs e
+polled_without r n xs (Some s) other e = any_without (is_poll n s.unit) r (λ x. other_poll n s.unit r x other) xs e
 
 -- once the end of this number was received, it stays so
 pub watched_without : (r : ℕ) (xs : List Submission) (watch : Option Watch) → is_watched xs watch ≡ true

@@ -78,7 +78,8 @@ IsStepTurn turn = ⊥
 -- a step lies between turn q and each poll of this connection about the command i that came before it (profile)
 abbrev pub StepsSincePolls : Connection → Talk → ℕ → ℕ → Type 0
 StepsSincePolls via talk i q =
-    (p : ℕ) → p < q → asks_about (history via talk) i p ≡ true → (k : ℕ) × (p < k) × (k < q) × IsStepTurn (said talk k).turn
+    (p : ℕ) → p < q → asks_about (history via talk) i p ≡ true
+    → (k : ℕ) × (p < k) × (k < q) × IsStepTurn (said talk k).turn
 
 -- a step lies between any two polls about one command (profile)
 abbrev pub StepsBetweenPolls : Talk → Type 0

@@ -195,7 +195,8 @@ module _ (c : Settings) (via : Connection) (talk : Talk) (known : AllKnown c tal
   most_step : (m i g : ℕ) → Standing m i → i < m → IsStepTurn (said talk m).turn → Most m i g → Most (m + 1) i (g - 1)
   most_step m i g s b w most =
       let k = known m s.inside in
-      let n = step_moment talk m (accounts_at c talk m) (accounts_at c talk (m + 1)) (said talk m).turn w k.tells.says in
+      let n = step_moment talk m (accounts_at c talk m) (accounts_at c talk (m + 1))
+      (said talk m).turn w k.tells.says in
       let more : trace_at (m + 1) ≡ trace_at m ++ n.0 ∷ [] =
       trace_more talk m s.inside ∙ ap (λ o. trace_at m ++ option_to_list o) n.1 in
       subst (λ t. AtMost c t (own_name i) (g - 1)) (sym more)
@@ -252,7 +253,8 @@ module _ (c : Settings) (via : Connection) (talk : Talk) (known : AllKnown c tal
       (first_most p i (omega (arith, less, qj, l))) in
       let after = most_step step.0 i g (sooner step.0 q i (omega (arith, kq)) (omega (arith, ip, pk)) s)
       (omega (arith, ip, pk)) step.3 at_k in
-      let at_q = most_until (step.0 + 1) q q i (g - 1) s (omega (arith, kq)) (omega arith) (omega (arith, ip, pk)) after in
+      let at_q = most_until (step.0 + 1) q q i (g - 1) s (omega (arith, kq)) (omega arith)
+      (omega (arith, ip, pk)) after in
       let some : 1 ≤ figure_of c (trace_at q) (own_name i) =
       subst (λ o. 1 ≤ figure_of c (trace_at q) (name_on via (reference_found h o))) (it_is i (asked_for h q) asked_q.1)
       ((((known j l).tells.on via).figures i q told.handed told.about).1 told.outstanding) in

@@ -82,8 +82,10 @@ module _ {K : Type 0} (via : Connection) (a : Account) (h : Holdings K) where
         oldest = x.oldest;
         named = ap (λ q. (command_of q).reference) message ∙ same_reference c (carries c x.small);
         taken = subst (λ q. answer_to_message via h q ≡ Ok (taken_as via h (command_of q))) (sym message) y.taken;
-        match = subst (λ (y : Account). Matches via y (after_message via h b.items) (told_now via h s)) (ap (λ p. p.1) e)
-            (subst (λ q. Matches via (watching a r s) (after_message via h q) (told_now via h s)) (sym message) y.match);
+        match = subst (λ (y : Account). Matches via y (after_message via h b.items) (told_now via h s))
+            (ap (λ p. p.1) e)
+            (subst (λ q. Matches via (watching a r s) (after_message via h q) (told_now via h s))
+            (sym message) y.match);
       }
 
   asks_of : (r : ℕ) (s : Option Submission) (b : ArrayVec ℕ) (a' : Account) → r < 2 ^ 32 → MatchOn via a h

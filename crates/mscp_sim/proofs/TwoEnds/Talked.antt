@@ -90,8 +90,7 @@ turns_from {K} c picks picker talk j (s ∷ rest) keeps x i l k =
       is = d.2;
       hosts = r.0;
       controller = r.1;
-      at =
-          now.next;
+      at = now.next;
       goes = (x.goes.0, x.goes.1, r.3);
     }) i (omega (arith, l, other)) k)
     (cases_eq j i)
@@ -122,13 +121,7 @@ side_of : {K : Type 0} (c : Settings) (picker : K) (talk : Talk) (via : Connecti
     → Side c via talk 0 (fresh credits) (holdings.fresh c picker)
 side_of c picker talk via credits e m =
     let s = start (credits_of c via) (history via talk) in
-    record {
-      account = ap fresh (sym e) ∙ sym s.0;
-      apart = s.1;
-      told = no_flight_yet;
-      match = m;
-      flight = λ p f. let l = found_before (history via talk) 0 p _ f in absurd (omega (arith, l));
-    }
+    search (arith, s, found_before)
 
 side_new : {K : Type 0} (c : Settings) (picker : K) (talk : Talk) (via : Connection)
     → Side c via talk 0 (of via (new_hosts c)) (holdings.fresh c picker)

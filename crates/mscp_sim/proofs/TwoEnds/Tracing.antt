@@ -81,8 +81,7 @@ finds {X} f p (x ∷ xs) e =
       | true ↦ λ q h. record {
         item = x;
         found = ap (λ b. cond b (Some x) (find (λ y. p (f y)) xs)) q;
-        there =
-            (0, omega arith, refl);
+        there = (0, omega arith, refl);
       }
       | false ↦ λ q h.
           let rest = finds f p xs h in
@@ -90,8 +89,7 @@ finds {X} f p (x ∷ xs) e =
           record {
             item = rest.item;
             found = ap (λ b. cond b (Some x) (find (λ y. p (f y)) xs)) q ∙ rest.found;
-            there =
-                (suc rest.there.0, omega (arith, l), rest.there.2);
+            there = (suc rest.there.0, omega (arith, l), rest.there.2);
           }
     ] in
     out (p (f x)) refl e

@@ -48,8 +48,7 @@ told_then true (Some s) via h told = told_now via h s
 told_then b o via h told = told
 
 abbrev pub told_after : {K : Type 0} → Both Account → Holdings K → Said → Turn → Connection → Flight → Flight
-told_after a h s t via told =
-    told_then (is_poll (heard_by via t s.heard s.moment)) (oldest (of via a)) via h told
+told_after a h s t via told = told_then (is_poll (heard_by via t s.heard s.moment)) (oldest (of via a)) via h told
 
 abbrev is_asked : Heard → Bool
 is_asked hears.Asked = true
@@ -77,7 +76,8 @@ take_own {K} via a k h heard (Some b) told x e sound m =
 module _ {K : Type 0} (picks : List Choice → ℕ → Type 0) (a a' : Both Account) (h h' : Holdings K) (s : Said) where
   -- the match of a connection is kept in a turn
   abbrev Keeps : Turn → Connection → Type 0
-  Keeps t via = (told : Flight) → Matches via (of via a) h told → Matches via (of via a') h' (told_after a h s t via told)
+  Keeps t via = (told : Flight) → Matches via (of via a) h told
+      → Matches via (of via a') h' (told_after a h s t via told)
 
   -- where its host polls not, and keeps this account
   unasked : (t : Turn) (via : Connection) (k : Account) → is_poll (heard_by via t s.heard s.moment) ≡ false
@@ -94,7 +94,8 @@ module _ {K : Type 0} (picks : List Choice → ℕ → Type 0) (a a' : Both Acco
       (λ told m. subst (λ (y : Holdings K). Matches via (of via a) y told) (sym left) m)
 
   -- the other connection is left as it was
-  other_kept : (t : Turn) (via other : Connection) (k : Account) (after : Holdings K) → same_connection via other ≡ false
+  other_kept : (t : Turn) (via other : Connection) (k : Account) (after : Holdings K)
+      → same_connection via other ≡ false
       → is_poll (heard_by other t s.heard s.moment) ≡ false → a' ≡ put via k a → h' ≡ after
       → ((told : Flight) → Matches other (of other a) h told → Matches other (of other a) after told) → Keeps t other
   other_kept t via other k after d n p e f =
@@ -148,7 +149,8 @@ module _ {K : Type 0} (picks : List Choice → ℕ → Type 0) (a a' : Both Acco
       (λ told m. subst (λ (y : Holdings K). Matches via x.1 y told) (sym answer.2)
       (take_own via (of via a) x.1 h s.heard x.0 told x.3 answer.1
       (λ b e q. sound b e (x.2 ∙ ap (λ end. Some (events.Take via, entries.Taken via end)) q)) m)))
-      (λ other d. other_kept (turns.Take via) via other x.1 (after_take via h) d (no_take via other s.heard s.moment) x.4
+      (λ other d. other_kept (turns.Take via) via other x.1 (after_take via h) d
+      (no_take via other s.heard s.moment) x.4
       answer.2 (λ told. foreign_take via other (of other a) h told d))
 
   keeps : (t : Turn) → IsHeard a t s a' → AnswersTurn picks h s.moment h' → IsSound h t s.moment → (via : Connection)
@@ -181,9 +183,8 @@ IsSentBy via s t m = (is_sent (heard_by via t s.heard s.moment) ≡ true)
     × ((sent_command m).reference ≡ reference_in (heard_by via t s.heard s.moment))
 
 message_sent : (via other : Connection) (s : Said) (t : Turn) (b : ArrayVec ℕ) (sent : Sent) (part : host.Moment)
-    → s.moment ≡ Some (events.Send other b, entries.Sent other (Ok sent))
-    → heard_by other t s.heard s.moment ≡ part → is_sent part ≡ true
-    → (command_of b.items).reference ≡ reference_in part → (m : Moment) → s.moment ≡ Some m
+    → s.moment ≡ Some (events.Send other b, entries.Sent other (Ok sent)) → heard_by other t s.heard s.moment ≡ part
+    → is_sent part ≡ true → (command_of b.items).reference ≡ reference_in part → (m : Moment) → s.moment ≡ Some m
     → queues_by via m ≡ true → IsSentBy via s t m
 message_sent via other s t b sent part e p is n m f q = search (arith, and_parts, queues_by, one_side)
 
@@ -191,8 +192,7 @@ submit_sent : {K : Type 0} (a : Both Account) (h : Holdings K) (s : Said) (other
     (o : Result (ArrayVec ℕ) HostFault) (k : Account) → (command.reference < 2 ^ 32) × (command.unit < 2 ^ 16)
     → submits (of other a) command ≡ (o, k) → IsSubmitted other s o → MatchOn other (of other a) h → (via : Connection)
     (m : Moment) → s.moment ≡ Some m → queues_by via m ≡ true → IsSentBy via s (turns.Submit other command) m
-submit_sent a h s other command (Err fault) k small e x match via m f q =
-    absurd (false≢true (ap is_some (sym x.1 ∙ f)))
+submit_sent a h s other command (Err fault) k small e x match via m f q = absurd (false≢true (ap is_some (sym x.1 ∙ f)))
 submit_sent a h s other command (Ok b) k small e x match via m f q =
     message_sent via other s (turns.Submit other command) b x.0 (host.Submit command (Ok b)) x.2
     (rw (x.1, x.2, own_side other) refl) refl
@@ -238,8 +238,7 @@ heads_of picks a h h' s via (Some b) k e m x taken sound match q =
     (out.rest, out.untaken ∙ ap (λ o. unwrap_or o e ∷ out.rest) (sym heard ∙ q))
 
 taker : (via : Connection) (t : Turn) (heard : Heard) (m : Option Moment) (e : End)
-    → end_heard (heard_by via t heard m) ≡ Some e
-    → (t ≡ turns.Take via) × (end_heard (receives_in heard m) ≡ Some e)
+    → end_heard (heard_by via t heard m) ≡ Some e → (t ≡ turns.Take via) × (end_heard (receives_in heard m) ≡ Some e)
 taker via t heard m e q = grind (arith, one_side, false≢true)
 
 pub first_of : {K : Type 0} (picks : List Choice → ℕ → Type 0) (a a' : Both Account) (h h' : Holdings K) (s : Said)

@@ -141,8 +141,7 @@ figure_now : {K : Type 0} (c : Settings) (via : Connection) (picks : List Choice
 figure_now c via picks t h s k = search (arith, history_of t)
 
 -- a number waits among those of its connection where its name waits
-named_on : (via : Connection) (n : ℕ) (rs : List Record)
-    → list_any (λ x. nat_eq x n) (numbers (waiting_on via rs))
+named_on : (via : Connection) (n : ℕ) (rs : List Record) → list_any (λ x. nat_eq x n) (numbers (waiting_on via rs))
     ≡ list_any (λ m. same_name m (name_on via n)) (names rs)
 named_on via n [] = refl
 named_on via n (r ∷ rs) = search (arith, named_on via n rs)
@@ -224,7 +223,7 @@ module _ {K : Type 0} {c : Settings} {picks : List Choice → ℕ → Type 0} {p
     at = moment_is via talk j x.inside
 
     goes_of : Goes (credits_of c via) h j (of via a')
-    goes_of = step (credits_of c via) h j (of via a') _ (x.at.side via).apart at
+    goes_of = step (credits_of c via) h j (x.at.side via).apart (of via a') _ at
         (subst (λ a. Answers a (own_part via (said talk j)) (of via a')) (x.at.side via).account
         (answers x.hosts a' (said talk j) (said talk j).turn x.says.0 via))
 

@@ -43,7 +43,8 @@ pub returns-in-None : goal.returns-in-None
 returns-in-None g c =
     let via = c.args.connection in
     let none = sym c.in-None.is ∙ c.take.ensures.answer in
-    with_match (g.K.Picker.picks c.args.controller.now.picker) c.args.hosts.now c.args.hosts.now c.args.controller.now c.take.new.self (record { turn = turns.Take via; heard = hears.Quiet; moment = handing via None }) (
+    with_match (g.K.Picker.picks c.args.controller.now.picker) c.args.hosts.now c.args.hosts.now c.args.controller.now
+    c.take.new.self (record { turn = turns.Take via; heard = hears.Quiet; moment = handing via None }) (
       (None, of via c.args.hosts.now, refl, (refl, refl), sym (put_own via c.args.hosts.now)),
       (refl, none, c.take.ensures.after),
       (λ b end e s. absurd (no_bytes via b e)),
@@ -60,7 +61,9 @@ returns-in-Ok g c =
     let kept = (heard a c.in-Some.bytes.items).1 in
     let answer = sym (c.receive.ensures.answer ∙ ap (λ b. (heard a b).0) c.deref.ensures.0) ∙ c.in-Ok.is in
     let left = c.receive.ensures.after ∙ ap (λ b. put via (heard a b).1 c.args.hosts.now) c.deref.ensures.0 in
-    with_match (g.K.Picker.picks c.args.controller.now.picker) c.args.hosts.now c.receive.new.self c.args.controller.now c.take.new.self (record { turn = turns.Take via; heard = hears.News c.in-Ok.news; moment = handing via (Some c.in-Some.bytes) }) (
+    with_match (g.K.Picker.picks c.args.controller.now.picker) c.args.hosts.now c.receive.new.self
+    c.args.controller.now c.take.new.self
+    (record { turn = turns.Take via; heard = hears.News c.in-Ok.news; moment = handing via (Some c.in-Some.bytes) }) (
       (Some c.in-Some.bytes, kept, refl, (c.in-Ok.news, refl, λ i. (answer i, kept)), left),
       (refl, some, c.take.ensures.after),
       (λ b end e s. subst (λ (x : ArrayVec ℕ). IsEnd x.items end) (same_bytes via c.in-Some.bytes b e) (back end s)),

@@ -30,19 +30,32 @@ pub returns-in-Err : goal.returns-in-Err
 returns-in-Err g c =
     let small : c.args.reference < 2 ^ 32 = search rules in
     let answer = sym c.poll.ensures.answer ∙ c.in-Err.is in
-    with_match (g.K.Picker.picks c.args.controller.now.picker) c.args.hosts.now c.poll.new.self c.args.controller.now c.args.controller.now (record { turn = turns.Poll c.args.connection c.args.reference; heard = hears.Refused c.in-Err.fault; moment = None }) ((rw answer (refl, refl), c.poll.ensures.after), refl, small) c.requires
+    with_match (g.K.Picker.picks c.args.controller.now.picker) c.args.hosts.now c.poll.new.self c.args.controller.now
+    c.args.controller.now
+    (record {
+      turn = turns.Poll c.args.connection c.args.reference;
+      heard = hears.Refused c.in-Err.fault;
+      moment =
+          None;
+    }) ((rw answer (refl, refl), c.poll.ensures.after), refl, small) c.requires
 
 pub returns-in-Ok-Nothing : goal.returns-in-Ok-Nothing
 returns-in-Ok-Nothing g c =
     let small : c.args.reference < 2 ^ 32 = search rules in
     let answer = sym c.poll.ensures.answer ∙ (c.in-Ok-Nothing.is ∙ ap Ok c.in-Ok-Nothing.field-0-is) in
-    with_match (g.K.Picker.picks c.args.controller.now.picker) c.args.hosts.now c.poll.new.self c.args.controller.now c.args.controller.now (record { turn = turns.Poll c.args.connection c.args.reference; heard = hears.Nothing; moment = None }) ((rw answer (refl, refl), c.poll.ensures.after), refl, small) c.requires
+    with_match (g.K.Picker.picks c.args.controller.now.picker) c.args.hosts.now c.poll.new.self c.args.controller.now
+    c.args.controller.now
+    (record { turn = turns.Poll c.args.connection c.args.reference; heard = hears.Nothing; moment = None })
+    ((rw answer (refl, refl), c.poll.ensures.after), refl, small) c.requires
 
 pub returns-in-Ok-Busy : goal.returns-in-Ok-Busy
 returns-in-Ok-Busy g c =
     let small : c.args.reference < 2 ^ 32 = search rules in
     let answer = sym c.poll.ensures.answer ∙ (c.in-Ok-Busy.is ∙ ap Ok c.in-Ok-Busy.field-0-is) in
-    with_match (g.K.Picker.picks c.args.controller.now.picker) c.args.hosts.now c.poll.new.self c.args.controller.now c.args.controller.now (record { turn = turns.Poll c.args.connection c.args.reference; heard = hears.Busy; moment = None }) ((rw answer (refl, refl), c.poll.ensures.after), refl, small) c.requires
+    with_match (g.K.Picker.picks c.args.controller.now.picker) c.args.hosts.now c.poll.new.self c.args.controller.now
+    c.args.controller.now
+    (record { turn = turns.Poll c.args.connection c.args.reference; heard = hears.Busy; moment = None })
+    ((rw answer (refl, refl), c.poll.ensures.after), refl, small) c.requires
 
 pub returns-in-Ok : goal.returns-in-Ok
 returns-in-Ok g c =
@@ -53,4 +66,12 @@ returns-in-Ok g c =
     let sent = sym c.in-Ok.is
     ∙ (c.send.ensures.answer ∙ ap (answer_to_message via c.args.controller.now) c.deref.ensures.0) in
     let after = c.send.ensures.after ∙ ap (after_message via c.args.controller.now) c.deref.ensures.0 in
-    rw event (with_match (g.K.Picker.picks c.args.controller.now.picker) c.args.hosts.now c.poll.new.self c.args.controller.now c.send.new.self (record { turn = turns.Poll via c.args.reference; heard = hears.Asked; moment = Some (events.Send via (record { items = c.in-Ok-Ask.message.items }), entries.Sent via (Ok c.in-Ok.sent)) }) ((rw answer (c.in-Ok.sent, refl, refl), c.poll.ensures.after), (refl, sent, after), small) c.requires)
+    rw event (with_match (g.K.Picker.picks c.args.controller.now.picker) c.args.hosts.now c.poll.new.self
+    c.args.controller.now c.send.new.self
+    (record {
+      turn = turns.Poll via c.args.reference;
+      heard = hears.Asked;
+      moment = Some
+          (events.Send via (record { items = c.in-Ok-Ask.message.items }), entries.Sent via (Ok c.in-Ok.sent));
+    })
+    ((rw answer (c.in-Ok.sent, refl, refl), c.poll.ensures.after), (refl, sent, after), small) c.requires)

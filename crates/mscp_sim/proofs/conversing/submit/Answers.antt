@@ -32,8 +32,13 @@ returns-in-Err g c =
     let number : c.args.command.reference < 2 ^ 32 = search rules in
     let unit : c.args.command.unit < 2 ^ 16 = search rules in
     let answer = sym c.submit.ensures.answer ∙ c.in-Err.is in
-    with_match (g.K.Picker.picks c.args.controller.now.picker) c.args.hosts.now c.submit.new.self c.args.controller.now c.args.controller.now
-    (record { turn = turns.Submit c.args.connection c.args.command; heard = hears.Refused c.in-Err.fault; moment = None }) ((rw answer (refl, refl), c.submit.ensures.after), refl, (number, unit)) c.requires
+    with_match (g.K.Picker.picks c.args.controller.now.picker) c.args.hosts.now c.submit.new.self c.args.controller.now
+    c.args.controller.now
+    (record {
+      turn = turns.Submit c.args.connection c.args.command;
+      heard = hears.Refused c.in-Err.fault;
+      moment = None;
+    }) ((rw answer (refl, refl), c.submit.ensures.after), refl, (number, unit)) c.requires
 
 pub returns-in-Ok-send : goal.returns-in-Ok-send
 returns-in-Ok-send g c =
@@ -45,8 +50,14 @@ returns-in-Ok-send g c =
     let sent = sym c.in-Ok-send.is
     ∙ (c.send.ensures.answer ∙ ap (answer_to_message via c.args.controller.now) c.deref.ensures.0) in
     let after = c.send.ensures.after ∙ ap (after_message via c.args.controller.now) c.deref.ensures.0 in
-    rw event (with_match (g.K.Picker.picks c.args.controller.now.picker) c.args.hosts.now c.submit.new.self c.args.controller.now c.send.new.self
-    (record { turn = turns.Submit via c.args.command; heard = hears.Submitted c.in-Ok-send.sent; moment = Some (events.Send via (record { items = c.in-Ok.message.items }), entries.Sent via (Ok c.in-Ok-send.sent)) }) (
+    rw event (with_match (g.K.Picker.picks c.args.controller.now.picker) c.args.hosts.now c.submit.new.self
+    c.args.controller.now c.send.new.self
+    (record {
+      turn = turns.Submit via c.args.command;
+      heard = hears.Submitted c.in-Ok-send.sent;
+      moment = Some
+          (events.Send via (record { items = c.in-Ok.message.items }), entries.Sent via (Ok c.in-Ok-send.sent));
+    }) (
       (rw answer (c.in-Ok-send.sent, refl, refl), c.submit.ensures.after),
       (refl, sent, after),
       (number, unit),
