@@ -15,7 +15,7 @@ pub mod Talking
 pub mod Tracing
 pub mod Parts
 pub mod Turned
-pub mod Turning
 pub mod Figured
+pub mod Turning
 pub mod Between
 pub mod Talked

@@ -35,10 +35,11 @@ use Rattle.mscp_sim.specs.Matches.{Flight, HasFlight, IsFlight, Match, Matches}
 use Rattle.mscp_sim.specs.Talks.{Talk, account_at, accounts_at, figure_told, history, said, trace_of}
 use Rattle.mscp_sim.specs.Conversing.{Says}
 use Rattle.mscp_sim.specs.TwoEnds.{IsHeard}
+use Rattle.mscp_sim.proofs.TwoEnds.Figured.{some_figure}
 use Rattle.mscp_sim.proofs.TwoEnds.Handing.{alone, first_is}
 use Rattle.mscp_sim.proofs.TwoEnds.Parts.{answers, moment_is, news_of, own_part, said_news}
 use Rattle.mscp_sim.proofs.TwoEnds.Sending.{told_now}
-use Rattle.mscp_sim.proofs.TwoEnds.Tracing.{calls_of, history_of, reached_more, some_figure, trace_more}
+use Rattle.mscp_sim.proofs.TwoEnds.Tracing.{calls_of, history_of, reached_more, trace_more}
 use Rattle.mscp_sim.proofs.TwoEnds.Turned.{first_of, says_keeps, sent_of, told_after, told_then}
 
 -- what is told of the poll p: this figure, which is at least 1 if its command waited then
