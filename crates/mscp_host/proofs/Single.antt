@@ -28,10 +28,7 @@ none_kept r rest h = filter_all _ rest (every_weaker _ (λ s. not (has_reference
 pub without_kept : (r : ℕ) (xs : List Submission) → are_apart xs ≡ true
     → without r xs ≡ filter (λ s. not (has_reference r s)) xs
 without_kept r [] apart = refl
-without_kept r (s ∷ rest) apart =
-    let both = and_parts (not (list_any (has_reference s.reference) rest)) (are_apart rest) apart in
-    let h = without_kept r rest both.1 in
-    grind (arith, others, none_kept)
+without_kept r (s ∷ rest) apart = search (arith, without_kept r rest, and_parts, others, none_kept)
 
 none_each : (r figure : ℕ) (rest : List Submission) → AllByRecursion (λ x. has_reference r x ≡ false) rest
     → map (λ s. if has_reference r s then told_now (Some figure) s else s) rest ≡ rest
@@ -41,7 +38,4 @@ none_each r figure (x ∷ rest) h = search (arith, none_each r figure rest h.1)
 pub told_each : (r figure : ℕ) (xs : List Submission) → are_apart xs ≡ true
     → with_told r figure xs ≡ map (λ s. if has_reference r s then told_now (Some figure) s else s) xs
 told_each r figure [] apart = refl
-told_each r figure (s ∷ rest) apart =
-    let both = and_parts (not (list_any (has_reference s.reference) rest)) (are_apart rest) apart in
-    let h = told_each r figure rest both.1 in
-    grind (arith, others, none_each)
+told_each r figure (s ∷ rest) apart = search (arith, told_each r figure rest, and_parts, others, none_each)

@@ -27,27 +27,13 @@ all_weaker p q f (s ∷ rest) e =
 all_without : (p : Submission → Bool) (r : ℕ) (xs : List Submission) → list_all p xs ≡ true
     → list_all p (without r xs) ≡ true
 all_without p r [] e = refl
-all_without p r (s ∷ rest) e =
-    let both = and_parts (p s) (list_all p rest) e in
-    by (has_reference r s) refl both.0 both.1 (all_without p r rest both.1)
-  where
-    by : (b : Bool) → has_reference r s ≡ b → p s ≡ true → list_all p rest ≡ true
-        → list_all p (without r rest) ≡ true → list_all p (without r (s ∷ rest)) ≡ true
-    by true is one all h = rw is all
-    by false is one all h = rw is (λ i. one i && h i)
+all_without p r (s ∷ rest) e = search (arith, all_without p r rest, and_parts)
 
 all_told : (p q : Submission → Bool) (r f : ℕ) → ((s : Submission) → p s ≡ true → q s ≡ true)
     → ((s : Submission) → has_reference r s ≡ true → q (record s { told = Some f }) ≡ true) → (xs : List Submission)
     → list_all p xs ≡ true → list_all q (with_told r f xs) ≡ true
 all_told p q r f weaker told [] e = refl
-all_told p q r f weaker told (s ∷ rest) e =
-    let both = and_parts (p s) (list_all p rest) e in
-    by (has_reference r s) refl both.0 both.1 (all_told p q r f weaker told rest both.1)
-  where
-    by : (b : Bool) → has_reference r s ≡ b → p s ≡ true → list_all p rest ≡ true
-        → list_all q (with_told r f rest) ≡ true → list_all q (with_told r f (s ∷ rest)) ≡ true
-    by true is one all h = rw is (λ i. told s is i && all_weaker p q weaker rest all i)
-    by false is one all h = rw is (λ i. weaker s one i && h i)
+all_told p q r f weaker told (s ∷ rest) e = search (arith, all_told p q r f weaker told rest, and_parts, all_weaker)
 
 -- of the others none has the number of the one that left
 none_left : (r : ℕ) (xs : List Submission) → are_apart xs ≡ true

@@ -1,5 +1,5 @@
 -- Literal talks of the first host alone, worked by hand: what stands there, and what it keeps.
-use Rattle.std.proofs.Common.{◌≡◌, ◌≤◌, ℕ, true, false, [], ◌∷◌, ◌++◌, Bool, refl, ap, sym, subst, arith}
+use Rattle.std.proofs.Common.{◌≡◌, ℕ, true, false, [], ◌∷◌, ◌++◌, Bool, refl, ap, sym, subst, arith}
 use Rattle.std.specs.Prelude.{Option, Some, None, unwrap_or}
 use Rattle.std.proofs.lemmas.Bool.{eqb-true, false≢true}
 use Rattle.mscp_events.specs.declared.connection.Connection.TheVariants.{First}
