@@ -1,14 +1,10 @@
 -- Outstanding submissions stay apart.
-use Rattle.std.proofs.Common.{◌≡◌, ℕ, Bool, true, false, ◌||◌, List, [], ◌∷◌, ◌++◌, drop, length, nat_eq, refl, ap, ◌∙◌, arith}
+use Rattle.std.proofs.Common.{◌≡◌, ℕ, true, false, ◌||◌, List, [], ◌∷◌, ◌++◌, drop, length, nat_eq, refl, ap, ◌∙◌, arith}
 use Rattle.std.specs.List.{list_any, refill}
 use Rattle.std.proofs.lemmas.List.{take-append-le, take_all}
 use Rattle.mscp_host.specs.declared.submission.Submission.{Submission}
 use Rattle.mscp_host.specs.Accounts.{has_reference, with_told, without}
 use Rattle.mscp_host.specs.Apart.{are_apart}
-
-or_false : (a b : Bool) → (a || b) ≡ false → (a ≡ false) × (b ≡ false)
-or_false true b e = cc
-or_false false b e = (refl, e)
 
 -- ---- a figure is told
 

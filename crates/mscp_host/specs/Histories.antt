@@ -72,7 +72,7 @@ abbrev pub end_or_none : Result End EndFault → Option End
 end_or_none (Ok e) = Some e
 end_or_none (Err fault) = None
 
--- the end that was heard, if the host refused it not
+-- the end that was heard, if the host didn't refuse it
 abbrev pub end_heard : Moment → Option End
 end_heard (Receive bytes (Ok n)) = end_or_none (end_in bytes)
 end_heard m = None

@@ -79,7 +79,7 @@ module _ {K : Type 0} (picks : List Choice → ℕ → Type 0) (a a' : Both Acco
   Keeps t via = (told : Flight) → Matches via (of via a) h told
       → Matches via (of via a') h' (told_after a h s t via told)
 
-  -- where its host polls not, and keeps this account
+  -- its host sends no poll, and keeps this account
   unasked : (t : Turn) (via : Connection) (k : Account) → is_poll (heard_by via t s.heard s.moment) ≡ false
       → of via a' ≡ k → ((told : Flight) → Matches via (of via a) h told → Matches via k h' told) → Keeps t via
   unasked t via k n e f told m = rw n (subst (λ y. Matches via y h' told) (sym e) (f told m))
