@@ -5,3 +5,10 @@ pub mod Heads
 pub mod Apart
 pub mod Told
 pub mod Watched
+pub mod Lists
+pub mod Collected
+pub mod Kept
+pub mod Single
+pub mod Received
+pub mod Stepping
+pub mod Promised

@@ -23,12 +23,7 @@ told_cons : (r f : ℕ) (s : Submission) (rest : List Submission) (b : Bool) →
     (told_now f (slice_index_or (s ∷ rest) (position_or_len (has_reference r) (s ∷ rest)) no_submission))
     ≡ with_told r f (s ∷ rest)
 told_cons r f s rest true e h l = rw e refl
-told_cons r f s rest false e h l =
-    let n = position_or_len (has_reference r) rest in
-    let one : suc n ≡ 1 + n = omega arith in
-    let less : n < length rest = let k = rw e at l in omega (arith, k) in
-    rw e (subst (λ i. slice_set (s ∷ rest) i (told_now f (slice_index_or (s ∷ rest) i no_submission)) ≡ s
-    ∷ with_told r f rest) one (ap (λ xs. s ∷ xs) (h less)))
+told_cons r f s rest false e h l = search (arith)
 
 removed_cons : (r : ℕ) (s : Submission) (rest : List Submission) (b : Bool) → has_reference r s ≡ b
     → (position_or_len (has_reference r) rest < length rest

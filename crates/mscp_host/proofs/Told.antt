@@ -1,5 +1,5 @@
 -- A figure is told of the oldest command alone, and a credit is kept for those that are answered when they arrive.
-use Rattle.std.proofs.Common.{◌≡◌, ◌≤◌, ◌<◌, ◌-◌, ℕ, suc, Bool, true, false, ◌&&◌, ◌||◌, List, [], ◌∷◌, ◌++◌, length, nat_eq, refl, ap, sym, subst, ◌∙◌, arith}
+use Rattle.std.proofs.Common.{◌≡◌, ◌≤◌, ◌<◌, ◌-◌, ℕ, suc, Bool, true, false, ◌&&◌, ◌||◌, List, [], ◌∷◌, ◌++◌, length, refl, ap, sym, subst, ◌∙◌, arith}
 use Rattle.std.specs.Prelude.{not, cond, Option, Some, None, is_none}
 use Rattle.std.specs.List.{list_all, list_any}
 use Rattle.std.proofs.lemmas.Bool.{and_parts, eqb-true, not-true, or_left, or_parts, false≢true}
@@ -7,13 +7,12 @@ use Rattle.std.proofs.lemmas.List.{length-append}
 use Rattle.std.proofs.lemmas.List.Elements.{filter-append}
 use Rattle.std.proofs.lemmas.List.Folds.{list_all-append}
 use Rattle.std.proofs.lemmas.List.Sums.{count_by-le-length, length-filter}
-use Rattle.mscp_host.specs.declared.news.HostFault.TheVariants as faults
 use Rattle.mscp_host.specs.declared.submission.Submission.{Submission}
 use Rattle.mscp_host.specs.declared.watch.Watch.{Watch}
 use Rattle.mscp_host.specs.Accounts.{Account, balance, has_reference, is_about_polled, is_immediate, polled_is_outstanding, refusal, with_told, without}
 use Rattle.mscp_host.specs.Apart.{are_apart}
 use Rattle.mscp_host.specs.Sound.{waiting}
-use Rattle.mscp_host.specs.Watched.{are_told, is_about_somebody, is_numbered, is_oldest, is_polled, is_status, is_watched, oldest_of}
+use Rattle.mscp_host.specs.Watched.{are_told, is_numbered, is_oldest, is_watched}
 use Rattle.mscp_host.proofs.Watched.{is_oldest_told, oldest_more, oldest_without}
 
 -- ---- all pass a test
@@ -28,27 +27,13 @@ all_weaker p q f (s ∷ rest) e =
 all_without : (p : Submission → Bool) (r : ℕ) (xs : List Submission) → list_all p xs ≡ true
     → list_all p (without r xs) ≡ true
 all_without p r [] e = refl
-all_without p r (s ∷ rest) e =
-    let both = and_parts (p s) (list_all p rest) e in
-    by (has_reference r s) refl both.0 both.1 (all_without p r rest both.1)
-  where
-    by : (b : Bool) → has_reference r s ≡ b → p s ≡ true → list_all p rest ≡ true
-        → list_all p (without r rest) ≡ true → list_all p (without r (s ∷ rest)) ≡ true
-    by true is one all h = rw is all
-    by false is one all h = rw is (λ i. one i && h i)
+all_without p r (s ∷ rest) e = search (arith, all_without p r rest, and_parts)
 
 all_told : (p q : Submission → Bool) (r f : ℕ) → ((s : Submission) → p s ≡ true → q s ≡ true)
     → ((s : Submission) → has_reference r s ≡ true → q (record s { told = Some f }) ≡ true) → (xs : List Submission)
     → list_all p xs ≡ true → list_all q (with_told r f xs) ≡ true
 all_told p q r f weaker told [] e = refl
-all_told p q r f weaker told (s ∷ rest) e =
-    let both = and_parts (p s) (list_all p rest) e in
-    by (has_reference r s) refl both.0 both.1 (all_told p q r f weaker told rest both.1)
-  where
-    by : (b : Bool) → has_reference r s ≡ b → p s ≡ true → list_all p rest ≡ true
-        → list_all q (with_told r f rest) ≡ true → list_all q (with_told r f (s ∷ rest)) ≡ true
-    by true is one all h = rw is (λ i. told s is i && all_weaker p q weaker rest all i)
-    by false is one all h = rw is (λ i. weaker s one i && h i)
+all_told p q r f weaker told (s ∷ rest) e = search (arith, all_told p q r f weaker told rest, and_parts, all_weaker)
 
 -- of the others none has the number of the one that left
 none_left : (r : ℕ) (xs : List Submission) → are_apart xs ≡ true
@@ -78,17 +63,7 @@ may xs s = is_none s.told || is_oldest s.reference xs
 
 pub told_more : (s : Submission) (xs : List Submission) → s.told ≡ None → are_told xs ≡ true
     → are_told (xs ++ s ∷ []) ≡ true
-told_more s xs none e =
-    list_all-append (may (xs ++ s ∷ [])) xs (s ∷ [])
-    ∙ (λ i. all_weaker (may xs) (may (xs ++ s ∷ [])) still xs e i
-    && (or_left (is_none s.told) (is_oldest s.reference (xs ++ s ∷ [])) (ap is_none none) i && true))
-  where
-    still : (x : Submission) → may xs x ≡ true → may (xs ++ s ∷ []) x ≡ true
-    still x h = by (is_none x.told) h
-      where
-        by : (b : Bool) → (b || is_oldest x.reference xs) ≡ true → (b || is_oldest x.reference (xs ++ s ∷ [])) ≡ true
-        by true h = refl
-        by false h = ap (is_numbered x.reference) (oldest_more s x.reference xs h) ∙ h
+told_more s xs none e = search (arith, list_all-append, all_weaker, or_left, oldest_more)
 
 pub told_without : (r : ℕ) (xs : List Submission) → are_apart xs ≡ true → are_told xs ≡ true
     → are_told (without r xs) ≡ true
@@ -115,22 +90,14 @@ told_without r xs apart e =
 -- the figure of the command that is polled
 pub told_told : (r f : ℕ) (xs : List Submission) → is_oldest r xs ≡ true → are_told xs ≡ true
     → are_told (with_told r f xs) ≡ true
-told_told r f xs oldest e =
-    all_told (may xs) (may (with_told r f xs)) r f
-    (λ s h. ap (λ b. is_none s.told || b) (is_oldest_told r f s.reference xs) ∙ h)
-    (λ s h. ap (λ n. is_oldest n (with_told r f xs)) (eqb-true s.reference r h) ∙ is_oldest_told r f r xs ∙ oldest)
-    xs e
+told_told r f xs oldest e = search (arith, all_told, is_oldest_told, eqb-true)
 
 -- which is the oldest
 pub polled_oldest : (xs : List Submission) (watch : Option Watch) (number figure : ℕ) → is_watched xs watch ≡ true
     → is_about_polled watch (Some (number, figure)) ≡ true → polled_is_outstanding watch ≡ true
     → is_oldest number xs ≡ true
 polled_oldest xs None number figure watched about so = absurd (false≢true so)
-polled_oldest xs (Some w) number figure watched about so =
-    let some = (and_parts (list_any (is_status w.reference) xs) (is_about_somebody xs w) watched).1 in
-    let both : (is_oldest w.polled xs && is_polled w.reference xs (oldest_of xs)) ≡ true = rw so at some in
-    subst (λ n. is_oldest n xs ≡ true) (eqb-true w.polled number about)
-    (and_parts (is_oldest w.polled xs) (is_polled w.reference xs (oldest_of xs)) both).0
+polled_oldest xs (Some w) number figure watched about so = search (arith, and_parts, eqb-true)
 
 -- ---- credits
 
@@ -142,20 +109,7 @@ more_waits false s xs ys e = e
 
 pub waiting_told : (r f : ℕ) (xs : List Submission) → length (waiting (with_told r f xs)) ≡ length (waiting xs)
 waiting_told r f [] = refl
-waiting_told r f (s ∷ rest) = by (has_reference r s) (waiting_told r f rest)
-  where
-    told : Submission
-    told = record s { told = Some f }
-
-    by : (b : Bool) → length (waiting (with_told r f rest)) ≡ length (waiting rest)
-        → length (waiting (cond b (told ∷ rest) (s ∷ with_told r f rest))) ≡ length (waiting (s ∷ rest))
-    by true h = either (not (is_immediate s.opcode))
-      where
-        either : (b : Bool) → length (cond b (told ∷ waiting rest) (waiting rest))
-            ≡ length (cond b (s ∷ waiting rest) (waiting rest))
-        either true = refl
-        either false = refl
-    by false h = more_waits (not (is_immediate s.opcode)) s (waiting (with_told r f rest)) (waiting rest) h
+waiting_told r f (s ∷ rest) = search (arith, waiting_told r f rest, more_waits)
 
 no_more_wait : (b : Bool) (s : Submission) (xs ys : List Submission) → length xs ≤ length ys
     → (length xs ≤ length (cond b (s ∷ ys) ys)) × (length (cond b (s ∷ xs) xs) ≤ length (cond b (s ∷ ys) ys))
@@ -164,15 +118,7 @@ no_more_wait false s xs ys e = (e, e)
 
 pub waiting_without : (r : ℕ) (xs : List Submission) → length (waiting (without r xs)) ≤ length (waiting xs)
 waiting_without r [] = let e : 0 ≤ 0 = omega arith in e
-waiting_without r (s ∷ rest) = by (has_reference r s) (waiting_without r rest)
-  where
-    waits : Bool
-    waits = not (is_immediate s.opcode)
-
-    by : (b : Bool) → length (waiting (without r rest)) ≤ length (waiting rest)
-        → length (waiting (cond b rest (s ∷ without r rest))) ≤ length (waiting (s ∷ rest))
-    by true h = (no_more_wait waits s (waiting rest) (waiting rest) (omega arith)).0
-    by false h = (no_more_wait waits s (waiting (without r rest)) (waiting rest) h).1
+waiting_without r (s ∷ rest) = search (arith, waiting_without r rest, no_more_wait)
 
 -- no more wait than were sent
 waiting_few : (xs : List Submission) → length (waiting xs) ≤ length xs
@@ -183,34 +129,10 @@ waiting_few xs = subst (λ n. n ≤ length xs) (sym (length-filter (λ s. not (i
 pub spare_more : (s : Submission) (xs : List Submission) (credits : ℕ)
     → (is_immediate s.opcode ≡ false → 2 ≤ credits - length xs) → length (waiting xs) < credits
     → length (waiting (xs ++ s ∷ [])) < credits
-spare_more s xs credits spare less =
-    subst (λ (l : List Submission). length l < credits)
-    (sym (filter-append (λ s. not (is_immediate s.opcode)) xs (s ∷ [])))
-    (by (is_immediate s.opcode) refl)
-  where
-    by : (b : Bool) → is_immediate s.opcode ≡ b → length (waiting xs ++ cond (not b) (s ∷ []) []) < credits
-    by true e = let long = length-append (waiting xs) [] in omega (arith, less, long)
-    by false e =
-        let long = length-append (waiting xs) (s ∷ []) in
-        let few = waiting_few xs in
-        let free = spare e in
-        omega (arith, few, free, long)
+spare_more s xs credits spare less = search (arith, filter-append, length-append, waiting_few)
 
 -- a command that isn't refused leaves one
 pub not_refused : (a : Account) (opcode reference : ℕ) → refusal a opcode reference ≡ None
     → (1 ≤ balance a) × (is_immediate opcode ≡ false → 2 ≤ balance a)
     × (list_any (has_reference reference) a.outstanding ≡ false)
-not_refused a opcode reference e =
-    by (nat_eq (balance a) 0) (nat_eq (balance a) 1) (is_immediate opcode)
-    (list_any (has_reference reference) a.outstanding) refl refl e
-  where
-    by : (none one now held : Bool) → nat_eq (balance a) 0 ≡ none → nat_eq (balance a) 1 ≡ one
-        → cond none (Some faults.NoCredit) (cond (one && not now) (Some faults.LastCredit)
-        (cond held (Some faults.Doubled) None)) ≡ None
-        → (1 ≤ balance a) × (now ≡ false → 2 ≤ balance a) × (held ≡ false)
-    by true one now held z o h = absurd (false≢true (ap is_none h))
-    by false true false held z o h = absurd (false≢true (ap is_none h))
-    by false true true true z o h = absurd (false≢true (ap is_none h))
-    by false false now true z o h = absurd (false≢true (ap is_none h))
-    by false true true false z o h = (grind arith, λ no. absurd (false≢true (sym no)), refl)
-    by false false now false z o h = (grind arith, λ no. grind arith, refl)
+not_refused a opcode reference e = search (arith, false≢true)

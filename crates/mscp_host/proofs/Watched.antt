@@ -1,5 +1,5 @@
 -- A poll in flight stays one that a host may have.
-use Rattle.std.proofs.Common.{◌≡◌, ℕ, Bool, true, false, ◌&&◌, ◌||◌, List, [], ◌∷◌, ◌++◌, nat_eq, refl, ap, sym, ◌∙◌, arith}
+use Rattle.std.proofs.Common.{◌≡◌, ℕ, Bool, true, false, ◌&&◌, List, [], ◌∷◌, ◌++◌, nat_eq, refl, ap, sym, ◌∙◌, arith}
 use Rattle.std.specs.Prelude.{not, if◌then◌else◌, Option, Some, None, Ok, is_ok}
 use Rattle.std.specs.List.{list_any}
 use Rattle.std.proofs.lemmas.Bool.{and_parts, or_left, or_right, true≢false}
@@ -19,26 +19,13 @@ module _ (p : Submission → Bool) where
   any_told : (r f : ℕ) → ((s : Submission) → p (record s { told = Some f }) ≡ p s) → (xs : List Submission)
       → list_any p (with_told r f xs) ≡ list_any p xs
   any_told r f same [] = refl
-  any_told r f same (s ∷ rest) = by (has_reference r s) refl (any_told r f same rest)
-    where
-      by : (b : Bool) → has_reference r s ≡ b → list_any p (with_told r f rest) ≡ list_any p rest
-          → list_any p (with_told r f (s ∷ rest)) ≡ list_any p (s ∷ rest)
-      by true e h = rw e (ap (λ b. b || list_any p rest) (same s))
-      by false e h = rw e (ap (λ b. p s || b) h)
+  any_told r f same (s ∷ rest) = search (arith, any_told r f same rest, same)
 
   -- and isn't the one that leaves
   any_without : (r : ℕ) → ((s : Submission) → p s ≡ true → has_reference r s ≡ false) → (xs : List Submission)
       → list_any p xs ≡ true → list_any p (without r xs) ≡ true
   any_without r other [] e = e
-  any_without r other (s ∷ rest) e = by (has_reference r s) (p s) refl refl (any_without r other rest) e
-    where
-      by : (b d : Bool) → has_reference r s ≡ b → p s ≡ d
-          → (list_any p rest ≡ true → list_any p (without r rest) ≡ true) → list_any p (s ∷ rest) ≡ true
-          → list_any p (without r (s ∷ rest)) ≡ true
-      by true true is so h all = absurd (true≢false (sym is ∙ other s so))
-      by true false is so h all = rw is (rw so at all)
-      by false true is so h all = rw (is, so) refl
-      by false false is so h all = rw (is, so) (h (rw so at all))
+  any_without r other (s ∷ rest) e = grind (arith, any_without r other rest, other, true≢false)
 
   any_more : (s : Submission) (xs : List Submission) → list_any p xs ≡ true → list_any p (xs ++ s ∷ []) ≡ true
   any_more s xs e = list_any-append p xs (s ∷ []) ∙ or_left (list_any p xs) (list_any p (s ∷ [])) e
@@ -50,10 +37,7 @@ module _ (p : Submission → Bool) where
 
 -- another number isn't that of the one that leaves
 other_status : (n r : ℕ) (s : Submission) → nat_eq n r ≡ false → is_status n s ≡ true → has_reference r s ≡ false
-other_status n r s other e =
-    let p = and_parts (has_reference n s) _ e in
-    let mine = p.0 in
-    grind (arith, mine, other)
+other_status n r s other e = search (arith, and_parts)
 
 other_poll : (n u r : ℕ) (s : Submission) → nat_eq n r ≡ false → is_poll n u s ≡ true → has_reference r s ≡ false
 other_poll n u r s other e = other_status n r s other (and_parts (is_status n s) (nat_eq s.unit u) e).0
@@ -71,16 +55,7 @@ module _ (r f : ℕ) where
   oldest_told : (P : Option Submission → Bool) → ((s : Submission) → P (Some (record s { told = Some f })) ≡ P (Some s))
       → (xs : List Submission) → P (oldest_of (with_told r f xs)) ≡ P (oldest_of xs)
   oldest_told P same [] = refl
-  oldest_told P same (s ∷ rest) =
-      by (has_reference r s) (not (is_immediate s.opcode)) refl refl (oldest_told P same rest)
-    where
-      by : (b d : Bool) → has_reference r s ≡ b → not (is_immediate s.opcode) ≡ d
-          → P (oldest_of (with_told r f rest)) ≡ P (oldest_of rest)
-          → P (oldest_of (with_told r f (s ∷ rest))) ≡ P (oldest_of (s ∷ rest))
-      by true true e d h = rw (e, d) (same s)
-      by true false e d h = rw (e, d) refl
-      by false true e d h = rw (e, d) refl
-      by false false e d h = rw (e, d) h
+  oldest_told P same (s ∷ rest) = search (arith, oldest_told P same rest, same)
 
   pub is_oldest_told : (n : ℕ) (xs : List Submission) → is_oldest n (with_told r f xs) ≡ is_oldest n xs
   is_oldest_told n xs = oldest_told (is_numbered n) (λ s. refl) xs
@@ -121,21 +96,14 @@ oldest_without r n (s ∷ rest) other e =
 pub oldest_more : (s : Submission) (n : ℕ) (xs : List Submission) → is_oldest n xs ≡ true
     → oldest_of (xs ++ s ∷ []) ≡ oldest_of xs
 oldest_more s n [] e = absurd (true≢false (sym e))
-oldest_more s n (x ∷ rest) e = by (not (is_immediate x.opcode)) refl (oldest_more s n rest) e
-  where
-    by : (b : Bool) → not (is_immediate x.opcode) ≡ b
-        → (is_oldest n rest ≡ true → oldest_of (rest ++ s ∷ []) ≡ oldest_of rest)
-        → is_oldest n (x ∷ rest) ≡ true → oldest_of (x ∷ rest ++ s ∷ []) ≡ oldest_of (x ∷ rest)
-    by true is h all = rw is refl
-    by false is h all = rw is (h (rw is at all))
+oldest_more s n (x ∷ rest) e = grind (arith, oldest_more s n rest)
 
 -- ---- one leaves
 
 polled_without : (r n : ℕ) (xs : List Submission) (o : Option Submission) → nat_eq n r ≡ false
     → is_polled n xs o ≡ true → is_polled n (without r xs) o ≡ true
 polled_without r n xs None other e = e
-polled_without r n xs (Some s) other e =
-    any_without (is_poll n s.unit) r (λ x. other_poll n s.unit r x other) xs e
+polled_without r n xs (Some s) other e = any_without (is_poll n s.unit) r (λ x. other_poll n s.unit r x other) xs e
 
 -- once the end of this number was received, it stays so
 pub watched_without : (r : ℕ) (xs : List Submission) (watch : Option Watch) → is_watched xs watch ≡ true

@@ -4,3 +4,5 @@ pub mod Saved
 pub mod Apart
 pub mod Sound
 pub mod Watched
+pub mod Histories
+pub mod Law

@@ -2,6 +2,7 @@
 #![tactic(auto)]
 
 mod host;
+mod law;
 mod news;
 mod outstanding;
 mod restoring;
@@ -10,6 +11,7 @@ mod submission;
 mod watch;
 
 pub use crate::host::Host;
+pub use crate::law::hosts_keep_their_history;
 pub use crate::news::{HostFault, News, Poll};
 pub use crate::restoring::RestoreFault;
 pub use crate::saving::ROOM;

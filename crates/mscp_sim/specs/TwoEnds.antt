@@ -1,5 +1,5 @@
 -- What is promised of two hosts and a controller that talk.
-use Rattle.std.specs.Prelude.{◌≡◌, ◌≢◌, ◌↔◌, ℕ, ◌+◌, ◌<◌, ◌≤◌, true, List, length, map, Option, Some, None, Result, Ok, Err}
+use Rattle.std.specs.Prelude.{◌≡◌, ◌≢◌, ◌↔◌, ℕ, ◌+◌, ◌<◌, true, List, length, map, Option, Some, None, Result, Ok, Err}
 use Rattle.arrayvec.specs.ArrayVec.{ArrayVec}
 use Rattle.mscp_events.specs.declared.connection.Connection.{Connection}
 use Rattle.mscp_queue.specs.declared.report.Report.{Report}
@@ -23,7 +23,9 @@ use Rattle.mscp_sim.specs.declared.conversing.Turn.{Turn}
 use Rattle.mscp_sim.specs.declared.conversing.Turn.TheVariants as turns
 use Rattle.mscp_sim.specs.declared.conversing.Heard.{Heard}
 use Rattle.mscp_sim.specs.declared.conversing.Heard.TheVariants as hears
-use Rattle.mscp_sim.specs.Talks.{Said, Talk, accounts_at, asks_about, handed_over, is_outstanding, last_answer, said, figure_told, trace_of}
+use Rattle.mscp_host.specs.Histories.{asks_about, end_heard, figure_in, handed_over, moment}
+use Rattle.mscp_host.specs.Law.{Stands}
+use Rattle.mscp_sim.specs.Talks.{Said, Talk, accounts_at, figure_told, history, said, trace_of}
 
 -- ---- one turn
 
@@ -68,18 +70,6 @@ IsHeard old (turns.Take via) s new =
 
 -- ---- what is promised
 
--- an answer stands still: turn j hands over the end of a poll of a command that is still outstanding, an earlier poll
--- of that command was answered, and the number is no lower than then. All are of this connection (profile)
-pub record Stands (c : Settings) (via : Connection) (talk : Talk) (j : ℕ) : Type 0 where
-  pub poll : ℕ
-  pub command : ℕ
-  pub last : ℕ
-  pub handed : handed_over via talk j ≡ Some poll
-  pub about : asks_about via talk command poll ≡ true
-  pub outstanding : is_outstanding via talk j command ≡ true
-  pub told : last_answer c via talk j command ≡ Some last
-  pub not_less : last ≤ figure_told c via talk poll
-
 -- the turn is a step
 abbrev pub IsStepTurn : Turn → Type 0
 IsStepTurn (turns.Step block) = Unit {0}
@@ -88,12 +78,14 @@ IsStepTurn turn = ⊥
 -- a step lies between turn q and each poll of this connection about the command i that came before it (profile)
 abbrev pub StepsSincePolls : Connection → Talk → ℕ → ℕ → Type 0
 StepsSincePolls via talk i q =
-    (p : ℕ) → p < q → asks_about via talk i p ≡ true → (k : ℕ) × (p < k) × (k < q) × IsStepTurn (said talk k).turn
+    (p : ℕ) → p < q → asks_about (history via talk) i p ≡ true
+    → (k : ℕ) × (p < k) × (k < q) × IsStepTurn (said talk k).turn
 
 -- a step lies between any two polls about one command (profile)
 abbrev pub StepsBetweenPolls : Talk → Type 0
 StepsBetweenPolls talk =
-    (via : Connection) (i q : ℕ) → q < length talk → asks_about via talk i q ≡ true → StepsSincePolls via talk i q
+    (via : Connection) (i q : ℕ) → q < length talk → asks_about (history via talk) i q ≡ true
+    → StepsSincePolls via talk i q
 
 -- what is promised of a talk of these turns in which this was heard, and of the controller's trace
 pub record AreTwoEnds (picks : List Choice → ℕ → Type 0) (c : Settings) (ts : List Turn) (hs : List Heard) (t : Trace) :
@@ -115,14 +107,19 @@ pub record AreTwoEnds (picks : List Choice → ℕ → Type 0) (c : Settings) (t
   -- nothing, and no host refuses an end (profile)
   pub says : (j : ℕ) → j < length talk → IsHeard (accounts_at c talk j) (said talk j).turn (said talk j)
       (accounts_at c talk (j + 1))
+  -- the end of a poll tells the figure of its command in the trace when the poll came (manual, "Host Command Timeouts")
+  pub figures : (via : Connection) (j i p : ℕ) → j < length talk → handed_over (history via talk) j ≡ Some p
+      → asks_about (history via talk) i p ≡ true
+      → figure_in (end_heard (moment (history via talk) j)) ≡ Some (figure_told c via talk p)
   -- Reset is said exactly where the answer of one connection or of the other stands (profile)
   pub resets : (j : ℕ) → j < length talk
-      → ((said talk j).heard ≡ hears.News news.Reset) ↔ ((via : Connection) × Stands c via talk j)
+      → ((said talk j).heard ≡ hears.News news.Reset) ↔ ((via : Connection) × Stands (history via talk) j)
   -- Lost is never said (profile)
   pub no_lost : (j : ℕ) → j < length talk → (said talk j).heard ≢ hears.News news.Lost
   -- Reset isn't said of the answer to a poll where a step lies between it and each one before about its command
   -- (profile)
-  pub falls : (via : Connection) (j i q : ℕ) → j < length talk → handed_over via talk j ≡ Some q
-      → asks_about via talk i q ≡ true → StepsSincePolls via talk i q → (said talk j).heard ≢ hears.News news.Reset
+  pub falls : (via : Connection) (j i q : ℕ) → j < length talk → handed_over (history via talk) j ≡ Some q
+      → asks_about (history via talk) i q ≡ true → StepsSincePolls via talk i q
+      → (said talk j).heard ≢ hears.News news.Reset
   -- and so it is never said where a step lies between any two polls about one command (profile)
   pub no_reset : StepsBetweenPolls talk → (j : ℕ) → j < length talk → (said talk j).heard ≢ hears.News news.Reset

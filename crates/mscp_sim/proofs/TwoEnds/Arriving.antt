@@ -1,5 +1,5 @@
 -- An abort and a command that arrives keep the match of the host of their connection and the controller.
-use Rattle.std.proofs.Common.{◌≡◌, ⊎_elim, ℕ, ◌+◌, Bool, true, false, cond, ◌&&◌, List, [], ◌∷◌, ◌++◌, map, length, refl, ap, sym, ◌∙◌, subst, arith, append-nil}
+use Rattle.std.proofs.Common.{◌≡◌, ⊎_elim, ℕ, ◌+◌, Bool, true, false, cond, ◌&&◌, List, [], ◌∷◌, ◌++◌, map, refl, ap, sym, ◌∙◌, subst, arith, append-nil}
 use Rattle.std.specs.Prelude.{find, nat_eq, not, Some, option_map, option_to_list}
 use Rattle.std.specs.List.{AllByRecursion}
 use Rattle.std.proofs.lemmas.Bool.{eq-eqb}
@@ -51,8 +51,7 @@ all_kept via n (r ∷ rs) h = rw (h.0) (ap (λ qs. r ∷ qs) (all_kept via n rs 
 
 front_kept : (via : Connection) (n : ℕ) (front : List Record) (x : Record) (back : List Record)
     → AllByRecursion (λ y. has_name (name_on via n) y ≡ false) front → has_name (name_on via n) x ≡ true
-    → without (name_on via n) back ≡ back
-    → without (name_on via n) (front ++ x ∷ back) ≡ front ++ back
+    → without (name_on via n) back ≡ back → without (name_on via n) (front ++ x ∷ back) ≡ front ++ back
 front_kept via n [] x back h e b = rw e b
 front_kept via n (y ∷ ys) x back h e b = rw (h.0) (ap (λ rs. y ∷ rs) (front_kept via n ys x back h.1 e b))
 
@@ -104,7 +103,7 @@ aborts_found {K} via a h told n front x back f m =
       code = refl;
       settings = refl;
     } in
-    ends_match via a h (aborting via h (orders.Abort n)) told ends m
+    search (arith, ends_match, ends)
 
 aborts_none : {K : Type 0} (via : Connection) (a : Account) (h : Holdings K) (told : Flight) (n : ℕ)
     → AllByRecursion (λ y. has_name (name_on via n) y ≡ false) (waiting_on via h.waiting) → Matches via a h told
@@ -168,12 +167,9 @@ queued_pushes {K} via a a' h told s c x m =
           let same : times r (c.reference ∷ []) ≡ times r (s.reference ∷ []) =
           ap (λ n. times r (n ∷ [])) (sym x.reference) in
           omega (arith, old, now, pushed, same);
-      more = let l = ap length (waits_behind via h.waiting c) ∙ length-append ws (fresh_record via c ∷ []) in
-          omega (arith, l);
+      more = grind (arith, waits_behind, length-append);
       settings = refl;
-      waits = subst (AllByRecursion (IsKnown (a.outstanding ++ s ∷ []))) (sym cs)
-          (every_append (IsKnown (a.outstanding ++ s ∷ [])) (commands ws) (c ∷ [])
-          (known_more a.outstanding s (commands ws) m.waits) (own, tt));
+      waits = grind (arith, cs, every_append, known_more, own);
       ends = awaited_more a.outstanding s (of via h.untaken) m.ends;
     }
 
@@ -198,10 +194,8 @@ ended_pushes {K} via a a' h told s e adds reference code m =
           let pushed = ap (λ es. times r (numbers_ended es)) ended ∙ times_ends r us (e ∷ []) in
           let same : times r (e.reference ∷ []) ≡ times r (s.reference ∷ []) = ap (λ n. times r (n ∷ [])) reference in
           omega (arith, old, now, pushed, same);
-      more = let l = ap length ended ∙ length-append us (e ∷ []) in omega (arith, l);
+      more = grind (arith, ended, length-append);
       settings = refl;
       waits = known_more a.outstanding s (commands (waiting_on via h.waiting)) m.waits;
-      ends = subst (AllByRecursion (IsAwaited (a.outstanding ++ s ∷ []))) (sym ended)
-          (every_append (IsAwaited (a.outstanding ++ s ∷ [])) us (e ∷ [])
-          (awaited_more a.outstanding s us m.ends) (own, tt));
+      ends = grind (arith, ended, every_append, awaited_more, own);
     }

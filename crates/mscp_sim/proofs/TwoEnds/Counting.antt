@@ -15,11 +15,9 @@ times_append r [] ys = omega arith
 times_append r (x ∷ xs) ys = search (arith, times_append r xs ys)
 
 -- it stands there exactly where it is found
-any_times : (r : ℕ) (xs : List ℕ) → list_any (λ x. nat_eq x r) xs ≡ nat_lt 0 (times r xs)
+pub any_times : (r : ℕ) (xs : List ℕ) → list_any (λ x. nat_eq x r) xs ≡ nat_lt 0 (times r xs)
 any_times r [] = refl
-any_times r (x ∷ xs) =
-    elim (nat_eq x r) as (λ b. (b || list_any (λ y. nat_eq y r) xs) ≡ nat_lt 0 (cond b (1 + times r xs) (times r xs)))
-    [ true ↦ grind (arith, nat_tests) | false ↦ any_times r xs ]
+any_times r (x ∷ xs) = search (arith, any_times r xs, nat_tests)
 
 pub any_alike : (r : ℕ) (xs ys : List ℕ) → times r xs ≡ times r ys
     → list_any (λ x. nat_eq x r) xs ≡ list_any (λ x. nat_eq x r) ys
@@ -36,32 +34,12 @@ has_any r (s ∷ xs) = ap (λ b. nat_eq s.reference r || b) (has_any r xs)
 pub times_without : (r n : ℕ) (xs : List Submission) (s : Submission) → find (has_reference n) xs ≡ Some s
     → times r (references xs) ≡ times r (n ∷ []) + times r (references (without n xs))
 times_without r n [] s e = absurd (false≢true (ap is_some e))
-times_without r n (x ∷ xs) s e =
-    let out : (b : Bool) → nat_eq x.reference n ≡ b → cond b (Some x) (find (has_reference n) xs) ≡ Some s
-    → times r (references (x ∷ xs)) ≡ times r (n ∷ []) + times r (references (cond b xs (x ∷ without n xs))) =
-    λ b. elim b as (λ b. nat_eq x.reference n ≡ b → cond b (Some x) (find (has_reference n) xs) ≡ Some s
-    → times r (references (x ∷ xs)) ≡ times r (n ∷ []) + times r (references (cond b xs (x ∷ without n xs)))) [
-      | true ↦ λ q f. rw (eqb-true x.reference n q) (times_append r (n ∷ []) (references xs))
-      | false ↦ λ q f.
-          let rest = times_without r n xs s f in
-          elim (nat_eq x.reference r) as (λ b. cond b (1 + times r (references xs)) (times r (references xs))
-          ≡ times r (n ∷ []) + cond b (1 + times r (references (without n xs)))
-          (times r (references (without n xs)))) [ true ↦ omega (arith, rest) | false ↦ rest ]
-    ] in
-    out (nat_eq x.reference n) refl e
+times_without r n (x ∷ xs) s e = search (arith, times_without r n xs s, eqb-true, times_append)
 
 pub length_without : (n : ℕ) (xs : List Submission) (s : Submission) → find (has_reference n) xs ≡ Some s
     → length xs ≡ 1 + length (without n xs)
 length_without n [] s e = absurd (false≢true (ap is_some e))
-length_without n (x ∷ xs) s e =
-    let out : (b : Bool) → cond b (Some x) (find (has_reference n) xs) ≡ Some s
-    → length (x ∷ xs) ≡ 1 + length (cond b xs (x ∷ without n xs)) =
-    λ b. elim b as (λ b. cond b (Some x) (find (has_reference n) xs) ≡ Some s
-    → length (x ∷ xs) ≡ 1 + length (cond b xs (x ∷ without n xs))) [
-      | true ↦ λ f. omega arith
-      | false ↦ λ f. let rest = length_without n xs s f in omega (arith, rest)
-    ] in
-    out (nat_eq x.reference n) e
+length_without n (x ∷ xs) s e = search (arith, length_without n xs s)
 
 pub small_without : (n : ℕ) (xs : List Submission) → AllByRecursion IsSmall xs → AllByRecursion IsSmall (without n xs)
 small_without n [] h = tt

@@ -1,7 +1,8 @@
 -- The figures of the waiting commands of one name: nothing raises them, and a step lowers them.
-use Rattle.std.proofs.Common.{◌≡◌, ◌⊎◌, ⊎_elim, ℕ, suc, ◌+◌, ◌-◌, ◌<◌, ◌≤◌, true, List, [], ◌∷◌, ◌++◌, length, refl, ap, sym, ◌∙◌, subst, arith}
-use Rattle.std.specs.Prelude.{find, not, ◌&&◌, Contains, Option}
-use Rattle.std.proofs.lemmas.Bool.{cases_lt}
+use Rattle.std.proofs.Common.{◌≡◌, ◌↔◌, Bool, map, ◌⊎◌, ⊎_elim, ℕ, suc, ◌+◌, ◌-◌, ◌<◌, ◌≤◌, true, List, [], ◌∷◌, ◌++◌, length, refl, ap, sym, ◌∙◌, subst, arith}
+use Rattle.std.specs.Prelude.{find, not, ◌&&◌, Contains, Option, Some, None, is_some}
+use Rattle.std.proofs.lemmas.Bool.{and_parts, cases_lt, false≢true}
+use Rattle.std.specs.List.{list_any}
 use Rattle.std.proofs.lemmas.List.{length-append, take_all}
 use Rattle.std.proofs.Math.Seq.{take-append_seam}
 use Rattle.mscp_queue.specs.declared.name.Name.{Name}
@@ -14,9 +15,7 @@ use Rattle.mscp_controller.specs.Figures.{figure, figure_found, figure_of}
 use Rattle.mscp_controller.specs.Headline.{Promise}
 use Rattle.mscp_controller.proofs.Promise.Grows.{command_last, connection_last, name_before, is_waiting_before, is_waiting_last, moment_last}
 use Rattle.mscp_controller.proofs.Promise.Waits.{cut, waiting_waits, waits_below}
-use Rattle.mscp_queue.proofs.Placed.{found_is}
-use Rattle.mscp_sim.proofs.TwoEnds.Outstanding.{both_true}
-use Rattle.mscp_sim.proofs.TwoEnds.Receiving.{found_all}
+use Rattle.mscp_host.proofs.Lists.{any_map, found}
 
 contains_in : (A : List ℕ) (x : ℕ) (B : List ℕ) → Contains (A ++ x ∷ B) x
 contains_in [] x B = (0, omega arith, refl)
@@ -56,7 +55,7 @@ most_moment c t m n g g' p new way most x w r =
     ⊎_elim
     (λ below.
     let was : (is_waiting t x && not (ends_in (name t x) m.1)) ≡ true = sym (is_waiting_before t m x below) ∙ w in
-    let waits = (both_true (is_waiting t x) _ was).0 in
+    let waits = (and_parts (is_waiting t x) _ was).0 in
     let named : name t x ≡ n = sym (name_before t m x below) ∙ r in
     let old = most x waits named in
     let there = contains_waiting t x waits in
@@ -81,8 +80,32 @@ pub record Waits (c : Settings) (t : Trace) (n : Name) : Type 0 where
 
 waits_of : (c : Settings) (t : Trace) (n : Name) (o : Option ℕ) → find (λ x. same_name (name t x) n) (waiting t) ≡ o
     → figure_of c t n ≡ figure_found c t o → 1 ≤ figure_found c t o → Waits c t n
-waits_of c t n o h4 h5 h6 = grind (arith, found_all, waiting_waits, same_is, found_is)
+waits_of c t n o h4 h5 h6 = grind (arith, found, waiting_waits, same_is)
 
 pub waits_at : (c : Settings) (t : Trace) (n : Name) → 1 ≤ figure_of c t n → Waits c t n
 unfolding figure_of
 waits_at c t n l = waits_of c t n (find (λ x. same_name (name t x) n) (waiting t)) refl refl l
+
+-- ---- a name that waits
+
+any_find : {X : Type 0} (q : X → Bool) (xs : List X) → list_any q xs ≡ is_some (find q xs)
+any_find q [] = refl
+any_find q (x ∷ xs) = search (arith, any_find q xs)
+
+some_is : (o : Option ℕ) → is_some o ≡ true → (x : ℕ) × (o ≡ Some x)
+some_is None e = absurd (false≢true e)
+some_is (Some x) e = (x, refl)
+
+-- the figure of a name that waits is at least 1
+pub some_figure : (c : Settings) (t : Trace) (n : Name) → Promise c t
+    → list_any (λ m. same_name m n) (map (name t) (waiting t)) ≡ true → 1 ≤ figure_of c t n
+unfolding figure_of
+some_figure c t n p e =
+    let q : ℕ → Bool = λ x. same_name (name t x) n in
+    let x = some_is (find q (waiting t)) (sym (any_find q (waiting t))
+    ∙ (sym (any_map (name t) (λ m. same_name m n) (waiting t)) ∙ e)) in
+    let waits = (found (λ y. is_waiting t y ≡ true) q (waiting t) x.0 (waiting_waits t) x.1).0 in
+    let positive = subst (λ u. (y : ℕ) → Contains (waiting u) y ↔ (1 ≤ figure c u y))
+    (take_all (length t) t (omega arith))
+    (p.positive (length t) (omega arith)) in
+    subst (λ o. 1 ≤ figure_found c t o) (sym x.1) ((positive x.0).0 (contains_waiting t x.0 waits))

@@ -1,5 +1,5 @@
 -- An end that is handed over: the host takes it, and the match is kept.
-use Rattle.std.proofs.Common.{◌≡◌, ℕ, suc, ◌+◌, Bool, true, false, cond, List, [], ◌∷◌, ◌++◌, drop, length, refl, ap, sym, ◌∙◌, subst, arith}
+use Rattle.std.proofs.Common.{◌≡◌, ℕ, ◌+◌, Bool, true, false, cond, List, [], ◌∷◌, ◌++◌, drop, length, refl, ap, sym, ◌∙◌, subst, arith}
 use Rattle.std.specs.Prelude.{find, nat_eq, ◌&&◌, if◌then◌else◌, slice_index, Option, Some, None, option_map, slice_get, unwrap_or, Ok}
 use Rattle.std.specs.List.{AllByRecursion, list_any}
 use Rattle.std.proofs.lemmas.Bool.{eqb-true, eq-eqb, false≢true, true≢false}
@@ -63,7 +63,7 @@ alone via a h told e us m u =
     let all = counted_numbers n via h in
     let ends : times n (numbers_ended (of via h.untaken)) ≡ 1 + times n (numbers_ended us) =
     ap (λ es. times n (numbers_ended es)) u ∙ times_own n (numbers_ended us) in
-    (omega (arith, one, all, ends), omega (arith, one, all, ends))
+    search (arith, one, all, ends)
 
 -- ---- what the first end tells
 
@@ -93,7 +93,7 @@ first_is e us w told f z s =
           (times_own f.end.reference (numbers_ended f.back))) in
           absurd (omega (arith, z, counts, some))
     ] in
-    cases f.front refl f.split
+    search (arith, cases)
 
 about_with : (e : End) (us : List End) (w : Watch) (told : Flight) (b : Bool) → nat_eq w.reference e.reference ≡ b
     → IsFlight (e ∷ us) w told → times e.reference (numbers_ended us) ≡ 0
@@ -171,7 +171,7 @@ flight_rest e us w w' told f n r p s =
                 subst (λ x. list_any (λ (y : End). nat_eq y.reference x) gs ≡ true) (sym p) rest;
           }
     ] in
-    cases f.front refl f.split
+    search (arith, cases)
 
 flight_with : (e : End) (us : List End) (w : Watch) (told : Flight) (b c : Bool) → nat_eq w.reference e.reference ≡ b
     → nat_eq w.polled e.reference ≡ c → IsFlight (e ∷ us) w told
@@ -203,21 +203,9 @@ taken_out {K} via a h told e us m u =
     search (arith, called (commands (waiting_on via h.waiting)), counted_numbers, times_append) in
     record {
       credits = m.credits;
-      many =
-          let fewer = length_without n a.outstanding s.0 s.1 in
-          let rest : length (of via h.untaken) ≡ suc (length us) = ap length u in
-          let many = m.many in
-          let taken = ap length left in
-          omega (arith, fewer, rest, many, taken);
-      same = λ r.
-          let out = times_without r n a.outstanding s.0 s.1 in
-          let same = m.same r in
-          let c = counts r in
-          omega (arith, out, same, c);
-      once = λ r.
-          let c = counts r in
-          let one = m.once r in
-          omega (arith, c, one);
+      many = grind (arith, length_without n a.outstanding s.0 s.1, u, m.many, left);
+      same = λ r. grind (arith, times_without r n a.outstanding s.0 s.1, m.same r, counts r);
+      once = λ r. grind (arith, counts r, m.once r);
       small = small_without n a.outstanding m.small;
       waits = every_weaker (λ c. IsKnown a.outstanding c × (nat_eq n c.reference ≡ false))
           (IsKnown (without n a.outstanding)) (λ c k.

@@ -11,7 +11,6 @@ use Rattle.mscp_queue.specs.Records.{Record}
 use Rattle.mscp_queue.proofs.Lists.{every_append, every_parts, every_weaker}
 use Rattle.mscp_events.specs.declared.connection.Connection.{Connection}
 use Rattle.mscp_events.specs.Both.{of}
-use Rattle.mscp_events.specs.Settings.{credits_of}
 use Rattle.mscp_controller.specs.Holdings.{Holdings, numbers, numbers_ended, outstanding_of, waiting_on}
 use Rattle.mscp_host.specs.declared.submission.Submission.{Submission}
 use Rattle.mscp_host.specs.declared.watch.Watch.{Watch}
@@ -66,7 +65,7 @@ stays {K} via a h h' told w u s m =
     λ r. counted_numbers r via h' ∙ ((λ i. counted r (w i) (u i)) ∙ sym (counted_numbers r via h)) in
     let lengths = sym (length_commands (waiting_on via h'.waiting))
     ∙ (ap length w ∙ length_commands (waiting_on via h.waiting)) in
-    search arith
+    search (arith)
 
 -- ---- a command ends
 
@@ -102,19 +101,7 @@ ends_match {K} via a h h' told x m =
     ∙ length-append (of via h.untaken) (x.end ∷ []) in
     let known = parts.1.0 in
     let awaited : IsAwaited a.outstanding x.end = search arith in
-    record {
-      credits = m.credits ∙ ap (λ c. credits_of c via) (sym x.settings);
-      many = let many = m.many in omega (arith, many, before, after, ends);
-      same = λ r. m.same r ∙ sym (counts r);
-      once = λ r. subst (λ n. n ≤ 1) (sym (counts r)) (m.once r);
-      small = m.small;
-      waits = subst (AllByRecursion (IsKnown a.outstanding)) (sym x.left)
-          (every_append (IsKnown a.outstanding) x.front x.back parts.0 parts.1.1);
-      ends = subst (AllByRecursion (IsAwaited a.outstanding)) (sym x.ends)
-          (every_append (IsAwaited a.outstanding) (of via h.untaken) (x.end ∷ []) m.ends (awaited, tt));
-      flight = subst (λ us. HasFlight us a.watch told) (sym x.ends)
-          (flight_on (of via h.untaken) a.watch told x.end m.flight);
-    }
+    search (arith, before, after, ends, counts, every_append, parts, awaited, flight_on)
 
 -- ---- a command arrives
 

@@ -1,9 +1,9 @@
 -- What a host sends the controller takes in, and the match is kept.
-use Rattle.std.proofs.Common.{◌≡◌, ℕ, ◌+◌, ◌-◌, ◌<◌, ◌^◌, Bool, true, false, cond, List, [], ◌∷◌, ◌++◌, refl, ap, sym, ◌∙◌, subst, arith, append-nil}
-use Rattle.std.specs.Prelude.{find, nat_eq, not, ◌&&◌, ◌||◌, if◌then◌else◌, slice_index, Option, Some, None, is_some, unwrap_or, Ok}
-use Rattle.std.specs.List.{AllByRecursion, list_any}
+use Rattle.std.proofs.Common.{◌≡◌, ℕ, ◌-◌, ◌<◌, ◌^◌, Bool, true, false, List, [], ◌∷◌, ◌++◌, refl, ap, sym, ◌∙◌, subst, arith, append-nil}
+use Rattle.std.specs.Prelude.{find, nat_eq, not, ◌&&◌, ◌||◌, if◌then◌else◌, slice_index, Option, Some, None, Ok}
+use Rattle.std.specs.List.{list_any}
 use Rattle.std.proofs.lemmas.List.Folds.{list_any-append}
-use Rattle.std.proofs.lemmas.Bool.{eq-eqb, false≢true, true≢false}
+use Rattle.std.proofs.lemmas.Bool.{eq-eqb, true_from_ne_false, true≢false}
 use Rattle.std.proofs.lemmas.Bool.Decides.{nat_tests}
 use Rattle.mscp_packet.specs.declared.command.Command.{Command}
 use Rattle.mscp_packet.specs.declared.command.Order.TheVariants as orders
@@ -27,10 +27,11 @@ use Rattle.mscp_controller.specs.Outcomes.{own_end_with}
 use Rattle.mscp_events.specs.Settings.{Settings}
 use Rattle.mscp_queue.specs.Orders.{endcode}
 use Rattle.mscp_host.specs.Accounts as host
+use Rattle.mscp_host.proofs.Lists.{any_map, found, none_any}
 use Rattle.mscp_host.specs.Accounts.{Account, balance, has_reference, is_code_of, is_immediate, poll_of, submission_of, submitted, watching}
 use Rattle.mscp_sim.specs.Matches.{Flight, HasFlight, IsSmall, Matches, times}
 use Rattle.mscp_sim.proofs.TwoEnds.Codes.{coded}
-use Rattle.mscp_sim.proofs.TwoEnds.Counting.{any_alike, has_any}
+use Rattle.mscp_sim.proofs.TwoEnds.Counting.{any_alike, any_times, has_any}
 use Rattle.mscp_sim.proofs.TwoEnds.Matching.{Adds, flight_on, pushes_match}
 use Rattle.mscp_sim.proofs.TwoEnds.Arriving.{Arrives, aborting_matches, ended_pushes, queued_pushes}
 
@@ -89,14 +90,7 @@ taken_in via a h told c m k f = search (arith, unrefused via a h told (opcode_by
 -- ---- what both keep then
 
 none_times : (n : ℕ) (xs : List ℕ) → list_any (λ x. nat_eq x n) xs ≡ false → times n xs ≡ 0
-none_times n [] e = refl
-none_times n (x ∷ xs) e =
-    let out : (b : Bool) → (b || list_any (λ y. nat_eq y n) xs) ≡ false → cond b (1 + times n xs) (times n xs) ≡ 0 =
-    λ b. elim b as (λ b. (b || list_any (λ y. nat_eq y n) xs) ≡ false → cond b (1 + times n xs) (times n xs) ≡ 0) [
-      | true ↦ λ e. absurd (true≢false e)
-      | false ↦ λ e. none_times n xs e
-    ] in
-    out (nat_eq x n) e
+none_times n xs e = grind (arith, any_times, nat_tests)
 
 nobody_named : {K : Type 0} (via : Connection) (a : Account) (h : Holdings K) (told : Flight) (n : ℕ)
     → Matches via a h told → list_any (has_reference n) a.outstanding ≡ false → times n (outstanding_of via h) ≡ 0
@@ -184,38 +178,15 @@ submitted_match {K} via a h told c small unit m e =
 same_command : (c : Command) → IsValidOrder c.order → HasCommandRange c → command_of (command_bytes c) ≡ c
 same_command c valid fits = search (arith, command_bytes_are_messages c valid fits, command_read c)
 
-found_small : (p : Submission → Bool) (xs : List Submission) (s : Submission) → find p xs ≡ Some s
-    → AllByRecursion IsSmall xs → IsSmall s
-found_small p [] s e h = absurd (false≢true (ap is_some e))
-found_small p (x ∷ xs) s e h =
-    let out : (b : Bool) → cond b (Some x) (find p xs) ≡ Some s → IsSmall s =
-    λ b. elim b as (λ b. cond b (Some x) (find p xs) ≡ Some s → IsSmall s) [
-      | true ↦ λ q. subst IsSmall (ap (λ o. unwrap_or o x) q) h.0
-      | false ↦ λ q. found_small p xs s q h.1
-    ] in
-    out (p x) e
-
 -- what is found is there, under its number
 found_named : (p : Submission → Bool) (xs : List Submission) (s : Submission) → find p xs ≡ Some s
     → list_any (has_reference s.reference) xs ≡ true
-found_named p [] s e = absurd (false≢true (ap is_some e))
-found_named p (x ∷ xs) s e =
-    let out : (b : Bool) → cond b (Some x) (find p xs) ≡ Some s
-    → (nat_eq x.reference s.reference || list_any (has_reference s.reference) xs) ≡ true =
-    λ b. elim b as (λ b. cond b (Some x) (find p xs) ≡ Some s
-    → (nat_eq x.reference s.reference || list_any (has_reference s.reference) xs) ≡ true) [
-      | true ↦ λ q. let same : nat_eq x.reference s.reference ≡ true =
-          eq-eqb x.reference s.reference (ap (λ o. (unwrap_or o x).reference) q) in rw same refl
-      | false ↦ λ q. let rest = found_named p xs s q in
-          elim (nat_eq x.reference s.reference) as (λ c. (c || list_any (has_reference s.reference) xs) ≡ true)
-          [ true ↦ refl | false ↦ rest ]
-    ] in
-    out (p x) e
+found_named p xs s e = true_from_ne_false _ (λ n. true≢false (sym (eq-eqb s.reference s.reference refl)
+    ∙ (found (λ x. has_reference s.reference x ≡ false) p xs s (none_any (has_reference s.reference) xs n) e).0))
 
 any_ends : (n : ℕ) (us : List End) → list_any (λ x. nat_eq x n) (numbers_ended us)
     ≡ list_any (λ e. nat_eq e.reference n) us
-any_ends n [] = refl
-any_ends n (e ∷ us) = ap (λ b. nat_eq e.reference n || b) (any_ends n us)
+any_ends n us = any_map (λ (e : End). e.reference) (λ x. nat_eq x n) us
 
 second_of : (p q : Bool) → (p || q) ≡ true → p ≡ false → q ≡ true
 second_of p q h2 h3 = grind (arith, true≢false)
@@ -247,11 +218,11 @@ pub polled_match : {K : Type 0} (via : Connection) (a : Account) (h : Holdings K
     (s : Submission) → r < 2 ^ 32 → Matches via a h told → host.oldest a ≡ Some s
     → host.refusal a (opcode_byte (poll_of r s).order) r ≡ None
     → TakesIn via h (command_bytes (poll_of r s)) (watching a r s) (told_now via h s)
-polled_match {K} via a h told r s small m found e =
+polled_match {K} via a h told r s small m find e =
     let c = poll_of r s in
     let b = command_bytes c in
     let p : Submission → Bool = λ s. not (is_immediate s.opcode) in
-    let fits = found_small p a.outstanding s found m.small in
+    let fits = (found IsSmall p a.outstanding s m.small find).0 in
     let same : command_of b ≡ c = same_command c tt (small, fits.1, fits.0) in
     let k = carries c small in
     let f = free a (opcode_byte c.order) r e in
@@ -260,5 +231,5 @@ polled_match {K} via a h told r s small m found e =
     search (arith, nobody_named via a h told r m f.new, coded b) in
     let match : Matches via (watching a r s) (arrives via h c) (told_now via h s) =
     arrives_ended via a (watching a r s) h told (told_now via h s) (submission_of c) c x m
-    (poll_flight via a h told r s m (found_named p a.outstanding s found)) in
+    (poll_flight via a h told r s m (found_named p a.outstanding s find)) in
     search arith

@@ -95,7 +95,7 @@ served_end {K} via a h h' told k d place e true o x m =
       code = ap (λ (x : End). x.code) is;
       settings = x.settings;
     } in
-    ends_match via a h h' told ends m
+    search (arith, ends_match, ends)
 served_end {K} via a h h' told k d place e false o x m =
     search (arith, commands_cut via h.waiting place x.inside, append-nil (of via h.untaken), stays)
 

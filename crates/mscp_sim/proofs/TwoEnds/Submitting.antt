@@ -1,7 +1,6 @@
 -- What a turn in which the host submits, or polls, leaves.
 use Rattle.std.proofs.Common.{◌≡◌, ℕ, ◌<◌, ◌^◌, Bool, true, false, List, refl, ap, sym, ◌∙◌, subst, arith}
 use Rattle.std.specs.Prelude.{Option, Some, None, is_some, is_ok, Result, Ok, Err, if◌then◌else◌}
-use Rattle.std.specs.List.{list_any}
 use Rattle.std.proofs.lemmas.Bool.{false≢true, true≢false}
 use Rattle.arrayvec.specs.ArrayVec.{ArrayVec}
 use Rattle.mscp_packet.specs.declared.command.Command.{Command}
@@ -14,9 +13,9 @@ use Rattle.mscp_host.specs.declared.news.HostFault.{HostFault}
 use Rattle.mscp_host.specs.declared.news.Poll.{Poll}
 use Rattle.mscp_host.specs.declared.news.Poll.TheVariants as polls
 use Rattle.mscp_host.specs.declared.submission.Submission.{Submission}
-use Rattle.mscp_host.specs.Accounts.{Account, asks, asks_unless, has_reference, oldest, poll_of, polls_oldest, refusal, submits, submits_unless, submitted, watching}
+use Rattle.mscp_host.specs.Accounts.{Account, asks, asks_unless, oldest, poll_of, polls_oldest, refusal, submits, submits_unless, watching}
 use Rattle.mscp_sim.specs.Matches.{Flight, MatchOn, Matches}
-use Rattle.mscp_sim.proofs.TwoEnds.Sending.{carries, free, polled_match, same_reference, submitted_match, told_now}
+use Rattle.mscp_sim.proofs.TwoEnds.Sending.{carries, polled_match, same_reference, submitted_match, told_now}
 
 -- ---- what was answered
 
@@ -36,115 +35,89 @@ not_refused via h b c r sent e same taken = ap is_ok (e ∙ (ap (answer_to_messa
 
 -- ---- a command
 
--- where the host takes the command, so does the controller
-pub record Submits {K : Type 0} (via : Connection) (a : Account) (h : Holdings K) (told : Flight) (c : Command)
-    (sent : List ℕ)
-    (a' : Account) : Type 0 where
-  pub message : sent ≡ command_bytes c
-  pub left : a' ≡ submitted a c
-  pub fresh : list_any (has_reference c.reference) a.outstanding ≡ false
-  pub named : (command_of sent).reference ≡ c.reference
-  pub taken : answer_to_message via h sent ≡ Ok (taken_as via h (command_of sent))
-  pub match : Matches via a' (after_message via h sent) told
+module _ {K : Type 0} (via : Connection) (a : Account) (h : Holdings K) where
+  -- where the host takes the command, so does the controller
+  pub record Submits (told : Flight) (c : Command) (sent : List ℕ) (a' : Account) : Type 0 where
+    pub named : (command_of sent).reference ≡ c.reference
+    pub taken : answer_to_message via h sent ≡ Ok (taken_as via h (command_of sent))
+    pub match : Matches via a' (after_message via h sent) told
 
-submits_when : {K : Type 0} (via : Connection) (a : Account) (h : Holdings K) (told : Flight) (c : Command)
-    (o : Option HostFault) (b : ArrayVec ℕ) (a' : Account) → c.reference < 2 ^ 32 → c.unit < 2 ^ 16
-    → Matches via a h told → refusal a (opcode_byte c.order) c.reference ≡ o → submits_unless a c o ≡ (Ok b, a')
-    → Submits via a h told c b.items a'
-submits_when via a h told c (Some fault) b a' r u m o e = absurd (false≢true (ap (λ p. is_ok p.0) e))
-submits_when {K} via a h told c None b a' r u m o e =
-    search (
-      arith,
-      submitted_match via a h told c r u m o,
-      free a (opcode_byte c.order) c.reference o,
-      same_reference c
-          (carries c r),
-      carries c r,
-    )
+  submits_when : (told : Flight) (c : Command) (o : Option HostFault) (b : ArrayVec ℕ) (a' : Account)
+      → c.reference < 2 ^ 32 → c.unit < 2 ^ 16 → Matches via a h told → refusal a (opcode_byte c.order) c.reference ≡ o
+      → submits_unless a c o ≡ (Ok b, a') → Submits told c b.items a'
+  submits_when told c (Some fault) b a' r u m o e = absurd (false≢true (ap (λ p. is_ok p.0) e))
+  submits_when told c None b a' r u m o e =
+      search (arith, submitted_match via a h told c r u m o, same_reference c (carries c r))
 
-pub submits_match : {K : Type 0} (via : Connection) (a : Account) (h : Holdings K) (told : Flight) (c : Command)
-    (b : ArrayVec ℕ) (a' : Account) → c.reference < 2 ^ 32 → c.unit < 2 ^ 16 → Matches via a h told
-    → submits a c ≡ (Ok b, a') → Submits via a h told c b.items a'
-submits_match via a h told c b a' r u m e =
-    search (arith, submits_when via a h told c (refusal a (opcode_byte c.order) c.reference) b a' r u m refl e)
+  pub submits_match : (told : Flight) (c : Command) (b : ArrayVec ℕ) (a' : Account) → c.reference < 2 ^ 32
+      → c.unit < 2 ^ 16 → Matches via a h told → submits a c ≡ (Ok b, a') → Submits told c b.items a'
+  submits_match told c b a' r u m e = submits_when told c _ b a' r u m refl e
 
--- where it doesn't, nothing changes
-kept_when : (a : Account) (c : Command) (o : Option HostFault) (fault : HostFault) (a' : Account)
-    → submits_unless a c o ≡ (Err fault, a') → a' ≡ a
-kept_when a c o fault a' h5 = grind (arith, true≢false)
+  -- ---- a poll
 
-pub submits_kept : (a : Account) (c : Command) (fault : HostFault) (a' : Account) → submits a c ≡ (Err fault, a')
-    → a' ≡ a
-submits_kept a c fault a' e = kept_when a c (refusal a (opcode_byte c.order) c.reference) fault a' e
+  -- where the host asks, the controller takes its poll
+  pub record Asks (r : ℕ) (sent : List ℕ) (a' : Account) : Type 0 where
+    pub about : Submission
+    pub oldest : oldest a ≡ Some about
+    pub named : (command_of sent).reference ≡ r
+    pub taken : answer_to_message via h sent ≡ Ok (taken_as via h (command_of sent))
+    pub match : Matches via a' (after_message via h sent) (told_now via h about)
 
--- ---- a poll
+  -- a host that may ask about s under the number r: it is the oldest that it may ask about
+  record MayAsk (r : ℕ) (s : Submission) : Type 0 where
+    pub small : r < 2 ^ 32
+    pub match : MatchOn via a h
+    pub oldest : oldest a ≡ Some s
 
--- where the host asks, the controller takes its poll
-pub record Asks {K : Type 0} (via : Connection) (a : Account) (h : Holdings K) (r : ℕ) (sent : List ℕ)
-    (a' : Account) : Type 0 where
-  pub about : Submission
-  pub oldest : oldest a ≡ Some about
-  pub idle : is_some a.watch ≡ false
-  pub message : sent ≡ command_bytes (poll_of r about)
-  pub left : a' ≡ watching a r about
-  pub fresh : list_any (has_reference r) a.outstanding ≡ false
-  pub named : (command_of sent).reference ≡ r
-  pub taken : answer_to_message via h sent ≡ Ok (taken_as via h (command_of sent))
-  pub match : Matches via a' (after_message via h sent) (told_now via h about)
+  asks_when : (r : ℕ) (s : Submission) (o : Option HostFault) (b : ArrayVec ℕ) (a' : Account) → MayAsk r s
+      → refusal a (opcode_byte (poll_of r s).order) r ≡ o → asks_unless a r s o ≡ (Ok (polls.Ask b), a')
+      → Asks r b.items a'
+  asks_when r s (Some fault) b a' x o e = absurd (false≢true (ap (λ p. is_ok p.0) e))
+  asks_when r s None b a' x o e =
+      let c = poll_of r s in
+      let message : b.items ≡ command_bytes c = ap (λ p. asked_or p.0 b) (sym e) in
+      let y = polled_match via a h x.match.0 r s x.small x.match.1 x.oldest o in
+      record {
+        about = s;
+        oldest = x.oldest;
+        named = ap (λ q. (command_of q).reference) message ∙ same_reference c (carries c x.small);
+        taken = subst (λ q. answer_to_message via h q ≡ Ok (taken_as via h (command_of q))) (sym message) y.taken;
+        match = subst (λ (y : Account). Matches via y (after_message via h b.items) (told_now via h s))
+            (ap (λ p. p.1) e)
+            (subst (λ q. Matches via (watching a r s) (after_message via h q) (told_now via h s))
+            (sym message) y.match);
+      }
 
--- a host that may ask about s under the number r: no poll is in flight, and s is the oldest that it may ask about
-record MayAsk {K : Type 0} (via : Connection) (a : Account) (h : Holdings K) (r : ℕ) (s : Submission) : Type 0 where
-  pub small : r < 2 ^ 32
-  pub match : MatchOn via a h
-  pub idle : is_some a.watch ≡ false
-  pub oldest : oldest a ≡ Some s
+  asks_of : (r : ℕ) (s : Option Submission) (b : ArrayVec ℕ) (a' : Account) → r < 2 ^ 32 → MatchOn via a h
+      → oldest a ≡ s → asks a r s ≡ (Ok (polls.Ask b), a') → Asks r b.items a'
+  asks_of r s b a' l m o e = grind (arith, false≢true, asks_when)
 
-asks_when : {K : Type 0} (via : Connection) (a : Account) (h : Holdings K) (r : ℕ) (s : Submission)
-    (o : Option HostFault) (b : ArrayVec ℕ) (a' : Account) → MayAsk via a h r s
-    → refusal a (opcode_byte (poll_of r s).order) r ≡ o → asks_unless a r s o ≡ (Ok (polls.Ask b), a')
-    → Asks via a h r b.items a'
-asks_when via a h r s (Some fault) b a' x o e = absurd (false≢true (ap (λ p. is_ok p.0) e))
-asks_when {K} via a h r s None b a' x o e =
-    let c = poll_of r s in
-    let message : b.items ≡ command_bytes c = ap (λ p. asked_or p.0 b) (sym e) in
-    let left : a' ≡ watching a r s = ap (λ p. p.1) (sym e) in
-    let y = polled_match via a h x.match.0 r s x.small x.match.1 x.oldest o in
-    record {
-      about = s;
-      oldest = x.oldest;
-      idle = x.idle;
-      message = message;
-      left = left;
-      fresh = (free a (opcode_byte c.order) r o).new;
-      named = ap (λ q. (command_of q).reference) message ∙ same_reference c (carries c x.small);
-      taken = subst (λ q. answer_to_message via h q ≡ Ok (taken_as via h (command_of q))) (sym message) y.taken;
-      match = subst (λ (y : Account). Matches via y (after_message via h b.items) (told_now via h s)) (sym left)
-          (subst (λ q. Matches via (watching a r s) (after_message via h q) (told_now via h s)) (sym message) y.match);
-    }
+  asks_idle : (r : ℕ) (q : Bool) (b : ArrayVec ℕ) (a' : Account) → r < 2 ^ 32 → MatchOn via a h
+      → (if q then (Ok polls.Busy, a) else asks a r (oldest a)) ≡ (Ok (polls.Ask b), a') → Asks r b.items a'
+  asks_idle r q b a' l m e = grind (arith, false≢true, asks_of)
 
-asks_of : {K : Type 0} (via : Connection) (a : Account) (h : Holdings K) (r : ℕ) (s : Option Submission)
-    (b : ArrayVec ℕ) (a' : Account) → r < 2 ^ 32 → MatchOn via a h → is_some a.watch ≡ false → oldest a ≡ s
-    → asks a r s ≡ (Ok (polls.Ask b), a') → Asks via a h r b.items a'
-asks_of via a h r s b a' h7 h8 h9 h10 h11 = grind (arith, false≢true, asks_when)
+  pub asks_match : (r : ℕ) (b : ArrayVec ℕ) (a' : Account) → r < 2 ^ 32 → MatchOn via a h
+      → polls_oldest a r ≡ (Ok (polls.Ask b), a') → Asks r b.items a'
+  asks_match r b a' l m e = asks_idle r (is_some a.watch) b a' l m e
 
-asks_idle : {K : Type 0} (via : Connection) (a : Account) (h : Holdings K) (r : ℕ) (q : Bool) (b : ArrayVec ℕ)
-    (a' : Account) → r < 2 ^ 32 → MatchOn via a h → is_some a.watch ≡ q
-    → (if q then (Ok polls.Busy, a) else asks a r (oldest a)) ≡ (Ok (polls.Ask b), a') → Asks via a h r b.items a'
-asks_idle via a h r q b a' h7 h8 h9 h10 = grind (arith, false≢true, asks_of)
+-- ---- where the host sends nothing, nothing changes
 
-pub asks_match : {K : Type 0} (via : Connection) (a : Account) (h : Holdings K) (r : ℕ) (b : ArrayVec ℕ) (a' : Account)
-    → r < 2 ^ 32 → MatchOn via a h → polls_oldest a r ≡ (Ok (polls.Ask b), a') → Asks via a h r b.items a'
-asks_match via a h r b a' l m e = asks_idle via a h r (is_some a.watch) b a' l m refl e
+module _ (a : Account) where
+  submits_still : (c : Command) (o : Option HostFault) (fault : HostFault) (a' : Account)
+      → submits_unless a c o ≡ (Err fault, a') → a' ≡ a
+  submits_still c o fault a' e = grind (arith, true≢false)
 
--- where it doesn't, nothing changes
-unasked_when : (a : Account) (r : ℕ) (s : Submission) (o : Option HostFault) (p : Result Poll HostFault) (a' : Account)
-    → is_ask p ≡ false → asks_unless a r s o ≡ (p, a') → a' ≡ a
-unasked_when a r s o p a' h6 h7 = grind (arith, true≢false)
+  pub submits_kept : (c : Command) (fault : HostFault) (a' : Account) → submits a c ≡ (Err fault, a') → a' ≡ a
+  submits_kept c fault a' e = submits_still c _ fault a' e
 
-unasked_of : (a : Account) (r : ℕ) (s : Option Submission) (p : Result Poll HostFault) (a' : Account) → is_ask p ≡ false
-    → asks a r s ≡ (p, a') → a' ≡ a
-unasked_of a r s p a' h5 h6 = grind (arith, unasked_when)
+  asks_still : (r : ℕ) (s : Submission) (o : Option HostFault) (p : Result Poll HostFault) (a' : Account)
+      → is_ask p ≡ false → asks_unless a r s o ≡ (p, a') → a' ≡ a
+  asks_still r s o p a' n e = grind (arith, true≢false)
 
-pub polled_kept : (a : Account) (r : ℕ) (p : Result Poll HostFault) (a' : Account) → is_ask p ≡ false
-    → polls_oldest a r ≡ (p, a') → a' ≡ a
-polled_kept a r p a' n e = search (arith, unasked_of)
+  unasked_of : (r : ℕ) (s : Option Submission) (p : Result Poll HostFault) (a' : Account) → is_ask p ≡ false
+      → asks a r s ≡ (p, a') → a' ≡ a
+  unasked_of r s p a' n e = grind (arith, asks_still)
+
+  pub polled_kept : (r : ℕ) (p : Result Poll HostFault) (a' : Account) → is_ask p ≡ false
+      → polls_oldest a r ≡ (p, a') → a' ≡ a
+  polled_kept r p a' n e = search (arith, unasked_of)

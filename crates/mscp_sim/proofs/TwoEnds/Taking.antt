@@ -1,6 +1,6 @@
 -- What a turn in which an end is handed over leaves, and one in which there is none.
 use Rattle.std.proofs.Common.{◌≡◌, ℕ, List, [], ◌∷◌, drop, refl, ap, sym, ◌∙◌, subst, arith}
-use Rattle.std.specs.Prelude.{option_map, Option, Some, None, is_some, slice_get, unwrap_or, Result, Ok}
+use Rattle.std.specs.Prelude.{option_map, Option, Some, None, is_some, slice_get, unwrap_or, Ok}
 use Rattle.std.proofs.lemmas.Bool.{false≢true, true≢false}
 use Rattle.arrayvec.specs.ArrayVec.{ArrayVec}
 use Rattle.mscp_packet.specs.declared.end.End.{End}
@@ -11,8 +11,6 @@ use Rattle.mscp_controller.specs.History.{Moment}
 use Rattle.mscp_events.specs.declared.connection.Connection.{Connection}
 use Rattle.mscp_events.specs.Both.{of, put}
 use Rattle.mscp_controller.specs.Holdings.{Holdings, after_take, end_taken}
-use Rattle.mscp_host.specs.declared.news.News.{News}
-use Rattle.mscp_host.specs.declared.news.HostFault.{HostFault}
 use Rattle.mscp_host.specs.Accounts.{Account, answered, heard, news_with, received}
 use Rattle.mscp_sim.specs.Matches.{Flight, Matches}
 use Rattle.mscp_sim.proofs.TwoEnds.Handing.{first_heard, received_match}
@@ -63,12 +61,6 @@ pub taken_some : {K : Type 0} (via : Connection) (a : Account) (h : Holdings K) 
     → end_taken via h ≡ Some b → ((e : End) → slice_get (of via h.untaken) 0 ≡ Some e → IsEnd b.items e)
     → Matches via a h told → Handed via a h told b.items
 taken_some via a h told b e r m = some_when via a h told (of via h.untaken) b refl e r m
-
--- what is left where that was returned
-pub handed_on : {K : Type 0} (via : Connection) (a a' : Account) (h h' : Holdings K) (told : Flight) (b : List ℕ)
-    (r : Result News HostFault) (n : News) → Handed via a h told b → (r, a') ≡ heard a b → r ≡ Ok n
-    → h' ≡ after_take via h → (heard a b ≡ (Ok n, a')) × Matches via a' h' told
-handed_on {K} via a a' h h' told b r n x e o k = search arith
 
 -- the bytes that a moment hands over
 abbrev pub handed_in : Option Moment → Option (ArrayVec ℕ)

@@ -1,17 +1,17 @@
 -- A whole talk: what is heard in each turn.
 use Rattle.std.proofs.Common.{◌≡◌, ⊎_elim, ℕ, ◌+◌, ◌<◌, ◌≤◌, true, false, List, [], ◌∷◌, ◌++◌, map, take, drop, length, refl, ap, sym, ◌∙◌, subst, arith}
-use Rattle.std.specs.Prelude.{zip, Option, Some, None, option_to_list}
+use Rattle.std.specs.Prelude.{zip, Option, Some, None, is_some, option_to_list}
 use Rattle.std.proofs.lemmas.Bool.{cases_eq, false≢true}
 use Rattle.std.proofs.lemmas.List.{drop-drop, length-drop, get_or-drop}
+use Rattle.mscp_packet.specs.declared.end.End.{End}
 use Rattle.mscp_events.specs.declared.connection.Connection.{Connection}
 use Rattle.mscp_events.specs.declared.connection.Connection.TheVariants.{First, Second}
 use Rattle.mscp_queue.proofs.Named.{one_side}
-use Rattle.mscp_queue.proofs.Placed.{found_is}
 use Rattle.mscp_queue.specs.declared.view.Choice.{Choice}
 use Rattle.mscp_events.specs.Both.{Both, of}
 use Rattle.mscp_controller.specs.Legal.{IsLegal, IsPicked}
 use Rattle.mscp_controller.specs.Sweeping.{IsSweeping}
-use Rattle.mscp_events.specs.Settings.{Settings, IsValid}
+use Rattle.mscp_events.specs.Settings.{Settings, IsValid, credits_of}
 use Rattle.mscp_controller.specs.Calls.{AnsweredCalls}
 use Rattle.mscp_controller.specs.Controllers.{ControllersKeepThePromise, KeepsPromise}
 use Rattle.mscp_controller.specs.Headline.{Promise}
@@ -19,22 +19,24 @@ use Rattle.mscp_controller.specs.History.{Moment, Trace}
 use Rattle.mscp_controller.specs.Holdings.{Holdings}
 use Rattle.mscp_controller.specs.Holdings as holdings
 use Rattle.mscp_controller.specs.Runs.{RunsKeepThePromise}
-use Rattle.mscp_host.specs.Accounts.{Account, fresh, polls_oldest, submits}
+use Rattle.mscp_host.specs.Accounts.{Account, fresh}
+use Rattle.mscp_host.specs.Histories.{end_heard, figure_in, handed_over, is_end_of, reference}
+use Rattle.mscp_host.specs.Law.{Stands}
+use Rattle.mscp_host.proofs.Collected.{found_before, found_out}
+use Rattle.mscp_host.proofs.Promised.{start}
 use Rattle.mscp_sim.specs.declared.conversing.Turn.{Turn}
 use Rattle.mscp_sim.specs.declared.conversing.Turn.TheVariants as turns
+use Rattle.mscp_sim.specs.declared.conversing.Heard.{Heard}
 use Rattle.mscp_sim.specs.declared.conversing.Heard.TheVariants as hears
 use Rattle.mscp_sim.specs.Matches.{Flight, Match, Matches}
-use Rattle.mscp_sim.specs.Talks.{Said, Talk, handed_over, hands_over, outstanding, said, trace_of}
+use Rattle.mscp_sim.specs.Talks.{Said, Talk, heard_by, history, said, trace_of}
 use Rattle.mscp_sim.specs.Conversing.{Converses, AnswersTurn, Says}
-use Rattle.mscp_sim.specs.TwoEnds.{AreTwoEnds, IsHeard, Stands}
-use Rattle.mscp_sim.proofs.TwoEnds.Asking.{poll_turn}
+use Rattle.mscp_sim.specs.TwoEnds.{AreTwoEnds}
 use Rattle.mscp_sim.proofs.TwoEnds.Between.{Known, never_reset, never_stands}
-use Rattle.mscp_sim.proofs.TwoEnds.Taken.{take_turn}
-use Rattle.mscp_sim.proofs.TwoEnds.Outstanding.{both_true, found_below}
+use Rattle.mscp_sim.proofs.TwoEnds.Parts.{moment_is, own_part}
 use Rattle.mscp_sim.proofs.TwoEnds.Talking.{GoesTo, Kept}
 use Rattle.mscp_sim.proofs.TwoEnds.Tracing.{answered_calls, calls_of, entries_of, events_of, history_of, zipped}
-use Rattle.mscp_sim.proofs.TwoEnds.Turning.{At, Comes, Side, Turns, step_turn}
-use Rattle.mscp_sim.proofs.TwoEnds.Sent.{submit_turn}
+use Rattle.mscp_sim.proofs.TwoEnds.Turning.{At, Comes, Side, turn}
 
 -- ---- lists
 
@@ -43,19 +45,6 @@ nothing = record { turn = turns.Take First; heard = hears.Quiet; moment = None }
 
 drop_next : {X : Type 0} (j : ℕ) (xs : List X) → drop (j + 1) xs ≡ drop 1 (drop j xs)
 drop_next j xs = sym (drop-drop 1 j xs)
-
--- ---- one turn
-
-turn_of : {K : Type 0} {c : Settings} {picks : List Choice → ℕ → Type 0} {picker : K} {talk : Talk} {j : ℕ}
-    {a' : Both Account} {h' : Holdings K} → (x : Comes c picks picker talk j a' h') → (t : Turn)
-    → (said talk j).turn ≡ t → IsHeard x.hosts t (said talk j) a' → Turns c picks picker talk j a' h'
-turn_of x (turns.Submit via command) t one =
-    let a = of via x.hosts in
-    submit_turn x via command t (submits a command).0 (submits a command).1 refl one.1 one.0
-turn_of x (turns.Poll via n) t one =
-    let a = of via x.hosts in
-    poll_turn x via n t (polls_oldest a n).0 (polls_oldest a n).1 refl one.1 one.0
-turn_of x t h2 h3 = search (arith, step_turn, take_turn)
 
 -- ---- all turns
 
@@ -92,17 +81,16 @@ turns_from {K} c picks picker talk j (s ∷ rest) keeps x i l k =
       keeps = keeps (trace_of (take j talk)) x.controller x.at.reached;
       says = subst (λ q. Says picks x.hosts x.controller q r.0 r.1) (sym d.1) r.2;
     } in
-    let turn = turn_of comes (said talk j).turn refl comes.says.0 in
+    let now = turn comes in
     let t = trace_of (take (j + 1) talk) in
-    let promise = subst (Promise c) (history_of t) (keeps t r.1 turn.next.reached).promise in
+    let promise = subst (Promise c) (history_of t) (keeps t r.1 now.next.reached).promise in
     ⊎_elim
-    (λ same. subst (Known c talk) same (record { tells = turn.tells; promise = promise }))
+    (λ same. subst (Known c talk) same (record { tells = now.tells; promise = promise }))
     (λ other. turns_from c picks picker talk (j + 1) rest keeps (record {
       is = d.2;
       hosts = r.0;
       controller = r.1;
-      at =
-          turn.next;
+      at = now.next;
       goes = (x.goes.0, x.goes.1, r.3);
     }) i (omega (arith, l, other)) k)
     (cases_eq j i)
@@ -128,20 +116,17 @@ pub match_new : {K : Type 0} (c : Settings) (picker : K) → Match (new_hosts c)
 match_new c picker First = (no_flight_yet, match_first c picker)
 match_new c picker Second = (no_flight_yet, match_second c picker)
 
-side_first : {K : Type 0} (c : Settings) (picker : K) (talk : Talk)
-    → Side c First talk 0 (fresh c.credits) (holdings.fresh c picker)
-unfolding outstanding
-side_first c picker talk = search (arith, match_first c picker, false≢true)
-
-side_second : {K : Type 0} (c : Settings) (picker : K) (talk : Talk)
-    → Side c Second talk 0 (fresh c.second) (holdings.fresh c picker)
-unfolding outstanding
-side_second c picker talk = search (arith, match_second c picker, false≢true)
+side_of : {K : Type 0} (c : Settings) (picker : K) (talk : Talk) (via : Connection) (credits : ℕ)
+    → credits_of c via ≡ credits → Matches via (fresh credits) (holdings.fresh c picker) no_flight_yet
+    → Side c via talk 0 (fresh credits) (holdings.fresh c picker)
+side_of c picker talk via credits e m =
+    let s = start (credits_of c via) (history via talk) in
+    search (arith, s, found_before)
 
 side_new : {K : Type 0} (c : Settings) (picker : K) (talk : Talk) (via : Connection)
     → Side c via talk 0 (of via (new_hosts c)) (holdings.fresh c picker)
-side_new c picker talk First = side_first c picker talk
-side_new c picker talk Second = side_second c picker talk
+side_new c picker talk First = side_of c picker talk First _ refl (match_first c picker)
+side_new c picker talk Second = side_of c picker talk Second _ refl (match_second c picker)
 
 at_start : {K : Type 0} (c : Settings) (picks : List Choice → ℕ → Type 0) (picker : K) (talk : Talk)
     → At c picks picker talk 0 (new_hosts c) (holdings.fresh c picker)
@@ -163,14 +148,19 @@ whole_calls picks a a' h h' (s ∷ talk) r = calls_front picks h r.1 h' s.moment
 
 -- ---- whose end it is
 
--- what a moment hands over is of one connection
-hands_by : (via other : Connection) (r s : ℕ) (o : Option Moment) → hands_over via r o ≡ true
-    → hands_over other s o ≡ true → other ≡ via
-hands_by via other r s o h5 h6 = grind (arith, both_true, one_side, false≢true)
+one_hears : (via other : Connection) (t : Turn) (heard : Heard) (m : Option Moment)
+    → is_some (end_heard (heard_by via t heard m)) ≡ true → is_some (end_heard (heard_by other t heard m)) ≡ true
+    → other ≡ via
+one_hears via other t heard m h k = grind (arith, one_side, false≢true)
 
-handed_by : (via other : Connection) (talk : Talk) (j p q : ℕ) → handed_over via talk j ≡ Some p
-    → handed_over other talk j ≡ Some q → other ≡ via
-handed_by via other talk j p q h k = search (arith, hands_by, found_is)
+some_end : (r : ℕ) (o : Option End) → is_end_of r o ≡ true → is_some o ≡ true
+some_end r o e = grind (arith, false≢true)
+
+heard_handed : (via : Connection) (talk : Talk) (j p : ℕ) → j < length talk
+    → handed_over (history via talk) j ≡ Some p → is_some (end_heard (own_part via (said talk j))) ≡ true
+heard_handed via talk j p l e =
+    ap (λ x. is_some (end_heard x)) (sym (moment_is via talk j l)) ∙ some_end (reference (history via talk) p) _
+    (found_out (history via talk) j p _ e).1
 
 -- ---- two ends
 
@@ -207,17 +197,20 @@ two_ends {K} c picks picker old new ts v runs law n g =
       picked = subst (IsPicked c picks) whole run.picked;
       swept = λ w. subst (IsSweeping c) whole (run.swept w);
       says = λ j l. (known j l).tells.says;
+      figures = λ via j i p l h about. ap (λ m. figure_in (end_heard m)) (moment_is via talk j l)
+          ∙ (((known j l).tells.on via).figures i p h about).0;
       resets = λ j l. (known j l).tells.resets;
       no_lost = λ j l. (known j l).tells.no_lost;
       falls = λ via j i q l h a b e.
           let st = (known j l).tells.resets.0 e in
-          let same : st.0 ≡ via = handed_by via st.0 talk j q st.1.poll h st.1.handed in
-          let own = subst (λ v. Stands c v talk j) same st.1 in
+          let same : st.0 ≡ via = one_hears via st.0 (said talk j).turn (said talk j).heard (said talk j).moment
+          (heard_handed via talk j q l h) (heard_handed st.0 talk j st.1.poll l st.1.is_told.handed) in
+          let own = subst (λ v. Stands (history v talk) j) same st.1 in
           never_stands c via talk known j l i q h a b own;
       no_reset = λ b j l e.
           let both = (known j l).tells.resets.0 e in
           let via = both.0 in
           let st = both.1 in
-          let below = found_below via talk j st.poll _ st.handed in
-          never_reset c via talk known j l st (b via st.command st.poll (omega (arith, below, l)) st.about);
+          let below = found_before (history via talk) j st.poll _ st.is_told.handed in
+          never_reset c via talk known j l st (b via st.command st.poll (omega (arith, below, l)) st.is_told.about);
     }

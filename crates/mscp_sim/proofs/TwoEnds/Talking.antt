@@ -42,8 +42,7 @@ kept hosts controller talk =
 
 -- these turns go on so from the one to the other
 abbrev pub GoesTo : {K : Type 0} → (List Choice → ℕ → Type 0) → Kept K → List Turn → Kept K → Type 0
-GoesTo picks old ts new =
-    GoesOn picks old.hosts old.controller ts old.lists new.lists new.hosts new.controller
+GoesTo picks old ts new = GoesOn picks old.hosts old.controller ts old.lists new.lists new.hosts new.controller
 
 -- what was said so far
 pub record Talks {K : Type 0} (picks : K → List Choice → ℕ → Type 0) (old new : Kept K) (ts : List Turn) : Type 0 where

@@ -1,20 +1,12 @@
 -- The controller's trace is that of the calls that came to it, and what that promises.
-use Rattle.std.proofs.Common.{◌≡◌, ◌↔◌, ℕ, suc, ◌+◌, ◌<◌, ◌≤◌, Bool, true, false, cond, List, [], ◌∷◌, ◌++◌, map, take, length, refl, ap, sym, ◌∙◌, subst, arith, append-nil}
-use Rattle.std.specs.Prelude.{find, ◌||◌, zip, Contains, Option, Some, None, option_to_list}
-use Rattle.std.specs.List.{list_any}
-use Rattle.std.proofs.lemmas.Bool.{false≢true}
+use Rattle.std.proofs.Common.{◌≡◌, ℕ, ◌+◌, ◌<◌, List, [], ◌∷◌, ◌++◌, map, take, length, refl, ap, ◌∙◌, subst, arith, append-nil}
+use Rattle.std.specs.Prelude.{zip, Option, Some, None, option_to_list}
 use Rattle.std.proofs.lemmas.Grind.{flat_map-append}
-use Rattle.std.proofs.lemmas.List.{map-append, take_more, take_all}
-use Rattle.mscp_queue.specs.declared.name.Name.{Name}
-use Rattle.mscp_queue.specs.Names.{same_name}
+use Rattle.std.proofs.lemmas.List.{map-append, take_more}
 use Rattle.mscp_queue.specs.declared.view.Choice.{Choice}
 use Rattle.mscp_events.specs.declared.event.Event.{Event}
 use Rattle.mscp_controller.specs.declared.entry.Entry.{Entry}
-use Rattle.mscp_events.specs.Settings.{Settings}
 use Rattle.mscp_controller.specs.History.{Moment, Trace}
-use Rattle.mscp_controller.specs.Commands.{name, waiting}
-use Rattle.mscp_controller.specs.Figures.{figure, figure_found, figure_of}
-use Rattle.mscp_controller.specs.Headline.{Promise}
 use Rattle.mscp_controller.specs.Holdings.{Answered, Holdings}
 use Rattle.mscp_controller.specs.Calls.{AnsweredCalls, AnswersCall, Call, Plain, history}
 use Rattle.mscp_sim.specs.Talks.{Said, Talk, said, trace_of}
@@ -64,46 +56,3 @@ pub answered_calls : {K : Type 0} (picks : List Choice → ℕ → Type 0) (h h'
     → AnsweredCalls picks h (calls_of t) h' → Answered picks h (events_of t) (entries_of t) h'
 answered_calls picks h h' [] r = r
 answered_calls picks h h' (m ∷ t) r = (r.0, r.1, answered_calls picks r.0 h' t r.2)
-
--- ---- a figure
-
--- one that a test finds
-record Finds {X : Type 0} (p : X → Bool) (xs : List X) : Type 0 where
-  pub item : X
-  pub found : find p xs ≡ Some item
-  pub there : Contains xs item
-
-finds : {X Y : Type 0} (f : X → Y) (p : Y → Bool) (xs : List X) → list_any p (map f xs) ≡ true → Finds (λ x. p (f x)) xs
-finds f p [] e = absurd (false≢true e)
-finds {X} f p (x ∷ xs) e =
-    let out : (b : Bool) → p (f x) ≡ b → (b || list_any p (map f xs)) ≡ true → Finds (λ y. p (f y)) (x ∷ xs) =
-    λ b. elim b as (λ b. p (f x) ≡ b → (b || list_any p (map f xs)) ≡ true → Finds (λ y. p (f y)) (x ∷ xs)) [
-      | true ↦ λ q h. record {
-        item = x;
-        found = ap (λ b. cond b (Some x) (find (λ y. p (f y)) xs)) q;
-        there =
-            (0, omega arith, refl);
-      }
-      | false ↦ λ q h.
-          let rest = finds f p xs h in
-          let l = rest.there.1 in
-          record {
-            item = rest.item;
-            found = ap (λ b. cond b (Some x) (find (λ y. p (f y)) xs)) q ∙ rest.found;
-            there =
-                (suc rest.there.0, omega (arith, l), rest.there.2);
-          }
-    ] in
-    out (p (f x)) refl e
-
--- the figure of a name that waits is at least 1
-pub some_figure : (c : Settings) (t : Trace) (n : Name) → Promise c t
-    → list_any (λ m. same_name m n) (map (name t) (waiting t)) ≡ true → 1 ≤ figure_of c t n
-unfolding figure_of
-some_figure c t n p e =
-    let x = finds (name t) (λ m. same_name m n) (waiting t) e in
-    let whole : take (length t) t ≡ t = take_all (length t) t (omega arith) in
-    let positive = subst (λ u. (y : ℕ) → Contains (waiting u) y ↔ (1 ≤ figure c u y)) whole
-    (p.positive (length t) (omega arith)) in
-    let some : 1 ≤ figure c t x.item = (positive x.item).0 x.there in
-    subst (λ o. 1 ≤ figure_found c t o) (sym x.found) some

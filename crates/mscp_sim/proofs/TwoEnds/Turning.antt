@@ -1,46 +1,60 @@
--- One turn of a talk: what is heard is what the rules of a host say of what the talk says so far. A turn of one host
--- leaves the other's side as it was.
-use Rattle.std.proofs.Common.{◌≡◌, ◌↔◌, ℕ, ◌+◌, ◌<◌, ◌≤◌, Bool, true, false, List, take, length, ap, sym, ◌∙◌, subst, arith}
-use Rattle.std.specs.Prelude.{◌≢◌, ◌&&◌, Option, Some, None, is_some}
-use Rattle.std.proofs.Math.Bool.{and-false}
-use Rattle.std.proofs.lemmas.Bool.{false≢true, true≢false}
+-- One turn of a talk: what is heard is what the rules of a host say of what the talk says so far.
+use Rattle.std.proofs.Common.{◌≡◌, ◌↔◌, ℕ, ◌+◌, ◌<◌, ◌≤◌, Bool, true, false, List, [], ◌∷◌, map, take, length, refl, ap, sym, ◌∙◌, subst, arith}
+use Rattle.std.specs.Prelude.{◌≢◌, nat_eq, Option, Some, None, option_map, unwrap_or}
+use Rattle.std.specs.List.{list_any}
+use Rattle.std.proofs.lemmas.Bool.{and_parts, eqb-true, eq-eqb, false≢true, true_from_ne_false}
+use Rattle.mscp_packet.specs.declared.end.End.{End}
 use Rattle.mscp_events.specs.declared.connection.Connection.{Connection}
 use Rattle.mscp_events.specs.declared.connection.Connection.TheVariants.{First, Second}
-use Rattle.mscp_events.specs.declared.block.Block.{Block}
-use Rattle.mscp_queue.specs.declared.view.Choice.{Choice}
-use Rattle.mscp_events.specs.Settings.{Settings}
+use Rattle.mscp_events.specs.Settings.{Settings, credits_of}
 use Rattle.mscp_events.specs.Both.{Both, of}
-use Rattle.mscp_controller.specs.History.{Moment}
-use Rattle.mscp_controller.proofs.Promise.Sides.{queues_by}
-use Rattle.mscp_controller.specs.Commands.{sent_command}
+use Rattle.mscp_queue.specs.declared.view.Choice.{Choice}
+use Rattle.mscp_queue.specs.Kept.{names}
+use Rattle.mscp_queue.specs.Names.{name_on, same_name}
+use Rattle.mscp_queue.specs.Records.{Record}
 use Rattle.mscp_controller.specs.Calls.{AnsweredCalls}
+use Rattle.mscp_controller.specs.Commands.{name, sent_command, waiting}
 use Rattle.mscp_controller.specs.Controllers.{KeepsPromise}
-use Rattle.mscp_controller.specs.Holdings.{Holdings, fresh}
+use Rattle.mscp_controller.specs.Figures.{figure_of}
+use Rattle.mscp_controller.specs.Headline.{Promise}
+use Rattle.mscp_controller.specs.History.{Moment, Trace}
+use Rattle.mscp_controller.specs.Holdings.{Holdings, fresh, numbers, waiting_on}
+use Rattle.mscp_controller.proofs.Promise.Sides.{queues_by}
 use Rattle.mscp_host.specs.declared.news.News.TheVariants as news
-use Rattle.mscp_host.specs.Accounts.{Account}
-use Rattle.mscp_sim.specs.declared.conversing.Turn.TheVariants as turns
-use Rattle.mscp_sim.specs.declared.conversing.Heard.{Heard}
+use Rattle.mscp_host.specs.declared.submission.Submission.{Submission}
+use Rattle.mscp_host.specs.Accounts.{Account, oldest}
+use Rattle.mscp_host.specs.Histories.{History, asked_for, asks_about, end_heard, figure_in, found_stands, handed_over, in_flight, is_end_of, is_it, is_outstanding, is_poll, is_sent, moment, news_heard, reference, reference_found, reference_in, submission_at, watch_at}
+use Rattle.mscp_host.specs.Law.{Answers, Stands}
+use Rattle.mscp_host.proofs.Collected.{found_out}
+use Rattle.mscp_host.proofs.Kept.{oldest_is}
+use Rattle.mscp_host.proofs.Promised.{it_is, losses_if, resets_if}
+use Rattle.mscp_host.proofs.Received.{IsApart, flies, flight_back, flight_new}
+use Rattle.mscp_host.proofs.Stepping.{Goes, step}
 use Rattle.mscp_sim.specs.declared.conversing.Heard.TheVariants as hears
-use Rattle.mscp_sim.specs.Matches.{Flight, Matches}
-use Rattle.mscp_sim.specs.Talks.{Said, Talk, account_at, accounts_at, is_asked, is_poll, is_sent, asks_about, handed_over, hands_over, in_flight, is_outstanding, reference, said, sends, figure_told, trace_of}
-use Rattle.mscp_sim.specs.Conversing.{AnswersTurn, Says}
-use Rattle.mscp_sim.specs.TwoEnds.{IsHeard, Stands}
-use Rattle.mscp_sim.proofs.TwoEnds.Accounting.{NoEnd, account_quiet, none_handed, unsent}
-use Rattle.mscp_sim.proofs.TwoEnds.Polling.{flight_quiet, one_quiet}
-use Rattle.mscp_sim.proofs.TwoEnds.Receiving.{OnePoll}
-use Rattle.mscp_sim.proofs.TwoEnds.Serving.{steps_match}
-use Rattle.mscp_sim.proofs.TwoEnds.Tracing.{calls_of, reached_more, trace_more}
+use Rattle.mscp_sim.specs.Matches.{Flight, HasFlight, IsFlight, Match, Matches}
+use Rattle.mscp_sim.specs.Talks.{Talk, account_at, accounts_at, figure_told, history, said, trace_of}
+use Rattle.mscp_sim.specs.Conversing.{Says}
+use Rattle.mscp_sim.specs.TwoEnds.{IsHeard}
+use Rattle.mscp_sim.proofs.TwoEnds.Figured.{some_figure}
+use Rattle.mscp_sim.proofs.TwoEnds.Handing.{alone, first_is}
+use Rattle.mscp_sim.proofs.TwoEnds.Parts.{answers, moment_is, news_of, own_part, said_news}
+use Rattle.mscp_sim.proofs.TwoEnds.Sending.{told_now}
+use Rattle.mscp_sim.proofs.TwoEnds.Tracing.{calls_of, history_of, reached_more, trace_more}
+use Rattle.mscp_sim.proofs.TwoEnds.Turned.{first_of, says_keeps, sent_of, told_after, told_then}
+
+-- what is told of the poll p: this figure, which is at least 1 if its command waited then
+abbrev pub IsFigured : Settings → Connection → Talk → Flight → ℕ → Type 0
+IsFigured c via talk told p = (told.figure ≡ figure_told c via talk p) × (told.waited ≡ true → 1 ≤ told.figure)
 
 -- what the host of a connection keeps before turn j is what the talk says, and the controller holds what matches it
 pub record Side {K : Type 0} (c : Settings) (via : Connection) (talk : Talk) (j : ℕ) (a : Account) (h : Holdings K) :
     Type 0 where
   pub account : a ≡ account_at c via talk j
+  pub apart : IsApart (credits_of c via) (history via talk) j
   -- what the poll in flight is told
   pub told : Flight
   pub match : Matches via a h told
-  pub one : OnePoll via talk j
-  pub flight : (p : ℕ) → in_flight via talk j ≡ Some p
-      → (told.figure ≡ figure_told c via talk p) × (told.waited ≡ true → 1 ≤ told.figure)
+  pub flight : (p : ℕ) → in_flight (history via talk) j ≡ Some p → IsFigured c via talk told p
 
 -- what the hosts and the controller keep before turn j is what the talk says
 pub record At {K : Type 0} (c : Settings) (picks : List Choice → ℕ → Type 0) (picker : K) (talk : Talk) (j : ℕ)
@@ -61,19 +75,20 @@ pub record Comes {K : Type 0} (c : Settings) (picks : List Choice → ℕ → Ty
 
 -- what turn j says of a connection
 pub record TellsOn (c : Settings) (via : Connection) (talk : Talk) (j : ℕ) : Type 0 where
-  -- a command that is queued has another number than those that are outstanding
-  pub new : (m : Moment) → (said talk j).moment ≡ Some m → queues_by via m ≡ true → (i : ℕ) → i < j
-      → is_outstanding via talk j i ≡ true → (sent_command m).reference ≢ reference talk i
-  -- no poll is sent where one is in flight
-  pub idle : is_asked via (said talk j) ≡ true → in_flight via talk j ≡ None
-  -- what is told of a command that stands is at least 1
-  pub some : (p i : ℕ) → handed_over via talk j ≡ Some p → asks_about via talk i p ≡ true
-      → is_outstanding via talk j i ≡ true → 1 ≤ figure_told c via talk p
+  -- of its host
+  pub goes : Goes (credits_of c via) (history via talk) j (account_at c via talk (j + 1))
+  -- a command that is queued is one that its host sends
+  pub sent : (m : Moment) → (said talk j).moment ≡ Some m → queues_by via m ≡ true
+      → (is_sent (own_part via (said talk j)) ≡ true) × ((sent_command m).reference ≡ reference (history via talk) j)
+  -- an end tells the figure of its poll, which is at least 1 if the command stands
+  pub figures : (i p : ℕ) → handed_over (history via talk) j ≡ Some p → asks_about (history via talk) i p ≡ true
+      → (figure_in (end_heard (own_part via (said talk j))) ≡ Some (figure_told c via talk p))
+      × (is_outstanding (history via talk) j i ≡ true → 1 ≤ figure_told c via talk p)
 
 -- what is heard in turn j
 pub record Tells (c : Settings) (talk : Talk) (j : ℕ) : Type 0 where
   pub says : IsHeard (accounts_at c talk j) (said talk j).turn (said talk j) (accounts_at c talk (j + 1))
-  pub resets : ((said talk j).heard ≡ hears.News news.Reset) ↔ ((via : Connection) × Stands c via talk j)
+  pub resets : ((said talk j).heard ≡ hears.News news.Reset) ↔ ((via : Connection) × Stands (history via talk) j)
   pub no_lost : (said talk j).heard ≢ hears.News news.Lost
   pub on : (via : Connection) → TellsOn c via talk j
 
@@ -88,121 +103,186 @@ pub record TurnsOn {K : Type 0} (c : Settings) (via : Connection) (talk : Talk) 
   pub tells : TellsOn c via talk j
   pub next : Side c via talk (j + 1) a' h'
 
--- a command of a connection is queued at the moment, if it is one
-abbrev pub queues_in : Connection → Option Moment → Bool
-queues_in via None = false
-queues_in via (Some m) = queues_by via m
-
--- the reference number of its command
-abbrev pub named_in : Option Moment → ℕ
-named_in None = 0
-named_in (Some m) = (sent_command m).reference
-
--- ---- no news
-
-abbrev pub is_news : Heard → Bool
-is_news (hears.News n) = true
-is_news heard = false
-
--- nothing is handed over, and so no news is heard
-pub no_news : (c : Settings) (talk : Talk) (j : ℕ) → ((via : Connection) → NoEnd via talk j)
-    → is_news (said talk j).heard ≡ false
-    → ((said talk j).heard ≡ hears.News news.Reset) ↔ ((via : Connection) × Stands c via talk j)
-no_news c talk j n q = search (arith, false≢true, none_handed)
-
-pub not_lost : (talk : Talk) (j : ℕ) → is_news (said talk j).heard ≡ false → (said talk j).heard ≢ hears.News news.Lost
-not_lost talk j q e = false≢true (sym q ∙ ap is_news e)
-
--- ---- both connections
-
-pub reached_next : {K : Type 0} {c : Settings} {picks : List Choice → ℕ → Type 0} {picker : K} {talk : Talk} {j : ℕ}
-    {a' : Both Account} {h' : Holdings K} → Comes c picks picker talk j a' h'
-    → AnsweredCalls picks (fresh c picker) (calls_of (trace_of (take (j + 1) talk))) h'
-reached_next {K} {c} {picks} {picker} {talk} {j} {a'} {h'} x = grind (arith, trace_more, reached_more, calls_of)
+-- ---- what is said
 
 both_at : (c : Settings) (talk : Talk) (j : ℕ) (both : Both Account)
     → ((via : Connection) → of via both ≡ account_at c via talk j) → both ≡ accounts_at c talk j
 both_at c talk j both e = λ i. record { first = e First i; second = e Second i }
 
--- a turn, of what it says of each connection
-pub turns_of : {K : Type 0} {c : Settings} {picks : List Choice → ℕ → Type 0} {picker : K} {talk : Talk} {j : ℕ}
-    {a' : Both Account} {h' : Holdings K} → (x : Comes c picks picker talk j a' h')
-    → ((said talk j).heard ≡ hears.News news.Reset) ↔ ((via : Connection) × Stands c via talk j)
+-- the news of a connection's host are those that are heard
+resets_of : (c : Settings) (talk : Talk) (j : ℕ) (a a' : Both Account) → j < length talk
+    → IsHeard a (said talk j).turn (said talk j) a' → ((via : Connection) → TellsOn c via talk j)
+    → ((said talk j).heard ≡ hears.News news.Reset) ↔ ((via : Connection) × Stands (history via talk) j)
+resets_of c talk j a a' l says on = (
+  (λ q.
+      let s = said_news a a' (said talk j) (said talk j).turn news.Reset says q in
+      (s.0, (resets_if (history s.0 talk) j (on s.0).goes.ends).0 (ap news_heard (moment_is s.0 talk j l) ∙ s.1))),
+  (λ st. news_of st.0 (said talk j).turn _ _ news.Reset (sym (ap news_heard (moment_is st.0 talk j l))
+      ∙ (resets_if (history st.0 talk) j (on st.0).goes.ends).1 st.1)),
+)
+
+never_lost : (c : Settings) (talk : Talk) (j : ℕ) (a a' : Both Account) → j < length talk
+    → IsHeard a (said talk j).turn (said talk j) a' → ((via : Connection) → TellsOn c via talk j)
     → (said talk j).heard ≢ hears.News news.Lost
-    → ((via : Connection) → TurnsOn c via talk j (of via a') h') → Turns c picks picker talk j a' h'
-turns_of {K} {c} {picks} {picker} {talk} {j} {a'} {h'} x resets lost on =
-    let old : x.hosts ≡ accounts_at c talk j = both_at c talk j x.hosts (λ via. (x.at.side via).account) in
-    let new : a' ≡ accounts_at c talk (j + 1) = both_at c talk (j + 1) a' (λ via. (on via).next.account) in
-    search (arith, reached_next x)
+never_lost c talk j a a' l says on q =
+    let s = said_news a a' (said talk j) (said talk j).turn news.Lost says q in
+    let lost = (losses_if (history s.0 talk) j (on s.0).goes.ends).0 (ap news_heard (moment_is s.0 talk j l) ∙ s.1) in
+    let told = (on s.0).figures lost.command lost.poll lost.is_told.handed lost.is_told.about in
+    let zero : 0 ≡ figure_told c s.0 talk lost.poll = ap (λ o. unwrap_or o 0)
+    (sym lost.is_told.tells ∙ (ap (λ m. figure_in (end_heard m)) (moment_is s.0 talk j l) ∙ told.0)) in
+    let some = told.1 lost.is_told.outstanding in
+    absurd (omega (arith, zero, some))
 
--- ---- a connection of which the turn says nothing
+-- ---- a poll
 
--- what asks also sends
-pub asks_sends : (own : Bool) (heard : Heard) → (own && is_sent heard) ≡ false → (own && is_poll heard) ≡ false
-asks_sends own heard h2 = grind (arith, and-false)
+-- what the controller tells now of a number
+figure_now : {K : Type 0} (c : Settings) (via : Connection) (picks : List Choice → ℕ → Type 0) (t : Trace)
+    (h : Holdings K) (s : Submission) → KeepsPromise picks c (calls_of t) h
+    → (told_now via h s).figure ≡ figure_of c t (name_on via s.reference)
+figure_now c via picks t h s k = search (arith, history_of t)
 
-pub never_idle : (via : Connection) (talk : Talk) (j : ℕ) → is_asked via (said talk j) ≡ false
-    → is_asked via (said talk j) ≡ true → in_flight via talk j ≡ None
-never_idle via talk j q e = absurd (true≢false (sym e ∙ q))
+-- a number waits among those of its connection where its name waits
+named_on : (via : Connection) (n : ℕ) (rs : List Record) → list_any (λ x. nat_eq x n) (numbers (waiting_on via rs))
+    ≡ list_any (λ m. same_name m (name_on via n)) (names rs)
+named_on via n [] = refl
+named_on via n (r ∷ rs) = search (arith, named_on via n rs)
 
-pub none_some : (c : Settings) (via : Connection) (talk : Talk) (j : ℕ) → NoEnd via talk j → (p i : ℕ)
-    → handed_over via talk j ≡ Some p → asks_about via talk i p ≡ true → is_outstanding via talk j i ≡ true
-    → 1 ≤ figure_told c via talk p
-none_some c via talk j n p i e a o = absurd (false≢true (ap is_some (sym (none_handed via talk j n) ∙ e)))
+some_now : {K : Type 0} (c : Settings) (via : Connection) (picks : List Choice → ℕ → Type 0) (t : Trace)
+    (h : Holdings K) (s : Submission) → KeepsPromise picks c (calls_of t) h → (told_now via h s).waited ≡ true
+    → 1 ≤ figure_of c t (name_on via s.reference)
+some_now c via picks t h s k w =
+    let promise = subst (Promise c) (history_of t) k.promise in
+    let waits = subst (λ u. names h.waiting ≡ map (name u) (waiting u)) (history_of t) k.waiting in
+    some_figure c t (name_on via s.reference) promise
+    (ap (list_any (λ m. same_name m (name_on via s.reference))) (sym waits)
+    ∙ (sym (named_on via s.reference h.waiting) ∙ w))
 
--- nothing is queued in the turn
-pub unqueued : (via : Connection) (talk : Talk) (j : ℕ) → queues_in via (said talk j).moment ≡ false → (m : Moment)
-    → (said talk j).moment ≡ Some m → queues_by via m ≡ true → (i : ℕ) → i < j → is_outstanding via talk j i ≡ true
-    → (sent_command m).reference ≢ reference talk i
-unqueued via talk j n m f q i l s r = true≢false (sym q ∙ (ap (queues_in via) (sym f) ∙ n))
+-- ---- an end
 
--- no command of the connection is queued, no end of it is handed over, and its host sends nothing
-pub record IsQuiet (via : Connection) (s : Said) : Type 0 where
-  pub unqueued : queues_in via s.moment ≡ false
-  pub no_end : (r : ℕ) → hands_over via r s.moment ≡ false
-  pub unsent : sends via s ≡ false
+-- where the end is that of the poll p, it tells of its command what the poll was told
+answer_is : {K : Type 0} {c : Settings} {via : Connection} {talk : Talk} {j : ℕ} {a : Account} {h : Holdings K}
+    → (s : Side c via talk j a h) → (e : End) (rest : List End) → of via h.untaken ≡ e ∷ rest → (i p : ℕ)
+    → in_flight (history via talk) j ≡ Some p → reference (history via talk) p ≡ e.reference
+    → asked_for (history via talk) p ≡ Some i
+    → (figure_in (Some e) ≡ Some (figure_told c via talk p))
+    × (is_outstanding (history via talk) j i ≡ true → 1 ≤ figure_told c via talk p)
+answer_is {K} {c} {via} {talk} {j} {a} {h} s e rest u i p f named about =
+    let w = watch_at (history via talk) j p in
+    let es = e ∷ rest in
+    let m = subst (λ (x : Account). Matches via x h s.told) s.account s.match in
+    let flight : IsFlight es w s.told = subst (λ w. HasFlight es w s.told)
+    (ap (option_map (watch_at (history via talk) j)) f)
+    (subst (λ xs. HasFlight xs (account_at c via talk j).watch s.told) u m.flight) in
+    let first = first_is e rest w s.told flight
+    (alone via (account_at c via talk j) h s.told e rest m u).1 named in
+    let told = s.flight p f in
+    let code = ap (λ (x : End). x.code) (sym first.1) ∙ flight.code in
+    let body = ap (λ (x : End). x.body) (sym first.1) ∙ flight.body in (
+      rw (eq-eqb e.code 0x82 code, body) (ap Some told.0),
+      λ st. subst (λ k. 1 ≤ k) told.0 (told.1 (true_from_ne_false s.told.waited (λ q. false≢true
+          (ap (list_any (λ (x : End). nat_eq x.reference w.polled)) (sym first.0)
+          ∙ flight.ended (ap (found_stands (history via talk) j) about ∙ st) q)))),
+    )
 
--- its host keeps what it kept then
-pub quiet : {K : Type 0} (c : Settings) (via : Connection) (talk : Talk) (j : ℕ) (a a' : Account) (h h' : Holdings K)
-    → (x : Side c via talk j a h) → IsQuiet via (said talk j) → a' ≡ a → Matches via a h' x.told
-    → TurnsOn c via talk j a' h'
-quiet {K} c via talk j a a' h h' x q e m =
-    grind (arith, unqueued, none_some, account_quiet, one_quiet, flight_quiet, never_idle, asks_sends)
+some_end : (r : ℕ) (o : Option End) → is_end_of r o ≡ true → (e : End) × (o ≡ Some e) × (r ≡ e.reference)
+some_end r None h = absurd (false≢true h)
+some_end r (Some e) h = (e, refl, eqb-true r e.reference h)
 
--- ---- a step
+-- ---- the turn
 
-pub step_turn : {K : Type 0} {c : Settings} {picks : List Choice → ℕ → Type 0} {picker : K} {talk : Talk} {j : ℕ}
-    {a' : Both Account} {h' : Holdings K} → (x : Comes c picks picker talk j a' h') → (k : Block)
-    → (said talk j).turn ≡ turns.Step k → Turns c picks picker talk j a' h'
-step_turn {K} {c} {picks} {picker} {talk} {j} {a'} {h'} x k t =
-    let one : IsHeard x.hosts (turns.Step k) (said talk j) a' =
-    subst (λ u. IsHeard x.hosts u (said talk j) a') t x.says.0 in
-    let steps = subst (λ o. AnswersTurn picks x.controller o h') one.2 x.says.1 in
-    let n : (via : Connection) → NoEnd via talk j = λ via r. ap (hands_over via r) one.2 in
-    turns_of x (no_news c talk j n (ap is_news one.1)) (not_lost talk j (ap is_news one.1))
-    (λ via. quiet c via talk j (of via x.hosts) (of via a') x.controller h' (x.at.side via)
-    (record {
-      unqueued = ap (queues_in via) one.2;
-      no_end = n via;
-      unsent = unsent via (said talk j) (ap is_sent one.1);
-    }) (ap (of via) one.3)
-    (steps_match via picks (of via x.hosts) x.controller h' (x.at.side via).told k one.0 steps (x.at.side via).match))
+module _ {K : Type 0} {c : Settings} {picks : List Choice → ℕ → Type 0} {picker : K} {talk : Talk} {j : ℕ}
+    {a' : Both Account} {h' : Holdings K} (x : Comes c picks picker talk j a' h') where
+  reached_next : AnsweredCalls picks (fresh c picker) (calls_of (trace_of (take (j + 1) talk))) h'
+  reached_next = grind (arith, trace_more, reached_more, calls_of)
 
--- ---- nothing comes to the controller
+  match_at : Match x.hosts x.controller
+  match_at via = ((x.at.side via).told, (x.at.side via).match)
 
-pub kept_back : {K : Type 0} {c : Settings} {picks : List Choice → ℕ → Type 0} {picker : K} {talk : Talk} {j : ℕ}
-    {a' : Both Account} {h' : Holdings K} → (x : Comes c picks picker talk j a' h') → (said talk j).moment ≡ None
-    → is_sent (said talk j).heard ≡ false → is_news (said talk j).heard ≡ false → a' ≡ x.hosts
-    → Turns c picks picker talk j a' h'
-kept_back {K} {c} {picks} {picker} {talk} {j} {a'} {h'} x none silent quiet_news e =
-    let left : h' ≡ x.controller = subst (λ o. AnswersTurn picks x.controller o h') none x.says.1 in
-    let n : (via : Connection) → NoEnd via talk j = λ via r. ap (hands_over via r) none in
-    turns_of x (no_news c talk j n quiet_news) (not_lost talk j quiet_news)
-    (λ via. quiet c via talk j (of via x.hosts) (of via a') x.controller h' (x.at.side via)
-    (record {
-      unqueued = ap (queues_in via) none;
-      no_end = n via;
-      unsent = unsent via (said talk j) silent;
-    }) (ap (of via) e)
-    (subst (λ (y : Holdings K). Matches via (of via x.hosts) y (x.at.side via).told) (sym left)
-    (x.at.side via).match))
+  -- a turn, of what it says of each connection
+  turns_of : ((via : Connection) → TurnsOn c via talk j (of via a') h') → Turns c picks picker talk j a' h'
+  turns_of on =
+      let old : x.hosts ≡ accounts_at c talk j = both_at c talk j x.hosts (λ via. (x.at.side via).account) in
+      let new : a' ≡ accounts_at c talk (j + 1) = both_at c talk (j + 1) a' (λ via. (on via).next.account) in
+      let tells = λ (via : Connection). (on via).tells in
+      record {
+        tells = record {
+          says = subst (λ a. IsHeard a (said talk j).turn (said talk j) (accounts_at c talk (j + 1))) old
+              (subst (IsHeard x.hosts (said talk j).turn (said talk j)) new x.says.0);
+          resets = resets_of c talk j x.hosts a' x.inside x.says.0 tells;
+          no_lost = never_lost c talk j x.hosts a' x.inside x.says.0 tells;
+          on = tells;
+        };
+        next = record { side = λ via. (on via).next; reached = reached_next };
+      }
+
+  -- what is known of one connection: its history is h, and the turn is this moment of it
+  module _ (via : Connection) where
+    abbrev h : History
+    h = history via talk
+
+    at : moment h j ≡ own_part via (said talk j)
+    at = moment_is via talk j x.inside
+
+    goes_of : Goes (credits_of c via) h j (of via a')
+    goes_of = step (credits_of c via) h j (x.at.side via).apart (of via a') _ at
+        (subst (λ a. Answers a (own_part via (said talk j)) (of via a')) (x.at.side via).account
+        (answers x.hosts a' (said talk j) (said talk j).turn x.says.0 via))
+
+    -- what the poll of this turn is told
+    told_figure : (i : ℕ) → asked_for h j ≡ Some i
+        → IsFigured c via talk (told_then true (oldest (of via x.hosts)) via x.controller (x.at.side via).told) j
+    told_figure i about =
+        let t = trace_of (take j talk) in
+        let s = submission_at h j i in
+        let old : oldest (of via x.hosts) ≡ Some s = ap oldest (x.at.side via).account
+        ∙ (oldest_is (credits_of c via) h j ∙ ap (option_map (submission_at h j)) about) in
+        let figure = figure_now c via picks t x.controller s x.keeps in
+        rw old (
+          figure ∙ ap (λ o. figure_of c t (name_on via (reference_found h o))) (sym about),
+          λ w. subst (λ y. 1 ≤ y) (sym figure) (some_now c via picks t x.controller s x.keeps w),
+        )
+
+    flight_then : (b : Bool) → is_poll (own_part via (said talk j)) ≡ b → (p : ℕ) → in_flight h (j + 1) ≡ Some p
+        → IsFigured c via talk (told_then b (oldest (of via x.hosts)) via x.controller (x.at.side via).told) p
+    flight_then true n p f =
+        subst (IsFigured c via talk _)
+        (sym (flight_new (credits_of c via) h j p goes_of.apart (ap is_poll at ∙ n) f))
+        (told_figure (goes_of.polls (ap is_poll at ∙ n)).1 (goes_of.polls (ap is_poll at ∙ n)).2)
+    flight_then false n p f = (x.at.side via).flight p
+        (flight_back (credits_of c via) h j p (x.at.side via).apart (ap is_poll at ∙ n) f)
+
+    figures_of : (i p : ℕ) → handed_over h j ≡ Some p → asks_about h i p ≡ true
+        → (figure_in (end_heard (own_part via (said talk j))) ≡ Some (figure_told c via talk p))
+        × (is_outstanding h j i ≡ true → 1 ≤ figure_told c via talk p)
+    figures_of i p f about =
+        let side = x.at.side via in
+        let own = found_out h j p _ f in
+        let end = some_end (reference h p) _ own.1 in
+        let heard = ap end_heard (sym at) ∙ end.1 in
+        let first = first_of picks x.hosts a' x.controller h' (said talk j) x.says match_at via end.0 heard in
+        let parts = and_parts (is_poll (moment h p)) (is_it i (asked_for h p)) about in
+        let told = answer_is side end.0 first.0 first.1 i p (flies (credits_of c via) h j p side.apart own.0 parts.0)
+        end.2 (it_is i (asked_for h p) parts.1) in
+        (ap figure_in heard ∙ told.0, told.1)
+
+    turn_on : TurnsOn c via talk j (of via a') h'
+    turn_on = record {
+      tells = record {
+        goes = subst (Goes (credits_of c via) h j) goes_of.kept goes_of;
+        sent = λ m f q.
+            let by = sent_of x.hosts a' x.controller (said talk j) (said talk j).turn x.says.0 x.says.2 match_at
+            via m f q in (by.0, by.1 ∙ sym (ap reference_in at));
+        figures = figures_of;
+      };
+      next = record {
+        account = goes_of.kept;
+        apart = goes_of.apart;
+        told = told_after x.hosts x.controller (said talk j) (said talk j).turn via (x.at.side via).told;
+        match = says_keeps picks x.hosts a' x.controller h' (said talk j) x.says via (x.at.side via).told
+            (x.at.side via).match;
+        flight = flight_then _ refl;
+      };
+    }
+
+  pub turn : Turns c picks picker talk j a' h'
+  turn = turns_of turn_on

@@ -26,7 +26,8 @@ use Rattle.mscp_host.specs.declared.news.News.TheVariants as news
 use Rattle.mscp_sim.specs.declared.conversing.Turn.TheVariants as turns
 use Rattle.mscp_sim.specs.declared.conversing.Heard.{Heard}
 use Rattle.mscp_sim.specs.declared.conversing.Heard.TheVariants as hears
-use Rattle.mscp_sim.specs.Talks.{Said, Talk, account_at, figure_told, handed_over, outstanding}
+use Rattle.mscp_host.specs.Histories.{handed_over, outstanding}
+use Rattle.mscp_sim.specs.Talks.{Said, Talk, account_at, figure_told, history}
 use Rattle.mscp_controller.proofs.Bridge.Legals.{answers_by}
 
 -- ---- short words
@@ -101,9 +102,9 @@ second_told = refl
 
 handed :
     -- the first end is that of the first host's poll, and none of the second's, though that has the same number
-    (handed_over First paired 7 ≡ Some 5)
-    × (handed_over Second paired 7 ≡ None)
-    × (handed_over Second paired 8 ≡ Some 6)
+    (handed_over (history First paired) 7 ≡ Some 5)
+    × (handed_over (history Second paired) 7 ≡ None)
+    × (handed_over (history Second paired) 8 ≡ Some 6)
 unfolding outstanding
 handed = (refl, refl, refl)
 

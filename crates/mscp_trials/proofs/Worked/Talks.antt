@@ -1,5 +1,5 @@
 -- Literal talks of the first host alone, worked by hand: what stands there, and what it keeps.
-use Rattle.std.proofs.Common.{◌≡◌, ◌≤◌, ℕ, true, false, [], ◌∷◌, ◌++◌, Bool, refl, ap, sym, subst, arith}
+use Rattle.std.proofs.Common.{◌≡◌, ℕ, true, false, [], ◌∷◌, ◌++◌, Bool, refl, ap, sym, subst, arith}
 use Rattle.std.specs.Prelude.{Option, Some, None, unwrap_or}
 use Rattle.std.proofs.lemmas.Bool.{eqb-true, false≢true}
 use Rattle.mscp_events.specs.declared.connection.Connection.TheVariants.{First}
@@ -15,8 +15,10 @@ use Rattle.mscp_trials.proofs.Worked.Literals.{answered, moved, onlined, queued,
 use Rattle.mscp_host.specs.declared.news.News.TheVariants as news
 use Rattle.mscp_sim.specs.declared.conversing.Turn.TheVariants as turns
 use Rattle.mscp_sim.specs.declared.conversing.Heard.TheVariants as hears
-use Rattle.mscp_sim.specs.Talks.{Said, Talk, account_at, accounts_at, asks_about, figure_told, is_outstanding, last_answer, outstanding, said}
-use Rattle.mscp_sim.specs.TwoEnds.{IsHeard, Stands}
+use Rattle.mscp_host.specs.Histories.{asks_about, is_outstanding, last_told, outstanding}
+use Rattle.mscp_host.specs.Law.{Stands}
+use Rattle.mscp_sim.specs.Talks.{Said, Talk, account_at, accounts_at, figure_told, history, said}
+use Rattle.mscp_sim.specs.TwoEnds.{IsHeard}
 use Rattle.mscp_controller.proofs.Bridge.Legals.{answers_by}
 
 -- ---- short words
@@ -74,17 +76,15 @@ first_told : figure_told (settings 4 2) First standing 4 ≡ 18
 unfolding answers_by outstanding
 first_told = refl
 
-it_stands : Stands (settings 4 2) First standing 7
-unfolding answers_by outstanding
+it_stands : Stands (history First standing) 7
+unfolding outstanding
 it_stands = record {
   poll = 6;
   command = 3;
+  figure = 18;
   last = 18;
-  handed = refl;
-  about = refl;
-  outstanding = refl;
-  told =
-      refl;
+  is_told = record { handed = refl; about = refl; outstanding = refl; tells = refl };
+  before = refl;
   not_less = omega arith;
 }
 
@@ -118,30 +118,33 @@ second_told = refl
 
 third_told_and_on :
     (figure_told (settings 4 2) First moving 10 ≡ 0)
-    × (last_answer (settings 4 2) First moving 8 3 ≡ Some 18)
+    × (last_told (history First moving) 8 3 ≡ Some 18)
 unfolding answers_by outstanding
 third_told_and_on = (refl, refl)
 
 -- the second answer doesn't stand: 1 is less than 18
-falls : Stands (settings 4 2) First moving 8 → ⊥
-unfolding answers_by outstanding
+falls : Stands (history First moving) 8 → ⊥
+unfolding outstanding
 falls st =
-    let poll : st.poll ≡ 7 = sym (ap (λ o. unwrap_or o 0) st.handed) in
+    let h = history First moving in
+    let poll : st.poll ≡ 7 = sym (ap (λ o. unwrap_or o 0) st.is_told.handed) in
     let command : st.command ≡ 3 = sym (eqb-true 3 st.command
-    (subst (λ p. asks_about First moving st.command p ≡ true) poll st.about)) in
-    let last : 18 ≡ st.last = ap (λ o. unwrap_or o 0)
-    (subst (λ i. last_answer (settings 4 2) First moving 8 i ≡ Some st.last) command st.told) in
-    let low : st.last ≤ 1 = subst (λ p. st.last ≤ figure_told (settings 4 2) First moving p) poll st.not_less in
-    omega (arith, last, low)
+    (subst (λ p. asks_about h st.command p ≡ true) poll st.is_told.about)) in
+    let last : 18 ≡ st.last =
+    ap (λ o. unwrap_or o 0) (subst (λ i. last_told h 8 i ≡ Some st.last) command st.before) in
+    let figure : 1 ≡ st.figure = ap (λ o. unwrap_or o 0) st.is_told.tells in
+    let low = st.not_less in
+    omega (arith, last, figure, low)
 
 -- and the third neither, which comes after the command's end
-late : Stands (settings 4 2) First moving 12 → ⊥
-unfolding answers_by outstanding
+late : Stands (history First moving) 12 → ⊥
+unfolding outstanding
 late st =
-    let poll : st.poll ≡ 10 = sym (ap (λ o. unwrap_or o 0) st.handed) in
+    let h = history First moving in
+    let poll : st.poll ≡ 10 = sym (ap (λ o. unwrap_or o 0) st.is_told.handed) in
     let command : st.command ≡ 3 = sym (eqb-true 3 st.command
-    (subst (λ p. asks_about First moving st.command p ≡ true) poll st.about)) in
-    false≢true (subst (λ i. is_outstanding First moving 12 i ≡ true) command st.outstanding)
+    (subst (λ p. asks_about h st.command p ≡ true) poll st.is_told.about)) in
+    false≢true (subst (λ i. is_outstanding h 12 i ≡ true) command st.is_told.outstanding)
 
 -- when the third answer comes the READ is outstanding no more
 kept_late : account_at (settings 4 2) First moving 12 ≡ record {
@@ -182,7 +185,7 @@ again =
 
 untold_and_on :
     -- of the second nothing was told yet
-    (last_answer (settings 4 2) First again 13 10 ≡ None)
+    (last_told (history First again) 13 10 ≡ None)
     -- though the figure is the one that was last told of the first
     × (account_at (settings 4 2) First again 13 ≡ record {
       credits = 4;

@@ -1,14 +1,15 @@
-use Rattle.std.proofs.Common.{◌≡◌, ◌<◌, ◌^◌, ap, sym, ◌∙◌, refl, subst, rules}
-use Rattle.std.specs.Prelude.{is_ok, Ok, Err}
+use Rattle.std.proofs.Common.{◌≡◌, ◌<◌, ◌^◌, ap, sym, ◌∙◌, refl, rules}
+use Rattle.std.specs.Prelude.{is_ok, None, Some, Ok}
 use Rattle.std.proofs.lemmas.Bool.{false≢true}
 use Rattle.mscp_events.specs.declared.event.Event.TheVariants as events
-use Rattle.mscp_events.specs.Both.{Both, of, put}
+use Rattle.mscp_controller.specs.declared.entry.Entry.TheVariants as entries
+use Rattle.mscp_sim.specs.declared.conversing.Turn.TheVariants as turns
+use Rattle.mscp_sim.specs.declared.conversing.Heard.TheVariants as hears
+use Rattle.mscp_events.specs.Both.{of}
 use Rattle.mscp_controller.specs.Holdings.{after_message, answer_to_message}
-use Rattle.mscp_host.specs.Accounts.{Account, submits}
-use Rattle.mscp_sim.specs.Matches.{Match}
-use Rattle.mscp_sim.proofs.TwoEnds.Matched.{message_match}
-use Rattle.mscp_sim.proofs.TwoEnds.Sides.{put_own}
-use Rattle.mscp_sim.proofs.TwoEnds.Submitting.{not_refused, submits_kept, submits_match}
+use Rattle.mscp_host.specs.Accounts.{submits}
+use Rattle.mscp_sim.proofs.TwoEnds.Submitting.{not_refused, submits_match}
+use Rattle.mscp_sim.proofs.TwoEnds.Turned.{with_match}
 use Rattle.mscp_sim.proofs.conversing.submit.Goals as goal
 
 pub unreachable-requires : goal.unreachable-requires
@@ -30,46 +31,34 @@ pub returns-in-Err : goal.returns-in-Err
 returns-in-Err g c =
     let number : c.args.command.reference < 2 ^ 32 = search rules in
     let unit : c.args.command.unit < 2 ^ 16 = search rules in
-    let via = c.args.connection in
-    let hosts = c.args.hosts.now in
-    let a = of via hosts in
-    let kept = (submits a c.args.command).1 in
-    let answer : (submits a c.args.command).0 ≡ Err c.in-Err.fault = sym c.submit.ensures.answer ∙ c.in-Err.is in
-    let e : submits a c.args.command ≡ (Err c.in-Err.fault, kept) = λ i. (answer i, kept) in
-    let left = c.submit.ensures.after
-    ∙ (ap (λ y. put via y hosts) (submits_kept a c.args.command c.in-Err.fault kept e) ∙ put_own via hosts) in (
-      (
-        (rw answer (refl, refl), c.submit.ensures.after),
-        refl,
-        (number, unit),
-      ),
-      subst (λ (y : Both Account). Match y c.args.controller.now) (sym left) c.requires,
-    )
+    let answer = sym c.submit.ensures.answer ∙ c.in-Err.is in
+    with_match (g.K.Picker.picks c.args.controller.now.picker) c.args.hosts.now c.submit.new.self c.args.controller.now
+    c.args.controller.now
+    (record {
+      turn = turns.Submit c.args.connection c.args.command;
+      heard = hears.Refused c.in-Err.fault;
+      moment = None;
+    }) ((rw answer (refl, refl), c.submit.ensures.after), refl, (number, unit)) c.requires
 
 pub returns-in-Ok-send : goal.returns-in-Ok-send
 returns-in-Ok-send g c =
     let number : c.args.command.reference < 2 ^ 32 = search rules in
     let unit : c.args.command.unit < 2 ^ 16 = search rules in
     let via = c.args.connection in
-    let hosts = c.args.hosts.now in
-    let h = c.args.controller.now in
-    let a = of via hosts in
-    let kept = (submits a c.args.command).1 in
-    let ok : (submits a c.args.command).0 ≡ Ok c.in-Ok.message = sym c.submit.ensures.answer ∙ c.in-Ok.is in
-    let e : submits a c.args.command ≡ (Ok c.in-Ok.message, kept) = λ i. (ok i, kept) in
-    let told = c.requires via in
-    let x = submits_match via a h told.0 c.args.command c.in-Ok.message kept number unit
-    told.1 e in
+    let answer = sym c.submit.ensures.answer ∙ c.in-Ok.is in
     let event = c.event_of.ensures ∙ ap (λ b. events.Send via (record { items = b })) c.deref-in-Ok-send.ensures.0 in
-    let sent = sym c.in-Ok-send.is ∙ (c.send.ensures.answer ∙ ap (answer_to_message via h) c.deref.ensures.0) in
-    let after = c.send.ensures.after ∙ ap (after_message via h) c.deref.ensures.0 in
-    let match = message_match via hosts h c.send.new.self kept c.in-Ok.message.items c.requires
-    (told.0, rw after x.match) after in
-    rw event (
-      (
-        (rw ok (c.in-Ok-send.sent, refl, refl), c.submit.ensures.after),
-        (refl, sent, after),
-        (number, unit),
-      ),
-      subst (λ (y : Both Account). Match y c.send.new.self) (sym c.submit.ensures.after) match,
-    )
+    let sent = sym c.in-Ok-send.is
+    ∙ (c.send.ensures.answer ∙ ap (answer_to_message via c.args.controller.now) c.deref.ensures.0) in
+    let after = c.send.ensures.after ∙ ap (after_message via c.args.controller.now) c.deref.ensures.0 in
+    rw event (with_match (g.K.Picker.picks c.args.controller.now.picker) c.args.hosts.now c.submit.new.self
+    c.args.controller.now c.send.new.self
+    (record {
+      turn = turns.Submit via c.args.command;
+      heard = hears.Submitted c.in-Ok-send.sent;
+      moment = Some
+          (events.Send via (record { items = c.in-Ok.message.items }), entries.Sent via (Ok c.in-Ok-send.sent));
+    }) (
+      (rw answer (c.in-Ok-send.sent, refl, refl), c.submit.ensures.after),
+      (refl, sent, after),
+      (number, unit),
+    ) c.requires)

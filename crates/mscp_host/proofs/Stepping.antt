@@ -1,0 +1,237 @@
+-- One moment more: what the list says, and what the host says of an end.
+use Rattle.std.proofs.Common.{◌≡◌, ℕ, ◌+◌, Bool, true, false, List, [], ◌∷◌, ◌++◌, refl, ap, sym, ◌∙◌, subst, arith}
+use Rattle.std.specs.Prelude.{find, nat_eq, if◌then◌else◌, Option, Some, None, is_some, option_map, Result, Ok, Err, is_ok, unwrap_or}
+use Rattle.std.specs.List.{list_any}
+use Rattle.std.proofs.lemmas.Bool.{eq-eqb, false≢true, true≢false}
+use Rattle.arrayvec.specs.ArrayVec.{ArrayVec}
+use Rattle.mscp_packet.specs.declared.command.Command.{Command}
+use Rattle.mscp_packet.specs.declared.end.End.{End}
+use Rattle.mscp_packet.specs.declared.reading.EndFault.{EndFault}
+use Rattle.mscp_packet.specs.Commands.{opcode_byte}
+use Rattle.mscp_host.specs.declared.news.HostFault.{HostFault}
+use Rattle.mscp_host.specs.declared.news.News.{News}
+use Rattle.mscp_host.specs.declared.news.Poll.{Poll}
+use Rattle.mscp_host.specs.declared.news.Poll.TheVariants as polls
+use Rattle.mscp_host.specs.declared.submission.Submission.{Submission}
+use Rattle.mscp_host.specs.Accounts as host
+use Rattle.mscp_host.specs.Accounts.{Account, answered, asks, asks_unless, end_in, has_reference, heard, heard_in, heard_of, is_about_polled, news_with, oldest, poll_of, polls_oldest, received, submission_of, submits, submits_unless, submitted, watching}
+use Rattle.mscp_host.specs.Apart.{are_apart}
+use Rattle.mscp_host.specs.Histories.{Moment, Submit, Ask, Receive, Other, History, account_at, asked_for, end_heard, end_or_none, handed_over, is_end_of, in_flight, is_outstanding, is_poll, is_sent, moment, news_heard, outstanding, reference, reference_in, submission_at, watch_at}
+use Rattle.mscp_host.specs.Law.{Answers, IsHeard}
+use Rattle.mscp_host.proofs.Apart.{apart_more, apart_without}
+use Rattle.mscp_host.proofs.Collected.{each_out, one_more}
+use Rattle.mscp_host.proofs.Kept.{account_asked, account_quiet, account_submitted, polls_of}
+use Rattle.mscp_host.proofs.Lists.{any_map, find_map, none_any, none_found}
+use Rattle.mscp_host.proofs.Received.{Hears, IsApart, account_received, apart_with, says_is}
+use Rattle.mscp_host.proofs.Told.{not_refused}
+
+-- what is known of a moment, after which the host keeps this
+pub record Goes (credits : ℕ) (h : History) (j : ℕ) (new : Account) : Type 0 where
+  pub kept : new ≡ account_at credits h (j + 1)
+  pub apart : IsApart credits h (j + 1)
+  pub ends : (n : News) → news_heard (moment h j) ≡ Some n → IsHeard h j n
+  pub polls : is_poll (moment h j) ≡ true → (in_flight h j ≡ None) × (i : ℕ) × (asked_for h j ≡ Some i)
+
+-- ---- nothing is sent, and no end is heard
+
+no_end : (m : Moment) → news_heard m ≡ None → end_heard m ≡ None
+no_end m e = grind (arith, true≢false)
+
+no_poll : (m : Moment) → is_sent m ≡ false → is_poll m ≡ false
+no_poll m e = grind (arith, true≢false)
+
+-- nothing is in flight where nothing is watched
+idle_of : (h : History) (j : ℕ) (o : Option ℕ) → is_some (option_map (watch_at h j) o) ≡ false → o ≡ None
+idle_of h j o e = grind (arith, true≢false)
+
+-- an end that isn't refused
+record Accepts (a : Account) (b : List ℕ) (n : News) (new : Account) : Type 0 where
+  end : End
+  submission : Submission
+  read : end_in b ≡ Ok end
+  found : find (has_reference end.reference) a.outstanding ≡ Some submission
+  about : is_about_polled a.watch (answered a.watch end) ≡ true
+  says : n ≡ news_with a end (answered a.watch end)
+  kept : new ≡ received a end
+
+accepts_found : (a : Account) (b : List ℕ) (n : News) (new : Account) (e : End) (o : Option Submission)
+    → end_in b ≡ Ok e → find (has_reference e.reference) a.outstanding ≡ o → heard_of a e o ≡ (Ok n, new)
+    → Accepts a b n new
+accepts_found a b n new e None r f h = absurd (false≢true (ap (λ p. is_ok p.0) h))
+accepts_found a b n new e (Some s) r f h = grind (arith, false≢true)
+
+accepts : (a : Account) (b : List ℕ) (n : News) (new : Account) (r : Result End EndFault) → end_in b ≡ r
+    → heard_in a r ≡ (Ok n, new) → Accepts a b n new
+accepts a b n new (Err fault) r h = absurd (false≢true (ap (λ p. is_ok p.0) h))
+accepts a b n new (Ok e) r h = accepts_found a b n new e _ r refl h
+
+refused_of : (a : Account) (fault : HostFault) (new : Account) (e : End) (o : Option Submission)
+    → heard_of a e o ≡ (Err fault, new) → new ≡ a
+refused_of a fault new e o h = grind (arith, true≢false)
+
+refused : (a : Account) (fault : HostFault) (new : Account) (r : Result End EndFault)
+    → heard_in a r ≡ (Err fault, new) → new ≡ a
+refused a fault new (Err f) h = sym (ap (λ p. p.1) h)
+refused a fault new (Ok e) h = refused_of a fault new e _ h
+
+-- the command whose end it is
+handed_of : (h : History) (j : ℕ) (e : End) (s : Submission) (o : Option ℕ)
+    → find (λ i. nat_eq (reference h i) e.reference) (outstanding h j) ≡ o
+    → option_map (submission_at h j) o ≡ Some s → end_heard (moment h j) ≡ Some e → (p : ℕ) × (handed_over h j ≡ Some p)
+handed_of h j e s None f q r = absurd (false≢true (ap is_some q))
+handed_of h j e s (Some p) f q r = (p, ap (λ o. find (λ i. is_end_of (reference h i) o) (outstanding h j)) r ∙ f)
+
+-- ---- one moment
+
+module _ (credits : ℕ) (h : History) (j : ℕ) (a : IsApart credits h j) where
+  -- nothing new is outstanding
+  still_apart : is_sent (moment h j) ≡ false
+      → are_apart (account_at credits h (j + 1)).outstanding ≡ true → IsApart credits h (j + 1)
+  still_apart s subs = record {
+    submissions = subs;
+    names = one_more _ h j (λ x y r. sym r) (λ q. absurd (false≢true (sym s ∙ q))) a.names;
+    polls = one_more _ h j (λ x y r. (r.1, r.0)) (λ q. absurd (false≢true (sym s ∙ q))) a.polls;
+  }
+
+  quiet : (new : Account) → is_sent (moment h j) ≡ false
+      → news_heard (moment h j) ≡ None → new ≡ account_at credits h j → Goes credits h j new
+  quiet new s n e =
+      let same = account_quiet credits h j (no_end (moment h j) n) s in
+      record {
+        kept = e ∙ sym same;
+        apart = still_apart s (ap (λ (x : Account). are_apart x.outstanding) same ∙ a.submissions);
+        ends = λ m q. absurd (true≢false (ap is_some (sym q ∙ n)));
+        polls = λ q. absurd (false≢true (sym (no_poll (moment h j) s) ∙ q));
+      }
+
+  -- ---- a command is sent
+
+  -- its number is new
+  new_name : list_any (has_reference (reference h j)) (account_at credits h j).outstanding ≡ false
+      → (x : ℕ) → is_outstanding h j x ≡ true → reference h x ≡ reference h j → ⊥
+  new_name none x e r =
+      let all = none_any _ (outstanding h j)
+      (sym (any_map (submission_at h j) (has_reference (reference h j)) (outstanding h j)) ∙ none) in
+      true≢false (sym (eq-eqb _ _ r) ∙ each_out (λ y. nat_eq (reference h y) (reference h j) ≡ false) h j x all e)
+
+  apart_sent : (s : Submission) → list_any (has_reference (reference h j)) (account_at credits h j).outstanding ≡ false
+      → s.reference ≡ reference h j
+      → (account_at credits h (j + 1)).outstanding ≡ (account_at credits h j).outstanding ++ s ∷ []
+      → (is_poll (moment h j) ≡ true → in_flight h j ≡ None) → IsApart credits h (j + 1)
+  apart_sent s none r more idle = record {
+    submissions = ap are_apart more ∙ apart_more s (account_at credits h j).outstanding a.submissions
+        (subst (λ n. list_any (has_reference n) (account_at credits h j).outstanding ≡ false) (sym r) none);
+    names = one_more _ h j (λ x y r. sym r) (λ q. new_name none) a.names;
+    polls = one_more _ h j (λ x y r. (r.1, r.0)) (λ q x e r. true≢false (sym r.0
+        ∙ each_out (λ y. is_poll (moment h y) ≡ false) h j x (none_found _ (outstanding h j) (idle r.1)) e)) a.polls;
+  }
+
+  submit_goes : (command : Command) (answer : Result (ArrayVec ℕ) HostFault)
+      (new : Account) (o : Option HostFault) → moment h j ≡ Submit command answer
+      → host.refusal (account_at credits h j) (opcode_byte command.order) command.reference ≡ o
+      → submits_unless (account_at credits h j) command o ≡ (answer, new) → Goes credits h j new
+  submit_goes command answer new (Some fault) m r e =
+      let err : Err fault ≡ answer = ap (λ p. p.0) e in
+      quiet new (ap is_sent m ∙ ap (λ x. is_sent (Submit command x)) (sym err)) (ap news_heard m)
+      (sym (ap (λ p. p.1) e))
+  submit_goes command answer new None m r e =
+      let ok = ap (λ p. p.0) e in
+      let sent = m ∙ ap (Submit command) (sym ok) in
+      let after = account_submitted credits h j command _ sent in
+      let none = (not_refused (account_at credits h j) (opcode_byte command.order) command.reference r).2 in
+      record {
+        kept = sym (ap (λ p. p.1) e) ∙ sym after;
+        apart = apart_sent (submission_of command)
+            (subst (λ n. list_any (has_reference n) (account_at credits h j).outstanding ≡ false)
+            (sym (ap reference_in sent)) none) (sym (ap reference_in sent)) (ap (λ (x : Account). x.outstanding) after)
+            (λ q. absurd (false≢true (sym (ap is_poll sent) ∙ q)));
+        ends = λ n q. absurd (false≢true (ap is_some (sym (ap news_heard sent) ∙ q)));
+        polls = λ q. absurd (false≢true (sym (ap is_poll sent) ∙ q));
+      }
+
+  -- ---- a poll
+
+  ask_goes : (n : ℕ) (s : Submission) (answer : Result Poll HostFault) (new : Account)
+      (o : Option HostFault) → moment h j ≡ Ask n answer → in_flight h j ≡ None
+      → oldest (account_at credits h j) ≡ Some s
+      → host.refusal (account_at credits h j) (opcode_byte (poll_of n s).order) n ≡ o
+      → asks_unless (account_at credits h j) n s o ≡ (answer, new) → Goes credits h j new
+  ask_goes n s answer new (Some fault) m idle old r e =
+      let err : Err fault ≡ answer = ap (λ p. p.0) e in
+      quiet new (ap is_sent m ∙ ap (λ x. is_sent (Ask n x)) (sym err)) (ap news_heard m)
+      (sym (ap (λ p. p.1) e))
+  ask_goes n s answer new None m idle old r e =
+      let ok = ap (λ p. p.0) e in
+      let sent = m ∙ ap (Ask n) (sym ok) in
+      let after = account_asked credits h j n s _ sent idle old in
+      let none = (not_refused (account_at credits h j) (opcode_byte (poll_of n s).order) n r).2 in
+      let about = polls_of credits h j s old in
+      record {
+        kept = sym (ap (λ p. p.1) e) ∙ sym after;
+        apart = apart_sent (submission_of (poll_of n s))
+            (subst (λ n. list_any (has_reference n) (account_at credits h j).outstanding ≡ false)
+            (sym (ap reference_in sent)) none) (sym (ap reference_in sent)) (ap (λ (x : Account). x.outstanding) after)
+            (λ q. idle);
+        ends = λ n q. absurd (false≢true (ap is_some (sym (ap news_heard sent) ∙ q)));
+        polls = λ q. (idle, about.command, about.found);
+      }
+
+  oldest_goes : (n : ℕ) (o : Option Submission) (answer : Result Poll HostFault)
+      (new : Account) → moment h j ≡ Ask n answer → in_flight h j ≡ None
+      → oldest (account_at credits h j) ≡ o → asks (account_at credits h j) n o ≡ (answer, new) → Goes credits h j new
+  oldest_goes n None answer new m idle old e =
+      let none = ap (λ p. p.0) e in
+      quiet new (ap is_sent m ∙ ap (λ x. is_sent (Ask n x)) (sym none)) (ap news_heard m)
+      (sym (ap (λ p. p.1) e))
+  oldest_goes n (Some s) answer new m idle old e = ask_goes n s answer new _ m idle old refl e
+
+  poll_goes : (n : ℕ) (b : Bool) (answer : Result Poll HostFault)
+      (new : Account) → moment h j ≡ Ask n answer → is_some (account_at credits h j).watch ≡ b
+      → (if b then (Ok polls.Busy, account_at credits h j) else asks (account_at credits h j) n
+      (oldest (account_at credits h j)))
+      ≡ (answer, new) → Goes credits h j new
+  poll_goes n true answer new m w e =
+      let busy = ap (λ p. p.0) e in
+      quiet new (ap is_sent m ∙ ap (λ x. is_sent (Ask n x)) (sym busy)) (ap news_heard m)
+      (sym (ap (λ p. p.1) e))
+  poll_goes n false answer new m w e = oldest_goes n _ answer new m (idle_of h j (in_flight h j) w) refl e
+
+  -- ---- an end
+
+  hear_goes : (b : List ℕ) (n : News) (new : Account) → moment h j ≡ Receive b (Ok n)
+      → Accepts (account_at credits h j) b n new → Goes credits h j new
+  hear_goes b n new m x =
+      let e = x.end in
+      let heard : end_heard (moment h j) ≡ Some e = ap end_heard m ∙ ap end_or_none x.read in
+      let p = handed_of h j e x.submission _ refl
+      (sym (find_map (submission_at h j) (has_reference e.reference) (outstanding h j)) ∙ x.found) heard in
+      let hears : Hears credits h j e p.0 = record {
+        apart = a;
+        silent = ap is_sent m;
+        heard = heard;
+        handed = p.1;
+        about = x.about;
+      } in
+      let after = account_received hears in
+      record {
+        kept = x.kept ∙ sym after;
+        apart = still_apart (ap is_sent m) (ap (λ (y : Account). are_apart y.outstanding) after
+            ∙ apart_without e.reference _
+            (apart_with (account_at credits h j) (answered (account_at credits h j).watch e) ∙ a.submissions));
+        ends = λ k q. record {
+          end = e;
+          command = p.0;
+          heard = heard;
+          handed = p.1;
+          says = ap (λ o. unwrap_or o k) (sym q ∙ ap news_heard m) ∙ (x.says ∙ says_is hears);
+        };
+        polls = λ q. absurd (false≢true (sym (ap is_poll m) ∙ q));
+      }
+
+  pub step : (new : Account) (m : Moment) → moment h j ≡ m
+      → Answers (account_at credits h j) m new → Goes credits h j new
+  step new (Submit command answer) m e = submit_goes command answer new _ m refl e
+  step new (Ask n answer) m e = poll_goes n _ answer new m refl e
+  step new (Receive b (Ok n)) m e = hear_goes b n new m (accepts _ b n new _ refl e)
+  step new (Receive b (Err fault)) m e = quiet new (ap is_sent m) (ap news_heard m) (refused _ fault new _ e)
+  step new Other m e = quiet new (ap is_sent m) (ap news_heard m) e

@@ -1,0 +1,106 @@
+-- What each host did in a turn is a moment of its own history.
+use Rattle.std.proofs.Common.{◌≡◌, ℕ, ◌<◌, Bool, true, false, length, refl, ap, sym, ◌∙◌, arith}
+use Rattle.std.specs.Prelude.{if◌then◌else◌, Option, Some, None, Result, Ok, Err}
+use Rattle.std.proofs.lemmas.Bool.{false≢true, true≢false}
+use Rattle.std.proofs.lemmas.List.{get_or-map}
+use Rattle.arrayvec.specs.ArrayVec.{ArrayVec}
+use Rattle.mscp_packet.specs.declared.command.Command.{Command}
+use Rattle.mscp_events.specs.declared.connection.Connection.{Connection}
+use Rattle.mscp_events.specs.declared.event.Event.TheVariants as events
+use Rattle.mscp_events.specs.Both.{Both, of, put}
+use Rattle.mscp_queue.specs.Names.{same_connection}
+use Rattle.mscp_queue.proofs.Named.{own_side}
+use Rattle.mscp_controller.specs.declared.entry.Entry.TheVariants as entries
+use Rattle.mscp_controller.specs.History.{Moment}
+use Rattle.mscp_host.specs.declared.news.HostFault.{HostFault}
+use Rattle.mscp_host.specs.declared.news.News.{News}
+use Rattle.mscp_host.specs.declared.news.Poll.{Poll}
+use Rattle.mscp_host.specs.declared.news.Poll.TheVariants as polls
+use Rattle.mscp_host.specs.Accounts.{Account, polls_oldest, submits}
+use Rattle.mscp_host.specs.Histories as host
+use Rattle.mscp_host.specs.Histories.{Other, news_heard}
+use Rattle.mscp_host.specs.Law.{Answers}
+use Rattle.mscp_sim.specs.declared.conversing.Turn.{Turn}
+use Rattle.mscp_sim.specs.declared.conversing.Turn.TheVariants as turns
+use Rattle.mscp_sim.specs.declared.conversing.Heard.{Heard}
+use Rattle.mscp_sim.specs.declared.conversing.Heard.TheVariants as hears
+use Rattle.mscp_sim.specs.Talks.{Said, Talk, asks_in, heard_by, history, receives_in, said, submits_in}
+use Rattle.mscp_sim.specs.TwoEnds.{IsHanded, IsHeard, IsPolled, IsSubmitted}
+use Rattle.mscp_sim.proofs.TwoEnds.Sides.{each_side, of_other, of_put}
+
+-- the moment that a turn is of a host's history
+abbrev pub own_part : Connection → Said → host.Moment
+own_part via s = heard_by via s.turn s.heard s.moment
+
+pub moment_is : (via : Connection) (talk : Talk) (j : ℕ) → j < length talk
+    → host.moment (history via talk) j ≡ own_part via (said talk j)
+moment_is via talk j l = get_or-map (own_part via) talk j _ Other l
+
+-- ---- its answer is that of the call
+
+submit_answers : (via : Connection) (old : Account) (command : Command) (s : Said) (o : Result (ArrayVec ℕ) HostFault)
+    (new : Account) → submits old command ≡ (o, new) → IsSubmitted via s o
+    → Answers old (submits_in command s.heard s.moment) new
+submit_answers via old command s (Err fault) new e x = rw x.0 e
+submit_answers via old command s (Ok b) new e x = rw (x.1, x.2) e
+
+ask_answers : (via : Connection) (old : Account) (n : ℕ) (s : Said) (o : Result Poll HostFault)
+    (new : Account) → polls_oldest old n ≡ (o, new) → IsPolled via s o → Answers old (asks_in n s.heard s.moment) new
+ask_answers via old n s (Err fault) new e x = rw x.0 e
+ask_answers via old n s (Ok polls.Nothing) new e x = rw x.0 e
+ask_answers via old n s (Ok polls.Busy) new e x = rw x.0 e
+ask_answers via old n s (Ok (polls.Ask b)) new e x = rw (x.1, x.2) e
+
+take_answers : (via : Connection) (old : Account) (s : Said) (end : Option (ArrayVec ℕ)) (new : Account)
+    → s.moment ≡ Some (events.Take via, entries.Taken via end) → IsHanded old end s.heard new
+    → Answers old (receives_in s.heard s.moment) new
+take_answers via old s None new m x = rw x.0 x.1
+take_answers via old s (Some b) new m x = rw (x.1, m) x.2
+
+-- a turn of a connection says nothing of the other
+both_answers : (via : Connection) (old new : Both Account) (k : Account) (m : host.Moment) → new ≡ put via k old
+    → Answers (of via old) m k → (other : Connection)
+    → Answers (of other old) (if same_connection via other then m else Other) (of other new)
+both_answers via old new k m p e = search (arith, each_side, own_side, of_put, of_other)
+
+pub answers : (old new : Both Account) (s : Said) (t : Turn) → IsHeard old t s new → (via : Connection)
+    → Answers (of via old) (heard_by via t s.heard s.moment) (of via new)
+answers old new s (turns.Submit other command) x =
+    both_answers other old new _ _ x.1 (submit_answers other (of other old) command s _ _ refl x.0)
+answers old new s (turns.Poll other n) x =
+    both_answers other old new _ _ x.1 (ask_answers other (of other old) n s _ _ refl x.0)
+answers old new s (turns.Step block) x = λ via. ap (of via) x.3
+answers old new s (turns.Take other) x =
+    both_answers other old new x.1 _ x.4 (take_answers other (of other old) s x.0 x.1 x.2 x.3)
+
+-- ---- its news are those that are heard
+
+pub news_of : (via : Connection) (t : Turn) (heard : Heard) (m : Option Moment) (n : News)
+    → news_heard (heard_by via t heard m) ≡ Some n → heard ≡ hears.News n
+news_of via t heard m n e = grind (arith, false≢true)
+
+abbrev pub is_news : Heard → Bool
+is_news (hears.News n) = true
+is_news heard = false
+
+submits_quiet : (via : Connection) (s : Said) (o : Result (ArrayVec ℕ) HostFault) → IsSubmitted via s o
+    → is_news s.heard ≡ false
+submits_quiet via s (Err fault) x = ap is_news x.0
+submits_quiet via s (Ok b) x = ap is_news x.1
+
+asks_quiet : (via : Connection) (s : Said) (o : Result Poll HostFault) → IsPolled via s o → is_news s.heard ≡ false
+asks_quiet via s o x = grind arith
+
+taken_news : (via : Connection) (old new : Account) (s : Said) (end : Option (ArrayVec ℕ)) (n : News)
+    → s.moment ≡ Some (events.Take via, entries.Taken via end) → IsHanded old end s.heard new → s.heard ≡ hears.News n
+    → news_heard (receives_in s.heard s.moment) ≡ Some n
+taken_news via old new s None n m x e = absurd (false≢true (ap is_news (sym x.0 ∙ e)))
+taken_news via old new s (Some b) n m x e = rw (e, m) refl
+
+pub said_news : (old new : Both Account) (s : Said) (t : Turn) (n : News) → IsHeard old t s new → s.heard ≡ hears.News n
+    → (via : Connection) × (news_heard (heard_by via t s.heard s.moment) ≡ Some n)
+said_news old new s (turns.Submit via command) n x e =
+    absurd (true≢false (sym (ap is_news e) ∙ submits_quiet via s _ x.0))
+said_news old new s (turns.Poll via r) n x e = absurd (true≢false (sym (ap is_news e) ∙ asks_quiet via s _ x.0))
+said_news old new s (turns.Step block) n x e = absurd (false≢true (ap is_news (sym x.1 ∙ e)))
+said_news old new s (turns.Take via) n x e = search (arith, own_side, taken_news)
