@@ -86,7 +86,7 @@ pub use Rattle.mscp_queue.specs.Outcomes.{IsCoded, aborted_end, head_after, stat
 pub use Rattle.mscp_queue.specs.Pairs.{Pairs}
 pub use Rattle.mscp_queue.specs.Pickers.{IsFirstLeast}
 pub use Rattle.mscp_queue.specs.Records.{Record, aborted_record, advanced, drive_at, fresh_record, has_name, is_in_service, left_of, name_of, no_record, passed_by, record_at, remains, step_charge, without}
-pub use Rattle.mscp_queue.specs.Serving.{IsNext, begun_without, drive_after, end_given, end_in, is_begun, report_of, state_left, touched, upcoming_of, waiting_after}
+pub use Rattle.mscp_queue.specs.Serving.{IsNext, drive_after, end_given, end_in, is_begun, report_of, state_left, touched, upcoming_of, waiting_after}
 pub use Rattle.mscp_queue.specs.Views.{choice_of, is_open_at, open_places, view_of}
 pub use Rattle.mscp_queue.specs.Why.{holders_of_name, is_nobody}
 pub use Rattle.mscp_queue.specs.declared.drive.Drive.{Drive}

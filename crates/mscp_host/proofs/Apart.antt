@@ -1,10 +1,5 @@
 -- Outstanding submissions stay apart.
-use Rattle.std.proofs.Common.{◌≡◌, ℕ, true, false, ◌||◌, List, [], ◌∷◌, ◌++◌, drop, length, nat_eq, refl, ap, ◌∙◌, arith}
-use Rattle.std.specs.List.{list_any, refill}
-use Rattle.std.proofs.lemmas.List.{take-append-le, take_all}
-use Rattle.mscp_host.specs.declared.submission.Submission.{Submission}
-use Rattle.mscp_host.specs.Accounts.{has_reference, with_told, without}
-use Rattle.mscp_host.specs.Apart.{are_apart}
+use Rattle.mscp_host.proofs.Common.{◌≡◌, ℕ, true, false, ◌||◌, List, [], ◌∷◌, ◌++◌, drop, length, nat_eq, refl, ap, ◌∙◌, arith, list_any, refill, take-append-le, take_all, Submission, has_reference, with_told, without, are_apart}
 
 -- ---- a figure is told
 

@@ -1,20 +1,5 @@
 -- The bytes that a host is saved as say that host.
-use Rattle.std.proofs.Common.{All, ◌≡◌, ℕ, ◌+◌, ◌*◌, ◌<◌, ◌≤◌, ◌^◌, Bool, true, false, List, [], ◌∷◌, ◌++◌, drop, length, refl, ap, arith}
-use Rattle.std.proofs.lemmas.Bool.{le-leb, le-ltb, lt-ltb, eq-eqb}
-use Rattle.std.proofs.lemmas.List.{length-append}
-use Rattle.std.proofs.lemmas.Slice.Eq.{bytes_eq-Decides}
-use Rattle.std.specs.Prelude.{flat_map, Option, Some, None, IfSome, Ok, slice_index}
-use Rattle.std.specs.Str.{bytes_eq}
-use Rattle.mscp_packet.specs.Number.{num}
-use Rattle.mscp_packet.specs.Parts.{parts_in}
-use Rattle.mscp_packet.proofs.Numbers.{four, two}
-use Rattle.mscp_packet.proofs.Parts.{read_all}
-use Rattle.mscp_host.specs.declared.submission.Submission.{Submission}
-use Rattle.mscp_host.specs.declared.watch.Watch.{Watch}
-use Rattle.mscp_host.specs.Accounts.{Account}
-use Rattle.mscp_host.specs.Sound.{IsSound, waiting}
-use Rattle.mscp_host.specs.Restored.{account_fault, account_in, head_fault, restored, submission_in, told_in, watch_in}
-use Rattle.mscp_host.specs.Saved.{HasRange, HasSubmissionRange, saved_bytes, submission_bytes, told_bytes, watch_byte, watch_bytes}
+use Rattle.mscp_host.proofs.Common.{All, ◌≡◌, ℕ, ◌+◌, ◌*◌, ◌<◌, ◌≤◌, ◌^◌, Bool, true, false, List, [], ◌∷◌, ◌++◌, drop, length, refl, ap, arith, le-leb, le-ltb, lt-ltb, eq-eqb, length-append, bytes_eq-Decides, flat_map, Option, Some, None, IfSome, Ok, slice_index, bytes_eq, num, parts_in, four, two, read_all, Submission, Watch, Account, IsSound, waiting, account_fault, account_in, head_fault, restored, submission_in, told_in, watch_in, HasRange, HasSubmissionRange, saved_bytes, submission_bytes, told_bytes, watch_byte, watch_bytes}
 
 -- ---- a submission
 

@@ -1,15 +1,5 @@
 -- What a list of moments says of the commands that are outstanding, with one moment more.
-use Rattle.std.proofs.Common.{◌≡◌, ⊎_elim, ℕ, ◌+◌, ◌<◌, ◌≤◌, Bool, true, false, cond, List, [], ◌∷◌, ◌++◌, refl, ap, sym, ◌∙◌, subst, arith, append-nil}
-use Rattle.std.specs.Prelude.{filter, find, flat_map, not, ◌&&◌, ◌||◌, Option, Some, None, option_to_list}
-use Rattle.std.specs.Option.{option_or}
-use Rattle.std.specs.List.{AllByRecursion, last_or, list_any}
-use Rattle.std.proofs.Math.Bool.{and-false, or-false}
-use Rattle.std.proofs.lemmas.Bool.{cases_lt, false≢true}
-use Rattle.std.proofs.lemmas.Bool.Decides.{nat_tests}
-use Rattle.std.proofs.lemmas.Grind.{flat_map-append}
-use Rattle.std.proofs.lemmas.List.Elements.{filter-append}
-use Rattle.std.proofs.lemmas.List.Folds.{list_any-append}
-use Rattle.mscp_host.specs.Histories.{History, before, end_heard, figure_from, handed_over, is_end_of, is_ended, is_it, is_outstanding, is_sent, last_told, moment, outstanding, reference, told_at}
+use Rattle.mscp_host.proofs.Common.{◌≡◌, ⊎_elim, ℕ, ◌+◌, ◌<◌, ◌≤◌, Bool, true, false, cond, List, [], ◌∷◌, ◌++◌, refl, ap, sym, ◌∙◌, subst, arith, append-nil, filter, find, flat_map, not, ◌&&◌, ◌||◌, Option, Some, None, option_to_list, option_or, AllByRecursion, last_or, list_any, and-false, or-false, cases_lt, false≢true, nat_tests, flat_map-append, filter-append, list_any-append, History, before, end_heard, figure_from, handed_over, is_end_of, is_ended, is_it, is_outstanding, is_sent, last_told, moment, outstanding, reference, told_at}
 use Rattle.mscp_host.proofs.Lists.{before_at, before_below, before_more, every_kept, every_passes, every_weaker, filter_filter, filter_on, found, last_more}
 
 -- ---- which are outstanding

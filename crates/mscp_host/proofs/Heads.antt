@@ -1,15 +1,5 @@
 -- What a head and an account without a fault tell.
-use Rattle.std.proofs.Common.{arith}
-use Rattle.std.proofs.Common.{◌≡◌, ℕ, ◌+◌, ◌*◌, ◌<◌, ◌≤◌, Bool, true, false, List, length, ap, refl}
-use Rattle.std.specs.Prelude.{not, if◌then◌else◌, Option, Some, None, is_some}
-use Rattle.std.proofs.lemmas.Bool.{and_parts, eqb-true, leb-true, ltb-false, ltb-true, true≢false}
-use Rattle.mscp_packet.specs.Number.{num}
-use Rattle.mscp_host.specs.declared.restoring.RestoreFault.{RestoreFault}
-use Rattle.mscp_host.specs.Accounts.{Account}
-use Rattle.mscp_host.specs.Apart.{are_apart}
-use Rattle.mscp_host.specs.Restored.{account_fault, count_in, head_fault}
-use Rattle.mscp_host.specs.Sound.{waiting}
-use Rattle.mscp_host.specs.Watched.{are_told, is_watched}
+use Rattle.mscp_host.proofs.Common.{arith, ◌≡◌, ℕ, ◌+◌, ◌*◌, ◌<◌, ◌≤◌, Bool, true, false, List, length, ap, refl, not, if◌then◌else◌, Option, Some, None, is_some, and_parts, eqb-true, leb-true, ltb-false, ltb-true, true≢false, num, RestoreFault, Account, are_apart, account_fault, count_in, head_fault, waiting, are_told, is_watched}
 
 -- what was tested first holds, and then no later fault does
 first : (t : Bool) (fault : RestoreFault) (rest : Option RestoreFault)

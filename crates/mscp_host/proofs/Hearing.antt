@@ -1,11 +1,6 @@
 -- An end that is heard.
-use Rattle.std.proofs.Common.{◌≡◌, ℕ, List, true, false, refl}
-use Rattle.std.specs.Prelude.{find, Result, Some, Ok, Err}
-use Rattle.mscp_packet.specs.declared.end.End.{End}
-use Rattle.mscp_packet.specs.declared.reading.EndFault.{EndFault}
-use Rattle.mscp_host.specs.declared.submission.Submission.{Submission}
+use Rattle.mscp_host.proofs.Common.{◌≡◌, ℕ, List, true, false, refl, find, Result, Some, Ok, Err, End, EndFault, Submission, Account, answered, end_in, has_reference, heard, is_about_polled, is_code_of, may_end, news_with, or_unreadable, received}
 use Rattle.mscp_host.specs.declared.news.HostFault.TheVariants as faults
-use Rattle.mscp_host.specs.Accounts.{Account, answered, end_in, has_reference, heard, is_about_polled, is_code_of, may_end, news_with, or_unreadable, received}
 
 pub readable : (r : Result End EndFault) (e : End) → or_unreadable r ≡ Ok e → r ≡ Ok e
 readable (Ok x) e h = cc

@@ -1,12 +1,5 @@
 -- Lists by recursion: what agrees at each element, ranges, filters, and what a test finds.
-use Rattle.std.proofs.Common.{◌≡◌, ℕ, zero, suc, ◌+◌, ◌<◌, ◌≤◌, Bool, true, false, cond, List, [], ◌∷◌, ◌++◌, map, refl, ap, sym, ◌∙◌, subst, ⊎_elim, arith}
-use Rattle.std.specs.Prelude.{◌&&◌, filter, find, Option, Some, None, is_some, option_map, option_to_list}
-use Rattle.std.specs.Option.{option_or}
-use Rattle.std.specs.List.{AllByRecursion, last_or, list_any, range_with_len}
-use Rattle.std.proofs.lemmas.Bool.{cases_eq, false≢true, true≢false}
-use Rattle.std.proofs.lemmas.List.{map-id}
-use Rattle.std.proofs.lemmas.List.FromFn.{map-range_with_len_more}
-use Rattle.mscp_host.specs.Histories.{before}
+use Rattle.mscp_host.proofs.Common.{◌≡◌, ℕ, zero, suc, ◌+◌, ◌<◌, ◌≤◌, Bool, true, false, cond, List, [], ◌∷◌, ◌++◌, map, refl, ap, sym, ◌∙◌, subst, ⊎_elim, arith, ◌&&◌, filter, find, Option, Some, None, is_some, option_map, option_to_list, option_or, AllByRecursion, last_or, list_any, range_with_len, cases_eq, false≢true, true≢false, map-id, map-range_with_len_more, before}
 
 -- ---- each element
 

@@ -1,14 +1,6 @@
 -- The whole history: all that is promised of a host.
-use Rattle.std.proofs.Common.{◌≡◌, ◌↔◌, ℕ, zero, suc, ◌+◌, ◌<◌, ◌≤◌, Bool, true, false, drop, length, refl, ap, sym, ◌∙◌, subst, arith}
-use Rattle.std.specs.Prelude.{if◌then◌else◌, Option, Some, None, is_some, IfSome, Ok}
-use Rattle.std.proofs.lemmas.Bool.{and_parts, eqb-true, eq-eqb, false≢true}
-use Rattle.std.proofs.lemmas.Bool.Decides.{nat_tests}
-use Rattle.std.proofs.lemmas.List.{drop_more, drop_all}
-use Rattle.mscp_host.specs.declared.news.News.{News}
+use Rattle.mscp_host.proofs.Common.{◌≡◌, ◌↔◌, ℕ, zero, suc, ◌+◌, ◌<◌, ◌≤◌, Bool, true, false, drop, length, refl, ap, sym, ◌∙◌, subst, arith, if◌then◌else◌, Option, Some, None, is_some, IfSome, Ok, and_parts, eqb-true, eq-eqb, false≢true, nat_tests, drop_more, drop_all, News, Account, fresh, news_of_figure, Moment, Other, Receive, History, account_at, asked_for, end_heard, figure_in, found_stands, is_it, is_poll, last_told, moment, news_heard, outstanding, says_of, Answered, Answers, HostsKeepTheirHistory, IsHeard, IsLost, IsTold, Stands}
 use Rattle.mscp_host.specs.declared.news.News.TheVariants as news
-use Rattle.mscp_host.specs.Accounts.{Account, fresh, news_of_figure}
-use Rattle.mscp_host.specs.Histories.{Moment, Other, Receive, History, account_at, asked_for, end_heard, figure_in, found_stands, is_it, is_poll, last_told, moment, news_heard, outstanding, says_of}
-use Rattle.mscp_host.specs.Law.{Answered, Answers, HostsKeepTheirHistory, IsHeard, IsLost, IsTold, Stands}
 use Rattle.mscp_host.proofs.Collected.{out_below}
 use Rattle.mscp_host.proofs.Received.{IsApart}
 use Rattle.mscp_host.proofs.Stepping.{Goes, step}

@@ -1,15 +1,8 @@
 -- What a host keeps, as the list so far says it, after a moment in which an end is heard.
-use Rattle.std.proofs.Common.{◌≡◌, ℕ, ◌+◌, ◌<◌, Bool, true, false, map, ⊎_elim, refl, ap, sym, ◌∙◌, arith, append-nil}
-use Rattle.std.specs.Prelude.{◌&&◌, filter, find, nat_eq, not, if◌then◌else◌, Option, Some, None, is_some, option_map}
-use Rattle.std.proofs.Math.Bool.{and-false, and-true}
-use Rattle.std.proofs.lemmas.Bool.{cases_lt, eqb-true, eq-eqb, false_from_ne_true, false≢true, true≢false}
-use Rattle.mscp_packet.specs.declared.end.End.{End}
-use Rattle.mscp_host.specs.declared.watch.Watch.{Watch}
+use Rattle.mscp_host.proofs.Common.{◌≡◌, ℕ, ◌+◌, ◌<◌, Bool, true, false, map, ⊎_elim, refl, ap, sym, ◌∙◌, arith, append-nil, ◌&&◌, filter, find, nat_eq, not, if◌then◌else◌, Option, Some, None, is_some, option_map, and-false, and-true, cases_lt, eqb-true, eq-eqb, false_from_ne_true, false≢true, true≢false, End, Watch, Account, answered, has_reference, is_about_polled, outstanding_with, news_of_figure, news_with, received, status_end, told_of_submission, watch_after, with_told, without, are_apart, History, Moment, account_at, asked_for, asks_about, end_heard, figure_from, figure_in, found_stands, handed_over, in_flight, is_end_of, is_it, is_outstanding, is_poll, is_sent, last_found, last_told, moment, news_at, outstanding, reference, reference_found, says_of, submission_at, told_at, watch_at}
+use Rattle.mscp_host.specs.Accounts.{told_in}
 use Rattle.mscp_host.specs.declared.news.News.TheVariants as news
 use Rattle.mscp_host.specs.Accounts as host
-use Rattle.mscp_host.specs.Accounts.{Account, answered, has_reference, is_about_polled, outstanding_with, news_of_figure, news_with, received, status_end, told_in, told_of as told_of_submission, watch_after, with_told, without}
-use Rattle.mscp_host.specs.Apart.{are_apart}
-use Rattle.mscp_host.specs.Histories.{History, Moment, account_at, asked_for, asks_about, end_heard, figure_from, figure_in, found_stands, handed_over, in_flight, is_end_of, is_it, is_outstanding, is_poll, is_sent, last_found, last_told, moment, news_at, outstanding, reference, reference_found, says_of, submission_at, told_at, watch_at}
 use Rattle.mscp_host.proofs.Apart.{apart_told}
 use Rattle.mscp_host.proofs.Collected.{AtMostOne, each_out, ends_now, found_before, found_out, last_then, out_all, out_below, out_new, outstanding_more, was_out}
 use Rattle.mscp_host.proofs.Kept.{ends_found, stands_then}

@@ -1,11 +1,5 @@
 -- Outstanding submissions whose numbers differ: one leaves, and one is told.
-use Rattle.std.proofs.Common.{◌≡◌, ℕ, true, false, List, [], ◌∷◌, map, refl, ap, subst, arith}
-use Rattle.std.specs.Prelude.{filter, not, if◌then◌else◌, Option, Some, None}
-use Rattle.std.specs.List.{AllByRecursion, list_any}
-use Rattle.std.proofs.lemmas.Bool.{and_parts, eqb-true, not-true}
-use Rattle.mscp_host.specs.declared.submission.Submission.{Submission}
-use Rattle.mscp_host.specs.Accounts.{has_reference, with_told, without}
-use Rattle.mscp_host.specs.Apart.{are_apart}
+use Rattle.mscp_host.proofs.Common.{◌≡◌, ℕ, true, false, List, [], ◌∷◌, map, refl, ap, subst, arith, filter, not, if◌then◌else◌, Option, Some, None, AllByRecursion, list_any, and_parts, eqb-true, not-true, Submission, has_reference, with_told, without, are_apart}
 use Rattle.mscp_host.proofs.Lists.{every_weaker, filter_all, none_any}
 
 -- a submission of which that was told, if something was

@@ -1,23 +1,7 @@
 -- One moment more: what the list says, and what the host says of an end.
-use Rattle.std.proofs.Common.{◌≡◌, ℕ, ◌+◌, Bool, true, false, List, [], ◌∷◌, ◌++◌, refl, ap, sym, ◌∙◌, subst, arith}
-use Rattle.std.specs.Prelude.{find, nat_eq, if◌then◌else◌, Option, Some, None, is_some, option_map, Result, Ok, Err, is_ok, unwrap_or}
-use Rattle.std.specs.List.{list_any}
-use Rattle.std.proofs.lemmas.Bool.{eq-eqb, false≢true, true≢false}
-use Rattle.arrayvec.specs.ArrayVec.{ArrayVec}
-use Rattle.mscp_packet.specs.declared.command.Command.{Command}
-use Rattle.mscp_packet.specs.declared.end.End.{End}
-use Rattle.mscp_packet.specs.declared.reading.EndFault.{EndFault}
-use Rattle.mscp_packet.specs.Commands.{opcode_byte}
-use Rattle.mscp_host.specs.declared.news.HostFault.{HostFault}
-use Rattle.mscp_host.specs.declared.news.News.{News}
-use Rattle.mscp_host.specs.declared.news.Poll.{Poll}
+use Rattle.mscp_host.proofs.Common.{◌≡◌, ℕ, ◌+◌, Bool, true, false, List, [], ◌∷◌, ◌++◌, refl, ap, sym, ◌∙◌, subst, arith, find, nat_eq, if◌then◌else◌, Option, Some, None, is_some, option_map, Result, Ok, Err, is_ok, unwrap_or, list_any, eq-eqb, false≢true, true≢false, ArrayVec, Command, End, EndFault, opcode_byte, HostFault, News, Poll, Submission, Account, answered, asks, asks_unless, end_in, has_reference, heard, heard_in, heard_of, is_about_polled, news_with, oldest, poll_of, received, submission_of, submits_unless, are_apart, Moment, Submit, Ask, Receive, Other, History, account_at, asked_for, end_heard, end_or_none, handed_over, is_end_of, in_flight, is_outstanding, is_poll, is_sent, moment, news_heard, outstanding, reference, reference_in, submission_at, watch_at, Answers, IsHeard}
 use Rattle.mscp_host.specs.declared.news.Poll.TheVariants as polls
-use Rattle.mscp_host.specs.declared.submission.Submission.{Submission}
 use Rattle.mscp_host.specs.Accounts as host
-use Rattle.mscp_host.specs.Accounts.{Account, answered, asks, asks_unless, end_in, has_reference, heard, heard_in, heard_of, is_about_polled, news_with, oldest, poll_of, polls_oldest, received, submission_of, submits, submits_unless, submitted, watching}
-use Rattle.mscp_host.specs.Apart.{are_apart}
-use Rattle.mscp_host.specs.Histories.{Moment, Submit, Ask, Receive, Other, History, account_at, asked_for, end_heard, end_or_none, handed_over, is_end_of, in_flight, is_outstanding, is_poll, is_sent, moment, news_heard, outstanding, reference, reference_in, submission_at, watch_at}
-use Rattle.mscp_host.specs.Law.{Answers, IsHeard}
 use Rattle.mscp_host.proofs.Apart.{apart_more, apart_without}
 use Rattle.mscp_host.proofs.Collected.{each_out, one_more}
 use Rattle.mscp_host.proofs.Kept.{account_asked, account_quiet, account_submitted, polls_of}

@@ -1,18 +1,5 @@
 -- A figure is told of the oldest command alone, and a credit is kept for those that are answered when they arrive.
-use Rattle.std.proofs.Common.{◌≡◌, ◌≤◌, ◌<◌, ◌-◌, ℕ, suc, Bool, true, false, ◌&&◌, ◌||◌, List, [], ◌∷◌, ◌++◌, length, refl, ap, sym, subst, ◌∙◌, arith}
-use Rattle.std.specs.Prelude.{not, cond, Option, Some, None, is_none}
-use Rattle.std.specs.List.{list_all, list_any}
-use Rattle.std.proofs.lemmas.Bool.{and_parts, eqb-true, not-true, or_left, or_parts, false≢true}
-use Rattle.std.proofs.lemmas.List.{length-append}
-use Rattle.std.proofs.lemmas.List.Elements.{filter-append}
-use Rattle.std.proofs.lemmas.List.Folds.{list_all-append}
-use Rattle.std.proofs.lemmas.List.Sums.{count_by-le-length, length-filter}
-use Rattle.mscp_host.specs.declared.submission.Submission.{Submission}
-use Rattle.mscp_host.specs.declared.watch.Watch.{Watch}
-use Rattle.mscp_host.specs.Accounts.{Account, balance, has_reference, is_about_polled, is_immediate, polled_is_outstanding, refusal, with_told, without}
-use Rattle.mscp_host.specs.Apart.{are_apart}
-use Rattle.mscp_host.specs.Sound.{waiting}
-use Rattle.mscp_host.specs.Watched.{are_told, is_numbered, is_oldest, is_watched}
+use Rattle.mscp_host.proofs.Common.{◌≡◌, ◌≤◌, ◌<◌, ◌-◌, ℕ, suc, Bool, true, false, ◌&&◌, ◌||◌, List, [], ◌∷◌, ◌++◌, length, refl, ap, sym, subst, ◌∙◌, arith, not, cond, Option, Some, None, is_none, list_all, list_any, and_parts, eqb-true, not-true, or_left, or_parts, false≢true, length-append, filter-append, list_all-append, count_by-le-length, length-filter, Submission, Watch, Account, balance, has_reference, is_about_polled, is_immediate, polled_is_outstanding, refusal, with_told, without, are_apart, waiting, are_told, is_numbered, is_oldest, is_watched}
 use Rattle.mscp_host.proofs.Watched.{is_oldest_told, oldest_more, oldest_without}
 
 -- ---- all pass a test

@@ -1,16 +1,6 @@
 -- A poll in flight stays one that a host may have.
-use Rattle.std.proofs.Common.{◌≡◌, ℕ, Bool, true, false, ◌&&◌, List, [], ◌∷◌, ◌++◌, nat_eq, refl, ap, sym, ◌∙◌, arith}
-use Rattle.std.specs.Prelude.{not, if◌then◌else◌, Option, Some, None, Ok, is_ok}
-use Rattle.std.specs.List.{list_any}
-use Rattle.std.proofs.lemmas.Bool.{and_parts, or_left, or_right, true≢false}
-use Rattle.std.proofs.lemmas.List.Folds.{list_any-append}
-use Rattle.arrayvec.specs.ArrayVec.{ArrayVec}
-use Rattle.mscp_packet.specs.declared.command.Command.{Command}
-use Rattle.mscp_host.specs.declared.news.HostFault.{HostFault}
-use Rattle.mscp_host.specs.declared.submission.Submission.{Submission}
-use Rattle.mscp_host.specs.declared.watch.Watch.{Watch}
-use Rattle.mscp_host.specs.Accounts.{Account, has_reference, is_immediate, poll_of, submission_of, submits_unless, submitted, watch_after, with_told, without}
-use Rattle.mscp_host.specs.Watched.{is_about_somebody, is_numbered, is_oldest, is_poll, is_polled, is_status, is_watched, oldest_of}
+use Rattle.mscp_host.proofs.Common.{◌≡◌, ℕ, Bool, true, false, ◌&&◌, List, [], ◌∷◌, ◌++◌, nat_eq, refl, ap, sym, ◌∙◌, arith, not, if◌then◌else◌, Option, Some, None, Ok, is_ok, list_any, and_parts, or_left, or_right, true≢false, list_any-append, ArrayVec, Command, HostFault, Submission, Watch, Account, has_reference, is_immediate, poll_of, submission_of, submits_unless, submitted, watch_after, with_told, without, is_about_somebody, is_numbered, is_oldest, is_polled, is_status, is_watched, oldest_of}
+use Rattle.mscp_host.specs.Watched.{is_poll}
 
 -- ---- one of the submissions passes a test
 

@@ -132,8 +132,7 @@ held_aborted room budget longest gone rs new ds begun serving b was h e =
           (every_kept (λ z. z.done ≡ 0) keep rs (recursion_from_All (λ z. z.done ≡ 0) rs (h.idle e)));
       units = h.units;
       heads = h.heads;
-      still = λ name k. let s = still_begun gone begun name k in
-          still_aborted budget gone rs name s.1 (h.still name s.0);
+      still = search (arith, still_begun, still_aborted);
     } in
     search arith
 

@@ -136,14 +136,10 @@ step_of {budget} {clock} {ss} {place} a l unfinished front back affordable =
         let less : left_of z.item + 1 ≡ left_of y.item = omega (arith, unfinished) in
         let charge : step_charge y.item ≡ 0 = ap (λ b. cond b y.item.weight 0) e in
         record {
-          dues = subst (AreDue budget (clock + 1) 0) (sym new)
-              (due_stepped budget clock y z B back some unfinished refl refl 0 F due front);
+          dues = search (arith, z, new, some, due_stepped);
           left = ap (λ zs. sum_by left_of (items zs) + 1) new ∙ sum_of F z refl less;
-          waiting = ap items new ∙ (items_append F (z ∷ B)
-              ∙ ap (λ rs. rs ++ advanced y.item ∷ items B) (sym (uncharged (items F))
-              ∙ ap (λ n. map (passed_by n) (items F)) (sym charge)));
-          own = ap targets new ∙ (own_append F (z ∷ B) ∙
-              (sym (own_append F (y ∷ B)) ∙ ap targets (sym (cut ss place l))));
+          waiting = search (arith, z, new, charge, items_append, uncharged);
+          own = search (arith, z, new, own_append, cut);
         }
       where
         positive : (n : ℕ) → nat_eq n 0 ≡ false → 0 < n
@@ -237,8 +233,7 @@ front_idle n place rs ws r l e h =
     ∙ length-take-le place rs (omega (arith, l)) in
     let at = at_place ws (map (passed_by n) (take place rs)) r (drop (place + 1) rs) place no_record e long in
     let P : Record → Type 0 = λ r. r.done ≡ 0 in
-    subst (All P) (sym at.before) (All-from_recursion P (map (passed_by n) (take place rs))
-    (passed_idle n (take place rs) (recursion_from_All P (take place rs) h)))
+    search (arith, at, P, All-from_recursion, passed_idle, recursion_from_All)
 
 pub back_idle : (n place : ℕ) (rs ws : List Record) (r : Record) → place < length rs
     → ws ≡ map (passed_by n) (take place rs) ++ r ∷ drop (place + 1) rs → All (λ r. r.done ≡ 0) (drop (place + 1) rs)

@@ -92,8 +92,7 @@ still_aborted budget gone rs name other s =
     let stays : keep r ≡ true = ap (λ n. not (same_name n gone)) number ∙ ap not other in
     servable budget (without gone rs) (filter keep front) r (filter keep back) name s.2
     (record {
-      is = ap (filter keep) m.is ∙ (filter-append keep front (r ∷ back)
-          ∙ ap (λ b. filter keep front ++ cond b (r ∷ filter keep back) (filter keep back)) stays);
+      is = search (arith, m, keep, front, r, back, stays, filter-append);
       idle = λ e. every_kept (λ z. z.done ≡ 0) keep rs (m.idle e);
       opens = λ e. open_left budget r keep front (m.opens e);
     })

@@ -1,5 +1,5 @@
 -- The costs of what a queue keeps of its waiting commands for a picker, and how they are found anew.
-use Rattle.mscp_queue.proofs.Common.{All, ◌≡◌, ◌≢◌, ◌⊎◌, inl, inr, set, ℕ, ◌+◌, ◌<◌, ◌≤◌, Bool, true, false, cond, List, map, get_or, length, refl, ap, sym, ◌∙◌, subst, arith, nat_eq, bit_at, range_with_len, get_or-map-range_with_len, length-range_with_len, Order, Head, sweep_cost, eq-eqb, false≢true, ne_eqb, ext_get_or, get_or_default, get_or-map, length-map, Shape, cylinder_of, last_cylinder, one_block, first_block, is_move, order_cost, Drive, Choice, target_of, no_target, unit_place, fresh_drive, CanBeShown, is_known, units_of, AreOnDrive, AreCandidates, IsRecosted, IsRenewed, choice_in, cost_on, costing, costing_if, no_choice, sure_of, IsSet, Record, no_record, record_at, choices_at, IsUnitList, Target}
+use Rattle.mscp_queue.proofs.Common.{All, ◌≡◌, ◌≢◌, ◌⊎◌, inl, inr, set, ℕ, ◌+◌, ◌<◌, ◌≤◌, Bool, true, false, cond, List, map, get_or, length, refl, ap, sym, ◌∙◌, arith, nat_eq, bit_at, range_with_len, get_or-map-range_with_len, length-range_with_len, Order, Head, sweep_cost, eq-eqb, false≢true, ne_eqb, ext_get_or, get_or_default, get_or-map, length-map, Shape, cylinder_of, last_cylinder, one_block, first_block, is_move, order_cost, Drive, Choice, target_of, no_target, unit_place, fresh_drive, CanBeShown, is_known, units_of, AreOnDrive, AreCandidates, IsRecosted, IsRenewed, choice_in, cost_on, costing, costing_if, no_choice, sure_of, IsSet, Record, no_record, record_at, choices_at, IsUnitList, Target}
 use Rattle.mscp_queue.proofs.Targets.{cylinder_within, led, own_target, own_blocks, place_inside, place_same}
 use Rattle.mscp_queue.proofs.Drives.{known_at, place_is}
 use Rattle.mscp_queue.proofs.Turns.{pairs_rise}
@@ -123,10 +123,8 @@ on_drive {at} {place} {ds} {rs} {targets} d a shown moves l found target e =
     let to = led ds r at a d shown.heads (own_blocks ds rs targets place r shown l own) (sym e) is found in
     let move = moves place no_record l in
     record {
-      within = subst (λ k. k ≤ last_cylinder d.unit) (sym to.targeted.cylinder_is)
-          (cylinder_within d.unit (first_block r.command.order) (to.targeted.block move));
-      cost = move_cost d.unit d.head r.command.order a.cylinder move to.targeted.cylinder_is
-          ∙ ap (λ (q : Drive). order_cost q.unit q.head r.command.order) to.drive;
+      within = search (arith, r, to, move, cylinder_within);
+      cost = search (arith, r, to, move, move_cost);
       number =
           let there = known_at ds r.command.unit d (own_blocks ds rs targets place r shown l own).0 in
           ap (λ (q : Drive). q.unit.number) (to.drive ∙ sym there.drive) ∙ there.number;

@@ -59,8 +59,7 @@ masks_without : (kinds : ℕ → Kind) (order : List ℕ) (m m' : Masks) (n : �
     → HasLeft n (kinds n).drive m m' → AreMasks kinds (without n order) m'
 masks_without kinds order m m' n masks low l = record {
   apart = slots_left order n masks.apart;
-  of_waiting = set_mask m.waiting m'.waiting n false _ _ l.waits masks.of_waiting (has_gone n order)
-      (λ k d. has_kept k n order d);
+  of_waiting = search (arith, set_mask, has_gone, has_kept);
   of_sequential =
       set_mask m.sequential m'.sequential n false _ _ l.ordered masks.of_sequential
       (ap (λ b. b && (kinds n).sequential) (has_gone n order))
@@ -69,11 +68,7 @@ masks_without kinds order m m' n masks low l = record {
       set_mask m.serving m'.serving n false _ _ l.served masks.of_serving
       (ap (λ b. b && (kinds n).serving) (has_gone n order))
       (λ k d. ap (λ b. b && (kinds k).serving) (has_kept k n order d));
-  of_units = λ u.
-      set_mask (slice_index_or m.units u 0) (slice_index_or m'.units u 0) n false _ _
-      (own_set u (same_or (kinds n).drive u)) (masks.of_units u)
-      (ap (λ b. b && nat_eq (kinds n).drive u) (has_gone n order))
-      (λ k d. ap (λ b. b && nat_eq (kinds k).drive u) (has_kept k n order d));
+  of_units = search (arith, set_mask, same_or, has_gone, has_kept);
   of_earlier = earlier_kept kinds order m m' n (kinds n).drive masks l (slots_left order n masks.apart)
       (set_mask m.waiting m'.waiting n false _ _ l.waits masks.of_waiting (has_gone n order)
       (λ k d. has_kept k n order d));

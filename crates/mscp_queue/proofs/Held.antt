@@ -28,8 +28,7 @@ held_fresh room budget longest us rs ds a b c d e u n f =
       short = d;
       small = omega arith;
       fits = omega (arith, ap length n);
-      each = subst (All (IsKept budget longest (units_of ds))) (sym n)
-          (All-nil (IsKept budget longest (units_of ds)));
+      each = search (arith, All-nil);
       apart = subst (λ rs. AreApart (names rs)) (sym n) tt;
       one = subst (λ rs. length (filter is_in_service rs) ≤ 1) (sym n) (omega arith);
       idle = λ e. subst (All (λ r. r.done ≡ 0)) (sym n) (All-nil (λ (r : Record). r.done ≡ 0));
@@ -215,40 +214,27 @@ held_turn room budget longest n A r B own ds ds' begun serving serves h t ended 
     let served_own = filter-append is_in_service own B in
     let none_front = idle_none (map (passed_by n) A) (passed_idle n A t.before) in
     let none_back = idle_none B t.behind in
-    record {
-      some_room = h.some_room;
-      few = h.few;
-      some_blocks = h.some_blocks;
-      short = h.short;
-      small = h.small;
-      fits = let f = h.fits in omega (
-        arith,
-        length-append A (r ∷ B),
-        length-append (map (passed_by n) A) (own ++ B),
-        length-map A (passed_by n),
-        length-append own B,
-      );
-      each = subst (λ us. All (IsKept budget longest us) new) (sym u) (All-from_recursion K new kept);
-      apart = subst AreApart (sym numbers) (apart_left r own A B t.left (subst AreApart old_numbers h.apart));
-      one = omega (
-        arith,
-        ap length served,
-        length-append (filter is_in_service (map (passed_by n) A))
-            (filter is_in_service (own ++ B)),
-        ap length served_own,
-        length-append (filter is_in_service own)
-            (filter is_in_service B),
-        none_front,
-        none_back,
-        own_serving own few,
-      );
-      idle = λ e. All-from_recursion (λ z. z.done ≡ 0) new
-          (every_append (λ z. z.done ≡ 0) (map (passed_by n) A) (own ++ B) (passed_idle n A t.before)
-          (subst (λ zs. AreIdle (zs ++ B)) (sym (ended e)) t.behind));
-      units = subst IsUnitList (sym u) h.units;
-      heads = heads;
-      still = λ name k. absurd (false≢true (ap is_some k));
-    }
+    search (
+      arith,
+      K,
+      new,
+      kept,
+      old_numbers,
+      numbers,
+      few,
+      served,
+      served_own,
+      none_front,
+      none_back,
+      length-append,
+      length-map,
+      All-from_recursion,
+      apart_left,
+      own_serving,
+      every_append,
+      passed_idle,
+      false≢true,
+    )
 
 -- ---- the drives
 

@@ -107,11 +107,7 @@ pub serving_is_next : (picks : List Choice → ℕ → Type 0) (budget : ℕ) (d
     → IsNext picks budget ds rs begun place
 serving_is_next picks budget ds rs begun place one l h still =
     record {
-      servable = record {
-        inside = l;
-        idle = λ e. absurd (omega (arith, not_unstarted (record_at rs place) h e));
-        opens = λ e. absurd (omega (arith, not_unstarted (record_at rs place) h e));
-      };
+      servable = search (arith, not_unstarted);
       same = λ name e.
           let s = still name e in
           subst (λ k. has_name name (record_at rs k) ≡ true)
@@ -216,8 +212,7 @@ some_without rs new None gone l e one h idle s =
     let P : Record → Type 0 = λ r. r.done ≡ 0 in
     let parts = every_parts P (take gone rs) (record_at rs gone ∷ drop (gone + 1) rs)
     (subst (AllByRecursion P) (cut_at no_record rs gone l) (recursion_from_All P rs (idle refl))) in
-    subst (All P) (sym e) (All-from_recursion P (take gone rs ++ drop (gone + 1) rs)
-    (every_append P (take gone rs) (drop (gone + 1) rs) parts.0 parts.1.1))
+    search (arith, P, parts, All-from_recursion, every_append)
 some_without rs new (Some place) gone l e one h idle s = by (place_without (Some place) gone) refl s
   where
     P : Record → Type 0

@@ -53,8 +53,7 @@ opens_at budget longest rs place h short l =
     let own = not_sequential r.command.order (and_parts (is_move r.command.order) (nat_le (r.passed + longest) budget)
     (all place no_record l)).0 in
     let front = recursion_from_All P (take place rs) (All-take P place rs all) in
-    ap (λ b. b && is_affordable budget r (take place rs)) (all_free budget longest r (take place rs) own front)
-    ∙ all_affordable budget longest r (take place rs) (short place no_record l) front
+    search (arith, r, own, front, all_free, all_affordable)
 
 pub all_open : (budget longest : ℕ) (rs : List Record) → list_all (is_passable budget longest) rs ≡ true
     → All (λ r. r.weight ≤ longest) rs
@@ -116,8 +115,7 @@ oldest_tells budget longest (q ∷ qs) r l e k o w =
       | true ↦ λ m. sym (no_sequential budget longest q.passed (q ∷ qs) k (recursion_from_All W (q ∷ qs) w)
           (omega arith, o.0)
           (leb-true (q.passed + longest) budget m))
-      | false ↦ λ m. sym (ap (λ b. (is_move q.command.order && b) && list_all (is_passable budget longest) qs) m
-          ∙ ap (λ b. b && list_all (is_passable budget longest) qs) (unfenced (is_move q.command.order)))
+      | false ↦ search (arith, unfenced)
     ] in
     ap (λ (z : Record). nat_le (z.passed + longest) budget) e ∙ both (nat_le (q.passed + longest) budget) refl
 

@@ -64,8 +64,7 @@ ready_pushed {room} {longest} {w} {new} {ds} {begun} {serving} by c target q l w
     let all : IsReady room longest (record { budget = w.budget; waiting = rs; targets = w.targets ++ target ∷ [] }) ds
     begun
     serving = record {
-      held = subst (λ (o : Option Name). IsHeld room w.budget longest rs ds o (is_some serving))
-          (begun_more w.waiting r begun q.waits) held;
+      held = search (arith, r, rs, held, begun_more);
       targeted = targets_pushed (units_of ds) w.waiting rs w.targets
           (w.targets ++ target ∷ []) by c target q.targeted targets refl refl;
       order = pairs_append _ w.waiting r q.order (every_from (λ z. r.passed ≤ z.passed) (λ z. omega arith) w.waiting);
@@ -110,10 +109,8 @@ ready_left {room} {longest} {w} {new} {ds} {begun} {serving} {begun'} {serving'}
     let rs = w.waiting in
     let held = held_left gone begun serving q.held l e q.served q.waits in
     let all : IsReady room longest new ds (place_without begun gone) (place_without serving gone) = record {
-      held = subst (λ k. IsHeld room k longest new.waiting ds (begun_name new.waiting (place_without begun gone))
-          (is_some (place_without serving gone))) (sym b) held;
-      targeted = a ∙ ((λ i. take gone (q.targeted i) ++ drop (gone + 1) (q.targeted i))
-          ∙ (targets_cut (units_of ds) rs gone ∙ ap (targets_of (units_of ds)) (sym e)));
+      held = search (arith, held);
+      targeted = search (arith, rs, targets_cut);
       order = subst ArePassedInOrder (sym e) (order_left rs gone l q.order);
       served = served_without rs new.waiting serving gone l e q.served;
       waits = waits_without rs new.waiting begun gone l e q.waits;

@@ -233,11 +233,5 @@ kept_advanced {rs} {own} {order} {m} {m'} {n} {r} other kept low there e same se
       records_64 = length-set rs n r ∙ kept.records_64;
       targets_64 = kept.targets_64;
       drives = kept.drives;
-      masks = masks_served (kind_at rs own) (kind_at (set rs n r) own) order m m'.serving n kept.masks there
-          (λ k d. λ i. record {
-            drive = (get_or own k no_target).drive;
-            sequential = is_sequential (get_or-set_other rs n k r no_record d i).command.order;
-            serving = is_in_service (get_or-set_other rs n k r no_record d i);
-          }) refl (ap (λ (q : Record). is_sequential q.command.order) is)
-          (subst (λ b. IsSet b n m.serving m'.serving) (sym serves) set_on);
+      masks = search (arith, is, serves, masks_served, get_or-set_other);
     })

@@ -1,5 +1,5 @@
 -- A step of the record that may be served next is a turn among the others, and leaves each head on its unit.
-use Rattle.mscp_queue.proofs.Common.{◌≡◌, ℕ, suc, ◌+◌, ◌<◌, ◌≤◌, Bool, true, false, cond, not, ◌&&◌, List, [], ◌∷◌, ◌++◌, map, take, drop, length, refl, ap, sym, ◌∙◌, subst, arith, append_assoc, filter, nat_eq, nat_le, is_some, slice_index_or, unwrap_or, Option, Some, None, AllByRecursion, All-from_recursion, recursion_from_All, and_parts, eq-eqb, eqb-false, eqb-true, leb-true, ltb-true, ne_eqb, false≢true, true≢false, Order, End, Shape, one_block, IsUnitList, NumbersRise, unit_found, Block, Drive, Name, first_block, is_move, order_weight, IsOnUnit, drive_of, has_number, replaced, IsHeld, IsInside, IsKept, units_of, Record, advanced, drive_at, step_charge, is_in_service, is_unstarted, no_record, passed_by, record_at, IsServable, drive_after, end_given, touched, is_affordable, is_free, is_open_at, Pairs}
+use Rattle.mscp_queue.proofs.Common.{◌≡◌, ℕ, suc, ◌+◌, ◌<◌, ◌≤◌, Bool, true, false, cond, not, ◌&&◌, List, [], ◌∷◌, ◌++◌, map, take, drop, length, refl, ap, sym, ◌∙◌, subst, arith, append_assoc, filter, nat_eq, is_some, slice_index_or, unwrap_or, Option, Some, None, AllByRecursion, All-from_recursion, recursion_from_All, and_parts, eq-eqb, eqb-false, eqb-true, leb-true, ltb-true, ne_eqb, false≢true, true≢false, Order, End, Shape, one_block, IsUnitList, NumbersRise, unit_found, Block, Drive, Name, first_block, is_move, order_weight, IsOnUnit, drive_of, has_number, replaced, IsHeld, IsInside, IsKept, units_of, Record, advanced, drive_at, step_charge, is_in_service, is_unstarted, no_record, passed_by, record_at, IsServable, drive_after, end_given, touched, is_affordable, is_free, is_open_at, Pairs}
 use Rattle.mscp_queue.proofs.Lists.{every_mapped, every_of, every_parts, every_weaker, pairs_middle}
 use Rattle.mscp_queue.proofs.Placed.{cut_at, find_first}
 use Rattle.mscp_queue.proofs.Held.{AreIdle, IsLeft, IsTurn, held_turn, heads_replaced, others_idle, units_replaced}
@@ -10,9 +10,7 @@ front_affordable : (budget : ℕ) (rs : List Record) (place : ℕ) → is_open_a
 front_affordable budget rs place h =
     let r = record_at rs place in
     let p = and_parts (is_free r (take place rs)) (is_affordable budget r (take place rs)) h in
-    every_weaker (λ z. nat_le (z.passed + r.weight) budget ≡ true) (λ z. z.passed + r.weight ≤ budget)
-    (λ z e. leb-true (z.passed + r.weight) budget e) (take place rs)
-    (every_of (λ z. nat_le (z.passed + r.weight) budget) (take place rs) p.1)
+    search (arith, r, p, every_weaker, leb-true, every_of)
 
 -- ---- the turn
 

@@ -1,5 +1,5 @@
 -- `refuses` and `frees` at a call: what they are handed, and what a caller has of them. Assumes `Logic`.
-use Rattle.std.proofs.Common.{◌≡◌, ℕ, List, [], ◌∷◌, refl, ap}
+use Rattle.mscp_trials.proofs.Common.{◌≡◌, ℕ, List, [], ◌∷◌, refl, ap}
 use mathlib.Core.Bool.{Bool}
 use seplogic.Ra.Ura.{Ura}
 use mir.Val.{Val, vunit, vbool, vptr}

@@ -1,2 +1,3 @@
+pub mod Common
 mod Counting
 mod Worked

@@ -125,8 +125,7 @@ holds_on c picks calls call (Some n) o' s q stay link none h =
             own = b.own;
             only = λ up' y' j' k. either ((y' ≡ y) × (up' ≡ up)) calls call up' y' j' (λ m z. b.only up' y' j' m)
                 (λ l. absurd (untold call up' q l.told)) k;
-            chosen = λ d. subst (λ cs. IsPick c picks (history cs) n) (sym (front_same calls call j b.is.inside))
-                (b.chosen d);
+            chosen = search (arith, j, b, front_same);
           } in
           (up, y, j, on)
       | false ↦ λ e up' y' j' k.

@@ -110,10 +110,7 @@ one_served c t m k y front back st s found =
     let served : Bool → Drive = λ b. if b then drive_after k (drive_by c t u) (held_of t y) else drive_now c t s in
     let both : (b : Bool) → nat_eq s.number u ≡ b → served b ≡ drive_now c t' s =
     λ b. elim b as (λ b. nat_eq s.number u ≡ b → served b ≡ drive_now c t' s) [
-      | true ↦ λ e.
-          let n = eqb-true s.number u e in
-          let there = ap (unit_found c) (sym n) ∙ found in
-          own_served c t m k y front back st ∙ sym (same_drive c t' s u there n)
+      | true ↦ search (arith, t', u, eqb-true, own_served, same_drive)
       | false ↦ λ e.
           let n : u ≢ s.number = λ h. eqb-false s.number u e (sym h) in
           λ i. record {

@@ -1,5 +1,5 @@
 -- What each call keeps of what a controller holds.
-use Rattle.mscp_controller.proofs.Common.{◌≡◌, ℕ, ◌+◌, ◌-◌, ◌<◌, ◌≤◌, Bool, List, [], ◌∷◌, map, length, drop, ap, refl, sym, subst, ◌∙◌, arith, if◌then◌else◌, slice_get, Option, Some, None, IfSome, is_some, false≢true, AllByRecursion, length-append, length-drop, End, IsOfKind, Shape, Block, Connection, First, Second, Name, Report, Choice, fresh_drive, units_of, Line, Serves, name_on, Record, without, begun_without, end_in, every_append, own_side, Account, Accounts, CanEnd, account, put_account, reported, taken, untaken_in, Settings, IsValid, credits_of, room, waiting_on, of, IsAccount, IsHeld, append-nil}
+use Rattle.mscp_controller.proofs.Common.{◌≡◌, ℕ, ◌+◌, ◌-◌, ◌<◌, ◌≤◌, Bool, List, [], ◌∷◌, map, length, drop, ap, refl, sym, subst, ◌∙◌, arith, if◌then◌else◌, slice_get, Option, Some, None, IfSome, is_some, false≢true, AllByRecursion, length-append, length-drop, End, IsOfKind, Shape, Block, Connection, First, Second, Name, Report, Choice, fresh_drive, units_of, Line, Serves, name_on, Record, without, end_in, every_append, own_side, Account, Accounts, CanEnd, account, put_account, reported, taken, untaken_in, Settings, IsValid, credits_of, room, waiting_on, of, IsAccount, IsHeld, append-nil}
 use Rattle.mscp_controller.specs.Accounts.{fresh, left}
 use Rattle.mscp_queue.specs.declared.report.Report.TheVariants as reports
 use Rattle.mscp_queue.specs.Lines as lines
@@ -116,11 +116,7 @@ held_aborted {K} {c} {old} {new} {a} via n end h e count kind =
     let fits = own.fits in
     let own' : IsAccount c ws via (left end (account via a)) =
     search (arith, length-append items (end ∷ []), every_append IsOfKind items (end ∷ []) own.shaped (kind, tt)) in
-    held_like h (still_by ws (begun_without (name_on via n) old.begun) e)
-    (subst (λ (l : Line K). (via' : Connection)
-    → IsAccount c l.waiting via' (account via' (put_account via (left end (account via a)) a))) (sym e)
-    (each_account (IsAccount c ws) via (left end (account via a)) a own'
-    (λ other d. account_stays (h.account other) (other_count via other n old.waiting d))))
+    search (arith, ws, own', held_like, still_by, each_account, account_stays, other_count)
 
 -- ---- credits that are seen
 

@@ -1,6 +1,6 @@
 -- A step of the record that may be served next: it is right, it is picked, and what is held after it is that of the
 -- run.
-use Rattle.mscp_controller.proofs.Common.{◌≡◌, ℕ, ◌+◌, ◌<◌, Bool, true, false, cond, ◌&&◌, List, [], ◌∷◌, ◌++◌, map, take, drop, length, refl, ap, sym, ◌∙◌, subst, arith, All, IfSome, nat_eq, Option, Some, None, option_to_list, if◌then◌else◌, AllByRecursion, and-false, eq-eqb, lt-ltb, true≢false, false≢true, map-append, take-map, drop-map, recursion_from_All, End, Block, Drive, Report, Choice, drive_of, replaced, Line, ServesAt, Name, Connection, same_connection, same_name, order_weight, Record, advanced, step_charge, passed_by, record_at, IsNext, drive_after, report_of, waiting_after, Settings, IsValid, Both, of, Trace, Moment, is_good, service_in, WhenStarted, connection, name, reference, service_name, unit, order, is_waiting, waiting, weight, done, good, left, serves_in, passed, untaken, IsPick, IsRight, block_of, end_of, IsServed, seek_to, Holdings, ends_after, ends_reported, line_of, is_same, every_mapped, every_weaker, every_both, every_from, every_parts, map_map, map_on}
+use Rattle.mscp_controller.proofs.Common.{◌≡◌, ℕ, ◌+◌, ◌<◌, Bool, true, false, cond, ◌&&◌, List, [], ◌∷◌, ◌++◌, map, take, drop, length, refl, ap, sym, ◌∙◌, subst, arith, All, IfSome, nat_eq, Option, Some, None, option_to_list, if◌then◌else◌, AllByRecursion, and-false, eq-eqb, lt-ltb, true≢false, false≢true, map-append, take-map, drop-map, recursion_from_All, End, Block, Drive, Report, Choice, drive_of, replaced, Line, ServesAt, Name, Connection, same_connection, order_weight, Record, advanced, step_charge, passed_by, record_at, IsNext, drive_after, report_of, waiting_after, Settings, IsValid, Both, of, Trace, Moment, is_good, service_in, WhenStarted, connection, name, reference, service_name, unit, order, is_waiting, waiting, weight, done, good, left, serves_in, passed, untaken, IsPick, IsRight, block_of, end_of, IsServed, seek_to, Holdings, ends_after, ends_reported, line_of, is_same, every_mapped, every_weaker, every_both, every_from, every_parts, map_map, map_on}
 use Rattle.mscp_queue.specs.declared.report.Report.TheVariants as reports
 use Rattle.mscp_queue.specs.Records as recorded
 use Rattle.mscp_events.specs.declared.event.Event.TheVariants as events
@@ -117,9 +117,7 @@ front_charged c t k y A B st idle =
           (every_weaker (λ x. (x < y) × (passings.is_unstarted t x ≡ true)) (Q (weight t y))
           (λ x h. passed_front c t m s k y A B st e x h.0 h.1) A
           (every_both (λ x. x < y) (λ x. passings.is_unstarted t x ≡ true) A at.before (idle e)))
-      | false ↦ λ e. subst (λ n. AllByRecursion (Q n) A) (sym (cost_held t y false e))
-          (every_from (Q 0) (λ x. none_starts t m x
-          (λ r. ap (λ b. same_name (name t y) r && b) e ∙ and-false (same_name (name t y) r)) ∙ omega arith) A)
+      | false ↦ search (arith, m, Q, cost_held, every_from, none_starts, and-false)
     ] in
     both (nat_eq (done t y) 0) refl
 

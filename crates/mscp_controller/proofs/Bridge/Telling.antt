@@ -89,9 +89,7 @@ begin_at {K} picks calls up h h' place a legal b s u =
     ] in
     record {
       legal = subst (IsLegal c) (sym same) legal;
-      agrees = subst (λ v. Agrees c v h') (sym same)
-          (agrees_same c t h h' a (s.left ∙ ap (λ o. record (line_of h) { begun = o })
-          (sym (ap (λ (l : Line K). l.begun) s.left))) u);
+      agrees = search (arith, c, t, same, Agrees, agrees_same);
       right = (y, waits_at t place inside, both.0.next, own);
       begun = tells_begun c picks calls up h h' y h.begun a (refl, b) tells;
       picked = chosen (nat_eq up.done 0) refl;

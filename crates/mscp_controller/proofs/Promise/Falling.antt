@@ -24,14 +24,7 @@ pub falling : (c : Settings) (t : Trace) (m : Moment) → IsRight c t m.0 m.1 �
 falling c t m r steady =
     let both : (o : Option Service) → service_in m.1 ≡ o → Falling c t m =
     λ o. elim o as (λ o. service_in m.1 ≡ o → Falling c t m) [
-      | None ↦ λ e. record {
-        step = λ s x w. absurd (nobody t x (idle_right c t m.0 m.1 s e r) w);
-        other =
-            never_rises c t m (leaves_of t m e) (done_last t m);
-      }
-      | Some s ↦ λ e.
-          let z = step_right c t m s steady.apart e r in
-          let less = step_falls c t m s z.2 z.1 z.3 (fit_of c t m s z.0 z.1 z.2 z.3 z.4 steady) in
-          record { step = λ b. less; other = λ x w. let l = less x w in omega (arith, l) }
+      | None ↦ search (arith, nobody, idle_right, never_rises, leaves_of, done_last)
+      | Some s ↦ search (arith, step_right, step_falls, fit_of)
     ] in
     both (service_in m.1) refl

@@ -1,5 +1,5 @@
 -- The figures of the waiting commands fall at each step of a legal run.
-use Rattle.mscp_controller.proofs.Common.{◌≡◌, ℕ, ◌+◌, ◌-◌, ◌<◌, ◌≤◌, Bool, true, false, cond, not, List, [], ◌∷◌, ◌++◌, length, refl, ap, sym, ◌∙◌, subst, arith, filter, sum_by, nat_eq, Contains, Some, is_some, AllByRecursion, append_assoc, filter-append, All-from_recursion, All-contains, sum_by-append, sum_by-cons, lt-ltb, le-ltb, and_right, eqb-true, eqb-false, Settings, Trace, Moment, Service, service_in, name, weight, is_waiting, waiting, done, left, in_service, earlier, later, ends_in, service_name, charge, passed, figure, every_weaker, every_append, every_parts, filter_none, sum_on}
+use Rattle.mscp_controller.proofs.Common.{◌≡◌, ℕ, ◌+◌, ◌-◌, ◌<◌, ◌≤◌, Bool, true, false, cond, not, List, [], ◌∷◌, ◌++◌, length, refl, ap, sym, ◌∙◌, subst, arith, filter, sum_by, nat_eq, Contains, Some, is_some, AllByRecursion, append_assoc, filter-append, All-from_recursion, All-contains, sum_by-append, sum_by-cons, lt-ltb, le-ltb, and_right, eqb-true, eqb-false, Settings, Trace, Moment, Service, service_in, name, weight, is_waiting, waiting, done, left, in_service, ends_in, service_name, charge, passed, figure, every_weaker, every_append, every_parts, filter_none, sum_on}
 use Rattle.mscp_controller.proofs.Promise.Grows.{is_waiting_before}
 use Rattle.mscp_controller.proofs.Promise.Waits.{waiting_waits, waiting_below, cut_of, earlier_is, later_is}
 use Rattle.mscp_controller.proofs.Promise.Served.{kept_own}
@@ -23,8 +23,7 @@ figure_at c t A x B e =
     (subst (λ l. AllByRecursion (λ z. is_waiting t z ≡ true) l) e (waiting_waits t))).1.0 in
     let F : List ℕ → List ℕ → ℕ = λ P Q. cond (in_service t x) (left t x)
     (sum_by (left t) P + working t Q + (c.budget - passed t x) + left t x) in
-    ap (λ b. cond b (F (earlier t x) (later t x)) 0) w
-    ∙ (ap (λ l. F l (later t x)) (earlier_is t x A B k) ∙ ap (λ l. F A l) (later_is t x A B k))
+    search (arith, k, w, F, earlier_is, later_is)
 
 pub working_append : (t : Trace) (A B : List ℕ) → working t (A ++ B) ≡ working t A + working t B
 working_append t A B = ap (sum_by (left t)) (filter-append (in_service t) A B)

@@ -68,8 +68,7 @@ marks c t m s k y front back st idle =
           (every_both A (λ x. done t x ≡ 0) front
           (every_both (λ x. x < length t) (λ x. is_waiting t x ≡ true) front below.0 waits.0) idle) at.before)
           st.changes.front_done);
-      at_own = made_is (weight t' y) (done t' y) (passed t' y) (weight t y) (done t y + 1) (passed t y)
-          (weight_before t m y below.1.0) st.changes.own_done (passed_behind c t m s k y front back st y (omega arith));
+      at_own = search (arith, t', below, made_is, weight_before, passed_behind);
       at_back = every_weaker (λ x. ((x < length t) × (y < x)) × D x) (λ x. record_of t' x ≡ record_of t x)
           (λ x h. made_is (weight t' x) (done t' x) (passed t' x) (weight t x) (done t x) (passed t x)
           (weight_before t m x h.0.0) h.1 (passed_behind c t m s k y front back st x (omega (arith, h.0.1)))) back

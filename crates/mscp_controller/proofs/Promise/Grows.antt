@@ -1,5 +1,5 @@
 -- What the definitions say when one more moment comes.
-use Rattle.mscp_controller.proofs.Common.{◌≡◌, ℕ, ◌+◌, ◌<◌, ◌≤◌, Bool, true, false, cond, not, ◌&&◌, ◌||◌, List, [], ◌∷◌, ◌++◌, take, drop, length, refl, ap, sym, ◌∙◌, arith, append-nil, filter, count_by, None, range_with_len, get_or_append_left, get_or_at, drop-append-le, drop_all, length_push, take_at, take-append-le, sum_by_push, list_any-append, filter-append, flat_map-append, command_of, Settings, Trace, Moment, moment, positions, collect, connection_of, last_or, queues, sent_bytes, is_good, is_step, takes, command, connection, name, is_waiting, waiting, done, good, steps_after, serves_in, ends_in, passed_at, passed, ends_at, ends, untaken, Connection, First, name_on, filter_on, filter_filter, sum_on, flat_on, every_weaker, range_more, range_below}
+use Rattle.mscp_controller.proofs.Common.{◌≡◌, ℕ, ◌+◌, ◌<◌, ◌≤◌, Bool, true, false, cond, not, ◌&&◌, ◌||◌, List, [], ◌∷◌, ◌++◌, take, drop, length, refl, ap, ◌∙◌, arith, append-nil, filter, count_by, None, range_with_len, get_or_append_left, get_or_at, drop-append-le, drop_all, length_push, take_at, take-append-le, sum_by_push, list_any-append, filter-append, flat_map-append, command_of, Settings, Trace, Moment, moment, positions, collect, connection_of, last_or, queues, sent_bytes, is_good, is_step, takes, command, connection, name, is_waiting, waiting, done, good, steps_after, serves_in, ends_in, passed_at, passed, ends_at, ends, untaken, Connection, First, name_on, filter_on, filter_filter, sum_on, flat_on, every_weaker, range_more, range_below}
 use Rattle.mscp_events.specs.declared.event.Event.TheVariants as events
 use Rattle.mscp_controller.specs.declared.entry.Entry.TheVariants as entries
 
@@ -90,12 +90,7 @@ waiting_more t m =
     (every_weaker (λ x. (0 ≤ x) × (x < 0 + length t))
     (λ x. is_waiting (t ++ m ∷ []) x ≡ (is_waiting t x && not (ends_in (name t x) m.1)))
     (λ x h. is_waiting_before t m x (omega arith)) (positions t) (range_below 0 (length t))) in
-    ap (filter (is_waiting (t ++ m ∷ []))) (positions_more t m)
-    ∙ (filter-append (is_waiting (t ++ m ∷ [])) (positions t) (length t ∷ [])
-    ∙ (ap (λ l. l ++ filter (is_waiting (t ++ m ∷ [])) (length t ∷ []))
-    (before ∙ sym (filter_filter (λ x. not (ends_in (name t x) m.1)) (is_waiting t) (positions t)))
-    ∙ ap (λ b. filter (λ x. not (ends_in (name t x) m.1)) (filter (is_waiting t) (positions t))
-    ++ cond b (length t ∷ []) []) (is_waiting_last t m)))
+    search (arith, before, positions_more, filter-append, filter_filter, is_waiting_last)
 
 -- How often a command was served after one more moment, and how often well.
 pub done_before : (t : Trace) (m : Moment) (x : ℕ) → x < length t

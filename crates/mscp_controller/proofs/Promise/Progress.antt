@@ -112,16 +112,13 @@ progress c t valid legal =
       one_served = λ i h. one_served (take i t) (waiting (take i t)) (at i h).steady.single;
       oldest_starts = λ i h x. oldest_starts c (take i t) x;
       passed = λ i h x w. one_of (λ x. passed (take i t) x ≤ c.budget) (waiting (take i t)) (at i h).limited x w;
-      falls = λ i h s x w. subst (λ u. figure c u x < figure c (take i t) x) (sym (more_at t i h))
-          ((fall i h).step s x w);
-      never_rises = λ i h x w. subst (λ u. figure c u x ≤ figure c (take i t) x) (sym (more_at t i h))
-          ((fall i h).other x w);
+      falls = search (arith, fall, more_at);
+      never_rises = search (arith, fall, more_at);
       within = λ i h x w. let l = low c (take i t) (at i h) x w in let k = high c (take i t) (at i h) x w in
           omega (arith, l, k);
       positive = λ i h x. ((λ w. low c (take i t) (at i h) x w), (λ l. some_waits c (take i t) x l));
       small = λ i h x. small c (take i t) (at i h) x;
       own = λ i h x w. figure_told c (take i t) (at i h).steady x w;
-      polled = λ i h. subst (TellsFigure c (take i t) (moment t i)) (sym (more_at t i h))
-          (told c (take i t) (moment t i));
+      polled = search (arith, more_at, told);
       shaped = λ via. shaped c via t legal;
     }

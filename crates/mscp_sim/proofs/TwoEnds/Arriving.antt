@@ -1,29 +1,6 @@
 -- An abort and a command that arrives keep the match of the host of their connection and the controller.
-use Rattle.std.proofs.Common.{◌≡◌, ⊎_elim, ℕ, ◌+◌, Bool, true, false, cond, ◌&&◌, List, [], ◌∷◌, ◌++◌, map, refl, ap, sym, ◌∙◌, subst, arith, append-nil}
-use Rattle.std.specs.Prelude.{find, nat_eq, not, Some, option_map, option_to_list}
-use Rattle.std.specs.List.{AllByRecursion}
-use Rattle.std.proofs.lemmas.Bool.{eq-eqb}
-use Rattle.std.proofs.lemmas.List.{length-append, map-append}
-use Rattle.std.proofs.lemmas.List.Elements.{filter-append}
-use Rattle.mscp_events.specs.declared.connection.Connection.{Connection}
-use Rattle.mscp_queue.specs.declared.name.Name.{Name}
-use Rattle.mscp_queue.specs.Names.{name_on, same_connection}
-use Rattle.mscp_queue.proofs.Named.{own_side, same_is}
-use Rattle.std.proofs.Math.Bool.{and-false}
-use Rattle.mscp_packet.specs.declared.command.Command.{Command}
-use Rattle.mscp_packet.specs.declared.command.Order.{Order}
+use Rattle.mscp_sim.proofs.Common.{◌≡◌, ⊎_elim, ℕ, ◌+◌, Bool, true, false, cond, ◌&&◌, List, [], ◌∷◌, ◌++◌, map, refl, ap, sym, ◌∙◌, subst, arith, append-nil, find, nat_eq, not, Some, option_map, option_to_list, AllByRecursion, eq-eqb, length-append, map-append, filter-append, Connection, Name, name_on, same_connection, own_side, same_is, and-false, Command, Order, End, opcode_byte, Record, aborted_record, fresh_record, has_name, name_of, without, every_append, every_from, filter_filter, filter_on, Found, find_cases, find_none, find_first, Holdings, aborting, more_ends, numbers_ended, outstanding_of, queued, waiting_on, with_end, Both, of, of_more, Submission, Account, is_code_of, Flight, HasOwnEndcode, IsAwaited, IsKnown, Matches, commands, opcode_found, references, times}
 use Rattle.mscp_packet.specs.declared.command.Order.TheVariants as orders
-use Rattle.mscp_packet.specs.declared.end.End.{End}
-use Rattle.mscp_packet.specs.Commands.{opcode_byte}
-use Rattle.mscp_queue.specs.Records.{Record, aborted_record, fresh_record, has_name, name_of, without}
-use Rattle.mscp_queue.proofs.Lists.{every_append, every_from, filter_filter, filter_on}
-use Rattle.mscp_queue.proofs.Placed.{Found, find_cases, find_none, find_first}
-use Rattle.mscp_controller.specs.Holdings.{Holdings, aborting, more_ends, numbers_ended, outstanding_of, queued, waiting_on, with_end}
-use Rattle.mscp_events.specs.Both.{Both, of}
-use Rattle.mscp_controller.proofs.Bridge.Accounts.{of_more}
-use Rattle.mscp_host.specs.declared.submission.Submission.{Submission}
-use Rattle.mscp_host.specs.Accounts.{Account, is_code_of}
-use Rattle.mscp_sim.specs.Matches.{Flight, HasOwnEndcode, IsAwaited, IsKnown, Matches, commands, opcode_found, references, times}
 use Rattle.mscp_sim.proofs.TwoEnds.Counting.{opcode_new}
 use Rattle.mscp_sim.proofs.TwoEnds.Matching.{Adds, Ends, Pushes, awaited_more, counted_numbers, ends_match, known_more, stays, times_called, times_ends}
 

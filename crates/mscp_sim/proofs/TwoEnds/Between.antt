@@ -1,28 +1,6 @@
 -- Where a step lies between two polls about one command, the second is told less.
-use Rattle.std.proofs.Common.{◌≡◌, inl, inr, ⊎_elim, ℕ, zero, suc, ◌+◌, ◌-◌, ◌<◌, ◌≤◌, Bool, true, [], ◌∷◌, ◌++◌, take, length, refl, ap, sym, ◌∙◌, subst, arith, append-nil}
-use Rattle.std.specs.Option.{option_or}
-use Rattle.std.specs.Prelude.{not, ◌&&◌, if◌then◌else◌, Option, Some, None, is_some, option_to_list, unwrap_or}
-use Rattle.std.proofs.lemmas.Bool.{and_parts, cases_lt, false≢true, true≢false}
-use Rattle.mscp_events.specs.declared.connection.Connection.{Connection}
-use Rattle.mscp_queue.specs.declared.name.Name.{Name}
-use Rattle.mscp_queue.specs.Names.{name_on, same_connection}
-use Rattle.mscp_queue.proofs.Named.{own_side}
-use Rattle.mscp_events.specs.Settings.{Settings}
-use Rattle.mscp_controller.specs.History.{Moment, Trace, connection_of, is_step, queues}
-use Rattle.mscp_events.specs.Both.{Both}
-use Rattle.mscp_controller.proofs.Promise.Sides.{queues_by}
-use Rattle.mscp_controller.specs.Commands.{sent_command}
-use Rattle.mscp_controller.specs.Figures.{figure, figure_of}
-use Rattle.mscp_controller.specs.Headline.{Promise}
-use Rattle.mscp_host.specs.Accounts.{Account}
+use Rattle.mscp_sim.proofs.Common.{◌≡◌, inl, inr, ⊎_elim, ℕ, zero, suc, ◌+◌, ◌-◌, ◌<◌, ◌≤◌, Bool, true, [], ◌∷◌, ◌++◌, take, length, refl, ap, sym, ◌∙◌, subst, arith, append-nil, option_or, not, ◌&&◌, if◌then◌else◌, Option, Some, None, is_some, option_to_list, unwrap_or, and_parts, cases_lt, false≢true, true≢false, Connection, Name, name_on, same_connection, own_side, Settings, Moment, Trace, connection_of, is_step, queues, Both, queues_by, sent_command, figure, figure_of, Promise, Account, History, asked_for, asks_about, end_heard, figure_from, figure_in, handed_over, is_end_of, is_it, is_outstanding, is_poll, is_sent, last_told, moment, reference, reference_found, told_at, Stands, found_before, found_out, last_then, out_below, out_new, out_old, was_out, it_is, Turn, Talk, accounts_at, history, said, trace_of, IsHeard, IsStepTurn, StepsSincePolls}
 use Rattle.mscp_host.specs.Histories as host
-use Rattle.mscp_host.specs.Histories.{History, asked_for, asks_about, end_heard, figure_from, figure_in, handed_over, is_end_of, is_it, is_outstanding, is_poll, is_sent, last_told, moment, reference, reference_found, told_at}
-use Rattle.mscp_host.specs.Law.{Stands}
-use Rattle.mscp_host.proofs.Collected.{found_before, found_out, last_then, out_below, out_new, out_old, was_out}
-use Rattle.mscp_host.proofs.Promised.{it_is}
-use Rattle.mscp_sim.specs.declared.conversing.Turn.{Turn}
-use Rattle.mscp_sim.specs.Talks.{Talk, accounts_at, history, said, trace_of}
-use Rattle.mscp_sim.specs.TwoEnds.{IsHeard, IsStepTurn, StepsSincePolls}
 use Rattle.mscp_sim.proofs.TwoEnds.Figured.{AtMost, contains_waiting, most_moment, part_of, waits_at}
 use Rattle.mscp_sim.proofs.TwoEnds.Parts.{moment_is, own_part}
 use Rattle.mscp_sim.proofs.TwoEnds.Tracing.{trace_more}

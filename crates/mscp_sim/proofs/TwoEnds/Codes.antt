@@ -1,14 +1,6 @@
 -- The endcodes of commands are those of their opcode bytes.
-use Rattle.std.proofs.Common.{◌≡◌, ℕ, List, refl, arith}
-use Rattle.std.specs.Prelude.{find, nat_eq, slice_index, Option}
-use Rattle.std.proofs.lemmas.Bool.{eqb-true}
-use Rattle.mscp_packet.specs.declared.class.Opcode.{Opcode}
+use Rattle.mscp_sim.proofs.Common.{◌≡◌, ℕ, List, refl, arith, find, nat_eq, slice_index, Option, eqb-true, Opcode, row_of, opcode_of, opcodes, command_of, order_with, parameters, invalid_length, found_is, HasOwnEndcode}
 use Rattle.mscp_packet.specs.declared.command.Order.TheVariants as orders
-use Rattle.mscp_packet.specs.Opcodes.{row_of, opcode_of, opcodes}
-use Rattle.mscp_packet.specs.Commands.{command_of, order_with, parameters}
-use Rattle.mscp_packet.specs.Statuses.{invalid_length}
-use Rattle.mscp_queue.proofs.Placed.{found_is}
-use Rattle.mscp_sim.specs.Matches.{HasOwnEndcode}
 
 coded_parameters : (o : Opcode) (b : List ℕ) → HasOwnEndcode (parameters o b)
 coded_parameters o b = grind arith

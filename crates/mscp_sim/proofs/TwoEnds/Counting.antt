@@ -1,12 +1,6 @@
 -- How often a reference number stands in a list, and the submission of a reference number.
-use Rattle.std.proofs.Common.{◌≡◌, ℕ, ◌+◌, Bool, true, false, cond, List, [], ◌∷◌, ◌++◌, length, refl, ap, sym, ◌∙◌, arith}
-use Rattle.std.specs.Prelude.{find, nat_eq, nat_lt, ◌||◌, Some, option_map, is_some}
-use Rattle.std.specs.List.{AllByRecursion, list_any}
-use Rattle.std.proofs.lemmas.Bool.{eqb-true, eq-eqb, false≢true}
-use Rattle.std.proofs.lemmas.Bool.Decides.{nat_tests}
-use Rattle.mscp_host.specs.declared.submission.Submission.{Submission}
-use Rattle.mscp_host.specs.Accounts.{has_reference, with_told, without}
-use Rattle.mscp_sim.specs.Matches.{IsSmall, opcode_found, references, times}
+use Rattle.mscp_sim.proofs.Common.{◌≡◌, ℕ, ◌+◌, Bool, true, false, cond, List, [], ◌∷◌, ◌++◌, length, refl, ap, sym, ◌∙◌, arith, find, nat_eq, nat_lt, ◌||◌, Some, option_map, is_some, AllByRecursion, list_any, eqb-true, eq-eqb, false≢true, nat_tests, Submission, has_reference, with_told, IsSmall, opcode_found, references, times}
+use Rattle.mscp_host.specs.Accounts.{without}
 
 -- ---- how often
 

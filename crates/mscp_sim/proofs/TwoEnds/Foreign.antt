@@ -1,23 +1,5 @@
 -- What comes by one connection leaves all that the other's host and the controller keep of each other.
-use Rattle.std.proofs.Common.{◌≡◌, ℕ, Bool, true, false, not, ◌&&◌, List, [], ◌∷◌, ◌++◌, refl, ap, append-nil, arith}
-use Rattle.std.specs.Prelude.{Option, Some, None}
-use Rattle.std.proofs.Math.Bool.{and-false}
-use Rattle.std.proofs.lemmas.Bool.{true≢false}
-use Rattle.std.proofs.lemmas.List.Elements.{filter-append}
-use Rattle.mscp_packet.specs.declared.command.Command.{Command}
-use Rattle.mscp_packet.specs.declared.command.Order.{Order}
-use Rattle.mscp_packet.specs.declared.end.End.{End}
-use Rattle.mscp_packet.specs.Commands.{command_of}
-use Rattle.mscp_events.specs.declared.connection.Connection.{Connection}
-use Rattle.mscp_queue.specs.Names.{name_on, same_connection}
-use Rattle.mscp_queue.specs.Records.{Record, fresh_record, without}
-use Rattle.mscp_queue.proofs.Lists.{every_from, filter_filter, filter_on}
-use Rattle.mscp_queue.proofs.Named.{one_side, other_side}
-use Rattle.mscp_controller.specs.declared.entry.SendFault.{SendFault}
-use Rattle.mscp_controller.specs.Arrival.{refusal}
-use Rattle.mscp_controller.specs.Holdings.{Holdings, aborting, after_message, after_take, answered_end, balance_of, held_unless, outstanding_of, queued, waiting_on, with_end}
-use Rattle.mscp_host.specs.Accounts.{Account}
-use Rattle.mscp_sim.specs.Matches.{Flight, Matches, commands}
+use Rattle.mscp_sim.proofs.Common.{◌≡◌, ℕ, Bool, true, false, not, ◌&&◌, List, [], ◌∷◌, ◌++◌, refl, ap, append-nil, arith, Option, Some, None, and-false, true≢false, filter-append, Command, Order, End, command_of, Connection, name_on, same_connection, Record, fresh_record, without, every_from, filter_filter, filter_on, one_side, other_side, SendFault, refusal, Holdings, aborting, after_message, after_take, answered_end, balance_of, held_unless, outstanding_of, queued, waiting_on, with_end, Account, Flight, Matches, commands}
 use Rattle.mscp_sim.proofs.TwoEnds.Matching.{stays}
 use Rattle.mscp_sim.proofs.TwoEnds.Sides.{of_other}
 

@@ -1,25 +1,7 @@
 -- An end that is handed over: the host takes it, and the match is kept.
-use Rattle.std.proofs.Common.{◌≡◌, ℕ, ◌+◌, Bool, true, false, cond, List, [], ◌∷◌, ◌++◌, drop, length, refl, ap, sym, ◌∙◌, subst, arith}
-use Rattle.std.specs.Prelude.{find, nat_eq, ◌&&◌, if◌then◌else◌, slice_index, Option, Some, None, option_map, slice_get, unwrap_or, Ok}
-use Rattle.std.specs.List.{AllByRecursion, list_any}
-use Rattle.std.proofs.lemmas.Bool.{eqb-true, eq-eqb, false≢true, true≢false}
-use Rattle.std.proofs.lemmas.Bool.Decides.{nat_tests}
-use Rattle.mscp_packet.specs.declared.command.Command.{Command}
-use Rattle.mscp_packet.specs.declared.end.End.{End}
-use Rattle.mscp_packet.specs.declared.end.EndBody.{EndBody}
+use Rattle.mscp_sim.proofs.Common.{◌≡◌, ℕ, ◌+◌, Bool, true, false, cond, List, [], ◌∷◌, ◌++◌, drop, length, refl, ap, sym, ◌∙◌, subst, arith, find, nat_eq, ◌&&◌, if◌then◌else◌, slice_index, Option, Some, None, option_map, slice_get, unwrap_or, Ok, AllByRecursion, list_any, eqb-true, eq-eqb, false≢true, true≢false, nat_tests, Command, End, EndBody, BodyKind, opcode_byte, HasBody, IsEnd, kind_of_code, reading_with, every_weaker, every_both, Connection, of, put, Holdings, numbers_ended, outstanding_of, waiting_on, Submission, Watch, Account, answered, end_in, has_reference, heard, is_about_polled, news_with, outstanding_with, received, told_in, watch_after, with_told, heard_ok, Flight, HasFlight, IsAwaited, IsFlight, IsKnown, Matches, commands, times}
+use Rattle.mscp_host.specs.Accounts.{without}
 use Rattle.mscp_packet.specs.declared.end.EndBody.TheVariants as bodies
-use Rattle.mscp_packet.specs.declared.end.BodyKind.{BodyKind}
-use Rattle.mscp_packet.specs.Commands.{opcode_byte}
-use Rattle.mscp_packet.specs.Ends.{HasBody, IsEnd, kind_of_code, reading_with}
-use Rattle.mscp_queue.proofs.Lists.{every_weaker, every_both}
-use Rattle.mscp_events.specs.declared.connection.Connection.{Connection}
-use Rattle.mscp_events.specs.Both.{of, put}
-use Rattle.mscp_controller.specs.Holdings.{Holdings, numbers_ended, outstanding_of, waiting_on}
-use Rattle.mscp_host.specs.declared.submission.Submission.{Submission}
-use Rattle.mscp_host.specs.declared.watch.Watch.{Watch}
-use Rattle.mscp_host.specs.Accounts.{Account, answered, end_in, has_reference, heard, is_about_polled, news_with, outstanding_with, received, told_in, watch_after, with_told, without}
-use Rattle.mscp_host.proofs.Hearing.{heard_ok}
-use Rattle.mscp_sim.specs.Matches.{Flight, HasFlight, IsAwaited, IsFlight, IsKnown, Matches, commands, times}
 use Rattle.mscp_sim.proofs.TwoEnds.Counting.{length_without, opcode_told, opcode_without, references_told, small_told, small_without, times_append, times_without}
 use Rattle.mscp_sim.proofs.TwoEnds.Matching.{called, counted_numbers, times_ends}
 use Rattle.mscp_sim.proofs.TwoEnds.Sides.{of_put}

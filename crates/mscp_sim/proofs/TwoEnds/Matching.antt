@@ -1,21 +1,5 @@
 -- What the host of a connection and a controller keep of each other stays so, whatever comes.
-use Rattle.std.proofs.Common.{◌≡◌, ℕ, suc, ◌+◌, ◌≤◌, List, [], ◌∷◌, ◌++◌, map, length, refl, ap, sym, ◌∙◌, subst, arith, append_assoc}
-use Rattle.std.specs.Prelude.{Option}
-use Rattle.std.specs.List.{AllByRecursion}
-use Rattle.std.proofs.lemmas.Bool.{eqb-true}
-use Rattle.std.proofs.lemmas.List.{length-append, map-append}
-use Rattle.mscp_packet.specs.declared.command.Command.{Command}
-use Rattle.mscp_packet.specs.declared.end.End.{End}
-use Rattle.mscp_queue.specs.Orders.{endcode}
-use Rattle.mscp_queue.specs.Records.{Record}
-use Rattle.mscp_queue.proofs.Lists.{every_append, every_parts, every_weaker}
-use Rattle.mscp_events.specs.declared.connection.Connection.{Connection}
-use Rattle.mscp_events.specs.Both.{of}
-use Rattle.mscp_controller.specs.Holdings.{Holdings, numbers, numbers_ended, outstanding_of, waiting_on}
-use Rattle.mscp_host.specs.declared.submission.Submission.{Submission}
-use Rattle.mscp_host.specs.declared.watch.Watch.{Watch}
-use Rattle.mscp_host.specs.Accounts.{Account}
-use Rattle.mscp_sim.specs.Matches.{Flight, HasFlight, IsAwaited, IsKnown, IsSmall, Matches, commands, times}
+use Rattle.mscp_sim.proofs.Common.{◌≡◌, ℕ, suc, ◌+◌, ◌≤◌, List, [], ◌∷◌, ◌++◌, map, length, refl, ap, sym, ◌∙◌, subst, arith, append_assoc, Option, AllByRecursion, eqb-true, length-append, map-append, Command, End, endcode, Record, every_append, every_parts, every_weaker, Connection, of, Holdings, numbers, numbers_ended, outstanding_of, waiting_on, Submission, Watch, Account, Flight, HasFlight, IsAwaited, IsKnown, IsSmall, Matches, commands, times}
 use Rattle.mscp_sim.proofs.TwoEnds.Counting.{times_append, opcode_pushed}
 
 -- ---- names

@@ -1,31 +1,11 @@
 -- What each host did in a turn is a moment of its own history.
-use Rattle.std.proofs.Common.{◌≡◌, ℕ, ◌<◌, Bool, true, false, length, refl, ap, sym, ◌∙◌, arith}
-use Rattle.std.specs.Prelude.{if◌then◌else◌, Option, Some, None, Result, Ok, Err}
-use Rattle.std.proofs.lemmas.Bool.{false≢true, true≢false}
-use Rattle.std.proofs.lemmas.List.{get_or-map}
-use Rattle.arrayvec.specs.ArrayVec.{ArrayVec}
-use Rattle.mscp_packet.specs.declared.command.Command.{Command}
-use Rattle.mscp_events.specs.declared.connection.Connection.{Connection}
+use Rattle.mscp_sim.proofs.Common.{◌≡◌, ℕ, ◌<◌, Bool, true, false, length, refl, ap, sym, ◌∙◌, arith, if◌then◌else◌, Option, Some, None, Result, Ok, Err, false≢true, true≢false, get_or-map, ArrayVec, Command, Connection, Both, of, put, same_connection, own_side, Moment, HostFault, News, Poll, Account, polls_oldest, submits, Other, news_heard, Answers, Turn, Heard, Said, Talk, asks_in, heard_by, history, receives_in, said, submits_in, IsHanded, IsHeard, IsPolled, IsSubmitted}
 use Rattle.mscp_events.specs.declared.event.Event.TheVariants as events
-use Rattle.mscp_events.specs.Both.{Both, of, put}
-use Rattle.mscp_queue.specs.Names.{same_connection}
-use Rattle.mscp_queue.proofs.Named.{own_side}
 use Rattle.mscp_controller.specs.declared.entry.Entry.TheVariants as entries
-use Rattle.mscp_controller.specs.History.{Moment}
-use Rattle.mscp_host.specs.declared.news.HostFault.{HostFault}
-use Rattle.mscp_host.specs.declared.news.News.{News}
-use Rattle.mscp_host.specs.declared.news.Poll.{Poll}
 use Rattle.mscp_host.specs.declared.news.Poll.TheVariants as polls
-use Rattle.mscp_host.specs.Accounts.{Account, polls_oldest, submits}
 use Rattle.mscp_host.specs.Histories as host
-use Rattle.mscp_host.specs.Histories.{Other, news_heard}
-use Rattle.mscp_host.specs.Law.{Answers}
-use Rattle.mscp_sim.specs.declared.conversing.Turn.{Turn}
 use Rattle.mscp_sim.specs.declared.conversing.Turn.TheVariants as turns
-use Rattle.mscp_sim.specs.declared.conversing.Heard.{Heard}
 use Rattle.mscp_sim.specs.declared.conversing.Heard.TheVariants as hears
-use Rattle.mscp_sim.specs.Talks.{Said, Talk, asks_in, heard_by, history, receives_in, said, submits_in}
-use Rattle.mscp_sim.specs.TwoEnds.{IsHanded, IsHeard, IsPolled, IsSubmitted}
 use Rattle.mscp_sim.proofs.TwoEnds.Sides.{each_side, of_other, of_put}
 
 -- the moment that a turn is of a host's history

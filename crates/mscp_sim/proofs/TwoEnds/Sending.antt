@@ -1,35 +1,8 @@
 -- What a host sends the controller takes in, and the match is kept.
-use Rattle.std.proofs.Common.{◌≡◌, ℕ, ◌-◌, ◌<◌, ◌^◌, Bool, true, false, List, [], ◌∷◌, ◌++◌, refl, ap, sym, ◌∙◌, subst, arith, append-nil}
-use Rattle.std.specs.Prelude.{find, nat_eq, not, ◌&&◌, ◌||◌, if◌then◌else◌, slice_index, Option, Some, None, Ok}
-use Rattle.std.specs.List.{list_any}
-use Rattle.std.proofs.lemmas.List.Folds.{list_any-append}
-use Rattle.std.proofs.lemmas.Bool.{eq-eqb, true_from_ne_false, true≢false}
-use Rattle.std.proofs.lemmas.Bool.Decides.{nat_tests}
-use Rattle.mscp_packet.specs.declared.command.Command.{Command}
+use Rattle.mscp_sim.proofs.Common.{◌≡◌, ℕ, ◌-◌, ◌<◌, ◌^◌, Bool, true, false, List, [], ◌∷◌, ◌++◌, refl, ap, sym, ◌∙◌, subst, arith, append-nil, find, nat_eq, not, ◌&&◌, ◌||◌, if◌then◌else◌, slice_index, Option, Some, None, Ok, list_any, list_any-append, eq-eqb, true_from_ne_false, true≢false, nat_tests, Command, End, HasCommandRange, IsCommand, IsValidOrder, command_bytes, command_of, opcode_byte, num, command_bytes_are_messages, command_read, opcode_kept, four, Connection, name_on, figure_of_name, credit_fault, fault_of, holds, is_queued, refusal, of_more, Holdings, aborting, after_message, answer_to_message, answered_end, arrives, balance_of, numbers, numbers_ended, with_end, outstanding_of, queued, taken_as, waiting_on, of, Submission, Watch, own_end_with, Settings, endcode, any_map, found, none_any, Account, balance, has_reference, is_code_of, is_immediate, poll_of, submission_of, submitted, watching, Flight, HasFlight, IsSmall, Matches, times}
 use Rattle.mscp_packet.specs.declared.command.Order.TheVariants as orders
-use Rattle.mscp_packet.specs.declared.end.End.{End}
-use Rattle.mscp_packet.specs.Commands.{HasCommandRange, IsCommand, IsValidOrder, command_bytes, command_of, opcode_byte}
-use Rattle.mscp_packet.specs.Number.{num}
-use Rattle.mscp_packet.proofs.Commands.{command_bytes_are_messages, command_read}
-use Rattle.mscp_packet.proofs.Kept.{opcode_kept}
-use Rattle.mscp_packet.proofs.Numbers.{four}
-use Rattle.mscp_events.specs.declared.connection.Connection.{Connection}
-use Rattle.mscp_queue.specs.Names.{name_on}
-use Rattle.mscp_queue.specs.Figures.{figure_of_name}
-use Rattle.mscp_controller.specs.Arrival.{credit_fault, fault_of, holds, is_queued, refusal}
-use Rattle.mscp_controller.proofs.Bridge.Accounts.{of_more}
-use Rattle.mscp_controller.specs.Holdings.{Holdings, aborting, after_message, answer_to_message, answered_end, arrives, balance_of, numbers, numbers_ended, with_end, outstanding_of, queued, taken_as, waiting_on}
-use Rattle.mscp_events.specs.Both.{of}
 use Rattle.mscp_host.specs.declared.news.HostFault.TheVariants as faults
-use Rattle.mscp_host.specs.declared.submission.Submission.{Submission}
-use Rattle.mscp_host.specs.declared.watch.Watch.{Watch}
-use Rattle.mscp_controller.specs.Outcomes.{own_end_with}
-use Rattle.mscp_events.specs.Settings.{Settings}
-use Rattle.mscp_queue.specs.Orders.{endcode}
 use Rattle.mscp_host.specs.Accounts as host
-use Rattle.mscp_host.proofs.Lists.{any_map, found, none_any}
-use Rattle.mscp_host.specs.Accounts.{Account, balance, has_reference, is_code_of, is_immediate, poll_of, submission_of, submitted, watching}
-use Rattle.mscp_sim.specs.Matches.{Flight, HasFlight, IsSmall, Matches, times}
 use Rattle.mscp_sim.proofs.TwoEnds.Codes.{coded}
 use Rattle.mscp_sim.proofs.TwoEnds.Counting.{any_alike, any_times, has_any}
 use Rattle.mscp_sim.proofs.TwoEnds.Matching.{Adds, flight_on, pushes_match}

@@ -1,25 +1,6 @@
 -- A step keeps the match of the host of each connection and the controller.
-use Rattle.std.proofs.Common.{◌≡◌, ℕ, ◌+◌, ◌<◌, Bool, true, false, cond, List, [], ◌∷◌, ◌++◌, map, take, drop, length, refl, ap, ◌∙◌, append-nil, arith}
-use Rattle.std.specs.Prelude.{if◌then◌else◌, Option, Some, None, option_to_list}
-use Rattle.std.proofs.lemmas.Bool.{false≢true}
-use Rattle.std.proofs.lemmas.List.{map-append}
-use Rattle.std.proofs.lemmas.List.Elements.{filter-append}
-use Rattle.mscp_events.specs.declared.connection.Connection.{Connection}
-use Rattle.mscp_queue.specs.Names.{same_connection}
-use Rattle.mscp_packet.specs.declared.end.End.{End}
-use Rattle.mscp_events.specs.declared.block.Block.{Block}
-use Rattle.mscp_queue.specs.declared.report.Report.{Report}
+use Rattle.mscp_sim.proofs.Common.{◌≡◌, ℕ, ◌+◌, ◌<◌, Bool, true, false, cond, List, [], ◌∷◌, ◌++◌, map, take, drop, length, refl, ap, ◌∙◌, append-nil, arith, if◌then◌else◌, Option, Some, None, option_to_list, false≢true, map-append, filter-append, Connection, same_connection, End, Block, Report, Drive, Choice, outcome_at, Record, drive_at, no_record, passed_by, record_at, remains, end_given, waiting_after, cut_at, Holdings, Steps, ends_after, ends_reported, waiting_on, Both, of, Account, Flight, Matches, commands}
 use Rattle.mscp_queue.specs.declared.report.Report.TheVariants as reports
-use Rattle.mscp_queue.specs.declared.drive.Drive.{Drive}
-use Rattle.mscp_queue.specs.declared.view.Choice.{Choice}
-use Rattle.mscp_queue.specs.Outcomes.{outcome_at}
-use Rattle.mscp_queue.specs.Records.{Record, drive_at, no_record, passed_by, record_at, remains}
-use Rattle.mscp_queue.specs.Serving.{end_given, waiting_after}
-use Rattle.mscp_queue.proofs.Placed.{cut_at}
-use Rattle.mscp_controller.specs.Holdings.{Holdings, Steps, ends_after, ends_reported, waiting_on}
-use Rattle.mscp_events.specs.Both.{Both, of}
-use Rattle.mscp_host.specs.Accounts.{Account}
-use Rattle.mscp_sim.specs.Matches.{Flight, Matches, commands}
 use Rattle.mscp_sim.proofs.TwoEnds.Matching.{Ends, ends_match, stays}
 
 -- ---- by connection

@@ -1,10 +1,5 @@
 -- What each connection has one of.
-use Rattle.std.proofs.Common.{◌≡◌, false, arith}
-use Rattle.mscp_events.specs.declared.connection.Connection.{Connection}
-use Rattle.mscp_queue.specs.Names.{same_connection}
-use Rattle.mscp_queue.proofs.Named.{one_side}
-use Rattle.std.proofs.lemmas.Bool.{true≢false}
-use Rattle.mscp_events.specs.Both.{Both, of, put}
+use Rattle.mscp_sim.proofs.Common.{◌≡◌, false, arith, Connection, same_connection, one_side, true≢false, Both, of, put}
 
 -- a connection has what was put there
 pub of_put : {X : Type 0} (via : Connection) (x : X) (both : Both X) → of via (put via x both) ≡ x

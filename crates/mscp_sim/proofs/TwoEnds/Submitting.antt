@@ -1,20 +1,7 @@
 -- What a turn in which the host submits, or polls, leaves.
-use Rattle.std.proofs.Common.{◌≡◌, ℕ, ◌<◌, ◌^◌, Bool, true, false, List, refl, ap, sym, ◌∙◌, subst, arith}
-use Rattle.std.specs.Prelude.{Option, Some, None, is_some, is_ok, Result, Ok, Err, if◌then◌else◌}
-use Rattle.std.proofs.lemmas.Bool.{false≢true, true≢false}
-use Rattle.arrayvec.specs.ArrayVec.{ArrayVec}
-use Rattle.mscp_packet.specs.declared.command.Command.{Command}
-use Rattle.mscp_packet.specs.Commands.{command_bytes, command_of, opcode_byte}
-use Rattle.mscp_events.specs.declared.connection.Connection.{Connection}
-use Rattle.mscp_controller.specs.declared.entry.Sent.{Sent}
-use Rattle.mscp_controller.specs.declared.entry.SendFault.{SendFault}
-use Rattle.mscp_controller.specs.Holdings.{Holdings, after_message, answer_to_message, taken_as}
-use Rattle.mscp_host.specs.declared.news.HostFault.{HostFault}
-use Rattle.mscp_host.specs.declared.news.Poll.{Poll}
+use Rattle.mscp_sim.proofs.Common.{◌≡◌, ℕ, ◌<◌, ◌^◌, Bool, true, false, List, refl, ap, sym, ◌∙◌, subst, arith, Option, Some, None, is_some, is_ok, Result, Ok, Err, if◌then◌else◌, false≢true, true≢false, ArrayVec, Command, command_bytes, command_of, opcode_byte, Connection, Sent, SendFault, Holdings, after_message, answer_to_message, taken_as, HostFault, Poll, Submission, Account, asks, asks_unless, oldest, poll_of, polls_oldest, submits, submits_unless, watching, Flight, MatchOn, Matches}
+use Rattle.mscp_host.specs.Accounts.{refusal}
 use Rattle.mscp_host.specs.declared.news.Poll.TheVariants as polls
-use Rattle.mscp_host.specs.declared.submission.Submission.{Submission}
-use Rattle.mscp_host.specs.Accounts.{Account, asks, asks_unless, oldest, poll_of, polls_oldest, refusal, submits, submits_unless, watching}
-use Rattle.mscp_sim.specs.Matches.{Flight, MatchOn, Matches}
 use Rattle.mscp_sim.proofs.TwoEnds.Sending.{carries, polled_match, same_reference, submitted_match, told_now}
 
 -- ---- what was answered

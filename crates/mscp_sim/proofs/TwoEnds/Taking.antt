@@ -1,18 +1,7 @@
 -- What a turn in which an end is handed over leaves, and one in which there is none.
-use Rattle.std.proofs.Common.{◌≡◌, ℕ, List, [], ◌∷◌, drop, refl, ap, sym, ◌∙◌, subst, arith}
-use Rattle.std.specs.Prelude.{option_map, Option, Some, None, is_some, slice_get, unwrap_or, Ok}
-use Rattle.std.proofs.lemmas.Bool.{false≢true, true≢false}
-use Rattle.arrayvec.specs.ArrayVec.{ArrayVec}
-use Rattle.mscp_packet.specs.declared.end.End.{End}
-use Rattle.mscp_packet.specs.Ends.{end_bytes, IsEnd}
+use Rattle.mscp_sim.proofs.Common.{◌≡◌, ℕ, List, [], ◌∷◌, drop, refl, ap, sym, ◌∙◌, subst, arith, option_map, Option, Some, None, is_some, slice_get, unwrap_or, Ok, false≢true, true≢false, ArrayVec, End, end_bytes, IsEnd, Moment, Connection, of, put, Holdings, after_take, end_taken, Account, answered, heard, news_with, received, Flight, Matches}
 use Rattle.mscp_events.specs.declared.event.Event.TheVariants as events
 use Rattle.mscp_controller.specs.declared.entry.Entry.TheVariants as entries
-use Rattle.mscp_controller.specs.History.{Moment}
-use Rattle.mscp_events.specs.declared.connection.Connection.{Connection}
-use Rattle.mscp_events.specs.Both.{of, put}
-use Rattle.mscp_controller.specs.Holdings.{Holdings, after_take, end_taken}
-use Rattle.mscp_host.specs.Accounts.{Account, answered, heard, news_with, received}
-use Rattle.mscp_sim.specs.Matches.{Flight, Matches}
 use Rattle.mscp_sim.proofs.TwoEnds.Handing.{first_heard, received_match}
 use Rattle.mscp_sim.proofs.TwoEnds.Sides.{put_own}
 

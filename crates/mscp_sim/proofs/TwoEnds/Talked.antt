@@ -1,37 +1,8 @@
 -- A whole talk: what is heard in each turn.
-use Rattle.std.proofs.Common.{◌≡◌, ⊎_elim, ℕ, ◌+◌, ◌<◌, ◌≤◌, true, false, List, [], ◌∷◌, ◌++◌, map, take, drop, length, refl, ap, sym, ◌∙◌, subst, arith}
-use Rattle.std.specs.Prelude.{zip, Option, Some, None, is_some, option_to_list}
-use Rattle.std.proofs.lemmas.Bool.{cases_eq, false≢true}
-use Rattle.std.proofs.lemmas.List.{drop-drop, length-drop, get_or-drop}
-use Rattle.mscp_packet.specs.declared.end.End.{End}
-use Rattle.mscp_events.specs.declared.connection.Connection.{Connection}
-use Rattle.mscp_events.specs.declared.connection.Connection.TheVariants.{First, Second}
-use Rattle.mscp_queue.proofs.Named.{one_side}
-use Rattle.mscp_queue.specs.declared.view.Choice.{Choice}
-use Rattle.mscp_events.specs.Both.{Both, of}
-use Rattle.mscp_controller.specs.Legal.{IsLegal, IsPicked}
-use Rattle.mscp_controller.specs.Sweeping.{IsSweeping}
-use Rattle.mscp_events.specs.Settings.{Settings, IsValid, credits_of}
-use Rattle.mscp_controller.specs.Calls.{AnsweredCalls}
-use Rattle.mscp_controller.specs.Controllers.{ControllersKeepThePromise, KeepsPromise}
-use Rattle.mscp_controller.specs.Headline.{Promise}
-use Rattle.mscp_controller.specs.History.{Moment, Trace}
-use Rattle.mscp_controller.specs.Holdings.{Holdings}
+use Rattle.mscp_sim.proofs.Common.{◌≡◌, ⊎_elim, ℕ, ◌+◌, ◌<◌, ◌≤◌, true, false, List, [], ◌∷◌, ◌++◌, map, take, drop, length, refl, ap, sym, ◌∙◌, subst, arith, zip, Option, Some, None, is_some, option_to_list, cases_eq, false≢true, drop-drop, length-drop, get_or-drop, End, Connection, First, Second, one_side, Choice, Both, of, IsLegal, IsPicked, IsSweeping, Settings, IsValid, credits_of, AnsweredCalls, ControllersKeepThePromise, KeepsPromise, Promise, Moment, Trace, Holdings, RunsKeepThePromise, Account, fresh, end_heard, figure_in, handed_over, is_end_of, reference, Stands, found_before, found_out, start, Turn, Heard, Flight, Match, Matches, Said, Talk, heard_by, history, said, trace_of, Converses, AnswersTurn, Says, AreTwoEnds}
 use Rattle.mscp_controller.specs.Holdings as holdings
-use Rattle.mscp_controller.specs.Runs.{RunsKeepThePromise}
-use Rattle.mscp_host.specs.Accounts.{Account, fresh}
-use Rattle.mscp_host.specs.Histories.{end_heard, figure_in, handed_over, is_end_of, reference}
-use Rattle.mscp_host.specs.Law.{Stands}
-use Rattle.mscp_host.proofs.Collected.{found_before, found_out}
-use Rattle.mscp_host.proofs.Promised.{start}
-use Rattle.mscp_sim.specs.declared.conversing.Turn.{Turn}
 use Rattle.mscp_sim.specs.declared.conversing.Turn.TheVariants as turns
-use Rattle.mscp_sim.specs.declared.conversing.Heard.{Heard}
 use Rattle.mscp_sim.specs.declared.conversing.Heard.TheVariants as hears
-use Rattle.mscp_sim.specs.Matches.{Flight, Match, Matches}
-use Rattle.mscp_sim.specs.Talks.{Said, Talk, heard_by, history, said, trace_of}
-use Rattle.mscp_sim.specs.Conversing.{Converses, AnswersTurn, Says}
-use Rattle.mscp_sim.specs.TwoEnds.{AreTwoEnds}
 use Rattle.mscp_sim.proofs.TwoEnds.Between.{Known, never_reset, never_stands}
 use Rattle.mscp_sim.proofs.TwoEnds.Parts.{moment_is, own_part}
 use Rattle.mscp_sim.proofs.TwoEnds.Talking.{GoesTo, Kept}

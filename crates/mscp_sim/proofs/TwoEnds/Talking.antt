@@ -1,20 +1,5 @@
 -- A talk that goes on by one turn.
-use Rattle.std.proofs.Common.{◌≡◌, ℕ, ◌+◌, ◌<◌, List, [], ◌∷◌, ◌++◌, map, take, length, get_or, refl, ap, sym, ◌∙◌, append_assoc, append-nil, arith}
-use Rattle.std.specs.Prelude.{Option, Some, None, option_to_list}
-use Rattle.std.proofs.lemmas.Grind.{flat_map-append}
-use Rattle.std.proofs.lemmas.List.{map-append, take_more}
-use Rattle.mscp_queue.specs.declared.view.Choice.{Choice}
-use Rattle.mscp_events.specs.Both.{Both}
-use Rattle.mscp_controller.specs.History.{Moment, Trace}
-use Rattle.mscp_controller.specs.Holdings.{Holdings}
-use Rattle.mscp_controller.proofs.Bridge.Owning.{owner_kept}
-use Rattle.mscp_host.specs.Accounts.{Account}
-use Rattle.mscp_sim.specs.declared.conversing.Talk.{Talk as Lists}
-use Rattle.mscp_sim.specs.declared.conversing.Turn.{Turn}
-use Rattle.mscp_sim.specs.declared.conversing.Heard.{Heard}
-use Rattle.mscp_sim.specs.Matches.{Match}
-use Rattle.mscp_sim.specs.Talks.{Said, Talk, trace_of}
-use Rattle.mscp_sim.specs.Conversing.{Converses, Goes, GoesOn, AnswersTurn, Says}
+use Rattle.mscp_sim.proofs.Common.{◌≡◌, ℕ, ◌+◌, ◌<◌, List, [], ◌∷◌, ◌++◌, map, take, length, get_or, refl, ap, sym, ◌∙◌, append_assoc, append-nil, arith, Option, Some, None, option_to_list, flat_map-append, map-append, take_more, Choice, Both, Moment, Trace, Holdings, owner_kept, Account, Lists, Turn, Heard, Match, Said, Talk, trace_of, Converses, Goes, GoesOn, AnswersTurn, Says}
 
 converses_push : {K : Type 0} (picks : List Choice → ℕ → Type 0) (a m a' : Both Account) (h n h' : Holdings K)
     (talk : Talk) (s : Said) → Converses picks a h talk m n → Says picks m n s a' h'

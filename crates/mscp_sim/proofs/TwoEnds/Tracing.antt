@@ -1,16 +1,6 @@
 -- The controller's trace is that of the calls that came to it, and what that promises.
-use Rattle.std.proofs.Common.{◌≡◌, ℕ, ◌+◌, ◌<◌, List, [], ◌∷◌, ◌++◌, map, take, length, refl, ap, ◌∙◌, subst, arith, append-nil}
-use Rattle.std.specs.Prelude.{zip, Option, Some, None, option_to_list}
-use Rattle.std.proofs.lemmas.Grind.{flat_map-append}
-use Rattle.std.proofs.lemmas.List.{map-append, take_more}
-use Rattle.mscp_queue.specs.declared.view.Choice.{Choice}
-use Rattle.mscp_events.specs.declared.event.Event.{Event}
-use Rattle.mscp_controller.specs.declared.entry.Entry.{Entry}
-use Rattle.mscp_controller.specs.History.{Moment, Trace}
-use Rattle.mscp_controller.specs.Holdings.{Answered, Holdings}
-use Rattle.mscp_controller.specs.Calls.{AnsweredCalls, AnswersCall, Call, Plain, history}
-use Rattle.mscp_sim.specs.Talks.{Said, Talk, said, trace_of}
-use Rattle.mscp_sim.specs.Conversing.{AnswersTurn}
+use Rattle.mscp_sim.proofs.Common.{◌≡◌, ℕ, ◌+◌, ◌<◌, List, [], ◌∷◌, ◌++◌, map, take, length, refl, ap, ◌∙◌, subst, arith, append-nil, zip, Option, Some, None, option_to_list, flat_map-append, map-append, take_more, Choice, Event, Entry, Moment, Trace, Answered, Holdings, AnsweredCalls, AnswersCall, Call, Plain, Said, Talk, said, trace_of, AnswersTurn}
+use Rattle.mscp_controller.specs.Calls.{history}
 
 -- the calls of a trace
 abbrev pub calls_of : Trace → List Call

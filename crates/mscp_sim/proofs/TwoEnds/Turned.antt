@@ -1,39 +1,11 @@
 -- What is said in a turn keeps the match, for the hosts of both connections.
-use Rattle.std.proofs.Common.{◌^◌, ◌≡◌, ℕ, ◌<◌, Bool, true, false, List, ◌∷◌, refl, ap, sym, ◌∙◌, subst, arith}
-use Rattle.std.specs.Prelude.{slice_get, Option, Some, None, is_some, unwrap_or, Result, Ok, Err}
-use Rattle.std.proofs.lemmas.Bool.{and_parts, false≢true, true≢false}
-use Rattle.arrayvec.specs.ArrayVec.{ArrayVec}
-use Rattle.mscp_packet.specs.declared.command.Command.{Command}
-use Rattle.mscp_packet.specs.declared.end.End.{End}
-use Rattle.mscp_packet.specs.Commands.{command_of}
-use Rattle.mscp_packet.specs.Ends.{IsEnd}
-use Rattle.mscp_events.specs.declared.connection.Connection.{Connection}
+use Rattle.mscp_sim.proofs.Common.{◌^◌, ◌≡◌, ℕ, ◌<◌, Bool, true, false, List, ◌∷◌, refl, ap, sym, ◌∙◌, subst, arith, slice_get, Option, Some, None, is_some, unwrap_or, Result, Ok, Err, and_parts, false≢true, true≢false, ArrayVec, Command, End, command_of, IsEnd, Connection, Both, of, put, Choice, same_connection, one_side, own_side, Sent, sent_command, Moment, Holdings, after_message, after_take, end_taken, queues_by, HostFault, Poll, Submission, Account, oldest, polls_oldest, submits, end_heard, end_or_none, is_poll, is_sent, reference_in, Heard, Turn, Flight, Match, MatchOn, Matches, Said, heard_by, receives_in, AnswersTurn, IsSound, Says, IsHanded, IsHeard, IsPolled, IsSubmitted}
 use Rattle.mscp_events.specs.declared.event.Event.TheVariants as events
-use Rattle.mscp_events.specs.Both.{Both, of, put}
-use Rattle.mscp_queue.specs.declared.view.Choice.{Choice}
-use Rattle.mscp_queue.specs.Names.{same_connection}
-use Rattle.mscp_queue.proofs.Named.{one_side, own_side}
 use Rattle.mscp_controller.specs.declared.entry.Entry.TheVariants as entries
-use Rattle.mscp_controller.specs.declared.entry.Sent.{Sent}
-use Rattle.mscp_controller.specs.Commands.{sent_command}
-use Rattle.mscp_controller.specs.History.{Moment}
-use Rattle.mscp_controller.specs.Holdings.{Holdings, after_message, after_take, end_taken}
-use Rattle.mscp_controller.proofs.Promise.Sides.{queues_by}
-use Rattle.mscp_host.specs.declared.news.HostFault.{HostFault}
-use Rattle.mscp_host.specs.declared.news.Poll.{Poll}
 use Rattle.mscp_host.specs.declared.news.Poll.TheVariants as polls
-use Rattle.mscp_host.specs.declared.submission.Submission.{Submission}
-use Rattle.mscp_host.specs.Accounts.{Account, oldest, polls_oldest, submits}
 use Rattle.mscp_host.specs.Histories as host
-use Rattle.mscp_host.specs.Histories.{end_heard, end_or_none, is_poll, is_sent, reference_in}
-use Rattle.mscp_sim.specs.declared.conversing.Heard.{Heard}
 use Rattle.mscp_sim.specs.declared.conversing.Heard.TheVariants as hears
-use Rattle.mscp_sim.specs.declared.conversing.Turn.{Turn}
 use Rattle.mscp_sim.specs.declared.conversing.Turn.TheVariants as turns
-use Rattle.mscp_sim.specs.Matches.{Flight, Match, MatchOn, Matches}
-use Rattle.mscp_sim.specs.Talks.{Said, heard_by, receives_in}
-use Rattle.mscp_sim.specs.Conversing.{AnswersTurn, IsSound, Says}
-use Rattle.mscp_sim.specs.TwoEnds.{IsHanded, IsHeard, IsPolled, IsSubmitted}
 use Rattle.mscp_sim.proofs.TwoEnds.Foreign.{foreign_message, foreign_take}
 use Rattle.mscp_sim.proofs.TwoEnds.Handing.{read_end}
 use Rattle.mscp_sim.proofs.TwoEnds.Sending.{told_now}

@@ -1,40 +1,9 @@
 -- One turn of a talk: what is heard is what the rules of a host say of what the talk says so far.
-use Rattle.std.proofs.Common.{◌≡◌, ◌↔◌, ℕ, ◌+◌, ◌<◌, ◌≤◌, Bool, true, false, List, [], ◌∷◌, map, take, length, refl, ap, sym, ◌∙◌, subst, arith}
-use Rattle.std.specs.Prelude.{◌≢◌, nat_eq, Option, Some, None, option_map, unwrap_or}
-use Rattle.std.specs.List.{list_any}
-use Rattle.std.proofs.lemmas.Bool.{and_parts, eqb-true, eq-eqb, false≢true, true_from_ne_false}
-use Rattle.mscp_packet.specs.declared.end.End.{End}
-use Rattle.mscp_events.specs.declared.connection.Connection.{Connection}
-use Rattle.mscp_events.specs.declared.connection.Connection.TheVariants.{First, Second}
-use Rattle.mscp_events.specs.Settings.{Settings, credits_of}
-use Rattle.mscp_events.specs.Both.{Both, of}
-use Rattle.mscp_queue.specs.declared.view.Choice.{Choice}
-use Rattle.mscp_queue.specs.Kept.{names}
-use Rattle.mscp_queue.specs.Names.{name_on, same_name}
-use Rattle.mscp_queue.specs.Records.{Record}
-use Rattle.mscp_controller.specs.Calls.{AnsweredCalls}
-use Rattle.mscp_controller.specs.Commands.{name, sent_command, waiting}
-use Rattle.mscp_controller.specs.Controllers.{KeepsPromise}
-use Rattle.mscp_controller.specs.Figures.{figure_of}
-use Rattle.mscp_controller.specs.Headline.{Promise}
-use Rattle.mscp_controller.specs.History.{Moment, Trace}
-use Rattle.mscp_controller.specs.Holdings.{Holdings, fresh, numbers, waiting_on}
-use Rattle.mscp_controller.proofs.Promise.Sides.{queues_by}
+use Rattle.mscp_sim.proofs.Common.{◌≡◌, ◌↔◌, ℕ, ◌+◌, ◌<◌, ◌≤◌, Bool, true, false, List, [], ◌∷◌, map, take, length, refl, ap, sym, ◌∙◌, subst, arith, ◌≢◌, nat_eq, Option, Some, None, option_map, unwrap_or, list_any, and_parts, eqb-true, eq-eqb, false≢true, true_from_ne_false, End, Connection, First, Second, Settings, credits_of, Both, of, Choice, names, name_on, same_name, Record, AnsweredCalls, name, sent_command, waiting, KeepsPromise, figure_of, Promise, Moment, Trace, Holdings, numbers, waiting_on, queues_by, Submission, Account, oldest, History, asked_for, asks_about, end_heard, figure_in, found_stands, handed_over, in_flight, is_end_of, is_it, is_outstanding, is_poll, is_sent, moment, news_heard, reference, reference_found, reference_in, submission_at, watch_at, Answers, Stands, found_out, oldest_is, it_is, losses_if, resets_if, IsApart, flies, flight_back, flight_new, step, Flight, HasFlight, IsFlight, Match, Matches, Talk, account_at, accounts_at, figure_told, history, said, trace_of, Says, IsHeard}
+use Rattle.mscp_controller.specs.Holdings.{fresh}
+use Rattle.mscp_host.proofs.Stepping.{Goes}
 use Rattle.mscp_host.specs.declared.news.News.TheVariants as news
-use Rattle.mscp_host.specs.declared.submission.Submission.{Submission}
-use Rattle.mscp_host.specs.Accounts.{Account, oldest}
-use Rattle.mscp_host.specs.Histories.{History, asked_for, asks_about, end_heard, figure_in, found_stands, handed_over, in_flight, is_end_of, is_it, is_outstanding, is_poll, is_sent, moment, news_heard, reference, reference_found, reference_in, submission_at, watch_at}
-use Rattle.mscp_host.specs.Law.{Answers, Stands}
-use Rattle.mscp_host.proofs.Collected.{found_out}
-use Rattle.mscp_host.proofs.Kept.{oldest_is}
-use Rattle.mscp_host.proofs.Promised.{it_is, losses_if, resets_if}
-use Rattle.mscp_host.proofs.Received.{IsApart, flies, flight_back, flight_new}
-use Rattle.mscp_host.proofs.Stepping.{Goes, step}
 use Rattle.mscp_sim.specs.declared.conversing.Heard.TheVariants as hears
-use Rattle.mscp_sim.specs.Matches.{Flight, HasFlight, IsFlight, Match, Matches}
-use Rattle.mscp_sim.specs.Talks.{Talk, account_at, accounts_at, figure_told, history, said, trace_of}
-use Rattle.mscp_sim.specs.Conversing.{Says}
-use Rattle.mscp_sim.specs.TwoEnds.{IsHeard}
 use Rattle.mscp_sim.proofs.TwoEnds.Figured.{some_figure}
 use Rattle.mscp_sim.proofs.TwoEnds.Handing.{alone, first_is}
 use Rattle.mscp_sim.proofs.TwoEnds.Parts.{answers, moment_is, news_of, own_part, said_news}

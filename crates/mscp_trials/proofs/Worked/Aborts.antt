@@ -1,12 +1,6 @@
 -- Commands that are aborted, in service and before, and what that leaves of the figures of others.
-use Rattle.std.proofs.Common.{◌≡◌, true, [], ◌∷◌, ◌++◌, take, refl}
-use Rattle.std.specs.Prelude.{replicate, Some, None}
+use Rattle.mscp_trials.proofs.Common.{◌≡◌, true, [], ◌∷◌, ◌++◌, take, refl, replicate, Some, None, Good, Trace, passed, startable, IsLegal, answers_by, legal_by}
 use Rattle.mscp_packet.specs.declared.command.Order.TheVariants as orders
-use Rattle.mscp_events.specs.declared.block.Block.TheVariants.{Good}
-use Rattle.mscp_controller.specs.History.{Trace}
-use Rattle.mscp_controller.specs.Passing.{passed, startable}
-use Rattle.mscp_controller.specs.Legal.{IsLegal}
-use Rattle.mscp_controller.proofs.Bridge.Legals.{answers_by, legal_by}
 use Rattle.mscp_trials.proofs.Worked.Literals.{settings, came_online, read, queued, answered, aborted, aborted_from, looked, took, took_none, served, with_budget}
 
 -- A read of three blocks is aborted after one. Its end stands before that of the ABORT, and counts the block.

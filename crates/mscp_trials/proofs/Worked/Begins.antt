@@ -1,20 +1,7 @@
 -- What was begun is held to, whatever comes in between, until it is aborted.
-use Rattle.std.proofs.Common.{◌≡◌, ℕ, true, false, List, [], ◌∷◌, ◌++◌, map, take, refl, ap, arith}
-use Rattle.std.specs.Prelude.{Some, Ok, Err, unwrap_or, replicate}
-use Rattle.std.proofs.lemmas.Bool.{false≢true}
-use Rattle.mscp_queue.specs.Names.{name_on}
-use Rattle.mscp_events.specs.declared.connection.Connection.TheVariants.{First}
-use Rattle.mscp_events.specs.declared.block.Block.TheVariants.{Good}
+use Rattle.mscp_trials.proofs.Common.{◌≡◌, ℕ, true, false, List, [], ◌∷◌, ◌++◌, map, take, refl, ap, arith, Some, Ok, Err, unwrap_or, replicate, false≢true, name_on, First, Good, Upcoming, NotBegun, Moment, is_waiting, cost, IsLegal, swept, Begin, Call, Finish, HoldsTo, HoldsToBegun, IsBegun, IsBegunSince, IsForetold, Plain, call_at, answers_by, legal_by}
+use Rattle.mscp_controller.specs.Calls.{history}
 use Rattle.mscp_queue.specs.declared.report.Report.TheVariants as reports
-use Rattle.mscp_queue.specs.declared.upcoming.Upcoming.{Upcoming}
-use Rattle.mscp_controller.specs.declared.entry.NotBegun.{NotBegun}
-use Rattle.mscp_controller.specs.History.{Moment}
-use Rattle.mscp_controller.specs.Commands.{is_waiting}
-use Rattle.mscp_controller.specs.Units.{cost}
-use Rattle.mscp_controller.specs.Legal.{IsLegal}
-use Rattle.mscp_controller.specs.Sweeping.{swept}
-use Rattle.mscp_controller.specs.Calls.{Begin, Call, Finish, HoldsTo, HoldsToBegun, IsBegun, IsBegunSince, IsForetold, Plain, call_at, history}
-use Rattle.mscp_controller.proofs.Bridge.Legals.{answers_by, legal_by}
 use Rattle.mscp_trials.proofs.Worked.Literals.{settings, came_online, read, queued, aborted, served, moved, took}
 
 abbrev plain : Moment → Call

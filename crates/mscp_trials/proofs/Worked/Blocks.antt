@@ -1,12 +1,7 @@
 -- Which blocks a transfer takes, and which transfers are refused.
-use Rattle.std.proofs.Common.{true, false, [], ◌∷◌, ◌++◌, refl}
-use Rattle.std.specs.Prelude.{replicate, Some, None}
+use Rattle.mscp_trials.proofs.Common.{true, false, [], ◌∷◌, ◌++◌, refl, replicate, Some, None, Good, Bad, Trace, IsLegal, answers_by, legal_by}
 use Rattle.mscp_packet.specs.declared.command.MoveKind.TheVariants as moves
 use Rattle.mscp_packet.specs.declared.command.Order.TheVariants as orders
-use Rattle.mscp_events.specs.declared.block.Block.TheVariants.{Good, Bad}
-use Rattle.mscp_controller.specs.History.{Trace}
-use Rattle.mscp_controller.specs.Legal.{IsLegal}
-use Rattle.mscp_controller.proofs.Bridge.Legals.{answers_by, legal_by}
 use Rattle.mscp_trials.proofs.Worked.Literals.{settings, came_online, read, queued, answered, took, looked, served, moved, moved_by}
 
 -- A transfer of no bytes takes one step.

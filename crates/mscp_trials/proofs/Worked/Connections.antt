@@ -1,29 +1,12 @@
 -- Two hosts: what is legal where each has a connection of its own, and what isn't right.
-use Rattle.std.proofs.Common.{◌≡◌, ℕ, true, List, [], ◌∷◌, ◌++◌, take, refl, ap, arith}
-use Rattle.std.specs.Prelude.{replicate, Option, Some, None, Result, is_some, is_ok, slice_index, Ok, Err}
-use Rattle.std.proofs.lemmas.Bool.{true≢false, false≢true}
-use Rattle.arrayvec.specs.ArrayVec.{ArrayVec}
-use Rattle.mscp_packet.specs.declared.command.Order.{Order}
+use Rattle.mscp_trials.proofs.Common.{◌≡◌, ℕ, true, List, [], ◌∷◌, ◌++◌, take, refl, ap, arith, replicate, Option, Some, None, Result, is_some, is_ok, slice_index, Ok, Err, true≢false, false≢true, ArrayVec, Order, End, command_bytes, Good, Connection, First, Second, SendFault, Sent, Event, Settings, Trace, Moment, figure, balance, IsLegal, IsRight, answers_by, legal_by}
+use Rattle.mscp_controller.specs.Account.{outstanding}
 use Rattle.mscp_packet.specs.declared.command.Order.TheVariants as orders
-use Rattle.mscp_packet.specs.declared.end.End.{End}
-use Rattle.mscp_packet.specs.Commands.{command_bytes}
-use Rattle.mscp_events.specs.declared.block.Block.TheVariants.{Good}
-use Rattle.mscp_events.specs.declared.connection.Connection.{Connection}
-use Rattle.mscp_events.specs.declared.connection.Connection.TheVariants.{First, Second}
 use Rattle.mscp_queue.specs.declared.report.Report.TheVariants as reports
-use Rattle.mscp_controller.specs.declared.entry.SendFault.{SendFault}
 use Rattle.mscp_controller.specs.declared.entry.SendFault.TheVariants as faults
-use Rattle.mscp_controller.specs.declared.entry.Sent.{Sent}
 use Rattle.mscp_controller.specs.declared.entry.Sent.TheVariants as sents
-use Rattle.mscp_events.specs.declared.event.Event.{Event}
 use Rattle.mscp_events.specs.declared.event.Event.TheVariants as events
 use Rattle.mscp_controller.specs.declared.entry.Entry.TheVariants as entries
-use Rattle.mscp_events.specs.Settings.{Settings}
-use Rattle.mscp_controller.specs.History.{Trace, Moment}
-use Rattle.mscp_controller.specs.Figures.{figure}
-use Rattle.mscp_controller.specs.Account.{balance, outstanding}
-use Rattle.mscp_controller.specs.Legal.{IsLegal, IsRight}
-use Rattle.mscp_controller.proofs.Bridge.Legals.{answers_by, legal_by}
 use Rattle.mscp_trials.proofs.Worked.Literals.{settings_of, shape, read, moved, onlined}
 
 -- both connections have so many credits

@@ -1,14 +1,8 @@
 -- Which messages are refused for want of a credit, for their reference number, or for their length.
-use Rattle.std.proofs.Common.{◌≡◌, [], ◌∷◌, ◌++◌, refl}
-use Rattle.std.specs.Prelude.{replicate, None, Ok, Err}
+use Rattle.mscp_trials.proofs.Common.{◌≡◌, [], ◌∷◌, ◌++◌, refl, replicate, None, Ok, Err, Trace, First, balance, IsLegal, answers_by, legal_by}
 use Rattle.mscp_packet.specs.declared.command.Order.TheVariants as orders
 use Rattle.mscp_controller.specs.declared.entry.SendFault.TheVariants as faults
 use Rattle.mscp_controller.specs.declared.entry.Sent.TheVariants as sents
-use Rattle.mscp_controller.specs.History.{Trace}
-use Rattle.mscp_events.specs.declared.connection.Connection.TheVariants.{First}
-use Rattle.mscp_controller.specs.Account.{balance}
-use Rattle.mscp_controller.specs.Legal.{IsLegal}
-use Rattle.mscp_controller.proofs.Bridge.Legals.{answers_by, legal_by}
 use Rattle.mscp_trials.proofs.Worked.Literals.{settings, read, raw, queued, answered, refused, took, took_none, idle, looked}
 
 -- With two credits a read takes one, and the other is for polls alone. A credit is back once an end is taken.

@@ -1,14 +1,7 @@
 -- How heads go over the cylinders of their units.
-use Rattle.std.proofs.Common.{◌≡◌, true, false, [], ◌∷◌, ◌++◌, take, refl}
-use Rattle.std.specs.Prelude.{replicate, Some, None}
+use Rattle.mscp_trials.proofs.Common.{◌≡◌, true, false, [], ◌∷◌, ◌++◌, take, refl, replicate, Some, None, Good, Bad, Trace, startable, head, IsLegal, answers_by, legal_by}
 use Rattle.mscp_packet.specs.declared.command.Order.TheVariants as orders
 use Rattle.mscp_packet.specs.declared.end.EndBody.TheVariants as bodies
-use Rattle.mscp_events.specs.declared.block.Block.TheVariants.{Good, Bad}
-use Rattle.mscp_controller.specs.History.{Trace}
-use Rattle.mscp_controller.specs.Passing.{startable}
-use Rattle.mscp_controller.specs.Units.{head}
-use Rattle.mscp_controller.specs.Legal.{IsLegal}
-use Rattle.mscp_controller.proofs.Bridge.Legals.{answers_by, legal_by}
 use Rattle.mscp_trials.proofs.Worked.Literals.{settings, two_units, came_online, read, queued, took, served, moved, onlined}
 
 -- A head that goes up serves what lies above it, turns, and serves what lies below.

@@ -1,11 +1,5 @@
 -- Literal packets and the lines that they are shown as, and a word of each fault.
-use Rattle.std.proofs.Common.{◌≡◌, ◌++◌, refl, Ok, Err}
-use Rattle.std.specs.Prelude.{codes, replicate}
-use Rattle.std.specs.Fmt.{digits}
-use Rattle.hex.specs.Hex.{decode_pairs, encode_with}
-use Rattle.mscp_packet.specs.Commands.{command_of}
-use Rattle.mscp_text.specs.Lines.{line}
-use Rattle.mscp_text.specs.Shown.{shown}
+use Rattle.mscp_trials.proofs.Common.{◌≡◌, ◌++◌, refl, Ok, Err, codes, replicate, digits, decode_pairs, encode_with, command_of, line, shown}
 use Rattle.mscp_text.specs.declared.packet.ShowFault.TheVariants as faults
 
 -- ---- packets

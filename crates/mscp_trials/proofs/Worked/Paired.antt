@@ -1,34 +1,18 @@
 -- A literal talk of two hosts that use the same numbers, worked by hand: what each keeps, and what is handed to which.
-use Rattle.std.proofs.Common.{◌≡◌, ℕ, true, [], ◌∷◌, refl}
-use Rattle.std.specs.Prelude.{Option, Some, None, Ok, Err}
-use Rattle.mscp_packet.specs.declared.command.Command.{Command}
-use Rattle.mscp_packet.specs.declared.command.Order.{Order}
+use Rattle.mscp_trials.proofs.Common.{◌≡◌, ℕ, true, [], ◌∷◌, refl, Option, Some, None, Ok, Err, Command, Order, End, command_bytes, end_bytes, Good, Connection, First, Second, Sent, Settings, fresh, polls_oldest, Heard, handed_over, outstanding, Said, Talk, account_at, figure_told, history, answers_by}
 use Rattle.mscp_packet.specs.declared.command.Order.TheVariants as orders
-use Rattle.mscp_packet.specs.declared.end.End.{End}
 use Rattle.mscp_packet.specs.declared.end.EndBody.TheVariants as bodies
-use Rattle.mscp_packet.specs.Commands.{command_bytes}
-use Rattle.mscp_packet.specs.Ends.{end_bytes}
-use Rattle.mscp_events.specs.declared.block.Block.TheVariants.{Good}
-use Rattle.mscp_events.specs.declared.connection.Connection.{Connection}
-use Rattle.mscp_events.specs.declared.connection.Connection.TheVariants.{First, Second}
 use Rattle.mscp_queue.specs.declared.report.Report.TheVariants as reports
 use Rattle.mscp_events.specs.declared.event.Event.TheVariants as events
 use Rattle.mscp_controller.specs.declared.entry.Entry.TheVariants as entries
-use Rattle.mscp_controller.specs.declared.entry.Sent.{Sent}
 use Rattle.mscp_controller.specs.declared.entry.Sent.TheVariants as sents
-use Rattle.mscp_events.specs.Settings.{Settings}
 use Rattle.mscp_trials.proofs.Worked.Literals.{onlined, read, settings}
-use Rattle.mscp_host.specs.Accounts.{fresh, polls_oldest}
 use Rattle.mscp_host.specs.Accounts as host
 use Rattle.mscp_host.specs.declared.news.HostFault.TheVariants as faults
 use Rattle.mscp_host.specs.declared.news.Poll.TheVariants as polls
 use Rattle.mscp_host.specs.declared.news.News.TheVariants as news
 use Rattle.mscp_sim.specs.declared.conversing.Turn.TheVariants as turns
-use Rattle.mscp_sim.specs.declared.conversing.Heard.{Heard}
 use Rattle.mscp_sim.specs.declared.conversing.Heard.TheVariants as hears
-use Rattle.mscp_host.specs.Histories.{handed_over, outstanding}
-use Rattle.mscp_sim.specs.Talks.{Said, Talk, account_at, figure_told, history}
-use Rattle.mscp_controller.proofs.Bridge.Legals.{answers_by}
 
 -- ---- short words
 

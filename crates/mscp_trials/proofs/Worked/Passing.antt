@@ -1,11 +1,5 @@
 -- Which of three reads may start, by how many blocks one may be passed.
-use Rattle.std.proofs.Common.{◌≡◌, true, [], ◌∷◌, ◌++◌, take, refl}
-use Rattle.std.specs.Prelude.{Some, None}
-use Rattle.mscp_events.specs.declared.block.Block.TheVariants.{Good}
-use Rattle.mscp_controller.specs.History.{Trace}
-use Rattle.mscp_controller.specs.Passing.{passed, startable}
-use Rattle.mscp_controller.specs.Legal.{IsLegal}
-use Rattle.mscp_controller.proofs.Bridge.Legals.{answers_by, legal_by}
+use Rattle.mscp_trials.proofs.Common.{◌≡◌, true, [], ◌∷◌, ◌++◌, take, refl, Some, None, Good, Trace, passed, startable, IsLegal, answers_by, legal_by}
 use Rattle.mscp_trials.proofs.Worked.Literals.{settings, came_online, read, queued, looked, served, moved, with_budget}
 
 -- Three reads where none may be passed: they start in the order in which they came.

@@ -1,14 +1,6 @@
 -- Polls, and the figures that they are answered.
-use Rattle.std.proofs.Common.{◌≡◌, true, false, [], ◌∷◌, ◌++◌, take, refl}
-use Rattle.std.specs.Prelude.{replicate, Some, None}
+use Rattle.mscp_trials.proofs.Common.{◌≡◌, true, false, [], ◌∷◌, ◌++◌, take, refl, replicate, Some, None, Good, Trace, figure, First, balance, IsLegal, answers_by, legal_by}
 use Rattle.mscp_packet.specs.declared.command.Order.TheVariants as orders
-use Rattle.mscp_events.specs.declared.block.Block.TheVariants.{Good}
-use Rattle.mscp_controller.specs.History.{Trace}
-use Rattle.mscp_controller.specs.Figures.{figure}
-use Rattle.mscp_events.specs.declared.connection.Connection.TheVariants.{First}
-use Rattle.mscp_controller.specs.Account.{balance}
-use Rattle.mscp_controller.specs.Legal.{IsLegal}
-use Rattle.mscp_controller.proofs.Bridge.Legals.{answers_by, legal_by}
 use Rattle.mscp_trials.proofs.Worked.Literals.{settings, came_online, read, queued, answered, took, looked, served, moved}
 
 -- A read of two blocks where none may be passed, with a poll before each step: its figure is what is left of it.

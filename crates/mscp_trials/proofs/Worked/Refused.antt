@@ -1,11 +1,7 @@
 -- Orders that are refused when they come.
-use Rattle.std.proofs.Common.{[], ◌∷◌, ◌++◌, refl}
-use Rattle.std.specs.Prelude.{replicate, None, Ok}
+use Rattle.mscp_trials.proofs.Common.{[], ◌∷◌, ◌++◌, refl, replicate, None, Ok, Trace, IsLegal, answers_by, legal_by}
 use Rattle.mscp_packet.specs.declared.command.Order.TheVariants as orders
 use Rattle.mscp_controller.specs.declared.entry.Sent.TheVariants as sents
-use Rattle.mscp_controller.specs.History.{Trace}
-use Rattle.mscp_controller.specs.Legal.{IsLegal}
-use Rattle.mscp_controller.proofs.Bridge.Legals.{answers_by, legal_by}
 use Rattle.mscp_trials.proofs.Worked.Literals.{settings, read, raw, queued, answered, took, looked}
 
 -- Messages that are answered at once with a fault: an opcode that no command has, a unit that is not configured, a

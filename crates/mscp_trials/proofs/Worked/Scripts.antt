@@ -1,25 +1,9 @@
 -- Literal scripts: what they mean, and a fault of each cause.
-use Rattle.std.proofs.Common.{◌≡◌, ◌+◌, ℕ, List, [], ◌∷◌, ◌++◌, length, refl, lit≤, lit<, inl}
-use Rattle.std.specs.Prelude.{codes, replicate, Ok, Err}
-use Rattle.std.specs.List.{flat_map}
-use Rattle.mscp_drive.specs.Shape.{Shape}
-use Rattle.mscp_events.specs.declared.connection.Connection.TheVariants.{First, Second}
-use Rattle.mscp_events.specs.Settings.{Settings}
-use Rattle.mscp_events.specs.declared.block.Block.TheVariants.{Good, Bad}
-use Rattle.mscp_events.specs.declared.event.Event.{Event}
+use Rattle.mscp_trials.proofs.Common.{◌≡◌, ◌+◌, ℕ, List, [], ◌∷◌, ◌++◌, length, refl, lit≤, lit<, inl, codes, replicate, Ok, Err, flat_map, Shape, First, Second, Settings, Good, Bad, Event, command_bytes, Cause, ScriptFault, lines, words, said, number, message, status, form_of, plain_form, message_form, event_form, asked, request, second_request, Place, HasGone, setting, credits, credits_of, limit, unit_of, more_units, first_units, with_unit, gone, unit_or_go, next, after_line, Reads, IsFault, lines_outcome, is_read, is_fault, decode_pairs}
 use Rattle.mscp_events.specs.declared.event.Event.TheVariants as events
 use Rattle.mscp_packet.specs.declared.command.Order.TheVariants as orders
 use Rattle.mscp_packet.specs.declared.command.MoveKind.TheVariants as moves
-use Rattle.mscp_packet.specs.Commands.{command_bytes}
-use Rattle.mscp_reader.specs.declared.fault.Cause.{Cause}
 use Rattle.mscp_reader.specs.declared.fault.Cause.TheVariants as causes
-use Rattle.mscp_reader.specs.declared.fault.ScriptFault.{ScriptFault}
-use Rattle.mscp_reader.specs.Lexical.{lines, words, said, number, message, status}
-use Rattle.mscp_reader.specs.Requests.{form_of, plain_form, message_form, event_form, asked, request, second_request}
-use Rattle.mscp_reader.specs.Grammar.{Place, HasGone, setting, credits, credits_of, limit, unit_of, more_units, first_units, with_unit, gone, unit_or_go, next, after_line, Reads, IsFault}
-use Rattle.mscp_reader.specs.Outcome.{lines_outcome}
-use Rattle.mscp_reader.proofs.Sound.{is_read, is_fault}
-use Rattle.hex.specs.Hex.{decode_pairs}
 
 -- ---- short words
 

@@ -1,14 +1,7 @@
 -- Units that come online and become available.
-use Rattle.std.proofs.Common.{◌≡◌, true, false, [], ◌∷◌, ◌++◌, take, refl}
-use Rattle.std.specs.Prelude.{replicate, Some, None}
+use Rattle.mscp_trials.proofs.Common.{◌≡◌, true, false, [], ◌∷◌, ◌++◌, take, refl, replicate, Some, None, Good, Bad, Trace, startable, is_online, head, IsLegal, answers_by, legal_by}
 use Rattle.mscp_packet.specs.declared.command.Order.TheVariants as orders
 use Rattle.mscp_packet.specs.declared.end.EndBody.TheVariants as bodies
-use Rattle.mscp_events.specs.declared.block.Block.TheVariants.{Good, Bad}
-use Rattle.mscp_controller.specs.History.{Trace}
-use Rattle.mscp_controller.specs.Passing.{startable}
-use Rattle.mscp_controller.specs.Units.{is_online, head}
-use Rattle.mscp_controller.specs.Legal.{IsLegal}
-use Rattle.mscp_controller.proofs.Bridge.Legals.{answers_by, legal_by}
 use Rattle.mscp_trials.proofs.Worked.Literals.{settings, came_online, read, queued, answered, took, served, moved, onlined, bare_end, took_online}
 
 -- The ONLINE of a unit that is online ends with a status of its own, and tells the unit too.

@@ -1,13 +1,5 @@
 -- Which command the sweep starts.
-use Rattle.std.proofs.Common.{◌≡◌, true, [], ◌∷◌, ◌++◌, map, take, refl}
-use Rattle.std.specs.Prelude.{Some, None}
-use Rattle.mscp_events.specs.declared.block.Block.TheVariants.{Good}
-use Rattle.mscp_controller.specs.History.{Trace}
-use Rattle.mscp_controller.specs.Passing.{startable}
-use Rattle.mscp_controller.specs.Units.{cost}
-use Rattle.mscp_controller.specs.Legal.{IsLegal}
-use Rattle.mscp_controller.specs.Sweeping.{swept}
-use Rattle.mscp_controller.proofs.Bridge.Legals.{answers_by, legal_by}
+use Rattle.mscp_trials.proofs.Common.{◌≡◌, true, [], ◌∷◌, ◌++◌, map, take, refl, Some, None, Good, Trace, startable, cost, IsLegal, swept, answers_by, legal_by}
 use Rattle.mscp_trials.proofs.Worked.Literals.{settings, two_units, read, queued, served, moved, with_budget}
 use Rattle.mscp_trials.proofs.Worked.Heads.{carried, two_heads, up_and_down}
 use Rattle.mscp_trials.proofs.Worked.Passing.{in_order, passed_once, passed_twice}

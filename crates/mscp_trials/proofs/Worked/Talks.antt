@@ -1,25 +1,14 @@
 -- Literal talks of the first host alone, worked by hand: what stands there, and what it keeps.
-use Rattle.std.proofs.Common.{◌≡◌, ℕ, true, false, [], ◌∷◌, ◌++◌, Bool, refl, ap, sym, subst, arith}
-use Rattle.std.specs.Prelude.{Option, Some, None, unwrap_or}
-use Rattle.std.proofs.lemmas.Bool.{eqb-true, false≢true}
-use Rattle.mscp_events.specs.declared.connection.Connection.TheVariants.{First}
-use Rattle.mscp_packet.specs.declared.command.Order.{Order}
+use Rattle.mscp_trials.proofs.Common.{◌≡◌, ℕ, true, false, [], ◌∷◌, ◌++◌, Bool, refl, ap, sym, subst, arith, Option, Some, None, unwrap_or, eqb-true, false≢true, First, Order, End, end_bytes, Good, asks_about, is_outstanding, last_told, outstanding, Stands, Said, Talk, account_at, accounts_at, figure_told, history, IsHeard, answers_by}
+use Rattle.mscp_sim.specs.Talks.{said}
 use Rattle.mscp_packet.specs.declared.command.Order.TheVariants as orders
-use Rattle.mscp_packet.specs.declared.end.End.{End}
 use Rattle.mscp_packet.specs.declared.end.EndBody.TheVariants as bodies
-use Rattle.mscp_packet.specs.Ends.{end_bytes}
-use Rattle.mscp_events.specs.declared.block.Block.TheVariants.{Good}
 use Rattle.mscp_queue.specs.declared.report.Report.TheVariants as reports
 use Rattle.mscp_controller.specs.declared.entry.Sent.TheVariants as sents
 use Rattle.mscp_trials.proofs.Worked.Literals.{answered, moved, onlined, queued, read, served, settings, took}
 use Rattle.mscp_host.specs.declared.news.News.TheVariants as news
 use Rattle.mscp_sim.specs.declared.conversing.Turn.TheVariants as turns
 use Rattle.mscp_sim.specs.declared.conversing.Heard.TheVariants as hears
-use Rattle.mscp_host.specs.Histories.{asks_about, is_outstanding, last_told, outstanding}
-use Rattle.mscp_host.specs.Law.{Stands}
-use Rattle.mscp_sim.specs.Talks.{Said, Talk, account_at, accounts_at, figure_told, history, said}
-use Rattle.mscp_sim.specs.TwoEnds.{IsHeard}
-use Rattle.mscp_controller.proofs.Bridge.Legals.{answers_by}
 
 -- ---- short words
 

@@ -1,26 +1,11 @@
 -- Answers that aren't right.
-use Rattle.std.proofs.Common.{◌≡◌, ℕ, zero, suc, true, List, [], ◌∷◌, take, ◌++◌, length, refl, ap, arith}
-use Rattle.std.specs.Prelude.{Option, Some, None, is_some, is_ok, slice_index}
-use Rattle.std.proofs.lemmas.Bool.{true≢false, false≢true}
-use Rattle.arrayvec.specs.ArrayVec.{ArrayVec}
-use Rattle.mscp_packet.specs.declared.command.Order.{Order}
+use Rattle.mscp_trials.proofs.Common.{◌≡◌, ℕ, zero, suc, true, List, [], ◌∷◌, take, ◌++◌, length, refl, ap, arith, Option, Some, None, is_some, is_ok, slice_index, true≢false, false≢true, ArrayVec, Order, End, EndBody, Connection, First, Block, Good, Bad, Settings, Trace, Moment, Service, IsRight, IsServed, waits_below, answers_by}
 use Rattle.mscp_packet.specs.declared.command.Order.TheVariants as orders
-use Rattle.mscp_packet.specs.declared.end.End.{End}
-use Rattle.mscp_packet.specs.declared.end.EndBody.{EndBody}
 use Rattle.mscp_packet.specs.declared.end.EndBody.TheVariants as bodies
-use Rattle.mscp_events.specs.declared.connection.Connection.{Connection}
-use Rattle.mscp_events.specs.declared.connection.Connection.TheVariants.{First}
-use Rattle.mscp_events.specs.declared.block.Block.{Block}
-use Rattle.mscp_events.specs.declared.block.Block.TheVariants.{Good, Bad}
 use Rattle.mscp_controller.specs.declared.entry.SendFault.TheVariants as faults
-use Rattle.mscp_events.specs.Settings.{Settings}
-use Rattle.mscp_controller.specs.History.{Trace, Moment, Service}
-use Rattle.mscp_controller.specs.Legal.{IsRight, IsServed}
-use Rattle.mscp_controller.proofs.Promise.Waits.{waits_below}
 use Rattle.mscp_trials.proofs.Worked.Literals.{settings, came_online, read, queued, answered, refused, took, looked, served, moved, onlined, with_budget}
 use Rattle.mscp_trials.proofs.Worked.Credits.{last_credit}
 use Rattle.mscp_trials.proofs.Worked.Passing.{passed_once}
-use Rattle.mscp_controller.proofs.Bridge.Legals.{answers_by}
 
 -- this answer may not come after t
 abbrev pub IsWrong : Settings → Trace → Moment → Type 0

@@ -1,5 +1,4 @@
-use Rattle.std.proofs.Common.{◌≡◌, drop}
-use Rattle.mscp_host.specs.Apart.{are_apart}
+use Rattle.mscp_host.proofs.Common.{◌≡◌, drop, are_apart}
 use Rattle.mscp_host.proofs.outstanding.are_apart.Given as goal
 
 abbrev pub invariant-loop-place : goal.invariant-loop-place

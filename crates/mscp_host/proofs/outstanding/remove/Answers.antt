@@ -1,6 +1,4 @@
-use Rattle.std.proofs.Common.{ap, sym, ◌∙◌}
-use Rattle.std.specs.List.{position}
-use Rattle.mscp_host.specs.Accounts.{has_reference}
+use Rattle.mscp_host.proofs.Common.{ap, sym, ◌∙◌, position, has_reference}
 use Rattle.mscp_host.proofs.Places.{nowhere, removed_at}
 use Rattle.mscp_host.proofs.outstanding.remove.Goals as goal
 

@@ -1,7 +1,4 @@
-use Rattle.std.proofs.Common.{List, length, ap, sym, subst, arith}
-use Rattle.mscp_host.specs.declared.submission.Submission.{Submission}
-use Rattle.mscp_host.specs.Restored.{account_in}
-use Rattle.mscp_host.specs.Sound.{IsSound}
+use Rattle.mscp_host.proofs.Common.{List, length, ap, sym, subst, arith, Submission, account_in, IsSound}
 use Rattle.mscp_host.proofs.Heads.{account_tells, head_tells}
 use Rattle.mscp_host.proofs.restoring.host_in.Goals as goal
 

@@ -1,7 +1,4 @@
-use Rattle.std.proofs.Common.{ℕ, drop, ap, ◌∙◌}
-use Rattle.mscp_packet.specs.Parts.{parts_in}
-use Rattle.mscp_packet.proofs.Parts.{from_place}
-use Rattle.mscp_host.specs.Restored.{submission_in}
+use Rattle.mscp_host.proofs.Common.{ℕ, drop, ap, ◌∙◌, parts_in, from_place, submission_in}
 use Rattle.mscp_host.proofs.restoring.outstanding_in.Goals as goal
 
 pub returns-clause-value : goal.returns-clause-value

@@ -1,7 +1,4 @@
-use Rattle.std.proofs.Common.{ℕ, ap, ◌∙◌}
-use Rattle.std.specs.Prelude.{slice_index}
-use Rattle.mscp_packet.specs.Number.{num}
-use Rattle.mscp_host.specs.Restored.{watch_in}
+use Rattle.mscp_host.proofs.Common.{ℕ, ap, ◌∙◌, slice_index, num, watch_in}
 use Rattle.mscp_host.proofs.restoring.poll_in.Goals as goal
 
 pub returns : goal.returns

@@ -1,8 +1,4 @@
-use Rattle.std.proofs.Common.{◌≡◌, ◌+◌, ◌*◌, ◌++◌, [], ◌∷◌, List, ℕ, suc, ap, sym, ◌∙◌, arith}
-use Rattle.mscp_packet.specs.Parts.{parts_in}
-use Rattle.mscp_packet.proofs.Parts.{from_place, read_more}
-use Rattle.mscp_host.specs.declared.submission.Submission.{Submission}
-use Rattle.mscp_host.specs.Restored.{submission_in}
+use Rattle.mscp_host.proofs.Common.{◌≡◌, ◌+◌, ◌*◌, ◌++◌, [], ◌∷◌, List, ℕ, suc, ap, sym, ◌∙◌, arith, parts_in, from_place, read_more, Submission, submission_in}
 use Rattle.mscp_host.proofs.restoring.submissions_in.Goals as goal
 
 pub loop-place-preserved : goal.loop-place-preserved

@@ -1,6 +1,4 @@
-use Rattle.std.proofs.Common.{◌≡◌, length}
-use Rattle.mscp_packet.specs.Parts.{parts_in}
-use Rattle.mscp_host.specs.Restored.{submission_in}
+use Rattle.mscp_host.proofs.Common.{◌≡◌, length, parts_in, submission_in}
 use Rattle.mscp_host.proofs.restoring.submissions_in.Given as goal
 
 abbrev pub invariant-loop-place : goal.invariant-loop-place

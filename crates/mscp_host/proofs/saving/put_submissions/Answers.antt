@@ -1,6 +1,4 @@
-use Rattle.std.proofs.Common.{refl, arith}
-use Rattle.mscp_host.specs.Saved.{HasSubmissionRange, submission_bytes}
-use Rattle.mscp_packet.proofs.Parts.{each_more, written_more}
+use Rattle.mscp_host.proofs.Common.{refl, arith, HasSubmissionRange, submission_bytes, each_more, written_more}
 use Rattle.mscp_host.proofs.saving.put_submissions.Goals as goal
 
 pub loop-submission-preserved : goal.loop-submission-preserved

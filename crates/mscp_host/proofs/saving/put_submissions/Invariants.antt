@@ -1,7 +1,4 @@
-use Rattle.std.proofs.Common.{All, ◌≡◌, ◌+◌, ◌*◌, ◌++◌, take}
-use Rattle.std.specs.Prelude.{flat_map}
-use Rattle.arrayvec.specs.ArrayVec.{array_vec_len}
-use Rattle.mscp_host.specs.Saved.{HasSubmissionRange, submission_bytes}
+use Rattle.mscp_host.proofs.Common.{All, ◌≡◌, ◌+◌, ◌*◌, ◌++◌, take, flat_map, array_vec_len, HasSubmissionRange, submission_bytes}
 use Rattle.mscp_host.proofs.saving.put_submissions.Given as goal
 
 abbrev pub invariant-loop-submission : goal.invariant-loop-submission

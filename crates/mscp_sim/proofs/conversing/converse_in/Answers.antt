@@ -1,4 +1,4 @@
-use Rattle.std.proofs.Common.{ap, subst}
+use Rattle.mscp_sim.proofs.Common.{ap, subst}
 use Rattle.mscp_sim.proofs.TwoEnds.Talking.{GoesTo, kept}
 use Rattle.mscp_sim.proofs.TwoEnds.Talked.{match_new, two_ends}
 use Rattle.mscp_sim.proofs.conversing.converse_in.Goals as goal

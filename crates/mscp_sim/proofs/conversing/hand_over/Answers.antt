@@ -1,11 +1,4 @@
-use Rattle.std.proofs.Common.{◌≡◌, ℕ, ap, sym, ◌∙◌, arith, length, refl, subst}
-use Rattle.std.specs.Prelude.{is_ok, slice_get, Some, None}
-use Rattle.std.proofs.lemmas.Bool.{false≢true}
-use Rattle.arrayvec.specs.ArrayVec.{ArrayVec}
-use Rattle.mscp_packet.specs.declared.end.End.{End}
-use Rattle.mscp_packet.specs.Ends.{IsEnd}
-use Rattle.mscp_events.specs.Both.{of, put}
-use Rattle.mscp_host.specs.Accounts.{heard}
+use Rattle.mscp_sim.proofs.Common.{◌≡◌, ℕ, ap, sym, ◌∙◌, arith, length, refl, subst, is_ok, slice_get, Some, None, false≢true, ArrayVec, End, IsEnd, of, put, heard}
 use Rattle.mscp_sim.specs.declared.conversing.Turn.TheVariants as turns
 use Rattle.mscp_sim.specs.declared.conversing.Heard.TheVariants as hears
 use Rattle.mscp_sim.proofs.TwoEnds.Turned.{with_match}

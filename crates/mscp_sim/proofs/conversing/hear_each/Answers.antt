@@ -1,6 +1,4 @@
-use Rattle.std.proofs.Common.{◌≡◌, ◌+◌, ◌-◌, length, arith, subst}
-use Rattle.std.proofs.lemmas.List.{take_all}
-use Rattle.mscp_sim.specs.Rooms.{HasRoom}
+use Rattle.mscp_sim.proofs.Common.{◌≡◌, ◌+◌, ◌-◌, length, arith, subst, take_all, HasRoom}
 use Rattle.mscp_sim.proofs.TwoEnds.Talking.{kept, talks_none, talks_more}
 use Rattle.mscp_sim.proofs.conversing.hear_each.Goals as goal
 

@@ -1,6 +1,4 @@
-use Rattle.std.proofs.Common.{◌-◌, length}
-use Rattle.std.specs.Prelude.{take}
-use Rattle.mscp_sim.specs.Rooms.{HasRoom}
+use Rattle.mscp_sim.proofs.Common.{◌-◌, length, take, HasRoom}
 use Rattle.mscp_sim.proofs.TwoEnds.Talking.{Talks, kept}
 use Rattle.mscp_sim.proofs.conversing.hear_each.Given as goal
 

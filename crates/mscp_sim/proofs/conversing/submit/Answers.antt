@@ -1,13 +1,8 @@
-use Rattle.std.proofs.Common.{◌≡◌, ◌<◌, ◌^◌, ap, sym, ◌∙◌, refl, rules}
-use Rattle.std.specs.Prelude.{is_ok, None, Some, Ok}
-use Rattle.std.proofs.lemmas.Bool.{false≢true}
+use Rattle.mscp_sim.proofs.Common.{◌≡◌, ◌<◌, ◌^◌, ap, sym, ◌∙◌, refl, rules, is_ok, None, Some, Ok, false≢true, of, after_message, answer_to_message, submits}
 use Rattle.mscp_events.specs.declared.event.Event.TheVariants as events
 use Rattle.mscp_controller.specs.declared.entry.Entry.TheVariants as entries
 use Rattle.mscp_sim.specs.declared.conversing.Turn.TheVariants as turns
 use Rattle.mscp_sim.specs.declared.conversing.Heard.TheVariants as hears
-use Rattle.mscp_events.specs.Both.{of}
-use Rattle.mscp_controller.specs.Holdings.{after_message, answer_to_message}
-use Rattle.mscp_host.specs.Accounts.{submits}
 use Rattle.mscp_sim.proofs.TwoEnds.Submitting.{not_refused, submits_match}
 use Rattle.mscp_sim.proofs.TwoEnds.Turned.{with_match}
 use Rattle.mscp_sim.proofs.conversing.submit.Goals as goal

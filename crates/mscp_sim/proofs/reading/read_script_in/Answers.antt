@@ -1,5 +1,4 @@
-use Rattle.mscp_reader.proofs.Whole.{outcome_of_read, outcome_of_fault, told_of}
-use Rattle.mscp_sim.specs.Scripts.{meaning_of}
+use Rattle.mscp_sim.proofs.Common.{outcome_of_read, outcome_of_fault, told_of, meaning_of}
 use Rattle.mscp_sim.proofs.reading.read_script_in.Goals as goal
 
 pub returns-clause-found : goal.returns-clause-found

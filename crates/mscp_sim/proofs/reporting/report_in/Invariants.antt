@@ -1,5 +1,4 @@
-use Rattle.std.proofs.Common.{◌≡◌, take}
-use Rattle.mscp_script.specs.Text.{reported}
+use Rattle.mscp_sim.proofs.Common.{◌≡◌, take, reported}
 use Rattle.mscp_sim.proofs.reporting.report_in.Given as goal
 
 abbrev pub invariant-loop-entry : goal.invariant-loop-entry

@@ -1,7 +1,4 @@
-use Rattle.std.proofs.Common.{length, ap, ◌∙◌, arith}
-use Rattle.mscp_host.specs.Apart.{are_apart}
-use Rattle.mscp_host.specs.Sound.{waiting}
-use Rattle.mscp_host.specs.Watched.{are_told, is_watched}
+use Rattle.mscp_host.proofs.Common.{length, ap, ◌∙◌, arith, are_apart, waiting, are_told, is_watched}
 use Rattle.mscp_host.proofs.Apart.{apart_without}
 use Rattle.mscp_host.proofs.Told.{told_without, waiting_without}
 use Rattle.mscp_host.proofs.Watched.{watched_without}

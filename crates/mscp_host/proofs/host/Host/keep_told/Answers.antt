@@ -1,10 +1,4 @@
-use Rattle.std.proofs.Common.{rules, ◌≡◌, ◌≤◌, ◌<◌, true, ℕ, List, length, ap, subst, sym, ◌∙◌, refl}
-use Rattle.std.specs.Prelude.{Some}
-use Rattle.mscp_host.specs.declared.submission.Submission.{Submission}
-use Rattle.mscp_host.specs.Accounts.{is_about_polled, polled_is_outstanding, with_told}
-use Rattle.mscp_host.specs.Apart.{are_apart}
-use Rattle.mscp_host.specs.Sound.{waiting}
-use Rattle.mscp_host.specs.Watched.{are_told, is_watched}
+use Rattle.mscp_host.proofs.Common.{rules, ◌≡◌, ◌≤◌, ◌<◌, true, ℕ, List, length, ap, subst, sym, ◌∙◌, refl, Some, Submission, is_about_polled, polled_is_outstanding, with_told, are_apart, waiting, are_told, is_watched}
 use Rattle.mscp_host.proofs.Watched.{watched_told}
 use Rattle.mscp_host.proofs.Told.{polled_oldest, told_told, waiting_told}
 use Rattle.mscp_host.proofs.Apart.{apart_told, refilled, told_long}

@@ -1,10 +1,4 @@
-use Rattle.std.proofs.Common.{ℕ, true, List, ap, sym, ◌∙◌}
-use Rattle.std.specs.Prelude.{Result, Some}
-use Rattle.arrayvec.specs.ArrayVec.{ArrayVec}
-use Rattle.mscp_host.specs.declared.news.HostFault.{HostFault}
-use Rattle.mscp_host.specs.declared.submission.Submission.{Submission}
-use Rattle.mscp_host.specs.Accounts.{Account, poll_of}
-use Rattle.mscp_host.specs.Watched.{is_watched}
+use Rattle.mscp_host.proofs.Common.{ℕ, true, List, ap, sym, ◌∙◌, Result, Some, ArrayVec, HostFault, Submission, Account, poll_of, is_watched}
 use Rattle.mscp_host.proofs.Watched.{was_submitted, watched_poll}
 use Rattle.mscp_host.proofs.host.Host.poll.Goals as goal
 

@@ -1,5 +1,4 @@
-use Rattle.std.proofs.Common.{◌≡◌, Bool, true, false, ◌&&◌, ap, subst, sym, ◌∙◌}
-use Rattle.mscp_host.specs.Accounts.{Account, answered, is_about_polled}
+use Rattle.mscp_host.proofs.Common.{◌≡◌, Bool, true, false, ◌&&◌, ap, subst, sym, ◌∙◌, Account, answered, is_about_polled}
 use Rattle.mscp_host.proofs.Hearing.{heard_ok, heard_other, readable}
 use Rattle.mscp_host.proofs.host.Host.receive.Goals as goal
 use Rattle.mscp_host.proofs.host.Host.receive.Goals.{then-not-is_code_of-via-then-not-is_code_of, then-not-is_code_of-via-else-not-is_code_of+then-not-is_about_polled}

@@ -1,8 +1,4 @@
-use Rattle.std.proofs.Common.{◌≡◌, ℕ, List, ap, sym, ◌∙◌, rules, refl}
-use Rattle.std.specs.Prelude.{None}
-use Rattle.std.specs.Str.{bytes_eq}
-use Rattle.mscp_host.specs.Restored.{account_fault, account_in, head_fault}
-use Rattle.mscp_host.specs.Saved.{saved_bytes}
+use Rattle.mscp_host.proofs.Common.{◌≡◌, ℕ, List, ap, sym, ◌∙◌, rules, refl, None, bytes_eq, account_fault, account_in, head_fault, saved_bytes}
 use Rattle.mscp_host.proofs.host.Host.restore.Goals as goal
 
 pub returns-else-eq-clause-value : goal.returns-else-eq-clause-value

@@ -1,7 +1,4 @@
-use Rattle.std.proofs.Common.{◌≡◌, ap, ◌∙◌, rules}
-use Rattle.mscp_host.specs.Restored.{restored}
-use Rattle.mscp_host.specs.Saved.{HasRange, saved_bytes}
-use Rattle.mscp_host.specs.Sound.{IsSound}
+use Rattle.mscp_host.proofs.Common.{◌≡◌, ap, ◌∙◌, rules, restored, HasRange, saved_bytes, IsSound}
 use Rattle.mscp_host.proofs.Back.{restored_back}
 use Rattle.mscp_host.proofs.host.Host.save.Goals as goal
 

@@ -1,10 +1,4 @@
-use Rattle.std.proofs.Common.{◌≡◌, ◌≤◌, ◌<◌, ◌-◌, ℕ, false, length, ap, subst, sym, List, ◌∙◌, arith}
-use Rattle.std.specs.List.{list_any}
-use Rattle.mscp_host.specs.declared.submission.Submission.{Submission}
-use Rattle.mscp_host.specs.Accounts.{Account, has_reference, is_immediate}
-use Rattle.mscp_host.specs.Apart.{are_apart}
-use Rattle.mscp_host.specs.Sound.{waiting}
-use Rattle.mscp_host.specs.Watched.{are_told, is_watched}
+use Rattle.mscp_host.proofs.Common.{◌≡◌, ◌≤◌, ◌<◌, ◌-◌, ℕ, false, length, ap, subst, sym, List, ◌∙◌, arith, list_any, Submission, Account, has_reference, is_immediate, are_apart, waiting, are_told, is_watched}
 use Rattle.mscp_host.proofs.Watched.{watched_more}
 use Rattle.mscp_host.proofs.Told.{spare_more, told_more}
 use Rattle.mscp_host.proofs.Apart.{apart_more}

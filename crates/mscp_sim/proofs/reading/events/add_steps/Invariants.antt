@@ -1,5 +1,4 @@
-use Rattle.std.proofs.Common.{◌≡◌, ◌++◌}
-use Rattle.std.specs.Prelude.{replicate}
+use Rattle.mscp_sim.proofs.Common.{◌≡◌, ◌++◌, replicate}
 use Rattle.mscp_events.specs.declared.event.Event.TheVariants as events
 use Rattle.mscp_sim.proofs.reading.events.add_steps.Given as goal
 

@@ -1,6 +1,4 @@
-use Rattle.std.proofs.Common.{◌∙◌, ap, arith, length, length-append}
-use Rattle.mscp_reader.specs.Requests.{events_of}
-use Rattle.mscp_reader.proofs.Outcomes.{ends, goes_on, goes_wrong}
+use Rattle.mscp_sim.proofs.Common.{◌∙◌, ap, arith, length, length-append, events_of, ends, goes_on, goes_wrong}
 use Rattle.mscp_sim.proofs.reading.events.read_events.Goals as goal
 
 pub loop-request-preserved : goal.loop-request-preserved

@@ -1,7 +1,4 @@
-use Rattle.std.proofs.Common.{◌≡◌, ◌≤◌, [], length, vec_len}
-use Rattle.mscp_events.specs.Settings.{Settings}
-use Rattle.mscp_reader.specs.Grammar.{HasGone}
-use Rattle.mscp_reader.specs.Outcome.{rest_outcome}
+use Rattle.mscp_sim.proofs.Common.{◌≡◌, ◌≤◌, [], length, vec_len, Settings, HasGone, rest_outcome}
 use Rattle.mscp_sim.proofs.reading.events.read_events.Given as goal
 
 abbrev pub invariant-loop-request : goal.invariant-loop-request

@@ -1,5 +1,5 @@
 -- It counts the call, and gives the block back to the inner allocator. Assumes `Logic`.
-use Rattle.std.proofs.Common.{◌≡◌, ℕ, ◌+◌, ◌^◌, ◌<◌, List, [], ◌∷◌, refl, w64, Bor}
+use Rattle.mscp_trials.proofs.Common.{◌≡◌, ℕ, ◌+◌, ◌^◌, ◌<◌, List, [], ◌∷◌, refl, w64, Bor, Al, α, seen, token, gives_key, Gives, at_gives, Gives-goes, Gives-Gives}
 use seplogic.Ra.Ura.{Ura}
 use mir.Syntax.{Ty, Args, Fn, a_type, dnil, dcons}
 use mir.Val.{Val, vint, vptr, vunit}
@@ -33,7 +33,6 @@ use types.ByLocal.{alloc_all, pass_all, free_all, look_at, get, through, sets, l
 use denote.RawPtr.{Ptr, block_ptr, null_ptr, ptr_val, rawptr_vals, rawptr_Tells}
 use denote.Builtin.{usize, RawPtr, RefOf}
 use denote.Triple.Call.{calls_at}
-use Rattle.std.proofs.alloc.Calls.{Al, α, seen, token, gives_key, Gives, at_gives, Gives-goes, Gives-Gives}
 use Rattle.mscp_trials.proofs.Counting.{Frees, at_frees, Frees-goes, Frees-gives}
 use Rattle.mscp_trials.proofs.scarce.frees.Symbol as c_sym
 use Rattle.mscp_trials.proofs.scarce.frees.Met as c_met
