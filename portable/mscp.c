@@ -288,7 +288,56 @@ L1:;
     return v0;
 }
 
-static u64 f54(u64 v0)
+static void f54(u64 v0, u64 v1, u64 v2)
+{
+    u32 v9 = 0, v10 = 0;
+    u64 v3 = 0, v4 = 0, v5 = 0, v6 = 0, v7 = 0, v8 = 0;
+    v3 = 0ull;
+    v4 = (u64)l1(v1 + 3072ull);
+    v5 = v1 + (v4 << 5);
+    v6 = (u64)l4(v5);
+    v7 = (u64)l2(v5 + 4ull);
+    v8 = 0ull;
+    switch ((u32)((u64)l1(v5 + 8ull))) {
+    case 4: case 5: case 6: goto L4;
+    case 7: goto L3;
+    case 8: goto L5;
+    default: goto L2;
+    }
+L5:;
+    v8 = 0x300000000000000ull;
+    goto L2;
+L4:;
+    v8 = 0x100000000000000ull;
+    goto L2;
+L3:;
+    v3 = l8((v1 + (v4 << 3)) + 2048ull);
+    v1 = v3 >> 32;
+    v9 = (u32)v1;
+    v3 = v2 + ((v3 << 6) & 16320ull);
+    v10 = l4(v3 + 52ull);
+    v8 = (u64)v10;
+    if (l1(v3 + 56ull) != 1u) goto L7;
+    v3 = (v10 > v9) ? ((((u64)l4(v3 + 40ull)) << 1) - (v1 + v8)) : (v1 - v8);
+    goto L6;
+L7:;
+    v3 = ((v10 < v9) ? v1 : (0ull - v1)) + v8;
+L6:;
+    v8 = 0x200000000000000ull;
+L2:;
+    v1 = (u64)l1(v5 + 6ull);
+    v5 = v0 + 1024ull;
+    s8((v0 + (l8(v5) << 3)) + 1032ull, v3);
+    v2 = l8(v5);
+    v0 = v0 + (v2 << 4);
+    s8(v0, (((v1 << 48) | v8) | (v7 << 32)) | v6);
+    s8(v0 + 8, v3);
+    s8(v5, v2 + 1ull);
+    return;
+    TRAP();
+}
+
+static u64 f55(u64 v0)
 {
     u64 v1 = 0, v2 = 0, v3 = 0, v4 = 0, v5 = 0, v6 = 0, v7 = 0, v8 = 0, v9 = 0, v10 = 0, v11 = 0, v12 = 0, v13 = 0, v14
         = 0, v15 = 0, v16 = 0, v17 = 0, v18 = 0, v19 = 0, v20 = 0, v21 = 0;
@@ -409,11 +458,11 @@ L1:;
     return 0ull;
 }
 
-static void f55(u64 v0, u64 v1, u64 v2, u64 v3)
+static void f56(u64 v0, u64 v1, u64 v2, u64 v3)
 {
     ROOM(frame, 80);
-    u32 v14 = 0, v15 = 0, v16 = 0, v20 = 0;
-    u64 v4 = 0, v5 = 0, v6 = 0, v7 = 0, v8 = 0, v9 = 0, v10 = 0, v11 = 0, v12 = 0, v13 = 0, v17 = 0, v18 = 0, v19 = 0,
+    u32 v14 = 0, v15 = 0, v16 = 0, v19 = 0;
+    u64 v4 = 0, v5 = 0, v6 = 0, v7 = 0, v8 = 0, v9 = 0, v10 = 0, v11 = 0, v12 = 0, v13 = 0, v17 = 0, v18 = 0, v20 = 0,
         v21 = 0, v22 = 0, v23 = 0, v24 = 0, v25 = 0;
     v4 = A(frame);
     fill(v4 + 8ull, 0u, 72ull);
@@ -438,102 +487,126 @@ L4:;
     v17 = v1 + 1032ull;
     v6 = 0ull;
     if (v7 != 0ull) goto L5;
-    v9 = (u64)l1(v8 + 6ull);
-    v18 = (u64)l2(v8 + 4ull);
-    v19 = (u64)l4(v8);
+    v9 = (u64)l2(v8 + 4ull);
+    v18 = (u64)l4(v8);
+    v7 = 0ull;
+    switch (v14) {
+    case 4: case 5: case 6: goto L9;
+    case 7: goto L8;
+    case 8: goto L7;
+    default: goto L6;
+    }
+L9:;
     v7 = 0x100000000000000ull;
-    if ((v14 & 255u) != 7u) goto L6;
-    v7 = l8(v12);
-    v8 = v7 >> 32;
-    v14 = (u32)v8;
-    v7 = v3 + ((v7 << 6) & 16320ull);
-    v20 = l4(v7 + 52ull);
-    v6 = (u64)v20;
-    if (l1(v7 + 56ull)) goto L8;
-    v6 = ((v20 < v14) ? v8 : (0ull - v8)) + v6;
-    goto L7;
+    goto L6;
 L8:;
-    v6 = (v20 > v14) ? ((((u64)l4(v7 + 40ull)) << 1) - (v8 + v6)) : (v8 - v6);
-L7:;
+    v6 = l8(v12);
+    v7 = v6 >> 32;
+    v14 = (u32)v7;
+    v6 = v3 + ((v6 << 6) & 16320ull);
+    v19 = l4(v6 + 52ull);
+    v12 = (u64)v19;
+    if (l1(v6 + 56ull)) goto L10;
+    v6 = ((v19 < v14) ? v7 : (0ull - v7)) + v12;
     v7 = 0x200000000000000ull;
+    goto L6;
+L10:;
+    v6 = (v19 > v14) ? ((((u64)l4(v6 + 40ull)) << 1) - (v7 + v12)) : (v7 - v12);
+    v7 = 0x200000000000000ull;
+    goto L6;
+L7:;
+    v7 = 0x300000000000000ull;
 L6:;
+    v12 = (u64)l1(v8 + 6ull);
     v8 = v1 + 1024ull;
     s8(v17 + (l8(v8) << 3), v6);
-    v12 = l8(v8);
-    v21 = v1 + (v12 << 4);
-    s8(v21, ((v7 | (v9 << 48)) | (v18 << 32)) | v19);
+    v20 = l8(v8);
+    v21 = v1 + (v20 << 4);
+    s8(v21, (((v12 << 48) | v7) | (v9 << 32)) | v18);
     v7 = l8(v4 + 72);
     s1((v4 + 8ull) + v7, 0u);
     s8(v21 + 8, v6);
-    s8(v8, v12 + 1ull);
+    s8(v8, v20 + 1ull);
     s8(v4 + 72, v7 + 1ull);
 L5:;
     if (v15 <= v16) goto L1;
     v8 = (u64)l1(v2 + 3072ull);
-    if ((((l1((v2 + (v8 << 5)) + 8ull)) + 0xFFFFFFFCu) & 255u) > 2u) goto L9;
+    if ((((l1((v2 + (v8 << 5)) + 8ull)) + 0xFFFFFFFCu) & 255u) > 2u) goto L11;
     v7 = v8 << 3;
     if ((l8(v2 + 3144ull) & (((l8(v13 + v7) | (1ull << (v8 & 63))) | (l8(v10 + (((u64)l1(v11 + v7)) << 3)))) ^
         0xFFFFFFFFFFFFFFFFull)) == 0) goto L1;
-L9:;
+L11:;
     if (v5 == 1ull) goto L3;
     v16 = v15 - v16;
     v16 = (v16 > v15) ? 0u : v16;
-    v12 = v2 + 3073ull;
-    v18 = v5 + 0xFFFFFFFFFFFFFFFFull;
+    v9 = v2 + 3073ull;
+    v12 = v5 + 0xFFFFFFFFFFFFFFFFull;
     v8 = 0ull;
-L10:;
-    v5 = v12 + v8;
+L12:;
+    v5 = v9 + v8;
     v6 = (u64)l1(v5);
     v7 = v6 << 3;
-    v9 = v11 + v7;
-    v7 = (l8(v10 + (((u64)l1(v9)) << 3))) & l8(v13 + v7);
+    v18 = v11 + v7;
+    v7 = (l8(v10 + (((u64)l1(v18)) << 3))) & l8(v13 + v7);
     v6 = v2 + (v6 << 5);
     v15 = l1(v6 + 8ull);
-    if (((v15 + 0xFFFFFFFCu) & 255u) < 3u) goto L11;
+    if (((v15 + 0xFFFFFFFCu) & 255u) < 3u) goto L13;
     v7 = l8(v2 + 3152ull) & v7;
-L11:;
-    if (v7 != 0ull) goto L12;
-    if (l4(v6 + 20ull) > v16) goto L12;
+L13:;
+    if (v7 != 0ull) goto L14;
+    if (l4(v6 + 20ull) > v16) goto L14;
     v21 = v8 + 1ull;
     v7 = 0ull;
-    v22 = (u64)l1(v6 + 6ull);
-    v23 = (u64)l2(v6 + 4ull);
-    v24 = (u64)l4(v6);
-    v19 = 0x100000000000000ull;
-    if ((v15 & 255u) != 7u) goto L13;
-    v6 = l8(v9);
-    v7 = v6 >> 32;
+    v22 = (u64)l2(v6 + 4ull);
+    v23 = (u64)l4(v6);
+    v20 = 0ull;
+    switch (v15) {
+    case 4: case 5: case 6: goto L17;
+    case 7: goto L16;
+    case 8: goto L18;
+    default: goto L15;
+    }
+L18:;
+    v20 = 0x300000000000000ull;
+    goto L15;
+L17:;
+    v20 = 0x100000000000000ull;
+    goto L15;
+L16:;
+    v18 = l8(v18);
+    v7 = v18 >> 32;
     v15 = (u32)v7;
-    v6 = v3 + ((v6 << 6) & 16320ull);
-    v14 = l4(v6 + 52ull);
-    v9 = (u64)v14;
-    if (l1(v6 + 56ull) != 1u) goto L15;
-    v7 = (v14 > v15) ? ((((u64)l4(v6 + 40ull)) << 1) - (v7 + v9)) : (v7 - v9);
-    goto L14;
+    v18 = v3 + ((v18 << 6) & 16320ull);
+    v14 = l4(v18 + 52ull);
+    v20 = (u64)v14;
+    if (l1(v18 + 56ull) != 1u) goto L20;
+    v7 = (v14 > v15) ? ((((u64)l4(v18 + 40ull)) << 1) - (v7 + v20)) : (v7 - v20);
+    goto L19;
+L20:;
+    v7 = ((v14 < v15) ? v7 : (0ull - v7)) + v20;
+L19:;
+    v20 = 0x200000000000000ull;
 L15:;
-    v7 = ((v14 < v15) ? v7 : (0ull - v7)) + v9;
-L14:;
-    v19 = 0x200000000000000ull;
-L13:;
+    v18 = (u64)l1(v6 + 6ull);
     v6 = v1 + 1024ull;
     s8(v17 + (l8(v6) << 3), v7);
-    v9 = l8(v6);
-    v25 = v1 + (v9 << 4);
-    s8(v25, ((v19 | (v22 << 48)) | (v23 << 32)) | v24);
-    v19 = l8(v4 + 72);
-    s1((v4 + 8ull) + v19, (u32)v21);
+    v24 = l8(v6);
+    v25 = v1 + (v24 << 4);
+    s8(v25, (((v18 << 48) | v20) | (v22 << 32)) | v23);
+    v18 = l8(v4 + 72);
+    s1((v4 + 8ull) + v18, (u32)v21);
     s8(v25 + 8, v7);
-    s8(v6, v9 + 1ull);
-    s8(v4 + 72, v19 + 1ull);
-L12:;
+    s8(v6, v24 + 1ull);
+    s8(v4 + 72, v18 + 1ull);
+L14:;
     v7 = (u64)l1(v5);
-    if ((((l1((v2 + (v7 << 5)) + 8ull)) + 0xFFFFFFFCu) & 255u) > 2u) goto L16;
+    if ((((l1((v2 + (v7 << 5)) + 8ull)) + 0xFFFFFFFCu) & 255u) > 2u) goto L21;
     v5 = v7 << 3;
     if ((l8(v2 + 3144ull) & (((l8(v13 + v5) | (1ull << (v7 & 63))) | (l8(v10 + (((u64)l1(v11 + v5)) << 3)))) ^
         0xFFFFFFFFFFFFFFFFull)) == 0) goto L1;
-L16:;
+L21:;
     v8 = v8 + 1ull;
-    if (v18 != v8) goto L10;
+    if (v12 != v8) goto L12;
 L3:;
     copy(v0, v4 + 8ull, 72ull);
     return;
@@ -543,7 +616,7 @@ L1:;
     return;
 }
 
-static void f56(u64 v0, u64 v1, u64 v2, u64 v3)
+static void f57(u64 v0, u64 v1, u64 v2, u64 v3)
 {
     u32 v12 = 0, v16 = 0;
     u64 v4 = 0, v5 = 0, v6 = 0, v7 = 0, v8 = 0, v9 = 0, v10 = 0, v11 = 0, v13 = 0, v14 = 0, v15 = 0;
@@ -596,115 +669,91 @@ L2:;
     TRAP();
 }
 
-static u64 f57(u64 v0, u64 v1, u64 v2, u32 v3, u64 v4, u64 v5, u64 v6)
+static u64 f58(u64 v0, u64 v1, u64 v2, u32 v3, u64 v4, u64 v5, u64 v6)
 {
     ROOM(frame, 144);
-    u32 v9 = 0, v12 = 0;
-    u64 v7 = 0, v8 = 0, v10 = 0, v11 = 0, v13 = 0, v14 = 0, v15 = 0, t0, t1, t2;
+    u32 v9 = 0, v11 = 0;
+    u64 v7 = 0, v8 = 0, v10 = 0, v12 = 0, t0, t1, t2;
     v7 = A(frame);
     v8 = v7;
     fill(v8, 0u, 72ull);
     v9 = l4(v0 + 3808ull);
     v7 = v0 + 3072ull;
-    v10 = (u64)l1(v7);
-    v11 = v10 << 5;
+    v10 = ((u64)l1(v7)) << 5;
     if (l8(v0 + 3152ull) != 0ull) goto L4;
-    v12 = v9 - (l4((v0 + v11) + 28ull));
-    v12 = (v12 > v9) ? 0u : v12;
-    if (v3 <= v12) goto L2;
-    v13 = l8(v0 + 3136ull);
-    if (v13 == 0) goto L2;
+    v11 = v9 - (l4((v0 + v10) + 28ull));
+    v11 = (v11 > v9) ? 0u : v11;
+    if (v3 <= v11) goto L2;
+    v12 = l8(v0 + 3136ull);
+    if (v12 == 0) goto L2;
 L5:;
-    if (v12 < (l4((v0 + (((u64)l1(v7)) << 5)) + 20ull))) goto L4;
+    if (v11 < (l4((v0 + (((u64)l1(v7)) << 5)) + 20ull))) goto L4;
     v7 = v7 + 1ull;
-    v13 = v13 + 0xFFFFFFFFFFFFFFFFull;
-    if (v13 == 0) goto L2;
+    v12 = v12 + 0xFFFFFFFFFFFFFFFFull;
+    if (v12 == 0) goto L2;
     goto L5;
 L4:;
     v7 = l8(v6 + 1024ull);
     if (v7 == 0) goto L6;
-    v13 = 0ull;
+    v12 = 0ull;
     if (v7 == 1ull) goto L8;
-    v10 = v7 & 1ull;
-    v11 = v7 & 0xFFFFFFFFFFFFFFFEull;
+    v5 = v7 & 1ull;
+    v10 = v7 & 0xFFFFFFFFFFFFFFFEull;
     v7 = v6;
-    v13 = 0ull;
+    v12 = 0ull;
 L9:;
     s8(v7, 0x300000000000000ull);
     s8(v7 + 24ull, 0ull);
     s8(v7 + 16ull, 0x300000000000000ull);
     s8(v7 + 8ull, 0ull);
     v7 = v7 + 32ull;
-    v13 = v13 + 2ull;
-    if (v11 != v13) goto L9;
-    if (v10 == 0) goto L7;
+    v12 = v12 + 2ull;
+    if (v10 != v12) goto L9;
+    if (v5 == 0) goto L7;
 L8:;
-    v7 = v6 + (v13 << 4);
+    v7 = v6 + (v12 << 4);
     s8(v7 + 8, 0ull);
     s8(v7, 0x300000000000000ull);
 L7:;
     s8(v6 + 1024ull, 0ull);
-    v10 = (u64)l1(v0 + 3072ull);
-    v11 = v10 << 5;
+    v10 = ((u64)l1(v0 + 3072ull)) << 5;
     v9 = l4(v0 + 3808ull);
 L6:;
-    v13 = v0 + v11;
-    if (v9 > l4(v13 + 28ull)) goto L10;
+    if (v9 > (l4((v0 + v10) + 28ull))) goto L10;
+    f54(v6, v0, v1);
+    if (l1(v4)) goto L11;
     v7 = 0ull;
-    v2 = (u64)l1(v13 + 6ull);
-    v14 = (u64)l2(v13 + 4ull);
-    v15 = (u64)l4(v13);
-    v5 = 0x100000000000000ull;
-    v11 = 0ull;
-    if (l1(v13 + 8ull) != 7u) goto L11;
-    v0 = l8((v0 + (v10 << 3)) + 2048ull);
-    v13 = v0 >> 32;
-    v9 = (u32)v13;
-    v0 = v1 + ((v0 << 6) & 16320ull);
-    v12 = l4(v0 + 52ull);
-    v11 = (u64)v12;
-    if (l1(v0 + 56ull) != 1u) goto L13;
-    v11 = (v12 > v9) ? ((((u64)l4(v0 + 40ull)) << 1) - (v13 + v11)) : (v13 - v11);
-    goto L12;
-L13:;
-    v11 = ((v12 < v9) ? v13 : (0ull - v13)) + v11;
-L12:;
-    v5 = 0x200000000000000ull;
+    goto L1;
 L11:;
-    s8(v6 + 8, v11);
-    s8(v6 + 1024ull, 1ull);
-    s8(v6 + 1032ull, v11);
-    s8(v6, ((v5 | (v2 << 48)) | (v14 << 32)) | v15);
-    if (l1(v4) == 0) goto L1;
-    t0 = f54(v6);
+    t0 = f55(v6);
     v7 = t0;
     goto L1;
 L10:;
-    f55(v8, v6, v0, v1);
+    f56(v8, v6, v0, v1);
     copy(v8 + 72ull, v8, 72ull);
-    if (l1(v4)) goto L15;
+    if (l1(v4)) goto L13;
     v7 = 0ull;
-    goto L14;
-L15:;
-    t1 = f54(v6);
+    goto L12;
+L13:;
+    t1 = f55(v6);
     v7 = t1;
-L14:;
+L12:;
     v7 = (u64)l1((v8 + 72ull) + v7);
     goto L1;
     TRAP();
 L2:;
-    f56(v5, v0, v1, v2);
-    if (l1(v4)) goto L16;
+    f57(v5, v0, v1, v2);
+    if (l1(v4)) goto L14;
     v7 = 0ull;
     goto L1;
-L16:;
-    t2 = f54(v5);
+L14:;
+    t2 = f55(v5);
     v7 = t2;
 L1:;
     return v7;
 }
 
-static void f58(u64 v0, u64 v1)
+static void f59(u64 v0, u64 v1)
 {
     ROOM(frame, 16);
     u32 v6 = 0, v13 = 0, v14 = 0, v15 = 0, v16 = 0, v17 = 0, v18 = 0, v19 = 0, v20 = 0, v21 = 0, v22 = 0, v23 = 0, v24
@@ -721,7 +770,7 @@ L5:;
     goto L4;
 L6:;
     if (l8(v1 + 3952ull) == 0) goto L3;
-    t0 = f57(v1 + 816ull, v1 + 4648ull, l8(v1 + 5672ull), l4(v1 + 812ull), v1 + 5712ull, v1 + 5720ull, v1 + 7528ull);
+    t0 = f58(v1 + 816ull, v1 + 4648ull, l8(v1 + 5672ull), l4(v1 + 812ull), v1 + 5712ull, v1 + 5720ull, v1 + 7528ull);
     v4 = t0;
 L4:;
     v5 = (u64)l1((v1 + v4) + 3888ull);
@@ -794,7 +843,7 @@ L2:;
     TRAP();
 }
 
-static u32 f59(u64 v0, u64 v1)
+static u32 f60(u64 v0, u64 v1)
 {
     ROOM(frame, 48);
     u32 v3 = 0, v4 = 0, v5 = 0, v6 = 0, v7 = 0, v8 = 0, v9 = 0, v10 = 0, v11 = 0, v12 = 0;
@@ -808,7 +857,7 @@ static u32 f59(u64 v0, u64 v1)
     s8(v2, 0ull);
     v3 = 0xFFFFFFF6u;
     if (l8(v0 + 24ull) != 0x4D5343504D414445ull) goto L2;
-    f58(v2, l8(v0));
+    f59(v2, l8(v0));
     v4 = 1u;
     v3 = 0u;
     if (l1(v2) != 1u) goto L2;
@@ -822,65 +871,65 @@ static u32 f59(u64 v0, u64 v1)
     v12 = (v11 == 1u) ? l4(v2 + 32) : 0u;
     v3 = l1(v2 + 16);
     switch (v3) {
-    case 1: goto L13;
-    case 2: goto L12;
-    case 3: goto L11;
-    case 4: goto L10;
-    case 5: goto L9;
-    case 6: goto L8;
+    case 1: goto L14;
+    case 2: goto L13;
+    case 3: goto L12;
+    case 4: goto L11;
+    case 5: goto L10;
+    case 6: goto L9;
     case 7: goto L15;
-    case 8: goto L14;
+    case 8: goto L4;
     default: goto L3;
     }
 L15:;
     v3 = l4(v2 + 20);
     v4 = 16u;
     switch (v7) {
-    case 1: goto L7;
-    case 2: goto L6;
-    case 3: goto L5;
-    case 4: goto L4;
+    case 1: goto L8;
+    case 2: goto L7;
+    case 3: goto L6;
+    case 4: goto L5;
     default: goto L3;
     }
 L14:;
-    v3 = 0u;
-    v4 = v7;
-    goto L3;
-L13:;
     v4 = 2u;
     v3 = 0u;
     goto L3;
-L12:;
+L13:;
     v4 = 3u;
     v3 = 0u;
     goto L3;
-L11:;
+L12:;
     v4 = 4u;
     v3 = 0u;
     goto L3;
-L10:;
+L11:;
     v4 = 8u;
     v3 = 0u;
     goto L3;
-L9:;
+L10:;
     v4 = 9u;
     v3 = 0u;
     goto L3;
-L8:;
+L9:;
     v4 = 10u;
     v3 = 0u;
     goto L3;
-L7:;
+L8:;
     v4 = 18u;
     goto L3;
-L6:;
+L7:;
     v4 = 32u;
     goto L3;
-L5:;
+L6:;
     v4 = 33u;
     goto L3;
-L4:;
+L5:;
     v4 = 34u;
+    goto L3;
+L4:;
+    v3 = 0u;
+    v4 = v7;
 L3:;
     s2(v1 + 25, 0u);
     s1(v1 + 24, v10);
@@ -907,13 +956,13 @@ static u32 w_mscp_begin(u64 v0, u64 v1)
     f50();
     TRAP();
 L1:;
-    t1 = f59(v0, v1);
+    t1 = f60(v0, v1);
     v2 = t1;
     f52();
     return v2;
 }
 
-static u64 f60(u64 v0, u32 v1, u32 v2)
+static u64 f61(u64 v0, u32 v1, u32 v2)
 {
     u32 v3 = 0;
     u64 v4 = 0, v5 = 0, v6 = 0, v7 = 0;
@@ -961,13 +1010,13 @@ static u64 w_mscp_figure(u64 v0, u32 v1, u32 v2)
     f50();
     TRAP();
 L1:;
-    t1 = f60(v0, v1, v2);
+    t1 = f61(v0, v1, v2);
     v0 = t1;
     f52();
     return v0;
 }
 
-static void f61(u64 v0, u64 v1, u64 v2, u64 v3, u64 v4)
+static void f62(u64 v0, u64 v1, u64 v2, u64 v3, u64 v4)
 {
     u64 v5 = 0, v6 = 0, t0;
     v5 = v3 >> 32;
@@ -983,7 +1032,7 @@ static void f61(u64 v0, u64 v1, u64 v2, u64 v3, u64 v4)
     return;
 }
 
-static void f62(u64 v0, u64 v1, u32 v2)
+static void f63(u64 v0, u64 v1, u32 v2)
 {
     u32 v3 = 0, v4 = 0;
     u64 v5 = 0;
@@ -1048,7 +1097,7 @@ L2:;
     TRAP();
 }
 
-static void f63(u64 v0, u64 v1)
+static void f64(u64 v0, u64 v1)
 {
     u32 v4 = 0;
     u64 v2 = 0, v3 = 0, v5 = 0, v6 = 0, v7 = 0, v8 = 0, v9 = 0, v10 = 0, t0, t1;
@@ -1120,7 +1169,7 @@ L7:;
     TRAP();
 }
 
-static void f64(u64 v0, u64 v1)
+static void f65(u64 v0, u64 v1)
 {
     u32 v4 = 0, v5 = 0, v6 = 0;
     u64 v3 = 0, v7 = 0, v8 = 0, t0, t1;
@@ -1133,7 +1182,7 @@ static void f64(u64 v0, u64 v1)
     v6 = v4 - v5;
     v3 = (u64)((v6 > v4) ? 0u : v6);
     s8(t0, t1 - v3);
-    f63(v0, v1);
+    f64(v0, v1);
     if (v4 <= v5) goto L2;
     v1 = v0 + 2560ull;
     v7 = l8(v0 + 3144ull);
@@ -1157,7 +1206,7 @@ L2:;
     TRAP();
 }
 
-static void f65(u64 v0, u64 v1)
+static void f66(u64 v0, u64 v1)
 {
     ROOM(frame, 16);
     u64 v2 = 0, v3 = 0, v4 = 0, v5 = 0, v6 = 0, v7 = 0, v8 = 0, v9 = 0, v10 = 0, v11 = 0;
@@ -1263,7 +1312,7 @@ L9:;
     TRAP();
 }
 
-static void f66(u64 v0, u64 v1, u32 v2, u32 v3, u32 v4, u32 v5)
+static void f67(u64 v0, u64 v1, u32 v2, u32 v3, u32 v4, u32 v5)
 {
     ROOM(frame, 96);
     u32 v8 = 0, v11 = 0, v14 = 0, v15 = 0, v16 = 0, v18 = 0, v19 = 0, v20 = 0, v21 = 0, v22 = 0, v23 = 0, v24 = 0, v25
@@ -1354,7 +1403,7 @@ L7:;
     if ((v20 & 1u) == 0) goto L11;
     v6 = l8(v31 + 32ull) + 1ull;
     v23 = v24 + v15;
-    f61(v7, v6, (u64)(u32)(v6 == 0), (u64)v23, 0ull);
+    f62(v7, v6, (u64)(u32)(v6 == 0), (u64)v23, 0ull);
     v6 = l8(v7 + 8);
     v20 = (u32)v6;
     if (v24) goto L13;
@@ -1464,7 +1513,7 @@ L5:;
     v15 = 0u;
     goto L3;
 L4:;
-    f62(v7 + 64ull, v7 + 44ull, v20);
+    f63(v7 + 64ull, v7 + 44ull, v20);
     v20 = l4(v7 + 88);
     v19 = l4(v7 + 84);
     v18 = l4(v7 + 80);
@@ -1599,10 +1648,10 @@ L42:;
     s8(v6, l8(v6) | (1ull << (v33 & 63)));
     goto L45;
 L46:;
-    f64(v12, v29);
+    f65(v12, v29);
     v6 = v1 + 7520ull;
     s8(v6, l8(v6) | (1ull << (v33 & 63)));
-    f65(v1 + 5720ull, v29);
+    f66(v1 + 5720ull, v29);
     v29 = 0ull;
 L45:;
     s8(v9 + 8, 0ull);
@@ -1693,7 +1742,7 @@ L1:;
     return;
 }
 
-static u32 f67(u64 v0, u32 v1, u32 v2, u32 v3, u64 v4)
+static u32 f68(u64 v0, u32 v1, u32 v2, u32 v3, u64 v4)
 {
     ROOM(frame, 96);
     u32 v6 = 0, v7 = 0;
@@ -1722,7 +1771,7 @@ L4:;
 L6:;
     v7 = 0u;
     v1 = v1 > 4u;
-    f66(v5, l8(v0), v6, v2, v1, v1 ? v3 : 0u);
+    f67(v5, l8(v0), v6, v2, v1, v1 ? v3 : 0u);
     if (l1(v5) == 0) goto L7;
     v7 = 0xFFFFFFFAu;
     goto L2;
@@ -1753,13 +1802,13 @@ static u32 w_mscp_finish(u64 v0, u32 v1, u32 v2, u32 v3, u64 v4)
     f50();
     TRAP();
 L1:;
-    t1 = f67(v0, v1, v2, v3, v4);
+    t1 = f68(v0, v1, v2, v3, v4);
     v3 = t1;
     f52();
     return v3;
 }
 
-static void f68(void)
+static void f69(void)
 {
     goto L1;
 L1:;
@@ -1774,12 +1823,12 @@ static u64 w_mscp_host_align(void)
     f50();
     TRAP();
 L1:;
-    f68();
+    f69();
     f52();
     return 8ull;
 }
 
-static u64 f69(u64 v0)
+static u64 f70(u64 v0)
 {
     u64 v1 = 0;
     v1 = 0xFFFFFFFFFFFFFFF6ull;
@@ -1800,13 +1849,13 @@ static u64 w_mscp_host_balance(u64 v0)
     f50();
     TRAP();
 L1:;
-    t1 = f69(v0);
+    t1 = f70(v0);
     v0 = t1;
     f52();
     return v0;
 }
 
-static u32 f70(u64 v0, u32 v1)
+static u32 f71(u64 v0, u32 v1)
 {
     u64 v2 = 0;
     v2 = l8(v0 + 24ull);
@@ -1845,13 +1894,13 @@ static u32 w_mscp_host_init(u64 v0, u32 v1)
     f50();
     TRAP();
 L1:;
-    t1 = f70(v0, v1);
+    t1 = f71(v0, v1);
     v1 = t1;
     f52();
     return v1;
 }
 
-static void f71(u64 v0, u64 v1, u64 v2)
+static void f72(u64 v0, u64 v1, u64 v2)
 {
     ROOM(frame, 32);
     u32 v4 = 0, v6 = 0, v7 = 0, v8 = 0, v9 = 0, v10 = 0, v12 = 0, v13 = 0, v14 = 0, v15 = 0;
@@ -1867,15 +1916,15 @@ static void f71(u64 v0, u64 v1, u64 v2)
     v7 = 1u;
     v8 = l1(v2 + 8ull);
     switch (v8) {
-    case 4: case 5: case 6: case 7: goto L8;
-    case 8: goto L9;
+    case 4: case 5: case 6: case 7: goto L9;
+    case 8: goto L8;
     default: goto L7;
     }
 L9:;
-    v7 = ((l1(v2 + 9ull) + 0xFFFFFFFFu) & 255u) < 4u;
+    v7 = 0u;
     goto L7;
 L8:;
-    v7 = 0u;
+    v7 = ((l1(v2 + 9ull) + 0xFFFFFFFFu) & 255u) < 4u;
 L7:;
     v9 = l4(v2);
     v10 = 0u;
@@ -1911,39 +1960,39 @@ L12:;
     v4 = 1u;
     v12 = 1u;
     switch (v8) {
-    case 1: goto L21;
-    case 2: goto L20;
-    case 3: goto L19;
-    case 4: goto L18;
-    case 5: goto L17;
-    case 6: goto L16;
-    case 7: goto L15;
-    case 8: goto L22;
+    case 1: goto L22;
+    case 2: goto L21;
+    case 3: goto L20;
+    case 4: goto L19;
+    case 5: goto L18;
+    case 6: goto L17;
+    case 7: goto L16;
+    case 8: goto L15;
     default: goto L14;
     }
 L22:;
-    v12 = l1(v2 + 9ull);
-    goto L14;
-L21:;
     v12 = 2u;
     goto L14;
-L20:;
+L21:;
     v12 = 3u;
     goto L14;
-L19:;
+L20:;
     v12 = 4u;
     goto L14;
-L18:;
+L19:;
     v12 = 8u;
     goto L14;
-L17:;
+L18:;
     v12 = 9u;
     goto L14;
-L16:;
+L17:;
     v12 = 10u;
     goto L14;
-L15:;
+L16:;
     v12 = (u32)(146584637968ull >> ((((u64)l1(v2 + 9ull)) << 3) & 63));
+    goto L14;
+L15:;
+    v12 = l1(v2 + 9ull);
 L14:;
     v18 = v17 + (v11 << 4);
     s8(v18 + 7, 0ull);
@@ -1962,32 +2011,32 @@ L14:;
     case 1: goto L24;
     case 2: goto L3;
     case 3: goto L25;
-    case 4: goto L29;
-    case 5: goto L28;
-    case 6: goto L27;
-    case 7: goto L26;
-    case 8: goto L30;
+    case 4: goto L30;
+    case 5: goto L29;
+    case 6: goto L28;
+    case 7: goto L27;
+    case 8: goto L26;
     default: goto L23;
     }
 L30:;
-    v10 = l1(v2 + 9ull);
-    goto L5;
-L29:;
     v10 = 8u;
     goto L5;
-L28:;
+L29:;
     v10 = 9u;
     goto L5;
-L27:;
+L28:;
     v10 = 10u;
     goto L5;
-L26:;
+L27:;
     v9 = l4(v2 + 12ull);
     v13 = v9 & 0xFFFF0000u;
     v14 = l4(v2 + 16ull);
     v10 = (u32)(146584637968ull >> ((((u64)l1(v2 + 9ull)) << 3) & 63));
     v5 = 32ull;
     goto L3;
+L26:;
+    v10 = l1(v2 + 9ull);
+    goto L5;
 L25:;
     v9 = l2(v2 + 10ull);
     v5 = 18ull;
@@ -2044,7 +2093,7 @@ L1:;
     return;
 }
 
-static u32 f72(u64 v0, u32 v1, u64 v2)
+static u32 f73(u64 v0, u32 v1, u64 v2)
 {
     ROOM(frame, 144);
     u32 v5 = 0, v9 = 0;
@@ -2080,7 +2129,7 @@ L6:;
     v9 = l4(v8);
     s4(v4 + 136, v9);
     s2(v4 + 128, l2(v8 + 4ull));
-    f71(v4 + 56ull, v6, v4 + 124ull);
+    f72(v4 + 56ull, v6, v4 + 124ull);
     if (l1(v4 + 56)) goto L4;
     s2(v6 + 1053ull, 0u);
     s1(v6 + 1052ull, 1u);
@@ -2121,13 +2170,13 @@ static u32 w_mscp_host_poll(u64 v0, u32 v1, u64 v2)
     f50();
     TRAP();
 L1:;
-    t1 = f72(v0, v1, v2);
+    t1 = f73(v0, v1, v2);
     v1 = t1;
     f52();
     return v1;
 }
 
-static void f73(u64 v0, u64 v1, u64 v2)
+static void f74(u64 v0, u64 v1, u64 v2)
 {
     u32 v3 = 0, v4 = 0, v6 = 0, v7 = 0, v8 = 0, v9 = 0, v10 = 0, v11 = 0, v12 = 0, v13 = 0, v14 = 0, v15 = 0, v16 = 0;
     u64 v5 = 0;
@@ -2312,7 +2361,7 @@ L1:;
     return;
 }
 
-static u32 f74(u64 v0, u64 v1, u64 v2, u64 v3)
+static u32 f75(u64 v0, u64 v1, u64 v2, u64 v3)
 {
     ROOM(frame, 64);
     u32 v6 = 0, v8 = 0, v9 = 0, v10 = 0, v11 = 0, v12 = 0, v15 = 0, v16 = 0, v17 = 0, v19 = 0, v24 = 0, v25 = 0, v26 =
@@ -2330,7 +2379,7 @@ static u32 f74(u64 v0, u64 v1, u64 v2, u64 v3)
     s8(v5 + 24, 0ull);
     s8(v5 + 16, 0ull);
     s8(v5 + 8, 0ull);
-    f73(v5 + 8ull, v1 + ((v1 == 0) ? 4096ull : 0ull), v2);
+    f74(v5 + 8ull, v1 + ((v1 == 0) ? 4096ull : 0ull), v2);
     if (l1(v5 + 8)) goto L5;
     v2 = l8(v5 + 36);
     v8 = l1(v5 + 32);
@@ -2579,13 +2628,13 @@ static u32 w_mscp_host_receive_at(u64 v0, u64 v1, u64 v2, u64 v3)
     f50();
     TRAP();
 L1:;
-    t1 = f74(v0, v1, v2, v3);
+    t1 = f75(v0, v1, v2, v3);
     v4 = t1;
     f52();
     return v4;
 }
 
-static void f75(u64 v0, u32 v1, u64 v2, u64 v3, u64 v4)
+static void f76(u64 v0, u32 v1, u64 v2, u64 v3, u64 v4)
 {
     u32 v10 = 0, v11 = 0, v12 = 0, v13 = 0;
     u64 v5 = 0, v6 = 0, v7 = 0, v8 = 0, v9 = 0;
@@ -2720,7 +2769,7 @@ L1:;
     return;
 }
 
-APART void f76(u64 v0, u64 v1)
+APART void f77(u64 v0, u64 v1)
 {
     ROOM(frame, 816);
     u32 v7 = 0, v8 = 0, v9 = 0;
@@ -2796,7 +2845,7 @@ L4:;
     TRAP();
 }
 
-static u32 f77(u64 v0, u64 v1, u64 v2)
+static u32 f78(u64 v0, u64 v1, u64 v2)
 {
     u32 v4 = 0, t0, t1, t2;
     u64 v3 = 0, v5 = 0, v6 = 0, v7 = 0, v8 = 0, v9 = 0, v10 = 0;
@@ -2936,7 +2985,7 @@ L1:;
     return (v4 ^ 0xFFFFFFFFu) & 1u;
 }
 
-APART u32 f78(u64 v0, u64 v1, u64 v2)
+APART u32 f79(u64 v0, u64 v1, u64 v2)
 {
     ROOM(frame, 4784);
     u32 v5 = 0, v7 = 0, v8 = 0, v13 = 0, v14 = 0, v15 = 0, t0;
@@ -3032,7 +3081,7 @@ L16:;
     s4(v3 + 3728, v5);
     s2(v3 + 3741, l2(v3 + 4780));
     s1(v3 + 3743, l1(v3 + 4782));
-    f75(v3, v8, v3 + 3744ull, v6, v3 + 3728ull);
+    f76(v3, v8, v3 + 3744ull, v6, v3 + 3728ull);
     if (l1(v3) == 1u) goto L8;
     s4(v3 + 2672, v8);
     copy(v3 + 2680ull, v3 + 3744ull, 1032ull);
@@ -3042,14 +3091,14 @@ L16:;
     s4(v3 + 3712, v5);
     s2(v3 + 3725, l2(v3 + 4780));
     s1(v3 + 3727, l1(v3 + 4782));
-    f76(v3 + 1864ull, v3 + 2672ull);
+    f77(v3 + 1864ull, v3 + 2672ull);
     copy(v3 + 1056ull, v3 + 1864ull, 808ull);
     if (l8(v3 + 1856) != v2) goto L19;
     if (l1(v3 + 1056) != (v7 & 255u)) goto L19;
     if ((l1(v3 + 1057) & 255u) != ((v7 >> 8) & 255u)) goto L19;
     if ((l1(v3 + 1058) & 255u) != ((v7 >> 16) & 255u)) goto L19;
     if ((l1(v3 + 1059) & 255u) != (v7 >> 24)) goto L19;
-    t0 = f77(v3 + 1056ull, v2, v1);
+    t0 = f78(v3 + 1056ull, v2, v1);
     if (t0) goto L18;
 L19:;
     v5 = 0xFFFFFFCAu;
@@ -3090,13 +3139,13 @@ static u32 w_mscp_host_restore_at(u64 v0, u64 v1, u64 v2)
     f50();
     TRAP();
 L1:;
-    t1 = f78(v0, v1, v2);
+    t1 = f79(v0, v1, v2);
     v3 = t1;
     f52();
     return v3;
 }
 
-APART u32 f79(u64 v0, u64 v1, u64 v2, u64 v3)
+APART u32 f80(u64 v0, u64 v1, u64 v2, u64 v3)
 {
     ROOM(frame, 1616);
     u32 v5 = 0;
@@ -3107,7 +3156,7 @@ APART u32 f79(u64 v0, u64 v1, u64 v2, u64 v3)
     v5 = 0xFFFFFFF6u;
     goto L2;
 L3:;
-    f76(v4, l8(v0));
+    f77(v4, l8(v0));
     copy(v4 + 808ull, v4, 808ull);
     v0 = l8(v4 + 1608);
     if (v2 >= v0) goto L4;
@@ -3132,13 +3181,13 @@ static u32 w_mscp_host_save_at(u64 v0, u64 v1, u64 v2, u64 v3)
     f50();
     TRAP();
 L1:;
-    t1 = f79(v0, v1, v2, v3);
+    t1 = f80(v0, v1, v2, v3);
     v4 = t1;
     f52();
     return v4;
 }
 
-static void f80(void)
+static void f81(void)
 {
     goto L1;
 L1:;
@@ -3153,12 +3202,12 @@ static u64 w_mscp_host_save_size(void)
     f50();
     TRAP();
 L1:;
-    f80();
+    f81();
     f52();
     return 794ull;
 }
 
-static void f81(void)
+static void f82(void)
 {
     goto L1;
 L1:;
@@ -3173,12 +3222,12 @@ static u64 w_mscp_host_size(void)
     f50();
     TRAP();
 L1:;
-    f81();
+    f82();
     f52();
     return 1056ull;
 }
 
-static void f82(u64 v0, u64 v1, u64 v2)
+static void f83(u64 v0, u64 v1, u64 v2)
 {
     u32 v3 = 0, v4 = 0, v6 = 0, v7 = 0, v8 = 0, v9 = 0, v10 = 0, v11 = 0, v12 = 0;
     u64 v5 = 0;
@@ -3326,7 +3375,7 @@ L1:;
     TRAP();
 }
 
-static u32 f83(u64 v0, u64 v1, u64 v2)
+static u32 f84(u64 v0, u64 v1, u64 v2)
 {
     ROOM(frame, 112);
     u32 v4 = 0;
@@ -3347,7 +3396,7 @@ L4:;
     s8(v3 + 104, 0ull);
     s8(v3 + 96, 0ull);
     s8(v3 + 88, 0ull);
-    f82(v3 + 88ull, v1 + ((v1 == 0) ? 4096ull : 0ull), v2);
+    f83(v3 + 88ull, v1 + ((v1 == 0) ? 4096ull : 0ull), v2);
     s8(v3 + 68, l8(v3 + 92));
     s8(v3 + 76, l8(v3 + 100));
     s4(v3 + 84, l4(v3 + 108));
@@ -3356,7 +3405,7 @@ L4:;
     s4(v3 + 104, l4(v1 + 16));
     s8(v3 + 96, l8(v1 + 8));
     s8(v3 + 88, l8(v1));
-    f71(v3, l8(v0), v3 + 88ull);
+    f72(v3, l8(v0), v3 + 88ull);
     if (l1(v3)) goto L5;
     v4 = 1u;
     goto L1;
@@ -3378,13 +3427,13 @@ static u32 w_mscp_host_submit_at(u64 v0, u64 v1, u64 v2)
     f50();
     TRAP();
 L1:;
-    t1 = f83(v0, v1, v2);
+    t1 = f84(v0, v1, v2);
     v3 = t1;
     f52();
     return v3;
 }
 
-APART void f84(u64 v0, u64 v1, u64 v2)
+APART void f85(u64 v0, u64 v1, u64 v2)
 {
     ROOM(frame, 1104);
     u32 v24 = 0, v25 = 0, v26 = 0, v31 = 0, v32 = 0, v34 = 0, v38 = 0, v42 = 0, v46 = 0, v50 = 0, v54 = 0, v58 = 0, v62
@@ -3891,7 +3940,7 @@ L1:;
     return;
 }
 
-APART void f85(u64 v0, u64 v1, u64 v2, u64 v3)
+APART void f86(u64 v0, u64 v1, u64 v2, u64 v3)
 {
     ROOM(frame, 3312);
     u32 v5 = 0, v7 = 0, v8 = 0, v9 = 0, v10 = 0, v11 = 0, v12 = 0, v13 = 0, v17 = 0, v18 = 0, v19 = 0, v20 = 0;
@@ -4069,7 +4118,7 @@ L14:;
     v14 = l8(v2);
     v15 = div64(0xFFFFFFFFFFFFFFFFull, ((((u64)v9) & 65535ull) * ((u64)v8)) * (((u64)v10) & 65535ull));
     v6 = v15 + 1ull;
-    f61(v4, v6, (u64)(u32)(v6 == 0), (u64)(v7 + 0xFFFFFFFFu), 0ull);
+    f62(v4, v6, (u64)(u32)(v6 == 0), (u64)(v7 + 0xFFFFFFFFu), 0ull);
     v16 = l8(v4 + 3304);
     v6 = (v4 + 2536ull) + (v16 * 48ull);
     s8(v6 + 16, v14);
@@ -4090,7 +4139,7 @@ L14:;
     v3 = v3 + 0xFFFFFFFFFFFFFFFFull;
     if (v3 != 0ull) goto L11;
 L9:;
-    f84(v4 + 1592ull, v4 + 2536ull, v6);
+    f85(v4 + 1592ull, v4 + 2536ull, v6);
     if (l1(v4 + 1592) == 0) goto L6;
     v5 = l1(v4 + 1593);
 L8:;
@@ -4189,7 +4238,7 @@ L1:;
     return;
 }
 
-APART void f86(u64 v0)
+APART void f87(u64 v0)
 {
     ROOM(frame, 384);
     u64 v1 = 0;
@@ -4495,7 +4544,7 @@ APART void f86(u64 v0)
     TRAP();
 }
 
-APART u32 f87(u64 v0, u64 v1, u64 v2, u64 v3, u32 v4)
+APART u32 f88(u64 v0, u64 v1, u64 v2, u64 v3, u32 v4)
 {
     ROOM(frame, 24784);
     u32 v7 = 0, v8 = 0, v9 = 0, v10 = 0;
@@ -4529,13 +4578,13 @@ L9:;
 L11:;
     v7 = 1u;
 L10:;
-    f85(v6 + 4160ull, v1, v2 + ((v2 == 0) ? 4096ull : 0ull), v3);
+    f86(v6 + 4160ull, v1, v2 + ((v2 == 0) ? 4096ull : 0ull), v3);
     if (l1(v6 + 4160)) goto L3;
     copy(v6 + 9112ull, (v6 + 4160ull) + 8ull, 808ull);
     fill(v6 + 7305ull, 0u, 1807ull);
     fill(v6 + 5760ull, 0u, 1544ull);
     fill(v6 + 4976ull, 0u, 784ull);
-    f84(v6 + 4976ull, v6 + 9144ull, l8(v6 + 9912));
+    f85(v6 + 4976ull, v6 + 9144ull, l8(v6 + 9912));
     if (l1(v6 + 4976)) goto L4;
     v8 = l4(v6 + 9124);
     v9 = l4(v6 + 9120);
@@ -4548,7 +4597,7 @@ L10:;
     fill(v6 + 14048ull, 0u, 1032ull);
     v10 = v10 - (u32)(v10 != 0u);
     v4 = v4 - (u32)(v4 != 0u);
-    f86(v6 + 14048ull);
+    f87(v6 + 14048ull);
     if (v5 == 0) goto L12;
     v11 = l8(v6 + 15072);
     if (v5 != 1ull) goto L14;
@@ -4729,13 +4778,13 @@ static u32 w_mscp_init_at(u64 v0, u64 v1, u64 v2, u64 v3, u32 v4)
     f50();
     TRAP();
 L1:;
-    t1 = f87(v0, v1, v2, v3, v4);
+    t1 = f88(v0, v1, v2, v3, v4);
     v4 = t1;
     f52();
     return v4;
 }
 
-static u32 f88(u64 v0, u32 v1)
+static u32 f89(u64 v0, u32 v1)
 {
     u64 v2 = 0, v3 = 0, v4 = 0;
     if (l8(v0 + 24ull) == 0x4D5343504D414445ull) goto L2;
@@ -4765,13 +4814,13 @@ static u32 w_mscp_is_online(u64 v0, u32 v1)
     f50();
     TRAP();
 L1:;
-    t1 = f88(v0, v1);
+    t1 = f89(v0, v1);
     v1 = t1;
     f52();
     return v1;
 }
 
-APART void f89(u64 v0, u64 v1)
+APART void f90(u64 v0, u64 v1)
 {
     ROOM(frame, 784);
     u64 v2 = 0, v3 = 0, v4 = 0, v5 = 0, v6 = 0, v7 = 0, v8 = 0, v9 = 0, v10 = 0;
@@ -4806,7 +4855,7 @@ L2:;
     TRAP();
 }
 
-APART u32 f90(u64 v0, u64 v1, u64 v2)
+APART u32 f91(u64 v0, u64 v1, u64 v2)
 {
     ROOM(frame, 784);
     u32 v5 = 0;
@@ -4817,7 +4866,7 @@ APART u32 f90(u64 v0, u64 v1, u64 v2)
     if (l8(v0 + 24ull) != 0x4D5343504D414445ull) goto L2;
     v0 = l8(v0);
     fill(v4 + 8ull, 0u, 776ull);
-    f89(v4 + 8ull, v0 + 816ull);
+    f90(v4 + 8ull, v0 + 816ull);
     v6 = l8(v4 + 776);
     v0 = (v2 < v6) ? v2 : v6;
     if (v0 == 0) goto L3;
@@ -4866,13 +4915,13 @@ static u32 w_mscp_look_at(u64 v0, u64 v1, u64 v2)
     f50();
     TRAP();
 L1:;
-    t1 = f90(v0, v1, v2);
+    t1 = f91(v0, v1, v2);
     v3 = t1;
     f52();
     return v3;
 }
 
-static void f91(void)
+static void f92(void)
 {
     goto L1;
 L1:;
@@ -4887,12 +4936,12 @@ static u64 w_mscp_port_align(void)
     f50();
     TRAP();
 L1:;
-    f91();
+    f92();
     f52();
     return 8ull;
 }
 
-APART u32 f92(u64 v0, u64 v1, u64 v2, u64 v3, u32 v4, u64 v5, u32 v6)
+APART u32 f93(u64 v0, u64 v1, u64 v2, u64 v3, u32 v4, u64 v5, u32 v6)
 {
     ROOM(frame, 26080);
     u32 v8 = 0, v10 = 0, v11 = 0, v12 = 0, v13 = 0, v14 = 0, v15 = 0;
@@ -4925,10 +4974,17 @@ L10:;
 L12:;
     v8 = 1u;
 L11:;
-    f85(v7 + 5456ull, v1, v2 + ((v2 == 0) ? 4096ull : 0ull), v3);
+    f86(v7 + 5456ull, v1, v2 + ((v2 == 0) ? 4096ull : 0ull), v3);
     if (l1(v7 + 5456)) goto L3;
     v4 = l1(v5);
-    if (v4 > 1u) goto L13;
+    switch (v4) {
+    case 0: goto L14;
+    case 1: goto L15;
+    default: goto L13;
+    }
+L15:;
+    v4 = 1u;
+L14:;
     if (v6 > 63u) goto L6;
     v10 = l1(v5 + 2ull);
     v11 = l1(v5 + 1ull);
@@ -4937,7 +4993,7 @@ L11:;
     fill(v7 + 8601ull, 0u, 1807ull);
     fill(v7 + 7056ull, 0u, 1544ull);
     fill(v7 + 6272ull, 0u, 784ull);
-    f84(v7 + 6272ull, v7 + 10440ull, l8(v7 + 11208));
+    f85(v7 + 6272ull, v7 + 10440ull, l8(v7 + 11208));
     if (l1(v7 + 6272)) goto L4;
     v11 = ((v11 << 8) | v4) | (v10 << 16);
     v12 = v12 << 24;
@@ -4952,19 +5008,19 @@ L11:;
     fill(v7 + 15344ull, 0u, 1032ull);
     v15 = v4 - (u32)(v4 != 0u);
     v10 = v10 - (u32)(v10 != 0u);
-    f86(v7 + 15344ull);
-    if (v9 == 0) goto L14;
+    f87(v7 + 15344ull);
+    if (v9 == 0) goto L16;
     v5 = l8(v7 + 16368);
-    if (v9 != 1ull) goto L16;
+    if (v9 != 1ull) goto L18;
     v3 = 0ull;
-    goto L15;
-L16:;
+    goto L17;
+L18:;
     v16 = v9 & 1ull;
     v17 = v9 & 0xFFFFFFFFFFFFFFFEull;
     v9 = (v7 + 15344ull) + (v5 << 6);
     v2 = v7 + 12760ull;
     v3 = 0ull;
-L17:;
+L19:;
     s8(v9 + 40, l8(v2 + 40));
     s8(v9 + 32, l8(v2 + 32));
     s8(v9 + 24, l8(v2 + 24));
@@ -4991,10 +5047,10 @@ L17:;
     v2 = v2 + 96ull;
     v9 = v9 + 128ull;
     v3 = v3 + 2ull;
-    if (v17 != v3) goto L17;
-    if (v16 == 0) goto L14;
+    if (v17 != v3) goto L19;
+    if (v16 == 0) goto L16;
     v5 = v5 + v3;
-L15:;
+L17:;
     v9 = (v7 + 15344ull) + (v5 << 6);
     v2 = (v7 + 12760ull) + (v3 * 48ull);
     s8(v9 + 40, l8(v2 + 40));
@@ -5008,13 +5064,13 @@ L15:;
     s8(v9 + 48, 0ull);
     s4(v9 + 60, 0u);
     s8(v7 + 16368, v5 + 1ull);
-L14:;
+L16:;
     v11 = v11 | v12;
     v10 = v10 + v15;
     v3 = (v7 + 10408ull) | 4ull;
     fill(v7 + 16376ull, 0u, 2048ull);
     v2 = 0xFFFFFFFFFFFFF800ull;
-L18:;
+L20:;
     v9 = (v7 + 16376ull) + v2;
     s8(v9 + 2057ull, 0ull);
     s1(v9 + 2056ull, 5u);
@@ -5037,33 +5093,33 @@ L18:;
     s8(v9 + 2161ull, 0ull);
     s8(v9 + 2153ull, 0ull);
     v2 = v2 + 128ull;
-    if (v2 != 0ull) goto L18;
+    if (v2 != 0ull) goto L20;
     copy(v7 + 18424ull, v7 + 16376ull, 2048ull);
     fill((v7 + 18424ull) + 2048ull, 0u, 1760ull);
     fill(v7 + 24032ull, 0u, 1024ull);
     v2 = 0xFFFFFFFFFFFFFC00ull;
-L19:;
+L21:;
     v9 = (v7 + 24032ull) + v2;
     s8(v9 + 1048ull, 0ull);
     s8(v9 + 1040ull, 0x300000000000000ull);
     s8(v9 + 1032ull, 0ull);
     s8(v9 + 1024ull, 0x300000000000000ull);
     v2 = v2 + 32ull;
-    if (v2 != 0ull) goto L19;
+    if (v2 != 0ull) goto L21;
     copy(v7 + 16376ull, v7 + 24032ull, 1024ull);
     fill((v7 + 16376ull) + 1024ull, 0u, 520ull);
     copy(v7 + 22232ull, v7 + 16376ull, 1544ull);
     fill((v7 + 22232ull) + 1544ull, 0u, 256ull);
     fill(v7 + 25056ull, 0u, 1024ull);
     v2 = 0xFFFFFFFFFFFFFC00ull;
-L20:;
+L22:;
     v9 = (v7 + 25056ull) + v2;
     s8(v9 + 1048ull, 0ull);
     s8(v9 + 1040ull, 0x300000000000000ull);
     s8(v9 + 1032ull, 0ull);
     s8(v9 + 1024ull, 0x300000000000000ull);
     v2 = v2 + 32ull;
-    if (v2 != 0ull) goto L20;
+    if (v2 != 0ull) goto L22;
     copy(v7 + 11216ull, v7 + 25056ull, 1024ull);
     fill((v7 + 11216ull) + 1024ull, 0u, 520ull);
     copy(v7 + 13544ull, v7 + 22232ull, 1800ull);
@@ -5130,18 +5186,18 @@ L3:;
     v4 = 0xFFFFFFECu;
     switch ((u32)((u64)l1(v7 + 5457))) {
     case 1: goto L1;
-    case 2: goto L21;
-    case 3: goto L22;
-    case 4: goto L23;
+    case 2: goto L23;
+    case 3: goto L24;
+    case 4: goto L25;
     default: goto L2;
     }
-L23:;
+L25:;
     v4 = 0xFFFFFFE4u - v8;
     goto L1;
-L22:;
+L24:;
     v4 = 0xFFFFFFEBu - v8;
     goto L1;
-L21:;
+L23:;
     v4 = 0xFFFFFFE7u - v8;
     goto L1;
 L2:;
@@ -5158,13 +5214,13 @@ static u32 w_mscp_port_init_at(u64 v0, u64 v1, u64 v2, u64 v3, u32 v4, u64 v5, u
     f50();
     TRAP();
 L1:;
-    t1 = f92(v0, v1, v2, v3, v4, v5, v6);
+    t1 = f93(v0, v1, v2, v3, v4, v5, v6);
     v6 = t1;
     f52();
     return v6;
 }
 
-static u32 f93(u64 v0)
+static u32 f94(u64 v0)
 {
     u32 v1 = 0;
     v1 = 0xFFFFFFF6u;
@@ -5184,13 +5240,13 @@ static u32 w_mscp_port_look_again(u64 v0)
     f50();
     TRAP();
 L1:;
-    t1 = f93(v0);
+    t1 = f94(v0);
     v1 = t1;
     f52();
     return v1;
 }
 
-static void f94(u64 v0, u64 v1)
+static void f95(u64 v0, u64 v1)
 {
     ROOM(frame, 96);
     u64 v2 = 0, v3 = 0, v4 = 0, v5 = 0, v6 = 0, v7 = 0, v8 = 0;
@@ -5570,7 +5626,7 @@ L2:;
     TRAP();
 }
 
-static void f95(u64 v0, u64 v1, u64 v2, u32 v3)
+static void f96(u64 v0, u64 v1, u64 v2, u32 v3)
 {
     u32 v4 = 0, v5 = 0, v7 = 0, v8 = 0, v9 = 0, v11 = 0, v12 = 0;
     u64 v6 = 0, v10 = 0;
@@ -5651,7 +5707,7 @@ L6:;
     return;
 }
 
-APART u32 f96(u64 v0, u64 v1)
+APART u32 f97(u64 v0, u64 v1)
 {
     ROOM(frame, 352);
     u32 v3 = 0, v4 = 0, v5 = 0, v6 = 0, v7 = 0, v8 = 0, v9 = 0, v11 = 0, v12 = 0, v13 = 0, v14 = 0, v15 = 0, v16 = 0,
@@ -5709,7 +5765,7 @@ L7:;
     v13 = l4(v0 + 9088ull);
     v7 = l1(v0 + 9094ull);
     v14 = l4(v0 + 9124ull);
-    f94(v2 + 280ull, v0 + 9080ull);
+    f95(v2 + 280ull, v0 + 9080ull);
     v15 = 0u;
     s1(v0 + 15385ull, 0u);
     v16 = v14 >> 16;
@@ -6227,7 +6283,7 @@ L82:;
     s8(v2 + 296, 0ull);
     s8(v2 + 288, 0ull);
     s8(v2 + 280, 0ull);
-    f58(v2 + 280ull, v0 + 8ull);
+    f59(v2 + 280ull, v0 + 8ull);
     v3 = 0u;
     v7 = 0u;
     v5 = 0u;
@@ -6571,7 +6627,7 @@ L101:;
     v19 = (u64)v6;
     s8(v2 + 312, (((u64)l4(v20 + 20ull)) << 32) | v19);
     if ((v3 & 255u) == 14u) goto L123;
-    f95(v2, v0, v2 + 280ull, v14);
+    f96(v2, v0, v2 + 280ull, v14);
     v20 = 0ull;
     if (l1(v2) == 1u) goto L122;
 L123:;
@@ -6664,13 +6720,13 @@ static u32 w_mscp_port_next(u64 v0, u64 v1)
     f50();
     TRAP();
 L1:;
-    t1 = f96(v0, v1);
+    t1 = f97(v0, v1);
     v2 = t1;
     f52();
     return v2;
 }
 
-static void f97(u64 v0, u32 v1, u32 v2)
+static void f98(u64 v0, u32 v1, u32 v2)
 {
     u32 v4 = 0;
     u64 v3 = 0, v5 = 0, v6 = 0, v7 = 0;
@@ -6844,7 +6900,7 @@ L16:;
     TRAP();
 }
 
-static u32 f98(u64 v0)
+static u32 f99(u64 v0)
 {
     u32 v2 = 0, v3 = 0;
     v2 = 0xFFFFFFF6u;
@@ -6867,7 +6923,7 @@ L4:;
     return 1u;
     TRAP();
 L2:;
-    f97(v0, 9u, 7u);
+    f98(v0, 9u, 7u);
 L1:;
     return v2;
 }
@@ -6880,13 +6936,13 @@ static u32 w_mscp_port_read_ip(u64 v0)
     f50();
     TRAP();
 L1:;
-    t1 = f98(v0);
+    t1 = f99(v0);
     v1 = t1;
     f52();
     return v1;
 }
 
-static u32 f99(u64 v0)
+static u32 f100(u64 v0)
 {
     u32 v1 = 0;
     v1 = 0xFFFFFFF6u;
@@ -6934,13 +6990,13 @@ static u32 w_mscp_port_read_sa(u64 v0)
     f50();
     TRAP();
 L1:;
-    t1 = f99(v0);
+    t1 = f100(v0);
     v1 = t1;
     f52();
     return v1;
 }
 
-APART void f100(u64 v0, u64 v1)
+APART void f101(u64 v0, u64 v1)
 {
     ROOM(frame, 2080);
     u32 v7 = 0, v8 = 0, v10 = 0, v11 = 0, v12 = 0, v14 = 0, v15 = 0, v16 = 0, v17 = 0, v18 = 0, v19 = 0, v20 = 0, v21 =
@@ -6950,7 +7006,7 @@ APART void f100(u64 v0, u64 v1)
     v3 = v2;
     v2 = (u64)l1(v1 + 31);
     fill(v3 + 1048ull, 0u, 1032ull);
-    f86(v3 + 1048ull);
+    f87(v3 + 1048ull);
     if (v2 == 0) goto L2;
     v4 = v2 * 34ull;
     v5 = 0ull;
@@ -6978,7 +7034,7 @@ L3:;
     if ((v22 & 65535u) == 0) goto L4;
     v9 = div64(0xFFFFFFFFFFFFFFFFull, ((((u64)v12) & 65535ull) * (((u64)v11) & 65535ull)) * (((u64)v22) & 65535ull));
     v2 = v9 + 1ull;
-    f61(v3, v2, (u64)(u32)(v2 == 0), (u64)(v10 + 0xFFFFFFFFu), 0ull);
+    f62(v3, v2, (u64)(u32)(v2 == 0), (u64)(v10 + 0xFFFFFFFFu), 0ull);
     v16 = (l1(v6 + 49ull) << 8) | l1(v6 + 48ull);
     v13 = l8(v6 + 60ull);
     v14 = l4(v6 + 68ull);
@@ -7031,7 +7087,7 @@ L2:;
     TRAP();
 }
 
-APART void f101(u64 v0, u64 v1, u64 v2, u64 v3)
+APART void f102(u64 v0, u64 v1, u64 v2, u64 v3)
 {
     ROOM(frame, 4848);
     u32 v11 = 0, v12 = 0, v13 = 0, v14 = 0, v15 = 0, v16 = 0, v17 = 0, v18 = 0;
@@ -7225,7 +7281,7 @@ L6:;
 L5:;
     copy(v4 + 1568ull, v4 + 4072ull, 776ull);
     copy(v4 + 792ull, v4 + 1568ull, 776ull);
-    f84(v4 + 2344ull, v4 + 792ull, l8(v4 + 1560));
+    f85(v4 + 2344ull, v4 + 792ull, l8(v4 + 1560));
     if (l1(v4 + 2344)) goto L9;
     v11 = 4u;
     v3 = 0ull;
@@ -7288,7 +7344,7 @@ L1:;
     return;
 }
 
-APART void f102(u64 v0, u64 v1)
+APART void f103(u64 v0, u64 v1)
 {
     ROOM(frame, 6192);
     u32 v5 = 0, v8 = 0, v9 = 0, v10 = 0, v11 = 0, v12 = 0, v13 = 0, v14 = 0;
@@ -7336,7 +7392,7 @@ L4:;
     s8(v3 + 6184, 0ull);
     s8(v3 + 6176, 0ull);
     s8(v3 + 6168, 0ull);
-    f82(v3 + 6168ull, v7, 32ull);
+    f83(v3 + 6168ull, v7, 32ull);
     if (l1(v3 + 6168)) goto L1;
     v5 = l4(v3 + 6184);
     v8 = l1(v7 + 40ull);
@@ -7375,7 +7431,7 @@ L1:;
     TRAP();
 }
 
-APART void f103(u64 v0, u64 v1, u64 v2)
+APART void f104(u64 v0, u64 v1, u64 v2)
 {
     ROOM(frame, 3152);
     u32 v5 = 0, v6 = 0, v7 = 0, v8 = 0, v9 = 0, v10 = 0, v11 = 0, v12 = 0, v14 = 0, v15 = 0, v16 = 0, v17 = 0, v18 = 0,
@@ -7396,7 +7452,7 @@ L3:;
     v5 = 0u;
     s4(v3 + 3088, 0u);
     s2(v3 + 3092, 0u);
-    f73(v3 + 3096ull, v1, 48ull);
+    f74(v3 + 3096ull, v1, 48ull);
     if (l1(v3 + 3096) == 0) goto L5;
     v6 = 0u;
     v7 = 0u;
@@ -7459,7 +7515,7 @@ L2:;
     TRAP();
 }
 
-static u32 f104(u32 v0, u64 v1, u64 v2, u64 v3)
+static u32 f105(u32 v0, u64 v1, u64 v2, u64 v3)
 {
     u32 v4 = 0, v5 = 0, v6 = 0;
     u64 v7 = 0, v8 = 0, v9 = 0, v10 = 0;
@@ -7522,7 +7578,7 @@ L1:;
     return v4;
 }
 
-static void f105(u64 v0, u64 v1, u32 v2, u32 v3, u64 v4, u32 v5)
+static void f106(u64 v0, u64 v1, u32 v2, u32 v3, u64 v4, u32 v5)
 {
     u32 v6 = 0, v7 = 0, v8 = 0;
     u64 v9 = 0, v10 = 0, v11 = 0;
@@ -7619,7 +7675,7 @@ L11:;
     TRAP();
 }
 
-static void f106(u64 v0, u64 v1, u64 v2)
+static void f107(u64 v0, u64 v1, u64 v2)
 {
     u64 v3 = 0, v4 = 0, v5 = 0;
     if (v2 == 0) goto L2;
@@ -7699,7 +7755,7 @@ L2:;
     TRAP();
 }
 
-static void f107(u64 v0, u64 v1)
+static void f108(u64 v0, u64 v1)
 {
     ROOM(frame, 96);
     u32 v3 = 0, v5 = 0, v6 = 0, v7 = 0, v9 = 0, v10 = 0, v11 = 0, v12 = 0, v13 = 0, v14 = 0, v15 = 0;
@@ -7724,27 +7780,27 @@ static void f107(u64 v0, u64 v1)
     case 1: goto L6;
     case 2: goto L1;
     case 3: goto L8;
-    case 4: goto L11;
-    case 5: goto L10;
-    case 6: goto L9;
+    case 4: goto L12;
+    case 5: goto L11;
+    case 6: goto L10;
     case 7: goto L7;
-    case 8: goto L12;
+    case 8: goto L9;
     default: goto L5;
     }
 L12:;
+    v11 = 8u;
+    goto L3;
+L11:;
+    v11 = 9u;
+    goto L3;
+L10:;
+    v11 = 10u;
+    goto L3;
+L9:;
     v13 = 0u;
     v14 = 0u;
     v11 = v7;
     goto L2;
-L11:;
-    v11 = 8u;
-    goto L3;
-L10:;
-    v11 = 9u;
-    goto L3;
-L9:;
-    v11 = 10u;
-    goto L3;
 L8:;
     v4 = 18ull;
     v11 = 4u;
@@ -7827,7 +7883,7 @@ L17:;
     return;
 }
 
-static void f108(u64 v0, u64 v1, u64 v2)
+static void f109(u64 v0, u64 v1, u64 v2)
 {
     ROOM(frame, 64);
     u32 v4 = 0, v5 = 0, v6 = 0, v8 = 0, v9 = 0, v10 = 0, v11 = 0, v14 = 0, v16 = 0, v17 = 0, v18 = 0, v19 = 0, v20 = 0,
@@ -7970,16 +8026,16 @@ L2:;
     TRAP();
 }
 
-APART void f109(u64 v0, u64 v1, u64 v2, u64 v3, u64 v4, u64 v5, u64 v6, u64 v7, u64 v8, u64 v9, u32 v10, u64 v11, u32
+APART void f110(u64 v0, u64 v1, u64 v2, u64 v3, u64 v4, u64 v5, u64 v6, u64 v7, u64 v8, u64 v9, u32 v10, u64 v11, u32
         v12)
 {
     ROOM(frame, 3712);
     u64 v13 = 0;
     v13 = A(frame);
     fill(v13 + 8ull, 0u, 3672ull);
-    f105(v13 + 8ull, v1, (((((u32)v9) << 24) | ((((u32)v7) << 16) & 16711680u)) | ((((u32)v5) << 8) & 65280u)) |
+    f106(v13 + 8ull, v1, (((((u32)v9) << 24) | ((((u32)v7) << 16) & 16711680u)) | ((((u32)v5) << 8) & 65280u)) |
         (((u32)v3) & 255u), v10, v11, v12);
-    f106(v13 + 8ull, v2, v3);
+    f107(v13 + 8ull, v2, v3);
     if (v5 == 0) goto L2;
 L3:;
     s8(v13 + 3704, l8(v4 + 24));
@@ -7987,18 +8043,18 @@ L3:;
     s8(v13 + 3688, l8(v4 + 8));
     s8(v13 + 3680, l8(v4));
     v4 = v4 + 32ull;
-    f107(v13 + 8ull, v13 + 3680ull);
+    f108(v13 + 8ull, v13 + 3680ull);
     v5 = v5 + 0xFFFFFFFFFFFFFFFFull;
     if (v5 != 0ull) goto L3;
 L2:;
-    f108(v13 + 8ull, v6, v7);
-    f108(v13 + 8ull, v8, v9);
+    f109(v13 + 8ull, v6, v7);
+    f109(v13 + 8ull, v8, v9);
     copy(v0, v13 + 8ull, 3672ull);
     return;
     TRAP();
 }
 
-APART void f110(u64 v0, u64 v1, u64 v2, u32 v3)
+APART void f111(u64 v0, u64 v1, u64 v2, u32 v3)
 {
     ROOM(frame, 27472);
     u32 v5 = 0, v6 = 0, v13 = 0, v17 = 0, v21 = 0, v22 = 0, v23 = 0, v24 = 0, v25 = 0, v26 = 0, v27 = 0, v28 = 0, v29 =
@@ -8033,25 +8089,25 @@ L6:;
     v5 = 2u;
     goto L1;
 L7:;
-    f100(v4 + 17256ull, v1);
+    f101(v4 + 17256ull, v1);
     copy(v4 + 19096ull, v4 + 17256ull, 1032ull);
     v14 = l8(v4 + 20120);
-    f101(v4 + 16440ull, v1, v4 + 17256ull, v14);
+    f102(v4 + 16440ull, v1, v4 + 17256ull, v14);
     if (l1(v4 + 16440)) goto L8;
     v15 = v4 + 16448ull;
     copy(v4 + 18288ull, v15, 808ull);
-    f102(v4 + 14384ull, v1);
+    f103(v4 + 14384ull, v1);
     copy(v4 + 12328ull, v4 + 14384ull, 2056ull);
     v16 = l8(v4 + 14376);
     v17 = 0u;
     fill(v4 + 23800ull, 0u, 3080ull);
     v7 = ((v7 + v9) + v1) + 48ull;
-    f103(v4 + 23800ull, v7, v10);
+    f104(v4 + 23800ull, v7, v10);
     copy(v4 + 9248ull, v4 + 23800ull, 3080ull);
     copy(v4 + 6168ull, v4 + 9248ull, 3080ull);
     v18 = l8(v4 + 9240);
     fill(v4 + 23800ull, 0u, 3080ull);
-    f103(v4 + 23800ull, v7 + (v10 * 48ull), v11);
+    f104(v4 + 23800ull, v7 + (v10 * 48ull), v11);
     copy(v4 + 3088ull, v4 + 23800ull, 3080ull);
     copy(v4 + 8ull, v4 + 3088ull, 3080ull);
     v19 = l8(v4 + 3080);
@@ -8292,12 +8348,12 @@ L43:;
     s8(v4 + 20132, v20);
     s4(v4 + 20128, v17);
     v6 = 1u;
-    t1 = f104(v24, v4 + 14384ull, v16, v4 + 20128ull);
+    t1 = f105(v24, v4 + 14384ull, v16, v4 + 20128ull);
     if (t1) goto L45;
     v5 = 12u;
     goto L1;
 L45:;
-    f109(v4 + 23800ull, v15, v4 + 17256ull, v14, v4 + 14384ull, v16, v4 + 9248ull, v18, v4 + 3088ull, v19, v17, v20,
+    f110(v4 + 23800ull, v15, v4 + 17256ull, v14, v4 + 14384ull, v16, v4 + 9248ull, v18, v4 + 3088ull, v19, v17, v20,
         v3);
     copy(v4 + 20128ull, v4 + 23800ull, 3672ull);
     if (l1(v1 + 30) == (v3 & 255u)) goto L46;
@@ -8311,7 +8367,7 @@ L46:;
     if ((l1(v4 + 20129) & 255u) != (v23 & 255u)) goto L1;
     if ((l1(v4 + 20130) & 255u) != (v22 & 255u)) goto L1;
     if ((l1(v4 + 20131) & 255u) != v21) goto L1;
-    t2 = f77(v4 + 20128ull, v2, v1);
+    t2 = f78(v4 + 20128ull, v2, v1);
     v6 = t2;
     v5 = v6 ? 0u : 14u;
     v6 = v6 ^ 1u;
@@ -8329,7 +8385,7 @@ L1:;
     return;
 }
 
-static void f111(u64 v0, u64 v1)
+static void f112(u64 v0, u64 v1)
 {
     u32 v2 = 0, v3 = 0, v4 = 0, v5 = 0, v6 = 0, v7 = 0, v8 = 0, v9 = 0;
     v2 = l4(v1 + 4);
@@ -8448,7 +8504,7 @@ L2:;
     TRAP();
 }
 
-static void f112(u64 v0, u64 v1, u64 v2)
+static void f113(u64 v0, u64 v1, u64 v2)
 {
     u32 v4 = 0, v5 = 0, v6 = 0, v7 = 0, v8 = 0;
     u64 v3 = 0, v9 = 0, v10 = 0;
@@ -8506,7 +8562,7 @@ L2:;
     TRAP();
 }
 
-APART void f113(u64 v0, u64 v1, u64 v2)
+APART void f114(u64 v0, u64 v1, u64 v2)
 {
     ROOM(frame, 7744);
     u32 v4 = 0, v5 = 0, v7 = 0, v9 = 0, v11 = 0, v14 = 0, v15 = 0;
@@ -8648,7 +8704,7 @@ L15:;
     s2(v3 + 6072, l2(v1 + 52));
     s2(v3 + 6084, l2(v1 + 66ull));
     s8(v3 + 6076, l8(v1 + 54ull));
-    f111(v3 + 6128ull, v3 + 6072ull);
+    f112(v3 + 6128ull, v3 + 6072ull);
     v13 = 0ull;
     v14 = l4(v3 + 6132);
     v15 = l1(v3 + 6129);
@@ -8795,12 +8851,12 @@ L33:;
     v2 = v2 + 20ull;
     if (v19 != v2) goto L33;
 L32:;
-    f112(v3 + 712ull, v3 + 6456ull, l8(v3 + 7736));
+    f113(v3 + 712ull, v3 + 6456ull, l8(v3 + 7736));
     copy(v0, v3 + 712ull, 5280ull);
     return;
 }
 
-APART u32 f114(u64 v0, u64 v1)
+APART u32 f115(u64 v0, u64 v1)
 {
     ROOM(frame, 10560);
     u32 v3 = 0, t0;
@@ -8808,7 +8864,7 @@ APART u32 f114(u64 v0, u64 v1)
     v2 = A(frame);
     v3 = 0u;
     fill(v2 + 5280ull, 0u, 5280ull);
-    f113(v2 + 5280ull, v0, v1);
+    f114(v2 + 5280ull, v0, v1);
     copy(v2, v2 + 5280ull, 5280ull);
     v1 = l8(v2 + 5272);
     if (v1 != ((((u64)l1(v0 + 70)) + (((u64)l1(v0 + 71)) * 20ull)) + 280ull)) goto L2;
@@ -8816,14 +8872,14 @@ APART u32 f114(u64 v0, u64 v1)
     if ((l1(v2 + 1) & 255u) != (l1(v0 + 1ull) & 255u)) goto L2;
     if ((l1(v2 + 2) & 255u) != (l1(v0 + 2ull) & 255u)) goto L2;
     if ((l1(v2 + 3) & 255u) != (l1(v0 + 3ull) & 255u)) goto L2;
-    t0 = f77(v2, v1, v0);
+    t0 = f78(v2, v1, v0);
     v3 = t0;
 L2:;
     return v3;
     TRAP();
 }
 
-static void f115(u64 v0, u64 v1, u64 v2, u32 v3)
+static void f116(u64 v0, u64 v1, u64 v2, u32 v3)
 {
     ROOM(frame, 16);
     u32 v5 = 0, v7 = 0, t0;
@@ -8870,14 +8926,14 @@ L4:;
     s1(v0 + 1ull, v5);
     goto L2;
 L3:;
-    f110(v4 + 8ull, v1 + v6, v2 - v6, v3);
+    f111(v4 + 8ull, v1 + v6, v2 - v6, v3);
     if (l1(v4 + 8) != 1u) goto L9;
     v5 = l1(v4 + 9);
     s2(v0, 1025u);
     s1(v0 + 2ull, v5);
     goto L2;
 L9:;
-    t0 = f114(v1, v2);
+    t0 = f115(v1, v2);
     v5 = t0;
     s1(v0 + 2ull, 0u);
     s1(v0 + 1ull, v5 ? 0u : 5u);
@@ -8887,15 +8943,15 @@ L2:;
     TRAP();
 }
 
-APART void f116(u64 v0, u64 v1)
+APART void f117(u64 v0, u64 v1)
 {
     ROOM(frame, 1856);
     u64 v2 = 0;
     v2 = A(frame);
     fill(v2 + 1040ull, 0u, 816ull);
     fill(v2 + 8ull, 0u, 1032ull);
-    f100(v2 + 8ull, v1);
-    f101(v2 + 1040ull, v1, v2 + 8ull, l8(v2 + 1032));
+    f101(v2 + 8ull, v1);
+    f102(v2 + 1040ull, v1, v2 + 8ull, l8(v2 + 1032));
     if (l1(v2 + 1040) == 0) goto L1;
     TRAP();
 L1:;
@@ -8903,7 +8959,7 @@ L1:;
     return;
 }
 
-APART void f117(u64 v0, u64 v1, u32 v2)
+APART void f118(u64 v0, u64 v1, u32 v2)
 {
     ROOM(frame, 27328);
     u32 v5 = 0, v6 = 0, v7 = 0, v8 = 0;
@@ -8920,7 +8976,7 @@ APART void f117(u64 v0, u64 v1, u32 v2)
     fill(v4 + 8817ull, 0u, 1807ull);
     fill(v4 + 7272ull, 0u, 1544ull);
     fill(v4 + 6488ull, 0u, 784ull);
-    f84(v4 + 6488ull, v4 + 11688ull, l8(v4 + 12456));
+    f85(v4 + 6488ull, v4 + 11688ull, l8(v4 + 12456));
     if (l1(v4 + 6488)) goto L2;
     v5 = l4(v4 + 11668);
     v6 = l4(v4 + 11664);
@@ -8931,7 +8987,7 @@ APART void f117(u64 v0, u64 v1, u32 v2)
     fill(v4 + 12464ull, 0u, 1544ull);
     v3 = l8(v4 + 15808);
     fill(v4 + 17624ull, 0u, 1032ull);
-    f86(v4 + 17624ull);
+    f87(v4 + 17624ull);
     if (v3 == 0) goto L3;
     v9 = l8(v4 + 18648);
     if (v3 != 1ull) goto L5;
@@ -9089,7 +9145,7 @@ L1:;
     return;
 }
 
-APART void f118(u64 v0, u64 v1, u64 v2, u64 v3, u32 v4, u64 v5)
+APART void f119(u64 v0, u64 v1, u64 v2, u64 v3, u32 v4, u64 v5)
 {
     ROOM(frame, 13360);
     u32 v9 = 0, v14 = 0, v16 = 0, v17 = 0, v21 = 0, v27 = 0, v28 = 0, v29 = 0, v30 = 0;
@@ -9128,7 +9184,7 @@ L4:;
     v15 = (u64)v14;
     v16 = l4(v13 + 16ull);
     v17 = l1(v13 + 8ull);
-    v3 = 0ull;
+    v18 = 0ull;
     if (v8 == 0) goto L5;
     v3 = 0ull;
     v6 = v7 + 3648ull;
@@ -9139,40 +9195,48 @@ L7:;
     if (v8 != v3) goto L7;
     v3 = v8;
 L6:;
-    v3 = v3 << 6;
+    v18 = v3 << 6;
 L5:;
-    v15 = v15 & 65535ull;
+    v19 = v15 & 65535ull;
     v6 = 0ull;
-    v18 = (l8(((v7 + 3648ull) + v3) + 32ull)) + 1ull;
-    v14 = v17 & 255u;
-    f61(v7 + 16ull, v18, (u64)(u32)(v18 == 0), (v14 == 7u) ? ((u64)v16) : 0ull, 0ull);
-    v18 = (u64)l1(v13 + 6ull);
-    v13 = (u64)l4(v13);
-    if (v14 == 7u) goto L9;
-    v3 = 0x100000000000000ull;
+    v3 = (l8(((v7 + 3648ull) + v18) + 32ull)) + 1ull;
+    f62(v7 + 16ull, v3, (u64)(u32)(v3 == 0), (v17 == 7u) ? ((u64)v16) : 0ull, 0ull);
+    v3 = (u64)l4(v13);
+    v15 = 0ull;
+    switch (v17) {
+    case 4: case 5: case 6: goto L10;
+    case 7: goto L9;
+    case 8: goto L11;
+    default: goto L8;
+    }
+L11:;
+    v15 = 0x300000000000000ull;
+    goto L8;
+L10:;
+    v15 = 0x100000000000000ull;
     goto L8;
 L9:;
     v6 = l8(v7 + 24);
     v14 = (u32)v6;
-    v3 = (v7 + 3648ull) + (v3 & 16320ull);
-    v16 = l4(v3 + 52ull);
-    v19 = (u64)v16;
-    if (l1(v3 + 56ull) != 1u) goto L11;
-    v6 = (v16 > v14) ? ((((u64)l4(v3 + 40ull)) << 1) - (v19 + v6)) : (v6 - v19);
-    goto L10;
-L11:;
-    v6 = ((v16 < v14) ? v6 : (0ull - v6)) + v19;
-L10:;
-    v3 = 0x200000000000000ull;
+    v18 = (v7 + 3648ull) + (v18 & 16320ull);
+    v17 = l4(v18 + 52ull);
+    v15 = (u64)v17;
+    if (l1(v18 + 56ull) != 1u) goto L13;
+    v6 = (v17 > v14) ? ((((u64)l4(v18 + 40ull)) << 1) - (v15 + v6)) : (v6 - v15);
+    goto L12;
+L13:;
+    v6 = ((v17 < v14) ? v6 : (0ull - v6)) + v15;
+L12:;
+    v15 = 0x200000000000000ull;
 L8:;
-    v19 = v11 + (v13 & 255ull);
-    s1(v19, l1(v19) + 1u);
+    v18 = v11 + (v3 & 255ull);
+    s1(v18, l1(v18) + 1u);
     s8(v10 + (l8(v7 + 8528) << 3), v6);
-    v19 = l8(v7 + 8528);
-    v20 = (v7 + 7504ull) + (v19 << 4);
-    s8(v20, ((v3 | (v18 << 48)) | (v15 << 32)) | v13);
+    v18 = l8(v7 + 8528);
+    v20 = (v7 + 7504ull) + (v18 << 4);
+    s8(v20, (((((u64)l1(v13 + 6ull)) << 48) | v15) | (v19 << 32)) | v3);
     s8(v20 + 8, v6);
-    s8(v7 + 8528, v19 + 1ull);
+    s8(v7 + 8528, v18 + 1ull);
     v12 = v12 + 1ull;
     if (v12 != v2) goto L4;
 L3:;
@@ -9181,50 +9245,50 @@ L3:;
     v12 = 0ull;
     v3 = 0ull;
     v6 = 0ull;
-    if ((v4 & 255u) != 1u) goto L12;
+    if ((v4 & 255u) != 1u) goto L14;
     v3 = 0ull;
     v6 = 0ull;
     v13 = l8(v7 + 2864);
-    if (v13 == 0) goto L12;
-    v16 = (u32)(v5 >> 32);
+    if (v13 == 0) goto L14;
+    v17 = (u32)(v5 >> 32);
     v14 = (u32)v5;
     v3 = 0ull;
     v6 = v7 + 1840ull;
-L13:;
-    if (l1(v6 + 6ull) != (v14 & 255u)) goto L14;
-    if (l4(v6) != v16) goto L14;
+L15:;
+    if (l1(v6 + 6ull) != (v14 & 255u)) goto L16;
+    if (l4(v6) != v17) goto L16;
     v6 = 1ull;
-    goto L12;
-L14:;
+    goto L14;
+L16:;
     v6 = v6 + 16ull;
     v3 = v3 + 1ull;
-    if (v13 != v3) goto L13;
+    if (v13 != v3) goto L15;
     v3 = 0ull;
     v6 = 0ull;
-L12:;
+L14:;
     s8(v0 + 4880ull, v3);
     s8(v0 + 4872ull, v6);
     v3 = 0ull;
-    if (v9) goto L15;
+    if (v9) goto L17;
     v6 = v1 + 24ull;
     v3 = 0ull;
-L16:;
-    if (l4(v6) == 0) goto L17;
+L18:;
+    if (l4(v6) == 0) goto L19;
     v12 = 1ull;
-    goto L15;
-L17:;
+    goto L17;
+L19:;
     v6 = v6 + 32ull;
     v3 = v3 + 1ull;
-    if (v2 != v3) goto L16;
+    if (v2 != v3) goto L18;
     v12 = 0ull;
     v3 = 0ull;
-L15:;
+L17:;
     s8(v0 + 4896ull, v3);
     s8(v0 + 4888ull, v12);
     v21 = l4(v0 + 3816ull);
     fill(v7 + 7504ull, 0u, 2048ull);
     v3 = 0xFFFFFFFFFFFFF800ull;
-L18:;
+L20:;
     v12 = 0ull;
     v6 = (v7 + 7504ull) + v3;
     s8(v6 + 2057ull, 0ull);
@@ -9248,52 +9312,52 @@ L18:;
     s8(v6 + 2161ull, 0ull);
     s8(v6 + 2153ull, 0ull);
     v3 = v3 + 128ull;
-    if (v3 != 0ull) goto L18;
+    if (v3 != 0ull) goto L20;
     copy(v7 + 9552ull, v7 + 7504ull, 2048ull);
     fill((v7 + 9552ull) + 2048ull, 0u, 1760ull);
-    if (v9) goto L19;
+    if (v9) goto L21;
     v19 = 0ull;
-    v15 = 0ull;
+    v18 = 0ull;
     v13 = 0ull;
-    if (v2 == 1ull) goto L21;
+    if (v2 == 1ull) goto L23;
     v20 = v2 & 1ull;
     v6 = v1 + 52ull;
-    v18 = v2 & 0xFFFFFFFFFFFFFFFEull;
-    v15 = 0ull;
+    v15 = v2 & 0xFFFFFFFFFFFFFFFEull;
+    v18 = 0ull;
     v13 = 0ull;
-L22:;
+L24:;
     v3 = 0ull;
     v14 = l4(v6 + 0xFFFFFFFFFFFFFFE4ull);
-    if (v14 == 0) goto L23;
-    v16 = l4(v6 + 0xFFFFFFFFFFFFFFE0ull);
-    v14 = v16 - v14;
-    v3 = (u64)((v14 > v16) ? 0u : v14);
-L23:;
-    v3 = v3 + v15;
-    v14 = l4(v6 + 4ull);
-    if (v14) goto L25;
-    v12 = 0ull;
-    goto L24;
+    if (v14 == 0) goto L25;
+    v17 = l4(v6 + 0xFFFFFFFFFFFFFFE0ull);
+    v14 = v17 - v14;
+    v3 = (u64)((v14 > v17) ? 0u : v14);
 L25:;
-    v16 = l4(v6);
-    v14 = v16 - v14;
-    v12 = (u64)((v14 > v16) ? 0u : v14);
-L24:;
+    v3 = v3 + v18;
+    v14 = l4(v6 + 4ull);
+    if (v14) goto L27;
+    v12 = 0ull;
+    goto L26;
+L27:;
+    v17 = l4(v6);
+    v14 = v17 - v14;
+    v12 = (u64)((v14 > v17) ? 0u : v14);
+L26:;
     v6 = v6 + 64ull;
-    v15 = v12 + v3;
+    v18 = v12 + v3;
     v13 = v13 + 2ull;
-    if (v18 != v13) goto L22;
-    if (v20 == 0) goto L20;
-L21:;
+    if (v15 != v13) goto L24;
+    if (v20 == 0) goto L22;
+L23:;
     v6 = v1 + (v13 << 5);
     v14 = l4(v6 + 24ull);
-    if (v14 == 0) goto L26;
-    v16 = l4(v6 + 20ull);
-    v14 = v16 - v14;
-    v19 = (u64)((v14 > v16) ? 0u : v14);
-L26:;
-    v15 = v19 + v15;
-L20:;
+    if (v14 == 0) goto L28;
+    v17 = l4(v6 + 20ull);
+    v14 = v17 - v14;
+    v19 = (u64)((v14 > v17) ? 0u : v14);
+L28:;
+    v18 = v19 + v18;
+L22:;
     v22 = v7 + 12624ull;
     v23 = v7 + 12720ull;
     v24 = v7 + 12848ull;
@@ -9301,44 +9365,44 @@ L20:;
     v26 = v7 + 11600ull;
     v12 = 0ull;
     v19 = 0ull;
-L27:;
+L29:;
     v13 = v1 + (v19 << 5);
     v9 = l4(v13 + 20);
-    v16 = l4(v13 + 24);
-    v14 = v9 - v16;
+    v17 = l4(v13 + 24);
+    v14 = v9 - v17;
     v27 = (v14 > v9) ? 0u : v14;
-    v18 = (u64)(v16 ? v27 : 0u);
+    v15 = (u64)(v17 ? v27 : 0u);
     v4 = l4(v13 + 16);
-    v17 = l1(v13 + 8);
+    v16 = l1(v13 + 8);
     v11 = l8(v13);
     v3 = 0ull;
-    if (v8 == 0) goto L28;
+    if (v8 == 0) goto L30;
     v14 = (u32)(v11 >> 32);
     v3 = 0ull;
     v6 = v7 + 3648ull;
-L29:;
-    if (l2(v6) == (v14 & 65535u)) goto L28;
+L31:;
+    if (l2(v6) == (v14 & 65535u)) goto L30;
     v6 = v6 + 64ull;
     v3 = v3 + 1ull;
-    if (v8 != v3) goto L29;
+    if (v8 != v3) goto L31;
     v3 = v8;
-L28:;
-    v15 = v15 - v18;
+L30:;
+    v18 = v18 - v15;
     v14 = l4(v13 + 28);
     v28 = l4(v13 + 12);
     v29 = l2(v13 + 10);
     v30 = l1(v13 + 9);
     v6 = (l8(((v7 + 3648ull) + (v3 << 6)) + 32ull)) + 1ull;
-    f61(v7, v6, (u64)(u32)(v6 == 0), ((v17 & 255u) == 7u) ? ((u64)v4) : 0ull, 0ull);
-    v18 = (u64)v27;
-    if (v16 == 0) goto L31;
-    v12 = v12 + v18;
-    goto L30;
-L31:;
-    v12 = v12 + v18;
+    f62(v7, v6, (u64)(u32)(v6 == 0), ((v16 & 255u) == 7u) ? ((u64)v4) : 0ull, 0ull);
+    v15 = (u64)v27;
+    if (v17 == 0) goto L33;
+    v12 = v12 + v15;
+    goto L32;
+L33:;
+    v12 = v12 + v15;
     v27 = v21 - v14;
-    v18 = (v12 + ((u64)((v27 > v21) ? 0u : v27))) + v15;
-L30:;
+    v15 = (v12 + ((u64)((v27 > v21) ? 0u : v27))) + v18;
+L32:;
     v5 = l8(v7 + 8);
     v20 = l8(v7 + 12696);
     v13 = ctz64(v20 ^ 0xFFFFFFFFFFFFFFFFull);
@@ -9346,17 +9410,17 @@ L30:;
     s8(v24 + v10, v20);
     v6 = (v7 + 9552ull) + (v13 << 5);
     s4(v6 + 28, v14);
-    s4(v6 + 24, v16);
+    s4(v6 + 24, v17);
     s4(v6 + 20, v9);
     s4(v6 + 16, v4);
     s4(v6 + 12, v28);
     s2(v6 + 10, v29);
     s1(v6 + 9, v30);
-    s1(v6 + 8, v17);
+    s1(v6 + 8, v16);
     s8(v6, v11);
     v6 = v3 & 255ull;
     s8(v26 + v10, (v5 << 32) | v6);
-    s8(v25 + v10, v18);
+    s8(v25 + v10, v15);
     v6 = v23 + (v6 << 3);
     t0 = v6;
     t1 = l8(v6);
@@ -9364,16 +9428,16 @@ L30:;
     s8(t0, t1 | v6);
     s8(v7 + 12696, v6 | v20);
     v3 = l8(v7 + 12704);
-    v18 = rotl64(0xFFFFFFFFFFFFFFFEull, (v13 & 63));
-    s8(v7 + 12704, (((v17 + 0xFFFFFFFCu) & 255u) < 3u) ? (v3 | v6) : (v3 & v18));
+    v15 = rotl64(0xFFFFFFFFFFFFFFFEull, (v13 & 63));
+    s8(v7 + 12704, (((v16 + 0xFFFFFFFCu) & 255u) < 3u) ? (v3 | v6) : (v3 & v15));
     v3 = l8(v7 + 12712);
-    s8(v7 + 12712, v16 ? (v3 | v6) : (v3 & v18));
+    s8(v7 + 12712, v17 ? (v3 | v6) : (v3 & v15));
     v6 = l8(v7 + 12688);
     s1(v22 + v6, (u32)v13);
     s8(v7 + 12688, v6 + 1ull);
     v19 = v19 + 1ull;
-    if (v19 != v2) goto L27;
-L19:;
+    if (v19 != v2) goto L29;
+L21:;
     copy(v0 + 8ull, v7 + 9552ull, 3808ull);
     s8(v0 + 3832ull, v12);
     s8(v0 + 3824ull, 0ull);
@@ -9384,7 +9448,7 @@ L19:;
     TRAP();
 }
 
-APART void f119(u64 v0, u64 v1, u64 v2, u64 v3, u64 v4)
+APART void f120(u64 v0, u64 v1, u64 v2, u64 v3, u64 v4)
 {
     ROOM(frame, 6160);
     u32 v7 = 0;
@@ -9458,7 +9522,7 @@ L2:;
     TRAP();
 }
 
-APART void f120(u64 v0, u64 v1, u64 v2)
+APART void f121(u64 v0, u64 v1, u64 v2)
 {
     ROOM(frame, 9248);
     u32 v4 = 0, v8 = 0;
@@ -9468,15 +9532,15 @@ APART void f120(u64 v0, u64 v1, u64 v2)
     v4 = 0u;
     fill(v3 + 1032ull, 0u, 2056ull);
     fill(v3, 0u, 1032ull);
-    f102(v3 + 1032ull, v1);
+    f103(v3 + 1032ull, v1);
     v5 = l8(v3 + 3080);
     fill(v3 + 3088ull, 0u, 3080ull);
     v6 = (((((u64)l1(v1 + 31)) * 34ull) + (((u64)l1(v1 + 40)) * 41ull)) + v1) + 48ull;
     v7 = (u64)l1(v1 + 41);
-    f103(v3 + 3088ull, v6, v7);
+    f104(v3 + 3088ull, v6, v7);
     fill(v3 + 6168ull, 0u, 3080ull);
-    f103(v3 + 6168ull, v6 + (v7 * 48ull), (u64)l1(v1 + 42));
-    f100(v3, v1);
+    f104(v3 + 6168ull, v6 + (v7 * 48ull), (u64)l1(v1 + 42));
+    f101(v3, v1);
     v8 = l1(v1 + 43);
     if (v8) goto L3;
     v1 = 0ull;
@@ -9485,13 +9549,13 @@ L3:;
     v4 = 1u;
     v1 = (((u64)l4(v1 + 44ull)) << 32) | ((u64)(u32)(v8 != 1u));
 L2:;
-    f118(v0 + 808ull, v3 + 1032ull, v5, v3, v4, v1);
-    f119(v0 + 9072ull, v3 + 1032ull, v5, v3 + 3088ull, v3 + 6168ull);
+    f119(v0 + 808ull, v3 + 1032ull, v5, v3, v4, v1);
+    f120(v0 + 9072ull, v3 + 1032ull, v5, v3 + 3088ull, v3 + 6168ull);
     return;
     TRAP();
 }
 
-APART void f121(u64 v0, u64 v1, u64 v2)
+APART void f122(u64 v0, u64 v1, u64 v2)
 {
     ROOM(frame, 2032);
     u32 v5 = 0, v6 = 0, v7 = 0, v8 = 0, v9 = 0, v10 = 0, v11 = 0;
@@ -9560,7 +9624,7 @@ L4:;
     s2(v4 + 340, l2(v1 + 66ull));
     s8(v4 + 332, l8(v1 + 54ull));
     s2(v4 + 328, l2(v1 + 52));
-    f111(v4 + 344ull, v4 + 328ull);
+    f112(v4 + 344ull, v4 + 328ull);
     s2(v0 + 15292ull, l2(v4 + 344));
     s2(v0 + 15294ull, l1(v4 + 346));
     s8(v0 + 15296ull, l8(v4 + 348));
@@ -9654,12 +9718,12 @@ L11:;
     s2(v0 + 17002ull, l2(v1 + 25ull));
     s2(v0 + 17004ull, l2(v1 + 27ull));
     v3 = (((u64)l1(v1 + 70)) + (((u64)l1(v1 + 71)) * 20ull)) + 280ull;
-    f120(v0 + 8ull, v1 + v3, v2 - v3);
+    f121(v0 + 8ull, v1 + v3, v2 - v3);
     return;
     TRAP();
 }
 
-APART u32 f122(u64 v0, u64 v1, u64 v2)
+APART u32 f123(u64 v0, u64 v1, u64 v2)
 {
     ROOM(frame, 816);
     u32 v5 = 0, v7 = 0;
@@ -9699,7 +9763,7 @@ L8:;
     if (v1 >= v2) goto L9;
     v7 = l1(v4 + v1) == 1u;
 L9:;
-    f115(v3 + 4ull, v4, v2, v7);
+    f116(v3 + 4ull, v4, v2, v7);
     v5 = 1u;
     if (l1(v3 + 4) != 1u) goto L10;
     v5 = 0xFFFFFFD8u;
@@ -9728,9 +9792,9 @@ L11:;
     goto L1;
 L10:;
     fill(v3 + 8ull, 0u, 808ull);
-    f116(v3 + 8ull, ((v4 + ((u64)l1(v4 + 70))) + (((u64)l1(v4 + 71)) * 20ull)) + 280ull);
-    f117(v0, v3 + 8ull, v7);
-    f121(l8(v0), v4, v2);
+    f117(v3 + 8ull, ((v4 + ((u64)l1(v4 + 70))) + (((u64)l1(v4 + 71)) * 20ull)) + 280ull);
+    f118(v0, v3 + 8ull, v7);
+    f122(l8(v0), v4, v2);
     goto L1;
     TRAP();
 L2:;
@@ -9747,13 +9811,13 @@ static u32 w_mscp_port_restore_at(u64 v0, u64 v1, u64 v2)
     f50();
     TRAP();
 L1:;
-    t1 = f122(v0, v1, v2);
+    t1 = f123(v0, v1, v2);
     v3 = t1;
     f52();
     return v3;
 }
 
-APART void f123(u64 v0, u64 v1, u32 v2)
+APART void f124(u64 v0, u64 v1, u32 v2)
 {
     ROOM(frame, 3712);
     u32 v5 = 0, v9 = 0, v11 = 0, v13 = 0, v14 = 0;
@@ -9777,8 +9841,8 @@ APART void f123(u64 v0, u64 v1, u32 v2)
     v7 = (((u64)l4(v7 + 816ull)) << 32) | ((u64)l1(v7 + 822ull));
     v5 = 1u;
 L2:;
-    f105(v3 + 8ull, v1, (((v11 << 24) | ((v13 << 16) & 16711680u)) | ((v14 << 8) & 65280u)) | (v9 & 255u), v5, v7, v2);
-    f106(v3 + 8ull, v6, v4);
+    f106(v3 + 8ull, v1, (((v11 << 24) | ((v13 << 16) & 16711680u)) | ((v14 << 8) & 65280u)) | (v9 & 255u), v5, v7, v2);
+    f107(v3 + 8ull, v6, v4);
     if (v8 == 0) goto L3;
     v7 = v1 + 3888ull;
     v6 = v1 + 816ull;
@@ -9789,18 +9853,18 @@ L4:;
     s8(v3 + 3696, l8(v4 + 16));
     s8(v3 + 3704, l8(v4 + 24));
     v7 = v7 + 1ull;
-    f107(v3 + 8ull, v3 + 3680ull);
+    f108(v3 + 8ull, v3 + 3680ull);
     v8 = v8 + 0xFFFFFFFFFFFFFFFFull;
     if (v8 != 0ull) goto L4;
 L3:;
-    f108(v3 + 8ull, v1 + 9080ull, v12);
-    f108(v3 + 8ull, v1 + 12168ull, v10);
+    f109(v3 + 8ull, v1 + 9080ull, v12);
+    f109(v3 + 8ull, v1 + 12168ull, v10);
     copy(v0, v3 + 8ull, 3672ull);
     return;
     TRAP();
 }
 
-APART u32 f124(u64 v0, u64 v1, u64 v2, u64 v3)
+APART u32 f125(u64 v0, u64 v1, u64 v2, u64 v3)
 {
     ROOM(frame, 17904);
     u32 v6 = 0, v8 = 0, v13 = 0, v14 = 0, v15 = 0, v16 = 0, v17 = 0, v18 = 0;
@@ -9814,7 +9878,7 @@ L3:;
     v7 = l8(v0);
     v6 = l1(v7 + 5720ull);
     fill(v5 + 5280ull, 0u, 3672ull);
-    f123(v5 + 5280ull, v7 + 8ull, v6);
+    f124(v5 + 5280ull, v7 + 8ull, v6);
     copy(v5 + 14232ull, v5 + 5280ull, 3672ull);
     v8 = l1(v7 + 15312ull);
     if (v8 == 1u) goto L5;
@@ -10004,7 +10068,7 @@ L23:;
 L27:;
     s8(v5 + 14224, v0 + v10);
 L26:;
-    f112(v5 + 8952ull, v20, v11);
+    f113(v5 + 8952ull, v20, v11);
     v0 = l8(v5 + 14224);
     if ((5272ull - v0) < v12) goto L28;
     if (v12 == 0) goto L29;
@@ -10038,13 +10102,13 @@ static u32 w_mscp_port_save_at(u64 v0, u64 v1, u64 v2, u64 v3)
     f50();
     TRAP();
 L1:;
-    t1 = f124(v0, v1, v2, v3);
+    t1 = f125(v0, v1, v2, v3);
     v4 = t1;
     f52();
     return v4;
 }
 
-static void f125(void)
+static void f126(void)
 {
     goto L1;
 L1:;
@@ -10059,12 +10123,12 @@ static u64 w_mscp_port_save_size(void)
     f50();
     TRAP();
 L1:;
-    f125();
+    f126();
     f52();
     return 5272ull;
 }
 
-static void f126(void)
+static void f127(void)
 {
     goto L1;
 L1:;
@@ -10079,12 +10143,12 @@ static u64 w_mscp_port_size(void)
     f50();
     TRAP();
 L1:;
-    f126();
+    f127();
     f52();
     return 17008ull;
 }
 
-static u32 f127(u64 v0)
+static u32 f128(u64 v0)
 {
     u32 v2 = 0, v3 = 0;
     u64 v4 = 0;
@@ -10115,12 +10179,12 @@ L6:;
 L5:;
     v4 = v0 + 17004ull;
     v2 = l2(v4);
-    if (v2 < 2u) goto L3;
+    if (v2 == 0) goto L3;
     s2(v4, v2 + 0xFFFFFFFFu);
     goto L2;
     TRAP();
 L3:;
-    f97(v0, 9u, 9u);
+    f98(v0, 9u, 9u);
 L2:;
     v2 = 1u;
 L1:;
@@ -10135,13 +10199,13 @@ static u32 w_mscp_port_tick(u64 v0)
     f50();
     TRAP();
 L1:;
-    t1 = f127(v0);
+    t1 = f128(v0);
     v1 = t1;
     f52();
     return v1;
 }
 
-static u32 f128(u64 v0, u32 v1, u32 v2)
+static u32 f129(u64 v0, u32 v1, u32 v2)
 {
     u32 v3 = 0;
     u64 v4 = 0, v5 = 0;
@@ -10181,13 +10245,13 @@ static u32 w_mscp_port_volume_came(u64 v0, u32 v1, u32 v2)
     f50();
     TRAP();
 L1:;
-    t1 = f128(v0, v1, v2);
+    t1 = f129(v0, v1, v2);
     v2 = t1;
     f52();
     return v2;
 }
 
-static u32 f129(u64 v0, u32 v1)
+static u32 f130(u64 v0, u32 v1)
 {
     u32 v2 = 0;
     u64 v3 = 0, v4 = 0;
@@ -10226,13 +10290,13 @@ static u32 w_mscp_port_volume_went(u64 v0, u32 v1)
     f50();
     TRAP();
 L1:;
-    t1 = f129(v0, v1);
+    t1 = f130(v0, v1);
     v1 = t1;
     f52();
     return v1;
 }
 
-static void f130(u64 v0, u32 v1, u32 v2)
+static void f131(u64 v0, u32 v1, u32 v2)
 {
     if (v1 & 255u) goto L2;
     if ((i32)v2 > (i32)0xFFFFFFFFu) goto L3;
@@ -10261,11 +10325,11 @@ L4:;
     TRAP();
 }
 
-static void f131(u64 v0, u32 v1, u32 v2)
+static void f132(u64 v0, u32 v1, u32 v2)
 {
     u32 v4 = 0;
     if ((v2 & 15728640u) == 0) goto L2;
-    f97(v0, 9u, 20u);
+    f98(v0, 9u, 20u);
     return;
 L2:;
     v4 = v2 >> 24;
@@ -10274,7 +10338,7 @@ L2:;
     default: goto L4;
     }
 L4:;
-    f97(v0, 9u, 14u);
+    f98(v0, 9u, 14u);
     return;
 L3:;
     v2 = v2 & 65535u;
@@ -10285,126 +10349,126 @@ L3:;
     s4(v0 + 15292ull, 5u);
     return;
 L5:;
-    f97(v0, 9u, 1u);
+    f98(v0, 9u, 1u);
     return;
     TRAP();
 }
 
-static void f132(u64 v0, u64 v1, u32 v2)
+static void f133(u64 v0, u64 v1, u32 v2)
 {
     u32 v3 = 0, v4 = 0, v5 = 0, v6 = 0;
     u64 v7 = 0;
     v3 = l1(v1 + 8ull);
     switch ((u32)(((u64)v3) & 255ull)) {
-    case 1: goto L12;
-    case 2: goto L16;
-    case 3: goto L17;
-    case 4: goto L15;
-    case 5: case 6: goto L9;
-    case 7: goto L10;
-    case 8: goto L13;
-    default: goto L14;
+    case 1: goto L14;
+    case 2: goto L18;
+    case 3: goto L19;
+    case 4: goto L17;
+    case 5: case 6: goto L11;
+    case 7: goto L12;
+    case 8: goto L15;
+    default: goto L16;
     }
-L17:;
+L19:;
     v4 = l2(v1 + 4ull);
     v5 = l4(v1);
     v3 = 132u;
     v6 = 4u;
     goto L2;
-L16:;
+L18:;
     v4 = l2(v1 + 4ull);
     v5 = l4(v1);
     v3 = 131u;
     v6 = 3u;
     goto L2;
-L15:;
+L17:;
     v4 = l2(v1 + 4ull);
     v5 = l4(v1);
     v3 = 136u;
     v6 = 0u;
     goto L2;
-L14:;
+L16:;
     v4 = l2(v1 + 4ull);
     v5 = l4(v1);
     v3 = 129u;
     v6 = 1u;
     goto L2;
-L13:;
-    if (l2(v1 + 10ull) != 2049u) goto L11;
+L15:;
+    if (l2(v1 + 10ull) != 2049u) goto L13;
     v4 = l2(v1 + 4ull);
     v5 = l4(v1);
     v3 = 128u;
     v6 = 0u;
     goto L2;
-L12:;
+L14:;
     v4 = l2(v1 + 4ull);
     v5 = l4(v1);
     v3 = 130u;
     v6 = 2u;
     goto L2;
-L11:;
+L13:;
     v6 = 4u;
     v7 = v1 + 9ull;
     switch ((l1(v7) & 127u) + 0xFFFFFFFFu) {
-    case 0: goto L21;
-    case 1: goto L20;
-    case 2: goto L22;
-    case 3: goto L7;
-    case 8: case 9: goto L19;
-    case 15: case 17: case 31: case 32: case 33: goto L18;
-    default: goto L8;
+    case 0: goto L23;
+    case 1: goto L22;
+    case 2: goto L5;
+    case 3: goto L4;
+    case 8: case 9: goto L21;
+    case 15: case 17: case 31: case 32: case 33: goto L20;
+    default: goto L10;
     }
-L22:;
-    v6 = 3u;
-    goto L7;
-L21:;
+L23:;
     v6 = 1u;
-    goto L7;
-L20:;
+    goto L4;
+L22:;
     v6 = 2u;
-    goto L7;
-L19:;
+    goto L4;
+L21:;
     v6 = 5u;
-    goto L7;
-L18:;
+    goto L4;
+L20:;
     v6 = 6u;
-    goto L7;
-L10:;
+    goto L4;
+L12:;
     v4 = l2(v1 + 4ull);
     v5 = l4(v1);
     v3 = 144u;
     v6 = 6u;
     switch ((u32)((u64)l1(v1 + 9ull))) {
-    case 1: goto L6;
-    case 2: goto L5;
-    case 3: goto L4;
-    case 4: goto L3;
+    case 1: goto L9;
+    case 2: goto L8;
+    case 3: goto L7;
+    case 4: goto L6;
     default: goto L2;
     }
-L9:;
+L11:;
     v6 = 5u;
     v3 = ((v3 & 255u) == 5u) ? 0xFFFFFF89u : 0xFFFFFF8Au;
     v4 = l2(v1 + 4ull);
-    v5 = l4(v1);
-    goto L2;
-L8:;
+    goto L3;
+L10:;
     v6 = 0u;
-L7:;
-    v3 = l1(v7) | 0xFFFFFF80u;
-    v4 = l2(v1 + 4ull);
-    v5 = l4(v1);
-    goto L2;
-L6:;
+    goto L4;
+L9:;
     v3 = 146u;
     goto L2;
-L5:;
+L8:;
     v3 = 160u;
     goto L2;
-L4:;
+L7:;
     v3 = 161u;
     goto L2;
-L3:;
+L6:;
     v3 = 162u;
+    goto L2;
+L5:;
+    v6 = 3u;
+L4:;
+    v3 = l1(v7) | 0xFFFFFF80u;
+    v4 = l2(v1 + 4ull);
+L3:;
+    v5 = l4(v1);
 L2:;
     s4(v0 + 10, 0u);
     s2(v0 + 8, v2);
@@ -10422,7 +10486,7 @@ L2:;
     TRAP();
 }
 
-static void f133(u64 v0, u64 v1, u32 v2, u32 v3)
+static void f134(u64 v0, u64 v1, u32 v2, u32 v3)
 {
     ROOM(frame, 16);
     u32 v5 = 0, v6 = 0, v7 = 0, v10 = 0, v15 = 0;
@@ -10481,7 +10545,7 @@ static void f133(u64 v0, u64 v1, u32 v2, u32 v3)
     TRAP();
 }
 
-static void f134(u64 v0, u64 v1, u32 v2, u64 v3, u64 v4)
+static void f135(u64 v0, u64 v1, u32 v2, u64 v3, u64 v4)
 {
     ROOM(frame, 176);
     u32 v6 = 0, v7 = 0, v8 = 0, v9 = 0, v10 = 0, v11 = 0, v12 = 0, v13 = 0, v14 = 0, v18 = 0, v19 = 0, v23 = 0, v24 =
@@ -10491,22 +10555,22 @@ static void f134(u64 v0, u64 v1, u32 v2, u64 v3, u64 v4)
     s8(v5 + 40, 0ull);
     s8(v5 + 32, 0ull);
     s8(v5 + 24, 0ull);
-    f82(v5 + 24ull, v3, v4);
+    f83(v5 + 24ull, v3, v4);
     if (l1(v5 + 24)) goto L22;
     v6 = 1u;
     v7 = l1(v5 + 37);
     v8 = 1u;
     v9 = l1(v5 + 36);
     switch (v9) {
-    case 4: case 5: case 6: case 7: goto L24;
-    case 8: goto L25;
+    case 4: case 5: case 6: case 7: goto L25;
+    case 8: goto L24;
     default: goto L23;
     }
 L25:;
-    v8 = ((v7 + 0xFFFFFFFFu) & 255u) < 4u;
+    v8 = 0u;
     goto L23;
 L24:;
-    v8 = 0u;
+    v8 = ((v7 + 0xFFFFFFFFu) & 255u) < 4u;
 L23:;
     v10 = l4(v5 + 32);
     v11 = l4(v5 + 28);
@@ -10632,7 +10696,7 @@ L19:;
 L18:;
     v13 = l2(v5 + 106);
 L17:;
-    f132(v5 + 48ull, v5 + 96ull, v13);
+    f133(v5 + 48ull, v5 + 96ull, v13);
     if (v2 & 255u) goto L38;
     v3 = v1 + 12152ull;
     v16 = l8(v3);
@@ -10661,17 +10725,17 @@ L37:;
     v13 = 1u;
     goto L10;
 L16:;
-    if (v9 < 4u) goto L15;
-    v21 = v1 + 4648ull;
+    if (((v9 + 0xFFFFFFFCu) & 255u) > 4u) goto L15;
+    v17 = v1 + 4648ull;
     v13 = l4(v5 + 112);
     v12 = l4(v5 + 108);
     v18 = l2(v5 + 106);
-    v17 = 0ull;
+    v21 = 0ull;
     v3 = 0ull;
     v16 = l8(v1 + 5672ull);
     if (v16 == 0) goto L39;
     v3 = 0ull;
-    v4 = v21;
+    v4 = v17;
 L40:;
     if (l2(v4) == (v10 & 65535u)) goto L39;
     v4 = v4 + 64ull;
@@ -10680,65 +10744,77 @@ L40:;
     v3 = v16;
 L39:;
     s4(v5 + 160, v13);
-    v16 = v3 << 6;
-    v4 = (l8((v21 + v16) + 32ull)) + 1ull;
-    f61(v5, v4, (u64)(u32)(v4 == 0), (v9 == 7u) ? ((u64)v13) : 0ull, 0ull);
+    v22 = v3 << 6;
+    v4 = (l8((v17 + v22) + 32ull)) + 1ull;
+    f62(v5, v4, (u64)(u32)(v4 == 0), (v9 == 7u) ? ((u64)v13) : 0ull, 0ull);
     s8(v5 + 168, 0ull);
     s4(v5 + 164, v19);
     s4(v5 + 156, v12);
     s2(v5 + 154, v18);
     s1(v5 + 153, v7);
-    v4 = l8(v5 + 8);
-    v19 = (u32)v4;
-    if (v9 == 7u) goto L42;
-    v16 = 0x100000000000000ull;
+    v16 = l8(v5 + 8);
+    v19 = (u32)v16;
+    v4 = 0ull;
+    switch (v9) {
+    case 4: case 5: case 6: goto L43;
+    case 7: goto L42;
+    case 8: goto L44;
+    default: goto L41;
+    }
+L44:;
+    v4 = 0ull;
+    v21 = 0x300000000000000ull;
+    goto L41;
+L43:;
+    v4 = 0ull;
+    v21 = 0x100000000000000ull;
     goto L41;
 L42:;
-    v16 = v21 + (v16 & 16320ull);
-    v13 = l4(v16 + 52ull);
+    v4 = v17 + (v22 & 16320ull);
+    v13 = l4(v4 + 52ull);
     v17 = (u64)v13;
-    if (l1(v16 + 56ull) != 1u) goto L44;
-    v17 = (v13 > v19) ? ((((u64)l4(v16 + 40ull)) << 1) - (v17 + v4)) : (v4 - v17);
-    goto L43;
-L44:;
-    v17 = ((v13 < v19) ? v4 : (0ull - v4)) + v17;
-L43:;
-    v16 = 0x200000000000000ull;
+    if (l1(v4 + 56ull) != 1u) goto L46;
+    v4 = (v13 > v19) ? ((((u64)l4(v4 + 40ull)) << 1) - (v17 + v16)) : (v16 - v17);
+    goto L45;
+L46:;
+    v4 = ((v13 < v19) ? v16 : (0ull - v16)) + v17;
+L45:;
+    v21 = 0x200000000000000ull;
 L41:;
     s4(v5 + 144, v11);
-    v21 = (u64)v11;
-    v4 = v20 + (v21 & 255ull);
-    s1(v4, l1(v4) + 1u);
-    v4 = v1 + 6744ull;
-    s8((v1 + (l8(v4) << 3)) + 6752ull, v17);
+    v17 = (u64)v11;
+    v16 = v20 + (v17 & 255ull);
+    s1(v16, l1(v16) + 1u);
+    v16 = v1 + 6744ull;
+    s8((v1 + (l8(v16) << 3)) + 6752ull, v4);
     s2(v5 + 148, v10);
     s1(v5 + 150, v2);
-    v20 = l8(v4);
+    v20 = l8(v16);
     v22 = v1 + (v20 << 4);
-    s8(v22 + 5720ull, ((v16 | ((((u64)v2) & 255ull) << 48)) | (((u64)(v10 & 65535u)) << 32)) | v21);
-    s8(v22 + 5728ull, v17);
-    s8(v4, v20 + 1ull);
+    s8(v22 + 5720ull, ((v21 | ((((u64)v2) & 255ull) << 48)) | (((u64)(v10 & 65535u)) << 32)) | v17);
+    s8(v22 + 5728ull, v4);
+    s8(v16, v20 + 1ull);
     s1(v5 + 152, v9);
     v13 = 0u;
     s1(v5 + 151, 0u);
-    f133(v1 + 816ull, v5 + 144ull, (u32)v3, v19);
-    if (v2 & 255u) goto L45;
+    f134(v1 + 816ull, v5 + 144ull, (u32)v3, v19);
+    if (v2 & 255u) goto L47;
     s4(v15, l4(v15) + 1u);
     v18 = 0u;
     goto L10;
-L45:;
+L47:;
     v4 = v1 + 12160ull;
     s4(v4, l4(v4) + 1u);
     v18 = 0u;
     goto L10;
 L15:;
     switch (v9) {
-    case 1: goto L49;
-    case 2: goto L48;
+    case 1: goto L51;
+    case 2: goto L50;
     case 3: goto L14;
-    default: goto L50;
+    default: goto L52;
     }
-L50:;
+L52:;
     v18 = 0u;
     s4(v5 + 116, 0u);
     s2(v5 + 120, 0u);
@@ -10750,26 +10826,26 @@ L50:;
     v24 = 0u;
     v13 = l4(v5 + 108);
     v19 = v13;
-    goto L46;
-L49:;
+    goto L48;
+L51:;
     v15 = 0ull;
     v13 = l4(v5 + 108);
     v3 = l8(v1 + 6744ull);
-    if (v3 == 0) goto L51;
+    if (v3 == 0) goto L53;
     v16 = v1 + 3888ull;
     v4 = v1 + 5720ull;
-L53:;
-    if (l1(v4 + 6ull) != (v2 & 255u)) goto L54;
-    if (l4(v4) == v13) goto L52;
-L54:;
+L55:;
+    if (l1(v4 + 6ull) != (v2 & 255u)) goto L56;
+    if (l4(v4) == v13) goto L54;
+L56:;
     v16 = v16 + 1ull;
     v4 = v4 + 16ull;
     v3 = v3 + 0xFFFFFFFFFFFFFFFFull;
-    if ((u32)(v3 == 0) == 0) goto L53;
-    goto L51;
-L52:;
+    if ((u32)(v3 == 0) == 0) goto L55;
+    goto L53;
+L54:;
     v15 = ((l8((v1 + (((u64)l1(v16)) << 3)) + 3376ull)) - l8(v1 + 4632ull)) & 4294967295ull;
-L51:;
+L53:;
     v24 = 0u;
     s2(v5 + 148, 0u);
     s4(v5 + 144, 0u);
@@ -10778,31 +10854,31 @@ L51:;
     v23 = 0u;
     v7 = 0u;
     v18 = 0u;
-    goto L47;
-L48:;
+    goto L49;
+L50:;
     v4 = v1 + 0xFFFFFFFFFFFFFFF2ull;
     v3 = l8(v1 + 800ull) + 1ull;
-L55:;
+L57:;
     v3 = v3 + 0xFFFFFFFFFFFFFFFFull;
     if (v3 == 0) goto L9;
     v16 = v4 + 46ull;
     v17 = v4 + 48ull;
     v4 = v17;
-    if (l2(v16) != (v10 & 65535u)) goto L55;
+    if (l2(v16) != (v10 & 65535u)) goto L57;
     v4 = v1 + 4632ull;
     v3 = l8(v1 + 5672ull) + 1ull;
-L57:;
+L59:;
     v3 = v3 + 0xFFFFFFFFFFFFFFFFull;
-    if ((u32)(v3 == 0) == 0) goto L58;
+    if ((u32)(v3 == 0) == 0) goto L60;
     v24 = 4u;
-    goto L56;
-L58:;
+    goto L58;
+L60:;
     v16 = v4 + 16ull;
     v15 = v4 + 64ull;
     v4 = v15;
-    if (l2(v16) != (v10 & 65535u)) goto L57;
+    if (l2(v16) != (v10 & 65535u)) goto L59;
     v24 = (l1(v15) & 1u) ? 0u : 4u;
-L56:;
+L58:;
     v13 = 0u;
     s4(v5 + 144, 0u);
     s2(v5 + 148, 0u);
@@ -10812,28 +10888,28 @@ L56:;
     v7 = l4(v17);
     v8 = 3u;
     v6 = 131u;
-L47:;
+L49:;
     s2(v5 + 120, l2(v5 + 148));
     s4(v5 + 116, l4(v5 + 144));
     v12 = 0u;
     if (v9) goto L13;
     v19 = l4(v5 + 108);
-L46:;
+L48:;
     v12 = 0u;
     v16 = l8(v1 + 6744ull);
     if (v16 == 0) goto L13;
     v3 = 0ull;
     v22 = v1 + 5720ull;
     v4 = v22;
-L60:;
-    if (l1(v4 + 6ull) != (v2 & 255u)) goto L61;
-    if (l4(v4) == v19) goto L59;
-L61:;
+L62:;
+    if (l1(v4 + 6ull) != (v2 & 255u)) goto L63;
+    if (l4(v4) == v19) goto L61;
+L63:;
     v4 = v4 + 16ull;
     v3 = v3 + 1ull;
-    if (v16 != v3) goto L60;
+    if (v16 != v3) goto L62;
     goto L13;
-L59:;
+L61:;
     v25 = v1 + 816ull;
     v16 = (v1 + v3) + 3888ull;
     v4 = v25 + (((u64)l1(v16)) << 5);
@@ -10845,21 +10921,21 @@ L59:;
     v9 = l2(v4 + 4);
     v19 = l4(v4);
     v30 = l4(v4 + 24);
-    if (v30) goto L63;
+    if (v30) goto L65;
     v17 = v1 + 4640ull;
     t1 = v17;
     t2 = l8(v17);
     v17 = (u64)l4(v4 + 20ull);
     s8(t1, t2 - v17);
-    if (v17 == 0) goto L64;
+    if (v17 == 0) goto L66;
     v4 = (u64)l1(v16);
     v20 = l8(v1 + 3960ull) & ((((l8((v1 + (v4 << 3)) + 4112ull)) | (1ull << (v4 & 63))) | l8(v1 + 3976ull)) ^
         0xFFFFFFFFFFFFFFFFull);
     v4 = v1 + 3376ull;
     v21 = 0ull;
-L65:;
+L67:;
     v16 = v20 >> (v21 & 63);
-    if (v16 == 0) goto L64;
+    if (v16 == 0) goto L66;
     s8(v4 + 16, l8(v4 + 16) - (((u64)((i64)(v16 << 61) >> 63)) & v17));
     s8(v4 + 8, l8(v4 + 8) - (((u64)((i64)(v16 << 62) >> 63)) & v17));
     s8(v4, l8(v4) - ((0ull - (v16 & 1ull)) & v17));
@@ -10870,40 +10946,40 @@ L65:;
     s8(v4 + 56, l8(v4 + 56) - (((u64)((i64)(v16 << 56) >> 63)) & v17));
     v4 = v4 + 64ull;
     v21 = v21 + 8ull;
-    if (v21 != 64ull) goto L65;
-L64:;
-    f63(v25, v3);
-    goto L62;
-L63:;
+    if (v21 != 64ull) goto L67;
+L66:;
     f64(v25, v3);
-L62:;
-    f65(v22, v3);
+    goto L64;
+L65:;
+    f65(v25, v3);
+L64:;
+    f66(v22, v3);
     v21 = v1 + 5688ull;
     v16 = 0ull;
     v17 = 0ull;
     v4 = 0ull;
     v20 = v1 + 5680ull;
-    if (l1(v20) != 1u) goto L66;
+    if (l1(v20) != 1u) goto L68;
     v17 = 1ull;
     v4 = l8(v21);
-    if (v4 < v3) goto L66;
+    if (v4 < v3) goto L68;
     v31 = v3 < v4;
     v4 = v31 ? (v4 + 0xFFFFFFFFFFFFFFFFull) : 0ull;
     v17 = (u64)v31;
-L66:;
+L68:;
     s8(v21, v4);
     s8(v20, v17);
     v17 = v1 + 5704ull;
     v4 = 0ull;
     v21 = v1 + 5696ull;
-    if (l1(v21) != 1u) goto L67;
+    if (l1(v21) != 1u) goto L69;
     v16 = 1ull;
     v4 = l8(v17);
-    if (v4 < v3) goto L67;
+    if (v4 < v3) goto L69;
     v31 = v3 < v4;
     v4 = v31 ? (v4 + 0xFFFFFFFFFFFFFFFFull) : 0ull;
     v16 = (u64)v31;
-L67:;
+L69:;
     s8(v17, v4);
     s8(v21, v16);
     s4(v5 + 140, v26);
@@ -10918,43 +10994,43 @@ L67:;
     s8(v5 + 160, 0ull);
     s8(v5 + 152, 0ull);
     s8(v5 + 144, 0ull);
-    f62(v5 + 144ull, v5 + 124ull, v30);
+    f63(v5 + 144ull, v5 + 124ull, v30);
     v26 = 129u;
     switch (v12) {
-    case 1: goto L75;
-    case 2: goto L74;
-    case 3: goto L73;
-    case 4: goto L72;
-    case 5: goto L71;
-    case 6: goto L70;
-    case 7: goto L69;
-    case 8: goto L76;
-    default: goto L68;
+    case 1: goto L77;
+    case 2: goto L76;
+    case 3: goto L75;
+    case 4: goto L74;
+    case 5: goto L73;
+    case 6: goto L72;
+    case 7: goto L71;
+    case 8: goto L78;
+    default: goto L70;
     }
-L76:;
+L78:;
     v26 = ((v28 & 65535u) == 2049u) ? 0xFFFFFF80u : (v29 | 0xFFFFFF80u);
-    goto L68;
-L75:;
+    goto L70;
+L77:;
     v26 = 130u;
-    goto L68;
-L74:;
+    goto L70;
+L76:;
     v26 = 131u;
-    goto L68;
-L73:;
+    goto L70;
+L75:;
     v26 = 132u;
-    goto L68;
-L72:;
+    goto L70;
+L74:;
     v26 = 136u;
-    goto L68;
-L71:;
+    goto L70;
+L73:;
     v26 = 137u;
-    goto L68;
-L70:;
+    goto L70;
+L72:;
     v26 = 138u;
-    goto L68;
-L69:;
+    goto L70;
+L71:;
     v26 = (u32)(698496357008ull >> (((((u64)v29) & 255ull) << 3) & 63));
-L68:;
+L70:;
     v12 = l4(v5 + 148);
     v3 = l8(v5 + 152);
     v29 = l4(v5 + 160);
@@ -11099,7 +11175,7 @@ L1:;
     return;
 }
 
-static void f135(u64 v0, u32 v1, u32 v2, u64 v3, u64 v4)
+static void f136(u64 v0, u32 v1, u32 v2, u64 v3, u64 v4)
 {
     ROOM(frame, 224);
     u32 v7 = 0, v9 = 0, v13 = 0, v14 = 0;
@@ -11185,7 +11261,7 @@ L10:;
     s8(v5 + 168, v4);
 L9:;
     copy(v5 + 32ull, v5 + 104ull, 72ull);
-    f134(v5 + 8ull, v11, 0u, v5 + 32ull, l8(v5 + 96));
+    f135(v5 + 8ull, v11, 0u, v5 + 32ull, l8(v5 + 96));
     if (l1(v5 + 8)) goto L15;
     if (l1(v5 + 12)) goto L16;
     v1 = 0u;
@@ -11291,7 +11367,7 @@ L23:;
     goto L1;
 L15:;
     if (l1(v5 + 9) != 4u) goto L29;
-    f97(v0, 9u, 1u);
+    f98(v0, 9u, 1u);
     goto L1;
 L29:;
     s8(v6, 0ull);
@@ -11319,7 +11395,7 @@ L1:;
     return;
 }
 
-static u32 f136(u64 v0, u64 v1, u64 v2)
+static u32 f137(u64 v0, u64 v1, u64 v2)
 {
     u32 v4 = 0, v5 = 0, v6 = 0;
     v4 = 0xFFFFFFF6u;
@@ -11339,7 +11415,7 @@ static u32 f136(u64 v0, u64 v1, u64 v2)
     }
 L6:;
     if (v2 != 4ull) goto L2;
-    f130(v0, v6, l4(v1));
+    f131(v0, v6, l4(v1));
     return 1u;
 L5:;
     if (v2 != 4ull) goto L2;
@@ -11352,12 +11428,12 @@ L5:;
     return 1u;
 L4:;
     if (v2 != 4ull) goto L2;
-    f131(v0, v5, l4(v1));
+    f132(v0, v5, l4(v1));
     return 1u;
 L3:;
     if (v2 != ((u64)l4(v0 + 15300ull))) goto L2;
     v4 = 1u;
-    f135(v0, v5, l1(v0 + 15304ull) & 1u, v1, v2);
+    f136(v0, v5, l1(v0 + 15304ull) & 1u, v1, v2);
 L2:;
     return v4;
     TRAP();
@@ -11371,13 +11447,13 @@ static u32 w_mscp_port_was_read_at(u64 v0, u64 v1, u64 v2)
     f50();
     TRAP();
 L1:;
-    t1 = f136(v0, v1, v2);
+    t1 = f137(v0, v1, v2);
     v3 = t1;
     f52();
     return v3;
 }
 
-static void f137(u64 v0)
+static void f138(u64 v0)
 {
     u32 v3 = 0, v5 = 0;
     u64 v2 = 0, v4 = 0, v6 = 0;
@@ -11443,21 +11519,21 @@ L8:;
     s4(v0 + 15258ull, 4u);
     return;
 L7:;
-    f97(v0, 9u, 7u);
+    f98(v0, 9u, 7u);
 L2:;
     return;
     TRAP();
 }
 
-static void f138(u64 v0, u32 v1, u32 v2)
+static void f139(u64 v0, u32 v1, u32 v2)
 {
     u64 v4 = 0;
     if (l1(v0 + 15272ull) != 1u) goto L4;
     if ((v2 & 255u) == 0) goto L3;
-    f97(v0, 9u, 7u);
+    f98(v0, 9u, 7u);
     return;
 L4:;
-    f97(v0, 9u, 7u);
+    f98(v0, 9u, 7u);
     goto L1;
 L3:;
     v4 = v0 + 15292ull;
@@ -11486,12 +11562,12 @@ L1:;
     return;
 }
 
-static void f139(u64 v0, u32 v1, u32 v2)
+static void f140(u64 v0, u32 v1, u32 v2)
 {
     u32 v5 = 0;
     u64 v4 = 0;
     if ((v2 & 255u) == 0) goto L2;
-    f97(v0, 9u, 2u);
+    f98(v0, 9u, 2u);
     return;
 L2:;
     if (l1(v0 + 15312ull) != 1u) goto L3;
@@ -11509,15 +11585,15 @@ L3:;
     TRAP();
 }
 
-static void f140(u64 v0, u32 v1, u32 v2, u32 v3)
+static void f141(u64 v0, u32 v1, u32 v2, u32 v3)
 {
     u64 v5 = 0;
     if (l1(v0 + 15272ull) != 1u) goto L3;
     if ((v3 & 255u) == 0) goto L2;
-    f97(v0, 9u, 7u);
+    f98(v0, 9u, 7u);
     return;
 L3:;
-    f97(v0, 9u, 7u);
+    f98(v0, 9u, 7u);
     return;
 L2:;
     if (v1 & 255u) goto L5;
@@ -11541,7 +11617,7 @@ L4:;
     TRAP();
 }
 
-static void f141(u64 v0, u32 v1, u32 v2)
+static void f142(u64 v0, u32 v1, u32 v2)
 {
     ROOM(frame, 144);
     u32 v5 = 0, v6 = 0, v8 = 0, v10 = 0, v11 = 0;
@@ -11555,7 +11631,7 @@ static void f141(u64 v0, u32 v1, u32 v2)
     fill(v4, 0u, 96ull);
     s8(v0 + 15297ull, 0ull);
     s8(v0 + 15292ull, 0ull);
-    f66(v4, v0 + 8ull, v6, v5, v1, v2);
+    f67(v4, v0 + 8ull, v6, v5, v1, v2);
     if (l1(v4)) goto L1;
     if ((l1(v4 + 8) & 255u) != 1u) goto L1;
     if ((l1(v4 + 40) & 255u) != 1u) goto L1;
@@ -11613,6 +11689,12 @@ L11:;
     if ((v8 & 255u) != 137u) goto L12;
     s4(v9 + 10ull, v11);
     s4(v9 + 6ull, 1u);
+    v1 = 0u;
+    v3 = v9 + 14ull;
+    if (l1(v3) != 1u) goto L13;
+    v1 = v11 != l4(v9 + 2ull);
+L13:;
+    s1(v3, v1);
 L12:;
     if (v5) goto L2;
     s1(v9, v10);
@@ -11624,10 +11706,10 @@ L2:;
     v13 = v0 + 15392ull;
     v3 = v13;
     v7 = 0ull;
-L13:;
-    if (l4(v3) == v2) goto L14;
-    if (v9 < v7) goto L16;
-    if (v7 >= v9) goto L15;
+L14:;
+    if (l4(v3) == v2) goto L15;
+    if (v9 < v7) goto L17;
+    if (v7 >= v9) goto L16;
     v14 = v13 + (v9 * 20ull);
     v1 = l4(v14 + 16);
     v15 = l8(v14 + 8);
@@ -11640,8 +11722,8 @@ L13:;
     s8(v14, v16);
     s8(v14 + 8, v17);
     s4(v14 + 16, v6);
-    goto L15;
-L16:;
+    goto L16;
+L17:;
     v14 = v13 + (v9 * 20ull);
     v15 = l8(v14);
     v1 = l4(v3 + 16);
@@ -11654,24 +11736,24 @@ L16:;
     s8(v3, v15);
     s8(v3 + 8, v17);
     s4(v3 + 16, v6);
-L15:;
+L16:;
     v9 = v9 + 1ull;
-L14:;
+L15:;
     v3 = v3 + 20ull;
     v7 = v7 + 1ull;
-    if (v12 != v7) goto L13;
+    if (v12 != v7) goto L14;
     v3 = l8(v0 + 16672ull);
     if (v3 <= v9) goto L1;
     v3 = (v3 - v9) * 20ull;
-    if (v3 == 0) goto L17;
+    if (v3 == 0) goto L18;
     fill(v13 + (v9 * 20ull), 0u, v3);
-L17:;
+L18:;
     s8(v0 + 16672ull, v9);
 L1:;
     return;
 }
 
-static u32 f142(u64 v0, u32 v1, u32 v2)
+static u32 f143(u64 v0, u32 v1, u32 v2)
 {
     ROOM(frame, 64);
     u32 v4 = 0, v5 = 0, v6 = 0, v7 = 0, v12 = 0, v13 = 0, v14 = 0, v15 = 0;
@@ -11744,19 +11826,19 @@ L10:;
     }
 L23:;
     v4 = 1u;
-    f97(v0, 9u, 1u);
+    f98(v0, 9u, 1u);
     goto L1;
 L22:;
-    f137(v0);
+    f138(v0);
     goto L13;
 L21:;
-    f138(v0, v4, v5);
-    goto L13;
-L20:;
     f139(v0, v4, v5);
     goto L13;
+L20:;
+    f140(v0, v4, v5);
+    goto L13;
 L19:;
-    f140(v0, l1(v9), v4, v5);
+    f141(v0, l1(v9), v4, v5);
     goto L13;
 L18:;
     s8(v9, 0ull);
@@ -11768,7 +11850,7 @@ L17:;
     s8(v8, 0ull);
     goto L13;
 L16:;
-    f141(v0, l1(v0 + 15294ull), v4);
+    f142(v0, l1(v0 + 15294ull), v4);
     goto L13;
 L15:;
     v4 = 1u;
@@ -11804,7 +11886,7 @@ L15:;
     v16 = (u64)v12;
     s8(v3 + 56, (((u64)l4(v10 + 20ull)) << 32) | v16);
     if (v1 == 14u) goto L24;
-    f95(v3 + 16ull, v0, v3 + 24ull, v2);
+    f96(v3 + 16ull, v0, v3 + 24ull, v2);
     if (l1(v3 + 16) == 1u) goto L11;
 L24:;
     if (v15 & 255u) goto L11;
@@ -11873,39 +11955,39 @@ L33:;
     default: goto L27;
     }
 L32:;
-    f141(v0, 1u, 105u);
+    f142(v0, 1u, 105u);
     goto L13;
 L31:;
-    f141(v0, 1u, 137u);
+    f142(v0, 1u, 137u);
     goto L13;
 L30:;
-    f141(v0, 1u, 169u);
+    f142(v0, 1u, 169u);
     goto L13;
 L29:;
-    f141(v0, 1u, 7u);
+    f142(v0, 1u, 7u);
     goto L13;
 L28:;
     v5 = 1u;
     v4 = v7;
 L27:;
-    f141(v0, v5, v4);
+    f142(v0, v5, v4);
     goto L13;
 L14:;
-    f97(v0, 9u, 6u);
+    f98(v0, 9u, 6u);
 L13:;
     v4 = 1u;
     goto L1;
 L12:;
-    f141(v0, 1u, 11u);
+    f142(v0, 1u, 11u);
     goto L1;
 L11:;
-    f95(v3 + 8ull, v0, v3 + 24ull, v2);
+    f96(v3 + 8ull, v0, v3 + 24ull, v2);
     v4 = 1u;
     v1 = (l1(v3 + 8) == 1u) ? l2(v3 + 10) : 11u;
     if ((v1 & 31u) > 4u) goto L2;
     TRAP();
 L2:;
-    f141(v0, 1u, v1);
+    f142(v0, 1u, v1);
 L1:;
     return v4;
 }
@@ -11918,18 +12000,18 @@ static u32 w_mscp_port_went(u64 v0, u32 v1, u32 v2)
     f50();
     TRAP();
 L1:;
-    t1 = f142(v0, v1, v2);
+    t1 = f143(v0, v1, v2);
     v2 = t1;
     f52();
     return v2;
 }
 
-static u32 f143(u64 v0)
+static u32 f144(u64 v0)
 {
     u32 v2 = 0;
     v2 = 0xFFFFFFF6u;
     if (l8(v0 + 24ull) != 0x504F52544D414445ull) goto L2;
-    f97(l8(v0), 0u, 0u);
+    f98(l8(v0), 0u, 0u);
     v2 = 1u;
 L2:;
     return v2;
@@ -11944,13 +12026,13 @@ static u32 w_mscp_port_write_ip(u64 v0)
     f50();
     TRAP();
 L1:;
-    t1 = f143(v0);
+    t1 = f144(v0);
     v1 = t1;
     f52();
     return v1;
 }
 
-static u32 f144(u64 v0, u32 v1)
+static u32 f145(u64 v0, u32 v1)
 {
     u32 v3 = 0;
     u64 v4 = 0;
@@ -11976,7 +12058,7 @@ L6:;
     s4(v0 + 15258ull, 5u);
     return 1u;
 L8:;
-    f97(v0, 9u, 21u);
+    f98(v0, 9u, 21u);
     return 1u;
 L5:;
     v3 = 1u;
@@ -12002,13 +12084,13 @@ static u32 w_mscp_port_write_sa(u64 v0, u32 v1)
     f50();
     TRAP();
 L1:;
-    t1 = f144(v0, v1);
+    t1 = f145(v0, v1);
     v1 = t1;
     f52();
     return v1;
 }
 
-static u32 f145(u64 v0)
+static u32 f146(u64 v0)
 {
     u32 v1 = 0;
     u64 v2 = 0, v3 = 0, v4 = 0, v5 = 0;
@@ -12125,13 +12207,13 @@ static u32 w_mscp_reset(u64 v0)
     f50();
     TRAP();
 L1:;
-    t1 = f145(v0);
+    t1 = f146(v0);
     v1 = t1;
     f52();
     return v1;
 }
 
-APART void f146(u64 v0, u64 v1, u32 v2)
+APART void f147(u64 v0, u64 v1, u32 v2)
 {
     ROOM(frame, 26032);
     u32 v5 = 0, v6 = 0, v7 = 0, v8 = 0;
@@ -12147,7 +12229,7 @@ APART void f146(u64 v0, u64 v1, u32 v2)
     fill(v4 + 7521ull, 0u, 1807ull);
     fill(v4 + 5976ull, 0u, 1544ull);
     fill(v4 + 5192ull, 0u, 784ull);
-    f84(v4 + 5192ull, v4 + 10392ull, l8(v4 + 11160));
+    f85(v4 + 5192ull, v4 + 10392ull, l8(v4 + 11160));
     if (l1(v4 + 5192)) goto L1;
     v5 = l4(v4 + 10372);
     v6 = l4(v4 + 10368);
@@ -12158,7 +12240,7 @@ APART void f146(u64 v0, u64 v1, u32 v2)
     fill(v4 + 11168ull, 0u, 1544ull);
     v3 = l8(v4 + 14512);
     fill(v4 + 16328ull, 0u, 1032ull);
-    f86(v4 + 16328ull);
+    f87(v4 + 16328ull);
     if (v3 == 0) goto L2;
     v9 = l8(v4 + 17352);
     if (v3 != 1ull) goto L4;
@@ -12303,7 +12385,7 @@ L1:;
     TRAP();
 }
 
-APART u32 f147(u64 v0, u64 v1, u64 v2)
+APART u32 f148(u64 v0, u64 v1, u64 v2)
 {
     ROOM(frame, 816);
     u32 v5 = 0, v6 = 0;
@@ -12336,15 +12418,15 @@ L7:;
 L9:;
     v6 = 0u;
 L8:;
-    f110(v3, v4, v2, v6);
+    f111(v3, v4, v2, v6);
     v5 = 1u;
     if (l1(v3) != 1u) goto L10;
     v5 = 0xFFFFFFD8u - (l1(v3 + 1) & 255u);
     goto L1;
 L10:;
-    f116(v3 + 8ull, v4);
-    f146(v0, v3 + 8ull, v6);
-    f120(l8(v0), v4, v2);
+    f117(v3 + 8ull, v4);
+    f147(v0, v3 + 8ull, v6);
+    f121(l8(v0), v4, v2);
     goto L1;
     TRAP();
 L2:;
@@ -12361,13 +12443,13 @@ static u32 w_mscp_restore_at(u64 v0, u64 v1, u64 v2)
     f50();
     TRAP();
 L1:;
-    t1 = f147(v0, v1, v2);
+    t1 = f148(v0, v1, v2);
     v3 = t1;
     f52();
     return v3;
 }
 
-static void f148(u64 v0, u64 v1)
+static void f149(u64 v0, u64 v1)
 {
     u32 v13 = 0, v14 = 0, v15 = 0, v16 = 0, v17 = 0, v18 = 0, v19 = 0, v20 = 0, v21 = 0, v22 = 0, v23 = 0, v24 = 0, v25
         = 0, v26 = 0, v27 = 0, v28 = 0, v29 = 0, v30 = 0, v31 = 0, v32 = 0, v33 = 0, v34 = 0, v35 = 0, v36 = 0, v37 =
@@ -13078,7 +13160,7 @@ L33:;
     TRAP();
 }
 
-static void f149(u64 v0, u64 v1)
+static void f150(u64 v0, u64 v1)
 {
     ROOM(frame, 32);
     u32 v4 = 0, v5 = 0;
@@ -13088,7 +13170,7 @@ static void f149(u64 v0, u64 v1)
     s8(v3 + 24, 0ull);
     s8(v3 + 16, 0ull);
     s8(v3 + 8, 0ull);
-    f148(v3 + 8ull, v1);
+    f149(v3 + 8ull, v1);
     if (l1(v3 + 8) != 1u) goto L5;
 L6:;
     v4 = l4(v1 + 16ull);
@@ -13138,7 +13220,7 @@ L16:;
     v2 = v2 + 1ull;
     if (v6 != v2) goto L16;
 L9:;
-    f148(v3 + 8ull, v1);
+    f149(v3 + 8ull, v1);
     if (l1(v3 + 8) == 1u) goto L6;
 L5:;
     v5 = l4(v1 + 16ull);
@@ -13168,7 +13250,7 @@ L1:;
     return;
 }
 
-static void f150(u64 v0, u64 v1, u64 v2, u32 v3)
+static void f151(u64 v0, u64 v1, u64 v2, u32 v3)
 {
     ROOM(frame, 32);
     u32 v8 = 0, t0;
@@ -13179,7 +13261,7 @@ static void f150(u64 v0, u64 v1, u64 v2, u32 v3)
     s8(v5 + 16, 0ull);
     s8(v5 + 8, 0ull);
     s8(v5, 0ull);
-    f149(v5, v1);
+    f150(v5, v1);
     v6 = l8(v5 + 4);
     if (l1(v5)) goto L3;
     v7 = 17179869184ull;
@@ -13215,7 +13297,7 @@ L9:;
     if ((l1(v4 + 1ull) & 255u) != (l1(v2 + 1ull) & 255u)) goto L5;
     if ((l1(v4 + 2ull) & 255u) != (l1(v2 + 2ull) & 255u)) goto L5;
     if ((l1(v4 + 3ull) & 255u) != (l1(v2 + 3ull) & 255u)) goto L5;
-    t0 = f77(v4, 7ull, v2);
+    t0 = f78(v4, 7ull, v2);
     if (t0 == 0) goto L5;
     v7 = 21474836480ull;
     v9 = v1 - v10;
@@ -13279,7 +13361,7 @@ L1:;
     return;
 }
 
-static void f151(u64 v0, u64 v1, u64 v2)
+static void f152(u64 v0, u64 v1, u64 v2)
 {
     u64 v3 = 0, v4 = 0, v5 = 0, v6 = 0, v7 = 0, v8 = 0, v9 = 0, v10 = 0, v11 = 0, v12 = 0, v13 = 0;
     if (v2 == 0) goto L2;
@@ -13429,7 +13511,7 @@ L2:;
     TRAP();
 }
 
-static void f152(u64 v0, u64 v1, u64 v2)
+static void f153(u64 v0, u64 v1, u64 v2)
 {
     u32 v4 = 0;
     u64 v3 = 0;
@@ -13452,7 +13534,7 @@ L2:;
     TRAP();
 }
 
-static void f153(u64 v0, u64 v1, u64 v2)
+static void f154(u64 v0, u64 v1, u64 v2)
 {
     u32 v3 = 0, v4 = 0, v5 = 0, v7 = 0;
     u64 v6 = 0;
@@ -13480,7 +13562,7 @@ L2:;
     TRAP();
 }
 
-static void f154(u64 v0, u32 v1, u32 v2, u32 v3, u32 v4, u32 v5)
+static void f155(u64 v0, u32 v1, u32 v2, u32 v3, u32 v4, u32 v5)
 {
     ROOM(frame, 16);
     u32 v7 = 0, v9 = 0, v10 = 0, v11 = 0, v12 = 0, v13 = 0, v14 = 0, v15 = 0, v17 = 0;
@@ -13503,7 +13585,7 @@ static void f154(u64 v0, u32 v1, u32 v2, u32 v3, u32 v4, u32 v5)
     if (v5 == 0) goto L1;
     v16 = div64(0xFFFFFFFFFFFFFFFFull, ((((u64)v3) & 65535ull) * (((u64)v2) & 65535ull)) * (((u64)v4) & 65535ull));
     v8 = v16 + 1ull;
-    f61(v6, v8, (u64)(u32)(v8 == 0), (u64)(v5 + 0xFFFFFFFFu), 0ull);
+    f62(v6, v8, (u64)(u32)(v8 == 0), (u64)(v5 + 0xFFFFFFFFu), 0ull);
     v15 = (v1 & 65535u) + 1u;
     v8 = (((u64)v1) & 65535ull) + 1ull;
     v9 = 0u;
@@ -13543,7 +13625,7 @@ L1:;
     return;
 }
 
-static void f155(u64 v0, u64 v1, u64 v2, u64 v3)
+static void f156(u64 v0, u64 v1, u64 v2, u64 v3)
 {
     ROOM(frame, 192);
     u32 v6 = 0, v9 = 0, v17 = 0, v18 = 0;
@@ -13591,7 +13673,7 @@ L11:;
 L10:;
     v4 = v8 + 0xFFFFFFFFFFFFFFFFull;
 L9:;
-    f151(v5 + 120ull, v2 + v4, v3 - v4);
+    f152(v5 + 120ull, v2 + v4, v3 - v4);
     if (l1(v5 + 120) == 0) goto L13;
     v6 = l1(v5 + 121);
     v9 = 1u;
@@ -13638,17 +13720,17 @@ L16:;
     v14 = v14 + 0xFFFFFFFFFFFFFFFFull;
     if (v14 != 0ull) goto L16;
     if (v2 > 65535ull) goto L5;
-    f152(v5 + 60ull, v13, v12);
+    f153(v5 + 60ull, v13, v12);
     if (l1(v5 + 60)) goto L2;
     v6 = l2(v5 + 62);
-    f153(v5 + 48ull, v11, v10);
+    f154(v5 + 48ull, v11, v10);
     if (l1(v5 + 48) == 0) goto L4;
     v6 = l1(v5 + 49);
 L5:;
     v9 = 1u;
     goto L1;
 L4:;
-    f154(v5 + 64ull, v17, v18, (u32)v2, v6, l4(v5 + 52));
+    f155(v5 + 64ull, v17, v18, (u32)v2, v6, l4(v5 + 52));
     s8(v5, l8(v5 + 74));
     s8(v5 + 8, l8(v5 + 82));
     s8(v5 + 16, l8(v5 + 90));
@@ -13696,7 +13778,7 @@ L1:;
     return;
 }
 
-static void f156(u64 v0, u64 v1, u64 v2)
+static void f157(u64 v0, u64 v1, u64 v2)
 {
     ROOM(frame, 144);
     u32 v4 = 0, v5 = 0, v8 = 0, v12 = 0;
@@ -13813,7 +13895,7 @@ L1:;
     TRAP();
 }
 
-static void f157(u64 v0, u32 v1, u64 v2, u64 v3, u64 v4)
+static void f158(u64 v0, u32 v1, u64 v2, u64 v3, u64 v4)
 {
     ROOM(frame, 96);
     u32 v7 = 0, v8 = 0, v10 = 0, v11 = 0, v18 = 0, v19 = 0, v20 = 0, v21 = 0, v22 = 0;
@@ -13838,7 +13920,7 @@ L29:;
     fill(v6 + 16ull, 0u, 72ull);
     v9 = 0ull;
     s8(v6 + 8, 0ull);
-    f151(v6 + 16ull, v3, v4);
+    f152(v6 + 16ull, v3, v4);
     if (l1(v6 + 16)) goto L18;
     v8 = 0u;
     v10 = 6u;
@@ -13892,7 +13974,7 @@ L33:;
     if (v14 != 0ull) goto L33;
     v8 = 0u;
     if (v4 > 4294967295ull) goto L31;
-    f153(v6 + 8ull, v13, v12);
+    f154(v6 + 8ull, v13, v12);
     if (l1(v6 + 8)) goto L34;
     v5 = (((u64)l4(v6 + 12)) << 32) | v4;
     v20 = 7u;
@@ -14289,7 +14371,7 @@ L106:;
     v10 = 7u;
     goto L9;
 L108:;
-    f156(v6 + 16ull, v3, v5);
+    f157(v6 + 16ull, v3, v5);
     if (l1(v6 + 16) == 0) goto L109;
     v10 = 7u;
     goto L9;
@@ -14562,7 +14644,7 @@ L1:;
     return;
 }
 
-static void f158(u64 v0, u64 v1, u64 v2)
+static void f159(u64 v0, u64 v1, u64 v2)
 {
     ROOM(frame, 96);
     u32 v5 = 0, v8 = 0, v9 = 0, v10 = 0, v11 = 0, v13 = 0, v15 = 0, v16 = 0, t0, t1, t2, t3, t4, t5, t6, t7, t8, t9,
@@ -14624,7 +14706,7 @@ L37:;
     if ((l1(v3) & 255u) != 101u) goto L33;
     if ((l1(v7) & 255u) != 97u) goto L33;
     if ((l1(v12) & 255u) != 100u) goto L33;
-    t0 = f77(v1, 4ull, A(data + 38));
+    t0 = f78(v1, 4ull, A(data + 38));
     if (t0 == 0) goto L33;
     v8 = 3u;
     v13 = 0u;
@@ -14637,7 +14719,7 @@ L36:;
     if ((l1(v7) & 255u) != 111u) goto L26;
     if ((l1(v12) & 255u) != 109u) goto L26;
     if ((l1(v14) & 255u) != 112u) goto L26;
-    t1 = f77(v1, 7ull, A(data + 58));
+    t1 = f78(v1, 7ull, A(data + 58));
     if (t1 == 0) goto L26;
     v8 = 2u;
     v13 = 0u;
@@ -14650,7 +14732,7 @@ L35:;
     if ((l1(v7) & 255u) != 99u) goto L31;
     if ((l1(v12) & 255u) != 99u) goto L31;
     if ((l1(v14) & 255u) != 101u) goto L31;
-    t2 = f77(v1, 6ull, A(data + 47));
+    t2 = f78(v1, 6ull, A(data + 47));
     if (t2 == 0) goto L31;
     v13 = 0u;
     v8 = 0u;
@@ -14663,7 +14745,7 @@ L34:;
     if ((v8 & 255u) != 105u) goto L38;
     if ((v11 & 255u) != 116u) goto L38;
     if ((v13 & 255u) != 114u) goto L38;
-    t3 = f77(v1, 5ull, A(data + 42));
+    t3 = f78(v1, 5ull, A(data + 42));
     if (t3 == 0) goto L30;
     v8 = 4u;
     v13 = 0u;
@@ -14673,7 +14755,7 @@ L38:;
     if ((v8 & 255u) != 97u) goto L30;
     if ((v11 & 255u) != 115u) goto L30;
     if ((v13 & 255u) != 114u) goto L30;
-    t4 = f77(v1, 5ull, A(data + 53));
+    t4 = f78(v1, 5ull, A(data + 53));
     if (t4 == 0) goto L30;
     v8 = 1u;
     v13 = 0u;
@@ -14686,7 +14768,7 @@ L33:;
     if ((v11 & 255u) != 116u) goto L39;
     if ((v13 & 255u) != 101u) goto L39;
     if ((v15 & 255u) != 112u) goto L39;
-    t5 = f77(v1, 4ull, A(data + 65));
+    t5 = f78(v1, 4ull, A(data + 65));
     if (t5 == 0) goto L39;
     v8 = 0u;
     v13 = 6u;
@@ -14696,7 +14778,7 @@ L39:;
     if ((v11 & 255u) != 97u) goto L40;
     if ((v13 & 255u) != 107u) goto L40;
     if ((v15 & 255u) != 101u) goto L40;
-    t6 = f77(v1, 4ull, A(data + 69));
+    t6 = f78(v1, 4ull, A(data + 69));
     if (t6 == 0) goto L40;
     v8 = 0u;
     v13 = 8u;
@@ -14720,7 +14802,7 @@ L43:;
     goto L2;
 L44:;
     v8 = 0u;
-    t7 = f77(v1, 4ull, A(data + 73));
+    t7 = f78(v1, 4ull, A(data + 73));
     if (t7) goto L17;
     v11 = 0u;
     goto L2;
@@ -14736,7 +14818,7 @@ L31:;
     if ((l1(v7) & 255u) != 116u) goto L29;
     if ((l1(v12) & 255u) != 97u) goto L29;
     if ((l1(v14) & 255u) != 116u) goto L29;
-    t8 = f77(v1, v3, A(data + 77));
+    t8 = f78(v1, v3, A(data + 77));
     if (t8 == 0) goto L29;
     v8 = 0u;
     v13 = 4u;
@@ -14746,7 +14828,7 @@ L30:;
     if ((l1(v1 + 1ull) & 255u) != 98u) goto L28;
     if ((l1(v1 + 2ull) & 255u) != 111u) goto L28;
     if ((l1(v1 + 3ull) & 255u) != 114u) goto L28;
-    t9 = f77(v1, v3, A(data + 83));
+    t9 = f78(v1, v3, A(data + 83));
     if (t9 == 0) goto L28;
     v8 = 0u;
     v13 = 3u;
@@ -14764,7 +14846,7 @@ L47:;
     if ((l1(v1 + 1ull) & 255u) != 97u) goto L45;
     if ((l1(v1 + 2ull) & 255u) != 99u) goto L45;
     if ((l1(v1 + 3ull) & 255u) != 107u) goto L45;
-    t10 = f77(v1, v3, A(data + 88));
+    t10 = f78(v1, v3, A(data + 88));
     if (t10 == 0) goto L45;
     goto L5;
 L46:;
@@ -14812,7 +14894,7 @@ L26:;
     if ((l1(v7) & 255u) != 101u) goto L11;
     if ((l1(v12) & 255u) != 116u) goto L11;
     if ((l1(v14) & 255u) != 117u) goto L11;
-    t11 = f77(v1, v3, A(data + 122));
+    t11 = f78(v1, v3, A(data + 122));
     if (t11 == 0) goto L11;
     v15 = 6u;
     goto L6;
@@ -14839,7 +14921,7 @@ L15:;
     if ((v11 & 255u) != 101u) goto L53;
     if ((v13 & 255u) != 116u) goto L53;
     if ((v15 & 255u) != 99u) goto L53;
-    t12 = f77(v1, v3, A(data + 94));
+    t12 = f78(v1, v3, A(data + 94));
     if (t12 == 0) goto L54;
     v8 = 0u;
     v13 = 2u;
@@ -14857,7 +14939,7 @@ L14:;
     if ((v11 & 255u) != 110u) goto L13;
     if ((v13 & 255u) != 108u) goto L13;
     if ((v15 & 255u) != 105u) goto L13;
-    t13 = f77(v1, v3, A(data + 107));
+    t13 = f78(v1, v3, A(data + 107));
     if (t13) goto L7;
 L13:;
     v8 = 0u;
@@ -14878,7 +14960,7 @@ L12:;
     if ((l1(v1 + 1ull) & 255u) != 118u) goto L11;
     if ((l1(v1 + 2ull) & 255u) != 97u) goto L11;
     if ((l1(v1 + 3ull) & 255u) != 105u) goto L11;
-    t14 = f77(v1, v3, A(data + 113));
+    t14 = f78(v1, v3, A(data + 113));
     v13 = t14;
     v15 = v13 ? 4u : 0u;
     goto L9;
@@ -14913,7 +14995,7 @@ L59:;
     v11 = 0u;
     goto L2;
 L60:;
-    t15 = f77(v1, 10ull, A(data + 129));
+    t15 = f78(v1, 10ull, A(data + 129));
     v13 = t15;
     v15 = v13 ? 2u : 0u;
 L9:;
@@ -14940,7 +15022,7 @@ L63:;
     goto L2;
 L64:;
     v11 = 0u;
-    t16 = f77(v1, 6ull, A(data + 139));
+    t16 = f78(v1, 6ull, A(data + 139));
     if (t16 == 0) goto L2;
     s8(v4 + 80, 0ull);
     s8(v4 + 88, 0ull);
@@ -14993,7 +15075,7 @@ L92:;
     if ((v11 & 255u) != 101u) goto L88;
     if ((v13 & 255u) != 97u) goto L88;
     if ((v15 & 255u) != 100u) goto L88;
-    t17 = f77(v2, 4ull, A(data + 38));
+    t17 = f78(v2, 4ull, A(data + 38));
     if (t17 == 0) goto L88;
     v5 = 3u;
     goto L67;
@@ -15005,7 +15087,7 @@ L91:;
     if ((v11 & 255u) != 111u) goto L81;
     if ((v13 & 255u) != 109u) goto L81;
     if ((v15 & 255u) != 112u) goto L81;
-    t18 = f77(v2, 7ull, A(data + 58));
+    t18 = f78(v2, 7ull, A(data + 58));
     if (t18 == 0) goto L81;
     v5 = 2u;
     goto L67;
@@ -15017,7 +15099,7 @@ L90:;
     if ((v11 & 255u) != 99u) goto L87;
     if ((v13 & 255u) != 101u) goto L87;
     if ((v15 & 255u) != 99u) goto L87;
-    t19 = f77(v2, 6ull, A(data + 47));
+    t19 = f78(v2, 6ull, A(data + 47));
     if (t19 == 0) goto L87;
     v5 = 0u;
     goto L67;
@@ -15030,7 +15112,7 @@ L89:;
     if (v5 != 119u) goto L93;
     if ((v11 & 255u) != 105u) goto L93;
     if ((v13 & 255u) != 116u) goto L93;
-    t20 = f77(v2, 5ull, A(data + 42));
+    t20 = f78(v2, 5ull, A(data + 42));
     if (t20 == 0) goto L86;
     v5 = 4u;
     goto L67;
@@ -15039,7 +15121,7 @@ L93:;
     if (v5 != 101u) goto L86;
     if ((v11 & 255u) != 97u) goto L86;
     if ((v13 & 255u) != 115u) goto L86;
-    t21 = f77(v2, 5ull, A(data + 53));
+    t21 = f78(v2, 5ull, A(data + 53));
     if (t21 == 0) goto L86;
     v5 = 1u;
     goto L67;
@@ -15048,7 +15130,7 @@ L88:;
     if ((v11 & 255u) != 116u) goto L94;
     if ((v13 & 255u) != 101u) goto L94;
     if ((v15 & 255u) != 112u) goto L94;
-    t22 = f77(v2, 4ull, A(data + 65));
+    t22 = f78(v2, 4ull, A(data + 65));
     if (t22 == 0) goto L94;
     v11 = 0u;
     goto L65;
@@ -15057,7 +15139,7 @@ L94:;
     if ((v11 & 255u) != 97u) goto L95;
     if ((v13 & 255u) != 107u) goto L95;
     if ((v15 & 255u) != 101u) goto L95;
-    t23 = f77(v2, 4ull, A(data + 69));
+    t23 = f78(v2, 4ull, A(data + 69));
     if (t23 == 0) goto L95;
     v8 = 0u;
     v9 = 8u;
@@ -15079,7 +15161,7 @@ L98:;
     v11 = 0u;
     goto L65;
 L99:;
-    f77(v2, 4ull, A(data + 73));
+    f78(v2, 4ull, A(data + 73));
     v11 = 0u;
     goto L65;
 L87:;
@@ -15087,7 +15169,7 @@ L87:;
     if ((v11 & 255u) != 116u) goto L85;
     if ((v15 & 255u) != 97u) goto L85;
     if ((v13 & 255u) != 116u) goto L85;
-    t25 = f77(v2, 6ull, A(data + 77));
+    t25 = f78(v2, 6ull, A(data + 77));
     if (t25 == 0) goto L83;
     v8 = 0u;
     v9 = 4u;
@@ -15110,7 +15192,7 @@ L102:;
     goto L65;
 L103:;
     v8 = 0u;
-    t26 = f77(v2, 5ull, A(data + 83));
+    t26 = f78(v2, 5ull, A(data + 83));
     if (t26) goto L71;
     v11 = 0u;
     goto L65;
@@ -15119,7 +15201,7 @@ L85:;
     if ((v11 & 255u) != 97u) goto L83;
     if ((v13 & 255u) != 107u) goto L83;
     if ((v15 & 255u) != 99u) goto L83;
-    t27 = f77(v2, 6ull, A(data + 88));
+    t27 = f78(v2, 6ull, A(data + 88));
     if (t27 == 0) goto L83;
     v8 = 0u;
     v9 = 5u;
@@ -15142,7 +15224,7 @@ L106:;
     goto L65;
 L107:;
     v8 = 0u;
-    t28 = f77(v2, v1, A(data + 94));
+    t28 = f78(v2, v1, A(data + 94));
     if (t28) goto L108;
     v11 = 0u;
     goto L65;
@@ -15167,7 +15249,7 @@ L111:;
     goto L65;
 L112:;
     v9 = 1u;
-    t29 = f77(v2, 6ull, A(data + 107));
+    t29 = f78(v2, 6ull, A(data + 107));
     if (t29) goto L113;
     v11 = 0u;
     goto L65;
@@ -15208,7 +15290,7 @@ L119:;
     goto L65;
 L120:;
     v9 = 1u;
-    t30 = f77(v2, 7ull, A(data + 122));
+    t30 = f78(v2, 7ull, A(data + 122));
     if (t30) goto L121;
     v11 = 0u;
     goto L65;
@@ -15234,7 +15316,7 @@ L124:;
 L125:;
     v5 = 2u;
     v11 = 0u;
-    t31 = f77(v2, 10ull, A(data + 129));
+    t31 = f78(v2, 10ull, A(data + 129));
     if (t31) goto L68;
     goto L65;
 L74:;
@@ -15263,7 +15345,7 @@ L69:;
     v5 = 4u;
     v11 = 0u;
     v10 = 4u;
-    t32 = f77(v2, v1, A(data + 113));
+    t32 = f78(v2, v1, A(data + 113));
     if (t32 == 0) goto L65;
 L68:;
     s8(v4 + 85, 0ull);
@@ -15277,7 +15359,7 @@ L67:;
     s1(v4 + 80, 0u);
     s4(v4 + 92, 0u);
 L66:;
-    f157(v4 + 48ull, 1u, v4 + 80ull, v2 + v1, v6 - v1);
+    f158(v4 + 48ull, 1u, v4 + 80ull, v2 + v1, v6 - v1);
     v8 = l1(v4 + 57);
     v11 = l1(v4 + 56);
     v10 = l1(v4 + 49);
@@ -15304,7 +15386,7 @@ L3:;
     s1(v4 + 33, v8);
     s1(v4 + 32, v13);
     s4(v4 + 44, 0u);
-    f157(v4, 0u, v4 + 32ull, v2, v6);
+    f158(v4, 0u, v4 + 32ull, v2, v6);
     v8 = l1(v4 + 9);
     v11 = l1(v4 + 8);
     v10 = l1(v4 + 1);
@@ -15321,7 +15403,7 @@ L1:;
     return;
 }
 
-static void f159(u64 v0, u64 v1, u64 v2)
+static void f160(u64 v0, u64 v1, u64 v2)
 {
     ROOM(frame, 112);
     u32 v4 = 0, v5 = 0, v11 = 0, v12 = 0, v13 = 0, v14 = 0;
@@ -15334,7 +15416,7 @@ static void f159(u64 v0, u64 v1, u64 v2)
     s8(v3 + 56, 0ull);
     s8(v3 + 8, 0ull);
     s8(v3 + 16, 0ull);
-    f148(v3 + 40ull, v1);
+    f149(v3 + 40ull, v1);
     v4 = 1u;
     if (l1(v3 + 40) != 1u) goto L4;
     v5 = l4(v1 + 16ull);
@@ -15408,7 +15490,7 @@ L2:;
     s8(v3 + 96, 0ull);
     s8(v3 + 88, 0ull);
     s8(v3 + 80, 0ull);
-    f158(v3 + 80ull, v1, v8);
+    f159(v3 + 80ull, v1, v8);
     if (l1(v3 + 80) == 0) goto L16;
     v11 = l1(v3 + 81);
     goto L15;
@@ -15450,103 +15532,77 @@ L1:;
     return;
 }
 
-static u64 f160(u64 v0, u64 v1, u64 v2, u32 v3, u64 v4, u64 v5)
+static u64 f161(u64 v0, u64 v1, u64 v2, u32 v3, u64 v4, u64 v5)
 {
     ROOM(frame, 144);
-    u32 v8 = 0, v11 = 0;
-    u64 v6 = 0, v7 = 0, v9 = 0, v10 = 0, v12 = 0, v13 = 0, t0, t1, t2;
+    u32 v8 = 0, v10 = 0;
+    u64 v6 = 0, v7 = 0, v9 = 0, v11 = 0, t0, t1, t2;
     v6 = A(frame);
     v7 = v6;
     fill(v7, 0u, 72ull);
     v8 = l4(v0 + 3808ull);
     v6 = v0 + 3072ull;
-    v9 = (u64)l1(v6);
-    v10 = v9 << 5;
+    v9 = ((u64)l1(v6)) << 5;
     if (l8(v0 + 3152ull) != 0ull) goto L4;
-    v11 = v8 - (l4((v0 + v10) + 28ull));
-    v11 = (v11 > v8) ? 0u : v11;
-    if (v3 <= v11) goto L2;
-    v12 = l8(v0 + 3136ull);
-    if (v12 == 0) goto L2;
+    v10 = v8 - (l4((v0 + v9) + 28ull));
+    v10 = (v10 > v8) ? 0u : v10;
+    if (v3 <= v10) goto L2;
+    v11 = l8(v0 + 3136ull);
+    if (v11 == 0) goto L2;
 L5:;
-    if (v11 < (l4((v0 + (((u64)l1(v6)) << 5)) + 20ull))) goto L4;
+    if (v10 < (l4((v0 + (((u64)l1(v6)) << 5)) + 20ull))) goto L4;
     v6 = v6 + 1ull;
-    v12 = v12 + 0xFFFFFFFFFFFFFFFFull;
-    if (v12 == 0) goto L2;
+    v11 = v11 + 0xFFFFFFFFFFFFFFFFull;
+    if (v11 == 0) goto L2;
     goto L5;
 L4:;
     v6 = l8(v5 + 1024ull);
     if (v6 == 0) goto L6;
-    v12 = 0ull;
+    v11 = 0ull;
     if (v6 == 1ull) goto L8;
     v4 = v6 & 1ull;
-    v10 = v6 & 0xFFFFFFFFFFFFFFFEull;
+    v9 = v6 & 0xFFFFFFFFFFFFFFFEull;
     v6 = v5;
-    v12 = 0ull;
+    v11 = 0ull;
 L9:;
     s8(v6, 0x300000000000000ull);
     s8(v6 + 24ull, 0ull);
     s8(v6 + 16ull, 0x300000000000000ull);
     s8(v6 + 8ull, 0ull);
     v6 = v6 + 32ull;
-    v12 = v12 + 2ull;
-    if (v10 != v12) goto L9;
+    v11 = v11 + 2ull;
+    if (v9 != v11) goto L9;
     if (v4 == 0) goto L7;
 L8:;
-    v6 = v5 + (v12 << 4);
+    v6 = v5 + (v11 << 4);
     s8(v6 + 8, 0ull);
     s8(v6, 0x300000000000000ull);
 L7:;
     s8(v5 + 1024ull, 0ull);
-    v9 = (u64)l1(v0 + 3072ull);
-    v10 = v9 << 5;
+    v9 = ((u64)l1(v0 + 3072ull)) << 5;
     v8 = l4(v0 + 3808ull);
 L6:;
-    v6 = v0 + v10;
-    if (v8 > l4(v6 + 28ull)) goto L10;
-    v12 = 0ull;
-    v4 = (u64)l1(v6 + 6ull);
-    v2 = (u64)l2(v6 + 4ull);
-    v13 = (u64)l4(v6);
-    v10 = 0x100000000000000ull;
-    if (l1(v6 + 8ull) != 7u) goto L11;
-    v12 = l8((v0 + (v9 << 3)) + 2048ull);
-    v6 = v12 >> 32;
-    v8 = (u32)v6;
-    v12 = v1 + ((v12 << 6) & 16320ull);
-    v11 = l4(v12 + 52ull);
-    v0 = (u64)v11;
-    if (l1(v12 + 56ull) != 1u) goto L13;
-    v12 = (v11 > v8) ? ((((u64)l4(v12 + 40ull)) << 1) - (v6 + v0)) : (v6 - v0);
-    goto L12;
-L13:;
-    v12 = ((v11 < v8) ? v6 : (0ull - v6)) + v0;
-L12:;
-    v10 = 0x200000000000000ull;
-L11:;
-    s8(v5 + 8, v12);
-    s8(v5 + 1024ull, 1ull);
-    s8(v5 + 1032ull, v12);
-    s8(v5, ((v10 | (v4 << 48)) | (v2 << 32)) | v13);
-    t0 = f54(v5);
+    if (v8 > (l4((v0 + v9) + 28ull))) goto L10;
+    f54(v5, v0, v1);
+    t0 = f55(v5);
     v6 = t0;
     goto L1;
 L10:;
-    f55(v7, v5, v0, v1);
+    f56(v7, v5, v0, v1);
     copy(v7 + 72ull, v7, 72ull);
-    t1 = f54(v5);
+    t1 = f55(v5);
     v6 = (u64)l1((v7 + 72ull) + t1);
     goto L1;
     TRAP();
 L2:;
-    f56(v4, v0, v1, v2);
-    t2 = f54(v4);
+    f57(v4, v0, v1, v2);
+    t2 = f55(v4);
     v6 = t2;
 L1:;
     return v6;
 }
 
-static void f161(u64 v0, u32 v1)
+static void f162(u64 v0, u32 v1)
 {
     u32 v7 = 0, t0;
     u64 v2 = 0, v3 = 0, v4 = 0, v5 = 0, v6 = 0;
@@ -15592,7 +15648,7 @@ L4:;
     TRAP();
 }
 
-static u32 f162(u64 v0, u32 v1, u64 v2)
+static u32 f163(u64 v0, u32 v1, u64 v2)
 {
     ROOM(frame, 80);
     u32 v5 = 0, v19 = 0, v20 = 0, v21 = 0, v25 = 0, v26 = 0, v27 = 0, v28 = 0, v29 = 0, v30 = 0, v31 = 0, v32 = 0, v33
@@ -15632,7 +15688,7 @@ L13:;
     goto L12;
 L14:;
     if (l8(v0 + 3952ull) == 0) goto L11;
-    t0 = f160(v15, v14, l8(v0 + 5672ull), l4(v0 + 812ull), v13, v12);
+    t0 = f161(v15, v14, l8(v0 + 5672ull), l4(v0 + 812ull), v13, v12);
     v22 = t0;
 L12:;
     v23 = v11 + v22;
@@ -15655,7 +15711,7 @@ L12:;
     if (v36 != 1u) goto L16;
     v24 = l8(v3 + 32ull) + 1ull;
     v37 = v26 + v28;
-    f61(v4, v24, (u64)(u32)(v24 == 0), (u64)v37, 0ull);
+    f62(v4, v24, (u64)(u32)(v24 == 0), (u64)v37, 0ull);
     v24 = l8(v4 + 8);
     v35 = (u32)v24;
     if (v26) goto L18;
@@ -15776,7 +15832,7 @@ L10:;
     v29 = 0u;
     goto L8;
 L9:;
-    f62(v4 + 48ull, v4 + 28ull, v26);
+    f63(v4 + 48ull, v4 + 28ull, v26);
     v26 = l4(v4 + 72);
     v21 = l4(v4 + 68);
     v28 = l4(v4 + 64);
@@ -15913,10 +15969,10 @@ L48:;
     s8(v3, l8(v3) | (1ull << (v34 & 63)));
     goto L51;
 L52:;
-    f64(v15, v22);
+    f65(v15, v22);
     v3 = v0 + 7512ull;
     s8(v3, l8(v3) | (1ull << (v34 & 63)));
-    f65(v13, v22);
+    f66(v13, v22);
     v22 = 0ull;
 L51:;
     s8(v16 + 8, 0ull);
@@ -15987,7 +16043,7 @@ L57:;
     s4(v17 + 3, l4(A(data + 478)));
     s4(v17, l4(A(data + 475)));
 L53:;
-    f161(v6, v38);
+    f162(v6, v38);
     v3 = v0 + 15384ull;
     t2 = v3;
     v3 = l8(v3) + 0xFFFFFFFFFFFFFFFAull;
@@ -16002,7 +16058,7 @@ L59:;
     s4(v3, l4(A(data + 450)));
 L58:;
     if (v36 == 0) goto L61;
-    f161(v6, v37);
+    f162(v6, v37);
     goto L60;
 L61:;
     v3 = v0 + 15384ull;
@@ -16030,7 +16086,7 @@ L64:;
     s4(v3 + 3, l4(A(data + 459)));
     s4(v3, l4(A(data + 456)));
 L63:;
-    f161(v6, v33);
+    f162(v6, v33);
     v3 = v0 + 15384ull;
     t5 = v3;
     v3 = l8(v3) + 0xFFFFFFFFFFFFFFFAull;
@@ -16044,7 +16100,7 @@ L66:;
     s2(v3 + 4, l2(A(data + 467)));
     s4(v3, l4(A(data + 463)));
 L65:;
-    f161(v6, v32);
+    f162(v6, v32);
     v3 = v0 + 15384ull;
     t6 = v3;
     v3 = l8(v3) + 0xFFFFFFFFFFFFFFFAull;
@@ -16140,7 +16196,7 @@ L2:;
     TRAP();
 }
 
-static u32 f163(u64 v0, u32 v1, u64 v2, u64 v3)
+static u32 f164(u64 v0, u32 v1, u64 v2, u64 v3)
 {
     ROOM(frame, 176);
     u32 v6 = 0, v7 = 0, v8 = 0, v9 = 0, v10 = 0, v11 = 0, v12 = 0, v13 = 0, v20 = 0, v21 = 0, v22 = 0, v23 = 0, v24 =
@@ -16151,21 +16207,21 @@ static u32 f163(u64 v0, u32 v1, u64 v2, u64 v3)
     s8(v5 + 40, 0ull);
     s8(v5 + 32, 0ull);
     s8(v5 + 24, 0ull);
-    f82(v5 + 24ull, v2, v3);
+    f83(v5 + 24ull, v2, v3);
     if (l1(v5 + 24)) goto L22;
     v6 = 1u;
     v7 = l1(v5 + 37);
     v8 = l1(v5 + 36);
     switch (v8) {
-    case 4: case 5: case 6: case 7: goto L24;
-    case 8: goto L25;
+    case 4: case 5: case 6: case 7: goto L25;
+    case 8: goto L24;
     default: goto L23;
     }
 L25:;
-    v6 = ((v7 + 0xFFFFFFFFu) & 255u) < 4u;
+    v6 = 0u;
     goto L23;
 L24:;
-    v6 = 0u;
+    v6 = ((v7 + 0xFFFFFFFFu) & 255u) < 4u;
 L23:;
     v9 = l4(v5 + 32);
     v10 = l4(v5 + 28);
@@ -16280,7 +16336,7 @@ L34:;
 L33:;
     v12 = l2(v5 + 106);
 L32:;
-    f132(v5 + 48ull, v5 + 96ull, v12);
+    f133(v5 + 48ull, v5 + 96ull, v12);
     if (v1 & 255u) goto L43;
     v3 = v0 + 12144ull;
     v2 = l8(v3);
@@ -16337,17 +16393,17 @@ L20:;
     v4 = 9ull;
     goto L2;
 L19:;
-    if (v8 < 4u) goto L18;
-    v18 = v0 + 4648ull;
+    if (((v8 + 0xFFFFFFFCu) & 255u) > 4u) goto L18;
+    v15 = v0 + 4648ull;
     v12 = l4(v5 + 112);
     v13 = l4(v5 + 108);
     v6 = l2(v5 + 106);
-    v15 = 0ull;
+    v18 = 0ull;
     v3 = 0ull;
     v2 = l8(v0 + 5672ull);
     if (v2 == 0) goto L45;
     v3 = 0ull;
-    v4 = v18;
+    v4 = v15;
 L46:;
     if (l2(v4) == (v9 & 65535u)) goto L45;
     v4 = v4 + 64ull;
@@ -16356,58 +16412,70 @@ L46:;
     v3 = v2;
 L45:;
     s4(v5 + 160, v12);
-    v2 = v3 << 6;
-    v4 = (l8((v18 + v2) + 32ull)) + 1ull;
-    f61(v5, v4, (u64)(u32)(v4 == 0), (v8 == 7u) ? ((u64)v12) : 0ull, 0ull);
+    v16 = v3 << 6;
+    v4 = (l8((v15 + v16) + 32ull)) + 1ull;
+    f62(v5, v4, (u64)(u32)(v4 == 0), (v8 == 7u) ? ((u64)v12) : 0ull, 0ull);
     s8(v5 + 168, 0ull);
     s4(v5 + 164, v11);
     s4(v5 + 156, v13);
     s2(v5 + 154, v6);
     s1(v5 + 153, v7);
-    v4 = l8(v5 + 8);
-    v12 = (u32)v4;
-    if (v8 == 7u) goto L48;
-    v2 = 0x100000000000000ull;
+    v2 = l8(v5 + 8);
+    v12 = (u32)v2;
+    v4 = 0ull;
+    switch (v8) {
+    case 4: case 5: case 6: goto L49;
+    case 7: goto L48;
+    case 8: goto L50;
+    default: goto L47;
+    }
+L50:;
+    v4 = 0ull;
+    v18 = 0x300000000000000ull;
+    goto L47;
+L49:;
+    v4 = 0ull;
+    v18 = 0x100000000000000ull;
     goto L47;
 L48:;
-    v2 = v18 + (v2 & 16320ull);
-    v11 = l4(v2 + 52ull);
+    v4 = v15 + (v16 & 16320ull);
+    v11 = l4(v4 + 52ull);
     v15 = (u64)v11;
-    if (l1(v2 + 56ull) != 1u) goto L50;
-    v15 = (v11 > v12) ? ((((u64)l4(v2 + 40ull)) << 1) - (v15 + v4)) : (v4 - v15);
-    goto L49;
-L50:;
-    v15 = ((v11 < v12) ? v4 : (0ull - v4)) + v15;
-L49:;
-    v2 = 0x200000000000000ull;
+    if (l1(v4 + 56ull) != 1u) goto L52;
+    v4 = (v11 > v12) ? ((((u64)l4(v4 + 40ull)) << 1) - (v15 + v2)) : (v2 - v15);
+    goto L51;
+L52:;
+    v4 = ((v11 < v12) ? v2 : (0ull - v2)) + v15;
+L51:;
+    v18 = 0x200000000000000ull;
 L47:;
     s4(v5 + 144, v10);
-    v18 = (u64)v10;
-    v4 = v17 + (v18 & 255ull);
-    s1(v4, l1(v4) + 1u);
-    v4 = v0 + 6736ull;
-    s8((v0 + (l8(v4) << 3)) + 6744ull, v15);
+    v15 = (u64)v10;
+    v2 = v17 + (v15 & 255ull);
+    s1(v2, l1(v2) + 1u);
+    v2 = v0 + 6736ull;
+    s8((v0 + (l8(v2) << 3)) + 6744ull, v4);
     s2(v5 + 148, v9);
     s1(v5 + 150, v1);
-    v17 = l8(v4);
+    v17 = l8(v2);
     v16 = v0 + (v17 << 4);
-    s8(v16 + 5712ull, ((v2 | ((((u64)v1) & 255ull) << 48)) | (((u64)(v9 & 65535u)) << 32)) | v18);
-    s8(v16 + 5720ull, v15);
-    s8(v4, v17 + 1ull);
+    s8(v16 + 5712ull, ((v18 | ((((u64)v1) & 255ull) << 48)) | (((u64)(v9 & 65535u)) << 32)) | v15);
+    s8(v16 + 5720ull, v4);
+    s8(v2, v17 + 1ull);
     s1(v5 + 152, v8);
     s1(v5 + 151, 0u);
-    f133(v0 + 816ull, v5 + 144ull, (u32)v3, v12);
+    f134(v0 + 816ull, v5 + 144ull, (u32)v3, v12);
     if (v1 & 255u) goto L13;
     s4(v14, l4(v14) + 1u);
     goto L12;
 L18:;
     switch (v8) {
-    case 1: goto L54;
-    case 2: goto L53;
+    case 1: goto L56;
+    case 2: goto L55;
     case 3: goto L17;
-    default: goto L55;
+    default: goto L57;
     }
-L55:;
+L57:;
     v6 = 0u;
     s4(v5 + 116, 0u);
     s2(v5 + 120, 0u);
@@ -16419,26 +16487,26 @@ L55:;
     v23 = 0u;
     v12 = l4(v5 + 108);
     v11 = v12;
-    goto L51;
-L54:;
+    goto L53;
+L56:;
     v14 = 0ull;
     v12 = l4(v5 + 108);
     v3 = l8(v0 + 6736ull);
-    if (v3 == 0) goto L56;
+    if (v3 == 0) goto L58;
     v2 = v0 + 3888ull;
     v4 = v0 + 5712ull;
-L58:;
-    if (l1(v4 + 6ull) != (v1 & 255u)) goto L59;
-    if (l4(v4) == v12) goto L57;
-L59:;
+L60:;
+    if (l1(v4 + 6ull) != (v1 & 255u)) goto L61;
+    if (l4(v4) == v12) goto L59;
+L61:;
     v2 = v2 + 1ull;
     v4 = v4 + 16ull;
     v3 = v3 + 0xFFFFFFFFFFFFFFFFull;
-    if ((u32)(v3 == 0) == 0) goto L58;
-    goto L56;
-L57:;
+    if ((u32)(v3 == 0) == 0) goto L60;
+    goto L58;
+L59:;
     v14 = ((l8((v0 + (((u64)l1(v2)) << 3)) + 3376ull)) - l8(v0 + 4632ull)) & 4294967295ull;
-L56:;
+L58:;
     v23 = 0u;
     s2(v5 + 148, 0u);
     s4(v5 + 144, 0u);
@@ -16447,31 +16515,31 @@ L56:;
     v22 = 0u;
     v21 = 0u;
     v6 = 0u;
-    goto L52;
-L53:;
+    goto L54;
+L55:;
     v4 = v0 + 0xFFFFFFFFFFFFFFF2ull;
     v3 = l8(v0 + 800ull) + 1ull;
-L60:;
+L62:;
     v3 = v3 + 0xFFFFFFFFFFFFFFFFull;
     if (v3 == 0) goto L11;
     v2 = v4 + 46ull;
     v15 = v4 + 48ull;
     v4 = v15;
-    if (l2(v2) != (v9 & 65535u)) goto L60;
+    if (l2(v2) != (v9 & 65535u)) goto L62;
     v4 = v0 + 4632ull;
     v3 = l8(v0 + 5672ull) + 1ull;
-L62:;
+L64:;
     v3 = v3 + 0xFFFFFFFFFFFFFFFFull;
-    if ((u32)(v3 == 0) == 0) goto L63;
+    if ((u32)(v3 == 0) == 0) goto L65;
     v23 = 4u;
-    goto L61;
-L63:;
+    goto L63;
+L65:;
     v2 = v4 + 16ull;
     v14 = v4 + 64ull;
     v4 = v14;
-    if (l2(v2) != (v9 & 65535u)) goto L62;
+    if (l2(v2) != (v9 & 65535u)) goto L64;
     v23 = (l1(v14) & 1u) ? 0u : 4u;
-L61:;
+L63:;
     v12 = 0u;
     s4(v5 + 144, 0u);
     s2(v5 + 148, 0u);
@@ -16481,28 +16549,28 @@ L61:;
     v21 = l4(v15);
     v20 = 3u;
     v7 = 131u;
-L52:;
+L54:;
     s2(v5 + 120, l2(v5 + 148));
     s4(v5 + 116, l4(v5 + 144));
     v13 = 0u;
     if (v8) goto L16;
     v11 = l4(v5 + 108);
-L51:;
+L53:;
     v13 = 0u;
     v2 = l8(v0 + 6736ull);
     if (v2 == 0) goto L16;
     v3 = 0ull;
     v16 = v0 + 5712ull;
     v4 = v16;
-L65:;
-    if (l1(v4 + 6ull) != (v1 & 255u)) goto L66;
-    if (l4(v4) == v11) goto L64;
-L66:;
+L67:;
+    if (l1(v4 + 6ull) != (v1 & 255u)) goto L68;
+    if (l4(v4) == v11) goto L66;
+L68:;
     v4 = v4 + 16ull;
     v3 = v3 + 1ull;
-    if (v2 != v3) goto L65;
+    if (v2 != v3) goto L67;
     goto L16;
-L64:;
+L66:;
     v19 = v0 + 816ull;
     v2 = (v0 + v3) + 3888ull;
     v4 = v19 + (((u64)l1(v2)) << 5);
@@ -16514,21 +16582,21 @@ L64:;
     v11 = l2(v4 + 4);
     v8 = l4(v4);
     v28 = l4(v4 + 24);
-    if (v28) goto L68;
+    if (v28) goto L70;
     v15 = v0 + 4640ull;
     t1 = v15;
     t2 = l8(v15);
     v15 = (u64)l4(v4 + 20ull);
     s8(t1, t2 - v15);
-    if (v15 == 0) goto L69;
+    if (v15 == 0) goto L71;
     v4 = (u64)l1(v2);
     v17 = l8(v0 + 3960ull) & ((((l8((v0 + (v4 << 3)) + 4112ull)) | (1ull << (v4 & 63))) | l8(v0 + 3976ull)) ^
         0xFFFFFFFFFFFFFFFFull);
     v4 = v0 + 3376ull;
     v18 = 0ull;
-L70:;
+L72:;
     v2 = v17 >> (v18 & 63);
-    if (v2 == 0) goto L69;
+    if (v2 == 0) goto L71;
     s8(v4 + 16, l8(v4 + 16) - (((u64)((i64)(v2 << 61) >> 63)) & v15));
     s8(v4 + 8, l8(v4 + 8) - (((u64)((i64)(v2 << 62) >> 63)) & v15));
     s8(v4, l8(v4) - ((0ull - (v2 & 1ull)) & v15));
@@ -16539,40 +16607,40 @@ L70:;
     s8(v4 + 56, l8(v4 + 56) - (((u64)((i64)(v2 << 56) >> 63)) & v15));
     v4 = v4 + 64ull;
     v18 = v18 + 8ull;
-    if (v18 != 64ull) goto L70;
-L69:;
-    f63(v19, v3);
-    goto L67;
-L68:;
+    if (v18 != 64ull) goto L72;
+L71:;
     f64(v19, v3);
-L67:;
-    f65(v16, v3);
+    goto L69;
+L70:;
+    f65(v19, v3);
+L69:;
+    f66(v16, v3);
     v18 = v0 + 5688ull;
     v2 = 0ull;
     v15 = 0ull;
     v4 = 0ull;
     v17 = v0 + 5680ull;
-    if (l1(v17) != 1u) goto L71;
+    if (l1(v17) != 1u) goto L73;
     v15 = 1ull;
     v4 = l8(v18);
-    if (v4 < v3) goto L71;
+    if (v4 < v3) goto L73;
     v29 = v3 < v4;
     v4 = v29 ? (v4 + 0xFFFFFFFFFFFFFFFFull) : 0ull;
     v15 = (u64)v29;
-L71:;
+L73:;
     s8(v18, v4);
     s8(v17, v15);
     v15 = v0 + 5704ull;
     v4 = 0ull;
     v18 = v0 + 5696ull;
-    if (l1(v18) != 1u) goto L72;
+    if (l1(v18) != 1u) goto L74;
     v2 = 1ull;
     v4 = l8(v15);
-    if (v4 < v3) goto L72;
+    if (v4 < v3) goto L74;
     v29 = v3 < v4;
     v4 = v29 ? (v4 + 0xFFFFFFFFFFFFFFFFull) : 0ull;
     v2 = (u64)v29;
-L72:;
+L74:;
     s8(v15, v4);
     s8(v18, v2);
     s4(v5 + 140, v24);
@@ -16587,43 +16655,43 @@ L72:;
     s8(v5 + 160, 0ull);
     s8(v5 + 152, 0ull);
     s8(v5 + 144, 0ull);
-    f62(v5 + 144ull, v5 + 124ull, v28);
+    f63(v5 + 144ull, v5 + 124ull, v28);
     v24 = 129u;
     switch (v13) {
-    case 1: goto L80;
-    case 2: goto L79;
-    case 3: goto L78;
-    case 4: goto L77;
-    case 5: goto L76;
-    case 6: goto L75;
-    case 7: goto L74;
-    case 8: goto L81;
-    default: goto L73;
+    case 1: goto L82;
+    case 2: goto L81;
+    case 3: goto L80;
+    case 4: goto L79;
+    case 5: goto L78;
+    case 6: goto L77;
+    case 7: goto L76;
+    case 8: goto L83;
+    default: goto L75;
     }
-L81:;
+L83:;
     v24 = ((v26 & 65535u) == 2049u) ? 0xFFFFFF80u : (v27 | 0xFFFFFF80u);
-    goto L73;
-L80:;
+    goto L75;
+L82:;
     v24 = 130u;
-    goto L73;
-L79:;
+    goto L75;
+L81:;
     v24 = 131u;
-    goto L73;
-L78:;
+    goto L75;
+L80:;
     v24 = 132u;
-    goto L73;
-L77:;
+    goto L75;
+L79:;
     v24 = 136u;
-    goto L73;
-L76:;
+    goto L75;
+L78:;
     v24 = 137u;
-    goto L73;
-L75:;
+    goto L75;
+L77:;
     v24 = 138u;
-    goto L73;
-L74:;
+    goto L75;
+L76:;
     v24 = (u32)(698496357008ull >> (((((u64)v27) & 255ull) << 3) & 63));
-L73:;
+L75:;
     v13 = l4(v5 + 148);
     v3 = l8(v5 + 152);
     v27 = l4(v5 + 160);
@@ -16723,16 +16791,16 @@ L12:;
     v16 = v0 + 15384ull;
     s8(v16, 107ull);
     v19 = v0 + 15272ull;
-    f161(v19, v10);
+    f162(v19, v10);
     v4 = l8(v16) + 0xFFFFFFFFFFFFFFF9ull;
     s8(v16, v4);
     v4 = v19 + v4;
-    if ((v4 - A(data + 153)) > 6ull) goto L82;
+    if ((v4 - A(data + 153)) > 6ull) goto L84;
     s1(v4 + 6, 32u);
     s2(v4 + 4, 25701u);
     s4(v4, 1969583473u);
     goto L9;
-L82:;
+L84:;
     s4(v4 + 3, l4(A(data + 156)));
     s4(v4, l4(A(data + 153)));
     goto L9;
@@ -16773,34 +16841,34 @@ L7:;
     v19 = v0 + 15272ull;
     v9 = 0u;
     if ((v11 & 255u) != 1u) goto L6;
-    f161(v19, v8);
+    f162(v19, v8);
     v4 = l8(v16) + 0xFFFFFFFFFFFFFFF7ull;
     s8(v16, v4);
     v4 = v19 + v4;
-    if ((v4 - A(data + 169)) > 8ull) goto L84;
+    if ((v4 - A(data + 169)) > 8ull) goto L86;
     s1(v4 + 8, 32u);
     s8(v4, 0x646574726F626120ull);
-    goto L83;
-L84:;
+    goto L85;
+L86:;
     s1(v4 + 8, l1(A(data + 177)));
     s8(v4, l8(A(data + 169)));
-L83:;
+L85:;
     v9 = 1u;
 L6:;
-    f161(v19, v10);
+    f162(v19, v10);
     v4 = v0 + 15384ull;
     t3 = v4;
     v4 = l8(v4) + 0xFFFFFFFFFFFFFFF7ull;
     s8(t3, v4);
     v4 = (v0 + v4) + 15272ull;
-    if ((v4 - A(data + 160)) > 8ull) goto L86;
+    if ((v4 - A(data + 160)) > 8ull) goto L88;
     s1(v4 + 8, 32u);
     s8(v4, 0x6465726577736E61ull);
-    goto L85;
-L86:;
+    goto L87;
+L88:;
     s1(v4 + 8, l1(A(data + 168)));
     s8(v4, l8(A(data + 160)));
-L85:;
+L87:;
     v11 = 1u;
     v12 = 0u;
     goto L1;
@@ -16819,12 +16887,12 @@ L2:;
     s8(v0 + 15384ull, v3);
     v19 = v0 + 15272ull;
     v3 = v19 + v3;
-    if ((v3 - v14) >= v4) goto L88;
+    if ((v3 - v14) >= v4) goto L90;
     v18 = v0 - v4;
     v17 = v4 & 12ull;
     v15 = v4 & 3ull;
     v4 = 0ull;
-L89:;
+L91:;
     v3 = v18 + v4;
     v2 = v14 + v4;
     s1(v3 + 15379ull, l1(v2));
@@ -16832,63 +16900,63 @@ L89:;
     s1(v3 + 15381ull, l1(v2 + 2ull));
     s1(v3 + 15382ull, l1(v2 + 3ull));
     v4 = v4 + 4ull;
-    if (v17 != v4) goto L89;
-    if (v15 == 0) goto L87;
+    if (v17 != v4) goto L91;
+    if (v15 == 0) goto L89;
     v3 = v14 + v4;
     v4 = (v18 + v4) + 15379ull;
-L90:;
+L92:;
     s1(v4, l1(v3));
     v4 = v4 + 1ull;
     v3 = v3 + 1ull;
     v15 = v15 + 0xFFFFFFFFFFFFFFFFull;
-    if (v15 != 0ull) goto L90;
-    goto L87;
-L88:;
-    if (v4 == 0) goto L87;
+    if (v15 != 0ull) goto L92;
+    goto L89;
+L90:;
+    if (v4 == 0) goto L89;
     copy(v3, v14, v4);
-L87:;
+L89:;
     v4 = l8(v16) + 0xFFFFFFFFFFFFFFF8ull;
     s8(v16, v4);
     v4 = v19 + v4;
-    if ((v4 - A(data + 145)) > 7ull) goto L92;
+    if ((v4 - A(data + 145)) > 7ull) goto L94;
     s8(v4, 0x2064657375666572ull);
-    goto L91;
-L92:;
+    goto L93;
+L94:;
     s8(v4, 0x2064657375666572ull);
-L91:;
+L93:;
     v12 = 1u;
     v9 = 0u;
     v11 = 0u;
 L1:;
     v10 = 1u;
-    if ((v1 & 255u) != 1u) goto L93;
+    if ((v1 & 255u) != 1u) goto L95;
     v4 = l8(v16) + 0xFFFFFFFFFFFFFFF9ull;
     s8(v16, v4);
     v4 = v19 + v4;
-    if ((v4 - A(data + 414)) > 6ull) goto L94;
+    if ((v4 - A(data + 414)) > 6ull) goto L96;
     s1(v4 + 6, 32u);
     s2(v4 + 4, 25710u);
     s4(v4, 1868785011u);
-    goto L93;
-L94:;
+    goto L95;
+L96:;
     s4(v4 + 3, l4(A(data + 417)));
     s4(v4, l4(A(data + 414)));
-L93:;
+L95:;
     v16 = l8(v0 + 15264ull);
     v30 = l8(v0 + 15384ull);
     v4 = 108ull - v30;
-    if ((l8(v0 + 15256ull) - v16) < v4) goto L95;
+    if ((l8(v0 + 15256ull) - v16) < v4) goto L97;
     v31 = v16 + v4;
     v32 = l8(v0 + 15248ull);
     v14 = v32 + v16;
     v18 = v19 + v30;
-    if ((v14 - v18) >= v4) goto L97;
+    if ((v14 - v18) >= v4) goto L99;
     v15 = v4 & 3ull;
     v3 = 0ull;
-    if ((v30 + 0xFFFFFFFFFFFFFF97ull) < 3ull) goto L98;
+    if ((v30 + 0xFFFFFFFFFFFFFF97ull) < 3ull) goto L100;
     v17 = v4 & 0xFFFFFFFFFFFFFFFCull;
     v3 = 0ull;
-L99:;
+L101:;
     v4 = v14 + v3;
     v2 = v18 + v3;
     s1(v4, l1(v2));
@@ -16896,32 +16964,32 @@ L99:;
     s1(v4 + 2ull, l1(v2 + 2ull));
     s1(v4 + 3ull, l1(v2 + 3ull));
     v3 = v3 + 4ull;
-    if (v17 != v3) goto L99;
-    if (v15 == 0) goto L96;
-L98:;
+    if (v17 != v3) goto L101;
+    if (v15 == 0) goto L98;
+L100:;
     v4 = v32 + (v3 + v16);
     v3 = v19 + (v3 + v30);
-L100:;
+L102:;
     s1(v4, l1(v3));
     v4 = v4 + 1ull;
     v3 = v3 + 1ull;
     v15 = v15 + 0xFFFFFFFFFFFFFFFFull;
-    if (v15 != 0ull) goto L100;
-    goto L96;
-L97:;
-    if (v4 == 0) goto L96;
+    if (v15 != 0ull) goto L102;
+    goto L98;
+L99:;
+    if (v4 == 0) goto L98;
     copy(v14, v18, v4);
-L96:;
+L98:;
     s8(v0 + 15264ull, v31);
-    if (v11 == 0) goto L102;
-    if ((v12 | v9) == 0) goto L102;
+    if (v11 == 0) goto L104;
+    if ((v12 | v9) == 0) goto L104;
     v4 = (u64)(v12 ^ 1u);
     v3 = (u64)v12;
-    goto L101;
-L102:;
+    goto L103;
+L104:;
     v3 = 0ull;
     v4 = 0ull;
-L101:;
+L103:;
     v2 = v0 + 15392ull;
     s8(v2, l8(v2) + 1ull);
     v2 = v0 + 15424ull;
@@ -16929,11 +16997,11 @@ L101:;
     v3 = v0 + 15432ull;
     s8(v3, l8(v3) + v4);
     v10 = 0u;
-L95:;
+L97:;
     return v10;
 }
 
-static u32 f164(u64 v0, u32 v1)
+static u32 f165(u64 v0, u32 v1)
 {
     ROOM(frame, 128);
     u32 v4 = 0, v5 = 0, v6 = 0, v7 = 0, v8 = 0, v10 = 0, v11 = 0, v12 = 0, v14 = 0, v16 = 0, v17 = 0, v18 = 0, v19 = 0;
@@ -16948,10 +17016,10 @@ static u32 f164(u64 v0, u32 v1)
     s8(v3 + 80, 0ull);
     s8(v3 + 72, 0ull);
     if (v1 & 255u) goto L3;
-    f94(v3 + 72ull, v0 + 9064ull);
+    f95(v3 + 72ull, v0 + 9064ull);
     goto L2;
 L3:;
-    f94(v3 + 72ull, v0 + 12152ull);
+    f95(v3 + 72ull, v0 + 12152ull);
 L2:;
     v4 = l1(v3 + 72) != 1u;
     if (v4 == 0) goto L5;
@@ -17172,7 +17240,7 @@ L23:;
     TRAP();
 }
 
-APART void f165(u64 v0, u64 v1, u64 v2)
+APART void f166(u64 v0, u64 v1, u64 v2)
 {
     ROOM(frame, 1008);
     u32 v13 = 0, v14 = 0, v15 = 0, v16 = 0, v17 = 0, v18 = 0, v19 = 0, v20 = 0, v21 = 0, v22 = 0, v28 = 0, v29 = 0, v30
@@ -17244,7 +17312,7 @@ L39:;
     if ((v30 & 255u) != 101u) goto L35;
     if ((v29 & 255u) != 97u) goto L35;
     if ((v28 & 255u) != 100u) goto L35;
-    t0 = f77(v24, 4ull, A(data + 38));
+    t0 = f78(v24, 4ull, A(data + 38));
     if (t0 == 0) goto L35;
     v29 = 3u;
     goto L18;
@@ -17257,7 +17325,7 @@ L38:;
     if ((v30 & 255u) != 111u) goto L29;
     if ((v29 & 255u) != 109u) goto L29;
     if ((v28 & 255u) != 112u) goto L29;
-    t1 = f77(v24, 7ull, A(data + 58));
+    t1 = f78(v24, 7ull, A(data + 58));
     if (t1 == 0) goto L29;
     v29 = 2u;
     goto L18;
@@ -17270,7 +17338,7 @@ L37:;
     if ((v30 & 255u) != 99u) goto L34;
     if ((v29 & 255u) != 101u) goto L34;
     if ((v28 & 255u) != 99u) goto L34;
-    t2 = f77(v24, 6ull, A(data + 47));
+    t2 = f78(v24, 6ull, A(data + 47));
     if (t2 == 0) goto L34;
     v29 = 0u;
     goto L18;
@@ -17284,7 +17352,7 @@ L36:;
     if ((v30 & 255u) != 119u) goto L40;
     if ((v29 & 255u) != 105u) goto L40;
     if ((v28 & 255u) != 116u) goto L40;
-    t3 = f77(v24, 5ull, A(data + 42));
+    t3 = f78(v24, 5ull, A(data + 42));
     if (t3 == 0) goto L33;
     v29 = 4u;
     goto L18;
@@ -17293,7 +17361,7 @@ L40:;
     if ((v30 & 255u) != 101u) goto L33;
     if ((v29 & 255u) != 97u) goto L33;
     if ((v28 & 255u) != 115u) goto L33;
-    t4 = f77(v24, 5ull, A(data + 53));
+    t4 = f78(v24, 5ull, A(data + 53));
     if (t4 == 0) goto L33;
     v29 = 1u;
     goto L18;
@@ -17302,14 +17370,14 @@ L35:;
     if ((v30 & 255u) != 116u) goto L41;
     if ((v29 & 255u) != 101u) goto L41;
     if ((v28 & 255u) != 112u) goto L41;
-    t5 = f77(v24, 4ull, A(data + 65));
+    t5 = f78(v24, 4ull, A(data + 65));
     if (t5) goto L24;
 L41:;
     if (v31 != 116u) goto L42;
     if ((v30 & 255u) != 97u) goto L42;
     if ((v29 & 255u) != 107u) goto L42;
     if ((v28 & 255u) != 101u) goto L42;
-    t6 = f77(v24, 4ull, A(data + 69));
+    t6 = f78(v24, 4ull, A(data + 69));
     if (t6 == 0) goto L42;
     v28 = 0u;
     v33 = 2u;
@@ -17319,7 +17387,7 @@ L42:;
     if ((v30 & 255u) != 111u) goto L14;
     if ((v29 & 255u) != 111u) goto L14;
     if ((v28 & 255u) != 107u) goto L14;
-    t7 = f77(v24, 4ull, A(data + 73));
+    t7 = f78(v24, 4ull, A(data + 73));
     if (t7 == 0) goto L14;
     v28 = 0u;
     v33 = 4u;
@@ -17329,7 +17397,7 @@ L34:;
     if ((v30 & 255u) != 116u) goto L32;
     if ((v28 & 255u) != 97u) goto L32;
     if ((v29 & 255u) != 116u) goto L32;
-    t8 = f77(v24, 6ull, A(data + 77));
+    t8 = f78(v24, 6ull, A(data + 77));
     if (t8) goto L27;
     goto L22;
 L33:;
@@ -17337,7 +17405,7 @@ L33:;
     if (v31 != 98u) goto L14;
     if ((v29 & 255u) != 111u) goto L14;
     if ((v28 & 255u) != 114u) goto L14;
-    t9 = f77(v24, 5ull, A(data + 83));
+    t9 = f78(v24, 5ull, A(data + 83));
     v30 = t9;
     if (v26 == 0) goto L14;
     if (v30 == 0) goto L14;
@@ -17361,7 +17429,7 @@ L32:;
     if ((v30 & 255u) != 97u) goto L22;
     if ((v29 & 255u) != 107u) goto L22;
     if ((v28 & 255u) != 99u) goto L22;
-    t10 = f77(v24, 6ull, A(data + 88));
+    t10 = f78(v24, 6ull, A(data + 88));
     if (t10 == 0) goto L22;
     goto L14;
 L31:;
@@ -17369,14 +17437,14 @@ L31:;
     if ((l1(v24 + 1ull) & 255u) != 101u) goto L14;
     if ((l1(v24 + 2ull) & 255u) != 116u) goto L14;
     if ((l1(v24 + 3ull) & 255u) != 99u) goto L14;
-    f77(v24, 13ull, A(data + 94));
+    f78(v24, 13ull, A(data + 94));
     goto L14;
 L30:;
     if (l1(v24) != 97u) goto L14;
     if ((l1(v24 + 1ull) & 255u) != 118u) goto L14;
     if ((l1(v24 + 2ull) & 255u) != 97u) goto L14;
     if ((l1(v24 + 3ull) & 255u) != 105u) goto L14;
-    t12 = f77(v24, 9ull, A(data + 113));
+    t12 = f78(v24, 9ull, A(data + 113));
     if (t12 == 0) goto L14;
     v28 = 4u;
     goto L21;
@@ -17385,7 +17453,7 @@ L29:;
     if ((v30 & 255u) != 101u) goto L14;
     if ((v29 & 255u) != 116u) goto L14;
     if ((v28 & 255u) != 117u) goto L14;
-    t13 = f77(v24, 7ull, A(data + 122));
+    t13 = f78(v24, 7ull, A(data + 122));
     if (t13 == 0) goto L14;
     v28 = 6u;
     goto L21;
@@ -17394,7 +17462,7 @@ L28:;
     if ((l1(v24 + 1ull) & 255u) != 110u) goto L14;
     if ((l1(v24 + 2ull) & 255u) != 105u) goto L14;
     if ((l1(v24 + 3ull) & 255u) != 116u) goto L14;
-    t14 = f77(v24, 10ull, A(data + 129));
+    t14 = f78(v24, 10ull, A(data + 129));
     if (t14 == 0) goto L14;
     v28 = 2u;
     goto L21;
@@ -17520,7 +17588,7 @@ L22:;
     if ((v30 & 255u) != 110u) goto L14;
     if ((v28 & 255u) != 108u) goto L14;
     if ((v29 & 255u) != 105u) goto L14;
-    t15 = f77(v24, 6ull, A(data + 107));
+    t15 = f78(v24, 6ull, A(data + 107));
     if (t15 == 0) goto L14;
     v28 = 5u;
 L21:;
@@ -17702,7 +17770,7 @@ L17:;
     v21 = 0u;
     goto L13;
 L14:;
-    f159(v4 + 232ull, v1, v12);
+    f160(v4 + 232ull, v1, v12);
     if (l1(v4 + 232)) goto L10;
     if (l1(v4 + 240) != 1u) goto L8;
     v13 = l4(v4 + 268);
@@ -17745,27 +17813,27 @@ L78:;
     case 1: goto L80;
     case 2: goto L5;
     case 3: goto L82;
-    case 4: goto L85;
-    case 5: goto L84;
-    case 6: goto L83;
+    case 4: goto L86;
+    case 5: goto L85;
+    case 6: goto L84;
     case 7: goto L81;
-    case 8: goto L86;
+    case 8: goto L83;
     default: goto L79;
     }
 L86:;
+    v22 = 8u;
+    goto L7;
+L85:;
+    v22 = 9u;
+    goto L7;
+L84:;
+    v22 = 10u;
+    goto L7;
+L83:;
     v18 = 0u;
     v30 = 0u;
     v22 = v16;
     goto L6;
-L85:;
-    v22 = 8u;
-    goto L7;
-L84:;
-    v22 = 9u;
-    goto L7;
-L83:;
-    v22 = 10u;
-    goto L7;
 L82:;
     v3 = 18ull;
     v22 = 4u;
@@ -17802,7 +17870,7 @@ L77:;
     v3 = l8(v4 + 16);
     fill(v4 + 232ull, 0u, 80ull);
     if ((v3 + 0xFFFFFFFFFFFFFF7Eull) <= 0xFFFFFFFFFFFFFF7Full) goto L74;
-    f156(v4 + 232ull, v24, v3);
+    f157(v4 + 232ull, v24, v3);
     if (l1(v4 + 232)) goto L74;
     copy(v9, v10, 72ull);
     copy(v4 + 232ull, v9, 72ull);
@@ -17818,12 +17886,12 @@ L76:;
     s4(v4 + 4, v20);
     s1(v4 + 1, v21);
     s1(v4, v22);
-    t16 = f162(v2, v20, v11);
+    t16 = f163(v2, v20, v11);
     if ((t16 & 255u) == 0) goto L3;
     goto L4;
 L75:;
     fill(v4 + 232ull, 0u, 776ull);
-    f89(v4 + 232ull, v6);
+    f90(v4 + 232ull, v6);
     v40 = l8(v4 + 1000);
     if (v40 == 0) goto L87;
     v37 = 0ull;
@@ -17832,11 +17900,11 @@ L88:;
     v3 = v2 + 15384ull;
     s8(v3, 107ull);
     v24 = (v4 + 232ull) + (v37 * 12ull);
-    f161(v5, l4(v24 + 8ull));
+    f162(v5, l4(v24 + 8ull));
     v23 = l8(v3) + 0xFFFFFFFFFFFFFFFFull;
     s8(v3, v23);
     s1(v5 + v23, 32u);
-    f161(v5, l4(v24 + 4ull));
+    f162(v5, l4(v24 + 4ull));
     v23 = l8(v3) + 0xFFFFFFFFFFFFFFF9ull;
     s8(v3, v23);
     v3 = v5 + v23;
@@ -17927,7 +17995,7 @@ L74:;
     fill(v4 + 232ull, 0u, 72ull);
 L11:;
     copy(v4 + 24ull, v4 + 232ull, 72ull);
-    t18 = f163(v2, v21, v4 + 24ull, l8(v4 + 88));
+    t18 = f164(v2, v21, v4 + 24ull, l8(v4 + 88));
     if ((t18 & 255u) == 0) goto L3;
     goto L4;
 L10:;
@@ -17956,7 +18024,7 @@ L9:;
     s4(v4 + 4, v20);
     s1(v4 + 1, v21);
     s1(v4, v22);
-    t19 = f164(v2, v21);
+    t19 = f165(v2, v21);
     if ((t19 & 255u) == 0) goto L3;
     goto L4;
 L8:;
@@ -17994,7 +18062,7 @@ L5:;
     s4(v4 + 96, v20);
     s8(v4 + 144, v3);
     s4(v4 + 108, v30 | (v18 & 65535u));
-    t20 = f163(v2, v21, v4 + 96ull, v3);
+    t20 = f164(v2, v21, v4 + 96ull, v3);
     if ((t20 & 255u) == 0) goto L3;
 L4:;
     s1(v0, 1u);
@@ -18006,7 +18074,7 @@ L1:;
     return;
 }
 
-static u64 f166(u64 v0, u64 v1)
+static u64 f167(u64 v0, u64 v1)
 {
     u32 v5 = 0, v6 = 0, t0;
     u64 v2 = 0, v3 = 0, v4 = 0;
@@ -18049,7 +18117,7 @@ L6:;
     TRAP();
 }
 
-static void f167(u64 v0, u64 v1, u64 v2, u32 v3)
+static void f168(u64 v0, u64 v1, u64 v2, u32 v3)
 {
     u64 v4 = 0;
     if ((v3 & 64u) == 0) goto L2;
@@ -18066,7 +18134,7 @@ L1:;
     return;
 }
 
-static void f168(u64 v0, u64 v1, u64 v2, u32 v3)
+static void f169(u64 v0, u64 v1, u64 v2, u32 v3)
 {
     u64 v4 = 0;
     if ((v3 & 64u) == 0) goto L2;
@@ -18083,7 +18151,7 @@ L1:;
     return;
 }
 
-APART u32 f169(u64 v0, u64 v1, u64 v2, u64 v3, u64 v4, u64 v5)
+APART u32 f170(u64 v0, u64 v1, u64 v2, u64 v3, u64 v4, u64 v5)
 {
     ROOM(frame, 44720);
     u32 v13 = 0, v20 = 0, v21 = 0, v22 = 0, v23 = 0, v24 = 0, v25 = 0, v26 = 0, v27 = 0, v29 = 0, v30 = 0, v31 = 0, v32
@@ -18140,7 +18208,7 @@ APART u32 f169(u64 v0, u64 v1, u64 v2, u64 v3, u64 v4, u64 v5)
     s8(v6 + 38360, 0ull);
     s8(v6 + 38352, 0ull);
     s8(v6 + 38344, 0ull);
-    f149(v6 + 38344ull, v6 + 72ull);
+    f150(v6 + 38344ull, v6 + 72ull);
     v7 = l8(v6 + 38348);
     if (l1(v6 + 38344)) goto L2;
     v8 = 17179869184ull;
@@ -18180,7 +18248,7 @@ L13:;
     if ((l1(v1 + 1ull) & 255u) != 114u) goto L9;
     if ((l1(v1 + 2ull) & 255u) != 101u) goto L9;
     if ((l1(v1 + 3ull) & 255u) != 100u) goto L9;
-    t0 = f77(v1, 7ull, A(data + 14));
+    t0 = f78(v1, 7ull, A(data + 14));
     if (t0 == 0) goto L9;
     v8 = 21474836480ull;
     v3 = v0 - v15;
@@ -18287,7 +18355,7 @@ L7:;
     s8(v6 + 38360, 0ull);
     s8(v6 + 38352, 0ull);
     s8(v6 + 38344, 0ull);
-    f149(v6 + 38344ull, v6 + 72ull);
+    f150(v6 + 38344ull, v6 + 72ull);
     v7 = l8(v6 + 38348);
     if (l1(v6 + 38344)) goto L2;
     v16 = 17179869184ull;
@@ -18331,7 +18399,7 @@ L44:;
     if ((l1(v1 + 1ull) & 255u) != 97u) goto L3;
     if ((l1(v1 + 2ull) & 255u) != 115u) goto L3;
     if ((l1(v1 + 3ull) & 255u) != 115u) goto L3;
-    t1 = f77(v1, 7ull, A(data + 27));
+    t1 = f78(v1, 7ull, A(data + 27));
     if (t1 == 0) goto L3;
     v16 = 21474836480ull;
     if (v3 == 0) goto L3;
@@ -18383,7 +18451,7 @@ L43:;
     if ((l1(v1 + 1ull) & 255u) != 117u) goto L3;
     if ((l1(v1 + 2ull) & 255u) != 100u) goto L3;
     if ((l1(v1 + 3ull) & 255u) != 103u) goto L3;
-    t2 = f77(v1, 6ull, A(data + 21));
+    t2 = f78(v1, 6ull, A(data + 21));
     if (t2 == 0) goto L3;
     v16 = 21474836480ull;
     if (v3 == 0) goto L3;
@@ -18430,13 +18498,13 @@ L64:;
     if (v1 > 4294967295ull) goto L3;
     v13 = 1u;
 L42:;
-    f150(v6 + 36296ull, v6 + 72ull, A(data + 0), 0xFFFFFFFFu);
+    f151(v6 + 36296ull, v6 + 72ull, A(data + 0), 0xFFFFFFFFu);
     v2 = l8(v6 + 36300);
     if (l1(v6 + 36296) == 0) goto L65;
     v7 = v2;
     goto L2;
 L65:;
-    f150(v6 + 36296ull, v6 + 72ull, A(data + 7), 65535u);
+    f151(v6 + 36296ull, v6 + 72ull, A(data + 7), 65535u);
     v3 = l8(v6 + 36300);
     if (l1(v6 + 36296) == 0) goto L66;
     v7 = v3;
@@ -18579,7 +18647,7 @@ L66:;
     s8(v6 + 38360, 0ull);
     s8(v6 + 38352, 0ull);
     s8(v6 + 38344, 0ull);
-    f149(v6 + 38344ull, v6 + 72ull);
+    f150(v6 + 38344ull, v6 + 72ull);
     v7 = l8(v6 + 38348);
     if (l1(v6 + 38344)) goto L2;
     v16 = v7 >> 32;
@@ -18613,9 +18681,9 @@ L71:;
     if ((l1(v0 + 1ull) & 255u) != 110u) goto L68;
     if ((l1(v0 + 2ull) & 255u) != 105u) goto L68;
     if ((l1(v0 + 3ull) & 255u) != 116u) goto L68;
-    t3 = f77(v0, 4ull, A(data + 34));
+    t3 = f78(v0, 4ull, A(data + 34));
     if (t3 == 0) goto L68;
-    f155(v6 + 64ull, v6 + 29560ull, v0 + v3, v7 - v3);
+    f156(v6 + 64ull, v6 + 29560ull, v0 + v3, v7 - v3);
     if (l1(v6 + 64) == 0) goto L67;
     v7 = (((u64)l1(v6 + 65)) << 32) | v16;
     goto L2;
@@ -18647,7 +18715,7 @@ L76:;
     s4(v6 + 25376, 0u);
     s2(v6 + 25380, 0u);
     fill(v6 + 32944ull, 0u, 776ull);
-    f149(v6 + 34488ull, v6 + 72ull);
+    f150(v6 + 34488ull, v6 + 72ull);
     v7 = l8(v6 + 34492);
     if (l1(v6 + 34488)) goto L2;
     v14 = l8(v6 + 34504);
@@ -18707,7 +18775,7 @@ L90:;
     if (v1 != 0ull) goto L89;
 L88:;
     fill(v6 + 38344ull, 0u, 784ull);
-    f84(v6 + 38344ull, v6 + 29560ull, l8(v6 + 30328));
+    f85(v6 + 38344ull, v6 + 29560ull, l8(v6 + 30328));
     if (l1(v6 + 38344)) goto L91;
     v24 = 1u;
     if ((v25 & 1u) == 0) goto L92;
@@ -18733,9 +18801,9 @@ L86:;
     if ((l1(v8 + 1ull) & 255u) != 110u) goto L79;
     if ((l1(v8 + 2ull) & 255u) != 105u) goto L79;
     if ((l1(v8 + 3ull) & 255u) != 116u) goto L79;
-    t5 = f77(v8, 4ull, A(data + 34));
+    t5 = f78(v8, 4ull, A(data + 34));
     if (t5 == 0) goto L79;
-    f155(v6 + 56ull, v6 + 29560ull, v0, v3 - v1);
+    f156(v6 + 56ull, v6 + 29560ull, v0, v3 - v1);
     if (l1(v6 + 56)) goto L93;
     v24 = 0u;
     s2(v6 + 25380, 0u);
@@ -18798,7 +18866,7 @@ L77:;
     fill(v6 + 31104ull, 0u, 1032ull);
     fill(v6 + 29560ull, 0u, 1544ull);
     fill(v6 + 28776ull, 0u, 784ull);
-    f84(v6 + 28776ull, v1, l8(v6 + 32936));
+    f85(v6 + 28776ull, v1, l8(v6 + 32936));
     if (l1(v6 + 28776)) goto L6;
     v21 = l4(v6 + 32148);
     v20 = l4(v6 + 32144);
@@ -18808,7 +18876,7 @@ L77:;
     fill(v6 + 32944ull, 0u, 1544ull);
     v1 = l8(v6 + 36288);
     fill(v6 + 38344ull, 0u, 1032ull);
-    f86(v6 + 38344ull);
+    f87(v6 + 38344ull);
     if (v1 == 0) goto L94;
     v3 = l8(v6 + 39368);
     if (v1 != 1ull) goto L96;
@@ -18959,7 +19027,7 @@ L100:;
     s8(v6 + 25336, 0ull);
     s8(v6 + 25344, 0ull);
     s8(v6 + 25352, 0ull);
-    f165(v6 + 112ull, v6 + 72ull, v6 + 9920ull);
+    f166(v6 + 112ull, v6 + 72ull, v6 + 9920ull);
     if (l1(v6 + 112)) goto L5;
     v28 = l8(v6 + 25176);
     v2 = l8(v6 + 25184);
@@ -18985,7 +19053,7 @@ L101:;
     s8(v6 + 38360, 0ull);
     s8(v6 + 38352, 0ull);
     s8(v6 + 38344, 0ull);
-    t6 = f166(v5, v6 + 38344ull);
+    t6 = f167(v5, v6 + 38344ull);
     v5 = t6;
     v2 = 40ull - v5;
     if ((v28 - v7) < v2) goto L4;
@@ -19023,13 +19091,13 @@ L107:;
     v17 = v17 + 0xFFFFFFFFFFFFFFFFull;
     if (v13) goto L108;
     if (((v5 ^ 127ull) | v7) == 0) goto L108;
-    f167(v6 + 32ull, v19, v18, 127u - ((u32)v5));
+    f168(v6 + 32ull, v19, v18, 127u - ((u32)v5));
     v2 = l8(v6 + 40);
     v1 = l8(v6 + 32);
     v0 = v5 + 1ull;
     v14 = v7 + ((u64)(u32)(v0 == 0));
     if ((v0 | v14) == 0) goto L110;
-    f168(v6 + 16ull, v19, v18, (u32)v0);
+    f169(v6 + 16ull, v19, v18, (u32)v0);
     v10 = 10ull + 0xFFFFFFFFFFFFFFFFull;
     v12 = 0ull - ((u64)(u32)(10ull == 0));
     v5 = l8(v6 + 24);
@@ -19058,7 +19126,7 @@ L109:;
     v0 = (v2 << 1) | (v1 >> 63);
     v1 = v3 | (v1 << 1);
 L108:;
-    f61(v6, v1, v6, 10ull, 0ull);
+    f62(v6, v1, v6, 10ull, 0ull);
     s1((v6 + 38344ull) + v17, ((u32)(v19 - l8(v6))) | 48u);
     if (v18 > 9ull) goto L107;
 L106:;
@@ -19123,7 +19191,7 @@ L119:;
     s8(v6 + 38360, 0ull);
     s8(v6 + 38352, 0ull);
     s8(v6 + 38344, 0ull);
-    t8 = f166(v2, v6 + 38344ull);
+    t8 = f167(v2, v6 + 38344ull);
     v2 = t8;
     v1 = 40ull - v2;
     if ((v28 - v0) < v1) goto L4;
@@ -19180,13 +19248,13 @@ static u32 w_mscp_run_script_at(u64 v0, u64 v1, u64 v2, u64 v3, u64 v4, u64 v5)
     f50();
     TRAP();
 L1:;
-    t1 = f169(v0, v1, v2, v3, v4, v5);
+    t1 = f170(v0, v1, v2, v3, v4, v5);
     v6 = t1;
     f52();
     return v6;
 }
 
-APART u32 f170(u64 v0, u64 v1, u64 v2, u64 v3)
+APART u32 f171(u64 v0, u64 v1, u64 v2, u64 v3)
 {
     ROOM(frame, 7344);
     u32 v5 = 0;
@@ -19198,7 +19266,7 @@ APART u32 f170(u64 v0, u64 v1, u64 v2, u64 v3)
     goto L2;
 L3:;
     v0 = l8(v0);
-    f123(v4, v0, l1(v0 + 5712ull));
+    f124(v4, v0, l1(v0 + 5712ull));
     copy(v4 + 3672ull, v4, 3672ull);
     v0 = l8(v4 + 7336);
     if (v2 >= v0) goto L4;
@@ -19223,13 +19291,13 @@ static u32 w_mscp_save_at(u64 v0, u64 v1, u64 v2, u64 v3)
     f50();
     TRAP();
 L1:;
-    t1 = f170(v0, v1, v2, v3);
+    t1 = f171(v0, v1, v2, v3);
     v4 = t1;
     f52();
     return v4;
 }
 
-static void f171(void)
+static void f172(void)
 {
     goto L1;
 L1:;
@@ -19244,12 +19312,12 @@ static u64 w_mscp_save_size(void)
     f50();
     TRAP();
 L1:;
-    f171();
+    f172();
     f52();
     return 3664ull;
 }
 
-static u32 f172(u64 v0, u32 v1, u64 v2, u64 v3, u64 v4)
+static u32 f173(u64 v0, u32 v1, u64 v2, u64 v3, u64 v4)
 {
     ROOM(frame, 32);
     u32 v6 = 0, v7 = 0;
@@ -19272,7 +19340,7 @@ L4:;
 L6:;
     v6 = 1u;
 L5:;
-    f134(v5 + 8ull, l8(v0), v6, v2 + ((v2 == 0) ? 4096ull : 0ull), v3);
+    f135(v5 + 8ull, l8(v0), v6, v2 + ((v2 == 0) ? 4096ull : 0ull), v3);
     if (l1(v5 + 8)) goto L7;
     v7 = l4(v5 + 16);
     if (l1(v5 + 12)) goto L2;
@@ -19306,13 +19374,13 @@ static u32 w_mscp_send_at(u64 v0, u32 v1, u64 v2, u64 v3, u64 v4)
     f50();
     TRAP();
 L1:;
-    t1 = f172(v0, v1, v2, v3, v4);
+    t1 = f173(v0, v1, v2, v3, v4);
     v1 = t1;
     f52();
     return v1;
 }
 
-static u32 f173(u64 v0, u64 v1, u64 v2, u32 v3, u32 v4)
+static u32 f174(u64 v0, u64 v1, u64 v2, u32 v3, u32 v4)
 {
     ROOM(frame, 48);
     u32 v6 = 0;
@@ -19347,7 +19415,7 @@ L3:;
     s8(v5 + 24, 0ull);
     s8(v5 + 16, 0ull);
     s8(v5 + 8, 0ull);
-    t0 = f166((u64)v3, v5 + 8ull);
+    t0 = f167((u64)v3, v5 + 8ull);
     v2 = t0;
     v1 = 40ull - v2;
     if ((l8(v0 + 8ull) - v8) < v1) goto L2;
@@ -19373,7 +19441,7 @@ L6:;
     s8(v5 + 24, 0ull);
     s8(v5 + 16, 0ull);
     s8(v5 + 8, 0ull);
-    t1 = f166(((u64)v4) & 65535ull, v5 + 8ull);
+    t1 = f167(((u64)v4) & 65535ull, v5 + 8ull);
     v2 = t1;
     v6 = 1u;
     v7 = 40ull - v2;
@@ -19388,7 +19456,7 @@ L2:;
     TRAP();
 }
 
-static u32 f174(u64 v0, u64 v1, u64 v2, u32 v3, u64 v4, u64 v5, u32 v6)
+static u32 f175(u64 v0, u64 v1, u64 v2, u32 v3, u64 v4, u64 v5, u32 v6)
 {
     ROOM(frame, 48);
     u32 v8 = 0;
@@ -19421,7 +19489,7 @@ L3:;
     s8(v7 + 24, 0ull);
     s8(v7 + 16, 0ull);
     s8(v7 + 8, 0ull);
-    t0 = f166((u64)v3, v7 + 8ull);
+    t0 = f167((u64)v3, v7 + 8ull);
     v2 = t0;
     v1 = 40ull - v2;
     if ((l8(v0 + 8ull) - v10) < v1) goto L2;
@@ -19454,7 +19522,7 @@ L6:;
     s8(v7 + 24, 0ull);
     s8(v7 + 16, 0ull);
     s8(v7 + 8, 0ull);
-    t1 = f166((u64)v6, v7 + 8ull);
+    t1 = f167((u64)v6, v7 + 8ull);
     v2 = t1;
     v8 = 1u;
     v9 = 40ull - v2;
@@ -19469,7 +19537,7 @@ L2:;
     TRAP();
 }
 
-static u32 f175(u64 v0, u64 v1, u32 v2)
+static u32 f176(u64 v0, u64 v1, u32 v2)
 {
     ROOM(frame, 48);
     u32 v4 = 0;
@@ -19492,7 +19560,7 @@ L3:;
     s8(v3 + 24, 0ull);
     s8(v3 + 16, 0ull);
     s8(v3 + 8, 0ull);
-    t0 = f166(v1, v3 + 8ull);
+    t0 = f167(v1, v3 + 8ull);
     v5 = t0;
     v1 = 40ull - v5;
     if ((l8(v0 + 8ull) - v6) < v1) goto L2;
@@ -19519,7 +19587,7 @@ L6:;
     s8(v3 + 24, 0ull);
     s8(v3 + 16, 0ull);
     s8(v3 + 8, 0ull);
-    t1 = f166((u64)v2, v3 + 8ull);
+    t1 = f167((u64)v2, v3 + 8ull);
     v5 = t1;
     v4 = 1u;
     v1 = 40ull - v5;
@@ -19534,7 +19602,7 @@ L2:;
     TRAP();
 }
 
-APART u32 f176(u64 v0, u64 v1, u64 v2, u64 v3, u64 v4)
+APART u32 f177(u64 v0, u64 v1, u64 v2, u64 v3, u64 v4)
 {
     ROOM(frame, 288);
     u32 v6 = 0, v9 = 0, v10 = 0, v11 = 0, v12 = 0, v19 = 0, v20 = 0, t0, t4, t6, t7, t9, t17, t18, t21;
@@ -19568,7 +19636,7 @@ L10:;
     if ((((v9 & 0xFFFFFFDFu) + 0xFFFFFFBFu) & 255u) < 6u) goto L9;
     goto L7;
 L8:;
-    f156(v5 + 184ull, v0, v1);
+    f157(v5 + 184ull, v0, v1);
     if (l1(v5 + 184)) goto L7;
     if (v1 >= 24ull) goto L11;
     v6 = 0xFFFFFFFFu;
@@ -19589,12 +19657,12 @@ L11:;
     s8(v5 + 224, 0ull);
     s8(v5 + 232, 0ull);
     if ((i32)((u32)(i32)(i8)l1(v5 + 96)) < (i32)0u) goto L12;
-    f82(v5 + 264ull, v5 + 88ull, v0);
+    f83(v5 + 264ull, v5 + 88ull, v0);
     if (l1(v5 + 264) == 0) goto L6;
     v6 = l1(v5 + 265) ? 0xFFFFFFFEu : 0xFFFFFFFFu;
     goto L7;
 L12:;
-    f73(v5 + 184ull, v5 + 88ull, v0);
+    f74(v5 + 184ull, v5 + 88ull, v0);
     if (l1(v5 + 184) == 0) goto L5;
     v6 = (l1(v5 + 185) == 1u) ? 0xFFFFFFFDu : 0xFFFFFFFCu;
 L7:;
@@ -19605,7 +19673,7 @@ L6:;
     v11 = l4(v5 + 280);
     v9 = l2(v5 + 276);
     v6 = l2(v5 + 278);
-    t0 = f173(v5 + 160ull, A(data + 511), 8ull, l4(v5 + 268), l4(v5 + 272));
+    t0 = f174(v5 + 160ull, A(data + 511), 8ull, l4(v5 + 268), l4(v5 + 272));
     if (t0 & 255u) goto L2;
     v0 = l8(v5 + 176);
     if (l8(v5 + 168) == v0) goto L2;
@@ -19644,7 +19712,7 @@ L22:;
     s8(v5 + 200, 0ull);
     s8(v5 + 192, 0ull);
     s8(v5 + 184, 0ull);
-    t1 = f166((u64)v11, v5 + 184ull);
+    t1 = f167((u64)v11, v5 + 184ull);
     v1 = t1;
     v0 = 40ull - v1;
     if ((v13 - v14) < v0) goto L2;
@@ -19675,7 +19743,7 @@ L25:;
     s8(v5 + 200, 0ull);
     s8(v5 + 192, 0ull);
     s8(v5 + 184, 0ull);
-    t2 = f166((u64)v11, v5 + 184ull);
+    t2 = f167((u64)v11, v5 + 184ull);
     v1 = t2;
     v0 = 40ull - v1;
     if ((v13 - v14) < v0) goto L2;
@@ -19728,7 +19796,7 @@ L29:;
     s8(v5 + 200, 0ull);
     s8(v5 + 192, 0ull);
     s8(v5 + 184, 0ull);
-    t3 = f166(v15, v5 + 184ull);
+    t3 = f167(v15, v5 + 184ull);
     v1 = t3;
     v0 = 40ull - v1;
     if ((v13 - v14) < v0) goto L2;
@@ -19818,7 +19886,7 @@ L36:;
     copy(v1, v14, v13);
 L35:;
     s8(v5 + 176, v16);
-    t4 = f174(v5 + 160ull, A(data + 643), 7ull, v11, A(data + 456), 7ull, v10);
+    t4 = f175(v5 + 160ull, A(data + 643), 7ull, v11, A(data + 456), 7ull, v10);
     if ((t4 & 255u) == 0) goto L3;
     goto L2;
 L13:;
@@ -19861,7 +19929,7 @@ L42:;
     s8(v5 + 200, 0ull);
     s8(v5 + 192, 0ull);
     s8(v5 + 184, 0ull);
-    t5 = f166(v13, v5 + 184ull);
+    t5 = f167(v13, v5 + 184ull);
     v1 = t5;
     v13 = 40ull - v1;
     if ((l8(v5 + 168) - v0) < v13) goto L2;
@@ -19880,7 +19948,7 @@ L5:;
     v11 = l1(v5 + 208);
     v6 = l4(v5 + 200);
     v9 = l2(v5 + 198);
-    t6 = f173(v5 + 160ull, A(data + 421), 4ull, l4(v5 + 192), l2(v5 + 196));
+    t6 = f174(v5 + 160ull, A(data + 421), 4ull, l4(v5 + 192), l2(v5 + 196));
     if (t6 & 255u) goto L2;
     v14 = l8(v5 + 168);
     v0 = l8(v5 + 176);
@@ -19941,7 +20009,7 @@ L55:;
     s8(v5 + 200, 0ull);
     s8(v5 + 192, 0ull);
     s8(v5 + 184, 0ull);
-    t8 = f166((u64)v10, v5 + 184ull);
+    t8 = f167((u64)v10, v5 + 184ull);
     v1 = t8;
     v13 = 40ull - v1;
     if ((l8(v5 + 168) - v0) < v13) goto L2;
@@ -19951,7 +20019,7 @@ L57:;
     s8(v5 + 176, v13 + v0);
     goto L3;
 L53:;
-    t9 = f175(v5 + 160ull, v1, v12);
+    t9 = f176(v5 + 160ull, v1, v12);
     if (t9 & 255u) goto L2;
     v1 = l8(v5 + 168);
     v0 = l8(v5 + 176);
@@ -19973,7 +20041,7 @@ L58:;
     s8(v5 + 200, 0ull);
     s8(v5 + 192, 0ull);
     s8(v5 + 184, 0ull);
-    t10 = f166((u64)(v20 & 65535u), v5 + 184ull);
+    t10 = f167((u64)(v20 & 65535u), v5 + 184ull);
     t11 = v1 - v13;
     v1 = t10;
     v0 = 40ull - v1;
@@ -20003,7 +20071,7 @@ L61:;
     s8(v5 + 200, 0ull);
     s8(v5 + 192, 0ull);
     s8(v5 + 184, 0ull);
-    t12 = f166(v13, v5 + 184ull);
+    t12 = f167(v13, v5 + 184ull);
     v13 = t12;
     v0 = 40ull - v13;
     if ((v14 - v1) < v0) goto L2;
@@ -20029,7 +20097,7 @@ L64:;
     s8(v5 + 200, 0ull);
     s8(v5 + 192, 0ull);
     s8(v5 + 184, 0ull);
-    t13 = f166((u64)(v19 & 65535u), v5 + 184ull);
+    t13 = f167((u64)(v19 & 65535u), v5 + 184ull);
     t14 = v13 - v1;
     v13 = t13;
     v0 = 40ull - v13;
@@ -20058,7 +20126,7 @@ L67:;
     s8(v5 + 200, 0ull);
     s8(v5 + 192, 0ull);
     s8(v5 + 184, 0ull);
-    t15 = f166(v13, v5 + 184ull);
+    t15 = f167(v13, v5 + 184ull);
     v13 = t15;
     v0 = 40ull - v13;
     if ((v15 - v17) < v0) goto L2;
@@ -20080,7 +20148,7 @@ L70:;
     s8(v5 + 200, 0ull);
     s8(v5 + 192, 0ull);
     s8(v5 + 184, 0ull);
-    t16 = f166(v1, v5 + 184ull);
+    t16 = f167(v1, v5 + 184ull);
     v0 = t16;
     v1 = 40ull - v0;
     if ((l8(v5 + 168) - v13) < v1) goto L2;
@@ -20090,9 +20158,9 @@ L72:;
     s8(v5 + 176, v1 + v13);
     goto L3;
 L51:;
-    t17 = f175(v5 + 160ull, v1, v12);
+    t17 = f176(v5 + 160ull, v1, v12);
     if (t17 & 255u) goto L2;
-    t18 = f174(v5 + 160ull, A(data + 772), 6ull, v20, A(data + 778), 8ull, v19);
+    t18 = f175(v5 + 160ull, A(data + 772), 6ull, v20, A(data + 778), 8ull, v19);
     if ((t18 & 255u) == 0) goto L3;
     goto L2;
 L50:;
@@ -20115,7 +20183,7 @@ L73:;
     s8(v5 + 200, 0ull);
     s8(v5 + 192, 0ull);
     s8(v5 + 184, 0ull);
-    t19 = f166((u64)v10, v5 + 184ull);
+    t19 = f167((u64)v10, v5 + 184ull);
     t20 = v1 - v13;
     v1 = t19;
     v0 = 40ull - v1;
@@ -20126,7 +20194,7 @@ L75:;
     s8(v5 + 176, v0 + v13);
     goto L3;
 L49:;
-    t21 = f174(v5 + 160ull, A(data + 716), 4ull, v10, A(data + 720), 8ull, (u32)v1);
+    t21 = f175(v5 + 160ull, A(data + 716), 4ull, v10, A(data + 720), 8ull, (u32)v1);
     if ((t21 & 255u) == 0) goto L3;
     goto L2;
     TRAP();
@@ -20185,13 +20253,13 @@ static u32 w_mscp_show_packet_at(u64 v0, u64 v1, u64 v2, u64 v3, u64 v4)
     f50();
     TRAP();
 L1:;
-    t1 = f176(v0, v1, v2, v3, v4);
+    t1 = f177(v0, v1, v2, v3, v4);
     v5 = t1;
     f52();
     return v5;
 }
 
-static void f177(void)
+static void f178(void)
 {
     goto L1;
 L1:;
@@ -20206,12 +20274,12 @@ static u64 w_mscp_size(void)
     f50();
     TRAP();
 L1:;
-    f177();
+    f178();
     f52();
     return 15248ull;
 }
 
-static u32 f178(u64 v0, u32 v1, u64 v2)
+static u32 f179(u64 v0, u32 v1, u64 v2)
 {
     ROOM(frame, 80);
     u32 v5 = 0, v11 = 0, v12 = 0, v13 = 0, v14 = 0, v15 = 0, v16 = 0, v17 = 0, v18 = 0, v19 = 0, v22 = 0, v23 = 0, v24
@@ -20243,7 +20311,7 @@ L11:;
     v1 = 0u;
     goto L1;
 L12:;
-    t0 = f57(v6 + 816ull, v6 + 4648ull, l8(v6 + 5672ull), l4(v6 + 812ull), v6 + 5712ull, v6 + 5720ull, v6 + 7528ull);
+    t0 = f58(v6 + 816ull, v6 + 4648ull, l8(v6 + 5672ull), l4(v6 + 812ull), v6 + 5712ull, v6 + 5720ull, v6 + 7528ull);
     v7 = t0;
 L9:;
     v8 = v6 + 816ull;
@@ -20269,7 +20337,7 @@ L9:;
     if (v24 != 1u) goto L14;
     v0 = l8(v3 + 32ull) + 1ull;
     v25 = v13 + v15;
-    f61(v4, v0, (u64)(u32)(v0 == 0), (u64)v25, 0ull);
+    f62(v4, v0, (u64)(u32)(v0 == 0), (u64)v25, 0ull);
     v0 = l8(v4 + 8);
     v23 = (u32)v0;
     if (v13) goto L16;
@@ -20376,7 +20444,7 @@ L5:;
     v32 = 0u;
     goto L3;
 L4:;
-    f62(v4 + 48ull, v4 + 28ull, v1);
+    f63(v4 + 48ull, v4 + 28ull, v1);
     v15 = l4(v4 + 72);
     v28 = l4(v4 + 68);
     v16 = l4(v4 + 64);
@@ -20513,10 +20581,10 @@ L45:;
     s8(v0, l8(v0) | (1ull << (v20 & 63)));
     goto L48;
 L49:;
-    f64(v8, v7);
+    f65(v8, v7);
     v0 = v6 + 7520ull;
     s8(v0, l8(v0) | (1ull << (v20 & 63)));
-    f65(v6 + 5720ull, v7);
+    f66(v6 + 5720ull, v7);
     v7 = 0ull;
 L48:;
     v5 = v14 ^ 1u;
@@ -20591,13 +20659,13 @@ static u32 w_mscp_step(u64 v0, u32 v1, u64 v2)
     f50();
     TRAP();
 L1:;
-    t1 = f178(v0, v1, v2);
+    t1 = f179(v0, v1, v2);
     v1 = t1;
     f52();
     return v1;
 }
 
-static void f179(u64 v0, u64 v1, u32 v2)
+static void f180(u64 v0, u64 v1, u32 v2)
 {
     ROOM(frame, 64);
     u32 v4 = 0, v5 = 0, v6 = 0, v8 = 0, v9 = 0, v10 = 0, v11 = 0, v12 = 0, v14 = 0, v15 = 0, v16 = 0, v17 = 0, v18 = 0,
@@ -20612,10 +20680,10 @@ static void f179(u64 v0, u64 v1, u32 v2)
     s8(v3 + 16, 0ull);
     s8(v3 + 8, 0ull);
     if (v2 & 255u) goto L4;
-    f94(v3 + 8ull, v1 + 9072ull);
+    f95(v3 + 8ull, v1 + 9072ull);
     goto L3;
 L4:;
-    f94(v3 + 8ull, v1 + 12160ull);
+    f95(v3 + 8ull, v1 + 12160ull);
 L3:;
     if (l1(v3 + 8) != 1u) goto L5;
     v4 = l4(v3 + 56);
@@ -20733,7 +20801,7 @@ L1:;
     return;
 }
 
-static u32 f180(u64 v0, u32 v1, u64 v2)
+static u32 f181(u64 v0, u32 v1, u64 v2)
 {
     ROOM(frame, 128);
     u32 v4 = 0, v5 = 0;
@@ -20761,7 +20829,7 @@ L3:;
 L5:;
     v5 = 1u;
 L4:;
-    f179(v3 + 8ull, l8(v0), v5);
+    f180(v3 + 8ull, l8(v0), v5);
     v4 = 0u;
     if (l1(v3 + 8) != 1u) goto L2;
     v0 = l8(v3 + 64);
@@ -20790,13 +20858,13 @@ static u32 w_mscp_take(u64 v0, u32 v1, u64 v2)
     f50();
     TRAP();
 L1:;
-    t1 = f180(v0, v1, v2);
+    t1 = f181(v0, v1, v2);
     v1 = t1;
     f52();
     return v1;
 }
 
-static u64 f181(u64 v0, u32 v1)
+static u64 f182(u64 v0, u32 v1)
 {
     u64 v2 = 0, v3 = 0;
     if (l8(v0 + 24ull) == 0x4D5343504D414445ull) goto L2;
@@ -20827,13 +20895,13 @@ static u64 w_mscp_untaken(u64 v0, u32 v1)
     f50();
     TRAP();
 L1:;
-    t1 = f181(v0, v1);
+    t1 = f182(v0, v1);
     v0 = t1;
     f52();
     return v0;
 }
 
-static void f182(void)
+static void f183(void)
 {
     goto L1;
 L1:;
@@ -20848,12 +20916,12 @@ static u32 w_mscp_version(void)
     f50();
     TRAP();
 L1:;
-    f182();
+    f183();
     f52();
     return 1280u;
 }
 
-static u64 f183(u64 v0, u32 v1)
+static u64 f184(u64 v0, u32 v1)
 {
     u64 v2 = 0, v3 = 0;
     if (l8(v0 + 24ull) == 0x4D5343504D414445ull) goto L2;
@@ -20884,13 +20952,13 @@ static u64 w_mscp_waiting(u64 v0, u32 v1)
     f50();
     TRAP();
 L1:;
-    t1 = f183(v0, v1);
+    t1 = f184(v0, v1);
     v0 = t1;
     f52();
     return v0;
 }
 
-APART u32 f184(u64 v0, u32 v1, u32 v2, u64 v3, u64 v4)
+APART u32 f185(u64 v0, u32 v1, u32 v2, u64 v3, u64 v4)
 {
     ROOM(frame, 784);
     u32 v7 = 0, v8 = 0, v16 = 0;
@@ -21019,7 +21087,7 @@ static u32 w_mscp_why_at(u64 v0, u32 v1, u32 v2, u64 v3, u64 v4)
     f50();
     TRAP();
 L1:;
-    t1 = f184(v0, v1, v2, v3, v4);
+    t1 = f185(v0, v1, v2, v3, v4);
     v2 = t1;
     f52();
     return v2;
