@@ -1,4 +1,4 @@
-/* machine.h: a machine for ports.c and guests.c: memory, four units of an RQDX3, and a host that talks to their port. */
+/* machine.h: a machine for those that try a port: memory, four units of an RQDX3, and a host that talks to their port. */
 #ifndef MACHINE_H
 #define MACHINE_H
 #include "trying.h"
@@ -7,6 +7,7 @@
 enum { MEMORY = 1 << 16, UNITS = 4, BLOCKS = 64, HOST_CREDITS = 16, MOST_ACTIONS = 100000 };
 
 static struct {
+    const struct mscp_hardware *hardware;
     struct mscp_port *port;
     MSCP_ALIGNED uint64_t rooms[2][(MSCP_HEAD + MSCP_PORT_SIZE) / sizeof(uint64_t)]; /* the port lies in one of them */
     bool moves; /* before each action the port goes to the other room, as to a file and back */
@@ -19,6 +20,8 @@ static struct {
     uint16_t vector;
     uint32_t transfers; /* blocks that were moved */
 } machine;
+
+static uint32_t policy = MSCP_OLDEST; /* of the machine that is built */
 
 static const struct mscp_hardware RQDX3 = {.bus = MSCP_BUS_Q, .model = 19, .software = 3, .version = 1};
 static const struct mscp_hardware UDA50 = {.bus = MSCP_BUS_UNI, .model = 6, .software = 3, .version = 1};
@@ -41,6 +44,7 @@ static inline void build(const struct mscp_hardware *hardware)
     };
     struct mscp_unit units[UNITS];
     memset(&machine, 0, sizeof machine);
+    machine.hardware = hardware;
     machine.missing = MEMORY;
     for (uint16_t u = 0; u < UNITS; u++) {
         units[u] = rd54(u);
@@ -49,7 +53,7 @@ static inline void build(const struct mscp_hardware *hardware)
                 machine.disks[u][n][k] = (uint8_t)(k + n + u);
     }
     machine.port = mscp_port_in_memory(machine.rooms[0], sizeof machine.rooms[0]);
-    is("init", mscp_port_init(machine.port, &limits, units, UNITS, MSCP_OLDEST, hardware, HOST_CREDITS), MSCP_DONE);
+    is("init", mscp_port_init(machine.port, &limits, units, UNITS, policy, hardware, HOST_CREDITS), MSCP_DONE);
     is("a volume", mscp_port_volume_came(machine.port, 0, 0), MSCP_DONE);
     is("another", mscp_port_volume_came(machine.port, 2, 0), MSCP_DONE);
 }
@@ -211,10 +215,10 @@ static inline void initialise(uint32_t base, unsigned responses, unsigned comman
     host.responses = 1u << responses;
     host.commands = 1u << commands;
     is("IP is written", mscp_port_write_ip(machine.port), MSCP_DONE);
-    answer(0x0B40, first);
+    answer(machine.hardware->bus == MSCP_BUS_Q ? 0x0B40 : 0x0940, first);
     answer((uint16_t)(0x1000 | first >> 8), (uint16_t)base);
     answer((uint16_t)(0x2000 | (first & 0xFF)), (uint16_t)(base >> 16));
-    answer(0x4133, 1);
+    answer((uint16_t)(0x4000 | machine.hardware->model << 4 | machine.hardware->software), 1);
     is("SA once it is up", mscp_port_read_sa(machine.port), 0);
     for (uint32_t slot = 0; slot < host.responses; slot++)
         offer(slot);

@@ -27,8 +27,7 @@ pub use Rattle.byteorder.specs.Endian.{little_bytes}
 pub use Rattle.hex.specs.Hex.{encode_lower, lower_digits}
 unfoldable pub use Rattle.hex.specs.Hex.{encode_with}
 pub use Rattle.mscp_controller.proofs.Bridge.Following.{none_held, turns}
-pub use Rattle.mscp_controller.proofs.Bridge.Held.{figure_of_held, figures_held}
-unfoldable pub use Rattle.mscp_controller.proofs.Bridge.Held.{held_of}
+pub use Rattle.mscp_controller.proofs.Bridge.Held.{figure_of_held, figures_held, held_of}
 pub use Rattle.mscp_controller.proofs.Bridge.Holders.{holders_of_held, startable_unheld}
 pub use Rattle.mscp_controller.proofs.Bridge.Judging.{command_is}
 pub use Rattle.mscp_controller.proofs.Bridge.Legals.{by_serving, legal_more}
