@@ -45,12 +45,11 @@ pub use Rattle.mscp_packet.specs.declared.end.EndBody.{EndBody}
 pub use Rattle.mscp_queue.specs.Names.{name_on}
 pub use Rattle.mscp_queue.specs.declared.upcoming.Upcoming.{Upcoming}
 pub use Rattle.mscp_reader.proofs.Sound.{is_fault, is_read}
-pub use Rattle.mscp_reader.specs.Grammar.{HasGone, IsFault, Place, Reads, credits, credits_of, first_units, gone, limit, more_units, setting, unit_of, unit_or_go, with_unit}
-unfoldable pub use Rattle.mscp_reader.specs.Grammar.{after_line, next}
+pub use Rattle.mscp_reader.specs.Grammar.{HasGone, IsFault, Place, Reads}
+unfoldable pub use Rattle.mscp_reader.specs.Grammar.{after_line, credits, credits_of, first_units, gone, limit, more_units, next, setting, unit_of, unit_or_go, with_unit}
 unfoldable pub use Rattle.mscp_reader.specs.Lexical.{lines, message, number, said, status, words}
-pub use Rattle.mscp_reader.specs.Outcome.{lines_outcome}
-pub use Rattle.mscp_reader.specs.Requests.{second_request}
-unfoldable pub use Rattle.mscp_reader.specs.Requests.{asked, event_form, form_of, message_form, plain_form, request}
+unfoldable pub use Rattle.mscp_reader.specs.Outcome.{lines_outcome}
+unfoldable pub use Rattle.mscp_reader.specs.Requests.{asked, event_form, form_of, message_form, plain_form, request, second_request}
 pub use Rattle.mscp_reader.specs.declared.fault.Cause.{Cause}
 pub use Rattle.mscp_reader.specs.declared.fault.ScriptFault.{ScriptFault}
 pub use Rattle.mscp_sim.specs.Talks.{Said, Talk, account_at, accounts_at, figure_told, history}
