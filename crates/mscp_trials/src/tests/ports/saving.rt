@@ -55,9 +55,9 @@ const HEAD: [u8; 72] = [
     0, 0, 1,
 ];
 
-/// The volumes of units 0 and 1: one that is there and is news, changed once, and online; and none.
+/// The volumes of units 0 and 1: one that is there, changed once, and is online, so it is no news; and none.
 const VOLUMES: [u8; 26] = [
-    1, 0, 0, 1, 1, 0, 0, 0, 1, 1, 0, 0, 0, 0, 0, 0, 0, 0, 0, 0, 0, 0, 0, 0, 0, 0,
+    1, 0, 0, 0, 1, 0, 0, 0, 1, 1, 0, 0, 0, 0, 0, 0, 0, 0, 0, 0, 0, 0, 0, 0, 0, 0,
 ];
 
 /// What is kept of the READ: its number, address and count, no modifiers, no flags, and the volume that changed once.
