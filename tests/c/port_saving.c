@@ -56,63 +56,229 @@ static void goes_on(void)
     is("there were interrupts", stayed.interrupts > 3, 1);
 }
 
+/* ---- the bytes of one port, written by hand */
+
+enum { LENGTH = 280 + 20 + 48 + 34 * UNITS + 41 };
+
+/* Its head. */
+static const uint8_t HEAD[72] = {
+    /* "MSCP", version 1, and so many bytes */
+    0x4D, 0x53, 0x43, 0x50, 1, 0, 0, 0, LENGTH & 255, LENGTH >> 8, 0, 0,
+    /* the Q-bus, and model, software and hardware of an RQDX3 */
+    1, 19, 3, 1,
+    /* 15 credits beside one, of which 1 is untold; a slot of responses and two of commands were given back */
+    15, 1, 1, 2,
+    /* no slot is looked for, no command waits for a credit, and the ring of responses isn't full */
+    0, 0, 0,
+    /* no controller flags, 60 seconds, and 60 left */
+    0, 0, 60, 0, 60, 0,
+    /* the host's first two words */
+    0x00, 0x80, 0x84, 0x0E,
+    /* up; no word is written */
+    8, 0, 0, 0, 0, 0,
+    /* the base, and one slot in each ring */
+    1, 0x84, 0x0E, 0, 0, 1, 0, 0, 0, 1, 0, 0, 0,
+    /* a transfer: of which command and which block is the controller's */
+    13, 0, 0, 0, 0, 0, 0, 0, 0, 0, 0, 0, 0, 0, 0, 0, 0,
+    /* nothing goes out, and something is kept of one command */
+    0, 0, 1,
+};
+
+/* The volumes of units 0 and 1: one that is there, changed once, and is online, so it is no news; and none. */
+static const uint8_t VOLUMES[26] = {1, 0, 0, 0, 1, 0, 0, 0, 1, 1};
+
+/* What is kept of the READ: its number, address and count, no modifiers, no flags, and the volume that changed once. */
+static const uint8_t BUFFER[20] = {2, 0, 0, 0, 0, 4, 0, 0, 0, 8, 0, 0, 0, 0, 0, 0, 1, 0, 0, 0};
+
+static uint8_t bytes[LENGTH];
+
+/* A port that is to move the second block of READ 2, of four blocks from block 3 on to address 0x0400. */
+static void save_in_the_middle(void)
+{
+    struct mscp_action action = {0};
+    size_t length = 0;
+    build(&RQDX3);
+    initialise(0x0E84, 0, 0, 0);
+    send_command(0, 1, MSCP_ONLINE, 0, 0, 0);
+    expect(1, 0x89, 0);
+    send_command(0, 2, MSCP_READ, 2048, 3, 0x0400);
+    while (mscp_port_next(machine.port, &action) == MSCP_DONE && (action.kind != MSCP_ACTION_TRANSFER || action.block != 4))
+        tell(&action, perform(&action));
+    is("save", mscp_port_save(machine.port, bytes, sizeof bytes, &length), MSCP_DONE);
+    is("its length", (int64_t)length, LENGTH);
+}
+
+static void bytes_are_these(void)
+{
+    is("head", memcmp(bytes, HEAD, sizeof HEAD), 0);
+    is("volumes", memcmp(bytes + 72, VOLUMES, sizeof VOLUMES), 0);
+    is("kept of the READ", memcmp(bytes + 280, BUFFER, sizeof BUFFER), 0);
+    is("a controller", memcmp(bytes + 300, "MSCQ", 4), 0);
+}
+
+/* What comes of so many of the bytes: a port that is saved as they are, and to which what comes then does no harm; or a
+ * fault, and no port. */
+static int32_t restored(size_t length)
+{
+    static uint8_t again[MSCP_PORT_SAVED_MAX];
+    struct mscp_port *port = mscp_port_in_memory(machine.rooms[1], sizeof machine.rooms[1]);
+    struct mscp_action action;
+    size_t other = 0;
+    int32_t status = mscp_port_restore(port, bytes, length);
+    if (status != MSCP_DONE) {
+        is("no port", mscp_port_read_sa(port), MSCP_NOT_MADE);
+        return status;
+    }
+    is("save again", mscp_port_save(port, again, sizeof again, &other), MSCP_DONE);
+    is("the same bytes again", other == length && memcmp(again, bytes, length) == 0, 1);
+    bool is_done = mscp_port_next(port, &action) == MSCP_DONE && action.kind != MSCP_ACTION_READ;
+    is("it went", mscp_port_went(port, MSCP_OUTCOME_DONE, 0) == MSCP_DONE, is_done);
+    is("a tick", mscp_port_tick(port), MSCP_DONE);
+    return status;
+}
+
+/* These edits have this status, of which a row has three at most. A place of 0 is none. */
+static void edits(void)
+{
+    static const struct {
+        struct {
+            uint16_t place;
+            uint8_t byte;
+        } edits[3];
+        int32_t status;
+    } cases[] = {
+        /* a text of 49 bytes, 65 commands, and more of either than there are bytes */
+        {{{8, 14}}, MSCP_SAVED_LENGTH}, {{{70, 49}}, MSCP_SAVED_LENGTH}, {{{71, 65}}, MSCP_SAVED_LENGTH},
+        {{{71, 13}}, MSCP_SAVED_LENGTH}, {{{3, 0}}, MSCP_SAVED_MAGIC}, {{{4, 2}}, MSCP_SAVED_VERSION},
+        /* a controller that begins elsewhere, isn't one, or has 65 + 1 credits or another picker */
+        {{{71, 0}}, MSCP_SAVED_LENGTH}, {{{300, 0}}, MSCP_SAVED_MAGIC}, {{{312, 65}}, MSCP_SAVED_LIMITS},
+        {{{330, 2}}, MSCP_SAVED_PICKER},
+        /* a text of no bytes, of 11, 12, 64 and 65 */
+        {{{52, 5}}, MSCP_SAVED_SIZE}, {{{52, 5}, {58, 11}}, MSCP_SAVED_SIZE}, {{{52, 5}, {58, 12}}, MSCP_DONE},
+        {{{52, 5}, {58, 64}}, MSCP_DONE}, {{{52, 5}, {58, 65}}, MSCP_SAVED_SIZE},
+        /* 2 bytes of the area that are clear, 64, 1,024 and 1,088 */
+        {{{52, 2}, {54, 2}}, MSCP_SAVED_SIZE}, {{{52, 2}, {54, 64}}, MSCP_DONE}, {{{52, 2}, {55, 4}}, MSCP_DONE},
+        {{{52, 2}, {55, 4}, {54, 64}}, MSCP_SAVED_SIZE},
+        /* no bus, no flag, no stage, a word where there is none, no rings, no task, a text where nothing goes out, no flag */
+        {{{12, 3}}, MSCP_SAVED_FORM}, {{{20, 2}}, MSCP_SAVED_FORM}, {{{33, 10}}, MSCP_SAVED_FORM},
+        {{{34, 1}}, MSCP_SAVED_FORM}, {{{37, 1}}, MSCP_SAVED_FORM}, {{{44, 129}}, MSCP_SAVED_FORM},
+        {{{48, 0}}, MSCP_SAVED_FORM}, {{{52, 15}}, MSCP_SAVED_FORM}, {{{69, 3}}, MSCP_SAVED_FORM},
+        {{{94, 1}}, MSCP_SAVED_FORM},
+    };
+    for (size_t i = 0; i < COUNT(cases); i++) {
+        for (unsigned k = 0; k < 3 && cases[i].edits[k].place != 0; k++)
+            bytes[cases[i].edits[k].place] = cases[i].edits[k].byte;
+        is("an edit", restored(LENGTH), cases[i].status);
+        save_in_the_middle();
+    }
+    /* a transfer in hand says no connection, number, block, count of steps, unit or kind: these are the controller's */
+    for (size_t place = 53; place < 69; place++) {
+        bytes[place] = 1;
+        is("a transfer's block", restored(LENGTH), MSCP_SAVED_FORM);
+        bytes[place] = 0;
+    }
+    is("a byte too few", restored(LENGTH - 1), MSCP_SAVED_LENGTH);
+}
+
+/* If the controller has begun nothing, a transfer in hand moves nothing, and the block is begun again. */
+static void nothing_is_begun(void)
+{
+    struct mscp_action action;
+    bytes[343] = bytes[344] = 0;
+    is("restored", restored(LENGTH), MSCP_DONE);
+    machine.port = mscp_port_in_memory(machine.rooms[0], sizeof machine.rooms[0]);
+    is("restore", mscp_port_restore(machine.port, bytes, LENGTH), MSCP_DONE);
+    is("an action", mscp_port_next(machine.port, &action), MSCP_DONE);
+    is("that does nothing", action.kind, MSCP_ACTION_PAUSE);
+    tell(&action, MSCP_OUTCOME_DONE);
+    is("the next", mscp_port_next(machine.port, &action), MSCP_DONE);
+    is("is its block", action.kind == MSCP_ACTION_TRANSFER && action.block == 4, 1);
+}
+
+/* Each flipped bit. Any number may stand for model and versions, credits and slots, what the host has set, its words, what
+ * is kept of a command, and the identifiers of the controller and its four units: of 8 bytes, and 16 each. */
+static void flipped_bits(void)
+{
+    unsigned taken = 0;
+    for (size_t bit = 0; bit < 8 * LENGTH; bit++) {
+        bytes[bit / 8] ^= (uint8_t)(1u << bit % 8);
+        if (restored(LENGTH) == MSCP_DONE)
+            taken++;
+        bytes[bit / 8] ^= (uint8_t)(1u << bit % 8);
+    }
+    is("some are a port's", taken >= 24 + 32 + 48 + 32 + 160 + 64 + 4 * 128, 1);
+}
+
+/* ---- two connections */
+
+/* An ONLINE of unit 0 waits on the second connection, which only bytes can say, under the number of the host's READ: what
+ * the port keeps of the host's command is the host's alone. */
+static void other_connection(void)
+{
+    enum { CONTROLLER = 280, RECORD = CONTROLLER + 48 + 34 * UNITS, ALL = RECORD + 41 };
+    static uint8_t two[ALL];
+    size_t length = 0;
+    build(&RQDX3);
+    initialise(0x1000, 0, 0, 0);
+    send_command(0, 1, MSCP_ONLINE, 0, 0, 0);
+    expect(1, 0x89, 0);
+    is("save", mscp_port_save(machine.port, two, sizeof two, &length), MSCP_DONE);
+    is("without it", (int64_t)length, RECORD);
+    put(two + 8, 4, ALL);
+    put(two + CONTROLLER + 8, 4, ALL - CONTROLLER);
+    two[CONTROLLER + 16] = 2;
+    two[CONTROLLER + 40] = 1;
+    two[RECORD] = 7;
+    two[RECORD + 8] = MSCP_ONLINE;
+    two[RECORD + 40] = 2;
+    machine.port = mscp_port_in_memory(machine.rooms[1], sizeof machine.rooms[1]);
+    is("restore", mscp_port_restore(machine.port, two, ALL), MSCP_DONE);
+    send_command(0, 7, MSCP_READ, 512, 3, 0x4000);
+    expect(7, 0xA1, 0);
+    is("its block", number(machine.memory + 0x4000, 4), 0x06050403);
+}
+
 /* ---- what is refused */
 
 static void nothing_is_there(void)
 {
-    uint8_t bytes[1] = {0};
+    uint8_t none[1] = {0};
     size_t length = 5;
     struct mscp_port port = mscp_port_over(NULL, 0);
-    is("save of none", mscp_port_save(&port, bytes, sizeof bytes, &length), MSCP_NOT_MADE);
-    is("restore to no memory", mscp_port_restore(&port, bytes, 0), MSCP_NO_MEMORY);
+    is("save of none", mscp_port_save(&port, none, sizeof none, &length), MSCP_NOT_MADE);
+    is("restore to no memory", mscp_port_restore(&port, none, 0), MSCP_NO_MEMORY);
     is("nothing told", (int64_t)length, 5);
     is("most of a port", (int64_t)mscp_port_save_size(), MSCP_PORT_SAVED_MAX);
 }
 
-/* Bytes that aren't the port's: its head, and its controller behind the volumes. */
-static void other_bytes(void)
+/* What has no room is left, and so is the port that is there. */
+static void no_room(void)
 {
-    static uint8_t bytes[MSCP_PORT_SAVED_MAX], room[MSCP_PORT_SAVED_MAX];
-    const struct {
-        size_t place;
-        uint8_t byte;
-        int32_t status;
-    } cases[] = {
-        {8, 1, MSCP_SAVED_LENGTH},       {70, 49, MSCP_SAVED_LENGTH},     {0, 0, MSCP_SAVED_MAGIC},
-        {4, 2, MSCP_SAVED_VERSION},      {280, 0, MSCP_SAVED_MAGIC},      {280 + 12, 65, MSCP_SAVED_LIMITS},
-        {280 + 30, 2, MSCP_SAVED_PICKER}, {33, 10, MSCP_SAVED_FORM},
-        {52, 5, MSCP_SAVED_SIZE},        {54, 1, MSCP_SAVED_FORM},
-    };
-    size_t length = 0, told = 5;
-    build(&UDA50);
-    is("save", mscp_port_save(machine.port, bytes, sizeof bytes, &length), MSCP_DONE);
-    is("a port's length", (int64_t)length, 280 + 48 + 34 * UNITS);
+    static uint8_t room[LENGTH + 1];
+    size_t told = 5;
     memset(room, 0xA5, sizeof room);
     is("no room", mscp_port_save(machine.port, NULL, 0, &told), MSCP_SMALL);
-    is("a byte too few", mscp_port_save(machine.port, room, length - 1, &told), MSCP_SMALL);
+    is("a byte too few", mscp_port_save(machine.port, room, LENGTH - 1, &told), MSCP_SMALL);
     is("nothing told", (int64_t)told, 5);
     is("nothing written", room[0], 0xA5);
-    is("just room", mscp_port_save(machine.port, room, length, &told), MSCP_DONE);
-    is("no byte more", room[length], 0xA5);
-    is("where one is", mscp_port_restore(machine.port, bytes, length), MSCP_MADE);
-    for (size_t i = 0; i < COUNT(cases); i++) {
-        uint8_t was = bytes[cases[i].place];
-        struct mscp_port *fresh = mscp_port_in_memory(machine.rooms[1], sizeof machine.rooms[1]);
-        bytes[cases[i].place] = cases[i].byte;
-        is("other bytes", mscp_port_restore(fresh, bytes, length), cases[i].status);
-        is("no port", mscp_port_read_sa(fresh), MSCP_NOT_MADE);
-        bytes[cases[i].place] = was;
-    }
+    is("just room", mscp_port_save(machine.port, room, LENGTH, &told), MSCP_DONE);
+    is("no byte more", room[LENGTH], 0xA5);
+    is("where one is", mscp_port_restore(machine.port, bytes, LENGTH), MSCP_MADE);
     struct mscp_port *fresh = mscp_port_in_memory(machine.rooms[1], sizeof machine.rooms[1]);
     is("no bytes", mscp_port_restore(fresh, NULL, 0), MSCP_SAVED_LENGTH);
-    is("its own bytes", mscp_port_restore(fresh, bytes, length), MSCP_DONE);
-    is("it is a UDA50", mscp_port_read_sa(fresh), 0x0940);
+    is("its own bytes", mscp_port_restore(fresh, bytes, LENGTH), MSCP_DONE);
 }
 
 int main(void)
 {
     goes_on();
     nothing_is_there();
-    other_bytes();
+    save_in_the_middle();
+    bytes_are_these();
+    no_room();
+    edits();
+    flipped_bits();
+    nothing_is_begun();
+    other_connection();
     return wrong;
 }

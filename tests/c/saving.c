@@ -1,12 +1,13 @@
-/* Controllers and hosts that are saved and restored. A run with 63 commands waiting goes on after each event in fresh
+/* Controllers that are saved and restored; host_saving.c has hosts. A run with 63 commands waiting goes on after each event in fresh
  * memory, restored from what was saved there, and answers as one that nobody saved. Prints what is wrong, and ends with
  * 1 where something is. */
 #include "trying.h"
 
 enum { UNITS = 4, CREDITS = 64 };
 
-static const struct mscp_limits LIMITS = {7, 64, CREDITS, 0, 8, 60};
+static const struct mscp_limits LIMITS = {7, 64, CREDITS, 0, 8, 60}, OF_BOTH = {7, 16, 6, 8, 8, 60};
 static struct mscp_unit units[UNITS];
+static uint32_t via = FIRST; /* the connection of what is sent and taken */
 
 /* A controller that is saved and restored after each call, and one that isn't. */
 static struct {
@@ -16,14 +17,14 @@ static struct {
 
 static size_t controller_bytes(void) { return MSCP_HEAD + mscp_size(); }
 
-static void make(uint32_t picker)
+static void make(const struct mscp_limits *limits, uint32_t picker)
 {
     moving.memory = memory_of(controller_bytes());
     staying.memory = memory_of(controller_bytes());
     moving.mscp = mscp_in_memory(moving.memory, controller_bytes());
     staying.mscp = mscp_in_memory(staying.memory, controller_bytes());
-    is("init", mscp_init(moving.mscp, &LIMITS, units, UNITS, picker), MSCP_DONE);
-    is("init", mscp_init(staying.mscp, &LIMITS, units, UNITS, picker), MSCP_DONE);
+    is("init", mscp_init(moving.mscp, limits, units, UNITS, picker), MSCP_DONE);
+    is("init", mscp_init(staying.mscp, limits, units, UNITS, picker), MSCP_DONE);
 }
 
 static size_t saved(const struct mscp *mscp, uint8_t *bytes)
@@ -72,8 +73,8 @@ static int32_t send(uint32_t reference, uint16_t unit, uint8_t opcode, uint32_t 
     struct mscp_sent sent, other;
     uint8_t *message = command(reference, opcode, first, block);
     put(message + 4, 2, unit);
-    int32_t status = mscp_send(moving.mscp, FIRST, message, 32, &sent);
-    is("send", mscp_send(staying.mscp, FIRST, message, 32, &other), status);
+    int32_t status = mscp_send(moving.mscp, via, message, 32, &sent);
+    is("send", mscp_send(staying.mscp, via, message, 32, &other), status);
     move();
     same();
     return status;
@@ -100,8 +101,8 @@ static int32_t step(uint16_t block)
 static int32_t take(void)
 {
     struct mscp_packet end, other;
-    int32_t status = mscp_take(moving.mscp, FIRST, &end);
-    is("take", mscp_take(staying.mscp, FIRST, &other), status);
+    int32_t status = mscp_take(moving.mscp, via, &end);
+    is("take", mscp_take(staying.mscp, via, &other), status);
     if (status == MSCP_DONE) {
         is("end's length", end.length, other.length);
         is("end", memcmp(end.bytes, other.bytes, end.length), 0);
@@ -115,7 +116,7 @@ static int32_t take(void)
 static void run(uint32_t picker)
 {
     uint32_t reference = 1;
-    make(picker);
+    make(&LIMITS, picker);
     for (uint16_t unit = 0; unit < UNITS; unit++) {
         is("online", send(reference++, unit, MSCP_ONLINE, 0, 0), MSCP_QUEUED);
         is("step", step(0), MSCP_DONE);
@@ -137,47 +138,42 @@ static void run(uint32_t picker)
     free(staying.memory);
 }
 
-/* ---- a host */
-
-/* After each call it goes on elsewhere. */
-static struct mscp_host *moved(struct mscp_host *host, void **memory)
+/* Sends a command of this connection, which is queued or answered. */
+static void send_by(uint32_t connection, uint32_t reference, uint8_t opcode, uint32_t first, uint32_t block)
 {
-    uint8_t bytes[MSCP_HOST_SAVED_MAX], again[MSCP_HOST_SAVED_MAX];
-    size_t size = MSCP_HEAD + mscp_host_size(), length = 0, other = 0;
-    is("save", mscp_host_save(host, bytes, sizeof bytes, &length), MSCP_DONE);
-    void *to = memory_of(size);
-    struct mscp_host *there = mscp_host_in_memory(to, size);
-    is("restore", mscp_host_restore(there, bytes, length), MSCP_DONE);
-    is("save again", mscp_host_save(there, again, length, &other), MSCP_DONE);
-    is("as long", (int64_t)other, (int64_t)length);
-    is("the same bytes", memcmp(bytes, again, length), 0);
-    free(*memory);
-    *memory = to;
-    return there;
+    via = connection;
+    is("send", send(reference, 0, opcode, first, block) >= MSCP_DONE, 1);
 }
 
-static void polls(void)
+/* Both connections have commands that wait and ends that weren't taken, one of an aborted command; one is in service. */
+static void make_both(void)
 {
-    struct mscp_packet message;
-    struct mscp_news news;
-    size_t size = MSCP_HEAD + mscp_host_size();
-    void *memory = memory_of(size);
-    struct mscp_host *host = mscp_host_in_memory(memory, size);
-    is("init", mscp_host_init(host, 4), MSCP_DONE);
-    is("submit", mscp_host_submit(host, command(1, MSCP_READ, 1024, 40), 32), MSCP_DONE);
-    host = moved(host, &memory);
-    for (uint32_t i = 0; i < 3; i++) {
-        uint8_t *end = command(10 + i, 0x82, 1, 0);
-        is("poll", mscp_host_poll(host, 10 + i, &message), MSCP_DONE);
-        host = moved(host, &memory);
-        is("one at a time", mscp_host_poll(host, 20, &message), MSCP_BUSY);
-        put(end + 16, 4, i == 2 ? 17 : 18 - i);
-        is("news", mscp_host_receive(host, end, 20, &news),
-           i == 0 ? MSCP_FIRST : i == 1 ? MSCP_PROGRESS : MSCP_RESET);
-        host = moved(host, &memory);
+    make(&OF_BOTH, MSCP_SWEEP);
+    send_by(FIRST, 900, MSCP_ONLINE, 0, 0);
+    is("online", step(0), MSCP_DONE);
+    for (uint32_t reference = 1; reference < 4; reference++) {
+        send_by(FIRST, reference, MSCP_WRITE, 3 * 512, 100 * reference);
+        send_by(SECOND, reference, MSCP_COMPARE_HOST_DATA, 2 * 512, 50 * reference);
     }
-    is("balance", mscp_host_balance(host), 3);
-    free(memory);
+    send_by(SECOND, 9, MSCP_ABORT, 2, 0);
+    send_by(FIRST, 8, MSCP_GET_COMMAND_STATUS, 3, 0);
+    is("in service", step(0), MSCP_DONE);
+}
+
+static void run_both(void)
+{
+    make_both();
+    for (int i = 0; step(i == 3 ? 8 : 0) == MSCP_DONE; i++)
+        for (via = FIRST; via <= SECOND; via++)
+            is("free", mscp_balance(moving.mscp, via), mscp_balance(staying.mscp, via));
+    for (via = FIRST; via <= SECOND; via++) {
+        while (take() == MSCP_DONE)
+            ;
+        is("credits", mscp_balance(moving.mscp, via), via == FIRST ? 6 : 8);
+    }
+    via = FIRST;
+    free(moving.memory);
+    free(staying.memory);
 }
 
 /* ---- what is refused */
@@ -197,61 +193,6 @@ static void nothing_is_there(void)
     is("most of a host", (int64_t)mscp_host_save_size(), MSCP_HOST_SAVED_MAX);
 }
 
-/* Two outstanding submissions of one number, which no host has. */
-static void doubled_submissions(void)
-{
-    uint8_t bytes[MSCP_HOST_SAVED_MAX];
-    size_t size = MSCP_HEAD + mscp_host_size(), length = 0;
-    void *memory = memory_of(size), *to = memory_of(size);
-    struct mscp_host *host = mscp_host_in_memory(memory, size), *there = mscp_host_in_memory(to, size);
-    is("init", mscp_host_init(host, 4), MSCP_DONE);
-    is("submit", mscp_host_submit(host, command(1, MSCP_READ, 1024, 40), 32), MSCP_DONE);
-    is("submit", mscp_host_submit(host, command(2, MSCP_READ, 1024, 40), 32), MSCP_DONE);
-    is("save", mscp_host_save(host, bytes, sizeof bytes, &length), MSCP_DONE);
-    bytes[26 + 12] = 1;
-    is("two of one number", mscp_host_restore(there, bytes, length), MSCP_SAVED_DOUBLED);
-    bytes[26 + 12] = 2;
-    bytes[12] = 2;
-    is("no credit is kept", mscp_host_restore(there, bytes, length), MSCP_SAVED_CREDITS);
-    bytes[12] = 4;
-    is("of two", mscp_host_restore(there, bytes, length), MSCP_DONE);
-    free(memory);
-    free(to);
-}
-
-/* Polls, and figures that they told, which no host has. */
-static void polls_of_no_host(void)
-{
-    static const struct {
-        size_t place;
-        uint8_t byte, was;
-    } cases[] = {
-        {18, 11, 10},        /* the poll's number isn't outstanding */
-        {22, 2, 1},          /* the polled one isn't the oldest */
-        {26 + 12 + 6, 3, 2}, /* no GET COMMAND STATUS has the poll's number */
-        {26 + 4, 1, 0},      /* the polled one is to another unit */
-        {26 + 12 + 4, 1, 0}, /* the poll is to another unit */
-        {26 + 12 + 7, 1, 0}  /* a figure was told of the poll */
-    };
-    uint8_t bytes[MSCP_HOST_SAVED_MAX];
-    size_t size = MSCP_HEAD + mscp_host_size(), length = 0;
-    void *memory = memory_of(size), *to = memory_of(size);
-    struct mscp_host *host = mscp_host_in_memory(memory, size), *there = mscp_host_in_memory(to, size);
-    struct mscp_packet message;
-    is("init", mscp_host_init(host, 4), MSCP_DONE);
-    is("submit", mscp_host_submit(host, command(1, MSCP_READ, 1024, 40), 32), MSCP_DONE);
-    is("poll", mscp_host_poll(host, 10, &message), MSCP_DONE);
-    is("save", mscp_host_save(host, bytes, sizeof bytes, &length), MSCP_DONE);
-    for (size_t i = 0; i < sizeof cases / sizeof cases[0]; i++) {
-        bytes[cases[i].place] = cases[i].byte;
-        is("a poll of no host", mscp_host_restore(there, bytes, length), MSCP_SAVED_POLL);
-        bytes[cases[i].place] = cases[i].was;
-    }
-    is("a poll", mscp_host_restore(there, bytes, length), MSCP_DONE);
-    free(memory);
-    free(to);
-}
-
 /* Bytes that aren't the controller's. Each place is one of the format, and each change the least that is refused so. */
 static void other_bytes(void)
 {
@@ -265,7 +206,7 @@ static void other_bytes(void)
         {48, 1, MSCP_SAVED_UNITS},  {12, 65, MSCP_SAVED_LIMITS}, {48 + 31, 255, MSCP_SAVED_HEADS},
         {30, 2, MSCP_SAVED_PICKER}, {48 + 28, 3, MSCP_SAVED_FORM},
     };
-    make(MSCP_SWEEP);
+    make(&LIMITS, MSCP_SWEEP);
     size_t length = saved(moving.mscp, bytes), told = 5;
     is("a controller's length", (int64_t)length, 48 + 34 * UNITS);
     memset(room, 0xA5, sizeof room);
@@ -296,12 +237,9 @@ static void other_bytes(void)
 static void flipped_bits(void)
 {
     static uint8_t bytes[MSCP_SAVED_MAX], again[MSCP_SAVED_MAX];
-    make(MSCP_OLDEST);
-    is("online", send(1, 0, MSCP_ONLINE, 0, 0), MSCP_QUEUED);
-    is("step", step(0), MSCP_DONE);
-    is("read", send(2, 0, MSCP_READ, 4096, 40), MSCP_QUEUED);
-    is("read", send(3, 0, MSCP_READ, 512, 80), MSCP_QUEUED);
-    is("step", step(0), MSCP_DONE);
+    make_both();
+    struct mscp_upcoming upcoming;
+    is("begin", mscp_begin(moving.mscp, &upcoming), MSCP_DONE);
     size_t length = saved(moving.mscp, bytes);
     int refused = 0, restored = 0;
     for (size_t bit = 0; bit < 8 * length; bit++) {
@@ -318,8 +256,9 @@ static void flipped_bits(void)
             is("send", status == MSCP_ANSWERED || status == MSCP_NO_CREDIT || status == MSCP_DOUBLED, 1);
             for (int steps = 0; steps < 20 && mscp_step(mscp, 0, &report) == MSCP_DONE; steps++)
                 ;
-            while (mscp_take(mscp, FIRST, &end) == MSCP_DONE)
-                ;
+            for (via = FIRST; via <= SECOND; via++)
+                while (mscp_take(mscp, via, &end) == MSCP_DONE)
+                    ;
         } else {
             refused++;
         }
@@ -339,10 +278,8 @@ int main(void)
     }
     run(MSCP_OLDEST);
     run(MSCP_SWEEP);
-    polls();
+    run_both();
     nothing_is_there();
-    doubled_submissions();
-    polls_of_no_host();
     other_bytes();
     flipped_bits();
     return wrong;

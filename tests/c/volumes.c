@@ -107,6 +107,12 @@ static void refused_transfers(void)
     expect(52, 0xA2, 0x2006);
     send_command(2, 53, MSCP_READ, 512, 1, 0x4000);
     expect(53, 0xA1, 0);
+    send_command(2, 54, MSCP_ERASE, 512, 1, 0);
+    expect(54, 0x92, 0x2006);
+    send_command(2, 55, MSCP_ACCESS, 512, 1, 0);
+    expect(55, 0x90, 0);
+    send_command(1, 56, MSCP_WRITE, 512, 1, 0x4000);
+    expect(56, 0xA2, 0x0023); /* no volume */
 }
 
 /* ---- volumes */

@@ -15,3 +15,4 @@ pub mod Saving
 pub mod Served
 pub mod Statuses
 pub mod Told
+pub mod Common

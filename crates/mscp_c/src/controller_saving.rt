@@ -1,12 +1,10 @@
 // A controller as bytes, and back.
 
-ghost use Rattle.std.specs.Prelude.{◌≡◌, true, false, Ok};
-ghost use Rattle.mscp_controller.specs.Holdings.{fresh};
-ghost use Rattle.mscp_memory.specs.ControllerHandles.{Handle, is_made, is_room, placed};
+ghost use Rattle.mscp_c.specs.Common.{◌≡◌, true, false, Ok, fresh, Handle, AnswersHandle, policy_number, length_after, room_after, save_code};
+ghost use Rattle.mscp_memory.specs.ControllerHandles.{is_made, is_room, placed};
 ghost use Rattle.mscp_c.specs.HandleCalls as calls;
-ghost use Rattle.mscp_c.specs.HandleCalls.{AnswersHandle};
-ghost use Rattle.mscp_c.specs.Restoring.{policy_named, policy_number, restored_by, saved_by};
-ghost use Rattle.mscp_c.specs.Saving.{length_after, restores, room_after, save_code};
+ghost use Rattle.mscp_c.specs.Restoring.{policy_named, restored_by, saved_by};
+ghost use Rattle.mscp_c.specs.Saving.{restores};
 
 use crate::saving::tell_saved;
 use crate::status::{DONE, NOT_MADE, restore_code, room_code};

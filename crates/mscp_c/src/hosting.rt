@@ -1,10 +1,9 @@
 // The calls of a host.
 #![tactic(auto, using(crate::proofs::Lent::lent_back))]
 
-ghost use Rattle.std.specs.Prelude.{◌≡◌, true, false, pos};
-ghost use Rattle.mscp_host.specs.Accounts.{balance, heard, polls_oldest};
+ghost use Rattle.mscp_c.specs.Common.{◌≡◌, true, false, pos, balance, heard, polls_oldest, PollTold, message_read, news_code, news_told, poll_code, submits_message};
 ghost use Rattle.mscp_memory.specs.HostHandles.{is_made, row_alignment, row_size, with_held};
-ghost use Rattle.mscp_c.specs.Hosted.{PollTold, inits, message_read, news_code, news_told, poll_code, submits_message};
+ghost use Rattle.mscp_c.specs.Hosted.{inits};
 
 use crate::hearing::{tell_news, tell_poll};
 use crate::outs::{NewsOut, PacketOut};

@@ -1,11 +1,7 @@
 // What is promised of who calls from C.
 
-ghost use Rattle.std.specs.Prelude.{◌≡◌, pos, true};
-ghost use Rattle.mscp_events.specs.Settings.{IsValid};
+ghost use Rattle.mscp_c.specs.Common.{◌≡◌, pos, true, IsValid, HandlesKeepThePromise, PortHandlesKeepThePromise, minus};
 ghost use Rattle.mscp_memory.specs.ControllerHandles.{is_made};
-ghost use Rattle.mscp_c.specs.HandleCalls.{HandlesKeepThePromise};
-ghost use Rattle.mscp_c.specs.PortHandleCalls.{PortHandlesKeepThePromise};
-ghost use Rattle.mscp_c.specs.Statuses.{minus};
 
 use crate::status::*;
 use mscp_controller::controllers_keep_the_promise;

@@ -1,9 +1,8 @@
 // The calls before a controller is there.
 
-ghost use Rattle.std.specs.Prelude.{◌≡◌, true, false};
-ghost use Rattle.mscp_controller.specs.Holdings.{fresh};
+ghost use Rattle.mscp_c.specs.Common.{◌≡◌, true, false, fresh, config_answer, init_answer, init_fault, made_unless};
 ghost use Rattle.mscp_memory.specs.ControllerHandles.{is_made, row_alignment, row_size, with_held};
-ghost use Rattle.mscp_c.specs.Made.{config_answer, init_answer, init_fault, inits, made_unless};
+ghost use Rattle.mscp_c.specs.Made.{inits};
 
 use crate::status::{DONE, NOT_MADE, init_code};
 use crate::units::{InitFault, Limits, UnitIn, policy_of, units_of};

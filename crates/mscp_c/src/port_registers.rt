@@ -1,10 +1,8 @@
 // The registers of a port.
 #![tactic(auto, using(crate::proofs::Lent::lent_back))]
 
-ghost use Rattle.std.specs.Prelude.{◌≡◌, true, false, pos};
-ghost use Rattle.mscp_port.specs.Calls.{ReadsIp, WritesIp, WritesSa, sa_of};
+ghost use Rattle.mscp_c.specs.Common.{◌≡◌, true, false, pos, ReadsIp, WritesIp, WritesSa, sa_of, Holds};
 ghost use Rattle.mscp_memory.specs.PortHandles.{is_made};
-ghost use Rattle.mscp_c.specs.PortServed.{Holds};
 
 use crate::status::{DONE, NOT_MADE};
 use mscp_memory::port::{Handle, is_made, lend};

@@ -1,10 +1,8 @@
 // A port as bytes, and back.
 
-ghost use Rattle.std.specs.Prelude.{◌≡◌, true, false, slice_index, Ok};
-ghost use Rattle.mscp_controller.specs.Holdings.{fresh};
+ghost use Rattle.mscp_c.specs.Common.{◌≡◌, true, false, slice_index, Ok, fresh, length_after, room_after, save_code};
 ghost use Rattle.mscp_memory.specs.PortHandles.{is_made, is_room, placed};
 ghost use Rattle.mscp_c.specs.PortSaving.{policy_named, restored_by, restores, saved_by};
-ghost use Rattle.mscp_c.specs.Saving.{length_after, room_after, save_code};
 
 use crate::controller_saving::policy_number;
 use crate::saving::tell_saved;

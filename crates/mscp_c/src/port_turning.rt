@@ -1,9 +1,7 @@
 // What a port wants done, and how that went.
 
-ghost use Rattle.std.specs.Prelude.{◌≡◌, true, false, IfSome, None};
+ghost use Rattle.mscp_c.specs.Common.{◌≡◌, true, false, IfSome, None, outcome_given, TellsHeard, TellsWanted, TellsWent};
 ghost use Rattle.mscp_memory.specs.PortHandles.{is_made};
-ghost use Rattle.mscp_c.specs.PortGiven.{outcome_given};
-ghost use Rattle.mscp_c.specs.PortServed.{TellsHeard, TellsWanted, TellsWent};
 
 use crate::outs::ActionOut;
 use crate::port_given::outcome_of;

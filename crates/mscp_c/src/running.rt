@@ -1,10 +1,7 @@
 // A whole script and a packet's line, in memory that a program in C lends. Each is written behind the front of the room, and
 // then moved there: so the room has twice its bytes.
 
-ghost use Rattle.std.specs.Prelude.{◌≡◌, ◌≢◌, ◌⊎◌, ◌≤◌, length, take, Err, IfOk, IfSome};
-ghost use Rattle.mscp_reader.specs.Grammar.{IsFault};
-ghost use Rattle.mscp_text.specs.Shown.{shown};
-ghost use Rattle.mscp_c.specs.Running.{HasLine, HasReport, IsNoPacket, TellsFault};
+ghost use Rattle.mscp_c.specs.Common.{◌≡◌, ◌≢◌, ◌⊎◌, ◌≤◌, length, take, Err, IfOk, IfSome, IsFault, shown, HasLine, HasReport, IsNoPacket, TellsFault};
 
 use crate::status::{DONE, SMALL, cause_code, show_code};
 use mscp_script::{Lent, Out, ReadFault, ScriptFault, ShowFault, report_script, show_packet_to};

@@ -1,15 +1,9 @@
 // The calls that change nothing.
 #![tactic(auto, using(crate::proofs::Lent::lent_back))]
 
-ghost use Rattle.std.specs.Prelude.{◌≡◌, true, false, pos, length, IfSome, None};
-ghost use Rattle.mscp_queue.specs.Drives.{is_online_in};
-ghost use Rattle.mscp_events.specs.Both.{of};
-ghost use Rattle.mscp_controller.specs.Holdings.{balance_of, waiting_on};
+ghost use Rattle.mscp_c.specs.Common.{◌≡◌, true, false, pos, length, IfSome, None, is_online_in, of, balance_of, waiting_on, connection_given, AnswersHandle, figure_in, figures_in, figures_told, flag, holders_in, holders_told};
 ghost use Rattle.mscp_memory.specs.ControllerHandles.{is_made};
-ghost use Rattle.mscp_c.specs.Given.{connection_given};
 ghost use Rattle.mscp_c.specs.HandleCalls as calls;
-ghost use Rattle.mscp_c.specs.HandleCalls.{AnswersHandle};
-ghost use Rattle.mscp_c.specs.Told.{figure_in, figures_in, figures_told, flag, holders_in, holders_told};
 
 use crate::outs::{FigureOut, HolderOut};
 use crate::status::{BAD_CONNECTION, NOT_MADE};

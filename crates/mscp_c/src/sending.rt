@@ -1,12 +1,8 @@
 // Messages in, ends out.
 
-ghost use Rattle.std.specs.Prelude.{◌≡◌, true, false, IfSome, None};
-ghost use Rattle.mscp_controller.specs.Holdings.{after_message, after_take, answer_to_message, end_taken};
+ghost use Rattle.mscp_c.specs.Common.{◌≡◌, true, false, IfSome, None, after_message, after_take, answer_to_message, end_taken, connection_given, AnswersHandle, TakeTold, send_code, sent_told, take_code};
 ghost use Rattle.mscp_memory.specs.ControllerHandles.{is_made, with_held};
-ghost use Rattle.mscp_c.specs.Given.{connection_given};
 ghost use Rattle.mscp_c.specs.HandleCalls as calls;
-ghost use Rattle.mscp_c.specs.HandleCalls.{AnswersHandle};
-ghost use Rattle.mscp_c.specs.Told.{TakeTold, send_code, sent_told, take_code};
 
 use crate::outs::{PacketOut, SentOut};
 use crate::status::{BAD_CONNECTION, DONE, NOT_MADE, NOTHING};

@@ -1,12 +1,8 @@
 // The drive's work: what comes next, and how it went.
 
-ghost use Rattle.std.specs.Prelude.{◌≡◌, true, false, IfSome, None};
+ghost use Rattle.mscp_c.specs.Common.{◌≡◌, true, false, IfSome, None, connection_given, AnswersHandle, block_told, TellsBegin, TellsFinish, TellsStep};
 ghost use Rattle.mscp_memory.specs.ControllerHandles.{is_made};
-ghost use Rattle.mscp_c.specs.Given.{connection_given};
 ghost use Rattle.mscp_c.specs.HandleCalls as calls;
-ghost use Rattle.mscp_c.specs.HandleCalls.{AnswersHandle};
-ghost use Rattle.mscp_c.specs.Told.{block_told};
-ghost use Rattle.mscp_c.specs.Served.{TellsBegin, TellsFinish, TellsStep};
 
 use crate::outs::{ReportOut, UpcomingOut};
 use crate::status::{BAD_CONNECTION, BAD_STATUS, NOT_BEGUN, NOT_MADE};

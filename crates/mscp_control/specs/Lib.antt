@@ -1,2 +1,3 @@
 pub mod Worst
 pub mod Longest
+pub mod Common

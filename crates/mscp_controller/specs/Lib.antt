@@ -21,3 +21,4 @@ pub mod Calls
 pub mod Controllers
 pub mod Replacing
 pub mod Sizes
+pub mod Common

@@ -1,9 +1,6 @@
 // The ends of commands that are answered when they come.
 
-ghost use Rattle.std.specs.Prelude.{◌≡◌};
-ghost use Rattle.mscp_packet.specs.Statuses.{success};
-ghost use Rattle.mscp_queue.specs.Outcomes.{end_with};
-ghost use Rattle.mscp_controller.specs.Outcomes.{controller_body, refused_end, unit_body, unit_status};
+ghost use Rattle.mscp_controller.specs.Common.{◌≡◌, success, end_with, controller_body, refused_end, unit_body, unit_status};
 
 use mscp_drive::Unit;
 use mscp_events::Config;

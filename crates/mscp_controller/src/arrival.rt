@@ -1,11 +1,6 @@
 // How a message is judged when it comes.
 
-ghost use Rattle.std.specs.Prelude.{◌≡◌, ◌+◌, ◌≤◌, ◌^◌, IfOk};
-ghost use Rattle.mscp_packet.specs.Opcodes.{class, is_immediate_class};
-ghost use Rattle.mscp_controller.specs.Arrival.{judged, move_fault, unit_fault, version_fault};
-ghost use Rattle.mscp_queue.specs.Orders.{first_block};
-ghost use Rattle.mscp_events.specs.Settings.{unit_found};
-ghost use Rattle.mscp_drive.specs.Extent.{weighed, weight};
+ghost use Rattle.mscp_controller.specs.Common.{◌≡◌, ◌+◌, ◌≤◌, ◌^◌, IfOk, class, is_immediate_class, judged, move_fault, unit_fault, version_fault, first_block, unit_found, weighed, weight};
 
 use mscp_events::Config;
 use mscp_packet::status::{INVALID_VERSION, UNIT_OFFLINE};

@@ -1,15 +1,7 @@
 // A controller: its queue, and the account of each connection's host.
 
-ghost use Rattle.std.specs.Prelude.{◌≡◌, ◌+◌, ◌≤◌, ◌^◌, true, false, slice_get, IfErr, IfSome, None, Some};
-ghost use Rattle.mscp_packet.specs.Ends.{IsEnd, IsOfKind};
-ghost use Rattle.mscp_queue.specs.Orders.{first_block, order_weight};
-ghost use Rattle.mscp_queue.specs.Names.{name_on};
-ghost use Rattle.mscp_queue.specs.Outcomes.{IsCoded};
-ghost use Rattle.mscp_controller.specs.Arrival.{credit_fault, fault_of, holds, is_queued};
-ghost use Rattle.mscp_controller.specs.Accounts.{CanEnd, reported};
-ghost use Rattle.mscp_events.specs.Both.{of};
-ghost use Rattle.mscp_events.specs.Settings.{IsValid};
-ghost use Rattle.mscp_controller.specs.Holdings.{Answers, Finishes, Foretells, IsBalanced, Steps, aborting, after_message, after_take, answer_to_message, answered_end, arrives, balance_of, begun_step, end_taken, with_end, fresh, outstanding_of, queued, reference_aborted, taken_as};
+ghost use Rattle.mscp_controller.specs.Common.{◌≡◌, ◌+◌, ◌≤◌, ◌^◌, true, false, slice_get, IfErr, IfSome, None, Some, IsEnd, IsOfKind, first_block, order_weight, name_on, IsCoded, credit_fault, fault_of, holds, is_queued, CanEnd, reported, of, IsValid, Answers, Finishes, Foretells, IsBalanced, Steps, aborting, after_message, after_take, answer_to_message, answered_end, arrives, balance_of, begun_step, end_taken, with_end, outstanding_of, queued, reference_aborted, taken_as};
+ghost use Rattle.mscp_controller.specs.Holdings.{fresh};
 
 mod restoring;
 mod seeing;
@@ -52,9 +44,7 @@ pub struct Controller<K> {
 // A clause sees the settings, the waiting commands and each connection's ends that weren't taken, all oldest first, the
 // drives in the order of their units, what was begun, and the picker.
 impl<K> Model for Controller<K> {
-    ghost use Rattle.mscp_controller.specs.Holdings.{Holdings};
-    ghost use Rattle.mscp_controller.specs.Accounts.{untaken_in};
-    ghost use Rattle.mscp_controller.specs.Kept.{IsHeld};
+    ghost use Rattle.mscp_controller.specs.Common.{Holdings, untaken_in, IsHeld};
 
     ghost Value = { Holdings K };
 

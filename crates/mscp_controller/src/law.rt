@@ -1,9 +1,6 @@
 // What is true of every legal trace, and of every controller.
 
-ghost use Rattle.mscp_controller.specs.Controllers.{ControllersKeepThePromise};
-ghost use Rattle.mscp_controller.specs.Headline.{LegalTracesMakeProgress};
-ghost use Rattle.mscp_controller.specs.Replacing.{PromiseIsKeptInTurn};
-ghost use Rattle.mscp_controller.specs.Runs.{RunsKeepThePromise};
+ghost use Rattle.mscp_controller.specs.Common.{ControllersKeepThePromise, LegalTracesMakeProgress, PromiseIsKeptInTurn, RunsKeepThePromise};
 
 use mscp_queue::Picker;
 

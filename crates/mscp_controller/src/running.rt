@@ -1,11 +1,6 @@
 // A whole run.
 
-ghost use Rattle.std.specs.Prelude.{◌≡◌, ◌≤◌, [], length, vec_capacity, zip, IfOk};
-ghost use Rattle.mscp_controller.specs.Holdings.{Answered};
-ghost use Rattle.mscp_controller.specs.Headline.{Headline};
-ghost use Rattle.mscp_controller.specs.Legal.{IsPicked};
-ghost use Rattle.mscp_controller.specs.Sweeping.{IsSweeping, Sweeps};
-ghost use Rattle.mscp_events.specs.Settings.{IsValid};
+ghost use Rattle.mscp_controller.specs.Common.{◌≡◌, ◌≤◌, [], length, vec_capacity, zip, IfOk, Answered, Headline, IsPicked, IsSweeping, Sweeps, IsValid};
 
 use crate::controller::Controller;
 use crate::entry::Entry;

@@ -3,3 +3,4 @@ pub mod Reciprocals
 pub mod Extent
 pub mod Heads
 pub mod UnitList
+pub mod Common

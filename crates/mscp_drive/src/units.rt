@@ -1,8 +1,6 @@
 // The units of a controller.
 
-ghost use Rattle.std.specs.Prelude.{◌≡◌, ◌↔◌, ◌<◌, ◌≤◌, [], length, IsTrue, IfOk};
-ghost use Rattle.std.specs.Option.{option_copied};
-ghost use Rattle.mscp_drive.specs.UnitList.{IsUnitList, NumbersRise, unit_found};
+ghost use Rattle.mscp_drive.specs.Common.{◌≡◌, ◌↔◌, ◌<◌, ◌≤◌, [], length, IsTrue, IfOk, option_copied, IsUnitList, NumbersRise, unit_found};
 
 use crate::unit::Unit;
 use arrayvec::ArrayVec;
@@ -19,9 +17,7 @@ pub struct Units {
 
 // A clause sees the list of the units.
 impl Model for Units {
-    ghost use Rattle.std.specs.Prelude.{List};
-    ghost use Rattle.mscp_drive.specs.Shape.{Shape};
-    ghost use Rattle.mscp_drive.specs.UnitList.{IsUnitList};
+    ghost use Rattle.mscp_drive.specs.Common.{List, Shape, IsUnitList};
 
     ghost Value = { List Shape };
 

@@ -6,3 +6,4 @@ pub mod Sound
 pub mod Watched
 pub mod Histories
 pub mod Law
+pub mod Common

@@ -1,9 +1,7 @@
 // A host: what it sent and hasn't heard of.
 
-ghost use Rattle.std.specs.Prelude.{◌≡◌, ◌↔◌, ◌≤◌, true, false, find, IsOk, IfErr, IfOk};
-ghost use Rattle.std.specs.List.{list_any};
-ghost use Rattle.mscp_packet.specs.Commands.{command_bytes, opcode_byte};
-ghost use Rattle.mscp_host.specs.Accounts.{answered, balance, end_in, fresh, has_reference, heard, is_about_polled as about_polled, is_immediate as immediate, news_with, oldest, or_unreadable, outstanding_with, polls_oldest, received, refusal, submits, submitted};
+ghost use Rattle.mscp_host.specs.Common.{◌≡◌, ◌↔◌, ◌≤◌, true, false, find, IsOk, IfErr, IfOk, list_any, command_bytes, opcode_byte, answered, balance, end_in, fresh, has_reference, heard, news_with, oldest, or_unreadable, outstanding_with, polls_oldest, received, refusal, submits, submitted};
+ghost use Rattle.mscp_host.specs.Accounts.{is_about_polled as about_polled, is_immediate as immediate};
 
 use crate::news::{HostFault, News, Poll, is_code_of, news_of_figure};
 use crate::outstanding::{find_oldest, find_reference, has_any, last_told, remove, set_told};
@@ -24,8 +22,7 @@ pub struct Host {
 
 // A clause sees the credits, the outstanding submissions, oldest first, and the poll in flight.
 impl Model for Host {
-    ghost use Rattle.mscp_host.specs.Accounts.{Account};
-    ghost use Rattle.mscp_host.specs.Sound.{IsSound};
+    ghost use Rattle.mscp_host.specs.Common.{Account, IsSound};
 
     ghost Value = { Account };
 

@@ -1,11 +1,6 @@
 // The list of the outstanding submissions.
 
-ghost use Rattle.std.specs.Prelude.{◌≡◌, ◌≤◌, length, find, option_copied};
-ghost use Rattle.std.specs.List.{list_any, position};
-ghost use Rattle.mscp_host.specs.Apart.{are_apart};
-ghost use Rattle.mscp_host.specs.Accounts.{has_reference, last_told, with_told, without};
-ghost use Rattle.mscp_host.specs.Sound.{waiting};
-ghost use Rattle.mscp_host.specs.Watched.{are_told, is_oldest, is_poll, is_status, oldest_of};
+ghost use Rattle.mscp_host.specs.Common.{◌≡◌, ◌≤◌, length, find, option_copied, list_any, position, are_apart, has_reference, last_told, with_told, without, waiting, are_told, is_oldest, is_poll, is_status, oldest_of};
 
 use crate::submission::{STATUS, Submission, is_immediate};
 use arrayvec::ArrayVec;

@@ -1,9 +1,6 @@
 // A host to bytes.
 
-ghost use Rattle.std.specs.Prelude.{◌≡◌, ◌+◌, ◌*◌, ◌≤◌, ◌<◌, ◌^◌, ◌++◌, [], flat_map, length, All, IfSome, Ok};
-ghost use Rattle.arrayvec.specs.ArrayVec.{array_vec_len};
-ghost use Rattle.mscp_host.specs.Saved.{frame_bytes, saved_bytes, submission_bytes, told_bytes, watch_bytes, HasRange, HasSubmissionRange, HasWatchRange};
-ghost use Rattle.mscp_host.specs.Restored.{restored};
+ghost use Rattle.mscp_host.specs.Common.{◌≡◌, ◌+◌, ◌*◌, ◌≤◌, ◌<◌, ◌^◌, ◌++◌, [], flat_map, length, All, IfSome, Ok, array_vec_len, frame_bytes, saved_bytes, submission_bytes, told_bytes, watch_bytes, HasRange, HasSubmissionRange, HasWatchRange, restored};
 
 use crate::host::Host;
 use crate::submission::Submission;

@@ -7,3 +7,4 @@ pub mod Standing
 pub mod Rights
 pub mod Judged
 pub mod Heard
+pub mod Common

@@ -1,10 +1,8 @@
 // What the hosts of a log would have heard, line by line.
 
-ghost use Rattle.std.specs.Prelude.{◌≡◌, ◌≤◌, ◌<◌, ◌+◌, OnOk, Some, length};
+ghost use Rattle.mscp_judge.specs.Common.{◌≡◌, ◌≤◌, ◌<◌, ◌+◌, OnOk, Some, length, events_of, MOST_EVENTS, Gives, Heard, IsHeard, after_answer, after_lines, end_bytes, heard_log, hears, host_at, hosts_after_all, sends_on, silence, told, with_host};
 ghost use Rattle.mscp_reader.specs.Lexical as lexical;
-ghost use Rattle.mscp_reader.specs.Requests.{events_of};
-ghost use Rattle.mscp_reader.specs.declared.events.TheConstants.{MOST_EVENTS};
-ghost use Rattle.mscp_judge.specs.Heard.{Gives, Heard, Hears, IsHeard, after_answer, after_lines, asking, end_bytes, heard_log, hears, host_at, hosts_after_all, sends_on, silence, told, with_host};
+ghost use Rattle.mscp_judge.specs.Heard.{Hears, asking};
 
 use crate::answers::{is, is_answer};
 use crate::hosts::{hear, host_of, is_reset, put_line, send_message};

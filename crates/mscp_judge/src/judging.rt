@@ -1,14 +1,8 @@
 // A log, judged line by line.
 
-ghost use Rattle.std.specs.Prelude.{◌≡◌, ◌+◌, ◌<◌, ◌≤◌, ◌++◌, [], codes, true, false, IfOk, IfSome, IfNone, OnOk, Ok, Some, drop, length};
-ghost use Rattle.mscp_events.specs.Settings.{IsValid, Settings};
+ghost use Rattle.mscp_judge.specs.Common.{◌≡◌, ◌+◌, ◌<◌, ◌≤◌, ◌++◌, [], codes, true, false, IfOk, IfSome, IfNone, OnOk, Ok, Some, drop, length, IsValid, Settings, asked_next, events_of, MOST_EVENTS, Breaks, Finds, Judges, Passed, AreAnswers, Log, nothing, IsNamedAhead, Stands, due};
 ghost use Rattle.mscp_reader.specs.Lexical as lexical;
-ghost use Rattle.mscp_reader.specs.Outcome.{asked_next};
-ghost use Rattle.mscp_reader.specs.Requests.{events_of};
-ghost use Rattle.mscp_reader.specs.declared.events.TheConstants.{MOST_EVENTS};
-ghost use Rattle.mscp_judge.specs.Judged.{Breaks, Finds, Hears, Judges, Passed};
-ghost use Rattle.mscp_judge.specs.Logs.{AreAnswers, Log, nothing};
-ghost use Rattle.mscp_judge.specs.Standing.{IsNamedAhead, Stands, due};
+ghost use Rattle.mscp_judge.specs.Judged.{Hears};
 
 use crate::answers::is_answer;
 use crate::judge::{Judge, Right};

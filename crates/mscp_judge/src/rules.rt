@@ -1,14 +1,7 @@
 // The rule that a line breaks.
 
-ghost use Rattle.std.specs.Prelude.{◌≡◌, ◌≤◌};
-ghost use Rattle.mscp_events.specs.Settings.{IsValid, Settings};
-ghost use Rattle.mscp_controller.specs.History.{Trace};
-ghost use Rattle.mscp_controller.specs.Holdings.{fresh};
-ghost use Rattle.mscp_judge.specs.Naming.{wanted_name};
+ghost use Rattle.mscp_judge.specs.Common.{◌≡◌, ◌≤◌, IsValid, Settings, Trace, fresh, wanted_name, IsStepRule, Led, Wanted};
 ghost use Rattle.mscp_judge.specs.Rules as rules;
-ghost use Rattle.mscp_judge.specs.Rules.{IsStepRule};
-ghost use Rattle.mscp_judge.specs.Standing.{Led};
-ghost use Rattle.mscp_judge.specs.declared.naming.Wanted.{Wanted};
 
 use crate::naming::{Named, Wanted};
 use mscp_controller::{Controller, Holder};

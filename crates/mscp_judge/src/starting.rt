@@ -1,13 +1,7 @@
 // The commands that may start.
 
-ghost use Rattle.std.specs.Prelude.{◌≡◌, ◌<◌, ◌++◌, ◌∷◌, [], cond, filter, length};
-ghost use Rattle.mscp_events.specs.Settings.{IsValid, Settings};
-ghost use Rattle.mscp_controller.specs.History.{Trace};
-ghost use Rattle.mscp_controller.specs.Holdings.{fresh};
-ghost use Rattle.mscp_judge.specs.declared.naming.Wanted.{Wanted};
-ghost use Rattle.mscp_judge.specs.Standing.{Led};
+ghost use Rattle.mscp_judge.specs.Common.{◌≡◌, ◌<◌, ◌++◌, ◌∷◌, [], cond, filter, length, IsValid, Settings, Trace, fresh, Wanted, Led, starts_in};
 ghost use Rattle.mscp_judge.specs.Starts as starts;
-ghost use Rattle.mscp_judge.specs.Starts.{starts_in};
 
 use crate::naming::{Named, Wanted};
 use arrayvec::ArrayVec;

@@ -1,9 +1,7 @@
 // The totals of a log.
 
-ghost use Rattle.std.specs.Prelude.{◌≡◌};
+ghost use Rattle.mscp_judge.specs.Common.{◌≡◌, bound, IsLarger, figure_queued};
 ghost use Rattle.mscp_controller.specs.declared.entry.Entry.TheVariants as entries;
-ghost use Rattle.mscp_events.specs.Settings.{bound};
-ghost use Rattle.mscp_judge.specs.Totals.{IsLarger, figure_queued};
 
 use crate::naming::Wanted;
 use mscp_controller::{Config, Connection, Controller, SendFault, Sent};

@@ -3,3 +3,4 @@ pub mod HostHandles
 pub mod Policies
 pub mod PortHandles
 pub mod Rooms
+pub mod Common

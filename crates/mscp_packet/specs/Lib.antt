@@ -7,3 +7,4 @@ pub mod Commands
 pub mod Ends
 pub mod Table
 pub mod Parts
+pub mod Common

@@ -1,6 +1,6 @@
 // Commands as values.
 
-ghost use Rattle.std.specs.Prelude.{◌≡◌};
+ghost use Rattle.mscp_packet.specs.Common.{◌≡◌};
 
 use crate::class::{Class, Opcode};
 
@@ -44,8 +44,7 @@ pub enum Order {
 }
 
 impl Order {
-    ghost use Rattle.std.specs.Prelude.{ok_or};
-    ghost use Rattle.mscp_packet.specs.Commands.{opcode_byte, order_class, order_opcode};
+    ghost use Rattle.mscp_packet.specs.Common.{ok_or, opcode_byte, order_class, order_opcode};
 
     /// The opcode, or the byte of what is no valid command.
     fn opcode(&self) -> Result<Opcode, u8>
@@ -83,7 +82,7 @@ pub struct Command {
 }
 
 impl Command {
-    ghost use Rattle.mscp_packet.specs.Commands.{opcode_byte};
+    ghost use Rattle.mscp_packet.specs.Common.{opcode_byte};
 
     /// The opcode byte that the command is written with.
     pub fn opcode(&self) -> u8
@@ -97,7 +96,7 @@ impl Command {
 }
 
 impl MoveKind {
-    ghost use Rattle.mscp_packet.specs.Opcodes.{move_byte};
+    ghost use Rattle.mscp_packet.specs.Common.{move_byte};
 
     /// The opcode byte of the transfer.
     pub fn opcode(self) -> u8

@@ -1,8 +1,6 @@
 // Messages that are written as hexadecimal digits.
 
-ghost use Rattle.std.specs.Prelude.{◌≡◌, ◌/◌, ◌≤◌, length, IfOk};
-ghost use Rattle.hex.specs.Hex.{decode_of};
-ghost use Rattle.mscp_packet.specs.Steps.{Gives};
+ghost use Rattle.mscp_packet.specs.Common.{◌≡◌, ◌/◌, ◌≤◌, length, IfOk, decode_of, Gives};
 
 use arrayvec::ArrayVec;
 use hex::{FromHexError, decode_to_slice};

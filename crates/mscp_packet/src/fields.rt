@@ -1,9 +1,6 @@
 //! Numbers in bytes at their places, and bytes that grow at their end. All numbers are little-endian.
 
-ghost use Rattle.std.specs.Prelude.{◌≡◌, ◌+◌, ◌≤◌, ◌++◌, length};
-ghost use Rattle.byteorder.specs.Endian.{little_bytes};
-ghost use Rattle.arrayvec.specs.ArrayVec.{array_vec_len};
-ghost use Rattle.mscp_packet.specs.Number.{num};
+ghost use Rattle.mscp_packet.specs.Common.{◌≡◌, ◌+◌, ◌≤◌, ◌++◌, length, little_bytes, array_vec_len, num};
 
 use arrayvec::ArrayVec;
 use byteorder::{ByteOrder, LittleEndian};

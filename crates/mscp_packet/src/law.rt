@@ -1,11 +1,6 @@
 // What the codec promises of both directions at once, and what the layouts promise of themselves.
 
-ghost use Rattle.std.specs.Prelude.{◌≡◌};
-ghost use Rattle.mscp_packet.specs.Commands.{command_bytes, command_of, CommandBytesAreMessages, IsValidOrder};
-ghost use Rattle.mscp_packet.specs.Ends.{end_bytes, kind_of_code, reading_with, EndBytesAreMessages, IsOfKind};
-ghost use Rattle.mscp_packet.specs.Statuses.{aborted, already_online, invalid_length, invalid_opcode};
-ghost use Rattle.mscp_packet.specs.Statuses.{invalid_version, success, unit_available, unit_offline};
-ghost use Rattle.mscp_packet.specs.Table.{IsSound};
+ghost use Rattle.mscp_packet.specs.Common.{◌≡◌, command_bytes, command_of, CommandBytesAreMessages, IsValidOrder, end_bytes, kind_of_code, reading_with, EndBytesAreMessages, IsOfKind, aborted, already_online, invalid_length, invalid_opcode, invalid_version, success, unit_available, unit_offline, IsSound};
 
 use crate::command::Command;
 use crate::end::End;

@@ -1,10 +1,6 @@
 // Commands and ends to bytes. What is written and not named is zero (profile).
 
-ghost use Rattle.std.specs.Prelude.{◌≡◌, ◌+◌, ◌≤◌, ◌++◌};
-ghost use Rattle.arrayvec.specs.ArrayVec.{array_vec_len};
-ghost use Rattle.mscp_packet.specs.Commands.{command_bytes, command_fields, parameter_bytes, written, HasCommandRange, HasRange, IsCommand, IsValidOrder};
-ghost use Rattle.mscp_packet.specs.Ends.{body_bytes, end_bytes, end_fields, end_length, kind_of_body, unit_bytes, HasBodyRange, HasEndRange, IsEnd, IsOfKind};
-ghost use Rattle.mscp_packet.specs.Places.{IsZeroBeside};
+ghost use Rattle.mscp_packet.specs.Common.{◌≡◌, ◌+◌, ◌≤◌, ◌++◌, array_vec_len, command_bytes, command_fields, parameter_bytes, written, HasCommandRange, HasRange, IsCommand, IsValidOrder, body_bytes, end_bytes, end_fields, end_length, kind_of_body, unit_bytes, HasBodyRange, HasEndRange, IsEnd, IsOfKind, IsZeroBeside};
 
 use crate::command::{Command, Order};
 use crate::end::{End, EndBody};

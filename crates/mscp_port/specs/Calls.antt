@@ -235,6 +235,34 @@ pub record TakesStep {K : Type 0} (word : ℕ) (old new : Port K) : Type 0 where
   pub elsewhere : old.stage ≢ stages.First → old.stage ≢ stages.Second → old.stage ≢ stages.Third
       → new ≡ record old { written = None; task = tasks.Free }
 
+-- what may change as a step of the controller is taken
+abbrev pub ChangesByService : {K : Type 0} → Port K → Port K → Type 0
+ChangesByService old new = new ≡ record old {
+  controller = new.controller;
+  task = new.task;
+  buffers = new.buffers;
+  volumes = new.volumes;
+}
+
+-- what may change as a step of the initialisation is taken
+abbrev pub ChangesByWord : {K : Type 0} → Port K → Port K → Type 0
+ChangesByWord old new = new ≡ record old {
+  stage = new.stage;
+  words = new.words;
+  written = new.written;
+  rings = new.rings;
+  task = new.task;
+}
+
+-- what may change as something is found that goes out
+abbrev pub ChangesBySaying : {K : Type 0} → Port K → Port K → Type 0
+ChangesBySaying old new = new ≡ record old {
+  controller = new.controller;
+  outgoing = new.outgoing;
+  is_stalled = new.is_stalled;
+  volumes = new.volumes;
+}
+
 -- what may change as an action went, but for a step that is taken: of a block only what follows it
 abbrev pub ChangesByActing : {K : Type 0} → Port K → Port K → Type 0
 ChangesByActing old new = (new ≡ record old {

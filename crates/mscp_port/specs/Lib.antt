@@ -24,3 +24,4 @@ pub mod Slots
 pub mod Volumes
 pub mod Wanted
 pub mod Sizes
+pub mod Common

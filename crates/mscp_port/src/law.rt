@@ -1,11 +1,6 @@
 // What is true of every port.
 
-ghost use Rattle.mscp_port.specs.Departures.{PortsFillTheirSlots, PortsSpeakInOrder, PortsTellTheirCredits};
-ghost use Rattle.mscp_port.specs.Histories.{PortsHaveCredit, PortsTouchWhatIsNamed};
-ghost use Rattle.mscp_port.specs.Kept.{PortsKeepWhatWasSaid};
-ghost use Rattle.mscp_port.specs.Loaded.{PortsMoveOnVolumes};
-ghost use Rattle.mscp_port.specs.Mounted.{PortsMoveAsMounted};
-ghost use Rattle.mscp_port.specs.Places.{PortsTouchWhatWasPut};
+ghost use Rattle.mscp_port.specs.Common.{PortsFillTheirSlots, PortsSpeakInOrder, PortsTellTheirCredits, PortsHaveCredit, PortsTouchWhatIsNamed, PortsKeepWhatWasSaid, PortsMoveOnVolumes, PortsMoveAsMounted, PortsTouchWhatWasPut};
 
 use mscp_queue::Picker;
 

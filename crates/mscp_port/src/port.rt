@@ -1,17 +1,9 @@
 // A port: its registers, and what it knows.
 
-ghost use Rattle.std.specs.Prelude.{◌≡◌, ◌≢◌, ◌⊎◌, ◌↔◌, ◌≤◌, ◌<◌, ◌%◌, ◌==◌, ℕ, true, Contains, IfErr, IfOk, IfSome, IsOk, None};
-ghost use Rattle.mscp_events.specs.declared.connection.Connection.TheVariants.{First};
-ghost use Rattle.mscp_controller.specs.Holdings.{balance_of};
+ghost use Rattle.mscp_port.specs.Common.{ChangesByWord, ◌≡◌, ◌≢◌, ◌⊎◌, ◌↔◌, ◌≤◌, ◌<◌, ◌%◌, ◌==◌, ℕ, true, Contains, IfErr, IfOk, IfSome, IsOk, None, First, balance_of, step_task, rings_named, Dies, IsMadeOf, ReadsIp, TakesStep, WritesIp, WritesSa, sa_of, IsAsNew, in_hand, place_in, vector_of};
 ghost use Rattle.mscp_port.specs.declared.stage.Stage.TheVariants as stages;
 ghost use Rattle.mscp_port.specs.declared.task.Task.TheVariants as tasks;
-ghost use Rattle.mscp_port.specs.Acted.{step_task};
-ghost use Rattle.mscp_port.specs.Areas.{rings_named};
-ghost use Rattle.mscp_port.specs.Calls.{Dies, IsMadeOf, ReadsIp, TakesStep, WritesIp, WritesSa, sa_of};
-ghost use Rattle.mscp_port.specs.Ports.{IsAsNew, in_hand};
 ghost use Rattle.mscp_port.specs.declared.buffers.Buffer.{Buffer as Kept};
-ghost use Rattle.mscp_port.specs.Volumes.{place_in};
-ghost use Rattle.mscp_port.specs.Wanted.{vector_of};
 
 mod checking;
 mod delivering;
@@ -239,13 +231,7 @@ impl<K: Picker> Port<K> {
         requires free { self.old.task ≡ tasks.Free }
         requires taken { self.old.written ≡ None }
         ensures steps { TakesStep word self.old self.new }
-        ensures frame { (self.new ≡ record self.old {
-          stage = self.new.stage;
-          words = self.new.words;
-          written = self.new.written;
-          rings = self.new.rings;
-          task = self.new.task;
-        }) ⊎ Dies self.old self.new }
+        ensures frame { ChangesByWord self.old self.new ⊎ Dies self.old self.new }
         ensures settings { self.new.controller.settings ≡ self.old.controller.settings }
         ensures buffers { (b : Kept) → Contains self.new.buffers.items b → Contains self.old.buffers.items b }
         ensures packet { in_hand self.new.task ≡ None }
@@ -296,13 +282,7 @@ impl<K: Picker> Port<K> {
             } }
         ensures nowhere { third < 0x8000 → rings_named self.old.words.first self.old.words.second third ≡ None
             → IsAsNew (stages.Dead 7) self.old self.new }
-        ensures frame { (self.new ≡ record self.old {
-          stage = self.new.stage;
-          words = self.new.words;
-          written = self.new.written;
-          rings = self.new.rings;
-          task = self.new.task;
-        }) ⊎ Dies self.old self.new }
+        ensures frame { ChangesByWord self.old self.new ⊎ Dies self.old self.new }
         ensures settings { self.new.controller.settings ≡ self.old.controller.settings }
         ensures buffers { (b : Kept) → Contains self.new.buffers.items b → Contains self.old.buffers.items b }
         ensures packet { in_hand self.old.task ≡ None → in_hand self.new.task ≡ None }

@@ -1,7 +1,6 @@
 // Sizes that a task has.
 
-ghost use Rattle.std.specs.Prelude.{◌≡◌, ◌≤◌, ◌<◌, ◌+◌, ◌%◌};
-ghost use Rattle.mscp_port.specs.Sizes.{clear_size, text_size};
+ghost use Rattle.mscp_port.specs.Common.{◌≡◌, ◌≤◌, ◌<◌, ◌+◌, ◌%◌, clear_size, text_size};
 
 use std::marker::Model;
 
@@ -13,7 +12,7 @@ pub(crate) struct TextSize {
 
 // A clause sees the number.
 impl Model for TextSize {
-    ghost use Rattle.std.specs.Prelude.{ℕ, ◌≤◌};
+    ghost use Rattle.mscp_port.specs.Common.{ℕ, ◌≤◌};
 
     ghost Value = { ℕ };
 
@@ -58,7 +57,7 @@ pub(crate) struct ClearSize {
 
 // A clause sees the number.
 impl Model for ClearSize {
-    ghost use Rattle.std.specs.Prelude.{◌≡◌, ℕ, ◌%◌, ◌<◌};
+    ghost use Rattle.mscp_port.specs.Common.{◌≡◌, ℕ, ◌%◌, ◌<◌};
 
     ghost Value = { ℕ };
 

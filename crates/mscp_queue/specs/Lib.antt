@@ -19,3 +19,4 @@ pub mod Masks
 pub mod Slots
 pub mod Waiters
 pub mod Dues
+pub mod Common

@@ -1,15 +1,6 @@
 // The waiting commands, and how long each may still wait.
 
-ghost use Rattle.std.specs.Prelude.{◌≡◌, ◌+◌, ◌-◌, ◌<◌, ◌≤◌, ◌^◌, ◌++◌, ◌∷◌, [], true, false, cond, length, map, not, take, drop, slice_index_or, sum_by, All};
-ghost use Rattle.mscp_queue.specs.Dues.{clock_end, started};
-ghost use Rattle.std.specs.List.{list_all};
-ghost use Rattle.mscp_queue.specs.Figures.{figure_at, figures};
-ghost use Rattle.mscp_queue.specs.Orders.{is_sequential};
-ghost use Rattle.mscp_queue.specs.Records.{advanced, is_in_service, is_unstarted, left_of, passed_by, record_at, step_charge};
-ghost use Rattle.mscp_queue.specs.Targets.{no_target};
-ghost use Rattle.mscp_queue.specs.Drives.{IsOnUnit};
-ghost use Rattle.mscp_queue.specs.Candidates.{AreOnDrive, IsRecosted};
-ghost use Rattle.mscp_queue.specs.Slots.{is_unfenced_at, kinds_of, lowered_by, slot_at};
+ghost use Rattle.mscp_queue.specs.Common.{◌≡◌, ◌+◌, ◌-◌, ◌<◌, ◌≤◌, ◌^◌, ◌++◌, ◌∷◌, [], true, false, cond, length, map, not, take, drop, slice_index_or, sum_by, All, clock_end, started, list_all, figure_at, figures, is_sequential, advanced, is_in_service, is_unstarted, left_of, passed_by, record_at, step_charge, no_target, IsOnUnit, AreOnDrive, IsRecosted, is_unfenced_at, kinds_of, lowered_by, slot_at};
 
 mod restoring;
 
@@ -40,9 +31,7 @@ pub(crate) struct Backlog {
 
 // A clause sees the budget, the waiting commands in order of arrival, and the target of each.
 impl Model for Backlog {
-    ghost use Rattle.mscp_queue.specs.Dues.{AreTimed};
-    ghost use Rattle.mscp_queue.specs.Waiters.{Waiters};
-    ghost use Rattle.mscp_queue.specs.Slots.{targets, items};
+    ghost use Rattle.mscp_queue.specs.Common.{AreTimed, Waiters, targets, items};
 
     ghost Value = { Waiters };
 
@@ -96,20 +85,6 @@ impl Backlog {
             slots: Slots::new(),
             budget,
             clock: 0,
-            total: 0,
-        }
-    }
-
-    /// The same, but for the clock: so a test comes to its end.
-    #[cfg(test)]
-    pub fn at_clock(budget: u32, clock: u64) -> Backlog
-        requires early { clock < clock_end }
-        ensures { result ≡ record { budget = budget; waiting = []; targets = [] } }
-    {
-        Backlog {
-            slots: Slots::new(),
-            budget,
-            clock,
             total: 0,
         }
     }

@@ -1,12 +1,6 @@
 // What a picker would see of each command that waits.
 
-ghost use Rattle.std.specs.Prelude.{◌≡◌, ◌+◌, ◌++◌, ◌∷◌, ◌<◌, [], true, All, cond, length, map, take, drop};
-ghost use Rattle.std.specs.List.{list_any, position};
-ghost use Rattle.mscp_drive.specs.UnitList.{IsUnitList};
-ghost use Rattle.mscp_queue.specs.Kept.{CanBeShown, units_of};
-ghost use Rattle.mscp_queue.specs.Candidates.{AreCandidates, IsRenewed, choice_in, has_choice_name};
-ghost use Rattle.mscp_queue.specs.Masks.{IsSet};
-ghost use Rattle.mscp_queue.specs.Orders.{is_move};
+ghost use Rattle.mscp_queue.specs.Common.{◌≡◌, ◌+◌, ◌++◌, ◌∷◌, ◌<◌, [], true, All, cond, length, map, take, drop, list_any, position, IsUnitList, CanBeShown, units_of, AreCandidates, IsRenewed, choice_in, has_choice_name, IsSet, is_move};
 
 use crate::backlog::Backlog;
 use crate::counted_view::CountedView;

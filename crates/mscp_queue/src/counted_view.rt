@@ -1,9 +1,6 @@
 // What a picker would see of each command that waits, by which a number is looked up, too.
 
-ghost use Rattle.std.specs.Prelude.{◌≡◌, ◌<◌, ◌≤◌, ◌+◌, [], ◌∷◌, ◌++◌, length, take, drop, slice_index_or, slice_set};
-ghost use Rattle.std.specs.List.{list_any};
-ghost use Rattle.mscp_queue.specs.Candidates.{costing, no_choice};
-ghost use Rattle.mscp_queue.specs.CountedViews.{has_byte, low_byte};
+ghost use Rattle.mscp_queue.specs.Common.{◌≡◌, ◌<◌, ◌≤◌, ◌+◌, [], ◌∷◌, ◌++◌, length, take, drop, slice_index_or, slice_set, list_any, costing, no_choice, has_byte, low_byte};
 
 use crate::view::{Choice, View};
 use std::marker::Model;
@@ -18,9 +15,8 @@ pub(crate) struct CountedView {
 
 // A clause sees the list of the choices.
 impl Model for CountedView {
-    ghost use Rattle.std.specs.Prelude.{List};
+    ghost use Rattle.mscp_queue.specs.Common.{List, IsCounted};
     ghost use Rattle.mscp_queue.specs.declared.view.Choice.{Choice as Shown};
-    ghost use Rattle.mscp_queue.specs.CountedViews.{IsCounted};
 
     ghost Value = { List Shown };
 

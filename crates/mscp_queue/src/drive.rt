@@ -1,11 +1,6 @@
 // A unit with its state and its head.
 
-ghost use Rattle.std.specs.Prelude.{◌≡◌, ◌≤◌, find, length, map};
-ghost use Rattle.std.specs.Option.{option_copied};
-ghost use Rattle.mscp_drive.specs.Shape.{one_block};
-ghost use Rattle.mscp_queue.specs.Drives.{drive_of, fresh_drive, has_number};
-ghost use Rattle.mscp_queue.specs.Outcomes.{state_after};
-ghost use Rattle.mscp_queue.specs.Serving.{state_left};
+ghost use Rattle.mscp_queue.specs.Common.{◌≡◌, ◌≤◌, find, length, map, option_copied, one_block, drive_of, fresh_drive, has_number, state_after, state_left};
 
 use crate::outcome::is_success;
 use crate::plan::Plan;
@@ -22,7 +17,7 @@ pub struct Drive {
 }
 
 impl Drive {
-    ghost use Rattle.mscp_queue.specs.Drives.{fresh_drive};
+    ghost use Rattle.mscp_queue.specs.Common.{fresh_drive};
 
     /// The drive of a unit to which nothing came so far: the unit is available, and its head is on cylinder 0
     /// and goes up.

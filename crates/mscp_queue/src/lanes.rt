@@ -1,8 +1,6 @@
 //! Sixty-four numbers, eight lanes at a time. Bit i of a mask stands for place i.
 
-ghost use Rattle.std.specs.Prelude.{◌^◌, min, ◌≡◌, ◌≢◌, ◌≤◌, ◌<◌, ◌+◌, ◌-◌, ◌*◌, ◌==◌, ℕ, if◌then◌else◌, length, slice_index, IfSome, IfNone};
-ghost use Rattle.std.specs.Int.{bit_at};
-ghost use Rattle.mscp_queue.specs.Lanes.{HasLanes, IsCost, IsFirst, IsLane, IsLeast, lowered};
+ghost use Rattle.mscp_queue.specs.Common.{◌^◌, min, ◌≡◌, ◌≢◌, ◌≤◌, ◌<◌, ◌+◌, ◌-◌, ◌*◌, ◌==◌, ℕ, if◌then◌else◌, length, slice_index, IfSome, IfNone, bit_at, HasLanes, IsCost, IsFirst, IsLane, IsLeast, lowered};
 
 use std::simd::prelude::*;
 
@@ -143,6 +141,3 @@ pub fn least(costs: &[u64; 64], mask: u64) -> Option<usize>
 {
     first_place(costs, mask, least_cost(costs, mask))
 }
-
-#[cfg(test)]
-mod tests;

@@ -1,12 +1,6 @@
 // What a step of a waiting command does on its drive.
 
-ghost use Rattle.std.specs.Prelude.{◌≡◌, ◌+◌, ◌<◌, ◌^◌, Some};
-ghost use Rattle.mscp_drive.specs.Heads.{distance};
-ghost use Rattle.mscp_queue.specs.declared.report.Report.TheVariants.{Served};
-ghost use Rattle.mscp_queue.specs.Orders.{first_block};
-ghost use Rattle.mscp_queue.specs.Outcomes.{goes_on, head_after};
-ghost use Rattle.mscp_queue.specs.Records.{is_unstarted, left_of};
-ghost use Rattle.mscp_queue.specs.Serving.{end_given, plan_of, touched};
+ghost use Rattle.mscp_queue.specs.Common.{◌≡◌, ◌+◌, ◌<◌, ◌^◌, Some, distance, Served, first_block, goes_on, head_after, is_unstarted, left_of, end_given, plan_of, touched};
 
 use crate::drive::Drive;
 use crate::outcome::{outcome, touches};

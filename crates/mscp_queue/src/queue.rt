@@ -1,18 +1,6 @@
 // The queue of a disk controller: its waiting commands, its drives, and its picker.
 
-ghost use Rattle.std.specs.Prelude.{All, ◌≡◌, ◌+◌, ◌*◌, ◌<◌, ◌≤◌, length, find, option_map, false, IfNone, IfSome};
-ghost use Rattle.std.specs.List.{list_any, position};
-ghost use Rattle.mscp_packet.specs.Ends.{IsOfKind};
-ghost use Rattle.mscp_queue.specs.Drives.{is_online_in};
-ghost use Rattle.mscp_queue.specs.Figures.{figure_of_name, figures};
-ghost use Rattle.mscp_queue.specs.Kept.{IsWaitable, place_without, units_of};
-ghost use Rattle.mscp_queue.specs.Lines.{Line, aborting, fresh, pushed};
-ghost use Rattle.mscp_queue.specs.Names.{name_on};
-ghost use Rattle.mscp_queue.specs.Orders.{order_weight};
-ghost use Rattle.mscp_queue.specs.Records.{IsServing, aborted_record, has_name, name_of, record_at};
-ghost use Rattle.mscp_queue.specs.Serving.{is_begun};
-ghost use Rattle.mscp_queue.specs.Views.{is_open_at};
-ghost use Rattle.mscp_queue.specs.Why.{holders_of_name, is_nobody};
+ghost use Rattle.mscp_queue.specs.Common.{All, ◌≡◌, ◌+◌, ◌*◌, ◌<◌, ◌≤◌, length, find, option_map, false, IfNone, IfSome, list_any, position, IsOfKind, is_online_in, figure_of_name, figures, IsWaitable, place_without, units_of, Line, aborting, fresh, pushed, name_on, order_weight, IsServing, aborted_record, has_name, name_of, record_at, is_begun, is_open_at, holders_of_name, is_nobody};
 
 mod restoring;
 mod stepping;
@@ -70,9 +58,7 @@ pub struct Queue<K> {
 // A clause sees the limits, the waiting commands in order of arrival, the drives in the order of their units, what was
 // begun, and the picker.
 impl<K> Model for Queue<K> {
-    ghost use Rattle.mscp_queue.specs.Lines.{Line};
-    ghost use Rattle.mscp_queue.specs.Kept.{begun_name};
-    ghost use Rattle.mscp_queue.specs.Candidates.{IsPrepared};
+    ghost use Rattle.mscp_queue.specs.Common.{Line, begun_name, IsPrepared};
 
     ghost Value = { Line K };
 
@@ -307,6 +293,3 @@ impl<K: Picker> Queue<K> {
         }
     }
 }
-
-#[cfg(test)]
-mod tests;

@@ -1,13 +1,7 @@
 // The slots of the waiting commands. A command keeps its slot as long as it waits, and masks of slots tell at once who
 // keeps whom back.
 
-ghost use Rattle.std.specs.Prelude.{◌≡◌, true, false, ◌+◌, ◌<◌, ◌≤◌, ◌^◌, ◌++◌, ◌∷◌, [], List, length, map, not, take, drop, slice_set, All};
-ghost use Rattle.std.specs.List.{list_all};
-ghost use Rattle.mscp_queue.specs.Orders.{is_sequential};
-ghost use Rattle.mscp_queue.specs.Records.{advanced, is_in_service, passed_by};
-ghost use Rattle.mscp_queue.specs.Drives.{IsOnUnit};
-ghost use Rattle.mscp_queue.specs.Candidates.{AreOnDrive, IsRecosted};
-ghost use Rattle.mscp_queue.specs.Slots.{targets, dues, is_unfenced, items, lowered_by, lowered_unless_serving, shown, slot_at, with_due, with_item};
+ghost use Rattle.mscp_queue.specs.Common.{◌≡◌, true, false, ◌+◌, ◌<◌, ◌≤◌, ◌^◌, ◌++◌, ◌∷◌, [], List, length, map, not, take, drop, slice_set, All, list_all, is_sequential, advanced, is_in_service, passed_by, IsOnUnit, AreOnDrive, IsRecosted, targets, dues, is_unfenced, items, lowered_by, lowered_unless_serving, shown, slot_at, with_due, with_item};
 
 use crate::counted_view::CountedView;
 use crate::drive::Drive;
@@ -39,9 +33,8 @@ pub(crate) struct Slots {
 
 // A clause sees what the slots hold, in order of arrival.
 impl Model for Slots {
-    ghost use Rattle.std.specs.Prelude.{List};
+    ghost use Rattle.mscp_queue.specs.Common.{List, AreKept, shown};
     ghost use Rattle.mscp_queue.specs.declared.slots.Slot.{Slot as Shown};
-    ghost use Rattle.mscp_queue.specs.Slots.{AreKept, shown};
 
     ghost Value = { List Shown };
 
@@ -241,6 +234,3 @@ impl Slots {
         self.masks.is_last_unit(slot, drive)
     }
 }
-
-#[cfg(test)]
-mod tests;

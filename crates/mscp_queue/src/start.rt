@@ -1,14 +1,6 @@
 // Which command starts, where nothing is in service.
 
-ghost use Rattle.std.specs.Prelude.{◌≡◌, ◌++◌, ◌||◌, ◌+◌, [], ◌∷◌, ◌<◌, ◌≤◌, true, cond, length, All};
-ghost use Rattle.mscp_drive.specs.UnitList.{IsUnitList};
-ghost use Rattle.mscp_queue.specs.Targets.{IsTargeted, target_of};
-ghost use Rattle.mscp_queue.specs.Drives.{IsOnUnit};
-ghost use Rattle.mscp_queue.specs.Kept.{ArePassedInOrder, CanBeShown, HasBlocks, IsShut, units_of};
-ghost use Rattle.mscp_queue.specs.Candidates.{AreCandidates, choice_in};
-ghost use Rattle.mscp_queue.specs.Orders.{is_move, is_sequential};
-ghost use Rattle.mscp_queue.specs.Records.{drive_at, record_at};
-ghost use Rattle.mscp_queue.specs.Views.{AllMayStart, IsPick, choice_of, is_open_at, open_places, view_of};
+ghost use Rattle.mscp_queue.specs.Common.{◌≡◌, ◌++◌, ◌||◌, ◌+◌, [], ◌∷◌, ◌<◌, ◌≤◌, true, cond, length, All, IsUnitList, IsTargeted, target_of, IsOnUnit, ArePassedInOrder, CanBeShown, HasBlocks, IsShut, units_of, AreCandidates, choice_in, is_move, is_sequential, drive_at, record_at, AllMayStart, IsPick, choice_of, is_open_at, open_places, view_of};
 
 use crate::backlog::Backlog;
 use crate::candidates::Candidates;

@@ -1,11 +1,6 @@
 // The target of a waiting command.
 
-ghost use Rattle.std.specs.Prelude.{◌≡◌, ◌<◌, ◌≤◌, true, length};
-ghost use Rattle.std.specs.List.{position};
-ghost use Rattle.mscp_queue.specs.Targets.{target_of, unit_place};
-ghost use Rattle.mscp_queue.specs.Drives.{has_number};
-ghost use Rattle.mscp_queue.specs.Kept.{is_known, units_of};
-ghost use Rattle.mscp_queue.specs.Orders.{first_block};
+ghost use Rattle.mscp_queue.specs.Common.{◌≡◌, ◌<◌, ◌≤◌, true, length, position, target_of, unit_place, has_number, is_known, units_of, first_block};
 
 use crate::drive::Drive;
 use mscp_packet::{Command, Order};

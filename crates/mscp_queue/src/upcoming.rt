@@ -1,8 +1,6 @@
 // What is told before a step.
 
-ghost use Rattle.std.specs.Prelude.{◌≡◌, ◌+◌, ◌<◌, ◌^◌};
-ghost use Rattle.mscp_queue.specs.Orders.{first_block};
-ghost use Rattle.mscp_queue.specs.Serving.{upcoming_of};
+ghost use Rattle.mscp_queue.specs.Common.{◌≡◌, ◌+◌, ◌<◌, ◌^◌, first_block, upcoming_of};
 
 use crate::drive::Drive;
 use crate::plan::touched;

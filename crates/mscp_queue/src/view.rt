@@ -1,9 +1,6 @@
 // What a picker sees.
 
-ghost use Rattle.std.specs.Prelude.{◌≡◌, ◌↔◌, ◌<◌, ◌≤◌, ◌+◌, [], ◌∷◌, ◌++◌, length, take, drop, slice_index_or, slice_set, IsSome, IfSome};
-ghost use Rattle.mscp_queue.specs.Candidates.{costing, no_choice};
-ghost use Rattle.mscp_queue.specs.Pickers.{IsRow};
-ghost use Rattle.mscp_queue.specs.Views.{choice_name};
+ghost use Rattle.mscp_queue.specs.Common.{◌≡◌, ◌↔◌, ◌<◌, ◌≤◌, ◌+◌, [], ◌∷◌, ◌++◌, length, take, drop, slice_index_or, slice_set, IsSome, IfSome, costing, no_choice, IsRow, choice_name};
 
 use crate::name::Name;
 use arrayvec::ArrayVec;
@@ -43,8 +40,7 @@ impl Choice {
 
 /// A choice of nothing, which fills the places of a list that isn't full.
 impl Default for Choice {
-    ghost use Rattle.mscp_packet.specs.declared.class.Class.TheVariants.{Unknown};
-    ghost use Rattle.mscp_events.specs.declared.connection.Connection.TheVariants.{First};
+    ghost use Rattle.mscp_queue.specs.Common.{Unknown, First};
 
     fn default() -> Choice
         ensures { result ≡ record { connection = First; reference = 0; unit = 0; class = Unknown; cost = 0 } }
@@ -78,12 +74,12 @@ pub struct View {
 
 // A clause sees the list of the choices.
 impl Model for View {
-    ghost use Rattle.std.specs.Prelude.{List};
+    ghost use Rattle.mscp_queue.specs.Common.{List};
     ghost use Rattle.mscp_queue.specs.declared.view.Choice.{Choice as Shown};
 
     ghost Value = { List Shown };
 
-    ghost use Rattle.mscp_queue.specs.Pickers.{IsRow};
+    ghost use Rattle.mscp_queue.specs.Common.{IsRow};
 
     ghost view = { λ v. v.choices.items };
 
@@ -167,9 +163,7 @@ impl View {
 }
 
 impl PartialEq for View {
-    ghost use Rattle.std.specs.Cmp.Lexicographic.{pointwise, lists_per};
-    ghost use Rattle.mscp_queue.specs.contracts.view.ChoicePartialEq.TheImpl.{ghosts};
-    ghost use Rattle.mscp_queue.specs.contracts.view.ChoicePartialEq.TheImpl.Laws.{laws-law};
+    ghost use Rattle.mscp_queue.specs.Common.{pointwise, lists_per, ghosts, laws-law};
 
     ghost eq = { pointwise ghosts.eq };
 

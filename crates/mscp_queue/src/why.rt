@@ -1,8 +1,7 @@
 // Why a command may not start.
 
-ghost use Rattle.std.specs.Prelude.{◌≡◌, ◌<◌, ◌≤◌, ◌||◌, ◌++◌, ◌∷◌, [], cond, length};
-ghost use Rattle.mscp_queue.specs.Views.{fences, is_open_at};
-ghost use Rattle.mscp_queue.specs.Why.{holder_of, holders_at, is_nobody, is_overdrawn};
+ghost use Rattle.mscp_queue.specs.Common.{◌≡◌, ◌<◌, ◌≤◌, ◌||◌, ◌++◌, ◌∷◌, [], cond, length, is_open_at, holder_of, holders_at, is_nobody, is_overdrawn};
+ghost use Rattle.mscp_queue.specs.Views.{fences};
 
 use crate::backlog::Backlog;
 use crate::record::Record;

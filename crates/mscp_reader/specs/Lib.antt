@@ -4,3 +4,4 @@ pub mod Grammar
 pub mod Plain
 pub mod Outcome
 pub mod Causes
+pub mod Common

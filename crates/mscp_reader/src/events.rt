@@ -1,12 +1,8 @@
 // The lines after the header: what each asks for.
 
-ghost use Rattle.std.specs.Prelude.{◌≡◌, ◌+◌, ◌≤◌, length, IfOk, IfErr};
-ghost use Rattle.mscp_packet.specs.Steps.{Gives};
+ghost use Rattle.mscp_reader.specs.Common.{◌≡◌, ◌+◌, ◌≤◌, length, IfOk, IfErr, Gives, events_of, asked_after, in_line};
 ghost use Rattle.mscp_reader.specs.Lexical as lexical;
 ghost use Rattle.mscp_reader.specs.Requests as requests;
-ghost use Rattle.mscp_reader.specs.Requests.{events_of};
-ghost use Rattle.mscp_reader.specs.Grammar.{asked_after};
-ghost use Rattle.mscp_reader.specs.Outcome.{in_line};
 
 use crate::fault::{Cause, ScriptFault};
 use crate::lines::Line;

@@ -1,15 +1,7 @@
 // The lines of a script.
 
-ghost use Rattle.std.specs.Prelude.{◌≡◌, ◌+◌, ◌<◌, ◌≤◌, [], ◌∷◌, length, IfSome, IfNone, IfOk, IfErr, drop, MatchOption, Some, Ok, Err, option_map};
-ghost use Rattle.std.specs.List.{list_all};
-ghost use Rattle.std.specs.Str.Lines.{strip_carriage_return};
-ghost use Rattle.mscp_packet.specs.Steps.{Gives};
+ghost use Rattle.mscp_reader.specs.Common.{◌≡◌, ◌+◌, ◌<◌, ◌≤◌, [], ◌∷◌, length, IfSome, IfNone, IfOk, IfErr, drop, MatchOption, Some, Ok, Err, option_map, list_all, strip_carriage_return, Gives, events_of, Place, IsInHeader, said_at, asked_next, headed_on, in_line, rest_headed, MOST_EVENTS, MOST_BYTES};
 ghost use Rattle.mscp_reader.specs.Lexical as lexical;
-ghost use Rattle.mscp_reader.specs.Requests.{events_of};
-ghost use Rattle.mscp_reader.specs.Grammar.{Place, IsInHeader, said_at};
-ghost use Rattle.mscp_reader.specs.Outcome.{asked_next, headed_on, in_line, rest_headed};
-ghost use Rattle.mscp_reader.specs.declared.events.TheConstants.{MOST_EVENTS};
-ghost use Rattle.mscp_reader.specs.declared.script.TheConstants.{MOST_BYTES};
 
 use crate::events::{MOST_EVENTS, MOST_STEPS, request_after};
 use crate::fault::{Cause, ScriptFault};

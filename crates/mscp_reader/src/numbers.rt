@@ -1,9 +1,7 @@
 // The numbers and the hexadecimal digits of a line.
 
-ghost use Rattle.std.specs.Prelude.{◌≡◌, ◌≤◌, IfOk};
-ghost use Rattle.mscp_packet.specs.Steps.{Gives};
+ghost use Rattle.mscp_reader.specs.Common.{◌≡◌, ◌≤◌, IfOk, Gives, bytes_in};
 ghost use Rattle.mscp_reader.specs.Lexical as lexical;
-ghost use Rattle.mscp_reader.specs.Requests.{bytes_in};
 
 use crate::fault::Cause;
 use arrayvec::ArrayVec;

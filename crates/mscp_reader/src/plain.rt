@@ -1,15 +1,9 @@
 // Plain lines: a word, and then numbers behind one space each, up to a line feed. Most lines are plain, and are read in
 // one pass over their bytes. Any other line is left to the reader of all lines, which finds the faults, too.
 
-ghost use Rattle.std.specs.Prelude.{◌≡◌, ◌≤◌, [], true, not, position, take, length, replicate, IfSome};
-ghost use Rattle.std.specs.List.{list_all};
-ghost use Rattle.mscp_events.specs.declared.block.Block.TheVariants.{Good};
-ghost use Rattle.mscp_events.specs.declared.connection.Connection.TheVariants.{First};
+ghost use Rattle.mscp_reader.specs.Common.{◌≡◌, ◌≤◌, [], true, not, position, take, length, replicate, IfSome, list_all, Good, First, MOST_STEPS, Asks, CutsWord, Ends, IsNumeral, IsPlain, is_letter, events_of, sent};
 ghost use Rattle.mscp_events.specs.declared.event.Event.TheVariants as events;
-ghost use Rattle.mscp_reader.specs.declared.events.TheConstants.{MOST_STEPS};
 ghost use Rattle.mscp_reader.specs.Lexical as lexical;
-ghost use Rattle.mscp_reader.specs.Plain.{Asks, CutsWord, Ends, IsNumeral, IsPlain, is_letter};
-ghost use Rattle.mscp_reader.specs.Requests.{events_of, sent};
 
 use crate::events::{Form, MOST_STEPS, form_of};
 use crate::numbers::MOST_DIGITS;

@@ -3,3 +3,4 @@ pub mod Ranges
 pub mod Read
 pub mod Restored
 pub mod Faithful
+pub mod Common

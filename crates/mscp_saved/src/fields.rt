@@ -1,8 +1,6 @@
 // Bytes that grow at their end, up to a saved controller.
 
-ghost use Rattle.std.specs.Prelude.{◌≡◌, ◌+◌, ◌≤◌, ◌++◌, [], ◌∷◌, length, replicate};
-ghost use Rattle.arrayvec.specs.ArrayVec.{array_vec_len};
-ghost use Rattle.mscp_saved.specs.Saved.{padded};
+ghost use Rattle.mscp_saved.specs.Common.{◌≡◌, ◌+◌, ◌≤◌, ◌++◌, [], ◌∷◌, length, replicate, array_vec_len, padded};
 
 use arrayvec::ArrayVec;
 use mscp_packet::fields::put;

@@ -1,10 +1,6 @@
 // The parts of a saved controller from bytes.
 
-ghost use Rattle.std.specs.Prelude.{◌≡◌, ◌+◌, ◌*◌, ◌≤◌, length};
-ghost use Rattle.mscp_packet.specs.Commands.{command_of};
-ghost use Rattle.mscp_queue.specs.Orders.{order_weight};
-ghost use Rattle.mscp_saved.specs.Read.{begun_in, connection_in, drive_in, end_in, part, parts_in, sized, unit_in, waiting_in};
-ghost use Rattle.mscp_drive.specs.Shape.{shape};
+ghost use Rattle.mscp_saved.specs.Common.{◌≡◌, ◌+◌, ◌*◌, ◌≤◌, length, command_of, order_weight, begun_in, connection_in, drive_in, end_in, part, parts_in, sized, unit_in, waiting_in, shape};
 
 use arrayvec::ArrayVec;
 use mscp_controller::{Connection, Drive, Name, Record};

@@ -6,3 +6,4 @@ pub mod Counted
 pub mod Simulated
 pub mod Running
 pub mod Chosen
+pub mod Common

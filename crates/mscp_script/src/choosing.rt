@@ -1,9 +1,6 @@
 // What the words of a command line ask for.
 
-ghost use Rattle.std.specs.Prelude.{map};
-ghost use Rattle.std.specs.String.{string_bytes};
-ghost use Rattle.mscp_packet.specs.Steps.{Gives};
-ghost use Rattle.mscp_script.specs.Chosen.{chosen, seen};
+ghost use Rattle.mscp_script.specs.Common.{map, string_bytes, Gives, chosen, seen};
 
 use thiserror::Error;
 

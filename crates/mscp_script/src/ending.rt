@@ -1,9 +1,6 @@
 // How the program ends: its exit status, and the line on standard error.
 
-ghost use Rattle.std.specs.Prelude.{◌≡◌, ◌+◌, ◌≤◌, ◌++◌, length};
-ghost use Rattle.arrayvec.specs.ArrayString.{array_string_len};
-ghost use Rattle.std.specs.Fmt.{decimal};
-ghost use Rattle.mscp_script.specs.Endings.{error_line, exit_status, fault_status, fault_text, show_text};
+ghost use Rattle.mscp_script.specs.Common.{◌≡◌, ◌+◌, ◌≤◌, ◌++◌, length, array_string_len, decimal, error_line, exit_status, fault_status, fault_text, show_text};
 
 use crate::fault::Fault;
 use crate::simulation::SimFault;

@@ -1,8 +1,6 @@
 // The line of a packet, written.
 
-ghost use Rattle.std.specs.Prelude.{◌≡◌, ◌↔◌, true, false};
-ghost use Rattle.mscp_text.specs.Shown.{shown};
-ghost use Rattle.mscp_script.specs.Printed.{Prints, PrintsOnce};
+ghost use Rattle.mscp_script.specs.Common.{◌≡◌, ◌↔◌, true, false, shown, Prints, PrintsOnce};
 
 use crate::fault::Fault;
 use crate::stream::Sink;

@@ -1,11 +1,6 @@
 // The report of a script in one pass: what a line asks for comes to a controller as soon as the line is read.
 
-ghost use Rattle.std.specs.Prelude.{◌≡◌, [], IfOk};
-ghost use Rattle.mscp_events.specs.Settings.{Settings};
-ghost use Rattle.mscp_reader.specs.Grammar.{Begins, HasGone, IsFault};
-ghost use Rattle.mscp_reader.specs.Outcome.{rest_outcome};
-ghost use Rattle.mscp_script.specs.Running.{Runs, RunsTo, TellsReport};
-ghost use Rattle.mscp_script.specs.Simulated.{IsReport};
+ghost use Rattle.mscp_script.specs.Common.{◌≡◌, [], IfOk, Settings, Begins, HasGone, IsFault, rest_outcome, Runs, RunsTo, TellsReport, IsReport};
 
 use crate::running::Run;
 use mscp_controller::runs_keep_the_promise;

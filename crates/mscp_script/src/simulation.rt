@@ -1,8 +1,6 @@
 // A script in, its report out.
 
-ghost use Rattle.std.specs.Prelude.{◌≡◌, ◌↔◌, true, false};
-ghost use Rattle.mscp_reader.specs.Grammar.{IsFault};
-ghost use Rattle.mscp_script.specs.Simulated.{IsGiven, LeavesRest, WritesOnce, WritesReport, sim_of_reading, sim_of_script};
+ghost use Rattle.mscp_script.specs.Common.{◌≡◌, ◌↔◌, true, false, IsFault, IsGiven, LeavesRest, WritesOnce, WritesReport, sim_of_reading, sim_of_script};
 ghost use Rattle.mscp_script.specs.declared.simulation.SimFault.TheVariants as faults;
 
 use crate::reading::{LIMIT, ReadAllFault, read_all};

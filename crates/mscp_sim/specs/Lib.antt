@@ -4,3 +4,4 @@ pub mod Matches
 pub mod TwoEnds
 pub mod Conversing
 pub mod Rooms
+pub mod Common

@@ -1,13 +1,6 @@
 // Two hosts and a controller that talk.
 
-ghost use Rattle.std.specs.Prelude.{◌≡◌, ℕ, ◌+◌, ◌≤◌, [], ◌∷◌, ◌++◌, length, option_to_list, Some, IfOk};
-ghost use Rattle.mscp_events.specs.Settings.{IsValid};
-ghost use Rattle.mscp_events.specs.Both.{Both};
-ghost use Rattle.mscp_host.specs.Accounts.{Account};
-ghost use Rattle.mscp_sim.specs.Conversing.{Goes, GoesOn};
-ghost use Rattle.mscp_sim.specs.TwoEnds.{AreTwoEnds};
-ghost use Rattle.mscp_sim.specs.Matches.{Match};
-ghost use Rattle.mscp_sim.specs.Rooms.{HasRoom};
+ghost use Rattle.mscp_sim.specs.Common.{◌≡◌, ℕ, ◌+◌, ◌≤◌, [], ◌∷◌, ◌++◌, length, option_to_list, Some, IfOk, IsValid, Both, Account, Goes, GoesOn, AreTwoEnds, Match, HasRoom};
 
 use crate::hosts::Hosts;
 use arrayvec::ArrayVec;

@@ -1,8 +1,6 @@
 // The hosts of both connections.
 
-ghost use Rattle.std.specs.Prelude.{◌≡◌, ◌≤◌, length};
-ghost use Rattle.mscp_events.specs.Both.{of, put};
-ghost use Rattle.mscp_host.specs.Accounts.{fresh, heard, polls_oldest, submits};
+ghost use Rattle.mscp_sim.specs.Common.{◌≡◌, ◌≤◌, length, of, put, fresh, heard, polls_oldest, submits};
 
 use arrayvec::ArrayVec;
 use mscp_controller::{Config, Connection};
@@ -19,9 +17,7 @@ pub(crate) struct Hosts {
 
 // A clause sees both accounts. A host that isn't there has no credits, and nothing outstanding.
 impl Model for Hosts {
-    ghost use Rattle.std.specs.Prelude.{unwrap_or};
-    ghost use Rattle.mscp_events.specs.Both.{Both};
-    ghost use Rattle.mscp_host.specs.Accounts.{Account, fresh};
+    ghost use Rattle.mscp_sim.specs.Common.{unwrap_or, Both, Account, fresh};
 
     ghost Value = { Both Account };
 

@@ -1,10 +1,6 @@
 // A packet as a line of text: a message that is written as hexadecimal digits.
 
-ghost use Rattle.std.specs.Prelude.{◌≡◌, [], ◌≤◌, ◌%◌, ◌==◌, ◌&&◌, length, IfOk};
-ghost use Rattle.std.specs.Char.{is_ascii_hexdigit};
-ghost use Rattle.std.specs.List.{list_all};
-ghost use Rattle.mscp_packet.specs.Steps.{Gives};
-ghost use Rattle.mscp_text.specs.Shown.{message_of, of_end, of_message, packet_of, shown, Shows};
+ghost use Rattle.mscp_text.specs.Common.{◌≡◌, [], ◌≤◌, ◌%◌, ◌==◌, ◌&&◌, length, IfOk, is_ascii_hexdigit, list_all, Gives, message_of, of_end, of_message, packet_of, shown, Shows};
 ghost use Rattle.mscp_text.specs.declared.packet.ShowFault.TheVariants as faults;
 
 mod text;

@@ -1,7 +1,7 @@
 // The tests of all libraries that want public calls alone. They stand in a crate of their own, so that no library is
 // proved once more for them.
 //
-// `packets`, `drives`, `queues`, `controllers`, `ports`, `hosts` and `talks` try a library each: whether its clauses say what
+// `packets`, `drives`, `queues`, `controllers`, `hosts` and `talks` try a library each: whether its clauses say what
 // is meant, and that its calls are there. The others are what a user meets on the worst day: bad blocks and aborts at each
 // point, every message, memory that is refused at each request, streams that fail at each call, and scripts that mean no
 // good.
@@ -22,7 +22,6 @@ mod memory;
 mod messages;
 mod moments;
 mod packets;
-mod ports;
 mod queues;
 mod rounds;
 mod scripts;

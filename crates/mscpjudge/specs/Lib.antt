@@ -1,3 +1,4 @@
 pub mod Said
 pub mod Endings
 pub mod Heard
+pub mod Common

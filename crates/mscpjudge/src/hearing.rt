@@ -1,8 +1,6 @@
 // What is said of what hosts would have heard in a log.
 
-ghost use Rattle.std.specs.Prelude.{◌≡◌, ◌++◌, false, OnOk};
-ghost use Rattle.mscpjudge.specs.Heard.{TellsHeard, counts_text, heard_outcome};
-ghost use Rattle.mscpjudge.specs.Said.{WritesOnce};
+ghost use Rattle.mscpjudge.specs.Common.{◌≡◌, ◌++◌, false, OnOk, TellsHeard, counts_text, heard_outcome, WritesOnce};
 
 use crate::fault::Fault;
 use crate::judging::Outcome;

@@ -1,9 +1,6 @@
 // The accounts of the connections' hosts as they were.
 
-ghost use Rattle.std.specs.Prelude.{◌≡◌, ◌≤◌, length};
-ghost use Rattle.mscp_events.specs.declared.connection.Connection.TheVariants.{First, Second};
-ghost use Rattle.mscp_controller.specs.Accounts.{account};
-ghost use Rattle.mscp_controller.specs.Holdings.{waiting_on};
+ghost use Rattle.mscp_controller.specs.Common.{◌≡◌, ◌≤◌, length, First, Second, account, waiting_on};
 
 use crate::account::Accounts;
 use arrayvec::ArrayVec;

@@ -1,9 +1,6 @@
 // A controller as it was, and what is to be kept of one so that it can be again.
 
-ghost use Rattle.std.specs.Prelude.{◌≡◌, ◌<◌, length};
-ghost use Rattle.mscp_queue.specs.Records.{record_at};
-ghost use Rattle.mscp_events.specs.Both.{of};
-ghost use Rattle.mscp_controller.specs.Restored.{IsSound, made_of};
+ghost use Rattle.mscp_controller.specs.Common.{◌≡◌, ◌<◌, length, record_at, of, IsSound, made_of};
 
 use crate::controller::Controller;
 use arrayvec::ArrayVec;

@@ -1,17 +1,6 @@
 // What callers see of a controller.
 
-ghost use Rattle.std.specs.Prelude.{All, ◌≡◌, ◌+◌, ◌≤◌, length, IfNone, IfSome};
-ghost use Rattle.mscp_queue.specs.Drives.{is_online_in};
-ghost use Rattle.mscp_queue.specs.Figures.{figure_of_name, figures};
-ghost use Rattle.mscp_queue.specs.Kept.{IsOfUnit};
-ghost use Rattle.mscp_queue.specs.Names.{name_on};
-ghost use Rattle.mscp_queue.specs.Records.{IsServing, has_name, record_at};
-ghost use Rattle.mscp_queue.specs.Views.{is_open_at};
-ghost use Rattle.mscp_queue.specs.Why.{holders_of_name, is_nobody};
-ghost use Rattle.std.specs.List.{position};
-ghost use Rattle.mscp_events.specs.Both.{of};
-ghost use Rattle.mscp_events.specs.Settings.{credits_of};
-ghost use Rattle.mscp_controller.specs.Holdings.{IsBalanced, balance_of, begun_step, waiting_on};
+ghost use Rattle.mscp_controller.specs.Common.{All, ◌≡◌, ◌+◌, ◌≤◌, length, IfNone, IfSome, is_online_in, figure_of_name, figures, IsOfUnit, name_on, IsServing, has_name, record_at, is_open_at, holders_of_name, is_nobody, position, of, credits_of, IsBalanced, balance_of, begun_step, waiting_on};
 
 use crate::controller::Controller;
 use arrayvec::ArrayVec;

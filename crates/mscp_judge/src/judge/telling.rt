@@ -1,21 +1,9 @@
 // What a log tells of answers, line by line, and what would have been right.
 
-ghost use Rattle.std.specs.Prelude.{◌≡◌, ◌≢◌, IfSome, Option, ◌+◌, ◌<◌, ◌^◌, ◌∷◌, ◌++◌, [], true, false, OnOk, IfOk};
-ghost use Rattle.std.specs.List.{list_all};
-ghost use Rattle.mscp_controller.specs.History.{Trace};
-ghost use Rattle.mscp_controller.specs.Holdings.{fresh};
-ghost use Rattle.mscp_events.specs.Settings.{IsValid, Settings};
+ghost use Rattle.mscp_judge.specs.Common.{◌≡◌, ◌≢◌, IfSome, Option, ◌+◌, ◌<◌, ◌^◌, ◌∷◌, ◌++◌, [], true, false, OnOk, IfOk, list_all, Trace, fresh, IsValid, Settings, Wanted, Breaks, IsAhead, IsTold, Tells, Log, is_answer, telling, wanted_name, IsOpen, IsRightNext, IsStepRule, due_rule, is_service, starts_in, BeginsWith, IsFirstLine, Led, Stands, due};
 ghost use Rattle.mscp_reader.specs.Lexical as lexical;
 ghost use Rattle.mscp_judge.specs.declared.naming.Named as named;
-ghost use Rattle.mscp_judge.specs.declared.naming.Wanted.{Wanted};
-ghost use Rattle.mscp_judge.specs.Judged.{Breaks, IsAhead, IsTold, Tells};
-ghost use Rattle.mscp_judge.specs.Logs.{Log, is_answer, telling};
 ghost use Rattle.mscp_judge.specs.Naming as naming;
-ghost use Rattle.mscp_judge.specs.Naming.{wanted_name};
-ghost use Rattle.mscp_judge.specs.Rights.{IsOpen, IsRightNext};
-ghost use Rattle.mscp_judge.specs.Rules.{IsStepRule, due_rule, is_service};
-ghost use Rattle.mscp_judge.specs.Starts.{starts_in};
-ghost use Rattle.mscp_judge.specs.Standing.{BeginsWith, IsFirstLine, Led, Stands, due};
 
 use crate::answers::is_service;
 use crate::judge::Judge;

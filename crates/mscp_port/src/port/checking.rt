@@ -1,10 +1,7 @@
 // What is in hand is checked again: while it is, a volume may come or go.
 
-ghost use Rattle.std.specs.Prelude.{◌≡◌, ◌≤◌, ◌%◌, true, IfSome, None};
-ghost use Rattle.mscp_queue.specs.Serving.{has_block};
+ghost use Rattle.mscp_port.specs.Common.{◌≡◌, ◌≤◌, ◌%◌, true, IfSome, None, has_block, MayMoveUnit, block_begun, fault_now, IsOnVolume, MayMove};
 ghost use Rattle.mscp_port.specs.Blocks.{fault_with as fault_of};
-ghost use Rattle.mscp_port.specs.Moved.{MayMoveUnit, block_begun, fault_now};
-ghost use Rattle.mscp_port.specs.Volumes.{IsOnVolume, MayMove};
 
 use crate::buffers::{Buffer, find_buffer};
 use crate::filling::STEP_WITHOUT_VOLUME;

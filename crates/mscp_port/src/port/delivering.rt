@@ -1,27 +1,11 @@
 // What goes out to the host, and how.
 
-ghost use Rattle.std.specs.Prelude.{◌≡◌, ◌≢◌, ◌≤◌, ◌<◌, ◌+◌, ◌-◌, ◌⊎◌, length, Contains, IfSome, None, Some};
-ghost use Rattle.std.specs.List.{position};
+ghost use Rattle.mscp_port.specs.Common.{ChangesBySaying, ◌≡◌, ◌≢◌, ◌≤◌, ◌<◌, ◌+◌, ◌-◌, ◌⊎◌, length, Contains, IfSome, None, Some, position, Side, Responses, Descriptor, First, after_take, WritesOut, without, unit_found, news_at, told_end, unit_end, with_status, volumes_after, IsNews, TakesEnd, TellsNews, news_place, credits_told, packet_of, Dies, IsAsNew, in_hand, volume_at, volume_heeded, array_vec_len};
 ghost use Rattle.mscp_port.specs.declared.buffers.Buffer.{Buffer as Kept};
 ghost use Rattle.mscp_port.specs.declared.action.Outcome.TheVariants as outcomes;
-ghost use Rattle.mscp_port.specs.declared.rings.Side.{Side};
-ghost use Rattle.mscp_port.specs.declared.rings.Side.TheVariants.{Responses};
-ghost use Rattle.mscp_port.specs.declared.slot.Descriptor.{Descriptor};
 ghost use Rattle.mscp_port.specs.declared.stage.Stage.TheVariants as stages;
 ghost use Rattle.mscp_port.specs.declared.task.Task.TheVariants as tasks;
-ghost use Rattle.mscp_events.specs.declared.connection.Connection.TheVariants.{First};
-ghost use Rattle.mscp_controller.specs.Holdings.{after_take};
-ghost use Rattle.mscp_port.specs.Acted.{WritesOut};
-ghost use Rattle.mscp_port.specs.Buffers.{without};
-ghost use Rattle.mscp_drive.specs.UnitList.{unit_found};
-ghost use Rattle.mscp_port.specs.Leaving.{news_at, status_told as leaving_status, told_end, unit_end, with_status};
-ghost use Rattle.mscp_port.specs.Moved.{volumes_after};
-ghost use Rattle.mscp_port.specs.Outgoings.{IsNews, TakesEnd, TellsNews, news_place};
-ghost use Rattle.mscp_port.specs.Packets.{credits_told, packet_of};
-ghost use Rattle.mscp_port.specs.Calls.{Dies};
-ghost use Rattle.mscp_port.specs.Ports.{IsAsNew, in_hand};
-ghost use Rattle.mscp_port.specs.Volumes.{volume_at, volume_heeded};
-ghost use Rattle.arrayvec.specs.ArrayVec.{array_vec_len};
+ghost use Rattle.mscp_port.specs.Leaving.{status_told as leaving_status};
 
 use crate::action::Outcome;
 use crate::buffers::{Buffer, find_buffer, forget};
@@ -48,12 +32,7 @@ impl<K: Picker> Port<K> {
     /// Finds what goes out next: the oldest end, and else news of a volume.
     pub(crate) fn find_outgoing(&mut self)
         requires { self.old.outgoing ≡ None }
-        ensures frame { self.new ≡ record self.old {
-          controller = self.new.controller;
-          outgoing = self.new.outgoing;
-          is_stalled = self.new.is_stalled;
-          volumes = self.new.volumes;
-        } }
+        ensures frame { ChangesBySaying self.old self.new }
         ensures says { TakesEnd self.old self.new ⊎ TellsNews self.old self.new }
         ensures held { (self.new.controller ≡ self.old.controller)
             ⊎ (self.new.controller ≡ after_take First self.old.controller) }

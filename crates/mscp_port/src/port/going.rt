@@ -1,15 +1,10 @@
 // How what the port wanted done went.
 
-ghost use Rattle.std.specs.Prelude.{◌≡◌, ◌⊎◌, ◌↔◌, ◌+◌, ◌%◌, Contains, IfSome, IsOk, IsTrue, MatchOption, if◌then◌else◌, ◌==◌, None};
+ghost use Rattle.mscp_port.specs.Common.{ChangesByService, ChangesByWord, ◌≡◌, ◌⊎◌, ◌↔◌, ◌+◌, ◌%◌, Contains, IfSome, IsOk, IsTrue, MatchOption, if◌then◌else◌, ◌==◌, None, Responses, Clears, GivesBack, counted, vector_in, Dies, Goes, TakesStep, GoesOnWithBlock, Moves, MovesOn, IsAsNew, IsOutcomeOf, in_hand};
 ghost use Rattle.mscp_port.specs.declared.action.Outcome.TheVariants as outcomes;
 ghost use Rattle.mscp_port.specs.declared.buffers.Buffer.{Buffer as Kept};
-ghost use Rattle.mscp_port.specs.declared.rings.Side.TheVariants.{Responses};
 ghost use Rattle.mscp_port.specs.declared.stage.Stage.TheVariants as stages;
 ghost use Rattle.mscp_port.specs.declared.task.Task.TheVariants as tasks;
-ghost use Rattle.mscp_port.specs.Acted.{Clears, GivesBack, counted, vector_in};
-ghost use Rattle.mscp_port.specs.Calls.{Dies, Goes, TakesStep};
-ghost use Rattle.mscp_port.specs.Moved.{GoesOnWithBlock, Moves, MovesOn};
-ghost use Rattle.mscp_port.specs.Ports.{IsAsNew, IsOutcomeOf, in_hand};
 
 use crate::action::{Outcome, Unasked};
 use crate::port::Port;
@@ -66,12 +61,7 @@ impl<K: Picker> Port<K> {
     fn move_on(&mut self, outcome: Outcome)
         ensures moves { MovesOn (K.picks self.old.controller.picker) outcome self.old self.new }
         ensures blocks { GoesOnWithBlock self.old self.new }
-        ensures frame { self.new ≡ record self.old {
-          controller = self.new.controller;
-          task = self.new.task;
-          buffers = self.new.buffers;
-          volumes = self.new.volumes;
-        } }
+        ensures frame { ChangesByService self.old self.new }
         ensures settings { self.new.controller.settings ≡ self.old.controller.settings }
         ensures buffers { (b : Kept) → Contains self.new.buffers.items b → Contains self.old.buffers.items b }
         ensures packet { in_hand self.new.task ≡ None }
@@ -90,13 +80,7 @@ impl<K: Picker> Port<K> {
         ensures steps { IfSome self.old.written (λ word. TakesStep word self.old self.new) }
         ensures none { self.old.written ≡ None → self.new ≡ record self.old { task = tasks.Free } }
         ensures settings { self.new.controller.settings ≡ self.old.controller.settings }
-        ensures frame { (self.new ≡ record self.old {
-          stage = self.new.stage;
-          words = self.new.words;
-          written = self.new.written;
-          rings = self.new.rings;
-          task = self.new.task;
-        }) ⊎ Dies self.old self.new }
+        ensures frame { ChangesByWord self.old self.new ⊎ Dies self.old self.new }
         ensures buffers { (b : Kept) → Contains self.new.buffers.items b → Contains self.old.buffers.items b }
         ensures packet { in_hand self.new.task ≡ None }
     {

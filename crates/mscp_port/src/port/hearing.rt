@@ -1,25 +1,15 @@
 // What the port reads in host memory.
 
-ghost use Rattle.std.specs.Prelude.{◌≡◌, ◌≢◌, ◌≤◌, ◌⊎◌, ℕ, true, length, Bool, Contains, IfSome, Option, None, Ok, Err};
-ghost use Rattle.mscp_events.specs.declared.connection.Connection.TheVariants.{First};
-ghost use Rattle.mscp_controller.specs.Holdings.{after_message, answer_to_message};
+ghost use Rattle.mscp_port.specs.Common.{◌≡◌, ◌≢◌, ◌≤◌, ◌⊎◌, ℕ, true, length, Bool, Contains, IfSome, Option, None, Ok, Err, First, after_message, answer_to_message, num, Responses, Commands, kept_beside, without_aborted, handed, ChangesByReading, Dies, Hears, AnswersItself, IsAsNew, in_hand, SeesHeader, SeesText, answered_to, changes_at, heeded, neighbour_seen, settings_heeded, slot_seen, is_owned, place_in};
 ghost use Rattle.mscp_controller.specs.declared.entry.SendFault.{SendFault as Refused};
 ghost use Rattle.mscp_controller.specs.declared.entry.SendFault.TheVariants as faults;
 ghost use Rattle.mscp_controller.specs.declared.entry.Sent.{Sent as Told};
 ghost use Rattle.mscp_controller.specs.declared.entry.Sent.TheVariants as sents;
-ghost use Rattle.mscp_packet.specs.Number.{num};
 ghost use Rattle.mscp_port.specs.declared.buffers.Buffer.{Buffer as Kept};
-ghost use Rattle.mscp_port.specs.declared.rings.Side.TheVariants.{Responses, Commands};
 ghost use Rattle.mscp_port.specs.declared.stage.Stage.TheVariants as stages;
 ghost use Rattle.mscp_port.specs.declared.task.Task.TheVariants as tasks;
-ghost use Rattle.mscp_port.specs.Buffers.{buffer_in, kept_beside, without_aborted};
-ghost use Rattle.mscp_port.specs.Messages.{handed, own_end as end_of_own};
-ghost use Rattle.mscp_port.specs.Calls.{ChangesByReading, Dies, Hears};
-ghost use Rattle.mscp_port.specs.Outgoings.{AnswersItself};
-ghost use Rattle.mscp_port.specs.Ports.{IsAsNew, in_hand};
-ghost use Rattle.mscp_port.specs.Seen.{SeesHeader, SeesText, answered_to, changes_at, heeded, neighbour_seen, settings_heeded, slot_seen};
-ghost use Rattle.mscp_port.specs.Slots.{is_owned};
-ghost use Rattle.mscp_port.specs.Volumes.{place_in};
+ghost use Rattle.mscp_port.specs.Buffers.{buffer_in};
+ghost use Rattle.mscp_port.specs.Messages.{own_end as end_of_own};
 
 use crate::action::Unasked;
 use crate::buffers::{Buffer, forget_aborted, keep};

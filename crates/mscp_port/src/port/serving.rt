@@ -1,14 +1,9 @@
 // How blocks are moved.
 
-ghost use Rattle.std.specs.Prelude.{◌≡◌, ◌≤◌, ◌%◌, ◌⊎◌, [], Contains, IfSome, Option, None, Some};
+ghost use Rattle.mscp_port.specs.Common.{ChangesByService, ◌≡◌, ◌≤◌, ◌%◌, ◌⊎◌, [], Contains, IfSome, Option, None, Some, first_of, move_of, refusal_of, task_of, Foretells, begun_step, FollowsPart, GoesOnWithBlock, TakesBegun, TakesBlock, anyhow, begun_task, fault_now, lost_with, MayBegin, IsMoving, IsOfBlock, in_hand, IsOnVolume, MayMove};
 ghost use Rattle.mscp_port.specs.declared.buffers.Buffer.{Buffer as Kept};
-ghost use Rattle.mscp_port.specs.Blocks.{block_of as block_after, first_of, has_host_bytes as has_bytes, move_of, refusal_of, task_of, writes as writes_to};
+ghost use Rattle.mscp_port.specs.Blocks.{block_of as block_after, has_host_bytes as has_bytes, writes as writes_to};
 ghost use Rattle.mscp_queue.specs.declared.upcoming.Upcoming.{Upcoming as Foretold};
-ghost use Rattle.mscp_controller.specs.Holdings.{Foretells, begun_step};
-ghost use Rattle.mscp_port.specs.Moved.{FollowsPart, GoesOnWithBlock, TakesBegun, TakesBlock, anyhow, begun_task, fault_now, lost_with};
-ghost use Rattle.mscp_port.specs.Outgoings.{MayBegin};
-ghost use Rattle.mscp_port.specs.Ports.{IsMoving, IsOfBlock, in_hand};
-ghost use Rattle.mscp_port.specs.Volumes.{IsOnVolume, MayMove};
 ghost use Rattle.mscp_port.specs.declared.task.Task.TheVariants as tasks;
 
 use crate::action::Outcome;
@@ -190,12 +185,7 @@ impl<K: Picker> Port<K> {
     fn finish_of(&mut self, connection: Connection, reference: u32, block: Block)
         ensures takes { TakesBlock (K.picks self.old.controller.picker) connection reference block self.old self.new }
         ensures whoever { TakesBlock anyhow connection reference block self.old self.new }
-        ensures frame { self.new ≡ record self.old {
-          controller = self.new.controller;
-          task = self.new.task;
-          buffers = self.new.buffers;
-          volumes = self.new.volumes;
-        } }
+        ensures frame { ChangesByService self.old self.new }
         ensures settings { self.new.controller.settings ≡ self.old.controller.settings }
         ensures buffers { (b : Kept) → Contains self.new.buffers.items b → Contains self.old.buffers.items b }
         ensures packet { in_hand self.new.task ≡ None }
@@ -217,12 +207,7 @@ impl<K: Picker> Port<K> {
     pub(crate) fn finish(&mut self, block: Block)
         ensures takes { TakesBegun (K.picks self.old.controller.picker) block self.old self.new }
         ensures blocks { GoesOnWithBlock self.old self.new }
-        ensures frame { self.new ≡ record self.old {
-          controller = self.new.controller;
-          task = self.new.task;
-          buffers = self.new.buffers;
-          volumes = self.new.volumes;
-        } }
+        ensures frame { ChangesByService self.old self.new }
         ensures settings { self.new.controller.settings ≡ self.old.controller.settings }
         ensures buffers { (b : Kept) → Contains self.new.buffers.items b → Contains self.old.buffers.items b }
         ensures packet { in_hand self.new.task ≡ None }
@@ -238,12 +223,7 @@ impl<K: Picker> Port<K> {
         ensures takes { TakesBegun (K.picks self.old.controller.picker)
             (lost_with (fault_now self.old upcoming.now kind)) self.old self.new }
         ensures blocks { GoesOnWithBlock self.old self.new }
-        ensures frame { self.new ≡ record self.old {
-          controller = self.new.controller;
-          task = self.new.task;
-          buffers = self.new.buffers;
-          volumes = self.new.volumes;
-        } }
+        ensures frame { ChangesByService self.old self.new }
         ensures settings { self.new.controller.settings ≡ self.old.controller.settings }
         ensures buffers { (b : Kept) → Contains self.new.buffers.items b → Contains self.old.buffers.items b }
         ensures packet { in_hand self.new.task ≡ None }
@@ -260,12 +240,7 @@ impl<K: Picker> Port<K> {
     pub(crate) fn moved(&mut self, kind: MoveKind, outcome: Outcome)
         ensures moves { FollowsPart (K.picks self.old.controller.picker) outcome kind self.old self.new }
         ensures blocks { GoesOnWithBlock self.old self.new }
-        ensures frame { self.new ≡ record self.old {
-          controller = self.new.controller;
-          task = self.new.task;
-          buffers = self.new.buffers;
-          volumes = self.new.volumes;
-        } }
+        ensures frame { ChangesByService self.old self.new }
         ensures settings { self.new.controller.settings ≡ self.old.controller.settings }
         ensures buffers { (b : Kept) → Contains self.new.buffers.items b → Contains self.old.buffers.items b }
         ensures packet { in_hand self.new.task ≡ None }

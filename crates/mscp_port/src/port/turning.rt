@@ -1,24 +1,12 @@
 // What the port wants done.
 
-ghost use Rattle.std.specs.Prelude.{◌≡◌, ◌≢◌, ◌≤◌, ◌<◌, ◌⊎◌, ◌+◌, ◌-◌, ◌*◌, ◌^◌, ℕ, true, false, length, Contains, IfSome, IsSome, min, replicate, None, Some};
-ghost use Rattle.byteorder.specs.Endian.{little_bytes};
+ghost use Rattle.mscp_port.specs.Common.{ChangesBySaying, ◌≡◌, ◌≢◌, ◌≤◌, ◌<◌, ◌⊎◌, ◌+◌, ◌-◌, ◌*◌, ◌^◌, ℕ, true, false, length, Contains, IfSome, IsSome, min, replicate, None, Some, little_bytes, Responses, Commands, IsInArea, end_of, slot_in, slots_of, kept_of, IsInBuffer, Wants, HasNothingToHear, HasNothingToSay, IsAlive, IsDue, IsIdleUp, IsOfBlock, IsInSomeBuffer, IsWithin, in_hand, BeginsBlock, MayMoveOn, MayMoveUnit, block_begun, is_storing, move_wanted, part_kept, part_now, KeepsSaying, Says, TakesEnd, TellsNews, credits_told, packet_of, given_back, text_of, IsWanted, Writes, clear_from, given_in};
 ghost use Rattle.arrayvec.specs.ArrayVec.{ArrayVec as Written};
 ghost use Rattle.mscp_port.specs.declared.action.Action.TheVariants as actions;
 ghost use Rattle.mscp_port.specs.declared.buffers.Buffer.{Buffer as Kept};
-ghost use Rattle.mscp_port.specs.declared.rings.Side.TheVariants.{Responses, Commands};
 ghost use Rattle.mscp_port.specs.declared.stage.Stage.TheVariants as stages;
 ghost use Rattle.mscp_port.specs.declared.task.Task.TheVariants as tasks;
-ghost use Rattle.mscp_port.specs.Areas.{IsInArea, end_of, slot_in, slots_of};
-ghost use Rattle.mscp_port.specs.Blocks.{kept_of};
-ghost use Rattle.mscp_port.specs.Buffers.{IsInBuffer};
-ghost use Rattle.mscp_port.specs.Calls.{Wants};
-ghost use Rattle.mscp_port.specs.Ports.{HasNothingToHear, HasNothingToSay, IsAlive, IsDue, IsIdleUp, IsOfBlock, IsInSomeBuffer, IsWithin, in_hand};
 ghost use Rattle.mscp_packet.specs.declared.command.MoveKind.{MoveKind as Kind};
-ghost use Rattle.mscp_port.specs.Moved.{BeginsBlock, MayMoveOn, MayMoveUnit, block_begun, is_storing, move_wanted, part_kept, part_now};
-ghost use Rattle.mscp_port.specs.Outgoings.{KeepsSaying, Says, TakesEnd, TellsNews};
-ghost use Rattle.mscp_port.specs.Packets.{credits_told, packet_of};
-ghost use Rattle.mscp_port.specs.Slots.{given_back, text_of};
-ghost use Rattle.mscp_port.specs.Wanted.{IsWanted, Writes, clear_from, given_in};
 
 use crate::action::Action;
 use crate::buffers::{Buffer, find_buffer};
@@ -117,12 +105,7 @@ impl<K: Picker> Port<K> {
     /// What it takes in hand.
     fn choose(&mut self) -> Task
         requires { self.old.task ≡ tasks.Free }
-        ensures frame { self.new ≡ record self.old {
-          controller = self.new.controller;
-          outgoing = self.new.outgoing;
-          is_stalled = self.new.is_stalled;
-          volumes = self.new.volumes;
-        } }
+        ensures frame { ChangesBySaying self.old self.new }
         ensures packet { in_hand result ≡ None }
         ensures due { IsDue self.new result }
         ensures says { Says self.old self.new }
@@ -144,12 +127,7 @@ impl<K: Picker> Port<K> {
 
     /// What it takes in hand while the rings are in use: what goes out, what comes in, and then a block.
     fn choose_work(&mut self) -> Task
-        ensures frame { self.new ≡ record self.old {
-          controller = self.new.controller;
-          outgoing = self.new.outgoing;
-          is_stalled = self.new.is_stalled;
-          volumes = self.new.volumes;
-        } }
+        ensures frame { ChangesBySaying self.old self.new }
         ensures packet { in_hand result ≡ None }
         ensures goes_out { self.new.outgoing ≢ None → self.new.is_full ≡ false → result ≡ tasks.Slot Responses }
         ensures comes_in { HasNothingToSay self.new → self.new.is_polled ≡ true → self.new.is_stalled ≡ false

@@ -1,7 +1,6 @@
 // What comes from elsewhere than the host: volumes, and time.
 
-ghost use Rattle.std.specs.Prelude.{◌↔◌, true, false, IsTrue};
-ghost use Rattle.mscp_port.specs.Calls.{Changes, IsQuiet, LooksAgain, Ticks};
+ghost use Rattle.mscp_port.specs.Common.{◌↔◌, true, false, IsTrue, Changes, IsQuiet, LooksAgain, Ticks};
 
 use crate::port::Port;
 use crate::stage::Stage;

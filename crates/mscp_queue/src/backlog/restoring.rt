@@ -1,10 +1,6 @@
 // Waiting commands as they were, and how long each may still wait.
 
-ghost use Rattle.std.specs.Prelude.{◌≡◌, ◌*◌, ◌<◌, ◌≤◌, ◌^◌, true, All, length, sum_by};
-ghost use Rattle.mscp_queue.specs.Targets.{targets_of};
-ghost use Rattle.mscp_queue.specs.Dues.{figure_in};
-ghost use Rattle.mscp_queue.specs.Kept.{is_known, units_of};
-ghost use Rattle.mscp_queue.specs.Records.{left_if_serving};
+ghost use Rattle.mscp_queue.specs.Common.{◌≡◌, ◌*◌, ◌<◌, ◌≤◌, ◌^◌, true, All, length, sum_by, targets_of, figure_in, is_known, units_of, left_if_serving};
 
 use crate::backlog::Backlog;
 use crate::drive::Drive;

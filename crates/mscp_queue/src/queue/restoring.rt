@@ -1,12 +1,6 @@
 // A queue as it was, and what is to be kept of one so that it can be again.
 
-ghost use Rattle.std.specs.Prelude.{◌≡◌, ◌<◌, ◌≤◌, true, ◌||◌, All, length, map, IfNone, IfSome, None};
-ghost use Rattle.std.specs.List.{position};
-ghost use Rattle.mscp_queue.specs.Kept.{ArePassedInOrder, HasBlocks, IsHeld, units_of};
-ghost use Rattle.mscp_queue.specs.Drives.{IsOnUnit};
-ghost use Rattle.mscp_queue.specs.Candidates.{choice_in, has_choice_name};
-ghost use Rattle.mscp_queue.specs.Orders.{is_move, is_sequential};
-ghost use Rattle.mscp_queue.specs.Records.{is_in_service, record_at};
+ghost use Rattle.mscp_queue.specs.Common.{◌≡◌, ◌<◌, ◌≤◌, true, ◌||◌, All, length, map, IfNone, IfSome, None, position, ArePassedInOrder, HasBlocks, IsHeld, units_of, IsOnUnit, choice_in, has_choice_name, is_move, is_sequential, is_in_service, record_at};
 
 use crate::backlog::Backlog;
 use crate::candidates::Candidates;

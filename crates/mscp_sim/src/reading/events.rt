@@ -1,13 +1,6 @@
 // The lines after the header: what comes to the controller.
 
-ghost use Rattle.std.specs.Prelude.{◌≡◌, ◌++◌, ◌≤◌, [], replicate, vec_len, IfOk, OnOk};
-ghost use Rattle.mscp_packet.specs.Commands.{command_bytes};
-ghost use Rattle.mscp_events.specs.declared.event.Event.TheVariants.{Step};
-ghost use Rattle.mscp_events.specs.Settings.{Settings};
-ghost use Rattle.mscp_reader.specs.Requests.{events_of};
-ghost use Rattle.mscp_reader.specs.Grammar.{HasGone};
-ghost use Rattle.mscp_reader.specs.Outcome.{Tells, rest_outcome};
-ghost use Rattle.mscp_reader.specs.declared.events.TheConstants.{MOST_EVENTS};
+ghost use Rattle.mscp_sim.specs.Common.{◌≡◌, ◌++◌, ◌≤◌, [], replicate, vec_len, IfOk, OnOk, command_bytes, Step, Settings, events_of, HasGone, Tells, rest_outcome, MOST_EVENTS};
 
 use arrayvec::ArrayVec;
 use mscp_events::{Block, Event, OutOfMemory};

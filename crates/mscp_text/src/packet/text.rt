@@ -1,8 +1,6 @@
 // The text of commands and ends.
 
-ghost use Rattle.std.specs.Prelude.{◌≡◌, ◌++◌, codes, OnOk};
-ghost use Rattle.mscp_text.specs.Lines.{status_text};
-ghost use Rattle.mscp_text.specs.Shown.{body_text, code_text, command_text, end_text, invalid_name, move_name, order_text, packet_line};
+ghost use Rattle.mscp_text.specs.Common.{◌≡◌, ◌++◌, codes, OnOk, status_text, body_text, code_text, command_text, end_text, invalid_name, move_name, order_text, packet_line};
 
 use crate::out::Out;
 use crate::packet::Packet;

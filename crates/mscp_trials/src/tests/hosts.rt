@@ -1,7 +1,6 @@
 // The end of a host.
 
 mod driver;
-mod saving;
 
 use super::values::{command, ended};
 use crate::tests::checks::{holds, same};

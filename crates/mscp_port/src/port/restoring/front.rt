@@ -1,9 +1,6 @@
 // What a port is saved as that bytes say, up to its controller: bytes that are a port's are these.
 
-ghost use Rattle.std.specs.Prelude.{◌≡◌, ◌+◌, ◌≤◌, ◌++◌, length};
-ghost use Rattle.arrayvec.specs.ArrayVec.{array_vec_len};
-ghost use Rattle.mscp_port.specs.Restored.{IsFramed, front_in, told_front};
-ghost use Rattle.mscp_port.specs.Saved.{counts_bytes, hand_bytes, state_bytes};
+ghost use Rattle.mscp_port.specs.Common.{◌≡◌, ◌+◌, ◌≤◌, ◌++◌, length, array_vec_len, IsFramed, front_in, told_front, counts_bytes, hand_bytes, state_bytes};
 
 use crate::codes::{coded_task, task_in};
 use crate::port::Outgoing;
