@@ -19,17 +19,20 @@ struct driver {
     bool asks_for_units;          /* by Next Unit; else it brings each unit online that it knows */
     bool wants_attention;         /* it waits for an attention message; else it tries ONLINE each second */
     bool polls;                   /* its oldest command, each second, and its figure has to fall */
+    bool onlines_are_1;           /* each ONLINE has the number 1, whatever else has it */
 };
 
 static const struct driver DRIVERS[] = {
     {"VMS", "the manual, Host Command Timeouts: it polls its oldest command, and resets; the size of its rings is a guess",
-     &RQDX3, 4, 4, 0x2B, 0x2000, REQUESTS, true, true, true, true},
+     &RQDX3, 4, 4, 0x2B, 0x2000, REQUESTS, true, true, true, true, false},
     {"4.3BSD, Ultrix", "rings of 8, a number for each packet, no polls: likely", &UDA50, 3, 3, 0x1B, 0x1000, 8, false, false,
-     true, false},
+     true, false, false},
+    {"NetBSD", "each ONLINE has the number 1, and units are found by Next Unit: likely; its rings are a guess", &RQDX3, 3, 3,
+     0x1B, 0x1800, 8, false, true, true, false, true},
     {"2.11BSD", "a bus of 18 bits and small rings: likely; how it finds a volume again is a guess", &UDA50, 1, 2, 0x1B,
-     0x0800, 2, false, false, false, false},
+     0x0800, 2, false, false, false, false, false},
     {"RT-11", "one request at a time: likely; that it wants no interrupts is a guess", &RQDX3, 0, 0, 0, 0x0400, 1, false,
-     false, false, false},
+     false, false, false, false},
 };
 
 enum stage { READ, WRITE, COMPARE, COPIED };
@@ -121,7 +124,7 @@ static void send_what_can_be(void)
     for (unsigned u = 0; u < UNITS; u++)
         if (driver.wants_online[u] && !driver.is_asked[u] && may_send()) {
             driver.is_asked[u] = true;
-            send_text(ONLINE + u, MSCP_ONLINE, (uint16_t)u, 0, 0);
+            send_text(driver.is->onlines_are_1 ? 1 : ONLINE + u, MSCP_ONLINE, (uint16_t)u, 0, 0);
         }
     for (unsigned i = 0; i < driver.is->requests; i++) {
         struct request *it = &driver.requests[i];

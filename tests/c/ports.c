@@ -158,14 +158,14 @@ static void tells_of_slots(unsigned flagged, unsigned vector)
 
 /* ---- what goes wrong */
 
-/* A number in use, and lengths, types and connections that no command has, are fatal. */
+/* Lengths, types and connections that no command has are fatal. Of a longer text the first 64 bytes are read. */
 static void fatal_errors(void)
 {
     static const struct {
         uint32_t header;
         uint16_t shown;
     } cases[] = {
-        {11, 0x8001},          {65, 0x8001},          {0xFFFF, 0x8001},      {32 | 1 << 20, 0x8014}, {32 | 15 << 20, 0x8014},
+        {0, 0x8001}, {11, 0x8001}, {12, 0}, {65, 0}, {0xFFFF, 0}, {32 | 1 << 20, 0x8014}, {32 | 15 << 20, 0x8014},
         {32 | 1 << 24, 0x800E}, {32 | 255u << 24, 0x800E}, {32 | 9 << 16, 0},
     };
     for (size_t i = 0; i < COUNT(cases); i++) {
@@ -175,16 +175,27 @@ static void fatal_errors(void)
         put(machine.memory + packet_of(false, 0), 4, cases[i].header);
         run(MOST_ACTIONS);
         is("SA", mscp_port_read_sa(machine.port), cases[i].shown);
+        is("nothing is wanted", run(10), 0);
     }
-    build(&RQDX3);
-    initialise(0x1000, 4, 4, 0);
-    send_command(1, 1, MSCP_READ, 512, 0, 0);
-    send_command(1, 1, MSCP_READ, 512, 0, 0);
-    while (mscp_port_read_sa(machine.port) == 0 && act())
-        continue;
-    is("a number twice", mscp_port_read_sa(machine.port), 0x8001);
-    is("nothing is wanted", run(10), 0);
     initialise(0x1000, 0, 0, 0);
+}
+
+/* Three commands have one number: each stays in its slot until the end of the one before it was taken. What comes behind
+ * them waits too, and a command of another number isn't kept from its end. */
+static void numbers_in_use(void)
+{
+    build(&RQDX3);
+    initialise(0x1000, 0, 3, 0);
+    send_command(0, 1, MSCP_ONLINE, 0, 0, 0);
+    send_command(2, 1, MSCP_ONLINE, 0, 0, 0);
+    send_command(1, 1, MSCP_ONLINE, 0, 0, 0);
+    send_command(0, 2, MSCP_READ, 512, 7, 0x4000);
+    expect(1, 0x89, 0);
+    expect(1, 0x89, 0);
+    expect(1, 0x89, 0x0023);
+    expect(2, 0xA1, 0);
+    is("its block", number(machine.memory + 0x4000, 4), 0x0A090807);
+    is("credits", host.credits, 4 + HOST_CREDITS - 1);
 }
 
 /* What is told without being wanted changes nothing, and what no outcome is. */
@@ -270,6 +281,7 @@ int main(void)
         tells_of_slots(flagged, 0154);
     }
     fatal_errors();
+    numbers_in_use();
     unasked();
     resets_amid_an_action();
     return wrong;

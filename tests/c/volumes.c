@@ -142,7 +142,9 @@ static void volumes_change(unsigned times)
     send_command(0, 4, MSCP_READ, 512, 0, 0x8000);
     expect(4, 0xA1, 0x0004);
     send_command(0, 5, MSCP_ONLINE, 0, 0, 0);
-    is("Success", end_of(5, 0x89) % 32, 0); /* of whatever subcode: the unit was online with the old one */
+    expect(5, 0x89, 0); /* though the unit was online with the old one */
+    send_command(0, 8, MSCP_ONLINE, 0, 0, 0);
+    expect(8, 0x89, 0x0100);
     send_command(0, 6, MSCP_READ, 512, 0, 0x8000);
     expect(6, 0xA1, 0);
     is("of the new one", number(machine.memory + 0x8000, 4), 0xEEEEEEEE);
@@ -215,18 +217,19 @@ static void no_stale_attention(void)
     is("a message", take(packet), 0);
 }
 
-/* A host that is silent for longer than 60 seconds is taken for dead, unless it wants no timeout. */
+/* A host that is silent for longer than 60 seconds is taken for dead, unless it wants no timeout. The seconds begin with its
+ * first command. */
 static void silent_hosts(void)
 {
     uint8_t text[32] = {0};
     build(&RQDX3);
     for (unsigned i = 0; i < 2; i++) {
         initialise(0x1000, 0, 0, 0);
-        text[8] = MSCP_SET_CONTROLLER_CHARACTERISTICS;
-        if (i == 1) {
-            send(text, 32);
-            expect(0, 0x84, 0);
-        }
+        for (unsigned second = 0; second < 200; second++)
+            mscp_port_tick(machine.port);
+        text[8] = i == 0 ? MSCP_GET_UNIT_STATUS : MSCP_SET_CONTROLLER_CHARACTERISTICS;
+        send(text, 32);
+        expect(0, i == 0 ? 0x83 : 0x84, i == 0 ? 4 : 0);
         for (unsigned second = 0; second < 60; second++)
             mscp_port_tick(machine.port);
         is("SA", mscp_port_read_sa(machine.port), 0);

@@ -2,7 +2,6 @@
 use Rattle.mscp_port.proofs.Common.{◌≡◌, ◌≢◌, ◌⊎◌, ◌∙◌, ℕ, Bool, true, false, cond, List, [], ◌∷◌, ◌++◌, Option, None, Some, Contains, inl, inr, refl, ap, sym, subst, length, Result, Ok, Err, IsOk, find, nat_eq, nat_lt, option_map, list_any, and_parts, eq-eqb, eqb-true, false≢true, Contains-push_cases, none-some, same_Some, command_of, num, Order, First, same_connection, Record, fresh_record, SendFault, Sent, is_queued, refusal, Holdings, aborting, answered_end, arrives, balance_of, held_unless, outstanding_of, queued, reference_aborted, sent_unless, taken_as, unaborted, with_end, Unasked, Buffer, Port, Descriptor, kept_beside, without_aborted, Hears, WasRead, handed, own_end, IsReadingText, SeesText, answered_to, changes_at, kept_of_sent, place_in}
 use Rattle.mscp_port.specs.Buffers.{buffer_in}
 use Rattle.mscp_packet.specs.declared.command.Order.TheVariants as orders
-use Rattle.mscp_controller.specs.declared.entry.SendFault.TheVariants as faults
 use Rattle.mscp_controller.specs.declared.entry.Sent.TheVariants as sents
 use Rattle.mscp_port.specs.declared.task.Task.TheVariants as tasks
 use Rattle.mscp_port.proofs.Come.{handed_as_read, long_enough, none_waits, taken_number}
@@ -99,18 +98,6 @@ module _ {K : Type 0} (said : ℕ → Buffer → Type 0) (bytes : List ℕ) (res
 
 -- ---- a text was read
 
-is_doubled : SendFault → Bool
-is_doubled faults.Doubled = true
-is_doubled fault = false
-
-fault_in : Result Sent SendFault → SendFault
-fault_in (Ok sent) = faults.Short
-fault_in (Err fault) = fault
-
-is_taken : Result Sent SendFault → Bool
-is_taken (Ok sent) = true
-is_taken (Err fault) = false
-
 module _ {K : Type 0} (said : ℕ → Buffer → Type 0) (bytes : List ℕ) (result : Result Unit Unasked) (old new : Port K)
     (slot : Descriptor) (size : ℕ) (foreign : Bool) (at : old.task ≡ tasks.Text slot size foreign)
     (r : Hears bytes old result new) (ok : IsOk result) (k : Keeps said old) where
@@ -139,29 +126,24 @@ module _ {K : Type 0} (said : ℕ → Buffer → Type 0) (bytes : List ℕ) (res
       (ap (λ (h : Holdings K). h.waiting) (r.own slot size foreign at own)) k)
 
   -- it stays in its slot
-  waits : (fault : SendFault) → own_end foreign bytes ≡ None → refused ≡ Some fault → is_doubled fault ≡ false → after
-  unfolding is_doubled fault_in
-  waits fault none e other =
+  waits : (fault : SendFault) → own_end foreign bytes ≡ None → refused ≡ Some fault → after
+  waits fault none e =
       let answer = ap (sent_unless First old.controller (command_of sent)) e in
-      let ne : fault ≢ faults.Doubled = λ d. false≢true (sym other ∙ ap is_doubled d) in
       more said (WasRead bytes result) old new
       (keeps_same said old new (λ b there. subst (λ bs. Contains bs b)
-      (ap (λ (p : Port K). p.buffers.items) (sees.waits fault none answer ne)) there)
-      (ap (λ (h : Holdings K). h.waiting)
-      (r.handed slot size foreign at ok none (λ d. ne (ap fault_in (sym answer ∙ d)))
+      (ap (λ (p : Port K). p.buffers.items) (sees.waits fault none answer)) there)
+      (ap (λ (h : Holdings K). h.waiting) (r.handed slot size foreign at ok none
       ∙ ap (held_unless First old.controller (command_of sent)) e)) k)
 
   -- the controller gets it
   taken : (q : Bool) → is_queued old.controller.settings (command_of sent) ≡ q → own_end foreign bytes ≡ None
       → refused ≡ None → after
-  unfolding is_taken
   taken q e none taken_is =
       let h = old.controller in
       let command = command_of sent in
       let answer : answered_to old bytes ≡ Ok (taken_as First h command) = ap (sent_unless First h command) taken_is in
       let gets : new.controller ≡ arrives First h command =
-      r.handed slot size foreign at ok none (λ d. false≢true (ap is_taken (sym (sym answer ∙ d))))
-      ∙ ap (held_unless First h command) taken_is in
+      r.handed slot size foreign at ok none ∙ ap (held_unless First h command) taken_is in
       by q e gets (sees.sent (taken_as First h command) none answer).kept
     where
       by : (q : Bool) → is_queued old.controller.settings (command_of sent) ≡ q
@@ -201,11 +183,8 @@ module _ {K : Type 0} (said : ℕ → Buffer → Type 0) (bytes : List ℕ) (res
           k)
 
   judged : (o : Option SendFault) → refused ≡ o → own_end foreign bytes ≡ None → after
-  unfolding is_doubled
   judged None e none = taken (is_queued old.controller.settings (command_of sent)) refl none e
-  judged (Some faults.Doubled) e none = keeps_none (More (WasRead bytes result) old said) new
-      (sees.doubled none (ap (sent_unless First old.controller (command_of sent)) e)).buffers
-  judged (Some fault) e none = waits fault none e refl
+  judged (Some fault) e none = waits fault none e
 
   pub text_keeps : after
   text_keeps = elim (none_or_some (own_end foreign bytes)) [

@@ -2,8 +2,7 @@
 use Rattle.std.specs.Prelude.{◌≡◌, ◌≢◌, ◌≤◌, ◌<◌, ◌==◌, ◌+◌, ◌-◌, ◌%◌, ◌/◌, ◌⊎◌, ◌↔◌, ℕ, Bool, true, false, nat_lt, if◌then◌else◌, List, [], length, Contains, IfSome, IsErr, IsOk, OnErr, Result, Option, None, Some, Err}
 use Rattle.mscp_events.specs.declared.connection.Connection.TheVariants.{First}
 use Rattle.mscp_events.specs.Both.{of}
-use Rattle.mscp_controller.specs.Holdings.{after_message, answer_to_message, Holdings, waiting_on}
-use Rattle.mscp_controller.specs.declared.entry.SendFault.TheVariants as faults
+use Rattle.mscp_controller.specs.Holdings.{after_message, Holdings, waiting_on}
 use Rattle.mscp_port.specs.declared.action.Action.{Action}
 use Rattle.mscp_port.specs.declared.action.Action.TheVariants as actions
 use Rattle.mscp_port.specs.declared.action.Outcome.{Outcome}
@@ -27,7 +26,7 @@ use Rattle.mscp_port.specs.Outgoings.{AnswersItself, HasSaid, Says}
 use Rattle.mscp_port.specs.Slots.{is_owned}
 use Rattle.mscp_packet.specs.Number.{num}
 use Rattle.mscp_packet.specs.declared.command.MoveKind.{MoveKind}
-use Rattle.mscp_port.specs.Ports.{Drops, IsAlive, IsAsNew, IsDue, IsIdle, IsOfBlock, IsOutcomeOf, IsReadingText, IsWithin, Learns, Leaves, in_hand, read_size}
+use Rattle.mscp_port.specs.Ports.{Drops, IsAlive, IsAsNew, IsDue, IsIdle, IsOfBlock, IsOutcomeOf, IsReadingText, IsWithin, Learns, Leaves, in_hand, read_size, seconds}
 use Rattle.mscp_port.specs.Registers.{shown}
 use Rattle.mscp_port.specs.Seen.{Sees}
 use Rattle.mscp_port.specs.Wanted.{IsWanted}
@@ -60,8 +59,8 @@ pub record IsMadeOf {K : Type 0} (made_hardware : Hardware) (credits : ℕ) (mad
   pub buffers : p.buffers.items ≡ []
   pub volumes : (place : ℕ) → place < 16 → volume_at p.volumes place ≡ no_volume
   pub flags : p.flags ≡ 0
-  -- a host that says no timeout has one minute
-  pub timeout : p.timeout ≡ 60
+  -- a host has no limit before its first command, and one minute then, if it says nothing else
+  pub timeout : p.timeout ≡ 0
   pub left : p.left ≡ 60
 
 -- ---- registers
@@ -74,9 +73,15 @@ sa_of p = shown p.hardware p.words.first p.stage
 abbrev pub WritesIp : {K : Type 0} → Port K → Port K → Type 0
 WritesIp old new = IsAsNew stages.First old new
 
+-- a slot whose word is being read is read again, since the host may have given it to the port meanwhile
+abbrev pub read_again : Task → Task
+read_again (tasks.Slot side) = tasks.Free
+read_again task = task
+
 -- the host read IP: the port is to look at the ring of commands, or in the poll test to clear the communication area
 pub record ReadsIp {K : Type 0} (old new : Port K) : Type 0 where
-  pub up : old.stage ≡ stages.Up → new ≡ record old { is_polled = true; is_full = false }
+  pub up : old.stage ≡ stages.Up
+      → new ≡ record old { is_polled = true; is_full = false; task = read_again old.task }
   pub probed : old.stage ≡ stages.Probing → old.rings ≢ None
       → new ≡ record old { stage = stages.Clearing; task = tasks.Clear 0 }
   pub nowhere : old.stage ≡ stages.Probing → old.rings ≡ None → IsAsNew (stages.Dead 7) old new
@@ -176,7 +181,6 @@ pub record Hears {K : Type 0} (bytes : List ℕ) (old : Port K) (result : Result
   -- a message reaches the controller as its host wrote it, unless the port answers it itself
   pub handed : (slot : Descriptor) (size : ℕ) (foreign : Bool) → old.task ≡ tasks.Text slot size foreign
       → IsOk result → own_end foreign bytes ≡ None
-      → answer_to_message First old.controller (handed old.controller.settings.units bytes) ≢ Err faults.Doubled
       → new.controller ≡ after_message First old.controller (handed old.controller.settings.units bytes)
   pub own : (slot : Descriptor) (size : ℕ) (foreign : Bool) → old.task ≡ tasks.Text slot size foreign
       → own_end foreign bytes ≢ None → new.controller ≡ old.controller
@@ -318,7 +322,7 @@ pub record Goes {K : Type 0} (outcome : Outcome) (old : Port K) (result : Result
 
 -- the ring of responses is to be looked at again
 abbrev pub LooksAgain : {K : Type 0} → Port K → Port K → Type 0
-LooksAgain old new = new ≡ record old { is_full = false }
+LooksAgain old new = new ≡ record old { is_full = false; task = read_again old.task }
 
 -- the rings are in use, the host is to be heard within some time, and nothing is to be done for it
 pub record IsQuiet {K : Type 0} (p : Port K) : Type 0 where
@@ -331,10 +335,13 @@ pub record IsQuiet {K : Type 0} (p : Port K) : Type 0 where
 -- a second went by: the ring of responses is looked at again, and where it is quiet the seconds are counted off. A host
 -- that was silent for too long is taken for dead
 pub record Ticks {K : Type 0} (old new : Port K) : Type 0 where
-  pub counts : IsQuiet old → 0 < old.left → new ≡ record old { is_full = false; left = old.left - 1 }
+  pub counts : IsQuiet old → 0 < old.left
+      → new ≡ record old { is_full = false; task = read_again old.task; left = old.left - 1 }
   pub silent : IsQuiet old → old.left ≡ 0 → IsAsNew (stages.Dead 9) old new
-  pub busy : (IsQuiet old → ⊥) → new ≡ record old { is_full = false; left = old.timeout }
-  pub either : (new ≡ record old { is_full = false; left = new.left }) ⊎ IsAsNew (stages.Dead 9) old new
+  pub busy : (IsQuiet old → ⊥)
+      → new ≡ record old { is_full = false; task = read_again old.task; left = seconds old }
+  pub either : (new ≡ record old { is_full = false; task = read_again old.task; left = new.left })
+      ⊎ IsAsNew (stages.Dead 9) old new
 
 -- a volume came into the unit of this number, or its volume went
 pub record Changes {K : Type 0} (there protected : Bool) (unit : ℕ) (old : Port K) (result : Result Unit NoUnit)

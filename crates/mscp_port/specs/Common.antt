@@ -23,10 +23,10 @@ pub use Rattle.mscp_port.specs.Moved.{BeginsBlock, FollowsPart, GoesOnWithBlock,
 pub use Rattle.mscp_port.specs.Outgoings.{AnswersItself, IsNews, KeepsSaying, MayBegin, Says, TakesEnd, TellsNews, news_place}
 pub use Rattle.mscp_port.specs.Packets.{credits_told, packet_of}
 pub use Rattle.mscp_port.specs.Places.{PortsTouchWhatWasPut}
-pub use Rattle.mscp_port.specs.Ports.{HasNothingToHear, HasNothingToSay, IsAlive, IsAsNew, IsDue, IsIdleUp, IsInSomeBuffer, IsMoving, IsOfBlock, IsOutcomeOf, IsWithin, in_hand}
+pub use Rattle.mscp_port.specs.Ports.{HasNothingToHear, HasNothingToSay, IsAlive, IsAsNew, IsDue, IsIdleUp, IsInSomeBuffer, IsMoving, IsOfBlock, IsOutcomeOf, IsWithin, in_hand, seconds}
 pub use Rattle.mscp_port.specs.Registers.{first_step, last_step}
 pub use Rattle.mscp_port.specs.Restored.{IsFramed, IsSaved, area_in, buffers_in, coded_in, controller_in, controller_place, frame_fault, front_in, hardware_in, held_in, is_framed, outgoing_in, port_in, restored, rings_if, text_in, told_front, unless, volume_in, volumes_in, words_in}
-pub use Rattle.mscp_port.specs.Saved.{HasBufferRange, HasCodedRange, HasHandRange, HasStateRange, HasVolumeRange, area_bytes, buffer_bytes, coded_bytes, counts_bytes, frame_bytes, hand_bytes, hardware_bytes, mounted_bytes, outgoing_byte, outgoing_text, rings_bytes, saved_bytes, stage_bytes, state_bytes, volume_bytes, words_bytes, written_bytes}
+pub use Rattle.mscp_port.specs.Saved.{HasBufferRange, HasCodedRange, HasHandRange, HasStateRange, HasVolumeRange, area_bytes, buffer_bytes, coded_bytes, counts_bytes, frame_bytes, hand_bytes, hardware_bytes, mounted_bytes, outgoing_byte, outgoing_text, rings_bytes, saved_bytes, stage_bytes, state_bytes, told_byte, volume_bytes, words_bytes, written_bytes}
 pub use Rattle.mscp_port.specs.Seen.{SeesHeader, SeesText, answered_to, changes_at, heeded, neighbour_seen, settings_heeded, slot_seen}
 pub use Rattle.mscp_port.specs.Sizes.{clear_size, text_size}
 pub use Rattle.mscp_port.specs.Slots.{given_back, is_flagged, is_owned, text_of}

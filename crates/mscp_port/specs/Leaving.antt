@@ -24,7 +24,8 @@ unit_flags v =
 
 -- the status that is told: a step that had no volume (0xFFFF), and an end of a unit without one, are Unit-Offline, no
 -- volume (0x23); a step of a unit that wasn't online with its volume (0xFFFE), and the Success of a GET UNIT STATUS
--- (0x83) of one, are Unit-Available (4)
+-- (0x83) of one, are Unit-Available (4). An ONLINE (0x89) that was the first one of its volume found no unit online
+-- already (0x0100)
 abbrev pub status_told : ℕ → ℕ → Volume → ℕ
 status_told code status v =
     if status == 0xFFFF then 0x23
@@ -32,6 +33,7 @@ status_told code status v =
     else if status == 4 && not v.is_there then 0x23
     else if status == 0 && code == 0x83 && not v.is_there then 0x23
     else if status == 0 && code == 0x83 && not (is_mounted v) then 4
+    else if status == 0x0100 && code == 0x89 && v.is_fresh then 0
     else status
 
 -- which unit an ONLINE tells that found no volume: the same as one that found one

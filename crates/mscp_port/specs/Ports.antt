@@ -1,5 +1,5 @@
 -- What a port knows of its host's memory, and what it may touch there.
-use Rattle.std.specs.Prelude.{◌≡◌, ◌≢◌, ℕ, ◌+◌, ◌-◌, ◌≤◌, ◌<◌, ◌⊎◌, true, false, List, [], length, Contains, IfSome, IsSomeAnd, Option, None, Some}
+use Rattle.std.specs.Prelude.{◌≡◌, ◌≢◌, ℕ, ◌+◌, ◌-◌, ◌≤◌, ◌<◌, ◌⊎◌, nat_lt, if◌then◌else◌, true, false, List, [], length, Contains, IfSome, IsSomeAnd, Option, None, Some}
 use Rattle.mscp_controller.specs.Holdings.{fresh}
 use Rattle.mscp_packet.specs.Number.{num}
 use Rattle.mscp_port.specs.declared.action.Action.{Action}
@@ -46,12 +46,16 @@ pub record IsAsNew {K : Type 0} (in_stage : Stage) (old new : Port K) : Type 0 w
   pub stalled : new.is_stalled ≡ false
   pub full : new.is_full ≡ false
   pub flags : new.flags ≡ 0
-  -- a host that says no timeout has one minute
-  pub timeout : new.timeout ≡ 60
+  -- a host has no limit before its first command, and one minute then, if it says nothing else
+  pub timeout : new.timeout ≡ 0
   pub left : new.left ≡ 60
   -- the volumes stay where they are
   pub volumes : (place : ℕ) → place < 16
       → volume_at new.volumes place ≡ volume_reset (volume_at old.volumes place)
+
+-- the seconds of its host: those that it said, and before its first command those that are left above them
+abbrev pub seconds : {K : Type 0} → Port K → ℕ
+seconds p = if nat_lt p.timeout p.left then p.left else p.timeout
 
 -- ---- what is known
 

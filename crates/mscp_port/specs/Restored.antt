@@ -1,5 +1,5 @@
 -- What comes of bytes that a port is to be made of: the port that they say, or why there is none.
-use Rattle.std.specs.Prelude.{ℕ, ◌+◌, ◌-◌, ◌*◌, ◌^◌, ◌≤◌, ◌<◌, Bool, not, ◌&&◌, nat_eq, nat_le, if◌then◌else◌, List, [], length, take, drop, slice_index, Option, Some, None, Result, Ok, Err}
+use Rattle.std.specs.Prelude.{ℕ, ◌+◌, ◌-◌, ◌*◌, ◌/◌, ◌%◌, ◌^◌, ◌≤◌, ◌<◌, Bool, not, ◌&&◌, nat_eq, nat_le, if◌then◌else◌, List, [], length, take, drop, slice_index, Option, Some, None, Result, Ok, Err}
 use Rattle.std.specs.Str.{bytes_eq}
 use Rattle.mscp_packet.specs.Number.{num}
 use Rattle.mscp_controller.specs.Holdings.{Holdings}
@@ -61,7 +61,8 @@ volume_in b = record {
   is_protected_by_host = nat_eq (slice_index b 2) 1;
   changes = num b 4 4;
   mounted = optional (slice_index b 8) (num b 9 4);
-  is_news = nat_eq (slice_index b 3) 1;
+  is_news = nat_eq (slice_index b 3 % 2) 1;
+  is_fresh = nat_eq (slice_index b 3 / 2) 1;
 }
 
 -- what is kept of a command, in the bytes of that

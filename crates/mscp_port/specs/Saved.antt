@@ -102,9 +102,13 @@ lengths_bytes p = outgoing_byte p.outgoing ∷ length (outgoing_text p.outgoing)
 abbrev pub mounted_bytes : Option ℕ → List ℕ
 mounted_bytes mounted = some_byte mounted ∷ little_bytes 4 (number_or_none mounted)
 
+-- whether it is news, and twice whether it is fresh
+abbrev pub told_byte : Volume → ℕ
+told_byte v = flag_byte v.is_news + 2 * flag_byte v.is_fresh
+
 abbrev pub volume_bytes : Volume → List ℕ
 volume_bytes v =
-    (flag_byte v.is_there ∷ flag_byte v.is_protected ∷ flag_byte v.is_protected_by_host ∷ flag_byte v.is_news ∷ [])
+    (flag_byte v.is_there ∷ flag_byte v.is_protected ∷ flag_byte v.is_protected_by_host ∷ told_byte v ∷ [])
     ++ little_bytes 4 v.changes
     ++ mounted_bytes v.mounted
 

@@ -4,7 +4,6 @@ use Rattle.mscp_packet.specs.Number.{num}
 use Rattle.mscp_events.specs.declared.connection.Connection.TheVariants.{First}
 use Rattle.mscp_controller.specs.Holdings.{answer_to_message}
 use Rattle.mscp_controller.specs.declared.entry.SendFault.{SendFault}
-use Rattle.mscp_controller.specs.declared.entry.SendFault.TheVariants as faults
 use Rattle.mscp_controller.specs.declared.entry.Sent.{Sent}
 use Rattle.mscp_controller.specs.declared.entry.Sent.TheVariants as sents
 use Rattle.mscp_port.specs.declared.port.Port.{Port}
@@ -19,7 +18,7 @@ use Rattle.mscp_port.specs.declared.buffers.Buffer.{Buffer}
 use Rattle.mscp_port.specs.Buffers.{buffer_in, kept_beside, without_aborted}
 use Rattle.mscp_port.specs.Messages.{handed, own_end}
 use Rattle.mscp_port.specs.Outgoings.{AnswersItself}
-use Rattle.mscp_port.specs.Ports.{IsAsNew}
+use Rattle.mscp_port.specs.Ports.{IsAsNew, seconds}
 use Rattle.mscp_port.specs.Slots.{is_owned}
 use Rattle.mscp_port.specs.Volumes.{place_in, volume_at}
 
@@ -50,19 +49,23 @@ type_in h = h / 0x10_0000 % 0x10
 abbrev pub connection_in : ℕ → ℕ
 connection_in h = h / 0x100_0000
 
+-- the bytes of a text that the port reads: of a longer one the first 64
+abbrev pub bytes_read : ℕ → ℕ
+bytes_read length = if nat_lt 64 length then 64 else length
+
 -- the fatal error that a header is, if it is one: another type than a sequential message, another connection than
--- that of the disk (0) or of the utilities (2), a text of less than 12 or over 64 bytes
+-- that of the disk (0) or of the utilities (2), a text of less than 12 bytes
 abbrev pub header_fault : ℕ → Option ℕ
 header_fault h =
     if not (type_in h == 0) then Some 20
     else if not (connection_in h == 0 || connection_in h == 2) then Some 14
-    else if nat_lt (length_in h) 12 || nat_lt 64 (length_in h) then Some 1
+    else if nat_lt (length_in h) 12 then Some 1
     else None
 
 -- a header was read: its text is taken in hand, or it is a fatal error
 abbrev pub SeesHeader : {K : Type 0} → Descriptor → ℕ → Port K → Port K → Type 0
 SeesHeader slot h old new = MatchOption (header_fault h)
-    (new ≡ record old { task = tasks.Text slot (length_in h) (connection_in h == 2) })
+    (new ≡ record old { task = tasks.Text slot (bytes_read (length_in h)) (connection_in h == 2) })
     (λ code. IsAsNew (stages.Dead code) old new)
 
 -- ---- the text of a command
@@ -76,14 +79,13 @@ changes_at volumes (Some place) = (volume_at volumes place).changes
 abbrev pub answered_to : {K : Type 0} → Port K → List ℕ → Result Sent SendFault
 answered_to p b = answer_to_message First p.controller (handed p.controller.settings.units b)
 
+-- the host was heard, and has all its seconds again
+abbrev pub heard : {K : Type 0} → Port K → Port K
+heard p = record p { timeout = seconds p; left = seconds p }
+
 -- the command stays in its slot, and the host was heard
 abbrev pub stays : {K : Type 0} → Port K → Port K → Type 0
-stays old new = new ≡ record old {
-  controller = new.controller;
-  task = tasks.Free;
-  is_stalled = true;
-  left = old.timeout;
-}
+stays old new = new ≡ record (heard old) { controller = new.controller; task = tasks.Free; is_stalled = true }
 
 -- the host has set its controller's flags, and its own timeout: by a SET CONTROLLER CHARACTERISTICS (opcode 4) that has
 -- them, of version 0
@@ -109,7 +111,7 @@ kept_of_sent (sents.Answered reference aborted) b buffers = without_aborted abor
 
 -- the controller has got a message: its slot is given back, and the host was heard
 pub record Sends {K : Type 0} (slot : Descriptor) (s : Sent) (bytes : List ℕ) (old new : Port K) : Type 0 where
-  pub frame : new ≡ record (heeded s bytes (record old { left = old.timeout })) {
+  pub frame : new ≡ record (heeded s bytes (heard old)) {
     controller = new.controller;
     task = tasks.Return Commands slot;
     buffers = new.buffers;
@@ -122,16 +124,13 @@ pub record Sends {K : Type 0} (slot : Descriptor) (s : Sent) (bytes : List ℕ) 
 pub record SeesText {K : Type 0} (slot : Descriptor) (foreign : Bool) (bytes : List ℕ) (old new : Port K) : Type 0 where
   -- the port answers it itself, if nothing goes out yet: else it stays in its slot
   pub own : own_end foreign bytes ≢ None → old.outgoing ≡ None
-      → (new ≡ record old { outgoing = new.outgoing; task = tasks.Return Commands slot; left = old.timeout })
+      → (new ≡ record (heard old) { outgoing = new.outgoing; task = tasks.Return Commands slot })
       × AnswersItself foreign bytes old new
   pub own_waits : own_end foreign bytes ≢ None → old.outgoing ≢ None → stays old new
   -- or the controller gets it, and its slot is given back
   pub sent : (s : Sent) → own_end foreign bytes ≡ None → answered_to old bytes ≡ Ok s → Sends slot s bytes old new
-  -- a number in use is a fatal error, and for want of a credit the command stays in its slot
-  pub doubled : own_end foreign bytes ≡ None → answered_to old bytes ≡ Err faults.Doubled
-      → IsAsNew (stages.Dead 1) old new
-  pub waits : (fault : SendFault) → own_end foreign bytes ≡ None → answered_to old bytes ≡ Err fault
-      → fault ≢ faults.Doubled → stays old new
+  -- and for want of a credit, or while its number is in use, the command stays in its slot
+  pub waits : (fault : SendFault) → own_end foreign bytes ≡ None → answered_to old bytes ≡ Err fault → stays old new
 
 -- ---- all
 

@@ -8,7 +8,7 @@ use crate::volumes::Volume;
 use arrayvec::ArrayVec;
 use mscp_drive::Unit;
 use mscp_packet::fields::{put, put_eight, put_four, put_two};
-use mscp_packet::status::{SUCCESS, UNIT_AVAILABLE};
+use mscp_packet::status::{ALREADY_ONLINE, SUCCESS, UNIT_AVAILABLE};
 use mscp_packet::{End, EndBody, write_end};
 use mscp_queue::FaultStatus;
 
@@ -33,7 +33,8 @@ pub(crate) const PROTECTED_BY_HOST: u16 = 0x1000;
 /// The code of an attention message that says that a unit came.
 const UNIT_CAME: u8 = 0x40;
 
-/// What is told of a status that an end came with, whose endcode and unit are these.
+/// What is told of a status that an end came with, whose endcode and unit are these. A controller that doesn't know of
+/// volumes says 'already online' of a unit that was online with another one.
 pub(crate) fn status_told(code: u8, status: u16, volume: &Volume) -> u16
     ensures { result ≡ leaving.status_told code status volume.now }
 {
@@ -43,6 +44,7 @@ pub(crate) fn status_told(code: u8, status: u16, volume: &Volume) -> u16
         UNIT_AVAILABLE if !volume.is_there => NO_VOLUME,
         SUCCESS if code == 0x83 && !volume.is_there => NO_VOLUME,
         SUCCESS if code == 0x83 && !volume.is_mounted() => UNIT_AVAILABLE,
+        ALREADY_ONLINE if code == 0x89 && volume.is_fresh => SUCCESS,
         other => other,
     }
 }

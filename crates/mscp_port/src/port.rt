@@ -76,7 +76,8 @@ pub struct Port<K> {
     is_full: bool,
     buffers: ArrayVec<Buffer, 64>,
     volumes: [Volume; 16],
-    // The controller flags and the timeout in seconds that the host has set, and the seconds that are left.
+    // The controller flags and the timeout in seconds that the host has set, and the seconds that are left. Before its first
+    // command the host has no limit: the timeout is 0, and those that it has from then on are left.
     flags: u16,
     timeout: u16,
     left: u16,
@@ -129,7 +130,7 @@ impl<K: Picker> Port<K> {
             buffers: ArrayVec::new(),
             volumes: [Volume::default(); 16],
             flags: 0,
-            timeout: HOST_TIMEOUT,
+            timeout: 0,
             left: HOST_TIMEOUT,
         })
     }
@@ -154,7 +155,7 @@ impl<K: Picker> Port<K> {
         self.buffers.clear();
         reset_all(&mut self.volumes);
         self.flags = 0;
-        self.timeout = HOST_TIMEOUT;
+        self.timeout = 0;
         self.left = HOST_TIMEOUT;
     }
 
@@ -181,14 +182,15 @@ impl<K: Picker> Port<K> {
         self.forget_all(Stage::First);
     }
 
-    /// The host read IP, which shows 0: the port is to look at the ring of commands.
+    /// The host read IP, which shows 0: the port is to look at the ring of commands. A slot that is being read is read again,
+    /// since the host may have given it to the port after its word was fetched.
     pub fn read_ip(&mut self)
         ensures { ReadsIp self.old self.new }
     {
         match self.stage {
             Stage::Up => {
                 self.is_polled = true;
-                self.is_full = false;
+                self.look_again();
             }
             Stage::Probing => self.begin_to_clear(),
             _ => {}

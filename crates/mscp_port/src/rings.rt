@@ -1,6 +1,7 @@
 // The communication area, where a host and its port meet.
 
-ghost use Rattle.mscp_port.specs.Common.{◌≡◌, ◌≤◌, ◌<◌, ◌+◌, ◌^◌, AreRings, IsInArea, end_of, rings_named, rings_of, slot_in, slots, slots_of, start_of, word_of};
+ghost use Rattle.std.specs.Prelude.{◌≡◌, ◌≤◌, ◌<◌, ◌+◌, ◌^◌};
+ghost use Rattle.mscp_port.specs.Areas.{AreRings, IsInArea, end_of, rings_named, rings_of, slot_in, slots, slots_of, start_of, word_of};
 
 use std::marker::Model;
 
@@ -24,8 +25,7 @@ pub(crate) struct Rings {
 
 // A clause sees the base, and how many slots each ring has.
 impl Model for Rings {
-    ghost use Rattle.mscp_port.specs.Common.{AreRings};
-    ghost use Rattle.mscp_port.specs.Areas.{Rings as Area};
+    ghost use Rattle.mscp_port.specs.Areas.{AreRings, Rings as Area};
 
     ghost Value = { Area };
 

@@ -1,8 +1,12 @@
 // Sizes that a task has.
 
-ghost use Rattle.mscp_port.specs.Common.{◌≡◌, ◌≤◌, ◌<◌, ◌+◌, ◌%◌, clear_size, text_size};
+ghost use Rattle.std.specs.Prelude.{◌≡◌, ◌≤◌, ◌<◌, ◌+◌, ◌%◌};
+ghost use Rattle.mscp_port.specs.Sizes.{clear_size, text_size};
 
 use std::marker::Model;
+
+/// How many bytes of a command's text are read, at most.
+pub(crate) const LONGEST_TEXT: u32 = 64;
 
 /// How many bytes the text of a command has: 12 to 64.
 #[derive(Clone, Copy)]
@@ -12,7 +16,7 @@ pub(crate) struct TextSize {
 
 // A clause sees the number.
 impl Model for TextSize {
-    ghost use Rattle.mscp_port.specs.Common.{ℕ, ◌≤◌};
+    ghost use Rattle.std.specs.Prelude.{ℕ, ◌≤◌};
 
     ghost Value = { ℕ };
 
@@ -28,7 +32,7 @@ impl TextSize {
     pub fn of(bytes: u32) -> Option<TextSize>
         ensures { result ≡ text_size bytes }
     {
-        if 12 <= bytes && bytes <= 64 {
+        if 12 <= bytes && bytes <= LONGEST_TEXT {
             Some(TextSize { bytes })
         } else {
             None
@@ -57,7 +61,7 @@ pub(crate) struct ClearSize {
 
 // A clause sees the number.
 impl Model for ClearSize {
-    ghost use Rattle.mscp_port.specs.Common.{◌≡◌, ℕ, ◌%◌, ◌<◌};
+    ghost use Rattle.std.specs.Prelude.{◌≡◌, ℕ, ◌%◌, ◌<◌};
 
     ghost Value = { ℕ };
 

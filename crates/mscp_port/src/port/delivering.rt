@@ -218,8 +218,8 @@ fn news_in(volumes: &[Volume]) -> Option<usize>
 /// The modifier by which a host sets or clears its write protection.
 const SETS_PROTECTION: u16 = 0x0004;
 
-/// What the Success of a command to a unit means for its volume: ONLINE brings the unit online with it, and its host needs no
-/// news of it then; AVAILABLE takes it offline; ONLINE and SET UNIT CHARACTERISTICS set its write protection, if their modifier says so.
+/// What the Success of a command to a unit means for its volume: ONLINE brings the unit online with it, freshly if it wasn't,
+/// and its host needs no news of it then; AVAILABLE takes it offline; ONLINE and SET UNIT CHARACTERISTICS set its write protection, if their modifier says so.
 fn heed_unit(volume: &mut Volume, code: u8, buffer: Option<Buffer>)
     ensures { volume.new ≡ volume_heeded code buffer volume.old }
 {
@@ -230,6 +230,7 @@ fn heed_unit(volume: &mut Volume, code: u8, buffer: Option<Buffer>)
         }
         (0x89 | 0x8A, Some(buffer)) => {
             if code == 0x89 {
+                volume.is_fresh = volume.mounted != Some(buffer.changes);
                 volume.mounted = Some(buffer.changes);
                 volume.is_news = volume.is_news && buffer.changes != volume.changes;
             }

@@ -1,12 +1,10 @@
 // What the port reads in host memory.
 
-ghost use Rattle.mscp_port.specs.Common.{◌≡◌, ◌≢◌, ◌≤◌, ◌⊎◌, ℕ, true, length, Bool, Contains, IfSome, Option, None, Ok, Err, First, after_message, answer_to_message, num, Responses, Commands, kept_beside, without_aborted, handed, ChangesByReading, Dies, Hears, AnswersItself, IsAsNew, in_hand, SeesHeader, SeesText, answered_to, changes_at, heeded, neighbour_seen, settings_heeded, slot_seen, is_owned, place_in};
+ghost use Rattle.mscp_port.specs.Common.{◌≡◌, ◌≢◌, ◌≤◌, ◌⊎◌, ℕ, true, length, Bool, Contains, IfSome, Option, None, Ok, Err, First, after_message, num, Responses, Commands, kept_beside, without_aborted, handed, ChangesByReading, Dies, Hears, AnswersItself, in_hand, SeesHeader, SeesText, answered_to, changes_at, heeded, neighbour_seen, settings_heeded, slot_seen, is_owned, place_in};
 ghost use Rattle.mscp_controller.specs.declared.entry.SendFault.{SendFault as Refused};
-ghost use Rattle.mscp_controller.specs.declared.entry.SendFault.TheVariants as faults;
 ghost use Rattle.mscp_controller.specs.declared.entry.Sent.{Sent as Told};
 ghost use Rattle.mscp_controller.specs.declared.entry.Sent.TheVariants as sents;
 ghost use Rattle.mscp_port.specs.declared.buffers.Buffer.{Buffer as Kept};
-ghost use Rattle.mscp_port.specs.declared.stage.Stage.TheVariants as stages;
 ghost use Rattle.mscp_port.specs.declared.task.Task.TheVariants as tasks;
 ghost use Rattle.mscp_port.specs.Buffers.{buffer_in};
 ghost use Rattle.mscp_port.specs.Messages.{own_end as end_of_own};
@@ -16,11 +14,11 @@ use crate::buffers::{Buffer, forget_aborted, keep};
 use crate::message::{SET_CONTROLLER, message_for_controller, own_end};
 use crate::port::{Outgoing, Port};
 use crate::rings::Side;
-use crate::sizes::TextSize;
+use crate::sizes::{LONGEST_TEXT, TextSize};
 use crate::slot::Descriptor;
 use crate::task::Task;
 use arrayvec::ArrayVec;
-use mscp_controller::{SendFault, Sent};
+use mscp_controller::Sent;
 use mscp_packet::fields::{four_at, two_at};
 use mscp_packet::write_end;
 use mscp_queue::{Connection, Picker};
@@ -99,7 +97,7 @@ impl<K: Picker> Port<K> {
     }
 
     /// The header of a command's packet: the length of its text in the low half, its type in bits 20 to 23, and its
-    /// connection in the high byte.
+    /// connection in the high byte. Of a text that is longer than any command's its first bytes are read.
     fn see_header(&mut self, slot: Descriptor, header: u32)
         ensures value { SeesHeader slot header self.old self.new }
         ensures frame { (self.new ≡ record self.old { task = self.new.task }) ⊎ Dies self.old self.new }
@@ -114,7 +112,7 @@ impl<K: Picker> Port<K> {
         if connection != 0 && connection != UTILITIES {
             return self.die(14);
         }
-        let Some(length) = TextSize::of(header % 0x1_0000) else {
+        let Some(length) = TextSize::of((header % 0x1_0000).min(LONGEST_TEXT)) else {
             return self.die(1);
         };
         self.task = Task::Text {
@@ -130,25 +128,18 @@ impl<K: Picker> Port<K> {
         requires long { length message.now ≤ 64 }
         ensures sees { SeesText slot is_foreign message.now self.old self.new }
         // What goes out stays so; where nothing did, it may be the port's own end.
-        ensures out { (self.new.outgoing ≡ self.old.outgoing) ⊎ AnswersItself is_foreign message.now self.old self.new
-            ⊎ Dies self.old self.new }
+        ensures out { (self.new.outgoing ≡ self.old.outgoing) ⊎ AnswersItself is_foreign message.now self.old self.new }
         ensures task { (self.new.task ≡ tasks.Free) ⊎ (self.new.task ≡ tasks.Return Commands slot) }
         ensures settings { self.new.controller.settings ≡ self.old.controller.settings }
         ensures own { end_of_own is_foreign message.now ≢ None → self.new.controller ≡ self.old.controller }
-        ensures handed { end_of_own is_foreign message.now ≡ None
-            → answer_to_message First self.old.controller (handed self.old.controller.settings.units message.now)
-            ≢ Err faults.Doubled
-            → self.new.controller
+        ensures handed { end_of_own is_foreign message.now ≡ None → self.new.controller
             ≡ after_message First self.old.controller (handed self.old.controller.settings.units message.now) }
-        ensures doubled { end_of_own is_foreign message.now ≡ None
-            → answer_to_message First self.old.controller (handed self.old.controller.settings.units message.now)
-            ≡ Err faults.Doubled
-            → IsAsNew (stages.Dead 1) self.old self.new }
         ensures frame { ChangesByReading self.old self.new }
         ensures packet { IfSome (in_hand self.new.task) (λ word. word ≡ slot.word) }
         ensures kept { (b : Kept) → Contains self.new.buffers.items b → Contains self.old.buffers.items b
             ⊎ ((changes : ℕ) × (b ≡ buffer_in message.now changes)) }
     {
+        self.timeout = self.seconds();
         self.left = self.timeout;
         self.task = Task::Return(Side::Commands, slot);
         match own_end(message, is_foreign) {
@@ -163,7 +154,7 @@ impl<K: Picker> Port<K> {
         }
     }
 
-    /// The command stays in its slot until a credit is free, or what goes out has gone.
+    /// The command stays in its slot until a credit or its number is free, or what goes out has gone.
     fn stall(&mut self)
         ensures { self.new ≡ record self.old { is_stalled = true; task = tasks.Free } }
     {
@@ -176,14 +167,9 @@ impl<K: Picker> Port<K> {
         requires short { 12 ≤ length message.now }
         requires long { length message.now ≤ 64 }
         ensures settings { self.new.controller.settings ≡ self.old.controller.settings }
-        ensures handed { answer_to_message First self.old.controller (handed self.old.controller.settings.units message.now)
-            ≢ Err faults.Doubled
-            → self.new.controller
+        ensures handed { self.new.controller
             ≡ after_message First self.old.controller (handed self.old.controller.settings.units message.now) }
-        ensures doubled { answer_to_message First self.old.controller (handed self.old.controller.settings.units message.now)
-            ≡ Err faults.Doubled
-            → IsAsNew (stages.Dead 1) self.old self.new }
-        ensures frame { (self.new ≡ record self.old {
+        ensures frame { self.new ≡ record self.old {
           controller = self.new.controller;
           task = self.new.task;
           is_stalled = self.new.is_stalled;
@@ -191,7 +177,7 @@ impl<K: Picker> Port<K> {
           flags = self.new.flags;
           timeout = self.new.timeout;
           left = self.new.left;
-        }) ⊎ Dies self.old self.new }
+        } }
         ensures task { (self.new.task ≡ self.old.task) ⊎ (self.new.task ≡ tasks.Free) }
         ensures sent { (s : Told) → answered_to self.old message.now ≡ Ok s
             → self.new ≡ record (heeded s message.now self.old) {
@@ -204,7 +190,7 @@ impl<K: Picker> Port<K> {
         ensures answered { (reference : ℕ) (aborted : Option ℕ)
             → answered_to self.old message.now ≡ Ok (sents.Answered reference aborted)
             → self.new.buffers.items ≡ without_aborted aborted self.old.buffers.items }
-        ensures waits { (fault : Refused) → answered_to self.old message.now ≡ Err fault → fault ≢ faults.Doubled
+        ensures waits { (fault : Refused) → answered_to self.old message.now ≡ Err fault
             → self.new ≡ record self.old { controller = self.new.controller; is_stalled = true; task = tasks.Free } }
         ensures among { (b : Kept) → Contains self.new.buffers.items b → Contains self.old.buffers.items b
             ⊎ ((changes : ℕ) × (b ≡ buffer_in message.now changes)) }
@@ -216,9 +202,7 @@ impl<K: Picker> Port<K> {
                 forget_aborted(&mut self.buffers, aborted);
                 self.heed(message);
             }
-            // A number in use.
-            Err(SendFault::Doubled) => self.die(1),
-            // Its length was judged by its header, so a credit is wanting.
+            // Its length was judged by its header, so a credit is wanting, or its number is in use.
             Err(_) => self.stall(),
         }
     }

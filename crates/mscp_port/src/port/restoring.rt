@@ -147,7 +147,8 @@ fn volume_in(b: &[u8]) -> Volume
         is_protected_by_host: b[2] == 1,
         changes: four_at(b, 4),
         mounted: optional(b[8], four_at(b, 9)),
-        is_news: b[3] == 1,
+        is_news: b[3] % 2 == 1,
+        is_fresh: b[3] / 2 == 1,
     }
 }
 

@@ -1,6 +1,6 @@
 // A port to bytes.
 
-ghost use Rattle.mscp_port.specs.Common.{◌≡◌, ◌+◌, ◌*◌, ◌≤◌, ◌<◌, ◌^◌, ◌++◌, [], ◌∷◌, flat_map, length, All, IfSome, Ok, array_vec_len, flag_byte, AreRings, number_or_none, stage_word, restored, HasBufferRange, HasCodedRange, HasHandRange, HasStateRange, HasVolumeRange, area_bytes, buffer_bytes, coded_bytes, counts_bytes, frame_bytes, hand_bytes, hardware_bytes, mounted_bytes, outgoing_byte, outgoing_text, rings_bytes, saved_bytes, stage_bytes, state_bytes, volume_bytes, words_bytes, written_bytes};
+ghost use Rattle.mscp_port.specs.Common.{◌≡◌, ◌+◌, ◌*◌, ◌≤◌, ◌<◌, ◌^◌, ◌++◌, [], ◌∷◌, flat_map, length, All, IfSome, Ok, array_vec_len, flag_byte, AreRings, number_or_none, stage_word, restored, HasBufferRange, HasCodedRange, HasHandRange, HasStateRange, HasVolumeRange, told_byte, area_bytes, buffer_bytes, coded_bytes, counts_bytes, frame_bytes, hand_bytes, hardware_bytes, mounted_bytes, outgoing_byte, outgoing_text, rings_bytes, saved_bytes, stage_bytes, state_bytes, volume_bytes, words_bytes, written_bytes};
 
 use crate::buffers::Buffer;
 use crate::codes::{Coded, bus_byte, coded_task, stage_byte, stage_word};
@@ -164,6 +164,18 @@ fn put_mounted(out: &mut ArrayVec<u8, ROOM>, mounted: Option<u32>)
     }
 }
 
+/// Whether a volume is news, and twice whether it is fresh.
+fn told_byte(volume: &Volume) -> u8
+    ensures { result ≡ told_byte volume.now }
+{
+    match (volume.is_news, volume.is_fresh) {
+        (false, false) => 0,
+        (true, false) => 1,
+        (false, true) => 2,
+        (true, true) => 3,
+    }
+}
+
 /// Appends a volume.
 fn put_volume(out: &mut ArrayVec<u8, ROOM>, volume: Volume)
     requires { array_vec_len out.old + 13 ≤ 5272 }
@@ -174,7 +186,7 @@ fn put_volume(out: &mut ArrayVec<u8, ROOM>, volume: Volume)
     put_flag(out, volume.is_there);
     put_flag(out, volume.is_protected);
     put_flag(out, volume.is_protected_by_host);
-    put_flag(out, volume.is_news);
+    out.push(told_byte(&volume));
     put_four(out, volume.changes);
     put_mounted(out, volume.mounted);
 }

@@ -1,9 +1,10 @@
 // What comes from elsewhere than the host: volumes, and time.
 
-ghost use Rattle.mscp_port.specs.Common.{◌↔◌, true, false, IsTrue, Changes, IsQuiet, LooksAgain, Ticks};
+ghost use Rattle.mscp_port.specs.Common.{◌≡◌, ◌↔◌, true, false, IsTrue, Changes, IsQuiet, LooksAgain, Ticks, seconds};
 
 use crate::port::Port;
 use crate::stage::Stage;
+use crate::task::Task;
 use mscp_queue::{Connection, Picker};
 
 /// No unit has this number. Nothing is changed.
@@ -48,21 +49,37 @@ impl<K: Picker> Port<K> {
     }
 
     /// The host may have given a slot of the ring of responses to the port, of which nothing tells: the port looks at it again,
-    /// if something is to go out. Where the machine has time for the disk it is called before `next`.
+    /// if something is to go out. A slot that is being read is read again. Where the machine has time for the disk it is called
+    /// before `next`.
     pub fn look_again(&mut self)
         ensures { LooksAgain self.old self.new }
     {
         self.is_full = false;
+        if let Task::Slot(_) = self.task {
+            self.task = Task::Free;
+        }
+    }
+
+    /// The seconds of the host: those that it said, and before its first command those that are left.
+    pub(crate) fn seconds(&self) -> u16
+        ensures { result ≡ seconds self.now }
+    {
+        if self.timeout < self.left {
+            self.left
+        } else {
+            self.timeout
+        }
     }
 
     /// A second went by: the port looks at the ring of responses again, and a host that was silent for longer than its timeout
-    /// is taken for dead. A part of a second that had gone by when it last was heard isn't held against it.
+    /// is taken for dead. A part of a second that had gone by when it last was heard isn't held against it, and nothing is
+    /// before its first command.
     pub fn tick(&mut self)
         ensures { Ticks self.old self.new }
     {
         self.look_again();
         if !self.is_quiet() {
-            self.left = self.timeout;
+            self.left = self.seconds();
         } else if self.left > 0 {
             self.left -= 1;
         } else {

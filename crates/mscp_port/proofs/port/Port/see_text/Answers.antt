@@ -17,6 +17,5 @@ returns-in-None-clause-sees g c = record {
           kept = c.send.ensures.answered reference aborted answer;
         }
       ];
-  doubled = search rules;
   waits = search rules;
 }

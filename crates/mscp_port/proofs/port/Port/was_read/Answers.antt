@@ -25,10 +25,7 @@ returns-in-Text g c = record {
   nothing_else = λ no. absurd (no (subst IsReadingText (sym c.in-Text.is) tt));
   out = elim c.see_text.ensures.out [
     | inl same ↦ inl same
-    | inr more ↦ elim more [
-      | inl own ↦ inr (inl (c.in-Text.slot, c.in-Text.length, c.in-Text.is_foreign, c.in-Text.is, own))
-      | inr dead ↦ inr (inr dead)
-    ]
+    | inr own ↦ inr (inl (c.in-Text.slot, c.in-Text.length, c.in-Text.is_foreign, c.in-Text.is, own))
   ];
   packet = search rules;
   returned = search rules;
