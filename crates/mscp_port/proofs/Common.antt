@@ -39,7 +39,7 @@ pub use Rattle.mscp_port.specs.Acted.{WritesOut}
 pub use Rattle.mscp_port.specs.Areas.{AreRings, Rings, rings_named, slot_in}
 pub use Rattle.mscp_port.specs.Blocks.{kept_at, kept_of, writes}
 pub use Rattle.mscp_port.specs.Buffers.{is_of, kept_beside, without_aborted}
-pub use Rattle.mscp_port.specs.Calls.{Changes, ChangesByActing, Dies, Goes, Hears, HoldsPacket, IsMadeOf, ReadsIp, StaysInStage, TakesStep, Ticks, Wants, WritesSa, step_answered}
+pub use Rattle.mscp_port.specs.Calls.{Changes, ChangesByActing, Dies, Goes, Hears, HoldsPacket, IsMadeOf, ReadsIp, StaysInStage, TakesStep, Ticks, Wants, WritesSa, read_again, step_answered}
 pub use Rattle.mscp_port.specs.Codes.{IsTask, bus_byte, bus_in, coded_task, has_size, number_or_none, optional, some_byte, stage_byte, stage_in, stage_word, task_in}
 pub use Rattle.mscp_port.specs.Departures.{IsDelivered, IsForgotten, IsWritten, Told, begins, begun, ends_in, gone, leaves}
 pub use Rattle.mscp_port.specs.Histories.{Answered, Becomes, Call, Change, HasCredit, HasInOrder, IsNamed, IsNamedForData, IsNamedForRings, LookAgain, NamesArea, NamesBuffer, NamesPacket, Next, ReadIp, Tick, WasRead, Went, WriteIp, WriteSa, reads, words}

@@ -1,6 +1,7 @@
 -- What a port knows after a whole history, and what it touches then.
-use Rattle.mscp_port.proofs.Common.{ℕ, List, [], ◌∷◌, Option, Contains, IfSome, IsSomeAnd, inl, inr, refl, ap, sym, subst, arith, Result, Ok, Err, Action, Unasked, Buffer, Holdings, Hardware, Port, Hears, IsMadeOf, Ticks, Answered, Becomes, Call, IsNamed, IsNamedForData, IsNamedForRings, NamesBuffer, NamesPacket, reads, words, WriteIp, ReadIp, WriteSa, Next, WasRead, Went, LookAgain, Tick, Change, IsInRingsOrPacket, IsInSomeBuffer, IsWithin, in_hand}
+use Rattle.mscp_port.proofs.Common.{ℕ, List, [], ◌∷◌, Option, Contains, IfSome, IsSomeAnd, inl, inr, refl, ap, sym, subst, arith, Result, Ok, Err, Action, Unasked, Buffer, Holdings, Hardware, Port, Hears, IsMadeOf, Ticks, Answered, Becomes, Call, IsNamed, IsNamedForData, IsNamedForRings, NamesBuffer, NamesPacket, reads, words, WriteIp, ReadIp, WriteSa, Next, WasRead, Went, LookAgain, Tick, Change, IsInRingsOrPacket, IsInSomeBuffer, IsWithin, in_hand, read_again, Task}
 use Rattle.mscp_port.specs.declared.stage.Stage.TheVariants as stages
+use Rattle.mscp_port.specs.declared.task.Task.TheVariants as tasks
 use Rattle.mscp_port.proofs.Naming.Knowing.{answers, Knows, fresh_knows, new_knows, still_knows}
 use Rattle.mscp_port.proofs.Naming.Registers.{after_read_ip, after_write_sa, after_next}
 use Rattle.mscp_port.proofs.Naming.Acting.{after_read, after_went}
@@ -13,6 +14,12 @@ pub heard : {K : Type 0} (earlier : List Call) (old new : Port K) (bytes : List 
 heard earlier old new bytes (Ok done) k r = after_read (words earlier) (reads earlier) old new bytes (Ok done) k r
 heard earlier old new bytes (Err unasked) k r = subst (Knows (words earlier) (reads earlier)) (sym r.unasked) k
 
+-- a slot that is read again names no packet
+hand_again : (bs : List (List ℕ)) (task : Task) → IfSome (in_hand task) (λ word. NamesPacket bs word)
+    → IfSome (in_hand (read_again task)) (λ word. NamesPacket bs word)
+hand_again bs (tasks.Slot side) named = tt
+hand_again bs task named = named
+
 pub ticked : {K : Type 0} (ws : List ℕ) (bs : List (List ℕ)) (old new : Port K) → Knows ws bs old → Ticks old new
     → Knows ws bs new
 ticked ws bs old new k r = elim r.either [
@@ -23,7 +30,8 @@ ticked ws bs old new k r = elim r.either [
         area = ap (λ p. p.rings) e;
       })
       (record {
-        packet = subst (λ (p : Port _). IfSome (in_hand p.task) (λ word. NamesPacket bs word)) (sym e) k.packet;
+        packet = subst (λ (p : Port _). IfSome (in_hand p.task) (λ word. NamesPacket bs word)) (sym e)
+            (hand_again bs old.task k.packet);
         buffer = subst (λ (p : Port _). (b : Buffer) → Contains p.buffers.items b → NamesBuffer bs b) (sym e) k.buffer;
       })
   | inr dead ↦ new_knows ws bs (stages.Dead 9) old new (λ w. refl) dead

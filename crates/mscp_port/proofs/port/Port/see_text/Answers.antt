@@ -1,4 +1,4 @@
-use Rattle.mscp_port.proofs.Common.{rules, ◌≡◌, Ok, Sent, Sends, answered_to}
+use Rattle.mscp_port.proofs.Common.{arith, rules, ◌≡◌, Ok, Sent, Sends, answered_to}
 use Rattle.mscp_controller.specs.declared.entry.Sent.TheVariants as sents
 use Rattle.mscp_port.proofs.port.Port.see_text.Goals as goal
 
@@ -9,11 +9,11 @@ returns-in-None-clause-sees g c = record {
   sent = λ s none. elim s as (λ (s : Sent). answered_to c.args.self.now c.args.message.now ≡ Ok s
       → Sends c.args.slot s c.args.message.now c.args.self.now c.send.new.self) [
         | sents.Queued reference ↦ λ answer. record {
-          frame = c.send.ensures.sent (sents.Queued reference) answer;
+          frame = search (arith, c.seconds-self.ensures, c.send.ensures.sent (sents.Queued reference) answer);
           kept = c.send.ensures.queued reference answer;
         }
         | sents.Answered reference aborted ↦ λ answer. record {
-          frame = c.send.ensures.sent (sents.Answered reference aborted) answer;
+          frame = search (arith, c.seconds-self.ensures, c.send.ensures.sent (sents.Answered reference aborted) answer);
           kept = c.send.ensures.answered reference aborted answer;
         }
       ];

@@ -1,4 +1,4 @@
-use Rattle.mscp_port.proofs.Common.{refl, first, grow, more}
+use Rattle.mscp_port.proofs.Common.{◌∷◌, [], ap, refl, first, grow, more}
 use Rattle.mscp_port.proofs.port.saving.put_volume.Goals as goal
 
 pub returns-clause-items : goal.returns-clause-items
@@ -7,6 +7,6 @@ returns-clause-items c =
     let there = first xs _ _ c.put_flag.ensures.items refl in
     let locked = more xs _ _ _ there c.put_flag-2.ensures.items refl in
     let by_host = more xs _ _ _ locked c.put_flag-3.ensures.items refl in
-    let news = more xs _ _ _ by_host c.put_flag-4.ensures.items refl in
+    let news = more xs _ _ _ by_host c.push.ensures.items (ap (λ byte. byte ∷ []) c.told_byte.ensures) in
     let changes = grow xs _ 4 _ c.args.volume.changes news c.put_four.ensures.items refl in
     more xs _ _ _ changes c.put_mounted.ensures.items refl
