@@ -1,6 +1,6 @@
 // The totals of a report.
 
-ghost use Rattle.mscp_script.specs.Common.{◌≡◌, ◌+◌, ◌≤◌, ◌-◌, ◌*◌, ◌<◌, ◌^◌};
+ghost use Rattle.std.specs.Prelude.{◌≡◌, ◌+◌, ◌≤◌, ◌-◌, ◌*◌, ◌<◌, ◌^◌};
 
 use mscp_controller::{Report, SendFault, Sent};
 
@@ -25,8 +25,9 @@ pub struct Totals {
 }
 
 impl Totals {
-    ghost use Rattle.mscp_script.specs.Common.{Connection, IsCounted};
+    ghost use Rattle.mscp_events.specs.declared.connection.Connection.{Connection};
     ghost use Rattle.mscp_controller.specs.declared.entry.Entry.TheVariants as entries;
+    ghost use Rattle.mscp_script.specs.Counted.{IsCounted};
 
     /// The totals of no entry.
     pub fn new() -> Totals
