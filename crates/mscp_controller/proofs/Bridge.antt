@@ -23,3 +23,4 @@ pub mod Replacing
 pub mod Answering
 pub mod Legals
 pub mod Restored
+pub mod Basics

@@ -1,3 +1,4 @@
 pub mod Common
 pub mod Promise
 pub mod Bridge
+pub mod Basics

@@ -1,13 +1,7 @@
 -- A command that is aborted is taken out of those that wait, and no other.
-use Rattle.mscp_queue.proofs.Common.{◌≡◌, ◌≢◌, ⊎_elim, ℕ, ◌+◌, ◌<◌, ◌≤◌, Bool, true, false, cond, not, List, [], ◌∷◌, ◌++◌, length, ap, sym, ◌∙◌, arith, filter, find, option_to_list, remove, slice_index_or, is_some, if◌then◌else◌, Option, Some, None, AllByRecursion, position, false≢true, true≢false, get_or_at, length-append, map-append, All-from_recursion, filter-append, recursion_from_All, Drive, AreApart, IsHeld, IsKept, IsStillServable, names, units_of, Name, begun_without, is_begun, Record, has_name, is_in_service, name_of, record_at, without}
-use Rattle.mscp_queue.proofs.Begun.{still_aborted, still_begun}
-use Rattle.mscp_queue.proofs.Lists.{every_kept, every_weaker, fewer, filter_all, filter_none, filter_one}
-use Rattle.mscp_queue.proofs.Named.{is_differ, same_is}
-use Rattle.mscp_queue.proofs.Mapped.{removed_at}
-use Rattle.mscp_queue.proofs.Placed.{Found, find_cases, find_first, find_none, position_first, position_none}
+use Rattle.mscp_queue.proofs.Basics.{◌≡◌, ◌≢◌, ⊎_elim, ℕ, ◌+◌, ◌<◌, ◌≤◌, Bool, true, false, cond, not, List, [], ◌∷◌, ◌++◌, length, ap, sym, ◌∙◌, arith, filter, find, option_to_list, remove, slice_index_or, is_some, if◌then◌else◌, Option, Some, None, AllByRecursion, position, false≢true, true≢false, get_or_at, length-append, map-append, All-from_recursion, filter-append, recursion_from_All, Drive, AreApart, IsHeld, IsKept, IsStillServable, names, units_of, Name, begun_without, is_begun, Record, has_name, is_in_service, name_of, record_at, without, still_aborted, still_begun, every_kept, every_weaker, fewer, filter_all, filter_none, filter_one, is_differ, same_is, removed_at, Found, find_cases, find_first, find_none, position_first, position_none}
 
 -- ---- names that stand once
-
 apart_behind : (A : List Name) (x : Name) (B : List Name) → AreApart (A ++ x ∷ B) → AllByRecursion (λ y. y ≢ x) B
 apart_behind [] x B h = h.0
 apart_behind (y ∷ ys) x B h = apart_behind ys x B h.1
@@ -30,7 +24,6 @@ cut_by gone rs A r B apart f =
     search (arith, map-append name_of A (r ∷ B), same_is (name_of r) gone f.passed, others, apart_behind)
 
 -- ---- the one that is found
-
 -- what is taken out where a record is found at a place
 pub record Aborts (gone : Name) (rs : List Record) (place : ℕ) : Type 0 where
   pub inside : place < length rs
@@ -38,45 +31,33 @@ pub record Aborts (gone : Name) (rs : List Record) (place : ℕ) : Type 0 where
   pub left : remove rs place ≡ without gone rs
   pub count : length (without gone rs) + 1 ≡ length rs
 
-pub aborts_at : (gone : Name) (rs : List Record) (place : ℕ) → AreApart (names rs)
-    → position (has_name gone) rs ≡ Some place → Aborts gone rs place
-aborts_at gone rs place apart h =
-    search (
-      arith,
-      false≢true,
-      position_none,
-      cut_by,
-      position_first,
-      get_or_at,
-      length-append,
-      find_first,
-      removed_at,
-      find_cases,
-      not,
-      filter_all,
-      every_weaker,
-      filter-append,
-    )
+pub aborts_at : (gone : Name) (rs : List Record) (place : ℕ)
+    → AreApart (names rs) → position (has_name gone) rs ≡ Some place → Aborts gone rs place
+aborts_at gone rs place apart h = search (
+  arith,
+  false≢true,
+  position_none,
+  cut_by,
+  position_first,
+  get_or_at,
+  length-append,
+  find_first,
+  removed_at,
+  find_cases,
+  not,
+  filter_all,
+  every_weaker,
+  filter-append,
+)
 
 -- nothing is taken out where none is found
 pub record AbortsNone (gone : Name) (rs : List Record) : Type 0 where
   pub found : find (has_name gone) rs ≡ None
   pub left : without gone rs ≡ rs
 
-pub aborts_none : (gone : Name) (rs : List Record) → position (has_name gone) rs ≡ None
-    → AbortsNone gone rs
-aborts_none gone rs h =
-    search (
-      arith,
-      find_cases (has_name gone) rs,
-      ⊎_elim,
-      find_none,
-      filter_all,
-      not,
-      every_weaker,
-      true≢false,
-      position_first,
-    )
+pub aborts_none : (gone : Name) (rs : List Record) → position (has_name gone) rs ≡ None → AbortsNone gone rs
+aborts_none gone rs h = search
+    (arith, find_cases (has_name gone) rs, ⊎_elim, find_none, filter_all, not, every_weaker, true≢false, position_first)
 
 -- the records that have the name are the one that is found
 pub found_once : (gone : Name) (rs : List Record) → AreApart (names rs)
@@ -92,7 +73,6 @@ missing p rs place d h l =
     (sym (find_first p some.0 some.1 some.2 f.before f.passed) ∙ (ap (find p) (sym f.is) ∙ h))))) (find_cases p rs)
 
 -- ---- what is true of each queue stays true
-
 names_kept : (p : Record → Bool) (P : Name → Type 0) (rs : List Record) → AllByRecursion P (names rs)
     → AllByRecursion P (names (filter p rs))
 names_kept p P [] h = tt
@@ -110,10 +90,8 @@ fewer_of p q [] = omega arith
 fewer_of {X} p q (x ∷ xs) = search (arith, fewer_of p q xs)
 
 pub held_aborted : (room budget longest : ℕ) (gone : Name) (rs new : List Record) (ds : List Drive)
-    (begun : Option Name)
-    (serving b : Bool) → is_begun gone begun ≡ b → IsHeld room budget longest rs ds begun serving
-    → new ≡ without gone rs
-    → IsHeld room budget longest new ds (if b then None else begun) serving
+    (begun : Option Name) (serving b : Bool) → is_begun gone begun ≡ b → IsHeld room budget longest rs ds begun serving
+    → new ≡ without gone rs → IsHeld room budget longest new ds (if b then None else begun) serving
 held_aborted room budget longest gone rs new ds begun serving b was h e =
     let keep : Record → Bool = λ z. not (has_name gone z) in
     let K = IsKept budget longest (units_of ds) in
@@ -137,7 +115,6 @@ held_aborted room budget longest gone rs new ds begun serving b was h e =
     search arith
 
 -- where nothing is aborted, what was begun stays
-pub none_aborted : (budget : ℕ) (gone : Name) (rs : List Record) (begun : Option Name)
-    → ((name : Name) → begun ≡ Some name → IsStillServable budget rs name) → find (has_name gone) rs ≡ None
-    → begun ≡ begun_without gone begun
+pub none_aborted : (budget : ℕ) (gone : Name) (rs : List Record) (begun : Option Name) → ((name : Name) → begun
+    ≡ Some name → IsStillServable budget rs name) → find (has_name gone) rs ≡ None → begun ≡ begun_without gone begun
 none_aborted budget gone rs begun h4 h5 = grind (arith, same_is, true≢false, missing)

@@ -1,8 +1,5 @@
 -- What a step makes of the waiting commands, their dues, and what is left of all.
-use Rattle.mscp_queue.proofs.Common.{◌≡◌, ◌<◌, ◌≤◌, ◌+◌, ◌-◌, ℕ, Bool, true, false, cond, List, [], ◌∷◌, ◌++◌, map, take, drop, set, length, sym, subst, ap, ◌∙◌, refl, arith, All, if◌then◌else◌, nat_eq, sum_by, AllByRecursion, eqb-false, eqb-true, lt-ltb, drop-map, get_or_at, length-map, length-take-le, map-append, set_at, take-map, All-from_recursion, recursion_from_All, sum_by-append, sum_by-cons, Slot, AreDue, AreTimed, started, Waiters, Record, advanced, is_in_service, is_unstarted, left_of, no_record, passed_by, record_at, step_charge, targets, items, lowered_by, slot_at, with_due, with_item}
-use Rattle.mscp_queue.proofs.Dues.{due_set_back, due_started, due_stepped, item_there, items_append, items_fallen, late}
-use Rattle.mscp_queue.proofs.Held.{AreIdle, passed_idle}
-use Rattle.mscp_queue.proofs.Lists.{every_weaker}
+use Rattle.mscp_queue.proofs.Basics.{◌≡◌, ◌<◌, ◌≤◌, ◌+◌, ◌-◌, ℕ, Bool, true, false, cond, List, [], ◌∷◌, ◌++◌, map, take, drop, set, length, sym, subst, ap, ◌∙◌, refl, arith, All, if◌then◌else◌, nat_eq, sum_by, AllByRecursion, eqb-false, eqb-true, lt-ltb, drop-map, get_or_at, length-map, length-take-le, map-append, set_at, take-map, All-from_recursion, recursion_from_All, sum_by-append, sum_by-cons, Slot, AreDue, AreTimed, started, Waiters, Record, advanced, is_in_service, is_unstarted, left_of, no_record, passed_by, record_at, step_charge, targets, items, lowered_by, slot_at, with_due, with_item, due_set_back, due_started, due_stepped, item_there, items_append, items_fallen, late, AreIdle, passed_idle, every_weaker}
 use Rattle.mscp_queue.proofs.Placed.{at_place, map_map}
 use Rattle.mscp_queue.proofs.Uncharged.{uncharged}
 use Rattle.mscp_queue.proofs.Backlogs.{back_of, cut, front_of, of_items}
@@ -27,11 +24,10 @@ set_mid A y B place l = grind (arith, set_at, get_or_at)
 own_append : (xs ys : List Slot) → targets (xs ++ ys) ≡ targets xs ++ targets ys
 own_append xs ys = map-append (λ (s : Slot). s.target) xs ys
 
-pub step_of : {budget clock : ℕ} {ss : List Slot} {place : ℕ} → AreDue budget clock 0 ss → place < length ss
-    → (slot_at ss place).item.done < (slot_at ss place).item.weight
-    → AreIdle (items (take place ss)) → AreIdle (items (drop (place + 1) ss))
-    → (is_unstarted (slot_at ss place).item ≡ true
-    → AllByRecursion (λ s. s.item.passed + (slot_at ss place).item.weight ≤ budget) (take place ss))
+pub step_of : {budget clock : ℕ} {ss : List Slot} {place : ℕ}
+    → AreDue budget clock 0 ss → place < length ss → (slot_at ss place).item.done < (slot_at ss place).item.weight
+    → AreIdle (items (take place ss)) → AreIdle (items (drop (place + 1) ss)) → (is_unstarted (slot_at ss place).item
+    ≡ true → AllByRecursion (λ s. s.item.passed + (slot_at ss place).item.weight ≤ budget) (take place ss))
     → IsStep budget clock ss (stepped clock place ss) place
 step_of {budget} {clock} {ss} {place} a l unfinished front back affordable =
     by (is_unstarted (slot_at ss place).item) refl
@@ -154,10 +150,9 @@ pub started_item : (clock place : ℕ) (ss : List Slot) → place < length ss
 started_item clock place ss l = grind (arith, length-map, length-take-le, get_or_at)
 
 -- a step at a place, and then the clock may be set back
-pub step_timed : {budget clock total now : ℕ} {ss ss' new : List Slot} {place : ℕ} → AreTimed budget clock total ss
-    → IsStep budget clock ss ss' place → now < 1099511627776 → now ≤ clock + 1
-    → new ≡ map (lowered_by (clock + 1 - now)) ss'
-    → AreTimed budget now (total - 1) new
+pub step_timed : {budget clock total now : ℕ} {ss ss' new : List Slot} {place : ℕ}
+    → AreTimed budget clock total ss → IsStep budget clock ss ss' place → now < 1099511627776
+    → now ≤ clock + 1 → new ≡ map (lowered_by (clock + 1 - now)) ss' → AreTimed budget now (total - 1) new
 step_timed {budget} {clock} {total} {now} {ss} {ss'} {new} {place} t step early below fell =
     search (arith, items_fallen, due_set_back)
 
@@ -166,17 +161,14 @@ pub step_late : {budget clock : ℕ} {ss new : List Slot} {place : ℕ} → IsSt
 step_late {budget} {clock} {ss} {new} {place} step =
     All-from_recursion (λ (s : Slot). clock + 1 ≤ s.due) new (late budget (clock + 1) 0 new step.dues)
 
-pub seen_step : {budget clock : ℕ} {ss ss' new : List Slot} {place : ℕ} (now : ℕ) (rs : List Record)
-    → IsStep budget clock ss ss' place
-    → place < length ss → items ss ≡ rs → new ≡ map (lowered_by now) ss'
-    → items new ≡ map (passed_by (step_charge (record_at rs place))) (take place rs)
-    ++ advanced (record_at rs place) ∷ drop (place + 1) rs
-seen_step {budget} {clock} {ss} {ss'} {new} {place} now rs step l w fell =
-    search (arith, item_there ss place l, items_fallen now ss', take-map, drop-map)
+module _ {budget clock : ℕ} {ss ss' new : List Slot} {place : ℕ} (now : ℕ) where
+  pub seen_step : (rs : List Record) → IsStep budget clock ss ss' place → place < length ss
+      → items ss ≡ rs → new ≡ map (lowered_by now) ss' → items new ≡ map (passed_by (step_charge (record_at rs place)))
+      (take place rs) ++ advanced (record_at rs place) ∷ drop (place + 1) rs
+  seen_step rs step l w fell = search (arith, item_there ss place l, items_fallen now ss', take-map, drop-map)
 
-pub seen_own : {budget clock : ℕ} {ss ss' new : List Slot} {place : ℕ} (now : ℕ) → IsStep budget clock ss ss' place
-    → new ≡ map (lowered_by now) ss' → targets new ≡ targets ss
-seen_own {budget} {clock} {ss} {ss'} {new} {place} now step fell = search (arith, map_map)
+  pub seen_own : IsStep budget clock ss ss' place → new ≡ map (lowered_by now) ss' → targets new ≡ targets ss
+  seen_own step fell = search (arith, map_map)
 
 -- the same as it is found out, step by step, of what callers see
 module _ {budget clock total : ℕ} {ss : List Slot} {now : Waiters} {place : ℕ} (t : AreTimed budget clock total ss)
@@ -187,62 +179,48 @@ module _ {budget clock total : ℕ} {ss : List Slot} {now : Waiters} {place : �
   item : (slot_at ss place).item ≡ record_at now.waiting place
   item = item_there ss place l ∙ ap (λ rs. record_at rs place) seen
 
-  affordable : (is_unstarted (record_at now.waiting place) ≡ true
-      → All (λ r. r.passed + (record_at now.waiting place).weight ≤ now.budget) (take place now.waiting))
-      → is_unstarted (slot_at ss place).item ≡ true
-      → AllByRecursion (λ s. s.item.passed + (slot_at ss place).item.weight ≤ budget) (take place ss)
-  affordable h e =
-      let P : Record → Type 0 = λ r. r.passed + (record_at now.waiting place).weight ≤ now.budget in
-      every_weaker (λ (s : Slot). P s.item) (λ s. s.item.passed + (slot_at ss place).item.weight ≤ budget)
-      (λ s k. omega (arith, k, ap (λ (r : Record). r.weight) item, ap (λ (w : Waiters). w.budget) view)) (take place ss)
-      (of_items P (take place ss) (front_of P ss now.waiting place seen (h (ap is_unstarted (sym item) ∙ e))))
+  module _ (h : (is_unstarted (record_at now.waiting place) ≡ true → All (λ r. r.passed + (record_at now.waiting
+      place).weight ≤ now.budget) (take place now.waiting))) (e : is_unstarted (slot_at ss place).item ≡ true) where
+    affordable : AllByRecursion (λ s. s.item.passed + (slot_at ss place).item.weight ≤ budget) (take place ss)
+    affordable =
+        let P : Record → Type 0 = λ r. r.passed + (record_at now.waiting place).weight ≤ now.budget in
+        every_weaker (λ (s : Slot). P s.item) (λ s. s.item.passed + (slot_at ss place).item.weight ≤ budget) (λ s k.
+        omega (arith, k, ap (λ (r : Record). r.weight) item, ap (λ (w : Waiters). w.budget) view)) (take place ss)
+        (of_items P (take place ss) (front_of P ss now.waiting place seen (h (ap is_unstarted (sym item) ∙ e))))
 
-  pub affordable_at : (is_unstarted (record_at now.waiting place) ≡ true
-      → All (λ r. r.passed + (record_at now.waiting place).weight ≤ now.budget) (take place now.waiting))
-      → is_unstarted (slot_at ss place).item ≡ true
-      → AllByRecursion (λ s. s.item.passed + (slot_at ss place).item.weight < 4294967296) (take place ss)
-  affordable_at h e = every_weaker (λ s. s.item.passed + (slot_at ss place).item.weight ≤ budget)
-      (λ s. s.item.passed + (slot_at ss place).item.weight < 4294967296) (λ s k. omega (arith, k, t.fits))
-      (take place ss) (affordable h e)
+    pub affordable_at : AllByRecursion
+        (λ s. s.item.passed + (slot_at ss place).item.weight < 4294967296) (take place ss)
+    affordable_at = every_weaker (λ s. s.item.passed + (slot_at ss place).item.weight ≤ budget) (λ s. s.item.passed
+        + (slot_at ss place).item.weight < 4294967296) (λ s k. omega (arith, k, t.fits)) (take place ss) affordable
 
   pub step_at : {ss' new : List Slot} → (record_at now.waiting place).done < (record_at now.waiting place).weight
       → All (λ r. r.done ≡ 0) (take place now.waiting) → All (λ r. r.done ≡ 0) (drop (place + 1) now.waiting)
-      → (is_unstarted (record_at now.waiting place) ≡ true
-      → All (λ r. r.passed + (record_at now.waiting place).weight ≤ now.budget) (take place now.waiting))
-      → ss' ≡ started clock place ss → new ≡ set ss' place (with_item advanced (slot_at ss' place))
-      → IsStep budget clock ss new place
-  step_at {ss'} {new} unfinished front back h begun had =
-      subst (λ zs. IsStep budget clock ss zs place)
-      (sym (had ∙ ap (λ zs. set zs place (with_item advanced (slot_at zs place))) begun))
-      (step_of t.dues l (omega (
-        arith,
-        unfinished,
-        ap (λ (r : Record). r.done) item,
-        ap (λ (r : Record). r.weight) item,
-      ))
+      → (is_unstarted (record_at now.waiting place) ≡ true → All (λ r. r.passed
+      + (record_at now.waiting place).weight ≤ now.budget) (take place now.waiting)) → ss' ≡ started clock place ss
+      → new ≡ set ss' place (with_item advanced (slot_at ss' place)) → IsStep budget clock ss new place
+  step_at {ss'} {new} unfinished front back h begun had = subst (λ zs. IsStep budget clock ss zs place)
+      (sym (had ∙ ap (λ zs. set zs place (with_item advanced (slot_at zs place))) begun)) (step_of t.dues
+      l (omega (arith, unfinished, ap (λ (r : Record). r.done) item, ap (λ (r : Record). r.weight) item))
       (front_of (λ r. r.done ≡ 0) ss now.waiting place seen front)
       (back_of (λ r. r.done ≡ 0) ss now.waiting (place + 1) seen back) (affordable h))
 
 -- ---- what a step and its end leave
+module _ (n place : ℕ) (rs ws : List Record)
+    (r : Record) (l : place < length rs) (e : ws ≡ map (passed_by n) (take place rs) ++ r ∷ drop (place + 1) rs) where
+  pub front_idle : All (λ r. r.done ≡ 0) (take place rs) → All (λ r. r.done ≡ 0) (take place ws)
+  front_idle h =
+      let long : length (map (passed_by n) (take place rs)) ≡ place = length-map (take place rs) (passed_by n)
+      ∙ length-take-le place rs (omega (arith, l)) in
+      let at = at_place ws (map (passed_by n) (take place rs)) r (drop (place + 1) rs) place no_record e long in
+      let P : Record → Type 0 = λ r. r.done ≡ 0 in
+      search (arith, at, P, All-from_recursion, passed_idle, recursion_from_All)
 
-pub front_idle : (n place : ℕ) (rs ws : List Record) (r : Record) → place < length rs
-    → ws ≡ map (passed_by n) (take place rs) ++ r ∷ drop (place + 1) rs → All (λ r. r.done ≡ 0) (take place rs)
-    → All (λ r. r.done ≡ 0) (take place ws)
-front_idle n place rs ws r l e h =
-    let long : length (map (passed_by n) (take place rs)) ≡ place = length-map (take place rs) (passed_by n)
-    ∙ length-take-le place rs (omega (arith, l)) in
-    let at = at_place ws (map (passed_by n) (take place rs)) r (drop (place + 1) rs) place no_record e long in
-    let P : Record → Type 0 = λ r. r.done ≡ 0 in
-    search (arith, at, P, All-from_recursion, passed_idle, recursion_from_All)
-
-pub back_idle : (n place : ℕ) (rs ws : List Record) (r : Record) → place < length rs
-    → ws ≡ map (passed_by n) (take place rs) ++ r ∷ drop (place + 1) rs → All (λ r. r.done ≡ 0) (drop (place + 1) rs)
-    → All (λ r. r.done ≡ 0) (drop (place + 1) ws)
-back_idle n place rs ws r l e h =
-    let long : length (map (passed_by n) (take place rs)) ≡ place = length-map (take place rs) (passed_by n)
-    ∙ length-take-le place rs (omega (arith, l)) in
-    let at = at_place ws (map (passed_by n) (take place rs)) r (drop (place + 1) rs) place no_record e long in
-    subst (All (λ (r : Record). r.done ≡ 0)) (sym at.behind) h
+  pub back_idle : All (λ r. r.done ≡ 0) (drop (place + 1) rs) → All (λ r. r.done ≡ 0) (drop (place + 1) ws)
+  back_idle h =
+      let long : length (map (passed_by n) (take place rs)) ≡ place = length-map (take place rs) (passed_by n)
+      ∙ length-take-le place rs (omega (arith, l)) in
+      let at = at_place ws (map (passed_by n) (take place rs)) r (drop (place + 1) rs) place no_record e long in
+      subst (All (λ (r : Record). r.done ≡ 0)) (sym at.behind) h
 
 pub ended_at : (n place : ℕ) (rs ws new : List Record) (r : Record) → place < length rs
     → ws ≡ map (passed_by n) (take place rs) ++ r ∷ drop (place + 1) rs → new ≡ take place ws ++ drop (place + 1) ws

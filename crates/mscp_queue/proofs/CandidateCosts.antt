@@ -1,31 +1,22 @@
 -- The costs of what a queue keeps of its waiting commands for a picker, and how they are found anew.
-use Rattle.mscp_queue.proofs.Common.{All, ◌≡◌, ◌≢◌, ◌⊎◌, inl, inr, set, ℕ, ◌+◌, ◌<◌, ◌≤◌, Bool, true, false, cond, List, map, get_or, length, refl, ap, sym, ◌∙◌, arith, nat_eq, bit_at, range_with_len, get_or-map-range_with_len, length-range_with_len, Order, Head, sweep_cost, eq-eqb, false≢true, ne_eqb, ext_get_or, get_or_default, get_or-map, length-map, Shape, cylinder_of, last_cylinder, one_block, first_block, is_move, order_cost, Drive, Choice, target_of, no_target, unit_place, fresh_drive, CanBeShown, is_known, units_of, AreOnDrive, AreCandidates, IsRecosted, IsRenewed, choice_in, cost_on, costing, costing_if, no_choice, sure_of, IsSet, Record, no_record, record_at, choices_at, IsUnitList, Target}
-use Rattle.mscp_queue.proofs.Targets.{cylinder_within, led, own_target, own_blocks, place_inside, place_same}
-use Rattle.mscp_queue.proofs.Drives.{known_at, place_is}
-use Rattle.mscp_queue.proofs.Turns.{pairs_rise}
-use Rattle.mscp_queue.proofs.Masked.{same_or}
-use Rattle.mscp_queue.proofs.Placed.{map_map}
-use Rattle.mscp_queue.proofs.CandidateLists.{as_many, at_place, sure_but}
+use Rattle.mscp_queue.proofs.Basics.{All, ◌≡◌, ◌≢◌, ◌⊎◌, inl, inr, set, ℕ, ◌+◌, ◌<◌, ◌≤◌, Bool, true, false, cond, List, map, get_or, length, refl, ap, sym, ◌∙◌, arith, nat_eq, bit_at, range_with_len, get_or-map-range_with_len, length-range_with_len, Order, Head, sweep_cost, eq-eqb, false≢true, ne_eqb, ext_get_or, get_or_default, get_or-map, length-map, Shape, cylinder_of, last_cylinder, one_block, first_block, is_move, order_cost, Drive, Choice, target_of, no_target, unit_place, fresh_drive, CanBeShown, is_known, units_of, AreOnDrive, AreCandidates, IsRecosted, IsRenewed, choice_in, cost_on, costing, costing_if, no_choice, sure_of, IsSet, Record, no_record, record_at, choices_at, IsUnitList, Target, cylinder_within, led, own_target, own_blocks, place_inside, place_same, known_at, place_is, pairs_rise, same_or, map_map, as_many, at_place, sure_but}
 
-module _ {dirty : ℕ} {ds : List Drive} {rs : List Record} {cs : List Choice} (h : AreCandidates dirty ds rs cs) (k : ℕ)
-    (l : k < length rs) where
+module _ {dirty : ℕ} {ds : List Drive} {rs : List Record} {cs : List Choice} (h : AreCandidates dirty ds rs cs)
+    (k : ℕ) (l : k < length rs) where
   pub same_but : costing 0 (get_or cs k no_choice) ≡ costing 0 (choice_in ds (record_at rs k))
-  same_but =
-      sym (sure_but dirty (units_of ds) (get_or cs k no_choice))
+  same_but = sym (sure_but dirty (units_of ds) (get_or cs k no_choice))
       ∙ (ap (costing 0) (at_place h k l) ∙ sure_but dirty (units_of ds) (choice_in ds (record_at rs k)))
 
   pub same_unit : (get_or cs k no_choice).unit ≡ (record_at rs k).command.unit
   same_unit = ap (λ (c : Choice). c.unit) same_but
 
 -- nothing but what is sure is asked for where no drive of a known unit served
-sure_all : (dirty : ℕ) (us : List Shape) (c : Choice) → bit_at dirty
-    (unit_place us c.unit) ≡ 0 → sure_of dirty us c ≡ c
+sure_all : (dirty : ℕ) (us : List Shape) (c : Choice) → bit_at dirty (unit_place us c.unit) ≡ 0 → sure_of dirty us c ≡ c
 sure_all dirty us c e = ap (λ b. cond (nat_eq b 1) (costing 0 c) c) e
 
 pub candidates_whole : {dirty : ℕ} {ds : List Drive} {rs : List Record} {cs : List Choice}
-    → AreCandidates dirty ds rs cs
-    → All (λ r. is_known (units_of ds) r.command.unit ≡ true) rs → ((k : ℕ) → k < length ds → bit_at dirty k ≡ 0)
-    → cs ≡ map (choice_in ds) rs
+    → AreCandidates dirty ds rs cs → All (λ r. is_known (units_of ds) r.command.unit ≡ true) rs
+    → ((k : ℕ) → k < length ds → bit_at dirty k ≡ 0) → cs ≡ map (choice_in ds) rs
 candidates_whole {dirty} {ds} {rs} {cs} h known off =
     let us = units_of ds in
     ext_get_or no_choice cs (map (choice_in ds) rs) (as_many h ∙ sym (length-map rs (choice_in ds))) (λ k l.
@@ -143,20 +134,18 @@ targets_there {at} {place} {ds} {rs} {targets} d a shown units inside l found ta
     ap (λ (a : Target). a.drive) is ∙ (sym (place_same ds r.command.unit) ∙ there)
 
 -- each whose target is there has its first block on it
-pub all_on_drive : {at : ℕ} {ds : List Drive} {rs : List Record} {targets : List Target} (d : Drive)
-    → CanBeShown ds rs targets
-    → All (λ r. is_move r.command.order ≡ true) rs → d ≡ get_or ds at d → AreOnDrive at d targets
+pub all_on_drive : {at : ℕ} {ds : List Drive} {rs : List Record} {targets : List Target} (d : Drive) → CanBeShown ds
+    rs targets → All (λ r. is_move r.command.order ≡ true) rs → d ≡ get_or ds at d → AreOnDrive at d targets
 all_on_drive {at} {ds} {rs} {targets} d shown moves found place other l =
     let many : length targets ≡ length rs = search (arith, length-map) in
     λ e. (on_drive d (get_or targets place other) shown moves (omega (arith, l, many)) found
     (get_or_default targets place other no_target l) e).within
 
 -- so the costs are found anew of those that are to its unit
-pub recosted_renewed : {dirty at : ℕ} {ds : List Drive} {rs : List Record} {targets : List Target}
-    {old new : List Choice}
-    (d : Drive) → CanBeShown ds rs targets → IsUnitList (units_of ds) → AreCandidates dirty ds rs old
-    → All (λ r. is_move r.command.order ≡ true) rs → at < length ds → d ≡ get_or ds at d
-    → IsRecosted at d targets old new → IsRenewed at ds rs old new
+pub recosted_renewed : {dirty at : ℕ} {ds : List Drive}
+    {rs : List Record} {targets : List Target} {old new : List Choice} (d : Drive) → CanBeShown ds rs targets
+    → IsUnitList (units_of ds) → AreCandidates dirty ds rs old → All (λ r. is_move r.command.order ≡ true) rs
+    → at < length ds → d ≡ get_or ds at d → IsRecosted at d targets old new → IsRenewed at ds rs old new
 recosted_renewed {dirty} {at} {ds} {rs} {targets} {old} {new} d shown units h moves inside found made = record {
   long = made.long;
   each = λ k l.

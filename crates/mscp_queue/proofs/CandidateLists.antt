@@ -4,7 +4,6 @@ use Rattle.mscp_queue.proofs.Placed.{map_map}
 use Rattle.mscp_queue.proofs.Unmoved.{made_served, map_cut}
 
 -- ---- what is sure of a choice
-
 if_sure : {X : Type 0} (f : Choice → X) → ((c : Choice) → f (costing 0 c) ≡ f c) → (b : Bool) (c : Choice)
     → f (cond b (costing 0 c) c) ≡ f c
 if_sure f h1 b c = grind arith
@@ -29,51 +28,41 @@ module _ {dirty : ℕ} {ds : List Drive} {rs : List Record} {cs : List Choice} (
   as_many = sym (length-map cs S) ∙ (ap length h.sure ∙ length-map rs (λ r. S (choice_in ds r)))
 
   -- the choice at a place is that of the record there
-  pub at_place : (k : ℕ) → k < length rs
-      → sure_of dirty (units_of ds) (get_or cs k no_choice) ≡ sure_of dirty (units_of ds) (choice_in ds
-      (record_at rs k))
-  at_place k l =
-      sym (get_or-map S cs k no_choice no_choice (omega (arith, l, as_many)))
-      ∙ (ap (λ zs. get_or zs k no_choice) h.sure
-      ∙ get_or-map (λ (r : Record). S (choice_in ds r)) rs k no_record no_choice l)
+  pub at_place : (k : ℕ) → k < length rs → sure_of dirty (units_of ds) (get_or cs k no_choice)
+      ≡ sure_of dirty (units_of ds) (choice_in ds (record_at rs k))
+  at_place k l = sym (get_or-map S cs k no_choice no_choice (omega (arith, l, as_many))) ∙ (ap (λ zs. get_or
+      zs k no_choice) h.sure ∙ get_or-map (λ (r : Record). S (choice_in ds r)) rs k no_record no_choice l)
 
   -- their names are those of the waiting commands
   pub listed_names : map choice_name cs ≡ names rs
-  listed_names =
-      (λ i. map (λ (c : Choice). sym (sure_name dirty (units_of ds) c) i) cs)
-      ∙ (sym (map_map S choice_name cs)
-      ∙ (ap (map choice_name) h.sure
-      ∙ (map_map (λ (r : Record). S (choice_in ds r)) choice_name rs
-      ∙ (λ i. map (λ (r : Record). sure_name dirty (units_of ds) (choice_in ds r) i) rs))))
+  listed_names = (λ i. map (λ (c : Choice). sym (sure_name dirty (units_of ds) c) i) cs)
+      ∙ (sym (map_map S choice_name cs) ∙ (ap (map choice_name) h.sure ∙ (map_map (λ (r : Record). S (choice_in ds r))
+      choice_name rs ∙ (λ i. map (λ (r : Record). sure_name dirty (units_of ds) (choice_in ds r) i) rs))))
 
-any_mapped : {X Y : Type 0} (p : Y → Bool) (f : X → Y) (xs : List X) → list_any p (map f xs) ≡ list_any (λ x. p
-    (f x)) xs
-any_mapped p f [] = refl
-any_mapped p f (x ∷ xs) = ap (λ b. p (f x) || b) (any_mapped p f xs)
+module _ {X Y : Type 0} (p : Y → Bool) (f : X → Y) where
+  any_mapped : (xs : List X) → list_any p (map f xs) ≡ list_any (λ x. p (f x)) xs
+  any_mapped [] = refl
+  any_mapped (x ∷ xs) = ap (λ b. p (f x) || b) (any_mapped xs)
 
-place_mapped : {X Y : Type 0} (p : Y → Bool) (f : X → Y) (xs : List X)
-    → position_or_len p (map f xs) ≡ position_or_len (λ x. p (f x)) xs
-place_mapped p f [] = refl
-place_mapped p f (x ∷ xs) = ap (λ n. cond (not (p (f x))) (1 + n) 0) (place_mapped p f xs)
+  place_mapped : (xs : List X) → position_or_len p (map f xs) ≡ position_or_len (λ x. p (f x)) xs
+  place_mapped [] = refl
+  place_mapped (x ∷ xs) = ap (λ n. cond (not (p (f x))) (1 + n) 0) (place_mapped xs)
 
--- so a command is looked for among the choices
-pub any_of : {dirty : ℕ} {ds : List Drive} {rs : List Record} {cs : List Choice}
-    (name : Name) → AreCandidates dirty ds rs cs
-    → list_any (has_choice_name name) cs ≡ list_any (has_name name) rs
-any_of {dirty} {ds} {rs} {cs} name h =
-    let p : Name → Bool = λ other. same_name other name in
-    sym (any_mapped p choice_name cs) ∙ (ap (list_any p) (listed_names h) ∙ any_mapped p name_of rs)
+module _ {dirty : ℕ} {ds : List Drive} {rs : List Record} {cs : List Choice} (name : Name) where
+  -- so a command is looked for among the choices
+  pub any_of : AreCandidates dirty ds rs cs → list_any (has_choice_name name) cs ≡ list_any (has_name name) rs
+  any_of h =
+      let p : Name → Bool = λ other. same_name other name in
+      sym (any_mapped p choice_name cs) ∙ (ap (list_any p) (listed_names h) ∙ any_mapped p name_of rs)
 
-pub place_of : {dirty : ℕ} {ds : List Drive} {rs : List Record} {cs : List Choice} (name : Name)
-    → AreCandidates dirty ds rs cs → position (has_choice_name name) cs ≡ position (has_name name) rs
-place_of {dirty} {ds} {rs} {cs} name h =
-    let p : Name → Bool = λ other. same_name other name in
-    let same : position_or_len (has_choice_name name) cs ≡ position_or_len (has_name name) rs =
-    sym (place_mapped p choice_name cs) ∙ (ap (position_or_len p) (listed_names h) ∙ place_mapped p name_of rs) in
-    λ i. cond (nat_lt (same i) (as_many h i)) (Some (same i)) None
+  pub place_of : AreCandidates dirty ds rs cs → position (has_choice_name name) cs ≡ position (has_name name) rs
+  place_of h =
+      let p : Name → Bool = λ other. same_name other name in
+      let same : position_or_len (has_choice_name name) cs ≡ position_or_len (has_name name) rs =
+      sym (place_mapped p choice_name cs) ∙ (ap (position_or_len p) (listed_names h) ∙ place_mapped p name_of rs) in
+      λ i. cond (nat_lt (same i) (as_many h i)) (Some (same i)) None
 
 -- ---- a command comes, or leaves
-
 pub candidates_left : {dirty : ℕ} {ds : List Drive} {rs rs' : List Record} {cs cs' : List Choice} (place : ℕ)
     → AreCandidates dirty ds rs cs → cs' ≡ take place cs ++ drop (place + 1) cs
     → rs' ≡ take place rs ++ drop (place + 1) rs → AreCandidates dirty ds rs' cs'
@@ -81,10 +70,8 @@ candidates_left {dirty} {ds} {rs} {rs'} {cs} {cs'} place h e f =
     let sure = sure_of dirty (units_of ds) in
     let of : Record → Choice = λ r. sure (choice_in ds r) in
     record {
-      sure = ap (map sure) e
-          ∙ (sym (map_cut sure cs place)
-          ∙ ((λ i. take place (h.sure i) ++ drop (place + 1) (h.sure i)) ∙ (map_cut of rs place ∙ ap (map of)
-          (sym f))));
+      sure = ap (map sure) e ∙ (sym (map_cut sure cs place) ∙ ((λ i. take
+          place (h.sure i) ++ drop (place + 1) (h.sure i)) ∙ (map_cut of rs place ∙ ap (map of) (sym f))));
     }
 
 pub line_without : {dirty dirty' : ℕ} {ds : List Drive} {rs rs' : List Record} {cs cs' : List Choice} (place : ℕ)
@@ -93,9 +80,8 @@ pub line_without : {dirty dirty' : ℕ} {ds : List Drive} {rs rs' : List Record}
 line_without {dirty} {dirty'} {ds} {rs} {rs'} {cs} {cs'} place h e s f = search (arith, candidates_left place h e f)
 
 pub line_with : {dirty dirty' : ℕ} {ds : List Drive} {rs rs' : List Record} {cs cs' : List Choice} (r : Record)
-    (c : Choice)
-    → AreCandidates dirty ds rs cs → c ≡ choice_in ds r → cs' ≡ cs ++ c ∷ [] → dirty' ≡ dirty → rs' ≡ rs ++ r ∷ []
-    → AreCandidates dirty' ds rs' cs'
+    (c : Choice) → AreCandidates dirty ds rs cs
+    → c ≡ choice_in ds r → cs' ≡ cs ++ c ∷ [] → dirty' ≡ dirty → rs' ≡ rs ++ r ∷ [] → AreCandidates dirty' ds rs' cs'
 line_with {dirty} {dirty'} {ds} {rs} {rs'} {cs} {cs'} r c h is e s f = search (arith, map-append)
 
 pub none_listed : {dirty : ℕ} {ds : List Drive} {rs : List Record} {cs : List Choice} → rs ≡ [] → cs ≡ []
@@ -103,7 +89,6 @@ pub none_listed : {dirty : ℕ} {ds : List Drive} {rs : List Record} {cs : List 
 none_listed {dirty} {ds} {rs} {cs} e f = search arith
 
 -- ---- a drive serves
-
 -- the drive of another unit stays
 find_other : (n u : ℕ) (new : Drive) (ds : List Drive) → n ≢ u → new.unit.number ≡ u
     → find (has_number n) (replaced u new ds) ≡ find (has_number n) ds
@@ -123,12 +108,11 @@ place_within (u ∷ us) n = by (nat_eq u.number n) (place_within us n)
     by false rest = omega (arith, rest)
 
 module _ (dirty dirty' at u : ℕ) (us : List Shape) (few : length us ≤ 16) (set : IsSet true at dirty dirty') where
-  bit_is : (n : ℕ) → bit_at dirty' (unit_place us n) ≡ cond (nat_eq (unit_place us n) at) 1 (bit_at dirty
-      (unit_place us n))
+  bit_is : (n : ℕ)
+      → bit_at dirty' (unit_place us n) ≡ cond (nat_eq (unit_place us n) at) 1 (bit_at dirty (unit_place us n))
   bit_is n = let within = place_within us n in set (unit_place us n) (omega (arith, within, few))
 
-  still : (n : ℕ) → nat_eq (bit_at dirty (unit_place us n)) 1 ≡ true → nat_eq (bit_at dirty'
-      (unit_place us n)) 1 ≡ true
+  still : (n : ℕ) → nat_eq (bit_at dirty (unit_place us n)) 1 ≡ true → nat_eq (bit_at dirty' (unit_place us n)) 1 ≡ true
   still n e = search (arith, bit_is n)
 
   pub twice_sure : (c : Choice) → sure_of dirty' us (sure_of dirty us c) ≡ sure_of dirty' us c
@@ -142,36 +126,29 @@ module _ (dirty dirty' at u : ℕ) (us : List Shape) (few : length us ≤ 16) (s
       by false e = refl
 
   -- a choice on another drive is as before, and nothing is sure of the cost of one on this drive
-  pub sure_served : (ds : List Drive) (new : Drive) (r : Record) → at ≡ unit_place us u → new.unit.number ≡ u
-      → sure_of dirty' us (choice_in ds r) ≡ sure_of dirty' us (choice_in (replaced u new ds) r)
+  pub sure_served : (ds : List Drive) (new : Drive) (r : Record) → at ≡ unit_place us u
+      → new.unit.number ≡ u → sure_of dirty' us (choice_in ds r) ≡ sure_of dirty' us (choice_in (replaced u new ds) r)
   sure_served ds new r is own = grind (arith, eqb-true, bit_is, eq-eqb, drive_other, false≢true)
 
-pub candidates_served : {dirty dirty' place : ℕ} {ds ds' : List Drive} {rs rs' : List Record} {cs cs' : List Choice}
-    (at u charge : ℕ) (new : Drive) (ends : Bool)
-    → AreCandidates dirty ds rs cs → length (units_of ds) ≤ 16 → IsSet true at dirty dirty'
-    → at ≡ unit_place (units_of ds) u → new.unit.number ≡ u → ds' ≡ replaced u new ds → units_of ds' ≡ units_of ds
-    → place < length rs
-    → rs' ≡ map (passed_by charge) (take place rs)
-    ++ (cond ends [] (advanced (record_at rs place) ∷ []) ++ drop (place + 1) rs)
-    → cs' ≡ cond ends (take place cs ++ drop (place + 1) cs) cs
-    → AreCandidates dirty' ds' rs' cs'
-candidates_served {dirty} {dirty'} {place} {ds} {ds'} {rs} {rs'} {cs} {cs'} at u charge new ends h few set is own now
-    same
-    l e f =
+pub candidates_served : {dirty dirty' place : ℕ} {ds ds' : List Drive} {rs rs' : List Record}
+    {cs cs' : List Choice} (at u charge : ℕ) (new : Drive) (ends : Bool) → AreCandidates dirty ds rs cs
+    → length (units_of ds) ≤ 16 → IsSet true at dirty dirty' → at ≡ unit_place (units_of ds) u → new.unit.number ≡ u
+    → ds' ≡ replaced u new ds → units_of ds' ≡ units_of ds → place < length rs → rs' ≡ map (passed_by charge)
+    (take place rs) ++ (cond ends [] (advanced (record_at rs place) ∷ []) ++ drop (place + 1) rs)
+    → cs' ≡ cond ends (take place cs ++ drop (place + 1) cs) cs → AreCandidates dirty' ds' rs' cs'
+candidates_served
+    {dirty} {dirty'} {place} {ds} {ds'} {rs} {rs'} {cs} {cs'} at u charge new ends h few set is own now same l e f =
     let us = units_of ds in
     let sure = sure_of dirty' us in
-    let F : Connection → Command → Choice = λ by command. sure (choice_in (replaced u new ds)
-    (record no_record { connection = by; command = command })) in
+    let F : Connection → Command → Choice =
+    λ by command. sure (choice_in (replaced u new ds) (record no_record { connection = by; command = command })) in
     let moved : map sure cs ≡ map (λ r. sure (choice_in (replaced u new ds) r)) rs =
     (λ i. map (λ (c : Choice). sym (twice_sure dirty dirty' at u us few set c) i) cs)
-    ∙ (sym (map_map (sure_of dirty us) sure cs)
-    ∙ (ap (map sure) h.sure
-    ∙ (map_map (λ (r : Record). sure_of dirty us (choice_in ds r)) sure rs
-    ∙ ((λ i. map (λ (r : Record). twice_sure dirty dirty' at u us few set (choice_in ds r) i) rs)
-    ∙ (λ i. map (λ (r : Record). sure_served dirty dirty' at u us few set ds new r is own i) rs))))) in
-    let cut : (b : Bool) → map sure (cond b (take place cs ++ drop (place + 1) cs) cs)
-    ≡ cond b (take place (map sure cs) ++ drop (place + 1) (map sure cs)) (map sure cs) =
-    search (arith, map_cut sure cs place) in
+    ∙ (sym (map_map (sure_of dirty us) sure cs) ∙ (ap (map sure) h.sure ∙ (map_map (λ (r : Record). sure_of dirty us
+    (choice_in ds r)) sure rs ∙ ((λ i. map (λ (r : Record). twice_sure dirty dirty' at u us few set (choice_in ds r) i)
+    rs) ∙ (λ i. map (λ (r : Record). sure_served dirty dirty' at u us few set ds new r is own i) rs))))) in
+    let cut : (b : Bool) → map sure (cond b (take place cs ++ drop (place + 1) cs) cs) ≡ cond b (take place
+    (map sure cs) ++ drop (place + 1) (map sure cs)) (map sure cs) = search (arith, map_cut sure cs place) in
     let all : map sure cs' ≡ map (λ r. sure (choice_in (replaced u new ds) r)) rs' =
     search (arith, made_served F rs rs' place charge ends l e) in
     search arith

@@ -1,11 +1,8 @@
 -- How many bits of a mask are set: as many as there are slots in it.
-use Rattle.mscp_queue.proofs.Common.{◌≡◌, ◌≢◌, ◌<◌, ◌≤◌, ◌+◌, ◌^◌, ◌%◌, ◌/◌, ◌⊎◌, inl, inr, ℕ, zero, suc, true, false, ◌||◌, nat_eq, List, [], ◌∷◌, count_ones, length, get_or, take, drop, sym, subst, ap, ◌∙◌, refl, arith, bit_at, eq-eqb, ne_eqb, length-take-le, bit_at-suc, bit_at_lowest, slice_index_or, Masks, AreEarlier, AreMasks, AreSlots, IsMaskOf, Kind, bit, has}
+use Rattle.mscp_queue.proofs.Basics.{◌≡◌, ◌≢◌, ◌<◌, ◌≤◌, ◌+◌, ◌^◌, ◌%◌, ◌/◌, ◌⊎◌, inl, inr, ℕ, zero, suc, true, false, ◌||◌, nat_eq, List, [], ◌∷◌, count_ones, length, get_or, take, drop, sym, subst, ap, ◌∙◌, refl, arith, bit_at, eq-eqb, ne_eqb, length-take-le, bit_at-suc, bit_at_lowest, slice_index_or, Masks, AreEarlier, AreMasks, AreSlots, IsMaskOf, Kind, bit, has, earlier_at, same_or, slot_has, IsNumber, cut_order}
 use lib.Count.{ones_step, ones-le}
 use native.Mathlib.Nat.{pow-suc}
 use Rattle.mscp_queue.proofs.Fallen.{slots_front}
-use Rattle.mscp_queue.proofs.Freed.{earlier_at}
-use Rattle.mscp_queue.proofs.Masked.{same_or, slot_has}
-use Rattle.mscp_queue.proofs.Shown.{IsNumber, cut_order}
 
 -- the sum of a function's values at the numbers below w
 total : ℕ → (ℕ → ℕ) → ℕ
@@ -39,13 +36,10 @@ total_one (suc w) (suc s) l =
 total_has : (w : ℕ) (xs : List ℕ) → 64 ≤ w → AreSlots xs → total w (λ k. bit (has k xs)) ≡ length xs
 total_has w [] l a = total_none w
 total_has w (s ∷ xs) l a =
-    let low = a.0 in
-    let one = total_one w s (omega (arith, l, low)) in
-    let rest = total_has w xs l a.2 in
     let parts : (k : ℕ) → bit (nat_eq k s || has k xs) ≡ bit (nat_eq k s) + bit (has k xs) = λ k. by k (same_or k s) in
     let both = total_on w (λ k. bit (nat_eq k s || has k xs)) (λ k. bit (nat_eq k s) + bit (has k xs)) (λ k b. parts k)
     ∙ total_more w (λ k. bit (nat_eq k s)) (λ k. bit (has k xs)) in
-    omega (arith, both, one, rest)
+    omega (arith, both, total_one w s (omega (arith, l, a.0)), total_has w xs l a.2)
   where
     by : (k : ℕ) → (k ≡ s) ⊎ (k ≢ s) → bit (nat_eq k s || has k xs) ≡ bit (nat_eq k s) + bit (has k xs)
     by k (inl e) =
@@ -57,25 +51,19 @@ total_has w (s ∷ xs) l a =
         ap (λ b. bit (b || has k xs)) off ∙ (same ∙ ap (λ b. bit b + bit (has k xs)) (sym off))
 
 -- ---- the bits of a number
-
 total_bits : (w m : ℕ) → m < 2 ^ w → count_ones m ≡ total w (bit_at m)
 unfolding total
 total_bits zero m l = let none = ones-le 0 m l in omega (arith, none)
-total_bits (suc w) m l =
-    let rest = total_bits w (m / 2) (omega (arith, l, pow-suc 2 w)) in
-    ones_step m ∙ (ap (λ n. m % 2 + n) rest
+total_bits (suc w) m l = ones_step m ∙ (ap (λ n. m % 2 + n) (total_bits w (m / 2) (omega (arith, l, pow-suc 2 w)))
     ∙ (λ i. sym (bit_at_lowest m) i + total w (λ k. sym (bit_at-suc m k) i)))
 
-pub ones_has : (m : ℕ) (xs : List ℕ) → m < 2 ^ 64 → IsMaskOf m (λ k. has k xs) → AreSlots xs
-    → count_ones m ≡ length xs
+pub ones_has : (m : ℕ) (xs : List ℕ) → m < 2 ^ 64 → IsMaskOf m (λ k. has k xs) → AreSlots xs → count_ones m ≡ length xs
 ones_has m xs small is a = search (arith, total_bits 64 m small, total_has 64 xs (omega arith) a, total_on)
 
 -- ---- the place of a slot
-
 -- as many came earlier
 pub place_counted : {kinds : ℕ → Kind} {order : List ℕ} {m : Masks} {place n : ℕ} → AreMasks kinds order m
-    → IsNumber order place n → slice_index_or m.earlier n 0 < 2 ^ 64
-    → count_ones (slice_index_or m.earlier n 0) ≡ place
+    → IsNumber order place n → slice_index_or m.earlier n 0 < 2 ^ 64 → count_ones (slice_index_or m.earlier n 0) ≡ place
 place_counted {kinds} {order} {m} {place} {n} masks h small =
     let front = take place order in
     let back = drop (place + 1) order in
@@ -101,8 +89,7 @@ placed (s ∷ order) n e = by (same_or n s) (placed order n)
         (suc r.0, (let l = r.1 in omega (arith, l)), r.2)
 
 -- at one alone
-pub one_place : (order : List ℕ) (k p : ℕ) → AreSlots order → k < length order → p < length order
-    → get_or order k 0 ≡ get_or order p 0 → k ≡ p
-one_place (s ∷ order) (suc k) (suc p) a l b e =
-    ap suc (one_place order k p a.2 (omega (arith, l)) (omega (arith, b)) e)
+pub one_place : (order : List ℕ) (k p : ℕ)
+    → AreSlots order → k < length order → p < length order → get_or order k 0 ≡ get_or order p 0 → k ≡ p
+one_place (s ∷ order) (suc k) (suc p) a l b e = ap suc (one_place order k p a.2 (omega (arith, l)) (omega (arith, b)) e)
 one_place order k p h3 h4 h5 h6 = search (arith, slot_has)

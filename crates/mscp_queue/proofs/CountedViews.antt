@@ -38,18 +38,14 @@ module _ {X : Type 0} (p : X → Bool) where
   -- an element that another takes the place of, which passes if it does
 
 -- ---- the counts
-
 pub counted_none : (counts : List ℕ) → ((byte : ℕ) → byte < 256 → get_or counts byte 0 ≡ 0) → IsCounted counts []
 counted_none counts h = record { each = h }
 
 -- what a count becomes is what the test says of one choice more, or one less
-module _ {counts : List ℕ} {choices : List Choice} (h : IsCounted counts choices) (own n : ℕ)
-    (long : 256 ≤ length counts)
-    (low : own < 256) where
-  pub counted_set : {new : List Choice}
-      → n ≡ count_by (has_byte own) new
-      → ((byte : ℕ) → byte ≢ own → count_by (has_byte byte) new ≡ count_by (has_byte byte) choices)
-      → IsCounted (set counts own n) new
+module _ {counts : List ℕ} {choices : List Choice} (h : IsCounted counts choices)
+    (own n : ℕ) (long : 256 ≤ length counts) (low : own < 256) where
+  pub counted_set : {new : List Choice} → n ≡ count_by (has_byte own) new → ((byte : ℕ)
+      → byte ≢ own → count_by (has_byte byte) new ≡ count_by (has_byte byte) choices) → IsCounted (set counts own n) new
   counted_set {new} here other = record { each = λ byte l. by byte l (same_or byte own) }
     where
       by : (byte : ℕ) → byte < 256 → (byte ≡ own) ⊎ (byte ≢ own)
@@ -60,10 +56,9 @@ module _ {counts : List ℕ} {choices : List Choice} (h : IsCounted counts choic
           ∙ (here ∙ ap (λ k. count_by (has_byte k) new) (sym e)))
       by byte l (inr d) = get_or-set_other counts own byte n 0 d ∙ (h.each byte l ∙ sym (other byte d))
 
-pub counted_left : {counts : List ℕ} {choices new : List Choice} (place own n : ℕ) → IsCounted counts choices
-    → 256 ≤ length counts → own < 256 → place < length choices
-    → own ≡ low_byte (get_or choices place no_choice).reference → n + 1 ≡ get_or counts own 0
-    → new ≡ take place choices ++ drop (place + 1) choices → IsCounted (set counts own n) new
+pub counted_left : {counts : List ℕ} {choices new : List Choice} (place own n : ℕ) → IsCounted counts choices → 256
+    ≤ length counts → own < 256 → place < length choices → own ≡ low_byte (get_or choices place no_choice).reference → n
+    + 1 ≡ get_or counts own 0 → new ≡ take place choices ++ drop (place + 1) choices → IsCounted (set counts own n) new
 counted_left {counts} {choices} {new} place own n h long low l is less e =
     let x = get_or choices place no_choice in
     let rest = take place choices ++ drop (place + 1) choices in

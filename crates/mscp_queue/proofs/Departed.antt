@@ -88,7 +88,6 @@ masks_without kinds order m m' n masks low l = record {
         ∙ ap bit (both_false (has n order)))
 
 -- ---- the order without a slot
-
 without_none : (n : ℕ) (xs : List ℕ) → has n xs ≡ false → without n xs ≡ xs
 without_none n [] e = refl
 without_none n (x ∷ xs) e =

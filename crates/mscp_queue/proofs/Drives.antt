@@ -4,7 +4,6 @@ use Rattle.mscp_queue.proofs.Lists.{every_mapped}
 use Rattle.mscp_queue.proofs.Turns.{Lower, pairs_rise}
 
 -- ---- the place of a drive
-
 -- the place of the drive of the unit of this number
 abbrev pub drive_place : List Drive → ℕ → ℕ
 drive_place ds number = position_or_len (has_number number) ds
@@ -53,10 +52,9 @@ apart_by_place ds other a b h k =
     search (arith, known_at ds a other h, known_at ds b other k, eq-eqb, eqb-true, ne_eqb, false≢true)
 
 -- ---- one drive is replaced
-
 -- that of a unit stands once
-set_is : (ds : List Drive) (at n : ℕ) (new : Drive) → Pairs Lower (units_of ds) → at < length ds
-    → (d : Drive) → d ≡ get_or ds at d → d.unit.number ≡ n → set ds at new ≡ replaced n new ds
+set_is : (ds : List Drive) (at n : ℕ) (new : Drive) → Pairs Lower (units_of ds)
+    → at < length ds → (d : Drive) → d ≡ get_or ds at d → d.unit.number ≡ n → set ds at new ≡ replaced n new ds
 set_is [] at n new p l d e num = absurd (omega (arith, l))
 set_is (x ∷ ds) zero n new p l d e num =
     let own : x.unit.number ≡ n = ap (λ (q : Drive). q.unit.number) (sym e) ∙ num in
@@ -73,21 +71,18 @@ set_is (x ∷ ds) (suc at) n new p l d e num =
     let below : at < length ds = omega (arith, l) in
     let up = every_mapped (λ (q : Drive). q.unit) (Lower x.unit) ds p.0 in
     let there : get_or ds at d ≡ d = sym e in
-    let less : x.unit.number < d.unit.number =
-    subst (λ (q : Drive). x.unit.number < q.unit.number) there
+    let less : x.unit.number < d.unit.number = subst (λ (q : Drive). x.unit.number < q.unit.number) there
     (All-from_recursion (λ (q : Drive). x.unit.number < q.unit.number) ds up at d below) in
     search (arith, set_is ds, ne_eqb)
 
 -- the drive of this number stands there
-pub place_is : (ds : List Drive) (at n : ℕ) (d : Drive) → Pairs Lower
-    (units_of ds) → at < length ds → d ≡ get_or ds at d
-    → d.unit.number ≡ n → drive_place ds n ≡ at
+pub place_is : (ds : List Drive) (at n : ℕ) (d : Drive)
+    → Pairs Lower (units_of ds) → at < length ds → d ≡ get_or ds at d → d.unit.number ≡ n → drive_place ds n ≡ at
 place_is (x ∷ ds) (suc at) n d p l e num =
     let below : at < length ds = omega (arith, l) in
     let up = every_mapped (λ (q : Drive). q.unit) (Lower x.unit) ds p.0 in
     let there : get_or ds at d ≡ d = sym e in
-    let less : x.unit.number < d.unit.number =
-    subst (λ (q : Drive). x.unit.number < q.unit.number) there
+    let less : x.unit.number < d.unit.number = subst (λ (q : Drive). x.unit.number < q.unit.number) there
     (All-from_recursion (λ (q : Drive). x.unit.number < q.unit.number) ds up at d below) in
     let rest = place_is ds at n d p.1 below e num in
     let next : 1 + at ≡ suc at = omega arith in
@@ -95,8 +90,7 @@ place_is (x ∷ ds) (suc at) n d p l e num =
 place_is ds at n d h4 h5 h6 h7 = search (arith, not, eq-eqb)
 
 pub set_replaced : (ds : List Drive) (at n : ℕ) (new other : Drive) → IsUnitList (units_of ds)
-    → is_known (units_of ds) n ≡ true
-    → at ≡ drive_place ds n → set ds at new ≡ replaced n new ds
+    → is_known (units_of ds) n ≡ true → at ≡ drive_place ds n → set ds at new ≡ replaced n new ds
 set_replaced ds at n new other l known e =
     let d = get_or ds (drive_place ds n) other in
     let placed = known_at ds n other known in

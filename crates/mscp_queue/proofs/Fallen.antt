@@ -1,13 +1,9 @@
 -- What slots show once dues fell: of all, or of those behind a place but for one in service.
-use Rattle.mscp_queue.proofs.Common.{◌≡◌, ◌≢◌, ◌<◌, ◌≤◌, ◌+◌, ◌-◌, ◌⊎◌, inl, inr, ℕ, Bool, true, false, cond, ◌&&◌, ◌||◌, min, nat_eq, List, [], ◌∷◌, ◌++◌, map, take, drop, get_or, length, append_assoc, sym, subst, ap, ◌∙◌, refl, arith, All, if◌then◌else◌, bit_at, AllByRecursion, eq-eqb, eqb-true, ne_eqb, drop-map, map-append, map-id, take-map, take_more, All-from_recursion, recursion_from_All, Target, Masks, Slot, lowered, AreMasks, AreSlots, IsBehind, IsMaskOf, Kind, bit, has, Record, is_in_service, no_record, no_target, AreKept, held, kind_at, lowered_by, lowered_unless_serving, shown, slot_at}
-use Rattle.mscp_queue.proofs.Freed.{earlier_at}
-use Rattle.mscp_queue.proofs.Departed.{once_in}
-use Rattle.mscp_queue.proofs.Masked.{one_bit, same_or}
-use Rattle.mscp_queue.proofs.Shown.{IsNumber, cut_order, slot_is}
+use Rattle.mscp_queue.proofs.Basics.{◌≡◌, ◌≢◌, ◌<◌, ◌≤◌, ◌+◌, ◌-◌, ◌⊎◌, inl, inr, ℕ, Bool, true, false, cond, ◌&&◌, ◌||◌, min, nat_eq, List, [], ◌∷◌, ◌++◌, map, take, drop, get_or, length, append_assoc, sym, subst, ap, ◌∙◌, refl, arith, All, if◌then◌else◌, bit_at, AllByRecursion, eq-eqb, eqb-true, ne_eqb, drop-map, map-append, map-id, take-map, take_more, All-from_recursion, recursion_from_All, Target, Masks, Slot, lowered, AreMasks, AreSlots, IsBehind, IsMaskOf, Kind, bit, has, Record, is_in_service, no_record, no_target, AreKept, held, kind_at, lowered_by, lowered_unless_serving, shown, slot_at, earlier_at, once_in, one_bit, same_or, IsNumber, cut_order, slot_is}
 
 -- what a lowered due leaves of a slot
-module _ (rs : List Record) (own : List Target) (ds ds' : List ℕ) (mask by : ℕ)
-    (fall : (k : ℕ) → k < 64 → get_or ds' k 0 ≡ lowered mask by k (get_or ds k 0)) where
+module _ (rs : List Record) (own : List Target)
+    (ds ds' : List ℕ) (mask by : ℕ) (fall : (k : ℕ) → k < 64 → get_or ds' k 0 ≡ lowered mask by k (get_or ds k 0)) where
   pub fell : (k : ℕ) → k < 64 → bit_at mask k ≡ 1 → held rs own ds' k ≡ lowered_by by (held rs own ds k)
   fell k l on = λ i. record {
     item = get_or rs k no_record;
@@ -24,12 +20,11 @@ module _ (rs : List Record) (own : List Target) (ds ds' : List ℕ) (mask by : �
   }
 
 -- each slot of the order holds what a function makes of what it held
-pub each_held : {X Y : Type 0} (f : ℕ → X) (g : ℕ → Y) (h : X → Y) (order : List ℕ) → AreSlots order
-    → ((k : ℕ) → k < 64 → has k order ≡ true → g k ≡ h (f k)) → map g order ≡ map h (map f order)
+pub each_held : {X Y : Type 0} (f : ℕ → X) (g : ℕ → Y) (h : X → Y) (order : List ℕ)
+    → AreSlots order → ((k : ℕ) → k < 64 → has k order ≡ true → g k ≡ h (f k)) → map g order ≡ map h (map f order)
 each_held f g h [] a e = refl
-each_held f g h (s ∷ order) a e =
-    (λ i. e s a.0 (ap (λ b. b || has s order) (eq-eqb s s refl)) i
-    ∷ each_held f g h order a.2 (λ k l there. e k l (ap (λ b. nat_eq k s || b) there ∙ or_true (nat_eq k s))) i)
+each_held f g h (s ∷ order) a e = (λ i. e s a.0 (ap (λ b. b || has s order) (eq-eqb s s refl))
+    i ∷ each_held f g h order a.2 (λ k l there. e k l (ap (λ b. nat_eq k s || b) there ∙ or_true (nat_eq k s))) i)
   where
     or_true : (b : Bool) → (b || true) ≡ true
     or_true true = refl
@@ -49,21 +44,16 @@ waits_bit : (order : List ℕ) (waiting k : ℕ) → IsMaskOf waiting (λ k. has
     → has k order ≡ true
 waits_bit order waiting k is l on = one_bit (has k order) (sym (is k l) ∙ on)
 
-pub enough_all : {rs : List Record} {own : List Target} {order : List ℕ} {m : Masks} (ds : List ℕ) (now : List Slot)
-    (by : ℕ)
-    → AreKept rs own order m → shown rs own ds order ≡ now → All (λ s. by ≤ s.due) now
-    → (k : ℕ) → k < 64 → bit_at m.waiting k ≡ 1 → by ≤ get_or ds k 0
-enough_all {rs} {own} {order} {m} ds now by kept view enough k l on =
-    of_shown (λ (s : Slot). by ≤ s.due) (held rs own ds) order k
-    (subst (AllByRecursion (λ (s : Slot). by ≤ s.due)) (sym view)
-    (recursion_from_All (λ (s : Slot). by ≤ s.due) now enough))
-    (waits_bit order m.waiting k kept.masks.of_waiting l on)
+pub enough_all : {rs : List Record} {own : List Target} {order : List ℕ} {m : Masks} (ds : List ℕ)
+    (now : List Slot) (by : ℕ) → AreKept rs own order m → shown rs own ds order ≡ now
+    → All (λ s. by ≤ s.due) now → (k : ℕ) → k < 64 → bit_at m.waiting k ≡ 1 → by ≤ get_or ds k 0
+enough_all {rs} {own} {order} {m} ds now by kept view enough k l on = of_shown
+    (λ (s : Slot). by ≤ s.due) (held rs own ds) order k (subst (AllByRecursion (λ (s : Slot). by ≤ s.due)) (sym view)
+    (recursion_from_All (λ (s : Slot). by ≤ s.due) now enough)) (waits_bit order m.waiting k kept.masks.of_waiting l on)
 
 pub lowered_all : {rs : List Record} {own : List Target} {order : List ℕ} {m : Masks} (ds ds' : List ℕ)
-    (now : List Slot) (by : ℕ)
-    → AreKept rs own order m → shown rs own ds order ≡ now
-    → ((k : ℕ) → k < 64 → get_or ds' k 0 ≡ lowered m.waiting by k (get_or ds k 0))
-    → shown rs own ds' order ≡ map (lowered_by by) now
+    (now : List Slot) (by : ℕ) → AreKept rs own order m → shown rs own ds order ≡ now → ((k : ℕ) → k < 64
+    → get_or ds' k 0 ≡ lowered m.waiting by k (get_or ds k 0)) → shown rs own ds' order ≡ map (lowered_by by) now
 lowered_all {rs} {own} {order} {m} ds ds' now by kept view fall = search (arith, each_held)
 
 on_off : bit true ≡ bit false → ⊥
@@ -106,8 +96,8 @@ later kinds front n back m masks k l there =
     search (arith, has_back, not_front, on_off)
 
 -- those behind a slot, but for one in service
-module _ (kinds : ℕ → Kind) (front : List ℕ) (n : ℕ) (back : List ℕ) (m : Masks) (mask : ℕ)
-    (masks : AreMasks kinds (front ++ n ∷ back) m) (is : IsBehind n m mask) where
+module _ (kinds : ℕ → Kind) (front : List ℕ) (n : ℕ)
+    (back : List ℕ) (m : Masks) (mask : ℕ) (masks : AreMasks kinds (front ++ n ∷ back) m) (is : IsBehind n m mask) where
   in_earlier : IsMaskOf (get_or m.earlier n 0) (λ k. has k front)
   in_earlier = earlier_at (λ k. get_or m.earlier k 0) [] front n back masks.of_earlier
 
@@ -115,18 +105,17 @@ module _ (kinds : ℕ → Kind) (front : List ℕ) (n : ℕ) (back : List ℕ) (
   once = once_in front n back masks.apart
 
   pub own_off : bit_at mask n ≡ 0
-  own_off = is n (low_in front n back masks.apart)
-      ∙ ap (λ b. cond b 0 (min (min (bit_at m.waiting n) (1 - bit_at (get_or m.earlier n 0) n))
-      (1 - bit_at m.serving n))) (eq-eqb n n refl)
+  own_off = is n (low_in front n back masks.apart) ∙ ap (λ b. cond b 0
+      (min (min (bit_at m.waiting n) (1 - bit_at (get_or m.earlier n 0) n)) (1 - bit_at m.serving n))) (eq-eqb n n refl)
     where
       low_in : (front : List ℕ) (n : ℕ) (back : List ℕ) → AreSlots (front ++ n ∷ back) → n < 64
       low_in [] n back a = a.0
       low_in (x ∷ front) n back a = low_in front n back a.2
 
-  other_is : (k : ℕ) → k < 64 → k ≢ n → bit_at mask k
-      ≡ min (min (bit_at m.waiting k) (1 - bit_at (get_or m.earlier n 0) k)) (1 - bit_at m.serving k)
-  other_is k l d = is k l ∙ ap (λ b. cond b 0
-      (min (min (bit_at m.waiting k) (1 - bit_at (get_or m.earlier n 0) k)) (1 - bit_at m.serving k))) (ne_eqb k n d)
+  other_is : (k : ℕ) → k < 64 → k ≢ n
+      → bit_at mask k ≡ min (min (bit_at m.waiting k) (1 - bit_at (get_or m.earlier n 0) k)) (1 - bit_at m.serving k)
+  other_is k l d = is k l ∙ ap (λ b. cond b
+      0 (min (min (bit_at m.waiting k) (1 - bit_at (get_or m.earlier n 0) k)) (1 - bit_at m.serving k))) (ne_eqb k n d)
 
   pub front_off : (k : ℕ) → k < 64 → has k front ≡ true → bit_at mask k ≡ 0
   front_off k l there =
@@ -142,9 +131,8 @@ module _ (kinds : ℕ → Kind) (front : List ℕ) (n : ℕ) (back : List ℕ) (
 
   -- a slot that isn't taken
   pub gone_off : (k : ℕ) → k < 64 → has k front ≡ false → k ≢ n → has k back ≡ false → bit_at mask k ≡ 0
-  gone_off k l p d q =
-      let w = masks.of_waiting k l ∙ ap bit (has_in k front n back ∙ (λ i. p i || (ne_eqb k n d i || q i))) in
-      other_is k l d ∙ none (bit_at m.waiting k) (bit_at (get_or m.earlier n 0) k) (bit_at m.serving k) w
+  gone_off k l p d q = other_is k l d ∙ none (bit_at m.waiting k) (bit_at (get_or m.earlier n 0) k) (bit_at m.serving k)
+      (masks.of_waiting k l ∙ ap bit (has_in k front n back ∙ (λ i. p i || (ne_eqb k n d i || q i))))
     where
       none : (a b c : ℕ) → a ≡ 0 → min (min a (1 - b)) (1 - c) ≡ 0
       none a b c e = omega (arith, e)
@@ -165,9 +153,8 @@ module _ (kinds : ℕ → Kind) (front : List ℕ) (n : ℕ) (back : List ℕ) (
       let in_all : has k (front ++ n ∷ back) ≡ true = has_back k front n back there in
       let w = masks.of_waiting k l ∙ ap bit in_all in
       let e = in_earlier k l ∙ ap bit (not_front k front n back masks.apart there) in
-      let s = masks.of_serving k l ∙ ap (λ b. bit (b && (kinds k).serving)) in_all in
       other_is k l d ∙ some (bit_at m.waiting k) (bit_at (get_or m.earlier n 0) k) (bit_at m.serving k)
-      (bit (kinds k).serving) w e s
+      (bit (kinds k).serving) w e (masks.of_serving k l ∙ ap (λ b. bit (b && (kinds k).serving)) in_all)
     where
       no : bit true ≡ bit false → ⊥
       no e = omega (arith, e)
@@ -177,9 +164,8 @@ module _ (kinds : ℕ → Kind) (front : List ℕ) (n : ℕ) (back : List ℕ) (
 
 -- the dues behind a place, but for one in service
 module _ {rs : List Record} {own : List Target} {order : List ℕ} {m : Masks} {place n : ℕ} (ds ds' : List ℕ)
-    (now : List Slot) (by mask : ℕ)
-    (kept : AreKept rs own order m) (view : shown rs own ds order ≡ now) (inside : place < length now)
-    (h : IsNumber order place n) (is : IsBehind n m mask) where
+    (now : List Slot) (by mask : ℕ) (kept : AreKept rs own order m) (view : shown rs own ds order
+    ≡ now) (inside : place < length now) (h : IsNumber order place n) (is : IsBehind n m mask) where
   abbrev f : ℕ → Slot
   f = held rs own ds
 
@@ -231,9 +217,7 @@ module _ {rs : List Record} {own : List Target} {order : List ℕ} {m : Masks} {
 
   pub lowered_behind : ((k : ℕ) → k < 64 → get_or ds' k 0 ≡ lowered mask by k (get_or ds k 0))
       → shown rs own ds' order ≡ take (place + 1) now ++ map (lowered_unless_serving by) (drop (place + 1) now)
-  lowered_behind fall =
-      ap (map g) cut ∙ (map-append g front (n ∷ back)
-      ∙ ((λ i. in_front i ++ own_kept i ∷ behind i)
+  lowered_behind fall = ap (map g) cut ∙ (map-append g front (n ∷ back) ∙ ((λ i. in_front i ++ own_kept i ∷ behind i)
       ∙ (sym (append_assoc (map f front) (f n ∷ []) (map (lowered_unless_serving by) (map f back)))
       ∙ ((λ i. first i ++ map (lowered_unless_serving by) (behind_is i))))))
     where
@@ -267,12 +251,10 @@ module _ {rs : List Record} {own : List Target} {order : List ℕ} {m : Masks} {
           ∙ (sym (take-map f (place + 1) order) ∙ ap (take (place + 1)) view))
 
 -- each behind a place is of the unit of the one there, where those that aren't earlier are
-pub of_unit_behind : {rs : List Record} {own : List Target} {order : List ℕ} {m : Masks} {place n drive : ℕ}
-    (ds : List ℕ) (now : List Slot)
-    → AreKept rs own order m → shown rs own ds order ≡ now → place < length now → IsNumber order place n
-    → drive ≡ (get_or own n no_target).drive
-    → ((k : ℕ) → k < 64 → bit_at m.waiting k ≡ 1 → bit_at (get_or m.earlier n 0) k ≡ 0 → k ≢ n
-    → bit_at (get_or m.units drive 0) k ≡ 1)
+pub of_unit_behind : {rs : List Record} {own : List Target} {order : List ℕ} {m : Masks}
+    {place n drive : ℕ} (ds : List ℕ) (now : List Slot) → AreKept rs own order m → shown rs own ds order ≡ now
+    → place < length now → IsNumber order place n → drive ≡ (get_or own n no_target).drive → ((k : ℕ) → k < 64
+    → bit_at m.waiting k ≡ 1 → bit_at (get_or m.earlier n 0) k ≡ 0 → k ≢ n → bit_at (get_or m.units drive 0) k ≡ 1)
     → All (λ s. s.target.drive ≡ (slot_at now place).target.drive) (drop (place + 1) now)
 of_unit_behind {rs} {own} {order} {m} {place} {n} {drive} ds now kept view inside h e units =
     let f = held rs own ds in

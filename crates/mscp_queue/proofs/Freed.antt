@@ -3,8 +3,7 @@ use Rattle.mscp_queue.proofs.Common.{◌≡◌, ◌≢◌, ◌<◌, ◌^◌, ◌
 
 -- the mask of a slot in the order holds those in front of it
 pub earlier_at : (earlier : ℕ → ℕ) (done front : List ℕ) (s : ℕ) (back : List ℕ)
-    → AreEarlier earlier done (front ++ s ∷ back)
-    → IsMaskOf (earlier s) (λ k. has k (done ++ front))
+    → AreEarlier earlier done (front ++ s ∷ back) → IsMaskOf (earlier s) (λ k. has k (done ++ front))
 earlier_at earlier done [] s back a = subst (λ xs. IsMaskOf (earlier s) (λ k. has k xs)) (sym (append-nil done)) a.0
 earlier_at earlier done (x ∷ front) s back a =
     search (arith, append_assoc done (x ∷ []) front, earlier_at earlier (done ++ x ∷ []) front s back a.1)
@@ -17,30 +16,28 @@ below_64 : (k : ℕ) (front back : List ℕ) → AreSlots (front ++ back) → ha
 below_64 k [] back a e = let bad = ap bit e in absurd (omega (arith, bad))
 below_64 k (x ∷ front) back a e = search (arith, nat_eq k x, eqb-true k x, below_64 k front back a.2)
 
--- where each of some slots fails a test, no slot is one of them and passes it
-none_has : (test : ℕ → Bool) (xs : List ℕ) → list_all (λ t. not (test t)) xs ≡ true → (k : ℕ)
-    → (has k xs && test k) ≡ false
-none_has test [] e k = refl
-none_has test (x ∷ xs) e k = by (nat_eq k x) (eqb-true k x) (test x) refl e (none_has test xs)
-  where
-    by : (b : Bool) → (b ≡ true → k ≡ x) → (c : Bool) → test x ≡ c → (not c && list_all (λ t. not (test t)) xs) ≡ true
-        → (list_all (λ t. not (test t)) xs ≡ true → (k : ℕ) → (has k xs && test k) ≡ false)
-        → ((b || has k xs) && test k) ≡ false
-    by true h true f e i = let bad = ap bit e in absurd (omega (arith, bad))
-    by true h false f e i = ap test (h refl) ∙ f
-    by false h true f e i = let bad = ap bit e in absurd (omega (arith, bad))
-    by false h false f e i = i e k
+module _ (test : ℕ → Bool) where
+  -- where each of some slots fails a test, no slot is one of them and passes it
+  none_has : (xs : List ℕ) → list_all (λ t. not (test t)) xs ≡ true → (k : ℕ) → (has k xs && test k) ≡ false
+  none_has [] e k = refl
+  none_has (x ∷ xs) e k = by (nat_eq k x) (eqb-true k x) (test x) refl e (none_has xs)
+    where
+      by : (b : Bool) → (b ≡ true → k ≡ x) → (c : Bool) → test x ≡ c → (not c && list_all (λ t. not (test t)) xs) ≡ true
+          → (list_all (λ t. not (test t)) xs ≡ true → (k : ℕ) → (has k xs && test k) ≡ false)
+          → ((b || has k xs) && test k) ≡ false
+      by true h true f e i = let bad = ap bit e in absurd (omega (arith, bad))
+      by true h false f e i = ap test (h refl) ∙ f
+      by false h true f e i = let bad = ap bit e in absurd (omega (arith, bad))
+      by false h false f e i = i e k
 
-has_none : (test : ℕ → Bool) (xs : List ℕ) → ((k : ℕ) → has k xs ≡ true → test k ≡ false)
-    → list_all (λ t. not (test t)) xs ≡ true
-has_none test [] h = refl
-has_none test (x ∷ xs) h = ap (λ b. not b
-    && list_all (λ t. not (test t)) xs) (h x (ap (λ b. b || has x xs) (eq-eqb x x refl)))
-    ∙ has_none test xs (λ k e. h k (ap (λ b. nat_eq k x || b) e ∙ or_true (nat_eq k x)))
-  where
-    or_true : (b : Bool) → (b || true) ≡ true
-    or_true true = refl
-    or_true false = refl
+  has_none : (xs : List ℕ) → ((k : ℕ) → has k xs ≡ true → test k ≡ false) → list_all (λ t. not (test t)) xs ≡ true
+  has_none [] h = refl
+  has_none (x ∷ xs) h = ap (λ b. not b && list_all (λ t. not (test t)) xs) (h x (ap (λ b. b || has x xs)
+      (eq-eqb x x refl))) ∙ has_none xs (λ k e. h k (ap (λ b. nat_eq k x || b) e ∙ or_true (nat_eq k x)))
+    where
+      or_true : (b : Bool) → (b || true) ≡ true
+      or_true true = refl
+      or_true false = refl
 
 -- a mask with no bit is 0
 no_bit : (m : ℕ) → m < 2 ^ 64 → ((k : ℕ) → k < 64 → bit_at m k ≢ 1) → m ≡ 0
@@ -54,15 +51,15 @@ no_bit m small none = by (zero_or m)
     by (inr some) = let t = bit_at-trailing_zeros w64 m some small in absurd (none (trailing_zeros w64 m) t.0 t.1)
 
 -- a mask of those slots that pass a test is 0 where none of them does, and there alone
-module _ (m : ℕ) (front : List ℕ) (test : ℕ → Bool) (small : m < 2 ^ 64) (low : (k : ℕ) → has k front ≡ true → k < 64)
-    (is : IsMaskOf m (λ k. has k front && test k)) where
+module _ (m : ℕ) (front : List ℕ) (test : ℕ → Bool) (small : m < 2 ^ 64)
+    (low : (k : ℕ) → has k front ≡ true → k < 64) (is : IsMaskOf m (λ k. has k front && test k)) where
   zero_from : list_all (λ t. not (test t)) front ≡ true → m ≡ 0
   zero_from e = no_bit m small (λ k l one. let f = sym one ∙ is k l
       ∙ ap bit (none_has test front e k) in omega (arith, f))
 
   zero_to : m ≡ 0 → list_all (λ t. not (test t)) front ≡ true
-  zero_to e = has_none test front (λ k h. off (test k) (sym (ap bit (ap (λ b. b && test k) h)) ∙ sym (is k (low k h))
-      ∙ ap (λ m. bit_at m k) e ∙ bit_at-zero k))
+  zero_to e = has_none test front (λ k h. off
+      (test k) (sym (ap bit (ap (λ b. b && test k) h)) ∙ sym (is k (low k h)) ∙ ap (λ m. bit_at m k) e ∙ bit_at-zero k))
     where
       off : (b : Bool) → bit b ≡ 0 → b ≡ false
       off true e = absurd (omega (arith, e))
@@ -85,9 +82,8 @@ tested m b h2 h3 = grind (arith, eq-eqb, ne_eqb)
 
 -- no slot in front keeps one back where the masks joined are 0
 pub free_tells : (kinds : ℕ → Kind) (front : List ℕ) (s : ℕ) (back : List ℕ) (m : Masks)
-    → AreMasks kinds (front ++ s ∷ back) m → slice_index_or m.earlier s 0 < 2 ^ 64
-    → nat_eq (fences m s (kinds s).drive (kinds s).sequential) 0
-    ≡ list_all (λ t. not (keeps_back (kinds t) (kinds s))) front
+    → AreMasks kinds (front ++ s ∷ back) m → slice_index_or m.earlier s 0 < 2 ^ 64 → nat_eq (fences m
+    s (kinds s).drive (kinds s).sequential) 0 ≡ list_all (λ t. not (keeps_back (kinds t) (kinds s))) front
 free_tells kinds front s back m masks small = by (kinds s).sequential refl
   where
     own : ℕ

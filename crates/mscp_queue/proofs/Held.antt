@@ -7,7 +7,6 @@ use Rattle.mscp_queue.proofs.Placed.{map_map}
 use Rattle.mscp_queue.proofs.Begun.{still_pushed}
 
 -- ---- nothing came
-
 units_fresh : (us : List Shape) → units_of (map fresh_drive us) ≡ us
 units_fresh [] = refl
 units_fresh (u ∷ us) = ap (λ vs. u ∷ vs) (units_fresh us)
@@ -16,46 +15,41 @@ heads_fresh : (us : List Shape) → AllByRecursion IsOnUnit (map fresh_drive us)
 heads_fresh [] = tt
 heads_fresh (u ∷ us) = (omega arith, heads_fresh us)
 
-pub held_fresh : (room budget longest : ℕ) (us : List Shape) (rs : List Record) (ds : List Drive) → 1 ≤ room
-    → room ≤ 63 → 1 ≤ longest → longest ≤ 8388608
-    → room * longest + budget ≤ 4294967295 → IsUnitList us → rs ≡ [] → ds ≡ map fresh_drive us
-    → IsHeld room budget longest rs ds None false
-held_fresh room budget longest us rs ds a b c d e u n f =
-    record {
-      some_room = a;
-      few = b;
-      some_blocks = c;
-      short = d;
-      small = omega arith;
-      fits = omega (arith, ap length n);
-      each = search (arith, All-nil);
-      apart = subst (λ rs. AreApart (names rs)) (sym n) tt;
-      one = subst (λ rs. length (filter is_in_service rs) ≤ 1) (sym n) (omega arith);
-      idle = λ e. subst (All (λ r. r.done ≡ 0)) (sym n) (All-nil (λ (r : Record). r.done ≡ 0));
-      units = subst IsUnitList (sym (ap units_of f ∙ units_fresh us)) u;
-      heads = subst (All IsOnUnit) (sym f) (All-from_recursion IsOnUnit (map fresh_drive us) (heads_fresh us));
-      still = λ name k. absurd (false≢true (ap is_some k));
-    }
+pub held_fresh : (room budget longest : ℕ) (us : List Shape) (rs : List Record) (ds : List Drive)
+    → 1 ≤ room → room ≤ 63 → 1 ≤ longest → longest ≤ 8388608 → room * longest + budget ≤ 4294967295
+    → IsUnitList us → rs ≡ [] → ds ≡ map fresh_drive us → IsHeld room budget longest rs ds None false
+held_fresh room budget longest us rs ds a b c d e u n f = record {
+  some_room = a;
+  few = b;
+  some_blocks = c;
+  short = d;
+  small = omega arith;
+  fits = omega (arith, ap length n);
+  each = search (arith, All-nil);
+  apart = subst (λ rs. AreApart (names rs)) (sym n) tt;
+  one = subst (λ rs. length (filter is_in_service rs) ≤ 1) (sym n) (omega arith);
+  idle = λ e. subst (All (λ r. r.done ≡ 0)) (sym n) (All-nil (λ (r : Record). r.done ≡ 0));
+  units = subst IsUnitList (sym (ap units_of f ∙ units_fresh us)) u;
+  heads = subst (All IsOnUnit) (sym f) (All-from_recursion IsOnUnit (map fresh_drive us) (heads_fresh us));
+  still = λ name k. absurd (false≢true (ap is_some k));
+}
 
 -- ---- a reset
-
 -- the drives are as new
 pub renewed : (ds ws : List Drive) → ws ≡ map (λ d. fresh_drive d.unit) ds
     → refill (length ds) ds ws ≡ map fresh_drive (units_of ds)
 renewed ds ws e = search (arith, refilled, length-map, map_map)
 
-pub held_renewed : (room budget longest : ℕ) (rs new : List Record) (ds ds' : List Drive) (begun : Option Name)
-    (serving : Bool) → IsHeld room budget longest rs ds begun serving → new ≡ [] → ds' ≡ map fresh_drive (units_of ds)
-    → IsHeld room budget longest new ds' None false
-held_renewed room budget longest rs new ds ds' begun serving h n e =
-    search (
-      arith,
-      held_fresh room budget longest (units_of ds) new ds' h.some_room h.few h.some_blocks h.short (omega
-          arith) h.units n e,
-    )
+pub held_renewed : (room budget longest : ℕ) (rs new : List Record)
+    (ds ds' : List Drive) (begun : Option Name) (serving : Bool) → IsHeld room budget longest rs ds begun serving
+    → new ≡ [] → ds' ≡ map fresh_drive (units_of ds) → IsHeld room budget longest new ds' None false
+held_renewed room budget longest rs new ds ds' begun serving h n e = search (
+  arith,
+  held_fresh
+      room budget longest (units_of ds) new ds' h.some_room h.few h.some_blocks h.short (omega arith) h.units n e,
+)
 
 -- ---- a command comes
-
 -- each order takes a step
 pub some_steps : (o : Order) → 1 ≤ order_weight o
 some_steps o = grind arith
@@ -79,10 +73,9 @@ none_has gone (r ∷ rs) h =
     ((λ e. differ_is (name_of r) gone p.0 (sym e)), none_has gone rs p.1)
 
 pub held_pushed : (room budget longest : ℕ) (rs new : List Record) (ds : List Drive) (begun : Option Name)
-    (serving : Bool) (by : Connection) (c : Command) → IsHeld room budget longest rs ds begun serving → length rs < room
-    → IsWaitable longest (units_of ds) c
-    → list_any (has_name (name_on by c.reference)) rs ≡ false → new ≡ rs ++ fresh_record by c ∷ []
-    → IsHeld room budget longest new ds begun serving
+    (serving : Bool) (by : Connection) (c : Command) → IsHeld room budget longest rs ds begun serving
+    → length rs < room → IsWaitable longest (units_of ds) c → list_any (has_name (name_on by c.reference)) rs ≡ false
+    → new ≡ rs ++ fresh_record by c ∷ [] → IsHeld room budget longest new ds begun serving
 held_pushed room budget longest rs new ds begun serving by c h l w n e =
     let K = IsKept budget longest (units_of ds) in
     let r = fresh_record by c in
@@ -113,14 +106,12 @@ held_pushed room budget longest rs new ds begun serving by c h l w n e =
     subst (λ zs. IsHeld room budget longest zs ds begun serving) (sym e) all
 
 -- ---- a step
-
 kept_passed : (budget longest n : ℕ) (us : List Shape) (r : Record) → IsKept budget longest us r
     → r.passed + n ≤ budget → IsKept budget longest us (passed_by n r)
 kept_passed budget longest n us r h l = search arith
 
 front_kept : (budget longest n : ℕ) (us : List Shape) (A : List Record) → AllByRecursion (IsKept budget longest us) A
-    → AllByRecursion (λ r. r.passed + n ≤ budget) A
-    → AllByRecursion (IsKept budget longest us) (map (passed_by n) A)
+    → AllByRecursion (λ r. r.passed + n ≤ budget) A → AllByRecursion (IsKept budget longest us) (map (passed_by n) A)
 front_kept budget longest n us [] h l = tt
 front_kept budget longest n us (r ∷ rs) h l =
     search (arith, kept_passed budget longest n us r h.0 l.0, front_kept budget longest n us rs h.1 l.1)
@@ -196,9 +187,8 @@ pub record IsTurn (budget n : ℕ) (A : List Record) (r : Record) (B own : List 
 
 pub held_turn : (room budget longest n : ℕ) (A : List Record) (r : Record) (B own : List Record) (ds ds' : List Drive)
     (begun : Option Name) (serving serves : Bool) → IsHeld room budget longest (A ++ r ∷ B) ds begun serving
-    → IsTurn budget n A r B own
-    → (serves ≡ false → own ≡ []) → units_of ds' ≡ units_of ds → All IsOnUnit ds'
-    → IsHeld room budget longest (map (passed_by n) A ++ (own ++ B)) ds' None serves
+    → IsTurn budget n A r B own → (serves ≡ false → own ≡ []) → units_of ds' ≡ units_of ds
+    → All IsOnUnit ds' → IsHeld room budget longest (map (passed_by n) A ++ (own ++ B)) ds' None serves
 held_turn room budget longest n A r B own ds ds' begun serving serves h t ended u heads =
     let K = IsKept budget longest (units_of ds) in
     let new = map (passed_by n) A ++ (own ++ B) in
@@ -209,11 +199,6 @@ held_turn room budget longest n A r B own ds ds' begun serving serves h t ended 
     let old_numbers : names (A ++ r ∷ B) ≡ names A ++ (name_of r ∷ names B) = map-append name_of A (r ∷ B) in
     let numbers : names new ≡ names A ++ (names own ++ names B) =
     search (arith, map-append name_of (map (passed_by n) A) (own ++ B), names_passed n A, map-append name_of own B) in
-    let few = own_one r own t.left in
-    let served = filter-append is_in_service (map (passed_by n) A) (own ++ B) in
-    let served_own = filter-append is_in_service own B in
-    let none_front = idle_none (map (passed_by n) A) (passed_idle n A t.before) in
-    let none_back = idle_none B t.behind in
     search (
       arith,
       K,
@@ -221,11 +206,11 @@ held_turn room budget longest n A r B own ds ds' begun serving serves h t ended 
       kept,
       old_numbers,
       numbers,
-      few,
-      served,
-      served_own,
-      none_front,
-      none_back,
+      own_one r own t.left,
+      filter-append is_in_service (map (passed_by n) A) (own ++ B),
+      filter-append is_in_service own B,
+      idle_none (map (passed_by n) A) (passed_idle n A t.before),
+      idle_none B t.behind,
       length-append,
       length-map,
       All-from_recursion,
@@ -237,10 +222,8 @@ held_turn room budget longest n A r B own ds ds' begun serving serves h t ended 
     )
 
 -- ---- the drives
-
-pub units_replaced : (number : ℕ) (new : Drive) (ds : List Drive)
-    → AllByRecursion (λ d. has_number number d ≡ true → d.unit ≡ new.unit) ds
-    → units_of (replaced number new ds) ≡ units_of ds
+pub units_replaced : (number : ℕ) (new : Drive) (ds : List Drive) → AllByRecursion (λ d. has_number number d
+    ≡ true → d.unit ≡ new.unit) ds → units_of (replaced number new ds) ≡ units_of ds
 units_replaced number new [] h = refl
 units_replaced number new (d ∷ ds) h = search (arith, units_replaced number new ds h.1)
 

@@ -16,13 +16,11 @@ below_or_at : (k n : ℕ) → k < n + 1 → (k < n) ⊎ (k ≡ n)
 below_or_at k n l = grind arith
 
 -- ---- lanes
-
 module _ (v : List ℕ) (n x : ℕ) (old : IsLane v n x) where
   pub lane_more : IsLane v (n + 1) (min x (get_or v n 0))
   lane_more = search (arith, lower_or x (get_or v n 0), min x (get_or v n 0), below_or_at)
 
 -- ---- the costs in one lane of each block
-
 abbrev pub masked : ℕ → ℕ → ℕ
 masked bit cost = cond (nat_eq bit 1) cost 18446744073709551615
 
@@ -52,12 +50,9 @@ module _ (costs : List ℕ) (mask n j x : ℕ) (old : IsLow costs mask n j x) wh
   low_more fits = grind (arith, set_or, min, on_is, low_on, off_is, small, low_off)
 
 -- where no bit is set from a block on, its lanes hold nothing
-pub low_whole : (costs : List ℕ) (mask n j x : ℕ) → mask / 2 ^ (8 * n) ≡ 0 → n ≤ 8 → IsLow costs mask n j x
-    → IsLow costs mask 8 j x
-low_whole costs mask n j x none few h = record {
-  below = λ i l on. by i on (compare i n);
-  found = kept h.found;
-}
+pub low_whole : (costs : List ℕ) (mask n j x : ℕ)
+    → mask / 2 ^ (8 * n) ≡ 0 → n ≤ 8 → IsLow costs mask n j x → IsLow costs mask 8 j x
+low_whole costs mask n j x none few h = record { below = λ i l on. by i on (compare i n); found = kept h.found }
   where
     compare : (i n : ℕ) → (i < n) ⊎ (n ≤ i)
     compare i n = grind arith
@@ -77,16 +72,12 @@ low_whole costs mask n j x none few h = record {
     kept (inr h) = inr (h.0, omega (arith, h.1, few), h.2, h.3)
 
 -- ---- all costs
-
 place_is : (k : ℕ) → 8 * (k / 8) + k % 8 ≡ k
 place_is k = omega arith
 
-pub cost_of : (costs low : List ℕ) (mask x : ℕ) → ((j : ℕ) → j < 8 → IsLow costs mask 8 j (get_or low j 0))
-    → IsLane low 8 x → IsCost costs mask x
-cost_of costs low mask x each lane = record {
-  below = under;
-  found = found_by lane.found;
-}
+pub cost_of : (costs low : List ℕ) (mask x : ℕ)
+    → ((j : ℕ) → j < 8 → IsLow costs mask 8 j (get_or low j 0)) → IsLane low 8 x → IsCost costs mask x
+cost_of costs low mask x each lane = record { below = under; found = found_by lane.found }
   where
     under : (k : ℕ) → k < 64 → bit_at mask k ≡ 1 → x ≤ get_or costs k 0
     under k l on =
@@ -108,15 +99,13 @@ cost_of costs low mask x each lane = record {
     found_by (inr h) = in_lane h.0 h.1 h.2 (each h.0 h.1).found
 
 -- ---- the first place
-
 pub first_is_least : (costs : List ℕ) (mask x p : ℕ) → IsCost costs mask x → IsFirst costs mask x p
     → IsLeast costs mask p
 first_is_least costs mask x p cost first = search arith
 
 -- where no masked place holds the least cost, none is masked
 pub none_masked : (costs : List ℕ) (mask x : ℕ) → mask < 2 ^ 64 → ((k : ℕ) → get_or costs k 0 < 2 ^ 64)
-    → IsCost costs mask x
-    → ((k : ℕ) → k < 64 → bit_at mask k ≡ 1 → get_or costs k 0 ≢ x) → mask ≡ 0
+    → IsCost costs mask x → ((k : ℕ) → k < 64 → bit_at mask k ≡ 1 → get_or costs k 0 ≢ x) → mask ≡ 0
 none_masked costs mask x small fits cost none = by (zero_or mask)
   where
     zero_or : (m : ℕ) → (m ≡ 0) ⊎ (0 < m)
@@ -136,7 +125,6 @@ none_masked costs mask x small fits cost none = by (zero_or mask)
         (trailing_zeros w64 mask) t.0 t.1 cost.found
 
 -- ---- the places of one block
-
 one_of_min : (a b : ℕ) → min a b ≡ 1 → a < 2 → b < 2 → (a ≡ 1) × (b ≡ 1)
 one_of_min a b e l m = (omega (arith, e), omega (arith, e))
 
@@ -144,24 +132,20 @@ both : (a b : ℕ) → a ≡ 1 → b ≡ 1 → min a b ≡ 1
 both a b e f = omega (arith, e, f)
 
 module _ (costs part : List ℕ) (mask n x eight : ℕ)
-    (at : (k : ℕ) → k < 8 → get_or part k 0 ≡ get_or costs (8 * n + k) 0)
-    (only : (k : ℕ) → bit_at eight k ≡ 1 → k < 8)
-    (equal : (k : ℕ) → bit_at eight k ≡ 1 → get_or part k 0 ≡ x)
-    (each : (k : ℕ) → k < 8 → get_or part k 0 ≡ x → bit_at eight k ≡ 1)
-    (before : (k : ℕ) → k < 8 * n → bit_at mask k ≡ 1 → get_or costs k 0 ≢ x) where
+    (at : (k : ℕ) → k < 8 → get_or part k 0 ≡ get_or costs (8 * n + k) 0) (only : (k : ℕ) → bit_at eight k
+    ≡ 1 → k < 8) (equal : (k : ℕ) → bit_at eight k ≡ 1 → get_or part k 0 ≡ x) (each : (k : ℕ) → k < 8 → get_or part k 0
+    ≡ x → bit_at eight k ≡ 1) (before : (k : ℕ) → k < 8 * n → bit_at mask k ≡ 1 → get_or costs k 0 ≢ x) where
   abbrev hits : ℕ
   hits = bit_and eight (mask / 2 ^ (8 * n))
 
   hit : (k : ℕ) → bit_at hits k ≡ 1 → (bit_at eight k ≡ 1) × (bit_at mask (8 * n + k) ≡ 1)
   hit k set =
       let two = one_of_min (bit_at eight k) (bit_at (mask / 2 ^ (8 * n)) k)
-      (sym (bit_at_and eight (mask / 2 ^ (8 * n)) k)
-      ∙ set) (bit_at-lt eight k) (bit_at-lt (mask / 2 ^ (8 * n)) k) in
+      (sym (bit_at_and eight (mask / 2 ^ (8 * n)) k) ∙ set) (bit_at-lt eight k) (bit_at-lt (mask / 2 ^ (8 * n)) k) in
       (two.0, sym (bit_from mask (8 * n) k) ∙ two.1)
 
   hits_at : (k : ℕ) → k < 8 → bit_at mask (8 * n + k) ≡ 1 → get_or costs (8 * n + k) 0 ≡ x → bit_at hits k ≡ 1
-  hits_at k l on e =
-      bit_at_and eight (mask / 2 ^ (8 * n)) k
+  hits_at k l on e = bit_at_and eight (mask / 2 ^ (8 * n)) k
       ∙ both (bit_at eight k) (bit_at (mask / 2 ^ (8 * n)) k) (each k l (at k l ∙ e)) (bit_from mask (8 * n) k ∙ on)
 
   within : (k t : ℕ) → 8 * n ≤ k → k < 8 * n + t → (8 * n + (k - 8 * n) ≡ k) × (k - 8 * n < t)
@@ -170,14 +154,13 @@ module _ (costs part : List ℕ) (mask n x eight : ℕ)
   no_hit : (k : ℕ) → k < 8 → bit_at hits k ≢ 1 → bit_at mask (8 * n + k) ≡ 1 → get_or costs (8 * n + k) 0 ≢ x
   no_hit k l clear on = λ e. clear (hits_at k l on e)
 
-  from_block : (t : ℕ) → t ≤ 8 → ((k : ℕ) → k < t → bit_at hits k ≢ 1) → (k : ℕ) → k < 8 * n + t → bit_at mask k ≡ 1
-      → (k < 8 * n) ⊎ (8 * n ≤ k) → get_or costs k 0 ≢ x
+  from_block : (t : ℕ) → t ≤ 8 → ((k : ℕ) → k < t → bit_at hits k ≢ 1)
+      → (k : ℕ) → k < 8 * n + t → bit_at mask k ≡ 1 → (k < 8 * n) ⊎ (8 * n ≤ k) → get_or costs k 0 ≢ x
   from_block t l clear k below on (inl under) = before k under on
   from_block t l clear k below on (inr over) =
       let w = within k t over below in
-      let none = no_hit (k - 8 * n) (omega (arith, w.1)) (clear (k - 8 * n) w.1)
-      (subst (λ k. bit_at mask k ≡ 1) (sym w.0) on) in
-      subst (λ k. get_or costs k 0 ≢ x) w.0 none
+      subst (λ k. get_or costs k 0 ≢ x) w.0
+      (no_hit (k - 8 * n) (omega (arith, w.1)) (clear (k - 8 * n) w.1) (subst (λ k. bit_at mask k ≡ 1) (sym w.0) on))
 
   before_or : (k : ℕ) → (k < 8 * n) ⊎ (8 * n ≤ k)
   before_or k = grind arith
@@ -194,24 +177,22 @@ module _ (costs part : List ℕ) (mask n x eight : ℕ)
         low = omega (arith, low);
         masked = h.1;
         holds = sym (at (trailing_zeros w64 hits) low) ∙ equal (trailing_zeros w64 hits) h.0;
-        first = λ k l on. from_block (trailing_zeros w64 hits) (omega (arith, low))
-            (λ i l. zero_not_one (bit_at hits i) (t.2 i l)) k l on (before_or k);
+        first = λ k l on. from_block (trailing_zeros w64 hits)
+            (omega (arith, low)) (λ i l. zero_not_one (bit_at hits i) (t.2 i l)) k l on (before_or k);
       }
     where
       positive : (a : ℕ) → a ≢ 0 → 0 < a
       positive a n = grind (arith, n)
 
   pub none_more : hits ≡ 0 → (k : ℕ) → k < 8 * (n + 1) → bit_at mask k ≡ 1 → get_or costs k 0 ≢ x
-  none_more none k l on = from_block 8 (omega arith)
-      (λ i l. zero_not_one (bit_at hits i) (ap (λ h. bit_at h i) none ∙ bit_at-zero_of i)) k (omega arith) on
-      (before_or k)
+  none_more none k l on = from_block 8 (omega arith) (λ i l. zero_not_one
+      (bit_at hits i) (ap (λ h. bit_at h i) none ∙ bit_at-zero_of i)) k (omega arith) on (before_or k)
     where
       bit_at-zero_of : (i : ℕ) → bit_at 0 i ≡ 0
       bit_at-zero_of i = bit_at-zero i
 
 pub none_if : (costs : List ℕ) (mask x : ℕ) (p : Option ℕ) → mask < 2 ^ 64 → ((k : ℕ) → get_or costs k 0 < 2 ^ 64)
-    → IsCost costs mask x
-    → IfNone p ((k : ℕ) → k < 64 → bit_at mask k ≡ 1 → get_or costs k 0 ≢ x) → IfNone p (mask ≡ 0)
+    → IsCost costs mask x → IfNone p ((k : ℕ) → k < 64 → bit_at mask k ≡ 1 → get_or costs k 0 ≢ x) → IfNone p (mask ≡ 0)
 none_if costs mask x p h4 h5 h6 h7 = grind (arith, none_masked, small)
 
 pub some_if : (costs : List ℕ) (mask x : ℕ) (p : Option ℕ) → IsCost costs mask x

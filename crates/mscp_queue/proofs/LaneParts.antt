@@ -3,9 +3,8 @@ use Rattle.mscp_queue.proofs.Common.{◌≡◌, ◌⊎◌, inl, inr, ℕ, ◌+�
 use borrow.Rule.Slice.PartMut.{mid_of, put_mid}
 
 -- a store over the whole of eight numbers
-pub whole_part : (part res : List ℕ) (bits by : ℕ) → length part ≡ 8
-    → HasLanes res (λ k. lowered bits by k (get_or (chunk 0 8 part) k 0))
-    → HasLanes (put_chunk 0 part res) (λ k. lowered bits by k (get_or part k 0))
+pub whole_part : (part res : List ℕ) (bits by : ℕ) → length part ≡ 8 → HasLanes res (λ k. lowered bits
+    by k (get_or (chunk 0 8 part) k 0)) → HasLanes (put_chunk 0 part res) (λ k. lowered bits by k (get_or part k 0))
 whole_part part res bits by len h = search (arith, put_chunk_whole part res (omega arith), get_or-chunk)
 
 -- the bits from place a on
@@ -27,26 +26,21 @@ module _ (a n : ℕ) (xs : List ℕ) (eight : n ≡ 8) (room : a + 8 ≤ length 
     put_len =
         let one = length-append (take a xs) (ys ++ drop n (drop a xs)) in
         let two = length-append ys (drop n (drop a xs)) in
-        let three = length-drop n (drop a xs) in
-        let four = length-drop a xs in
-        omega (arith, one, two, three, four, front_len)
+        omega (arith, one, two, length-drop n (drop a xs), length-drop a xs, front_len)
 
     pub at_put_below : (k : ℕ) → k < a → get_or (put_mid a n xs ys) k 0 ≡ get_or xs k 0
     at_put_below k l = get_or_append_left (take a xs) (ys ++ drop n (drop a xs)) 0 k (omega (arith, front_len))
         ∙ get_or-take a xs k 0 l
 
     pub at_put : (k : ℕ) → k < 8 → get_or (put_mid a n xs ys) (a + k) 0 ≡ get_or ys k 0
-    at_put k l =
-        get_or-append_right (take a xs) (ys ++ drop n (drop a xs)) a (a + k) 0 front_len (omega arith)
+    at_put k l = get_or-append_right (take a xs) (ys ++ drop n (drop a xs)) a (a + k) 0 front_len (omega arith)
         ∙ ap (λ j. get_or (ys ++ drop n (drop a xs)) j 0) (omega arith)
         ∙ get_or_append_left ys (drop n (drop a xs)) 0 k (omega arith)
 
     pub at_put_above : (k : ℕ) → a + 8 ≤ k → get_or (put_mid a n xs ys) k 0 ≡ get_or xs k 0
-    at_put_above k l =
-        get_or-append_right (take a xs) (ys ++ drop n (drop a xs)) a k 0 front_len (omega arith)
-        ∙ get_or-append_right ys (drop n (drop a xs)) 8 (k - a) 0 len (omega arith)
-        ∙ get_or-drop n (drop a xs) (k - a - 8) 0 ∙ get_or-drop a xs (n + (k - a - 8)) 0
-        ∙ ap (λ j. get_or xs j 0) (omega arith)
+    at_put_above k l = get_or-append_right (take a xs) (ys ++ drop n (drop a xs)) a k 0 front_len (omega arith)
+        ∙ get_or-append_right ys (drop n (drop a xs)) 8 (k - a) 0 len (omega arith) ∙ get_or-drop n (drop a xs)
+        (k - a - 8) 0 ∙ get_or-drop a xs (n + (k - a - 8)) 0 ∙ ap (λ j. get_or xs j 0) (omega arith)
 
 -- the numbers below place a are lowered, and those from it on are as they were
 pub record Lowered (mask by a : ℕ) (old xs : List ℕ) : Type 0 where
@@ -57,9 +51,8 @@ pub record Lowered (mask by a : ℕ) (old xs : List ℕ) : Type 0 where
 split : (a k : ℕ) → k < a + 8 → (k < a) ⊎ (a ≤ k)
 split a k l = grind arith
 
-pub next : (mask by a n : ℕ) (old xs ys : List ℕ) → n ≡ 8 → a + 8 ≤ length xs → Lowered mask by a old xs
-    → HasLanes ys (λ k. lowered (mask / 2 ^ a) by k (get_or (mid_of a n xs) k 0))
-    → Lowered mask by (a + 8) old (put_mid a n xs ys)
+pub next : (mask by a n : ℕ) (old xs ys : List ℕ) → n ≡ 8 → a + 8 ≤ length xs → Lowered mask by a old xs → HasLanes ys
+    (λ k. lowered (mask / 2 ^ a) by k (get_or (mid_of a n xs) k 0)) → Lowered mask by (a + 8) old (put_mid a n xs ys)
 next mask by a n old xs ys eight room h new = record {
   long = put_len a n xs eight room ys new.long ∙ h.long;
   below = λ k l. go k l (split a k l);
@@ -80,8 +73,7 @@ next mask by a n old xs ys eight room h new = record {
         (here (k - a) (omega arith))
 
 pub next_at : (mask by a n e : ℕ) (old xs ys : List ℕ) → n ≡ 8 → a + 8 ≡ e → a + 8 ≤ length xs
-    → Lowered mask by a old xs
-    → HasLanes ys (λ k. lowered (mask / 2 ^ a) by k (get_or (mid_of a n xs) k 0))
+    → Lowered mask by a old xs → HasLanes ys (λ k. lowered (mask / 2 ^ a) by k (get_or (mid_of a n xs) k 0))
     → Lowered mask by e old (put_mid a n xs ys)
 next_at mask by a n e old xs ys eight up room h new = search (arith, next mask by a n old xs ys eight room h new)
 

@@ -41,3 +41,4 @@ pub mod CandidateCosts
 pub mod Stepping
 pub mod Restored
 pub mod Upcomings
+pub mod Basics

@@ -20,7 +20,6 @@ pub eq_false : (a b : ℕ) → a ≢ b → nat_eq a b ≡ false
 eq_false a b n = ne_eqb a b n
 
 -- ---- which slots are in a list
-
 pub has_other : (k n : ℕ) (xs : List ℕ) → k ≢ n → has k (xs ++ n ∷ []) ≡ has k xs
 has_other k n [] e = ap (λ b. b || false) (eq_false k n e)
 has_other k n (x ∷ xs) e = ap (λ b. nat_eq k x || b) (has_other k n xs e)
@@ -55,9 +54,8 @@ without_append n [] ys = refl
 without_append n (x ∷ xs) ys = search (arith, without_append n xs ys, nat_eq x n)
 
 -- ---- one mask
-
-module _ (m m' n : ℕ) (on : Bool) (old new : ℕ → Bool) (set : IsSet on n m m') (is : IsMaskOf m old)
-    (at : new n ≡ on) (other : (k : ℕ) → k ≢ n → new k ≡ old k) where
+module _ (m m' n : ℕ) (on : Bool) (old new : ℕ → Bool) (set : IsSet on n m m')
+    (is : IsMaskOf m old) (at : new n ≡ on) (other : (k : ℕ) → k ≢ n → new k ≡ old k) where
   pub set_mask : IsMaskOf m' new
   set_mask k l = by (same_or k n)
     where
@@ -67,7 +65,6 @@ module _ (m m' n : ℕ) (on : Bool) (old new : ℕ → Bool) (set : IsSet on n m
           ∙ ap bit (sym (other k d))
 
 -- ---- a push
-
 differ : (b : Bool) → b ≡ true → b ≡ false → bit true ≡ bit false
 differ b p q = ap bit (sym p ∙ q)
 
@@ -89,14 +86,12 @@ slots_pushed (s ∷ order) n a l e =
 mask_same : (m : ℕ) (old new : ℕ → Bool) → ((k : ℕ) → old k ≡ new k) → IsMaskOf m old → IsMaskOf m new
 mask_same m old new same is = λ k l. is k l ∙ ap bit (same k)
 
-module _ (earlier earlier' : ℕ → ℕ) (n m : ℕ) (same : (k : ℕ) → k ≢ n
-    → earlier' k ≡ earlier k) (new : earlier' n ≡ m) where
+module _ (earlier earlier' : ℕ → ℕ) (n m : ℕ)
+    (same : (k : ℕ) → k ≢ n → earlier' k ≡ earlier k) (new : earlier' n ≡ m) where
   earlier_pushed : (front order : List ℕ) → has n order ≡ false → IsMaskOf m (λ k. has k (front ++ order))
-      → AreEarlier earlier front order
-      → AreEarlier earlier' front (order ++ n ∷ [])
+      → AreEarlier earlier front order → AreEarlier earlier' front (order ++ n ∷ [])
   earlier_pushed front [] e is a = (
-    subst (λ m. IsMaskOf m (λ k. has k front)) (sym new)
-        (mask_same m _ _ (λ k. ap (has k) (append-nil front)) is),
+    subst (λ m. IsMaskOf m (λ k. has k front)) (sym new) (mask_same m _ _ (λ k. ap (has k) (append-nil front)) is),
     tt,
   )
   earlier_pushed front (s ∷ order) e is a = (
@@ -121,8 +116,7 @@ unit_set m m' n on h4 h5 h6 = grind (arith, same_or, nat_eq, eq_true, eq_false)
 
 pub masks_pushed : (kinds kinds' : ℕ → Kind) (order : List ℕ) (m m' : Masks) (n : ℕ)
     → AreMasks kinds order m → Comes kinds kinds' order n
-    → HasCome n (kinds' n).drive (kinds' n).sequential (kinds' n).serving m m'
-    → AreMasks kinds' (order ++ n ∷ []) m'
+    → HasCome n (kinds' n).drive (kinds' n).sequential (kinds' n).serving m m' → AreMasks kinds' (order ++ n ∷ []) m'
 masks_pushed kinds kinds' order m m' n masks c h = record {
   apart = slots_pushed order n masks.apart c.low c.free;
   of_waiting = set_mask m.waiting m'.waiting n true _ _ h.waits masks.of_waiting (has_last n order)
@@ -148,12 +142,10 @@ masks_pushed kinds kinds' order m m' n masks c h = record {
 }
 
 -- ---- a step
-
 -- the command of a slot is in service from now on
-pub masks_served : (kinds kinds' : ℕ → Kind) (order : List ℕ) (m : Masks) (v n : ℕ)
-    → AreMasks kinds order m → has n order ≡ true → ((k : ℕ) → k ≢ n → kinds' k ≡ kinds k)
-    → (kinds' n).drive ≡ (kinds n).drive → (kinds' n).sequential ≡ (kinds n).sequential
-    → IsSet (kinds' n).serving n m.serving v → AreMasks kinds' order (record m { serving = v })
+pub masks_served : (kinds kinds' : ℕ → Kind) (order : List ℕ) (m : Masks) (v n : ℕ) → AreMasks kinds order m → has n
+    order ≡ true → ((k : ℕ) → k ≢ n → kinds' k ≡ kinds k) → (kinds' n).drive ≡ (kinds n).drive → (kinds' n).sequential
+    ≡ (kinds n).sequential → IsSet (kinds' n).serving n m.serving v → AreMasks kinds' order (record m { serving = v })
 masks_served kinds kinds' order m v n masks in_order same drive ordered served =
     search (arith, same_or, mask_same, nat_eq)
 
@@ -168,15 +160,13 @@ slot_has (s ∷ order) (suc place) l =
 slot_has order place h2 = search (arith, eq_true)
 
 -- ---- the lowest free slot
-
 -- where each of so many slots is taken, so many are taken
 many_taken : (n : ℕ) (order : List ℕ) → ((k : ℕ) → k < n → has k order ≡ true) → n ≤ length order
 many_taken zero order h = omega arith
 many_taken (suc n) order h =
-    let rest = many_taken n (without n order) (λ k l. has_kept k n order (λ e. omega (arith, l, e))
-    ∙ h k (omega (arith, l))) in
-    let fewer = one_gone n order (h n (omega arith)) in
-    omega (arith, rest, fewer)
+    let rest =
+    many_taken n (without n order) (λ k l. has_kept k n order (λ e. omega (arith, l, e)) ∙ h k (omega (arith, l))) in
+    omega (arith, rest, one_gone n order (h n (omega arith)))
   where
     no_more : (n : ℕ) (xs : List ℕ) → length (without n xs) ≤ length xs
     no_more n [] = omega arith
@@ -219,7 +209,6 @@ pub off_bit : (b : Bool) → bit b ≡ 0 → b ≡ false
 off_bit b h1 = grind arith
 
 -- ---- one bit
-
 pub after_bit : (m k n old : ℕ) (on was : Bool) → on ≡ was → bit_at m n ≡ cond was 1 0 → (k ≢ n → bit_at m k ≡ old)
     → bit_at m k ≡ cond (nat_eq k n) (cond on 1 0) old
 after_bit m k n old on was e same other = search (arith, same_or, nat_eq, eq_true, eq_false)

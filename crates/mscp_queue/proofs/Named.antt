@@ -23,17 +23,15 @@ pub is_differ : (x y : Name) → x ≢ y → same_name x y ≡ false
 is_differ x y d = search (arith, same_is)
 
 -- where none has the low byte none has the name
-pub unnumbered : (name : Name) (cs : List Choice) → list_any (has_byte (low_byte name.reference)) cs ≡ false
-    → list_any (has_choice_name name) cs ≡ false
+pub unnumbered : (name : Name) (cs : List Choice)
+    → list_any (has_byte (low_byte name.reference)) cs ≡ false → list_any (has_choice_name name) cs ≡ false
 unnumbered name [] h = refl
 unnumbered name (c ∷ cs) h =
     let byte = low_byte name.reference in
     let p = or_parts (has_byte byte c) (list_any (has_byte byte) cs) h in
-    ap (λ b. b || list_any (has_choice_name name) cs)
-    (and_right (same_connection c.connection name.connection) (nat_eq c.reference name.reference)
-    (ne_eqb c.reference name.reference
-    (λ e. true≢false (sym (eq-eqb (low_byte c.reference) byte (ap low_byte e)) ∙ p.0))))
-    ∙ unnumbered name cs p.1
+    ap (λ b. b || list_any (has_choice_name name) cs) (and_right (same_connection c.connection name.connection)
+    (nat_eq c.reference name.reference) (ne_eqb c.reference name.reference
+    (λ e. true≢false (sym (eq-eqb (low_byte c.reference) byte (ap low_byte e)) ∙ p.0)))) ∙ unnumbered name cs p.1
 
 pub other_side : (a b : Connection) → same_connection a b ≡ false → same_connection b a ≡ false
 other_side a b h2 = grind arith

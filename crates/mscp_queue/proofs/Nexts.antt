@@ -1,11 +1,6 @@
 -- Which record is served next: what was begun, or else that in service, or else one that may be picked.
-use Rattle.mscp_queue.proofs.Common.{◌≡◌, ◌≢◌, ⊎_elim, ◌⊎◌, inl, inr, ℕ, zero, suc, ◌+◌, ◌-◌, ◌<◌, ◌≤◌, Bool, true, false, List, [], ◌∷◌, ◌++◌, take, drop, length, refl, ap, sym, ◌∙◌, subst, arith, All, filter, if◌then◌else◌, is_some, nat_lt, unwrap_or, Option, Some, None, AllByRecursion, position, get_or_append_left, get_or-append_right, get_or_at, get_or-drop, get_or-take, length-append, length-drop, length-take-le, All-from_recursion, recursion_from_All, eq-eqb, eqb-true, false≢true, lt-ltb, ltb-false, ltb-true, true≢false, Drive, Choice, AreApart, IsHeld, IsStillServable, begun_name, names, place_without, Name, same_name, Record, has_name, is_in_service, is_unstarted, name_of, no_record, record_at, without, IsNext, IsServable, begun_without, IsPick}
-use Rattle.mscp_queue.proofs.Begun.{picked_opens}
-use Rattle.mscp_queue.proofs.Named.{is_differ, is_same, same_is}
-use Rattle.mscp_queue.proofs.Lists.{every_append, every_parts, every_weaker}
-use Rattle.mscp_queue.proofs.Placed.{cut_at, find_cases, position_first, position_none}
+use Rattle.mscp_queue.proofs.Basics.{◌≡◌, ◌≢◌, ⊎_elim, ◌⊎◌, inl, inr, ℕ, zero, suc, ◌+◌, ◌-◌, ◌<◌, ◌≤◌, Bool, true, false, List, [], ◌∷◌, ◌++◌, take, drop, length, refl, ap, sym, ◌∙◌, subst, arith, All, filter, if◌then◌else◌, is_some, nat_lt, unwrap_or, Option, Some, None, AllByRecursion, position, get_or_append_left, get_or-append_right, get_or_at, get_or-drop, get_or-take, length-append, length-drop, length-take-le, All-from_recursion, recursion_from_All, eq-eqb, eqb-true, false≢true, lt-ltb, ltb-false, ltb-true, true≢false, Drive, Choice, AreApart, IsHeld, IsStillServable, begun_name, names, place_without, Name, same_name, Record, has_name, is_in_service, is_unstarted, name_of, no_record, record_at, without, IsNext, IsServable, begun_without, IsPick, picked_opens, is_differ, is_same, same_is, every_append, every_parts, every_weaker, cut_at, find_cases, position_first, position_none, others_idle}
 use Rattle.mscp_queue.proofs.Aborts.{aborts_at, held_aborted}
-use Rattle.mscp_queue.proofs.Held.{others_idle}
 
 -- the place of the first record that passes a test
 found_at : (p : Record → Bool) (rs : List Record) (place : ℕ) → position p rs ≡ Some place
@@ -48,7 +43,6 @@ picked_next picks budget ds rs begun place n h l p =
     search (arith, none_serving rs h, picked_opens picks budget ds rs place p, none_begun)
 
 -- ---- what was begun
-
 -- a name stands at one place
 once : (rs : List Record) (i j : ℕ) → AreApart (names rs) → i < length rs → j < length rs
     → name_of (record_at rs i) ≡ name_of (record_at rs j) → i ≡ j
@@ -83,28 +77,26 @@ pub known_next : (picks : List Choice → ℕ → Type 0) (budget : ℕ) (ds : L
 known_next picks budget ds rs place a l s = search (arith, name_found, found_at, same_is, once, some_is, none_begun)
 
 -- the place of the one in service
-pub serving_found : (rs : List Record) (place : ℕ) → length (filter is_in_service rs) ≤ 1 → place < length rs
-    → is_in_service (record_at rs place) ≡ true → position is_in_service rs ≡ Some place
-serving_found rs place one l h =
-    search (
-      arith,
-      cut_at no_record rs place l,
-      length-take-le place rs (omega (arith, l)),
-      others_idle,
-      ltb-true,
-      position_first,
-      every_weaker,
-    )
+pub serving_found : (rs : List Record) (place : ℕ) → length (filter is_in_service rs) ≤ 1
+    → place < length rs → is_in_service (record_at rs place) ≡ true → position is_in_service rs ≡ Some place
+serving_found rs place one l h = search (
+  arith,
+  cut_at no_record rs place l,
+  length-take-le place rs (omega (arith, l)),
+  others_idle,
+  ltb-true,
+  position_first,
+  every_weaker,
+)
 
 zero_or : (n : ℕ) → (n ≡ 0) ⊎ (0 < n)
 zero_or n = grind arith
 
 -- the one in service is next, whatever was begun: nothing else was
-pub serving_is_next : (picks : List Choice → ℕ → Type 0) (budget : ℕ) (ds : List Drive) (rs : List Record)
-    (begun : Option Name) (place : ℕ) → length (filter is_in_service rs) ≤ 1 → place < length rs
-    → is_in_service (record_at rs place) ≡ true
-    → ((name : Name) → begun ≡ Some name → IsStillServable budget rs name)
-    → IsNext picks budget ds rs begun place
+pub serving_is_next : (picks : List Choice → ℕ → Type 0)
+    (budget : ℕ) (ds : List Drive) (rs : List Record) (begun : Option Name) (place : ℕ)
+    → length (filter is_in_service rs) ≤ 1 → place < length rs → is_in_service (record_at rs place) ≡ true
+    → ((name : Name) → begun ≡ Some name → IsStillServable budget rs name) → IsNext picks budget ds rs begun place
 serving_is_next picks budget ds rs begun place one l h still =
     record {
       servable = search (arith, not_unstarted);
@@ -125,51 +117,44 @@ serving_is_next picks budget ds rs begun place one l h still =
         ∙ serving_found rs place one l h)
 
 -- where nobody is in service, all are idle, and so none is found
-pub nobody_found : (rs : List Record) (serving : Option ℕ) → serving ≡ None
-    → (is_some serving ≡ false → All (λ r. r.done ≡ 0) rs)
-    → position is_in_service rs ≡ None
+pub nobody_found : (rs : List Record) (serving : Option ℕ)
+    → serving ≡ None → (is_some serving ≡ false → All (λ r. r.done ≡ 0) rs) → position is_in_service rs ≡ None
 nobody_found rs serving e h = search (arith, position_none, every_weaker, recursion_from_All)
 
 -- ---- a place that is known, once a command left
-
 -- the record at such a place is the same
 pub moved : (rs : List Record) (gone place k : ℕ) → gone < length rs → place < length rs
-    → place_without (Some place) gone ≡ Some k
-    → (place ≢ gone) × (k < length (take gone rs ++ drop (gone + 1) rs))
+    → place_without (Some place) gone ≡ Some k → (place ≢ gone) × (k < length (take gone rs ++ drop (gone + 1) rs))
     × (record_at (take gone rs ++ drop (gone + 1) rs) k ≡ record_at rs place)
-moved rs gone place k l m h =
-    grind (
-      arith,
-      length-take-le,
-      ltb-true,
-      length-append,
-      get_or_append_left,
-      get_or-take,
-      length-drop,
-      get_or-append_right,
-      get_or-drop,
-      false≢true,
-    )
+moved rs gone place k l m h = grind (
+  arith,
+  length-take-le,
+  ltb-true,
+  length-append,
+  get_or_append_left,
+  get_or-take,
+  length-drop,
+  get_or-append_right,
+  get_or-drop,
+  false≢true,
+)
 
-pub waits_without : (rs new : List Record) (known : Option ℕ) (gone : ℕ) → gone < length rs → new ≡ take gone rs
-    ++ drop (gone + 1) rs
-    → ((place : ℕ) → known ≡ Some place → place < length rs)
+pub waits_without : (rs new : List Record) (known : Option ℕ) (gone : ℕ) → gone < length rs
+    → new ≡ take gone rs ++ drop (gone + 1) rs → ((place : ℕ) → known ≡ Some place → place < length rs)
     → (k : ℕ) → place_without known gone ≡ Some k → k < length new
 waits_without rs new None gone l e h k s = absurd (false≢true (ap is_some s))
 waits_without rs new (Some place) gone l e h k s = search (arith, moved rs gone place k l (h place refl) s)
 
-pub served_without : (rs new : List Record) (known : Option ℕ) (gone : ℕ) → gone < length rs → new ≡ take gone rs
-    ++ drop (gone + 1) rs
+pub served_without : (rs new : List Record) (known : Option ℕ) (gone : ℕ)
+    → gone < length rs → new ≡ take gone rs ++ drop (gone + 1) rs
     → ((place : ℕ) → known ≡ Some place → (place < length rs) × (is_in_service (record_at rs place) ≡ true))
     → (k : ℕ) → place_without known gone ≡ Some k → (k < length new) × (is_in_service (record_at new k) ≡ true)
 served_without rs new None gone l e h k s = absurd (false≢true (ap is_some s))
 served_without rs new (Some place) gone l e h k s =
     let was = h place refl in
     let m = moved rs gone place k l was.0 s in
-    subst (λ zs. (k < length zs) × (is_in_service (record_at zs k) ≡ true)) (sym e) (
-      m.1,
-      ap (λ (r : Record). is_in_service r) m.2 ∙ was.1,
-    )
+    subst (λ zs. (k < length zs) × (is_in_service (record_at zs k) ≡ true)) (sym e)
+    (m.1, ap (λ (r : Record). is_in_service r) m.2 ∙ was.1)
 
 -- what is begun then
 pub begun_left : (rs new : List Record) (known : Option ℕ) (gone : ℕ) → AreApart (names rs) → gone < length rs
@@ -202,11 +187,9 @@ begun_left rs new (Some place) gone a l e h = by (place_without (Some place) gon
             ltb-false gone place q in omega (arith, a, b)
 
 -- one that is served waits for its next step, or none is
-pub some_without : (rs new : List Record) (known : Option ℕ) (gone : ℕ) → gone < length rs → new ≡ take gone rs
-    ++ drop (gone + 1) rs
-    → length (filter is_in_service rs) ≤ 1
-    → ((place : ℕ) → known ≡ Some place → (place < length rs) × (is_in_service (record_at rs place) ≡ true))
-    → (is_some known ≡ false → All (λ r. r.done ≡ 0) rs)
+pub some_without : (rs new : List Record) (known : Option ℕ) (gone : ℕ) → gone < length rs → new ≡ take gone rs ++ drop
+    (gone + 1) rs → length (filter is_in_service rs) ≤ 1 → ((place : ℕ) → known ≡ Some place → (place < length rs)
+    × (is_in_service (record_at rs place) ≡ true)) → (is_some known ≡ false → All (λ r. r.done ≡ 0) rs)
     → is_some (place_without known gone) ≡ false → All (λ r. r.done ≡ 0) new
 some_without rs new None gone l e one h idle s =
     let P : Record → Type 0 = λ r. r.done ≡ 0 in
@@ -240,18 +223,15 @@ some_without rs new (Some place) gone l e one h idle s = by (place_without (Some
 
 -- what is true of each queue stays true where the command at a place leaves
 pub held_left : {room budget longest : ℕ} {rs new : List Record} {ds : List Drive} (gone : ℕ) (begun serving : Option ℕ)
-    → IsHeld room budget longest rs ds (begun_name rs begun) (is_some serving) → gone < length rs
-    → new ≡ take gone rs ++ drop (gone + 1) rs
-    → ((place : ℕ) → serving ≡ Some place → (place < length rs) × (is_in_service (record_at rs place) ≡ true))
-    → ((place : ℕ) → begun ≡ Some place → place < length rs)
-    → IsHeld room budget longest new ds (begun_name new (place_without begun gone))
-    (is_some (place_without serving gone))
+    → IsHeld room budget longest rs ds (begun_name rs begun) (is_some serving) → gone < length rs → new ≡ take gone
+    rs ++ drop (gone + 1) rs → ((place : ℕ) → serving ≡ Some place → (place < length rs) × (is_in_service (record_at rs
+    place) ≡ true)) → ((place : ℕ) → begun ≡ Some place → place < length rs) → IsHeld room
+    budget longest new ds (begun_name new (place_without begun gone)) (is_some (place_without serving gone))
 held_left {room} {budget} {longest} {rs} {new} {ds} gone begun serving h l e served waits =
     let name = name_of (record_at rs gone) in
-    let at = aborts_at name rs gone h.apart (name_found rs name gone
-    (position (has_name name) rs) h.apart l refl refl) in
     let next : suc gone ≡ gone + 1 = omega arith in
-    let is : new ≡ without name rs = e ∙ (ap (λ k. take gone rs ++ drop k rs) (sym next) ∙ at.left) in
+    let is : new ≡ without name rs = e ∙ (ap (λ k. take gone rs ++ drop k rs) (sym next) ∙ (aborts_at name
+    rs gone h.apart (name_found rs name gone (position (has_name name) rs) h.apart l refl refl)).left) in
     let all = held_aborted room budget longest name rs new ds (begun_name rs begun) (is_some serving) _ refl h is in
     let left = begun_left rs new begun gone h.apart l e waits in
     let whole : IsHeld room budget longest new ds (begun_without name (begun_name rs begun))

@@ -20,24 +20,21 @@ filter_map_of f p [] = refl
 filter_map_of f p (x ∷ xs) = search (arith, filter_map_of f p xs)
 
 -- ---- a list at a place
-
 pub record At {X : Type 0} (xs front : List X) (x : X) (back : List X) (k : ℕ) (d : X) : Type 0 where
   pub item : get_or xs k d ≡ x
   pub before : take k xs ≡ front
   pub behind : drop (k + 1) xs ≡ back
 
-pub at_place : {X : Type 0} (xs front : List X) (x : X) (back : List X) (k : ℕ) (d : X) → xs ≡ front ++ x ∷ back
-    → length front ≡ k → At xs front x back k d
-at_place {X} xs front x back k d e l =
-    search (
-      arith,
-      append_assoc front (x ∷ []) back,
-      length-append front (x ∷ []),
-      get_or_at front x back d k l,
-      take_at
-          front (x ∷ back) k l,
-      drop_at,
-    )
+pub at_place : {X : Type 0} (xs front : List X) (x : X) (back : List X) (k : ℕ) (d : X)
+    → xs ≡ front ++ x ∷ back → length front ≡ k → At xs front x back k d
+at_place {X} xs front x back k d e l = search (
+  arith,
+  append_assoc front (x ∷ []) back,
+  length-append front (x ∷ []),
+  get_or_at front x back d k l,
+  take_at front (x ∷ back) k l,
+  drop_at,
+)
 
 -- a list is cut at each of its places
 pub cut_at : {X : Type 0} (d : X) (xs : List X) (place : ℕ) → place < length xs
@@ -52,7 +49,6 @@ each_push {X} d R xs x l r i h =
     grind (arith, length-append, get_or_at, take_at, ⊎_elim, get_or_append_left, take-append-le, cases_lt)
 
 -- ---- the first element that passes a test
-
 -- none does, or the list is cut at the first that does
 pub record Found {X : Type 0} (p : X → Bool) (xs front : List X) (x : X) (back : List X) : Type 0 where
   pub is : xs ≡ front ++ x ∷ back
@@ -63,25 +59,18 @@ pub find_cases : {X : Type 0} (p : X → Bool) (xs : List X)
     → AllByRecursion (λ y. p y ≡ false) xs ⊎ ((front : List X) × (x : X) × (back : List X) × Found p xs front x back)
 find_cases p [] = inl tt
 find_cases {X} p (y ∷ ys) =
-    let rest = find_cases p ys in
-    let both : (b : Bool) → p y ≡ b → AllByRecursion (λ z. p z ≡ false) (y ∷ ys)
-    ⊎ ((front : List X) × (x : X) × (back : List X) × Found p (y ∷ ys) front x back) =
-    λ b. elim b as (λ b. p y ≡ b → AllByRecursion (λ z. p z ≡ false) (y ∷ ys)
-    ⊎ ((front : List X) × (x : X) × (back : List X) × Found p (y ∷ ys) front x back)) [
+    let both : (b : Bool) → p y ≡ b → AllByRecursion (λ z. p z ≡ false) (y ∷ ys) ⊎ ((front : List X) × (x : X)
+    × (back : List X) × Found p (y ∷ ys) front x back) = λ b. elim b as (λ b. p y ≡ b → AllByRecursion (λ z. p z
+    ≡ false) (y ∷ ys) ⊎ ((front : List X) × (x : X) × (back : List X) × Found p (y ∷ ys) front x back)) [
       | true ↦ λ e. inr ([], y, ys, record { is = refl; before = tt; passed = e })
-      | false ↦ λ e. elim rest as (λ r. AllByRecursion (λ z. p z ≡ false) (y ∷ ys)
+      | false ↦ λ e. elim (find_cases p ys) as (λ r. AllByRecursion (λ z. p z ≡ false) (y ∷ ys)
           ⊎ ((front : List X) × (x : X) × (back : List X) × Found p (y ∷ ys) front x back)) [
             | inl h ↦ inl (e, h)
             | inr h ↦ inr (
               y ∷ h.0,
               h.1,
               h.2,
-              record {
-                is = ap (λ zs. y ∷ zs) h.3.is;
-                before = (e, h.3.before);
-                passed =
-                    h.3.passed;
-              },
+              record { is = ap (λ zs. y ∷ zs) h.3.is; before = (e, h.3.before); passed = h.3.passed },
             )
           ]
     ] in
@@ -107,19 +96,18 @@ found_is {X} p (y ∷ xs) x e =
     ] in
     out (p y) refl e
 
-len_none : {X : Type 0} (p : X → Bool) (xs : List X) → AllByRecursion (λ y. p y ≡ false) xs
-    → position_or_len p xs ≡ length xs
-len_none p [] h = refl
-len_none p (y ∷ ys) h = ap (λ b. cond (not b) (1 + position_or_len p ys) 0) h.0 ∙ omega (arith, len_none p ys h.1)
+module _ {X : Type 0} (p : X → Bool) where
+  len_none : (xs : List X) → AllByRecursion (λ y. p y ≡ false) xs → position_or_len p xs ≡ length xs
+  len_none [] h = refl
+  len_none (y ∷ ys) h = ap (λ b. cond (not b) (1 + position_or_len p ys) 0) h.0 ∙ omega (arith, len_none ys h.1)
 
-len_first : {X : Type 0} (p : X → Bool) (front : List X) (x : X) (back : List X)
-    → AllByRecursion (λ y. p y ≡ false) front → p x ≡ true → position_or_len p (front ++ x ∷ back) ≡ length front
-len_first p [] x back h e = ap (λ b. cond (not b) (1 + position_or_len p back) 0) e
-len_first p (y ∷ ys) x back h e = search (arith, len_first p ys x back h.1 e, not)
+  len_first : (front : List X) (x : X) (back : List X)
+      → AllByRecursion (λ y. p y ≡ false) front → p x ≡ true → position_or_len p (front ++ x ∷ back) ≡ length front
+  len_first [] x back h e = ap (λ b. cond (not b) (1 + position_or_len p back) 0) e
+  len_first (y ∷ ys) x back h e = search (arith, len_first ys x back h.1 e, not)
 
-pub position_none : {X : Type 0} (p : X → Bool) (xs : List X) → AllByRecursion (λ y. p y ≡ false) xs
-    → position p xs ≡ None
-position_none p xs h = search (arith, len_none p xs h, le-ltb (length xs) (length xs) (omega arith))
+  pub position_none : (xs : List X) → AllByRecursion (λ y. p y ≡ false) xs → position p xs ≡ None
+  position_none xs h = search (arith, len_none xs h, le-ltb (length xs) (length xs) (omega arith))
 
 pub position_first : {X : Type 0} (p : X → Bool) (front : List X) (x : X) (back : List X)
     → AllByRecursion (λ y. p y ≡ false) front → p x ≡ true → position p (front ++ x ∷ back) ≡ Some (length front)

@@ -26,7 +26,6 @@ pub ended_kind : (s : Shape) (online : Bool) (c : Command) (good : ℕ) (k : Blo
 ended_kind s online c good k h = outcome_kind s _ _ c.order h
 
 -- ---- in a queue
-
 -- a step that ends a command that may wait gives it an end of its kind
 pub given_kind : (k : Block) (d : Drive) (r : Record)
     → (is_sequential r.command.order || is_move r.command.order) ≡ true → IfSome (end_given k d r) IsOfKind

@@ -17,12 +17,11 @@ module _ (rs : List Record) (own : List Target) (ds : List ℕ) (n : ℕ) (r : R
   shown_other (s ∷ order) e =
       (λ i. held_other s (not_here n s order e) i ∷ shown_other order (not_behind n s order e) i)
 
-  pub held_same : n < length rs → n < length own → n < length ds → held_then n
-      ≡ record { item = r; target = a; due = d }
+  pub held_same : n < length rs
+      → n < length own → n < length ds → held_then n ≡ record { item = r; target = a; due = d }
   held_same l m k = search (arith, get_or-set_same)
 
 -- ---- a slot of the order
-
 -- the number of the slot at a place of the order
 pub record IsNumber (order : List ℕ) (place n : ℕ) : Type 0 where
   pub low : n < 64
@@ -31,9 +30,8 @@ pub record IsNumber (order : List ℕ) (place n : ℕ) : Type 0 where
   pub is : n ≡ get_or order place 0
 
 -- as many are shown as there are
-pub long_shown : (rs : List Record) (own : List Target) (ds order : List ℕ) (now : List Slot) → shown rs own ds order
-    ≡ now
-    → length order ≡ length now
+pub long_shown : (rs : List Record) (own : List Target) (ds order : List ℕ) (now : List Slot)
+    → shown rs own ds order ≡ now → length order ≡ length now
 long_shown rs own ds order now view = sym (length-map order (held rs own ds)) ∙ ap length view
 
 -- what a slot holds is what is shown at its place
@@ -42,18 +40,15 @@ pub slot_is : (rs : List Record) (own : List Target) (ds order : List ℕ) (now 
 slot_is rs own ds order now place n view l is = grind (arith, get_or-map, long_shown)
 
 pub number_of : {rs : List Record} {own : List Target} {order seen : List ℕ} {m : Masks} {place n : ℕ} (ds : List ℕ)
-    (now : List Slot)
-    → AreKept rs own order m → shown rs own ds order ≡ now → place < length now → n ≡ get_or seen place 0 → seen ≡ order
-    → IsNumber order place n
+    (now : List Slot) → AreKept rs own order m
+    → shown rs own ds order ≡ now → place < length now → n ≡ get_or seen place 0 → seen ≡ order → IsNumber order place n
 number_of {rs} {own} {order} {seen} {m} {place} {n} ds now kept view inside e same =
     search (arith, long_shown rs own ds order now view, slot_low, slot_has)
 
 -- the record in it
 pub item_at : {rs : List Record} {own : List Target} {order : List ℕ} {m : Masks} {place n : ℕ} (ds : List ℕ)
-    (now : List Slot)
-    (other : Record) → AreKept rs own order m → shown rs own ds order ≡ now → place < length now
-    → IsNumber order place n
-    → get_or rs n other ≡ (slot_at now place).item
+    (now : List Slot) (other : Record) → AreKept rs own order m → shown rs own ds order ≡ now
+    → place < length now → IsNumber order place n → get_or rs n other ≡ (slot_at now place).item
 item_at {rs} {own} {order} {m} {place} {n} ds now other kept view inside h =
     get_or_default rs n other no_record (omega (arith, h.low, kept.records_64))
     ∙ ap (λ (q : Slot). q.item) (slot_is rs own ds order now place n view inside h.is)
@@ -71,44 +66,38 @@ all_shown p f (x ∷ xs) = ap (λ b. p (f x) && b) (all_shown p f xs)
 
 -- no slot in front keeps one back
 pub unfenced_at : {rs : List Record} {own : List Target} {order : List ℕ} {m : Masks} {place n : ℕ} (ds : List ℕ)
-    (now : List Slot)
-    → AreKept rs own order m → shown rs own ds order ≡ now → place < length now → IsNumber order place n
-    → slice_index_or m.earlier n 0 < 2 ^ 64
-    → nat_eq (fences m n (kind_at rs own n).drive (kind_at rs own n).sequential) 0
-    ≡ is_unfenced (slot_at now place) (take place now)
+    (now : List Slot) → AreKept rs own order m → shown rs own ds order ≡ now
+    → place < length now → IsNumber order place n → slice_index_or m.earlier n 0 < 2 ^ 64 → nat_eq (fences m
+    n (kind_at rs own n).drive (kind_at rs own n).sequential) 0 ≡ is_unfenced (slot_at now place) (take place now)
 unfenced_at {rs} {own} {order} {m} {place} {n} ds now kept view inside h small =
     let kinds = kind_at rs own in
     let front = take place order in
-    free_tells kinds front n (drop (place + 1) order) m
-    (subst (λ o. AreMasks kinds o m) (cut_order order place n h) kept.masks) small
-    ∙ (sym (all_shown (λ z. not (keeps_back (kind_of z) (kinds n))) (held rs own ds) front)
-    ∙ (ap (λ zs. list_all (λ z. not (keeps_back (kind_of z) (kinds n))) zs)
-    (sym (take-map (held rs own ds) place order) ∙ ap (take place) view)
-    ∙ ap (λ s. is_unfenced s (take place now)) (slot_is rs own ds order now place n view inside h.is)))
+    free_tells kinds
+    front n (drop (place + 1) order) m (subst (λ o. AreMasks kinds o m) (cut_order order place n h) kept.masks) small
+    ∙ (sym (all_shown (λ z. not (keeps_back (kind_of z) (kinds n))) (held rs own ds) front) ∙ (ap (λ zs. list_all
+    (λ z. not (keeps_back (kind_of z) (kinds n))) zs) (sym (take-map (held rs own ds) place order) ∙ ap (take place)
+    view) ∙ ap (λ s. is_unfenced s (take place now)) (slot_is rs own ds order now place n view inside h.is)))
 
 -- ---- the command at a place leaves
-
 has_middle : (k n : ℕ) (front back : List ℕ) → has k (front ++ back) ≡ true → has k (front ++ n ∷ back) ≡ true
 has_middle k n [] back e = search (arith, nat_eq k n)
 has_middle k n (x ∷ front) back e = search (arith, nat_eq k x, has_middle k n front back)
 
 pub kept_left : {rs : List Record} {own : List Target} {order new : List ℕ} {m m' : Masks} {place n : ℕ}
-    → AreKept rs own order m → IsNumber order place n → HasLeft n (kind_at rs own n).drive m m'
-    → new ≡ remove order place
-    → AreKept rs own new m'
+    → AreKept rs own order m → IsNumber order place n
+    → HasLeft n (kind_at rs own n).drive m m' → new ≡ remove order place → AreKept rs own new m'
 kept_left {rs} {own} {order} {new} {m} {m'} {place} {n} kept h left e =
     let front = take place order in
     let back = drop (place + 1) order in
     let next : suc place ≡ place + 1 = omega arith in
     let is : new ≡ front ++ back = e ∙ ap (λ k. front ++ drop k order) next in
     let cut = cut_order order place n h in
-    subst (λ o. AreKept rs own o m') (sym is)
-    (record {
+    subst (λ o. AreKept rs own o m') (sym is) (record {
       records_64 = kept.records_64;
       targets_64 = kept.targets_64;
       drives = λ k there. kept.drives k (ap (has k) cut ∙ has_middle k n front back there);
-      masks = masks_left (kind_at rs own) front back m m' n
-          (subst (λ o. AreMasks (kind_at rs own) o m) cut kept.masks) h.low left;
+      masks = masks_left
+          (kind_at rs own) front back m m' n (subst (λ o. AreMasks (kind_at rs own) o m) cut kept.masks) h.low left;
     })
 
 pub shown_left : {X Y : Type 0} (f : X → Y) (order new : List X) (now : List Y) (place : ℕ) → map f order ≡ now
@@ -116,30 +105,27 @@ pub shown_left : {X Y : Type 0} (f : X → Y) (order new : List X) (now : List Y
 shown_left f order new now place view e = grind (arith, map-append, take-map, drop-map)
 
 -- ---- a command comes
-
 pub serves_if : (n : ℕ) → not (nat_eq n 0) ≡ nat_lt 0 n
 serves_if n = grind (arith, not, nat_eq, eq-eqb, le-ltb, ne_eqb, lt-ltb)
 
 pub kept_pushed : {rs : List Record} {own : List Target} {order new : List ℕ} {m m' : Masks} {n drive : ℕ}
-    {sequential serving : Bool}
-    (r : Record) (a : Target) → AreKept rs own order m → IsLowestFree m.waiting n → a.drive < 16 → drive ≡ a.drive
-    → sequential ≡ is_sequential r.command.order → serving ≡ is_in_service r
+    {sequential serving : Bool} (r : Record) (a : Target) → AreKept rs own order m → IsLowestFree m.waiting n
+    → a.drive < 16 → drive ≡ a.drive → sequential ≡ is_sequential r.command.order → serving ≡ is_in_service r
     → HasCome n drive sequential serving m m' → new ≡ order ++ n ∷ [] → AreKept (set rs n r) (set own n a) new m'
-kept_pushed {rs} {own} {order} {new} {m} {m'} {n} {drive} {sequential}
-    {serving} r a kept free few is_drive ordered served comes e =
+kept_pushed {rs}
+    {own} {order} {new} {m} {m'} {n} {drive} {sequential} {serving} r a kept free few is_drive ordered served comes e =
     let rs' = set rs n r in
     let own' = set own n a in
     let kinds = kind_at rs own in
     let kinds' = kind_at rs' own' in
     let low = free.low in
     let item : get_or rs' n no_record ≡ r = get_or-set_same rs n r no_record (omega (arith, low, kept.records_64)) in
-    let target : get_or own' n no_target ≡ a = get_or-set_same own n a no_target
-    (omega (arith, low, kept.targets_64)) in
+    let target : get_or own' n no_target
+    ≡ a = get_or-set_same own n a no_target (omega (arith, low, kept.targets_64)) in
     let none : has n order ≡ false = off_bit (has n order) (sym (kept.masks.of_waiting n low) ∙ free.free) in
     let others : (k : ℕ) → k ≢ n → kinds' k ≡ kinds k = search (arith, get_or-set_other) in
     let came : HasCome n (kinds' n).drive (kinds' n).sequential (kinds' n).serving m m' = search arith in
-    subst (λ o. AreKept rs' own' o m') (sym e)
-    (record {
+    subst (λ o. AreKept rs' own' o m') (sym e) (record {
       records_64 = length-set rs n r ∙ kept.records_64;
       targets_64 = length-set own n a ∙ kept.targets_64;
       drives = λ k there. by k (subst (λ (q : Target). q.drive < 16) (sym target) few) (same_or k n) there;
@@ -160,7 +146,6 @@ shown_pushed {rs} {own} {order} {new} {m} {n} ds now s kept long free view e =
     search (arith, off_bit, map-append, shown_other, held_same)
 
 -- ---- one slot changes
-
 -- where one slot holds something else, so does its place
 pub set_at_number : {X : Type 0} (f f' : ℕ → X) (order : List ℕ) (place : ℕ) → AreSlots order → place < length order
     → ((k : ℕ) → k ≢ get_or order place 0 → f' k ≡ f k)
@@ -175,35 +160,32 @@ set_at_number f f' (s ∷ order) (suc place) a l same =
     search (arith, slot_has order place (omega (arith, l)), set_at_number f f' order place a.2 (omega (arith, l)) same)
 
 -- a record is changed in its slot
-pub item_set : {rs : List Record} {own : List Target} {order : List ℕ} {m : Masks} {place n : ℕ} {r : Record}
-    (ds : List ℕ)
-    (now : List Slot) (f : Record → Record) (other : Record) → AreKept rs own order m → shown rs own ds order ≡ now
-    → place < length now → IsNumber order place n → r ≡ f (get_or rs n other)
-    → shown (set rs n r) own ds order ≡ set now place (with_item f (slot_at now place))
+pub item_set : {rs : List Record} {own : List Target} {order : List ℕ}
+    {m : Masks} {place n : ℕ} {r : Record} (ds : List ℕ) (now : List Slot) (f : Record → Record) (other : Record)
+    → AreKept rs own order m → shown rs own ds order ≡ now → place < length now → IsNumber order place n
+    → r ≡ f (get_or rs n other) → shown (set rs n r) own ds order ≡ set now place (with_item f (slot_at now place))
 item_set {rs} {own} {order} {m} {place} {n} {r} ds now f other kept view inside h e =
     let g = held (set rs n r) own ds in
     let same : (k : ℕ) → k ≢ get_or order place 0 → g k ≡ held rs own ds k = search (arith, get_or-set_other) in
     let there : g n ≡ with_item f (held rs own ds n) = λ i. record {
-      item = (get_or-set_same rs n r no_record (omega (arith, h.low, kept.records_64)) ∙ e
-          ∙ ap f (get_or_default rs n other no_record (omega (arith, h.low, kept.records_64)))) i;
+      item = (get_or-set_same rs n r no_record (omega (arith, h.low, kept.records_64))
+          ∙ e ∙ ap f (get_or_default rs n other no_record (omega (arith, h.low, kept.records_64)))) i;
       target = get_or own n no_target;
       due = get_or ds n 0;
     } in
-    set_at_number (held rs own ds) g order place kept.masks.apart h.inside same
-    ∙ ((λ i. set (view i) place (g (sym h.is i)))
-    ∙ ap (λ s. set now place s) (there ∙ ap (with_item f) (slot_is rs own ds order now place n view inside h.is)))
+    set_at_number (held rs own ds) g order place kept.masks.apart h.inside same ∙ ((λ i. set (view i) place (g (sym h.is
+    i))) ∙ ap (λ s. set now place s) (there ∙ ap (with_item f) (slot_is rs own ds order now place n view inside h.is)))
 
 pub due_set : {rs : List Record} {own : List Target} {order : List ℕ} {m : Masks} {place n : ℕ} (ds : List ℕ)
-    (now : List Slot) (due : ℕ) → AreKept rs own order m → length ds ≡ 64 → shown rs own ds order ≡ now
-    → place < length now → IsNumber order place n
-    → shown rs own (set ds n due) order ≡ set now place (with_due due (slot_at now place))
+    (now : List Slot) (due : ℕ)
+    → AreKept rs own order m → length ds ≡ 64 → shown rs own ds order ≡ now → place < length now
+    → IsNumber order place n → shown rs own (set ds n due) order ≡ set now place (with_due due (slot_at now place))
 due_set {rs} {own} {order} {m} {place} {n} ds now due kept long view inside h =
     let g = held rs own (set ds n due) in
     let same : (k : ℕ) → k ≢ get_or order place 0 → g k ≡ held rs own ds k = search (arith, get_or-set_other) in
     let there : g n ≡ with_due due (held rs own ds n) = search (arith, get_or-set_same) in
-    set_at_number (held rs own ds) g order place kept.masks.apart h.inside same
-    ∙ ((λ i. set (view i) place (g (sym h.is i)))
-    ∙ ap (λ s. set now place s) (there ∙ ap (with_due due) (slot_is rs own ds order now place n view inside h.is)))
+    set_at_number (held rs own ds) g order place kept.masks.apart h.inside same ∙ ((λ i. set (view i) place (g (sym h.is
+    i))) ∙ ap (λ s. set now place s) (there ∙ ap (with_due due) (slot_is rs own ds order now place n view inside h.is)))
 
 -- the masks stay those of the slots where a record keeps its kind, and where its command is in service from now on
 pub kept_passed : {rs : List Record} {own : List Target} {order : List ℕ} {m : Masks} {n : ℕ} {r : Record} (charge : ℕ)
@@ -219,17 +201,15 @@ pub serves_since : {rs : List Record} {own : List Target} {order : List ℕ} {m 
 serves_since {rs} {own} {order} {m} {n} other kept low there since = grind (arith, get_or_default, eqb-false, lt-ltb)
 
 pub kept_advanced : {rs : List Record} {own : List Target} {order : List ℕ} {m m' : Masks} {n : ℕ} {r : Record}
-    (other : Record)
-    → AreKept rs own order m → n < 64 → has n order ≡ true → r ≡ advanced (get_or rs n other)
+    (other : Record) → AreKept rs own order m → n < 64 → has n order ≡ true → r ≡ advanced (get_or rs n other)
     → m' ≡ record m { serving = m'.serving } → IsSet true n m.serving m'.serving → AreKept (set rs n r) own order m'
 kept_advanced {rs} {own} {order} {m} {m'} {n} {r} other kept low there e same set_on =
-    let is : get_or (set rs n r) n no_record ≡ advanced (get_or rs n no_record) =
-    get_or-set_same rs n r no_record (omega (arith, low, kept.records_64)) ∙ e
-    ∙ ap advanced (get_or_default rs n other no_record (omega (arith, low, kept.records_64))) in
-    let serves : is_in_service (get_or (set rs n r) n no_record) ≡ true =
-    ap (λ (q : Record). is_in_service q) is ∙ lt-ltb 0 ((get_or rs n no_record).done + 1) (omega arith) in
-    subst (λ q. AreKept (set rs n r) own order q) (sym same)
-    (record {
+    let is : get_or (set rs n r) n no_record
+    ≡ advanced (get_or rs n no_record) = get_or-set_same rs n r no_record (omega (arith, low, kept.records_64))
+    ∙ e ∙ ap advanced (get_or_default rs n other no_record (omega (arith, low, kept.records_64))) in
+    let serves : is_in_service (get_or (set rs n r) n no_record) ≡ true = ap (λ (q : Record). is_in_service q) is
+    ∙ lt-ltb 0 ((get_or rs n no_record).done + 1) (omega arith) in
+    subst (λ q. AreKept (set rs n r) own order q) (sym same) (record {
       records_64 = length-set rs n r ∙ kept.records_64;
       targets_64 = kept.targets_64;
       drives = kept.drives;

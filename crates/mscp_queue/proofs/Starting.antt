@@ -1,13 +1,8 @@
 -- The places that may start, found one after the other.
-use Rattle.mscp_queue.proofs.Common.{append-nil, ◌≡◌, ◌⊎◌, inl, inr, ℕ, zero, suc, ◌+◌, ◌-◌, ◌<◌, ◌≤◌, Bool, true, false, cond, not, ◌&&◌, List, [], ◌∷◌, ◌++◌, map, take, get_or, length, refl, ap, sym, ◌∙◌, arith, All, filter, nat_eq, nat_le, AllByRecursion, list_all, range_with_len, eq-eqb, le-leb, leb-true, lt-leb, true≢false, get_or-map, get_or-drop, get_or-take, length-append, length-drop, length-map, length-take-le, map-append, take-map, All-from_recursion, All-take, filter-append, recursion_from_All, Shape, one_block, Target, Drive, Choice, target_of, targets_of, no_target, unit_place, fresh_drive, ArePassedInOrder, CanBeShown, IsShut, is_known, units_of, Kind, keeps_back, is_sequential, Record, drive_at, is_in_service, no_record, record_at, is_unfenced_at, kinds_of, no_kind, choice_of, choices_at, is_affordable, is_free, is_open_at, open_places}
+use Rattle.mscp_queue.proofs.Basics.{append-nil, ◌≡◌, ◌⊎◌, inl, inr, ℕ, zero, suc, ◌+◌, ◌-◌, ◌<◌, ◌≤◌, Bool, true, false, cond, not, ◌&&◌, List, [], ◌∷◌, ◌++◌, map, take, get_or, length, refl, ap, sym, ◌∙◌, arith, All, filter, nat_eq, nat_le, AllByRecursion, list_all, range_with_len, eq-eqb, le-leb, leb-true, lt-leb, true≢false, get_or-map, get_or-drop, get_or-take, length-append, length-drop, length-map, length-take-le, map-append, take-map, All-from_recursion, All-take, filter-append, recursion_from_All, Shape, one_block, Target, Drive, Choice, target_of, targets_of, no_target, unit_place, fresh_drive, ArePassedInOrder, CanBeShown, IsShut, is_known, units_of, Kind, keeps_back, is_sequential, Record, drive_at, is_in_service, no_record, record_at, is_unfenced_at, kinds_of, no_kind, choice_of, choices_at, is_affordable, is_free, is_open_at, open_places, place_same, apart_by_place, every_kept, every_weaker, range_below, range_more, all_shown}
 use Rattle.mscp_queue.specs.Views.{fences}
-use Rattle.mscp_queue.proofs.Targets.{place_same}
-use Rattle.mscp_queue.proofs.Drives.{apart_by_place}
-use Rattle.mscp_queue.proofs.Lists.{every_kept, every_weaker, range_below, range_more}
-use Rattle.mscp_queue.proofs.Shown.{all_shown}
 
 -- ---- who is free
-
 all_on : {X : Type 0} (p q : X → Bool) (xs : List X) → AllByRecursion (λ x. p x ≡ q x) xs
     → list_all p xs ≡ list_all q xs
 all_on p q [] h = refl
@@ -31,26 +26,22 @@ same_unit ds a b h k =
     search (arith, place_same ds a, place_same ds b, apart_by_place ds (fresh_drive one_block) a b h k)
 
 pub free_is : (ds : List Drive) (rs : List Record) (own : List Target) (place : ℕ) → CanBeShown ds rs own
-    → place < length rs
-    → is_unfenced_at (kinds_of rs own) place ≡ is_free (record_at rs place) (take place rs)
+    → place < length rs → is_unfenced_at (kinds_of rs own) place ≡ is_free (record_at rs place) (take place rs)
 free_is ds rs own place h l =
     let us = units_of ds in
     let k = kind_in us in
     let r = record_at rs place in
-    let kinds = ap (kinds_of rs) h.targeted ∙ kinds_targeted us rs in
     let Known : Record → Type 0 = λ z. is_known us z.command.unit ≡ true in
     let known : All Known rs = λ i other m. (h.inside i other m).0 in
-    let same : (z : Record) → Known z → not (keeps_back (k z) (k r)) ≡ not (fences r z) =
-    search (arith, not, same_unit) in
-    ap (λ ks. is_unfenced_at ks place) kinds
+    let same : (z : Record)
+    → Known z → not (keeps_back (k z) (k r)) ≡ not (fences r z) = search (arith, not, same_unit) in
+    ap (λ ks. is_unfenced_at ks place) (ap (kinds_of rs) h.targeted ∙ kinds_targeted us rs)
     ∙ ((λ i. list_all (λ z. not (keeps_back z (get_or-map k rs place no_record no_kind l i))) (take-map k place rs i))
-    ∙ (all_shown (λ z. not (keeps_back z (k r))) k (take place rs)
-    ∙ all_on (λ z. not (keeps_back (k z) (k r))) (λ z. not (fences r z)) (take place rs)
-    (every_weaker Known (λ z. not (keeps_back (k z) (k r)) ≡ not (fences r z)) same (take place rs)
-    (recursion_from_All Known (take place rs) (All-take Known place rs known)))))
+    ∙ (all_shown (λ z. not (keeps_back z (k r))) k (take place rs) ∙ all_on (λ z. not (keeps_back (k z) (k r)))
+    (λ z. not (fences r z)) (take place rs) (every_weaker Known (λ z. not (keeps_back (k z) (k r)) ≡ not (fences r z))
+    same (take place rs) (recursion_from_All Known (take place rs) (All-take Known place rs known)))))
 
 -- ---- the oldest tells for all who keeps within the budget
-
 affords : (budget w top : ℕ) (rs : List Record) → AllByRecursion (λ z. z.passed ≤ top) rs → top + w ≤ budget
     → list_all (λ z. nat_le (z.passed + w) budget) rs ≡ true
 affords budget w top [] h l = refl
@@ -92,7 +83,6 @@ oldest_affords budget unspent r (q ∷ qs) (suc k) o p l e = by (nat_le r.weight
 oldest_affords budget unspent r rs place h5 h6 h7 h8 = grind arith
 
 -- ---- places found one by one
-
 -- what is known up to a place: which may start, and what a picker sees of those
 pub record Looks (budget : ℕ) (ds : List Drive) (rs : List Record) (place : ℕ) (places : List ℕ)
     (choices : List Choice) :
@@ -106,9 +96,8 @@ appended : (places : List ℕ) (place : ℕ) (b : Bool) → length (places ++ co
 appended places place b = grind (arith, length-append, append-nil)
 
 pub looks_more : {budget : ℕ} {ds : List Drive} {rs : List Record} {place : ℕ} {places places' : List ℕ}
-    {choices choices' : List Choice} (b : Bool) → b ≡ is_open_at budget rs place
-    → places' ≡ places ++ cond b (place ∷ []) []
-    → choices' ≡ choices ++ cond b (choice_of (drive_at ds rs place) (record_at rs place) ∷ []) []
+    {choices choices' : List Choice} (b : Bool) → b ≡ is_open_at budget rs place → places' ≡ places ++ cond
+    b (place ∷ []) [] → choices' ≡ choices ++ cond b (choice_of (drive_at ds rs place) (record_at rs place) ∷ []) []
     → Looks budget ds rs place places choices → Looks budget ds rs (place + 1) places' choices'
 looks_more {budget} {ds} {rs} {place} {places} {places'} {choices} {choices'} b is put shown h =
     search (arith, filter-append, range_more, appended, map-append, append-nil)
@@ -118,16 +107,14 @@ pub looks_none : (budget : ℕ) (ds : List Drive) (rs : List Record) (places : L
 looks_none budget ds rs places choices n s = search arith
 
 -- ---- nobody behind may start
-
 one_shut : {X : Type 0} (p : X → Bool) (xs : List X) (k : ℕ) (d : X) → k < length xs → p (get_or xs k d) ≡ false
     → list_all p xs ≡ false
 one_shut p (x ∷ xs) (suc k) d l e = search (arith, one_shut p xs k d (omega (arith, l)) e)
 one_shut p xs k d h4 h5 = search arith
 
 pub shut_is : (budget unspent : ℕ) (ds : List Drive) (rs : List Record) (own : List Target) (place : ℕ)
-    → CanBeShown ds rs own
-    → ArePassedInOrder rs → unspent + (record_at rs 0).passed ≡ budget → place < length rs → IsShut rs own place unspent
-    → (q : ℕ) → place < q → q < length rs → is_open_at budget rs q ≡ false
+    → CanBeShown ds rs own → ArePassedInOrder rs → unspent + (record_at rs 0).passed ≡ budget → place < length rs
+    → IsShut rs own place unspent → (q : ℕ) → place < q → q < length rs → is_open_at budget rs q ≡ false
 shut_is budget unspent ds rs own place h o e l (inl spent) q p m =
     let r = record_at rs q in
     let some = (h.weighs q no_record m).0 in
@@ -164,27 +151,22 @@ found_on test n zero h = ap (λ m. filter test (range_with_len 0 m)) (omega arit
 found_on test n (suc k) h =
     let one : n + 1 + k ≡ n + suc k = omega arith in
     let here : filter test (n ∷ []) ≡ [] = ap (λ b. cond b (n ∷ []) []) (h n (omega arith) (omega arith)) in
-    sym (append-nil (filter test (range_with_len 0 n)))
-    ∙ (ap (λ ps. filter test (range_with_len 0 n) ++ ps) (sym here)
-    ∙ (sym (filter-append test (range_with_len 0 n) (n ∷ [])) ∙ (ap (filter test) (sym (range_more n))
-    ∙ (found_on test (n + 1) k (λ q a b. h q (omega (arith, a)) (omega (arith, b)))
-    ∙ ap (λ m. filter test (range_with_len 0 m)) one))))
+    sym (append-nil (filter test (range_with_len 0 n))) ∙ (ap (λ ps. filter test (range_with_len 0 n) ++ ps) (sym here)
+    ∙ (sym (filter-append test (range_with_len 0 n) (n ∷ [])) ∙ (ap (filter test) (sym (range_more n)) ∙ (found_on test
+    (n + 1) k (λ q a b. h q (omega (arith, a)) (omega (arith, b))) ∙ ap (λ m. filter test (range_with_len 0 m)) one))))
 
 pub found_all : {budget : ℕ} {ds : List Drive} {rs : List Record} {place : ℕ} {places : List ℕ} {choices : List Choice}
     → Looks budget ds rs (place + 1) places choices → place < length rs
     → ((q : ℕ) → place < q → q < length rs → is_open_at budget rs q ≡ false) → places ≡ open_places budget rs
 found_all {budget} {ds} {rs} {place} {places} {choices} h l shut =
-    let k = length rs - (place + 1) in
-    let n : place + 1 + k ≡ length rs = omega (arith, l) in
+    let n : place + 1 + (length rs - (place + 1)) ≡ length rs = omega (arith, l) in
     search (arith, found_on)
 
 -- the places that may start are places
 pub places_inside : (budget : ℕ) (rs : List Record) → All (λ place. place < length rs) (open_places budget rs)
-places_inside budget rs =
-    All-from_recursion (λ k. k < length rs) (open_places budget rs)
-    (every_kept (λ k. k < length rs) (is_open_at budget rs) (range_with_len 0 (length rs))
-    (every_weaker (λ k. (0 ≤ k) × (k < 0 + length rs)) (λ k. k < length rs) (λ k h. omega arith)
-    (range_with_len 0 (length rs)) (range_below 0 (length rs))))
+places_inside budget rs = All-from_recursion (λ k. k < length rs) (open_places budget rs) (every_kept (λ k. k
+    < length rs) (is_open_at budget rs) (range_with_len 0 (length rs)) (every_weaker (λ k. (0 ≤ k) × (k < 0 + length
+    rs)) (λ k. k < length rs) (λ k h. omega arith) (range_with_len 0 (length rs)) (range_below 0 (length rs))))
 
 -- where something waits, something may start: the oldest may
 pub some_place : (budget : ℕ) (rs : List Record) → 0 < length rs → 0 < length (open_places budget rs)

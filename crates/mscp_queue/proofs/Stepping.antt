@@ -1,11 +1,6 @@
 -- A step of the record at a place, as it is planned and written.
-use Rattle.mscp_queue.proofs.Common.{◌≡◌, ℕ, ◌+◌, ◌<◌, Bool, true, cond, List, [], ◌∷◌, ◌++◌, map, take, drop, set, get_or, length, refl, ap, sym, ◌∙◌, subst, arith, is_some, Option, Some, refill, length-set, Order, Block, Drive, Name, Plan, Choice, IsOnUnit, IsHeld, AreCandidates, Line, IsSet, Record, advanced, drive_at, no_record, passed_by, record_at, step_charge, IsNext, IsServable, drive_after, plan_of, state_left, touched}
-use Rattle.mscp_queue.proofs.Targets.{cylinder_within, place_same}
-use Rattle.mscp_queue.proofs.Drives.{known_at, set_replaced}
-use Rattle.mscp_queue.proofs.CandidateLists.{candidates_served}
-use Rattle.mscp_queue.proofs.Mapped.{refilled}
+use Rattle.mscp_queue.proofs.Basics.{◌≡◌, ℕ, ◌+◌, ◌<◌, Bool, true, cond, List, [], ◌∷◌, ◌++◌, map, take, drop, set, get_or, length, refl, ap, sym, ◌∙◌, subst, arith, is_some, Option, Some, refill, length-set, Order, Block, Drive, Name, Plan, Choice, IsOnUnit, IsHeld, AreCandidates, Line, IsSet, Record, advanced, drive_at, no_record, passed_by, record_at, step_charge, IsNext, IsServable, drive_after, plan_of, state_left, touched, cylinder_within, place_same, known_at, set_replaced, candidates_served, refilled, StepMade, head_kept, touched_inside, units_step}
 use Rattle.mscp_queue.proofs.Ready.{IsDriveOf}
-use Rattle.mscp_queue.proofs.Turns.{StepMade, head_kept, touched_inside, units_step}
 
 -- the record at a place may be served next
 abbrev pub NextIn : {K : Type 0} → (K → List Choice → ℕ → Type 0) → Line K → ℕ → Type 0
@@ -55,17 +50,14 @@ step_made {room} {budget} {longest} {place} {at} {rs} {new} {ds} {ls} {begun} {s
     }
 
 -- and what a picker would see is kept
-pub listed_step : {room budget longest place at dirty dirty' : ℕ} {rs new : List Record} {ds ds' : List Drive}
-    {begun : Option Name} {serving ends : Bool} {k : Block} {cs cs' : List Choice}
+pub listed_step : {room budget longest place at dirty dirty' : ℕ} {rs new : List Record}
+    {ds ds' : List Drive} {begun : Option Name} {serving ends : Bool} {k : Block} {cs cs' : List Choice}
     → IsHeld room budget longest rs ds begun serving → IsServable budget rs place → IsDriveOf ds rs place at
     → StepMade k place rs new ds ds' ends → AreCandidates dirty ds rs cs → IsSet true at dirty dirty'
     → cs' ≡ cond ends (take place cs ++ drop (place + 1) cs) cs → AreCandidates dirty' ds' new cs'
 listed_step {place = place} {at = at} {rs = rs} {ds = ds} {ends = ends} held servable found m listed dirty view =
     let number = (record_at rs place).command.unit in
-    let d = drive_at ds rs place in
-    let there = known_at ds number d (held.each place no_record servable.inside).waitable.known in
-    candidates_served at number (step_charge (record_at rs place)) m.d' ends listed held.units.few dirty
-    (found.placed ∙ place_same ds number)
-    (ap (λ (z : Drive). z.unit.number) m.after
-    ∙ (ap (λ (z : Drive). z.unit.number) (sym there.drive) ∙ there.number))
-    m.drives (units_step m held.units) servable.inside m.records view
+    let there = known_at ds number (drive_at ds rs place) (held.each place no_record servable.inside).waitable.known in
+    candidates_served at number (step_charge (record_at rs place)) m.d' ends listed held.units.few
+    dirty (found.placed ∙ place_same ds number) (ap (λ (z : Drive). z.unit.number) m.after ∙ (ap (λ (z : Drive).
+    z.unit.number) (sym there.drive) ∙ there.number)) m.drives (units_step m held.units) servable.inside m.records view

@@ -41,18 +41,15 @@ serving_less [] = omega arith
 serving_less (r ∷ rs) = serving_when r rs (serving_less rs) (is_in_service r)
 
 -- the figure of a command that isn't in service is at most what is left of all, and the budget
-sum_bounded : (rs : List Record) (place : ℕ) → place < length rs
-    → sum_by left_of (take place rs) + sum_by left_of (filter is_in_service (drop (place + 1) rs))
-    + left_of (record_at rs place) ≤ sum_by left_of rs
-sum_bounded rs place l =
-    search (
-      arith,
-      cut_at no_record rs place l,
-      sum_by-append left_of (take place rs) (record_at rs place ∷ drop (place
-          + 1) rs),
-      sum_by-cons left_of (record_at rs place) (drop (place + 1) rs),
-      serving_less (drop (place + 1) rs),
-    )
+sum_bounded : (rs : List Record) (place : ℕ) → place < length rs → sum_by left_of (take place rs) + sum_by
+    left_of (filter is_in_service (drop (place + 1) rs)) + left_of (record_at rs place) ≤ sum_by left_of rs
+sum_bounded rs place l = search (
+  arith,
+  cut_at no_record rs place l,
+  sum_by-append left_of (take place rs) (record_at rs place ∷ drop (place + 1) rs),
+  sum_by-cons left_of (record_at rs place) (drop (place + 1) rs),
+  serving_less (drop (place + 1) rs),
+)
 
 -- whether it is in service or not
 pub figure_small : (budget : ℕ) (rs : List Record) (place : ℕ) → sum_by left_of rs + budget < 2 ^ 32 → place < length rs
@@ -60,13 +57,11 @@ pub figure_small : (budget : ℕ) (rs : List Record) (place : ℕ) → sum_by le
 figure_small budget rs place small l = search (arith, sum_bounded rs place l)
 
 -- ---- a look
-
 entry_at : ℕ → List Record → ℕ → (Connection × ℕ × ℕ)
 entry_at budget rs place = looked_at (record_at rs place) (figure_at budget rs place)
 
 -- the figures of one more place
-pub figures_more : (budget : ℕ) (rs : List Record) (n : ℕ)
-    → figures_from budget rs (range_with_len 0 (n + 1)) ≡ figures_from budget rs (range_with_len 0 n)
-    ++ looked_at (record_at rs n) (figure_at budget rs n) ∷ []
+pub figures_more : (budget : ℕ) (rs : List Record) (n : ℕ) → figures_from budget rs (range_with_len 0 (n + 1))
+    ≡ figures_from budget rs (range_with_len 0 n) ++ looked_at (record_at rs n) (figure_at budget rs n) ∷ []
 unfolding entry_at
 figures_more budget rs n = map-range_with_len_more {X = Connection × ℕ × ℕ} (entry_at budget rs) 0 n n (omega arith)

@@ -10,10 +10,9 @@ front_affordable : (budget : ℕ) (rs : List Record) (place : ℕ) → is_open_a
 front_affordable budget rs place h =
     let r = record_at rs place in
     let p = and_parts (is_free r (take place rs)) (is_affordable budget r (take place rs)) h in
-    search (arith, r, p, every_weaker, leb-true, every_of)
+    search (arith, p, every_weaker, leb-true, every_of)
 
 -- ---- the turn
-
 last_of : (a b c : Bool) → (a && b && c) ≡ true → c ≡ true
 last_of a b c h3 = grind (arith, false≢true)
 
@@ -21,11 +20,10 @@ more_left : (k : Block) (d : Drive) (r : Record) (e : Option End) → end_given 
     → IsLeft r (cond (is_some e) [] (advanced r ∷ []))
 more_left k d r e h4 = grind (arith, true≢false, ltb-true, last_of)
 
-pub next_turn : (room budget longest place : ℕ) (rs : List Record) (ds : List Drive) (begun : Option Name)
-    (serving : Bool) (k : Block) (d : Drive) → IsHeld room budget longest rs ds begun serving
-    → IsServable budget rs place
-    → IsTurn budget (step_charge (record_at rs place)) (take place rs) (record_at rs place) (drop (place + 1) rs)
-    (cond (is_some (end_given k d (record_at rs place))) [] (advanced (record_at rs place) ∷ []))
+pub next_turn : (room budget longest place : ℕ) (rs : List Record) (ds : List Drive)
+    (begun : Option Name) (serving : Bool) (k : Block) (d : Drive) → IsHeld room budget longest rs ds begun serving
+    → IsServable budget rs place → IsTurn budget (step_charge (record_at rs place)) (take place rs) (record_at rs place)
+    (drop (place + 1) rs) (cond (is_some (end_given k d (record_at rs place))) [] (advanced (record_at rs place) ∷ []))
 next_turn room budget longest place rs ds begun serving k d h n =
     let r = record_at rs place in
     let A = take place rs in
@@ -63,7 +61,6 @@ next_turn room budget longest place rs ds begun serving k d h n =
     both (is_unstarted r) refl
 
 -- ---- its drive
-
 -- the unit has the lower number
 abbrev pub Lower : Shape → Shape → Type 0
 Lower a b = a.number < b.number
@@ -71,9 +68,8 @@ Lower a b = a.number < b.number
 pub pairs_rise : (us : List Shape) → NumbersRise us → Pairs Lower us
 pairs_rise (s ∷ x ∷ xs) r =
     let more : (i : ℕ) → suc i + 1 ≡ suc (i + 1) = λ i. omega arith in
-    let rest = pairs_rise (x ∷ xs) (λ i other h. subst
-    (λ j. (slice_index_or (x ∷ xs) i other).number < (slice_index_or (s ∷ x ∷ xs) j other).number) (more i)
-    (r (suc i) other (omega (arith, h)))) in
+    let rest = pairs_rise (x ∷ xs) (λ i other h. subst (λ j. (slice_index_or (x ∷ xs) i other).number
+    < (slice_index_or (s ∷ x ∷ xs) j other).number) (more i) (r (suc i) other (omega (arith, h)))) in
     let first : s.number < x.number = r 0 s (omega arith) in
     ((first, every_weaker (Lower x) (Lower s) (λ y h. omega (arith, first, h)) xs rest.0), rest)
 pairs_rise us h1 = grind arith
@@ -81,14 +77,12 @@ pairs_rise us h1 = grind arith
 found_among : (A B : List Shape) → Pairs Lower (A ++ B) → AllByRecursion (λ s. unit_found (A ++ B) s.number ≡ Some s) B
 found_among A [] p = tt
 found_among A (s ∷ B) p =
-    let low = pairs_middle Lower A s B p in
     let more = append_assoc A (s ∷ []) B in (
-      find_first (λ (x : Shape). nat_eq x.number s.number) A s B
-          (every_weaker (λ x. Lower x s) (λ x. nat_eq x.number s.number ≡ false)
-          (λ x h. ne_eqb x.number s.number (λ e. absurd (omega (arith, h, e)))) A low.0)
-          (eq-eqb s.number s.number refl),
-      subst (λ l. AllByRecursion (λ (x : Shape). unit_found l x.number ≡ Some x) B) more
-          (found_among (A ++ s ∷ []) B (subst (Pairs Lower) (sym more) p)),
+      find_first (λ (x : Shape). nat_eq x.number s.number)
+          A s B (every_weaker (λ x. Lower x s) (λ x. nat_eq x.number s.number ≡ false) (λ x h. ne_eqb x.number s.number
+          (λ e. absurd (omega (arith, h, e)))) A (pairs_middle Lower A s B p).0) (eq-eqb s.number s.number refl),
+      subst (λ l. AllByRecursion (λ (x : Shape). unit_found l x.number ≡ Some x) B)
+          more (found_among (A ++ s ∷ []) B (subst (Pairs Lower) (sym more) p)),
     )
 
 -- each unit of a list of units is found by its number
@@ -101,18 +95,16 @@ found_unit n [] = refl
 found_unit n (d ∷ ds) = search (arith, found_unit n ds)
 
 -- a drive of the number has the unit of the drive that is found
-pub units_same : (n : ℕ) (ds : List Drive) → IsUnitList (units_of ds)
-    → AllByRecursion (λ d. has_number n d ≡ true → d.unit ≡ (drive_of ds n).unit) ds
+pub units_same : (n : ℕ) (ds : List Drive)
+    → IsUnitList (units_of ds) → AllByRecursion (λ d. has_number n d ≡ true → d.unit ≡ (drive_of ds n).unit) ds
 units_same n ds l =
     let us = units_of ds in
     every_weaker (λ d. unit_found us d.unit.number ≡ Some d.unit)
     (λ d. has_number n d ≡ true → d.unit ≡ (drive_of ds n).unit)
-    (λ d f e. ap (λ o. unwrap_or o one_block) (sym f ∙ ap (unit_found us) (eqb-true d.unit.number n e))
-    ∙ found_unit n ds) ds
-    (every_mapped (λ (d : Drive). d.unit) (λ s. unit_found us s.number ≡ Some s) ds (units_found us l))
+    (λ d f e. ap (λ o. unwrap_or o one_block) (sym f ∙ ap (unit_found us) (eqb-true d.unit.number n e)) ∙ found_unit
+    n ds) ds (every_mapped (λ (d : Drive). d.unit) (λ s. unit_found us s.number ≡ Some s) ds (units_found us l))
 
 -- ---- its block
-
 some_is : {X : Type 0} (x y : X) → Some x ≡ Some y → x ≡ y
 some_is x y e = ap (λ o. unwrap_or o x) e
 
@@ -122,12 +114,10 @@ inside_of us n o h3 h4 = grind (arith, false≢true)
 
 -- a block that is touched is one of the unit
 pub touched_inside : (budget longest : ℕ) (ds : List Drive) (r : Record) (d : Drive) → d ≡ drive_of ds r.command.unit
-    → IsKept budget longest (units_of ds) r
-    → (lbn : ℕ) → touched d r ≡ Some lbn → lbn < d.unit.size
+    → IsKept budget longest (units_of ds) r → (lbn : ℕ) → touched d r ≡ Some lbn → lbn < d.unit.size
 touched_inside budget longest ds r d e k lbn h = search (arith, found_unit, and_parts, inside_of, some_is, false≢true)
 
 -- ---- the whole step
-
 ended_if : (b : Bool) → not b ≡ false → b ≡ true
 ended_if b h1 = grind (arith, true≢false)
 
@@ -141,40 +131,36 @@ pub record StepMade (k : Block) (place : ℕ) (rs new : List Record) (ds ds' : L
       ++ (cond ends [] (advanced (record_at rs place) ∷ []) ++ drop (place + 1) rs)
   pub drives : ds' ≡ replaced (record_at rs place).command.unit d' ds
 
-module _ {k : Block} {place : ℕ} {rs new : List Record} {ds ds' : List Drive} {ends : Bool}
-    (m : StepMade k place rs new ds ds' ends) where
+module _ {k : Block} {place : ℕ}
+    {rs new : List Record} {ds ds' : List Drive} {ends : Bool} (m : StepMade k place rs new ds ds' ends) where
   -- each drive of its number has its unit
   own_unit : IsUnitList (units_of ds)
       → AllByRecursion (λ q. has_number (record_at rs place).command.unit q ≡ true → q.unit ≡ m.d'.unit) ds
   own_unit l =
       let number = (record_at rs place).command.unit in
-      every_weaker (λ q. has_number number q ≡ true → q.unit ≡ (drive_of ds number).unit)
-      (λ q. has_number number q ≡ true → q.unit ≡ m.d'.unit)
-      (λ q g b. g b ∙ sym (ap (λ (q : Drive). q.unit) m.after)) ds (units_same number ds l)
+      every_weaker (λ q. has_number number q ≡ true → q.unit ≡ (drive_of ds number).unit) (λ q. has_number number q
+      ≡ true → q.unit ≡ m.d'.unit) (λ q g b. g b ∙ sym (ap (λ (q : Drive). q.unit) m.after)) ds (units_same number ds l)
 
   -- a step changes no unit
   pub units_step : IsUnitList (units_of ds) → units_of ds' ≡ units_of ds
   units_step l = ap units_of m.drives ∙ units_replaced (record_at rs place).command.unit m.d' ds (own_unit l)
 
-  pub held_step : {room budget longest : ℕ} {begun : Option Name} {serving : Bool}
-      → IsHeld room budget longest rs ds begun serving → IsServable budget rs place
-      → IsHeld room budget longest new ds' None (not ends)
+  pub held_step : {room budget longest : ℕ} {begun : Option Name} {serving : Bool} → IsHeld room budget
+      longest rs ds begun serving → IsServable budget rs place → IsHeld room budget longest new ds' None (not ends)
   held_step {room} {budget} {longest} {begun} {serving} h n =
       let r = record_at rs place in
       let d = drive_at ds rs place in
-      let heads = All-from_recursion IsOnUnit (replaced r.command.unit m.d' ds)
-      (heads_replaced r.command.unit m.d' ds m.on (recursion_from_All IsOnUnit ds h.heads)) in
       let turn = subst (λ b. IsTurn budget (step_charge r) (take place rs) r (drop (place + 1) rs)
-      (cond b [] (advanced r ∷ []))) (sym m.ended)
-      (next_turn room budget longest place rs ds begun serving k d h n) in
-      let ended : not ends ≡ false → cond ends [] (advanced r ∷ []) ≡ [] =
-      λ e. ap (λ b. cond b [] (advanced r ∷ [])) (ended_if ends e) in
-      subst (λ zs. IsHeld room budget longest new zs None (not ends)) (sym m.drives)
-      (subst (λ zs. IsHeld room budget longest zs (replaced r.command.unit m.d' ds) None (not ends)) (sym m.records)
-      (held_turn room budget longest (step_charge r) (take place rs) r (drop (place + 1) rs)
-      (cond ends [] (advanced r ∷ [])) ds (replaced r.command.unit m.d' ds) begun serving (not ends)
-      (subst (λ zs. IsHeld room budget longest zs ds begun serving) (cut_at no_record rs place n.inside) h) turn ended
-      (units_replaced r.command.unit m.d' ds (own_unit h.units)) heads))
+      (cond b [] (advanced r ∷ []))) (sym m.ended) (next_turn room budget longest place rs ds begun serving k d h n) in
+      let ended : not ends ≡ false
+      → cond ends [] (advanced r ∷ []) ≡ [] = λ e. ap (λ b. cond b [] (advanced r ∷ [])) (ended_if ends e) in
+      subst (λ zs. IsHeld room budget longest new zs None (not ends)) (sym m.drives) (subst (λ zs. IsHeld
+      room budget longest zs (replaced r.command.unit m.d' ds) None (not ends)) (sym m.records) (held_turn room
+      budget longest (step_charge r) (take place rs) r (drop (place + 1) rs) (cond ends [] (advanced r ∷ []))
+      ds (replaced r.command.unit m.d' ds) begun serving (not ends) (subst (λ zs. IsHeld room budget
+      longest zs ds begun serving) (cut_at no_record rs place n.inside) h) turn ended (units_replaced r.command.unit
+      m.d' ds (own_unit h.units)) (All-from_recursion IsOnUnit (replaced r.command.unit m.d' ds)
+      (heads_replaced r.command.unit m.d' ds m.on (recursion_from_All IsOnUnit ds h.heads)))))
 
 head_found : (n : ℕ) (ds : List Drive) → AllByRecursion IsOnUnit ds → IsOnUnit (drive_of ds n)
 head_found n [] h = omega arith

@@ -13,9 +13,8 @@ map_cut f xs place = search (arith, map-append f (take place xs) (drop (place + 
 
 -- a step, which ends its command or not
 pub made_served : {X : Type 0} (F : Connection → Command → X) (rs new : List Record) (place charge : ℕ) (ends : Bool)
-    → place < length rs
-    → new ≡ map (passed_by charge) (take place rs)
-    ++ (cond ends [] (advanced (record_at rs place) ∷ []) ++ drop (place + 1) rs)
+    → place < length rs → new ≡ map (passed_by charge)
+    (take place rs) ++ (cond ends [] (advanced (record_at rs place) ∷ []) ++ drop (place + 1) rs)
     → cond ends (take place (made F rs) ++ drop (place + 1) (made F rs)) (made F rs) ≡ made F new
 made_served {X = X} F rs new place charge true l e = search (arith, map_cut, map-append, map_map)
 made_served {X = X} F rs new place charge false l e = search (arith, cut_at no_record rs place l, map-append, map_map)

@@ -1,8 +1,7 @@
 -- What is told of the step that is begun is told again.
-use Rattle.mscp_queue.proofs.Common.{◌≡◌, ℕ, ◌+◌, ◌<◌, Bool, true, false, List, length, refl, ap, arith, option_map, IfSome, Some, None, if◌then◌else◌, position, and_parts, false≢true, lt-ltb, Order, Shape, Drive, Upcoming, drive_of, AreApart, IsInside, IsKept, IsOfUnit, is_known, names, first_block, order_weight, touches, Record, drive_at, has_name, name_of, record_at, has_block, upcoming_begun, upcoming_of}
+use Rattle.mscp_queue.proofs.Basics.{◌≡◌, ℕ, ◌+◌, ◌<◌, Bool, true, false, List, length, refl, ap, arith, option_map, IfSome, Some, None, if◌then◌else◌, position, and_parts, false≢true, lt-ltb, Order, Shape, Drive, Upcoming, drive_of, AreApart, IsInside, IsKept, IsOfUnit, is_known, names, first_block, order_weight, touches, Record, drive_at, has_name, name_of, record_at, has_block, upcoming_begun, upcoming_of, inside_of}
 use Rattle.mscp_queue.proofs.Aborts.{aborts_at}
 use Rattle.mscp_queue.proofs.Nexts.{name_found}
-use Rattle.mscp_queue.proofs.Turns.{inside_of}
 
 -- the command at a place is found by its name, and told of
 pub told_at : (ds : List Drive) (rs : List Record) (place : ℕ) → AreApart (names rs) → place < length rs
@@ -22,13 +21,10 @@ has_it units unit online order done false e known inside more = tt
 has_it units unit online order done true e known inside more = search (arith, and_parts, inside_of, false≢true, lt-ltb)
 
 -- what is told of a command that waits is of one of the units
-pub of_unit : (budget longest : ℕ) (units : List Shape) (d : Drive) (r : Record) → IsKept budget longest units r
-    → IsOfUnit units (upcoming_of d r)
-of_unit budget longest units d r k =
-    let weight = k.weight in
-    let more = k.unfinished in
-    record {
-      known = k.waitable.known;
-      block = has_it units r.command.unit d.online r.command.order r.done (touches d.online r.command.order) refl
-          k.waitable.known k.waitable.inside (omega (arith, weight, more));
-    }
+pub of_unit : (budget longest : ℕ) (units : List Shape) (d : Drive) (r : Record)
+    → IsKept budget longest units r → IsOfUnit units (upcoming_of d r)
+of_unit budget longest units d r k = record {
+  known = k.waitable.known;
+  block = has_it units r.command.unit d.online r.command.order r.done (touches d.online r.command.order)
+      refl k.waitable.known k.waitable.inside (omega (arith, k.weight, k.unfinished));
+}

@@ -1,8 +1,7 @@
 -- Who keeps a command back, found one after the other.
-use Rattle.mscp_queue.proofs.Common.{◌≡◌, ℕ, zero, suc, ◌+◌, ◌≤◌, Bool, cond, not, ◌&&◌, ◌||◌, List, [], ◌∷◌, ◌++◌, take, length, refl, ap, sym, ◌∙◌, append-nil, subst, arith, nat_le, list_all, length-append, map-append, filter-append, list_all_more, Holder, Record, no_record, record_at, charge, is_open, holder_of, holders_among, is_nobody}
+use Rattle.mscp_queue.proofs.Basics.{◌≡◌, ℕ, zero, suc, ◌+◌, ◌≤◌, Bool, cond, not, ◌&&◌, ◌||◌, List, [], ◌∷◌, ◌++◌, take, length, refl, ap, sym, ◌∙◌, append-nil, subst, arith, nat_le, list_all, length-append, map-append, filter-append, list_all_more, Holder, Record, no_record, record_at, charge, is_open, holder_of, holders_among, is_nobody, range_more}
 use Rattle.mscp_queue.specs.Views.{fences}
 use Rattle.mscp_queue.specs.Why.{keeps_back}
-use Rattle.mscp_queue.proofs.Lists.{range_more}
 
 -- what is known of those that were looked at: who of them keeps the record at the place back
 pub record Holders (budget : ℕ) (rs : List Record) (place count : ℕ) (holders : List Holder) : Type 0 where
@@ -20,16 +19,13 @@ appended : (holders : List Holder) (holder : Holder) (b : Bool)
 appended holders holder b = grind (arith, length-append, append-nil)
 
 pub holders_more : {budget : ℕ} {rs : List Record} {place front : ℕ} {holders holders' : List Holder} (b : Bool)
-    (holder : Holder)
-    → b ≡ keeps_back budget (record_at rs place) (record_at rs front)
-    → holder ≡ holder_of budget (record_at rs place) (record_at rs front)
-    → holders' ≡ holders ++ cond b (holder ∷ []) []
+    (holder : Holder) → b ≡ keeps_back budget (record_at rs place) (record_at rs front) → holder
+    ≡ holder_of budget (record_at rs place) (record_at rs front) → holders' ≡ holders ++ cond b (holder ∷ []) []
     → Holders budget rs place front holders → Holders budget rs place (front + 1) holders'
 holders_more {budget} {rs} {place} {front} {holders} {holders'} b holder is what put h =
     search (arith, among_more budget rs place front, appended)
 
 -- ---- nobody keeps back what may start
-
 none_more : (holders : List Holder) (holder : Holder) (b : Bool)
     → is_nobody (holders ++ cond b (holder ∷ []) []) ≡ (is_nobody holders && not b)
 none_more holders holder b = grind arith
@@ -50,12 +46,10 @@ none_keeps_back budget rs place (suc count) l =
     let affords : Record → Bool = λ z. nat_le (z.passed + charge r) budget in
     let front = take count rs in
     let e : count + 1 ≡ suc count = omega arith in
-    subst (λ n. is_nobody (holders_among budget rs place n) ≡ is_open budget r (take n rs)) e
-    (ap is_nobody (among_more budget rs place count)
+    subst (λ n. is_nobody (holders_among budget rs place n) ≡ is_open budget r (take n rs))
+    e (ap is_nobody (among_more budget rs place count)
     ∙ (none_more (holders_among budget rs place count) (holder_of budget r z) (keeps_back budget r z)
     ∙ (ap (λ b. b && not (keeps_back budget r z)) (none_keeps_back budget rs place count (omega (arith, l)))
-    ∙ (parted (list_all free front) (list_all affords front) (fences r z) (affords z)
-    ∙ (ap (λ b. b && (list_all affords front && affords z))
-    (sym (list_all_more free rs count no_record (omega (arith, l))))
-    ∙ ap (λ b. list_all free (take (count + 1) rs) && b)
-    (sym (list_all_more affords rs count no_record (omega (arith, l)))))))))
+    ∙ (parted (list_all free front) (list_all affords front) (fences r z) (affords z) ∙ (ap (λ b. b &&
+    (list_all affords front && affords z)) (sym (list_all_more free rs count no_record (omega (arith, l)))) ∙ ap (λ b.
+    list_all free (take (count + 1) rs) && b) (sym (list_all_more affords rs count no_record (omega (arith, l)))))))))

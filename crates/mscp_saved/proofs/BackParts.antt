@@ -18,25 +18,22 @@ front f size (suc n) b = search (arith, front f size n b, next_part size n b)
 pub parts_said : {X : Type 0} (f : List ℕ → X) (g : X → List ℕ) (size : ℕ) (xs : List X) (t : List ℕ)
     → AllByRecursion (IsBack f g size) xs → parts_in f size (length xs) (flat_map g xs ++ t) ≡ xs
 parts_said f g size [] t h = refl
-parts_said f g size (x ∷ xs) t h =
-    search (
-      arith,
-      append_assoc (g x) (flat_map g xs) t,
-      front f size (length xs) (flat_map g (x ∷ xs) ++ t),
-      parts_said
-          f g size xs t h.1,
-    )
+parts_said f g size (x ∷ xs) t h = search (
+  arith,
+  append_assoc (g x) (flat_map g xs) t,
+  front f size (length xs) (flat_map g (x ∷ xs) ++ t),
+  parts_said f g size xs t h.1,
+)
 
 pub parts_rest : {X : Type 0} (f : List ℕ → X) (g : X → List ℕ) (size : ℕ) (xs : List X) (t : List ℕ)
     → AllByRecursion (IsBack f g size) xs → drop (size * length xs) (flat_map g xs ++ t) ≡ t
 parts_rest f g size [] t h = search arith
-parts_rest f g size (x ∷ xs) t h =
-    search (
-      arith,
-      drop-drop (size * length xs) size (flat_map g (x ∷ xs) ++ t),
-      append_assoc (g x) (flat_map g xs) t,
-      parts_rest f g size xs t h.1,
-    )
+parts_rest f g size (x ∷ xs) t h = search (
+  arith,
+  drop-drop (size * length xs) size (flat_map g (x ∷ xs) ++ t),
+  append_assoc (g x) (flat_map g xs) t,
+  parts_rest f g size xs t h.1,
+)
 
 pub parts_long : {X : Type 0} (f : List ℕ → X) (g : X → List ℕ) (size : ℕ) (xs : List X)
     → AllByRecursion (IsBack f g size) xs → length (flat_map g xs) ≡ size * length xs

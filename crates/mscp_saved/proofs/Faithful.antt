@@ -1,6 +1,5 @@
 -- What is saved is restored, and what is restored is saved as the same bytes.
 use Rattle.mscp_saved.proofs.Common.{All, ◌≡◌, ℕ, true, List, get_or, ap, sym, ◌∙◌, arith, not, if◌then◌else◌, Option, Some, None, Ok, and_from, eq-eqb, le-leb, recursion_from_All, bytes_eq-Decides, End, HasEndRange, IsOfKind, four, Holdings, IsSound, RestoreFault, RestoringIsFaithful, HasRange, drive_in, end_in, held_in, waiting_in, first_of, form_fault, frame_fault, is_framed, parts_fault, restored, settings_fault, drive_bytes, end_cell, saved_bytes, waiting_bytes}
-use Rattle.mscp_saved.specs.declared.fault.RestoreFault.TheVariants as faults
 use Rattle.mscp_saved.proofs.Back.{drive_is_back, end_is_back, waiting_is_back}
 use Rattle.mscp_saved.proofs.BackParts.{IsBack}
 use Rattle.mscp_saved.proofs.Complete.{parts_pass, settings_pass}
@@ -25,29 +24,25 @@ are_back h s r = record {
       (ends_back h.untaken.second s.second.shaped r.second);
 }
 
-framed : {K : Type 0} (number : ℕ) (h : Holdings K) → IsSound h → AreBack h
-    → is_framed (saved_bytes number h) ≡ true
+framed : {K : Type 0} (number : ℕ) (h : Holdings K) → IsSound h → AreBack h → is_framed (saved_bytes number h) ≡ true
 framed number h s a = search (arith, saved_long number h a, sizes_of s, four, and_from, le-leb, eq-eqb)
 
-frame_passes : {K : Type 0} (number : ℕ) (h : Holdings K) → IsSound h → AreBack h
-    → frame_fault (saved_bytes number h) ≡ None
-frame_passes number h s a = λ i. if not (framed number h s a i) then Some faults.Length else None
+module _ {K : Type 0} (number : ℕ) (h : Holdings K) where
+  frame_passes : IsSound h → AreBack h → frame_fault (saved_bytes number h) ≡ None
+  frame_passes s a = λ i. if not (framed number h s a i) then Some RestoreFault.Length else None
 
-form_passes : {K : Type 0} (number : ℕ) (h : Holdings K) → form_fault number (saved_bytes number h) h ≡ None
-form_passes number h = search (arith, eq-eqb, bytes_eq-Decides)
+  form_passes : form_fault number (saved_bytes number h) h ≡ None
+  form_passes = search (arith, eq-eqb, bytes_eq-Decides)
 
-pub back_of : {K : Type 0} (number : ℕ) (h : Holdings K) → IsSound h → HasRange h
-    → restored number h.picker (saved_bytes number h) ≡ Ok h
-back_of {K} number h s r =
-    let b = saved_bytes number h in
-    let a = are_back h s r in
-    let e = held_said number h r s.units a in
-    sym (comes number h.picker b None None None None (frame_passes number h s a)
-    (ap (λ (h : Holdings K). settings_fault h.settings) e ∙ settings_pass h.settings s.valid)
-    (ap (λ (h : Holdings K).
-    parts_fault h.settings h.drives h.waiting h.untaken.first h.untaken.second h.begun) e ∙ parts_pass h s)
-    (ap (form_fault number b) e ∙ form_passes number h))
-    ∙ ap Ok e
+  pub back_of : IsSound h → HasRange h → restored number h.picker (saved_bytes number h) ≡ Ok h
+  back_of s r =
+      let b = saved_bytes number h in
+      let a = are_back h s r in
+      let e = held_said number h r s.units a in
+      sym (comes number h.picker b None None None
+      None (frame_passes s a) (ap (λ (h : Holdings K). settings_fault h.settings) e ∙ settings_pass h.settings s.valid)
+      (ap (λ (h : Holdings K). parts_fault h.settings h.drives h.waiting h.untaken.first h.untaken.second h.begun) e
+      ∙ parts_pass h s) (ap (form_fault number b) e ∙ form_passes)) ∙ ap Ok e
 
 first_none : (o other : Option RestoreFault) → first_of o other ≡ None → other ≡ None
 first_none o other h2 = grind arith

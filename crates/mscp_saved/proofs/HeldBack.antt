@@ -29,43 +29,37 @@ module _ {K : Type 0} (number : ℕ) (h : Holdings K) where
   behind_head : drop 48 b ≡ ds ++ (rs ++ (fs ++ ss))
   behind_head = search (arith, append_assoc (ds ++ rs) fs ss, append_assoc ds rs (fs ++ ss))
 
-  behind_drives : AreBack h → drop (48 + 34 * length h.drives) b ≡ rs ++ (fs ++ ss)
-  behind_drives a =
-      search (
-        arith,
-        drop-drop (34 * length h.drives) 48 b,
-        parts_rest drive_in drive_bytes 34 h.drives (rs ++ (fs ++
-            ss)) a.drives,
-        behind_head,
-      )
+  module _ (a : AreBack h) where
+    behind_drives : drop (48 + 34 * length h.drives) b ≡ rs ++ (fs ++ ss)
+    behind_drives = search (
+      arith,
+      drop-drop (34 * length h.drives) 48 b,
+      parts_rest drive_in drive_bytes 34 h.drives (rs ++ (fs ++ ss)) a.drives,
+      behind_head,
+    )
 
-  behind_waiting : AreBack h → drop (48 + 34 * length h.drives + 41 * length h.waiting) b ≡ fs ++ ss
-  behind_waiting a =
-      search (
-        arith,
-        drop-drop (41 * length h.waiting) (48 + 34 * length h.drives) b,
-        behind_drives a,
-        parts_rest
-            waiting_in waiting_bytes 41 h.waiting (fs ++ ss) a.waiting,
-      )
+    behind_waiting : drop (48 + 34 * length h.drives + 41 * length h.waiting) b ≡ fs ++ ss
+    behind_waiting = search (
+      arith,
+      drop-drop (41 * length h.waiting) (48 + 34 * length h.drives) b,
+      behind_drives,
+      parts_rest waiting_in waiting_bytes 41 h.waiting (fs ++ ss) a.waiting,
+    )
 
-  behind_first : AreBack h
-      → drop (48 + 34 * length h.drives + 41 * length h.waiting + 48 * length h.untaken.first) b ≡ ss ++ []
-  behind_first a =
-      search (
-        arith,
-        drop-drop (48 * length h.untaken.first) (48 + 34 * length h.drives + 41 * length h.waiting) b,
-        behind_waiting a,
-        parts_rest end_in end_cell 48 h.untaken.first ss a.first,
-        append-nil ss,
-      )
+    behind_first : drop (48 + 34 * length h.drives + 41 * length h.waiting + 48 * length h.untaken.first) b ≡ ss ++ []
+    behind_first = search (
+      arith,
+      drop-drop (48 * length h.untaken.first) (48 + 34 * length h.drives + 41 * length h.waiting) b,
+      behind_waiting,
+      parts_rest end_in end_cell 48 h.untaken.first ss a.first,
+      append-nil ss,
+    )
 
-  drives_said : AreBack h → drives_in b ≡ h.drives
-  drives_said a = search (arith, parts_said drive_in drive_bytes 34 h.drives (rs ++ (fs ++ ss)) a.drives, behind_head)
+    drives_said : drives_in b ≡ h.drives
+    drives_said = search (arith, parts_said drive_in drive_bytes 34 h.drives (rs ++ (fs ++ ss)) a.drives, behind_head)
 
-  waiting_said : AreBack h → all_waiting_in b ≡ h.waiting
-  waiting_said a =
-      search (arith, behind_drives a, parts_said waiting_in waiting_bytes 41 h.waiting (fs ++ ss) a.waiting)
+    waiting_said : all_waiting_in b ≡ h.waiting
+    waiting_said = search (arith, behind_drives, parts_said waiting_in waiting_bytes 41 h.waiting (fs ++ ss) a.waiting)
 
   first_said : AreBack h → first_in b ≡ h.untaken.first
   first_said a = search (arith, behind_waiting a, parts_said end_in end_cell 48 h.untaken.first ss a.first)
@@ -77,8 +71,7 @@ module _ {K : Type 0} (number : ℕ) (h : Holdings K) where
   begun_small begun h1 = grind arith
 
   begun_said : HasRange h → begun_in b ≡ h.begun
-  begun_said r =
-      ap (name_in (begun_connection h.begun)) (four (begun_reference h.begun) (begun_small h.begun r.begun))
+  begun_said r = ap (name_in (begun_connection h.begun)) (four (begun_reference h.begun) (begun_small h.begun r.begun))
       ∙ begun_back h.begun
 
   settings_said : HasRange h → AreBack h → settings_in b (drives_in b) ≡ record h.settings { units = units_of h.drives }
@@ -88,18 +81,15 @@ module _ {K : Type 0} (number : ℕ) (h : Holdings K) where
   held_said r units a =
       search (arith, settings_said r a, waiting_said, first_said, second_said, drives_said, begun_said)
 
-  pub saved_long : AreBack h → length b
-      ≡ saved_length (length h.drives) (length h.waiting) (length h.untaken.first + length h.untaken.second)
-  saved_long a =
-      search (
-        arith,
-        parts_long drive_in drive_bytes 34 h.drives a.drives,
-        parts_long waiting_in waiting_bytes 41
-            h.waiting a.waiting,
-        parts_long end_in end_cell 48 h.untaken.first a.first,
-        parts_long end_in end_cell 48
-            h.untaken.second a.second,
-        length-append (ds ++ rs ++ fs) ss,
-        length-append (ds ++ rs) fs,
-        length-append ds rs,
-      )
+  pub saved_long : AreBack h
+      → length b ≡ saved_length (length h.drives) (length h.waiting) (length h.untaken.first + length h.untaken.second)
+  saved_long a = search (
+    arith,
+    parts_long drive_in drive_bytes 34 h.drives a.drives,
+    parts_long waiting_in waiting_bytes 41 h.waiting a.waiting,
+    parts_long end_in end_cell 48 h.untaken.first a.first,
+    parts_long end_in end_cell 48 h.untaken.second a.second,
+    length-append (ds ++ rs ++ fs) ss,
+    length-append (ds ++ rs) fs,
+    length-append ds rs,
+  )

@@ -8,16 +8,11 @@ pub record HasSizes {K : Type 0} (h : Holdings K) : Type 0 where
 
 pub sizes_of : {K : Type 0} {h : Holdings K} → IsSound h → HasSizes h
 sizes_of {K} {h} s =
-    let us = s.queue.units in
-    let some = us.some in
-    let few = us.few in
     let long = length-map h.drives (λ (d : Drive). d.unit) in
     let credits = s.valid.few_credits in
     let first = s.first.covered in
-    let second = s.second.covered in
-    let sides = sides_length (λ (r : Record). r.connection) h.waiting in
     record {
-      some_drive = omega (arith, some, long);
-      drives = omega (arith, few, long);
-      parts = omega (arith, credits, first, second, sides);
+      some_drive = omega (arith, s.queue.units.some, long);
+      drives = omega (arith, s.queue.units.few, long);
+      parts = omega (arith, credits, first, s.second.covered, sides_length (λ (r : Record). r.connection) h.waiting);
     }

@@ -1,15 +1,10 @@
 -- What a message aborts: the same by records and by history.
-use Rattle.mscp_controller.proofs.Common.{◌≡◌, ◌≢◌, ⊎_elim, ℕ, Bool, true, false, not, List, [], ◌∷◌, map, ap, sym, ◌∙◌, subst, arith, filter, find, if◌then◌else◌, Option, Some, None, option_map, option_to_list, slice_get, Ok, AllByRecursion, Command, Order, AreApart, names, Name, aborted_end, Record, aborted_record, has_name, name_of, without, Connection, name_on, same_name, differ_is, is_differ, is_same, same_is, found_once, every_from, every_mapped, every_parts, every_weaker, filter_all, filter_on, filter_map_of, find_cases, find_first, find_none, map_map, Settings, Trace, command, name, reference, waiting, good, ends_in, is_waiting, aborted_unless, named, record_aborted, reference_aborted, begun_after, unaborted}
-use Rattle.mscp_packet.specs.declared.command.Order.TheVariants as orders
+use Rattle.mscp_controller.proofs.Basics.{◌≡◌, ◌≢◌, ⊎_elim, ℕ, Bool, true, false, not, List, [], ◌∷◌, map, ap, sym, ◌∙◌, subst, arith, filter, find, if◌then◌else◌, Option, Some, None, option_map, option_to_list, slice_get, Ok, AllByRecursion, Command, Order, AreApart, names, Name, aborted_end, Record, aborted_record, has_name, name_of, without, Connection, name_on, same_name, differ_is, is_differ, is_same, same_is, found_once, every_from, every_mapped, every_parts, every_weaker, filter_all, filter_on, filter_map_of, find_cases, find_first, find_none, map_map, Settings, Trace, command, name, reference, waiting, good, ends_in, is_waiting, aborted_unless, named, record_aborted, reference_aborted, begun_after, unaborted, Sent, Apart, cut, waits_below}
 use Rattle.mscp_controller.specs.declared.entry.Entry.TheVariants as entries
-use Rattle.mscp_controller.specs.declared.entry.Sent.TheVariants as sents
 use Rattle.mscp_controller.specs.Ends as history
-use Rattle.mscp_controller.proofs.Promise.Apart.{Apart}
-use Rattle.mscp_controller.proofs.Promise.Waits.{cut, waits_below}
 use Rattle.mscp_controller.proofs.Bridge.Held.{held_of}
 
 -- ---- who is aborted
-
 names_from : (t : Trace) (x : ℕ) (xs : List ℕ) → AllByRecursion (λ y. name t x ≢ name t y) xs
     → AllByRecursion (λ n. n ≢ name t x) (names (map (held_of t) xs))
 names_from t x [] h = tt
@@ -21,12 +16,10 @@ apart_held t (x ∷ xs) a = (names_from t x xs a.0, apart_held t xs a.1)
 
 -- the records of those that an order names
 named_held : (via : Connection) (t : Trace) (ws : List Record) (o : Order) → Apart t (waiting t)
-    → ws ≡ map (held_of t) (waiting t)
-    → map (held_of t) (named via t o) ≡ option_to_list (record_aborted via ws o)
-named_held via t ws (orders.Abort other) a e =
-    sym (filter_map_of (held_of t) (has_name (name_on via other)) (waiting t))
-    ∙ (ap (filter (has_name (name_on via other))) (sym e) ∙ found_once (name_on via other) ws
-    (subst (λ rs. AreApart (names rs)) (sym e) (apart_held t (waiting t) a)))
+    → ws ≡ map (held_of t) (waiting t) → map (held_of t) (named via t o) ≡ option_to_list (record_aborted via ws o)
+named_held via t ws (Order.Abort other) a e = sym (filter_map_of (held_of t)
+    (has_name (name_on via other)) (waiting t)) ∙ (ap (filter (has_name (name_on via other))) (sym e)
+    ∙ found_once (name_on via other) ws (subst (λ rs. AreApart (names rs)) (sym e) (apart_held t (waiting t) a)))
 named_held via t ws o h4 h5 = grind arith
 
 unnamed : (via : Connection) (t : Trace) (o : Order) (fault : Option ℕ) → named via t o ≡ []
@@ -39,7 +32,6 @@ aborted_held : (c : Settings) (via : Connection) (t : Trace) (ws : List Record) 
 aborted_held c via t ws k a e = search (arith, named_held, held_of, unnamed)
 
 -- ---- what is told of it
-
 abbrev first_reference : List Record → ℕ
 first_reference [] = 0
 first_reference (r ∷ rs) = r.command.reference
@@ -51,10 +43,8 @@ first_held t xs o h3 = grind arith
 
 -- the reference number that is told
 pub reference_told : (c : Settings) (via : Connection) (t : Trace) (ws : List Record) (k : Command)
-    → Apart t (waiting t)
-    → ws ≡ map (held_of t) (waiting t)
-    → option_map (reference t) (slice_get (history.aborted c via t k) 0)
-    ≡ reference_aborted via ws k.order
+    → Apart t (waiting t) → ws ≡ map (held_of t) (waiting t)
+    → option_map (reference t) (slice_get (history.aborted c via t k) 0) ≡ reference_aborted via ws k.order
 reference_told c via t ws k a e = first_held t (history.aborted c via t k) (record_aborted via ws k.order)
     (aborted_held c via t ws k a e)
 
@@ -64,15 +54,12 @@ mapped_option o = grind arith
 
 -- the end that is made
 pub end_made : (c : Settings) (via : Connection) (t : Trace) (ws : List Record) (k : Command) → Apart t (waiting t)
-    → ws ≡ map (held_of t) (waiting t)
-    → option_to_list (option_map aborted_record (record_aborted via ws k.order))
+    → ws ≡ map (held_of t) (waiting t) → option_to_list (option_map aborted_record (record_aborted via ws k.order))
     ≡ map (λ x. aborted_end (command t x) (good t x)) (history.aborted c via t k)
-end_made c via t ws k a e = sym (mapped_option (record_aborted via ws k.order))
-    ∙ (ap (map aborted_record) (sym (aborted_held c via t ws k a e))
-    ∙ map_map (held_of t) aborted_record (history.aborted c via t k))
+end_made c via t ws k a e = sym (mapped_option (record_aborted via ws k.order)) ∙ (ap (map aborted_record)
+    (sym (aborted_held c via t ws k a e)) ∙ map_map (held_of t) aborted_record (history.aborted c via t k))
 
 -- ---- who is left
-
 either_way : (a b : Name) → same_name a b ≡ same_name b a
 either_way a b = search (arith, is_same, same_is, is_differ, differ_is)
 
@@ -82,7 +69,7 @@ told via n = name_on via n.reference
 
 -- the answer to a message of a connection that aborts the command of this reference number, or none
 abbrev pub Answer : Connection → ℕ → Option ℕ → entries.the_data
-Answer via q a = entries.Sent via (Ok (sents.Answered q a))
+Answer via q a = entries.Sent via (Ok (Sent.Answered q a))
 
 left_by : (via : Connection) (q other : ℕ) (ws : List Record) → without (name_on via other) ws
     ≡ filter (λ r. not (ends_in (name_of r)
@@ -115,20 +102,18 @@ none_left via q ws = search (arith, not false, filter_all, every_from)
 
 -- the others wait on
 pub others_wait : (via : Connection) (q : ℕ) (ws : List Record) (o : Order)
-    → unaborted via ws o ≡ filter (λ r. not (ends_in (name_of r)
-    (Answer via q (reference_aborted via ws o)))) ws
-others_wait via q ws (orders.Abort other) = left_by via q other ws
-others_wait via q ws (orders.Status other) = none_left via q ws
-others_wait via q ws orders.UnitStatus = none_left via q ws
-others_wait via q ws (orders.SetController version) = none_left via q ws
-others_wait via q ws orders.Available = none_left via q ws
-others_wait via q ws orders.Online = none_left via q ws
-others_wait via q ws orders.SetUnit = none_left via q ws
-others_wait via q ws (orders.Move kind count block) = none_left via q ws
-others_wait via q ws (orders.Invalid opcode status) = none_left via q ws
+    → unaborted via ws o ≡ filter (λ r. not (ends_in (name_of r) (Answer via q (reference_aborted via ws o)))) ws
+others_wait via q ws (Order.Abort other) = left_by via q other ws
+others_wait via q ws (Order.Status other) = none_left via q ws
+others_wait via q ws Order.UnitStatus = none_left via q ws
+others_wait via q ws (Order.SetController version) = none_left via q ws
+others_wait via q ws Order.Available = none_left via q ws
+others_wait via q ws Order.Online = none_left via q ws
+others_wait via q ws Order.SetUnit = none_left via q ws
+others_wait via q ws (Order.Move kind count block) = none_left via q ws
+others_wait via q ws (Order.Invalid opcode status) = none_left via q ws
 
 -- ---- what was begun
-
 with_other : (n other : Name)
     → (if same_name n other then None else Some n) ≡ (if not (same_name other n) then Some n else None)
 with_other n other = search (arith, either_way n other, not)
@@ -139,8 +124,7 @@ Left via q ws n o = begun_after via (Some n) o ≡ (if not (ends_in n
     (Answer via q (reference_aborted via ws o))) then Some n else None)
 
 abort_left : (via : Connection) (q other : ℕ) (t : Trace) (ws : List Record) (n : Name) (y : ℕ)
-    → ws ≡ map (held_of t) (waiting t)
-    → is_waiting t y ≡ true → name t y ≡ n → Left via q ws n (orders.Abort other)
+    → ws ≡ map (held_of t) (waiting t) → is_waiting t y ≡ true → name t y ≡ n → Left via q ws n (Order.Abort other)
 abort_left via q other t ws n y e w own =
     let p = has_name (name_on via other) in
     let left : Option Record → Option Name = λ o. if not

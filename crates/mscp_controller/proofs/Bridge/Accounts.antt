@@ -3,7 +3,6 @@ use Rattle.mscp_controller.proofs.Common.{◌≡◌, ◌+◌, false, List, [], �
 use Rattle.mscp_controller.specs.Accounts.{left}
 
 -- ---- one of them is changed
-
 -- what holds of the changed one, and of the other as it was, holds of each
 pub each_account : (P : Connection → Account → Type 0) (via : Connection) (own : Account) (both : Accounts) → P via own
     → ((other : Connection) → same_connection via other ≡ false → P other (account other both))
@@ -11,7 +10,6 @@ pub each_account : (P : Connection → Account → Type 0) (via : Connection) (o
 each_account P via own both h4 h5 other = grind arith
 
 -- ---- what is seen
-
 pub seen_of : (via : Connection) (a : Accounts) → of via (untaken_in a) ≡ (account via a).untaken.items
 seen_of via a = grind arith
 
@@ -20,7 +18,6 @@ pub seen_left : (via : Connection) (end : End) (a : Accounts)
 seen_left via end a = grind arith
 
 -- ---- a report
-
 -- what a report changes of a connection's account
 pub record Reported (via : Connection) (report : Report) (a : Accounts) : Type 0 where
   pub waiting : (account via (reported report a)).waiting + length (ends_reported via report)

@@ -1,6 +1,5 @@
 -- One more answer of a controller.
-use Rattle.mscp_controller.proofs.Common.{◌≡◌, ℕ, ◌+◌, ◌<◌, List, [], ◌∷◌, ◌++◌, take, get_or, length, refl, subst, arith, length_push, take_more, Choice, Event, Entry, Answered, Answers, Holdings}
-use Rattle.mscp_controller.proofs.Bridge.Owning.{owner_kept}
+use Rattle.mscp_controller.proofs.Basics.{◌≡◌, ℕ, ◌+◌, ◌<◌, List, [], ◌∷◌, ◌++◌, take, get_or, length, refl, subst, arith, length_push, take_more, Choice, Event, Entry, Answered, Answers, Holdings, owner_kept}
 
 -- one more answer, behind the others
 answered_push : {K : Type 0} (picks : List Choice → ℕ → Type 0) (h m h' : Holdings K) (es : List Event)
@@ -18,9 +17,8 @@ pub record Goes {K : Type 0} (picks : List Choice → ℕ → Type 0) (start now
   pub many : length entries ≡ i
 
 pub goes_more : {K : Type 0} (picks : K → List Choice → ℕ → Type 0) (start now next : Holdings K) (all : List Event)
-    (i : ℕ) (so_far new : List Entry) (event : Event) (entry : Entry) → i < length all
-    → event ≡ get_or all i event → Goes (picks start.picker) start now all i so_far
-    → Answers (picks now.picker) now event entry next → new ≡ so_far ++ entry ∷ []
-    → Goes (picks start.picker) start next all (i + 1) new
+    (i : ℕ) (so_far new : List Entry) (event : Event) (entry : Entry) → i < length all → event ≡ get_or all i event
+    → Goes (picks start.picker) start now all i so_far → Answers (picks now.picker) now event entry next
+    → new ≡ so_far ++ entry ∷ [] → Goes (picks start.picker) start next all (i + 1) new
 goes_more {K} picks start now next all i so_far new event entry l e g a n =
     search (arith, take_more all i event l, length_push so_far entry, answered_push, owner_kept)

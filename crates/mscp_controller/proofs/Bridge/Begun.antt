@@ -1,13 +1,7 @@
 -- What is begun when one more call comes.
-use Rattle.mscp_controller.proofs.Common.{◌≡◌, ℕ, ◌+◌, ◌<◌, ◌≤◌, Bool, true, false, not, List, [], ◌∷◌, ◌++◌, take, drop, length, refl, ap, sym, ◌∙◌, subst, append_assoc, append-nil, arith, if◌then◌else◌, is_some, nat_eq, unwrap_or, Option, Some, None, list_any, and_parts, cases_lt, or_parts, true≢false, drop-append-le, drop_all, get_or_append_left, get_or_at, length-append, length_push, take-append-drop, take-append-le, take_at, list_any-append, flat_map-append, Upcoming, Choice, Name, Settings, Trace, ends_in, is_waiting, name, waiting, IsLegal, IsPick, Call, HoldsToBegun, IsBegunSince, IsRightCall, NothingBegun, StartsChosen, call_at, foretold, history, moments_of, steps, upcoming_in, upcoming_name, Begin, Holdings}
-use Rattle.mscp_controller.proofs.Promise.Apart.{Apart}
-use Rattle.mscp_controller.proofs.Promise.Among.{one_waits}
-use Rattle.mscp_controller.proofs.Promise.Grows.{is_waiting_before}
-use Rattle.mscp_controller.proofs.Bridge.Sending.{Agrees}
-use Rattle.mscp_controller.proofs.Promise.Waits.{cut, waits_below}
+use Rattle.mscp_controller.proofs.Bridge.Basics.{◌≡◌, ℕ, ◌+◌, ◌<◌, ◌≤◌, Bool, true, false, not, List, [], ◌∷◌, ◌++◌, take, drop, length, refl, ap, sym, ◌∙◌, subst, append_assoc, append-nil, arith, if◌then◌else◌, is_some, nat_eq, unwrap_or, Option, Some, None, list_any, and_parts, true≢false, drop-append-le, drop_all, get_or_append_left, get_or_at, length-append, length_push, take-append-drop, take-append-le, take_at, list_any-append, flat_map-append, Upcoming, Choice, Name, Settings, Trace, ends_in, is_waiting, name, waiting, IsLegal, IsPick, Call, HoldsToBegun, IsBegunSince, IsRightCall, NothingBegun, StartsChosen, call_at, foretold, history, moments_of, steps, upcoming_in, upcoming_name, Begin, Holdings, Apart, one_waits, is_waiting_before, cut, waits_below, Agrees}
 
 -- ---- one more call
-
 pub history_more : (calls : List Call) (call : Call) → history (calls ++ call ∷ []) ≡ history calls ++ moments_of call
 history_more calls call = search (arith, flat_map-append moments_of calls (call ∷ []), append-nil (moments_of call))
 
@@ -27,10 +21,9 @@ shorter calls j =
 -- what waits waited before, if it had come
 waits_before : (t ms : Trace) (y : ℕ) → y < length t → is_waiting (t ++ ms) y ≡ true → is_waiting t y ≡ true
 waits_before t [] y l w = subst (λ u. is_waiting u y ≡ true) (append-nil t) w
-waits_before t (m ∷ ms) y l w =
-    let one = waits_before (t ++ m ∷ []) ms y (omega (arith, l, length_push t m))
-    (subst (λ u. is_waiting u y ≡ true) (sym (append_assoc t (m ∷ []) ms)) w) in
-    (and_parts (is_waiting t y) (not (ends_in (name t y) m.1)) (sym (is_waiting_before t m y l) ∙ one)).0
+waits_before t (m ∷ ms) y l w = (and_parts (is_waiting t y)
+    (not (ends_in (name t y) m.1)) (sym (is_waiting_before t m y l) ∙ (waits_before (t ++ m ∷ []) ms
+    y (omega (arith, l, length_push t m)) (subst (λ u. is_waiting u y ≡ true) (sym (append_assoc t (m ∷ []) ms)) w)))).0
 
 -- what the last call began
 pub record Last (calls : List Call) (call : Call) (up : Upcoming) (y : ℕ) : Type 0 where
@@ -39,42 +32,30 @@ pub record Last (calls : List Call) (call : Call) (up : Upcoming) (y : ℕ) : Ty
   pub waited : is_waiting (history calls) y ≡ true
 
 -- either is known of what is begun after one more call
-pub either : (X : Type 0) (calls : List Call) (call : Call) (up : Upcoming) (y j : ℕ)
-    → (IsBegunSince calls up y j → steps call ≡ false → X) → (Last calls call up y → X)
-    → IsBegunSince (calls ++ call ∷ []) up y j → X
-either X calls call up y j before last b =
-    search (
-      arith,
-      length-append,
-      cases_lt,
-      front_same,
-      drop-append-le,
-      list_any-append,
-      shorter,
-      history_more,
-      or_parts,
-      waits_below,
-      waits_before,
-      take_at,
-      call_last,
-      get_or_append_left,
-    )
+pub either : (X : Type 0) (calls : List Call) (call : Call) (up : Upcoming) (y j : ℕ) → (IsBegunSince calls up y j
+    → steps call ≡ false → X) → (Last calls call up y → X) → IsBegunSince (calls ++ call ∷ []) up y j → X
+either X calls call up y j before last b = search (
+  arith,
+  length-append,
+  front_same,
+  drop-append-le,
+  list_any-append,
+  shorter,
+  history_more,
+  waits_below,
+  waits_before,
+  take_at,
+  call_last,
+  get_or_append_left,
+)
 
 -- what was begun is begun after a call that is no step, where it still waits
 pub begun_more : (calls : List Call) (call : Call) (up : Upcoming) (y j : ℕ) → IsBegunSince calls up y j
     → steps call ≡ false → is_waiting (history (calls ++ call ∷ [])) y ≡ true → IsBegunSince (calls ++ call ∷ []) up y j
 begun_more calls call up y j b n w =
-    search (
-      arith,
-      length-append calls (call ∷ []),
-      list_any-append steps (drop (j + 1) calls) (call ∷ []),
-      front_same,
-      drop-append-le,
-      get_or_append_left,
-    )
+    search (arith, length-append, list_any-append, front_same, drop-append-le, get_or_append_left)
 
 -- ---- what is known of what is begun
-
 pub record Begun (c : Settings) (picks : List Choice → ℕ → Type 0) (calls : List Call) (n : Name) (up : Upcoming)
     (y j : ℕ) : Type 0 where
   pub is : IsBegunSince calls up y j
@@ -99,10 +80,9 @@ untold call up n e = true≢false (ap is_some (sym e ∙ n))
 -- a call that is no step, and tells nothing
 pub holds_on : (c : Settings) (picks : List Choice → ℕ → Type 0) (calls : List Call) (call : Call) (o o' : Option Name)
     → steps call ≡ false → upcoming_in call ≡ None
-    → ((y : ℕ) → is_waiting (history calls) y ≡ true
-    → foretold (history (calls ++ call ∷ [])) y ≡ foretold (history calls) y)
-    → ((n : Name) (y : ℕ) → o ≡ Some n → is_waiting (history calls) y ≡ true → name (history calls) y ≡ n
-    → o' ≡ (if is_waiting (history (calls ++ call ∷ [])) y then Some n else None))
+    → ((y : ℕ) → is_waiting (history calls) y ≡ true → foretold (history (calls ++ call ∷ [])) y
+    ≡ foretold (history calls) y) → ((n : Name) (y : ℕ) → o ≡ Some n → is_waiting (history calls) y
+    ≡ true → name (history calls) y ≡ n → o' ≡ (if is_waiting (history (calls ++ call ∷ [])) y then Some n else None))
     → (o ≡ None → o' ≡ None) → Holds c picks calls o → Holds c picks (calls ++ call ∷ []) o'
 holds_on c picks calls call None o' n q stay link none h =
     let calls' = calls ++ call ∷ [] in
@@ -154,53 +134,51 @@ pub begin_same : (calls : List Call) (upcoming : Option Upcoming)
     → history (calls ++ Begin upcoming ∷ []) ≡ history calls
 begin_same calls upcoming = history_more calls (Begin upcoming) ∙ append-nil (history calls)
 
--- it begins y where nothing is begun
-pub holds_new : (c : Settings) (picks : List Choice → ℕ → Type 0) (calls : List Call) (n : Name) (up : Upcoming) (y : ℕ)
-    → Apart (history calls) (waiting (history calls)) → NothingBegun calls → is_waiting (history calls) y ≡ true
-    → up ≡ foretold (history calls) y → upcoming_name up ≡ n
-    → (nat_eq up.done 0 ≡ true → IsPick c picks (history calls) n)
-    → Holds c picks (calls ++ Begin (Some up) ∷ []) (Some n)
-holds_new c picks calls n up y apart none w e own p =
-    let call = Begin (Some up) in
-    let calls' = calls ++ call ∷ [] in
-    let j = length calls in
-    let same = begin_same calls (Some up) in
-    let front : take j calls' ≡ calls = take_at calls (call ∷ []) j refl in
-    let is : IsBegunSince calls' up y j = record {
-      inside = omega (arith, length-append calls (call ∷ []));
-      told = ap upcoming_in (call_last calls call);
-      own = e ∙ ap (λ cs. foretold (history cs) y) (sym front);
-      waited = subst (λ cs. is_waiting (history cs) y ≡ true) (sym front) w;
-      unstepped = ap (list_any steps) (drop_all (j + 1) calls' (omega (arith, length-append calls (call ∷ []))));
-      waits = subst (λ u. is_waiting u y ≡ true) (sym same) w;
-    } in
-    let all : Begun c picks calls' n up y j = record {
-      is = is;
-      now = e ∙ ap (λ u. foretold u y) (sym same);
-      own = own;
-      only = λ up' y' j' k. either ((y' ≡ y) × (up' ≡ up)) calls call up' y' j' (λ m z. absurd (none up' y' j' m))
-          (last_same calls up up' y y' apart w e) k;
-      chosen = λ d. subst (λ cs. IsPick c picks (history cs) n) (sym front) (p d);
-    } in
-    (up, y, j, all)
+module _ (c : Settings) (picks : List Choice → ℕ → Type 0) (calls : List Call) (n : Name) (up : Upcoming) (y : ℕ) where
+  -- it begins y where nothing is begun
+  pub holds_new : Apart (history calls) (waiting (history calls)) → NothingBegun calls
+      → is_waiting (history calls) y ≡ true → up ≡ foretold (history calls) y → upcoming_name up ≡ n → (nat_eq up.done 0
+      ≡ true → IsPick c picks (history calls) n) → Holds c picks (calls ++ Begin (Some up) ∷ []) (Some n)
+  holds_new apart none w e own p =
+      let call = Begin (Some up) in
+      let calls' = calls ++ call ∷ [] in
+      let j = length calls in
+      let same = begin_same calls (Some up) in
+      let front : take j calls' ≡ calls = take_at calls (call ∷ []) j refl in
+      let is : IsBegunSince calls' up y j = record {
+        inside = omega (arith, length-append calls (call ∷ []));
+        told = ap upcoming_in (call_last calls call);
+        own = e ∙ ap (λ cs. foretold (history cs) y) (sym front);
+        waited = subst (λ cs. is_waiting (history cs) y ≡ true) (sym front) w;
+        unstepped = ap (list_any steps) (drop_all (j + 1) calls' (omega (arith, length-append calls (call ∷ []))));
+        waits = subst (λ u. is_waiting u y ≡ true) (sym same) w;
+      } in
+      let all : Begun c picks calls' n up y j = record {
+        is = is;
+        now = e ∙ ap (λ u. foretold u y) (sym same);
+        own = own;
+        only = λ up' y' j' k. either ((y' ≡ y) × (up' ≡ up)) calls call up' y' j' (λ m z. absurd (none up' y' j' m))
+            (last_same calls up up' y y' apart w e) k;
+        chosen = λ d. subst (λ cs. IsPick c picks (history cs) n) (sym front) (p d);
+      } in
+      (up, y, j, all)
 
--- and tells of it again where it is begun
-pub holds_again : (c : Settings) (picks : List Choice → ℕ → Type 0) (calls : List Call) (n : Name) (up : Upcoming)
-    (y j : ℕ) → Apart (history calls) (waiting (history calls)) → Begun c picks calls n up y j
-    → Holds c picks (calls ++ Begin (Some up) ∷ []) (Some n)
-holds_again c picks calls n up y j apart b =
-    let call = Begin (Some up) in
-    let same = begin_same calls (Some up) in
-    let all : Begun c picks (calls ++ call ∷ []) n up y j = record {
-      is = begun_more calls call up y j b.is refl (subst (λ u. is_waiting u y ≡ true) (sym same) b.is.waits);
-      now = b.now ∙ ap (λ u. foretold u y) (sym same);
-      own = b.own;
-      only = λ up' y' j' k. either ((y' ≡ y) × (up' ≡ up)) calls call up' y' j' (λ m z. b.only up' y' j' m)
-          (last_same calls up up' y y' apart b.is.waits b.now) k;
-      chosen = λ d. subst (λ cs. IsPick c picks (history cs) n) (sym (front_same calls call j b.is.inside))
-          (b.chosen d);
-    } in
-    (up, y, j, all)
+  -- and tells of it again where it is begun
+  pub holds_again : (j : ℕ) → Apart (history calls) (waiting (history calls))
+      → Begun c picks calls n up y j → Holds c picks (calls ++ Begin (Some up) ∷ []) (Some n)
+  holds_again j apart b =
+      let call = Begin (Some up) in
+      let same = begin_same calls (Some up) in
+      let all : Begun c picks (calls ++ call ∷ []) n up y j = record {
+        is = begun_more calls call up y j b.is refl (subst (λ u. is_waiting u y ≡ true) (sym same) b.is.waits);
+        now = b.now ∙ ap (λ u. foretold u y) (sym same);
+        own = b.own;
+        only = λ up' y' j' k. either ((y' ≡ y) × (up' ≡ up)) calls call up' y' j' (λ m z. b.only up' y' j' m)
+            (last_same calls up up' y y' apart b.is.waits b.now) k;
+        chosen =
+            λ d. subst (λ cs. IsPick c picks (history cs) n) (sym (front_same calls call j b.is.inside)) (b.chosen d);
+      } in
+      (up, y, j, all)
 
 -- a begin that finds nothing
 pub nothing_told : (calls : List Call) → waiting (history calls) ≡ [] → NothingBegun calls
@@ -209,7 +187,6 @@ nothing_told calls e none up y j b = either ⊥ calls (Begin None) up y j (λ k 
     (λ l. untold (Begin None) up refl l.told) b
 
 -- ---- a call
-
 -- what is known of a call, and of what is then held
 pub record Turned {K : Type 0} (c : Settings) (picks : List Choice → ℕ → Type 0) (calls : List Call) (call : Call)
     (h : Holdings K) : Type 0 where

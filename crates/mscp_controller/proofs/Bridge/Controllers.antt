@@ -1,15 +1,13 @@
 -- A controller of a picker keeps the promise, and a run has it.
 use Rattle.mscp_controller.proofs.Common.{◌≡◌, inl, inr, ℕ, ◌-◌, ◌+◌, List, take, length, ap, ◌∙◌, arith, IfSome, Option, Some, None, Choice, figure_of_name, Name, name_of, holders_of_name, names, map_map, Event, Entry, Settings, IsValid, credits_of, of, Answered, Holdings, fresh, waiting_on, IsRun, IsPick, IsSwept, Sweeps, AnsweredCalls, Call, IsChosen, call_at, history, starts, KeepsPromise, waiting}
 use Rattle.mscp_controller.proofs.Bridge.Swept.{sweeping, swept_pick}
-use Rattle.mscp_controller.proofs.Bridge.Held.{figure_of_held, held_of}
+use Rattle.mscp_controller.proofs.Bridge.Basics.{figure_of_held, held_of, balance_held}
 use Rattle.mscp_controller.proofs.Bridge.Holders.{holders_of_held, startable_unheld}
 use Rattle.mscp_controller.proofs.Promise.Progress.{progress}
-use Rattle.mscp_controller.proofs.Bridge.Sending.{balance_held}
 use Rattle.mscp_controller.proofs.Bridge.Following.{as_many, comes}
 use Rattle.mscp_controller.proofs.Bridge.Calling.{called}
 
 -- ---- a run
-
 pub runs : {K : Type 0} (c : Settings) (picks : List Choice → ℕ → Type 0) (picker : K) (es : List Event)
     (ns : List Entry) (h : Holdings K) → IsValid c → Answered picks (fresh c picker) es ns h → IsRun picks c es ns
 runs c picks picker es ns h v r =
@@ -22,7 +20,6 @@ pub new_runs : {K : Type 0} (c : Settings) (picks : K → List Choice → ℕ �
 new_runs {K} c picks picker new es ns h v e r = search (arith, runs)
 
 -- ---- whoever calls
-
 chosen_swept : (c : Settings) (picks : List Choice → ℕ → Type 0) (so_far : List Call) (n : Name) → Sweeps picks
     → IsChosen (IsPick c picks) so_far n → IsChosen (IsSwept c) so_far n
 chosen_swept c picks so_far n w (inl h) = inl (h.0, swept_pick c picks (history so_far) n w h.1)
@@ -54,6 +51,5 @@ keeps_promise c picks picker calls h v r =
       unheld = λ x l idle. startable_unheld c t x idle;
       drives = k.agrees.driven.drives;
       balance = λ via. ap (λ (s : Settings). credits_of s via - (length (waiting_on via h.waiting) + length
-          (of via h.untaken)))
-          k.settings ∙ balance_held c via t h.waiting h.untaken f;
+          (of via h.untaken))) k.settings ∙ balance_held c via t h.waiting h.untaken f;
     }

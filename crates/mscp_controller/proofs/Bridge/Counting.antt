@@ -1,36 +1,24 @@
 -- How many commands of each connection wait.
-use Rattle.mscp_controller.proofs.Common.{◌≡◌, ℕ, ◌+◌, ◌<◌, Bool, true, false, not, ◌&&◌, List, [], ◌∷◌, ◌++◌, map, length, take, drop, ap, refl, arith, if◌then◌else◌, option_to_list, Option, and-false, true≢false, length-append, filter-append, End, Block, Connection, First, Second, Report, Choice, Line, Serves, name_on, same_connection, Record, no_record, passed_by, record_at, remains, without, every_from, filter_filter, filter_on, one_side, other_side, cut_at, ends_reported, waiting_on}
-use Rattle.mscp_queue.specs.declared.report.Report.TheVariants as reports
-use Rattle.mscp_controller.proofs.Promise.Sides.{sides_length}
+use Rattle.mscp_controller.proofs.Basics.{◌≡◌, ℕ, ◌+◌, ◌<◌, Bool, true, false, not, ◌&&◌, List, [], ◌∷◌, ◌++◌, map, length, take, drop, ap, refl, arith, if◌then◌else◌, option_to_list, Option, and-false, true≢false, length-append, filter-append, End, Block, Connection, First, Second, Report, Choice, Line, Serves, name_on, same_connection, Record, no_record, passed_by, record_at, remains, without, every_from, filter_filter, filter_on, one_side, other_side, cut_at, ends_reported, waiting_on, sides_length}
 
 -- ---- a step
-
 passed_count : (n : ℕ) (via : Connection) (rs : List Record)
     → length (waiting_on via (map (passed_by n) rs)) ≡ length (waiting_on via rs)
 passed_count n via [] = refl
 passed_count n via (r ∷ rs) = search (arith, passed_count n via rs)
 
-remains_count : (via : Connection) (r : Record) (e : Option End)
-    → length (waiting_on via (remains r e))
-    + length (if same_connection r.connection via then option_to_list e else []) ≡ length (waiting_on via (r ∷ []))
+remains_count : (via : Connection) (r : Record) (e : Option End) → length (waiting_on via (remains r e)) + length
+    (if same_connection r.connection via then option_to_list e else []) ≡ length (waiting_on via (r ∷ []))
 remains_count via r e = grind arith
 
 parts_count : (via : Connection) (A B C : List Record) → length (waiting_on via (A ++ (B ++ C)))
     ≡ length (waiting_on via A) + (length (waiting_on via B) + length (waiting_on via C))
-parts_count via A B C =
-    search (
-      arith,
-      length-append (waiting_on via A) (waiting_on via (B ++ C)),
-      length-append (waiting_on via B)
-          (waiting_on via C),
-      filter-append,
-    )
+parts_count via A B C = search (arith, length-append, filter-append)
 
 -- where a command ends, one less waits of its connection
-count_after : (via : Connection) (n place : ℕ) (rs : List Record) (e : Option End) → place < length rs
-    → let r = record_at rs place in
-    length (waiting_on via (map (passed_by n) (take place rs) ++ (remains r e ++ drop (place + 1) rs)))
-    + length (if same_connection r.connection via then option_to_list e else []) ≡ length (waiting_on via rs)
+count_after : (via : Connection) (n place : ℕ) (rs : List Record) (e : Option End) → place < length rs → let r =
+    record_at rs place in length (waiting_on via (map (passed_by n) (take place rs) ++ (remains r e ++ drop (place + 1)
+    rs))) + length (if same_connection r.connection via then option_to_list e else []) ≡ length (waiting_on via rs)
 count_after via n place rs e l =
     let A = take place rs in
     let B = drop (place + 1) rs in
@@ -48,14 +36,12 @@ count_after via n place rs e l =
 pub count_stepped : {K : Type 0} (via : Connection) (picks : List Choice → ℕ → Type 0) (k : Block) (old : Line K)
     (report : Report) (new : Line K) → Serves picks k old report new
     → length (waiting_on via new.waiting) + length (ends_reported via report) ≡ length (waiting_on via old.waiting)
-count_stepped {K} via picks k old reports.Idle new h = search arith
-count_stepped {K} via picks k old (reports.Served connection reference unit lbn started seek ended) new h =
+count_stepped {K} via picks k old Report.Idle new h = search arith
+count_stepped {K} via picks k old (Report.Served connection reference unit lbn started seek ended) new h =
     search (arith, count_after)
 
 -- ---- a command comes
-
 -- ---- a command is aborted
-
 -- the others keep their commands
 apart_and : (here there n : Bool) → (there ≡ true → here ≡ false) → (not (here && n) && there) ≡ there
 apart_and here there n h3 = grind (arith, true≢false, and-false, not)
@@ -70,14 +56,12 @@ pub own_count : (via : Connection) (n : ℕ) (ws : List Record) → length (with
     → length (waiting_on via (without (name_on via n) ws)) + 1 ≡ length (waiting_on via ws)
 own_count First n ws e = omega (
   arith,
-  e,
   other_count First Second n ws refl,
   sides_length (λ (r : Record). r.connection) ws,
   sides_length (λ (r : Record). r.connection) (without (name_on First n) ws),
 )
 own_count Second n ws e = omega (
   arith,
-  e,
   other_count Second First n ws refl,
   sides_length (λ (r : Record). r.connection) ws,
   sides_length (λ (r : Record). r.connection) (without (name_on Second n) ws),

@@ -11,8 +11,7 @@ held_of t x = record {
   weight = weight t x;
   done = done t x;
   good = good t x;
-  passed =
-      passed t x;
+  passed = passed t x;
 }
 
 -- The records are those of the waiting commands, and each connection's ends those that weren't taken.
@@ -22,7 +21,6 @@ pub record Follows (c : Settings) (t : Trace) (ws : List Record) (us : Both (Lis
   pub ends : (via : Connection) → of via us ≡ untaken c via t
 
 -- ---- figures
-
 working_held : (t : Trace) (B : List ℕ) → sum_by left_of (filter is_in_service (map (held_of t) B))
     ≡ sum_by (left t) (filter (in_service t) B)
 working_held t B = ap (sum_by left_of) (filter_map_of (held_of t) is_in_service B)
@@ -32,11 +30,9 @@ working_held t B = ap (sum_by left_of) (filter_map_of (held_of t) is_in_service 
 figure_held : (c : Settings) (t : Trace) (A : List ℕ) (x : ℕ) (B : List ℕ) → waiting t ≡ A ++ x ∷ B
     → figure_between c.budget (map (held_of t) A) (held_of t x) (map (held_of t) B) ≡ figure c t x
 figure_held c t A x B e =
-    let sum : ℕ → ℕ → ℕ = λ a b. cond (in_service t x) (left t x)
-    (a + b + (c.budget - passed t x) + left t x) in
+    let sum : ℕ → ℕ → ℕ = λ a b. cond (in_service t x) (left t x) (a + b + (c.budget - passed t x) + left t x) in
     ap (λ a. sum a (sum_by left_of (filter is_in_service (map (held_of t) B)))) (sum_by_map (held_of t) left_of A)
-    ∙ (ap (λ b. sum (sum_by (left t) A) b) (working_held t B)
-    ∙ sym (falls.figure_at c t A x B e))
+    ∙ (ap (λ b. sum (sum_by (left t) A) b) (working_held t B) ∙ sym (falls.figure_at c t A x B e))
 
 -- what a look tells of a record besides its figure
 abbrev looked_name : Record → (Connection × ℕ)
@@ -50,15 +46,12 @@ shown_at c t A x B k e l = search (arith, figure_held c t A x B e, map-append, a
 figures_part : (c : Settings) (t : Trace) (A B : List ℕ) (k : ℕ) → waiting t ≡ A ++ B → length A ≡ k
     → figures_from c.budget (map (held_of t) (waiting t)) (range_with_len k (length B)) ≡ map (shown c t) B
 figures_part c t A [] k e l = refl
-figures_part c t A (x ∷ B) k e l =
-    search (
-      arith,
-      shown_at c t A x B k e l,
-      figures_part c t (A ++ x ∷ []) B (k + 1) (e ∙ sym (append_assoc A (x ∷ [])
-          B)) (omega (arith, length-append A (x ∷ []), l)),
-      append_assoc A (x ∷ []) B,
-      length-append A (x ∷ []),
-    )
+figures_part c t A (x ∷ B) k e l = search (
+  arith,
+  shown_at,
+  figures_part c t (A ++ x ∷ []) B (k + 1)
+      (e ∙ sym (append_assoc A (x ∷ []) B)) (omega (arith, length-append A (x ∷ []), l)),
+)
 
 -- The records' figures are those of the waiting commands.
 pub figures_held : (c : Settings) (t : Trace)

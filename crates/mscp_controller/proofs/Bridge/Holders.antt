@@ -1,21 +1,17 @@
 -- Who keeps a command back, as the records and as the history say it.
 use Rattle.mscp_controller.proofs.Common.{◌≡◌, ⊎_elim, ℕ, ◌+◌, ◌<◌, ◌≤◌, Bool, true, not, ◌&&◌, ◌||◌, List, [], ◌∷◌, ◌++◌, map, take, get_or, length, refl, ap, sym, ◌∙◌, arith, filter, find, nat_le, Some, list_all, position, range_with_len, and-false, get_or-take, length-append, length-map, length-take-le, map-append, Name, Holder, same_name, has_name, record_at, is_nobody, every_kept, every_weaker, range_below, at_place, find_cases, find_first, find_none, map_map, map_on, position_first, position_none, Settings, Trace, earlier, is_idle, name, waiting, holder, holders, holders_found, holders_of, keeps_back, fences, is_free, is_startable, passed, charge}
 use Rattle.mscp_queue.specs.Why as records
-use Rattle.mscp_controller.proofs.Bridge.Held.{has_held, held_of}
-use Rattle.mscp_controller.proofs.Bridge.Viewed.{filter_places, front_held, record_held, waiting_at}
+use Rattle.mscp_controller.proofs.Bridge.Basics.{has_held, held_of, filter_places, front_held, record_held, waiting_at}
 
--- what is told of an earlier record is what is told of its command
-holder_held : (c : Settings) (t : Trace) (place front : ℕ) → place < length (waiting t) → front < place
-    → holder c t (waiting_at t place) (waiting_at t front)
-    ≡ records.holder_of c.budget (record_at (map (held_of t) (waiting t)) place)
-    (record_at (map (held_of t) (waiting t)) front)
-holder_held c t place front l b = search (arith, record_held t place l, record_held t front (omega (arith, l, b)))
+module _ (c : Settings) (t : Trace) (place front : ℕ) (l : place < length (waiting t)) (b : front < place) where
+  -- what is told of an earlier record is what is told of its command
+  holder_held : holder c t (waiting_at t place) (waiting_at t front) ≡ records.holder_of c.budget
+      (record_at (map (held_of t) (waiting t)) place) (record_at (map (held_of t) (waiting t)) front)
+  holder_held = search (arith, record_held t place l, record_held t front (omega (arith, l, b)))
 
-keeps_held : (c : Settings) (t : Trace) (place front : ℕ) → place < length (waiting t) → front < place
-    → keeps_back c t (waiting_at t place) (waiting_at t front)
-    ≡ records.keeps_back c.budget (record_at (map (held_of t) (waiting t)) place)
-    (record_at (map (held_of t) (waiting t)) front)
-keeps_held c t place front l b = ap (λ (h : Holder). h.fences || h.overdrawn) (holder_held c t place front l b)
+  keeps_held : keeps_back c t (waiting_at t place) (waiting_at t front) ≡ records.keeps_back c.budget
+      (record_at (map (held_of t) (waiting t)) place) (record_at (map (held_of t) (waiting t)) front)
+  keeps_held = ap (λ (h : Holder). h.fences || h.overdrawn) holder_held
 
 -- all that keep the record at a place back are those that keep its command back
 places_held : (c : Settings) (t : Trace) (place : ℕ) → place < length (waiting t)
@@ -30,21 +26,16 @@ places_held c t place l =
     let tell : ℕ → Holder = λ k. records.holder_of c.budget (record_at rs place) (record_at rs k) in
     let own : ℕ → Holder = λ k. holder c t y (waiting_at t k) in
     let long : length front ≡ place = length-take-le place W (omega (arith, l)) in
-    let at : (k : ℕ) → k < length front → get_or front k 0 ≡ waiting_at t k =
-    λ k b. get_or-take place W k 0 (omega (arith, b, long)) in
+    let at : (k : ℕ)
+    → k < length front → get_or front k 0 ≡ waiting_at t k = λ k b. get_or-take place W k 0 (omega (arith, b, long)) in
     let zero_more : (k : ℕ) → 0 + k ≡ k = λ k. omega arith in
     sym (ap (λ zs. map (holder c t y) (filter (keeps_back c t y) zs)) (front_held t place l)
-    ∙ (ap (map (holder c t y)) (filter_places (keeps_back c t y) q (waiting_at t) 0 front
-    (λ k b. (
+    ∙ (ap (map (holder c t y)) (filter_places (keeps_back c t y) q (waiting_at t) 0 front (λ k b. (
       ap (waiting_at t) (zero_more k) ∙ sym (at k b),
-      ap (keeps_back c t y) (at k b)
-          ∙ (keeps_held c t place k l (omega (arith, b, long)) ∙ ap q (sym (zero_more k))),
-    )))
-    ∙ (map_map (waiting_at t) (holder c t y) (filter q (range_with_len 0 (length front)))
-    ∙ (ap (λ n. map own (filter q (range_with_len 0 n))) long
-    ∙ map_on own tell (filter q (range_with_len 0 place))
-    (every_kept (λ k. own k ≡ tell k) q (range_with_len 0 place)
-    (every_weaker (λ k. (0 ≤ k) × (k < 0 + place)) (λ k. own k ≡ tell k)
+      ap (keeps_back c t y) (at k b) ∙ (keeps_held c t place k l (omega (arith, b, long)) ∙ ap q (sym (zero_more k))),
+    ))) ∙ (map_map (waiting_at t) (holder c t y) (filter q (range_with_len 0 (length front))) ∙ (ap (λ n. map own
+    (filter q (range_with_len 0 n))) long ∙ map_on own tell (filter q (range_with_len 0 place)) (every_kept (λ k.
+    own k ≡ tell k) q (range_with_len 0 place) (every_weaker (λ k. (0 ≤ k) × (k < 0 + place)) (λ k. own k ≡ tell k)
     (λ k b. holder_held c t place k l (omega (arith, b.1))) (range_with_len 0 place) (range_below 0 place)))))))
 
 -- of the waiting command of a name they are the same
@@ -75,10 +66,8 @@ holders_of_held c t n =
     (find_cases q (waiting t))
 
 -- ---- nobody keeps back what may start
-
-none_keeps : {X : Type 0} (told : X → Holder) (fences affords : X → Bool) (xs : List X)
-    → is_nobody (map told (filter (λ z. fences z || not (affords z)) xs))
-    ≡ (list_all (λ z. not (fences z)) xs && list_all affords xs)
+none_keeps : {X : Type 0} (told : X → Holder) (fences affords : X → Bool) (xs : List X) → is_nobody (map told
+    (filter (λ z. fences z || not (affords z)) xs)) ≡ (list_all (λ z. not (fences z)) xs && list_all affords xs)
 none_keeps told fences affords [] = refl
 none_keeps {X} told fences affords (x ∷ xs) = search (arith, none_keeps told fences affords xs, not, and-false)
 

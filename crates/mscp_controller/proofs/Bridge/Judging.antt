@@ -11,9 +11,8 @@ waiting_held : (rs : List Record) (via : Connection) (reference : ℕ)
 waiting_held [] via reference = refl
 waiting_held (r ∷ rs) via reference =
     let rest = waiting_held rs via reference in
-    elim (same_connection r.connection via) as (λ b. holds (numbers (cond b (r ∷ waiting_on via rs)
-    (waiting_on via rs)))
-    reference ≡ ((b && nat_eq r.command.reference reference) || list_any (has_name (name_on via reference)) rs))
+    elim (same_connection r.connection via) as (λ b. holds (numbers (cond b (r ∷ waiting_on via rs) (waiting_on via
+    rs))) reference ≡ ((b && nat_eq r.command.reference reference) || list_any (has_name (name_on via reference)) rs))
     [ true ↦ ap (λ b. nat_eq r.command.reference reference || b) rest | false ↦ rest ]
 
 untaken_held : (es : List End) (reference : ℕ)
@@ -37,7 +36,6 @@ taken balance outstanding b command h e = search (arith, le-ltb)
 or_left : (a b : Bool) → (a || b) ≡ false → a ≡ false
 or_left a b h2 = grind (arith, true≢false)
 
-pub none_waits : (rs : List Record) (via : Connection) (es : List End) (reference : ℕ)
-    → holds (numbers (waiting_on via rs) ++ numbers_ended es) reference ≡ false
-    → list_any (has_name (name_on via reference)) rs ≡ false
+pub none_waits : (rs : List Record) (via : Connection) (es : List End) (reference : ℕ) → holds (numbers (waiting_on via
+    rs) ++ numbers_ended es) reference ≡ false → list_any (has_name (name_on via reference)) rs ≡ false
 none_waits rs via es reference h = search (arith, holds_either rs via es reference, or_left)

@@ -1,16 +1,10 @@
 -- What each call keeps of what a controller holds.
-use Rattle.mscp_controller.proofs.Common.{◌≡◌, ℕ, ◌+◌, ◌-◌, ◌<◌, ◌≤◌, Bool, List, [], ◌∷◌, map, length, drop, ap, refl, sym, subst, ◌∙◌, arith, if◌then◌else◌, slice_get, Option, Some, None, IfSome, is_some, false≢true, AllByRecursion, length-append, length-drop, End, IsOfKind, Shape, Block, Connection, First, Second, Name, Report, Choice, fresh_drive, units_of, Line, Serves, name_on, Record, without, end_in, every_append, own_side, Account, Accounts, CanEnd, account, put_account, reported, taken, untaken_in, Settings, IsValid, credits_of, room, waiting_on, of, IsAccount, IsHeld, append-nil}
+use Rattle.mscp_controller.proofs.Basics.{◌≡◌, ℕ, ◌+◌, ◌-◌, ◌<◌, ◌≤◌, Bool, List, [], ◌∷◌, map, length, drop, ap, refl, sym, subst, ◌∙◌, arith, if◌then◌else◌, slice_get, Option, Some, None, IfSome, is_some, false≢true, AllByRecursion, length-append, length-drop, End, IsOfKind, Shape, Block, Connection, First, Second, Name, Report, Choice, fresh_drive, units_of, Line, Serves, name_on, Record, without, end_in, every_append, Account, Accounts, CanEnd, account, put_account, reported, taken, untaken_in, Settings, IsValid, credits_of, room, waiting_on, of, IsAccount, IsHeld, each_account, seen_of, some_same, sides_length}
 use Rattle.mscp_controller.specs.Accounts.{fresh, left}
-use Rattle.mscp_queue.specs.declared.report.Report.TheVariants as reports
 use Rattle.mscp_queue.specs.Lines as lines
-use Rattle.mscp_controller.proofs.Bridge.Accounts.{each_account, of_more, seen_left, seen_of}
 use Rattle.mscp_controller.proofs.Bridge.Counting.{count_stepped, other_count, own_count}
-use Rattle.mscp_controller.proofs.Bridge.Owning.{stays}
-use Rattle.mscp_controller.proofs.Promise.Served.{some_same}
-use Rattle.mscp_controller.proofs.Promise.Sides.{sides_length}
 
 -- ---- the accounts
-
 -- the limits and the units stay
 pub record IsStill {K : Type 0} (old new : Line K) : Type 0 where
   pub room : new.room ≡ old.room
@@ -32,19 +26,16 @@ account_stays : {c : Settings} {ws ws' : List Record} {via : Connection} {own : 
 account_stays h e = search arith
 
 -- ---- nothing came
-
 units_fresh : (us : List Shape) → units_of (map fresh_drive us) ≡ us
 units_fresh [] = refl
 units_fresh (u ∷ us) = ap (λ vs. u ∷ vs) (units_fresh us)
 
-pub held_fresh : {K : Type 0} (c : Settings) (units : List Shape) (room' budget longest : ℕ) (picker : K)
-    (line : Line K) (a : Accounts) → IsValid c → units ≡ c.units → room' ≡ room c → budget ≡ c.budget
-    → longest ≡ c.longest → line ≡ lines.fresh units room' budget longest picker
-    → a ≡ record { first = fresh; second = fresh } → IsHeld c line a
+pub held_fresh : {K : Type 0} (c : Settings) (units : List Shape) (room' budget longest : ℕ) (picker : K) (line : Line
+    K) (a : Accounts) → IsValid c → units ≡ c.units → room' ≡ room c → budget ≡ c.budget → longest ≡ c.longest → line
+    ≡ lines.fresh units room' budget longest picker → a ≡ record { first = fresh; second = fresh } → IsHeld c line a
 held_fresh {K} c units room' budget longest picker line a v u r p l e n = search (arith, units_fresh units)
 
 -- ---- a step
-
 -- the ends that a step brings are of their kind
 kind_either : (here : Bool) (end : End) → IsOfKind end → AllByRecursion IsOfKind (if here then end ∷ [] else [])
 kind_either here end h2 = grind arith
@@ -55,34 +46,18 @@ few_of c via h2 = grind arith
 -- there is room for the end that a step brings, and its command is counted
 pub can_end : {K : Type 0} (c : Settings) (picks : List Choice → ℕ → Type 0) (k : Block) (old : Line K)
     (report : Report) (new : Line K) (a : Accounts) → IsHeld c old a → Serves picks k old report new → CanEnd report a
-can_end c picks k old reports.Idle new a h s = tt
-can_end c picks k old (reports.Served via reference unit lbn started seek None) new a h s = tt
-can_end c picks k old (reports.Served via reference unit lbn started seek (Some end)) new a h s =
-    search (
-      arith,
-      count_stepped via picks k old (reports.Served via reference unit lbn started seek (Some end)) new s,
-      own_side via,
-      few_of c via h.valid,
-    )
+can_end c picks k old Report.Idle new a h s = tt
+can_end c picks k old (Report.Served via reference unit lbn started seek None) new a h s = tt
+can_end c picks k old (Report.Served via reference unit lbn started seek (Some end)) new a h s =
+    search (arith, count_stepped via picks k old (Report.Served via reference unit lbn started seek (Some end)) new s)
 
-pub held_stepped : {K : Type 0} (c : Settings) (picks : List Choice → ℕ → Type 0) (k : Block) (old : Line K)
-    (report : Report) (new : Line K) (a : Accounts) → IsHeld c old a → Serves picks k old report new
+pub held_stepped : {K : Type 0} (c : Settings) (picks : List Choice → ℕ → Type 0) (k : Block)
+    (old : Line K) (report : Report) (new : Line K) (a : Accounts) → IsHeld c old a → Serves picks k old report new
     → units_of new.drives ≡ units_of old.drives → IfSome (end_in report) IsOfKind → IsHeld c new (reported report a)
 held_stepped {K} c picks k old report new a h s u kind =
-    search (
-      arith,
-      stays picks k old report new s,
-      can_end c picks k old report new a h s,
-      held_like,
-      count_stepped,
-      length-append,
-      every_append,
-      kind_either,
-      append-nil,
-    )
+    search (arith, can_end c picks k old report new a h s, count_stepped, length-append, every_append)
 
 -- ---- a message
-
 -- an end is taken, if there is one
 rest_kinds : (es : List End) → AllByRecursion IsOfKind es → AllByRecursion IsOfKind (drop 1 es)
 rest_kinds es h1 = grind arith
@@ -92,34 +67,30 @@ pub held_taken : {K : Type 0} {c : Settings} {line : Line K} {a : Accounts} (via
 held_taken {K} {c} {line} {a} via h = search (arith, held_like, each_account, length-drop, rest_kinds)
 
 -- ---- an abort
+module _ {K : Type 0} {c : Settings} {old new : Line K} {a : Accounts} (via : Connection) (n : ℕ) where
+  -- there is room for the end of an aborted command, and the command is counted
+  pub can_leave : IsHeld c old a → new ≡ lines.aborting (name_on via n) old → length new.waiting + 1
+      ≡ length old.waiting → (1 ≤ (account via a).waiting) × (length (account via a).untaken.items < 64)
+  can_leave h e count =
+      let less = own_count via n old.waiting (sym (ap (λ (l : Line K). length l.waiting + 1) e) ∙ count) in
+      let counted = (h.account via).counted in
+      (omega (arith, less, counted), omega (arith, less, counted, (h.account via).covered, few_of c via h.valid))
 
--- there is room for the end of an aborted command, and the command is counted
-pub can_leave : {K : Type 0} {c : Settings} {old new : Line K} {a : Accounts} (via : Connection) (n : ℕ)
-    → IsHeld c old a → new ≡ lines.aborting (name_on via n) old → length new.waiting + 1 ≡ length old.waiting
-    → (1 ≤ (account via a).waiting) × (length (account via a).untaken.items < 64)
-can_leave {K} {c} {old} {new} {a} via n h e count =
-    let less = own_count via n old.waiting (sym (ap (λ (l : Line K). length l.waiting + 1) e) ∙ count) in
-    let counted = (h.account via).counted in
-    let covered = (h.account via).covered in
-    (omega (arith, less, counted), omega (arith, less, counted, covered, few_of c via h.valid))
-
-pub held_aborted : {K : Type 0} {c : Settings} {old new : Line K} {a : Accounts} (via : Connection) (n : ℕ) (end : End)
-    → IsHeld c old a → new ≡ lines.aborting (name_on via n) old → length new.waiting + 1 ≡ length old.waiting
-    → IsOfKind end → IsHeld c new (put_account via (left end (account via a)) a)
-held_aborted {K} {c} {old} {new} {a} via n end h e count kind =
-    let ws = without (name_on via n) old.waiting in
-    let own = h.account via in
-    let items = (account via a).untaken.items in
-    let less = own_count via n old.waiting (sym (ap (λ (l : Line K). length l.waiting + 1) e) ∙ count) in
-    let counted = own.counted in
-    let covered = own.covered in
-    let fits = own.fits in
-    let own' : IsAccount c ws via (left end (account via a)) =
-    search (arith, length-append items (end ∷ []), every_append IsOfKind items (end ∷ []) own.shaped (kind, tt)) in
-    search (arith, ws, own', held_like, still_by, each_account, account_stays, other_count)
+  pub held_aborted : (end : End) → IsHeld c old a → new ≡ lines.aborting (name_on via n) old → length new.waiting + 1
+      ≡ length old.waiting → IsOfKind end → IsHeld c new (put_account via (left end (account via a)) a)
+  held_aborted end h e count kind =
+      let ws = without (name_on via n) old.waiting in
+      let own = h.account via in
+      let items = (account via a).untaken.items in
+      let less = own_count via n old.waiting (sym (ap (λ (l : Line K). length l.waiting + 1) e) ∙ count) in
+      let counted = own.counted in
+      let covered = own.covered in
+      let fits = own.fits in
+      let own' : IsAccount c ws via (left end (account via a)) =
+      search (arith, length-append items (end ∷ []), every_append IsOfKind items (end ∷ []) own.shaped (kind, tt)) in
+      search (arith, ws, own', held_like, still_by, each_account, account_stays, other_count)
 
 -- ---- credits that are seen
-
 -- so many credits are free, whether the ends are seen or held
 pub free_seen : (c : Settings) (ws : List Record) (via : Connection) (n : ℕ) (a : Accounts)
     → n ≤ credits_of c via - (length (waiting_on via ws) + length (of via (untaken_in a)))
@@ -133,41 +104,29 @@ pub room_left : {K : Type 0} {c : Settings} {line : Line K} {a : Accounts} (via 
 room_left {K} {c} {line} {a} First h free =
     let other = (h.account Second).fits in
     let counted = (h.account Second).counted in
-    let room = h.same_room in
-    omega (arith, free, other, counted, room, sides_length (λ (r : Record). r.connection) line.waiting)
+    omega (arith, free, other, counted, h.same_room, sides_length (λ (r : Record). r.connection) line.waiting)
 room_left {K} {c} {line} {a} Second h free =
     let other = (h.account First).fits in
     let counted = (h.account First).counted in
-    let room = h.same_room in
-    omega (arith, free, other, counted, room, sides_length (λ (r : Record). r.connection) line.waiting)
+    omega (arith, free, other, counted, h.same_room, sides_length (λ (r : Record). r.connection) line.waiting)
 
--- the account of each connection
-pub balanced : {K : Type 0} {c : Settings} {line : Line K} {a : Accounts} → IsHeld c line a → (via : Connection)
-    → credits_of c via - (length (waiting_on via line.waiting) + length (of via (untaken_in a)))
-    + length (waiting_on via line.waiting) + length (of via (untaken_in a)) ≡ credits_of c via
-balanced {K} {c} {line} {a} h via = search (arith, seen_of via a)
+module _ {K : Type 0} {c : Settings} {line : Line K} {a : Accounts} (h : IsHeld c line a) (via : Connection) where
+  -- the account of each connection
+  pub balanced : credits_of c via - (length (waiting_on via line.waiting) + length (of via (untaken_in a))) + length
+      (waiting_on via line.waiting) + length (of via (untaken_in a)) ≡ credits_of c via
+  balanced = search (arith, seen_of via a)
 
--- what a connection's commands and ends hold is at most 64
-pub held_small : {K : Type 0} {c : Settings} {line : Line K} {a : Accounts} → IsHeld c line a → (via : Connection)
-    → (account via a).waiting + length (account via a).untaken.items ≤ 64
-held_small {K} {c} {line} {a} h via = search (arith, few_of c via h.valid)
+  -- what a connection's commands and ends hold is at most 64
+  pub held_small : (account via a).waiting + length (account via a).untaken.items ≤ 64
+  held_small = search (arith, few_of c via h.valid)
 
 -- an abort leaves the credits that are free as they were: its end takes the place of its command
-pub balance_left : {K : Type 0} (c : Settings) (old new : Line K) (a a' : Accounts) (via : Connection) (n : ℕ)
-    (end : End)
-    → new ≡ lines.aborting (name_on via n) old → length new.waiting + 1 ≡ length old.waiting
-    → a' ≡ put_account via (left end (account via a)) a
+pub balance_left : {K : Type 0} (c : Settings) (old new : Line K)
+    (a a' : Accounts) (via : Connection) (n : ℕ) (end : End) → new ≡ lines.aborting (name_on via n) old
+    → length new.waiting + 1 ≡ length old.waiting → a' ≡ put_account via (left end (account via a)) a
     → credits_of c via - (length (waiting_on via new.waiting) + length (of via (untaken_in a')))
     ≡ credits_of c via - (length (waiting_on via old.waiting) + length (of via (untaken_in a)))
-balance_left {K} c old new a a' via n end e count more =
-    search (
-      arith,
-      seen_left via end a,
-      of_more via (untaken_in a) (end ∷ []),
-      length-append (of via (untaken_in a))
-          (end ∷ []),
-      own_count,
-    )
+balance_left {K} c old new a a' via n end e count more = search (arith, length-append, own_count)
 
 -- an end that is taken has the body of its endcode
 pub taken_kind : (es : List End) (e : End) → slice_get es 0 ≡ Some e → AllByRecursion IsOfKind es → IsOfKind e

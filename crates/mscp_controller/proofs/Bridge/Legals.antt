@@ -1,8 +1,5 @@
 -- A run whose moments are right one by one is legal.
-use Rattle.mscp_controller.proofs.Common.{◌≡◌, ℕ, ◌<◌, true, ◌||◌, ◌&&◌, List, [], ◌∷◌, ◌++◌, map, take, drop, length, ap, sym, subst, arith, append-nil, if◌then◌else◌, nat_eq, option_map, slice_get, slice_index_or, None, Option, Some, and_parts, false≢true, append_assoc, command_of, end_bytes, Block, First, Settings, Trace, Moment, moment, collect, Service, service_in, WhenStarted, balance, ends, outstanding, untaken, command, connection, reference, service_name, unit, is_waiting, waiting, done, good, in_service, arrival, answer, outcome, figure, figure_of, is_free, is_startable, passed, passed_at, startable, head_cylinder, head_up, is_online, Choice, IsPick, IsPicked, IsRight, IsLegal, IsServed, block_of, seek_to, end_of, shown, Event, Entry, each_push}
-use Rattle.mscp_events.specs.declared.event.Event.TheVariants as events
-use Rattle.mscp_queue.specs.declared.report.Report.TheVariants as reports
-use Rattle.mscp_controller.specs.declared.entry.Entry.TheVariants as entries
+use Rattle.mscp_controller.proofs.Common.{◌≡◌, ℕ, ◌<◌, true, ◌||◌, ◌&&◌, List, [], ◌∷◌, ◌++◌, map, take, drop, length, ap, sym, subst, arith, append-nil, if◌then◌else◌, nat_eq, option_map, slice_get, slice_index_or, None, Option, Some, and_parts, false≢true, append_assoc, command_of, end_bytes, Block, First, Settings, Trace, Moment, moment, collect, Service, service_in, WhenStarted, balance, ends, outstanding, untaken, command, connection, reference, service_name, unit, is_waiting, waiting, done, good, in_service, arrival, answer, outcome, figure, figure_of, is_free, is_startable, passed, passed_at, startable, head_cylinder, head_up, is_online, Choice, IsPick, IsPicked, IsRight, IsLegal, IsServed, block_of, seek_to, end_of, shown, Event, Entry, each_push, Report}
 
 -- each moment is right after those before it
 abbrev pub RightFrom : Settings → Trace → Trace → Type 0
@@ -10,11 +7,10 @@ RightFrom c t [] = Unit {0}
 RightFrom c t (m ∷ ms) = IsRight c t m.0 m.1 × RightFrom c (t ++ m ∷ []) ms
 
 -- What holds at each moment, with one more.
-each_more : (R : Trace → Moment → Type 0) (t : Trace) (m : Moment)
-    → ((i : ℕ) → i < length t → R (take i t) (moment t i)) → R t m
-    → (i : ℕ) → i < length (t ++ m ∷ []) → R (take i (t ++ m ∷ [])) (moment (t ++ m ∷ []) i)
+each_more : (R : Trace → Moment → Type 0) (t : Trace) (m : Moment) → ((i : ℕ) → i < length t → R (take i t)
+    (moment t i)) → R t m → (i : ℕ) → i < length (t ++ m ∷ []) → R (take i (t ++ m ∷ [])) (moment (t ++ m ∷ []) i)
 unfolding moment
-each_more R t m l r = each_push (events.Take First, entries.Taken First None) R t m l r
+each_more R t m l r = each_push (Event.Take First, Entry.Taken First None) R t m l r
 
 -- One more right moment.
 pub legal_more : (c : Settings) (t : Trace) (m : Moment) → IsLegal c t → IsRight c t m.0 m.1 → IsLegal c (t ++ m ∷ [])
@@ -41,8 +37,7 @@ service_by c t k y = record {
   reference = reference t y;
   unit = unit t y;
   lbn = block_of t y;
-  started =
-      nat_eq (done t y) 0;
+  started = nat_eq (done t y) 0;
   seek = seek_to c t (unit t y) (block_of t y);
   ended = end_of c t k y;
 }
@@ -53,28 +48,25 @@ pub by_serving : {c : Settings} {t : Trace} {k : Block} {s : Service} (y : ℕ) 
 by_serving y w n e = search arith
 
 -- ---- by computation
-
 -- a step after t with this block serves y, if something waits: none where y may not be served
 abbrev pub step_by : Settings → Trace → Block → ℕ → List ℕ → Option Entry
-step_by c t k y [] = Some (entries.Stepped reports.Idle)
-step_by c t k y (x ∷ xs) =
-    if is_waiting t y && (in_service t y || is_startable c t y) then
-    Some (entries.Stepped (reports.Served (connection t y) (reference t y) (unit t y) (block_of t y)
-    (nat_eq (done t y) 0) (seek_to c t (unit t y) (block_of t y)) (end_of c t k y)))
-    else None
+step_by c t k y [] = Some (Entry.Stepped Report.Idle)
+step_by c t k y (x ∷ xs) = if is_waiting t y &&
+    (in_service t y || is_startable c t y) then Some (Entry.Stepped (Report.Served (connection t y) (reference t y)
+    (unit t y) (block_of t y) (nat_eq (done t y) 0) (seek_to c t (unit t y) (block_of t y)) (end_of c t k y))) else None
 
 -- what is answered to an event after t, if a step serves y
 abbrev pub answer_by : Settings → Trace → Event → ℕ → Option Entry
-answer_by c t (events.Send via b) y = Some (entries.Sent via (arrival c via t b.items))
-answer_by c t (events.Take via) y =
-    Some (entries.Taken via (option_map (λ e. record { items = end_bytes e }) (slice_get (untaken c via t) 0)))
-answer_by c t (events.Step k) y = step_by c t k y (waiting t)
-answer_by c t events.Look y = Some (entries.Looked (record { items = map (shown c t) (waiting t) }))
+answer_by c t (Event.Send via b) y = Some (Entry.Sent via (arrival c via t b.items))
+answer_by c t (Event.Take via) y =
+    Some (Entry.Taken via (option_map (λ e. record { items = end_bytes e }) (slice_get (untaken c via t) 0)))
+answer_by c t (Event.Step k) y = step_by c t k y (waiting t)
+answer_by c t Event.Look y = Some (Entry.Looked (record { items = map (shown c t) (waiting t) }))
 
 -- the commands that are left to be served after an event, which serves the first of them if it is a step and something
 -- waits
 abbrev pub still_served : Trace → Event → List ℕ → List ℕ
-still_served t (events.Step k) ys = if nat_eq (length (waiting t)) 0 then ys else drop 1 ys
+still_served t (Event.Step k) ys = if nat_eq (length (waiting t)) 0 then ys else drop 1 ys
 still_served t event ys = ys
 
 -- what is answered to the events of ms after t, if the steps serve these commands, one after the other
@@ -86,7 +78,7 @@ answers_by c t (m ∷ ms) ys =
     answer_by c t m.0 (slice_index_or ys 0 0) ∷ answers_by c (t ++ m ∷ []) ms (still_served t m.0 ys)
 
 right_step : (c : Settings) (t : Trace) (k : Block) (y : ℕ) (a : Entry) (ws : List ℕ) → waiting t ≡ ws
-    → step_by c t k y ws ≡ Some a → IsRight c t (events.Step k) a
+    → step_by c t k y ws ≡ Some a → IsRight c t (Event.Step k) a
 right_step c t k y a ws h6 h7 = grind (arith, and_parts, by_serving, false≢true)
 
 right_by : (c : Settings) (t : Trace) (e : Event) (y : ℕ) (a : Entry) → answer_by c t e y ≡ Some a → IsRight c t e a
@@ -103,6 +95,5 @@ right_from c t (m ∷ ms) ys h = (
 
 -- A run is legal if each moment has the answer that is computed after those before it, where its steps serve these
 -- commands.
-pub legal_by : (c : Settings) (ms : Trace) (ys : List ℕ) → answers_by c [] ms ys ≡ map (λ m. Some m.1) ms
-    → IsLegal c ms
+pub legal_by : (c : Settings) (ms : Trace) (ys : List ℕ) → answers_by c [] ms ys ≡ map (λ m. Some m.1) ms → IsLegal c ms
 legal_by c ms ys h = legal_from c ms (right_from c [] ms ys h)

@@ -1,12 +1,7 @@
 -- Moments that serve nobody: what is held after them.
-use Rattle.mscp_controller.proofs.Common.{◌≡◌, ℕ, ◌+◌, ◌<◌, ◌≤◌, true, false, cond, not, List, [], ◌∷◌, ◌++◌, map, drop, length, ap, sym, ◌∙◌, append-nil, arith, count_by, filter, None, AllByRecursion, drop-drop, map-append, End, command_of, Connection, Name, Record, fresh_record, name_of, Settings, Both, of, Trace, Moment, connection_of, queues, sent_bytes, takes, service_in, waiting, done, good, ends_in, passed, ends_at, ends, untaken, IsRight, every_kept, every_weaker, every_from, filter_all, filter_map_of, map_on}
-use Rattle.mscp_controller.proofs.Promise.Grows.{command_before, command_last, connection_before, connection_last, done_last, good_before, waiting_more, taken_more, ends_more}
-use Rattle.mscp_controller.proofs.Promise.Waits.{waiting_below, passed_last}
-use Rattle.mscp_controller.proofs.Promise.Steady.{done_kept}
-use Rattle.mscp_controller.proofs.Promise.Passed.{none_starts}
+use Rattle.mscp_controller.proofs.Basics.{◌≡◌, ℕ, ◌+◌, ◌<◌, ◌≤◌, true, false, cond, not, List, [], ◌∷◌, ◌++◌, map, drop, length, ap, sym, ◌∙◌, append-nil, arith, count_by, filter, None, AllByRecursion, drop-drop, map-append, End, command_of, Connection, Name, Record, fresh_record, name_of, Settings, Both, of, Trace, Moment, connection_of, queues, sent_bytes, takes, service_in, waiting, done, good, ends_in, passed, ends_at, ends, untaken, IsRight, every_kept, every_weaker, every_from, filter_all, filter_map_of, map_on, command_before, command_last, connection_before, connection_last, done_last, good_before, waiting_more, taken_more, ends_more, waiting_below, passed_last, done_kept, none_starts, drop_last}
 use Rattle.mscp_controller.proofs.Promise.Known.{known_more}
 use Rattle.mscp_controller.proofs.Bridge.Held.{held_of, Follows}
-use Rattle.mscp_controller.proofs.Promise.Grows.{drop_last}
 
 -- the moment serves nobody and ends nobody
 pub record IsQuiet (m : Moment) : Type 0 where
@@ -14,11 +9,9 @@ pub record IsQuiet (m : Moment) : Type 0 where
   pub kept : (r : Name) → ends_in r m.1 ≡ false
 
 -- ---- one command
-
 -- a record of which nothing changes
 pub held_same : (t : Trace) (m : Moment) (x : ℕ) → x < length t → done (t ++ m ∷ []) x ≡ done t x
-    → good (t ++ m ∷ []) x ≡ good t x → passed (t ++ m ∷ []) x ≡ passed t x
-    → held_of (t ++ m ∷ []) x ≡ held_of t x
+    → good (t ++ m ∷ []) x ≡ good t x → passed (t ++ m ∷ []) x ≡ passed t x → held_of (t ++ m ∷ []) x ≡ held_of t x
 held_same t m x l d g p = search (arith, command_before t m x l, connection_before t m x l)
 
 -- the record of each that waits stays
@@ -33,57 +26,38 @@ pub records_kept : (t t' : Trace) (xs : List ℕ) → AllByRecursion (Keeps t t'
 records_kept t t' xs k = map_on (held_of t') (held_of t) xs k
 
 -- ---- nobody comes
-
 -- What is held after a moment that serves nobody and queues nobody: the records of the commands that it doesn't end.
 pub follows_left : (c : Settings) (t : Trace) (m : Moment) (ws ws' : List Record) (us us' : Both (List End))
-    → 1 ≤ c.longest → IsRight c t m.0 m.1 → service_in m.1 ≡ None → queues m.1 ≡ false
-    → ws' ≡ filter (λ r. not (ends_in (name_of r) m.1)) ws → ((via : Connection)
-    → of via us' ≡ untaken c via (t ++ m ∷ []))
-    → Follows c t ws us
-    → Follows c (t ++ m ∷ []) ws' us'
+    → 1 ≤ c.longest → IsRight c t m.0 m.1 → service_in m.1 ≡ None → queues m.1 ≡ false → ws'
+    ≡ filter (λ r. not (ends_in (name_of r) m.1)) ws → ((via : Connection) → of via us' ≡ untaken c via (t ++ m ∷ []))
+    → Follows c t ws us → Follows c (t ++ m ∷ []) ws' us'
 follows_left c t m ws ws' us us' l r unserved n left e f =
-    search (
-      arith,
-      waiting_more t m,
-      keeps t m unserved,
-      held_of t,
-      not,
-      append-nil,
-      every_kept,
-      known_more,
-      filter_map_of,
-      records_kept,
-    )
+    search (arith, waiting_more, keeps, append-nil, every_kept, known_more, filter_map_of, records_kept)
 
 -- ---- a command comes
-
 -- What is held after a command was queued: its record comes last.
 pub follows_queued : (c : Settings) (t : Trace) (m : Moment) (ws : List Record) (us us' : Both (List End))
-    → 1 ≤ c.longest → IsRight c t m.0 m.1 → IsQuiet m → queues m.1 ≡ true
-    → ((via : Connection) → of via us' ≡ untaken c via (t ++ m ∷ [])) → Follows c t ws us
+    → 1 ≤ c.longest → IsRight c t m.0 m.1 → IsQuiet m
+    → queues m.1 ≡ true → ((via : Connection) → of via us' ≡ untaken c via (t ++ m ∷ [])) → Follows c t ws us
     → Follows c (t ++ m ∷ []) (ws ++ fresh_record (connection_of m.0) (command_of (sent_bytes m.0)) ∷ []) us'
 unfolding good
-follows_queued c t m ws us us' l r q n e f =
-    search (
-      arith,
-      keeps t m q.unserved,
-      known_more c l t m r f.known,
-      records_kept,
-      held_of,
-      map-append,
-      waiting_more,
-      filter_all,
-      not,
-      every_from,
-      command_last,
-      connection_last,
-      done_last,
-      passed_last,
-      drop_last,
-    )
+follows_queued c t m ws us us' l r q n e f = search (
+  arith,
+  keeps,
+  known_more c l t m r f.known,
+  records_kept,
+  map-append,
+  waiting_more,
+  filter_all,
+  every_from,
+  command_last,
+  connection_last,
+  done_last,
+  passed_last,
+  drop_last,
+)
 
 -- ---- an end is taken
-
 -- Where an end is taken, the others stay.
 pub untaken_taken : (c : Settings) (via : Connection) (t : Trace) (m : Moment) → takes via m.1 ≡ true
     → ends_at c via t m ≡ [] → untaken c via (t ++ m ∷ []) ≡ drop 1 (untaken c via t)

@@ -1,8 +1,5 @@
 -- A controller whose picker is replaced keeps the promise as one whose picker may pick what that of the call may.
 use Rattle.mscp_controller.proofs.Common.{◌≡◌, ℕ, List, [], ◌∷◌, Option, None, Some, inl, inr, refl, ap, arith, Result, Command, Block, Connection, Event, IsValid, Settings, Drive, Name, Report, Upcoming, Choice, Begins, Serves, Record, IsNext, view_of, AnsweredCalls, AnswersCall, Call, KeepsPromise, Answers, Finishes, Holdings, Steps, fresh, held_unless, line_of, sent_unless, AnsweredInTurn, Called, MayPickThen, Replaced, Turn, calls_of, Entry, SendFault, NotBegun}
-use Rattle.mscp_events.specs.declared.event.Event.TheVariants as events
-use Rattle.mscp_queue.specs.declared.report.Report.TheVariants as reports
-use Rattle.mscp_controller.specs.declared.entry.Entry.TheVariants as entries
 use Rattle.mscp_controller.proofs.Bridge.Controllers.{keeps_promise}
 
 -- what is held, with another picker
@@ -18,66 +15,54 @@ abbrev Allows : List Choice → (List Choice → ℕ → Type 0) → (List Choic
 Allows view picks allowed = (place : ℕ) → picks view place → allowed view place
 
 -- ---- messages
+module _ {K : Type 0} (via : Connection) (h : Holdings K) (a : K) (command : Command) (o : Option SendFault) where
+  held_by : by a (held_unless via h command o) ≡ held_unless via (by a h) command o
+  held_by = grind arith
 
-held_by : {K : Type 0} (via : Connection) (h : Holdings K) (a : K) (command : Command) (o : Option SendFault)
-    → by a (held_unless via h command o) ≡ held_unless via (by a h) command o
-held_by via h a command o = grind arith
-
-sent_by : {K : Type 0} (via : Connection) (h : Holdings K) (a : K) (command : Command) (o : Option SendFault)
-    → sent_unless via h command o ≡ sent_unless via (by a h) command o
-sent_by via h a command o = grind arith
+  sent_by : sent_unless via h command o ≡ sent_unless via (by a h) command o
+  sent_by = grind arith
 
 -- ---- steps
-
 next_allowed : (picks allowed : List Choice → ℕ → Type 0) (budget : ℕ) (ds : List Drive) (rs : List Record)
     (begun : Option Name) (place : ℕ) → Allows (view_of budget ds rs) picks allowed
     → IsNext picks budget ds rs begun place → IsNext allowed budget ds rs begun place
 next_allowed picks allowed budget ds rs begun place allows n = search arith
 
-serves_by : {K : Type 0} (picks allowed : List Choice → ℕ → Type 0) (a : K) (k : Block) (old new : Holdings K)
-    (report : Report) → Allows (shown old) picks allowed → Serves picks k (line_of old) report (line_of new)
-    → Serves allowed k (line_of (by a old)) report (line_of (by a new))
-serves_by {K} picks allowed a k old new reports.Idle allows s = search arith
-serves_by {K} picks allowed a k old new (reports.Served via reference unit lbn started seek ended) allows s =
-    search (arith, next_allowed picks allowed old.settings.budget old.drives old.waiting old.begun s.0 allows s.1.next)
+module _ {K : Type 0} (picks allowed : List Choice → ℕ → Type 0) (a : K) where
+  serves_by : (k : Block) (old new : Holdings K) (report : Report) → Allows (shown old) picks allowed → Serves picks
+      k (line_of old) report (line_of new) → Serves allowed k (line_of (by a old)) report (line_of (by a new))
+  serves_by k old new Report.Idle allows s = search arith
+  serves_by k old new (Report.Served via reference unit lbn started seek ended) allows s = search
+      (arith, next_allowed picks allowed old.settings.budget old.drives old.waiting old.begun s.0 allows s.1.next)
 
-steps_by : {K : Type 0} (picks allowed : List Choice → ℕ → Type 0) (a : K) (k : Block) (old new : Holdings K)
-    (report : Report) → Allows (shown old) picks allowed → Steps picks k old report new
-    → Steps allowed k (by a old) report (by a new)
-steps_by picks allowed a k old new report allows s =
-    search (arith, serves_by picks allowed a k old new report allows s.serves)
+  steps_by : (k : Block) (old new : Holdings K) (report : Report)
+      → Allows (shown old) picks allowed → Steps picks k old report new → Steps allowed k (by a old) report (by a new)
+  steps_by k old new report allows s = search (arith, serves_by k old new report allows s.serves)
 
-begins_by : {K : Type 0} (picks allowed : List Choice → ℕ → Type 0) (a : K) (old new : Holdings K)
-    (upcoming : Option Upcoming) → Allows (shown old) picks allowed → Begins picks (line_of old) upcoming (line_of new)
-    → Begins allowed (line_of (by a old)) upcoming (line_of (by a new))
-begins_by {K} picks allowed a old new None allows b = search arith
-begins_by {K} picks allowed a old new (Some upcoming) allows b =
-    search (arith, next_allowed picks allowed old.settings.budget old.drives old.waiting old.begun b.0 allows b.1.next)
+  begins_by : (old new : Holdings K) (upcoming : Option Upcoming) → Allows (shown old) picks allowed → Begins picks
+      (line_of old) upcoming (line_of new) → Begins allowed (line_of (by a old)) upcoming (line_of (by a new))
+  begins_by old new None allows b = search arith
+  begins_by old new (Some upcoming) allows b = search
+      (arith, next_allowed picks allowed old.settings.budget old.drives old.waiting old.begun b.0 allows b.1.next)
 
--- ---- calls
+  -- ---- calls
+  answers_by : (old new : Holdings K) (event : Event) (entry : Entry) → Allows (shown old) picks allowed
+      → Answers picks old event entry new → Answers allowed (by a old) event entry (by a new)
+  answers_by old new (Event.Send via message) (Entry.Sent other sent) allows r = search (arith, sent_by, held_by)
+  answers_by old new (Event.Take via) (Entry.Taken other end) allows r = search arith
+  answers_by old new (Event.Step k) (Entry.Stepped report) allows r = steps_by k old new report allows r
+  answers_by old new Event.Look (Entry.Looked list) allows r = search arith
+  answers_by old new event entry allows r = absurd r
 
-answers_by : {K : Type 0} (picks allowed : List Choice → ℕ → Type 0) (a : K) (old new : Holdings K) (event : Event)
-    (entry : Entry) → Allows (shown old) picks allowed → Answers picks old event entry new
-    → Answers allowed (by a old) event entry (by a new)
-answers_by {K} picks allowed a old new (events.Send via message) (entries.Sent other sent) allows r =
-    search (arith, sent_by, held_by)
-answers_by {K} picks allowed a old new (events.Take via) (entries.Taken other end) allows r = search arith
-answers_by picks allowed a old new (events.Step k) (entries.Stepped report) allows r =
-    steps_by picks allowed a k old new report allows r
-answers_by {K} picks allowed a old new events.Look (entries.Looked list) allows r = search arith
-answers_by picks allowed a old new event entry allows r = absurd r
-
-finishes_by : {K : Type 0} (picks allowed : List Choice → ℕ → Type 0) (a : K) (name : Name) (k : Block)
-    (old new : Holdings K) (answer : Result Report NotBegun) → Allows (shown old) picks allowed
-    → Finishes picks name k old answer new → Finishes allowed name k (by a old) answer (by a new)
-finishes_by picks allowed a name k old new answer h8 h9 = grind (arith, steps_by)
+  finishes_by : (name : Name) (k : Block) (old new : Holdings K) (answer : Result Report NotBegun) → Allows (shown old)
+      picks allowed → Finishes picks name k old answer new → Finishes allowed name k (by a old) answer (by a new)
+  finishes_by name k old new answer h8 h9 = grind (arith, steps_by)
 
 call_by : {K : Type 0} (picks allowed : List Choice → ℕ → Type 0) (a : K) (old new : Holdings K) (call : Call)
     → Allows (shown old) picks allowed → AnswersCall picks old call new → AnswersCall allowed (by a old) call (by a new)
 call_by picks allowed a old new call h6 h7 = grind (arith, answers_by, begins_by, finishes_by)
 
 -- ---- calls, one after the other
-
 in_turn : {K : Type 0} (picks : K → List Choice → ℕ → Type 0) (allowed : List Choice → ℕ → Type 0) (a : K)
     (turns : List (Turn K)) (old new : Holdings K) → (r : AnsweredInTurn picks old turns new)
     → ((view : List Choice) (place : ℕ) → MayPickThen picks old turns new r view place → allowed view place)
@@ -92,7 +77,6 @@ in_turn picks allowed a (Replaced picker ∷ turns) old new r covers =
     in_turn picks allowed a turns (by picker old) new r covers
 
 -- ---- the law
-
 pub keeps_in_turn : {K : Type 0} (c : Settings) (picks : K → List Choice → ℕ → Type 0) (picker : K)
     (turns : List (Turn K)) (held : Holdings K) → IsValid c → (r : AnsweredInTurn picks (fresh c picker) turns held)
     → KeepsPromise (MayPickThen picks (fresh c picker) turns held r) c (calls_of turns) held

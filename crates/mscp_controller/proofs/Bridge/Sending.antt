@@ -1,11 +1,6 @@
 -- A message: the answer to it is right, and what is held after it.
-use Rattle.mscp_controller.proofs.Common.{◌≡◌, ℕ, ◌+◌, ◌-◌, ◌≤◌, Bool, true, false, not, List, [], ◌∷◌, ◌++◌, map, length, refl, ap, sym, ◌∙◌, subst, append-nil, append_assoc, arith, filter, if◌then◌else◌, Option, Some, None, is_some, option_map, option_to_list, Result, Ok, Err, length-map, Command, Order, End, command_of, Drive, Record, aborted_record, name_of, SendFault, Sent, ArrayVec, Settings, credits_of, unit_found, Both, of, is_queued, refusal, own_end, Trace, Moment, queues, service_in, takes, ends_in, reference, waiting, waiting_by, is_online, answer, ends_at, untaken, balance, outstanding, arrival, taken_in, taken_unless, IsRight, Holdings, record_aborted, reference_aborted, aborting, after_message, answer_to_message, answered_end, balance_of, with_end, figure_polled, held_unless, outstanding_of, queued, sent_unless, waiting_on, Connection, drive_of, every_from, filter_all, filter_map_of, map_map}
-use Rattle.mscp_controller.specs.declared.entry.Sent.TheVariants as sents
-use Rattle.mscp_events.specs.declared.event.Event.TheVariants as events
-use Rattle.mscp_controller.specs.declared.entry.Entry.TheVariants as entries
+use Rattle.mscp_controller.proofs.Basics.{◌≡◌, ℕ, ◌+◌, ◌-◌, ◌≤◌, Bool, true, false, not, List, [], ◌∷◌, ◌++◌, map, length, refl, ap, sym, ◌∙◌, subst, append-nil, append_assoc, arith, filter, if◌then◌else◌, Option, Some, None, is_some, option_map, option_to_list, Result, Ok, Err, length-map, Command, Order, End, command_of, Drive, Record, aborted_record, name_of, SendFault, Sent, ArrayVec, Settings, credits_of, unit_found, Both, of, is_queued, refusal, own_end, Trace, Moment, queues, service_in, takes, ends_in, reference, waiting_by, is_online, answer, ends_at, untaken, balance, outstanding, arrival, taken_in, taken_unless, IsRight, Holdings, record_aborted, reference_aborted, aborting, after_message, answer_to_message, answered_end, balance_of, with_end, figure_polled, held_unless, outstanding_of, queued, sent_unless, waiting_on, Connection, drive_of, every_from, filter_all, filter_map_of, map_map, Event, Entry, taken_when, untaken_more}
 use Rattle.mscp_controller.specs.Ends as history
-use Rattle.mscp_controller.proofs.Promise.Arrivals.{taken_when}
-use Rattle.mscp_controller.proofs.Promise.Grows.{untaken_more}
 use Rattle.mscp_controller.proofs.Bridge.Held.{held_of, Follows, figure_of_held}
 use Rattle.mscp_controller.proofs.Bridge.Aborting.{end_made, others_wait, reference_told}
 use Rattle.mscp_controller.proofs.Bridge.Quiet.{IsQuiet, follows_left, follows_queued}
@@ -17,47 +12,41 @@ pub record Agrees {K : Type 0} (c : Settings) (t : Trace) (h : Holdings K) : Typ
   pub driven : Driven c t h.drives
 
 -- ---- credits
+module _ (c : Settings)
+    (via : Connection) (t : Trace) (ws : List Record) (us : Both (List End)) (f : Follows c t ws us) where
+  -- those of a connection that are held
+  held_by : waiting_on via ws ≡ map (held_of t) (waiting_by via t)
+  held_by = search (arith, held_of t, filter_map_of)
 
--- those of a connection that are held
-held_by : (c : Settings) (via : Connection) (t : Trace) (ws : List Record) (us : Both (List End)) → Follows c t ws us
-    → waiting_on via ws ≡ map (held_of t) (waiting_by via t)
-held_by c via t ws us f = search (arith, held_of t, filter_map_of)
+  pub balance_held : credits_of c via - (length (waiting_on via ws) + length (of via us)) ≡ balance c via t
+  unfolding balance
+  balance_held = search (arith, held_by, length-map (waiting_by via t) (held_of t), held_of t)
 
-pub balance_held : (c : Settings) (via : Connection) (t : Trace) (ws : List Record) (us : Both (List End))
-    → Follows c t ws us → credits_of c via - (length (waiting_on via ws) + length (of via us)) ≡ balance c via t
-unfolding balance
-balance_held c via t ws us f =
-    search (arith, held_by c via t ws us f, length-map (waiting_by via t) (held_of t), held_of t)
-
-outstanding_held : (c : Settings) (via : Connection) (t : Trace) (ws : List Record) (us : Both (List End))
-    → Follows c t ws us
-    → map (λ r. r.command.reference) (waiting_on via ws) ++ map (λ e. e.reference) (of via us) ≡ outstanding c via t
-unfolding outstanding
-outstanding_held c via t ws us f = search (arith, held_by c via t ws us f, held_of t, map_map)
+  outstanding_held : map (λ r. r.command.reference) (waiting_on via ws) ++ map (λ e. e.reference) (of via us)
+      ≡ outstanding c via t
+  unfolding outstanding
+  outstanding_held = search (arith, held_by, held_of t, map_map)
 
 -- a message is refused alike
 refusal_held : {K : Type 0} (via : Connection) (h : Holdings K) (t : Trace) (b : List ℕ)
-    → Follows h.settings t h.waiting h.untaken
-    → refusal (balance_of via h) (outstanding_of via h) b
+    → Follows h.settings t h.waiting h.untaken → refusal (balance_of via h) (outstanding_of via h) b
     ≡ refusal (balance h.settings via t) (outstanding h.settings via t) b
 refusal_held via h t b f = search (arith, balance_held, outstanding_held)
 
 -- ---- its end
-
 asked_held : (c : Settings) (via : Connection) (t : Trace) (ws : List Record) (us : Both (List End)) (o : Order)
     → Follows c t ws us → figure_polled c via ws o ≡ history.figure_asked c via t o
 asked_held c via t ws us o h6 = grind (arith, figure_of_held)
 
 -- An answer asks for the state of no unit that isn't configured.
 own_same : (c : Settings) (on on' : Bool) (figure reference unit : ℕ) (o : Order)
-    → (is_some (unit_found c unit) ≡ true → on ≡ on')
-    → let k : Command = record { reference = reference; unit = unit; order = o } in
-    own_end c on figure k ≡ own_end c on' figure k
+    → (is_some (unit_found c unit) ≡ true → on ≡ on') → let k : Command =
+    record { reference = reference; unit = unit; order = o } in own_end c on figure k ≡ own_end c on' figure k
 own_same c on on' figure reference unit o h7 = search arith
 
 answer_held : {K : Type 0} (via : Connection) (h : Holdings K) (t : Trace) (b : List ℕ) → Agrees h.settings t h
-    → option_to_list (option_map aborted_record (record_aborted via h.waiting (command_of b).order))
-    ++ answered_end via h (command_of b) ∷ [] ≡ answer h.settings via t b
+    → option_to_list (option_map aborted_record (record_aborted via h.waiting (command_of b).order)) ++ answered_end
+    via h (command_of b) ∷ [] ≡ answer h.settings via t b
 unfolding answer
 answer_held via h t b a =
     let c = h.settings in
@@ -65,13 +54,11 @@ answer_held via h t b a =
     let on = is_online t k.unit in
     let state = own_same c (drive_of h.drives k.unit).online on (figure_polled c via h.waiting k.order) k.reference
     k.unit k.order (λ found. ap (λ (d : Drive). d.online) (drive_found c t h.drives k.unit a.driven found)) in
-    let own : answered_end via h k ≡ own_end c on (history.figure_asked c via t k.order) k =
-    state ∙ ap (λ n. own_end c on n k) (asked_held c via t h.waiting h.untaken k.order a.follows) in
-    let made = end_made c via t h.waiting k a.follows.known.steady.apart a.follows.waits in
-    (λ i. made i ++ own i ∷ [])
+    let own : answered_end via h k ≡ own_end c on (history.figure_asked c via t k.order) k = state
+    ∙ ap (λ n. own_end c on n k) (asked_held c via t h.waiting h.untaken k.order a.follows) in
+    (λ i. (end_made c via t h.waiting k a.follows.known.steady.apart a.follows.waits) i ++ own i ∷ [])
 
 -- ---- what becomes of it
-
 -- what is answered to a message is right, and what is then held is that of the run
 pub record Sends {K : Type 0} (c : Settings) (t : Trace) (m : Moment) (h : Holdings K) : Type 0 where
   pub right : IsRight c t m.0 m.1
@@ -79,7 +66,7 @@ pub record Sends {K : Type 0} (c : Settings) (t : Trace) (m : Moment) (h : Holdi
 
 -- the moment of a message
 abbrev pub sending : Connection → ArrayVec ℕ → Result Sent SendFault → Moment
-sending via b s = (events.Send via b, entries.Sent via s)
+sending via b s = (Event.Send via b, Entry.Sent via s)
 
 -- each connection's ends that are held are those that weren't taken after the moment
 abbrev pub IsUntaken : {K : Type 0} → Holdings K → Trace → Moment → Holdings K → Type 0
@@ -87,9 +74,8 @@ IsUntaken h t m h' = (via : Connection) → of via h'.untaken ≡ untaken h.sett
 
 -- A moment that serves nobody and queues nobody: those that it doesn't end wait on.
 leaves : {K : Type 0} (h h' : Holdings K) (t : Trace) (m : Moment) → 1 ≤ h.settings.longest → service_in m.1 ≡ None
-    → queues m.1 ≡ false → h'.waiting ≡ filter (λ r. not (ends_in (name_of r) m.1)) h.waiting
-    → h'.drives ≡ h.drives → IsUntaken h t m h' → Agrees h.settings t h
-    → IsRight h.settings t m.0 m.1 → Sends h.settings t m h'
+    → queues m.1 ≡ false → h'.waiting ≡ filter (λ r. not (ends_in (name_of r) m.1)) h.waiting → h'.drives ≡ h.drives
+    → IsUntaken h t m h' → Agrees h.settings t h → IsRight h.settings t m.0 m.1 → Sends h.settings t m h'
 leaves h h' t m l unserved n left stay e a r =
     let c = h.settings in
     record {
@@ -109,27 +95,26 @@ quiet h h' t m l q n same stay e a r =
     leaves h h' t m l q.unserved n (same ∙ sym (filter_all stays h.waiting
     (every_from (λ r. stays r ≡ true) (λ r. ap not (q.kept (name_of r))) h.waiting))) stay e a r
 
--- The ends of a connection where a moment takes none.
-pub ends_on : {K : Type 0} (via : Connection) (h : Holdings K) (t : Trace) (m : Moment) → takes via m.1 ≡ false
-    → Agrees h.settings t h → (es : List End) → es ≡ ends_at h.settings via t m
-    → of via h.untaken ++ es ≡ untaken h.settings via (t ++ m ∷ [])
-ends_on via h t m n a es e = search (arith, untaken_more h.settings via t m n (a.follows.known.room.taken via))
+module _ {K : Type 0} (via : Connection) (h : Holdings K) (t : Trace) where
+  -- The ends of a connection where a moment takes none.
+  pub ends_on : (m : Moment) → takes via m.1 ≡ false → Agrees h.settings t h → (es : List End)
+      → es ≡ ends_at h.settings via t m → of via h.untaken ++ es ≡ untaken h.settings via (t ++ m ∷ [])
+  ends_on m n a es e = search (arith, untaken_more h.settings via t m n (a.follows.known.room.taken via))
 
--- the same where it makes none
-pub ends_stay : {K : Type 0} (via : Connection) (h : Holdings K) (t : Trace) (m : Moment) → takes via m.1 ≡ false
-    → Agrees h.settings t h → ends_at h.settings via t m ≡ [] → of via h.untaken ≡ untaken h.settings via (t ++ m ∷ [])
-ends_stay via h t m n a e = sym (append-nil (of via h.untaken)) ∙ ends_on via h t m n a [] (sym e)
+  -- the same where it makes none
+  pub ends_stay : (m : Moment) → takes via m.1 ≡ false → Agrees h.settings t h
+      → ends_at h.settings via t m ≡ [] → of via h.untaken ≡ untaken h.settings via (t ++ m ∷ [])
+  ends_stay m n a e = sym (append-nil (of via h.untaken)) ∙ ends_on m n a [] (sym e)
 
-refused : {K : Type 0} (via : Connection) (h : Holdings K) (t : Trace) (b : ArrayVec ℕ) (fault : SendFault)
-    → 1 ≤ h.settings.longest → Agrees h.settings t h → Err fault ≡ arrival h.settings via t b.items
-    → Sends h.settings t (sending via b (Err fault)) h
-refused via h t b fault l a r = search (arith, quiet, ends_stay)
+module _ {K : Type 0} (via : Connection) (h : Holdings K) (t : Trace) (b : ArrayVec ℕ) where
+  refused : (fault : SendFault) → 1 ≤ h.settings.longest → Agrees h.settings t h
+      → Err fault ≡ arrival h.settings via t b.items → Sends h.settings t (sending via b (Err fault)) h
+  refused fault l a r = search (arith, quiet, ends_stay)
 
-waits : {K : Type 0} (via : Connection) (h : Holdings K) (t : Trace) (b : ArrayVec ℕ) → 1 ≤ h.settings.longest
-    → Agrees h.settings t h → Ok (sents.Queued (command_of b.items).reference) ≡ arrival h.settings via t b.items
-    → Sends h.settings t (sending via b (Ok (sents.Queued (command_of b.items).reference)))
-    (queued via h (command_of b.items))
-waits via h t b l a r = search (arith, follows_queued, ends_stay, driven_kept)
+  waits : 1 ≤ h.settings.longest → Agrees h.settings t h
+      → Ok (Sent.Queued (command_of b.items).reference) ≡ arrival h.settings via t b.items → Sends h.settings
+      t (sending via b (Ok (Sent.Queued (command_of b.items).reference))) (queued via h (command_of b.items))
+  waits l a r = search (arith, follows_queued, ends_stay, driven_kept)
 
 -- what is held once a message was answered
 abbrev pub answered_holds : {K : Type 0} → Connection → Holdings K → Command → Holdings K
@@ -139,42 +124,36 @@ answered_holds via h k = with_end via (aborting via h k.order) (answered_end via
 abbrev pub answering : {K : Type 0} → Connection → Holdings K → ArrayVec ℕ → Moment
 answering via h b =
     let k = command_of b.items in
-    sending via b (Ok (sents.Answered k.reference (reference_aborted via h.waiting k.order)))
+    sending via b (Ok (Sent.Answered k.reference (reference_aborted via h.waiting k.order)))
 
--- the ends of the connection are its own two or one more
-own_ends : {K : Type 0} (via : Connection) (h : Holdings K) (t : Trace) (b : ArrayVec ℕ) → Agrees h.settings t h
-    → takes via (answering via h b).1 ≡ false
-    → ends_at h.settings via t (answering via h b) ≡ answer h.settings via t b.items ++ []
-    → (of via h.untaken ++ option_to_list (option_map aborted_record
-    (record_aborted via h.waiting (command_of b.items).order))) ++ answered_end via h (command_of b.items) ∷ []
-    ≡ untaken h.settings via (t ++ answering via h b ∷ [])
-own_ends via h t b a n e =
-    search (arith, answer_held via h t b.items a, append-nil (answer h.settings via t b.items), append_assoc, ends_on)
+module _ {K : Type 0} (via : Connection) (h : Holdings K) (t : Trace) (b : ArrayVec ℕ) where
+  -- the ends of the connection are its own two or one more
+  own_ends : Agrees h.settings t h → takes via (answering via h b).1 ≡ false
+      → ends_at h.settings via t (answering via h b) ≡ answer h.settings via t b.items ++ [] → (of via
+      h.untaken ++ option_to_list (option_map aborted_record (record_aborted via h.waiting (command_of b.items).order)))
+      ++ answered_end via h (command_of b.items) ∷ [] ≡ untaken h.settings via (t ++ answering via h b ∷ [])
+  own_ends a n e =
+      search (arith, answer_held via h t b.items a, append-nil (answer h.settings via t b.items), append_assoc, ends_on)
 
--- and those of the other as they were
-answered_ends : {K : Type 0} (via : Connection) (h : Holdings K) (t : Trace) (b : ArrayVec ℕ) → Agrees h.settings t h
-    → IsUntaken h t (answering via h b) (answered_holds via h (command_of b.items))
-answered_ends via h t b h4 h5 = grind (arith, own_ends, ends_stay)
+  -- and those of the other as they were
+  answered_ends : Agrees h.settings t h → IsUntaken h t (answering via h b) (answered_holds via h (command_of b.items))
+  answered_ends h4 h5 = grind (arith, own_ends, ends_stay)
 
-answered : {K : Type 0} (via : Connection) (h : Holdings K) (t : Trace) (b : ArrayVec ℕ) → 1 ≤ h.settings.longest
-    → Agrees h.settings t h
-    → Ok (sents.Answered (command_of b.items).reference
-    (reference_aborted via h.waiting (command_of b.items).order)) ≡ arrival h.settings via t b.items
-    → Sends h.settings t (answering via h b) (answered_holds via h (command_of b.items))
-answered via h t b l a r = search (arith, answered_ends via h t b a, leaves, others_wait)
+  answered : 1 ≤ h.settings.longest → Agrees h.settings t h → Ok (Sent.Answered (command_of b.items).reference
+      (reference_aborted via h.waiting (command_of b.items).order)) ≡ arrival h.settings via t b.items
+      → Sends h.settings t (answering via h b) (answered_holds via h (command_of b.items))
+  answered l a r = search (arith, answered_ends a, leaves, others_wait)
 
 -- ---- every message
-
 taken_as_queued : (c : Settings) (via : Connection) (t : Trace) (k : Command) → is_queued c k ≡ true
-    → sents.Queued k.reference ≡ taken_in c via t k
+    → Sent.Queued k.reference ≡ taken_in c via t k
 taken_as_queued c via t k q = sym (ap (taken_when c via t k) q)
 
 taken_as_answered : {K : Type 0} (via : Connection) (h : Holdings K) (t : Trace) (k : Command)
     → Follows h.settings t h.waiting h.untaken → is_queued h.settings k ≡ false
-    → sents.Answered k.reference (reference_aborted via h.waiting k.order) ≡ taken_in h.settings via t k
-taken_as_answered via h t k f q = ap (sents.Answered k.reference)
-    (sym (reference_told h.settings via t h.waiting k f.known.steady.apart f.waits))
-    ∙ sym (ap (taken_when h.settings via t k) q)
+    → Sent.Answered k.reference (reference_aborted via h.waiting k.order) ≡ taken_in h.settings via t k
+taken_as_answered via h t k f q = ap (Sent.Answered k.reference) (sym (reference_told h.settings
+    via t h.waiting k f.known.steady.apart f.waits)) ∙ sym (ap (taken_when h.settings via t k) q)
 
 -- what the history says of a message that is refused so, or isn't
 arrival_when : (c : Settings) (via : Connection) (t : Trace) (b : List ℕ) (o : Option SendFault)
@@ -182,34 +161,24 @@ arrival_when : (c : Settings) (via : Connection) (t : Trace) (b : List ℕ) (o :
 unfolding arrival
 arrival_when c via t b o e = sym (ap (taken_unless c via t (command_of b)) e)
 
-sends_taken : {K : Type 0} (via : Connection) (h : Holdings K) (t : Trace) (b : ArrayVec ℕ) → 1 ≤ h.settings.longest
-    → Agrees h.settings t h
-    → refusal (balance h.settings via t) (outstanding h.settings via t) b.items ≡ None
-    → (q : Bool) → is_queued h.settings (command_of b.items) ≡ q
-    → let k = command_of b.items in
-    Sends h.settings t (sending via b (Ok (if q then sents.Queued k.reference
-    else sents.Answered k.reference (reference_aborted via h.waiting k.order))))
-    (if q then queued via h k else answered_holds via h k)
-sends_taken via h t b l f none true q =
-    let c = h.settings in
-    waits via h t b l f (ap Ok (taken_as_queued c via t
-    (command_of b.items) q) ∙ arrival_when c via t b.items None none)
-sends_taken via h t b l f none false q =
-    search (arith, taken_as_answered via h t (command_of b.items) f.follows q, answered, arrival_when)
+module _ {K : Type 0} (via : Connection)
+    (h : Holdings K) (t : Trace) (b : ArrayVec ℕ) (l : 1 ≤ h.settings.longest) (f : Agrees h.settings t h) where
+  sends_taken : refusal (balance h.settings via t) (outstanding h.settings via t) b.items ≡ None → (q : Bool)
+      → is_queued h.settings (command_of b.items) ≡ q → let k = command_of b.items in Sends h.settings t (sending via b
+      (Ok (if q then Sent.Queued k.reference else Sent.Answered k.reference (reference_aborted via h.waiting k.order))))
+      (if q then queued via h k else answered_holds via h k)
+  sends_taken none true q = waits via h t b l f (ap Ok (taken_as_queued h.settings via t (command_of b.items) q)
+      ∙ arrival_when h.settings via t b.items None none)
+  sends_taken none false q =
+      search (arith, taken_as_answered via h t (command_of b.items) f.follows q, answered, arrival_when)
 
-sends_when : {K : Type 0} (via : Connection) (h : Holdings K) (t : Trace) (b : ArrayVec ℕ) → 1 ≤ h.settings.longest
-    → Agrees h.settings t h
-    → (o : Option SendFault) → refusal (balance h.settings via t) (outstanding h.settings via t) b.items ≡ o
-    → Sends h.settings t (sending via b (sent_unless via h (command_of b.items) o))
-    (held_unless via h (command_of b.items) o)
-sends_when via h t b l f (Some fault) r =
-    refused via h t b fault l f (arrival_when h.settings via t b.items (Some fault) r)
-sends_when via h t b l f None r = sends_taken via h t b l f r (is_queued h.settings (command_of b.items)) refl
+  sends_when : (o : Option SendFault) → refusal (balance h.settings via t) (outstanding h.settings via t) b.items ≡ o
+      → Sends h.settings t (sending via b (sent_unless via h (command_of b.items) o))
+      (held_unless via h (command_of b.items) o)
+  sends_when (Some fault) r = refused via h t b fault l f (arrival_when h.settings via t b.items (Some fault) r)
+  sends_when None r = sends_taken r (is_queued h.settings (command_of b.items)) refl
 
--- A message is answered right, and what is then held is that of the run.
-pub sends : {K : Type 0} (via : Connection) (h : Holdings K) (t : Trace) (b : ArrayVec ℕ) → 1 ≤ h.settings.longest
-    → Agrees h.settings t h
-    → Sends h.settings t (sending via b (answer_to_message via h b.items)) (after_message via h b.items)
-sends via h t b l f =
-    sends_when via h t b l f (refusal (balance_of via h) (outstanding_of via h) b.items)
-    (sym (refusal_held via h t b.items f.follows))
+  -- A message is answered right, and what is then held is that of the run.
+  pub sends : Sends h.settings t (sending via b (answer_to_message via h b.items)) (after_message via h b.items)
+  sends = sends_when (refusal (balance_of via h) (outstanding_of via h) b.items)
+      (sym (refusal_held via h t b.items f.follows))

@@ -1,7 +1,5 @@
 -- At most one command is in service, and if none is, the oldest that waits may start.
-use Rattle.mscp_controller.proofs.Common.{◌≡◌, ◌⊎◌, ⊎_elim, ℕ, ◌<◌, ◌≤◌, true, not, List, [], ◌∷◌, length, ap, arith, filter, slice_get, Some, is_some, AllByRecursion, false≢true, ltb-true, every_weaker, filter_none, Settings, Trace, done, in_service, is_idle, waiting, is_free, is_startable}
-use Rattle.mscp_controller.proofs.Promise.Steady.{Single}
-use Rattle.mscp_controller.proofs.Promise.Waits.{cut_of, earlier_is}
+use Rattle.mscp_controller.proofs.Basics.{◌≡◌, ◌⊎◌, ⊎_elim, ℕ, ◌<◌, ◌≤◌, true, not, List, [], ◌∷◌, length, ap, arith, filter, slice_get, Some, is_some, AllByRecursion, false≢true, ltb-true, every_weaker, filter_none, Settings, Trace, done, in_service, is_idle, waiting, is_free, is_startable, Single, cut_of, earlier_is}
 
 -- beside one that was served nobody is
 others_idle : (t : Trace) (x : ℕ) (xs : List ℕ) → 0 < done t x

@@ -1,8 +1,5 @@
 -- What is known of a message that was taken.
-use Rattle.mscp_controller.proofs.Common.{◌≡◌, ℕ, ◌≤◌, Bool, true, false, not, ◌&&◌, List, length, arith, nat_eq, nat_lt, if◌then◌else◌, slice_index, Option, Some, None, Result, Ok, Err, ltb-false, eqb-false, true≢false, false≢true, Command, SendFault, Short, Sent, Event, Entry, Connection, Settings, num, class, is_immediate_class, command_of, is_queued, holds, refusal, Trace, connection_of, queues, sent_bytes, aborted_reference, taken_in, taken_unless, arrival, balance, outstanding, IsRight}
-use Rattle.mscp_controller.specs.declared.entry.Sent.TheVariants as sents
-use Rattle.mscp_events.specs.declared.event.Event.TheVariants as events
-use Rattle.mscp_controller.specs.declared.entry.Entry.TheVariants as entries
+use Rattle.mscp_controller.proofs.Common.{◌≡◌, ℕ, ◌≤◌, Bool, true, false, not, ◌&&◌, List, length, arith, nat_eq, if◌then◌else◌, slice_index, Option, Some, None, Result, Ok, Err, true≢false, false≢true, Command, SendFault, Sent, Event, Entry, Connection, Settings, num, class, is_immediate_class, command_of, is_queued, holds, refusal, Trace, connection_of, queues, sent_bytes, aborted_reference, taken_in, taken_unless, arrival, balance, outstanding, IsRight}
 
 -- no reason to refuse it
 pub record IsTaken (credit : ℕ) (references b : List ℕ) : Type 0 where
@@ -16,16 +13,9 @@ pub if_none : {X : Type 0} (b : Bool) (f : X) (rest : Option X) → (if b then S
     → (b ≡ false) × (rest ≡ None)
 if_none b f rest h3 = grind (arith, true≢false)
 
-pub refusal_none : (credit : ℕ) (references b : List ℕ) → refusal credit references b ≡ None
-    → IsTaken credit references b
-refusal_none credit references b h =
-    search (
-      arith,
-      if_none (nat_lt (length b) 12) Short _ h,
-      not (is_immediate_class (class (slice_index b 8))),
-      ltb-false,
-      eqb-false,
-    )
+pub refusal_none : (credit : ℕ) (references b : List ℕ)
+    → refusal credit references b ≡ None → IsTaken credit references b
+refusal_none credit references b h = search arith
 
 sent_or : Sent → Result Sent SendFault → Sent
 sent_or s (Ok r) = r
@@ -48,8 +38,8 @@ arrives c via t b s h =
     record { taken = refusal_none (balance c via t) (outstanding c via t) b u.0; is = u.1 }
 
 is_queue : Sent → Bool
-is_queue (sents.Queued r) = true
-is_queue (sents.Answered r a) = false
+is_queue (Sent.Queued r) = true
+is_queue (Sent.Answered r a) = false
 
 -- what is known of a message that was queued
 pub record Queues (c : Settings) (via : Connection) (t : Trace) (b : List ℕ) : Type 0 where
@@ -59,11 +49,11 @@ pub record Queues (c : Settings) (via : Connection) (t : Trace) (b : List ℕ) :
 -- what a command becomes, if it is queued or isn't
 abbrev pub taken_when : Settings → Connection → Trace → Command → Bool → Sent
 taken_when c via t command q =
-    if q then sents.Queued command.reference else sents.Answered command.reference (aborted_reference c via t command)
+    if q then Sent.Queued command.reference else Sent.Answered command.reference (aborted_reference c via t command)
 
 pub queued_right : (c : Settings) (t : Trace) (event : Event) (entry : Entry) → queues entry ≡ true
     → IsRight c t event entry → Queues c (connection_of event) t (sent_bytes event)
 unfolding is_queue
-queued_right c t (events.Send via b) (entries.Sent other (Ok (sents.Queued r))) q h =
+queued_right c t (Event.Send via b) (Entry.Sent other (Ok (Sent.Queued r))) q h =
     search (arith, arrives, true≢false, is_queue)
 queued_right c t event entry h4 h5 = grind (arith, false≢true)

@@ -1,9 +1,5 @@
 -- What a figure reads of a command, and how a step changes it.
-use Rattle.mscp_controller.proofs.Common.{◌≡◌, ℕ, ◌+◌, ◌-◌, ◌<◌, true, cond, List, [], ◌∷◌, ◌++◌, length, ap, ◌∙◌, subst, arith, AllByRecursion, lt-ltb, eq-eqb, and_right, Block, Settings, Trace, Moment, Service, weight, is_waiting, done, charge, passed, every_weaker, every_both, every_parts}
-use Rattle.mscp_controller.proofs.Promise.Waits.{waiting_waits}
-use Rattle.mscp_controller.proofs.Promise.Served.{Step, below_parts}
-use Rattle.mscp_controller.proofs.Promise.Steady.{weight_before}
-use Rattle.mscp_controller.proofs.Promise.Passed.{none_starts, passed_front, passed_behind}
+use Rattle.mscp_controller.proofs.Basics.{◌≡◌, ℕ, ◌+◌, ◌-◌, ◌<◌, true, cond, List, [], ◌∷◌, ◌++◌, length, ap, ◌∙◌, subst, arith, AllByRecursion, lt-ltb, eq-eqb, and_right, Block, Settings, Trace, Moment, Service, weight, is_waiting, done, charge, passed, every_weaker, every_both, every_parts, waiting_waits, Step, below_parts, weight_before, none_starts, passed_front, passed_behind}
 
 -- what figures read of a command
 pub record Figured : Type 0 where
@@ -52,26 +48,22 @@ marks c t m s k y front back st idle =
     let t' = t ++ m ∷ [] in
     let at = st.serves.among.at in
     let below = below_parts t y front back at in
-    let waits = every_parts (λ z. is_waiting t z ≡ true) front (y ∷ back)
-    (subst (AllByRecursion (λ z. is_waiting t z ≡ true)) at.is (waiting_waits t)) in
     let A : ℕ → Type 0 = λ x. (x < length t) × (is_waiting t x ≡ true) in
     let B : ℕ → Type 0 = λ x. A x × (done t x ≡ 0) in
     let C : ℕ → Type 0 = λ x. B x × (x < y) in
     let D : ℕ → Type 0 = λ x. done t' x ≡ done t x in
     record {
       at_front = every_weaker (λ x. C x × D x) (λ x. record_of t' x ≡ charged (step_charge t s y) (record_of t x))
-          (λ x h. made_is (weight t' x) (done t' x) (passed t' x) (weight t x) (done t x)
-          (passed t x + step_charge t s y)
-          (weight_before t m x h.0.0.0.0) h.1 (front_passed c t m s k y front back st x h.0.0.0.0 h.0.0.0.1 h.0.0.1
-          h.0.1)) front
-          (every_both C D front (every_both B (λ x. x < y) front
-          (every_both A (λ x. done t x ≡ 0) front
-          (every_both (λ x. x < length t) (λ x. is_waiting t x ≡ true) front below.0 waits.0) idle) at.before)
-          st.changes.front_done);
+          (λ x h. made_is (weight t' x) (done t' x) (passed t' x) (weight t x) (done t x) (passed t x + step_charge t
+          s y) (weight_before t m x h.0.0.0.0) h.1 (front_passed c t m s k y front back st x h.0.0.0.0 h.0.0.0.1 h.0.0.1
+          h.0.1)) front (every_both C D front (every_both B (λ x. x < y) front (every_both A (λ x. done t x ≡ 0) front
+          (every_both (λ x. x < length t) (λ x. is_waiting t x ≡ true) front below.0 (every_parts (λ z. is_waiting t z
+          ≡ true) front (y ∷ back) (subst (AllByRecursion (λ z. is_waiting t z ≡ true)) at.is (waiting_waits t))).0)
+          idle) at.before) st.changes.front_done);
       at_own = search (arith, t', below, made_is, weight_before, passed_behind);
       at_back = every_weaker (λ x. ((x < length t) × (y < x)) × D x) (λ x. record_of t' x ≡ record_of t x)
           (λ x h. made_is (weight t' x) (done t' x) (passed t' x) (weight t x) (done t x) (passed t x)
-          (weight_before t m x h.0.0) h.1 (passed_behind c t m s k y front back st x (omega (arith, h.0.1)))) back
-          (every_both (λ x. (x < length t) × (y < x)) D back
-          (every_both (λ x. x < length t) (λ x. y < x) back below.1.1 at.behind) st.changes.back_done);
+          (weight_before t m x h.0.0) h.1 (passed_behind c t m s k y front back st x (omega (arith, h.0.1))))
+          back (every_both (λ x. (x < length t) × (y < x)) D
+          back (every_both (λ x. x < length t) (λ x. y < x) back below.1.1 at.behind) st.changes.back_done);
     }

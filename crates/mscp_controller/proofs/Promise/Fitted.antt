@@ -1,10 +1,5 @@
 -- A right step, with all that is known of those that wait; and moments that serve nobody.
-use Rattle.mscp_controller.proofs.Common.{◌≡◌, ℕ, ◌+◌, ◌<◌, ◌≤◌, List, ◌∷◌, ap, sym, ◌∙◌, subst, arith, None, is_some, AllByRecursion, Block, Settings, Trace, Moment, Service, service_in, weight, done, charge, passed, every_weaker, every_parts}
-use Rattle.mscp_controller.proofs.Promise.Waits.{waiting_below, earlier_is}
-use Rattle.mscp_controller.proofs.Promise.Served.{Step}
-use Rattle.mscp_controller.proofs.Promise.Starts.{startable_of, startable_parts}
-use Rattle.mscp_controller.proofs.Promise.Steady.{Steady, idle_others, more_left, done_kept, weight_before}
-use Rattle.mscp_controller.proofs.Promise.Passed.{none_starts}
+use Rattle.mscp_controller.proofs.Basics.{◌≡◌, ℕ, ◌+◌, ◌<◌, ◌≤◌, List, ◌∷◌, ap, sym, ◌∙◌, subst, arith, None, is_some, AllByRecursion, Block, Settings, Trace, Moment, Service, service_in, weight, done, charge, passed, every_weaker, every_parts, waiting_below, earlier_is, Step, startable_of, startable_parts, Steady, idle_others, more_left, done_kept, weight_before, none_starts}
 use Rattle.mscp_controller.proofs.Promise.Figured.{record_of, marks, made_is}
 use Rattle.mscp_controller.proofs.Promise.Falls.{Fit}
 use Rattle.mscp_controller.proofs.Promise.Stays.{Leaves}
@@ -14,8 +9,6 @@ pub fit_of : (c : Settings) (t : Trace) (m : Moment) (s : Service) (k : Block) (
 fit_of c t m s k y front back st steady =
     let w = st.serves.among.at.is in
     let idle = idle_others c t y front back w steady.single st.served.next in
-    let unfinished = every_parts (λ x. done t x < weight t x) front (y ∷ back)
-    (subst (AllByRecursion (λ x. done t x < weight t x)) w steady.unfinished) in
     record {
       is = w;
       after = st.changes.waits;
@@ -24,12 +17,12 @@ fit_of c t m s k y front back st steady =
       same = st.serves.same;
       started = st.served.started;
       more = λ b. more_left c t k y (sym (ap is_some st.served.ended) ∙ b);
-      unfinished = unfinished.1.0;
+      unfinished = (every_parts (λ x. done t x < weight t x)
+          front (y ∷ back) (subst (AllByRecursion (λ x. done t x < weight t x)) w steady.unfinished)).1.0;
       idle_front = idle.0;
       idle_back = idle.1;
-      affordable = λ b. subst (AllByRecursion (λ x. passed t x + charge t y ≤ c.budget))
-          (earlier_is t y front back st.serves.among.at)
-          (startable_parts c t y (startable_of c t k s y st.served b)).affordable;
+      affordable = λ b. subst (AllByRecursion (λ x. passed t x + charge t y ≤ c.budget)) (earlier_is t
+          y front back st.serves.among.at) (startable_parts c t y (startable_of c t k s y st.served b)).affordable;
     }
 
 pub leaves_of : (t : Trace) (m : Moment) → service_in m.1 ≡ None → Leaves t m

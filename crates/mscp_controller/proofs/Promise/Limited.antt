@@ -1,9 +1,5 @@
 -- No waiting command is passed more often than the passing limit.
-use Rattle.mscp_controller.proofs.Common.{◌≡◌, ℕ, ◌+◌, ◌≤◌, Bool, not, List, [], ◌∷◌, ◌++◌, length, refl, ap, subst, arith, Option, Some, None, AllByRecursion, Settings, Trace, Moment, Service, service_in, name, waiting, ends_in, passed, IsRight, every_weaker, every_kept, every_append, every_parts, every_both}
-use Rattle.mscp_controller.proofs.Promise.Grows.{waiting_more}
-use Rattle.mscp_controller.proofs.Promise.Waits.{passed_last}
-use Rattle.mscp_controller.proofs.Promise.Served.{step_right}
-use Rattle.mscp_controller.proofs.Promise.Steady.{Steady}
+use Rattle.mscp_controller.proofs.Basics.{◌≡◌, ℕ, ◌+◌, ◌≤◌, Bool, not, List, [], ◌∷◌, ◌++◌, length, refl, ap, subst, arith, Option, Some, None, AllByRecursion, Settings, Trace, Moment, Service, service_in, name, waiting, ends_in, passed, IsRight, every_weaker, every_kept, every_append, every_parts, every_both, waiting_more, passed_last, step_right, Steady}
 use Rattle.mscp_controller.proofs.Promise.Figured.{Figured, record_of, charged, step_charge}
 use Rattle.mscp_controller.proofs.Promise.Falls.{Fit}
 use Rattle.mscp_controller.proofs.Promise.Fitted.{fit_of, leaves_of}
@@ -12,9 +8,8 @@ abbrev pub Limited : Settings → Trace → List ℕ → Type 0
 Limited c t xs = AllByRecursion (λ x. passed t x ≤ c.budget) xs
 
 -- what a step costs those in front is there
-paid : (c : Settings) (t : Trace) (m : Moment) (s : Service) (front : List ℕ) (y : ℕ) (back : List ℕ)
-    → Fit c t m s front y back → Limited c t front
-    → AllByRecursion (λ x. passed t x + step_charge t s y ≤ c.budget) front
+paid : (c : Settings) (t : Trace) (m : Moment) (s : Service) (front : List ℕ) (y : ℕ) (back : List ℕ) → Fit c
+    t m s front y back → Limited c t front → AllByRecursion (λ x. passed t x + step_charge t s y ≤ c.budget) front
 paid c t m s front y back f h = search (arith, every_weaker)
 
 limited_step : (c : Settings) (t : Trace) (m : Moment) (s : Service) (front : List ℕ) (y : ℕ) (back : List ℕ)

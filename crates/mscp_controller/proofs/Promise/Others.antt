@@ -1,10 +1,6 @@
 -- What comes from the host of one connection leaves the account of the other's as it was.
-use Rattle.mscp_controller.proofs.Common.{◌≡◌, ◌≢◌, ℕ, Bool, true, false, not, [], ◌∷◌, ◌++◌, length, ap, ◌∙◌, append-nil, arith, filter, nat_eq, ◌&&◌, cond, Some, true≢false, Connection, Name, same_connection, every_from, every_filter, every_weaker, every_kept, filter_all, one_side, map_on, Event, Entry, Settings, Trace, Moment, comes_by, takes, connection, name, reference, waiting, waiting_by, ends_in, ends_at, balance, outstanding, untaken, IsRight, IsUntouched, LeavesOther}
-use Rattle.mscp_controller.proofs.Promise.Grows.{command_before, untaken_more}
+use Rattle.mscp_controller.proofs.Basics.{◌≡◌, ◌≢◌, ℕ, Bool, true, false, not, [], ◌∷◌, ◌++◌, length, ap, ◌∙◌, append-nil, arith, filter, nat_eq, ◌&&◌, cond, Some, true≢false, Connection, Name, same_connection, every_from, every_filter, every_weaker, every_kept, filter_all, one_side, map_on, Event, Entry, Settings, Trace, Moment, comes_by, takes, connection, name, waiting, waiting_by, ends_in, ends_at, balance, outstanding, IsRight, IsUntouched, LeavesOther, command_before, untaken_more, some_same, queues_by, waiting_by_more, waiting_below}
 use Rattle.mscp_controller.proofs.Promise.Room.{Room}
-use Rattle.mscp_controller.proofs.Promise.Served.{some_same}
-use Rattle.mscp_controller.proofs.Promise.Sides.{queues_by, waiting_by_more}
-use Rattle.mscp_controller.proofs.Promise.Waits.{waiting_below}
 
 -- they are two
 pub differ_sides : (a b : Connection) → b ≢ a → same_connection a b ≡ false
@@ -22,40 +18,24 @@ unaborted : (own via : Connection) (n : Name) (other : ℕ) → same_connection 
     → same_connection n.connection via ≡ true → (same_connection own n.connection && nat_eq other n.reference) ≡ false
 unaborted own via n other e h = search (arith, one_side n.connection via h)
 
-foreign_sent : (c : Settings) (own via : Connection) (t : Trace) (event : Event) (entry : Entry)
-    → comes_by event ≡ Some own → same_connection own via ≡ false → IsRight c t event entry
-    → IsForeign c via t (event, entry)
+foreign_sent : (c : Settings) (own via : Connection) (t : Trace) (event : Event) (entry : Entry) → comes_by event
+    ≡ Some own → same_connection own via ≡ false → IsRight c t event entry → IsForeign c via t (event, entry)
 foreign_sent c own via t event entry h6 h7 h8 = grind (arith, some_same, unaborted, true≢false)
 
-same_waits : (c : Settings) (via : Connection) (t : Trace) (m : Moment) → IsForeign c via t m
-    → waiting_by via (t ++ m ∷ []) ≡ waiting_by via t
-same_waits c via t m f =
-    let on : ℕ → Bool = λ x. same_connection (connection t x) via in
-    let keep : ℕ → Bool = λ x. not (ends_in (name t x) m.1) in
-    waiting_by_more via t m
-    ∙ (ap (λ b. filter keep (waiting_by via t) ++ cond b (length t ∷ []) []) f.queues
-    ∙ (append-nil (filter keep (waiting_by via t))
-    ∙ filter_all keep (waiting_by via t)
-    (every_weaker (λ x. Unit {0} × (on x ≡ true)) (λ x. keep x ≡ true) (λ x h. ap not (f.kept (name t x) h.1))
-    (waiting_by via t) (every_filter (λ x. Unit {0}) on (waiting t) (every_from (λ x. Unit {0}) (λ x. tt)
-    (waiting t))))))
+module _ (c : Settings) (via : Connection) (t : Trace) (m : Moment) where
+  same_waits : IsForeign c via t m → waiting_by via (t ++ m ∷ []) ≡ waiting_by via t
+  same_waits f =
+      let on : ℕ → Bool = λ x. same_connection (connection t x) via in
+      let keep : ℕ → Bool = λ x. not (ends_in (name t x) m.1) in
+      waiting_by_more via t m ∙ (ap (λ b. filter keep (waiting_by via t) ++ cond b (length t ∷ []) []) f.queues
+      ∙ (append-nil (filter keep (waiting_by via t)) ∙ filter_all keep (waiting_by via t) (every_weaker (λ x. Unit
+      {0} × (on x ≡ true)) (λ x. keep x ≡ true) (λ x h. ap not (f.kept (name t x) h.1)) (waiting_by via t)
+      (every_filter (λ x. Unit {0}) on (waiting t) (every_from (λ x. Unit {0}) (λ x. tt) (waiting t))))))
 
-untouched : (c : Settings) (via : Connection) (t : Trace) (m : Moment) → Room c t → IsForeign c via t m
-    → IsUntouched c via t (t ++ m ∷ [])
-unfolding balance outstanding
-untouched c via t m room f =
-    search (
-      arith,
-      same_waits c via t m f,
-      untaken_more c via t m f.takes (room.taken via),
-      append-nil (untaken c via
-          t),
-      waiting_below t,
-      every_kept,
-      map_on,
-      every_weaker,
-      command_before,
-    )
+  untouched : Room c t → IsForeign c via t m → IsUntouched c via t (t ++ m ∷ [])
+  unfolding balance outstanding
+  untouched room f = search
+      (arith, same_waits, untaken_more, append-nil, waiting_below, every_kept, map_on, every_weaker, command_before)
 
 pub leaves_other : (c : Settings) (t : Trace) (m : Moment) → IsRight c t m.0 m.1 → Room c t
     → LeavesOther c t m (t ++ m ∷ [])

@@ -21,45 +21,41 @@ passed_by_starters t m x ys e = search (arith, passed_more t m x)
 unpassed : (t : Trace) (m : Moment) (x : ℕ) → starters t m x ≡ [] → passed (t ++ m ∷ []) x ≡ passed t x
 unpassed t m x e = search (arith, passed_by_starters t m x [] e)
 
--- Where nobody starts, nobody is passed.
-pub none_starts : (t : Trace) (m : Moment) (x : ℕ) → ((r : Name) → starts_in r m.1 ≡ false)
-    → passed (t ++ m ∷ []) x ≡ passed t x
-none_starts t m x f = search (arith, unpassed, filter_none, every_from)
+module _ (t : Trace) (m : Moment) where
+  -- Where nobody starts, nobody is passed.
+  pub none_starts : (x : ℕ) → ((r : Name) → starts_in r m.1 ≡ false) → passed (t ++ m ∷ []) x ≡ passed t x
+  none_starts x f = search (arith, unpassed, filter_none, every_from)
 
-starts_own : (t : Trace) (m : Moment) (s : Service) (y : ℕ) → service_in m.1 ≡ Some s → service_name s ≡ name t y
-    → s.started ≡ true → starts_in (name t y) m.1 ≡ true
-starts_own t m s y e r h = search (arith, is_same (service_name s) (name t y) r)
+  starts_own : (s : Service) (y : ℕ)
+      → service_in m.1 ≡ Some s → service_name s ≡ name t y → s.started ≡ true → starts_in (name t y) m.1 ≡ true
+  starts_own s y e r h = search (arith, is_same (service_name s) (name t y) r)
 
-behind_other : (t : Trace) (m : Moment) (s : Service) (x y : ℕ) → service_in m.1 ≡ Some s → service_name s ≡ name t y
-    → (xs : List ℕ) → AllByRecursion (λ z. name t z ≢ name t y) xs
-    → AllByRecursion (λ z. starts_behind t m x z ≡ false) xs
-behind_other t m s x y e r xs h = search (arith, every_weaker, and_right, is_differ)
+  behind_other : (s : Service) (x y : ℕ) → service_in m.1 ≡ Some s → service_name s ≡ name t y → (xs : List ℕ)
+      → AllByRecursion (λ z. name t z ≢ name t y) xs → AllByRecursion (λ z. starts_behind t m x z ≡ false) xs
+  behind_other s x y e r xs h = search (arith, every_weaker, and_right, is_differ)
 
--- A command that isn't earlier than y isn't passed by a step of y.
-pub passed_behind : (c : Settings) (t : Trace) (m : Moment) (s : Service) (k : Block) (y : ℕ) (front back : List ℕ)
-    → Step c t m s k y front back → (x : ℕ) → y ≤ x → passed (t ++ m ∷ []) x ≡ passed t x
-passed_behind c t m s k y front back st x h =
-    let a = st.serves.among in
-    let P : ℕ → Type 0 = λ z. starts_behind t m x z ≡ false in
-    let all : AllByRecursion P (front ++ y ∷ back) =
-    every_append P front (y ∷ back) (behind_other t m s x y st.serves.is st.serves.same front a.before) (
-      and_left (nat_lt x y) (starts_in (name t y) m.1) (le-ltb x y h),
-      behind_other t m s x y st.serves.is
-          st.serves.same back a.behind,
-    ) in
-    unpassed t m x (starters_at t m x ∙ filter_none (starts_behind t m x) (waiting t)
-    (subst (AllByRecursion P) (sym a.at.is) all))
+module _ (c : Settings) (t : Trace) (m : Moment) (s : Service) (k : Block) (y : ℕ) (front back : List ℕ) where
+  -- A command that isn't earlier than y isn't passed by a step of y.
+  pub passed_behind : Step c t m s k y front back → (x : ℕ) → y ≤ x → passed (t ++ m ∷ []) x ≡ passed t x
+  passed_behind st x h =
+      let a = st.serves.among in
+      let P : ℕ → Type 0 = λ z. starts_behind t m x z ≡ false in
+      let all : AllByRecursion P (front ++ y ∷ back) =
+      every_append P front (y ∷ back) (behind_other t m s x y st.serves.is st.serves.same front a.before) (
+        and_left (nat_lt x y) (starts_in (name t y) m.1) (le-ltb x y h),
+        behind_other t m s x y st.serves.is st.serves.same back a.behind,
+      ) in
+      unpassed t m
+      x (starters_at t m x ∙ filter_none (starts_behind t m x) (waiting t) (subst (AllByRecursion P) (sym a.at.is) all))
 
--- An earlier one that was never served is passed by a start of y, at its charge.
-pub passed_front : (c : Settings) (t : Trace) (m : Moment) (s : Service) (k : Block) (y : ℕ) (front back : List ℕ)
-    → Step c t m s k y front back → s.started ≡ true → (x : ℕ) → x < y → is_unstarted t x ≡ true
-    → passed (t ++ m ∷ []) x ≡ passed t x + charge t y
-passed_front c t m s k y front back st e x h u =
-    let a = st.serves.among in
-    let own : starts_behind t m x y ≡ true = ap (λ b. b && starts_in (name t y) m.1) (lt-ltb x y h)
-    ∙ starts_own t m s y st.serves.is st.serves.same e in
-    let one : starters t m x ≡ y ∷ [] =
-    starters_at t m x ∙ (ap (filter (starts_behind t m x)) a.at.is
-    ∙ filter_one (starts_behind t m x) front y back (behind_other t m s x y st.serves.is st.serves.same front a.before)
-    own (behind_other t m s x y st.serves.is st.serves.same back a.behind)) in
-    search (arith, passed_by_starters t m x (y ∷ []) one, sum_by-cons (charge t) y [])
+  -- An earlier one that was never served is passed by a start of y, at its charge.
+  pub passed_front : Step c t m s k y front back
+      → s.started ≡ true → (x : ℕ) → x < y → is_unstarted t x ≡ true → passed (t ++ m ∷ []) x ≡ passed t x + charge t y
+  passed_front st e x h u =
+      let a = st.serves.among in
+      let own : starts_behind t m x y ≡ true = ap (λ b. b && starts_in (name t y) m.1) (lt-ltb x y h)
+      ∙ starts_own t m s y st.serves.is st.serves.same e in
+      let one : starters t m x ≡ y ∷ [] = starters_at t m x ∙ (ap (filter (starts_behind t m x)) a.at.is ∙ filter_one
+      (starts_behind t m x) front y back (behind_other t m s x y st.serves.is st.serves.same front a.before)
+      own (behind_other t m s x y st.serves.is st.serves.same back a.behind)) in
+      search (arith, passed_by_starters t m x (y ∷ []) one, sum_by-cons (charge t) y [])

@@ -1,6 +1,5 @@
 -- A command that is queued is no longer than may be, and leaves a credit.
 use Rattle.mscp_controller.proofs.Common.{◌≡◌, ◌≢◌, ℕ, ◌<◌, ◌≤◌, Bool, true, false, not, ◌&&◌, List, [], ◌∷◌, ◌++◌, length, sym, subst, arith, nat_eq, if◌then◌else◌, Option, None, is_none, AllByRecursion, ltb-false, eqb-false, true≢false, false≢true, Command, Order, command_of, Connection, Settings, order_fault, fault_of, is_immediate, is_queued, order_weight, Trace, Moment, command, weight, waiting, balance, IsRight, every_kept, every_append}
-use Rattle.mscp_packet.specs.declared.command.Order.TheVariants as orders
 use Rattle.mscp_controller.proofs.Promise.Grows.{command_before, command_last, waiting_more}
 use Rattle.mscp_controller.proofs.Promise.Waits.{waiting_below}
 use Rattle.mscp_controller.proofs.Promise.Arrivals.{Queues, queued_right, if_none}
@@ -17,7 +16,6 @@ pub queued_open : (c : Settings) (k : Command) → is_queued c k ≡ true → Is
 queued_open c k h = search (arith, false≢true, none_of)
 
 -- ---- lengths
-
 -- no waiting command is longer than the longest
 abbrev pub Short : Settings → Trace → List ℕ → Type 0
 Short c t xs = AllByRecursion (λ x. weight t x ≤ c.longest) xs
@@ -28,7 +26,6 @@ pub queued_short : (c : Settings) (k : Command) → 1 ≤ c.longest → is_queue
 queued_short c k l q = search (arith, queued_open, true≢false, if_none, ltb-false)
 
 -- ---- what holds of each command that is queued
-
 same_each : (P : Command → Type 0) (t : Trace) (m : Moment) (xs : List ℕ) → AllByRecursion (λ x. x < length t) xs
     → AllByRecursion (λ x. P (command t x)) xs → AllByRecursion (λ x. P (command (t ++ m ∷ []) x)) xs
 same_each P t m [] l h = tt
@@ -36,21 +33,10 @@ same_each P t m (x ∷ xs) l h = (subst P (sym (command_before t m x l.0)) h.0, 
 
 -- What holds of each command that is queued is kept by each right moment.
 pub each_queued : (c : Settings) (P : Command → Type 0) → ((k : Command) → is_queued c k ≡ true → P k)
-    → (t : Trace) (m : Moment) → IsRight c t m.0 m.1
-    → AllByRecursion (λ x. P (command t x)) (waiting t)
+    → (t : Trace) (m : Moment) → IsRight c t m.0 m.1 → AllByRecursion (λ x. P (command t x)) (waiting t)
     → AllByRecursion (λ x. P (command (t ++ m ∷ []) x)) (waiting (t ++ m ∷ []))
-each_queued c P each t m r h =
-    search (
-      arith,
-      waiting_below t,
-      command_last t m,
-      waiting_more t m,
-      not,
-      same_each,
-      every_kept,
-      queued_right,
-      every_append,
-    )
+each_queued c P each t m r h = search
+    (arith, waiting_below t, command_last t m, waiting_more t m, not, same_each, every_kept, queued_right, every_append)
 
 -- Each right moment keeps it that no waiting command is longer than the longest.
 pub short_more : (c : Settings) (t : Trace) (m : Moment) → 1 ≤ c.longest → IsRight c t m.0 m.1 → Short c t (waiting t)
@@ -58,11 +44,10 @@ pub short_more : (c : Settings) (t : Trace) (m : Moment) → 1 ≤ c.longest →
 short_more c t m l r h = each_queued c (λ k. order_weight k.order ≤ c.longest) (λ k q. queued_short c k l q) t m r h
 
 -- ---- credits
-
 -- a message that isn't too short has its own order
 long_enough : (c : Settings) (u : ℕ) (short : Bool) (byte : ℕ) (o : Order)
-    → is_immediate (if short then orders.Invalid byte 0x0001 else o) ≡ false
-    → order_fault c u (if short then orders.Invalid byte 0x0001 else o) ≡ None → is_immediate o ≡ false
+    → is_immediate (if short then Order.Invalid byte 0x0001 else o) ≡ false
+    → order_fault c u (if short then Order.Invalid byte 0x0001 else o) ≡ None → is_immediate o ≡ false
 long_enough c u short byte o h5 h6 = grind (arith, true≢false)
 
 two_of : (n : ℕ) (immediate : Bool) → immediate ≡ false → n ≢ 0 → (nat_eq n 1 && not immediate) ≡ false → 2 ≤ n

@@ -12,11 +12,10 @@ sides_length f (x ∷ xs) = search (arith, sides_length f xs)
 swap_and : (a b : Bool) → (a && b) ≡ (b && a)
 swap_and a b = grind arith
 
-kept_by : (via : Connection) (t : Trace) (m : Moment)
-    → filter (λ x. same_connection (connection (t ++ m ∷ []) x) via) (filter (λ x. not (ends_in (name t x) m.1))
-    (waiting t)) ≡ filter (λ x. not (ends_in (name t x) m.1)) (waiting_by via t)
-kept_by via t m =
-    search (arith, waiting_below t, not, filter_filter, filter_on, every_weaker, swap_and, connection_before)
+kept_by : (via : Connection) (t : Trace) (m : Moment) → filter (λ x. same_connection (connection (t ++ m ∷ []) x) via)
+    (filter (λ x. not (ends_in (name t x) m.1)) (waiting t))
+    ≡ filter (λ x. not (ends_in (name t x) m.1)) (waiting_by via t)
+kept_by via t m = search (arith, waiting_below t, filter_filter, filter_on, every_weaker, swap_and, connection_before)
 
 -- a moment queues a command of a connection
 abbrev pub queues_by : Connection → Moment → Bool

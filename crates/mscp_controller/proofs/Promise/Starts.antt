@@ -15,15 +15,8 @@ every_of p (x ∷ xs) h = let b = and_parts (p x) (list_all p xs) h in (b.0, eve
 
 pub startable_parts : (c : Settings) (t : Trace) (y : ℕ) → is_startable c t y ≡ true → Startable c t y
 unfolding is_startable
-startable_parts c t y h =
-    search (
-      arith,
-      three_parts (is_idle t) (is_free t y) (is_affordable c t y) h,
-      every_weaker,
-      eqb-true,
-      every_of,
-      leb-true,
-    )
+startable_parts c t y h = search
+    (arith, three_parts (is_idle t) (is_free t y) (is_affordable c t y) h, every_weaker, eqb-true, every_of, leb-true)
 
 -- A command that starts may start.
 pub startable_of : (c : Settings) (t : Trace) (k : Block) (s : Service) (y : ℕ) → IsServed c t k s y → s.started ≡ true

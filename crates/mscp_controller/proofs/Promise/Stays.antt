@@ -1,7 +1,5 @@
 -- The figures never rise at a moment that serves nobody.
-use Rattle.mscp_controller.proofs.Common.{◌≡◌, ℕ, ◌+◌, ◌-◌, ◌<◌, ◌≤◌, Bool, true, false, cond, not, ◌&&◌, List, [], ◌∷◌, ◌++◌, length, refl, ap, ◌∙◌, subst, arith, filter, sum_by, nat_lt, Contains, AllByRecursion, append_assoc, filter-append, All-from_recursion, All-contains, sum_by-cons, Settings, Trace, Moment, queues, name, is_waiting, waiting, done, left, in_service, ends_in, passed, figure, every_weaker, every_parts, every_kept, filter_on}
-use Rattle.mscp_controller.proofs.Promise.Grows.{is_waiting_before, waiting_more}
-use Rattle.mscp_controller.proofs.Promise.Waits.{waiting_waits, waiting_below}
+use Rattle.mscp_controller.proofs.Basics.{◌≡◌, ℕ, ◌+◌, ◌-◌, ◌<◌, ◌≤◌, Bool, true, false, cond, not, ◌&&◌, List, [], ◌∷◌, ◌++◌, length, refl, ap, ◌∙◌, subst, arith, filter, sum_by, nat_lt, Contains, AllByRecursion, append_assoc, filter-append, All-from_recursion, All-contains, sum_by-cons, Settings, Trace, Moment, queues, name, is_waiting, waiting, done, left, in_service, ends_in, passed, figure, every_weaker, every_parts, every_kept, filter_on, is_waiting_before, waiting_more, waiting_waits, waiting_below}
 use Rattle.mscp_controller.proofs.Promise.Figured.{Figured, record_of, record_left}
 use Rattle.mscp_controller.proofs.Promise.Falls.{working, figure_at, figure_gone, every_split, working_append, working_idle, left_same}
 
@@ -26,53 +24,46 @@ new_idle : (t : Trace) (m : Moment) → done (t ++ m ∷ []) (length t) ≡ 0 �
     → working (t ++ m ∷ []) (cond b (length t ∷ []) []) ≡ 0
 new_idle t m h2 b = grind (arith, working_idle)
 
--- the figure of a command that stays doesn't rise
-pub rises_not : (c : Settings) (t : Trace) (m : Moment) → Leaves t m → done (t ++ m ∷ []) (length t) ≡ 0
-    → (A : List ℕ) (x : ℕ) (B : List ℕ) → waiting t ≡ A ++ x ∷ B → (b : Bool) → not (ends_in (name t x) m.1) ≡ b
-    → figure c (t ++ m ∷ []) x ≤ figure c t x
-rises_not c t m h d A x B q false k =
-    let below = (every_parts (λ z. z < length t) A (x ∷ B)
-    (subst (λ l. AllByRecursion (λ z. z < length t) l) q (waiting_below t))).1.0 in
-    let w = (every_parts (λ z. is_waiting t z ≡ true) A (x ∷ B)
-    (subst (λ l. AllByRecursion (λ z. is_waiting t z ≡ true) l) q (waiting_waits t))).1.0 in
-    let gone : is_waiting (t ++ m ∷ []) x ≡ false =
-    is_waiting_before t m x below ∙ (ap (λ b. b && not (ends_in (name t x) m.1)) w ∙ k) in
-    omega (arith, figure_gone c (t ++ m ∷ []) x gone)
-rises_not c t m h d A x B q true k =
-    let t' = t ++ m ∷ [] in
-    let keep : ℕ → Bool = λ x. not (ends_in (name t x) m.1) in
-    let new : List ℕ = cond (queues m.1) (length t ∷ []) [] in
-    let same = every_parts (λ z. record_of t' z ≡ record_of t z) A (x ∷ B)
-    (subst (λ l. AllByRecursion (λ z. record_of t' z ≡ record_of t z) l) q h) in
-    let e' : waiting t' ≡ filter keep A ++ x ∷ (filter keep B ++ new) =
-    waiting_more t m ∙ (ap (λ l. filter keep l ++ new) q
-    ∙ (ap (λ l. l ++ new) (filter-append keep A (x ∷ B)
-    ∙ ap (λ b. filter keep A ++ cond b (x ∷ filter keep B) (filter keep B)) k)
-    ∙ append_assoc (filter keep A) (x ∷ filter keep B) new)) in
-    let S = sum_by (left t) A + working t B + (c.budget - passed t x) + left t x in
-    let S' = sum_by (left t') (filter keep A) + working t' (filter keep B ++ new) + (c.budget - passed t' x)
-    + left t' x in
-    let lx : left t' x ≡ left t x = ap record_left same.1.0 in
-    let px : c.budget - passed t' x ≡ c.budget - passed t x =
-    ap (λ (r : Figured). c.budget - r.passed) same.1.0 in
-    let a1 = left_same t t' (filter keep A) (every_kept (λ z. record_of t' z ≡ record_of t z) keep A same.0) in
-    let a2 = sum_kept (left t) keep A in
-    let b1 = working_append t' (filter keep B) new in
-    let b2 = working_same t t' (filter keep B) (every_kept (λ z. record_of t' z ≡ record_of t z) keep B same.1.1) in
-    let b3 = sum_kept_of (left t) (in_service t) keep B in
-    let b4 = new_idle t m d (queues m.1) in
-    let less : S' ≤ S = omega (arith, a1, a2, b1, b2, b3, b4, lx, px) in
-    let both : (b : Bool) → cond b (left t' x) S' ≤ cond b (left t x) S =
-    λ b. elim b as (λ b. cond b (left t' x) S' ≤ cond b (left t x) S) [ true ↦ omega (arith, lx) | false ↦ less ] in
-    let served : in_service t' x ≡ in_service t x = ap (λ (r : Figured). nat_lt 0 r.done) same.1.0 in
-    let now = figure_at c t' (filter keep A) x (filter keep B ++ new) e' ∙ ap (λ b. cond b (left t' x) S') served in
-    let old = figure_at c t A x B q in
-    search arith
+module _ (c : Settings) (t : Trace) (m : Moment) (h : Leaves t m) (d : done (t ++ m ∷ []) (length t) ≡ 0) where
+  -- the figure of a command that stays doesn't rise
+  pub rises_not : (A : List ℕ) (x : ℕ) (B : List ℕ)
+      → waiting t ≡ A ++ x ∷ B → (b : Bool) → not (ends_in (name t x) m.1) ≡ b → figure c (t ++ m ∷ []) x ≤ figure c t x
+  rises_not A x B q false k =
+      let gone : is_waiting (t ++ m ∷ []) x ≡ false = is_waiting_before t m x ((every_parts
+      (λ z. z < length t) A (x ∷ B) (subst (λ l. AllByRecursion (λ z. z < length t) l) q (waiting_below t))).1.0)
+      ∙ (ap (λ b. b && not (ends_in (name t x) m.1)) ((every_parts (λ z. is_waiting t z ≡ true) A
+      (x ∷ B) (subst (λ l. AllByRecursion (λ z. is_waiting t z ≡ true) l) q (waiting_waits t))).1.0) ∙ k) in
+      omega (arith, figure_gone c (t ++ m ∷ []) x gone)
+  rises_not A x B q true k =
+      let t' = t ++ m ∷ [] in
+      let keep : ℕ → Bool = λ x. not (ends_in (name t x) m.1) in
+      let new : List ℕ = cond (queues m.1) (length t ∷ []) [] in
+      let same = every_parts (λ z. record_of t' z ≡ record_of t z) A (x ∷ B)
+      (subst (λ l. AllByRecursion (λ z. record_of t' z ≡ record_of t z) l) q h) in
+      let e' : waiting t' ≡ filter keep A ++ x ∷ (filter keep B ++ new) = waiting_more t m
+      ∙ (ap (λ l. filter keep l ++ new) q ∙ (ap (λ l. l ++ new) (filter-append keep A (x ∷ B) ∙ ap (λ b. filter keep
+      A ++ cond b (x ∷ filter keep B) (filter keep B)) k) ∙ append_assoc (filter keep A) (x ∷ filter keep B) new)) in
+      let S = sum_by (left t) A + working t B + (c.budget - passed t x) + left t x in
+      let S' =
+      sum_by (left t') (filter keep A) + working t' (filter keep B ++ new) + (c.budget - passed t' x) + left t' x in
+      let lx : left t' x ≡ left t x = ap record_left same.1.0 in
+      let px : c.budget - passed t' x ≡ c.budget - passed t x = ap (λ (r : Figured). c.budget - r.passed) same.1.0 in
+      let a1 = left_same t t' (filter keep A) (every_kept (λ z. record_of t' z ≡ record_of t z) keep A same.0) in
+      let a2 = sum_kept (left t) keep A in
+      let b1 = working_append t' (filter keep B) new in
+      let b2 = working_same t t' (filter keep B) (every_kept (λ z. record_of t' z ≡ record_of t z) keep B same.1.1) in
+      let b3 = sum_kept_of (left t) (in_service t) keep B in
+      let less : S' ≤ S = omega (arith, a1, a2, b1, b2, b3, new_idle t m d (queues m.1), lx, px) in
+      let both : (b : Bool) → cond b (left t' x) S' ≤ cond b (left t x) S =
+      λ b. elim b as (λ b. cond b (left t' x) S' ≤ cond b (left t x) S) [ true ↦ omega (arith, lx) | false ↦ less ] in
+      let served : in_service t' x ≡ in_service t x = ap (λ (r : Figured). nat_lt 0 r.done) same.1.0 in
+      let now = figure_at c t' (filter keep A) x (filter keep B ++ new) e' ∙ ap (λ b. cond b (left t' x) S') served in
+      let old = figure_at c t A x B q in
+      search arith
 
--- At a moment that serves nobody no figure rises.
-pub never_rises : (c : Settings) (t : Trace) (m : Moment) → Leaves t m → done (t ++ m ∷ []) (length t) ≡ 0 → (x : ℕ)
-    → Contains (waiting t) x → figure c (t ++ m ∷ []) x ≤ figure c t x
-never_rises c t m h d x k =
-    let P : ℕ → Type 0 = λ x. figure c (t ++ m ∷ []) x ≤ figure c t x in
-    All-contains P (waiting t) x (All-from_recursion P (waiting t)
-    (every_split P (waiting t) (λ A x B q. rises_not c t m h d A x B q (not (ends_in (name t x) m.1)) refl))) k
+  -- At a moment that serves nobody no figure rises.
+  pub never_rises : (x : ℕ) → Contains (waiting t) x → figure c (t ++ m ∷ []) x ≤ figure c t x
+  never_rises x k =
+      let P : ℕ → Type 0 = λ x. figure c (t ++ m ∷ []) x ≤ figure c t x in
+      All-contains P (waiting t) x (All-from_recursion P
+      (waiting t) (every_split P (waiting t) (λ A x B q. rises_not A x B q (not (ends_in (name t x) m.1)) refl))) k

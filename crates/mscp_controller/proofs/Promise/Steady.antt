@@ -19,7 +19,6 @@ pub record Steady (c : Settings) (t : Trace) : Type 0 where
   pub single : Single t (waiting t)
 
 -- ---- from one run to the next
-
 pub weight_before : (t : Trace) (m : Moment) (x : ℕ) → x < length t → weight (t ++ m ∷ []) x ≡ weight t x
 weight_before t m x h = ap (λ (k : Command). order_weight k.order) (command_before t m x h)
 
@@ -38,53 +37,49 @@ single_same : (t t' : Trace) (xs : List ℕ) → AllByRecursion (λ x. done t' x
 single_same t t' [] h s = tt
 single_same t t' (x ∷ xs) h s = (single_from t t' x xs h.0 h.1 s.0, single_same t t' xs h.1 s.1)
 
-idle_before : (t : Trace) (x : ℕ) → done t x ≡ 0 → (xs : List ℕ)
-    → AllByRecursion (λ z. (done t x ≡ 0) ⊎ (done t z ≡ 0)) xs
-idle_before t x e [] = tt
-idle_before t x e (z ∷ zs) = (inl e, idle_before t x e zs)
+module _ (t : Trace) where
+  idle_before : (x : ℕ) → done t x ≡ 0 → (xs : List ℕ) → AllByRecursion (λ z. (done t x ≡ 0) ⊎ (done t z ≡ 0)) xs
+  idle_before x e [] = tt
+  idle_before x e (z ∷ zs) = (inl e, idle_before x e zs)
 
-single_of : (t : Trace) (xs ys : List ℕ) → AllByRecursion (λ x. done t x ≡ 0) xs → Single t ys → Single t (xs ++ ys)
-single_of t [] ys h s = s
-single_of t (x ∷ xs) ys h s = (idle_before t x h.0 (xs ++ ys), single_of t xs ys h.1 s)
+  single_of : (xs ys : List ℕ) → AllByRecursion (λ x. done t x ≡ 0) xs → Single t ys → Single t (xs ++ ys)
+  single_of [] ys h s = s
+  single_of (x ∷ xs) ys h s = (idle_before x h.0 (xs ++ ys), single_of xs ys h.1 s)
 
-single_idle : (t : Trace) (xs : List ℕ) → AllByRecursion (λ x. done t x ≡ 0) xs → Single t xs
-single_idle t [] h = tt
-single_idle t (x ∷ xs) h = (idle_before t x h.0 xs, single_idle t xs h.1)
+  single_idle : (xs : List ℕ) → AllByRecursion (λ x. done t x ≡ 0) xs → Single t xs
+  single_idle [] h = tt
+  single_idle (x ∷ xs) h = (idle_before x h.0 xs, single_idle xs h.1)
 
-single_own : (t : Trace) (y : ℕ) (back : List ℕ) → AllByRecursion (λ x. done t x ≡ 0) back → (b : Bool)
-    → Single t (cond b [] (y ∷ []) ++ back)
-single_own t y back h3 b = grind (arith, single_idle, every_weaker)
+  single_own : (y : ℕ) (back : List ℕ)
+      → AllByRecursion (λ x. done t x ≡ 0) back → (b : Bool) → Single t (cond b [] (y ∷ []) ++ back)
+  single_own y back h3 b = grind (arith, single_idle, every_weaker)
 
-idle_same : (t t' : Trace) (xs : List ℕ) → AllByRecursion (λ x. done t' x ≡ done t x) xs
-    → AllByRecursion (λ x. done t x ≡ 0) xs → AllByRecursion (λ x. done t' x ≡ 0) xs
-idle_same t t' xs d h = search (arith, every_weaker, every_both)
+  idle_same : (t' : Trace) (xs : List ℕ) → AllByRecursion (λ x. done t' x ≡ done t x) xs
+      → AllByRecursion (λ x. done t x ≡ 0) xs → AllByRecursion (λ x. done t' x ≡ 0) xs
+  idle_same t' xs d h = search (arith, every_weaker, every_both)
 
--- ---- a moment that serves nobody
+  -- ---- a moment that serves nobody
+  pub done_kept : (m : Moment) (x : ℕ) → service_in m.1 ≡ None → x < length t → done (t ++ m ∷ []) x ≡ done t x
+  done_kept m x e l = search (arith, done_before t m x l)
 
-pub done_kept : (t : Trace) (m : Moment) (x : ℕ) → service_in m.1 ≡ None → x < length t
-    → done (t ++ m ∷ []) x ≡ done t x
-done_kept t m x e l = search (arith, done_before t m x l)
-
-quiet : (c : Settings) (t : Trace) (m : Moment) → IsRight c t m.0 m.1 → Steady c t → service_in m.1 ≡ None
-    → Steady c (t ++ m ∷ [])
+quiet : (c : Settings) (t : Trace) (m : Moment)
+    → IsRight c t m.0 m.1 → Steady c t → service_in m.1 ≡ None → Steady c (t ++ m ∷ [])
 quiet c t m r s e =
     let t' = t ++ m ∷ [] in
     let keep : ℕ → Bool = λ x. not (ends_in (name t x) m.1) in
     let kept = filter keep (waiting t) in
     let below = every_kept (λ x. x < length t) keep (waiting t) (waiting_below t) in
     let same = every_weaker (λ x. x < length t) (λ x. done t' x ≡ done t x) (λ x l. done_kept t m x e l) kept below in
-    let unfinished = unfinished_same t m kept below same
-    (every_kept (λ x. done t x < weight t x) keep (waiting t) s.unfinished) in
-    let single = single_same t t' kept same (pairs_filter (λ x z. (done t x ≡ 0) ⊎ (done t z ≡ 0)) keep (waiting t)
-    s.single) in
+    let unfinished =
+    unfinished_same t m kept below same (every_kept (λ x. done t x < weight t x) keep (waiting t) s.unfinished) in
+    let single =
+    single_same t t' kept same (pairs_filter (λ x z. (done t x ≡ 0) ⊎ (done t z ≡ 0)) keep (waiting t) s.single) in
     let new : Unfinished t' (length t ∷ []) = (omega (arith, done_last t m, some_steps (order t' (length t))), tt) in
-    let news : AllByRecursion (λ x. (done t' x ≡ 0) ⊎ (done t' (length t) ≡ 0)) kept =
-    every_weaker (λ x. x < length t) (λ x. (done t' x ≡ 0) ⊎ (done t' (length t) ≡ 0)) (λ x l. inr (done_last t m))
-    kept below in
+    let news : AllByRecursion (λ x. (done t' x ≡ 0) ⊎ (done t' (length t) ≡ 0)) kept = every_weaker (λ x. x < length t)
+    (λ x. (done t' x ≡ 0) ⊎ (done t' (length t) ≡ 0)) (λ x l. inr (done_last t m)) kept below in
     search (arith, apart_more c t m r s.apart, waiting_more t m, append-nil kept, every_append, pairs_append)
 
 -- ---- a step
-
 idle_where : (t : Trace) (y : ℕ) (xs : List ℕ) → 0 < done t y → AllByRecursion (λ x. (done t x ≡ 0) ⊎ (done t y ≡ 0)) xs
     → AllByRecursion (λ x. done t x ≡ 0) xs
 idle_where t y xs h s = search (arith, every_weaker, ⊎_elim)
@@ -119,15 +114,14 @@ stepped c t m s k y front back r h st =
     let below = below_parts t y front back st.serves.among.at in
     let parts = every_parts (λ x. done t x < weight t x) front (y ∷ back) (subst (Unfinished t) w h.unfinished) in
     let idle = idle_others c t y front back w h.single st.served.next in
-    let own : (b : Bool) → is_some s.ended ≡ b → Unfinished t' (cond b [] (y ∷ [])) =
-    search (arith, weight_before t m y below.1.0, more_left) in
+    let own : (b : Bool) → is_some s.ended ≡ b
+    → Unfinished t' (cond b [] (y ∷ [])) = search (arith, weight_before t m y below.1.0, more_left) in
     record {
       apart = apart_more c t m r h.apart;
-      unfinished = subst (Unfinished t') (sym ch.waits)
-          (every_append (λ x. done t' x < weight t' x) front (cond (is_some s.ended) [] (y ∷ []) ++ back)
-          (unfinished_same t m front below.0 ch.front_done parts.0)
-          (every_append (λ x. done t' x < weight t' x) (cond (is_some s.ended) [] (y ∷ [])) back
-          (own (is_some s.ended) refl) (unfinished_same t m back below.1.1 ch.back_done parts.1.1)));
+      unfinished = subst (Unfinished t') (sym ch.waits) (every_append (λ x. done t' x < weight t' x)
+          front (cond (is_some s.ended) [] (y ∷ []) ++ back) (unfinished_same t m front below.0 ch.front_done parts.0)
+          (every_append (λ x. done t' x < weight t' x) (cond (is_some s.ended) [] (y ∷ []))
+          back (own (is_some s.ended) refl) (unfinished_same t m back below.1.1 ch.back_done parts.1.1)));
       single = subst (Single t') (sym ch.waits)
           (single_of t' front (cond (is_some s.ended) [] (y ∷ []) ++ back) (idle_same t t' front ch.front_done idle.0)
           (single_own t' y back (idle_same t t' back ch.back_done idle.1) (is_some s.ended)));

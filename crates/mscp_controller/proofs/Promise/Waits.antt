@@ -46,26 +46,24 @@ range_cut a zero k h = absurd (omega arith)
 range_cut a (suc n) zero h = search arith
 range_cut a (suc n) (suc k) h = search (arith, range_cut (a + 1) n k (omega arith))
 
-pub cut : (t : Trace) (y : ℕ) → y < length t → is_waiting t y ≡ true
-    → (front : List ℕ) × (back : List ℕ) × Cut t y front back
+pub cut : (t : Trace) (y : ℕ)
+    → y < length t → is_waiting t y ≡ true → (front : List ℕ) × (back : List ℕ) × Cut t y front back
 unfolding waiting
 cut t y l w =
     let n = length t - (y + 1) in
-    let r : positions t ≡ range_with_len 0 y ++ y ∷ range_with_len (y + 1) n =
-    range_cut 0 (length t) y l ∙ ap (λ b. range_with_len 0 y ++ b ∷ range_with_len (b + 1) n) (omega arith) in
+    let r : positions t ≡ range_with_len 0 y ++ y ∷ range_with_len (y + 1) n = range_cut 0 (length t) y l
+    ∙ ap (λ b. range_with_len 0 y ++ b ∷ range_with_len (b + 1) n) (omega arith) in
     let front = filter (is_waiting t) (range_with_len 0 y) in
     let back = filter (is_waiting t) (range_with_len (y + 1) n) in (
       front,
       back,
       record {
-        is = ap (filter (is_waiting t)) r ∙ (filter-append (is_waiting t) (range_with_len 0 y)
-            (y ∷ range_with_len (y + 1) n) ∙ ap (λ b. front ++ cond b (y ∷ back) back) w);
-        before = every_kept (λ x. x < y) (is_waiting t) (range_with_len 0 y)
-            (every_weaker (λ x. (0 ≤ x) × (x < 0 + y)) (λ x. x < y) (λ x h. omega arith) (range_with_len 0 y)
-            (range_below 0 y));
-        behind = every_kept (λ x. y < x) (is_waiting t) (range_with_len (y + 1) n)
-            (every_weaker (λ x. (y + 1 ≤ x) × (x < y + 1 + n)) (λ x. y < x) (λ x h. omega arith)
-            (range_with_len (y + 1) n) (range_below (y + 1) n));
+        is = ap (filter (is_waiting t)) r ∙ (filter-append (is_waiting t)
+            (range_with_len 0 y) (y ∷ range_with_len (y + 1) n) ∙ ap (λ b. front ++ cond b (y ∷ back) back) w);
+        before = every_kept (λ x. x < y) (is_waiting t) (range_with_len 0 y) (every_weaker (λ x. (0 ≤ x) × (x < 0 + y))
+            (λ x. x < y) (λ x h. omega arith) (range_with_len 0 y) (range_below 0 y));
+        behind = every_kept (λ x. y < x) (is_waiting t) (range_with_len (y + 1) n) (every_weaker (λ x. (y + 1 ≤ x)
+            × (x < y + 1 + n)) (λ x. y < x) (λ x h. omega arith) (range_with_len (y + 1) n) (range_below (y + 1) n));
       },
     )
 

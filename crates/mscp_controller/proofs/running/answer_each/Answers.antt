@@ -8,9 +8,8 @@ loop-event-preserved g c =
     record {
       goes =
           goes_more g.K.Picker.picks c.args.controller.now c.loop-event.controller c.answer.new.self c.args.events.now
-          c.loop-event.event-index c.loop-event.entries.items c.push_reserved.new.self.items
-          c.event-item.result c.answer.result (omega arith) c.event-item.is inv.goes c.answer.ensures
-          c.push_reserved.ensures.items;
+          c.loop-event.event-index c.loop-event.entries.items c.push_reserved.new.self.items c.event-item.result
+          c.answer.result (omega arith) c.event-item.is inv.goes c.answer.ensures c.push_reserved.ensures.items;
       len = c.push_reserved.ensures.len ∙ ap (λ n. n + 1) inv.len;
       room = c.push_reserved.ensures.capacity ∙ inv.room;
     }

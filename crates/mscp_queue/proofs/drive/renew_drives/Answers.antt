@@ -1,5 +1,4 @@
-use Rattle.mscp_queue.proofs.Common.{arith}
-use Rattle.mscp_queue.proofs.Mapped.{mapped_more}
+use Rattle.mscp_queue.proofs.Basics.{arith, mapped_more}
 use Rattle.mscp_queue.proofs.drive.renew_drives.Goals as goal
 
 pub loop-drive-preserved : goal.loop-drive-preserved

@@ -1,5 +1,4 @@
-use Rattle.mscp_queue.proofs.Common.{arith}
-use Rattle.mscp_queue.proofs.LaneLeasts.{none_if, some_if}
+use Rattle.mscp_queue.proofs.Basics.{arith, none_if, some_if}
 use Rattle.mscp_queue.proofs.lanes.least.Goals as goal
 
 pub returns-clause-none : goal.returns-clause-none

@@ -1,6 +1,4 @@
-use Rattle.mscp_queue.proofs.Common.{◌≡◌, get_or, subst, arith, Each1-get_or, IsLow}
-use Rattle.mscp_queue.proofs.LaneLeasts.{low_more, low_whole, cost_of, masked}
-use Rattle.mscp_queue.proofs.LaneParts.{bit_from}
+use Rattle.mscp_queue.proofs.Basics.{◌≡◌, get_or, subst, arith, Each1-get_or, IsLow, low_more, low_whole, cost_of, masked, bit_from}
 use Rattle.mscp_queue.proofs.lanes.least_cost.Goals as goal
 
 pub loop-block-preserved : goal.loop-block-preserved

@@ -1,5 +1,4 @@
-use Rattle.mscp_queue.proofs.Common.{arith}
-use Rattle.mscp_queue.proofs.LaneLeasts.{lane_more}
+use Rattle.mscp_queue.proofs.Basics.{arith, lane_more}
 use Rattle.mscp_queue.proofs.lanes.least_lane.Goals as goal
 
 pub loop-place-preserved : goal.loop-place-preserved

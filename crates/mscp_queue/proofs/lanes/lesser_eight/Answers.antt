@@ -1,5 +1,4 @@
-use Rattle.mscp_queue.proofs.Common.{min, sym, subst, ltb, get_or, w64, tops_compared, sel_l, HasLanes}
-use Rattle.mscp_queue.proofs.LaneBits.{least_of_two}
+use Rattle.mscp_queue.proofs.Basics.{min, sym, subst, ltb, get_or, w64, tops_compared, sel_l, HasLanes, least_of_two}
 use Rattle.mscp_queue.proofs.lanes.lesser_eight.Goals as goal
 
 pub returns : goal.returns

@@ -1,5 +1,4 @@
-use Rattle.mscp_queue.proofs.Common.{◌*◌}
-use Rattle.mscp_queue.proofs.LaneParts.{Lowered}
+use Rattle.mscp_queue.proofs.Basics.{◌*◌, Lowered}
 use Rattle.mscp_queue.proofs.lanes.lower.Given as goal
 
 abbrev pub invariant-loop-block : goal.invariant-loop-block

@@ -1,5 +1,4 @@
-use Rattle.mscp_queue.proofs.Common.{◌≤◌, arith, w64, Fits, get_or, Each1-get_or}
-use Rattle.mscp_queue.proofs.LaneBits.{selected}
+use Rattle.mscp_queue.proofs.Basics.{◌≤◌, arith, w64, Fits, get_or, Each1-get_or, selected}
 use Rattle.mscp_queue.proofs.lanes.lower_eight.Goals as goal
 
 pub returns : goal.returns

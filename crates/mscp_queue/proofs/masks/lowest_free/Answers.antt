@@ -1,5 +1,4 @@
-use Rattle.mscp_queue.proofs.Common.{w64, sym, subst, trailing_ones, bit_at-trailing_ones, IsLowestFree}
-use Rattle.mscp_queue.proofs.Masked.{not_last}
+use Rattle.mscp_queue.proofs.Basics.{w64, sym, subst, trailing_ones, bit_at-trailing_ones, IsLowestFree, not_last}
 use Rattle.mscp_queue.proofs.masks.lowest_free.Goals as goal
 
 pub returns : goal.returns

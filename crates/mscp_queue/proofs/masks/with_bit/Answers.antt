@@ -1,5 +1,4 @@
-use Rattle.mscp_queue.proofs.Common.{arith, bit_at_set_same, bit_at_set_other, bit_at_clear_same, bit_at_clear_other, and_le_l}
-use Rattle.mscp_queue.proofs.Masked.{after_bit}
+use Rattle.mscp_queue.proofs.Basics.{arith, bit_at_set_same, bit_at_set_other, bit_at_clear_same, bit_at_clear_other, and_le_l, after_bit}
 use Rattle.mscp_queue.proofs.masks.with_bit.Goals as goal
 
 pub returns-then-on-clause-set : goal.returns-then-on-clause-set

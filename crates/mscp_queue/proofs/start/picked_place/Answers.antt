@@ -18,11 +18,10 @@ from_0 : (n : ℕ) → 0 + n ≡ n
 from_0 n = omega arith
 
 pub returns-then-may_all_start-clause-inside : goal.returns-then-may_all_start-clause-inside
-returns-then-may_all_start-clause-inside g
-    c = (all_picked c.args.backlog.now.budget c.args.drives.now c.args.backlog.now.waiting _ c.requires.some
-    (c.may_all_start.ensures c.if-may_all_start.true) (c.shown.ensures
-    ∙ (c.renew_all.ensures ∙ all_choices c.args.drives.now c.args.backlog.now.waiting))).inside c.pick.result
-    c.pick.ensures.place
+returns-then-may_all_start-clause-inside g c =
+    (all_picked c.args.backlog.now.budget c.args.drives.now c.args.backlog.now.waiting _ c.requires.some
+    (c.may_all_start.ensures c.if-may_all_start.true) (c.shown.ensures ∙ (c.renew_all.ensures ∙ all_choices
+    c.args.drives.now c.args.backlog.now.waiting))).inside c.pick.result c.pick.ensures.place
 
 pub returns-then-may_all_start-clause-listed : goal.returns-then-may_all_start-clause-listed
 returns-then-may_all_start-clause-listed g c = candidates_of c.renew_all.new.self.dirty c.renew_all.ensures
@@ -48,20 +47,18 @@ record IsChosen (budget i : ℕ) (rs : List Record) (view : List Choice) : Type 
   some : 0 < length view
   below : i < length (open_places budget rs)
 
-chosen : (budget i : ℕ) (ds : List Drive) (rs : List Record) (view : List Choice) → 0 < length rs
-    → view ≡ view_of budget ds rs
-    → (0 < length view → i < length view) → IsChosen budget i rs view
+chosen : (budget i : ℕ) (ds : List Drive) (rs : List Record) (view : List Choice)
+    → 0 < length rs → view ≡ view_of budget ds rs → (0 < length view → i < length view) → IsChosen budget i rs view
 chosen budget i ds rs view l is place = search (arith, length-map, some_place)
 
 pub returns-clause-inside : goal.returns-clause-inside
 returns-clause-inside g c =
     let b = c.args.backlog.now.budget in
     let rs = c.args.backlog.now.waiting in
-    let pick = chosen b c.pick-2.result c.args.drives.now rs _ c.requires.some c.show_each-places.ensures.view
-    c.pick-2.ensures.place in
-    let is = c.from.ensures ∙ ap (λ ps. get_or ps c.pick-2.result 0) (c.deref.ensures.0
-    ∙ c.show_each-places.ensures.places) in
-    subst (λ k. k < length rs) (sym is) (places_inside b rs c.pick-2.result 0 pick.below)
+    let pick = chosen
+    b c.pick-2.result c.args.drives.now rs _ c.requires.some c.show_each-places.ensures.view c.pick-2.ensures.place in
+    subst (λ k. k < length rs) (sym (c.from.ensures ∙ ap (λ ps. get_or ps c.pick-2.result 0)
+    (c.deref.ensures.0 ∙ c.show_each-places.ensures.places))) (places_inside b rs c.pick-2.result 0 pick.below)
 
 pub returns-clause-picked : goal.returns-clause-picked
 returns-clause-picked g c =

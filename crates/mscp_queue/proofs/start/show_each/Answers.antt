@@ -15,9 +15,8 @@ returns-then-is_shut-clause-places c =
     c.requires.waiting c.requires.order rest l (c.is_shut.ensures c.if-is_shut.true))
 
 pub returns-then-is_shut-clause-view : goal.returns-then-is_shut-clause-view
-returns-then-is_shut-clause-view c =
-    (looks_more c.may_start-starts.result c.may_start-starts.ensures c.show_if.ensures.kept c.show_if.ensures.shown
-    c.loop-place.invariant).shown
+returns-then-is_shut-clause-view c = (looks_more c.may_start-starts.result
+    c.may_start-starts.ensures c.show_if.ensures.kept c.show_if.ensures.shown c.loop-place.invariant).shown
     ∙ ap (choices_at c.args.drives.now c.args.backlog.now.waiting) (returns-then-is_shut-clause-places c)
 
 pub loop-place-preserved : goal.loop-place-preserved

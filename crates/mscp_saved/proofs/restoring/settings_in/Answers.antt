@@ -12,7 +12,6 @@ pub returns-in-Ok-new : goal.returns-in-Ok-new
 returns-in-Ok-new c =
     let s = settings_in c.args.b.now c.args.drives.now in
     let list = c.as_slice.ensures.value ∙ c.units_of.ensures in
-    let units = c.in-Ok.ensures.same ∙ list in
     let taken = c.new.ensures.taken.0 (c.in-Ok.is ∙ ap Ok c.in-Ok.ensures.same) in
     settings_made s taken list (sym c.in-Ok-new.is ∙ (c.new-2.ensures ∙ λ i. configured (record {
       credits = c.four_at-credits.ensures i;
@@ -21,14 +20,13 @@ returns-in-Ok-new c =
       longest = c.four_at-longest.ensures i;
       timeout = c.two_at-timeout.ensures i;
       id = c.eight_at-id.ensures i;
-      units = units i;
+      units = (c.in-Ok.ensures.same ∙ list) i;
     })))
 
 pub returns-in-Err : goal.returns-in-Err
 returns-in-Err c =
     let s = settings_in c.args.b.now c.args.drives.now in
     let list = c.as_slice.ensures.value ∙ c.units_of.ensures in
-    let units = c.in-Ok.ensures.same ∙ list in
     let taken = c.new.ensures.taken.0 (c.in-Ok.is ∙ ap Ok c.in-Ok.ensures.same) in
     settings_refused s taken list (sym c.in-Err.is ∙ (c.new-2.ensures ∙ λ i. configured (record {
       credits = c.four_at-credits.ensures i;
@@ -37,5 +35,5 @@ returns-in-Err c =
       longest = c.four_at-longest.ensures i;
       timeout = c.two_at-timeout.ensures i;
       id = c.eight_at-id.ensures i;
-      units = units i;
+      units = (c.in-Ok.ensures.same ∙ list) i;
     })))

@@ -2,8 +2,7 @@ use Rattle.mscp_saved.proofs.Common.{◌≡◌, take, array_vec_len, units_of}
 use Rattle.mscp_saved.proofs.restoring.units_of.Given as goal
 
 abbrev pub invariant-loop-drive : goal.invariant-loop-drive
-invariant-loop-drive l =
-    record {
-      items : l.units.items ≡ units_of (take l.drive-index l.drives);
-      len : array_vec_len l.units ≡ l.drive-index;
-    }
+invariant-loop-drive l = record {
+  items : l.units.items ≡ units_of (take l.drive-index l.drives);
+  len : array_vec_len l.units ≡ l.drive-index;
+}

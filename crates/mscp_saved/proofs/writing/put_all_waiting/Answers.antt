@@ -9,9 +9,8 @@ loop-place-preserved g c =
     let r = c.record.result in
     let l : i < length rs = omega (arith, c.loop-place-test.true, c.len-place-end.ensures) in
     record {
-      items = written_more waiting_bytes c.args.out.now.items rs i r no_record l (sym c.record.ensures) inv.items
-          c.put_waiting.ensures.items;
+      items = written_more waiting_bytes
+          c.args.out.now.items rs i r no_record l (sym c.record.ensures) inv.items c.put_waiting.ensures.items;
       len = omega (arith, inv.len, c.put_waiting.ensures.len);
-      range = each_more HasWaitingRange rs i r no_record l (sym c.record.ensures) inv.range
-          c.put_waiting.ensures.range;
+      range = each_more HasWaitingRange rs i r no_record l (sym c.record.ensures) inv.range c.put_waiting.ensures.range;
     }

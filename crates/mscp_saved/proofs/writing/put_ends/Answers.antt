@@ -4,13 +4,11 @@ use Rattle.mscp_saved.proofs.writing.put_ends.Goals as goal
 pub loop-place-preserved : goal.loop-place-preserved
 loop-place-preserved c =
     let inv = c.loop-place.invariant in
-    let ds = c.args.ends.now in
-    let i = c.loop-place.place in
     let d = c.end_at.result in
     record {
-      items = written_more end_cell c.args.out.now.items ds i d d c.loop-place-test.true (sym c.end_at.ensures)
-          inv.items c.put_end.ensures.items;
+      items = written_more end_cell c.args.out.now.items c.args.ends.now
+          c.loop-place.place d d c.loop-place-test.true (sym c.end_at.ensures) inv.items c.put_end.ensures.items;
       len = omega (arith, inv.len, c.put_end.ensures.len);
-      range = each_more HasEndRange ds i d d c.loop-place-test.true (sym c.end_at.ensures) inv.range
-          c.put_end.ensures.range;
+      range = each_more HasEndRange c.args.ends.now
+          c.loop-place.place d d c.loop-place-test.true (sym c.end_at.ensures) inv.range c.put_end.ensures.range;
     }

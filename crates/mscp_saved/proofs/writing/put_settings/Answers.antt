@@ -9,5 +9,4 @@ returns-clause-items c =
     let a = first xs _ _ c.put_limits.ensures.items refl in
     let b = grow xs _ 2 _ s.timeout a c.put_two.ensures.items c.timeout.ensures.value in
     let d = more xs _ _ _ b c.put_one.ensures.items refl in
-    let e = more xs _ _ _ d c.put_one-2.ensures.items refl in
-    grow xs _ 8 _ s.id e c.put_eight.ensures.items c.id.ensures.value
+    grow xs _ 8 _ s.id (more xs _ _ _ d c.put_one-2.ensures.items refl) c.put_eight.ensures.items c.id.ensures.value

@@ -42,8 +42,7 @@ returns-clause-back g c =
       waiting = c.put_all_waiting.ensures.range;
       first = subst (All HasEndRange) c.ends.ensures c.put_ends.ensures.range;
       second = subst (All HasEndRange) c.ends-2.ensures c.put_ends-2.ensures.range;
-      begun = subst (λ begun. IfSome begun (λ name. name.reference < 2 ^ 32)) c.begun.ensures
-          c.put_head.ensures.begun;
+      begun = subst (λ begun. IfSome begun (λ name. name.reference < 2 ^ 32)) c.begun.ensures c.put_head.ensures.begun;
     } in
     let bytes : c.put_ends-2.new.out.items ≡ saved_bytes c.args.picker h = search rules in
     ap (restored c.args.picker h.picker) bytes ∙ back_of c.args.picker h c.drives-drives.ensures.sound range

@@ -12,9 +12,8 @@ leave-requires-clause-room g c =
 
 pub invariant_of-self-2 : goal.invariant_of-self-2
 invariant_of-self-2 g c =
-    subst (IsHeld c.self.inside.config c.abort.new.self) (sym c.leave.ensures)
-    (held_aborted c.args.connection _ c.in_ok-end.end c.self.invariant c.in_ok-end.ensures.after
-    c.in_ok-end.ensures.count c.in_ok-end.ensures.shaped)
+    subst (IsHeld c.self.inside.config c.abort.new.self) (sym c.leave.ensures) (held_aborted c.args.connection
+    _ c.in_ok-end.end c.self.invariant c.in_ok-end.ensures.after c.in_ok-end.ensures.count c.in_ok-end.ensures.shaped)
 
 pub returns-clause-balance : goal.returns-clause-balance
 returns-clause-balance g c =

@@ -1,6 +1,4 @@
-use Rattle.mscp_controller.proofs.Common.{common_steps, arith, ◌≡◌, ◌≤◌, false, subst, sym, holds, Holdings, balance_of, outstanding_of}
-use Rattle.mscp_controller.proofs.Bridge.Judging.{none_waits}
-use Rattle.mscp_controller.proofs.Bridge.Keeping.{free_seen, room_left}
+use Rattle.mscp_controller.proofs.Bridge.Basics.{common_steps, arith, ◌≡◌, ◌≤◌, false, subst, sym, holds, Holdings, balance_of, outstanding_of, none_waits, free_seen, room_left}
 use Rattle.mscp_controller.proofs.controller.Controller.queue.Goals as goal
 
 pub push-requires-clause-room : goal.push-requires-clause-room

@@ -1,13 +1,9 @@
-use Rattle.mscp_controller.proofs.Common.{◌≡◌, ◌∙◌, ap, subst, sym, slice_get, IsEnd, of, Holdings, IsHeld}
-use Rattle.mscp_controller.proofs.Bridge.Accounts.{seen_of}
-use Rattle.mscp_controller.proofs.Bridge.Keeping.{held_taken, taken_kind}
-use Rattle.mscp_controller.proofs.Promise.Served.{some_same}
+use Rattle.mscp_controller.proofs.Bridge.Basics.{◌≡◌, ◌∙◌, ap, subst, sym, slice_get, IsEnd, of, Holdings, IsHeld, seen_of, some_same, held_taken, taken_kind}
 use Rattle.mscp_controller.proofs.controller.Controller.take.Goals as goal
 
 pub invariant_of-self-2 : goal.invariant_of-self-2
-invariant_of-self-2 g c =
-    subst (IsHeld c.self.inside.config c.self.inside.queue) (sym c.take.ensures.after)
-    (held_taken c.args.connection c.self.invariant)
+invariant_of-self-2 g c = subst (IsHeld c.self.inside.config c.self.inside.queue)
+    (sym c.take.ensures.after) (held_taken c.args.connection c.self.invariant)
 
 pub returns-clause-reads_back : goal.returns-clause-reads_back
 returns-clause-reads_back g c = λ end e.

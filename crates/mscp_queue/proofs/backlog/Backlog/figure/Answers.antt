@@ -1,6 +1,4 @@
-use Rattle.mscp_queue.proofs.Common.{◌≡◌, ◌+◌, arith, length-map, figure_at}
-use Rattle.mscp_queue.proofs.Dues.{due_tells}
-use Rattle.mscp_queue.proofs.Sums.{figure_small}
+use Rattle.mscp_queue.proofs.Basics.{◌≡◌, ◌+◌, arith, length-map, figure_at, due_tells, figure_small}
 use Rattle.mscp_queue.proofs.backlog.Backlog.figure.Goals as goal
 
 told : (c : goal.After-due) → c.due.result ≡ c.self.inside.clock

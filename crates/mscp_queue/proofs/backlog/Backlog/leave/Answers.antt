@@ -5,15 +5,13 @@ use Rattle.mscp_queue.proofs.backlog.Backlog.leave.Goals as goal
 
 pub lower_all-requires : goal.lower_all-requires
 lower_all-requires c =
-    let place = c.args.place in
     let ss = c.self.inside.slots in
     let w = ap (λ (w : Waiters). w.waiting) c.self.view_is in
     let inside = place_in c.self.inside.slots w c.requires.place in
     let item = item_at c.self.inside.slots w c.requires.place in
-    leave_enough c.self.invariant inside (ap is_in_service item ∙ c.requires.serving)
-    (front_of (λ (r : Record). r.done ≡ 0) ss _ place w c.requires.front)
-    (back_of (λ (r : Record). r.done ≡ 0) ss _ (place + 1) w c.requires.back)
-    (c.from-left.ensures ∙ c.left.ensures.value ∙ ap left_of c.item.ensures) c.remove.ensures
+    leave_enough c.self.invariant inside (ap is_in_service item ∙ c.requires.serving) (front_of (λ (r : Record). r.done
+    ≡ 0) ss _ c.args.place w c.requires.front) (back_of (λ (r : Record). r.done ≡ 0) ss _ (c.args.place + 1)
+    w c.requires.back) (c.from-left.ensures ∙ c.left.ensures.value ∙ ap left_of c.item.ensures) c.remove.ensures
 
 pub invariant_of-self : goal.invariant_of-self
 invariant_of-self c =
@@ -22,9 +20,8 @@ invariant_of-self c =
     let w = ap (λ (w : Waiters). w.waiting) c.self.view_is in
     let inside = place_in c.self.inside.slots w c.requires.place in
     let item = item_at c.self.inside.slots w c.requires.place in
-    leave_timed c.self.invariant inside (ap is_in_service item ∙ c.requires.serving)
-    (front_of (λ (r : Record). r.done ≡ 0) ss _ place w c.requires.front)
-    (back_of (λ (r : Record). r.done ≡ 0) ss _ (place + 1) w c.requires.back)
+    leave_timed c.self.invariant inside (ap is_in_service item ∙ c.requires.serving) (front_of (λ (r : Record). r.done
+    ≡ 0) ss _ place w c.requires.front) (back_of (λ (r : Record). r.done ≡ 0) ss _ (place + 1) w c.requires.back)
     (c.from-left.ensures ∙ c.left.ensures.value ∙ ap left_of c.item.ensures) c.remove.ensures c.lower_all.ensures
 
 pub returns-clause-waiting : goal.returns-clause-waiting

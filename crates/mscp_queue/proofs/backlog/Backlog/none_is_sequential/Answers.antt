@@ -1,5 +1,4 @@
-use Rattle.mscp_queue.proofs.Common.{arith}
-use Rattle.mscp_queue.proofs.Shown.{all_shown}
+use Rattle.mscp_queue.proofs.Basics.{arith, all_shown}
 use Rattle.mscp_queue.proofs.backlog.Backlog.none_is_sequential.Goals as goal
 
 pub returns : goal.returns

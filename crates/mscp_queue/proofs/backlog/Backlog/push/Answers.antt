@@ -1,5 +1,4 @@
-use Rattle.mscp_queue.proofs.Common.{arith, sum_by-append, sum_by-cons}
-use Rattle.mscp_queue.proofs.Dues.{due_pushed, items_append}
+use Rattle.mscp_queue.proofs.Basics.{arith, sum_by-append, sum_by-cons, due_pushed, items_append}
 use Rattle.mscp_queue.proofs.backlog.Backlog.push.Goals as goal
 
 pub invariant_of-self : goal.invariant_of-self

@@ -1,5 +1,4 @@
-use Rattle.mscp_queue.proofs.Common.{arith}
-use Rattle.mscp_queue.proofs.Placed.{position_any}
+use Rattle.mscp_queue.proofs.Basics.{arith, position_any}
 use Rattle.mscp_queue.proofs.candidates.Candidates.has_any.Goals as goal
 
 pub returns-then-has_low_byte : goal.returns-then-has_low_byte

@@ -1,5 +1,4 @@
-use Rattle.mscp_queue.proofs.Common.{arith, get_or-replicate}
-use Rattle.mscp_queue.proofs.CountedViews.{counted_none}
+use Rattle.mscp_queue.proofs.Basics.{arith, get_or-replicate, counted_none}
 use Rattle.mscp_queue.proofs.counted_view.CountedView.empty.Goals as goal
 
 pub invariant_of-result : goal.invariant_of-result

@@ -1,5 +1,4 @@
-use Rattle.mscp_queue.proofs.Common.{arith}
-use Rattle.mscp_queue.proofs.CountedViews.{any_counted}
+use Rattle.mscp_queue.proofs.Basics.{arith, any_counted}
 use Rattle.mscp_queue.proofs.counted_view.CountedView.has_low_byte.Goals as goal
 
 pub returns : goal.returns

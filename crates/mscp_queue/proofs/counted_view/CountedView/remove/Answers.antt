@@ -1,5 +1,4 @@
-use Rattle.mscp_queue.proofs.Common.{ℕ, ◌≡◌, get_or, List, length, ◌<◌, arith, get_or_default, Choice, no_choice, low_byte}
-use Rattle.mscp_queue.proofs.CountedViews.{counted_left, some_counted}
+use Rattle.mscp_queue.proofs.Basics.{ℕ, ◌≡◌, get_or, List, length, ◌<◌, arith, get_or_default, Choice, no_choice, low_byte, counted_left, some_counted}
 use Rattle.mscp_queue.proofs.counted_view.CountedView.remove.Goals as goal
 
 read : (view seen : List Choice) (place : ℕ) (d : Choice) → seen ≡ view → place < length view

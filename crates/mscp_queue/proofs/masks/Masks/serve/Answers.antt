@@ -1,5 +1,4 @@
-use Rattle.mscp_queue.proofs.Common.{arith}
-use Rattle.mscp_queue.proofs.Masked.{after_bit}
+use Rattle.mscp_queue.proofs.Basics.{arith, after_bit}
 use Rattle.mscp_queue.proofs.masks.Masks.serve.Goals as goal
 
 pub returns-else-starts-clause-set : goal.returns-else-starts-clause-set

@@ -1,5 +1,4 @@
-use Rattle.mscp_queue.proofs.Common.{◌∙◌, ◌^◌, ◌-◌, List, length, ap, subst, sym, Choice, IsSweep}
-use Rattle.mscp_queue.proofs.Row.{swept_there}
+use Rattle.mscp_queue.proofs.Basics.{◌∙◌, ◌^◌, ◌-◌, List, length, ap, subst, sym, Choice, IsSweep, swept_there}
 use Rattle.mscp_queue.proofs.picker.SweepPicker.pick.Goals as goal
 
 pub returns-clause-sweep : goal.returns-clause-sweep

@@ -1,6 +1,5 @@
-use Rattle.mscp_queue.proofs.Common.{◌≡◌, ◌<◌, length, ap, sym, subst, ◌∙◌, arith, begun_name, Line, aborting, name_on, name_of, record_at}
+use Rattle.mscp_queue.proofs.Basics.{◌≡◌, ◌<◌, length, ap, sym, subst, ◌∙◌, arith, begun_name, Line, aborting, name_on, name_of, record_at, place_of}
 use Rattle.mscp_queue.proofs.Aborts.{aborts_at, aborts_none, none_aborted}
-use Rattle.mscp_queue.proofs.CandidateLists.{place_of}
 use Rattle.mscp_queue.proofs.Nexts.{named_at}
 use Rattle.mscp_queue.proofs.queue.Queue.abort.Goals as goal
 
@@ -13,21 +12,18 @@ returns-in_err-place-clause-after g c =
     let q = c.self.inside in
     let rs = q.backlog.waiting in
     let name = name_on c.args.connection c.args.reference in
-    let none = aborts_none name rs (sym (c.place_of.ensures ∙ place_of name c.self.invariant.listed)
-    ∙ c.in_err-place.was) in
-    let stays = none_aborted q.backlog.budget name rs (begun_name rs q.begun) c.self.invariant.ready.held.still
-    none.found in
-    sym c.self.view_is
-    ∙ ((λ i. record {
+    let none =
+    aborts_none name rs (sym (c.place_of.ensures ∙ place_of name c.self.invariant.listed) ∙ c.in_err-place.was) in
+    sym c.self.view_is ∙ ((λ i. record {
       room = q.room;
       budget = q.backlog.budget;
       longest = q.longest;
       waiting = sym none.left i;
       drives = q.drives.items;
-      begun = stays i;
+      begun = (none_aborted q.backlog.budget
+          name rs (begun_name rs q.begun) c.self.invariant.ready.held.still none.found) i;
       picker = q.picker;
-    })
-    ∙ ap (λ (l : Line K). aborting name l) c.self.view_is)
+    }) ∙ ap (λ (l : Line K). aborting name l) c.self.view_is)
 
 pub abort_at-requires : goal.abort_at-requires
 abort_at-requires g c =
@@ -43,10 +39,7 @@ returns-clause-end g c = search (arith, aborts_at, place_of)
 pub returns-clause-after : goal.returns-clause-after
 returns-clause-after g c =
     let K = g.row.K.Denot in
-    let place = c.in_ok-place.place in
     let name = name_on c.args.connection c.args.reference in
-    let own = named_at name c.self.inside.backlog.waiting place
-    (sym (c.place_of.ensures ∙ place_of name c.self.invariant.listed) ∙ c.in_ok-place.was) in
-    c.abort_at.ensures.after
-    ∙ ap (λ n. aborting n c.args.self.now)
-    (subst (λ (l : Line K). name_of (record_at l.waiting place) ≡ name) c.self.view_is own)
+    c.abort_at.ensures.after ∙ ap (λ n. aborting n c.args.self.now) (subst (λ (l : Line K). name_of
+    (record_at l.waiting c.in_ok-place.place) ≡ name) c.self.view_is (named_at name c.self.inside.backlog.waiting
+    c.in_ok-place.place (sym (c.place_of.ensures ∙ place_of name c.self.invariant.listed) ∙ c.in_ok-place.was)))

@@ -1,5 +1,4 @@
-use Rattle.mscp_queue.proofs.Common.{arith}
-use Rattle.mscp_queue.proofs.Restored.{held_seen}
+use Rattle.mscp_queue.proofs.Basics.{arith, held_seen}
 use Rattle.mscp_queue.proofs.queue.Queue.drives.Goals as goal
 
 pub returns-clause-held : goal.returns-clause-held

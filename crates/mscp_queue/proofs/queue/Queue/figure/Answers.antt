@@ -1,6 +1,4 @@
-use Rattle.mscp_queue.proofs.Common.{arith}
-use Rattle.mscp_queue.proofs.CandidateLists.{place_of}
-use Rattle.mscp_queue.proofs.Sums.{held_small}
+use Rattle.mscp_queue.proofs.Basics.{arith, place_of, held_small}
 use Rattle.mscp_queue.proofs.queue.Queue.figure.Goals as goal
 
 pub figure-requires-clause-small : goal.figure-requires-clause-small

@@ -1,5 +1,4 @@
-use Rattle.mscp_queue.proofs.Common.{arith}
-use Rattle.mscp_queue.proofs.CandidateLists.{place_of}
+use Rattle.mscp_queue.proofs.Basics.{arith, place_of}
 use Rattle.mscp_queue.proofs.queue.Queue.holders.Goals as goal
 
 pub returns-in-Some-clause-holders : goal.returns-in-Some-clause-holders

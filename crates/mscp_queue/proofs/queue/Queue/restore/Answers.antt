@@ -1,7 +1,5 @@
-use Rattle.mscp_queue.proofs.Common.{◌≡◌, ℕ, List, ap, subst, sym, true, ◌∙◌, map, Option, Some, None, IfSome, position, Name, targets_of, IsHeld, begun_name, units_of, AreCandidates, choice_in, has_choice_name, Line, Record, has_name, Waiters, Drive, Choice}
+use Rattle.mscp_queue.proofs.Basics.{◌≡◌, ℕ, List, ap, subst, sym, true, ◌∙◌, map, Option, Some, None, IfSome, position, Name, targets_of, IsHeld, begun_name, units_of, AreCandidates, choice_in, has_choice_name, Line, Record, has_name, Waiters, Drive, Choice, place_of, begun_back, ready_restored}
 use Rattle.mscp_queue.proofs.CandidateCosts.{candidates_of}
-use Rattle.mscp_queue.proofs.CandidateLists.{place_of}
-use Rattle.mscp_queue.proofs.Restored.{begun_back, ready_restored}
 use Rattle.mscp_queue.proofs.queue.Queue.restore.Goals as goal
 
 -- the waiting commands as the backlog shows them
@@ -11,9 +9,8 @@ waiters : {w : Waiters} {budget budget' : ℕ} {rs : List Record} {ds ds' : List
 waiters {rs = rs} e b f = f ∙ λ i. record { budget = b i; waiting = rs; targets = targets_of (units_of (e i)) rs }
 
 -- the place of what was begun, by the names of the records
-by_names : {dirty : ℕ} {ds : List Drive} {rs : List Record} {cs : List Choice} (begun : Option Name)
-    (place : Option ℕ) → AreCandidates dirty ds rs cs → IfSome begun
-    (λ name. place ≡ position (has_choice_name name) cs)
+by_names : {dirty : ℕ} {ds : List Drive} {rs : List Record} {cs : List Choice} (begun : Option Name) (place : Option ℕ)
+    → AreCandidates dirty ds rs cs → IfSome begun (λ name. place ≡ position (has_choice_name name) cs)
     → IfSome begun (λ name. place ≡ position (has_name name) rs)
 by_names None place h some = some
 by_names (Some name) place h some = some ∙ place_of name h
@@ -43,16 +40,15 @@ returns g c =
     let K = g.row.K.Denot in
     let ds = c.args.drives.items in
     let rs = c.args.records.now in
-    let held = subst (λ (l : Line K). IsHeld l.room l.budget l.longest rs ds c.args.begun true) (sym c.self.view_is)
-    c.requires.held in
+    let held = subst (λ (l : Line K). IsHeld l.room l.budget l.longest rs ds c.args.begun true)
+    (sym c.self.view_is) c.requires.held in
     let w = waiters c.as_slice-2.ensures.value c.budget.ensures c.restored-self-inside.ensures in
     let listed : AreCandidates c.candidates_of-candidates.result.dirty ds rs c.candidates_of-candidates.result.view =
     candidates_of c.candidates_of-candidates.result.dirty
     (c.candidates_of-candidates.ensures ∙ ap (λ ds. map (choice_in ds) rs) c.as_slice.ensures.value) in
-    let begun = begun_back c.self.inside.backlog.budget rs c.args.begun c.place_begun-self-inside.result held.still
-    (by_names c.args.begun c.place_begun-self-inside.result listed c.place_begun-self-inside.ensures.some)
+    let begun = begun_back c.self.inside.backlog.budget rs c.args.begun c.place_begun-self-inside.result
+    held.still (by_names c.args.begun c.place_begun-self-inside.result listed c.place_begun-self-inside.ensures.some)
     c.place_begun-self-inside.ensures.none in
-    let L = c.self.view_is in
     (λ i. record {
       room = c.self.inside.room;
       budget = (w i).budget;
@@ -61,5 +57,4 @@ returns g c =
       drives = ds;
       begun = (ap (λ (v : Waiters). begun_name v.waiting c.place_begun-self-inside.result) w ∙ begun.0) i;
       picker = c.self.inside.picker;
-    })
-    ∙ ap (λ (l : Line K). record l { waiting = rs; drives = ds; begun = c.args.begun }) L
+    }) ∙ ap (λ (l : Line K). record l { waiting = rs; drives = ds; begun = c.args.begun }) c.self.view_is

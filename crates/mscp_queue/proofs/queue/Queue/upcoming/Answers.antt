@@ -12,13 +12,12 @@ pub returns-clause-value : goal.returns-clause-value
 returns-clause-value g c = search (arith, told_at)
 
 pub returns-clause-unit : goal.returns-clause-unit
-returns-clause-unit g c =
-    search (
-      arith,
-      of_unit,
-      c.self.invariant.ready.held.each,
-      c.self.invariant.ready.waits,
-      c.args.self.now.drives,
-      c.upcoming_at.ensures,
-      c.self.view_is,
-    )
+returns-clause-unit g c = search (
+  arith,
+  of_unit,
+  c.self.invariant.ready.held.each,
+  c.self.invariant.ready.waits,
+  c.args.self.now.drives,
+  c.upcoming_at.ensures,
+  c.self.view_is,
+)

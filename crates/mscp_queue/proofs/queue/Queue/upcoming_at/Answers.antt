@@ -7,8 +7,7 @@ bounds-deref-drive g c =
     let K = g.row.K.Denot in
     let inside = subst (λ (l : Line K). c.args.place < length l.waiting) (sym c.self.view_is) c.requires in
     let at = drive_found c.self.inside.backlog.targets c.args.place _ c.self.invariant.ready.held
-    c.self.invariant.ready.targeted inside
-    (c.from-drive.ensures ∙ ap (λ (a : Target). a.drive) c.target.ensures) in
+    c.self.invariant.ready.targeted inside (c.from-drive.ensures ∙ ap (λ (a : Target). a.drive) c.target.ensures) in
     subst (λ l. c.from-drive.result < length l) (sym c.deref.ensures.0) at.inside
 
 pub returns : goal.returns
@@ -19,8 +18,7 @@ returns g c =
     let place = c.args.place in
     let inside = subst (λ (l : Line K). place < length l.waiting) (sym c.self.view_is) c.requires in
     let at = drive_found c.self.inside.backlog.targets place _ c.self.invariant.ready.held
-    c.self.invariant.ready.targeted inside
-    (c.from-drive.ensures ∙ ap (λ (a : Target). a.drive) c.target.ensures) in
+    c.self.invariant.ready.targeted inside (c.from-drive.ensures ∙ ap (λ (a : Target). a.drive) c.target.ensures) in
     let d = c.index-deref-drive.result in
     let drive : d ≡ drive_at ds rs place = c.index-deref-drive.is
     ∙ ap (λ l. get_or l c.from-drive.result d) c.deref.ensures.0 ∙ at.is d in

@@ -1,11 +1,9 @@
-use Rattle.mscp_queue.proofs.Common.{arith, get_or_default}
-use Rattle.mscp_queue.proofs.Shown.{number_of, unfenced_at}
+use Rattle.mscp_queue.proofs.Basics.{arith, get_or_default, number_of, unfenced_at}
 use Rattle.mscp_queue.proofs.slots.Slots.is_free.Goals as goal
 
 pub bounds-self-inside-slot : goal.bounds-self-inside-slot
-bounds-self-inside-slot c =
-    (number_of c.self.inside.dues c.args.self.now c.self.invariant c.self.view_is c.requires c.from-slot.ensures
-    c.deref.ensures.0).low
+bounds-self-inside-slot c = (number_of c.self.inside.dues
+    c.args.self.now c.self.invariant c.self.view_is c.requires c.from-slot.ensures c.deref.ensures.0).low
 
 pub listed : goal.listed
 listed c = search (arith, number_of)

@@ -1,5 +1,4 @@
-use Rattle.mscp_queue.proofs.Common.{arith, length-set}
-use Rattle.mscp_queue.proofs.Mapped.{mapped_more}
+use Rattle.mscp_queue.proofs.Basics.{arith, length-set, mapped_more}
 use Rattle.mscp_queue.proofs.slots.Slots.pass_front.Goals as goal
 
 pub loop-i-preserved : goal.loop-i-preserved

@@ -1,6 +1,4 @@
-use Rattle.mscp_queue.proofs.Common.{not, ap, ◌∙◌, arith}
-use Rattle.mscp_queue.proofs.Masked.{some_free}
-use Rattle.mscp_queue.proofs.Shown.{kept_pushed, long_shown, serves_if, shown_pushed}
+use Rattle.mscp_queue.proofs.Basics.{not, ap, ◌∙◌, arith, some_free, kept_pushed, long_shown, serves_if, shown_pushed}
 use Rattle.mscp_queue.proofs.slots.Slots.push.Goals as goal
 
 pub lowest_free-slot-requires : goal.lowest_free-slot-requires
@@ -10,11 +8,9 @@ lowest_free-slot-requires c =
     (omega (arith, c.requires.room, long_shown s.records s.targets s.dues s.order.items c.args.self.now c.self.view_is))
 
 pub invariant_of-self : goal.invariant_of-self
-invariant_of-self c =
-    kept_pushed c.args.new.item c.args.new.target c.self.invariant c.lowest_free-slot.ensures c.requires.drive
-    c.from.ensures
-    c.is_sequential.ensures (ap not c.is_unstarted.ensures
-    ∙ serves_if c.args.new.item.done) c.come.ensures c.push.ensures.items
+invariant_of-self c = kept_pushed c.args.new.item c.args.new.target
+    c.self.invariant c.lowest_free-slot.ensures c.requires.drive c.from.ensures c.is_sequential.ensures
+    (ap not c.is_unstarted.ensures ∙ serves_if c.args.new.item.done) c.come.ensures c.push.ensures.items
 
 pub returns : goal.returns
 returns c = search (arith, shown_pushed)

@@ -1,5 +1,4 @@
-use Rattle.mscp_queue.proofs.Common.{arith}
-use Rattle.mscp_queue.proofs.Targets.{target_made}
+use Rattle.mscp_queue.proofs.Basics.{arith, target_made}
 use Rattle.mscp_queue.proofs.target.Target.of.Goals as goal
 
 pub returns : goal.returns

@@ -1,5 +1,4 @@
-use Rattle.mscp_queue.proofs.Common.{arith}
-use Rattle.mscp_queue.proofs.Row.{row_set}
+use Rattle.mscp_queue.proofs.Basics.{arith, row_set}
 use Rattle.mscp_queue.proofs.view.View.set_cost.Goals as goal
 
 pub invariant_of-self : goal.invariant_of-self
