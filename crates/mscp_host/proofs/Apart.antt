@@ -19,9 +19,7 @@ module _ (r f : ℕ) where
 
   -- the list is filled with all of them
   pub refilled : (n : ℕ) (xs ws : List Submission) → n ≡ length xs → ws ≡ with_told r f xs → refill n xs ws ≡ ws
-  refilled n xs ws all is =
-      let long = ap (λ (l : List Submission). length l) is ∙ told_long xs in
-      take-append-le n ws (drop (length ws) xs) (omega (arith, all, long)) ∙ take_all n ws (omega (arith, all, long))
+  refilled n xs ws all is = search (arith, told_long, take-append-le, take_all)
 
 -- ---- one leaves
 

@@ -28,19 +28,16 @@ ends_found h j (Some i) = ends_now h j i
 
 stands_of : (h : History) (j : ℕ) (o : Option ℕ) → ((x : ℕ) → o ≡ Some x → x < j)
     → found_stands h (j + 1) o ≡ (found_stands h j o && not (ends_found h j o))
-stands_of h j None f = refl
-stands_of h j (Some x) f = out_old h j x (f x refl)
+stands_of h j o h1 = search (arith, out_old)
 
 -- the command that a poll is about is still outstanding, unless it ends now
-pub stands_then : (h : History) (j p : ℕ) → p ≤ j
-    → found_stands h (j + 1) (asked_for h p)
+pub stands_then : (h : History) (j p : ℕ) → p ≤ j → found_stands h (j + 1) (asked_for h p)
     ≡ (found_stands h j (asked_for h p) && not (ends_found h j (asked_for h p)))
 stands_then h j p l = stands_of h j (asked_for h p)
     (λ x e. let m : x < p = found_before h p x _ e in omega (arith, l, m))
 
 none_ends : (h : History) (j : ℕ) (o : Option ℕ) → NoEnd h j → ends_found h j o ≡ false
-none_ends h j None n = refl
-none_ends h j (Some x) n = ap (is_end_of (reference h x)) n
+none_ends h j o h1 = search arith
 
 -- what is kept of the commands and of a poll stays
 subs_same : (h : History) (j : ℕ) (xs : List ℕ) → NoEnd h j
@@ -53,8 +50,7 @@ watch_same h j p n l = search (arith, stands_then, none_ends, and-true)
 
 watches_same : (h : History) (j : ℕ) (o : Option ℕ) → NoEnd h j → ((p : ℕ) → o ≡ Some p → p < j)
     → option_map (watch_at h (j + 1)) o ≡ option_map (watch_at h j) o
-watches_same h j None n f = refl
-watches_same h j (Some p) n f = let l = f p refl in ap Some (watch_same h j p n (omega (arith, l)))
+watches_same h j o h1 h2 = search (arith, watch_same)
 
 flight_before : (h : History) (j p : ℕ) → in_flight h j ≡ Some p → p < j
 flight_before h j p e = found_before h j p _ e
@@ -68,12 +64,7 @@ account_quiet credits h j n s = grind (arith, outs_then, append-nil, subs_same, 
 
 subs_sent : (h : History) (j : ℕ) → NoEnd h j → is_sent (moment h j) ≡ true
     → map (submission_at h (j + 1)) (outstanding h (j + 1)) ≡ map (submission_at h j) (outstanding h j)
-    ++ record {
-      reference = reference h j;
-      unit = unit_named h j (moment h j);
-      opcode = opcode h j;
-      told = None;
-    } ∷ []
+    ++ record { reference = reference h j; unit = unit_named h j (moment h j); opcode = opcode h j; told = None } ∷ []
 subs_sent h j n s = grind (arith, outs_then, subs_same, map-append, untold)
 
 or_nothing : (o : Option ℕ) → option_or o None ≡ o
@@ -123,9 +114,8 @@ account_asked credits h j r s b m w o =
     let p = polls_of credits h j s o in
     let n : NoEnd h j = ap end_heard m in
     let stands = asked_stands h j p.command n p.found in
-    let unit : unit_found h (asked_for h j) ≡ s.unit = ap (unit_found h) p.found
-    ∙ (unit_same h p.command (moment h p.command) (found_out h j p.command _ p.found).1
-    ∙ sym (ap (λ (x : Submission). x.unit) p.is)) in
+    let unit : unit_found h (asked_for h j) ≡ s.unit = ap (unit_found h) p.found ∙ (unit_same h p.command
+    (moment h p.command) (found_out h j p.command _ p.found).1 ∙ sym (ap (λ (x : Submission). x.unit) p.is)) in
     let polled : reference_found h (asked_for h j) ≡ s.reference =
     ap (reference_found h) p.found ∙ sym (ap (λ (x : Submission). x.reference) p.is) in
     let subs = subs_sent h j n (ap is_sent m) in

@@ -46,8 +46,7 @@ accepts_found a b n new e (Some s) r f h = grind (arith, false≢true)
 
 accepts : (a : Account) (b : List ℕ) (n : News) (new : Account) (r : Result End EndFault) → end_in b ≡ r
     → heard_in a r ≡ (Ok n, new) → Accepts a b n new
-accepts a b n new (Err fault) r h = absurd (false≢true (ap (λ p. is_ok p.0) h))
-accepts a b n new (Ok e) r h = accepts_found a b n new e _ r refl h
+accepts a b n new r h1 h2 = search (arith, false≢true, accepts_found)
 
 refused_of : (a : Account) (fault : HostFault) (new : Account) (e : End) (o : Option Submission)
     → heard_of a e o ≡ (Err fault, new) → new ≡ a
@@ -55,8 +54,7 @@ refused_of a fault new e o h = grind (arith, true≢false)
 
 refused : (a : Account) (fault : HostFault) (new : Account) (r : Result End EndFault)
     → heard_in a r ≡ (Err fault, new) → new ≡ a
-refused a fault new (Err f) h = sym (ap (λ p. p.1) h)
-refused a fault new (Ok e) h = refused_of a fault new e _ h
+refused a fault new r h1 = search (arith, refused_of)
 
 -- the command whose end it is
 handed_of : (h : History) (j : ℕ) (e : End) (s : Submission) (o : Option ℕ)
@@ -135,15 +133,13 @@ module _ (credits : ℕ) (h : History) (j : ℕ) (a : IsApart credits h j) where
 
   -- ---- a poll
 
-  ask_goes : (n : ℕ) (s : Submission) (answer : Result Poll HostFault) (new : Account)
-      (o : Option HostFault) → moment h j ≡ Ask n answer → in_flight h j ≡ None
-      → oldest (account_at credits h j) ≡ Some s
+  ask_goes : (n : ℕ) (s : Submission) (answer : Result Poll HostFault) (new : Account) (o : Option HostFault)
+      → moment h j ≡ Ask n answer → in_flight h j ≡ None → oldest (account_at credits h j) ≡ Some s
       → host.refusal (account_at credits h j) (opcode_byte (poll_of n s).order) n ≡ o
       → asks_unless (account_at credits h j) n s o ≡ (answer, new) → Goes credits h j new
   ask_goes n s answer new (Some fault) m idle old r e =
       let err : Err fault ≡ answer = ap (λ p. p.0) e in
-      quiet new (ap is_sent m ∙ ap (λ x. is_sent (Ask n x)) (sym err)) (ap news_heard m)
-      (sym (ap (λ p. p.1) e))
+      quiet new (ap is_sent m ∙ ap (λ x. is_sent (Ask n x)) (sym err)) (ap news_heard m) (sym (ap (λ p. p.1) e))
   ask_goes n s answer new None m idle old r e =
       let ok = ap (λ p. p.0) e in
       let sent = m ∙ ap (Ask n) (sym ok) in
@@ -152,10 +148,9 @@ module _ (credits : ℕ) (h : History) (j : ℕ) (a : IsApart credits h j) where
       let about = polls_of credits h j s old in
       record {
         kept = sym (ap (λ p. p.1) e) ∙ sym after;
-        apart = apart_sent (submission_of (poll_of n s))
-            (subst (λ n. list_any (has_reference n) (account_at credits h j).outstanding ≡ false)
-            (sym (ap reference_in sent)) none) (sym (ap reference_in sent)) (ap (λ (x : Account). x.outstanding) after)
-            (λ q. idle);
+        apart = apart_sent (submission_of (poll_of n s)) (subst
+            (λ n. list_any (has_reference n) (account_at credits h j).outstanding ≡ false) (sym (ap reference_in sent))
+            none) (sym (ap reference_in sent)) (ap (λ (x : Account). x.outstanding) after) (λ q. idle);
         ends = λ n q. absurd (false≢true (ap is_some (sym (ap news_heard sent) ∙ q)));
         polls = λ q. (idle, about.command, about.found);
       }
@@ -165,8 +160,7 @@ module _ (credits : ℕ) (h : History) (j : ℕ) (a : IsApart credits h j) where
       → oldest (account_at credits h j) ≡ o → asks (account_at credits h j) n o ≡ (answer, new) → Goes credits h j new
   oldest_goes n None answer new m idle old e =
       let none = ap (λ p. p.0) e in
-      quiet new (ap is_sent m ∙ ap (λ x. is_sent (Ask n x)) (sym none)) (ap news_heard m)
-      (sym (ap (λ p. p.1) e))
+      quiet new (ap is_sent m ∙ ap (λ x. is_sent (Ask n x)) (sym none)) (ap news_heard m) (sym (ap (λ p. p.1) e))
   oldest_goes n (Some s) answer new m idle old e = ask_goes n s answer new _ m idle old refl e
 
   poll_goes : (n : ℕ) (b : Bool) (answer : Result Poll HostFault)
@@ -176,8 +170,7 @@ module _ (credits : ℕ) (h : History) (j : ℕ) (a : IsApart credits h j) where
       ≡ (answer, new) → Goes credits h j new
   poll_goes n true answer new m w e =
       let busy = ap (λ p. p.0) e in
-      quiet new (ap is_sent m ∙ ap (λ x. is_sent (Ask n x)) (sym busy)) (ap news_heard m)
-      (sym (ap (λ p. p.1) e))
+      quiet new (ap is_sent m ∙ ap (λ x. is_sent (Ask n x)) (sym busy)) (ap news_heard m) (sym (ap (λ p. p.1) e))
   poll_goes n false answer new m w e = oldest_goes n _ answer new m (idle_of h j (in_flight h j) w) refl e
 
   -- ---- an end

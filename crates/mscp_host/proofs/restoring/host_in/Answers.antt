@@ -3,11 +3,7 @@ use Rattle.mscp_host.proofs.Heads.{account_tells, head_tells}
 use Rattle.mscp_host.proofs.restoring.host_in.Goals as goal
 
 pub returns : goal.returns
-returns c = λ i. record {
-  credits = c.four_at.ensures i;
-  outstanding = c.requires.said i;
-  watch = c.requires.poll i;
-}
+returns c = λ i. record { credits = c.four_at.ensures i; outstanding = c.requires.said i; watch = c.requires.poll i }
 
 pub invariant_of-result : goal.invariant_of-result
 invariant_of-result c =
