@@ -12,13 +12,9 @@ two_words f (x ∷ y ∷ z ∷ ws) a b least below first second = absurd (omega 
 
 -- a test of what is not so
 is_not : (test : Bool) (P : Type 0) → Decides test P → (P → ⊥) → test ≡ false
-is_not true P decides never = absurd (never (decides.0 refl))
-is_not false P decides never = refl
+is_not test P h1 h2 = search arith
 
 -- another command than the two
 pub neither : (command operand : List ℕ) → (command ≡ codes "run" → ⊥) → (command ≡ codes "packet" → ⊥)
     → chosen (command ∷ operand ∷ []) ≡ Err faults.Usage
-neither command operand run packet =
-    let no_run = is_not _ _ (bytes_eq-Decides command (codes "run")) run in
-    let no_packet = is_not _ _ (bytes_eq-Decides command (codes "packet")) packet in
-    rw (no_run, no_packet) refl
+neither command operand run packet = search (arith, is_not, bytes_eq-Decides)
