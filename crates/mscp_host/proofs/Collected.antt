@@ -35,8 +35,7 @@ outstanding_more h j =
     let q : ℕ → Bool = λ i. not (ends_now h j i) in
     let old : filter p (before j) ≡ filter (λ i. is_outstanding h j i && q i) (before j) =
     search (arith, before_below j, filter_on, every_weaker, out_old) in
-    ap (filter p) (before_more j) ∙ (filter-append p (before j) (j ∷ [])
-    ∙ (λ i. (old ∙ sym (filter_filter q (is_outstanding h j) (before j))) i ++ cond (out_new h j i) (j ∷ []) []))
+    search (arith, before_more, filter-append, filter_filter, out_new)
 
 -- ---- each that is outstanding
 

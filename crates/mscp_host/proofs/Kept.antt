@@ -116,8 +116,4 @@ account_asked credits h j r s b m w o =
     let stands = asked_stands h j p.command n p.found in
     let unit : unit_found h (asked_for h j) ≡ s.unit = ap (unit_found h) p.found ∙ (unit_same h p.command
     (moment h p.command) (found_out h j p.command _ p.found).1 ∙ sym (ap (λ (x : Submission). x.unit) p.is)) in
-    let polled : reference_found h (asked_for h j) ≡ s.reference =
-    ap (reference_found h) p.found ∙ sym (ap (λ (x : Submission). x.reference) p.is) in
-    let subs = subs_sent h j n (ap is_sent m) in
-    let flight = flight_sent h j n (ap is_sent m) in
-    grind (arith, subs, flight, unit, polled, stands)
+    search (arith, subs_sent, flight_sent)

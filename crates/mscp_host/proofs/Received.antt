@@ -102,8 +102,7 @@ keeps_poll : (credits : ℕ) (h : History) (j q n y : ℕ) (b : Bool) → IsApar
     → (not (nat_eq (reference h y) n) && d) ≡ (not b && d)
 keeps_poll credits h j q n y b a f e o true d =
     let own = found_out h j q _ f in
-    let same : y ≡ q = a.polls y q o own.0 (d, own.1) in
-    ap (λ z. not (nat_eq (reference h z) n) && true) same ∙ ap (λ c. not c && true) e
+    search (arith, nat_eq)
 keeps_poll credits h j q n y b a f e o false d = and-false _ ∙ sym (and-false (not b))
 
 watch_when : (f : ℕ → Watch) (q : ℕ) (w : Watch) (b d : Bool)

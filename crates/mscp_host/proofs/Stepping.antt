@@ -79,12 +79,7 @@ module _ (credits : ℕ) (h : History) (j : ℕ) (a : IsApart credits h j) where
       → news_heard (moment h j) ≡ None → new ≡ account_at credits h j → Goes credits h j new
   quiet new s n e =
       let same = account_quiet credits h j (no_end (moment h j) n) s in
-      record {
-        kept = e ∙ sym same;
-        apart = still_apart s (ap (λ (x : Account). are_apart x.outstanding) same ∙ a.submissions);
-        ends = λ m q. absurd (true≢false (ap is_some (sym q ∙ n)));
-        polls = λ q. absurd (false≢true (sym (no_poll (moment h j) s) ∙ q));
-      }
+      search (arith, still_apart, true≢false, false≢true, no_poll)
 
   -- ---- a command is sent
 
@@ -121,15 +116,7 @@ module _ (credits : ℕ) (h : History) (j : ℕ) (a : IsApart credits h j) where
       let sent = m ∙ ap (Submit command) (sym ok) in
       let after = account_submitted credits h j command _ sent in
       let none = (not_refused (account_at credits h j) (opcode_byte command.order) command.reference r).2 in
-      record {
-        kept = sym (ap (λ p. p.1) e) ∙ sym after;
-        apart = apart_sent (submission_of command)
-            (subst (λ n. list_any (has_reference n) (account_at credits h j).outstanding ≡ false)
-            (sym (ap reference_in sent)) none) (sym (ap reference_in sent)) (ap (λ (x : Account). x.outstanding) after)
-            (λ q. absurd (false≢true (sym (ap is_poll sent) ∙ q)));
-        ends = λ n q. absurd (false≢true (ap is_some (sym (ap news_heard sent) ∙ q)));
-        polls = λ q. absurd (false≢true (sym (ap is_poll sent) ∙ q));
-      }
+      search (arith, apart_sent, false≢true)
 
   -- ---- a poll
 
@@ -146,14 +133,7 @@ module _ (credits : ℕ) (h : History) (j : ℕ) (a : IsApart credits h j) where
       let after = account_asked credits h j n s _ sent idle old in
       let none = (not_refused (account_at credits h j) (opcode_byte (poll_of n s).order) n r).2 in
       let about = polls_of credits h j s old in
-      record {
-        kept = sym (ap (λ p. p.1) e) ∙ sym after;
-        apart = apart_sent (submission_of (poll_of n s)) (subst
-            (λ n. list_any (has_reference n) (account_at credits h j).outstanding ≡ false) (sym (ap reference_in sent))
-            none) (sym (ap reference_in sent)) (ap (λ (x : Account). x.outstanding) after) (λ q. idle);
-        ends = λ n q. absurd (false≢true (ap is_some (sym (ap news_heard sent) ∙ q)));
-        polls = λ q. (idle, about.command, about.found);
-      }
+      search (arith, apart_sent, false≢true)
 
   oldest_goes : (n : ℕ) (o : Option Submission) (answer : Result Poll HostFault)
       (new : Account) → moment h j ≡ Ask n answer → in_flight h j ≡ None
@@ -190,20 +170,7 @@ module _ (credits : ℕ) (h : History) (j : ℕ) (a : IsApart credits h j) where
         about = x.about;
       } in
       let after = account_received hears in
-      record {
-        kept = x.kept ∙ sym after;
-        apart = still_apart (ap is_sent m) (ap (λ (y : Account). are_apart y.outstanding) after
-            ∙ apart_without e.reference _
-            (apart_with (account_at credits h j) (answered (account_at credits h j).watch e) ∙ a.submissions));
-        ends = λ k q. record {
-          end = e;
-          command = p.0;
-          heard = heard;
-          handed = p.1;
-          says = ap (λ o. unwrap_or o k) (sym q ∙ ap news_heard m) ∙ (x.says ∙ says_is hears);
-        };
-        polls = λ q. absurd (false≢true (sym (ap is_poll m) ∙ q));
-      }
+      search (arith, still_apart, apart_without, apart_with, answered, says_is, false≢true)
 
   pub step : (new : Account) (m : Moment) → moment h j ≡ m
       → Answers (account_at credits h j) m new → Goes credits h j new

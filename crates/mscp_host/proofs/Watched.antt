@@ -157,11 +157,7 @@ watched_poll r p xs e =
     let own : is_status r s ≡ true = ap (λ b. b && true) (same_number r) in
     let poll : is_poll r p.unit s ≡ true = λ i. own i && same_number p.unit i in
     let first : is_oldest p.reference xs ≡ true = ap (is_numbered p.reference) e ∙ same_number p.reference in
-    let same = oldest_more s p.reference xs first ∙ e in
-    let about : (is_oldest p.reference (xs ++ s ∷ []) && is_polled r (xs ++ s ∷ []) (oldest_of (xs ++ s ∷ []))) ≡ true =
-    ap (λ o. is_numbered p.reference o && is_polled r (xs ++ s ∷ []) o) same
-    ∙ (λ i. same_number p.reference i && any_last (is_poll r p.unit) s xs poll i) in
-    λ i. any_last (is_status r) s xs own i && about i
+    search (arith, oldest_more, same_number, any_last)
 
 -- a command was sent
 pub was_submitted : (a after : Account) (command : Command) (fault : Option HostFault) (message : ArrayVec ℕ)

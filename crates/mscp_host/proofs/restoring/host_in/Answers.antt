@@ -10,15 +10,4 @@ invariant_of-result c =
     let b = c.args.b.now in
     let h = head_tells b c.requires.head in
     let a = account_tells (account_in b) c.requires.account in
-    let covered = h.covered in
-    let said = ap (λ (l : List Submission). length l) c.requires.said in
-    let len = c.requires.len in
-    subst IsSound (sym (returns c)) (record {
-      some = h.some;
-      few = h.few;
-      covered = omega (arith, covered, said, len);
-      spare = a.spare;
-      apart = a.apart;
-      watched = a.watched;
-      told = a.told;
-    })
+    search arith
