@@ -1,5 +1,5 @@
 -- The bytes that a host is saved as say that host.
-use Rattle.mscp_host.proofs.Common.{All, ◌≡◌, ℕ, ◌+◌, ◌*◌, ◌<◌, ◌≤◌, ◌^◌, Bool, true, false, List, [], ◌∷◌, ◌++◌, drop, length, refl, ap, arith, le-leb, le-ltb, lt-ltb, eq-eqb, length-append, bytes_eq-Decides, flat_map, Option, Some, None, IfSome, Ok, slice_index, bytes_eq, num, parts_in, four, two, read_all, Submission, Watch, Account, IsSound, waiting, account_fault, account_in, head_fault, restored, submission_in, told_in, watch_in, HasRange, HasSubmissionRange, saved_bytes, submission_bytes, told_bytes, watch_byte, watch_bytes}
+use Rattle.mscp_host.proofs.Common.{All, ◌≡◌, ℕ, ◌+◌, ◌*◌, ◌<◌, ◌≤◌, ◌^◌, Bool, true, List, [], ◌∷◌, ◌++◌, drop, length, refl, arith, le-leb, le-ltb, lt-ltb, eq-eqb, length-append, bytes_eq-Decides, flat_map, Option, None, IfSome, Ok, slice_index, bytes_eq, num, parts_in, four, two, read_all, Submission, Watch, Account, IsSound, account_fault, account_in, head_fault, restored, submission_in, told_in, HasRange, HasSubmissionRange, saved_bytes, submission_bytes, told_bytes}
 
 -- ---- a submission
 
@@ -22,35 +22,25 @@ outstanding_back : (xs : List Submission) → All HasSubmissionRange xs
     → parts_in submission_in 12 (length xs) (flat_map submission_bytes xs) ≡ xs
 outstanding_back xs all = search (arith, read_all, submission_back, submission_rest)
 
-watch_back : (so : Bool) (n p x y : ℕ) → x ≡ n → y ≡ p
-    → watch_in (watch_byte so) x y ≡ Some (record { reference = n; polled = p; is_outstanding = so })
-watch_back so n p x y h1 h2 = search arith
-
 abbrev account : ℕ → List Submission → Option Watch → Account
 account credits xs watch = record { credits = credits; outstanding = xs; watch = watch }
 
 pub account_back : (credits : ℕ) (xs : List Submission) (watch : Option Watch) → credits ≤ 64
     → HasRange (account credits xs watch)
     → account_in (saved_bytes (account credits xs watch)) ≡ account credits xs watch
-account_back credits xs watch h1 h2 = search (arith, four, outstanding_back, watch_back)
+account_back credits xs watch h1 h2 = search (arith, four, outstanding_back)
 
 -- ---- its head
 
 told_long : (told : Option ℕ) → length (told_bytes told) ≡ 5
 told_long told = search arith
 
-submission_long : (s : Submission) → length (submission_bytes s) ≡ 12
-submission_long s = search (arith, length-append, told_long)
-
 submissions_long : (xs : List Submission) → length (flat_map submission_bytes xs) ≡ 12 * length xs
 submissions_long [] = let e : 0 ≡ 12 * 0 = omega arith in e
-submissions_long (s ∷ xs) = search (arith, submissions_long xs, submission_long, length-append)
-
-watch_long : (watch : Option Watch) → length (watch_bytes watch) ≡ 9
-watch_long watch = search arith
+submissions_long (s ∷ xs) = search (arith, submissions_long xs, told_long, length-append)
 
 saved_long : (a : Account) → length (saved_bytes a) ≡ 26 + 12 * length a.outstanding
-saved_long a = search (arith, watch_long, submissions_long, length-append)
+saved_long a = search (arith, submissions_long, length-append)
 
 pub head_back : (a : Account) → 2 ≤ a.credits → a.credits ≤ 64 → length a.outstanding ≤ a.credits
     → head_fault (saved_bytes a) ≡ None

@@ -1,5 +1,5 @@
 -- Lists by recursion: what agrees at each element, ranges, filters, and what a test finds.
-use Rattle.mscp_host.proofs.Common.{◌≡◌, ℕ, zero, suc, ◌+◌, ◌<◌, ◌≤◌, Bool, true, false, cond, List, [], ◌∷◌, ◌++◌, map, refl, ap, sym, ◌∙◌, subst, ⊎_elim, arith, ◌&&◌, filter, find, Option, Some, None, is_some, option_map, option_to_list, option_or, AllByRecursion, last_or, list_any, range_with_len, cases_eq, false≢true, true≢false, map-id, map-range_with_len_more, before}
+use Rattle.mscp_host.proofs.Common.{◌≡◌, ℕ, zero, suc, ◌+◌, ◌<◌, ◌≤◌, Bool, true, false, List, [], ◌∷◌, ◌++◌, map, refl, ap, sym, ◌∙◌, arith, ◌&&◌, filter, find, Option, Some, None, is_some, option_map, option_to_list, option_or, AllByRecursion, last_or, list_any, range_with_len, cases_eq, false≢true, true≢false, map-id, map-range_with_len_more, before}
 
 -- ---- each element
 

@@ -1,5 +1,5 @@
 -- What a host keeps, as the list so far says it, after a moment in which an end is heard.
-use Rattle.mscp_host.proofs.Common.{◌≡◌, ℕ, ◌+◌, ◌<◌, Bool, true, false, map, ⊎_elim, refl, ap, sym, ◌∙◌, arith, append-nil, ◌&&◌, filter, find, nat_eq, not, if◌then◌else◌, Option, Some, None, is_some, option_map, and-false, and-true, cases_lt, eqb-true, eq-eqb, false_from_ne_true, false≢true, true≢false, End, Watch, Account, answered, has_reference, is_about_polled, outstanding_with, news_of_figure, news_with, received, status_end, told_of_submission, watch_after, with_told, without, are_apart, History, Moment, account_at, asked_for, asks_about, end_heard, figure_from, figure_in, found_stands, handed_over, in_flight, is_end_of, is_it, is_outstanding, is_poll, is_sent, last_found, last_told, moment, news_at, outstanding, reference, reference_found, says_of, submission_at, told_at, watch_at}
+use Rattle.mscp_host.proofs.Common.{◌≡◌, ℕ, ◌+◌, ◌<◌, Bool, true, false, map, ⊎_elim, refl, ap, sym, ◌∙◌, arith, append-nil, ◌&&◌, filter, find, nat_eq, not, if◌then◌else◌, Option, Some, None, is_some, option_map, and-false, and-true, cases_lt, eqb-true, eq-eqb, false_from_ne_true, false≢true, true≢false, End, Watch, Account, answered, has_reference, is_about_polled, outstanding_with, news_of_figure, news_with, received, status_end, told_of_submission, watch_after, with_told, are_apart, History, Moment, account_at, asked_for, asks_about, end_heard, figure_from, figure_in, found_stands, handed_over, in_flight, is_end_of, is_it, is_outstanding, is_poll, is_sent, last_found, last_told, moment, news_at, outstanding, reference, reference_found, submission_at, told_at, watch_at}
 use Rattle.mscp_host.specs.Accounts.{told_in}
 use Rattle.mscp_host.specs.declared.news.News.TheVariants as news
 use Rattle.mscp_host.specs.Accounts as host
@@ -125,10 +125,6 @@ last_is credits h j i n a e r =
     ap told_of_submission (find_map (submission_at h j) (has_reference n) (outstanding h j)
     ∙ ap (option_map (submission_at h j)) (find_named credits h j i n _ a e r refl))
 
-answer_figure : (h : History) (e : End) (p : ℕ)
-    → (if is_poll (moment h p) then figure_in (Some e) else None) ≡ option_map (λ told. told.1) (answer_in h e p)
-answer_figure h e p = grind arith
-
 -- ---- an end that is heard
 
 module _ {credits : ℕ} {h : History} {j : ℕ} {e : End} {p : ℕ} (x : Hears credits h j e p) where
@@ -213,10 +209,6 @@ module _ {credits : ℕ} {h : History} {j : ℕ} {e : End} {p : ℕ} (x : Hears 
   outs_after : outstanding h (j + 1) ≡ filter (λ i. not (nat_eq (reference h i) e.reference)) (outstanding h j)
   outs_after = search (arith, outstanding_more, ends_is, append-nil)
 
-  subs_after : without e.reference (map (submission_at h (j + 1)) (outstanding h j))
-      ≡ map (submission_at h (j + 1)) (outstanding h (j + 1))
-  subs_after = search (arith, all_told, apart_with, answered, without_kept, filter_map_of, outs_after)
-
   flight_after : in_flight h (j + 1)
       ≡ find (λ i. not (nat_eq (reference h i) e.reference) && is_poll (moment h i)) (outstanding h j)
   flight_after = ap (find (λ i. is_poll (moment h i))) outs_after ∙ find_filter _ _ (outstanding h j)
@@ -247,7 +239,7 @@ module _ {credits : ℕ} {h : History} {j : ℕ} {e : End} {p : ℕ} (x : Hears 
       (λ k. record (watch_at h j q) { is_outstanding = stands k })
 
   pub account_received : account_at credits h (j + 1) ≡ received (account_at credits h j) e
-  account_received = search (arith, all_told, subs_after, watch_left)
+  account_received = search (arith, all_told, apart_with, answered, without_kept, filter_map_of, outs_after, watch_left)
 
   says_told : (told : ℕ × ℕ)
       → answer_in h e p ≡ Some told → (o : Option ℕ) → asked_for h p ≡ o → (b : Bool) → found_stands h j o ≡ b
@@ -260,7 +252,7 @@ module _ {credits : ℕ} {h : History} {j : ℕ} {e : End} {p : ℕ} (x : Hears 
   says_told told q o r false s = refl
 
   says_when : (t : Option (ℕ × ℕ)) → answer_in h e p ≡ t → news_with (account_at credits h j) e t ≡ news_at h j e p
-  says_when t h1 = search (arith, answer_figure, watched, figure_of, says_told)
+  says_when t h1 = search (arith, watched, figure_of, says_told)
 
   -- what the host says is what the history says
   pub says_is : news_with (account_at credits h j) e (answered (account_at credits h j).watch e) ≡ news_at h j e p

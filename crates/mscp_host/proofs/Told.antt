@@ -1,5 +1,5 @@
 -- A figure is told of the oldest command alone, and a credit is kept for those that are answered when they arrive.
-use Rattle.mscp_host.proofs.Common.{◌≡◌, ◌≤◌, ◌<◌, ◌-◌, ℕ, suc, Bool, true, false, ◌&&◌, ◌||◌, List, [], ◌∷◌, ◌++◌, length, refl, ap, sym, subst, ◌∙◌, arith, not, cond, Option, Some, None, is_none, list_all, list_any, and_parts, eqb-true, not-true, or_left, or_parts, false≢true, length-append, filter-append, list_all-append, count_by-le-length, length-filter, Submission, Watch, Account, balance, has_reference, is_about_polled, is_immediate, polled_is_outstanding, refusal, with_told, without, are_apart, waiting, are_told, is_numbered, is_oldest, is_watched}
+use Rattle.mscp_host.proofs.Common.{◌≡◌, ◌≤◌, ◌<◌, ◌-◌, ℕ, Bool, true, false, ◌&&◌, ◌||◌, List, [], ◌∷◌, ◌++◌, length, refl, ap, subst, ◌∙◌, arith, not, Option, Some, None, is_none, list_all, list_any, and_parts, eqb-true, not-true, or_left, or_parts, false≢true, length-append, filter-append, list_all-append, count_by-le-length, length-filter, Submission, Watch, Account, balance, has_reference, is_about_polled, is_immediate, polled_is_outstanding, refusal, with_told, without, are_apart, waiting, are_told, is_numbered, is_oldest, is_watched}
 use Rattle.mscp_host.proofs.Watched.{is_oldest_told, oldest_more, oldest_without}
 
 -- ---- all pass a test
@@ -85,32 +85,19 @@ polled_oldest xs watch number figure h1 h2 h3 = search (arith, false≢true, and
 
 -- ---- credits
 
--- one more waits, or not
-more_waits : (b : Bool) (s : Submission) (xs ys : List Submission) → length xs ≡ length ys
-    → length (cond b (s ∷ xs) xs) ≡ length (cond b (s ∷ ys) ys)
-more_waits b s xs ys h1 = search arith
-
 pub waiting_told : (r f : ℕ) (xs : List Submission) → length (waiting (with_told r f xs)) ≡ length (waiting xs)
 waiting_told r f [] = refl
-waiting_told r f (s ∷ rest) = search (arith, waiting_told r f rest, more_waits)
-
-no_more_wait : (b : Bool) (s : Submission) (xs ys : List Submission) → length xs ≤ length ys
-    → (length xs ≤ length (cond b (s ∷ ys) ys)) × (length (cond b (s ∷ xs) xs) ≤ length (cond b (s ∷ ys) ys))
-no_more_wait b s xs ys h1 = search arith
+waiting_told r f (s ∷ rest) = search (arith, waiting_told r f rest)
 
 pub waiting_without : (r : ℕ) (xs : List Submission) → length (waiting (without r xs)) ≤ length (waiting xs)
 waiting_without r [] = let e : 0 ≤ 0 = omega arith in e
-waiting_without r (s ∷ rest) = search (arith, waiting_without r rest, no_more_wait)
-
--- no more wait than were sent
-waiting_few : (xs : List Submission) → length (waiting xs) ≤ length xs
-waiting_few xs = search (arith, length-filter, count_by-le-length)
+waiting_without r (s ∷ rest) = search (arith, waiting_without r rest)
 
 -- one that waits leaves a credit
 pub spare_more : (s : Submission) (xs : List Submission) (credits : ℕ)
     → (is_immediate s.opcode ≡ false → 2 ≤ credits - length xs) → length (waiting xs) < credits
     → length (waiting (xs ++ s ∷ [])) < credits
-spare_more s xs credits spare less = search (arith, filter-append, length-append, waiting_few)
+spare_more s xs credits spare less = search (arith, filter-append, length-append, length-filter, count_by-le-length)
 
 -- a command that isn't refused leaves one
 pub not_refused : (a : Account) (opcode reference : ℕ) → refusal a opcode reference ≡ None → (1 ≤ balance a)

@@ -1,5 +1,5 @@
 -- A poll in flight stays one that a host may have.
-use Rattle.mscp_host.proofs.Common.{◌≡◌, ℕ, Bool, true, false, ◌&&◌, List, [], ◌∷◌, ◌++◌, nat_eq, refl, ap, sym, ◌∙◌, arith, not, if◌then◌else◌, Option, Some, None, Ok, is_ok, list_any, and_parts, or_left, or_right, true≢false, list_any-append, ArrayVec, Command, HostFault, Submission, Watch, Account, has_reference, is_immediate, poll_of, submission_of, submits_unless, submitted, watch_after, with_told, without, is_about_somebody, is_numbered, is_oldest, is_polled, is_status, is_watched, oldest_of}
+use Rattle.mscp_host.proofs.Common.{◌≡◌, ℕ, Bool, true, false, ◌&&◌, List, [], ◌∷◌, ◌++◌, nat_eq, refl, ap, sym, ◌∙◌, arith, not, if◌then◌else◌, Option, Some, None, Ok, list_any, and_parts, or_left, or_right, true≢false, list_any-append, ArrayVec, Command, HostFault, Submission, Watch, Account, has_reference, is_immediate, poll_of, submission_of, submits_unless, submitted, watch_after, with_told, without, is_about_somebody, is_numbered, is_oldest, is_polled, is_status, is_watched, oldest_of}
 use Rattle.mscp_host.specs.Watched.{is_poll}
 
 -- ---- one of the submissions passes a test
@@ -19,9 +19,6 @@ module _ (p : Submission → Bool) where
 
   any_more : (s : Submission) (xs : List Submission) → list_any p xs ≡ true → list_any p (xs ++ s ∷ []) ≡ true
   any_more s xs e = list_any-append p xs (s ∷ []) ∙ or_left (list_any p xs) (list_any p (s ∷ [])) e
-
-  any_last : (s : Submission) (xs : List Submission) → p s ≡ true → list_any p (xs ++ s ∷ []) ≡ true
-  any_last s xs e = search (arith, list_any-append, or_right, or_left)
 
 -- another number isn't that of the one that leaves
 other_status : (n r : ℕ) (s : Submission) → nat_eq n r ≡ false → is_status n s ≡ true → has_reference r s ≡ false
@@ -157,7 +154,7 @@ watched_poll r p xs e =
     let own : is_status r s ≡ true = ap (λ b. b && true) (same_number r) in
     let poll : is_poll r p.unit s ≡ true = λ i. own i && same_number p.unit i in
     let first : is_oldest p.reference xs ≡ true = ap (is_numbered p.reference) e ∙ same_number p.reference in
-    search (arith, oldest_more, same_number, any_last)
+    search (arith, oldest_more, same_number, list_any-append, or_right, or_left)
 
 -- a command was sent
 pub was_submitted : (a after : Account) (command : Command) (fault : Option HostFault) (message : ArrayVec ℕ)

@@ -1,7 +1,6 @@
-use Rattle.mscp_host.proofs.Common.{arith, ◌≡◌, Bool, true, false, ◌&&◌, ap, subst, sym, ◌∙◌, Account, answered, is_about_polled}
+use Rattle.mscp_host.proofs.Common.{arith, ◌≡◌, Bool, ◌&&◌, sym, ◌∙◌, answered}
 use Rattle.mscp_host.proofs.Hearing.{heard_ok, heard_other, readable}
 use Rattle.mscp_host.proofs.host.Host.receive.Goals as goal
-use Rattle.mscp_host.proofs.host.Host.receive.Goals.{then-not-is_code_of-via-then-not-is_code_of, then-not-is_code_of-via-else-not-is_code_of+then-not-is_about_polled}
 
 pub returns : goal.returns
 returns c =
