@@ -1,5 +1,5 @@
 -- The first line of a text, and the first word of a line.
-use Rattle.mscp_reader.proofs.Common.{◌≡◌, ◌≢◌, get_or, ◌==◌, ◌<◌, ◌≤◌, ◌+◌, suc, ℕ, Bool, true, false, cond, List, [], ◌∷◌, length, take, drop, map, refl, sym, ap, ◌∙◌, arith, nat_lt, position, unwrap_or, Some, None, nat_tests, filter, slice_split, position_or_len, strip_carriage_return, common_steps, lines, words, without_empty_last, is_some_word}
+use Rattle.mscp_reader.proofs.Common.{◌≡◌, ◌≢◌, get_or, ◌==◌, ◌<◌, ◌≤◌, ◌+◌, suc, ℕ, Bool, false, cond, List, [], ◌∷◌, length, take, drop, refl, ◌∙◌, arith, nat_lt, position, unwrap_or, nat_tests, filter, slice_split, position_or_len, strip_carriage_return, common_steps, lines, words, without_empty_last, is_some_word}
 
 -- how many stand before the first that passes, or all
 abbrev pub front_len : (ℕ → Bool) → List ℕ → ℕ
@@ -36,11 +36,8 @@ pub first_is : (p : ℕ → Bool) (xs : List ℕ) → position_or_len p xs ≡ f
 first_is p [] = refl
 first_is p (x ∷ xs) = first_step p x xs (p x) refl (first_is p xs)
 
-index_or : (n k : ℕ) (b : Bool) → nat_lt n k ≡ b → n ≤ k → unwrap_or (cond b (Some n) None) k ≡ n
-index_or n k b h1 h2 = search (arith, nat_tests)
-
 pub front_len_is : (p : ℕ → Bool) (xs : List ℕ) → unwrap_or (position p xs) (length xs) ≡ front_len p xs
-front_len_is p xs = search (arith, first_is, index_or, nat_lt, front_len-le)
+front_len_is p xs = search (arith, first_is, nat_tests, nat_lt, front_len-le)
 
 -- where the part ends, nothing is left or one that passes
 rest_step : (p : ℕ → Bool) (x : ℕ) (xs : List ℕ) (b : Bool) → p x ≡ b → filter is_some_word
@@ -72,22 +69,15 @@ words_none = refl
 
 -- ---- lines
 
-take_drop_length : (xs : List ℕ) (n : ℕ) → length (take n xs) + length (drop n xs) ≡ length xs
-take_drop_length xs n = grind (arith, common_steps)
-
 -- a split has a part
 pub split_parts : (p : ℕ → Bool) (xs : List ℕ) (line : List ℕ)
     → without_empty_last (line ∷ slice_split p xs) ≡ line ∷ without_empty_last (slice_split p xs)
 split_parts p xs line = search (arith, split_first)
 
-lines_after : (line rest : List ℕ) → 0 < length line + length rest → without_empty_last
-    (line ∷ parts_after (λ b. b == 10) rest) ≡ line ∷ without_empty_last (slice_split (λ b. b == 10) (drop 1 rest))
-lines_after line rest h1 = search (arith, split_parts)
-
 line_cut : (xs : List ℕ) (n : ℕ) → front_len (λ b. b == 10) xs ≡ n → 0 < length xs
     → lines xs ≡ strip_carriage_return (take n xs) ∷ lines (drop 1 (drop n xs))
 unfolding lines
-line_cut xs n e some = search (arith, split_first, lines_after, take_drop_length)
+line_cut xs n e some = search (arith, split_first, split_parts, common_steps)
 
 pub line_ahead : (xs : List ℕ) → 0 < length xs
     → lines xs ≡ strip_carriage_return (take (unwrap_or (position (λ b. b == 10) xs) (length xs)) xs)

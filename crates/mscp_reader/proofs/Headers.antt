@@ -1,5 +1,5 @@
 -- What a line does to a header.
-use Rattle.mscp_reader.proofs.Common.{arith, ◌≡◌, ◌+◌, ◌⊎◌, ⊎_elim, inl, inr, ℕ, List, [], ◌∷◌, refl, ap, sym, ◌∙◌, Result, Ok, Err, ◌>>=◌, Gives, Settings, Event, lines, Cause, ScriptFault, Place, HasGone, IsInHeader, after_line, next, next_unless_skipped, said_at, Heads, Leads, gone_or, headed, headed_on, in_line, lines_outcome, rest_headed, rest_outcome}
+use Rattle.mscp_reader.proofs.Common.{arith, ◌≡◌, ◌+◌, ◌⊎◌, ℕ, List, [], ◌∷◌, refl, ◌∙◌, Result, Ok, Err, ◌>>=◌, Gives, Settings, Event, lines, Cause, ScriptFault, Place, HasGone, IsInHeader, after_line, next, said_at, Heads, Leads, gone_or, headed, headed_on, in_line, lines_outcome, rest_headed, rest_outcome}
 use Rattle.mscp_reader.specs.declared.fault.Cause.TheVariants as causes
 use Rattle.mscp_reader.proofs.Outcomes.{ended_early, from_ok}
 
@@ -33,16 +33,12 @@ pub header_speaks : (n : ℕ) (line : List ℕ) (rest : List (List ℕ)) (words 
 unfolding headed after_line headed_on
 header_speaks n line rest words h1 h2 p h3 = search (arith, open_header, from_ok)
 
-wrong_step : (n : ℕ) (p : Place) (rest : List (List ℕ)) (r : Result (List (List ℕ)) Cause) (fault : ScriptFault)
-    → in_line n r ≡ Err fault → (in_line n (r >>= next_unless_skipped p) >>= λ after. headed n after rest) ≡ Err fault
-wrong_step n p rest r fault h1 = search arith
-
 -- a line that is wrong by itself
 pub header_wrong : (n : ℕ) (line : List ℕ) (rest : List (List ℕ)) (fault : ScriptFault)
     → in_line (n + 1) (said_at (n + 1) line) ≡ Err fault → (p : Place) → IsInHeader p
     → headed n p (line ∷ rest) ≡ Err fault
 unfolding headed after_line
-header_wrong n line rest fault e p h = search (arith, open_header, wrong_step)
+header_wrong n line rest fault e p h = search (arith, open_header)
 
 -- no line is left
 pub header_ends : (n : ℕ) (p : Place) → IsInHeader p
@@ -60,18 +56,12 @@ line_heads view n p words bytes o r h1 h2 = search arith
 
 -- ---- what comes of a script
 
-outcome_on : (n : ℕ) (rest : List (List ℕ)) (r : Result Place ScriptFault)
-    → ((q : Place) → lines_outcome n q rest ≡ (headed n q rest >>= λ found. lines_outcome found.1 found.0 found.2))
-    → (r >>= λ after. lines_outcome n after rest)
-    ≡ ((r >>= λ after. headed n after rest) >>= λ found. lines_outcome found.1 found.0 found.2)
-outcome_on n rest r h1 = search arith
-
 -- it is what comes of the lines behind the header
 pub outcome_by_header : (n : ℕ) (all : List (List ℕ)) (p : Place)
     → lines_outcome n p all ≡ (headed n p all >>= λ found. lines_outcome found.1 found.0 found.2)
 unfolding lines_outcome headed
 outcome_by_header n [] p = search (arith, open_header, ended_early, sides)
-outcome_by_header n (line ∷ rest) p = search (arith, open_header, outcome_on, sides, outcome_by_header (n + 1) rest)
+outcome_by_header n (line ∷ rest) p = search (arith, open_header, sides, outcome_by_header (n + 1) rest)
 
 pub heads_lead : {X : Type 0} (view : X → Place) (n : ℕ) (p : Place) (bytes : List ℕ) (number : ℕ) (rest : List ℕ)
     (r : Result X ScriptFault) → Heads view (rest_headed n p bytes) number rest r

@@ -1,5 +1,5 @@
 -- What a line does to the outcome.
-use Rattle.mscp_reader.proofs.Common.{◌≡◌, ◌+◌, ◌≤◌, ◌++◌, ℕ, List, [], ◌∷◌, length, drop, refl, sym, ap, ◌∙◌, arith, codes, Option, Some, None, Result, Ok, Err, nat_tests, append-nil, ◌>>=◌, Gives, Cause, ScriptFault, Both, Settings, Event, lines, request, Place, next_unless_skipped, Begins, HasCredits, HasLongest, HasTimeout, HasUnits, HasGone, IsInHeader, asked_after, said_at, next, after_line, credits, limit, limits, first_units, unit_or_go, Sets, all_read, asked_next, budget_of, in_line, limited, lines_outcome, rest_outcome, Limit}
+use Rattle.mscp_reader.proofs.Common.{◌≡◌, ◌+◌, ◌≤◌, ◌++◌, ℕ, List, [], ◌∷◌, length, drop, refl, ◌∙◌, arith, codes, Option, Some, None, Result, Ok, Err, nat_tests, append-nil, ◌>>=◌, Gives, Cause, ScriptFault, Both, Settings, Event, lines, request, Place, next_unless_skipped, Begins, HasCredits, HasLongest, HasTimeout, HasUnits, HasGone, IsInHeader, asked_after, next, after_line, credits, limit, limits, first_units, unit_or_go, Sets, all_read, asked_next, budget_of, in_line, limited, lines_outcome, rest_outcome, Limit}
 use Rattle.mscp_reader.specs.declared.fault.Cause.TheVariants as causes
 use Rattle.mscp_reader.specs.declared.header.Limit.TheVariants as ways
 
@@ -19,11 +19,6 @@ after_asked n s es rest (Ok None) = Ok (s, es)
 after_asked n s es rest (Ok (Some new)) = lines_outcome (n + 1) (HasGone s (es ++ new)) rest
 after_asked n s es rest (Err fault) = Err fault
 
-by_asked : (n : ℕ) (s : Settings) (es : List Event) (rest : List (List ℕ)) (r : Result (List Event) Cause)
-    → (in_line (n + 1) (r >>= λ new. Ok (HasGone s (es ++ new))) >>= λ after. lines_outcome (n + 1) after rest)
-    ≡ after_asked n s es rest (in_line (n + 1) r >>= λ new. Ok (Some new))
-by_asked n s es rest r = search arith
-
 no_words : (count : ℕ) → count ≤ 1000000 → asked_after count [] ≡ Ok []
 unfolding request
 no_words count few = grind (arith, nat_tests)
@@ -33,7 +28,7 @@ by_said : (n : ℕ) (s : Settings) (es : List Event) (rest : List (List ℕ)) (r
     → (in_line (n + 1) (r >>= next_unless_skipped (HasGone s es)) >>= λ after. lines_outcome (n + 1) after rest)
     ≡ after_asked n s es rest (in_line (n + 1) (r >>= asked_after (length es)) >>= λ new. Ok (Some new))
 unfolding next
-by_said n s es rest r h1 = search (arith, no_words, append-nil, by_asked)
+by_said n s es rest r h1 = search (arith, no_words, append-nil)
 
 lines_asked : (n : ℕ) (s : Settings) (es : List Event) (all : List (List ℕ)) → length es ≤ 1000000
     → lines_outcome n (HasGone s es) all ≡ after_asked n s es (drop 1 all) (asked_next n (length es) all)

@@ -1,5 +1,5 @@
 -- Plain lines: what is cut off them, and what they say.
-use Rattle.mscp_reader.proofs.Common.{◌≡◌, ◌<◌, ◌≤◌, ◌+◌, ◌-◌, ◌==◌, ◌&&◌, ◌∙◌, ℕ, Bool, true, false, not, suc, zero, subst, map, List, [], ◌∷◌, ◌++◌, length, take, drop, get_or, refl, sym, ap, arith, Ok, Err, position, unwrap_or, nat_le, nat_lt, if◌then◌else◌, replicate, Some, Result, filter, list_all, slice_split, strip_carriage_return, and_parts, and_from, nat_tests, append_assoc, append-nil, length-append, length-drop, length-take-le, take-append-drop, take_all, digits_value, Order, MoveKind, is_comment, is_digit, is_numeral, is_printed, is_some_word, lines, narrow, number, said, steps_in, wide, without_empty_last, words, Asks, Cuts, CutsWord, Ends, IsApart, IsNumeral, IsPlain, is_letter, asked, event_form, form_of, message_form, plain_form, request, sent, fitting, said_at, asked_next, Form, Cause, Good, First, Event}
+use Rattle.mscp_reader.proofs.Common.{◌≡◌, ◌<◌, ◌≤◌, ◌+◌, ◌-◌, ◌==◌, ◌&&◌, ◌∙◌, ℕ, Bool, true, false, not, suc, zero, subst, List, [], ◌∷◌, ◌++◌, length, take, drop, get_or, refl, sym, ap, arith, Ok, Err, position, unwrap_or, nat_le, nat_lt, if◌then◌else◌, replicate, Some, Result, filter, list_all, slice_split, strip_carriage_return, and_parts, and_from, nat_tests, append_assoc, append-nil, length-append, length-drop, length-take-le, take-append-drop, take_all, digits_value, Order, MoveKind, is_comment, is_digit, is_numeral, is_printed, is_some_word, lines, narrow, number, said, steps_in, wide, words, Asks, Cuts, CutsWord, Ends, IsApart, IsNumeral, IsPlain, is_letter, asked, event_form, form_of, message_form, plain_form, request, sent, said_at, asked_next, Form, Cause, Good, First, Event}
 use Rattle.mscp_packet.specs.declared.command.Order.TheVariants as orders
 use Rattle.mscp_reader.specs.declared.events.Form.TheVariants as forms
 use Rattle.mscp_reader.specs.declared.fault.Cause.TheVariants as causes
@@ -30,30 +30,18 @@ is_solid b = not (b == 32) && is_printed b
 abbrev pub AllSolid : List ℕ → Type 0
 AllSolid w = list_all is_solid w ≡ true
 
-solid_letter : (b : ℕ) → is_letter b ≡ true → is_solid b ≡ true
-solid_letter b h = grind (arith, nat_tests)
-
-solid_digit : (b : ℕ) → is_digit b ≡ true → is_solid b ≡ true
-solid_digit b h = grind (arith, nat_tests)
-
 pub solid_letters : (w : List ℕ) → list_all is_letter w ≡ true → AllSolid w
 solid_letters [] h = refl
-solid_letters (b ∷ w) h = search (arith, and_parts, and_from, solid_letter, solid_letters w)
+solid_letters (b ∷ w) h = search (arith, and_parts, and_from, nat_tests, solid_letters w)
 
 pub solid_digits : (w : List ℕ) → list_all is_digit w ≡ true → AllSolid w
 solid_digits [] h = refl
-solid_digits (b ∷ w) h = search (arith, and_parts, and_from, solid_digit, solid_digits w)
-
-solid_apart : (b : ℕ) → is_solid b ≡ true → (b == 32) ≡ false
-solid_apart b h = grind (arith, nat_tests)
-
-solid_printed : (b : ℕ) → is_solid b ≡ true → is_printed b ≡ true
-solid_printed b h = grind (arith, nat_tests)
+solid_digits (b ∷ w) h = search (arith, and_parts, and_from, nat_tests, solid_digits w)
 
 printed_front : (w line : List ℕ) → AllSolid w → list_all is_printed line ≡ true
     → list_all is_printed (w ++ line) ≡ true
 printed_front [] line solid h = h
-printed_front (b ∷ w) line solid h = search (arith, and_parts, and_from, solid_printed, printed_front w line)
+printed_front (b ∷ w) line solid h = search (arith, and_parts, and_from, nat_tests, printed_front w line)
 
 -- ---- words
 
@@ -63,7 +51,7 @@ apart_split line h1 = search arith
 word_split : (w line : List ℕ) → AllSolid w → IsApart line
     → slice_split (λ b. b == 32) (w ++ line) ≡ w ∷ parts_after (λ b. b == 32) line
 word_split [] line solid h = apart_split line h
-word_split (b ∷ w) line solid h = search (arith, and_parts, solid_apart, word_split w line)
+word_split (b ∷ w) line solid h = search (arith, and_parts, nat_tests, word_split w line)
 
 apart_words : (line : List ℕ) → IsApart line → filter is_some_word (parts_after (λ b. b == 32) line) ≡ words line
 unfolding words
@@ -136,15 +124,10 @@ cut_number old value digits some space numeral least small =
     (omega (arith, numeral.value, small)) ∙ ap Ok (sym numeral.value) in
     (word, means, subst (λ xs. Cuts xs (word ∷ []) new) whole (cut_word word new long (solid_digits word numeral.all)))
 
-narrow_step : (d v : ℕ) (b : Bool) → nat_le d 4294967295 ≡ b
-    → (let r : Result ℕ Cause = if b then Ok d else Err causes.Number in r ≡ Ok v) → v ≤ 65535
-    → (let r : Result ℕ Cause = if nat_le d 65535 then Ok d else Err causes.Number in r ≡ Ok v)
-narrow_step d v b h1 h2 h3 = search (arith, nat_le, nat_tests)
-
 narrow_case : (d v : ℕ) (b : Bool) → (let r : Result ℕ Cause =
     if b && nat_le d 4294967295 then Ok d else Err causes.Number in r ≡ Ok v) → v ≤ 65535
     → (let r : Result ℕ Cause = if b && nat_le d 65535 then Ok d else Err causes.Number in r ≡ Ok v)
-narrow_case d v b h1 h2 = search (arith, narrow_step, nat_le)
+narrow_case d v b h1 h2 = search (arith, nat_tests, nat_le)
 
 pub narrow_is : (word : List ℕ) (v : ℕ) → wide word ≡ Ok v → v ≤ 65535 → narrow word ≡ Ok v
 unfolding number

@@ -1,5 +1,5 @@
 -- A list of units with one more.
-use Rattle.mscp_reader.proofs.Common.{◌≡◌, ◌<◌, ◌+◌, ◌++◌, ℕ, zero, suc, Bool, true, false, ◌&&◌, List, [], ◌∷◌, length, get_or, refl, arith, ⊎_elim, nat_lt, list_all, cases_lt, nat_tests, common_steps, Shape, has_room, IsUnitList, NumbersRise}
+use Rattle.mscp_reader.proofs.Common.{◌≡◌, ◌<◌, ◌+◌, ◌++◌, ℕ, zero, suc, Bool, true, ◌&&◌, List, [], ◌∷◌, length, get_or, refl, arith, nat_lt, list_all, cases_lt, nat_tests, common_steps, Shape, has_room, IsUnitList, NumbersRise}
 
 both : (a b : Bool) → (a && b) ≡ true → (a ≡ true) × (b ≡ true)
 both a b h1 = search arith

@@ -1,5 +1,5 @@
 -- The outcome of all lines is that the script is read, or its first fault.
-use Rattle.mscp_reader.proofs.Common.{◌≡◌, ◌≤◌, ◌+◌, ◌++◌, ◌⊎◌, inl, inr, ℕ, List, [], ◌∷◌, length, refl, sym, ap, subst, ◌∙◌, arith, ⊎_elim, Result, Ok, Err, Settings, Event, ◌>>=◌, lines, Cause, ScriptFault, Place, Begins, HasGone, IsInHeader, after_line, after_lines, Reads, IsFault, in_line, lines_outcome, all_read}
+use Rattle.mscp_reader.proofs.Common.{◌≡◌, ◌≤◌, ◌+◌, ◌++◌, ◌⊎◌, inl, inr, ℕ, List, [], ◌∷◌, length, refl, ap, subst, ◌∙◌, arith, ⊎_elim, Result, Ok, Err, Settings, Event, ◌>>=◌, lines, Cause, ScriptFault, Place, Begins, HasGone, IsInHeader, after_line, after_lines, Reads, IsFault, in_line, lines_outcome, all_read}
 use Rattle.mscp_reader.specs.declared.fault.Cause.TheVariants as causes
 
 -- ---- read

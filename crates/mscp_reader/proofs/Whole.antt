@@ -1,5 +1,5 @@
 -- A script is read, or has its first fault, just where its outcome says so. So it has one meaning.
-use Rattle.mscp_reader.proofs.Common.{◌≡◌, ◌<◌, ◌≤◌, ◌+◌, ◌++◌, inl, ℕ, List, [], ◌∷◌, length, Bool, true, false, cond, refl, sym, ap, subst, ◌∙◌, arith, ⊎_elim, nat_lt, Result, Ok, Err, nat_tests, Settings, Event, ◌>>=◌, lines, Cause, ScriptFault, ReadFault, Place, Begins, HasGone, IsInHeader, after_line, after_lines, Reads, IsAtFault, HasNoGo, IsFault, in_line, lines_outcome, script_outcome, Tells}
+use Rattle.mscp_reader.proofs.Common.{◌≡◌, ◌<◌, ◌≤◌, ◌+◌, ◌++◌, ℕ, List, [], ◌∷◌, length, Bool, true, false, cond, refl, sym, ap, ◌∙◌, arith, ⊎_elim, nat_lt, Result, Ok, Err, nat_tests, Settings, Event, ◌>>=◌, lines, Cause, ScriptFault, ReadFault, Place, Begins, HasGone, IsInHeader, after_line, after_lines, Reads, IsAtFault, HasNoGo, IsFault, in_line, lines_outcome, script_outcome, Tells}
 use Rattle.mscp_reader.specs.declared.fault.Cause.TheVariants as causes
 use Rattle.mscp_reader.proofs.Outcomes.{ended_early}
 use Rattle.mscp_reader.proofs.Sound.{is_read, is_fault}

@@ -1,4 +1,4 @@
-use Rattle.mscp_reader.proofs.Common.{◌≡◌, ◌==◌, ℕ, Bool, true, false, List, length, refl, arith, nat_lt, position, Option, Some, None, lt-ltb, nat_tests, position_or_len_is, IsFirstByte, is_byte}
+use Rattle.mscp_reader.proofs.Common.{◌≡◌, ◌==◌, ℕ, Bool, true, false, List, length, arith, nat_lt, position, Option, Some, None, lt-ltb, nat_tests, position_or_len_is, IsFirstByte, is_byte}
 use Rattle.mscp_reader.proofs.pieces.feed_in.Goals as goal
 
 not_true : (b : Bool) → ¬ (b ≡ true) → b ≡ false
