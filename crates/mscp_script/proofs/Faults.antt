@@ -1,6 +1,5 @@
 -- What a script's fault comes from, where a simulation ends with one.
-use Rattle.mscp_script.proofs.Common.{arith, ◌≡◌, Bool, true, false, refl, ap, sym, ◌∙◌, subst, IsErrAnd, Result, Ok, Err, true≢false, ReadAllFault, ReadFault, ScriptFault, SimFault, sim_of_reading, sim_of_script}
-use Rattle.mscp_script.specs.declared.reading.ReadAllFault.TheVariants as readings
+use Rattle.mscp_script.proofs.Common.{arith, ◌≡◌, Bool, true, false, ◌∙◌, IsErrAnd, Result, Err, true≢false, ReadAllFault, ReadFault, ScriptFault, SimFault, sim_of_reading, sim_of_script}
 use Rattle.mscp_reader.specs.declared.fault.ReadFault.TheVariants as scripts
 use Rattle.mscp_script.specs.declared.simulation.SimFault.TheVariants as faults
 
@@ -11,10 +10,6 @@ is_script fault = false
 abbrev fault_in : ScriptFault → SimFault → ScriptFault
 fault_in other (faults.Script fault) = fault
 fault_in other fault = other
-
-abbrev error_in : SimFault → Result (Unit {0}) SimFault → SimFault
-error_in other (Ok done) = other
-error_in other (Err fault) = fault
 
 -- what is known of an error is known of this one
 error_is : (P : SimFault → Type 0) (result : Result (Unit {0}) SimFault) (fault : SimFault) → IsErrAnd result P

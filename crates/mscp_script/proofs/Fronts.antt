@@ -1,5 +1,5 @@
 -- When the bytes that were read are the front of all, and the rest is what is left.
-use Rattle.mscp_script.proofs.Common.{◌≡◌, ◌<◌, ◌≤◌, ℕ, List, [], ◌++◌, length, take, drop, Option, Some, None, ap, subst, ◌∙◌, arith, take-append-le, common_steps, Consumes, IsAtEnd, IsFront, IsRest}
+use Rattle.mscp_script.proofs.Common.{◌≡◌, ◌<◌, ◌≤◌, ℕ, List, [], ◌++◌, length, take, drop, Option, subst, ◌∙◌, arith, take-append-le, common_steps, Consumes, IsAtEnd, IsFront, IsRest}
 
 full_list : (xs ys all : List ℕ) (n : ℕ) → length all ≡ n → xs ≡ all ++ ys → all ≡ take n xs
 full_list xs ys all n e h = grind (arith, common_steps, take-append-le)

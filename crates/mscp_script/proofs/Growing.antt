@@ -1,5 +1,5 @@
 -- A report grows by an entry as the run does.
-use Rattle.mscp_script.proofs.Common.{arith, ◌≡◌, ℕ, ◌+◌, List, [], ◌∷◌, ◌++◌, length-append, replicate, Result, Ok, Err, OnOk, ap, subst, sym, ◌∙◌, refl, flat_map, sum_by_push, append_assoc, flat_map_more, replicate_more, Choice, IsSweep, OutOfMemory, Event, Entry, Settings, Answered, Answers, Holdings, fresh, Meets, Ran, Runs, Run, Reported, ended_count, entry_lines, queued_count, reported, seek_of, step_count, with_entry}
+use Rattle.mscp_script.proofs.Common.{arith, ◌≡◌, ℕ, ◌+◌, List, [], ◌∷◌, ◌++◌, length-append, replicate, Result, OnOk, ap, subst, ◌∙◌, refl, flat_map, sum_by_push, append_assoc, flat_map_more, replicate_more, Choice, IsSweep, OutOfMemory, Event, Entry, Settings, Answered, Answers, Holdings, fresh, Meets, Ran, Runs, Run, Reported, entry_lines, reported, with_entry}
 
 pub reported_more : (all : List Entry) (entry : Entry) → with_entry (reported all) entry ≡ reported (all ++ entry ∷ [])
 reported_more all entry =

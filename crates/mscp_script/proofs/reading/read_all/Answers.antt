@@ -1,7 +1,6 @@
-use Rattle.mscp_script.proofs.Common.{arith, length-take, most_read}
+use Rattle.mscp_script.proofs.Common.{arith, length-take}
 use Rattle.mscp_script.proofs.Fronts.{front_full, front_end, rest_full, rest_end}
 use Rattle.mscp_script.proofs.reading.read_all.Goals as goal
-use Rattle.mscp_script.proofs.reading.read_all.Goals.{else-loop-buf-test, then-loop-buf-test+in-Ok+then-count-eq0}
 
 pub returns-clause-bytes : goal.returns-clause-bytes
 returns-clause-bytes g c = search (arith, front_full, front_end, length-take)

@@ -1,5 +1,4 @@
-use Rattle.mscp_script.proofs.Common.{arith, refl}
-use Rattle.mscp_controller.specs.declared.entry.Entry.TheVariants as entries
+use Rattle.mscp_script.proofs.Common.{arith}
 use Rattle.mscp_script.proofs.Growing.{ran_on}
 use Rattle.mscp_script.proofs.running.Run.send.Goals as goal
 

@@ -1,4 +1,4 @@
-use Rattle.mscp_script.proofs.Common.{drop, length, ap, arith, decimal, length-append, length-drop, few_digits}
+use Rattle.mscp_script.proofs.Common.{arith, length-append, length-drop, few_digits}
 use Rattle.mscp_script.proofs.reporting.tail.Tail.number.Goals as goal
 
 pub write_digits-self-inside-requires : goal.write_digits-self-inside-requires
