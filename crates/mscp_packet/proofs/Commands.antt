@@ -1,5 +1,5 @@
 -- What is written of a command.
-use Rattle.mscp_packet.proofs.Common.{◌≡◌, ℕ, ◌≤◌, length, refl, sym, ap, arith, slice_index, IsZeroBeside, opcode_of, CommandBytesAreMessages, HasRange, IsCommand, IsValidOrder, command_bytes, command_fields, command_of, order_with, written, Command, Order}
+use Rattle.mscp_packet.proofs.Common.{◌≡◌, ℕ, ◌≤◌, refl, sym, ap, arith, slice_index, IsZeroBeside, opcode_of, CommandBytesAreMessages, HasRange, IsCommand, IsValidOrder, command_bytes, command_fields, command_of, order_with, written, Command, Order}
 use Rattle.mscp_packet.proofs.Numbers.{two, four}
 use Rattle.mscp_packet.proofs.Blanks.{zero_beside}
 use Rattle.mscp_packet.specs.declared.command.MoveKind.TheVariants as moves
@@ -25,10 +25,6 @@ order_back r u (orders.Move moves.Read count block) valid fits = search (arith, 
 order_back r u (orders.Move moves.Write count block) valid fits = search (arith, four)
 order_back r u (orders.Invalid byte status) valid fits = absurd valid
 
--- exactly the written length
-pub command_length : (r u : ℕ) (o : Order) → length (command_bytes (command r u o)) ≡ written o
-command_length r u o = search arith
-
 -- which is 12 to 64 bytes
 written_span : (o : Order) → (12 ≤ written o) × (written o ≤ 64)
 written_span o = search arith
@@ -39,9 +35,9 @@ command_zeros r u o = search (arith, zero_beside)
 
 -- the bytes of a valid command are a message of it
 pub command_bytes_are_messages : CommandBytesAreMessages
-command_bytes_are_messages c valid fits = search (arith, written, command_length, written_span, four, two, order_back)
+command_bytes_are_messages c valid fits = search (arith, written, written_span, four, two, order_back)
 
 -- the bytes of any command are a message
 pub command_read : (c : Command) → IsCommand (command_bytes c) (command_of (command_bytes c))
 unfolding command_of
-command_read c = search (arith, written, command_length, written_span)
+command_read c = search (arith, written, written_span)

@@ -1,8 +1,7 @@
 -- What is written of an end.
-use Rattle.mscp_packet.proofs.Common.{◌≡◌, ℕ, ◌≤◌, Bool, true, false, List, length, refl, sym, ap, subst, arith, nat_lt, if◌then◌else◌, slice_index, Option, Some, None, Result, Ok, Err, ltb-true, ltb-false, IsZeroBeside, EndBytesAreMessages, HasBody, HasBodyRange, IsEnd, IsUnder, body_at, end_at, end_bytes, end_fields, end_length, kind_of_body, kind_of_code, reading_with, BodyKind, EndBody, End, EndFault}
+use Rattle.mscp_packet.proofs.Common.{◌≡◌, ℕ, ◌≤◌, Bool, true, false, List, length, refl, sym, ap, subst, arith, nat_lt, if◌then◌else◌, slice_index, Option, Some, None, Result, Ok, Err, ltb-true, ltb-false, IsZeroBeside, EndBytesAreMessages, HasBodyRange, IsEnd, IsUnder, body_at, end_at, end_bytes, end_fields, end_length, kind_of_body, kind_of_code, reading_with, BodyKind, EndBody, End, EndFault}
 use Rattle.mscp_packet.proofs.Numbers.{two, four, eight}
 use Rattle.mscp_packet.proofs.Blanks.{zero_beside}
-use Rattle.mscp_packet.specs.declared.end.BodyKind.TheVariants as kinds
 use Rattle.mscp_packet.specs.declared.end.EndBody.TheVariants as bodies
 use Rattle.mscp_packet.specs.declared.reading.EndFault.TheVariants as faults
 
@@ -20,17 +19,12 @@ body_back r u code status (bodies.Controller timeout id) fits = search (arith, t
 body_back r u code status (bodies.Online id media size serial) fits = search (arith, eight, four)
 body_back r u code status (bodies.Moved count) fits = ap bodies.Moved (sym (four count fits))
 
--- exactly the length of the body's shape
-pub end_length_is : (r u code status : ℕ) (body : EndBody)
-    → length (end_bytes (end r u code status body)) ≡ end_length (kind_of_body body)
-end_length_is r u code status body = search arith
-
 -- which is 12 to 48 bytes
 pub length_span : (kind : BodyKind) → (12 ≤ end_length kind) × (end_length kind ≤ 48)
 length_span kind = search arith
 
 pub bytes_span : (e : End) → (12 ≤ length (end_bytes e)) × (length (end_bytes e) ≤ 48)
-bytes_span e = search (arith, end_length_is, length_span)
+bytes_span e = search (arith, length_span)
 
 -- zero at every place that isn't named
 pub end_zeros : (r u code status : ℕ) (body : EndBody)
@@ -39,7 +33,7 @@ end_zeros r u code status body = search (arith, zero_beside)
 
 -- the bytes of an end are a message of it
 pub end_bytes_are_messages : EndBytesAreMessages
-end_bytes_are_messages e kind fits = grind (arith, end_length_is, length_span, four, two, body_back)
+end_bytes_are_messages e kind fits = grind (arith, length_span, four, two, body_back)
 
 -- ---- what is read of any message of 12 to 64 bytes
 

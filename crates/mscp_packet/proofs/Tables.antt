@@ -1,5 +1,5 @@
 -- The tables, line by line.
-use Rattle.mscp_packet.proofs.Common.{◌≡◌, ◌+◌, ◌<◌, ◌≤◌, refl, arith, Some, opcode_of, row_of, kind_of_code, IsSound, Opcode}
+use Rattle.mscp_packet.proofs.Common.{◌≡◌, ◌+◌, ◌<◌, ◌≤◌, arith, Some, opcode_of, row_of, kind_of_code, IsSound, Opcode}
 use Rattle.mscp_packet.proofs.Ends.{length_span}
 use Rattle.mscp_packet.specs.declared.class.Opcode.TheVariants as codes
 use Rattle.mscp_packet.specs.declared.command.MoveKind.TheVariants as moves

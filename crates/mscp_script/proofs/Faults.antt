@@ -16,16 +16,13 @@ error_is : (P : SimFault → Type 0) (result : Result (Unit {0}) SimFault) (faul
     → result ≡ Err fault → P fault
 error_is P result fault h1 h2 = search arith
 
-no_reading : (x : ReadAllFault) → is_script (sim_of_reading x) ≡ false
-no_reading x = search arith
-
 script_in : (x : ReadFault) (fault : ScriptFault) → faults.Script fault ≡ sim_of_script x → x ≡ scripts.Script fault
 script_in x fault h1 = search (arith, true≢false)
 
 -- the reading of all bytes brings no fault of a script, nor does a write
 pub never_read : (result : Result (Unit {0}) SimFault) (x : ReadAllFault) (fault : ScriptFault)
     → IsErrAnd result (λ e. e ≡ sim_of_reading x) → result ≡ Err (faults.Script fault) → ⊥
-never_read result x fault h e = search (arith, true≢false, error_is, no_reading)
+never_read result x fault h e = search (arith, true≢false, error_is)
 
 pub never_written : (result : Result (Unit {0}) SimFault) (fault : ScriptFault)
     → IsErrAnd result (λ e. e ≡ faults.Write) → result ≡ Err (faults.Script fault) → ⊥

@@ -1,4 +1,4 @@
-use Rattle.mscp_packet.proofs.Common.{arith, ◌≡◌, Option, Some, None, refl, sym, ◌∙◌, rules, tests, nat_eq, option_map, YieldsList-from_slice, YieldsList-from_copied, find_from_yields_List, row_of, opcodes}
+use Rattle.mscp_packet.proofs.Common.{arith, ◌≡◌, Option, sym, ◌∙◌, rules, tests, nat_eq, option_map, YieldsList-from_slice, YieldsList-from_copied, find_from_yields_List, row_of, opcodes}
 use Rattle.mscp_packet.proofs.class.opcode_of.Goals as goal
 
 option_map_same : {X : Type 0} (o : Option X) → option_map (λ x. x) o ≡ o

@@ -1,4 +1,4 @@
-use Rattle.mscp_packet.proofs.Common.{arith, List, ℕ, subst, sym, command_fields, IsCommand, IsZeroBeside}
+use Rattle.mscp_packet.proofs.Common.{arith, List, ℕ, subst, sym, command_fields, IsZeroBeside}
 use Rattle.mscp_packet.proofs.Commands.{command_bytes_are_messages, command_zeros}
 use Rattle.mscp_packet.proofs.writing.write_command.Goals as goal
 

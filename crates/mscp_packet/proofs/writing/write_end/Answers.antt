@@ -1,4 +1,4 @@
-use Rattle.mscp_packet.proofs.Common.{arith, List, ℕ, subst, sym, end_fields, IsEnd, IsZeroBeside}
+use Rattle.mscp_packet.proofs.Common.{arith, List, ℕ, subst, sym, end_fields, IsZeroBeside}
 use Rattle.mscp_packet.proofs.Ends.{end_bytes_are_messages, end_zeros}
 use Rattle.mscp_packet.proofs.writing.write_end.Goals as goal
 
