@@ -108,6 +108,5 @@ before_at P j x h l = range_at P 0 j x h (omega arith) (omega (arith, l))
 
 pub last_more : {X : Type 0} (d : Option X) (xs : List X) (o : Option X)
     → last_or d (xs ++ option_to_list o) ≡ option_or o (last_or d xs)
-last_more d [] None = refl
-last_more d [] (Some y) = refl
 last_more d (x ∷ xs) o = last_more (Some x) xs o
+last_more d xs o = search arith

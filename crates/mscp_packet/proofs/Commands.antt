@@ -13,17 +13,14 @@ order_back : (r u : ℕ) (o : Order) → IsValidOrder o → HasRange o
     → let b = command_bytes (command r u o) in o ≡ order_with (opcode_of (slice_index b 8)) b
 order_back r u (orders.Abort other) valid fits = ap orders.Abort (sym (four other fits))
 order_back r u (orders.Status other) valid fits = ap orders.Status (sym (four other fits))
-order_back r u orders.UnitStatus valid fits = refl
 order_back r u (orders.SetController version) valid fits = ap orders.SetController (sym (two version fits))
-order_back r u orders.Available valid fits = refl
-order_back r u orders.Online valid fits = refl
-order_back r u orders.SetUnit valid fits = refl
 order_back r u (orders.Move moves.Access count block) valid fits = search (arith, four)
 order_back r u (orders.Move moves.Erase count block) valid fits = search (arith, four)
 order_back r u (orders.Move moves.Compare count block) valid fits = search (arith, four)
 order_back r u (orders.Move moves.Read count block) valid fits = search (arith, four)
 order_back r u (orders.Move moves.Write count block) valid fits = search (arith, four)
 order_back r u (orders.Invalid byte status) valid fits = absurd valid
+order_back r u o valid fits = refl
 
 -- which is 12 to 64 bytes
 written_span : (o : Order) → (12 ≤ written o) × (written o ≤ 64)

@@ -22,9 +22,8 @@ at_front (u ∷ us) unit (suc i) other h = at_front us unit i other (omega arith
 at_end : (units : List Shape) (unit : Shape) (i : ℕ) (other : Shape) → i ≡ length units
     → get_or (units ++ unit ∷ []) i other ≡ unit
 at_end [] unit zero other h = refl
-at_end [] unit (suc i) other h = absurd (omega arith)
-at_end (u ∷ us) unit zero other h = absurd (omega arith)
 at_end (u ∷ us) unit (suc i) other h = at_end us unit i other (omega arith)
+at_end units unit i other h = absurd (omega arith)
 
 rises_more : (units : List Shape) (unit : Shape) → NumbersRise units → length units < 16
     → list_all (λ u. nat_lt u.number unit.number) units ≡ true → IsUnitList (units ++ unit ∷ [])
