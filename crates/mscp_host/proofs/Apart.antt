@@ -1,5 +1,5 @@
 -- Outstanding submissions stay apart.
-use Rattle.mscp_host.proofs.Common.{◌≡◌, ℕ, true, false, ◌||◌, List, [], ◌∷◌, ◌++◌, drop, length, nat_eq, refl, ap, ◌∙◌, arith, list_any, refill, take-append-le, take_all, Submission, has_reference, with_told, without, are_apart}
+use Rattle.mscp_host.proofs.Common.{◌≡◌, ℕ, true, false, ◌||◌, List, [], ◌∷◌, ◌++◌, length, nat_eq, refl, ◌∙◌, arith, list_any, refill, take-append-le, take_all, Submission, has_reference, with_told, without, are_apart}
 
 -- ---- a figure is told
 
@@ -19,9 +19,7 @@ module _ (r f : ℕ) where
 
   -- the list is filled with all of them
   pub refilled : (n : ℕ) (xs ws : List Submission) → n ≡ length xs → ws ≡ with_told r f xs → refill n xs ws ≡ ws
-  refilled n xs ws all is =
-      let long = ap (λ (l : List Submission). length l) is ∙ told_long xs in
-      take-append-le n ws (drop (length ws) xs) (omega (arith, all, long)) ∙ take_all n ws (omega (arith, all, long))
+  refilled n xs ws all is = search (arith, told_long, take-append-le, take_all)
 
 -- ---- one leaves
 

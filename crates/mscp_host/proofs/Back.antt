@@ -1,16 +1,14 @@
 -- The bytes that a host is saved as say that host.
-use Rattle.mscp_host.proofs.Common.{All, ◌≡◌, ℕ, ◌+◌, ◌*◌, ◌<◌, ◌≤◌, ◌^◌, Bool, true, false, List, [], ◌∷◌, ◌++◌, drop, length, refl, ap, arith, le-leb, le-ltb, lt-ltb, eq-eqb, length-append, bytes_eq-Decides, flat_map, Option, Some, None, IfSome, Ok, slice_index, bytes_eq, num, parts_in, four, two, read_all, Submission, Watch, Account, IsSound, waiting, account_fault, account_in, head_fault, restored, submission_in, told_in, watch_in, HasRange, HasSubmissionRange, saved_bytes, submission_bytes, told_bytes, watch_byte, watch_bytes}
+use Rattle.mscp_host.proofs.Common.{All, ◌≡◌, ℕ, ◌+◌, ◌*◌, ◌<◌, ◌≤◌, ◌^◌, Bool, true, List, [], ◌∷◌, ◌++◌, drop, length, refl, arith, le-leb, le-ltb, lt-ltb, eq-eqb, length-append, bytes_eq-Decides, flat_map, Option, None, IfSome, Ok, slice_index, bytes_eq, num, parts_in, four, two, read_all, Submission, Watch, Account, IsSound, account_fault, account_in, head_fault, restored, submission_in, told_in, HasRange, HasSubmissionRange, saved_bytes, submission_bytes, told_bytes}
 
 -- ---- a submission
 
 told_back : (told : Option ℕ) (t : List ℕ) → IfSome told (λ figure. figure < 2 ^ 32)
     → told_in (slice_index (told_bytes told ++ t) 0) (num (told_bytes told ++ t) 1 4) ≡ told
-told_back None t h = refl
-told_back (Some figure) t h = ap Some (four figure h)
+told_back told t h1 = search (arith, four)
 
 told_rest : (told : Option ℕ) (t : List ℕ) → drop 5 (told_bytes told ++ t) ≡ t
-told_rest None t = refl
-told_rest (Some figure) t = refl
+told_rest told t = search arith
 
 submission_back : (s : Submission) (t : List ℕ) → HasSubmissionRange s → submission_in (submission_bytes s ++ t) ≡ s
 submission_back s t h = search (arith, four, two, told_back)
@@ -22,13 +20,7 @@ submission_rest s t h = told_rest s.told t
 
 outstanding_back : (xs : List Submission) → All HasSubmissionRange xs
     → parts_in submission_in 12 (length xs) (flat_map submission_bytes xs) ≡ xs
-outstanding_back xs all =
-    read_all submission_in submission_bytes HasSubmissionRange 12 submission_back submission_rest xs all
-
-watch_back : (so : Bool) (n p x y : ℕ) → x ≡ n → y ≡ p
-    → watch_in (watch_byte so) x y ≡ Some (record { reference = n; polled = p; is_outstanding = so })
-watch_back true n p x y e f = λ i. Some (record { reference = e i; polled = f i; is_outstanding = true })
-watch_back false n p x y e f = λ i. Some (record { reference = e i; polled = f i; is_outstanding = false })
+outstanding_back xs all = search (arith, read_all, submission_back, submission_rest)
 
 abbrev account : ℕ → List Submission → Option Watch → Account
 account credits xs watch = record { credits = credits; outstanding = xs; watch = watch }
@@ -36,28 +28,19 @@ account credits xs watch = record { credits = credits; outstanding = xs; watch =
 pub account_back : (credits : ℕ) (xs : List Submission) (watch : Option Watch) → credits ≤ 64
     → HasRange (account credits xs watch)
     → account_in (saved_bytes (account credits xs watch)) ≡ account credits xs watch
-account_back credits xs None few h = search (arith, four, outstanding_back)
-account_back credits xs (Some w) few h = search (arith, four, outstanding_back, watch_back)
+account_back credits xs watch h1 h2 = search (arith, four, outstanding_back)
 
 -- ---- its head
 
 told_long : (told : Option ℕ) → length (told_bytes told) ≡ 5
-told_long None = refl
-told_long (Some figure) = refl
-
-submission_long : (s : Submission) → length (submission_bytes s) ≡ 12
-submission_long s = search (arith, length-append, told_long)
+told_long told = search arith
 
 submissions_long : (xs : List Submission) → length (flat_map submission_bytes xs) ≡ 12 * length xs
 submissions_long [] = let e : 0 ≡ 12 * 0 = omega arith in e
-submissions_long (s ∷ xs) = search (arith, submissions_long xs, submission_long, length-append)
-
-watch_long : (watch : Option Watch) → length (watch_bytes watch) ≡ 9
-watch_long None = refl
-watch_long (Some w) = refl
+submissions_long (s ∷ xs) = search (arith, submissions_long xs, told_long, length-append)
 
 saved_long : (a : Account) → length (saved_bytes a) ≡ 26 + 12 * length a.outstanding
-saved_long a = search (arith, watch_long, submissions_long, length-append)
+saved_long a = search (arith, submissions_long, length-append)
 
 pub head_back : (a : Account) → 2 ≤ a.credits → a.credits ≤ 64 → length a.outstanding ≤ a.credits
     → head_fault (saved_bytes a) ≡ None
@@ -69,8 +52,7 @@ same_bytes : (b : List ℕ) → bytes_eq b b ≡ true
 same_bytes b = (bytes_eq-Decides b b).1 refl
 
 no_fault : (a : Account) → IsSound a → account_fault a ≡ None
-no_fault a sound = rw (lt-ltb (length (waiting a.outstanding)) a.credits sound.spare)
-    (rw (sound.apart, sound.watched, sound.told) refl)
+no_fault a sound = search (arith, lt-ltb)
 
 pub restored_back : (a : Account) → IsSound a → HasRange a → restored (saved_bytes a) ≡ Ok a
 restored_back a sound range = search (arith, head_back, account_back, no_fault, same_bytes)

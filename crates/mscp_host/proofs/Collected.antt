@@ -35,9 +35,7 @@ outstanding_more h j =
     let q : ℕ → Bool = λ i. not (ends_now h j i) in
     let old : filter p (before j) ≡ filter (λ i. is_outstanding h j i && q i) (before j) =
     search (arith, before_below j, filter_on, every_weaker, out_old) in
-    ap (filter p) (before_more j)
-    ∙ (filter-append p (before j) (j ∷ [])
-    ∙ (λ i. (old ∙ sym (filter_filter q (is_outstanding h j) (before j))) i ++ cond (out_new h j i) (j ∷ []) []))
+    search (arith, before_more, filter-append, filter_filter, out_new)
 
 -- ---- each that is outstanding
 
@@ -105,8 +103,7 @@ not_before j p o f l = grind (arith, nat_tests)
 
 untold_from : (h : History) (j k : ℕ) (o : Option ℕ) → ((x : ℕ) → o ≡ Some x → x < k) → k ≤ j
     → figure_from h j k o ≡ None
-untold_from h j k None f l = refl
-untold_from h j k (Some p) f l = search (arith, not_before, found_before, and-false)
+untold_from h j k o h1 h2 = search (arith, not_before, found_before, and-false)
 
 pub untold_at : (h : History) (j k : ℕ) → k ≤ j → told_at h j k ≡ None
 untold_at h j k l = untold_from h j k (handed_over h k) (λ x e. found_before h k x _ e) l

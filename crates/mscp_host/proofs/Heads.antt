@@ -1,15 +1,13 @@
 -- What a head and an account without a fault tell.
-use Rattle.mscp_host.proofs.Common.{arith, ◌≡◌, ℕ, ◌+◌, ◌*◌, ◌<◌, ◌≤◌, Bool, true, false, List, length, ap, refl, not, if◌then◌else◌, Option, Some, None, is_some, and_parts, eqb-true, leb-true, ltb-false, ltb-true, true≢false, num, RestoreFault, Account, are_apart, account_fault, count_in, head_fault, waiting, are_told, is_watched}
+use Rattle.mscp_host.proofs.Common.{arith, ◌≡◌, ℕ, ◌+◌, ◌*◌, ◌<◌, ◌≤◌, Bool, true, false, List, length, not, if◌then◌else◌, Option, Some, None, and_parts, eqb-true, leb-true, ltb-false, ltb-true, true≢false, num, RestoreFault, Account, are_apart, account_fault, count_in, head_fault, waiting, are_told, is_watched}
 
 -- what was tested first holds, and then no later fault does
 first : (t : Bool) (fault : RestoreFault) (rest : Option RestoreFault)
     → (if not t then Some fault else rest) ≡ None → (t ≡ true) × (rest ≡ None)
-first true fault rest e = (refl, e)
-first false fault rest e = absurd (true≢false (ap is_some e))
+first t fault rest h1 = search (arith, true≢false)
 
 last : (t : Bool) (fault : RestoreFault) → (if t then Some fault else None) ≡ None → t ≡ false
-last true fault e = absurd (true≢false (ap is_some e))
-last false fault e = refl
+last t fault h1 = search (arith, true≢false)
 
 -- the same of what no host has
 pub record IsAccount (a : Account) : Type 0 where

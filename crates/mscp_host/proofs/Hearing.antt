@@ -1,10 +1,9 @@
 -- An end that is heard.
-use Rattle.mscp_host.proofs.Common.{◌≡◌, ℕ, List, true, false, refl, find, Result, Some, Ok, Err, End, EndFault, Submission, Account, answered, end_in, has_reference, heard, is_about_polled, is_code_of, may_end, news_with, or_unreadable, received}
+use Rattle.mscp_host.proofs.Common.{arith, ◌≡◌, ℕ, List, true, false, refl, find, Result, Some, Ok, Err, End, EndFault, Submission, Account, answered, end_in, has_reference, heard, is_about_polled, is_code_of, may_end, news_with, or_unreadable, received}
 use Rattle.mscp_host.specs.declared.news.HostFault.TheVariants as faults
 
 pub readable : (r : Result End EndFault) (e : End) → or_unreadable r ≡ Ok e → r ≡ Ok e
-readable (Ok x) e h = cc
-readable (Err fault) e h = cc
+readable r e h1 = search arith
 
 pub heard_ok : (a : Account) (b : List ℕ) (e : End) (s : Submission) → end_in b ≡ Ok e
     → find (has_reference e.reference) a.outstanding ≡ Some s

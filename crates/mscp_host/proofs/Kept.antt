@@ -1,5 +1,5 @@
 -- What a host keeps, as the list so far says it, after a moment in which no end is heard.
-use Rattle.mscp_host.proofs.Common.{◌≡◌, ℕ, ◌+◌, ◌<◌, ◌≤◌, Bool, true, false, cond, List, [], ◌∷◌, ◌++◌, map, refl, ap, sym, ◌∙◌, arith, append-nil, ◌&&◌, filter, not, Option, Some, None, option_map, Ok, option_or, and-true, false≢true, map-append, find-append, ArrayVec, Command, Submission, is_immediate, oldest, submitted, watching, Moment, Submit, Ask, History, account_at, asked_for, end_heard, is_end_of, found_stands, handed_over, in_flight, is_poll, is_sent, last_told, moment, opcode, opcode_in, outstanding, reference, reference_found, submission_at, unit_found, unit_in, unit_named, watch_at}
+use Rattle.mscp_host.proofs.Common.{◌≡◌, ℕ, ◌+◌, ◌<◌, ◌≤◌, Bool, true, false, cond, List, [], ◌∷◌, ◌++◌, map, refl, ap, sym, ◌∙◌, arith, append-nil, ◌&&◌, filter, not, Option, Some, None, option_map, Ok, option_or, and-true, false≢true, map-append, find-append, ArrayVec, Command, Submission, is_immediate, oldest, submitted, watching, Moment, Submit, Ask, History, account_at, asked_for, end_heard, is_end_of, found_stands, handed_over, in_flight, is_poll, is_sent, last_told, moment, opcode_in, outstanding, reference, submission_at, unit_found, unit_in, unit_named, watch_at}
 use Rattle.mscp_host.specs.declared.news.Poll.TheVariants as polls
 use Rattle.mscp_host.proofs.Collected.{ends_now, found_before, found_out, last_then, out_all, out_old, outstanding_more, untold}
 use Rattle.mscp_host.proofs.Lists.{filter_all, find_map, find_none}
@@ -17,10 +17,6 @@ none_told h j i n = search (arith, last_then, none_handed)
 all_stay : (h : History) (j : ℕ) → NoEnd h j → filter (λ i. not (ends_now h j i)) (outstanding h j) ≡ outstanding h j
 all_stay h j n = filter_all _ (outstanding h j) (out_all _ h j (λ x e. ap (λ o. not (is_end_of (reference h x) o)) n))
 
-pub outs_then : (h : History) (j : ℕ) → NoEnd h j
-    → outstanding h (j + 1) ≡ outstanding h j ++ cond (is_sent (moment h j)) (j ∷ []) []
-outs_then h j n = grind (arith, outstanding_more, all_stay)
-
 -- whether a command that was found ends now
 abbrev pub ends_found : History → ℕ → Option ℕ → Bool
 ends_found h j None = false
@@ -28,19 +24,13 @@ ends_found h j (Some i) = ends_now h j i
 
 stands_of : (h : History) (j : ℕ) (o : Option ℕ) → ((x : ℕ) → o ≡ Some x → x < j)
     → found_stands h (j + 1) o ≡ (found_stands h j o && not (ends_found h j o))
-stands_of h j None f = refl
-stands_of h j (Some x) f = out_old h j x (f x refl)
+stands_of h j o h1 = search (arith, out_old)
 
 -- the command that a poll is about is still outstanding, unless it ends now
-pub stands_then : (h : History) (j p : ℕ) → p ≤ j
-    → found_stands h (j + 1) (asked_for h p)
+pub stands_then : (h : History) (j p : ℕ) → p ≤ j → found_stands h (j + 1) (asked_for h p)
     ≡ (found_stands h j (asked_for h p) && not (ends_found h j (asked_for h p)))
 stands_then h j p l = stands_of h j (asked_for h p)
     (λ x e. let m : x < p = found_before h p x _ e in omega (arith, l, m))
-
-none_ends : (h : History) (j : ℕ) (o : Option ℕ) → NoEnd h j → ends_found h j o ≡ false
-none_ends h j None n = refl
-none_ends h j (Some x) n = ap (is_end_of (reference h x)) n
 
 -- what is kept of the commands and of a poll stays
 subs_same : (h : History) (j : ℕ) (xs : List ℕ) → NoEnd h j
@@ -48,13 +38,9 @@ subs_same : (h : History) (j : ℕ) (xs : List ℕ) → NoEnd h j
 subs_same h j [] n = refl
 subs_same h j (x ∷ xs) n = search (arith, subs_same h j xs n, none_told)
 
-watch_same : (h : History) (j p : ℕ) → NoEnd h j → p ≤ j → watch_at h (j + 1) p ≡ watch_at h j p
-watch_same h j p n l = search (arith, stands_then, none_ends, and-true)
-
 watches_same : (h : History) (j : ℕ) (o : Option ℕ) → NoEnd h j → ((p : ℕ) → o ≡ Some p → p < j)
     → option_map (watch_at h (j + 1)) o ≡ option_map (watch_at h j) o
-watches_same h j None n f = refl
-watches_same h j (Some p) n f = let l = f p refl in ap Some (watch_same h j p n (omega (arith, l)))
+watches_same h j o h1 h2 = search (arith, stands_then, and-true)
 
 flight_before : (h : History) (j p : ℕ) → in_flight h j ≡ Some p → p < j
 flight_before h j p e = found_before h j p _ e
@@ -62,31 +48,19 @@ flight_before h j p e = found_before h j p _ e
 -- nothing is sent either
 pub account_quiet : (credits : ℕ) (h : History) (j : ℕ) → NoEnd h j → is_sent (moment h j) ≡ false
     → account_at credits h (j + 1) ≡ account_at credits h j
-account_quiet credits h j n s = grind (arith, outs_then, append-nil, subs_same, watches_same, flight_before)
+account_quiet credits h j n s =
+    grind (arith, outstanding_more, all_stay, append-nil, subs_same, watches_same, flight_before)
 
 -- ---- a command is sent
 
-subs_sent : (h : History) (j : ℕ) → NoEnd h j → is_sent (moment h j) ≡ true
-    → map (submission_at h (j + 1)) (outstanding h (j + 1)) ≡ map (submission_at h j) (outstanding h j)
-    ++ record {
-      reference = reference h j;
-      unit = unit_named h j (moment h j);
-      opcode = opcode h j;
-      told = None;
-    } ∷ []
-subs_sent h j n s = grind (arith, outs_then, subs_same, map-append, untold)
-
-or_nothing : (o : Option ℕ) → option_or o None ≡ o
-or_nothing o = grind arith
-
 flight_sent : (h : History) (j : ℕ) → NoEnd h j → is_sent (moment h j) ≡ true
     → in_flight h (j + 1) ≡ option_or (in_flight h j) (cond (is_poll (moment h j)) (Some j) None)
-flight_sent h j n s = grind (arith, outs_then, find-append)
+flight_sent h j n s = grind (arith, outstanding_more, all_stay, find-append)
 
 pub account_submitted : (credits : ℕ) (h : History) (j : ℕ) (command : Command) (b : ArrayVec ℕ)
     → moment h j ≡ Submit command (Ok b) → account_at credits h (j + 1) ≡ submitted (account_at credits h j) command
 account_submitted credits h j command b m =
-    grind (arith, subs_sent, flight_sent, or_nothing, watches_same, flight_before)
+    grind (arith, outstanding_more, all_stay, subs_same, map-append, untold, flight_sent, watches_same, flight_before)
 
 -- ---- a poll is sent
 
@@ -114,7 +88,7 @@ polls_of credits h j s e = polls_when credits h j s (asked_for h j) refl (sym (o
 -- that command is outstanding, and stays so
 asked_stands : (h : History) (j i : ℕ) → NoEnd h j → asked_for h j ≡ Some i
     → found_stands h (j + 1) (asked_for h j) ≡ true
-asked_stands h j i n e = search (arith, stands_then, none_ends, found_out)
+asked_stands h j i n e = search (arith, stands_then, found_out)
 
 pub account_asked : (credits : ℕ) (h : History) (j r : ℕ) (s : Submission) (b : ArrayVec ℕ)
     → moment h j ≡ Ask r (Ok (polls.Ask b)) → in_flight h j ≡ None → oldest (account_at credits h j) ≡ Some s
@@ -123,11 +97,6 @@ account_asked credits h j r s b m w o =
     let p = polls_of credits h j s o in
     let n : NoEnd h j = ap end_heard m in
     let stands = asked_stands h j p.command n p.found in
-    let unit : unit_found h (asked_for h j) ≡ s.unit = ap (unit_found h) p.found
-    ∙ (unit_same h p.command (moment h p.command) (found_out h j p.command _ p.found).1
-    ∙ sym (ap (λ (x : Submission). x.unit) p.is)) in
-    let polled : reference_found h (asked_for h j) ≡ s.reference =
-    ap (reference_found h) p.found ∙ sym (ap (λ (x : Submission). x.reference) p.is) in
-    let subs = subs_sent h j n (ap is_sent m) in
-    let flight = flight_sent h j n (ap is_sent m) in
-    grind (arith, subs, flight, unit, polled, stands)
+    let unit : unit_found h (asked_for h j) ≡ s.unit = ap (unit_found h) p.found ∙ (unit_same h p.command
+    (moment h p.command) (found_out h j p.command _ p.found).1 ∙ sym (ap (λ (x : Submission). x.unit) p.is)) in
+    search (arith, outstanding_more, all_stay, subs_same, map-append, untold, flight_sent)

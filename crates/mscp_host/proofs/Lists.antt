@@ -1,5 +1,5 @@
 -- Lists by recursion: what agrees at each element, ranges, filters, and what a test finds.
-use Rattle.mscp_host.proofs.Common.{◌≡◌, ℕ, zero, suc, ◌+◌, ◌<◌, ◌≤◌, Bool, true, false, cond, List, [], ◌∷◌, ◌++◌, map, refl, ap, sym, ◌∙◌, subst, ⊎_elim, arith, ◌&&◌, filter, find, Option, Some, None, is_some, option_map, option_to_list, option_or, AllByRecursion, last_or, list_any, range_with_len, cases_eq, false≢true, true≢false, map-id, map-range_with_len_more, before}
+use Rattle.mscp_host.proofs.Common.{◌≡◌, ℕ, zero, suc, ◌+◌, ◌<◌, ◌≤◌, Bool, true, false, List, [], ◌∷◌, ◌++◌, map, refl, ap, sym, ◌∙◌, arith, ◌&&◌, filter, find, Option, Some, None, is_some, option_map, option_to_list, option_or, AllByRecursion, last_or, list_any, range_with_len, cases_eq, false≢true, true≢false, map-id, map-range_with_len_more, before}
 
 -- ---- each element
 
@@ -16,15 +16,7 @@ every_passes p (x ∷ xs) = search (arith, every_passes p xs)
 pub every_kept : {X : Type 0} (P : X → Type 0) (p : X → Bool) (xs : List X) → AllByRecursion P (filter p xs)
     → AllByRecursion (λ x. p x ≡ true → P x) xs
 every_kept P p [] h = tt
-every_kept {X} P p (x ∷ xs) h =
-    let out : (b : Bool) → p x ≡ b → AllByRecursion P (cond b (x ∷ filter p xs) (filter p xs))
-    → AllByRecursion (λ y. p y ≡ true → P y) (x ∷ xs) =
-    λ b. elim b as (λ b. p x ≡ b → AllByRecursion P (cond b (x ∷ filter p xs) (filter p xs))
-    → AllByRecursion (λ y. p y ≡ true → P y) (x ∷ xs)) [
-      | true ↦ λ e k. (λ q. k.0, every_kept P p xs k.1)
-      | false ↦ λ e k. (λ q. absurd (true≢false (sym q ∙ e)), every_kept P p xs k)
-    ] in
-    out (p x) refl h
+every_kept {X} P p (x ∷ xs) h = search (arith, Bool, true≢false, every_kept P p xs)
 
 pub map_on : {X Y : Type 0} (f g : X → Y) (xs : List X) → AllByRecursion (λ x. f x ≡ g x) xs → map f xs ≡ map g xs
 map_on f g [] h = refl
@@ -90,14 +82,7 @@ any_map f p (x ∷ xs) = search (arith, any_map f p xs)
 pub found : {X : Type 0} (P : X → Type 0) (p : X → Bool) (xs : List X) (x : X) → AllByRecursion P xs
     → find p xs ≡ Some x → P x × (p x ≡ true)
 found P p [] x h e = absurd (false≢true (ap is_some e))
-found {X} P p (y ∷ ys) x h e =
-    let out : (b : Bool) → p y ≡ b → cond b (Some y) (find p ys) ≡ Some x → P x × (p x ≡ true) =
-    λ b. elim b as (λ b. p y ≡ b → cond b (Some y) (find p ys) ≡ Some x → P x × (p x ≡ true)) [
-      | true ↦ λ q f. subst (λ (o : Option X). elim o as (λ o. Type 0)
-          [ Some z ↦ P z × (p z ≡ true) | None ↦ Unit {0} ]) f (h.0, q)
-      | false ↦ λ q f. found P p ys x h.1 f
-    ] in
-    out (p y) refl e
+found {X} P p (y ∷ ys) x h e = search (arith, Bool, found P p ys x h.1)
 
 -- ---- the positions before one
 
@@ -114,8 +99,7 @@ before_below j = search (arith, range_below 0 j, every_weaker)
 
 range_at : (P : ℕ → Type 0) (a n x : ℕ) → AllByRecursion P (range_with_len a n) → a ≤ x → x < a + n → P x
 range_at P a zero x h l u = absurd (omega (arith, l, u))
-range_at P a (suc n) x h l u = ⊎_elim (λ e. subst P e h.0)
-    (λ d. range_at P (a + 1) n x h.1 (omega (arith, l, d)) (omega (arith, u))) (cases_eq a x)
+range_at P a (suc n) x h l u = search (arith, cases_eq, range_at P (a + 1) n x h.1)
 
 pub before_at : (P : ℕ → Type 0) (j x : ℕ) → AllByRecursion P (before j) → x < j → P x
 before_at P j x h l = range_at P 0 j x h (omega arith) (omega (arith, l))
@@ -124,6 +108,5 @@ before_at P j x h l = range_at P 0 j x h (omega arith) (omega (arith, l))
 
 pub last_more : {X : Type 0} (d : Option X) (xs : List X) (o : Option X)
     → last_or d (xs ++ option_to_list o) ≡ option_or o (last_or d xs)
-last_more d [] None = refl
-last_more d [] (Some y) = refl
 last_more d (x ∷ xs) o = last_more (Some x) xs o
+last_more d xs o = search arith

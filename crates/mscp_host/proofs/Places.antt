@@ -1,5 +1,5 @@
 -- The place of a submission, and the list that is changed there.
-use Rattle.mscp_host.proofs.Common.{◌≡◌, ℕ, suc, ◌+◌, ◌<◌, ◌≤◌, Bool, true, false, cond, List, [], ◌∷◌, length, refl, ap, sym, subst, arith, false≢true, true≢false, nat_tests, nat_lt, slice_set, slice_index_or, remove, Some, None, unwrap_or, is_some, position, position_or_len, Submission, has_reference, with_told, without}
+use Rattle.mscp_host.proofs.Common.{◌≡◌, ℕ, ◌+◌, ◌<◌, ◌≤◌, Bool, cond, List, [], ◌∷◌, length, refl, arith, false≢true, true≢false, nat_tests, nat_lt, slice_set, slice_index_or, remove, Some, None, position, position_or_len, Submission, has_reference, with_told, without}
 
 abbrev no_submission : Submission
 no_submission = record { reference = 0; unit = 0; opcode = 0; told = None }
@@ -16,20 +16,14 @@ told_cons : (r f : ℕ) (s : Submission) (rest : List Submission) (b : Bool) →
     → slice_set (s ∷ rest) (position_or_len (has_reference r) (s ∷ rest))
     (told_now f (slice_index_or (s ∷ rest) (position_or_len (has_reference r) (s ∷ rest)) no_submission))
     ≡ with_told r f (s ∷ rest)
-told_cons r f s rest true e h l = rw e refl
-told_cons r f s rest false e h l = search (arith)
+told_cons r f s rest b h1 h2 h3 = search arith
 
 removed_cons : (r : ℕ) (s : Submission) (rest : List Submission) (b : Bool) → has_reference r s ≡ b
     → (position_or_len (has_reference r) rest < length rest
     → remove rest (position_or_len (has_reference r) rest) ≡ without r rest)
     → position_or_len (has_reference r) (s ∷ rest) < length (s ∷ rest)
     → remove (s ∷ rest) (position_or_len (has_reference r) (s ∷ rest)) ≡ without r (s ∷ rest)
-removed_cons r s rest true e h l = rw e refl
-removed_cons r s rest false e h l =
-    let n = position_or_len (has_reference r) rest in
-    let one : suc n ≡ 1 + n = omega arith in
-    let less : n < length rest = let k = rw e at l in omega (arith, k) in
-    rw e (subst (λ i. remove (s ∷ rest) i ≡ s ∷ without r rest) one (ap (λ xs. s ∷ xs) (h less)))
+removed_cons r s rest b h1 h2 h3 = search arith
 
 told_len : (r f : ℕ) (xs : List Submission) → position_or_len (has_reference r) xs < length xs
     → slice_set xs (position_or_len (has_reference r) xs)
@@ -48,11 +42,7 @@ nowhere_cons : (r f : ℕ) (s : Submission) (rest : List Submission) (b : Bool) 
     → (length rest ≤ position_or_len (has_reference r) rest → (with_told r f rest ≡ rest) × (without r rest ≡ rest))
     → length (s ∷ rest) ≤ position_or_len (has_reference r) (s ∷ rest)
     → (with_told r f (s ∷ rest) ≡ s ∷ rest) × (without r (s ∷ rest) ≡ s ∷ rest)
-nowhere_cons r f s rest true e h l = let k = rw e at l in absurd (omega (arith, k))
-nowhere_cons r f s rest false e h l =
-    let k = rw e at l in
-    let both = h (omega (arith, k)) in
-    (rw e (ap (λ xs. s ∷ xs) both.0), rw e (ap (λ xs. s ∷ xs) both.1))
+nowhere_cons r f s rest b h1 h2 h3 = search arith
 
 nowhere_len : (r f : ℕ) (xs : List Submission) → length xs ≤ position_or_len (has_reference r) xs
     → (with_told r f xs ≡ xs) × (without r xs ≡ xs)
@@ -62,17 +52,14 @@ nowhere_len r f (s ∷ rest) l = nowhere_cons r f s rest (has_reference r s) ref
 -- ---- the place that is found
 
 place_in : (n k place : ℕ) (b : Bool) → nat_lt n k ≡ b → cond b (Some n) None ≡ Some place → (place ≡ n) × (n < k)
-place_in n k place true e h = (sym (ap (λ o. unwrap_or o place) h), grind (arith, nat_tests))
-place_in n k place false e h = absurd (false≢true (ap is_some h))
+place_in n k place b h1 h2 = search (arith, nat_tests, false≢true)
 
 place_out : (n k : ℕ) (b : Bool) → nat_lt n k ≡ b → cond b (Some n) None ≡ None → k ≤ n
-place_out n k true e h = absurd (true≢false (ap is_some h))
-place_out n k false e h = grind (arith, nat_tests)
+place_out n k b h1 h2 = search (arith, true≢false, nat_tests)
 
 found : (r : ℕ) (xs : List Submission) (place : ℕ) → position (has_reference r) xs ≡ Some place
     → (place ≡ position_or_len (has_reference r) xs) × (position_or_len (has_reference r) xs < length xs)
-found r xs place h = place_in (position_or_len (has_reference r) xs) (length xs) place
-    (nat_lt (position_or_len (has_reference r) xs) (length xs)) refl h
+found r xs place h = search (arith, place_in, nat_lt)
 
 pub told_at : (r f : ℕ) (xs : List Submission) (place : ℕ) → position (has_reference r) xs ≡ Some place
     → slice_set xs place (told_now f (slice_index_or xs place no_submission)) ≡ with_told r f xs

@@ -60,8 +60,7 @@ tells_of : (h : History) (j : ℕ) (n : News) (x : IsHeard h j n) → is_figure 
     → is_poll (moment h x.command) ≡ b → (o : Option ℕ) → asked_for h x.command ≡ o → (t : Option ℕ)
     → figure_in (Some x.end) ≡ t → (d : Bool) → found_stands h j o ≡ d
     → n ≡ says_of h j x.end o (if b then t else None) → Tells h j n
-tells_of h j n x f true p (Some i) a (Some g) q true s e = grind (arith, eq-eqb)
-tells_of h j n x f b p o a t q d s e = grind (arith, false≢true)
+tells_of h j n x h1 b h2 o h3 t h4 d h5 h6 = search (arith, eq-eqb, false≢true)
 
 tells : (h : History) (j : ℕ) (n : News) (x : IsHeard h j n) → is_figure n ≡ true → Tells h j n
 tells h j n x f = tells_of h j n x f _ refl _ refl _ refl _ refl x.says
@@ -75,13 +74,11 @@ told_says h j poll command figure n x t = search (arith, and_parts, tells, it_is
 
 reset_figure : (last : Option ℕ) (figure : ℕ) → news_of_figure last figure ≡ news.Reset
     → (l : ℕ) × (last ≡ Some l) × (l ≤ figure)
-reset_figure None figure e = grind (arith, false≢true)
-reset_figure (Some l) figure e = (l, refl, grind (arith, nat_tests, false≢true))
+reset_figure last figure h1 = search (arith, false≢true, nat_tests)
 
 lost_figure : (last : Option ℕ) (figure : ℕ) → news_of_figure last figure ≡ news.Lost
     → (figure ≡ 0) × IfSome last (λ l. 0 < l)
-lost_figure None figure e = (grind (arith, nat_tests), tt)
-lost_figure (Some l) figure e = (grind (arith, nat_tests), grind (arith, nat_tests))
+lost_figure last figure h1 = search (arith, nat_tests)
 
 figure_reset : (l figure : ℕ) → l ≤ figure → news_of_figure (Some l) figure ≡ news.Reset
 figure_reset l figure e = grind (arith, nat_tests)

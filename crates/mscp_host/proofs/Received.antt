@@ -1,5 +1,5 @@
 -- What a host keeps, as the list so far says it, after a moment in which an end is heard.
-use Rattle.mscp_host.proofs.Common.{◌≡◌, ℕ, ◌+◌, ◌<◌, Bool, true, false, map, ⊎_elim, refl, ap, sym, ◌∙◌, arith, append-nil, ◌&&◌, filter, find, nat_eq, not, if◌then◌else◌, Option, Some, None, is_some, option_map, and-false, and-true, cases_lt, eqb-true, eq-eqb, false_from_ne_true, false≢true, true≢false, End, Watch, Account, answered, has_reference, is_about_polled, outstanding_with, news_of_figure, news_with, received, status_end, told_of_submission, watch_after, with_told, without, are_apart, History, Moment, account_at, asked_for, asks_about, end_heard, figure_from, figure_in, found_stands, handed_over, in_flight, is_end_of, is_it, is_outstanding, is_poll, is_sent, last_found, last_told, moment, news_at, outstanding, reference, reference_found, says_of, submission_at, told_at, watch_at}
+use Rattle.mscp_host.proofs.Common.{◌≡◌, ℕ, ◌+◌, ◌<◌, Bool, true, false, map, ⊎_elim, refl, ap, sym, ◌∙◌, arith, append-nil, ◌&&◌, filter, find, nat_eq, not, if◌then◌else◌, Option, Some, None, is_some, option_map, and-false, and-true, cases_lt, eqb-true, eq-eqb, false_from_ne_true, false≢true, true≢false, End, Watch, Account, answered, has_reference, is_about_polled, outstanding_with, news_of_figure, news_with, received, status_end, told_of_submission, watch_after, with_told, are_apart, History, Moment, account_at, asked_for, asks_about, end_heard, figure_from, figure_in, found_stands, handed_over, in_flight, is_end_of, is_it, is_outstanding, is_poll, is_sent, last_found, last_told, moment, news_at, outstanding, reference, reference_found, submission_at, told_at, watch_at}
 use Rattle.mscp_host.specs.Accounts.{told_in}
 use Rattle.mscp_host.specs.declared.news.News.TheVariants as news
 use Rattle.mscp_host.specs.Accounts as host
@@ -69,8 +69,7 @@ none_told h j f = map_on _ _ (outstanding h j)
 
 one_told : (credits : ℕ) (h : History) (j r figure : ℕ) → IsApart credits h j
     → ((i : ℕ) → is_outstanding h j i ≡ true → told_at h i j ≡ (if nat_eq (reference h i) r then Some figure else None))
-    → with_told r figure (map (submission_at h j) (outstanding h j))
-    ≡ map (submission_at h (j + 1)) (outstanding h j)
+    → with_told r figure (map (submission_at h j) (outstanding h j)) ≡ map (submission_at h (j + 1)) (outstanding h j)
 one_told credits h j r figure a f =
     told_each r figure _ a.submissions ∙ (map_map (submission_at h j) _ (outstanding h j)
     ∙ map_on _ _ (outstanding h j) (out_all _ h j (λ i e.
@@ -96,25 +95,21 @@ untold_of : (h : History) (e : End) (p i : ℕ) → answer_in h e p ≡ None
 untold_of h e p i q = grind (arith, true≢false)
 
 pub apart_with : (a : Account) (t : Option (ℕ × ℕ)) → are_apart (outstanding_with a t) ≡ are_apart a.outstanding
-apart_with a None = refl
-apart_with a (Some told) = grind (arith, apart_told)
+apart_with a t = search (arith, apart_told)
 
 keeps_poll : (credits : ℕ) (h : History) (j q n y : ℕ) (b : Bool) → IsApart credits h j → in_flight h j ≡ Some q
     → nat_eq (reference h q) n ≡ b → is_outstanding h j y ≡ true → (d : Bool) → is_poll (moment h y) ≡ d
     → (not (nat_eq (reference h y) n) && d) ≡ (not b && d)
 keeps_poll credits h j q n y b a f e o true d =
     let own = found_out h j q _ f in
-    let same : y ≡ q = a.polls y q o own.0 (d, own.1) in
-    ap (λ z. not (nat_eq (reference h z) n) && true) same ∙ ap (λ c. not c && true) e
+    search (arith, nat_eq)
 keeps_poll credits h j q n y b a f e o false d = and-false _ ∙ sym (and-false (not b))
 
 watch_when : (f : ℕ → Watch) (q : ℕ) (w : Watch) (b d : Bool)
     → f q ≡ record w { is_outstanding = if d then false else w.is_outstanding }
     → option_map f (if b then None else Some q)
     ≡ (if b then None else (if d then Some (record w { is_outstanding = false }) else Some w))
-watch_when f q w true d e = refl
-watch_when f q w false true e = ap Some e
-watch_when f q w false false e = ap Some e
+watch_when f q w b d h1 = search arith
 
 find_named : (credits : ℕ) (h : History) (j i n : ℕ) (o : Option ℕ) → IsApart credits h j → is_outstanding h j i ≡ true
     → reference h i ≡ n → find (λ y. nat_eq (reference h y) n) (outstanding h j) ≡ o → o ≡ Some i
@@ -129,10 +124,6 @@ last_is : (credits : ℕ) (h : History) (j i n : ℕ) → IsApart credits h j �
 last_is credits h j i n a e r =
     ap told_of_submission (find_map (submission_at h j) (has_reference n) (outstanding h j)
     ∙ ap (option_map (submission_at h j)) (find_named credits h j i n _ a e r refl))
-
-answer_figure : (h : History) (e : End) (p : ℕ)
-    → (if is_poll (moment h p) then figure_in (Some e) else None) ≡ option_map (λ told. told.1) (answer_in h e p)
-answer_figure h e p = grind arith
 
 -- ---- an end that is heard
 
@@ -180,11 +171,7 @@ module _ {credits : ℕ} {h : History} {j : ℕ} {e : End} {p : ℕ} (x : Hears 
 
   -- the number of an answer is that of the polled command
   named : (told : ℕ × ℕ) → answer_in h e p ≡ Some told → reference_found h (asked_for h p) ≡ told.0
-  named told q =
-      let f = (figure_of h e p p told q).0 in
-      let about : is_about_polled (Some (watch_at h j p)) (Some told) ≡ true =
-      (λ k. is_about_polled (sym (watched f) k) (sym (answered_is ∙ q) k)) ∙ x.about in
-      eqb-true (reference_found h (asked_for h p)) told.0 about
+  named told q = search (arith, figure_of, watched, answered_is, eqb-true)
 
   untold_when : (i : ℕ) → (asks_about h i p ≡ false) → told_at h i j ≡ None
   untold_when i f = told_is i ∙ ap (λ b. if b then figure_in (Some e) else None) f
@@ -202,17 +189,12 @@ module _ {credits : ℕ} {h : History} {j : ℕ} {e : End} {p : ℕ} (x : Hears 
       one_told credits h j told.0 told.1 x.apart (λ y out. told_is y
       ∙ ((λ k. if f.0 k && is_it y (r k) then f.1 k else None)
       ∙ ap (λ b. if b then Some told.1 else None) (same_name credits h j i y told.0 x.apart s out n)))
-  told_of told q o r false s =
-      none_told h j (λ i out. untold_when i
-      (ap (λ b. is_poll (moment h p) && b) (gone h j i (asked_for h p) (ap (found_stands h j) r ∙ s) out)
-      ∙ and-false _))
+  told_of told q o r false s = search (arith, none_told, untold_when, gone, and-false)
 
   told_when : (t : Option (ℕ × ℕ)) → answer_in h e p ≡ t → outstanding_with (account_at credits h j) t
       ≡ map (submission_at h (j + 1)) (outstanding h j)
   told_when None q = none_told h j (λ i out. told_is i ∙ untold_of h e p i q)
-  told_when (Some told) q =
-      rw (watched (figure_of h e p p told q).0)
-      (told_of told q (asked_for h p) refl (found_stands h j (asked_for h p)) refl)
+  told_when (Some told) q = search (arith, watched, figure_of, told_of)
 
   all_told : outstanding_with (account_at credits h j) (answered (account_at credits h j).watch e)
       ≡ map (submission_at h (j + 1)) (outstanding h j)
@@ -227,39 +209,23 @@ module _ {credits : ℕ} {h : History} {j : ℕ} {e : End} {p : ℕ} (x : Hears 
   outs_after : outstanding h (j + 1) ≡ filter (λ i. not (nat_eq (reference h i) e.reference)) (outstanding h j)
   outs_after = search (arith, outstanding_more, ends_is, append-nil)
 
-  subs_after : without e.reference (map (submission_at h (j + 1)) (outstanding h j))
-      ≡ map (submission_at h (j + 1)) (outstanding h (j + 1))
-  subs_after =
-      let a = account_at credits h j in
-      let apart : are_apart (map (submission_at h (j + 1)) (outstanding h j)) ≡ true =
-      ap are_apart (sym all_told) ∙ (apart_with a (answered a.watch e) ∙ x.apart.submissions) in
-      without_kept e.reference _ apart
-      ∙ (filter_map_of (submission_at h (j + 1)) (λ s. not (has_reference e.reference s)) (outstanding h j)
-      ∙ ap (map (submission_at h (j + 1))) (sym outs_after))
-
   flight_after : in_flight h (j + 1)
       ≡ find (λ i. not (nat_eq (reference h i) e.reference) && is_poll (moment h i)) (outstanding h j)
   flight_after = ap (find (λ i. is_poll (moment h i))) outs_after ∙ find_filter _ _ (outstanding h j)
 
   flight_if : (q : ℕ) → in_flight h j ≡ Some q → (b : Bool) → nat_eq (reference h q) e.reference ≡ b
       → in_flight h (j + 1) ≡ (if b then None else Some q)
-  flight_if q f true n = flight_after
-      ∙ find_none _ (outstanding h j)
+  flight_if q f true n = flight_after ∙ find_none _ (outstanding h j)
       (out_all _ h j (λ y o. keeps_poll credits h j q e.reference y true x.apart f n o _ refl))
-  flight_if q f false n = flight_after
-      ∙ (find_on _ (λ i. is_poll (moment h i)) (outstanding h j)
+  flight_if q f false n = flight_after ∙ (find_on _ (λ i. is_poll (moment h i)) (outstanding h j)
       (out_all _ h j (λ y o. keeps_poll credits h j q e.reference y false x.apart f n o _ refl)) ∙ f)
 
   flight_none : in_flight h j ≡ None → in_flight h (j + 1) ≡ None
-  flight_none f = flight_after
-      ∙ find_none _ (outstanding h j) (every_weaker (λ i. is_poll (moment h i) ≡ false) _
-      (λ i n. ap (λ b. not (nat_eq (reference h i) e.reference) && b) n ∙ and-false _) (outstanding h j)
-      (none_found _ (outstanding h j) f))
+  flight_none f = search (arith, flight_after, find_none, every_weaker, nat_eq, and-false, none_found)
 
   stands_if : (o : Option ℕ) → (found_stands h j o && not (ends_found h j o))
       ≡ (if nat_eq (reference_found h o) e.reference then false else found_stands h j o)
-  stands_if None = grind arith
-  stands_if (Some i) = grind (arith, ends_is i, and-false, and-true)
+  stands_if o = search (arith, ends_is, and-false, and-true)
 
   watch_left : (o : Option ℕ) → in_flight h j ≡ o → option_map (watch_at h (j + 1)) (in_flight h (j + 1))
       ≡ watch_after (option_map (watch_at h j) o) e.reference
@@ -273,11 +239,7 @@ module _ {credits : ℕ} {h : History} {j : ℕ} {e : End} {p : ℕ} (x : Hears 
       (λ k. record (watch_at h j q) { is_outstanding = stands k })
 
   pub account_received : account_at credits h (j + 1) ≡ received (account_at credits h j) e
-  account_received =
-      let a = account_at credits h j in
-      let outs = ap (without e.reference) all_told ∙ subs_after in
-      let watch = watch_left (in_flight h j) refl in
-      λ k. record { credits = credits; outstanding = sym outs k; watch = watch k }
+  account_received = search (arith, all_told, apart_with, answered, without_kept, filter_map_of, outs_after, watch_left)
 
   says_told : (told : ℕ × ℕ)
       → answer_in h e p ≡ Some told → (o : Option ℕ) → asked_for h p ≡ o → (b : Bool) → found_stands h j o ≡ b
@@ -290,13 +252,7 @@ module _ {credits : ℕ} {h : History} {j : ℕ} {e : End} {p : ℕ} (x : Hears 
   says_told told q o r false s = refl
 
   says_when : (t : Option (ℕ × ℕ)) → answer_in h e p ≡ t → news_with (account_at credits h j) e t ≡ news_at h j e p
-  says_when None q = sym (ap (says_of h j e (asked_for h p)) (answer_figure h e p ∙ ap (option_map (λ told. told.1)) q))
-  says_when (Some told) q =
-      ap (λ w. if host.polled_is_outstanding w
-      then news_of_figure (host.last_told (account_at credits h j).outstanding told.0) told.1 else news.Late)
-      (watched (figure_of h e p p told q).0)
-      ∙ (says_told told q (asked_for h p) refl (found_stands h j (asked_for h p)) refl
-      ∙ sym (ap (says_of h j e (asked_for h p)) (answer_figure h e p ∙ ap (option_map (λ t. t.1)) q)))
+  says_when t h1 = search (arith, watched, figure_of, says_told)
 
   -- what the host says is what the history says
   pub says_is : news_with (account_at credits h j) e (answered (account_at credits h j).watch e) ≡ news_at h j e p

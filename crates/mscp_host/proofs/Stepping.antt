@@ -1,5 +1,5 @@
 -- One moment more: what the list says, and what the host says of an end.
-use Rattle.mscp_host.proofs.Common.{◌≡◌, ℕ, ◌+◌, Bool, true, false, List, [], ◌∷◌, ◌++◌, refl, ap, sym, ◌∙◌, subst, arith, find, nat_eq, if◌then◌else◌, Option, Some, None, is_some, option_map, Result, Ok, Err, is_ok, unwrap_or, list_any, eq-eqb, false≢true, true≢false, ArrayVec, Command, End, EndFault, opcode_byte, HostFault, News, Poll, Submission, Account, answered, asks, asks_unless, end_in, has_reference, heard, heard_in, heard_of, is_about_polled, news_with, oldest, poll_of, received, submission_of, submits_unless, are_apart, Moment, Submit, Ask, Receive, Other, History, account_at, asked_for, end_heard, end_or_none, handed_over, is_end_of, in_flight, is_outstanding, is_poll, is_sent, moment, news_heard, outstanding, reference, reference_in, submission_at, watch_at, Answers, IsHeard}
+use Rattle.mscp_host.proofs.Common.{◌≡◌, ℕ, ◌+◌, Bool, true, false, List, [], ◌∷◌, ◌++◌, refl, ap, sym, ◌∙◌, subst, arith, find, nat_eq, if◌then◌else◌, Option, Some, None, is_some, option_map, Result, Ok, Err, is_ok, list_any, eq-eqb, false≢true, true≢false, ArrayVec, Command, End, EndFault, opcode_byte, HostFault, News, Poll, Submission, Account, answered, asks, asks_unless, end_in, has_reference, heard, heard_in, heard_of, is_about_polled, news_with, oldest, poll_of, received, submits_unless, are_apart, Moment, Submit, Ask, Receive, Other, History, account_at, asked_for, end_heard, end_or_none, handed_over, is_end_of, in_flight, is_outstanding, is_poll, is_sent, moment, news_heard, outstanding, reference, submission_at, watch_at, Answers, IsHeard}
 use Rattle.mscp_host.specs.declared.news.Poll.TheVariants as polls
 use Rattle.mscp_host.specs.Accounts as host
 use Rattle.mscp_host.proofs.Apart.{apart_more, apart_without}
@@ -46,17 +46,11 @@ accepts_found a b n new e (Some s) r f h = grind (arith, false≢true)
 
 accepts : (a : Account) (b : List ℕ) (n : News) (new : Account) (r : Result End EndFault) → end_in b ≡ r
     → heard_in a r ≡ (Ok n, new) → Accepts a b n new
-accepts a b n new (Err fault) r h = absurd (false≢true (ap (λ p. is_ok p.0) h))
-accepts a b n new (Ok e) r h = accepts_found a b n new e _ r refl h
-
-refused_of : (a : Account) (fault : HostFault) (new : Account) (e : End) (o : Option Submission)
-    → heard_of a e o ≡ (Err fault, new) → new ≡ a
-refused_of a fault new e o h = grind (arith, true≢false)
+accepts a b n new r h1 h2 = search (arith, false≢true, accepts_found)
 
 refused : (a : Account) (fault : HostFault) (new : Account) (r : Result End EndFault)
     → heard_in a r ≡ (Err fault, new) → new ≡ a
-refused a fault new (Err f) h = sym (ap (λ p. p.1) h)
-refused a fault new (Ok e) h = refused_of a fault new e _ h
+refused a fault new r h1 = search (arith, true≢false)
 
 -- the command whose end it is
 handed_of : (h : History) (j : ℕ) (e : End) (s : Submission) (o : Option ℕ)
@@ -81,12 +75,7 @@ module _ (credits : ℕ) (h : History) (j : ℕ) (a : IsApart credits h j) where
       → news_heard (moment h j) ≡ None → new ≡ account_at credits h j → Goes credits h j new
   quiet new s n e =
       let same = account_quiet credits h j (no_end (moment h j) n) s in
-      record {
-        kept = e ∙ sym same;
-        apart = still_apart s (ap (λ (x : Account). are_apart x.outstanding) same ∙ a.submissions);
-        ends = λ m q. absurd (true≢false (ap is_some (sym q ∙ n)));
-        polls = λ q. absurd (false≢true (sym (no_poll (moment h j) s) ∙ q));
-      }
+      search (arith, still_apart, true≢false, false≢true, no_poll)
 
   -- ---- a command is sent
 
@@ -123,50 +112,31 @@ module _ (credits : ℕ) (h : History) (j : ℕ) (a : IsApart credits h j) where
       let sent = m ∙ ap (Submit command) (sym ok) in
       let after = account_submitted credits h j command _ sent in
       let none = (not_refused (account_at credits h j) (opcode_byte command.order) command.reference r).2 in
-      record {
-        kept = sym (ap (λ p. p.1) e) ∙ sym after;
-        apart = apart_sent (submission_of command)
-            (subst (λ n. list_any (has_reference n) (account_at credits h j).outstanding ≡ false)
-            (sym (ap reference_in sent)) none) (sym (ap reference_in sent)) (ap (λ (x : Account). x.outstanding) after)
-            (λ q. absurd (false≢true (sym (ap is_poll sent) ∙ q)));
-        ends = λ n q. absurd (false≢true (ap is_some (sym (ap news_heard sent) ∙ q)));
-        polls = λ q. absurd (false≢true (sym (ap is_poll sent) ∙ q));
-      }
+      search (arith, apart_sent, false≢true)
 
   -- ---- a poll
 
-  ask_goes : (n : ℕ) (s : Submission) (answer : Result Poll HostFault) (new : Account)
-      (o : Option HostFault) → moment h j ≡ Ask n answer → in_flight h j ≡ None
-      → oldest (account_at credits h j) ≡ Some s
+  ask_goes : (n : ℕ) (s : Submission) (answer : Result Poll HostFault) (new : Account) (o : Option HostFault)
+      → moment h j ≡ Ask n answer → in_flight h j ≡ None → oldest (account_at credits h j) ≡ Some s
       → host.refusal (account_at credits h j) (opcode_byte (poll_of n s).order) n ≡ o
       → asks_unless (account_at credits h j) n s o ≡ (answer, new) → Goes credits h j new
   ask_goes n s answer new (Some fault) m idle old r e =
       let err : Err fault ≡ answer = ap (λ p. p.0) e in
-      quiet new (ap is_sent m ∙ ap (λ x. is_sent (Ask n x)) (sym err)) (ap news_heard m)
-      (sym (ap (λ p. p.1) e))
+      quiet new (ap is_sent m ∙ ap (λ x. is_sent (Ask n x)) (sym err)) (ap news_heard m) (sym (ap (λ p. p.1) e))
   ask_goes n s answer new None m idle old r e =
       let ok = ap (λ p. p.0) e in
       let sent = m ∙ ap (Ask n) (sym ok) in
       let after = account_asked credits h j n s _ sent idle old in
       let none = (not_refused (account_at credits h j) (opcode_byte (poll_of n s).order) n r).2 in
       let about = polls_of credits h j s old in
-      record {
-        kept = sym (ap (λ p. p.1) e) ∙ sym after;
-        apart = apart_sent (submission_of (poll_of n s))
-            (subst (λ n. list_any (has_reference n) (account_at credits h j).outstanding ≡ false)
-            (sym (ap reference_in sent)) none) (sym (ap reference_in sent)) (ap (λ (x : Account). x.outstanding) after)
-            (λ q. idle);
-        ends = λ n q. absurd (false≢true (ap is_some (sym (ap news_heard sent) ∙ q)));
-        polls = λ q. (idle, about.command, about.found);
-      }
+      search (arith, apart_sent, false≢true)
 
   oldest_goes : (n : ℕ) (o : Option Submission) (answer : Result Poll HostFault)
       (new : Account) → moment h j ≡ Ask n answer → in_flight h j ≡ None
       → oldest (account_at credits h j) ≡ o → asks (account_at credits h j) n o ≡ (answer, new) → Goes credits h j new
   oldest_goes n None answer new m idle old e =
       let none = ap (λ p. p.0) e in
-      quiet new (ap is_sent m ∙ ap (λ x. is_sent (Ask n x)) (sym none)) (ap news_heard m)
-      (sym (ap (λ p. p.1) e))
+      quiet new (ap is_sent m ∙ ap (λ x. is_sent (Ask n x)) (sym none)) (ap news_heard m) (sym (ap (λ p. p.1) e))
   oldest_goes n (Some s) answer new m idle old e = ask_goes n s answer new _ m idle old refl e
 
   poll_goes : (n : ℕ) (b : Bool) (answer : Result Poll HostFault)
@@ -176,8 +146,7 @@ module _ (credits : ℕ) (h : History) (j : ℕ) (a : IsApart credits h j) where
       ≡ (answer, new) → Goes credits h j new
   poll_goes n true answer new m w e =
       let busy = ap (λ p. p.0) e in
-      quiet new (ap is_sent m ∙ ap (λ x. is_sent (Ask n x)) (sym busy)) (ap news_heard m)
-      (sym (ap (λ p. p.1) e))
+      quiet new (ap is_sent m ∙ ap (λ x. is_sent (Ask n x)) (sym busy)) (ap news_heard m) (sym (ap (λ p. p.1) e))
   poll_goes n false answer new m w e = oldest_goes n _ answer new m (idle_of h j (in_flight h j) w) refl e
 
   -- ---- an end
@@ -197,20 +166,7 @@ module _ (credits : ℕ) (h : History) (j : ℕ) (a : IsApart credits h j) where
         about = x.about;
       } in
       let after = account_received hears in
-      record {
-        kept = x.kept ∙ sym after;
-        apart = still_apart (ap is_sent m) (ap (λ (y : Account). are_apart y.outstanding) after
-            ∙ apart_without e.reference _
-            (apart_with (account_at credits h j) (answered (account_at credits h j).watch e) ∙ a.submissions));
-        ends = λ k q. record {
-          end = e;
-          command = p.0;
-          heard = heard;
-          handed = p.1;
-          says = ap (λ o. unwrap_or o k) (sym q ∙ ap news_heard m) ∙ (x.says ∙ says_is hears);
-        };
-        polls = λ q. absurd (false≢true (sym (ap is_poll m) ∙ q));
-      }
+      search (arith, still_apart, apart_without, apart_with, answered, says_is, false≢true)
 
   pub step : (new : Account) (m : Moment) → moment h j ≡ m
       → Answers (account_at credits h j) m new → Goes credits h j new

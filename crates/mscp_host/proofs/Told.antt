@@ -1,5 +1,5 @@
 -- A figure is told of the oldest command alone, and a credit is kept for those that are answered when they arrive.
-use Rattle.mscp_host.proofs.Common.{◌≡◌, ◌≤◌, ◌<◌, ◌-◌, ℕ, suc, Bool, true, false, ◌&&◌, ◌||◌, List, [], ◌∷◌, ◌++◌, length, refl, ap, sym, subst, ◌∙◌, arith, not, cond, Option, Some, None, is_none, list_all, list_any, and_parts, eqb-true, not-true, or_left, or_parts, false≢true, length-append, filter-append, list_all-append, count_by-le-length, length-filter, Submission, Watch, Account, balance, has_reference, is_about_polled, is_immediate, polled_is_outstanding, refusal, with_told, without, are_apart, waiting, are_told, is_numbered, is_oldest, is_watched}
+use Rattle.mscp_host.proofs.Common.{◌≡◌, ◌≤◌, ◌<◌, ◌-◌, ℕ, Bool, true, false, ◌&&◌, ◌||◌, List, [], ◌∷◌, ◌++◌, length, refl, ap, subst, ◌∙◌, arith, not, Option, Some, None, is_none, list_all, list_any, and_parts, eqb-true, not-true, or_left, or_parts, false≢true, length-append, filter-append, list_all-append, count_by-le-length, length-filter, Submission, Watch, Account, balance, has_reference, is_about_polled, is_immediate, polled_is_outstanding, refusal, with_told, without, are_apart, waiting, are_told, is_numbered, is_oldest, is_watched}
 use Rattle.mscp_host.proofs.Watched.{is_oldest_told, oldest_more, oldest_without}
 
 -- ---- all pass a test
@@ -7,9 +7,7 @@ use Rattle.mscp_host.proofs.Watched.{is_oldest_told, oldest_more, oldest_without
 all_weaker : (p q : Submission → Bool) → ((s : Submission) → p s ≡ true → q s ≡ true) → (xs : List Submission)
     → list_all p xs ≡ true → list_all q xs ≡ true
 all_weaker p q f [] e = refl
-all_weaker p q f (s ∷ rest) e =
-    let both = and_parts (p s) (list_all p rest) e in
-    λ i. f s both.0 i && all_weaker p q f rest both.1 i
+all_weaker p q f (s ∷ rest) e = search (arith, and_parts, all_weaker p q f rest)
 
 all_without : (p : Submission → Bool) (r : ℕ) (xs : List Submission) → list_all p xs ≡ true
     → list_all p (without r xs) ≡ true
@@ -83,43 +81,25 @@ told_told r f xs oldest e = search (arith, all_told, is_oldest_told, eqb-true)
 pub polled_oldest : (xs : List Submission) (watch : Option Watch) (number figure : ℕ) → is_watched xs watch ≡ true
     → is_about_polled watch (Some (number, figure)) ≡ true → polled_is_outstanding watch ≡ true
     → is_oldest number xs ≡ true
-polled_oldest xs None number figure watched about so = absurd (false≢true so)
-polled_oldest xs (Some w) number figure watched about so = search (arith, and_parts, eqb-true)
+polled_oldest xs watch number figure h1 h2 h3 = search (arith, false≢true, and_parts, eqb-true)
 
 -- ---- credits
 
--- one more waits, or not
-more_waits : (b : Bool) (s : Submission) (xs ys : List Submission) → length xs ≡ length ys
-    → length (cond b (s ∷ xs) xs) ≡ length (cond b (s ∷ ys) ys)
-more_waits true s xs ys e = ap suc e
-more_waits false s xs ys e = e
-
 pub waiting_told : (r f : ℕ) (xs : List Submission) → length (waiting (with_told r f xs)) ≡ length (waiting xs)
 waiting_told r f [] = refl
-waiting_told r f (s ∷ rest) = search (arith, waiting_told r f rest, more_waits)
-
-no_more_wait : (b : Bool) (s : Submission) (xs ys : List Submission) → length xs ≤ length ys
-    → (length xs ≤ length (cond b (s ∷ ys) ys)) × (length (cond b (s ∷ xs) xs) ≤ length (cond b (s ∷ ys) ys))
-no_more_wait true s xs ys e = (omega (arith, e), omega (arith, e))
-no_more_wait false s xs ys e = (e, e)
+waiting_told r f (s ∷ rest) = search (arith, waiting_told r f rest)
 
 pub waiting_without : (r : ℕ) (xs : List Submission) → length (waiting (without r xs)) ≤ length (waiting xs)
 waiting_without r [] = let e : 0 ≤ 0 = omega arith in e
-waiting_without r (s ∷ rest) = search (arith, waiting_without r rest, no_more_wait)
-
--- no more wait than were sent
-waiting_few : (xs : List Submission) → length (waiting xs) ≤ length xs
-waiting_few xs = subst (λ n. n ≤ length xs) (sym (length-filter (λ s. not (is_immediate s.opcode)) xs))
-    (count_by-le-length (λ s. not (is_immediate s.opcode)) xs)
+waiting_without r (s ∷ rest) = search (arith, waiting_without r rest)
 
 -- one that waits leaves a credit
 pub spare_more : (s : Submission) (xs : List Submission) (credits : ℕ)
     → (is_immediate s.opcode ≡ false → 2 ≤ credits - length xs) → length (waiting xs) < credits
     → length (waiting (xs ++ s ∷ [])) < credits
-spare_more s xs credits spare less = search (arith, filter-append, length-append, waiting_few)
+spare_more s xs credits spare less = search (arith, filter-append, length-append, length-filter, count_by-le-length)
 
 -- a command that isn't refused leaves one
-pub not_refused : (a : Account) (opcode reference : ℕ) → refusal a opcode reference ≡ None
-    → (1 ≤ balance a) × (is_immediate opcode ≡ false → 2 ≤ balance a)
-    × (list_any (has_reference reference) a.outstanding ≡ false)
+pub not_refused : (a : Account) (opcode reference : ℕ) → refusal a opcode reference ≡ None → (1 ≤ balance a)
+    × (is_immediate opcode ≡ false → 2 ≤ balance a) × (list_any (has_reference reference) a.outstanding ≡ false)
 not_refused a opcode reference e = search (arith, false≢true)

@@ -1,5 +1,5 @@
 -- A poll in flight stays one that a host may have.
-use Rattle.mscp_host.proofs.Common.{◌≡◌, ℕ, Bool, true, false, ◌&&◌, List, [], ◌∷◌, ◌++◌, nat_eq, refl, ap, sym, ◌∙◌, arith, not, if◌then◌else◌, Option, Some, None, Ok, is_ok, list_any, and_parts, or_left, or_right, true≢false, list_any-append, ArrayVec, Command, HostFault, Submission, Watch, Account, has_reference, is_immediate, poll_of, submission_of, submits_unless, submitted, watch_after, with_told, without, is_about_somebody, is_numbered, is_oldest, is_polled, is_status, is_watched, oldest_of}
+use Rattle.mscp_host.proofs.Common.{◌≡◌, ℕ, Bool, true, false, ◌&&◌, List, [], ◌∷◌, ◌++◌, nat_eq, refl, ap, sym, ◌∙◌, arith, not, if◌then◌else◌, Option, Some, None, Ok, list_any, and_parts, or_left, or_right, true≢false, list_any-append, ArrayVec, Command, HostFault, Submission, Watch, Account, has_reference, is_immediate, poll_of, submission_of, submits_unless, submitted, watch_after, with_told, without, is_about_somebody, is_numbered, is_oldest, is_polled, is_status, is_watched, oldest_of}
 use Rattle.mscp_host.specs.Watched.{is_poll}
 
 -- ---- one of the submissions passes a test
@@ -20,11 +20,6 @@ module _ (p : Submission → Bool) where
   any_more : (s : Submission) (xs : List Submission) → list_any p xs ≡ true → list_any p (xs ++ s ∷ []) ≡ true
   any_more s xs e = list_any-append p xs (s ∷ []) ∙ or_left (list_any p xs) (list_any p (s ∷ [])) e
 
-  any_last : (s : Submission) (xs : List Submission) → p s ≡ true → list_any p (xs ++ s ∷ []) ≡ true
-  any_last s xs e =
-      list_any-append p xs (s ∷ [])
-      ∙ or_right (list_any p xs) (list_any p (s ∷ [])) (or_left (p s) false e)
-
 -- another number isn't that of the one that leaves
 other_status : (n r : ℕ) (s : Submission) → nat_eq n r ≡ false → is_status n s ≡ true → has_reference r s ≡ false
 other_status n r s other e = search (arith, and_parts)
@@ -37,8 +32,7 @@ other_poll n u r s other e = other_status n r s other (and_parts (is_status n s)
 -- the unit of the command, if there is one
 is_polled_to : (n : ℕ) (xs ys : List Submission) (o : Option Submission)
     → ((u : ℕ) → list_any (is_poll n u) xs ≡ list_any (is_poll n u) ys) → is_polled n xs o ≡ is_polled n ys o
-is_polled_to n xs ys None same = refl
-is_polled_to n xs ys (Some s) same = same s.unit
+is_polled_to n xs ys o h1 = search arith
 
 module _ (r f : ℕ) where
   -- a figure is told
@@ -54,15 +48,11 @@ module _ (r f : ℕ) where
       → is_polled n (with_told r f xs) (oldest_of (with_told r f xs)) ≡ is_polled n xs (oldest_of xs)
   polled_told n xs =
       is_polled_to n (with_told r f xs) xs (oldest_of (with_told r f xs))
-      (λ u. any_told (is_poll n u) r f (λ s. refl) xs)
-      ∙ oldest_told (is_polled n xs) (λ s. refl) xs
+      (λ u. any_told (is_poll n u) r f (λ s. refl) xs) ∙ oldest_told (is_polled n xs) (λ s. refl) xs
 
   pub watched_told : (xs : List Submission) (watch : Option Watch)
       → is_watched (with_told r f xs) watch ≡ is_watched xs watch
-  watched_told xs None = refl
-  watched_told xs (Some w) = λ i. any_told (is_status w.reference) r f (λ s. refl) xs i
-      && (if w.is_outstanding then is_oldest_told w.polled xs i && polled_told w.reference xs i
-      else not (nat_eq w.polled w.reference))
+  watched_told xs watch = search (arith, any_told, is_oldest_told, polled_told, nat_eq)
 
 -- one that leaves is another
 pub oldest_without : (r n : ℕ) (xs : List Submission) → nat_eq n r ≡ false → is_oldest n xs ≡ true
@@ -92,8 +82,7 @@ oldest_more s n (x ∷ rest) e = grind (arith, oldest_more s n rest)
 
 polled_without : (r n : ℕ) (xs : List Submission) (o : Option Submission) → nat_eq n r ≡ false
     → is_polled n xs o ≡ true → is_polled n (without r xs) o ≡ true
-polled_without r n xs None other e = e
-polled_without r n xs (Some s) other e = any_without (is_poll n s.unit) r (λ x. other_poll n s.unit r x other) xs e
+polled_without r n xs o h1 h2 = search (arith, any_without, other_poll)
 
 -- once the end of this number was received, it stays so
 pub watched_without : (r : ℕ) (xs : List Submission) (watch : Option Watch) → is_watched xs watch ≡ true
@@ -131,8 +120,7 @@ watched_without r xs (Some w) e =
 
 polled_more : (s : Submission) (n : ℕ) (xs : List Submission) (o : Option Submission) → is_polled n xs o ≡ true
     → is_polled n (xs ++ s ∷ []) o ≡ true
-polled_more s n xs None e = e
-polled_more s n xs (Some x) e = any_more (is_poll n x.unit) s xs e
+polled_more s n xs o h1 = search (arith, any_more)
 
 pub watched_more : (s : Submission) (xs : List Submission) (watch : Option Watch) → is_watched xs watch ≡ true
     → is_watched (xs ++ s ∷ []) watch ≡ true
@@ -166,14 +154,9 @@ watched_poll r p xs e =
     let own : is_status r s ≡ true = ap (λ b. b && true) (same_number r) in
     let poll : is_poll r p.unit s ≡ true = λ i. own i && same_number p.unit i in
     let first : is_oldest p.reference xs ≡ true = ap (is_numbered p.reference) e ∙ same_number p.reference in
-    let same = oldest_more s p.reference xs first ∙ e in
-    let about : (is_oldest p.reference (xs ++ s ∷ []) && is_polled r (xs ++ s ∷ []) (oldest_of (xs ++ s ∷ []))) ≡ true =
-    ap (λ o. is_numbered p.reference o && is_polled r (xs ++ s ∷ []) o) same
-    ∙ (λ i. same_number p.reference i && any_last (is_poll r p.unit) s xs poll i) in
-    λ i. any_last (is_status r) s xs own i && about i
+    search (arith, oldest_more, same_number, list_any-append, or_right, or_left)
 
 -- a command was sent
 pub was_submitted : (a after : Account) (command : Command) (fault : Option HostFault) (message : ArrayVec ℕ)
     → (Ok message, after) ≡ submits_unless a command fault → after ≡ submitted a command
-was_submitted a after command None message e = ap (λ p. p.1) e
-was_submitted a after command (Some fault) message e = absurd (true≢false (ap (λ p. is_ok p.0) e))
+was_submitted a after command fault message h1 = search (arith, true≢false)

@@ -54,8 +54,7 @@ answer_line via word rest w apart printed few =
       arith,
       short_line via word rest w apart printed (omega (
         arith,
-        length-append (connection_word via) (word ++
-            rest),
+        length-append (connection_word via) (word ++ rest),
         length-append word rest,
         few_via via,
         w.few,
@@ -71,8 +70,7 @@ one_line : (via : Connection) (bytes : List ℕ) → IsAnswerLine (connection_wo
     → AreAnswers (connection_word via ++ line bytes) 1
 one_line via bytes it = record {
   all = (connection_word via ++ bytes) ∷ [];
-  whole = sym (append-nil (line (connection_word via ++ bytes))
-      ∙ append_assoc (connection_word via) bytes (10 ∷ []));
+  whole = sym (append-nil (line (connection_word via ++ bytes)) ∙ append_assoc (connection_word via) bytes (10 ∷ []));
   many = refl;
   each = (it, tt);
 }
@@ -172,12 +170,9 @@ figure_answers shown =
       decimal_few shown.2,
     ))
 
-figures_whole : (shown : List (Connection × ℕ × ℕ))
-    → flat_map figure_line shown ≡ flat_map line (map figure_text shown)
+figures_whole : (shown : List (Connection × ℕ × ℕ)) → flat_map figure_line shown ≡ flat_map line (map figure_text shown)
 figures_whole [] = refl
-figures_whole (x ∷ xs) =
-    (λ i. sym (append_assoc (connection_word x.0) (codes "figure " ++ decimal x.1 ++ codes " " ++ decimal x.2)
-    (10 ∷ [])) i ++ figures_whole xs i)
+figures_whole (x ∷ xs) = search (arith, append_assoc, figures_whole xs)
 
 figures_each : (shown : List (Connection × ℕ × ℕ)) → AllByRecursion IsAnswerLine (map figure_text shown)
 figures_each [] = tt

@@ -28,8 +28,7 @@ pub asks_next : (c : Settings) (marks : List Mark) (h : Holdings Wanted) (es : L
 asks_next c marks h es s others more l e =
     search (
       arith,
-      goes c marks h [] [] [] s others (Asked es ∷ more) l (sym (append_assoc marks (Asked es ∷ []) more) ∙
-          e),
+      goes c marks h [] [] [] s others (Asked es ∷ more) l (sym (append_assoc marks (Asked es ∷ []) more) ∙ e),
       append_assoc marks (Asked es ∷ []) more,
       append-nil s.now,
       none_asked,

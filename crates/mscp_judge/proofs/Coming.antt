@@ -38,10 +38,9 @@ pub idle_came : {A : Type 0} (r : Result (Unit {0}) OutOfMemory) (old new : Judg
 idle_came r old new mid waits begun held m e z f p =
     let none : new.controller.waiting ≡ [] = ap (λ (h : Holdings Wanted). h.waiting) held ∙ waits in
     came_on r old new None (events.Step old.block) (entries.Stepped Idle) mid
-    (idle_steps None old.block (with_picker old.controller None) new.controller held waits begun)
-    m e z 0 0 refl (sym (ap (λ (rs : List Record). (record_at rs 0).passed) none)) f p
-    (subst (λ rs. All (λ (r : Record). r.passed ≤ 0) rs) (sym none)
-    (λ k d inside. absurd (omega (arith, inside))))
+    (idle_steps None old.block (with_picker old.controller None) new.controller held waits begun) m e z 0 0 refl
+    (sym (ap (λ (rs : List Record). (record_at rs 0).passed) none)) f p
+    (subst (λ rs. All (λ (r : Record). r.passed ≤ 0) rs) (sym none) (λ k d inside. absurd (omega (arith, inside))))
 
 -- ---- a new judge
 
@@ -79,8 +78,7 @@ settled c log judge s q = search arith
 
 pub asked_one : {A B : Type 0} (r : Result B OutOfMemory) (old new : Judge A) (name : Option Named) (event : Event)
     → is_step event ≡ false → IsSettled old → OnOk r (Came name old new event) → new.owed ≡ old.owed
-    → OnOk r ((c : Settings) (log : Log) → Stands c log old
-    → Stands c (asking log (event ∷ [])) new)
+    → OnOk r ((c : Settings) (log : Log) → Stands c log old → Stands c (asking log (event ∷ [])) new)
 asked_one {A} (Ok x) old new name event o q came w =
     λ c log s.
     let marks = marked (asking log (event ∷ [])) in
@@ -102,10 +100,9 @@ same_totals : {A : Type 0} (c : Settings) (old new : Judge A) → new.reporter �
     → totals_of c old ≡ totals_of c new
 same_totals c old new r p = search arith
 
-pub asked_steps : {A : Type 0} (old new : Judge A) (n : ℕ) (k : Block) → IsSettled old
-    → new.controller ≡ old.controller → new.reporter ≡ old.reporter → new.peaks ≡ old.peaks → new.told ≡ old.told
-    → new.owed ≡ n → new.block ≡ k → (c : Settings) (log : Log) → Stands c log old
-    → Stands c (asking log (replicate n (events.Step k))) new
+pub asked_steps : {A : Type 0} (old new : Judge A) (n : ℕ) (k : Block) → IsSettled old → new.controller ≡ old.controller
+    → new.reporter ≡ old.reporter → new.peaks ≡ old.peaks → new.told ≡ old.told → new.owed ≡ n → new.block ≡ k
+    → (c : Settings) (log : Log) → Stands c log old → Stands c (asking log (replicate n (events.Step k))) new
 asked_steps {A} old new n k q h r p t w b c log s =
     let es = replicate n (events.Step k) in
     let marks = marked (asking log es) in
@@ -139,18 +136,11 @@ too_early {A} c log judge es s not_it g =
 
 pub printed_fed : (bytes : List ℕ) → list_all is_printed bytes ≡ true → NoFeed bytes
 printed_fed [] h = tt
-printed_fed (b ∷ bytes) h =
-    let p = and_parts (is_printed b) (list_all is_printed bytes) h in
-    ((λ e. false≢true (sym (ap is_printed e) ∙ p.0)), printed_fed bytes p.1)
+printed_fed (b ∷ bytes) h = search (arith, and_parts, false≢true, printed_fed bytes)
 
 pub ready_due : {A : Type 0} (c : Settings) (log : Log) (line : List ℕ) (judge : Judge A) → Stands c log judge
     → due judge ≢ [] → IsAhead c log line judge
-ready_due c log line judge s some =
-    search (
-      arith,
-      ahead_counted c (marked log) judge.controller (due judge) (owed judge) (told (line ++ 10 ∷ []))
-          (totals_of c judge) s.counted,
-    )
+ready_due c log line judge s some = search (arith, ahead_counted, due, told)
 
 step_lined : (name : Option Named) (h h' : Holdings Wanted) (k : Block) (entry : Entry)
     → Answers (IsNamed name) h (events.Step k) entry h' → entry_lines entry ≢ []
@@ -184,10 +174,7 @@ ready_not c log line judge s q g =
 pub told_not : {A : Type 0} (c : Settings) (log : Log) (line : List ℕ) (judge : Judge A) → IsAhead c log line judge
     → list_all is_printed line ≡ true → ¬ (BeginsWith (due judge) line)
     → ¬ (MayGoOn c (telling log (line ++ 10 ∷ [])).marks)
-told_not c log line judge s printed not_it g =
-    refused c (marked log) judge.controller (due judge) (owed judge) line s.counted.stood s.some
-    (printed_fed line printed) not_it
-    (goes_on c (telling log (line ++ 10 ∷ [])).marks g)
+told_not c log line judge s printed not_it g = search (arith, refused, due, printed_fed, goes_on)
 
 pub told_so : {A : Type 0} (c : Settings) (log : Log) (line : List ℕ) (old new : Judge A) → IsAhead c log line old
     → (begins : BeginsWith (due old) line) → new.controller ≡ old.controller → new.reporter ≡ old.reporter
@@ -248,8 +235,7 @@ right_step {A} c log name old new s none some came w b = search (arith, step_hel
 -- ---- the whole
 
 pub stands_open : {A : Type 0} (c : Settings) (log : Log) (judge : Judge A) → Stands c log judge → MayGoOn c log.marks
-stands_open c log judge s = may_go_on c log.marks
-    (opens c (marked log) judge.controller (due judge) judge.block judge.owed (stands_held c log judge s))
+stands_open c log judge s = search (arith, may_go_on, opens, due, stands_held)
 
 pub stands_legal : {A : Type 0} (c : Settings) (log : Log) (judge : Judge A) → Stands c log judge → IsSettled judge
     → (legal : IsLegalLog c log.marks) × AreTotals c (whole legal.0) (totals_of c judge)
@@ -258,8 +244,7 @@ stands_legal c log judge s q =
     let made = finished c (marked log) judge.controller known.stood in
     let legal = is_legal_log c log.marks made in (
       legal,
-      subst (λ t. AreTotals c t (totals_of c judge)) (finished_run c log judge.controller known.stood)
-          known.are,
+      subst (λ t. AreTotals c t (totals_of c judge)) (finished_run c log judge.controller known.stood) known.are,
     )
 
 pub stands_settings : {A : Type 0} (c : Settings) (log : Log) (judge : Judge A) → Stands c log judge

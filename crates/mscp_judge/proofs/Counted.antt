@@ -26,17 +26,14 @@ told_counted c marks h due owed line rest totals s e =
 pub told_all_counted : (c : Settings) (marks : List Mark) (h : Holdings Wanted) (due : List ℕ) (owed : List Event)
     (totals : Totals) → Counted c marks h due owed [] totals → Counted c (marks ++ told due) h [] owed [] totals
 unfolding told_all_on
-told_all_counted c marks h due owed totals s =
-    record { stood = told_all_on c marks h due owed s.stood; are = s.are }
+told_all_counted c marks h due owed totals s = record { stood = told_all_on c marks h due owed s.stood; are = s.are }
 
 -- the totals of a trace with a moment more
 more : (c : Settings) (marks : List Mark) (h h' : Holdings Wanted) (name : Option Named) (owed : List Event)
     (event : Event) (entry : Entry) (old new : Totals) → Answers (IsNamed name) (with_picker h name) event entry h'
     → Adds h' entry old new → (k : Counted c marks h [] owed [] old)
     → AreTotals c (run_of k.stood ++ (event, entry) ∷ []) new
-more c marks h h' name owed event entry old new a adds k =
-    totals_more c (run_of k.stood) h h' name event entry old new k.stood.valid
-    (follow c k.stood.begun (run_of k.stood) h k.stood.valid k.stood.led) a k.are adds
+more c marks h h' name owed event entry old new a adds k = search (arith, totals_more, follow)
 
 pub step_counted : (c : Settings) (marks : List Mark) (h h' : Holdings Wanted) (k : Block) (owed : List Event)
     (line : List ℕ) (entry : Entry) (old new : Totals) → Counted c marks h [] (events.Step k ∷ owed) [] old

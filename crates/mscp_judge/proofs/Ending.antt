@@ -56,18 +56,16 @@ finished c marks h s =
 
 -- a legal log goes on from here: the steps that are missing have right answers
 goes_from : (c : Settings) (marks : List Mark) (h : Holdings Wanted) (due : List ℕ) (k : Block) (n : ℕ)
-    → Held c marks h due (replicate n (events.Step k))
-    → (X : List Mark) × (others : List Trace) × IsLegal c (whole others) × (marks ++ (told due ++ X)
-    ≡ transcript others)
+    → Held c marks h due (replicate n (events.Step k)) → (X : List Mark) × (others : List Trace) × IsLegal c
+    (whole others) × (marks ++ (told due ++ X) ≡ transcript others)
 goes_from c marks h due k n s =
     let T = whole s.parts ++ s.now in
     let owed = replicate n (events.Step k) in
     let f = follow c s.begun T h s.valid s.led in
     let u = steps_exist c s.valid k n T f.legal in
     let others = s.parts ++ (s.now ++ u.0) ∷ [] in
-    let same : whole others ≡ T ++ u.0 =
-    whole_append s.parts ((s.now ++ u.0) ∷ []) ∙ (ap (λ t. whole s.parts ++ t) (append-nil (s.now ++ u.0))
-    ∙ sym (append_assoc (whole s.parts) s.now u.0)) in
+    let same : whole others ≡ T ++ u.0 = whole_append s.parts ((s.now ++ u.0) ∷ [])
+    ∙ (ap (λ t. whole s.parts ++ t) (append-nil (s.now ++ u.0)) ∙ sym (append_assoc (whole s.parts) s.now u.0)) in
     search (arith, known_marks c marks h due owed s u.0 [] u.1)
 
 pub opens : (c : Settings) (marks : List Mark) (h : Holdings Wanted) (due : List ℕ) (k : Block) (n : ℕ)

@@ -47,8 +47,7 @@ pub lines_behind : (n : ℕ) (log : Log) (front back : List (List ℕ)) (mid : L
 unfolding after_lines
 lines_behind n log [] back mid e = search arith
 lines_behind n log (bytes ∷ front) back mid e =
-    lines_on (n + 1) front back (after_line (n + 1) log bytes) mid
-    (λ next. lines_behind (n + 1) next front back mid) e
+    lines_on (n + 1) front back (after_line (n + 1) log bytes) mid (λ next. lines_behind (n + 1) next front back mid) e
     ∙ ap (λ k. after_lines k mid back) (omega arith)
 
 -- ---- the verdict

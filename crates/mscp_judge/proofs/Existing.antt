@@ -20,14 +20,7 @@ positive (suc m) e = (m, refl)
 some_served : (t : Trace) (xs : List ℕ) → AllByRecursion (λ x. is_waiting t x ≡ true) xs
     → list_all (λ x. nat_eq (done t x) 0) xs ≡ false → (y : ℕ) × (is_waiting t y ≡ true) × (in_service t y ≡ true)
 some_served t [] w e = absurd (false≢true (sym e))
-some_served t (x ∷ xs) w e =
-    let Both : Type 0 = (y : ℕ) × (is_waiting t y ≡ true) × (in_service t y ≡ true) in
-    let both : (b : Bool) → nat_eq (done t x) 0 ≡ b → Both =
-    λ b. elim b as (λ b. nat_eq (done t x) 0 ≡ b → Both) [
-      | true ↦ λ q. some_served t xs w.1 (sym (ap (λ b. b && list_all (λ x. nat_eq (done t x) 0) xs) q) ∙ e)
-      | false ↦ λ q. let p = positive (done t x) q in (x, w.0, lt-ltb 0 (done t x) (omega (arith, p.1)))
-    ] in
-    both (nat_eq (done t x) 0) refl
+some_served t (x ∷ xs) w e = search (arith, Bool, nat_eq, positive, lt-ltb, some_served t xs w.1)
 
 among : (c : Settings) (t : Trace) (k : Block) (ws : List ℕ) → waiting t ≡ ws
     → (entry : Entry) × IsRight c t (events.Step k) entry

@@ -22,35 +22,20 @@ pub first_line : (a X front Y : List ℕ) → NoFeed a → a ++ 10 ∷ X ≡ (fr
 first_line [] X [] Y n h = ([], refl)
 first_line [] X (f ∷ front) Y n h = search (arith, heads 10 f X ((front ++ 10 ∷ []) ++ Y) h)
 first_line (b ∷ a) X [] Y n h = absurd (n.0 (heads b 10 (a ++ 10 ∷ X) Y h))
-first_line (b ∷ a) X (f ∷ front) Y n h =
-    search (
-      arith,
-      heads b f (a ++ 10 ∷ X) ((front ++ 10 ∷ []) ++ Y) h,
-      first_line a X front Y n.1 (tails b f (a ++ 10 ∷
-          X) ((front ++ 10 ∷ []) ++ Y) h),
-      tails b f (a ++ 10 ∷ X) ((front ++ 10 ∷ []) ++ Y) h,
-    )
+first_line (b ∷ a) X (f ∷ front) Y n h = search (arith, heads, tails, first_line a X front Y n.1)
 
 -- A line begins with what has no line feed.
 pub front_of : (a X head Y : List ℕ) → NoFeed head → a ++ 10 ∷ X ≡ head ++ Y → (rest : List ℕ) × (a ≡ head ++ rest)
 front_of a X [] Y n h = (a, refl)
 front_of [] X (f ∷ head) Y n h = absurd (n.0 (sym (heads 10 f X (head ++ Y) h)))
-front_of (b ∷ a) X (f ∷ head) Y n h =
-    search (
-      arith,
-      heads b f (a ++ 10 ∷ X) (head ++ Y) h,
-      front_of a X head Y n.1 (tails b f (a ++ 10 ∷ X) (head ++ Y)
-          h),
-      tails b f (a ++ 10 ∷ X) (head ++ Y) h,
-    )
+front_of (b ∷ a) X (f ∷ head) Y n h = search (arith, heads, tails, front_of a X head Y n.1)
 
 -- What stands behind a line feed ends with one, if the whole does.
 behind_feed : (a rest front : List ℕ) → a ++ 10 ∷ rest ≡ front ++ 10 ∷ [] → EndsLine rest
 behind_feed [] rest [] h = inl (tails 10 10 rest [] h)
 behind_feed [] rest (f ∷ front) h = inr (front, tails 10 f rest (front ++ 10 ∷ []) h)
 behind_feed (b ∷ a) rest [] h = absurd (some_none a 10 rest (tails b 10 (a ++ 10 ∷ rest) [] h))
-behind_feed (b ∷ a) rest (f ∷ front) h =
-    behind_feed a rest front (tails b f (a ++ 10 ∷ rest) (front ++ 10 ∷ []) h)
+behind_feed (b ∷ a) rest (f ∷ front) h = behind_feed a rest front (tails b f (a ++ 10 ∷ rest) (front ++ 10 ∷ []) h)
 
 pub ends_behind : (due line rest : List ℕ) → EndsLine due → due ≡ line ++ 10 ∷ rest → EndsLine rest
 ends_behind due line rest h3 h4 = grind (arith, some_none, behind_feed)

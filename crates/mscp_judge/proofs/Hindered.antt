@@ -77,15 +77,11 @@ is_free_to c t h n k idle some none =
     let q : ℕ → Bool = λ x. same_name (name t x) n in
     let figured : figure_of_name h.settings.budget h.waiting n ≡ figure_found c t (find q (waiting t)) =
     (λ i. figure_of_name (k.settings i).budget (k.agrees.follows.waits i) n) ∙ figure_of_held c t n in
-    ⊎_elim
-    (λ nobody. absurd (some (figured ∙ ap (figure_found c t) (find_none q (waiting t) nobody))))
-    (λ found.
+    ⊎_elim (λ nobody. absurd (some (figured ∙ ap (figure_found c t) (find_none q (waiting t) nobody)))) (λ found.
     let y = found.1 in
     let f = found.3 in
-    let at : find q (waiting t) ≡ Some y =
-    ap (find q) f.is ∙ find_first q found.0 y found.2 f.before f.passed in
-    let nobody : holders c t y ≡ [] =
-    sym (ap (holders_found c t) at) ∙ (sym (same_holders c t h n k) ∙ none) in
+    let at : find q (waiting t) ≡ Some y = ap (find q) f.is ∙ find_first q found.0 y found.2 f.before f.passed in
+    let nobody : holders c t y ≡ [] = sym (ap (holders_found c t) at) ∙ (sym (same_holders c t h n k) ∙ none) in
     let W : ℕ → Type 0 = λ x. is_waiting t x ≡ true in (
       y,
       (every_parts W found.0 (y ∷ found.2) (subst (AllByRecursion W) f.is (waiting_waits t))).1.0,

@@ -42,9 +42,4 @@ pub follow : (c : Settings) (begun : Wanted) (t : Trace) (h : Holdings Wanted) �
     → Follow c t h
 follow c begun t h v l =
     follow_on c [] (fresh c begun) h t v
-    (record {
-      settings = refl;
-      legal = λ i k. absurd (omega (arith, k));
-      agrees = none_held c begun;
-      unbegun = refl;
-    }) l
+    (record { settings = refl; legal = λ i k. absurd (omega (arith, k)); agrees = none_held c begun; unbegun = refl }) l

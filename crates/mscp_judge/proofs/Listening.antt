@@ -20,9 +20,8 @@ none_is : (b : List ℕ) (fault : PacketFault) (r : Result Command PacketFault) 
     → ((r ≡ Err sizes.Short) ↔ (length b < 12)) → ((r ≡ Err sizes.Long) ↔ (64 < length b)) → None ≡ command_in b
 none_is b fault r h3 h4 h5 = grind (arith, short, long)
 
-pub read_in : (b : List ℕ) (r : Result Command PacketFault)
-    → ((r ≡ Err sizes.Short) ↔ (length b < 12)) → ((r ≡ Err sizes.Long) ↔ (64 < length b))
-    → IfOk r (λ c. IsCommand b c) → result_ok r ≡ command_in b
+pub read_in : (b : List ℕ) (r : Result Command PacketFault) → ((r ≡ Err sizes.Short) ↔ (length b < 12))
+    → ((r ≡ Err sizes.Long) ↔ (64 < length b)) → IfOk r (λ c. IsCommand b c) → result_ok r ≡ command_in b
 read_in b (Ok c) s l h = ap Some (command_is b c h) ∙ right b c h
 read_in b (Err fault) s l h = none_is b fault (Err fault) refl s l
 

@@ -53,8 +53,7 @@ passed_more c log before n last rest mid left judge new p q =
       arith,
       append_assoc p.front q.front (lines left),
       length-append p.front q.front,
-      lines_behind before log
-          p.front q.front p.next p.read,
+      lines_behind before log p.front q.front p.next p.read,
     )
 
 -- ---- answers
@@ -76,20 +75,11 @@ answers_told before log (bytes ∷ all) each few =
 answers_ahead : (all : List (List ℕ)) (left : List ℕ) → AllByRecursion IsAnswerLine all
     → lines (flat_map line all ++ left) ≡ all ++ lines left
 answers_ahead [] left each = refl
-answers_ahead (bytes ∷ all) left each =
-    search (
-      arith,
-      append_assoc (line bytes) (flat_map line all) left,
-      append_assoc bytes (10 ∷ []) (flat_map line all
-          ++ left),
-      plain_lines bytes (flat_map line all ++ left) each.0.printed,
-      answers_ahead all left each.1,
-    )
+answers_ahead (bytes ∷ all) left each = search (arith, append_assoc, line, plain_lines, answers_ahead all left each.1)
 
 answers_few : (all : List (List ℕ)) → length all ≤ length (flat_map line all)
 answers_few [] = omega arith
-answers_few (bytes ∷ all) =
-    search (arith, length-append (line bytes) (flat_map line all), length-append bytes (10 ∷ []), answers_few all)
+answers_few (bytes ∷ all) = search (arith, length-append, line, answers_few all)
 
 -- so many lines have at least as many bytes
 pub answers_bytes : (bytes : List ℕ) (count : ℕ) → AreAnswers bytes count → count ≤ length bytes
@@ -125,7 +115,6 @@ pub passed_cut : {A : Type 0} (c : Settings) (log : Log) (before n count : ℕ) 
     → (is ≡ false → left ≡ rest) → (is ≡ false → n ≡ before) → (is ≡ false → new ≡ old) → Stands c log old
     → Passed c before log rest n left new
 passed_cut c log before n count rest left old new true a cut number most told frame same kept untold s =
-    passed_answers c log before n count rest left (due old) new a (cut refl) (number refl) (most refl)
-    (told_all c log old new s frame (told refl))
+    search (arith, passed_answers, due, told_all)
 passed_cut c log before n count rest left old new false a cut number most told frame same kept untold s =
     passed_none c log before rest n left new (kept refl) (same refl) (subst (Stands c log) (sym (untold refl)) s)

@@ -8,9 +8,7 @@ AllPrinted bytes = list_all is_printed bytes ≡ true
 
 pub both_printed : (xs ys : List ℕ) → AllPrinted xs → AllPrinted ys → AllPrinted (xs ++ ys)
 both_printed [] ys p q = q
-both_printed (x ∷ xs) ys p q =
-    let k = and_parts (is_printed x) (list_all is_printed xs) p in
-    and_from _ _ k.0 (both_printed xs ys k.1 q)
+both_printed (x ∷ xs) ys p q = search (arith, and_parts, and_from, both_printed xs ys)
 
 glyph_printed : (n : ℕ) → is_printed (digit_glyph false (n % 10)) ≡ true
 glyph_printed n = search (arith, nat_tests)
@@ -18,23 +16,11 @@ glyph_printed n = search (arith, nat_tests)
 -- the digits of a number, also of one that has more than any type holds
 digits_printed : (k n : ℕ) (acc : List ℕ) → AllPrinted acc → AllPrinted (digits_onto k 10 false n acc)
 digits_printed zero n acc p = p
-digits_printed (suc k) n acc p =
-    let g = digit_glyph false (n % 10) in
-    let more = and_from _ _ (glyph_printed n) p in
-    elim (n / 10 == 0) as (λ b. AllPrinted (if b then g ∷ acc else digits_onto k 10 false (n / 10) (g ∷ acc))) [
-      | true ↦ more
-      | false ↦ digits_printed k (n / 10) (g ∷ acc) more
-    ]
+digits_printed (suc k) n acc p = search (arith, and_from, glyph_printed, digits_printed k (n / 10))
 
 digits_few : (k n : ℕ) (acc : List ℕ) → length (digits_onto k 10 false n acc) ≤ k + length acc
 digits_few zero n acc = omega arith
-digits_few (suc k) n acc =
-    let g = digit_glyph false (n % 10) in
-    elim (n / 10 == 0)
-    as (λ b. length (if b then g ∷ acc else digits_onto k 10 false (n / 10) (g ∷ acc)) ≤ suc k + length acc) [
-      | true ↦ omega arith
-      | false ↦ omega (arith, digits_few k (n / 10) (g ∷ acc))
-    ]
+digits_few (suc k) n acc = search (arith, digits_few k (n / 10))
 
 pub decimal_printed : (n : ℕ) → AllPrinted (decimal n)
 unfolding digits
@@ -52,13 +38,7 @@ coded_small : (es : List (ℕ × BodyKind)) (code : ℕ) (b : List ℕ) (body : 
     → HasBody (option_map (λ e. e.1) (find (λ e. nat_eq e.0 code) es)) b body → code < 256
 coded_small [] code b body small has = absurd has
 coded_small (e ∷ es) code b body small has =
-    let k = and_parts (nat_lt e.0 256) (list_all (λ e. nat_lt e.0 256) es) small in
-    elim (nat_eq e.0 code)
-    as (λ t. nat_eq e.0 code ≡ t
-    → HasBody (option_map (λ e. e.1) (cond t (Some e) (find (λ e. nat_eq e.0 code) es))) b body → code < 256) [
-      | true ↦ λ q here. subst (λ n. n < 256) (eqb-true e.0 code q) (ltb-true e.0 256 k.0)
-      | false ↦ λ q here. coded_small es code b body k.1 here
-    ] refl has
+    search (arith, and_parts, nat_lt, nat_eq, eqb-true, ltb-true, coded_small es code b body)
 
 abbrev pub AllBytes : List ℕ → Type 0
 AllBytes bytes = AllByRecursion (λ b. b < 256) bytes
@@ -91,10 +71,8 @@ unit_small : (id media : ℕ) → AllBytes (unit_bytes id media)
 unit_small id media = search (arith, both_little 4 media (replicate 4 0) (zeros 4), zeros 4, both_zeros)
 
 body_small : (body : EndBody) → AllBytes (body_bytes body)
-body_small (bodies.UnitStatus id media track group cylinder) =
-    search (arith, unit_small id media, both_little 2 cylinder (replicate 6 0) (zeros 6), zeros 6, both_bytes)
-body_small (bodies.Online id media size serial) =
-    search (arith, unit_small id media, little 4 serial, both_bytes, both_little)
+body_small (bodies.UnitStatus id media track group cylinder) = grind (arith, unit_small, both_little, zeros, both_bytes)
+body_small (bodies.Online id media size serial) = search (arith, unit_small, little, both_bytes, both_little)
 body_small body = search (arith, little, both_little, both_zeros, zeros)
 
 end_small : (e : End) → e.code < 256 → AllBytes (end_bytes e)
@@ -116,8 +94,7 @@ taken_are (Some e) end is reads =
 -- ---- hexadecimal digits
 
 printed_at : (xs : List ℕ) (i : ℕ) → AllPrinted xs → i < length xs → is_printed (slice_index xs i) ≡ true
-printed_at (x ∷ xs) (suc i) p l =
-    printed_at xs i (and_parts (is_printed x) (list_all is_printed xs) p).1 (omega (arith, l))
+printed_at (x ∷ xs) (suc i) p l = search (arith, and_parts, printed_at xs)
 printed_at xs i h2 h3 = grind (arith, and_parts)
 
 pub encoded_printed : (bytes : List ℕ) → AllBytes bytes → AllPrinted (encode_lower bytes)

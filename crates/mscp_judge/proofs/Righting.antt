@@ -19,16 +19,7 @@ heads a b xs ys e = cc
 first_kept : (p : ℕ → Bool) (P : ℕ → Type 0) (xs : List ℕ) (x : ℕ) (later : List ℕ) → AllByRecursion P xs
     → filter p xs ≡ x ∷ later → P x × (p x ≡ true)
 first_kept p P [] x later h e = cc
-first_kept p P (y ∷ ys) x later h e =
-    let Kept : Type 0 = P x × (p x ≡ true) in
-    let rest = filter p ys in
-    let both : (b : Bool) → p y ≡ b → Kept =
-    λ b. elim b as (λ b. p y ≡ b → Kept) [
-      | true ↦ λ q. let same = heads y x rest later (sym (ap (λ b. cond b (y ∷ rest) rest) q) ∙ e) in
-          (subst P same h.0, subst (λ z. p z ≡ true) same q)
-      | false ↦ λ q. first_kept p P ys x later h.1 (sym (ap (λ b. cond b (y ∷ rest) rest) q) ∙ e)
-    ] in
-    both (p y) refl
+first_kept p P (y ∷ ys) x later h e = search (arith, Bool, heads, first_kept p P ys x later h.1)
 
 -- the first of those that may start waits, and may start
 first_starts : (c : Settings) (t : Trace) (x : ℕ) (later : List ℕ) → startable c t ≡ x ∷ later
@@ -62,8 +53,7 @@ service_line c t k wanted s y text known v picked l = record {
   named = λ x w may names.
       let start = starts_then c t k s y x v may in
       let own = (picked_one c t wanted (service_name s) x (picked start) w may).1 names in
-      of_one c t k s y x text v
-      (one_waits t y x known.steady.apart v.waits w (sym (own_name c t k s y v) ∙ own)) l;
+      of_one c t k s y x text v (one_waits t y x known.steady.apart v.waits w (sym (own_name c t k s y v) ∙ own)) l;
   oldest = λ x later are none.
       let first = first_starts c t x later are in
       let start = starts_then c t k s y x v first.1 in
@@ -117,8 +107,7 @@ has_stepped {A} c log wanted old new s none some came a short =
     let stood : Stood c (marked log) old.controller [] (events.Step k ∷ later) [] = search arith in
     let one = one_of a.all a.many in
     let text = one.0 in
-    let is : due new ≡ line text =
-    a.whole ∙ (ap (λ ls. flat_map line ls) one.1 ∙ append-nil (line text)) in
+    let is : due new ≡ line text = a.whole ∙ (ap (λ ls. flat_map line ls) one.1 ∙ append-nil (line text)) in
     let printed : list_all is_printed text ≡ true = (subst (AllByRecursion IsAnswerLine) one.1 a.each).0.printed in
     record {
       h = old.controller;
@@ -245,13 +234,11 @@ open_step c log wanted old new right (held, inl s) none some came w b a short f 
       arith,
       next_stepped c log None new right (right_step c log None old new held none some came w b)
           (has_stepped c log None old new s.stands none some came a short) f,
-      right_step c log None old new held none some
-          came w b,
+      right_step c log None old new held none some came w b,
       has_stepped c log None old new s.stands none some came a short,
       owed_some,
     )
-open_step c log wanted old new right (held, inr s) none some came w b a short f =
-    absurd (stepped_due c log wanted old s none)
+open_step c log wanted old new right (held, inr s) none some came w b a short f = search (arith, stepped_due)
 
 -- a judge that answered a step for a line is open
 pub stepped_open : {A : Type 0} (c : Settings) (log : Log) (wanted : Option Named) (old new last : Judge A)

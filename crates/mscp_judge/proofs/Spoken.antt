@@ -14,16 +14,12 @@ digit_bytes (d ∷ ds) h = and_from _ _ (digit_byte d h.0) (digit_bytes ds h.1)
 
 pub digits_fed : (ds : List ℕ) → list_all is_digit ds ≡ true → NoFeed ds
 digits_fed [] h = tt
-digits_fed (d ∷ ds) h =
-    let p = and_parts (is_digit d) (list_all is_digit ds) h in
-    ((λ e. false≢true (sym (ap is_digit e) ∙ p.0)), digits_fed ds p.1)
+digits_fed (d ∷ ds) h = search (arith, and_parts, false≢true, digits_fed ds)
 
 -- literal words have no line feed
 pub fed_literal : (bytes : List ℕ) → list_all (λ b. not (b == 10)) bytes ≡ true → NoFeed bytes
 fed_literal [] h = tt
-fed_literal (b ∷ bytes) h =
-    let p = and_parts (not (b == 10)) (list_all (λ b. not (b == 10)) bytes) h in
-    ((λ e. false≢true (sym (ap (λ x. not (x == 10)) e) ∙ p.0)), fed_literal bytes p.1)
+fed_literal (b ∷ bytes) h = search (arith, and_parts, false≢true, fed_literal bytes)
 
 decimal_digits : (n : ℕ) → n < 2 ^ 32 → list_all is_digit (decimal n) ≡ true
 decimal_digits n h = digit_bytes (decimal n) (decimal_is_IsNumeral n (omega (arith, h))).0.1
@@ -76,15 +72,7 @@ served_words : (n unit : ℕ) (lbn : Option ℕ) (seek : ℕ) (ended : Option En
 served_words n unit lbn seek ended = simp append_assoc refl
 
 first_fed : (n : ℕ) → n < 2 ^ 32 → NoFeed (head First n)
-first_fed n h =
-    search (
-      arith,
-      fed_literal (codes "serve ") refl,
-      digits_fed (decimal n) (decimal_digits n h),
-      decimal_digits n h,
-      fed_literal (32 ∷ []) refl,
-      every_append,
-    )
+first_fed n h = search (arith, fed_literal, digits_fed, decimal_digits, every_append)
 
 head_fed : (via : Connection) (n : ℕ) → n < 2 ^ 32 → NoFeed (head via n)
 head_fed via n h2 = grind (arith, first_fed, every_append, fed_literal)

@@ -24,9 +24,8 @@ held_of c marks h due owed ahead s = search arith
 
 -- the marks of a trace that goes on so
 pub known_marks : (c : Settings) (marks : List Mark) (h : Holdings Wanted) (due : List ℕ) (owed : List Event)
-    (s : Held c marks h due owed) (next : Trace) (rest : List Trace) → events_in next ≡ owed
-    → transcript (s.parts ++ (s.now ++ next) ∷ rest)
-    ≡ marks ++ (told due ++ (told (answers_in next) ++ transcript rest))
+    (s : Held c marks h due owed) (next : Trace) (rest : List Trace) → events_in next ≡ owed → transcript
+    (s.parts ++ (s.now ++ next) ∷ rest) ≡ marks ++ (told due ++ (told (answers_in next) ++ transcript rest))
 known_marks c marks h due owed s next rest asks =
     grind (arith, events_append, answers_append, told_append, transcript_append, append_assoc)
 

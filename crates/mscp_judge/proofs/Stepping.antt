@@ -19,16 +19,14 @@ step_is c marks h h' k owed line (entries.Stepped report) s a (entries.Stepped o
     let T = whole s.parts ++ s.now in
     let f = follow c s.begun T h s.valid s.led in
     let turn = turn_of c T h h' (name_in (words line)) (events.Step k) (entries.Stepped report) s.valid f a in
-    ap (λ x. entries.Stepped x) (one_report c T k (name_in
-    (words line)) report other f.agrees.follows.known turn.sends.right
-    (turn.picked f.unbegun) r (line_says line X Y other e))
+    ap (λ x. entries.Stepped x) (one_report c T k (name_in (words line)) report other f.agrees.follows.known
+    turn.sends.right (turn.picked f.unbegun) r (line_says line X Y other e))
 step_is c marks h h' k owed line entry s h9 other X Y h13 h14 = grind arith
 
 -- what is said of an answer more
 pub said_more : (marks : List Mark) (P : List Mark) (now : Trace) (m : Moment) (owed : List Event)
-    → marks ++ told [] ≡ P ++ Asked (events_in now ++ (m.0 ∷ owed)) ∷ told (answers_in now)
-    → marks ++ told (entry_lines m.1)
-    ≡ P ++ Asked (events_in (now ++ m ∷ []) ++ owed) ∷ told (answers_in (now ++ m ∷ []))
+    → marks ++ told [] ≡ P ++ Asked (events_in now ++ (m.0 ∷ owed)) ∷ told (answers_in now) → marks ++ told
+    (entry_lines m.1) ≡ P ++ Asked (events_in (now ++ m ∷ []) ++ owed) ∷ told (answers_in (now ++ m ∷ []))
 said_more marks P now m owed e = grind (arith, append_assoc, events_append, told_append, append-nil, answers_append)
 
 -- a step is answered, at which the command starts that the line names, if it may

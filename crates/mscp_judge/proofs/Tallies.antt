@@ -8,8 +8,7 @@ use Rattle.mscp_judge.proofs.Leading.{Follow, follow_more, turn_of}
 -- it grows by a moment
 largest_more : (of : Trace → ℕ → ℕ) (t : Trace) (m : Moment) (n k k' : ℕ) → IsLargest of t n → IsLarger n k k'
     → EachWaiting (t ++ m ∷ []) (λ x. of (t ++ m ∷ []) x ≤ k')
-    → (k ≢ 0 → (x : ℕ) × Contains (waiting (t ++ m ∷ [])) x × (of (t ++ m ∷ []) x ≡ k))
-    → IsLargest of (t ++ m ∷ []) k'
+    → (k ≢ 0 → (x : ℕ) × Contains (waiting (t ++ m ∷ [])) x × (of (t ++ m ∷ []) x ≡ k)) → IsLargest of (t ++ m ∷ []) k'
 largest_more of t m n k k' old larger now there =
     let u = t ++ m ∷ [] in
     let long : length u ≡ length t + 1 = length-append t (m ∷ []) in
@@ -39,8 +38,7 @@ each_more P t m before new x w =
 -- ---- the figure of a new command
 
 number_in : Sent → ℕ
-number_in (sents.Queued reference) = reference
-number_in (sents.Answered reference aborted) = reference
+number_in h1 = grind arith
 
 -- the name that is told of it is its own
 own_name : (c : Settings) (via : Connection) (t : Trace) (b : List ℕ) (reference : ℕ)
@@ -51,9 +49,8 @@ own_name c via t b reference h q = grind (arith, number_in, arrives, taken_when)
 
 queued_figure : (c : Settings) (t : Trace) (h : Holdings Wanted) (event : Event) (entry : Entry)
     → IsRight c t event entry → h.settings ≡ c
-    → h.waiting ≡ map (held_of (t ++ (event, entry) ∷ [])) (waiting (t ++ (event, entry) ∷ []))
-    → queues entry ≡ true → figure_queued h entry ≡ figure_of c (t ++ (event, entry) ∷ [])
-    (name (t ++ (event, entry) ∷ []) (length t))
+    → h.waiting ≡ map (held_of (t ++ (event, entry) ∷ [])) (waiting (t ++ (event, entry) ∷ [])) → queues entry ≡ true
+    → figure_queued h entry ≡ figure_of c (t ++ (event, entry) ∷ []) (name (t ++ (event, entry) ∷ []) (length t))
 queued_figure c t h event entry h5 h6 h7 h8 =
     search (arith, own_name, queued_right, name_last, figure_of_held, false≢true)
 
@@ -106,8 +103,7 @@ totals_more c t h h' picker event entry old new v k r a adds =
       steps = adds.steps ∙ ((λ i. a.steps i + step_counts c t event entry right i)
           ∙ sym (sum_by_push (λ (n : Moment). cond (is_step n.0) 1 0) t m));
       figure = largest_more (figure c) t m old.figure (figure_queued h' entry) new.figure a.figure adds.figure
-          (each_more (λ x. figure c u x ≤ new.figure) t m
-          (λ x w. let l = falls.other x w in
+          (each_more (λ x. figure c u x ≤ new.figure) t m (λ x w. let l = falls.other x w in
           let g = before x (subst (λ z. Contains (waiting z) x) (sym (take_all (length t) t (omega arith))) w) in
           let e = ap (λ z. figure c z x) (take_all (length t) t (omega arith)) in
           omega (arith, l, g, e, adds.figure.first))

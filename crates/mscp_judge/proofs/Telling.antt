@@ -46,8 +46,7 @@ told_step {A} c log named rest left old mid new ahead s told some came w b a is 
     let text = one.0 in
     let said : due mid ≡ text ++ 10 ∷ [] =
     a.whole ∙ (ap (λ ls. flat_map line ls) one.1 ∙ append-nil (text ++ 10 ∷ [])) in
-    let begins : BeginsWith rest text =
-    (left, is ∙ (ap (λ bs. bs ++ left) said ∙ append_assoc text (10 ∷ []) left)) in
+    let begins : BeginsWith rest text = (left, is ∙ (ap (λ bs. bs ++ left) said ∙ append_assoc text (10 ∷ []) left)) in
     let step = subst (λ n. Came n old mid (events.Step old.block)) (ahead text begins) came in
     let stands = told_so c log text mid new (ready_step c log text (words text) old mid refl s told some step w b)
     ([], said) (ap (λ j. j.controller) kept) (ap (λ j. j.reporter) kept) (ap (λ j. j.peaks) kept)

@@ -13,7 +13,4 @@ blank_index named (x ∷ xs) zero h e = ap (λ b. cond b x 0) e
 blank_index named (x ∷ xs) (suc k) h e = blank_index (λ k. named (suc k)) xs k (omega arith) e
 
 pub zero_beside : (fields : List Field) (b : List ℕ) → b ≡ blank (is_named fields) b → IsZeroBeside fields b
-zero_beside fields b same = record {
-  zero = λ place inside unnamed.
-      ap (λ xs. slice_index xs place) same ∙ blank_index (is_named fields) b place inside unnamed;
-}
+zero_beside fields b same = search (arith, blank_index, is_named)

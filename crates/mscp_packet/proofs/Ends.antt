@@ -1,8 +1,7 @@
 -- What is written of an end.
-use Rattle.mscp_packet.proofs.Common.{◌≡◌, ℕ, ◌≤◌, Bool, true, false, List, length, refl, sym, ap, subst, arith, nat_lt, if◌then◌else◌, slice_index, Option, Some, None, Result, Ok, Err, ltb-true, ltb-false, IsZeroBeside, EndBytesAreMessages, HasBody, HasBodyRange, IsEnd, IsUnder, body_at, end_at, end_bytes, end_fields, end_length, kind_of_body, kind_of_code, reading_with, BodyKind, EndBody, End, EndFault}
+use Rattle.mscp_packet.proofs.Common.{◌≡◌, ℕ, ◌≤◌, Bool, true, false, List, length, refl, sym, ap, subst, arith, nat_lt, if◌then◌else◌, slice_index, Option, Some, None, Result, Ok, Err, ltb-true, ltb-false, IsZeroBeside, EndBytesAreMessages, HasBodyRange, IsEnd, IsUnder, body_at, end_at, end_bytes, end_fields, end_length, kind_of_body, kind_of_code, reading_with, BodyKind, EndBody, End, EndFault}
 use Rattle.mscp_packet.proofs.Numbers.{two, four, eight}
 use Rattle.mscp_packet.proofs.Blanks.{zero_beside}
-use Rattle.mscp_packet.specs.declared.end.BodyKind.TheVariants as kinds
 use Rattle.mscp_packet.specs.declared.end.EndBody.TheVariants as bodies
 use Rattle.mscp_packet.specs.declared.reading.EndFault.TheVariants as faults
 
@@ -14,67 +13,27 @@ body_back : (r u code status : ℕ) (body : EndBody) → HasBodyRange body
     → body ≡ body_at (kind_of_body body) (end_bytes (end r u code status body))
 body_back r u code status bodies.Bare fits = refl
 body_back r u code status (bodies.Abort other) fits = ap bodies.Abort (sym (four other fits))
-body_back r u code status (bodies.Status other figure) fits =
-    λ i. bodies.Status (sym (four other fits.0) i) (sym (four figure fits.1) i)
-body_back r u code status (bodies.UnitStatus id media track group cylinder) fits =
-    λ i.
-    bodies.UnitStatus
-    (sym (eight id fits.0) i)
-    (sym (four media fits.1) i)
-    (sym (two track fits.2) i)
-    (sym (two group fits.3) i)
-    (sym (two cylinder fits.4) i)
-body_back r u code status (bodies.Controller timeout id) fits =
-    λ i. bodies.Controller (sym (two timeout fits.0) i) (sym (eight id fits.1) i)
-body_back r u code status (bodies.Online id media size serial) fits =
-    λ i.
-    bodies.Online
-    (sym (eight id fits.0) i)
-    (sym (four media fits.1) i)
-    (sym (four size fits.2) i)
-    (sym (four serial fits.3) i)
+body_back r u code status (bodies.Status other figure) fits = search (arith, four)
+body_back r u code status (bodies.UnitStatus id media track group cylinder) fits = search (arith, eight, four, two)
+body_back r u code status (bodies.Controller timeout id) fits = search (arith, two, eight)
+body_back r u code status (bodies.Online id media size serial) fits = search (arith, eight, four)
 body_back r u code status (bodies.Moved count) fits = ap bodies.Moved (sym (four count fits))
-
--- exactly the length of the body's shape
-pub end_length_is : (r u code status : ℕ) (body : EndBody)
-    → length (end_bytes (end r u code status body)) ≡ end_length (kind_of_body body)
-end_length_is r u code status bodies.Bare = refl
-end_length_is r u code status body = refl
 
 -- which is 12 to 48 bytes
 pub length_span : (kind : BodyKind) → (12 ≤ end_length kind) × (end_length kind ≤ 48)
-length_span kinds.Bare = (omega arith, omega arith)
-length_span kind = (omega arith, omega arith)
+length_span kind = search arith
 
 pub bytes_span : (e : End) → (12 ≤ length (end_bytes e)) × (length (end_bytes e) ≤ 48)
-bytes_span e =
-    let same : length (end_bytes e) ≡ end_length (kind_of_body e.body) =
-    end_length_is e.reference e.unit e.code e.status e.body in
-    let span = length_span (kind_of_body e.body) in
-    (omega arith, omega arith)
+bytes_span e = search (arith, length_span)
 
 -- zero at every place that isn't named
 pub end_zeros : (r u code status : ℕ) (body : EndBody)
     → IsZeroBeside (end_fields body) (end_bytes (end r u code status body))
-end_zeros r u code status bodies.Bare = zero_beside _ _ refl
-end_zeros r u code status body = zero_beside _ _ refl
+end_zeros r u code status body = search (arith, zero_beside)
 
 -- the bytes of an end are a message of it
 pub end_bytes_are_messages : EndBytesAreMessages
-end_bytes_are_messages e kind fits =
-    let same : length (end_bytes e) ≡ end_length (kind_of_body e.body) =
-    end_length_is e.reference e.unit e.code e.status e.body in
-    let span = length_span (kind_of_body e.body) in
-    let P : Option BodyKind → Type 0 = λ o. HasBody o (end_bytes e) e.body in
-    record {
-      low = omega arith;
-      high = omega arith;
-      reference = sym (four e.reference fits.0);
-      unit = sym (two e.unit fits.1);
-      code = refl;
-      status = sym (two e.status fits.2);
-      body = subst P (sym kind) (omega arith, body_back e.reference e.unit e.code e.status e.body fits.3);
-    }
+end_bytes_are_messages e kind fits = grind (arith, length_span, four, two, body_back)
 
 -- ---- what is read of any message of 12 to 64 bytes
 
@@ -89,17 +48,7 @@ pub record IsAnswer (b : List ℕ) (answer : Result End EndFault) : Type 0 where
 -- a message that is long enough for its endcode is the end that it says
 end_said : (b : List ℕ) (kind : BodyKind) → 12 ≤ length b → length b ≤ 64
     → kind_of_code (slice_index b 8) ≡ Some kind → end_length kind ≤ length b → IsEnd b (end_at kind b)
-end_said b kind low high code long =
-    let P : Option BodyKind → Type 0 = λ o. HasBody o b (body_at kind b) in
-    record {
-      low = low;
-      high = high;
-      reference = refl;
-      unit = refl;
-      code = refl;
-      status = refl;
-      body = subst P (sym code) (long, refl);
-    }
+end_said b kind low high code long = search arith
 
 -- the answer where the endcode has a shape
 answer_with : (b : List ℕ) (answer : Result End EndFault) → IsAnswer b answer

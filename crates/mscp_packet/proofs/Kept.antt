@@ -1,33 +1,15 @@
 -- The opcode byte of a message is that of its command.
-use Rattle.mscp_packet.proofs.Common.{◌≡◌, ℕ, Bool, true, false, cond, List, [], ◌∷◌, length, refl, ap, sym, ◌∙◌, find, nat_eq, nat_lt, if◌then◌else◌, is_some, Option, Some, None, slice_index, unwrap_or, eqb-true, false≢true, Opcode, Order, least, row_of, opcode_of, opcodes, opcode_byte, order_with, parameters, invalid_length}
-use Rattle.mscp_packet.specs.declared.class.Opcode.TheVariants as codes
-use Rattle.mscp_packet.specs.declared.command.Order.TheVariants as orders
+use Rattle.mscp_packet.proofs.Common.{arith, ◌≡◌, ℕ, Bool, List, [], ◌∷◌, ap, ◌∙◌, find, nat_eq, nat_lt, if◌then◌else◌, is_some, Option, Some, slice_index, eqb-true, false≢true, Opcode, Order, least, row_of, opcode_of, opcodes, opcode_byte, order_with}
 
 -- what is found of a byte has that byte
 found_byte : (os : List Opcode) (byte : ℕ) (o : Opcode) → find (λ x. nat_eq (row_of x).byte byte) os ≡ Some o
     → (row_of o).byte ≡ byte
 found_byte [] byte o h = absurd (false≢true (ap is_some h))
-found_byte (x ∷ xs) byte o h =
-    let rest = find (λ (y : Opcode). nat_eq (row_of y).byte byte) xs in
-    let both : (b : Bool) → nat_eq (row_of x).byte byte ≡ b → cond b (Some x) rest ≡ Some o → (row_of o).byte ≡ byte =
-    λ b. elim b as (λ b. nat_eq (row_of x).byte byte ≡ b → cond b (Some x) rest ≡ Some o → (row_of o).byte ≡ byte) [
-      | true ↦ λ e q. ap (λ f. (row_of (unwrap_or f o)).byte) (sym q) ∙ eqb-true (row_of x).byte byte e
-      | false ↦ λ e q. found_byte xs byte o q
-    ] in
-    both (nat_eq (row_of x).byte byte) refl h
-
-parameter_byte : (o : Opcode) (b : List ℕ) → opcode_byte (parameters o b) ≡ (row_of o).byte
-parameter_byte (codes.Move kind) b = refl
-parameter_byte o b = refl
+found_byte (x ∷ xs) byte o h = search (arith, nat_eq, Bool, eqb-true, found_byte xs byte o)
 
 order_byte : (found : Option Opcode) (b : List ℕ) → ((o : Opcode) → found ≡ Some o → (row_of o).byte ≡ slice_index b 8)
     → opcode_byte (order_with found b) ≡ slice_index b 8
-order_byte None b h = refl
-order_byte (Some o) b h =
-    let long = parameter_byte o b ∙ h o refl in
-    elim (nat_lt (length b) (least o)) as (λ s. opcode_byte
-    (if s then orders.Invalid (slice_index b 8) invalid_length else parameters o b) ≡ slice_index b 8)
-    [ true ↦ refl | false ↦ long ]
+order_byte found b h1 = search (arith, nat_lt, least)
 
 pub opcode_kept : (b : List ℕ) (o : Order) → o ≡ order_with (opcode_of (slice_index b 8)) b
     → opcode_byte o ≡ slice_index b 8

@@ -4,8 +4,7 @@ use Rattle.mscp_packet.proofs.Common.{All, ◌≡◌, ℕ, zero, suc, ◌+◌, �
 pub flat_append : {X : Type 0} (f : X → List ℕ) (xs ys : List X)
     → flat_map f (xs ++ ys) ≡ flat_map f xs ++ flat_map f ys
 flat_append f [] ys = refl
-flat_append f (x ∷ xs) ys = ap (λ t. f x ++ t) (flat_append f xs ys)
-    ∙ sym (append_assoc (f x) (flat_map f xs) (flat_map f ys))
+flat_append f (x ∷ xs) ys = search (arith, append_assoc, flat_append f xs ys)
 
 -- one more is written
 pub written_more : {X : Type 0} (f : X → List ℕ) (base : List ℕ) (xs : List X) (i : ℕ) (x d : X) {out new : List ℕ}
@@ -13,9 +12,7 @@ pub written_more : {X : Type 0} (f : X → List ℕ) (base : List ℕ) (xs : Lis
     → new ≡ base ++ flat_map f (take (i + 1) xs)
 written_more f base xs i x d l is e more =
     let t : take (i + 1) xs ≡ take i xs ++ (x ∷ []) = take_more xs i d l ∙ ap (λ y. take i xs ++ (y ∷ [])) is in
-    more ∙ (ap (λ o. o ++ f x) e ∙ (append_assoc base (flat_map f (take i xs)) (f x)
-    ∙ ap (λ o. base ++ o) (ap (λ o. flat_map f (take i xs) ++ o) (sym (append-nil (f x)))
-    ∙ (sym (flat_append f (take i xs) (x ∷ [])) ∙ ap (flat_map f) (sym t)))))
+    search (arith, append_assoc, append-nil, flat_append)
 
 -- and what holds of each that was holds of it too
 pub each_more : {X : Type 0} (P : X → Type 0) (xs : List X) (i : ℕ) (x d : X) → i < length xs → get_or xs i d ≡ x
@@ -30,10 +27,7 @@ from_place k b = take_all (length b - k) (drop k b) (omega (arith, length-drop k
 pub read_more : {X : Type 0} (f : List ℕ → X) (size n : ℕ) (b : List ℕ)
     → parts_in f size (suc n) b ≡ parts_in f size n b ++ (f (drop (size * n) b) ∷ [])
 read_more f size zero b = ap (λ k. f (drop k b) ∷ []) (let e : 0 ≡ size * 0 = omega arith in e)
-read_more f size (suc n) b =
-    ap (λ xs. f b ∷ xs) (read_more f size n (drop size b)
-    ∙ ap (λ l. parts_in f size n (drop size b) ++ (f l ∷ [])) (drop-drop (size * n) size b
-    ∙ ap (λ k. drop k b) (let e : size + size * n ≡ size * suc n = omega arith in e)))
+read_more f size (suc n) b = search (arith, drop-drop, read_more f size n (drop size b))
 
 -- what was written of each, whose parts have this size and say it, is read
 pub read_written : {X : Type 0} (f : List ℕ → X) (w : X → List ℕ) (P : X → Type 0) (size : ℕ)
@@ -45,10 +39,7 @@ read_written f w P size says rest (x ∷ xs) t all =
     let e = append_assoc (w x) (flat_map w xs) t in
     let here : P x = all 0 x (omega arith) in
     let there : All P xs = λ k d l. all (suc k) d (omega (arith, l)) in
-    ap (λ l. f l ∷ parts_in f size (length xs) (drop size l)) e
-    ∙ (ap (λ y. y ∷ parts_in f size (length xs) (drop size (w x ++ b))) (says x b here)
-    ∙ (ap (λ l. x ∷ parts_in f size (length xs) l) (rest x b here)
-    ∙ ap (λ ys. x ∷ ys) (read_written f w P size says rest xs t there)))
+    search (arith, read_written f w P size says rest xs t there)
 
 -- the same with nothing behind it
 pub read_all : {X : Type 0} (f : List ℕ → X) (w : X → List ℕ) (P : X → Type 0) (size : ℕ)

@@ -1,5 +1,5 @@
 -- The tables, line by line.
-use Rattle.mscp_packet.proofs.Common.{◌≡◌, ◌+◌, ◌<◌, ◌≤◌, refl, arith, Some, opcode_of, row_of, kind_of_code, IsSound, Opcode}
+use Rattle.mscp_packet.proofs.Common.{◌≡◌, ◌+◌, ◌<◌, ◌≤◌, arith, Some, opcode_of, row_of, kind_of_code, IsSound, Opcode}
 use Rattle.mscp_packet.proofs.Ends.{length_span}
 use Rattle.mscp_packet.specs.declared.class.Opcode.TheVariants as codes
 use Rattle.mscp_packet.specs.declared.command.MoveKind.TheVariants as moves
@@ -14,24 +14,8 @@ record Line (o : Opcode) : Type 0 where
   room : (row_of o).written_length ≤ 48
 
 line : (o : Opcode) → Line o
-line (codes.Move moves.Access) =
-    record {
-      byte = refl;
-      low = omega arith;
-      code = refl;
-      least = omega arith;
-      enough = omega arith;
-      room = omega arith;
-    }
-line o =
-    record {
-      byte = refl;
-      low = omega arith;
-      code = refl;
-      least = omega arith;
-      enough = omega arith;
-      room = omega arith;
-    }
+line (codes.Move moves.Access) = search arith
+line o = search arith
 
 pub sound : IsSound
 sound = record {

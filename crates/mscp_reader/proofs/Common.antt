@@ -1,5 +1,5 @@
 -- What the lemmas of this crate take from elsewhere.
-pub use Rattle.std.proofs.Common.{Bool, Err, List, Ok, [], ap, arith, cond, drop, false, get_or, inl, inr, length, map, not, refl, rules, subst, suc, sym, take, true, zero, ℕ, ⊎_elim, ◌&&◌, ◌*◌, ◌++◌, ◌+◌, ◌-◌, ◌<◌, ◌==◌, ◌^◌, ◌∙◌, ◌∷◌, ◌≡◌, ◌≢◌, ◌≤◌, ◌⊎◌}
+pub use Rattle.std.proofs.Common.{Bool, Err, List, Ok, [], ap, arith, cond, drop, false, get_or, inl, inr, length, not, refl, rules, subst, suc, sym, take, true, zero, ℕ, ⊎_elim, ◌&&◌, ◌*◌, ◌++◌, ◌+◌, ◌-◌, ◌<◌, ◌==◌, ◌^◌, ◌∙◌, ◌∷◌, ◌≡◌, ◌≢◌, ◌≤◌, ◌⊎◌}
 pub use Rattle.std.proofs.lemmas.Bool.{and_from, and_parts, cases_lt, lt-ltb}
 pub use Rattle.std.proofs.lemmas.Bool.Decides.{nat_tests}
 pub use Rattle.std.proofs.lemmas.Fmt.{length-decimal-le}
@@ -26,7 +26,7 @@ pub use Rattle.mscp_events.specs.declared.event.Event.{Event}
 pub use Rattle.mscp_packet.specs.Steps.{Gives, ◌>>=◌}
 pub use Rattle.mscp_packet.specs.declared.command.MoveKind.{MoveKind}
 pub use Rattle.mscp_packet.specs.declared.command.Order.{Order}
-pub use Rattle.mscp_reader.specs.Grammar.{Begins, HasCredits, HasGone, HasLongest, HasNoGo, HasTimeout, HasUnits, IsAtFault, IsFault, IsInHeader, Place, Reads, asked_after, credits, first_units, fitting, has_room, limit, limits, next_unless_skipped, said_at, unit_or_go}
+pub use Rattle.mscp_reader.specs.Grammar.{Begins, HasCredits, HasGone, HasLongest, HasNoGo, HasTimeout, HasUnits, IsAtFault, IsFault, IsInHeader, Place, Reads, asked_after, credits, first_units, has_room, limit, limits, next_unless_skipped, said_at, unit_or_go}
 unfoldable pub use Rattle.mscp_reader.specs.Grammar.{after_line, after_lines, next}
 pub use Rattle.mscp_reader.specs.Lexical.{is_comment, is_digit, is_numeral, is_printed, is_some_word, narrow, steps_in, wide, without_empty_last}
 unfoldable pub use Rattle.mscp_reader.specs.Lexical.{lines, number, said, words}

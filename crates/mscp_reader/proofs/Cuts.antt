@@ -1,5 +1,5 @@
 -- The first line of a text, and the first word of a line.
-use Rattle.mscp_reader.proofs.Common.{◌≡◌, ◌≢◌, get_or, ◌==◌, ◌<◌, ◌≤◌, ◌+◌, suc, ℕ, Bool, true, false, cond, List, [], ◌∷◌, length, take, drop, map, refl, sym, ap, ◌∙◌, arith, nat_lt, position, unwrap_or, Some, None, nat_tests, filter, slice_split, position_or_len, strip_carriage_return, common_steps, lines, words, without_empty_last, is_some_word}
+use Rattle.mscp_reader.proofs.Common.{◌≡◌, ◌≢◌, get_or, ◌==◌, ◌<◌, ◌≤◌, ◌+◌, suc, ℕ, Bool, false, cond, List, [], ◌∷◌, length, take, drop, refl, ◌∙◌, arith, nat_lt, position, unwrap_or, nat_tests, filter, slice_split, position_or_len, strip_carriage_return, common_steps, lines, words, without_empty_last, is_some_word}
 
 -- how many stand before the first that passes, or all
 abbrev pub front_len : (ℕ → Bool) → List ℕ → ℕ
@@ -12,11 +12,9 @@ parts_after p [] = []
 parts_after p (x ∷ xs) = slice_split p xs
 
 split_step : (p : ℕ → Bool) (x : ℕ) (xs : List ℕ) (b : Bool) → p x ≡ b
-    → slice_split p xs ≡ take (front_len p xs) xs ∷ parts_after p (drop (front_len p xs) xs)
-    → slice_split p (x ∷ xs) ≡ take (front_len p (x ∷ xs)) (x ∷ xs)
-    ∷ parts_after p (drop (front_len p (x ∷ xs)) (x ∷ xs))
-split_step p x xs true e h = rw e refl
-split_step p x xs false e h = rw (e, h) refl
+    → slice_split p xs ≡ take (front_len p xs) xs ∷ parts_after p (drop (front_len p xs) xs) → slice_split p (x ∷ xs)
+    ≡ take (front_len p (x ∷ xs)) (x ∷ xs) ∷ parts_after p (drop (front_len p (x ∷ xs)) (x ∷ xs))
+split_step p x xs b h1 h2 = search arith
 
 pub split_first : (p : ℕ → Bool) (xs : List ℕ) → slice_split p xs ≡ take (front_len p xs) xs
     ∷ parts_after p (drop (front_len p xs) xs)
@@ -24,8 +22,7 @@ split_first p [] = refl
 split_first p (x ∷ xs) = split_step p x xs (p x) refl (split_first p xs)
 
 le_step : (b : Bool) (n k : ℕ) → n ≤ k → cond b 0 (suc n) ≤ suc k
-le_step true n k h = omega arith
-le_step false n k h = omega arith
+le_step b n k h1 = search arith
 
 pub front_len-le : (p : ℕ → Bool) (xs : List ℕ) → front_len p xs ≤ length xs
 front_len-le p [] = omega arith
@@ -33,29 +30,21 @@ front_len-le p (x ∷ xs) = le_step (p x) _ _ (front_len-le p xs)
 
 first_step : (p : ℕ → Bool) (x : ℕ) (xs : List ℕ) (b : Bool) → p x ≡ b → position_or_len p xs ≡ front_len p xs
     → position_or_len p (x ∷ xs) ≡ front_len p (x ∷ xs)
-first_step p x xs true e h = rw e refl
-first_step p x xs false e h = rw (e, h) (omega arith)
+first_step p x xs b h1 h2 = search arith
 
 pub first_is : (p : ℕ → Bool) (xs : List ℕ) → position_or_len p xs ≡ front_len p xs
 first_is p [] = refl
 first_is p (x ∷ xs) = first_step p x xs (p x) refl (first_is p xs)
 
-index_or : (n k : ℕ) (b : Bool) → nat_lt n k ≡ b → n ≤ k → unwrap_or (cond b (Some n) None) k ≡ n
-index_or n k true e h = refl
-index_or n k false e h = grind (arith, nat_tests)
-
 pub front_len_is : (p : ℕ → Bool) (xs : List ℕ) → unwrap_or (position p xs) (length xs) ≡ front_len p xs
-front_len_is p xs = rw (first_is p xs) (index_or (front_len p xs) (length xs) (nat_lt (front_len p xs) (length xs)) refl
-    (front_len-le p xs))
+front_len_is p xs = search (arith, first_is, nat_tests, nat_lt, front_len-le)
 
 -- where the part ends, nothing is left or one that passes
-rest_step : (p : ℕ → Bool) (x : ℕ) (xs : List ℕ) (b : Bool) → p x ≡ b
-    → filter is_some_word (slice_split p (drop (front_len p xs) xs))
-    ≡ filter is_some_word (parts_after p (drop (front_len p xs) xs))
-    → filter is_some_word (slice_split p (drop (front_len p (x ∷ xs)) (x ∷ xs)))
-    ≡ filter is_some_word (parts_after p (drop (front_len p (x ∷ xs)) (x ∷ xs)))
-rest_step p x xs true e h = rw (e, e) refl
-rest_step p x xs false e h = rw e h
+rest_step : (p : ℕ → Bool) (x : ℕ) (xs : List ℕ) (b : Bool) → p x ≡ b → filter is_some_word
+    (slice_split p (drop (front_len p xs) xs)) ≡ filter is_some_word (parts_after p (drop (front_len p xs) xs)) → filter
+    is_some_word (slice_split p (drop (front_len p (x ∷ xs)) (x ∷ xs))) ≡ filter is_some_word
+    (parts_after p (drop (front_len p (x ∷ xs)) (x ∷ xs)))
+rest_step p x xs b h1 h2 = search arith
 
 pub rest_words : (p : ℕ → Bool) (xs : List ℕ) → filter is_some_word (slice_split p (drop (front_len p xs) xs))
     ≡ filter is_some_word (parts_after p (drop (front_len p xs) xs))
@@ -66,8 +55,7 @@ rest_words p (x ∷ xs) = rest_step p x xs (p x) refl (rest_words p xs)
 ahead : (b : ℕ) (xs : List ℕ) → (b == 32) ≡ false → words (b ∷ xs) ≡ take (front_len (λ b. b == 32) (b ∷ xs)) (b ∷ xs)
     ∷ words (drop (front_len (λ b. b == 32) (b ∷ xs)) (b ∷ xs))
 unfolding words
-ahead b xs e = ap (filter is_some_word) (split_first (λ b. b == 32) (b ∷ xs))
-    ∙ rw e (ap (λ ws. (b ∷ take (front_len (λ b. b == 32) xs) xs) ∷ ws) (sym (rest_words (λ b. b == 32) xs)))
+ahead b xs e = search (arith, split_first, rest_words)
 
 pub word_ahead : (xs : List ℕ) → 0 < length xs → get_or xs 0 0 ≢ 32
     → words xs ≡ take (unwrap_or (position (λ b. b == 32) xs) (length xs)) xs
@@ -81,28 +69,15 @@ words_none = refl
 
 -- ---- lines
 
-take_drop_length : (xs : List ℕ) (n : ℕ) → length (take n xs) + length (drop n xs) ≡ length xs
-take_drop_length xs n = grind (arith, common_steps)
-
 -- a split has a part
 pub split_parts : (p : ℕ → Bool) (xs : List ℕ) (line : List ℕ)
     → without_empty_last (line ∷ slice_split p xs) ≡ line ∷ without_empty_last (slice_split p xs)
-split_parts p xs [] = rw (split_first p xs) refl
-split_parts p xs (b ∷ line) = refl
-
-lines_after : (line rest : List ℕ) → 0 < length line + length rest
-    → without_empty_last (line ∷ parts_after (λ b. b == 10) rest) ≡ line
-    ∷ without_empty_last (slice_split (λ b. b == 10) (drop 1 rest))
-lines_after [] [] some = absurd (omega arith)
-lines_after (b ∷ line) [] some = refl
-lines_after line (feed ∷ rest) some = split_parts (λ b. b == 10) rest line
+split_parts p xs line = search (arith, split_first)
 
 line_cut : (xs : List ℕ) (n : ℕ) → front_len (λ b. b == 10) xs ≡ n → 0 < length xs
     → lines xs ≡ strip_carriage_return (take n xs) ∷ lines (drop 1 (drop n xs))
 unfolding lines
-line_cut xs n e some =
-    ap (λ parts. map strip_carriage_return (without_empty_last parts)) (split_first (λ b. b == 10) xs)
-    ∙ rw e (ap (map strip_carriage_return) (lines_after (take n xs) (drop n xs) (omega (arith, take_drop_length xs n))))
+line_cut xs n e some = search (arith, split_first, split_parts, common_steps)
 
 pub line_ahead : (xs : List ℕ) → 0 < length xs
     → lines xs ≡ strip_carriage_return (take (unwrap_or (position (λ b. b == 10) xs) (length xs)) xs)

@@ -3,12 +3,7 @@ use Rattle.mscp_reader.proofs.Common.{◌≡◌, ◌<◌, ◌≤◌, ◌+◌, �
 
 pub value_more : (word : List ℕ) (i v : ℕ) → i < length word → 48 ≤ get_or word i 0 → get_or word i 0 ≤ 57
     → v ≡ digits_value 10 (take i word) → v * 10 + (get_or word i 0 - 48) ≡ digits_value 10 (take (i + 1) word)
-value_more word i v h low high e = omega (
-  arith,
-  digits_value_more 10 word i h,
-  digit_value_digit (get_or word i 0)
-      (low, high),
-)
+value_more word i v h low high e = search (arith, digits_value_more, digit_value_digit)
 
 pub all_more : (word : List ℕ) (i : ℕ) → i < length word → 48 ≤ get_or word i 0 → get_or word i 0 ≤ 57
     → list_all is_digit (take i word) ≡ true → list_all is_digit (take (i + 1) word) ≡ true

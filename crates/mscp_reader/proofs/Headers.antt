@@ -1,18 +1,16 @@
 -- What a line does to a header.
-use Rattle.mscp_reader.proofs.Common.{◌≡◌, ◌+◌, ◌⊎◌, ⊎_elim, inl, inr, ℕ, List, [], ◌∷◌, refl, ap, sym, ◌∙◌, Result, Ok, Err, ◌>>=◌, Gives, Settings, Event, lines, Cause, ScriptFault, Place, HasGone, IsInHeader, after_line, next, next_unless_skipped, said_at, Heads, Leads, gone_or, headed, headed_on, in_line, lines_outcome, rest_headed, rest_outcome}
+use Rattle.mscp_reader.proofs.Common.{arith, ◌≡◌, ◌+◌, ◌⊎◌, ℕ, List, [], ◌∷◌, refl, ◌∙◌, Result, Ok, Err, ◌>>=◌, Gives, Settings, Event, lines, Cause, ScriptFault, Place, HasGone, IsInHeader, after_line, next, said_at, Heads, Leads, gone_or, headed, headed_on, in_line, lines_outcome, rest_headed, rest_outcome}
 use Rattle.mscp_reader.specs.declared.fault.Cause.TheVariants as causes
 use Rattle.mscp_reader.proofs.Outcomes.{ended_early, from_ok}
 
 -- before the header's end
 open_header : (n : ℕ) (p : Place) (behind : List (List ℕ)) (other : Result (Place × ℕ × List (List ℕ)) ScriptFault)
     → IsInHeader p → gone_or n p behind other ≡ other
-open_header n (HasGone settings events) behind other h = absurd h
-open_header n _ behind other h = refl
+open_header n p behind other h1 = search arith
 
 -- a place is in the header, or behind it
 sides : (p : Place) → IsInHeader p ⊎ ((s : Settings) × (es : List Event) × (p ≡ HasGone s es))
-sides (HasGone settings events) = inr (settings, events, refl)
-sides _ = inl tt
+sides p = search arith
 
 -- behind its end nothing is read
 pub headed_gone : (n : ℕ) (s : Settings) (es : List Event) (all : List (List ℕ))
@@ -26,32 +24,21 @@ pub header_skips : (n : ℕ) (line : List ℕ) (rest : List (List ℕ)) (words :
     → in_line (n + 1) (said_at (n + 1) line) ≡ Ok words → words ≡ [] → (p : Place) → IsInHeader p
     → headed n p (line ∷ rest) ≡ headed (n + 1) p rest
 unfolding headed after_line
-header_skips n line rest words e none p h =
-    open_header n p (line ∷ rest) _ h ∙ rw (from_ok (n + 1) (said_at (n + 1) line) words e, none) refl
+header_skips n line rest words e none p h = search (arith, open_header, from_ok)
 
 -- a line that says something
 pub header_speaks : (n : ℕ) (line : List ℕ) (rest : List (List ℕ)) (words : List (List ℕ))
     → in_line (n + 1) (said_at (n + 1) line) ≡ Ok words → ¬ (words ≡ []) → (p : Place) → IsInHeader p
     → headed n p (line ∷ rest) ≡ headed_on (n + 1) p words rest
 unfolding headed after_line headed_on
-header_speaks n line rest [] e some p h = absurd (some refl)
-header_speaks n line rest (w ∷ fields) e some p h =
-    open_header n p (line ∷ rest) _ h ∙ rw (from_ok (n + 1) (said_at (n + 1) line) (w ∷ fields) e) refl
-
-wrong_step : (n : ℕ) (p : Place) (rest : List (List ℕ)) (r : Result (List (List ℕ)) Cause) (fault : ScriptFault)
-    → in_line n r ≡ Err fault
-    → (in_line n (r >>= next_unless_skipped p) >>= λ after. headed n after rest) ≡ Err fault
-wrong_step n p rest (Ok words) fault e = cc
-wrong_step n p rest (Err cause) fault e = let made : ScriptFault = record { line = n; cause = cause } in
-    let q : made ≡ fault = cc in ap Err q
+header_speaks n line rest words h1 h2 p h3 = search (arith, open_header, from_ok)
 
 -- a line that is wrong by itself
 pub header_wrong : (n : ℕ) (line : List ℕ) (rest : List (List ℕ)) (fault : ScriptFault)
     → in_line (n + 1) (said_at (n + 1) line) ≡ Err fault → (p : Place) → IsInHeader p
     → headed n p (line ∷ rest) ≡ Err fault
 unfolding headed after_line
-header_wrong n line rest fault e p h =
-    open_header n p (line ∷ rest) _ h ∙ wrong_step (n + 1) p rest (said_at (n + 1) line) fault e
+header_wrong n line rest fault e p h = search (arith, open_header)
 
 -- no line is left
 pub header_ends : (n : ℕ) (p : Place) → IsInHeader p
@@ -65,36 +52,18 @@ pub line_heads : {X : Type 0} (view : X → Place) (n : ℕ) (p : Place) (words 
     (o : Result (Place × ℕ × List (List ℕ)) ScriptFault) (r : Result X Cause) → Gives view r (next p words)
     → o ≡ headed_on n p words (lines bytes) → Heads view o n bytes (in_line n r)
 unfolding headed_on
-line_heads view n p words bytes o (Ok x) g h = h ∙ rw g refl
-line_heads view n p words bytes o (Err cause) g h = h ∙ rw g refl
+line_heads view n p words bytes o r h1 h2 = search arith
 
 -- ---- what comes of a script
-
-outcome_on : (n : ℕ) (rest : List (List ℕ)) (r : Result Place ScriptFault)
-    → ((q : Place) → lines_outcome n q rest ≡ (headed n q rest >>= λ found. lines_outcome found.1 found.0 found.2))
-    → (r >>= λ after. lines_outcome n after rest)
-    ≡ ((r >>= λ after. headed n after rest) >>= λ found. lines_outcome found.1 found.0 found.2)
-outcome_on n rest (Ok q) ih = ih q
-outcome_on n rest (Err fault) ih = refl
 
 -- it is what comes of the lines behind the header
 pub outcome_by_header : (n : ℕ) (all : List (List ℕ)) (p : Place)
     → lines_outcome n p all ≡ (headed n p all >>= λ found. lines_outcome found.1 found.0 found.2)
 unfolding lines_outcome headed
-outcome_by_header n [] p = ⊎_elim
-    (λ h. rw (open_header n p [] (Err (record { line = n + 1; cause = causes.Header })) h) (ended_early n p h))
-    (λ g. rw g.2 refl) (sides p)
-outcome_by_header n (line ∷ rest) p = ⊎_elim
-    (λ h. rw (open_header n p (line ∷ rest)
-    (in_line (n + 1) (after_line n p line) >>= λ after. headed (n + 1) after rest) h)
-    (outcome_on (n + 1) rest (in_line (n + 1) (after_line n p line)) (λ q. outcome_by_header (n + 1) rest q)))
-    (λ g. rw g.2 refl) (sides p)
+outcome_by_header n [] p = search (arith, open_header, ended_early, sides)
+outcome_by_header n (line ∷ rest) p = search (arith, open_header, sides, outcome_by_header (n + 1) rest)
 
 pub heads_lead : {X : Type 0} (view : X → Place) (n : ℕ) (p : Place) (bytes : List ℕ) (number : ℕ) (rest : List ℕ)
     (r : Result X ScriptFault) → Heads view (rest_headed n p bytes) number rest r
     → Leads view (rest_outcome n p bytes) number rest r
-heads_lead view n p bytes number rest (Ok x) h =
-    outcome_by_header n (lines bytes) p
-    ∙ (ap (λ found. found >>= λ f. lines_outcome f.1 f.0 f.2) h ∙ sym (outcome_by_header number (lines rest) (view x)))
-heads_lead view n p bytes number rest (Err fault) h =
-    outcome_by_header n (lines bytes) p ∙ ap (λ found. found >>= λ f. lines_outcome f.1 f.0 f.2) h
+heads_lead view n p bytes number rest r h1 = search (arith, outcome_by_header)

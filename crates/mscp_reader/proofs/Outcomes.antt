@@ -1,16 +1,14 @@
 -- What a line does to the outcome.
-use Rattle.mscp_reader.proofs.Common.{◌≡◌, ◌+◌, ◌≤◌, ◌++◌, ℕ, List, [], ◌∷◌, length, drop, refl, sym, ap, ◌∙◌, arith, codes, Option, Some, None, Result, Ok, Err, nat_tests, append-nil, ◌>>=◌, Gives, Cause, ScriptFault, Both, Settings, Event, lines, request, Place, next_unless_skipped, Begins, HasCredits, HasLongest, HasTimeout, HasUnits, HasGone, IsInHeader, asked_after, said_at, next, after_line, credits, limit, limits, first_units, unit_or_go, Sets, all_read, asked_next, budget_of, in_line, limited, lines_outcome, rest_outcome, Limit}
+use Rattle.mscp_reader.proofs.Common.{◌≡◌, ◌+◌, ◌≤◌, ◌++◌, ℕ, List, [], ◌∷◌, length, drop, refl, ◌∙◌, arith, codes, Option, Some, None, Result, Ok, Err, nat_tests, append-nil, ◌>>=◌, Gives, Cause, ScriptFault, Both, Settings, Event, lines, request, Place, next_unless_skipped, Begins, HasCredits, HasLongest, HasTimeout, HasUnits, HasGone, IsInHeader, asked_after, next, after_line, credits, limit, limits, first_units, unit_or_go, Sets, all_read, asked_next, budget_of, in_line, limited, lines_outcome, rest_outcome, Limit}
 use Rattle.mscp_reader.specs.declared.fault.Cause.TheVariants as causes
 use Rattle.mscp_reader.specs.declared.header.Limit.TheVariants as ways
 
 pub from_ok : {A : Type 0} (n : ℕ) (r : Result A Cause) (x : A) → in_line n r ≡ Ok x → r ≡ Ok x
-from_ok n (Ok y) x e = cc
-from_ok n (Err cause) x e = cc
+from_ok n r x h1 = search arith
 
 pub ended_early : (n : ℕ) (p : Place) → IsInHeader p
     → all_read n p ≡ Err (record { line = n + 1; cause = causes.Header })
-ended_early n (HasGone settings events) h = absurd h
-ended_early n _ h = refl
+ended_early n p h1 = search arith
 
 -- ---- lines behind the header
 
@@ -21,12 +19,6 @@ after_asked n s es rest (Ok None) = Ok (s, es)
 after_asked n s es rest (Ok (Some new)) = lines_outcome (n + 1) (HasGone s (es ++ new)) rest
 after_asked n s es rest (Err fault) = Err fault
 
-by_asked : (n : ℕ) (s : Settings) (es : List Event) (rest : List (List ℕ)) (r : Result (List Event) Cause)
-    → (in_line (n + 1) (r >>= λ new. Ok (HasGone s (es ++ new))) >>= λ after. lines_outcome (n + 1) after rest)
-    ≡ after_asked n s es rest (in_line (n + 1) r >>= λ new. Ok (Some new))
-by_asked n s es rest (Ok new) = refl
-by_asked n s es rest (Err cause) = refl
-
 no_words : (count : ℕ) → count ≤ 1000000 → asked_after count [] ≡ Ok []
 unfolding request
 no_words count few = grind (arith, nat_tests)
@@ -36,31 +28,24 @@ by_said : (n : ℕ) (s : Settings) (es : List Event) (rest : List (List ℕ)) (r
     → (in_line (n + 1) (r >>= next_unless_skipped (HasGone s es)) >>= λ after. lines_outcome (n + 1) after rest)
     ≡ after_asked n s es rest (in_line (n + 1) (r >>= asked_after (length es)) >>= λ new. Ok (Some new))
 unfolding next
-by_said n s es rest (Ok []) few =
-    rw (no_words (length es) few) (ap (λ all. lines_outcome (n + 1) (HasGone s all) rest) (sym (append-nil es)))
-by_said n s es rest (Ok (w ∷ ws)) few = by_asked n s es rest (asked_after (length es) (w ∷ ws))
-by_said n s es rest (Err cause) few = refl
+by_said n s es rest r h1 = search (arith, no_words, append-nil)
 
 lines_asked : (n : ℕ) (s : Settings) (es : List Event) (all : List (List ℕ)) → length es ≤ 1000000
     → lines_outcome n (HasGone s es) all ≡ after_asked n s es (drop 1 all) (asked_next n (length es) all)
 unfolding lines_outcome after_line
-lines_asked n s es [] few = refl
-lines_asked n s es (line ∷ rest) few = by_said n s es rest (said_at (n + 1) line) few
+lines_asked n s es all h1 = search (arith, by_said)
 
 -- the same of what was read of the next line, where so many events came before
 read_asked : (n count : ℕ) (s : Settings) (es : List Event) (bytes : List ℕ)
     (r : Result (Option (List Event)) ScriptFault) → length es ≡ count → count ≤ 1000000
     → asked_next n count (lines bytes) ≡ r
     → rest_outcome n (HasGone s es) bytes ≡ after_asked n s es (drop 1 (lines bytes)) r
-read_asked n count s es bytes r c few e = lines_asked n s es (lines bytes) (omega (arith, c, few))
-    ∙ ap (after_asked n s es (drop 1 (lines bytes))) (ap (λ k. asked_next n k (lines bytes)) c ∙ e)
+read_asked n count s es bytes r c few e = search (arith, lines_asked, asked_next)
 
 pub goes_on : (n count place : ℕ) (s : Settings) (es new : List Event) (bytes rest : List ℕ) → length es ≡ count
     → count ≤ 1000000 → asked_next n count (lines bytes) ≡ Ok (Some new) → lines rest ≡ drop 1 (lines bytes)
     → place ≡ n + 1 → rest_outcome n (HasGone s es) bytes ≡ rest_outcome place (HasGone s (es ++ new)) rest
-goes_on n count place s es new bytes rest c few e left at =
-    read_asked n count s es bytes (Ok (Some new)) c few e
-    ∙ (λ i. lines_outcome (sym at i) (HasGone s (es ++ new)) (sym left i))
+goes_on n count place s es new bytes rest c few e left at = search (arith, read_asked)
 
 pub ends : (n count : ℕ) (s : Settings) (es : List Event) (bytes : List ℕ) → length es ≡ count → count ≤ 1000000
     → asked_next n count (lines bytes) ≡ Ok None → rest_outcome n (HasGone s es) bytes ≡ Ok (s, es)
@@ -75,13 +60,11 @@ goes_wrong n count s es bytes fault c few e = read_asked n count s es bytes (Err
 
 pub gives_made : {X Y Z : Type 0} (view : X → Y) (make : Y → Z) (r : Result X Cause) (read : Result Y Cause)
     → Gives view r read → Gives (λ x. make (view x)) r (read >>= λ y. Ok (make y))
-gives_made view make (Ok x) read g = rw g refl
-gives_made view make (Err cause) read g = rw g refl
+gives_made view make r read h1 = search arith
 
 pub gives_same : {Y Z : Type 0} (make : Y → Z) (r read : Result Y Cause) → r ≡ read
     → Gives make r (read >>= λ y. Ok (make y))
-gives_same make (Ok x) read e = rw (← e) refl
-gives_same make (Err cause) read e = rw (← e) refl
+gives_same make r read h1 = search arith
 
 pub next_credits : (words : List (List ℕ)) → next Begins words ≡ credits words
 unfolding next

@@ -1,5 +1,5 @@
 -- Plain lines: what is cut off them, and what they say.
-use Rattle.mscp_reader.proofs.Common.{◌≡◌, ◌<◌, ◌≤◌, ◌+◌, ◌-◌, ◌==◌, ◌&&◌, ◌∙◌, ℕ, Bool, true, false, not, suc, zero, subst, map, List, [], ◌∷◌, ◌++◌, length, take, drop, get_or, refl, sym, ap, arith, Ok, Err, position, unwrap_or, nat_le, nat_lt, if◌then◌else◌, replicate, Some, Result, filter, list_all, slice_split, strip_carriage_return, and_parts, and_from, nat_tests, append_assoc, append-nil, length-append, length-drop, length-take-le, take-append-drop, take_all, digits_value, Order, MoveKind, is_comment, is_digit, is_numeral, is_printed, is_some_word, lines, narrow, number, said, steps_in, wide, without_empty_last, words, Asks, Cuts, CutsWord, Ends, IsApart, IsNumeral, IsPlain, is_letter, asked, event_form, form_of, message_form, plain_form, request, sent, fitting, said_at, asked_next, Form, Cause, Good, First, Event}
+use Rattle.mscp_reader.proofs.Common.{◌≡◌, ◌<◌, ◌≤◌, ◌+◌, ◌-◌, ◌==◌, ◌&&◌, ◌∙◌, ℕ, Bool, true, false, not, suc, zero, subst, List, [], ◌∷◌, ◌++◌, length, take, drop, get_or, refl, sym, ap, arith, Ok, Err, position, unwrap_or, nat_le, nat_lt, if◌then◌else◌, replicate, Some, Result, filter, list_all, slice_split, strip_carriage_return, and_parts, and_from, nat_tests, append_assoc, append-nil, length-append, length-drop, length-take-le, take-append-drop, take_all, digits_value, Order, MoveKind, is_comment, is_digit, is_numeral, is_printed, is_some_word, lines, narrow, number, said, steps_in, wide, words, Asks, Cuts, CutsWord, Ends, IsApart, IsNumeral, IsPlain, is_letter, asked, event_form, form_of, message_form, plain_form, request, sent, said_at, asked_next, Form, Cause, Good, First, Event}
 use Rattle.mscp_packet.specs.declared.command.Order.TheVariants as orders
 use Rattle.mscp_reader.specs.declared.events.Form.TheVariants as forms
 use Rattle.mscp_reader.specs.declared.fault.Cause.TheVariants as causes
@@ -11,8 +11,7 @@ use Rattle.mscp_reader.proofs.Cuts.{front_len, front_len_is, parts_after, split_
 letters_step : (x : ℕ) (xs : List ℕ) (b : Bool) → is_letter x ≡ b
     → list_all is_letter (take (front_len (λ c. not (is_letter c)) xs) xs) ≡ true
     → list_all is_letter (take (front_len (λ c. not (is_letter c)) (x ∷ xs)) (x ∷ xs)) ≡ true
-letters_step x xs true e h = rw (e, e, h) refl
-letters_step x xs false e h = rw e refl
+letters_step x xs b h1 h2 = search arith
 
 letters_front : (xs : List ℕ) → list_all is_letter (take (front_len (λ c. not (is_letter c)) xs) xs) ≡ true
 letters_front [] = refl
@@ -31,57 +30,36 @@ is_solid b = not (b == 32) && is_printed b
 abbrev pub AllSolid : List ℕ → Type 0
 AllSolid w = list_all is_solid w ≡ true
 
-solid_letter : (b : ℕ) → is_letter b ≡ true → is_solid b ≡ true
-solid_letter b h = grind (arith, nat_tests)
-
-solid_digit : (b : ℕ) → is_digit b ≡ true → is_solid b ≡ true
-solid_digit b h = grind (arith, nat_tests)
-
 pub solid_letters : (w : List ℕ) → list_all is_letter w ≡ true → AllSolid w
 solid_letters [] h = refl
-solid_letters (b ∷ w) h = let p = and_parts (is_letter b) (list_all is_letter w) h in
-    and_from _ _ (solid_letter b p.0) (solid_letters w p.1)
+solid_letters (b ∷ w) h = search (arith, and_parts, and_from, nat_tests, solid_letters w)
 
 pub solid_digits : (w : List ℕ) → list_all is_digit w ≡ true → AllSolid w
 solid_digits [] h = refl
-solid_digits (b ∷ w) h = let p = and_parts (is_digit b) (list_all is_digit w) h in
-    and_from _ _ (solid_digit b p.0) (solid_digits w p.1)
-
-solid_apart : (b : ℕ) → is_solid b ≡ true → (b == 32) ≡ false
-solid_apart b h = grind (arith, nat_tests)
-
-solid_printed : (b : ℕ) → is_solid b ≡ true → is_printed b ≡ true
-solid_printed b h = grind (arith, nat_tests)
+solid_digits (b ∷ w) h = search (arith, and_parts, and_from, nat_tests, solid_digits w)
 
 printed_front : (w line : List ℕ) → AllSolid w → list_all is_printed line ≡ true
     → list_all is_printed (w ++ line) ≡ true
 printed_front [] line solid h = h
-printed_front (b ∷ w) line solid h = let p = and_parts (is_solid b) (list_all is_solid w) solid in
-    and_from _ _ (solid_printed b p.0) (printed_front w line p.1 h)
+printed_front (b ∷ w) line solid h = search (arith, and_parts, and_from, nat_tests, printed_front w line)
 
 -- ---- words
 
 apart_split : (line : List ℕ) → IsApart line → slice_split (λ b. b == 32) line ≡ [] ∷ parts_after (λ b. b == 32) line
-apart_split [] h = refl
-apart_split (b ∷ line) h = rw h refl
+apart_split line h1 = search arith
 
 word_split : (w line : List ℕ) → AllSolid w → IsApart line
     → slice_split (λ b. b == 32) (w ++ line) ≡ w ∷ parts_after (λ b. b == 32) line
 word_split [] line solid h = apart_split line h
-word_split (b ∷ w) line solid h =
-    let p = and_parts (is_solid b) (list_all is_solid w) solid in
-    rw (solid_apart b p.0, word_split w line p.1 h) refl
+word_split (b ∷ w) line solid h = search (arith, and_parts, nat_tests, word_split w line)
 
 apart_words : (line : List ℕ) → IsApart line → filter is_some_word (parts_after (λ b. b == 32) line) ≡ words line
 unfolding words
-apart_words [] h = refl
-apart_words (b ∷ line) h = rw h refl
+apart_words line h1 = search arith
 
 pub word_front : (w line : List ℕ) → 0 < length w → AllSolid w → IsApart line → words (w ++ line) ≡ w ∷ words line
 unfolding words
-word_front [] line some solid h = absurd (omega arith)
-word_front (b ∷ w) line some solid h = ap (filter is_some_word) (word_split (b ∷ w) line solid h)
-    ∙ ap (λ ws. (b ∷ w) ∷ ws) (apart_words line h)
+word_front w line h1 h2 h3 = search (arith, word_split, apart_words)
 
 after_space : (line : List ℕ) → words (32 ∷ line) ≡ words line
 unfolding words
@@ -99,8 +77,7 @@ cut_word w new some solid = λ more behind e. record {
 
 -- a first byte that was seen
 pub seen : (xs : List ℕ) (b : ℕ) → 0 < length xs → get_or xs 0 0 ≡ b → xs ≡ b ∷ take (length xs - 1) (drop 1 xs)
-seen [] b some e = absurd (omega arith)
-seen (x ∷ xs) b some e = ap (λ y. y ∷ xs) e ∙ ap (λ ys. b ∷ ys) (sym (take_all (length (x ∷ xs) - 1) xs (omega arith)))
+seen xs b h1 h2 = search (arith, take_all)
 
 -- a line feed was cut off
 pub at_feed : (xs behind : List ℕ) → xs ≡ 10 ∷ behind → Ends xs [] behind
@@ -114,8 +91,7 @@ printed_fed b h = grind (arith, nat_tests)
 feed_split : (line behind : List ℕ) → list_all is_printed line ≡ true
     → slice_split (λ b. b == 10) (line ++ 10 ∷ behind) ≡ line ∷ slice_split (λ b. b == 10) behind
 feed_split [] behind h = refl
-feed_split (b ∷ line) behind h = let p = and_parts (is_printed b) (list_all is_printed line) h in
-    rw (printed_fed b p.0, feed_split line behind p.1) refl
+feed_split (b ∷ line) behind h = search (arith, and_parts, printed_fed, feed_split line behind)
 
 pub said_plain : (line : List ℕ) → length line ≤ 200 → is_comment line ≡ false → list_all is_printed line ≡ true
     → said line ≡ Ok (words line)
@@ -148,18 +124,10 @@ cut_number old value digits some space numeral least small =
     (omega (arith, numeral.value, small)) ∙ ap Ok (sym numeral.value) in
     (word, means, subst (λ xs. Cuts xs (word ∷ []) new) whole (cut_word word new long (solid_digits word numeral.all)))
 
-narrow_step : (d v : ℕ) (b : Bool) → nat_le d 4294967295 ≡ b
-    → (let r : Result ℕ Cause = if b then Ok d else Err causes.Number in r ≡ Ok v) → v ≤ 65535
-    → (let r : Result ℕ Cause = if nat_le d 65535 then Ok d else Err causes.Number in r ≡ Ok v)
-narrow_step d v true e h small = let same : d ≡ v = cc in let fits : nat_le d 65535 ≡ true =
-    grind (arith, nat_tests, same) in rw fits h
-narrow_step d v false e h small = cc
-
 narrow_case : (d v : ℕ) (b : Bool) → (let r : Result ℕ Cause =
     if b && nat_le d 4294967295 then Ok d else Err causes.Number in r ≡ Ok v) → v ≤ 65535
     → (let r : Result ℕ Cause = if b && nat_le d 65535 then Ok d else Err causes.Number in r ≡ Ok v)
-narrow_case d v true h small = narrow_step d v (nat_le d 4294967295) refl h small
-narrow_case d v false h small = cc
+narrow_case d v b h1 h2 = search (arith, nat_tests, nat_le)
 
 pub narrow_is : (word : List ℕ) (v : ℕ) → wide word ≡ Ok v → v ≤ 65535 → narrow word ≡ Ok v
 unfolding number
@@ -244,8 +212,7 @@ plain_is bytes w rest new behind form what is letters known asks ends =
 
 last_printed : (line : List ℕ) (i : ℕ) → list_all is_printed line ≡ true → (get_or line i 0 == 13) ≡ false
 last_printed [] i h = refl
-last_printed (b ∷ line) zero h = let p = (and_parts (is_printed b) (list_all is_printed line) h).0 in
-    grind (arith, nat_tests, p)
+last_printed (b ∷ line) zero h = search (arith, and_parts, nat_tests)
 last_printed (b ∷ line) (suc i) h = last_printed line i (and_parts (is_printed b) (list_all is_printed line) h).1
 
 strip_printed : (line : List ℕ) → list_all is_printed line ≡ true → strip_carriage_return line ≡ line
@@ -254,11 +221,7 @@ strip_printed line h = rw (last_printed line (length line - 1) h) refl
 pub plain_lines : (line behind : List ℕ) → list_all is_printed line ≡ true
     → lines (line ++ 10 ∷ behind) ≡ line ∷ lines behind
 unfolding lines
-plain_lines line behind h =
-    ap (λ parts. map strip_carriage_return (without_empty_last parts)) (feed_split line behind h)
-    ∙ ap (map strip_carriage_return) (split_parts (λ b. b == 10) behind line)
-    ∙ ap (λ l. l ∷ map strip_carriage_return (without_empty_last (slice_split (λ b. b == 10) behind)))
-    (strip_printed line h)
+plain_lines line behind h = search (arith, feed_split, split_parts, strip_printed)
 
 -- its length, and the line itself
 line_length : (bytes behind : List ℕ) (what : List Event) (r : IsPlain bytes what behind)
@@ -274,5 +237,4 @@ plain_next n count bytes behind new r few short fits =
     let counted : nat_lt 1000000 (n + 1) ≡ false = grind (arith, nat_tests) in
     let says : said_at (n + 1) r.line ≡ Ok (words r.line) = rw counted (said_plain r.line
     (omega (arith, short, line_length bytes behind new r)) r.said r.printed) in
-    let most : fitting count new ≡ Ok new = grind (arith, nat_tests) in
-    (rw (whole, says, r.asks, most) refl, rw whole refl)
+    search (arith, nat_tests)

@@ -1,10 +1,8 @@
 -- A list of units with one more.
-use Rattle.mscp_reader.proofs.Common.{◌≡◌, ◌<◌, ◌+◌, ◌++◌, ℕ, zero, suc, Bool, true, false, ◌&&◌, List, [], ◌∷◌, length, get_or, refl, arith, ⊎_elim, nat_lt, list_all, cases_lt, nat_tests, common_steps, Shape, has_room, IsUnitList, NumbersRise}
+use Rattle.mscp_reader.proofs.Common.{◌≡◌, ◌<◌, ◌+◌, ◌++◌, ℕ, zero, suc, Bool, true, ◌&&◌, List, [], ◌∷◌, length, get_or, refl, arith, nat_lt, list_all, cases_lt, nat_tests, common_steps, Shape, has_room, IsUnitList, NumbersRise}
 
 both : (a b : Bool) → (a && b) ≡ true → (a ≡ true) × (b ≡ true)
-both true true e = (refl, refl)
-both true false e = cc
-both false b e = cc
+both a b h1 = search arith
 
 below : (a n : ℕ) → nat_lt a n ≡ true → a < n
 below a n e = grind (arith, nat_tests)
@@ -24,24 +22,12 @@ at_front (u ∷ us) unit (suc i) other h = at_front us unit i other (omega arith
 at_end : (units : List Shape) (unit : Shape) (i : ℕ) (other : Shape) → i ≡ length units
     → get_or (units ++ unit ∷ []) i other ≡ unit
 at_end [] unit zero other h = refl
-at_end [] unit (suc i) other h = absurd (omega arith)
-at_end (u ∷ us) unit zero other h = absurd (omega arith)
 at_end (u ∷ us) unit (suc i) other h = at_end us unit i other (omega arith)
+at_end units unit i other h = absurd (omega arith)
 
 rises_more : (units : List Shape) (unit : Shape) → NumbersRise units → length units < 16
     → list_all (λ u. nat_lt u.number unit.number) units ≡ true → IsUnitList (units ++ unit ∷ [])
-rises_more units unit rise few all = record {
-  some = grind (arith, common_steps);
-  few = grind (arith, common_steps);
-  rising = λ i other h.
-      let bound : i + 1 < length units + 1 = grind (arith, common_steps) in
-      ⊎_elim
-      (λ b. let e : get_or (units ++ unit ∷ []) (i + 1) other ≡ get_or units (i + 1) other =
-      at_front units unit (i + 1) other b in rw (at_front units unit i other (omega arith), e) (rise i other b))
-      (λ b. let e : get_or (units ++ unit ∷ []) (i + 1) other ≡ unit = at_end units unit (i + 1) other (omega arith) in
-      rw (at_front units unit i other (omega arith), e) (all_below units unit.number i other all (omega arith)))
-      (cases_lt (i + 1) (length units));
-}
+rises_more units unit rise few all = search (arith, common_steps, at_front, at_end, all_below, cases_lt)
 
 pub one_more_rises : (units : List Shape) (unit : Shape) → NumbersRise units → has_room units unit.number ≡ true
     → IsUnitList (units ++ unit ∷ [])

@@ -1,20 +1,17 @@
 -- The outcome of all lines is that the script is read, or its first fault.
-use Rattle.mscp_reader.proofs.Common.{◌≡◌, ◌≤◌, ◌+◌, ◌++◌, ◌⊎◌, inl, inr, ℕ, List, [], ◌∷◌, length, refl, sym, ap, subst, ◌∙◌, arith, ⊎_elim, Result, Ok, Err, Settings, Event, ◌>>=◌, lines, Cause, ScriptFault, Place, Begins, HasGone, IsInHeader, after_line, after_lines, Reads, IsFault, in_line, lines_outcome, all_read}
+use Rattle.mscp_reader.proofs.Common.{◌≡◌, ◌≤◌, ◌+◌, ◌++◌, ◌⊎◌, inl, inr, ℕ, List, [], ◌∷◌, length, refl, ap, subst, ◌∙◌, arith, ⊎_elim, Result, Ok, Err, Settings, Event, ◌>>=◌, lines, Cause, ScriptFault, Place, Begins, HasGone, IsInHeader, after_line, after_lines, Reads, IsFault, in_line, lines_outcome, all_read}
 use Rattle.mscp_reader.specs.declared.fault.Cause.TheVariants as causes
 
 -- ---- read
 
 ended_ok : (n : ℕ) (p : Place) (s : Settings) (es : List Event) → all_read n p ≡ Ok (s, es) → p ≡ HasGone s es
-ended_ok n (HasGone settings events) s es e = let pair : (settings, events) ≡ (s, es) = cc in
-    ap (λ (x : Settings × List Event). HasGone x.0 x.1) pair
-ended_ok n _ s es e = cc
+ended_ok n p s es h1 = search arith
 
 ok_step : (n : ℕ) (rest : List (List ℕ)) (s : Settings) (es : List Event) (r : Result Place Cause)
     → ((q : Place) → lines_outcome (n + 1) q rest ≡ Ok (s, es) → after_lines (n + 1) q rest ≡ Ok (HasGone s es))
     → (in_line (n + 1) r >>= λ after. lines_outcome (n + 1) after rest) ≡ Ok (s, es)
     → (r >>= λ after. after_lines (n + 1) after rest) ≡ Ok (HasGone s es)
-ok_step n rest s es (Ok q) ih e = ih q e
-ok_step n rest s es (Err cause) ih e = cc
+ok_step n rest s es r h1 h2 = search arith
 
 pub outcome_ok : (n : ℕ) (p : Place) (all : List (List ℕ)) (s : Settings) (es : List Event)
     → lines_outcome n p all ≡ Ok (s, es) → after_lines n p all ≡ Ok (HasGone s es)
@@ -44,11 +41,7 @@ record NoGoFrom (n : ℕ) (p : Place) (all : List (List ℕ)) (fault : ScriptFau
 
 made : (n : ℕ) (fault : ScriptFault) → (let m : ScriptFault = record { line = n + 1; cause = causes.Header } in
     m ≡ fault) → (fault.cause ≡ causes.Header) × (fault.line ≡ n + 0 + 1)
-made n fault e = (
-  sym (ap (λ (f : ScriptFault). f.cause) e),
-  let q : n + 1 ≡ fault.line =
-      ap (λ (f : ScriptFault). f.line) e in omega arith,
-)
+made n fault e = search arith
 
 early : (n : ℕ) (p : Place) (fault : ScriptFault) → IsInHeader p
     → (let m : ScriptFault = record { line = n + 1; cause = causes.Header } in m ≡ fault) → NoGoFrom n p [] fault
@@ -56,8 +49,7 @@ unfolding after_lines
 early n p fault h e = let q = made n fault e in record { place = p; right = refl; early = h; cause = q.0; number = q.1 }
 
 ended_err : (n : ℕ) (p : Place) (fault : ScriptFault) → all_read n p ≡ Err fault → NoGoFrom n p [] fault
-ended_err n (HasGone settings events) fault e = cc
-ended_err n p fault e = early n p fault tt cc
+ended_err n p fault h1 = search (arith, early)
 
 -- the fault of the lines after one that is right
 later : (n : ℕ) (p q : Place) (line : List ℕ) (rest : List (List ℕ)) (fault : ScriptFault) → after_line n p line ≡ Ok q
@@ -77,13 +69,7 @@ later n p q line rest fault e h = record {
 no_go_later : (n : ℕ) (p q : Place) (line : List ℕ) (rest : List (List ℕ)) (fault : ScriptFault)
     → after_line n p line ≡ Ok q → NoGoFrom (n + 1) q rest fault → NoGoFrom n p (line ∷ rest) fault
 unfolding after_lines
-no_go_later n p q line rest fault e h = record {
-  place = h.place;
-  right = rw e h.right;
-  early = h.early;
-  cause = h.cause;
-  number = let k : fault.line ≡ n + 1 + length rest + 1 = h.number in omega arith;
-}
+no_go_later n p q line rest fault e h = search (arith, early)
 
 here : (n : ℕ) (p : Place) (line : List ℕ) (rest : List (List ℕ)) (cause : Cause) (fault : ScriptFault)
     → after_line n p line ≡ Err cause
@@ -107,9 +93,7 @@ err_step : (n : ℕ) (p : Place) (line : List ℕ) (rest : List (List ℕ)) (fau
     → FaultFrom (n + 1) q rest fault ⊎ NoGoFrom (n + 1) q rest fault)
     → (in_line (n + 1) r >>= λ after. lines_outcome (n + 1) after rest) ≡ Err fault
     → FaultFrom n p (line ∷ rest) fault ⊎ NoGoFrom n p (line ∷ rest) fault
-err_step n p line rest fault (Ok q) e ih h = ⊎_elim (λ a. inl (later n p q line rest fault e a))
-    (λ b. inr (no_go_later n p q line rest fault e b)) (ih q h)
-err_step n p line rest fault (Err cause) e ih h = inl (here n p line rest cause fault e cc)
+err_step n p line rest fault r h1 h2 h3 = search (arith, later, no_go_later, here)
 
 outcome_err : (n : ℕ) (p : Place) (all : List (List ℕ)) (fault : ScriptFault) → lines_outcome n p all ≡ Err fault
     → FaultFrom n p all fault ⊎ NoGoFrom n p all fault

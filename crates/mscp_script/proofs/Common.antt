@@ -1,17 +1,14 @@
 -- What the lemmas of this crate take from elsewhere.
-pub use Rattle.std.proofs.Common.{Bool, Err, IfOk, List, None, Ok, OnOk, Option, Result, Some, [], ap, arith, drop, false, get_or, length, length-append, map, refl, replicate, subst, sym, take, true, vec_len, ℕ, ◌++◌, ◌+◌, ◌-◌, ◌<◌, ◌∙◌, ◌∷◌, ◌≡◌, ◌≤◌}
+pub use Rattle.std.proofs.Common.{Bool, Err, IfOk, List, OnOk, Option, Result, [], ap, arith, drop, false, get_or, length, length-append, map, refl, replicate, subst, take, true, vec_len, ℕ, ◌++◌, ◌+◌, ◌-◌, ◌<◌, ◌∙◌, ◌∷◌, ◌≡◌, ◌≤◌}
 pub use Rattle.std.proofs.Math.ListN.{drop_of_length-le}
 pub use Rattle.std.proofs.lemmas.Bool.{true≢false}
 pub use Rattle.std.proofs.lemmas.Grind.{common_steps}
 pub use Rattle.std.proofs.lemmas.List.{append_assoc, drop-set, flat_map_more, length-drop, length-take, replicate_more, take-append-le}
 pub use Rattle.std.proofs.lemmas.List.Sums.{sum_by_push}
 pub use Rattle.std.proofs.lemmas.Slice.Eq.{bytes_eq-Decides}
-pub use Rattle.std.specs.Bool.{Decides}
-pub use Rattle.std.specs.Fmt.{decimal}
 pub use Rattle.std.specs.Io.KnownBytes.{Appends, Consumes, IsAtEnd}
 pub use Rattle.std.specs.List.{flat_map}
 pub use Rattle.std.specs.Prelude.{IsErrAnd, codes}
-pub use Rattle.std.specs.String.{string_bytes}
 pub use Rattle.mscp_controller.specs.Holdings.{Answered, Answers, Holdings, fresh}
 pub use Rattle.mscp_controller.specs.declared.entry.Entry.{Entry}
 pub use Rattle.mscp_events.specs.Settings.{Settings}
@@ -32,7 +29,7 @@ pub use Rattle.mscp_reader.specs.declared.fault.ScriptFault.{ScriptFault}
 pub use Rattle.mscp_script.specs.Chosen.{chosen}
 pub use Rattle.mscp_script.specs.Running.{Meets, Ran, Runs, TellsReport}
 pub use Rattle.mscp_script.specs.Simulated.{IsReport, sim_of_reading, sim_of_script}
-pub use Rattle.mscp_script.specs.Text.{Reported, ended_count, entry_lines, figure_line, finished, queued_count, reported, seek_of, step_count, with_entry}
+pub use Rattle.mscp_script.specs.Text.{Reported, entry_lines, figure_line, finished, reported, with_entry}
 pub use Rattle.mscp_script.specs.Whole.{IsFront, IsRest, most_read}
 pub use Rattle.mscp_script.specs.declared.reading.ReadAllFault.{ReadAllFault}
 pub use Rattle.mscp_script.specs.declared.running.Run.{Run}

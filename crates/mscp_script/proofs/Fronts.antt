@@ -1,34 +1,18 @@
 -- When the bytes that were read are the front of all, and the rest is what is left.
-use Rattle.mscp_script.proofs.Common.{◌≡◌, ◌<◌, ◌≤◌, ℕ, List, [], ◌++◌, length, take, drop, Option, Some, None, ap, subst, ◌∙◌, arith, take-append-le, common_steps, Consumes, IsAtEnd, IsFront, IsRest}
-
-full_list : (xs ys all : List ℕ) (n : ℕ) → length all ≡ n → xs ≡ all ++ ys → all ≡ take n xs
-full_list xs ys all n e h = grind (arith, common_steps, take-append-le)
+use Rattle.mscp_script.proofs.Common.{◌≡◌, ◌<◌, ◌≤◌, ℕ, List, [], ◌++◌, length, take, drop, Option, subst, ◌∙◌, arith, take-append-le, common_steps, Consumes, IsAtEnd, IsFront, IsRest}
 
 -- as many bytes were read as are wanted
 pub front_full : (old new : Option (List ℕ)) (all : List ℕ) (n : ℕ) → length all ≡ n → Consumes old new all
     → IsFront n old all
-front_full None new all n e h = tt
-front_full (Some xs) None all n e h = absurd h
-front_full (Some xs) (Some ys) all n e h = full_list xs ys all n e h
-
-full_rest : (xs ys all : List ℕ) (n : ℕ) → length all ≡ n → xs ≡ all ++ ys → ys ≡ drop n xs
-full_rest xs ys all n e h = grind (arith, common_steps)
+front_full old new all n h1 h2 = search (arith, common_steps, take-append-le)
 
 pub rest_full : (old new : Option (List ℕ)) (all : List ℕ) (n : ℕ) → length all ≡ n → Consumes old new all
     → IsRest n old new
-rest_full None new all n e h = tt
-rest_full (Some xs) None all n e h = absurd h
-rest_full (Some xs) (Some ys) all n e h = ap Some (full_rest xs ys all n e h)
-
-end_list : (xs all : List ℕ) (n : ℕ) → length all ≤ n → xs ≡ all ++ [] → all ≡ take n xs
-end_list xs all n e h = grind (arith, common_steps)
+rest_full old new all n h1 h2 = search (arith, common_steps)
 
 none_left : (old mid new : Option (List ℕ)) (all : List ℕ) (n : ℕ) → length all ≤ n → Consumes old mid all
     → Consumes mid new [] → IsAtEnd new → IsFront n old all
-none_left None mid new all n e h g end = tt
-none_left (Some xs) None new all n e h g end = absurd h
-none_left (Some xs) (Some ys) None all n e h g end = absurd g
-none_left (Some xs) (Some ys) (Some zs) all n e h g end = end_list xs all n e (h ∙ ap (λ r. all ++ r) (g ∙ end))
+none_left old mid new all n h1 h2 h3 h4 = search (arith, common_steps)
 
 -- a read gave no byte
 pub front_end : (old mid new : Option (List ℕ)) (all buf : List ℕ) (k n : ℕ) → length all ≤ n → Consumes old mid all
@@ -40,15 +24,6 @@ front_end old mid new all buf k n e h g end z room =
 end_rest : (xs all zs : List ℕ) (n : ℕ) → length all ≤ n → xs ≡ all ++ [] → zs ≡ [] → zs ≡ drop n xs
 end_rest xs all zs n e h z = grind (arith, common_steps)
 
-none_after : (old mid new : Option (List ℕ)) (all : List ℕ) (n : ℕ) → length all ≤ n → Consumes old mid all
-    → Consumes mid new [] → IsAtEnd new → IsRest n old new
-none_after None mid new all n e h g end = tt
-none_after (Some xs) None new all n e h g end = absurd h
-none_after (Some xs) (Some ys) None all n e h g end = absurd g
-none_after (Some xs) (Some ys) (Some zs) all n e h g end =
-    ap Some (end_rest xs all zs n e (h ∙ ap (λ r. all ++ r) (g ∙ end)) end)
-
 pub rest_end : (old mid new : Option (List ℕ)) (all buf : List ℕ) (k n : ℕ) → length all ≤ n → Consumes old mid all
     → Consumes mid new (take k buf) → (k ≡ 0 → 0 < length buf → IsAtEnd new) → k ≡ 0 → 0 < length buf → IsRest n old new
-rest_end old mid new all buf k n e h g end z room =
-    none_after old mid new all n e h (subst (λ (j : ℕ). Consumes mid new (take j buf)) z g) (end z room)
+rest_end old mid new all buf k n e h g end z room = search (arith, end_rest)

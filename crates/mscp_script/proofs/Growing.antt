@@ -1,16 +1,11 @@
 -- A report grows by an entry as the run does.
-use Rattle.mscp_script.proofs.Common.{◌≡◌, ℕ, ◌+◌, List, [], ◌∷◌, ◌++◌, length-append, replicate, Result, Ok, Err, OnOk, ap, subst, sym, ◌∙◌, refl, flat_map, sum_by_push, append_assoc, flat_map_more, replicate_more, Choice, IsSweep, OutOfMemory, Event, Entry, Settings, Answered, Answers, Holdings, fresh, Meets, Ran, Runs, Run, Reported, ended_count, entry_lines, queued_count, reported, seek_of, step_count, with_entry}
+use Rattle.mscp_script.proofs.Common.{arith, ◌≡◌, ℕ, ◌+◌, List, [], ◌∷◌, ◌++◌, length-append, replicate, Result, OnOk, ap, subst, ◌∙◌, refl, flat_map, sum_by_push, append_assoc, flat_map_more, replicate_more, Choice, IsSweep, OutOfMemory, Event, Entry, Settings, Answered, Answers, Holdings, fresh, Meets, Ran, Runs, Run, Reported, entry_lines, reported, with_entry}
 
 pub reported_more : (all : List Entry) (entry : Entry) → with_entry (reported all) entry ≡ reported (all ++ entry ∷ [])
 reported_more all entry =
     let lines : flat_map entry_lines all ++ entry_lines entry ≡ flat_map entry_lines (all ++ entry ∷ []) =
     flat_map_more entry_lines [] all entry in
-    let steps = sum_by_push step_count all entry in
-    let seeks = sum_by_push seek_of all entry in
-    let queued = sum_by_push queued_count all entry in
-    let ended = sum_by_push ended_count all entry in
-    let count = length-append all (entry ∷ []) in
-    cc
+    search (arith, sum_by_push, length-append)
 
 -- an answer more
 answered_more : {K : Type 0} (picks : List Choice → ℕ → Type 0) (old mid new : Holdings K) (es : List Event)
@@ -35,21 +30,13 @@ runs_none c run e f = record {
 -- an event more
 pub runs_more : {A : Type 0} (c : Settings) (es : List Event) (old new : Run A) (e : Event) → Runs c es old
     → Ran old new e → Runs c (es ++ e ∷ []) new
-runs_more c es old new e runs ran = record {
-  begun = runs.begun;
-  new = runs.new;
-  entries = runs.entries ++ ran.entry ∷ [];
-  answered = answered_more _ _ _ _ es runs.entries e ran.entry runs.answered ran.answers;
-  report_is = ran.report_is ∙ ap (λ r. with_entry r ran.entry) runs.report_is ∙ reported_more runs.entries ran.entry;
-  count = ap (λ (r : Reported). r.count) ran.report_is ∙ ap (λ k. k + 1) runs.count ∙ sym (length-append es (e ∷ []));
-}
+runs_more c es old new e runs ran = search (arith, answered_more, reported_more, length-append)
 
 -- an answer that is reported, where memory may have been wanted
 pub ran_on : {A : Type 0} (r : Result (Unit {0}) OutOfMemory) (old new : Run A) (event : Event) (entry : Entry)
     → Answers IsSweep old.controller event entry new.controller → OnOk r (new.reporter ≡ with_entry old.reporter entry)
     → OnOk r (Ran old new event)
-ran_on (Ok x) old new event entry a e = record { entry = entry; answers = a; report_is = e }
-ran_on (Err x) old new event entry a e = tt
+ran_on r old new event entry h1 h2 = search arith
 
 -- ---- whatever came before
 
@@ -62,13 +49,11 @@ ran_count old new e ran = ap (λ (r : Reported). r.count) ran.report_is
 -- the same where memory may have been wanted
 pub meets_ok : {A : Type 0} (r : Result (Unit {0}) OutOfMemory) (old new : Run A) (e : Event) → OnOk r (Ran old new e)
     → OnOk r (Meets old new (e ∷ []))
-meets_ok (Ok x) old new e ran = meets_one old new e ran
-meets_ok (Err x) old new e ran = tt
+meets_ok r old new e h1 = search (arith, meets_one)
 
 -- one more of the same event
 pub meets_more : {A : Type 0} (a b d : Run A) (n : ℕ) (e : Event) → Meets a b (replicate n e) → Ran b d e
     → Meets a d (replicate (n + 1) e)
 meets_more a b d n e m ran = λ c es runs.
     let more : Runs c ((es ++ replicate n e) ++ e ∷ []) d = runs_more c (es ++ replicate n e) b d e (m c es runs) ran in
-    subst (λ all. Runs c all d) (append_assoc es (replicate n e) (e ∷ []) ∙ ap (λ all. es ++ all) (replicate_more n e))
-    more
+    search (arith, append_assoc, replicate_more)

@@ -1,5 +1,5 @@
 -- The words of a command line.
-use Rattle.mscp_script.proofs.Common.{◌≡◌, ◌<◌, ◌≤◌, ℕ, Bool, true, false, List, [], ◌∷◌, length, map, get_or, refl, arith, Err, codes, Decides, bytes_eq-Decides, chosen}
+use Rattle.mscp_script.proofs.Common.{◌≡◌, ◌<◌, ◌≤◌, ℕ, Bool, List, [], ◌∷◌, length, map, get_or, refl, arith, Err, codes, bytes_eq-Decides, chosen}
 use Rattle.mscp_script.specs.declared.choosing.LineFault.TheVariants as faults
 
 -- a list of two words
@@ -10,15 +10,7 @@ two_words f (x ∷ []) a b least below first second = absurd (omega arith)
 two_words f (x ∷ y ∷ []) a b least below first second = rw (first, second) refl
 two_words f (x ∷ y ∷ z ∷ ws) a b least below first second = absurd (omega arith)
 
--- a test of what is not so
-is_not : (test : Bool) (P : Type 0) → Decides test P → (P → ⊥) → test ≡ false
-is_not true P decides never = absurd (never (decides.0 refl))
-is_not false P decides never = refl
-
 -- another command than the two
 pub neither : (command operand : List ℕ) → (command ≡ codes "run" → ⊥) → (command ≡ codes "packet" → ⊥)
     → chosen (command ∷ operand ∷ []) ≡ Err faults.Usage
-neither command operand run packet =
-    let no_run = is_not _ _ (bytes_eq-Decides command (codes "run")) run in
-    let no_packet = is_not _ _ (bytes_eq-Decides command (codes "packet")) packet in
-    rw (no_run, no_packet) refl
+neither command operand run packet = search (arith, bytes_eq-Decides)

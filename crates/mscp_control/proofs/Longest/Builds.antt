@@ -6,14 +6,11 @@ pub steps_next : (s : Shape) (x : Transfer) (from : ℕ) (t : Trace) (j : ℕ)
 steps_next s x from t j = let e : j + 1 ≡ suc j = omega arith in ap (λ i. steps_on s x from t i) e
 
 pub come_next : (c : Settings) (s : Shape) (t : Trace) (i : ℕ)
-    → come_on c s t (i + 1)
-    ≡ come_on c s t i ++ queueing (connection_at c i) (read_command s (long_read c i)) ∷ []
+    → come_on c s t (i + 1) ≡ come_on c s t i ++ queueing (connection_at c i) (read_command s (long_read c i)) ∷ []
 come_next c s t i = let e : i + 1 ≡ suc i = omega arith in ap (λ k. come_on c s t k) e
 
-pub pass_next : (c : Settings) (s : Shape) (t : Trace) (j : ℕ)
-    → pass_on c s t (j + 1)
-    ≡ runs_on s (short_read c) (c.longest - 1)
-    (pass_on c s t j ++ queueing First (read_command s (short_read c)) ∷ [])
+pub pass_next : (c : Settings) (s : Shape) (t : Trace) (j : ℕ) → pass_on c s t (j + 1) ≡ runs_on s (short_read c)
+    (c.longest - 1) (pass_on c s t j ++ queueing First (read_command s (short_read c)) ∷ [])
 pass_next c s t j = let e : j + 1 ≡ suc j = omega arith in ap (λ i. pass_on c s t i) e
 
 pub rest_next : (c : Settings) (s : Shape) (t : Trace) (i : ℕ)

@@ -1,5 +1,5 @@
 -- The figure of a command that waits as long as the bound counts down to its end, one by one.
-use Rattle.mscp_control.proofs.Common.{◌≡◌, ℕ, zero, suc, ◌+◌, ◌-◌, ◌<◌, ◌≤◌, true, not, length, take, ap, ◌∙◌, subst, arith, and_parts, length-take-le, take_all, Settings, IsValid, bound, Trace, moment, is_waiting, steps_after, figure, IsLegal, Promise, is_waiting_before, steps_last, steps_more, more_at, progress, waits_in}
+use Rattle.mscp_control.proofs.Common.{◌≡◌, ℕ, zero, suc, ◌+◌, ◌-◌, ◌<◌, ◌≤◌, true, not, length, take, ap, ◌∙◌, arith, and_parts, length-take-le, take_all, Settings, IsValid, bound, Trace, moment, is_waiting, steps_after, figure, IsLegal, Promise, is_waiting_before, steps_last, steps_more, more_at, progress, waits_in}
 
 -- what its figure and its steps so far come to, after so many moments
 abbrev total : Settings → Trace → ℕ → ℕ → ℕ
@@ -29,14 +29,7 @@ sinks_all : (c : Settings) (t : Trace) (x : ℕ) → Promise c t
     → (d i : ℕ) → x < i → i + d ≤ length t → total c t x (i + d) ≤ total c t x i
 sinks_all c t x p w zero i l h = search arith
 sinks_all c t x p w (suc d) i l h =
-    search (
-      arith,
-      sinks_all c t x p w d (i + 1) (omega (arith, l)) (omega (arith, h)),
-      sinks c t x i p l (omega (
-        arith,
-        h,
-      )) (w i l (omega (arith, h))),
-    )
+    search (arith, sinks, sinks_all c t x p w d (i + 1) (omega (arith, l)) (omega (arith, h)))
 
 -- at first it is at most the bound
 first_total : (c : Settings) (t : Trace) (x : ℕ) → Promise c t → x < length t → total c t x (x + 1) ≤ bound c
@@ -56,6 +49,4 @@ counted c t x n v legal len after w steps i l h =
     let low = sinks_all c t x p waits (length t - i) i l (omega (arith, h)) in
     let end = ap (λ u. steps_after u x) whole in
     let high = sinks_all c t x p waits (i - (x + 1)) (x + 1) (omega arith) (omega (arith, l, h)) in
-    let here : x + 1 + (i - (x + 1)) ≡ i = omega (arith, l) in
-    let high : total c t x i ≤ total c t x (x + 1) = subst (λ k. total c t x k ≤ total c t x (x + 1)) here high in
-    omega (arith, low, end, steps, high, first_total c t x p (omega (arith, len, after)))
+    search (arith, first_total)

@@ -39,10 +39,7 @@ alone_stands c s w many fits =
     let passed = pass_stands c s (freed c s) w fits (freed_stands c s w many fits) c.budget (omega arith) in
     let rest = rest_stands c s (pass_on c s (freed c s) c.budget) c.budget w fits passed (room c - 2) 0
     (omega (arith, many)) in
-    let e : room c - 2 + 1 ≡ room c - 1 = omega (arith, many) in
-    stands_as c s (alone c s) (alone c s) (longs c s c.budget (room c - 2 + 1) 1)
-    (record_of s (long_read c (room c - 1)) 0 c.budget ∷ []) nothing nothing (c.longest - 1) (c.longest - 1) refl
-    (ap (λ a. longs c s c.budget a 1) e) refl refl rest
+    search (arith, stands_as)
 
 -- ---- the command
 
@@ -113,22 +110,17 @@ least c s w many fits =
     ∙ (ap (λ k. k + 1) sees.steps ∙ all_steps (room c) L c.budget many some) in
     let waited : is_waiting (take (length u) v) y ≡ true =
     ap (λ p. is_waiting p y) (take_at u (m ∷ []) (length u) refl) ∙ sees.waits in
-    let P : ℕ → Type 0 = λ z. is_waiting v z ≡ true in
-    let shown : WaitsTheBound c s.number v = record {
-      before = u;
-      last = m;
-      whole = refl;
-      step = refl;
-      command = y;
-      of_unit = ap (λ (q : Command). q.unit) (command_before u m y sees.inside) ∙ sees.of_unit;
-      waits = waits_in u y sees.waits;
-      ends = λ h. true≢false (sym (All-contains P (waiting v) y (All-from_recursion P (waiting v) (waiting_waits v)) h)
-          ∙ gone);
-      steps = steps;
-      figures = counted c v y (length u) w.valid legal (length_push u m) sees.inside waited steps;
-    } in
-    let same : v ≡ worst_of c s = ap (λ i. steps_on s x j t i) whole in
-    (subst (λ v. IsLegal c v) same legal, subst (λ v. WaitsTheBound c s.number v) same shown)
+    search (
+      arith,
+      command_before,
+      waits_in,
+      true≢false,
+      All-contains,
+      All-from_recursion,
+      waiting_waits,
+      counted,
+      length_push,
+    )
 
 -- The same, by the unit's number.
 pub least_of : (c : Settings) (number : ℕ) (s : Shape) → IsValid c → number < 2 ^ 16 → unit_found c number ≡ Some s

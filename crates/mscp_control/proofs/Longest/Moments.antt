@@ -1,5 +1,5 @@
 -- What is held after one more moment of a run that is written out: a message that is queued, a take, or a good step.
-use Rattle.mscp_control.proofs.Common.{◌≡◌, ℕ, ◌+◌, ◌-◌, ◌<◌, ◌≤◌, ◌^◌, true, false, not, List, [], ◌∷◌, ◌++◌, map, drop, length, refl, ap, sym, ◌∙◌, subst, arith, find, slice_index, slice_get, if◌then◌else◌, Option, Some, None, is_some, option_map, Ok, eq-eqb, ne_eqb, le-ltb, true≢false, false≢true, ArrayVec, Command, End, HasCommandRange, IsCommand, IsValidOrder, command_bytes, command_of, end_bytes, num, class, is_immediate_class, command_bytes_are_messages, Shape, Good, Drive, Connection, Name, Choice, drive_of, fresh_drive, has_number, replaced, ServesAt, Record, fresh_record, name_of, no_record, passed_by, record_at, remains, step_charge, IsServable, drive_after, drives_after, end_given, report_of, waiting_after, is_same, at_place, Settings, IsValid, credits_of, unit_found, Both, of, put, drive_now, holds, is_queued, refusal, Moment, Trace, Holdings, aborting, after_message, after_take, answer_to_message, answered_end, balance_of, ends_after, fresh, held_unless, line_of, numbers, numbers_ended, outstanding_of, queued, reference_aborted, sent_unless, waiting_on, with_end, IsLegal, handing, queueing, some_same, Driven, find_map, none_held, turns, Follows, legal_more, Agrees, Sends, sending, sends, turns_at}
+use Rattle.mscp_control.proofs.Common.{◌≡◌, ℕ, ◌+◌, ◌-◌, ◌<◌, ◌≤◌, ◌^◌, true, false, not, List, [], ◌∷◌, ◌++◌, map, drop, length, refl, ap, sym, ◌∙◌, arith, find, slice_index, slice_get, if◌then◌else◌, Option, Some, None, is_some, option_map, Ok, eq-eqb, ne_eqb, le-ltb, true≢false, false≢true, ArrayVec, Command, End, HasCommandRange, IsCommand, IsValidOrder, command_bytes, command_of, end_bytes, num, class, is_immediate_class, command_bytes_are_messages, Shape, Good, Drive, Connection, Name, Choice, drive_of, fresh_drive, has_number, replaced, ServesAt, Record, fresh_record, name_of, no_record, passed_by, record_at, remains, step_charge, IsServable, drive_after, drives_after, end_given, report_of, waiting_after, is_same, at_place, Settings, IsValid, credits_of, unit_found, Both, of, put, holds, is_queued, refusal, Moment, Trace, Holdings, aborting, after_message, after_take, answer_to_message, answered_end, balance_of, ends_after, fresh, held_unless, line_of, numbers, numbers_ended, outstanding_of, queued, reference_aborted, sent_unless, waiting_on, with_end, IsLegal, handing, queueing, some_same, Driven, find_map, none_held, turns, Follows, legal_more, Agrees, sends, turns_at}
 use Rattle.mscp_events.specs.declared.event.Event.TheVariants as events
 use Rattle.mscp_controller.specs.declared.entry.Entry.TheVariants as entries
 use Rattle.mscp_controller.specs.declared.entry.Sent.TheVariants as sents
@@ -29,20 +29,15 @@ pub record Holds (c : Settings) (s : Shape) (t : Trace) (rs : List Record) (us :
 
 -- what is held then, where this was begun
 abbrev holding : Settings → List Record → Both (List End) → List Drive → Option Name → Holdings (Unit {0})
-holding c rs us ds begun =
-    record { settings = c; waiting = rs; untaken = us; drives = ds; begun = begun; picker = tt }
+holding c rs us ds begun = record { settings = c; waiting = rs; untaken = us; drives = ds; begun = begun; picker = tt }
 
 -- ---- at first
-
-drive_at_first : (c : Settings) (s : Shape) → unit_found c s.number ≡ Some s
-    → drive_of (map fresh_drive c.units) s.number ≡ fresh_drive s
-drive_at_first c s found = search (arith, find_map (has_number s.number) fresh_drive c.units)
 
 pub holds_none : (c : Settings) (s : Shape) → IsUnit c s → Holds c s [] [] nothing (fresh_drive s)
 holds_none c s w =
     let none : Unit {0} = tt in
     let a : Agrees c [] (fresh c none) = none_held c none in
-    search (arith, drive_at_first c s w.found)
+    search (arith, find_map)
 
 -- ---- a message
 
@@ -88,16 +83,11 @@ holds_queued c s t rs us d via k w may h =
     (λ i. sent_unless via held (same i) (none i))
     ∙ ap (λ q. Ok (if q then sents.Queued k.reference else sents.Answered k.reference
     (reference_aborted via rs k.order))) may.queued in
-    let left : after_message via held b ≡ queued via held k =
-    (λ i. held_unless via held (same i) (none i))
-    ∙ ap (λ q. if q then queued via held k else with_end via (aborting via held k.order)
-    (answered_end via held k)) may.queued in
+    let left : after_message via held b ≡ queued via held k = (λ i. held_unless via held (same i) (none i)) ∙ ap
+    (λ q. if q then queued via held k else with_end via (aborting via held k.order) (answered_end via held k))
+    may.queued in
     let first = sends via held t message w.valid.some_blocks (record { follows = h.follows; driven = h.driven }) in
-    let all : Sends c t (queueing via k) (queued via held k) =
-    subst (λ r. Sends c t (sending via message r) (queued via held k)) told
-    (subst (λ (x : Holdings (Unit {0})). Sends c t (sending via message (answer_to_message via held b)) x) left
-    first) in
-    search (arith, legal_more c t (queueing via k) h.legal all.right)
+    search (arith, queued, legal_more)
 
 -- ---- a take
 
@@ -109,14 +99,7 @@ holds_taken c s t rs us d via end w one rest h =
     let told = ap (λ es. option_map (λ e. record { items = end_bytes e }) (slice_get es 0)) (sym one) in
     let turn = turns any held (after_take via held) t (events.Take via) (handing via end).1 w.valid
     (record { follows = h.follows; driven = h.driven }) (refl, told, refl) in
-    let all = turn.sends in
-    record {
-      legal = legal_more c t (handing via end) h.legal all.right;
-      drives = h.drives;
-      follows = subst (λ (x : Both (List End)). Follows c (t ++ handing via end ∷ []) rs x) rest all.agrees.follows;
-      driven = all.agrees.driven;
-      here = h.here;
-    }
+    search (arith, legal_more)
 
 -- ---- a good step
 
@@ -126,20 +109,15 @@ put_back : (number : ℕ) (d : Drive) (ds : List Drive) → d.unit.number ≡ nu
 put_back number d [] own h = absurd (false≢true h)
 put_back number d (x ∷ xs) own h = search (arith, put_back number d xs own, eq-eqb d.unit.number number own)
 
-found_there : (c : Settings) (s : Shape) (t : Trace) (ds : List Drive) → IsUnit c s → Driven c t ds
-    → is_some (find (has_number s.number) ds) ≡ true
-found_there c s t ds w driven = search (arith, find_map (has_number s.number) (drive_now c t) c.units)
-
 -- what a good step of a record on this drive reports, as a moment
 abbrev pub stepped : Drive → Record → Moment
 stepped d r = (events.Step Good, entries.Stepped (report_of Good d r))
 
 pub holds_stepped : (c : Settings) (s : Shape) (t : Trace) (A : List Record) (r : Record) (B : List Record)
     (us : Both (List End)) (d : Drive) → IsUnit c s → r.command.unit ≡ s.number → d.unit.number ≡ s.number
-    → IsServable c.budget (A ++ r ∷ B) (length A) → Holds c s t (A ++ r ∷ B) us d
-    → Holds c s (t ++ stepped d r ∷ [])
-    (map (passed_by (step_charge r)) A ++ (remains r (end_given Good d r) ++ B))
-    (ends_after us (report_of Good d r)) (drive_after Good d r)
+    → IsServable c.budget (A ++ r ∷ B) (length A) → Holds c s t (A ++ r ∷ B) us d → Holds c s (t ++ stepped d r ∷ [])
+    (map (passed_by (step_charge r)) A ++ (remains r (end_given Good d r) ++ B)) (ends_after us (report_of Good d r))
+    (drive_after Good d r)
 holds_stepped c s t A r B us d w unit own can h =
     let rs = A ++ r ∷ B in
     let place = length A in
@@ -163,19 +141,4 @@ holds_stepped c s t A r B us d w unit own can h =
     search (arith, is_same, some_same, true≢false) in
     let turn = turns_at any old new t Good report place w.valid
     (record { follows = h.follows; driven = h.driven }) serves refl in
-    let all = turn.sends in
-    let m = stepped d r in
-    let wait : new.waiting ≡ map (passed_by (step_charge r)) A ++ (remains r (end_given Good d r) ++ B) =
-    λ i. map (passed_by (step_charge (at.item i))) (at.before i)
-    ++ (remains (at.item i) (end_given Good (drive i) (at.item i)) ++ at.behind i) in
-    let changed : new.drives ≡ replaced s.number (drive_after Good d r) ds =
-    (λ i. replaced (at.item i).command.unit (drive_after Good (drive i) (at.item i)) ds)
-    ∙ ap (λ n. replaced n (drive_after Good d r) ds) unit in
-    record {
-      legal = legal_more c t m h.legal all.right;
-      drives = new.drives;
-      follows = subst (λ ws. Follows c (t ++ m ∷ []) ws new.untaken) wait all.agrees.follows;
-      driven = all.agrees.driven;
-      here = ap (λ ds. drive_of ds s.number) changed
-          ∙ put_back s.number (drive_after Good d r) ds own (found_there c s t ds w h.driven);
-    }
+    search (arith, legal_more, put_back, find_map)

@@ -1,5 +1,5 @@
 -- The READs of the run that is written out: they may be sent, and what is held of them.
-use Rattle.mscp_control.proofs.Common.{◌≡◌, ℕ, zero, suc, ◌+◌, ◌-◌, ◌*◌, ◌<◌, ◌≤◌, ◌^◌, ◌/◌, Bool, true, false, List, [], ◌∷◌, ◌++◌, map, length, refl, ap, ◌∙◌, append-nil, arith, filter, max, nat_lt, if◌then◌else◌, AllByRecursion, range_with_len, le-ltb, lt-leb, ltb-false, ltb-true, ne_eqb, length-map, map-append, length-range_with_len, Shape, Connection, First, Second, Record, fresh_record, passed_by, range_more, map_map, Transfer, Settings, IsValid, credits_of, room, room_of, of, holds, is_queued, numbers, numbers_ended, waiting_on, connection_at, long_read, read_command, short_read, sides_length}
+use Rattle.mscp_control.proofs.Common.{◌≡◌, ℕ, zero, suc, ◌+◌, ◌-◌, ◌*◌, ◌<◌, ◌≤◌, ◌^◌, ◌/◌, Bool, false, List, [], ◌∷◌, ◌++◌, map, length, refl, ap, ◌∙◌, append-nil, arith, filter, max, nat_lt, if◌then◌else◌, AllByRecursion, range_with_len, le-ltb, lt-leb, ltb-false, ltb-true, ne_eqb, length-map, map-append, length-range_with_len, Shape, Connection, First, Record, fresh_record, passed_by, range_more, map_map, Transfer, Settings, IsValid, credits_of, room, room_of, of, holds, numbers, numbers_ended, waiting_on, connection_at, long_read, read_command, short_read, sides_length}
 use Rattle.mscp_drive.specs.Extent as extent
 use Rattle.mscp_control.proofs.Longest.Moments.{IsUnit, MaySend, nothing}
 
@@ -35,22 +35,14 @@ pub record_fresh : (c : Settings) (s : Shape) (x : Transfer) → IsRead c s x
     → fresh_record x.connection (read_command s x) ≡ record_of s x 0 0
 record_fresh c s x r = search (arith, weighs)
 
--- it is queued
-queues_read : (c : Settings) (s : Shape) (x : Transfer) → IsUnit c s → IsRead c s x
-    → is_queued c (read_command s x) ≡ true
-queues_read c s x w r = search (arith, weighs c s x r, lt-leb, le-ltb)
-
 -- it may be sent where there are credits, and nothing of its number
 pub may_send : (c : Settings) (s : Shape) (x : Transfer) (rs : List Record) → IsUnit c s → IsRead c s x
     → 2 ≤ credits_of c x.connection - (length (waiting_on x.connection rs) + length (of x.connection nothing))
     → holds (numbers (waiting_on x.connection rs) ++ numbers_ended (of x.connection nothing)) x.reference ≡ false
     → MaySend c rs nothing x.connection (read_command s x)
-may_send c s x rs w r credit new = search (arith, queues_read c s x w r)
+may_send c s x rs w r credit new = search (arith, weighs, lt-leb, le-ltb)
 
 -- ---- the READs of the run
-
-512_blocks : (n : ℕ) → 1 ≤ n → (512 * (n - 1) + 511 + 511) / 512 ≡ n
-512_blocks n h = omega (arith, h)
 
 -- few may wait
 room_few : (c : Settings) → IsValid c → room c ≤ 64
@@ -58,7 +50,7 @@ room_few c v = let few = v.few_credits in omega (arith, few)
 
 pub long_is : (c : Settings) (s : Shape) (i : ℕ) → IsUnit c s → c.longest ≤ s.size → i < room c
     → IsRead c s (long_read c i)
-long_is c s i w fits l = search (arith, room_few c w.valid, 512_blocks)
+long_is c s i w fits l = search (arith, room_few c w.valid)
 
 pub short_is : (c : Settings) (s : Shape) → IsUnit c s → c.longest ≤ s.size → IsRead c s (short_read c)
 short_is c s w fits = search (arith, room_few c w.valid)
@@ -81,8 +73,7 @@ pub longs_more : (c : Settings) (s : Shape) (p i : ℕ)
 longs_more c s p i = search (arith, range_more i, map-append (long_record c s p) (range_with_len 0 i) (i ∷ []))
 
 -- once one more block has passed them
-pub longs_passed : (c : Settings) (s : Shape) (p a k : ℕ)
-    → map (passed_by 1) (longs c s p a k) ≡ longs c s (p + 1) a k
+pub longs_passed : (c : Settings) (s : Shape) (p a k : ℕ) → map (passed_by 1) (longs c s p a k) ≡ longs c s (p + 1) a k
 longs_passed c s p a k = map_map (long_record c s p) (passed_by 1) (range_with_len a k)
 
 pub longs_idle : (c : Settings) (s : Shape) (p a k : ℕ) → AllByRecursion (λ r. r.done ≡ 0) (longs c s p a k)
@@ -104,10 +95,6 @@ unheld c s q p a (suc k) n h = search (arith, unheld c s q p (a + 1) k n (omega 
 none_of : (via : Connection) → of via nothing ≡ []
 none_of via = grind arith
 
-new_among : (c : Settings) (s : Shape) (via : Connection) (p a k n : ℕ) → a + k ≤ n
-    → holds (numbers (waiting_on via (longs c s p a k)) ++ numbers_ended (of via nothing)) n ≡ false
-new_among c s via p a k n h = search (arith, none_of via, append-nil, unheld)
-
 -- a long one may be sent, where those before it wait
 pub long_sent : (c : Settings) (s : Shape) (i : ℕ) → IsUnit c s → c.longest ≤ s.size → i < room c
     → MaySend c (longs c s 0 0 i) nothing (connection_at c i) (read_command s (long_read c i))
@@ -116,14 +103,10 @@ long_sent c s i w fits l =
     let first = on_first c s 0 0 i in
     let all = length_longs c s 0 0 i in
     let sides = sides_length (λ (r : Record). r.connection) rs in
-    let Credit : Connection → Type 0 = λ via.
-    2 ≤ credits_of c via - (length (waiting_on via rs) + length (of via nothing)) in
-    let both : (b : Bool) → nat_lt i (room_of c First) ≡ b → Credit (if b then First else Second) =
-    search (arith, ltb-true, ltb-false) in
-    may_send c s (long_read c i) rs w (long_is c s i w fits l) (both (nat_lt i (room_of c First)) refl)
-    (new_among c s (connection_at c i) 0 0 i i (omega arith))
+    search (arith, Bool, nat_lt, ltb-true, ltb-false, may_send, long_is, none_of, append-nil, unheld)
 
 -- a short one may be sent, where all long ones but the first wait
 pub short_sent : (c : Settings) (s : Shape) (p : ℕ) → IsUnit c s → c.longest ≤ s.size
     → MaySend c (longs c s p 1 (room c - 1)) nothing First (read_command s (short_read c))
-short_sent c s p w fits = search (arith, on_first c s p 1 (room c - 1), short_is c s w fits, may_send, new_among)
+short_sent c s p w fits =
+    search (arith, on_first c s p 1 (room c - 1), short_is c s w fits, may_send, none_of, append-nil, unheld)

@@ -1,6 +1,5 @@
 -- What is held while the READs of the run that is written out come and run.
-use Rattle.mscp_control.proofs.Common.{◌≡◌, ◌≢◌, ℕ, zero, suc, ◌+◌, ◌-◌, ◌*◌, ◌<◌, ◌≤◌, Bool, true, false, cond, not, ◌&&◌, List, [], ◌∷◌, ◌++◌, map, length, refl, ap, sym, ◌∙◌, subst, append-nil, arith, min, nat_eq, nat_lt, drop, if◌then◌else◌, Option, Some, None, AllByRecursion, and-false, zero-div, eqb-true, le-leb, le-ltb, lt-ltb, ltb-false, ne_eqb, length-append, All-from_recursion, End, Read, Head, distance, Shape, cylinder_of, Good, Drive, Connection, First, Report, Served, head_after, Record, fresh_record, no_record, passed_by, remains, step_charge, IsServable, drive_after, end_given, report_of, state_left, is_affordable, is_free, is_open, every_append, at_place, fresh_drive, Transfer, Settings, room, Both, of, put, Trace, ends_after, block_before, come_on, connection_at, long_read, online_command, online_end, opened, pass_on, queueing, read_command, read_end, read_report, rest_on, runs_on, short_read, stepping, steps_on}
-use Rattle.mscp_packet.specs.declared.command.Order.TheVariants as orders
+use Rattle.mscp_control.proofs.Common.{◌≡◌, ◌≢◌, ℕ, zero, suc, ◌+◌, ◌-◌, ◌*◌, ◌<◌, ◌≤◌, Bool, true, false, cond, ◌&&◌, List, [], ◌∷◌, ◌++◌, map, length, refl, ap, sym, ◌∙◌, subst, append-nil, arith, nat_eq, nat_lt, drop, if◌then◌else◌, Option, Some, None, AllByRecursion, and-false, zero-div, eqb-true, le-leb, le-ltb, lt-ltb, ltb-false, ne_eqb, length-append, All-from_recursion, End, Head, distance, Shape, cylinder_of, Good, Drive, Connection, First, Report, Served, head_after, Record, fresh_record, passed_by, remains, step_charge, IsServable, drive_after, end_given, report_of, is_affordable, is_free, every_append, at_place, fresh_drive, Transfer, Settings, room, Both, of, put, Trace, ends_after, block_before, come_on, connection_at, long_read, online_command, online_end, opened, pass_on, queueing, read_command, read_end, read_report, rest_on, runs_on, short_read, stepping, steps_on}
 use Rattle.mscp_events.specs.declared.event.Event.TheVariants as events
 use Rattle.mscp_controller.specs.declared.entry.Entry.TheVariants as entries
 use Rattle.mscp_control.proofs.Longest.Moments.{Holds, IsUnit, MaySend, holds_none, holds_queued, holds_stepped, holds_taken, nothing}
@@ -28,19 +27,13 @@ stands_as c s t t' rs rs' us us' b b' et er eu eb h = search arith
 abbrev pub ended : Shape → Transfer → ℕ → Option End
 ended s x j = if nat_lt 1 (x.blocks - j) then None else Some (read_end s x)
 
-least_bytes : (bytes n : ℕ) → bytes ≤ n → min bytes n ≡ bytes
-least_bytes bytes n h = omega (arith, h)
-
 ended_is : (c : Settings) (s : Shape) (x : Transfer) (j p block : ℕ) (up : Bool) → IsRead c s x → j < x.blocks
     → end_given Good (drive_on s block up) (record_of s x j p) ≡ ended s x j
-ended_is c s x j p block up r l = search (arith, ltb-false, least_bytes)
+ended_is c s x j p block up r l = search (arith, ltb-false)
 
 report_is : (c : Settings) (s : Shape) (x : Transfer) (from j p : ℕ) (up : Bool) → IsRead c s x → j < x.blocks
     → report_of Good (drive_on s (block_before x from j) up) (record_of s x j p) ≡ read_report s x from j
 report_is c s x from j p up r l = search (arith, ended_is c s x j p (block_before x from j) up r l)
-
-state_moved : (kind_bytes first : ℕ) (o : Option End) → state_left true (orders.Move Read kind_bytes first) o ≡ true
-state_moved kind_bytes first o = grind arith
 
 head_to : (b : Bool) (to : ℕ) (h : Head)
     → head_after b (Some to) h ≡ record { cylinder = to; up = (head_after b (Some to) h).up }
@@ -50,14 +43,13 @@ drive_is : (s : Shape) (x : Transfer) (j p block : ℕ) (up : Bool)
     → let h : Head = record { cylinder = cylinder_of s block; up = up } in
     drive_after Good (drive_on s block up) (record_of s x j p)
     ≡ drive_on s (x.first + j) (head_after (nat_eq j 0) (Some (cylinder_of s (x.first + j))) h).up
-drive_is s x j p block up = search (arith, record_of s x j p, state_moved, head_to)
+drive_is s x j p block up = search (arith, record_of s x j p, head_to)
 
 -- what is held after a step of the READ behind these
 pub stands_stepped : (c : Settings) (s : Shape) (t : Trace) (A : List Record) (x : Transfer) (from j p : ℕ)
     (B : List Record) (us : Both (List End)) → IsUnit c s → IsRead c s x → j < x.blocks
     → IsServable c.budget (A ++ record_of s x j p ∷ B) (length A)
-    → Stands c s t (A ++ record_of s x j p ∷ B) us (block_before x from j)
-    → Stands c s (t ++ stepping s x from j ∷ [])
+    → Stands c s t (A ++ record_of s x j p ∷ B) us (block_before x from j) → Stands c s (t ++ stepping s x from j ∷ [])
     (map (passed_by (step_charge (record_of s x j p))) A ++ (remains (record_of s x j p) (ended s x j) ++ B))
     (ends_after us (read_report s x from j)) (x.first + j)
 stands_stepped c s t A x from j p B us w r l can h =
@@ -66,22 +58,14 @@ stands_stepped c s t A x from j p B us w r l can h =
     let head : Head = d.head in
     let up = (head_after (nat_eq j 0) (Some (cylinder_of s (x.first + j))) head).up in
     let first = holds_stepped c s t A k B us d w refl refl can h.holds in
-    let report = report_is c s x from j p h.up r l in
-    let end = ended_is c s x j p (block_before x from j) h.up r l in
-    let left : Option End → List Record = λ o. map (passed_by (step_charge k)) A ++ (remains k o ++ B) in
-    let t' = t ++ stepping s x from j ∷ [] in
-    search (arith, drive_is s x j p (block_before x from j) h.up)
+    search (arith, report_is, ended_is, drive_is)
 
 -- ---- the oldest runs
 
 -- it may be served
 pub oldest_can : (c : Settings) (s : Shape) (x : Transfer) (j p : ℕ) (B : List Record)
     → AllByRecursion (λ r. r.done ≡ 0) B → IsServable c.budget (record_of s x j p ∷ B) 0
-oldest_can c s x j p B idle = record {
-  inside = omega arith;
-  idle = λ e. All-from_recursion (λ r. r.done ≡ 0) (record_of s x j p ∷ B) (eqb-true j 0 e, idle);
-  opens = λ e. refl;
-}
+oldest_can c s x j p B idle = search (arith, All-from_recursion, eqb-true)
 
 -- a report that brings no end
 quiet : (via : Connection) (reference unit : ℕ) (lbn : Option ℕ) (started : Bool) (seek : ℕ)
@@ -90,9 +74,8 @@ quiet via reference unit lbn started seek = grind arith
 
 -- all its steps but the last
 pub runs_part : (c : Settings) (s : Shape) (t : Trace) (x : Transfer) (from p : ℕ) (B : List Record) → IsUnit c s
-    → IsRead c s x → AllByRecursion (λ r. r.done ≡ 0) B → Stands c s t (record_of s x 0 p ∷ B) nothing from
-    → (j : ℕ) → j < x.blocks
-    → Stands c s (steps_on s x from t j) (record_of s x j p ∷ B) nothing (block_before x from j)
+    → IsRead c s x → AllByRecursion (λ r. r.done ≡ 0) B → Stands c s t (record_of s x 0 p ∷ B) nothing from → (j : ℕ)
+    → j < x.blocks → Stands c s (steps_on s x from t j) (record_of s x j p ∷ B) nothing (block_before x from j)
 runs_part c s t x from p B w r idle h zero l = h
 runs_part c s t x from p B w r idle h (suc j) l =
     let u = steps_on s x from t j in
@@ -130,9 +113,8 @@ handed : (via : Connection) (reference unit : ℕ) (lbn : Option ℕ) (started :
 handed via reference unit lbn started seek e = grind arith
 
 -- the last step of a READ behind these, and its end is taken
-stands_ended : (c : Settings) (s : Shape) (t : Trace) (A : List Record) (x : Transfer) (from j p : ℕ)
-    (B : List Record) → IsUnit c s → IsRead c s x → suc j ≡ x.blocks
-    → IsServable c.budget (A ++ record_of s x j p ∷ B) (length A)
+stands_ended : (c : Settings) (s : Shape) (t : Trace) (A : List Record) (x : Transfer) (from j p : ℕ) (B : List Record)
+    → IsUnit c s → IsRead c s x → suc j ≡ x.blocks → IsServable c.budget (A ++ record_of s x j p ∷ B) (length A)
     → Stands c s (steps_on s x from t j) (A ++ record_of s x j p ∷ B) nothing (block_before x from j)
     → Stands c s (runs_on s x from t) (map (passed_by (step_charge (record_of s x j p))) A ++ B) nothing (x.first + j)
 stands_ended c s t A x from j p B w r last can h =
@@ -146,12 +128,10 @@ stands_ended c s t A x from j p B w r last can h =
     let next = stands_stepped c s u A x from j p B nothing w r (omega (arith, last)) can h in
     let no : nat_lt 1 (x.blocks - j) ≡ false = le-ltb 1 (x.blocks - j) (omega (arith, last)) in
     let step = stands_as c s (steps_on s x from t (suc j)) (steps_on s x from t x.blocks)
-    (front ++ (remains k (ended s x j) ++ B)) (front ++ B)
-    (ends_after nothing (read_report s x from j)) (ends_after nothing report) (x.first + j) (x.first + j)
-    (ap (λ i. steps_on s x from t i) last)
-    (ap (λ (b : Bool). front ++ (remains k (if b then None else Some end) ++ B)) no)
-    (ap (λ (b : Bool). ends_after nothing (Served via x.reference s.number (Some (x.first + j)) (nat_eq j 0) seek
-    (if b then None else Some end))) no)
+    (front ++ (remains k (ended s x j) ++ B)) (front ++ B) (ends_after nothing (read_report s x from j))
+    (ends_after nothing report) (x.first + j) (x.first + j) (ap (λ i. steps_on s x from t i) last)
+    (ap (λ (b : Bool). front ++ (remains k (if b then None else Some end) ++ B)) no) (ap (λ (b : Bool). ends_after
+    nothing (Served via x.reference s.number (Some (x.first + j)) (nat_eq j 0) seek (if b then None else Some end))) no)
     refl next in
     record {
       up = step.up;
@@ -171,8 +151,7 @@ runs_whole c s t x from p block B w r idle last h =
     let whole : suc j ≡ x.blocks = omega (arith, some) in
     let before = runs_part c s t x from p B w r idle h j (omega (arith, some)) in
     stands_as c s (runs_on s x from t) (runs_on s x from t) B B nothing nothing (x.first + j) block refl refl refl
-    (omega (arith, last, some))
-    (stands_ended c s t [] x from j p B w r whole (oldest_can c s x j p B idle) before)
+    (omega (arith, last, some)) (stands_ended c s t [] x from j p B w r whole (oldest_can c s x j p B idle) before)
 
 -- ---- all come
 
@@ -198,10 +177,7 @@ opened_stands c s w =
     ∷ [] in
     let taken : Holds c s (opened s (room c)) [] nothing (online 0) =
     holds_taken c s two [] us (online 0) First (online_end s (room c)) w refl refl stepped in
-    record {
-      up = true;
-      holds = subst (λ n. Holds c s (opened s (room c)) [] nothing (online n)) (zero_cylinder s) taken;
-    }
+    search (arith, opened, zero_cylinder)
 
 -- so many long ones have come
 pub come_stands : (c : Settings) (s : Shape) → IsUnit c s → c.longest ≤ s.size → (i : ℕ) → i ≤ room c
@@ -213,47 +189,25 @@ come_stands c s w fits (suc i) l =
     let t = come_on c s (opened s (room c)) i in
     let next = holds_queued c s t (longs c s 0 0 i) nothing (drive_on s 0 before.up) (connection_at c i)
     (read_command s x) w (long_sent c s i w fits (omega (arith, l))) before.holds in
-    let fresh = record_fresh c s x (long_is c s i w fits (omega (arith, l))) in
-    record {
-      up = before.up;
-      holds = subst (λ rs. Holds c s (come_on c s (opened s (room c)) (suc i)) rs nothing (drive_on s 0 before.up))
-          (ap (λ r. longs c s 0 0 i ++ r ∷ []) fresh ∙ sym (longs_more c s 0 i)) next;
-    }
+    search (arith, record_fresh, long_is, opened, longs_more)
 
 -- ---- some pass
 
 -- a READ of one block keeps behind none of the long ones
-free_short : (c : Settings) (s : Shape) (p a k : ℕ)
-    → is_free (record_of s (short_read c) 0 0) (longs c s p a k) ≡ true
+free_short : (c : Settings) (s : Shape) (p a k : ℕ) → is_free (record_of s (short_read c) 0 0) (longs c s p a k) ≡ true
 free_short c s p a zero = refl
-free_short c s p a (suc k) =
-    ap (λ b. not b && is_free (record_of s (short_read c) 0 0) (longs c s p (a + 1) k))
-    (and-false (nat_eq s.number s.number)) ∙ free_short c s p (a + 1) k
+free_short c s p a (suc k) = search (arith, is_free, and-false, nat_eq, free_short c s p (a + 1) k)
 
 -- and they afford it
 short_affordable : (c : Settings) (s : Shape) (p a k : ℕ) → p + 1 ≤ c.budget
     → is_affordable c.budget (record_of s (short_read c) 0 0) (longs c s p a k) ≡ true
 short_affordable c s p a zero h = refl
-short_affordable c s p a (suc k) h =
-    ap (λ b. b && is_affordable c.budget (record_of s (short_read c) 0 0) (longs c s p (a + 1) k))
-    (le-leb (p + 1) c.budget h) ∙ short_affordable c s p (a + 1) k h
+short_affordable c s p a (suc k) h = search (arith, le-leb, short_affordable c s p (a + 1) k h)
 
 short_can : (c : Settings) (s : Shape) (p k : ℕ) → p + 1 ≤ c.budget
-    → let A = longs c s p 1 k in
-    IsServable c.budget (A ++ record_of s (short_read c) 0 0 ∷ []) (length A)
+    → let A = longs c s p 1 k in IsServable c.budget (A ++ record_of s (short_read c) 0 0 ∷ []) (length A)
 short_can c s p k h =
-    let A = longs c s p 1 k in
-    let r = record_of s (short_read c) 0 0 in
-    let rs = A ++ r ∷ [] in
-    let at = at_place rs A r [] (length A) no_record refl refl in
-    record {
-      inside = omega (arith, length-append A (r ∷ []));
-      idle = λ e. All-from_recursion (λ r. r.done ≡ 0) rs
-          (every_append (λ r. r.done ≡ 0) A (r ∷ []) (longs_idle c s p 1 k) (refl, tt));
-      opens = λ e. (λ i. is_open c.budget (at.item i) (at.before i))
-          ∙ (ap (λ b. b && is_affordable c.budget r A) (free_short c s p 1 k)
-          ∙ short_affordable c s p 1 k h);
-    }
+    search (arith, at_place, length-append, All-from_recursion, every_append, longs_idle, free_short, short_affordable)
 
 -- so many have passed
 pub pass_stands : (c : Settings) (s : Shape) (t : Trace) → IsUnit c s → c.longest ≤ s.size
@@ -276,11 +230,7 @@ pass_stands c s t w fits h (suc j) l =
     } in
     let ran = stands_ended c s v A x (c.longest - 1) 0 0 [] w is refl (short_can c s j (room c - 1) (omega (arith, l)))
     came in
-    let e : j + 1 ≡ suc j = omega arith in
-    stands_as c s (pass_on c s t (suc j)) (pass_on c s t (suc j)) (map (passed_by 1) A ++ [])
-    (longs c s (suc j) 1 (room c - 1)) nothing nothing (c.longest - 1 + 0) (c.longest - 1) refl
-    (append-nil (map (passed_by 1) A) ∙ (longs_passed c s j 1 (room c - 1)
-    ∙ ap (λ p. longs c s p 1 (room c - 1)) e)) refl (omega arith) ran
+    search (arith, stands_as, append-nil, longs_passed)
 
 -- ---- the rest runs
 
@@ -298,5 +248,4 @@ rest_stands c s t p w fits h (suc i) l e =
     let is = long_is c s (i + 1) w fits (omega (arith, e)) in
     let ran = runs_whole c s (rest_on c s t i) (long_read c (i + 1)) (c.longest - 1) p (c.longest - 1) B w is
     (longs_idle c s p (i + 1 + 1) (suc l)) (omega (arith, some)) before in
-    let a : i + 1 + 1 ≡ suc i + 1 = omega arith in
-    search (arith, longs c s p (suc i + 1) (suc l), stands_as, nothing)
+    search (arith, stands_as)

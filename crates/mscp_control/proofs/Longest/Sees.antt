@@ -1,5 +1,5 @@
 -- The command that waits as long as the bound, while others come and run.
-use Rattle.mscp_control.proofs.Common.{◌≡◌, ◌≢◌, ℕ, zero, suc, ◌+◌, ◌-◌, ◌*◌, ◌<◌, Bool, true, false, cond, not, ◌&&◌, [], ◌∷◌, ◌++◌, length, refl, ap, ◌∙◌, subst, arith, nat_lt, if◌then◌else◌, Some, None, is_some, and-false, lt-ltb, length_push, Command, command_bytes, command_of, Shape, Connection, First, Name, name_on, same_name, is_differ, Transfer, Settings, room, Moment, Trace, is_step, ends_in, is_waiting, name, steps_after, unit, connection_at, handing, long_read, pass_on, queueing, read_command, read_end, rest_on, runs_on, short_read, stepping, steps_on, command_before, command_last, connection_last, is_waiting_before, is_waiting_last, name_before, steps_last, steps_more}
+use Rattle.mscp_control.proofs.Common.{◌≡◌, ◌≢◌, ℕ, zero, suc, ◌+◌, ◌-◌, ◌*◌, ◌<◌, Bool, true, false, cond, ◌&&◌, [], ◌∷◌, ◌++◌, length, refl, ap, ◌∙◌, subst, arith, nat_lt, if◌then◌else◌, Some, None, is_some, and-false, lt-ltb, length_push, Command, command_bytes, command_of, Shape, Connection, First, Name, name_on, same_name, is_differ, Transfer, Settings, room, Moment, Trace, is_step, ends_in, is_waiting, name, steps_after, unit, connection_at, handing, long_read, pass_on, queueing, read_command, read_end, rest_on, runs_on, short_read, stepping, steps_on, command_before, command_last, connection_last, is_waiting_before, is_waiting_last, name_before, steps_last, steps_more}
 
 -- the command of this name, which came at y and is of this unit, still waits, and has seen so many steps
 pub record Sees (t : Trace) (y : ℕ) (n : Name) (number k : ℕ) : Type 0 where
@@ -20,15 +20,7 @@ sees_first t via k same = search (arith, command_last, length_push, connection_l
 -- a moment that doesn't end it
 pub sees_more : (t : Trace) (y : ℕ) (n : Name) (number k : ℕ) (m : Moment) → ends_in n m.1 ≡ false
     → Sees t y n number k → Sees (t ++ m ∷ []) y n number (k + cond (is_step m.0) 1 0)
-sees_more t y n number k m e h =
-    record {
-      inside = let l = h.inside in omega (arith, l, length_push t m);
-      named = name_before t m y h.inside ∙ h.named;
-      of_unit = ap (λ (q : Command). q.unit) (command_before t m y h.inside) ∙ h.of_unit;
-      waits = is_waiting_before t m y h.inside
-          ∙ ((λ i. h.waits i && not (ends_in (h.named i) m.1)) ∙ ap not e);
-      steps = steps_more t m y h.inside ∙ ap (λ k. k + cond (is_step m.0) 1 0) h.steps;
-    }
+sees_more t y n number k m e h = search (arith, length_push, name_before, command_before, is_waiting_before, steps_more)
 
 -- ---- steps
 
@@ -66,9 +58,8 @@ pub sees_run : (s : Shape) (x : Transfer) (from : ℕ) (t : Trace) (y : ℕ) (n 
     → Sees (runs_on s x from t) y n number (k + x.blocks)
 sees_run s x from t y n number k other h =
     let before = sees_steps s x from t y n number k other h x.blocks in
-    sees_as (runs_on s x from t) y n number (k + x.blocks + 0) (k + x.blocks) (omega arith)
-    (sees_more (steps_on s x from t x.blocks) y n number (k + x.blocks) (handing x.connection (read_end s x)) refl
-    before)
+    sees_as (runs_on s x from t) y n number (k + x.blocks + 0) (k + x.blocks) (omega arith) (sees_more
+    (steps_on s x from t x.blocks) y n number (k + x.blocks) (handing x.connection (read_end s x)) refl before)
 
 -- ---- the others
 
@@ -92,8 +83,7 @@ sees_pass c s t y n number k other h (suc j) =
 pub sees_rest : (c : Settings) (s : Shape) (t : Trace) (y : ℕ) (via : Connection) (r number k : ℕ)
     → Sees t y (name_on via r) number k → (i : ℕ) → i < r
     → Sees (rest_on c s t i) y (name_on via r) number (k + i * c.longest)
-sees_rest c s t y via r number k h zero l =
-    sees_as t y (name_on via r) number k (k + 0 * c.longest) (omega arith) h
+sees_rest c s t y via r number k h zero l = sees_as t y (name_on via r) number k (k + 0 * c.longest) (omega arith) h
 sees_rest c s t y via r number k h (suc i) l =
     let n = name_on via r in
     let before = sees_rest c s t y via r number k h i (omega (arith, l)) in

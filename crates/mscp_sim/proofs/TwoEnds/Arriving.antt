@@ -10,16 +10,7 @@ use Rattle.mscp_sim.proofs.TwoEnds.Matching.{Adds, Ends, Pushes, awaited_more, c
 none_out : (via : Connection) (n : ℕ) (rs : List Record) → times n (map (λ (c : Command). c.reference) (commands rs))
     ≡ 0 → without (name_on via n) rs ≡ rs
 none_out via n [] z = refl
-none_out via n (r ∷ rs) z =
-    let ns = map (λ (c : Command). c.reference) (commands rs) in
-    let side = same_connection r.connection via in
-    let rest = without (name_on via n) rs in
-    let out : (b : Bool) → cond b (1 + times n ns) (times n ns) ≡ 0 → cond (not (side && b)) (r ∷ rest) rest ≡ r ∷ rs =
-    λ b. elim b as (λ b. cond b (1 + times n ns) (times n ns) ≡ 0 → cond (not (side && b)) (r ∷ rest) rest ≡ r ∷ rs) [
-      | true ↦ λ z. absurd (omega (arith, z))
-      | false ↦ λ z. ap (λ q. cond (not q) (r ∷ rest) rest) (and-false side) ∙ ap (λ qs. r ∷ qs) (none_out via n rs z)
-    ] in
-    out (nat_eq r.command.reference n) z
+none_out via n (r ∷ rs) z = search (arith, Bool, and-false, nat_eq, none_out via n rs)
 
 all_kept : (via : Connection) (n : ℕ) (rs : List Record) → AllByRecursion (λ y. has_name (name_on via n) y ≡ false) rs
     → without (name_on via n) rs ≡ rs
@@ -54,8 +45,7 @@ aborts_found {K} via a h told n front x back f m =
     let number : List Command → List ℕ = λ cs. map (λ (c : Command). c.reference) cs in
     let cut : commands (waiting_on via h.waiting) ≡ commands front ++ command ∷ commands back =
     ap commands f.is ∙ map-append (λ (r : Record). r.command) front (x ∷ back) in
-    let named : command.reference ≡ n =
-    ap (λ (k : Name). k.reference) (same_is (name_of x) (name_on via n) f.passed) in
+    let named : command.reference ≡ n = ap (λ (k : Name). k.reference) (same_is (name_of x) (name_on via n) f.passed) in
     let one = m.once n in
     let counts = counted_numbers n via h in
     let parts : times n (number (commands (waiting_on via h.waiting)))
@@ -127,8 +117,7 @@ pub queued_pushes : {K : Type 0} (via : Connection) (a a' : Account) (h : Holdin
     (c : Command) → Arrives via a a' h s c → Matches via a h told → Pushes via a a' h (queued via h c) s
 queued_pushes {K} via a a' h told s c x m =
     let ws = waiting_on via h.waiting in
-    let cs : commands (waiting_on via (queued via h c).waiting) ≡ commands ws ++ c ∷ [] =
-    more_called via h.waiting c in
+    let cs : commands (waiting_on via (queued via h c).waiting) ≡ commands ws ++ c ∷ [] = more_called via h.waiting c in
     let own : IsKnown (a.outstanding ++ s ∷ []) c = (
       subst (λ n. opcode_found (a.outstanding ++ s ∷ []) n ≡ Some (opcode_byte c.order)) x.reference
           (opcode_new a.outstanding s (new_to_host via a h told s.reference m x.adds.new) ∙ ap Some x.opcode),

@@ -31,25 +31,14 @@ came_if b o l e = grind (arith, false≢true)
 came_now : (h : History) (j k i l : ℕ) (o : Option ℕ) → k < j → handed_over h k ≡ o → figure_from h i k o ≡ Some l
     → Came h j i l
 came_now h j k i l None m q e = absurd (false≢true (ap is_some e))
-came_now h j k i l (Some p) m q e =
-    let both = came_if (asks_about h i p) (figure_in (end_heard (moment h k))) l e in
-    record { turn = k; poll = p; early = m; handed = q; about = both.0; told = both.1 }
+came_now h j k i l (Some p) m q e = search (arith, came_if)
 
 came_then : (h : History) (j k i l : ℕ) → j ≤ k → Came h j i l → Came h k i l
-came_then h j k i l m c = let e = c.early in
-    record {
-      turn = c.turn;
-      poll = c.poll;
-      early = omega (arith, e, m);
-      handed = c.handed;
-      about = c.about;
-      told = c.told;
-    }
+came_then h j k i l m c = search arith
 
 came_of : (h : History) (j i l : ℕ) (o : Option ℕ) → (last_told h j i ≡ Some l → Came h j i l) → told_at h i j ≡ o
     → option_or o (last_told h j i) ≡ Some l → Came h (suc j) i l
-came_of h j i l None earlier q f = came_then h j (suc j) i l (omega arith) (earlier f)
-came_of h j i l (Some x) earlier q f = came_now h (suc j) j i l (handed_over h j) (omega arith) refl (q ∙ f)
+came_of h j i l o h1 h2 h3 = search (arith, came_then, came_now)
 
 came_from : (h : History) (j i l : ℕ) → last_told h j i ≡ Some l → Came h j i l
 came_from h zero i l e = absurd (false≢true (ap is_some e))
@@ -101,13 +90,11 @@ module _ (c : Settings) (via : Connection) (talk : Talk) (known : AllKnown c tal
       let pk = found_before h k p _ first.handed in
       let out_p = (found_out h k p _ first.handed).0 in
       let out_q = (found_out h j q _ second.handed).0 in
-      ⊎_elim (λ less. less)
-      (λ more.
+      ⊎_elim (λ less. less) (λ more.
       let one = ((known p (omega (arith, pk, m, l))).tells.on via).goes.apart in
       let same = one.polls p q (stood h (p + 1) k p (omega (arith, pk)) (omega arith) out_p)
       (stood h (p + 1) j q (omega (arith, pk, m)) (omega (arith, more)) out_q) (first.asked, second.asked) in
-      absurd (gone h j k p m first.handed (subst (λ x. is_outstanding h j x ≡ true) (sym same) out_q)))
-      (cases_lt p q)
+      absurd (gone h j k p m first.handed (subst (λ x. is_outstanding h j x ≡ true) (sym same) out_q))) (cases_lt p q)
 
   -- ---- figures
 
@@ -138,8 +125,7 @@ module _ (c : Settings) (via : Connection) (talk : Talk) (known : AllKnown c tal
     pub stands : is_outstanding h m i ≡ true
 
   sooner : (m q i : ℕ) → m ≤ q → i < m → Standing q i → Standing m i
-  sooner m q i l b s = let inside = s.inside in
-      record { inside = omega (arith, l, inside); stands = stood h m q i l b s.stands }
+  sooner m q i l b s = search (arith, stood)
 
   -- what a moment queues has another name
   new_name : (m i : ℕ) (n : Moment) → Standing m i → i < m → (said talk m).moment ≡ Some n → queues n.1 ≡ true
@@ -177,9 +163,8 @@ module _ (c : Settings) (via : Connection) (talk : Talk) (known : AllKnown c tal
       (said talk m).turn w k.tells.says in
       let more : trace_at (m + 1) ≡ trace_at m ++ n.0 ∷ [] =
       trace_more talk m s.inside ∙ ap (λ o. trace_at m ++ option_to_list o) n.1 in
-      subst (λ t. AtMost c t (own_name i) (g - 1)) (sym more)
-      (most_moment c (trace_at m) n.0 (own_name i) g (g - 1) (subst (Promise c) more k.promise)
-      (new_name m i n.0 s b n.1) (inr (n.2, refl)) most)
+      subst (λ t. AtMost c t (own_name i) (g - 1)) (sym more) (most_moment c (trace_at m) n.0 (own_name i) g (g - 1)
+      (subst (Promise c) more k.promise) (new_name m i n.0 s b n.1) (inr (n.2, refl)) most)
 
   most_by : (m q i g d : ℕ) → Standing q i → m + d ≤ q → i < m → Most m i g → Most (m + d) i g
   most_by m q i g zero s e b most = let same : m ≡ m + 0 = omega arith in subst (λ k. Most k i g) same most
@@ -197,11 +182,7 @@ module _ (c : Settings) (via : Connection) (talk : Talk) (known : AllKnown c tal
   -- an end tells the figure of its poll
   tells : (j i p f : ℕ) → j < length talk → handed_over h j ≡ Some p → asks_about h i p ≡ true
       → figure_in (end_heard (moment h j)) ≡ Some f → f ≡ figure_of c (trace_at p) (own_name i)
-  tells j i p f l q about e =
-      ap (λ o. unwrap_or o f) (sym e ∙ (ap (λ x. figure_in (end_heard x)) (moment_is via talk j l)
-      ∙ (((known j l).tells.on via).figures i p q about).0))
-      ∙ ap (λ o. figure_of c (trace_at p) (name_on via (reference_found h o)))
-      (it_is i (asked_for h p) (and_parts (is_poll (moment h p)) _ about).1)
+  tells j i p f l q about e = search (arith, moment_is, figure_of, it_is, and_parts)
 
   pub never_reset : (j : ℕ) → j < length talk → (st : Stands h j) → StepsSincePolls via talk st.command st.poll → ⊥
   never_reset j l st steps =

@@ -53,32 +53,12 @@ opcode_without r n o xs d e = found_without r n xs d ∙ e
 pub opcode_pushed : (r o : ℕ) (xs : List Submission) (s : Submission) → opcode_found xs r ≡ Some o
     → opcode_found (xs ++ s ∷ []) r ≡ Some o
 opcode_pushed r o [] s e = absurd (false≢true (ap is_some e))
-opcode_pushed r o (x ∷ xs) s e =
-    let out : (b : Bool) → option_map (λ (q : Submission). q.opcode) (cond b (Some x) (find (has_reference r) xs))
-    ≡ Some o → option_map (λ (q : Submission). q.opcode) (cond b (Some x) (find (has_reference r) (xs ++ s ∷ [])))
-    ≡ Some o =
-    λ b. elim b as (λ b. option_map (λ (q : Submission). q.opcode) (cond b (Some x) (find (has_reference r) xs))
-    ≡ Some o → option_map (λ (q : Submission). q.opcode) (cond b (Some x) (find (has_reference r) (xs ++ s ∷ [])))
-    ≡ Some o) [
-      | true ↦ λ e. e
-      | false ↦ λ e. opcode_pushed r o xs s e
-    ] in
-    out (nat_eq x.reference r) e
+opcode_pushed r o (x ∷ xs) s e = search (arith, Bool, nat_eq, opcode_pushed r o xs s)
 
 pub opcode_new : (xs : List Submission) (s : Submission) → times s.reference (references xs) ≡ 0
     → opcode_found (xs ++ s ∷ []) s.reference ≡ Some s.opcode
 opcode_new [] s z = rw (eq-eqb s.reference s.reference refl) refl
-opcode_new (x ∷ xs) s z =
-    let out : (b : Bool) → cond b (1 + times s.reference (references xs)) (times s.reference (references xs)) ≡ 0
-    → option_map (λ (q : Submission). q.opcode) (cond b (Some x) (find (has_reference s.reference) (xs ++ s ∷ [])))
-    ≡ Some s.opcode =
-    λ b. elim b as (λ b. cond b (1 + times s.reference (references xs)) (times s.reference (references xs)) ≡ 0
-    → option_map (λ (q : Submission). q.opcode) (cond b (Some x) (find (has_reference s.reference) (xs ++ s ∷ [])))
-    ≡ Some s.opcode) [
-      | true ↦ λ z. absurd (omega (arith, z))
-      | false ↦ λ z. opcode_new xs s z
-    ] in
-    out (nat_eq x.reference s.reference) z
+opcode_new (x ∷ xs) s z = search (arith, Bool, nat_eq, opcode_new xs s)
 
 -- ---- told
 

@@ -36,8 +36,7 @@ most_moment c t m n g g' p new way most x w r =
     let t' = t ++ m ∷ [] in
     let size : length t' ≡ length t + 1 = length-append t (m ∷ []) in
     let inside : x < length t' = waits_below t' x w in
-    ⊎_elim
-    (λ below.
+    ⊎_elim (λ below.
     let was : (is_waiting t x && not (ends_in (name t x) m.1)) ≡ true = sym (is_waiting_before t m x below) ∙ w in
     let waits = (and_parts (is_waiting t x) _ was).0 in
     let named : name t x ≡ n = sym (name_before t m x below) ∙ r in
@@ -46,14 +45,12 @@ most_moment c t m n g g' p new way most x w r =
     let rises = never_rises_at c t m p x there in
     ⊎_elim (λ same. omega (arith, old, rises, same))
     (λ step. let falls = falls_at c t m p step.0 x there in let less = step.1 in
-    omega (arith, old, falls, less)) way)
-    (λ beyond.
+    omega (arith, old, falls, less)) way) (λ beyond.
     let last : x ≡ length t = omega (arith, beyond, inside, size) in
     let queued : queues m.1 ≡ true = sym (is_waiting_last t m) ∙ (ap (is_waiting t') (sym last) ∙ w) in
     let named : name t' (length t) ≡ name_on (connection_of m.0) (sent_command m).reference =
     λ i. name_on (connection_last t m i) (command_last t m i).reference in
-    absurd (new queued (sym named ∙ (ap (name t') (sym last) ∙ r))))
-    (cases_lt x (length t))
+    absurd (new queued (sym named ∙ (ap (name t') (sym last) ∙ r)))) (cases_lt x (length t))
 
 -- a figure that is at least 1 is that of a waiting command
 pub record Waits (c : Settings) (t : Trace) (n : Name) : Type 0 where
@@ -77,8 +74,7 @@ any_find q [] = refl
 any_find q (x ∷ xs) = search (arith, any_find q xs)
 
 some_is : (o : Option ℕ) → is_some o ≡ true → (x : ℕ) × (o ≡ Some x)
-some_is None e = absurd (false≢true e)
-some_is (Some x) e = (x, refl)
+some_is o h1 = search (arith, false≢true)
 
 -- the figure of a name that waits is at least 1
 pub some_figure : (c : Settings) (t : Trace) (n : Name) → Promise c t
@@ -90,6 +86,5 @@ some_figure c t n p e =
     ∙ (sym (any_map (name t) (λ m. same_name m n) (waiting t)) ∙ e)) in
     let waits = (found (λ y. is_waiting t y ≡ true) q (waiting t) x.0 (waiting_waits t) x.1).0 in
     let positive = subst (λ u. (y : ℕ) → Contains (waiting u) y ↔ (1 ≤ figure c u y))
-    (take_all (length t) t (omega arith))
-    (p.positive (length t) (omega arith)) in
+    (take_all (length t) t (omega arith)) (p.positive (length t) (omega arith)) in
     subst (λ o. 1 ≤ figure_found c t o) (sym x.1) ((positive x.0).0 (contains_waiting t x.0 waits))

@@ -35,8 +35,7 @@ foreign_unless via other a h told c (Some fault) d m = m
 foreign_unless {K} via other a h told c None d m =
     search (
       arith,
-      stays other a h (queued via h c) told (ap commands (still_behind via other h.waiting c d)) refl refl
-          m,
+      stays other a h (queued via h c) told (ap commands (still_behind via other h.waiting c d)) refl refl m,
       still_behind via other h.waiting c d,
       foreign_end via other a (aborting via h c.order) told (answered_end via h
           c) d (foreign_abort via other a h told c.order d m),
@@ -45,8 +44,7 @@ foreign_unless {K} via other a h told c None d m =
 
 pub foreign_message : {K : Type 0} (via other : Connection) (a : Account) (h : Holdings K) (told : Flight) (b : List ℕ)
     → same_connection via other ≡ false → Matches other a h told → Matches other a (after_message via h b) told
-foreign_message via other a h told b d m = foreign_unless via other a h told (command_of b)
-    (refusal (balance_of via h) (outstanding_of via h) b) d m
+foreign_message via other a h told b d m = search (arith, foreign_unless)
 
 -- ---- a take
 

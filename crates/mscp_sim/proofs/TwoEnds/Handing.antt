@@ -191,9 +191,8 @@ taken_out {K} via a h told e us m u =
       small = small_without n a.outstanding m.small;
       waits = every_weaker (λ c. IsKnown a.outstanding c × (nat_eq n c.reference ≡ false))
           (IsKnown (without n a.outstanding)) (λ c k.
-          (opcode_without c.reference n (opcode_byte c.order) a.outstanding k.1 k.0.0, k.0.1))
-          (commands (waiting_on via h.waiting))
-          (every_both (IsKnown a.outstanding) (λ c. nat_eq n c.reference ≡ false)
+          (opcode_without c.reference n (opcode_byte c.order) a.outstanding k.1 k.0.0, k.0.1)) (commands
+          (waiting_on via h.waiting)) (every_both (IsKnown a.outstanding) (λ c. nat_eq n c.reference ≡ false)
           (commands (waiting_on via h.waiting)) m.waits
           (other_commands n (commands (waiting_on via h.waiting)) apart.0));
       ends = subst (AllByRecursion (IsAwaited (without n a.outstanding))) (sym left)

@@ -21,21 +21,16 @@ moment_is via talk j l = get_or-map (own_part via) talk j _ Other l
 submit_answers : (via : Connection) (old : Account) (command : Command) (s : Said) (o : Result (ArrayVec ℕ) HostFault)
     (new : Account) → submits old command ≡ (o, new) → IsSubmitted via s o
     → Answers old (submits_in command s.heard s.moment) new
-submit_answers via old command s (Err fault) new e x = rw x.0 e
-submit_answers via old command s (Ok b) new e x = rw (x.1, x.2) e
+submit_answers via old command s o new h1 h2 = search arith
 
 ask_answers : (via : Connection) (old : Account) (n : ℕ) (s : Said) (o : Result Poll HostFault)
     (new : Account) → polls_oldest old n ≡ (o, new) → IsPolled via s o → Answers old (asks_in n s.heard s.moment) new
-ask_answers via old n s (Err fault) new e x = rw x.0 e
-ask_answers via old n s (Ok polls.Nothing) new e x = rw x.0 e
-ask_answers via old n s (Ok polls.Busy) new e x = rw x.0 e
-ask_answers via old n s (Ok (polls.Ask b)) new e x = rw (x.1, x.2) e
+ask_answers via old n s o new h1 h2 = search arith
 
 take_answers : (via : Connection) (old : Account) (s : Said) (end : Option (ArrayVec ℕ)) (new : Account)
     → s.moment ≡ Some (events.Take via, entries.Taken via end) → IsHanded old end s.heard new
     → Answers old (receives_in s.heard s.moment) new
-take_answers via old s None new m x = rw x.0 x.1
-take_answers via old s (Some b) new m x = rw (x.1, m) x.2
+take_answers via old s end new h1 h2 = search arith
 
 -- a turn of a connection says nothing of the other
 both_answers : (via : Connection) (old new : Both Account) (k : Account) (m : host.Moment) → new ≡ put via k old
@@ -45,13 +40,7 @@ both_answers via old new k m p e = search (arith, each_side, own_side, of_put, o
 
 pub answers : (old new : Both Account) (s : Said) (t : Turn) → IsHeard old t s new → (via : Connection)
     → Answers (of via old) (heard_by via t s.heard s.moment) (of via new)
-answers old new s (turns.Submit other command) x =
-    both_answers other old new _ _ x.1 (submit_answers other (of other old) command s _ _ refl x.0)
-answers old new s (turns.Poll other n) x =
-    both_answers other old new _ _ x.1 (ask_answers other (of other old) n s _ _ refl x.0)
-answers old new s (turns.Step block) x = λ via. ap (of via) x.3
-answers old new s (turns.Take other) x =
-    both_answers other old new x.1 _ x.4 (take_answers other (of other old) s x.0 x.1 x.2 x.3)
+answers old new s t h1 = search (arith, both_answers, submit_answers, ask_answers, take_answers)
 
 -- ---- its news are those that are heard
 
@@ -65,8 +54,7 @@ is_news heard = false
 
 submits_quiet : (via : Connection) (s : Said) (o : Result (ArrayVec ℕ) HostFault) → IsSubmitted via s o
     → is_news s.heard ≡ false
-submits_quiet via s (Err fault) x = ap is_news x.0
-submits_quiet via s (Ok b) x = ap is_news x.1
+submits_quiet via s o h1 = search arith
 
 asks_quiet : (via : Connection) (s : Said) (o : Result Poll HostFault) → IsPolled via s o → is_news s.heard ≡ false
 asks_quiet via s o x = grind arith
@@ -74,13 +62,8 @@ asks_quiet via s o x = grind arith
 taken_news : (via : Connection) (old new : Account) (s : Said) (end : Option (ArrayVec ℕ)) (n : News)
     → s.moment ≡ Some (events.Take via, entries.Taken via end) → IsHanded old end s.heard new → s.heard ≡ hears.News n
     → news_heard (receives_in s.heard s.moment) ≡ Some n
-taken_news via old new s None n m x e = absurd (false≢true (ap is_news (sym x.0 ∙ e)))
-taken_news via old new s (Some b) n m x e = rw (e, m) refl
+taken_news via old new s end n h1 h2 h3 = search (arith, false≢true)
 
 pub said_news : (old new : Both Account) (s : Said) (t : Turn) (n : News) → IsHeard old t s new → s.heard ≡ hears.News n
     → (via : Connection) × (news_heard (heard_by via t s.heard s.moment) ≡ Some n)
-said_news old new s (turns.Submit via command) n x e =
-    absurd (true≢false (sym (ap is_news e) ∙ submits_quiet via s _ x.0))
-said_news old new s (turns.Poll via r) n x e = absurd (true≢false (sym (ap is_news e) ∙ asks_quiet via s _ x.0))
-said_news old new s (turns.Step block) n x e = absurd (false≢true (ap is_news (sym x.1 ∙ e)))
-said_news old new s (turns.Take via) n x e = search (arith, own_side, taken_news)
+said_news old new s t n h1 h2 = search (arith, true≢false, submits_quiet, asks_quiet, false≢true, own_side, taken_news)

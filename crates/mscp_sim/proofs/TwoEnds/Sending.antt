@@ -98,9 +98,8 @@ arrives_ended {K} via a a' h told told' s c x m f =
     let h1 : Holdings K = aborting via h c.order in
     let e = answered_end via h c in
     let m1 = aborting_matches via a h told c.order m in
-    let code : is_code_of e.code s.opcode ≡ true =
-    ap (is_code_of e.code) x.opcode ∙ (ap (λ q. is_code_of q (opcode_byte c.order))
-    (own_code_of h.settings _ _ c (fault_of h.settings c)) ∙ x.coded) in
+    let code : is_code_of e.code s.opcode ≡ true = ap (is_code_of e.code) x.opcode
+    ∙ (ap (λ q. is_code_of q (opcode_byte c.order)) (own_code_of h.settings _ _ c (fault_of h.settings c)) ∙ x.coded) in
     let own : e.reference ≡ s.reference = own_reference_of h.settings _ _ c (fault_of h.settings c) ∙ sym x.reference in
     let adds : Adds via a a' h1 s = search (arith, new_still via a h h1 told s.reference m m1 x.adds.new) in
     pushes_match via a a' h1 (with_end via h1 e) s told told' (ended_pushes via a a' h1 told s e adds own code m1) m1 f
@@ -123,8 +122,7 @@ arrives_match {K} via a a' h told s c x m w =
     let ended : of via (with_end via h1 e).untaken ≡ of via h1.untaken ++ e ∷ [] = of_more via h1.untaken (e ∷ []) in
     elim (is_queued h.settings c) as (λ b. Matches via a' (if b then queued via h c else with_end via h1 e) told) [
       | true ↦ arrives_queued via a a' h told s c x m w
-      | false ↦ arrives_ended via a a' h told told s c x m
-          (subst (λ us. HasFlight us a'.watch told) (sym ended)
+      | false ↦ arrives_ended via a a' h told told s c x m (subst (λ us. HasFlight us a'.watch told) (sym ended)
           (subst (λ (o : Option Watch). HasFlight (of via h1.untaken ++ e ∷ []) o told) (sym w) flight))
     ]
 
@@ -172,8 +170,7 @@ told_now via h s = record {
 }
 
 poll_flight : {K : Type 0} (via : Connection) (a : Account) (h : Holdings K) (told : Flight) (r : ℕ) (s : Submission)
-    → Matches via a h told → list_any (has_reference s.reference) a.outstanding ≡ true
-    → HasFlight
+    → Matches via a h told → list_any (has_reference s.reference) a.outstanding ≡ true → HasFlight
     (of via (with_end via (aborting via h (orders.Status s.reference)) (answered_end via h (poll_of r s))).untaken)
     (watching a r s).watch (told_now via h s)
 poll_flight {K} via a h told r s m there =

@@ -68,8 +68,7 @@ served_end {K} via a h h' told k d place e true o x m =
       own = r.command;
       back = back;
       end = e;
-      waited = commands_cut via h.waiting place x.inside
-          ∙ ap (λ b. front ++ (commands (cond b (r ∷ []) []) ++ back)) o;
+      waited = commands_cut via h.waiting place x.inside ∙ ap (λ b. front ++ (commands (cond b (r ∷ []) []) ++ back)) o;
       left = x.waiting;
       ends = x.ends ∙ ap (λ b. of via h.untaken ++ (if b then e ∷ [] else [])) o;
       reference = ap (λ (x : End). x.reference) is;

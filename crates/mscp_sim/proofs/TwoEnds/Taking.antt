@@ -14,8 +14,7 @@ none_of o h1 = grind (arith, true≢false)
 
 none_when : {K : Type 0} (via : Connection) (a : Account) (h : Holdings K) (told : Flight) (us : List End)
     → of via h.untaken ≡ us → end_taken via h ≡ None → Matches via a h told → Matches via a (after_take via h) told
-none_when {K} via a h told [] u e m = search (arith, put_own via h.untaken)
-none_when via a h told (x ∷ us) u e m = search (arith, none_of (slice_get (of via h.untaken) 0) e, true≢false)
+none_when via a h told us h1 h2 h3 = search (arith, put_own, none_of, true≢false)
 
 pub taken_none : {K : Type 0} (via : Connection) (a : Account) (h : Holdings K) (told : Flight) → end_taken via h ≡ None
     → Matches via a h told → Matches via a (after_take via h) told
@@ -42,8 +41,7 @@ some_when {K} via a h told (x ∷ us) b u e r m =
       untaken = u;
       heard = first_heard via a h told x us b.items m u (r x (ap (λ xs. slice_get xs 0) u));
       match = subst (λ xs. Matches via (received a x) (record h { untaken = put via xs h.untaken }) told)
-          (ap (drop 1) (sym u))
-          (received_match via a h told x us m u);
+          (ap (drop 1) (sym u)) (received_match via a h told x us m u);
     }
 
 pub taken_some : {K : Type 0} (via : Connection) (a : Account) (h : Holdings K) (told : Flight) (b : ArrayVec ℕ)

@@ -55,8 +55,7 @@ turns_from {K} c picks picker talk j (s ∷ rest) keeps x i l k =
     let now = turn comes in
     let t = trace_of (take (j + 1) talk) in
     let promise = subst (Promise c) (history_of t) (keeps t r.1 now.next.reached).promise in
-    ⊎_elim
-    (λ same. subst (Known c talk) same (record { tells = now.tells; promise = promise }))
+    ⊎_elim (λ same. subst (Known c talk) same (record { tells = now.tells; promise = promise }))
     (λ other. turns_from c picks picker talk (j + 1) rest keeps (record {
       is = d.2;
       hosts = r.0;
@@ -114,8 +113,7 @@ calls_front picks h m h' (Some n) t r a = (m, r, a)
 whole_calls : {K : Type 0} (picks : List Choice → ℕ → Type 0) (a a' : Both Account) (h h' : Holdings K) (talk : Talk)
     → Converses picks a h talk a' h' → AnsweredCalls picks h (calls_of (trace_of talk)) h'
 whole_calls {K} picks a a' h h' [] r = r.1
-whole_calls picks a a' h h' (s ∷ talk) r = calls_front picks h r.1 h' s.moment (trace_of talk) r.2.1
-    (whole_calls picks r.0 a' r.1 h' talk r.3)
+whole_calls picks a a' h h' (s ∷ talk) r = search (arith, calls_front, whole_calls picks r.0 a' r.1 h' talk r.3)
 
 -- ---- whose end it is
 

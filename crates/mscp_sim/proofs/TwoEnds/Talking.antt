@@ -12,8 +12,7 @@ converses_push picks a m a' h n h' (t ∷ talk) s r one =
 
 same_picker : {K : Type 0} (picks : List Choice → ℕ → Type 0) (h h' : Holdings K) (o : Option Moment)
     → AnswersTurn picks h o h' → h'.picker ≡ h.picker
-same_picker {K} picks h h' None r = ap (λ (x : Holdings K). x.picker) r
-same_picker picks h h' (Some m) r = (owner_kept picks h h' m.0 m.1 r).1
+same_picker picks h h' o h1 = search (arith, owner_kept)
 
 -- what the hosts and the controller keep, and what was heard and the trace so far
 pub record Kept (K : Type 0) : Type 0 where

@@ -19,8 +19,7 @@ calls_push picks h m h' (c ∷ calls) call r a = (r.0, r.1, calls_push picks r.0
 pub reached_more : {K : Type 0} (picks : List Choice → ℕ → Type 0) (h m h' : Holdings K) (t : Trace) (o : Option Moment)
     → AnsweredCalls picks h (calls_of t) m → AnswersTurn picks m o h'
     → AnsweredCalls picks h (calls_of (t ++ option_to_list o)) h'
-reached_more {K} picks h m h' t None r a = search (arith, append-nil t)
-reached_more {K} picks h m h' t (Some n) r a = grind (arith, calls_push, map-append)
+reached_more picks h m h' t o h1 h2 = search (arith, append-nil, calls_push, map-append)
 
 -- the trace before the next turn
 pub trace_more : (talk : Talk) (j : ℕ) → j < length talk

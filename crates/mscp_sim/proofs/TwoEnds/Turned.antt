@@ -39,8 +39,7 @@ take_own : {K : Type 0} (via : Connection) (a k : Account) (h : Holdings K) (hea
     (told : Flight) → IsHanded a end heard k → end ≡ end_taken via h
     → ((b : ArrayVec ℕ) (e : End) → end ≡ Some b → slice_get (of via h.untaken) 0 ≡ Some e → IsEnd b.items e)
     → Matches via a h told → Matches via k (after_take via h) told
-take_own {K} via a k h heard None told x e sound m =
-    subst (λ y. Matches via y (after_take via h) told) (sym x.1) (taken_none via a h told (sym e) m)
+take_own {K} via a k h heard None told x e sound m = search (arith, taken_none)
 take_own {K} via a k h heard (Some b) told x e sound m =
     let out = taken_some via a h told b (sym e) (λ end f. sound b end refl f) m in
     subst (λ y. Matches via y (after_take via h) told) (ap (λ q. q.1) (sym out.heard ∙ x.2)) out.match
@@ -59,20 +58,14 @@ module _ {K : Type 0} (picks : List Choice → ℕ → Type 0) (a a' : Both Acco
   -- nothing comes to the controller
   kept_back : (t : Turn) (other : Connection) (k : Account) → s.moment ≡ None → is_asked s.heard ≡ false
       → a' ≡ put other k a → k ≡ of other a → AnswersTurn picks h s.moment h' → (via : Connection) → Keeps t via
-  kept_back t other k none n p e answers via =
-      let left : h' ≡ h = subst (λ o. AnswersTurn picks h o h') none answers in
-      let same : a' ≡ a = p ∙ (ap (λ y. put other y a) e ∙ put_own other a) in
-      unasked t via (of via a) (no_poll via t s.heard s.moment n) (ap (of via) same)
-      (λ told m. subst (λ (y : Holdings K). Matches via (of via a) y told) (sym left) m)
+  kept_back t other k none n p e answers via = search (arith, put_own, unasked, no_poll)
 
   -- the other connection is left as it was
   other_kept : (t : Turn) (via other : Connection) (k : Account) (after : Holdings K)
       → same_connection via other ≡ false
       → is_poll (heard_by other t s.heard s.moment) ≡ false → a' ≡ put via k a → h' ≡ after
       → ((told : Flight) → Matches other (of other a) h told → Matches other (of other a) after told) → Keeps t other
-  other_kept t via other k after d n p e f =
-      unasked t other (of other a) n (ap (of other) p ∙ of_other via other k a d)
-      (λ told m. subst (λ (y : Holdings K). Matches other (of other a) y told) (sym e) (f told m))
+  other_kept t via other k after d n p e f = search (arith, unasked, of_other)
 
   -- a message comes
   message_keeps : (t : Turn) (via : Connection) (b : List ℕ) (k : Account)
@@ -105,12 +98,10 @@ module _ {K : Type 0} (picks : List Choice → ℕ → Type 0) (a a' : Both Acco
       → (other : Connection) → Keeps (turns.Poll via r) other
   poll_keeps via r (Ok (polls.Ask b)) k small e p x answers =
       message_keeps (turns.Poll via r) via b.items k (λ other d. rw d refl) p
-      (subst (λ o. AnswersTurn picks h o h') x.2 answers).2
-      (λ told m.
+      (subst (λ o. AnswersTurn picks h o h') x.2 answers).2 (λ told m.
       let y = asks_match via (of via a) h r b k small (told, m) e in
       rw (x.1, x.2, own_side via, y.oldest) y.match)
-  poll_keeps via r o k small e p x answers =
-      kept_back (turns.Poll via r) via k x.1 (ap is_asked x.0) p (polled_kept (of via a) r o k refl e) answers
+  poll_keeps via r o k small e p x answers = search (arith, kept_back, polled_kept)
 
   take_keeps : (via : Connection) → IsHeard a (turns.Take via) s a' → AnswersTurn picks h s.moment h'
       → IsSound h (turns.Take via) s.moment → (other : Connection) → Keeps (turns.Take via) other
@@ -186,27 +177,21 @@ sent_of a a' h s (turns.Submit other command) x sound match via m f q =
     submit_sent a h s other command _ _ sound refl x.0 (match other) via m f q
 sent_of a a' h s (turns.Poll other r) x sound match via m f q =
     poll_sent a h s other r _ _ sound refl x.0 (match other) via m f q
-sent_of a a' h s (turns.Step k) x sound match via m f q =
-    absurd (true≢false (sym q ∙ (ap (queues_in via) (sym f) ∙ ap (queues_in via) x.2)))
-sent_of a a' h s (turns.Take other) x sound match via m f q =
-    absurd (true≢false (sym q ∙ (ap (queues_in via) (sym f) ∙ ap (queues_in via) x.2)))
+sent_of a a' h s (turns.Step k) x sound match via m f q = search (arith, true≢false)
+sent_of a a' h s (turns.Take other) x sound match via m f q = search (arith, true≢false)
 
 -- the end that is heard is the first that is untaken
 heads_of : {K : Type 0} (picks : List Choice → ℕ → Type 0) (a : Account) (h h' : Holdings K) (s : Said)
     (via : Connection) (end : Option (ArrayVec ℕ)) (k : Account) (e : End)
-    → s.moment ≡ Some (events.Take via, entries.Taken via end) → IsHanded a end s.heard k
-    → end_taken via h ≡ end
+    → s.moment ≡ Some (events.Take via, entries.Taken via end) → IsHanded a end s.heard k → end_taken via h ≡ end
     → ((b : ArrayVec ℕ) (e : End) → end ≡ Some b → slice_get (of via h.untaken) 0 ≡ Some e → IsEnd b.items e)
     → MatchOn via a h → end_heard (receives_in s.heard s.moment) ≡ Some e
     → (rest : List End) × (of via h.untaken ≡ e ∷ rest)
-heads_of picks a h h' s via None k e m x taken sound match q =
-    let none : end_heard (receives_in s.heard s.moment) ≡ None = rw x.0 refl in
-    absurd (false≢true (ap is_some (sym none ∙ q)))
+heads_of picks a h h' s via None k e m x taken sound match q = search (arith, false≢true)
 heads_of picks a h h' s via (Some b) k e m x taken sound match q =
     let out = taken_some via a h match.0 b taken (λ end f. sound b end refl f) match.1 in
     let first = read_end b.items out.end (sound b out.end refl (ap (λ xs. slice_get xs 0) out.untaken)) in
-    let heard : end_heard (receives_in s.heard s.moment) ≡ Some out.end =
-    rw (x.1, m) (ap end_or_none first) in
+    let heard : end_heard (receives_in s.heard s.moment) ≡ Some out.end = rw (x.1, m) (ap end_or_none first) in
     (out.rest, out.untaken ∙ ap (λ o. unwrap_or o e ∷ out.rest) (sym heard ∙ q))
 
 taker : (via : Connection) (t : Turn) (heard : Heard) (m : Option Moment) (e : End)
@@ -220,6 +205,5 @@ first_of picks a a' h h' s x match via e q =
     let take = taker via s.turn s.heard s.moment e q in
     let y = subst (λ u. IsHeard a u s a') take.0 x.0 in
     let sound = subst (λ u. IsSound h u s.moment) take.0 x.2 in
-    heads_of picks (of via a) h h' s via y.0 y.1 e y.2 y.3
-    (sym (subst (λ o. AnswersTurn picks h o h') y.2 x.1).1)
+    heads_of picks (of via a) h h' s via y.0 y.1 e y.2 y.3 (sym (subst (λ o. AnswersTurn picks h o h') y.2 x.1).1)
     (λ b e r. sound b e (y.2 ∙ ap (λ end. Some (events.Take via, entries.Taken via end)) r)) (match via) take.1

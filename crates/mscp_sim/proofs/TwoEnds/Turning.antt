@@ -122,9 +122,8 @@ some_now : {K : Type 0} (c : Settings) (via : Connection) (picks : List Choice �
 some_now c via picks t h s k w =
     let promise = subst (Promise c) (history_of t) k.promise in
     let waits = subst (λ u. names h.waiting ≡ map (name u) (waiting u)) (history_of t) k.waiting in
-    some_figure c t (name_on via s.reference) promise
-    (ap (list_any (λ m. same_name m (name_on via s.reference))) (sym waits)
-    ∙ (sym (named_on via s.reference h.waiting) ∙ w))
+    some_figure c t (name_on via s.reference) promise (ap (list_any (λ m. same_name m (name_on via s.reference)))
+    (sym waits) ∙ (sym (named_on via s.reference h.waiting) ∙ w))
 
 -- ---- an end
 
@@ -132,8 +131,7 @@ some_now c via picks t h s k w =
 answer_is : {K : Type 0} {c : Settings} {via : Connection} {talk : Talk} {j : ℕ} {a : Account} {h : Holdings K}
     → (s : Side c via talk j a h) → (e : End) (rest : List End) → of via h.untaken ≡ e ∷ rest → (i p : ℕ)
     → in_flight (history via talk) j ≡ Some p → reference (history via talk) p ≡ e.reference
-    → asked_for (history via talk) p ≡ Some i
-    → (figure_in (Some e) ≡ Some (figure_told c via talk p))
+    → asked_for (history via talk) p ≡ Some i → (figure_in (Some e) ≡ Some (figure_told c via talk p))
     × (is_outstanding (history via talk) j i ≡ true → 1 ≤ figure_told c via talk p)
 answer_is {K} {c} {via} {talk} {j} {a} {h} s e rest u i p f named about =
     let w = watch_at (history via talk) j p in
@@ -142,8 +140,7 @@ answer_is {K} {c} {via} {talk} {j} {a} {h} s e rest u i p f named about =
     let flight : IsFlight es w s.told = subst (λ w. HasFlight es w s.told)
     (ap (option_map (watch_at (history via talk) j)) f)
     (subst (λ xs. HasFlight xs (account_at c via talk j).watch s.told) u m.flight) in
-    let first = first_is e rest w s.told flight
-    (alone via (account_at c via talk j) h s.told e rest m u).1 named in
+    let first = first_is e rest w s.told flight (alone via (account_at c via talk j) h s.told e rest m u).1 named in
     let told = s.flight p f in
     let code = ap (λ (x : End). x.code) (sym first.1) ∙ flight.code in
     let body = ap (λ (x : End). x.body) (sym first.1) ∙ flight.body in (
@@ -154,8 +151,7 @@ answer_is {K} {c} {via} {talk} {j} {a} {h} s e rest u i p f named about =
     )
 
 some_end : (r : ℕ) (o : Option End) → is_end_of r o ≡ true → (e : End) × (o ≡ Some e) × (r ≡ e.reference)
-some_end r None h = absurd (false≢true h)
-some_end r (Some e) h = (e, refl, eqb-true r e.reference h)
+some_end r o h1 = search (arith, false≢true, eqb-true)
 
 -- ---- the turn
 
@@ -214,8 +210,7 @@ module _ {K : Type 0} {c : Settings} {picks : List Choice → ℕ → Type 0} {p
     flight_then : (b : Bool) → is_poll (own_part via (said talk j)) ≡ b → (p : ℕ) → in_flight h (j + 1) ≡ Some p
         → IsFigured c via talk (told_then b (oldest (of via x.hosts)) via x.controller (x.at.side via).told) p
     flight_then true n p f =
-        subst (IsFigured c via talk _)
-        (sym (flight_new (credits_of c via) h j p goes_of.apart (ap is_poll at ∙ n) f))
+        subst (IsFigured c via talk _) (sym (flight_new (credits_of c via) h j p goes_of.apart (ap is_poll at ∙ n) f))
         (told_figure (goes_of.polls (ap is_poll at ∙ n)).1 (goes_of.polls (ap is_poll at ∙ n)).2)
     flight_then false n p f = (x.at.side via).flight p
         (flight_back (credits_of c via) h j p (x.at.side via).apart (ap is_poll at ∙ n) f)

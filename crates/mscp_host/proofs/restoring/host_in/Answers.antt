@@ -1,28 +1,13 @@
-use Rattle.mscp_host.proofs.Common.{List, length, ap, sym, subst, arith, Submission, account_in, IsSound}
+use Rattle.mscp_host.proofs.Common.{List, arith, account_in}
 use Rattle.mscp_host.proofs.Heads.{account_tells, head_tells}
 use Rattle.mscp_host.proofs.restoring.host_in.Goals as goal
 
 pub returns : goal.returns
-returns c = λ i. record {
-  credits = c.four_at.ensures i;
-  outstanding = c.requires.said i;
-  watch = c.requires.poll i;
-}
+returns c = λ i. record { credits = c.four_at.ensures i; outstanding = c.requires.said i; watch = c.requires.poll i }
 
 pub invariant_of-result : goal.invariant_of-result
 invariant_of-result c =
     let b = c.args.b.now in
     let h = head_tells b c.requires.head in
     let a = account_tells (account_in b) c.requires.account in
-    let covered = h.covered in
-    let said = ap (λ (l : List Submission). length l) c.requires.said in
-    let len = c.requires.len in
-    subst IsSound (sym (returns c)) (record {
-      some = h.some;
-      few = h.few;
-      covered = omega (arith, covered, said, len);
-      spare = a.spare;
-      apart = a.apart;
-      watched = a.watched;
-      told = a.told;
-    })
+    search arith

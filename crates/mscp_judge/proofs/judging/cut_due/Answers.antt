@@ -5,13 +5,7 @@ use Rattle.mscp_judge.proofs.judging.cut_due.Goals as goal
 pub overflow_add-lines : goal.overflow_add-lines
 overflow_add-lines g c =
     let few = answers_bytes (due c.args.judge.now) c.args.count c.requires in
-    omega (
-      arith,
-      few,
-      ap length c.due-due.ensures,
-      c.if-not-starts_with.ensures.bound refl,
-      c.args.lines.now.countable,
-    )
+    omega (arith, few, ap length c.due-due.ensures, c.if-not-starts_with.ensures.bound refl, c.args.lines.now.countable)
 
 pub invariant_of-lines : goal.invariant_of-lines
 invariant_of-lines g c =

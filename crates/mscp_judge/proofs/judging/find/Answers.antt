@@ -43,15 +43,12 @@ returns-then-not-branch-2 g c = λ d s.
 pub returns-in_err-rule : goal.returns-in_err-rule
 returns-in_err-rule g c =
     let p = err_from_is_err_and c.from_residual-in_err-rule.result c.from_residual-in_err-rule.ensures.1 in
-    rw (p.1, p.2)
-    (λ d s.
+    rw (p.1, p.2) (λ d s.
     let i = c.loop-bytes.invariant.passed d s in
-    judged_fault d c.args.lines.now.number _ i.front c.in-Some.bytes.now
-    (lines c.cut.new.self.rest.now) i.next
+    judged_fault d c.args.lines.now.number _ i.front c.in-Some.bytes.now (lines c.cut.new.self.rest.now) i.next
     c.cut.new.self.number c.judge_line.new.judge c.in_err-rule.field-0.0
     (i.whole ∙ ap (λ ls. i.front ++ ls) c.in-Some.ensures.line) (omega (arith, i.count, c.in-Some.ensures.counted))
-    i.read (stands_open d i.next c.loop-bytes.judge i.stands)
-    (c.in_err-rule.ensures.hears d i.next i.stands))
+    i.read (stands_open d i.next c.loop-bytes.judge i.stands) (c.in_err-rule.ensures.hears d i.next i.stands))
 
 pub returns-in-Some-2 : goal.returns-in-Some-2
 returns-in-Some-2 g c = λ d s.
@@ -122,8 +119,7 @@ pub returns-then-is_settled : goal.returns-then-is_settled
 returns-then-is_settled g c = λ d s.
     let i = c.loop-bytes.invariant.passed d s in
     let all = i.whole ∙ (ap (λ ls. i.front ++ ls) c.in_default.ensures.line ∙ append-nil i.front) in
-    let known = stands_legal d i.next c.loop-bytes.judge i.stands
-    (c.is_settled.ensures.yes c.if-is_settled.true) in
+    let known = stands_legal d i.next c.loop-bytes.judge i.stands (c.is_settled.ensures.yes c.if-is_settled.true) in
     let legal = known.0 in
     record {
       log = i.next;
@@ -143,8 +139,7 @@ returns-in_ok-right-2 g c = λ d s.
       log = i.next;
       read = ap (λ ls. after_lines c.args.lines.now.number nothing ls) all ∙ i.read;
       opens = stands_open d i.next c.loop-bytes.judge i.stands;
-      wrong = stands_not d i.next c.loop-bytes.judge i.stands
-          (c.is_settled.ensures.no c.if-is_settled.false);
+      wrong = stands_not d i.next c.loop-bytes.judge i.stands (c.is_settled.ensures.no c.if-is_settled.false);
       right_is = c.in_ok-right-2.ensures d i.next None
           (stands_open_held d i.next None c.loop-bytes.judge i.stands (λ none some. refl));
     }

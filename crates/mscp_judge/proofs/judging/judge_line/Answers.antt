@@ -36,8 +36,7 @@ returns-then-is_answer-clause-hears g c = λ d log s. (
 pub returns-in-Err-clause-hears : goal.returns-in-Err-clause-hears
 returns-in-Err-clause-hears g c =
     λ d log s. asks_wrong c.args.number _ log c.args.bytes.now _ c.in-Err.fault (s.count ∙ sym c.count.ensures)
-    c.in_ok-words.ensures.words
-    (unless _ c.is_empty.ensures.1 c.if-is_empty.false)
+    c.in_ok-words.ensures.words (unless _ c.is_empty.ensures.1 c.if-is_empty.false)
     (sym c.is_answer.ensures ∙ c.if-is_answer.false) c.in-Err.ensures.asks
 
 pub returns-in-Ok-clause-hears : goal.returns-in-Ok-clause-hears

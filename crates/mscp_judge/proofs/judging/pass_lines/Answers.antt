@@ -18,8 +18,7 @@ loop-judge-preserved g c = record {
       let q = passed_more d log c.args.lines.now.number _ _ c.args.lines.now.rest.now _ _ c.loop-judge.judge
       c.pass_request.new.judge p (c.in_ok-pass_request.ensures.passed d p.next p.stands) in
       let r = passed_more d log c.args.lines.now.number _ _ c.args.lines.now.rest.now _ _ c.pass_request.new.judge
-      c.pass_steps.new.judge q
-      (c.in_ok-pass_steps.ensures.passed (ap Ok c.if-not-branch.false) d q.next q.stands) in
+      c.pass_steps.new.judge q (c.in_ok-pass_steps.ensures.passed (ap Ok c.if-not-branch.false) d q.next q.stands) in
       passed_more d log c.args.lines.now.number _ _ c.args.lines.now.rest.now _ _ c.pass_steps.new.judge
       c.pass_idle.new.judge r (c.in_ok-pass_idle.ensures.passed d r.next r.stands);
   few = c.in_ok-pass_idle.ensures.count;

@@ -14,13 +14,11 @@ returns-clause-passed g c = λ d log s.
     let before = c.args.lines.now.number in
     let rest = c.args.lines.now.rest.now in
     let mid = c.cut_request.new.lines in
-    let first = passed_request (Ok tt) c.args.judge.now c.ask.new.self (events_of c.in-Some.request) before mid.number
-    _ rest mid.rest.now c.in_ok-count.ensures.stands seen.number c.count.ensures seen.asks seen.rest seen.some d log s
-    in
+    let first = passed_request (Ok tt) c.args.judge.now c.ask.new.self (events_of c.in-Some.request) before mid.number _
+    rest mid.rest.now c.in_ok-count.ensures.stands seen.number c.count.ensures seen.asks seen.rest seen.some d log s in
     let new = c.cut_due.new in
     let cut = c.cut_due.ensures in
-    passed_more d log before mid.number new.lines.number rest mid.rest.now new.lines.rest.now c.ask.new.self
-    new.judge first
-    (passed_cut d first.next mid.number new.lines.number c.in_ok-count.count mid.rest.now new.lines.rest.now
+    passed_more d log before mid.number new.lines.number rest mid.rest.now new.lines.rest.now c.ask.new.self new.judge
+    first (passed_cut d first.next mid.number new.lines.number c.in_ok-count.count mid.rest.now new.lines.rest.now
     c.ask.new.self new.judge c.cut_due.result c.in_ok-count.ensures.answers cut.cut cut.number cut.most cut.told
     cut.frame cut.rest cut.kept cut.untold first.stands)

@@ -1,4 +1,4 @@
-use Rattle.mscp_packet.proofs.Common.{List, ℕ, subst, sym, command_fields, IsCommand, IsZeroBeside}
+use Rattle.mscp_packet.proofs.Common.{arith, List, ℕ, subst, sym, command_fields, IsZeroBeside}
 use Rattle.mscp_packet.proofs.Commands.{command_bytes_are_messages, command_zeros}
 use Rattle.mscp_packet.proofs.writing.write_command.Goals as goal
 
@@ -9,8 +9,4 @@ returns-clause-zeros c =
     subst P (sym c.bytes_of_command.ensures.items) (command_zeros command.reference command.unit command.order)
 
 pub returns-clause-reads_back : goal.returns-clause-reads_back
-returns-clause-reads_back c = λ valid.
-    let command = c.args.command.now in
-    let written = c.bytes_of_command.ensures in
-    let P : List ℕ → Type 0 = λ b. IsCommand b command in
-    subst P (sym written.items) (command_bytes_are_messages command valid written.range)
+returns-clause-reads_back c = search (arith, command_bytes_are_messages)

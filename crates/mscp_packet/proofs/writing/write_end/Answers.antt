@@ -1,4 +1,4 @@
-use Rattle.mscp_packet.proofs.Common.{List, ℕ, subst, sym, end_fields, IsEnd, IsZeroBeside}
+use Rattle.mscp_packet.proofs.Common.{arith, List, ℕ, subst, sym, end_fields, IsZeroBeside}
 use Rattle.mscp_packet.proofs.Ends.{end_bytes_are_messages, end_zeros}
 use Rattle.mscp_packet.proofs.writing.write_end.Goals as goal
 
@@ -9,8 +9,4 @@ returns-clause-zeros c =
     subst P (sym c.bytes_of_end.ensures.items) (end_zeros e.reference e.unit e.code e.status e.body)
 
 pub returns-clause-reads_back : goal.returns-clause-reads_back
-returns-clause-reads_back c = λ kind.
-    let e = c.args.end.now in
-    let written = c.bytes_of_end.ensures in
-    let P : List ℕ → Type 0 = λ b. IsEnd b e in
-    subst P (sym written.items) (end_bytes_are_messages e kind written.range)
+returns-clause-reads_back c = search (arith, end_bytes_are_messages)

@@ -5,8 +5,7 @@ use Rattle.mscp_reader.proofs.header.read_unit.Goals as goal
 
 pub returns-clause-heads : goal.returns-clause-heads
 returns-clause-heads c =
-    rw (c.at.ensures, c.in_ok-line.ensures.number)
-    (line_heads _ c.header_line.new.self.number (HasTimeout (settled c.args.limits []))
-    (words c.in_ok-line.line.words.rest.now) _ _ c.first_unit.result
-    (rw next_timeout (gives_made _ (λ units. HasUnits (settled c.args.limits units)) _ _
-    c.first_unit.ensures.units)) (c.in_ok-line.ensures.some _ tt))
+    rw (c.at.ensures, c.in_ok-line.ensures.number) (line_heads _ c.header_line.new.self.number
+    (HasTimeout (settled c.args.limits [])) (words c.in_ok-line.line.words.rest.now) _ _ c.first_unit.result
+    (rw next_timeout (gives_made _ (λ units. HasUnits (settled c.args.limits units)) _ _ c.first_unit.ensures.units))
+    (c.in_ok-line.ensures.some _ tt))

@@ -19,7 +19,6 @@ returns g c =
         new.valid,
         run.headline,
         run.swept (λ view place inside h. h),
-        c.in_ok-finish.ensures
-            ∙ ap finished runs.report_is,
+        c.in_ok-finish.ensures ∙ ap finished runs.report_is,
       ),
     )

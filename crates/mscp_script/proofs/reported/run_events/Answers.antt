@@ -15,8 +15,7 @@ loop-request-preserved g c =
             so_far.0 ++ events_of c.in-Ok-Some.request,
             c.in_ok-meet-in-Ok-Some.ensures.met d so_far.0 so_far.1,
             so_far.2 ∙ goes_on _ c.count.result _ d so_far.0 _ _ _ (omega (arith, so_far.1.count, c.count.ensures))
-                (omega (arith, c.loop-request.invariant.few, c.count.ensures)) asks
-                c.in-Ok-Some.ensures.rest number,
+                (omega (arith, c.loop-request.invariant.few, c.count.ensures)) asks c.in-Ok-Some.ensures.rest number,
           );
       few = omega (arith, c.in_ok-meet-in-Ok-Some.ensures.count, few, c.count.ensures);
     }
@@ -24,8 +23,7 @@ loop-request-preserved g c =
 pub returns-in-Err : goal.returns-in-Err
 returns-in-Err g c = λ d begun.
     let so_far = c.loop-request.invariant.going d begun in
-    so_far.2 ∙ goes_wrong _ c.count.result d so_far.0 _ _ (omega (arith, so_far.1.count, c.count.ensures))
-    (omega (arith, c.loop-request.invariant.few, c.count.ensures)) c.in-Err.ensures.asks
+    search (arith, goes_wrong)
 
 pub returns-in-Ok-None : goal.returns-in-Ok-None
 returns-in-Ok-None g c = λ d begun.

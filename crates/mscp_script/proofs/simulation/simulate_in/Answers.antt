@@ -1,4 +1,4 @@
-use Rattle.mscp_script.proofs.Common.{List, ℕ, ap, subst, ◌∙◌, Err, Appends, IsFault, IsReport}
+use Rattle.mscp_script.proofs.Common.{arith, List, ℕ, ap, subst, ◌∙◌, Err, Appends, IsFault, IsReport}
 use Rattle.mscp_script.proofs.Faults.{never_read, never_written, of_script}
 use Rattle.mscp_script.proofs.simulation.simulate_in.Goals as goal
 
@@ -17,8 +17,7 @@ returns-in_err-text-clause-fault g c = λ fault e.
     )
 
 pub returns-in_err-write_all-clause-fault : goal.returns-in_err-write_all-clause-fault
-returns-in_err-write_all-clause-fault g c = λ fault e.
-    absurd (never_written c.from_residual-in_err-write_all.result fault c.from_residual-in_err-write_all.ensures.1 e)
+returns-in_err-write_all-clause-fault g c = λ fault e. search (arith, never_written)
 
 pub returns-clause-written : goal.returns-clause-written
 returns-clause-written g c =

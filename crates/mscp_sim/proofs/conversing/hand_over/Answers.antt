@@ -28,8 +28,7 @@ unreachable-requires g c =
     let back : (e : End) → slice_get (of via h.untaken) 0 ≡ Some e → IsEnd c.in-Some.bytes.items e =
     λ e s. rw c.in-Some.is at (c.take.ensures.reads_back e s) in
     let taken = taken_some via a h told.0 c.in-Some.bytes (sym c.take.ensures.answer ∙ c.in-Some.is) back told.1 in
-    let heard = c.receive.ensures.answer
-    ∙ (ap (λ b. (heard a b).0) c.deref.ensures.0 ∙ ap (λ p. p.0) taken.heard) in
+    let heard = c.receive.ensures.answer ∙ (ap (λ b. (heard a b).0) c.deref.ensures.0 ∙ ap (λ p. p.0) taken.heard) in
     absurd (false≢true (ap is_ok (sym c.in-Err.is ∙ heard)))
 
 pub returns-in-None : goal.returns-in-None

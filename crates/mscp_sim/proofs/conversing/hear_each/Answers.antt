@@ -24,8 +24,7 @@ loop-turn-preserved g c =
     let more : length c.args.turns.now - c.loop-turn.turn-index
     ≡ (length c.args.turns.now - (c.loop-turn.turn-index + 1)) + 1 = omega (arith, left) in
     record {
-      talks =
-          talks_more g.K.Picker.picks (kept c.args.hosts.now c.args.controller.now c.args.talk.now)
+      talks = talks_more g.K.Picker.picks (kept c.args.hosts.now c.args.controller.now c.args.talk.now)
           (kept c.loop-turn.hosts c.loop-turn.controller c.loop-turn.talk)
           (kept c.hear-heard.new.hosts c.hear-heard.new.controller c.keep.new.self) c.args.turns.now
           c.loop-turn.turn-index c.turn-item.result left c.turn-item.is c.loop-turn.invariant.talks
@@ -33,8 +32,7 @@ loop-turn-preserved g c =
             told = c.hear-heard.result;
             goes = c.hear-heard.ensures;
             heard = c.keep.ensures.heard;
-            trace =
-                c.keep.ensures.trace;
+            trace = c.keep.ensures.trace;
           });
       room = c.keep.ensures.room (length c.args.turns.now - (c.loop-turn.turn-index + 1))
           (subst (HasRoom c.loop-turn.talk) more c.loop-turn.invariant.room);

@@ -30,8 +30,7 @@ returns-in-Err g c =
     (record {
       turn = turns.Poll c.args.connection c.args.reference;
       heard = hears.Refused c.in-Err.fault;
-      moment =
-          None;
+      moment = None;
     }) ((rw answer (refl, refl), c.poll.ensures.after), refl, small) c.requires
 
 pub returns-in-Ok-Nothing : goal.returns-in-Ok-Nothing

@@ -17,8 +17,7 @@ unreachable-requires g c =
     let ok : (submits a c.args.command).0 ≡ Ok c.in-Ok.message = sym c.submit.ensures.answer ∙ c.in-Ok.is in
     let e : submits a c.args.command ≡ (Ok c.in-Ok.message, kept) = λ i. (ok i, kept) in
     let told = c.requires via in
-    let x = submits_match via a c.args.controller.now told.0 c.args.command c.in-Ok.message kept number unit
-    told.1 e in
+    let x = submits_match via a c.args.controller.now told.0 c.args.command c.in-Ok.message kept number unit told.1 e in
     absurd (false≢true (ap is_ok (sym c.in-Err-send.is)
     ∙ not_refused via c.args.controller.now _ _ _ _ c.send.ensures.answer c.deref.ensures.0 x.taken))
 

@@ -1,4 +1,4 @@
-use Rattle.mscp_host.proofs.Common.{◌≡◌, ℕ, List, ap, sym, ◌∙◌, rules, refl, None, bytes_eq, account_fault, account_in, head_fault, saved_bytes}
+use Rattle.mscp_host.proofs.Common.{arith, ◌≡◌, ℕ, List, ap, ◌∙◌, rules, None, account_fault, account_in, head_fault, saved_bytes}
 use Rattle.mscp_host.proofs.host.Host.restore.Goals as goal
 
 pub returns-else-eq-clause-value : goal.returns-else-eq-clause-value
@@ -7,5 +7,4 @@ returns-else-eq-clause-value c =
     let head : head_fault b ≡ None = search rules in
     let account : account_fault (account_in b) ≡ None = search rules in
     let same = c.as_slice-2.ensures.value ∙ (c.save.ensures.bytes ∙ ap saved_bytes c.host_in-host.ensures) in
-    let differ = ap (λ (xs : List ℕ). bytes_eq xs b) (sym same) ∙ (sym c.eq.ensures ∙ c.if-eq.false) in
-    rw (head, account, differ) refl
+    search arith

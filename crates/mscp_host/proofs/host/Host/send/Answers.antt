@@ -27,6 +27,5 @@ invariant_of-self c =
           (spare_more s xs c.self.inside.credits spare inv.spare);
       apart = ap are_apart c.push.ensures.items ∙ apart_more s xs inv.apart new;
       watched = ap (λ (l : List Submission). is_watched l w) c.push.ensures.items ∙ watched_more s xs w inv.watched;
-      told = ap are_told c.push.ensures.items
-          ∙ told_more s xs (ap (λ (s : Submission). s.told) c.of.ensures) inv.told;
+      told = ap are_told c.push.ensures.items ∙ told_more s xs (ap (λ (s : Submission). s.told) c.of.ensures) inv.told;
     }

@@ -8,10 +8,9 @@ returns-in-Send-clause-stands g c =
     let old = c.args.self.now in
     let new = c.send.new.self in
     let via = c.in-Send.connection in
-    let came = subst (λ b. OnOk c.send.result (Came old.controller.picker.named old new
-    (events.Send via (record { items = b })))) (c.as_slice.ensures.value
-    ∙ c.write_command.ensures.bytes) c.send.ensures.came
-    in
+    let came = subst
+    (λ b. OnOk c.send.result (Came old.controller.picker.named old new (events.Send via (record { items = b }))))
+    (c.as_slice.ensures.value ∙ c.write_command.ensures.bytes) c.send.ensures.came in
     rw c.in-Send.is (asked_one c.send.result old new old.controller.picker.named _ refl c.requires.settled came
     c.send.ensures.owed)
 

@@ -12,9 +12,8 @@ returns-clause-came g c =
     (IsNamed h.picker.named) block h c.step-report.result c.step-report.new.self)
     c.replace_picker.ensures.after c.step-report.ensures.step in
     came_on c.stepped.result c.args.self.now _ c.args.wanted (events.Step block) (entries.Stepped c.step-report.result)
-    c.forget_lines.new.self steps c.forget_lines.ensures c.stepped.ensures.value refl
-    0 _ refl c.most_passed.ensures.oldest c.rise.ensures.figure
-    c.rise.ensures.passed c.most_passed.ensures.most
+    c.forget_lines.new.self steps c.forget_lines.ensures c.stepped.ensures.value refl 0 _ refl
+    c.most_passed.ensures.oldest c.rise.ensures.figure c.rise.ensures.passed c.most_passed.ensures.most
 
 pub returns-clause-short : goal.returns-clause-short
 returns-clause-short g c = search (arith, stepped_short)

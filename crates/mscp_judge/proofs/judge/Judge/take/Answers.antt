@@ -10,9 +10,8 @@ use Rattle.mscp_judge.proofs.judge.Judge.take.Goals as goal
 pub returns-clause-came : goal.returns-clause-came
 returns-clause-came g c = came_on (Ok tt) c.args.self.now _ c.args.self.now.controller.picker.named
     (events.Take c.args.connection) (entries.Taken c.args.connection c.take-end.result) c.forget_lines.new.self
-    (refl, c.take-end.ensures.answer, c.take-end.ensures.after) c.forget_lines.ensures c.in_ok-taken.ensures refl
-    0 _ refl c.most_passed.ensures.oldest c.rise.ensures.figure
-    c.rise.ensures.passed c.most_passed.ensures.most
+    (refl, c.take-end.ensures.answer, c.take-end.ensures.after) c.forget_lines.ensures c.in_ok-taken.ensures refl 0 _
+    refl c.most_passed.ensures.oldest c.rise.ensures.figure c.rise.ensures.passed c.most_passed.ensures.most
 
 pub returns-clause-answers : goal.returns-clause-answers
 returns-clause-answers g c =

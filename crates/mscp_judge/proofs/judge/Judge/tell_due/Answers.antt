@@ -19,5 +19,4 @@ returns-clause-tells g c = λ d log wanted s.
     )
 
 pub returns-clause-rule : goal.returns-clause-rule
-returns-clause-rule g c =
-    search (arith, c.tell.ensures.kept, c.if-tell.false, c.due_rule.ensures, c.due.ensures)
+returns-clause-rule g c = search (arith, c.tell.ensures.kept, c.if-tell.false, c.due_rule.ensures, c.due.ensures)

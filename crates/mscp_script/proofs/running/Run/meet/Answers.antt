@@ -1,4 +1,4 @@
-use Rattle.mscp_script.proofs.Common.{OnOk, ◌∙◌, subst, Ran}
+use Rattle.mscp_script.proofs.Common.{arith, OnOk, ◌∙◌, subst, Ran}
 use Rattle.mscp_events.specs.declared.event.Event.TheVariants as events
 use Rattle.mscp_script.proofs.Growing.{meets_ok}
 use Rattle.mscp_script.proofs.running.Run.meet.Goals as goal
@@ -11,11 +11,7 @@ returns-in-Send-clause-met g c =
     rw c.in-Send.is (meets_ok c.send.result _ _ _ sent)
 
 pub returns-in-Packet-clause-met : goal.returns-in-Packet-clause-met
-returns-in-Packet-clause-met g c =
-    let sent = subst (λ b. OnOk c.send-in-Packet.result
-    (Ran c.args.self.now c.send-in-Packet.new.self (events.Send c.in-Packet.connection (record { items = b }))))
-    (c.as_slice-in-Packet.ensures.value ∙ c.bytes_in.ensures) c.send-in-Packet.ensures in
-    rw c.in-Packet.is (meets_ok c.send-in-Packet.result _ _ _ sent)
+returns-in-Packet-clause-met g c = search (arith, meets_ok)
 
 pub returns-in-Take-clause-met : goal.returns-in-Take-clause-met
 returns-in-Take-clause-met g c = rw c.in-Take.is (meets_ok c.take.result _ _ _ c.take.ensures)

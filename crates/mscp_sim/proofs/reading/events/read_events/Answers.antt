@@ -13,8 +13,7 @@ loop-request-preserved g c =
         few,
         c.len.ensures,
         ap length more,
-        length-append c.loop-request.events.items (events_of
-            c.in-Ok-Some.request),
+        length-append c.loop-request.events.items (events_of c.in-Ok-Some.request),
       );
       same = λ s. c.loop-request.invariant.same s ∙ rw more (goes_on _ c.len.result _ s _ _ _ _
           (omega (arith, c.len.ensures)) (omega (arith, c.len.ensures, c.loop-request.invariant.few)) asks
