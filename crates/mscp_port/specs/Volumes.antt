@@ -45,8 +45,8 @@ abbrev pub protected_by : Buffer → Volume → Volume
 protected_by b v =
     if b.modifiers / 4 % 2 == 1 then record v { is_protected_by_host = b.flags / 0x1000 % 2 == 1 } else v
 
--- the unit is online with the volume that was there when the command came, and freshly so if it wasn't. If that volume is
--- the one in it, its host needs no news of it any more
+-- the unit is online with the volume that was there when the command came, and freshly so if it wasn't. If that volume
+-- is the one in it, its host needs no news of it any more
 abbrev pub brought_online : Buffer → Volume → Volume
 brought_online b v = record v {
   mounted = Some b.changes;
