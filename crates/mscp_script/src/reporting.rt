@@ -1,8 +1,9 @@
 // A report, which grows by the lines of each entry, and ends with the totals.
 
-ghost use Rattle.mscp_script.specs.Common.{◌≡◌, ◌+◌, ◌<◌, ◌≤◌, ◌^◌, [], IfOk, OnOk, length, finished, reported, step_line, with_entry};
+ghost use Rattle.std.specs.Prelude.{◌≡◌, ◌+◌, ◌<◌, ◌≤◌, ◌^◌, [], IfOk, OnOk, length};
 ghost use Rattle.mscp_controller.specs.declared.entry.Entry.TheVariants as entries;
 ghost use Rattle.mscp_queue.specs.declared.report.Report.TheVariants as reports;
+ghost use Rattle.mscp_script.specs.Text.{finished, reported, step_line, with_entry};
 
 mod lines;
 mod tail;
@@ -26,7 +27,7 @@ pub struct Reporter<O: Out> {
 
 // A clause sees the lines, how many entries they are of, and the totals.
 impl<O: Out> Model for Reporter<O> {
-    ghost use Rattle.mscp_script.specs.Common.{Reported};
+    ghost use Rattle.mscp_script.specs.Text.{Reported};
 
     ghost Value = { Reported };
 

@@ -1,7 +1,12 @@
 // A controller that is driven event by event, and the report of what it answers.
 
-ghost use Rattle.mscp_script.specs.Common.{◌≡◌, ◌+◌, ◌<◌, ◌^◌, [], length, replicate, OnOk, fresh, IsValid, events_of, Meets, Ran, reported};
+ghost use Rattle.std.specs.Prelude.{◌≡◌, ◌+◌, ◌<◌, ◌^◌, [], length, replicate, OnOk};
+ghost use Rattle.mscp_controller.specs.Holdings.{fresh};
+ghost use Rattle.mscp_events.specs.Settings.{IsValid};
 ghost use Rattle.mscp_events.specs.declared.event.Event.TheVariants as events;
+ghost use Rattle.mscp_reader.specs.Requests.{events_of};
+ghost use Rattle.mscp_script.specs.Running.{Meets, Ran};
+ghost use Rattle.mscp_script.specs.Text.{reported};
 
 use crate::reporting::Reporter;
 use mscp_controller::{Block, Config, Connection, Controller, OutOfMemory, Sweep};

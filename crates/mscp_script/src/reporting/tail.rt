@@ -1,6 +1,8 @@
 // A line that is written from its end to its start.
 
-ghost use Rattle.mscp_script.specs.Common.{◌≡◌, ◌+◌, ◌*◌, ◌≤◌, ◌++◌, length, codes, decimal, encode_lower};
+ghost use Rattle.std.specs.Prelude.{◌≡◌, ◌+◌, ◌*◌, ◌≤◌, ◌++◌, length, codes};
+ghost use Rattle.std.specs.Fmt.{decimal};
+ghost use Rattle.hex.specs.Hex.{encode_lower};
 
 use hex::encode_to_slice;
 use itoa::write_digits;
@@ -19,7 +21,7 @@ pub struct Tail {
 
 // A clause sees the bytes.
 impl Model for Tail {
-    ghost use Rattle.mscp_script.specs.Common.{ℕ, ◌≤◌, List, drop};
+    ghost use Rattle.std.specs.Prelude.{ℕ, ◌≤◌, List, drop};
 
     ghost Value = { List ℕ };
 
