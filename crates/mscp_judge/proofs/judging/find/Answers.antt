@@ -11,19 +11,7 @@ judged_fault : {A : Type 0} (c : Settings) (before : ℕ) (all front : List (Lis
     (back : List (List ℕ)) (log : Log) (number : ℕ) (judge : Judge A) (fault : ReadFault) → all ≡ front ++ bytes ∷ back
     → number ≡ before + length front + 1 → after_lines before nothing front ≡ Ok log → MayGoOn c log.marks
     → Hears c number log bytes (Err fault) judge → Judges c before all (Err fault)
-judged_fault c before all front bytes back log number judge (faults.Script fault) w n r o h =
-    record {
-      front = front;
-      line = bytes;
-      back = back;
-      log = log;
-      whole = w;
-      number = h.0 ∙ n;
-      read = r;
-      opens = o;
-      wrong = rw h.0 h.1;
-    }
-judged_fault c before all front bytes back log number judge faults.OutOfMemory w n r o h = tt
+judged_fault c before all front bytes back log number judge fault h1 h2 h3 h4 h5 = search arith
 
 pub loop-bytes-init : goal.loop-bytes-init
 loop-bytes-init g c = search arith
