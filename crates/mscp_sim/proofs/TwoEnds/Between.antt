@@ -25,20 +25,14 @@ record Came (h : History) (j i l : ℕ) : Type 0 where
   pub about : asks_about h i poll ≡ true
   pub told : figure_in (end_heard (moment h turn)) ≡ Some l
 
-came_if : (b : Bool) (o : Option ℕ) (l : ℕ) → (if b then o else None) ≡ Some l → (b ≡ true) × (o ≡ Some l)
-came_if b o l e = grind (arith, false≢true)
-
 came_now : (h : History) (j k i l : ℕ) (o : Option ℕ) → k < j → handed_over h k ≡ o → figure_from h i k o ≡ Some l
     → Came h j i l
 came_now h j k i l None m q e = absurd (false≢true (ap is_some e))
-came_now h j k i l (Some p) m q e = search (arith, came_if)
-
-came_then : (h : History) (j k i l : ℕ) → j ≤ k → Came h j i l → Came h k i l
-came_then h j k i l m c = search arith
+came_now h j k i l (Some p) m q e = search (arith, false≢true)
 
 came_of : (h : History) (j i l : ℕ) (o : Option ℕ) → (last_told h j i ≡ Some l → Came h j i l) → told_at h i j ≡ o
     → option_or o (last_told h j i) ≡ Some l → Came h (suc j) i l
-came_of h j i l o h1 h2 h3 = search (arith, came_then, came_now)
+came_of h j i l o h1 h2 h3 = search (arith, came_now)
 
 came_from : (h : History) (j i l : ℕ) → last_told h j i ≡ Some l → Came h j i l
 came_from h zero i l e = absurd (false≢true (ap is_some e))

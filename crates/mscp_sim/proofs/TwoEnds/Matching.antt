@@ -116,11 +116,8 @@ pub record Pushes {K : Type 0} (via : Connection) (a a' : Account) (h h' : Holdi
   pub waits : AllByRecursion (IsKnown (a.outstanding ++ s ∷ [])) (commands (waiting_on via h'.waiting))
   pub ends : AllByRecursion (IsAwaited (a.outstanding ++ s ∷ [])) (of via h'.untaken)
 
-once_pushed : (r n t : ℕ) → t ≤ 1 → (r ≡ n → t ≡ 0) → t + times r (n ∷ []) ≤ 1
-once_pushed r n t l z = search (arith, eqb-true)
-
 pub pushes_match : {K : Type 0} (via : Connection) (a a' : Account) (h h' : Holdings K) (s : Submission)
     (told told' : Flight) → Pushes via a a' h h' s → Matches via a h told → HasFlight (of via h'.untaken) a'.watch told'
     → Matches via a' h' told'
 pushes_match {K} via a a' h h' s told told' x m f =
-    grind (arith, length-append, every_append, map-append, times_append, once_pushed)
+    grind (arith, length-append, every_append, map-append, times_append, eqb-true)
