@@ -77,7 +77,7 @@ pub use Rattle.mscp_queue.specs.Names.{name_on, same_connection, same_name}
 pub use Rattle.mscp_queue.specs.Orders.{endcode}
 pub use Rattle.mscp_queue.specs.Outcomes.{outcome_at}
 pub use Rattle.mscp_queue.specs.Records.{Record, aborted_record, drive_at, fresh_record, has_name, name_of, no_record, passed_by, record_at, remains, without}
-pub use Rattle.mscp_queue.specs.Serving.{end_given, waiting_after}
+pub use Rattle.mscp_queue.specs.Serving.{end_given}
 pub use Rattle.mscp_queue.specs.declared.drive.Drive.{Drive}
 pub use Rattle.mscp_queue.specs.declared.name.Name.{Name}
 pub use Rattle.mscp_queue.specs.declared.report.Report.{Report}

@@ -93,10 +93,6 @@ module _ (a : Account) where
   pub submits_kept : (c : Command) (fault : HostFault) (a' : Account) → submits a c ≡ (Err fault, a') → a' ≡ a
   submits_kept c fault a' e = submits_still c _ fault a' e
 
-  unasked_of : (r : ℕ) (s : Option Submission) (p : Result Poll HostFault) (a' : Account) → is_ask p ≡ false
-      → asks a r s ≡ (p, a') → a' ≡ a
-  unasked_of r s p a' n e = grind (arith, true≢false)
-
   pub polled_kept : (r : ℕ) (p : Result Poll HostFault) (a' : Account) → is_ask p ≡ false
       → polls_oldest a r ≡ (p, a') → a' ≡ a
-  polled_kept r p a' n e = search (arith, unasked_of)
+  polled_kept r p a' n e = search (arith, true≢false)

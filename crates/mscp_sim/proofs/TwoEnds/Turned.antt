@@ -135,11 +135,6 @@ module _ {K : Type 0} (picks : List Choice → ℕ → Type 0) (a a' : Both Acco
 
 -- ---- what is queued, and what is heard
 
--- a command of a connection is queued at the moment, if it is one
-abbrev queues_in : Connection → Option Moment → Bool
-queues_in via None = false
-queues_in via (Some m) = queues_by via m
-
 -- what is queued is what a host sends
 abbrev pub IsSentBy : Connection → Said → Turn → Moment → Type 0
 IsSentBy via s t m = (is_sent (heard_by via t s.heard s.moment) ≡ true)
