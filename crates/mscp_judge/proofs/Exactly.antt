@@ -9,11 +9,8 @@ abbrev Grown : Log → Result Log Cause → Type 0
 Grown log (Ok next) = (more : List Mark) × (next.marks ≡ log.marks ++ more)
 Grown log (Err cause) = Unit {0}
 
-grown_words : (log : Log) (bytes : List ℕ) (words : List (List ℕ)) → Grown log (after_words log bytes words)
-grown_words log bytes words = grind (arith, append-nil)
-
 grown_said : (log : Log) (bytes : List ℕ) (r : Result (List (List ℕ)) Cause) → Grown log (r >>= after_words log bytes)
-grown_said log bytes r = grind (arith, grown_words)
+grown_said log bytes r = grind (arith, append-nil)
 
 grown_line : (n : ℕ) (log : Log) (bytes : List ℕ) → Grown log (after_line n log bytes)
 unfolding after_line

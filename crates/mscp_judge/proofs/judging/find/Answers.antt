@@ -1,5 +1,4 @@
 use Rattle.mscp_judge.proofs.Common.{◌≡◌, ℕ, ◌+◌, List, [], ◌∷◌, ◌++◌, length, Ok, Err, refl, ap, sym, ◌∙◌, subst, arith, length-append, append_assoc, append-nil, None, err_from_is_err_and, Settings, progress, lines, words, ReadFault, Judge, Breaks, Hears, IsBroken, Judges, Tells, Log, MayGoOn, after_lines, nothing, whole, Totals, name_in, totals_of, AreTotals}
-use Rattle.mscp_reader.specs.declared.fault.ReadFault.TheVariants as faults
 use Rattle.mscp_judge.proofs.Coming.{held_settings, stands_legal, stands_not, stands_open, stands_settings}
 use Rattle.mscp_judge.proofs.Exactly.{lines_behind}
 use Rattle.mscp_judge.proofs.Righting.{stands_open_held}
