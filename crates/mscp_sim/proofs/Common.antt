@@ -47,7 +47,7 @@ pub use Rattle.mscp_host.proofs.Promised.{it_is, losses_if, resets_if, start}
 pub use Rattle.mscp_host.proofs.Received.{IsApart, flies, flight_back, flight_new}
 pub use Rattle.mscp_host.proofs.Stepping.{step}
 pub use Rattle.mscp_host.specs.Accounts.{Account, answered, asks, asks_unless, balance, end_in, fresh, has_reference, heard, is_about_polled, is_code_of, is_immediate, news_with, oldest, outstanding_with, poll_of, polls_oldest, received, submission_of, submits, submits_unless, submitted, told_in, watch_after, watching, with_told}
-pub use Rattle.mscp_host.specs.Histories.{History, Other, asked_for, asks_about, end_heard, end_or_none, figure_from, figure_in, found_stands, handed_over, in_flight, is_end_of, is_it, is_outstanding, is_poll, is_sent, last_told, moment, news_heard, reference, reference_found, reference_in, submission_at, told_at, watch_at}
+pub use Rattle.mscp_host.specs.Histories.{History, Other, asked_for, asks_about, end_heard, figure_from, figure_in, found_stands, handed_over, in_flight, is_end_of, is_it, is_outstanding, is_poll, is_sent, last_told, moment, news_heard, reference, reference_found, reference_in, submission_at, told_at, watch_at}
 pub use Rattle.mscp_host.specs.Law.{Answers, Stands}
 pub use Rattle.mscp_host.specs.declared.news.HostFault.{HostFault}
 pub use Rattle.mscp_host.specs.declared.news.News.{News}

@@ -108,8 +108,7 @@ module _ (c : Settings) (via : Connection) (talk : Talk) (known : AllKnown c tal
       let t = trace_at p in
       let promise = subst (Promise c) (trace_more talk p l) (known p l).promise in
       let own = part_of c t (option_to_list (said talk p).moment) promise x (contains_waiting t x w) in
-      let same : figure_of c t (own_name i) ≡ figure c t x = ap (figure_of c t) (sym r) ∙ own in
-      omega (arith, same)
+      search (arith, figure_of, figure)
 
   -- ---- from poll to poll
 
@@ -212,10 +211,7 @@ module _ (c : Settings) (via : Connection) (talk : Talk) (known : AllKnown c tal
       subst (λ o. 1 ≤ figure_of c (trace_at q) (name_on via (reference_found h o))) (it_is i (asked_for h q) asked_q.1)
       ((((known j l).tells.on via).figures i q told.handed told.about).1 told.outstanding) in
       let x = waits_at c (trace_at q) (own_name i) some in
-      let low = at_q x.command x.waits x.named in
-      let fig = x.figure in
-      let high = st.not_less in
-      omega (arith, low, fig, high, first, second, some)
+      search arith
 
   -- the answer of the poll q about the command i doesn't stand where a step lies between it and each one before
   pub never_stands : (j : ℕ) → j < length talk → (i q : ℕ) → handed_over h j ≡ Some q → asks_about h i q ≡ true

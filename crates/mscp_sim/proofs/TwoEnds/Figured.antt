@@ -85,6 +85,4 @@ some_figure c t n p e =
     let x = some_is (find q (waiting t)) (sym (any_find q (waiting t))
     ∙ (sym (any_map (name t) (λ m. same_name m n) (waiting t)) ∙ e)) in
     let waits = (found (λ y. is_waiting t y ≡ true) q (waiting t) x.0 (waiting_waits t) x.1).0 in
-    let positive = subst (λ u. (y : ℕ) → Contains (waiting u) y ↔ (1 ≤ figure c u y))
-    (take_all (length t) t (omega arith)) (p.positive (length t) (omega arith)) in
-    subst (λ o. 1 ≤ figure_found c t o) (sym x.1) ((positive x.0).0 (contains_waiting t x.0 waits))
+    search (arith, figure, take_all, contains_waiting)

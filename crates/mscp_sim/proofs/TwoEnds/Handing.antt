@@ -38,10 +38,7 @@ pub alone : {K : Type 0} (via : Connection) (a : Account) (h : Holdings K) (told
 alone via a h told e us m u =
     let n = e.reference in
     let one = m.once n in
-    let all = counted_numbers n via h in
-    let ends : times n (numbers_ended (of via h.untaken)) ≡ 1 + times n (numbers_ended us) =
-    ap (λ es. times n (numbers_ended es)) u ∙ times_own n (numbers_ended us) in
-    search (arith, one, all, ends)
+    search (arith, counted_numbers, times_own)
 
 -- ---- what the first end tells
 
