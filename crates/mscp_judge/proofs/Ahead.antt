@@ -1,5 +1,5 @@
 -- Which command the line ahead says was served.
-use Rattle.mscp_judge.proofs.Common.{◌≡◌, ◌≢◌, ◌==◌, ◌+◌, drop, get_or, take, ℕ, ◌<◌, true, List, [], ◌∷◌, ◌++◌, length, refl, ap, sym, ◌∙◌, arith, append_assoc, position, Some, codes, Ok, list_all, and_parts, eqb-true, leb-true, position-Some, First, every_append, cut_at, is_digit, number, wide, words, solid_digits, word_front, name_in, numbered, served, IsNamedAhead}
+use Rattle.mscp_judge.proofs.Common.{◌≡◌, ◌≢◌, ◌==◌, ◌+◌, drop, take, ℕ, ◌<◌, true, List, [], ◌∷◌, ◌++◌, length, refl, ap, sym, ◌∙◌, arith, append_assoc, position, Some, codes, Ok, list_all, and_parts, eqb-true, leb-true, position-Some, First, every_append, cut_at, is_digit, number, wide, words, solid_digits, word_front, name_in, numbered, served, IsNamedAhead}
 use Rattle.mscp_judge.proofs.Feeds.{NoFeed, front_of}
 use Rattle.mscp_judge.proofs.Spoken.{after_space, digits_fed, fed_literal}
 
@@ -31,14 +31,11 @@ names_ahead bytes w more n is ok = λ line begins.
     (every_append (λ b. b ≢ 10) w (32 ∷ []) (digits_fed w k.1) (fed_literal (32 ∷ []) refl)) in
     let whole : bytes ≡ head ++ more = is ∙ ap (λ bs. codes "serve " ++ bs) (sym (append_assoc w (32 ∷ []) more)) in
     let f = front_of line begins.0 head more fed (sym begins.1 ∙ whole) in
-    let same : line ≡ codes "serve " ++ (w ++ 32 ∷ f.0) =
-    f.1 ∙ ap (λ bs. codes "serve " ++ bs) (append_assoc w (32 ∷ []) f.0) in
-    sym (ap (λ bs. name_in (words bs)) same ∙ (served_words w f.0 n ok k.0 k.1 ∙ ap (numbered First) ok))
+    search (arith, append_assoc, served_words)
 
 -- what stands before the first space, and behind it
 pub spaced : (bytes : List ℕ) (end : ℕ) → position (λ b. b == 32) bytes ≡ Some end
     → bytes ≡ take end bytes ++ 32 ∷ drop (end + 1) bytes
 spaced bytes end e =
     let p = position-Some (λ b. b == 32) bytes end 0 e in
-    let space : get_or bytes end 0 ≡ 32 = eqb-true (get_or bytes end 0) 32 p.1 in
-    cut_at 0 bytes end p.0 ∙ ap (λ b. take end bytes ++ b ∷ drop (end + 1) bytes) space
+    search (arith, eqb-true, cut_at)

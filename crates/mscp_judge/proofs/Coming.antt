@@ -142,10 +142,6 @@ pub ready_due : {A : Type 0} (c : Settings) (log : Log) (line : List ℕ) (judge
     → due judge ≢ [] → IsAhead c log line judge
 ready_due c log line judge s some = search (arith, ahead_counted, due, told)
 
-step_lined : (name : Option Named) (h h' : Holdings Wanted) (k : Block) (entry : Entry)
-    → Answers (IsNamed name) h (events.Step k) entry h' → entry_lines entry ≢ []
-step_lined name h h' k entry h5 h6 = grind (arith, step_ends, some_none)
-
 pub ready_step : {A : Type 0} (c : Settings) (log : Log) (line : List ℕ) (ws : List (List ℕ)) (old new : Judge A)
     → ws ≡ words line → Stands c log old → due old ≡ [] → 0 < old.owed
     → Came (name_in ws) old new (events.Step old.block) → new.owed ≡ old.owed - 1 → new.block ≡ old.block
@@ -162,8 +158,7 @@ ready_step {A} c log line ws old new same s none some came w b =
     came.entry new.controller) same came.answers in
     let counted = step_counted c (marked log) old.controller new.controller k (replicate n (events.Step k)) line
     came.entry total totals before a (came.adds c) in
-    let ahead = told (line ++ 10 ∷ []) in
-    search (arith, step_lined)
+    search (arith, told, step_ends, some_none)
 
 pub ready_not : {A : Type 0} (c : Settings) (log : Log) (line : List ℕ) (judge : Judge A) → Stands c log judge
     → IsSettled judge → ¬ (MayGoOn c (telling log (line ++ 10 ∷ [])).marks)

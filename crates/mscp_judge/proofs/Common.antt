@@ -13,7 +13,7 @@ pub use Rattle.std.proofs.lemmas.Result.{err_from_is_err_and}
 pub use Rattle.std.proofs.lemmas.Slice.Eq.{bytes_eq-Decides, starts_is}
 pub use Rattle.std.proofs.lemmas.Str.Parse.{digit_from_value}
 pub use Rattle.std.specs.Char.{digit_value}
-pub use Rattle.std.specs.Fmt.{decimal, digit_glyph, digits_onto}
+pub use Rattle.std.specs.Fmt.{decimal, digits_onto}
 unfoldable pub use Rattle.std.specs.Fmt.{digits}
 pub use Rattle.std.specs.Int.{byte_at, bytes_high_first, bytes_low_first, to_be_bytes, w16}
 pub use Rattle.std.specs.List.{AllByRecursion, flat_map, list_all}
@@ -93,7 +93,7 @@ pub use Rattle.mscp_judge.specs.declared.rules.Rule.{Rule}
 pub use Rattle.mscp_judge.specs.declared.totals.Totals.{Totals}
 pub use Rattle.mscp_packet.proofs.Ends.{bytes_span}
 pub use Rattle.mscp_packet.specs.Commands.{IsCommand, command_of}
-pub use Rattle.mscp_packet.specs.Ends.{HasBody, IsEnd, body_bytes, end_bytes, endcodes, unit_bytes}
+pub use Rattle.mscp_packet.specs.Ends.{HasBody, IsEnd, body_bytes, end_bytes}
 pub use Rattle.mscp_packet.specs.Steps.{◌>>=◌}
 pub use Rattle.mscp_packet.specs.declared.command.Command.{Command}
 pub use Rattle.mscp_packet.specs.declared.end.BodyKind.{BodyKind}

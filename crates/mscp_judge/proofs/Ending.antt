@@ -1,5 +1,5 @@
 -- Where a line asks too early, where a log ends, and how a legal one goes on.
-use Rattle.mscp_judge.proofs.Common.{◌≡◌, ◌≢◌, ℕ, List, [], ◌∷◌, ◌++◌, length, refl, ap, sym, ◌∙◌, subst, arith, append_assoc, append-nil, replicate, Block, Event, Entry, Settings, Trace, Holdings, IsLegal, IsRight, entry_lines, Wanted, Mark, answers_in, told, transcript, whole, BeginsWith, Held, Stood}
+use Rattle.mscp_judge.proofs.Common.{◌≡◌, ◌≢◌, ℕ, List, [], ◌∷◌, ◌++◌, length, refl, ap, sym, ◌∙◌, subst, arith, append_assoc, append-nil, replicate, Block, Event, Settings, Trace, Holdings, IsLegal, entry_lines, Wanted, Mark, answers_in, told, transcript, whole, BeginsWith, Held, Stood}
 use Rattle.mscp_events.specs.declared.event.Event.TheVariants as events
 use Rattle.mscp_judge.proofs.Existing.{steps_exist}
 use Rattle.mscp_judge.proofs.Feeds.{some_none, step_ends}
@@ -7,11 +7,6 @@ use Rattle.mscp_judge.proofs.Leading.{follow}
 use Rattle.mscp_judge.proofs.Marks.{GoesOn, IsWhole, lead, lead_told, right_among, some_asked, told_append, whole_append}
 use Rattle.mscp_judge.proofs.Standing.{goes, known_marks, told_line}
 use Rattle.mscp_judge.proofs.Asking.{transcript_more, whole_more}
-
--- the answer to a step has a line
-step_told : (c : Settings) (t : Trace) (k : Block) (entry : Entry) → IsRight c t (events.Step k) entry
-    → entry_lines entry ≢ []
-step_told c t k entry h4 h5 = grind (arith, step_ends, some_none)
 
 first_none : (xs ys : List ℕ) → xs ++ ys ≡ [] → xs ≡ []
 first_none [] ys e = refl
@@ -42,7 +37,7 @@ no_step c marks h due k owed s others more l e none =
     let are : others ≡ s.parts ++ (s.now ++ n ∷ q.1) ∷ g.rest =
     g.are ∙ ap (λ (t : Trace). s.parts ++ (s.now ++ t) ∷ g.rest) q.2 in
     let right = right_among c s.parts s.now n q.1 g.rest others are l in
-    search (arith, first_none (entry_lines n.1) (answers_in q.1) told_none, step_told)
+    search (arith, first_none (entry_lines n.1) (answers_in q.1) told_none, step_ends, some_none)
 
 -- all is answered and told
 unfoldable pub finished : (c : Settings) (marks : List Mark) (h : Holdings Wanted) → Stood c marks h [] [] []

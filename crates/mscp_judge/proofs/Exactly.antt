@@ -1,5 +1,5 @@
 -- A log of which there is a legal trace is judged to be legal, and no other.
-use Rattle.mscp_judge.proofs.Common.{◌≡◌, ℕ, ◌+◌, ◌≤◌, List, [], ◌∷◌, ◌++◌, length, ap, sym, ◌∙◌, arith, append_assoc, append-nil, Result, Ok, Err, Settings, Event, ◌>>=◌, line, lines, Place, Begins, HasGone, said_at, headed, Cause, ScriptFault, ReadFault, Totals, Verdict, IsLegalLog, Log, Mark, MayGoOn, after_line, after_lines, after_words, asking, nothing, HasLegalTrace, IsLegalVerdict, Judges, JudgesBehind, JudgesLog}
+use Rattle.mscp_judge.proofs.Common.{◌≡◌, ℕ, ◌+◌, ◌≤◌, List, [], ◌∷◌, ◌++◌, length, ap, sym, ◌∙◌, arith, append_assoc, append-nil, Result, Ok, Err, Settings, ◌>>=◌, line, lines, Place, Begins, HasGone, said_at, headed, Cause, ScriptFault, ReadFault, Totals, Verdict, IsLegalLog, Log, Mark, MayGoOn, after_line, after_lines, after_words, nothing, HasLegalTrace, IsLegalVerdict, Judges, JudgesBehind, JudgesLog}
 use Rattle.mscp_reader.specs.declared.fault.ReadFault.TheVariants as faults
 use Rattle.mscp_judge.specs.declared.judging.Verdict.TheVariants as verdicts
 
@@ -9,14 +9,8 @@ abbrev Grown : Log → Result Log Cause → Type 0
 Grown log (Ok next) = (more : List Mark) × (next.marks ≡ log.marks ++ more)
 Grown log (Err cause) = Unit {0}
 
-grown_request : (log : Log) (r : Result (List Event) Cause) → Grown log (r >>= λ new. Ok (asking log new))
-grown_request log r = grind arith
-
-grown_words : (log : Log) (bytes : List ℕ) (words : List (List ℕ)) → Grown log (after_words log bytes words)
-grown_words log bytes words = grind (arith, append-nil, grown_request)
-
 grown_said : (log : Log) (bytes : List ℕ) (r : Result (List (List ℕ)) Cause) → Grown log (r >>= after_words log bytes)
-grown_said log bytes r = grind (arith, grown_words)
+grown_said log bytes r = grind (arith, append-nil)
 
 grown_line : (n : ℕ) (log : Log) (bytes : List ℕ) → Grown log (after_line n log bytes)
 unfolding after_line

@@ -14,15 +14,11 @@ pub is_own : (c : Settings) (t : Trace) (h : Holdings Wanted) (n : Name) → Fol
     → IsStepRule c t (Some n) rules.Service
 is_own c t h n k s = search (arith, served_at t n h.waiting k.agrees.follows.waits s)
 
-names_same : (wanted : Option Named) (served : Named) → wanted_name wanted ≡ Some (name_of served)
-    → wanted ≡ Some served
-names_same wanted served h2 = grind (arith, some_same)
-
 pub is_another : (c : Settings) (t : Trace) (h : Holdings Wanted) (wanted : Option Named) (served : Named)
     → Follow c t h → IsServing (name_of served) h.waiting → wanted ≢ Some served
     → IsStepRule c t (wanted_name wanted) (rules.InService served)
 is_another c t h wanted served k s differ =
-    search (arith, served_at t (name_of served) h.waiting k.agrees.follows.waits s, names_same)
+    search (arith, served_at t (name_of served) h.waiting k.agrees.follows.waits s, some_same)
 
 -- ---- no command of the name
 

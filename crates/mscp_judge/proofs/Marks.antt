@@ -1,5 +1,5 @@
 -- The marks of a log, taken apart.
-use Rattle.mscp_judge.proofs.Common.{◌≡◌, ℕ, List, [], ◌∷◌, ◌++◌, take, get_or, length, refl, ap, sym, ◌∙◌, subst, arith, length-append, append_assoc, None, flat_map-append, map-append, get_or-append_seam, take-append_seam, First, Event, Settings, Moment, Trace, moment, IsLegal, IsRight, entry_lines, Asked, IsLegalLog, Mark, MayGoOn, Told, answers_in, events_in, told, transcript, whole, written}
+use Rattle.mscp_judge.proofs.Common.{◌≡◌, ℕ, List, [], ◌∷◌, ◌++◌, get_or, length, refl, ap, sym, ◌∙◌, subst, arith, length-append, append_assoc, None, flat_map-append, map-append, get_or-append_seam, take-append_seam, First, Event, Settings, Moment, Trace, moment, IsLegal, IsRight, entry_lines, Asked, IsLegalLog, Mark, MayGoOn, Told, answers_in, events_in, told, transcript, whole, written}
 use Rattle.mscp_events.specs.declared.event.Event.TheVariants as events
 use Rattle.mscp_controller.specs.declared.entry.Entry.TheVariants as entries
 
@@ -56,9 +56,7 @@ unfolding moment
 right_there c t m u l =
     let none : Moment = (events.Take First, entries.Taken First None) in
     let here : get_or (t ++ m ∷ u) (length t) none ≡ m = get_or-append_seam t m u none in
-    let before : take (length t) (t ++ m ∷ u) ≡ t = take-append_seam t (m ∷ u) in
-    let right = l (length t) (omega (arith, length-append t (m ∷ u))) in
-    search arith
+    search (arith, take-append_seam, length-append)
 
 -- the same of the parts of one
 pub right_among : (c : Settings) (parts : List Trace) (now : Trace) (m : Moment) (next : Trace)

@@ -1,5 +1,5 @@
 -- Bytes that are printed: the digits of numbers, also of those that no type holds, and of the bytes of an end.
-use Rattle.mscp_judge.proofs.Common.{◌≡◌, ◌==◌, ℕ, zero, suc, ◌+◌, ◌*◌, ◌/◌, ◌%◌, ◌<◌, ◌≤◌, true, false, cond, arith, List, [], ◌∷◌, ◌++◌, length, refl, sym, subst, find, if◌then◌else◌, nat_eq, nat_lt, replicate, IfSome, Option, Some, None, slice_index, decimal, digit_glyph, digits, digits_onto, byte_at, bytes_high_first, bytes_low_first, to_be_bytes, w16, AllByRecursion, list_all, option_map, and_from, and_parts, eqb-true, ltb-true, nat_tests, ArrayVec, little_bytes, encode_lower, encode_with, lower_digits, BodyKind, EndBody, End, HasBody, IsEnd, body_bytes, end_bytes, endcodes, unit_bytes, bytes_span, every_append, status_text, is_printed}
+use Rattle.mscp_judge.proofs.Common.{◌≡◌, ◌==◌, ℕ, zero, suc, ◌+◌, ◌*◌, ◌/◌, ◌%◌, ◌<◌, ◌≤◌, true, false, arith, List, [], ◌∷◌, ◌++◌, length, refl, sym, subst, find, if◌then◌else◌, nat_eq, nat_lt, replicate, IfSome, Option, Some, None, slice_index, decimal, digits, digits_onto, byte_at, bytes_high_first, bytes_low_first, to_be_bytes, w16, AllByRecursion, list_all, option_map, and_from, and_parts, eqb-true, ltb-true, nat_tests, ArrayVec, little_bytes, encode_lower, encode_with, lower_digits, BodyKind, EndBody, End, HasBody, IsEnd, body_bytes, end_bytes, bytes_span, every_append, status_text, is_printed}
 use Rattle.mscp_packet.specs.declared.end.EndBody.TheVariants as bodies
 
 -- ---- numbers
@@ -10,13 +10,10 @@ pub both_printed : (xs ys : List ℕ) → AllPrinted xs → AllPrinted ys → Al
 both_printed [] ys p q = q
 both_printed (x ∷ xs) ys p q = search (arith, and_parts, and_from, both_printed xs ys)
 
-glyph_printed : (n : ℕ) → is_printed (digit_glyph false (n % 10)) ≡ true
-glyph_printed n = search (arith, nat_tests)
-
 -- the digits of a number, also of one that has more than any type holds
 digits_printed : (k n : ℕ) (acc : List ℕ) → AllPrinted acc → AllPrinted (digits_onto k 10 false n acc)
 digits_printed zero n acc p = p
-digits_printed (suc k) n acc p = search (arith, and_from, glyph_printed, digits_printed k (n / 10))
+digits_printed (suc k) n acc p = search (arith, and_from, nat_tests, digits_printed k (n / 10))
 
 digits_few : (k n : ℕ) (acc : List ℕ) → length (digits_onto k 10 false n acc) ≤ k + length acc
 digits_few zero n acc = omega arith
@@ -67,16 +64,10 @@ both_little k n rest small = both_bytes (little_bytes k n) rest (little k n) sma
 both_zeros : (k : ℕ) (rest : List ℕ) → AllBytes rest → AllBytes (replicate k 0 ++ rest)
 both_zeros k rest small = both_bytes (replicate k 0) rest (zeros k) small
 
-unit_small : (id media : ℕ) → AllBytes (unit_bytes id media)
-unit_small id media = search (arith, both_little 4 media (replicate 4 0) (zeros 4), zeros 4, both_zeros)
-
 body_small : (body : EndBody) → AllBytes (body_bytes body)
-body_small (bodies.UnitStatus id media track group cylinder) = grind (arith, unit_small, both_little, zeros, both_bytes)
-body_small (bodies.Online id media size serial) = search (arith, unit_small, little, both_bytes, both_little)
+body_small (bodies.UnitStatus id media track group cylinder) = grind (arith, both_zeros, both_little, zeros, both_bytes)
+body_small (bodies.Online id media size serial) = search (arith, zeros, both_zeros, little, both_bytes, both_little)
 body_small body = search (arith, little, both_little, both_zeros, zeros)
-
-end_small : (e : End) → e.code < 256 → AllBytes (end_bytes e)
-end_small e small = grind (arith, both_little, body_small, both_zeros)
 
 -- the bytes of an end that is taken
 abbrev pub AreTaken : Option (ArrayVec ℕ) → Type 0
@@ -88,8 +79,7 @@ pub taken_are : (first : Option End) (end : Option (ArrayVec ℕ))
 taken_are None end is reads = subst AreTaken (sym is) tt
 taken_are (Some e) end is reads =
     let it = subst (λ x. IfSome x (λ b. IsEnd b.items e)) is (reads e refl) in
-    let code = coded_small endcodes (slice_index (end_bytes e) 8) (end_bytes e) e.body refl it.body in
-    subst AreTaken (sym is) (end_small e (subst (λ n. n < 256) (sym it.code) code), (bytes_span e).1)
+    search (arith, coded_small, both_little, body_small, both_zeros, bytes_span)
 
 -- ---- hexadecimal digits
 

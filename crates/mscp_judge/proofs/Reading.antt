@@ -15,8 +15,7 @@ unfolding after_lines
 lines_more before log [] bytes next last place e p f = search arith
 lines_more before log (first ∷ front) bytes next last place e p f =
     let k = bound (after_line (before + 1) log first) (λ x. after_lines (before + 1) x front) next e in
-    ap (λ r. r >>= λ (x : Log). after_lines (before + 1) x (front ++ bytes ∷ [])) k.1
-    ∙ lines_more (before + 1) k.0 front bytes next last place k.2 (omega (arith, p)) f
+    search (arith, lines_more (before + 1) k.0 front bytes next last place k.2 (omega (arith, p)) f)
 
 -- ---- what a line says
 

@@ -1,5 +1,5 @@
 -- The line of a step says which command was served.
-use Rattle.mscp_judge.proofs.Common.{◌≡◌, ◌==◌, ℕ, ◌<◌, ◌^◌, true, not, List, [], ◌∷◌, ◌++◌, length, refl, ap, sym, ◌∙◌, arith, append_assoc, codes, Ok, Option, Some, decimal, list_all, AllDigits, digit_value, nat_tests, and_from, and_parts, false≢true, le-leb, decimal_is_IsNumeral, digit_from_value, End, Connection, First, Second, Report, Idle, Served, name_on, every_append, is_digit, number, wide, words, few_digits, AllSolid, solid_digits, word_front, block_word, connection_word, ended_part, step_line, name_in, numbered, served, wanted_name}
+use Rattle.mscp_judge.proofs.Common.{◌≡◌, ◌==◌, ℕ, ◌<◌, ◌^◌, true, not, List, [], ◌∷◌, ◌++◌, length, refl, ap, ◌∙◌, arith, append_assoc, codes, Ok, Option, Some, decimal, list_all, AllDigits, digit_value, nat_tests, and_from, and_parts, false≢true, le-leb, decimal_is_IsNumeral, digit_from_value, End, Connection, First, Second, Report, Idle, Served, name_on, every_append, is_digit, number, wide, words, few_digits, AllSolid, solid_digits, word_front, block_word, connection_word, ended_part, step_line, name_in, numbered, served, wanted_name}
 use Rattle.mscp_judge.proofs.Feeds.{NoFeed, front_of}
 use Rattle.mscp_judge.proofs.Unique.{Says}
 

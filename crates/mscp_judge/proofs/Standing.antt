@@ -1,5 +1,5 @@
 -- How a judge stands after one more line.
-use Rattle.mscp_judge.proofs.Common.{◌≡◌, ◌≢◌, inl, ⊎_elim, ℕ, List, [], ◌∷◌, ◌++◌, refl, ap, sym, ◌∙◌, append_assoc, append-nil, arith, append_cancel_left, Event, Settings, Trace, Holdings, IsLegal, Wanted, Mark, answers_in, events_in, told, transcript, whole, BeginsWith, Held, Stood}
+use Rattle.mscp_judge.proofs.Common.{◌≡◌, ◌≢◌, inl, ℕ, List, [], ◌∷◌, ◌++◌, refl, ap, sym, ◌∙◌, append_assoc, append-nil, arith, append_cancel_left, Event, Settings, Trace, Holdings, IsLegal, Wanted, Mark, answers_in, events_in, told, transcript, whole, BeginsWith, Held, Stood}
 use Rattle.mscp_judge.proofs.Feeds.{NoFeed, ends_behind, first_line, some_none}
 use Rattle.mscp_judge.proofs.Marks.{GoesOn, answers_append, events_append, lead, lead_told, lead_transcript, none_asked, told_append, transcript_append}
 
@@ -109,9 +109,7 @@ refused c marks h due owed line s some fed not_it g =
     let k = goes c marks h due owed (told_line line) s g.1 g.0 g.2 e in
     let X = told (answers_in k.next) ++ transcript k.rest in
     let same = leads line due g.0 X k.left_is in
-    ⊎_elim (λ none. some none)
-    (λ f. let it = first_line line (lead g.0) f.0 (lead X) fed (same ∙ ap (λ xs. xs ++ lead X) f.1) in
-    not_it (it.0, f.1 ∙ it.1)) s.ends
+    search (arith, first_line)
 
 -- nothing was due, and no step is missing
 pub unasked : (c : Settings) (marks : List Mark) (h : Holdings Wanted) (line : List ℕ) → Stood c marks h [] [] []
@@ -121,5 +119,4 @@ unasked c marks h line s g =
     let k = goes c marks h [] [] [] s g.1 (told_line line ++ g.0) g.2 e in
     let none = none_asked k.next k.asks in
     let same = leads line [] g.0 (told (answers_in k.next) ++ transcript k.rest) k.left_is in
-    some_none line 10 (lead g.0) (same ∙ (ap (λ (t : Trace). lead (told (answers_in t) ++ transcript k.rest)) none
-    ∙ lead_transcript k.rest))
+    search (arith, some_none, told, lead_transcript)

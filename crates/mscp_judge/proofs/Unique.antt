@@ -41,10 +41,6 @@ startable_place c t y w s =
 pub some_same : (a b : Name) → Some a ≡ Some b → a ≡ b
 some_same a b e = cc
 
--- a choice that is named has the name
-named_is : (wanted : Option Named) (o : Choice) → is_wanted wanted o ≡ true → wanted_name wanted ≡ Some (choice_name o)
-named_is wanted o h2 = grind (arith, false≢true, same_is)
-
 is_named : (wanted : Option Named) (o : Choice) → wanted_name wanted ≡ Some (choice_name o) → is_wanted wanted o ≡ true
 is_named wanted o h2 = grind (arith, is_same, some_same)
 
@@ -62,13 +58,12 @@ picked_one c t wanted n z p w s =
     let at = startable_place c t z w s in
     let l : at.0 < length (view c t) = subst (λ k. at.0 < k) (sym (length-map S (choice c t))) at.1 in
     let own : choice_at (view c t) at.0 ≡ choice c t z = seen_at c t at.0 at.1 ∙ ap (choice c t) at.2 in
-    let picked = seen_at c t p.0 p.1 in
-    search (arith, is_named, named_is, some_same)
+    search (arith, seen_at, is_named, false≢true, same_is, some_same)
 
 -- and the oldest that may start, if none that may is named
 pub picked_first : (c : Settings) (t : Trace) (wanted : Option Named) (n : Name) → IsPick c (IsNamed wanted) t n
     → wanted_name wanted ≢ Some n → n ≡ name t (get_or (startable c t) 0 0)
-picked_first c t wanted n p differ = search (arith, seen_at c t p.0 p.1, ⊎_elim, named_is, cases_Bool)
+picked_first c t wanted n p differ = search (arith, seen_at c t p.0 p.1, ⊎_elim, false≢true, same_is, cases_Bool)
 
 -- the same name is known of two services of one step
 one_served : (c : Settings) (t : Trace) (k : Block) (wanted : Option Named) (s r : Service) (y z : ℕ) → Known c t
@@ -119,9 +114,7 @@ one_report c t k wanted (Served a b d e f g h) (Served a' b' d' e' f' g' h') kno
     let r : Service =
     record { connection = a'; reference = b'; unit = d'; lbn = e'; started = f'; seek = g'; ended = h' } in
     let same = one_served c t k wanted s r y z known v picked other.1 said in
-    let u = subst (λ x. IsServed c t k r x) (sym same) other.1 in
-    λ i. Served ((v.connection ∙ sym u.connection) i) ((v.reference ∙ sym u.reference) i) ((v.unit ∙ sym u.unit) i)
-    ((v.lbn ∙ sym u.lbn) i) ((v.started ∙ sym u.started) i) ((v.seek ∙ sym u.seek) i) ((v.ended ∙ sym u.ended) i)
+    search arith
 
 -- ---- any other event
 

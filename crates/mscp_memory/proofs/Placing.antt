@@ -3,25 +3,8 @@
 --     big_lit      a constant of many digits
 --     unmade       what is room isn't made
 --     Goes-blank   nothing is left of a value that was moved, where what is left of it is made of nothing
-use Rattle.std.proofs.Common.{◌≡◌, ℕ, List, [], ◌∷◌, refl, sym}
-use mathlib.Core.Bool.{Bool, true, false}
-use base.Logic.{via, guard_i}
-use contract.Lifetimes.{Lfts}
-use denote.Exit.{Kept, Last, left}
-use denote.Param.Mute.{blank, had}
-use denote.Signature.{Slot}
-use denote.Triple.Walked.{Goes, stay_dropped}
-use mir.Syntax.{Ty, Width, int_big}
-use mir.Val.{Val, vint, has_ty, WT, Fits}
-use prog.Wp.{Env}
-use types.Kit.{Item}
-use types.Run.{Opd}
-use seplogic.Ra.Ura.{Ura}
-use types.Logic.{Logic}
-use denote.Laws.{Typed}
+use Rattle.mscp_memory.proofs.Common.{◌≡◌, ℕ, List, [], ◌∷◌, refl, sym, Bool, true, false, via, guard_i, Lfts, Kept, Last, left, blank, had, Slot, Goes, stay_dropped, Ty, Width, int_big, Val, vint, has_ty, WT, Fits, Env, Item, Opd, Ura, Logic, Typed, Option, is_none, fault_unless}
 use lib.Dec.{T}
-use Rattle.std.specs.Prelude.{Option, is_none}
-use Rattle.mscp_memory.specs.Rooms.{fault_unless}
 use Rattle.mscp_memory.specs.declared.fault.RoomFault.{RoomFault}
 
 pub one : (τ : Ty) (vs : List Val) → Typed (τ ∷ []) vs → (v : Val) × (vs ≡ v ∷ []) × (T (has_ty τ v) × WT v)
@@ -38,8 +21,7 @@ unmade true z fault e = absurd (mathlib.Core.Path.subst T (sym e) tt)
 unmade false z fault e = refl
 
 pub Goes-blank : {M : Type 1} {𝓤 : Ura M} (𝓛 : Logic 𝓤) (n : ℕ) (s : Slot n) (k : Kept)
-    → ((κs : Lfts n) (x : (s.row κs).Denot) (w : Last ((s.row κs).exit k) x)
-    → T (blank (left ((s.row κs).exit k) x w)))
+    → ((κs : Lfts n) (x : (s.row κs).Denot) (w : Last ((s.row κs).exit k) x) → T (blank (left ((s.row κs).exit k) x w)))
     → Goes 𝓛 n s k (stay_dropped s k)
 Goes-blank {𝓤 = 𝓤} 𝓛 n s k is κs x w vs ok =
     via 𝓤 _ (had 𝓛 (left ((s.row κs).exit k) x w) (is κs x w)) (𝓛.laws.⇛_intro _)

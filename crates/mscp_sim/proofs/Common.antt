@@ -25,7 +25,7 @@ pub use Rattle.mscp_controller.specs.Figures.{figure, figure_found}
 unfoldable pub use Rattle.mscp_controller.specs.Figures.{figure_of}
 pub use Rattle.mscp_controller.specs.Headline.{Promise}
 pub use Rattle.mscp_controller.specs.History.{Moment, Trace, connection_of, is_step, queues}
-pub use Rattle.mscp_controller.specs.Holdings.{Answered, Holdings, Steps, aborting, after_message, after_take, answer_to_message, answered_end, arrives, balance_of, end_taken, ends_after, ends_reported, held_unless, more_ends, numbers, numbers_ended, outstanding_of, queued, taken_as, waiting_on, with_end}
+pub use Rattle.mscp_controller.specs.Holdings.{Answered, Holdings, Steps, aborting, after_message, after_take, answer_to_message, answered_end, arrives, balance_of, end_taken, ends_reported, held_unless, more_ends, numbers, numbers_ended, outstanding_of, queued, taken_as, waiting_on, with_end}
 pub use Rattle.mscp_controller.specs.Legal.{IsLegal, IsPicked}
 pub use Rattle.mscp_controller.specs.Outcomes.{own_end_with}
 pub use Rattle.mscp_controller.specs.Runs.{RunsKeepThePromise}
@@ -47,7 +47,7 @@ pub use Rattle.mscp_host.proofs.Promised.{it_is, losses_if, resets_if, start}
 pub use Rattle.mscp_host.proofs.Received.{IsApart, flies, flight_back, flight_new}
 pub use Rattle.mscp_host.proofs.Stepping.{step}
 pub use Rattle.mscp_host.specs.Accounts.{Account, answered, asks, asks_unless, balance, end_in, fresh, has_reference, heard, is_about_polled, is_code_of, is_immediate, news_with, oldest, outstanding_with, poll_of, polls_oldest, received, submission_of, submits, submits_unless, submitted, told_in, watch_after, watching, with_told}
-pub use Rattle.mscp_host.specs.Histories.{History, Other, asked_for, asks_about, end_heard, end_or_none, figure_from, figure_in, found_stands, handed_over, in_flight, is_end_of, is_it, is_outstanding, is_poll, is_sent, last_told, moment, news_heard, reference, reference_found, reference_in, submission_at, told_at, watch_at}
+pub use Rattle.mscp_host.specs.Histories.{History, Other, asked_for, asks_about, end_heard, figure_from, figure_in, found_stands, handed_over, in_flight, is_end_of, is_it, is_outstanding, is_poll, is_sent, last_told, moment, news_heard, reference, reference_found, reference_in, submission_at, told_at, watch_at}
 pub use Rattle.mscp_host.specs.Law.{Answers, Stands}
 pub use Rattle.mscp_host.specs.declared.news.HostFault.{HostFault}
 pub use Rattle.mscp_host.specs.declared.news.News.{News}
@@ -59,14 +59,13 @@ pub use Rattle.mscp_packet.proofs.Kept.{opcode_kept}
 pub use Rattle.mscp_packet.proofs.Numbers.{four}
 pub use Rattle.mscp_packet.specs.Commands.{HasCommandRange, IsCommand, IsValidOrder, command_bytes, opcode_byte, order_with, parameters}
 unfoldable pub use Rattle.mscp_packet.specs.Commands.{command_of}
-pub use Rattle.mscp_packet.specs.Ends.{HasBody, IsEnd, end_bytes, kind_of_code, reading_with}
+pub use Rattle.mscp_packet.specs.Ends.{IsEnd, end_bytes}
 pub use Rattle.mscp_packet.specs.Number.{num}
 pub use Rattle.mscp_packet.specs.Opcodes.{opcode_of, opcodes, row_of}
 pub use Rattle.mscp_packet.specs.Statuses.{invalid_length}
 pub use Rattle.mscp_packet.specs.declared.class.Opcode.{Opcode}
 pub use Rattle.mscp_packet.specs.declared.command.Command.{Command}
 pub use Rattle.mscp_packet.specs.declared.command.Order.{Order}
-pub use Rattle.mscp_packet.specs.declared.end.BodyKind.{BodyKind}
 pub use Rattle.mscp_packet.specs.declared.end.End.{End}
 pub use Rattle.mscp_packet.specs.declared.end.EndBody.{EndBody}
 pub use Rattle.mscp_queue.proofs.Lists.{every_append, every_both, every_from, every_parts, every_weaker, filter_filter, filter_on}
@@ -78,7 +77,7 @@ pub use Rattle.mscp_queue.specs.Names.{name_on, same_connection, same_name}
 pub use Rattle.mscp_queue.specs.Orders.{endcode}
 pub use Rattle.mscp_queue.specs.Outcomes.{outcome_at}
 pub use Rattle.mscp_queue.specs.Records.{Record, aborted_record, drive_at, fresh_record, has_name, name_of, no_record, passed_by, record_at, remains, without}
-pub use Rattle.mscp_queue.specs.Serving.{end_given, waiting_after}
+pub use Rattle.mscp_queue.specs.Serving.{end_given}
 pub use Rattle.mscp_queue.specs.declared.drive.Drive.{Drive}
 pub use Rattle.mscp_queue.specs.declared.name.Name.{Name}
 pub use Rattle.mscp_queue.specs.declared.report.Report.{Report}
@@ -87,13 +86,12 @@ pub use Rattle.mscp_reader.proofs.Outcomes.{ends, goes_on, goes_wrong}
 pub use Rattle.mscp_reader.proofs.Whole.{outcome_of_fault, outcome_of_read, told_of}
 pub use Rattle.mscp_reader.specs.Grammar.{HasGone}
 pub use Rattle.mscp_reader.specs.Outcome.{rest_outcome}
-pub use Rattle.mscp_reader.specs.Requests.{events_of}
 pub use Rattle.mscp_script.specs.Text.{reported}
 pub use Rattle.mscp_sim.specs.Conversing.{AnswersTurn, Converses, Goes, GoesOn, IsSound, Says}
 pub use Rattle.mscp_sim.specs.Matches.{Flight, HasFlight, HasOwnEndcode, IsAwaited, IsFlight, IsKnown, IsSmall, Match, MatchOn, Matches, commands, opcode_found, references, times}
 pub use Rattle.mscp_sim.specs.Rooms.{HasRoom}
 pub use Rattle.mscp_sim.specs.Scripts.{meaning_of}
-pub use Rattle.mscp_sim.specs.Talks.{Said, Talk, account_at, accounts_at, asks_in, figure_told, heard_by, history, receives_in, said, submits_in, trace_of}
+pub use Rattle.mscp_sim.specs.Talks.{Said, Talk, account_at, accounts_at, figure_told, heard_by, history, receives_in, said, submits_in, trace_of}
 pub use Rattle.mscp_sim.specs.TwoEnds.{AreTwoEnds, IsHanded, IsHeard, IsPolled, IsStepTurn, IsSubmitted, StepsSincePolls}
 pub use Rattle.mscp_sim.specs.declared.conversing.Heard.{Heard}
 pub use Rattle.mscp_sim.specs.declared.conversing.Talk.{Talk as Lists}

@@ -1,5 +1,5 @@
 -- An abort and a command that arrives keep the match of the host of their connection and the controller.
-use Rattle.mscp_sim.proofs.Common.{◌≡◌, ⊎_elim, ℕ, ◌+◌, Bool, true, false, cond, ◌&&◌, List, [], ◌∷◌, ◌++◌, map, refl, ap, sym, ◌∙◌, subst, arith, append-nil, find, nat_eq, not, Some, option_map, option_to_list, AllByRecursion, eq-eqb, length-append, map-append, filter-append, Connection, Name, name_on, same_connection, own_side, same_is, and-false, Command, Order, End, opcode_byte, Record, aborted_record, fresh_record, has_name, name_of, without, every_append, every_from, filter_filter, filter_on, Found, find_cases, find_none, find_first, Holdings, aborting, more_ends, numbers_ended, outstanding_of, queued, waiting_on, with_end, Both, of, of_more, Submission, Account, is_code_of, Flight, HasOwnEndcode, IsAwaited, IsKnown, Matches, commands, opcode_found, references, times}
+use Rattle.mscp_sim.proofs.Common.{◌≡◌, ⊎_elim, ℕ, ◌+◌, Bool, true, false, ◌&&◌, List, [], ◌∷◌, ◌++◌, map, refl, ap, sym, ◌∙◌, subst, arith, append-nil, find, nat_eq, Some, option_map, option_to_list, AllByRecursion, eq-eqb, length-append, map-append, filter-append, Connection, Name, name_on, own_side, same_is, and-false, Command, Order, End, opcode_byte, Record, aborted_record, fresh_record, has_name, name_of, without, every_append, every_from, filter_filter, filter_on, Found, find_cases, find_none, find_first, Holdings, aborting, more_ends, numbers_ended, outstanding_of, queued, waiting_on, with_end, Both, of, of_more, Submission, Account, is_code_of, Flight, HasOwnEndcode, IsAwaited, IsKnown, Matches, commands, opcode_found, references, times}
 use Rattle.mscp_packet.specs.declared.command.Order.TheVariants as orders
 use Rattle.mscp_sim.proofs.TwoEnds.Counting.{opcode_new}
 use Rattle.mscp_sim.proofs.TwoEnds.Matching.{Adds, Ends, Pushes, awaited_more, counted_numbers, ends_match, known_more, stays, times_called, times_ends}
@@ -91,14 +91,9 @@ aborting_matches via a h told order m = stays via a h (aborting via h order) tol
 
 -- ---- a command arrives
 
--- it waits behind the others of its connection
-waits_behind : (via : Connection) (rs : List Record) (c : Command)
-    → waiting_on via (rs ++ fresh_record via c ∷ []) ≡ waiting_on via rs ++ fresh_record via c ∷ []
-waits_behind via rs c = search (arith, own_side via, filter-append)
-
 more_called : (via : Connection) (rs : List Record) (c : Command)
     → commands (waiting_on via (rs ++ fresh_record via c ∷ [])) ≡ commands (waiting_on via rs) ++ c ∷ []
-more_called via rs c = search (arith, waits_behind via rs c, map-append)
+more_called via rs c = search (arith, own_side, filter-append, map-append)
 
 new_to_host : {K : Type 0} (via : Connection) (a : Account) (h : Holdings K) (told : Flight) (n : ℕ)
     → Matches via a h told → times n (outstanding_of via h) ≡ 0 → times n (references a.outstanding) ≡ 0
@@ -133,7 +128,7 @@ queued_pushes {K} via a a' h told s c x m =
           let same : times r (c.reference ∷ []) ≡ times r (s.reference ∷ []) =
           ap (λ n. times r (n ∷ [])) (sym x.reference) in
           omega (arith, old, now, pushed, same);
-      more = grind (arith, waits_behind, length-append);
+      more = grind (arith, own_side, filter-append, length-append);
       settings = refl;
       waits = grind (arith, cs, every_append, known_more, own);
       ends = awaited_more a.outstanding s (of via h.untaken) m.ends;

@@ -25,20 +25,14 @@ record Came (h : History) (j i l : ℕ) : Type 0 where
   pub about : asks_about h i poll ≡ true
   pub told : figure_in (end_heard (moment h turn)) ≡ Some l
 
-came_if : (b : Bool) (o : Option ℕ) (l : ℕ) → (if b then o else None) ≡ Some l → (b ≡ true) × (o ≡ Some l)
-came_if b o l e = grind (arith, false≢true)
-
 came_now : (h : History) (j k i l : ℕ) (o : Option ℕ) → k < j → handed_over h k ≡ o → figure_from h i k o ≡ Some l
     → Came h j i l
 came_now h j k i l None m q e = absurd (false≢true (ap is_some e))
-came_now h j k i l (Some p) m q e = search (arith, came_if)
-
-came_then : (h : History) (j k i l : ℕ) → j ≤ k → Came h j i l → Came h k i l
-came_then h j k i l m c = search arith
+came_now h j k i l (Some p) m q e = search (arith, false≢true)
 
 came_of : (h : History) (j i l : ℕ) (o : Option ℕ) → (last_told h j i ≡ Some l → Came h j i l) → told_at h i j ≡ o
     → option_or o (last_told h j i) ≡ Some l → Came h (suc j) i l
-came_of h j i l o h1 h2 h3 = search (arith, came_then, came_now)
+came_of h j i l o h1 h2 h3 = search (arith, came_now)
 
 came_from : (h : History) (j i l : ℕ) → last_told h j i ≡ Some l → Came h j i l
 came_from h zero i l e = absurd (false≢true (ap is_some e))
@@ -114,8 +108,7 @@ module _ (c : Settings) (via : Connection) (talk : Talk) (known : AllKnown c tal
       let t = trace_at p in
       let promise = subst (Promise c) (trace_more talk p l) (known p l).promise in
       let own = part_of c t (option_to_list (said talk p).moment) promise x (contains_waiting t x w) in
-      let same : figure_of c t (own_name i) ≡ figure c t x = ap (figure_of c t) (sym r) ∙ own in
-      omega (arith, same)
+      search (arith, figure_of, figure)
 
   -- ---- from poll to poll
 
@@ -218,10 +211,7 @@ module _ (c : Settings) (via : Connection) (talk : Talk) (known : AllKnown c tal
       subst (λ o. 1 ≤ figure_of c (trace_at q) (name_on via (reference_found h o))) (it_is i (asked_for h q) asked_q.1)
       ((((known j l).tells.on via).figures i q told.handed told.about).1 told.outstanding) in
       let x = waits_at c (trace_at q) (own_name i) some in
-      let low = at_q x.command x.waits x.named in
-      let fig = x.figure in
-      let high = st.not_less in
-      omega (arith, low, fig, high, first, second, some)
+      search arith
 
   -- the answer of the poll q about the command i doesn't stand where a step lies between it and each one before
   pub never_stands : (j : ℕ) → j < length talk → (i q : ℕ) → handed_over h j ≡ Some q → asks_about h i q ≡ true

@@ -1,5 +1,5 @@
 -- The figures of the waiting commands of one name: nothing raises them, and a step lowers them.
-use Rattle.mscp_sim.proofs.Common.{◌≡◌, ◌↔◌, Bool, map, ◌⊎◌, ⊎_elim, ℕ, suc, ◌+◌, ◌-◌, ◌<◌, ◌≤◌, true, List, [], ◌∷◌, ◌++◌, length, refl, ap, sym, ◌∙◌, subst, arith, find, not, ◌&&◌, Contains, Option, Some, None, is_some, and_parts, cases_lt, false≢true, list_any, length-append, take_all, take-append_seam, Name, name_on, same_name, same_is, Settings, Moment, Trace, connection_of, is_step, queues, ends_in, is_waiting, name, sent_command, waiting, figure, figure_found, figure_of, Promise, command_last, connection_last, name_before, is_waiting_before, is_waiting_last, moment_last, cut, waiting_waits, waits_below, any_map, found}
+use Rattle.mscp_sim.proofs.Common.{◌≡◌, ◌↔◌, Bool, map, ◌⊎◌, ⊎_elim, ℕ, suc, ◌+◌, ◌-◌, ◌<◌, ◌≤◌, true, List, [], ◌∷◌, ◌++◌, length, refl, ap, sym, ◌∙◌, subst, arith, find, not, ◌&&◌, Contains, Option, Some, is_some, and_parts, cases_lt, false≢true, list_any, length-append, take_all, take-append_seam, Name, name_on, same_name, same_is, Settings, Moment, Trace, connection_of, is_step, queues, ends_in, is_waiting, name, sent_command, waiting, figure, figure_found, figure_of, Promise, command_last, connection_last, name_before, is_waiting_before, is_waiting_last, moment_last, cut, waiting_waits, waits_below, any_map, found}
 
 contains_in : (A : List ℕ) (x : ℕ) (B : List ℕ) → Contains (A ++ x ∷ B) x
 contains_in [] x B = (0, omega arith, refl)
@@ -85,6 +85,4 @@ some_figure c t n p e =
     let x = some_is (find q (waiting t)) (sym (any_find q (waiting t))
     ∙ (sym (any_map (name t) (λ m. same_name m n) (waiting t)) ∙ e)) in
     let waits = (found (λ y. is_waiting t y ≡ true) q (waiting t) x.0 (waiting_waits t) x.1).0 in
-    let positive = subst (λ u. (y : ℕ) → Contains (waiting u) y ↔ (1 ≤ figure c u y))
-    (take_all (length t) t (omega arith)) (p.positive (length t) (omega arith)) in
-    subst (λ o. 1 ≤ figure_found c t o) (sym x.1) ((positive x.0).0 (contains_waiting t x.0 waits))
+    search (arith, figure, take_all, contains_waiting)

@@ -1,5 +1,5 @@
 -- What comes by one connection leaves all that the other's host and the controller keep of each other.
-use Rattle.mscp_sim.proofs.Common.{◌≡◌, ℕ, Bool, true, false, not, ◌&&◌, List, [], ◌∷◌, ◌++◌, refl, ap, append-nil, arith, Option, Some, None, and-false, true≢false, filter-append, Command, Order, End, command_of, Connection, name_on, same_connection, Record, fresh_record, without, every_from, filter_filter, filter_on, one_side, other_side, SendFault, refusal, Holdings, aborting, after_message, after_take, answered_end, balance_of, held_unless, outstanding_of, queued, waiting_on, with_end, Account, Flight, Matches, commands}
+use Rattle.mscp_sim.proofs.Common.{◌≡◌, ℕ, Bool, true, false, not, ◌&&◌, List, [], ◌∷◌, ◌++◌, refl, ap, append-nil, arith, Option, Some, None, and-false, true≢false, filter-append, Command, Order, End, Connection, same_connection, Record, fresh_record, every_from, filter_filter, filter_on, one_side, other_side, SendFault, Holdings, aborting, after_message, after_take, answered_end, held_unless, queued, waiting_on, with_end, Account, Flight, Matches, commands}
 use Rattle.mscp_sim.proofs.TwoEnds.Matching.{stays}
 use Rattle.mscp_sim.proofs.TwoEnds.Sides.{of_other}
 
@@ -13,16 +13,12 @@ still_behind via other rs c d = search (arith, append-nil (waiting_on other rs),
 apart_and : (here there n : Bool) → (there ≡ true → here ≡ false) → (not (here && n) && there) ≡ there
 apart_and here there n h3 = grind (arith, true≢false, and-false, not)
 
--- one is taken out
-still_out : (via other : Connection) (n : ℕ) (rs : List Record) → same_connection via other ≡ false
-    → waiting_on other (without (name_on via n) rs) ≡ waiting_on other rs
-still_out via other n rs d = grind (arith, other_side, not, filter_filter, filter_on, every_from, apart_and, one_side)
-
 -- ---- a message
 
 foreign_abort : {K : Type 0} (via other : Connection) (a : Account) (h : Holdings K) (told : Flight) (order : Order)
     → same_connection via other ≡ false → Matches other a h told → Matches other a (aborting via h order) told
-foreign_abort via other a h told order h6 h7 = grind (arith, stays, still_out, of_other)
+foreign_abort via other a h told order h6 h7 =
+    grind (arith, stays, other_side, not, filter_filter, filter_on, every_from, apart_and, one_side, of_other)
 
 foreign_end : {K : Type 0} (via other : Connection) (a : Account) (h : Holdings K) (told : Flight) (end : End)
     → same_connection via other ≡ false → Matches other a h told → Matches other a (with_end via h end) told

@@ -1,5 +1,5 @@
 -- An end that is handed over: the host takes it, and the match is kept.
-use Rattle.mscp_sim.proofs.Common.{◌≡◌, ℕ, ◌+◌, Bool, true, false, cond, List, [], ◌∷◌, ◌++◌, drop, length, refl, ap, sym, ◌∙◌, subst, arith, find, nat_eq, ◌&&◌, if◌then◌else◌, slice_index, Option, Some, None, option_map, slice_get, unwrap_or, Ok, AllByRecursion, list_any, eqb-true, eq-eqb, false≢true, true≢false, nat_tests, Command, End, EndBody, BodyKind, opcode_byte, HasBody, IsEnd, kind_of_code, reading_with, every_weaker, every_both, Connection, of, put, Holdings, numbers_ended, outstanding_of, waiting_on, Submission, Watch, Account, answered, end_in, has_reference, heard, is_about_polled, news_with, outstanding_with, received, told_in, watch_after, with_told, heard_ok, Flight, HasFlight, IsAwaited, IsFlight, IsKnown, Matches, commands, times}
+use Rattle.mscp_sim.proofs.Common.{◌≡◌, ℕ, ◌+◌, Bool, true, false, cond, List, [], ◌∷◌, ◌++◌, drop, length, refl, ap, sym, ◌∙◌, subst, arith, find, nat_eq, ◌&&◌, if◌then◌else◌, Option, Some, None, option_map, slice_get, unwrap_or, Ok, AllByRecursion, list_any, eqb-true, eq-eqb, false≢true, true≢false, nat_tests, Command, End, EndBody, opcode_byte, IsEnd, every_weaker, every_both, Connection, of, put, Holdings, numbers_ended, outstanding_of, waiting_on, Submission, Watch, Account, answered, end_in, has_reference, heard, is_about_polled, news_with, outstanding_with, received, told_in, watch_after, with_told, heard_ok, Flight, HasFlight, IsAwaited, IsFlight, IsKnown, Matches, commands, times}
 use Rattle.mscp_host.specs.Accounts.{without}
 use Rattle.mscp_packet.specs.declared.end.EndBody.TheVariants as bodies
 use Rattle.mscp_sim.proofs.TwoEnds.Counting.{length_without, opcode_told, opcode_without, references_told, small_told, small_without, times_append, times_without}
@@ -8,13 +8,9 @@ use Rattle.mscp_sim.proofs.TwoEnds.Sides.{of_put}
 
 -- ---- reading
 
-read_as : (b : List ℕ) (e : End) (kind : Option BodyKind) → IsEnd b e → kind_of_code (slice_index b 8) ≡ kind
-    → HasBody kind b e.body → reading_with kind b ≡ Ok e
-read_as b e kind h3 h4 h5 = grind (arith, nat_tests)
-
 -- the bytes of an end are read as that end
 pub read_end : (b : List ℕ) (e : End) → IsEnd b e → end_in b ≡ Ok e
-read_end b e i = search (arith, read_as b e (kind_of_code (slice_index b 8)) i refl i.body, nat_tests)
+read_end b e i = search (arith, nat_tests)
 
 -- ---- one of the number
 
@@ -42,10 +38,7 @@ pub alone : {K : Type 0} (via : Connection) (a : Account) (h : Holdings K) (told
 alone via a h told e us m u =
     let n = e.reference in
     let one = m.once n in
-    let all = counted_numbers n via h in
-    let ends : times n (numbers_ended (of via h.untaken)) ≡ 1 + times n (numbers_ended us) =
-    ap (λ es. times n (numbers_ended es)) u ∙ times_own n (numbers_ended us) in
-    search (arith, one, all, ends)
+    search (arith, counted_numbers, times_own)
 
 -- ---- what the first end tells
 
@@ -110,17 +103,14 @@ length_told : (n f : ℕ) (xs : List Submission) → length (with_told n f xs) �
 length_told n f [] = refl
 length_told n f (x ∷ xs) = search (arith, length_told n f xs)
 
-told_match : {K : Type 0} (via : Connection) (a : Account) (h : Holdings K) (told : Flight) (n f : ℕ)
-    → Matches via a h told → Matches via (record a { outstanding = with_told n f a.outstanding }) h told
-told_match via a h told n f m = grind (arith, length_told, references_told, small_told, every_weaker, opcode_told)
-
 abbrev outstanding_told : Account → Option (ℕ × ℕ) → Account
 outstanding_told a o = record a { outstanding = outstanding_with a o }
 
 told_if : {K : Type 0} (via : Connection) (a : Account) (h : Holdings K) (told : Flight) (o : Option (ℕ × ℕ))
     → Matches via a h told → Matches via (outstanding_told a o) h told
 told_if via a h told None m = m
-told_if {K} via a h told (Some t) m = search (arith, told_match via a h told t.0 t.1 m)
+told_if {K} via a h told (Some t) m =
+    search (arith, length_told, references_told, small_told, every_weaker, opcode_told)
 
 flight_rest : (e : End) (us : List End) (w w' : Watch) (told : Flight) (f : IsFlight (e ∷ us) w told)
     → nat_eq w.reference e.reference ≡ false → w'.reference ≡ w.reference → w'.polled ≡ w.polled
@@ -155,14 +145,9 @@ flight_rest e us w w' told f n r p s =
     ] in
     search (arith, cases)
 
-flight_with : (e : End) (us : List End) (w : Watch) (told : Flight) (b c : Bool) → nat_eq w.reference e.reference ≡ b
-    → nat_eq w.polled e.reference ≡ c → IsFlight (e ∷ us) w told
-    → HasFlight us (if b then None else (if c then Some (record w { is_outstanding = false }) else Some w)) told
-flight_with e us w told b c h6 h7 h8 = grind (arith, flight_rest, false≢true, nat_tests)
-
 flight_after : (e : End) (us : List End) (watch : Option Watch) (told : Flight) → HasFlight (e ∷ us) watch told
     → HasFlight us (watch_after watch e.reference) told
-flight_after e us watch told h4 = grind (arith, flight_with)
+flight_after e us watch told h4 = grind (arith, flight_rest, false≢true, nat_tests)
 
 taken_out : {K : Type 0} (via : Connection) (a : Account) (h : Holdings K) (told : Flight) (e : End) (us : List End)
     → Matches via a h told → of via h.untaken ≡ e ∷ us

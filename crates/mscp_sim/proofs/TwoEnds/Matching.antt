@@ -47,9 +47,7 @@ pub stays : {K : Type 0} (via : Connection) (a : Account) (h h' : Holdings K) (t
 stays {K} via a h h' told w u s m =
     let counts : (r : ℕ) → times r (outstanding_of via h') ≡ times r (outstanding_of via h) =
     λ r. counted_numbers r via h' ∙ ((λ i. counted r (w i) (u i)) ∙ sym (counted_numbers r via h)) in
-    let lengths = sym (length_commands (waiting_on via h'.waiting))
-    ∙ (ap length w ∙ length_commands (waiting_on via h.waiting)) in
-    search (arith)
+    search (arith, length_commands)
 
 -- ---- a command ends
 
@@ -77,15 +75,7 @@ ends_match {K} via a h h' told x m =
     → times r (outstanding_of via h') ≡ times r (outstanding_of via h) = λ r. ends_counted r via h h' x in
     let waited = subst (AllByRecursion (IsKnown a.outstanding)) x.waited m.waits in
     let parts = every_parts (IsKnown a.outstanding) x.front (x.own ∷ x.back) waited in
-    let before : length (waiting_on via h.waiting) ≡ length x.front + suc (length x.back) =
-    sym (length_commands (waiting_on via h.waiting)) ∙ (ap length x.waited ∙ length-append x.front (x.own ∷ x.back)) in
-    let after : length (waiting_on via h'.waiting) ≡ length x.front + length x.back =
-    sym (length_commands (waiting_on via h'.waiting)) ∙ (ap length x.left ∙ length-append x.front x.back) in
-    let ends : length (of via h'.untaken) ≡ length (of via h.untaken) + 1 = ap length x.ends
-    ∙ length-append (of via h.untaken) (x.end ∷ []) in
-    let known = parts.1.0 in
-    let awaited : IsAwaited a.outstanding x.end = search arith in
-    search (arith, before, after, ends, counts, every_append, parts, awaited, flight_on)
+    search (arith, length_commands, length-append, every_append, flight_on)
 
 -- ---- a command arrives
 
@@ -116,11 +106,8 @@ pub record Pushes {K : Type 0} (via : Connection) (a a' : Account) (h h' : Holdi
   pub waits : AllByRecursion (IsKnown (a.outstanding ++ s ∷ [])) (commands (waiting_on via h'.waiting))
   pub ends : AllByRecursion (IsAwaited (a.outstanding ++ s ∷ [])) (of via h'.untaken)
 
-once_pushed : (r n t : ℕ) → t ≤ 1 → (r ≡ n → t ≡ 0) → t + times r (n ∷ []) ≤ 1
-once_pushed r n t l z = search (arith, eqb-true)
-
 pub pushes_match : {K : Type 0} (via : Connection) (a a' : Account) (h h' : Holdings K) (s : Submission)
     (told told' : Flight) → Pushes via a a' h h' s → Matches via a h told → HasFlight (of via h'.untaken) a'.watch told'
     → Matches via a' h' told'
 pushes_match {K} via a a' h h' s told told' x m f =
-    grind (arith, length-append, every_append, map-append, times_append, once_pushed)
+    grind (arith, length-append, every_append, map-append, times_append, eqb-true)

@@ -1,10 +1,6 @@
 -- What each host did in a turn is a moment of its own history.
-use Rattle.mscp_sim.proofs.Common.{◌≡◌, ℕ, ◌<◌, Bool, true, false, length, refl, ap, sym, ◌∙◌, arith, if◌then◌else◌, Option, Some, None, Result, Ok, Err, false≢true, true≢false, get_or-map, ArrayVec, Command, Connection, Both, of, put, same_connection, own_side, Moment, HostFault, News, Poll, Account, polls_oldest, submits, Other, news_heard, Answers, Turn, Heard, Said, Talk, asks_in, heard_by, history, receives_in, said, submits_in, IsHanded, IsHeard, IsPolled, IsSubmitted}
-use Rattle.mscp_events.specs.declared.event.Event.TheVariants as events
-use Rattle.mscp_controller.specs.declared.entry.Entry.TheVariants as entries
-use Rattle.mscp_host.specs.declared.news.Poll.TheVariants as polls
+use Rattle.mscp_sim.proofs.Common.{◌≡◌, ℕ, ◌<◌, Bool, true, false, length, ◌∙◌, arith, if◌then◌else◌, Option, Some, Result, false≢true, true≢false, get_or-map, ArrayVec, Command, Connection, Both, of, own_side, Moment, HostFault, News, Account, submits, Other, news_heard, Answers, Turn, Heard, Said, Talk, heard_by, history, said, submits_in, IsHeard, IsSubmitted}
 use Rattle.mscp_host.specs.Histories as host
-use Rattle.mscp_sim.specs.declared.conversing.Turn.TheVariants as turns
 use Rattle.mscp_sim.specs.declared.conversing.Heard.TheVariants as hears
 use Rattle.mscp_sim.proofs.TwoEnds.Sides.{each_side, of_other, of_put}
 
@@ -23,24 +19,9 @@ submit_answers : (via : Connection) (old : Account) (command : Command) (s : Sai
     → Answers old (submits_in command s.heard s.moment) new
 submit_answers via old command s o new h1 h2 = search arith
 
-ask_answers : (via : Connection) (old : Account) (n : ℕ) (s : Said) (o : Result Poll HostFault)
-    (new : Account) → polls_oldest old n ≡ (o, new) → IsPolled via s o → Answers old (asks_in n s.heard s.moment) new
-ask_answers via old n s o new h1 h2 = search arith
-
-take_answers : (via : Connection) (old : Account) (s : Said) (end : Option (ArrayVec ℕ)) (new : Account)
-    → s.moment ≡ Some (events.Take via, entries.Taken via end) → IsHanded old end s.heard new
-    → Answers old (receives_in s.heard s.moment) new
-take_answers via old s end new h1 h2 = search arith
-
--- a turn of a connection says nothing of the other
-both_answers : (via : Connection) (old new : Both Account) (k : Account) (m : host.Moment) → new ≡ put via k old
-    → Answers (of via old) m k → (other : Connection)
-    → Answers (of other old) (if same_connection via other then m else Other) (of other new)
-both_answers via old new k m p e = search (arith, each_side, own_side, of_put, of_other)
-
 pub answers : (old new : Both Account) (s : Said) (t : Turn) → IsHeard old t s new → (via : Connection)
     → Answers (of via old) (heard_by via t s.heard s.moment) (of via new)
-answers old new s t h1 = search (arith, both_answers, submit_answers, ask_answers, take_answers)
+answers old new s t h1 = search (arith, each_side, own_side, of_put, of_other, submit_answers)
 
 -- ---- its news are those that are heard
 
@@ -52,18 +33,6 @@ abbrev pub is_news : Heard → Bool
 is_news (hears.News n) = true
 is_news heard = false
 
-submits_quiet : (via : Connection) (s : Said) (o : Result (ArrayVec ℕ) HostFault) → IsSubmitted via s o
-    → is_news s.heard ≡ false
-submits_quiet via s o h1 = search arith
-
-asks_quiet : (via : Connection) (s : Said) (o : Result Poll HostFault) → IsPolled via s o → is_news s.heard ≡ false
-asks_quiet via s o x = grind arith
-
-taken_news : (via : Connection) (old new : Account) (s : Said) (end : Option (ArrayVec ℕ)) (n : News)
-    → s.moment ≡ Some (events.Take via, entries.Taken via end) → IsHanded old end s.heard new → s.heard ≡ hears.News n
-    → news_heard (receives_in s.heard s.moment) ≡ Some n
-taken_news via old new s end n h1 h2 h3 = search (arith, false≢true)
-
 pub said_news : (old new : Both Account) (s : Said) (t : Turn) (n : News) → IsHeard old t s new → s.heard ≡ hears.News n
     → (via : Connection) × (news_heard (heard_by via t s.heard s.moment) ≡ Some n)
-said_news old new s t n h1 h2 = search (arith, true≢false, submits_quiet, asks_quiet, false≢true, own_side, taken_news)
+said_news old new s t n h1 h2 = search (arith, true≢false, false≢true, own_side)

@@ -1,7 +1,6 @@
 -- What a host sends the controller takes in, and the match is kept.
 use Rattle.mscp_sim.proofs.Common.{◌≡◌, ℕ, ◌-◌, ◌<◌, ◌^◌, Bool, true, false, List, [], ◌∷◌, ◌++◌, refl, ap, sym, ◌∙◌, subst, arith, append-nil, find, nat_eq, not, ◌&&◌, ◌||◌, if◌then◌else◌, slice_index, Option, Some, None, Ok, list_any, list_any-append, eq-eqb, true_from_ne_false, true≢false, nat_tests, Command, End, HasCommandRange, IsCommand, IsValidOrder, command_bytes, command_of, opcode_byte, num, command_bytes_are_messages, command_read, opcode_kept, four, Connection, name_on, figure_of_name, credit_fault, fault_of, holds, is_queued, refusal, of_more, Holdings, aborting, after_message, answer_to_message, answered_end, arrives, balance_of, numbers, numbers_ended, with_end, outstanding_of, queued, taken_as, waiting_on, of, Submission, Watch, own_end_with, Settings, endcode, any_map, found, none_any, Account, balance, has_reference, is_code_of, is_immediate, poll_of, submission_of, submitted, watching, Flight, HasFlight, IsSmall, Matches, times}
 use Rattle.mscp_packet.specs.declared.command.Order.TheVariants as orders
-use Rattle.mscp_host.specs.declared.news.HostFault.TheVariants as faults
 use Rattle.mscp_host.specs.Accounts as host
 use Rattle.mscp_sim.proofs.TwoEnds.Codes.{coded}
 use Rattle.mscp_sim.proofs.TwoEnds.Counting.{any_alike, any_times, has_any}
@@ -27,11 +26,6 @@ same_opcode c k = opcode_kept (command_bytes c) (command_of (command_bytes c)).o
 
 -- ---- what one refuses, the other refuses
 
-none_too : (p q d : Bool) → (if p then Some faults.NoCredit
-    else (if q then Some faults.LastCredit else (if d then Some faults.Doubled else None))) ≡ None
-    → (p ≡ false) × (q ≡ false) × (d ≡ false)
-none_too p q d h3 = grind (arith, true≢false)
-
 same_balance : {K : Type 0} (via : Connection) (a : Account) (h : Holdings K) (told : Flight) → Matches via a h told
     → balance_of via h ≡ balance a
 same_balance via a h told m = λ i. sym m.credits i - sym m.many i
@@ -47,7 +41,7 @@ pub record Free (a : Account) (opcode reference : ℕ) : Type 0 where
   pub new : list_any (has_reference reference) a.outstanding ≡ false
 
 pub free : (a : Account) (opcode reference : ℕ) → host.refusal a opcode reference ≡ None → Free a opcode reference
-free a opcode reference e = grind (arith, none_too)
+free a opcode reference e = grind (arith, true≢false)
 
 unrefused : {K : Type 0} (via : Connection) (a : Account) (h : Holdings K) (told : Flight) (opcode reference : ℕ)
     → Matches via a h told → Free a opcode reference

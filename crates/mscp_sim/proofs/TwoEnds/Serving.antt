@@ -1,19 +1,9 @@
 -- A step keeps the match of the host of each connection and the controller.
-use Rattle.mscp_sim.proofs.Common.{◌≡◌, ℕ, ◌+◌, ◌<◌, Bool, true, false, cond, List, [], ◌∷◌, ◌++◌, map, take, drop, length, refl, ap, ◌∙◌, append-nil, arith, if◌then◌else◌, Option, Some, None, option_to_list, false≢true, map-append, filter-append, Connection, same_connection, End, Block, Report, Drive, Choice, outcome_at, Record, drive_at, no_record, passed_by, record_at, remains, end_given, waiting_after, cut_at, Holdings, Steps, ends_after, ends_reported, waiting_on, Both, of, Account, Flight, Matches, commands}
+use Rattle.mscp_sim.proofs.Common.{◌≡◌, ℕ, ◌+◌, ◌<◌, Bool, true, false, cond, List, [], ◌∷◌, ◌++◌, map, take, drop, length, refl, ap, ◌∙◌, append-nil, arith, if◌then◌else◌, Option, Some, None, option_to_list, false≢true, map-append, filter-append, Connection, same_connection, End, Block, Report, Drive, Choice, outcome_at, Record, drive_at, no_record, passed_by, record_at, remains, end_given, cut_at, Holdings, Steps, ends_reported, waiting_on, of, Account, Flight, Matches, commands}
 use Rattle.mscp_queue.specs.declared.report.Report.TheVariants as reports
 use Rattle.mscp_sim.proofs.TwoEnds.Matching.{Ends, ends_match, stays}
 
 -- ---- by connection
-
--- the commands of the records of a connection, in two lists that follow each other
-pub on_append : (via : Connection) (xs ys : List Record)
-    → commands (waiting_on via (xs ++ ys)) ≡ commands (waiting_on via xs) ++ commands (waiting_on via ys)
-on_append via xs ys = search (arith, filter-append, map-append)
-
--- the ends of a connection that weren't taken, after a report
-pub of_ends : (via : Connection) (us : Both (List End)) (report : Report)
-    → of via (ends_after us report) ≡ of via us ++ ends_reported via report
-of_ends via us report = grind arith
 
 -- ---- a step
 
@@ -26,14 +16,7 @@ commands_passed via n (r ∷ rs) = search (arith, commands_passed via n rs)
 commands_cut : (via : Connection) (rs : List Record) (place : ℕ) → place < length rs
     → commands (waiting_on via rs) ≡ commands (waiting_on via (take place rs))
     ++ (commands (waiting_on via (record_at rs place ∷ [])) ++ commands (waiting_on via (drop (place + 1) rs)))
-commands_cut via rs place l = search (arith, cut_at no_record rs place l, on_append)
-
--- and after a step
-commands_after : (via : Connection) (k : Block) (d : Drive) (rs : List Record) (place : ℕ)
-    → let r = record_at rs place in commands (waiting_on via (waiting_after k d rs place))
-    ≡ commands (waiting_on via (take place rs)) ++ (commands (waiting_on via (remains r (end_given k d r)))
-    ++ commands (waiting_on via (drop (place + 1) rs)))
-commands_after via k d rs place = search (arith, on_append, commands_passed)
+commands_cut via rs place l = search (arith, cut_at no_record rs place l, filter-append, map-append)
 
 -- a step serves the record at a place, which had this end, if it had one: what is left, and the ends then
 record Leaves {K : Type 0} (via : Connection) (h h' : Holdings K) (k : Block) (d : Drive) (place : ℕ) (o : Option End) :
@@ -85,14 +68,10 @@ served_with via a h h' told k d place None x m = served_on via a h h' told k d p
 served_with via a h h' told k d place (Some e) x m =
     served_end via a h h' told k d place e (same_connection (record_at h.waiting place).connection via) refl x m
 
-given_is : (k : Block) (d : Drive) (r : Record) (e : End) → end_given k d r ≡ Some e
-    → e ≡ outcome_at d.unit d.online r.command r.good k
-given_is k d r e h = search (arith, false≢true)
-
 pub steps_match : {K : Type 0} (via : Connection) (picks : List Choice → ℕ → Type 0) (a : Account) (h h' : Holdings K)
     (told : Flight) (k : Block) (report : Report) → Steps picks k h report h' → Matches via a h told
     → Matches via a h' told
-steps_match {K} via picks a h h' told k reports.Idle s m = grind (arith, of_ends, append-nil, stays)
+steps_match {K} via picks a h h' told k reports.Idle s m = grind (arith, append-nil, stays)
 steps_match {K} via picks a h h' told k (reports.Served connection reference unit lbn started seek end) s m =
     let place = s.serves.0 in
     let at = s.serves.1 in
@@ -103,5 +82,5 @@ steps_match {K} via picks a h h' told k (reports.Served connection reference uni
     ≡ (if same_connection r.connection via then option_to_list (end_given k d r) else []) =
     ap (ends_reported via) at.told in
     let leaves : Leaves via h h' k d place (end_given k d r) =
-    search (arith, commands_after via k d h.waiting place, of_ends via h.untaken report, given_is k d r) in
+    search (arith, filter-append, map-append, commands_passed, false≢true) in
     served_with via a h h' told k d place (end_given k d r) leaves m

@@ -75,13 +75,9 @@ module _ {K : Type 0} (via : Connection) (a : Account) (h : Holdings K) where
             (sym message) y.match);
       }
 
-  asks_of : (r : ℕ) (s : Option Submission) (b : ArrayVec ℕ) (a' : Account) → r < 2 ^ 32 → MatchOn via a h
-      → oldest a ≡ s → asks a r s ≡ (Ok (polls.Ask b), a') → Asks r b.items a'
-  asks_of r s b a' l m o e = grind (arith, false≢true, asks_when)
-
   asks_idle : (r : ℕ) (q : Bool) (b : ArrayVec ℕ) (a' : Account) → r < 2 ^ 32 → MatchOn via a h
       → (if q then (Ok polls.Busy, a) else asks a r (oldest a)) ≡ (Ok (polls.Ask b), a') → Asks r b.items a'
-  asks_idle r q b a' l m e = grind (arith, false≢true, asks_of)
+  asks_idle r q b a' l m e = grind (arith, false≢true, asks_when)
 
   pub asks_match : (r : ℕ) (b : ArrayVec ℕ) (a' : Account) → r < 2 ^ 32 → MatchOn via a h
       → polls_oldest a r ≡ (Ok (polls.Ask b), a') → Asks r b.items a'
@@ -97,14 +93,6 @@ module _ (a : Account) where
   pub submits_kept : (c : Command) (fault : HostFault) (a' : Account) → submits a c ≡ (Err fault, a') → a' ≡ a
   submits_kept c fault a' e = submits_still c _ fault a' e
 
-  asks_still : (r : ℕ) (s : Submission) (o : Option HostFault) (p : Result Poll HostFault) (a' : Account)
-      → is_ask p ≡ false → asks_unless a r s o ≡ (p, a') → a' ≡ a
-  asks_still r s o p a' n e = grind (arith, true≢false)
-
-  unasked_of : (r : ℕ) (s : Option Submission) (p : Result Poll HostFault) (a' : Account) → is_ask p ≡ false
-      → asks a r s ≡ (p, a') → a' ≡ a
-  unasked_of r s p a' n e = grind (arith, asks_still)
-
   pub polled_kept : (r : ℕ) (p : Result Poll HostFault) (a' : Account) → is_ask p ≡ false
       → polls_oldest a r ≡ (p, a') → a' ≡ a
-  polled_kept r p a' n e = search (arith, unasked_of)
+  polled_kept r p a' n e = search (arith, true≢false)

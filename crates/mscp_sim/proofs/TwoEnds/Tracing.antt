@@ -1,5 +1,5 @@
 -- The controller's trace is that of the calls that came to it, and what that promises.
-use Rattle.mscp_sim.proofs.Common.{◌≡◌, ℕ, ◌+◌, ◌<◌, List, [], ◌∷◌, ◌++◌, map, take, length, refl, ap, ◌∙◌, subst, arith, append-nil, zip, Option, Some, None, option_to_list, flat_map-append, map-append, take_more, Choice, Event, Entry, Moment, Trace, Answered, Holdings, AnsweredCalls, AnswersCall, Call, Plain, Said, Talk, said, trace_of, AnswersTurn}
+use Rattle.mscp_sim.proofs.Common.{◌≡◌, ℕ, ◌+◌, ◌<◌, List, [], ◌∷◌, ◌++◌, map, take, length, refl, ap, ◌∙◌, subst, arith, append-nil, zip, Option, option_to_list, flat_map-append, map-append, take_more, Choice, Event, Entry, Moment, Trace, Answered, Holdings, AnsweredCalls, AnswersCall, Call, Plain, Said, Talk, said, trace_of, AnswersTurn}
 use Rattle.mscp_controller.specs.Calls.{history}
 
 -- the calls of a trace

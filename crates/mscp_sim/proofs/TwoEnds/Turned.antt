@@ -1,5 +1,5 @@
 -- What is said in a turn keeps the match, for the hosts of both connections.
-use Rattle.mscp_sim.proofs.Common.{◌^◌, ◌≡◌, ℕ, ◌<◌, Bool, true, false, List, ◌∷◌, refl, ap, sym, ◌∙◌, subst, arith, slice_get, Option, Some, None, is_some, unwrap_or, Result, Ok, Err, and_parts, false≢true, true≢false, ArrayVec, Command, End, command_of, IsEnd, Connection, Both, of, put, Choice, same_connection, one_side, own_side, Sent, sent_command, Moment, Holdings, after_message, after_take, end_taken, queues_by, HostFault, Poll, Submission, Account, oldest, polls_oldest, submits, end_heard, end_or_none, is_poll, is_sent, reference_in, Heard, Turn, Flight, Match, MatchOn, Matches, Said, heard_by, receives_in, AnswersTurn, IsSound, Says, IsHanded, IsHeard, IsPolled, IsSubmitted}
+use Rattle.mscp_sim.proofs.Common.{◌^◌, ◌≡◌, ℕ, ◌<◌, Bool, true, false, List, ◌∷◌, refl, ap, sym, ◌∙◌, subst, arith, slice_get, Option, Some, None, is_some, Result, Ok, Err, and_parts, false≢true, true≢false, ArrayVec, Command, End, command_of, IsEnd, Connection, Both, of, put, Choice, same_connection, one_side, own_side, Sent, sent_command, Moment, Holdings, after_message, after_take, end_taken, queues_by, HostFault, Poll, Submission, Account, oldest, polls_oldest, submits, end_heard, is_poll, is_sent, reference_in, Heard, Turn, Flight, Match, MatchOn, Matches, Said, heard_by, receives_in, AnswersTurn, IsSound, Says, IsHanded, IsHeard, IsPolled, IsSubmitted}
 use Rattle.mscp_events.specs.declared.event.Event.TheVariants as events
 use Rattle.mscp_controller.specs.declared.entry.Entry.TheVariants as entries
 use Rattle.mscp_host.specs.declared.news.Poll.TheVariants as polls
@@ -135,11 +135,6 @@ module _ {K : Type 0} (picks : List Choice → ℕ → Type 0) (a a' : Both Acco
 
 -- ---- what is queued, and what is heard
 
--- a command of a connection is queued at the moment, if it is one
-abbrev queues_in : Connection → Option Moment → Bool
-queues_in via None = false
-queues_in via (Some m) = queues_by via m
-
 -- what is queued is what a host sends
 abbrev pub IsSentBy : Connection → Said → Turn → Moment → Type 0
 IsSentBy via s t m = (is_sent (heard_by via t s.heard s.moment) ≡ true)
@@ -191,8 +186,7 @@ heads_of picks a h h' s via None k e m x taken sound match q = search (arith, fa
 heads_of picks a h h' s via (Some b) k e m x taken sound match q =
     let out = taken_some via a h match.0 b taken (λ end f. sound b end refl f) match.1 in
     let first = read_end b.items out.end (sound b out.end refl (ap (λ xs. slice_get xs 0) out.untaken)) in
-    let heard : end_heard (receives_in s.heard s.moment) ≡ Some out.end = rw (x.1, m) (ap end_or_none first) in
-    (out.rest, out.untaken ∙ ap (λ o. unwrap_or o e ∷ out.rest) (sym heard ∙ q))
+    search arith
 
 taker : (via : Connection) (t : Turn) (heard : Heard) (m : Option Moment) (e : End)
     → end_heard (heard_by via t heard m) ≡ Some e → (t ≡ turns.Take via) × (end_heard (receives_in heard m) ≡ Some e)

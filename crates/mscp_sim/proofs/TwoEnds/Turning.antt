@@ -1,5 +1,5 @@
 -- One turn of a talk: what is heard is what the rules of a host say of what the talk says so far.
-use Rattle.mscp_sim.proofs.Common.{◌≡◌, ◌↔◌, ℕ, ◌+◌, ◌<◌, ◌≤◌, Bool, true, false, List, [], ◌∷◌, map, take, length, refl, ap, sym, ◌∙◌, subst, arith, ◌≢◌, nat_eq, Option, Some, None, option_map, unwrap_or, list_any, and_parts, eqb-true, eq-eqb, false≢true, true_from_ne_false, End, Connection, First, Second, Settings, credits_of, Both, of, Choice, names, name_on, same_name, Record, AnsweredCalls, name, sent_command, waiting, KeepsPromise, figure_of, Promise, Moment, Trace, Holdings, numbers, waiting_on, queues_by, Submission, Account, oldest, History, asked_for, asks_about, end_heard, figure_in, found_stands, handed_over, in_flight, is_end_of, is_it, is_outstanding, is_poll, is_sent, moment, news_heard, reference, reference_found, reference_in, submission_at, watch_at, Answers, Stands, found_out, oldest_is, it_is, losses_if, resets_if, IsApart, flies, flight_back, flight_new, step, Flight, HasFlight, IsFlight, Match, Matches, Talk, account_at, accounts_at, figure_told, history, said, trace_of, Says, IsHeard}
+use Rattle.mscp_sim.proofs.Common.{◌≡◌, ◌↔◌, ℕ, ◌+◌, ◌<◌, ◌≤◌, Bool, true, false, List, [], ◌∷◌, map, take, length, refl, ap, sym, ◌∙◌, subst, arith, ◌≢◌, nat_eq, Option, Some, option_map, list_any, and_parts, eqb-true, eq-eqb, false≢true, true_from_ne_false, End, Connection, First, Second, Settings, credits_of, Both, of, Choice, names, name_on, same_name, Record, AnsweredCalls, name, sent_command, waiting, KeepsPromise, figure_of, Promise, Moment, Trace, Holdings, numbers, waiting_on, queues_by, Submission, Account, oldest, History, asked_for, asks_about, end_heard, figure_in, found_stands, handed_over, in_flight, is_end_of, is_it, is_outstanding, is_poll, is_sent, moment, news_heard, reference, reference_found, reference_in, submission_at, watch_at, Answers, Stands, found_out, oldest_is, it_is, losses_if, resets_if, IsApart, flies, flight_back, flight_new, step, Flight, HasFlight, IsFlight, Match, Matches, Talk, account_at, accounts_at, figure_told, history, said, trace_of, Says, IsHeard}
 use Rattle.mscp_controller.specs.Holdings.{fresh}
 use Rattle.mscp_host.proofs.Stepping.{Goes}
 use Rattle.mscp_host.specs.declared.news.News.TheVariants as news
@@ -97,10 +97,7 @@ never_lost c talk j a a' l says on q =
     let s = said_news a a' (said talk j) (said talk j).turn news.Lost says q in
     let lost = (losses_if (history s.0 talk) j (on s.0).goes.ends).0 (ap news_heard (moment_is s.0 talk j l) ∙ s.1) in
     let told = (on s.0).figures lost.command lost.poll lost.is_told.handed lost.is_told.about in
-    let zero : 0 ≡ figure_told c s.0 talk lost.poll = ap (λ o. unwrap_or o 0)
-    (sym lost.is_told.tells ∙ (ap (λ m. figure_in (end_heard m)) (moment_is s.0 talk j l) ∙ told.0)) in
-    let some = told.1 lost.is_told.outstanding in
-    absurd (omega (arith, zero, some))
+    search (arith, figure_told, moment_is)
 
 -- ---- a poll
 

@@ -1,4 +1,4 @@
-use Rattle.mscp_judge.proofs.Common.{◌++◌, ◌-◌, refl, drop, length, ap, sym, ◌∙◌, arith, length-drop, Decides-eqb, take_all, starts_is, due}
+use Rattle.mscp_judge.proofs.Common.{◌++◌, ◌-◌, refl, length, ap, ◌∙◌, arith, length-drop, Decides-eqb, take_all, starts_is, due}
 use Rattle.mscp_judge.proofs.Passing.{answers_bytes}
 use Rattle.mscp_judge.proofs.judging.cut_due.Goals as goal
 
@@ -21,11 +21,4 @@ invariant_of-lines g c =
     }
 
 pub returns-clause-cut : goal.returns-clause-cut
-returns-clause-cut g c = λ is.
-    let told = c.due-due.result.now in
-    let rest = c.args.lines.now.rest.now in
-    let left = drop (length told) rest in
-    let whole = take_all (length rest - length told) left (omega (arith, length-drop (length told) rest)) in
-    let begins = (starts_is Decides-eqb rest told c.starts_with.result c.starts_with.ensures.value).0
-    c.if-not-starts_with.false in
-    begins ∙ (λ i. c.due-due.ensures i ++ sym whole i)
+returns-clause-cut g c = search (arith, take_all, length-drop, starts_is, Decides-eqb)

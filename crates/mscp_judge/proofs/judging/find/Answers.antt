@@ -1,5 +1,4 @@
 use Rattle.mscp_judge.proofs.Common.{◌≡◌, ℕ, ◌+◌, List, [], ◌∷◌, ◌++◌, length, Ok, Err, refl, ap, sym, ◌∙◌, subst, arith, length-append, append_assoc, append-nil, None, err_from_is_err_and, Settings, progress, lines, words, ReadFault, Judge, Breaks, Hears, IsBroken, Judges, Tells, Log, MayGoOn, after_lines, nothing, whole, Totals, name_in, totals_of, AreTotals}
-use Rattle.mscp_reader.specs.declared.fault.ReadFault.TheVariants as faults
 use Rattle.mscp_judge.proofs.Coming.{held_settings, stands_legal, stands_not, stands_open, stands_settings}
 use Rattle.mscp_judge.proofs.Exactly.{lines_behind}
 use Rattle.mscp_judge.proofs.Righting.{stands_open_held}
@@ -11,19 +10,7 @@ judged_fault : {A : Type 0} (c : Settings) (before : ℕ) (all front : List (Lis
     (back : List (List ℕ)) (log : Log) (number : ℕ) (judge : Judge A) (fault : ReadFault) → all ≡ front ++ bytes ∷ back
     → number ≡ before + length front + 1 → after_lines before nothing front ≡ Ok log → MayGoOn c log.marks
     → Hears c number log bytes (Err fault) judge → Judges c before all (Err fault)
-judged_fault c before all front bytes back log number judge (faults.Script fault) w n r o h =
-    record {
-      front = front;
-      line = bytes;
-      back = back;
-      log = log;
-      whole = w;
-      number = h.0 ∙ n;
-      read = r;
-      opens = o;
-      wrong = rw h.0 h.1;
-    }
-judged_fault c before all front bytes back log number judge faults.OutOfMemory w n r o h = tt
+judged_fault c before all front bytes back log number judge fault h1 h2 h3 h4 h5 = search arith
 
 pub loop-bytes-init : goal.loop-bytes-init
 loop-bytes-init g c = search arith

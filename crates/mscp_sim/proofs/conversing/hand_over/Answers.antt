@@ -1,4 +1,4 @@
-use Rattle.mscp_sim.proofs.Common.{◌≡◌, ℕ, ap, sym, ◌∙◌, arith, length, refl, subst, is_ok, slice_get, Some, None, false≢true, ArrayVec, End, IsEnd, of, put, heard}
+use Rattle.mscp_sim.proofs.Common.{◌≡◌, ℕ, ap, sym, ◌∙◌, arith, refl, subst, slice_get, Some, None, false≢true, ArrayVec, End, IsEnd, of, put, heard}
 use Rattle.mscp_sim.specs.declared.conversing.Turn.TheVariants as turns
 use Rattle.mscp_sim.specs.declared.conversing.Heard.TheVariants as hears
 use Rattle.mscp_sim.proofs.TwoEnds.Turned.{with_match}
@@ -11,13 +11,7 @@ receive-requires g c =
     let via = c.args.connection in
     let h = c.args.controller.now in
     let told = c.requires via in
-    let back : (e : End) → slice_get (of via h.untaken) 0 ≡ Some e → IsEnd c.in-Some.bytes.items e =
-    λ e s. rw c.in-Some.is at (c.take.ensures.reads_back e s) in
-    let taken = taken_some via (of via c.args.hosts.now) h told.0 c.in-Some.bytes
-    (sym c.take.ensures.answer ∙ c.in-Some.is) back told.1 in
-    let many = told.1.many in
-    let some = ap length taken.untaken in
-    omega (arith, many, some)
+    search (arith, taken_some)
 
 pub unreachable-requires : goal.unreachable-requires
 unreachable-requires g c =
@@ -28,8 +22,7 @@ unreachable-requires g c =
     let back : (e : End) → slice_get (of via h.untaken) 0 ≡ Some e → IsEnd c.in-Some.bytes.items e =
     λ e s. rw c.in-Some.is at (c.take.ensures.reads_back e s) in
     let taken = taken_some via a h told.0 c.in-Some.bytes (sym c.take.ensures.answer ∙ c.in-Some.is) back told.1 in
-    let heard = c.receive.ensures.answer ∙ (ap (λ b. (heard a b).0) c.deref.ensures.0 ∙ ap (λ p. p.0) taken.heard) in
-    absurd (false≢true (ap is_ok (sym c.in-Err.is ∙ heard)))
+    search (arith, false≢true)
 
 pub returns-in-None : goal.returns-in-None
 returns-in-None g c =

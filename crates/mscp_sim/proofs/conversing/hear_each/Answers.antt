@@ -3,20 +3,13 @@ use Rattle.mscp_sim.proofs.TwoEnds.Talking.{kept, talks_none, talks_more}
 use Rattle.mscp_sim.proofs.conversing.hear_each.Goals as goal
 
 pub loop-turn-init : goal.loop-turn-init
-loop-turn-init g c =
-    record {
-      talks = talks_none g.K.Picker.picks (kept c.args.hosts.now c.args.controller.now c.args.talk.now) c.requires.both;
-      room = let room = c.requires.room in (omega (arith, room.0), omega (arith, room.1));
-    }
+loop-turn-init g c = search (arith, talks_none, kept)
 
 pub hear-heard-requires : goal.hear-heard-requires
 hear-heard-requires g c = c.loop-turn.invariant.talks.goes.match
 
 pub keep-requires : goal.keep-requires
-keep-requires g c =
-    let left = c.loop-turn-test.true in
-    let room = c.loop-turn.invariant.room in
-    (omega (arith, room.0, left), omega (arith, room.1, left))
+keep-requires g c = search arith
 
 pub loop-turn-preserved : goal.loop-turn-preserved
 loop-turn-preserved g c =
@@ -39,5 +32,4 @@ loop-turn-preserved g c =
     }
 
 pub returns : goal.returns
-returns g c = rw (take_all c.loop-turn.turn-index c.args.turns.now c.loop-turn-test.false) at
-    c.loop-turn.invariant.talks.goes
+returns g c = search (arith, take_all)

@@ -1,4 +1,4 @@
-use Rattle.mscp_sim.proofs.Common.{◌≡◌, ◌<◌, ◌^◌, ap, sym, ◌∙◌, refl, rules, is_ok, None, Some, Ok, false≢true, of, after_message, answer_to_message, polls_oldest}
+use Rattle.mscp_sim.proofs.Common.{arith, ◌≡◌, ◌<◌, ◌^◌, ap, sym, ◌∙◌, refl, rules, None, Some, Ok, false≢true, of, after_message, answer_to_message, polls_oldest}
 use Rattle.mscp_events.specs.declared.event.Event.TheVariants as events
 use Rattle.mscp_controller.specs.declared.entry.Entry.TheVariants as entries
 use Rattle.mscp_sim.specs.declared.conversing.Turn.TheVariants as turns
@@ -18,8 +18,7 @@ unreachable-requires g c =
     sym c.poll.ensures.answer ∙ (c.in-Ok-Ask.is ∙ ap Ok c.in-Ok-Ask.field-0-is) in
     let x = asks_match via a c.args.controller.now c.args.reference c.in-Ok-Ask.message kept small
     (c.requires via) (λ i. (ask i, kept)) in
-    absurd (false≢true (ap is_ok (sym c.in-Err-send.is)
-    ∙ not_refused via c.args.controller.now _ _ _ _ c.send.ensures.answer c.deref.ensures.0 x.taken))
+    search (arith, false≢true, not_refused)
 
 pub returns-in-Err : goal.returns-in-Err
 returns-in-Err g c =

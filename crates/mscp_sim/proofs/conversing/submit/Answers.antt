@@ -1,4 +1,4 @@
-use Rattle.mscp_sim.proofs.Common.{◌≡◌, ◌<◌, ◌^◌, ap, sym, ◌∙◌, refl, rules, is_ok, None, Some, Ok, false≢true, of, after_message, answer_to_message, submits}
+use Rattle.mscp_sim.proofs.Common.{arith, ◌≡◌, ◌<◌, ◌^◌, ap, sym, ◌∙◌, refl, rules, None, Some, Ok, false≢true, of, after_message, answer_to_message, submits}
 use Rattle.mscp_events.specs.declared.event.Event.TheVariants as events
 use Rattle.mscp_controller.specs.declared.entry.Entry.TheVariants as entries
 use Rattle.mscp_sim.specs.declared.conversing.Turn.TheVariants as turns
@@ -18,8 +18,7 @@ unreachable-requires g c =
     let e : submits a c.args.command ≡ (Ok c.in-Ok.message, kept) = λ i. (ok i, kept) in
     let told = c.requires via in
     let x = submits_match via a c.args.controller.now told.0 c.args.command c.in-Ok.message kept number unit told.1 e in
-    absurd (false≢true (ap is_ok (sym c.in-Err-send.is)
-    ∙ not_refused via c.args.controller.now _ _ _ _ c.send.ensures.answer c.deref.ensures.0 x.taken))
+    search (arith, false≢true, not_refused)
 
 pub returns-in-Err : goal.returns-in-Err
 returns-in-Err g c =

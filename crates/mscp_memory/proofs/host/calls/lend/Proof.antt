@@ -1,35 +1,6 @@
 -- `lend` lends what lies in the memory of a handle. Assumes `Logic`.
-use Rattle.std.proofs.Common.{◌≡◌, ℕ, List, [], ◌∷◌, refl, sym, ap, ◌∙◌, MutBor}
-use Rattle.std.proofs.raw_atomic.Walks.{proved}
-use Rattle.std.proofs.VecSteps.Shapes.{after}
-use base.Fraction.{full_share}
-use base.Logic.{ent, sep, id⊢}
-use base.Fml.{GName, Fml, fsep, ftrue, flft}
-use mathlib.Core.Bool.{Bool, true}
-use contract.Monad.{fact}
-use mir.Syntax.{named}
-use mir.Val.{Val, vptr}
-use seplogic.Ra.Ura.{Ura}
-use contract.Running.{tables}
-use types.Logic.{Logic, sem}
-use types.Kit.{‵, raw, ◌⊛◌, some, later, at_ret, ◌$◌, ◌∵◌, !, qed, done, move, keep, drop, use0, use1, split, join, fsplit, fsplit3, fjoin, fpack, pick, await, rewrite, suffices, frame, group, by}
-use types.Run.{enter, of_opd, addr, load, stop, fld, first, blocks, exec, returns}
-use types.ByLocal.{alloc_all, pass_all, free_all, look_at, get, through, sets, sets_last, env}
-use types.Part.{whole, sub, look_in}
-use denote.Exit.{no}
-use denote.Laws.{shows}
-use denote.Shadow.{makes_shadow}
-use denote.Memory.{mem, cell_at, part_of}
-use denote.RawPtr.{Ptr, block_ptr, lies_at, room_at, in_a_block}
-use denote.Ref.{MutRef, mut_vals, mut_Tells}
-use denote.Signature.{plain, mut_ref_to}
-use denote.Steps.{nothing, heard, opens, peeks}
-use denote.Follow.{follows, Part, lends_Part}
-use denote.Struct.Owning.{shape, to}
-use denote.Struct.Struct.{Struct}
-use denote.Triple.Walked.{Stays, walk_of, says, stay_dropped, Goes-spent_ref, ends_at}
+use Rattle.mscp_memory.proofs.Common.{◌≡◌, ℕ, List, [], ◌∷◌, refl, sym, ap, ◌∙◌, MutBor, proved, after, full_share, ent, sep, id⊢, GName, Fml, fsep, ftrue, flft, Bool, true, fact, named, Val, vptr, Ura, tables, Logic, sem, ‵, raw, ◌⊛◌, some, later, at_ret, ◌$◌, ◌∵◌, !, qed, done, move, keep, drop, use0, use1, split, join, fsplit, fsplit3, fjoin, fpack, pick, await, rewrite, suffices, frame, group, by, enter, of_opd, addr, load, stop, fld, first, blocks, exec, returns, alloc_all, pass_all, free_all, look_at, get, through, sets, sets_last, env, whole, sub, look_in, no, shows, makes_shadow, mem, cell_at, part_of, Ptr, block_ptr, lies_at, room_at, in_a_block, MutRef, mut_vals, mut_Tells, plain, mut_ref_to, nothing, heard, opens, peeks, follows, Part, lends_Part, shape, to, Struct, Stays, walk_of, says, stay_dropped, Goes-spent_ref, ends_at, if_fml}
 use Rattle.mscp_memory.specs.HostHandles.{Handle, is_made, is_room, row as T, with_held}
-use Rattle.mscp_memory.specs.Rooms.{if_fml}
 use Rattle.mscp_memory.specs.contracts.host.calls.lend as f
 use Rattle.mscp_memory.proofs.host.calls.lend.Statement.{statement}
 use Rattle.mscp_memory.proofs.host.calls.lend.Code as code
@@ -51,19 +22,16 @@ rest h us b o = fsep ((Struct (shape the_type)).own_val (to the_type (inverse h)
 
 -- with any host there, it is the handle of that host
 back : {M : Type 1} {𝓤 : Ura M} (𝓛 : Logic 𝓤) (h : Handle) (us : List Val) (b o b' o' : ℕ) → h.at ≡ block_ptr b' o'
-    → is_made h ≡ true
-    → (w : T.Denot) → ent 𝓤 (sep 𝓤 (sem 𝓛 ((mem T).own_at w b' o')) (sem 𝓛 (rest h us b o)))
+    → is_made h ≡ true → (w : T.Denot) → ent 𝓤 (sep 𝓤 (sem 𝓛 ((mem T).own_at w b' o')) (sem 𝓛 (rest h us b o)))
     (sem 𝓛 ((mem R).own_at (with_held h w) b o))
 unfolding part_of
 back 𝓛 h us b o b' o' e made w =
-    qed 𝓛 (‵ (lies_at T full_share (block_ptr b' o') w) ∷ ‵ (rest h us b o) ∷ []) ∵
-    rewrite ! 0 (λ (p : Ptr). ‵ (lies_at T full_share p w)) (sym e) refl $
-    rewrite ! 0 (λ (y : Bool). ‵ (memory (with_held h w) y)) (sym made) refl $
-    move ! (1 ∷ []) $ fsplit ! $ move ! (0 ∷ 2 ∷ 1 ∷ []) $ fjoin ! $
-    use0 𝓛 (‵ ftrue) (makes_shadow 𝓛 ftrue tt tt) $
-    fpack ! _ (λ (z : (with_held h w ≡ with_held h w) × Unit {0}). ftrue) (refl, tt) $
-    move ! (1 ∷ 0 ∷ []) $ fjoin ! $ move ! (1 ∷ 0 ∷ []) $ fjoin ! $
-    fpack ! (List Val) (λ vs. fsep (cell_at full_share R.mir vs b o) (R.own_val (with_held h w) vs)) us $ done !
+    qed 𝓛 (‵ (lies_at T full_share (block_ptr b' o') w) ∷ ‵ (rest h us b o) ∷ []) ∵ rewrite ! 0
+    (λ (p : Ptr). ‵ (lies_at T full_share p w)) (sym e) refl $ rewrite ! 0 (λ (y : Bool). ‵ (memory (with_held h w) y))
+    (sym made) refl $ move ! (1 ∷ []) $ fsplit ! $ move ! (0 ∷ 2 ∷ 1 ∷ []) $ fjoin ! $ use0 𝓛 (‵ ftrue)
+    (makes_shadow 𝓛 ftrue tt tt) $ fpack ! _ (λ (z : (with_held h w ≡ with_held h w) × Unit {0}). ftrue) (refl, tt) $
+    move ! (1 ∷ 0 ∷ []) $ fjoin ! $ move ! (1 ∷ 0 ∷ []) $ fjoin ! $ fpack ! (List Val)
+    (λ vs. fsep (cell_at full_share R.mir vs b o) (R.own_val (with_held h w) vs)) us $ done !
 
 pub lend_spec : {M : Type 1} → statement M
 lend_spec 𝓤 𝓛 𝓜 𝓡 wired =

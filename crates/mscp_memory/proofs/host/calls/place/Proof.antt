@@ -1,43 +1,11 @@
 -- `place` moves a host into the room that a handle has. Assumes `Logic`.
-use Rattle.std.proofs.Common.{◌≡◌, List, [], ◌∷◌, ◌++◌, refl, sym, ap, ◌∙◌, lit<}
-use Rattle.std.proofs.raw_atomic.Walks.{proved_at}
-use Rattle.std.proofs.VecSteps.Shapes.{after}
-use mathlib.Core.Bool.{Bool, true, false}
-use base.Fraction.{full_share}
-use base.Logic.{id⊢, ent, emp}
-use base.Fml.{Fml, ftrue, flft}
-use contract.Monad.{fact}
-use mir.Syntax.{named, w64}
-use mir.Val.{Val, vunit, vint}
-use prog.Wp.{WpFn}
-use contract.Running.{tables}
-use types.Kit.{‵, raw, ◌⊛◌, prop, at_ret, ◌$◌, ◌∵◌, !, qed, done, move, keep, use0, use2, split, join, fsplit, fsplit3, fjoin, fpack, drop, feq_i, rewrite, regoal, suffices, frame, group}
-use types.Run.{enter, of_opd, load, unit_lit, init, stop, fld, assigns, assigns_last, first, blocks, exec, returns}
-use types.ByLocal.{alloc_all, pass_all, free_all, look_at, get, through, sets, env}
-use seplogic.Ra.Ura.{Ura}
-use types.Logic.{Logic, sem}
-use types.Part.{whole, sub, look_in, store_in}
-use denote.Exit.{yes}
-use denote.RattleType.{RattleType}
-use denote.Laws.{shows}
-use denote.Shadow.{makes_shadow}
-use denote.Struct.Owning.{shape, to}
-use denote.Struct.Struct.{Struct}
-use borrow.Table.OneValue.{part_in}
-use denote.Memory.{cell_at, lone}
-use denote.RawPtr.{Ptr, block_ptr, ptr_val, lies_at, room_at, in_a_block}
-use denote.Ref.{MutRef}
-use denote.Signature.{plain}
-use denote.Steps.{nothing, heard, opens, closes, peeks, facts}
-use denote.Triple.Walked.{Stays, walk_of, says, stay_dropped, stay_ref, Goes-ref, Goes-dropped, ends_at}
+use Rattle.mscp_memory.proofs.Common.{◌≡◌, List, [], ◌∷◌, ◌++◌, refl, sym, ap, ◌∙◌, lit<, proved_at, after, Bool, true, false, full_share, id⊢, ent, emp, Fml, ftrue, flft, fact, named, w64, Val, vunit, vint, WpFn, tables, ‵, raw, ◌⊛◌, prop, at_ret, ◌$◌, ◌∵◌, !, qed, done, move, keep, use0, use2, split, join, fsplit, fsplit3, fjoin, fpack, drop, feq_i, rewrite, regoal, suffices, frame, group, enter, of_opd, load, unit_lit, init, stop, fld, assigns, assigns_last, first, blocks, exec, returns, alloc_all, pass_all, free_all, look_at, get, through, sets, env, Ura, Logic, sem, whole, sub, look_in, store_in, yes, RattleType, shows, makes_shadow, shape, to, Struct, part_in, cell_at, lone, Ptr, block_ptr, ptr_val, lies_at, room_at, in_a_block, MutRef, plain, nothing, heard, opens, closes, peeks, facts, Stays, walk_of, says, stay_dropped, stay_ref, Goes-ref, Goes-dropped, ends_at, if_fml, place_fault, ◌^◌, ◌<◌, nat_eq}
 use Rattle.mscp_memory.specs.HostHandles.{Handle, is_made, is_room, placed, row as T', row_alignment, row_size}
 use Rattle.mscp_memory.proofs.Placing.{one, big_lit, unmade}
-use Rattle.mscp_memory.specs.Rooms.{if_fml, place_fault}
 use Rattle.mscp_memory.specs.declared.host.marks.TheConstants.{ROOM}
 use Rattle.mscp_memory.specs.declared.host.handle.Handle.TheView.{inverse}
 use Rattle.mscp_memory.specs.contracts.host.handle.Handle.{the_row as R}
 use Rattle.mscp_memory.specs.contracts.host.handle.Handle.TheInside.{the_type}
-use Rattle.std.specs.Prelude.{◌^◌, ◌<◌, nat_eq}
 use Rattle.mscp_memory.proofs.host.handle.Handle.TheLaws.{lowers}
 use Rattle.mscp_host.proofs.host.Host.TheLaws as hosts
 use Rattle.mscp_memory.specs.contracts.host.calls.place as f
@@ -59,8 +27,7 @@ abbrev word : Handle → List Val
 word h = lowers.lowered h ∷ []
 
 made_words : {M : Type 1} {𝓤 : Ura M} (𝓛 : Logic 𝓤) (h : Handle) → h.address < 2 ^ 64 → h.length < 2 ^ 64
-    → h.mark < 2 ^ 64
-    → ent 𝓤 (emp 𝓤) (sem 𝓛 (Words.own_val (to the_type (inverse h)) (word h)))
+    → h.mark < 2 ^ 64 → ent 𝓤 (emp 𝓤) (sem 𝓛 (Words.own_val (to the_type (inverse h)) (word h)))
 made_words 𝓛 h a n m = makes_shadow 𝓛 (Words.own_val (to the_type (inverse h)) (word h))
     (λ _. (tt, (tt, ((tt, tt), ((tt, tt), ((tt, tt), tt)))))) (
       (ptr_val h.at ∷ [], (vint w64 h.address ∷ [], (vint w64 h.length ∷ [], (vint w64 h.mark ∷ [], tt)))),
