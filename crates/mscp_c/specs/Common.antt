@@ -1,9 +1,9 @@
 -- What the code of this crate takes from specifications.
-pub use Rattle.mscp_c.specs.Given.{UnitAnswers, connection_given, policy_given, units_answer}
+pub use Rattle.mscp_c.specs.Given.{connection_given}
 pub use Rattle.mscp_c.specs.HandleCalls.{AnswersHandle, HandlesKeepThePromise}
-pub use Rattle.mscp_c.specs.Hosted.{PollTold, ended_told, figure_told, message_read, moved_in, news_code, news_told, poll_code, submits_message}
+pub use Rattle.mscp_c.specs.Hosted.{PollTold, message_read, news_code, news_told, poll_code, submits_message}
 pub use Rattle.mscp_c.specs.Made.{config_answer, init_answer, init_code, init_fault, made_unless}
-pub use Rattle.mscp_c.specs.PortGiven.{bus_given, fault_given, hardware_given, outcome_given}
+pub use Rattle.mscp_c.specs.PortGiven.{outcome_given}
 pub use Rattle.mscp_c.specs.PortHandleCalls.{PortHandlesKeepThePromise}
 pub use Rattle.mscp_c.specs.PortMade.{port_init_answer, port_init_code, port_init_fault}
 pub use Rattle.mscp_c.specs.PortServed.{Holds, MakesPort, TellsHeard, TellsVolume, TellsWanted, TellsWent, told_code, volume_code}
@@ -13,7 +13,7 @@ pub use Rattle.mscp_c.specs.Running.{HasLine, HasReport, IsNoPacket, TellsFault,
 pub use Rattle.mscp_c.specs.Saving.{length_after, room_after, save_code}
 pub use Rattle.mscp_c.specs.Served.{TellsBegin, TellsFinish, TellsStep}
 pub use Rattle.mscp_c.specs.Statuses.{host_code, host_restore_code, limits_code, minus, port_restore_code, restore_code, room_code, send_fault_code, unit_code, units_code}
-pub use Rattle.mscp_c.specs.Told.{PacketTold, TakeTold, begin_code, block_told, bytes_of, connection_told, figure_in, figures_in, figures_told, flag, holders_in, holders_told, report_code, report_told, send_code, sent_told, take_code, upcoming_told}
+pub use Rattle.mscp_c.specs.Told.{TakeTold, block_told, figure_in, figures_in, figures_told, flag, holders_in, holders_told, send_code, sent_told, take_code}
 pub use Rattle.mscp_controller.specs.Holdings.{after_message, after_take, answer_to_message, balance_of, end_taken, fresh, waiting_on}
 pub use Rattle.mscp_events.specs.Both.{of}
 pub use Rattle.mscp_events.specs.Settings.{IsValid}
@@ -26,4 +26,3 @@ pub use Rattle.mscp_port.specs.Calls.{LooksAgain, ReadsIp, Ticks, WritesIp, Writ
 pub use Rattle.mscp_queue.specs.Drives.{is_online_in}
 pub use Rattle.mscp_reader.specs.Grammar.{IsFault}
 pub use Rattle.mscp_text.specs.Shown.{shown}
-pub use Rattle.std.specs.Prelude.{Err, IfOk, IfSome, IsSome, None, Ok, OnErr, OnOk, false, length, not, pos, slice_index, take, true, ◌==◌, ◌≡◌, ◌≢◌, ◌≤◌, ◌⊎◌}

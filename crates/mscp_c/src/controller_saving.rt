@@ -1,6 +1,7 @@
 // A controller as bytes, and back.
 
-ghost use Rattle.mscp_c.specs.Common.{◌≡◌, true, false, Ok, fresh, Handle, AnswersHandle, policy_number, length_after, room_after, save_code};
+ghost use Rattle.std.specs.Prelude.{◌≡◌, true, false, Ok};
+ghost use Rattle.mscp_c.specs.Common.{fresh, Handle, AnswersHandle, policy_number, length_after, room_after, save_code};
 ghost use Rattle.mscp_memory.specs.ControllerHandles.{is_made, is_room, placed};
 ghost use Rattle.mscp_c.specs.HandleCalls as calls;
 ghost use Rattle.mscp_c.specs.Restoring.{policy_named, restored_by, saved_by};

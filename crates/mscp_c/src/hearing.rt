@@ -1,6 +1,7 @@
 // How what a host answers is told.
 
-ghost use Rattle.mscp_c.specs.Common.{◌≡◌, PollTold, ended_told, figure_told, moved_in, news_code, news_told, poll_code};
+ghost use Rattle.std.specs.Prelude.{◌≡◌};
+ghost use Rattle.mscp_c.specs.Hosted.{PollTold, ended_told, figure_told, moved_in, news_code, news_told, poll_code};
 
 use crate::outs::{NewsOut, PacketOut};
 use crate::status::{BUSY, DONE, ENDED, FIRST, LATE, LOST, NOTHING, PROGRESS, RESET, host_code};

@@ -1,6 +1,7 @@
 // A host as bytes, and back.
 
-ghost use Rattle.mscp_c.specs.Common.{◌≡◌, true, false, Ok, restored, saved_bytes, length_after, room_after, save_code};
+ghost use Rattle.std.specs.Prelude.{◌≡◌, true, false, Ok};
+ghost use Rattle.mscp_c.specs.Common.{restored, saved_bytes, length_after, room_after, save_code};
 ghost use Rattle.mscp_memory.specs.HostHandles.{is_made};
 ghost use Rattle.mscp_c.specs.HostSaving.{restores};
 

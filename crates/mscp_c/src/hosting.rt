@@ -1,7 +1,8 @@
 // The calls of a host.
 #![tactic(auto, using(crate::proofs::Lent::lent_back))]
 
-ghost use Rattle.mscp_c.specs.Common.{◌≡◌, true, false, pos, balance, heard, polls_oldest, PollTold, message_read, news_code, news_told, poll_code, submits_message};
+ghost use Rattle.std.specs.Prelude.{◌≡◌, true, false, pos};
+ghost use Rattle.mscp_c.specs.Common.{balance, heard, polls_oldest, PollTold, message_read, news_code, news_told, poll_code, submits_message};
 ghost use Rattle.mscp_memory.specs.HostHandles.{is_made, row_alignment, row_size, with_held};
 ghost use Rattle.mscp_c.specs.Hosted.{inits};
 

@@ -1,6 +1,7 @@
 // What is promised of who calls from C.
 
-ghost use Rattle.mscp_c.specs.Common.{◌≡◌, pos, true, IsValid, HandlesKeepThePromise, PortHandlesKeepThePromise, minus};
+ghost use Rattle.std.specs.Prelude.{◌≡◌, pos, true};
+ghost use Rattle.mscp_c.specs.Common.{IsValid, HandlesKeepThePromise, PortHandlesKeepThePromise, minus};
 ghost use Rattle.mscp_memory.specs.ControllerHandles.{is_made};
 
 use crate::status::*;

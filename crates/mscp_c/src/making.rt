@@ -1,6 +1,7 @@
 // The calls before a controller is there.
 
-ghost use Rattle.mscp_c.specs.Common.{◌≡◌, true, false, fresh, config_answer, init_answer, init_fault, made_unless};
+ghost use Rattle.std.specs.Prelude.{◌≡◌, true, false};
+ghost use Rattle.mscp_c.specs.Common.{fresh, config_answer, init_answer, init_fault, made_unless};
 ghost use Rattle.mscp_memory.specs.ControllerHandles.{is_made, row_alignment, row_size, with_held};
 ghost use Rattle.mscp_c.specs.Made.{inits};
 

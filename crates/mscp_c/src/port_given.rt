@@ -1,6 +1,7 @@
 // What a program in C gives for a port.
 
-ghost use Rattle.mscp_c.specs.Common.{◌≡◌, bus_given, fault_given, hardware_given, outcome_given};
+ghost use Rattle.std.specs.Prelude.{◌≡◌};
+ghost use Rattle.mscp_c.specs.PortGiven.{bus_given, fault_given, hardware_given, outcome_given};
 
 use crate::units::InitFault;
 use mscp_controller::FaultStatus;

@@ -1,6 +1,7 @@
 // The calls before a port is there.
 
-ghost use Rattle.mscp_c.specs.Common.{◌≡◌, None, IsSome, OnErr, OnOk, port_init_answer, port_init_code, port_init_fault, MakesPort};
+ghost use Rattle.std.specs.Prelude.{◌≡◌, None, IsSome, OnErr, OnOk};
+ghost use Rattle.mscp_c.specs.Common.{port_init_answer, port_init_code, port_init_fault, MakesPort};
 ghost use Rattle.mscp_memory.specs.PortHandles.{row_alignment, row_size};
 
 use crate::making::config_of;

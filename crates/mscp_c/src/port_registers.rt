@@ -1,7 +1,8 @@
 // The registers of a port.
 #![tactic(auto, using(crate::proofs::Lent::lent_back))]
 
-ghost use Rattle.mscp_c.specs.Common.{◌≡◌, true, false, pos, ReadsIp, WritesIp, WritesSa, sa_of, Holds};
+ghost use Rattle.std.specs.Prelude.{◌≡◌, true, false, pos};
+ghost use Rattle.mscp_c.specs.Common.{ReadsIp, WritesIp, WritesSa, sa_of, Holds};
 ghost use Rattle.mscp_memory.specs.PortHandles.{is_made};
 
 use crate::status::{DONE, NOT_MADE};

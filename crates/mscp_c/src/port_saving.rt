@@ -1,6 +1,7 @@
 // A port as bytes, and back.
 
-ghost use Rattle.mscp_c.specs.Common.{◌≡◌, true, false, slice_index, Ok, fresh, length_after, room_after, save_code};
+ghost use Rattle.std.specs.Prelude.{◌≡◌, true, false, slice_index, Ok};
+ghost use Rattle.mscp_c.specs.Common.{fresh, length_after, room_after, save_code};
 ghost use Rattle.mscp_memory.specs.PortHandles.{is_made, is_room, placed};
 ghost use Rattle.mscp_c.specs.PortSaving.{policy_named, restored_by, restores, saved_by};
 

@@ -1,6 +1,7 @@
 // How what a port wants is told.
 
-ghost use Rattle.mscp_c.specs.Common.{◌≡◌, length, move_byte, action_told, next_code, of_kind, of_memory, of_transfer, with_bytes};
+ghost use Rattle.std.specs.Prelude.{◌≡◌, length};
+ghost use Rattle.mscp_c.specs.Common.{move_byte, action_told, next_code, of_kind, of_memory, of_transfer, with_bytes};
 
 use crate::outs::ActionOut;
 use crate::status::{DONE, NOTHING};

@@ -1,6 +1,7 @@
 // What a port wants done, and how that went.
 
-ghost use Rattle.mscp_c.specs.Common.{◌≡◌, true, false, IfSome, None, outcome_given, TellsHeard, TellsWanted, TellsWent};
+ghost use Rattle.std.specs.Prelude.{◌≡◌, true, false, IfSome, None};
+ghost use Rattle.mscp_c.specs.Common.{outcome_given, TellsHeard, TellsWanted, TellsWent};
 ghost use Rattle.mscp_memory.specs.PortHandles.{is_made};
 
 use crate::outs::ActionOut;

@@ -1,6 +1,7 @@
 // What comes to a port from elsewhere than its host: volumes, and time.
 
-ghost use Rattle.mscp_c.specs.Common.{◌≡◌, ◌==◌, not, true, false, LooksAgain, Ticks, Holds, TellsVolume};
+ghost use Rattle.std.specs.Prelude.{◌≡◌, ◌==◌, not, true, false};
+ghost use Rattle.mscp_c.specs.Common.{LooksAgain, Ticks, Holds, TellsVolume};
 ghost use Rattle.mscp_memory.specs.PortHandles.{is_made};
 
 use crate::status::{DONE, NOT_MADE, volume_code};

@@ -1,7 +1,8 @@
 // A whole script and a packet's line, in memory that a program in C lends. Each is written behind the front of the room, and
 // then moved there: so the room has twice its bytes.
 
-ghost use Rattle.mscp_c.specs.Common.{◌≡◌, ◌≢◌, ◌⊎◌, ◌≤◌, length, take, Err, IfOk, IfSome, IsFault, shown, HasLine, HasReport, IsNoPacket, TellsFault};
+ghost use Rattle.std.specs.Prelude.{◌≡◌, ◌≢◌, ◌⊎◌, ◌≤◌, length, take, Err, IfOk, IfSome};
+ghost use Rattle.mscp_c.specs.Common.{IsFault, shown, HasLine, HasReport, IsNoPacket, TellsFault};
 
 use crate::status::{DONE, SMALL, cause_code, show_code};
 use mscp_script::{Lent, Out, ReadFault, ScriptFault, ShowFault, report_script, show_packet_to};

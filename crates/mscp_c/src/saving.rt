@@ -1,6 +1,7 @@
 // A save is told.
 
-ghost use Rattle.mscp_c.specs.Common.{◌≡◌, length_after, room_after, save_code};
+ghost use Rattle.std.specs.Prelude.{◌≡◌};
+ghost use Rattle.mscp_c.specs.Saving.{length_after, room_after, save_code};
 
 use crate::status::{DONE, SMALL};
 

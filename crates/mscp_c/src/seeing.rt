@@ -1,7 +1,8 @@
 // The calls that change nothing.
 #![tactic(auto, using(crate::proofs::Lent::lent_back))]
 
-ghost use Rattle.mscp_c.specs.Common.{◌≡◌, true, false, pos, length, IfSome, None, is_online_in, of, balance_of, waiting_on, connection_given, AnswersHandle, figure_in, figures_in, figures_told, flag, holders_in, holders_told};
+ghost use Rattle.std.specs.Prelude.{◌≡◌, true, false, pos, length, IfSome, None};
+ghost use Rattle.mscp_c.specs.Common.{is_online_in, of, balance_of, waiting_on, connection_given, AnswersHandle, figure_in, figures_in, figures_told, flag, holders_in, holders_told};
 ghost use Rattle.mscp_memory.specs.ControllerHandles.{is_made};
 ghost use Rattle.mscp_c.specs.HandleCalls as calls;
 

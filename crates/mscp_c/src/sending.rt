@@ -1,6 +1,7 @@
 // Messages in, ends out.
 
-ghost use Rattle.mscp_c.specs.Common.{◌≡◌, true, false, IfSome, None, after_message, after_take, answer_to_message, end_taken, connection_given, AnswersHandle, TakeTold, send_code, sent_told, take_code};
+ghost use Rattle.std.specs.Prelude.{◌≡◌, true, false, IfSome, None};
+ghost use Rattle.mscp_c.specs.Common.{after_message, after_take, answer_to_message, end_taken, connection_given, AnswersHandle, TakeTold, send_code, sent_told, take_code};
 ghost use Rattle.mscp_memory.specs.ControllerHandles.{is_made, with_held};
 ghost use Rattle.mscp_c.specs.HandleCalls as calls;
 

@@ -1,6 +1,7 @@
 // The drive's work: what comes next, and how it went.
 
-ghost use Rattle.mscp_c.specs.Common.{◌≡◌, true, false, IfSome, None, connection_given, AnswersHandle, block_told, TellsBegin, TellsFinish, TellsStep};
+ghost use Rattle.std.specs.Prelude.{◌≡◌, true, false, IfSome, None};
+ghost use Rattle.mscp_c.specs.Common.{connection_given, AnswersHandle, block_told, TellsBegin, TellsFinish, TellsStep};
 ghost use Rattle.mscp_memory.specs.ControllerHandles.{is_made};
 ghost use Rattle.mscp_c.specs.HandleCalls as calls;
 

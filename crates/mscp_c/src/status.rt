@@ -1,6 +1,7 @@
 // What the calls answer: 0 and up what came of a call, below 0 why it was refused.
 
-ghost use Rattle.mscp_c.specs.Common.{◌≡◌, ◌≢◌, host_code, host_restore_code, limits_code, port_restore_code, restore_code, room_code, send_fault_code, unit_code, units_code, init_code, cause_code, show_code, port_init_code, told_code, volume_code};
+ghost use Rattle.std.specs.Prelude.{◌≡◌, ◌≢◌};
+ghost use Rattle.mscp_c.specs.Common.{host_code, host_restore_code, limits_code, port_restore_code, restore_code, room_code, send_fault_code, unit_code, units_code, init_code, cause_code, show_code, port_init_code, told_code, volume_code};
 
 use crate::port_given::PortInitFault;
 use crate::units::InitFault;

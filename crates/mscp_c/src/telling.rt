@@ -1,6 +1,7 @@
 // How what a call answers is told.
 
-ghost use Rattle.mscp_c.specs.Common.{◌≡◌, PacketTold, begin_code, block_told, bytes_of, connection_told, flag, figures_told, holders_told, report_code, report_told, send_code, sent_told, upcoming_told};
+ghost use Rattle.std.specs.Prelude.{◌≡◌};
+ghost use Rattle.mscp_c.specs.Told.{PacketTold, begin_code, block_told, bytes_of, connection_told, flag, figures_told, holders_told, report_code, report_told, send_code, sent_told, upcoming_told};
 
 use crate::outs::{FigureOut, HolderOut, PacketOut, ReportOut, SentOut, UpcomingOut};
 use crate::status::{ANSWERED, DONE, NOTHING, QUEUED, send_fault_code};

@@ -1,6 +1,7 @@
 // What a program in C gives for a controller.
 
-ghost use Rattle.mscp_c.specs.Common.{◌≡◌, UnitAnswers, connection_given, policy_given, units_answer};
+ghost use Rattle.std.specs.Prelude.{◌≡◌};
+ghost use Rattle.mscp_c.specs.Given.{UnitAnswers, connection_given, policy_given, units_answer};
 
 use arrayvec::ArrayVec;
 use mscp_controller::{ConfigFault, Connection};

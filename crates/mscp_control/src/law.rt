@@ -1,6 +1,6 @@
 // The bound of every command's wait is the least.
 
-ghost use Rattle.mscp_control.specs.Common.{TheBoundIsTheLeast};
+ghost use Rattle.mscp_control.specs.Longest.{TheBoundIsTheLeast};
 
 /// The bound is the least. For each valid configuration where two or more commands may wait, and for each of its units
 /// that has the blocks of the longest transfer, there is a legal trace in which a command of that unit waits as long as

@@ -1,6 +1,7 @@
 // A run in which a command waits as long as the bound, written out.
 
-ghost use Rattle.mscp_control.specs.Common.{◌≡◌, ◌+◌, ◌-◌, ◌*◌, ◌^◌, ◌<◌, ◌≤◌, ◌∷◌, ◌++◌, [], is_some, vec_capacity, vec_len, IfOk, IfSome, command_bytes, bound, room, IsLegal, WaitsTheBound, is_shown, block_before, come_on, handing, long_read, online_command, online_end, opened, pass_on, queueing, read_report, rest_on, runs_on, short_read, steps_on, worst_of};
+ghost use Rattle.std.specs.Prelude.{◌≡◌, ◌+◌, ◌-◌, ◌*◌, ◌^◌, ◌<◌, ◌≤◌, ◌∷◌, ◌++◌, [], is_some, vec_capacity, vec_len, IfOk, IfSome};
+ghost use Rattle.mscp_control.specs.Common.{command_bytes, bound, room, IsLegal, WaitsTheBound, is_shown, block_before, come_on, handing, long_read, online_command, online_end, opened, pass_on, queueing, read_report, rest_on, runs_on, short_read, steps_on, worst_of};
 
 use arrayvec::ArrayVec;
 use mscp_controller::{Entry, Sent};
@@ -26,7 +27,7 @@ struct Transfer {
 }
 
 impl Transfer {
-    ghost use Rattle.mscp_control.specs.Common.{read_command, read_end};
+    ghost use Rattle.mscp_control.specs.Worst.{read_command, read_end};
 
     /// The command, to this unit.
     fn command(self, unit: &Unit) -> Command

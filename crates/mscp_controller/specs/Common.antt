@@ -10,7 +10,6 @@ pub use Rattle.mscp_controller.specs.Outcomes.{controller_body, refused_end, uni
 pub use Rattle.mscp_controller.specs.Replacing.{PromiseIsKeptInTurn}
 pub use Rattle.mscp_controller.specs.Restored.{IsSound, made_of}
 pub use Rattle.mscp_controller.specs.Runs.{RunsKeepThePromise}
-pub use Rattle.mscp_controller.specs.Sizes.{size_fault}
 pub use Rattle.mscp_controller.specs.Sweeping.{IsSweeping, Sweeps}
 pub use Rattle.mscp_drive.specs.Extent.{weighed, weight}
 pub use Rattle.mscp_events.specs.Both.{of}
@@ -29,4 +28,3 @@ pub use Rattle.mscp_queue.specs.Records.{IsServing, has_name, record_at}
 pub use Rattle.mscp_queue.specs.Views.{is_open_at}
 pub use Rattle.mscp_queue.specs.Why.{holders_of_name, is_nobody}
 pub use Rattle.std.specs.List.{list_any, position}
-pub use Rattle.std.specs.Prelude.{All, IfErr, IfNone, IfOk, IfSome, None, Some, [], false, length, nat_eq, slice_get, true, vec_capacity, zip, ◌+◌, ◌<◌, ◌^◌, ◌≡◌, ◌≤◌}

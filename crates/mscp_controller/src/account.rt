@@ -1,6 +1,7 @@
 // The accounts of the connections' hosts: how many commands of each wait, and which of its ends it didn't take.
 
-ghost use Rattle.mscp_controller.specs.Common.{◌≡◌, ◌+◌, ◌<◌, ◌≤◌, length, nat_eq, slice_get, list_any, account, come, ended, left, put_account, taken};
+ghost use Rattle.std.specs.Prelude.{◌≡◌, ◌+◌, ◌<◌, ◌≤◌, length, nat_eq, slice_get};
+ghost use Rattle.mscp_controller.specs.Common.{list_any, account, come, ended, left, put_account, taken};
 ghost use Rattle.mscp_controller.specs.Accounts.{fresh};
 
 mod restoring;

@@ -1,6 +1,7 @@
 // The ends of commands that are answered when they come.
 
-ghost use Rattle.mscp_controller.specs.Common.{◌≡◌, success, end_with, controller_body, refused_end, unit_body, unit_status};
+ghost use Rattle.std.specs.Prelude.{◌≡◌};
+ghost use Rattle.mscp_controller.specs.Common.{success, end_with, controller_body, refused_end, unit_body, unit_status};
 
 use mscp_drive::Unit;
 use mscp_events::Config;

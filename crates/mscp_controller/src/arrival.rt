@@ -1,6 +1,7 @@
 // How a message is judged when it comes.
 
-ghost use Rattle.mscp_controller.specs.Common.{◌≡◌, ◌+◌, ◌≤◌, ◌^◌, IfOk, class, is_immediate_class, judged, move_fault, unit_fault, version_fault, first_block, unit_found, weighed, weight};
+ghost use Rattle.std.specs.Prelude.{◌≡◌, ◌+◌, ◌≤◌, ◌^◌, IfOk};
+ghost use Rattle.mscp_controller.specs.Common.{class, is_immediate_class, judged, move_fault, unit_fault, version_fault, first_block, unit_found, weighed, weight};
 
 use mscp_events::Config;
 use mscp_packet::status::{INVALID_VERSION, UNIT_OFFLINE};

@@ -1,6 +1,7 @@
 // A controller: its queue, and the account of each connection's host.
 
-ghost use Rattle.mscp_controller.specs.Common.{◌≡◌, ◌+◌, ◌≤◌, ◌^◌, true, false, slice_get, IfErr, IfSome, None, Some, IsEnd, IsOfKind, first_block, order_weight, name_on, IsCoded, credit_fault, fault_of, holds, is_queued, CanEnd, reported, of, IsValid, Answers, Finishes, Foretells, IsBalanced, Steps, aborting, after_message, after_take, answer_to_message, answered_end, arrives, balance_of, begun_step, end_taken, with_end, outstanding_of, queued, reference_aborted, taken_as};
+ghost use Rattle.std.specs.Prelude.{◌≡◌, ◌+◌, ◌≤◌, ◌^◌, true, false, slice_get, IfErr, IfSome, None, Some};
+ghost use Rattle.mscp_controller.specs.Common.{IsEnd, IsOfKind, first_block, order_weight, name_on, IsCoded, credit_fault, fault_of, holds, is_queued, CanEnd, reported, of, IsValid, Answers, Finishes, Foretells, IsBalanced, Steps, aborting, after_message, after_take, answer_to_message, answered_end, arrives, balance_of, begun_step, end_taken, with_end, outstanding_of, queued, reference_aborted, taken_as};
 ghost use Rattle.mscp_controller.specs.Holdings.{fresh};
 
 mod restoring;

@@ -21,7 +21,8 @@ pub enum SendFault {
 }
 
 impl From<PacketFault> for SendFault {
-    ghost use Rattle.mscp_controller.specs.Common.{◌≡◌, size_fault};
+    ghost use Rattle.std.specs.Prelude.{◌≡◌};
+    ghost use Rattle.mscp_controller.specs.Sizes.{size_fault};
 
     ghost from_gives = { λ fault refusal. refusal ≡ size_fault fault };
 

@@ -1,6 +1,7 @@
 // A whole run.
 
-ghost use Rattle.mscp_controller.specs.Common.{◌≡◌, ◌≤◌, [], length, vec_capacity, zip, IfOk, Answered, Headline, IsPicked, IsSweeping, Sweeps, IsValid};
+ghost use Rattle.std.specs.Prelude.{◌≡◌, ◌≤◌, [], length, vec_capacity, zip, IfOk};
+ghost use Rattle.mscp_controller.specs.Common.{Answered, Headline, IsPicked, IsSweeping, Sweeps, IsValid};
 
 use crate::controller::Controller;
 use crate::entry::Entry;

@@ -5,4 +5,4 @@ pub use Rattle.mscp_drive.specs.Reciprocals.{reciprocal_of}
 pub use Rattle.mscp_drive.specs.Shape.{Shape, cylinder_blocks, cylinder_of, last_cylinder, shape}
 pub use Rattle.mscp_drive.specs.UnitList.{IsUnitList, NumbersRise, unit_found}
 pub use Rattle.std.specs.Option.{option_copied}
-pub use Rattle.std.specs.Prelude.{IfOk, IsTrue, List, [], length, true, ℕ, ◌*◌, ◌+◌, ◌-◌, ◌/◌, ◌<◌, ◌^◌, ◌↔◌, ◌≡◌, ◌≢◌, ◌≤◌}
+pub use Rattle.std.specs.Prelude.{List}

@@ -1,6 +1,7 @@
 // The head of a unit: where it is, which way it goes, and what the way to a cylinder costs.
 
-ghost use Rattle.mscp_drive.specs.Common.{◌≡◌, ◌≤◌, true, last_cylinder, carried, distance, moved, sweep_cost};
+ghost use Rattle.std.specs.Prelude.{◌≡◌, ◌≤◌, true};
+ghost use Rattle.mscp_drive.specs.Common.{last_cylinder, carried, distance, moved, sweep_cost};
 
 use crate::unit::Unit;
 

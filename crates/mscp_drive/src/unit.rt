@@ -1,6 +1,7 @@
 // A unit: its sizes, the cylinder of a block, and whether it has the blocks of a transfer.
 
-ghost use Rattle.mscp_drive.specs.Common.{◌≡◌, ℕ, ◌≢◌, ◌↔◌, ◌+◌, ◌*◌, ◌/◌, ◌^◌, ◌<◌, ◌≤◌, IfOk, reciprocal_of, cylinder_of, last_cylinder, shape, blocks, range_fault, weighed, weight};
+ghost use Rattle.std.specs.Prelude.{◌≡◌, ◌≢◌, ◌↔◌, ◌+◌, ◌*◌, ◌/◌, ◌^◌, ◌<◌, ◌≤◌, ℕ, IfOk};
+ghost use Rattle.mscp_drive.specs.Common.{reciprocal_of, cylinder_of, last_cylinder, shape, blocks, range_fault, weighed, weight};
 
 use std::marker::Model;
 
@@ -32,7 +33,8 @@ pub struct Unit {
 
 // A clause sees the eight numbers that the unit was made of.
 impl Model for Unit {
-    ghost use Rattle.mscp_drive.specs.Common.{◌≡◌, ◌<◌, ◌-◌, ◌*◌, ◌/◌, reciprocal_of, Shape, cylinder_blocks, last_cylinder, shape};
+    ghost use Rattle.std.specs.Prelude.{◌≡◌, ◌<◌, ◌-◌, ◌*◌, ◌/◌};
+    ghost use Rattle.mscp_drive.specs.Common.{reciprocal_of, Shape, cylinder_blocks, last_cylinder, shape};
 
     ghost Value = { Shape };
 

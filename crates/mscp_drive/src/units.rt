@@ -1,6 +1,7 @@
 // The units of a controller.
 
-ghost use Rattle.mscp_drive.specs.Common.{◌≡◌, ◌↔◌, ◌<◌, ◌≤◌, [], length, IsTrue, IfOk, option_copied, IsUnitList, NumbersRise, unit_found};
+ghost use Rattle.std.specs.Prelude.{◌≡◌, ◌↔◌, ◌<◌, ◌≤◌, [], length, IsTrue, IfOk};
+ghost use Rattle.mscp_drive.specs.Common.{option_copied, IsUnitList, NumbersRise, unit_found};
 
 use crate::unit::Unit;
 use arrayvec::ArrayVec;

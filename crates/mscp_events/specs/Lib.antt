@@ -1,3 +1,2 @@
 pub mod Settings
 pub mod Both
-pub mod Common

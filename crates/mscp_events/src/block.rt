@@ -1,6 +1,6 @@
 // The outcome of one block.
 
-ghost use Rattle.mscp_events.specs.Common.{◌≡◌, ◌↔◌, ◌≤◌, ◌%◌, IsSome, IfSome};
+ghost use Rattle.std.specs.Prelude.{◌≡◌, ◌↔◌, ◌≤◌, ◌%◌, IsSome, IfSome};
 
 use std::marker::Model;
 
@@ -13,7 +13,7 @@ pub struct FaultStatus {
 
 // A clause sees the status as a number.
 impl Model for FaultStatus {
-    ghost use Rattle.mscp_events.specs.Common.{ℕ, ◌%◌, ◌≤◌};
+    ghost use Rattle.std.specs.Prelude.{◌%◌, ◌≤◌, ℕ};
 
     ghost Value = { ℕ };
 

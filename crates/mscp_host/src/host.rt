@@ -1,6 +1,7 @@
 // A host: what it sent and hasn't heard of.
 
-ghost use Rattle.mscp_host.specs.Common.{◌≡◌, ◌↔◌, ◌≤◌, true, false, find, IsOk, IfErr, IfOk, list_any, command_bytes, opcode_byte, answered, balance, end_in, fresh, has_reference, heard, news_with, oldest, or_unreadable, outstanding_with, polls_oldest, received, refusal, submits, submitted};
+ghost use Rattle.std.specs.Prelude.{◌≡◌, ◌↔◌, ◌≤◌, true, false, find, IsOk, IfErr, IfOk};
+ghost use Rattle.mscp_host.specs.Common.{list_any, command_bytes, opcode_byte, answered, balance, end_in, fresh, has_reference, heard, news_with, oldest, or_unreadable, outstanding_with, polls_oldest, received, refusal, submits, submitted};
 ghost use Rattle.mscp_host.specs.Accounts.{is_about_polled as about_polled, is_immediate as immediate};
 
 use crate::news::{HostFault, News, Poll, is_code_of, news_of_figure};

@@ -1,6 +1,6 @@
 // What is true of every host.
 
-ghost use Rattle.mscp_host.specs.Common.{HostsKeepTheirHistory};
+ghost use Rattle.mscp_host.specs.Law.{HostsKeepTheirHistory};
 
 /// What a host keeps, and what it says of each end, follows from the list of its calls and their answers, whoever sent the
 /// bytes that it received. A command is the call in which it was sent, so a number that is used again names another

@@ -1,6 +1,7 @@
 // What a host says of its polls and of the ends that it receives.
 
-ghost use Rattle.mscp_host.specs.Common.{◌≡◌, is_code_of, news_of_figure};
+ghost use Rattle.std.specs.Prelude.{◌≡◌};
+ghost use Rattle.mscp_host.specs.Accounts.{is_code_of, news_of_figure};
 
 use arrayvec::ArrayVec;
 use mscp_packet::End;

@@ -1,6 +1,7 @@
 // The list of the outstanding submissions.
 
-ghost use Rattle.mscp_host.specs.Common.{◌≡◌, ◌≤◌, length, find, option_copied, list_any, position, are_apart, has_reference, last_told, with_told, without, waiting, are_told, is_oldest, is_poll, is_status, oldest_of};
+ghost use Rattle.std.specs.Prelude.{◌≡◌, ◌≤◌, length, find, option_copied};
+ghost use Rattle.mscp_host.specs.Common.{list_any, position, are_apart, has_reference, last_told, with_told, without, waiting, are_told, is_oldest, is_poll, is_status, oldest_of};
 
 use crate::submission::{STATUS, Submission, is_immediate};
 use arrayvec::ArrayVec;

@@ -1,6 +1,7 @@
 // Bytes to a host.
 
-ghost use Rattle.mscp_host.specs.Common.{◌≡◌, ◌*◌, ◌≤◌, length, IfOk, None, parts_in, account_fault, account_in, count_in, is_framed, head_fault, outstanding_in, restored, submission_in, watch_in, saved_bytes};
+ghost use Rattle.std.specs.Prelude.{◌≡◌, ◌*◌, ◌≤◌, length, IfOk, None};
+ghost use Rattle.mscp_host.specs.Common.{parts_in, account_fault, account_in, count_in, is_framed, head_fault, outstanding_in, restored, submission_in, watch_in, saved_bytes};
 ghost use Rattle.mscp_host.specs.Restored.{told_in};
 
 use crate::host::Host;

@@ -1,6 +1,7 @@
 // A host to bytes.
 
-ghost use Rattle.mscp_host.specs.Common.{◌≡◌, ◌+◌, ◌*◌, ◌≤◌, ◌<◌, ◌^◌, ◌++◌, [], flat_map, length, All, IfSome, Ok, array_vec_len, frame_bytes, saved_bytes, submission_bytes, told_bytes, watch_bytes, HasRange, HasSubmissionRange, HasWatchRange, restored};
+ghost use Rattle.std.specs.Prelude.{◌≡◌, ◌+◌, ◌*◌, ◌≤◌, ◌<◌, ◌^◌, ◌++◌, [], flat_map, length, All, IfSome, Ok};
+ghost use Rattle.mscp_host.specs.Common.{array_vec_len, frame_bytes, saved_bytes, submission_bytes, told_bytes, watch_bytes, HasRange, HasSubmissionRange, HasWatchRange, restored};
 
 use crate::host::Host;
 use crate::submission::Submission;

@@ -1,6 +1,7 @@
 // What a host keeps of a command that it sent.
 
-ghost use Rattle.mscp_host.specs.Common.{◌≡◌, is_immediate, submission_of};
+ghost use Rattle.std.specs.Prelude.{◌≡◌};
+ghost use Rattle.mscp_host.specs.Accounts.{is_immediate, submission_of};
 
 use mscp_packet::{Command, class_of};
 
@@ -43,7 +44,7 @@ pub fn is_immediate(opcode: u8) -> bool
 
 /// A submission of nothing, which fills the places of a list that isn't full.
 impl Default for Submission {
-    ghost use Rattle.mscp_host.specs.Common.{None};
+    ghost use Rattle.std.specs.Prelude.{None};
 
     fn default() -> Submission
         ensures { result ≡ record { reference = 0; unit = 0; opcode = 0; told = None } }

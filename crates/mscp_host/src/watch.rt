@@ -1,6 +1,7 @@
 // The poll in flight.
 
-ghost use Rattle.mscp_host.specs.Common.{◌≡◌, answered, is_about_polled, polled_is_outstanding, watch_after, is_about_somebody, is_polled, is_watched, oldest_of};
+ghost use Rattle.std.specs.Prelude.{◌≡◌};
+ghost use Rattle.mscp_host.specs.Common.{answered, is_about_polled, polled_is_outstanding, watch_after, is_about_somebody, is_polled, is_watched, oldest_of};
 ghost use Rattle.mscp_host.specs.Accounts.{told_in};
 
 use crate::outstanding::{find_oldest, has_poll, has_status, is_oldest};

@@ -2,7 +2,7 @@
 pub use Rattle.mscp_controller.specs.History.{Trace}
 pub use Rattle.mscp_controller.specs.Holdings.{fresh}
 pub use Rattle.mscp_events.specs.Settings.{IsValid, Settings, bound}
-pub use Rattle.mscp_judge.specs.Heard.{Gives, Heard, IsHeard, after_answer, after_lines, command_in, end_bytes, first_bytes, heard_log, hears, host_at, host_of, hosts_after_all, is_about, is_reset, items_of, news_line, news_text, sends, sends_message, sends_on, silence, told, with_host}
+pub use Rattle.mscp_judge.specs.Heard.{Gives, Heard, IsHeard, after_answer, after_lines, end_bytes, heard_log, hears, host_at, hosts_after_all, sends_on, silence, told, with_host}
 pub use Rattle.mscp_judge.specs.Judged.{Breaks, Finds, HasLegalTrace, IsAhead, IsLegalVerdict, IsTold, Judges, JudgesLog, Passed, Tells}
 pub use Rattle.mscp_judge.specs.Logs.{AreAnswers, Log, is_answer, nothing, telling}
 pub use Rattle.mscp_judge.specs.Naming.{IsNamed, is_wanted, wanted_name}
@@ -17,5 +17,3 @@ pub use Rattle.mscp_reader.specs.Outcome.{asked_next}
 pub use Rattle.mscp_reader.specs.Requests.{events_of}
 pub use Rattle.mscp_reader.specs.declared.events.TheConstants.{MOST_EVENTS}
 pub use Rattle.std.specs.List.{list_all}
-pub use Rattle.std.specs.Prelude.{IfNone, IfOk, IfSome, None, Ok, OnOk, Option, Some, [], codes, cond, drop, false, filter, length, position, true, ◌++◌, ◌+◌, ◌-◌, ◌<◌, ◌==◌, ◌^◌, ◌∷◌, ◌≡◌, ◌≢◌, ◌≤◌}
-pub use Rattle.std.specs.Str.{bytes_eq}

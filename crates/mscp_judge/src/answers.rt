@@ -1,6 +1,7 @@
 // Which lines of a log are answers.
 
-ghost use Rattle.mscp_judge.specs.Common.{◌≡◌, bytes_eq};
+ghost use Rattle.std.specs.Prelude.{◌≡◌};
+ghost use Rattle.std.specs.Str.{bytes_eq};
 ghost use Rattle.mscp_reader.specs.Lexical as lexical;
 ghost use Rattle.mscp_judge.specs.Logs as logs;
 ghost use Rattle.mscp_judge.specs.Rules as rules;

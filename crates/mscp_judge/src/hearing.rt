@@ -1,6 +1,7 @@
 // What the hosts of a log would have heard, line by line.
 
-ghost use Rattle.mscp_judge.specs.Common.{◌≡◌, ◌≤◌, ◌<◌, ◌+◌, OnOk, Some, length, events_of, MOST_EVENTS, Gives, Heard, IsHeard, after_answer, after_lines, end_bytes, heard_log, hears, host_at, hosts_after_all, sends_on, silence, told, with_host};
+ghost use Rattle.std.specs.Prelude.{◌≡◌, ◌≤◌, ◌<◌, ◌+◌, OnOk, Some, length};
+ghost use Rattle.mscp_judge.specs.Common.{events_of, MOST_EVENTS, Gives, Heard, IsHeard, after_answer, after_lines, end_bytes, heard_log, hears, host_at, hosts_after_all, sends_on, silence, told, with_host};
 ghost use Rattle.mscp_reader.specs.Lexical as lexical;
 ghost use Rattle.mscp_judge.specs.Heard.{Hears, asking};
 

@@ -1,6 +1,7 @@
 // The hosts of a log: what they send, and what they say of an end.
 
-ghost use Rattle.mscp_judge.specs.Common.{◌≡◌, ◌++◌, OnOk, command_in, hears, host_of, is_about, is_reset, news_line, news_text, sends, sends_message};
+ghost use Rattle.std.specs.Prelude.{◌≡◌, ◌++◌, OnOk};
+ghost use Rattle.mscp_judge.specs.Heard.{command_in, hears, host_of, is_about, is_reset, news_line, news_text, sends, sends_message};
 
 use mscp_controller::Connection;
 use mscp_host::{Host, HostFault, News, Poll, Submission};

@@ -1,6 +1,7 @@
 // A log, judged line by line.
 
-ghost use Rattle.mscp_judge.specs.Common.{◌≡◌, ◌+◌, ◌<◌, ◌≤◌, ◌++◌, [], codes, true, false, IfOk, IfSome, IfNone, OnOk, Ok, Some, drop, length, IsValid, Settings, asked_next, events_of, MOST_EVENTS, Breaks, Finds, Judges, Passed, AreAnswers, Log, nothing, IsNamedAhead, Stands, due};
+ghost use Rattle.std.specs.Prelude.{◌≡◌, ◌+◌, ◌<◌, ◌≤◌, ◌++◌, [], codes, true, false, IfOk, IfSome, IfNone, OnOk, Ok, Some, drop, length};
+ghost use Rattle.mscp_judge.specs.Common.{IsValid, Settings, asked_next, events_of, MOST_EVENTS, Breaks, Finds, Judges, Passed, AreAnswers, Log, nothing, IsNamedAhead, Stands, due};
 ghost use Rattle.mscp_reader.specs.Lexical as lexical;
 ghost use Rattle.mscp_judge.specs.Judged.{Hears};
 

@@ -1,6 +1,7 @@
 // A whole log: its header, and the lines behind it.
 
-ghost use Rattle.mscp_judge.specs.Common.{◌≡◌, Ok, Totals, HasLegalTrace, IsLegalVerdict, JudgesLog};
+ghost use Rattle.std.specs.Prelude.{◌≡◌, Ok};
+ghost use Rattle.mscp_judge.specs.Common.{Totals, HasLegalTrace, IsLegalVerdict, JudgesLog};
 
 use crate::judging::{Verdict, judge_lines};
 use mscp_reader::{ReadFault, lines_of, read_header};

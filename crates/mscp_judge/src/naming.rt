@@ -1,6 +1,7 @@
 // The command that a line says was served, and the picker that starts it.
 
-ghost use Rattle.mscp_judge.specs.Common.{◌≡◌, ◌==◌, ◌<◌, ◌^◌, ◌++◌, codes, position, IfSome, IsNamed, is_wanted, IsNamedAhead};
+ghost use Rattle.std.specs.Prelude.{◌≡◌, ◌==◌, ◌<◌, ◌^◌, ◌++◌, codes, position, IfSome};
+ghost use Rattle.mscp_judge.specs.Common.{IsNamed, is_wanted, IsNamedAhead};
 ghost use Rattle.mscp_reader.specs.Lexical as lexical;
 ghost use Rattle.mscp_judge.specs.Naming as naming;
 

@@ -1,6 +1,7 @@
 // The rule that a line breaks.
 
-ghost use Rattle.mscp_judge.specs.Common.{◌≡◌, ◌≤◌, IsValid, Settings, Trace, fresh, wanted_name, IsStepRule, Led, Wanted};
+ghost use Rattle.std.specs.Prelude.{◌≡◌, ◌≤◌};
+ghost use Rattle.mscp_judge.specs.Common.{IsValid, Settings, Trace, fresh, wanted_name, IsStepRule, Led, Wanted};
 ghost use Rattle.mscp_judge.specs.Rules as rules;
 
 use crate::naming::{Named, Wanted};

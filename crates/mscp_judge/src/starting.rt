@@ -1,6 +1,7 @@
 // The commands that may start.
 
-ghost use Rattle.mscp_judge.specs.Common.{◌≡◌, ◌<◌, ◌++◌, ◌∷◌, [], cond, filter, length, IsValid, Settings, Trace, fresh, Wanted, Led, starts_in};
+ghost use Rattle.std.specs.Prelude.{◌≡◌, ◌<◌, ◌++◌, ◌∷◌, [], cond, filter, length};
+ghost use Rattle.mscp_judge.specs.Common.{IsValid, Settings, Trace, fresh, Wanted, Led, starts_in};
 ghost use Rattle.mscp_judge.specs.Starts as starts;
 
 use crate::naming::{Named, Wanted};

@@ -1,6 +1,7 @@
 // Which lines of a log tell an end, and its bytes.
 
-ghost use Rattle.mscp_judge.specs.Common.{◌≡◌, end_bytes, first_bytes, items_of};
+ghost use Rattle.std.specs.Prelude.{◌≡◌};
+ghost use Rattle.mscp_judge.specs.Heard.{end_bytes, first_bytes, items_of};
 ghost use Rattle.mscp_reader.specs.Lexical as lexical;
 
 use crate::answers::is;

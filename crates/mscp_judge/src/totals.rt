@@ -1,6 +1,7 @@
 // The totals of a log.
 
-ghost use Rattle.mscp_judge.specs.Common.{◌≡◌, bound, IsLarger, figure_queued};
+ghost use Rattle.std.specs.Prelude.{◌≡◌};
+ghost use Rattle.mscp_judge.specs.Common.{bound, IsLarger, figure_queued};
 ghost use Rattle.mscp_controller.specs.declared.entry.Entry.TheVariants as entries;
 
 use crate::naming::Wanted;

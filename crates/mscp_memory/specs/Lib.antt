@@ -3,4 +3,3 @@ pub mod HostHandles
 pub mod Policies
 pub mod PortHandles
 pub mod Rooms
-pub mod Common

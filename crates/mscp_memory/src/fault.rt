@@ -1,6 +1,7 @@
 // Why memory is no room.
 
-ghost use Rattle.mscp_memory.specs.Common.{◌≡◌, ◌≢◌, kind_fault};
+ghost use Rattle.std.specs.Prelude.{◌≡◌, ◌≢◌};
+ghost use Rattle.mscp_memory.specs.Rooms.{kind_fault};
 
 /// Why a handle has no room: the first that holds, in this order.
 #[derive(Clone, Copy, Debug, PartialEq, Eq)]

@@ -1,6 +1,6 @@
 // What the marks of handles are.
 
-ghost use Rattle.mscp_memory.specs.Common.{◌≢◌};
+ghost use Rattle.std.specs.Prelude.{◌≢◌};
 ghost use Rattle.mscp_memory.specs.declared.controller.marks.TheConstants as controllers;
 ghost use Rattle.mscp_memory.specs.declared.host.marks.TheConstants as hosts;
 ghost use Rattle.mscp_memory.specs.declared.port.marks.TheConstants as ports;

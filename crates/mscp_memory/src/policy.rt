@@ -12,7 +12,7 @@ pub enum Policy {
 }
 
 impl Picker for Policy {
-    ghost use Rattle.mscp_memory.specs.Common.{PolicyPicks};
+    ghost use Rattle.mscp_memory.specs.Policies.{PolicyPicks};
 
     ghost picks = { λ policy view place. PolicyPicks policy view place };
 

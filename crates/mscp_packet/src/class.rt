@@ -1,6 +1,7 @@
 // The opcodes. All that is told of one stands in one line of a table, and everything else asks the table.
 
-ghost use Rattle.mscp_packet.specs.Common.{◌≡◌, class, is_immediate_class, row_of, opcode_of};
+ghost use Rattle.std.specs.Prelude.{◌≡◌};
+ghost use Rattle.mscp_packet.specs.Opcodes.{class, is_immediate_class, row_of, opcode_of};
 
 use crate::command::MoveKind;
 use crate::end::BodyKind;

@@ -1,6 +1,6 @@
 // Commands as values.
 
-ghost use Rattle.mscp_packet.specs.Common.{◌≡◌};
+ghost use Rattle.std.specs.Prelude.{◌≡◌};
 
 use crate::class::{Class, Opcode};
 
@@ -82,7 +82,7 @@ pub struct Command {
 }
 
 impl Command {
-    ghost use Rattle.mscp_packet.specs.Common.{opcode_byte};
+    ghost use Rattle.mscp_packet.specs.Commands.{opcode_byte};
 
     /// The opcode byte that the command is written with.
     pub fn opcode(&self) -> u8
@@ -96,7 +96,7 @@ impl Command {
 }
 
 impl MoveKind {
-    ghost use Rattle.mscp_packet.specs.Common.{move_byte};
+    ghost use Rattle.mscp_packet.specs.Opcodes.{move_byte};
 
     /// The opcode byte of the transfer.
     pub fn opcode(self) -> u8

@@ -1,6 +1,7 @@
 // Messages that are written as hexadecimal digits.
 
-ghost use Rattle.mscp_packet.specs.Common.{◌≡◌, ◌/◌, ◌≤◌, length, IfOk, decode_of, Gives};
+ghost use Rattle.std.specs.Prelude.{◌≡◌, ◌/◌, ◌≤◌, length, IfOk};
+ghost use Rattle.mscp_packet.specs.Common.{decode_of, Gives};
 
 use arrayvec::ArrayVec;
 use hex::{FromHexError, decode_to_slice};

@@ -1,6 +1,7 @@
 // Ends as values.
 
-ghost use Rattle.mscp_packet.specs.Common.{◌≡◌, kind_of_code};
+ghost use Rattle.std.specs.Prelude.{◌≡◌};
+ghost use Rattle.mscp_packet.specs.Ends.{kind_of_code};
 
 use crate::class::opcode_of;
 
@@ -82,7 +83,7 @@ pub(crate) fn kind_of(code: u8) -> Option<BodyKind>
 }
 
 impl EndBody {
-    ghost use Rattle.mscp_packet.specs.Common.{refused_body};
+    ghost use Rattle.mscp_packet.specs.Ends.{refused_body};
 
     /// The body of the end of a refused command with this endcode: of the endcode's shape, every field
     /// 0 (profile). `Bare` where the byte is no endcode.

@@ -1,6 +1,7 @@
 //! Numbers in bytes at their places, and bytes that grow at their end. All numbers are little-endian.
 
-ghost use Rattle.mscp_packet.specs.Common.{◌≡◌, ◌+◌, ◌≤◌, ◌++◌, length, little_bytes, array_vec_len, num};
+ghost use Rattle.std.specs.Prelude.{◌≡◌, ◌+◌, ◌≤◌, ◌++◌, length};
+ghost use Rattle.mscp_packet.specs.Common.{little_bytes, array_vec_len, num};
 
 use arrayvec::ArrayVec;
 use byteorder::{ByteOrder, LittleEndian};

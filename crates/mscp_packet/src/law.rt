@@ -1,6 +1,7 @@
 // What the codec promises of both directions at once, and what the layouts promise of themselves.
 
-ghost use Rattle.mscp_packet.specs.Common.{◌≡◌, command_bytes, command_of, CommandBytesAreMessages, IsValidOrder, end_bytes, kind_of_code, reading_with, EndBytesAreMessages, IsOfKind, aborted, already_online, invalid_length, invalid_opcode, invalid_version, success, unit_available, unit_offline, IsSound};
+ghost use Rattle.std.specs.Prelude.{◌≡◌};
+ghost use Rattle.mscp_packet.specs.Common.{command_bytes, command_of, CommandBytesAreMessages, IsValidOrder, end_bytes, kind_of_code, reading_with, EndBytesAreMessages, IsOfKind, aborted, already_online, invalid_length, invalid_opcode, invalid_version, success, unit_available, unit_offline, IsSound};
 
 use crate::command::Command;
 use crate::end::End;

@@ -1,6 +1,7 @@
 // Bytes to commands and ends.
 
-ghost use Rattle.mscp_packet.specs.Common.{◌≡◌, ◌↔◌, ◌≤◌, ◌<◌, ◌⊎◌, length, IfOk, slice_index, least, opcode_of, order_with, parameters, IsCommand, opcode_byte, body_at, end_length, kind_of_code, IsEnd, IsUnder};
+ghost use Rattle.std.specs.Prelude.{◌≡◌, ◌↔◌, ◌≤◌, ◌<◌, ◌⊎◌, length, IfOk, slice_index};
+ghost use Rattle.mscp_packet.specs.Common.{least, opcode_of, order_with, parameters, IsCommand, opcode_byte, body_at, end_length, kind_of_code, IsEnd, IsUnder};
 
 use crate::class::{Opcode, opcode_of};
 use crate::command::{Command, Order};

@@ -1,6 +1,7 @@
 // Commands and ends to bytes. What is written and not named is zero (profile).
 
-ghost use Rattle.mscp_packet.specs.Common.{◌≡◌, ◌+◌, ◌≤◌, ◌++◌, array_vec_len, command_bytes, command_fields, parameter_bytes, written, HasCommandRange, HasRange, IsCommand, IsValidOrder, body_bytes, end_bytes, end_fields, end_length, kind_of_body, unit_bytes, HasBodyRange, HasEndRange, IsEnd, IsOfKind, IsZeroBeside};
+ghost use Rattle.std.specs.Prelude.{◌≡◌, ◌+◌, ◌≤◌, ◌++◌};
+ghost use Rattle.mscp_packet.specs.Common.{array_vec_len, command_bytes, command_fields, parameter_bytes, written, HasCommandRange, HasRange, IsCommand, IsValidOrder, body_bytes, end_bytes, end_fields, end_length, kind_of_body, unit_bytes, HasBodyRange, HasEndRange, IsEnd, IsOfKind, IsZeroBeside};
 
 use crate::command::{Command, Order};
 use crate::end::{End, EndBody};

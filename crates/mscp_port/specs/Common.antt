@@ -1,17 +1,17 @@
 -- What the code of this crate takes from specifications.
 pub use Rattle.arrayvec.specs.ArrayVec.{array_vec_len}
 pub use Rattle.byteorder.specs.Endian.{little_bytes}
-pub use Rattle.mscp_controller.specs.Holdings.{Foretells, after_message, after_take, answer_to_message, balance_of, begun_step}
+pub use Rattle.mscp_controller.specs.Holdings.{Foretells, after_message, after_take, balance_of, begun_step}
 pub use Rattle.mscp_controller.specs.Restored.{IsSound}
 pub use Rattle.mscp_drive.specs.UnitList.{unit_found}
 pub use Rattle.mscp_events.specs.declared.connection.Connection.TheVariants.{First}
 pub use Rattle.mscp_packet.specs.Number.{num}
 pub use Rattle.mscp_port.specs.Acted.{Clears, GivesBack, WritesOut, counted, step_task, vector_in}
-pub use Rattle.mscp_port.specs.Areas.{AreRings, IsInArea, end_of, rings_named, rings_of, slot_in, slots, slots_of, start_of, word_of}
+pub use Rattle.mscp_port.specs.Areas.{AreRings, IsInArea, end_of, rings_named, slot_in, slots_of}
 pub use Rattle.mscp_port.specs.Blocks.{first_of, is_mounted, kept_of, move_of, refusal_of, task_of}
 pub use Rattle.mscp_port.specs.Buffers.{IsInBuffer, is_of, kept_beside, part_of, without, without_aborted}
 pub use Rattle.mscp_port.specs.Calls.{Changes, ChangesByReading, ChangesBySaying, ChangesByService, ChangesByWord, Dies, Goes, Hears, IsMadeOf, IsQuiet, LooksAgain, ReadsIp, TakesStep, Ticks, Wants, WritesIp, WritesSa, sa_of}
-pub use Rattle.mscp_port.specs.Codes.{IsTask, bad_byte, bad_status, block_in, block_task_in, bus_byte, bus_in, clear_task, coded_task, early_task_in, has_size, nothing, number_or_none, optional, ring_task_in, side_byte, side_in, stage_byte, stage_in, stage_word, task_in, text_task}
+pub use Rattle.mscp_port.specs.Codes.{number_or_none, optional, stage_in, stage_word}
 pub use Rattle.mscp_port.specs.Departures.{PortsFillTheirSlots, PortsSpeakInOrder, PortsTellTheirCredits}
 pub use Rattle.mscp_port.specs.Histories.{PortsHaveCredit, PortsTouchWhatIsNamed}
 pub use Rattle.mscp_port.specs.Kept.{PortsKeepWhatWasSaid}
@@ -24,12 +24,10 @@ pub use Rattle.mscp_port.specs.Outgoings.{AnswersItself, IsNews, KeepsSaying, Ma
 pub use Rattle.mscp_port.specs.Packets.{credits_told, packet_of}
 pub use Rattle.mscp_port.specs.Places.{PortsTouchWhatWasPut}
 pub use Rattle.mscp_port.specs.Ports.{HasNothingToHear, HasNothingToSay, IsAlive, IsAsNew, IsDue, IsIdleUp, IsInSomeBuffer, IsMoving, IsOfBlock, IsOutcomeOf, IsWithin, in_hand, seconds}
-pub use Rattle.mscp_port.specs.Registers.{first_step, last_step}
 pub use Rattle.mscp_port.specs.Restored.{IsFramed, IsSaved, area_in, buffers_in, coded_in, controller_in, controller_place, frame_fault, front_in, hardware_in, held_in, is_framed, outgoing_in, port_in, restored, rings_if, text_in, told_front, unless, volume_in, volumes_in, words_in}
 pub use Rattle.mscp_port.specs.Saved.{HasBufferRange, HasCodedRange, HasHandRange, HasStateRange, HasVolumeRange, area_bytes, buffer_bytes, coded_bytes, counts_bytes, frame_bytes, hand_bytes, hardware_bytes, mounted_bytes, outgoing_byte, outgoing_text, rings_bytes, saved_bytes, stage_bytes, state_bytes, told_byte, volume_bytes, words_bytes, written_bytes}
 pub use Rattle.mscp_port.specs.Seen.{SeesHeader, SeesText, answered_to, changes_at, heeded, neighbour_seen, settings_heeded, slot_seen}
-pub use Rattle.mscp_port.specs.Sizes.{clear_size, text_size}
-pub use Rattle.mscp_port.specs.Slots.{given_back, is_flagged, is_owned, text_of}
+pub use Rattle.mscp_port.specs.Slots.{given_back, is_owned, text_of}
 pub use Rattle.mscp_port.specs.Volumes.{IsOnVolume, MayMove, place_in, volume_at, volume_changed, volume_heeded, volume_reset}
 pub use Rattle.mscp_port.specs.Wanted.{IsWanted, Writes, clear_from, given_in, vector_of}
 pub use Rattle.mscp_port.specs.declared.rings.Side.{Side}
@@ -40,5 +38,4 @@ pub use Rattle.mscp_saved.specs.Read.{parts_in}
 pub use Rattle.mscp_saved.specs.Saved.{flag_byte}
 pub use Rattle.std.specs.List.{position}
 pub use Rattle.std.specs.Option.{option_copied}
-pub use Rattle.std.specs.Prelude.{All, Bool, Contains, EachIndex, Err, IfErr, IfNone, IfOk, IfSome, IsOk, IsSome, IsTrue, MatchOption, None, Ok, Option, Some, [], drop, false, find, flat_map, if◌then◌else◌, length, min, nat_eq, nat_le, replicate, slice_index, take, true, ℕ, ◌%◌, ◌*◌, ◌++◌, ◌+◌, ◌-◌, ◌<◌, ◌==◌, ◌^◌, ◌↔◌, ◌∷◌, ◌≡◌, ◌≢◌, ◌≤◌, ◌⊎◌}
 pub use Rattle.std.specs.Str.{bytes_eq}

@@ -1,6 +1,7 @@
 // What is kept of the commands that wait: where their data are in host memory.
 
-ghost use Rattle.mscp_port.specs.Common.{◌≡◌, ◌<◌, ◌⊎◌, true, Contains, IfSome, position, kept_of, IsInBuffer, is_of, kept_beside, part_of, without, without_aborted};
+ghost use Rattle.std.specs.Prelude.{◌≡◌, ◌<◌, ◌⊎◌, true, Contains, IfSome};
+ghost use Rattle.mscp_port.specs.Common.{position, kept_of, IsInBuffer, is_of, kept_beside, part_of, without, without_aborted};
 ghost use Rattle.mscp_port.specs.declared.buffers.Buffer.{Buffer as Kept};
 ghost use Rattle.mscp_port.specs.Buffers.{buffer_in, four_or_zero as four_of, two_or_zero as two_of};
 

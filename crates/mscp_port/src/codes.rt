@@ -1,6 +1,7 @@
 // What has no number of its own, as numbers, and what numbers stand for.
 
-ghost use Rattle.mscp_port.specs.Common.{◌≡◌, IsTask, bad_byte, bad_status, block_in, block_task_in, bus_byte, bus_in, clear_task, coded_task, early_task_in, has_size, nothing, ring_task_in, side_byte, side_in, stage_byte, stage_in, stage_word, task_in, text_task};
+ghost use Rattle.std.specs.Prelude.{◌≡◌};
+ghost use Rattle.mscp_port.specs.Codes.{IsTask, bad_byte, bad_status, block_in, block_task_in, bus_byte, bus_in, clear_task, coded_task, early_task_in, has_size, nothing, ring_task_in, side_byte, side_in, stage_byte, stage_in, stage_word, task_in, text_task};
 ghost use Rattle.mscp_port.specs.declared.task.Task.TheVariants as tasks;
 
 use crate::hardware::Bus;

@@ -1,6 +1,6 @@
 // What goes out to the host: ends, with the fields that are the port's to tell, and attention messages.
 
-ghost use Rattle.mscp_port.specs.Common.{◌≡◌, ◌≤◌, Some};
+ghost use Rattle.std.specs.Prelude.{◌≡◌, ◌≤◌, Some};
 ghost use Rattle.mscp_port.specs.Leaving as leaving;
 
 use crate::hardware::Hardware;

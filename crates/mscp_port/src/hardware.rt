@@ -1,6 +1,7 @@
 // What kind of port it is.
 
-ghost use Rattle.mscp_port.specs.Common.{◌≡◌, first_step, last_step};
+ghost use Rattle.std.specs.Prelude.{◌≡◌};
+ghost use Rattle.mscp_port.specs.Registers.{first_step, last_step};
 
 /// The bus of the host.
 #[derive(Clone, Copy, Debug, PartialEq, Eq)]

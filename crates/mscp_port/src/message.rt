@@ -1,6 +1,7 @@
 // What a host's message asks for, as the port sees it.
 
-ghost use Rattle.mscp_port.specs.Common.{◌≡◌, ◌≤◌, find, length, nat_le, option_copied, bare_end, handed, next_unit};
+ghost use Rattle.std.specs.Prelude.{◌≡◌, ◌≤◌, find, length, nat_le};
+ghost use Rattle.mscp_port.specs.Common.{option_copied, bare_end, handed, next_unit};
 ghost use Rattle.mscp_port.specs.Messages.{own_end as end_of_own};
 
 use arrayvec::ArrayVec;

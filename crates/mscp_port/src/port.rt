@@ -1,6 +1,7 @@
 // A port: its registers, and what it knows.
 
-ghost use Rattle.mscp_port.specs.Common.{ChangesByWord, ◌≡◌, ◌≢◌, ◌⊎◌, ◌↔◌, ◌≤◌, ◌<◌, ◌%◌, ◌==◌, ℕ, true, Contains, IfErr, IfOk, IfSome, IsOk, None, First, balance_of, step_task, rings_named, Dies, IsMadeOf, ReadsIp, TakesStep, WritesIp, WritesSa, sa_of, IsAsNew, in_hand, place_in, vector_of};
+ghost use Rattle.std.specs.Prelude.{◌≡◌, ◌≢◌, ◌⊎◌, ◌↔◌, ◌≤◌, ◌<◌, ◌%◌, ◌==◌, ℕ, true, Contains, IfErr, IfOk, IfSome, IsOk, None};
+ghost use Rattle.mscp_port.specs.Common.{ChangesByWord, First, balance_of, step_task, rings_named, Dies, IsMadeOf, ReadsIp, TakesStep, WritesIp, WritesSa, sa_of, IsAsNew, in_hand, place_in, vector_of};
 ghost use Rattle.mscp_port.specs.declared.stage.Stage.TheVariants as stages;
 ghost use Rattle.mscp_port.specs.declared.task.Task.TheVariants as tasks;
 ghost use Rattle.mscp_port.specs.declared.buffers.Buffer.{Buffer as Kept};

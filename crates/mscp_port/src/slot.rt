@@ -1,6 +1,7 @@
 // A slot of a ring.
 
-ghost use Rattle.mscp_port.specs.Common.{◌≡◌, ◌^◌, ◌<◌, given_back, is_flagged, is_owned, text_of};
+ghost use Rattle.std.specs.Prelude.{◌≡◌, ◌^◌, ◌<◌};
+ghost use Rattle.mscp_port.specs.Slots.{given_back, is_flagged, is_owned, text_of};
 
 /// What stands in a slot of a ring: whose it is, and where a packet lies.
 #[derive(Clone, Copy)]

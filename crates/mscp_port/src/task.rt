@@ -1,6 +1,6 @@
 // What a port has in hand.
 
-ghost use Rattle.mscp_port.specs.Common.{◌≡◌, ◌≤◌, ℕ, Bool};
+ghost use Rattle.std.specs.Prelude.{◌≡◌, ◌≤◌, ℕ, Bool};
 ghost use Rattle.mscp_port.specs.declared.slot.Descriptor.{Descriptor as Slot};
 ghost use Rattle.mscp_port.specs.declared.task.Task.TheVariants as tasks;
 

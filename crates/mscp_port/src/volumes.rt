@@ -1,6 +1,7 @@
 // The volumes that lie in the units, and how they change.
 
-ghost use Rattle.mscp_port.specs.Common.{◌≡◌, ◌↔◌, true, EachIndex, Some, IsTrue, is_mounted, volume_at, volume_changed, volume_reset};
+ghost use Rattle.std.specs.Prelude.{◌≡◌, ◌↔◌, true, EachIndex, Some, IsTrue};
+ghost use Rattle.mscp_port.specs.Common.{is_mounted, volume_at, volume_changed, volume_reset};
 
 /// A unit's volume. All is counted: a unit that was brought online with another volume than the one in it isn't online.
 #[derive(Clone, Copy, Default)]

@@ -1,6 +1,6 @@
 -- What the code of this crate takes from specifications.
 pub use Rattle.mscp_drive.specs.Heads.{distance}
-pub use Rattle.mscp_drive.specs.Shape.{one_block, shape}
+pub use Rattle.mscp_drive.specs.Shape.{one_block}
 pub use Rattle.mscp_drive.specs.UnitList.{IsUnitList}
 pub use Rattle.mscp_events.specs.declared.connection.Connection.TheVariants.{First}
 pub use Rattle.mscp_packet.specs.Ends.{IsOfKind}
@@ -14,10 +14,10 @@ pub use Rattle.mscp_queue.specs.Kept.{ArePassedInOrder, CanBeShown, HasBlocks, I
 pub use Rattle.mscp_queue.specs.Lanes.{HasLanes, IsCost, IsFirst, IsLane, IsLeast, lowered}
 pub use Rattle.mscp_queue.specs.Lines.{Begins, BeginsAt, Line, Serves, ServesAt, aborting, fresh, pushed}
 pub use Rattle.mscp_queue.specs.Masks.{HasCome, HasLeft, IsBehind, IsLowestFree, IsSet}
-pub use Rattle.mscp_queue.specs.Names.{name_on, same_name}
+pub use Rattle.mscp_queue.specs.Names.{name_on}
 pub use Rattle.mscp_queue.specs.Orders.{endcode, first_block, is_move, is_sequential, order_weight}
 pub use Rattle.mscp_queue.specs.Outcomes.{aborted_end, bad_status, end_with, goes_on, good_status, head_after, is_success, moved_body, online_body, outcome_at, outcome_body, outcome_status, state_after, touches}
-pub use Rattle.mscp_queue.specs.Pickers.{IsOldest, IsRow, IsSweep}
+pub use Rattle.mscp_queue.specs.Pickers.{IsRow}
 pub use Rattle.mscp_queue.specs.Records.{IsServing, aborted_record, advanced, drive_at, fresh_record, has_name, is_in_service, is_unstarted, left_if_serving, left_of, name_of, no_record, passed_by, record_at, step_charge}
 pub use Rattle.mscp_queue.specs.Serving.{IsNext, end_given, end_in, is_begun, plan_of, state_left, touched, upcoming_begun, upcoming_of}
 pub use Rattle.mscp_queue.specs.Slots.{AreKept, dues, is_unfenced, is_unfenced_at, items, kinds_of, lowered_by, lowered_unless_serving, shown, slot_at, targets, with_due, with_item}
@@ -28,9 +28,8 @@ pub use Rattle.mscp_queue.specs.Why.{holder_of, holders_at, holders_of_name, is_
 pub use Rattle.mscp_queue.specs.contracts.view.ChoicePartialEq.TheImpl.{ghosts}
 pub use Rattle.mscp_queue.specs.contracts.view.ChoicePartialEq.TheImpl.Laws.{laws-law}
 pub use Rattle.mscp_queue.specs.declared.report.Report.TheVariants.{Served}
-pub use Rattle.mscp_queue.specs.declared.view.Choice.{Choice}
 pub use Rattle.std.specs.Cmp.Lexicographic.{lists_per, pointwise}
 pub use Rattle.std.specs.Int.{bit_at}
 pub use Rattle.std.specs.List.{list_all, list_any, position}
 pub use Rattle.std.specs.Option.{option_copied}
-pub use Rattle.std.specs.Prelude.{All, IfNone, IfSome, IsSome, List, None, Some, [], cond, count_ones, drop, false, find, if◌then◌else◌, length, map, min, nat_eq, not, option_map, slice_index, slice_index_or, slice_set, sum_by, take, true, ℕ, ◌*◌, ◌++◌, ◌+◌, ◌-◌, ◌<◌, ◌==◌, ◌^◌, ◌||◌, ◌↔◌, ◌∷◌, ◌≡◌, ◌≢◌, ◌≤◌}
+pub use Rattle.std.specs.Prelude.{List}

@@ -1,6 +1,7 @@
 // The waiting commands, and how long each may still wait.
 
-ghost use Rattle.mscp_queue.specs.Common.{◌≡◌, ◌+◌, ◌-◌, ◌<◌, ◌≤◌, ◌^◌, ◌++◌, ◌∷◌, [], true, false, cond, length, map, not, take, drop, slice_index_or, sum_by, All, clock_end, started, list_all, figure_at, figures, is_sequential, advanced, is_in_service, is_unstarted, left_of, passed_by, record_at, step_charge, no_target, IsOnUnit, AreOnDrive, IsRecosted, is_unfenced_at, kinds_of, lowered_by, slot_at};
+ghost use Rattle.std.specs.Prelude.{◌≡◌, ◌+◌, ◌-◌, ◌<◌, ◌≤◌, ◌^◌, ◌++◌, ◌∷◌, [], true, false, cond, length, map, not, take, drop, slice_index_or, sum_by, All};
+ghost use Rattle.mscp_queue.specs.Common.{clock_end, started, list_all, figure_at, figures, is_sequential, advanced, is_in_service, is_unstarted, left_of, passed_by, record_at, step_charge, no_target, IsOnUnit, AreOnDrive, IsRecosted, is_unfenced_at, kinds_of, lowered_by, slot_at};
 
 mod restoring;
 

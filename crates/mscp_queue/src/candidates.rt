@@ -1,6 +1,7 @@
 // What a picker would see of each command that waits.
 
-ghost use Rattle.mscp_queue.specs.Common.{◌≡◌, ◌+◌, ◌++◌, ◌∷◌, ◌<◌, [], true, All, cond, length, map, take, drop, list_any, position, IsUnitList, CanBeShown, units_of, AreCandidates, IsRenewed, choice_in, has_choice_name, IsSet, is_move};
+ghost use Rattle.std.specs.Prelude.{◌≡◌, ◌+◌, ◌++◌, ◌∷◌, ◌<◌, [], true, All, cond, length, map, take, drop};
+ghost use Rattle.mscp_queue.specs.Common.{list_any, position, IsUnitList, CanBeShown, units_of, AreCandidates, IsRenewed, choice_in, has_choice_name, IsSet, is_move};
 
 use crate::backlog::Backlog;
 use crate::counted_view::CountedView;

@@ -1,6 +1,7 @@
 // What a picker would see of each command that waits, by which a number is looked up, too.
 
-ghost use Rattle.mscp_queue.specs.Common.{◌≡◌, ◌<◌, ◌≤◌, ◌+◌, [], ◌∷◌, ◌++◌, length, take, drop, slice_index_or, slice_set, list_any, costing, no_choice, has_byte, low_byte};
+ghost use Rattle.std.specs.Prelude.{◌≡◌, ◌<◌, ◌≤◌, ◌+◌, ◌∷◌, ◌++◌, [], length, take, drop, slice_index_or, slice_set};
+ghost use Rattle.mscp_queue.specs.Common.{list_any, costing, no_choice, has_byte, low_byte};
 
 use crate::view::{Choice, View};
 use std::marker::Model;

@@ -1,6 +1,7 @@
 // A unit with its state and its head.
 
-ghost use Rattle.mscp_queue.specs.Common.{◌≡◌, ◌≤◌, find, length, map, option_copied, one_block, drive_of, fresh_drive, has_number, state_after, state_left};
+ghost use Rattle.std.specs.Prelude.{◌≡◌, ◌≤◌, find, length, map};
+ghost use Rattle.mscp_queue.specs.Common.{option_copied, one_block, drive_of, fresh_drive, has_number, state_after, state_left};
 
 use crate::outcome::is_success;
 use crate::plan::Plan;
@@ -17,7 +18,7 @@ pub struct Drive {
 }
 
 impl Drive {
-    ghost use Rattle.mscp_queue.specs.Common.{fresh_drive};
+    ghost use Rattle.mscp_queue.specs.Drives.{fresh_drive};
 
     /// The drive of a unit to which nothing came so far: the unit is available, and its head is on cylinder 0
     /// and goes up.

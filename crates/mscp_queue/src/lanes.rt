@@ -1,6 +1,7 @@
 //! Sixty-four numbers, eight lanes at a time. Bit i of a mask stands for place i.
 
-ghost use Rattle.mscp_queue.specs.Common.{◌^◌, min, ◌≡◌, ◌≢◌, ◌≤◌, ◌<◌, ◌+◌, ◌-◌, ◌*◌, ◌==◌, ℕ, if◌then◌else◌, length, slice_index, IfSome, IfNone, bit_at, HasLanes, IsCost, IsFirst, IsLane, IsLeast, lowered};
+ghost use Rattle.std.specs.Prelude.{◌^◌, ◌≡◌, ◌≢◌, ◌≤◌, ◌<◌, ◌+◌, ◌-◌, ◌*◌, ◌==◌, if◌then◌else◌, min, ℕ, length, slice_index, IfSome, IfNone};
+ghost use Rattle.mscp_queue.specs.Common.{bit_at, HasLanes, IsCost, IsFirst, IsLane, IsLeast, lowered};
 
 use std::simd::prelude::*;
 

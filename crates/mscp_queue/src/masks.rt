@@ -1,6 +1,7 @@
 // Masks of slots. Bit k of a mask stands for slot k.
 
-ghost use Rattle.mscp_queue.specs.Common.{◌≡◌, ◌≢◌, ℕ, ◌<◌, ◌≤◌, ◌^◌, ◌-◌, count_ones, min, true, false, length, nat_eq, slice_index_or, IfNone, IfSome, bit_at, HasCome, HasLeft, IsBehind, IsLowestFree, IsSet};
+ghost use Rattle.std.specs.Prelude.{◌≡◌, ◌≢◌, ◌<◌, ◌≤◌, ◌^◌, ◌-◌, ℕ, count_ones, min, true, false, length, nat_eq, slice_index_or, IfNone, IfSome};
+ghost use Rattle.mscp_queue.specs.Common.{bit_at, HasCome, HasLeft, IsBehind, IsLowestFree, IsSet};
 ghost use Rattle.mscp_queue.specs.Masks.{fences};
 
 /// Which slots are taken, and what is known of their commands: one bit a slot.

@@ -1,6 +1,7 @@
 // What tells commands apart.
 
-ghost use Rattle.mscp_queue.specs.Common.{◌≡◌, same_name};
+ghost use Rattle.std.specs.Prelude.{◌≡◌};
+ghost use Rattle.mscp_queue.specs.Names.{same_name};
 
 use mscp_events::Connection;
 

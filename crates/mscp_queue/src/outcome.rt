@@ -1,6 +1,7 @@
 // The ends that commands get.
 
-ghost use Rattle.mscp_queue.specs.Common.{◌≡◌, ◌+◌, ◌<◌, ◌^◌, endcode, aborted_end, bad_status, end_with, good_status, is_success, moved_body, online_body, outcome_at, outcome_body, outcome_status, touches};
+ghost use Rattle.std.specs.Prelude.{◌≡◌, ◌+◌, ◌<◌, ◌^◌};
+ghost use Rattle.mscp_queue.specs.Common.{endcode, aborted_end, bad_status, end_with, good_status, is_success, moved_body, online_body, outcome_at, outcome_body, outcome_status, touches};
 
 use mscp_drive::Unit;
 use mscp_events::Block;

@@ -1,6 +1,7 @@
 // Who picks the command that starts.
 
-ghost use Rattle.mscp_queue.specs.Common.{◌≡◌, ◌<◌, ◌≤◌, ◌-◌, ◌^◌, [], length, IsSweep};
+ghost use Rattle.std.specs.Prelude.{◌≡◌, ◌<◌, ◌≤◌, ◌-◌, ◌^◌, [], length};
+ghost use Rattle.mscp_queue.specs.Pickers.{IsSweep};
 
 use crate::lanes::least;
 use crate::view::View;
@@ -8,7 +9,8 @@ use crate::view::View;
 /// Picks the command that starts, of those that may. Any choice is lawful: what a queue shows may start, and the
 /// budget of each waiting command is kept, whoever picks.
 pub trait Picker {
-    ghost use Rattle.mscp_queue.specs.Common.{◌<◌, ℕ, List, length, Choice};
+    ghost use Rattle.std.specs.Prelude.{◌<◌, ℕ, List, length};
+    ghost use Rattle.mscp_queue.specs.declared.view.Choice.{Choice};
 
     // Which places of a view the picker may pick. It may depend on the picker's own value, and leave a choice.
     ghost picks: { Self → List Choice → ℕ → Type 0 };
@@ -26,7 +28,7 @@ pub trait Picker {
 pub struct Oldest;
 
 impl Picker for Oldest {
-    ghost use Rattle.mscp_queue.specs.Common.{IsOldest};
+    ghost use Rattle.mscp_queue.specs.Pickers.{IsOldest};
 
     ghost picks = { λ _ view place. IsOldest view place };
 

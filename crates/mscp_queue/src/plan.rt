@@ -1,6 +1,7 @@
 // What a step of a waiting command does on its drive.
 
-ghost use Rattle.mscp_queue.specs.Common.{◌≡◌, ◌+◌, ◌<◌, ◌^◌, Some, distance, Served, first_block, goes_on, head_after, is_unstarted, left_of, end_given, plan_of, touched};
+ghost use Rattle.std.specs.Prelude.{◌≡◌, ◌+◌, ◌<◌, ◌^◌, Some};
+ghost use Rattle.mscp_queue.specs.Common.{distance, Served, first_block, goes_on, head_after, is_unstarted, left_of, end_given, plan_of, touched};
 
 use crate::drive::Drive;
 use crate::outcome::{outcome, touches};

@@ -1,6 +1,7 @@
 // The queue of a disk controller: its waiting commands, its drives, and its picker.
 
-ghost use Rattle.mscp_queue.specs.Common.{All, ◌≡◌, ◌+◌, ◌*◌, ◌<◌, ◌≤◌, length, find, option_map, false, IfNone, IfSome, list_any, position, IsOfKind, is_online_in, figure_of_name, figures, IsWaitable, place_without, units_of, Line, aborting, fresh, pushed, name_on, order_weight, IsServing, aborted_record, has_name, name_of, record_at, is_begun, is_open_at, holders_of_name, is_nobody};
+ghost use Rattle.std.specs.Prelude.{◌≡◌, ◌+◌, ◌*◌, ◌<◌, ◌≤◌, All, length, find, option_map, false, IfNone, IfSome};
+ghost use Rattle.mscp_queue.specs.Common.{list_any, position, IsOfKind, is_online_in, figure_of_name, figures, IsWaitable, place_without, units_of, Line, aborting, fresh, pushed, name_on, order_weight, IsServing, aborted_record, has_name, name_of, record_at, is_begun, is_open_at, holders_of_name, is_nobody};
 
 mod restoring;
 mod stepping;

@@ -1,6 +1,7 @@
 // A waiting command.
 
-ghost use Rattle.mscp_queue.specs.Common.{◌≡◌, ◌+◌, ◌<◌, ◌^◌, nat_eq, is_sequential, order_weight, advanced, fresh_record, has_name, left_of, name_of, no_record, passed_by};
+ghost use Rattle.std.specs.Prelude.{◌≡◌, ◌+◌, ◌<◌, ◌^◌, nat_eq};
+ghost use Rattle.mscp_queue.specs.Common.{is_sequential, order_weight, advanced, fresh_record, has_name, left_of, name_of, no_record, passed_by};
 
 use crate::name::Name;
 use mscp_events::Connection;

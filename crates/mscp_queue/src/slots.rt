@@ -1,7 +1,8 @@
 // The slots of the waiting commands. A command keeps its slot as long as it waits, and masks of slots tell at once who
 // keeps whom back.
 
-ghost use Rattle.mscp_queue.specs.Common.{◌≡◌, true, false, ◌+◌, ◌<◌, ◌≤◌, ◌^◌, ◌++◌, ◌∷◌, [], List, length, map, not, take, drop, slice_set, All, list_all, is_sequential, advanced, is_in_service, passed_by, IsOnUnit, AreOnDrive, IsRecosted, targets, dues, is_unfenced, items, lowered_by, lowered_unless_serving, shown, slot_at, with_due, with_item};
+ghost use Rattle.std.specs.Prelude.{◌≡◌, ◌+◌, ◌<◌, ◌≤◌, ◌^◌, ◌++◌, ◌∷◌, true, false, [], List, length, map, not, take, drop, slice_set, All};
+ghost use Rattle.mscp_queue.specs.Common.{list_all, is_sequential, advanced, is_in_service, passed_by, IsOnUnit, AreOnDrive, IsRecosted, targets, dues, is_unfenced, items, lowered_by, lowered_unless_serving, shown, slot_at, with_due, with_item};
 
 use crate::counted_view::CountedView;
 use crate::drive::Drive;

@@ -1,6 +1,7 @@
 // Which command starts, where nothing is in service.
 
-ghost use Rattle.mscp_queue.specs.Common.{◌≡◌, ◌++◌, ◌||◌, ◌+◌, [], ◌∷◌, ◌<◌, ◌≤◌, true, cond, length, All, IsUnitList, IsTargeted, target_of, IsOnUnit, ArePassedInOrder, CanBeShown, HasBlocks, IsShut, units_of, AreCandidates, choice_in, is_move, is_sequential, drive_at, record_at, AllMayStart, IsPick, choice_of, is_open_at, open_places, view_of};
+ghost use Rattle.std.specs.Prelude.{◌≡◌, ◌++◌, ◌||◌, ◌+◌, ◌∷◌, ◌<◌, ◌≤◌, [], true, cond, length, All};
+ghost use Rattle.mscp_queue.specs.Common.{IsUnitList, IsTargeted, target_of, IsOnUnit, ArePassedInOrder, CanBeShown, HasBlocks, IsShut, units_of, AreCandidates, choice_in, is_move, is_sequential, drive_at, record_at, AllMayStart, IsPick, choice_of, is_open_at, open_places, view_of};
 
 use crate::backlog::Backlog;
 use crate::candidates::Candidates;

@@ -1,6 +1,7 @@
 // The target of a waiting command.
 
-ghost use Rattle.mscp_queue.specs.Common.{◌≡◌, ◌<◌, ◌≤◌, true, length, position, target_of, unit_place, has_number, is_known, units_of, first_block};
+ghost use Rattle.std.specs.Prelude.{◌≡◌, ◌<◌, ◌≤◌, true, length};
+ghost use Rattle.mscp_queue.specs.Common.{position, target_of, unit_place, has_number, is_known, units_of, first_block};
 
 use crate::drive::Drive;
 use mscp_packet::{Command, Order};

@@ -1,6 +1,7 @@
 // What is told before a step.
 
-ghost use Rattle.mscp_queue.specs.Common.{◌≡◌, ◌+◌, ◌<◌, ◌^◌, first_block, upcoming_of};
+ghost use Rattle.std.specs.Prelude.{◌≡◌, ◌+◌, ◌<◌, ◌^◌};
+ghost use Rattle.mscp_queue.specs.Common.{first_block, upcoming_of};
 
 use crate::drive::Drive;
 use crate::plan::touched;

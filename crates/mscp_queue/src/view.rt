@@ -1,6 +1,7 @@
 // What a picker sees.
 
-ghost use Rattle.mscp_queue.specs.Common.{◌≡◌, ◌↔◌, ◌<◌, ◌≤◌, ◌+◌, [], ◌∷◌, ◌++◌, length, take, drop, slice_index_or, slice_set, IsSome, IfSome, costing, no_choice, IsRow, choice_name};
+ghost use Rattle.std.specs.Prelude.{◌≡◌, ◌↔◌, ◌<◌, ◌≤◌, ◌+◌, ◌∷◌, ◌++◌, [], length, take, drop, slice_index_or, slice_set, IsSome, IfSome};
+ghost use Rattle.mscp_queue.specs.Common.{costing, no_choice, IsRow, choice_name};
 
 use crate::name::Name;
 use arrayvec::ArrayVec;
@@ -74,12 +75,12 @@ pub struct View {
 
 // A clause sees the list of the choices.
 impl Model for View {
-    ghost use Rattle.mscp_queue.specs.Common.{List};
+    ghost use Rattle.std.specs.Prelude.{List};
     ghost use Rattle.mscp_queue.specs.declared.view.Choice.{Choice as Shown};
 
     ghost Value = { List Shown };
 
-    ghost use Rattle.mscp_queue.specs.Common.{IsRow};
+    ghost use Rattle.mscp_queue.specs.Pickers.{IsRow};
 
     ghost view = { λ v. v.choices.items };
 

@@ -1,6 +1,7 @@
 // Why a command may not start.
 
-ghost use Rattle.mscp_queue.specs.Common.{◌≡◌, ◌<◌, ◌≤◌, ◌||◌, ◌++◌, ◌∷◌, [], cond, length, is_open_at, holder_of, holders_at, is_nobody, is_overdrawn};
+ghost use Rattle.std.specs.Prelude.{◌≡◌, ◌<◌, ◌≤◌, ◌||◌, ◌++◌, ◌∷◌, [], cond, length};
+ghost use Rattle.mscp_queue.specs.Common.{is_open_at, holder_of, holders_at, is_nobody, is_overdrawn};
 ghost use Rattle.mscp_queue.specs.Views.{fences};
 
 use crate::backlog::Backlog;

@@ -15,5 +15,4 @@ pub use Rattle.mscp_reader.specs.declared.events.TheConstants.{MOST_EVENTS, MOST
 pub use Rattle.mscp_reader.specs.declared.fault.ScriptFault.{ScriptFault}
 pub use Rattle.mscp_reader.specs.declared.script.TheConstants.{MOST_BYTES}
 pub use Rattle.std.specs.List.{list_all}
-pub use Rattle.std.specs.Prelude.{Err, IfErr, IfNone, IfOk, IfSome, IsTrue, List, MatchOption, MatchResult, Ok, OnOk, Some, [], drop, length, nat_lt, not, option_map, position, replicate, take, true, ℕ, ◌+◌, ◌<◌, ◌==◌, ◌↔◌, ◌∷◌, ◌≡◌, ◌≤◌}
 pub use Rattle.std.specs.Str.Lines.{strip_carriage_return}

@@ -1,6 +1,7 @@
 // The lines after the header: what each asks for.
 
-ghost use Rattle.mscp_reader.specs.Common.{◌≡◌, ◌+◌, ◌≤◌, length, IfOk, IfErr, Gives, events_of, asked_after, in_line};
+ghost use Rattle.std.specs.Prelude.{◌≡◌, ◌+◌, ◌≤◌, length, IfOk, IfErr};
+ghost use Rattle.mscp_reader.specs.Common.{Gives, events_of, asked_after, in_line};
 ghost use Rattle.mscp_reader.specs.Lexical as lexical;
 ghost use Rattle.mscp_reader.specs.Requests as requests;
 

@@ -1,6 +1,7 @@
 // What can be wrong with a script.
 
-ghost use Rattle.mscp_reader.specs.Common.{◌≡◌, ◌≤◌, length, cause_word, in_line};
+ghost use Rattle.std.specs.Prelude.{◌≡◌, ◌≤◌, length};
+ghost use Rattle.mscp_reader.specs.Common.{cause_word, in_line};
 ghost use Rattle.mscp_reader.specs.declared.fault.ReadFault.TheVariants as variants;
 
 use mscp_events::OutOfMemory;

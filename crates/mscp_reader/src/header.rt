@@ -1,6 +1,7 @@
 // The header of a script: each line once and in order, but for 1 to 16 units.
 
-ghost use Rattle.mscp_reader.specs.Common.{◌≡◌, ◌<◌, ◌≤◌, [], ℕ, nat_lt, length, IfOk, IfErr, OnOk, list_all, IsUnitList, NumbersRise, Gives, Place, Begins, HasCredits, HasTimeout, HasUnits, HasGone, Both, Sets, Heads, Leads, both_of, budget_of, limited, rest_headed, rest_outcome, settled, place_after};
+ghost use Rattle.std.specs.Prelude.{◌≡◌, ◌<◌, ◌≤◌, [], ℕ, nat_lt, length, IfOk, IfErr, OnOk};
+ghost use Rattle.mscp_reader.specs.Common.{list_all, IsUnitList, NumbersRise, Gives, Place, Begins, HasCredits, HasTimeout, HasUnits, HasGone, Both, Sets, Heads, Leads, both_of, budget_of, limited, rest_headed, rest_outcome, settled, place_after};
 ghost use Rattle.mscp_events.specs.Settings as settings;
 ghost use Rattle.mscp_reader.specs.Lexical as lexical;
 ghost use Rattle.mscp_reader.specs.Grammar as grammar;

@@ -1,6 +1,7 @@
 // The lines of a script.
 
-ghost use Rattle.mscp_reader.specs.Common.{◌≡◌, ◌+◌, ◌<◌, ◌≤◌, [], ◌∷◌, length, IfSome, IfNone, IfOk, IfErr, drop, MatchOption, Some, Ok, Err, option_map, list_all, strip_carriage_return, Gives, events_of, Place, IsInHeader, said_at, asked_next, headed_on, in_line, rest_headed, MOST_EVENTS, MOST_BYTES};
+ghost use Rattle.std.specs.Prelude.{◌≡◌, ◌+◌, ◌<◌, ◌≤◌, ◌∷◌, [], length, IfSome, IfNone, IfOk, IfErr, drop, MatchOption, Some, Ok, Err, option_map};
+ghost use Rattle.mscp_reader.specs.Common.{list_all, strip_carriage_return, Gives, events_of, Place, IsInHeader, said_at, asked_next, headed_on, in_line, rest_headed, MOST_EVENTS, MOST_BYTES};
 ghost use Rattle.mscp_reader.specs.Lexical as lexical;
 
 use crate::events::{MOST_EVENTS, MOST_STEPS, request_after};

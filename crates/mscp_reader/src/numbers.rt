@@ -1,6 +1,7 @@
 // The numbers and the hexadecimal digits of a line.
 
-ghost use Rattle.mscp_reader.specs.Common.{◌≡◌, ◌≤◌, IfOk, Gives, bytes_in};
+ghost use Rattle.std.specs.Prelude.{◌≡◌, ◌≤◌, IfOk};
+ghost use Rattle.mscp_reader.specs.Common.{Gives, bytes_in};
 ghost use Rattle.mscp_reader.specs.Lexical as lexical;
 
 use crate::fault::Cause;

@@ -1,7 +1,8 @@
 // Plain lines: a word, and then numbers behind one space each, up to a line feed. Most lines are plain, and are read in
 // one pass over their bytes. Any other line is left to the reader of all lines, which finds the faults, too.
 
-ghost use Rattle.mscp_reader.specs.Common.{◌≡◌, ◌≤◌, [], true, not, position, take, length, replicate, IfSome, list_all, Good, First, MOST_STEPS, Asks, CutsWord, Ends, IsNumeral, IsPlain, is_letter, events_of, sent};
+ghost use Rattle.std.specs.Prelude.{◌≡◌, ◌≤◌, [], true, not, position, take, length, replicate, IfSome};
+ghost use Rattle.mscp_reader.specs.Common.{list_all, Good, First, MOST_STEPS, Asks, CutsWord, Ends, IsNumeral, IsPlain, is_letter, events_of, sent};
 ghost use Rattle.mscp_events.specs.declared.event.Event.TheVariants as events;
 ghost use Rattle.mscp_reader.specs.Lexical as lexical;
 

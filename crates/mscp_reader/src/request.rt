@@ -1,6 +1,7 @@
 // What a line asks for.
 
-ghost use Rattle.mscp_reader.specs.Common.{◌≡◌, length, events_of};
+ghost use Rattle.std.specs.Prelude.{◌≡◌, length};
+ghost use Rattle.mscp_reader.specs.Requests.{events_of};
 
 use mscp_events::{Block, Connection};
 use mscp_packet::Command;

@@ -1,6 +1,6 @@
 // Scripts: their size, and their lines.
 
-ghost use Rattle.mscp_reader.specs.Common.{◌≡◌, ◌<◌, ◌≤◌, length, IfOk, IfErr};
+ghost use Rattle.std.specs.Prelude.{◌≡◌, ◌<◌, ◌≤◌, length, IfOk, IfErr};
 
 use crate::fault::{Cause, ScriptFault};
 use crate::lines::Lines;

@@ -1,6 +1,7 @@
 // The words of a line.
 
-ghost use Rattle.mscp_reader.specs.Common.{◌≡◌, ◌↔◌, IsTrue, [], ◌∷◌, MatchOption, MatchResult, Gives};
+ghost use Rattle.std.specs.Prelude.{◌≡◌, ◌↔◌, ◌∷◌, IsTrue, [], MatchOption, MatchResult};
+ghost use Rattle.mscp_packet.specs.Steps.{Gives};
 ghost use Rattle.mscp_reader.specs.Lexical as lexical;
 ghost use Rattle.mscp_reader.specs.Requests as requests;
 

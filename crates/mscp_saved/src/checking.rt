@@ -1,6 +1,7 @@
 // Whether what bytes say can be: what a controller with these settings can hold.
 
-ghost use Rattle.mscp_saved.specs.Common.{◌≡◌, ◌≤◌, ◌<◌, true, not, All, IfNone, length, filter, nat_lt, list_all, position, IsWaitable, has_name, is_in_service, is_unstarted, name_of, fences, is_affordable, is_free, is_open, is_queued, waiting_on, IsValid, are_apart, are_ends, are_on_units, are_passed, are_queued, are_unfinished, is_covered, may_be_begun, may_serve, parts_fault};
+ghost use Rattle.std.specs.Prelude.{◌≡◌, ◌≤◌, ◌<◌, true, not, All, IfNone, length, filter, nat_lt};
+ghost use Rattle.mscp_saved.specs.Common.{list_all, position, IsWaitable, has_name, is_in_service, is_unstarted, name_of, fences, is_affordable, is_free, is_open, is_queued, waiting_on, IsValid, are_apart, are_ends, are_on_units, are_passed, are_queued, are_unfinished, is_covered, may_be_begun, may_serve, parts_fault};
 
 use crate::fault::RestoreFault;
 use mscp_controller::{Config, Connection, Drive, Name, Record};

@@ -1,6 +1,7 @@
 // Bytes that grow at their end, up to a saved controller.
 
-ghost use Rattle.mscp_saved.specs.Common.{◌≡◌, ◌+◌, ◌≤◌, ◌++◌, [], ◌∷◌, length, replicate, array_vec_len, padded};
+ghost use Rattle.std.specs.Prelude.{◌≡◌, ◌+◌, ◌≤◌, ◌++◌, ◌∷◌, [], length, replicate};
+ghost use Rattle.mscp_saved.specs.Common.{array_vec_len, padded};
 
 use arrayvec::ArrayVec;
 use mscp_packet::fields::put;

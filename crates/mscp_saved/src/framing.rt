@@ -1,6 +1,7 @@
 // The head of a saved controller, and where its parts lie.
 
-ghost use Rattle.mscp_saved.specs.Common.{◌≡◌, ◌+◌, ◌*◌, ◌≤◌, true, length, all_waiting_in, drives_in, first_count, first_in, first_place, second_count, second_in, second_place, waiting_count, waiting_place, frame_fault, is_framed};
+ghost use Rattle.std.specs.Prelude.{◌≡◌, ◌+◌, ◌*◌, ◌≤◌, true, length};
+ghost use Rattle.mscp_saved.specs.Common.{all_waiting_in, drives_in, first_count, first_in, first_place, second_count, second_in, second_place, waiting_count, waiting_place, frame_fault, is_framed};
 
 use crate::fault::RestoreFault;
 use crate::reading::{read_drives, read_ends, read_waiting};

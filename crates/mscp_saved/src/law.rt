@@ -1,6 +1,6 @@
 // What is true of saving and restoring.
 
-ghost use Rattle.mscp_saved.specs.Common.{RestoringIsFaithful};
+ghost use Rattle.mscp_saved.specs.Faithful.{RestoringIsFaithful};
 
 use mscp_controller::Picker;
 

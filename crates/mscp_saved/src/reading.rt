@@ -1,6 +1,7 @@
 // The parts of a saved controller from bytes.
 
-ghost use Rattle.mscp_saved.specs.Common.{◌≡◌, ◌+◌, ◌*◌, ◌≤◌, length, command_of, order_weight, begun_in, connection_in, drive_in, end_in, part, parts_in, sized, unit_in, waiting_in, shape};
+ghost use Rattle.std.specs.Prelude.{◌≡◌, ◌+◌, ◌*◌, ◌≤◌, length};
+ghost use Rattle.mscp_saved.specs.Common.{command_of, order_weight, begun_in, connection_in, drive_in, end_in, part, parts_in, sized, unit_in, waiting_in, shape};
 
 use arrayvec::ArrayVec;
 use mscp_controller::{Connection, Drive, Name, Record};

@@ -1,6 +1,7 @@
 // A controller from bytes.
 
-ghost use Rattle.mscp_saved.specs.Common.{◌≡◌, ◌+◌, ◌≤◌, All, IfNone, IfOk, length, IsWaitable, units_of, IsSound, made_of, IsValid, begun_in, held_in, settings_in, IsSaved, first_of, form_fault, form_unless, parts_fault, restored, settings_fault, unless, saved_bytes};
+ghost use Rattle.std.specs.Prelude.{◌≡◌, ◌+◌, ◌≤◌, All, IfNone, IfOk, length};
+ghost use Rattle.mscp_saved.specs.Common.{IsWaitable, units_of, IsSound, made_of, IsValid, begun_in, held_in, settings_in, IsSaved, first_of, form_fault, form_unless, parts_fault, restored, settings_fault, unless, saved_bytes};
 
 use crate::checking::parts_fault;
 use crate::fault::RestoreFault;

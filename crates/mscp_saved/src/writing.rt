@@ -1,6 +1,7 @@
 // A controller to bytes.
 
-ghost use Rattle.mscp_saved.specs.Common.{◌≡◌, ◌+◌, ◌*◌, ◌≤◌, ◌<◌, ◌^◌, ◌++◌, [], flat_map, length, All, IfSome, slice_index_or, Ok, array_vec_len, HasEndRange, IsSound, made_of, HasDriveRange, HasIdentifiersRange, HasLimitRange, HasSizesRange, HasWaitingRange, restored, begun_bytes, connection_byte, counts_bytes, counts_of, drive_bytes, end_cell, flag_byte, frame_bytes, head_with, identifiers_bytes, limits_bytes, saved_bytes, settings_bytes, sizes_bytes, waiting_bytes};
+ghost use Rattle.std.specs.Prelude.{◌≡◌, ◌+◌, ◌*◌, ◌≤◌, ◌<◌, ◌^◌, ◌++◌, [], flat_map, length, All, IfSome, slice_index_or, Ok};
+ghost use Rattle.mscp_saved.specs.Common.{array_vec_len, HasEndRange, IsSound, made_of, HasDriveRange, HasIdentifiersRange, HasLimitRange, HasSizesRange, HasWaitingRange, restored, begun_bytes, connection_byte, counts_bytes, counts_of, drive_bytes, end_cell, flag_byte, frame_bytes, head_with, identifiers_bytes, limits_bytes, saved_bytes, settings_bytes, sizes_bytes, waiting_bytes};
 
 pub use crate::fields::ROOM;
 use crate::fields::{put_one, put_padded};

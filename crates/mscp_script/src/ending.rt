@@ -1,6 +1,7 @@
 // How the program ends: its exit status, and the line on standard error.
 
-ghost use Rattle.mscp_script.specs.Common.{◌≡◌, ◌+◌, ◌≤◌, ◌++◌, length, array_string_len, decimal, error_line, exit_status, fault_status, fault_text, show_text};
+ghost use Rattle.std.specs.Prelude.{◌≡◌, ◌+◌, ◌≤◌, ◌++◌, length};
+ghost use Rattle.mscp_script.specs.Common.{array_string_len, decimal, error_line, exit_status, fault_status, fault_text, show_text};
 
 use crate::fault::Fault;
 use crate::simulation::SimFault;

@@ -1,6 +1,6 @@
 // What can go wrong in a call of the program.
 
-ghost use Rattle.mscp_script.specs.Common.{◌≡◌, ◌⊎◌, ◌↔◌};
+ghost use Rattle.std.specs.Prelude.{◌≡◌, ◌⊎◌, ◌↔◌};
 ghost use Rattle.mscp_script.specs.declared.fault.Fault.TheVariants as faults;
 
 use crate::choosing::LineFault;

@@ -1,6 +1,7 @@
 // The line of a packet, written.
 
-ghost use Rattle.mscp_script.specs.Common.{◌≡◌, ◌↔◌, true, false, shown, Prints, PrintsOnce};
+ghost use Rattle.std.specs.Prelude.{◌≡◌, ◌↔◌, true, false};
+ghost use Rattle.mscp_script.specs.Common.{shown, Prints, PrintsOnce};
 
 use crate::fault::Fault;
 use crate::stream::Sink;

@@ -1,6 +1,7 @@
 // The reading of a whole script.
 
-ghost use Rattle.mscp_script.specs.Common.{◌≡◌, ◌≤◌, ◌↔◌, true, false, vec_len, IfOk, IsFront, IsRest, most_read};
+ghost use Rattle.std.specs.Prelude.{◌≡◌, ◌≤◌, ◌↔◌, true, false, vec_len, IfOk};
+ghost use Rattle.mscp_script.specs.Whole.{IsFront, IsRest, most_read};
 
 use crate::stream::Source;
 use mscp_reader::MOST_BYTES;

@@ -1,6 +1,7 @@
 // The report of a script in one pass: what a line asks for comes to a controller as soon as the line is read.
 
-ghost use Rattle.mscp_script.specs.Common.{◌≡◌, [], IfOk, Settings, Begins, HasGone, IsFault, rest_outcome, Runs, RunsTo, TellsReport, IsReport};
+ghost use Rattle.std.specs.Prelude.{◌≡◌, [], IfOk};
+ghost use Rattle.mscp_script.specs.Common.{Settings, Begins, HasGone, IsFault, rest_outcome, Runs, RunsTo, TellsReport, IsReport};
 
 use crate::running::Run;
 use mscp_controller::runs_keep_the_promise;

@@ -1,6 +1,7 @@
 // A script in, its report out.
 
-ghost use Rattle.mscp_script.specs.Common.{◌≡◌, ◌↔◌, true, false, IsFault, IsGiven, LeavesRest, WritesOnce, WritesReport, sim_of_reading, sim_of_script};
+ghost use Rattle.std.specs.Prelude.{◌≡◌, ◌↔◌, true, false};
+ghost use Rattle.mscp_script.specs.Common.{IsFault, IsGiven, LeavesRest, WritesOnce, WritesReport, sim_of_reading, sim_of_script};
 ghost use Rattle.mscp_script.specs.declared.simulation.SimFault.TheVariants as faults;
 
 use crate::reading::{LIMIT, ReadAllFault, read_all};

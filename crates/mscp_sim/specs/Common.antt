@@ -9,10 +9,9 @@ pub use Rattle.mscp_reader.specs.Grammar.{Begins, HasGone, IsFault, Reads}
 pub use Rattle.mscp_reader.specs.Outcome.{Tells, rest_outcome, script_outcome}
 pub use Rattle.mscp_reader.specs.Requests.{events_of}
 pub use Rattle.mscp_reader.specs.declared.events.TheConstants.{MOST_EVENTS}
-pub use Rattle.mscp_script.specs.Text.{text, with_entry}
 pub use Rattle.mscp_sim.specs.Conversing.{Goes, GoesOn}
 pub use Rattle.mscp_sim.specs.Matches.{Match}
 pub use Rattle.mscp_sim.specs.Rooms.{HasRoom}
 pub use Rattle.mscp_sim.specs.Scripts.{meaning_of}
 pub use Rattle.mscp_sim.specs.TwoEnds.{AreTwoEnds}
-pub use Rattle.std.specs.Prelude.{Err, IfOk, List, Ok, OnOk, Some, [], length, option_to_list, replicate, unwrap_or, vec_len, ℕ, ◌++◌, ◌+◌, ◌<◌, ◌^◌, ◌↔◌, ◌∷◌, ◌≡◌, ◌≤◌}
+pub use Rattle.std.specs.Prelude.{unwrap_or}

@@ -1,6 +1,7 @@
 // Two hosts and a controller that talk.
 
-ghost use Rattle.mscp_sim.specs.Common.{◌≡◌, ℕ, ◌+◌, ◌≤◌, [], ◌∷◌, ◌++◌, length, option_to_list, Some, IfOk, IsValid, Both, Account, Goes, GoesOn, AreTwoEnds, Match, HasRoom};
+ghost use Rattle.std.specs.Prelude.{◌≡◌, ◌+◌, ◌≤◌, ◌∷◌, ◌++◌, ℕ, [], length, option_to_list, Some, IfOk};
+ghost use Rattle.mscp_sim.specs.Common.{IsValid, Both, Account, Goes, GoesOn, AreTwoEnds, Match, HasRoom};
 
 use crate::hosts::Hosts;
 use arrayvec::ArrayVec;

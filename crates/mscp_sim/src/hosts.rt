@@ -1,6 +1,7 @@
 // The hosts of both connections.
 
-ghost use Rattle.mscp_sim.specs.Common.{◌≡◌, ◌≤◌, length, of, put, fresh, heard, polls_oldest, submits};
+ghost use Rattle.std.specs.Prelude.{◌≡◌, ◌≤◌, length};
+ghost use Rattle.mscp_sim.specs.Common.{of, put, fresh, heard, polls_oldest, submits};
 
 use arrayvec::ArrayVec;
 use mscp_controller::{Config, Connection};

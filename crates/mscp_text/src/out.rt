@@ -1,12 +1,12 @@
 // What text is written to, piece by piece.
 
-ghost use Rattle.mscp_text.specs.Common.{◌≡◌, ◌≤◌, [], length, take};
+ghost use Rattle.std.specs.Prelude.{◌≡◌, ◌≤◌, [], length, take};
 
 use std::alloc::{AllocError, Allocator};
 
 /// What bytes are appended to, as long as there is room for them.
 pub trait Out: Drop {
-    ghost use Rattle.mscp_text.specs.Common.{◌≡◌, ◌++◌, [], ℕ, List, OnErr, OnOk};
+    ghost use Rattle.std.specs.Prelude.{◌≡◌, ◌++◌, [], ℕ, List, OnErr, OnOk};
 
     // What was appended.
     ghost text: { Self → List ℕ };

@@ -1,6 +1,7 @@
 // A packet as a line of text: a message that is written as hexadecimal digits.
 
-ghost use Rattle.mscp_text.specs.Common.{◌≡◌, [], ◌≤◌, ◌%◌, ◌==◌, ◌&&◌, length, IfOk, is_ascii_hexdigit, list_all, Gives, message_of, of_end, of_message, packet_of, shown, Shows};
+ghost use Rattle.std.specs.Prelude.{◌≡◌, ◌≤◌, ◌%◌, ◌==◌, ◌&&◌, [], length, IfOk};
+ghost use Rattle.mscp_text.specs.Common.{is_ascii_hexdigit, list_all, Gives, message_of, of_end, of_message, packet_of, shown, Shows};
 ghost use Rattle.mscp_text.specs.declared.packet.ShowFault.TheVariants as faults;
 
 mod text;

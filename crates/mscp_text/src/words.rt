@@ -1,6 +1,7 @@
 // Text that grows: words, numbers and hexadecimal digits.
 
-ghost use Rattle.mscp_text.specs.Common.{◌≡◌, ◌≤◌, ◌++◌, length, OnOk, encode_lower};
+ghost use Rattle.std.specs.Prelude.{◌≡◌, ◌≤◌, ◌++◌, length, OnOk};
+ghost use Rattle.hex.specs.Hex.{encode_lower};
 
 use crate::out::Out;
 use hex::encode_to_slice;

@@ -1,6 +1,7 @@
 // How the program ends: its exit status, and the line on standard error.
 
-ghost use Rattle.mscpjudge.specs.Common.{◌≡◌, ◌+◌, ◌≤◌, ◌++◌, array_string_len, decimal, error_line, exit_status, fault_text};
+ghost use Rattle.std.specs.Prelude.{◌≡◌, ◌+◌, ◌≤◌, ◌++◌};
+ghost use Rattle.mscpjudge.specs.Common.{array_string_len, decimal, error_line, exit_status, fault_text};
 
 use crate::fault::Fault;
 use crate::judging::Outcome;

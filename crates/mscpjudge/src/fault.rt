@@ -1,6 +1,7 @@
 // What can go wrong in a call of the program.
 
-ghost use Rattle.mscpjudge.specs.Common.{◌≡◌, fault_of_reading, fault_of_log};
+ghost use Rattle.std.specs.Prelude.{◌≡◌};
+ghost use Rattle.mscpjudge.specs.Said.{fault_of_reading, fault_of_log};
 ghost use Rattle.mscpjudge.specs.declared.fault.Fault.TheVariants as faults;
 
 use mscp_reader::{ReadFault, ScriptFault};

@@ -1,6 +1,7 @@
 // What is said of what hosts would have heard in a log.
 
-ghost use Rattle.mscpjudge.specs.Common.{◌≡◌, ◌++◌, false, OnOk, TellsHeard, counts_text, heard_outcome, WritesOnce};
+ghost use Rattle.std.specs.Prelude.{◌≡◌, ◌++◌, false, OnOk};
+ghost use Rattle.mscpjudge.specs.Common.{TellsHeard, counts_text, heard_outcome, WritesOnce};
 
 use crate::fault::Fault;
 use crate::judging::Outcome;

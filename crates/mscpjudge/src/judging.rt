@@ -1,6 +1,7 @@
 // What is said of a log.
 
-ghost use Rattle.mscpjudge.specs.Common.{◌≡◌, ◌++◌, false, OnOk, IfOk, flat_map, Says, WritesOnce, has_starts, holder_text, legal_text, name_text, outcome_of, peaks_text, right_text, rule_text, served_text, spaced_name, starts_text, unanswered_text, verdict_text, wrong_text};
+ghost use Rattle.std.specs.Prelude.{◌≡◌, ◌++◌, false, OnOk, IfOk};
+ghost use Rattle.mscpjudge.specs.Common.{flat_map, Says, WritesOnce, has_starts, holder_text, legal_text, name_text, outcome_of, peaks_text, right_text, rule_text, served_text, spaced_name, starts_text, unanswered_text, verdict_text, wrong_text};
 
 use crate::fault::Fault;
 use mscp_controller::{Connection, Holder};

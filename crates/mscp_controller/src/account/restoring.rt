@@ -1,6 +1,7 @@
 // The accounts of the connections' hosts as they were.
 
-ghost use Rattle.mscp_controller.specs.Common.{◌≡◌, ◌≤◌, length, First, Second, account, waiting_on};
+ghost use Rattle.std.specs.Prelude.{◌≡◌, ◌≤◌, length};
+ghost use Rattle.mscp_controller.specs.Common.{First, Second, account, waiting_on};
 
 use crate::account::Accounts;
 use arrayvec::ArrayVec;

@@ -1,6 +1,7 @@
 // A controller as it was, and what is to be kept of one so that it can be again.
 
-ghost use Rattle.mscp_controller.specs.Common.{◌≡◌, ◌<◌, length, record_at, of, IsSound, made_of};
+ghost use Rattle.std.specs.Prelude.{◌≡◌, ◌<◌, length};
+ghost use Rattle.mscp_controller.specs.Common.{record_at, of, IsSound, made_of};
 
 use crate::controller::Controller;
 use arrayvec::ArrayVec;

@@ -1,6 +1,7 @@
 // What callers see of a controller.
 
-ghost use Rattle.mscp_controller.specs.Common.{All, ◌≡◌, ◌+◌, ◌≤◌, length, IfNone, IfSome, is_online_in, figure_of_name, figures, IsOfUnit, name_on, IsServing, has_name, record_at, is_open_at, holders_of_name, is_nobody, position, of, credits_of, IsBalanced, balance_of, begun_step, waiting_on};
+ghost use Rattle.std.specs.Prelude.{◌≡◌, ◌+◌, ◌≤◌, All, length, IfNone, IfSome};
+ghost use Rattle.mscp_controller.specs.Common.{is_online_in, figure_of_name, figures, IsOfUnit, name_on, IsServing, has_name, record_at, is_open_at, holders_of_name, is_nobody, position, of, credits_of, IsBalanced, balance_of, begun_step, waiting_on};
 
 use crate::controller::Controller;
 use arrayvec::ArrayVec;

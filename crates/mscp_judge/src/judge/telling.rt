@@ -1,6 +1,7 @@
 // What a log tells of answers, line by line, and what would have been right.
 
-ghost use Rattle.mscp_judge.specs.Common.{◌≡◌, ◌≢◌, IfSome, Option, ◌+◌, ◌<◌, ◌^◌, ◌∷◌, ◌++◌, [], true, false, OnOk, IfOk, list_all, Trace, fresh, IsValid, Settings, Wanted, Breaks, IsAhead, IsTold, Tells, Log, is_answer, telling, wanted_name, IsOpen, IsRightNext, IsStepRule, due_rule, is_service, starts_in, BeginsWith, IsFirstLine, Led, Stands, due};
+ghost use Rattle.std.specs.Prelude.{◌≡◌, ◌≢◌, ◌+◌, ◌<◌, ◌^◌, ◌∷◌, ◌++◌, IfSome, Option, [], true, false, OnOk, IfOk};
+ghost use Rattle.mscp_judge.specs.Common.{list_all, Trace, fresh, IsValid, Settings, Wanted, Breaks, IsAhead, IsTold, Tells, Log, is_answer, telling, wanted_name, IsOpen, IsRightNext, IsStepRule, due_rule, is_service, starts_in, BeginsWith, IsFirstLine, Led, Stands, due};
 ghost use Rattle.mscp_reader.specs.Lexical as lexical;
 ghost use Rattle.mscp_judge.specs.declared.naming.Named as named;
 ghost use Rattle.mscp_judge.specs.Naming as naming;

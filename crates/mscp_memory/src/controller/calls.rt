@@ -1,6 +1,7 @@
 // What a handle says of its memory, lends of it, and takes into it.
 
-ghost use Rattle.mscp_memory.specs.Common.{◌≡◌, true, Lends, sem};
+ghost use Rattle.std.specs.Prelude.{◌≡◌, true};
+ghost use Rattle.std.specs.Borrow.{Lends, sem};
 ghost use Rattle.mscp_memory.specs.contracts.controller.handle.Handle.{the_row};
 ghost use Rattle.mscp_memory.specs.ControllerHandles.{is_made, is_room, placed, room_fault, row, with_held};
 

@@ -16,7 +16,7 @@ pub struct Handle {
 }
 
 impl Model for Handle {
-    ghost use Rattle.mscp_memory.specs.Common.{HandleOf, owned_by};
+    ghost use Rattle.mscp_memory.specs.Rooms.{HandleOf, owned_by};
     ghost use Rattle.mscp_memory.specs.HostHandles.{Held, kind, row};
 
     ghost Value = { HandleOf Held };

@@ -1,6 +1,7 @@
 // What is in hand is checked again: while it is, a volume may come or go.
 
-ghost use Rattle.mscp_port.specs.Common.{◌≡◌, ◌≤◌, ◌%◌, true, IfSome, None, has_block, MayMoveUnit, block_begun, fault_now, IsOnVolume, MayMove};
+ghost use Rattle.std.specs.Prelude.{◌≡◌, ◌≤◌, ◌%◌, true, IfSome, None};
+ghost use Rattle.mscp_port.specs.Common.{has_block, MayMoveUnit, block_begun, fault_now, IsOnVolume, MayMove};
 ghost use Rattle.mscp_port.specs.Blocks.{fault_with as fault_of};
 
 use crate::buffers::{Buffer, find_buffer};

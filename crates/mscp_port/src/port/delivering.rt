@@ -1,6 +1,7 @@
 // What goes out to the host, and how.
 
-ghost use Rattle.mscp_port.specs.Common.{ChangesBySaying, ◌≡◌, ◌≢◌, ◌≤◌, ◌<◌, ◌+◌, ◌-◌, ◌⊎◌, length, Contains, IfSome, None, Some, position, Side, Responses, Descriptor, First, after_take, WritesOut, without, unit_found, news_at, told_end, unit_end, with_status, volumes_after, IsNews, TakesEnd, TellsNews, news_place, credits_told, packet_of, Dies, IsAsNew, in_hand, volume_at, volume_heeded, array_vec_len};
+ghost use Rattle.std.specs.Prelude.{◌≡◌, ◌≢◌, ◌≤◌, ◌<◌, ◌+◌, ◌-◌, ◌⊎◌, length, Contains, IfSome, None, Some};
+ghost use Rattle.mscp_port.specs.Common.{ChangesBySaying, position, Side, Responses, Descriptor, First, after_take, WritesOut, without, unit_found, news_at, told_end, unit_end, with_status, volumes_after, IsNews, TakesEnd, TellsNews, news_place, credits_told, packet_of, Dies, IsAsNew, in_hand, volume_at, volume_heeded, array_vec_len};
 ghost use Rattle.mscp_port.specs.declared.buffers.Buffer.{Buffer as Kept};
 ghost use Rattle.mscp_port.specs.declared.action.Outcome.TheVariants as outcomes;
 ghost use Rattle.mscp_port.specs.declared.stage.Stage.TheVariants as stages;

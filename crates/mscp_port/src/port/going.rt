@@ -1,6 +1,7 @@
 // How what the port wanted done went.
 
-ghost use Rattle.mscp_port.specs.Common.{ChangesByService, ChangesByWord, ◌≡◌, ◌⊎◌, ◌↔◌, ◌+◌, ◌%◌, Contains, IfSome, IsOk, IsTrue, MatchOption, if◌then◌else◌, ◌==◌, None, Responses, Clears, GivesBack, counted, vector_in, Dies, Goes, TakesStep, GoesOnWithBlock, Moves, MovesOn, IsAsNew, IsOutcomeOf, in_hand};
+ghost use Rattle.std.specs.Prelude.{◌≡◌, ◌⊎◌, ◌↔◌, ◌+◌, ◌%◌, if◌then◌else◌, ◌==◌, Contains, IfSome, IsOk, IsTrue, MatchOption, None};
+ghost use Rattle.mscp_port.specs.Common.{ChangesByService, ChangesByWord, Responses, Clears, GivesBack, counted, vector_in, Dies, Goes, TakesStep, GoesOnWithBlock, Moves, MovesOn, IsAsNew, IsOutcomeOf, in_hand};
 ghost use Rattle.mscp_port.specs.declared.action.Outcome.TheVariants as outcomes;
 ghost use Rattle.mscp_port.specs.declared.buffers.Buffer.{Buffer as Kept};
 ghost use Rattle.mscp_port.specs.declared.stage.Stage.TheVariants as stages;

@@ -1,6 +1,7 @@
 // Bytes to a port.
 
-ghost use Rattle.mscp_port.specs.Common.{◌≡◌, ◌*◌, ◌≤◌, ◌<◌, true, nat_eq, length, take, drop, slice_index, IfNone, IfOk, None, bytes_eq, num, IsSound, parts_in, optional, stage_in, IsFramed, IsSaved, area_in, buffers_in, coded_in, controller_in, controller_place, frame_fault, held_in, hardware_in, is_framed, outgoing_in, port_in, restored, rings_if, text_in, told_front, unless, volume_in, volumes_in, words_in, saved_bytes};
+ghost use Rattle.std.specs.Prelude.{◌≡◌, ◌*◌, ◌≤◌, ◌<◌, true, nat_eq, length, take, drop, slice_index, IfNone, IfOk, None};
+ghost use Rattle.mscp_port.specs.Common.{bytes_eq, num, IsSound, parts_in, optional, stage_in, IsFramed, IsSaved, area_in, buffers_in, coded_in, controller_in, controller_place, frame_fault, held_in, hardware_in, is_framed, outgoing_in, port_in, restored, rings_if, text_in, told_front, unless, volume_in, volumes_in, words_in, saved_bytes};
 ghost use Rattle.mscp_port.specs.Restored.{buffer_in};
 
 mod front;

@@ -1,6 +1,7 @@
 // A port to bytes.
 
-ghost use Rattle.mscp_port.specs.Common.{◌≡◌, ◌+◌, ◌*◌, ◌≤◌, ◌<◌, ◌^◌, ◌++◌, [], ◌∷◌, flat_map, length, All, IfSome, Ok, array_vec_len, flag_byte, AreRings, number_or_none, stage_word, restored, HasBufferRange, HasCodedRange, HasHandRange, HasStateRange, HasVolumeRange, told_byte, area_bytes, buffer_bytes, coded_bytes, counts_bytes, frame_bytes, hand_bytes, hardware_bytes, mounted_bytes, outgoing_byte, outgoing_text, rings_bytes, saved_bytes, stage_bytes, state_bytes, volume_bytes, words_bytes, written_bytes};
+ghost use Rattle.std.specs.Prelude.{◌≡◌, ◌+◌, ◌*◌, ◌≤◌, ◌<◌, ◌^◌, ◌++◌, ◌∷◌, [], flat_map, length, All, IfSome, Ok};
+ghost use Rattle.mscp_port.specs.Common.{array_vec_len, flag_byte, AreRings, number_or_none, stage_word, restored, HasBufferRange, HasCodedRange, HasHandRange, HasStateRange, HasVolumeRange, told_byte, area_bytes, buffer_bytes, coded_bytes, counts_bytes, frame_bytes, hand_bytes, hardware_bytes, mounted_bytes, outgoing_byte, outgoing_text, rings_bytes, saved_bytes, stage_bytes, state_bytes, volume_bytes, words_bytes, written_bytes};
 
 use crate::buffers::Buffer;
 use crate::codes::{Coded, bus_byte, coded_task, stage_byte, stage_word};

@@ -1,6 +1,7 @@
 // How blocks are moved.
 
-ghost use Rattle.mscp_port.specs.Common.{ChangesByService, ◌≡◌, ◌≤◌, ◌%◌, ◌⊎◌, [], Contains, IfSome, Option, None, Some, first_of, move_of, refusal_of, task_of, Foretells, begun_step, FollowsPart, GoesOnWithBlock, TakesBegun, TakesBlock, anyhow, begun_task, fault_now, lost_with, MayBegin, IsMoving, IsOfBlock, in_hand, IsOnVolume, MayMove};
+ghost use Rattle.std.specs.Prelude.{◌≡◌, ◌≤◌, ◌%◌, ◌⊎◌, [], Contains, IfSome, Option, None, Some};
+ghost use Rattle.mscp_port.specs.Common.{ChangesByService, first_of, move_of, refusal_of, task_of, Foretells, begun_step, FollowsPart, GoesOnWithBlock, TakesBegun, TakesBlock, anyhow, begun_task, fault_now, lost_with, MayBegin, IsMoving, IsOfBlock, in_hand, IsOnVolume, MayMove};
 ghost use Rattle.mscp_port.specs.declared.buffers.Buffer.{Buffer as Kept};
 ghost use Rattle.mscp_port.specs.Blocks.{block_of as block_after, has_host_bytes as has_bytes, writes as writes_to};
 ghost use Rattle.mscp_queue.specs.declared.upcoming.Upcoming.{Upcoming as Foretold};

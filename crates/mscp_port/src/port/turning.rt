@@ -1,6 +1,7 @@
 // What the port wants done.
 
-ghost use Rattle.mscp_port.specs.Common.{ChangesBySaying, ◌≡◌, ◌≢◌, ◌≤◌, ◌<◌, ◌⊎◌, ◌+◌, ◌-◌, ◌*◌, ◌^◌, ℕ, true, false, length, Contains, IfSome, IsSome, min, replicate, None, Some, little_bytes, Responses, Commands, IsInArea, end_of, slot_in, slots_of, kept_of, IsInBuffer, Wants, HasNothingToHear, HasNothingToSay, IsAlive, IsDue, IsIdleUp, IsOfBlock, IsInSomeBuffer, IsWithin, in_hand, BeginsBlock, MayMoveOn, MayMoveUnit, block_begun, is_storing, move_wanted, part_kept, part_now, KeepsSaying, Says, TakesEnd, TellsNews, credits_told, packet_of, given_back, text_of, IsWanted, Writes, clear_from, given_in};
+ghost use Rattle.std.specs.Prelude.{◌≡◌, ◌≢◌, ◌≤◌, ◌<◌, ◌⊎◌, ◌+◌, ◌-◌, ◌*◌, ◌^◌, ℕ, true, false, length, Contains, IfSome, IsSome, min, replicate, None, Some};
+ghost use Rattle.mscp_port.specs.Common.{ChangesBySaying, little_bytes, Responses, Commands, IsInArea, end_of, slot_in, slots_of, kept_of, IsInBuffer, Wants, HasNothingToHear, HasNothingToSay, IsAlive, IsDue, IsIdleUp, IsOfBlock, IsInSomeBuffer, IsWithin, in_hand, BeginsBlock, MayMoveOn, MayMoveUnit, block_begun, is_storing, move_wanted, part_kept, part_now, KeepsSaying, Says, TakesEnd, TellsNews, credits_told, packet_of, given_back, text_of, IsWanted, Writes, clear_from, given_in};
 ghost use Rattle.arrayvec.specs.ArrayVec.{ArrayVec as Written};
 ghost use Rattle.mscp_port.specs.declared.action.Action.TheVariants as actions;
 ghost use Rattle.mscp_port.specs.declared.buffers.Buffer.{Buffer as Kept};

@@ -1,6 +1,7 @@
 // What comes from elsewhere than the host: volumes, and time.
 
-ghost use Rattle.mscp_port.specs.Common.{◌≡◌, ◌↔◌, true, false, IsTrue, Changes, IsQuiet, LooksAgain, Ticks, seconds};
+ghost use Rattle.std.specs.Prelude.{◌≡◌, ◌↔◌, true, false, IsTrue};
+ghost use Rattle.mscp_port.specs.Common.{Changes, IsQuiet, LooksAgain, Ticks, seconds};
 
 use crate::port::Port;
 use crate::stage::Stage;

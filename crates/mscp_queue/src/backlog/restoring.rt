@@ -1,6 +1,7 @@
 // Waiting commands as they were, and how long each may still wait.
 
-ghost use Rattle.mscp_queue.specs.Common.{◌≡◌, ◌*◌, ◌<◌, ◌≤◌, ◌^◌, true, All, length, sum_by, targets_of, figure_in, is_known, units_of, left_if_serving};
+ghost use Rattle.std.specs.Prelude.{◌≡◌, ◌*◌, ◌<◌, ◌≤◌, ◌^◌, true, All, length, sum_by};
+ghost use Rattle.mscp_queue.specs.Common.{targets_of, figure_in, is_known, units_of, left_if_serving};
 
 use crate::backlog::Backlog;
 use crate::drive::Drive;

@@ -1,6 +1,7 @@
 // A queue as it was, and what is to be kept of one so that it can be again.
 
-ghost use Rattle.mscp_queue.specs.Common.{◌≡◌, ◌<◌, ◌≤◌, true, ◌||◌, All, length, map, IfNone, IfSome, None, position, ArePassedInOrder, HasBlocks, IsHeld, units_of, IsOnUnit, choice_in, has_choice_name, is_move, is_sequential, is_in_service, record_at};
+ghost use Rattle.std.specs.Prelude.{◌≡◌, ◌<◌, ◌≤◌, ◌||◌, true, All, length, map, IfNone, IfSome, None};
+ghost use Rattle.mscp_queue.specs.Common.{position, ArePassedInOrder, HasBlocks, IsHeld, units_of, IsOnUnit, choice_in, has_choice_name, is_move, is_sequential, is_in_service, record_at};
 
 use crate::backlog::Backlog;
 use crate::candidates::Candidates;

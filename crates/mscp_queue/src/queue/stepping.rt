@@ -1,6 +1,7 @@
 // What a queue serves next, and its steps.
 
-ghost use Rattle.mscp_queue.specs.Common.{◌≡◌, ◌<◌, [], length, IfNone, IfSome, None, Some, IsOfKind, IsOfUnit, place_served, units_of, Begins, BeginsAt, Serves, ServesAt, drive_at, record_at, IsNext, end_in, upcoming_begun, upcoming_of};
+ghost use Rattle.std.specs.Prelude.{◌≡◌, ◌<◌, [], length, IfNone, IfSome, None, Some};
+ghost use Rattle.mscp_queue.specs.Common.{IsOfKind, IsOfUnit, place_served, units_of, Begins, BeginsAt, Serves, ServesAt, drive_at, record_at, IsNext, end_in, upcoming_begun, upcoming_of};
 
 use crate::picker::Picker;
 use crate::plan::Plan;

@@ -1,7 +1,8 @@
 // The lines of a report. But for the last, and for those that are always the same, each is written from its end to its
 // start, and appended in one piece.
 
-ghost use Rattle.mscp_script.specs.Common.{◌≡◌, ◌+◌, ◌≤◌, ◌++◌, length, codes, OnOk, flat_map, aborted_part, block_word, connection_word, ended_part, entry_lines, figure_line, last_line, refusal_word, sent_line, step_line};
+ghost use Rattle.std.specs.Prelude.{◌≡◌, ◌+◌, ◌≤◌, ◌++◌, length, codes, OnOk};
+ghost use Rattle.mscp_script.specs.Common.{flat_map, aborted_part, block_word, connection_word, ended_part, entry_lines, figure_line, last_line, refusal_word, sent_line, step_line};
 ghost use Rattle.mscp_controller.specs.declared.entry.Entry.TheVariants as entries;
 
 use crate::reporting::tail::Tail;

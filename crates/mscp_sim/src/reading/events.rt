@@ -1,6 +1,7 @@
 // The lines after the header: what comes to the controller.
 
-ghost use Rattle.mscp_sim.specs.Common.{◌≡◌, ◌++◌, ◌≤◌, [], replicate, vec_len, IfOk, OnOk, command_bytes, Step, Settings, events_of, HasGone, Tells, rest_outcome, MOST_EVENTS};
+ghost use Rattle.std.specs.Prelude.{◌≡◌, ◌++◌, ◌≤◌, [], replicate, vec_len, IfOk, OnOk};
+ghost use Rattle.mscp_sim.specs.Common.{command_bytes, Step, Settings, events_of, HasGone, Tells, rest_outcome, MOST_EVENTS};
 
 use arrayvec::ArrayVec;
 use mscp_events::{Block, Event, OutOfMemory};

@@ -1,6 +1,7 @@
 // The text of commands and ends.
 
-ghost use Rattle.mscp_text.specs.Common.{◌≡◌, ◌++◌, codes, OnOk, status_text, body_text, code_text, command_text, end_text, invalid_name, move_name, order_text, packet_line};
+ghost use Rattle.std.specs.Prelude.{◌≡◌, ◌++◌, codes, OnOk};
+ghost use Rattle.mscp_text.specs.Common.{status_text, body_text, code_text, command_text, end_text, invalid_name, move_name, order_text, packet_line};
 
 use crate::out::Out;
 use crate::packet::Packet;

@@ -3,9 +3,7 @@
 mod paired;
 
 use super::moments::{Moments, event_of};
-use super::values::{
-    FIRST, SECOND, limits, online_ended, read, read_ended, read_message, served, unit,
-};
+use super::values::*;
 use crate::tests::checks::{holds, same};
 use mscp_controller::{Block, Connection, Entry, Report, Sent, Sweep};
 use mscp_host::{HostFault, News};

@@ -1,6 +1,7 @@
 // What a port is saved as that bytes say, up to its controller: bytes that are a port's are these.
 
-ghost use Rattle.mscp_port.specs.Common.{◌≡◌, ◌+◌, ◌≤◌, ◌++◌, length, array_vec_len, IsFramed, front_in, told_front, counts_bytes, hand_bytes, state_bytes};
+ghost use Rattle.std.specs.Prelude.{◌≡◌, ◌+◌, ◌≤◌, ◌++◌, length};
+ghost use Rattle.mscp_port.specs.Common.{array_vec_len, IsFramed, front_in, told_front, counts_bytes, hand_bytes, state_bytes};
 
 use crate::codes::{coded_task, task_in};
 use crate::port::Outgoing;

@@ -4,9 +4,7 @@ use super::*;
 use crate::tests::calls::Trial;
 use crate::tests::checks::{holds, same};
 use crate::tests::crowds::{full, one_of_many};
-use crate::tests::values::{
-    FIRST, abort_ended, bad, command, config, online_ended, read, read_ended, served,
-};
+use crate::tests::values::*;
 use mscp_packet::{Command, End};
 
 /// A controller whose unit 0 is online.

@@ -3,9 +3,7 @@
 use super::*;
 use crate::tests::calls::Trial;
 use crate::tests::checks::same;
-use crate::tests::values::{
-    FIRST, SECOND, abort_ended, command, limits, poll, read, read_ended, served, unit,
-};
+use crate::tests::values::*;
 use mscp_packet::Command;
 
 /// A controller of so many credits on each connection, of one unit.
