@@ -84,8 +84,8 @@ static const uint8_t HEAD[72] = {
     0, 0, 1,
 };
 
-/* The volumes of units 0 and 1: one that is there, changed once, and is online, so it is no news; and none. */
-static const uint8_t VOLUMES[26] = {1, 0, 0, 0, 1, 0, 0, 0, 1, 1};
+/* The volumes of units 0 and 1: one that is there, is no news and freshly online, and changed once; and none. */
+static const uint8_t VOLUMES[26] = {1, 0, 0, 2, 1, 0, 0, 0, 1, 1};
 
 /* What is kept of the READ: its number, address and count, no modifiers, no flags, and the volume that changed once. */
 static const uint8_t BUFFER[20] = {2, 0, 0, 0, 0, 4, 0, 0, 0, 8, 0, 0, 0, 0, 0, 0, 1, 0, 0, 0};
