@@ -8,11 +8,9 @@
 
 enum { CONTROLLERS = 4, DRIVES = 4, WORK = DRIVES, SECOND, UNITS };
 
-/* Unit flags of ours: the host may not write on it. And in a unit, which drive of the table below it is, and whether the
- * last that was done with its file was a write. */
-#define UNIT_LOCKED (1u << UNIT_V_UF)
-#define DRIVE u3
-#define WROTE u4
+#define UNIT_LOCKED (1u << UNIT_V_UF) /* a flag of a unit: the host may not write on it */
+#define DRIVE u3                      /* in a unit: which drive of the table below it is */
+#define WROTE u4                      /* whether the last that was done with its file was a write */
 
 /* A controller: the port, and an interrupt that was posted and not yet taken. */
 struct controller {
@@ -29,38 +27,38 @@ extern t_addr cpu_memsize;
 extern uint32 Map_Addr (uint32 address);
 extern DEVICE rq_dev, rqb_dev, rqc_dev, rqd_dev;
 
+static UNIT units[CONTROLLERS][UNITS];
 static struct controller controllers[CONTROLLERS] = {
     {.device = &rq_dev}, {.device = &rqb_dev}, {.device = &rqc_dev}, {.device = &rqd_dev}};
 
-/* How many actions a turn of the port has at most, and how many instructions go by between two turns; the first turn
- * after a register was touched comes as late. A block is two actions and a look at the rings. */
-static int32 actions = 100, pause = 200;
+/* How many actions a turn of the port has at most, and how many instructions go by before each turn. A block is two actions,
+ * and mostly a look at a ring. */
+static int32 actions = 50, pause = 200;
 
 /* ---- drives */
 
-/* The drives that a unit can be: blocks, blocks of a track, and tracks of a cylinder. All sizes are those of SIMH's list,
- * too, save of the RA70 and the RA80. Of the RA drives but the RA80 they are the product of the three figures of the
- * drive's manual, of which the third is its cylinders. The model is what the host is told in the unit's identifier. */
+/* The drives that a unit can be. The figures are written from memory, and all but those of the RA80 were compared with SIMH's
+ * list. The blocks of an RA drive other than the RA80 fill whole cylinders. The model is told in the unit's identifier. */
 static const struct drive {
     const char *name;
-    uint8 cable, model, number; /* 'J' of what is taken out of its drive, and else 'U' */
+    uint8 letter, model, number; /* the letter is U, or J where the pack can be taken out */
     uint32 blocks;
     uint16 track, group;
 } drives[] = {
     {"RD31", 'U', 12, 31, 41560, 17, 4},    {"RD51", 'U', 6, 51, 21600, 18, 4},
     {"RD52", 'U', 8, 52, 60480, 17, 8},     {"RD53", 'U', 9, 53, 138672, 17, 8},
     {"RD54", 'U', 13, 54, 311200, 17, 15},  {"RA60", 'J', 4, 60, 400176, 42, 6},
-    {"RA70", 'U', 18, 70, 547041, 33, 11},  {"RA71", 'U', 40, 71, 1367310, 51, 14},
-    {"RA72", 'U', 37, 72, 1953300, 51, 20}, {"RA80", 'U', 1, 80, 237212, 31, 14},
-    {"RA81", 'U', 5, 81, 891072, 51, 14},   {"RA82", 'U', 11, 82, 1216665, 57, 15},
-    {"RA90", 'U', 19, 90, 2376153, 69, 13}, {"RA92", 'U', 29, 92, 2940951, 73, 13},
+    {"RA71", 'U', 40, 71, 1367310, 51, 14}, {"RA72", 'U', 37, 72, 1953300, 51, 20},
+    {"RA80", 'U', 1, 80, 237212, 31, 14},   {"RA81", 'U', 5, 81, 891072, 51, 14},
+    {"RA82", 'U', 11, 82, 1216665, 57, 15}, {"RA90", 'U', 19, 90, 2376153, 69, 13},
+    {"RA92", 'U', 29, 92, 2940951, 73, 13},
 };
 enum { RD54 = 4 };
 
 /* The media identifier as the manual of MSCP has it: five letters of five bits, and a number of seven. */
 static uint32_t media (const struct drive *drive)
 {
-    const char letters[] = {'D', (char)drive->cable, drive->name[0], drive->name[1]};
+    const char letters[] = {'D', (char)drive->letter, drive->name[0], drive->name[1]};
     uint32_t all = 0;
     for (size_t i = 0; i < sizeof letters; i++)
         all = all << 5 | (uint32_t)(letters[i] - '@');
@@ -107,18 +105,25 @@ static void interrupt (void *machine, uint16_t vector)
     SET_INT (RQ);
 }
 
-/* The file is where the last block ended, unless the other of reading and writing comes now. */
+/* Mostly a file is where the last block ended, and is only sought where another one is wanted, or where reading and writing
+ * take turns. SIMH's EXAMINE and DEPOSIT move it too, so it is asked. */
 static t_bool seek (UNIT *unit, uint32_t block, t_bool writes)
 {
     t_addr wanted = block * MSCP_BLOCK;
     if (!(unit->flags & UNIT_ATT))
         return FALSE;
-    if (unit->pos != wanted || unit->WROTE != writes)
-        if (sim_fseek (unit->fileref, wanted, SEEK_SET) != 0)
-            return FALSE;
+    if (unit->WROTE == writes && ftell (unit->fileref) == (long)wanted)
+        return TRUE;
     unit->WROTE = writes;
-    unit->pos = wanted + MSCP_BLOCK;
-    return TRUE;
+    return sim_fseek (unit->fileref, wanted, SEEK_SET) == 0;
+}
+
+/* An error isn't kept: the next block may be a good one. */
+static bool went_well (FILE *file)
+{
+    bool is_good = ferror (file) == 0;
+    clearerr (file);
+    return is_good;
 }
 
 /* Behind the end of its file a volume has zeros. */
@@ -129,17 +134,14 @@ static bool read_block (void *machine, uint16_t number, uint32_t block, uint8_t 
     if (!seek (unit, block, FALSE))
         return false;
     length = fread (bytes, 1, MSCP_BLOCK, unit->fileref);
-    if (length < MSCP_BLOCK) {
-        memset (bytes + length, 0, MSCP_BLOCK - length);
-        unit->pos = ~0u; /* seek anew */
-    }
-    return ferror (unit->fileref) == 0;
+    memset (bytes + length, 0, MSCP_BLOCK - length);
+    return went_well (unit->fileref);
 }
 
 static bool write_block (void *machine, uint16_t number, uint32_t block, const uint8_t *bytes)
 {
     UNIT *unit = ((struct controller *)machine)->device->units + number;
-    return seek (unit, block, TRUE) && fwrite (bytes, MSCP_BLOCK, 1, unit->fileref) == 1;
+    return seek (unit, block, TRUE) && fwrite (bytes, MSCP_BLOCK, 1, unit->fileref) == 1 && went_well (unit->fileref);
 }
 
 /* ---- the controller's two registers, its interrupt and its time */
@@ -210,10 +212,7 @@ static t_stat write_register (int32 data, int32 address, int32 access)
 
 static struct controller *controller_of (const UNIT *unit)
 {
-    for (int i = 0; i < CONTROLLERS; i++)
-        if (unit >= controllers[i].device->units && unit < controllers[i].device->units + UNITS)
-            return &controllers[i];
-    return NULL;
+    return &controllers[(unit - units[0]) / UNITS];
 }
 
 /* A turn of the port. Nothing tells it when its host has given a slot for responses back. So while it rests it looks again,
@@ -269,7 +268,6 @@ static t_stat attach (UNIT *unit, char *name)
     t_stat status = attach_unit (unit, name);
     if (status != SCPE_OK)
         return status;
-    unit->pos = ~0u;
     port_insert (&it->port, (uint16_t)(unit - it->device->units), (unit->flags & (UNIT_RO | UNIT_LOCKED)) != 0);
     if (sim_is_active (&it->device->units[WORK]))
         call (it); /* a host that has asked for attention messages gets one */
@@ -308,39 +306,6 @@ static t_stat may_lock (UNIT *unit, int32 value, char *text, void *nothing)
     return unit->flags & UNIT_ATT ? SCPE_ALATT : SCPE_OK;
 }
 
-static t_stat show_port (FILE *to, UNIT *unit, int32 value, void *nothing)
-{
-    fprintf (to, "SA=%06o", (unsigned)port_read (&controller_of (unit)->port, 2));
-    return SCPE_OK;
-}
-
-/* EXAMINE and DEPOSIT of a word of a volume. */
-static t_stat examine (t_value *value, t_addr address, UNIT *unit, int32 switches)
-{
-    struct controller *it = controller_of (unit);
-    uint8_t block[MSCP_BLOCK];
-    if (address >= unit->capac)
-        return SCPE_NXM;
-    if (!read_block (it, (uint16_t)(unit - it->device->units), address / MSCP_BLOCK, block))
-        return SCPE_IOERR;
-    *value = block[address % MSCP_BLOCK & ~1u] | (t_value)block[address % MSCP_BLOCK | 1] << 8;
-    return SCPE_OK;
-}
-
-static t_stat deposit (t_value value, t_addr address, UNIT *unit, int32 switches)
-{
-    struct controller *it = controller_of (unit);
-    uint16_t number = (uint16_t)(unit - it->device->units);
-    uint8_t block[MSCP_BLOCK];
-    if (address >= unit->capac)
-        return SCPE_NXM;
-    if (!read_block (it, number, address / MSCP_BLOCK, block))
-        return SCPE_IOERR;
-    block[address % MSCP_BLOCK & ~1u] = (uint8_t)value;
-    block[address % MSCP_BLOCK | 1] = (uint8_t)(value >> 8);
-    return write_block (it, number, address / MSCP_BLOCK, block) ? SCPE_OK : SCPE_IOERR;
-}
-
 /* ---- BOOT: the words of boot.s, which reads block 0 of the unit to address 0 and jumps there, with the unit in R0 and
  * the address of IP in R1 */
 
@@ -354,13 +319,10 @@ static const uint16 boot_words[] = {
     0012702, 0016212,          /*         mov #answers, r2 */
     0012703, 0004000,          /*         mov #4000, r3 */
     0005021,                   /*         clr (r1)+              write IP. From here on R1 is SA */
-    0005711,                   /* step:   tst (r1) */
-    0100466,                   /*         bmi fail               a fatal error */
-    0030311,                   /*         bit r3, (r1) */
-    0001774,                   /*         beq step               until the port shows this step */
+    0005711, 0100466,          /* step:   tst (r1), bmi fail     a fatal error */
+    0030311, 0001774,          /*         bit r3, (r1), beq step until the port shows this step */
     0012211,                   /*         mov (r2)+, (r1) */
-    0006303,                   /*         asl r3 */
-    0100371,                   /*         bpl step               the four steps have bits 11 to 14 */
+    0006303, 0100371,          /*         asl r3, bpl step       the four steps have bits 11 to 14 */
     0012703, 0002000,          /*         mov #text-4, r3 */
     0005023,                   /* clear:  clr (r3)+ */
     0020327, 0002210,          /*         cmp r3, #rings */
@@ -420,17 +382,16 @@ static REG registers[] = {
 #define SET_TO(number, name) {MTAB_XTD | MTAB_VUN, number, NULL, name, set_drive, NULL, NULL}
 static MTAB modifiers[] = {
     SET_TO (0, "RD31"), SET_TO (1, "RD51"), SET_TO (2, "RD52"), SET_TO (3, "RD53"), SET_TO (4, "RD54"),
-    SET_TO (5, "RA60"), SET_TO (6, "RA70"), SET_TO (7, "RA71"), SET_TO (8, "RA72"), SET_TO (9, "RA80"),
-    SET_TO (10, "RA81"), SET_TO (11, "RA82"), SET_TO (12, "RA90"), SET_TO (13, "RA92"),
+    SET_TO (5, "RA60"), SET_TO (6, "RA71"), SET_TO (7, "RA72"), SET_TO (8, "RA80"), SET_TO (9, "RA81"),
+    SET_TO (10, "RA82"), SET_TO (11, "RA90"), SET_TO (12, "RA92"),
     {MTAB_XTD | MTAB_VUN, 0, "TYPE", NULL, NULL, show_drive, NULL},
     {UNIT_LOCKED, 0, "write enabled", "WRITEENABLED", may_lock},
     {UNIT_LOCKED, UNIT_LOCKED, "write locked", "LOCKED", may_lock},
     {MTAB_XTD | MTAB_VDV, 4, "ADDRESS", "ADDRESS", set_addr, show_addr, NULL},
-    {MTAB_XTD | MTAB_VDV | MTAB_NMO, 0, "PORT", NULL, NULL, show_port, NULL},
     {0}};
 
 #define A_DEVICE(name, number, flags) \
-    {name, units[number], registers, modifiers, UNITS, DEV_RDX, 31, 2, DEV_RDX, 16, examine, deposit, reset, boot, \
+    {name, units[number], registers, modifiers, UNITS, DEV_RDX, 31, 2, DEV_RDX, 16, NULL, NULL, reset, boot, \
      attach, detach, &dibs[number], (flags) | DEV_DISABLE | DEV_UBUS | DEV_QBUS}
 DEVICE rq_dev = A_DEVICE ("RQ", 0, DEV_FLTA);
 DEVICE rqb_dev = A_DEVICE ("RQB", 1, DEV_FLTA | DEV_DIS);

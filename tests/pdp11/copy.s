@@ -9,6 +9,7 @@ rounds = 1              ; how often it copies
 chunks = 4              ; how many times 32 blocks
 polls = 0
 compares = 1
+maps = 0                ; whether the Unibus map moves all above 40000 up by 400000
 between = 24.          ; how many looks at the ring go by between two polls
 
 ip = 172150
@@ -139,7 +140,24 @@ interrupts: .word 0
 
 ; What follows is in the blocks behind.
 . = 1000
-copy:   mov #rounds, round
+copy:   mov #maps, r0
+        beq 3$
+        mov #170200, r2         ; the map: a low and a high word for each 20000 bytes
+        clr r0
+        clr r1
+1$:     mov r0, (r2)+
+        mov r1, (r2)
+        cmp r2, #170206
+        blos 2$
+        bis #2, (r2)
+2$:     tst (r2)+
+        add #20000, r0
+        bcc 4$
+        inc r1
+4$:     cmp r2, #170374
+        blo 1$
+        mov #40, @#172516       ; it is on
+3$:     mov #rounds, round
 again:  clr next
         clr ended
         mov #4, r0
