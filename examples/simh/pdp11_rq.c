@@ -121,9 +121,10 @@ static t_bool seek (UNIT *unit, uint32_t block, t_bool writes)
 /* An error isn't kept: the next block may be a good one. */
 static bool went_well (FILE *file)
 {
-    bool is_good = ferror (file) == 0;
+    if (!ferror (file))
+        return true;
     clearerr (file);
-    return is_good;
+    return false;
 }
 
 /* Behind the end of its file a volume has zeros. */

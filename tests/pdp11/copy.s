@@ -10,6 +10,7 @@ chunks = 4              ; how many times 32 blocks
 polls = 0
 compares = 1
 maps = 0                ; whether the Unibus map moves all above 40000 up by 400000
+more = 0                ; bits that are set in the upper words of addresses
 between = 24.          ; how many looks at the ring go by between two polls
 
 ip = 172150
@@ -420,4 +421,4 @@ answered: .word 0
 number: .word 0, 0, 0, 0        ; of each place: the upper word of the command that is outstanding, and its chunk
 chunk:  .word 0, 0, 0, 0
 low:    .word 40000, 100000, 140000, 0  ; where its data are
-high:   .word 0, 0, 0, 1
+high:   .word more, more, more, more+1
