@@ -16,8 +16,7 @@ enum { CONTROLLERS = 4, DRIVES = 4, WORK = DRIVES, SECOND, UNITS };
 struct controller {
     struct port port;
     DEVICE *device;
-    int32 is_posted;
-    int32 vector;
+    int32 is_posted, vector;
 };
 
 extern uint16 *M;
@@ -33,7 +32,7 @@ static struct controller controllers[CONTROLLERS] = {
 
 /* How many actions a turn of the port has at most, and how many instructions go by before each turn. A block is two actions,
  * and mostly a look at a ring. */
-static int32 actions = 50, pause = 200;
+static int32 actions = 100, pause = 200;
 
 /* ---- drives */
 
