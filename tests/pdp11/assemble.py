@@ -3,9 +3,10 @@
 
     assemble.py SOURCE FILE [NAME=NUMBER..]
 
-A line has labels with colons, an instruction or `.word` with its operands, and a comment behind a semicolon. A label that is a
-number with a dollar counts up to the next one that isn't. `NAME = number` names a number, and `. = number` sets the place. Numbers are octal, or decimal with a point behind. A NAME=NUMBER of the command
-line goes before that of the source. FILE is filled up with zeros to whole blocks of 512 bytes."""
+A line has labels with colons, an instruction or `.word` with its operands, and a comment behind a semicolon. A label that is
+a number with a dollar counts up to the next one that isn't. `NAME = number` names a number, and `. = number` sets the place.
+Numbers are octal, or decimal with a point behind. A NAME=NUMBER of the command line goes before that of the source. FILE is
+filled up with zeros to whole blocks of 512 bytes."""
 import re
 import sys
 
