@@ -1,0 +1,399 @@
+/* pdp11_rq.c: the disks RQ, RQB, RQC and RQD of SIMH 3.8.1's PDP-11, over the proved port of mscp.h.
+ *
+ *     examples/simh/build SOURCE FOLDER      (SOURCE is SIMH's tarball, or a folder with what is in it)
+ *
+ * It takes the place of SIMH's own file of this name, and has nothing of it. docs/PORT.md says how to use it. */
+#include "port.h"
+#include "pdp11_defs.h"
+
+enum { CONTROLLERS = 4, DRIVES = 4, WORK = DRIVES, SECOND, UNITS };
+
+#define UNIT_LOCKED (1u << UNIT_V_UF) /* a flag of a unit: the host may not write on it */
+#define DRIVE u3                      /* in a unit: which drive of the table below it is */
+#define WROTE u4                      /* whether the last that was done with its file was a write */
+
+/* A controller: the port, and an interrupt that was posted and not yet taken. */
+struct controller {
+    struct port port;
+    DEVICE *device;
+    int32 is_posted, vector;
+};
+
+extern uint16 *M;
+extern int32 int_req[IPL_HLVL];
+extern int32 cpu_opt, cpu_bme, saved_PC, tmr_poll, clk_tps, sim_end;
+extern t_addr cpu_memsize;
+extern uint32 Map_Addr (uint32 address);
+extern DEVICE rq_dev, rqb_dev, rqc_dev, rqd_dev;
+
+static UNIT units[CONTROLLERS][UNITS];
+static struct controller controllers[CONTROLLERS] = {
+    {.device = &rq_dev}, {.device = &rqb_dev}, {.device = &rqc_dev}, {.device = &rqd_dev}};
+
+/* How many actions a turn of the port has at most, and how many instructions go by before each turn. A block is two actions,
+ * and mostly a look at a ring. */
+static int32 actions = 100, pause = 200;
+
+/* ---- drives */
+
+/* The drives that a unit can be. The figures are written from memory, and all but those of the RA80 were compared with SIMH's
+ * list. The blocks of an RA drive other than the RA80 fill whole cylinders. The model is told in the unit's identifier. */
+static const struct drive {
+    const char *name;
+    uint8 letter, model, number; /* the letter is U, or J where the pack can be taken out */
+    uint32 blocks;
+    uint16 track, group;
+} drives[] = {
+    {"RD31", 'U', 12, 31, 41560, 17, 4},    {"RD51", 'U', 6, 51, 21600, 18, 4},
+    {"RD52", 'U', 8, 52, 60480, 17, 8},     {"RD53", 'U', 9, 53, 138672, 17, 8},
+    {"RD54", 'U', 13, 54, 311200, 17, 15},  {"RA60", 'J', 4, 60, 400176, 42, 6},
+    {"RA71", 'U', 40, 71, 1367310, 51, 14}, {"RA72", 'U', 37, 72, 1953300, 51, 20},
+    {"RA80", 'U', 1, 80, 237212, 31, 14},   {"RA81", 'U', 5, 81, 891072, 51, 14},
+    {"RA82", 'U', 11, 82, 1216665, 57, 15}, {"RA90", 'U', 19, 90, 2376153, 69, 13},
+    {"RA92", 'U', 29, 92, 2940951, 73, 13},
+};
+enum { RD54 = 4 };
+
+/* The media identifier as the manual of MSCP has it: five letters of five bits, and a number of seven. */
+static uint32_t media (const struct drive *drive)
+{
+    const char letters[] = {'D', (char)drive->letter, drive->name[0], drive->name[1]};
+    uint32_t all = 0;
+    for (size_t i = 0; i < sizeof letters; i++)
+        all = all << 5 | (uint32_t)(letters[i] - '@');
+    return all << 12 | drive->number;
+}
+
+/* ---- what the port wants of the machine */
+
+/* Where these bytes of the bus lie in SIMH's memory, or NULL where they don't lie there in one piece: the Unibus map may move
+ * them page by page, and a host of the other order of bytes has each word swapped. */
+static uint8_t *in_memory (uint32_t address, uint32_t count)
+{
+    address &= UNIBUS ? UNIMASK : PAMASK;
+    if (!sim_end || (cpu_bme && UBM_GETOFF (address) + count > UBM_PAGSIZE))
+        return NULL;
+    if (cpu_bme)
+        address = Map_Addr (address);
+    return address + count <= cpu_memsize ? (uint8_t *)M + address : NULL;
+}
+
+static enum mscp_outcome read_memory (void *machine, uint32_t address, uint8_t *bytes, uint32_t count)
+{
+    const uint8_t *from = in_memory (address, count);
+    if (from == NULL)
+        return Map_ReadB (address, count, bytes) == 0 ? MSCP_OUTCOME_DONE : MSCP_OUTCOME_MISSING;
+    memcpy (bytes, from, count);
+    return MSCP_OUTCOME_DONE;
+}
+
+static enum mscp_outcome write_memory (void *machine, uint32_t address, const uint8_t *bytes, uint32_t count)
+{
+    uint8_t *to = in_memory (address, count);
+    if (to == NULL)
+        return Map_WriteB (address, count, (uint8 *)bytes) == 0 ? MSCP_OUTCOME_DONE : MSCP_OUTCOME_MISSING;
+    memcpy (to, bytes, count);
+    return MSCP_OUTCOME_DONE;
+}
+
+static void interrupt (void *machine, uint16_t vector)
+{
+    struct controller *it = machine;
+    it->is_posted = TRUE;
+    it->vector = vector;
+    SET_INT (RQ);
+}
+
+/* Mostly a file is where the last block ended, and is only sought where another one is wanted, or where reading and writing
+ * take turns. SIMH's EXAMINE and DEPOSIT move it too, so it is asked. */
+static t_bool seek (UNIT *unit, uint32_t block, t_bool writes)
+{
+    t_addr wanted = block * MSCP_BLOCK;
+    if (!(unit->flags & UNIT_ATT))
+        return FALSE;
+    if (unit->WROTE == writes && ftell (unit->fileref) == (long)wanted)
+        return TRUE;
+    unit->WROTE = writes;
+    return sim_fseek (unit->fileref, wanted, SEEK_SET) == 0;
+}
+
+/* An error isn't kept: the next block may be a good one. */
+static bool went_well (FILE *file)
+{
+    if (!ferror (file))
+        return true;
+    clearerr (file);
+    return false;
+}
+
+/* Behind the end of its file a volume has zeros. */
+static bool read_block (void *machine, uint16_t number, uint32_t block, uint8_t *bytes)
+{
+    UNIT *unit = ((struct controller *)machine)->device->units + number;
+    size_t length;
+    if (!seek (unit, block, FALSE))
+        return false;
+    length = fread (bytes, 1, MSCP_BLOCK, unit->fileref);
+    memset (bytes + length, 0, MSCP_BLOCK - length);
+    return went_well (unit->fileref);
+}
+
+static bool write_block (void *machine, uint16_t number, uint32_t block, const uint8_t *bytes)
+{
+    UNIT *unit = ((struct controller *)machine)->device->units + number;
+    return seek (unit, block, TRUE) && fwrite (bytes, MSCP_BLOCK, 1, unit->fileref) == 1 && went_well (unit->fileref);
+}
+
+/* ---- the controller's two registers, its interrupt and its time */
+
+/* Takes back an interrupt that was posted. */
+static void withdraw (struct controller *it)
+{
+    it->is_posted = FALSE;
+    CLR_INT (RQ);
+    for (int i = 0; i < CONTROLLERS; i++)
+        if (controllers[i].is_posted)
+            SET_INT (RQ);
+}
+
+/* The processor takes the interrupt of the first controller that has one. */
+static int32 acknowledge (void)
+{
+    for (int i = 0; i < CONTROLLERS; i++)
+        if (controllers[i].is_posted) {
+            withdraw (&controllers[i]);
+            return controllers[i].vector;
+        }
+    return 0;
+}
+
+static struct controller *controller_at (int32 address)
+{
+    for (int i = 0; i < CONTROLLERS; i++) {
+        DIB *dib = controllers[i].device->ctxt;
+        if (!(controllers[i].device->flags & DEV_DIS) && (uint32)address - dib->ba < dib->lnt)
+            return &controllers[i];
+    }
+    return NULL;
+}
+
+/* The port has something to do. It does it in a while, as the host has to go on between the steps of the initialisation. */
+static void call (struct controller *it)
+{
+    UNIT *unit = &it->device->units[WORK];
+    if (unit->wait > pause || !sim_is_active (unit))
+        sim_activate_abs (unit, unit->wait = pause);
+}
+
+static t_stat read_register (int32 *data, int32 address, int32 access)
+{
+    struct controller *it = controller_at (address);
+    if (it == NULL)
+        return SCPE_NXM;
+    *data = port_read (&it->port, address & 2);
+    if (!(address & 2))
+        call (it);
+    return SCPE_OK;
+}
+
+static t_stat write_register (int32 data, int32 address, int32 access)
+{
+    struct controller *it = controller_at (address);
+    if (it == NULL)
+        return SCPE_NXM;
+    port_write (&it->port, address & 2, (uint16_t)data);
+    if (!(address & 2)) {
+        withdraw (it);
+        sim_activate_abs (&it->device->units[SECOND], tmr_poll * clk_tps);
+    }
+    call (it);
+    return SCPE_OK;
+}
+
+static struct controller *controller_of (const UNIT *unit)
+{
+    return &controllers[(unit - units[0]) / UNITS];
+}
+
+/* A turn of the port. Nothing tells it when its host has given a slot for responses back. So while it rests it looks again,
+ * at first soon, and at last with each tick of the clock. */
+static t_stat work (UNIT *unit)
+{
+    t_bool has_more = port_turn (&controller_of (unit)->port, actions);
+    unit->wait = has_more ? pause : unit->wait * 2;
+    if (unit->wait < tmr_poll)
+        return sim_activate (unit, unit->wait);
+    unit->wait = tmr_poll;
+    return sim_activate (unit, clk_cosched (tmr_poll));
+}
+
+static t_stat second (UNIT *unit)
+{
+    port_second (&controller_of (unit)->port);
+    return sim_activate (unit, tmr_poll * clk_tps);
+}
+
+/* ---- SIMH's commands */
+
+/* Makes the port as new: RESET, BOOT, the processor's RESET, and whatever changes the drives. On a Unibus it is a UDA50,
+ * and on a Q-bus an RQDX3. */
+static t_stat reset (DEVICE *device)
+{
+    static const struct mscp_hardware uda50 = {MSCP_BUS_UNI, 6, 3, 1}, rqdx3 = {MSCP_BUS_Q, 19, 3, 1};
+    struct controller *it = controller_of (device->units);
+    const struct port_bus bus = {it, read_memory, write_memory, interrupt, read_block, write_block};
+    struct mscp_unit told[DRIVES];
+    for (uint16_t i = 0; i < DRIVES; i++) {
+        const struct drive *drive = &drives[device->units[i].DRIVE];
+        told[i] = (struct mscp_unit){
+            .id = (uint64_t)2 << 56 | (uint64_t)drive->model << 48 | (uint64_t)(it - controllers) << 16 | i,
+            .size = drive->blocks, .media = media (drive), .serial = i + 1, .number = i, .track = drive->track,
+            .group = drive->group, .cylinder = 1,
+        };
+    }
+    if (port_open (&it->port, &bus, UNIBUS ? &uda50 : &rqdx3, told, DRIVES) != MSCP_DONE)
+        return SCPE_IERR;
+    for (uint16_t i = 0; i < DRIVES; i++)
+        if (device->units[i].flags & UNIT_ATT)
+            port_insert (&it->port, i, (device->units[i].flags & (UNIT_RO | UNIT_LOCKED)) != 0);
+    withdraw (it);
+    sim_cancel (&device->units[WORK]);
+    sim_cancel (&device->units[SECOND]);
+    return auto_config (NULL, 0);
+}
+
+static t_stat attach (UNIT *unit, char *name)
+{
+    struct controller *it = controller_of (unit);
+    t_stat status = attach_unit (unit, name);
+    if (status != SCPE_OK)
+        return status;
+    port_insert (&it->port, (uint16_t)(unit - it->device->units), (unit->flags & (UNIT_RO | UNIT_LOCKED)) != 0);
+    if (sim_is_active (&it->device->units[WORK]))
+        call (it); /* a host that has asked for attention messages gets one */
+    return SCPE_OK;
+}
+
+static t_stat detach (UNIT *unit)
+{
+    struct controller *it = controller_of (unit);
+    if (unit->flags & UNIT_ATT)
+        port_eject (&it->port, (uint16_t)(unit - it->device->units));
+    return detach_unit (unit);
+}
+
+/* The drive of a unit has another size, and so the controller is another one. */
+static t_stat set_drive (UNIT *unit, int32 value, char *text, void *nothing)
+{
+    if (text != NULL)
+        return SCPE_ARG;
+    if (unit->flags & UNIT_ATT)
+        return SCPE_ALATT;
+    unit->DRIVE = value;
+    unit->capac = drives[value].blocks * MSCP_BLOCK;
+    return reset (controller_of (unit)->device);
+}
+
+static t_stat show_drive (FILE *to, UNIT *unit, int32 value, void *nothing)
+{
+    fprintf (to, "%s", drives[unit->DRIVE].name);
+    return SCPE_OK;
+}
+
+/* A volume is protected or not from the moment that it is put in. */
+static t_stat may_lock (UNIT *unit, int32 value, char *text, void *nothing)
+{
+    return unit->flags & UNIT_ATT ? SCPE_ALATT : SCPE_OK;
+}
+
+/* ---- BOOT: the words of boot.s, which reads block 0 of the unit to address 0 and jumps there, with the unit in R0 and
+ * the address of IP in R1 */
+
+enum { BOOT = 016000, BOOT_ENTRY = BOOT + 2, BOOT_UNIT = BOOT + 010, BOOT_IP = BOOT + 014 };
+
+static const uint16 boot_words[] = {
+    0042125,                   /* start:  .word "UD" */
+    0012706, BOOT,             /*         mov #start, sp */
+    0012700, 0,                /* unit:   mov #0, r0 */
+    0012701, 0,                /* csr:    mov #172150, r1 */
+    0012702, 0016212,          /*         mov #answers, r2 */
+    0012703, 0004000,          /*         mov #4000, r3 */
+    0005021,                   /*         clr (r1)+              write IP. From here on R1 is SA */
+    0005711, 0100466,          /* step:   tst (r1), bmi fail     a fatal error */
+    0030311, 0001774,          /*         bit r3, (r1), beq step until the port shows this step */
+    0012211,                   /*         mov (r2)+, (r1) */
+    0006303, 0100371,          /*         asl r3, bpl step       the four steps have bits 11 to 14 */
+    0012703, 0002000,          /*         mov #text-4, r3 */
+    0005023,                   /* clear:  clr (r3)+ */
+    0020327, 0002210,          /*         cmp r3, #rings */
+    0103774,                   /*         blo clear */
+    0110067, 0164026,          /*         movb r0, command+4 */
+    0112767, 0000011, 0164024, /*         movb #11, command+10   ONLINE */
+    0004767, 0000030,          /*         jsr pc, send */
+    0112767, 0000041, 0164012, /*         movb #41, command+10   READ */
+    0012767, 0001000, 0164010, /*         mov #1000, command+14  of 512 bytes of block 0 to address 0 */
+    0004767, 0000010,          /*         jsr pc, send */
+    0005041,                   /*         clr -(r1)              write IP: the port forgets the rings */
+    0012704, 0016020,          /*         mov #start+20, r4      as SIMH's other boot code leaves it */
+    0005007,                   /*         clr pc */
+    0012767, 0000074, 0163746, /* send:   mov #60., command-4    the length of the text */
+    0012703, 0002210,          /*         mov #rings, r3 */
+    0012723, 0002004,          /*         mov #text, (r3)+       both slots are the port's */
+    0012723, 0100000,          /*         mov #100000, (r3)+ */
+    0012723, 0002110,          /*         mov #command, (r3)+ */
+    0012713, 0100000,          /*         mov #100000, (r3) */
+    0005761, 0177776,          /*         tst -2(r1)             read IP */
+    0005711,                   /* wait:   tst (r1) */
+    0100407,                   /*         bmi fail */
+    0005767, 0164014,          /*         tst rings+2 */
+    0100773,                   /*         bmi wait               until the response is the host's */
+    0005767, 0163612,          /*         tst text+12            its status */
+    0001001,                   /*         bne fail */
+    0000207,                   /*         rts pc */
+    0000000,                   /* fail:   halt */
+    0100000, 0002210, 0, 1,    /* answers: one slot a ring, where they are, and go */
+};
+
+static t_stat boot (int32 number, DEVICE *device)
+{
+    for (size_t i = 0; i < sizeof boot_words / sizeof *boot_words; i++)
+        M[BOOT / 2 + i] = boot_words[i];
+    M[BOOT_UNIT / 2] = (uint16)number;
+    M[BOOT_IP / 2] = (uint16)(((DIB *)device->ctxt)->ba & DMASK);
+    saved_PC = BOOT_ENTRY;
+    return SCPE_OK;
+}
+
+/* ---- SIMH's tables */
+
+#define A_DRIVE {UDATA (NULL, UNIT_FIX | UNIT_ATTABLE | UNIT_ROABLE, 311200 * MSCP_BLOCK), 0, RD54}
+#define ALL_UNITS {A_DRIVE, A_DRIVE, A_DRIVE, A_DRIVE, {UDATA (work, UNIT_IDLE | UNIT_DIS, 0)}, \
+                   {UDATA (second, UNIT_IDLE | UNIT_DIS, 0)}}
+static UNIT units[CONTROLLERS][UNITS] = {ALL_UNITS, ALL_UNITS, ALL_UNITS, ALL_UNITS};
+
+#define A_DIB(name) {IOBA_##name, IOLN_##name, read_register, write_register, 1, IVCL (RQ), 0, {acknowledge}}
+static DIB dibs[CONTROLLERS] = {A_DIB (RQ), A_DIB (RQB), A_DIB (RQC), A_DIB (RQD)};
+
+static REG registers[] = {
+    {DRDATA (ACTIONS, actions, 24), PV_LEFT + REG_NZ},
+    {DRDATA (PAUSE, pause, 24), PV_LEFT + REG_NZ},
+    {NULL}};
+
+#define SET_TO(number, name) {MTAB_XTD | MTAB_VUN, number, NULL, name, set_drive, NULL, NULL}
+static MTAB modifiers[] = {
+    SET_TO (0, "RD31"), SET_TO (1, "RD51"), SET_TO (2, "RD52"), SET_TO (3, "RD53"), SET_TO (4, "RD54"),
+    SET_TO (5, "RA60"), SET_TO (6, "RA71"), SET_TO (7, "RA72"), SET_TO (8, "RA80"), SET_TO (9, "RA81"),
+    SET_TO (10, "RA82"), SET_TO (11, "RA90"), SET_TO (12, "RA92"),
+    {MTAB_XTD | MTAB_VUN, 0, "TYPE", NULL, NULL, show_drive, NULL},
+    {UNIT_LOCKED, 0, "write enabled", "WRITEENABLED", may_lock},
+    {UNIT_LOCKED, UNIT_LOCKED, "write locked", "LOCKED", may_lock},
+    {MTAB_XTD | MTAB_VDV, 4, "ADDRESS", "ADDRESS", set_addr, show_addr, NULL},
+    {0}};
+
+#define A_DEVICE(name, number, flags) \
+    {name, units[number], registers, modifiers, UNITS, DEV_RDX, 31, 2, DEV_RDX, 16, NULL, NULL, reset, boot, \
+     attach, detach, &dibs[number], (flags) | DEV_DISABLE | DEV_UBUS | DEV_QBUS}
+DEVICE rq_dev = A_DEVICE ("RQ", 0, DEV_FLTA);
+DEVICE rqb_dev = A_DEVICE ("RQB", 1, DEV_FLTA | DEV_DIS);
+DEVICE rqc_dev = A_DEVICE ("RQC", 2, DEV_FLTA | DEV_DIS);
+DEVICE rqd_dev = A_DEVICE ("RQD", 3, DEV_FLTA | DEV_DIS);

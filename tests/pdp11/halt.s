@@ -1,0 +1,2 @@
+; Does nothing: what the boot code leaves can be looked at.
+        halt
