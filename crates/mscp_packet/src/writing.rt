@@ -58,6 +58,7 @@ pub fn write_command(command: &Command) -> ArrayVec<u8, 48>
 }
 
 /// Appends the fields of a body.
+#[rattlefmt::skip]
 fn put_body(out: &mut ArrayVec<u8, 48>, body: &EndBody)
     requires { array_vec_len out.old ≤ 12 }
     ensures items { out.new.items ≡ out.old.items ++ body_bytes body.now }
@@ -70,13 +71,7 @@ fn put_body(out: &mut ArrayVec<u8, 48>, body: &EndBody)
             put_four(out, *other);
             put_four(out, *figure);
         }
-        EndBody::UnitStatus {
-            id,
-            media,
-            track,
-            group,
-            cylinder,
-        } => {
+        EndBody::UnitStatus { id, media, track, group, cylinder } => {
             put_unit(out, *id, *media);
             put_two(out, *track);
             put_two(out, *group);
@@ -89,12 +84,7 @@ fn put_body(out: &mut ArrayVec<u8, 48>, body: &EndBody)
             put(out, &[0; 2]);
             put_eight(out, *id);
         }
-        EndBody::Online {
-            id,
-            media,
-            size,
-            serial,
-        } => {
+        EndBody::Online { id, media, size, serial } => {
             put_unit(out, *id, *media);
             put_four(out, *size);
             put_four(out, *serial);
