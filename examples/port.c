@@ -20,6 +20,7 @@ int32_t port_open(struct port *port, const struct port_bus *bus, const struct ms
         .timeout = 120,
     };
     port->bus = *bus;
+    port->lines = hardware->bus;
     port->mscp = mscp_port_in_memory(port->memory, sizeof port->memory);
     return mscp_port_init(port->mscp, &limits, units, count, MSCP_SWEEP, hardware, PORT_COMMANDS);
 }
@@ -106,6 +107,7 @@ bool port_turn(struct port *port, unsigned most)
             return false;
         if (done > 0 && action.kind == MSCP_ACTION_PAUSE)
             return true;
+        action.address = mscp_on_bus(port->lines, action.address);
         act(port, &action);
     }
     return true;
@@ -118,9 +120,9 @@ void port_second(struct port *port)
     mscp_port_tick(port->mscp);
 }
 
-bool port_insert(struct port *port, uint16_t unit, bool is_protected)
+bool port_insert(struct port *port, uint16_t unit, const struct mscp_medium *medium)
 {
-    return mscp_port_volume_came(port->mscp, unit, is_protected) == MSCP_DONE;
+    return mscp_port_volume_came(port->mscp, unit, medium) == MSCP_DONE;
 }
 
 bool port_eject(struct port *port, uint16_t unit)

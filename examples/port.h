@@ -6,8 +6,8 @@
 
 #define PORT_COMMANDS 16u /* that a host may have outstanding */
 
-/* What the machine does for its port. Each callback gets `machine` as it is here. Addresses are those of the bus, and
- * mapping them is the machine's: it answers MSCP_OUTCOME_DONE, or else MSCP_OUTCOME_MISSING, _PARITY or _UNMAPPED. */
+/* What the machine does for its port. Each callback gets `machine` as it is here. Addresses are those of the bus, of 22 bits or
+ * 18, and mapping them is the machine's: it answers MSCP_OUTCOME_DONE, or else MSCP_OUTCOME_MISSING, _PARITY or _UNMAPPED. */
 struct port_bus {
     void *machine;
     enum mscp_outcome (*read)(void *machine, uint32_t address, uint8_t *bytes, uint32_t count);
@@ -22,6 +22,7 @@ struct port_bus {
 struct port {
     struct port_bus bus;
     struct mscp_port *mscp;
+    uint8_t lines; /* of the bus, an enum mscp_bus */
     uint8_t block[MSCP_BLOCK]; /* on its way between a volume and the host's memory */
     MSCP_ALIGNED uint64_t memory[(MSCP_HEAD + MSCP_PORT_SIZE) / sizeof(uint64_t)];
 };
@@ -41,7 +42,7 @@ bool port_turn(struct port *port, unsigned most);
 /* A second of the machine went by. */
 void port_second(struct port *port);
 
-/* A volume is put into a unit, or taken out. Whether there is such a unit. */
-bool port_insert(struct port *port, uint16_t unit, bool is_protected);
+/* A volume is put into a unit, or taken out. Whether there is such a unit, and the volume fits. */
+bool port_insert(struct port *port, uint16_t unit, const struct mscp_medium *medium);
 bool port_eject(struct port *port, uint16_t unit);
 #endif

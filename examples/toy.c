@@ -69,7 +69,8 @@ static bool attach(uint32_t blocks)
         .id = (uint64_t)2 << 56 | (uint64_t)13 << 48, .size = blocks, .media = 0x25644036, .serial = 1,
         .track = 17, .group = 15, .cylinder = 1,
     };
-    return port_open(&port, &bus, &rqdx3, &rd54, 1) == MSCP_DONE && port_insert(&port, 0, false);
+    const struct mscp_medium medium = {.size = blocks, .media = rd54.media};
+    return port_open(&port, &bus, &rqdx3, &rd54, 1) == MSCP_DONE && port_insert(&port, 0, &medium);
 }
 
 /* The machine goes on by an instruction. */

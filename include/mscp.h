@@ -74,7 +74,7 @@ uint32_t mscp_version(void);
 #define MSCP_BLOCK 512u       /* bytes of a block */
 #define MSCP_SAVED_MAX 3664u  /* bytes that a controller is saved as, at most */
 #define MSCP_HOST_SAVED_MAX 794u /* bytes that a host is saved as, at most */
-#define MSCP_PORT_SAVED_MAX 5272u /* bytes that a port is saved as, at most */
+#define MSCP_PORT_SAVED_MAX 5416u /* bytes that a port is saved as, at most */
 
 /* What a call answers: 0 and up what came of it, below 0 why it was refused. */
 enum mscp_status {
@@ -127,6 +127,7 @@ enum mscp_status {
     MSCP_BAD_OUTCOME = -35,      /* mscp_port_went: no enum mscp_outcome, or a block's status of low five bits 0 to 4 */
     MSCP_UNASKED = -36,          /* the port didn't want what was told */
     MSCP_UNKNOWN_UNIT = -37,     /* no unit has this number */
+    MSCP_BAD_SIZE = -38,         /* mscp_port_volume_came: a volume without blocks, or with more than its unit has */
 
     MSCP_SAVED_LENGTH = -40,  /* a restore: the bytes aren't as many as they say */
     MSCP_SAVED_MAGIC = -41,   /* they don't begin with "MSCQ", "MSCH" for a host, or "MSCP" for a port */
@@ -235,6 +236,14 @@ struct mscp_hardware {
     uint8_t version;  /* that of its hardware */
 };
 
+/* What is put into a unit. */
+struct mscp_medium {
+    uint32_t size;        /* in blocks: 1 to those of the unit */
+    uint32_t media;       /* the type of its media, which the host is told */
+    uint8_t is_protected; /* whether nothing may be written on it */
+    uint8_t is_removable; /* whether it can be taken out, which the host is told */
+};
+
 /* What a port wants done. Its `address` and `count` are of host memory: so many bytes from there on. The block's buffer
  * is yours, and has MSCP_BLOCK bytes. */
 enum mscp_action_kind {
@@ -247,6 +256,20 @@ enum mscp_action_kind {
                                 * MSCP_WRITE, MSCP_ERASE (zeros into the block), MSCP_ACCESS (read it and drop it), or
                                 * MSCP_COMPARE_HOST_DATA (the first `count` bytes of both) */
     MSCP_ACTION_STORE = 7      /* write the first `count` bytes of the buffer there */
+};
+
+/* How far a port has come since its host wrote IP. */
+enum mscp_stage {
+    MSCP_STAGE_FIRST = 0,    /* the first step of the initialisation: the host is to write its first word to SA */
+    MSCP_STAGE_WRAPPED = 1,  /* whatever the host writes to SA is shown there again */
+    MSCP_STAGE_SECOND = 2,   /* the host is to write the low half of the base of its rings */
+    MSCP_STAGE_THIRD = 3,    /* the high half */
+    MSCP_STAGE_PURGING = 4,  /* the host is to write 0 to SA */
+    MSCP_STAGE_PROBING = 5,  /* the host is to read IP */
+    MSCP_STAGE_CLEARING = 6, /* the communication area is cleared */
+    MSCP_STAGE_LAST = 7,     /* the host is to say go */
+    MSCP_STAGE_UP = 8,       /* the rings are in use */
+    MSCP_STAGE_DEAD = 9      /* a fatal error */
 };
 
 /* How an action went. */
@@ -359,6 +382,24 @@ struct mscp_action {
     uint8_t bytes[64]; /* of WRITE `count`, and those behind them are what they were */
 };
 
+/* What a port is. */
+struct mscp_state {
+    uint16_t word;        /* of WRAPPED the word that is shown, of DEAD the code of the error, and else 0 */
+    uint8_t stage;        /* an enum mscp_stage */
+    uint8_t is_held_back; /* whether something is to go out, and the next slot of the ring of responses was the host's */
+};
+
+/* What is in a unit. */
+struct mscp_volume {
+    uint32_t size;                /* in blocks, of what is there or was last; 0 if nothing was */
+    uint32_t media;               /* and the type of its media */
+    uint8_t is_there;             /* whether a volume is */
+    uint8_t is_protected;         /* whether nothing may be written on it */
+    uint8_t is_protected_by_host; /* whether its host said so */
+    uint8_t is_online;            /* whether the unit is online with it */
+    uint8_t is_removable;         /* whether it can be taken out, or what was there last could */
+};
+
 /* ---- memory */
 
 /* How many bytes a controller, a host or a port takes, and what its address is a multiple of. malloc aligns so. */
@@ -373,7 +414,7 @@ size_t mscp_port_align(void);
  * static MSCP_ALIGNED uint64_t memory[(MSCP_HEAD + MSCP_SIZE) / sizeof(uint64_t)]; */
 #define MSCP_SIZE 15248u
 #define MSCP_HOST_SIZE 1056u
-#define MSCP_PORT_SIZE 17008u
+#define MSCP_PORT_SIZE 17136u
 
 /* Marks of handles on memory where nothing was made yet. */
 #define MSCP_ROOM UINT64_C(0x4D534350524F4F4D)
@@ -473,13 +514,14 @@ MSCP_INLINE struct mscp_port *mscp_port_moved(void *memory)
     return handle;
 }
 
-/* The library's own form of sixteen calls: their pointer to a list or to bytes is never NULL. In C call those without
+/* The library's own form of twenty calls: their pointer to a list or to bytes is never NULL. In C call those without
  * _at. */
 int32_t mscp_init_at(struct mscp *mscp, const struct mscp_limits *limits, const struct mscp_unit *units, size_t count,
                      uint32_t picker);
 int32_t mscp_send_at(struct mscp *mscp, uint32_t connection, const uint8_t *message, size_t length,
                      struct mscp_sent *sent);
 int32_t mscp_look_at(const struct mscp *mscp, struct mscp_waiting *list, size_t room);
+int32_t mscp_settings_at(const struct mscp *mscp, struct mscp_limits *limits, struct mscp_unit *units, size_t room);
 int32_t mscp_why_at(const struct mscp *mscp, uint32_t connection, uint32_t reference, struct mscp_holder *list,
                     size_t room);
 int32_t mscp_save_at(const struct mscp *mscp, uint8_t *bytes, size_t room, size_t *length);
@@ -491,6 +533,11 @@ int32_t mscp_host_restore_at(struct mscp_host *host, const uint8_t *bytes, size_
 int32_t mscp_port_init_at(struct mscp_port *port, const struct mscp_limits *limits, const struct mscp_unit *units,
                           size_t count, uint32_t picker, const struct mscp_hardware *hardware, uint32_t credits);
 int32_t mscp_port_was_read_at(struct mscp_port *port, const uint8_t *bytes, size_t length);
+int32_t mscp_port_settings_at(const struct mscp_port *port, struct mscp_limits *limits, struct mscp_unit *units,
+                              size_t room);
+int32_t mscp_port_look_at(const struct mscp_port *port, struct mscp_waiting *list, size_t room);
+int32_t mscp_port_why_at(const struct mscp_port *port, uint32_t connection, uint32_t reference,
+                         struct mscp_holder *list, size_t room);
 int32_t mscp_port_save_at(const struct mscp_port *port, uint8_t *bytes, size_t room, size_t *length);
 int32_t mscp_port_restore_at(struct mscp_port *port, const uint8_t *bytes, size_t length);
 int32_t mscp_run_script_at(const uint8_t *script, size_t length, uint8_t *bytes, size_t room, size_t *count,
@@ -505,7 +552,8 @@ int32_t mscp_show_packet_at(const uint8_t *word, size_t length, uint8_t *bytes, 
  * by a picker of enum mscp_picker. MSCP_DONE, or the first fault in this order: those of the memory (-11 to -15),
  * MSCP_BAD_PICKER, MSCP_MANY_UNITS, those of the first unit that has one (-21 to -24), MSCP_UNITS_FALL, MSCP_NO_UNITS,
  * those of the limits (-28 to -31). The controller is made on the stack, of which this takes up to 40 KiB, and is moved
- * into the memory. No call but mscp_run_script takes more, and no other one over 2 KiB, but for those that save and restore.
+ * into the memory. No call but mscp_run_script takes more. No other one takes over 2 KiB, but for mscp_why with up to 3, and
+ * those that save and restore.
  * Where each function takes much for itself, as on s390x and 32-bit x86, mscp.c takes up to 256 bytes more. The memory may
  * go at any time, without a call. */
 MSCP_MUST_USE
@@ -582,6 +630,15 @@ int64_t mscp_balance(const struct mscp *mscp, uint32_t connection);
 
 /* Whether the unit of this number is online: 1, or 0 where it isn't, or isn't configured. */
 int32_t mscp_is_online(const struct mscp *mscp, uint16_t unit);
+
+/* The limits of the controller, and its units, as many as there is room for: what it was made of, also if it was restored.
+ * It answers how many units there are: 1 to 16. */
+MSCP_INLINE int32_t mscp_settings(const struct mscp *mscp, struct mscp_limits *limits, struct mscp_unit *units,
+                                  size_t room)
+{
+    struct mscp_unit none = {0, 0, 0, 0, 0, 0, 0, 0};
+    return mscp_settings_at(mscp, limits, room == 0 ? &none : units, room);
+}
 
 /* ---- a controller as bytes */
 
@@ -670,7 +727,8 @@ MSCP_INLINE int32_t mscp_host_restore(struct mscp_host *host, const uint8_t *byt
 /* Makes a port in the handle's memory, over a controller as mscp_init makes one. Its host may have so many commands
  * outstanding: 1 to one fewer than the first connection has credits. Its units have no volumes yet. MSCP_DONE, or the
  * first fault of those of mscp_init (-11 to -15 and -20 to -31), MSCP_BAD_BUS and MSCP_BAD_HOST_CREDITS. This takes up
- * to 40 KiB of the stack, and no other call of a port over 2, but for those that save and restore. */
+ * to 40 KiB of the stack. No other call of a port takes over 2, but for mscp_port_why with up to 3, and those that save and
+ * restore. */
 MSCP_MUST_USE
 MSCP_INLINE int32_t mscp_port_init(struct mscp_port *port, const struct mscp_limits *limits,
                                    const struct mscp_unit *units, size_t count, uint32_t picker,
@@ -699,6 +757,12 @@ int32_t mscp_port_write_sa(struct mscp_port *port, uint16_t word);
  * So do the action before either. */
 MSCP_MUST_USE int32_t mscp_port_next(struct mscp_port *port, struct mscp_action *action);
 
+/* What it wants done next while a block takes its time: polls are answered, messages come and go, and no block is begun. A
+ * FETCH or TRANSFER that was in hand is put aside: mscp_port_next wants that block anew, from its first part on. So an
+ * emulator that mscp_port_next asks for a block may go on by this call until the block's time has come, and do it then. As
+ * mscp_port_next else. */
+MSCP_MUST_USE int32_t mscp_port_next_message(struct mscp_port *port, struct mscp_action *action);
+
 /* These bytes were read in host memory, as it wanted: just as many. MSCP_DONE, or MSCP_UNASKED. */
 MSCP_MUST_USE
 MSCP_INLINE int32_t mscp_port_was_read(struct mscp_port *port, const uint8_t *bytes, size_t length)
@@ -719,12 +783,57 @@ int32_t mscp_port_look_again(struct mscp_port *port);
 /* A second went by. The port looks again, too, and takes a host that was silent for too long for dead. MSCP_DONE. */
 int32_t mscp_port_tick(struct mscp_port *port);
 
-/* A volume came into a unit, in place of one that was there. With 0 it may be written on. MSCP_DONE, or
- * MSCP_UNKNOWN_UNIT. */
-MSCP_MUST_USE int32_t mscp_port_volume_came(struct mscp_port *port, uint16_t unit, uint32_t is_protected);
+/* A volume came into a unit, in place of one that was there. It may have fewer blocks than the unit, and media of another
+ * type. The host is told the volume's, and transfers past its end are refused. MSCP_DONE, MSCP_UNKNOWN_UNIT or
+ * MSCP_BAD_SIZE. */
+MSCP_MUST_USE int32_t mscp_port_volume_came(struct mscp_port *port, uint16_t unit, const struct mscp_medium *medium);
 
 /* The volume of a unit went. MSCP_DONE, or MSCP_UNKNOWN_UNIT. */
 MSCP_MUST_USE int32_t mscp_port_volume_went(struct mscp_port *port, uint16_t unit);
+
+/* Nothing may be written on the volume of a unit from now on, or with 0 something may again. It stays the same volume to
+ * its host. MSCP_DONE, or MSCP_UNKNOWN_UNIT. */
+MSCP_MUST_USE int32_t mscp_port_protect(struct mscp_port *port, uint16_t unit, uint32_t is_protected);
+
+/* How far the port has come. If it answered MSCP_NOTHING and is held back, it is to look again: its host doesn't say that it
+ * has given a slot of the ring of responses back. If it isn't, it waits for a register, a volume or the clock. MSCP_DONE. */
+int32_t mscp_port_state(const struct mscp_port *port, struct mscp_state *state);
+
+/* What is in a unit. MSCP_DONE, or MSCP_UNKNOWN_UNIT. */
+int32_t mscp_port_volume(const struct mscp_port *port, uint16_t unit, struct mscp_volume *volume);
+
+/* The step that is begun: if the port wants a block fetched, moved or stored, its command and its block. Its first block has
+ * `done` 0, and its last one `done + 1 == weight`. MSCP_DONE, or MSCP_NOTHING if none is begun. */
+int32_t mscp_port_begun(const struct mscp_port *port, struct mscp_upcoming *upcoming);
+
+/* The limits and units of the port's controller, as mscp_settings tells them. */
+MSCP_INLINE int32_t mscp_port_settings(const struct mscp_port *port, struct mscp_limits *limits,
+                                       struct mscp_unit *units, size_t room)
+{
+    struct mscp_unit none = {0, 0, 0, 0, 0, 0, 0, 0};
+    return mscp_port_settings_at(port, limits, room == 0 ? &none : units, room);
+}
+
+/* The commands that wait in the port's controller, as mscp_look lists them, and who keeps one of them back, as mscp_why does.
+ * The host's are those of the first connection. */
+MSCP_INLINE int32_t mscp_port_look(const struct mscp_port *port, struct mscp_waiting *list, size_t room)
+{
+    struct mscp_waiting none = {0, 0, 0};
+    return mscp_port_look_at(port, room == 0 ? &none : list, room);
+}
+MSCP_INLINE int32_t mscp_port_why(const struct mscp_port *port, uint32_t connection, uint32_t reference,
+                                  struct mscp_holder *list, size_t room)
+{
+    struct mscp_holder none = {0, 0, 0, 0};
+    return mscp_port_why_at(port, connection, reference, room == 0 ? &none : list, room);
+}
+
+/* An address of a port's action, as a bus of this enum mscp_bus has it: its low 22 bits on the Q-bus, and 18 on the Unibus.
+ * What lies there, and whether anything does, is the machine's to say. */
+MSCP_INLINE uint32_t mscp_on_bus(uint8_t bus, uint32_t address)
+{
+    return address & (bus == MSCP_BUS_UNI ? UINT32_C(0x3FFFF) : UINT32_C(0x3FFFFF));
+}
 
 /* As many bytes as a port is saved as, at most: MSCP_PORT_SAVED_MAX. */
 size_t mscp_port_save_size(void);
@@ -823,6 +932,7 @@ MSCP_INLINE const char *mscp_status_text(int64_t status)
     case MSCP_BAD_OUTCOME: return "no outcome of an action";
     case MSCP_UNASKED: return "the port didn't want what was told";
     case MSCP_UNKNOWN_UNIT: return "no unit of this number";
+    case MSCP_BAD_SIZE: return "a volume without blocks, or with more than its unit";
     case MSCP_SAVED_LENGTH: return "saved bytes that aren't as many as they say";
     case MSCP_SAVED_MAGIC: return "bytes that don't begin as saved ones";
     case MSCP_SAVED_VERSION: return "saved bytes of an unknown version";

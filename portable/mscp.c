@@ -205,26 +205,26 @@ static const u8 data[] = {
     0, 0, 0, 0, 0, 0, 161, 0, 0, 0, 0, 0, 0, 0, 162, 0,
 };
 
-static u32 f49(void)
+static u32 f58(void)
 {
     u32 v0 = 0;
     v0 = 0u;
     return v0 != 0u;
 }
 
-static void f50(void)
+static void f59(void)
 {
     TRAP();
 }
 
-static void f51(void)
+static void f60(void)
 {
     goto L1;
 L1:;
     return;
 }
 
-static void f52(void)
+static void f61(void)
 {
     return;
 }
@@ -232,17 +232,17 @@ static void f52(void)
 static u64 w_mscp_align(void)
 {
     u32 t0;
-    t0 = f49();
+    t0 = f58();
     if (t0 == 0) goto L1;
-    f50();
+    f59();
     TRAP();
 L1:;
-    f51();
-    f52();
+    f60();
+    f61();
     return 8ull;
 }
 
-static u64 f53(u64 v0, u32 v1)
+static u64 f62(u64 v0, u32 v1)
 {
     u32 v3 = 0;
     u64 v2 = 0;
@@ -277,18 +277,18 @@ static u64 w_mscp_balance(u64 v0, u32 v1)
 {
     u32 t0;
     u64 t1;
-    t0 = f49();
+    t0 = f58();
     if (t0 == 0) goto L1;
-    f50();
+    f59();
     TRAP();
 L1:;
-    t1 = f53(v0, v1);
+    t1 = f62(v0, v1);
     v0 = t1;
-    f52();
+    f61();
     return v0;
 }
 
-static void f54(u64 v0, u64 v1, u64 v2)
+static void f63(u64 v0, u64 v1, u64 v2)
 {
     u32 v9 = 0, v10 = 0;
     u64 v3 = 0, v4 = 0, v5 = 0, v6 = 0, v7 = 0, v8 = 0;
@@ -337,7 +337,7 @@ L2:;
     TRAP();
 }
 
-static u64 f55(u64 v0)
+static u64 f64(u64 v0)
 {
     u64 v1 = 0, v2 = 0, v3 = 0, v4 = 0, v5 = 0, v6 = 0, v7 = 0, v8 = 0, v9 = 0, v10 = 0, v11 = 0, v12 = 0, v13 = 0, v14
         = 0, v15 = 0, v16 = 0, v17 = 0, v18 = 0, v19 = 0, v20 = 0, v21 = 0;
@@ -458,7 +458,7 @@ L1:;
     return 0ull;
 }
 
-static void f56(u64 v0, u64 v1, u64 v2, u64 v3)
+static void f65(u64 v0, u64 v1, u64 v2, u64 v3)
 {
     ROOM(frame, 80);
     u32 v14 = 0, v15 = 0, v16 = 0, v19 = 0;
@@ -616,7 +616,7 @@ L1:;
     return;
 }
 
-static void f57(u64 v0, u64 v1, u64 v2, u64 v3)
+static void f66(u64 v0, u64 v1, u64 v2, u64 v3)
 {
     u32 v12 = 0, v16 = 0;
     u64 v4 = 0, v5 = 0, v6 = 0, v7 = 0, v8 = 0, v9 = 0, v10 = 0, v11 = 0, v13 = 0, v14 = 0, v15 = 0;
@@ -669,7 +669,7 @@ L2:;
     TRAP();
 }
 
-static u64 f58(u64 v0, u64 v1, u64 v2, u32 v3, u64 v4, u64 v5, u64 v6)
+static u64 f67(u64 v0, u64 v1, u64 v2, u32 v3, u64 v4, u64 v5, u64 v6)
 {
     ROOM(frame, 144);
     u32 v9 = 0, v11 = 0;
@@ -720,40 +720,40 @@ L7:;
     v9 = l4(v0 + 3808ull);
 L6:;
     if (v9 > (l4((v0 + v10) + 28ull))) goto L10;
-    f54(v6, v0, v1);
+    f63(v6, v0, v1);
     if (l1(v4)) goto L11;
     v7 = 0ull;
     goto L1;
 L11:;
-    t0 = f55(v6);
+    t0 = f64(v6);
     v7 = t0;
     goto L1;
 L10:;
-    f56(v8, v6, v0, v1);
+    f65(v8, v6, v0, v1);
     copy(v8 + 72ull, v8, 72ull);
     if (l1(v4)) goto L13;
     v7 = 0ull;
     goto L12;
 L13:;
-    t1 = f55(v6);
+    t1 = f64(v6);
     v7 = t1;
 L12:;
     v7 = (u64)l1((v8 + 72ull) + v7);
     goto L1;
     TRAP();
 L2:;
-    f57(v5, v0, v1, v2);
+    f66(v5, v0, v1, v2);
     if (l1(v4)) goto L14;
     v7 = 0ull;
     goto L1;
 L14:;
-    t2 = f55(v5);
+    t2 = f64(v5);
     v7 = t2;
 L1:;
     return v7;
 }
 
-static void f59(u64 v0, u64 v1)
+static void f68(u64 v0, u64 v1)
 {
     ROOM(frame, 16);
     u32 v6 = 0, v13 = 0, v14 = 0, v15 = 0, v16 = 0, v17 = 0, v18 = 0, v19 = 0, v20 = 0, v21 = 0, v22 = 0, v23 = 0, v24
@@ -770,7 +770,7 @@ L5:;
     goto L4;
 L6:;
     if (l8(v1 + 3952ull) == 0) goto L3;
-    t0 = f58(v1 + 816ull, v1 + 4648ull, l8(v1 + 5672ull), l4(v1 + 812ull), v1 + 5712ull, v1 + 5720ull, v1 + 7528ull);
+    t0 = f67(v1 + 816ull, v1 + 4648ull, l8(v1 + 5672ull), l4(v1 + 812ull), v1 + 5712ull, v1 + 5720ull, v1 + 7528ull);
     v4 = t0;
 L4:;
     v5 = (u64)l1((v1 + v4) + 3888ull);
@@ -843,7 +843,7 @@ L2:;
     TRAP();
 }
 
-static u32 f60(u64 v0, u64 v1)
+static u32 f69(u64 v0, u64 v1)
 {
     ROOM(frame, 48);
     u32 v3 = 0, v4 = 0, v5 = 0, v6 = 0, v7 = 0, v8 = 0, v9 = 0, v10 = 0, v11 = 0, v12 = 0;
@@ -857,7 +857,7 @@ static u32 f60(u64 v0, u64 v1)
     s8(v2, 0ull);
     v3 = 0xFFFFFFF6u;
     if (l8(v0 + 24ull) != 0x4D5343504D414445ull) goto L2;
-    f59(v2, l8(v0));
+    f68(v2, l8(v0));
     v4 = 1u;
     v3 = 0u;
     if (l1(v2) != 1u) goto L2;
@@ -951,18 +951,18 @@ L2:;
 static u32 w_mscp_begin(u64 v0, u64 v1)
 {
     u32 v2 = 0, t0, t1;
-    t0 = f49();
+    t0 = f58();
     if (t0 == 0) goto L1;
-    f50();
+    f59();
     TRAP();
 L1:;
-    t1 = f60(v0, v1);
+    t1 = f69(v0, v1);
     v2 = t1;
-    f52();
+    f61();
     return v2;
 }
 
-static u64 f61(u64 v0, u32 v1, u32 v2)
+static u64 f70(u64 v0, u32 v1, u32 v2)
 {
     u32 v3 = 0;
     u64 v4 = 0, v5 = 0, v6 = 0, v7 = 0;
@@ -1005,18 +1005,18 @@ static u64 w_mscp_figure(u64 v0, u32 v1, u32 v2)
 {
     u32 t0;
     u64 t1;
-    t0 = f49();
+    t0 = f58();
     if (t0 == 0) goto L1;
-    f50();
+    f59();
     TRAP();
 L1:;
-    t1 = f61(v0, v1, v2);
+    t1 = f70(v0, v1, v2);
     v0 = t1;
-    f52();
+    f61();
     return v0;
 }
 
-static void f62(u64 v0, u64 v1, u64 v2, u64 v3, u64 v4)
+static void f71(u64 v0, u64 v1, u64 v2, u64 v3, u64 v4)
 {
     u64 v5 = 0, v6 = 0, t0;
     v5 = v3 >> 32;
@@ -1032,7 +1032,7 @@ static void f62(u64 v0, u64 v1, u64 v2, u64 v3, u64 v4)
     return;
 }
 
-static void f63(u64 v0, u64 v1, u32 v2)
+static void f72(u64 v0, u64 v1, u32 v2)
 {
     u32 v3 = 0, v4 = 0;
     u64 v5 = 0;
@@ -1097,7 +1097,7 @@ L2:;
     TRAP();
 }
 
-static void f64(u64 v0, u64 v1)
+static void f73(u64 v0, u64 v1)
 {
     u32 v4 = 0;
     u64 v2 = 0, v3 = 0, v5 = 0, v6 = 0, v7 = 0, v8 = 0, v9 = 0, v10 = 0, t0, t1;
@@ -1169,7 +1169,7 @@ L7:;
     TRAP();
 }
 
-static void f65(u64 v0, u64 v1)
+static void f74(u64 v0, u64 v1)
 {
     u32 v4 = 0, v5 = 0, v6 = 0;
     u64 v3 = 0, v7 = 0, v8 = 0, t0, t1;
@@ -1182,7 +1182,7 @@ static void f65(u64 v0, u64 v1)
     v6 = v4 - v5;
     v3 = (u64)((v6 > v4) ? 0u : v6);
     s8(t0, t1 - v3);
-    f64(v0, v1);
+    f73(v0, v1);
     if (v4 <= v5) goto L2;
     v1 = v0 + 2560ull;
     v7 = l8(v0 + 3144ull);
@@ -1206,7 +1206,7 @@ L2:;
     TRAP();
 }
 
-static void f66(u64 v0, u64 v1)
+static void f75(u64 v0, u64 v1)
 {
     ROOM(frame, 16);
     u64 v2 = 0, v3 = 0, v4 = 0, v5 = 0, v6 = 0, v7 = 0, v8 = 0, v9 = 0, v10 = 0, v11 = 0;
@@ -1312,7 +1312,7 @@ L9:;
     TRAP();
 }
 
-static void f67(u64 v0, u64 v1, u32 v2, u32 v3, u32 v4, u32 v5)
+static void f76(u64 v0, u64 v1, u32 v2, u32 v3, u32 v4, u32 v5)
 {
     ROOM(frame, 96);
     u32 v8 = 0, v11 = 0, v14 = 0, v15 = 0, v16 = 0, v18 = 0, v19 = 0, v20 = 0, v21 = 0, v22 = 0, v23 = 0, v24 = 0, v25
@@ -1403,7 +1403,7 @@ L7:;
     if ((v20 & 1u) == 0) goto L11;
     v6 = l8(v31 + 32ull) + 1ull;
     v23 = v24 + v15;
-    f62(v7, v6, (u64)(u32)(v6 == 0), (u64)v23, 0ull);
+    f71(v7, v6, (u64)(u32)(v6 == 0), (u64)v23, 0ull);
     v6 = l8(v7 + 8);
     v20 = (u32)v6;
     if (v24) goto L13;
@@ -1513,7 +1513,7 @@ L5:;
     v15 = 0u;
     goto L3;
 L4:;
-    f63(v7 + 64ull, v7 + 44ull, v20);
+    f72(v7 + 64ull, v7 + 44ull, v20);
     v20 = l4(v7 + 88);
     v19 = l4(v7 + 84);
     v18 = l4(v7 + 80);
@@ -1648,10 +1648,10 @@ L42:;
     s8(v6, l8(v6) | (1ull << (v33 & 63)));
     goto L45;
 L46:;
-    f65(v12, v29);
+    f74(v12, v29);
     v6 = v1 + 7520ull;
     s8(v6, l8(v6) | (1ull << (v33 & 63)));
-    f66(v1 + 5720ull, v29);
+    f75(v1 + 5720ull, v29);
     v29 = 0ull;
 L45:;
     s8(v9 + 8, 0ull);
@@ -1742,7 +1742,7 @@ L1:;
     return;
 }
 
-static u32 f68(u64 v0, u32 v1, u32 v2, u32 v3, u64 v4)
+static u32 f77(u64 v0, u32 v1, u32 v2, u32 v3, u64 v4)
 {
     ROOM(frame, 96);
     u32 v6 = 0, v7 = 0;
@@ -1771,7 +1771,7 @@ L4:;
 L6:;
     v7 = 0u;
     v1 = v1 > 4u;
-    f67(v5, l8(v0), v6, v2, v1, v1 ? v3 : 0u);
+    f76(v5, l8(v0), v6, v2, v1, v1 ? v3 : 0u);
     if (l1(v5) == 0) goto L7;
     v7 = 0xFFFFFFFAu;
     goto L2;
@@ -1797,18 +1797,18 @@ L2:;
 static u32 w_mscp_finish(u64 v0, u32 v1, u32 v2, u32 v3, u64 v4)
 {
     u32 t0, t1;
-    t0 = f49();
+    t0 = f58();
     if (t0 == 0) goto L1;
-    f50();
+    f59();
     TRAP();
 L1:;
-    t1 = f68(v0, v1, v2, v3, v4);
+    t1 = f77(v0, v1, v2, v3, v4);
     v3 = t1;
-    f52();
+    f61();
     return v3;
 }
 
-static void f69(void)
+static void f78(void)
 {
     goto L1;
 L1:;
@@ -1818,17 +1818,17 @@ L1:;
 static u64 w_mscp_host_align(void)
 {
     u32 t0;
-    t0 = f49();
+    t0 = f58();
     if (t0 == 0) goto L1;
-    f50();
+    f59();
     TRAP();
 L1:;
-    f69();
-    f52();
+    f78();
+    f61();
     return 8ull;
 }
 
-static u64 f70(u64 v0)
+static u64 f79(u64 v0)
 {
     u64 v1 = 0;
     v1 = 0xFFFFFFFFFFFFFFF6ull;
@@ -1844,18 +1844,18 @@ static u64 w_mscp_host_balance(u64 v0)
 {
     u32 t0;
     u64 t1;
-    t0 = f49();
+    t0 = f58();
     if (t0 == 0) goto L1;
-    f50();
+    f59();
     TRAP();
 L1:;
-    t1 = f70(v0);
+    t1 = f79(v0);
     v0 = t1;
-    f52();
+    f61();
     return v0;
 }
 
-static u32 f71(u64 v0, u32 v1)
+static u32 f80(u64 v0, u32 v1)
 {
     u64 v2 = 0;
     v2 = l8(v0 + 24ull);
@@ -1889,18 +1889,18 @@ L1:;
 static u32 w_mscp_host_init(u64 v0, u32 v1)
 {
     u32 t0, t1;
-    t0 = f49();
+    t0 = f58();
     if (t0 == 0) goto L1;
-    f50();
+    f59();
     TRAP();
 L1:;
-    t1 = f71(v0, v1);
+    t1 = f80(v0, v1);
     v1 = t1;
-    f52();
+    f61();
     return v1;
 }
 
-static void f72(u64 v0, u64 v1, u64 v2)
+static void f81(u64 v0, u64 v1, u64 v2)
 {
     ROOM(frame, 32);
     u32 v4 = 0, v6 = 0, v7 = 0, v8 = 0, v9 = 0, v10 = 0, v12 = 0, v13 = 0, v14 = 0, v15 = 0;
@@ -2093,7 +2093,7 @@ L1:;
     return;
 }
 
-static u32 f73(u64 v0, u32 v1, u64 v2)
+static u32 f82(u64 v0, u32 v1, u64 v2)
 {
     ROOM(frame, 144);
     u32 v5 = 0, v9 = 0;
@@ -2129,7 +2129,7 @@ L6:;
     v9 = l4(v8);
     s4(v4 + 136, v9);
     s2(v4 + 128, l2(v8 + 4ull));
-    f72(v4 + 56ull, v6, v4 + 124ull);
+    f81(v4 + 56ull, v6, v4 + 124ull);
     if (l1(v4 + 56)) goto L4;
     s2(v6 + 1053ull, 0u);
     s1(v6 + 1052ull, 1u);
@@ -2165,18 +2165,18 @@ L1:;
 static u32 w_mscp_host_poll(u64 v0, u32 v1, u64 v2)
 {
     u32 t0, t1;
-    t0 = f49();
+    t0 = f58();
     if (t0 == 0) goto L1;
-    f50();
+    f59();
     TRAP();
 L1:;
-    t1 = f73(v0, v1, v2);
+    t1 = f82(v0, v1, v2);
     v1 = t1;
-    f52();
+    f61();
     return v1;
 }
 
-static void f74(u64 v0, u64 v1, u64 v2)
+static void f83(u64 v0, u64 v1, u64 v2)
 {
     u32 v3 = 0, v4 = 0, v6 = 0, v7 = 0, v8 = 0, v9 = 0, v10 = 0, v11 = 0, v12 = 0, v13 = 0, v14 = 0, v15 = 0, v16 = 0;
     u64 v5 = 0;
@@ -2361,7 +2361,7 @@ L1:;
     return;
 }
 
-static u32 f75(u64 v0, u64 v1, u64 v2, u64 v3)
+static u32 f84(u64 v0, u64 v1, u64 v2, u64 v3)
 {
     ROOM(frame, 64);
     u32 v6 = 0, v8 = 0, v9 = 0, v10 = 0, v11 = 0, v12 = 0, v15 = 0, v16 = 0, v17 = 0, v19 = 0, v24 = 0, v25 = 0, v26 =
@@ -2379,7 +2379,7 @@ static u32 f75(u64 v0, u64 v1, u64 v2, u64 v3)
     s8(v5 + 24, 0ull);
     s8(v5 + 16, 0ull);
     s8(v5 + 8, 0ull);
-    f74(v5 + 8ull, v1 + ((v1 == 0) ? 4096ull : 0ull), v2);
+    f83(v5 + 8ull, v1 + ((v1 == 0) ? 4096ull : 0ull), v2);
     if (l1(v5 + 8)) goto L5;
     v2 = l8(v5 + 36);
     v8 = l1(v5 + 32);
@@ -2623,18 +2623,18 @@ L1:;
 static u32 w_mscp_host_receive_at(u64 v0, u64 v1, u64 v2, u64 v3)
 {
     u32 v4 = 0, t0, t1;
-    t0 = f49();
+    t0 = f58();
     if (t0 == 0) goto L1;
-    f50();
+    f59();
     TRAP();
 L1:;
-    t1 = f75(v0, v1, v2, v3);
+    t1 = f84(v0, v1, v2, v3);
     v4 = t1;
-    f52();
+    f61();
     return v4;
 }
 
-static void f76(u64 v0, u32 v1, u64 v2, u64 v3, u64 v4)
+static void f85(u64 v0, u32 v1, u64 v2, u64 v3, u64 v4)
 {
     u32 v10 = 0, v11 = 0, v12 = 0, v13 = 0;
     u64 v5 = 0, v6 = 0, v7 = 0, v8 = 0, v9 = 0;
@@ -2769,7 +2769,7 @@ L1:;
     return;
 }
 
-APART void f77(u64 v0, u64 v1)
+APART void f86(u64 v0, u64 v1)
 {
     ROOM(frame, 816);
     u32 v7 = 0, v8 = 0, v9 = 0;
@@ -2845,7 +2845,7 @@ L4:;
     TRAP();
 }
 
-static u32 f78(u64 v0, u64 v1, u64 v2)
+static u32 f87(u64 v0, u64 v1, u64 v2)
 {
     u32 v4 = 0, t0, t1, t2;
     u64 v3 = 0, v5 = 0, v6 = 0, v7 = 0, v8 = 0, v9 = 0, v10 = 0;
@@ -2985,7 +2985,7 @@ L1:;
     return (v4 ^ 0xFFFFFFFFu) & 1u;
 }
 
-APART u32 f79(u64 v0, u64 v1, u64 v2)
+APART u32 f88(u64 v0, u64 v1, u64 v2)
 {
     ROOM(frame, 4784);
     u32 v5 = 0, v7 = 0, v8 = 0, v13 = 0, v14 = 0, v15 = 0, t0;
@@ -3081,7 +3081,7 @@ L16:;
     s4(v3 + 3728, v5);
     s2(v3 + 3741, l2(v3 + 4780));
     s1(v3 + 3743, l1(v3 + 4782));
-    f76(v3, v8, v3 + 3744ull, v6, v3 + 3728ull);
+    f85(v3, v8, v3 + 3744ull, v6, v3 + 3728ull);
     if (l1(v3) == 1u) goto L8;
     s4(v3 + 2672, v8);
     copy(v3 + 2680ull, v3 + 3744ull, 1032ull);
@@ -3091,14 +3091,14 @@ L16:;
     s4(v3 + 3712, v5);
     s2(v3 + 3725, l2(v3 + 4780));
     s1(v3 + 3727, l1(v3 + 4782));
-    f77(v3 + 1864ull, v3 + 2672ull);
+    f86(v3 + 1864ull, v3 + 2672ull);
     copy(v3 + 1056ull, v3 + 1864ull, 808ull);
     if (l8(v3 + 1856) != v2) goto L19;
     if (l1(v3 + 1056) != (v7 & 255u)) goto L19;
     if ((l1(v3 + 1057) & 255u) != ((v7 >> 8) & 255u)) goto L19;
     if ((l1(v3 + 1058) & 255u) != ((v7 >> 16) & 255u)) goto L19;
     if ((l1(v3 + 1059) & 255u) != (v7 >> 24)) goto L19;
-    t0 = f78(v3 + 1056ull, v2, v1);
+    t0 = f87(v3 + 1056ull, v2, v1);
     if (t0) goto L18;
 L19:;
     v5 = 0xFFFFFFCAu;
@@ -3134,18 +3134,18 @@ L1:;
 static u32 w_mscp_host_restore_at(u64 v0, u64 v1, u64 v2)
 {
     u32 v3 = 0, t0, t1;
-    t0 = f49();
+    t0 = f58();
     if (t0 == 0) goto L1;
-    f50();
+    f59();
     TRAP();
 L1:;
-    t1 = f79(v0, v1, v2);
+    t1 = f88(v0, v1, v2);
     v3 = t1;
-    f52();
+    f61();
     return v3;
 }
 
-APART u32 f80(u64 v0, u64 v1, u64 v2, u64 v3)
+APART u32 f89(u64 v0, u64 v1, u64 v2, u64 v3)
 {
     ROOM(frame, 1616);
     u32 v5 = 0;
@@ -3156,7 +3156,7 @@ APART u32 f80(u64 v0, u64 v1, u64 v2, u64 v3)
     v5 = 0xFFFFFFF6u;
     goto L2;
 L3:;
-    f77(v4, l8(v0));
+    f86(v4, l8(v0));
     copy(v4 + 808ull, v4, 808ull);
     v0 = l8(v4 + 1608);
     if (v2 >= v0) goto L4;
@@ -3176,18 +3176,18 @@ L2:;
 static u32 w_mscp_host_save_at(u64 v0, u64 v1, u64 v2, u64 v3)
 {
     u32 v4 = 0, t0, t1;
-    t0 = f49();
+    t0 = f58();
     if (t0 == 0) goto L1;
-    f50();
+    f59();
     TRAP();
 L1:;
-    t1 = f80(v0, v1, v2, v3);
+    t1 = f89(v0, v1, v2, v3);
     v4 = t1;
-    f52();
+    f61();
     return v4;
 }
 
-static void f81(void)
+static void f90(void)
 {
     goto L1;
 L1:;
@@ -3197,17 +3197,17 @@ L1:;
 static u64 w_mscp_host_save_size(void)
 {
     u32 t0;
-    t0 = f49();
+    t0 = f58();
     if (t0 == 0) goto L1;
-    f50();
+    f59();
     TRAP();
 L1:;
-    f81();
-    f52();
+    f90();
+    f61();
     return 794ull;
 }
 
-static void f82(void)
+static void f91(void)
 {
     goto L1;
 L1:;
@@ -3217,17 +3217,17 @@ L1:;
 static u64 w_mscp_host_size(void)
 {
     u32 t0;
-    t0 = f49();
+    t0 = f58();
     if (t0 == 0) goto L1;
-    f50();
+    f59();
     TRAP();
 L1:;
-    f82();
-    f52();
+    f91();
+    f61();
     return 1056ull;
 }
 
-static void f83(u64 v0, u64 v1, u64 v2)
+static void f92(u64 v0, u64 v1, u64 v2)
 {
     u32 v3 = 0, v4 = 0, v6 = 0, v7 = 0, v8 = 0, v9 = 0, v10 = 0, v11 = 0, v12 = 0;
     u64 v5 = 0;
@@ -3375,7 +3375,7 @@ L1:;
     TRAP();
 }
 
-static u32 f84(u64 v0, u64 v1, u64 v2)
+static u32 f93(u64 v0, u64 v1, u64 v2)
 {
     ROOM(frame, 112);
     u32 v4 = 0;
@@ -3396,7 +3396,7 @@ L4:;
     s8(v3 + 104, 0ull);
     s8(v3 + 96, 0ull);
     s8(v3 + 88, 0ull);
-    f83(v3 + 88ull, v1 + ((v1 == 0) ? 4096ull : 0ull), v2);
+    f92(v3 + 88ull, v1 + ((v1 == 0) ? 4096ull : 0ull), v2);
     s8(v3 + 68, l8(v3 + 92));
     s8(v3 + 76, l8(v3 + 100));
     s4(v3 + 84, l4(v3 + 108));
@@ -3405,7 +3405,7 @@ L4:;
     s4(v3 + 104, l4(v1 + 16));
     s8(v3 + 96, l8(v1 + 8));
     s8(v3 + 88, l8(v1));
-    f72(v3, l8(v0), v3 + 88ull);
+    f81(v3, l8(v0), v3 + 88ull);
     if (l1(v3)) goto L5;
     v4 = 1u;
     goto L1;
@@ -3422,18 +3422,18 @@ L1:;
 static u32 w_mscp_host_submit_at(u64 v0, u64 v1, u64 v2)
 {
     u32 v3 = 0, t0, t1;
-    t0 = f49();
+    t0 = f58();
     if (t0 == 0) goto L1;
-    f50();
+    f59();
     TRAP();
 L1:;
-    t1 = f84(v0, v1, v2);
+    t1 = f93(v0, v1, v2);
     v3 = t1;
-    f52();
+    f61();
     return v3;
 }
 
-APART void f85(u64 v0, u64 v1, u64 v2)
+APART void f94(u64 v0, u64 v1, u64 v2)
 {
     ROOM(frame, 1104);
     u32 v24 = 0, v25 = 0, v26 = 0, v31 = 0, v32 = 0, v34 = 0, v38 = 0, v42 = 0, v46 = 0, v50 = 0, v54 = 0, v58 = 0, v62
@@ -3940,7 +3940,7 @@ L1:;
     return;
 }
 
-APART void f86(u64 v0, u64 v1, u64 v2, u64 v3)
+APART void f95(u64 v0, u64 v1, u64 v2, u64 v3)
 {
     ROOM(frame, 3312);
     u32 v5 = 0, v7 = 0, v8 = 0, v9 = 0, v10 = 0, v11 = 0, v12 = 0, v13 = 0, v17 = 0, v18 = 0, v19 = 0, v20 = 0;
@@ -4118,7 +4118,7 @@ L14:;
     v14 = l8(v2);
     v15 = div64(0xFFFFFFFFFFFFFFFFull, ((((u64)v9) & 65535ull) * ((u64)v8)) * (((u64)v10) & 65535ull));
     v6 = v15 + 1ull;
-    f62(v4, v6, (u64)(u32)(v6 == 0), (u64)(v7 + 0xFFFFFFFFu), 0ull);
+    f71(v4, v6, (u64)(u32)(v6 == 0), (u64)(v7 + 0xFFFFFFFFu), 0ull);
     v16 = l8(v4 + 3304);
     v6 = (v4 + 2536ull) + (v16 * 48ull);
     s8(v6 + 16, v14);
@@ -4139,7 +4139,7 @@ L14:;
     v3 = v3 + 0xFFFFFFFFFFFFFFFFull;
     if (v3 != 0ull) goto L11;
 L9:;
-    f85(v4 + 1592ull, v4 + 2536ull, v6);
+    f94(v4 + 1592ull, v4 + 2536ull, v6);
     if (l1(v4 + 1592) == 0) goto L6;
     v5 = l1(v4 + 1593);
 L8:;
@@ -4238,7 +4238,7 @@ L1:;
     return;
 }
 
-APART void f87(u64 v0)
+APART void f96(u64 v0)
 {
     ROOM(frame, 384);
     u64 v1 = 0;
@@ -4544,7 +4544,7 @@ APART void f87(u64 v0)
     TRAP();
 }
 
-APART u32 f88(u64 v0, u64 v1, u64 v2, u64 v3, u32 v4)
+APART u32 f97(u64 v0, u64 v1, u64 v2, u64 v3, u32 v4)
 {
     ROOM(frame, 24784);
     u32 v7 = 0, v8 = 0, v9 = 0, v10 = 0;
@@ -4578,13 +4578,13 @@ L9:;
 L11:;
     v7 = 1u;
 L10:;
-    f86(v6 + 4160ull, v1, v2 + ((v2 == 0) ? 4096ull : 0ull), v3);
+    f95(v6 + 4160ull, v1, v2 + ((v2 == 0) ? 4096ull : 0ull), v3);
     if (l1(v6 + 4160)) goto L3;
     copy(v6 + 9112ull, (v6 + 4160ull) + 8ull, 808ull);
     fill(v6 + 7305ull, 0u, 1807ull);
     fill(v6 + 5760ull, 0u, 1544ull);
     fill(v6 + 4976ull, 0u, 784ull);
-    f85(v6 + 4976ull, v6 + 9144ull, l8(v6 + 9912));
+    f94(v6 + 4976ull, v6 + 9144ull, l8(v6 + 9912));
     if (l1(v6 + 4976)) goto L4;
     v8 = l4(v6 + 9124);
     v9 = l4(v6 + 9120);
@@ -4597,7 +4597,7 @@ L10:;
     fill(v6 + 14048ull, 0u, 1032ull);
     v10 = v10 - (u32)(v10 != 0u);
     v4 = v4 - (u32)(v4 != 0u);
-    f87(v6 + 14048ull);
+    f96(v6 + 14048ull);
     if (v5 == 0) goto L12;
     v11 = l8(v6 + 15072);
     if (v5 != 1ull) goto L14;
@@ -4773,18 +4773,18 @@ L1:;
 static u32 w_mscp_init_at(u64 v0, u64 v1, u64 v2, u64 v3, u32 v4)
 {
     u32 t0, t1;
-    t0 = f49();
+    t0 = f58();
     if (t0 == 0) goto L1;
-    f50();
+    f59();
     TRAP();
 L1:;
-    t1 = f88(v0, v1, v2, v3, v4);
+    t1 = f97(v0, v1, v2, v3, v4);
     v4 = t1;
-    f52();
+    f61();
     return v4;
 }
 
-static u32 f89(u64 v0, u32 v1)
+static u32 f98(u64 v0, u32 v1)
 {
     u64 v2 = 0, v3 = 0, v4 = 0;
     if (l8(v0 + 24ull) == 0x4D5343504D414445ull) goto L2;
@@ -4809,18 +4809,18 @@ L4:;
 static u32 w_mscp_is_online(u64 v0, u32 v1)
 {
     u32 t0, t1;
-    t0 = f49();
+    t0 = f58();
     if (t0 == 0) goto L1;
-    f50();
+    f59();
     TRAP();
 L1:;
-    t1 = f89(v0, v1);
+    t1 = f98(v0, v1);
     v1 = t1;
-    f52();
+    f61();
     return v1;
 }
 
-APART void f90(u64 v0, u64 v1)
+APART void f99(u64 v0, u64 v1)
 {
     ROOM(frame, 784);
     u64 v2 = 0, v3 = 0, v4 = 0, v5 = 0, v6 = 0, v7 = 0, v8 = 0, v9 = 0, v10 = 0;
@@ -4855,7 +4855,7 @@ L2:;
     TRAP();
 }
 
-APART u32 f91(u64 v0, u64 v1, u64 v2)
+APART u32 f100(u64 v0, u64 v1, u64 v2)
 {
     ROOM(frame, 784);
     u32 v5 = 0;
@@ -4866,7 +4866,7 @@ APART u32 f91(u64 v0, u64 v1, u64 v2)
     if (l8(v0 + 24ull) != 0x4D5343504D414445ull) goto L2;
     v0 = l8(v0);
     fill(v4 + 8ull, 0u, 776ull);
-    f90(v4 + 8ull, v0 + 816ull);
+    f99(v4 + 8ull, v0 + 816ull);
     v6 = l8(v4 + 776);
     v0 = (v2 < v6) ? v2 : v6;
     if (v0 == 0) goto L3;
@@ -4910,18 +4910,18 @@ L2:;
 static u32 w_mscp_look_at(u64 v0, u64 v1, u64 v2)
 {
     u32 v3 = 0, t0, t1;
-    t0 = f49();
+    t0 = f58();
     if (t0 == 0) goto L1;
-    f50();
+    f59();
     TRAP();
 L1:;
-    t1 = f91(v0, v1, v2);
+    t1 = f100(v0, v1, v2);
     v3 = t1;
-    f52();
+    f61();
     return v3;
 }
 
-static void f92(void)
+static void f101(void)
 {
     goto L1;
 L1:;
@@ -4931,17 +4931,138 @@ L1:;
 static u64 w_mscp_port_align(void)
 {
     u32 t0;
-    t0 = f49();
+    t0 = f58();
     if (t0 == 0) goto L1;
-    f50();
+    f59();
     TRAP();
 L1:;
-    f92();
-    f52();
+    f101();
+    f61();
     return 8ull;
 }
 
-APART u32 f93(u64 v0, u64 v1, u64 v2, u64 v3, u32 v4, u64 v5, u32 v6)
+static u32 f102(u64 v0, u64 v1)
+{
+    u32 v4 = 0, v5 = 0, v7 = 0, v8 = 0, v9 = 0, v10 = 0, v11 = 0, v12 = 0, v13 = 0, v14 = 0;
+    u64 v2 = 0, v3 = 0, v6 = 0;
+    if (l8(v0 + 24ull) == 0x504F52544D414445ull) goto L4;
+    return 0xFFFFFFF6u;
+L4:;
+    v0 = l8(v0);
+    if (l1(v0 + 5688ull) == 1u) goto L5;
+    return 0u;
+L5:;
+    v2 = (u64)l1((v0 + l8(v0 + 5696ull)) + 3896ull);
+    v3 = v0 + (v2 << 5);
+    v4 = l1(v3 + 833ull);
+    v5 = l2(v3 + 828ull);
+    v6 = v3 + 824ull;
+    v7 = l4(v6);
+    v8 = l1(v3 + 830ull);
+    v9 = l1(v3 + 832ull);
+    if (v9 != 7u) goto L11;
+    v10 = l4(v3 + 836ull);
+    v11 = l4(v6 + 24ull);
+    v12 = l1((v0 + (((l8((v0 + (v2 << 3)) + 2872ull)) << 6) & 16320ull)) + 4704ull);
+    v9 = v12 ? (v11 + l4(v6 + 16ull)) : 0u;
+    v13 = l4(v6 + 20ull);
+    v14 = 16u;
+    switch (v4) {
+    case 1: goto L10;
+    case 2: goto L9;
+    case 3: goto L8;
+    case 4: goto L7;
+    default: goto L1;
+    }
+L11:;
+    v13 = l4(v6 + 20ull);
+    v11 = l4(v6 + 24ull);
+    v14 = 1u;
+    v12 = 0u;
+    v10 = v9;
+    switch (v9) {
+    case 1: goto L17;
+    case 2: goto L16;
+    case 3: goto L15;
+    case 4: goto L14;
+    case 5: goto L13;
+    case 6: goto L12;
+    case 7: goto L3;
+    case 8: goto L6;
+    default: goto L1;
+    }
+L17:;
+    v14 = 2u;
+    goto L2;
+L16:;
+    v14 = 3u;
+    goto L2;
+L15:;
+    v14 = 4u;
+    goto L2;
+L14:;
+    v14 = 8u;
+    goto L2;
+L13:;
+    v14 = 9u;
+    goto L2;
+L12:;
+    v14 = 10u;
+    goto L2;
+L10:;
+    v14 = 18u;
+    goto L1;
+L9:;
+    v14 = 32u;
+    goto L1;
+L8:;
+    v14 = 33u;
+    goto L1;
+L7:;
+    v14 = 34u;
+    goto L1;
+L6:;
+    v9 = 0u;
+    v12 = 0u;
+    v10 = 0u;
+    v14 = v4;
+    goto L1;
+L3:;
+    TRAP();
+L2:;
+    v12 = 0u;
+    v9 = 0u;
+    v10 = 0u;
+L1:;
+    s2(v1 + 25, 0u);
+    s1(v1 + 24, v8);
+    s1(v1 + 23, v12);
+    s1(v1 + 22, v14);
+    s2(v1 + 20, v5);
+    s4(v1 + 16, v13);
+    s4(v1 + 12, v11);
+    s4(v1 + 8, v9);
+    s4(v1 + 4, v10);
+    s4(v1, v7);
+    s1(v1 + 27, 0u);
+    return 1u;
+}
+
+static u32 w_mscp_port_begun(u64 v0, u64 v1)
+{
+    u32 v2 = 0, t0, t1;
+    t0 = f58();
+    if (t0 == 0) goto L1;
+    f59();
+    TRAP();
+L1:;
+    t1 = f102(v0, v1);
+    v2 = t1;
+    f61();
+    return v2;
+}
+
+APART u32 f103(u64 v0, u64 v1, u64 v2, u64 v3, u32 v4, u64 v5, u32 v6)
 {
     ROOM(frame, 26080);
     u32 v8 = 0, v10 = 0, v11 = 0, v12 = 0, v13 = 0, v14 = 0, v15 = 0;
@@ -4961,7 +5082,7 @@ L8:;
     v8 = 3u;
     goto L2;
 L9:;
-    if (l8(v0 + 16ull) >= 17008ull) goto L10;
+    if (l8(v0 + 16ull) >= 17136ull) goto L10;
     v8 = 4u;
     goto L2;
 L10:;
@@ -4974,7 +5095,7 @@ L10:;
 L12:;
     v8 = 1u;
 L11:;
-    f86(v7 + 5456ull, v1, v2 + ((v2 == 0) ? 4096ull : 0ull), v3);
+    f95(v7 + 5456ull, v1, v2 + ((v2 == 0) ? 4096ull : 0ull), v3);
     if (l1(v7 + 5456)) goto L3;
     v4 = l1(v5);
     switch (v4) {
@@ -4993,7 +5114,7 @@ L14:;
     fill(v7 + 8601ull, 0u, 1807ull);
     fill(v7 + 7056ull, 0u, 1544ull);
     fill(v7 + 6272ull, 0u, 784ull);
-    f85(v7 + 6272ull, v7 + 10440ull, l8(v7 + 11208));
+    f94(v7 + 6272ull, v7 + 10440ull, l8(v7 + 11208));
     if (l1(v7 + 6272)) goto L4;
     v11 = ((v11 << 8) | v4) | (v10 << 16);
     v12 = v12 << 24;
@@ -5008,7 +5129,7 @@ L14:;
     fill(v7 + 15344ull, 0u, 1032ull);
     v15 = v4 - (u32)(v4 != 0u);
     v10 = v10 - (u32)(v10 != 0u);
-    f87(v7 + 15344ull);
+    f96(v7 + 15344ull);
     if (v9 == 0) goto L16;
     v5 = l8(v7 + 16368);
     if (v9 != 1ull) goto L18;
@@ -5161,8 +5282,8 @@ L22:;
     s1(v9 + 15256, v8);
     fill(v9 + 15258ull, 0u, 129ull);
     copy(v9 + 15387ull, v7 + 4163ull, 1293ull);
-    fill(v9 + 16680ull, 0u, 324ull);
-    s4(v9 + 17004, 60u);
+    fill(v9 + 16680ull, 0u, 452ull);
+    s4(v9 + 17132, 60u);
     s8(v0 + 24ull, 0x504F52544D414445ull);
     v4 = 1u;
     goto L1;
@@ -5208,18 +5329,18 @@ L1:;
 static u32 w_mscp_port_init_at(u64 v0, u64 v1, u64 v2, u64 v3, u32 v4, u64 v5, u32 v6)
 {
     u32 t0, t1;
-    t0 = f49();
+    t0 = f58();
     if (t0 == 0) goto L1;
-    f50();
+    f59();
     TRAP();
 L1:;
-    t1 = f93(v0, v1, v2, v3, v4, v5, v6);
+    t1 = f103(v0, v1, v2, v3, v4, v5, v6);
     v6 = t1;
-    f52();
+    f61();
     return v6;
 }
 
-static u32 f94(u64 v0)
+static u32 f104(u64 v0)
 {
     u32 v1 = 0;
     v1 = 0xFFFFFFF6u;
@@ -5239,18 +5360,84 @@ L2:;
 static u32 w_mscp_port_look_again(u64 v0)
 {
     u32 v1 = 0, t0, t1;
-    t0 = f49();
+    t0 = f58();
     if (t0 == 0) goto L1;
-    f50();
+    f59();
     TRAP();
 L1:;
-    t1 = f94(v0);
+    t1 = f104(v0);
     v1 = t1;
-    f52();
+    f61();
     return v1;
 }
 
-static void f95(u64 v0, u64 v1)
+APART u32 f105(u64 v0, u64 v1, u64 v2)
+{
+    ROOM(frame, 784);
+    u32 v5 = 0;
+    u64 v3 = 0, v4 = 0, v6 = 0, v7 = 0, v8 = 0, v9 = 0;
+    v3 = A(frame);
+    v4 = v3;
+    v5 = 0xFFFFFFF6u;
+    if (l8(v0 + 24ull) != 0x504F52544D414445ull) goto L2;
+    v0 = l8(v0);
+    fill(v4 + 8ull, 0u, 776ull);
+    f99(v4 + 8ull, v0 + 824ull);
+    v6 = l8(v4 + 776);
+    v0 = (v2 < v6) ? v2 : v6;
+    if (v0 == 0) goto L3;
+    v7 = v1 + ((v1 == 0) ? 4096ull : 0ull);
+    v1 = 0ull;
+    if (v0 == 1ull) goto L4;
+    v8 = v0 & 1ull;
+    v9 = v0 & 0xFFFFFFFFFFFFFFFEull;
+    v3 = 0ull;
+    v1 = 0ull;
+L5:;
+    v0 = v7 + v3;
+    s2(v0 + 9ull, 0u);
+    v2 = (v4 + 8ull) + v3;
+    s1(v0 + 8ull, l1(v2));
+    s1(v0 + 11ull, 0u);
+    s2(v0 + 21ull, 0u);
+    s1(v0 + 23ull, 0u);
+    s8(v0, l8(v2 + 4ull));
+    s1(v0 + 20ull, l1(v2 + 12ull));
+    s8(v0 + 12ull, l8(v2 + 16ull));
+    v3 = v3 + 24ull;
+    v1 = v1 + 2ull;
+    if (v9 != v1) goto L5;
+    if (v8 == 0) goto L3;
+L4:;
+    v3 = v1 * 12ull;
+    v0 = v7 + v3;
+    s2(v0 + 9, 0u);
+    s1(v0 + 11, 0u);
+    v3 = (v4 + 8ull) + v3;
+    s1(v0 + 8, l1(v3));
+    s8(v0, l8(v3 + 4ull));
+L3:;
+    v5 = (u32)v6;
+L2:;
+    return v5;
+    TRAP();
+}
+
+static u32 w_mscp_port_look_at(u64 v0, u64 v1, u64 v2)
+{
+    u32 v3 = 0, t0, t1;
+    t0 = f58();
+    if (t0 == 0) goto L1;
+    f59();
+    TRAP();
+L1:;
+    t1 = f105(v0, v1, v2);
+    v3 = t1;
+    f61();
+    return v3;
+}
+
+static void f106(u64 v0, u64 v1)
 {
     ROOM(frame, 96);
     u64 v2 = 0, v3 = 0, v4 = 0, v5 = 0, v6 = 0, v7 = 0, v8 = 0;
@@ -5630,1114 +5817,1354 @@ L2:;
     TRAP();
 }
 
-static void f96(u64 v0, u64 v1, u64 v2, u32 v3)
+static void f107(u64 v0, u64 v1, u64 v2, u32 v3, u32 v4)
 {
-    u32 v4 = 0, v5 = 0, v7 = 0, v8 = 0, v9 = 0, v11 = 0, v12 = 0;
-    u64 v6 = 0, v10 = 0;
-    v4 = 0u;
-    v5 = 1u;
-    v6 = l8(v1 + 16672ull);
-    if (v6 == 0) goto L2;
-    v7 = 1u;
-    v8 = 0u;
+    u32 v5 = 0, v6 = 0, v8 = 0, v9 = 0, v10 = 0, v12 = 0, v13 = 0;
+    u64 v7 = 0, v11 = 0;
+    v5 = 0u;
+    v6 = 1u;
+    v7 = l8(v1 + 16672ull);
+    if (v7 == 0) goto L2;
+    v8 = 1u;
     v9 = 0u;
+    v10 = 0u;
     if (l1(v2) & 255u) goto L1;
-    v10 = v1 + 15392ull;
-    v11 = l4(v2 + 4ull);
+    v11 = v1 + 15392ull;
+    v12 = l4(v2 + 4ull);
 L5:;
-    if (l4(v10) == v11) goto L4;
-    v10 = v10 + 20ull;
-    v6 = v6 + 0xFFFFFFFFFFFFFFFFull;
-    if ((u32)(v6 == 0) == 0) goto L5;
-    v4 = 0u;
+    if (l4(v11) == v12) goto L4;
+    v11 = v11 + 20ull;
+    v7 = v7 + 0xFFFFFFFFFFFFFFFFull;
+    if ((u32)(v7 == 0) == 0) goto L5;
+    v5 = 0u;
     goto L2;
 L4:;
-    v4 = 1u;
-    v8 = l1(v10 + 8ull) & 1u;
-    v9 = l4(v10 + 16ull);
-    v7 = (l1(v10 + 4ull) & 1u) == 0;
+    v5 = 1u;
+    v9 = l1(v11 + 8ull) & 1u;
+    v10 = l4(v11 + 16ull);
+    v8 = (l1(v11 + 4ull) & 1u) == 0;
     goto L1;
     TRAP();
 L2:;
-    v7 = 1u;
-    v8 = 0u;
+    v8 = 1u;
     v9 = 0u;
+    v10 = 0u;
 L1:;
-    v12 = 11u;
-    v6 = l8(v1 + 808ull);
-    if (v6 == 0) goto L6;
-    v11 = l2(v2 + 8ull);
-    v2 = v1 + 16680ull;
-    v10 = v1 + 40ull;
+    v13 = 11u;
+    v7 = l8(v1 + 808ull);
+    if (v7 == 0) goto L6;
+    v12 = l2(v2 + 8ull);
+    v11 = 40ull;
+    v2 = 0ull;
 L8:;
-    if (l2(v10) == (v11 & 65535u)) goto L7;
-    v2 = v2 + 20ull;
-    v10 = v10 + 48ull;
-    v6 = v6 + 0xFFFFFFFFFFFFFFFFull;
-    if ((u32)(v6 == 0) == 0) goto L8;
+    if (l2(v1 + v11) == (v12 & 65535u)) goto L7;
+    v2 = v2 + 28ull;
+    v11 = v11 + 48ull;
+    v7 = v7 + 0xFFFFFFFFFFFFFFFFull;
+    if ((u32)(v7 == 0) == 0) goto L8;
     goto L6;
 L7:;
-    if (v4 == 0) goto L6;
-    v5 = 1u;
-    v12 = 65535u;
-    if (l1(v2) != 1u) goto L6;
-    if (v9 != l4(v2 + 4ull)) goto L6;
-    v5 = 1u;
-    v12 = 65534u;
-    if (l1(v2 + 8ull) != 1u) goto L6;
-    if (l4(v2 + 12ull) != v9) goto L6;
-    v5 = 1u;
-    v11 = (u32)(((v3 + 0xFFFFFFFBu) & 255u) < 253u) | v7;
-    if ((((v11 ^ 0xFFFFFFFFu) | v8) & 1u) == 0) goto L9;
-    v12 = (v11 & 1u) ? 73u : 41u;
+    if (v5 == 0) goto L6;
+    v6 = 1u;
+    v13 = 65535u;
+    v11 = v1 + v2;
+    if (l1(v11 + 16680ull) != 1u) goto L6;
+    if (v10 != l4(v11 + 16684ull)) goto L6;
+    v6 = 1u;
+    v13 = 65534u;
+    if (l1(v11 + 16696ull) != 1u) goto L6;
+    if (l4(v11 + 16700ull) != v10) goto L6;
+    v6 = 1u;
+    v12 = (u32)(((v3 + 0xFFFFFFFBu) & 255u) < 253u) | v8;
+    if ((((v12 ^ 0xFFFFFFFFu) | v9) & 1u) == 0) goto L9;
+    v13 = (v12 & 1u) ? 73u : 41u;
     goto L6;
 L9:;
-    v5 = 1u;
+    v6 = 1u;
     if ((1u << ((v3 & 255u) & 31)) & 13u) goto L10;
-    if (l1(v2 + 2ull) == 0) goto L11;
-    v12 = 4102u;
+    if (l1(v11 + 16682ull) == 0) goto L11;
+    v13 = 4102u;
     goto L6;
 L11:;
     if ((v3 & 254u) == 2u) goto L10;
-    if (l1(v2 + 1ull) == 0) goto L10;
-    v12 = 8198u;
+    if (l1(v11 + 16681ull) == 0) goto L10;
+    v13 = 8198u;
     goto L6;
 L10:;
-    v5 = 0u;
-    v12 = 0u;
+    v6 = l4(v11 + 16688ull) <= v4;
+    v13 = v6 ? 11u : 0u;
 L6:;
-    s2(v0 + 2, v12);
-    s1(v0, v5);
+    s2(v0 + 2, v13);
+    s1(v0, v6);
     return;
 }
 
-APART u32 f97(u64 v0, u64 v1)
+APART u32 f108(u64 v0, u64 v1, u32 v2)
 {
-    ROOM(frame, 352);
-    u32 v3 = 0, v4 = 0, v5 = 0, v6 = 0, v7 = 0, v8 = 0, v9 = 0, v11 = 0, v12 = 0, v13 = 0, v14 = 0, v15 = 0, v16 = 0,
-        v18 = 0, v21 = 0, v22 = 0, v23 = 0, v24 = 0, v25 = 0, v28 = 0;
-    u64 v2 = 0, v10 = 0, v17 = 0, v19 = 0, v20 = 0, v26 = 0, v27 = 0;
-    v2 = A(frame);
-    fill(v2 + 72ull, 0u, 72ull);
-    s4(v2 + 64, 0u);
-    s8(v2 + 56, 0ull);
-    s8(v2 + 48, 0ull);
-    s8(v2 + 40, 0ull);
-    s8(v2 + 32, 0ull);
-    s8(v2 + 24, 0ull);
-    s8(v2 + 16, 0ull);
-    s8(v2 + 8, 0ull);
-    v3 = 0xFFFFFFF6u;
+    ROOM(frame, 416);
+    u32 v4 = 0, v6 = 0, v7 = 0, v8 = 0, v9 = 0, v10 = 0, v11 = 0, v13 = 0, v14 = 0, v15 = 0, v16 = 0, v17 = 0, v18 = 0,
+        v19 = 0, v22 = 0, v23 = 0, v24 = 0, v25 = 0, v26 = 0;
+    u64 v3 = 0, v5 = 0, v12 = 0, v20 = 0, v21 = 0, v27 = 0, v28 = 0;
+    v3 = A(frame);
+    fill(v3 + 72ull, 0u, 72ull);
+    s4(v3 + 64, 0u);
+    s8(v3 + 56, 0ull);
+    s8(v3 + 48, 0ull);
+    s8(v3 + 40, 0ull);
+    s8(v3 + 32, 0ull);
+    s8(v3 + 24, 0ull);
+    s8(v3 + 16, 0ull);
+    s8(v3 + 8, 0ull);
+    v4 = 0xFFFFFFF6u;
     if (l8(v0 + 24ull) != 0x504F52544D414445ull) goto L1;
     v0 = l8(v0);
-    s4(v2 + 200, 0u);
-    s8(v2 + 192, 0ull);
-    s8(v2 + 184, 0ull);
-    s8(v2 + 176, 0ull);
-    s8(v2 + 168, 0ull);
-    s8(v2 + 160, 0ull);
-    s8(v2 + 152, 0ull);
-    s8(v2 + 144, 0ull);
-    v4 = l1(v0 + 15258ull);
-    if (v4 == 9u) goto L4;
-    v3 = l1(v0 + 15292ull);
-    if (v3 == 0) goto L7;
-    v5 = l4(v0 + 15296ull);
-    v6 = l1(v0 + 15293ull);
-    goto L6;
+    s4(v3 + 200, 0u);
+    s8(v3 + 192, 0ull);
+    s8(v3 + 184, 0ull);
+    s8(v3 + 176, 0ull);
+    s8(v3 + 168, 0ull);
+    s8(v3 + 160, 0ull);
+    s8(v3 + 152, 0ull);
+    s8(v3 + 144, 0ull);
+    v5 = v0 + 15292ull;
+    if ((v2 & 1u) == 0) goto L7;
+    if ((l1(v5) & 254u) != 12u) goto L7;
+    s8(v5 + 5, 0ull);
+    s8(v5, 0ull);
 L7:;
-    v3 = 1u;
-    v6 = 0u;
-    v7 = 0u;
-    v5 = 0u;
-    if (l1(v0 + 15266ull) == 1u) goto L8;
-    v3 = 0u;
-    v6 = 0u;
-    v7 = 0u;
-    v5 = 0u;
-    if (v4 != 8u) goto L8;
-    if (l1(v0 + 15312ull) == 1u) goto L13;
-    if (l8(v0 + 12160ull) == 0) goto L19;
-    v8 = l4(v0 + 9128ull);
-    v9 = l4(v0 + 9120ull);
-    v10 = l8(v0 + 9112ull);
-    v11 = l4(v0 + 9108ull);
-    v12 = l2(v0 + 9106ull);
-    v3 = l1(v0 + 9104ull);
-    v5 = l2(v0 + 9096ull);
-    v4 = l2(v0 + 9092ull);
-    v13 = l4(v0 + 9088ull);
-    v7 = l1(v0 + 9094ull);
-    v14 = l4(v0 + 9124ull);
-    f95(v2 + 280ull, v0 + 9080ull);
-    v15 = 0u;
-    s1(v0 + 15385ull, 0u);
-    v16 = v14 >> 16;
-    if (v7 != 132u) goto L20;
-    v17 = 12ull;
-    v18 = 1u;
-    v19 = 0ull;
-    v20 = 0ull;
-    v6 = v3;
-    v7 = v3;
-    v21 = v3;
-    v22 = v3;
-    v23 = v3;
-    v24 = 1u;
-    v25 = 0u;
-    switch (v3) {
-    case 1: goto L31;
-    case 2: goto L30;
-    case 3: goto L29;
-    case 4: goto L28;
-    case 5: goto L27;
-    case 6: goto L26;
-    default: goto L21;
-    }
-L31:;
-    v17 = 16ull;
-    v15 = 0u;
-    v3 = v11;
-    v20 = 0ull;
-    v6 = 0u;
-    v7 = 0u;
-    v21 = 0u;
-    v22 = 0u;
-    v23 = 0u;
-    v24 = 0u;
-    goto L22;
-L30:;
-    v20 = v10 & 4294901760ull;
-    v15 = (u32)v10;
-    v17 = 20ull;
-    v6 = 0u;
-    v3 = v11;
-    goto L25;
-L29:;
-    v17 = 48ull;
-    v3 = 0u;
-    v15 = 0u;
-    v20 = 0ull;
-    v19 = v10;
-    v6 = v9;
-    v7 = v14;
-    v21 = v16;
-    v22 = v8;
-    goto L24;
-L28:;
-    v17 = 28ull;
-    v25 = 1u;
-    v3 = 0u;
-    v15 = v12;
-    v20 = 0ull;
-    v19 = v10;
-    v6 = 0u;
-    v7 = 0u;
-    v21 = 0u;
-    v22 = 0u;
-    v23 = 0u;
-    v24 = 0u;
-    v18 = 0u;
-    goto L21;
-L27:;
-    v23 = v8 & 0xFFFF0000u;
-    v17 = 44ull;
-    v3 = 0u;
-    v15 = 0u;
-    v20 = 0ull;
-    v19 = v10;
-    v6 = v9;
-    v7 = v14;
-    v21 = v16;
-    v22 = v8;
-    goto L23;
-L26:;
-    v17 = 32ull;
-    v15 = 0u;
-    v3 = v11;
-    v20 = 0ull;
-    v6 = 0u;
-L25:;
-    v7 = 0u;
-    v21 = 0u;
-    v22 = 0u;
-L24:;
-    v23 = 0u;
-L23:;
-    v24 = 0u;
-    v18 = 0u;
-L22:;
-    v25 = 0u;
-L21:;
-    v14 = v7 & 65535u;
-    v8 = v21 << 16;
-    v7 = v3 >> 24;
-    v21 = v3 >> 16;
-    v9 = v22 & 65535u;
-    v22 = (u32)(v20 >> 24);
-    v11 = (u32)(v20 >> 16);
-    if (v5) goto L32;
-    if (v24) goto L32;
-    v21 = l2(v0 + 17000ull);
-    v7 = (v21 >> 8) | 0xFFFFFF80u;
-    if (v18) goto L32;
-    v17 = v25 ? 32ull : v17;
-    v6 = v25 ? 0u : v6;
-    v11 = l1(v0 + 2ull);
-    v22 = l1(v0 + 3ull);
-L32:;
-    v14 = v8 | v14;
-    v8 = v23 | v9;
-    v20 = (((((((u64)v22) << 56) | ((((u64)v11) & 255ull) << 48)) | ((((u64)v15) & 65535ull) << 32)) | ((((u64)v7) &
-        255ull) << 24)) | ((((u64)v21) & 255ull) << 16)) | ((u64)(v3 & 65535u));
-    v15 = 0u;
-    v3 = 8650752u;
-    goto L14;
-L20:;
-    v26 = l8(v0 + 808ull);
-    if (v26 == 0) goto L45;
-    v17 = 40ull;
-    v19 = 0ull;
-    v20 = v26;
-L46:;
-    if (l2(v0 + v17) == v4) goto L44;
-    v19 = v19 + 20ull;
-    v17 = v17 + 48ull;
-    v20 = v20 + 0xFFFFFFFFFFFFFFFFull;
-    if ((u32)(v20 == 0) == 0) goto L46;
-L45:;
-    v17 = 12ull;
-    v19 = 0ull;
-    v15 = 0u;
-    v21 = 0u;
-    v20 = 0ull;
-    v6 = v3;
-    v22 = v3;
-    v23 = v3;
-    v24 = v3;
-    v25 = v3;
-    switch (v3) {
-    case 1: goto L43;
-    case 2: goto L42;
-    case 3: goto L41;
-    case 4: goto L40;
-    case 5: goto L39;
-    case 6: goto L38;
-    default: goto L33;
-    }
-L44:;
-    v27 = v0 + v19;
-    v21 = 35u;
-    switch (v5) {
-    case 0: goto L50;
-    case 1: case 2: case 3: goto L48;
-    case 4: goto L51;
-    default: goto L52;
-    }
-L52:;
-    switch (v5 + 0xFFFF0002u) {
-    case 0: goto L53;
-    case 1: goto L47;
-    default: goto L49;
-    }
-L53:;
-    v21 = 4u;
-    goto L47;
-L51:;
-    if (l1(v27 + 16680ull)) goto L48;
-    goto L47;
-L50:;
-    if (v7 != 131u) goto L48;
-    if (l1(v27 + 16680ull) != 1u) goto L47;
-    v21 = 4u;
-    if (l1(v27 + 16688ull) != 1u) goto L47;
-    if (l4(v27 + 16692ull) == l4(v27 + 16684ull)) goto L48;
-    goto L47;
-L49:;
-    if (v5 != 256u) goto L48;
-    if (v7 != 137u) goto L48;
-    v21 = 0u;
-    if (l1(v27 + 16697ull)) goto L47;
-L48:;
-    v21 = v5;
-L47:;
-    v19 = v26 + 1ull;
-    v17 = v0;
-L55:;
-    v19 = v19 + 0xFFFFFFFFFFFFFFFFull;
-    if (v19 == 0) goto L54;
-    v20 = v17 + 40ull;
-    v26 = v17 + 48ull;
-    v17 = v26;
-    if (l2(v20) != v4) goto L55;
-    if (v3 != 5u) goto L54;
-    if (v21 != 35u) goto L54;
-    v14 = l4(v26);
-    v16 = v14 >> 16;
-    v10 = l8(v26 + 8ull);
-    v9 = l4(v26 + 16ull);
-    v8 = l4(v26 + 20ull);
-    goto L18;
-L54:;
-    v17 = 12ull;
-    v28 = 1u;
-    v19 = 0ull;
-    v22 = 0u;
-    v20 = 0ull;
-    v6 = v3;
-    v23 = v3;
-    v24 = v3;
-    v25 = v3;
-    v5 = v3;
-    v18 = 1u;
-    switch (v3) {
-    case 1: goto L63;
-    case 2: goto L62;
-    case 3: goto L61;
-    case 4: goto L60;
-    case 5: goto L18;
-    case 6: goto L59;
-    default: goto L16;
-    }
-L63:;
-    v17 = 16ull;
-    goto L58;
-L62:;
-    v20 = v10 & 4294901760ull;
-    v22 = (u32)v10;
-    v17 = 20ull;
-    v6 = 0u;
-    v3 = v11;
-    goto L56;
-L61:;
-    v17 = 48ull;
-    v3 = 0u;
-    v22 = 0u;
-    v20 = 0ull;
-    v19 = v10;
-    v6 = v9;
-    v23 = v14;
-    v24 = v16;
-    v25 = v8;
-    v5 = 0u;
-    goto L17;
-L60:;
-    v17 = 28ull;
-    v3 = 0u;
-    v22 = v12;
-    v20 = 0ull;
-    v19 = v10;
-    goto L57;
-L59:;
-    v17 = 32ull;
-L58:;
-    v22 = 0u;
-    v3 = v11;
-    v20 = 0ull;
-L57:;
-    v6 = 0u;
-L56:;
-    v23 = 0u;
-    v24 = 0u;
-    v25 = 0u;
-    v5 = 0u;
-    v18 = 0u;
-    goto L16;
-L43:;
-    v17 = 16ull;
-    goto L37;
-L42:;
-    v20 = v10 & 4294901760ull;
-    v21 = (u32)v10;
-    v17 = 20ull;
-    v6 = 0u;
-    v3 = v11;
-    goto L35;
-L41:;
-    v17 = 48ull;
-    v3 = 0u;
-    v21 = 0u;
-    v20 = 0ull;
-    v19 = v10;
-    v6 = v9;
-    v22 = v14;
-    v23 = v16;
-    v24 = v8;
-    goto L34;
-L40:;
-    v17 = 28ull;
-    v3 = 0u;
-    v21 = v12;
-    v20 = 0ull;
-    v19 = v10;
-    goto L36;
-L39:;
-    v25 = v8 & 0xFFFF0000u;
-    v17 = 44ull;
-    v3 = 0u;
-    v21 = 0u;
-    v20 = 0ull;
-    v19 = v10;
-    v6 = v9;
-    v22 = v14;
-    v23 = v16;
-    v24 = v8;
-    goto L33;
-L38:;
-    v17 = 32ull;
-L37:;
-    v21 = 0u;
-    v3 = v11;
-    v20 = 0ull;
-L36:;
-    v6 = 0u;
-L35:;
-    v22 = 0u;
-    v23 = 0u;
-    v24 = 0u;
-L34:;
-    v25 = 0u;
-L33:;
-    v14 = (v23 << 16) | (v22 & 65535u);
-    v8 = v25 | (v24 & 65535u);
-    v20 = ((v20 | (((u64)v21) & 65535ull)) << 32) | ((u64)v3);
-    goto L15;
-L19:;
-    if ((l1(v0 + 17000ull) & 128u) == 0) goto L12;
-    if (l1(v0 + 16696ull) == 0) goto L65;
-    v17 = 0ull;
-    goto L64;
-L65:;
-    if (l1(v0 + 16716ull) == 0) goto L66;
-    v17 = 1ull;
-    goto L64;
-L66:;
-    if (l1(v0 + 16736ull) == 0) goto L67;
-    v17 = 2ull;
-    goto L64;
-L67:;
-    if (l1(v0 + 16756ull) == 0) goto L68;
-    v17 = 3ull;
-    goto L64;
-L68:;
-    if (l1(v0 + 16776ull) == 0) goto L69;
-    v17 = 4ull;
-    goto L64;
-L69:;
-    if (l1(v0 + 16796ull) == 0) goto L70;
-    v17 = 5ull;
-    goto L64;
-L70:;
-    if (l1(v0 + 16816ull) == 0) goto L71;
-    v17 = 6ull;
-    goto L64;
-L71:;
-    if (l1(v0 + 16836ull) == 0) goto L72;
-    v17 = 7ull;
-    goto L64;
-L72:;
-    if (l1(v0 + 16856ull) == 0) goto L73;
-    v17 = 8ull;
-    goto L64;
-L73:;
-    if (l1(v0 + 16876ull) == 0) goto L74;
-    v17 = 9ull;
-    goto L64;
-L74:;
-    if (l1(v0 + 16896ull) == 0) goto L75;
-    v17 = 10ull;
-    goto L64;
-L75:;
-    if (l1(v0 + 16916ull) == 0) goto L76;
-    v17 = 11ull;
-    goto L64;
-L76:;
-    if (l1(v0 + 16936ull) == 0) goto L77;
-    v17 = 12ull;
-    goto L64;
-L77:;
-    if (l1(v0 + 16956ull) == 0) goto L78;
-    v17 = 13ull;
-    goto L64;
-L78:;
-    if (l1(v0 + 16976ull) == 0) goto L79;
-    v17 = 14ull;
-    goto L64;
-L79:;
-    if (l1(v0 + 16996ull) == 0) goto L12;
-    v17 = 15ull;
-L64:;
-    v19 = v17 * 20ull;
-    v4 = v17 >= l8(v0 + 808ull);
-    if (v4) goto L81;
-    s8(v2 + 280, 0ull);
-    s8(v2 + 288, 0ull);
-    s4(v2 + 216, 0u);
-    s4(v2 + 219, 0u);
-    s4(v2 + 208, l4(A(data + 786)));
-    s2(v2 + 212, l2(A(data + 790)));
-    v20 = v0 + v19;
-    v5 = (l1(v20 + 16681ull) ? 0xFFFFA000u : 0xFFFF8000u) | (l1(v20 + 16682ull) << 12);
-    v20 = v0 + (v17 * 48ull);
-    v6 = l4(v20 + 64ull);
-    v17 = l8(v20 + 56ull);
-    v3 = l2(v20 + 40ull);
-    v20 = 32ull;
-    v26 = 1ull;
-    goto L80;
-L81:;
-    v6 = 0u;
-    s2(v2 + 212, 0u);
-    s4(v2 + 208, 0u);
-    v26 = 0ull;
-    s8(v2 + 280, 0ull);
-    s8(v2 + 288, 0ull);
-    s4(v2 + 216, 0u);
-    s4(v2 + 219, 0u);
-    v3 = 0u;
-    v5 = 0u;
-    v17 = 0ull;
-    v20 = 0ull;
-L80:;
-    s2(v0 + 15324ull, v3);
-    s4(v0 + 15320ull, 0u);
-    s8(v0 + 15312ull, v26);
-    s4(v0 + 15326ull, l4(v2 + 208));
-    s2(v0 + 15330ull, l2(v2 + 212));
-    s4(v0 + 15348ull, v6);
-    s8(v0 + 15340ull, v17);
-    s4(v0 + 15336ull, 0u);
-    s2(v0 + 15334ull, v5);
-    s2(v0 + 15332ull, v3);
-    s8(v0 + 15352ull, l8(v2 + 280));
-    s8(v0 + 15360ull, l8(v2 + 288));
-    s1(v0 + 15376ull, 0u);
-    s8(v0 + 15368ull, v20);
-    s1((v0 + v19) + 16696ull, 0u);
-    s4(v0 + 15380ull, l4(v2 + 219));
-    s4(v0 + 15377ull, l4(v2 + 216));
-    if (v4) goto L12;
-    goto L13;
-L18:;
-    v5 = v8 & 0xFFFF0000u;
-    v17 = 44ull;
-    v3 = 0u;
-    v20 = 0ull;
-    v22 = 0u;
-    v19 = v10;
-    v6 = v9;
-    v23 = v14;
-    v24 = v16;
-    v25 = v8;
-L17:;
-    v18 = 0u;
-    v28 = 0u;
-L16:;
-    v8 = v3 >> 24;
-    v11 = v3 >> 16;
-    v9 = v3 >> 8;
-    v15 = 0u;
-    v14 = v7 + 0xFFFFFF7Du;
-    if (v14 > 7u) goto L82;
-    if (((1u << (v14 & 31)) & 193u) == 0) goto L82;
-    v14 = v21 & 31u;
-    if (v14 > 4u) goto L82;
-    if (((1u << (v14 & 31)) & 25u) == 0) goto L82;
-    if (v18) goto L82;
-    v11 = 0u;
-    v15 = v28 ? 0u : v4;
-    v8 = (l1(v27 + 16681ull) ? 0xFFFFFFA0u : 0xFFFFFF80u) | (l1(v27 + 16682ull) << 4);
-    v9 = v4 >> 8;
-    v3 = v4;
-L82:;
-    v14 = (v24 << 16) | (v23 & 65535u);
-    v20 = (((((((u64)v8) & 255ull) << 24) | ((v20 | (((u64)v22) & 65535ull)) << 32)) | ((u64)((v11 << 16) &
-        16711680u))) | ((((u64)v9) & 255ull) << 8)) | (((u64)v3) & 255ull);
-    v8 = v5 | (v25 & 65535u);
-    v5 = v21;
-L15:;
-    v3 = v7 << 16;
-L14:;
-    s4(v0 + 15377ull, 0u);
-    s1(v0 + 15376ull, 1u);
-    s8(v0 + 15368ull, v17);
-    s4(v0 + 15364ull, 0u);
-    s4(v0 + 15360ull, v8);
-    s4(v0 + 15356ull, v14);
-    s4(v0 + 15352ull, v15);
-    s4(v0 + 15348ull, v6);
-    s8(v0 + 15340ull, v19);
-    s8(v0 + 15332ull, v20);
-    s2(v0 + 15330ull, v5);
-    s4(v0 + 15326ull, v3);
-    s2(v0 + 15324ull, v4);
-    s4(v0 + 15320ull, v13);
-    s8(v0 + 15312ull, 1ull);
-    s4(v0 + 15380ull, 0u);
-L13:;
-    if (l1(v0 + 15386ull) == 1u) goto L12;
-    v6 = 0u;
-    v3 = 3u;
-    goto L11;
-L12:;
-    if (l1(v0 + 15384ull) != 1u) goto L83;
-    if (l1(v0 + 15385ull) == 1u) goto L83;
-    v7 = 0u;
-    v3 = 3u;
-    v6 = 1u;
-    goto L10;
-L83:;
-    v6 = 0u;
-    s4(v2 + 320, 0u);
-    s8(v2 + 312, 0ull);
-    s8(v2 + 304, 0ull);
-    s8(v2 + 296, 0ull);
-    s8(v2 + 288, 0ull);
-    s8(v2 + 280, 0ull);
-    f59(v2 + 280ull, v0 + 8ull);
-    v3 = 0u;
-    v7 = 0u;
-    v5 = 0u;
-    if (l1(v2 + 280) != 1u) goto L8;
     v4 = 0u;
-    if (l1(v2 + 284)) goto L85;
-    v15 = 0u;
-    v8 = 0u;
-    v14 = 0u;
-    v19 = l8(v0 + 16672ull);
-    if (v19 == 0) goto L84;
-    v17 = v0 + 15392ull;
-    v3 = l4(v2 + 288);
-L87:;
-    if (l4(v17) == v3) goto L86;
-    v17 = v17 + 20ull;
-    v19 = v19 + 0xFFFFFFFFFFFFFFFFull;
-    if ((u32)(v19 == 0) == 0) goto L87;
-    v4 = 0u;
-    goto L85;
-L86:;
-    v14 = l4(v17 + 16ull);
-    v8 = l4(v17 + 8ull);
-    v15 = l4(v17 + 4ull);
-    v4 = 1u;
-    goto L84;
-L85:;
-    v15 = 0u;
-    v8 = 0u;
-    v14 = 0u;
-L84:;
-    v7 = 1u;
-    v19 = l8(v0 + 808ull);
-    if (v19 == 0) goto L9;
-    v22 = l1(v2 + 297);
-    v26 = (u64)l4(v2 + 316);
-    v21 = l1(v2 + 308);
-    v13 = l1(v2 + 296);
-    v3 = l2(v2 + 292);
-    v20 = v0 + 16680ull;
-    v17 = v0 + 40ull;
-L89:;
-    if (l2(v17) == (v3 & 65535u)) goto L88;
-    v20 = v20 + 20ull;
-    v17 = v17 + 48ull;
-    v19 = v19 + 0xFFFFFFFFFFFFFFFFull;
-    if (v19 == 0) goto L9;
-    goto L89;
-L88:;
-    v3 = 11u;
-    v5 = 11u;
-    if (v4 == 0) goto L8;
-    v7 = 0u;
-    v3 = 11u;
-    if ((v13 & 255u) == 4u) goto L10;
-    v7 = 1u;
-    v5 = 65535u;
-    if (l1(v20) != 1u) goto L8;
-    if (v14 != l4(v20 + 4ull)) goto L8;
-    v7 = 0u;
-    if ((v13 & 255u) != 7u) goto L10;
-    if ((v21 & 255u) != 1u) goto L10;
-    v5 = 65534u;
-    if (l1(v20 + 8ull) == 1u) goto L90;
-    v7 = 1u;
-    goto L8;
-L90:;
-    if (l4(v20 + 12ull) == v14) goto L91;
-    v7 = 1u;
-    goto L8;
-L91:;
-    if (((v22 + 0xFFFFFFFBu) & 255u) < 253u) goto L92;
-    v7 = 1u;
-    if ((v15 & 1u) == 0) goto L92;
-    v5 = 41u;
-    goto L8;
-L92:;
-    v7 = 1u;
-    if ((v8 & 1u) == 0) goto L93;
-    v5 = 73u;
-    goto L8;
-L93:;
-    v7 = 1u;
-    if ((1u << (v22 & 31)) & 13u) goto L94;
-    if (l1(v20 + 2ull) == 0) goto L95;
-    v5 = 4102u;
-    goto L8;
-L95:;
-    if ((v22 & 254u) == 2u) goto L94;
-    if (l1(v20 + 1ull) == 0) goto L94;
-    v5 = 8198u;
-    goto L8;
-L94:;
-    v5 = 105u;
-    v17 = (u64)v8;
-    v19 = v26 << 9;
-    if (v17 < v19) goto L8;
-    v20 = v17 - v19;
-    v20 = (v20 > v17) ? 0ull : v20;
-    if (((v19 + ((u64)v15)) + ((v20 < 512ull) ? v20 : 512ull)) > 4294967295ull) goto L8;
-    v7 = 0u;
-    v5 = 0u;
-    if (v19 >= v17) goto L8;
-    v3 = (u32)(51758501133ull >> ((((u64)v22) << 3) & 63));
-L11:;
-    v7 = 0u;
-L10:;
-    v5 = 0u;
+    s4(v3 + 264, 0u);
+    s8(v3 + 256, 0ull);
+    s8(v3 + 248, 0ull);
+    s8(v3 + 240, 0ull);
+    s8(v3 + 232, 0ull);
+    s8(v3 + 224, 0ull);
+    s8(v3 + 216, 0ull);
+    s8(v3 + 208, 0ull);
+    v6 = l1(v0 + 15258ull);
+    if (v6 == 9u) goto L1;
+    v7 = l1(v5);
+    if (v7 == 0) goto L9;
+    v4 = l4(v0 + 15296ull);
+    v8 = l1(v0 + 15293ull);
     goto L8;
 L9:;
-    v3 = 11u;
-    v5 = 11u;
-L8:;
+    v7 = 1u;
+    v8 = 0u;
+    v9 = 0u;
+    v4 = 0u;
+    if (l1(v0 + 15266ull) == 1u) goto L10;
+    v7 = 0u;
+    v8 = 0u;
+    v9 = 0u;
+    v4 = 0u;
+    if (v6 != 8u) goto L10;
+    if (l1(v0 + 15312ull) == 1u) goto L15;
+    if (l8(v0 + 12160ull) == 0) goto L20;
+    v10 = l4(v0 + 9128ull);
+    v11 = l4(v0 + 9120ull);
+    v12 = l8(v0 + 9112ull);
+    v13 = l4(v0 + 9108ull);
+    v14 = l2(v0 + 9106ull);
+    v4 = l1(v0 + 9104ull);
+    v6 = l2(v0 + 9096ull);
+    v7 = l2(v0 + 9092ull);
+    v15 = l4(v0 + 9088ull);
+    v16 = l1(v0 + 9094ull);
+    v8 = l4(v0 + 9124ull);
+    f106(v3 + 344ull, v0 + 9080ull);
+    v17 = 0u;
+    s1(v0 + 15385ull, 0u);
+    v18 = v8 >> 16;
+    if (v16 != 132u) goto L21;
+    v5 = 12ull;
+    v19 = 1u;
+    v20 = 0ull;
+    v21 = 0ull;
+    v9 = v4;
+    v16 = v4;
+    v22 = v4;
+    v23 = v4;
+    v24 = v4;
+    v25 = 1u;
+    v26 = 0u;
+    switch (v4) {
+    case 1: goto L32;
+    case 2: goto L31;
+    case 3: goto L30;
+    case 4: goto L29;
+    case 5: goto L28;
+    case 6: goto L27;
+    default: goto L22;
+    }
+L32:;
+    v5 = 16ull;
+    v17 = 0u;
+    v4 = v13;
+    v21 = 0ull;
+    v9 = 0u;
+    v16 = 0u;
+    v22 = 0u;
+    v23 = 0u;
+    v24 = 0u;
+    v25 = 0u;
+    goto L23;
+L31:;
+    v21 = v12 & 4294901760ull;
+    v17 = (u32)v12;
+    v5 = 20ull;
+    v9 = 0u;
+    v4 = v13;
+    goto L26;
+L30:;
+    v5 = 48ull;
+    v4 = 0u;
+    v17 = 0u;
+    v21 = 0ull;
+    v20 = v12;
+    v9 = v11;
+    v16 = v8;
+    v22 = v18;
+    v23 = v10;
+    goto L25;
+L29:;
+    v5 = 28ull;
+    v26 = 1u;
+    v4 = 0u;
+    v17 = v14;
+    v21 = 0ull;
+    v20 = v12;
+    v9 = 0u;
+    v16 = 0u;
+    v22 = 0u;
+    v23 = 0u;
+    v24 = 0u;
+    v25 = 0u;
+    v19 = 0u;
+    goto L22;
+L28:;
+    v24 = v10 & 0xFFFF0000u;
+    v5 = 44ull;
+    v4 = 0u;
+    v17 = 0u;
+    v21 = 0ull;
+    v20 = v12;
+    v9 = v11;
+    v16 = v8;
+    v22 = v18;
+    v23 = v10;
+    goto L24;
+L27:;
+    v5 = 32ull;
+    v17 = 0u;
+    v4 = v13;
+    v21 = 0ull;
+    v9 = 0u;
+L26:;
+    v16 = 0u;
+    v22 = 0u;
+    v23 = 0u;
+L25:;
+    v24 = 0u;
+L24:;
+    v25 = 0u;
+    v19 = 0u;
+L23:;
+    v26 = 0u;
+L22:;
+    v8 = v16 & 65535u;
+    v10 = v22 << 16;
+    v16 = v4 >> 24;
+    v13 = v4 >> 16;
+    v11 = v23 & 65535u;
+    v22 = (u32)(v21 >> 24);
+    v23 = (u32)(v21 >> 16);
+    if (v6) goto L33;
+    if (v25) goto L33;
+    v13 = l2(v0 + 17128ull);
+    v16 = (v13 >> 8) | 0xFFFFFF80u;
+    if (v19) goto L33;
+    v5 = v26 ? 32ull : v5;
+    v9 = v26 ? 0u : v9;
+    v23 = l1(v0 + 2ull);
+    v22 = l1(v0 + 3ull);
+L33:;
+    v8 = v10 | v8;
+    v10 = v24 | v11;
+    v21 = (((((((u64)v22) << 56) | ((((u64)v23) & 255ull) << 48)) | ((((u64)v17) & 65535ull) << 32)) | ((((u64)v16) &
+        255ull) << 24)) | ((((u64)v13) & 255ull) << 16)) | ((u64)(v4 & 65535u));
+    v17 = 0u;
+    v4 = 8650752u;
+    goto L16;
+L21:;
+    v27 = l8(v0 + 808ull);
+    if (v27 == 0) goto L46;
+    v5 = 40ull;
+    v20 = 0ull;
+    v21 = v27;
+L47:;
+    if (l2(v0 + v5) == v7) goto L45;
+    v20 = v20 + 28ull;
+    v5 = v5 + 48ull;
+    v21 = v21 + 0xFFFFFFFFFFFFFFFFull;
+    if ((u32)(v21 == 0) == 0) goto L47;
+L46:;
+    v5 = 12ull;
+    v20 = 0ull;
+    v17 = 0u;
+    v22 = 0u;
+    v21 = 0ull;
+    v9 = v4;
+    v23 = v4;
+    v24 = v4;
+    v25 = v4;
+    v26 = v4;
+    switch (v4) {
+    case 1: goto L44;
+    case 2: goto L43;
+    case 3: goto L42;
+    case 4: goto L41;
+    case 5: goto L40;
+    case 6: goto L39;
+    default: goto L34;
+    }
+L45:;
+    v28 = v0 + v20;
+    v22 = 35u;
+    switch (v6) {
+    case 0: goto L51;
+    case 1: case 2: case 3: goto L49;
+    case 4: goto L52;
+    default: goto L53;
+    }
+L53:;
+    switch (v6 + 0xFFFF0002u) {
+    case 0: goto L54;
+    case 1: goto L48;
+    default: goto L50;
+    }
+L54:;
+    v22 = 4u;
+    goto L48;
+L52:;
+    if (l1(v28 + 16680ull)) goto L49;
+    goto L48;
+L51:;
+    if (v16 != 131u) goto L49;
+    if (l1(v28 + 16680ull) != 1u) goto L48;
+    v22 = 4u;
+    if (l1(v28 + 16696ull) != 1u) goto L48;
+    if (l4(v28 + 16700ull) == l4(v28 + 16684ull)) goto L49;
+    goto L48;
+L50:;
+    if (v6 != 256u) goto L49;
+    if (v16 != 137u) goto L49;
+    v22 = 0u;
+    if (l1(v28 + 16705ull)) goto L48;
+L49:;
+    v22 = v6;
+L48:;
+    v20 = v27 + 1ull;
+    v5 = v0;
+L56:;
+    v20 = v20 + 0xFFFFFFFFFFFFFFFFull;
+    if (v20 == 0) goto L55;
+    v21 = v5 + 40ull;
+    v27 = v5 + 48ull;
+    v5 = v27;
+    if (l2(v21) != v7) goto L56;
+    if ((1u << (v4 & 31)) & 87u) goto L58;
+    if (v4 == 3u) goto L59;
+    if (v22 != 35u) goto L61;
+    v10 = l4(v27 + 20ull);
+    v6 = v10 & 0xFFFF0000u;
+    v11 = l4(v27 + 16ull);
+    v12 = l8(v27 + 8ull);
+    v8 = l4(v27);
+    goto L60;
+L61:;
+    if (v22 & 31u) goto L58;
+    if (l1(v28 + 16680ull) != 1u) goto L58;
+    v6 = v10 & 0xFFFF0000u;
+    v8 = l4(v28 + 16688ull);
+    v11 = l4(v28 + 16692ull);
+L60:;
+    v14 = 0u;
+    v13 = 0u;
+    goto L57;
+L59:;
+    if (l1(v28 + 16680ull) != 1u) goto L58;
+    v11 = l4(v28 + 16692ull);
+    v14 = 0u;
+    v13 = 0u;
+    v6 = 0u;
+    goto L57;
+L58:;
+    v6 = v10 & 0xFFFF0000u;
+L57:;
+    v10 = v6 | (v10 & 65535u);
+L55:;
+    v5 = 12ull;
+    v19 = 1u;
+    v20 = 0ull;
+    v17 = 0u;
+    v6 = 0u;
+    v21 = 0ull;
+    v9 = v4;
+    v23 = v4;
+    v24 = v4;
+    v18 = v4;
+    v25 = v4;
+    v26 = 1u;
+    switch (v4) {
+    case 1: goto L70;
+    case 2: goto L69;
+    case 3: goto L68;
+    case 4: goto L67;
+    case 5: goto L66;
+    case 6: goto L65;
+    default: goto L18;
+    }
+L70:;
+    v5 = 16ull;
+    goto L64;
+L69:;
+    v21 = v12 & 4294901760ull;
+    v6 = (u32)v12;
+    v5 = 20ull;
+    v9 = 0u;
+    v4 = v13;
+    goto L62;
+L68:;
+    v24 = v8 & 0xFFFF0000u;
+    v5 = 48ull;
+    v4 = 0u;
+    v6 = 0u;
+    v21 = 0ull;
+    v20 = v12;
+    v9 = v11;
+    v23 = v8;
+    v18 = v10;
+    v25 = 0u;
+    goto L19;
+L67:;
+    v5 = 28ull;
+    v4 = 0u;
+    v6 = v14;
+    v21 = 0ull;
+    v20 = v12;
+    goto L63;
+L66:;
+    v25 = v10 & 0xFFFF0000u;
+    v24 = v8 & 0xFFFF0000u;
+    v5 = 44ull;
+    v4 = 0u;
+    v6 = 0u;
+    v21 = 0ull;
+    v20 = v12;
+    v9 = v11;
+    v23 = v8;
+    v18 = v10;
+    goto L19;
+L65:;
+    v5 = 32ull;
+L64:;
+    v6 = 0u;
+    v4 = v13;
+    v21 = 0ull;
+L63:;
+    v9 = 0u;
+L62:;
+    v23 = 0u;
+    v24 = 0u;
+    v18 = 0u;
+    v25 = 0u;
+    v26 = 0u;
+    goto L18;
+L44:;
+    v5 = 16ull;
+    goto L38;
+L43:;
+    v21 = v12 & 4294901760ull;
+    v22 = (u32)v12;
+    v5 = 20ull;
+    v9 = 0u;
+    v4 = v13;
+    goto L36;
+L42:;
+    v5 = 48ull;
+    v4 = 0u;
+    v22 = 0u;
+    v21 = 0ull;
+    v20 = v12;
+    v9 = v11;
+    v23 = v8;
+    v24 = v18;
+    v25 = v10;
+    goto L35;
+L41:;
+    v5 = 28ull;
+    v4 = 0u;
+    v22 = v14;
+    v21 = 0ull;
+    v20 = v12;
+    goto L37;
+L40:;
+    v26 = v10 & 0xFFFF0000u;
+    v5 = 44ull;
+    v4 = 0u;
+    v22 = 0u;
+    v21 = 0ull;
+    v20 = v12;
+    v9 = v11;
+    v23 = v8;
+    v24 = v18;
+    v25 = v10;
+    goto L34;
+L39:;
+    v5 = 32ull;
+L38:;
+    v22 = 0u;
+    v4 = v13;
+    v21 = 0ull;
+L37:;
+    v9 = 0u;
+L36:;
+    v23 = 0u;
+    v24 = 0u;
+    v25 = 0u;
+L35:;
+    v26 = 0u;
+L34:;
+    v8 = (v24 << 16) | (v23 & 65535u);
+    v10 = v26 | (v25 & 65535u);
+    v21 = ((v21 | (((u64)v22) & 65535ull)) << 32) | ((u64)v4);
+    goto L17;
+L20:;
+    if ((l1(v0 + 17128ull) & 128u) == 0) goto L14;
+    if (l1(v0 + 16704ull) == 0) goto L72;
+    v5 = 0ull;
+    goto L71;
+L72:;
+    if (l1(v0 + 16732ull) == 0) goto L73;
+    v5 = 1ull;
+    goto L71;
+L73:;
+    if (l1(v0 + 16760ull) == 0) goto L74;
+    v5 = 2ull;
+    goto L71;
+L74:;
+    if (l1(v0 + 16788ull) == 0) goto L75;
+    v5 = 3ull;
+    goto L71;
+L75:;
+    if (l1(v0 + 16816ull) == 0) goto L76;
+    v5 = 4ull;
+    goto L71;
+L76:;
+    if (l1(v0 + 16844ull) == 0) goto L77;
+    v5 = 5ull;
+    goto L71;
+L77:;
+    if (l1(v0 + 16872ull) == 0) goto L78;
+    v5 = 6ull;
+    goto L71;
+L78:;
+    if (l1(v0 + 16900ull) == 0) goto L79;
+    v5 = 7ull;
+    goto L71;
+L79:;
+    if (l1(v0 + 16928ull) == 0) goto L80;
+    v5 = 8ull;
+    goto L71;
+L80:;
+    if (l1(v0 + 16956ull) == 0) goto L81;
+    v5 = 9ull;
+    goto L71;
+L81:;
+    if (l1(v0 + 16984ull) == 0) goto L82;
+    v5 = 10ull;
+    goto L71;
+L82:;
+    if (l1(v0 + 17012ull) == 0) goto L83;
+    v5 = 11ull;
+    goto L71;
+L83:;
+    if (l1(v0 + 17040ull) == 0) goto L84;
+    v5 = 12ull;
+    goto L71;
+L84:;
+    if (l1(v0 + 17068ull) == 0) goto L85;
+    v5 = 13ull;
+    goto L71;
+L85:;
+    if (l1(v0 + 17096ull) == 0) goto L86;
+    v5 = 14ull;
+    goto L71;
+L86:;
+    if (l1(v0 + 17124ull) == 0) goto L14;
+    v5 = 15ull;
+L71:;
+    v20 = v5 * 28ull;
+    v7 = v5 >= l8(v0 + 808ull);
+    if (v7) goto L88;
+    s8(v3 + 344, 0ull);
+    s8(v3 + 352, 0ull);
+    s4(v3 + 280, 0u);
+    s4(v3 + 283, 0u);
+    s4(v3 + 272, l4(A(data + 786)));
+    s2(v3 + 276, l2(A(data + 790)));
+    v21 = v0 + v20;
+    v6 = ((l1(v21 + 16681ull) ? 0xFFFFA000u : 0xFFFF8000u) | (l1(v21 + 16682ull) << 12)) | ((l1(v21 + 16683ull) << 7) &
+        128u);
+    v9 = l4(v21 + 16692ull);
+    v21 = v0 + (v5 * 48ull);
+    v5 = l8(v21 + 56ull);
+    v4 = l2(v21 + 40ull);
+    v21 = 32ull;
+    v27 = 1ull;
+    goto L87;
+L88:;
+    v9 = 0u;
+    s2(v3 + 276, 0u);
+    s4(v3 + 272, 0u);
+    v27 = 0ull;
+    s8(v3 + 344, 0ull);
+    s8(v3 + 352, 0ull);
+    s4(v3 + 280, 0u);
+    s4(v3 + 283, 0u);
+    v4 = 0u;
+    v6 = 0u;
+    v5 = 0ull;
+    v21 = 0ull;
+L87:;
+    s2(v0 + 15324ull, v4);
+    s4(v0 + 15320ull, 0u);
+    s8(v0 + 15312ull, v27);
+    s4(v0 + 15326ull, l4(v3 + 272));
+    s2(v0 + 15330ull, l2(v3 + 276));
+    s4(v0 + 15348ull, v9);
+    s8(v0 + 15340ull, v5);
+    s4(v0 + 15336ull, 0u);
+    s2(v0 + 15334ull, v6);
+    s2(v0 + 15332ull, v4);
+    s8(v0 + 15352ull, l8(v3 + 344));
+    s8(v0 + 15360ull, l8(v3 + 352));
+    s1(v0 + 15376ull, 0u);
+    s8(v0 + 15368ull, v21);
+    s1((v0 + v20) + 16704ull, 0u);
+    s4(v0 + 15380ull, l4(v3 + 283));
+    s4(v0 + 15377ull, l4(v3 + 280));
+    if (v7) goto L14;
+    goto L15;
+L19:;
+    v26 = 0u;
+    v19 = 0u;
+L18:;
+    v8 = v4 >> 24;
+    v10 = v4 >> 16;
+    v13 = v4 >> 8;
+    v11 = v16 + 0xFFFFFF7Du;
+    if (v11 > 7u) goto L89;
+    if (((1u << (v11 & 31)) & 193u) == 0) goto L89;
+    v11 = v22 & 31u;
+    if (v11 > 4u) goto L89;
+    if (((1u << (v11 & 31)) & 25u) == 0) goto L89;
+    if (v26) goto L89;
+    v17 = v19 ? 0u : v7;
+    v8 = (l1(v28 + 16681ull) ? 0xFFFFFFA0u : 0xFFFFFF80u) | (l1(v28 + 16682ull) << 4);
+    v13 = v7 >> 8;
+    v10 = l1(v28 + 16683ull) << 7;
+    v4 = v7;
+L89:;
+    v21 = (((((((u64)v8) & 255ull) << 24) | ((v21 | (((u64)v6) & 65535ull)) << 32)) | ((((u64)v10) & 255ull) << 16)) |
+        ((((u64)v13) & 255ull) << 8)) | (((u64)v4) & 255ull);
+    v8 = v24 | (v23 & 65535u);
+    v10 = v25 | (v18 & 65535u);
+    v6 = v22;
+L17:;
+    v4 = v16 << 16;
+L16:;
+    s4(v0 + 15377ull, 0u);
+    s1(v0 + 15376ull, 1u);
+    s8(v0 + 15368ull, v5);
+    s4(v0 + 15364ull, 0u);
+    s4(v0 + 15360ull, v10);
+    s4(v0 + 15356ull, v8);
+    s4(v0 + 15352ull, v17);
+    s4(v0 + 15348ull, v9);
+    s8(v0 + 15340ull, v20);
+    s8(v0 + 15332ull, v21);
+    s2(v0 + 15330ull, v6);
+    s4(v0 + 15326ull, v4);
+    s2(v0 + 15324ull, v7);
+    s4(v0 + 15320ull, v15);
+    s8(v0 + 15312ull, 1ull);
+    s4(v0 + 15380ull, 0u);
+L15:;
+    if (l1(v0 + 15386ull) == 1u) goto L14;
+    v8 = 0u;
+    v7 = 3u;
+    goto L13;
+L14:;
+    v8 = 1u;
+    if (l1(v0 + 15384ull) != 1u) goto L90;
+    if (l1(v0 + 15385ull) == 1u) goto L90;
+    v9 = 0u;
+    v7 = 3u;
+    goto L12;
+L90:;
+    v2 = v2 & 1u;
+    v7 = 0u;
+    v8 = 0u;
+    v9 = 0u;
+    v4 = 0u;
+    if (v2) goto L10;
+    v8 = 0u;
+    s4(v3 + 384, 0u);
+    s8(v3 + 376, 0ull);
+    s8(v3 + 368, 0ull);
+    s8(v3 + 360, 0ull);
+    s8(v3 + 352, 0ull);
+    s8(v3 + 344, 0ull);
+    f68(v3 + 344ull, v0 + 8ull);
+    v7 = 0u;
+    v9 = 0u;
+    v4 = 0u;
+    if (l1(v3 + 344) != 1u) goto L10;
+    v2 = 0u;
+    if (l1(v3 + 348)) goto L92;
+    v16 = 0u;
+    v17 = 0u;
+    v6 = 0u;
+    v20 = l8(v0 + 16672ull);
+    if (v20 == 0) goto L91;
+    v5 = v0 + 15392ull;
+    v4 = l4(v3 + 352);
+L94:;
+    if (l4(v5) == v4) goto L93;
+    v5 = v5 + 20ull;
+    v20 = v20 + 0xFFFFFFFFFFFFFFFFull;
+    if ((u32)(v20 == 0) == 0) goto L94;
+    v2 = 0u;
+    goto L92;
+L93:;
+    v6 = l4(v5 + 16ull);
+    v17 = l4(v5 + 8ull);
+    v16 = l4(v5 + 4ull);
+    v2 = 1u;
+    goto L91;
+L92:;
+    v16 = 0u;
+    v17 = 0u;
+    v6 = 0u;
+L91:;
+    v9 = 1u;
+    v20 = l8(v0 + 808ull);
+    if (v20 == 0) goto L11;
+    v13 = l1(v3 + 361);
+    v27 = (u64)l4(v3 + 380);
+    v22 = l4(v3 + 376);
+    v15 = l1(v3 + 372);
+    v10 = l1(v3 + 360);
+    v4 = l2(v3 + 356);
+    v5 = 40ull;
+    v21 = 0ull;
+L96:;
+    if (l2(v0 + v5) == (v4 & 65535u)) goto L95;
+    v21 = v21 + 28ull;
+    v5 = v5 + 48ull;
+    v20 = v20 + 0xFFFFFFFFFFFFFFFFull;
+    if (v20 == 0) goto L11;
+    goto L96;
+L95:;
+    v7 = 11u;
+    v4 = 11u;
+    if (v2 == 0) goto L10;
+    v9 = 0u;
+    v7 = 11u;
+    if ((v10 & 255u) == 4u) goto L12;
+    v9 = 1u;
+    v4 = 65535u;
+    v5 = v0 + v21;
+    if (l1(v5 + 16680ull) != 1u) goto L10;
+    if (v6 != l4(v5 + 16684ull)) goto L10;
+    v9 = 0u;
+    if ((v10 & 255u) != 7u) goto L12;
+    if ((v15 & 255u) != 1u) goto L12;
+    v4 = 65534u;
+    if (l1(v5 + 16696ull) == 1u) goto L97;
+    v9 = 1u;
+    goto L10;
+L97:;
+    if (l4(v5 + 16700ull) == v6) goto L98;
+    v9 = 1u;
+    goto L10;
+L98:;
+    if (((v13 + 0xFFFFFFFBu) & 255u) < 253u) goto L99;
+    v9 = 1u;
+    if ((v16 & 1u) == 0) goto L99;
+    v4 = 41u;
+    goto L10;
+L99:;
+    v9 = 1u;
+    if ((v17 & 1u) == 0) goto L100;
+    v4 = 73u;
+    goto L10;
+L100:;
+    v9 = 1u;
+    if ((1u << (v13 & 31)) & 13u) goto L101;
+    if (l1(v5 + 16682ull) == 0) goto L102;
+    v4 = 4102u;
+    goto L10;
+L102:;
+    if ((v13 & 254u) == 2u) goto L101;
+    if (l1(v5 + 16681ull) == 0) goto L101;
+    v4 = 8198u;
+    goto L10;
+L101:;
+    v7 = 11u;
+    if (l4(v5 + 16688ull) > v22) goto L103;
+    v4 = 11u;
+    goto L10;
+L103:;
+    v4 = 105u;
+    v7 = 11u;
+    v5 = (u64)v17;
+    v20 = v27 << 9;
+    if (v5 < v20) goto L10;
+    v21 = v5 - v20;
+    v21 = (v21 > v5) ? 0ull : v21;
+    if (((v20 + ((u64)v16)) + ((v21 < 512ull) ? v21 : 512ull)) > 4294967295ull) goto L10;
+    v9 = 0u;
+    v4 = 0u;
+    if (v20 >= v5) goto L10;
+    v7 = (u32)(51758501133ull >> ((((u64)v13) << 3) & 63));
+L13:;
+    v9 = 0u;
+L12:;
+    v4 = 0u;
+    goto L10;
+L11:;
+    v7 = 11u;
+    v4 = 11u;
+L10:;
     s1(v0 + 15304ull, 0u);
     s4(v0 + 15300ull, 0u);
-    s4(v0 + 15296ull, v5);
-    s2(v0 + 15294ull, v7);
-    s1(v0 + 15293ull, v6);
-    s1(v0 + 15292ull, v3);
-L6:;
-    v8 = 0u;
-    s4(v2 + 272, 0u);
-    v19 = 0ull;
-    s8(v2 + 264, 0ull);
-    s8(v2 + 256, 0ull);
-    s8(v2 + 248, 0ull);
-    s8(v2 + 240, 0ull);
-    s8(v2 + 232, 0ull);
-    s8(v2 + 224, 0ull);
-    s8(v2 + 216, 0ull);
-    v14 = l4(v0 + 15276ull);
-    v4 = l1(v0 + 15272ull);
-    v17 = l8(v0 + 15280ull);
-    v7 = (u32)v17;
-    v17 = v17 >> 32;
-    v15 = (u32)v17;
-    switch ((u32)(((u64)v3) & 255ull)) {
-    case 1: case 11: goto L2;
-    case 2: goto L108;
-    case 3: goto L107;
-    case 4: goto L101;
-    case 5: goto L110;
-    case 6: goto L109;
-    case 7: goto L105;
-    case 8: goto L106;
-    case 9: goto L104;
-    case 10: goto L111;
-    case 12: case 13: case 14: goto L102;
-    default: goto L4;
+    s4(v0 + 15296ull, v4);
+    s2(v0 + 15294ull, v9);
+    s1(v0 + 15293ull, v8);
+    s1(v0 + 15292ull, v7);
+L8:;
+    v9 = 0u;
+    s4(v3 + 336, 0u);
+    v5 = 0ull;
+    s8(v3 + 328, 0ull);
+    s8(v3 + 320, 0ull);
+    s8(v3 + 312, 0ull);
+    s8(v3 + 304, 0ull);
+    s8(v3 + 296, 0ull);
+    s8(v3 + 288, 0ull);
+    s8(v3 + 280, 0ull);
+    v15 = l4(v0 + 15276ull);
+    v17 = l1(v0 + 15272ull);
+    v20 = l8(v0 + 15280ull);
+    v10 = (u32)v20;
+    v20 = v20 >> 32;
+    v13 = (u32)v20;
+    v16 = v7;
+    v6 = v7 & 255u;
+    v2 = v6;
+    switch ((u32)(((u64)v7) & 255ull)) {
+    case 1: case 11: goto L106;
+    case 2: goto L113;
+    case 3: goto L111;
+    case 4: goto L117;
+    case 5: goto L116;
+    case 6: goto L114;
+    case 7: goto L109;
+    case 8: goto L110;
+    case 9: goto L108;
+    case 10: goto L118;
+    case 12: case 13: case 14: goto L107;
+    default: goto L2;
     }
+L118:;
+    v9 = (l2(v0 + 15262ull) << 2) & 508u;
+    v16 = 0u;
+    v7 = 4u;
+    goto L104;
+L117:;
+    v16 = 0u;
+    v4 = v4 & 4194302u;
+    v7 = v4 + 0xFFFFFFFCu;
+    v6 = (v7 > v4) ? 0u : v7;
+    v2 = 4u;
+    goto L115;
+L116:;
+    v6 = v4 & 4194302u;
+    v2 = l4(v0 + 15300ull);
+    v16 = 0u;
+L115:;
+    v7 = 2u;
+    v9 = 0u;
+    goto L2;
+L114:;
+    v16 = 0u;
+    fill(v3 + 344ull, 0u, 68ull);
+    if (l1(v0 + 15312ull) == 1u) goto L120;
+    v5 = 0ull;
+    v2 = 0u;
+    v7 = 0u;
+    goto L119;
+L120:;
+    v5 = l8(v0 + 15368ull);
+    v7 = 0u;
+    if (l1(v0 + 15376ull) != 1u) goto L121;
+    v7 = l1(v0 + 15257ull);
+    v7 = ((v7 < 14u) ? v7 : 14u) + 1u;
+L121:;
+    v2 = (u32)v5;
+    if (v5 <= 60ull) goto L122;
+    v5 = 4ull;
+    goto L119;
+L122:;
+    if (v5 == 0) goto L123;
+    copy(v3 + 344ull, v0 + 15320ull, v5);
+L123:;
+    v5 = v5 + 4ull;
+L119:;
+    s4(v3 + 336, l4(v3 + 400));
+    s8(v3 + 328, l8(v3 + 392));
+    s8(v3 + 320, l8(v3 + 384));
+    s8(v3 + 312, l8(v3 + 376));
+    s8(v3 + 304, l8(v3 + 368));
+    s8(v3 + 296, l8(v3 + 360));
+    s8(v3 + 288, l8(v3 + 352));
+    s8(v3 + 280, l8(v3 + 344));
+    v4 = v4 & 4194302u;
+    v6 = v4 + 0xFFFFFFFCu;
+    v6 = (v6 > v4) ? 0u : v6;
+    v2 = ((v7 & 255u) << 16) | (v2 & 65535u);
+    goto L112;
+L113:;
+    if ((v17 & 255u) != 1u) goto L106;
+    s8(v3 + 344, 0ull);
+    s8(v3 + 352, 0ull);
+    s8(v3 + 360, 0ull);
+    s8(v3 + 368, 0ull);
+    s8(v3 + 376, 0ull);
+    s8(v3 + 384, 0ull);
+    s8(v3 + 392, 0ull);
+    s8(v3 + 400, 0ull);
+    v16 = 0u;
+    v7 = ((v13 + v10) << 2) + v15;
+    v4 = (v15 + v4) + ((l2(v0 + 15264ull) & 1u) ? 0xFFFFFFF8u : 0xFFFFFFFCu);
+    v6 = (v7 < v4) ? v7 : v4;
+    v4 = v7 - v6;
+    v5 = (u64)((v4 < 64u) ? v4 : 64u);
+    if (v5 == 0) goto L124;
+    fill(v3 + 344ull, 0u, v5);
+L124:;
+    s8(v3 + 280, l8(v3 + 348));
+    s8(v3 + 288, l8(v3 + 356));
+    s8(v3 + 296, l8(v3 + 364));
+    s8(v3 + 304, l8(v3 + 372));
+    s8(v3 + 312, l8(v3 + 380));
+    s8(v3 + 320, l8(v3 + 388));
+    s8(v3 + 328, l8(v3 + 396));
+    s4(v3 + 336, l4(v3 + 404));
+    v2 = l4(v3 + 344);
+L112:;
+    v7 = 3u;
+    v9 = 0u;
+    goto L2;
 L111:;
-    v3 = l2(v0 + 15262ull);
+    if ((v17 & 255u) != 1u) goto L106;
+    v4 = v8 & 255u;
+    v7 = l1(v0 + (v4 ? 15289ull : 15288ull));
+    if (v4) goto L126;
+    if (v10 == 0) goto L6;
+    v4 = rem32(v7, v10);
+    goto L125;
+L126:;
+    if (v20 == 0) goto L6;
+    v4 = rem32(v7, v13) + v10;
+L125:;
+    v7 = 2u;
+    v6 = (v4 << 2) + v15;
+    goto L3;
+L110:;
+    if ((v17 & 255u) != 1u) goto L106;
+    v4 = v8 & 255u;
+    v7 = (((v4 ? v13 : v10) << 1) + (l1(v0 + (v4 ? 15289ull : 15288ull)))) + 0xFFFFFFFEu;
+    if (v4) goto L128;
+    if (v10 == 0) goto L6;
+    v4 = rem32(v7, v10);
+    goto L127;
+L128:;
+    if (v20 == 0) goto L6;
+    v4 = rem32(v7, v13) + v10;
+L127:;
+    v7 = 2u;
+    v6 = (v4 << 2) + v15;
+    goto L3;
+L109:;
+    if ((v17 & 255u) != 1u) goto L106;
+    v7 = v8 & 255u;
+    v2 = l1(v0 + (v7 ? 15289ull : 15288ull));
+    if (v7) goto L130;
+    if (v10 == 0) goto L6;
+    v7 = rem32(v2, v10);
+    goto L129;
+L130:;
+    if (v20 == 0) goto L6;
+    v7 = rem32(v2, v13) + v10;
+L129:;
+    v2 = (v4 & 1073741823u) | 1073741824u;
+    v6 = (v7 << 2) + v15;
+    v16 = 0u;
+    v7 = 3u;
+    v5 = 4ull;
+    v9 = 0u;
+    goto L2;
+L108:;
+    v2 = 1u;
+    if ((v17 & 255u) != 1u) goto L106;
+    v6 = v15 + ((v8 & 255u) ? 0xFFFFFFFCu : 0xFFFFFFFEu);
+    v16 = 0u;
+    v7 = 3u;
+    v5 = 2ull;
+    v9 = 0u;
+    goto L2;
+L107:;
+    if (l1(v0 + 5688ull) != 1u) goto L134;
+    v20 = (u64)l1((v0 + l8(v0 + 5696ull)) + 3896ull);
+    v5 = v0 + (v20 << 5);
+    if (l1(v5 + 832ull) != 7u) goto L134;
+    if ((l1((v0 + (((l8((v0 + (v20 << 3)) + 2872ull)) << 6) & 16320ull)) + 4704ull)) != 1u) goto L134;
+    v2 = l4(v5 + 840ull);
+    v6 = l4(v5 + 836ull);
+    v8 = l2(v5 + 834ull);
+    v16 = l1(v5 + 833ull);
+    v9 = l2(v5 + 828ull);
+    v20 = v5 + 824ull;
+    v4 = l4(v20);
+    v17 = l1(v5 + 830ull);
+    v10 = 0u;
+    s1(v3 + 371ull, 0u);
+    s2(v3 + 369, 0u);
+    s2(v3 + 345, 0u);
+    s1(v3 + 344, v17);
+    s1(v3 + 347, 0u);
+    s1(v3 + 368, 1u);
+    s4(v3 + 360, v6);
+    s2(v3 + 358, v8);
+    s1(v3 + 357, v16);
+    s1(v3 + 356, 7u);
+    s2(v3 + 354, 0u);
+    s2(v3 + 352, v9);
+    s4(v3 + 348, v4);
+    v8 = l4(v20 + 24ull);
+    s4(v3 + 364, v2);
+    v6 = v8 + v2;
+    s4(v3 + 372, v6);
+    v21 = (u64)v8;
+    s8(v3 + 376, (((u64)l4(v20 + 20ull)) << 32) | v21);
+    if ((v7 & 255u) == 14u) goto L136;
+    f107(v3, v0, v3 + 344ull, v16, v6);
+    v20 = 0ull;
+    if (l1(v3) == 1u) goto L135;
+L136:;
+    v20 = 0ull;
+    if (v17 & 255u) goto L135;
+    v5 = l8(v0 + 16672ull);
+    if (v5 == 0) goto L135;
+    v0 = v0 + 15392ull;
+L138:;
+    if (l4(v0) == v4) goto L137;
+    v0 = v0 + 20ull;
+    v5 = v5 + 0xFFFFFFFFFFFFFFFFull;
+    if ((u32)(v5 == 0) == 0) goto L138;
+    goto L135;
+L137:;
+    v5 = (u64)l4(v0 + 8ull);
+    v20 = v21 << 9;
+    v21 = v5 - v20;
+    v21 = (v21 > v5) ? 0ull : v21;
+    v21 = (v21 < 512ull) ? v21 : 512ull;
+    v0 = v20 + ((u64)l4(v0 + 4ull));
+    v10 = (u32)(v5 >= v20) & (u32)((v21 + v0) < 4294967296ull);
+    v20 = v10 ? ((v21 << 32) | (v0 & 4294967295ull)) : 0ull;
+L135:;
+    v4 = v7 & 255u;
+    v7 = 1u;
+    if (v4 < 12u) goto L5;
+    switch (v4 + 0xFFFFFFF4u) {
+    case 1: goto L131;
+    case 2: goto L132;
+    default: goto L133;
+    }
+L134:;
+    v16 = 0u;
+    s4(v3 + 336, 0u);
+    v5 = 0ull;
+    s8(v3 + 328, 0ull);
+    s8(v3 + 320, 0ull);
+    s8(v3 + 312, 0ull);
+    s8(v3 + 304, 0ull);
+    s8(v3 + 296, 0ull);
+    s8(v3 + 288, 0ull);
+    s8(v3 + 280, 0ull);
+    goto L105;
+L133:;
+    if (v10 == 0) goto L5;
+    v2 = (u32)(v20 >> 32);
+    v6 = (u32)v20;
+    v16 = 0u;
+    v7 = 5u;
+    v9 = 0u;
+    goto L4;
+L132:;
+    if (v10 == 0) goto L5;
+    v2 = (u32)(v20 >> 32);
+    v6 = (u32)v20;
+    v16 = 0u;
+    v7 = 7u;
+    v9 = 0u;
+    goto L4;
+L131:;
+    if (v10 == 0) goto L5;
+    v2 = (u32)(v20 >> 32);
+    v7 = 6u;
+    goto L4;
+L106:;
+    v16 = 0u;
+L105:;
+    v7 = 1u;
+    v9 = 0u;
+L104:;
+    v6 = 0u;
+    v2 = 0u;
+    goto L2;
+L6:;
+    TRAP();
+L5:;
+    v16 = 0u;
+    v9 = 0u;
+    v6 = 0u;
+    v2 = 0u;
+L4:;
+    s4(v3 + 336, 0u);
+    v5 = 0ull;
+    s8(v3 + 328, 0ull);
+    s8(v3 + 320, 0ull);
+    s8(v3 + 312, 0ull);
+    s8(v3 + 304, 0ull);
+    s8(v3 + 296, 0ull);
+    s8(v3 + 288, 0ull);
+    s8(v3 + 280, 0ull);
+    goto L2;
+L3:;
+    v2 = 4u;
+    v16 = 0u;
+    v9 = 0u;
+L2:;
+    v4 = l4(v3 + 336);
+    s4(v3 + 264, v4);
+    v0 = l8(v3 + 328);
+    s8(v3 + 256, v0);
+    v20 = l8(v3 + 320);
+    s8(v3 + 248, v20);
+    v21 = l8(v3 + 312);
+    s8(v3 + 240, v21);
+    v27 = l8(v3 + 304);
+    s8(v3 + 232, v27);
+    s8(v3 + 144, l8(v3 + 280));
+    s8(v3 + 152, l8(v3 + 288));
+    s8(v3 + 160, l8(v3 + 296));
+    s8(v3 + 168, v27);
+    s8(v3 + 176, v21);
+    s8(v3 + 184, v20);
+    s8(v3 + 192, v0);
+    s4(v3 + 200, v4);
+    s4(v3 + 64, l4(v3 + 200));
+    s8(v3 + 56, l8(v3 + 192));
+    s8(v3 + 48, l8(v3 + 184));
+    s8(v3 + 40, l8(v3 + 176));
+    s8(v3 + 32, l8(v3 + 168));
+    s8(v3 + 24, l8(v3 + 160));
+    s8(v3 + 16, l8(v3 + 152));
+    s8(v3 + 8, l8(v3 + 144));
+    s4(v3 + 72, v2);
+    s4(v3 + 132, l4(v3 + 64));
+    s8(v3 + 124, l8(v3 + 56));
+    s8(v3 + 116, l8(v3 + 48));
+    s8(v3 + 108, l8(v3 + 40));
+    s8(v3 + 100, l8(v3 + 32));
+    s8(v3 + 92, l8(v3 + 24));
+    s8(v3 + 84, l8(v3 + 16));
+    s8(v3 + 76, l8(v3 + 8));
+    s8(v3 + 136, v5);
+    v4 = v7 & 255u;
+    switch ((u32)(((u64)v7) & 255ull)) {
+    case 1: goto L139;
+    case 2: goto L145;
+    case 3: goto L144;
+    case 4: goto L143;
+    case 5: goto L142;
+    case 6: goto L141;
+    case 7: goto L140;
+    default: goto L1;
+    }
+L145:;
+    s8(v1 + 8, 0ull);
+    s4(v1, v6);
+    s2(v1 + 16ull, 2u);
+    s4(v1 + 4ull, v2);
+    v4 = 1u;
+    goto L1;
+L144:;
+    s8(v1 + 8, 0ull);
+    s4(v1, v6);
+    s2(v1 + 16ull, 3u);
+    s4(v1 + 4ull, (u32)v5);
+    if (v5 == 0) goto L146;
+    copy(v1 + 18ull, v3 + 72ull, v5);
+L146:;
+    v4 = 1u;
+    goto L1;
+L143:;
     s8(v1 + 8, 0ull);
     s8(v1, 0ull);
     s2(v1 + 16ull, 4u);
-    s2(v1 + 14ull, (v3 << 2) & 508u);
-    v3 = 1u;
+    s2(v1 + 14ull, v9);
+    v4 = 1u;
     goto L1;
-L110:;
-    v3 = v5 & 4194302u;
-    v4 = l4(v0 + 15300ull);
-    goto L99;
-L109:;
-    fill(v2 + 280ull, 0u, 68ull);
-    v3 = 0u;
-    if (l1(v0 + 15312ull) != 1u) goto L112;
-    v17 = l8(v0 + 15368ull);
-    v3 = 0u;
-    if (l1(v0 + 15376ull) != 1u) goto L113;
-    v3 = l1(v0 + 15257ull);
-    v3 = ((v3 < 14u) ? v3 : 14u) + 1u;
-L113:;
-    v8 = (u32)v17;
-    v19 = 4ull;
-    if (v17 > 60ull) goto L112;
-    if (v17 == 0) goto L114;
-    copy(v2 + 280ull, v0 + 15320ull, v17);
-L114:;
-    v19 = v17 + 4ull;
-L112:;
-    s4(v2 + 272, l4(v2 + 336));
-    s8(v2 + 264, l8(v2 + 328));
-    s8(v2 + 256, l8(v2 + 320));
-    s8(v2 + 248, l8(v2 + 312));
-    s8(v2 + 240, l8(v2 + 304));
-    s8(v2 + 232, l8(v2 + 296));
-    s8(v2 + 224, l8(v2 + 288));
-    s8(v2 + 216, l8(v2 + 280));
-    v4 = v5 & 4194302u;
-    v5 = v4 + 0xFFFFFFFCu;
-    v4 = (v5 > v4) ? 0u : v5;
-    v3 = ((v3 & 255u) << 16) | (v8 & 65535u);
-    goto L103;
-L108:;
-    if ((v4 & 255u) != 1u) goto L2;
-    s8(v2 + 280, 0ull);
-    s8(v2 + 288, 0ull);
-    s8(v2 + 296, 0ull);
-    s8(v2 + 304, 0ull);
-    s8(v2 + 312, 0ull);
-    s8(v2 + 320, 0ull);
-    s8(v2 + 328, 0ull);
-    s8(v2 + 336, 0ull);
-    v3 = ((v15 + v7) << 2) + v14;
-    v4 = (v14 + v5) + ((l2(v0 + 15264ull) & 1u) ? 0xFFFFFFF8u : 0xFFFFFFFCu);
-    v4 = (v3 < v4) ? v3 : v4;
-    v3 = v3 - v4;
-    v19 = (u64)((v3 < 64u) ? v3 : 64u);
-    if (v19 == 0) goto L115;
-    fill(v2 + 280ull, 0u, v19);
-L115:;
-    s8(v2 + 216, l8(v2 + 284));
-    s8(v2 + 224, l8(v2 + 292));
-    s8(v2 + 232, l8(v2 + 300));
-    s8(v2 + 240, l8(v2 + 308));
-    s8(v2 + 248, l8(v2 + 316));
-    s8(v2 + 256, l8(v2 + 324));
-    s8(v2 + 264, l8(v2 + 332));
-    s4(v2 + 272, l4(v2 + 340));
-    v3 = l4(v2 + 280);
-    goto L103;
-L107:;
-    if ((v4 & 255u) != 1u) goto L2;
-    v3 = v6 & 255u;
-    v4 = l1(v0 + (v3 ? 15289ull : 15288ull));
-    if (v3) goto L117;
-    if (v7 == 0) goto L5;
-    v3 = rem32(v4, v7);
-    goto L116;
-L117:;
-    if (v17 == 0) goto L5;
-    v3 = rem32(v4, v15) + v7;
-L116:;
-    v3 = (v3 << 2) + v14;
-    goto L100;
-L106:;
-    if ((v4 & 255u) != 1u) goto L2;
-    v3 = v6 & 255u;
-    v4 = (((v3 ? v15 : v7) << 1) + (l1(v0 + (v3 ? 15289ull : 15288ull)))) + 0xFFFFFFFEu;
-    if (v3) goto L119;
-    if (v7 == 0) goto L5;
-    v3 = rem32(v4, v7);
-    goto L118;
-L119:;
-    if (v17 == 0) goto L5;
-    v3 = rem32(v4, v15) + v7;
-L118:;
-    v3 = (v3 << 2) + v14;
-    goto L100;
-L105:;
-    if ((v4 & 255u) != 1u) goto L2;
-    v3 = v6 & 255u;
-    v4 = l1(v0 + (v3 ? 15289ull : 15288ull));
-    if (v3) goto L121;
-    if (v7 == 0) goto L5;
-    v4 = rem32(v4, v7);
-    goto L120;
-L121:;
-    if (v17 == 0) goto L5;
-    v4 = rem32(v4, v15) + v7;
-L120:;
-    v3 = (v5 & 1073741823u) | 1073741824u;
-    v4 = (v4 << 2) + v14;
-    v19 = 4ull;
-    goto L103;
-L104:;
-    v3 = 1u;
-    if ((v4 & 255u) != 1u) goto L2;
-    v4 = v14 + ((v6 & 255u) ? 0xFFFFFFFCu : 0xFFFFFFFEu);
-    v19 = 2ull;
-L103:;
-    v5 = l4(v2 + 272);
-    s4(v2 + 200, v5);
-    v0 = l8(v2 + 264);
-    s8(v2 + 192, v0);
-    v17 = l8(v2 + 256);
-    s8(v2 + 184, v17);
-    v20 = l8(v2 + 248);
-    s8(v2 + 176, v20);
-    v26 = l8(v2 + 240);
-    s8(v2 + 168, v26);
-    s8(v2 + 8, l8(v2 + 216));
-    s8(v2 + 16, l8(v2 + 224));
-    s8(v2 + 24, l8(v2 + 232));
-    s8(v2 + 32, v26);
-    s8(v2 + 40, v20);
-    s8(v2 + 48, v17);
-    s8(v2 + 56, v0);
-    s4(v2 + 64, v5);
-    s2(v1 + 16ull, 3u);
+L142:;
     s8(v1 + 8, 0ull);
-    s4(v2 + 72, v3);
-    s4(v2 + 132, l4(v2 + 64));
-    s8(v2 + 124, l8(v2 + 56));
-    s8(v2 + 116, l8(v2 + 48));
-    s8(v2 + 108, l8(v2 + 40));
-    s8(v2 + 100, l8(v2 + 32));
-    s8(v2 + 92, l8(v2 + 24));
-    s8(v2 + 84, l8(v2 + 16));
-    s8(v2 + 76, l8(v2 + 8));
-    s8(v2 + 136, v19);
-    s4(v1 + 4ull, (u32)v19);
-    s4(v1, v4);
-    if (v19 == 0) goto L122;
-    copy(v1 + 18ull, v2 + 72ull, v19);
-L122:;
-    v3 = 1u;
-    goto L1;
-L102:;
-    if (l1(v0 + 5688ull) != 1u) goto L2;
-    v19 = (u64)l1((v0 + l8(v0 + 5696ull)) + 3896ull);
-    v17 = v0 + (v19 << 5);
-    if (l1(v17 + 832ull) != 7u) goto L2;
-    if ((l1((v0 + (((l8((v0 + (v19 << 3)) + 2872ull)) << 6) & 16320ull)) + 4704ull)) != 1u) goto L2;
-    v5 = l4(v17 + 840ull);
-    v6 = l4(v17 + 836ull);
-    v8 = l2(v17 + 834ull);
-    v14 = l1(v17 + 833ull);
-    v15 = l2(v17 + 828ull);
-    v19 = v17 + 824ull;
-    v4 = l4(v19);
-    v7 = l1(v17 + 830ull);
-    v13 = 0u;
-    s1(v2 + 307ull, 0u);
-    s2(v2 + 305, 0u);
-    s2(v2 + 281, 0u);
-    s1(v2 + 280, v7);
-    s1(v2 + 283, 0u);
-    s1(v2 + 304, 1u);
-    s4(v2 + 296, v6);
-    s2(v2 + 294, v8);
-    s1(v2 + 293, v14);
-    s1(v2 + 292, 7u);
-    s2(v2 + 290, 0u);
-    s2(v2 + 288, v15);
-    s4(v2 + 284, v4);
-    v6 = l4(v19 + 24ull);
-    s4(v2 + 300, v5);
-    v5 = v6 + v5;
-    s4(v2 + 308, v5);
-    v20 = (u64)v6;
-    s8(v2 + 312, (((u64)l4(v19 + 20ull)) << 32) | v20);
-    if ((v3 & 255u) == 14u) goto L124;
-    f96(v2, v0, v2 + 280ull, v14);
-    v19 = 0ull;
-    if (l1(v2) == 1u) goto L123;
-L124:;
-    v19 = 0ull;
-    if (v7 & 255u) goto L123;
-    v17 = l8(v0 + 16672ull);
-    if (v17 == 0) goto L123;
-    v0 = v0 + 15392ull;
-L126:;
-    if (l4(v0) == v4) goto L125;
-    v0 = v0 + 20ull;
-    v17 = v17 + 0xFFFFFFFFFFFFFFFFull;
-    if ((u32)(v17 == 0) == 0) goto L126;
-    goto L123;
-L125:;
-    v17 = (u64)l4(v0 + 8ull);
-    v19 = v20 << 9;
-    v20 = v17 - v19;
-    v20 = (v20 > v17) ? 0ull : v20;
-    v20 = (v20 < 512ull) ? v20 : 512ull;
-    v0 = v19 + ((u64)l4(v0 + 4ull));
-    v13 = (u32)(v17 >= v19) & (u32)((v20 + v0) < 4294967296ull);
-    v19 = v13 ? ((v20 << 32) | (v0 & 4294967295ull)) : 0ull;
-L123:;
-    v3 = v3 & 255u;
-    if (v3 < 12u) goto L2;
-    switch (v3 + 0xFFFFFFF4u) {
-    case 1: goto L97;
-    case 2: goto L96;
-    default: goto L98;
-    }
-L101:;
-    v3 = v5 & 4194302u;
-    v4 = v3 + 0xFFFFFFFCu;
-    v3 = (v4 > v3) ? 0u : v4;
-L100:;
-    v4 = 4u;
-L99:;
-    s2(v1 + 16ull, 2u);
-    s8(v1 + 8, 0ull);
-    s4(v1 + 4ull, v4);
-    s4(v1, v3);
-    v3 = 1u;
-    goto L1;
-L98:;
-    if (v13 == 0) goto L2;
+    s4(v1, v6);
     s2(v1 + 16ull, 5u);
-    s8(v1 + 8, 0ull);
-    goto L3;
-L97:;
-    if (v13 == 0) goto L2;
+    s4(v1 + 4ull, v2);
+    v4 = 1u;
+    goto L1;
+L141:;
+    s8(v1, 0ull);
     v0 = v1 + 8ull;
     s8(v0, 0ull);
-    s8(v1, 0ull);
     s1(v1 + 16ull, 6u);
-    s2(v1 + 12ull, v15);
-    s4(v0, v5);
-    s4(v1 + 4ull, (u32)(v19 >> 32));
-    s1(v1 + 17ull, (u32)(146584637968ull >> (((((u64)v14) & 255ull) << 3) & 63)));
-    v3 = 1u;
+    s4(v1 + 4ull, v2);
+    s2(v1 + 12ull, v9);
+    s4(v0, v6);
+    s1(v1 + 17ull, (u32)(146584637968ull >> (((((u64)v16) & 255ull) << 3) & 63)));
+    v4 = 1u;
     goto L1;
-L96:;
-    if (v13 == 0) goto L2;
-    s2(v1 + 16ull, 7u);
+L140:;
     s8(v1 + 8, 0ull);
-    goto L3;
-L5:;
-    TRAP();
-L4:;
-    v3 = 0u;
+    s4(v1, v6);
+    s2(v1 + 16ull, 7u);
+    s4(v1 + 4ull, v2);
+    v4 = 1u;
     goto L1;
-L3:;
-    s8(v1, v19);
-    v3 = 1u;
-    goto L1;
-L2:;
+L139:;
     s8(v1 + 8, 0ull);
     s8(v1, 0ull);
-    v3 = 1u;
+    v4 = 1u;
     s2(v1 + 16ull, 1u);
 L1:;
+    return v4;
+}
+
+static u32 f109(u64 v0, u64 v1)
+{
+    u32 v3 = 0, t0;
+    goto L1;
+L1:;
+    t0 = f108(v0, v1, 0u);
+    v3 = t0;
     return v3;
 }
 
 static u32 w_mscp_port_next(u64 v0, u64 v1)
 {
     u32 v2 = 0, t0, t1;
-    t0 = f49();
+    t0 = f58();
     if (t0 == 0) goto L1;
-    f50();
+    f59();
     TRAP();
 L1:;
-    t1 = f97(v0, v1);
+    t1 = f109(v0, v1);
     v2 = t1;
-    f52();
+    f61();
     return v2;
 }
 
-static void f98(u64 v0, u32 v1, u32 v2)
+static u32 f110(u64 v0, u64 v1)
+{
+    u32 v3 = 0, t0;
+    goto L1;
+L1:;
+    t0 = f108(v0, v1, 1u);
+    v3 = t0;
+    return v3;
+}
+
+static u32 w_mscp_port_next_message(u64 v0, u64 v1)
+{
+    u32 v2 = 0, t0, t1;
+    t0 = f58();
+    if (t0 == 0) goto L1;
+    f59();
+    TRAP();
+L1:;
+    t1 = f110(v0, v1);
+    v2 = t1;
+    f61();
+    return v2;
+}
+
+static u32 f111(u64 v0, u32 v1, u32 v2)
+{
+    u32 v3 = 0;
+    u64 v4 = 0, v5 = 0;
+    v3 = 0xFFFFFFF6u;
+    if (l8(v0 + 24ull) != 0x504F52544D414445ull) goto L1;
+    v3 = 0xFFFFFFDBu;
+    v0 = l8(v0);
+    v4 = l8(v0 + 808ull);
+    if (v4 == 0) goto L1;
+    v5 = v0 + 16681ull;
+    v0 = v0 + 40ull;
+L4:;
+    if (l2(v0) == (v1 & 65535u)) goto L2;
+    v5 = v5 + 28ull;
+    v0 = v0 + 48ull;
+    v4 = v4 + 0xFFFFFFFFFFFFFFFFull;
+    if ((u32)(v4 == 0) == 0) goto L4;
+    goto L1;
+    TRAP();
+L2:;
+    s1(v5, v2 != 0u);
+    v3 = 1u;
+L1:;
+    return v3;
+}
+
+static u32 w_mscp_port_protect(u64 v0, u32 v1, u32 v2)
+{
+    u32 t0, t1;
+    t0 = f58();
+    if (t0 == 0) goto L1;
+    f59();
+    TRAP();
+L1:;
+    t1 = f111(v0, v1, v2);
+    v2 = t1;
+    f61();
+    return v2;
+}
+
+static void f112(u64 v0, u32 v1, u32 v2)
 {
     u32 v4 = 0;
     u64 v3 = 0, v5 = 0, v6 = 0, v7 = 0;
@@ -6857,61 +7284,61 @@ L14:;
 L17:;
     s8(v0 + 16672ull, 0ull);
 L16:;
-    s8(v0 + 16688ull, 0ull);
+    s8(v0 + 16696ull, 0ull);
     s1(v0 + 16682ull, 0u);
-    s2(v0 + 16696ull, 0u);
-    s8(v0 + 16708ull, 0ull);
-    s1(v0 + 16702ull, 0u);
-    s2(v0 + 16716ull, 0u);
-    s8(v0 + 16728ull, 0ull);
-    s1(v0 + 16722ull, 0u);
-    s2(v0 + 16736ull, 0u);
-    s8(v0 + 16748ull, 0ull);
-    s1(v0 + 16742ull, 0u);
-    s2(v0 + 16756ull, 0u);
-    s8(v0 + 16768ull, 0ull);
-    s1(v0 + 16762ull, 0u);
-    s2(v0 + 16776ull, 0u);
-    s1(v0 + 16782ull, 0u);
-    s2(v0 + 16796ull, 0u);
-    s8(v0 + 16788ull, 0ull);
+    s2(v0 + 16704ull, 0u);
+    s8(v0 + 16724ull, 0ull);
+    s1(v0 + 16710ull, 0u);
+    s2(v0 + 16732ull, 0u);
+    s8(v0 + 16752ull, 0ull);
+    s1(v0 + 16738ull, 0u);
+    s2(v0 + 16760ull, 0u);
+    s8(v0 + 16780ull, 0ull);
+    s1(v0 + 16766ull, 0u);
+    s2(v0 + 16788ull, 0u);
     s8(v0 + 16808ull, 0ull);
-    s1(v0 + 16802ull, 0u);
+    s1(v0 + 16794ull, 0u);
     s2(v0 + 16816ull, 0u);
     s1(v0 + 16822ull, 0u);
-    s8(v0 + 16828ull, 0ull);
-    s2(v0 + 16836ull, 0u);
-    s1(v0 + 16842ull, 0u);
-    s8(v0 + 16848ull, 0ull);
-    s2(v0 + 16856ull, 0u);
-    s1(v0 + 16862ull, 0u);
-    s8(v0 + 16868ull, 0ull);
-    s2(v0 + 16876ull, 0u);
-    s1(v0 + 16882ull, 0u);
-    s8(v0 + 16888ull, 0ull);
-    s2(v0 + 16896ull, 0u);
-    s1(v0 + 16902ull, 0u);
-    s8(v0 + 16908ull, 0ull);
-    s2(v0 + 16916ull, 0u);
-    s2(v0 + 16936ull, 0u);
-    s1(v0 + 16922ull, 0u);
-    s8(v0 + 16928ull, 0ull);
-    s2(v0 + 16956ull, 0u);
-    s1(v0 + 16942ull, 0u);
+    s2(v0 + 16844ull, 0u);
+    s8(v0 + 16836ull, 0ull);
+    s8(v0 + 16864ull, 0ull);
+    s1(v0 + 16850ull, 0u);
+    s2(v0 + 16872ull, 0u);
+    s1(v0 + 16878ull, 0u);
+    s8(v0 + 16892ull, 0ull);
+    s2(v0 + 16900ull, 0u);
+    s1(v0 + 16906ull, 0u);
+    s8(v0 + 16920ull, 0ull);
+    s2(v0 + 16928ull, 0u);
+    s1(v0 + 16934ull, 0u);
     s8(v0 + 16948ull, 0ull);
-    s2(v0 + 16976ull, 0u);
+    s2(v0 + 16956ull, 0u);
     s1(v0 + 16962ull, 0u);
-    s8(v0 + 16968ull, 0ull);
-    s2(v0 + 16996ull, 0u);
-    s1(v0 + 16982ull, 0u);
-    s8(v0 + 16988ull, 0ull);
-    s2(v0 + 17004ull, 60u);
-    s4(v0 + 17000ull, 0u);
+    s8(v0 + 16976ull, 0ull);
+    s2(v0 + 16984ull, 0u);
+    s1(v0 + 16990ull, 0u);
+    s8(v0 + 17004ull, 0ull);
+    s2(v0 + 17012ull, 0u);
+    s2(v0 + 17040ull, 0u);
+    s1(v0 + 17018ull, 0u);
+    s8(v0 + 17032ull, 0ull);
+    s2(v0 + 17068ull, 0u);
+    s1(v0 + 17046ull, 0u);
+    s8(v0 + 17060ull, 0ull);
+    s2(v0 + 17096ull, 0u);
+    s1(v0 + 17074ull, 0u);
+    s8(v0 + 17088ull, 0ull);
+    s2(v0 + 17124ull, 0u);
+    s1(v0 + 17102ull, 0u);
+    s8(v0 + 17116ull, 0ull);
+    s2(v0 + 17132ull, 60u);
+    s4(v0 + 17128ull, 0u);
     return;
     TRAP();
 }
 
-static u32 f99(u64 v0)
+static u32 f113(u64 v0)
 {
     u32 v2 = 0, v3 = 0;
     v2 = 0xFFFFFFF6u;
@@ -6939,7 +7366,7 @@ L4:;
     return 1u;
     TRAP();
 L2:;
-    f98(v0, 9u, 7u);
+    f112(v0, 9u, 7u);
 L1:;
     return v2;
 }
@@ -6947,18 +7374,18 @@ L1:;
 static u32 w_mscp_port_read_ip(u64 v0)
 {
     u32 v1 = 0, t0, t1;
-    t0 = f49();
+    t0 = f58();
     if (t0 == 0) goto L1;
-    f50();
+    f59();
     TRAP();
 L1:;
-    t1 = f99(v0);
+    t1 = f113(v0);
     v1 = t1;
-    f52();
+    f61();
     return v1;
 }
 
-static u32 f100(u64 v0)
+static u32 f114(u64 v0)
 {
     u32 v1 = 0;
     v1 = 0xFFFFFFF6u;
@@ -7001,18 +7428,18 @@ L2:;
 static u32 w_mscp_port_read_sa(u64 v0)
 {
     u32 v1 = 0, t0, t1;
-    t0 = f49();
+    t0 = f58();
     if (t0 == 0) goto L1;
-    f50();
+    f59();
     TRAP();
 L1:;
-    t1 = f100(v0);
+    t1 = f114(v0);
     v1 = t1;
-    f52();
+    f61();
     return v1;
 }
 
-APART void f101(u64 v0, u64 v1)
+APART void f115(u64 v0, u64 v1)
 {
     ROOM(frame, 2080);
     u32 v7 = 0, v8 = 0, v10 = 0, v11 = 0, v12 = 0, v14 = 0, v15 = 0, v16 = 0, v17 = 0, v18 = 0, v19 = 0, v20 = 0, v21 =
@@ -7022,7 +7449,7 @@ APART void f101(u64 v0, u64 v1)
     v3 = v2;
     v2 = (u64)l1(v1 + 31);
     fill(v3 + 1048ull, 0u, 1032ull);
-    f87(v3 + 1048ull);
+    f96(v3 + 1048ull);
     if (v2 == 0) goto L2;
     v4 = v2 * 34ull;
     v5 = 0ull;
@@ -7050,7 +7477,7 @@ L3:;
     if ((v22 & 65535u) == 0) goto L4;
     v9 = div64(0xFFFFFFFFFFFFFFFFull, ((((u64)v12) & 65535ull) * (((u64)v11) & 65535ull)) * (((u64)v22) & 65535ull));
     v2 = v9 + 1ull;
-    f62(v3, v2, (u64)(u32)(v2 == 0), (u64)(v10 + 0xFFFFFFFFu), 0ull);
+    f71(v3, v2, (u64)(u32)(v2 == 0), (u64)(v10 + 0xFFFFFFFFu), 0ull);
     v16 = (l1(v6 + 49ull) << 8) | l1(v6 + 48ull);
     v13 = l8(v6 + 60ull);
     v14 = l4(v6 + 68ull);
@@ -7103,7 +7530,7 @@ L2:;
     TRAP();
 }
 
-APART void f102(u64 v0, u64 v1, u64 v2, u64 v3)
+APART void f116(u64 v0, u64 v1, u64 v2, u64 v3)
 {
     ROOM(frame, 4848);
     u32 v11 = 0, v12 = 0, v13 = 0, v14 = 0, v15 = 0, v16 = 0, v17 = 0, v18 = 0;
@@ -7297,7 +7724,7 @@ L6:;
 L5:;
     copy(v4 + 1568ull, v4 + 4072ull, 776ull);
     copy(v4 + 792ull, v4 + 1568ull, 776ull);
-    f85(v4 + 2344ull, v4 + 792ull, l8(v4 + 1560));
+    f94(v4 + 2344ull, v4 + 792ull, l8(v4 + 1560));
     if (l1(v4 + 2344)) goto L9;
     v11 = 4u;
     v3 = 0ull;
@@ -7360,7 +7787,7 @@ L1:;
     return;
 }
 
-APART void f103(u64 v0, u64 v1)
+APART void f117(u64 v0, u64 v1)
 {
     ROOM(frame, 6192);
     u32 v5 = 0, v8 = 0, v9 = 0, v10 = 0, v11 = 0, v12 = 0, v13 = 0, v14 = 0;
@@ -7408,7 +7835,7 @@ L4:;
     s8(v3 + 6184, 0ull);
     s8(v3 + 6176, 0ull);
     s8(v3 + 6168, 0ull);
-    f83(v3 + 6168ull, v7, 32ull);
+    f92(v3 + 6168ull, v7, 32ull);
     if (l1(v3 + 6168)) goto L1;
     v5 = l4(v3 + 6184);
     v8 = l1(v7 + 40ull);
@@ -7447,7 +7874,7 @@ L1:;
     TRAP();
 }
 
-APART void f104(u64 v0, u64 v1, u64 v2)
+APART void f118(u64 v0, u64 v1, u64 v2)
 {
     ROOM(frame, 3152);
     u32 v5 = 0, v6 = 0, v7 = 0, v8 = 0, v9 = 0, v10 = 0, v11 = 0, v12 = 0, v14 = 0, v15 = 0, v16 = 0, v17 = 0, v18 = 0,
@@ -7468,7 +7895,7 @@ L3:;
     v5 = 0u;
     s4(v3 + 3088, 0u);
     s2(v3 + 3092, 0u);
-    f74(v3 + 3096ull, v1, 48ull);
+    f83(v3 + 3096ull, v1, 48ull);
     if (l1(v3 + 3096) == 0) goto L5;
     v6 = 0u;
     v7 = 0u;
@@ -7531,7 +7958,7 @@ L2:;
     TRAP();
 }
 
-static u32 f105(u32 v0, u64 v1, u64 v2, u64 v3)
+static u32 f119(u32 v0, u64 v1, u64 v2, u64 v3)
 {
     u32 v4 = 0, v5 = 0, v6 = 0;
     u64 v7 = 0, v8 = 0, v9 = 0, v10 = 0;
@@ -7594,7 +8021,7 @@ L1:;
     return v4;
 }
 
-static void f106(u64 v0, u64 v1, u32 v2, u32 v3, u64 v4, u32 v5)
+static void f120(u64 v0, u64 v1, u32 v2, u32 v3, u64 v4, u32 v5)
 {
     u32 v6 = 0, v7 = 0, v8 = 0;
     u64 v9 = 0, v10 = 0, v11 = 0;
@@ -7691,7 +8118,7 @@ L11:;
     TRAP();
 }
 
-static void f107(u64 v0, u64 v1, u64 v2)
+static void f121(u64 v0, u64 v1, u64 v2)
 {
     u64 v3 = 0, v4 = 0, v5 = 0;
     if (v2 == 0) goto L2;
@@ -7771,7 +8198,7 @@ L2:;
     TRAP();
 }
 
-static void f108(u64 v0, u64 v1)
+static void f122(u64 v0, u64 v1)
 {
     ROOM(frame, 96);
     u32 v3 = 0, v5 = 0, v6 = 0, v7 = 0, v9 = 0, v10 = 0, v11 = 0, v12 = 0, v13 = 0, v14 = 0, v15 = 0;
@@ -7899,7 +8326,7 @@ L17:;
     return;
 }
 
-static void f109(u64 v0, u64 v1, u64 v2)
+static void f123(u64 v0, u64 v1, u64 v2)
 {
     ROOM(frame, 64);
     u32 v4 = 0, v5 = 0, v6 = 0, v8 = 0, v9 = 0, v10 = 0, v11 = 0, v14 = 0, v16 = 0, v17 = 0, v18 = 0, v19 = 0, v20 = 0,
@@ -8042,16 +8469,16 @@ L2:;
     TRAP();
 }
 
-APART void f110(u64 v0, u64 v1, u64 v2, u64 v3, u64 v4, u64 v5, u64 v6, u64 v7, u64 v8, u64 v9, u32 v10, u64 v11, u32
+APART void f124(u64 v0, u64 v1, u64 v2, u64 v3, u64 v4, u64 v5, u64 v6, u64 v7, u64 v8, u64 v9, u32 v10, u64 v11, u32
         v12)
 {
     ROOM(frame, 3712);
     u64 v13 = 0;
     v13 = A(frame);
     fill(v13 + 8ull, 0u, 3672ull);
-    f106(v13 + 8ull, v1, (((((u32)v9) << 24) | ((((u32)v7) << 16) & 16711680u)) | ((((u32)v5) << 8) & 65280u)) |
+    f120(v13 + 8ull, v1, (((((u32)v9) << 24) | ((((u32)v7) << 16) & 16711680u)) | ((((u32)v5) << 8) & 65280u)) |
         (((u32)v3) & 255u), v10, v11, v12);
-    f107(v13 + 8ull, v2, v3);
+    f121(v13 + 8ull, v2, v3);
     if (v5 == 0) goto L2;
 L3:;
     s8(v13 + 3704, l8(v4 + 24));
@@ -8059,18 +8486,18 @@ L3:;
     s8(v13 + 3688, l8(v4 + 8));
     s8(v13 + 3680, l8(v4));
     v4 = v4 + 32ull;
-    f108(v13 + 8ull, v13 + 3680ull);
+    f122(v13 + 8ull, v13 + 3680ull);
     v5 = v5 + 0xFFFFFFFFFFFFFFFFull;
     if (v5 != 0ull) goto L3;
 L2:;
-    f109(v13 + 8ull, v6, v7);
-    f109(v13 + 8ull, v8, v9);
+    f123(v13 + 8ull, v6, v7);
+    f123(v13 + 8ull, v8, v9);
     copy(v0, v13 + 8ull, 3672ull);
     return;
     TRAP();
 }
 
-APART void f111(u64 v0, u64 v1, u64 v2, u32 v3)
+APART void f125(u64 v0, u64 v1, u64 v2, u32 v3)
 {
     ROOM(frame, 27472);
     u32 v5 = 0, v6 = 0, v13 = 0, v17 = 0, v21 = 0, v22 = 0, v23 = 0, v24 = 0, v25 = 0, v26 = 0, v27 = 0, v28 = 0, v29 =
@@ -8105,25 +8532,25 @@ L6:;
     v5 = 2u;
     goto L1;
 L7:;
-    f101(v4 + 17256ull, v1);
+    f115(v4 + 17256ull, v1);
     copy(v4 + 19096ull, v4 + 17256ull, 1032ull);
     v14 = l8(v4 + 20120);
-    f102(v4 + 16440ull, v1, v4 + 17256ull, v14);
+    f116(v4 + 16440ull, v1, v4 + 17256ull, v14);
     if (l1(v4 + 16440)) goto L8;
     v15 = v4 + 16448ull;
     copy(v4 + 18288ull, v15, 808ull);
-    f103(v4 + 14384ull, v1);
+    f117(v4 + 14384ull, v1);
     copy(v4 + 12328ull, v4 + 14384ull, 2056ull);
     v16 = l8(v4 + 14376);
     v17 = 0u;
     fill(v4 + 23800ull, 0u, 3080ull);
     v7 = ((v7 + v9) + v1) + 48ull;
-    f104(v4 + 23800ull, v7, v10);
+    f118(v4 + 23800ull, v7, v10);
     copy(v4 + 9248ull, v4 + 23800ull, 3080ull);
     copy(v4 + 6168ull, v4 + 9248ull, 3080ull);
     v18 = l8(v4 + 9240);
     fill(v4 + 23800ull, 0u, 3080ull);
-    f104(v4 + 23800ull, v7 + (v10 * 48ull), v11);
+    f118(v4 + 23800ull, v7 + (v10 * 48ull), v11);
     copy(v4 + 3088ull, v4 + 23800ull, 3080ull);
     copy(v4 + 8ull, v4 + 3088ull, 3080ull);
     v19 = l8(v4 + 3080);
@@ -8364,12 +8791,12 @@ L43:;
     s8(v4 + 20132, v20);
     s4(v4 + 20128, v17);
     v6 = 1u;
-    t1 = f105(v24, v4 + 14384ull, v16, v4 + 20128ull);
+    t1 = f119(v24, v4 + 14384ull, v16, v4 + 20128ull);
     if (t1) goto L45;
     v5 = 12u;
     goto L1;
 L45:;
-    f110(v4 + 23800ull, v15, v4 + 17256ull, v14, v4 + 14384ull, v16, v4 + 9248ull, v18, v4 + 3088ull, v19, v17, v20,
+    f124(v4 + 23800ull, v15, v4 + 17256ull, v14, v4 + 14384ull, v16, v4 + 9248ull, v18, v4 + 3088ull, v19, v17, v20,
         v3);
     copy(v4 + 20128ull, v4 + 23800ull, 3672ull);
     if (l1(v1 + 30) == (v3 & 255u)) goto L46;
@@ -8383,7 +8810,7 @@ L46:;
     if ((l1(v4 + 20129) & 255u) != (v23 & 255u)) goto L1;
     if ((l1(v4 + 20130) & 255u) != (v22 & 255u)) goto L1;
     if ((l1(v4 + 20131) & 255u) != v21) goto L1;
-    t2 = f78(v4 + 20128ull, v2, v1);
+    t2 = f87(v4 + 20128ull, v2, v1);
     v6 = t2;
     v5 = v6 ? 0u : 14u;
     v6 = v6 ^ 1u;
@@ -8401,7 +8828,7 @@ L1:;
     return;
 }
 
-static void f112(u64 v0, u64 v1)
+static void f126(u64 v0, u64 v1)
 {
     u32 v2 = 0, v3 = 0, v4 = 0, v5 = 0, v6 = 0, v7 = 0, v8 = 0, v9 = 0;
     v2 = l4(v1 + 4);
@@ -8520,44 +8947,146 @@ L2:;
     TRAP();
 }
 
-static void f113(u64 v0, u64 v1, u64 v2)
+APART void f127(u64 v0, u64 v1)
+{
+    ROOM(frame, 1808);
+    u32 v5 = 0, v6 = 0;
+    u64 v2 = 0, v3 = 0, v4 = 0;
+    v2 = A(frame);
+    v3 = v2;
+    fill(v3 + 8ull, 0u, 448ull);
+    fill(v3 + 904ull, 0u, 448ull);
+    v4 = 0ull;
+L2:;
+    v2 = (v3 + 904ull) + v4;
+    s2(v2 + 26ull, 0u);
+    s4(v2 + 12ull, l4(v1 + 85ull));
+    s8(v2 + 4ull, l8(v1 + 77ull));
+    v5 = l1(v1 + 75ull);
+    s1(v2 + 24ull, v5 & 1u);
+    v6 = l1(v1 + 89ull) == 1u;
+    s4(v2 + 16ull, v6);
+    s1(v2 + 3ull, l1(v1 + 76ull) == 1u);
+    s1(v2 + 2ull, l1(v1 + 74ull) == 1u);
+    s1(v2 + 1ull, l1(v1 + 73ull) == 1u);
+    s1(v2, l1(v1 + 72ull) == 1u);
+    s1(v2 + 25ull, (v5 & 254u) == 2u);
+    s4(v2 + 20ull, v6 ? l4(v1 + 90ull) : 0u);
+    v1 = v1 + 22ull;
+    v4 = v4 + 28ull;
+    if (v4 != 448ull) goto L2;
+    copy(v3 + 1360ull, v3 + 904ull, 448ull);
+    copy(v3 + 456ull, v3 + 1360ull, 448ull);
+    copy(v3 + 8ull, v3 + 456ull, 448ull);
+    copy(v0, v3 + 8ull, 448ull);
+    return;
+    TRAP();
+}
+
+static void f128(u64 v0, u64 v1)
+{
+    u32 v5 = 0, v6 = 0, v7 = 0, v8 = 0, v9 = 0, v10 = 0, v11 = 0, v12 = 0, v13 = 0, v14 = 0;
+    u64 v2 = 0, v3 = 0, v4 = 0, v15 = 0, v16 = 0;
+    v2 = l8(v0 + 5416ull);
+    v3 = 0ull;
+L2:;
+    v4 = v1 + v3;
+    v5 = l4(v4 + 20ull);
+    v6 = l1(v4 + 16ull);
+    v7 = l4(v4 + 12ull);
+    v8 = l4(v4 + 8ull);
+    v9 = l4(v4 + 4ull);
+    v10 = l1(v4 + 24ull);
+    v11 = l1(v4 + 25ull);
+    v12 = l1(v4 + 1ull);
+    v13 = l1(v4 + 2ull);
+    v14 = l1(v4 + 3ull);
+    v15 = v0 + v2;
+    s1(v15, l1(v4) & 1u);
+    s1(v15 + 4ull, v14 & 1u);
+    s1(v15 + 2ull, v13 & 1u);
+    s1(v15 + 1ull, v12 & 1u);
+    s1(v15 + 3ull, (v10 & 1u) ? ((v11 & 1u) ? 3u : 1u) : (v11 << 1));
+    v4 = v2 + 5ull;
+    if ((v2 & 0xFFFFFFFFFFFFFFFCull) == 5408ull) goto L3;
+    s4(v0 + v4, v9);
+    v4 = v2 + 9ull;
+L3:;
+    if ((v4 + 0xFFFFFFFFFFFFEADBull) < 4ull) goto L4;
+    s4(v0 + v4, v8);
+    v2 = v4 + 4ull;
+    if ((v4 + 0xFFFFFFFFFFFFEADFull) >= 4ull) goto L5;
+    v4 = v2;
+    goto L4;
+L5:;
+    s4(v0 + v2, v7);
+    v4 = v4 + 8ull;
+L4:;
+    v15 = v4 & 0xFFFFFFFFFFFFFFFCull;
+    v2 = v4 + 1ull;
+    v16 = v0 + v4;
+    if ((v6 & 255u) != 1u) goto L7;
+    s1(v16, 1u);
+    v16 = v0 + 5416ull;
+    s8(v16, v2);
+    if (v15 == 5412ull) goto L6;
+    s4(v0 + v2, v5);
+    v2 = v4 + 5ull;
+    s8(v16, v2);
+    goto L6;
+L7:;
+    s1(v16, 0u);
+    v16 = v0 + 5416ull;
+    s8(v16, v2);
+    if (v15 == 5412ull) goto L6;
+    s4(v0 + v2, 0u);
+    v2 = v4 + 5ull;
+    s8(v16, v2);
+L6:;
+    v3 = v3 + 28ull;
+    if (v3 != 448ull) goto L2;
+    return;
+    TRAP();
+}
+
+static void f129(u64 v0, u64 v1, u64 v2)
 {
     u32 v4 = 0, v5 = 0, v6 = 0, v7 = 0, v8 = 0;
     u64 v3 = 0, v9 = 0, v10 = 0;
     if (v2 == 0) goto L2;
-    v3 = l8(v0 + 5272ull);
+    v3 = l8(v0 + 5416ull);
 L3:;
     v4 = l4(v1 + 16ull);
     v5 = l2(v1 + 14ull);
     v6 = l2(v1 + 12ull);
-    if ((v3 + 0xFFFFFFFFFFFFEB6Bull) < 4ull) goto L4;
+    if ((v3 + 0xFFFFFFFFFFFFEADBull) < 4ull) goto L4;
     v7 = l4(v1 + 8ull);
     v8 = l4(v1 + 4ull);
     s4(v0 + v3, l4(v1));
-    v9 = v0 + 5272ull;
+    v9 = v0 + 5416ull;
     v10 = v3 + 4ull;
     s8(v9, v10);
-    if ((v3 + 0xFFFFFFFFFFFFEB6Full) >= 4ull) goto L5;
+    if ((v3 + 0xFFFFFFFFFFFFEADFull) >= 4ull) goto L5;
     v3 = v10;
     goto L4;
 L5:;
     s4(v0 + v10, v8);
     v10 = v3 + 8ull;
     s8(v9, v10);
-    if ((v3 + 0xFFFFFFFFFFFFEB73ull) >= 4ull) goto L6;
+    if ((v3 + 0xFFFFFFFFFFFFEAE3ull) >= 4ull) goto L6;
     v3 = v10;
     goto L4;
 L6:;
     s4(v0 + v10, v7);
     v3 = v3 + 12ull;
-    s8(v0 + 5272ull, v3);
+    s8(v0 + 5416ull, v3);
 L4:;
-    if ((v3 + 0xFFFFFFFFFFFFEB69ull) < 2ull) goto L7;
+    if ((v3 + 0xFFFFFFFFFFFFEAD9ull) < 2ull) goto L7;
     s2(v0 + v3, v6);
-    v9 = v0 + 5272ull;
+    v9 = v0 + 5416ull;
     v10 = v3 + 2ull;
     s8(v9, v10);
-    if ((v3 + 0xFFFFFFFFFFFFEB6Bull) >= 2ull) goto L8;
+    if ((v3 + 0xFFFFFFFFFFFFEADBull) >= 2ull) goto L8;
     v3 = v10;
     goto L7;
 L8:;
@@ -8565,10 +9094,10 @@ L8:;
     v3 = v3 + 4ull;
     s8(v9, v3);
 L7:;
-    if ((v3 + 0xFFFFFFFFFFFFEB6Bull) < 4ull) goto L9;
+    if ((v3 + 0xFFFFFFFFFFFFEADBull) < 4ull) goto L9;
     s4(v0 + v3, v4);
     v3 = v3 + 4ull;
-    s8(v0 + 5272ull, v3);
+    s8(v0 + 5416ull, v3);
 L9:;
     v1 = v1 + 20ull;
     v2 = v2 + 0xFFFFFFFFFFFFFFFFull;
@@ -8578,333 +9107,269 @@ L2:;
     TRAP();
 }
 
-APART void f114(u64 v0, u64 v1, u64 v2)
+APART void f130(u64 v0, u64 v1, u64 v2)
 {
-    ROOM(frame, 7744);
-    u32 v4 = 0, v5 = 0, v7 = 0, v9 = 0, v11 = 0, v14 = 0, v15 = 0;
-    u64 v3 = 0, v6 = 0, v8 = 0, v10 = 0, v12 = 0, v13 = 0, v16 = 0, v17 = 0, v18 = 0, v19 = 0;
+    ROOM(frame, 7424);
+    u32 v4 = 0, v5 = 0, v7 = 0, v10 = 0, v11 = 0, v12 = 0, v13 = 0;
+    u64 v3 = 0, v6 = 0, v8 = 0, v9 = 0, v14 = 0;
     v3 = A(frame);
     v4 = 0u;
-    fill(v3 + 328ull, 0u, 320ull);
-    fill(v3 + 8ull, 0u, 320ull);
+    fill(v3 + 8ull, 0u, 448ull);
     v5 = l1(v1 + 70);
     v6 = ((u64)v5) & 255ull;
     v7 = l1(v1 + 69);
-    if (v7) goto L6;
+    if (v7) goto L3;
     v8 = 0ull;
+    s8(v3 + 6072, 0ull);
+    s8(v3 + 6064, 0ull);
+    s8(v3 + 6056, 0ull);
+    s8(v3 + 6048, 0ull);
+    s8(v3 + 6040, 0ull);
+    s8(v3 + 6032, 0ull);
+    s8(v3 + 6024, 0ull);
+    s4(v3 + 6016, 0u);
+    s4(v3 + 6019, 0u);
+    goto L2;
+L3:;
+    s8(v3 + 6128, 0ull);
     s8(v3 + 6120, 0ull);
     s8(v3 + 6112, 0ull);
     s8(v3 + 6104, 0ull);
     s8(v3 + 6096, 0ull);
     s8(v3 + 6088, 0ull);
     s8(v3 + 6080, 0ull);
-    s8(v3 + 6072, 0ull);
-    s4(v3 + 6064, 0u);
-    s4(v3 + 6067, 0u);
-    goto L5;
-L6:;
-    s8(v3 + 6176, 0ull);
-    s8(v3 + 6168, 0ull);
-    s8(v3 + 6160, 0ull);
-    s8(v3 + 6152, 0ull);
-    s8(v3 + 6144, 0ull);
-    s8(v3 + 6136, 0ull);
-    s8(v3 + 6128, 0ull);
-    if ((v5 & 255u) > 48u) goto L7;
-    if (v6 == 0) goto L8;
-    copy(v3 + 6128ull, v1 + 280ull, v6);
-L8:;
-    s8(v3 + 6176, v6);
-L7:;
-    s8(v3 + 6120, l8(v3 + 6176));
-    s8(v3 + 6112, l8(v3 + 6168));
-    s8(v3 + 6104, l8(v3 + 6160));
-    s8(v3 + 6096, l8(v3 + 6152));
-    s8(v3 + 6088, l8(v3 + 6144));
-    s8(v3 + 6080, l8(v3 + 6136));
+    if ((v5 & 255u) > 48u) goto L4;
+    if (v6 == 0) goto L5;
+    copy(v3 + 6080ull, v1 + 424ull, v6);
+L5:;
+    s8(v3 + 6128, v6);
+L4:;
     s8(v3 + 6072, l8(v3 + 6128));
-    s4(v3 + 6064, 0u);
-    s4(v3 + 6067, 0u);
+    s8(v3 + 6064, l8(v3 + 6120));
+    s8(v3 + 6056, l8(v3 + 6112));
+    s8(v3 + 6048, l8(v3 + 6104));
+    s8(v3 + 6040, l8(v3 + 6096));
+    s8(v3 + 6032, l8(v3 + 6088));
+    s8(v3 + 6024, l8(v3 + 6080));
+    s4(v3 + 6016, 0u);
+    s4(v3 + 6019, 0u);
     v4 = v7 == 2u;
     v8 = 1ull;
-L5:;
-    s8(v3 + 656, l8(v3 + 6072));
-    s8(v3 + 664, l8(v3 + 6080));
-    s8(v3 + 672, l8(v3 + 6088));
-    s8(v3 + 680, l8(v3 + 6096));
-    s8(v3 + 688, l8(v3 + 6104));
-    s8(v3 + 696, l8(v3 + 6112));
-    s8(v3 + 704, l8(v3 + 6120));
-    s4(v3 + 648, l4(v3 + 6064));
-    s4(v3 + 651, l4(v3 + 6067));
-    s8(v3 + 5992, v8);
-    s1(v3 + 6056, v4);
-    s8(v3 + 6000, l8(v3 + 656));
-    s8(v3 + 6008, l8(v3 + 664));
-    s8(v3 + 6016, l8(v3 + 672));
-    s8(v3 + 6024, l8(v3 + 680));
-    s8(v3 + 6032, l8(v3 + 688));
-    s8(v3 + 6040, l8(v3 + 696));
-    s8(v3 + 6048, l8(v3 + 704));
-    s4(v3 + 6057, l4(v3 + 648));
-    s4(v3 + 6060, l4(v3 + 651));
-    v8 = l8(v3 + 6048);
-    v9 = 0u;
-    fill(v3 + 712ull, 0u, 5280ull);
-    s8(v3 + 5984, 21ull);
-    s8(v3 + 712, 5641556813ull);
-    v10 = v7 ? v8 : 0ull;
-    s4(v3 + 720, (u32)((v2 - v6) + v10));
-    s1(v3 + 727, l1(v1 + 15));
-    s2(v3 + 725, l2(v1 + 13));
-    s4(v3 + 728, l4(v1 + 16));
-    s1(v3 + 732, l1(v1 + 20) == 1u);
-    s1(v3 + 733, l1(v1 + 21) == 1u);
-    s1(v3 + 734, l1(v1 + 22) == 1u);
-    s1(v3 + 724, (l1(v1 + 12) == 1u) ? 1u : 2u);
-    s8(v3 + 5984, 29ull);
-    s2(v3 + 735, l2(v1 + 23ull));
-    s8(v3 + 5984, 33ull);
-    s8(v3 + 737, l8(v1 + 25ull));
-    s8(v3 + 6128, 0ull);
-    s8(v3 + 6136, 0ull);
-    s8(v3 + 6072, 0ull);
-    s8(v3 + 6080, 0ull);
-    v5 = l1(v1 + 33);
-    if ((v5 + 0xFFFFFFFEu) < 7u) goto L10;
-    switch (v5 + 0xFFFFFFFFu) {
-    case 0: case 8: goto L12;
-    default: goto L11;
-    }
-L12:;
-    s1(v3 + 745, v5);
-    v9 = l2(v1 + 34ull);
-    goto L9;
-L11:;
-    v5 = 0u;
-L10:;
-    s1(v3 + 745, v5);
-L9:;
-    s8(v3 + 5984, 36ull);
-    s2(v3 + 746, v9);
-    if (l1(v1 + 36) != 1u) goto L14;
-    s1(v3 + 748, 1u);
-    s2(v3 + 749, l2(v1 + 37ull));
-    goto L13;
-L14:;
-    s8(v3 + 5984, 39ull);
-    s2(v3 + 749, 0u);
-    s1(v3 + 748, 0u);
-L13:;
-    if (l1(v1 + 39) != 1u) goto L16;
-    v5 = l4(v1 + 40ull);
-    if ((i32)v5 < (i32)8u) goto L16;
-    v9 = l4(v1 + 48ull);
-    v11 = l4(v1 + 44ull);
-    if (((v9 + 0xFFFFFFFFu) | (v11 + 0xFFFFFFFFu)) > 127u) goto L16;
-    s4(v3 + 760, v9);
-    s4(v3 + 756, v11);
-    s4(v3 + 752, v5);
-    s1(v3 + 751, 1u);
-    goto L15;
-L16:;
-    s8(v3 + 752, 0ull);
-    s1(v3 + 751, 0u);
-    s4(v3 + 760, 0u);
-L15:;
-    v12 = v3 + 6000ull;
-    s8(v3 + 5984, 52ull);
-    s1(v3 + 6087, 0u);
-    s2(v3 + 6074, 0u);
-    s1(v3 + 6086, l1(v1 + 68));
-    s2(v3 + 6072, l2(v1 + 52));
-    s2(v3 + 6084, l2(v1 + 66ull));
-    s8(v3 + 6076, l8(v1 + 54ull));
-    f112(v3 + 6128ull, v3 + 6072ull);
-    v13 = 0ull;
-    v14 = l4(v3 + 6132);
-    v15 = l1(v3 + 6129);
-    v5 = 0u;
-    v9 = 0u;
-    v2 = 0ull;
-    v11 = l1(v3 + 6128);
-    switch ((u32)(((u64)v11) & 255ull)) {
-    case 2: case 4: case 6: goto L23;
-    case 3: goto L22;
-    case 5: goto L21;
-    case 7: goto L20;
-    case 8: goto L19;
-    case 9: goto L18;
-    case 11: goto L17;
-    default: goto L1;
-    }
-L23:;
-    v5 = 0u;
-    goto L2;
-L22:;
-    v5 = (v15 & 255u) ? 2u : 1u;
-    goto L3;
-L21:;
-    v5 = l1(v3 + 6140) & 1u;
-    v2 = (u64)l4(v3 + 6136);
-    v9 = v14;
-    goto L1;
-L20:;
-    v5 = (v15 & 255u) ? 2u : 1u;
-    goto L2;
-L19:;
-    v5 = (v15 & 255u) ? 2u : 1u;
-    goto L3;
-L18:;
-    v5 = (v15 & 255u) ? 2u : 1u;
-    goto L3;
-L17:;
-    v2 = (u64)l1(v3 + 6130);
-    v2 = ((v2 == 0) ? 0ull : (((u64)(v14 & 65535u)) << 32)) | (v2 << 48);
-    v9 = 0u;
-    v5 = 0u;
-    goto L1;
-    TRAP();
-L3:;
-    v9 = 0u;
-    v2 = 0ull;
-    goto L1;
 L2:;
-    v9 = v14;
+    s8(v3 + 464, l8(v3 + 6024));
+    s8(v3 + 472, l8(v3 + 6032));
+    s8(v3 + 480, l8(v3 + 6040));
+    s8(v3 + 488, l8(v3 + 6048));
+    s8(v3 + 496, l8(v3 + 6056));
+    s8(v3 + 504, l8(v3 + 6064));
+    s8(v3 + 512, l8(v3 + 6072));
+    s4(v3 + 456, l4(v3 + 6016));
+    s4(v3 + 459, l4(v3 + 6019));
+    s8(v3 + 5944, v8);
+    s1(v3 + 6008, v4);
+    s8(v3 + 5952, l8(v3 + 464));
+    s8(v3 + 5960, l8(v3 + 472));
+    s8(v3 + 5968, l8(v3 + 480));
+    s8(v3 + 5976, l8(v3 + 488));
+    s8(v3 + 5984, l8(v3 + 496));
+    s8(v3 + 5992, l8(v3 + 504));
+    s8(v3 + 6000, l8(v3 + 512));
+    s4(v3 + 6009, l4(v3 + 456));
+    s4(v3 + 6012, l4(v3 + 459));
+    v9 = l8(v3 + 6000);
+    v10 = 0u;
+    fill(v3 + 520ull, 0u, 5424ull);
+    s8(v3 + 5936, 21ull);
+    s8(v3 + 520, 5641556813ull);
+    v8 = v7 ? v9 : 0ull;
+    s4(v3 + 528, (u32)((v2 - v6) + v8));
+    s1(v3 + 535, l1(v1 + 15));
+    s2(v3 + 533, l2(v1 + 13));
+    s4(v3 + 536, l4(v1 + 16));
+    s1(v3 + 540, l1(v1 + 20) == 1u);
+    s1(v3 + 541, l1(v1 + 21) == 1u);
+    s1(v3 + 542, l1(v1 + 22) == 1u);
+    s1(v3 + 532, (l1(v1 + 12) == 1u) ? 1u : 2u);
+    s8(v3 + 5936, 29ull);
+    s2(v3 + 543, l2(v1 + 23ull));
+    s8(v3 + 5936, 33ull);
+    s8(v3 + 545, l8(v1 + 25ull));
+    s8(v3 + 6080, 0ull);
+    s8(v3 + 6088, 0ull);
+    s8(v3 + 6024, 0ull);
+    s8(v3 + 6032, 0ull);
+    v5 = l1(v1 + 33);
+    if ((v5 + 0xFFFFFFFEu) < 7u) goto L7;
+    switch (v5 + 0xFFFFFFFFu) {
+    case 0: case 8: goto L9;
+    default: goto L8;
+    }
+L9:;
+    s1(v3 + 553, v5);
+    v10 = l2(v1 + 34ull);
+    goto L6;
+L8:;
+    v5 = 0u;
+L7:;
+    s1(v3 + 553, v5);
+L6:;
+    s8(v3 + 5936, 36ull);
+    s2(v3 + 554, v10);
+    if (l1(v1 + 36) != 1u) goto L11;
+    s1(v3 + 556, 1u);
+    s2(v3 + 557, l2(v1 + 37ull));
+    goto L10;
+L11:;
+    s8(v3 + 5936, 39ull);
+    s2(v3 + 557, 0u);
+    s1(v3 + 556, 0u);
+L10:;
+    if (l1(v1 + 39) != 1u) goto L13;
+    v5 = l4(v1 + 40ull);
+    if ((i32)v5 < (i32)8u) goto L13;
+    v10 = l4(v1 + 48ull);
+    v11 = l4(v1 + 44ull);
+    if (((v10 + 0xFFFFFFFFu) | (v11 + 0xFFFFFFFFu)) > 127u) goto L13;
+    s4(v3 + 568, v10);
+    s4(v3 + 564, v11);
+    s4(v3 + 560, v5);
+    s1(v3 + 559, 1u);
+    goto L12;
+L13:;
+    s8(v3 + 560, 0ull);
+    s1(v3 + 559, 0u);
+    s4(v3 + 568, 0u);
+L12:;
+    s8(v3 + 5936, 52ull);
+    s1(v3 + 6039, 0u);
+    s2(v3 + 6026, 0u);
+    s1(v3 + 6038, l1(v1 + 68));
+    s2(v3 + 6024, l2(v1 + 52));
+    s2(v3 + 6036, l2(v1 + 66ull));
+    s8(v3 + 6028, l8(v1 + 54ull));
+    f126(v3 + 6080ull, v3 + 6024ull);
     v2 = 0ull;
-L1:;
-    v16 = v7 ? v12 : A(data + 0);
-    s4(v3 + 774, 0u);
-    s4(v3 + 766, v9);
-    s1(v3 + 765, v5);
-    s1(v3 + 764, v11);
-    s8(v3 + 5984, 72ull);
+    v12 = l4(v3 + 6084);
+    v13 = l1(v3 + 6081);
+    v5 = 0u;
+    v10 = 0u;
+    v11 = l1(v3 + 6080);
+    switch ((u32)(((u64)v11) & 255ull)) {
+    case 2: case 4: case 6: goto L21;
+    case 3: goto L20;
+    case 5: goto L19;
+    case 7: goto L18;
+    case 8: goto L17;
+    case 9: goto L16;
+    case 11: goto L15;
+    default: goto L14;
+    }
+L21:;
+    v5 = 0u;
+    v10 = v12;
+    goto L14;
+L20:;
+    v5 = (v13 & 255u) ? 2u : 1u;
+    v10 = 0u;
+    goto L14;
+L19:;
+    v5 = l1(v3 + 6092) & 1u;
+    v2 = (u64)l4(v3 + 6088);
+    v10 = v12;
+    goto L14;
+L18:;
+    v5 = (v13 & 255u) ? 2u : 1u;
+    v10 = v12;
+    goto L14;
+L17:;
+    v5 = (v13 & 255u) ? 2u : 1u;
+    v10 = 0u;
+    goto L14;
+L16:;
+    v5 = (v13 & 255u) ? 2u : 1u;
+    v10 = 0u;
+    goto L14;
+L15:;
+    v2 = (u64)l1(v3 + 6082);
+    v2 = ((v2 == 0) ? 0ull : (((u64)(v12 & 65535u)) << 32)) | (v2 << 48);
+    v10 = 0u;
+    v5 = 0u;
+L14:;
+    s4(v3 + 574, v10);
+    s1(v3 + 573, v5);
+    s1(v3 + 572, v11);
+    s8(v3 + 5936, 72ull);
     v5 = l1(v1 + 71);
-    s1(v3 + 783, v5);
-    s1(v3 + 782, v7 ? ((u32)v8) : 0u);
-    s1(v3 + 781, v7 ? (v4 + 1u) : 0u);
-    s4(v3 + 770, (u32)v2);
-    s1(v3 + 780, (u32)(v2 >> 48));
-    s2(v3 + 778, (u32)(v2 >> 32));
-    fill(v3 + 6128ull, 0u, 320ull);
-    v17 = ((u64)v5) & 255ull;
-    v8 = v1;
-L24:;
-    v2 = (v3 + 6128ull) + v13;
-    s2(v2 + 18ull, 0u);
-    s4(v2 + 4ull, l4(v8 + 76ull));
-    s1(v2 + 3ull, 0u);
-    v7 = l1(v8 + 75ull);
-    s1(v2 + 16ull, v7 & 1u);
-    v4 = l1(v8 + 80ull) == 1u;
-    s4(v2 + 8ull, v4);
-    s1(v2 + 2ull, l1(v8 + 74ull) == 1u);
-    s1(v2 + 1ull, l1(v8 + 73ull) == 1u);
-    s1(v2, l1(v8 + 72ull) == 1u);
-    s1(v2 + 17ull, (v7 & 254u) == 2u);
-    s4(v2 + 12ull, v4 ? l4(v8 + 81ull) : 0u);
-    v8 = v8 + 13ull;
-    v13 = v13 + 20ull;
-    if (v13 != 320ull) goto L24;
-    copy(v3 + 328ull, v3 + 6128ull, 320ull);
-    copy(v3 + 8ull, v3 + 328ull, 320ull);
-    v2 = 72ull;
-    v12 = 0ull;
+    s1(v3 + 591, v5);
+    s4(v3 + 582, 0u);
+    s1(v3 + 590, v7 ? ((u32)v9) : 0u);
+    s1(v3 + 589, v7 ? (v4 + 1u) : 0u);
+    s4(v3 + 578, (u32)v2);
+    s1(v3 + 588, (u32)(v2 >> 48));
+    s2(v3 + 586, (u32)(v2 >> 32));
+    f127(v3 + 8ull, v1);
+    f128(v3 + 520ull, v3 + 8ull);
+    v2 = l8(v3 + 5936);
+    if ((5416ull - v2) < v8) goto L22;
+    if (v8 == 0) goto L23;
+    copy((v3 + 520ull) + v2, v7 ? (v3 + 5952ull) : A(data + 0), v8);
+L23:;
+    s8(v3 + 5936, v2 + v8);
+L22:;
+    fill(v3 + 6136ull, 0u, 1288ull);
+    if ((v5 & 255u) == 0) goto L24;
+    v9 = v1 + v6;
+    v14 = (((u64)v5) & 255ull) * 20ull;
+    v1 = 0ull;
+    v2 = 1ull;
 L25:;
-    v13 = (v3 + 712ull) + v2;
-    v8 = (v3 + 8ull) + v12;
-    s1(v13, l1(v8) & 1u);
-    s1(v13 + 2ull, l1(v8 + 2ull) & 1u);
-    s1(v13 + 1ull, l1(v8 + 1ull) & 1u);
-    v7 = l1(v8 + 17ull);
-    s1(v13 + 3ull, (l1(v8 + 16ull) & 1u) ? ((v7 & 1u) ? 3u : 1u) : (v7 << 1));
-    v13 = v2 + 4ull;
-    v7 = l1(v8 + 8ull);
-    if ((v2 + 0xFFFFFFFFFFFFEB6Full) < 4ull) goto L26;
-    s4((v3 + 712ull) + v13, l4(v8 + 4ull));
-    v13 = v2 + 8ull;
-L26:;
-    v18 = v13 & 0xFFFFFFFFFFFFFFFCull;
-    v2 = v13 + 1ull;
-    v19 = (v3 + 712ull) + v13;
-    if ((v7 & 255u) != 1u) goto L29;
-    v7 = l4(v8 + 12ull);
-    s1(v19, 1u);
-    s8(v3 + 5984, v2);
-    if (v18 == 5268ull) goto L27;
-    s4((v3 + 712ull) + v2, v7);
-    v2 = v13 + 5ull;
-    goto L28;
-L29:;
-    s1(v19, 0u);
-    s8(v3 + 5984, v2);
-    if (v18 == 5268ull) goto L27;
-    s4((v3 + 712ull) + v2, 0u);
-    v2 = v13 + 5ull;
-L28:;
-    s8(v3 + 5984, v2);
-L27:;
-    v12 = v12 + 20ull;
-    if (v12 != 320ull) goto L25;
-    if ((5272ull - v2) < v10) goto L30;
-    if (v10 == 0) goto L31;
-    copy((v3 + 712ull) + v2, v16, v10);
-L31:;
-    s8(v3 + 5984, v2 + v10);
-L30:;
-    fill(v3 + 6456ull, 0u, 1288ull);
-    if ((v5 & 255u) == 0) goto L32;
-    v18 = v1 + v6;
-    v19 = v17 * 20ull;
-    v2 = 0ull;
-    v8 = 1ull;
-L33:;
-    v13 = (v3 + 6456ull) + v2;
-    v12 = v18 + v2;
-    s4(v13 + 16ull, l4(v12 + 296ull));
-    s8(v13 + 8ull, l8(v12 + 288ull));
-    s8(v13, l8(v12 + 280ull));
-    s8(v3 + 7736, v8);
-    v8 = v8 + 1ull;
-    v2 = v2 + 20ull;
-    if (v19 != v2) goto L33;
-L32:;
-    f113(v3 + 712ull, v3 + 6456ull, l8(v3 + 7736));
-    copy(v0, v3 + 712ull, 5280ull);
+    v6 = (v3 + 6136ull) + v1;
+    v8 = v9 + v1;
+    s4(v6 + 16ull, l4(v8 + 440ull));
+    s8(v6 + 8ull, l8(v8 + 432ull));
+    s8(v6, l8(v8 + 424ull));
+    s8(v3 + 7416, v2);
+    v2 = v2 + 1ull;
+    v1 = v1 + 20ull;
+    if (v14 != v1) goto L25;
+L24:;
+    f129(v3 + 520ull, v3 + 6136ull, l8(v3 + 7416));
+    copy(v0, v3 + 520ull, 5424ull);
     return;
+    TRAP();
 }
 
-APART u32 f115(u64 v0, u64 v1)
+APART u32 f131(u64 v0, u64 v1)
 {
-    ROOM(frame, 10560);
+    ROOM(frame, 10848);
     u32 v3 = 0, t0;
     u64 v2 = 0;
     v2 = A(frame);
     v3 = 0u;
-    fill(v2 + 5280ull, 0u, 5280ull);
-    f114(v2 + 5280ull, v0, v1);
-    copy(v2, v2 + 5280ull, 5280ull);
-    v1 = l8(v2 + 5272);
-    if (v1 != ((((u64)l1(v0 + 70)) + (((u64)l1(v0 + 71)) * 20ull)) + 280ull)) goto L2;
+    fill(v2 + 5424ull, 0u, 5424ull);
+    f130(v2 + 5424ull, v0, v1);
+    copy(v2, v2 + 5424ull, 5424ull);
+    v1 = l8(v2 + 5416);
+    if (v1 != ((((u64)l1(v0 + 70)) + (((u64)l1(v0 + 71)) * 20ull)) + 424ull)) goto L2;
     if (l1(v2) != l1(v0)) goto L2;
     if ((l1(v2 + 1) & 255u) != (l1(v0 + 1ull) & 255u)) goto L2;
     if ((l1(v2 + 2) & 255u) != (l1(v0 + 2ull) & 255u)) goto L2;
     if ((l1(v2 + 3) & 255u) != (l1(v0 + 3ull) & 255u)) goto L2;
-    t0 = f78(v2, v1, v0);
+    t0 = f87(v2, v1, v0);
     v3 = t0;
 L2:;
     return v3;
     TRAP();
 }
 
-static void f116(u64 v0, u64 v1, u64 v2, u32 v3)
+static void f132(u64 v0, u64 v1, u64 v2, u32 v3)
 {
     ROOM(frame, 16);
     u32 v5 = 0, v7 = 0, t0;
     u64 v4 = 0, v6 = 0;
     v4 = A(frame);
     v5 = 0u;
-    if (v2 < 280ull) goto L4;
+    if (v2 < 424ull) goto L4;
     v5 = 0u;
     v6 = (u64)l1(v1 + 71);
     if (v6 > 64ull) goto L4;
@@ -8914,7 +9379,7 @@ static void f116(u64 v0, u64 v1, u64 v2, u32 v3)
     v5 = 0u;
     if (v2 != ((u64)l4(v1 + 8ull))) goto L4;
     v5 = 0u;
-    v6 = ((((u64)v7) & 255ull) + (v6 * 20ull)) + 280ull;
+    v6 = ((((u64)v7) & 255ull) + (v6 * 20ull)) + 424ull;
     if (v2 < v6) goto L4;
     if (l4(v1) == 1346589517u) goto L5;
     v5 = 1u;
@@ -8944,14 +9409,14 @@ L4:;
     s1(v0 + 1ull, v5);
     goto L2;
 L3:;
-    f111(v4 + 8ull, v1 + v6, v2 - v6, v3);
+    f125(v4 + 8ull, v1 + v6, v2 - v6, v3);
     if (l1(v4 + 8) != 1u) goto L9;
     v5 = l1(v4 + 9);
     s2(v0, 1025u);
     s1(v0 + 2ull, v5);
     goto L2;
 L9:;
-    t0 = f115(v1, v2);
+    t0 = f131(v1, v2);
     v5 = t0;
     s1(v0 + 2ull, 0u);
     s1(v0 + 1ull, v5 ? 0u : 5u);
@@ -8961,15 +9426,15 @@ L2:;
     TRAP();
 }
 
-APART void f117(u64 v0, u64 v1)
+APART void f133(u64 v0, u64 v1)
 {
     ROOM(frame, 1856);
     u64 v2 = 0;
     v2 = A(frame);
     fill(v2 + 1040ull, 0u, 816ull);
     fill(v2 + 8ull, 0u, 1032ull);
-    f101(v2 + 8ull, v1);
-    f102(v2 + 1040ull, v1, v2 + 8ull, l8(v2 + 1032));
+    f115(v2 + 8ull, v1);
+    f116(v2 + 1040ull, v1, v2 + 8ull, l8(v2 + 1032));
     if (l1(v2 + 1040) == 0) goto L1;
     TRAP();
 L1:;
@@ -8977,7 +9442,7 @@ L1:;
     return;
 }
 
-APART void f118(u64 v0, u64 v1, u32 v2)
+APART void f134(u64 v0, u64 v1, u32 v2)
 {
     ROOM(frame, 27328);
     u32 v5 = 0, v6 = 0, v7 = 0, v8 = 0;
@@ -8994,7 +9459,7 @@ APART void f118(u64 v0, u64 v1, u32 v2)
     fill(v4 + 8817ull, 0u, 1807ull);
     fill(v4 + 7272ull, 0u, 1544ull);
     fill(v4 + 6488ull, 0u, 784ull);
-    f85(v4 + 6488ull, v4 + 11688ull, l8(v4 + 12456));
+    f94(v4 + 6488ull, v4 + 11688ull, l8(v4 + 12456));
     if (l1(v4 + 6488)) goto L2;
     v5 = l4(v4 + 11668);
     v6 = l4(v4 + 11664);
@@ -9005,7 +9470,7 @@ APART void f118(u64 v0, u64 v1, u32 v2)
     fill(v4 + 12464ull, 0u, 1544ull);
     v3 = l8(v4 + 15808);
     fill(v4 + 17624ull, 0u, 1032ull);
-    f87(v4 + 17624ull);
+    f96(v4 + 17624ull);
     if (v3 == 0) goto L3;
     v9 = l8(v4 + 18648);
     if (v3 != 1ull) goto L5;
@@ -9156,13 +9621,13 @@ L1:;
     copy(v3 + 7536ull, v4 + 5ull, 1544ull);
     fill(v3 + 9080ull, 0u, 6307ull);
     copy(v3 + 15387ull, v4 + 5195ull, 1293ull);
-    fill(v3 + 16680ull, 0u, 324ull);
-    s4(v3 + 17004, 60u);
+    fill(v3 + 16680ull, 0u, 452ull);
+    s4(v3 + 17132, 60u);
     s8(v0 + 24ull, 0x504F52544D414445ull);
     return;
 }
 
-APART void f119(u64 v0, u64 v1, u64 v2, u64 v3, u32 v4, u64 v5)
+APART void f135(u64 v0, u64 v1, u64 v2, u64 v3, u32 v4, u64 v5)
 {
     ROOM(frame, 13360);
     u32 v9 = 0, v14 = 0, v16 = 0, v17 = 0, v21 = 0, v27 = 0, v28 = 0, v29 = 0, v30 = 0;
@@ -9217,7 +9682,7 @@ L5:;
     v19 = v15 & 65535ull;
     v6 = 0ull;
     v3 = (l8(((v7 + 3648ull) + v18) + 32ull)) + 1ull;
-    f62(v7 + 16ull, v3, (u64)(u32)(v3 == 0), (v17 == 7u) ? ((u64)v16) : 0ull, 0ull);
+    f71(v7 + 16ull, v3, (u64)(u32)(v3 == 0), (v17 == 7u) ? ((u64)v16) : 0ull, 0ull);
     v3 = (u64)l4(v13);
     v15 = 0ull;
     switch (v17) {
@@ -9410,7 +9875,7 @@ L30:;
     v29 = l2(v13 + 10);
     v30 = l1(v13 + 9);
     v6 = (l8(((v7 + 3648ull) + (v3 << 6)) + 32ull)) + 1ull;
-    f62(v7, v6, (u64)(u32)(v6 == 0), ((v16 & 255u) == 7u) ? ((u64)v4) : 0ull, 0ull);
+    f71(v7, v6, (u64)(u32)(v6 == 0), ((v16 & 255u) == 7u) ? ((u64)v4) : 0ull, 0ull);
     v15 = (u64)v27;
     if (v17 == 0) goto L33;
     v12 = v12 + v15;
@@ -9465,7 +9930,7 @@ L21:;
     TRAP();
 }
 
-APART void f120(u64 v0, u64 v1, u64 v2, u64 v3, u64 v4)
+APART void f136(u64 v0, u64 v1, u64 v2, u64 v3, u64 v4)
 {
     ROOM(frame, 6160);
     u32 v7 = 0;
@@ -9539,7 +10004,7 @@ L2:;
     TRAP();
 }
 
-APART void f121(u64 v0, u64 v1, u64 v2)
+APART void f137(u64 v0, u64 v1, u64 v2)
 {
     ROOM(frame, 9248);
     u32 v4 = 0, v8 = 0;
@@ -9549,15 +10014,15 @@ APART void f121(u64 v0, u64 v1, u64 v2)
     v4 = 0u;
     fill(v3 + 1032ull, 0u, 2056ull);
     fill(v3, 0u, 1032ull);
-    f103(v3 + 1032ull, v1);
+    f117(v3 + 1032ull, v1);
     v5 = l8(v3 + 3080);
     fill(v3 + 3088ull, 0u, 3080ull);
     v6 = (((((u64)l1(v1 + 31)) * 34ull) + (((u64)l1(v1 + 40)) * 41ull)) + v1) + 48ull;
     v7 = (u64)l1(v1 + 41);
-    f104(v3 + 3088ull, v6, v7);
+    f118(v3 + 3088ull, v6, v7);
     fill(v3 + 6168ull, 0u, 3080ull);
-    f104(v3 + 6168ull, v6 + (v7 * 48ull), (u64)l1(v1 + 42));
-    f101(v3, v1);
+    f118(v3 + 6168ull, v6 + (v7 * 48ull), (u64)l1(v1 + 42));
+    f115(v3, v1);
     v8 = l1(v1 + 43);
     if (v8) goto L3;
     v1 = 0ull;
@@ -9566,182 +10031,161 @@ L3:;
     v4 = 1u;
     v1 = (((u64)l4(v1 + 44ull)) << 32) | ((u64)(u32)(v8 != 1u));
 L2:;
-    f119(v0 + 808ull, v3 + 1032ull, v5, v3, v4, v1);
-    f120(v0 + 9072ull, v3 + 1032ull, v5, v3 + 3088ull, v3 + 6168ull);
+    f135(v0 + 808ull, v3 + 1032ull, v5, v3, v4, v1);
+    f136(v0 + 9072ull, v3 + 1032ull, v5, v3 + 3088ull, v3 + 6168ull);
     return;
     TRAP();
 }
 
-APART void f122(u64 v0, u64 v1, u64 v2)
+APART void f138(u64 v0, u64 v1, u64 v2)
 {
-    ROOM(frame, 2032);
-    u32 v5 = 0, v6 = 0, v7 = 0, v8 = 0, v9 = 0, v10 = 0, v11 = 0;
-    u64 v3 = 0, v4 = 0, v12 = 0, v13 = 0, v14 = 0, v15 = 0, v16 = 0;
+    ROOM(frame, 1840);
+    u32 v4 = 0, v5 = 0, v6 = 0, v7 = 0, v8 = 0, v9 = 0, v10 = 0;
+    u64 v3 = 0, v11 = 0, v12 = 0, v13 = 0, v14 = 0, v15 = 0, v16 = 0;
     v3 = A(frame);
-    v4 = v3;
-    s8(v4 + 344, 0ull);
-    s8(v4 + 352, 0ull);
-    v5 = 0u;
-    s4(v4 + 320, 0u);
-    s4(v4 + 323, 0u);
-    fill(v4, 0u, 320ull);
+    s8(v3 + 480, 0ull);
+    s8(v3 + 488, 0ull);
+    v4 = 0u;
+    s4(v3 + 456, 0u);
+    s4(v3 + 459, 0u);
+    fill(v3 + 8ull, 0u, 448ull);
     s4(v0, (((l1(v1 + 13) << 8) | (u32)(l1(v1 + 12) != 1u)) | (l1(v1 + 14) << 16)) | (l1(v1 + 15) << 24));
     s1(v0 + 15256ull, l1(v1 + 16));
     s1(v0 + 15257ull, l1(v1 + 17));
-    v6 = l1(v1 + 33);
-    if ((v6 + 0xFFFFFFFEu) < 7u) goto L2;
-    v5 = l2(v1 + 34ull);
-    switch (v6 + 0xFFFFFFFFu) {
+    v5 = l1(v1 + 33);
+    if ((v5 + 0xFFFFFFFEu) < 7u) goto L2;
+    v4 = l2(v1 + 34ull);
+    switch (v5 + 0xFFFFFFFFu) {
     case 0: case 8: goto L2;
     default: goto L3;
     }
 L3:;
+    v4 = 0u;
     v5 = 0u;
-    v6 = 0u;
 L2:;
-    s2(v0 + 15260ull, v5);
-    s2(v0 + 15258ull, v6);
+    s2(v0 + 15260ull, v4);
+    s2(v0 + 15258ull, v5);
     s4(v0 + 15262ull, l4(v1 + 29ull));
-    v5 = l2(v1 + 37ull);
-    v6 = l1(v1 + 36) == 1u;
-    s2(v0 + 15266ull, v6);
-    s2(v0 + 15268ull, v6 ? v5 : 0u);
+    v4 = l2(v1 + 37ull);
+    v5 = l1(v1 + 36) == 1u;
+    s2(v0 + 15266ull, v5);
+    s2(v0 + 15268ull, v5 ? v4 : 0u);
+    v4 = 0u;
     v5 = 0u;
     v6 = 0u;
     v7 = 0u;
-    v8 = 0u;
     if (l1(v1 + 39) != 1u) goto L4;
+    v4 = 0u;
     v5 = 0u;
     v6 = 0u;
     v7 = 0u;
-    v8 = 0u;
-    v9 = l4(v1 + 40ull);
-    if ((i32)v9 < (i32)8u) goto L4;
+    v8 = l4(v1 + 40ull);
+    if ((i32)v8 < (i32)8u) goto L4;
+    v4 = 0u;
     v5 = 0u;
     v6 = 0u;
     v7 = 0u;
-    v8 = 0u;
-    v10 = l4(v1 + 48ull);
-    v11 = l4(v1 + 44ull);
-    if (((v10 + 0xFFFFFFFFu) | (v11 + 0xFFFFFFFFu)) > 127u) goto L4;
-    v5 = 1u;
-    v6 = v9;
-    v7 = v11;
-    v8 = v10;
+    v9 = l4(v1 + 48ull);
+    v10 = l4(v1 + 44ull);
+    if (((v9 + 0xFFFFFFFFu) | (v10 + 0xFFFFFFFFu)) > 127u) goto L4;
+    v4 = 1u;
+    v5 = v8;
+    v6 = v10;
+    v7 = v9;
 L4:;
-    s4(v0 + 15284ull, v8);
-    s4(v0 + 15280ull, v7);
-    s4(v0 + 15276ull, v6);
-    s4(v0 + 15272ull, v5);
+    s4(v0 + 15284ull, v7);
+    s4(v0 + 15280ull, v6);
+    s4(v0 + 15276ull, v5);
+    s4(v0 + 15272ull, v4);
     s1(v0 + 15288ull, l1(v1 + 18));
     s1(v0 + 15289ull, l1(v1 + 19));
-    s1(v4 + 343, 0u);
-    s2(v4 + 330, 0u);
-    s1(v4 + 342, l1(v1 + 68));
-    s2(v4 + 340, l2(v1 + 66ull));
-    s8(v4 + 332, l8(v1 + 54ull));
-    s2(v4 + 328, l2(v1 + 52));
-    f112(v4 + 344ull, v4 + 328ull);
-    s2(v0 + 15292ull, l2(v4 + 344));
-    s2(v0 + 15294ull, l1(v4 + 346));
-    s8(v0 + 15296ull, l8(v4 + 348));
-    s1(v0 + 15304ull, l1(v4 + 356));
-    v3 = 0ull;
-    s8(v4 + 360, 0ull);
-    s8(v4 + 368, 0ull);
-    s8(v4 + 376, 0ull);
-    s8(v4 + 384, 0ull);
-    s8(v4 + 392, 0ull);
-    s8(v4 + 400, 0ull);
-    s8(v4 + 408, 0ull);
-    v5 = l1(v1 + 69);
-    if (v5) goto L6;
-    v5 = 0u;
-    s4(v4 + 419, 0u);
-    s4(v4 + 416, 0u);
+    s1(v3 + 479, 0u);
+    s2(v3 + 466, 0u);
+    s1(v3 + 478, l1(v1 + 68));
+    s2(v3 + 476, l2(v1 + 66ull));
+    s8(v3 + 468, l8(v1 + 54ull));
+    s2(v3 + 464, l2(v1 + 52));
+    f126(v3 + 480ull, v3 + 464ull);
+    s2(v0 + 15292ull, l2(v3 + 480));
+    s2(v0 + 15294ull, l1(v3 + 482));
+    s8(v0 + 15296ull, l8(v3 + 484));
+    s1(v0 + 15304ull, l1(v3 + 492));
+    v11 = 0ull;
+    s8(v3 + 496, 0ull);
+    s8(v3 + 504, 0ull);
+    s8(v3 + 512, 0ull);
+    s8(v3 + 520, 0ull);
+    s8(v3 + 528, 0ull);
+    s8(v3 + 536, 0ull);
+    s8(v3 + 544, 0ull);
+    v4 = l1(v1 + 69);
+    if (v4) goto L6;
+    v4 = 0u;
+    s4(v3 + 555, 0u);
+    s4(v3 + 552, 0u);
     goto L5;
 L6:;
-    v6 = l1(v1 + 70);
-    if ((v6 & 255u) > 48u) goto L7;
-    v3 = ((u64)v6) & 255ull;
-    if (v3 == 0) goto L8;
-    copy(v4 + 360ull, v1 + 280ull, v3);
+    v5 = l1(v1 + 70);
+    if ((v5 & 255u) > 48u) goto L7;
+    v11 = ((u64)v5) & 255ull;
+    if (v11 == 0) goto L8;
+    copy(v3 + 496ull, v1 + 424ull, v11);
 L8:;
-    s8(v4 + 408, v3);
+    s8(v3 + 544, v11);
 L7:;
-    s4(v4 + 419, 0u);
-    s4(v4 + 416, 0u);
-    v5 = v5 == 2u;
-    v3 = 1ull;
+    s4(v3 + 555, 0u);
+    s4(v3 + 552, 0u);
+    v4 = v4 == 2u;
+    v11 = 1ull;
 L5:;
-    s4(v4 + 323, l4(v4 + 419));
-    s4(v4 + 320, l4(v4 + 416));
-    s8(v0 + 15312ull, v3);
-    s8(v0 + 15320ull, l8(v4 + 360));
-    s8(v0 + 15328ull, l8(v4 + 368));
-    s8(v0 + 15336ull, l8(v4 + 376));
-    s8(v0 + 15344ull, l8(v4 + 384));
-    s8(v0 + 15352ull, l8(v4 + 392));
-    s8(v0 + 15360ull, l8(v4 + 400));
-    s8(v0 + 15368ull, l8(v4 + 408));
-    s1(v0 + 15376ull, v5);
-    s4(v0 + 15377ull, l4(v4 + 320));
-    s4(v0 + 15380ull, l4(v4 + 323));
+    s4(v3 + 459, l4(v3 + 555));
+    s4(v3 + 456, l4(v3 + 552));
+    s8(v0 + 15312ull, v11);
+    s8(v0 + 15320ull, l8(v3 + 496));
+    s8(v0 + 15328ull, l8(v3 + 504));
+    s8(v0 + 15336ull, l8(v3 + 512));
+    s8(v0 + 15344ull, l8(v3 + 520));
+    s8(v0 + 15352ull, l8(v3 + 528));
+    s8(v0 + 15360ull, l8(v3 + 536));
+    s8(v0 + 15368ull, l8(v3 + 544));
+    s1(v0 + 15376ull, v4);
+    s4(v0 + 15377ull, l4(v3 + 456));
+    s4(v0 + 15380ull, l4(v3 + 459));
     s1(v0 + 15384ull, l1(v1 + 20) == 1u);
     s1(v0 + 15385ull, l1(v1 + 21) == 1u);
     s1(v0 + 15386ull, l1(v1 + 22) == 1u);
-    v3 = (u64)l1(v1 + 71);
+    v11 = (u64)l1(v1 + 71);
     v12 = (u64)l1(v1 + 70);
-    fill(v4 + 416ull, 0u, 1288ull);
-    if (v3 == 0) goto L9;
+    fill(v3 + 552ull, 0u, 1288ull);
+    if (v11 == 0) goto L9;
     v13 = v1 + v12;
-    v14 = v3 * 20ull;
-    v3 = 0ull;
+    v14 = v11 * 20ull;
+    v11 = 0ull;
     v12 = 1ull;
 L10:;
-    v15 = (v4 + 416ull) + v3;
-    v16 = v13 + v3;
-    s4(v15 + 16ull, l4(v16 + 296ull));
-    s8(v15 + 8ull, l8(v16 + 288ull));
-    s8(v15, l8(v16 + 280ull));
-    s8(v4 + 1696, v12);
+    v15 = (v3 + 552ull) + v11;
+    v16 = v13 + v11;
+    s4(v15 + 16ull, l4(v16 + 440ull));
+    s8(v15 + 8ull, l8(v16 + 432ull));
+    s8(v15, l8(v16 + 424ull));
+    s8(v3 + 1832, v12);
     v12 = v12 + 1ull;
-    v3 = v3 + 20ull;
-    if (v14 != v3) goto L10;
+    v11 = v11 + 20ull;
+    if (v14 != v11) goto L10;
 L9:;
-    copy(v0 + 15392ull, v4 + 416ull, 1288ull);
-    fill(v4 + 1704ull, 0u, 320ull);
-    v15 = 0ull;
-    v12 = v1;
-L11:;
-    v3 = (v4 + 1704ull) + v15;
-    s2(v3 + 18ull, 0u);
-    s4(v3 + 4ull, l4(v12 + 76ull));
-    s1(v3 + 3ull, 0u);
-    v5 = l1(v12 + 75ull);
-    s1(v3 + 16ull, v5 & 1u);
-    v6 = l1(v12 + 80ull) == 1u;
-    s4(v3 + 8ull, v6);
-    s1(v3 + 2ull, l1(v12 + 74ull) == 1u);
-    s1(v3 + 1ull, l1(v12 + 73ull) == 1u);
-    s1(v3, l1(v12 + 72ull) == 1u);
-    s1(v3 + 17ull, (v5 & 254u) == 2u);
-    s4(v3 + 12ull, v6 ? l4(v12 + 81ull) : 0u);
-    v12 = v12 + 13ull;
-    v15 = v15 + 20ull;
-    if (v15 != 320ull) goto L11;
-    copy(v4, v4 + 1704ull, 320ull);
-    copy(v0 + 16680ull, v4, 320ull);
-    s2(v0 + 17000ull, l2(v1 + 23ull));
-    s2(v0 + 17002ull, l2(v1 + 25ull));
-    s2(v0 + 17004ull, l2(v1 + 27ull));
-    v3 = (((u64)l1(v1 + 70)) + (((u64)l1(v1 + 71)) * 20ull)) + 280ull;
-    f121(v0 + 8ull, v1 + v3, v2 - v3);
+    copy(v0 + 15392ull, v3 + 552ull, 1288ull);
+    f127(v3 + 8ull, v1);
+    copy(v0 + 16680ull, v3 + 8ull, 448ull);
+    s2(v0 + 17128ull, l2(v1 + 23ull));
+    s2(v0 + 17130ull, l2(v1 + 25ull));
+    s2(v0 + 17132ull, l2(v1 + 27ull));
+    v11 = (((u64)l1(v1 + 70)) + (((u64)l1(v1 + 71)) * 20ull)) + 424ull;
+    f137(v0 + 8ull, v1 + v11, v2 - v11);
     return;
     TRAP();
 }
 
-APART u32 f123(u64 v0, u64 v1, u64 v2)
+APART u32 f139(u64 v0, u64 v1, u64 v2)
 {
     ROOM(frame, 816);
     u32 v5 = 0, v7 = 0;
@@ -9764,15 +10208,15 @@ L5:;
     v5 = 0xFFFFFFF2u;
     goto L1;
 L6:;
-    if (l8(v0 + 16ull) >= 17008ull) goto L7;
+    if (l8(v0 + 16ull) >= 17136ull) goto L7;
     v5 = 0xFFFFFFF1u;
     goto L1;
 L7:;
     v4 = v1 + ((v1 == 0) ? 4096ull : 0ull);
     v6 = 0ull;
-    v1 = 310ull;
+    v1 = 454ull;
     if (v2 < 71ull) goto L8;
-    v1 = ((u64)l1(v4 + 70)) + 310ull;
+    v1 = ((u64)l1(v4 + 70)) + 454ull;
     if (v2 == 71ull) goto L8;
     v6 = ((u64)l1(v4 + 71)) * 20ull;
 L8:;
@@ -9781,7 +10225,7 @@ L8:;
     if (v1 >= v2) goto L9;
     v7 = l1(v4 + v1) == 1u;
 L9:;
-    f116(v3 + 4ull, v4, v2, v7);
+    f132(v3 + 4ull, v4, v2, v7);
     v5 = 1u;
     if (l1(v3 + 4) != 1u) goto L10;
     v5 = 0xFFFFFFD8u;
@@ -9810,9 +10254,9 @@ L11:;
     goto L1;
 L10:;
     fill(v3 + 8ull, 0u, 808ull);
-    f117(v3 + 8ull, ((v4 + ((u64)l1(v4 + 70))) + (((u64)l1(v4 + 71)) * 20ull)) + 280ull);
-    f118(v0, v3 + 8ull, v7);
-    f122(l8(v0), v4, v2);
+    f133(v3 + 8ull, ((v4 + ((u64)l1(v4 + 70))) + (((u64)l1(v4 + 71)) * 20ull)) + 424ull);
+    f134(v0, v3 + 8ull, v7);
+    f138(l8(v0), v4, v2);
     goto L1;
     TRAP();
 L2:;
@@ -9824,18 +10268,18 @@ L1:;
 static u32 w_mscp_port_restore_at(u64 v0, u64 v1, u64 v2)
 {
     u32 v3 = 0, t0, t1;
-    t0 = f49();
+    t0 = f58();
     if (t0 == 0) goto L1;
-    f50();
+    f59();
     TRAP();
 L1:;
-    t1 = f123(v0, v1, v2);
+    t1 = f139(v0, v1, v2);
     v3 = t1;
-    f52();
+    f61();
     return v3;
 }
 
-APART void f124(u64 v0, u64 v1, u32 v2)
+APART void f140(u64 v0, u64 v1, u32 v2)
 {
     ROOM(frame, 3712);
     u32 v5 = 0, v9 = 0, v11 = 0, v13 = 0, v14 = 0;
@@ -9859,8 +10303,8 @@ APART void f124(u64 v0, u64 v1, u32 v2)
     v7 = (((u64)l4(v7 + 816ull)) << 32) | ((u64)l1(v7 + 822ull));
     v5 = 1u;
 L2:;
-    f106(v3 + 8ull, v1, (((v11 << 24) | ((v13 << 16) & 16711680u)) | ((v14 << 8) & 65280u)) | (v9 & 255u), v5, v7, v2);
-    f107(v3 + 8ull, v6, v4);
+    f120(v3 + 8ull, v1, (((v11 << 24) | ((v13 << 16) & 16711680u)) | ((v14 << 8) & 65280u)) | (v9 & 255u), v5, v7, v2);
+    f121(v3 + 8ull, v6, v4);
     if (v8 == 0) goto L3;
     v7 = v1 + 3888ull;
     v6 = v1 + 816ull;
@@ -9871,113 +10315,98 @@ L4:;
     s8(v3 + 3696, l8(v4 + 16));
     s8(v3 + 3704, l8(v4 + 24));
     v7 = v7 + 1ull;
-    f108(v3 + 8ull, v3 + 3680ull);
+    f122(v3 + 8ull, v3 + 3680ull);
     v8 = v8 + 0xFFFFFFFFFFFFFFFFull;
     if (v8 != 0ull) goto L4;
 L3:;
-    f109(v3 + 8ull, v1 + 9080ull, v12);
-    f109(v3 + 8ull, v1 + 12168ull, v10);
+    f123(v3 + 8ull, v1 + 9080ull, v12);
+    f123(v3 + 8ull, v1 + 12168ull, v10);
     copy(v0, v3 + 8ull, 3672ull);
     return;
     TRAP();
 }
 
-APART u32 f125(u64 v0, u64 v1, u64 v2, u64 v3)
+APART u32 f141(u64 v0, u64 v1, u64 v2, u64 v3)
 {
-    ROOM(frame, 17904);
-    u32 v6 = 0, v8 = 0, v13 = 0, v14 = 0, v15 = 0, v16 = 0, v17 = 0, v18 = 0;
-    u64 v4 = 0, v5 = 0, v7 = 0, v9 = 0, v10 = 0, v11 = 0, v12 = 0, v19 = 0, v20 = 0, v21 = 0, v22 = 0;
+    ROOM(frame, 14528);
+    u32 v5 = 0, v6 = 0, v11 = 0, v12 = 0, v13 = 0, v15 = 0, v16 = 0;
+    u64 v4 = 0, v7 = 0, v8 = 0, v9 = 0, v10 = 0, v14 = 0;
     v4 = A(frame);
-    v5 = v4;
     if (l8(v0 + 24ull) == 0x504F52544D414445ull) goto L3;
-    v6 = 0xFFFFFFF6u;
+    v5 = 0xFFFFFFF6u;
     goto L2;
 L3:;
-    v7 = l8(v0);
-    v6 = l1(v7 + 5720ull);
-    fill(v5 + 5280ull, 0u, 3672ull);
-    f124(v5 + 5280ull, v7 + 8ull, v6);
-    copy(v5 + 14232ull, v5 + 5280ull, 3672ull);
-    v8 = l1(v7 + 15312ull);
-    if (v8 == 1u) goto L5;
-    v9 = A(data + 0);
-    v10 = 0ull;
+    v0 = l8(v0);
+    v5 = l1(v0 + 5720ull);
+    fill(v4 + 5432ull, 0u, 3672ull);
+    f140(v4 + 5432ull, v0 + 8ull, v5);
+    v6 = l1(v0 + 15312ull);
+    if (v6 == 1u) goto L5;
+    v7 = A(data + 0);
+    v8 = 0ull;
     goto L4;
 L5:;
-    v9 = v7 + 15320ull;
-    v10 = l8(v7 + 15368ull);
+    v7 = v0 + 15320ull;
+    v8 = l8(v0 + 15368ull);
 L4:;
-    v11 = l8(v7 + 16672ull);
-    v12 = l8(v5 + 17896);
-    fill((v5 + 8952ull) + 8ull, 0u, 5272ull);
-    s8(v5 + 8952, 5641556813ull);
-    s4(v5 + 8960, (u32)((v12 + (v10 + (v11 * 20ull))) + 280ull));
-    v6 = l4(v7);
-    s1(v5 + 8967, v6 >> 24);
-    s1(v5 + 8966, v6 >> 16);
-    s1(v5 + 8965, v6 >> 8);
-    s1(v5 + 8964, (v6 & 255u) ? 2u : 1u);
-    s1(v5 + 8968, l1(v7 + 15256ull));
-    s1(v5 + 8969, l1(v7 + 15257ull));
-    s1(v5 + 8970, l1(v7 + 15288ull));
-    s1(v5 + 8971, l1(v7 + 15289ull));
-    s1(v5 + 8972, l1(v7 + 15384ull));
-    v6 = l1(v7 + 15385ull);
-    s8(v5 + 14224, 22ull);
-    s1(v5 + 8973, v6);
-    s1(v5 + 8974, l1(v7 + 15386ull));
-    v6 = l2(v7 + 17000ull);
-    s8(v5 + 14224, 25ull);
-    s2(v5 + 8975, v6);
-    s2(v5 + 8977, l2(v7 + 17002ull));
-    s2(v5 + 8979, l2(v7 + 17004ull));
-    v6 = l4(v7 + 15262ull);
-    s8(v5 + 14224, 33ull);
-    s4(v5 + 8981, v6);
-    v6 = l2(v7 + 15260ull);
-    v13 = l1(v7 + 15258ull);
-    s1(v5 + 8985, v13);
-    if ((v13 + 0xFFFFFFFEu) < 7u) goto L7;
-    switch (v13) {
+    v9 = l8(v0 + 16672ull);
+    v10 = l8(v4 + 9096);
+    fill(v4 + 9136ull, 0u, 5384ull);
+    s8(v4 + 9104, 5641556813ull);
+    s2(v4 + 9120, l2(v0 + 15256ull));
+    s2(v4 + 9122, l2(v0 + 15288ull));
+    s2(v4 + 9124, l2(v0 + 15384ull));
+    s1(v4 + 9126, l1(v0 + 15386ull));
+    s2(v4 + 9127, l2(v0 + 17128ull));
+    v5 = l4(v0);
+    s1(v4 + 9119, v5 >> 24);
+    s1(v4 + 9118, v5 >> 16);
+    s1(v4 + 9117, v5 >> 8);
+    s4(v4 + 9112, (u32)((v10 + (v8 + (v9 * 20ull))) + 424ull));
+    s1(v4 + 9116, (v5 & 255u) ? 2u : 1u);
+    s2(v4 + 9129, l2(v0 + 17130ull));
+    s2(v4 + 9131, l2(v0 + 17132ull));
+    s4(v4 + 9133, l4(v0 + 15262ull));
+    v5 = l1(v0 + 15258ull);
+    s1(v4 + 9137, v5);
+    if ((v5 + 0xFFFFFFFEu) < 7u) goto L7;
+    v11 = l2(v0 + 15260ull);
+    switch (v5) {
     case 1: case 9: goto L6;
     case 2: case 3: case 4: case 5: case 6: case 7: case 8: goto L1;
     default: goto L7;
     }
 L7:;
-    v6 = 0u;
+    v11 = 0u;
 L6:;
-    s2(v5 + 8986, v6);
-    v6 = 0u;
-    v13 = 0u;
-    if (l1(v7 + 15266ull) != 1u) goto L8;
-    v13 = l2(v7 + 15268ull);
-    v6 = 1u;
+    s2(v4 + 9138, v11);
+    v5 = 0u;
+    v11 = 0u;
+    if (l1(v0 + 15266ull) != 1u) goto L8;
+    v11 = l2(v0 + 15268ull);
+    v5 = 1u;
 L8:;
-    s8(v5 + 14224, 39ull);
-    s2(v5 + 8989, v13);
-    s1(v5 + 8988, v6);
-    if (l1(v7 + 15272ull) != 1u) goto L10;
-    v0 = l8(v7 + 15276ull);
-    s4(v5 + 9000, l4(v7 + 15284ull));
-    s8(v5 + 8992, v0);
-    v6 = 1u;
+    s2(v4 + 9141, v11);
+    s1(v4 + 9140, v5);
+    if (l1(v0 + 15272ull) != 1u) goto L10;
+    s4(v4 + 9152, l4(v0 + 15284ull));
+    s8(v4 + 9144, l8(v0 + 15276ull));
+    v5 = 1u;
     goto L9;
 L10:;
-    v6 = 0u;
-    s4(v5 + 9000, 0u);
-    s8(v5 + 8992, 0ull);
+    v5 = 0u;
+    s4(v4 + 9152, 0u);
+    s8(v4 + 9144, 0ull);
 L9:;
-    v14 = v1 == 0;
-    s8(v5 + 14224, 52ull);
-    s1(v5 + 8991, v6);
-    v15 = l4(v7 + 15296ull);
-    v16 = l1(v7 + 15293ull);
-    v0 = 0ull;
-    v17 = 0u;
-    v6 = 0u;
-    v13 = 0u;
-    v18 = l1(v7 + 15292ull);
-    switch ((u32)(((u64)v18) & 255ull)) {
+    s1(v4 + 9143, v5);
+    v12 = l4(v0 + 15296ull);
+    v13 = l1(v0 + 15293ull);
+    v14 = 0ull;
+    v15 = 0u;
+    v5 = 0u;
+    v11 = 0u;
+    v16 = l1(v0 + 15292ull);
+    switch ((u32)(((u64)v16) & 255ull)) {
     case 2: case 4: case 6: goto L18;
     case 3: goto L17;
     case 5: goto L16;
@@ -9988,124 +10417,83 @@ L9:;
     default: goto L11;
     }
 L18:;
-    v6 = 0u;
-    v13 = v15;
+    v5 = 0u;
+    v11 = v12;
     goto L11;
 L17:;
-    v6 = (v16 & 255u) ? 2u : 1u;
-    v13 = 0u;
+    v5 = (v13 & 255u) ? 2u : 1u;
+    v11 = 0u;
     goto L11;
 L16:;
-    v6 = l1(v7 + 15304ull) & 1u;
-    v0 = (u64)l4(v7 + 15300ull);
-    v13 = v15;
+    v5 = l1(v0 + 15304ull) & 1u;
+    v14 = (u64)l4(v0 + 15300ull);
+    v11 = v12;
     goto L11;
 L15:;
-    v6 = (v16 & 255u) ? 2u : 1u;
-    v13 = v15;
+    v5 = (v13 & 255u) ? 2u : 1u;
+    v11 = v12;
     goto L11;
 L14:;
-    v6 = (v16 & 255u) ? 2u : 1u;
-    v13 = 0u;
+    v5 = (v13 & 255u) ? 2u : 1u;
+    v11 = 0u;
     goto L11;
 L13:;
-    v6 = (v16 & 255u) ? 2u : 1u;
-    v13 = 0u;
+    v5 = (v13 & 255u) ? 2u : 1u;
+    v11 = 0u;
     goto L11;
 L12:;
-    v0 = (u64)l1(v7 + 15294ull);
-    v0 = ((v0 == 0) ? 0ull : (((u64)(v15 & 65535u)) << 32)) | (v0 << 48);
-    v13 = 0u;
-    v6 = 0u;
+    v14 = (u64)l1(v0 + 15294ull);
+    v14 = ((v14 == 0) ? 0ull : (((u64)(v12 & 65535u)) << 32)) | (v14 << 48);
+    v11 = 0u;
+    v5 = 0u;
 L11:;
-    v4 = v14 ? 4096ull : 0ull;
-    s4(v5 + 9014, 0u);
-    s4(v5 + 9006, v13);
-    s1(v5 + 9005, v6);
-    s1(v5 + 9004, v18);
-    s4(v5 + 9010, (u32)v0);
-    s1(v5 + 9020, (u32)(v0 >> 48));
-    s2(v5 + 9018, (u32)(v0 >> 32));
-    v6 = 0u;
-    if (v8 != 1u) goto L19;
-    v17 = l1(v7 + 15376ull) + 1u;
-    v6 = l1(v7 + 15368ull);
+    s4(v4 + 9166, 0u);
+    s4(v4 + 9158, v11);
+    s1(v4 + 9157, v5);
+    s1(v4 + 9156, v16);
+    s4(v4 + 9162, (u32)v14);
+    s1(v4 + 9172, (u32)(v14 >> 48));
+    s2(v4 + 9170, (u32)(v14 >> 32));
+    v5 = 0u;
+    if (v6 != 1u) goto L19;
+    v15 = l1(v0 + 15376ull) + 1u;
+    v5 = l1(v0 + 15368ull);
 L19:;
-    v19 = v1 + v4;
-    v20 = v7 + 15392ull;
-    s1(v5 + 9023, (u32)v11);
-    s1(v5 + 9022, v6);
-    s1(v5 + 9021, v17);
-    v4 = 72ull;
-    v21 = 0ull;
-L20:;
-    v0 = v7 + v21;
-    v15 = l4(v0 + 16692ull);
-    v13 = l1(v0 + 16688ull);
-    v18 = l4(v0 + 16684ull);
-    v17 = l1(v0 + 16696ull);
-    v6 = l1(v0 + 16697ull);
-    v8 = l1(v0 + 16680ull);
-    v14 = l1(v0 + 16681ull);
-    v1 = (v5 + 8952ull) + v4;
-    s1(v1 + 2ull, l1(v0 + 16682ull) & 1u);
-    s1(v1 + 1ull, v14 & 1u);
-    s1(v1, v8 & 1u);
-    s1(v1 + 3ull, (v17 & 1u) ? ((v6 & 1u) ? 3u : 1u) : (v6 << 1));
-    v0 = v4 + 4ull;
-    if ((v4 + 0xFFFFFFFFFFFFEB6Full) < 4ull) goto L21;
-    s4((v5 + 8952ull) + v0, v18);
-    v0 = v4 + 8ull;
+    v14 = v0 + 15392ull;
+    s8(v4 + 14520, 72ull);
+    s1(v4 + 9175, (u32)v9);
+    s1(v4 + 9174, v5);
+    s1(v4 + 9173, v15);
+    f128(v4 + 9104ull, v0 + 16680ull);
+    v0 = l8(v4 + 14520);
+    if ((5416ull - v0) < v8) goto L20;
+    if (v8 == 0) goto L21;
+    copy((v4 + 9104ull) + v0, v7, v8);
 L21:;
-    v1 = v0 & 0xFFFFFFFFFFFFFFFCull;
-    v4 = v0 + 1ull;
-    v22 = (v5 + 8952ull) + v0;
-    if ((v13 & 255u) != 1u) goto L24;
-    s1(v22, 1u);
-    s8(v5 + 14224, v4);
-    if (v1 == 5268ull) goto L22;
-    s4((v5 + 8952ull) + v4, v15);
-    v4 = v0 + 5ull;
-    goto L23;
-L24:;
-    s1(v22, 0u);
-    s8(v5 + 14224, v4);
-    if (v1 == 5268ull) goto L22;
-    s4((v5 + 8952ull) + v4, 0u);
-    v4 = v0 + 5ull;
+    s8(v4 + 14520, v0 + v8);
+L20:;
+    f129(v4 + 9104ull, v14, v9);
+    v0 = l8(v4 + 14520);
+    if ((5416ull - v0) < v10) goto L22;
+    if (v10 == 0) goto L23;
+    copy((v4 + 9104ull) + v0, v4 + 5432ull, v10);
 L23:;
-    s8(v5 + 14224, v4);
+    s8(v4 + 14520, v0 + v10);
 L22:;
-    v21 = v21 + 20ull;
-    if (v21 != 320ull) goto L20;
-    if ((5272ull - v4) < v10) goto L25;
-    if (v10 == 0) goto L26;
-    copy((v5 + 8952ull) + v4, v9, v10);
-L26:;
-    s8(v5 + 14224, v4 + v10);
-L25:;
-    f113(v5 + 8952ull, v20, v11);
-    v0 = l8(v5 + 14224);
-    if ((5272ull - v0) < v12) goto L27;
-    if (v12 == 0) goto L28;
-    copy((v5 + 8952ull) + v0, v5 + 14232ull, v12);
-L28:;
-    s8(v5 + 14224, v0 + v12);
-L27:;
-    copy(v5, v5 + 8952ull, 5280ull);
-    copy(v5 + 8952ull, v5, 5280ull);
-    v0 = l8(v5 + 14224);
-    if (v2 >= v0) goto L29;
-    v6 = 0xFFFFFFF1u;
+    copy(v4 + 8ull, v4 + 9104ull, 5424ull);
+    copy(v4 + 9104ull, v4 + 8ull, 5424ull);
+    v0 = l8(v4 + 14520);
+    if (v2 >= v0) goto L24;
+    v5 = 0xFFFFFFF1u;
     goto L2;
-L29:;
-    if (v0 == 0) goto L30;
-    copy(v19, v5 + 8952ull, v0);
-L30:;
+L24:;
+    if (v0 == 0) goto L25;
+    copy(v1 + ((v1 == 0) ? 4096ull : 0ull), v4 + 9104ull, v0);
+L25:;
     s8(v3, v0);
-    v6 = 1u;
+    v5 = 1u;
 L2:;
-    return v6;
+    return v5;
 L1:;
     TRAP();
 }
@@ -10113,18 +10501,18 @@ L1:;
 static u32 w_mscp_port_save_at(u64 v0, u64 v1, u64 v2, u64 v3)
 {
     u32 v4 = 0, t0, t1;
-    t0 = f49();
+    t0 = f58();
     if (t0 == 0) goto L1;
-    f50();
+    f59();
     TRAP();
 L1:;
-    t1 = f125(v0, v1, v2, v3);
+    t1 = f141(v0, v1, v2, v3);
     v4 = t1;
-    f52();
+    f61();
     return v4;
 }
 
-static void f126(void)
+static void f142(void)
 {
     goto L1;
 L1:;
@@ -10134,17 +10522,72 @@ L1:;
 static u64 w_mscp_port_save_size(void)
 {
     u32 t0;
-    t0 = f49();
+    t0 = f58();
     if (t0 == 0) goto L1;
-    f50();
+    f59();
     TRAP();
 L1:;
-    f126();
-    f52();
-    return 5272ull;
+    f142();
+    f61();
+    return 5416ull;
 }
 
-static void f127(void)
+static u32 f143(u64 v0, u64 v1, u64 v2, u64 v3)
+{
+    u32 v4 = 0, v7 = 0;
+    u64 v5 = 0, v6 = 0, v8 = 0;
+    v4 = 0xFFFFFFF6u;
+    if (l8(v0 + 24ull) != 0x504F52544D414445ull) goto L2;
+    v0 = l8(v0);
+    v5 = l8(v0 + 32ull);
+    v6 = l8(v0 + 8ull);
+    v4 = l4(v0 + 20ull);
+    v7 = l2(v0 + 24ull);
+    s8(v1 + 8, (u64)l4(v0 + 16ull));
+    s2(v1 + 30, 0u);
+    s2(v1 + 28, v7);
+    s4(v1 + 24, v4);
+    s8(v1 + 16, v6);
+    s8(v1, v5);
+    v8 = l8(v0 + 808ull);
+    v3 = (v3 < v8) ? v3 : v8;
+    if (v3 == 0) goto L3;
+    v1 = v2 + ((v2 == 0) ? 4096ull : 0ull);
+L4:;
+    v2 = l8(v0 + 56ull);
+    v5 = l8(v0 + 40ull);
+    v6 = l8(v0 + 64ull);
+    v0 = v0 + 48ull;
+    s4(v1 + 8ull, l4(v0));
+    s8(v1 + 12ull, v6);
+    s4(v1 + 28ull, 0u);
+    s8(v1 + 20ull, v5);
+    s8(v1, v2);
+    v1 = v1 + 32ull;
+    v3 = v3 + 0xFFFFFFFFFFFFFFFFull;
+    if (v3 != 0ull) goto L4;
+L3:;
+    v4 = (u32)v8;
+L2:;
+    return v4;
+    TRAP();
+}
+
+static u32 w_mscp_port_settings_at(u64 v0, u64 v1, u64 v2, u64 v3)
+{
+    u32 v4 = 0, t0, t1;
+    t0 = f58();
+    if (t0 == 0) goto L1;
+    f59();
+    TRAP();
+L1:;
+    t1 = f143(v0, v1, v2, v3);
+    v4 = t1;
+    f61();
+    return v4;
+}
+
+static void f144(void)
 {
     goto L1;
 L1:;
@@ -10154,17 +10597,62 @@ L1:;
 static u64 w_mscp_port_size(void)
 {
     u32 t0;
-    t0 = f49();
+    t0 = f58();
     if (t0 == 0) goto L1;
-    f50();
+    f59();
     TRAP();
 L1:;
-    f127();
-    f52();
-    return 17008ull;
+    f144();
+    f61();
+    return 17136ull;
 }
 
-static u32 f128(u64 v0)
+static u32 f145(u64 v0, u64 v1)
+{
+    u32 v2 = 0, v3 = 0, v4 = 0, v5 = 0;
+    v2 = 0xFFFFFFF6u;
+    if (l8(v0 + 24ull) != 0x504F52544D414445ull) goto L2;
+    v0 = l8(v0);
+    v3 = l1(v0 + 15258ull);
+    if ((v3 + 0xFFFFFFFEu) < 7u) goto L4;
+    v4 = l2(v0 + 15260ull);
+    switch (v3) {
+    case 1: case 9: goto L3;
+    case 2: case 3: case 4: case 5: case 6: case 7: case 8: goto L1;
+    default: goto L4;
+    }
+L4:;
+    v4 = 0u;
+L3:;
+    v2 = 1u;
+    v5 = 0u;
+    if (l1(v0 + 15312ull) != 1u) goto L5;
+    v5 = l1(v0 + 15386ull);
+L5:;
+    s1(v1 + 2, v3);
+    s2(v1, v4);
+    s1(v1 + 3, v5 & 1u);
+L2:;
+    return v2;
+L1:;
+    TRAP();
+}
+
+static u32 w_mscp_port_state(u64 v0, u64 v1)
+{
+    u32 v2 = 0, t0, t1;
+    t0 = f58();
+    if (t0 == 0) goto L1;
+    f59();
+    TRAP();
+L1:;
+    t1 = f145(v0, v1);
+    v2 = t1;
+    f61();
+    return v2;
+}
+
+static u32 f146(u64 v0)
 {
     u32 v2 = 0, v4 = 0;
     u64 v3 = 0;
@@ -10177,7 +10665,7 @@ static u32 f128(u64 v0)
     s8(v3 + 5, 0ull);
     s8(v3, 0ull);
 L5:;
-    v2 = l2(v0 + 17002ull);
+    v2 = l2(v0 + 17130ull);
     if (l1(v0 + 15258ull) != 8u) goto L7;
     if (v2 & 65535u) goto L8;
     v2 = 0u;
@@ -10187,20 +10675,20 @@ L8:;
     if (l4(v0 + 9080ull)) goto L7;
     if (l4(v0 + 12160ull) == 0) goto L6;
 L7:;
-    v0 = v0 + 17004ull;
+    v0 = v0 + 17132ull;
     v2 = v2 & 65535u;
     v4 = l2(v0);
     s2(v0, (v2 > v4) ? v2 : v4);
     goto L2;
 L6:;
-    v3 = v0 + 17004ull;
+    v3 = v0 + 17132ull;
     v2 = l2(v3);
     if (v2 == 0) goto L3;
     s2(v3, v2 + 0xFFFFFFFFu);
     goto L2;
     TRAP();
 L3:;
-    f98(v0, 9u, 9u);
+    f112(v0, 9u, 9u);
 L2:;
     v2 = 1u;
 L1:;
@@ -10210,64 +10698,147 @@ L1:;
 static u32 w_mscp_port_tick(u64 v0)
 {
     u32 v1 = 0, t0, t1;
-    t0 = f49();
+    t0 = f58();
     if (t0 == 0) goto L1;
-    f50();
+    f59();
     TRAP();
 L1:;
-    t1 = f128(v0);
+    t1 = f146(v0);
     v1 = t1;
-    f52();
+    f61();
     return v1;
 }
 
-static u32 f129(u64 v0, u32 v1, u32 v2)
+static u32 f147(u64 v0, u32 v1, u64 v2)
 {
-    u32 v3 = 0;
-    u64 v4 = 0, v5 = 0;
+    u32 v3 = 0, v7 = 0, v8 = 0, v9 = 0, v10 = 0, v11 = 0, v12 = 0;
+    u64 v4 = 0, v5 = 0, v6 = 0;
     v3 = 0xFFFFFFF6u;
-    if (l8(v0 + 24ull) != 0x504F52544D414445ull) goto L1;
+    if (l8(v0 + 24ull) != 0x504F52544D414445ull) goto L2;
     v3 = 0xFFFFFFDBu;
-    v0 = l8(v0);
-    v4 = l8(v0 + 808ull);
-    if (v4 == 0) goto L1;
-    v5 = v0 + 16696ull;
-    v0 = v0 + 40ull;
+    v4 = l8(v0);
+    v5 = l8(v4 + 808ull);
+    if (v5 == 0) goto L2;
+    v0 = 40ull;
+    v6 = 0ull;
 L4:;
-    if (l2(v0) == (v1 & 65535u)) goto L2;
-    v5 = v5 + 20ull;
+    if (l2(v4 + v0) == (v1 & 65535u)) goto L3;
+    v6 = v6 + 28ull;
     v0 = v0 + 48ull;
-    v4 = v4 + 0xFFFFFFFFFFFFFFFFull;
-    if ((u32)(v4 == 0) == 0) goto L4;
-    goto L1;
-    TRAP();
-L2:;
+    v5 = v5 + 0xFFFFFFFFFFFFFFFFull;
+    if ((u32)(v5 == 0) == 0) goto L4;
+    goto L2;
+L3:;
     v3 = 1u;
-    s1(v5, 1u);
-    s1(v5 + 0xFFFFFFFFFFFFFFF2ull, 0u);
-    s1(v5 + 0xFFFFFFFFFFFFFFF1ull, v2 != 0u);
-    s1(v5 + 0xFFFFFFFFFFFFFFF0ull, 1u);
-    v0 = v5 + 0xFFFFFFFFFFFFFFF4ull;
-    s4(v0, l4(v0) + 1u);
-L1:;
+    v0 = v4 + v6;
+    v7 = l4(v0 + 16692ull);
+    v8 = l4(v0 + 16688ull);
+    v9 = l1(v0 + 16683ull);
+    v10 = l1(v0 + 16682ull);
+    v11 = l1(v0 + 16681ull);
+    v1 = 0u;
+    v12 = l1(v0 + 16680ull);
+    if ((v12 & 1u) == 0) goto L5;
+    v1 = 0u;
+    if ((l1(v0 + 16696ull) & 255u) != 1u) goto L5;
+    v1 = l4(v0 + 16700ull) == l4(v0 + 16684ull);
+L5:;
+    s2(v2 + 13, 0u);
+    s1(v2 + 12, v9);
+    s1(v2 + 11, v1);
+    s1(v2 + 10, v10);
+    s1(v2 + 9, v11);
+    s1(v2 + 8, v12);
+    s4(v2 + 4, v7);
+    s4(v2, v8);
+    s1(v2 + 15, 0u);
+L2:;
     return v3;
+    TRAP();
 }
 
-static u32 w_mscp_port_volume_came(u64 v0, u32 v1, u32 v2)
+static u32 w_mscp_port_volume(u64 v0, u32 v1, u64 v2)
 {
     u32 t0, t1;
-    t0 = f49();
+    t0 = f58();
     if (t0 == 0) goto L1;
-    f50();
+    f59();
     TRAP();
 L1:;
-    t1 = f129(v0, v1, v2);
-    v2 = t1;
-    f52();
-    return v2;
+    t1 = f147(v0, v1, v2);
+    v1 = t1;
+    f61();
+    return v1;
 }
 
-static u32 f130(u64 v0, u32 v1)
+static u32 f148(u64 v0, u32 v1, u64 v2)
+{
+    u32 v3 = 0, v4 = 0, v7 = 0, v8 = 0, v11 = 0;
+    u64 v5 = 0, v6 = 0, v9 = 0, v10 = 0;
+    if (l8(v0 + 24ull) == 0x504F52544D414445ull) goto L4;
+    return 0xFFFFFFF6u;
+L4:;
+    v3 = l1(v2 + 9ull) != 0u;
+    v4 = l1(v2 + 8ull) != 0u;
+    v5 = l8(v0);
+    v6 = l8(v5 + 808ull);
+    v0 = v6 + 1ull;
+    v7 = l4(v2 + 4ull);
+    v8 = l4(v2);
+    v2 = v5;
+L5:;
+    v0 = v0 + 0xFFFFFFFFFFFFFFFFull;
+    if ((u32)(v0 == 0) == 0) goto L6;
+    return 0xFFFFFFDBu;
+L6:;
+    v9 = v2 + 40ull;
+    v10 = v2 + 48ull;
+    v2 = v10;
+    if (l2(v9) != (v1 & 65535u)) goto L5;
+    v11 = 0xFFFFFFDAu;
+    if (v8 == 0) goto L1;
+    if (v8 > l4(v10)) goto L1;
+    v2 = 40ull;
+    v0 = 0ull;
+L7:;
+    if (l2(v5 + v2) == (v1 & 65535u)) goto L2;
+    v0 = v0 + 28ull;
+    v2 = v2 + 48ull;
+    v6 = v6 + 0xFFFFFFFFFFFFFFFFull;
+    if ((u32)(v6 == 0) == 0) goto L7;
+    return 1u;
+    TRAP();
+L2:;
+    v2 = v5 + v0;
+    s1(v2 + 16682ull, 0u);
+    v11 = 1u;
+    s1(v2 + 16680ull, 1u);
+    s1(v2 + 16704ull, 1u);
+    s4(v2 + 16692ull, v7);
+    s4(v2 + 16688ull, v8);
+    s1(v2 + 16683ull, v3);
+    s1(v2 + 16681ull, v4);
+    v2 = v2 + 16684ull;
+    s4(v2, l4(v2) + 1u);
+L1:;
+    return v11;
+}
+
+static u32 w_mscp_port_volume_came(u64 v0, u32 v1, u64 v2)
+{
+    u32 t0, t1;
+    t0 = f58();
+    if (t0 == 0) goto L1;
+    f59();
+    TRAP();
+L1:;
+    t1 = f148(v0, v1, v2);
+    v1 = t1;
+    f61();
+    return v1;
+}
+
+static u32 f149(u64 v0, u32 v1)
 {
     u32 v2 = 0;
     u64 v3 = 0, v4 = 0;
@@ -10277,11 +10848,11 @@ static u32 f130(u64 v0, u32 v1)
     v0 = l8(v0);
     v3 = l8(v0 + 808ull);
     if (v3 == 0) goto L1;
-    v4 = v0 + 16696ull;
+    v4 = v0 + 16704ull;
     v0 = v0 + 40ull;
 L4:;
     if (l2(v0) == (v1 & 65535u)) goto L2;
-    v4 = v4 + 20ull;
+    v4 = v4 + 28ull;
     v0 = v0 + 48ull;
     v3 = v3 + 0xFFFFFFFFFFFFFFFFull;
     if ((u32)(v3 == 0) == 0) goto L4;
@@ -10289,10 +10860,10 @@ L4:;
     TRAP();
 L2:;
     s1(v4, 0u);
-    s1(v4 + 0xFFFFFFFFFFFFFFF2ull, 0u);
-    s2(v4 + 0xFFFFFFFFFFFFFFF0ull, 0u);
+    s1(v4 + 0xFFFFFFFFFFFFFFEAull, 0u);
+    s2(v4 + 0xFFFFFFFFFFFFFFE8ull, 0u);
     v2 = 1u;
-    v0 = v4 + 0xFFFFFFFFFFFFFFF4ull;
+    v0 = v4 + 0xFFFFFFFFFFFFFFECull;
     s4(v0, l4(v0) + 1u);
 L1:;
     return v2;
@@ -10301,18 +10872,18 @@ L1:;
 static u32 w_mscp_port_volume_went(u64 v0, u32 v1)
 {
     u32 t0, t1;
-    t0 = f49();
+    t0 = f58();
     if (t0 == 0) goto L1;
-    f50();
+    f59();
     TRAP();
 L1:;
-    t1 = f130(v0, v1);
+    t1 = f149(v0, v1);
     v1 = t1;
-    f52();
+    f61();
     return v1;
 }
 
-static void f131(u64 v0, u32 v1, u32 v2)
+static void f150(u64 v0, u32 v1, u32 v2)
 {
     if (v1 & 255u) goto L2;
     if ((i32)v2 > (i32)0xFFFFFFFFu) goto L3;
@@ -10341,11 +10912,11 @@ L4:;
     TRAP();
 }
 
-static void f132(u64 v0, u32 v1, u32 v2)
+static void f151(u64 v0, u32 v1, u32 v2)
 {
     u32 v4 = 0;
     if ((v2 & 15728640u) == 0) goto L2;
-    f98(v0, 9u, 20u);
+    f112(v0, 9u, 20u);
     return;
 L2:;
     v4 = v2 >> 24;
@@ -10354,7 +10925,7 @@ L2:;
     default: goto L4;
     }
 L4:;
-    f98(v0, 9u, 14u);
+    f112(v0, 9u, 14u);
     return;
 L3:;
     v2 = v2 & 65535u;
@@ -10365,12 +10936,12 @@ L3:;
     s4(v0 + 15300ull, (v2 < 64u) ? v2 : 64u);
     return;
 L5:;
-    f98(v0, 9u, 1u);
+    f112(v0, 9u, 1u);
     return;
     TRAP();
 }
 
-static void f133(u64 v0, u64 v1, u32 v2)
+static void f152(u64 v0, u64 v1, u32 v2)
 {
     u32 v3 = 0, v4 = 0, v5 = 0, v6 = 0;
     u64 v7 = 0;
@@ -10502,7 +11073,7 @@ L2:;
     TRAP();
 }
 
-static void f134(u64 v0, u64 v1, u32 v2, u32 v3)
+static void f153(u64 v0, u64 v1, u32 v2, u32 v3)
 {
     ROOM(frame, 16);
     u32 v5 = 0, v6 = 0, v7 = 0, v10 = 0, v15 = 0;
@@ -10561,7 +11132,7 @@ static void f134(u64 v0, u64 v1, u32 v2, u32 v3)
     TRAP();
 }
 
-static void f135(u64 v0, u64 v1, u32 v2, u64 v3, u64 v4)
+static void f154(u64 v0, u64 v1, u32 v2, u64 v3, u64 v4)
 {
     ROOM(frame, 176);
     u32 v6 = 0, v7 = 0, v8 = 0, v9 = 0, v10 = 0, v11 = 0, v12 = 0, v13 = 0, v14 = 0, v18 = 0, v19 = 0, v23 = 0, v24 =
@@ -10571,7 +11142,7 @@ static void f135(u64 v0, u64 v1, u32 v2, u64 v3, u64 v4)
     s8(v5 + 40, 0ull);
     s8(v5 + 32, 0ull);
     s8(v5 + 24, 0ull);
-    f83(v5 + 24ull, v3, v4);
+    f92(v5 + 24ull, v3, v4);
     if (l1(v5 + 24)) goto L22;
     v6 = 1u;
     v7 = l1(v5 + 37);
@@ -10712,7 +11283,7 @@ L19:;
 L18:;
     v13 = l2(v5 + 106);
 L17:;
-    f133(v5 + 48ull, v5 + 96ull, v13);
+    f152(v5 + 48ull, v5 + 96ull, v13);
     if (v2 & 255u) goto L38;
     v3 = v1 + 12152ull;
     v16 = l8(v3);
@@ -10762,7 +11333,7 @@ L39:;
     s4(v5 + 160, v13);
     v22 = v3 << 6;
     v4 = (l8((v17 + v22) + 32ull)) + 1ull;
-    f62(v5, v4, (u64)(u32)(v4 == 0), (v9 == 7u) ? ((u64)v13) : 0ull, 0ull);
+    f71(v5, v4, (u64)(u32)(v4 == 0), (v9 == 7u) ? ((u64)v13) : 0ull, 0ull);
     s8(v5 + 168, 0ull);
     s4(v5 + 164, v19);
     s4(v5 + 156, v12);
@@ -10813,7 +11384,7 @@ L41:;
     s1(v5 + 152, v9);
     v13 = 0u;
     s1(v5 + 151, 0u);
-    f134(v1 + 816ull, v5 + 144ull, (u32)v3, v19);
+    f153(v1 + 816ull, v5 + 144ull, (u32)v3, v19);
     if (v2 & 255u) goto L47;
     s4(v15, l4(v15) + 1u);
     v18 = 0u;
@@ -10964,12 +11535,12 @@ L67:;
     v21 = v21 + 8ull;
     if (v21 != 64ull) goto L67;
 L66:;
-    f64(v25, v3);
+    f73(v25, v3);
     goto L64;
 L65:;
-    f65(v25, v3);
+    f74(v25, v3);
 L64:;
-    f66(v22, v3);
+    f75(v22, v3);
     v21 = v1 + 5688ull;
     v16 = 0ull;
     v17 = 0ull;
@@ -11010,7 +11581,7 @@ L69:;
     s8(v5 + 160, 0ull);
     s8(v5 + 152, 0ull);
     s8(v5 + 144, 0ull);
-    f63(v5 + 144ull, v5 + 124ull, v30);
+    f72(v5 + 144ull, v5 + 124ull, v30);
     v26 = 129u;
     switch (v12) {
     case 1: goto L77;
@@ -11191,229 +11762,283 @@ L1:;
     return;
 }
 
-static void f136(u64 v0, u32 v1, u32 v2, u64 v3, u64 v4)
+static void f155(u64 v0, u32 v1, u32 v2, u64 v3, u64 v4)
 {
     ROOM(frame, 224);
-    u32 v9 = 0, v10 = 0, v13 = 0, v14 = 0;
-    u64 v5 = 0, v6 = 0, v7 = 0, v8 = 0, v11 = 0, v12 = 0, v15 = 0, v16 = 0, v17 = 0, v18 = 0;
+    u32 v7 = 0, v10 = 0, v14 = 0, v15 = 0, t0;
+    u64 v5 = 0, v6 = 0, v8 = 0, v9 = 0, v11 = 0, v12 = 0, v13 = 0, v16 = 0, v17 = 0, v18 = 0;
     v5 = A(frame);
+    v6 = v5;
+    v7 = 0u;
     s1(v0 + 15304ull, 0u);
     s4(v0 + 15300ull, 0u);
     s4(v0 + 15296ull, v1);
-    v6 = v0 + 15292ull;
-    s4(v6, 263u);
-    v7 = v0 + 17004ull;
-    v8 = v0 + 17002ull;
-    v1 = l2(v8);
-    v9 = l2(v7);
-    v1 = (v1 > v9) ? v1 : v9;
-    s2(v7, v1);
-    s2(v8, v1);
-    if (v2 == 0) goto L7;
-    v2 = l2(v3 + 4ull);
-    v1 = 8388608u;
-    v9 = 2049u;
+    v8 = v0 + 15292ull;
+    s4(v8, 263u);
+    v5 = v0 + 17132ull;
+    v9 = v0 + 17130ull;
+    v1 = l2(v9);
+    v10 = l2(v5);
+    v1 = (v1 > v10) ? v1 : v10;
+    s2(v5, v1);
+    s2(v9, v1);
+    v1 = l2(v3 + 4ull);
+    v11 = l8(v0 + 808ull);
+    if ((u32)(v11 == 0) == 0) goto L12;
+    v10 = 0u;
+    goto L11;
+L12:;
+    v9 = v0 + 16688ull;
+    v5 = v0 + 40ull;
+    v12 = v11;
+L14:;
+    if (l2(v5) == (v1 & 65535u)) goto L13;
+    v9 = v9 + 28ull;
+    v5 = v5 + 48ull;
+    v12 = v12 + 0xFFFFFFFFFFFFFFFFull;
+    if ((u32)(v12 == 0) == 0) goto L14;
+    v7 = 0u;
+    v10 = 0u;
+    goto L11;
+L13:;
+    v7 = l1(v9 + 0xFFFFFFFFFFFFFFF8ull);
+    v10 = l4(v9);
+L11:;
+    if (v2 == 0) goto L15;
+    v5 = 12ull;
+    v10 = 2049u;
+    v2 = 8388608u;
     goto L6;
-L7:;
+L15:;
     v2 = l1(v3 + 8);
-    if (v2 > 19u) goto L5;
-    if (((1u << (v2 & 31)) & 657408u) == 0) goto L5;
-    v1 = (v2 ^ 128u) << 16;
-    v2 = l2(v3 + 4ull);
-    v9 = 0u;
+    if (v2 > 19u) goto L16;
+    if (((1u << (v2 & 31)) & 657408u) == 0) goto L16;
+    v5 = 12ull;
+    v10 = 0u;
+    goto L7;
+L16:;
+    if ((v7 & 1u) == 0) goto L17;
+    switch (v2 + 0xFFFFFFF0u) {
+    case 0: case 2: goto L9;
+    default: goto L18;
+    }
+L18:;
+    if (((v2 + 0xFFFFFFE0u) & 255u) > 2u) goto L17;
+    if (v4 > 31ull) goto L8;
+L17:;
+    s4(v6 + 24, 0u);
+    s8(v6 + 16, 0ull);
+    s8(v6 + 8, 0ull);
+    fill(v6 + 104ull, 0u, 72ull);
+    v12 = v0 + 40ull;
+    v13 = v0 + 8ull;
+    if (v2 != 3u) goto L4;
+    if ((l1(v3 + 10ull) & 1u) == 0) goto L4;
+    s4(v6 + 104, l4(v3));
+    v9 = v11 + 1ull;
+    v5 = v12;
+L20:;
+    v9 = v9 + 0xFFFFFFFFFFFFFFFFull;
+    if ((u32)(v9 == 0) == 0) goto L21;
+    v2 = 0u;
+    goto L19;
+L21:;
+    v2 = l2(v5);
+    v5 = v5 + 48ull;
+    if ((v1 & 65535u) > v2) goto L20;
+L19:;
+    s8(v6 + 168, 6ull);
+    s2(v6 + 108, v2);
+    v5 = v4 + 0xFFFFFFFFFFFFFFFAull;
+    if (v5 > 58ull) goto L2;
+    if (v5 == 0) goto L3;
+    copy((v6 + 104ull) | 6ull, v3 + 6ull, v5);
+    goto L3;
+    TRAP();
+L9:;
+    if (v4 < 32ull) goto L5;
+L8:;
+    v5 = 32ull;
+    v7 = l4(v3 + 28ull);
+    if (v10 > v7) goto L22;
+    v10 = 7169u;
+    goto L7;
+L22:;
+    t0 = v10 - v7;
+    v10 = l4(v3 + 12ull);
+    if (t0 >= ((v10 >> 9) + (u32)((v10 & 511u) != 0u))) goto L5;
+    v10 = 3073u;
+L7:;
+    v2 = (v2 ^ 128u) << 16;
 L6:;
-    v7 = v0 + 15312ull;
-    if (l1(v7) != 1u) goto L8;
-    s8(v6, 0ull);
-    s8(v6 + 5, 0ull);
+    v9 = v0 + 15312ull;
+    if (l1(v9) != 1u) goto L23;
+    s8(v8, 0ull);
+    s8(v8 + 5, 0ull);
     s1(v0 + 15385ull, 1u);
     goto L1;
-L8:;
-    v10 = l4(v3);
+L23:;
+    v7 = l4(v3);
     s8(v0 + 15332ull, 0ull);
-    s2(v0 + 15330ull, v9);
-    s4(v0 + 15326ull, v1);
-    s2(v0 + 15324ull, v2);
-    s4(v0 + 15320ull, v10);
-    s8(v7, 1ull);
+    s2(v0 + 15330ull, v10);
+    s4(v0 + 15326ull, v2);
+    s2(v0 + 15324ull, v1);
+    s4(v0 + 15320ull, v7);
+    s8(v9, 1ull);
     s8(v0 + 15340ull, 0ull);
     s8(v0 + 15348ull, 0ull);
     s8(v0 + 15356ull, 0ull);
     s4(v0 + 15364ull, 0u);
     s4(v0 + 15377ull, 0u);
     s1(v0 + 15376ull, 1u);
-    s8(v0 + 15368ull, 12ull);
+    s8(v0 + 15368ull, v5);
     s4(v0 + 15380ull, 0u);
     goto L1;
 L5:;
-    s4(v5 + 24, 0u);
-    s8(v5 + 16, 0ull);
-    s8(v5 + 8, 0ull);
-    fill(v5 + 104ull, 0u, 72ull);
-    v11 = v0 + 40ull;
-    v12 = v0 + 8ull;
-    if (v2 != 3u) goto L11;
-    if ((l1(v3 + 10ull) & 1u) == 0) goto L11;
-    s4(v5 + 104, l4(v3));
-    v8 = l8(v0 + 808ull) + 1ull;
+    s4(v6 + 24, 0u);
+    s8(v6 + 16, 0ull);
+    s8(v6 + 8, 0ull);
+    fill(v6 + 104ull, 0u, 72ull);
+    v12 = v0 + 40ull;
+    v13 = v0 + 8ull;
+L4:;
+    if (v4 > 64ull) goto L2;
+    if (v4 == 0) goto L3;
+    copy(v6 + 104ull, v3, v4);
+L3:;
+    s8(v6 + 168, v4);
+L2:;
+    copy(v6 + 32ull, v6 + 104ull, 72ull);
+    f154(v6 + 8ull, v13, 0u, v6 + 32ull, l8(v6 + 96));
+    if (l1(v6 + 8)) goto L26;
+    if (l1(v6 + 12)) goto L27;
+    v2 = 0u;
+    v1 = 0u;
+    v5 = l8(v0 + 808ull);
+    if (v5 == 0) goto L28;
     v1 = l2(v3 + 4ull);
-    v7 = v11;
-L13:;
-    v8 = v8 + 0xFFFFFFFFFFFFFFFFull;
-    if ((u32)(v8 == 0) == 0) goto L14;
-    v2 = 0u;
-    goto L12;
-L14:;
-    v2 = l2(v7);
-    v7 = v7 + 48ull;
-    if ((v1 & 65535u) > v2) goto L13;
-L12:;
-    s8(v5 + 168, 6ull);
-    s2(v5 + 108, v2);
-    v7 = v4 + 0xFFFFFFFFFFFFFFFAull;
-    if (v7 > 58ull) goto L9;
-    if (v7 == 0) goto L10;
-    copy((v5 + 104ull) | 6ull, v3 + 6ull, v7);
-    goto L10;
-L11:;
-    if (v4 > 64ull) goto L9;
-    if (v4 == 0) goto L10;
-    copy(v5 + 104ull, v3, v4);
-L10:;
-    s8(v5 + 168, v4);
-L9:;
-    copy(v5 + 32ull, v5 + 104ull, 72ull);
-    f135(v5 + 8ull, v12, 0u, v5 + 32ull, l8(v5 + 96));
-    if (l1(v5 + 8)) goto L15;
-    if (l1(v5 + 12)) goto L16;
+    v9 = v0 + 16684ull;
+L30:;
+    if (l2(v12) == (v1 & 65535u)) goto L29;
+    v9 = v9 + 28ull;
+    v12 = v12 + 48ull;
+    v5 = v5 + 0xFFFFFFFFFFFFFFFFull;
+    if ((u32)(v5 == 0) == 0) goto L30;
     v1 = 0u;
-    v2 = 0u;
-    v6 = l8(v0 + 808ull);
-    if (v6 == 0) goto L17;
-    v2 = l2(v3 + 4ull);
-    v7 = v0 + 16684ull;
-L19:;
-    if (l2(v11) == (v2 & 65535u)) goto L18;
-    v7 = v7 + 20ull;
-    v11 = v11 + 48ull;
-    v6 = v6 + 0xFFFFFFFFFFFFFFFFull;
-    if ((u32)(v6 == 0) == 0) goto L19;
-    v2 = 0u;
-    goto L17;
-L18:;
-    v2 = l4(v7);
-L17:;
-    v9 = 0u;
-    v10 = 0u;
-    v13 = 0u;
-    v14 = 0u;
-    if (v4 < 4ull) goto L2;
-    v10 = l4(v3);
-    if (v4 > 19ull) goto L21;
-    if (v4 < 16ull) goto L22;
-    v1 = l2(v3 + 10ull);
-    v9 = 0u;
-    goto L20;
-L22:;
-    v1 = 0u;
-    if (v4 < 12ull) goto L3;
-    v1 = l2(v3 + 10ull);
-    goto L3;
-L21:;
-    v1 = l2(v3 + 10ull);
-    v9 = l4(v3 + 16ull);
-L20:;
-    v13 = l4(v3 + 12ull);
-    v14 = v13 >> 16;
-    goto L2;
-L16:;
-    if (l1(v5 + 20) != 1u) goto L23;
-    v12 = l8(v0 + 16672ull);
-    if (v12 == 0) goto L23;
-    v2 = l4(v5 + 24);
-    v8 = 0ull;
-    v15 = v0 + 15392ull;
-    v6 = v15;
-    v7 = 0ull;
-L24:;
-    if (l4(v6) == v2) goto L25;
-    if (v8 < v7) goto L27;
-    if (v7 >= v8) goto L26;
-    v11 = v15 + (v8 * 20ull);
-    v1 = l4(v11 + 16);
-    v16 = l8(v11 + 8);
-    v17 = l8(v6);
-    s8(v6, l8(v11));
-    v18 = l8(v6 + 8);
-    s8(v6 + 8, v16);
-    v9 = l4(v6 + 16);
-    s4(v6 + 16, v1);
-    s8(v11, v17);
-    s8(v11 + 8, v18);
-    s4(v11 + 16, v9);
-    goto L26;
-L27:;
-    v11 = v15 + (v8 * 20ull);
-    v16 = l8(v11);
-    v1 = l4(v6 + 16);
-    v17 = l8(v6 + 8);
-    s8(v11, l8(v6));
-    v18 = l8(v11 + 8);
-    s8(v11 + 8, v17);
-    v9 = l4(v11 + 16);
-    s4(v11 + 16, v1);
-    s8(v6, v16);
-    s8(v6 + 8, v18);
-    s4(v6 + 16, v9);
-L26:;
-    v8 = v8 + 1ull;
-L25:;
-    v6 = v6 + 20ull;
-    v7 = v7 + 1ull;
-    if (v12 != v7) goto L24;
-    v6 = l8(v0 + 16672ull);
-    if (v6 <= v8) goto L23;
-    v6 = (v6 - v8) * 20ull;
-    if (v6 == 0) goto L28;
-    fill(v15 + (v8 * 20ull), 0u, v6);
+    goto L28;
+L29:;
+    v1 = l4(v9);
 L28:;
-    s8(v0 + 16672ull, v8);
-L23:;
+    v10 = 0u;
+    v7 = 0u;
+    v14 = 0u;
+    v15 = 0u;
+    if (v4 < 4ull) goto L24;
+    v7 = l4(v3);
+    if (v4 > 19ull) goto L32;
+    if (v4 < 16ull) goto L33;
+    v2 = l2(v3 + 10ull);
+    v10 = 0u;
+    goto L31;
+L33:;
+    v2 = 0u;
+    if (v4 < 12ull) goto L25;
+    v2 = l2(v3 + 10ull);
+    goto L25;
+L32:;
+    v2 = l2(v3 + 10ull);
+    v10 = l4(v3 + 16ull);
+L31:;
+    v14 = l4(v3 + 12ull);
+    v15 = v14 >> 16;
+    goto L24;
+L27:;
+    if (l1(v6 + 20) != 1u) goto L34;
+    v11 = l8(v0 + 16672ull);
+    if (v11 == 0) goto L34;
+    v1 = l4(v6 + 24);
+    v12 = 0ull;
+    v16 = v0 + 15392ull;
+    v5 = v16;
+    v9 = 0ull;
+L35:;
+    if (l4(v5) == v1) goto L36;
+    if (v12 < v9) goto L38;
+    if (v9 >= v12) goto L37;
+    v8 = v16 + (v12 * 20ull);
+    v2 = l4(v8 + 16);
+    v13 = l8(v8 + 8);
+    v17 = l8(v5);
+    s8(v5, l8(v8));
+    v18 = l8(v5 + 8);
+    s8(v5 + 8, v13);
+    v10 = l4(v5 + 16);
+    s4(v5 + 16, v2);
+    s8(v8, v17);
+    s8(v8 + 8, v18);
+    s4(v8 + 16, v10);
+    goto L37;
+L38:;
+    v8 = v16 + (v12 * 20ull);
+    v13 = l8(v8);
+    v2 = l4(v5 + 16);
+    v17 = l8(v5 + 8);
+    s8(v8, l8(v5));
+    v18 = l8(v8 + 8);
+    s8(v8 + 8, v17);
+    v10 = l4(v8 + 16);
+    s4(v8 + 16, v2);
+    s8(v5, v13);
+    s8(v5 + 8, v18);
+    s4(v5 + 16, v10);
+L37:;
+    v12 = v12 + 1ull;
+L36:;
+    v5 = v5 + 20ull;
+    v9 = v9 + 1ull;
+    if (v11 != v9) goto L35;
+    v5 = l8(v0 + 16672ull);
+    if (v5 <= v12) goto L34;
+    v5 = (v5 - v12) * 20ull;
+    if (v5 == 0) goto L39;
+    fill(v16 + (v12 * 20ull), 0u, v5);
+L39:;
+    s8(v0 + 16672ull, v12);
+L34:;
     if (l1(v3 + 8) != 4u) goto L1;
     if (v4 < 18ull) goto L1;
     if (l1(v3 + 13ull) | l1(v3 + 12ull)) goto L1;
-    s2(v0 + 17000ull, l2(v3 + 14ull));
-    v2 = l2(v3 + 16ull);
-    s2(v0 + 17004ull, v2);
-    s2(v0 + 17002ull, v2);
+    s2(v0 + 17128ull, l2(v3 + 14ull));
+    v1 = l2(v3 + 16ull);
+    s2(v0 + 17132ull, v1);
+    s2(v0 + 17130ull, v1);
     goto L1;
-L15:;
-    s8(v6, 0ull);
-    s8(v6 + 5, 0ull);
+L26:;
+    s8(v8, 0ull);
+    s8(v8 + 5, 0ull);
     s1(v0 + 15385ull, 1u);
     goto L1;
-    TRAP();
-L3:;
-    v9 = 0u;
-    v13 = 0u;
+L25:;
+    v10 = 0u;
     v14 = 0u;
-L2:;
-    v6 = v0 + 16672ull;
-    v3 = l8(v6);
-    if (v3 == 64ull) goto L1;
-    v0 = (v0 + 15392ull) + (v3 * 20ull);
-    s4(v0 + 16, v2);
-    s2(v0 + 14, v14);
-    s2(v0 + 12, v1);
-    s4(v0 + 8, v13);
-    s4(v0 + 4, v9);
-    s4(v0, v10);
-    s8(v6, v3 + 1ull);
+    v15 = 0u;
+L24:;
+    v12 = v0 + 16672ull;
+    v9 = l8(v12);
+    if (v9 == 64ull) goto L1;
+    v5 = (v0 + 15392ull) + (v9 * 20ull);
+    s4(v5 + 16, v1);
+    s2(v5 + 14, v15);
+    s2(v5 + 12, v2);
+    s4(v5 + 8, v14);
+    s4(v5 + 4, v10);
+    s4(v5, v7);
+    s8(v12, v9 + 1ull);
 L1:;
     return;
 }
 
-static u32 f137(u64 v0, u64 v1, u64 v2)
+static u32 f156(u64 v0, u64 v1, u64 v2)
 {
     u32 v4 = 0, v5 = 0, v6 = 0;
     v4 = 0xFFFFFFF6u;
@@ -11433,7 +12058,7 @@ static u32 f137(u64 v0, u64 v1, u64 v2)
     }
 L6:;
     if (v2 != 4ull) goto L2;
-    f131(v0, v6, l4(v1));
+    f150(v0, v6, l4(v1));
     return 1u;
 L5:;
     if (v2 != 4ull) goto L2;
@@ -11446,12 +12071,12 @@ L5:;
     return 1u;
 L4:;
     if (v2 != 4ull) goto L2;
-    f132(v0, v5, l4(v1));
+    f151(v0, v5, l4(v1));
     return 1u;
 L3:;
     if (v2 != ((u64)l4(v0 + 15300ull))) goto L2;
     v4 = 1u;
-    f136(v0, v5, l1(v0 + 15304ull) & 1u, v1, v2);
+    f155(v0, v5, l1(v0 + 15304ull) & 1u, v1, v2);
 L2:;
     return v4;
     TRAP();
@@ -11460,18 +12085,18 @@ L2:;
 static u32 w_mscp_port_was_read_at(u64 v0, u64 v1, u64 v2)
 {
     u32 v3 = 0, t0, t1;
-    t0 = f49();
+    t0 = f58();
     if (t0 == 0) goto L1;
-    f50();
+    f59();
     TRAP();
 L1:;
-    t1 = f137(v0, v1, v2);
+    t1 = f156(v0, v1, v2);
     v3 = t1;
-    f52();
+    f61();
     return v3;
 }
 
-static void f138(u64 v0)
+static void f157(u64 v0)
 {
     u32 v3 = 0, v5 = 0;
     u64 v2 = 0, v4 = 0, v6 = 0;
@@ -11537,21 +12162,21 @@ L8:;
     s4(v0 + 15258ull, 4u);
     return;
 L7:;
-    f98(v0, 9u, 7u);
+    f112(v0, 9u, 7u);
 L2:;
     return;
     TRAP();
 }
 
-static void f139(u64 v0, u32 v1, u32 v2)
+static void f158(u64 v0, u32 v1, u32 v2)
 {
     u64 v4 = 0;
     if (l1(v0 + 15272ull) != 1u) goto L4;
     if ((v2 & 255u) == 0) goto L3;
-    f98(v0, 9u, 7u);
+    f112(v0, 9u, 7u);
     return;
 L4:;
-    f98(v0, 9u, 7u);
+    f112(v0, 9u, 7u);
     goto L1;
 L3:;
     v4 = v0 + 15292ull;
@@ -11580,12 +12205,12 @@ L1:;
     return;
 }
 
-static void f140(u64 v0, u32 v1, u32 v2)
+static void f159(u64 v0, u32 v1, u32 v2)
 {
     u32 v5 = 0;
     u64 v4 = 0;
     if ((v2 & 255u) == 0) goto L2;
-    f98(v0, 9u, 2u);
+    f112(v0, 9u, 2u);
     return;
 L2:;
     if (l1(v0 + 15312ull) != 1u) goto L3;
@@ -11603,15 +12228,15 @@ L3:;
     TRAP();
 }
 
-static void f141(u64 v0, u32 v1, u32 v2, u32 v3)
+static void f160(u64 v0, u32 v1, u32 v2, u32 v3)
 {
     u64 v5 = 0;
     if (l1(v0 + 15272ull) != 1u) goto L3;
     if ((v3 & 255u) == 0) goto L2;
-    f98(v0, 9u, 7u);
+    f112(v0, 9u, 7u);
     return;
 L3:;
-    f98(v0, 9u, 7u);
+    f112(v0, 9u, 7u);
     return;
 L2:;
     if (v1 & 255u) goto L5;
@@ -11635,7 +12260,7 @@ L4:;
     TRAP();
 }
 
-static void f142(u64 v0, u32 v1, u32 v2)
+static void f161(u64 v0, u32 v1, u32 v2)
 {
     ROOM(frame, 144);
     u32 v5 = 0, v6 = 0, v8 = 0, v10 = 0, v11 = 0;
@@ -11649,7 +12274,7 @@ static void f142(u64 v0, u32 v1, u32 v2)
     fill(v4, 0u, 96ull);
     s8(v0 + 15297ull, 0ull);
     s8(v0 + 15292ull, 0ull);
-    f67(v4, v0 + 8ull, v6, v5, v1, v2);
+    f76(v4, v0 + 8ull, v6, v5, v1, v2);
     if (l1(v4)) goto L1;
     if ((l1(v4 + 8) & 255u) != 1u) goto L1;
     if ((l1(v4 + 40) & 255u) != 1u) goto L1;
@@ -11663,7 +12288,7 @@ static void f142(u64 v0, u32 v1, u32 v2)
     v3 = v0 + 40ull;
 L8:;
     if (l2(v3) == (v1 & 65535u)) goto L7;
-    v9 = v9 + 20ull;
+    v9 = v9 + 28ull;
     v3 = v3 + 48ull;
     v7 = v7 + 0xFFFFFFFFFFFFFFFFull;
     if ((u32)(v7 == 0) == 0) goto L8;
@@ -11700,21 +12325,21 @@ L4:;
 L3:;
     if ((v8 & 255u) != 136u) goto L11;
     s1(v9, 0u);
-    s8(v9 + 6ull, 0ull);
+    s8(v9 + 14ull, 0ull);
     goto L2;
 L11:;
     if ((u32)(((v8 + 120u) & 255u) > 2u) | (v1 ^ 1u)) goto L2;
     if ((v8 & 255u) != 137u) goto L12;
     v1 = 1u;
-    v3 = v9 + 6ull;
-    if (l1(v3) != 1u) goto L13;
-    v1 = l4(v9 + 10ull) != v11;
-L13:;
-    s4(v9 + 10ull, v11);
-    s4(v3, 1u);
-    s1(v9 + 15ull, v1);
-    v1 = 0u;
     v3 = v9 + 14ull;
+    if (l1(v3) != 1u) goto L13;
+    v1 = l4(v9 + 18ull) != v11;
+L13:;
+    s4(v9 + 18ull, v11);
+    s4(v3, 1u);
+    s1(v9 + 23ull, v1);
+    v1 = 0u;
+    v3 = v9 + 22ull;
     if (l1(v3) != 1u) goto L14;
     v1 = v11 != l4(v9 + 2ull);
 L14:;
@@ -11777,7 +12402,7 @@ L1:;
     return;
 }
 
-static u32 f143(u64 v0, u32 v1, u32 v2)
+static u32 f162(u64 v0, u32 v1, u32 v2)
 {
     ROOM(frame, 64);
     u32 v4 = 0, v5 = 0, v6 = 0, v7 = 0, v12 = 0, v13 = 0, v14 = 0, v15 = 0;
@@ -11850,19 +12475,19 @@ L10:;
     }
 L23:;
     v4 = 1u;
-    f98(v0, 9u, 1u);
+    f112(v0, 9u, 1u);
     goto L1;
 L22:;
-    f138(v0);
+    f157(v0);
     goto L13;
 L21:;
-    f139(v0, v4, v5);
+    f158(v0, v4, v5);
     goto L13;
 L20:;
-    f140(v0, v4, v5);
+    f159(v0, v4, v5);
     goto L13;
 L19:;
-    f141(v0, l1(v9), v4, v5);
+    f160(v0, l1(v9), v4, v5);
     goto L13;
 L18:;
     s8(v9, 0ull);
@@ -11874,7 +12499,7 @@ L17:;
     s8(v8, 0ull);
     goto L13;
 L16:;
-    f142(v0, l1(v0 + 15294ull), v4);
+    f161(v0, l1(v0 + 15294ull), v4);
     goto L13;
 L15:;
     v4 = 1u;
@@ -11906,11 +12531,12 @@ L15:;
     s4(v3 + 28, v4);
     v12 = l4(v10 + 24ull);
     s4(v3 + 44, v6);
-    s4(v3 + 52, v12 + v6);
+    v6 = v12 + v6;
+    s4(v3 + 52, v6);
     v16 = (u64)v12;
     s8(v3 + 56, (((u64)l4(v10 + 20ull)) << 32) | v16);
     if (v1 == 14u) goto L24;
-    f96(v3 + 16ull, v0, v3 + 24ull, v2);
+    f107(v3 + 16ull, v0, v3 + 24ull, v2, v6);
     if (l1(v3 + 16) == 1u) goto L11;
 L24:;
     if (v15 & 255u) goto L11;
@@ -11979,39 +12605,39 @@ L33:;
     default: goto L27;
     }
 L32:;
-    f142(v0, 1u, 105u);
+    f161(v0, 1u, 105u);
     goto L13;
 L31:;
-    f142(v0, 1u, 137u);
+    f161(v0, 1u, 137u);
     goto L13;
 L30:;
-    f142(v0, 1u, 169u);
+    f161(v0, 1u, 169u);
     goto L13;
 L29:;
-    f142(v0, 1u, 7u);
+    f161(v0, 1u, 7u);
     goto L13;
 L28:;
     v5 = 1u;
     v4 = v7;
 L27:;
-    f142(v0, v5, v4);
+    f161(v0, v5, v4);
     goto L13;
 L14:;
-    f98(v0, 9u, 6u);
+    f112(v0, 9u, 6u);
 L13:;
     v4 = 1u;
     goto L1;
 L12:;
-    f142(v0, 1u, 11u);
+    f161(v0, 1u, 11u);
     goto L1;
 L11:;
-    f96(v3 + 8ull, v0, v3 + 24ull, v2);
+    f107(v3 + 8ull, v0, v3 + 24ull, v2, v6);
     v4 = 1u;
     v1 = (l1(v3 + 8) == 1u) ? l2(v3 + 10) : 11u;
     if ((v1 & 31u) > 4u) goto L2;
     TRAP();
 L2:;
-    f142(v0, 1u, v1);
+    f161(v0, 1u, v1);
 L1:;
     return v4;
 }
@@ -12019,23 +12645,172 @@ L1:;
 static u32 w_mscp_port_went(u64 v0, u32 v1, u32 v2)
 {
     u32 t0, t1;
-    t0 = f49();
+    t0 = f58();
     if (t0 == 0) goto L1;
-    f50();
+    f59();
     TRAP();
 L1:;
-    t1 = f143(v0, v1, v2);
+    t1 = f162(v0, v1, v2);
     v2 = t1;
-    f52();
+    f61();
     return v2;
 }
 
-static u32 f144(u64 v0)
+APART void f163(u64 v0, u64 v1, u32 v2, u32 v3)
+{
+    ROOM(frame, 784);
+    u32 v13 = 0, v14 = 0, v15 = 0;
+    u64 v4 = 0, v5 = 0, v6 = 0, v7 = 0, v8 = 0, v9 = 0, v10 = 0, v11 = 0, v12 = 0;
+    v4 = A(frame);
+    v5 = v4;
+    v6 = l8(v1 + 6744ull);
+    if (v6 == 0) goto L4;
+    v4 = v1 + 5720ull;
+    v7 = 0ull;
+L5:;
+    if (l1(v4 + 6ull) != (v2 & 255u)) goto L6;
+    if (l4(v4) == v3) goto L3;
+L6:;
+    v4 = v4 + 16ull;
+    v7 = v7 + 1ull;
+    if (v6 != v7) goto L5;
+L4:;
+    fill(v5 + 8ull, 0u, 776ull);
+    goto L2;
+L3:;
+    v8 = (u64)l4(v1 + 4624ull);
+    fill(v5 + 8ull, 0u, 776ull);
+    if (v7 == 0) goto L2;
+    v9 = v1 + 816ull;
+    v10 = v1 + 3888ull;
+    v11 = v9 + (((u64)l1(v10 + v7)) << 5);
+    v12 = (u64)l4(v11 + 20ull);
+    v13 = l2(v11 + 4ull);
+    v1 = 0ull;
+    v6 = 0ull;
+L7:;
+    v4 = v9 + (((u64)l1(v10 + v6)) << 5);
+    v3 = l4(v4);
+    v14 = l1(v4 + 6ull);
+    v2 = 0u;
+    if ((v13 & 65535u) != l2(v4 + 4ull)) goto L10;
+    if (((l1(v4 + 8ull) + 0xFFFFFFFCu) & 255u) > 2u) goto L11;
+    v15 = (((u64)l4(v4 + 28ull)) + v12) > v8;
+    v2 = 1u;
+    goto L9;
+L11:;
+    v2 = ((l1(v11 + 8ull) + 0xFFFFFFFCu) & 255u) < 3u;
+L10:;
+    v4 = ((u64)l4(v4 + 28ull)) + v12;
+    v15 = v4 > v8;
+    if (v2) goto L9;
+    if (v4 <= v8) goto L8;
+L9:;
+    v4 = (v5 + 8ull) + (v1 * 12ull);
+    s2(v4 + 1, 0u);
+    s1(v4, v14);
+    s1(v4 + 3, 0u);
+    s2(v4 + 10, 0u);
+    s1(v4 + 9, v15);
+    s1(v4 + 8, v2);
+    s4(v4 + 4, v3);
+    v1 = v1 + 1ull;
+    s8(v5 + 776, v1);
+L8:;
+    v6 = v6 + 1ull;
+    if (v7 != v6) goto L7;
+L2:;
+    copy(v0, v5 + 8ull, 776ull);
+    return;
+    TRAP();
+}
+
+APART u32 f164(u64 v0, u32 v1, u32 v2, u64 v3, u64 v4)
+{
+    ROOM(frame, 1552);
+    u32 v7 = 0, v8 = 0;
+    u64 v5 = 0, v6 = 0, v9 = 0, v10 = 0, v11 = 0;
+    v5 = A(frame);
+    v6 = v5;
+    v7 = 0u;
+    fill(v6, 0u, 776ull);
+    if (l8(v0 + 24ull) == 0x504F52544D414445ull) goto L3;
+    v8 = 0xFFFFFFF6u;
+    goto L2;
+L3:;
+    v8 = 0xFFFFFFE0u;
+    switch (v1) {
+    case 0: goto L4;
+    case 1: goto L5;
+    default: goto L2;
+    }
+L5:;
+    v7 = 1u;
+L4:;
+    f163(v6, l8(v0) + 8ull, v7, v2);
+    copy(v6 + 776ull, v6, 776ull);
+    v9 = l8(v6 + 1544);
+    v0 = (v4 < v9) ? v4 : v9;
+    if (v0 == 0) goto L6;
+    v10 = v3 + ((v3 == 0) ? 4096ull : 0ull);
+    v4 = 0ull;
+    if (v0 == 1ull) goto L7;
+    v11 = v0 & 1ull;
+    v3 = v0 & 0xFFFFFFFFFFFFFFFEull;
+    v4 = 0ull;
+    v5 = v6 + 776ull;
+    v0 = v10;
+L8:;
+    s1(v0 + 7ull, 0u);
+    s1(v0 + 4ull, l1(v5));
+    s1(v0 + 15ull, 0u);
+    s1(v0 + 6ull, l1(v5 + 9ull));
+    s1(v0 + 5ull, l1(v5 + 8ull));
+    s4(v0, l4(v5 + 4ull));
+    s1(v0 + 14ull, l1(v5 + 21ull));
+    s1(v0 + 13ull, l1(v5 + 20ull));
+    s1(v0 + 12ull, l1(v5 + 12ull));
+    s4(v0 + 8ull, l4(v5 + 16ull));
+    v0 = v0 + 16ull;
+    v5 = v5 + 24ull;
+    v4 = v4 + 2ull;
+    if (v3 != v4) goto L8;
+    if (v11 == 0) goto L6;
+L7:;
+    v0 = v10 + (v4 << 3);
+    s1(v0 + 7, 0u);
+    v5 = (v6 + 776ull) + (v4 * 12ull);
+    s1(v0 + 4, l1(v5));
+    s1(v0 + 6, l1(v5 + 9ull));
+    s1(v0 + 5, l1(v5 + 8ull));
+    s4(v0, l4(v5 + 4ull));
+L6:;
+    v8 = (u32)v9;
+L2:;
+    return v8;
+    TRAP();
+}
+
+static u32 w_mscp_port_why_at(u64 v0, u32 v1, u32 v2, u64 v3, u64 v4)
+{
+    u32 t0, t1;
+    t0 = f58();
+    if (t0 == 0) goto L1;
+    f59();
+    TRAP();
+L1:;
+    t1 = f164(v0, v1, v2, v3, v4);
+    v2 = t1;
+    f61();
+    return v2;
+}
+
+static u32 f165(u64 v0)
 {
     u32 v2 = 0;
     v2 = 0xFFFFFFF6u;
     if (l8(v0 + 24ull) != 0x504F52544D414445ull) goto L2;
-    f98(l8(v0), 0u, 0u);
+    f112(l8(v0), 0u, 0u);
     v2 = 1u;
 L2:;
     return v2;
@@ -12045,18 +12820,18 @@ L2:;
 static u32 w_mscp_port_write_ip(u64 v0)
 {
     u32 v1 = 0, t0, t1;
-    t0 = f49();
+    t0 = f58();
     if (t0 == 0) goto L1;
-    f50();
+    f59();
     TRAP();
 L1:;
-    t1 = f144(v0);
+    t1 = f165(v0);
     v1 = t1;
-    f52();
+    f61();
     return v1;
 }
 
-static u32 f145(u64 v0, u32 v1)
+static u32 f166(u64 v0, u32 v1)
 {
     u32 v3 = 0;
     u64 v4 = 0;
@@ -12082,7 +12857,7 @@ L6:;
     s4(v0 + 15258ull, 5u);
     return 1u;
 L8:;
-    f98(v0, 9u, 21u);
+    f112(v0, 9u, 21u);
     return 1u;
 L5:;
     v3 = 1u;
@@ -12103,18 +12878,18 @@ L1:;
 static u32 w_mscp_port_write_sa(u64 v0, u32 v1)
 {
     u32 t0, t1;
-    t0 = f49();
+    t0 = f58();
     if (t0 == 0) goto L1;
-    f50();
+    f59();
     TRAP();
 L1:;
-    t1 = f145(v0, v1);
+    t1 = f166(v0, v1);
     v1 = t1;
-    f52();
+    f61();
     return v1;
 }
 
-static u32 f146(u64 v0)
+static u32 f167(u64 v0)
 {
     u32 v1 = 0;
     u64 v2 = 0, v3 = 0, v4 = 0, v5 = 0;
@@ -12226,18 +13001,18 @@ L2:;
 static u32 w_mscp_reset(u64 v0)
 {
     u32 v1 = 0, t0, t1;
-    t0 = f49();
+    t0 = f58();
     if (t0 == 0) goto L1;
-    f50();
+    f59();
     TRAP();
 L1:;
-    t1 = f146(v0);
+    t1 = f167(v0);
     v1 = t1;
-    f52();
+    f61();
     return v1;
 }
 
-APART void f147(u64 v0, u64 v1, u32 v2)
+APART void f168(u64 v0, u64 v1, u32 v2)
 {
     ROOM(frame, 26032);
     u32 v5 = 0, v6 = 0, v7 = 0, v8 = 0;
@@ -12253,7 +13028,7 @@ APART void f147(u64 v0, u64 v1, u32 v2)
     fill(v4 + 7521ull, 0u, 1807ull);
     fill(v4 + 5976ull, 0u, 1544ull);
     fill(v4 + 5192ull, 0u, 784ull);
-    f85(v4 + 5192ull, v4 + 10392ull, l8(v4 + 11160));
+    f94(v4 + 5192ull, v4 + 10392ull, l8(v4 + 11160));
     if (l1(v4 + 5192)) goto L1;
     v5 = l4(v4 + 10372);
     v6 = l4(v4 + 10368);
@@ -12264,7 +13039,7 @@ APART void f147(u64 v0, u64 v1, u32 v2)
     fill(v4 + 11168ull, 0u, 1544ull);
     v3 = l8(v4 + 14512);
     fill(v4 + 16328ull, 0u, 1032ull);
-    f87(v4 + 16328ull);
+    f96(v4 + 16328ull);
     if (v3 == 0) goto L2;
     v9 = l8(v4 + 17352);
     if (v3 != 1ull) goto L4;
@@ -12409,7 +13184,7 @@ L1:;
     TRAP();
 }
 
-APART u32 f148(u64 v0, u64 v1, u64 v2)
+APART u32 f169(u64 v0, u64 v1, u64 v2)
 {
     ROOM(frame, 816);
     u32 v5 = 0, v6 = 0;
@@ -12442,15 +13217,15 @@ L7:;
 L9:;
     v6 = 0u;
 L8:;
-    f111(v3, v4, v2, v6);
+    f125(v3, v4, v2, v6);
     v5 = 1u;
     if (l1(v3) != 1u) goto L10;
     v5 = 0xFFFFFFD8u - (l1(v3 + 1) & 255u);
     goto L1;
 L10:;
-    f117(v3 + 8ull, v4);
-    f147(v0, v3 + 8ull, v6);
-    f121(l8(v0), v4, v2);
+    f133(v3 + 8ull, v4);
+    f168(v0, v3 + 8ull, v6);
+    f137(l8(v0), v4, v2);
     goto L1;
     TRAP();
 L2:;
@@ -12462,18 +13237,18 @@ L1:;
 static u32 w_mscp_restore_at(u64 v0, u64 v1, u64 v2)
 {
     u32 v3 = 0, t0, t1;
-    t0 = f49();
+    t0 = f58();
     if (t0 == 0) goto L1;
-    f50();
+    f59();
     TRAP();
 L1:;
-    t1 = f148(v0, v1, v2);
+    t1 = f169(v0, v1, v2);
     v3 = t1;
-    f52();
+    f61();
     return v3;
 }
 
-static void f149(u64 v0, u64 v1)
+static void f170(u64 v0, u64 v1)
 {
     u32 v13 = 0, v14 = 0, v15 = 0, v16 = 0, v17 = 0, v18 = 0, v19 = 0, v20 = 0, v21 = 0, v22 = 0, v23 = 0, v24 = 0, v25
         = 0, v26 = 0, v27 = 0, v28 = 0, v29 = 0, v30 = 0, v31 = 0, v32 = 0, v33 = 0, v34 = 0, v35 = 0, v36 = 0, v37 =
@@ -13184,7 +13959,7 @@ L33:;
     TRAP();
 }
 
-static void f150(u64 v0, u64 v1)
+static void f171(u64 v0, u64 v1)
 {
     ROOM(frame, 32);
     u32 v4 = 0, v5 = 0;
@@ -13194,7 +13969,7 @@ static void f150(u64 v0, u64 v1)
     s8(v3 + 24, 0ull);
     s8(v3 + 16, 0ull);
     s8(v3 + 8, 0ull);
-    f149(v3 + 8ull, v1);
+    f170(v3 + 8ull, v1);
     if (l1(v3 + 8) != 1u) goto L5;
 L6:;
     v4 = l4(v1 + 16ull);
@@ -13244,7 +14019,7 @@ L16:;
     v2 = v2 + 1ull;
     if (v6 != v2) goto L16;
 L9:;
-    f149(v3 + 8ull, v1);
+    f170(v3 + 8ull, v1);
     if (l1(v3 + 8) == 1u) goto L6;
 L5:;
     v5 = l4(v1 + 16ull);
@@ -13274,7 +14049,7 @@ L1:;
     return;
 }
 
-static void f151(u64 v0, u64 v1, u64 v2, u32 v3)
+static void f172(u64 v0, u64 v1, u64 v2, u32 v3)
 {
     ROOM(frame, 32);
     u32 v8 = 0, t0;
@@ -13285,7 +14060,7 @@ static void f151(u64 v0, u64 v1, u64 v2, u32 v3)
     s8(v5 + 16, 0ull);
     s8(v5 + 8, 0ull);
     s8(v5, 0ull);
-    f150(v5, v1);
+    f171(v5, v1);
     v6 = l8(v5 + 4);
     if (l1(v5)) goto L3;
     v7 = 17179869184ull;
@@ -13321,7 +14096,7 @@ L9:;
     if ((l1(v4 + 1ull) & 255u) != (l1(v2 + 1ull) & 255u)) goto L5;
     if ((l1(v4 + 2ull) & 255u) != (l1(v2 + 2ull) & 255u)) goto L5;
     if ((l1(v4 + 3ull) & 255u) != (l1(v2 + 3ull) & 255u)) goto L5;
-    t0 = f78(v4, 7ull, v2);
+    t0 = f87(v4, 7ull, v2);
     if (t0 == 0) goto L5;
     v7 = 21474836480ull;
     v9 = v1 - v10;
@@ -13385,7 +14160,7 @@ L1:;
     return;
 }
 
-static void f152(u64 v0, u64 v1, u64 v2)
+static void f173(u64 v0, u64 v1, u64 v2)
 {
     u64 v3 = 0, v4 = 0, v5 = 0, v6 = 0, v7 = 0, v8 = 0, v9 = 0, v10 = 0, v11 = 0, v12 = 0, v13 = 0;
     if (v2 == 0) goto L2;
@@ -13535,7 +14310,7 @@ L2:;
     TRAP();
 }
 
-static void f153(u64 v0, u64 v1, u64 v2)
+static void f174(u64 v0, u64 v1, u64 v2)
 {
     u32 v4 = 0;
     u64 v3 = 0;
@@ -13558,7 +14333,7 @@ L2:;
     TRAP();
 }
 
-static void f154(u64 v0, u64 v1, u64 v2)
+static void f175(u64 v0, u64 v1, u64 v2)
 {
     u32 v3 = 0, v4 = 0, v5 = 0, v7 = 0;
     u64 v6 = 0;
@@ -13586,7 +14361,7 @@ L2:;
     TRAP();
 }
 
-static void f155(u64 v0, u32 v1, u32 v2, u32 v3, u32 v4, u32 v5)
+static void f176(u64 v0, u32 v1, u32 v2, u32 v3, u32 v4, u32 v5)
 {
     ROOM(frame, 16);
     u32 v7 = 0, v9 = 0, v10 = 0, v11 = 0, v12 = 0, v13 = 0, v14 = 0, v15 = 0, v17 = 0;
@@ -13609,7 +14384,7 @@ static void f155(u64 v0, u32 v1, u32 v2, u32 v3, u32 v4, u32 v5)
     if (v5 == 0) goto L1;
     v16 = div64(0xFFFFFFFFFFFFFFFFull, ((((u64)v3) & 65535ull) * (((u64)v2) & 65535ull)) * (((u64)v4) & 65535ull));
     v8 = v16 + 1ull;
-    f62(v6, v8, (u64)(u32)(v8 == 0), (u64)(v5 + 0xFFFFFFFFu), 0ull);
+    f71(v6, v8, (u64)(u32)(v8 == 0), (u64)(v5 + 0xFFFFFFFFu), 0ull);
     v15 = (v1 & 65535u) + 1u;
     v8 = (((u64)v1) & 65535ull) + 1ull;
     v9 = 0u;
@@ -13649,7 +14424,7 @@ L1:;
     return;
 }
 
-static void f156(u64 v0, u64 v1, u64 v2, u64 v3)
+static void f177(u64 v0, u64 v1, u64 v2, u64 v3)
 {
     ROOM(frame, 192);
     u32 v6 = 0, v9 = 0, v17 = 0, v18 = 0;
@@ -13697,7 +14472,7 @@ L11:;
 L10:;
     v4 = v8 + 0xFFFFFFFFFFFFFFFFull;
 L9:;
-    f152(v5 + 120ull, v2 + v4, v3 - v4);
+    f173(v5 + 120ull, v2 + v4, v3 - v4);
     if (l1(v5 + 120) == 0) goto L13;
     v6 = l1(v5 + 121);
     v9 = 1u;
@@ -13744,17 +14519,17 @@ L16:;
     v14 = v14 + 0xFFFFFFFFFFFFFFFFull;
     if (v14 != 0ull) goto L16;
     if (v2 > 65535ull) goto L5;
-    f153(v5 + 60ull, v13, v12);
+    f174(v5 + 60ull, v13, v12);
     if (l1(v5 + 60)) goto L2;
     v6 = l2(v5 + 62);
-    f154(v5 + 48ull, v11, v10);
+    f175(v5 + 48ull, v11, v10);
     if (l1(v5 + 48) == 0) goto L4;
     v6 = l1(v5 + 49);
 L5:;
     v9 = 1u;
     goto L1;
 L4:;
-    f155(v5 + 64ull, v17, v18, (u32)v2, v6, l4(v5 + 52));
+    f176(v5 + 64ull, v17, v18, (u32)v2, v6, l4(v5 + 52));
     s8(v5, l8(v5 + 74));
     s8(v5 + 8, l8(v5 + 82));
     s8(v5 + 16, l8(v5 + 90));
@@ -13802,7 +14577,7 @@ L1:;
     return;
 }
 
-static void f157(u64 v0, u64 v1, u64 v2)
+static void f178(u64 v0, u64 v1, u64 v2)
 {
     ROOM(frame, 144);
     u32 v4 = 0, v5 = 0, v8 = 0, v12 = 0;
@@ -13919,7 +14694,7 @@ L1:;
     TRAP();
 }
 
-static void f158(u64 v0, u32 v1, u64 v2, u64 v3, u64 v4)
+static void f179(u64 v0, u32 v1, u64 v2, u64 v3, u64 v4)
 {
     ROOM(frame, 96);
     u32 v7 = 0, v8 = 0, v10 = 0, v11 = 0, v18 = 0, v19 = 0, v20 = 0, v21 = 0, v22 = 0;
@@ -13944,7 +14719,7 @@ L29:;
     fill(v6 + 16ull, 0u, 72ull);
     v9 = 0ull;
     s8(v6 + 8, 0ull);
-    f152(v6 + 16ull, v3, v4);
+    f173(v6 + 16ull, v3, v4);
     if (l1(v6 + 16)) goto L18;
     v8 = 0u;
     v10 = 6u;
@@ -13998,7 +14773,7 @@ L33:;
     if (v14 != 0ull) goto L33;
     v8 = 0u;
     if (v4 > 4294967295ull) goto L31;
-    f154(v6 + 8ull, v13, v12);
+    f175(v6 + 8ull, v13, v12);
     if (l1(v6 + 8)) goto L34;
     v5 = (((u64)l4(v6 + 12)) << 32) | v4;
     v20 = 7u;
@@ -14395,7 +15170,7 @@ L106:;
     v10 = 7u;
     goto L9;
 L108:;
-    f157(v6 + 16ull, v3, v5);
+    f178(v6 + 16ull, v3, v5);
     if (l1(v6 + 16) == 0) goto L109;
     v10 = 7u;
     goto L9;
@@ -14668,7 +15443,7 @@ L1:;
     return;
 }
 
-static void f159(u64 v0, u64 v1, u64 v2)
+static void f180(u64 v0, u64 v1, u64 v2)
 {
     ROOM(frame, 96);
     u32 v5 = 0, v8 = 0, v9 = 0, v10 = 0, v11 = 0, v13 = 0, v15 = 0, v16 = 0, t0, t1, t2, t3, t4, t5, t6, t7, t8, t9,
@@ -14730,7 +15505,7 @@ L37:;
     if ((l1(v3) & 255u) != 101u) goto L33;
     if ((l1(v7) & 255u) != 97u) goto L33;
     if ((l1(v12) & 255u) != 100u) goto L33;
-    t0 = f78(v1, 4ull, A(data + 38));
+    t0 = f87(v1, 4ull, A(data + 38));
     if (t0 == 0) goto L33;
     v8 = 3u;
     v13 = 0u;
@@ -14743,7 +15518,7 @@ L36:;
     if ((l1(v7) & 255u) != 111u) goto L26;
     if ((l1(v12) & 255u) != 109u) goto L26;
     if ((l1(v14) & 255u) != 112u) goto L26;
-    t1 = f78(v1, 7ull, A(data + 58));
+    t1 = f87(v1, 7ull, A(data + 58));
     if (t1 == 0) goto L26;
     v8 = 2u;
     v13 = 0u;
@@ -14756,7 +15531,7 @@ L35:;
     if ((l1(v7) & 255u) != 99u) goto L31;
     if ((l1(v12) & 255u) != 99u) goto L31;
     if ((l1(v14) & 255u) != 101u) goto L31;
-    t2 = f78(v1, 6ull, A(data + 47));
+    t2 = f87(v1, 6ull, A(data + 47));
     if (t2 == 0) goto L31;
     v13 = 0u;
     v8 = 0u;
@@ -14769,7 +15544,7 @@ L34:;
     if ((v8 & 255u) != 105u) goto L38;
     if ((v11 & 255u) != 116u) goto L38;
     if ((v13 & 255u) != 114u) goto L38;
-    t3 = f78(v1, 5ull, A(data + 42));
+    t3 = f87(v1, 5ull, A(data + 42));
     if (t3 == 0) goto L30;
     v8 = 4u;
     v13 = 0u;
@@ -14779,7 +15554,7 @@ L38:;
     if ((v8 & 255u) != 97u) goto L30;
     if ((v11 & 255u) != 115u) goto L30;
     if ((v13 & 255u) != 114u) goto L30;
-    t4 = f78(v1, 5ull, A(data + 53));
+    t4 = f87(v1, 5ull, A(data + 53));
     if (t4 == 0) goto L30;
     v8 = 1u;
     v13 = 0u;
@@ -14792,7 +15567,7 @@ L33:;
     if ((v11 & 255u) != 116u) goto L39;
     if ((v13 & 255u) != 101u) goto L39;
     if ((v15 & 255u) != 112u) goto L39;
-    t5 = f78(v1, 4ull, A(data + 65));
+    t5 = f87(v1, 4ull, A(data + 65));
     if (t5 == 0) goto L39;
     v8 = 0u;
     v13 = 6u;
@@ -14802,7 +15577,7 @@ L39:;
     if ((v11 & 255u) != 97u) goto L40;
     if ((v13 & 255u) != 107u) goto L40;
     if ((v15 & 255u) != 101u) goto L40;
-    t6 = f78(v1, 4ull, A(data + 69));
+    t6 = f87(v1, 4ull, A(data + 69));
     if (t6 == 0) goto L40;
     v8 = 0u;
     v13 = 8u;
@@ -14826,7 +15601,7 @@ L43:;
     goto L2;
 L44:;
     v8 = 0u;
-    t7 = f78(v1, 4ull, A(data + 73));
+    t7 = f87(v1, 4ull, A(data + 73));
     if (t7) goto L17;
     v11 = 0u;
     goto L2;
@@ -14842,7 +15617,7 @@ L31:;
     if ((l1(v7) & 255u) != 116u) goto L29;
     if ((l1(v12) & 255u) != 97u) goto L29;
     if ((l1(v14) & 255u) != 116u) goto L29;
-    t8 = f78(v1, v3, A(data + 77));
+    t8 = f87(v1, v3, A(data + 77));
     if (t8 == 0) goto L29;
     v8 = 0u;
     v13 = 4u;
@@ -14852,7 +15627,7 @@ L30:;
     if ((l1(v1 + 1ull) & 255u) != 98u) goto L28;
     if ((l1(v1 + 2ull) & 255u) != 111u) goto L28;
     if ((l1(v1 + 3ull) & 255u) != 114u) goto L28;
-    t9 = f78(v1, v3, A(data + 83));
+    t9 = f87(v1, v3, A(data + 83));
     if (t9 == 0) goto L28;
     v8 = 0u;
     v13 = 3u;
@@ -14870,7 +15645,7 @@ L47:;
     if ((l1(v1 + 1ull) & 255u) != 97u) goto L45;
     if ((l1(v1 + 2ull) & 255u) != 99u) goto L45;
     if ((l1(v1 + 3ull) & 255u) != 107u) goto L45;
-    t10 = f78(v1, v3, A(data + 88));
+    t10 = f87(v1, v3, A(data + 88));
     if (t10 == 0) goto L45;
     goto L5;
 L46:;
@@ -14918,7 +15693,7 @@ L26:;
     if ((l1(v7) & 255u) != 101u) goto L11;
     if ((l1(v12) & 255u) != 116u) goto L11;
     if ((l1(v14) & 255u) != 117u) goto L11;
-    t11 = f78(v1, v3, A(data + 122));
+    t11 = f87(v1, v3, A(data + 122));
     if (t11 == 0) goto L11;
     v15 = 6u;
     goto L6;
@@ -14945,7 +15720,7 @@ L15:;
     if ((v11 & 255u) != 101u) goto L53;
     if ((v13 & 255u) != 116u) goto L53;
     if ((v15 & 255u) != 99u) goto L53;
-    t12 = f78(v1, v3, A(data + 94));
+    t12 = f87(v1, v3, A(data + 94));
     if (t12 == 0) goto L54;
     v8 = 0u;
     v13 = 2u;
@@ -14963,7 +15738,7 @@ L14:;
     if ((v11 & 255u) != 110u) goto L13;
     if ((v13 & 255u) != 108u) goto L13;
     if ((v15 & 255u) != 105u) goto L13;
-    t13 = f78(v1, v3, A(data + 107));
+    t13 = f87(v1, v3, A(data + 107));
     if (t13) goto L7;
 L13:;
     v8 = 0u;
@@ -14984,7 +15759,7 @@ L12:;
     if ((l1(v1 + 1ull) & 255u) != 118u) goto L11;
     if ((l1(v1 + 2ull) & 255u) != 97u) goto L11;
     if ((l1(v1 + 3ull) & 255u) != 105u) goto L11;
-    t14 = f78(v1, v3, A(data + 113));
+    t14 = f87(v1, v3, A(data + 113));
     v13 = t14;
     v15 = v13 ? 4u : 0u;
     goto L9;
@@ -15019,7 +15794,7 @@ L59:;
     v11 = 0u;
     goto L2;
 L60:;
-    t15 = f78(v1, 10ull, A(data + 129));
+    t15 = f87(v1, 10ull, A(data + 129));
     v13 = t15;
     v15 = v13 ? 2u : 0u;
 L9:;
@@ -15046,7 +15821,7 @@ L63:;
     goto L2;
 L64:;
     v11 = 0u;
-    t16 = f78(v1, 6ull, A(data + 139));
+    t16 = f87(v1, 6ull, A(data + 139));
     if (t16 == 0) goto L2;
     s8(v4 + 80, 0ull);
     s8(v4 + 88, 0ull);
@@ -15099,7 +15874,7 @@ L92:;
     if ((v11 & 255u) != 101u) goto L88;
     if ((v13 & 255u) != 97u) goto L88;
     if ((v15 & 255u) != 100u) goto L88;
-    t17 = f78(v2, 4ull, A(data + 38));
+    t17 = f87(v2, 4ull, A(data + 38));
     if (t17 == 0) goto L88;
     v5 = 3u;
     goto L67;
@@ -15111,7 +15886,7 @@ L91:;
     if ((v11 & 255u) != 111u) goto L81;
     if ((v13 & 255u) != 109u) goto L81;
     if ((v15 & 255u) != 112u) goto L81;
-    t18 = f78(v2, 7ull, A(data + 58));
+    t18 = f87(v2, 7ull, A(data + 58));
     if (t18 == 0) goto L81;
     v5 = 2u;
     goto L67;
@@ -15123,7 +15898,7 @@ L90:;
     if ((v11 & 255u) != 99u) goto L87;
     if ((v13 & 255u) != 101u) goto L87;
     if ((v15 & 255u) != 99u) goto L87;
-    t19 = f78(v2, 6ull, A(data + 47));
+    t19 = f87(v2, 6ull, A(data + 47));
     if (t19 == 0) goto L87;
     v5 = 0u;
     goto L67;
@@ -15136,7 +15911,7 @@ L89:;
     if (v5 != 119u) goto L93;
     if ((v11 & 255u) != 105u) goto L93;
     if ((v13 & 255u) != 116u) goto L93;
-    t20 = f78(v2, 5ull, A(data + 42));
+    t20 = f87(v2, 5ull, A(data + 42));
     if (t20 == 0) goto L86;
     v5 = 4u;
     goto L67;
@@ -15145,7 +15920,7 @@ L93:;
     if (v5 != 101u) goto L86;
     if ((v11 & 255u) != 97u) goto L86;
     if ((v13 & 255u) != 115u) goto L86;
-    t21 = f78(v2, 5ull, A(data + 53));
+    t21 = f87(v2, 5ull, A(data + 53));
     if (t21 == 0) goto L86;
     v5 = 1u;
     goto L67;
@@ -15154,7 +15929,7 @@ L88:;
     if ((v11 & 255u) != 116u) goto L94;
     if ((v13 & 255u) != 101u) goto L94;
     if ((v15 & 255u) != 112u) goto L94;
-    t22 = f78(v2, 4ull, A(data + 65));
+    t22 = f87(v2, 4ull, A(data + 65));
     if (t22 == 0) goto L94;
     v11 = 0u;
     goto L65;
@@ -15163,7 +15938,7 @@ L94:;
     if ((v11 & 255u) != 97u) goto L95;
     if ((v13 & 255u) != 107u) goto L95;
     if ((v15 & 255u) != 101u) goto L95;
-    t23 = f78(v2, 4ull, A(data + 69));
+    t23 = f87(v2, 4ull, A(data + 69));
     if (t23 == 0) goto L95;
     v8 = 0u;
     v9 = 8u;
@@ -15185,7 +15960,7 @@ L98:;
     v11 = 0u;
     goto L65;
 L99:;
-    f78(v2, 4ull, A(data + 73));
+    f87(v2, 4ull, A(data + 73));
     v11 = 0u;
     goto L65;
 L87:;
@@ -15193,7 +15968,7 @@ L87:;
     if ((v11 & 255u) != 116u) goto L85;
     if ((v15 & 255u) != 97u) goto L85;
     if ((v13 & 255u) != 116u) goto L85;
-    t25 = f78(v2, 6ull, A(data + 77));
+    t25 = f87(v2, 6ull, A(data + 77));
     if (t25 == 0) goto L83;
     v8 = 0u;
     v9 = 4u;
@@ -15216,7 +15991,7 @@ L102:;
     goto L65;
 L103:;
     v8 = 0u;
-    t26 = f78(v2, 5ull, A(data + 83));
+    t26 = f87(v2, 5ull, A(data + 83));
     if (t26) goto L71;
     v11 = 0u;
     goto L65;
@@ -15225,7 +16000,7 @@ L85:;
     if ((v11 & 255u) != 97u) goto L83;
     if ((v13 & 255u) != 107u) goto L83;
     if ((v15 & 255u) != 99u) goto L83;
-    t27 = f78(v2, 6ull, A(data + 88));
+    t27 = f87(v2, 6ull, A(data + 88));
     if (t27 == 0) goto L83;
     v8 = 0u;
     v9 = 5u;
@@ -15248,7 +16023,7 @@ L106:;
     goto L65;
 L107:;
     v8 = 0u;
-    t28 = f78(v2, v1, A(data + 94));
+    t28 = f87(v2, v1, A(data + 94));
     if (t28) goto L108;
     v11 = 0u;
     goto L65;
@@ -15273,7 +16048,7 @@ L111:;
     goto L65;
 L112:;
     v9 = 1u;
-    t29 = f78(v2, 6ull, A(data + 107));
+    t29 = f87(v2, 6ull, A(data + 107));
     if (t29) goto L113;
     v11 = 0u;
     goto L65;
@@ -15314,7 +16089,7 @@ L119:;
     goto L65;
 L120:;
     v9 = 1u;
-    t30 = f78(v2, 7ull, A(data + 122));
+    t30 = f87(v2, 7ull, A(data + 122));
     if (t30) goto L121;
     v11 = 0u;
     goto L65;
@@ -15340,7 +16115,7 @@ L124:;
 L125:;
     v5 = 2u;
     v11 = 0u;
-    t31 = f78(v2, 10ull, A(data + 129));
+    t31 = f87(v2, 10ull, A(data + 129));
     if (t31) goto L68;
     goto L65;
 L74:;
@@ -15369,7 +16144,7 @@ L69:;
     v5 = 4u;
     v11 = 0u;
     v10 = 4u;
-    t32 = f78(v2, v1, A(data + 113));
+    t32 = f87(v2, v1, A(data + 113));
     if (t32 == 0) goto L65;
 L68:;
     s8(v4 + 85, 0ull);
@@ -15383,7 +16158,7 @@ L67:;
     s1(v4 + 80, 0u);
     s4(v4 + 92, 0u);
 L66:;
-    f158(v4 + 48ull, 1u, v4 + 80ull, v2 + v1, v6 - v1);
+    f179(v4 + 48ull, 1u, v4 + 80ull, v2 + v1, v6 - v1);
     v8 = l1(v4 + 57);
     v11 = l1(v4 + 56);
     v10 = l1(v4 + 49);
@@ -15410,7 +16185,7 @@ L3:;
     s1(v4 + 33, v8);
     s1(v4 + 32, v13);
     s4(v4 + 44, 0u);
-    f158(v4, 0u, v4 + 32ull, v2, v6);
+    f179(v4, 0u, v4 + 32ull, v2, v6);
     v8 = l1(v4 + 9);
     v11 = l1(v4 + 8);
     v10 = l1(v4 + 1);
@@ -15427,7 +16202,7 @@ L1:;
     return;
 }
 
-static void f160(u64 v0, u64 v1, u64 v2)
+static void f181(u64 v0, u64 v1, u64 v2)
 {
     ROOM(frame, 112);
     u32 v4 = 0, v5 = 0, v11 = 0, v12 = 0, v13 = 0, v14 = 0;
@@ -15440,7 +16215,7 @@ static void f160(u64 v0, u64 v1, u64 v2)
     s8(v3 + 56, 0ull);
     s8(v3 + 8, 0ull);
     s8(v3 + 16, 0ull);
-    f149(v3 + 40ull, v1);
+    f170(v3 + 40ull, v1);
     v4 = 1u;
     if (l1(v3 + 40) != 1u) goto L4;
     v5 = l4(v1 + 16ull);
@@ -15514,7 +16289,7 @@ L2:;
     s8(v3 + 96, 0ull);
     s8(v3 + 88, 0ull);
     s8(v3 + 80, 0ull);
-    f159(v3 + 80ull, v1, v8);
+    f180(v3 + 80ull, v1, v8);
     if (l1(v3 + 80) == 0) goto L16;
     v11 = l1(v3 + 81);
     goto L15;
@@ -15556,7 +16331,7 @@ L1:;
     return;
 }
 
-static u64 f161(u64 v0, u64 v1, u64 v2, u32 v3, u64 v4, u64 v5)
+static u64 f182(u64 v0, u64 v1, u64 v2, u32 v3, u64 v4, u64 v5)
 {
     ROOM(frame, 144);
     u32 v8 = 0, v10 = 0;
@@ -15607,26 +16382,26 @@ L7:;
     v8 = l4(v0 + 3808ull);
 L6:;
     if (v8 > (l4((v0 + v9) + 28ull))) goto L10;
-    f54(v5, v0, v1);
-    t0 = f55(v5);
+    f63(v5, v0, v1);
+    t0 = f64(v5);
     v6 = t0;
     goto L1;
 L10:;
-    f56(v7, v5, v0, v1);
+    f65(v7, v5, v0, v1);
     copy(v7 + 72ull, v7, 72ull);
-    t1 = f55(v5);
+    t1 = f64(v5);
     v6 = (u64)l1((v7 + 72ull) + t1);
     goto L1;
     TRAP();
 L2:;
-    f57(v4, v0, v1, v2);
-    t2 = f55(v4);
+    f66(v4, v0, v1, v2);
+    t2 = f64(v4);
     v6 = t2;
 L1:;
     return v6;
 }
 
-static void f162(u64 v0, u32 v1)
+static void f183(u64 v0, u32 v1)
 {
     u32 v7 = 0, t0;
     u64 v2 = 0, v3 = 0, v4 = 0, v5 = 0, v6 = 0;
@@ -15672,7 +16447,7 @@ L4:;
     TRAP();
 }
 
-static u32 f163(u64 v0, u32 v1, u64 v2)
+static u32 f184(u64 v0, u32 v1, u64 v2)
 {
     ROOM(frame, 80);
     u32 v5 = 0, v19 = 0, v20 = 0, v21 = 0, v25 = 0, v26 = 0, v27 = 0, v28 = 0, v29 = 0, v30 = 0, v31 = 0, v32 = 0, v33
@@ -15712,7 +16487,7 @@ L13:;
     goto L12;
 L14:;
     if (l8(v0 + 3952ull) == 0) goto L11;
-    t0 = f161(v15, v14, l8(v0 + 5672ull), l4(v0 + 812ull), v13, v12);
+    t0 = f182(v15, v14, l8(v0 + 5672ull), l4(v0 + 812ull), v13, v12);
     v22 = t0;
 L12:;
     v23 = v11 + v22;
@@ -15735,7 +16510,7 @@ L12:;
     if (v36 != 1u) goto L16;
     v24 = l8(v3 + 32ull) + 1ull;
     v37 = v26 + v28;
-    f62(v4, v24, (u64)(u32)(v24 == 0), (u64)v37, 0ull);
+    f71(v4, v24, (u64)(u32)(v24 == 0), (u64)v37, 0ull);
     v24 = l8(v4 + 8);
     v35 = (u32)v24;
     if (v26) goto L18;
@@ -15856,7 +16631,7 @@ L10:;
     v29 = 0u;
     goto L8;
 L9:;
-    f63(v4 + 48ull, v4 + 28ull, v26);
+    f72(v4 + 48ull, v4 + 28ull, v26);
     v26 = l4(v4 + 72);
     v21 = l4(v4 + 68);
     v28 = l4(v4 + 64);
@@ -15993,10 +16768,10 @@ L48:;
     s8(v3, l8(v3) | (1ull << (v34 & 63)));
     goto L51;
 L52:;
-    f65(v15, v22);
+    f74(v15, v22);
     v3 = v0 + 7512ull;
     s8(v3, l8(v3) | (1ull << (v34 & 63)));
-    f66(v13, v22);
+    f75(v13, v22);
     v22 = 0ull;
 L51:;
     s8(v16 + 8, 0ull);
@@ -16067,7 +16842,7 @@ L57:;
     s4(v17 + 3, l4(A(data + 478)));
     s4(v17, l4(A(data + 475)));
 L53:;
-    f162(v6, v38);
+    f183(v6, v38);
     v3 = v0 + 15384ull;
     t2 = v3;
     v3 = l8(v3) + 0xFFFFFFFFFFFFFFFAull;
@@ -16082,7 +16857,7 @@ L59:;
     s4(v3, l4(A(data + 450)));
 L58:;
     if (v36 == 0) goto L61;
-    f162(v6, v37);
+    f183(v6, v37);
     goto L60;
 L61:;
     v3 = v0 + 15384ull;
@@ -16110,7 +16885,7 @@ L64:;
     s4(v3 + 3, l4(A(data + 459)));
     s4(v3, l4(A(data + 456)));
 L63:;
-    f162(v6, v33);
+    f183(v6, v33);
     v3 = v0 + 15384ull;
     t5 = v3;
     v3 = l8(v3) + 0xFFFFFFFFFFFFFFFAull;
@@ -16124,7 +16899,7 @@ L66:;
     s2(v3 + 4, l2(A(data + 467)));
     s4(v3, l4(A(data + 463)));
 L65:;
-    f162(v6, v32);
+    f183(v6, v32);
     v3 = v0 + 15384ull;
     t6 = v3;
     v3 = l8(v3) + 0xFFFFFFFFFFFFFFFAull;
@@ -16220,7 +16995,7 @@ L2:;
     TRAP();
 }
 
-static u32 f164(u64 v0, u32 v1, u64 v2, u64 v3)
+static u32 f185(u64 v0, u32 v1, u64 v2, u64 v3)
 {
     ROOM(frame, 176);
     u32 v6 = 0, v7 = 0, v8 = 0, v9 = 0, v10 = 0, v11 = 0, v12 = 0, v13 = 0, v20 = 0, v21 = 0, v22 = 0, v23 = 0, v24 =
@@ -16231,7 +17006,7 @@ static u32 f164(u64 v0, u32 v1, u64 v2, u64 v3)
     s8(v5 + 40, 0ull);
     s8(v5 + 32, 0ull);
     s8(v5 + 24, 0ull);
-    f83(v5 + 24ull, v2, v3);
+    f92(v5 + 24ull, v2, v3);
     if (l1(v5 + 24)) goto L22;
     v6 = 1u;
     v7 = l1(v5 + 37);
@@ -16360,7 +17135,7 @@ L34:;
 L33:;
     v12 = l2(v5 + 106);
 L32:;
-    f133(v5 + 48ull, v5 + 96ull, v12);
+    f152(v5 + 48ull, v5 + 96ull, v12);
     if (v1 & 255u) goto L43;
     v3 = v0 + 12144ull;
     v2 = l8(v3);
@@ -16438,7 +17213,7 @@ L45:;
     s4(v5 + 160, v12);
     v16 = v3 << 6;
     v4 = (l8((v15 + v16) + 32ull)) + 1ull;
-    f62(v5, v4, (u64)(u32)(v4 == 0), (v8 == 7u) ? ((u64)v12) : 0ull, 0ull);
+    f71(v5, v4, (u64)(u32)(v4 == 0), (v8 == 7u) ? ((u64)v12) : 0ull, 0ull);
     s8(v5 + 168, 0ull);
     s4(v5 + 164, v11);
     s4(v5 + 156, v13);
@@ -16488,7 +17263,7 @@ L47:;
     s8(v2, v17 + 1ull);
     s1(v5 + 152, v8);
     s1(v5 + 151, 0u);
-    f134(v0 + 816ull, v5 + 144ull, (u32)v3, v12);
+    f153(v0 + 816ull, v5 + 144ull, (u32)v3, v12);
     if (v1 & 255u) goto L13;
     s4(v14, l4(v14) + 1u);
     goto L12;
@@ -16633,12 +17408,12 @@ L72:;
     v18 = v18 + 8ull;
     if (v18 != 64ull) goto L72;
 L71:;
-    f64(v19, v3);
+    f73(v19, v3);
     goto L69;
 L70:;
-    f65(v19, v3);
+    f74(v19, v3);
 L69:;
-    f66(v16, v3);
+    f75(v16, v3);
     v18 = v0 + 5688ull;
     v2 = 0ull;
     v15 = 0ull;
@@ -16679,7 +17454,7 @@ L74:;
     s8(v5 + 160, 0ull);
     s8(v5 + 152, 0ull);
     s8(v5 + 144, 0ull);
-    f63(v5 + 144ull, v5 + 124ull, v28);
+    f72(v5 + 144ull, v5 + 124ull, v28);
     v24 = 129u;
     switch (v13) {
     case 1: goto L82;
@@ -16815,7 +17590,7 @@ L12:;
     v16 = v0 + 15384ull;
     s8(v16, 107ull);
     v19 = v0 + 15272ull;
-    f162(v19, v10);
+    f183(v19, v10);
     v4 = l8(v16) + 0xFFFFFFFFFFFFFFF9ull;
     s8(v16, v4);
     v4 = v19 + v4;
@@ -16865,7 +17640,7 @@ L7:;
     v19 = v0 + 15272ull;
     v9 = 0u;
     if ((v11 & 255u) != 1u) goto L6;
-    f162(v19, v8);
+    f183(v19, v8);
     v4 = l8(v16) + 0xFFFFFFFFFFFFFFF7ull;
     s8(v16, v4);
     v4 = v19 + v4;
@@ -16879,7 +17654,7 @@ L86:;
 L85:;
     v9 = 1u;
 L6:;
-    f162(v19, v10);
+    f183(v19, v10);
     v4 = v0 + 15384ull;
     t3 = v4;
     v4 = l8(v4) + 0xFFFFFFFFFFFFFFF7ull;
@@ -17025,7 +17800,7 @@ L97:;
     return v10;
 }
 
-static u32 f165(u64 v0, u32 v1)
+static u32 f186(u64 v0, u32 v1)
 {
     ROOM(frame, 128);
     u32 v4 = 0, v5 = 0, v6 = 0, v7 = 0, v8 = 0, v10 = 0, v11 = 0, v12 = 0, v14 = 0, v16 = 0, v17 = 0, v18 = 0, v19 = 0;
@@ -17040,10 +17815,10 @@ static u32 f165(u64 v0, u32 v1)
     s8(v3 + 80, 0ull);
     s8(v3 + 72, 0ull);
     if (v1 & 255u) goto L3;
-    f95(v3 + 72ull, v0 + 9064ull);
+    f106(v3 + 72ull, v0 + 9064ull);
     goto L2;
 L3:;
-    f95(v3 + 72ull, v0 + 12152ull);
+    f106(v3 + 72ull, v0 + 12152ull);
 L2:;
     v4 = l1(v3 + 72) != 1u;
     if (v4 == 0) goto L5;
@@ -17264,7 +18039,7 @@ L23:;
     TRAP();
 }
 
-APART void f166(u64 v0, u64 v1, u64 v2)
+APART void f187(u64 v0, u64 v1, u64 v2)
 {
     ROOM(frame, 1008);
     u32 v13 = 0, v14 = 0, v15 = 0, v16 = 0, v17 = 0, v18 = 0, v19 = 0, v20 = 0, v21 = 0, v22 = 0, v28 = 0, v29 = 0, v30
@@ -17336,7 +18111,7 @@ L39:;
     if ((v30 & 255u) != 101u) goto L35;
     if ((v29 & 255u) != 97u) goto L35;
     if ((v28 & 255u) != 100u) goto L35;
-    t0 = f78(v24, 4ull, A(data + 38));
+    t0 = f87(v24, 4ull, A(data + 38));
     if (t0 == 0) goto L35;
     v29 = 3u;
     goto L18;
@@ -17349,7 +18124,7 @@ L38:;
     if ((v30 & 255u) != 111u) goto L29;
     if ((v29 & 255u) != 109u) goto L29;
     if ((v28 & 255u) != 112u) goto L29;
-    t1 = f78(v24, 7ull, A(data + 58));
+    t1 = f87(v24, 7ull, A(data + 58));
     if (t1 == 0) goto L29;
     v29 = 2u;
     goto L18;
@@ -17362,7 +18137,7 @@ L37:;
     if ((v30 & 255u) != 99u) goto L34;
     if ((v29 & 255u) != 101u) goto L34;
     if ((v28 & 255u) != 99u) goto L34;
-    t2 = f78(v24, 6ull, A(data + 47));
+    t2 = f87(v24, 6ull, A(data + 47));
     if (t2 == 0) goto L34;
     v29 = 0u;
     goto L18;
@@ -17376,7 +18151,7 @@ L36:;
     if ((v30 & 255u) != 119u) goto L40;
     if ((v29 & 255u) != 105u) goto L40;
     if ((v28 & 255u) != 116u) goto L40;
-    t3 = f78(v24, 5ull, A(data + 42));
+    t3 = f87(v24, 5ull, A(data + 42));
     if (t3 == 0) goto L33;
     v29 = 4u;
     goto L18;
@@ -17385,7 +18160,7 @@ L40:;
     if ((v30 & 255u) != 101u) goto L33;
     if ((v29 & 255u) != 97u) goto L33;
     if ((v28 & 255u) != 115u) goto L33;
-    t4 = f78(v24, 5ull, A(data + 53));
+    t4 = f87(v24, 5ull, A(data + 53));
     if (t4 == 0) goto L33;
     v29 = 1u;
     goto L18;
@@ -17394,14 +18169,14 @@ L35:;
     if ((v30 & 255u) != 116u) goto L41;
     if ((v29 & 255u) != 101u) goto L41;
     if ((v28 & 255u) != 112u) goto L41;
-    t5 = f78(v24, 4ull, A(data + 65));
+    t5 = f87(v24, 4ull, A(data + 65));
     if (t5) goto L24;
 L41:;
     if (v31 != 116u) goto L42;
     if ((v30 & 255u) != 97u) goto L42;
     if ((v29 & 255u) != 107u) goto L42;
     if ((v28 & 255u) != 101u) goto L42;
-    t6 = f78(v24, 4ull, A(data + 69));
+    t6 = f87(v24, 4ull, A(data + 69));
     if (t6 == 0) goto L42;
     v28 = 0u;
     v33 = 2u;
@@ -17411,7 +18186,7 @@ L42:;
     if ((v30 & 255u) != 111u) goto L14;
     if ((v29 & 255u) != 111u) goto L14;
     if ((v28 & 255u) != 107u) goto L14;
-    t7 = f78(v24, 4ull, A(data + 73));
+    t7 = f87(v24, 4ull, A(data + 73));
     if (t7 == 0) goto L14;
     v28 = 0u;
     v33 = 4u;
@@ -17421,7 +18196,7 @@ L34:;
     if ((v30 & 255u) != 116u) goto L32;
     if ((v28 & 255u) != 97u) goto L32;
     if ((v29 & 255u) != 116u) goto L32;
-    t8 = f78(v24, 6ull, A(data + 77));
+    t8 = f87(v24, 6ull, A(data + 77));
     if (t8) goto L27;
     goto L22;
 L33:;
@@ -17429,7 +18204,7 @@ L33:;
     if (v31 != 98u) goto L14;
     if ((v29 & 255u) != 111u) goto L14;
     if ((v28 & 255u) != 114u) goto L14;
-    t9 = f78(v24, 5ull, A(data + 83));
+    t9 = f87(v24, 5ull, A(data + 83));
     v30 = t9;
     if (v26 == 0) goto L14;
     if (v30 == 0) goto L14;
@@ -17453,7 +18228,7 @@ L32:;
     if ((v30 & 255u) != 97u) goto L22;
     if ((v29 & 255u) != 107u) goto L22;
     if ((v28 & 255u) != 99u) goto L22;
-    t10 = f78(v24, 6ull, A(data + 88));
+    t10 = f87(v24, 6ull, A(data + 88));
     if (t10 == 0) goto L22;
     goto L14;
 L31:;
@@ -17461,14 +18236,14 @@ L31:;
     if ((l1(v24 + 1ull) & 255u) != 101u) goto L14;
     if ((l1(v24 + 2ull) & 255u) != 116u) goto L14;
     if ((l1(v24 + 3ull) & 255u) != 99u) goto L14;
-    f78(v24, 13ull, A(data + 94));
+    f87(v24, 13ull, A(data + 94));
     goto L14;
 L30:;
     if (l1(v24) != 97u) goto L14;
     if ((l1(v24 + 1ull) & 255u) != 118u) goto L14;
     if ((l1(v24 + 2ull) & 255u) != 97u) goto L14;
     if ((l1(v24 + 3ull) & 255u) != 105u) goto L14;
-    t12 = f78(v24, 9ull, A(data + 113));
+    t12 = f87(v24, 9ull, A(data + 113));
     if (t12 == 0) goto L14;
     v28 = 4u;
     goto L21;
@@ -17477,7 +18252,7 @@ L29:;
     if ((v30 & 255u) != 101u) goto L14;
     if ((v29 & 255u) != 116u) goto L14;
     if ((v28 & 255u) != 117u) goto L14;
-    t13 = f78(v24, 7ull, A(data + 122));
+    t13 = f87(v24, 7ull, A(data + 122));
     if (t13 == 0) goto L14;
     v28 = 6u;
     goto L21;
@@ -17486,7 +18261,7 @@ L28:;
     if ((l1(v24 + 1ull) & 255u) != 110u) goto L14;
     if ((l1(v24 + 2ull) & 255u) != 105u) goto L14;
     if ((l1(v24 + 3ull) & 255u) != 116u) goto L14;
-    t14 = f78(v24, 10ull, A(data + 129));
+    t14 = f87(v24, 10ull, A(data + 129));
     if (t14 == 0) goto L14;
     v28 = 2u;
     goto L21;
@@ -17612,7 +18387,7 @@ L22:;
     if ((v30 & 255u) != 110u) goto L14;
     if ((v28 & 255u) != 108u) goto L14;
     if ((v29 & 255u) != 105u) goto L14;
-    t15 = f78(v24, 6ull, A(data + 107));
+    t15 = f87(v24, 6ull, A(data + 107));
     if (t15 == 0) goto L14;
     v28 = 5u;
 L21:;
@@ -17794,7 +18569,7 @@ L17:;
     v21 = 0u;
     goto L13;
 L14:;
-    f160(v4 + 232ull, v1, v12);
+    f181(v4 + 232ull, v1, v12);
     if (l1(v4 + 232)) goto L10;
     if (l1(v4 + 240) != 1u) goto L8;
     v13 = l4(v4 + 268);
@@ -17894,7 +18669,7 @@ L77:;
     v3 = l8(v4 + 16);
     fill(v4 + 232ull, 0u, 80ull);
     if ((v3 + 0xFFFFFFFFFFFFFF7Eull) <= 0xFFFFFFFFFFFFFF7Full) goto L74;
-    f157(v4 + 232ull, v24, v3);
+    f178(v4 + 232ull, v24, v3);
     if (l1(v4 + 232)) goto L74;
     copy(v9, v10, 72ull);
     copy(v4 + 232ull, v9, 72ull);
@@ -17910,12 +18685,12 @@ L76:;
     s4(v4 + 4, v20);
     s1(v4 + 1, v21);
     s1(v4, v22);
-    t16 = f163(v2, v20, v11);
+    t16 = f184(v2, v20, v11);
     if ((t16 & 255u) == 0) goto L3;
     goto L4;
 L75:;
     fill(v4 + 232ull, 0u, 776ull);
-    f90(v4 + 232ull, v6);
+    f99(v4 + 232ull, v6);
     v40 = l8(v4 + 1000);
     if (v40 == 0) goto L87;
     v37 = 0ull;
@@ -17924,11 +18699,11 @@ L88:;
     v3 = v2 + 15384ull;
     s8(v3, 107ull);
     v24 = (v4 + 232ull) + (v37 * 12ull);
-    f162(v5, l4(v24 + 8ull));
+    f183(v5, l4(v24 + 8ull));
     v23 = l8(v3) + 0xFFFFFFFFFFFFFFFFull;
     s8(v3, v23);
     s1(v5 + v23, 32u);
-    f162(v5, l4(v24 + 4ull));
+    f183(v5, l4(v24 + 4ull));
     v23 = l8(v3) + 0xFFFFFFFFFFFFFFF9ull;
     s8(v3, v23);
     v3 = v5 + v23;
@@ -18019,7 +18794,7 @@ L74:;
     fill(v4 + 232ull, 0u, 72ull);
 L11:;
     copy(v4 + 24ull, v4 + 232ull, 72ull);
-    t18 = f164(v2, v21, v4 + 24ull, l8(v4 + 88));
+    t18 = f185(v2, v21, v4 + 24ull, l8(v4 + 88));
     if ((t18 & 255u) == 0) goto L3;
     goto L4;
 L10:;
@@ -18048,7 +18823,7 @@ L9:;
     s4(v4 + 4, v20);
     s1(v4 + 1, v21);
     s1(v4, v22);
-    t19 = f165(v2, v21);
+    t19 = f186(v2, v21);
     if ((t19 & 255u) == 0) goto L3;
     goto L4;
 L8:;
@@ -18086,7 +18861,7 @@ L5:;
     s4(v4 + 96, v20);
     s8(v4 + 144, v3);
     s4(v4 + 108, v30 | (v18 & 65535u));
-    t20 = f164(v2, v21, v4 + 96ull, v3);
+    t20 = f185(v2, v21, v4 + 96ull, v3);
     if ((t20 & 255u) == 0) goto L3;
 L4:;
     s1(v0, 1u);
@@ -18098,7 +18873,7 @@ L1:;
     return;
 }
 
-static u64 f167(u64 v0, u64 v1)
+static u64 f188(u64 v0, u64 v1)
 {
     u32 v5 = 0, v6 = 0, t0;
     u64 v2 = 0, v3 = 0, v4 = 0;
@@ -18141,7 +18916,7 @@ L6:;
     TRAP();
 }
 
-static void f168(u64 v0, u64 v1, u64 v2, u32 v3)
+static void f189(u64 v0, u64 v1, u64 v2, u32 v3)
 {
     u64 v4 = 0;
     if ((v3 & 64u) == 0) goto L2;
@@ -18158,7 +18933,7 @@ L1:;
     return;
 }
 
-static void f169(u64 v0, u64 v1, u64 v2, u32 v3)
+static void f190(u64 v0, u64 v1, u64 v2, u32 v3)
 {
     u64 v4 = 0;
     if ((v3 & 64u) == 0) goto L2;
@@ -18175,7 +18950,7 @@ L1:;
     return;
 }
 
-APART u32 f170(u64 v0, u64 v1, u64 v2, u64 v3, u64 v4, u64 v5)
+APART u32 f191(u64 v0, u64 v1, u64 v2, u64 v3, u64 v4, u64 v5)
 {
     ROOM(frame, 44720);
     u32 v13 = 0, v20 = 0, v21 = 0, v22 = 0, v23 = 0, v24 = 0, v25 = 0, v26 = 0, v27 = 0, v29 = 0, v30 = 0, v31 = 0, v32
@@ -18232,7 +19007,7 @@ APART u32 f170(u64 v0, u64 v1, u64 v2, u64 v3, u64 v4, u64 v5)
     s8(v6 + 38360, 0ull);
     s8(v6 + 38352, 0ull);
     s8(v6 + 38344, 0ull);
-    f150(v6 + 38344ull, v6 + 72ull);
+    f171(v6 + 38344ull, v6 + 72ull);
     v7 = l8(v6 + 38348);
     if (l1(v6 + 38344)) goto L2;
     v8 = 17179869184ull;
@@ -18272,7 +19047,7 @@ L13:;
     if ((l1(v1 + 1ull) & 255u) != 114u) goto L9;
     if ((l1(v1 + 2ull) & 255u) != 101u) goto L9;
     if ((l1(v1 + 3ull) & 255u) != 100u) goto L9;
-    t0 = f78(v1, 7ull, A(data + 14));
+    t0 = f87(v1, 7ull, A(data + 14));
     if (t0 == 0) goto L9;
     v8 = 21474836480ull;
     v3 = v0 - v15;
@@ -18379,7 +19154,7 @@ L7:;
     s8(v6 + 38360, 0ull);
     s8(v6 + 38352, 0ull);
     s8(v6 + 38344, 0ull);
-    f150(v6 + 38344ull, v6 + 72ull);
+    f171(v6 + 38344ull, v6 + 72ull);
     v7 = l8(v6 + 38348);
     if (l1(v6 + 38344)) goto L2;
     v16 = 17179869184ull;
@@ -18423,7 +19198,7 @@ L44:;
     if ((l1(v1 + 1ull) & 255u) != 97u) goto L3;
     if ((l1(v1 + 2ull) & 255u) != 115u) goto L3;
     if ((l1(v1 + 3ull) & 255u) != 115u) goto L3;
-    t1 = f78(v1, 7ull, A(data + 27));
+    t1 = f87(v1, 7ull, A(data + 27));
     if (t1 == 0) goto L3;
     v16 = 21474836480ull;
     if (v3 == 0) goto L3;
@@ -18475,7 +19250,7 @@ L43:;
     if ((l1(v1 + 1ull) & 255u) != 117u) goto L3;
     if ((l1(v1 + 2ull) & 255u) != 100u) goto L3;
     if ((l1(v1 + 3ull) & 255u) != 103u) goto L3;
-    t2 = f78(v1, 6ull, A(data + 21));
+    t2 = f87(v1, 6ull, A(data + 21));
     if (t2 == 0) goto L3;
     v16 = 21474836480ull;
     if (v3 == 0) goto L3;
@@ -18522,13 +19297,13 @@ L64:;
     if (v1 > 4294967295ull) goto L3;
     v13 = 1u;
 L42:;
-    f151(v6 + 36296ull, v6 + 72ull, A(data + 0), 0xFFFFFFFFu);
+    f172(v6 + 36296ull, v6 + 72ull, A(data + 0), 0xFFFFFFFFu);
     v2 = l8(v6 + 36300);
     if (l1(v6 + 36296) == 0) goto L65;
     v7 = v2;
     goto L2;
 L65:;
-    f151(v6 + 36296ull, v6 + 72ull, A(data + 7), 65535u);
+    f172(v6 + 36296ull, v6 + 72ull, A(data + 7), 65535u);
     v3 = l8(v6 + 36300);
     if (l1(v6 + 36296) == 0) goto L66;
     v7 = v3;
@@ -18671,7 +19446,7 @@ L66:;
     s8(v6 + 38360, 0ull);
     s8(v6 + 38352, 0ull);
     s8(v6 + 38344, 0ull);
-    f150(v6 + 38344ull, v6 + 72ull);
+    f171(v6 + 38344ull, v6 + 72ull);
     v7 = l8(v6 + 38348);
     if (l1(v6 + 38344)) goto L2;
     v16 = v7 >> 32;
@@ -18705,9 +19480,9 @@ L71:;
     if ((l1(v0 + 1ull) & 255u) != 110u) goto L68;
     if ((l1(v0 + 2ull) & 255u) != 105u) goto L68;
     if ((l1(v0 + 3ull) & 255u) != 116u) goto L68;
-    t3 = f78(v0, 4ull, A(data + 34));
+    t3 = f87(v0, 4ull, A(data + 34));
     if (t3 == 0) goto L68;
-    f156(v6 + 64ull, v6 + 29560ull, v0 + v3, v7 - v3);
+    f177(v6 + 64ull, v6 + 29560ull, v0 + v3, v7 - v3);
     if (l1(v6 + 64) == 0) goto L67;
     v7 = (((u64)l1(v6 + 65)) << 32) | v16;
     goto L2;
@@ -18739,7 +19514,7 @@ L76:;
     s4(v6 + 25376, 0u);
     s2(v6 + 25380, 0u);
     fill(v6 + 32944ull, 0u, 776ull);
-    f150(v6 + 34488ull, v6 + 72ull);
+    f171(v6 + 34488ull, v6 + 72ull);
     v7 = l8(v6 + 34492);
     if (l1(v6 + 34488)) goto L2;
     v14 = l8(v6 + 34504);
@@ -18799,7 +19574,7 @@ L90:;
     if (v1 != 0ull) goto L89;
 L88:;
     fill(v6 + 38344ull, 0u, 784ull);
-    f85(v6 + 38344ull, v6 + 29560ull, l8(v6 + 30328));
+    f94(v6 + 38344ull, v6 + 29560ull, l8(v6 + 30328));
     if (l1(v6 + 38344)) goto L91;
     v24 = 1u;
     if ((v25 & 1u) == 0) goto L92;
@@ -18825,9 +19600,9 @@ L86:;
     if ((l1(v8 + 1ull) & 255u) != 110u) goto L79;
     if ((l1(v8 + 2ull) & 255u) != 105u) goto L79;
     if ((l1(v8 + 3ull) & 255u) != 116u) goto L79;
-    t5 = f78(v8, 4ull, A(data + 34));
+    t5 = f87(v8, 4ull, A(data + 34));
     if (t5 == 0) goto L79;
-    f156(v6 + 56ull, v6 + 29560ull, v0, v3 - v1);
+    f177(v6 + 56ull, v6 + 29560ull, v0, v3 - v1);
     if (l1(v6 + 56)) goto L93;
     v24 = 0u;
     s2(v6 + 25380, 0u);
@@ -18890,7 +19665,7 @@ L77:;
     fill(v6 + 31104ull, 0u, 1032ull);
     fill(v6 + 29560ull, 0u, 1544ull);
     fill(v6 + 28776ull, 0u, 784ull);
-    f85(v6 + 28776ull, v1, l8(v6 + 32936));
+    f94(v6 + 28776ull, v1, l8(v6 + 32936));
     if (l1(v6 + 28776)) goto L6;
     v21 = l4(v6 + 32148);
     v20 = l4(v6 + 32144);
@@ -18900,7 +19675,7 @@ L77:;
     fill(v6 + 32944ull, 0u, 1544ull);
     v1 = l8(v6 + 36288);
     fill(v6 + 38344ull, 0u, 1032ull);
-    f87(v6 + 38344ull);
+    f96(v6 + 38344ull);
     if (v1 == 0) goto L94;
     v3 = l8(v6 + 39368);
     if (v1 != 1ull) goto L96;
@@ -19051,7 +19826,7 @@ L100:;
     s8(v6 + 25336, 0ull);
     s8(v6 + 25344, 0ull);
     s8(v6 + 25352, 0ull);
-    f166(v6 + 112ull, v6 + 72ull, v6 + 9920ull);
+    f187(v6 + 112ull, v6 + 72ull, v6 + 9920ull);
     if (l1(v6 + 112)) goto L5;
     v28 = l8(v6 + 25176);
     v2 = l8(v6 + 25184);
@@ -19077,7 +19852,7 @@ L101:;
     s8(v6 + 38360, 0ull);
     s8(v6 + 38352, 0ull);
     s8(v6 + 38344, 0ull);
-    t6 = f167(v5, v6 + 38344ull);
+    t6 = f188(v5, v6 + 38344ull);
     v5 = t6;
     v2 = 40ull - v5;
     if ((v28 - v7) < v2) goto L4;
@@ -19115,13 +19890,13 @@ L107:;
     v17 = v17 + 0xFFFFFFFFFFFFFFFFull;
     if (v13) goto L108;
     if (((v5 ^ 127ull) | v7) == 0) goto L108;
-    f168(v6 + 32ull, v19, v18, 127u - ((u32)v5));
+    f189(v6 + 32ull, v19, v18, 127u - ((u32)v5));
     v2 = l8(v6 + 40);
     v1 = l8(v6 + 32);
     v0 = v5 + 1ull;
     v14 = v7 + ((u64)(u32)(v0 == 0));
     if ((v0 | v14) == 0) goto L110;
-    f169(v6 + 16ull, v19, v18, (u32)v0);
+    f190(v6 + 16ull, v19, v18, (u32)v0);
     v10 = 10ull + 0xFFFFFFFFFFFFFFFFull;
     v12 = 0ull - ((u64)(u32)(10ull == 0));
     v5 = l8(v6 + 24);
@@ -19150,7 +19925,7 @@ L109:;
     v0 = (v2 << 1) | (v1 >> 63);
     v1 = v3 | (v1 << 1);
 L108:;
-    f62(v6, v1, v6, 10ull, 0ull);
+    f71(v6, v1, v6, 10ull, 0ull);
     s1((v6 + 38344ull) + v17, ((u32)(v19 - l8(v6))) | 48u);
     if (v18 > 9ull) goto L107;
 L106:;
@@ -19215,7 +19990,7 @@ L119:;
     s8(v6 + 38360, 0ull);
     s8(v6 + 38352, 0ull);
     s8(v6 + 38344, 0ull);
-    t8 = f167(v2, v6 + 38344ull);
+    t8 = f188(v2, v6 + 38344ull);
     v2 = t8;
     v1 = 40ull - v2;
     if ((v28 - v0) < v1) goto L4;
@@ -19267,18 +20042,18 @@ L1:;
 static u32 w_mscp_run_script_at(u64 v0, u64 v1, u64 v2, u64 v3, u64 v4, u64 v5)
 {
     u32 v6 = 0, t0, t1;
-    t0 = f49();
+    t0 = f58();
     if (t0 == 0) goto L1;
-    f50();
+    f59();
     TRAP();
 L1:;
-    t1 = f170(v0, v1, v2, v3, v4, v5);
+    t1 = f191(v0, v1, v2, v3, v4, v5);
     v6 = t1;
-    f52();
+    f61();
     return v6;
 }
 
-APART u32 f171(u64 v0, u64 v1, u64 v2, u64 v3)
+APART u32 f192(u64 v0, u64 v1, u64 v2, u64 v3)
 {
     ROOM(frame, 7344);
     u32 v5 = 0;
@@ -19290,7 +20065,7 @@ APART u32 f171(u64 v0, u64 v1, u64 v2, u64 v3)
     goto L2;
 L3:;
     v0 = l8(v0);
-    f124(v4, v0, l1(v0 + 5712ull));
+    f140(v4, v0, l1(v0 + 5712ull));
     copy(v4 + 3672ull, v4, 3672ull);
     v0 = l8(v4 + 7336);
     if (v2 >= v0) goto L4;
@@ -19310,18 +20085,18 @@ L2:;
 static u32 w_mscp_save_at(u64 v0, u64 v1, u64 v2, u64 v3)
 {
     u32 v4 = 0, t0, t1;
-    t0 = f49();
+    t0 = f58();
     if (t0 == 0) goto L1;
-    f50();
+    f59();
     TRAP();
 L1:;
-    t1 = f171(v0, v1, v2, v3);
+    t1 = f192(v0, v1, v2, v3);
     v4 = t1;
-    f52();
+    f61();
     return v4;
 }
 
-static void f172(void)
+static void f193(void)
 {
     goto L1;
 L1:;
@@ -19331,17 +20106,17 @@ L1:;
 static u64 w_mscp_save_size(void)
 {
     u32 t0;
-    t0 = f49();
+    t0 = f58();
     if (t0 == 0) goto L1;
-    f50();
+    f59();
     TRAP();
 L1:;
-    f172();
-    f52();
+    f193();
+    f61();
     return 3664ull;
 }
 
-static u32 f173(u64 v0, u32 v1, u64 v2, u64 v3, u64 v4)
+static u32 f194(u64 v0, u32 v1, u64 v2, u64 v3, u64 v4)
 {
     ROOM(frame, 32);
     u32 v6 = 0, v7 = 0;
@@ -19364,7 +20139,7 @@ L4:;
 L6:;
     v6 = 1u;
 L5:;
-    f135(v5 + 8ull, l8(v0), v6, v2 + ((v2 == 0) ? 4096ull : 0ull), v3);
+    f154(v5 + 8ull, l8(v0), v6, v2 + ((v2 == 0) ? 4096ull : 0ull), v3);
     if (l1(v5 + 8)) goto L7;
     v7 = l4(v5 + 16);
     if (l1(v5 + 12)) goto L2;
@@ -19393,18 +20168,74 @@ L1:;
 static u32 w_mscp_send_at(u64 v0, u32 v1, u64 v2, u64 v3, u64 v4)
 {
     u32 t0, t1;
-    t0 = f49();
+    t0 = f58();
     if (t0 == 0) goto L1;
-    f50();
+    f59();
     TRAP();
 L1:;
-    t1 = f173(v0, v1, v2, v3, v4);
+    t1 = f194(v0, v1, v2, v3, v4);
     v1 = t1;
-    f52();
+    f61();
     return v1;
 }
 
-static u32 f174(u64 v0, u64 v1, u64 v2, u32 v3, u32 v4)
+static u32 f195(u64 v0, u64 v1, u64 v2, u64 v3)
+{
+    u32 v4 = 0, v6 = 0;
+    u64 v5 = 0, v7 = 0, v8 = 0, v9 = 0;
+    v4 = 0xFFFFFFF6u;
+    if (l8(v0 + 24ull) != 0x4D5343504D414445ull) goto L2;
+    v0 = l8(v0);
+    v5 = l8(v0 + 24ull);
+    v4 = l4(v0 + 12ull);
+    v6 = l2(v0 + 16ull);
+    v7 = l8(v0);
+    s8(v1 + 8, (u64)l4(v0 + 8ull));
+    s2(v1 + 30, 0u);
+    s2(v1 + 28, v6);
+    s4(v1 + 24, v4);
+    s8(v1 + 16, v7);
+    s8(v1, v5);
+    v8 = l8(v0 + 800ull);
+    v3 = (v3 < v8) ? v3 : v8;
+    if (v3 == 0) goto L3;
+    v1 = v2 + ((v2 == 0) ? 4096ull : 0ull);
+L4:;
+    v2 = v0 + 48ull;
+    v5 = l8(v2);
+    v7 = l8(v0 + 32ull);
+    v9 = l8(v0 + 56ull);
+    s4(v1 + 8ull, l4(v0 + 40ull));
+    s8(v1 + 12ull, v9);
+    s4(v1 + 28ull, 0u);
+    s8(v1 + 20ull, v7);
+    s8(v1, v5);
+    v1 = v1 + 32ull;
+    v0 = v2;
+    v3 = v3 + 0xFFFFFFFFFFFFFFFFull;
+    if (v3 != 0ull) goto L4;
+L3:;
+    v4 = (u32)v8;
+L2:;
+    return v4;
+    TRAP();
+}
+
+static u32 w_mscp_settings_at(u64 v0, u64 v1, u64 v2, u64 v3)
+{
+    u32 v4 = 0, t0, t1;
+    t0 = f58();
+    if (t0 == 0) goto L1;
+    f59();
+    TRAP();
+L1:;
+    t1 = f195(v0, v1, v2, v3);
+    v4 = t1;
+    f61();
+    return v4;
+}
+
+static u32 f196(u64 v0, u64 v1, u64 v2, u32 v3, u32 v4)
 {
     ROOM(frame, 48);
     u32 v6 = 0;
@@ -19439,7 +20270,7 @@ L3:;
     s8(v5 + 24, 0ull);
     s8(v5 + 16, 0ull);
     s8(v5 + 8, 0ull);
-    t0 = f167((u64)v3, v5 + 8ull);
+    t0 = f188((u64)v3, v5 + 8ull);
     v2 = t0;
     v1 = 40ull - v2;
     if ((l8(v0 + 8ull) - v8) < v1) goto L2;
@@ -19465,7 +20296,7 @@ L6:;
     s8(v5 + 24, 0ull);
     s8(v5 + 16, 0ull);
     s8(v5 + 8, 0ull);
-    t1 = f167(((u64)v4) & 65535ull, v5 + 8ull);
+    t1 = f188(((u64)v4) & 65535ull, v5 + 8ull);
     v2 = t1;
     v6 = 1u;
     v7 = 40ull - v2;
@@ -19480,7 +20311,7 @@ L2:;
     TRAP();
 }
 
-static u32 f175(u64 v0, u64 v1, u64 v2, u32 v3, u64 v4, u64 v5, u32 v6)
+static u32 f197(u64 v0, u64 v1, u64 v2, u32 v3, u64 v4, u64 v5, u32 v6)
 {
     ROOM(frame, 48);
     u32 v8 = 0;
@@ -19513,7 +20344,7 @@ L3:;
     s8(v7 + 24, 0ull);
     s8(v7 + 16, 0ull);
     s8(v7 + 8, 0ull);
-    t0 = f167((u64)v3, v7 + 8ull);
+    t0 = f188((u64)v3, v7 + 8ull);
     v2 = t0;
     v1 = 40ull - v2;
     if ((l8(v0 + 8ull) - v10) < v1) goto L2;
@@ -19546,7 +20377,7 @@ L6:;
     s8(v7 + 24, 0ull);
     s8(v7 + 16, 0ull);
     s8(v7 + 8, 0ull);
-    t1 = f167((u64)v6, v7 + 8ull);
+    t1 = f188((u64)v6, v7 + 8ull);
     v2 = t1;
     v8 = 1u;
     v9 = 40ull - v2;
@@ -19561,7 +20392,7 @@ L2:;
     TRAP();
 }
 
-static u32 f176(u64 v0, u64 v1, u32 v2)
+static u32 f198(u64 v0, u64 v1, u32 v2)
 {
     ROOM(frame, 48);
     u32 v4 = 0;
@@ -19584,7 +20415,7 @@ L3:;
     s8(v3 + 24, 0ull);
     s8(v3 + 16, 0ull);
     s8(v3 + 8, 0ull);
-    t0 = f167(v1, v3 + 8ull);
+    t0 = f188(v1, v3 + 8ull);
     v5 = t0;
     v1 = 40ull - v5;
     if ((l8(v0 + 8ull) - v6) < v1) goto L2;
@@ -19611,7 +20442,7 @@ L6:;
     s8(v3 + 24, 0ull);
     s8(v3 + 16, 0ull);
     s8(v3 + 8, 0ull);
-    t1 = f167((u64)v2, v3 + 8ull);
+    t1 = f188((u64)v2, v3 + 8ull);
     v5 = t1;
     v4 = 1u;
     v1 = 40ull - v5;
@@ -19626,7 +20457,7 @@ L2:;
     TRAP();
 }
 
-APART u32 f177(u64 v0, u64 v1, u64 v2, u64 v3, u64 v4)
+APART u32 f199(u64 v0, u64 v1, u64 v2, u64 v3, u64 v4)
 {
     ROOM(frame, 288);
     u32 v6 = 0, v9 = 0, v10 = 0, v11 = 0, v12 = 0, v19 = 0, v20 = 0, t0, t4, t6, t7, t9, t17, t18, t21;
@@ -19660,7 +20491,7 @@ L10:;
     if ((((v9 & 0xFFFFFFDFu) + 0xFFFFFFBFu) & 255u) < 6u) goto L9;
     goto L7;
 L8:;
-    f157(v5 + 184ull, v0, v1);
+    f178(v5 + 184ull, v0, v1);
     if (l1(v5 + 184)) goto L7;
     if (v1 >= 24ull) goto L11;
     v6 = 0xFFFFFFFFu;
@@ -19681,12 +20512,12 @@ L11:;
     s8(v5 + 224, 0ull);
     s8(v5 + 232, 0ull);
     if ((i32)((u32)(i32)(i8)l1(v5 + 96)) < (i32)0u) goto L12;
-    f83(v5 + 264ull, v5 + 88ull, v0);
+    f92(v5 + 264ull, v5 + 88ull, v0);
     if (l1(v5 + 264) == 0) goto L6;
     v6 = l1(v5 + 265) ? 0xFFFFFFFEu : 0xFFFFFFFFu;
     goto L7;
 L12:;
-    f74(v5 + 184ull, v5 + 88ull, v0);
+    f83(v5 + 184ull, v5 + 88ull, v0);
     if (l1(v5 + 184) == 0) goto L5;
     v6 = (l1(v5 + 185) == 1u) ? 0xFFFFFFFDu : 0xFFFFFFFCu;
 L7:;
@@ -19697,7 +20528,7 @@ L6:;
     v11 = l4(v5 + 280);
     v9 = l2(v5 + 276);
     v6 = l2(v5 + 278);
-    t0 = f174(v5 + 160ull, A(data + 511), 8ull, l4(v5 + 268), l4(v5 + 272));
+    t0 = f196(v5 + 160ull, A(data + 511), 8ull, l4(v5 + 268), l4(v5 + 272));
     if (t0 & 255u) goto L2;
     v0 = l8(v5 + 176);
     if (l8(v5 + 168) == v0) goto L2;
@@ -19736,7 +20567,7 @@ L22:;
     s8(v5 + 200, 0ull);
     s8(v5 + 192, 0ull);
     s8(v5 + 184, 0ull);
-    t1 = f167((u64)v11, v5 + 184ull);
+    t1 = f188((u64)v11, v5 + 184ull);
     v1 = t1;
     v0 = 40ull - v1;
     if ((v13 - v14) < v0) goto L2;
@@ -19767,7 +20598,7 @@ L25:;
     s8(v5 + 200, 0ull);
     s8(v5 + 192, 0ull);
     s8(v5 + 184, 0ull);
-    t2 = f167((u64)v11, v5 + 184ull);
+    t2 = f188((u64)v11, v5 + 184ull);
     v1 = t2;
     v0 = 40ull - v1;
     if ((v13 - v14) < v0) goto L2;
@@ -19820,7 +20651,7 @@ L29:;
     s8(v5 + 200, 0ull);
     s8(v5 + 192, 0ull);
     s8(v5 + 184, 0ull);
-    t3 = f167(v15, v5 + 184ull);
+    t3 = f188(v15, v5 + 184ull);
     v1 = t3;
     v0 = 40ull - v1;
     if ((v13 - v14) < v0) goto L2;
@@ -19910,7 +20741,7 @@ L36:;
     copy(v1, v14, v13);
 L35:;
     s8(v5 + 176, v16);
-    t4 = f175(v5 + 160ull, A(data + 643), 7ull, v11, A(data + 456), 7ull, v10);
+    t4 = f197(v5 + 160ull, A(data + 643), 7ull, v11, A(data + 456), 7ull, v10);
     if ((t4 & 255u) == 0) goto L3;
     goto L2;
 L13:;
@@ -19953,7 +20784,7 @@ L42:;
     s8(v5 + 200, 0ull);
     s8(v5 + 192, 0ull);
     s8(v5 + 184, 0ull);
-    t5 = f167(v13, v5 + 184ull);
+    t5 = f188(v13, v5 + 184ull);
     v1 = t5;
     v13 = 40ull - v1;
     if ((l8(v5 + 168) - v0) < v13) goto L2;
@@ -19972,7 +20803,7 @@ L5:;
     v11 = l1(v5 + 208);
     v6 = l4(v5 + 200);
     v9 = l2(v5 + 198);
-    t6 = f174(v5 + 160ull, A(data + 421), 4ull, l4(v5 + 192), l2(v5 + 196));
+    t6 = f196(v5 + 160ull, A(data + 421), 4ull, l4(v5 + 192), l2(v5 + 196));
     if (t6 & 255u) goto L2;
     v14 = l8(v5 + 168);
     v0 = l8(v5 + 176);
@@ -20033,7 +20864,7 @@ L55:;
     s8(v5 + 200, 0ull);
     s8(v5 + 192, 0ull);
     s8(v5 + 184, 0ull);
-    t8 = f167((u64)v10, v5 + 184ull);
+    t8 = f188((u64)v10, v5 + 184ull);
     v1 = t8;
     v13 = 40ull - v1;
     if ((l8(v5 + 168) - v0) < v13) goto L2;
@@ -20043,7 +20874,7 @@ L57:;
     s8(v5 + 176, v13 + v0);
     goto L3;
 L53:;
-    t9 = f176(v5 + 160ull, v1, v12);
+    t9 = f198(v5 + 160ull, v1, v12);
     if (t9 & 255u) goto L2;
     v1 = l8(v5 + 168);
     v0 = l8(v5 + 176);
@@ -20065,7 +20896,7 @@ L58:;
     s8(v5 + 200, 0ull);
     s8(v5 + 192, 0ull);
     s8(v5 + 184, 0ull);
-    t10 = f167((u64)(v20 & 65535u), v5 + 184ull);
+    t10 = f188((u64)(v20 & 65535u), v5 + 184ull);
     t11 = v1 - v13;
     v1 = t10;
     v0 = 40ull - v1;
@@ -20095,7 +20926,7 @@ L61:;
     s8(v5 + 200, 0ull);
     s8(v5 + 192, 0ull);
     s8(v5 + 184, 0ull);
-    t12 = f167(v13, v5 + 184ull);
+    t12 = f188(v13, v5 + 184ull);
     v13 = t12;
     v0 = 40ull - v13;
     if ((v14 - v1) < v0) goto L2;
@@ -20121,7 +20952,7 @@ L64:;
     s8(v5 + 200, 0ull);
     s8(v5 + 192, 0ull);
     s8(v5 + 184, 0ull);
-    t13 = f167((u64)(v19 & 65535u), v5 + 184ull);
+    t13 = f188((u64)(v19 & 65535u), v5 + 184ull);
     t14 = v13 - v1;
     v13 = t13;
     v0 = 40ull - v13;
@@ -20150,7 +20981,7 @@ L67:;
     s8(v5 + 200, 0ull);
     s8(v5 + 192, 0ull);
     s8(v5 + 184, 0ull);
-    t15 = f167(v13, v5 + 184ull);
+    t15 = f188(v13, v5 + 184ull);
     v13 = t15;
     v0 = 40ull - v13;
     if ((v15 - v17) < v0) goto L2;
@@ -20172,7 +21003,7 @@ L70:;
     s8(v5 + 200, 0ull);
     s8(v5 + 192, 0ull);
     s8(v5 + 184, 0ull);
-    t16 = f167(v1, v5 + 184ull);
+    t16 = f188(v1, v5 + 184ull);
     v0 = t16;
     v1 = 40ull - v0;
     if ((l8(v5 + 168) - v13) < v1) goto L2;
@@ -20182,9 +21013,9 @@ L72:;
     s8(v5 + 176, v1 + v13);
     goto L3;
 L51:;
-    t17 = f176(v5 + 160ull, v1, v12);
+    t17 = f198(v5 + 160ull, v1, v12);
     if (t17 & 255u) goto L2;
-    t18 = f175(v5 + 160ull, A(data + 772), 6ull, v20, A(data + 778), 8ull, v19);
+    t18 = f197(v5 + 160ull, A(data + 772), 6ull, v20, A(data + 778), 8ull, v19);
     if ((t18 & 255u) == 0) goto L3;
     goto L2;
 L50:;
@@ -20207,7 +21038,7 @@ L73:;
     s8(v5 + 200, 0ull);
     s8(v5 + 192, 0ull);
     s8(v5 + 184, 0ull);
-    t19 = f167((u64)v10, v5 + 184ull);
+    t19 = f188((u64)v10, v5 + 184ull);
     t20 = v1 - v13;
     v1 = t19;
     v0 = 40ull - v1;
@@ -20218,7 +21049,7 @@ L75:;
     s8(v5 + 176, v0 + v13);
     goto L3;
 L49:;
-    t21 = f175(v5 + 160ull, A(data + 716), 4ull, v10, A(data + 720), 8ull, (u32)v1);
+    t21 = f197(v5 + 160ull, A(data + 716), 4ull, v10, A(data + 720), 8ull, (u32)v1);
     if ((t21 & 255u) == 0) goto L3;
     goto L2;
     TRAP();
@@ -20272,18 +21103,18 @@ L1:;
 static u32 w_mscp_show_packet_at(u64 v0, u64 v1, u64 v2, u64 v3, u64 v4)
 {
     u32 v5 = 0, t0, t1;
-    t0 = f49();
+    t0 = f58();
     if (t0 == 0) goto L1;
-    f50();
+    f59();
     TRAP();
 L1:;
-    t1 = f177(v0, v1, v2, v3, v4);
+    t1 = f199(v0, v1, v2, v3, v4);
     v5 = t1;
-    f52();
+    f61();
     return v5;
 }
 
-static void f178(void)
+static void f200(void)
 {
     goto L1;
 L1:;
@@ -20293,17 +21124,17 @@ L1:;
 static u64 w_mscp_size(void)
 {
     u32 t0;
-    t0 = f49();
+    t0 = f58();
     if (t0 == 0) goto L1;
-    f50();
+    f59();
     TRAP();
 L1:;
-    f178();
-    f52();
+    f200();
+    f61();
     return 15248ull;
 }
 
-static u32 f179(u64 v0, u32 v1, u64 v2)
+static u32 f201(u64 v0, u32 v1, u64 v2)
 {
     ROOM(frame, 80);
     u32 v5 = 0, v11 = 0, v12 = 0, v13 = 0, v14 = 0, v15 = 0, v16 = 0, v17 = 0, v18 = 0, v19 = 0, v22 = 0, v23 = 0, v24
@@ -20335,7 +21166,7 @@ L11:;
     v1 = 0u;
     goto L1;
 L12:;
-    t0 = f58(v6 + 816ull, v6 + 4648ull, l8(v6 + 5672ull), l4(v6 + 812ull), v6 + 5712ull, v6 + 5720ull, v6 + 7528ull);
+    t0 = f67(v6 + 816ull, v6 + 4648ull, l8(v6 + 5672ull), l4(v6 + 812ull), v6 + 5712ull, v6 + 5720ull, v6 + 7528ull);
     v7 = t0;
 L9:;
     v8 = v6 + 816ull;
@@ -20361,7 +21192,7 @@ L9:;
     if (v24 != 1u) goto L14;
     v0 = l8(v3 + 32ull) + 1ull;
     v25 = v13 + v15;
-    f62(v4, v0, (u64)(u32)(v0 == 0), (u64)v25, 0ull);
+    f71(v4, v0, (u64)(u32)(v0 == 0), (u64)v25, 0ull);
     v0 = l8(v4 + 8);
     v23 = (u32)v0;
     if (v13) goto L16;
@@ -20468,7 +21299,7 @@ L5:;
     v32 = 0u;
     goto L3;
 L4:;
-    f63(v4 + 48ull, v4 + 28ull, v1);
+    f72(v4 + 48ull, v4 + 28ull, v1);
     v15 = l4(v4 + 72);
     v28 = l4(v4 + 68);
     v16 = l4(v4 + 64);
@@ -20605,10 +21436,10 @@ L45:;
     s8(v0, l8(v0) | (1ull << (v20 & 63)));
     goto L48;
 L49:;
-    f65(v8, v7);
+    f74(v8, v7);
     v0 = v6 + 7520ull;
     s8(v0, l8(v0) | (1ull << (v20 & 63)));
-    f66(v6 + 5720ull, v7);
+    f75(v6 + 5720ull, v7);
     v7 = 0ull;
 L48:;
     v5 = v14 ^ 1u;
@@ -20678,18 +21509,18 @@ L1:;
 static u32 w_mscp_step(u64 v0, u32 v1, u64 v2)
 {
     u32 t0, t1;
-    t0 = f49();
+    t0 = f58();
     if (t0 == 0) goto L1;
-    f50();
+    f59();
     TRAP();
 L1:;
-    t1 = f179(v0, v1, v2);
+    t1 = f201(v0, v1, v2);
     v1 = t1;
-    f52();
+    f61();
     return v1;
 }
 
-static void f180(u64 v0, u64 v1, u32 v2)
+static void f202(u64 v0, u64 v1, u32 v2)
 {
     ROOM(frame, 64);
     u32 v4 = 0, v5 = 0, v6 = 0, v8 = 0, v9 = 0, v10 = 0, v11 = 0, v12 = 0, v14 = 0, v15 = 0, v16 = 0, v17 = 0, v18 = 0,
@@ -20704,10 +21535,10 @@ static void f180(u64 v0, u64 v1, u32 v2)
     s8(v3 + 16, 0ull);
     s8(v3 + 8, 0ull);
     if (v2 & 255u) goto L4;
-    f95(v3 + 8ull, v1 + 9072ull);
+    f106(v3 + 8ull, v1 + 9072ull);
     goto L3;
 L4:;
-    f95(v3 + 8ull, v1 + 12160ull);
+    f106(v3 + 8ull, v1 + 12160ull);
 L3:;
     if (l1(v3 + 8) != 1u) goto L5;
     v4 = l4(v3 + 56);
@@ -20825,7 +21656,7 @@ L1:;
     return;
 }
 
-static u32 f181(u64 v0, u32 v1, u64 v2)
+static u32 f203(u64 v0, u32 v1, u64 v2)
 {
     ROOM(frame, 128);
     u32 v4 = 0, v5 = 0;
@@ -20853,7 +21684,7 @@ L3:;
 L5:;
     v5 = 1u;
 L4:;
-    f180(v3 + 8ull, l8(v0), v5);
+    f202(v3 + 8ull, l8(v0), v5);
     v4 = 0u;
     if (l1(v3 + 8) != 1u) goto L2;
     v0 = l8(v3 + 64);
@@ -20877,18 +21708,18 @@ L2:;
 static u32 w_mscp_take(u64 v0, u32 v1, u64 v2)
 {
     u32 t0, t1;
-    t0 = f49();
+    t0 = f58();
     if (t0 == 0) goto L1;
-    f50();
+    f59();
     TRAP();
 L1:;
-    t1 = f181(v0, v1, v2);
+    t1 = f203(v0, v1, v2);
     v1 = t1;
-    f52();
+    f61();
     return v1;
 }
 
-static u64 f182(u64 v0, u32 v1)
+static u64 f204(u64 v0, u32 v1)
 {
     u64 v2 = 0, v3 = 0;
     if (l8(v0 + 24ull) == 0x4D5343504D414445ull) goto L2;
@@ -20914,18 +21745,18 @@ static u64 w_mscp_untaken(u64 v0, u32 v1)
 {
     u32 t0;
     u64 t1;
-    t0 = f49();
+    t0 = f58();
     if (t0 == 0) goto L1;
-    f50();
+    f59();
     TRAP();
 L1:;
-    t1 = f182(v0, v1);
+    t1 = f204(v0, v1);
     v0 = t1;
-    f52();
+    f61();
     return v0;
 }
 
-static void f183(void)
+static void f205(void)
 {
     goto L1;
 L1:;
@@ -20935,17 +21766,17 @@ L1:;
 static u32 w_mscp_version(void)
 {
     u32 t0;
-    t0 = f49();
+    t0 = f58();
     if (t0 == 0) goto L1;
-    f50();
+    f59();
     TRAP();
 L1:;
-    f183();
-    f52();
+    f205();
+    f61();
     return 1280u;
 }
 
-static u64 f184(u64 v0, u32 v1)
+static u64 f206(u64 v0, u32 v1)
 {
     u64 v2 = 0, v3 = 0;
     if (l8(v0 + 24ull) == 0x4D5343504D414445ull) goto L2;
@@ -20971,108 +21802,53 @@ static u64 w_mscp_waiting(u64 v0, u32 v1)
 {
     u32 t0;
     u64 t1;
-    t0 = f49();
+    t0 = f58();
     if (t0 == 0) goto L1;
-    f50();
+    f59();
     TRAP();
 L1:;
-    t1 = f184(v0, v1);
+    t1 = f206(v0, v1);
     v0 = t1;
-    f52();
+    f61();
     return v0;
 }
 
-APART u32 f185(u64 v0, u32 v1, u32 v2, u64 v3, u64 v4)
+APART u32 f207(u64 v0, u32 v1, u32 v2, u64 v3, u64 v4)
 {
-    ROOM(frame, 784);
-    u32 v7 = 0, v8 = 0, v16 = 0;
-    u64 v5 = 0, v6 = 0, v9 = 0, v10 = 0, v11 = 0, v12 = 0, v13 = 0, v14 = 0, v15 = 0;
+    ROOM(frame, 1552);
+    u32 v7 = 0, v8 = 0;
+    u64 v5 = 0, v6 = 0, v9 = 0, v10 = 0, v11 = 0;
     v5 = A(frame);
     v6 = v5;
+    v7 = 0u;
+    fill(v6, 0u, 776ull);
     if (l8(v0 + 24ull) == 0x4D5343504D414445ull) goto L3;
-    v7 = 0xFFFFFFF6u;
+    v8 = 0xFFFFFFF6u;
     goto L2;
 L3:;
-    v8 = 0u;
-    v7 = 0xFFFFFFE0u;
+    v8 = 0xFFFFFFE0u;
     switch (v1) {
     case 0: goto L4;
     case 1: goto L5;
     default: goto L2;
     }
 L5:;
-    v8 = 1u;
+    v7 = 1u;
 L4:;
-    v9 = l8(v0);
-    v10 = l8(v9 + 6744ull);
-    if (v10 == 0) goto L8;
-    v0 = v9 + 5720ull;
-    v5 = 0ull;
-L9:;
-    if (l1(v0 + 6ull) != v8) goto L10;
-    if (l4(v0) == v2) goto L7;
-L10:;
-    v0 = v0 + 16ull;
-    v5 = v5 + 1ull;
-    if (v10 != v5) goto L9;
+    f163(v6, l8(v0), v7, v2);
+    copy(v6 + 776ull, v6, 776ull);
+    v9 = l8(v6 + 1544);
+    v0 = (v4 < v9) ? v4 : v9;
+    if (v0 == 0) goto L6;
+    v10 = v3 + ((v3 == 0) ? 4096ull : 0ull);
+    v4 = 0ull;
+    if (v0 == 1ull) goto L7;
+    v11 = v0 & 1ull;
+    v3 = v0 & 0xFFFFFFFFFFFFFFFEull;
+    v4 = 0ull;
+    v5 = v6 + 776ull;
+    v0 = v10;
 L8:;
-    fill(v6 + 8ull, 0u, 776ull);
-    goto L6;
-L7:;
-    v11 = (u64)l4(v9 + 4624ull);
-    fill(v6 + 8ull, 0u, 776ull);
-    if (v5 == 0) goto L6;
-    v12 = v9 + 816ull;
-    v13 = v9 + 3888ull;
-    v14 = v12 + (((u64)l1(v13 + v5)) << 5);
-    v15 = (u64)l4(v14 + 20ull);
-    v16 = l2(v14 + 4ull);
-    v9 = 0ull;
-    v10 = 0ull;
-L11:;
-    v0 = v12 + (((u64)l1(v13 + v10)) << 5);
-    v2 = l4(v0);
-    v7 = l1(v0 + 6ull);
-    v8 = 0u;
-    if ((v16 & 65535u) != l2(v0 + 4ull)) goto L14;
-    if (((l1(v0 + 8ull) + 0xFFFFFFFCu) & 255u) > 2u) goto L15;
-    v1 = (((u64)l4(v0 + 28ull)) + v15) > v11;
-    v8 = 1u;
-    goto L13;
-L15:;
-    v8 = ((l1(v14 + 8ull) + 0xFFFFFFFCu) & 255u) < 3u;
-L14:;
-    v0 = ((u64)l4(v0 + 28ull)) + v15;
-    v1 = v0 > v11;
-    if (v8) goto L13;
-    if (v0 <= v11) goto L12;
-L13:;
-    v0 = (v6 + 8ull) + (v9 * 12ull);
-    s2(v0 + 1, 0u);
-    s1(v0, v7);
-    s1(v0 + 3, 0u);
-    s2(v0 + 10, 0u);
-    s1(v0 + 9, v1);
-    s1(v0 + 8, v8);
-    s4(v0 + 4, v2);
-    v9 = v9 + 1ull;
-    s8(v6 + 776, v9);
-L12:;
-    v10 = v10 + 1ull;
-    if (v5 != v10) goto L11;
-L6:;
-    v11 = l8(v6 + 776);
-    v0 = (v4 < v11) ? v4 : v11;
-    if (v0 == 0) goto L16;
-    v12 = v3 + ((v3 == 0) ? 4096ull : 0ull);
-    v10 = 0ull;
-    if (v0 == 1ull) goto L17;
-    v13 = v0 & 1ull;
-    v9 = v0 & 0xFFFFFFFFFFFFFFFEull;
-    v10 = 0ull;
-    v5 = v6 + 8ull;
-    v0 = v12;
-L18:;
     s1(v0 + 7ull, 0u);
     s1(v0 + 4ull, l1(v5));
     s1(v0 + 15ull, 0u);
@@ -21085,35 +21861,35 @@ L18:;
     s4(v0 + 8ull, l4(v5 + 16ull));
     v0 = v0 + 16ull;
     v5 = v5 + 24ull;
-    v10 = v10 + 2ull;
-    if (v9 != v10) goto L18;
-    if (v13 == 0) goto L16;
-L17:;
-    v0 = v12 + (v10 << 3);
+    v4 = v4 + 2ull;
+    if (v3 != v4) goto L8;
+    if (v11 == 0) goto L6;
+L7:;
+    v0 = v10 + (v4 << 3);
     s1(v0 + 7, 0u);
-    v5 = (v6 + 8ull) + (v10 * 12ull);
+    v5 = (v6 + 776ull) + (v4 * 12ull);
     s1(v0 + 4, l1(v5));
     s1(v0 + 6, l1(v5 + 9ull));
     s1(v0 + 5, l1(v5 + 8ull));
     s4(v0, l4(v5 + 4ull));
-L16:;
-    v7 = (u32)v11;
+L6:;
+    v8 = (u32)v9;
 L2:;
-    return v7;
+    return v8;
     TRAP();
 }
 
 static u32 w_mscp_why_at(u64 v0, u32 v1, u32 v2, u64 v3, u64 v4)
 {
     u32 t0, t1;
-    t0 = f49();
+    t0 = f58();
     if (t0 == 0) goto L1;
-    f50();
+    f59();
     TRAP();
 L1:;
-    t1 = f185(v0, v1, v2, v3, v4);
+    t1 = f207(v0, v1, v2, v3, v4);
     v2 = t1;
-    f52();
+    f61();
     return v2;
 }
 
@@ -21134,6 +21910,19 @@ static u64 take_unit(const struct mscp_unit *it, u8 *room)
     s2(A(room + 26), it->cylinder);
     return A(room);
 }
+static void give_unit(struct mscp_unit *it, const u8 *room)
+{
+    if (!LIES_unit) {
+        it->id = l8(A(room + 0));
+        it->size = l4(A(room + 8));
+        it->media = l4(A(room + 12));
+        it->serial = l4(A(room + 16));
+        it->number = (uint16_t)l2(A(room + 20));
+        it->track = (uint16_t)l2(A(room + 22));
+        it->group = (uint16_t)l2(A(room + 24));
+        it->cylinder = (uint16_t)l2(A(room + 26));
+    }
+}
 
 #define LIES_limits (LITTLE && sizeof(struct mscp_limits) == 32)
 static u64 take_limits(const struct mscp_limits *it, u8 *room)
@@ -21148,6 +21937,17 @@ static u64 take_limits(const struct mscp_limits *it, u8 *room)
     s2(A(room + 28), it->timeout);
     return A(room);
 }
+static void give_limits(struct mscp_limits *it, const u8 *room)
+{
+    if (!LIES_limits) {
+        it->id = l8(A(room + 0));
+        it->budget = l8(A(room + 8));
+        it->credits = l4(A(room + 16));
+        it->second = l4(A(room + 20));
+        it->longest = l4(A(room + 24));
+        it->timeout = (uint16_t)l2(A(room + 28));
+    }
+}
 
 #define LIES_hardware (LITTLE && sizeof(struct mscp_hardware) == 4)
 static u64 take_hardware(const struct mscp_hardware *it, u8 *room)
@@ -21158,6 +21958,18 @@ static u64 take_hardware(const struct mscp_hardware *it, u8 *room)
     s1(A(room + 1), it->model);
     s1(A(room + 2), it->software);
     s1(A(room + 3), it->version);
+    return A(room);
+}
+
+#define LIES_medium (LITTLE && sizeof(struct mscp_medium) == 12)
+static u64 take_medium(const struct mscp_medium *it, u8 *room)
+{
+    if (LIES_medium)
+        return A(it);
+    s4(A(room + 0), it->size);
+    s4(A(room + 4), it->media);
+    s1(A(room + 8), it->is_protected);
+    s1(A(room + 9), it->is_removable);
     return A(room);
 }
 
@@ -21397,6 +22209,52 @@ static void give_action(struct mscp_action *it, const u8 *room)
     }
 }
 
+#define LIES_state (LITTLE && sizeof(struct mscp_state) == 4)
+static u64 take_state(const struct mscp_state *it, u8 *room)
+{
+    if (LIES_state)
+        return A(it);
+    s2(A(room + 0), it->word);
+    s1(A(room + 2), it->stage);
+    s1(A(room + 3), it->is_held_back);
+    return A(room);
+}
+static void give_state(struct mscp_state *it, const u8 *room)
+{
+    if (!LIES_state) {
+        it->word = (uint16_t)l2(A(room + 0));
+        it->stage = (uint8_t)l1(A(room + 2));
+        it->is_held_back = (uint8_t)l1(A(room + 3));
+    }
+}
+
+#define LIES_volume (LITTLE && sizeof(struct mscp_volume) == 16)
+static u64 take_volume(const struct mscp_volume *it, u8 *room)
+{
+    if (LIES_volume)
+        return A(it);
+    s4(A(room + 0), it->size);
+    s4(A(room + 4), it->media);
+    s1(A(room + 8), it->is_there);
+    s1(A(room + 9), it->is_protected);
+    s1(A(room + 10), it->is_protected_by_host);
+    s1(A(room + 11), it->is_online);
+    s1(A(room + 12), it->is_removable);
+    return A(room);
+}
+static void give_volume(struct mscp_volume *it, const u8 *room)
+{
+    if (!LIES_volume) {
+        it->size = l4(A(room + 0));
+        it->media = l4(A(room + 4));
+        it->is_there = (uint8_t)l1(A(room + 8));
+        it->is_protected = (uint8_t)l1(A(room + 9));
+        it->is_protected_by_host = (uint8_t)l1(A(room + 10));
+        it->is_online = (uint8_t)l1(A(room + 11));
+        it->is_removable = (uint8_t)l1(A(room + 12));
+    }
+}
+
 size_t mscp_align(void)
 {
     return (size_t)w_mscp_align();
@@ -21551,6 +22409,16 @@ size_t mscp_port_align(void)
     return (size_t)w_mscp_port_align();
 }
 
+int32_t mscp_port_begun(const struct mscp_port *port, struct mscp_upcoming *upcoming)
+{
+    u8 port_room[LIES_port ? 1 : 32];
+    u8 upcoming_room[LIES_upcoming ? 1 : 28];
+    const int32_t answer = (int32_t)w_mscp_port_begun(take_port(port, port_room), take_upcoming(upcoming,
+        upcoming_room));
+    give_upcoming(upcoming, upcoming_room);
+    return answer;
+}
+
 int32_t mscp_port_init_at(struct mscp_port *port, const struct mscp_limits *limits, const struct mscp_unit *units,
         size_t count, uint32_t picker, const struct mscp_hardware *hardware, uint32_t credits)
 {
@@ -21574,6 +22442,18 @@ int32_t mscp_port_look_again(struct mscp_port *port)
     return answer;
 }
 
+int32_t mscp_port_look_at(const struct mscp_port *port, struct mscp_waiting *list, size_t room)
+{
+    u8 port_room[LIES_port ? 1 : 32];
+    u8 list_room[sizeof *list == 12 ? 1 : 12 * MSCP_CREDITS_MAX];
+    u8 *const list_there = sizeof *list == 12 ? (u8 *)list : list_room;
+    const size_t list_most = sizeof *list == 12 || room < MSCP_CREDITS_MAX ? room : MSCP_CREDITS_MAX;
+    const int32_t answer = (int32_t)w_mscp_port_look_at(take_port(port, port_room), A(list_there), list_most);
+    for (size_t k = 0; k < list_most && (i64)k < answer; k++)
+        give_waiting(list + k, list_there + 12 * k);
+    return answer;
+}
+
 int32_t mscp_port_next(struct mscp_port *port, struct mscp_action *action)
 {
     u8 port_room[LIES_port ? 1 : 32];
@@ -21581,6 +22461,25 @@ int32_t mscp_port_next(struct mscp_port *port, struct mscp_action *action)
     const int32_t answer = (int32_t)w_mscp_port_next(take_port(port, port_room), take_action(action, action_room));
     give_port(port, port_room);
     give_action(action, action_room);
+    return answer;
+}
+
+int32_t mscp_port_next_message(struct mscp_port *port, struct mscp_action *action)
+{
+    u8 port_room[LIES_port ? 1 : 32];
+    u8 action_room[LIES_action ? 1 : 84];
+    const int32_t answer = (int32_t)w_mscp_port_next_message(take_port(port, port_room), take_action(action,
+        action_room));
+    give_port(port, port_room);
+    give_action(action, action_room);
+    return answer;
+}
+
+int32_t mscp_port_protect(struct mscp_port *port, uint16_t unit, uint32_t is_protected)
+{
+    u8 port_room[LIES_port ? 1 : 32];
+    const int32_t answer = (int32_t)w_mscp_port_protect(take_port(port, port_room), unit, is_protected);
+    give_port(port, port_room);
     return answer;
 }
 
@@ -21621,9 +22520,34 @@ size_t mscp_port_save_size(void)
     return (size_t)w_mscp_port_save_size();
 }
 
+int32_t mscp_port_settings_at(const struct mscp_port *port, struct mscp_limits *limits, struct mscp_unit *units, size_t
+        room)
+{
+    u8 port_room[LIES_port ? 1 : 32];
+    u8 limits_room[LIES_limits ? 1 : 32];
+    u8 units_room[sizeof *units == 32 ? 1 : 32 * MSCP_CREDITS_MAX];
+    u8 *const units_there = sizeof *units == 32 ? (u8 *)units : units_room;
+    const size_t units_most = sizeof *units == 32 || room < MSCP_CREDITS_MAX ? room : MSCP_CREDITS_MAX;
+    const int32_t answer = (int32_t)w_mscp_port_settings_at(take_port(port, port_room), take_limits(limits,
+        limits_room), A(units_there), units_most);
+    give_limits(limits, limits_room);
+    for (size_t k = 0; k < units_most && (i64)k < answer; k++)
+        give_unit(units + k, units_there + 32 * k);
+    return answer;
+}
+
 size_t mscp_port_size(void)
 {
     return (size_t)w_mscp_port_size();
+}
+
+int32_t mscp_port_state(const struct mscp_port *port, struct mscp_state *state)
+{
+    u8 port_room[LIES_port ? 1 : 32];
+    u8 state_room[LIES_state ? 1 : 4];
+    const int32_t answer = (int32_t)w_mscp_port_state(take_port(port, port_room), take_state(state, state_room));
+    give_state(state, state_room);
+    return answer;
 }
 
 int32_t mscp_port_tick(struct mscp_port *port)
@@ -21634,10 +22558,22 @@ int32_t mscp_port_tick(struct mscp_port *port)
     return answer;
 }
 
-int32_t mscp_port_volume_came(struct mscp_port *port, uint16_t unit, uint32_t is_protected)
+int32_t mscp_port_volume(const struct mscp_port *port, uint16_t unit, struct mscp_volume *volume)
 {
     u8 port_room[LIES_port ? 1 : 32];
-    const int32_t answer = (int32_t)w_mscp_port_volume_came(take_port(port, port_room), unit, is_protected);
+    u8 volume_room[LIES_volume ? 1 : 16];
+    const int32_t answer = (int32_t)w_mscp_port_volume(take_port(port, port_room), unit, take_volume(volume,
+        volume_room));
+    give_volume(volume, volume_room);
+    return answer;
+}
+
+int32_t mscp_port_volume_came(struct mscp_port *port, uint16_t unit, const struct mscp_medium *medium)
+{
+    u8 port_room[LIES_port ? 1 : 32];
+    u8 medium_room[LIES_medium ? 1 : 12];
+    const int32_t answer = (int32_t)w_mscp_port_volume_came(take_port(port, port_room), unit, take_medium(medium,
+        medium_room));
     give_port(port, port_room);
     return answer;
 }
@@ -21663,6 +22599,20 @@ int32_t mscp_port_went(struct mscp_port *port, uint32_t outcome, uint16_t status
     u8 port_room[LIES_port ? 1 : 32];
     const int32_t answer = (int32_t)w_mscp_port_went(take_port(port, port_room), outcome, status);
     give_port(port, port_room);
+    return answer;
+}
+
+int32_t mscp_port_why_at(const struct mscp_port *port, uint32_t connection, uint32_t reference, struct mscp_holder
+        *list, size_t room)
+{
+    u8 port_room[LIES_port ? 1 : 32];
+    u8 list_room[sizeof *list == 8 ? 1 : 8 * MSCP_CREDITS_MAX];
+    u8 *const list_there = sizeof *list == 8 ? (u8 *)list : list_room;
+    const size_t list_most = sizeof *list == 8 || room < MSCP_CREDITS_MAX ? room : MSCP_CREDITS_MAX;
+    const int32_t answer = (int32_t)w_mscp_port_why_at(take_port(port, port_room), connection, reference,
+        A(list_there), list_most);
+    for (size_t k = 0; k < list_most && (i64)k < answer; k++)
+        give_holder(list + k, list_there + 8 * k);
     return answer;
 }
 
@@ -21736,6 +22686,21 @@ int32_t mscp_send_at(struct mscp *mscp, uint32_t connection, const uint8_t *mess
         take_sent(sent, sent_room));
     give_controller(mscp, mscp_room);
     give_sent(sent, sent_room);
+    return answer;
+}
+
+int32_t mscp_settings_at(const struct mscp *mscp, struct mscp_limits *limits, struct mscp_unit *units, size_t room)
+{
+    u8 mscp_room[LIES_controller ? 1 : 32];
+    u8 limits_room[LIES_limits ? 1 : 32];
+    u8 units_room[sizeof *units == 32 ? 1 : 32 * MSCP_CREDITS_MAX];
+    u8 *const units_there = sizeof *units == 32 ? (u8 *)units : units_room;
+    const size_t units_most = sizeof *units == 32 || room < MSCP_CREDITS_MAX ? room : MSCP_CREDITS_MAX;
+    const int32_t answer = (int32_t)w_mscp_settings_at(take_controller(mscp, mscp_room), take_limits(limits,
+        limits_room), A(units_there), units_most);
+    give_limits(limits, limits_room);
+    for (size_t k = 0; k < units_most && (i64)k < answer; k++)
+        give_unit(units + k, units_there + 32 * k);
     return answer;
 }
 

@@ -6,7 +6,7 @@
 #include "port.h"
 #include "pdp11_defs.h"
 
-enum { CONTROLLERS = 4, DRIVES = 4, WORK = DRIVES, SECOND, UNITS };
+enum { CONTROLLERS = 4, DRIVES = 4, WORK = DRIVES, SECOND, UNITS, RD54 = 4 };
 
 #define UNIT_LOCKED (1u << UNIT_V_UF) /* a flag of a unit: the host may not write on it */
 #define DRIVE u3                      /* in a unit: which drive of the table below it is */
@@ -52,7 +52,6 @@ static const struct drive {
     {"RA82", 'U', 11, 82, 1216665, 57, 15}, {"RA90", 'U', 19, 90, 2376153, 69, 13},
     {"RA92", 'U', 29, 92, 2940951, 73, 13},
 };
-enum { RD54 = 4 };
 
 /* The media identifier as the manual of MSCP has it: five letters of five bits, and a number of seven. */
 static uint32_t media (const struct drive *drive)
@@ -70,7 +69,6 @@ static uint32_t media (const struct drive *drive)
  * them page by page, and a host of the other order of bytes has each word swapped. */
 static uint8_t *in_memory (uint32_t address, uint32_t count)
 {
-    address &= UNIBUS ? UNIMASK : PAMASK;
     if (!sim_end || (cpu_bme && UBM_GETOFF (address) + count > UBM_PAGSIZE))
         return NULL;
     if (cpu_bme)
@@ -120,20 +118,18 @@ static t_bool seek (UNIT *unit, uint32_t block, t_bool writes)
 /* An error isn't kept: the next block may be a good one. */
 static bool went_well (FILE *file)
 {
-    if (!ferror (file))
-        return true;
+    bool is_good = !ferror (file);
     clearerr (file);
-    return false;
+    return is_good;
 }
 
 /* Behind the end of its file a volume has zeros. */
 static bool read_block (void *machine, uint16_t number, uint32_t block, uint8_t *bytes)
 {
     UNIT *unit = ((struct controller *)machine)->device->units + number;
-    size_t length;
     if (!seek (unit, block, FALSE))
         return false;
-    length = fread (bytes, 1, MSCP_BLOCK, unit->fileref);
+    size_t length = fread (bytes, 1, MSCP_BLOCK, unit->fileref);
     memset (bytes + length, 0, MSCP_BLOCK - length);
     return went_well (unit->fileref);
 }
@@ -235,6 +231,15 @@ static t_stat second (UNIT *unit)
 
 /* ---- SIMH's commands */
 
+/* What is attached to a unit comes into it. */
+static void load (struct controller *it, UNIT *unit)
+{
+    const struct drive *drive = &drives[unit->DRIVE];
+    const struct mscp_medium medium = {
+        drive->blocks, media (drive), (unit->flags & (UNIT_RO | UNIT_LOCKED)) != 0, drive->letter == 'J'};
+    port_insert (&it->port, (uint16_t)(unit - it->device->units), &medium);
+}
+
 /* Makes the port as new: RESET, BOOT, the processor's RESET, and whatever changes the drives. On a Unibus it is a UDA50,
  * and on a Q-bus an RQDX3. */
 static t_stat reset (DEVICE *device)
@@ -255,7 +260,7 @@ static t_stat reset (DEVICE *device)
         return SCPE_IERR;
     for (uint16_t i = 0; i < DRIVES; i++)
         if (device->units[i].flags & UNIT_ATT)
-            port_insert (&it->port, i, (device->units[i].flags & (UNIT_RO | UNIT_LOCKED)) != 0);
+            load (it, &device->units[i]);
     withdraw (it);
     sim_cancel (&device->units[WORK]);
     sim_cancel (&device->units[SECOND]);
@@ -268,7 +273,7 @@ static t_stat attach (UNIT *unit, char *name)
     t_stat status = attach_unit (unit, name);
     if (status != SCPE_OK)
         return status;
-    port_insert (&it->port, (uint16_t)(unit - it->device->units), (unit->flags & (UNIT_RO | UNIT_LOCKED)) != 0);
+    load (it, unit);
     if (sim_is_active (&it->device->units[WORK]))
         call (it); /* a host that has asked for attention messages gets one */
     return SCPE_OK;
@@ -285,10 +290,8 @@ static t_stat detach (UNIT *unit)
 /* The drive of a unit has another size, and so the controller is another one. */
 static t_stat set_drive (UNIT *unit, int32 value, char *text, void *nothing)
 {
-    if (text != NULL)
-        return SCPE_ARG;
-    if (unit->flags & UNIT_ATT)
-        return SCPE_ALATT;
+    if (text != NULL || unit->flags & UNIT_ATT)
+        return text != NULL ? SCPE_ARG : SCPE_ALATT;
     unit->DRIVE = value;
     unit->capac = drives[value].blocks * MSCP_BLOCK;
     return reset (controller_of (unit)->device);
@@ -374,10 +377,8 @@ static UNIT units[CONTROLLERS][UNITS] = {ALL_UNITS, ALL_UNITS, ALL_UNITS, ALL_UN
 #define A_DIB(name) {IOBA_##name, IOLN_##name, read_register, write_register, 1, IVCL (RQ), 0, {acknowledge}}
 static DIB dibs[CONTROLLERS] = {A_DIB (RQ), A_DIB (RQB), A_DIB (RQC), A_DIB (RQD)};
 
-static REG registers[] = {
-    {DRDATA (ACTIONS, actions, 24), PV_LEFT + REG_NZ},
-    {DRDATA (PAUSE, pause, 24), PV_LEFT + REG_NZ},
-    {NULL}};
+static REG registers[] = {{DRDATA (ACTIONS, actions, 24), PV_LEFT + REG_NZ},
+                          {DRDATA (PAUSE, pause, 24), PV_LEFT + REG_NZ}, {NULL}};
 
 #define SET_TO(number, name) {MTAB_XTD | MTAB_VUN, number, NULL, name, set_drive, NULL, NULL}
 static MTAB modifiers[] = {
@@ -385,8 +386,7 @@ static MTAB modifiers[] = {
     SET_TO (5, "RA60"), SET_TO (6, "RA71"), SET_TO (7, "RA72"), SET_TO (8, "RA80"), SET_TO (9, "RA81"),
     SET_TO (10, "RA82"), SET_TO (11, "RA90"), SET_TO (12, "RA92"),
     {MTAB_XTD | MTAB_VUN, 0, "TYPE", NULL, NULL, show_drive, NULL},
-    {UNIT_LOCKED, 0, "write enabled", "WRITEENABLED", may_lock},
-    {UNIT_LOCKED, UNIT_LOCKED, "write locked", "LOCKED", may_lock},
+    {UNIT_LOCKED, 0, "write enabled", "WRITEENABLED", may_lock}, {UNIT_LOCKED, UNIT_LOCKED, "write locked", "LOCKED", may_lock},
     {MTAB_XTD | MTAB_VDV, 4, "ADDRESS", "ADDRESS", set_addr, show_addr, NULL},
     {0}};
 

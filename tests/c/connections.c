@@ -32,9 +32,11 @@ static void credits_of_both(void)
         int32_t status;
     } cases[] = {
         {2, 62, MSCP_DONE},         {64, 0, MSCP_DONE},        {2, 2, MSCP_DONE},         {62, 2, MSCP_DONE},
+        {2, 0, MSCP_DONE},          {0, 0, MSCP_BAD_CREDITS},  {1, 0, MSCP_BAD_CREDITS},
         {3, 62, MSCP_BAD_CREDITS},  {4, 1, MSCP_BAD_CREDITS},  {64, 2, MSCP_BAD_CREDITS}, {2, 63, MSCP_BAD_CREDITS},
         {0, 4, MSCP_BAD_CREDITS},   {1, 2, MSCP_BAD_CREDITS},  {65, 0, MSCP_BAD_CREDITS},
         {4, UINT32_MAX, MSCP_BAD_CREDITS},                     {8, UINT32_MAX - 3, MSCP_BAD_CREDITS},
+        {UINT32_MAX, 2, MSCP_BAD_CREDITS},
     };
     size_t size = MSCP_HEAD + mscp_size();
     void *memory = memory_of(size);

@@ -240,7 +240,7 @@ static void trouble(unsigned pass)
         is("it goes", mscp_port_volume_went(machine.port, 2), MSCP_DONE);
         driver.gone = 1;
     } else if (driver.gone > 0 && driver.gone++ == 20)
-        is("it comes", mscp_port_volume_came(machine.port, 2, 0), MSCP_DONE);
+        is("it comes", insert(2, 0), MSCP_DONE);
     if (driver.copied >= GROUPS / 4 && pass == 5 && !driver.began_anew) {
         driver.began_anew = true;
         begin();

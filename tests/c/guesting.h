@@ -6,6 +6,25 @@
 enum { GUEST = 1 << 16, BASE = 0x1000, SLOTS = 8, PACKET = 72 };
 static uint8_t guest[GUEST];
 
+/* The blocks of a unit, of one that isn't there too. */
+static uint32_t size_of(uint16_t unit)
+{
+    for (size_t i = 0; i < count; i++)
+        if (units[i].number == unit)
+            return units[i].size;
+    return 1;
+}
+
+/* A volume comes into a unit, and sometimes one that has no size, or is too large. */
+static void insert(uint16_t unit)
+{
+    const struct mscp_medium medium = {
+        .size = any(50) == 0 ? 0 : size_of(unit) + (any(50) == 0) - any(2), .media = any(9), .is_protected = (uint8_t)any(2),
+        .is_removable = (uint8_t)any(2),
+    };
+    tell(CAME, mscp_port_volume_came(port, unit, &medium));
+}
+
 static void make_port(void)
 {
     choose();
@@ -15,7 +34,7 @@ static void make_port(void)
     memset(guest, 0, sizeof guest);
     for (size_t i = 0; i < count; i++)
         if (any(5))
-            tell(CAME, mscp_port_volume_came(port, units[i].number, any(2)));
+            insert(units[i].number);
 }
 
 static uint32_t outcome_of(const struct mscp_action *action)
@@ -27,13 +46,44 @@ static uint32_t outcome_of(const struct mscp_action *action)
 
 static uint16_t status_of(const struct mscp_action *action) { return (uint16_t)((action->block * 7 + action->address) % 64); }
 
-/* Does what the port wants, if it wants something. Whether it did. */
+/* What the port is, and what waits in its controller. */
+static void look_into(void)
+{
+    uint16_t unit = (uint16_t)(3 * any((uint32_t)count + 1));
+    struct mscp_state state = {0, 0, 0};
+    struct mscp_volume volume;
+    struct mscp_upcoming begun = {0, 0, 0, 0, 0, 0, 0, 0, 0};
+    struct mscp_waiting list[64];
+    struct mscp_holder holders[64];
+    size_t room = any(5) ? 64 : any(8);
+    uint32_t via = any(9) ? 0 : any(3);
+    memset(&volume, 0, sizeof volume);
+    tell(STATE, mscp_port_state(port, &state)), tell(VOLUME, mscp_port_volume(port, unit, &volume));
+    eat(state.word), eat(state.stage), eat(state.is_held_back);
+    eat(volume.size), eat(volume.media), eat(volume.is_removable), eat(volume.is_there), eat(volume.is_protected), eat(volume.is_protected_by_host), eat(volume.is_online);
+    tell(BEGUN, mscp_port_begun(port, &begun));
+    eat_upcoming(&begun);
+    int64_t waiting = tell(PORT_LOOK, mscp_port_look(port, list, room));
+    eat_waiting(list, room, waiting);
+    uint32_t last = waiting > 0 && (size_t)waiting <= room && any(4) ? list[waiting - 1].reference : any(50);
+    eat_holders(holders, room, tell(PORT_WHY, mscp_port_why(port, via, last, holders, room)));
+    struct mscp_limits of = {0, 0, 0, 0, 0, 0};
+    struct mscp_unit its[MSCP_UNITS_MAX];
+    memset(its, 0, sizeof its);
+    uint32_t asked = any(MSCP_UNITS_MAX + 1);
+    eat_settings(&of, its, asked, tell(PORT_SETTINGS, mscp_port_settings(port, &of, its, asked)));
+}
+
+/* Does what the port wants, or what it wants of messages, if it wants something. Whether it did. */
 static int act(void)
 {
     struct mscp_action action;
     memset(&action, 0x5A, sizeof action);
-    int64_t status = tell(NEXT, mscp_port_next(port, &action));
+    int64_t status = any(9) ? tell(NEXT, mscp_port_next(port, &action)) :
+                              tell(NEXT_MESSAGE, mscp_port_next_message(port, &action));
     eat_action(&action);
+    if (any(30) == 0 || action.kind == MSCP_ACTION_TRANSFER)
+        look_into();
     if (status != MSCP_DONE) {
         if (any(9) == 0)
             tell(WENT, mscp_port_went(port, 0, 0)), tell(WAS_READ, mscp_port_was_read(port, guest, any(5)));
@@ -115,13 +165,14 @@ static void save_port(void)
 static void watch(void)
 {
     uint16_t unit = (uint16_t)(3 * any((uint32_t)count + 1));
-    switch (any(9)) {
+    switch (any(10)) {
     case 0: tell(TICK, mscp_port_tick(port)); break;
     case 1: tell(LOOK_AGAIN, mscp_port_look_again(port)); break;
-    case 2: tell(CAME, mscp_port_volume_came(port, unit, any(2))); break;
+    case 2: insert(unit); break;
     case 3: tell(GONE, mscp_port_volume_went(port, unit)); break;
     case 4: tell(READ_SA, mscp_port_read_sa(port)); break;
     case 5: save_port(); break;
+    case 6: tell(PROTECT, mscp_port_protect(port, unit, any(2))); break;
     default: run(40);
     }
 }

@@ -260,15 +260,15 @@ static void tell_wrongly(const struct mscp_action *action)
 
 static void act_somehow(void)
 {
+    int32_t (*next)(struct mscp_port *, struct mscp_action *) = by_chance(100) ? mscp_port_next_message : mscp_port_next;
     struct mscp_action action, again;
-    uint32_t outcome;
-    uint16_t status = (uint16_t)any();
+    uint32_t outcome, status = any() & 0xFFFF;
     memset(&action, 0, sizeof action);
-    if (mscp_port_next(machine.port, &action) != MSCP_DONE)
+    if (next(machine.port, &action) != MSCP_DONE)
         return;
     again = action;
-    must("it wants the same again", mscp_port_next(machine.port, &again) == MSCP_DONE &&
-                                        memcmp(&again, &action, sizeof action) == 0);
+    must("it wants the same again", next(machine.port, &again) == MSCP_DONE && memcmp(&again, &action, sizeof action) == 0);
+    must("no message", next == mscp_port_next || (action.kind != MSCP_ACTION_FETCH && action.kind != MSCP_ACTION_TRANSFER));
     judge(&action);
     if (by_chance(20))
         tell_wrongly(&action);
@@ -332,13 +332,13 @@ static void fill_slot(void)
 static void change_a_volume(void)
 {
     uint16_t unit = (uint16_t)below(UNITS + 1);
-    bool comes = by_chance(700), protects = by_chance(300);
-    int32_t status = comes ? mscp_port_volume_came(machine.port, unit, protects ? any() | 1 : 0)
-                           : mscp_port_volume_went(machine.port, unit);
+    bool stays = by_chance(300), comes = by_chance(700), protects = by_chance(300);
+    int32_t status = stays ? mscp_port_protect(machine.port, unit, protects ? any() | 1 : 0)
+                   : comes ? insert(unit, protects) : mscp_port_volume_went(machine.port, unit);
     is("a unit", status, unit < UNITS ? MSCP_DONE : MSCP_UNKNOWN_UNIT);
     if (unit < UNITS) {
-        has_volume[unit] = comes;
-        is_protected[unit] = comes && protects;
+        has_volume[unit] = stays ? has_volume[unit] : comes;
+        is_protected[unit] = (stays || comes) && protects;
     }
 }
 

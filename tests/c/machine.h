@@ -36,6 +36,13 @@ static inline struct mscp_unit rd54(uint16_t unit)
     return it;
 }
 
+/* An RD54's volume comes into a unit. */
+static inline int32_t insert(uint16_t unit, bool is_protected)
+{
+    const struct mscp_medium medium = {.size = 311200, .media = 0x25644036, .is_protected = is_protected};
+    return mscp_port_volume_came(machine.port, unit, &medium);
+}
+
 /* A new machine, of which units 0 and 2 have volumes. Byte k of block n of unit u is k + n + u. */
 static inline void build(const struct mscp_hardware *hardware)
 {
@@ -54,8 +61,8 @@ static inline void build(const struct mscp_hardware *hardware)
     }
     machine.port = mscp_port_in_memory(machine.rooms[0], sizeof machine.rooms[0]);
     is("init", mscp_port_init(machine.port, &limits, units, UNITS, policy, hardware, HOST_CREDITS), MSCP_DONE);
-    is("a volume", mscp_port_volume_came(machine.port, 0, 0), MSCP_DONE);
-    is("another", mscp_port_volume_came(machine.port, 2, 0), MSCP_DONE);
+    is("a volume", insert(0, 0), MSCP_DONE);
+    is("another", insert(2, 0), MSCP_DONE);
 }
 
 static inline bool is_there(uint32_t address, uint32_t count)
@@ -169,6 +176,16 @@ static inline unsigned run(unsigned most)
     while (done < most && act())
         done++;
     return done;
+}
+
+/* Does what the port wants until that is an action of this kind, which is left to do. */
+static inline struct mscp_action until(uint8_t kind)
+{
+    struct mscp_action action = {0};
+    while (mscp_port_next(machine.port, &action) == MSCP_DONE && action.kind != kind)
+        tell(&action, perform(&action));
+    is("the kind", action.kind, kind);
+    return action;
 }
 
 /* ---- the host */

@@ -49,6 +49,24 @@ static void eat_packet(const struct mscp_packet *it)
     eat_bytes(it->bytes, sizeof it->bytes);
 }
 
+static void eat_upcoming(const struct mscp_upcoming *it)
+{
+    eat(it->reference), eat(it->bytes), eat(it->lbn), eat(it->done), eat(it->weight), eat(it->unit);
+    eat(it->opcode), eat(it->touches), eat(it->connection);
+}
+
+static void eat_waiting(const struct mscp_waiting *list, size_t room, int64_t there)
+{
+    for (size_t i = 0; i < room && (int64_t)i < there; i++)
+        eat(list[i].reference), eat(list[i].figure), eat(list[i].connection);
+}
+
+static void eat_holders(const struct mscp_holder *list, size_t room, int64_t there)
+{
+    for (size_t i = 0; i < room && (int64_t)i < there; i++)
+        eat(list[i].reference), eat(list[i].connection), eat(list[i].fences), eat(list[i].overdrawn);
+}
+
 /* ---- what is made, and how it is refused */
 
 static struct mscp_limits limits;

@@ -1,6 +1,6 @@
 /* A port whose host runs while an action is under way: between an action and what is told of it the host sends commands,
  * takes ends, touches registers and begins anew, and a second goes by. What was read for the port is what stood there before.
- * No command is overlooked, and each has one end.
+ * Now and then the port is asked for messages alone. No command is overlooked, and each has one end and the right data.
  *
  *     meanwhile [ROUNDS [SEED]]
  *
@@ -11,7 +11,7 @@ enum { AREA = 0x1000, DATA = 0x4000, EACH = 3 * MSCP_BLOCK };
 
 static uint64_t state = 1;
 static bool is_out[HOST_CREDITS];     /* commands of these numbers less 1 */
-static uint32_t blocks[HOST_CREDITS]; /* from which a READ of 3 blocks is */
+static uint32_t blocks[HOST_CREDITS]; /* from which a READ of 3 blocks is, or by which the bytes of a WRITE are */
 static uint32_t outstanding;
 
 static uint32_t below(uint32_t bound)
@@ -20,7 +20,21 @@ static uint32_t below(uint32_t bound)
     return (uint32_t)(state >> 33) % bound;
 }
 
-/* A READ, or a command that is answered when it arrives, if there are credits for both. */
+/* What a command does, by its number: a READ of unit 0, a WRITE to blocks of its own of unit 2, or what is answered when it
+ * arrives. */
+static uint8_t opcode_of(uint32_t i)
+{
+    static const uint8_t OPCODES[] = {MSCP_GET_UNIT_STATUS, MSCP_READ, MSCP_WRITE};
+    return OPCODES[i % 3];
+}
+
+/* A byte of a WRITE's. */
+static uint8_t byte_of(uint32_t i, uint32_t k)
+{
+    return (uint8_t)(5 * k + 11 * i + blocks[i]);
+}
+
+/* A command, if there are credits for it and one more. */
 static void send_one(void)
 {
     uint32_t i = below(HOST_CREDITS - 2);
@@ -29,10 +43,14 @@ static void send_one(void)
     is_out[i] = true;
     outstanding++;
     blocks[i] = below(BLOCKS - 3);
-    if (i % 3 == 0)
+    for (uint32_t k = 0; opcode_of(i) == MSCP_WRITE && k < EACH; k++)
+        machine.memory[DATA + i * EACH + k] = byte_of(i, k);
+    if (opcode_of(i) == MSCP_GET_UNIT_STATUS)
         send_command(0, i + 1, MSCP_GET_UNIT_STATUS, 0, 0, 0);
-    else
+    else if (opcode_of(i) == MSCP_READ)
         send_command(0, i + 1, MSCP_READ, EACH, blocks[i], DATA + i * EACH);
+    else
+        send_command(2, i + 1, MSCP_WRITE, EACH, 3 * i, DATA + i * EACH);
 }
 
 static void take_one(void)
@@ -42,10 +60,12 @@ static void take_one(void)
         return;
     uint32_t i = number(packet + 4, 4) - 1;
     is("an end of what is out", i < HOST_CREDITS && is_out[i], 1);
-    is("its code", packet[12], i % 3 == 0 ? 0x83 : 0xA1);
+    is("its code", packet[12], 0x80 | opcode_of(i));
     is("its status", number(packet + 14, 2), 0);
-    for (uint32_t k = 0; i % 3 != 0 && k < EACH; k += 97)
+    for (uint32_t k = 0; opcode_of(i) == MSCP_READ && k < EACH; k += 97)
         is("its bytes", machine.memory[DATA + i * EACH + k], (uint8_t)(k % MSCP_BLOCK + blocks[i] + k / MSCP_BLOCK));
+    for (uint32_t k = 0; opcode_of(i) == MSCP_WRITE && k < EACH; k += 97)
+        is("its bytes", machine.disks[2][3 * i + k / MSCP_BLOCK][k % MSCP_BLOCK], byte_of(i, k));
     is_out[i] = false;
     outstanding--;
 }
@@ -57,6 +77,8 @@ static void begin(void)
     initialise(AREA, 4, 4, 0);
     send_command(0, 100, MSCP_ONLINE, 0, 0, 0);
     expect(100, 0x89, 0);
+    send_command(2, 101, MSCP_ONLINE, 0, 0, 0);
+    expect(101, 0x89, 0);
 }
 
 /* What may happen while an action is under way. Whether the port was begun anew. */
@@ -78,12 +100,26 @@ static bool meanwhile(void)
     return false;
 }
 
+/* What the port wants, or what it wants of messages: that is nothing of a block, and no other block is begun. */
+static int32_t want(struct mscp_action *action)
+{
+    struct mscp_upcoming before = {0}, after = {0};
+    if (below(3) > 0)
+        return mscp_port_next(machine.port, action);
+    int32_t begun = mscp_port_begun(machine.port, &before), status = mscp_port_next_message(machine.port, action);
+    if (status == MSCP_DONE)
+        is("of a block", action->kind == MSCP_ACTION_FETCH || action->kind == MSCP_ACTION_TRANSFER, 0);
+    is("begun", mscp_port_begun(machine.port, &after), begun);
+    is("the same", before.reference == after.reference && before.lbn == after.lbn && before.done == after.done, 1);
+    return status;
+}
+
 /* One action, and what happens before it is told how that went. Whether there was one. */
 static bool act_slowly(void)
 {
     uint8_t read[MSCP_BLOCK];
     struct mscp_action action;
-    if (mscp_port_next(machine.port, &action) != MSCP_DONE)
+    if (want(&action) != MSCP_DONE)
         return false;
     if (action.kind == MSCP_ACTION_READ)
         memcpy(read, machine.memory + action.address, action.count);

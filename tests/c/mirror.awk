@@ -1,5 +1,5 @@
 # Prints a C file that compiles only where mscp.h says what the sources say: each struct with its fields, their places
-# and types; each call with its parameters; and the numbers of statuses, pickers, connections, opcodes, marks and of the
+# and types; each call with its parameters; and the numbers of statuses, pickers, connections, opcodes, stages, marks and of the
 # version. tests/library names the sources.
 #
 # A call's handle is const where the contract has the clause `same`. Types are compared by _Generic. A field that only
@@ -7,7 +7,8 @@
 
 BEGIN {
     split("SentOut sent PacketOut packet UpcomingOut upcoming ReportOut report FigureOut waiting HolderOut holder " \
-        "NewsOut news Limits limits UnitIn unit HardwareIn hardware ActionOut action", words, " ")
+        "NewsOut news Limits limits UnitIn unit HardwareIn hardware ActionOut action StateOut state VolumeOut volume " \
+        "MediumIn medium", words, " ")
     for (i = 1; i in words; i += 2)
         name_of[words[i]] = "mscp_" words[i + 1]
     split("u8 uint8_t u16 uint16_t u32 uint32_t u64 uint64_t usize size_t i32 int32_t i64 int64_t", words, " ")
@@ -163,6 +164,12 @@ in_call { call = call $0 " " }
     sub(/;/, "", $5)
     enumerator_is("action_kind", "ACTION_" $2, $5)
 }
+/^ +Stage::[A-Za-z]+(\(_\))? => [0-9]+,$/ {
+    stage = $1
+    gsub(/Stage::|\(_\)/, "", stage)
+    sub(/,/, "", $3)
+    enumerator_is("stage", "STAGE_" toupper(stage), $3)
+}
 /^ +Opcode::.* => Line::new\([0-9]+,/ {
     byte = $3
     gsub(/[^0-9]/, "", byte)
@@ -180,9 +187,9 @@ END {
     for (enum in cases)
         print "int is_" enum "(enum mscp_" enum " it)\n{\n    switch (it) {\n   " cases[enum] \
             "\n        return 1;\n    }\n    return 0;\n}"
-    if (structs != 14 || calls < 38 || marks != 3 || length(cases["picker"]) == 0 || length(cases["opcode"]) == 0 ||
+    if (structs < 16 || calls < 45 || marks != 3 || length(cases["picker"]) == 0 || length(cases["opcode"]) == 0 ||
         length(cases["connection"]) == 0 || length(cases["bus"]) == 0 || length(cases["outcome"]) == 0 ||
-        length(cases["action_kind"]) == 0) {
+        length(cases["action_kind"]) == 0 || length(cases["stage"]) == 0) {
         print "mirror.awk: " structs " structs, " calls " calls, " marks " marks" >"/dev/stderr"
         exit 1
     }

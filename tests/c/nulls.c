@@ -9,6 +9,8 @@
 #define mscp_host_receive_at receive_seen
 #define mscp_port_init_at port_init_seen
 #define mscp_port_was_read_at was_read_seen
+#define mscp_port_look_at port_look_seen
+#define mscp_port_why_at port_why_seen
 #define mscp_run_script_at script_seen
 #define mscp_show_packet_at packet_seen
 #include "trying.h"
@@ -65,6 +67,17 @@ int32_t was_read_seen(struct mscp_port *port, const uint8_t *bytes, size_t lengt
     return port != NULL ? see(bytes, length) : 0;
 }
 
+int32_t port_look_seen(const struct mscp_port *port, struct mscp_waiting *list, size_t room)
+{
+    return port != NULL ? see(list, room) : 0;
+}
+
+int32_t port_why_seen(const struct mscp_port *port, uint32_t connection, uint32_t reference, struct mscp_holder *list,
+                      size_t room)
+{
+    return port != NULL && connection == 7 && reference == 9 ? see(list, room) : 0;
+}
+
 int32_t script_seen(const uint8_t *script, size_t length, uint8_t *bytes, size_t room, size_t *count, uint32_t *line)
 {
     return count != NULL && line != NULL && (room > 0 || bytes != NULL) ? see(script, length) : 0;
@@ -105,6 +118,8 @@ int main(void)
     passes("receive", mscp_host_receive(&host, bytes, 2, &news), bytes, 2);
     passes("init of a port", mscp_port_init(&port, &limits, units, 2, 3, &hardware, 4), units, 2);
     passes("was read", mscp_port_was_read(&port, bytes, 2), bytes, 2);
+    passes("look into a port", mscp_port_look(&port, list, 2), list, 2);
+    passes("why in a port", mscp_port_why(&port, 7, 9, holders, 2), holders, 2);
     passes("script", mscp_run_script(bytes, 2, out, 2, &count, &line), bytes, 2);
     passes("packet", mscp_show_packet(bytes, 2, out, 2, &count), out, 2);
     passes("init of none", mscp_init(&mscp, &limits, NULL, 0, 3), NULL, 0);
@@ -114,6 +129,8 @@ int main(void)
     passes("submit of none", mscp_host_submit(&host, NULL, 0), NULL, 0);
     passes("receive of none", mscp_host_receive(&host, NULL, 0, &news), NULL, 0);
     passes("init of a port of none", mscp_port_init(&port, &limits, NULL, 0, 3, &hardware, 4), NULL, 0);
+    passes("look into a port at none", mscp_port_look(&port, NULL, 0), NULL, 0);
+    passes("why of none in a port", mscp_port_why(&port, 7, 9, NULL, 0), NULL, 0);
     passes("no script", mscp_run_script(NULL, 0, NULL, 0, &count, &line), NULL, 0);
     passes("packet in no room", mscp_show_packet(bytes, 2, NULL, 0, &count), NULL, 0);
     passes("none was read", mscp_port_was_read(&port, NULL, 0), NULL, 0);

@@ -193,6 +193,27 @@ static void nothing_is_there(void)
     is("most of a host", (int64_t)mscp_host_save_size(), MSCP_HOST_SAVED_MAX);
 }
 
+/* A restored controller says of which limits and units it is: of as many as there is room for. */
+static void tells_what_it_is(const struct mscp *mscp)
+{
+    struct mscp_limits limits;
+    struct mscp_unit told[UNITS + 1];
+    memset(told, 0xA5, sizeof told);
+    is("how many", mscp_settings(mscp, &limits, told, 1), UNITS);
+    is("one", told[0].size == units[0].size && told[1].size == 0xA5A5A5A5, 1);
+    is("all", mscp_settings(mscp, &limits, told, UNITS + 1), UNITS);
+    for (int i = 0; i < UNITS; i++)
+        is("the same", is_same_unit(told + i, units + i), 1);
+    is("none behind", told[UNITS].size, 0xA5A5A5A5);
+    is("its identifier", (int64_t)limits.id, (int64_t)LIMITS.id);
+    is("its budget", (int64_t)limits.budget, (int64_t)LIMITS.budget);
+    is("its longest", limits.longest, LIMITS.longest);
+    is("its timeout", limits.timeout, LIMITS.timeout);
+    is("credits", limits.credits, LIMITS.credits);
+    is("the second's", limits.second, LIMITS.second);
+    is("no room", mscp_settings(mscp, &limits, NULL, 0), UNITS);
+}
+
 /* Bytes that aren't the controller's. Each place is one of the format, and each change the least that is refused so. */
 static void other_bytes(void)
 {
@@ -228,6 +249,7 @@ static void other_bytes(void)
     struct mscp *fresh = mscp_in_memory(staying.memory, controller_bytes());
     is("no bytes", mscp_restore(fresh, NULL, 0), MSCP_SAVED_LENGTH);
     is("its own bytes", mscp_restore(fresh, bytes, length), MSCP_DONE);
+    tells_what_it_is(fresh);
     free(moving.memory);
     free(staying.memory);
 }

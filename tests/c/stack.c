@@ -7,17 +7,19 @@
 #include <ucontext.h>
 
 enum {
-    NOTHING, SEND, BEGIN, FINISH, STEP, TAKE, LOOK, FIGURE, BALANCE, WAITING, UNTAKEN, IS_ONLINE, RESET, SUBMIT, POLL,
-    RECEIVE, HOST_BALANCE, SAVE, HOST_SAVE, INIT, HOST_INIT, RESTORE, HOST_RESTORE, PORT_INIT, READ_IP, WRITE_IP, READ_SA,
-    WRITE_SA, NEXT, WAS_READ, WENT, LOOK_AGAIN, TICK, VOLUME_CAME, VOLUME_WENT,
-    PORT_SAVE, PORT_RESTORE, RUN_SCRIPT, SHOW_PACKET, CALLS
+    NOTHING, SEND, BEGIN, FINISH, STEP, TAKE, LOOK, WHY, FIGURE, BALANCE, WAITING, UNTAKEN, IS_ONLINE, SETTINGS, RESET, SUBMIT,
+    POLL, RECEIVE, HOST_BALANCE, SAVE, HOST_SAVE, INIT, HOST_INIT, RESTORE, HOST_RESTORE, PORT_INIT, READ_IP, WRITE_IP, READ_SA,
+    WRITE_SA, NEXT, NEXT_MESSAGE, WAS_READ, WENT, LOOK_AGAIN, TICK, VOLUME_CAME, VOLUME_WENT, PROTECT, STATE, VOLUME,
+    BEGUN, PORT_SETTINGS, PORT_LOOK, PORT_WHY, PORT_SAVE, PORT_RESTORE, RUN_SCRIPT, SHOW_PACKET, CALLS
 };
 static const char *const NAMES[CALLS] = {
-    "nothing", "send", "begin", "finish", "step", "take", "look", "figure", "balance", "waiting", "untaken",
-    "is_online", "reset", "host_submit", "host_poll", "host_receive", "host_balance", "save", "host_save", "init", "host_init",
+    "nothing", "send", "begin", "finish", "step", "take", "look", "why", "figure", "balance", "waiting", "untaken",
+    "is_online", "settings", "reset", "host_submit", "host_poll", "host_receive", "host_balance", "save", "host_save", "init",
+    "host_init",
     "restore", "host_restore", "port_init", "port_read_ip", "port_write_ip", "port_read_sa", "port_write_sa", "port_next",
-    "port_was_read", "port_went", "port_look_again", "port_tick", "port_volume_came", "port_volume_went",
-    "port_save", "port_restore", "run_script", "show_packet",
+    "port_next_message", "port_was_read", "port_went", "port_look_again", "port_tick", "port_volume_came", "port_volume_went",
+    "port_protect", "port_state", "port_volume", "port_begun", "port_settings", "port_look", "port_why", "port_save",
+    "port_restore", "run_script", "show_packet",
 };
 
 /* Aligned for anything. */
@@ -30,6 +32,7 @@ static struct mscp_port *port;
 static struct mscp_action action; /* that the port wants */
 static uint8_t memory[1 << 15];   /* of its host */
 static const struct mscp_hardware HARDWARE = {MSCP_BUS_Q, 19, 3, 1};
+static const struct mscp_medium MEDIUM = {1, 1, 0, 1};
 static const struct mscp_limits LIMITS = {1, 16, 64, 0, 8, 60};
 static struct mscp_unit units[16];
 static volatile int64_t answered; /* by the last call */
@@ -52,6 +55,11 @@ static void run(int call)
     static struct mscp_upcoming upcoming;
     static struct mscp_report report;
     static struct mscp_waiting figures[64];
+    static struct mscp_holder holders[64];
+    static struct mscp_state state;
+    static struct mscp_limits limits;
+    static struct mscp_unit its[16];
+    static struct mscp_volume volume;
     static struct mscp_news news;
     switch (call) {
     case SEND: answered = mscp_send(mscp, MSCP_CONNECTION_FIRST, read, 32, &sent); break;
@@ -60,10 +68,12 @@ static void run(int call)
     case STEP: answered = mscp_step(mscp, 0, &report); break;
     case TAKE: answered = mscp_take(mscp, MSCP_CONNECTION_FIRST, &packet); break;
     case LOOK: answered = mscp_look(mscp, figures, 64); break;
+    case WHY: answered = mscp_why(mscp, MSCP_CONNECTION_FIRST, 62, holders, 64); break;
     case FIGURE: answered = mscp_figure(mscp, MSCP_CONNECTION_FIRST, 63); break;
     case WAITING: answered = mscp_waiting(mscp, MSCP_CONNECTION_FIRST); break;
     case UNTAKEN: answered = mscp_untaken(mscp, MSCP_CONNECTION_FIRST); break;
     case IS_ONLINE: answered = mscp_is_online(mscp, 0); break;
+    case SETTINGS: answered = mscp_settings(mscp, &limits, its, 16); break;
     case BALANCE: answered = mscp_balance(mscp, MSCP_CONNECTION_FIRST); break;
     case RESET: answered = mscp_reset(mscp); break;
     case SUBMIT: answered = mscp_host_submit(host, read, 32); break;
@@ -86,12 +96,20 @@ static void run(int call)
     case READ_SA: answered = mscp_port_read_sa(port); break;
     case WRITE_SA: answered = mscp_port_write_sa(port, 0); break;
     case NEXT: answered = mscp_port_next(port, &action); break;
+    case NEXT_MESSAGE: answered = mscp_port_next_message(port, &action); break;
     case WAS_READ: answered = mscp_port_was_read(port, memory + action.address, action.count); break;
     case WENT: answered = mscp_port_went(port, MSCP_OUTCOME_DONE, 0); break;
     case LOOK_AGAIN: answered = mscp_port_look_again(port); break;
     case TICK: answered = mscp_port_tick(port); break;
-    case VOLUME_CAME: answered = mscp_port_volume_came(port, 15, 0); break;
+    case VOLUME_CAME: answered = mscp_port_volume_came(port, 15, &MEDIUM); break;
     case VOLUME_WENT: answered = mscp_port_volume_went(port, 15); break;
+    case PROTECT: answered = mscp_port_protect(port, 15, 1); break;
+    case STATE: answered = mscp_port_state(port, &state); break;
+    case VOLUME: answered = mscp_port_volume(port, 15, &volume); break;
+    case BEGUN: answered = mscp_port_begun(port, &upcoming); break;
+    case PORT_SETTINGS: answered = mscp_port_settings(port, &limits, its, 16); break;
+    case PORT_LOOK: answered = mscp_port_look(port, figures, 64); break;
+    case PORT_WHY: answered = mscp_port_why(port, MSCP_CONNECTION_FIRST, 63, holders, 64); break;
     case PORT_SAVE: answered = mscp_port_save(port, port_bytes, sizeof port_bytes, &port_saved); break;
     case PORT_RESTORE:
         answered = mscp_port_restore(mscp_port_in_memory(&fresh_port, sizeof fresh_port), port_bytes, port_saved);
@@ -172,13 +190,17 @@ static void measure(int call)
         deepest[call] = taken;
 }
 
-/* Does what the port wants, until it wants nothing. */
+/* Does what the port wants, until it wants nothing. What is in hand after a read is of a message. */
 static void serve(void)
 {
     for (measure(NEXT); answered == MSCP_DONE; measure(NEXT)) {
         if (action.kind == MSCP_ACTION_WRITE)
             memcpy(memory + action.address, action.bytes, action.count);
         measure(action.kind == MSCP_ACTION_READ ? WAS_READ : WENT);
+        if (action.kind == MSCP_ACTION_READ)
+            measure(NEXT_MESSAGE);
+        for (int call = STATE; call <= PORT_WHY; call++)
+            measure(call);
     }
 }
 
@@ -194,7 +216,7 @@ static void work(void)
     static const uint8_t OPCODES[8] = {MSCP_ONLINE, MSCP_READ, MSCP_READ, MSCP_SET_CONTROLLER_CHARACTERISTICS,
                                        MSCP_GET_UNIT_STATUS, MSCP_GET_COMMAND_STATUS, MSCP_ABORT, MSCP_WRITE};
     const uint16_t words[4] = {0x8000 | 6 << 11 | 6 << 8, 0x1000, 0, 1};
-    must(mscp_port_volume_came(port, 0, 0), MSCP_DONE);
+    must(mscp_port_volume_came(port, 0, &MEDIUM), MSCP_DONE);
     for (int i = 0; i < 4; i++) {
         must(mscp_port_write_sa(port, words[i]), MSCP_DONE);
         serve();
@@ -226,7 +248,7 @@ static size_t most(int call)
 {
     switch (call) {
     case SAVE: return 12 * 1024;
-    case HOST_SAVE: return 3 * 1024;
+    case HOST_SAVE: case WHY: case PORT_WHY: return 3 * 1024;
     case INIT: case PORT_INIT: case RESTORE: case PORT_RESTORE: return 40 * 1024;
     case HOST_RESTORE: return 6 * 1024;
     case PORT_SAVE: return 28 * 1024;

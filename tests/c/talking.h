@@ -94,8 +94,7 @@ static void serve(void)
     struct mscp_report report;
     uint16_t status = (uint16_t)(any(40) ? 0 : any(64));
     if (any(3) == 0 && tell(BEGIN, mscp_begin(mscp, &next)) == MSCP_DONE) {
-        eat(next.reference), eat(next.bytes), eat(next.lbn), eat(next.done), eat(next.weight), eat(next.unit);
-        eat(next.opcode), eat(next.touches), eat(next.connection);
+        eat_upcoming(&next);
         uint32_t connection = any(20) ? next.connection : any(3), reference = any(9) ? next.reference : any(60);
         int64_t came = tell(FINISH, mscp_finish(mscp, connection, reference, status, &report));
         eat_report(came, &report);
@@ -105,20 +104,30 @@ static void serve(void)
     }
 }
 
+static void eat_settings(const struct mscp_limits *of, const struct mscp_unit *its, uint32_t asked, int64_t all)
+{
+    eat(of->id), eat(of->budget), eat(of->credits), eat(of->second), eat(of->longest), eat(of->timeout);
+    for (uint32_t i = 0; i < asked && i < all; i++) {
+        eat(its[i].id), eat(its[i].size), eat(its[i].media), eat(its[i].serial), eat(its[i].number);
+        eat(its[i].track), eat(its[i].group), eat(its[i].cylinder);
+    }
+}
+
 static void look(uint32_t connection)
 {
     struct mscp_waiting list[64];
     struct mscp_holder holders[64];
     size_t room = any(5) ? 64 : any(8);
-    int64_t there = tell(LOOK, mscp_look(mscp, list, room));
-    for (size_t i = 0; i < room && (int64_t)i < there; i++)
-        eat(list[i].reference), eat(list[i].figure), eat(list[i].connection);
-    there = tell(WHY, mscp_why(mscp, connection, any(50), holders, room));
-    for (size_t i = 0; i < room && (int64_t)i < there; i++)
-        eat(holders[i].reference), eat(holders[i].connection), eat(holders[i].fences), eat(holders[i].overdrawn);
+    eat_waiting(list, room, tell(LOOK, mscp_look(mscp, list, room)));
+    eat_holders(holders, room, tell(WHY, mscp_why(mscp, connection, any(50), holders, room)));
     tell(FIGURE, mscp_figure(mscp, connection, any(50))), tell(WAITING, mscp_waiting(mscp, connection));
     tell(UNTAKEN, mscp_untaken(mscp, connection)), tell(BALANCE, mscp_balance(mscp, connection));
     tell(IS_ONLINE, mscp_is_online(mscp, (uint16_t)(3 * any(18))));
+    struct mscp_limits of = {0, 0, 0, 0, 0, 0};
+    struct mscp_unit its[MSCP_UNITS_MAX];
+    memset(its, 0, sizeof its);
+    uint32_t asked = any(MSCP_UNITS_MAX + 1);
+    eat_settings(&of, its, asked, tell(SETTINGS, mscp_settings(mscp, &of, its, asked)));
 }
 
 /* The controller that was saved is made elsewhere, and moved to where it was. */

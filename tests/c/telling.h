@@ -8,10 +8,10 @@
 #include <string.h>
 
 enum call {
-    INIT, RESET, SEND, TAKE, BEGIN, FINISH, STEP, LOOK, WHY, FIGURE, WAITING, UNTAKEN, BALANCE, IS_ONLINE, SAVE, RESTORE,
-    HOST_INIT, HOST_BALANCE, HOST_SUBMIT, HOST_POLL, HOST_RECEIVE, HOST_SAVE, HOST_RESTORE, PORT_INIT, READ_IP, WRITE_IP,
-    READ_SA, WRITE_SA, NEXT, WAS_READ, WENT, LOOK_AGAIN, TICK, CAME, GONE, PORT_SAVE, PORT_RESTORE, RUN_SCRIPT, SHOW_PACKET,
-    CALLS
+    INIT, RESET, SEND, TAKE, BEGIN, FINISH, STEP, LOOK, WHY, FIGURE, WAITING, UNTAKEN, BALANCE, IS_ONLINE, SETTINGS, SAVE,
+    RESTORE, HOST_INIT, HOST_BALANCE, HOST_SUBMIT, HOST_POLL, HOST_RECEIVE, HOST_SAVE, HOST_RESTORE, PORT_INIT, READ_IP, WRITE_IP,
+    READ_SA, WRITE_SA, NEXT, NEXT_MESSAGE, WAS_READ, WENT, LOOK_AGAIN, TICK, CAME, GONE, PROTECT, STATE, VOLUME, BEGUN,
+    PORT_LOOK, PORT_WHY, PORT_SETTINGS, PORT_SAVE, PORT_RESTORE, RUN_SCRIPT, SHOW_PACKET, CALLS
 };
 
 enum { LAST = 127 }; /* behind the statuses of a call */
@@ -33,6 +33,7 @@ static const struct {
     [FINISH] = {"mscp_finish", {1, -6, -7, -10, -32, LAST}},
     [STEP] = {"mscp_step", {0, 1, -7, -10, LAST}},
     [LOOK] = {"mscp_look", {NUMBER, -10, LAST}},
+    [SETTINGS] = {"mscp_settings", {126, 1, -10, LAST}},
     [WHY] = {"mscp_why", {NUMBER, -10, -32, LAST}},
     [FIGURE] = {"mscp_figure", {NUMBER, -10, -32, LAST}},
     [WAITING] = {"mscp_waiting", {NUMBER, -10, -32, LAST}},
@@ -54,12 +55,20 @@ static const struct {
     [READ_SA] = {"mscp_port_read_sa", {NUMBER, -10, LAST}},
     [WRITE_SA] = {"mscp_port_write_sa", {1, -10, LAST}},
     [NEXT] = {"mscp_port_next", {0, 1, -10, LAST}},
+    [NEXT_MESSAGE] = {"mscp_port_next_message", {0, 1, -10, LAST}},
     [WAS_READ] = {"mscp_port_was_read", {1, -10, -36, LAST}},
     [WENT] = {"mscp_port_went", {1, -10, -35, -36, LAST}},
     [LOOK_AGAIN] = {"mscp_port_look_again", {1, -10, LAST}},
     [TICK] = {"mscp_port_tick", {1, -10, LAST}},
-    [CAME] = {"mscp_port_volume_came", {1, -10, -37, LAST}},
+    [CAME] = {"mscp_port_volume_came", {1, -10, -37, -38, LAST}},
     [GONE] = {"mscp_port_volume_went", {1, -10, -37, LAST}},
+    [PROTECT] = {"mscp_port_protect", {1, -10, -37, LAST}},
+    [STATE] = {"mscp_port_state", {1, -10, LAST}},
+    [VOLUME] = {"mscp_port_volume", {1, -10, -37, LAST}},
+    [BEGUN] = {"mscp_port_begun", {0, 1, -10, LAST}},
+    [PORT_LOOK] = {"mscp_port_look", {NUMBER, -10, LAST}},
+    [PORT_SETTINGS] = {"mscp_port_settings", {126, 1, -10, LAST}},
+    [PORT_WHY] = {"mscp_port_why", {NUMBER, -10, -32, LAST}},
     [PORT_SAVE] = {"mscp_port_save", {1, -10, -15, LAST}},
     [PORT_RESTORE] = {"mscp_port_restore", {1, OF_MEMORY, OF_BYTES, -56, LAST}},
     [RUN_SCRIPT] = {"mscp_run_script", {1, -15, -60, -61, -62, -63, -64, -65, -66, -67, -68, -69, -70, -71, -72, LAST}},

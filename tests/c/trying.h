@@ -48,6 +48,14 @@ static inline uint8_t *command(uint32_t reference, uint8_t opcode, uint32_t firs
     return message;
 }
 
+/* Whether two units are told alike. What is between their fields is nobody's. */
+static inline int is_same_unit(const struct mscp_unit *one, const struct mscp_unit *other)
+{
+    return one->id == other->id && one->size == other->size && one->media == other->media && one->serial == other->serial &&
+           one->number == other->number && one->track == other->track && one->group == other->group &&
+           one->cylinder == other->cylinder;
+}
+
 static inline void *memory_of(size_t size)
 {
     void *memory = malloc(size);

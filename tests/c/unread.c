@@ -4,12 +4,14 @@
 void calls(struct mscp *mscp, struct mscp_host *host, const struct mscp_limits *limits, const struct mscp_unit *units,
            const uint8_t *bytes, struct mscp_sent *sent, struct mscp_packet *packet, struct mscp_upcoming *upcoming,
            struct mscp_report *report, struct mscp_news *news, uint8_t *out, size_t *length,
-           struct mscp_port *port, const struct mscp_hardware *hardware, struct mscp_action *action, uint32_t *line);
+           struct mscp_port *port, const struct mscp_hardware *hardware, struct mscp_action *action,
+           const struct mscp_medium *medium, uint32_t *line);
 
 void calls(struct mscp *mscp, struct mscp_host *host, const struct mscp_limits *limits, const struct mscp_unit *units,
            const uint8_t *bytes, struct mscp_sent *sent, struct mscp_packet *packet, struct mscp_upcoming *upcoming,
            struct mscp_report *report, struct mscp_news *news, uint8_t *out, size_t *length,
-           struct mscp_port *port, const struct mscp_hardware *hardware, struct mscp_action *action, uint32_t *line)
+           struct mscp_port *port, const struct mscp_hardware *hardware, struct mscp_action *action,
+           const struct mscp_medium *medium, uint32_t *line)
 {
     mscp_init(mscp, limits, units, 1, MSCP_SWEEP);
     mscp_reset(mscp);
@@ -28,10 +30,12 @@ void calls(struct mscp *mscp, struct mscp_host *host, const struct mscp_limits *
     mscp_host_restore(host, bytes, 12);
     mscp_port_init(port, limits, units, 1, MSCP_SWEEP, hardware, 2);
     mscp_port_next(port, action);
+    mscp_port_next_message(port, action);
     mscp_port_was_read(port, bytes, 4);
     mscp_port_went(port, MSCP_OUTCOME_DONE, 0);
-    mscp_port_volume_came(port, 0, 0);
+    mscp_port_volume_came(port, 0, medium);
     mscp_port_volume_went(port, 0);
+    mscp_port_protect(port, 0, 1);
     mscp_port_save(port, out, 1, length);
     mscp_port_restore(port, bytes, 12);
     mscp_run_script(bytes, 1, out, 1, length, line);

@@ -100,7 +100,7 @@ static void refused_transfers(void)
     is("written", number(machine.disks[0][1], 4), number(machine.memory + 0x4000, 4));
     send_command(2, 50, MSCP_WRITE, 512, 1, 0x4000);
     expect(50, 0xA2, 0x0004); /* not online */
-    is("a protected one", mscp_port_volume_came(machine.port, 2, 1), MSCP_DONE);
+    is("a protected one", insert(2, 1), MSCP_DONE);
     send_command(2, 51, MSCP_ONLINE, 0, 0, 0);
     expect(51, 0x89, 0);
     send_command(2, 52, MSCP_WRITE, 512, 1, 0x4000);
@@ -131,7 +131,7 @@ static void volumes_change(unsigned times)
         act();
     for (unsigned i = 0; i < times; i++) {
         is("it goes", mscp_port_volume_went(machine.port, 0), MSCP_DONE);
-        is("another comes", mscp_port_volume_came(machine.port, 0, 0), MSCP_DONE);
+        is("another comes", insert(0, 0), MSCP_DONE);
     }
     memset(machine.disks[0], 0xEE, sizeof machine.disks[0]);
     expect(2, 0xA1, 0x0023);
@@ -151,7 +151,7 @@ static void volumes_change(unsigned times)
     is("it goes", mscp_port_volume_went(machine.port, 0), MSCP_DONE);
     send_command(0, 7, MSCP_ONLINE, 0, 0, 0);
     expect(7, 0x89, 0x0023);
-    is("no unit", mscp_port_volume_came(machine.port, 9, 0), MSCP_UNKNOWN_UNIT);
+    is("no unit", insert(9, 0), MSCP_UNKNOWN_UNIT);
     is("no unit", mscp_port_volume_went(machine.port, 9), MSCP_UNKNOWN_UNIT);
 }
 
@@ -159,22 +159,64 @@ static void volumes_change(unsigned times)
  * the port doesn't want it any more. */
 static void volume_changes_amid_a_block(bool is_block_wanted)
 {
-    struct mscp_action action = {0};
+    struct mscp_action action;
     build(&RQDX3);
     initialise(0x1000, 0, 0, 0);
     send_command(0, 1, MSCP_ONLINE, 0, 0, 0);
     expect(1, 0x89, 0);
     memset(machine.memory + 0x4000, 0x77, MSCP_BLOCK);
     send_command(0, 2, MSCP_WRITE, MSCP_BLOCK, 5, 0x4000);
-    while (mscp_port_next(machine.port, &action) == MSCP_DONE && action.kind != MSCP_ACTION_FETCH)
-        tell(&action, perform(&action));
-    is("a fetch", action.kind, MSCP_ACTION_FETCH);
+    action = until(MSCP_ACTION_FETCH);
     tell(&action, perform(&action));
     if (is_block_wanted)
         is("its block", mscp_port_next(machine.port, &action) == MSCP_DONE && action.kind == MSCP_ACTION_TRANSFER, 1);
-    is("another comes", mscp_port_volume_came(machine.port, 0, 0), MSCP_DONE);
+    is("another comes", insert(0, 0), MSCP_DONE);
     expect(2, 0xA2, 0x0023);
     is("no block", machine.transfers, 0);
+}
+
+/* A volume may have fewer blocks than its unit, and media of another type, which the host is told. Transfers past its end are
+ * refused as those past a unit's are, and move nothing: by the first block (0x1C01), or by the count of bytes (0x0C01). */
+static void own_sizes(void)
+{
+    static const struct mscp_medium RX33 = {.size = 2400, .media = 0x25658021, .is_removable = 1},
+                                    EMPTY = {.size = 0, .media = 1}, LARGE = {.size = 311201, .media = 1};
+    static const struct {
+        uint8_t opcode;
+        uint32_t bytes, block;
+        uint16_t status;
+    } cases[] = {
+        {MSCP_READ, 512, 2399, 0},          {MSCP_READ, 512, 2400, 0x1C01},  {MSCP_READ, 513 + 511, 2399, 0x0C01},
+        {MSCP_WRITE, 512, 0xFFFFFFFF, 0x1C01}, {MSCP_ERASE, 2400 * 512, 0, 0}, {MSCP_ERASE, 2400 * 512 + 2, 0, 0x0C01},
+        {MSCP_ACCESS, 512, 311199, 0x1C01}, {MSCP_COMPARE_HOST_DATA, 0, 2400, 0x1C01},
+        {MSCP_ACCESS, 0xFFFFFFFE, 0, 0x0C01},
+    };
+    uint8_t packet[68];
+    build(&RQDX3);
+    initialise(0x1000, 0, 0, 0);
+    is("an RX33", mscp_port_volume_came(machine.port, 0, &RX33), MSCP_DONE);
+    is("without blocks", mscp_port_volume_came(machine.port, 0, &EMPTY), MSCP_BAD_SIZE);
+    is("more than its unit", mscp_port_volume_came(machine.port, 0, &LARGE), MSCP_BAD_SIZE);
+    is("no unit", mscp_port_volume_came(machine.port, 9, &EMPTY), MSCP_UNKNOWN_UNIT);
+    for (uint8_t opcode = MSCP_GET_UNIT_STATUS; opcode <= MSCP_ONLINE; opcode += MSCP_ONLINE - MSCP_GET_UNIT_STATUS) {
+        send_command(0, opcode, opcode, 0, 0, 0);
+        run(MOST_ACTIONS);
+        is("its end", take(packet) && packet[12] == (0x80 | opcode), 1);
+        is("it can be taken out", number(packet + 18, 2), 0x8080);
+        is("its media", number(packet + 32, 4), 0x25658021);
+    }
+    is("its blocks", number(packet + 40, 4), 2400);
+    for (uint32_t i = 0; i < COUNT(cases); i++) {
+        uint32_t before = machine.transfers;
+        send_command(0, 10 + i, cases[i].opcode, cases[i].bytes, cases[i].block, 0x4000);
+        expect(10 + i, 0x80 | cases[i].opcode, cases[i].status);
+        is("moved", machine.transfers > before, cases[i].status == 0);
+    }
+    is("an RD54", insert(0, 0), MSCP_DONE);
+    send_command(0, 50, MSCP_ONLINE, 0, 0, 0);
+    expect(50, 0x89, 0);
+    send_command(0, 51, MSCP_ACCESS, 512, 311199, 0);
+    expect(51, 0x90, 0);
 }
 
 /* A volume that comes is told by an attention message without credits, if the host wants it. */
@@ -188,7 +230,7 @@ static void attention(void)
         text[14] = wanted ? 0x80 : 0;
         send(text, 32);
         expect(0, 0x84, 0);
-        is("it comes", mscp_port_volume_came(machine.port, 3, 0), MSCP_DONE);
+        is("it comes", insert(3, 0), MSCP_DONE);
         run(MOST_ACTIONS);
         is("a message", take(packet), wanted);
         if (wanted) {
@@ -206,7 +248,7 @@ static void no_stale_attention(void)
     uint8_t packet[68], text[32] = {0};
     build(&RQDX3);
     initialise(0x1000, 4, 4, 0);
-    is("it comes", mscp_port_volume_came(machine.port, 3, 0), MSCP_DONE);
+    is("it comes", insert(3, 0), MSCP_DONE);
     send_command(3, 1, MSCP_ONLINE, 0, 0, 0);
     expect(1, 0x89, 0);
     text[8] = MSCP_SET_CONTROLLER_CHARACTERISTICS;
@@ -262,11 +304,8 @@ static void outcomes(void)
     send_command(0, 1, MSCP_ONLINE, 0, 0, 0);
     expect(1, 0x89, 0);
     for (uint32_t i = 0; i < COUNT(cases); i++) {
-        struct mscp_action action = {0};
         send_command(0, 10 + i, cases[i].opcode, MSCP_BLOCK, 1, 0x4000);
-        while (mscp_port_next(machine.port, &action) == MSCP_DONE && action.kind != cases[i].kind)
-            tell(&action, perform(&action));
-        is("the action", action.kind, cases[i].kind);
+        until(cases[i].kind);
         is("it went", mscp_port_went(machine.port, cases[i].outcome, cases[i].status), MSCP_DONE);
         expect(10 + i, 0x80 | cases[i].opcode, cases[i].ends_with);
     }
@@ -280,6 +319,7 @@ int main(void)
     own_answers();
     refused_transfers();
     outcomes();
+    own_sizes();
     volumes_change(1);
     volumes_change(2);
     volume_changes_amid_a_block(false);

@@ -94,6 +94,7 @@ static void try_unmade(void)
     tell(STEP, mscp_step(mscp, 0, &report)), tell(LOOK, mscp_look(mscp, NULL, 0)), tell(WHY, mscp_why(mscp, 0, 1, NULL, 0));
     tell(FIGURE, mscp_figure(mscp, 0, 1)), tell(WAITING, mscp_waiting(mscp, 0)), tell(UNTAKEN, mscp_untaken(mscp, 0));
     tell(BALANCE, mscp_balance(mscp, 0)), tell(IS_ONLINE, mscp_is_online(mscp, 0));
+    tell(SETTINGS, mscp_settings(mscp, &limits, NULL, 0)), tell(PORT_SETTINGS, mscp_port_settings(port, &limits, NULL, 0));
     tell(SAVE, mscp_save(mscp, bytes, sizeof bytes, &length));
     tell(HOST_BALANCE, mscp_host_balance(host)), tell(HOST_SUBMIT, mscp_host_submit(host, bytes, 36));
     tell(HOST_POLL, mscp_host_poll(host, 1, &packet)), tell(HOST_RECEIVE, mscp_host_receive(host, bytes, 36, &news));
@@ -102,7 +103,8 @@ static void try_unmade(void)
     tell(WRITE_SA, mscp_port_write_sa(port, 1)), tell(NEXT, mscp_port_next(port, &action));
     tell(WAS_READ, mscp_port_was_read(port, bytes, 4)), tell(WENT, mscp_port_went(port, 0, 0));
     tell(LOOK_AGAIN, mscp_port_look_again(port)), tell(TICK, mscp_port_tick(port));
-    tell(CAME, mscp_port_volume_came(port, 0, 0)), tell(GONE, mscp_port_volume_went(port, 0));
+    insert(0), tell(GONE, mscp_port_volume_went(port, 0)), tell(PROTECT, mscp_port_protect(port, 0, 1));
+    tell(NEXT_MESSAGE, mscp_port_next_message(port, &action)), look_into();
     tell(PORT_SAVE, mscp_port_save(port, bytes, sizeof bytes, &length));
     eat(length);
 }

@@ -4,6 +4,7 @@ use Rattle.mscp_memory.specs.ControllerHandles.{Handle, Held}
 use Rattle.mscp_events.specs.declared.event.Event.TheVariants as events
 use Rattle.mscp_controller.specs.declared.entry.Entry.TheVariants as entries
 use Rattle.mscp_controller.specs.Calls as calls
+use Rattle.mscp_c.specs.Given.{TellsSettings}
 use Rattle.mscp_c.specs.HandleCalls as made
 
 -- ---- one more call of a controller
@@ -273,6 +274,13 @@ goes c policy law valid so_far h h' (made.Online unit answer) f r =
     record {
       next = [];
       tells = (refl, r.0 ∙ ap (λ (ds : List Drive). pos (flag (is_online_in ds unit))) k.drives);
+      follows = follows_same c policy so_far h h' f r.1;
+    }
+goes c policy law valid so_far h h' (made.Configured limits units answer limits' units') f r =
+    let k = law c so_far h.held valid f.called in
+    record {
+      next = [];
+      tells = (refl, subst (λ s. TellsSettings s units answer limits' units') k.settings r.0);
       follows = follows_same c policy so_far h h' f r.1;
     }
 goes c policy law valid so_far h h' (made.Resume bytes) f r =

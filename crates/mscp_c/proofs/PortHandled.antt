@@ -1,6 +1,7 @@
 -- Calls on a port's handle are calls of the port.
-use Rattle.mscp_c.proofs.Common.{◌≡◌, ◌++◌, ◌∷◌, [], ℕ, ℤ, List, Option, None, Some, refl, ap, sym, subst, MatchOption, Outcome, Answered, Becomes, Handle, Held, BAD_OUTCOME, outcome_given, KeepsPortPromise, LookAgain, Next, ReadIp, ReadSa, Resume, TellsOutcome, Tick, VolumeCame, VolumeWent, WasRead, Went, WriteIp, WriteSa, TellsWent}
+use Rattle.mscp_c.proofs.Common.{◌≡◌, ◌++◌, ◌∷◌, [], ℕ, ℤ, true, false, List, Option, None, Some, refl, ap, sym, subst, MatchOption, Outcome, Answered, Becomes, Handle, Held, BAD_OUTCOME, outcome_given, KeepsPortPromise, Begun, Configured, Look, LookAgain, Next, NextMessage, Protect, ReadIp, ReadSa, Resume, State, TellsOutcome, Tick, Volume, VolumeCame, VolumeWent, WasRead, Went, Why, WriteIp, WriteSa, TellsWent}
 use Rattle.mscp_port.specs.Histories.{Call}
+use Rattle.mscp_port.specs.Ports.{put_aside}
 use Rattle.mscp_c.specs.PortHandleCalls.{AnsweredByHandle, AnswersHandle, HandleCall, Tells}
 use Rattle.mscp_port.specs.Histories as calls
 
@@ -42,7 +43,12 @@ call_is (ReadSa answer) old new r = none (ReadSa answer) old.held new.held refl 
 call_is (WriteSa word status) old new r =
     one (WriteSa word status) (calls.WriteSa word) old.held new.held (refl, r.1) r.0.leaves
 call_is (Next before status after) old new r =
-    one (Next before status after) (calls.Next r.action) old.held new.held (r.action, refl, r.code, r.told) r.wants
+    one (Next before status after) (calls.Next true r.action) old.held new.held (r.action, refl, r.code, r.told) r.wants
+call_is (NextMessage before status after) old new r = record {
+  next = calls.Next false r.action ∷ calls.PutAside ∷ [];
+  tells = (r.action, refl, r.code, r.told);
+  becomes = λ start told a. (put_aside old.held, (old.held, a, refl), r.wants);
+}
 call_is (WasRead bytes status) old new r =
     one (WasRead bytes status) (calls.WasRead bytes r.answer) old.held new.held (r.answer, refl, r.code) r.hears
 call_is (Went number block status) old new r =
@@ -51,11 +57,25 @@ call_is (Went number block status) old new r =
 call_is (LookAgain status) old new r =
     one (LookAgain status) calls.LookAgain old.held new.held (refl, r.1) r.0.leaves
 call_is (Tick status) old new r = one (Tick status) calls.Tick old.held new.held (refl, r.1) r.0.leaves
-call_is (VolumeCame unit flag status) old new r =
-    one (VolumeCame unit flag status) (calls.Change _ _ unit r.answer) old.held new.held (r.answer, refl, r.code)
-    r.changes
+call_is (VolumeCame unit medium status) old new r =
+    one (VolumeCame unit medium status) (calls.VolumeCame _ unit r.answer) old.held new.held (r.answer, refl, r.code)
+    r.puts
 call_is (VolumeWent unit status) old new r =
-    one (VolumeWent unit status) (calls.Change _ _ unit r.answer) old.held new.held (r.answer, refl, r.code) r.changes
+    one (VolumeWent unit status) (calls.VolumeWent unit r.answer) old.held new.held (r.answer, refl, r.code) r.changes
+call_is (Protect unit flag status) old new r =
+    one (Protect unit flag status) (calls.Protect _ unit r.answer) old.held new.held (r.answer, refl, r.code) r.changes
+call_is (Configured limits units answer limits' units') old new r =
+    none (Configured limits units answer limits' units') old.held new.held refl (ap (λ h. h.held) r.1)
+call_is (State before status after) old new r =
+    none (State before status after) old.held new.held refl (ap (λ h. h.held) r.2)
+call_is (Volume unit before status after) old new r =
+    none (Volume unit before status after) old.held new.held refl (ap (λ h. h.held) r.2)
+call_is (Begun before status after) old new r =
+    none (Begun before status after) old.held new.held refl (ap (λ h. h.held) r.2)
+call_is (Look before answer after) old new r =
+    none (Look before answer after) old.held new.held refl (ap (λ h. h.held) r.2)
+call_is (Why number reference before answer after) old new r =
+    none (Why number reference before answer after) old.held new.held refl (ap (λ h. h.held) r.1)
 call_is (Resume bytes) old new r = none (Resume bytes) old.held new.held refl r.1
 
 pub keeps_promise : (made : List HandleCall) (start h : Handle) → AnsweredByHandle start made h

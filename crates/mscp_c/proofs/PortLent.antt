@@ -1,6 +1,11 @@
 -- A port that was lent from a handle and changed by a call: what the call tells.
-use Rattle.mscp_c.proofs.Common.{◌≡◌, ◌∙◌, ℕ, ℤ, Bool, List, ap, subst, Result, IsOk, Action, Outcome, Unasked, NoUnit, Changes, Goes, Hears, Wants, BeginsBlock, Moves, IsAlive, IsOfBlock, PolicyPicks, Handle, Held, with_held, ActionOut, TellsHeard, TellsVolume, TellsWanted, TellsWent, told_code, volume_code, action_told, next_code}
+use Rattle.mscp_c.proofs.Common.{◌≡◌, ◌∙◌, ℕ, ℤ, List, ap, subst, Result, IsOk, Action, Outcome, Unasked, NoUnit, Changes, Goes, Hears, PutsIn, Wants, BeginsBlock, Moves, IsAlive, IsOfBlock, PolicyPicks, Handle, Held, with_held, ActionOut, TellsHeard, TellsPut, TellsVolume, TellsWanted, TellsWent, put_code, told_code, volume_code, action_told, next_code}
 use Rattle.mscp_port.specs.declared.task.Task.TheVariants as tasks
+use Rattle.mscp_port.specs.Ports.{asked, asks_blocks}
+use Rattle.mscp_port.specs.declared.action.Ask.{Ask}
+use Rattle.mscp_port.specs.declared.volumes.Medium.{Medium}
+use Rattle.mscp_port.specs.declared.volumes.Volume.{Volume}
+use Rattle.mscp_port.specs.declared.volumes.VolumeFault.{VolumeFault}
 
 module _ (h old : Handle) (x new : Held) (same : x ≡ h.held) (kept : h ≡ old) where
   was : x ≡ old.held
@@ -9,12 +14,21 @@ module _ (h old : Handle) (x new : Held) (same : x ≡ h.held) (kept : h ≡ old
   rest : with_held h new ≡ with_held old new
   rest = ap (λ (g : Handle). with_held g new) kept
 
-  pub volume_told : (unit : ℕ) (there protected : Bool) (answer : Result (Unit {0}) NoUnit) (status : ℤ)
-      → Changes there protected unit x answer new → status ≡ volume_code answer
-      → TellsVolume unit there protected old status (with_held h new)
-  volume_told unit there protected answer status changes code = record {
+  pub volume_told : (becomes : Volume → Volume) (unit : ℕ) (answer : Result (Unit {0}) NoUnit) (status : ℤ)
+      → Changes becomes unit x answer new → status ≡ volume_code answer
+      → TellsVolume becomes unit old status (with_held h new)
+  volume_told becomes unit answer status changes code = record {
     answer = answer;
-    changes = subst (λ (p : Held). Changes there protected unit p answer new) was changes;
+    changes = subst (λ (p : Held). Changes becomes unit p answer new) was changes;
+    rest = rest;
+    code = code;
+  }
+
+  pub put_told : (m : Medium) (unit : ℕ) (answer : Result (Unit {0}) VolumeFault) (status : ℤ)
+      → PutsIn m unit x answer new → status ≡ put_code answer → TellsPut m unit old status (with_held h new)
+  put_told m unit answer status puts code = record {
+    answer = answer;
+    puts = subst (λ (p : Held). PutsIn m unit p answer new) was puts;
     rest = rest;
     code = code;
   }
@@ -39,16 +53,17 @@ module _ (h old : Handle) (x new : Held) (same : x ≡ h.held) (kept : h ≡ old
     code = code;
   }
 
-  pub wanted_told : (action : Action) (status : ℤ) (before after : ActionOut) → Wants x action new
-      → (IsAlive x → x.task ≡ tasks.Free → IsOfBlock new.task
-      → BeginsBlock (PolicyPicks x.controller.picker) new.task x new)
+  pub wanted_told : (ask : Ask) (action : Action) (status : ℤ) (before after : ActionOut)
+      → Wants (asks_blocks ask) (asked ask x) action new
+      → (IsAlive (asked ask x) → (asked ask x).task ≡ tasks.Free → IsOfBlock new.task
+      → BeginsBlock (PolicyPicks (asked ask x).controller.picker) new.task (asked ask x) new)
       → status ≡ next_code action → after ≡ action_told action before
-      → TellsWanted old before status (with_held h new) after
-  wanted_told action status before after wants begins code told = record {
+      → TellsWanted ask old before status (with_held h new) after
+  wanted_told ask action status before after wants begins code told = record {
     action = action;
-    wants = subst (λ (p : Held). Wants p action new) was wants;
-    begins = subst (λ (p : Held). IsAlive p → p.task ≡ tasks.Free → IsOfBlock new.task
-        → BeginsBlock (PolicyPicks p.controller.picker) new.task p new) was begins;
+    wants = subst (λ (p : Held). Wants (asks_blocks ask) (asked ask p) action new) was wants;
+    begins = subst (λ (p : Held). IsAlive (asked ask p) → (asked ask p).task ≡ tasks.Free → IsOfBlock new.task
+        → BeginsBlock (PolicyPicks (asked ask p).controller.picker) new.task (asked ask p) new) was begins;
     rest = rest;
     code = code;
     told = told;

@@ -1,5 +1,5 @@
 -- What a program in C gives for a controller, and what is made of it.
-use Rattle.std.specs.Prelude.{◌≡◌, ℕ, ◌&&◌, Bool, true, false, not, nat_eq, nat_lt, if◌then◌else◌, List, [], ◌∷◌, length, map, Option, Some, None, option_map, Result, Ok, Err}
+use Rattle.std.specs.Prelude.{◌≡◌, ℕ, ℤ, pos, ◌&&◌, Bool, true, false, not, nat_eq, nat_lt, if◌then◌else◌, List, [], ◌∷◌, length, map, ◌++◌, take, drop, Option, Some, None, option_map, Result, Ok, Err}
 use Rattle.mscp_drive.specs.Shape.{Shape}
 use Rattle.mscp_drive.specs.declared.unit.UnitFault.{UnitFault}
 use Rattle.mscp_drive.specs.declared.unit.UnitFault.TheVariants.{ZeroTrack, ZeroGroup, ZeroCylinder, ZeroSize}
@@ -48,6 +48,38 @@ settings_given l us = record {
   id = l.id;
   units = map unit_given us;
 }
+
+-- and what is told of settings
+abbrev pub limits_told : Settings → Limits
+limits_told c = record {
+  id = c.id;
+  budget = c.budget;
+  credits = c.credits;
+  second = c.second;
+  longest = c.longest;
+  timeout = c.timeout;
+}
+
+abbrev pub unit_told : Shape → UnitIn
+unit_told u = record {
+  id = u.id;
+  size = u.size;
+  media = u.media;
+  serial = u.serial;
+  number = u.number;
+  track = u.track;
+  group = u.group;
+  cylinder = u.cylinder;
+}
+
+-- as many of the units as there is room for, and then what was there
+abbrev pub units_told : List Shape → List UnitIn → List UnitIn
+units_told us out = map unit_told (take (length out) us) ++ drop (length us) out
+
+-- they are told, and how many units there are
+abbrev pub TellsSettings : Settings → List UnitIn → ℤ → Limits → List UnitIn → Type 0
+TellsSettings c before answer limits after =
+    (limits ≡ limits_told c) × (after ≡ units_told c.units before) × (answer ≡ pos (length c.units))
 
 -- which size of a unit is zero, if one is: the first in this order
 abbrev pub unit_fault : UnitIn → Option UnitFault

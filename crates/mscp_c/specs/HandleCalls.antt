@@ -32,7 +32,9 @@ use Rattle.mscp_c.specs.declared.outs.UpcomingOut.{UpcomingOut}
 use Rattle.mscp_c.specs.declared.outs.ReportOut.{ReportOut}
 use Rattle.mscp_c.specs.declared.outs.FigureOut.{FigureOut}
 use Rattle.mscp_c.specs.declared.outs.HolderOut.{HolderOut}
-use Rattle.mscp_c.specs.Given.{connection_given}
+use Rattle.mscp_c.specs.declared.units.Limits.{Limits}
+use Rattle.mscp_c.specs.declared.units.UnitIn.{UnitIn}
+use Rattle.mscp_c.specs.Given.{TellsSettings, connection_given}
 use Rattle.mscp_c.specs.Told.{TakeTold, begin_code, block_told, figure_in, figures_in, figures_told, flag, holders_in, holders_told, report_code, report_told, send_code, sent_told, take_code, upcoming_told}
 use Rattle.mscp_c.specs.Restoring.{restored_by}
 use Rattle.mscp_c.specs.Served.{TellsBegin, TellsFinish, TellsStep, finish_code, finish_told}
@@ -62,6 +64,8 @@ pub data HandleCall : Type 0 where
   Untaken : ℕ → ℤ → HandleCall
   -- the number of a unit
   Online : ℕ → ℤ → HandleCall
+  -- what the two out-pointers pointed to, what was answered, and what they point to then
+  Configured : Limits → List UnitIn → ℤ → Limits → List UnitIn → HandleCall
   -- from here on a handle on other memory goes on, for which the controller was restored from these bytes
   Resume : List ℕ → HandleCall
 
@@ -127,6 +131,8 @@ AnswersHandle old (Waiting number answer) new =
 AnswersHandle old (Untaken number answer) new =
     AnswersOf number (λ via. length (of via old.held.untaken)) answer × (new ≡ old)
 AnswersHandle old (Online unit answer) new = (answer ≡ pos (flag (is_online_in old.held.drives unit))) × (new ≡ old)
+AnswersHandle old (Configured limits units answer limits' units') new =
+    TellsSettings old.held.settings units answer limits' units' × (new ≡ old)
 AnswersHandle old (Resume bytes) new = (restored_by bytes ≡ Ok old.held) × (new.held ≡ old.held)
 
 -- the same of calls, one after the other
@@ -209,6 +215,8 @@ Tells c so_far (Untaken number answer) next =
     (next ≡ []) × AnswersOf number (λ via. length (untaken c via (history so_far))) answer
 Tells c so_far (Online unit answer) next =
     (next ≡ []) × (answer ≡ pos (flag (is_online_in (map (drive_now c (history so_far)) c.units) unit)))
+Tells c so_far (Configured limits units answer limits' units') next =
+    (next ≡ []) × TellsSettings c units answer limits' units'
 Tells c so_far (Resume bytes) next = next ≡ []
 
 -- the same of calls, one after the other

@@ -7,6 +7,7 @@ pub mod PortGiven
 pub mod PortHandleCalls
 pub mod PortMade
 pub mod PortSaving
+pub mod PortSeen
 pub mod PortServed
 pub mod PortTold
 pub mod Restoring

@@ -1,11 +1,13 @@
 -- What a program in C gives for a port, and what is made of it.
-use Rattle.std.specs.Prelude.{ℕ, ◌%◌, nat_eq, nat_lt, if◌then◌else◌, Option, Some, None, option_map}
+use Rattle.std.specs.Prelude.{ℕ, ◌%◌, ◌==◌, not, nat_eq, nat_lt, if◌then◌else◌, Option, Some, None, option_map}
 use Rattle.mscp_port.specs.declared.action.Outcome.{Outcome}
 use Rattle.mscp_port.specs.declared.action.Outcome.TheVariants as outcomes
 use Rattle.mscp_port.specs.declared.hardware.Bus.{Bus}
 use Rattle.mscp_port.specs.declared.hardware.Bus.TheVariants as buses
 use Rattle.mscp_port.specs.declared.hardware.Hardware.{Hardware}
+use Rattle.mscp_port.specs.declared.volumes.Medium.{Medium}
 use Rattle.mscp_c.specs.declared.port_given.HardwareIn.{HardwareIn}
+use Rattle.mscp_c.specs.declared.port_given.MediumIn.{MediumIn}
 
 -- the bus of this number, if it is one
 abbrev pub bus_given : ℕ → Option Bus
@@ -32,3 +34,12 @@ outcome_given number status =
     if nat_eq number 3 then Some outcomes.Unmapped else (
     if nat_eq number 4 then Some outcomes.Different else (
     if nat_eq number 5 then fault_given status else None)))))
+
+-- what is put into a unit. A flag holds where it isn't 0
+abbrev pub medium_given : MediumIn → Medium
+medium_given g = record {
+  size = g.size;
+  media = g.media;
+  is_protected = not (g.is_protected == 0);
+  is_removable = not (g.is_removable == 0);
+}

@@ -1,6 +1,7 @@
 -- What somebody calls from C who holds a handle on a port, what is told, and what is promised of it.
-use Rattle.std.specs.Prelude.{◌≡◌, ◌==◌, not, ℕ, ℤ, pos, Bool, true, false, List, [], ◌∷◌, ◌++◌, MatchOption, Result, Ok}
+use Rattle.std.specs.Prelude.{◌≡◌, ◌==◌, not, ℕ, ℤ, pos, Bool, true, false, List, [], ◌∷◌, ◌++◌, length, MatchOption, Option, None, Some, Result, Ok}
 use Rattle.mscp_port.specs.declared.action.Action.{Action}
+use Rattle.mscp_port.specs.declared.action.Ask.TheVariants as asks
 use Rattle.mscp_port.specs.declared.action.Outcome.{Outcome}
 use Rattle.mscp_port.specs.declared.action.Unasked.{Unasked}
 use Rattle.mscp_port.specs.declared.port.watching.NoUnit.{NoUnit}
@@ -9,10 +10,26 @@ use Rattle.mscp_port.specs.Histories.{Answered, Call}
 use Rattle.mscp_port.specs.Histories as calls
 use Rattle.mscp_memory.specs.PortHandles.{Handle, Held}
 use Rattle.mscp_c.specs.declared.outs.ActionOut.{ActionOut}
-use Rattle.mscp_c.specs.declared.status.TheConstants.{BAD_OUTCOME, DONE}
-use Rattle.mscp_c.specs.PortGiven.{outcome_given}
+use Rattle.mscp_c.specs.declared.outs.FigureOut.{FigureOut}
+use Rattle.mscp_c.specs.declared.outs.HolderOut.{HolderOut}
+use Rattle.mscp_c.specs.declared.outs.StateOut.{StateOut}
+use Rattle.mscp_c.specs.declared.outs.UpcomingOut.{UpcomingOut}
+use Rattle.mscp_c.specs.declared.outs.VolumeOut.{VolumeOut}
+use Rattle.mscp_c.specs.declared.status.TheConstants.{BAD_CONNECTION, BAD_OUTCOME, DONE}
+use Rattle.mscp_c.specs.declared.units.Limits.{Limits}
+use Rattle.mscp_c.specs.declared.units.UnitIn.{UnitIn}
+use Rattle.mscp_c.specs.Given.{TellsSettings, connection_given}
+use Rattle.mscp_c.specs.PortSeen.{seen_code, state_told, volume_told}
+use Rattle.mscp_port.specs.Messages.{volume_of}
+use Rattle.mscp_port.specs.Volumes.{volume_changed, volume_protected}
+use Rattle.mscp_port.specs.declared.volumes.VolumeFault.{VolumeFault}
+use Rattle.mscp_c.specs.Told.{begin_code, figures_in, figures_told, holders_in, holders_told, upcoming_told}
+use Rattle.mscp_controller.specs.Holdings.{begun_step}
+use Rattle.mscp_events.specs.declared.connection.Connection.{Connection}
+use Rattle.mscp_c.specs.declared.port_given.MediumIn.{MediumIn}
+use Rattle.mscp_c.specs.PortGiven.{medium_given, outcome_given}
 use Rattle.mscp_c.specs.PortSaving.{restored_by}
-use Rattle.mscp_c.specs.PortServed.{Holds, TellsHeard, TellsVolume, TellsWanted, TellsWent, told_code, volume_code}
+use Rattle.mscp_c.specs.PortServed.{Holds, TellsHeard, TellsPut, TellsVolume, TellsWanted, TellsWent, put_code, told_code, volume_code}
 use Rattle.mscp_c.specs.PortTold.{action_told, next_code}
 
 -- ---- calls
@@ -26,17 +43,35 @@ pub data HandleCall : Type 0 where
   -- a word
   WriteSa : ℕ → ℤ → HandleCall
   Next : ActionOut → ℤ → ActionOut → HandleCall
+  NextMessage : ActionOut → ℤ → ActionOut → HandleCall
   -- the bytes that were read
   WasRead : List ℕ → ℤ → HandleCall
   -- the number of an outcome, and a status
   Went : ℕ → ℕ → ℤ → HandleCall
   LookAgain : ℤ → HandleCall
   Tick : ℤ → HandleCall
-  -- the number of a unit, and whether its volume is protected
-  VolumeCame : ℕ → ℕ → ℤ → HandleCall
+  -- the number of a unit, and what was put into it
+  VolumeCame : ℕ → MediumIn → ℤ → HandleCall
   VolumeWent : ℕ → ℤ → HandleCall
+  -- and whether its volume is protected
+  Protect : ℕ → ℕ → ℤ → HandleCall
+  -- looks, which change nothing: what each out-pointer pointed to, what was answered, and what it points to then
+  Configured : Limits → List UnitIn → ℤ → Limits → List UnitIn → HandleCall
+  State : StateOut → ℤ → StateOut → HandleCall
+  Volume : ℕ → VolumeOut → ℤ → VolumeOut → HandleCall
+  Begun : UpcomingOut → ℤ → UpcomingOut → HandleCall
+  Look : List FigureOut → ℤ → List FigureOut → HandleCall
+  -- the number of a connection, and a reference number
+  Why : ℕ → ℕ → List HolderOut → ℤ → List HolderOut → HandleCall
   -- from here on a handle on other memory goes on, for which the port was restored from these bytes
   Resume : List ℕ → HandleCall
+
+-- who keeps a command of a connection back is told, if there is such a connection
+abbrev pub TellsHolders : Option Connection → ℕ → Held → List HolderOut → ℤ → List HolderOut → Type 0
+TellsHolders None reference held before answer after = (answer ≡ BAD_CONNECTION) × (after ≡ before)
+TellsHolders (Some via) reference held before answer after =
+    (answer ≡ pos (length (holders_in held.controller via reference)))
+    × (after ≡ holders_told (holders_in held.controller via reference) before)
 
 -- what a call on a handle that was made answers, and what is there then: it is what the call itself promises
 abbrev pub AnswersHandle : Handle → HandleCall → Handle → Type 0
@@ -44,15 +79,32 @@ AnswersHandle old (ReadIp status) new = Holds ports.ReadsIp old new × (status �
 AnswersHandle old (WriteIp status) new = Holds ports.WritesIp old new × (status ≡ DONE)
 AnswersHandle old (ReadSa answer) new = (answer ≡ pos (ports.sa_of old.held)) × (new ≡ old)
 AnswersHandle old (WriteSa word status) new = Holds (ports.WritesSa word) old new × (status ≡ DONE)
-AnswersHandle old (Next before status after) new = TellsWanted old before status new after
+AnswersHandle old (Next before status after) new = TellsWanted asks.All old before status new after
+AnswersHandle old (NextMessage before status after) new = TellsWanted asks.Messages old before status new after
 AnswersHandle old (WasRead bytes status) new = TellsHeard bytes old status new
 AnswersHandle old (Went number block status) new =
     MatchOption (outcome_given number block) ((status ≡ BAD_OUTCOME) × (new ≡ old))
     (λ outcome. TellsWent outcome old status new)
 AnswersHandle old (LookAgain status) new = Holds ports.LooksAgain old new × (status ≡ DONE)
 AnswersHandle old (Tick status) new = Holds ports.Ticks old new × (status ≡ DONE)
-AnswersHandle old (VolumeCame unit flag status) new = TellsVolume unit true (not (flag == 0)) old status new
-AnswersHandle old (VolumeWent unit status) new = TellsVolume unit false false old status new
+AnswersHandle old (VolumeCame unit medium status) new = TellsPut (medium_given medium) unit old status new
+AnswersHandle old (VolumeWent unit status) new = TellsVolume (volume_changed false) unit old status new
+AnswersHandle old (Protect unit flag status) new =
+    TellsVolume (volume_protected (not (flag == 0))) unit old status new
+AnswersHandle old (Configured limits units answer limits' units') new =
+    TellsSettings old.held.controller.settings units answer limits' units' × (new ≡ old)
+AnswersHandle old (State before status after) new = (after ≡ state_told old.held) × (status ≡ DONE) × (new ≡ old)
+AnswersHandle old (Volume unit before status after) new =
+    (after ≡ volume_told (volume_of old.held unit) before) × (status ≡ seen_code (volume_of old.held unit))
+    × (new ≡ old)
+AnswersHandle old (Begun before status after) new =
+    (after ≡ upcoming_told (begun_step old.held.controller) before)
+    × (status ≡ begin_code (begun_step old.held.controller)) × (new ≡ old)
+AnswersHandle old (Look before answer after) new =
+    (after ≡ figures_told (figures_in old.held.controller) before)
+    × (answer ≡ pos (length (figures_in old.held.controller))) × (new ≡ old)
+AnswersHandle old (Why number reference before answer after) new =
+    TellsHolders (connection_given number) reference old.held before answer after × (new ≡ old)
 AnswersHandle old (Resume bytes) new = (restored_by bytes ≡ Ok old.held) × (new.held ≡ old.held)
 
 -- the same of calls, the last one first, as in the histories of ports
@@ -68,11 +120,6 @@ abbrev pub TellsOutcome : Outcome → ℤ → List Call → Type 0
 TellsOutcome outcome status next =
     (answer : Result (Unit {0}) Unasked) × (next ≡ calls.Went outcome answer ∷ []) × (status ≡ told_code answer)
 
-abbrev pub TellsChange : Bool → Bool → ℕ → ℤ → List Call → Type 0
-TellsChange there protected unit status next =
-    (answer : Result (Unit {0}) NoUnit) × (next ≡ calls.Change there protected unit answer ∷ [])
-    × (status ≡ volume_code answer)
-
 -- the call on the handle is this call of its port, or none: status and out-struct tell what the port answers (profile)
 abbrev pub Tells : HandleCall → List Call → Type 0
 Tells (ReadIp status) next = (next ≡ calls.ReadIp ∷ []) × (status ≡ DONE)
@@ -80,7 +127,10 @@ Tells (WriteIp status) next = (next ≡ calls.WriteIp ∷ []) × (status ≡ DON
 Tells (ReadSa answer) next = next ≡ []
 Tells (WriteSa word status) next = (next ≡ calls.WriteSa word ∷ []) × (status ≡ DONE)
 Tells (Next before status after) next =
-    (action : Action) × (next ≡ calls.Next action ∷ []) × (status ≡ next_code action)
+    (action : Action) × (next ≡ calls.Next true action ∷ []) × (status ≡ next_code action)
+    × (after ≡ action_told action before)
+Tells (NextMessage before status after) next =
+    (action : Action) × (next ≡ calls.Next false action ∷ calls.PutAside ∷ []) × (status ≡ next_code action)
     × (after ≡ action_told action before)
 Tells (WasRead bytes status) next =
     (answer : Result (Unit {0}) Unasked) × (next ≡ calls.WasRead bytes answer ∷ []) × (status ≡ told_code answer)
@@ -89,8 +139,20 @@ Tells (Went number block status) next =
     (λ outcome. TellsOutcome outcome status next)
 Tells (LookAgain status) next = (next ≡ calls.LookAgain ∷ []) × (status ≡ DONE)
 Tells (Tick status) next = (next ≡ calls.Tick ∷ []) × (status ≡ DONE)
-Tells (VolumeCame unit flag status) next = TellsChange true (not (flag == 0)) unit status next
-Tells (VolumeWent unit status) next = TellsChange false false unit status next
+Tells (VolumeCame unit medium status) next =
+    (answer : Result (Unit {0}) VolumeFault) × (next ≡ calls.VolumeCame (medium_given medium) unit answer ∷ [])
+    × (status ≡ put_code answer)
+Tells (VolumeWent unit status) next =
+    (answer : Result (Unit {0}) NoUnit) × (next ≡ calls.VolumeWent unit answer ∷ []) × (status ≡ volume_code answer)
+Tells (Protect unit flag status) next =
+    (answer : Result (Unit {0}) NoUnit) × (next ≡ calls.Protect (not (flag == 0)) unit answer ∷ [])
+    × (status ≡ volume_code answer)
+Tells (Configured limits units answer limits' units') next = next ≡ []
+Tells (State before status after) next = next ≡ []
+Tells (Volume unit before status after) next = next ≡ []
+Tells (Begun before status after) next = next ≡ []
+Tells (Look before answer after) next = next ≡ []
+Tells (Why number reference before answer after) next = next ≡ []
 Tells (Resume bytes) next = next ≡ []
 
 -- the same of calls, the last one first

@@ -1,20 +1,25 @@
 -- What comes of calls on a port's handle. Much of a port is its own, so each is a relation.
-use Rattle.std.specs.Prelude.{◌≡◌, ℕ, ℤ, Bool, List, unwrap_or, Result, Ok, Err, IfSome, IsOk}
+use Rattle.std.specs.Prelude.{◌≡◌, ℕ, ℤ, true, false, List, unwrap_or, Result, Ok, Err, IfSome, IsOk}
 use Rattle.mscp_controller.specs.Holdings.{fresh}
 use Rattle.mscp_port.specs.declared.action.Action.{Action}
+use Rattle.mscp_port.specs.declared.action.Ask.{Ask}
 use Rattle.mscp_port.specs.declared.action.Outcome.{Outcome}
 use Rattle.mscp_port.specs.declared.action.Unasked.{Unasked}
 use Rattle.mscp_port.specs.declared.port.watching.NoUnit.{NoUnit}
+use Rattle.mscp_port.specs.declared.volumes.Medium.{Medium}
+use Rattle.mscp_port.specs.declared.volumes.Volume.{Volume}
+use Rattle.mscp_port.specs.declared.volumes.VolumeFault.{VolumeFault}
+use Rattle.mscp_port.specs.declared.volumes.VolumeFault.TheVariants as faults
 use Rattle.mscp_port.specs.declared.task.Task.TheVariants as tasks
 use Rattle.mscp_port.specs.Calls as ports
 use Rattle.mscp_memory.specs.PortHandles.{Handle, Held, placed, with_held}
 use Rattle.mscp_memory.specs.declared.policy.Policy.TheVariants.{Oldest}
 use Rattle.mscp_memory.specs.Policies.{PolicyPicks}
 use Rattle.mscp_port.specs.Moved.{BeginsBlock, Moves}
-use Rattle.mscp_port.specs.Ports.{IsAlive, IsOfBlock}
+use Rattle.mscp_port.specs.Ports.{IsAlive, IsOfBlock, asked, asks_blocks}
 use Rattle.mscp_c.specs.declared.outs.ActionOut.{ActionOut}
 use Rattle.mscp_c.specs.declared.port_given.HardwareIn.{HardwareIn}
-use Rattle.mscp_c.specs.declared.status.TheConstants.{DONE, UNKNOWN_UNIT, UNASKED}
+use Rattle.mscp_c.specs.declared.status.TheConstants.{BAD_SIZE, DONE, UNKNOWN_UNIT, UNASKED}
 use Rattle.mscp_c.specs.declared.units.Limits.{Limits}
 use Rattle.mscp_c.specs.declared.units.UnitIn.{UnitIn}
 use Rattle.mscp_c.specs.Given.{policy_given, settings_given}
@@ -38,14 +43,14 @@ pub record MakesPort (l : Limits) (us : List UnitIn) (picker : ℕ) (hardware : 
 
 -- ---- what is wanted, and how it went
 
--- status and out-struct tell what the port wants next
-pub record TellsWanted (old : Handle) (before : ActionOut) (status : ℤ) (new : Handle) (after : ActionOut)
+-- status and out-struct tell what the port wants next of what it is asked for
+pub record TellsWanted (ask : Ask) (old : Handle) (before : ActionOut) (status : ℤ) (new : Handle) (after : ActionOut)
     : Type 0 where
   pub action : Action
-  pub wants : ports.Wants old.held action new.held
+  pub wants : ports.Wants (asks_blocks ask) (asked ask old.held) action new.held
   -- what it takes in hand of a block is what its controller has begun, by the word of its policy
-  pub begins : IsAlive old.held → old.held.task ≡ tasks.Free → IsOfBlock new.held.task
-      → BeginsBlock (PolicyPicks old.held.controller.picker) new.held.task old.held new.held
+  pub begins : IsAlive (asked ask old.held) → (asked ask old.held).task ≡ tasks.Free → IsOfBlock new.held.task
+      → BeginsBlock (PolicyPicks (asked ask old.held).controller.picker) new.held.task (asked ask old.held) new.held
   pub rest : new ≡ with_held old new.held
   pub code : status ≡ next_code action
   pub told : after ≡ action_told action before
@@ -70,14 +75,27 @@ pub record TellsWent (outcome : Outcome) (old : Handle) (status : ℤ) (new : Ha
   pub rest : new ≡ with_held old new.held
   pub code : status ≡ told_code answer
 
--- the status of a volume that came or went: done, or there is no such unit
+-- the status of a volume that went, or whose protection was switched: done, or there is no such unit
 abbrev pub volume_code : Result (Unit {0}) NoUnit → ℤ
 volume_code (Ok done) = DONE
 volume_code (Err fault) = UNKNOWN_UNIT
 
--- it tells what came of a volume of a unit that came or went
-pub record TellsVolume (unit : ℕ) (there protected : Bool) (old : Handle) (status : ℤ) (new : Handle) : Type 0 where
+-- it tells what came of a volume of a unit that went, or whose protection was switched
+pub record TellsVolume (becomes : Volume → Volume) (unit : ℕ) (old : Handle) (status : ℤ) (new : Handle) : Type 0 where
   pub answer : Result (Unit {0}) NoUnit
-  pub changes : ports.Changes there protected unit old.held answer new.held
+  pub changes : ports.Changes becomes unit old.held answer new.held
   pub rest : new ≡ with_held old new.held
   pub code : status ≡ volume_code answer
+
+-- the status of a volume that came
+abbrev pub put_code : Result (Unit {0}) VolumeFault → ℤ
+put_code (Ok done) = DONE
+put_code (Err faults.NoUnit) = UNKNOWN_UNIT
+put_code (Err faults.Size) = BAD_SIZE
+
+-- and of one that came
+pub record TellsPut (m : Medium) (unit : ℕ) (old : Handle) (status : ℤ) (new : Handle) : Type 0 where
+  pub answer : Result (Unit {0}) VolumeFault
+  pub puts : ports.PutsIn m unit old.held answer new.held
+  pub rest : new ≡ with_held old new.held
+  pub code : status ≡ put_code answer

@@ -82,6 +82,7 @@ pub fn statuses_are_these()
     ensures bad_outcome { BAD_OUTCOME ≡ minus 35 }
     ensures unasked { UNASKED ≡ minus 36 }
     ensures unknown_unit { UNKNOWN_UNIT ≡ minus 37 }
+    ensures bad_size { BAD_SIZE ≡ minus 38 }
     ensures saved_length { SAVED_LENGTH ≡ minus 40 }
     ensures saved_magic { SAVED_MAGIC ≡ minus 41 }
     ensures saved_version { SAVED_VERSION ≡ minus 42 }

@@ -12,6 +12,7 @@ mod port_given;
 mod port_making;
 mod port_registers;
 mod port_saving;
+mod port_seeing;
 mod port_telling;
 mod port_turning;
 mod port_watching;

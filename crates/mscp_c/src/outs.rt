@@ -92,3 +92,26 @@ pub struct ActionOut {
     pub opcode: u8,
     pub bytes: [u8; 64],
 }
+
+/// How far a port has come: the number of its stage, the word of a stage that has one, and whether something is to go out to a
+/// ring that was full.
+#[repr(C)]
+#[derive(Clone, Copy)]
+pub struct StateOut {
+    pub word: u16,
+    pub stage: u8,
+    pub is_held_back: u8,
+}
+
+/// A unit's volume. What isn't there has the rest of what was there last, or 0.
+#[repr(C)]
+#[derive(Clone, Copy)]
+pub struct VolumeOut {
+    pub size: u32,
+    pub media: u32,
+    pub is_there: u8,
+    pub is_protected: u8,
+    pub is_protected_by_host: u8,
+    pub is_online: u8,
+    pub is_removable: u8,
+}

@@ -1,11 +1,11 @@
 // What a program in C gives for a port.
 
 ghost use Rattle.std.specs.Prelude.{◌≡◌};
-ghost use Rattle.mscp_c.specs.PortGiven.{bus_given, fault_given, hardware_given, outcome_given};
+ghost use Rattle.mscp_c.specs.PortGiven.{bus_given, fault_given, hardware_given, medium_given, outcome_given};
 
 use crate::units::InitFault;
 use mscp_controller::FaultStatus;
-use mscp_port::{Bus, Hardware, Outcome};
+use mscp_port::{Bus, Hardware, Medium, Outcome};
 
 /// What kind of port it is.
 #[repr(C)]
@@ -15,6 +15,16 @@ pub struct HardwareIn {
     pub model: u8,
     pub software: u8,
     pub version: u8,
+}
+
+/// What is put into a unit. A flag holds where it isn't 0.
+#[repr(C)]
+#[derive(Clone, Copy)]
+pub struct MediumIn {
+    pub size: u32,
+    pub media: u32,
+    pub is_protected: u8,
+    pub is_removable: u8,
 }
 
 /// Why no port is made: the first that holds, in this order.
@@ -49,6 +59,18 @@ pub(crate) fn hardware_of(given: &HardwareIn) -> Option<Hardware>
         software: given.software,
         version: given.version,
     })
+}
+
+/// What is put into a unit, by these numbers.
+pub(crate) fn medium_of(given: &MediumIn) -> Medium
+    ensures { result ≡ medium_given given.now }
+{
+    Medium {
+        size: given.size,
+        media: given.media,
+        is_protected: given.is_protected != 0,
+        is_removable: given.is_removable != 0,
+    }
 }
 
 /// A block that couldn't be moved, where this is the status of one.

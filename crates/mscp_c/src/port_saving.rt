@@ -16,7 +16,7 @@ use mscp_port::{Bus, Hardware, Port, ROOM, restore_fault, saved_settings};
 /// The most bytes that a port is saved as.
 #[unsafe(no_mangle)]
 pub extern "C" fn mscp_port_save_size() -> usize
-    ensures { result ≡ 5272 }
+    ensures { result ≡ 5416 }
 {
     ROOM
 }
@@ -54,7 +54,7 @@ fn policy_named(bytes: &[u8]) -> Policy
 {
     let text = usize::from(byte_or_zero(bytes, 70));
     let buffers = usize::from(byte_or_zero(bytes, 71));
-    if byte_or_zero(bytes, 280 + text + 20 * buffers + 30) == 1 {
+    if byte_or_zero(bytes, 424 + text + 20 * buffers + 30) == 1 {
         Policy::Sweep
     } else {
         Policy::Oldest

@@ -9,19 +9,40 @@ use crate::port_given::outcome_of;
 use crate::port_telling::tell_action;
 use crate::status::{BAD_OUTCOME, NOT_MADE, told_code};
 use mscp_memory::port::{Handle, is_made, lend};
+use mscp_port::Ask;
 
-/// What the port wants done next.
-#[unsafe(no_mangle)]
-pub extern "C" fn mscp_port_next(handle: &mut Handle, out: &mut ActionOut) -> i32
-    ensures wanted { is_made handle.old ≡ true → TellsWanted handle.old out.old result handle.new out.new }
+/// What the port wants done next, of what it is asked for.
+fn tell_next(handle: &mut Handle, out: &mut ActionOut, ask: Ask) -> i32
+    ensures wanted { is_made handle.old ≡ true → TellsWanted ask handle.old out.old result handle.new out.new }
     ensures unmade { is_made handle.old ≡ false
         → (result ≡ NOT_MADE) × (handle.new ≡ handle.old) × (out.new ≡ out.old) }
 {
     if !is_made(handle) {
         return NOT_MADE;
     }
-    let action = lend(handle).next();
+    let action = lend(handle).next(ask);
     tell_action(out, &action)
+}
+
+/// What the port wants done next.
+#[unsafe(no_mangle)]
+pub extern "C" fn mscp_port_next(handle: &mut Handle, out: &mut ActionOut) -> i32
+    ensures wanted { is_made handle.old ≡ true → TellsWanted Ask.All handle.old out.old result handle.new out.new }
+    ensures unmade { is_made handle.old ≡ false
+        → (result ≡ NOT_MADE) × (handle.new ≡ handle.old) × (out.new ≡ out.old) }
+{
+    tell_next(handle, out, Ask::All)
+}
+
+/// What the port wants done next beside blocks, while one takes its time.
+#[unsafe(no_mangle)]
+pub extern "C" fn mscp_port_next_message(handle: &mut Handle, out: &mut ActionOut) -> i32
+    ensures wanted { is_made handle.old ≡ true
+        → TellsWanted Ask.Messages handle.old out.old result handle.new out.new }
+    ensures unmade { is_made handle.old ≡ false
+        → (result ≡ NOT_MADE) × (handle.new ≡ handle.old) × (out.new ≡ out.old) }
+{
+    tell_next(handle, out, Ask::Messages)
 }
 
 /// These bytes were read in host memory, as the port wanted.

@@ -1,10 +1,11 @@
 // What comes to a port from elsewhere than its host: volumes, and time.
 
 ghost use Rattle.std.specs.Prelude.{◌≡◌, ◌==◌, not, true, false};
-ghost use Rattle.mscp_c.specs.Common.{LooksAgain, Ticks, Holds, TellsVolume};
+ghost use Rattle.mscp_c.specs.Common.{LooksAgain, Ticks, Holds, TellsPut, TellsVolume, medium_given, volume_changed, volume_protected};
 ghost use Rattle.mscp_memory.specs.PortHandles.{is_made};
 
-use crate::status::{DONE, NOT_MADE, volume_code};
+use crate::port_given::{MediumIn, medium_of};
+use crate::status::{DONE, NOT_MADE, put_code, volume_code};
 use mscp_memory::port::{Handle, is_made, lend};
 
 /// The host may have given slots of its ring of ends back, of which nothing tells.
@@ -35,27 +36,40 @@ pub extern "C" fn mscp_port_tick(handle: &mut Handle) -> i32
     DONE
 }
 
-/// A volume came into a unit: one that may be written on where the flag is 0.
+/// A volume came into a unit.
 #[unsafe(no_mangle)]
-pub extern "C" fn mscp_port_volume_came(handle: &mut Handle, unit: u16, is_protected: u32) -> i32
+pub extern "C" fn mscp_port_volume_came(handle: &mut Handle, unit: u16, medium: &MediumIn) -> i32
     ensures came { is_made handle.old ≡ true
-        → TellsVolume unit true (not (is_protected == 0)) handle.old result handle.new }
+        → TellsPut (medium_given medium.now) unit handle.old result handle.new }
     ensures unmade { is_made handle.old ≡ false → (result ≡ NOT_MADE) × (handle.new ≡ handle.old) }
 {
     if !is_made(handle) {
         return NOT_MADE;
     }
-    volume_code(lend(handle).volume_came(unit, is_protected != 0))
+    put_code(lend(handle).volume_came(unit, medium_of(medium)))
 }
 
 /// The volume of a unit went.
 #[unsafe(no_mangle)]
 pub extern "C" fn mscp_port_volume_went(handle: &mut Handle, unit: u16) -> i32
-    ensures went { is_made handle.old ≡ true → TellsVolume unit false false handle.old result handle.new }
+    ensures went { is_made handle.old ≡ true → TellsVolume (volume_changed false) unit handle.old result handle.new }
     ensures unmade { is_made handle.old ≡ false → (result ≡ NOT_MADE) × (handle.new ≡ handle.old) }
 {
     if !is_made(handle) {
         return NOT_MADE;
     }
     volume_code(lend(handle).volume_went(unit))
+}
+
+/// Nothing may be written on the volume of a unit from now on, or something may again where the flag is 0.
+#[unsafe(no_mangle)]
+pub extern "C" fn mscp_port_protect(handle: &mut Handle, unit: u16, is_protected: u32) -> i32
+    ensures protects { is_made handle.old ≡ true
+        → TellsVolume (volume_protected (not (is_protected == 0))) unit handle.old result handle.new }
+    ensures unmade { is_made handle.old ≡ false → (result ≡ NOT_MADE) × (handle.new ≡ handle.old) }
+{
+    if !is_made(handle) {
+        return NOT_MADE;
+    }
+    volume_code(lend(handle).protect(unit, is_protected != 0))
 }

@@ -2,14 +2,14 @@
 #![tactic(auto, using(crate::proofs::Lent::lent_back))]
 
 ghost use Rattle.std.specs.Prelude.{◌≡◌, true, false, pos, length, IfSome, None};
-ghost use Rattle.mscp_c.specs.Common.{is_online_in, of, balance_of, waiting_on, connection_given, AnswersHandle, figure_in, figures_in, figures_told, flag, holders_in, holders_told};
+ghost use Rattle.mscp_c.specs.Common.{is_online_in, of, balance_of, waiting_on, connection_given, AnswersHandle, figure_in, figures_in, figures_told, flag, holders_in, holders_told, limits_told, units_told};
 ghost use Rattle.mscp_memory.specs.ControllerHandles.{is_made};
 ghost use Rattle.mscp_c.specs.HandleCalls as calls;
 
 use crate::outs::{FigureOut, HolderOut};
 use crate::status::{BAD_CONNECTION, NOT_MADE};
 use crate::telling::{flag, tell_figures, tell_holders};
-use crate::units::connection_of;
+use crate::units::{Limits, UnitIn, connection_of, tell_settings};
 use mscp_memory::controller::{Handle, is_made, lend};
 
 /// The figures of the waiting commands, oldest first, as many as there is room for: how many wait.
@@ -27,6 +27,28 @@ pub extern "C" fn mscp_look_at(handle: &mut Handle, out: &mut [FigureOut]) -> i3
     let list = lend(handle).look();
     tell_figures(out, list.as_slice());
     list.len() as i32
+}
+
+/// The limits of the controller, and its units, as many as there is room for: how many there are.
+#[unsafe(no_mangle)]
+pub extern "C" fn mscp_settings_at(
+    handle: &mut Handle,
+    limits: &mut Limits,
+    units: &mut [UnitIn],
+) -> i32
+    ensures count { is_made handle.old ≡ true → result ≡ pos (length handle.old.held.settings.units) }
+    ensures limits { is_made handle.old ≡ true → limits.new ≡ limits_told handle.old.held.settings }
+    ensures told { is_made handle.old ≡ true → units.new ≡ units_told handle.old.held.settings.units units.old }
+    ensures same { handle.new ≡ handle.old }
+    ensures call { is_made handle.old ≡ true → AnswersHandle handle.old
+        (calls.Configured limits.old units.old result limits.new units.new) handle.new }
+    ensures unmade { is_made handle.old ≡ false
+        → (result ≡ NOT_MADE) × (limits.new ≡ limits.old) × (units.new ≡ units.old) }
+{
+    if !is_made(handle) {
+        return NOT_MADE;
+    }
+    tell_settings(limits, units, lend(handle).config())
 }
 
 /// The figure of a waiting command of the connection, 0 where none waits of that reference number.

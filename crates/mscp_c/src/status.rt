@@ -1,7 +1,7 @@
 // What the calls answer: 0 and up what came of a call, below 0 why it was refused.
 
 ghost use Rattle.std.specs.Prelude.{◌≡◌, ◌≢◌};
-ghost use Rattle.mscp_c.specs.Common.{host_code, host_restore_code, limits_code, port_restore_code, restore_code, room_code, send_fault_code, unit_code, units_code, init_code, cause_code, show_code, port_init_code, told_code, volume_code};
+ghost use Rattle.mscp_c.specs.Common.{host_code, host_restore_code, limits_code, port_restore_code, restore_code, room_code, send_fault_code, unit_code, units_code, init_code, cause_code, show_code, port_init_code, told_code, volume_code, put_code};
 
 use crate::port_given::PortInitFault;
 use crate::units::InitFault;
@@ -9,7 +9,7 @@ use mscp_controller::{ConfigFault, SendFault};
 use mscp_drive::{UnitFault, UnitsFault};
 use mscp_host::{HostFault, RestoreFault as HostRestoreFault};
 use mscp_memory::RoomFault;
-use mscp_port::{NoUnit, RestoreFault as PortRestoreFault, Unasked};
+use mscp_port::{NoUnit, RestoreFault as PortRestoreFault, Unasked, VolumeFault};
 use mscp_saved::RestoreFault;
 use mscp_script::{Cause, ShowFault};
 
@@ -105,6 +105,8 @@ pub(crate) const BAD_OUTCOME: i32 = -35;
 pub(crate) const UNASKED: i32 = -36;
 /// No unit has this number.
 pub(crate) const UNKNOWN_UNIT: i32 = -37;
+
+pub(crate) const BAD_SIZE: i32 = -38;
 
 /// Bytes that are no saved controller, no saved host, and no saved port.
 pub(crate) const SAVED_LENGTH: i32 = -40;
@@ -345,6 +347,17 @@ pub(crate) fn volume_code(answer: Result<(), NoUnit>) -> i32
     ensures { result ≡ volume_code answer }
 {
     if answer.is_ok() { DONE } else { UNKNOWN_UNIT }
+}
+
+/// The status of a volume that came.
+pub(crate) fn put_code(answer: Result<(), VolumeFault>) -> i32
+    ensures { result ≡ put_code answer }
+{
+    match answer {
+        Ok(()) => DONE,
+        Err(VolumeFault::NoUnit) => UNKNOWN_UNIT,
+        Err(VolumeFault::Size) => BAD_SIZE,
+    }
 }
 
 /// The status of what is wrong in a line of a script.

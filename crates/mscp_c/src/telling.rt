@@ -1,13 +1,15 @@
 // How what a call answers is told.
 
 ghost use Rattle.std.specs.Prelude.{◌≡◌};
+ghost use Rattle.mscp_c.specs.PortSeen.{seen_code, volume_told};
 ghost use Rattle.mscp_c.specs.Told.{PacketTold, begin_code, block_told, bytes_of, connection_told, flag, figures_told, holders_told, report_code, report_told, send_code, sent_told, upcoming_told};
 
-use crate::outs::{FigureOut, HolderOut, PacketOut, ReportOut, SentOut, UpcomingOut};
-use crate::status::{ANSWERED, DONE, NOTHING, QUEUED, send_fault_code};
+use crate::outs::{FigureOut, HolderOut, PacketOut, ReportOut, SentOut, UpcomingOut, VolumeOut};
+use crate::status::{ANSWERED, DONE, NOTHING, QUEUED, UNKNOWN_UNIT, send_fault_code};
 use arrayvec::ArrayVec;
 use mscp_controller::{Block, Connection, FaultStatus, Holder, Report, SendFault, Sent, Upcoming};
 use mscp_packet::Order;
+use mscp_port::Volume;
 
 /// A flag as a number.
 pub(crate) fn flag(holds: bool) -> u8
@@ -152,6 +154,26 @@ pub(crate) fn tell_holders(out: &mut [HolderOut], list: &[Holder])
             overdrawn: flag(list[i].overdrawn),
         };
     }
+}
+
+/// Tells a unit's volume.
+pub(crate) fn tell_volume(out: &mut VolumeOut, volume: &Option<Volume>) -> i32
+    ensures code { result ≡ seen_code volume.now }
+    ensures told { out.new ≡ volume_told volume.now out.old }
+{
+    let Some(volume) = volume else {
+        return UNKNOWN_UNIT;
+    };
+    *out = VolumeOut {
+        size: volume.size,
+        media: volume.media,
+        is_there: flag(volume.is_there),
+        is_protected: flag(volume.is_protected),
+        is_protected_by_host: flag(volume.is_protected_by_host),
+        is_online: flag(volume.is_mounted()),
+        is_removable: flag(volume.is_removable),
+    };
+    DONE
 }
 
 /// The outcome of a block with this status: good where it is 0.

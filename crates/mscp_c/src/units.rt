@@ -1,10 +1,10 @@
 // What a program in C gives for a controller.
 
-ghost use Rattle.std.specs.Prelude.{◌≡◌};
-ghost use Rattle.mscp_c.specs.Given.{UnitAnswers, connection_given, policy_given, units_answer};
+ghost use Rattle.std.specs.Prelude.{◌≡◌, pos, length};
+ghost use Rattle.mscp_c.specs.Given.{UnitAnswers, connection_given, limits_told, policy_given, unit_told, units_answer, units_told};
 
 use arrayvec::ArrayVec;
-use mscp_controller::{ConfigFault, Connection};
+use mscp_controller::{Config, ConfigFault, Connection};
 use mscp_drive::{Unit, UnitFault, Units, UnitsFault};
 use mscp_memory::{Policy, RoomFault};
 
@@ -105,4 +105,49 @@ pub(crate) fn units_of(given: &[UnitIn]) -> Result<Units, InitFault>
         Ok(units) => Ok(units),
         Err(fault) => Err(InitFault::Units(fault)),
     }
+}
+
+/// The numbers of a unit.
+fn unit_told(unit: &Unit) -> UnitIn
+    ensures { result ≡ unit_told unit.now }
+{
+    UnitIn {
+        id: unit.id(),
+        size: unit.size(),
+        media: unit.media(),
+        serial: unit.serial(),
+        number: unit.number(),
+        track: unit.track(),
+        group: unit.group(),
+        cylinder: unit.cylinder_size(),
+    }
+}
+
+/// Tells as many of the units as there is room for.
+fn tell_units(out: &mut [UnitIn], list: &[Unit])
+    ensures { out.new ≡ units_told list.now out.old }
+{
+    let count = list.len().min(out.len());
+    for i in 0..count {
+        out[i] = unit_told(&list[i]);
+    }
+}
+
+/// Tells the limits of a controller and its units: how many these are.
+pub(crate) fn tell_settings(limits: &mut Limits, units: &mut [UnitIn], config: &Config) -> i32
+    ensures limits { limits.new ≡ limits_told config.now }
+    ensures told { units.new ≡ units_told config.now.units units.old }
+    ensures count { result ≡ pos (length config.now.units) }
+{
+    *limits = Limits {
+        id: config.id(),
+        budget: u64::from(config.budget()),
+        credits: config.credits(),
+        second: config.second(),
+        longest: config.longest(),
+        timeout: config.timeout(),
+    };
+    let list = config.units().list();
+    tell_units(units, list);
+    list.len() as i32
 }

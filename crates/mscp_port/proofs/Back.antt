@@ -6,8 +6,16 @@ use Rattle.mscp_port.proofs.Coded.{bus_back, optional_back, size_back, stage_bac
 
 -- ---- parts
 
-volume_is_back : (v : Volume) → HasVolumeRange v → IsBack volume_in volume_bytes 13 v
-volume_is_back v h = search (arith, four (number_or_none v.mounted) h.mounted, optional_back v.mounted, flag_back)
+volume_is_back : (v : Volume) → HasVolumeRange v → IsBack volume_in volume_bytes 22 v
+volume_is_back v h =
+    search (
+      arith,
+      four (number_or_none v.mounted) h.mounted,
+      four v.size h.size,
+      four v.media h.media,
+      optional_back v.mounted,
+      flag_back,
+    )
 
 buffer_is_back : (b : Buffer) → HasBufferRange b → IsBack buffer_in buffer_bytes 20 b
 buffer_is_back b h = search (arith, four, two)
@@ -45,8 +53,8 @@ module _ {K : Type 0} (number : ℕ) (p : Port K) where
   abbrev cs : List ℕ
   cs = controller_bytes number p.controller
 
-  volumes_back : HasRange p → AllByRecursion (IsBack volume_in volume_bytes 13) p.volumes
-  volumes_back r = recursion_from_All (IsBack volume_in volume_bytes 13) p.volumes
+  volumes_back : HasRange p → AllByRecursion (IsBack volume_in volume_bytes 22) p.volumes
+  volumes_back r = recursion_from_All (IsBack volume_in volume_bytes 22) p.volumes
       (λ k d l. volume_is_back (get_or p.volumes k d) (r.volumes k d l))
 
   buffers_back : HasRange p → AllByRecursion (IsBack buffer_in buffer_bytes 20) p.buffers.items
@@ -55,25 +63,25 @@ module _ {K : Type 0} (number : ℕ) (p : Port K) where
   behind_head : drop 72 b ≡ vs ++ (ts ++ (bs ++ cs))
   behind_head = append_assoc (vs ++ ts) bs cs ∙ append_assoc vs ts (bs ++ cs)
 
-  behind_volumes : HasRange p → drop 280 b ≡ ts ++ (bs ++ cs)
+  behind_volumes : HasRange p → drop 424 b ≡ ts ++ (bs ++ cs)
   behind_volumes r =
       search (
         arith,
-        drop-drop 208 72 b,
-        parts_rest volume_in volume_bytes 13 p.volumes (ts ++ (bs ++ cs)) (volumes_back
+        drop-drop 352 72 b,
+        parts_rest volume_in volume_bytes 22 p.volumes (ts ++ (bs ++ cs)) (volumes_back
             r),
         volumes_back r,
         behind_head,
       )
 
-  behind_text : HasRange p → drop (280 + length ts) b ≡ bs ++ cs
-  behind_text r = search (arith, drop-drop (length ts) 280 b, behind_volumes r, drop-append_seam ts (bs ++ cs))
+  behind_text : HasRange p → drop (424 + length ts) b ≡ bs ++ cs
+  behind_text r = search (arith, drop-drop (length ts) 424 b, behind_volumes r, drop-append_seam ts (bs ++ cs))
 
-  behind_buffers : HasRange p → drop (280 + length ts + 20 * length p.buffers.items) b ≡ cs
+  behind_buffers : HasRange p → drop (424 + length ts + 20 * length p.buffers.items) b ≡ cs
   behind_buffers r =
       search (
         arith,
-        drop-drop (20 * length p.buffers.items) (280 + length ts) b,
+        drop-drop (20 * length p.buffers.items) (424 + length ts) b,
         behind_text r,
         parts_rest buffer_in
             buffer_bytes 20 p.buffers.items cs (buffers_back r),
@@ -82,9 +90,9 @@ module _ {K : Type 0} (number : ℕ) (p : Port K) where
 
   volumes_said : HasRange p → volumes_in b ≡ p.volumes
   volumes_said r =
-      ap (parts_in volume_in 13 16) behind_head
-      ∙ subst (λ n. parts_in volume_in 13 n (vs ++ (ts ++ (bs ++ cs))) ≡ p.volumes) r.sixteen
-      (parts_said volume_in volume_bytes 13 p.volumes (ts ++ (bs ++ cs)) (volumes_back r))
+      ap (parts_in volume_in 22 16) behind_head
+      ∙ subst (λ n. parts_in volume_in 22 n (vs ++ (ts ++ (bs ++ cs))) ≡ p.volumes) r.sixteen
+      (parts_said volume_in volume_bytes 22 p.volumes (ts ++ (bs ++ cs)) (volumes_back r))
 
   text_said : HasRange p → text_in b ≡ ts
   text_said r = ap (take (length ts)) (behind_volumes r) ∙ take-append_seam ts (bs ++ cs)
@@ -139,7 +147,7 @@ module _ {K : Type 0} (number : ℕ) (p : Port K) where
   saved_long r =
       search (
         arith,
-        parts_long volume_in volume_bytes 13 p.volumes (volumes_back r),
+        parts_long volume_in volume_bytes 22 p.volumes (volumes_back r),
         volumes_back r,
         parts_long
             buffer_in buffer_bytes 20 p.buffers.items (buffers_back r),

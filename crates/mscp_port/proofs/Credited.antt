@@ -1,5 +1,5 @@
 -- What a host is told of credits over a whole history.
-use Rattle.mscp_port.proofs.Common.{◌≡◌, ◌⊎◌, ◌∙◌, ◌+◌, ◌-◌, ◌∷◌, [], ℕ, Bool, true, false, List, inl, inr, refl, ap, sym, arith, Result, Ok, Err, min-le_left, false≢true, Holdings, Outcome, Unasked, Hardware, Port, Descriptor, Task, WritesOut, Goes, HoldsPacket, IsMadeOf, IsForgotten, IsWritten, Told, ends_in, Answered, Becomes, Call, WriteIp, ReadIp, WriteSa, Next, WasRead, Went, LookAgain, Tick, Change, credits_told}
+use Rattle.mscp_port.proofs.Common.{◌≡◌, ◌⊎◌, ◌∙◌, ◌+◌, ◌-◌, ◌∷◌, [], ℕ, Bool, true, false, List, inl, inr, refl, ap, sym, arith, Result, Ok, Err, min-le_left, false≢true, Holdings, Outcome, Unasked, Hardware, Port, Descriptor, Task, WritesOut, Goes, HoldsPacket, IsMadeOf, IsForgotten, IsWritten, Told, ends_in, Answered, Becomes, Call, WriteIp, ReadIp, WriteSa, Next, PutAside, WasRead, Went, LookAgain, Tick, Protect, VolumeCame, VolumeWent, credits_told}
 use Rattle.mscp_port.specs.declared.action.Outcome.TheVariants as outcomes
 use Rattle.mscp_port.specs.declared.stage.Stage.TheVariants as stages
 use Rattle.mscp_port.specs.declared.task.Task.TheVariants as tasks
@@ -49,14 +49,20 @@ counts ReadIp old new r = elim r.frame
     [ inl e ↦ inr (inr (ap (λ p. p.untold) e, ap (λ p. p.more) e)) | inr dead ↦ inl (stages.Dead dead.0, dead.1) ]
 counts (WriteSa word) old new r = elim r.frame
     [ inl e ↦ inr (inr (ap (λ p. p.untold) e, ap (λ p. p.more) e)) | inr dead ↦ inl (stages.Dead dead.0, dead.1) ]
-counts (Next action) old new r = inr (inr (ap (λ p. p.untold) r.frame, ap (λ p. p.more) r.frame))
+counts (Next blocks action) old new r = inr (inr (ap (λ p. p.untold) r.frame, ap (λ p. p.more) r.frame))
+counts PutAside old new r = inr (inr (ap (λ p. p.untold) r, ap (λ p. p.more) r))
 counts (WasRead bytes result) old new r = elim r.frame
     [ inl e ↦ inr (inr (ap (λ p. p.untold) e, ap (λ p. p.more) e)) | inr dead ↦ inl (stages.Dead dead.0, dead.1) ]
 counts (Went outcome result) old new r = went outcome result old new r
 counts LookAgain old new r = inr (inr (ap (λ p. p.untold) r, ap (λ p. p.more) r))
 counts Tick old new r = elim r.either
     [ inl e ↦ inr (inr (ap (λ p. p.untold) e, ap (λ p. p.more) e)) | inr dead ↦ inl (stages.Dead 9, dead) ]
-counts (Change there protected unit result) old new r =
+counts (VolumeCame m unit (Ok done)) old new r =
+    inr (inr (ap (λ p. p.untold) (r.came refl), ap (λ p. p.more) (r.came refl)))
+counts (VolumeCame m unit (Err fault)) old new r =
+    inr (inr (ap (λ p. p.untold) r.refused, ap (λ p. p.more) r.refused))
+counts (VolumeWent unit result) old new r = inr (inr (ap (λ p. p.untold) r.frame, ap (λ p. p.more) r.frame))
+counts (Protect protected unit result) old new r =
     inr (inr (ap (λ p. p.untold) r.frame, ap (λ p. p.more) r.frame))
 
 -- ---- the law

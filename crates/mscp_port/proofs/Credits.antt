@@ -1,5 +1,5 @@
 -- A port has a credit for each message of a host that has no more commands outstanding than it may.
-use Rattle.mscp_port.proofs.Common.{◌≡◌, ◌≢◌, ◌∙◌, ◌+◌, ◌-◌, ◌<◌, ◌≤◌, ℕ, Bool, true, false, List, [], ◌∷◌, length, Option, None, Some, inl, inr, refl, ap, subst, arith, Result, Ok, Err, false≢true, length-append, length-map, none-some, eq_false, First, SendFault, Sent, refusal, Holdings, answer_to_message, balance_of, outstanding_of, waiting_on, numbers, numbers_ended, of, credits_of, Hardware, Port, IsMadeOf, Ticks, Answered, Becomes, Call, HasCredit, WriteIp, ReadIp, WriteSa, Next, WasRead, Went, LookAgain, Tick, Change}
+use Rattle.mscp_port.proofs.Common.{◌≡◌, ◌≢◌, ◌∙◌, ◌+◌, ◌-◌, ◌<◌, ◌≤◌, ℕ, Bool, true, false, List, [], ◌∷◌, length, Option, None, Some, inl, inr, refl, ap, subst, arith, Result, Ok, Err, false≢true, length-append, length-map, none-some, eq_false, First, SendFault, Sent, refusal, Holdings, answer_to_message, balance_of, outstanding_of, waiting_on, numbers, numbers_ended, of, credits_of, Hardware, Port, IsMadeOf, Ticks, Answered, Becomes, Call, HasCredit, WriteIp, ReadIp, WriteSa, Next, PutAside, WasRead, Went, LookAgain, Tick, Protect, VolumeCame, VolumeWent}
 use Rattle.mscp_controller.specs.declared.entry.SendFault.TheVariants as faults
 
 -- ---- the settings stay
@@ -15,12 +15,16 @@ pub settings_stay : {K : Type 0} (call : Call) (old new : Port K) → Becomes ca
 settings_stay WriteIp old new r = ap (λ h. h.settings) r.controller
 settings_stay ReadIp old new r = r.settings
 settings_stay (WriteSa word) old new r = r.settings
-settings_stay (Next action) old new r = r.settings
+settings_stay (Next blocks action) old new r = r.settings
+settings_stay PutAside old new r = ap (λ p. p.controller.settings) r
 settings_stay (WasRead bytes result) old new r = r.settings
 settings_stay (Went outcome result) old new r = r.settings
 settings_stay LookAgain old new r = ap (λ p. p.controller.settings) r
 settings_stay Tick old new r = ticked old new r
-settings_stay (Change is_there protected unit result) old new r = ap (λ p. p.controller.settings) r.frame
+settings_stay (VolumeCame m unit (Ok done)) old new r = ap (λ p. p.controller.settings) (r.came refl)
+settings_stay (VolumeCame m unit (Err fault)) old new r = ap (λ p. p.controller.settings) r.refused
+settings_stay (VolumeWent unit result) old new r = ap (λ p. p.controller.settings) r.frame
+settings_stay (Protect protected unit result) old new r = ap (λ p. p.controller.settings) r.frame
 
 pub settings_still : {K : Type 0} (start p : Port K) (calls : List Call) → Answered start calls p
     → p.controller.settings ≡ start.controller.settings

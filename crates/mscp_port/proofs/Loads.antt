@@ -1,15 +1,19 @@
 -- What was told of the volumes is what a port knows of them.
-use Rattle.mscp_port.proofs.Common.{◌≡◌, ◌≢◌, ◌⊎◌, ◌∙◌, ◌<◌, ℕ, Bool, true, false, cond, List, [], ◌∷◌, Option, None, Some, inl, inr, refl, ap, sym, length, get_or, set, arith, Result, nat_eq, cases_eq, cases_lt, eqb-true, false≢true, get_or-set_other, get_or-set_same, get_or_past, length-set, position-Some, none-some, eq_false, eq_true, Shape, one_block, End, MoveKind, Connection, Holdings, Buffer, Hardware, Port, NoUnit, Stage, Task, Volume, writes, Changes, IsMadeOf, Answered, Becomes, Call, WriteIp, ReadIp, WriteSa, Next, WasRead, Went, LookAgain, Tick, Change, is_loaded, is_locked, GoesOnWithBlock, volumes_after, IsNews, LooksForOut, Says, IsAsNew, no_volume, place_in, protected_by, volume_at, volume_changed, volume_heeded, volumes_changed, volumes_heeded}
+use Rattle.mscp_port.proofs.Common.{subst, ◌≡◌, ◌≢◌, ◌⊎◌, ◌∙◌, ◌<◌, ℕ, Bool, true, false, cond, List, [], ◌∷◌, Option, None, Some, inl, inr, refl, ap, sym, length, get_or, set, arith, Result, Ok, Err, nat_eq, cases_eq, cases_lt, eqb-true, false≢true, get_or-set_other, get_or-set_same, get_or_past, length-set, position-Some, none-some, eq_false, eq_true, Shape, one_block, End, MoveKind, Connection, Holdings, Buffer, Hardware, Port, NoUnit, Stage, Task, Volume, writes, Changes, PutsIn, IsMadeOf, Answered, Becomes, Call, WriteIp, ReadIp, WriteSa, Next, PutAside, WasRead, Went, LookAgain, Tick, Protect, VolumeCame, VolumeWent, is_loaded, is_locked, GoesOnWithBlock, volumes_after, IsNews, LooksForOut, Says, IsAsNew, no_volume, place_in, protected_by, volume_at, volume_changed, volume_heeded, volume_put, volumes_heeded, volumes_with}
 use Rattle.mscp_port.specs.declared.action.Action.TheVariants as actions
 use Rattle.mscp_port.specs.declared.stage.Stage.TheVariants as stages
 use Rattle.mscp_port.specs.declared.task.Task.TheVariants as tasks
+use Rattle.mscp_port.specs.declared.volumes.Medium.{Medium}
+use Rattle.mscp_port.specs.declared.volumes.VolumeFault.{VolumeFault}
+use Rattle.mscp_port.specs.Loaded.{blocks_in}
+use Rattle.mscp_port.specs.Volumes.{volume_protected}
 use Rattle.mscp_port.proofs.Credits.{settings_stay}
 
 -- ---- a volume
 
--- it is there as it was, and as protected by the hardware
+-- it is there as it was, as protected by the hardware, and as long
 abbrev IsAsBefore : Volume → Volume → Type 0
-IsAsBefore v w = (w.is_there ≡ v.is_there) × (w.is_protected ≡ v.is_protected)
+IsAsBefore v w = (w.is_there ≡ v.is_there) × (w.is_protected ≡ v.is_protected) × (w.size ≡ v.size)
 
 either_way : (b : Bool) (v x y : Volume) → IsAsBefore v x → IsAsBefore v y → IsAsBefore v (cond b x y)
 either_way b v x y h4 h5 = grind arith
@@ -91,24 +95,26 @@ said old new says = search (arith, looks_or_not old, the_same, with_news)
 -- ---- what was told
 
 -- a volume that is there was told to be there, and to be as protected as it is
-record Agrees (loaded locked : Bool) (v : Volume) : Type 0 where
+record Agrees (loaded locked : Bool) (size : ℕ) (v : Volume) : Type 0 where
   there : v.is_there ≡ true → loaded ≡ true
   protected : v.is_there ≡ true → v.is_protected ≡ locked
+  long : v.is_there ≡ true → v.size ≡ size
 
 abbrev Agree : {K : Type 0} → ℕ → List Call → Port K → Type 0
 Agree unit calls p = (place : ℕ) → place < 16 → place_in p.controller.settings.units unit ≡ Some place
-    → Agrees (is_loaded unit calls) (is_locked unit calls) (volume_at p.volumes place)
+    → Agrees (is_loaded unit calls) (is_locked unit calls) (blocks_in unit calls) (volume_at p.volumes place)
 
-agrees_still : (loaded locked : Bool) (v w : Volume) → IsAsBefore v w → Agrees loaded locked v → Agrees loaded locked w
-agrees_still loaded locked v w same a = search arith
+agrees_still : (loaded locked : Bool) (size : ℕ) (v w : Volume) → IsAsBefore v w → Agrees loaded locked size v
+    → Agrees loaded locked size w
+agrees_still loaded locked size v w same a = search arith
 
-agrees_none : (loaded locked : Bool) (v : Volume) → v ≡ no_volume → Agrees loaded locked v
-agrees_none loaded locked v e = search (arith, false≢true)
+agrees_none : (loaded locked : Bool) (size : ℕ) (v : Volume) → v ≡ no_volume → Agrees loaded locked size v
+agrees_none loaded locked size v e = search (arith, false≢true)
 
 agree_still : {K : Type 0} (unit : ℕ) (calls : List Call) (old new : Port K)
     → new.controller.settings ≡ old.controller.settings → AreAsBefore old.volumes new.volumes → Agree unit calls old
     → (place : ℕ) → place < 16 → place_in new.controller.settings.units unit ≡ Some place
-    → Agrees (is_loaded unit calls) (is_locked unit calls) (volume_at new.volumes place)
+    → Agrees (is_loaded unit calls) (is_locked unit calls) (blocks_in unit calls) (volume_at new.volumes place)
 agree_still unit calls old new settings same a = search (arith, agrees_still)
 
 -- ---- a call
@@ -122,22 +128,50 @@ apart units one other place q at there ne e =
     ne (sym second ∙ ap (λ i. (get_or units i one_block).number) (sym e) ∙ first)
 
 -- the volume of another unit changes
-elsewhere : (units : List Shape) (vs : List Volume) (there protected : Bool) (one other place : ℕ) (o : Option ℕ)
+elsewhere : (units : List Shape) (vs : List Volume) (becomes : Volume → Volume) (one other place : ℕ) (o : Option ℕ)
     → place_in units other ≡ o → place_in units one ≡ Some place → other ≢ one
-    → volume_at (volumes_changed there protected o vs) place ≡ volume_at vs place
-elsewhere units vs there protected one other place o h8 h9 h10 = grind (arith, get_or-set_other, apart)
+    → volume_at (volumes_with becomes o vs) place ≡ volume_at vs place
+elsewhere units vs becomes one other place o h7 h8 h9 = grind (arith, get_or-set_other, apart)
 
--- or that of this one
-changed_here : (vs : List Volume) (there protected : Bool) (place : ℕ)
-    → Agrees there protected (volume_at (volumes_changed there protected (Some place) vs) place)
-changed_here vs there protected place =
-    search (arith, at_set vs place (volume_changed there protected (volume_at vs place)), agrees_none)
+-- or one came into this one
+put_here : (vs : List Volume) (m : Medium) (place : ℕ)
+    → Agrees true m.is_protected m.size (volume_at (volumes_with (volume_put m) (Some place) vs) place)
+put_here vs m place = search (arith, at_set vs place (volume_put m (volume_at vs place)), agrees_none)
 
-changed : {K : Type 0} (unit : ℕ) (calls : List Call) (there protected : Bool) (other : ℕ) (result : Result Unit NoUnit)
-    (old new : Port K) → Changes there protected other old result new → Agree unit calls old
-    → Agree unit (Change there protected other result ∷ calls) new
-changed unit calls there protected other result old new r a =
-    search (arith, cases_eq other unit, eq_true, changed_here, eq_false, elsewhere)
+came : {K : Type 0} (unit : ℕ) (calls : List Call) (m : Medium) (other : ℕ) (result : Result Unit VolumeFault)
+    (old new : Port K) → PutsIn m other old result new → Agree unit calls old
+    → Agree unit (VolumeCame m other result ∷ calls) new
+came unit calls m other (Ok done) old new r a =
+    let is = r.came refl in
+    search (arith, is, cases_eq other unit, eq_true, put_here, eq_false, elsewhere)
+came unit calls m other (Err fault) old new r a =
+    agree_still unit calls old new (settings_stay (VolumeCame m other (Err fault)) old new r)
+    (the_same old.volumes new.volumes (ap (λ (p : Port _). p.volumes) r.refused)) a
+
+-- or that of this one went
+gone_here : (vs : List Volume) (locked : Bool) (size place : ℕ)
+    → Agrees false locked size (volume_at (volumes_with (volume_changed false) (Some place) vs) place)
+gone_here vs locked size place =
+    search (arith, at_set vs place (volume_changed false (volume_at vs place)), agrees_none, false≢true)
+
+gone : {K : Type 0} (unit : ℕ) (calls : List Call) (other : ℕ) (result : Result Unit NoUnit) (old new : Port K)
+    → Changes (volume_changed false) other old result new → Agree unit calls old
+    → Agree unit (VolumeWent other result ∷ calls) new
+gone unit calls other result old new r a =
+    search (arith, cases_eq other unit, eq_true, gone_here, eq_false, elsewhere)
+
+-- its volume is protected, or isn't any more
+guarded_here : (vs : List Volume) (loaded locked protected : Bool) (size place : ℕ)
+    → Agrees loaded locked size (volume_at vs place)
+    → Agrees loaded protected size (volume_at (volumes_with (volume_protected protected) (Some place) vs) place)
+guarded_here vs loaded locked protected size place a =
+    search (arith, at_set vs place (volume_protected protected (volume_at vs place)), agrees_none)
+
+guarded : {K : Type 0} (unit : ℕ) (calls : List Call) (protected : Bool) (other : ℕ) (result : Result Unit NoUnit)
+    (old new : Port K) → Changes (volume_protected protected) other old result new → Agree unit calls old
+    → Agree unit (Protect protected other result ∷ calls) new
+guarded unit calls protected other result old new r a =
+    search (arith, cases_eq other unit, eq_true, guarded_here, eq_false, elsewhere)
 
 agree_after : {K : Type 0} (unit : ℕ) (call : Call) (calls : List Call) (old new : Port K) → Becomes call old new
     → Agree unit calls old → Agree unit (call ∷ calls) new
@@ -147,8 +181,9 @@ agree_after unit ReadIp calls old new r a =
     search (arith, settings_stay ReadIp old new r, agree_still, the_same, as_new)
 agree_after unit (WriteSa word) calls old new r a =
     search (arith, settings_stay (WriteSa word) old new r, agree_still, the_same, as_new)
-agree_after unit (Next action) calls old new r a =
-    agree_still unit calls old new (settings_stay (Next action) old new r) (said old new r.says) a
+agree_after unit (Next blocks action) calls old new r a =
+    agree_still unit calls old new (settings_stay (Next blocks action) old new r) (said old new r.says) a
+agree_after unit PutAside calls old new r a = search (arith, settings_stay PutAside old new r, agree_still, the_same)
 agree_after unit (WasRead bytes result) calls old new r a =
     search (arith, settings_stay (WasRead bytes result) old new r, agree_still, the_same, as_new)
 agree_after unit (Went outcome result) calls old new r a =
@@ -159,8 +194,10 @@ agree_after unit (Went outcome result) calls old new r a =
     ]) a
 agree_after unit LookAgain calls old new r a = search (arith, settings_stay LookAgain old new r, agree_still, the_same)
 agree_after unit Tick calls old new r a = search (arith, settings_stay Tick old new r, agree_still, the_same, as_new)
-agree_after unit (Change there protected other result) calls old new r a =
-    changed unit calls there protected other result old new r a
+agree_after unit (VolumeCame m other result) calls old new r a = came unit calls m other result old new r a
+agree_after unit (VolumeWent other result) calls old new r a = gone unit calls other result old new r a
+agree_after unit (Protect protected other result) calls old new r a =
+    guarded unit calls protected other result old new r a
 
 -- ---- the law
 
@@ -171,11 +208,16 @@ agree hardware credits controller start p unit (call ∷ calls) made a =
     agree_after unit call calls a.0 p a.2 (agree hardware credits controller start a.0 unit calls made a.1)
 
 pub moves_on_volumes : {K : Type 0} (hardware : Hardware) (credits : ℕ) (controller : Holdings K) (start p : Port K)
-    (calls : List Call) (kind : MoveKind) (unit block count : ℕ) → IsMadeOf hardware credits controller start
-    → Answered start (Next (actions.Transfer kind unit block count) ∷ calls) p
+    (calls : List Call) (blocks : Bool) (kind : MoveKind) (unit block count : ℕ)
+    → IsMadeOf hardware credits controller start
+    → Answered start (Next blocks (actions.Transfer kind unit block count) ∷ calls) p
     → (is_loaded unit calls ≡ true) × (writes kind ≡ true → is_locked unit calls ≡ false)
-moves_on_volumes hardware credits controller start p calls kind unit block count made a =
+    × (block < blocks_in unit calls)
+moves_on_volumes hardware credits controller start p calls blocks kind unit block count made a =
     let moves = a.2.moves kind unit block count refl in
-    let agrees = agree hardware credits controller start p unit (Next (actions.Transfer kind unit block count) ∷ calls)
-    made a moves.0 moves.2 moves.1 in
-    (agrees.there moves.3.there, λ writing. sym (agrees.protected moves.3.there) ∙ moves.3.hardware writing)
+    let agrees = agree hardware credits controller start p unit
+    (Next blocks (actions.Transfer kind unit block count) ∷ calls) made a moves.0 moves.2 moves.1 in (
+      agrees.there moves.3.there,
+      λ writing. sym (agrees.protected moves.3.there) ∙ moves.3.hardware writing,
+      subst (λ n. block < n) (agrees.long moves.3.there) moves.3.on,
+    )

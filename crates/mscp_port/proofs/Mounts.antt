@@ -1,7 +1,9 @@
 -- What a host has made of a unit is what a port holds of its volume.
-use Rattle.mscp_port.proofs.Common.{◌≡◌, ◌≢◌, ◌⊎◌, ◌∙◌, ◌<◌, ◌≤◌, ℕ, Bool, true, false, List, [], ◌∷◌, Option, None, Some, inl, inr, refl, ap, sym, subst, length, set, arith, cases_eq, cases_lt, false≢true, get_or-set_other, get_or-set_same, get_or_past, length-set, Shape, End, MoveKind, Connection, Holdings, Buffer, Hardware, Port, Volume, kept_of, writes, IsMadeOf, IsForgotten, Answered, Becomes, Call, WriteIp, ReadIp, WriteSa, Next, WasRead, Went, LookAgain, Tick, Change, Ends, IsChangeAt, IsMounted, IsRemounted, Mount, mount_after, offline, GoesOnWithBlock, HeedsStep, end_brought, place_heeded, IsNews, Says, news_place, MayMove, no_volume, place_in, volume_at, volume_changed, volume_heeded, volumes_changed, volumes_heeded}
+use Rattle.mscp_port.proofs.Common.{Ok, Err, ◌≡◌, ◌≢◌, ◌⊎◌, ◌∙◌, ◌<◌, ◌≤◌, ℕ, Bool, true, false, List, [], ◌∷◌, Option, None, Some, inl, inr, refl, ap, sym, subst, length, set, arith, cases_eq, cases_lt, false≢true, get_or-set_other, get_or-set_same, get_or_past, length-set, Shape, End, MoveKind, Connection, Holdings, Buffer, Hardware, Port, Volume, kept_of, writes, IsMadeOf, IsForgotten, Answered, Becomes, Call, WriteIp, ReadIp, WriteSa, Next, PutAside, WasRead, Went, LookAgain, Tick, Protect, VolumeCame, VolumeWent, Ends, IsChangeAt, IsMounted, IsRemounted, Mount, mount_after, offline, GoesOnWithBlock, HeedsStep, end_brought, place_heeded, IsNews, Says, news_place, MayMove, no_volume, place_in, volume_at, volume_changed, volume_heeded, volume_put, volumes_heeded, volumes_with}
 use Rattle.mscp_port.specs.declared.action.Action.TheVariants as actions
 use Rattle.mscp_port.specs.declared.stage.Stage.TheVariants as stages
+use Rattle.mscp_port.specs.Calls.{ChangesVolume}
+use Rattle.mscp_port.specs.Volumes.{volume_protected}
 use Rattle.mscp_port.proofs.Loads.{looks_or_not}
 
 -- ---- a volume
@@ -104,29 +106,46 @@ with_block place m old new (inr taken) other holds =
     )) holds
 
 -- a volume that comes or goes
-changed : (units : List Shape) (vs : List Volume) (there protected : Bool) (place : ℕ) (m : Mount) → Holds place vs m
-    → Holds place (volumes_changed there protected (Some place) vs) (record m { is_protected = false })
-unfolding mount_of
-changed units vs there protected place m holds = elim holds [
+changed : (vs : List Volume) (becomes : Volume → Volume) (place : ℕ) (m : Mount)
+    → ((v : Volume) → mount_of (becomes v) ≡ record (mount_of v) { is_protected = false }) → Holds place vs m
+    → Holds place (volumes_with becomes (Some place) vs) (record m { is_protected = false })
+changed vs becomes place m unprotected holds = elim holds [
   | inl past ↦ inl (subst (λ n. n ≤ place) (sym (length-set vs place _)) past)
-  | inr e ↦ set_here vs place (volume_changed there protected (volume_at vs place)) _
-      (ap {A = Mount} (λ n. record n { is_protected = false }) e)
+  | inr e ↦ set_here vs place (becomes (volume_at vs place)) _
+      (unprotected (volume_at vs place) ∙ ap {A = Mount} (λ n. record n { is_protected = false }) e)
 ]
+
+changed_here : {K : Type 0} (place : ℕ) (becomes : Volume → Volume) (unit : ℕ) (old new : Port K) (m : Mount)
+    → ((v : Volume) → mount_of (becomes v) ≡ record (mount_of v) { is_protected = false })
+    → place_in old.controller.settings.units unit ≡ Some place → ChangesVolume becomes unit old new
+    → Holds place old.volumes m → Holds place new.volumes (record m { is_protected = false })
+changed_here place becomes unit old new m unprotected here frame holds =
+    subst (λ vs. Holds place vs (record m { is_protected = false })) (sym (ap (λ p. p.volumes) frame))
+    (subst (λ o. Holds place (volumes_with becomes o old.volumes) (record m { is_protected = false })) (sym here)
+    (changed old.volumes becomes place m unprotected holds))
 
 changes : {K : Type 0} (place : ℕ) (call : Call) (old new : Port K) (m : Mount) → IsChangeAt place call old
     → Becomes call old new → Holds place old.volumes m → Holds place new.volumes (record m { is_protected = false })
-changes place (Change there protected unit result) old new m here r holds =
-    let units = old.controller.settings.units in
-    subst (λ vs. Holds place vs (record m { is_protected = false })) (sym (ap (λ p. p.volumes) r.frame))
-    (subst (λ o. Holds place (volumes_changed there protected o old.volumes) (record m { is_protected = false }))
-    (sym here) (changed units old.volumes there protected place m holds))
+unfolding mount_of
+changes place (VolumeCame it unit (Ok done)) old new m here r holds =
+    changed_here place (volume_put it) unit old new m (λ v. refl) here (r.came refl) holds
+changes place (VolumeWent unit result) old new m here r holds =
+    changed_here place (volume_changed false) unit old new m (λ v. refl) here r.frame holds
 changes place call old new m here r holds = absurd here
 
-changed_elsewhere : (vs : List Volume) (there protected : Bool) (place : ℕ) (o : Option ℕ) (m : Mount)
-    → (o ≡ Some place → ⊥) → Holds place vs m → Holds place (volumes_changed there protected o vs) m
-changed_elsewhere vs there protected place None m ne holds = holds
-changed_elsewhere vs there protected place (Some q) m ne holds =
+changed_elsewhere : (vs : List Volume) (becomes : Volume → Volume) (place : ℕ) (o : Option ℕ) (m : Mount)
+    → (o ≡ Some place → ⊥) → Holds place vs m → Holds place (volumes_with becomes o vs) m
+changed_elsewhere vs becomes place None m ne holds = holds
+changed_elsewhere vs becomes place (Some q) m ne holds =
     set_elsewhere vs place q _ m (λ e. ne (ap Some (sym e))) holds
+
+-- the hardware's protection is no matter of the host's
+guarded : (vs : List Volume) (protected : Bool) (place : ℕ) (o : Option ℕ) (m : Mount) → Holds place vs m
+    → Holds place (volumes_with (volume_protected protected) o vs) m
+unfolding mount_of
+guarded vs protected place None m holds = holds
+guarded vs protected place (Some q) m holds =
+    set_alike vs place q (volume_protected protected (volume_at vs q)) m refl holds
 
 -- news, and what goes out else
 with_news : (place : ℕ) (m : Mount) (units : List Shape) (vs ws : List Volume) (o : Option ℕ)
@@ -153,7 +172,8 @@ stays : {K : Type 0} (place : ℕ) (m : Mount) (call : Call) (old new : Port K) 
 stays place m WriteIp old new r other holds = absurd (other (inl (stages.First, r)))
 stays place m ReadIp old new r other holds = search (arith, the_same)
 stays place m (WriteSa word) old new r other holds = search (arith, the_same)
-stays place m (Next action) old new r other holds = said place m old new r.says holds
+stays place m (Next blocks action) old new r other holds = said place m old new r.says holds
+stays place m PutAside old new r other holds = the_same place m old new (ap (λ p. p.volumes) r) holds
 stays place m (WasRead bytes result) old new r other holds = search (arith, the_same)
 stays place m (Went outcome result) old new r other holds = elim r.commands [
   | inl e ↦ the_same place m old new e.volumes holds
@@ -164,10 +184,19 @@ stays place m (Went outcome result) old new r other holds = elim r.commands [
 ]
 stays place m LookAgain old new r other holds = the_same place m old new (ap (λ p. p.volumes) r) holds
 stays place m Tick old new r other holds = search (arith, the_same)
-stays place m (Change there protected unit result) old new r other holds =
-    subst (λ vs. Holds place vs m) (sym (ap (λ p. p.volumes) r.frame))
-    (changed_elsewhere old.volumes there protected place (place_in old.controller.settings.units unit) m
+stays place m (VolumeCame it unit (Ok done)) old new r other holds =
+    subst (λ vs. Holds place vs m) (sym (ap (λ p. p.volumes) (r.came refl)))
+    (changed_elsewhere old.volumes (volume_put it) place (place_in old.controller.settings.units unit) m
     (λ here. other (inr (inr here))) holds)
+stays place m (VolumeCame it unit (Err fault)) old new r other holds =
+    the_same place m old new (ap (λ p. p.volumes) r.refused) holds
+stays place m (VolumeWent unit result) old new r other holds =
+    subst (λ vs. Holds place vs m) (sym (ap (λ p. p.volumes) r.frame))
+    (changed_elsewhere old.volumes (volume_changed false) place (place_in old.controller.settings.units unit) m
+    (λ here. other (inr (inr here))) holds)
+stays place m (Protect protected unit result) old new r other holds =
+    subst (λ vs. Holds place vs m) (sym (ap (λ p. p.volumes) r.frame))
+    (guarded old.volumes protected place (place_in old.controller.settings.units unit) m holds)
 
 -- ---- the law
 
@@ -198,20 +227,20 @@ there : (vs : List Volume) (place : ℕ) (m : Mount) → (volume_at vs place).is
 there vs place m is holds = search (arith, false≢true, get_or_past)
 
 pub moves_as_mounted : {K : Type 0} (hardware : Hardware) (credits : ℕ) (controller : Holdings K) (start p : Port K)
-    (calls : List Call) (kind : MoveKind) (unit block count place : ℕ) (m : Mount)
+    (calls : List Call) (blocks : Bool) (kind : MoveKind) (unit block count place : ℕ) (m : Mount)
     → IsMadeOf hardware credits controller start
-    → (a : Answered start (Next (actions.Transfer kind unit block count) ∷ calls) p)
+    → (a : Answered start (Next blocks (actions.Transfer kind unit block count) ∷ calls) p)
     → place_in p.controller.settings.units unit ≡ Some place
-    → IsMounted place start p (Next (actions.Transfer kind unit block count) ∷ calls) a m
+    → IsMounted place start p (Next blocks (actions.Transfer kind unit block count) ∷ calls) a m
     → (m.volume ≡ Some (volume_at p.volumes place).changes) × (writes kind ≡ true → m.is_protected ≡ false)
 unfolding mount_of
-moves_as_mounted hardware credits controller start p calls kind unit block count place m made a here is =
+moves_as_mounted hardware credits controller start p calls blocks kind unit block count place m made a here is =
     let moves = a.2.moves kind unit block count refl in
     let at = moves.1 in
     let same : moves.0 ≡ place = cc in
     let low : place < 16 = subst (λ i. i < 16) same moves.2 in
-    let may = subst (λ i. MayMove kind (volume_at p.volumes i)) same moves.3 in
+    let may = subst (λ i. MayMove kind block (volume_at p.volumes i)) same moves.3 in
     let e = there p.volumes place m may.there
-    (held hardware credits controller place low start p (Next (actions.Transfer kind unit block count) ∷ calls) m made a
-    is) in
+    (held hardware credits controller place low start p
+    (Next blocks (actions.Transfer kind unit block count) ∷ calls) m made a is) in
     (sym (ap (λ n. n.volume) e) ∙ may.mounted, λ writing. sym (ap (λ n. n.is_protected) e) ∙ may.host writing)

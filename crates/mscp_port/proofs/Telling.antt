@@ -1,5 +1,5 @@
 -- What is kept of a command whose end comes was said by a message to the unit that the end names.
-use Rattle.mscp_port.proofs.Common.{◌≡◌, ◌∙◌, ℕ, List, [], ◌∷◌, Option, None, Some, Contains, IfSome, inl, inr, refl, ap, sym, subst, arith, Result, Ok, Err, position, All-get_or, End, Connection, First, name_on, name_of, no_record, record_at, is_same, Holdings, Unasked, Buffer, Hardware, Port, Task, kept_of, is_of, Dies, Hears, IsMadeOf, Answered, Becomes, Call, WriteIp, ReadIp, WriteSa, Next, WasRead, Went, LookAgain, Tick, Change, WasSaid, Ends, Says, IsReadingText}
+use Rattle.mscp_port.proofs.Common.{◌≡◌, ◌∙◌, ℕ, List, [], ◌∷◌, Option, None, Some, Contains, IfSome, inl, inr, refl, ap, sym, subst, arith, Result, Ok, Err, position, All-get_or, End, Connection, First, name_on, name_of, no_record, record_at, is_same, Holdings, Unasked, Buffer, Hardware, Port, Task, kept_of, is_of, Dies, Hears, IsMadeOf, Answered, Becomes, Call, WriteIp, ReadIp, WriteSa, Next, PutAside, WasRead, Went, LookAgain, Tick, Protect, VolumeCame, VolumeWent, WasSaid, Ends, Says, IsReadingText}
 use Rattle.mscp_port.specs.declared.task.Task.TheVariants as tasks
 use Rattle.mscp_port.proofs.Kept.{IsTo}
 use Rattle.mscp_port.proofs.Loads.{looks_or_not}
@@ -53,10 +53,12 @@ keeps_after said (WriteSa word) old new r k = more said (WriteSa word) old new (
   | inl e ↦ framed said old new k (ap (λ (p : Port _). p.buffers) e) (ap (λ (p : Port _). p.controller) e)
   | inr d ↦ dies said old new k d
 ])
-keeps_after said (Next action) old new r k = more said (Next action) old new
+keeps_after said (Next blocks action) old new r k = more said (Next blocks action) old new
     (keeps_same said old new
     (λ b there. subst (λ bs. Contains bs b) (ap (λ (p : Port _). p.buffers.items) r.frame) there)
     (still_waits old new r.says) k)
+keeps_after said PutAside old new r k = more said PutAside old new
+    (framed said old new k (ap (λ (p : Port _). p.buffers) r) (ap (λ (p : Port _). p.controller) r))
 keeps_after said (WasRead bytes result) old new r k = text_heard said bytes result old new old.task refl r k
 keeps_after said (Went outcome result) old new r k = more said (Went outcome result) old new (elim r.commands [
   | inl e ↦ framed said old new k e.buffers e.controller
@@ -68,8 +70,14 @@ keeps_after said Tick old new r k = more said Tick old new (elim r.either [
   | inl e ↦ framed said old new k (ap (λ (p : Port _). p.buffers) e) (ap (λ (p : Port _). p.controller) e)
   | inr new_is ↦ keeps_none said new new_is.buffers
 ])
-keeps_after said (Change there protected unit result) old new r k =
-    more said (Change there protected unit result) old new
+keeps_after said (VolumeCame m unit (Ok done)) old new r k = more said (VolumeCame m unit (Ok done)) old new
+    (framed said old new k (ap (λ (p : Port _). p.buffers) (r.came refl))
+    (ap (λ (p : Port _). p.controller) (r.came refl)))
+keeps_after said (VolumeCame m unit (Err fault)) old new r k =
+    more said (VolumeCame m unit (Err fault)) old new (same said old new k r.refused)
+keeps_after said (VolumeWent unit result) old new r k = more said (VolumeWent unit result) old new
+    (framed said old new k (ap (λ (p : Port _). p.buffers) r.frame) (ap (λ (p : Port _). p.controller) r.frame))
+keeps_after said (Protect protected unit result) old new r k = more said (Protect protected unit result) old new
     (framed said old new k (ap (λ (p : Port _). p.buffers) r.frame) (ap (λ (p : Port _). p.controller) r.frame))
 
 -- ---- the law

@@ -1,5 +1,5 @@
 -- What is kept once the text of a command was read.
-use Rattle.mscp_port.proofs.Common.{◌≡◌, ◌≢◌, ◌⊎◌, ◌∙◌, ℕ, Bool, true, false, cond, List, [], ◌∷◌, ◌++◌, Option, None, Some, Contains, inl, inr, refl, ap, sym, subst, length, Result, Ok, Err, IsOk, find, nat_eq, nat_lt, option_map, list_any, and_parts, eq-eqb, eqb-true, false≢true, Contains-push_cases, none-some, same_Some, command_of, num, Order, First, same_connection, Record, fresh_record, SendFault, Sent, is_queued, refusal, Holdings, aborting, answered_end, arrives, balance_of, held_unless, outstanding_of, queued, reference_aborted, sent_unless, taken_as, unaborted, with_end, Unasked, Buffer, Port, Descriptor, kept_beside, without_aborted, Hears, WasRead, handed, own_end, IsReadingText, SeesText, answered_to, changes_at, kept_of_sent, place_in}
+use Rattle.mscp_port.proofs.Common.{◌≡◌, ◌≢◌, ◌⊎◌, ◌∙◌, ℕ, Bool, true, false, cond, List, [], ◌∷◌, ◌++◌, Option, None, Some, Contains, inl, inr, refl, ap, sym, subst, length, Result, Ok, Err, IsOk, find, nat_eq, nat_lt, option_map, list_any, and_parts, eq-eqb, eqb-true, false≢true, Contains-push_cases, none-some, same_Some, command_of, num, Order, First, same_connection, Record, fresh_record, SendFault, Sent, is_queued, refusal, Holdings, aborting, answered_end, arrives, balance_of, held_unless, outstanding_of, queued, reference_aborted, sent_unless, taken_as, unaborted, with_end, Unasked, Buffer, Port, Descriptor, kept_beside, without_aborted, Hears, WasRead, handed, own_end_of, IsReadingText, SeesText, answered_to, changes_at, kept_of_sent, place_in}
 use Rattle.mscp_port.specs.Buffers.{buffer_in}
 use Rattle.mscp_packet.specs.declared.command.Order.TheVariants as orders
 use Rattle.mscp_controller.specs.declared.entry.Sent.TheVariants as sents
@@ -114,7 +114,7 @@ module _ {K : Type 0} (said : ℕ → Buffer → Type 0) (bytes : List ℕ) (res
   sees = (r.sees ok).text slot size foreign at
 
   -- the port answers it itself
-  answered : own_end foreign bytes ≢ None → after
+  answered : own_end_of old foreign bytes ≢ None → after
   answered own =
       let buffers : new.buffers.items ≡ old.buffers.items = elim (none_or_some old.outgoing) [
         | inl nothing ↦ ap (λ (p : Port K). p.buffers.items) (sees.own own nothing).0
@@ -126,7 +126,7 @@ module _ {K : Type 0} (said : ℕ → Buffer → Type 0) (bytes : List ℕ) (res
       (ap (λ (h : Holdings K). h.waiting) (r.own slot size foreign at own)) k)
 
   -- it stays in its slot
-  waits : (fault : SendFault) → own_end foreign bytes ≡ None → refused ≡ Some fault → after
+  waits : (fault : SendFault) → own_end_of old foreign bytes ≡ None → refused ≡ Some fault → after
   waits fault none e =
       let answer = ap (sent_unless First old.controller (command_of sent)) e in
       more said (WasRead bytes result) old new
@@ -136,7 +136,7 @@ module _ {K : Type 0} (said : ℕ → Buffer → Type 0) (bytes : List ℕ) (res
       ∙ ap (held_unless First old.controller (command_of sent)) e)) k)
 
   -- the controller gets it
-  taken : (q : Bool) → is_queued old.controller.settings (command_of sent) ≡ q → own_end foreign bytes ≡ None
+  taken : (q : Bool) → is_queued old.controller.settings (command_of sent) ≡ q → own_end_of old foreign bytes ≡ None
       → refused ≡ None → after
   taken q e none taken_is =
       let h = old.controller in
@@ -182,12 +182,12 @@ module _ {K : Type 0} (said : ℕ → Buffer → Type 0) (bytes : List ℕ) (res
           (sents.Answered command.reference aborted)) own old.buffers.items) e)
           k)
 
-  judged : (o : Option SendFault) → refused ≡ o → own_end foreign bytes ≡ None → after
+  judged : (o : Option SendFault) → refused ≡ o → own_end_of old foreign bytes ≡ None → after
   judged None e none = taken (is_queued old.controller.settings (command_of sent)) refl none e
   judged (Some fault) e none = waits fault none e
 
   pub text_keeps : after
-  text_keeps = elim (none_or_some (own_end foreign bytes)) [
+  text_keeps = elim (none_or_some (own_end_of old foreign bytes)) [
     | inr own ↦ answered (λ none. none-some own.0 (sym none ∙ own.1))
     | inl none ↦ judged refused refl none
   ]

@@ -1,5 +1,5 @@
 -- How the step of a command is taken, and why it isn't (statuses: manual, "Status and Event Codes").
-use Rattle.std.specs.Prelude.{ℕ, ◌%◌, ◌==◌, ◌&&◌, ◌||◌, not, Bool, true, false, if◌then◌else◌, slice_get, List, Option, None, Some}
+use Rattle.std.specs.Prelude.{nat_le, ℕ, ◌%◌, ◌==◌, ◌&&◌, ◌||◌, not, Bool, true, false, if◌then◌else◌, slice_get, List, Option, None, Some}
 use Rattle.std.specs.List.{position}
 use Rattle.mscp_packet.specs.declared.command.MoveKind.{MoveKind}
 use Rattle.mscp_packet.specs.declared.command.MoveKind.TheVariants as moves
@@ -62,22 +62,24 @@ abbrev pub is_mounted : Volume → Bool
 is_mounted v = v.is_there && is_count v.mounted v.changes
 
 -- the first that holds: the unit isn't online with its volume (0xFFFE, which the host hears as Unit-Available), the
--- address or the count is odd, the volume is protected by the host or by the hardware
-abbrev pub refusal_of : MoveKind → Buffer → Volume → Option ℕ
-refusal_of kind b v =
+-- address or the count is odd, the volume is protected by the host or by the hardware, or it has no such block (only
+-- restored bytes say that)
+abbrev pub refusal_of : MoveKind → ℕ → Buffer → Volume → Option ℕ
+refusal_of kind block b v =
     if not (is_mounted v) then Some 0xFFFE
     else if has_host_bytes kind && b.address % 2 == 1 then Some 0x0029
     else if b.count % 2 == 1 then Some 0x0049
     else if writes kind && v.is_protected_by_host then Some 0x1006
     else if writes kind && v.is_protected then Some 0x2006
+    else if nat_le v.size block then Some 0x000B
     else None
 
 -- no volume, or another one than when the command came (0xFFFF, which the host hears as Unit-Offline)
 abbrev pub has_changed : Buffer → Volume → Bool
 has_changed b v = not v.is_there || not (b.changes == v.changes)
 
-abbrev pub fault_with : MoveKind → Buffer → Volume → Option ℕ
-fault_with kind b v = if has_changed b v then Some 0xFFFF else refusal_of kind b v
+abbrev pub fault_with : MoveKind → ℕ → Buffer → Volume → Option ℕ
+fault_with kind block b v = if has_changed b v then Some 0xFFFF else refusal_of kind block b v
 
 -- ---- what is done for a step
 
@@ -101,7 +103,7 @@ unless_refused u kind b (Some status) = tasks.Step (blocks.Bad status)
 -- by how it moves a block, if it moves one
 abbrev pub move_task : Upcoming → Option (MoveKind × ℕ) → Buffer → Volume → Task
 move_task u None b v = tasks.Step blocks.Good
-move_task u (Some move) b v = unless_refused u move.0 b (refusal_of move.0 b v)
+move_task u (Some move) b v = unless_refused u move.0 b (refusal_of move.0 move.1 b v)
 
 abbrev pub is_available : Order → Bool
 is_available orders.Available = true

@@ -18,9 +18,13 @@ use Rattle.mscp_port.specs.declared.slot.Descriptor.{Descriptor}
 use Rattle.mscp_port.specs.declared.stage.Stage.TheVariants as stages
 use Rattle.mscp_port.specs.declared.task.Task.{Task}
 use Rattle.mscp_port.specs.declared.task.Task.TheVariants as tasks
+use Rattle.mscp_port.specs.declared.volumes.Medium.{Medium}
+use Rattle.mscp_port.specs.declared.volumes.Volume.{Volume}
+use Rattle.mscp_port.specs.declared.volumes.VolumeFault.{VolumeFault}
+use Rattle.mscp_drive.specs.UnitList.{unit_found}
 use Rattle.mscp_port.specs.Acted.{Acts, step_task}
 use Rattle.mscp_port.specs.Areas.{rings_named}
-use Rattle.mscp_port.specs.Messages.{handed, own_end}
+use Rattle.mscp_port.specs.Messages.{handed, own_end_of}
 use Rattle.mscp_port.specs.Moved.{GoesOnWithBlock, IsStepping, MayMoveOn}
 use Rattle.mscp_port.specs.Outgoings.{AnswersItself, HasSaid, Says}
 use Rattle.mscp_port.specs.Slots.{is_owned}
@@ -30,7 +34,7 @@ use Rattle.mscp_port.specs.Ports.{Drops, IsAlive, IsAsNew, IsDue, IsIdle, IsOfBl
 use Rattle.mscp_port.specs.Registers.{shown}
 use Rattle.mscp_port.specs.Seen.{Sees}
 use Rattle.mscp_port.specs.Wanted.{IsWanted}
-use Rattle.mscp_port.specs.Volumes.{no_volume, place_in, volume_at, volumes_changed}
+use Rattle.mscp_port.specs.Volumes.{medium_answer, no_volume, place_in, volume_at, volume_put, volumes_with}
 
 -- a fatal error: all that the host has said is forgotten, and nothing goes on until it writes IP
 abbrev pub Dies : {K : Type 0} → Port K → Port K → Type 0
@@ -117,8 +121,8 @@ pub record WritesSa {K : Type 0} (word : ℕ) (old new : Port K) : Type 0 where
 
 -- ---- what is wanted
 
--- this action is wanted next
-pub record Wants {K : Type 0} (old : Port K) (action : Action) (new : Port K) : Type 0 where
+-- this action is wanted next, where blocks are asked for, or messages alone
+pub record Wants {K : Type 0} (blocks : Bool) (old : Port K) (action : Action) (new : Port K) : Type 0 where
   pub frame : new ≡ record old {
     controller = new.controller;
     outgoing = new.outgoing;
@@ -132,11 +136,11 @@ pub record Wants {K : Type 0} (old : Port K) (action : Action) (new : Port K) : 
   -- after a fatal error nothing is wanted
   pub dead : (code : ℕ) → old.stage ≡ stages.Dead code → (action ≡ actions.Rest) × (new ≡ old)
   -- nothing is wanted only then, or if nothing is in hand and nothing is due
-  pub rests : action ≡ actions.Rest → ((code : ℕ) × (old.stage ≡ stages.Dead code)) ⊎ IsIdle new
+  pub rests : action ≡ actions.Rest → ((code : ℕ) × (old.stage ≡ stages.Dead code)) ⊎ IsIdle blocks new
   -- otherwise it is what is wanted for the thing in hand
   pub wanted : IsAlive old → IsWanted new new.task action
   -- which is what is due, where there was nothing
-  pub due : IsAlive old → old.task ≡ tasks.Free → IsDue new new.task
+  pub due : IsAlive old → old.task ≡ tasks.Free → IsDue blocks new new.task
   -- and what goes out next: ends leave in the order in which the controller has them. Of the controller nothing else
   -- changes but what it has begun, and that only for a block
   pub says : Says old new
@@ -180,10 +184,10 @@ pub record Hears {K : Type 0} (bytes : List ℕ) (old : Port K) (result : Result
   pub settings : new.controller.settings ≡ old.controller.settings
   -- a message reaches the controller as its host wrote it, unless the port answers it itself
   pub handed : (slot : Descriptor) (size : ℕ) (foreign : Bool) → old.task ≡ tasks.Text slot size foreign
-      → IsOk result → own_end foreign bytes ≡ None
+      → IsOk result → own_end_of old foreign bytes ≡ None
       → new.controller ≡ after_message First old.controller (handed old.controller.settings.units bytes)
   pub own : (slot : Descriptor) (size : ℕ) (foreign : Bool) → old.task ≡ tasks.Text slot size foreign
-      → own_end foreign bytes ≢ None → new.controller ≡ old.controller
+      → own_end_of old foreign bytes ≢ None → new.controller ≡ old.controller
   pub nothing_else : (IsReadingText old.task → ⊥) → (new.controller ≡ old.controller) ⊎ Dies old new
   -- what goes out stays so; where nothing did, it may be the port's own end
   pub out : (new.outgoing ≡ old.outgoing) ⊎ ((slot : Descriptor) × (size : ℕ) × (foreign : Bool)
@@ -343,10 +347,21 @@ pub record Ticks {K : Type 0} (old new : Port K) : Type 0 where
   pub either : (new ≡ record old { is_full = false; task = read_again old.task; left = new.left })
       ⊎ IsAsNew (stages.Dead 9) old new
 
--- a volume came into the unit of this number, or its volume went
-pub record Changes {K : Type 0} (there protected : Bool) (unit : ℕ) (old : Port K) (result : Result Unit NoUnit)
+-- the volume in the unit of this number became what this makes of it
+abbrev pub ChangesVolume : {K : Type 0} → (Volume → Volume) → ℕ → Port K → Port K → Type 0
+ChangesVolume becomes unit old new = new ≡ record old {
+  volumes = volumes_with becomes (place_in old.controller.settings.units unit) old.volumes;
+}
+
+-- this came into the unit of this number, if it fits there
+pub record PutsIn {K : Type 0} (m : Medium) (unit : ℕ) (old : Port K) (result : Result Unit VolumeFault) (new : Port K)
+    : Type 0 where
+  pub answer : result ≡ medium_answer m (unit_found old.controller.settings.units unit)
+  pub came : IsOk result → ChangesVolume (volume_put m) unit old new
+  pub refused : OnErr result (new ≡ old)
+
+-- the volume of the unit of this number went, or its protection was switched, if there is such a unit
+pub record Changes {K : Type 0} (becomes : Volume → Volume) (unit : ℕ) (old : Port K) (result : Result Unit NoUnit)
     (new : Port K) : Type 0 where
-  pub frame : new ≡ record old {
-    volumes = volumes_changed there protected (place_in old.controller.settings.units unit) old.volumes;
-  }
+  pub frame : ChangesVolume becomes unit old new
   pub no_unit : IsErr result ↔ (place_in old.controller.settings.units unit ≡ None)

@@ -1,5 +1,5 @@
 -- What somebody calls of a port, one call after the other, and what the host has named by then.
-use Rattle.std.specs.Prelude.{◌≡◌, ◌≢◌, ◌<◌, ◌⊎◌, ◌++◌, ℕ, Bool, true, List, [], ◌∷◌, length, Contains, Result, Ok, Err, Some}
+use Rattle.std.specs.Prelude.{◌≡◌, ◌≢◌, ◌<◌, ◌⊎◌, ◌++◌, ℕ, Bool, true, false, List, [], ◌∷◌, length, Contains, Result, Ok, Err, Some}
 use Rattle.mscp_packet.specs.Number.{num}
 use Rattle.mscp_port.specs.declared.action.Action.{Action}
 use Rattle.mscp_port.specs.declared.action.Action.TheVariants as actions
@@ -12,10 +12,13 @@ use Rattle.mscp_controller.specs.Holdings.{Holdings, answer_to_message, balance_
 use Rattle.mscp_port.specs.declared.hardware.Hardware.{Hardware}
 use Rattle.mscp_port.specs.declared.port.Port.{Port}
 use Rattle.mscp_port.specs.declared.port.watching.NoUnit.{NoUnit}
+use Rattle.mscp_port.specs.declared.volumes.Medium.{Medium}
+use Rattle.mscp_port.specs.declared.volumes.VolumeFault.{VolumeFault}
+use Rattle.mscp_port.specs.Volumes.{volume_changed, volume_protected}
 use Rattle.mscp_port.specs.Areas.{Rings, IsInArea, rings_named}
 use Rattle.mscp_port.specs.Buffers.{buffer_in, IsInBuffer}
-use Rattle.mscp_port.specs.Calls.{Changes, Goes, Hears, IsMadeOf, LooksAgain, ReadsIp, Ticks, Wants, WritesIp, WritesSa}
-use Rattle.mscp_port.specs.Ports.{IsInPacket}
+use Rattle.mscp_port.specs.Calls.{Changes, Goes, Hears, IsMadeOf, LooksAgain, PutsIn, ReadsIp, Ticks, Wants, WritesIp, WritesSa}
+use Rattle.mscp_port.specs.Ports.{IsInPacket, put_aside}
 use Rattle.mscp_port.specs.Slots.{is_owned}
 
 -- ---- calls
@@ -25,28 +28,36 @@ pub data Call : Type 0 where
   WriteIp : Call
   ReadIp : Call
   WriteSa : ℕ → Call
-  -- the action that was wanted
-  Next : Action → Call
+  -- whether blocks were asked for, or messages alone, and the action that was wanted
+  Next : Bool → Action → Call
+  -- the block in hand is put aside, as each time before messages alone are asked for
+  PutAside : Call
   -- the bytes that were read
   WasRead : List ℕ → Result Unit Unasked → Call
   -- how an action went
   Went : Outcome → Result Unit Unasked → Call
   LookAgain : Call
   Tick : Call
-  -- a volume is there or not, nothing may be written on it, and the number of its unit
-  Change : Bool → Bool → ℕ → Result Unit NoUnit → Call
+  -- what was put into a unit, and its number
+  VolumeCame : Medium → ℕ → Result Unit VolumeFault → Call
+  VolumeWent : ℕ → Result Unit NoUnit → Call
+  -- nothing may be written on a volume, or something may, and the number of its unit
+  Protect : Bool → ℕ → Result Unit NoUnit → Call
 
 -- what becomes of a port by a call
 abbrev pub Becomes : {K : Type 0} → Call → Port K → Port K → Type 0
 Becomes WriteIp old new = WritesIp old new
 Becomes ReadIp old new = ReadsIp old new
 Becomes (WriteSa word) old new = WritesSa word old new
-Becomes (Next action) old new = Wants old action new
+Becomes (Next blocks action) old new = Wants blocks old action new
+Becomes PutAside old new = new ≡ put_aside old
 Becomes (WasRead bytes result) old new = Hears bytes old result new
 Becomes (Went outcome result) old new = Goes outcome old result new
 Becomes LookAgain old new = LooksAgain old new
 Becomes Tick old new = Ticks old new
-Becomes (Change there protected unit result) old new = Changes there protected unit old result new
+Becomes (VolumeCame m unit result) old new = PutsIn m unit old result new
+Becomes (VolumeWent unit result) old new = Changes (volume_changed false) unit old result new
+Becomes (Protect protected unit result) old new = Changes (volume_protected protected) unit old result new
 
 -- a history, the last call first: from a port at its start on, each call answered as its contract says, up to this one
 abbrev pub Answered : {K : Type 0} → Port K → List Call → Port K → Type 0
@@ -114,8 +125,8 @@ IsNamed calls action = Unit {0}
 abbrev pub PortsTouchWhatIsNamed : Type 0 → Type 0
 PortsTouchWhatIsNamed K =
     (hardware : Hardware) (credits : ℕ) (controller : Holdings K) (start p : Port K) (calls : List Call)
-    (action : Action)
-    → IsMadeOf hardware credits controller start → Answered start (Next action ∷ calls) p → IsNamed calls action
+    (blocks : Bool) (action : Action)
+    → IsMadeOf hardware credits controller start → Answered start (Next blocks action ∷ calls) p → IsNamed calls action
 
 -- no message with these bytes is refused for want of a credit
 pub record HasCredit {K : Type 0} (h : Holdings K) (bytes : List ℕ) : Type 0 where

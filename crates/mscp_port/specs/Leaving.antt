@@ -17,10 +17,12 @@ use Rattle.mscp_port.specs.Volumes.{place_in, volume_at}
 
 -- ---- a unit's end
 
--- the flags of a unit: the controller replaces bad blocks, the hardware and the host protect what is written
+-- the flags of a unit: the controller replaces bad blocks, the hardware and the host protect what is written, and the
+-- volume can be taken out
 abbrev pub unit_flags : Volume → ℕ
 unit_flags v =
     0x8000 + (if v.is_protected then 0x2000 else 0) + (if v.is_protected_by_host then 0x1000 else 0)
+    + (if v.is_removable then 0x80 else 0)
 
 -- the status that is told: a step that had no volume (0xFFFF), and an end of a unit without one, are Unit-Offline, no
 -- volume (0x23); a step of a unit that wasn't online with its volume (0xFFFE), and the Success of a GET UNIT STATUS
@@ -36,16 +38,20 @@ status_told code status v =
     else if status == 0x0100 && code == 0x89 && v.is_fresh then 0
     else status
 
--- which unit an ONLINE tells that found no volume: the same as one that found one
-abbrev pub unit_told : ℕ → EndBody → Option Shape → EndBody
-unit_told status (bodies.Online id media size serial) (Some unit) =
+-- media and size that are told are those of the volume, if there is one. An ONLINE that found none tells the unit's, as
+-- one that found one tells the volume's
+abbrev pub unit_told : ℕ → EndBody → Option Shape → Volume → EndBody
+unit_told status (bodies.Online id media size serial) (Some unit) v =
     if status == 0x23 then bodies.Online unit.id unit.media unit.size unit.serial
+    else if status % 32 == 0 && v.is_there then bodies.Online id v.media v.size serial
     else bodies.Online id media size serial
-unit_told status body unit = body
+unit_told status (bodies.UnitStatus id media track group cylinder) (Some unit) v =
+    bodies.UnitStatus id (if v.is_there then v.media else media) track group cylinder
+unit_told status body unit v = body
 
 -- the end with the status that is told, and with its unit
-abbrev pub with_status : ℕ → Option Shape → End → End
-with_status status unit e = record e { status = status; body = unit_told status e.body unit }
+abbrev pub with_status : ℕ → Option Shape → Volume → End → End
+with_status status unit v e = record e { status = status; body = unit_told status e.body unit v }
 
 -- these two bytes, the low one first, in place of those from a place on, if the message has both
 abbrev pub with_two : ℕ → ℕ → List ℕ → List ℕ
@@ -68,7 +74,7 @@ filled_for v e = if has_unit e.code e.status then unit_filled e.unit (unit_flags
 
 -- the end of a command to a unit with this volume
 abbrev pub unit_end : List Shape → Volume → End → List ℕ
-unit_end units v e = filled_for v (with_status (status_told e.code e.status v) (unit_found units e.unit) e)
+unit_end units v e = filled_for v (with_status (status_told e.code e.status v) (unit_found units e.unit) v e)
 
 -- ---- all ends
 
@@ -104,7 +110,7 @@ abbrev pub attention : Shape → Volume → List ℕ
 attention unit v =
     little_bytes 4 0 ++ little_bytes 2 unit.number ++ (0 ∷ 0 ∷ 0x40 ∷ 0 ∷ 0 ∷ 0 ∷ [])
     ++ little_bytes 2 unit.number ++ little_bytes 2 (unit_flags v) ++ little_bytes 4 0
-    ++ little_bytes 8 unit.id ++ little_bytes 4 unit.media
+    ++ little_bytes 8 unit.id ++ little_bytes 4 v.media
 
 -- what goes out with news of the volume at a place
 abbrev pub news_at : List Shape → List Volume → ℕ → Option Outgoing

@@ -1,10 +1,14 @@
 -- A host's messages, as the port sees them.
-use Rattle.std.specs.Prelude.{ℕ, ◌+◌, ◌%◌, ◌==◌, ◌&&◌, ◌||◌, ◌++◌, Bool, nat_le, List, take, drop, find, slice_index, if◌then◌else◌, Option, None, Some}
+use Rattle.std.specs.Prelude.{ℕ, ◌+◌, ◌%◌, ◌==◌, ◌&&◌, ◌||◌, ◌++◌, Bool, nat_le, nat_lt, length, option_map, List, take, drop, find, slice_index, if◌then◌else◌, Option, None, Some}
 use Rattle.byteorder.specs.Endian.{little_bytes}
 use Rattle.mscp_drive.specs.Shape.{Shape}
 use Rattle.mscp_packet.specs.Number.{num}
 use Rattle.mscp_packet.specs.declared.end.End.{End}
-use Rattle.mscp_packet.specs.declared.end.EndBody.TheVariants.{Bare}
+use Rattle.mscp_packet.specs.declared.end.EndBody.TheVariants.{Bare, Moved}
+use Rattle.mscp_drive.specs.Extent.{blocks}
+use Rattle.mscp_port.specs.declared.port.Port.{Port}
+use Rattle.mscp_port.specs.declared.volumes.Volume.{Volume}
+use Rattle.mscp_port.specs.Volumes.{place_in, volume_at}
 
 -- DETERMINE ACCESS PATHS, COMPARE CONTROLLER DATA and FLUSH succeed at once (manual)
 abbrev pub is_own_opcode : ℕ → Bool
@@ -14,13 +18,45 @@ is_own_opcode opcode = opcode == 11 || opcode == 17 || opcode == 19
 abbrev pub bare_end : List ℕ → ℕ → ℕ → End
 bare_end b code status = record { reference = num b 0 4; unit = num b 4 2; code = code; status = status; body = Bare }
 
--- the end of a message that the port answers itself, if it does: one for a connection that isn't there has an
--- unknown opcode, and those opcodes have Success
-abbrev pub own_end : Bool → List ℕ → Option End
-own_end foreign b =
+-- ACCESS, ERASE, COMPARE HOST DATA, READ and WRITE
+abbrev pub is_transfer_opcode : ℕ → Bool
+is_transfer_opcode opcode = opcode == 16 || opcode == 18 || opcode == 32 || opcode == 33 || opcode == 34
+
+-- a transfer that has all its fields
+abbrev pub is_transfer : List ℕ → Bool
+is_transfer b = is_transfer_opcode (slice_index b 8) && nat_le 32 (length b)
+
+-- why so many bytes from a block on aren't on a volume of this size, if they aren't: the first block isn't (0x1C01), or
+-- another one (0x0C01)
+abbrev pub past_volume : ℕ → ℕ → ℕ → Option ℕ
+past_volume size block count =
+    if nat_le size block then Some 0x1C01
+    else if nat_lt size (block + blocks count) then Some 0x0C01
+    else None
+
+-- the volume may have fewer blocks than its unit
+abbrev pub volume_refusal : Option Volume → List ℕ → Option ℕ
+volume_refusal None b = None
+volume_refusal (Some v) b = if v.is_there && is_transfer b then past_volume v.size (num b 28 4) (num b 12 4) else None
+
+-- such a transfer moved no byte
+abbrev pub refused_end : List ℕ → ℕ → End
+refused_end b status = record (bare_end b (slice_index b 8 + 0x80) status) { body = Moved 0 }
+
+-- the end of a message to a unit with this volume that the port answers itself, if it does: one for a connection that
+-- isn't there has an unknown opcode, those opcodes have Success, and transfers past their volume are refused
+abbrev pub own_end : Bool → Option Volume → List ℕ → Option End
+own_end foreign v b =
     if foreign then Some (bare_end b 0x80 0x0801)
     else if is_own_opcode (slice_index b 8) then Some (bare_end b (slice_index b 8 + 0x80) 0)
-    else None
+    else option_map (refused_end b) (volume_refusal v b)
+
+-- the volume of the unit of a number, if there is such a unit
+abbrev pub volume_of : {K : Type 0} → Port K → ℕ → Option Volume
+volume_of p unit = option_map (volume_at p.volumes) (place_in p.controller.settings.units unit)
+
+abbrev pub own_end_of : {K : Type 0} → Port K → Bool → List ℕ → Option End
+own_end_of p foreign b = own_end foreign (volume_of p (num b 4 2)) b
 
 abbrev pub number_or_zero : Option Shape → ℕ
 number_or_zero None = 0

@@ -1,5 +1,5 @@
 -- With which volume a unit is online, and what its host protects, as the history of a port tells.
-use Rattle.std.specs.Prelude.{◌≡◌, ◌⊎◌, ◌%◌, ◌/◌, ◌==◌, ℕ, Bool, true, false, if◌then◌else◌, List, [], ◌∷◌, Option, None, Some, Result}
+use Rattle.std.specs.Prelude.{◌≡◌, ◌⊎◌, ◌%◌, ◌/◌, ◌==◌, ℕ, Bool, true, false, if◌then◌else◌, List, [], ◌∷◌, Option, None, Some, Result, Ok}
 use Rattle.mscp_packet.specs.declared.command.MoveKind.{MoveKind}
 use Rattle.mscp_packet.specs.declared.end.End.{End}
 use Rattle.mscp_events.specs.declared.block.Block.{Block}
@@ -15,7 +15,7 @@ use Rattle.mscp_port.specs.declared.port.Port.{Port}
 use Rattle.mscp_port.specs.Blocks.{kept_of, writes}
 use Rattle.mscp_port.specs.Calls.{IsMadeOf}
 use Rattle.mscp_port.specs.Departures.{IsForgotten}
-use Rattle.mscp_port.specs.Histories.{Answered, Call, Change, Next}
+use Rattle.mscp_port.specs.Histories.{Answered, Call, Next, VolumeCame, VolumeWent}
 use Rattle.mscp_port.specs.Moved.{HeedsStep, anyhow, end_brought, place_heeded}
 use Rattle.mscp_port.specs.Volumes.{place_in, volume_at}
 
@@ -57,7 +57,8 @@ pub record Ends {K : Type 0} (place : ℕ) (old new : Port K) (via : Connection)
 
 -- it says that a volume came into that unit, or went
 abbrev pub IsChangeAt : {K : Type 0} → ℕ → Call → Port K → Type 0
-IsChangeAt place (Change there protected unit result) old = place_in old.controller.settings.units unit ≡ Some place
+IsChangeAt place (VolumeCame m unit (Ok done)) old = place_in old.controller.settings.units unit ≡ Some place
+IsChangeAt place (VolumeWent unit result) old = place_in old.controller.settings.units unit ≡ Some place
 IsChangeAt place call old = ⊥
 
 -- all is forgotten, or the unit is mounted anew, or has another volume
@@ -85,9 +86,9 @@ IsMounted place start p (call ∷ earlier) a m =
 abbrev pub PortsMoveAsMounted : Type 0 → Type 0
 PortsMoveAsMounted K =
     (hardware : Hardware) (credits : ℕ) (controller : Holdings K) (start p : Port K) (calls : List Call)
-    (kind : MoveKind) (unit block count place : ℕ) (m : Mount)
+    (blocks : Bool) (kind : MoveKind) (unit block count place : ℕ) (m : Mount)
     → IsMadeOf hardware credits controller start
-    → (a : Answered start (Next (actions.Transfer kind unit block count) ∷ calls) p)
+    → (a : Answered start (Next blocks (actions.Transfer kind unit block count) ∷ calls) p)
     → place_in p.controller.settings.units unit ≡ Some place
-    → IsMounted place start p (Next (actions.Transfer kind unit block count) ∷ calls) a m
+    → IsMounted place start p (Next blocks (actions.Transfer kind unit block count) ∷ calls) a m
     → (m.volume ≡ Some (volume_at p.volumes place).changes) × (writes kind ≡ true → m.is_protected ≡ false)

@@ -63,18 +63,18 @@ abbrev pub block_begun : {K : Type 0} → Port K → Option (Upcoming × MoveKin
 block_begun p = moved_step (begun_step p.controller)
 
 -- it may not where its unit or its buffer isn't known (Drive Error)
-abbrev pub fault_at : Option ℕ → Option Buffer → MoveKind → List Volume → Option ℕ
-fault_at (Some place) (Some b) kind volumes = fault_with kind b (volume_at volumes place)
-fault_at place kept kind volumes = Some 0x000B
+abbrev pub fault_at : Option ℕ → Option Buffer → MoveKind → ℕ → List Volume → Option ℕ
+fault_at (Some place) (Some b) kind block volumes = fault_with kind block b (volume_at volumes place)
+fault_at place kept kind block volumes = Some 0x000B
 
 -- what is kept of the command of a step
 abbrev pub step_kept : {K : Type 0} → Port K → Upcoming → Option Buffer
 step_kept p u = kept_of u.connection u.command.reference p.buffers.items
 
--- why a step that moves a block so may not go on, if it may not: its volume may have changed since
-abbrev pub fault_now : {K : Type 0} → Port K → Upcoming → MoveKind → Option ℕ
-fault_now p u kind =
-    fault_at (place_in p.controller.settings.units u.command.unit) (step_kept p u) kind p.volumes
+-- why a step that moves this block so may not go on, if it may not: its volume may have changed since
+abbrev pub fault_now : {K : Type 0} → Port K → Upcoming → MoveKind → ℕ → Option ℕ
+fault_now p u kind block =
+    fault_at (place_in p.controller.settings.units u.command.unit) (step_kept p u) kind block p.volumes
 
 abbrev pub part_kept : Option Buffer → ℕ → Option (ℕ × ℕ)
 part_kept None done = None
@@ -86,19 +86,19 @@ is_storing task = false
 
 -- the part of its buffer that a step is about, if it may go on. What was read goes to the host, even if its volume has
 -- gone since
-abbrev pub part_now : {K : Type 0} → Port K → Upcoming → MoveKind → Option (ℕ × ℕ)
-part_now p u kind =
-    if is_storing p.task || is_none (fault_now p u kind) then part_kept (step_kept p u) u.done else None
+abbrev pub part_now : {K : Type 0} → Port K → Upcoming → MoveKind → ℕ → Option (ℕ × ℕ)
+part_now p u kind block =
+    if is_storing p.task || is_none (fault_now p u kind block) then part_kept (step_kept p u) u.done else None
 
--- blocks of this unit may be moved so, on the volume that is in it
-abbrev pub MayMoveUnit : {K : Type 0} → MoveKind → ℕ → Port K → Type 0
-MayMoveUnit kind unit p = (place : ℕ) × (place_in p.controller.settings.units unit ≡ Some place) × (place < 16)
-    × MayMove kind (volume_at p.volumes place)
+-- this block may be moved so on the volume that is in the unit
+abbrev pub MayMoveUnit : {K : Type 0} → MoveKind → ℕ → ℕ → Port K → Type 0
+MayMoveUnit kind unit block p = (place : ℕ) × (place_in p.controller.settings.units unit ≡ Some place) × (place < 16)
+    × MayMove kind block (volume_at p.volumes place)
 
--- this block of this unit may be moved so: there is such a block, and it is on the volume that is in the unit
+-- this block of this unit may be moved so: there is such a block, also on the volume that is in the unit
 abbrev pub MayMoveOn : {K : Type 0} → MoveKind → ℕ → ℕ → Port K → Type 0
 MayMoveOn kind unit block p = (place : ℕ) × (place_in p.controller.settings.units unit ≡ Some place) × (place < 16)
-    × MayMove kind (volume_at p.volumes place) × (has_block p.controller.settings.units unit block ≡ true)
+    × MayMove kind block (volume_at p.volumes place) × (has_block p.controller.settings.units unit block ≡ true)
 
 -- ---- what is wanted
 
@@ -112,7 +112,7 @@ part_wanted task u kind block part = actions.Pause
 -- of the block that the step moves which is begun. Only restored bytes say a block in hand where that moves none
 abbrev pub move_wanted : {K : Type 0} → Port K → Option (Upcoming × MoveKind × ℕ) → Action
 move_wanted p None = actions.Pause
-move_wanted p (Some m) = part_wanted p.task m.0 m.1 m.2 (part_now p m.0 m.1)
+move_wanted p (Some m) = part_wanted p.task m.0 m.1 m.2 (part_now p m.0 m.1 m.2)
 
 -- ---- what follows
 
@@ -184,16 +184,16 @@ FollowsPart picks outcome kind old new = MatchOption (next_part old.task outcome
 
 -- if it may go on, and else it ends its command
 abbrev pub FollowsStep : {K : Type 0}
-    → (List Choice → ℕ → Type 0) → Outcome → Upcoming → MoveKind → Port K → Port K → Type 0
-FollowsStep picks outcome u kind old new = MatchOption (part_now old u kind)
-    (TakesBegun picks (lost_with (fault_now old u kind)) old new)
+    → (List Choice → ℕ → Type 0) → Outcome → Upcoming → MoveKind → ℕ → Port K → Port K → Type 0
+FollowsStep picks outcome u kind block old new = MatchOption (part_now old u kind block)
+    (TakesBegun picks (lost_with (fault_now old u kind block)) old new)
     (λ part. FollowsPart picks outcome kind old new)
 
 -- an action of the block in hand went so
 abbrev pub MovesOn : {K : Type 0} → (List Choice → ℕ → Type 0) → Outcome → Port K → Port K → Type 0
 MovesOn picks outcome old new = MatchOption (block_begun old)
     (TakesBegun picks (blocks.Bad 0x000B) old new)
-    (λ m. FollowsStep picks outcome m.0 m.1 old new)
+    (λ m. FollowsStep picks outcome m.0 m.1 m.2 old new)
 
 -- what follows for a step in hand, with a block or without one
 pub record Moves {K : Type 0} (picks : List Choice → ℕ → Type 0) (outcome : Outcome) (old new : Port K) : Type 0 where

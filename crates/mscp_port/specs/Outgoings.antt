@@ -17,7 +17,7 @@ use Rattle.mscp_port.specs.declared.stage.Stage.TheVariants as stages
 use Rattle.mscp_port.specs.declared.task.Task.TheVariants as tasks
 use Rattle.mscp_port.specs.declared.volumes.Volume.{Volume}
 use Rattle.mscp_port.specs.Leaving.{news_at, told_end}
-use Rattle.mscp_port.specs.Messages.{own_end}
+use Rattle.mscp_port.specs.Messages.{own_end_of}
 use Rattle.mscp_port.specs.Volumes.{volume_at}
 
 -- the controller is as it was, but that it may have begun a step
@@ -79,7 +79,7 @@ pub record Says {K : Type 0} (old new : Port K) : Type 0 where
 -- nothing went out, and the end that the port makes of these bytes itself goes out
 pub record AnswersItself {K : Type 0} (foreign : Bool) (bytes : List ℕ) (old new : Port K) : Type 0 where
   pub nothing : old.outgoing ≡ None
-  pub out : IsSomeAnd (own_end foreign bytes) (λ e.
+  pub out : IsSomeAnd (own_end_of old foreign bytes) (λ e.
       IsSomeAnd new.outgoing (λ o. (o.bytes.items ≡ end_bytes e) × (o.is_end ≡ true)))
 
 -- what went out is gone: it was written, and its slot was given back

@@ -1,5 +1,5 @@
 -- Where in its memory a host has put what a port reads.
-use Rattle.std.specs.Prelude.{◌≡◌, ◌≢◌, ◌⊎◌, ℕ, List, [], ◌∷◌, length, Contains, true, Ok, Option, None, Some}
+use Rattle.std.specs.Prelude.{◌≡◌, ◌≢◌, ◌⊎◌, ℕ, Bool, List, [], ◌∷◌, length, Contains, true, Ok, Option, None, Some}
 use Rattle.mscp_packet.specs.Number.{num}
 use Rattle.mscp_controller.specs.Holdings.{Holdings}
 use Rattle.mscp_port.specs.declared.action.Action.{Action}
@@ -26,7 +26,7 @@ read_from action = None
 abbrev pub asked : List Call → Option ℕ
 asked [] = None
 asked (WriteIp ∷ earlier) = None
-asked (Next action ∷ earlier) = read_from action
+asked (Next blocks action ∷ earlier) = read_from action
 asked (WasRead bytes (Ok done) ∷ earlier) = None
 asked (Went outcome (Ok done) ∷ earlier) = None
 asked (call ∷ earlier) = asked earlier
@@ -83,6 +83,6 @@ IsPut calls action = Unit {0}
 abbrev pub PortsTouchWhatWasPut : Type 0 → Type 0
 PortsTouchWhatWasPut K =
     (hardware : Hardware) (credits : ℕ) (controller : Holdings K) (start p : Port K) (calls : List Call)
-    (action : Action)
-    → IsMadeOf hardware credits controller start → AsksFirst calls → Answered start (Next action ∷ calls) p
+    (blocks : Bool) (action : Action)
+    → IsMadeOf hardware credits controller start → AsksFirst calls → Answered start (Next blocks action ∷ calls) p
     → IsPut calls action

@@ -1,9 +1,11 @@
 -- What a port knows of its host's memory, and what it may touch there.
-use Rattle.std.specs.Prelude.{◌≡◌, ◌≢◌, ℕ, ◌+◌, ◌-◌, ◌≤◌, ◌<◌, ◌⊎◌, nat_lt, if◌then◌else◌, true, false, List, [], length, Contains, IfSome, IsSomeAnd, Option, None, Some}
+use Rattle.std.specs.Prelude.{◌≡◌, ◌≢◌, ℕ, ◌+◌, ◌-◌, ◌≤◌, ◌<◌, ◌⊎◌, nat_lt, if◌then◌else◌, Bool, true, false, List, [], length, Contains, IfSome, IsSomeAnd, Option, None, Some}
 use Rattle.mscp_controller.specs.Holdings.{fresh}
 use Rattle.mscp_packet.specs.Number.{num}
 use Rattle.mscp_port.specs.declared.action.Action.{Action}
 use Rattle.mscp_port.specs.declared.action.Action.TheVariants as actions
+use Rattle.mscp_port.specs.declared.action.Ask.{Ask}
+use Rattle.mscp_port.specs.declared.action.Ask.TheVariants as asks
 use Rattle.mscp_port.specs.declared.action.Outcome.{Outcome}
 use Rattle.mscp_port.specs.declared.action.Outcome.TheVariants as outcomes
 use Rattle.mscp_port.specs.declared.buffers.Buffer.{Buffer}
@@ -108,6 +110,25 @@ IsOfBlock tasks.Fetch = Unit {0}
 IsOfBlock tasks.Transfer = Unit {0}
 IsOfBlock task = ⊥
 
+-- a block that is in hand and wasn't moved is put aside: its step stays begun, and is taken in hand anew
+abbrev pub aside : Task → Task
+aside tasks.Fetch = tasks.Free
+aside tasks.Transfer = tasks.Free
+aside task = task
+
+abbrev pub put_aside : {K : Type 0} → Port K → Port K
+put_aside p = record p { task = aside p.task }
+
+-- as it is where messages alone are asked for
+abbrev pub asked : {K : Type 0} → Ask → Port K → Port K
+asked asks.All p = p
+asked asks.Messages p = put_aside p
+
+-- whether blocks are asked for
+abbrev pub asks_blocks : Ask → Bool
+asks_blocks asks.All = true
+asks_blocks asks.Messages = false
+
 -- what the port knows of its host's memory is what it knew, and what these bytes say that it wanted: the
 -- descriptor of a slot that is the port's, or the buffer in the text of a command
 pub record Learns {K : Type 0} (bytes : List ℕ) (old new : Port K) : Type 0 where
@@ -139,15 +160,15 @@ HasNothingToSay p = (p.outgoing ≡ None) ⊎ (p.is_full ≡ true)
 abbrev pub HasNothingToHear : {K : Type 0} → Port K → Type 0
 HasNothingToHear p = (p.is_polled ≡ false) ⊎ (p.is_stalled ≡ true)
 
--- the rings are in use, and there is nothing to do with them, and no command waits
-pub record IsIdleUp {K : Type 0} (p : Port K) : Type 0 where
+-- the rings are in use, and there is nothing to do with them, and if blocks are asked for, no command waits
+pub record IsIdleUp {K : Type 0} (blocks : Bool) (p : Port K) : Type 0 where
   pub outgoing : HasNothingToSay p
   pub polled : HasNothingToHear p
-  pub waiting : p.controller.waiting ≡ []
+  pub waiting : blocks ≡ true → p.controller.waiting ≡ []
 
 -- this is taken in hand: a step that the host has answered; and once the rings are in use what goes out, then what
--- comes in, and then a block
-pub record IsDue {K : Type 0} (p : Port K) (task : Task) : Type 0 where
+-- comes in, and then a block, if blocks are asked for
+pub record IsDue {K : Type 0} (blocks : Bool) (p : Port K) (task : Task) : Type 0 where
   pub step : p.written ≢ None → task ≡ tasks.Settle
   pub still : p.written ≡ None → p.stage ≢ stages.Up → task ≡ tasks.Free
   pub goes_out : p.written ≡ None → p.stage ≡ stages.Up → p.outgoing ≢ None → p.is_full ≡ false
@@ -156,12 +177,13 @@ pub record IsDue {K : Type 0} (p : Port K) (task : Task) : Type 0 where
       → p.is_stalled ≡ false → task ≡ tasks.Slot Commands
   pub block : p.written ≡ None → p.stage ≡ stages.Up → HasNothingToSay p → HasNothingToHear p
       → (task ≡ tasks.Free) ⊎ IsOfBlock task
+  pub message : blocks ≡ false → IsOfBlock task → ⊥
 
 -- a port rests only so: nothing is in hand, and the host has answered no step that isn't taken
-pub record IsIdle {K : Type 0} (p : Port K) : Type 0 where
+pub record IsIdle {K : Type 0} (blocks : Bool) (p : Port K) : Type 0 where
   pub free : p.task ≡ tasks.Free
   pub step : p.written ≡ None
-  pub up : p.stage ≡ stages.Up → IsIdleUp p
+  pub up : p.stage ≡ stages.Up → IsIdleUp blocks p
 
 -- ---- what may be touched
 

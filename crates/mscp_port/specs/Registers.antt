@@ -1,10 +1,15 @@
 -- What register SA shows (port: UQSSP, "Initialization").
-use Rattle.std.specs.Prelude.{ℕ, ◌+◌, ◌*◌, ◌/◌, ◌%◌}
+use Rattle.std.specs.Prelude.{ℕ, ◌^◌, ◌+◌, ◌*◌, ◌/◌, ◌%◌}
 use Rattle.mscp_port.specs.declared.hardware.Bus.{Bus}
 use Rattle.mscp_port.specs.declared.hardware.Bus.TheVariants.{Q, Uni}
 use Rattle.mscp_port.specs.declared.hardware.Hardware.{Hardware}
 use Rattle.mscp_port.specs.declared.stage.Stage.{Stage}
 use Rattle.mscp_port.specs.declared.stage.Stage.TheVariants as stages
+
+-- how many addresses a bus has: the Q-bus 22 lines, the Unibus 18
+abbrev pub bus_size : Bus → ℕ
+bus_size Q = 2 ^ 22
+bus_size Uni = 2 ^ 18
 
 -- in the first step: bit 11, and what the port serves: odd addresses (7: not, 6: mapping) and, on the Q-bus,
 -- addresses of 22 bits (9)

@@ -59,8 +59,11 @@ volume_in b = record {
   is_there = nat_eq (slice_index b 0) 1;
   is_protected = nat_eq (slice_index b 1) 1;
   is_protected_by_host = nat_eq (slice_index b 2) 1;
-  changes = num b 4 4;
-  mounted = optional (slice_index b 8) (num b 9 4);
+  is_removable = nat_eq (slice_index b 4) 1;
+  changes = num b 5 4;
+  size = num b 9 4;
+  media = num b 13 4;
+  mounted = optional (slice_index b 17) (num b 18 4);
   is_news = nat_eq (slice_index b 3 % 2) 1;
   is_fresh = nat_eq (slice_index b 3 / 2) 1;
 }
@@ -154,7 +157,7 @@ is_framed b =
 
 -- the same, as facts
 pub record IsFramed (b : List ℕ) : Type 0 where
-  pub front : 280 ≤ length b
+  pub front : 424 ≤ length b
   pub told : length b < 2 ^ 32
   pub text : text_count b ≤ 48
   pub buffers : buffer_count b ≤ 64

@@ -21,7 +21,7 @@ abbrev pub head_size : ℕ
 head_size = 72
 
 abbrev pub volume_size : ℕ
-volume_size = 13
+volume_size = 22
 
 abbrev pub buffer_size : ℕ
 buffer_size = 20
@@ -108,8 +108,11 @@ told_byte v = flag_byte v.is_news + 2 * flag_byte v.is_fresh
 
 abbrev pub volume_bytes : Volume → List ℕ
 volume_bytes v =
-    (flag_byte v.is_there ∷ flag_byte v.is_protected ∷ flag_byte v.is_protected_by_host ∷ told_byte v ∷ [])
+    (flag_byte v.is_there ∷ flag_byte v.is_protected ∷ flag_byte v.is_protected_by_host ∷ told_byte v
+    ∷ flag_byte v.is_removable ∷ [])
     ++ little_bytes 4 v.changes
+    ++ little_bytes 4 v.size
+    ++ little_bytes 4 v.media
     ++ mounted_bytes v.mounted
 
 abbrev pub buffer_bytes : Buffer → List ℕ
@@ -173,6 +176,8 @@ saved_bytes picker p =
 -- the numbers of a volume fit their types
 pub record HasVolumeRange (v : Volume) : Type 0 where
   pub changes : v.changes < 2 ^ 32
+  pub size : v.size < 2 ^ 32
+  pub media : v.media < 2 ^ 32
   pub mounted : number_or_none v.mounted < 2 ^ 32
 
 -- those of what is kept of a command

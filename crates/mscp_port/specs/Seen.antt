@@ -16,7 +16,7 @@ use Rattle.mscp_port.specs.declared.task.Task.TheVariants as tasks
 use Rattle.mscp_port.specs.declared.volumes.Volume.{Volume}
 use Rattle.mscp_port.specs.declared.buffers.Buffer.{Buffer}
 use Rattle.mscp_port.specs.Buffers.{buffer_in, kept_beside, without_aborted}
-use Rattle.mscp_port.specs.Messages.{handed, own_end}
+use Rattle.mscp_port.specs.Messages.{handed, own_end_of}
 use Rattle.mscp_port.specs.Outgoings.{AnswersItself}
 use Rattle.mscp_port.specs.Ports.{IsAsNew, seconds}
 use Rattle.mscp_port.specs.Slots.{is_owned}
@@ -123,14 +123,16 @@ pub record Sends {K : Type 0} (slot : Descriptor) (s : Sent) (bytes : List ℕ) 
 -- the text of a command was read
 pub record SeesText {K : Type 0} (slot : Descriptor) (foreign : Bool) (bytes : List ℕ) (old new : Port K) : Type 0 where
   -- the port answers it itself, if nothing goes out yet: else it stays in its slot
-  pub own : own_end foreign bytes ≢ None → old.outgoing ≡ None
+  pub own : own_end_of old foreign bytes ≢ None → old.outgoing ≡ None
       → (new ≡ record (heard old) { outgoing = new.outgoing; task = tasks.Return Commands slot })
       × AnswersItself foreign bytes old new
-  pub own_waits : own_end foreign bytes ≢ None → old.outgoing ≢ None → stays old new
+  pub own_waits : own_end_of old foreign bytes ≢ None → old.outgoing ≢ None → stays old new
   -- or the controller gets it, and its slot is given back
-  pub sent : (s : Sent) → own_end foreign bytes ≡ None → answered_to old bytes ≡ Ok s → Sends slot s bytes old new
+  pub sent : (s : Sent) → own_end_of old foreign bytes ≡ None → answered_to old bytes ≡ Ok s
+      → Sends slot s bytes old new
   -- and for want of a credit, or while its number is in use, the command stays in its slot
-  pub waits : (fault : SendFault) → own_end foreign bytes ≡ None → answered_to old bytes ≡ Err fault → stays old new
+  pub waits : (fault : SendFault) → own_end_of old foreign bytes ≡ None → answered_to old bytes ≡ Err fault
+      → stays old new
 
 -- ---- all
 

@@ -1,9 +1,12 @@
 -- How the volume of a unit changes.
-use Rattle.std.specs.Prelude.{◌≡◌, ℕ, ◌+◌, ◌%◌, ◌/◌, ◌==◌, if◌then◌else◌, not, Bool, true, false, List, nat_eq, slice_index_or, slice_set, Option, None, Some}
+use Rattle.std.specs.Prelude.{◌≡◌, ◌<◌, ℕ, ◌+◌, ◌%◌, ◌/◌, ◌==◌, if◌then◌else◌, not, Bool, true, false, List, nat_eq, nat_le, ◌&&◌, slice_index_or, slice_set, Option, None, Some, Result, Ok, Err}
 use Rattle.std.specs.List.{position}
 use Rattle.mscp_drive.specs.Shape.{Shape}
 use Rattle.mscp_port.specs.declared.buffers.Buffer.{Buffer}
+use Rattle.mscp_port.specs.declared.volumes.Medium.{Medium}
 use Rattle.mscp_port.specs.declared.volumes.Volume.{Volume}
+use Rattle.mscp_port.specs.declared.volumes.VolumeFault.{VolumeFault}
+use Rattle.mscp_port.specs.declared.volumes.VolumeFault.TheVariants as faults
 use Rattle.mscp_packet.specs.declared.command.MoveKind.{MoveKind}
 use Rattle.mscp_port.specs.Blocks.{is_count, writes}
 
@@ -12,7 +15,10 @@ no_volume = record {
   is_there = false;
   is_protected = false;
   is_protected_by_host = false;
+  is_removable = false;
   changes = 0;
+  size = 0;
+  media = 0;
   mounted = None;
   is_news = false;
   is_fresh = false;
@@ -24,13 +30,22 @@ volume_at volumes place = slice_index_or volumes place no_volume
 
 -- another volume is there, or none: it is counted, and its host is to hear of one that came. The unit isn't online
 -- with it
-abbrev pub volume_changed : Bool → Bool → Volume → Volume
-volume_changed there protected v = record v {
+abbrev pub volume_changed : Bool → Volume → Volume
+volume_changed there v = record v {
   is_there = there;
-  is_protected = protected;
+  is_protected = false;
   is_protected_by_host = false;
   changes = (v.changes + 1) % 0x1_0000_0000;
   is_news = there;
+}
+
+-- this one came
+abbrev pub volume_put : Medium → Volume → Volume
+volume_put m v = record (volume_changed true v) {
+  size = m.size;
+  media = m.media;
+  is_protected = m.is_protected;
+  is_removable = m.is_removable;
 }
 
 -- a reset of the port leaves the volume: the unit isn't online, its host has protected nothing, and is to hear of none
@@ -70,11 +85,19 @@ volume_heeded code (Some b) v =
 abbrev pub place_in : List Shape → ℕ → Option ℕ
 place_in units number = position (λ unit. nat_eq unit.number number) units
 
--- the volumes, once the one of the unit of this number changed
-abbrev pub volumes_changed : Bool → Bool → Option ℕ → List Volume → List Volume
-volumes_changed there protected None volumes = volumes
-volumes_changed there protected (Some place) volumes =
-    slice_set volumes place (volume_changed there protected (volume_at volumes place))
+-- the volumes, once the one at this place became what this makes of it
+abbrev pub volumes_with : (Volume → Volume) → Option ℕ → List Volume → List Volume
+volumes_with becomes None volumes = volumes
+volumes_with becomes (Some place) volumes = slice_set volumes place (becomes (volume_at volumes place))
+
+-- nothing may be written on it, or something may again
+abbrev pub volume_protected : Bool → Volume → Volume
+volume_protected protected v = record v { is_protected = protected }
+
+-- whether this may be put into a unit, if there is such a unit: it has blocks, and no more than the unit
+abbrev pub medium_answer : Medium → Option Shape → Result (Unit {0}) VolumeFault
+medium_answer m None = Err faults.NoUnit
+medium_answer m (Some unit) = if nat_le 1 m.size && nat_le m.size unit.size then Ok tt else Err faults.Size
 
 -- the volumes, once the command ended of whose message this is kept, to the unit at a place
 abbrev pub volumes_heeded : ℕ → Option Buffer → Option ℕ → List Volume → List Volume
@@ -89,9 +112,10 @@ pub record IsOnVolume (b : Buffer) (v : Volume) : Type 0 where
   pub same : b.changes ≡ v.changes
   pub mounted : v.mounted ≡ Some v.changes
 
--- a block may be moved on this volume: it is there, the unit is online with it, and what is written isn't protected
-pub record MayMove (kind : MoveKind) (v : Volume) : Type 0 where
+-- this block may be moved on this volume: it is there, the unit is online with it, and what is written isn't protected
+pub record MayMove (kind : MoveKind) (block : ℕ) (v : Volume) : Type 0 where
   pub there : v.is_there ≡ true
   pub mounted : v.mounted ≡ Some v.changes
   pub hardware : writes kind ≡ true → v.is_protected ≡ false
   pub host : writes kind ≡ true → v.is_protected_by_host ≡ false
+  pub on : block < v.size

@@ -43,6 +43,16 @@ pub enum Action {
     },
 }
 
+/// What a port is asked for.
+#[derive(Clone, Copy)]
+pub enum Ask {
+    /// All that it wants.
+    All,
+    /// Messages alone, while a block takes its time: no block is begun, and one that is in hand and wasn't moved is wanted anew,
+    /// from its first part on, once all is asked for.
+    Messages,
+}
+
 /// How an action went.
 #[derive(Clone, Copy, Debug, PartialEq, Eq)]
 pub enum Outcome {

@@ -1,7 +1,7 @@
 // What has no number of its own, as numbers, and what numbers stand for.
 
 ghost use Rattle.std.specs.Prelude.{◌≡◌};
-ghost use Rattle.mscp_port.specs.Codes.{IsTask, bad_byte, bad_status, block_in, block_task_in, bus_byte, bus_in, clear_task, coded_task, early_task_in, has_size, nothing, ring_task_in, side_byte, side_in, stage_byte, stage_in, stage_word, task_in, text_task};
+ghost use Rattle.mscp_port.specs.Codes.{IsTask, bad_byte, bad_status, block_in, block_task_in, bus_byte, bus_in, clear_task, coded_task, early_task_in, has_size, nothing, ring_task_in, side_byte, side_in, stage_in, task_in, text_task};
 ghost use Rattle.mscp_port.specs.declared.task.Task.TheVariants as tasks;
 
 use crate::hardware::Bus;
@@ -73,35 +73,6 @@ fn side_in(byte: u8) -> Side
         Side::Responses
     } else {
         Side::Commands
-    }
-}
-
-/// The number of a stage.
-pub(crate) fn stage_byte(stage: Stage) -> u8
-    ensures { result ≡ stage_byte stage }
-{
-    match stage {
-        Stage::First => 0,
-        Stage::Wrapped(_) => 1,
-        Stage::Second => 2,
-        Stage::Third => 3,
-        Stage::Purging => 4,
-        Stage::Probing => 5,
-        Stage::Clearing => 6,
-        Stage::Last => 7,
-        Stage::Up => 8,
-        Stage::Dead(_) => 9,
-    }
-}
-
-/// The word of a stage, or 0 where it has none.
-pub(crate) fn stage_word(stage: Stage) -> u16
-    ensures { result ≡ stage_word stage }
-{
-    match stage {
-        Stage::Wrapped(word) => word,
-        Stage::Dead(code) => code,
-        _ => 0,
     }
 }
 

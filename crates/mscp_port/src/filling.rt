@@ -30,6 +30,9 @@ const PROTECTED: u16 = 0x2000;
 
 pub(crate) const PROTECTED_BY_HOST: u16 = 0x1000;
 
+/// The volume can be taken out.
+const REMOVABLE: u16 = 0x0080;
+
 /// The code of an attention message that says that a unit came.
 const UNIT_CAME: u8 = 0x40;
 
@@ -49,9 +52,9 @@ pub(crate) fn status_told(code: u8, status: u16, volume: &Volume) -> u16
     }
 }
 
-/// What is told of a unit by an ONLINE that found no volume: the same as by one that found one.
-pub(crate) fn unit_told(status: u16, body: EndBody, unit: &Unit) -> EndBody
-    ensures { result ≡ leaving.unit_told status body (Some unit.now) }
+/// What is told of a unit with this volume: media and size are the volume's. An ONLINE that found none tells the unit's.
+pub(crate) fn unit_told(status: u16, body: EndBody, unit: &Unit, volume: &Volume) -> EndBody
+    ensures { result ≡ leaving.unit_told status body (Some unit.now) volume.now }
 {
     match body {
         EndBody::Online { .. } if status == NO_VOLUME => EndBody::Online {
@@ -59,6 +62,27 @@ pub(crate) fn unit_told(status: u16, body: EndBody, unit: &Unit) -> EndBody
             media: unit.media(),
             size: unit.size(),
             serial: unit.serial(),
+        },
+        EndBody::Online { id, serial, .. } if status % 32 == 0 && volume.is_there => {
+            EndBody::Online {
+                id,
+                media: volume.media,
+                size: volume.size,
+                serial,
+            }
+        }
+        EndBody::UnitStatus {
+            id,
+            track,
+            group,
+            cylinder,
+            ..
+        } if volume.is_there => EndBody::UnitStatus {
+            id,
+            media: volume.media,
+            track,
+            group,
+            cylinder,
         },
         other => other,
     }
@@ -74,7 +98,8 @@ fn unit_flags(volume: &Volume) -> u16
     } else {
         0
     };
-    REPLACES + hardware + host
+    let removable = if volume.is_removable { REMOVABLE } else { 0 };
+    REPLACES + hardware + host + removable
 }
 
 /// Writes a number of two bytes over those from a place on, if they are there.
@@ -144,6 +169,6 @@ pub(crate) fn attention(unit: &Unit, volume: &Volume) -> ArrayVec<u8, 48>
     put_two(&mut bytes, unit_flags(volume));
     put_four(&mut bytes, 0);
     put_eight(&mut bytes, unit.id());
-    put_four(&mut bytes, unit.media());
+    put_four(&mut bytes, volume.media);
     bytes
 }

@@ -1,7 +1,7 @@
 // What kind of port it is.
 
-ghost use Rattle.std.specs.Prelude.{◌≡◌};
-ghost use Rattle.mscp_port.specs.Registers.{first_step, last_step};
+ghost use Rattle.std.specs.Prelude.{◌≡◌, ◌%◌};
+ghost use Rattle.mscp_port.specs.Registers.{bus_size, first_step, last_step};
 
 /// The bus of the host.
 #[derive(Clone, Copy, Debug, PartialEq, Eq)]
@@ -10,6 +10,18 @@ pub enum Bus {
     Q,
     /// The Unibus, with addresses of 18 bits.
     Uni,
+}
+
+impl Bus {
+    /// An address of a port's action as this bus has it: without the bits for which it has no lines.
+    pub fn address(self, address: u32) -> u32
+        ensures { result ≡ address % bus_size self }
+    {
+        match self {
+            Bus::Q => address % 0x40_0000,
+            Bus::Uni => address % 0x4_0000,
+        }
+    }
 }
 
 /// What kind of port it is, as it tells its host.

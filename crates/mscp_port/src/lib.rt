@@ -17,7 +17,9 @@ mod stage;
 mod task;
 mod volumes;
 
-pub use crate::action::{Action, Outcome, Unasked};
+pub use crate::action::{Action, Ask, Outcome, Unasked};
 pub use crate::hardware::{Bus, Hardware};
 pub use crate::law::{ports_have_credit, ports_touch_what_is_named, ports_touch_what_was_put};
 pub use crate::port::{NoUnit, Port, PortFault, ROOM, RestoreFault, restore_fault, saved_settings};
+pub use crate::stage::Stage;
+pub use crate::volumes::{Medium, Volume, VolumeFault};

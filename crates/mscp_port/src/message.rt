@@ -1,11 +1,12 @@
 // What a host's message asks for, as the port sees it.
 
-ghost use Rattle.std.specs.Prelude.{◌≡◌, ◌≤◌, find, length, nat_le};
+ghost use Rattle.std.specs.Prelude.{◌≡◌, ◌≤◌, true, find, length, nat_le, IfSome};
 ghost use Rattle.mscp_port.specs.Common.{option_copied, bare_end, handed, next_unit};
-ghost use Rattle.mscp_port.specs.Messages.{own_end as end_of_own};
+ghost use Rattle.mscp_port.specs.Messages.{own_end as end_of_own, is_transfer, past_volume, refused_end, volume_refusal};
 
+use crate::volumes::Volume;
 use arrayvec::ArrayVec;
-use mscp_drive::{Unit, Units};
+use mscp_drive::{INVALID_BLOCK, INVALID_BYTE_COUNT, Unit, Units};
 use mscp_packet::fields::{four_at, put, put_two, two_at};
 use mscp_packet::status::{INVALID_OPCODE, SUCCESS};
 use mscp_packet::{End, EndBody};
@@ -17,6 +18,9 @@ const COMPARE_CONTROLLER_DATA: u8 = 17;
 
 const FLUSH: u8 = 19;
 
+/// The bytes of a block.
+const BLOCK_BYTES: u32 = 512;
+
 /// The opcodes of commands that the port looks into.
 pub(crate) const GET_UNIT_STATUS: u8 = 3;
 
@@ -25,11 +29,11 @@ pub(crate) const SET_CONTROLLER: u8 = 4;
 /// The modifier of GET UNIT STATUS that asks for the next unit.
 const NEXT_UNIT: u16 = 0x0001;
 
-/// The end of a message that the port answers itself, if it does: one for a connection that isn't there, or one that
-/// succeeds at once.
-pub(crate) fn own_end(message: &[u8], is_foreign: bool) -> Option<End>
+/// The end of a message to a unit with this volume that the port answers itself, if it does: one for a connection that isn't
+/// there, one that succeeds at once, or a transfer past the end of the volume.
+pub(crate) fn own_end(message: &[u8], is_foreign: bool, volume: Option<Volume>) -> Option<End>
     requires { 12 ≤ length message.now }
-    ensures { result ≡ end_of_own is_foreign message.now }
+    ensures { result ≡ end_of_own is_foreign volume message.now }
 {
     if is_foreign {
         return Some(bare_end(message, 0x80, INVALID_OPCODE));
@@ -38,7 +42,53 @@ pub(crate) fn own_end(message: &[u8], is_foreign: bool) -> Option<End>
         opcode @ (DETERMINE_ACCESS_PATHS | COMPARE_CONTROLLER_DATA | FLUSH) => {
             Some(bare_end(message, opcode + 0x80, SUCCESS))
         }
-        _ => None,
+        _ => Some(refused_end(message, refusal(message, volume)?)),
+    }
+}
+
+/// Whether it is a transfer that has all its fields: ACCESS, ERASE, COMPARE HOST DATA, READ or WRITE.
+fn is_transfer(message: &[u8]) -> bool
+    requires { 12 ≤ length message.now }
+    ensures value { result ≡ is_transfer message.now }
+    ensures long { result ≡ true → 32 ≤ length message.now }
+{
+    matches!(message[8], 16 | 18 | 32 | 33 | 34) && message.len() >= 32
+}
+
+/// Why a transfer isn't made whose blocks aren't on this volume, which may have fewer than its unit.
+fn refusal(message: &[u8], volume: Option<Volume>) -> Option<u16>
+    requires { 12 ≤ length message.now }
+    ensures value { result ≡ volume_refusal volume message.now }
+    ensures transfer { IfSome result (λ status. is_transfer message.now ≡ true) }
+{
+    let volume = volume?;
+    if !volume.is_there || !is_transfer(message) {
+        return None;
+    }
+    past_volume(volume.size, four_at(message, 28), four_at(message, 12))
+}
+
+/// Why so many bytes from a block on aren't on a volume of this size, if they aren't.
+fn past_volume(size: u32, block: u32, bytes: u32) -> Option<u16>
+    ensures { result ≡ past_volume size block bytes }
+{
+    if size <= block {
+        Some(INVALID_BLOCK)
+    } else if size - block < bytes.div_ceil(BLOCK_BYTES) {
+        Some(INVALID_BYTE_COUNT)
+    } else {
+        None
+    }
+}
+
+/// The end of a transfer that is refused with this status.
+fn refused_end(message: &[u8], status: u16) -> End
+    requires { is_transfer message.now ≡ true }
+    ensures { result ≡ refused_end message.now status }
+{
+    End {
+        body: EndBody::Moved(0),
+        ..bare_end(message, message[8] + 0x80, status)
     }
 }
 

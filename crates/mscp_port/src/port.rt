@@ -12,6 +12,7 @@ mod going;
 mod hearing;
 mod restoring;
 mod saving;
+mod seeing;
 mod serving;
 mod turning;
 mod watching;

@@ -1,8 +1,11 @@
 // How far a port has come.
 
+ghost use Rattle.std.specs.Prelude.{◌≡◌};
+ghost use Rattle.mscp_port.specs.Codes.{stage_byte, stage_word};
+
 /// How far a port has come since its host wrote register IP.
 #[derive(Clone, Copy, PartialEq, Eq)]
-pub(crate) enum Stage {
+pub enum Stage {
     /// The first step of the initialisation: the host is to write its first word, with the lengths of the rings and the
     /// vector.
     First,
@@ -24,4 +27,35 @@ pub(crate) enum Stage {
     Up,
     /// A fatal error, by its code.
     Dead(u16),
+}
+
+impl Stage {
+    /// Its number, from 0 for the first to 9 for a fatal error.
+    pub fn number(self) -> u8
+        ensures { result ≡ stage_byte self }
+    {
+        match self {
+            Stage::First => 0,
+            Stage::Wrapped(_) => 1,
+            Stage::Second => 2,
+            Stage::Third => 3,
+            Stage::Purging => 4,
+            Stage::Probing => 5,
+            Stage::Clearing => 6,
+            Stage::Last => 7,
+            Stage::Up => 8,
+            Stage::Dead(_) => 9,
+        }
+    }
+
+    /// The word that is shown again, or the code of the fatal error; 0 in any other stage.
+    pub fn word(self) -> u16
+        ensures { result ≡ stage_word self }
+    {
+        match self {
+            Stage::Wrapped(word) => word,
+            Stage::Dead(code) => code,
+            _ => 0,
+        }
+    }
 }

@@ -1,18 +1,45 @@
 // The volumes that lie in the units, and how they change.
 
 ghost use Rattle.std.specs.Prelude.{◌≡◌, ◌↔◌, true, EachIndex, Some, IsTrue};
-ghost use Rattle.mscp_port.specs.Common.{is_mounted, volume_at, volume_changed, volume_reset};
+ghost use Rattle.mscp_port.specs.Common.{is_mounted, volume_at, volume_changed, volume_put, volume_reset};
+
+/// What is put into a unit.
+#[derive(Clone, Copy, Debug, Default, PartialEq, Eq)]
+pub struct Medium {
+    /// Its blocks: 1 to those of the unit.
+    pub size: u32,
+    /// The type of its media, as the host is told it.
+    pub media: u32,
+    /// Nothing may be written on it.
+    pub is_protected: bool,
+    /// It can be taken out.
+    pub is_removable: bool,
+}
+
+/// Why a volume isn't put into a unit. Nothing is changed.
+#[derive(Clone, Copy, Debug, PartialEq, Eq)]
+pub enum VolumeFault {
+    /// No unit has this number.
+    NoUnit,
+    /// It has no blocks, or more than the unit.
+    Size,
+}
 
 /// A unit's volume. All is counted: a unit that was brought online with another volume than the one in it isn't online.
 #[derive(Clone, Copy, Default)]
-pub(crate) struct Volume {
+pub struct Volume {
     pub is_there: bool,
     /// Nothing may be written on it.
     pub is_protected: bool,
     /// Its host said that nothing may be written on it.
     pub is_protected_by_host: bool,
+    /// It can be taken out, or the one that was there last could.
+    pub is_removable: bool,
     /// How often it changed.
     pub changes: u32,
+    /// Its blocks, and the type of its media.
+    pub size: u32,
+    pub media: u32,
     /// How often it had changed when the unit was brought online, if it was.
     pub mounted: Option<u32>,
     /// It came, and the host is to hear of it.
@@ -30,19 +57,30 @@ impl Volume {
         self.is_there && self.mounted == Some(self.changes)
     }
 
+    /// Another volume came.
+    pub(crate) fn put(&mut self, medium: Medium)
+        ensures { self.new ≡ volume_put medium self.old }
+    {
+        self.change(true);
+        self.size = medium.size;
+        self.media = medium.media;
+        self.is_protected = medium.is_protected;
+        self.is_removable = medium.is_removable;
+    }
+
     /// Another volume came, or the volume went.
-    pub fn change(&mut self, is_there: bool, is_protected: bool)
-        ensures { self.new ≡ volume_changed is_there is_protected self.old }
+    pub(crate) fn change(&mut self, is_there: bool)
+        ensures { self.new ≡ volume_changed is_there self.old }
     {
         self.is_there = is_there;
-        self.is_protected = is_protected;
+        self.is_protected = false;
         self.is_protected_by_host = false;
         self.changes = self.changes.wrapping_add(1);
         self.is_news = is_there;
     }
 
     /// What a reset of the port leaves of it.
-    pub fn reset(&mut self)
+    pub(crate) fn reset(&mut self)
         ensures { self.new ≡ volume_reset self.old }
     {
         self.mounted = None;

@@ -1,5 +1,5 @@
 -- What a port touches after a whole history was put into its host's memory.
-use Rattle.mscp_port.proofs.Common.{◌≢◌, ◌⊎◌, ℕ, List, [], ◌∷◌, length, Option, None, Some, IfSome, refl, sym, subst, arith, Ok, Err, Holdings, Action, Hardware, Port, Stage, Hears, IsMadeOf, Ticks, Answered, Becomes, Call, NamesArea, words, reads, WriteIp, ReadIp, WriteSa, Next, WasRead, Went, LookAgain, Tick, Change, AsksFirst, IsPut, IsPutForData, IsPutForRings, asked, reads_at, with_read, Drops, IsAsNew, IsInRingsOrPacket, IsInSomeBuffer, IsWithin, Leaves}
+use Rattle.mscp_port.proofs.Common.{◌≢◌, ◌⊎◌, ℕ, Bool, List, [], ◌∷◌, length, Option, None, Some, IfSome, refl, sym, subst, arith, Ok, Err, Holdings, Action, Hardware, Port, Stage, Hears, IsMadeOf, Ticks, Answered, Becomes, Call, NamesArea, words, reads, WriteIp, ReadIp, WriteSa, Next, PutAside, WasRead, Went, LookAgain, Tick, Protect, VolumeCame, VolumeWent, AsksFirst, IsPut, IsPutForData, IsPutForRings, asked, reads_at, with_read, Drops, IsAsNew, IsInRingsOrPacket, IsInSomeBuffer, IsWithin, Leaves}
 use Rattle.mscp_port.specs.declared.action.Action.TheVariants as actions
 use Rattle.mscp_port.proofs.Among.{none_among}
 use Rattle.mscp_port.proofs.Naming.Knowing.{Knows}
@@ -30,8 +30,9 @@ call_placed ReadIp earlier old new areas asks k r =
 call_placed (WriteSa word) earlier old new areas asks k r =
     places_behind (words earlier) (reads_at earlier) (asked earlier) new word
     (hand_placed (words earlier) (reads_at earlier) (asked earlier) old new k r.hand)
-call_placed (Next action) earlier old new areas asks k r =
-    next_placed (words earlier) (reads_at earlier) (asked earlier) old new action k r
+call_placed (Next blocks action) earlier old new areas asks k r =
+    next_placed (words earlier) (reads_at earlier) (asked earlier) old new blocks action k r
+call_placed PutAside earlier old new areas asks k r = search (arith, hand_placed)
 call_placed (WasRead bytes (Ok done)) earlier old new areas asks k r =
     heard_placed (words earlier) (reads_at earlier) (asked earlier) old new bytes done areas asks.0 k r
 call_placed (WasRead bytes (Err unasked)) earlier old new areas asks k r = search arith
@@ -41,7 +42,11 @@ call_placed (Went outcome (Err unasked)) earlier old new areas asks k r = search
 call_placed LookAgain earlier old new areas asks k r = search (arith, hand_placed)
 call_placed Tick earlier old new areas asks k r =
     hand_placed (words earlier) (reads_at earlier) (asked earlier) old new k (tick_hands old new r)
-call_placed (Change is_there protected unit result) earlier old new areas asks k r = search (arith, hand_placed)
+call_placed (VolumeCame m unit (Ok done)) earlier old new areas asks k r =
+    let is = r.came refl in search (arith, is, hand_placed)
+call_placed (VolumeCame m unit (Err fault)) earlier old new areas asks k r = search arith
+call_placed (VolumeWent unit result) earlier old new areas asks k r = search (arith, hand_placed)
+call_placed (Protect protected unit result) earlier old new areas asks k r = search (arith, hand_placed)
 
 -- who asked before also asked earlier
 asked_before : (call : Call) (earlier : List Call) → AsksFirst (call ∷ earlier) → AsksFirst earlier
@@ -77,9 +82,10 @@ within_put calls o p action h4 h5 h6 = grind (arith, ring_put, data_put)
 
 -- the law of places
 pub touches_what_was_put : {K : Type 0} (hardware : Hardware) (credits : ℕ) (controller : Holdings K)
-    (start p : Port K) (calls : List Call) (action : Action) → IsMadeOf hardware credits controller start
-    → AsksFirst calls → Answered start (Next action ∷ calls) p → IsPut calls action
-touches_what_was_put hardware credits controller start p calls action made asks a =
-    within_put calls (asked (Next action ∷ calls)) p action
-    (knows hardware credits controller start p (Next action ∷ calls) made a)
-    (placed hardware credits controller start p (Next action ∷ calls) made asks a) (a.2).within
+    (start p : Port K) (calls : List Call) (blocks : Bool) (action : Action)
+    → IsMadeOf hardware credits controller start → AsksFirst calls → Answered start (Next blocks action ∷ calls) p
+    → IsPut calls action
+touches_what_was_put hardware credits controller start p calls blocks action made asks a =
+    within_put calls (asked (Next blocks action ∷ calls)) p action
+    (knows hardware credits controller start p (Next blocks action ∷ calls) made a)
+    (placed hardware credits controller start p (Next blocks action ∷ calls) made asks a) (a.2).within

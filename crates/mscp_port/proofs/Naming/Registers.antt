@@ -114,6 +114,6 @@ after_write_sa ws bs old new word k r =
     by_stage old.stage refl
 
 -- nothing is learned as an action is wanted
-pub after_next : {K : Type 0} (ws : List ℕ) (bs : List (List ℕ)) (old new : Port K) (action : Action) → Knows ws bs old
-    → Wants old action new → Knows ws bs new
-after_next ws bs old new action k r = search (arith, still_knows, answers, carried)
+pub after_next : {K : Type 0} (ws : List ℕ) (bs : List (List ℕ)) (old new : Port K) (blocks : Bool) (action : Action)
+    → Knows ws bs old → Wants blocks old action new → Knows ws bs new
+after_next ws bs old new blocks action k r = search (arith, still_knows, answers, carried)

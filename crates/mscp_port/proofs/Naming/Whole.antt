@@ -1,5 +1,5 @@
 -- What a port knows after a whole history, and what it touches then.
-use Rattle.mscp_port.proofs.Common.{ℕ, List, [], ◌∷◌, Option, Contains, IfSome, IsSomeAnd, inl, inr, refl, ap, sym, subst, arith, Result, Ok, Err, Action, Unasked, Buffer, Holdings, Hardware, Port, Hears, IsMadeOf, Ticks, Answered, Becomes, Call, IsNamed, IsNamedForData, IsNamedForRings, NamesBuffer, NamesPacket, reads, words, WriteIp, ReadIp, WriteSa, Next, WasRead, Went, LookAgain, Tick, Change, IsInRingsOrPacket, IsInSomeBuffer, IsWithin, in_hand, read_again, Task}
+use Rattle.mscp_port.proofs.Common.{ℕ, Bool, List, [], ◌∷◌, Option, Contains, IfSome, IsSomeAnd, inl, inr, refl, ap, sym, subst, arith, Result, Ok, Err, Action, Unasked, Buffer, Holdings, Hardware, Port, Hears, IsMadeOf, Ticks, Answered, Becomes, Call, IsNamed, IsNamedForData, IsNamedForRings, NamesBuffer, NamesPacket, reads, words, WriteIp, ReadIp, WriteSa, Next, PutAside, WasRead, Went, LookAgain, Tick, Protect, VolumeCame, VolumeWent, IsInRingsOrPacket, IsInSomeBuffer, IsWithin, in_hand, read_again, Task}
 use Rattle.mscp_port.specs.declared.stage.Stage.TheVariants as stages
 use Rattle.mscp_port.specs.declared.task.Task.TheVariants as tasks
 use Rattle.mscp_port.proofs.Naming.Knowing.{answers, Knows, fresh_knows, new_knows, still_knows}
@@ -43,13 +43,18 @@ pub after_call : {K : Type 0} (call : Call) (earlier : List Call) (old new : Por
 after_call WriteIp earlier old new k r = new_knows [] [] stages.First old new (λ w. refl) r
 after_call ReadIp earlier old new k r = after_read_ip (words earlier) (reads earlier) old new k r
 after_call (WriteSa word) earlier old new k r = after_write_sa (words earlier) (reads earlier) old new word k r
-after_call (Next action) earlier old new k r = after_next (words earlier) (reads earlier) old new action k r
+after_call (Next blocks action) earlier old new k r =
+    after_next (words earlier) (reads earlier) old new blocks action k r
+after_call PutAside earlier old new k r = search arith
 after_call (WasRead bytes result) earlier old new k r = heard earlier old new bytes result k r
 after_call (Went outcome result) earlier old new k r =
     after_went (words earlier) (reads earlier) old new outcome result k r
 after_call LookAgain earlier old new k r = search arith
 after_call Tick earlier old new k r = ticked (words earlier) (reads earlier) old new k r
-after_call (Change is_there protected unit result) earlier old new k r = search arith
+after_call (VolumeCame m unit (Ok done)) earlier old new k r = let is = r.came refl in search (arith, is)
+after_call (VolumeCame m unit (Err fault)) earlier old new k r = search arith
+after_call (VolumeWent unit result) earlier old new k r = search arith
+after_call (Protect protected unit result) earlier old new k r = search arith
 
 -- what a port knows after a history its host has named in it
 pub knows : {K : Type 0} (hardware : Hardware) (credits : ℕ) (controller : Holdings K) (start p : Port K)
@@ -78,7 +83,8 @@ within_named calls p action h3 h4 = grind (arith, ring_named, data_named)
 
 -- the law of ports
 pub touches_what_is_named : {K : Type 0} (hardware : Hardware) (credits : ℕ) (controller : Holdings K) (start : Port K)
-    (p : Port K) (calls : List Call) (action : Action) → IsMadeOf hardware credits controller start
-    → Answered start (Next action ∷ calls) p → IsNamed calls action
-touches_what_is_named hardware credits controller start p calls action made a =
-    within_named calls p action (knows hardware credits controller start p (Next action ∷ calls) made a) (a.2).within
+    (p : Port K) (calls : List Call) (blocks : Bool) (action : Action) → IsMadeOf hardware credits controller start
+    → Answered start (Next blocks action ∷ calls) p → IsNamed calls action
+touches_what_is_named hardware credits controller start p calls blocks action made a =
+    within_named calls p action (knows hardware credits controller start p (Next blocks action ∷ calls) made a)
+    (a.2).within

@@ -12,19 +12,19 @@ use crate::volumes::Volume;
 use mscp_packet::MoveKind;
 use mscp_queue::{Picker, Upcoming};
 
-/// Why a step may not go on that moves a block so, if it may not, of whose command this is kept, and whose unit has this
+/// Why a step may not go on that moves this block so, if it may not, of whose command this is kept, and whose unit has this
 /// volume now.
-fn fault_with(kind: MoveKind, buffer: &Buffer, volume: &Volume) -> Option<u16>
-    ensures value { result ≡ fault_of kind buffer.now volume.now }
+fn fault_with(kind: MoveKind, block: u32, buffer: &Buffer, volume: &Volume) -> Option<u16>
+    ensures value { result ≡ fault_of kind block buffer.now volume.now }
     ensures status { IfSome result (λ status. 5 ≤ status % 32) }
     // It goes on only on the volume that was there when its command came, and that its unit was brought online with.
     ensures safe { result ≡ None → IsOnVolume buffer.now volume.now }
-    ensures moves { result ≡ None → MayMove kind volume.now }
+    ensures moves { result ≡ None → MayMove kind block volume.now }
 {
     if !volume.is_there || buffer.changes != volume.changes {
         return Some(STEP_WITHOUT_VOLUME);
     }
-    refusal(kind, buffer, volume)
+    refusal(kind, block, buffer, volume)
 }
 
 impl<K: Picker> Port<K> {
@@ -40,11 +40,11 @@ impl<K: Picker> Port<K> {
         Some((upcoming, kind, block))
     }
 
-    /// Why a step may not go on that moves a block so, if it may not.
-    pub(crate) fn fault_of(&self, upcoming: &Upcoming, kind: MoveKind) -> Option<u16>
-        ensures value { result ≡ fault_now self.now upcoming.now kind }
+    /// Why a step may not go on that moves this block so, if it may not.
+    pub(crate) fn fault_of(&self, upcoming: &Upcoming, kind: MoveKind, block: u32) -> Option<u16>
+        ensures value { result ≡ fault_now self.now upcoming.now kind block }
         ensures status { IfSome result (λ status. 5 ≤ status % 32) }
-        ensures moves { result ≡ None → MayMoveUnit kind upcoming.now.command.unit self.now }
+        ensures moves { result ≡ None → MayMoveUnit kind upcoming.now.command.unit block self.now }
     {
         let command = &upcoming.command;
         let buffer = find_buffer(
@@ -53,7 +53,9 @@ impl<K: Picker> Port<K> {
             command.reference,
         );
         match (self.place_of(command.unit), buffer) {
-            (Some(place), Some(buffer)) => fault_with(kind, &buffer, &self.volumes[place]),
+            (Some(place), Some(buffer)) => {
+                fault_with(kind, block, &buffer, &self.volumes[place])
+            }
             _ => Some(DRIVE_ERROR),
         }
     }

@@ -81,11 +81,11 @@ impl<K: Picker> Port<K> {
     /// An end with the status that is told where the unit has this volume.
     fn with_status(&self, end: End, volume: &Volume) -> End
         ensures { result ≡ with_status (leaving_status end.code end.status volume.now)
-            (unit_found self.now.controller.settings.units end.unit) end }
+            (unit_found self.now.controller.settings.units end.unit) volume.now end }
     {
         let status = status_told(end.code, end.status, volume);
         let body = match self.controller.config().units().find(end.unit) {
-            Some(unit) => unit_told(status, end.body, unit),
+            Some(unit) => unit_told(status, end.body, unit, volume),
             None => end.body,
         };
         End {

@@ -67,12 +67,12 @@ impl<K: Picker> Port<K> {
         ensures buffers { (b : Kept) → Contains self.new.buffers.items b → Contains self.old.buffers.items b }
         ensures packet { in_hand self.new.task ≡ None }
     {
-        let Some((upcoming, kind, _)) = self.block_begun() else {
+        let Some((upcoming, kind, block)) = self.block_begun() else {
             return self.finish(bad(DRIVE_ERROR));
         };
-        match self.part(&upcoming, kind) {
+        match self.part(&upcoming, kind, block) {
             Some(_) => self.moved(kind, outcome),
-            None => self.lost(&upcoming, kind),
+            None => self.lost(&upcoming, kind, block),
         }
     }
 

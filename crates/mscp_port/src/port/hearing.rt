@@ -8,7 +8,7 @@ ghost use Rattle.mscp_controller.specs.declared.entry.Sent.TheVariants as sents;
 ghost use Rattle.mscp_port.specs.declared.buffers.Buffer.{Buffer as Kept};
 ghost use Rattle.mscp_port.specs.declared.task.Task.TheVariants as tasks;
 ghost use Rattle.mscp_port.specs.Buffers.{buffer_in};
-ghost use Rattle.mscp_port.specs.Messages.{own_end as end_of_own};
+ghost use Rattle.mscp_port.specs.Messages.{own_end_of};
 
 use crate::action::Unasked;
 use crate::buffers::{Buffer, forget_aborted, keep};
@@ -21,7 +21,7 @@ use crate::task::Task;
 use arrayvec::ArrayVec;
 use mscp_controller::Sent;
 use mscp_packet::fields::{four_at, two_at};
-use mscp_packet::write_end;
+use mscp_packet::{End, write_end};
 use mscp_queue::{Connection, Picker};
 
 /// The connection of commands that the diagnostic and utilities protocol has.
@@ -132,8 +132,8 @@ impl<K: Picker> Port<K> {
         ensures out { (self.new.outgoing ≡ self.old.outgoing) ⊎ AnswersItself is_foreign message.now self.old self.new }
         ensures task { (self.new.task ≡ tasks.Free) ⊎ (self.new.task ≡ tasks.Return Commands slot) }
         ensures settings { self.new.controller.settings ≡ self.old.controller.settings }
-        ensures own { end_of_own is_foreign message.now ≢ None → self.new.controller ≡ self.old.controller }
-        ensures handed { end_of_own is_foreign message.now ≡ None → self.new.controller
+        ensures own { own_end_of self.old is_foreign message.now ≢ None → self.new.controller ≡ self.old.controller }
+        ensures handed { own_end_of self.old is_foreign message.now ≡ None → self.new.controller
             ≡ after_message First self.old.controller (handed self.old.controller.settings.units message.now) }
         ensures frame { ChangesByReading self.old self.new }
         ensures packet { IfSome (in_hand self.new.task) (λ word. word ≡ slot.word) }
@@ -143,7 +143,7 @@ impl<K: Picker> Port<K> {
         self.timeout = self.seconds();
         self.left = self.timeout;
         self.task = Task::Return(Side::Commands, slot);
-        match own_end(message, is_foreign) {
+        match self.own_end(message, is_foreign) {
             Some(_) if self.outgoing.is_some() => self.stall(),
             Some(end) => {
                 self.outgoing = Some(Outgoing {
@@ -153,6 +153,14 @@ impl<K: Picker> Port<K> {
             }
             None => self.send(message),
         }
+    }
+
+    /// The end of a message that the port answers itself, if it does.
+    fn own_end(&self, message: &[u8], is_foreign: bool) -> Option<End>
+        requires { 12 ≤ length message.now }
+        ensures { result ≡ own_end_of self.now is_foreign message.now }
+    {
+        own_end(message, is_foreign, self.volume(two_at(message, 4)))
     }
 
     /// The command stays in its slot until a credit or its number is free, or what goes out has gone.

@@ -42,7 +42,7 @@ pub enum RestoreFault {
 
 /// What kind of port it is.
 fn hardware_in(b: &[u8]) -> Hardware
-    requires { 280 ≤ length b.now }
+    requires { 424 ≤ length b.now }
     ensures { result ≡ hardware_in b.now }
 {
     Hardware {
@@ -70,7 +70,7 @@ fn flag_at(b: &[u8], at: usize) -> bool
 
 /// How far the port has come.
 fn stage_of(b: &[u8]) -> Stage
-    requires { 280 ≤ length b.now }
+    requires { 424 ≤ length b.now }
     ensures { result ≡ stage_in (slice_index b.now 33) (num b.now 34 2) }
 {
     stage_in(b[33], two_at(b, 34))
@@ -78,7 +78,7 @@ fn stage_of(b: &[u8]) -> Stage
 
 /// What the host wrote to SA.
 fn written_in(b: &[u8]) -> Option<u16>
-    requires { 280 ≤ length b.now }
+    requires { 424 ≤ length b.now }
     ensures { result ≡ optional (slice_index b.now 36) (num b.now 37 2) }
 {
     optional(b[36], two_at(b, 37))
@@ -86,7 +86,7 @@ fn written_in(b: &[u8]) -> Option<u16>
 
 /// The communication area, if there is one.
 fn rings_in(b: &[u8]) -> Option<Rings>
-    requires { 280 ≤ length b.now }
+    requires { 424 ≤ length b.now }
     ensures { result ≡ rings_if (slice_index b.now 39) (area_in b.now) }
 {
     if b[39] != 1 {
@@ -97,7 +97,7 @@ fn rings_in(b: &[u8]) -> Option<Rings>
 
 /// A task, as numbers.
 fn coded_in(b: &[u8]) -> Coded
-    requires { 280 ≤ length b.now }
+    requires { 424 ≤ length b.now }
     ensures { result ≡ coded_in b.now }
 {
     Coded {
@@ -112,7 +112,7 @@ fn coded_in(b: &[u8]) -> Coded
 
 /// What the host wrote in the first two steps.
 fn words_in(b: &[u8]) -> Words
-    requires { 280 ≤ length b.now }
+    requires { 424 ≤ length b.now }
     ensures { result ≡ words_in b.now }
 {
     Words {
@@ -139,15 +139,18 @@ fn outgoing_in(byte: u8, text: &[u8]) -> Option<Outgoing>
 
 /// The volume in the bytes of one.
 fn volume_in(b: &[u8]) -> Volume
-    requires { length b.now ≡ 13 }
+    requires { length b.now ≡ 22 }
     ensures { result ≡ volume_in b.now }
 {
     Volume {
         is_there: b[0] == 1,
         is_protected: b[1] == 1,
         is_protected_by_host: b[2] == 1,
-        changes: four_at(b, 4),
-        mounted: optional(b[8], four_at(b, 9)),
+        is_removable: b[4] == 1,
+        changes: four_at(b, 5),
+        size: four_at(b, 9),
+        media: four_at(b, 13),
+        mounted: optional(b[17], four_at(b, 18)),
         is_news: b[3] % 2 == 1,
         is_fresh: b[3] / 2 == 1,
     }
@@ -155,12 +158,12 @@ fn volume_in(b: &[u8]) -> Volume
 
 /// 16 volumes, behind one another from the first byte on.
 fn volumes_in(b: &[u8]) -> [Volume; 16]
-    requires { 208 ≤ length b.now }
-    ensures { result ≡ parts_in volume_in 13 16 b.now }
+    requires { 352 ≤ length b.now }
+    ensures { result ≡ parts_in volume_in 22 16 b.now }
 {
     let mut volumes = ArrayVec::new();
     for place in 0..16 {
-        volumes.push(volume_in(part(b, 13, place)));
+        volumes.push(volume_in(part(b, 22, place)));
     }
     let Ok(volumes) = volumes.into_inner() else {
         unreachable!();
@@ -202,14 +205,14 @@ fn is_framed(b: &[u8]) -> bool
     ensures value { result ≡ is_framed b.now }
     ensures framed { result ≡ true → IsFramed b.now }
 {
-    if b.len() < 280 {
+    if b.len() < 424 {
         return false;
     }
     let (text, buffers) = (usize::from(b[70]), usize::from(b[71]));
     four_at(b, 8) as usize == b.len()
         && text <= 48
         && buffers <= 64
-        && 280 + text + 20 * buffers <= b.len()
+        && 424 + text + 20 * buffers <= b.len()
 }
 
 /// Why no parts are read: the first fault that holds.
@@ -237,12 +240,12 @@ fn outgoing_of(b: &[u8]) -> Option<Outgoing>
     requires { IsFramed b.now }
     ensures { result ≡ outgoing_in (slice_index b.now 69) (text_in b.now) }
 {
-    outgoing_in(b[69], &b[280..][..usize::from(b[70])])
+    outgoing_in(b[69], &b[424..][..usize::from(b[70])])
 }
 
 /// The volumes.
 fn volumes_of(b: &[u8]) -> [Volume; 16]
-    requires { 280 ≤ length b.now }
+    requires { 424 ≤ length b.now }
     ensures { result ≡ volumes_in b.now }
 {
     volumes_in(&b[72..])
@@ -253,7 +256,7 @@ fn buffers_of(b: &[u8]) -> ArrayVec<Buffer, 64>
     requires { IsFramed b.now }
     ensures { result.items ≡ buffers_in b.now }
 {
-    buffers_in(&b[280 + usize::from(b[70])..], usize::from(b[71]))
+    buffers_in(&b[424 + usize::from(b[70])..], usize::from(b[71]))
 }
 
 /// The bytes of the controller.
@@ -261,7 +264,7 @@ fn controller_bytes(b: &[u8]) -> &[u8]
     requires { IsFramed b.now }
     ensures { result.now ≡ drop (controller_place b.now) b.now }
 {
-    &b[280 + usize::from(b[70]) + 20 * usize::from(b[71])..]
+    &b[424 + usize::from(b[70]) + 20 * usize::from(b[71])..]
 }
 
 /// Whether the bytes in front of the controller's are those that the port is saved as that they say.

@@ -4,7 +4,7 @@ ghost use Rattle.std.specs.Prelude.{◌≡◌, ◌+◌, ◌*◌, ◌≤◌, ◌<
 ghost use Rattle.mscp_port.specs.Common.{array_vec_len, flag_byte, AreRings, number_or_none, stage_word, restored, HasBufferRange, HasCodedRange, HasHandRange, HasStateRange, HasVolumeRange, told_byte, area_bytes, buffer_bytes, coded_bytes, counts_bytes, frame_bytes, hand_bytes, hardware_bytes, mounted_bytes, outgoing_byte, outgoing_text, rings_bytes, saved_bytes, stage_bytes, state_bytes, volume_bytes, words_bytes, written_bytes};
 
 use crate::buffers::Buffer;
-use crate::codes::{Coded, bus_byte, coded_task, stage_byte, stage_word};
+use crate::codes::{Coded, bus_byte, coded_task};
 use crate::hardware::Hardware;
 use crate::port::{Outgoing, Port, Words};
 use crate::rings::{Rings, Side};
@@ -16,7 +16,7 @@ use mscp_queue::Picker;
 
 /// The most bytes that a port is saved as: a head, 16 volumes, a text of 48 bytes, what is kept of 64 commands, and a
 /// controller.
-pub const ROOM: usize = 5272;
+pub const ROOM: usize = 5416;
 
 /// "MSCP", as a number.
 pub(super) const MAGIC: u32 = 0x5043_534D;
@@ -26,7 +26,7 @@ pub(super) const VERSION: u32 = 1;
 
 /// Appends whether something is so.
 pub(super) fn put_flag(out: &mut ArrayVec<u8, ROOM>, so: bool)
-    requires { array_vec_len out.old + 1 ≤ 5272 }
+    requires { array_vec_len out.old + 1 ≤ 5416 }
     ensures items { out.new.items ≡ out.old.items ++ (flag_byte so ∷ []) }
     ensures len { array_vec_len out.new ≡ array_vec_len out.old + 1 }
 {
@@ -47,7 +47,7 @@ pub(super) fn put_frame(out: &mut ArrayVec<u8, ROOM>, total: u32)
 
 /// Appends what kind of port it is.
 pub(super) fn put_hardware(out: &mut ArrayVec<u8, ROOM>, hardware: Hardware)
-    requires { array_vec_len out.old + 4 ≤ 5272 }
+    requires { array_vec_len out.old + 4 ≤ 5416 }
     ensures items { out.new.items ≡ out.old.items ++ hardware_bytes hardware }
     ensures len { array_vec_len out.new ≡ array_vec_len out.old + 4 }
 {
@@ -59,7 +59,7 @@ pub(super) fn put_hardware(out: &mut ArrayVec<u8, ROOM>, hardware: Hardware)
 
 /// Appends what the host wrote in the first two steps.
 pub(super) fn put_words(out: &mut ArrayVec<u8, ROOM>, words: Words)
-    requires { array_vec_len out.old + 4 ≤ 5272 }
+    requires { array_vec_len out.old + 4 ≤ 5416 }
     ensures items { out.new.items ≡ out.old.items ++ words_bytes words }
     ensures len { array_vec_len out.new ≡ array_vec_len out.old + 4 }
     ensures first { words.first < 2 ^ 16 }
@@ -71,18 +71,18 @@ pub(super) fn put_words(out: &mut ArrayVec<u8, ROOM>, words: Words)
 
 /// Appends how far the port has come.
 pub(super) fn put_stage(out: &mut ArrayVec<u8, ROOM>, stage: Stage)
-    requires { array_vec_len out.old + 3 ≤ 5272 }
+    requires { array_vec_len out.old + 3 ≤ 5416 }
     ensures items { out.new.items ≡ out.old.items ++ stage_bytes stage }
     ensures len { array_vec_len out.new ≡ array_vec_len out.old + 3 }
     ensures range { stage_word stage < 2 ^ 16 }
 {
-    out.push(stage_byte(stage));
-    put_two(out, stage_word(stage));
+    out.push(stage.number());
+    put_two(out, stage.word());
 }
 
 /// Appends what the host wrote to SA.
 pub(super) fn put_written(out: &mut ArrayVec<u8, ROOM>, written: Option<u16>)
-    requires { array_vec_len out.old + 3 ≤ 5272 }
+    requires { array_vec_len out.old + 3 ≤ 5416 }
     ensures items { out.new.items ≡ out.old.items ++ written_bytes written }
     ensures len { array_vec_len out.new ≡ array_vec_len out.old + 3 }
     ensures range { number_or_none written < 2 ^ 16 }
@@ -101,7 +101,7 @@ pub(super) fn put_written(out: &mut ArrayVec<u8, ROOM>, written: Option<u16>)
 
 /// Appends where the communication area is.
 fn put_area(out: &mut ArrayVec<u8, ROOM>, rings: Rings)
-    requires { array_vec_len out.old + 12 ≤ 5272 }
+    requires { array_vec_len out.old + 12 ≤ 5416 }
     ensures items { out.new.items ≡ out.old.items ++ area_bytes rings }
     ensures len { array_vec_len out.new ≡ array_vec_len out.old + 12 }
     ensures range { AreRings rings }
@@ -113,7 +113,7 @@ fn put_area(out: &mut ArrayVec<u8, ROOM>, rings: Rings)
 
 /// Appends the communication area, if there is one.
 pub(super) fn put_rings(out: &mut ArrayVec<u8, ROOM>, rings: Option<Rings>)
-    requires { array_vec_len out.old + 13 ≤ 5272 }
+    requires { array_vec_len out.old + 13 ≤ 5416 }
     ensures items { out.new.items ≡ out.old.items ++ rings_bytes rings }
     ensures len { array_vec_len out.new ≡ array_vec_len out.old + 13 }
     ensures range { IfSome rings (λ r. AreRings r) }
@@ -132,7 +132,7 @@ pub(super) fn put_rings(out: &mut ArrayVec<u8, ROOM>, rings: Option<Rings>)
 
 /// Appends a task, with four zeros where the format has room.
 pub(super) fn put_coded(out: &mut ArrayVec<u8, ROOM>, coded: Coded)
-    requires { array_vec_len out.old + 17 ≤ 5272 }
+    requires { array_vec_len out.old + 17 ≤ 5416 }
     ensures items { out.new.items ≡ out.old.items ++ coded_bytes coded }
     ensures len { array_vec_len out.new ≡ array_vec_len out.old + 17 }
     ensures range { HasCodedRange coded }
@@ -148,7 +148,7 @@ pub(super) fn put_coded(out: &mut ArrayVec<u8, ROOM>, coded: Coded)
 
 /// Appends how often a volume had changed when its unit was brought online, if it was.
 fn put_mounted(out: &mut ArrayVec<u8, ROOM>, mounted: Option<u32>)
-    requires { array_vec_len out.old + 5 ≤ 5272 }
+    requires { array_vec_len out.old + 5 ≤ 5416 }
     ensures items { out.new.items ≡ out.old.items ++ mounted_bytes mounted }
     ensures len { array_vec_len out.new ≡ array_vec_len out.old + 5 }
     ensures range { number_or_none mounted < 2 ^ 32 }
@@ -179,24 +179,27 @@ fn told_byte(volume: &Volume) -> u8
 
 /// Appends a volume.
 fn put_volume(out: &mut ArrayVec<u8, ROOM>, volume: Volume)
-    requires { array_vec_len out.old + 13 ≤ 5272 }
+    requires { array_vec_len out.old + 22 ≤ 5416 }
     ensures items { out.new.items ≡ out.old.items ++ volume_bytes volume }
-    ensures len { array_vec_len out.new ≡ array_vec_len out.old + 13 }
+    ensures len { array_vec_len out.new ≡ array_vec_len out.old + 22 }
     ensures range { HasVolumeRange volume }
 {
     put_flag(out, volume.is_there);
     put_flag(out, volume.is_protected);
     put_flag(out, volume.is_protected_by_host);
     out.push(told_byte(&volume));
+    put_flag(out, volume.is_removable);
     put_four(out, volume.changes);
+    put_four(out, volume.size);
+    put_four(out, volume.media);
     put_mounted(out, volume.mounted);
 }
 
 /// Appends volumes.
 pub(super) fn put_volumes(out: &mut ArrayVec<u8, ROOM>, volumes: &[Volume])
-    requires { array_vec_len out.old + 13 * length volumes.now ≤ 5272 }
+    requires { array_vec_len out.old + 22 * length volumes.now ≤ 5416 }
     ensures items { out.new.items ≡ out.old.items ++ flat_map volume_bytes volumes.now }
-    ensures len { array_vec_len out.new ≡ array_vec_len out.old + 13 * length volumes.now }
+    ensures len { array_vec_len out.new ≡ array_vec_len out.old + 22 * length volumes.now }
     ensures range { All HasVolumeRange volumes.now }
 {
     for volume in volumes {
@@ -206,7 +209,7 @@ pub(super) fn put_volumes(out: &mut ArrayVec<u8, ROOM>, volumes: &[Volume])
 
 /// Appends what is kept of a command.
 fn put_buffer(out: &mut ArrayVec<u8, ROOM>, buffer: Buffer)
-    requires { array_vec_len out.old + 20 ≤ 5272 }
+    requires { array_vec_len out.old + 20 ≤ 5416 }
     ensures items { out.new.items ≡ out.old.items ++ buffer_bytes buffer }
     ensures len { array_vec_len out.new ≡ array_vec_len out.old + 20 }
     ensures range { HasBufferRange buffer }
@@ -221,7 +224,7 @@ fn put_buffer(out: &mut ArrayVec<u8, ROOM>, buffer: Buffer)
 
 /// Appends what is kept of commands.
 pub(super) fn put_buffers(out: &mut ArrayVec<u8, ROOM>, buffers: &[Buffer])
-    requires { array_vec_len out.old + 20 * length buffers.now ≤ 5272 }
+    requires { array_vec_len out.old + 20 * length buffers.now ≤ 5416 }
     ensures items { out.new.items ≡ out.old.items ++ flat_map buffer_bytes buffers.now }
     ensures len { array_vec_len out.new ≡ array_vec_len out.old + 20 * length buffers.now }
     ensures range { All HasBufferRange buffers.now }
@@ -256,7 +259,7 @@ pub(super) fn outgoing_byte(outgoing: &Option<Outgoing>) -> u8
 impl<K: Picker> Port<K> {
     /// Appends what it counts, and whether something is so.
     fn put_counts(&self, out: &mut ArrayVec<u8, ROOM>)
-        requires { array_vec_len out.old + 7 ≤ 5272 }
+        requires { array_vec_len out.old + 7 ≤ 5416 }
         ensures items { out.new.items ≡ out.old.items ++ counts_bytes self.now }
         ensures len { array_vec_len out.new ≡ array_vec_len out.old + 7 }
     {
@@ -271,7 +274,7 @@ impl<K: Picker> Port<K> {
 
     /// Appends what kind of port it is, what it counts, and what its host has set.
     fn put_state(&self, out: &mut ArrayVec<u8, ROOM>)
-        requires { array_vec_len out.old + 21 ≤ 5272 }
+        requires { array_vec_len out.old + 21 ≤ 5416 }
         ensures items { out.new.items ≡ out.old.items ++ state_bytes self.now }
         ensures len { array_vec_len out.new ≡ array_vec_len out.old + 21 }
         ensures range { HasStateRange self.now }
@@ -286,7 +289,7 @@ impl<K: Picker> Port<K> {
 
     /// Appends how far it has come, and what it has in hand.
     fn put_hand(&self, out: &mut ArrayVec<u8, ROOM>)
-        requires { array_vec_len out.old + 39 ≤ 5272 }
+        requires { array_vec_len out.old + 39 ≤ 5416 }
         ensures items { out.new.items ≡ out.old.items ++ hand_bytes self.now }
         ensures len { array_vec_len out.new ≡ array_vec_len out.old + 39 }
         ensures range { HasHandRange self.now }
@@ -316,7 +319,7 @@ impl<K: Picker> Port<K> {
         let controller = mscp_saved::save(&self.controller, number);
         let text = text_of(&self.outgoing);
         let buffers = self.buffers.as_slice();
-        let total = 280 + text.len() + 20 * buffers.len() + controller.len();
+        let total = 424 + text.len() + 20 * buffers.len() + controller.len();
         let mut out = ArrayVec::new();
         put_frame(&mut out, total as u32);
         self.put_state(&mut out);

@@ -79,10 +79,10 @@ fn writes(kind: MoveKind) -> bool
 }
 
 /// Why a step of a transfer isn't made, if it isn't: the first that holds.
-pub(crate) fn refusal(kind: MoveKind, buffer: &Buffer, volume: &Volume) -> Option<u16>
-    ensures value { result ≡ refusal_of kind buffer.now volume.now }
+pub(crate) fn refusal(kind: MoveKind, block: u32, buffer: &Buffer, volume: &Volume) -> Option<u16>
+    ensures value { result ≡ refusal_of kind block buffer.now volume.now }
     ensures status { IfSome result (λ status. 5 ≤ status % 32) }
-    ensures moves { result ≡ None → MayMove kind volume.now }
+    ensures moves { result ≡ None → MayMove kind block volume.now }
     ensures even { result ≡ None → buffer.now.count % 2 ≡ 0 }
 {
     if !volume.is_mounted() {
@@ -95,6 +95,8 @@ pub(crate) fn refusal(kind: MoveKind, buffer: &Buffer, volume: &Volume) -> Optio
         Some(PROTECTED_BY_HOST)
     } else if writes(kind) && volume.is_protected {
         Some(PROTECTED)
+    } else if volume.size <= block {
+        Some(DRIVE_ERROR)
     } else {
         None
     }
@@ -137,10 +139,10 @@ fn task_for(upcoming: &Upcoming, buffer: &Buffer, volume: &Volume) -> Task
     if !volume.is_there || buffer.changes != volume.changes {
         return Task::Step(bad(STEP_WITHOUT_VOLUME));
     }
-    let Some((kind, _)) = move_of(upcoming) else {
+    let Some((kind, block)) = move_of(upcoming) else {
         return Task::Step(Block::Good);
     };
-    if let Some(status) = refusal(kind, buffer, volume) {
+    if let Some(status) = refusal(kind, block, buffer, volume) {
         return Task::Step(bad(status));
     }
     match buffer.part(upcoming.done) {
@@ -220,16 +222,16 @@ impl<K: Picker> Port<K> {
     }
 
     /// A step that may not go on ends its command: its volume has changed, or its buffer isn't known.
-    pub(crate) fn lost(&mut self, upcoming: &Upcoming, kind: MoveKind)
+    pub(crate) fn lost(&mut self, upcoming: &Upcoming, kind: MoveKind, block: u32)
         ensures takes { TakesBegun (K.picks self.old.controller.picker)
-            (lost_with (fault_now self.old upcoming.now kind)) self.old self.new }
+            (lost_with (fault_now self.old upcoming.now kind block)) self.old self.new }
         ensures blocks { GoesOnWithBlock self.old self.new }
         ensures frame { ChangesByService self.old self.new }
         ensures settings { self.new.controller.settings ≡ self.old.controller.settings }
         ensures buffers { (b : Kept) → Contains self.new.buffers.items b → Contains self.old.buffers.items b }
         ensures packet { in_hand self.new.task ≡ None }
     {
-        let status = match self.fault_of(upcoming, kind) {
+        let status = match self.fault_of(upcoming, kind, block) {
             Some(status) => status,
             None => DRIVE_ERROR,
         };

@@ -1,7 +1,7 @@
 // What the port wants done.
 
 ghost use Rattle.std.specs.Prelude.{◌≡◌, ◌≢◌, ◌≤◌, ◌<◌, ◌⊎◌, ◌+◌, ◌-◌, ◌*◌, ◌^◌, ℕ, true, false, length, Contains, IfSome, IsSome, min, replicate, None, Some};
-ghost use Rattle.mscp_port.specs.Common.{ChangesBySaying, little_bytes, Responses, Commands, IsInArea, end_of, slot_in, slots_of, kept_of, IsInBuffer, Wants, HasNothingToHear, HasNothingToSay, IsAlive, IsDue, IsIdleUp, IsOfBlock, IsInSomeBuffer, IsWithin, in_hand, BeginsBlock, MayMoveOn, MayMoveUnit, block_begun, is_storing, move_wanted, part_kept, part_now, KeepsSaying, Says, TakesEnd, TellsNews, credits_told, packet_of, given_back, text_of, IsWanted, Writes, clear_from, given_in};
+ghost use Rattle.mscp_port.specs.Common.{ChangesBySaying, little_bytes, Responses, Commands, IsInArea, end_of, slot_in, slots_of, kept_of, IsInBuffer, Wants, asked, asks_blocks, HasNothingToHear, HasNothingToSay, IsAlive, IsDue, IsIdleUp, IsOfBlock, IsInSomeBuffer, IsWithin, in_hand, BeginsBlock, MayMoveOn, MayMoveUnit, block_begun, is_storing, move_wanted, part_kept, part_now, KeepsSaying, Says, TakesEnd, TellsNews, credits_told, packet_of, given_back, text_of, IsWanted, Writes, clear_from, given_in};
 ghost use Rattle.arrayvec.specs.ArrayVec.{ArrayVec as Written};
 ghost use Rattle.mscp_port.specs.declared.action.Action.TheVariants as actions;
 ghost use Rattle.mscp_port.specs.declared.buffers.Buffer.{Buffer as Kept};
@@ -9,7 +9,7 @@ ghost use Rattle.mscp_port.specs.declared.stage.Stage.TheVariants as stages;
 ghost use Rattle.mscp_port.specs.declared.task.Task.TheVariants as tasks;
 ghost use Rattle.mscp_packet.specs.declared.command.MoveKind.{MoveKind as Kind};
 
-use crate::action::Action;
+use crate::action::{Action, Ask};
 use crate::buffers::{Buffer, find_buffer};
 use crate::port::Port;
 use crate::rings::{Rings, Side};
@@ -88,9 +88,30 @@ fn part_in(buffers: &[Buffer], upcoming: &Upcoming) -> Option<(u32, u32)>
 }
 
 impl<K: Picker> Port<K> {
-    /// What the port wants done next. Until it is told how that went it answers the same, unless a register is touched.
-    pub fn next(&mut self) -> Action
-        ensures wants { Wants self.old result self.new }
+    /// What the port wants done next. Until it is told how that went it answers the same, unless a register is touched. If
+    /// messages alone are asked for, a block that is in hand and wasn't moved is put aside.
+    pub fn next(&mut self, ask: Ask) -> Action
+        ensures wants { Wants (asks_blocks ask) (asked ask self.old) result self.new }
+        ensures begins { IsAlive (asked ask self.old) → (asked ask self.old).task ≡ tasks.Free
+            → IsOfBlock self.new.task → BeginsBlock (K.picks (asked ask self.old).controller.picker) self.new.task
+            (asked ask self.old) self.new }
+    {
+        self.put_aside(ask);
+        self.want(ask)
+    }
+
+    /// A block that is in hand and wasn't moved is put aside, if messages alone are asked for.
+    fn put_aside(&mut self, ask: Ask)
+        ensures { self.new ≡ asked ask self.old }
+    {
+        if let (Ask::Messages, Task::Fetch | Task::Transfer) = (ask, self.task) {
+            self.task = Task::Free;
+        }
+    }
+
+    /// What is wanted next, if nothing is to be put aside.
+    fn want(&mut self, ask: Ask) -> Action
+        ensures wants { Wants (asks_blocks ask) self.old result self.new }
         ensures begins { IsAlive self.old → self.old.task ≡ tasks.Free → IsOfBlock self.new.task
             → BeginsBlock (K.picks self.old.controller.picker) self.new.task self.old self.new }
     {
@@ -98,36 +119,37 @@ impl<K: Picker> Port<K> {
             return Action::Rest;
         }
         if let Task::Free = self.task {
-            self.task = self.choose();
+            self.task = self.choose(ask);
         }
         self.action()
     }
 
     /// What it takes in hand.
-    fn choose(&mut self) -> Task
+    fn choose(&mut self, ask: Ask) -> Task
         requires { self.old.task ≡ tasks.Free }
         ensures frame { ChangesBySaying self.old self.new }
         ensures packet { in_hand result ≡ None }
-        ensures due { IsDue self.new result }
+        ensures due { IsDue (asks_blocks ask) self.new result }
         ensures says { Says self.old self.new }
         ensures begun { (IsOfBlock result → ⊥) → self.new.controller.begun ≡ self.old.controller.begun }
         ensures settings { self.new.controller.settings ≡ self.old.controller.settings }
         ensures step { result ≡ tasks.Free → self.new.written ≡ None }
         ensures begins { IsOfBlock result
             → BeginsBlock (K.picks self.old.controller.picker) result self.old self.new }
-        ensures up { result ≡ tasks.Free → self.new.stage ≡ stages.Up → IsIdleUp self.new }
+        ensures up { result ≡ tasks.Free → self.new.stage ≡ stages.Up → IsIdleUp (asks_blocks ask) self.new }
     {
         if self.written.is_some() {
             return Task::Settle;
         }
         match self.stage {
-            Stage::Up => self.choose_work(),
+            Stage::Up => self.choose_work(ask),
             _ => Task::Free,
         }
     }
 
-    /// What it takes in hand while the rings are in use: what goes out, what comes in, and then a block.
-    fn choose_work(&mut self) -> Task
+    /// What it takes in hand while the rings are in use: what goes out, what comes in, and then a block, if not
+    /// messages alone are asked for.
+    fn choose_work(&mut self, ask: Ask) -> Task
         ensures frame { ChangesBySaying self.old self.new }
         ensures packet { in_hand result ≡ None }
         ensures goes_out { self.new.outgoing ≢ None → self.new.is_full ≡ false → result ≡ tasks.Slot Responses }
@@ -135,7 +157,8 @@ impl<K: Picker> Port<K> {
             → result ≡ tasks.Slot Commands }
         ensures block { HasNothingToSay self.new → HasNothingToHear self.new
             → (result ≡ tasks.Free) ⊎ IsOfBlock result }
-        ensures idle { result ≡ tasks.Free → IsIdleUp self.new }
+        ensures message { asks_blocks ask ≡ false → IsOfBlock result → ⊥ }
+        ensures idle { result ≡ tasks.Free → IsIdleUp (asks_blocks ask) self.new }
         ensures begins { IsOfBlock result
             → BeginsBlock (K.picks self.old.controller.picker) result self.old self.new }
         ensures looks { self.old.outgoing ≡ None → TakesEnd self.old self.new ⊎ TellsNews self.old self.new }
@@ -151,6 +174,9 @@ impl<K: Picker> Port<K> {
         }
         if self.is_polled && !self.is_stalled {
             return Task::Slot(Side::Commands);
+        }
+        if let Ask::Messages = ask {
+            return Task::Free;
         }
         self.choose_block()
     }
@@ -255,7 +281,7 @@ impl<K: Picker> Port<K> {
         let Some((upcoming, kind, block)) = self.block_begun() else {
             return Action::Pause;
         };
-        match (self.task, self.part(&upcoming, kind)) {
+        match (self.task, self.part(&upcoming, kind, block)) {
             (Task::Fetch, Some((address, count))) => Action::Fetch { address, count },
             (Task::Store, Some((address, count))) => Action::Store { address, count },
             (Task::Transfer, Some((_, count))) => Action::Transfer {
@@ -268,15 +294,15 @@ impl<K: Picker> Port<K> {
         }
     }
 
-    /// The part of a command's buffer that a step is about, which moves a block so, if the step may go on.
-    pub(crate) fn part(&self, upcoming: &Upcoming, kind: MoveKind) -> Option<(u32, u32)>
-        ensures value { result ≡ part_now self.now upcoming.now kind }
+    /// The part of a command's buffer that a step is about, which moves this block so, if the step may go on.
+    pub(crate) fn part(&self, upcoming: &Upcoming, kind: MoveKind, block: u32) -> Option<(u32, u32)>
+        ensures value { result ≡ part_now self.now upcoming.now kind block }
         ensures inside { IfSome result (λ part. IsInSomeBuffer self.now part.0 part.1) }
         ensures moves { IsSome result → is_storing self.now.task ≡ false
-            → MayMoveUnit kind upcoming.now.command.unit self.now }
+            → MayMoveUnit kind upcoming.now.command.unit block self.now }
     {
         // What was read goes to the host, even if its volume has gone since.
-        if !matches!(self.task, Task::Store) && self.fault_of(upcoming, kind).is_some() {
+        if !matches!(self.task, Task::Store) && self.fault_of(upcoming, kind, block).is_some() {
             return None;
         }
         part_in(self.buffers.as_slice(), upcoming)

@@ -1,11 +1,12 @@
 // What comes from elsewhere than the host: volumes, and time.
 
 ghost use Rattle.std.specs.Prelude.{◌≡◌, ◌↔◌, true, false, IsTrue};
-ghost use Rattle.mscp_port.specs.Common.{Changes, IsQuiet, LooksAgain, Ticks, seconds};
+ghost use Rattle.mscp_port.specs.Common.{Changes, IsQuiet, LooksAgain, PutsIn, Ticks, medium_answer, seconds, unit_found, volume_changed, volume_protected};
 
 use crate::port::Port;
 use crate::stage::Stage;
 use crate::task::Task;
+use crate::volumes::{Medium, VolumeFault};
 use mscp_queue::{Connection, Picker};
 
 /// No unit has this number. Nothing is changed.
@@ -13,28 +14,47 @@ use mscp_queue::{Connection, Picker};
 pub struct NoUnit;
 
 impl<K: Picker> Port<K> {
-    /// A volume came into a unit, which may be one that nothing is written on. One that was there before is gone.
-    pub fn volume_came(&mut self, unit: u16, is_protected: bool) -> Result<(), NoUnit>
-        ensures { Changes true is_protected unit self.old result self.new }
+    /// A volume came into a unit. One that was there before is gone.
+    pub fn volume_came(&mut self, unit: u16, medium: Medium) -> Result<(), VolumeFault>
+        ensures { PutsIn medium unit self.old result self.new }
     {
-        self.change(unit, true, is_protected)
+        self.fits(unit, &medium)?;
+        if let Some(place) = self.place_of(unit) {
+            self.volumes[place].put(medium);
+        }
+        Ok(())
+    }
+
+    /// Whether it may be put into a unit.
+    fn fits(&self, unit: u16, medium: &Medium) -> Result<(), VolumeFault>
+        ensures { result ≡ medium_answer medium.now (unit_found self.now.controller.settings.units unit) }
+    {
+        match self.controller.config().units().find(unit) {
+            None => Err(VolumeFault::NoUnit),
+            Some(unit) if 1 <= medium.size && medium.size <= unit.size() => Ok(()),
+            Some(_) => Err(VolumeFault::Size),
+        }
     }
 
     /// The volume of a unit went.
     pub fn volume_went(&mut self, unit: u16) -> Result<(), NoUnit>
-        ensures { Changes false false unit self.old result self.new }
-    {
-        self.change(unit, false, false)
-    }
-
-    /// The volume of a unit changes.
-    fn change(&mut self, unit: u16, is_there: bool, is_protected: bool) -> Result<(), NoUnit>
-        ensures { Changes is_there is_protected unit self.old result self.new }
+        ensures { Changes (volume_changed false) unit self.old result self.new }
     {
         let Some(place) = self.place_of(unit) else {
             return Err(NoUnit);
         };
-        self.volumes[place].change(is_there, is_protected);
+        self.volumes[place].change(false);
+        Ok(())
+    }
+
+    /// Nothing may be written on the volume of a unit from now on, or something may again. It stays the same volume to its host.
+    pub fn protect(&mut self, unit: u16, is_protected: bool) -> Result<(), NoUnit>
+        ensures { Changes (volume_protected is_protected) unit self.old result self.new }
+    {
+        let Some(place) = self.place_of(unit) else {
+            return Err(NoUnit);
+        };
+        self.volumes[place].is_protected = is_protected;
         Ok(())
     }
 

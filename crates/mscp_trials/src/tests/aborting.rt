@@ -8,19 +8,29 @@ use crate::tests::checks::{same, same_of};
 use mscp_controller::{Connection, Sweep};
 use std::process::Abort;
 
-/// After so many steps an ABORT of this command raises no figure, and its own alone is 0 then.
+/// The figure of this command isn't higher than it was before the other was aborted, whose own alone is 0.
+fn has_not_risen(
+    rt: &impl Abort,
+    trial: &Trial<Newest>,
+    other: u32,
+    (reference, before): (u32, u32),
+) {
+    let now = trial.controller.figure(FIRST, reference);
+    let told = (now <= before, now == 0);
+    same_of(rt, (reference, other), told, (true, reference == other));
+}
+
+/// After so many steps an ABORT of this command raises no figure.
 fn raises_no_figure(rt: &impl Abort, steps: u32, other: u32) {
     let mut trial = full(rt, Newest);
     trial.makes_steps(steps);
-    same(rt, trial.controller.waiting(FIRST), 63);
+    trial.keeps(rt, [63, 0], [0, 0]);
     let before = trial.controller.look();
-    trial.aborts(FIRST, 100, other);
-    trial.keeps([62, 0], [2, 0]);
-    trial.has_free(FIRST, 0);
+    trial.aborts(rt, FIRST, 100, other);
+    trial.keeps(rt, [62, 0], [2, 0]);
+    trial.has_free(rt, FIRST, 0);
     for (_, reference, figure) in before {
-        let now = trial.controller.figure(FIRST, reference);
-        same_of(rt, (reference, other), now <= figure, true);
-        same(rt, now == 0, reference == other);
+        has_not_risen(rt, &trial, other, (reference, figure));
     }
 }
 
@@ -35,40 +45,26 @@ fn no_abort_raises_a_figure(rt: HostRuntime) {
     }
 }
 
-/// Of two READs, of one block and of four, the sweep starts the second, which passes the first by its four blocks. Then this
-/// one is aborted, and the other has this figure.
-fn is_left(rt: &impl Abort, aborted: u32, left: (Connection, u32, u32)) {
+/// This command is in service, or none, and the most blocks by which a command was passed are so many.
+fn is_serving(
+    rt: &impl Abort,
+    trial: &Trial<Sweep>,
+    serving: Option<(Connection, u32)>,
+    passed: u32,
+) {
+    let told = (trial.controller.serving(), trial.controller.most_passed());
+    same(rt, told, (serving, passed));
+}
+
+// Of two READs, of one block and of four, the sweep starts the second, which passes the first by its four blocks.
+#[test]
+fn what_is_in_service_is_told(rt: HostRuntime) {
+    let rt = &rt;
     let mut trial = Trial::online(rt, config(rt, 4, 4), Sweep);
-    trial.queues(FIRST, &read(1, 512, 800));
-    trial.queues(FIRST, &read(2, 2048, 0));
-    trial.shows(&[(FIRST, 1, 5), (FIRST, 2, 9)]);
+    same(rt, trial.controller.config().credits(), 4);
+    trial.queues(rt, FIRST, &read(1, 512, 800));
+    trial.queues(rt, FIRST, &read(2, 2048, 0));
+    is_serving(rt, &trial, None, 0);
     trial.makes_steps(1);
-    trial.shows(&[(FIRST, 1, 4), (FIRST, 2, 3)]);
-    same(rt, trial.controller.most_passed(), 4);
-    trial.aborts(FIRST, 3, aborted);
-    trial.shows(&[left]);
-}
-
-// An abort of the one that isn't in service leaves the other's figure as it is. An abort in service takes what is left of it
-// from the first one's.
-#[test]
-fn an_abort_takes_what_is_left_of_what_was_in_front(rt: HostRuntime) {
-    is_left(&rt, 1, (FIRST, 2, 3));
-    is_left(&rt, 2, (FIRST, 1, 1));
-}
-
-// Each may be passed by one block: the second READ passes the first, and then the oldest alone may start.
-#[test]
-fn figures_fall_at_each_step(rt: HostRuntime) {
-    let mut trial = Trial::online(&rt, config(&rt, 4, 1), Sweep);
-    trial.queues(FIRST, &read(1, 512, 800));
-    trial.queues(FIRST, &read(2, 512, 40));
-    trial.queues(FIRST, &read(3, 512, 60));
-    trial.shows(&[(FIRST, 1, 2), (FIRST, 2, 3), (FIRST, 3, 4)]);
-    trial.makes_steps(1);
-    trial.shows(&[(FIRST, 1, 1), (FIRST, 3, 3)]);
-    trial.makes_steps(1);
-    trial.shows(&[(FIRST, 3, 2)]);
-    trial.makes_steps(1);
-    trial.shows(&[]);
+    is_serving(rt, &trial, Some((FIRST, 2)), 4);
 }

@@ -3,29 +3,28 @@
 use super::values::{FIRST, SECOND, command};
 use crate::tests::checks::{holds, same};
 use mscp_controller::{
-    Block, Config, Connection, Controller, NotBegun, Picker, Report, SendFault, Sent, Upcoming,
+    Block, Config, Connection, Controller, Picker, Report, SendFault, Sent, Upcoming,
 };
-use mscp_packet::{Command, End, Order, read_end, write_command};
+use mscp_packet::{Command, Order, write_command};
 use std::process::Abort;
 
-/// A controller, and who is told of a wrong answer.
+/// A controller. Who is told of a wrong answer is handed in at each call: a field of it would make each call dearer.
 #[derive(Drop)]
-pub struct Trial<'a, R, K> {
-    pub rt: &'a R,
+pub struct Trial<K> {
     pub controller: Controller<K>,
 }
 
-impl<'a, R: Abort, K: Picker> Trial<'a, R, K> {
+impl<K: Picker> Trial<K> {
     /// A new controller.
-    pub fn new(rt: &'a R, config: Config, picker: K) -> Trial<'a, R, K> {
+    pub fn new(config: Config, picker: K) -> Trial<K> {
         let controller = Controller::new(config, picker);
-        Trial { rt, controller }
+        Trial { controller }
     }
 
     /// A new controller whose unit 0 is online.
-    pub fn online(rt: &'a R, config: Config, picker: K) -> Trial<'a, R, K> {
-        let mut trial = Trial::new(rt, config, picker);
-        trial.bring_online(0);
+    pub fn online(rt: &impl Abort, config: Config, picker: K) -> Trial<K> {
+        let mut trial = Trial::new(config, picker);
+        trial.bring_online(rt, 0);
         trial
     }
 
@@ -36,55 +35,31 @@ impl<'a, R: Abort, K: Picker> Trial<'a, R, K> {
     }
 
     /// The command waits.
-    pub fn queues(&mut self, connection: Connection, command: &Command) {
+    pub fn queues(&mut self, rt: &impl Abort, connection: Connection, command: &Command) {
         let sent = self.sent(connection, command);
-        same(self.rt, sent, Ok(Sent::Queued(command.reference)));
-    }
-
-    /// The command has its end at once, and has aborted this one, or none.
-    pub fn answers(&mut self, connection: Connection, command: &Command, aborted: Option<u32>) {
-        let reference = command.reference;
-        let sent = self.sent(connection, command);
-        same(self.rt, sent, Ok(Sent::Answered { reference, aborted }));
+        same(rt, sent, Ok(Sent::Queued(command.reference)));
     }
 
     /// An ABORT of the other command finds it.
-    pub fn aborts(&mut self, connection: Connection, reference: u32, other: u32) {
-        let abort = command(reference, Order::Abort(other));
-        self.answers(connection, &abort, Some(other));
-    }
-
-    /// The command is refused.
-    pub fn refuses(&mut self, connection: Connection, command: &Command, fault: SendFault) {
-        let sent = self.sent(connection, command);
-        same(self.rt, sent, Err(fault));
-    }
-
-    /// The bytes of the oldest end that wasn't taken are these.
-    pub fn takes_bytes(&mut self, connection: Connection, wanted: &[u8]) {
-        let bytes = self.controller.take(connection).expect(self.rt, "an end");
-        same(self.rt, bytes.as_slice(), wanted);
-    }
-
-    /// The oldest end that wasn't taken is this one.
-    pub fn takes(&mut self, connection: Connection, end: End) {
-        let bytes = self.controller.take(connection).expect(self.rt, "an end");
-        same(self.rt, read_end(bytes.as_slice()), Ok(end));
+    pub fn aborts(&mut self, rt: &impl Abort, connection: Connection, reference: u32, other: u32) {
+        let sent = self.sent(connection, &command(reference, Order::Abort(other)));
+        let aborted = Some(other);
+        same(rt, sent, Ok(Sent::Answered { reference, aborted }));
     }
 
     /// Each end was taken.
-    pub fn takes_nothing(&mut self, connection: Connection) {
-        holds(self.rt, self.controller.take(connection).is_none());
+    pub fn takes_nothing(&mut self, rt: &impl Abort, connection: Connection) {
+        holds(rt, self.controller.take(connection).is_none());
     }
 
     /// This is begun, or nothing.
-    pub fn begins(&mut self, upcoming: Option<Upcoming>) {
-        same(self.rt, self.controller.begin(), upcoming);
+    pub fn begins(&mut self, rt: &impl Abort, upcoming: Option<Upcoming>) {
+        same(rt, self.controller.begin(), upcoming);
     }
 
     /// A step with this block does this.
-    pub fn steps(&mut self, block: Block, report: Report) {
-        same(self.rt, self.controller.step(block), report);
+    pub fn steps(&mut self, rt: &impl Abort, block: Block, report: Report) {
+        same(rt, self.controller.step(block), report);
     }
 
     /// So many steps with good blocks are made.
@@ -94,54 +69,33 @@ impl<'a, R: Abort, K: Picker> Trial<'a, R, K> {
         }
     }
 
-    /// A finish with this block does this, or finds that no such command is begun.
-    pub fn finishes(
-        &mut self,
-        connection: Connection,
-        reference: u32,
-        block: Block,
-        wanted: Result<Report, NotBegun>,
-    ) {
-        let report = self.controller.finish(connection, reference, block);
-        same(self.rt, report, wanted);
-    }
-
     /// So many credits are free.
-    pub fn has_free(&self, connection: Connection, credits: u32) {
-        same(self.rt, self.controller.balance(connection), credits);
+    pub fn has_free(&self, rt: &impl Abort, connection: Connection, credits: u32) {
+        same(rt, self.controller.balance(connection), credits);
     }
 
     /// The command has this figure.
-    pub fn has_figure(&self, connection: Connection, reference: u32, figure: u32) {
-        same(
-            self.rt,
-            self.controller.figure(connection, reference),
-            figure,
-        );
-    }
-
-    /// These wait, with these figures.
-    pub fn shows(&self, figures: &[(Connection, u32, u32)]) {
-        same(self.rt, self.controller.look().as_slice(), figures);
+    pub fn has_figure(&self, rt: &impl Abort, connection: Connection, reference: u32, figure: u32) {
+        same(rt, self.controller.figure(connection, reference), figure);
     }
 
     /// So many commands of each connection wait, and so many ends of each weren't taken.
-    pub fn keeps(&self, waiting: [u32; 2], untaken: [u32; 2]) {
+    pub fn keeps(&self, rt: &impl Abort, waiting: [u32; 2], untaken: [u32; 2]) {
         let controller = &self.controller;
         let waits = [controller.waiting(FIRST), controller.waiting(SECOND)];
         let ends = [controller.untaken(FIRST), controller.untaken(SECOND)];
-        same(self.rt, (waits, ends), (waiting, untaken));
+        same(rt, (waits, ends), (waiting, untaken));
     }
 
     /// Brings a unit online, and takes the end.
-    pub fn bring_online(&mut self, unit: u16) {
+    pub fn bring_online(&mut self, rt: &impl Abort, unit: u16) {
         let online = Command {
             reference: 900,
             unit,
             order: Order::Online,
         };
-        self.queues(FIRST, &online);
+        self.queues(rt, FIRST, &online);
         self.makes_steps(1);
-        holds(self.rt, self.controller.take(FIRST).is_some());
+        holds(rt, self.controller.take(FIRST).is_some());
     }
 }

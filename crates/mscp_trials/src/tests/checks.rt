@@ -27,3 +27,8 @@ pub fn holds(rt: &impl Abort, it: bool)
 {
     assert!(rt; it);
 }
+
+/// What a call gives that nothing hinders. A test that hands a fault on has a way out at each call, and is dear.
+pub fn got<T: Drop, E: Drop>(rt: &impl Abort, answer: Result<T, E>) -> T {
+    answer.ok().expect(rt, "no fault")
+}

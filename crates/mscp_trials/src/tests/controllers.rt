@@ -1,13 +1,9 @@
 // A controller in a program of one's own. docs/USING.md has this code, and that of emulator.rt.
 
 mod beginning;
-mod connections;
 mod emulator;
-mod limits;
 mod picking;
 mod runs;
-mod saved;
-mod sending;
 mod worst;
 
 use arrayvec::ArrayVec;

@@ -24,15 +24,15 @@ pub fn one_of_many(reference: u32) -> Command {
 
 /// A controller of four units that are online, to which commands 1 to 63 came. Each may be passed by three of the longest
 /// transfers.
-pub fn full<R: Abort, K: Picker>(rt: &R, picker: K) -> Trial<'_, R, K> {
+pub fn full<K: Picker>(rt: &impl Abort, picker: K) -> Trial<K> {
     let four = [unit(rt, 0), unit(rt, 1), unit(rt, 2), unit(rt, 3)];
-    let mut trial = Trial::new(rt, limits(rt, (64, 0), 24, &four), picker);
+    let mut trial = Trial::new(limits(rt, (64, 0), 24, &four), picker);
     for number in 0..4 {
-        trial.bring_online(number);
+        trial.bring_online(rt, number);
     }
     for reference in 1..64 {
-        trial.queues(FIRST, &one_of_many(reference));
+        trial.queues(rt, FIRST, &one_of_many(reference));
     }
-    trial.has_free(FIRST, 1);
+    trial.has_free(rt, FIRST, 1);
     trial
 }

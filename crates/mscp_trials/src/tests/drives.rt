@@ -1,6 +1,6 @@
 // Units of 1000 blocks, 20 of them a cylinder, and units of the largest sizes.
 
-use crate::tests::checks::{holds, same, same_of};
+use crate::tests::checks::{got, holds, same, same_of};
 use mscp_drive::{Head, Unit, UnitFault, Units, UnitsFault};
 use std::process::Abort;
 
@@ -14,11 +14,12 @@ fn usual(number: u16) -> Unit {
 
 #[test]
 fn the_numbers_of_a_unit_are_kept(rt: HostRuntime) {
+    let rt = &rt;
     let unit = usual(7);
-    same(&rt, (unit.number(), unit.size()), (7, 1000));
+    same(rt, (unit.number(), unit.size()), (7, 1000));
     let sizes = (unit.track(), unit.group(), unit.cylinder_size());
-    same(&rt, sizes, (10, 2, 1));
-    same(&rt, (unit.id(), unit.media(), unit.serial()), (1, 2, 3));
+    same(rt, sizes, (10, 2, 1));
+    same(rt, (unit.id(), unit.media(), unit.serial()), (1, 2, 3));
 }
 
 #[test]
@@ -45,17 +46,19 @@ fn a_block_has_a_cylinder(rt: HostRuntime) {
 
 #[test]
 fn the_largest_units_have_cylinders(rt: HostRuntime) {
+    let rt = &rt;
     let largest = made(0, (65535, 65535, 65535), 4294967295).unwrap_or_default();
-    same(&rt, largest.track(), 65535);
-    same(&rt, largest.cylinder(4294967295), 0);
-    same(&rt, largest.last_cylinder(), 0);
+    same(rt, largest.track(), 65535);
+    same(rt, largest.cylinder(4294967295), 0);
+    same(rt, largest.last_cylinder(), 0);
     let least = made(0, (1, 1, 1), 4294967295).unwrap_or_default();
-    same(&rt, least.last_cylinder(), 4294967294);
+    same(rt, least.last_cylinder(), 4294967294);
 }
 
 // Where 8 blocks are the longest, a transfer of so many bytes from a block on has this weight, or status.
 #[test]
 fn a_transfer_is_weighed(rt: HostRuntime) {
+    let rt = &rt;
     for (block, bytes, weight) in [
         (999, 512, Ok(1)),
         (999, 513, Err(0x0C01)),
@@ -69,18 +72,19 @@ fn a_transfer_is_weighed(rt: HostRuntime) {
         (4294967295, 0, Err(0x1C01)),
         (4294967295, 4294967295, Err(0x1C01)),
     ] {
-        same_of(&rt, (block, bytes), usual(0).check(block, bytes, 8), weight);
+        same_of(rt, (block, bytes), usual(0).check(block, bytes, 8), weight);
     }
     let largest = made(0, (1, 1, 1), 4294967295).unwrap_or_default();
     let past = largest.check(4294967294, 4294967295, 8388608);
-    same(&rt, past, Err(0x0C01));
+    same(rt, past, Err(0x0C01));
     let longest = largest.check(0, 4294967295, 8388608);
-    same(&rt, longest, Ok(8388608));
+    same(rt, longest, Ok(8388608));
 }
 
 // A READ on the cylinder to which the head goes costs so much.
 #[test]
 fn a_sweep_goes_on_to_the_end_before_it_turns(rt: HostRuntime) {
+    let rt = &rt;
     let unit = usual(0);
     for (cylinder, up, to, cost) in [
         (10, true, 5, 83),
@@ -92,20 +96,21 @@ fn a_sweep_goes_on_to_the_end_before_it_turns(rt: HostRuntime) {
         (8, false, 9, 17),
     ] {
         let head = Head { cylinder, up };
-        holds(&rt, cylinder <= unit.last_cylinder());
-        holds(&rt, to <= unit.last_cylinder());
-        same_of(&rt, (cylinder, to), head.cost(&unit, to), cost);
+        holds(rt, cylinder <= unit.last_cylinder());
+        holds(rt, to <= unit.last_cylinder());
+        same_of(rt, (cylinder, to), head.cost(&unit, to), cost);
     }
 }
 
 // A head goes so far to a cylinder, and a start there leaves it on this way.
 #[test]
 fn a_start_turns_the_head_and_a_later_block_does_not(rt: HostRuntime) {
+    let rt = &rt;
     let new = Head {
         cylinder: 0,
         up: true,
     };
-    same(&rt, Head::default(), new);
+    same(rt, Head::default(), new);
     for (cylinder, up, to, turned, far) in [
         (10, true, 30, true, 20),
         (10, true, 5, false, 5),
@@ -116,34 +121,48 @@ fn a_start_turns_the_head_and_a_later_block_does_not(rt: HostRuntime) {
     ] {
         let head = Head { cylinder, up };
         let moved = head.moved(to);
-        same_of(&rt, (to, up), (moved.cylinder, moved.up), (to, turned));
-        same_of(&rt, (to, up), head.carried(to), Head { cylinder: to, up });
-        same_of(&rt, (to, up), head.distance(to), far);
+        same_of(rt, (to, up), (moved.cylinder, moved.up), (to, turned));
+        same_of(rt, (to, up), head.carried(to), Head { cylinder: to, up });
+        same_of(rt, (to, up), head.distance(to), far);
     }
+}
+
+/// Units 0 to 15.
+fn sixteen() -> [Unit; 16] {
+    let mut most = [usual(0); 16];
+    for (unit, number) in most.iter_mut().zip(0..16u16) {
+        *unit = usual(number);
+    }
+    most
 }
 
 #[test]
 fn a_list_of_units_rises(rt: HostRuntime) {
+    let rt = &rt;
     let [a, b, c] = [usual(2), usual(5), usual(65535)];
-    same(&rt, Units::new(&[]), Err(UnitsFault::Empty));
-    same(&rt, Units::new(&[a; 16]), Err(UnitsFault::NotAscending));
-    same(&rt, Units::new(&[a; 17]), Err(UnitsFault::TooMany));
-    same(&rt, Units::new(&[a, a]), Err(UnitsFault::NotAscending));
-    same(&rt, Units::new(&[a, c, b]), Err(UnitsFault::NotAscending));
-    let most: [Unit; 16] = std::array::from_fn(|i| usual(i as u16));
-    holds(&rt, Units::new(&most).is_ok());
+    same(rt, Units::new(&[]), Err(UnitsFault::Empty));
+    same(rt, Units::new(&[a; 16]), Err(UnitsFault::NotAscending));
+    same(rt, Units::new(&[a; 17]), Err(UnitsFault::TooMany));
+    same(rt, Units::new(&[a, a]), Err(UnitsFault::NotAscending));
+    same(rt, Units::new(&[a, c, b]), Err(UnitsFault::NotAscending));
+    holds(rt, Units::new(&sixteen()).is_ok());
+}
+
+/// In a list of these units each is found by its number, and no other.
+fn are_found(rt: &impl Abort, units: &Units, list: &[Unit]) {
+    for unit in list {
+        same(rt, units.find(unit.number()), Some(unit));
+    }
+    for absent in [0, 3, 6, 65534] {
+        same_of(rt, absent, units.find(absent), None);
+    }
 }
 
 #[test]
 fn units_are_found_and_made_again(rt: HostRuntime) {
     let list = [usual(2), usual(5), usual(65535)];
-    let units = Units::new(&list).ok().expect(&rt, "the numbers rise");
+    let units = got(&rt, Units::new(&list));
     same(&rt, units.list(), list.as_slice());
-    for unit in &list {
-        same(&rt, units.find(unit.number()), Some(unit));
-    }
-    for absent in [0, 3, 6, 65534] {
-        same_of(&rt, absent, units.find(absent), None);
-    }
+    are_found(&rt, &units, &list);
     same(&rt, Units::new(units.list()), Ok(units));
 }

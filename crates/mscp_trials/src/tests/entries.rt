@@ -1,12 +1,11 @@
 // Entries that no script leads to: a report has the lines of these, too.
 
-use crate::tests::checks::{holds, same};
+use crate::tests::checks::{got, holds, same};
 use arrayvec::ArrayVec;
 use mscp_controller::{Connection, Entry, Report, SendFault, Sent};
 use mscp_packet::{End, EndBody};
 use mscp_sim::report;
 use std::process::Abort;
-use std::test::Fail;
 
 fn queued(reference: u32) -> Entry {
     Entry::Sent(Connection::First, Ok(Sent::Queued(reference)))
@@ -42,7 +41,8 @@ fn taken(rt: &impl Abort, connection: Connection, bytes: &[u8]) -> Entry {
 }
 
 #[test]
-fn entries_that_no_script_leads_to_are_reported(rt: HostRuntime) -> Result<(), Fail> {
+fn entries_that_no_script_leads_to_are_reported(rt: HostRuntime) {
+    let rt = &rt;
     let aborting = Sent::Answered {
         reference: 4_294_967_295,
         aborted: Some(4_294_967_295),
@@ -52,8 +52,8 @@ fn entries_that_no_script_leads_to_are_reported(rt: HostRuntime) -> Result<(), F
         Entry::Sent(Connection::Second, Ok(aborting)),
         served(5, None),
         served(6, Some(END)),
-        taken(&rt, Connection::First, b"\x02\0\0\0\0\0\0\0\x82\0\0\xff"),
-        taken(&rt, Connection::Second, &[0xAB; 48]),
+        taken(rt, Connection::First, b"\x02\0\0\0\0\0\0\0\x82\0\0\xff"),
+        taken(rt, Connection::Second, &[0xAB; 48]),
     ];
     let wanted = "refused long
 second answered 4294967295 aborted 4294967295
@@ -63,19 +63,21 @@ end 0200000000000000820000ff
 second end abababababababababababababababababababababababababababababababababababababababababababababababab
 steps 2 seeks 8589934590 pending 0
 ";
-    let text = report(rt.alloc(), &entries)?;
-    same(&rt, text.as_slice(), wanted.as_bytes());
-    Ok(())
+    let text = got(rt, report(rt.alloc(), &entries));
+    same(rt, text.as_slice(), wanted.as_bytes());
+}
+
+/// The report of these entries ends so.
+fn ends_with(rt: &(impl Abort + AllocGlobal), entries: &[Entry], totals: &str) {
+    let text = got(rt, report(rt.alloc(), entries));
+    holds(rt, text.ends_with(totals.as_bytes()));
 }
 
 // More ends than commands, and ends before the commands.
 #[test]
-fn what_waits_is_counted_at_the_end_alone(rt: HostRuntime) -> Result<(), Fail> {
+fn what_waits_is_counted_at_the_end_alone(rt: HostRuntime) {
     let none_left = [served(0, Some(END)), served(0, Some(END)), queued(1)];
-    let text = report(rt.alloc(), &none_left)?;
-    holds(&rt, text.ends_with(b"steps 2 seeks 8589934590 pending 0\n"));
+    ends_with(&rt, &none_left, "steps 2 seeks 8589934590 pending 0\n");
     let some_left = [served(0, Some(END)), queued(1), queued(2), queued(3)];
-    let text = report(rt.alloc(), &some_left)?;
-    holds(&rt, text.ends_with(b"steps 1 seeks 4294967295 pending 2\n"));
-    Ok(())
+    ends_with(&rt, &some_left, "steps 1 seeks 4294967295 pending 2\n");
 }

@@ -4,28 +4,49 @@
 use super::HEADER;
 use super::messages::{TABLE, message};
 use super::moments::event_of;
-use super::scripts::is_told_by_both;
+use super::scripts::{is_told_by_both, repeated};
 use super::streams::simulated;
 use super::values::config;
-use crate::tests::checks::{holds, same, same_of};
+use crate::tests::checks::{got, holds, same, same_of};
 use mscp_controller::{Block, Connection, Event, Sweep, run};
 use mscp_sim::{Heard, ShowFault, Turn, converse, read_script, report, show_packet};
 use std::fmt::Write;
 use std::process::Abort;
-use std::test::Fail;
 
 const NOTHING: &[u8] = b"steps 0 seeks 0 pending 0\n";
 
-// No events, a header alone, and a talk of no turns.
 #[test]
-fn nothing_wants_no_memory(rt: HostRuntime) -> Result<(), Fail> {
-    let entries = run(rt.alloc(), config(&rt, 4, 16), Sweep, &[])?;
-    same(&rt, entries.len(), 0);
-    same(&rt, report(rt.alloc(), &entries)?.as_slice(), NOTHING);
-    is_told_by_both(&rt, HEADER.as_bytes(), 0, NOTHING)?;
-    let talk = converse(rt.alloc(), config(&rt, 4, 16), Sweep, &[])?;
-    same(&rt, (talk.heard.len(), talk.trace.len()), (0, 0));
-    Ok(())
+fn no_events_want_no_memory(rt: HostRuntime) {
+    let rt = &rt;
+    let entries = got(rt, run(rt.alloc(), config(rt, 4, 16), Sweep, &[]));
+    same(rt, entries.len(), 0);
+    let text = got(rt, report(rt.alloc(), entries.as_slice()));
+    same(rt, text.as_slice(), NOTHING);
+}
+
+#[test]
+fn a_header_alone_wants_no_memory(rt: HostRuntime) {
+    is_told_by_both(&rt, HEADER.as_bytes(), 0, NOTHING);
+}
+
+/// A talk of these turns, which are so many, ends with what is heard in the last.
+fn is_heard(rt: &(impl Abort + AllocGlobal), turns: &[Turn], count: usize, last: Option<&Heard>) {
+    let talk = got(rt, converse(rt.alloc(), config(rt, 4, 16), Sweep, turns));
+    let counts = (talk.heard.len(), talk.trace.len());
+    same(rt, counts, (count, count));
+    same(rt, talk.heard.as_slice().last(), last);
+}
+
+#[test]
+fn no_turns_want_no_memory(rt: HostRuntime) {
+    is_heard(&rt, &[], 0, None);
+}
+
+#[test]
+fn a_talk_of_many_turns_is_heard(rt: HostRuntime) {
+    let take = Turn::Take(Connection::First);
+    let turns = got(&rt, vec![in rt.alloc(); take; 1_000_000]);
+    is_heard(&rt, turns.as_slice(), 1_000_000, Some(&Heard::Quiet));
 }
 
 /// The word of a packet shows a line that begins like this, or has this fault.
@@ -39,7 +60,7 @@ fn begins(opcode: u8, length: usize) -> Result<&'static str, ShowFault> {
     if opcode == 0x80 {
         return Ok("end ");
     }
-    for (known, _, count, _) in TABLE {
+    for (known, count) in TABLE {
         if known == opcode - 0x80 {
             return if length < count {
                 Err(ShowFault::Length)
@@ -51,30 +72,34 @@ fn begins(opcode: u8, length: usize) -> Result<&'static str, ShowFault> {
     Err(ShowFault::Code)
 }
 
-/// These bytes are shown, as digits, as a line that begins like this, or have this fault.
-fn is_shown(
-    rt: &(impl Abort + AllocGlobal),
-    bytes: &[u8],
-    wanted: Result<&str, ShowFault>,
-) -> Result<(), Fail> {
-    let word = hex::encode(rt.alloc(), bytes)?;
-    match (show_packet(rt.alloc(), word.as_str()), wanted) {
-        (Ok(line), Ok(wanted)) => holds(rt, line.starts_with(wanted.as_bytes())),
-        (Err(fault), Err(wanted)) => same_of(rt, word.as_str(), fault, wanted),
-        _ => panic!(rt; "of {word}"),
+/// How a line begins that tells a packet.
+fn beginning(line: &[u8]) -> &'static str {
+    if line.starts_with(b"command ") {
+        "command "
+    } else if line.starts_with(b"end ") {
+        "end "
+    } else {
+        "neither"
     }
-    Ok(())
+}
+
+/// These bytes are shown, as digits, as a line that begins like this, or have this fault.
+fn is_shown(rt: &(impl Abort + AllocGlobal), bytes: &[u8], wanted: Result<&str, ShowFault>) {
+    let word = got(rt, hex::encode(rt.alloc(), bytes));
+    match show_packet(rt.alloc(), word.as_str()) {
+        Ok(line) => same_of(rt, bytes, Ok(beginning(line.as_slice())), wanted),
+        Err(fault) => same_of(rt, bytes, Err(fault), wanted),
+    }
 }
 
 #[test]
-fn every_packet_is_shown_or_has_its_fault(rt: HostRuntime) -> Result<(), Fail> {
+fn every_packet_is_shown_or_has_its_fault(rt: HostRuntime) {
     for opcode in 0..=255 {
         let bytes = message(opcode, 0xFF);
         for length in 0..65 {
-            is_shown(&rt, &bytes[..length], begins(opcode, length))?;
+            is_shown(&rt, &bytes[..length], begins(opcode, length));
         }
     }
-    Ok(())
 }
 
 /// Appends a message, with a step and a take after it: as events, and as a script.
@@ -83,67 +108,76 @@ fn add_message(
     events: &mut Vec<Event>,
     script: &mut String,
     bytes: &[u8],
-) -> Result<(), Fail> {
-    events.push(event_of(rt, Connection::First, bytes))?;
-    events.push(Event::Step(Block::Good))?;
-    events.push(Event::Take(Connection::First))?;
-    let digits = hex::encode(rt.alloc(), bytes)?;
-    writeln!(script, "packet {digits}\nstep 1\ntake")?;
-    Ok(())
+) {
+    got(rt, events.push(event_of(rt, Connection::First, bytes)));
+    got(rt, events.push(Event::Step(Block::Good)));
+    got(rt, events.push(Event::Take(Connection::First)));
+    let digits = got(rt, hex::encode(rt.alloc(), bytes));
+    got(rt, writeln!(script, "packet {digits}\nstep 1\ntake"));
+}
+
+/// Appends each message of 1 to 64 bytes of this opcode, filled with one byte.
+fn add_messages(
+    rt: &(impl Abort + AllocGlobal),
+    events: &mut Vec<Event>,
+    script: &mut String,
+    (opcode, fill): (u8, u8),
+) {
+    let bytes = message(opcode, fill);
+    for length in 1..65 {
+        add_message(rt, events, script, &bytes[..length]);
+    }
 }
 
 /// Each message of 1 to 64 bytes, of each opcode and filled with zeros and with ones.
-fn all_messages(rt: &(impl Abort + AllocGlobal)) -> Result<(Vec<Event>, String), Fail> {
+fn all_messages(rt: &(impl Abort + AllocGlobal)) -> (Vec<Event>, String) {
     let mut events = Vec::new(rt.alloc());
-    let mut script = String::from_str(rt.alloc(), HEADER)?;
+    let mut script = got(rt, String::from_str(rt.alloc(), HEADER));
     for opcode in 0..=255 {
-        for fill in [0x00, 0xFF] {
-            let bytes = message(opcode, fill);
-            for length in 1..65 {
-                add_message(rt, &mut events, &mut script, &bytes[..length])?;
-            }
-        }
+        add_messages(rt, &mut events, &mut script, (opcode, 0x00));
+        add_messages(rt, &mut events, &mut script, (opcode, 0xFF));
     }
-    Ok((events, script))
+    (events, script)
 }
 
 #[test]
-fn every_message_is_run_and_reported(rt: HostRuntime) -> Result<(), Fail> {
-    let (events, script) = all_messages(&rt)?;
-    let read = read_script(rt.alloc(), script.as_bytes())?;
-    holds(&rt, read.events == events);
-    let entries = run(rt.alloc(), read.config, Sweep, &events)?;
-    same(&rt, entries.len(), 98_304);
-    let text = simulated(&rt, script.as_bytes())
-        .ok()
-        .expect(&rt, "a script");
-    holds(&rt, text == report(rt.alloc(), &entries)?);
-    holds(&rt, text.ends_with(b"steps 32768 seeks 0 pending 0\n"));
-    Ok(())
+fn every_message_is_read(rt: HostRuntime) {
+    let rt = &rt;
+    let (events, script) = all_messages(rt);
+    let read = got(rt, read_script(rt.alloc(), script.as_bytes()));
+    holds(rt, read.events == events);
 }
 
 #[test]
-fn a_talk_of_many_turns_is_heard(rt: HostRuntime) -> Result<(), Fail> {
-    let turns = vec![in rt.alloc(); Turn::Take(Connection::First); 1_000_000]?;
-    let talk = converse(rt.alloc(), config(&rt, 4, 16), Sweep, &turns)?;
-    let counts = (talk.heard.len(), talk.trace.len());
-    same(&rt, counts, (1_000_000, 1_000_000));
-    same(&rt, talk.heard.last(), Some(&Heard::Quiet));
-    Ok(())
+fn every_message_is_run_and_reported(rt: HostRuntime) {
+    let rt = &rt;
+    let (_events, script) = all_messages(rt);
+    let text = got(rt, simulated(rt, script.as_bytes()));
+    is_told_by_both(rt, script.as_bytes(), 98_304, text.as_slice());
+    holds(rt, text.ends_with(b"steps 32768 seeks 0 pending 0\n"));
 }
 
 // A READ waits, and takes one of two credits. It is polled so often that both are taken at each look.
 #[test]
-fn a_long_run_without_credits_is_run(rt: HostRuntime) -> Result<(), Fail> {
-    let header = "credits 2\npassing 2\nlongest 8\ntimeout 60\nunit 0 10 2 1 1000\ngo\n";
-    let mut script = String::from_str(rt.alloc(), header)?;
-    script.push_str("read 1 0 512 0\n")?;
-    let mut wanted = String::from_str(rt.alloc(), "queued 1\n")?;
-    for _poll in 0..10_000 {
-        script.push_str("status 3 1\nlook\ntake\n")?;
-        wanted.push_str("answered 3\nfigure 1 17\n")?;
-        wanted.push_str("end 0300000000000000820000000100000011000000\n")?;
-    }
-    wanted.push_str("steps 0 seeks 0 pending 1\n")?;
-    is_told_by_both(&rt, script.as_bytes(), 30_001, wanted.as_bytes())
+fn a_long_run_without_credits_is_run(rt: HostRuntime) {
+    let rt = &rt;
+    let before = "credits 2
+passing 2
+longest 8
+timeout 60
+unit 0 10 2 1 1000
+go
+read 1 0 512 0
+";
+    let polls = ("status 3 1\nlook\ntake\n", 10_000);
+    let answers = (
+        "answered 3
+figure 1 17
+end 0300000000000000820000000100000011000000
+",
+        10_000,
+    );
+    let script = repeated(rt, before, polls, "");
+    let wanted = repeated(rt, "queued 1\n", answers, "steps 0 seeks 0 pending 1\n");
+    is_told_by_both(rt, script.as_bytes(), 30_001, wanted.as_bytes());
 }

@@ -8,7 +8,7 @@ use super::values::{FIRST, command, config};
 use crate::Scarce;
 use crate::tests::checks::{holds, same, same_of};
 use linked_list_allocator::LocalHeap;
-use mscp_controller::{Block, Entry, Event, OutOfMemory, Sweep, run, run_in};
+use mscp_controller::{Block, Config, Entry, Event, OutOfMemory, Sweep, run, run_in};
 use mscp_host::News;
 use mscp_packet::{MoveKind, Order, write_command};
 use mscp_sim::{
@@ -18,16 +18,9 @@ use mscp_sim::{
 use std::alloc::Global;
 use std::mem::size_of;
 use std::process::Abort;
-use std::test::Fail;
 
-/// More requests than any run below makes.
+/// More requests than any call below makes.
 const MANY: u64 = 40;
-
-/// A request was refused, if this says so, and whatever was handed out came back.
-fn nothing_is_kept(rt: &impl Abort, heap: &Scarce<Global>, is_refused: bool) {
-    same(rt, heap.has_refused(), is_refused);
-    same(rt, heap.held(), 0);
-}
 
 fn sent(rt: &impl Abort, reference: u32, order: Order) -> Event {
     let message = write_command(&command(reference, order));
@@ -65,167 +58,6 @@ figure 1 5
 steps 2 seeks 0 pending 1
 ";
 
-#[test]
-fn run_is_refused_memory(rt: HostRuntime) -> Result<(), Fail> {
-    let events = passed_and_aborted(&rt);
-    for number in 1..MANY {
-        let heap = Scarce::new(rt.alloc(), number);
-        match run_in(&heap, config(&rt, 5, 8), Sweep, &events) {
-            Err(OutOfMemory) => nothing_is_kept(&rt, &heap, true),
-            Ok(entries) => {
-                let text = report(rt.alloc(), &entries)?;
-                same(&rt, text.as_slice(), PASSED_AND_ABORTED);
-                drop(entries);
-                nothing_is_kept(&rt, &heap, false);
-                same(&rt, number, 2);
-                return Ok(());
-            }
-        }
-    }
-    panic!(rt; "a run never found memory");
-}
-
-/// A thousand takes of nothing.
-fn takes(rt: &(impl Abort + AllocGlobal)) -> Vec<Event> {
-    let mut events = Vec::new(rt.alloc());
-    for _take in 0..1000 {
-        events.push(Event::Take(FIRST)).ok().expect(rt, "memory");
-    }
-    events
-}
-
-/// A heap of so many bytes.
-pub(super) fn heap_of(rt: &(impl Abort + AllocGlobal), bytes: usize) -> LocalHeap {
-    LocalHeap::new(rt.alloc(), bytes).ok().expect(rt, "memory")
-}
-
-// All of it is used, and an entry less is too little.
-#[test]
-fn the_bytes_of_the_entries_are_enough_for_a_run(rt: HostRuntime) {
-    let heap = heap_of(&rt, 1000 * size_of::<Entry>());
-    let entries = run_in(&heap, config(&rt, 4, 16), Sweep, &takes(&rt))
-        .ok()
-        .expect(&rt, "room for the entries");
-    same(&rt, entries.len(), 1000);
-    same(&rt, heap.used(), heap.size());
-    let less = heap_of(&rt, 999 * size_of::<Entry>());
-    let refused = run_in(&less, config(&rt, 4, 16), Sweep, &takes(&rt)).err();
-    same(&rt, refused, Some(OutOfMemory));
-    same(&rt, less.used(), 0);
-}
-
-#[test]
-fn report_is_refused_memory(rt: HostRuntime) -> Result<(), Fail> {
-    let events = passed_and_aborted(&rt);
-    let entries = run(rt.alloc(), config(&rt, 5, 8), Sweep, &events)?;
-    for number in 1..MANY {
-        let heap = Scarce::new(rt.alloc(), number);
-        match report_in(&heap, &entries) {
-            Err(OutOfMemory) => nothing_is_kept(&rt, &heap, true),
-            Ok(text) => {
-                same(&rt, text.as_slice(), PASSED_AND_ABORTED);
-                drop(text);
-                nothing_is_kept(&rt, &heap, false);
-                holds(&rt, number > 2);
-                return Ok(());
-            }
-        }
-    }
-    panic!(rt; "a report never found memory");
-}
-
-#[test]
-fn read_script_is_refused_memory(rt: HostRuntime) -> Result<(), Fail> {
-    let whole = read_script(rt.alloc(), SCRIPT)?;
-    for number in 1..MANY {
-        let heap = Scarce::new(rt.alloc(), number);
-        match read_script_in(&heap, SCRIPT) {
-            Err(ReadFault::OutOfMemory) => nothing_is_kept(&rt, &heap, true),
-            Err(ReadFault::Script(_)) => panic!(rt; "it has no fault"),
-            Ok(script) => {
-                same(&rt, &script.config, &config(&rt, 4, 16));
-                same(&rt, script.events.as_slice(), whole.events.as_slice());
-                same(&rt, script.events.len(), 10);
-                drop(script);
-                nothing_is_kept(&rt, &heap, false);
-                holds(&rt, number > 1);
-                return Ok(());
-            }
-        }
-    }
-    panic!(rt; "a script never found memory");
-}
-
-// The script comes by seven bytes, so its room grows often, and then the report's does.
-#[test]
-fn simulate_is_refused_memory(rt: HostRuntime) {
-    for number in 1..MANY {
-        let heap = Scarce::new(rt.alloc(), number);
-        let mut bytes = Vec::new(rt.alloc());
-        let mut reader = reading(SCRIPT, 7, NEVER);
-        let mut writer = writing(&mut bytes, 4096, NEVER);
-        let answer = simulate_in(&heap, &mut reader, &mut writer);
-        drop(writer);
-        nothing_is_kept(&rt, &heap, answer.is_err());
-        match answer {
-            Err(fault) => {
-                same(&rt, fault, SimFault::OutOfMemory);
-                same(&rt, bytes.len(), 0);
-            }
-            Ok(()) => {
-                same(&rt, bytes.as_slice(), REPORT);
-                holds(&rt, number > 10);
-                return;
-            }
-        }
-    }
-    panic!(rt; "a simulation never found memory");
-}
-
-/// The line of each kind of packet, or its fault.
-#[rattlefmt::skip]
-const SHOWN: [(&str, Result<&[u8], ShowFault>); 6] = [
-    ("0100000000000000210000000004000000000000000000000000000028000000",
-        Ok(b"command 1 unit 0 READ bytes 1024 block 40\n")),
-    ("0200000000000000820000000100000012000000",
-        Ok(b"end 2 unit 0 code 82 status 0000 of 1 figure 18\n")),
-    ("050000000000000013000000", Ok(b"command 5 unit 0 unknown opcode 19\n")),
-    ("050000000000000080000108", Ok(b"end 5 unit 0 code 80 status 0801\n")),
-    ("0500", Err(ShowFault::Short)),
-    ("0", Err(ShowFault::Hex)),
-];
-
-/// The first request that isn't made for this word, which is shown as this line, or has this fault.
-fn shown(rt: &(impl Abort + AllocGlobal), word: &str, wanted: Result<&[u8], ShowFault>) -> u64 {
-    for number in 1..MANY {
-        let heap = Scarce::new(rt.alloc(), number);
-        match show_packet_to(Vec::new(&heap), word.as_bytes()) {
-            Err(ShowFault::OutOfMemory) => nothing_is_kept(rt, &heap, true),
-            Err(fault) => {
-                same_of(rt, word, Err(fault), wanted);
-                nothing_is_kept(rt, &heap, false);
-                return number;
-            }
-            Ok(line) => {
-                same_of(rt, word, Ok(line.as_slice()), wanted);
-                drop(line);
-                nothing_is_kept(rt, &heap, false);
-                return number;
-            }
-        }
-    }
-    panic!(rt; "{word} never found memory");
-}
-
-// A fault is told without memory.
-#[test]
-fn show_packet_is_refused_memory(rt: HostRuntime) {
-    for (word, wanted) in SHOWN {
-        let number = shown(&rt, word, wanted);
-        same_of(&rt, word, number > 1, wanted.is_ok());
-    }
-}
-
 fn submit(reference: u32, order: Order) -> Turn {
     Turn::Submit(FIRST, command(reference, order))
 }
@@ -254,22 +86,214 @@ const ANSWERS: [Heard; 4] = [
     Heard::News(News::Reset),
 ];
 
-#[test]
-fn converse_is_refused_memory(rt: HostRuntime) {
-    for number in 1..MANY {
-        let heap = Scarce::new(rt.alloc(), number);
-        match converse_in(&heap, config(&rt, 4, 16), Sweep, &polled_twice()) {
-            Err(OutOfMemory) => nothing_is_kept(&rt, &heap, true),
-            Ok(talk) => {
-                same(&rt, (talk.heard.len(), talk.trace.len()), (8, 8));
-                let heard = talk.heard.as_slice().get(4..);
-                same(&rt, heard, Some(ANSWERS.as_slice()));
-                drop(talk);
-                nothing_is_kept(&rt, &heap, false);
-                same(&rt, number, 3);
-                return;
-            }
+/// The text of these entries is that of the run above.
+fn is_reported(rt: &(impl Abort + AllocGlobal), entries: &[Entry]) {
+    let text = report(rt.alloc(), entries).ok().expect(rt, "memory");
+    same(rt, text.as_slice(), PASSED_AND_ABORTED);
+}
+
+fn runs(rt: &(impl Abort + AllocGlobal), heap: &Scarce<Global>) -> bool {
+    match run_in(heap, config(rt, 5, 8), Sweep, &passed_and_aborted(rt)) {
+        Err(OutOfMemory) => false,
+        Ok(entries) => {
+            is_reported(rt, entries.as_slice());
+            true
         }
     }
-    panic!(rt; "a talk never found memory");
+}
+
+fn reports(rt: &(impl Abort + AllocGlobal), heap: &Scarce<Global>) -> bool {
+    let events = passed_and_aborted(rt);
+    let entries = run(rt.alloc(), config(rt, 5, 8), Sweep, &events);
+    match report_in(heap, entries.ok().expect(rt, "memory").as_slice()) {
+        Err(OutOfMemory) => false,
+        Ok(text) => {
+            same(rt, text.as_slice(), PASSED_AND_ABORTED);
+            true
+        }
+    }
+}
+
+/// These are the settings and the events of the first script.
+fn are_read(rt: &(impl Abort + AllocGlobal), settings: &Config, events: &[Event]) {
+    let whole = read_script(rt.alloc(), SCRIPT).ok().expect(rt, "a script");
+    same(rt, settings, &config(rt, 4, 16));
+    same(rt, events, whole.events.as_slice());
+    same(rt, events.len(), 10);
+}
+
+fn reads(rt: &(impl Abort + AllocGlobal), heap: &Scarce<Global>) -> bool {
+    match read_script_in(heap, SCRIPT) {
+        Err(ReadFault::OutOfMemory) => false,
+        Err(ReadFault::Script(_)) => panic!(rt; "it has no fault"),
+        Ok(script) => {
+            are_read(rt, &script.config, script.events.as_slice());
+            true
+        }
+    }
+}
+
+// The script comes by seven bytes, so its room grows often, and then the report's does.
+fn simulates(rt: &(impl Abort + AllocGlobal), heap: &Scarce<Global>) -> bool {
+    let mut bytes = Vec::new(rt.alloc());
+    let mut reader = reading(SCRIPT, 7, NEVER);
+    let mut writer = writing(&mut bytes, 4096, NEVER);
+    let answer = simulate_in(heap, &mut reader, &mut writer);
+    drop(writer);
+    let (wanted, written) = match answer {
+        Ok(()) => (Ok(()), REPORT),
+        Err(_) => (Err(SimFault::OutOfMemory), b"".as_slice()),
+    };
+    same(rt, answer, wanted);
+    same(rt, bytes.as_slice(), written);
+    wanted.is_ok()
+}
+
+fn talks(rt: &(impl Abort + AllocGlobal), heap: &Scarce<Global>) -> bool {
+    match converse_in(heap, config(rt, 4, 16), Sweep, &polled_twice()) {
+        Err(OutOfMemory) => false,
+        Ok(talk) => {
+            same(rt, (talk.heard.len(), talk.trace.len()), (8, 8));
+            let heard = talk.heard.as_slice().get(4..);
+            same(rt, heard, Some(ANSWERS.as_slice()));
+            true
+        }
+    }
+}
+
+/// A word is shown as this line, or has this fault.
+fn shows(
+    rt: &impl Abort,
+    heap: &Scarce<Global>,
+    word: &str,
+    wanted: Result<&[u8], ShowFault>,
+) -> bool {
+    match show_packet_to(Vec::new(heap), word.as_bytes()) {
+        Err(ShowFault::OutOfMemory) => return false,
+        Err(fault) => same_of(rt, word, Err(fault), wanted),
+        Ok(line) => same_of(rt, word, Ok(line.as_slice()), wanted),
+    }
+    true
+}
+
+/// The calls that ask for memory, but for that which shows a packet.
+#[derive(Clone, Copy)]
+enum Call {
+    Run,
+    Report,
+    ReadScript,
+    Simulate,
+    Converse,
+}
+
+/// The call gives what it promises, or tells that memory was refused.
+fn gives(rt: &(impl Abort + AllocGlobal), heap: &Scarce<Global>, call: Call) -> bool {
+    match call {
+        Call::Run => runs(rt, heap),
+        Call::Report => reports(rt, heap),
+        Call::ReadScript => reads(rt, heap),
+        Call::Simulate => simulates(rt, heap),
+        Call::Converse => talks(rt, heap),
+    }
+}
+
+/// The call was given all memory, if this says so, and whatever was handed out came back.
+fn nothing_is_kept(rt: &impl Abort, heap: &Scarce<Global>, is_given: bool) {
+    same(rt, (heap.has_refused(), heap.held()), (!is_given, 0));
+}
+
+/// The first request that isn't made.
+fn least(rt: &(impl Abort + AllocGlobal), call: Call) -> u64 {
+    for number in 1..MANY {
+        let heap = Scarce::new(rt.alloc(), number);
+        let is_given = gives(rt, &heap, call);
+        nothing_is_kept(rt, &heap, is_given);
+        if is_given {
+            return number;
+        }
+    }
+    panic!(rt; "it never found memory");
+}
+
+#[test]
+fn each_call_is_refused_memory(rt: HostRuntime) {
+    let rt = &rt;
+    same(rt, least(rt, Call::Run), 2);
+    holds(rt, least(rt, Call::Report) > 2);
+    holds(rt, least(rt, Call::ReadScript) > 1);
+    holds(rt, least(rt, Call::Simulate) > 10);
+    same(rt, least(rt, Call::Converse), 3);
+}
+
+/// A word is shown as this line, for which memory is wanted, or has this fault.
+fn is_shown(rt: &(impl Abort + AllocGlobal), word: &str, wanted: Result<&[u8], ShowFault>) {
+    for number in 1..MANY {
+        let heap = Scarce::new(rt.alloc(), number);
+        let is_given = shows(rt, &heap, word, wanted);
+        nothing_is_kept(rt, &heap, is_given);
+        if is_given {
+            same_of(rt, word, number > 1, wanted.is_ok());
+            return;
+        }
+    }
+    panic!(rt; "{word} never found memory");
+}
+
+// The line of each kind of packet, or its fault, which is told without memory.
+#[test]
+fn show_packet_is_refused_memory(rt: HostRuntime) {
+    let rt = &rt;
+    is_shown(
+        rt,
+        "0100000000000000210000000004000000000000000000000000000028000000",
+        Ok(b"command 1 unit 0 READ bytes 1024 block 40\n"),
+    );
+    is_shown(
+        rt,
+        "0200000000000000820000000100000012000000",
+        Ok(b"end 2 unit 0 code 82 status 0000 of 1 figure 18\n"),
+    );
+    let unknown = b"command 5 unit 0 unknown opcode 19\n";
+    is_shown(rt, "050000000000000013000000", Ok(unknown));
+    let end = b"end 5 unit 0 code 80 status 0801\n";
+    is_shown(rt, "050000000000000080000108", Ok(end));
+    is_shown(rt, "0500", Err(ShowFault::Short));
+    is_shown(rt, "0", Err(ShowFault::Hex));
+}
+
+/// A thousand takes of nothing.
+fn takes(rt: &(impl Abort + AllocGlobal)) -> Vec<Event> {
+    let mut events = Vec::new(rt.alloc());
+    for _take in 0..1000 {
+        events.push(Event::Take(FIRST)).ok().expect(rt, "memory");
+    }
+    events
+}
+
+/// A heap of so many bytes.
+pub(super) fn heap_of(rt: &(impl Abort + AllocGlobal), bytes: usize) -> LocalHeap {
+    LocalHeap::new(rt.alloc(), bytes).ok().expect(rt, "memory")
+}
+
+/// What a run of a thousand takes answers on a heap with just the room of so many entries, all of which it uses, or
+/// nothing.
+fn entries_within(rt: &(impl Abort + AllocGlobal), room: u16) -> usize {
+    let heap = heap_of(rt, usize::from(room) * size_of::<Entry>());
+    match run_in(&heap, config(rt, 4, 16), Sweep, &takes(rt)) {
+        Ok(entries) => {
+            same(rt, heap.used(), heap.size());
+            entries.len()
+        }
+        Err(OutOfMemory) => {
+            same(rt, heap.used(), 0);
+            0
+        }
+    }
+}
+
+#[test]
+fn the_bytes_of_the_entries_are_enough_for_a_run(rt: HostRuntime) {
+    let rt = &rt;
+    same(rt, entries_within(rt, 1000), 1000);
+    same(rt, entries_within(rt, 999), 0);
 }

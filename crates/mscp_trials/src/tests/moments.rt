@@ -1,11 +1,9 @@
 // Moments of a run: each event, and what it answers.
 
 use super::values::FIRST;
-use crate::tests::checks::same;
+use crate::tests::checks::{got, same};
 use arrayvec::ArrayVec;
-use mscp_controller::{
-    Block, Config, Connection, Entry, Event, Picker, Report, SendFault, Sent, run,
-};
+use mscp_controller::{Block, Config, Connection, Entry, Event, Picker, Report, Sent, run};
 use std::process::Abort;
 
 /// Bytes in the room of a message or an end.
@@ -41,29 +39,24 @@ impl Moments {
 
     /// Then this event comes, and answers so.
     pub fn push(&mut self, rt: &impl Abort, event: Event, entry: Entry) {
-        self.list.push((event, entry)).ok().expect(rt, "memory");
+        got(rt, self.list.push((event, entry)));
     }
 
     /// Then the first connection's host sends a message, to which this is said.
-    pub fn sends(&mut self, rt: &impl Abort, message: &[u8], sent: Result<Sent, SendFault>) {
+    fn sends(&mut self, rt: &impl Abort, message: &[u8], sent: Sent) {
         let event = event_of(rt, FIRST, message);
-        self.push(rt, event, Entry::Sent(FIRST, sent));
+        self.push(rt, event, Entry::Sent(FIRST, Ok(sent)));
     }
 
     /// Then its command waits.
     pub fn queues(&mut self, rt: &impl Abort, reference: u32, message: &[u8]) {
-        self.sends(rt, message, Ok(Sent::Queued(reference)));
+        self.sends(rt, message, Sent::Queued(reference));
     }
 
     /// Then its command has its end at once, and aborts none.
     pub fn answers(&mut self, rt: &impl Abort, reference: u32, message: &[u8]) {
         let aborted = None;
-        self.sends(rt, message, Ok(Sent::Answered { reference, aborted }));
-    }
-
-    /// Then its message is refused.
-    pub fn refuses(&mut self, rt: &impl Abort, message: &[u8], fault: SendFault) {
-        self.sends(rt, message, Err(fault));
+        self.sends(rt, message, Sent::Answered { reference, aborted });
     }
 
     /// Then it takes an end.
@@ -88,6 +81,17 @@ impl Moments {
         same(rt, trace, self.list.as_slice());
     }
 
+    /// The events, and what they answer.
+    fn split(self, rt: &(impl Abort + AllocGlobal)) -> (Vec<Event>, Vec<Entry>) {
+        let mut events = Vec::new(rt.alloc());
+        let mut entries = Vec::new(rt.alloc());
+        for (event, entry) in self.list {
+            got(rt, events.push(event));
+            got(rt, entries.push(entry));
+        }
+        (events, entries)
+    }
+
     /// A run of the events answers just so.
     pub fn are_run<K: Picker + Drop>(
         self,
@@ -95,15 +99,8 @@ impl Moments {
         config: Config,
         picker: K,
     ) {
-        let mut events = Vec::new(rt.alloc());
-        let mut entries = Vec::new(rt.alloc());
-        for (event, entry) in self.list {
-            events.push(event).ok().expect(rt, "memory");
-            entries.push(entry).ok().expect(rt, "memory");
-        }
-        let ran = run(rt.alloc(), config, picker, events.as_slice())
-            .ok()
-            .expect(rt, "memory");
+        let (events, entries) = self.split(rt);
+        let ran = got(rt, run(rt.alloc(), config, picker, events.as_slice()));
         same(rt, ran.as_slice(), entries.as_slice());
     }
 }

@@ -2,12 +2,11 @@
 
 mod worked;
 
-use super::messages::TABLE;
 use super::values::ended;
 use crate::tests::checks::{same, same_of};
 use mscp_packet::{
-    Class, Command, End, EndBody, EndFault, MoveKind, Order, PacketFault, class_of, read_command,
-    read_end, read_written_end, write_command,
+    Class, Command, End, EndBody, EndFault, MoveKind, Order, class_of, read_command, read_end,
+    read_written_end, write_command,
 };
 use std::process::Abort;
 
@@ -25,6 +24,18 @@ fn an_end_is_zero_by_default(rt: HostRuntime) {
     same(&rt, End::default(), ended(0, 0, 0, EndBody::Bare));
 }
 
+/// The end with this endcode and body, or this fault.
+fn whole(code: u8, body: Result<EndBody, EndFault>) -> Result<End, EndFault> {
+    Ok(ended(1, code, 0, body?))
+}
+
+/// The endcode and the body of so many bytes that are zeros but for the endcode.
+fn of_zeros(rt: &impl Abort, code: u8, length: usize) -> Result<(u8, EndBody), EndFault> {
+    let bytes = zeros(code);
+    let end = read_end(bytes.get(..length).expect(rt, "65 bytes"))?;
+    Ok((end.code, end.body))
+}
+
 #[test]
 fn an_end_of_another_shape_is_read_by_its_endcode(rt: HostRuntime) {
     for (code, body, wanted) in [
@@ -35,7 +46,7 @@ fn an_end_of_another_shape_is_read_by_its_endcode(rt: HostRuntime) {
         (0x21, EndBody::Moved(7), Err(EndFault::Code)),
     ] {
         let back = read_written_end(&ended(1, code, 0, body));
-        same_of(&rt, code, back, wanted.map(|body| ended(1, code, 0, body)));
+        same_of(&rt, code, back, whole(code, wanted));
     }
 }
 
@@ -86,34 +97,6 @@ fn zeros(code: u8) -> [u8; 65] {
     bytes
 }
 
-/// A command of this opcode has at least so many bytes.
-fn has_at_least(rt: &impl Abort, opcode: u8, least: usize) {
-    let bytes = zeros(opcode);
-    for length in 12..33 {
-        let refusal = match read_command(&bytes[..length]) {
-            Ok(
-                Command {
-                    order: Order::Invalid { status, .. },
-                    ..
-                },
-            ) => Ok(status),
-            Ok(_) => Ok(0),
-            Err(fault) => Err(fault),
-        };
-        let wanted = if length < least { 0x0001 } else { 0 };
-        same_of(rt, (opcode, length), refusal, Ok(wanted));
-    }
-}
-
-#[test]
-fn commands_are_judged_by_length(rt: HostRuntime) {
-    same(&rt, read_command(&[0; 11]), Err(PacketFault::Short));
-    same(&rt, read_command(&[0; 65]), Err(PacketFault::Long));
-    for (opcode, least, _, _) in TABLE {
-        has_at_least(&rt, opcode, least);
-    }
-}
-
 #[test]
 fn an_unknown_opcode_is_written_as_it_came(rt: HostRuntime) {
     let order = Order::Invalid {
@@ -130,15 +113,13 @@ fn ends_are_judged_by_length_then_endcode(rt: HostRuntime) {
     for (code, length, wanted) in [
         (0xA1, 31, Err(EndFault::Length)),
         (0x83, 47, Err(EndFault::Length)),
-        (0x83, 48, Ok(0x83)),
+        (0x83, 48, Ok((0x83, EndBody::refused(0x83)))),
         (0x21, 11, Err(EndFault::Length)),
         (0x21, 12, Err(EndFault::Code)),
         (0x21, 64, Err(EndFault::Code)),
         (0x21, 65, Err(EndFault::Length)),
     ] {
-        let bytes = zeros(code);
-        let end = read_end(bytes.get(..length).expect(&rt, "65 bytes"));
-        same_of(&rt, (code, length), end.map(|end| end.code), wanted);
+        same_of(&rt, (code, length), of_zeros(&rt, code, length), wanted);
     }
 }
 
@@ -147,14 +128,8 @@ fn refused_commands_have_the_body_that_zeros_are_read_as(rt: HostRuntime) {
     for code in [
         0x80, 0x81, 0x82, 0x83, 0x84, 0x88, 0x89, 0x8A, 0x90, 0x92, 0xA0, 0xA1, 0xA2,
     ] {
-        let bytes = zeros(code);
-        let end = read_end(bytes.get(..64).expect(&rt, "65 bytes"));
-        same_of(
-            &rt,
-            code,
-            end.map(|end| end.body),
-            Ok(EndBody::refused(code)),
-        );
+        let wanted = Ok((code, EndBody::refused(code)));
+        same_of(&rt, code, of_zeros(&rt, code, 64), wanted);
     }
     same(&rt, EndBody::refused(0x85), EndBody::Bare);
 }

@@ -71,8 +71,9 @@ fn serves(rt: &impl Abort, budget: u32, order: [u32; 4])
 // and each transfer ends in its first step.
 #[test]
 fn a_start_passes_every_earlier_command(rt: HostRuntime) {
-    serves(&rt, 0, [1, 2, 3, 4]);
-    serves(&rt, 1, [4, 1, 2, 3]);
-    serves(&rt, 2, [4, 3, 1, 2]);
-    serves(&rt, 3, [4, 3, 2, 1]);
+    let rt = &rt;
+    serves(rt, 0, [1, 2, 3, 4]);
+    serves(rt, 1, [4, 1, 2, 3]);
+    serves(rt, 2, [4, 3, 1, 2]);
+    serves(rt, 3, [4, 3, 2, 1]);
 }

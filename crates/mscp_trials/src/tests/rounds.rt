@@ -34,40 +34,44 @@ fn serving(reference: u32, lbn: u32, place: u32, from: u32) -> Report {
     served(FIRST, reference, Some(lbn), place == 0, seek, ended)
 }
 
-impl<R: Abort> Trial<'_, R, Newest> {
+impl Trial<Newest> {
     /// Serves a READ to its end, from where the head is, and answers where it is then.
-    fn serve(&mut self, reference: u32, from: u32) -> u32
+    fn serve(&mut self, rt: &impl Abort, reference: u32, from: u32) -> u32
         requires { reference ≤ 63 }
     {
         let first = first_block(reference);
         let mut head = from;
         for place in 0..BLOCKS {
-            self.steps(Block::Good, serving(reference, first + place, place, head));
+            self.steps(
+                rt,
+                Block::Good,
+                serving(reference, first + place, place, head),
+            );
             head = first + place;
         }
         head
     }
 
     /// Fills all places. A later one waits for all before it too.
-    fn fill(&mut self) {
+    fn fill(&mut self, rt: &impl Abort) {
         for number in 1..64u32 {
-            self.queues(FIRST, &read(number, 512 * BLOCKS, first_block(number)));
-            self.has_figure(FIRST, number, BLOCKS * number + BUDGET);
+            self.queues(rt, FIRST, &read(number, 512 * BLOCKS, first_block(number)));
+            self.has_figure(rt, FIRST, number, BLOCKS * number + BUDGET);
         }
     }
 
     /// Empties them, with the head here, and answers where it is then. The figure of the first is its own blocks and the
     /// budget less the blocks of those that passed it. An end of each is taken.
-    fn empty(&mut self, from: u32) -> u32 {
+    fn empty(&mut self, rt: &impl Abort, from: u32) -> u32 {
         let mut head = from;
         for passed in 0..PLACES {
-            self.has_figure(FIRST, 1, BLOCKS + BUDGET - BLOCKS * passed);
-            head = self.serve(PLACES - passed, head);
+            self.has_figure(rt, FIRST, 1, BLOCKS + BUDGET - BLOCKS * passed);
+            head = self.serve(rt, PLACES - passed, head);
         }
         for _number in 0..PLACES {
-            holds(self.rt, self.controller.take(FIRST).is_some());
+            holds(rt, self.controller.take(FIRST).is_some());
         }
-        self.takes_nothing(FIRST);
+        self.takes_nothing(rt, FIRST);
         head
     }
 }
@@ -77,7 +81,7 @@ fn sixty_three_places_are_filled_and_emptied(rt: HostRuntime) {
     let mut trial = Trial::online(&rt, config(&rt, 64, u64::from(BUDGET)), Newest);
     let mut head = 0;
     for _round in 0..100 {
-        trial.fill();
-        head = trial.empty(head);
+        trial.fill(&rt);
+        head = trial.empty(&rt, head);
     }
 }

@@ -3,7 +3,7 @@
 ghost use Rattle.std.specs.Prelude.{◌≡◌, false};
 
 use super::first::{REPORT, SCRIPT};
-use crate::tests::checks::{holds, same, same_of};
+use crate::tests::checks::{got, holds, same, same_of};
 use mscp_sim::{SimFault, Stream, simulate};
 use std::alloc::Global;
 use std::io;
@@ -85,16 +85,29 @@ pub(super) fn writing(bytes: &mut Vec<u8>, step: usize, fails_at: usize) -> Stre
     })
 }
 
+/// How a script is simulated by a reader and a writer of so many bytes a call, which fail at these calls; and what was
+/// written.
+fn simulated_by(
+    alloc: Global,
+    script: &[u8],
+    (step, fails_at): (usize, usize),
+    (taken, stops_at): (usize, usize),
+) -> (Result<(), SimFault>, Vec<u8>) {
+    let mut bytes = Vec::new(alloc);
+    let mut reader = reading(script, step, fails_at);
+    let mut writer = writing(&mut bytes, taken, stops_at);
+    let answer = simulate(alloc, &mut reader, &mut writer);
+    drop(writer);
+    (answer, bytes)
+}
+
 /// What is written of a script whose streams give and take all at once, or its fault, of which nothing is written.
 pub(super) fn simulated(
     rt: &(impl Abort + AllocGlobal),
     script: &[u8],
 ) -> Result<Vec<u8>, SimFault> {
-    let mut bytes = Vec::new(rt.alloc());
-    let mut reader = reading(script, usize::MAX, NEVER);
-    let mut writer = writing(&mut bytes, usize::MAX, NEVER);
-    let answer = simulate(rt.alloc(), &mut reader, &mut writer);
-    drop(writer);
+    let whole = (usize::MAX, NEVER);
+    let (answer, bytes) = simulated_by(rt.alloc(), script, whole, whole);
     match answer {
         Ok(()) => Ok(bytes),
         Err(fault) => {
@@ -106,32 +119,30 @@ pub(super) fn simulated(
 
 /// This is what is written of a script.
 pub(super) fn is_told(rt: &(impl Abort + AllocGlobal), script: &[u8], wanted: &[u8]) {
-    let text = simulated(rt, script).ok().expect(rt, "a script");
+    let text = got(rt, simulated(rt, script));
     holds(rt, text.as_slice() == wanted);
 }
 
-/// How the first script is simulated by a reader and a writer of so many bytes a call, which fail at these calls; and what
-/// was written.
-fn simulated_by(
-    alloc: Global,
-    (step, fails_at): (usize, usize),
-    (taken, stops_at): (usize, usize),
-) -> (Result<(), SimFault>, Vec<u8>) {
-    let mut bytes = Vec::new(alloc);
-    let mut reader = reading(SCRIPT, step, fails_at);
-    let mut writer = writing(&mut bytes, taken, stops_at);
-    let answer = simulate(alloc, &mut reader, &mut writer);
-    drop(writer);
-    (answer, bytes)
+/// By a reader and a writer of so many bytes a call, which fail at these calls, the first script is simulated so, and
+/// this is written.
+fn comes_to(
+    rt: &(impl Abort + AllocGlobal),
+    read: (usize, usize),
+    written: (usize, usize),
+    wanted: Result<(), SimFault>,
+    report: &[u8],
+) {
+    let (answer, bytes) = simulated_by(rt.alloc(), SCRIPT, read, written);
+    let row = (read, written);
+    same_of(rt, row, answer, wanted);
+    same_of(rt, row, bytes.as_slice(), report);
 }
 
 #[test]
 fn a_script_may_come_and_go_by_any_steps(rt: HostRuntime) {
     for step in [1, 2, 7, 4096] {
         for taken in [1, 2, 7, 4096] {
-            let (answer, bytes) = simulated_by(rt.alloc(), (step, NEVER), (taken, NEVER));
-            same_of(&rt, (step, taken), answer, Ok(()));
-            same_of(&rt, (step, taken), bytes.as_slice(), REPORT);
+            comes_to(&rt, (step, NEVER), (taken, NEVER), Ok(()), REPORT);
         }
     }
 }
@@ -139,23 +150,32 @@ fn a_script_may_come_and_go_by_any_steps(rt: HostRuntime) {
 // The last call is the one that gives no byte.
 #[test]
 fn a_reader_that_fails_at_any_call_is_told(rt: HostRuntime) {
+    let fault = Err(SimFault::Read);
     for step in [1, 2, 7, 4096] {
         for call in 1..=SCRIPT.len().div_ceil(step) + 1 {
-            let (answer, bytes) = simulated_by(rt.alloc(), (step, call), (4096, NEVER));
-            same_of(&rt, (step, call), answer, Err(SimFault::Read));
-            same_of(&rt, (step, call), bytes.len(), 0);
+            comes_to(&rt, (step, call), (4096, NEVER), fault, b"");
         }
     }
+}
+
+/// A writer of so many bytes a call fails at this one.
+fn fails_to_write(rt: &(impl Abort + AllocGlobal), taken: usize, call: usize) {
+    let count = call.saturating_sub(1).saturating_mul(taken);
+    let before = REPORT.get(..count).expect(rt, "so much of the report");
+    comes_to(
+        rt,
+        (4096, NEVER),
+        (taken, call),
+        Err(SimFault::Write),
+        before,
+    );
 }
 
 #[test]
 fn a_writer_that_fails_at_any_call_is_told(rt: HostRuntime) {
     for taken in [1, 2, 7, 4096] {
         for call in 1..=REPORT.len().div_ceil(taken) {
-            let (answer, bytes) = simulated_by(rt.alloc(), (4096, NEVER), (taken, call));
-            same_of(&rt, (taken, call), answer, Err(SimFault::Write));
-            let before = REPORT.get(..(call - 1) * taken);
-            same_of(&rt, (taken, call), Some(bytes.as_slice()), before);
+            fails_to_write(&rt, taken, call);
         }
     }
 }

@@ -2,7 +2,7 @@
 
 mod paired;
 
-use super::moments::{Moments, event_of};
+use super::moments::Moments;
 use super::values::*;
 use crate::tests::checks::{holds, same};
 use mscp_controller::{Block, Connection, Entry, Report, Sent, Sweep};
@@ -135,80 +135,90 @@ fn last() -> Report {
 
 #[test]
 fn an_answer_that_stands_is_reset(rt: HostRuntime) {
-    let mut told = Told::online(&rt);
-    told.queues(&rt, FIRST, two(1));
-    told.is_told(&rt, 10, News::First(18));
-    told.is_told(&rt, 11, News::Reset);
-    told.is_heard(&rt);
+    let rt = &rt;
+    let mut told = Told::online(rt);
+    told.queues(rt, FIRST, two(1));
+    told.is_told(rt, 10, News::First(18));
+    told.is_told(rt, 11, News::Reset);
+    told.is_heard(rt);
 }
 
 #[test]
 fn converse_finds_memory(rt: HostRuntime) {
-    let mut told = Told::online(&rt);
-    told.queues(&rt, FIRST, two(1));
-    told.is_told(&rt, 10, News::First(18));
-    told.steps(&rt, first(2));
-    told.is_told(&rt, 11, News::Progress(1));
-    told.steps(&rt, last());
-    told.is_told(&rt, 12, News::Ended(two_ended()));
-    told.takes(&rt, FIRST, Heard::News(News::Late));
-    told.is_heard(&rt);
+    let rt = &rt;
+    let mut told = Told::online(rt);
+    told.queues(rt, FIRST, two(1));
+    told.is_told(rt, 10, News::First(18));
+    told.steps(rt, first(2));
+    told.is_told(rt, 11, News::Progress(1));
+    told.steps(rt, last());
+    told.is_told(rt, 12, News::Ended(two_ended()));
+    told.takes(rt, FIRST, Heard::News(News::Late));
+    told.is_heard(rt);
 }
 
 #[test]
 fn a_number_used_again_is_another_command(rt: HostRuntime) {
-    let mut told = Told::online(&rt);
-    told.queues(&rt, FIRST, two(1));
-    told.steps(&rt, first(2));
-    told.steps(&rt, last());
-    told.is_told(&rt, 10, News::Ended(two_ended()));
-    told.queues(&rt, FIRST, two(1));
-    told.takes(&rt, FIRST, Heard::News(News::Late));
-    told.is_told(&rt, 11, News::First(18));
-    told.is_heard(&rt);
+    let rt = &rt;
+    let mut told = Told::online(rt);
+    told.queues(rt, FIRST, two(1));
+    told.steps(rt, first(2));
+    told.steps(rt, last());
+    told.is_told(rt, 10, News::Ended(two_ended()));
+    told.queues(rt, FIRST, two(1));
+    told.takes(rt, FIRST, Heard::News(News::Late));
+    told.is_told(rt, 11, News::First(18));
+    told.is_heard(rt);
+}
+
+/// Polls and commands of which not all reach the controller, and what is heard of them.
+fn with_some_refused(rt: &(impl Abort + AllocGlobal)) -> Told {
+    let mut told = Told::new(rt);
+    told.polls(rt, FIRST, 10, Heard::Nothing);
+    told.takes(rt, FIRST, Heard::Quiet);
+    told.queues(rt, FIRST, two(1));
+    told.polls(rt, FIRST, 10, Heard::Asked);
+    told.polls(rt, FIRST, 11, Heard::Busy);
+    told.refuses(rt, FIRST, two(1), HostFault::Doubled);
+    told.queues(rt, FIRST, two(2));
+    told.refuses(rt, FIRST, two(3), HostFault::LastCredit);
+    told.takes(rt, FIRST, Heard::News(News::First(18)));
+    told
 }
 
 #[test]
 fn says_what_never_reaches_the_controller(rt: HostRuntime) {
-    let mut told = Told::new(&rt);
-    told.polls(&rt, FIRST, 10, Heard::Nothing);
-    told.takes(&rt, FIRST, Heard::Quiet);
-    told.queues(&rt, FIRST, two(1));
-    told.polls(&rt, FIRST, 10, Heard::Asked);
-    told.polls(&rt, FIRST, 11, Heard::Busy);
-    told.refuses(&rt, FIRST, two(1), HostFault::Doubled);
-    told.queues(&rt, FIRST, two(2));
-    told.refuses(&rt, FIRST, two(3), HostFault::LastCredit);
-    told.takes(&rt, FIRST, Heard::News(News::First(18)));
-    let mut came = Moments::new(&rt);
-    came.takes_nothing(&rt, FIRST);
-    came.queues(&rt, 1, &read_message(1, 0, 1024, 40));
-    came.answers(&rt, 10, b"\x0a\0\0\0\0\0\0\0\x02\0\0\0\x01\0\0\0");
-    came.queues(&rt, 2, &read_message(2, 0, 1024, 40));
-    came.takes(&rt, b"\x0a\0\0\0\0\0\0\0\x82\0\0\0\x01\0\0\0\x12\0\0\0");
-    came.are(&rt, told.talk(&rt, 0).trace.as_slice());
+    let rt = &rt;
+    let mut came = Moments::new(rt);
+    came.takes_nothing(rt, FIRST);
+    came.queues(rt, 1, &read_message(1, 0, 1024, 40));
+    came.answers(rt, 10, b"\x0a\0\0\0\0\0\0\0\x02\0\0\0\x01\0\0\0");
+    came.queues(rt, 2, &read_message(2, 0, 1024, 40));
+    came.takes(rt, b"\x0a\0\0\0\0\0\0\0\x82\0\0\0\x01\0\0\0\x12\0\0\0");
+    came.are(rt, with_some_refused(rt).talk(rt, 0).trace.as_slice());
 }
 
-#[test]
-fn a_poll_names_the_unit_of_its_command(rt: HostRuntime) {
-    let mut told = Told::new(&rt);
+/// The host's ONLINE of unit 300 is polled.
+fn with_another_unit(rt: &(impl Abort + AllocGlobal)) -> Told {
+    let mut told = Told::new(rt);
     let online = Command {
         unit: 300,
         ..ONLINE
     };
-    told.queues(&rt, FIRST, online);
-    told.is_told(&rt, 10, News::First(17));
-    let asked = [10, 0, 0, 0, 44, 1, 0, 0, 2, 0, 0, 0, 9, 0, 0, 0];
-    let answered = Sent::Answered {
-        reference: 10,
-        aborted: None,
-    };
-    let poll = (
-        event_of(&rt, FIRST, &asked),
-        Entry::Sent(FIRST, Ok(answered)),
-    );
-    let talk = told.talk(&rt, 0);
-    holds(&rt, talk.trace.as_slice().get(1) == Some(&poll));
+    told.queues(rt, FIRST, online);
+    told.is_told(rt, 10, News::First(17));
+    told
+}
+
+// The poll and its end name unit 300. The figure of an ONLINE, which takes a step, is 1 and the budget of 16.
+#[test]
+fn a_poll_names_the_unit_of_its_command(rt: HostRuntime) {
+    let rt = &rt;
+    let mut came = Moments::new(rt);
+    came.queues(rt, 9, b"\x09\0\0\0\x2c\x01\0\0\x09\0\0\0");
+    came.answers(rt, 10, b"\x0a\0\0\0\x2c\x01\0\0\x02\0\0\0\x09\0\0\0");
+    came.takes(rt, b"\x0a\0\0\0\x2c\x01\0\0\x82\0\0\0\x09\0\0\0\x11\0\0\0");
+    came.are(rt, with_another_unit(rt).talk(rt, 0).trace.as_slice());
 }
 
 /// Command 1 is read, by both of its steps, and its end is taken.
@@ -222,11 +232,12 @@ fn is_read(rt: &impl Abort, told: &mut Told, seek: u32) {
 // The head stays on the cylinder to which the first READ brought it.
 #[test]
 fn a_long_talk_is_heard_to_its_end(rt: HostRuntime) {
-    let mut told = Told::online(&rt);
-    is_read(&rt, &mut told, 2);
+    let rt = &rt;
+    let mut told = Told::online(rt);
+    is_read(rt, &mut told, 2);
     for _round in 1..25_000 {
-        is_read(&rt, &mut told, 0);
+        is_read(rt, &mut told, 0);
     }
-    told.is_heard(&rt);
-    same(&rt, told.heard.len(), 100_003);
+    told.is_heard(rt);
+    same(rt, told.heard.len(), 100_003);
 }

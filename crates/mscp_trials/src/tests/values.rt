@@ -1,6 +1,6 @@
 // Units, configurations, commands, ends and reports that several tests are about.
 
-use mscp_controller::{Block, Config, Connection, FaultStatus, Report};
+use mscp_controller::{Config, Connection, Report};
 use mscp_drive::{Unit, Units};
 use mscp_packet::{Command, End, EndBody, MoveKind, Order};
 use std::process::Abort;
@@ -47,16 +47,6 @@ pub fn command(reference: u32, order: Order) -> Command {
 /// A READ of so many bytes of unit 0, from a block on.
 pub fn read(reference: u32, bytes: u32, block: u32) -> Command {
     command(reference, Order::Move(MoveKind::Read, bytes, block))
-}
-
-/// A GET COMMAND STATUS of the other command.
-pub fn poll(reference: u32, other: u32) -> Command {
-    command(reference, Order::Status(other))
-}
-
-/// Data Error.
-pub fn bad(rt: &impl Abort) -> Block {
-    Block::Bad(FaultStatus::new(0x000B).expect(rt, "a status"))
 }
 
 /// The end of a command to unit 0.

@@ -3,11 +3,11 @@
 mod moving;
 
 use super::*;
-use crate::tests::checks::{holds, same};
+use crate::tests::checks::{got, holds, same};
 use mscp_packet::{Command, EndBody, read_end, write_command};
 
 /// Where the host wants the data of a transfer: a place in its memory.
-#[derive(Clone, Copy, Debug, Default, PartialEq, Eq)]
+#[derive(Clone, Copy, Default)]
 struct Buffer {
     reference: u32,
     place: u32,
@@ -70,7 +70,7 @@ impl<K: Picker> Machine<K> {
 }
 
 /// What the drive is to do: one step of a command, with room for the bytes of its block.
-#[derive(Clone, Copy, Debug, PartialEq, Eq)]
+#[derive(Clone, Copy)]
 struct Job {
     upcoming: Upcoming,
     bytes: [u8; 512],
@@ -90,6 +90,13 @@ fn part<'a>(memory: &'a mut [u8], place: u32, upcoming: &Upcoming) -> &'a mut [u
     &mut memory[start..end]
 }
 
+/// Copies as many bytes as both have.
+fn copy(from: &[u8], into: &mut [u8]) {
+    for (to, byte) in into.iter_mut().zip(from.iter()) {
+        *to = *byte;
+    }
+}
+
 /// Data Error: the file hasn't the block, or can't give it.
 fn data_error() -> Block {
     let Some(status) = FaultStatus::new(8) else {
@@ -105,10 +112,7 @@ impl<K: Picker> Machine<K> {
         let mut bytes = [0; 512];
         if let Order::Move(MoveKind::Write, ..) = upcoming.command.order {
             let place = self.place_of(upcoming.command.reference);
-            let from = part(&mut self.memory, place, &upcoming);
-            for (to, byte) in bytes.iter_mut().zip(from.iter()) {
-                *to = *byte;
-            }
+            copy(part(&mut self.memory, place, &upcoming), &mut bytes);
         }
         Some(Job { upcoming, bytes })
     }
@@ -135,6 +139,12 @@ impl<K: Picker> Machine<K> {
         Block::Good
     }
 
+    /// The bytes of a READ go to the host's memory.
+    fn fill(&mut self, job: &Job) {
+        let place = self.place_of(job.upcoming.command.reference);
+        copy(&job.bytes, part(&mut self.memory, place, &job.upcoming));
+    }
+
     /// The drive is through with the work, and the block had this outcome. A READ fills the host's memory, unless the
     /// command was aborted in the meantime.
     fn finish(&mut self, job: &Job, block: Block) -> Result<Report, NotBegun> {
@@ -144,11 +154,7 @@ impl<K: Picker> Machine<K> {
             .finish(Connection::First, command.reference, block)?;
         let read = matches!(command.order, Order::Move(MoveKind::Read, ..));
         if read && block == Block::Good && job.upcoming.lbn.is_some() {
-            let place = self.place_of(command.reference);
-            let into = part(&mut self.memory, place, &job.upcoming);
-            for (to, byte) in into.iter_mut().zip(job.bytes.iter()) {
-                *to = *byte;
-            }
+            self.fill(job);
         }
         if let Report::Served { ended: Some(_), .. } = report {
             self.forget(command.reference);
@@ -194,6 +200,33 @@ fn message(reference: u32, order: Order) -> ArrayVec<u8, 48> {
     })
 }
 
+impl<K: Picker> Machine<K> {
+    /// This is said to a message.
+    fn says(&mut self, rt: &impl Abort, message: &[u8], wanted: Result<(), SendFault>) {
+        same(rt, self.on_message(message), wanted);
+    }
+
+    /// A message comes that is not refused.
+    fn gets(&mut self, rt: &impl Abort, message: &[u8]) {
+        self.says(rt, message, Ok(()));
+    }
+
+    /// The oldest end that wasn't taken is this one.
+    fn ends(&mut self, rt: &impl Abort, reference: u32, status: u16, body: EndBody) {
+        let bytes = self.controller.take(Connection::First);
+        let bytes = bytes.expect(rt, "an end");
+        let end = got(rt, read_end(bytes.as_slice()));
+        let told = (end.reference, end.status, end.body);
+        same(rt, told, (reference, status, body));
+    }
+
+    /// No end is left, and no buffer.
+    fn has_nothing(&mut self, rt: &impl Abort) {
+        holds(rt, self.controller.take(Connection::First).is_none());
+        holds(rt, self.buffers.is_empty());
+    }
+}
+
 /// A machine whose unit is online. Its memory is full of sevens.
 fn online_machine<K: Picker>(rt: &impl Abort, picker: K) -> Machine<K> {
     let mut machine = Machine {
@@ -203,7 +236,7 @@ fn online_machine<K: Picker>(rt: &impl Abort, picker: K) -> Machine<K> {
         disk: [[0; 512]; 64],
     };
     let online = message(900, Order::Online);
-    same(rt, machine.on_message(online.as_slice()), Ok(()));
+    machine.gets(rt, online.as_slice());
     holds(rt, machine.on_turn().is_some());
     holds(rt, machine.controller.take(Connection::First).is_some());
     holds(rt, machine.on_turn().is_none());
@@ -225,34 +258,26 @@ fn transfer(opcode: u8, reference: u8, bytes: u16, block: u8, place: u16) -> [u8
     message
 }
 
-/// Reference number, status and body of the oldest end that wasn't taken.
-fn end<K: Picker>(rt: &impl Abort, machine: &mut Machine<K>) -> (u32, u16, EndBody) {
-    let bytes = machine
-        .controller
-        .take(Connection::First)
-        .expect(rt, "an end");
-    let end = read_end(bytes.as_slice()).ok().expect(rt, "an end's bytes");
-    (end.reference, end.status, end.body)
-}
-
 /// The bytes are all this one.
 fn are_all(bytes: &[u8], byte: u8) -> bool {
-    bytes.iter().all(|other| *other == byte)
+    for other in bytes {
+        if *other != byte {
+            return false;
+        }
+    }
+    true
 }
 
 #[test]
 fn what_was_aborted_meanwhile_leaves_the_memory_alone(rt: HostRuntime) {
     let mut machine = online_machine(&rt, Oldest);
-    let read = transfer(33, 1, 512, 40, 0);
-    same(&rt, machine.on_message(&read), Ok(()));
+    machine.gets(&rt, &transfer(33, 1, 512, 40, 0));
     let mut job = machine.begin().expect(&rt, "the READ");
-    let abort = message(2, Order::Abort(1));
-    same(&rt, machine.on_message(abort.as_slice()), Ok(()));
+    machine.gets(&rt, message(2, Order::Abort(1)).as_slice());
     let block = machine.work(&mut job);
     same(&rt, machine.finish(&job, block), Err(NotBegun));
     holds(&rt, are_all(&machine.memory, 7));
-    same(&rt, end(&rt, &mut machine), (1, 0x0002, EndBody::Moved(0)));
-    same(&rt, end(&rt, &mut machine), (2, 0, EndBody::Abort(1)));
-    holds(&rt, machine.controller.take(Connection::First).is_none());
-    holds(&rt, machine.buffers.is_empty());
+    machine.ends(&rt, 1, 0x0002, EndBody::Moved(0));
+    machine.ends(&rt, 2, 0, EndBody::Abort(1));
+    machine.has_nothing(&rt);
 }

@@ -36,7 +36,13 @@ fn config(rt: &impl Abort, (credits, second, budget, longest): Limits) -> Config
 // ---- a whole trace
 
 /// A step of a command of unit 3.
-fn served(reference: u32, lbn: Option<u32>, started: bool, seek: u32, end: Option<End>) -> Report {
+fn served(
+    reference: u32,
+    lbn: Option<u32>,
+    started: bool,
+    seek: u32,
+    ended: Option<End>,
+) -> Report {
     Report::Served {
         connection: FIRST,
         reference,
@@ -44,8 +50,13 @@ fn served(reference: u32, lbn: Option<u32>, started: bool, seek: u32, end: Optio
         lbn,
         started,
         seek,
-        ended: end.map(|end| End { unit: 3, ..end }),
+        ended,
     }
+}
+
+/// The same end, of unit 3.
+fn of_unit_3(end: End) -> End {
+    End { unit: 3, ..end }
 }
 
 /// ONLINE 2 of unit 3 comes, is served, and its end is taken.
@@ -57,7 +68,8 @@ fn comes_online(rt: &impl Abort, moments: &mut Moments) {
         size: 2,
         serial: 1,
     };
-    let report = served(2, None, true, 0, Some(ended(2, 0x89, 0, body)));
+    let end = of_unit_3(ended(2, 0x89, 0, body));
+    let report = served(2, None, true, 0, Some(end));
     moments.steps(rt, Block::Good, report);
     let mut end = padded::<44>(&[2, 0, 0, 0, 3, 0, 0, 0, 0x89]);
     end[20] = 1;
@@ -88,7 +100,7 @@ fn ends(
     seek: u32,
 ) {
     let number = u32::from(reference);
-    let end = read_ended(number, 0, u32::from(bytes));
+    let end = of_unit_3(read_ended(number, 0, u32::from(bytes)));
     let report = served(number, Some(block), started, seek, Some(end));
     moments.steps(rt, Block::Good, report);
     let mut bytes = read_message(reference, 3, bytes, 0);
@@ -102,23 +114,30 @@ fn passes(rt: &impl Abort, moments: &mut Moments) {
     ends(rt, moments, (2, 512), 1, true, 0);
 }
 
+/// READ 0 comes, and READ 1, and the first is served.
+fn comes_behind(rt: &impl Abort, moments: &mut Moments) {
+    reads(rt, moments, 0, 1023, 0);
+    reads(rt, moments, 1, 1023, 0);
+    starts(rt, moments, 0, 0, 0);
+    ends(rt, moments, (0, 1023), 1, false, 1);
+}
+
 // Three credits, transfers of at most 2 blocks, and a budget of one such pass, 2 blocks: command 1, which is sent last of
 // the two that may wait, ends at the sixth step after it.
 #[test]
 fn worst_finds_memory(rt: HostRuntime) {
-    let mut wanted = Moments::new(&rt);
-    comes_online(&rt, &mut wanted);
-    reads(&rt, &mut wanted, 0, 1023, 0);
-    reads(&rt, &mut wanted, 1, 1023, 0);
-    starts(&rt, &mut wanted, 0, 0, 0);
-    ends(&rt, &mut wanted, (0, 1023), 1, false, 1);
-    passes(&rt, &mut wanted);
-    passes(&rt, &mut wanted);
-    starts(&rt, &mut wanted, 1, 0, 1);
-    let end = read_ended(1, 0, 1023);
-    wanted.steps(&rt, Block::Good, served(1, Some(1), false, 1, Some(end)));
-    let config = config(&rt, (3, 0, 2, 2));
-    wanted.are(&rt, trace_of(&rt, &config).as_slice());
+    let rt = &rt;
+    let mut wanted = Moments::new(rt);
+    comes_online(rt, &mut wanted);
+    comes_behind(rt, &mut wanted);
+    passes(rt, &mut wanted);
+    passes(rt, &mut wanted);
+    starts(rt, &mut wanted, 1, 0, 1);
+    let end = of_unit_3(read_ended(1, 0, 1023));
+    let last = served(1, Some(1), false, 1, Some(end));
+    wanted.steps(rt, Block::Good, last);
+    let config = config(rt, (3, 0, 2, 2));
+    wanted.are(rt, trace_of(rt, &config).as_slice());
 }
 
 /// The trace of unit 3.
@@ -155,22 +174,29 @@ impl Picker for ByName {
 
 /// How many steps there are behind so many moments.
 fn steps_behind(trace: &[(Event, Entry)], moments: usize) -> usize {
-    trace
-        .iter()
-        .skip(moments)
-        .filter(|moment| matches!(moment.0, Event::Step(_)))
-        .count()
+    let mut steps: usize = 0;
+    for (event, _) in trace.iter().skip(moments) {
+        if let Event::Step(_) = event {
+            steps = steps.saturating_add(1);
+        }
+    }
+    steps
 }
 
-/// The reference number of the command that a moment ends by a step, if it does.
-fn ended_by(moment: &(Event, Entry)) -> Option<u32> {
-    match &moment.1 {
-        Entry::Stepped(
-            Report::Served {
-                reference,
-                ended: Some(_),
-                ..
-            },
+/// The reference number of the command that the last moment ends by a step, if it does.
+fn ended_last(trace: &[(Event, Entry)]) -> Option<u32> {
+    match trace.last() {
+        Some(
+            (
+                _,
+                Entry::Stepped(
+                    Report::Served {
+                        reference,
+                        ended: Some(_),
+                        ..
+                    },
+                ),
+            ),
         ) => Some(*reference),
         _ => None,
     }
@@ -180,8 +206,11 @@ fn ended_by(moment: &(Event, Entry)) -> Option<u32> {
 /// arrival, and `run` gives the same.
 fn is_run(rt: &(impl Abort + AllocGlobal), limits: Limits, room: u32, bound: usize) {
     let trace = trace_of(rt, &config(rt, limits));
-    let last = trace.last().and_then(ended_by);
-    same(rt, last, Some(room.saturating_sub(1)));
+    same(
+        rt,
+        ended_last(trace.as_slice()),
+        Some(room.saturating_sub(1)),
+    );
     let came = (room as usize).saturating_add(3);
     same(rt, steps_behind(trace.as_slice(), came), bound);
     let picker = ByName {
@@ -194,16 +223,17 @@ fn is_run(rt: &(impl Abort + AllocGlobal), limits: Limits, room: u32, bound: usi
 // With no budget and with one that isn't a whole number of passes, over one connection and over both.
 #[test]
 fn a_picker_by_name_runs_it(rt: HostRuntime) {
-    is_run(&rt, (3, 0, 0, 1), 2, 2);
-    is_run(&rt, (3, 0, 2, 2), 2, 6);
-    is_run(&rt, (3, 0, 7, 2), 2, 11);
-    is_run(&rt, (2, 2, 0, 1), 2, 2);
-    is_run(&rt, (2, 2, 5, 3), 2, 11);
-    is_run(&rt, (4, 0, 9, 8), 3, 33);
-    is_run(&rt, (3, 4, 10, 4), 5, 30);
-    is_run(&rt, (2, 62, 3, 1), 62, 65);
-    is_run(&rt, (62, 2, 3, 2), 62, 127);
-    is_run(&rt, (64, 0, 3, 2), 63, 129);
+    let rt = &rt;
+    is_run(rt, (3, 0, 0, 1), 2, 2);
+    is_run(rt, (3, 0, 2, 2), 2, 6);
+    is_run(rt, (3, 0, 7, 2), 2, 11);
+    is_run(rt, (2, 2, 0, 1), 2, 2);
+    is_run(rt, (2, 2, 5, 3), 2, 11);
+    is_run(rt, (4, 0, 9, 8), 3, 33);
+    is_run(rt, (3, 4, 10, 4), 5, 30);
+    is_run(rt, (2, 62, 3, 1), 62, 65);
+    is_run(rt, (62, 2, 3, 2), 62, 127);
+    is_run(rt, (64, 0, 3, 2), 63, 129);
 }
 
 /// Whether a trace of this unit is given.
@@ -251,24 +281,32 @@ fn room_for(rt: &(impl Abort + AllocGlobal), moments: u16) -> LocalHeap {
     heap_of(rt, usize::from(moments) * size_of::<(Event, Entry)>())
 }
 
-/// A heap that has just the bytes of so many moments is enough, all of it is used, and no less serve.
-fn asks_for(rt: &(impl Abort + AllocGlobal), limits: Limits, moments: u16) {
+/// How many moments a trace has on a heap that has just the bytes of so many, all of which it uses; or none, and then
+/// it uses nothing.
+fn trace_within(rt: &(impl Abort + AllocGlobal), limits: Limits, moments: u16) -> usize {
     let heap = room_for(rt, moments);
-    let trace = worst_in(&heap, &config(rt, limits), 3)
-        .ok()
-        .expect(rt, "room for the moments")
-        .expect(rt, "another command can pass");
-    same(rt, trace.len(), usize::from(moments));
-    same(rt, heap.used(), heap.size());
-    let less = room_for(rt, moments.saturating_sub(1));
-    let refused = worst_in(&less, &config(rt, limits), 3).err();
-    same(rt, refused, Some(OutOfMemory));
-    same(rt, less.used(), 0);
+    match worst_in(&heap, &config(rt, limits), 3) {
+        Ok(trace) => {
+            same(rt, heap.used(), heap.size());
+            trace.expect(rt, "another command can pass").len()
+        }
+        Err(OutOfMemory) => {
+            same(rt, heap.used(), 0);
+            0
+        }
+    }
+}
+
+/// A heap that has just the bytes of so many moments is enough, and no less serves.
+fn asks_for(rt: &(impl Abort + AllocGlobal), limits: Limits, moments: u16) {
+    same(rt, trace_within(rt, limits, moments), usize::from(moments));
+    same(rt, trace_within(rt, limits, moments.saturating_sub(1)), 0);
 }
 
 #[test]
 fn worst_asks_for_the_trace_alone(rt: HostRuntime) {
-    asks_for(&rt, (3, 0, 2, 2), 16);
-    asks_for(&rt, (2, 2, 1000, 3), 3012);
-    asks_for(&rt, (64, 0, 10, 5), 473);
+    let rt = &rt;
+    asks_for(rt, (3, 0, 2, 2), 16);
+    asks_for(rt, (2, 2, 1000, 3), 3012);
+    asks_for(rt, (64, 0, 10, 5), 473);
 }

@@ -110,13 +110,14 @@ fn gets(rt: &impl Abort, driver: &mut Driver, end: End, wanted: Deed) {
 
 #[test]
 fn a_driver_waits_while_the_figure_falls(rt: HostRuntime) {
-    let mut driver = reading(&rt);
-    polls(&rt, &mut driver, 2);
-    gets(&rt, &mut driver, answer(2, 1, 18), Deed::Wait);
-    polls(&rt, &mut driver, 3);
-    gets(&rt, &mut driver, answer(3, 1, 1), Deed::Wait);
-    gets(&rt, &mut driver, read_end(1), Deed::Complete(read_end(1)));
-    times_out(&rt, &mut driver, Deed::Wait);
+    let rt = &rt;
+    let mut driver = reading(rt);
+    polls(rt, &mut driver, 2);
+    gets(rt, &mut driver, answer(2, 1, 18), Deed::Wait);
+    polls(rt, &mut driver, 3);
+    gets(rt, &mut driver, answer(3, 1, 1), Deed::Wait);
+    gets(rt, &mut driver, read_end(1), Deed::Complete(read_end(1)));
+    times_out(rt, &mut driver, Deed::Wait);
 }
 
 /// Of a READ the figure 18 was told, and then comes this answer: the driver resynchronises.
@@ -131,10 +132,11 @@ fn resynchronises(rt: &impl Abort, told: End) {
 // Its figure stands, it has forgotten the command, it answers for another one, or it doesn't answer.
 #[test]
 fn a_driver_resynchronises_where_the_controller_stands(rt: HostRuntime) {
-    resynchronises(&rt, answer(3, 1, 18));
-    resynchronises(&rt, answer(3, 1, 0));
-    resynchronises(&rt, answer(3, 7, 5));
-    let mut silent = reading(&rt);
-    polls(&rt, &mut silent, 2);
-    times_out(&rt, &mut silent, Deed::Resynchronise);
+    let rt = &rt;
+    resynchronises(rt, answer(3, 1, 18));
+    resynchronises(rt, answer(3, 1, 0));
+    resynchronises(rt, answer(3, 7, 5));
+    let mut silent = reading(rt);
+    polls(rt, &mut silent, 2);
+    times_out(rt, &mut silent, Deed::Resynchronise);
 }

@@ -48,25 +48,27 @@ fn second_is_served(rt: &impl Abort, told: &mut Told) {
 // A step lies between any two polls of one command.
 #[test]
 fn each_host_has_its_own_commands(rt: HostRuntime) {
-    let mut told = Told::online(&rt);
-    told.queues(&rt, FIRST, two_at(40));
-    told.queues(&rt, SECOND, two_at(60));
-    both_poll(&rt, &mut told, 10, News::First(18), News::First(20));
-    told.steps(&rt, first(2));
-    both_poll(&rt, &mut told, 11, News::Progress(1), News::Progress(19));
-    first_aborts(&rt, &mut told);
-    second_is_served(&rt, &mut told);
-    let _talk = told.talk(&rt, 4);
+    let rt = &rt;
+    let mut told = Told::online(rt);
+    told.queues(rt, FIRST, two_at(40));
+    told.queues(rt, SECOND, two_at(60));
+    both_poll(rt, &mut told, 10, News::First(18), News::First(20));
+    told.steps(rt, first(2));
+    both_poll(rt, &mut told, 11, News::Progress(1), News::Progress(19));
+    first_aborts(rt, &mut told);
+    second_is_served(rt, &mut told);
+    let _talk = told.talk(rt, 4);
 }
 
 // A host that has no connection has no credit, nothing to poll, and no end. Its take comes to the controller.
 #[test]
 fn an_absent_host_sends_nothing(rt: HostRuntime) {
-    let mut told = Told::new(&rt);
-    told.refuses(&rt, SECOND, two_at(40), HostFault::NoCredit);
-    told.polls(&rt, SECOND, 10, Heard::Nothing);
-    told.takes(&rt, SECOND, Heard::Quiet);
-    let mut came = Moments::new(&rt);
-    came.takes_nothing(&rt, SECOND);
-    came.are(&rt, told.talk(&rt, 0).trace.as_slice());
+    let rt = &rt;
+    let mut told = Told::new(rt);
+    told.refuses(rt, SECOND, two_at(40), HostFault::NoCredit);
+    told.polls(rt, SECOND, 10, Heard::Nothing);
+    told.takes(rt, SECOND, Heard::Quiet);
+    let mut came = Moments::new(rt);
+    came.takes_nothing(rt, SECOND);
+    came.are(rt, told.talk(rt, 0).trace.as_slice());
 }

@@ -1,9 +1,14 @@
-use Rattle.mscp_port.proofs.Common.{◌≡◌, ◌∙◌, ap, sym, subst, arith, Ok, false≢true, Holdings, fresh, IsSound, held_in, unless}
+use Rattle.mscp_port.proofs.Common.{◌≡◌, ◌∙◌, ◌<◌, ◌-◌, IsOk, First, balance_of, ap, sym, subst, arith, Ok, false≢true, Holdings, fresh, IsSound, held_in, unless}
 use Rattle.mscp_port.proofs.Comes.{bytes_told}
 use Rattle.mscp_port.proofs.port.Port.restore.Goals as goal
 
 pub unreachable-requires : goal.unreachable-requires
-unreachable-requires g c = search (arith, false≢true)
+unreachable-requires g c =
+    let balance : balance_of First c.new-controller.result ≡ c.saved_settings.result.credits - 0 =
+    ap (balance_of First) c.new-controller.ensures.fresh in
+    let some : 1 < balance_of First c.new-controller.result =
+    omega (arith, balance, c.new-controller.ensures.valid.some_credits) in
+    false≢true (subst IsOk c.in_default-new.is (c.new.ensures.taken.1 (search arith, some)))
 
 pub returns-clause-value : goal.returns-clause-value
 returns-clause-value g c =

@@ -8,9 +8,9 @@ returns-clause-bytes g c =
     let controller = c.save-controller.ensures.bytes in
     let text = c.text_of-text.ensures.value in
     let buffers = c.as_slice-buffers.ensures.value in
-    let total : 280 + length c.text_of-text.result.now + 20 * length c.as_slice-buffers.result.now + c.len.result
+    let total : 424 + length c.text_of-text.result.now + 20 * length c.as_slice-buffers.result.now + c.len.result
     ≡ length_of c.args.number p =
-    λ i. 280 + length (text i) + 20 * length (buffers i)
+    λ i. 424 + length (text i) + 20 * length (buffers i)
     + (c.len.ensures.value ∙ ap (λ (l : List ℕ). length l) controller) i in
     let head = c.put_hand.ensures.items
     ∙ ap (λ l. l ++ hand_bytes p) (c.put_state.ensures.items

@@ -1,9 +1,9 @@
 use Rattle.mscp_c.proofs.Common.{rules}
 use Rattle.mscp_c.proofs.PortLent.{wanted_told}
-use Rattle.mscp_c.proofs.port_turning.mscp_port_next.Goals as goal
+use Rattle.mscp_c.proofs.port_turning.tell_next.Goals as goal
 
 pub returns-clause-wanted : goal.returns-clause-wanted
 returns-clause-wanted c made =
     wanted_told c.is_made.new.handle c.args.handle.now c.lend.result.now c.next-action.new.self c.lend.ensures.value
-    c.is_made.ensures.same c.next-action.result _ c.args.out.now c.tell_action.new.out
+    c.is_made.ensures.same c.args.ask c.next-action.result _ c.args.out.now c.tell_action.new.out
     c.next-action.ensures.wants c.next-action.ensures.begins (search rules) c.tell_action.ensures.told

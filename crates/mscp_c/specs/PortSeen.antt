@@ -1,0 +1,36 @@
+-- How what a port is is told.
+use Rattle.std.specs.Prelude.{ℤ, ◌&&◌, is_some, Option, None, Some}
+use Rattle.mscp_memory.specs.PortHandles.{Held}
+use Rattle.mscp_port.specs.Blocks.{is_mounted}
+use Rattle.mscp_port.specs.Codes.{stage_byte, stage_word}
+use Rattle.mscp_port.specs.declared.volumes.Volume.{Volume}
+use Rattle.mscp_c.specs.declared.outs.StateOut.{StateOut}
+use Rattle.mscp_c.specs.declared.outs.VolumeOut.{VolumeOut}
+use Rattle.mscp_c.specs.declared.status.TheConstants as status
+use Rattle.mscp_c.specs.Told.{flag}
+
+-- its stage, as the header has it; and whether something is to go out, but the ring of responses was full
+abbrev pub state_told : Held → StateOut
+state_told p = record {
+  word = stage_word p.stage;
+  stage = stage_byte p.stage;
+  is_held_back = flag (is_some p.outgoing && p.is_full);
+}
+
+-- the status: whether there is such a unit
+abbrev pub seen_code : Option Volume → ℤ
+seen_code None = status.UNKNOWN_UNIT
+seen_code (Some v) = status.DONE
+
+-- what is told of its volume. Where there is no such unit nothing is
+abbrev pub volume_told : Option Volume → VolumeOut → VolumeOut
+volume_told None out = out
+volume_told (Some v) out = record {
+  size = v.size;
+  media = v.media;
+  is_there = flag v.is_there;
+  is_protected = flag v.is_protected;
+  is_protected_by_host = flag v.is_protected_by_host;
+  is_online = flag (is_mounted v);
+  is_removable = flag v.is_removable;
+}

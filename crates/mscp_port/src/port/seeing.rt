@@ -1,0 +1,43 @@
+// What a port is, for whoever holds it. Nothing here changes anything.
+
+ghost use Rattle.std.specs.Prelude.{◌≡◌, ◌≢◌, ◌↔◌, true, None, IsTrue};
+ghost use Rattle.mscp_port.specs.Common.{volume_of};
+
+use crate::port::Port;
+use crate::stage::Stage;
+use crate::volumes::Volume;
+use mscp_controller::Controller;
+use mscp_queue::Picker;
+
+impl<K: Picker> Port<K> {
+    /// The controller that it is over: its settings, the commands that wait, their figures and what keeps them back, and
+    /// the step that is begun, which is that of the block in hand.
+    pub fn controller(&self) -> &Controller<K>
+        ensures { result.now ≡ self.now.controller }
+    {
+        &self.controller
+    }
+
+    /// How far it has come since its host wrote IP.
+    pub fn stage(&self) -> Stage
+        ensures { result ≡ self.now.stage }
+    {
+        self.stage
+    }
+
+    /// The volume of a unit, if there is such a unit.
+    pub fn volume(&self, unit: u16) -> Option<Volume>
+        ensures { result ≡ volume_of self.now unit }
+    {
+        let place = self.place_of(unit)?;
+        Some(self.volumes[place])
+    }
+
+    /// Whether something is to go out, and the next slot of the ring of responses was the host's. A port that rests then is to
+    /// look again, since its host doesn't say that it has given a slot back.
+    pub fn is_held_back(&self) -> bool
+        ensures { IsTrue result ↔ ((self.now.outgoing ≢ None) × (self.now.is_full ≡ true)) }
+    {
+        self.outgoing.is_some() && self.is_full
+    }
+}

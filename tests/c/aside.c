@@ -1,0 +1,200 @@
+/* A port of mscp.h whose blocks take their time: messages come and go meanwhile, and a block is wanted again from its first
+ * part on. Prints what is wrong, and ends with 1 where something is. */
+#include "machine.h"
+
+enum { DATA = 0x4000, BUDGET = 512 }; /* the budget is that of build */
+
+/* A new machine, whose host has unit 0 online. */
+static void begin(void)
+{
+    build(&RQDX3);
+    initialise(0x1000, 2, 2, 0);
+    send_command(0, 1, MSCP_ONLINE, 0, 0, 0);
+    expect(1, 0x89, 0);
+}
+
+/* Does what it wants while a block takes its time, which is nothing of a block. */
+static void exchange(void)
+{
+    struct mscp_action action = {0};
+    mscp_port_look_again(machine.port);
+    for (unsigned left = MOST_ACTIONS; left > 0 && mscp_port_next_message(machine.port, &action) == MSCP_DONE; left--) {
+        if (action.kind == MSCP_ACTION_FETCH || action.kind == MSCP_ACTION_TRANSFER) {
+            is("of a block", action.kind, 0);
+            return;
+        }
+        tell(&action, perform(&action));
+    }
+}
+
+/* Takes an end of this command that came meanwhile: 4 bytes of it from this one on. */
+static uint32_t heard(uint32_t reference, uint8_t code, unsigned from)
+{
+    uint8_t packet[68] = {0};
+    exchange();
+    is("an end", take(packet), 1);
+    is("its number", number(packet + 4, 4), reference);
+    is("its code", packet[12], code);
+    return number(packet + 4 + from, 4);
+}
+
+static void is_nothing_begun(void)
+{
+    struct mscp_upcoming begun;
+    is("nothing is begun", mscp_port_begun(machine.port, &begun), MSCP_NOTHING);
+}
+
+static void is_begun(uint8_t opcode, uint32_t block, uint32_t done, uint32_t weight)
+{
+    struct mscp_upcoming begun = {0};
+    is("begun", mscp_port_begun(machine.port, &begun), MSCP_DONE);
+    is("its command", begun.reference == 2 && begun.opcode == opcode && begun.bytes == weight * MSCP_BLOCK, 1);
+    is("of unit 0", begun.unit == 0 && begun.connection == MSCP_CONNECTION_FIRST, 1);
+    is("its block", begun.touches == 1 && begun.lbn == block, 1);
+    is("blocks before it", begun.done, done);
+    is("blocks of all", begun.weight, weight);
+}
+
+/* The port wants this again. */
+static void wants_again(const struct mscp_action *wanted)
+{
+    struct mscp_action again = until(wanted->kind);
+    is("the same place", again.address == wanted->address && again.count == wanted->count, 1);
+    is("the same block", again.unit == wanted->unit && again.block == wanted->block && again.opcode == wanted->opcode, 1);
+}
+
+/* A block's time begins when the port wants it, and meanwhile the command is polled. Then the port wants it again. */
+static void block_is_put_aside(uint8_t opcode, uint8_t kind, uint32_t n)
+{
+    struct mscp_action wanted = until(kind), first = wanted;
+    is_begun(opcode, 7 + n, n, 3);
+    for (unsigned times = 0; times < 2; times++) {
+        send_command(0, 100, MSCP_GET_COMMAND_STATUS, 2, 0, 0);
+        is("its figure", heard(100, 0x82, 16), n == 0 ? BUDGET + 3 : 3 - n); /* in service it is what is left */
+        is("blocks that were moved", machine.transfers, n);
+        is_begun(opcode, 7 + n, n, 3);
+        if (machine.saves)
+            restore_port();
+        wants_again(&first);
+        if (kind == MSCP_ACTION_FETCH && times == 0) { /* and once more when its bytes were fetched */
+            memset(machine.memory + DATA + n * MSCP_BLOCK, 0x30 + (int)n, MSCP_BLOCK);
+            tell(&wanted, perform(&wanted));
+            memset(machine.memory + DATA + n * MSCP_BLOCK, 0x50 + (int)n, MSCP_BLOCK);
+            is("its block", until(MSCP_ACTION_TRANSFER).block, 7 + n);
+        }
+    }
+    tell(&wanted, perform(&wanted));
+}
+
+static void blocks_are_put_aside(uint8_t opcode, uint8_t kind, bool saves)
+{
+    begin();
+    machine.saves = saves;
+    send_command(0, 2, opcode, 3 * MSCP_BLOCK, 7, DATA);
+    for (uint32_t n = 0; n < 3; n++)
+        block_is_put_aside(opcode, kind, n);
+    expect(2, 0x80 | opcode, 0);
+    is("blocks that were moved", machine.transfers, 3);
+    for (unsigned k = 0; k < 3 * MSCP_BLOCK; k++) {
+        unsigned n = k / MSCP_BLOCK;
+        if (opcode == MSCP_READ)
+            is("this byte", machine.memory[DATA + k], (uint8_t)(k + 7 + n));
+        else
+            is("this byte", machine.disks[0][7 + n][k % MSCP_BLOCK], 0x50 + n);
+    }
+    is_nothing_begun();
+}
+
+/* A turn of a machine whose blocks take a while. Meanwhile the port is asked for messages alone. */
+static uint64_t now, ready; /* when the block's time has come */
+static bool is_under_way;
+
+static void turn(void)
+{
+    struct mscp_action action;
+    mscp_port_look_again(machine.port);
+    while ((now < ready ? mscp_port_next_message(machine.port, &action)
+                        : mscp_port_next(machine.port, &action)) == MSCP_DONE) {
+        if (action.kind == MSCP_ACTION_TRANSFER && !is_under_way) {
+            is_under_way = true;
+            ready = now + 5;
+            continue; /* the port wants the block again, once that is so */
+        }
+        if (action.kind == MSCP_ACTION_TRANSFER)
+            is_under_way = false;
+        tell(&action, perform(&action));
+    }
+}
+
+/* Four blocks take five turns each, and a poll is answered in each turn, before a block is moved. */
+static void turns_go_on(uint8_t opcode)
+{
+    uint8_t packet[68];
+    begin();
+    now = ready = 0;
+    send_command(0, 2, opcode, 4 * MSCP_BLOCK, 7, DATA);
+    for (; now < 20; now++) {
+        uint32_t moved = machine.transfers;
+        send_command(0, 100, MSCP_GET_COMMAND_STATUS, 2, 0, 0);
+        turn();
+        is("the answer", take(packet) && packet[12] == 0x82, 1);
+        is("its figure", number(packet + 20, 4), moved == 0 ? BUDGET + 4 : 4 - moved);
+        is("blocks that were moved", machine.transfers, (int64_t)now / 5);
+    }
+    turn();
+    is("its end", take(packet) && packet[12] == (0x80 | opcode), 1);
+    is("all were moved", machine.transfers, 4);
+}
+
+/* What was read goes to the host first. Then messages come. */
+static void store_stays(void)
+{
+    struct mscp_action store, action = {0};
+    begin();
+    send_command(0, 2, MSCP_READ, MSCP_BLOCK, 7, DATA);
+    store = until(MSCP_ACTION_STORE);
+    send_command(0, 3, MSCP_GET_COMMAND_STATUS, 2, 0, 0);
+    is("an action", mscp_port_next_message(machine.port, &action), MSCP_DONE);
+    is("the store", action.kind == MSCP_ACTION_STORE && action.address == store.address && action.count == MSCP_BLOCK, 1);
+    tell(&action, perform(&action));
+    is("its end", heard(2, 0xA1, 10) & 0xFFFF, 0);
+    is("of no command any more", heard(3, 0x82, 16), 0);
+    is("its bytes", number(machine.memory + DATA, 4), 0x0A090807);
+}
+
+/* No block is begun for messages, and none of a command that is aborted, or whose volume goes, while one is put aside. */
+static void blocks_that_are_dropped(uint8_t opcode, uint8_t kind)
+{
+    begin();
+    send_command(0, 2, opcode, 3 * MSCP_BLOCK, 7, DATA);
+    exchange();
+    is_nothing_begun();
+    is("it waits", mscp_port_look(machine.port, NULL, 0), 1);
+    until(kind);
+    exchange();
+    send_command(0, 3, MSCP_ABORT, 2, 0, 0);
+    is("it is aborted", heard(2, 0x80 | opcode, 10) & 0xFFFF, 0x0002);
+    is("by this", heard(3, 0x81, 10) & 0xFFFF, 0);
+    is_nothing_begun();
+    is("nothing more", run(MOST_ACTIONS), 0);
+    send_command(0, 2, opcode, 3 * MSCP_BLOCK, 7, DATA);
+    until(kind);
+    exchange();
+    is("it goes", mscp_port_volume_went(machine.port, 0), MSCP_DONE);
+    expect(2, 0x80 | opcode, 0x0023);
+    is("no block", machine.transfers, 0);
+}
+
+int main(void)
+{
+    for (unsigned saves = 0; saves < 2; saves++) {
+        blocks_are_put_aside(MSCP_READ, MSCP_ACTION_TRANSFER, saves);
+        blocks_are_put_aside(MSCP_WRITE, MSCP_ACTION_FETCH, saves);
+    }
+    turns_go_on(MSCP_READ);
+    turns_go_on(MSCP_WRITE);
+    store_stays();
+    blocks_that_are_dropped(MSCP_READ, MSCP_ACTION_TRANSFER);
+    blocks_that_are_dropped(MSCP_WRITE, MSCP_ACTION_FETCH);
+    return wrong;
+}
