@@ -238,30 +238,29 @@ build_libraries() {
     done
 }
 
-# Ends, where rt did not end well, with what it said.
+# Ends, where rt ended with another status than 0, with what it said.
 ended_well() {
-    local status=$?
-    [ "$status" -ne 0 ] || return 0
+    [ "$1" -ne 0 ] || return 0
     printf %s "$said" >&2
-    refuse "what stands here isn't proved and built, as rt ended with status $status"
+    refuse "what stands here isn't proved and built, as rt ended with status $1"
 }
 
 # Proves and builds by rt: the libraries side by side if nothing of them is there, and then what is wanted, which takes them.
 prove() {
     local libraries few=()
+    # The last command of a pipe runs in this shell. Bash 5.2 may tell a status of -1 for a process that it reads by < <( ).
+    shopt -s lastpipe
     said='' doing='reading the sources' checked=''
     mapfile -t libraries < <(below "${crate##*/}")
     if [ "${#libraries[@]}" -gt 0 ] && ! (cd -- "$top/crates" && find "${libraries[@]/%//out}" -maxdepth 0 2>/dev/null) | grep -q .; then
-        follow < <(tied "$BASH" "$top/building.bash" build_libraries "$top" "$name" "$nothing" "$room" "${libraries[@]}" \
-            2>&1 {lock}>&-)
-        wait "$!"
-        ended_well
+        tied "$BASH" "$top/building.bash" build_libraries "$top" "$name" "$nothing" "$room" "${libraries[@]}" \
+            2>&1 {lock}>&- | follow
+        ended_well "${PIPESTATUS[0]}"
         # What is left of a program is small, and rt says what it is at only where it chooses itself.
         [ "${words[0]}" != run ] || { few=(--jobs 1) && begin "proving ${crate##*/}$(place "${crate##*/}")"; }
     fi
-    follow < <(cd -- "$crate" && become_rt "${words[@]}" "${few[@]}" <"$input" 2>&1 {lock}>&-)
-    wait "$!"
-    ended_well
+    (cd -- "$crate" && become_rt "${words[@]}" "${few[@]}" <"$input" 2>&1 {lock}>&-) | follow
+    ended_well "${PIPESTATUS[0]}"
 }
 
 # Keeps what rt built, if no source was touched since the build began: then it was built of what stands here.
