@@ -2,6 +2,7 @@
 use Rattle.mscp_c.proofs.Common.{◌≡◌, ◌++◌, ◌∷◌, [], ℕ, ℤ, true, false, List, Option, None, Some, refl, ap, sym, subst, MatchOption, Outcome, Answered, Becomes, Handle, Held, BAD_OUTCOME, outcome_given, KeepsPortPromise, Begun, Configured, Look, LookAgain, Next, NextMessage, Protect, ReadIp, ReadSa, Resume, State, TellsOutcome, Tick, Volume, VolumeCame, VolumeWent, WasRead, Went, Why, WriteIp, WriteSa, TellsWent}
 use Rattle.mscp_port.specs.Histories.{Call}
 use Rattle.mscp_port.specs.Ports.{put_aside}
+use Rattle.mscp_port.specs.Wanted.{bytes_wanted}
 use Rattle.mscp_c.specs.PortHandleCalls.{AnsweredByHandle, AnswersHandle, HandleCall, Tells}
 use Rattle.mscp_port.specs.Histories as calls
 
@@ -43,11 +44,13 @@ call_is (ReadSa answer) old new r = none (ReadSa answer) old.held new.held refl 
 call_is (WriteSa word status) old new r =
     one (WriteSa word status) (calls.WriteSa word) old.held new.held (refl, r.1) r.0.leaves
 call_is (Next before status after) old new r =
-    one (Next before status after) (calls.Next true r.action) old.held new.held (r.action, refl, r.code, r.told) r.wants
+    let bytes = bytes_wanted new.held new.held.task in
+    one (Next before status after) (calls.Next true r.action bytes) old.held new.held
+    (r.action, bytes, refl, r.code, r.told) (r.wants, refl)
 call_is (NextMessage before status after) old new r = record {
-  next = calls.Next false r.action ∷ calls.PutAside ∷ [];
-  tells = (r.action, refl, r.code, r.told);
-  becomes = λ start told a. (put_aside old.held, (old.held, a, refl), r.wants);
+  next = calls.Next false r.action (bytes_wanted new.held new.held.task) ∷ calls.PutAside ∷ [];
+  tells = (r.action, bytes_wanted new.held new.held.task, refl, r.code, r.told);
+  becomes = λ start told a. (put_aside old.held, (old.held, a, refl), (r.wants, refl));
 }
 call_is (WasRead bytes status) old new r =
     one (WasRead bytes status) (calls.WasRead bytes r.answer) old.held new.held (r.answer, refl, r.code) r.hears

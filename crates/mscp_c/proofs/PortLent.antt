@@ -2,6 +2,7 @@
 use Rattle.mscp_c.proofs.Common.{◌≡◌, ◌∙◌, ℕ, ℤ, List, ap, subst, Result, IsOk, Action, Outcome, Unasked, NoUnit, Changes, Goes, Hears, PutsIn, Wants, BeginsBlock, Moves, IsAlive, IsOfBlock, PolicyPicks, Handle, Held, with_held, ActionOut, TellsHeard, TellsPut, TellsVolume, TellsWanted, TellsWent, put_code, told_code, volume_code, action_told, next_code}
 use Rattle.mscp_port.specs.declared.task.Task.TheVariants as tasks
 use Rattle.mscp_port.specs.Ports.{asked, asks_blocks}
+use Rattle.mscp_port.specs.Wanted.{bytes_wanted}
 use Rattle.mscp_port.specs.declared.action.Ask.{Ask}
 use Rattle.mscp_port.specs.declared.volumes.Medium.{Medium}
 use Rattle.mscp_port.specs.declared.volumes.Volume.{Volume}
@@ -57,7 +58,7 @@ module _ (h old : Handle) (x new : Held) (same : x ≡ h.held) (kept : h ≡ old
       → Wants (asks_blocks ask) (asked ask x) action new
       → (IsAlive (asked ask x) → (asked ask x).task ≡ tasks.Free → IsOfBlock new.task
       → BeginsBlock (PolicyPicks (asked ask x).controller.picker) new.task (asked ask x) new)
-      → status ≡ next_code action → after ≡ action_told action before
+      → status ≡ next_code action → after ≡ action_told action (bytes_wanted new new.task) before
       → TellsWanted ask old before status (with_held h new) after
   wanted_told ask action status before after wants begins code told = record {
     action = action;

@@ -25,6 +25,7 @@ pub use Rattle.mscp_memory.specs.ControllerHandles.{Handle}
 pub use Rattle.mscp_packet.specs.Opcodes.{move_byte}
 pub use Rattle.mscp_port.specs.Messages.{volume_of}
 pub use Rattle.mscp_port.specs.Volumes.{volume_changed, volume_protected}
+pub use Rattle.mscp_port.specs.Wanted.{bytes_wanted}
 pub use Rattle.mscp_port.specs.Calls.{LooksAgain, ReadsIp, Ticks, WritesIp, WritesSa, sa_of}
 pub use Rattle.mscp_queue.specs.Drives.{is_online_in}
 pub use Rattle.mscp_reader.specs.Grammar.{IsFault}

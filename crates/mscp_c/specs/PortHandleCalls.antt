@@ -127,11 +127,11 @@ Tells (WriteIp status) next = (next ≡ calls.WriteIp ∷ []) × (status ≡ DON
 Tells (ReadSa answer) next = next ≡ []
 Tells (WriteSa word status) next = (next ≡ calls.WriteSa word ∷ []) × (status ≡ DONE)
 Tells (Next before status after) next =
-    (action : Action) × (next ≡ calls.Next true action ∷ []) × (status ≡ next_code action)
-    × (after ≡ action_told action before)
+    (action : Action) × (bytes : List ℕ) × (next ≡ calls.Next true action bytes ∷ [])
+    × (status ≡ next_code action) × (after ≡ action_told action bytes before)
 Tells (NextMessage before status after) next =
-    (action : Action) × (next ≡ calls.Next false action ∷ calls.PutAside ∷ []) × (status ≡ next_code action)
-    × (after ≡ action_told action before)
+    (action : Action) × (bytes : List ℕ) × (next ≡ calls.Next false action bytes ∷ calls.PutAside ∷ [])
+    × (status ≡ next_code action) × (after ≡ action_told action bytes before)
 Tells (WasRead bytes status) next =
     (answer : Result (Unit {0}) Unasked) × (next ≡ calls.WasRead bytes answer ∷ []) × (status ≡ told_code answer)
 Tells (Went number block status) next =

@@ -17,6 +17,7 @@ use Rattle.mscp_memory.specs.declared.policy.Policy.TheVariants.{Oldest}
 use Rattle.mscp_memory.specs.Policies.{PolicyPicks}
 use Rattle.mscp_port.specs.Moved.{BeginsBlock, Moves}
 use Rattle.mscp_port.specs.Ports.{IsAlive, IsOfBlock, asked, asks_blocks}
+use Rattle.mscp_port.specs.Wanted.{bytes_wanted}
 use Rattle.mscp_c.specs.declared.outs.ActionOut.{ActionOut}
 use Rattle.mscp_c.specs.declared.port_given.HardwareIn.{HardwareIn}
 use Rattle.mscp_c.specs.declared.status.TheConstants.{BAD_SIZE, DONE, UNKNOWN_UNIT, UNASKED}
@@ -53,7 +54,7 @@ pub record TellsWanted (ask : Ask) (old : Handle) (before : ActionOut) (status :
       → BeginsBlock (PolicyPicks (asked ask old.held).controller.picker) new.held.task (asked ask old.held) new.held
   pub rest : new ≡ with_held old new.held
   pub code : status ≡ next_code action
-  pub told : after ≡ action_told action before
+  pub told : after ≡ action_told action (bytes_wanted new.held new.held.task) before
 
 -- the status of what was told of an action: done, or not asked for
 abbrev pub told_code : Result (Unit {0}) Unasked → ℤ

@@ -42,15 +42,14 @@ of_transfer kind unit block count out = record (of_kind 6 out) {
 abbrev pub with_bytes : List ℕ → ActionOut → ActionOut
 with_bytes b out = record out { bytes = b ++ drop (length b) out.bytes }
 
--- what is told of an action, whose kind is the number that the header has under its name. Where there is nothing to do
+-- what is told of an action, and of the bytes that it writes if it does, whose kind is the number that the header has under its name. Where there is nothing to do
 -- nothing is
-abbrev pub action_told : Action → ActionOut → ActionOut
-action_told actions.Rest out = out
-action_told actions.Pause out = of_kind 1 out
-action_told (actions.Read address count) out = of_memory 2 address count out
-action_told (actions.Write address bytes) out =
-    with_bytes bytes.items (of_memory 3 address (length bytes.items) out)
-action_told (actions.Interrupt vector) out = record (of_kind 4 out) { vector = vector }
-action_told (actions.Fetch address count) out = of_memory 5 address count out
-action_told (actions.Transfer kind unit block count) out = of_transfer kind unit block count out
-action_told (actions.Store address count) out = of_memory 7 address count out
+abbrev pub action_told : Action → List ℕ → ActionOut → ActionOut
+action_told actions.Rest bytes out = out
+action_told actions.Pause bytes out = of_kind 1 out
+action_told (actions.Read address count) bytes out = of_memory 2 address count out
+action_told (actions.Write address count) bytes out = with_bytes bytes (of_memory 3 address count out)
+action_told (actions.Interrupt vector) bytes out = record (of_kind 4 out) { vector = vector }
+action_told (actions.Fetch address count) bytes out = of_memory 5 address count out
+action_told (actions.Transfer kind unit block count) bytes out = of_transfer kind unit block count out
+action_told (actions.Store address count) bytes out = of_memory 7 address count out

@@ -1,13 +1,13 @@
 // How what a port wants is told.
 
-ghost use Rattle.std.specs.Prelude.{◌≡◌, length};
-ghost use Rattle.mscp_c.specs.Common.{move_byte, action_told, next_code, of_kind, of_memory, of_transfer, with_bytes};
+ghost use Rattle.std.specs.Prelude.{◌≡◌, ◌≤◌, length};
+ghost use Rattle.mscp_c.specs.Common.{move_byte, action_told, bytes_wanted, next_code, of_kind, of_memory, of_transfer, with_bytes};
 
 use crate::outs::ActionOut;
 use crate::status::{DONE, NOTHING};
-use arrayvec::ArrayVec;
+use mscp_memory::Policy;
 use mscp_packet::MoveKind;
-use mscp_port::Action;
+use mscp_port::{Action, Port};
 
 /// The kinds of what it wants.
 const PAUSE: u8 = 1;
@@ -60,12 +60,12 @@ fn tell_memory(out: &mut ActionOut, kind: u8, address: u32, count: u32)
 }
 
 /// These bytes are to be written to host memory.
-fn tell_write(out: &mut ActionOut, address: u32, bytes: &ArrayVec<u8, 64>)
-    ensures { out.new ≡ with_bytes bytes.now.items (of_memory WRITE address (length bytes.now.items) out.old) }
+fn tell_write(out: &mut ActionOut, address: u32, count: u32, bytes: &[u8])
+    requires { length bytes.now ≤ 64 }
+    ensures { out.new ≡ with_bytes bytes.now (of_memory WRITE address count out.old) }
 {
-    let length = bytes.len();
-    tell_memory(out, WRITE, address, length as u32);
-    out.bytes[..length].copy_from_slice(bytes.as_slice());
+    tell_memory(out, WRITE, address, count);
+    out.bytes[..bytes.len()].copy_from_slice(bytes);
 }
 
 /// A block is to be moved.
@@ -79,28 +79,33 @@ fn tell_transfer(out: &mut ActionOut, kind: MoveKind, unit: u16, block: u32, cou
     out.opcode = opcode_of(kind);
 }
 
-/// Tells what a port wants done.
-pub(crate) fn tell_action(out: &mut ActionOut, action: &Action) -> i32
-    ensures code { result ≡ next_code action.now }
-    ensures told { out.new ≡ action_told action.now out.old }
+/// Tells what a port wants done next.
+pub(crate) fn tell_action(out: &mut ActionOut, port: &Port<Policy>, action: Action) -> i32
+    ensures code { result ≡ next_code action }
+    ensures told { out.new ≡ action_told action (bytes_wanted port.now port.now.task) out.old }
 {
     match action {
         Action::Rest => return NOTHING,
         Action::Pause => tell_kind(out, PAUSE),
-        Action::Read { address, count } => tell_memory(out, READ, *address, *count),
-        Action::Write { address, bytes } => tell_write(out, *address, bytes),
+        Action::Read { address, count } => tell_memory(out, READ, address, count),
+        Action::Write { address, count } => tell_write(
+            out,
+            address,
+            count,
+            port.bytes().as_slice(),
+        ),
         Action::Interrupt(vector) => {
             tell_kind(out, INTERRUPT);
-            out.vector = *vector;
+            out.vector = vector;
         }
-        Action::Fetch { address, count } => tell_memory(out, FETCH, *address, *count),
+        Action::Fetch { address, count } => tell_memory(out, FETCH, address, count),
         Action::Transfer {
             kind,
             unit,
             block,
             count,
-        } => tell_transfer(out, *kind, *unit, *block, *count),
-        Action::Store { address, count } => tell_memory(out, STORE, *address, *count),
+        } => tell_transfer(out, kind, unit, block, count),
+        Action::Store { address, count } => tell_memory(out, STORE, address, count),
     }
     DONE
 }

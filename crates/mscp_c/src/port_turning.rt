@@ -20,8 +20,9 @@ fn tell_next(handle: &mut Handle, out: &mut ActionOut, ask: Ask) -> i32
     if !is_made(handle) {
         return NOT_MADE;
     }
-    let action = lend(handle).next(ask);
-    tell_action(out, &action)
+    let port = lend(handle);
+    let action = port.next(ask);
+    tell_action(out, port, action)
 }
 
 /// What the port wants done next.

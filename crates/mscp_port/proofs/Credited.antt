@@ -49,7 +49,7 @@ counts ReadIp old new r = elim r.frame
     [ inl e ↦ inr (inr (ap (λ p. p.untold) e, ap (λ p. p.more) e)) | inr dead ↦ inl (stages.Dead dead.0, dead.1) ]
 counts (WriteSa word) old new r = elim r.frame
     [ inl e ↦ inr (inr (ap (λ p. p.untold) e, ap (λ p. p.more) e)) | inr dead ↦ inl (stages.Dead dead.0, dead.1) ]
-counts (Next blocks action) old new r = inr (inr (ap (λ p. p.untold) r.frame, ap (λ p. p.more) r.frame))
+counts (Next blocks action bytes) old new r = inr (inr (ap (λ p. p.untold) r.0.frame, ap (λ p. p.more) r.0.frame))
 counts PutAside old new r = inr (inr (ap (λ p. p.untold) r, ap (λ p. p.more) r))
 counts (WasRead bytes result) old new r = elim r.frame
     [ inl e ↦ inr (inr (ap (λ p. p.untold) e, ap (λ p. p.more) e)) | inr dead ↦ inl (stages.Dead dead.0, dead.1) ]

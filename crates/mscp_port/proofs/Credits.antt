@@ -15,7 +15,7 @@ pub settings_stay : {K : Type 0} (call : Call) (old new : Port K) → Becomes ca
 settings_stay WriteIp old new r = ap (λ h. h.settings) r.controller
 settings_stay ReadIp old new r = r.settings
 settings_stay (WriteSa word) old new r = r.settings
-settings_stay (Next blocks action) old new r = r.settings
+settings_stay (Next blocks action bytes) old new r = r.0.settings
 settings_stay PutAside old new r = ap (λ p. p.controller.settings) r
 settings_stay (WasRead bytes result) old new r = r.settings
 settings_stay (Went outcome result) old new r = r.settings

@@ -181,8 +181,8 @@ agree_after unit ReadIp calls old new r a =
     search (arith, settings_stay ReadIp old new r, agree_still, the_same, as_new)
 agree_after unit (WriteSa word) calls old new r a =
     search (arith, settings_stay (WriteSa word) old new r, agree_still, the_same, as_new)
-agree_after unit (Next blocks action) calls old new r a =
-    agree_still unit calls old new (settings_stay (Next blocks action) old new r) (said old new r.says) a
+agree_after unit (Next blocks action bytes) calls old new r a =
+    agree_still unit calls old new (settings_stay (Next blocks action bytes) old new r) (said old new r.0.says) a
 agree_after unit PutAside calls old new r a = search (arith, settings_stay PutAside old new r, agree_still, the_same)
 agree_after unit (WasRead bytes result) calls old new r a =
     search (arith, settings_stay (WasRead bytes result) old new r, agree_still, the_same, as_new)
@@ -208,15 +208,15 @@ agree hardware credits controller start p unit (call ∷ calls) made a =
     agree_after unit call calls a.0 p a.2 (agree hardware credits controller start a.0 unit calls made a.1)
 
 pub moves_on_volumes : {K : Type 0} (hardware : Hardware) (credits : ℕ) (controller : Holdings K) (start p : Port K)
-    (calls : List Call) (blocks : Bool) (kind : MoveKind) (unit block count : ℕ)
+    (calls : List Call) (blocks : Bool) (kind : MoveKind) (unit block count : ℕ) (bytes : List ℕ)
     → IsMadeOf hardware credits controller start
-    → Answered start (Next blocks (actions.Transfer kind unit block count) ∷ calls) p
+    → Answered start (Next blocks (actions.Transfer kind unit block count) bytes ∷ calls) p
     → (is_loaded unit calls ≡ true) × (writes kind ≡ true → is_locked unit calls ≡ false)
     × (block < blocks_in unit calls)
-moves_on_volumes hardware credits controller start p calls blocks kind unit block count made a =
-    let moves = a.2.moves kind unit block count refl in
+moves_on_volumes hardware credits controller start p calls blocks kind unit block count bytes made a =
+    let moves = a.2.0.moves kind unit block count refl in
     let agrees = agree hardware credits controller start p unit
-    (Next blocks (actions.Transfer kind unit block count) ∷ calls) made a moves.0 moves.2 moves.1 in (
+    (Next blocks (actions.Transfer kind unit block count) bytes ∷ calls) made a moves.0 moves.2 moves.1 in (
       agrees.there moves.3.there,
       λ writing. sym (agrees.protected moves.3.there) ∙ moves.3.hardware writing,
       subst (λ n. block < n) (agrees.long moves.3.there) moves.3.on,

@@ -172,7 +172,7 @@ stays : {K : Type 0} (place : ℕ) (m : Mount) (call : Call) (old new : Port K) 
 stays place m WriteIp old new r other holds = absurd (other (inl (stages.First, r)))
 stays place m ReadIp old new r other holds = search (arith, the_same)
 stays place m (WriteSa word) old new r other holds = search (arith, the_same)
-stays place m (Next blocks action) old new r other holds = said place m old new r.says holds
+stays place m (Next blocks action bytes) old new r other holds = said place m old new r.0.says holds
 stays place m PutAside old new r other holds = the_same place m old new (ap (λ p. p.volumes) r) holds
 stays place m (WasRead bytes result) old new r other holds = search (arith, the_same)
 stays place m (Went outcome result) old new r other holds = elim r.commands [
@@ -227,20 +227,20 @@ there : (vs : List Volume) (place : ℕ) (m : Mount) → (volume_at vs place).is
 there vs place m is holds = search (arith, false≢true, get_or_past)
 
 pub moves_as_mounted : {K : Type 0} (hardware : Hardware) (credits : ℕ) (controller : Holdings K) (start p : Port K)
-    (calls : List Call) (blocks : Bool) (kind : MoveKind) (unit block count place : ℕ) (m : Mount)
+    (calls : List Call) (blocks : Bool) (kind : MoveKind) (unit block count place : ℕ) (bytes : List ℕ) (m : Mount)
     → IsMadeOf hardware credits controller start
-    → (a : Answered start (Next blocks (actions.Transfer kind unit block count) ∷ calls) p)
+    → (a : Answered start (Next blocks (actions.Transfer kind unit block count) bytes ∷ calls) p)
     → place_in p.controller.settings.units unit ≡ Some place
-    → IsMounted place start p (Next blocks (actions.Transfer kind unit block count) ∷ calls) a m
+    → IsMounted place start p (Next blocks (actions.Transfer kind unit block count) bytes ∷ calls) a m
     → (m.volume ≡ Some (volume_at p.volumes place).changes) × (writes kind ≡ true → m.is_protected ≡ false)
 unfolding mount_of
-moves_as_mounted hardware credits controller start p calls blocks kind unit block count place m made a here is =
-    let moves = a.2.moves kind unit block count refl in
+moves_as_mounted hardware credits controller start p calls blocks kind unit block count place bytes m made a here is =
+    let moves = a.2.0.moves kind unit block count refl in
     let at = moves.1 in
     let same : moves.0 ≡ place = cc in
     let low : place < 16 = subst (λ i. i < 16) same moves.2 in
     let may = subst (λ i. MayMove kind block (volume_at p.volumes i)) same moves.3 in
     let e = there p.volumes place m may.there
     (held hardware credits controller place low start p
-    (Next blocks (actions.Transfer kind unit block count) ∷ calls) m made a is) in
+    (Next blocks (actions.Transfer kind unit block count) bytes ∷ calls) m made a is) in
     (sym (ap (λ n. n.volume) e) ∙ may.mounted, λ writing. sym (ap (λ n. n.is_protected) e) ∙ may.host writing)

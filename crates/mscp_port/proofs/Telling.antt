@@ -53,10 +53,10 @@ keeps_after said (WriteSa word) old new r k = more said (WriteSa word) old new (
   | inl e ↦ framed said old new k (ap (λ (p : Port _). p.buffers) e) (ap (λ (p : Port _). p.controller) e)
   | inr d ↦ dies said old new k d
 ])
-keeps_after said (Next blocks action) old new r k = more said (Next blocks action) old new
+keeps_after said (Next blocks action bytes) old new r k = more said (Next blocks action bytes) old new
     (keeps_same said old new
-    (λ b there. subst (λ bs. Contains bs b) (ap (λ (p : Port _). p.buffers.items) r.frame) there)
-    (still_waits old new r.says) k)
+    (λ b there. subst (λ bs. Contains bs b) (ap (λ (p : Port _). p.buffers.items) r.0.frame) there)
+    (still_waits old new r.0.says) k)
 keeps_after said PutAside old new r k = more said PutAside old new
     (framed said old new k (ap (λ (p : Port _). p.buffers) r) (ap (λ (p : Port _). p.controller) r))
 keeps_after said (WasRead bytes result) old new r k = text_heard said bytes result old new old.task refl r k

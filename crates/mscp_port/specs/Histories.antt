@@ -20,6 +20,7 @@ use Rattle.mscp_port.specs.Buffers.{buffer_in, IsInBuffer}
 use Rattle.mscp_port.specs.Calls.{Changes, Goes, Hears, IsMadeOf, LooksAgain, PutsIn, ReadsIp, Ticks, Wants, WritesIp, WritesSa}
 use Rattle.mscp_port.specs.Ports.{IsInPacket, put_aside}
 use Rattle.mscp_port.specs.Slots.{is_owned}
+use Rattle.mscp_port.specs.Wanted.{bytes_wanted}
 
 -- ---- calls
 
@@ -28,8 +29,8 @@ pub data Call : Type 0 where
   WriteIp : Call
   ReadIp : Call
   WriteSa : ℕ → Call
-  -- whether blocks were asked for, or messages alone, and the action that was wanted
-  Next : Bool → Action → Call
+  -- whether blocks were asked for, or messages alone, the action that was wanted, and the bytes that it writes if it does
+  Next : Bool → Action → List ℕ → Call
   -- the block in hand is put aside, as each time before messages alone are asked for
   PutAside : Call
   -- the bytes that were read
@@ -49,7 +50,7 @@ abbrev pub Becomes : {K : Type 0} → Call → Port K → Port K → Type 0
 Becomes WriteIp old new = WritesIp old new
 Becomes ReadIp old new = ReadsIp old new
 Becomes (WriteSa word) old new = WritesSa word old new
-Becomes (Next blocks action) old new = Wants blocks old action new
+Becomes (Next blocks action bytes) old new = Wants blocks old action new × (bytes ≡ bytes_wanted new new.task)
 Becomes PutAside old new = new ≡ put_aside old
 Becomes (WasRead bytes result) old new = Hears bytes old result new
 Becomes (Went outcome result) old new = Goes outcome old result new
@@ -113,7 +114,7 @@ IsNamedForData calls address count = (b : Buffer) × NamesBuffer (reads calls) b
 -- the host has named all memory that an action touches
 abbrev pub IsNamed : List Call → Action → Type 0
 IsNamed calls (actions.Read address count) = IsNamedForRings calls address count
-IsNamed calls (actions.Write address bytes) = IsNamedForRings calls address (length bytes.items)
+IsNamed calls (actions.Write address count) = IsNamedForRings calls address count
 IsNamed calls (actions.Fetch address count) = IsNamedForData calls address count
 IsNamed calls (actions.Store address count) = IsNamedForData calls address count
 IsNamed calls action = Unit {0}
@@ -125,8 +126,8 @@ IsNamed calls action = Unit {0}
 abbrev pub PortsTouchWhatIsNamed : Type 0 → Type 0
 PortsTouchWhatIsNamed K =
     (hardware : Hardware) (credits : ℕ) (controller : Holdings K) (start p : Port K) (calls : List Call)
-    (blocks : Bool) (action : Action)
-    → IsMadeOf hardware credits controller start → Answered start (Next blocks action ∷ calls) p → IsNamed calls action
+    (blocks : Bool) (action : Action) (bytes : List ℕ) → IsMadeOf hardware credits controller start
+    → Answered start (Next blocks action bytes ∷ calls) p → IsNamed calls action
 
 -- no message with these bytes is refused for want of a credit
 pub record HasCredit {K : Type 0} (h : Holdings K) (bytes : List ℕ) : Type 0 where

@@ -26,7 +26,7 @@ read_from action = None
 abbrev pub asked : List Call → Option ℕ
 asked [] = None
 asked (WriteIp ∷ earlier) = None
-asked (Next blocks action ∷ earlier) = read_from action
+asked (Next blocks action bytes ∷ earlier) = read_from action
 asked (WasRead bytes (Ok done) ∷ earlier) = None
 asked (Went outcome (Ok done) ∷ earlier) = None
 asked (call ∷ earlier) = asked earlier
@@ -73,7 +73,7 @@ IsPutForData calls address count =
 -- slots, or a buffer of a command in such a packet
 abbrev pub IsPut : List Call → Action → Type 0
 IsPut calls (actions.Read address count) = IsPutForRings calls address count
-IsPut calls (actions.Write address bytes) = IsPutForRings calls address (length bytes.items)
+IsPut calls (actions.Write address count) = IsPutForRings calls address count
 IsPut calls (actions.Fetch address count) = IsPutForData calls address count
 IsPut calls (actions.Store address count) = IsPutForData calls address count
 IsPut calls action = Unit {0}
@@ -83,6 +83,5 @@ IsPut calls action = Unit {0}
 abbrev pub PortsTouchWhatWasPut : Type 0 → Type 0
 PortsTouchWhatWasPut K =
     (hardware : Hardware) (credits : ℕ) (controller : Holdings K) (start p : Port K) (calls : List Call)
-    (blocks : Bool) (action : Action)
-    → IsMadeOf hardware credits controller start → AsksFirst calls → Answered start (Next blocks action ∷ calls) p
-    → IsPut calls action
+    (blocks : Bool) (action : Action) (bytes : List ℕ) → IsMadeOf hardware credits controller start → AsksFirst calls
+    → Answered start (Next blocks action bytes ∷ calls) p → IsPut calls action

@@ -206,7 +206,7 @@ IsInSomeBuffer p address count = (b : Buffer) × Contains p.buffers.items b × I
 -- and the bytes of transfers to the buffers of commands and from them
 abbrev pub IsWithin : {K : Type 0} → Port K → Action → Type 0
 IsWithin p (actions.Read address count) = IsInRingsOrPacket p address count
-IsWithin p (actions.Write address bytes) = IsInRingsOrPacket p address (length bytes.items)
+IsWithin p (actions.Write address count) = IsInRingsOrPacket p address count
 IsWithin p (actions.Fetch address count) = IsInSomeBuffer p address count
 IsWithin p (actions.Store address count) = IsInSomeBuffer p address count
 IsWithin p action = Unit {0}

@@ -1,11 +1,10 @@
 // What a port wants done, and how that went.
 
-use arrayvec::ArrayVec;
 use mscp_packet::MoveKind;
 use mscp_queue::FaultStatus;
 
 /// What the port wants done. Addresses are those of the host's bus.
-#[derive(Debug, PartialEq, Drop)]
+#[derive(Clone, Copy, Debug, PartialEq, Eq)]
 pub enum Action {
     /// Nothing, until a register is touched, a volume comes or goes, or the clock ticks.
     Rest,
@@ -17,10 +16,10 @@ pub enum Action {
         address: u32,
         count: u32,
     },
-    /// These bytes are to be written to host memory from an address on.
+    /// So many bytes, which the port tells by `bytes`, are to be written to host memory from an address on.
     Write {
         address: u32,
-        bytes: ArrayVec<u8, 64>,
+        count: u32,
     },
     /// The host is to be interrupted by this vector.
     Interrupt(u16),

@@ -16,6 +16,7 @@ mod seeing;
 mod serving;
 mod turning;
 mod watching;
+mod writing;
 
 use crate::buffers::Buffer;
 use crate::hardware::Hardware;

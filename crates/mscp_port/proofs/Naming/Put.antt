@@ -30,8 +30,8 @@ call_placed ReadIp earlier old new areas asks k r =
 call_placed (WriteSa word) earlier old new areas asks k r =
     places_behind (words earlier) (reads_at earlier) (asked earlier) new word
     (hand_placed (words earlier) (reads_at earlier) (asked earlier) old new k r.hand)
-call_placed (Next blocks action) earlier old new areas asks k r =
-    next_placed (words earlier) (reads_at earlier) (asked earlier) old new blocks action k r
+call_placed (Next blocks action bytes) earlier old new areas asks k r =
+    next_placed (words earlier) (reads_at earlier) (asked earlier) old new blocks action k r.0
 call_placed PutAside earlier old new areas asks k r = search (arith, hand_placed)
 call_placed (WasRead bytes (Ok done)) earlier old new areas asks k r =
     heard_placed (words earlier) (reads_at earlier) (asked earlier) old new bytes done areas asks.0 k r
@@ -77,15 +77,15 @@ data_put calls o p address count m lies = (lies.0, m.buffer lies.0 lies.1, lies.
 within_put : {K : Type 0} (calls : List Call) (o : Option ℕ) (p : Port K) (action : Action)
     → Knows (words calls) (reads calls) p → Places (words calls) (reads_at calls) o p → IsWithin p action
     → IsPut calls action
-within_put calls o p (actions.Write address bytes) k m lies = ring_put calls o p address (length bytes.items) k m lies
+within_put calls o p (actions.Write address count) k m lies = ring_put calls o p address count k m lies
 within_put calls o p action h4 h5 h6 = grind (arith, ring_put, data_put)
 
 -- the law of places
 pub touches_what_was_put : {K : Type 0} (hardware : Hardware) (credits : ℕ) (controller : Holdings K)
-    (start p : Port K) (calls : List Call) (blocks : Bool) (action : Action)
-    → IsMadeOf hardware credits controller start → AsksFirst calls → Answered start (Next blocks action ∷ calls) p
+    (start p : Port K) (calls : List Call) (blocks : Bool) (action : Action) (bytes : List ℕ)
+    → IsMadeOf hardware credits controller start → AsksFirst calls → Answered start (Next blocks action bytes ∷ calls) p
     → IsPut calls action
-touches_what_was_put hardware credits controller start p calls blocks action made asks a =
-    within_put calls (asked (Next blocks action ∷ calls)) p action
-    (knows hardware credits controller start p (Next blocks action ∷ calls) made a)
-    (placed hardware credits controller start p (Next blocks action ∷ calls) made asks a) (a.2).within
+touches_what_was_put hardware credits controller start p calls blocks action bytes made asks a =
+    within_put calls (asked (Next blocks action bytes ∷ calls)) p action
+    (knows hardware credits controller start p (Next blocks action bytes ∷ calls) made a)
+    (placed hardware credits controller start p (Next blocks action bytes ∷ calls) made asks a) a.2.0.within

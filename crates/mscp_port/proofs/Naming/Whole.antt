@@ -43,8 +43,8 @@ pub after_call : {K : Type 0} (call : Call) (earlier : List Call) (old new : Por
 after_call WriteIp earlier old new k r = new_knows [] [] stages.First old new (λ w. refl) r
 after_call ReadIp earlier old new k r = after_read_ip (words earlier) (reads earlier) old new k r
 after_call (WriteSa word) earlier old new k r = after_write_sa (words earlier) (reads earlier) old new word k r
-after_call (Next blocks action) earlier old new k r =
-    after_next (words earlier) (reads earlier) old new blocks action k r
+after_call (Next blocks action bytes) earlier old new k r =
+    after_next (words earlier) (reads earlier) old new blocks action k r.0
 after_call PutAside earlier old new k r = search arith
 after_call (WasRead bytes result) earlier old new k r = heard earlier old new bytes result k r
 after_call (Went outcome result) earlier old new k r =
@@ -83,8 +83,8 @@ within_named calls p action h3 h4 = grind (arith, ring_named, data_named)
 
 -- the law of ports
 pub touches_what_is_named : {K : Type 0} (hardware : Hardware) (credits : ℕ) (controller : Holdings K) (start : Port K)
-    (p : Port K) (calls : List Call) (blocks : Bool) (action : Action) → IsMadeOf hardware credits controller start
-    → Answered start (Next blocks action ∷ calls) p → IsNamed calls action
-touches_what_is_named hardware credits controller start p calls blocks action made a =
-    within_named calls p action (knows hardware credits controller start p (Next blocks action ∷ calls) made a)
-    (a.2).within
+    (p : Port K) (calls : List Call) (blocks : Bool) (action : Action) (bytes : List ℕ)
+    → IsMadeOf hardware credits controller start → Answered start (Next blocks action bytes ∷ calls) p → IsNamed calls action
+touches_what_is_named hardware credits controller start p calls blocks action bytes made a =
+    within_named calls p action (knows hardware credits controller start p (Next blocks action bytes ∷ calls) made a)
+    a.2.0.within

@@ -132,7 +132,7 @@ impl<K: Picker> Port<K> {
     }
 
     /// How many credits what goes out gives the host: the one that an end gives back, and those that it wasn't told yet.
-    fn credits_told(&self) -> u8
+    pub(crate) fn credits_told(&self) -> u8
         ensures value { result ≡ credits_told self.now }
         ensures few { result ≤ 15 }
     {
@@ -140,21 +140,6 @@ impl<K: Picker> Port<K> {
             Some(outgoing) if outgoing.is_end => 1 + self.untold.min(MOST_MORE),
             _ => 0,
         }
-    }
-
-    /// The packet of what goes out: its length, the credits and the type, the connection, and its text.
-    pub(crate) fn packet(&self) -> ArrayVec<u8, 64>
-        ensures value { IfSome self.now.outgoing (λ o. result.items
-            ≡ packet_of (credits_told self.now) o.bytes.items) }
-        ensures long { array_vec_len result ≤ 52 }
-    {
-        let mut packet = ArrayVec::new();
-        if let Some(outgoing) = &self.outgoing {
-            put_two(&mut packet, outgoing.bytes.len() as u16);
-            put_two(&mut packet, u16::from(self.credits_told()));
-            put(&mut packet, outgoing.bytes.as_slice());
-        }
-        packet
     }
 
     /// The packet was written.

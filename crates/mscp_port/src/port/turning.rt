@@ -1,8 +1,7 @@
 // What the port wants done.
 
 ghost use Rattle.std.specs.Prelude.{◌≡◌, ◌≢◌, ◌≤◌, ◌<◌, ◌⊎◌, ◌+◌, ◌-◌, ◌*◌, ◌^◌, ℕ, true, false, length, Contains, IfSome, IsSome, min, replicate, None, Some};
-ghost use Rattle.mscp_port.specs.Common.{ChangesBySaying, little_bytes, Responses, Commands, IsInArea, end_of, slot_in, slots_of, kept_of, IsInBuffer, Wants, asked, asks_blocks, HasNothingToHear, HasNothingToSay, IsAlive, IsDue, IsIdleUp, IsOfBlock, IsInSomeBuffer, IsWithin, in_hand, BeginsBlock, MayMoveOn, MayMoveUnit, block_begun, is_storing, move_wanted, part_kept, part_now, KeepsSaying, Says, TakesEnd, TellsNews, credits_told, packet_of, given_back, text_of, IsWanted, Writes, clear_from, given_in};
-ghost use Rattle.arrayvec.specs.ArrayVec.{ArrayVec as Written};
+ghost use Rattle.mscp_port.specs.Common.{ChangesBySaying, little_bytes, Responses, Commands, IsInArea, end_of, slot_in, slots_of, kept_of, IsInBuffer, Wants, asked, asks_blocks, HasNothingToHear, HasNothingToSay, IsAlive, IsDue, IsIdleUp, IsOfBlock, IsInSomeBuffer, IsWithin, in_hand, BeginsBlock, MayMoveOn, MayMoveUnit, block_begun, is_storing, move_wanted, part_kept, part_now, KeepsSaying, Says, TakesEnd, TellsNews, credits_told, packet_of, text_of, IsWanted, clear_count, clear_from, given_in, packet_out};
 ghost use Rattle.mscp_port.specs.declared.action.Action.TheVariants as actions;
 ghost use Rattle.mscp_port.specs.declared.buffers.Buffer.{Buffer as Kept};
 ghost use Rattle.mscp_port.specs.declared.stage.Stage.TheVariants as stages;
@@ -13,48 +12,15 @@ use crate::action::{Action, Ask};
 use crate::buffers::{Buffer, find_buffer};
 use crate::port::Port;
 use crate::rings::{Rings, Side};
-use crate::sizes::{CLEARED, ClearSize};
+use crate::sizes::ClearSize;
 use crate::slot::Descriptor;
 use crate::stage::Stage;
 use crate::task::Task;
-use arrayvec::ArrayVec;
 use mscp_packet::MoveKind;
-use mscp_packet::fields::{put, put_four, put_two};
 use mscp_queue::{Picker, Upcoming};
 
 /// The bytes of a packet's header, which stands in front of its text.
 const HEADER: u32 = 4;
-
-/// So many zeros.
-fn zeros(count: u32) -> ArrayVec<u8, 64>
-    requires { count ≤ 64 }
-    ensures value { result.items ≡ replicate count 0 }
-    ensures long { length result.items ≡ count }
-{
-    let mut bytes = ArrayVec::new();
-    put(&mut bytes, &[0; 64][..count as usize]);
-    bytes
-}
-
-/// What an interrupt word is written with.
-fn interrupt_word() -> ArrayVec<u8, 64>
-    ensures value { result.items ≡ little_bytes 2 1 }
-    ensures long { length result.items ≡ 2 }
-{
-    let mut bytes = ArrayVec::new();
-    put_two(&mut bytes, 1);
-    bytes
-}
-
-/// The descriptor of a slot that is given back.
-fn descriptor(slot: &Descriptor) -> ArrayVec<u8, 64>
-    ensures value { result.items ≡ little_bytes 4 (given_back slot.now.word) }
-    ensures long { length result.items ≡ 4 }
-{
-    let mut bytes = ArrayVec::new();
-    put_four(&mut bytes, slot.given_back());
-    bytes
-}
 
 /// A slot of a ring is to be read.
 fn slot_wanted(rings: &Rings, side: Side, number: u32) -> Action
@@ -206,13 +172,13 @@ impl<K: Picker> Port<K> {
                 let number = number_before(&rings, side, u32::from(self.number(side)));
                 slot_wanted(&rings, side, number)
             }
-            (Task::Return(side, slot), Some(rings)) => Action::Write {
+            (Task::Return(side, _), Some(rings)) => Action::Write {
                 address: rings.slot(side, u32::from(self.number(side))),
-                bytes: descriptor(&slot),
+                count: 4,
             },
             (Task::Word(side), Some(rings)) => Action::Write {
                 address: rings.word(side),
-                bytes: interrupt_word(),
+                count: 2,
             },
             (Task::Fetch | Task::Transfer | Task::Store, _) => self.moving(),
             _ => Action::Pause,
@@ -245,13 +211,12 @@ impl<K: Picker> Port<K> {
     fn packet_wanted(&self, slot: Descriptor) -> Action
         requires { in_hand self.now.task ≡ Some slot.word }
         ensures within { IsWithin self.now result }
-        ensures value { IfSome self.now.outgoing (λ o.
-            Writes result (text_of slot.word - 4) (packet_of (credits_told self.now) o.bytes.items)) }
-        ensures write { (address : ℕ) × (bytes : Written ℕ) × (result ≡ actions.Write address bytes) }
+        ensures value { result
+            ≡ actions.Write (text_of slot.word - 4) (length (packet_out self.now self.now.outgoing)) }
     {
         Action::Write {
             address: slot.text().saturating_sub(HEADER),
-            bytes: self.packet(),
+            count: self.packet_size(),
         }
     }
 
@@ -259,14 +224,12 @@ impl<K: Picker> Port<K> {
     fn clearing(&self, rings: &Rings, done: ClearSize) -> Action
         requires { self.now.rings ≡ Some rings.now }
         ensures within { IsWithin self.now result }
-        ensures value { Writes result (clear_from self.now rings.now done)
-            (replicate (min (end_of rings.now - clear_from self.now rings.now done) 64) 0) }
-        ensures some { result ≢ actions.Rest }
+        ensures value { result
+            ≡ actions.Write (clear_from self.now rings.now done) (clear_count self.now rings.now done) }
     {
-        let from = (rings.start(self.has_purge_word()) + done.get()).min(rings.end());
         Action::Write {
-            address: from,
-            bytes: zeros((rings.end() - from).min(CLEARED)),
+            address: self.clear_from(rings, done),
+            count: self.clear_count(rings, done),
         }
     }
 
