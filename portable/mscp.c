@@ -1886,7 +1886,7 @@ L1:;
     return 0xFFFFFFF4u;
 }
 
-static u32 w_mscp_host_init(u64 v0, u32 v1)
+static u32 w_mscp_host_init_at(u64 v0, u32 v1)
 {
     u32 t0, t1;
     t0 = f58();
@@ -22306,10 +22306,10 @@ int64_t mscp_host_balance(const struct mscp_host *host)
     return (int64_t)w_mscp_host_balance(take_host(host, host_room));
 }
 
-int32_t mscp_host_init(struct mscp_host *host, uint32_t credits)
+int32_t mscp_host_init_at(struct mscp_host *host, uint32_t credits)
 {
     u8 host_room[LIES_host ? 1 : 32];
-    const int32_t answer = (int32_t)w_mscp_host_init(take_host(host, host_room), credits);
+    const int32_t answer = (int32_t)w_mscp_host_init_at(take_host(host, host_room), credits);
     give_host(host, host_room);
     return answer;
 }

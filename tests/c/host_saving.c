@@ -36,7 +36,7 @@ static void polls(void)
         is("one at a time", mscp_host_poll(host, 20, &message), MSCP_BUSY);
         put(end + 16, 4, i == 2 ? 17 : 18 - i);
         is("news", mscp_host_receive(host, end, 20, &news),
-           i == 0 ? MSCP_FIRST : i == 1 ? MSCP_PROGRESS : MSCP_RESET);
+           i == 0 ? MSCP_FIRST : i == 1 ? MSCP_PROGRESS : MSCP_NO_PROGRESS);
         host = moved(host, &memory);
     }
     is("balance", mscp_host_balance(host), 3);

@@ -59,7 +59,7 @@ static void same(void)
 static void same_figures(void)
 {
     struct mscp_waiting list[64], other[64];
-    int32_t count = mscp_look(moving.mscp, list, 64);
+    int64_t count = mscp_look(moving.mscp, list, 64);
     is("how many wait", mscp_look(staying.mscp, other, 64), count);
     for (int32_t i = 0; i < count; i++) {
         is("number", list[i].reference, other[i].reference);

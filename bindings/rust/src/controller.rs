@@ -18,7 +18,8 @@ impl Controller {
     ///
     /// # Errors
     /// [`Error::ManyUnits`], those of the first unit that has one ([`Error::ZeroTrack`] to [`Error::ZeroSize`]),
-    /// [`Error::UnitsFall`], [`Error::NoUnits`], and those of the limits ([`Error::BadCredits`] to [`Error::BadBound`]).
+    /// [`Error::UnitsFall`], [`Error::NoUnits`], and those of the limits ([`Error::BadCredits`] to [`Error::BadBound`]). Or
+    /// [`Error::NoHandle`] where the library doesn't fit.
     pub fn new(limits: &Limits, units: &[Unit], picker: Picker) -> Result<Self, Error> {
         let mut it = Self(Held::room(raw::ROOM));
         it.init(limits, units, picker)?;

@@ -49,8 +49,8 @@ errors! {
     Unknown = -9, "the end of no outstanding command";
     NotMade = -10, "nothing was made in the memory";
     Made = -11, "something was made in the memory already";
-    NoHandle = -12, "no handle";
-    NoMemory = -13, "the memory is NULL";
+    NoHandle = -12, "no handle, or one of another version";
+    NoMemory = -13, "the handle or its memory is NULL";
     Misaligned = -14, "the memory is misaligned";
     Small = -15, "the memory is too small";
     BadPicker = -20, "no picker of this number";

@@ -23,8 +23,10 @@ pub(crate) struct Held<const WORDS: usize> {
 unsafe impl<const WORDS: usize> Send for Held<WORDS> {}
 
 impl<const WORDS: usize> Held<WORDS> {
-    /// Memory in which nothing was made, by the mark of such memory.
+    /// Memory in which nothing was made, by the mark of such memory. It has none if the library doesn't fit: then every init
+    /// refuses it.
     pub(crate) fn room(mark: u64) -> Self {
+        let mark = if crate::fits(crate::version()) { mark } else { 0 };
         let length = (WORDS * core::mem::size_of::<u64>()) as u64;
         Self {
             handle: Handle { at: Aligned(core::ptr::null_mut()), address: Aligned(0), length, mark },

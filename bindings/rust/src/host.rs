@@ -45,7 +45,7 @@ pub enum News {
     /// The polled command has ended in the meantime.
     Late,
     /// The polled command's figure hasn't fallen: reset the controller.
-    Reset,
+    NoProgress,
     /// The controller doesn't know the polled command: reset it.
     Lost,
 }
@@ -54,7 +54,7 @@ impl Host {
     /// A host of a connection with so many credits: 2 to 64. Make it anew when its port is reset.
     ///
     /// # Errors
-    /// [`Error::BadCredits`].
+    /// [`Error::BadCredits`], or [`Error::NoHandle`] where the library doesn't fit.
     pub fn new(credits: u32) -> Result<Self, Error> {
         let mut it = Self(Held::room(raw::HOST_ROOM));
         it.init(credits)?;
@@ -73,7 +73,7 @@ impl Host {
 
     fn init(&mut self, credits: u32) -> Result<(), Error> {
         // SAFETY: the handle is that of memory of ours, in which nothing was made.
-        checked(unsafe { raw::mscp_host_init(self.0.handle(), credits) }).map(drop)
+        checked(unsafe { raw::mscp_host_init_at(self.0.handle(), credits) }).map(drop)
     }
 
     /// How many credits are free: 0 to 64.
@@ -121,7 +121,7 @@ impl Host {
             status::FIRST => News::First(news.figure),
             status::PROGRESS => News::Progress(news.figure),
             status::LATE => News::Late,
-            status::RESET => News::Reset,
+            status::NO_PROGRESS => News::NoProgress,
             status::LOST => News::Lost,
             _ => {
                 let raw::News { reference, unit, status, moved, code, .. } = news;

@@ -51,7 +51,14 @@ pub const HOST_SAVED_MAX: usize = 794;
 /// Bytes that a port is saved as, at most.
 pub const PORT_SAVED_MAX: usize = 5416;
 
-/// The version of the library that is linked. If it isn't [`VERSION`], it is another one's.
+/// Whether a library of this version fits: its first number is that of [`VERSION`], and before 1.0 the second one too. If it
+/// doesn't, whatever makes a controller, a host or a port answers [`Error::NoHandle`].
+#[must_use]
+pub const fn fits(version: u32) -> bool {
+    (version ^ VERSION) >> (if VERSION < 0x01_00_00 { 8 } else { 16 }) == 0
+}
+
+/// The version of the library that is linked.
 #[must_use]
 pub fn version() -> u32 {
     // SAFETY: it reads nothing.

@@ -39,7 +39,7 @@ pub mod status {
     pub const FIRST: i32 = 6;
     pub const PROGRESS: i32 = 7;
     pub const LATE: i32 = 8;
-    pub const RESET: i32 = 9;
+    pub const NO_PROGRESS: i32 = 9;
     pub const LOST: i32 = 10;
 }
 
@@ -128,7 +128,7 @@ extern "C" {
     pub fn mscp_save_at(m: *const Handle, bytes: *mut u8, room: usize, length: *mut usize) -> i32;
     pub fn mscp_restore_at(m: *mut Handle, bytes: *const u8, length: usize) -> i32;
 
-    pub fn mscp_host_init(h: *mut Handle, credits: u32) -> i32;
+    pub fn mscp_host_init_at(h: *mut Handle, credits: u32) -> i32;
     pub fn mscp_host_balance(h: *const Handle) -> i64;
     pub fn mscp_host_submit_at(h: *mut Handle, message: *const u8, length: usize) -> i32;
     pub fn mscp_host_poll(h: *mut Handle, reference: u32, message: *mut Packet) -> i32;

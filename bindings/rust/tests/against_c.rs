@@ -196,7 +196,7 @@ fn hosts_answer_as_c_does() {
         let mut safe = Box::new(Host::new(6).unwrap());
         let mut c = Raw::new(raw::HOST_SIZE, raw::HOST_ROOM);
         // SAFETY: the handle is that of memory of its own, in which nothing was made.
-        assert_eq!(unsafe { raw::mscp_host_init(c.handle(), 6) }, status::DONE);
+        assert_eq!(unsafe { raw::mscp_host_init_at(c.handle(), 6) }, status::DONE);
         for _ in 0..300 {
             match random.below(6) {
                 0 | 1 => submit(&mut safe, &mut c, &mut controller, &message(&mut random)),
@@ -262,7 +262,7 @@ fn receive(safe: &mut Host, c: &mut Raw, end: &[u8]) {
         News::First(_) => status::FIRST,
         News::Progress(_) => status::PROGRESS,
         News::Late => status::LATE,
-        News::Reset => status::RESET,
+        News::NoProgress => status::NO_PROGRESS,
         News::Lost => status::LOST,
     };
     assert_eq!(status_of(&told, in_c), number);

@@ -69,7 +69,7 @@ fn errors_are_the_faults_of_c() {
 #[test]
 fn other_statuses_are_those_of_c() {
     use raw::status::*;
-    let ours = [NOTHING, DONE, QUEUED, ANSWERED, BUSY, ENDED, FIRST, PROGRESS, LATE, RESET, LOST].map(i64::from);
+    let ours = [NOTHING, DONE, QUEUED, ANSWERED, BUSY, ENDED, FIRST, PROGRESS, LATE, NO_PROGRESS, LOST].map(i64::from);
     let mut theirs: Vec<_> = enumerators("status").into_values().filter(|it| *it >= 0).collect();
     theirs.sort_unstable();
     assert_eq!(ours.as_slice(), theirs);
@@ -121,6 +121,8 @@ fn numbers_are_those_of_c() {
 #[test]
 fn library_is_of_this_version() {
     assert_eq!(mscp::version(), mscp::VERSION);
+    assert!(mscp::fits(mscp::VERSION) && mscp::fits(mscp::VERSION ^ 0x7F) && !mscp::fits(mscp::VERSION ^ 0x01_0000));
+    assert_eq!(mscp::fits(mscp::VERSION ^ 0x0100), mscp::VERSION >= 0x01_0000);
     // SAFETY: these calls read nothing.
     unsafe {
         assert!(raw::mscp_size() <= raw::SIZE && raw::mscp_align() <= align_of::<raw::Handle>());
