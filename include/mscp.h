@@ -15,8 +15,8 @@
  *
  * Not proved, but tested: a handle may go from one thread to another, if a lock lets one call at a time through.
  *
- * A fault changes nothing: not the handle, not its memory, nor what an out-pointer points to. Nor do MSCP_NOTHING and
- * MSCP_BUSY write what an out-pointer points to.
+ * A fault changes nothing: not the handle, not its memory, nor what an out-pointer points to, but for the length that a save
+ * tells. Nor do MSCP_NOTHING and MSCP_BUSY write what an out-pointer points to.
  *
  * Numbers are the machine's own. Messages and ends are bytes, as the manual (DEC AA-L619A-TK) has them, and
  * docs/FORMATS.md in the sources. */
@@ -639,8 +639,8 @@ MSCP_INLINE int64_t mscp_settings(const struct mscp *mscp, struct mscp_limits *l
 size_t mscp_save_size(void);
 
 /* Writes all that the calls tell of the controller, and its limits, units and picker, as `*length` bytes to the front
- * of the room. docs/SAVED.md has their layout. MSCP_DONE, or MSCP_SMALL if the room has fewer bytes. The same state has
- * the same bytes, on every machine. */
+ * of the room. docs/SAVED.md has their layout. MSCP_DONE, or MSCP_SMALL if the room has fewer bytes: `*length` is how many
+ * they are then too, and nothing is written. The same state has the same bytes, on every machine. */
 MSCP_MUST_USE
 MSCP_INLINE int32_t mscp_save(const struct mscp *mscp, uint8_t *bytes, size_t room, size_t *length)
 {

@@ -78,6 +78,10 @@ static void bytes_are_these(void)
     is("save", mscp_host_save(host, bytes, sizeof bytes, &length), MSCP_DONE);
     is("its length", (int64_t)length, LENGTH);
     is("its bytes", memcmp(bytes, POLLED_TWICE, LENGTH), 0);
+    memset(bytes, 0xA5, sizeof bytes);
+    length = 5;
+    is("a byte too few", mscp_host_save(host, bytes, LENGTH - 1, &length), MSCP_SMALL);
+    is("what it takes", length == LENGTH && bytes[0] == 0xA5, 1);
     free(memory);
 }
 
