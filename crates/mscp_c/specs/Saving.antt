@@ -13,7 +13,7 @@ use Rattle.mscp_c.specs.Statuses.{restore_code, room_code}
 abbrev pub fits : List ℕ → List ℕ → Bool
 fits bytes room = nat_le (length bytes) (length room)
 
--- the status; the room, with the bytes at its front, or as it was where they don't fit; and how many they are, also then
+-- the status; the room, with the bytes at its front, or as it was if they don't fit; and how many they are, also then
 abbrev pub save_code : List ℕ → List ℕ → ℤ
 save_code bytes room = if fits bytes room then DONE else SMALL
 
