@@ -1,6 +1,6 @@
 //! What a controller, a host or a port lies in.
 
-use core::marker::PhantomData;
+use core::cell::UnsafeCell;
 use core::mem::MaybeUninit;
 use core::ptr::addr_of_mut;
 
@@ -12,9 +12,8 @@ use crate::raw::{Aligned, Handle};
 /// while it runs. `mscp.h` asks just this of whoever moves memory: what is in it has no pointer into itself.
 #[repr(C)]
 pub(crate) struct Held<const WORDS: usize> {
-    handle: Handle,
-    memory: [MaybeUninit<u64>; WORDS],
-    _one_call_at_a_time: PhantomData<*mut ()>, // so it is neither Sync nor, but for the line below, Send
+    handle: Handle, // its pointer keeps this from being Sync and, but for the line below, Send
+    memory: UnsafeCell<[MaybeUninit<u64>; WORDS]>,
 }
 
 // SAFETY: `mscp.h` lets a handle go from one thread to another as long as one call at a time is made on it. All calls want a
@@ -30,8 +29,7 @@ impl<const WORDS: usize> Held<WORDS> {
         let length = (WORDS * core::mem::size_of::<u64>()) as u64;
         Self {
             handle: Handle { at: Aligned(core::ptr::null_mut()), address: Aligned(0), length, mark },
-            memory: [MaybeUninit::uninit(); WORDS],
-            _one_call_at_a_time: PhantomData,
+            memory: UnsafeCell::new([MaybeUninit::uninit(); WORDS]),
         }
     }
 
@@ -40,18 +38,19 @@ impl<const WORDS: usize> Held<WORDS> {
     /// The pointer is good for reads and writes as long as the borrow of `self` that the caller has, and so is the one
     /// inside it. They lead to two fields, so they don't overlap.
     pub(crate) fn handle(&mut self) -> *mut Handle {
-        let at = self.memory.as_mut_ptr();
+        let at = self.memory.get();
         self.handle.at = Aligned(at.cast());
         self.handle.address = Aligned(at as usize as u64);
         addr_of_mut!(self.handle)
     }
 
-    /// The same for a call that takes a `const` handle: it writes neither handle nor memory. It gets a copy of the handle,
-    /// and nobody uses the first one meanwhile, since `self` is borrowed and isn't `Sync`.
+    /// The same for a call that takes a `const` handle: what it tells of the memory is the same before and after it. It gets a
+    /// copy of the handle, and nobody uses the first one meanwhile, since `self` is borrowed and isn't `Sync`. The pointer to
+    /// the memory is that of a cell, so that it is good for whatever the call does there.
     pub(crate) fn fixed(&self) -> Handle {
-        let at = self.memory.as_ptr();
+        let at = self.memory.get();
         let mut handle = self.handle;
-        handle.at = Aligned(at as *mut _);
+        handle.at = Aligned(at.cast());
         handle.address = Aligned(at as usize as u64);
         handle
     }
