@@ -108,6 +108,24 @@ provide() {
     exec {told}<&-
 }
 
+# The name by which a program that is linked to the shared object finds it: with all that may change what the program was
+# compiled for. That is the first number of the version, or before 1.0 the first two.
+soname() {
+    local number
+    IFS=. read -ra number <"$top/VERSION"
+    [ "${number[0]}" -gt 0 ] && echo "libmscp.so.${number[0]}" || echo "libmscp.so.0.${number[1]}"
+}
+
+# Makes the shared object of an archive of the library, by a compiler and its words. Nothing in it needs a stack that is
+# run as code.
+link_shared() {
+    local archive=$1 to=$2 said
+    shift 2
+    local words=(-shared -fPIC -O2 -std=c99 -I "$top/include" "$top/include/shared.c" -Wl,--whole-archive
+        "$archive" -Wl,--no-whole-archive "-Wl,-soname,$(soname),-z,defs,-z,noexecstack")
+    said=$("$@" "${words[@]}" -o "$to" 2>&1) || refuse "${to##*/} was not linked: $said"
+}
+
 # All that follows is the build's.
 
 # Prints the stamp of what stands here now. A link that leads nowhere, as some editors leave one, is no source.

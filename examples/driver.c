@@ -150,7 +150,7 @@ static void hear(struct driver *driver, const struct mscp_packet *end)
         break;
     case MSCP_LATE: /* its end came before the answer */
         break;
-    case MSCP_RESET:
+    case MSCP_NO_PROGRESS:
         reset(driver, "the figure doesn't fall");
         break;
     case MSCP_LOST:

@@ -1,20 +1,33 @@
 #!/usr/bin/env python3
 """A host brings a unit online and sends a READ of three blocks, which it polls until it has ended, by ctypes:
 
-    python3 poll.py PREFIX/lib/libmscp.so
-    python3 poll.py PREFIX/lib/libmscp.so STATE     (the same in two processes)
+    python3 poll.py
+    python3 poll.py STATE     (the same in two processes)
 
 With a file STATE both ends, the controller and the host, are saved to it after the first block; run again, this goes on
-from there. The structs are those of mscp.h, and so are the numbers of statuses and opcodes.
+from there. The structs are those of mscp.h, and so are the numbers of statuses and opcodes. The library is the one that
+MSCP_LIBRARY names; or the one of the folder that this was installed in; or the one that the system knows.
 """
 from ctypes import CDLL, Structure, byref, c_char_p, c_int64, c_size_t, c_uint8, c_uint16, c_uint32, c_uint64, sizeof
+from ctypes.util import find_library
+from os import environ
 from os.path import exists
+from pathlib import Path
 from struct import calcsize, pack, unpack
 from sys import argv, exit
 
 FIRST, SWEEP, ONLINE, READ = 0, 1, 9, 33
 DONE, QUEUED, ANSWERED, ENDED, FIGURE, PROGRESS = 1, 2, 3, 5, 6, 7
-library = CDLL(argv[1])
+
+
+def installed():
+    """The library's file or name."""
+    beside = (folder / "lib/libmscp.so" for folder in Path(__file__).resolve().parents)
+    found = environ.get("MSCP_LIBRARY") or next((str(file) for file in beside if file.exists()), find_library("mscp"))
+    return found or exit("there is no libmscp.so: install it, or let MSCP_LIBRARY name it")
+
+
+library = CDLL(installed())
 library.mscp_status_text.argtypes, library.mscp_status_text.restype = [c_int64], c_char_p
 
 
@@ -114,7 +127,7 @@ def begin():
 
 mscp = memory(library.mscp_in_memory, library.mscp_size)
 host = memory(library.mscp_host_in_memory, library.mscp_host_size)
-state = argv[2] if len(argv) > 2 else None
+state = argv[1] if len(argv) > 1 else None
 if state and exists(state):
     restore(state)
     state = None

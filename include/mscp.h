@@ -8,14 +8,15 @@
  * - A handle is made by mscp_in_memory or mscp_over (of a host by mscp_host_in_memory or mscp_host_over, of a port by
  *   mscp_port_in_memory or mscp_port_over), over memory that is really there and really yours. After that only the calls
  *   write the handle and its memory. Two handles are never over one memory, and no copy of a handle is used beside it.
+ *   One that is NULL is MSCP_NO_MEMORY of an init and a restore, and MSCP_NOT_MADE of the calls that are inline here.
  * - Memory that moves, as by realloc or to a file and back, moves whole, and mscp_moved says so before the next call.
  *   Only a library of the same version knows what lies in it.
  * - One call at a time on a handle.
  *
  * Not proved, but tested: a handle may go from one thread to another, if a lock lets one call at a time through.
  *
- * A fault changes nothing: not the handle, not its memory, nor what an out-pointer points to. Nor do MSCP_NOTHING and
- * MSCP_BUSY write what an out-pointer points to.
+ * A fault changes nothing: not the handle, not its memory, nor what an out-pointer points to, but for the length that a save
+ * tells. Nor do MSCP_NOTHING and MSCP_BUSY write what an out-pointer points to.
  *
  * Numbers are the machine's own. Messages and ends are bytes, as the manual (DEC AA-L619A-TK) has them, and
  * docs/FORMATS.md in the sources. */
@@ -61,9 +62,11 @@ extern "C" {
 #define MSCP_ALIGNED
 #endif
 
-/* The version of this header, 0.5.0: a byte for each of the three numbers. Where mscp_version answers another number
- * the library is another one's. */
+/* The version of this header, 0.5.0: a byte for each of the three numbers, and that of the library. The two fit if the first
+ * number is the same, and before 1.0 the second one too: docs/C.md in the sources says what is the same then. If they don't,
+ * an init says MSCP_NO_HANDLE, since a handle that this header makes is none for that library. */
 #define MSCP_VERSION UINT32_C(0x000500)
+#define MSCP_FITS() ((mscp_version() ^ MSCP_VERSION) >> (MSCP_VERSION < UINT32_C(0x010000) ? 8 : 16) == 0)
 uint32_t mscp_version(void);
 
 #define MSCP_CREDITS_MAX 64u  /* commands that wait and ends that weren't taken, of both connections together */
@@ -87,7 +90,7 @@ enum mscp_status {
     MSCP_FIRST = 6,     /* the polled command's figure, the first that was told of it */
     MSCP_PROGRESS = 7,  /* the polled command's figure, which has fallen */
     MSCP_LATE = 8,      /* the polled command has ended in the meantime */
-    MSCP_RESET = 9,     /* the polled command's figure hasn't fallen: reset the controller */
+    MSCP_NO_PROGRESS = 9, /* the polled command's figure hasn't fallen: reset the controller */
     MSCP_LOST = 10,     /* the controller doesn't know the polled command: reset it */
 
     MSCP_SHORT = -1,        /* the message has under 12 bytes */
@@ -102,8 +105,8 @@ enum mscp_status {
 
     MSCP_NOT_MADE = -10,    /* nothing was made in the handle's memory: init it first */
     MSCP_MADE = -11,        /* an init, where something is made: reset a controller, give all else a new handle */
-    MSCP_NO_HANDLE = -12,   /* an init of what is no handle */
-    MSCP_NO_MEMORY = -13,   /* an init: the memory is NULL */
+    MSCP_NO_HANDLE = -12,   /* an init of what is no handle, or of one by the header of another version */
+    MSCP_NO_MEMORY = -13,   /* an init: the handle or its memory is NULL */
     MSCP_MISALIGNED = -14,  /* an init: its address isn't a multiple of the alignment */
     MSCP_SMALL = -15,       /* it has fewer bytes than what is to be made, saved or written there takes */
 
@@ -424,66 +427,45 @@ size_t mscp_port_align(void);
 /* A handle on memory that is yours, for an init. The handle lies where you put it. */
 MSCP_INLINE struct mscp mscp_over(void *memory, size_t length)
 {
-    struct mscp handle = {memory, (uintptr_t)memory, length, MSCP_ROOM};
+    struct mscp handle = {memory, (uintptr_t)memory, length, MSCP_FITS() ? MSCP_ROOM : 0};
     MSCP_HERE();
     return handle;
 }
 MSCP_INLINE struct mscp_host mscp_host_over(void *memory, size_t length)
 {
-    struct mscp_host handle = {memory, (uintptr_t)memory, length, MSCP_HOST_ROOM};
+    struct mscp_host handle = {memory, (uintptr_t)memory, length, MSCP_FITS() ? MSCP_HOST_ROOM : 0};
     MSCP_HERE();
     return handle;
 }
 MSCP_INLINE struct mscp_port mscp_port_over(void *memory, size_t length)
 {
-    struct mscp_port handle = {memory, (uintptr_t)memory, length, MSCP_PORT_ROOM};
+    struct mscp_port handle = {memory, (uintptr_t)memory, length, MSCP_FITS() ? MSCP_PORT_ROOM : 0};
     MSCP_HERE();
     return handle;
 }
 
 /* The same with the handle at the head of the memory, whose own pointer then serves each call. A controller takes
- * MSCP_HEAD + mscp_size() bytes so. If there isn't even room for a handle, this answers a handle on no memory, and
- * mscp_init says why. That handle isn't in your memory, so free the memory and never what this answers. A controller
- * that is in the memory already is forgotten: this call takes the memory for room, whatever lies there. */
+ * MSCP_HEAD + mscp_size() bytes so. NULL, if the memory is NULL, isn't aligned, or has no room for a handle: mscp_init says
+ * MSCP_NO_MEMORY then. A controller that is in the memory already is forgotten: this call takes the memory for room,
+ * whatever lies there. */
 MSCP_INLINE struct mscp *mscp_in_memory(void *memory, size_t length)
 {
-    static struct mscp null = {NULL, 0, 0, MSCP_ROOM};
-    static struct mscp misaligned = {NULL, 1, 0, MSCP_ROOM};
-    static struct mscp small = {NULL, 4096, 0, MSCP_ROOM};
-    if (memory == NULL)
-        return &null;
-    if ((uintptr_t)memory % MSCP_ALIGN != 0)
-        return &misaligned;
-    if (length < MSCP_HEAD)
-        return &small;
+    if (memory == NULL || (uintptr_t)memory % MSCP_ALIGN != 0 || length < MSCP_HEAD)
+        return NULL;
     *(struct mscp *)memory = mscp_over((char *)memory + MSCP_HEAD, length - MSCP_HEAD);
     return (struct mscp *)memory;
 }
 MSCP_INLINE struct mscp_host *mscp_host_in_memory(void *memory, size_t length)
 {
-    static struct mscp_host null = {NULL, 0, 0, MSCP_HOST_ROOM};
-    static struct mscp_host misaligned = {NULL, 1, 0, MSCP_HOST_ROOM};
-    static struct mscp_host small = {NULL, 4096, 0, MSCP_HOST_ROOM};
-    if (memory == NULL)
-        return &null;
-    if ((uintptr_t)memory % MSCP_ALIGN != 0)
-        return &misaligned;
-    if (length < MSCP_HEAD)
-        return &small;
+    if (memory == NULL || (uintptr_t)memory % MSCP_ALIGN != 0 || length < MSCP_HEAD)
+        return NULL;
     *(struct mscp_host *)memory = mscp_host_over((char *)memory + MSCP_HEAD, length - MSCP_HEAD);
     return (struct mscp_host *)memory;
 }
 MSCP_INLINE struct mscp_port *mscp_port_in_memory(void *memory, size_t length)
 {
-    static struct mscp_port null = {NULL, 0, 0, MSCP_PORT_ROOM};
-    static struct mscp_port misaligned = {NULL, 1, 0, MSCP_PORT_ROOM};
-    static struct mscp_port small = {NULL, 4096, 0, MSCP_PORT_ROOM};
-    if (memory == NULL)
-        return &null;
-    if ((uintptr_t)memory % MSCP_ALIGN != 0)
-        return &misaligned;
-    if (length < MSCP_HEAD)
-        return &small;
+    if (memory == NULL || (uintptr_t)memory % MSCP_ALIGN != 0 || length < MSCP_HEAD)
+        return NULL;
     *(struct mscp_port *)memory = mscp_port_over((char *)memory + MSCP_HEAD, length - MSCP_HEAD);
     return (struct mscp_port *)memory;
 }
@@ -514,8 +496,8 @@ MSCP_INLINE struct mscp_port *mscp_port_moved(void *memory)
     return handle;
 }
 
-/* The library's own form of twenty calls: their pointer to a list or to bytes is never NULL. In C call those without
- * _at. */
+/* The library's own form of the calls that are inline below: neither a handle nor a pointer to a list or to bytes is ever
+ * NULL. In C call those without _at. */
 int32_t mscp_init_at(struct mscp *mscp, const struct mscp_limits *limits, const struct mscp_unit *units, size_t count,
                      uint32_t picker);
 int32_t mscp_send_at(struct mscp *mscp, uint32_t connection, const uint8_t *message, size_t length,
@@ -526,6 +508,7 @@ int32_t mscp_why_at(const struct mscp *mscp, uint32_t connection, uint32_t refer
                     size_t room);
 int32_t mscp_save_at(const struct mscp *mscp, uint8_t *bytes, size_t room, size_t *length);
 int32_t mscp_restore_at(struct mscp *mscp, const uint8_t *bytes, size_t length);
+int32_t mscp_host_init_at(struct mscp_host *host, uint32_t credits);
 int32_t mscp_host_submit_at(struct mscp_host *host, const uint8_t *message, size_t length);
 int32_t mscp_host_receive_at(struct mscp_host *host, const uint8_t *bytes, size_t length, struct mscp_news *news);
 int32_t mscp_host_save_at(const struct mscp_host *host, uint8_t *bytes, size_t room, size_t *length);
@@ -561,6 +544,8 @@ MSCP_INLINE int32_t mscp_init(struct mscp *mscp, const struct mscp_limits *limit
                               size_t count, uint32_t picker)
 {
     const struct mscp_unit none = {0, 0, 0, 0, 0, 0, 0, 0};
+    if (mscp == NULL)
+        return MSCP_NO_MEMORY;
     return mscp_init_at(mscp, limits, count == 0 ? &none : units, count, picker);
 }
 
@@ -577,6 +562,8 @@ MSCP_INLINE int32_t mscp_send(struct mscp *mscp, uint32_t connection, const uint
                               struct mscp_sent *sent)
 {
     const uint8_t none = 0;
+    if (mscp == NULL)
+        return MSCP_NOT_MADE;
     return mscp_send_at(mscp, connection, length == 0 ? &none : message, length, sent);
 }
 
@@ -601,9 +588,11 @@ MSCP_MUST_USE int32_t mscp_step(struct mscp *mscp, uint16_t status, struct mscp_
 
 /* Lists the figures of the waiting commands of both connections, oldest first, as many as there is room for. It answers
  * how many commands wait: 0 to 63. */
-MSCP_INLINE int32_t mscp_look(const struct mscp *mscp, struct mscp_waiting *list, size_t room)
+MSCP_INLINE int64_t mscp_look(const struct mscp *mscp, struct mscp_waiting *list, size_t room)
 {
     struct mscp_waiting none = {0, 0, 0};
+    if (mscp == NULL)
+        return MSCP_NOT_MADE;
     return mscp_look_at(mscp, room == 0 ? &none : list, room);
 }
 
@@ -611,10 +600,12 @@ MSCP_INLINE int32_t mscp_look(const struct mscp *mscp, struct mscp_waiting *list
  * there is room for. It answers how many keep it back: 0 to 62, and 0 too if no command of that number waits. While no
  * other command is in service, a command that nobody keeps back may start. For the command in service this lists those
  * that would keep it back if it had still to start. */
-MSCP_INLINE int32_t mscp_why(const struct mscp *mscp, uint32_t connection, uint32_t reference,
+MSCP_INLINE int64_t mscp_why(const struct mscp *mscp, uint32_t connection, uint32_t reference,
                              struct mscp_holder *list, size_t room)
 {
     struct mscp_holder none = {0, 0, 0, 0};
+    if (mscp == NULL)
+        return MSCP_NOT_MADE;
     return mscp_why_at(mscp, connection, reference, room == 0 ? &none : list, room);
 }
 
@@ -633,10 +624,12 @@ int32_t mscp_is_online(const struct mscp *mscp, uint16_t unit);
 
 /* The limits of the controller, and its units, as many as there is room for: what it was made of, also if it was restored.
  * It answers how many units there are: 1 to 16. */
-MSCP_INLINE int32_t mscp_settings(const struct mscp *mscp, struct mscp_limits *limits, struct mscp_unit *units,
+MSCP_INLINE int64_t mscp_settings(const struct mscp *mscp, struct mscp_limits *limits, struct mscp_unit *units,
                                   size_t room)
 {
     struct mscp_unit none = {0, 0, 0, 0, 0, 0, 0, 0};
+    if (mscp == NULL)
+        return MSCP_NOT_MADE;
     return mscp_settings_at(mscp, limits, room == 0 ? &none : units, room);
 }
 
@@ -646,12 +639,14 @@ MSCP_INLINE int32_t mscp_settings(const struct mscp *mscp, struct mscp_limits *l
 size_t mscp_save_size(void);
 
 /* Writes all that the calls tell of the controller, and its limits, units and picker, as `*length` bytes to the front
- * of the room. docs/SAVED.md has their layout. MSCP_DONE, or MSCP_SMALL if the room has fewer bytes. The same state has
- * the same bytes, on every machine. */
+ * of the room. docs/SAVED.md has their layout. MSCP_DONE, or MSCP_SMALL if the room has fewer bytes: `*length` is how many
+ * they are then too, and nothing is written. The same state has the same bytes, on every machine. */
 MSCP_MUST_USE
 MSCP_INLINE int32_t mscp_save(const struct mscp *mscp, uint8_t *bytes, size_t room, size_t *length)
 {
     uint8_t none = 0;
+    if (mscp == NULL)
+        return MSCP_NOT_MADE;
     return mscp_save_at(mscp, room == 0 ? &none : bytes, room, length);
 }
 
@@ -663,6 +658,8 @@ MSCP_MUST_USE
 MSCP_INLINE int32_t mscp_restore(struct mscp *mscp, const uint8_t *bytes, size_t length)
 {
     const uint8_t none = 0;
+    if (mscp == NULL)
+        return MSCP_NO_MEMORY;
     return mscp_restore_at(mscp, length == 0 ? &none : bytes, length);
 }
 
@@ -671,7 +668,13 @@ MSCP_INLINE int32_t mscp_restore(struct mscp *mscp, const uint8_t *bytes, size_t
 /* Makes a host in the handle's memory, with as many credits as its connection has: 2 to 64. MSCP_DONE, or a fault of
  * the memory (-11 to -15), or MSCP_BAD_CREDITS. Do it anew (in fresh memory, or over a new handle) when the port is
  * reset. */
-MSCP_MUST_USE int32_t mscp_host_init(struct mscp_host *host, uint32_t credits);
+MSCP_MUST_USE
+MSCP_INLINE int32_t mscp_host_init(struct mscp_host *host, uint32_t credits)
+{
+    if (host == NULL)
+        return MSCP_NO_MEMORY;
+    return mscp_host_init_at(host, credits);
+}
 
 /* How many credits are free: 0 to 64. */
 int64_t mscp_host_balance(const struct mscp_host *host);
@@ -682,6 +685,8 @@ MSCP_MUST_USE
 MSCP_INLINE int32_t mscp_host_submit(struct mscp_host *host, const uint8_t *message, size_t length)
 {
     const uint8_t none = 0;
+    if (host == NULL)
+        return MSCP_NOT_MADE;
     return mscp_host_submit_at(host, length == 0 ? &none : message, length);
 }
 
@@ -697,6 +702,8 @@ MSCP_INLINE int32_t mscp_host_receive(struct mscp_host *host, const uint8_t *byt
                                       struct mscp_news *news)
 {
     const uint8_t none = 0;
+    if (host == NULL)
+        return MSCP_NOT_MADE;
     return mscp_host_receive_at(host, length == 0 ? &none : bytes, length, news);
 }
 
@@ -708,6 +715,8 @@ MSCP_MUST_USE
 MSCP_INLINE int32_t mscp_host_save(const struct mscp_host *host, uint8_t *bytes, size_t room, size_t *length)
 {
     uint8_t none = 0;
+    if (host == NULL)
+        return MSCP_NOT_MADE;
     return mscp_host_save_at(host, room == 0 ? &none : bytes, room, length);
 }
 
@@ -718,6 +727,8 @@ MSCP_MUST_USE
 MSCP_INLINE int32_t mscp_host_restore(struct mscp_host *host, const uint8_t *bytes, size_t length)
 {
     const uint8_t none = 0;
+    if (host == NULL)
+        return MSCP_NO_MEMORY;
     return mscp_host_restore_at(host, length == 0 ? &none : bytes, length);
 }
 
@@ -735,6 +746,8 @@ MSCP_INLINE int32_t mscp_port_init(struct mscp_port *port, const struct mscp_lim
                                    const struct mscp_hardware *hardware, uint32_t credits)
 {
     const struct mscp_unit none = {0, 0, 0, 0, 0, 0, 0, 0};
+    if (port == NULL)
+        return MSCP_NO_MEMORY;
     return mscp_port_init_at(port, limits, count == 0 ? &none : units, count, picker, hardware, credits);
 }
 
@@ -768,6 +781,8 @@ MSCP_MUST_USE
 MSCP_INLINE int32_t mscp_port_was_read(struct mscp_port *port, const uint8_t *bytes, size_t length)
 {
     const uint8_t none = 0;
+    if (port == NULL)
+        return MSCP_NOT_MADE;
     return mscp_port_was_read_at(port, length == 0 ? &none : bytes, length);
 }
 
@@ -807,24 +822,30 @@ int32_t mscp_port_volume(const struct mscp_port *port, uint16_t unit, struct msc
 int32_t mscp_port_begun(const struct mscp_port *port, struct mscp_upcoming *upcoming);
 
 /* The limits and units of the port's controller, as mscp_settings tells them. */
-MSCP_INLINE int32_t mscp_port_settings(const struct mscp_port *port, struct mscp_limits *limits,
+MSCP_INLINE int64_t mscp_port_settings(const struct mscp_port *port, struct mscp_limits *limits,
                                        struct mscp_unit *units, size_t room)
 {
     struct mscp_unit none = {0, 0, 0, 0, 0, 0, 0, 0};
+    if (port == NULL)
+        return MSCP_NOT_MADE;
     return mscp_port_settings_at(port, limits, room == 0 ? &none : units, room);
 }
 
 /* The commands that wait in the port's controller, as mscp_look lists them, and who keeps one of them back, as mscp_why does.
  * The host's are those of the first connection. */
-MSCP_INLINE int32_t mscp_port_look(const struct mscp_port *port, struct mscp_waiting *list, size_t room)
+MSCP_INLINE int64_t mscp_port_look(const struct mscp_port *port, struct mscp_waiting *list, size_t room)
 {
     struct mscp_waiting none = {0, 0, 0};
+    if (port == NULL)
+        return MSCP_NOT_MADE;
     return mscp_port_look_at(port, room == 0 ? &none : list, room);
 }
-MSCP_INLINE int32_t mscp_port_why(const struct mscp_port *port, uint32_t connection, uint32_t reference,
+MSCP_INLINE int64_t mscp_port_why(const struct mscp_port *port, uint32_t connection, uint32_t reference,
                                   struct mscp_holder *list, size_t room)
 {
     struct mscp_holder none = {0, 0, 0, 0};
+    if (port == NULL)
+        return MSCP_NOT_MADE;
     return mscp_port_why_at(port, connection, reference, room == 0 ? &none : list, room);
 }
 
@@ -844,6 +865,8 @@ MSCP_MUST_USE
 MSCP_INLINE int32_t mscp_port_save(const struct mscp_port *port, uint8_t *bytes, size_t room, size_t *length)
 {
     uint8_t none = 0;
+    if (port == NULL)
+        return MSCP_NOT_MADE;
     return mscp_port_save_at(port, room == 0 ? &none : bytes, room, length);
 }
 
@@ -855,6 +878,8 @@ MSCP_MUST_USE
 MSCP_INLINE int32_t mscp_port_restore(struct mscp_port *port, const uint8_t *bytes, size_t length)
 {
     const uint8_t none = 0;
+    if (port == NULL)
+        return MSCP_NO_MEMORY;
     return mscp_port_restore_at(port, length == 0 ? &none : bytes, length);
 }
 
@@ -897,7 +922,7 @@ MSCP_INLINE const char *mscp_status_text(int64_t status)
     case MSCP_FIRST: return "the first figure of the polled command";
     case MSCP_PROGRESS: return "the figure has fallen";
     case MSCP_LATE: return "the polled command has ended in the meantime";
-    case MSCP_RESET: return "the figure hasn't fallen";
+    case MSCP_NO_PROGRESS: return "the figure hasn't fallen";
     case MSCP_LOST: return "the controller doesn't know the polled command";
     case MSCP_SHORT: return "a message of under 12 bytes";
     case MSCP_LONG: return "a message of over 64 bytes";
@@ -910,8 +935,8 @@ MSCP_INLINE const char *mscp_status_text(int64_t status)
     case MSCP_UNKNOWN: return "the end of no outstanding command";
     case MSCP_NOT_MADE: return "nothing was made in the memory";
     case MSCP_MADE: return "something was made in the memory already";
-    case MSCP_NO_HANDLE: return "no handle";
-    case MSCP_NO_MEMORY: return "the memory is NULL";
+    case MSCP_NO_HANDLE: return "no handle, or one of another version";
+    case MSCP_NO_MEMORY: return "the handle or its memory is NULL";
     case MSCP_MISALIGNED: return "the memory is misaligned";
     case MSCP_SMALL: return "the memory is too small";
     case MSCP_BAD_PICKER: return "no picker of this number";

@@ -1886,7 +1886,7 @@ L1:;
     return 0xFFFFFFF4u;
 }
 
-static u32 w_mscp_host_init(u64 v0, u32 v1)
+static u32 w_mscp_host_init_at(u64 v0, u32 v1)
 {
     u32 t0, t1;
     t0 = f58();
@@ -3159,6 +3159,7 @@ L3:;
     f86(v4, l8(v0));
     copy(v4 + 808ull, v4, 808ull);
     v0 = l8(v4 + 1608);
+    s8(v3, v0);
     if (v2 >= v0) goto L4;
     v5 = 0xFFFFFFF1u;
     goto L2;
@@ -3166,7 +3167,6 @@ L4:;
     if (v0 == 0) goto L5;
     copy(v1 + ((v1 == 0) ? 4096ull : 0ull), v4 + 808ull, v0);
 L5:;
-    s8(v3, v0);
     v5 = 1u;
 L2:;
     return v5;
@@ -10352,6 +10352,7 @@ L22:;
     copy(v4 + 8ull, v4 + 9104ull, 5424ull);
     copy(v4 + 9104ull, v4 + 8ull, 5424ull);
     v0 = l8(v4 + 14520);
+    s8(v3, v0);
     if (v2 >= v0) goto L24;
     v5 = 0xFFFFFFF1u;
     goto L2;
@@ -10359,7 +10360,6 @@ L24:;
     if (v0 == 0) goto L25;
     copy(v1 + ((v1 == 0) ? 4096ull : 0ull), v4 + 9104ull, v0);
 L25:;
-    s8(v3, v0);
     v5 = 1u;
 L2:;
     return v5;
@@ -19937,6 +19937,7 @@ L3:;
     f140(v4, v0, l1(v0 + 5712ull));
     copy(v4 + 3672ull, v4, 3672ull);
     v0 = l8(v4 + 7336);
+    s8(v3, v0);
     if (v2 >= v0) goto L4;
     v5 = 0xFFFFFFF1u;
     goto L2;
@@ -19944,7 +19945,6 @@ L4:;
     if (v0 == 0) goto L5;
     copy(v1 + ((v1 == 0) ? 4096ull : 0ull), v4 + 3672ull, v0);
 L5:;
-    s8(v3, v0);
     v5 = 1u;
 L2:;
     return v5;
@@ -22175,10 +22175,10 @@ int64_t mscp_host_balance(const struct mscp_host *host)
     return (int64_t)w_mscp_host_balance(take_host(host, host_room));
 }
 
-int32_t mscp_host_init(struct mscp_host *host, uint32_t credits)
+int32_t mscp_host_init_at(struct mscp_host *host, uint32_t credits)
 {
     u8 host_room[LIES_host ? 1 : 32];
-    const int32_t answer = (int32_t)w_mscp_host_init(take_host(host, host_room), credits);
+    const int32_t answer = (int32_t)w_mscp_host_init_at(take_host(host, host_room), credits);
     give_host(host, host_room);
     return answer;
 }
@@ -22218,7 +22218,7 @@ int32_t mscp_host_save_at(const struct mscp_host *host, uint8_t *bytes, size_t r
     u8 host_room[LIES_host ? 1 : 32];
     u8 length_room[8];
     const int32_t answer = (int32_t)w_mscp_host_save_at(take_host(host, host_room), A(bytes), room, A(length_room));
-    if (answer == MSCP_DONE)
+    if (answer == MSCP_DONE || answer == MSCP_SMALL)
         *length = (size_t)l8(A(length_room));
     return answer;
 }
@@ -22379,7 +22379,7 @@ int32_t mscp_port_save_at(const struct mscp_port *port, uint8_t *bytes, size_t r
     u8 port_room[LIES_port ? 1 : 32];
     u8 length_room[8];
     const int32_t answer = (int32_t)w_mscp_port_save_at(take_port(port, port_room), A(bytes), room, A(length_room));
-    if (answer == MSCP_DONE)
+    if (answer == MSCP_DONE || answer == MSCP_SMALL)
         *length = (size_t)l8(A(length_room));
     return answer;
 }
@@ -22536,7 +22536,7 @@ int32_t mscp_save_at(const struct mscp *mscp, uint8_t *bytes, size_t room, size_
     u8 mscp_room[LIES_controller ? 1 : 32];
     u8 length_room[8];
     const int32_t answer = (int32_t)w_mscp_save_at(take_controller(mscp, mscp_room), A(bytes), room, A(length_room));
-    if (answer == MSCP_DONE)
+    if (answer == MSCP_DONE || answer == MSCP_SMALL)
         *length = (size_t)l8(A(length_room));
     return answer;
 }

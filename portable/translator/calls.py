@@ -9,7 +9,9 @@ from .wasm import Refusal
 
 WIDTHS = {"uint8_t": 1, "uint16_t": 2, "uint32_t": 4, "uint64_t": 8, "size_t": 8, "void *": 8}
 # With which answers a number of this kind is told: how many bytes there are if all is done, and the line of a script's fault.
+# How many a save has is told also if they don't fit.
 TOLD = {"size_t": "answer == MSCP_DONE", "uint32_t": "answer <= MSCP_SCRIPT_SIZE && answer >= MSCP_SCRIPT_EVENTS"}
+TOLD_OF_A_SAVE = "answer == MSCP_DONE || answer == MSCP_SMALL"
 STRUCT = re.compile(r"^struct (\w+) \{\n(.*?)^\};", re.M | re.S)
 FIELD = re.compile(r"^ +(?:MSCP_ALIGNED )?(void \*|\w+ )(\w+)(?:\[(\w+)\])?;", re.M)
 NUMBER = re.compile(r"^#define (\w+) (\d+)u", re.M)
@@ -122,7 +124,8 @@ class Call:
         width = WIDTHS[kind]
         self.before.append(f"u8 {name}_room[{width}];")
         self.passed.append(f"A({name}_room)")
-        self.after += [f"if ({TOLD[kind]})", f"    *{name} = ({kind})l{width}(A({name}_room));"]
+        told = TOLD_OF_A_SAVE if name == "length" else TOLD[kind]
+        self.after += [f"if ({told})", f"    *{name} = ({kind})l{width}(A({name}_room));"]
 
     def single(self, struct, name):
         self.before.append(f"u8 {name}_room[LIES_{struct.short} ? 1 : {struct.size}];")

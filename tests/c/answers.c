@@ -115,10 +115,10 @@ static void says_what_each_answer_tells(void)
     make(4);
     reads(1, MSCP_DONE);
     is_told(10, 5, MSCP_FIRST, 5);
-    is_told(11, 5, MSCP_RESET, 0);
+    is_told(11, 5, MSCP_NO_PROGRESS, 0);
     is_told(12, 0, MSCP_LOST, 0);
-    is_told(13, 0, MSCP_RESET, 0);
-    is_told(14, 3, MSCP_RESET, 0);
+    is_told(13, 0, MSCP_NO_PROGRESS, 0);
+    is_told(14, 3, MSCP_NO_PROGRESS, 0);
     is_told(15, 2, MSCP_PROGRESS, 2);
     is_ended(1, 0xA1, 1024, MSCP_ENDED);
     has_free(4);

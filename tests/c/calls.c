@@ -286,7 +286,7 @@ static void host(void)
     const struct {
         uint32_t figure;
         int32_t news;
-    } answers[] = {{18, MSCP_FIRST}, {17, MSCP_PROGRESS}, {17, MSCP_RESET}, {0, MSCP_LOST}};
+    } answers[] = {{18, MSCP_FIRST}, {17, MSCP_PROGRESS}, {17, MSCP_NO_PROGRESS}, {0, MSCP_LOST}};
     for (size_t i = 0; i < COUNT(answers); i++) {
         put(end + 16, 4, answers[i].figure);
         is("news", mscp_host_receive(host, end, 20, &news), answers[i].news);

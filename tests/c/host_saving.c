@@ -36,7 +36,7 @@ static void polls(void)
         is("one at a time", mscp_host_poll(host, 20, &message), MSCP_BUSY);
         put(end + 16, 4, i == 2 ? 17 : 18 - i);
         is("news", mscp_host_receive(host, end, 20, &news),
-           i == 0 ? MSCP_FIRST : i == 1 ? MSCP_PROGRESS : MSCP_RESET);
+           i == 0 ? MSCP_FIRST : i == 1 ? MSCP_PROGRESS : MSCP_NO_PROGRESS);
         host = moved(host, &memory);
     }
     is("balance", mscp_host_balance(host), 3);
@@ -78,6 +78,10 @@ static void bytes_are_these(void)
     is("save", mscp_host_save(host, bytes, sizeof bytes, &length), MSCP_DONE);
     is("its length", (int64_t)length, LENGTH);
     is("its bytes", memcmp(bytes, POLLED_TWICE, LENGTH), 0);
+    memset(bytes, 0xA5, sizeof bytes);
+    length = 5;
+    is("a byte too few", mscp_host_save(host, bytes, LENGTH - 1, &length), MSCP_SMALL);
+    is("what it takes", length == LENGTH && bytes[0] == 0xA5, 1);
     free(memory);
 }
 

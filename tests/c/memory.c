@@ -28,7 +28,8 @@ static void words_of_handles(void)
     is("the bytes of a handle", sizeof over == MSCP_HEAD && sizeof host == MSCP_HEAD && sizeof(struct mscp_port) == MSCP_HEAD, 1);
 }
 
-/* An init judges what the handle says, with the handle at the head of the memory and beside it. */
+/* An init judges what the handle says, with the handle at the head of the memory and beside it. Where that can't be at the head
+ * there is none. */
 static void inits_of_no_room(void)
 {
     size_t size = mscp_size();
@@ -48,17 +49,20 @@ static void inits_of_no_room(void)
         struct mscp_host host = mscp_host_over(cases[i].memory, mscp_host_size() - cases[i].less);
         is(cases[i].what, init(&over), cases[i].status);
         is(cases[i].what, mscp_host_init(&host, 4), cases[i].status);
+        const int is_there = cases[i].status == MSCP_SMALL;
         struct mscp *head = mscp_in_memory(cases[i].memory, MSCP_HEAD + size - cases[i].less);
-        is(cases[i].what, init(head), cases[i].status);
-        is(cases[i].what, mscp_balance(head, FIRST), MSCP_NOT_MADE);
+        is(cases[i].what, head != NULL, is_there);
+        is(cases[i].what, init(head), is_there ? MSCP_SMALL : MSCP_NO_MEMORY);
+        is(cases[i].what, mscp_look(head, NULL, 0), MSCP_NOT_MADE);
         struct mscp_host *top = mscp_host_in_memory(cases[i].memory, MSCP_HEAD + mscp_host_size() - cases[i].less);
-        is(cases[i].what, mscp_host_init(top, 4), cases[i].status);
-        is(cases[i].what, mscp_host_balance(top), MSCP_NOT_MADE);
+        is(cases[i].what, top != NULL, is_there);
+        is(cases[i].what, mscp_host_init(top, 4), is_there ? MSCP_SMALL : MSCP_NO_MEMORY);
+        is(cases[i].what, mscp_host_submit(top, NULL, 0), MSCP_NOT_MADE);
     }
-    for (size_t length = MSCP_HEAD - 1; length <= MSCP_HEAD; length++) {
-        is("a handle alone", init(mscp_in_memory(memory, length)), MSCP_SMALL);
-        is("a host's alone", mscp_host_init(mscp_host_in_memory(memory, length), 4), MSCP_SMALL);
-    }
+    is("a handle alone", init(mscp_in_memory(memory, MSCP_HEAD)), MSCP_SMALL);
+    is("a host's alone", mscp_host_init(mscp_host_in_memory(memory, MSCP_HEAD), 4), MSCP_SMALL);
+    is("less than a handle", mscp_in_memory(memory, MSCP_HEAD - 1) == NULL, 1);
+    is("less than a host's", mscp_host_in_memory(memory, MSCP_HEAD - 1) == NULL, 1);
     is("aligned", mscp_align() == MSCP_ALIGN && mscp_host_align() == MSCP_ALIGN && mscp_port_align() == MSCP_ALIGN, 1);
     free(memory);
 }

@@ -3,7 +3,8 @@
 # version. tests/library names the sources.
 #
 # A call's handle is const where the contract has the clause `same`. Types are compared by _Generic. A field that only
-# the header has is one without an initializer, of which the compiler warns, as of an enumerator that a switch lacks.
+# the header has is one without an initializer, of which the compiler warns, as of an enumerator that a switch lacks. An inline
+# call tells a count in 64 bits, and what the sources call a reset isn't named as the call of that name.
 
 BEGIN {
     split("SentOut sent PacketOut packet UpcomingOut upcoming ReportOut report FigureOut waiting HolderOut holder " \
@@ -19,6 +20,9 @@ BEGIN {
         "Access ACCESS Erase ERASE Compare COMPARE_HOST_DATA Read READ Write WRITE", words, " ")
     for (i = 1; i in words; i += 2)
         opcode_of[words[i]] = words[i + 1]
+    split("look why settings port_look port_why port_settings", words, " ")
+    for (i = 1; i in words; i++)
+        counts["mscp_" words[i]] = 1
     print "#include \"mscp.h\""
     print "#define IS(what, type) _Static_assert(_Generic(what, type: 1, default: 0), #what)"
 }
@@ -123,10 +127,10 @@ in_call && /^\{$/ {
         sub(/.*: /, "", words[i])
         list = parameters_of(words[i], same) (list == "" ? "" : ", " list)
     }
-    type = in_c(result) " (*)(" (list == "" ? "void" : list) ")"
-    print "IS(&" name ", " type ");"
+    rest = " (*)(" (list == "" ? "void" : list) ")"
+    print "IS(&" name ", " in_c(result) rest ");"
     if (sub(/_at$/, "", name)) # the inline one has the same parameters
-        print "IS(&" name ", " type ");"
+        print "IS(&" name ", " (name in counts ? "int64_t" : in_c(result)) rest ");"
     in_call = 0
     calls++
 }
@@ -137,7 +141,7 @@ in_call { call = call $0 " " }
 /^pub\(crate\) const [A-Z_]+: i32 = -?[0-9]+;$/ {
     sub(/:/, "", $3)
     sub(/;/, "", $6)
-    enumerator_is("status", $3, $6)
+    enumerator_is("status", $3 == "RESET" ? "NO_PROGRESS" : $3, $6)
 }
 /^ +[0-9]+ => Some\(Policy::[A-Za-z]+\),$/ {
     picker = $3

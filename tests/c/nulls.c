@@ -1,6 +1,6 @@
 /* The inline calls of mscp.h against stand-ins for the library's own, which want a pointer that isn't NULL. With a
- * length of 0 they get one, also where the caller has none, and else just the caller's. Prints what is wrong, and ends
- * with 1 where something is. */
+ * length of 0 they get one, also where the caller has none, and else just the caller's. With a handle that is NULL the library
+ * isn't called. Prints what is wrong, and ends with 1 where something is. */
 #define mscp_init_at init_seen
 #define mscp_send_at send_seen
 #define mscp_look_at look_seen
@@ -88,7 +88,33 @@ int32_t packet_seen(const uint8_t *word, size_t length, uint8_t *bytes, size_t r
     return word != NULL && length == 2 && count != NULL ? see(bytes, room) : 0;
 }
 
-static void passes(const char *what, int32_t answer, const void *pointer, size_t length)
+/* No handle: an init and a restore say that there is no memory, and all others that nothing was made. */
+static void handles(const struct mscp_limits *limits, const struct mscp_unit *units, const struct mscp_hardware *hardware)
+{
+    uint8_t bytes[2] = {0, 0};
+    size_t count;
+    is("init", mscp_init(NULL, limits, units, 2, 3), MSCP_NO_MEMORY);
+    is("restore", mscp_restore(NULL, bytes, 2), MSCP_NO_MEMORY);
+    is("init of a host", mscp_host_init(NULL, 4), MSCP_NO_MEMORY);
+    is("restore of a host", mscp_host_restore(NULL, bytes, 2), MSCP_NO_MEMORY);
+    is("init of a port", mscp_port_init(NULL, limits, units, 2, 3, hardware, 4), MSCP_NO_MEMORY);
+    is("restore of a port", mscp_port_restore(NULL, bytes, 2), MSCP_NO_MEMORY);
+    is("send", mscp_send(NULL, 7, bytes, 2, &(struct mscp_sent){0, 0, 0}), MSCP_NOT_MADE);
+    is("look", mscp_look(NULL, NULL, 0), MSCP_NOT_MADE);
+    is("why", mscp_why(NULL, 7, 9, NULL, 0), MSCP_NOT_MADE);
+    is("settings", mscp_settings(NULL, &(struct mscp_limits){0, 0, 0, 0, 0, 0}, NULL, 0), MSCP_NOT_MADE);
+    is("save", mscp_save(NULL, bytes, 2, &count), MSCP_NOT_MADE);
+    is("submit", mscp_host_submit(NULL, bytes, 2), MSCP_NOT_MADE);
+    is("receive", mscp_host_receive(NULL, bytes, 2, &(struct mscp_news){0, 0, 0, 0, 0, 0}), MSCP_NOT_MADE);
+    is("save of a host", mscp_host_save(NULL, bytes, 2, &count), MSCP_NOT_MADE);
+    is("was read", mscp_port_was_read(NULL, bytes, 2), MSCP_NOT_MADE);
+    is("settings of a port", mscp_port_settings(NULL, &(struct mscp_limits){0, 0, 0, 0, 0, 0}, NULL, 0), MSCP_NOT_MADE);
+    is("look into a port", mscp_port_look(NULL, NULL, 0), MSCP_NOT_MADE);
+    is("why in a port", mscp_port_why(NULL, 7, 9, NULL, 0), MSCP_NOT_MADE);
+    is("save of a port", mscp_port_save(NULL, bytes, 2, &count), MSCP_NOT_MADE);
+}
+
+static void passes(const char *what, int64_t answer, const void *pointer, size_t length)
 {
     is(what, answer, 77);
     is(what, length > 0 ? seen == pointer : seen != NULL, 1);
@@ -133,6 +159,7 @@ int main(void)
     passes("why of none in a port", mscp_port_why(&port, 7, 9, NULL, 0), NULL, 0);
     passes("no script", mscp_run_script(NULL, 0, NULL, 0, &count, &line), NULL, 0);
     passes("packet in no room", mscp_show_packet(bytes, 2, NULL, 0, &count), NULL, 0);
+    handles(&limits, units, &hardware);
     passes("none was read", mscp_port_was_read(&port, NULL, 0), NULL, 0);
     return wrong;
 }

@@ -99,11 +99,14 @@ static void memory_of_ports(void)
         is("its length and mark", over.length == size - cases[i].less && over.mark == MSCP_PORT_ROOM, 1);
         is("beside its memory", init(&over), cases[i].status);
         struct mscp_port *head = mscp_port_in_memory(cases[i].memory, MSCP_HEAD + size - cases[i].less);
-        is("at its head", init(head), cases[i].status);
-        is("it is there", mscp_port_read_sa(head), cases[i].status == MSCP_DONE ? 0x0B40 : MSCP_NOT_MADE);
+        const int is_there = cases[i].status == MSCP_SMALL || cases[i].status == MSCP_DONE;
+        is("a head", head != NULL, is_there);
+        is("at its head", init(head), is_there ? cases[i].status : MSCP_NO_MEMORY);
+        if (is_there)
+            is("it is there", mscp_port_read_sa(head), cases[i].status == MSCP_DONE ? 0x0B40 : MSCP_NOT_MADE);
     }
-    for (size_t length = MSCP_HEAD - 1; length <= MSCP_HEAD; length++)
-        is("a handle alone", init(mscp_port_in_memory(memory, length)), MSCP_SMALL);
+    is("a handle alone", init(mscp_port_in_memory(memory, MSCP_HEAD)), MSCP_SMALL);
+    is("less than a handle", mscp_port_in_memory(memory, MSCP_HEAD - 1) == NULL, 1);
     free(memory);
 }
 

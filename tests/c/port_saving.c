@@ -264,8 +264,10 @@ static void no_room(void)
     size_t told = 5;
     memset(room, 0xA5, sizeof room);
     is("no room", mscp_port_save(machine.port, NULL, 0, &told), MSCP_SMALL);
+    is("what it takes", (int64_t)told, LENGTH);
+    told = 5;
     is("a byte too few", mscp_port_save(machine.port, room, LENGTH - 1, &told), MSCP_SMALL);
-    is("nothing told", (int64_t)told, 5);
+    is("what it takes", (int64_t)told, LENGTH);
     is("nothing written", room[0], 0xA5);
     is("just room", mscp_port_save(machine.port, room, LENGTH, &told), MSCP_DONE);
     is("no byte more", room[LENGTH], 0xA5);

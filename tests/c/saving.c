@@ -59,7 +59,7 @@ static void same(void)
 static void same_figures(void)
 {
     struct mscp_waiting list[64], other[64];
-    int32_t count = mscp_look(moving.mscp, list, 64);
+    int64_t count = mscp_look(moving.mscp, list, 64);
     is("how many wait", mscp_look(staying.mscp, other, 64), count);
     for (int32_t i = 0; i < count; i++) {
         is("number", list[i].reference, other[i].reference);
@@ -232,8 +232,10 @@ static void other_bytes(void)
     is("a controller's length", (int64_t)length, 48 + 34 * UNITS);
     memset(room, 0xA5, sizeof room);
     is("no room", mscp_save(moving.mscp, NULL, 0, &told), MSCP_SMALL);
+    is("what it takes", (int64_t)told, (int64_t)length);
+    told = 5;
     is("a byte too few", mscp_save(moving.mscp, room, length - 1, &told), MSCP_SMALL);
-    is("nothing told", (int64_t)told, 5);
+    is("what it takes", (int64_t)told, (int64_t)length);
     is("nothing written", room[0], 0xA5);
     is("just room", mscp_save(moving.mscp, room, length, &told), MSCP_DONE);
     is("no byte more", room[length], 0xA5);

@@ -13,7 +13,7 @@ use Rattle.mscp_c.specs.Statuses.{restore_code, room_code}
 abbrev pub fits : List ℕ → List ℕ → Bool
 fits bytes room = nat_le (length bytes) (length room)
 
--- the status; the room, with the bytes at its front; and how many they are. Where they don't fit, nothing is written
+-- the status; the room, with the bytes at its front, or as it was if they don't fit; and how many they are, also then
 abbrev pub save_code : List ℕ → List ℕ → ℤ
 save_code bytes room = if fits bytes room then DONE else SMALL
 
@@ -21,7 +21,7 @@ abbrev pub room_after : List ℕ → List ℕ → List ℕ
 room_after bytes room = if fits bytes room then bytes ++ drop (length bytes) room else room
 
 abbrev pub length_after : List ℕ → List ℕ → ℕ → ℕ
-length_after bytes room before = if fits bytes room then length bytes else before
+length_after bytes room before = length bytes
 
 -- ---- a restore
 

@@ -31,7 +31,7 @@ pub extern "C" fn mscp_host_align() -> usize
 
 /// Makes a host of so many credits in the room that the handle has.
 #[unsafe(no_mangle)]
-pub extern "C" fn mscp_host_init(handle: &mut Handle, credits: u32) -> i32
+pub extern "C" fn mscp_host_init_at(handle: &mut Handle, credits: u32) -> i32
     ensures { (result, handle.new) ≡ inits handle.old credits }
 {
     if let Some(fault) = room_fault(handle) {

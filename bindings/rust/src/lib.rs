@@ -1,0 +1,66 @@
+#![doc = include_str!("../README.md")]
+#![no_std]
+#![deny(unsafe_op_in_unsafe_fn)]
+#![warn(missing_docs, clippy::undocumented_unsafe_blocks)]
+
+#[cfg(feature = "std")]
+extern crate std;
+
+mod action;
+mod bus;
+mod controller;
+mod error;
+mod held;
+mod host;
+mod list;
+mod port;
+pub mod raw;
+mod values;
+
+pub use action::{Action, Hardware, Medium, Outcome, Stage, State, Volume, Way};
+pub use bus::{BadBlock, Bus, BusFault};
+pub use controller::Controller;
+pub use error::Error;
+pub use host::{Host, News, Poll};
+pub use list::{List, Packet};
+pub use port::Port;
+pub use values::{
+    BusKind, Connection, Holder, Limits, Opcode, Picker, Report, Sent, Settings, Unit, Upcoming, Waiting,
+};
+
+/// The version of `mscp.h` that this was written for: a byte for each of the three numbers.
+pub const VERSION: u32 = 0x00_05_00;
+/// Commands that wait and ends that weren't taken, of both connections together, at most.
+pub const CREDITS_MAX: usize = 64;
+/// Commands that wait, at most: the last credit isn't theirs.
+pub const COMMANDS_MAX: usize = 63;
+/// Units of a controller, at most.
+pub const UNITS_MAX: usize = 16;
+/// Bytes of a message, at least.
+pub const MESSAGE_MIN: usize = 12;
+/// Bytes of a message, at most.
+pub const MESSAGE_MAX: usize = 64;
+/// Bytes of a message or an end that is told, at most.
+pub const PACKET_MAX: usize = 48;
+/// Bytes of a block.
+pub const BLOCK: usize = 512;
+/// Bytes that a controller is saved as, at most.
+pub const SAVED_MAX: usize = 3664;
+/// Bytes that a host is saved as, at most.
+pub const HOST_SAVED_MAX: usize = 794;
+/// Bytes that a port is saved as, at most.
+pub const PORT_SAVED_MAX: usize = 5416;
+
+/// Whether a library of this version fits: its first number is that of [`VERSION`], and before 1.0 the second one too. If it
+/// doesn't, whatever makes a controller, a host or a port answers [`Error::NoHandle`].
+#[must_use]
+pub const fn fits(version: u32) -> bool {
+    (version ^ VERSION) >> (if VERSION < 0x01_00_00 { 8 } else { 16 }) == 0
+}
+
+/// The version of the library that is linked.
+#[must_use]
+pub fn version() -> u32 {
+    // SAFETY: it reads nothing.
+    unsafe { raw::mscp_version() }
+}

@@ -1,0 +1,112 @@
+//! A port of C's, called directly.
+
+use mscp::raw::{self, status};
+use mscp::{Bus, BusFault, Hardware, BLOCK};
+
+use crate::common::Raw;
+use crate::machine::{Machine, LIMITS, UNIT};
+
+/// C's port, and what port.c does for one.
+pub struct InC {
+    pub port: Raw,
+    pub block: [u8; BLOCK],
+    pub machine: Machine,
+}
+
+impl InC {
+    pub fn new(machine: Machine) -> Self {
+        let mut port = Raw::new(raw::PORT_SIZE, raw::PORT_ROOM);
+        let (limits, unit, hardware) = (LIMITS.into(), UNIT.into(), Hardware::RQDX3.into());
+        // SAFETY: the handle is that of memory of its own, in which nothing was made; all else is there.
+        let status = unsafe { raw::mscp_port_init_at(port.handle(), &limits, &unit, 1, 1, &hardware, 8) };
+        assert_eq!(status, status::DONE);
+        Self { port, block: [0; BLOCK], machine }
+    }
+
+    /// The next action, of messages alone or of all, or nothing.
+    pub fn next(&mut self, is_message: bool) -> Option<raw::Action> {
+        let mut action = raw::Action::ZERO;
+        // SAFETY: the handle is that of a port that was made; `action` is there.
+        let status = unsafe {
+            if is_message {
+                raw::mscp_port_next_message(self.port.handle(), &mut action)
+            } else {
+                raw::mscp_port_next(self.port.handle(), &mut action)
+            }
+        };
+        (status == status::DONE).then_some(action)
+    }
+
+    fn went<T>(&mut self, it: Result<T, BusFault>) -> i32 {
+        let number = match it {
+            Ok(_) => 0,
+            Err(BusFault::Missing) => 1,
+            Err(BusFault::Parity) => 2,
+            Err(BusFault::Unmapped) => 3,
+        };
+        self.tell(number, 0)
+    }
+
+    fn tell(&mut self, outcome: u32, block: u16) -> i32 {
+        // SAFETY: the handle is that of a port that was made.
+        unsafe { raw::mscp_port_went(self.port.handle(), outcome, block) }
+    }
+
+    /// Does an action, and tells how it went.
+    pub fn perform(&mut self, it: &raw::Action) -> i32 {
+        let (address, count) = (it.address & 0x3F_FFFF, it.count as usize);
+        let mut bytes = [0; BLOCK];
+        match it.kind {
+            2 => match self.machine.read(address, &mut bytes[..count]) {
+                // SAFETY: the handle is that of a port that was made; there are so many bytes.
+                Ok(()) => unsafe { raw::mscp_port_was_read_at(self.port.handle(), bytes.as_ptr(), count) },
+                fault => self.went(fault),
+            },
+            3 => {
+                let it = self.machine.write(address, &it.bytes[..count]);
+                self.went(it)
+            }
+            4 => {
+                self.machine.interrupt(it.vector);
+                self.tell(0, 0)
+            }
+            5 => {
+                let it = self.machine.read(address, &mut bytes[..count]);
+                self.block = if it.is_ok() { bytes } else { [0; BLOCK] };
+                self.went(it)
+            }
+            6 => self.transfer(it),
+            7 => {
+                let it = self.machine.write(address, &{ self.block }[..count]);
+                self.went(it)
+            }
+            _ => self.tell(0, 0),
+        }
+    }
+
+    fn transfer(&mut self, it: &raw::Action) -> i32 {
+        let mut other = [0; BLOCK];
+        let went = match it.opcode {
+            33 => self.machine.read_block(it.unit, it.block, &mut self.block),
+            34 => self.machine.write_block(it.unit, it.block, &self.block),
+            18 => self.machine.write_block(it.unit, it.block, &other),
+            _ => self.machine.read_block(it.unit, it.block, &mut other),
+        };
+        let count = it.count as usize;
+        match went {
+            Ok(()) if it.opcode == 32 && other[..count] != self.block[..count] => self.tell(4, 0),
+            Ok(()) => self.tell(0, 0),
+            Err(block) => self.tell(5, block.status()),
+        }
+    }
+
+    pub fn saved(&mut self) -> Vec<u8> {
+        let (mut bytes, mut length) = (vec![0; mscp::PORT_SAVED_MAX], 0);
+        // SAFETY: the handle is that of a port that was made; the bytes are that room.
+        let status =
+            unsafe { raw::mscp_port_save_at(self.port.handle(), bytes.as_mut_ptr(), bytes.len(), &mut length) };
+        assert_eq!(status, status::DONE);
+        bytes.truncate(length);
+        bytes
+    }
+}
