@@ -20,8 +20,8 @@ save_code bytes room = if fits bytes room then DONE else SMALL
 abbrev pub room_after : List ℕ → List ℕ → List ℕ
 room_after bytes room = if fits bytes room then bytes ++ drop (length bytes) room else room
 
-abbrev pub length_after : List ℕ → List ℕ → ℕ → ℕ
-length_after bytes room before = length bytes
+abbrev pub length_told : List ℕ → ℕ
+length_told bytes = length bytes
 
 -- ---- a restore
 

@@ -1,7 +1,7 @@
 // A controller as bytes, and back.
 
 ghost use Rattle.std.specs.Prelude.{◌≡◌, true, false, Ok};
-ghost use Rattle.mscp_c.specs.Common.{fresh, Handle, AnswersHandle, policy_number, length_after, room_after, save_code};
+ghost use Rattle.mscp_c.specs.Common.{fresh, Handle, AnswersHandle, policy_number, length_told, room_after, save_code};
 ghost use Rattle.mscp_memory.specs.ControllerHandles.{is_made, is_room, placed};
 ghost use Rattle.mscp_c.specs.HandleCalls as calls;
 ghost use Rattle.mscp_c.specs.Restoring.{policy_named, restored_by, saved_by};
@@ -37,8 +37,7 @@ pub(crate) fn policy_number(policy: Policy) -> u8
 pub extern "C" fn mscp_save_at(handle: &mut Handle, room: &mut [u8], length: &mut usize) -> i32
     ensures code { is_made handle.old ≡ true → result ≡ save_code (saved_by handle.old.held) room.old }
     ensures told { is_made handle.old ≡ true → room.new ≡ room_after (saved_by handle.old.held) room.old }
-    ensures count { is_made handle.old ≡ true
-        → length.new ≡ length_after (saved_by handle.old.held) room.old length.old }
+    ensures count { is_made handle.old ≡ true → length.new ≡ length_told (saved_by handle.old.held) }
     ensures back { is_made handle.old ≡ true → restored_by (saved_by handle.old.held) ≡ Ok handle.old.held }
     ensures same { handle.new ≡ handle.old }
     ensures unmade { is_made handle.old ≡ false

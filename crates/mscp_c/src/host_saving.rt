@@ -1,7 +1,7 @@
 // A host as bytes, and back.
 
 ghost use Rattle.std.specs.Prelude.{◌≡◌, true, false, Ok};
-ghost use Rattle.mscp_c.specs.Common.{restored, saved_bytes, length_after, room_after, save_code};
+ghost use Rattle.mscp_c.specs.Common.{restored, saved_bytes, length_told, room_after, save_code};
 ghost use Rattle.mscp_memory.specs.HostHandles.{is_made};
 ghost use Rattle.mscp_c.specs.HostSaving.{restores};
 
@@ -23,8 +23,7 @@ pub extern "C" fn mscp_host_save_size() -> usize
 pub extern "C" fn mscp_host_save_at(handle: &mut Handle, room: &mut [u8], length: &mut usize) -> i32
     ensures code { is_made handle.old ≡ true → result ≡ save_code (saved_bytes handle.old.held) room.old }
     ensures told { is_made handle.old ≡ true → room.new ≡ room_after (saved_bytes handle.old.held) room.old }
-    ensures count { is_made handle.old ≡ true
-        → length.new ≡ length_after (saved_bytes handle.old.held) room.old length.old }
+    ensures count { is_made handle.old ≡ true → length.new ≡ length_told (saved_bytes handle.old.held) }
     ensures back { is_made handle.old ≡ true → restored (saved_bytes handle.old.held) ≡ Ok handle.old.held }
     ensures same { handle.new ≡ handle.old }
     ensures unmade { is_made handle.old ≡ false

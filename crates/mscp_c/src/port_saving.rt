@@ -1,7 +1,7 @@
 // A port as bytes, and back.
 
 ghost use Rattle.std.specs.Prelude.{◌≡◌, true, false, slice_index, Ok};
-ghost use Rattle.mscp_c.specs.Common.{fresh, length_after, room_after, save_code};
+ghost use Rattle.mscp_c.specs.Common.{fresh, length_told, room_after, save_code};
 ghost use Rattle.mscp_memory.specs.PortHandles.{is_made, is_room, placed};
 ghost use Rattle.mscp_c.specs.PortSaving.{policy_named, restored_by, restores, saved_by};
 
@@ -26,8 +26,7 @@ pub extern "C" fn mscp_port_save_size() -> usize
 pub extern "C" fn mscp_port_save_at(handle: &mut Handle, room: &mut [u8], length: &mut usize) -> i32
     ensures code { is_made handle.old ≡ true → result ≡ save_code (saved_by handle.old.held) room.old }
     ensures told { is_made handle.old ≡ true → room.new ≡ room_after (saved_by handle.old.held) room.old }
-    ensures count { is_made handle.old ≡ true
-        → length.new ≡ length_after (saved_by handle.old.held) room.old length.old }
+    ensures count { is_made handle.old ≡ true → length.new ≡ length_told (saved_by handle.old.held) }
     ensures back { is_made handle.old ≡ true → restored_by (saved_by handle.old.held) ≡ Ok handle.old.held }
     ensures same { handle.new ≡ handle.old }
     ensures unmade { is_made handle.old ≡ false

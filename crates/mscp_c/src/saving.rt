@@ -1,7 +1,7 @@
 // A save is told.
 
 ghost use Rattle.std.specs.Prelude.{◌≡◌};
-ghost use Rattle.mscp_c.specs.Saving.{length_after, room_after, save_code};
+ghost use Rattle.mscp_c.specs.Saving.{length_told, room_after, save_code};
 
 use crate::status::{DONE, SMALL};
 
@@ -9,7 +9,7 @@ use crate::status::{DONE, SMALL};
 pub(crate) fn tell_saved(room: &mut [u8], length: &mut usize, bytes: &[u8]) -> i32
     ensures code { result ≡ save_code bytes.now room.old }
     ensures told { room.new ≡ room_after bytes.now room.old }
-    ensures count { length.new ≡ length_after bytes.now room.old length.old }
+    ensures count { length.new ≡ length_told bytes.now }
 {
     *length = bytes.len();
     if room.len() < bytes.len() {
