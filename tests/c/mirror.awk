@@ -141,7 +141,7 @@ in_call { call = call $0 " " }
 /^pub\(crate\) const [A-Z_]+: i32 = -?[0-9]+;$/ {
     sub(/:/, "", $3)
     sub(/;/, "", $6)
-    enumerator_is("status", $3 == "RESET" ? "NO_PROGRESS" : $3, $6)
+    enumerator_is("status", $3, $6)
 }
 /^ +[0-9]+ => Some\(Policy::[A-Za-z]+\),$/ {
     picker = $3

@@ -97,7 +97,7 @@ news_code (Ok (news.Ended e)) = status.ENDED
 news_code (Ok (news.First figure)) = status.FIRST
 news_code (Ok (news.Progress figure)) = status.PROGRESS
 news_code (Ok news.Late) = status.LATE
-news_code (Ok news.Reset) = status.RESET
+news_code (Ok news.Reset) = status.NO_PROGRESS
 news_code (Ok news.Lost) = status.LOST
 news_code (Err fault) = host_code fault
 

@@ -4,7 +4,9 @@ ghost use Rattle.std.specs.Prelude.{◌≡◌};
 ghost use Rattle.mscp_c.specs.Hosted.{PollTold, ended_told, figure_told, moved_in, news_code, news_told, poll_code};
 
 use crate::outs::{NewsOut, PacketOut};
-use crate::status::{BUSY, DONE, ENDED, FIRST, LATE, LOST, NOTHING, PROGRESS, RESET, host_code};
+use crate::status::{
+    BUSY, DONE, ENDED, FIRST, LATE, LOST, NO_PROGRESS, NOTHING, PROGRESS, host_code,
+};
 use crate::telling::tell_packet;
 use mscp_host::{HostFault, News, Poll};
 use mscp_packet::{End, EndBody};
@@ -75,7 +77,7 @@ pub(crate) fn tell_news(out: &mut NewsOut, answer: &Result<News, HostFault>) -> 
                 News::First(figure) => (of_figure(*figure), FIRST),
                 News::Progress(figure) => (of_figure(*figure), PROGRESS),
                 News::Late => (of_figure(0), LATE),
-                News::Reset => (of_figure(0), RESET),
+                News::Reset => (of_figure(0), NO_PROGRESS),
                 News::Lost => (of_figure(0), LOST),
             };
             *out = told;

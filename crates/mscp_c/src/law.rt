@@ -47,7 +47,7 @@ pub fn statuses_are_these()
     ensures first { FIRST ≡ pos 6 }
     ensures progress { PROGRESS ≡ pos 7 }
     ensures late { LATE ≡ pos 8 }
-    ensures reset { RESET ≡ pos 9 }
+    ensures no_progress { NO_PROGRESS ≡ pos 9 }
     ensures lost { LOST ≡ pos 10 }
     ensures short { SHORT ≡ minus 1 }
     ensures long { LONG ≡ minus 2 }

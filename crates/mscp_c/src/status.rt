@@ -32,7 +32,7 @@ pub(crate) const PROGRESS: i32 = 7;
 /// The polled command has ended in the meantime.
 pub(crate) const LATE: i32 = 8;
 /// The polled command's figure hasn't fallen.
-pub(crate) const RESET: i32 = 9;
+pub(crate) const NO_PROGRESS: i32 = 9;
 /// The controller doesn't know the polled command.
 pub(crate) const LOST: i32 = 10;
 
