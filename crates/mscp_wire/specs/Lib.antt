@@ -1,1 +1,2 @@
 pub mod Wire
+pub mod Log

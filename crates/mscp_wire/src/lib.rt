@@ -2,11 +2,22 @@
 #![tactic(auto)]
 
 mod answer;
+mod judge;
+mod law;
+mod line;
+mod totals;
+mod wrong;
 mod moment;
+mod outstanding;
 mod rule;
 mod sent;
 
 pub use crate::answer::Answer;
+pub use crate::judge::Judge;
+pub use crate::line::Said;
+pub use crate::totals::Totals;
+pub use crate::wrong::Wrong;
+pub use crate::law::right_breaks_no_rule;
 pub use crate::moment::Moment;
 pub use crate::rule::Rule;
 pub use crate::sent::Sent;
