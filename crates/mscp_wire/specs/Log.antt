@@ -1,5 +1,5 @@
 -- A log of the wire: what its lines say, and what is judged of them.
-use Rattle.std.specs.Prelude.{◌≡◌, ℕ, ◌+◌, ◌<◌, ◌==◌, Bool, true, false, nat_eq, nat_lt, ◌&&◌, if◌then◌else◌, List, [], ◌∷◌, ◌++◌, length, count_by, slice_index, codes, Option, Some, None, option_map, is_none, Result, Ok, Err}
+use Rattle.std.specs.Prelude.{◌≡◌, ℕ, ◌+◌, ◌<◌, ◌==◌, Bool, true, false, nat_eq, nat_lt, ◌&&◌, if◌then◌else◌, List, [], ◌∷◌, ◌++◌, length, count_by, slice_index, codes, Option, Some, None, is_none, Result, Ok, Err}
 use Rattle.std.specs.Str.{bytes_eq}
 use Rattle.arrayvec.specs.ArrayVec.{ArrayVec}
 use Rattle.mscp_events.specs.declared.connection.Connection.{Connection}
@@ -15,6 +15,7 @@ use Rattle.mscp_reader.specs.declared.fault.ReadFault.{ReadFault}
 use Rattle.mscp_reader.specs.declared.fault.ReadFault.TheVariants as reads
 use Rattle.mscp_reader.specs.declared.fault.ScriptFault.{ScriptFault}
 use Rattle.mscp_wire.specs.Wire.{History, answer_by, broken, command_at, is_long, is_message, outstanding, place_of, sent_by}
+use Rattle.mscp_wire.specs.declared.answer.Answer.{Answer}
 use Rattle.mscp_wire.specs.declared.line.Said.{Said}
 use Rattle.mscp_wire.specs.declared.line.Said.TheVariants as says
 use Rattle.mscp_wire.specs.declared.moment.Moment.{Moment}
@@ -23,6 +24,9 @@ use Rattle.mscp_wire.specs.declared.rule.Rule.{Rule}
 use Rattle.mscp_wire.specs.declared.sent.Sent.{Sent}
 use Rattle.mscp_wire.specs.declared.totals.Totals.{Totals}
 use Rattle.mscp_wire.specs.declared.wrong.Wrong.{Wrong}
+use Rattle.mscp_wire.specs.declared.log.Reading.{Reading}
+use Rattle.mscp_wire.specs.declared.log.Verdict.{Verdict}
+use Rattle.mscp_wire.specs.declared.log.Verdict.TheVariants as verdicts
 
 -- ---- a line
 
@@ -120,11 +124,19 @@ nothing = record { credits = None; moments = [] }
 abbrev pub is_fresh : Log → Bool
 is_fresh log = is_none log.credits && nat_eq (length log.moments) 0
 
+-- the outstanding command that an end answers, if there is one
+abbrev pub command_at_place : List Sent → Option ℕ → Option Sent
+command_at_place xs None = None
+command_at_place xs (Some i) = Some (command_at xs i)
+
+abbrev pub answered_by : List Sent → Answer → Option Sent
+answered_by xs e = command_at_place xs (place_of xs e)
+
 -- the command that a moment is about: that which it sends, or which it answers, if it is outstanding
 abbrev pub command_of : List Sent → Moment → Option Sent
 command_of xs (moments.Message via b) = if is_message b.items then Some (sent_by via b.items) else None
 command_of xs (moments.End via b) =
-    if is_long b.items then option_map (command_at xs) (place_of xs (answer_by via b.items)) else None
+    if is_long b.items then answered_by xs (answer_by via b.items) else None
 command_of xs moments.Reset = None
 
 -- a log in which a moment more came, or the rule that it breaks in the line of this number
@@ -166,3 +178,30 @@ abbrev pub after_log : List ℕ → Result (Result Log Wrong) ScriptFault
 after_log bytes =
     if nat_lt 16777216 (length bytes) then Err (record { line = 0; cause = causes.Size })
     else after_lines 0 nothing (lines bytes)
+
+-- ---- what is kept
+
+-- this came of the lines so far
+pub record IsAfter {A : Type 0} (log : Log) (reading : Reading A) : Type 0 where
+  pub credits : reading.judge.credits ≡ log.credits
+  pub commands : reading.judge.commands.items ≡ outstanding log.moments
+  pub totals : reading.totals ≡ totals_of log.moments
+
+-- the fault of a line of this number is that of its definition, unless memory ran out
+abbrev pub FailsLine : ℕ → ReadFault → Result (Result Log Wrong) Cause → Type 0
+FailsLine number (reads.Script fault) read = (fault.line ≡ number) × (read ≡ Err fault.cause)
+FailsLine number reads.OutOfMemory read = Unit {0}
+
+-- what was returned of the line of this number, and is kept then, is what comes of it
+abbrev pub Goes : {A : Type 0} → ℕ → Result (Result Log Wrong) Cause → Result (Option Wrong) ReadFault → Reading A → Type 0
+Goes number read (Ok None) reading = (next : Log) × (read ≡ Ok (Ok next)) × IsAfter next reading
+Goes number read (Ok (Some wrong)) reading = read ≡ Ok (Err wrong)
+Goes number read (Err fault) reading = FailsLine number fault read
+
+-- what was returned of lines is what comes of them, unless memory ran out
+abbrev pub Judges : {A : Type 0} → Result (Verdict A) ReadFault → Result (Result Log Wrong) ScriptFault → Type 0
+Judges (Ok (verdicts.Right totals commands)) read =
+    (log : Log) × (read ≡ Ok (Ok log)) × (totals ≡ totals_of log.moments)
+    × (commands.items ≡ outstanding log.moments)
+Judges (Ok (verdicts.Wrong wrong)) read = read ≡ Ok (Err wrong)
+Judges (Err fault) read = Fails fault read

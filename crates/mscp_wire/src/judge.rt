@@ -10,8 +10,8 @@ use crate::outstanding::{
 };
 use crate::rule::Rule;
 use crate::sent::{Sent, is_immediate};
-use mscp_events::Connection;
-use std::alloc::{AllocError, Allocator};
+use mscp_events::{Connection, OutOfMemory};
+use std::alloc::Allocator;
 
 /// Whether a host has a credit for a command, if it is known how many credits each has.
 fn has_credit(credits: Option<u32>, commands: &[Sent], sent: &Sent) -> bool
@@ -90,7 +90,7 @@ fn broken_end(
 }
 
 /// The command at a place.
-fn command_at(commands: &[Sent], place: usize) -> Sent
+pub fn command_at(commands: &[Sent], place: usize) -> Sent
     requires { place < length commands.now }
     ensures { result ≡ wire.command_at commands.now place }
 {
@@ -132,7 +132,7 @@ impl<A: Allocator> Judge<A> {
     }
 
     /// The first rule that a host's message breaks. If it breaks none it is outstanding.
-    fn message(&mut self, connection: Connection, bytes: &[u8]) -> Result<Option<Rule>, AllocError>
+    fn message(&mut self, connection: Connection, bytes: &[u8]) -> Result<Option<Rule>, OutOfMemory>
         ensures rule { IfOk result (λ rule. rule ≡ wire.unless (wire.is_message bytes.now) Rule.Message
             (wire.broken_message self.old.credits self.old.commands.items (wire.sent_by connection bytes.now))) }
         ensures after { IfOk result (λ rule. rule ≡ None → self.new.commands.items
@@ -183,7 +183,7 @@ impl<A: Allocator> Judge<A> {
     }
 
     /// The first rule that a moment breaks. If it breaks none it is added to those before it.
-    pub fn step(&mut self, moment: &Moment) -> Result<Option<Rule>, AllocError>
+    pub fn step(&mut self, moment: &Moment) -> Result<Option<Rule>, OutOfMemory>
         ensures rule { IfOk result (λ rule. rule ≡ wire.broken self.old.credits self.old.commands.items moment.now) }
         ensures after { IfOk result (λ rule. rule ≡ None → self.new.commands.items
             ≡ wire.after self.old.commands.items moment.now) }
