@@ -21,7 +21,7 @@
 --                                 to poll; it is 0 if no such command is outstanding          has_figure
 --                    Count        no more bytes are moved than were asked for, and all of
 --                                 them if the status is Success                               has_count
-use Rattle.std.specs.Prelude.{◌≡◌, ℕ, ◌+◌, ◌%◌, Bool, true, false, not, ◌&&◌, ◌||◌, nat_eq, nat_le, nat_lt, if◌then◌else◌, List, [], ◌∷◌, ◌++◌, length, map, find, take, drop, position, count_by, fold, slice_index, slice_index_or, Option, Some, None}
+use Rattle.std.specs.Prelude.{◌≡◌, ℕ, ◌+◌, ◌<◌, ◌%◌, Bool, true, false, not, ◌&&◌, ◌||◌, nat_eq, nat_le, nat_lt, if◌then◌else◌, List, [], ◌∷◌, ◌++◌, length, map, find, take, drop, position, count_by, fold, slice_index, slice_index_or, Option, Some, None}
 use Rattle.std.specs.List.{list_any}
 use Rattle.arrayvec.specs.ArrayVec.{ArrayVec}
 use Rattle.mscp_packet.specs.Number.{num}
@@ -366,6 +366,10 @@ IsRightAfter credits xs moments.Reset = Unit {0}
 abbrev pub IsRight : Option ℕ → History → Moment → Type 0
 IsRight credits h m = IsRightAfter credits (outstanding h) m
 
+-- the moment at a position. Past the end there is none that asks for anything
+abbrev pub moment_at : History → ℕ → Moment
+moment_at h i = slice_index_or h i moments.Reset
+
 -- each moment of a history is right after those before it
 abbrev pub AreRight : Option ℕ → History → Type 0
-AreRight credits h = (before : History) (m : Moment) (rest : History) → h ≡ before ++ m ∷ rest → IsRight credits before m
+AreRight credits h = (i : ℕ) → i < length h → IsRight credits (take i h) (moment_at h i)

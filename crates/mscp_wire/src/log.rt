@@ -2,6 +2,7 @@
 
 ghost use Rattle.std.specs.Prelude.{◌≡◌, ◌≤◌, ◌<◌, ◌+◌, OnOk, IfOk};
 ghost use Rattle.mscp_reader.specs.Lexical as lexical;
+ghost use Rattle.mscp_wire.specs.Right.{IsRightLog, IsRightVerdict, Means};
 ghost use Rattle.mscp_wire.specs.Log.{Log, Goes, IsAfter, IsFew, Judges, after_line, after_lines, after_log, after_said, answered_by, command_of, nothing};
 
 use crate::answer::{Answer, is_long};
@@ -151,11 +152,22 @@ fn judge_lines<A: Allocator>(alloc: A, lines: &mut Lines<'_>) -> Result<Verdict<
     Ok(Verdict::Right(totals, commands))
 }
 
-/// Judges a log of the wire: says that each of its moments is right, or the first that isn't, in the first line that isn't
-/// at fault.
-pub fn judge_wire<A: Allocator>(alloc: A, bytes: &[u8]) -> Result<Verdict<A>, ReadFault>
+/// What is said of a log.
+fn judged<A: Allocator>(alloc: A, bytes: &[u8]) -> Result<Verdict<A>, ReadFault>
     ensures { Judges result (after_log bytes.now) }
 {
     let mut lines = lines_of(bytes)?;
     judge_lines(alloc, &mut lines)
+}
+
+/// Judges a log of the wire: says that each of its moments is right, or the first that isn't, unless a line before it is at
+/// fault.
+pub fn judge_wire<A: Allocator>(alloc: A, bytes: &[u8]) -> Result<Verdict<A>, ReadFault>
+    ensures judges { Judges result (after_log bytes.now) }
+    // So each log of which all moments are right is judged to be right,
+    ensures right { IsRightLog bytes.now → IsRightVerdict result }
+    // and no other, and a moment that is told is the first that isn't right.
+    ensures only { Means bytes.now result }
+{
+    judged(alloc, bytes)
 }
