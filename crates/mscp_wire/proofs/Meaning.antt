@@ -1,5 +1,5 @@
 -- What the judgement of lines means: that each moment that they tell is right, or which is the first that isn't.
-use Rattle.std.proofs.Common.{◌≡◌, ◌≢◌, ℕ, zero, ◌+◌, ◌<◌, ◌≤◌, Bool, true, false, List, [], ◌∷◌, ◌++◌, length, take, get_or, arith, refl, sym, ap, subst, ◌∙◌, append_assoc, append-nil, length-append, ⊎_elim, if◌then◌else◌, Option, Some, None, Result, Ok, Err}
+use Rattle.std.proofs.Common.{◌≡◌, ◌≢◌, ℕ, ◌+◌, ◌<◌, Bool, true, false, List, [], ◌∷◌, ◌++◌, length, arith, refl, sym, ap, subst, ◌∙◌, append_assoc, append-nil, length-append, ⊎_elim, if◌then◌else◌, Option, Some, None, Result, Ok, Err}
 use Rattle.std.proofs.lemmas.Bool.{cases_lt}
 use Rattle.std.proofs.Math.Seq.{get_or-append_seam, take-append_seam}
 use Rattle.std.proofs.lemmas.Bool.Decides.{nat_tests}
@@ -10,7 +10,7 @@ use Rattle.mscp_reader.specs.Outcome.{in_line}
 use Rattle.mscp_reader.specs.declared.fault.Cause.{Cause}
 use Rattle.mscp_reader.specs.declared.fault.Cause.TheVariants as causes
 use Rattle.mscp_reader.specs.declared.fault.ScriptFault.{ScriptFault}
-use Rattle.mscp_wire.specs.Wire.{AreRight, History, IsRight, broken, moment_at, outstanding}
+use Rattle.mscp_wire.specs.Wire.{AreRight, History, IsRight, broken, outstanding}
 use Rattle.mscp_wire.specs.Log.{Log, after_line, after_lines, after_said, goes_on, is_fresh, line_says, with_moment}
 use Rattle.mscp_wire.specs.Right.{told, told_line, told_lines}
 use Rattle.mscp_wire.specs.declared.line.Said.{Said}
@@ -28,8 +28,8 @@ right_more : (c : Option ℕ) (h : History) (m : Moment) → AreRight c h → Is
 right_more c h m all last i lt = ⊎_elim
     (λ low. rw (take-append-le i h (m ∷ []) (omega arith), get_or-append h (m ∷ []) moments.Reset i low) (all i low))
     (λ high.
-        let e : i ≡ length h = omega (arith, length-append h (m ∷ [])) in
-        rw (e, take-append_seam h (m ∷ []), get_or-append_seam h m [] moments.Reset) last)
+    let e : i ≡ length h = omega (arith, length-append h (m ∷ [])) in
+    rw (e, take-append_seam h (m ∷ []), get_or-append_seam h m [] moments.Reset) last)
     (cases_lt i (length h))
 
 -- the moment behind a history that a longer one begins with
@@ -201,12 +201,12 @@ said_right n log next final (says.Credits c) h x r = fresh_right (is_fresh log) 
 said_right n log next final (says.Happens m) h x r =
     let e : record log { moments = log.moments ++ m ∷ [] } ≡ next = cc in
     let long : length next.moments ≢ 0 =
-        λ z. absurd (omega (arith, length-append log.moments (m ∷ []), ap (λ l. length l.moments) e)) in
+    λ z. absurd (omega (arith, length-append log.moments (m ∷ []), ap (λ l. length l.moments) e)) in
     let c : final.credits ≡ log.credits = x.credits long ∙ ap (λ l. l.credits) (sym e) in
     let h : final.moments ≡ log.moments ++ m ∷ x.rest =
-        x.moments ∙ ap (λ l. l.moments ++ x.rest) (sym e) ∙ append_assoc log.moments (m ∷ []) x.rest in
+    x.moments ∙ ap (λ l. l.moments ++ x.rest) (sym e) ∙ append_assoc log.moments (m ∷ []) x.rest in
     let all : AreRight log.credits (log.moments ++ m ∷ x.rest) =
-        subst (λ k. AreRight k (log.moments ++ m ∷ x.rest)) c (subst (λ t. AreRight final.credits t) h r) in
+    subst (λ k. AreRight k (log.moments ++ m ∷ x.rest)) c (subst (λ t. AreRight final.credits t) h r) in
     ap (λ p. Ok (with_moment n log m p))
     (unbroken_from_right log.credits (outstanding log.moments) m (right_there log.credits log.moments m x.rest all))
     ∙ ap (λ l. Ok (Ok l)) e

@@ -65,8 +65,8 @@ right_at xs b e i long found h =
     let success = parts (succeeds e (other_of y e)) rules.Success (about_on xs z y e) order.1 in
     let about = parts (is_about e (other_of y e)) rules.About (figure_on xs z y e) success.1 in
     let figure =
-        parts (has_figure xs z e (polled_by y e)) rules.Figure (unless (has_count e (count_of y e)) rules.Count None)
-        about.1 in
+    parts (has_figure xs z e (polled_by y e)) rules.Figure (unless (has_count e (count_of y e)) rules.Count None)
+    about.1 in
     let count = parts (has_count e (count_of y e)) rules.Count None figure.1 in
     record {
       length = long;

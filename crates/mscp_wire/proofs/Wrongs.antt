@@ -1,17 +1,16 @@
 -- The first moment of lines that isn't right, and what a verdict means.
-use Rattle.std.proofs.Common.{◌≡◌, ℕ, ◌+◌, ◌≤◌, Bool, true, false, List, [], ◌∷◌, ◌++◌, length, arith, refl, sym, ap, subst, ◌∙◌, if◌then◌else◌, nat_lt, Option, Some, None, Result, Ok, Err}
+use Rattle.std.proofs.Common.{◌≡◌, ℕ, ◌+◌, ◌≤◌, Bool, true, false, List, [], ◌∷◌, ◌++◌, length, arith, refl, sym, ap, ◌∙◌, if◌then◌else◌, nat_lt, Option, Some, None, Result, Ok, Err}
 use Rattle.std.proofs.lemmas.Bool.Decides.{nat_tests}
 use Rattle.mscp_packet.specs.Steps.{◌>>=◌}
 use Rattle.mscp_reader.specs.Lexical.{lines}
-use Rattle.mscp_reader.specs.Outcome.{in_line}
 use Rattle.mscp_reader.specs.declared.fault.Cause.{Cause}
 use Rattle.mscp_reader.specs.declared.fault.Cause.TheVariants as causes
 use Rattle.mscp_reader.specs.declared.fault.ReadFault.{ReadFault}
 use Rattle.mscp_reader.specs.declared.fault.ReadFault.TheVariants as reads
 use Rattle.mscp_reader.specs.declared.fault.ScriptFault.{ScriptFault}
 use Rattle.mscp_wire.specs.Wire.{AreRight, broken, outstanding}
-use Rattle.mscp_wire.specs.Log.{Judges, Log, after_line, after_lines, after_log, after_said, command_of, goes_on, is_fresh, line_says, nothing}
-use Rattle.mscp_wire.specs.Right.{IsFirstWrong, IsRightLog, IsRightVerdict, Means, told, told_line, told_lines}
+use Rattle.mscp_wire.specs.Log.{Judges, Log, after_line, after_lines, after_log, after_said, command_of, is_fresh, line_says, nothing}
+use Rattle.mscp_wire.specs.Right.{IsRightLog, IsRightVerdict, Means, told, told_line, told_lines}
 use Rattle.mscp_wire.specs.declared.line.Said.{Said}
 use Rattle.mscp_wire.specs.declared.line.Said.TheVariants as says
 use Rattle.mscp_wire.specs.declared.log.Verdict.{Verdict}

@@ -23,7 +23,6 @@
 --                                 them if the status is Success                               has_count
 use Rattle.std.specs.Prelude.{◌≡◌, ℕ, ◌+◌, ◌<◌, ◌%◌, Bool, true, false, not, ◌&&◌, ◌||◌, nat_eq, nat_le, nat_lt, if◌then◌else◌, List, [], ◌∷◌, ◌++◌, length, map, find, take, drop, position, count_by, fold, slice_index, slice_index_or, Option, Some, None}
 use Rattle.std.specs.List.{list_any}
-use Rattle.arrayvec.specs.ArrayVec.{ArrayVec}
 use Rattle.mscp_packet.specs.Number.{num}
 use Rattle.mscp_packet.specs.Opcodes.{class, is_immediate_class}
 use Rattle.mscp_packet.specs.declared.class.Class.{Class}
@@ -175,9 +174,9 @@ abbrev pub may_have : ℕ → ℕ → Bool
 may_have opcode code =
     nat_le code 1
     || (nat_le code 11
-        && not (nat_eq opcode 1 || nat_eq opcode 2 || nat_eq opcode 4)
-        && not (nat_eq opcode 3 && nat_eq code 2)
-        && not ((nat_eq opcode 8 || nat_eq opcode 9) && nat_eq code 4))
+    && not (nat_eq opcode 1 || nat_eq opcode 2 || nat_eq opcode 4)
+    && not (nat_eq opcode 3 && nat_eq code 2)
+    && not ((nat_eq opcode 8 || nat_eq opcode 9) && nat_eq code 4))
 
 -- its status has a code that its command may have: Invalid Command where the controller doesn't know the opcode
 abbrev pub has_status : Sent → Answer → Bool
@@ -205,7 +204,7 @@ keeps_back y s =
     same_connection s.connection y.connection
     && nat_eq s.unit y.unit
     && ((is_sequential s.opcode && (is_sequential y.opcode || is_transfer y.opcode))
-        || (is_transfer s.opcode && is_sequential y.opcode))
+    || (is_transfer s.opcode && is_sequential y.opcode))
 
 -- a status of this code may come at once, before earlier commands of the unit end: Invalid Command (1), Command
 -- Aborted (2) and Unit-Offline (3)

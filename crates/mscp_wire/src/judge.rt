@@ -5,9 +5,7 @@ ghost use Rattle.mscp_wire.specs.Wire as wire;
 
 use crate::answer::{Answer, is_long};
 use crate::moment::Moment;
-use crate::outstanding::{
-    count_on, has_abort, has_figure, has_named, passes_none, place_of, tell,
-};
+use crate::outstanding::{count_on, has_abort, has_figure, has_named, passes_none, place_of, tell};
 use crate::rule::Rule;
 use crate::sent::{Sent, is_immediate};
 use mscp_events::{Connection, OutOfMemory};
@@ -39,12 +37,7 @@ fn broken_message(credits: Option<u32>, commands: &[Sent], sent: &Sent) -> Optio
 }
 
 /// The first rule that the body of an end of this command breaks, before which these came.
-fn broken_body(
-    commands: &[Sent],
-    earlier: &[Sent],
-    command: &Sent,
-    answer: &Answer,
-) -> Option<Rule>
+fn broken_body(commands: &[Sent], earlier: &[Sent], command: &Sent, answer: &Answer) -> Option<Rule>
     ensures { result ≡ wire.broken_body commands.now earlier.now command.now answer.now }
 {
     if !answer.succeeds(answer.other_of(command)) {
@@ -63,12 +56,7 @@ fn broken_body(
 }
 
 /// The first rule that an end of this command breaks, before which these came.
-fn broken_end(
-    commands: &[Sent],
-    earlier: &[Sent],
-    command: &Sent,
-    answer: &Answer,
-) -> Option<Rule>
+fn broken_end(commands: &[Sent], earlier: &[Sent], command: &Sent, answer: &Answer) -> Option<Rule>
     ensures { result ≡ wire.broken_end commands.now earlier.now command.now answer.now }
 {
     if !answer.names_unit(command) {

@@ -32,9 +32,7 @@ pub fn place_of(commands: &[Sent], answer: &Answer) -> Option<usize>
     ensures place { result ≡ wire.place_of commands.now answer.now }
     ensures bound { IfSome result (λ i. i < length commands.now) }
 {
-    commands
-        .iter()
-        .position(|command| command.is_named(answer.connection, answer.reference))
+    commands.iter().position(|command| command.is_named(answer.connection, answer.reference))
 }
 
 /// How many of the commands are of a connection.
@@ -130,12 +128,7 @@ fn may_tell(figure: Option<u32>, stands: bool, asked: Option<Sent>) -> bool
 }
 
 /// Whether the figure that an end tells is right, if its command is a poll of this other one.
-pub fn has_figure(
-    commands: &[Sent],
-    earlier: &[Sent],
-    answer: &Answer,
-    polled: Option<u32>,
-) -> bool
+pub fn has_figure(commands: &[Sent], earlier: &[Sent], answer: &Answer, polled: Option<u32>) -> bool
     ensures { result ≡ wire.has_figure commands.now earlier.now answer.now polled }
 {
     let Some(other) = polled else {

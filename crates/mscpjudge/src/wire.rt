@@ -91,7 +91,8 @@ fn rule_text(rule: Rule) -> &'static str
         Rule::Endcode => "the endcode is the opcode of the command and 0x80",
         Rule::Status => "the status has a code that such a command may have",
         Rule::Aborted => "a command is aborted by an ABORT, and ends before that does",
-        Rule::Order => "a sequential command of a unit passes no earlier one, and is passed by none",
+        Rule::Order =>
+            "a sequential command of a unit passes no earlier one, and is passed by none",
         Rule::Success => "an ABORT and a GET COMMAND STATUS succeed",
         Rule::About => {
             "the end of an ABORT or a GET COMMAND STATUS names the command that it is about"
@@ -126,10 +127,7 @@ fn put_left<A: Allocator>(text: &mut Vec<u8, A>, command: &Sent) -> Result<(), A
 }
 
 /// Appends a line for each of the commands that are still outstanding.
-fn put_outstanding<A: Allocator>(
-    text: &mut Vec<u8, A>,
-    commands: &[Sent],
-) -> Result<(), AllocError>
+fn put_outstanding<A: Allocator>(text: &mut Vec<u8, A>, commands: &[Sent]) -> Result<(), AllocError>
     ensures { OnOk result (text.new.items ≡ text.old.items ++ flat_map outstanding_text commands.now) }
 {
     for command in commands {
@@ -158,10 +156,7 @@ fn put_totals<A: Allocator>(text: &mut Vec<u8, A>, totals: &Totals) -> Result<()
 }
 
 /// Appends the line of the command that is meant, if there is one.
-fn put_meant<A: Allocator>(
-    text: &mut Vec<u8, A>,
-    command: &Option<Sent>,
-) -> Result<(), AllocError>
+fn put_meant<A: Allocator>(text: &mut Vec<u8, A>, command: &Option<Sent>) -> Result<(), AllocError>
     ensures { OnOk result (text.new.items ≡ text.old.items ++ meant_text command.now) }
 {
     match command {
