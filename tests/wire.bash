@@ -34,6 +34,16 @@ moved() { echo "end $(packet 32 "$1" "${4-0}" 161 "$2" "$3")"; }
 polled() { echo "end $(packet 20 "$1" 0 130 0 "$2" "$3")"; }
 aborted() { echo "end $(packet 16 "$1" 0 129 "$2" "$3")"; }
 
+# A log of examples/, by its name and on standard input.
+captured() {
+    local status=1 judged=${1%.wire}.judged
+    [ "$(head -n 1 "$judged")" != right ] || status=0
+    "$program" wire "$1" </dev/null >"$room/out" 2>"$room/err"
+    [ $? = "$status" ] && cmp -- "$room/out" "$judged" && cmp -- "$room/err" /dev/null || return
+    "$program" wire <"$1" >"$room/out" 2>"$room/err"
+    [ $? = "$status" ] && cmp -- "$room/out" "$judged"
+}
+
 # The judge says this of these lines, and ends with this status.
 wire_says() {
     local status

@@ -214,7 +214,8 @@ said_right n log next final (says.Happens m) h x r =
 told_extends : (read : Result Log Cause) (n : ℕ) (log final : Log) (said : Said)
     (tell : Log → Result Log ScriptFault) → ((next : Log) → tell next ≡ Ok final → Extends next final)
     → told log said ≡ read → telling n tell read ≡ Ok final → Extends log final
-told_extends (Ok next) n log final said tell on e h = extends_on log next final (said_extends log next said e) (on next h)
+told_extends (Ok next) n log final said tell on e h =
+    extends_on log next final (said_extends log next said e) (on next h)
 told_extends (Err cause) n log final said tell on e h = cc
 
 line_extends : (says : Result Said Cause) (n : ℕ) (log final : Log) (tell : Log → Result Log ScriptFault)

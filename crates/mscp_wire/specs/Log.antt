@@ -193,7 +193,8 @@ FailsLine number (reads.Script fault) read = (fault.line ≡ number) × (read �
 FailsLine number reads.OutOfMemory read = Unit {0}
 
 -- what was returned of the line of this number, and is kept then, is what comes of it
-abbrev pub Goes : {A : Type 0} → ℕ → Result (Result Log Wrong) Cause → Result (Option Wrong) ReadFault → Reading A → Type 0
+abbrev pub Goes : {A : Type 0} → ℕ → Result (Result Log Wrong) Cause → Result (Option Wrong) ReadFault → Reading A
+    → Type 0
 Goes number read (Ok None) reading = (next : Log) × (read ≡ Ok (Ok next)) × IsAfter next reading
 Goes number read (Ok (Some wrong)) reading = read ≡ Ok (Err wrong)
 Goes number read (Err fault) reading = FailsLine number fault read

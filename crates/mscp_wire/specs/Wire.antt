@@ -1,8 +1,8 @@
--- What goes over the wire between hosts and a controller, and the manual's rules for it, as far as the wire shows whether
--- they are kept. No controller is in these definitions: they judge any.
+-- What goes over the wire between hosts and a controller, and the manual's rules for it, as far as the wire shows
+-- whether they are kept. No controller is in these definitions: they judge any.
 --
--- A rule speaks of a moment and of what is outstanding after the moments before it. The rules, in the order in which they
--- are asked, and beside each the definition that decides it:
+-- A rule speaks of a moment and of what is outstanding after the moments before it. The rules, in the order in which
+-- they are asked, and beside each the definition that decides it:
 --
 --     the host's     Message      a message has 12 bytes at least                             is_message
 --                    Number       no command that is outstanding has its reference number     is_new
@@ -168,8 +168,9 @@ abbrev pub has_endcode : Sent → Answer → Bool
 has_endcode y e = not (is_known e) || nat_eq e.code (y.opcode + 0x80)
 
 -- a command of this opcode may have a status of this code (manual, "Status and Event Codes"): Success (0) or Invalid
--- Command (1), and any other of 2 to 11 where it isn't an ABORT, a GET COMMAND STATUS or a SET CONTROLLER CHARACTERISTICS.
--- A GET UNIT STATUS isn't aborted (2), and no AVAILABLE or ONLINE is told that the unit is available (4)
+-- Command (1), and any other of 2 to 11 where it isn't an ABORT, a GET COMMAND STATUS or a SET CONTROLLER
+-- CHARACTERISTICS. A GET UNIT STATUS isn't aborted (2), and no AVAILABLE or ONLINE is told that its unit is available
+-- (4)
 abbrev pub may_have : ℕ → ℕ → Bool
 may_have opcode code =
     nat_le code 1
@@ -192,8 +193,8 @@ abbrev pub aborts : Sent → Sent → Bool
 aborts y s =
     same_connection s.connection y.connection && nat_eq s.opcode 1 && is_it s.parameter y.reference
 
--- a command is aborted (2) only while an ABORT of it is outstanding, so its end stands before that of its ABORT (manual,
--- "Command Messages")
+-- a command is aborted (2) only while an ABORT of it is outstanding, so its end stands before that of its ABORT
+-- (manual, "Command Messages")
 abbrev pub has_abort : List Sent → Sent → Answer → Bool
 has_abort xs y e = not (nat_eq (status_code e) 2) || list_any (aborts y) xs
 
@@ -244,9 +245,9 @@ abbrev pub is_below : Option ℕ → ℕ → Bool
 is_below None figure = true
 is_below (Some last) figure = nat_lt figure last
 
--- a figure is right that is told of this command, if it came before the poll: while it waits it is at least 1, and falls
--- from poll to poll (manual, "Host Command Timeouts"). Where no command of that number came before, it is 0, unless one
--- came since
+-- a figure is right that is told of this command, if it came before the poll: it is at least 1, and falls from poll to
+-- poll (manual, "Host Command Timeouts"), unless the command is answered when it arrives. Where no command of that
+-- number came before, it is 0, unless one came since
 abbrev pub may_tell : Option ℕ → Bool → Option Sent → Bool
 may_tell None stands asked = false
 may_tell (Some figure) stands None = stands || nat_eq figure 0
@@ -309,7 +310,8 @@ abbrev pub broken_body : List Sent → List Sent → Sent → Answer → Option 
 broken_body xs earlier y e =
     unless (succeeds e (other_of y e)) rules.Success
     (unless (is_about e (other_of y e)) rules.About
-    (unless (has_figure xs earlier e (polled_by y e)) rules.Figure (unless (has_count e (count_of y e)) rules.Count None)))
+    (unless (has_figure xs earlier e (polled_by y e)) rules.Figure
+    (unless (has_count e (count_of y e)) rules.Count None)))
 
 -- by an end of this command
 abbrev pub broken_end : List Sent → List Sent → Sent → Answer → Option Rule

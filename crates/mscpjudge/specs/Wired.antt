@@ -140,8 +140,8 @@ abbrev pub wire_outcome : {A : Type 0} → Verdict A → Outcome
 wire_outcome (verdicts.Right totals commands) = outcomes.Legal
 wire_outcome (verdicts.Wrong wrong) = outcomes.Wrong
 
--- what is written is what came of the log that the reader gave. Nothing is written on a fault, and a fault of the log is
--- that of what the reader gave; nothing is said where the write failed
+-- what is written is what came of the log that the reader gave. Nothing is written on a fault, and a fault of the log
+-- is that of what the reader gave; nothing is said where the write failed
 abbrev pub TellsWire : Result Outcome Fault → Option (List ℕ) → Option (List ℕ) → Option (List ℕ) → Type 0
 TellsWire (Ok outcome) known old new =
     IsGiven known (λ log. (came : Result Log Wrong) × (after_log log ≡ Ok came) × (outcome ≡ came_outcome came)
