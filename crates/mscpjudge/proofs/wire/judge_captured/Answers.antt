@@ -4,7 +4,7 @@ use Rattle.mscpjudge.proofs.wire.judge_captured.Goals as goal
 
 pub returns-clause-told : goal.returns-clause-told
 returns-clause-told g c =
-    let k = came_of c.in_ok-verdict.verdict _ (rw c.deref.ensures.value at (c.in_ok-verdict.ensures)) in (
+    let k = came_of c.in_ok-verdict.verdict _ (rw c.deref.ensures.value at (c.in_ok-verdict.ensures.judges)) in (
       c.in_ok-log.log.items,
       c.in_ok-log.ensures.bytes,
       (
