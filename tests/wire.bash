@@ -79,7 +79,7 @@ wire_of_a_right_controller() {
 
 wire_tells_what_is_outstanding() {
     wire_is_right '2 2 0 0 0' $'outstanding: READ 7 of unit 1\noutstanding: second ONLINE 7 of unit 0' "$(reading 7 1)" \
-        "second $(online 7)" && wire_is_right '4 3 0 0 1' 'outstanding: READ 7 of unit 1' "$(reading 7 1)" "$(poll 8 7)" reset \
+        "second $(online 7)" && wire_is_right '4 3 1 0 1' 'outstanding: READ 7 of unit 1' "$(reading 7 1)" "$(poll 8 7)" reset \
         "$(reading 7 1)"
 }
 
