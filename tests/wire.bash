@@ -193,3 +193,43 @@ many_lines_of_the_wire() {
     { yes "$(reading 1; moved 1 0 1024)" | head -n 200000; } >"$room/log" && "$program" wire "$room/log" </dev/null |
         cmp -- - <(printf 'right\nmoments 200000 messages 100000 polls 0 ends 100000 resets 0\n')
 }
+
+# What goes over the wire of a run: its script joined with its report. A message that is refused doesn't, and a poll or a take
+# that finds nothing tells nothing.
+wire_of() {
+    join_log "$1" "${1%.mscp}.out" | tr -d '\r' | awk '
+        function low(number, count, text) {
+            for (; count > 0; count--) {
+                text = text sprintf("%02x", number % 256)
+                number = int(number / 256)
+            }
+            return text
+        }
+        function head(opcode, reference, unit) { return low(reference, 4) low(unit, 2) "0000" low(opcode, 1) "000000" }
+        BEGIN {
+            split("access 16 erase 18 compare 32 read 33 write 34 online 9 available 8 setunit 10 unitstatus 3 setcontroller 4 " \
+                "abort 1 status 2", table)
+            for (i = 1; i in table; i += 2) opcode[table[i]] = table[i + 1]
+        }
+        !gone { gone = $1 == "go"; next }
+        { second = sub(/^second /, "") ? "second " : "" }
+        $1 == "packet" { message = second "send " $2 }
+        $1 in opcode {
+            message = second "send "
+            if (NF == 5) message = message head(opcode[$1], $2, $3) low($4, 4) low(0, 8) low(0, 4) low($5, 4)
+            else if (NF == 2) message = message head(opcode[$1], $2, 0) low(0, 6)
+            else if (opcode[$1] < 3) message = message head(opcode[$1], $2, 0) low($3, 4)
+            else message = message head(opcode[$1], $2, $3)
+        }
+        $1 == "queued" || $1 == "answered" { print message }
+        $1 == "end" { print second $0 }'
+}
+
+# What goes over the wire of a run keeps the rules, with each of its ends.
+run_is_right() {
+    local totals
+    wire_of "$1" >"$room/log"
+    "$program" wire "$room/log" </dev/null >"$room/out" 2>"$room/err" || return
+    totals="^right"$'\n'"moments $(wc -l <"$room/log") messages [0-9]+ polls [0-9]+ ends $(grep -cE '^(second )?end ' "${1%.mscp}.out") "
+    [[ $(<"$room/out") =~ $totals ]]
+}
