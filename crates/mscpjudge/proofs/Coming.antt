@@ -1,5 +1,5 @@
 -- What is said of a verdict is what is said of what came of the log.
-use Rattle.std.proofs.Common.{◌≡◌, ℕ, List, ◌++◌, ap, ◌∙◌, refl, Result, Ok, Err}
+use Rattle.std.proofs.Common.{◌≡◌, ◌++◌, ap, ◌∙◌, refl, Result, Ok, Err}
 use Rattle.std.specs.List.{flat_map}
 use Rattle.mscp_reader.specs.declared.fault.ScriptFault.{ScriptFault}
 use Rattle.mscp_wire.specs.Log.{Judges, Log, totals_of}
