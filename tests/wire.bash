@@ -108,7 +108,10 @@ ends_of_nobody() {
         wire_breaks 'controller: outstanding' '' "$(reading 1)" reset "$(moved 1 0 1024)"
 }
 
-end_units() { wire_breaks 'controller: unit' 'READ 1 of unit 3' "$(reading 1 3)" "$(moved 1 0 1024 2)"; }
+end_units() {
+    wire_breaks 'controller: unit' 'READ 1 of unit 3' "$(reading 1 3)" "$(moved 1 0 1024 2)" &&
+        wire_breaks 'controller: unit' 'READ 1 of unit 3' "$(reading 1 3)" "$(moved 1 0 1024 0)"
+}
 
 endcodes() {
     wire_breaks 'controller: endcode' 'READ 1 of unit 0' "$(reading 1)" "end $(packet 32 1 0 162 0 1024)" &&
