@@ -29,7 +29,7 @@ pub data Call : Type 0 where
   WriteIp : Call
   ReadIp : Call
   WriteSa : ℕ → Call
-  -- whether blocks were asked for, or messages alone, the action that was wanted, and the bytes that it writes if it does
+  -- whether blocks were asked for, or messages alone, the action that was wanted, and the bytes that it writes
   Next : Bool → Action → List ℕ → Call
   -- the block in hand is put aside, as each time before messages alone are asked for
   PutAside : Call

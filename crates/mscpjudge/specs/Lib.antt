@@ -1,4 +1,5 @@
 pub mod Said
 pub mod Endings
 pub mod Heard
+pub mod Wired
 pub mod Common

@@ -1,15 +1,18 @@
-//! Judges a log: whether what another controller answered is legal, and what hosts would have heard of it.
+//! Judges a log: whether what another controller answered is legal, what hosts would have heard of it, and whether what went
+//! over the wire keeps the manual's rules.
 #![tactic(auto)]
 
 mod ending;
 mod fault;
 mod hearing;
 mod judging;
+mod wire;
 
 use crate::ending::Ending;
 use crate::fault::Fault;
 use crate::hearing::hear;
 use crate::judging::{Outcome, judge};
+use crate::wire::judge_captured;
 use mscp_script::Stream;
 use std::fs::File;
 use std::io;
@@ -32,6 +35,8 @@ enum Call {
     Legal,
     /// What hosts would have heard.
     Host,
+    /// Whether what went over the wire keeps the manual's rules.
+    Wire,
 }
 
 /// What a word asks for.
@@ -39,6 +44,7 @@ fn call_of(word: &str) -> Result<Call, Fault> {
     match word {
         "legal" => Ok(Call::Legal),
         "host" => Ok(Call::Host),
+        "wire" => Ok(Call::Wire),
         _ => Err(Fault::Usage),
     }
 }
@@ -50,6 +56,7 @@ fn answer<R: Read + Drop>(rt: &HostRuntime, call: Call, reader: R) -> Result<Out
     match call {
         Call::Legal => judge(rt.alloc(), &mut reader, &mut writer),
         Call::Host => hear(rt.alloc(), &mut reader, &mut writer),
+        Call::Wire => judge_captured(rt.alloc(), &mut reader, &mut writer),
     }
 }
 

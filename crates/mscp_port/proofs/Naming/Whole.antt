@@ -84,7 +84,8 @@ within_named calls p action h3 h4 = grind (arith, ring_named, data_named)
 -- the law of ports
 pub touches_what_is_named : {K : Type 0} (hardware : Hardware) (credits : ℕ) (controller : Holdings K) (start : Port K)
     (p : Port K) (calls : List Call) (blocks : Bool) (action : Action) (bytes : List ℕ)
-    → IsMadeOf hardware credits controller start → Answered start (Next blocks action bytes ∷ calls) p → IsNamed calls action
+    → IsMadeOf hardware credits controller start → Answered start (Next blocks action bytes ∷ calls) p
+    → IsNamed calls action
 touches_what_is_named hardware credits controller start p calls blocks action bytes made a =
     within_named calls p action (knows hardware credits controller start p (Next blocks action bytes ∷ calls) made a)
     a.2.0.within

@@ -1,0 +1,5 @@
+pub mod Hearing
+pub mod Rights
+pub mod Passing
+pub mod Meaning
+pub mod Wrongs

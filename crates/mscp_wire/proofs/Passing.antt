@@ -1,0 +1,92 @@
+-- What comes of the lines of a log.
+use Rattle.std.proofs.Common.{◌≡◌, ◌≢◌, ◌⊎◌, ℕ, ◌+◌, Bool, true, false, List, [], ◌∷◌, ◌++◌, arith, refl, sym, ap, ◌∙◌, Option, Some, None, Result, Ok, Err}
+use Rattle.std.specs.Prelude.{is_some}
+use Rattle.std.proofs.lemmas.Bool.Decides.{nat_tests}
+use Rattle.std.proofs.lemmas.List.Sums.{fold_push}
+use Rattle.mscp_packet.specs.Steps.{◌>>=◌}
+use Rattle.mscp_reader.specs.Outcome.{Fails, in_line}
+use Rattle.mscp_reader.specs.declared.fault.Cause.{Cause}
+use Rattle.mscp_reader.specs.declared.fault.Cause.TheVariants as causes
+use Rattle.mscp_reader.specs.declared.fault.ReadFault.{ReadFault}
+use Rattle.mscp_reader.specs.declared.fault.ScriptFault.{ScriptFault}
+use Rattle.mscp_wire.specs.Wire.{History, after, broken, outstanding}
+use Rattle.mscp_wire.specs.Log.{FailsLine, Log, after_line, after_lines, after_said, line_says, totals_of, with_moment}
+use Rattle.mscp_wire.specs.declared.line.Said.{Said}
+use Rattle.mscp_wire.specs.declared.line.Said.TheVariants as says
+use Rattle.mscp_wire.specs.declared.moment.Moment.{Moment}
+use Rattle.mscp_wire.specs.declared.sent.Sent.{Sent}
+use Rattle.mscp_wire.specs.declared.totals.Totals.{Totals}
+use Rattle.mscp_wire.specs.declared.wrong.Wrong.{Wrong}
+
+-- ---- a line
+
+in_err : {A : Type 0} (n : ℕ) (r : Result A Cause) (fault : ScriptFault) → in_line n r ≡ Err fault
+    → (fault.line ≡ n) × (r ≡ Err fault.cause)
+in_err n (Ok x) fault h = cc
+in_err n (Err cause) fault h = search arith
+
+in_ok : {A : Type 0} (n : ℕ) (r : Result A Cause) (x : A) → in_line n r ≡ Ok x → r ≡ Ok x
+in_ok n r x h = search arith
+
+-- a line that is at fault by itself
+pub line_fails : (n : ℕ) (log : Log) (line : List ℕ) (fault : ScriptFault) → in_line n (line_says n line) ≡ Err fault
+    → (fault.line ≡ n) × (after_line n log line ≡ Err fault.cause)
+unfolding after_line
+line_fails n log line fault h =
+    let p = in_err n (line_says n line) fault h in (p.0, ap (λ r. r >>= after_said n log) p.1)
+
+-- a line that says something
+pub line_goes : (n : ℕ) (log : Log) (line : List ℕ) (said : Said) → in_line n (line_says n line) ≡ Ok said
+    → after_line n log line ≡ after_said n log said
+unfolding after_line
+line_goes n log line said h = ap (λ r. r >>= after_said n log) (in_ok n (line_says n line) said h)
+
+-- the credits are told before anything else
+pub credits_told : (n c : ℕ) (log : Log) (credits : Option ℕ) (b : Bool) (t : Totals) → credits ≡ log.credits
+    → b ≡ is_some credits → b ≡ false → t ≡ totals_of log.moments → t.moments ≡ 0
+    → after_said n log (says.Credits c) ≡ Ok (Ok (record log { credits = Some c }))
+credits_told n c log credits b t p q e s z = grind (arith, nat_tests)
+
+pub credits_late : (n c : ℕ) (log : Log) (t : Totals) (b : Bool) → t ≡ totals_of log.moments
+    → b ≡ is_some log.credits → (b ≡ true) ⊎ (t.moments ≢ 0)
+    → after_said n log (says.Credits c) ≡ Err causes.Word
+credits_late n c log t b p q h = grind (arith, nat_tests)
+
+-- a moment that breaks no rule
+pub taken : (n : ℕ) (log : Log) (m : Moment) (credits : Option ℕ) (xs : List Sent) → credits ≡ log.credits
+    → xs ≡ outstanding log.moments → None ≡ broken credits xs m
+    → with_moment n log m (broken log.credits (outstanding log.moments) m)
+    ≡ Ok (record log { moments = log.moments ++ m ∷ [] })
+taken n log m credits xs p q h =
+    ap (with_moment n log m)
+    (ap (λ c. broken c (outstanding log.moments) m) (sym p) ∙ ap (λ ys. broken credits ys m) (sym q) ∙ sym h)
+
+-- what is outstanding after one moment more
+pub pushed : (h : History) (m : Moment) (xs ys : List Sent) → xs ≡ outstanding h → ys ≡ after xs m
+    → ys ≡ outstanding (h ++ m ∷ [])
+pushed h m xs ys p q = q ∙ ap (λ zs. after zs m) p ∙ sym (fold_push after [] h m)
+
+-- ---- lines
+
+-- a line that is right
+pub lines_more : (n : ℕ) (log next : Log) (line : List ℕ) (rest : List (List ℕ)) (place : ℕ) → place ≡ n + 1
+    → after_line place log line ≡ Ok (Ok next) → after_lines n log (line ∷ rest) ≡ after_lines place next rest
+unfolding after_lines
+lines_more n log next line rest place p e = search arith
+
+-- a line whose moment isn't
+pub lines_broken : (n : ℕ) (log : Log) (wrong : Wrong) (line : List ℕ) (rest : List (List ℕ)) (place : ℕ)
+    → place ≡ n + 1 → after_line place log line ≡ Ok (Err wrong) → after_lines n log (line ∷ rest) ≡ Ok (Err wrong)
+unfolding after_lines
+lines_broken n log wrong line rest place p e = search arith
+
+-- a line at fault
+pub lines_wrong : (n : ℕ) (log : Log) (line : List ℕ) (rest : List (List ℕ)) (place : ℕ) (fault : ReadFault)
+    → place ≡ n + 1 → FailsLine place fault (after_line place log line) → Fails fault (after_lines n log (line ∷ rest))
+unfolding after_lines
+lines_wrong n log line rest place fault p e = grind arith
+
+-- no line
+pub lines_none : (n : ℕ) (log : Log) → after_lines n log [] ≡ Ok (Ok log)
+unfolding after_lines
+lines_none n log = refl

@@ -1,0 +1,127 @@
+-- A moment is right exactly if it breaks no rule.
+use Rattle.std.proofs.Common.{◌≡◌, ℕ, Bool, true, false, List, take, refl, Option, Some, None}
+use Rattle.mscp_wire.specs.Wire.{IsRightAfter, IsRightEnd, IsRightMessage, answer_by, broken, broken_at, broken_body, broken_end, broken_message, command_at, count_of, has_abort, has_count, has_credit, has_endcode, has_figure, has_status, is_about, is_long, is_message, is_new, names_unit, other_of, passes_none, place_of, polled_by, sent_by, succeeds, unless}
+use Rattle.mscp_wire.specs.declared.answer.Answer.{Answer}
+use Rattle.mscp_wire.specs.declared.moment.Moment.{Moment}
+use Rattle.mscp_wire.specs.declared.moment.Moment.TheVariants as moments
+use Rattle.mscp_wire.specs.declared.rule.Rule.{Rule}
+use Rattle.mscp_wire.specs.declared.rule.Rule.TheVariants as rules
+use Rattle.mscp_wire.specs.declared.sent.Sent.{Sent}
+
+-- no rule is broken: this one is kept, and none of the rest is broken
+parts : (b : Bool) (rule : Rule) (rest : Option Rule) → unless b rule rest ≡ None → (b ≡ true) × (rest ≡ None)
+parts true rule rest h = (refl, h)
+parts false rule rest h = cc
+
+both : (b : Bool) (rule : Rule) (rest : Option Rule) → b ≡ true → rest ≡ None → unless b rule rest ≡ None
+both true rule rest k h = h
+both false rule rest k h = cc
+
+right_message : (credits : Option ℕ) (xs : List Sent) (b : List ℕ) (s : Sent)
+    → unless (is_message b) rules.Message (broken_message credits xs s) ≡ None → IsRightMessage credits xs b s
+right_message credits xs b s h =
+    let p = parts (is_message b) rules.Message (broken_message credits xs s) h in
+    let q = parts (is_new xs s) rules.Number (unless (has_credit credits xs s) rules.Credits None) p.1 in
+    let r = parts (has_credit credits xs s) rules.Credits None q.1 in
+    record { message = p.0; number = q.0; credit = r.0 }
+
+unbroken_message : (credits : Option ℕ) (xs : List Sent) (b : List ℕ) (s : Sent) → IsRightMessage credits xs b s
+    → unless (is_message b) rules.Message (broken_message credits xs s) ≡ None
+unbroken_message credits xs b s r =
+    both (is_message b) rules.Message (broken_message credits xs s) r.message
+    (both (is_new xs s) rules.Number (unless (has_credit credits xs s) rules.Credits None) r.number
+    (both (has_credit credits xs s) rules.Credits None r.credit refl))
+
+-- the rules of a body
+abbrev figure_on : List Sent → List Sent → Sent → Answer → Option Rule
+figure_on xs earlier y e =
+    unless (has_figure xs earlier e (polled_by y e)) rules.Figure (unless (has_count e (count_of y e)) rules.Count None)
+
+abbrev about_on : List Sent → List Sent → Sent → Answer → Option Rule
+about_on xs earlier y e = unless (is_about e (other_of y e)) rules.About (figure_on xs earlier y e)
+
+abbrev order_on : List Sent → List Sent → Sent → Answer → Option Rule
+order_on xs earlier y e = unless (passes_none earlier y e) rules.Order (broken_body xs earlier y e)
+
+abbrev aborted_on : List Sent → List Sent → Sent → Answer → Option Rule
+aborted_on xs earlier y e = unless (has_abort xs y e) rules.Aborted (order_on xs earlier y e)
+
+abbrev status_on : List Sent → List Sent → Sent → Answer → Option Rule
+status_on xs earlier y e = unless (has_status y e) rules.Status (aborted_on xs earlier y e)
+
+abbrev endcode_on : List Sent → List Sent → Sent → Answer → Option Rule
+endcode_on xs earlier y e = unless (has_endcode y e) rules.Endcode (status_on xs earlier y e)
+
+right_at : (xs : List Sent) (b : List ℕ) (e : Answer) (i : ℕ) → is_long b ≡ true → place_of xs e ≡ Some i
+    → broken_end xs (take i xs) (command_at xs i) e ≡ None → IsRightEnd xs b e i
+right_at xs b e i long found h =
+    let z = take i xs in
+    let y = command_at xs i in
+    let unit = parts (names_unit y e) rules.Unit (endcode_on xs z y e) h in
+    let endcode = parts (has_endcode y e) rules.Endcode (status_on xs z y e) unit.1 in
+    let status = parts (has_status y e) rules.Status (aborted_on xs z y e) endcode.1 in
+    let aborted = parts (has_abort xs y e) rules.Aborted (order_on xs z y e) status.1 in
+    let order = parts (passes_none z y e) rules.Order (broken_body xs z y e) aborted.1 in
+    let success = parts (succeeds e (other_of y e)) rules.Success (about_on xs z y e) order.1 in
+    let about = parts (is_about e (other_of y e)) rules.About (figure_on xs z y e) success.1 in
+    let figure =
+    parts (has_figure xs z e (polled_by y e)) rules.Figure (unless (has_count e (count_of y e)) rules.Count None)
+    about.1 in
+    let count = parts (has_count e (count_of y e)) rules.Count None figure.1 in
+    record {
+      length = long;
+      outstanding = found;
+      unit = unit.0;
+      endcode = endcode.0;
+      status = status.0;
+      aborted = aborted.0;
+      order = order.0;
+      success = success.0;
+      about = about.0;
+      figure = figure.0;
+      count = count.0;
+    }
+
+right_end : (xs : List Sent) (b : List ℕ) (e : Answer) (p : Option ℕ) → place_of xs e ≡ p
+    → unless (is_long b) rules.Length (broken_at xs e p) ≡ None → (i : ℕ) × IsRightEnd xs b e i
+right_end xs b e None found h =
+    let p = parts (is_long b) rules.Length (Some rules.Outstanding) h in
+    let never : ⊥ = cc p.1 in
+    absurd never
+right_end xs b e (Some i) found h =
+    let p = parts (is_long b) rules.Length (broken_end xs (take i xs) (command_at xs i) e) h in
+    (i, right_at xs b e i p.0 found p.1)
+
+unbroken_end : (xs : List Sent) (b : List ℕ) (e : Answer) (i : ℕ) → IsRightEnd xs b e i
+    → unless (is_long b) rules.Length (broken_at xs e (Some i)) ≡ None
+unbroken_end xs b e i r =
+    let z = take i xs in
+    let y = command_at xs i in
+    both (is_long b) rules.Length (broken_end xs z y e) r.length
+    (both (names_unit y e) rules.Unit (endcode_on xs z y e) r.unit
+    (both (has_endcode y e) rules.Endcode (status_on xs z y e) r.endcode
+    (both (has_status y e) rules.Status (aborted_on xs z y e) r.status
+    (both (has_abort xs y e) rules.Aborted (order_on xs z y e) r.aborted
+    (both (passes_none z y e) rules.Order (broken_body xs z y e) r.order
+    (both (succeeds e (other_of y e)) rules.Success (about_on xs z y e) r.success
+    (both (is_about e (other_of y e)) rules.About (figure_on xs z y e) r.about
+    (both (has_figure xs z e (polled_by y e)) rules.Figure (unless (has_count e (count_of y e)) rules.Count None)
+    r.figure (both (has_count e (count_of y e)) rules.Count None r.count refl)))))))))
+
+-- a moment that breaks no rule is right
+pub right_from_unbroken : (credits : Option ℕ) (xs : List Sent) (m : Moment) → broken credits xs m ≡ None
+    → IsRightAfter credits xs m
+right_from_unbroken credits xs (moments.Message via b) h =
+    right_message credits xs b.items (sent_by via b.items) h
+right_from_unbroken credits xs (moments.End via b) h =
+    right_end xs b.items (answer_by via b.items) (place_of xs (answer_by via b.items)) refl h
+right_from_unbroken credits xs moments.Reset h = tt
+
+-- and one that is right breaks none
+pub unbroken_from_right : (credits : Option ℕ) (xs : List Sent) (m : Moment) → IsRightAfter credits xs m
+    → broken credits xs m ≡ None
+unbroken_from_right credits xs (moments.Message via b) r =
+    unbroken_message credits xs b.items (sent_by via b.items) r
+unbroken_from_right credits xs (moments.End via b) r =
+    rw r.1.outstanding (unbroken_end xs b.items (answer_by via b.items) r.0 r.1)
+unbroken_from_right credits xs moments.Reset r = refl

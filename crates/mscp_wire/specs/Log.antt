@@ -1,0 +1,208 @@
+-- A log of the wire: what its lines say, and what is judged of them.
+use Rattle.std.specs.Prelude.{◌≡◌, ℕ, ◌+◌, ◌<◌, ◌==◌, Bool, true, false, nat_eq, nat_lt, ◌&&◌, if◌then◌else◌, List, [], ◌∷◌, ◌++◌, length, count_by, slice_index, codes, Option, Some, None, is_none, Result, Ok, Err}
+use Rattle.std.specs.Str.{bytes_eq}
+use Rattle.arrayvec.specs.ArrayVec.{ArrayVec}
+use Rattle.mscp_events.specs.declared.connection.Connection.{Connection}
+use Rattle.mscp_events.specs.declared.connection.Connection.TheVariants.{First, Second}
+use Rattle.mscp_packet.specs.Steps.{◌>>=◌}
+use Rattle.mscp_reader.specs.Grammar.{only_number, said_at}
+use Rattle.mscp_reader.specs.Lexical.{lines}
+use Rattle.mscp_reader.specs.Outcome.{Fails, in_line}
+use Rattle.mscp_reader.specs.Requests.{bytes_in, none, one}
+use Rattle.mscp_reader.specs.declared.fault.Cause.{Cause}
+use Rattle.mscp_reader.specs.declared.fault.Cause.TheVariants as causes
+use Rattle.mscp_reader.specs.declared.fault.ReadFault.{ReadFault}
+use Rattle.mscp_reader.specs.declared.fault.ReadFault.TheVariants as reads
+use Rattle.mscp_reader.specs.declared.fault.ScriptFault.{ScriptFault}
+use Rattle.mscp_wire.specs.Wire.{History, answer_by, broken, command_at, is_long, is_message, outstanding, place_of, sent_by}
+use Rattle.mscp_wire.specs.declared.answer.Answer.{Answer}
+use Rattle.mscp_wire.specs.declared.line.Said.{Said}
+use Rattle.mscp_wire.specs.declared.line.Said.TheVariants as says
+use Rattle.mscp_wire.specs.declared.moment.Moment.{Moment}
+use Rattle.mscp_wire.specs.declared.moment.Moment.TheVariants as moments
+use Rattle.mscp_wire.specs.declared.rule.Rule.{Rule}
+use Rattle.mscp_wire.specs.declared.sent.Sent.{Sent}
+use Rattle.mscp_wire.specs.declared.totals.Totals.{Totals}
+use Rattle.mscp_wire.specs.declared.wrong.Wrong.{Wrong}
+use Rattle.mscp_wire.specs.declared.log.Reading.{Reading}
+use Rattle.mscp_wire.specs.declared.log.Verdict.{Verdict}
+use Rattle.mscp_wire.specs.declared.log.Verdict.TheVariants as verdicts
+
+-- ---- a line
+
+-- a word is a time: it begins with '@'
+abbrev pub is_time : List ℕ → Bool
+is_time [] = false
+is_time (b ∷ bytes) = b == 64
+
+-- the words of a line without its time, which may stand first
+unfoldable pub without_time : List (List ℕ) → List (List ℕ)
+without_time [] = []
+without_time (word ∷ rest) = if is_time word then rest else word ∷ rest
+
+-- the bytes of these digits: 1 to 64 of them
+abbrev pub packet_of : List ℕ → Result (ArrayVec ℕ) Cause
+packet_of [] = Err causes.Hex
+packet_of (b ∷ bytes) = Ok (record { items = b ∷ bytes })
+
+-- the one word that is left is the digits of a packet
+unfoldable pub packet : List (List ℕ) → Result (ArrayVec ℕ) Cause
+packet fields = one fields >>= λ digits. packet_of (bytes_in digits)
+
+-- a message or an end of a connection, by the first word
+unfoldable pub happens_on : Connection → List (List ℕ) → Result Said Cause
+happens_on via [] = Err causes.Count
+happens_on via (word ∷ fields) =
+    if bytes_eq word (codes "send") then (packet fields >>= λ b. Ok (says.Happens (moments.Message via b))) else (
+    if bytes_eq word (codes "end") then (packet fields >>= λ b. Ok (says.Happens (moments.End via b)))
+    else Err causes.Word)
+
+-- what the words of a line say, behind its time
+unfoldable pub said_by : List (List ℕ) → Result Said Cause
+said_by [] = Ok says.Nothing
+said_by (word ∷ fields) =
+    if bytes_eq word (codes "second") then happens_on Second fields else (
+    if bytes_eq word (codes "reset") then (none fields >>= λ f. Ok (says.Happens moments.Reset)) else (
+    if bytes_eq word (codes "credits") then (only_number fields >>= λ c. Ok (says.Credits c))
+    else happens_on First (word ∷ fields)))
+
+-- what the line of this number says
+unfoldable pub line_says : ℕ → List ℕ → Result Said Cause
+line_says number line = said_at number line >>= λ words. said_by (without_time words)
+
+-- ---- totals
+
+-- a host sends a message
+abbrev pub is_sent : Moment → Bool
+is_sent (moments.Message via b) = true
+is_sent m = false
+
+-- it is a GET COMMAND STATUS
+abbrev pub is_poll : Moment → Bool
+is_poll (moments.Message via b) = nat_eq (slice_index b.items 8) 2
+is_poll m = false
+
+-- the controller answers
+abbrev pub is_end : Moment → Bool
+is_end (moments.End via b) = true
+is_end m = false
+
+-- it is initialised
+abbrev pub is_reset : Moment → Bool
+is_reset moments.Reset = true
+is_reset m = false
+
+-- the totals of a history
+abbrev pub totals_of : History → Totals
+totals_of h = record {
+  moments = length h;
+  messages = count_by is_sent h;
+  polls = count_by is_poll h;
+  ends = count_by is_end h;
+  resets = count_by is_reset h;
+}
+
+-- none of the totals is so large
+pub record IsFew (totals : Totals) (n : ℕ) : Type 0 where
+  pub moments : totals.moments < n
+  pub messages : totals.messages < n
+  pub polls : totals.polls < n
+  pub ends : totals.ends < n
+  pub resets : totals.resets < n
+
+-- ---- a log
+
+-- how many credits each host has, if that is told, and what went over the wire so far
+pub record Log : Type 0 where
+  pub credits : Option ℕ
+  pub moments : History
+
+abbrev pub nothing : Log
+nothing = record { credits = None; moments = [] }
+
+-- nothing was said so far: the credits may be told
+abbrev pub is_fresh : Log → Bool
+is_fresh log = is_none log.credits && nat_eq (length log.moments) 0
+
+-- the outstanding command that an end answers, if there is one
+abbrev pub command_at_place : List Sent → Option ℕ → Option Sent
+command_at_place xs None = None
+command_at_place xs (Some i) = Some (command_at xs i)
+
+abbrev pub answered_by : List Sent → Answer → Option Sent
+answered_by xs e = command_at_place xs (place_of xs e)
+
+-- the command that a moment is about: that which it sends, or which it answers, if it is outstanding
+abbrev pub command_of : List Sent → Moment → Option Sent
+command_of xs (moments.Message via b) = if is_message b.items then Some (sent_by via b.items) else None
+command_of xs (moments.End via b) =
+    if is_long b.items then answered_by xs (answer_by via b.items) else None
+command_of xs moments.Reset = None
+
+-- a log in which a moment more came, or the rule that it breaks in the line of this number
+abbrev pub with_moment : ℕ → Log → Moment → Option Rule → Result Log Wrong
+with_moment number log m None = Ok (record log { moments = log.moments ++ m ∷ [] })
+with_moment number log m (Some rule) = Err (record {
+  line = number;
+  rule = rule;
+  moment = m;
+  command = command_of (outstanding log.moments) m;
+})
+
+-- what comes of what the line of this number says: the log, or the moment that isn't right
+abbrev pub after_said : ℕ → Log → Said → Result (Result Log Wrong) Cause
+after_said number log says.Nothing = Ok (Ok log)
+after_said number log (says.Credits c) =
+    if is_fresh log then Ok (Ok (record log { credits = Some c })) else Err causes.Word
+after_said number log (says.Happens m) =
+    Ok (with_moment number log m (broken log.credits (outstanding log.moments) m))
+
+-- what comes of the line of this number
+unfoldable pub after_line : ℕ → Log → List ℕ → Result (Result Log Wrong) Cause
+after_line number log line = line_says number line >>= after_said number log
+
+-- the lines go on behind one that is right. The first that isn't is all that is said
+abbrev pub goes_on : (Log → Result (Result Log Wrong) ScriptFault) → Result Log Wrong
+    → Result (Result Log Wrong) ScriptFault
+goes_on rest (Ok log) = rest log
+goes_on rest (Err wrong) = Ok (Err wrong)
+
+-- what comes of lines that so many stand before: the log, or the first moment that isn't right, or the first fault
+unfoldable pub after_lines : ℕ → Log → List (List ℕ) → Result (Result Log Wrong) ScriptFault
+after_lines before log [] = Ok (Ok log)
+after_lines before log (line ∷ rest) =
+    in_line (before + 1) (after_line (before + 1) log line) >>= goes_on (λ next. after_lines (before + 1) next rest)
+
+-- what comes of a whole log
+abbrev pub after_log : List ℕ → Result (Result Log Wrong) ScriptFault
+after_log bytes =
+    if nat_lt 16777216 (length bytes) then Err (record { line = 0; cause = causes.Size })
+    else after_lines 0 nothing (lines bytes)
+
+-- ---- what is kept
+
+-- this came of the lines so far
+pub record IsAfter {A : Type 0} (log : Log) (reading : Reading A) : Type 0 where
+  pub credits : reading.judge.credits ≡ log.credits
+  pub commands : reading.judge.commands.items ≡ outstanding log.moments
+  pub totals : reading.totals ≡ totals_of log.moments
+
+-- the fault of a line of this number is that of its definition, unless memory ran out
+abbrev pub FailsLine : ℕ → ReadFault → Result (Result Log Wrong) Cause → Type 0
+FailsLine number (reads.Script fault) read = (fault.line ≡ number) × (read ≡ Err fault.cause)
+FailsLine number reads.OutOfMemory read = Unit {0}
+
+-- what was returned of the line of this number, and is kept then, is what comes of it
+abbrev pub Goes : {A : Type 0} → ℕ → Result (Result Log Wrong) Cause → Result (Option Wrong) ReadFault → Reading A
+    → Type 0
+Goes number read (Ok None) reading = (next : Log) × (read ≡ Ok (Ok next)) × IsAfter next reading
+Goes number read (Ok (Some wrong)) reading = read ≡ Ok (Err wrong)
+Goes number read (Err fault) reading = FailsLine number fault read
+
+-- what was returned of lines is what comes of them, unless memory ran out
+abbrev pub Judges : {A : Type 0} → Result (Verdict A) ReadFault → Result (Result Log Wrong) ScriptFault → Type 0
+Judges (Ok (verdicts.Right totals commands)) read =
+    (log : Log) × (read ≡ Ok (Ok log)) × (totals ≡ totals_of log.moments)
+    × (commands.items ≡ outstanding log.moments)
+Judges (Ok (verdicts.Wrong wrong)) read = read ≡ Ok (Err wrong)
+Judges (Err fault) read = Fails fault read

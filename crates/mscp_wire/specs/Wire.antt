@@ -1,0 +1,376 @@
+-- What goes over the wire between hosts and a controller, and the manual's rules for it, as far as the wire shows
+-- whether they are kept. No controller is in these definitions: they judge any.
+--
+-- A rule speaks of a moment and of what is outstanding after the moments before it. The rules, in the order in which
+-- they are asked, and beside each the definition that decides it:
+--
+--     the host's     Message      a message has 12 bytes at least                             is_message
+--                    Number       no command that is outstanding has its reference number     is_new
+--                    Credits      its host has a credit for it                                has_credit
+--     the            Length       an end is as long as its endcode asks                       is_long
+--     controller's   Outstanding  it answers a command that is outstanding                    place_of
+--                    Unit         it names the unit of that command                           names_unit
+--                    Endcode      it has the endcode of that command                          has_endcode
+--                    Status       its status has a code that such a command may have          has_status
+--                    Aborted      a command is aborted only while its ABORT is outstanding    has_abort
+--                    Order        of a unit no command passes a sequential one, and that
+--                                 passes none                                                 passes_none
+--                    Success      an ABORT and a GET COMMAND STATUS succeed                   succeeds
+--                    About        their ends name the command that they are about             is_about
+--                    Figure       the figure of a command is at least 1 and falls from poll
+--                                 to poll; it is 0 if no such command is outstanding          has_figure
+--                    Count        no more bytes are moved than were asked for, and all of
+--                                 them if the status is Success                               has_count
+use Rattle.std.specs.Prelude.{◌≡◌, ℕ, ◌+◌, ◌<◌, ◌%◌, Bool, true, false, not, ◌&&◌, ◌||◌, nat_eq, nat_le, nat_lt, if◌then◌else◌, List, [], ◌∷◌, ◌++◌, length, map, find, take, drop, position, count_by, fold, slice_index, slice_index_or, Option, Some, None}
+use Rattle.std.specs.List.{list_any}
+use Rattle.mscp_packet.specs.Number.{num}
+use Rattle.mscp_packet.specs.Opcodes.{class, is_immediate_class}
+use Rattle.mscp_packet.specs.declared.class.Class.{Class}
+use Rattle.mscp_packet.specs.declared.class.Class.TheVariants as classes
+use Rattle.mscp_events.specs.declared.connection.Connection.{Connection}
+use Rattle.mscp_events.specs.declared.connection.Connection.TheVariants.{First, Second}
+use Rattle.mscp_wire.specs.declared.answer.Answer.{Answer}
+use Rattle.mscp_wire.specs.declared.moment.Moment.{Moment}
+use Rattle.mscp_wire.specs.declared.moment.Moment.TheVariants as moments
+use Rattle.mscp_wire.specs.declared.rule.Rule.{Rule}
+use Rattle.mscp_wire.specs.declared.rule.Rule.TheVariants as rules
+use Rattle.mscp_wire.specs.declared.sent.Sent.{Sent}
+
+-- what went over the wire, the first moment first
+abbrev pub History : Type 0
+History = List Moment
+
+-- ---- what a message and an end say
+
+-- the number in the four bytes from a place on, if the message has them
+abbrev pub four_in : List ℕ → ℕ → Option ℕ
+four_in b at = if nat_le (at + 4) (length b) then Some (num b at 4) else None
+
+-- the command of a message, of which nothing was told yet (manual, "Command Messages"). Its parameter is the number in
+-- bytes 12 to 15: of an ABORT and a GET COMMAND STATUS the reference number of the command that they are about, of a
+-- transfer how many bytes are to be moved
+abbrev pub sent_by : Connection → List ℕ → Sent
+sent_by via b = record {
+  connection = via;
+  reference = num b 0 4;
+  unit = num b 4 2;
+  opcode = slice_index b 8;
+  parameter = four_in b 12;
+  told = None;
+}
+
+-- the end in a message (manual, "End Messages"). Its parameter is that number of its command's, or how many bytes were
+-- moved; the figure is that of a GET COMMAND STATUS
+abbrev pub answer_by : Connection → List ℕ → Answer
+answer_by via b = record {
+  connection = via;
+  reference = num b 0 4;
+  unit = num b 4 2;
+  code = slice_index b 8;
+  status = num b 10 2;
+  parameter = four_in b 12;
+  figure = four_in b 16;
+}
+
+-- both are the same connection
+abbrev pub same_connection : Connection → Connection → Bool
+same_connection First First = true
+same_connection Second Second = true
+same_connection one other = false
+
+-- the command has this reference number on this connection
+abbrev pub is_named : Connection → ℕ → Sent → Bool
+is_named via reference s = same_connection s.connection via && nat_eq s.reference reference
+
+-- ---- opcodes, endcodes and statuses
+
+-- a command of this opcode is answered when it arrives (manual, "Command Categories and Execution Order")
+abbrev pub is_immediate : ℕ → Bool
+is_immediate opcode = is_immediate_class (class opcode)
+
+-- it keeps its place among the commands of its unit
+abbrev pub is_sequential_class : Class → Bool
+is_sequential_class classes.Sequential = true
+is_sequential_class other = false
+
+abbrev pub is_sequential : ℕ → Bool
+is_sequential opcode = is_sequential_class (class opcode)
+
+-- it is a transfer
+abbrev pub is_transfer_class : Class → Bool
+is_transfer_class classes.Free = true
+is_transfer_class other = false
+
+abbrev pub is_transfer : ℕ → Bool
+is_transfer opcode = is_transfer_class (class opcode)
+
+-- it is an ABORT or a GET COMMAND STATUS, which are about another command
+abbrev pub is_about_another : ℕ → Bool
+is_about_another opcode = nat_eq opcode 1 || nat_eq opcode 2
+
+-- the fewest bytes of an end with this endcode (manual, "End Messages")
+abbrev pub least_length : ℕ → ℕ
+least_length code =
+    if nat_eq code 0x81 then 16 else (
+    if nat_eq code 0x82 then 20 else (
+    if nat_eq code 0x83 then 48 else (
+    if nat_eq code 0x84 then 28 else (
+    if nat_eq code 0x89 || nat_eq code 0x8A then 44 else (
+    if nat_eq code 0x90 || nat_eq code 0x92 || nat_eq code 0xA0 || nat_eq code 0xA1 || nat_eq code 0xA2 then 32
+    else 12)))))
+
+-- the code of a status: its low five bits (manual, "Status and Event Codes")
+abbrev pub status_code : Answer → ℕ
+status_code e = e.status % 32
+
+-- the endcode is that of an opcode which the controller knows: 0x80 alone is that of any other (profile)
+abbrev pub is_known : Answer → Bool
+is_known e = not (nat_eq e.code 0x80)
+
+-- ---- the rules of a host
+
+-- a message has as many bytes as each has (manual, "Command Messages")
+abbrev pub is_message : List ℕ → Bool
+is_message b = nat_le 12 (length b)
+
+-- no command of its connection that is outstanding has its reference number (manual, "Command Messages")
+abbrev pub is_new : List Sent → Sent → Bool
+is_new xs s = not (list_any (is_named s.connection s.reference) xs)
+
+-- how many commands of a connection are outstanding
+abbrev pub count_on : Connection → List Sent → ℕ
+count_on via xs = count_by (λ s. same_connection s.connection via) xs
+
+-- its host has a credit for it, if it is known how many it has: the last one is for a command that is answered when it
+-- arrives (manual, "Flow Control")
+abbrev pub has_credit : Option ℕ → List Sent → Sent → Bool
+has_credit None xs s = true
+has_credit (Some credits) xs s =
+    nat_lt (count_on s.connection xs + 1) credits
+    || (nat_eq (count_on s.connection xs + 1) credits && is_immediate s.opcode)
+
+-- ---- the rules of an end
+
+-- an end is as long as its endcode asks (manual, "End Messages")
+abbrev pub is_long : List ℕ → Bool
+is_long b = nat_le 12 (length b) && nat_le (least_length (slice_index b 8)) (length b)
+
+-- where the command that it answers stands among those that are outstanding, if it does (manual, "End Messages")
+abbrev pub place_of : List Sent → Answer → Option ℕ
+place_of xs e = position (is_named e.connection e.reference) xs
+
+-- it names the unit of its command (manual, "End Messages")
+abbrev pub names_unit : Sent → Answer → Bool
+names_unit y e = nat_eq e.unit y.unit
+
+-- its endcode is the opcode of its command and 0x80 (manual, "End Messages"), or 0x80 alone
+abbrev pub has_endcode : Sent → Answer → Bool
+has_endcode y e = not (is_known e) || nat_eq e.code (y.opcode + 0x80)
+
+-- a command of this opcode may have a status of this code (manual, "Status and Event Codes"): Success (0) or Invalid
+-- Command (1), and any other of 2 to 11 where it isn't an ABORT, a GET COMMAND STATUS or a SET CONTROLLER
+-- CHARACTERISTICS. A GET UNIT STATUS isn't aborted (2), and no AVAILABLE or ONLINE is told that its unit is available
+-- (4)
+abbrev pub may_have : ℕ → ℕ → Bool
+may_have opcode code =
+    nat_le code 1
+    || (nat_le code 11
+    && not (nat_eq opcode 1 || nat_eq opcode 2 || nat_eq opcode 4)
+    && not (nat_eq opcode 3 && nat_eq code 2)
+    && not ((nat_eq opcode 8 || nat_eq opcode 9) && nat_eq code 4))
+
+-- its status has a code that its command may have: Invalid Command where the controller doesn't know the opcode
+abbrev pub has_status : Sent → Answer → Bool
+has_status y e = if is_known e then may_have y.opcode (status_code e) else nat_eq (status_code e) 1
+
+-- a number is there, and is this
+abbrev pub is_it : Option ℕ → ℕ → Bool
+is_it None number = false
+is_it (Some found) number = nat_eq found number
+
+-- s is an ABORT of the command y
+abbrev pub aborts : Sent → Sent → Bool
+aborts y s =
+    same_connection s.connection y.connection && nat_eq s.opcode 1 && is_it s.parameter y.reference
+
+-- a command is aborted (2) only while an ABORT of it is outstanding, so its end stands before that of its ABORT
+-- (manual, "Command Messages")
+abbrev pub has_abort : List Sent → Sent → Answer → Bool
+has_abort xs y e = not (nat_eq (status_code e) 2) || list_any (aborts y) xs
+
+-- the earlier command s keeps y back: both are of one unit, and one of them is sequential while the other waits in a
+-- queue (manual, "Command Categories and Execution Order"). Of two connections nothing is said: each takes its own ends
+abbrev pub keeps_back : Sent → Sent → Bool
+keeps_back y s =
+    same_connection s.connection y.connection
+    && nat_eq s.unit y.unit
+    && ((is_sequential s.opcode && (is_sequential y.opcode || is_transfer y.opcode))
+    || (is_transfer s.opcode && is_sequential y.opcode))
+
+-- a status of this code may come at once, before earlier commands of the unit end: Invalid Command (1), Command
+-- Aborted (2) and Unit-Offline (3)
+abbrev pub is_apart : ℕ → Bool
+is_apart code = nat_eq code 1 || nat_eq code 2 || nat_eq code 3
+
+-- it passes no command that it has to wait for (manual, "Command Categories and Execution Order")
+abbrev pub passes_none : List Sent → Sent → Answer → Bool
+passes_none earlier y e = is_apart (status_code e) || not (list_any (keeps_back y) earlier)
+
+-- ---- the rules of its body
+
+-- the command that its command is about, if it is an ABORT or a GET COMMAND STATUS that names one
+abbrev pub other_of : Sent → Answer → Option ℕ
+other_of y e = if is_known e && is_about_another y.opcode then y.parameter else None
+
+-- the command that a poll is about, if its command is one
+abbrev pub polled_by : Sent → Answer → Option ℕ
+polled_by y e = if is_known e && nat_eq y.opcode 2 then y.parameter else None
+
+-- how many bytes were to be moved, if its command is a transfer
+abbrev pub count_of : Sent → Answer → Option ℕ
+count_of y e = if is_known e && is_transfer y.opcode then y.parameter else None
+
+-- an ABORT and a GET COMMAND STATUS succeed, also of a command that isn't outstanding
+abbrev pub succeeds : Answer → Option ℕ → Bool
+succeeds e None = true
+succeeds e (Some other) = nat_eq (status_code e) 0
+
+-- their ends name the command that they are about (manual, "End Messages")
+abbrev pub is_about : Answer → Option ℕ → Bool
+is_about e None = true
+is_about e (Some other) = is_it e.parameter other
+
+-- a figure is lower than the last one, if there is one
+abbrev pub is_below : Option ℕ → ℕ → Bool
+is_below None figure = true
+is_below (Some last) figure = nat_lt figure last
+
+-- a figure is right that is told of this command, if it came before the poll: it is at least 1, and falls from poll to
+-- poll (manual, "Host Command Timeouts"), unless the command is answered when it arrives. Where no command of that
+-- number came before, it is 0, unless one came since
+abbrev pub may_tell : Option ℕ → Bool → Option Sent → Bool
+may_tell None stands asked = false
+may_tell (Some figure) stands None = stands || nat_eq figure 0
+may_tell (Some figure) stands (Some x) = is_immediate x.opcode || (nat_lt 0 figure && is_below x.told figure)
+
+-- the figure that it tells is right, where its command is a poll
+abbrev pub has_figure : List Sent → List Sent → Answer → Option ℕ → Bool
+has_figure xs earlier e None = true
+has_figure xs earlier e (Some other) =
+    may_tell e.figure (list_any (is_named e.connection other) xs) (find (is_named e.connection other) earlier)
+
+-- no more bytes were moved than were asked for, and all of them if the status is Success (manual, "End Messages")
+abbrev pub moves : Answer → Option ℕ → ℕ → Bool
+moves e None count = false
+moves e (Some moved) count = nat_le moved count && (nat_eq moved count || not (nat_eq (status_code e) 0))
+
+abbrev pub has_count : Answer → Option ℕ → Bool
+has_count e None = true
+has_count e (Some count) = moves e e.parameter count
+
+-- ---- what is outstanding
+
+-- the command at a place
+abbrev pub command_at : List Sent → ℕ → Sent
+command_at xs i = slice_index_or xs i (sent_by First [])
+
+-- a command, once a figure was told of it, if it is the one that the poll is about
+abbrev pub hears : Answer → Option ℕ → Sent → Sent
+hears e None s = s
+hears e (Some other) s = if is_named e.connection other s then record s { told = e.figure } else s
+
+-- what is outstanding once the end of the command at a place came: those that came before it hear the figure that it
+-- tells of them
+abbrev pub after_end : List Sent → Answer → Option ℕ → List Sent
+after_end xs e None = xs
+after_end xs e (Some i) = map (hears e (polled_by (command_at xs i) e)) (take i xs) ++ drop (i + 1) xs
+
+-- what is outstanding once a moment more came: a message adds its command, an end takes its own away, and a reset all
+abbrev pub after : List Sent → Moment → List Sent
+after xs (moments.Message via b) = xs ++ sent_by via b.items ∷ []
+after xs (moments.End via b) = after_end xs (answer_by via b.items) (place_of xs (answer_by via b.items))
+after xs moments.Reset = []
+
+-- the commands that are outstanding after a history, oldest first (manual, "Flow Control")
+abbrev pub outstanding : History → List Sent
+outstanding h = fold after [] h
+
+-- ---- the first rule that is broken
+
+abbrev pub unless : Bool → Rule → Option Rule → Option Rule
+unless true rule rest = rest
+unless false rule rest = Some rule
+
+-- by a message
+abbrev pub broken_message : Option ℕ → List Sent → Sent → Option Rule
+broken_message credits xs s = unless (is_new xs s) rules.Number (unless (has_credit credits xs s) rules.Credits None)
+
+-- by the body of an end of this command, before which these came
+abbrev pub broken_body : List Sent → List Sent → Sent → Answer → Option Rule
+broken_body xs earlier y e =
+    unless (succeeds e (other_of y e)) rules.Success
+    (unless (is_about e (other_of y e)) rules.About
+    (unless (has_figure xs earlier e (polled_by y e)) rules.Figure
+    (unless (has_count e (count_of y e)) rules.Count None)))
+
+-- by an end of this command
+abbrev pub broken_end : List Sent → List Sent → Sent → Answer → Option Rule
+broken_end xs earlier y e =
+    unless (names_unit y e) rules.Unit
+    (unless (has_endcode y e) rules.Endcode
+    (unless (has_status y e) rules.Status
+    (unless (has_abort xs y e) rules.Aborted
+    (unless (passes_none earlier y e) rules.Order (broken_body xs earlier y e)))))
+
+-- by an end of the command at a place, if it is there
+abbrev pub broken_at : List Sent → Answer → Option ℕ → Option Rule
+broken_at xs e None = Some rules.Outstanding
+broken_at xs e (Some i) = broken_end xs (take i xs) (command_at xs i) e
+
+-- by a moment, before which these are outstanding, where each host has so many credits
+abbrev pub broken : Option ℕ → List Sent → Moment → Option Rule
+broken credits xs (moments.Message via b) =
+    unless (is_message b.items) rules.Message (broken_message credits xs (sent_by via b.items))
+broken credits xs (moments.End via b) =
+    unless (is_long b.items) rules.Length (broken_at xs (answer_by via b.items) (place_of xs (answer_by via b.items)))
+broken credits xs moments.Reset = None
+
+-- ---- a moment that is right
+
+-- a host's message keeps its rules
+pub record IsRightMessage (credits : Option ℕ) (xs : List Sent) (b : List ℕ) (s : Sent) : Type 0 where
+  pub message : is_message b ≡ true
+  pub number : is_new xs s ≡ true
+  pub credit : has_credit credits xs s ≡ true
+
+-- an end keeps its rules: its command is at place i of those that are outstanding
+pub record IsRightEnd (xs : List Sent) (b : List ℕ) (e : Answer) (i : ℕ) : Type 0 where
+  pub length : is_long b ≡ true
+  pub outstanding : place_of xs e ≡ Some i
+  pub unit : names_unit (command_at xs i) e ≡ true
+  pub endcode : has_endcode (command_at xs i) e ≡ true
+  pub status : has_status (command_at xs i) e ≡ true
+  pub aborted : has_abort xs (command_at xs i) e ≡ true
+  pub order : passes_none (take i xs) (command_at xs i) e ≡ true
+  pub success : succeeds e (other_of (command_at xs i) e) ≡ true
+  pub about : is_about e (other_of (command_at xs i) e) ≡ true
+  pub figure : has_figure xs (take i xs) e (polled_by (command_at xs i) e) ≡ true
+  pub count : has_count e (count_of (command_at xs i) e) ≡ true
+
+-- a moment is right, before which these are outstanding
+abbrev pub IsRightAfter : Option ℕ → List Sent → Moment → Type 0
+IsRightAfter credits xs (moments.Message via b) = IsRightMessage credits xs b.items (sent_by via b.items)
+IsRightAfter credits xs (moments.End via b) = (i : ℕ) × IsRightEnd xs b.items (answer_by via b.items) i
+IsRightAfter credits xs moments.Reset = Unit {0}
+
+-- a moment is right after a history
+abbrev pub IsRight : Option ℕ → History → Moment → Type 0
+IsRight credits h m = IsRightAfter credits (outstanding h) m
+
+-- the moment at a position. Past the end there is none that asks for anything
+abbrev pub moment_at : History → ℕ → Moment
+moment_at h i = slice_index_or h i moments.Reset
+
+-- each moment of a history is right after those before it
+abbrev pub AreRight : Option ℕ → History → Type 0
+AreRight credits h = (i : ℕ) → i < length h → IsRight credits (take i h) (moment_at h i)

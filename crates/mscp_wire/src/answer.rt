@@ -1,0 +1,193 @@
+// An end, and what it owes to its command alone.
+
+ghost use Rattle.std.specs.Prelude.{◌≡◌, ◌≤◌, ◌<◌, ◌^◌, length};
+ghost use Rattle.mscp_wire.specs.Wire as wire;
+
+use crate::sent::{Sent, four_in, is_transfer};
+use mscp_events::Connection;
+use mscp_packet::fields::{four_at, two_at};
+
+/// The opcode of an ABORT.
+pub const ABORT: u8 = 1;
+
+/// The opcode of a GET COMMAND STATUS.
+pub const STATUS: u8 = 2;
+
+/// An end: what its message says.
+#[derive(Clone, Copy, Debug, PartialEq, Eq)]
+pub struct Answer {
+    pub connection: Connection,
+    pub reference: u32,
+    pub unit: u16,
+    pub code: u8,
+    pub status: u16,
+    /// The number in bytes 12 to 15, if the message has them: that of its command, or how many bytes were moved.
+    pub parameter: Option<u32>,
+    /// The number in bytes 16 to 19, if the message has them: the figure of a GET COMMAND STATUS.
+    pub figure: Option<u32>,
+}
+
+/// The fewest bytes of an end with this endcode (manual, "End Messages").
+fn least_length(code: u8) -> usize
+    ensures { result ≡ wire.least_length code }
+{
+    match code {
+        0x81 => 16,
+        0x82 => 20,
+        0x83 => 48,
+        0x84 => 28,
+        0x89 | 0x8A => 44,
+        0x90 | 0x92 | 0xA0 | 0xA1 | 0xA2 => 32,
+        _ => 12,
+    }
+}
+
+/// Whether an end is as long as its endcode asks.
+pub fn is_long(b: &[u8]) -> bool
+    ensures { result ≡ wire.is_long b.now }
+{
+    b.len() >= 12 && b.len() >= least_length(b[8])
+}
+
+/// Whether a command of this opcode may have a status of this code (manual, "Status and Event Codes").
+fn may_have(opcode: u8, code: u16) -> bool
+    ensures { result ≡ wire.may_have opcode code }
+{
+    if code <= 1 {
+        return true;
+    }
+    code <= 11
+        && !(opcode == 1 || opcode == 2 || opcode == 4)
+        && !(opcode == 3 && code == 2)
+        && !((opcode == 8 || opcode == 9) && code == 4)
+}
+
+/// Whether a number is there, and is this.
+pub fn is_it(found: Option<u32>, number: u32) -> bool
+    ensures { result ≡ wire.is_it found number }
+{
+    match found {
+        Some(found) => found == number,
+        None => false,
+    }
+}
+
+impl Answer {
+    /// The end in a message (manual, "End Messages").
+    pub fn of(connection: Connection, b: &[u8]) -> Answer
+        requires { 12 ≤ length b.now }
+        ensures { result ≡ wire.answer_by connection b.now }
+    {
+        Answer {
+            connection,
+            reference: four_at(b, 0),
+            unit: two_at(b, 4),
+            code: b[8],
+            status: two_at(b, 10),
+            parameter: four_in(b, 12),
+            figure: four_in(b, 16),
+        }
+    }
+
+    /// The code of the status.
+    pub fn status_code(&self) -> u16
+        ensures { result ≡ wire.status_code self.now }
+    {
+        self.status % 32
+    }
+
+    /// Whether the endcode is that of an opcode which the controller knows.
+    fn is_known(&self) -> bool
+        ensures { result ≡ wire.is_known self.now }
+    {
+        self.code != 0x80
+    }
+
+    /// Whether it names the unit of its command.
+    pub fn names_unit(&self, command: &Sent) -> bool
+        ensures { result ≡ wire.names_unit command.now self.now }
+    {
+        self.unit == command.unit
+    }
+
+    /// Whether it has the endcode of its command.
+    pub fn has_endcode(&self, command: &Sent) -> bool
+        ensures { result ≡ wire.has_endcode command.now self.now }
+    {
+        !self.is_known() || u16::from(self.code) == u16::from(command.opcode) + 0x80
+    }
+
+    /// Whether its status has a code that its command may have.
+    pub fn has_status(&self, command: &Sent) -> bool
+        ensures { result ≡ wire.has_status command.now self.now }
+    {
+        if self.is_known() {
+            may_have(command.opcode, self.status_code())
+        } else {
+            self.status_code() == 1
+        }
+    }
+
+    /// The command that its command is about, if it is an ABORT or a GET COMMAND STATUS that names one.
+    pub fn other_of(&self, command: &Sent) -> Option<u32>
+        ensures { result ≡ wire.other_of command.now self.now }
+    {
+        if self.is_known() && (command.opcode == ABORT || command.opcode == STATUS) {
+            command.parameter
+        } else {
+            None
+        }
+    }
+
+    /// The command that a poll is about, if its command is one.
+    pub fn polled_by(&self, command: &Sent) -> Option<u32>
+        ensures { result ≡ wire.polled_by command.now self.now }
+    {
+        if self.is_known() && command.opcode == STATUS {
+            command.parameter
+        } else {
+            None
+        }
+    }
+
+    /// How many bytes were to be moved, if its command is a transfer.
+    pub fn count_of(&self, command: &Sent) -> Option<u32>
+        ensures { result ≡ wire.count_of command.now self.now }
+    {
+        if self.is_known() && is_transfer(command.opcode) {
+            command.parameter
+        } else {
+            None
+        }
+    }
+
+    /// Whether it succeeds, if it is of a command that is about this other one.
+    pub fn succeeds(&self, other: Option<u32>) -> bool
+        ensures { result ≡ wire.succeeds self.now other }
+    {
+        other.is_none() || self.status_code() == 0
+    }
+
+    /// Whether it names the command that its command is about, if there is one.
+    pub fn is_about(&self, other: Option<u32>) -> bool
+        ensures { result ≡ wire.is_about self.now other }
+    {
+        match other {
+            Some(other) => is_it(self.parameter, other),
+            None => true,
+        }
+    }
+
+    /// Whether no more bytes were moved than were asked for, and all of them if the status is Success.
+    pub fn has_count(&self, count: Option<u32>) -> bool
+        ensures { result ≡ wire.has_count self.now count }
+    {
+        match (count, self.parameter) {
+            (Some(count), Some(moved)) => {
+                moved <= count && (moved == count || self.status_code() != 0)
+            }
+            (Some(_), None) => false,
+            (None, _) => true,
+        }
+    }
+}

@@ -1,0 +1,189 @@
+// What is outstanding after the moments so far, and which rule the next one breaks.
+
+ghost use Rattle.std.specs.Prelude.{◌≡◌, ◌<◌, ◌++◌, ◌∷◌, [], length, take, OnOk, IfOk, None};
+ghost use Rattle.mscp_wire.specs.Wire as wire;
+
+use crate::answer::{Answer, is_long};
+use crate::moment::Moment;
+use crate::outstanding::{count_on, has_abort, has_figure, has_named, passes_none, place_of, tell};
+use crate::rule::Rule;
+use crate::sent::{Sent, is_immediate};
+use mscp_events::{Connection, OutOfMemory};
+use std::alloc::Allocator;
+
+/// Whether a host has a credit for a command, if it is known how many credits each has.
+fn has_credit(credits: Option<u32>, commands: &[Sent], sent: &Sent) -> bool
+    ensures { result ≡ wire.has_credit credits commands.now sent.now }
+{
+    let Some(credits) = credits else {
+        return true;
+    };
+    let needed = count_on(commands, sent.connection) as u64 + 1;
+    let credits = u64::from(credits);
+    needed < credits || (needed == credits && is_immediate(sent.opcode))
+}
+
+/// The first rule of a host that a command breaks.
+fn broken_message(credits: Option<u32>, commands: &[Sent], sent: &Sent) -> Option<Rule>
+    ensures { result ≡ wire.broken_message credits commands.now sent.now }
+{
+    if has_named(commands, sent.connection, sent.reference) {
+        return Some(Rule::Number);
+    }
+    if !has_credit(credits, commands, sent) {
+        return Some(Rule::Credits);
+    }
+    None
+}
+
+/// The first rule that the body of an end of this command breaks, before which these came.
+fn broken_body(commands: &[Sent], earlier: &[Sent], command: &Sent, answer: &Answer) -> Option<Rule>
+    ensures { result ≡ wire.broken_body commands.now earlier.now command.now answer.now }
+{
+    if !answer.succeeds(answer.other_of(command)) {
+        return Some(Rule::Success);
+    }
+    if !answer.is_about(answer.other_of(command)) {
+        return Some(Rule::About);
+    }
+    if !has_figure(commands, earlier, answer, answer.polled_by(command)) {
+        return Some(Rule::Figure);
+    }
+    if !answer.has_count(answer.count_of(command)) {
+        return Some(Rule::Count);
+    }
+    None
+}
+
+/// The first rule that an end of this command breaks, before which these came.
+fn broken_end(commands: &[Sent], earlier: &[Sent], command: &Sent, answer: &Answer) -> Option<Rule>
+    ensures { result ≡ wire.broken_end commands.now earlier.now command.now answer.now }
+{
+    if !answer.names_unit(command) {
+        return Some(Rule::Unit);
+    }
+    if !answer.has_endcode(command) {
+        return Some(Rule::Endcode);
+    }
+    if !answer.has_status(command) {
+        return Some(Rule::Status);
+    }
+    if !has_abort(commands, command, answer) {
+        return Some(Rule::Aborted);
+    }
+    if !passes_none(earlier, command, answer) {
+        return Some(Rule::Order);
+    }
+    broken_body(commands, earlier, command, answer)
+}
+
+/// The command at a place.
+pub fn command_at(commands: &[Sent], place: usize) -> Sent
+    requires { place < length commands.now }
+    ensures { result ≡ wire.command_at commands.now place }
+{
+    commands[place]
+}
+
+/// The first rule that an end breaks, as long as its endcode asks.
+fn broken_answer(commands: &[Sent], answer: &Answer) -> Option<Rule>
+    ensures { result ≡ wire.broken_at commands.now answer.now (wire.place_of commands.now answer.now) }
+{
+    match place_of(commands, answer) {
+        Some(place) => broken_end(
+            commands,
+            &commands[..place],
+            &command_at(commands, place),
+            answer,
+        ),
+        None => Some(Rule::Outstanding),
+    }
+}
+
+/// What is outstanding on the wire, where each host has so many credits.
+#[derive(Drop)]
+pub struct Judge<A: Allocator> {
+    pub credits: Option<u32>,
+    pub commands: Vec<Sent, A>,
+}
+
+impl<A: Allocator> Judge<A> {
+    /// Of no moment.
+    pub fn new(alloc: A, credits: Option<u32>) -> Judge<A>
+        ensures credits { result.credits ≡ credits }
+        ensures commands { result.commands.items ≡ [] }
+    {
+        Judge {
+            credits,
+            commands: Vec::new(alloc),
+        }
+    }
+
+    /// The first rule that a host's message breaks. If it breaks none it is outstanding.
+    fn message(&mut self, connection: Connection, bytes: &[u8]) -> Result<Option<Rule>, OutOfMemory>
+        ensures rule { IfOk result (λ rule. rule ≡ wire.unless (wire.is_message bytes.now) Rule.Message
+            (wire.broken_message self.old.credits self.old.commands.items (wire.sent_by connection bytes.now))) }
+        ensures after { IfOk result (λ rule. rule ≡ None → self.new.commands.items
+            ≡ self.old.commands.items ++ wire.sent_by connection bytes.now ∷ []) }
+        ensures credits { self.new.credits ≡ self.old.credits }
+    {
+        if bytes.len() < 12 {
+            return Ok(Some(Rule::Message));
+        }
+        let sent = Sent::of(connection, bytes);
+        let broken = broken_message(self.credits, self.commands.as_slice(), &sent);
+        if broken.is_none() {
+            self.commands.push(sent)?;
+        }
+        Ok(broken)
+    }
+
+    /// The end of the command at a place came: that isn't outstanding any more, and those before it hear what the end tells.
+    fn take(&mut self, place: usize, answer: &Answer)
+        requires { place < length self.old.commands.items }
+        ensures after { self.new.commands.items ≡ wire.after_end self.old.commands.items answer.now (Some place) }
+        ensures credits { self.new.credits ≡ self.old.credits }
+    {
+        let polled = answer.polled_by(&command_at(self.commands.as_slice(), place));
+        tell(&mut self.commands, place, answer, polled);
+        let _ = self.commands.remove(place);
+    }
+
+    /// The first rule that an end breaks. If it breaks none its command isn't outstanding any more.
+    fn end(&mut self, connection: Connection, bytes: &[u8]) -> Option<Rule>
+        ensures rule { result ≡ wire.unless (wire.is_long bytes.now) Rule.Length (wire.broken_at self.old.commands.items
+            (wire.answer_by connection bytes.now)
+            (wire.place_of self.old.commands.items (wire.answer_by connection bytes.now))) }
+        ensures after { result ≡ None → self.new.commands.items ≡ wire.after_end self.old.commands.items
+            (wire.answer_by connection bytes.now)
+            (wire.place_of self.old.commands.items (wire.answer_by connection bytes.now)) }
+        ensures credits { self.new.credits ≡ self.old.credits }
+    {
+        if !is_long(bytes) {
+            return Some(Rule::Length);
+        }
+        let answer = Answer::of(connection, bytes);
+        let broken = broken_answer(self.commands.as_slice(), &answer);
+        if let (None, Some(place)) = (&broken, place_of(self.commands.as_slice(), &answer)) {
+            self.take(place, &answer);
+        }
+        broken
+    }
+
+    /// The first rule that a moment breaks. If it breaks none it is added to those before it.
+    pub fn step(&mut self, moment: &Moment) -> Result<Option<Rule>, OutOfMemory>
+        ensures rule { IfOk result (λ rule. rule ≡ wire.broken self.old.credits self.old.commands.items moment.now) }
+        ensures after { IfOk result (λ rule. rule ≡ None → self.new.commands.items
+            ≡ wire.after self.old.commands.items moment.now) }
+        ensures credits { self.new.credits ≡ self.old.credits }
+    {
+        match moment {
+            Moment::Message(connection, message) => self.message(*connection, message.as_slice()),
+            Moment::End(connection, message) => Ok(self.end(*connection, message.as_slice())),
+            Moment::Reset => {
+                self.commands.clear();
+                Ok(None)
+            }
+        }
+    }
+}

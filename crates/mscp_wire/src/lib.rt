@@ -1,0 +1,25 @@
+//! The judge of the wire: whether what went over the wire between hosts and any controller keeps the manual's rules.
+#![tactic(auto)]
+
+mod answer;
+mod judge;
+mod law;
+mod line;
+mod log;
+mod moment;
+mod outstanding;
+mod rule;
+mod sent;
+mod totals;
+mod wrong;
+
+pub use crate::answer::Answer;
+pub use crate::judge::Judge;
+pub use crate::law::right_breaks_no_rule;
+pub use crate::line::Said;
+pub use crate::log::{Reading, Verdict, judge_wire};
+pub use crate::moment::Moment;
+pub use crate::rule::Rule;
+pub use crate::sent::Sent;
+pub use crate::totals::Totals;
+pub use crate::wrong::Wrong;

@@ -1,0 +1,173 @@
+// What is judged of a log, line by line.
+
+ghost use Rattle.std.specs.Prelude.{◌≡◌, ◌≤◌, ◌<◌, ◌+◌, OnOk, IfOk};
+ghost use Rattle.mscp_reader.specs.Lexical as lexical;
+ghost use Rattle.mscp_wire.specs.Right.{IsRightLog, IsRightVerdict, Means};
+ghost use Rattle.mscp_wire.specs.Log.{Log, Goes, IsAfter, IsFew, Judges, after_line, after_lines, after_log, after_said, answered_by, command_of, nothing};
+
+use crate::answer::{Answer, is_long};
+use crate::judge::{Judge, command_at};
+use crate::line::{Said, line_says};
+use crate::moment::Moment;
+use crate::outstanding::place_of;
+use crate::sent::Sent;
+use crate::totals::Totals;
+use crate::wrong::Wrong;
+use mscp_reader::{Cause, Lines, ReadFault, ScriptFault, lines_of};
+use std::alloc::Allocator;
+
+/// What is said of a log.
+#[derive(Drop)]
+pub enum Verdict<A: Allocator> {
+    /// Each moment is right. These are the totals, and the commands that are still outstanding.
+    Right(Totals, Vec<Sent, A>),
+    /// This one isn't.
+    Wrong(Wrong),
+}
+
+/// What came of the lines so far.
+#[derive(Drop)]
+pub struct Reading<A: Allocator> {
+    pub judge: Judge<A>,
+    pub totals: Totals,
+}
+
+/// The outstanding command that an end in these bytes answers, if there is one.
+fn answered_by(commands: &[Sent], answer: &Answer) -> Option<Sent>
+    ensures { result ≡ answered_by commands.now answer.now }
+{
+    match place_of(commands, answer) {
+        Some(place) => Some(command_at(commands, place)),
+        None => None,
+    }
+}
+
+/// The command that a moment sends, or the outstanding one that it answers, if there is one.
+fn command_of(commands: &[Sent], moment: &Moment) -> Option<Sent>
+    ensures { result ≡ command_of commands.now moment.now }
+{
+    match moment {
+        Moment::Message(connection, message) if message.len() >= 12 => {
+            Some(Sent::of(*connection, message.as_slice()))
+        }
+        Moment::End(connection, message) if is_long(message.as_slice()) => {
+            answered_by(commands, &Answer::of(*connection, message.as_slice()))
+        }
+        _ => None,
+    }
+}
+
+impl<A: Allocator> Reading<A> {
+    /// Of no line.
+    fn new(alloc: A) -> Reading<A>
+        ensures after { IsAfter nothing result }
+        ensures few { IsFew result.totals 1 }
+    {
+        Reading {
+            judge: Judge::new(alloc, None),
+            totals: Totals::none(),
+        }
+    }
+
+    /// What comes of it that each host has so many credits. That is told before anything else.
+    fn credits(&mut self, number: u32, credits: u32) -> Result<Option<Wrong>, ReadFault>
+        ensures after { (log : Log) → IsAfter log self.old
+            → Goes number (after_said number log (Said.Credits credits)) result self.new }
+        ensures few { self.new.totals ≡ self.old.totals }
+    {
+        if self.judge.credits.is_some() || self.totals.moments != 0 {
+            return Err(ReadFault::Script(ScriptFault {
+                line: number,
+                cause: Cause::Word,
+            }));
+        }
+        self.judge.credits = Some(credits);
+        Ok(None)
+    }
+
+    /// What comes of a moment.
+    fn moment(&mut self, number: u32, moment: Moment) -> Result<Option<Wrong>, ReadFault>
+        requires { IsFew self.old.totals number }
+        ensures after { (log : Log) → IsAfter log self.old
+            → Goes number (after_said number log (Said.Happens moment)) result self.new }
+        ensures few { OnOk result (IsFew self.new.totals (number + 1)) }
+    {
+        let command = command_of(self.judge.commands.as_slice(), &moment);
+        match self.judge.step(&moment)? {
+            Some(rule) => Ok(Some(Wrong {
+                line: number,
+                rule,
+                moment,
+                command,
+            })),
+            None => {
+                self.totals = self.totals.with(number, &moment);
+                Ok(None)
+            }
+        }
+    }
+
+    /// What comes of what the line of this number says.
+    fn said(&mut self, number: u32, said: Said) -> Result<Option<Wrong>, ReadFault>
+        requires { IsFew self.old.totals number }
+        ensures after { (log : Log) → IsAfter log self.old
+            → Goes number (after_said number log said) result self.new }
+        ensures few { OnOk result (IsFew self.new.totals (number + 1)) }
+    {
+        match said {
+            Said::Nothing => Ok(None),
+            Said::Credits(credits) => self.credits(number, credits),
+            Said::Happens(moment) => self.moment(number, moment),
+        }
+    }
+
+    /// What comes of the line of this number.
+    fn line(&mut self, number: u32, bytes: &[u8]) -> Result<Option<Wrong>, ReadFault>
+        requires { IsFew self.old.totals number }
+        ensures after { (log : Log) → IsAfter log self.old
+            → Goes number (after_line number log bytes.now) result self.new }
+        ensures few { OnOk result (IsFew self.new.totals (number + 1)) }
+    {
+        let said = line_says(number, bytes)?;
+        self.said(number, said)
+    }
+}
+
+/// What is said of the lines of a log.
+fn judge_lines<A: Allocator>(alloc: A, lines: &mut Lines<'_>) -> Result<Verdict<A>, ReadFault>
+    requires { lines.old.number ≡ 0 }
+    ensures { Judges result (after_lines 0 nothing (lexical.lines lines.old.rest.now)) }
+{
+    let mut reading = Reading::new(alloc);
+    while let Some(bytes) = lines.cut() {
+        if let Some(wrong) = reading.line(lines.number, bytes)? {
+            return Ok(Verdict::Wrong(wrong));
+        }
+    }
+    let Reading { judge, totals } = reading;
+    let Judge {
+        credits: _,
+        commands,
+    } = judge;
+    Ok(Verdict::Right(totals, commands))
+}
+
+/// What is said of a log.
+fn judged<A: Allocator>(alloc: A, bytes: &[u8]) -> Result<Verdict<A>, ReadFault>
+    ensures { Judges result (after_log bytes.now) }
+{
+    let mut lines = lines_of(bytes)?;
+    judge_lines(alloc, &mut lines)
+}
+
+/// Judges a log of the wire: says that each of its moments is right, or the first that isn't, unless a line before it is at
+/// fault.
+pub fn judge_wire<A: Allocator>(alloc: A, bytes: &[u8]) -> Result<Verdict<A>, ReadFault>
+    ensures judges { Judges result (after_log bytes.now) }
+    // So each log of which all moments are right is judged to be right,
+    ensures right { IsRightLog bytes.now → IsRightVerdict result }
+    // and no other, and a moment that is told is the first that isn't right.
+    ensures only { Means bytes.now result }
+{
+    judged(alloc, bytes)
+}

@@ -1,0 +1,15 @@
+// What goes over the wire.
+
+use arrayvec::ArrayVec;
+use mscp_events::Connection;
+
+/// What goes over the wire at one time.
+#[derive(Drop)]
+pub enum Moment {
+    /// The host of a connection sends a message.
+    Message(Connection, ArrayVec<u8, 64>),
+    /// The controller answers a connection's host with an end.
+    End(Connection, ArrayVec<u8, 64>),
+    /// The controller is initialised: nothing is outstanding any more.
+    Reset,
+}

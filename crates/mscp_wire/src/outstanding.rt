@@ -1,0 +1,169 @@
+// The commands that are outstanding, oldest first, and what an end owes to them.
+
+ghost use Rattle.std.specs.Prelude.{◌≡◌, ◌<◌, ◌≤◌, ◌++◌, length, find, map, take, drop, IfSome, option_copied};
+ghost use Rattle.std.specs.List.{list_any};
+ghost use Rattle.mscp_wire.specs.Wire as wire;
+
+use crate::answer::{ABORT, Answer, is_it};
+use crate::sent::{Sent, is_immediate, is_sequential, is_transfer};
+use mscp_events::Connection;
+use std::alloc::Allocator;
+
+/// Whether one of the commands has this reference number on this connection.
+pub fn has_named(commands: &[Sent], connection: Connection, reference: u32) -> bool
+    ensures { result ≡ list_any (wire.is_named connection reference) commands.now }
+{
+    commands
+        .iter()
+        .any(|command| command.is_named(connection, reference))
+}
+
+/// The first of the commands that has this reference number on this connection.
+fn find_named(commands: &[Sent], connection: Connection, reference: u32) -> Option<&Sent>
+    ensures { option_copied result ≡ find (wire.is_named connection reference) commands.now }
+{
+    commands
+        .iter()
+        .find(|command| command.is_named(connection, reference))
+}
+
+/// Where the command that an end answers stands, if it does.
+pub fn place_of(commands: &[Sent], answer: &Answer) -> Option<usize>
+    ensures place { result ≡ wire.place_of commands.now answer.now }
+    ensures bound { IfSome result (λ i. i < length commands.now) }
+{
+    commands.iter().position(|command| command.is_named(answer.connection, answer.reference))
+}
+
+/// How many of the commands are of a connection.
+pub fn count_on(commands: &[Sent], connection: Connection) -> usize
+    ensures count { result ≡ wire.count_on connection commands.now }
+    ensures bound { result ≤ length commands.now }
+{
+    commands
+        .iter()
+        .filter(|command| command.connection == connection)
+        .count()
+}
+
+/// Whether a command is an ABORT of another.
+fn aborts(command: &Sent, abort: &Sent) -> bool
+    ensures { result ≡ wire.aborts command.now abort.now }
+{
+    abort.connection == command.connection
+        && abort.opcode == ABORT
+        && is_it(abort.parameter, command.reference)
+}
+
+/// Whether one of the commands is an ABORT of this one.
+fn is_aborted(commands: &[Sent], command: &Sent) -> bool
+    ensures { result ≡ list_any (wire.aborts command.now) commands.now }
+{
+    commands.iter().any(|abort| aborts(command, abort))
+}
+
+/// Whether a command is aborted only while an ABORT of it is outstanding.
+pub fn has_abort(commands: &[Sent], command: &Sent, answer: &Answer) -> bool
+    ensures { result ≡ wire.has_abort commands.now command.now answer.now }
+{
+    answer.status_code() != 2 || is_aborted(commands, command)
+}
+
+/// Whether an earlier command keeps another back: both are of one unit, and one of them is sequential.
+fn keeps_back(command: &Sent, earlier: &Sent) -> bool
+    ensures { result ≡ wire.keeps_back command.now earlier.now }
+{
+    if earlier.connection != command.connection || earlier.unit != command.unit {
+        return false;
+    }
+    if is_sequential(earlier.opcode) {
+        return is_sequential(command.opcode) || is_transfer(command.opcode);
+    }
+    is_transfer(earlier.opcode) && is_sequential(command.opcode)
+}
+
+/// Whether a status of this code may come before earlier commands of the unit end.
+fn is_apart(code: u16) -> bool
+    ensures { result ≡ wire.is_apart code }
+{
+    code == 1 || code == 2 || code == 3
+}
+
+/// Whether one of the earlier commands keeps this one back.
+fn is_kept_back(earlier: &[Sent], command: &Sent) -> bool
+    ensures { result ≡ list_any (wire.keeps_back command.now) earlier.now }
+{
+    earlier.iter().any(|other| keeps_back(command, other))
+}
+
+/// Whether a command passes none of the earlier ones that it has to wait for.
+pub fn passes_none(earlier: &[Sent], command: &Sent, answer: &Answer) -> bool
+    ensures { result ≡ wire.passes_none earlier.now command.now answer.now }
+{
+    is_apart(answer.status_code()) || !is_kept_back(earlier, command)
+}
+
+/// Whether a figure is lower than the last one, if there is one.
+fn is_below(last: Option<u32>, figure: u32) -> bool
+    ensures { result ≡ wire.is_below last figure }
+{
+    match last {
+        Some(last) => figure < last,
+        None => true,
+    }
+}
+
+/// Whether a figure may be told of this command, if it came before the poll. Else whether one of its number is outstanding
+/// is said.
+fn may_tell(figure: Option<u32>, stands: bool, asked: Option<Sent>) -> bool
+    ensures { result ≡ wire.may_tell figure stands asked }
+{
+    match (figure, asked) {
+        (None, _) => false,
+        (Some(figure), None) => stands || figure == 0,
+        (Some(figure), Some(command)) => {
+            is_immediate(command.opcode) || (0 < figure && is_below(command.told, figure))
+        }
+    }
+}
+
+/// Whether the figure that an end tells is right, if its command is a poll of this other one.
+pub fn has_figure(commands: &[Sent], earlier: &[Sent], answer: &Answer, polled: Option<u32>) -> bool
+    ensures { result ≡ wire.has_figure commands.now earlier.now answer.now polled }
+{
+    let Some(other) = polled else {
+        return true;
+    };
+    let stands = has_named(commands, answer.connection, other);
+    let asked = find_named(earlier, answer.connection, other).copied();
+    may_tell(answer.figure, stands, asked)
+}
+
+/// A command, once a figure was told of it, if it is the one that a poll is about.
+fn heard(command: &Sent, answer: &Answer, polled: Option<u32>) -> Sent
+    ensures { result ≡ wire.hears answer.now polled command.now }
+{
+    match polled {
+        Some(other) if command.is_named(answer.connection, other) => Sent {
+            told: answer.figure,
+            ..*command
+        },
+        _ => *command,
+    }
+}
+
+/// The commands before this place hear the figure that an end tells of the one that its poll is about.
+pub fn tell<A: Allocator>(
+    commands: &mut Vec<Sent, A>,
+    place: usize,
+    answer: &Answer,
+    polled: Option<u32>,
+)
+    requires { place ≤ length commands.old.items }
+    ensures { commands.new.items
+        ≡ map (wire.hears answer.now polled) (take place commands.old.items) ++ drop place commands.old.items }
+{
+    for at in 0..place {
+        commands[at] = heard(&commands[at], answer, polled);
+    }
+}

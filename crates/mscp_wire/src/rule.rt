@@ -1,0 +1,34 @@
+// The rules that a moment may break.
+
+/// A rule of the manual, in the order in which they are asked. The first three are a host's, the others the controller's.
+#[derive(Clone, Copy, Debug, PartialEq, Eq)]
+pub enum Rule {
+    /// A message has 12 bytes at least.
+    Message,
+    /// No command that is outstanding has the reference number of a new one.
+    Number,
+    /// A host has a credit for each message, the last one for a command that is answered when it arrives.
+    Credits,
+    /// An end is as long as its endcode asks.
+    Length,
+    /// An end answers a command that is outstanding.
+    Outstanding,
+    /// An end names the unit of its command.
+    Unit,
+    /// An end has the endcode of its command.
+    Endcode,
+    /// A status has a code that such a command may have.
+    Status,
+    /// A command is aborted only while an ABORT of it is outstanding.
+    Aborted,
+    /// Of a unit no command passes a sequential one, and that passes none.
+    Order,
+    /// An ABORT and a GET COMMAND STATUS succeed.
+    Success,
+    /// The end of an ABORT or of a GET COMMAND STATUS names the command that it is about.
+    About,
+    /// The figure of a command is at least 1 and falls from poll to poll. It is 0 if no such command is outstanding.
+    Figure,
+    /// No more bytes are moved than were asked for, and all of them if the status is Success.
+    Count,
+}

@@ -1,0 +1,79 @@
+// A command that is outstanding.
+
+ghost use Rattle.std.specs.Prelude.{◌≡◌, ◌≤◌, length};
+ghost use Rattle.mscp_wire.specs.Wire.{four_in, is_named, is_immediate, is_sequential, is_transfer, sent_by};
+
+use mscp_events::Connection;
+use mscp_packet::fields::{four_at, two_at};
+use mscp_packet::{Class, class_of};
+
+/// A command that is outstanding: what its message says, and the figure that was last told of it.
+#[derive(Clone, Copy, Debug, PartialEq, Eq)]
+pub struct Sent {
+    pub connection: Connection,
+    pub reference: u32,
+    pub unit: u16,
+    pub opcode: u8,
+    /// The number in bytes 12 to 15, if the message has them: of an ABORT and a GET COMMAND STATUS the reference number of the
+    /// command that they are about, of a transfer how many bytes are to be moved.
+    pub parameter: Option<u32>,
+    /// The figure that was last told of it, if one was.
+    pub told: Option<u32>,
+}
+
+/// The number in the four bytes from a place on, if there are so many.
+pub fn four_in(b: &[u8], at: usize) -> Option<u32>
+    requires { at ≤ 64 }
+    ensures { result ≡ four_in b.now at }
+{
+    if b.len() >= at + 4 {
+        Some(four_at(b, at))
+    } else {
+        None
+    }
+}
+
+impl Sent {
+    /// The command of a message (manual, "Command Messages").
+    pub fn of(connection: Connection, b: &[u8]) -> Sent
+        requires { 12 ≤ length b.now }
+        ensures { result ≡ sent_by connection b.now }
+    {
+        Sent {
+            connection,
+            reference: four_at(b, 0),
+            unit: two_at(b, 4),
+            opcode: b[8],
+            parameter: four_in(b, 12),
+            told: None,
+        }
+    }
+
+    /// Whether it has this reference number on this connection.
+    pub fn is_named(&self, connection: Connection, reference: u32) -> bool
+        ensures { result ≡ is_named connection reference self.now }
+    {
+        self.connection == connection && self.reference == reference
+    }
+}
+
+/// Whether a command of this opcode is answered when it arrives.
+pub fn is_immediate(opcode: u8) -> bool
+    ensures { result ≡ is_immediate opcode }
+{
+    class_of(opcode).is_immediate()
+}
+
+/// Whether it keeps its place among the commands of its unit.
+pub fn is_sequential(opcode: u8) -> bool
+    ensures { result ≡ is_sequential opcode }
+{
+    matches!(class_of(opcode), Class::Sequential)
+}
+
+/// Whether it is a transfer.
+pub fn is_transfer(opcode: u8) -> bool
+    ensures { result ≡ is_transfer opcode }
+{
+    matches!(class_of(opcode), Class::Free)
+}

@@ -1,0 +1,18 @@
+// What of a log is wrong.
+
+use crate::moment::Moment;
+use crate::rule::Rule;
+use crate::sent::Sent;
+
+/// The first moment of a log that isn't right.
+#[derive(Drop)]
+pub struct Wrong {
+    /// The line that tells it, counted from 1.
+    pub line: u32,
+    /// The first rule that it breaks.
+    pub rule: Rule,
+    /// What happened.
+    pub moment: Moment,
+    /// The command that it sends, or the outstanding one that it answers, if there is one.
+    pub command: Option<Sent>,
+}

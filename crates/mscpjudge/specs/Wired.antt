@@ -1,0 +1,151 @@
+-- What is written of a log of the wire.
+use Rattle.std.specs.Prelude.{◌≡◌, ℕ, nat_eq, if◌then◌else◌, List, [], ◌++◌, codes, Option, Some, None, Result, Ok, Err}
+use Rattle.std.specs.List.{flat_map}
+use Rattle.std.specs.Fmt.{decimal}
+use Rattle.std.specs.Io.KnownBytes.{Appends}
+use Rattle.mscp_events.specs.declared.connection.Connection.{Connection}
+use Rattle.mscp_events.specs.declared.connection.Connection.TheVariants.{First, Second}
+use Rattle.mscp_script.specs.Simulated.{IsGiven}
+use Rattle.mscp_wire.specs.Wire.{outstanding}
+use Rattle.mscp_wire.specs.Log.{Log, after_log, totals_of}
+use Rattle.mscp_wire.specs.declared.log.Verdict.{Verdict}
+use Rattle.mscp_wire.specs.declared.log.Verdict.TheVariants as verdicts
+use Rattle.mscp_wire.specs.declared.rule.Rule.{Rule}
+use Rattle.mscp_wire.specs.declared.rule.Rule.TheVariants as rules
+use Rattle.mscp_wire.specs.declared.sent.Sent.{Sent}
+use Rattle.mscp_wire.specs.declared.totals.Totals.{Totals}
+use Rattle.mscp_wire.specs.declared.wrong.Wrong.{Wrong}
+use Rattle.mscpjudge.specs.declared.fault.Fault.{Fault}
+use Rattle.mscpjudge.specs.declared.fault.Fault.TheVariants as faults
+use Rattle.mscpjudge.specs.declared.judging.Outcome.{Outcome}
+use Rattle.mscpjudge.specs.declared.judging.Outcome.TheVariants as outcomes
+
+-- what a command of an opcode is called (manual)
+abbrev pub opcode_name : ℕ → List ℕ
+opcode_name opcode =
+    if nat_eq opcode 1 then codes "ABORT" else (
+    if nat_eq opcode 2 then codes "GET COMMAND STATUS" else (
+    if nat_eq opcode 3 then codes "GET UNIT STATUS" else (
+    if nat_eq opcode 4 then codes "SET CONTROLLER CHARACTERISTICS" else (
+    if nat_eq opcode 8 then codes "AVAILABLE" else (
+    if nat_eq opcode 9 then codes "ONLINE" else (
+    if nat_eq opcode 10 then codes "SET UNIT CHARACTERISTICS" else (
+    if nat_eq opcode 16 then codes "ACCESS" else (
+    if nat_eq opcode 18 then codes "ERASE" else (
+    if nat_eq opcode 32 then codes "COMPARE HOST DATA" else (
+    if nat_eq opcode 33 then codes "READ" else (
+    if nat_eq opcode 34 then codes "WRITE" else codes "command of an unknown opcode")))))))))))
+
+-- whose it is, if that isn't the first connection's host
+abbrev pub connection_name : Connection → List ℕ
+connection_name First = []
+connection_name Second = codes "second "
+
+-- what a command is
+abbrev pub command_text : Sent → List ℕ
+command_text s =
+    connection_name s.connection ++ opcode_name s.opcode ++ (codes " " ++ decimal s.reference)
+    ++ (codes " of unit " ++ decimal s.unit) ++ codes "\n"
+
+-- the same behind a word, on a line of its own
+unfoldable pub outstanding_text : Sent → List ℕ
+outstanding_text s = codes "outstanding: " ++ command_text s
+
+-- what a rule is called
+abbrev pub rule_name : Rule → List ℕ
+rule_name rules.Message = codes "message"
+rule_name rules.Number = codes "reference number"
+rule_name rules.Credits = codes "credits"
+rule_name rules.Length = codes "length"
+rule_name rules.Outstanding = codes "outstanding"
+rule_name rules.Unit = codes "unit"
+rule_name rules.Endcode = codes "endcode"
+rule_name rules.Status = codes "status"
+rule_name rules.Aborted = codes "aborted"
+rule_name rules.Order = codes "order"
+rule_name rules.Success = codes "success"
+rule_name rules.About = codes "about"
+rule_name rules.Figure = codes "figure"
+rule_name rules.Count = codes "byte count"
+
+-- whose rule it is
+abbrev pub breaker_name : Rule → List ℕ
+breaker_name rules.Message = codes "host"
+breaker_name rules.Number = codes "host"
+breaker_name rules.Credits = codes "host"
+breaker_name rule = codes "controller"
+
+-- what the rule says
+abbrev pub rule_text : Rule → List ℕ
+rule_text rules.Message = codes "a command message has 12 bytes at least"
+rule_text rules.Number = codes "no outstanding command of a host has the reference number of another"
+rule_text rules.Credits = codes "a host needs a credit for each command, and keeps the last one for immediate commands"
+rule_text rules.Length = codes "an end message is as long as its endcode asks"
+rule_text rules.Outstanding = codes "an end message answers a command that is outstanding, and each once"
+rule_text rules.Unit = codes "an end message names the unit of its command"
+rule_text rules.Endcode = codes "the endcode is the opcode of the command and 0x80"
+rule_text rules.Status = codes "the status has a code that such a command may have"
+rule_text rules.Aborted = codes "a command is aborted by an ABORT, and ends before that does"
+rule_text rules.Order = codes "a sequential command of a unit passes no earlier one, and is passed by none"
+rule_text rules.Success = codes "an ABORT and a GET COMMAND STATUS succeed"
+rule_text rules.About = codes "the end of an ABORT or a GET COMMAND STATUS names the command that it is about"
+rule_text rules.Figure = codes "a command status is at least 1 and falls from poll to poll, and is 0 of no command"
+rule_text rules.Count = codes "as many bytes are moved as were asked for, and fewer only if the status isn't Success"
+
+-- the rest of the line of the totals
+abbrev pub ends_text : Totals → List ℕ
+ends_text totals =
+    codes " polls " ++ decimal totals.polls ++ codes " ends " ++ decimal totals.ends ++ codes " resets "
+    ++ decimal totals.resets ++ codes "\n"
+
+-- the lines of a log that is right
+abbrev pub totals_text : Totals → List ℕ
+totals_text totals =
+    codes "right\nmoments " ++ decimal totals.moments ++ codes " messages " ++ decimal totals.messages
+    ++ ends_text totals
+
+-- the line of the command that is meant, if there is one
+abbrev pub meant_text : Option Sent → List ℕ
+meant_text None = []
+meant_text (Some s) = codes "command: " ++ command_text s
+
+-- the line of a rule, and that of what it says
+abbrev pub rule_line : Rule → List ℕ
+rule_line rule = codes "rule of the " ++ breaker_name rule ++ codes ": " ++ rule_name rule ++ codes "\n"
+
+abbrev pub manual_line : Rule → List ℕ
+manual_line rule = codes "manual: " ++ rule_text rule ++ codes "\n"
+
+-- the lines of a log that isn't right
+abbrev pub broken_text : Wrong → List ℕ
+broken_text wrong =
+    codes "line " ++ decimal wrong.line ++ codes ": not right\n" ++ rule_line wrong.rule ++ meant_text wrong.command
+    ++ manual_line wrong.rule
+
+-- the lines of what came of a log
+abbrev pub came_text : Result Log Wrong → List ℕ
+came_text (Ok log) = totals_text (totals_of log.moments) ++ flat_map outstanding_text (outstanding log.moments)
+came_text (Err wrong) = broken_text wrong
+
+abbrev pub came_outcome : Result Log Wrong → Outcome
+came_outcome (Ok log) = outcomes.Legal
+came_outcome (Err wrong) = outcomes.Wrong
+
+-- the lines of a verdict, and how the log is judged by it
+abbrev pub wire_text : {A : Type 0} → Verdict A → List ℕ
+wire_text (verdicts.Right totals commands) = totals_text totals ++ flat_map outstanding_text commands.items
+wire_text (verdicts.Wrong wrong) = broken_text wrong
+
+abbrev pub wire_outcome : {A : Type 0} → Verdict A → Outcome
+wire_outcome (verdicts.Right totals commands) = outcomes.Legal
+wire_outcome (verdicts.Wrong wrong) = outcomes.Wrong
+
+-- what is written is what came of the log that the reader gave. Nothing is written on a fault, and a fault of the log
+-- is that of what the reader gave; nothing is said where the write failed
+abbrev pub TellsWire : Result Outcome Fault → Option (List ℕ) → Option (List ℕ) → Option (List ℕ) → Type 0
+TellsWire (Ok outcome) known old new =
+    IsGiven known (λ log. (came : Result Log Wrong) × (after_log log ≡ Ok came) × (outcome ≡ came_outcome came)
+    × Appends old new (came_text came))
+TellsWire (Err faults.Write) known old new = Unit {0}
+TellsWire (Err (faults.Log fault)) known old new = (new ≡ old) × IsGiven known (λ log. after_log log ≡ Err fault)
+TellsWire (Err fault) known old new = new ≡ old

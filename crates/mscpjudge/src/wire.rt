@@ -1,0 +1,250 @@
+// What is said of a log of the wire.
+
+ghost use Rattle.std.specs.Prelude.{◌≡◌, ◌++◌, false, OnOk, IfOk};
+ghost use Rattle.mscpjudge.specs.Common.{flat_map, TellsWire, WritesOnce, breaker_name, broken_text, command_text, connection_name, meant_text, opcode_name, outstanding_text, totals_text, wire_outcome, wire_text};
+ghost use Rattle.mscpjudge.specs.Wired as wired;
+
+use crate::fault::Fault;
+use crate::judging::Outcome;
+use mscp_controller::Connection;
+use mscp_script::{Sink, Source, read_all};
+use mscp_text::{put, put_field};
+use mscp_wire::{Rule, Sent, Totals, Verdict, Wrong, judge_wire};
+use std::alloc::{AllocError, Allocator, Global};
+
+/// What a command of an opcode is called.
+fn opcode_name(opcode: u8) -> &'static str
+    ensures { result.now ≡ opcode_name opcode }
+{
+    match opcode {
+        1 => "ABORT",
+        2 => "GET COMMAND STATUS",
+        3 => "GET UNIT STATUS",
+        4 => "SET CONTROLLER CHARACTERISTICS",
+        8 => "AVAILABLE",
+        9 => "ONLINE",
+        10 => "SET UNIT CHARACTERISTICS",
+        16 => "ACCESS",
+        18 => "ERASE",
+        32 => "COMPARE HOST DATA",
+        33 => "READ",
+        34 => "WRITE",
+        _ => "command of an unknown opcode",
+    }
+}
+
+/// Whose it is, if that isn't the first connection's host.
+fn connection_name(connection: Connection) -> &'static str
+    ensures { result.now ≡ connection_name connection }
+{
+    match connection {
+        Connection::First => "",
+        Connection::Second => "second ",
+    }
+}
+
+/// What a rule is called.
+fn rule_name(rule: Rule) -> &'static str
+    ensures { result.now ≡ wired.rule_name rule }
+{
+    match rule {
+        Rule::Message => "message",
+        Rule::Number => "reference number",
+        Rule::Credits => "credits",
+        Rule::Length => "length",
+        Rule::Outstanding => "outstanding",
+        Rule::Unit => "unit",
+        Rule::Endcode => "endcode",
+        Rule::Status => "status",
+        Rule::Aborted => "aborted",
+        Rule::Order => "order",
+        Rule::Success => "success",
+        Rule::About => "about",
+        Rule::Figure => "figure",
+        Rule::Count => "byte count",
+    }
+}
+
+/// Whose rule it is.
+fn breaker_name(rule: Rule) -> &'static str
+    ensures { result.now ≡ breaker_name rule }
+{
+    match rule {
+        Rule::Message | Rule::Number | Rule::Credits => "host",
+        _ => "controller",
+    }
+}
+
+/// What a rule says (manual).
+fn rule_text(rule: Rule) -> &'static str
+    ensures { result.now ≡ wired.rule_text rule }
+{
+    match rule {
+        Rule::Message => "a command message has 12 bytes at least",
+        Rule::Number => "no outstanding command of a host has the reference number of another",
+        Rule::Credits => {
+            "a host needs a credit for each command, and keeps the last one for immediate commands"
+        }
+        Rule::Length => "an end message is as long as its endcode asks",
+        Rule::Outstanding => "an end message answers a command that is outstanding, and each once",
+        Rule::Unit => "an end message names the unit of its command",
+        Rule::Endcode => "the endcode is the opcode of the command and 0x80",
+        Rule::Status => "the status has a code that such a command may have",
+        Rule::Aborted => "a command is aborted by an ABORT, and ends before that does",
+        Rule::Order =>
+            "a sequential command of a unit passes no earlier one, and is passed by none",
+        Rule::Success => "an ABORT and a GET COMMAND STATUS succeed",
+        Rule::About => {
+            "the end of an ABORT or a GET COMMAND STATUS names the command that it is about"
+        }
+        Rule::Figure => {
+            "a command status is at least 1 and falls from poll to poll, and is 0 of no command"
+        }
+        Rule::Count => {
+            "as many bytes are moved as were asked for, and fewer only if the status isn't Success"
+        }
+    }
+}
+
+/// Appends what a command is, and ends the line.
+fn put_command<A: Allocator>(text: &mut Vec<u8, A>, command: &Sent) -> Result<(), AllocError>
+    ensures { OnOk result (text.new.items ≡ text.old.items ++ command_text command.now) }
+{
+    put(text, connection_name(command.connection))?;
+    put(text, opcode_name(command.opcode))?;
+    put_field(text, " ", command.reference)?;
+    put_field(text, " of unit ", command.unit)?;
+    put(text, "\n")
+}
+
+/// Appends the line of a command that is still outstanding.
+#[tactic(auto, unfolding(crate::specs::Wired::outstanding_text))]
+fn put_left<A: Allocator>(text: &mut Vec<u8, A>, command: &Sent) -> Result<(), AllocError>
+    ensures { OnOk result (text.new.items ≡ text.old.items ++ outstanding_text command.now) }
+{
+    put(text, "outstanding: ")?;
+    put_command(text, command)
+}
+
+/// Appends a line for each of the commands that are still outstanding.
+fn put_outstanding<A: Allocator>(text: &mut Vec<u8, A>, commands: &[Sent]) -> Result<(), AllocError>
+    ensures { OnOk result (text.new.items ≡ text.old.items ++ flat_map outstanding_text commands.now) }
+{
+    for command in commands {
+        put_left(text, command)?;
+    }
+    Ok(())
+}
+
+/// Appends the rest of the line of the totals.
+fn put_ends<A: Allocator>(text: &mut Vec<u8, A>, totals: &Totals) -> Result<(), AllocError>
+    ensures { OnOk result (text.new.items ≡ text.old.items ++ wired.ends_text totals.now) }
+{
+    put_field(text, " polls ", totals.polls)?;
+    put_field(text, " ends ", totals.ends)?;
+    put_field(text, " resets ", totals.resets)?;
+    put(text, "\n")
+}
+
+/// Appends the lines of a log that is right, and has these totals.
+fn put_totals<A: Allocator>(text: &mut Vec<u8, A>, totals: &Totals) -> Result<(), AllocError>
+    ensures { OnOk result (text.new.items ≡ text.old.items ++ totals_text totals.now) }
+{
+    put_field(text, "right\nmoments ", totals.moments)?;
+    put_field(text, " messages ", totals.messages)?;
+    put_ends(text, totals)
+}
+
+/// Appends the line of the command that is meant, if there is one.
+fn put_meant<A: Allocator>(text: &mut Vec<u8, A>, command: &Option<Sent>) -> Result<(), AllocError>
+    ensures { OnOk result (text.new.items ≡ text.old.items ++ meant_text command.now) }
+{
+    match command {
+        Some(command) => {
+            put(text, "command: ")?;
+            put_command(text, command)
+        }
+        None => Ok(()),
+    }
+}
+
+/// Appends the line of a rule.
+fn put_rule<A: Allocator>(text: &mut Vec<u8, A>, rule: Rule) -> Result<(), AllocError>
+    ensures { OnOk result (text.new.items ≡ text.old.items ++ wired.rule_line rule) }
+{
+    put(text, "rule of the ")?;
+    put(text, breaker_name(rule))?;
+    put(text, ": ")?;
+    put(text, rule_name(rule))?;
+    put(text, "\n")
+}
+
+/// Appends the line of what a rule says.
+fn put_manual<A: Allocator>(text: &mut Vec<u8, A>, rule: Rule) -> Result<(), AllocError>
+    ensures { OnOk result (text.new.items ≡ text.old.items ++ wired.manual_line rule) }
+{
+    put(text, "manual: ")?;
+    put(text, rule_text(rule))?;
+    put(text, "\n")
+}
+
+/// Appends the lines of a log that isn't right.
+fn put_wrong<A: Allocator>(text: &mut Vec<u8, A>, wrong: &Wrong) -> Result<(), AllocError>
+    ensures { OnOk result (text.new.items ≡ text.old.items ++ broken_text wrong.now) }
+{
+    put_field(text, "line ", wrong.line)?;
+    put(text, ": not right\n")?;
+    put_rule(text, wrong.rule)?;
+    put_meant(text, &wrong.command)?;
+    put_manual(text, wrong.rule)
+}
+
+/// Appends the lines of a verdict.
+fn put_verdict<A: Allocator>(text: &mut Vec<u8, A>, verdict: &Verdict<A>) -> Result<(), AllocError>
+    ensures { OnOk result (text.new.items ≡ text.old.items ++ wire_text verdict.now) }
+{
+    match verdict {
+        Verdict::Right(totals, commands) => {
+            put_totals(text, totals)?;
+            put_outstanding(text, commands.as_slice())
+        }
+        Verdict::Wrong(wrong) => put_wrong(text, wrong),
+    }
+}
+
+/// The lines of a verdict.
+fn text_of<A: Allocator>(alloc: A, verdict: &Verdict<A>) -> Result<Vec<u8, A>, AllocError>
+    ensures { IfOk result (λ text. text.items ≡ wire_text verdict.now) }
+{
+    let mut text = Vec::new(alloc);
+    put_verdict(&mut text, verdict)?;
+    Ok(text)
+}
+
+/// How a log is judged by a verdict.
+fn wire_outcome<A: Allocator>(verdict: &Verdict<A>) -> Outcome
+    ensures { result ≡ wire_outcome verdict.now }
+{
+    match verdict {
+        Verdict::Right(..) => Outcome::Legal,
+        Verdict::Wrong(_) => Outcome::Wrong,
+    }
+}
+
+/// Judges the log of the wire that a reader gives, and writes what is said of it in one write.
+pub fn judge_captured<R: Source, W: Sink>(
+    alloc: Global,
+    reader: &mut R,
+    writer: &mut W,
+) -> Result<Outcome, Fault>
+    requires reader { R.has_failed reader.old ≡ false }
+    requires writer { W.has_failed writer.old ≡ false }
+    ensures told { TellsWire result (R.remaining reader.old) (W.contents writer.old) (W.contents writer.new) }
+    ensures once { WritesOnce result (W.writes writer.old) (W.writes writer.new) }
+{
+    let log = read_all(alloc, reader)?;
+    let verdict = judge_wire(alloc, &log)?;
+    let text = text_of(alloc, &verdict)?;
+    writer.write_all(&text)?;
+    Ok(wire_outcome(&verdict))
+}

@@ -1,0 +1,238 @@
+# Logs of the wire, for tests/judge: one that is right, and for each rule some that break it and some that just don't. The
+# packets are made here by the manual's layouts.
+
+# A number in so many bytes, the lowest first.
+low_first() {
+    local number=$1 count=$2
+    while [ "$count" -gt 0 ]; do
+        printf '%02x' $((number & 255))
+        number=$((number >> 8)) count=$((count - 1))
+    done
+}
+
+# A packet of so many bytes: of this reference number, unit, opcode or endcode, and status, and with the numbers behind in
+# four bytes each.
+packet() {
+    local length=$1 reference=$2 unit=$3 code=$4 status=$5 text number
+    shift 5
+    text=$(low_first "$reference" 4)$(low_first "$unit" 2)0000$(printf '%02x' "$code")00$(low_first "$status" 2)
+    for number; do text+=$(low_first "$number" 4); done
+    printf '%-*s' $((2 * length)) "$text" | tr ' ' 0
+}
+
+# Lines of hosts: each of this reference number, to unit 0 if no other is said.
+online() { echo "send $(packet 12 "$1" "${2-0}" 9 0)"; }
+available() { echo "send $(packet 12 "$1" "${2-0}" 8 0)"; }
+reading() { echo "send $(packet 32 "$1" "${2-0}" 33 0 1024)"; }
+poll() { echo "send $(packet 16 "$1" 0 2 0 "$2")"; }
+abort() { echo "send $(packet 16 "$1" 0 1 0 "$2")"; }
+
+# Lines of a controller: each of this reference number and status.
+onlined() { echo "end $(packet 44 "$1" "${3-0}" 137 "$2")"; }
+availed() { echo "end $(packet 12 "$1" 0 136 "$2")"; }
+moved() { echo "end $(packet 32 "$1" "${4-0}" 161 "$2" "$3")"; }
+polled() { echo "end $(packet 20 "$1" 0 130 0 "$2" "$3")"; }
+aborted() { echo "end $(packet 16 "$1" 0 129 "$2" "$3")"; }
+
+# A log of examples/, by its name and on standard input.
+captured() {
+    local status=1 judged=${1%.wire}.judged
+    [ "$(head -n 1 "$judged")" != right ] || status=0
+    "$program" wire "$1" </dev/null >"$room/out" 2>"$room/err"
+    [ $? = "$status" ] && cmp -- "$room/out" "$judged" && cmp -- "$room/err" /dev/null || return
+    "$program" wire <"$1" >"$room/out" 2>"$room/err"
+    [ $? = "$status" ] && cmp -- "$room/out" "$judged"
+}
+
+# The judge says this of these lines, and ends with this status.
+wire_says() {
+    local status
+    printf '%s\n' "${@:3}" >"$room/log"
+    "$program" wire "$room/log" </dev/null >"$room/out" 2>"$room/err"
+    status=$?
+    [ "$status" = "$2" ] && cmp -- "$room/out" <(printf '%s\n' "$1") && cmp -- "$room/err" /dev/null
+}
+
+# The lines are right: so many moments, messages, polls, ends and resets, and then this is still outstanding.
+wire_is_right() {
+    local totals
+    read -ra totals <<<"$1"
+    wire_says "right
+moments ${totals[0]} messages ${totals[1]} polls ${totals[2]} ends ${totals[3]} resets ${totals[4]}${2:+
+$2}" 0 "${@:3}"
+}
+
+# The last of the lines breaks this rule, by a command if it is told.
+wire_breaks() {
+    printf '%s\n' "${@:3}" >"$room/log"
+    "$program" wire "$room/log" </dev/null >"$room/out" 2>"$room/err"
+    [ $? = 1 ] && cmp -- "$room/err" /dev/null &&
+        cmp -- <(head -n -1 "$room/out") <(printf 'line %d: not right\nrule of the %s\n%s' "$(wc -l <"$room/log")" "$1" \
+            "${2:+command: $2$'\n'}") && tail -n 1 "$room/out" | grep -q '^manual: .'
+}
+
+wire_of_a_right_controller() {
+    wire_is_right '16 8 3 8 0' '' 'credits 4' '# comes up' "@0.5 $(online 1)" "@0.75 $(onlined 1 0)" "$(reading 2)" "$(poll 3 2)" \
+        "$(polled 3 2 2)" '' '@9' "$(poll 3 2)" "$(polled 3 2 1)" "$(reading 4 7)" "$(moved 4 3 0 7)" "$(abort 5 2)" \
+        "$(moved 2 2 512)" "$(aborted 5 0 2)" "$(poll 6 2)" "$(polled 6 2 0)" "second $(online 1)" "second $(onlined 1 256)"
+}
+
+wire_tells_what_is_outstanding() {
+    wire_is_right '2 2 0 0 0' $'outstanding: READ 7 of unit 1\noutstanding: second ONLINE 7 of unit 0' "$(reading 7 1)" \
+        "second $(online 7)" && wire_is_right '4 3 1 0 1' 'outstanding: READ 7 of unit 1' "$(reading 7 1)" "$(poll 8 7)" reset \
+        "$(reading 7 1)"
+}
+
+host_messages() { wire_breaks 'host: message' '' "send $(packet 11 1 0 33 0 | head -c 22)"; }
+
+host_numbers() {
+    wire_breaks 'host: reference number' 'READ 2 of unit 0' "$(reading 2)" "second $(reading 2)" "$(reading 2)" &&
+        wire_is_right '3 2 0 1 0' 'outstanding: READ 2 of unit 0' "$(reading 2)" "$(moved 2 0 1024)" "$(reading 2)"
+}
+
+host_credits() {
+    wire_breaks 'host: credits' 'READ 2 of unit 0' 'credits 2' "$(reading 1)" "$(reading 2)" &&
+        wire_breaks 'host: credits' 'GET COMMAND STATUS 3 of unit 0' 'credits 2' "$(reading 1)" "$(poll 2 1)" "$(poll 3 1)" &&
+        wire_is_right '2 2 0 0 0' $'outstanding: READ 1 of unit 0\noutstanding: second READ 1 of unit 0' 'credits 2' \
+            "$(reading 1)" "second $(reading 1)"
+}
+
+end_lengths() {
+    wire_breaks 'controller: length' '' "$(reading 1)" "end $(packet 28 1 0 161 0 1024)" &&
+        wire_breaks 'controller: length' '' "$(online 1)" "end $(packet 40 1 0 137 0)" && wire_breaks 'controller: length' '' 'end 00'
+}
+
+ends_of_nobody() {
+    wire_breaks 'controller: outstanding' '' "$(reading 1)" "$(moved 1 0 1024)" "$(moved 1 0 1024)" &&
+        wire_breaks 'controller: outstanding' '' "$(reading 1)" "second $(moved 1 0 1024)" &&
+        wire_breaks 'controller: outstanding' '' "$(reading 1)" reset "$(moved 1 0 1024)"
+}
+
+end_units() {
+    wire_breaks 'controller: unit' 'READ 1 of unit 3' "$(reading 1 3)" "$(moved 1 0 1024 2)" &&
+        wire_breaks 'controller: unit' 'READ 1 of unit 3' "$(reading 1 3)" "$(moved 1 0 1024 0)"
+}
+
+endcodes() {
+    wire_breaks 'controller: endcode' 'READ 1 of unit 0' "$(reading 1)" "end $(packet 32 1 0 162 0 1024)" &&
+        wire_is_right '2 1 0 1 0' '' "$(reading 1)" "end $(packet 12 1 0 128 2049)"
+}
+
+statuses() {
+    wire_breaks 'controller: status' 'READ 1 of unit 0' "$(reading 1)" "end $(packet 12 1 0 128 0)" &&
+        wire_breaks 'controller: status' 'READ 1 of unit 0' "$(reading 1)" "$(moved 1 12 0)" &&
+        wire_breaks 'controller: status' 'ONLINE 1 of unit 0' "$(online 1)" "$(onlined 1 4)" &&
+        wire_breaks 'controller: status' 'ABORT 1 of unit 0' "$(abort 1 9)" "$(aborted 1 3 9)"
+}
+
+aborts_without_an_abort() {
+    wire_breaks 'controller: aborted' 'READ 1 of unit 0' "$(reading 1)" "$(moved 1 2 0)" &&
+        wire_breaks 'controller: aborted' 'READ 1 of unit 0' "$(reading 1)" "$(abort 2 1)" "$(aborted 2 0 1)" "$(moved 1 2 0)" &&
+        wire_breaks 'controller: aborted' 'READ 1 of unit 0' "$(reading 1)" "$(abort 2 3)" "$(moved 1 2 0)" &&
+        wire_breaks 'controller: aborted' 'READ 1 of unit 0' "$(reading 1)" "second $(abort 2 1)" "$(moved 1 2 0)"
+}
+
+orders() {
+    wire_breaks 'controller: order' 'READ 2 of unit 0' "$(online 1)" "$(reading 2)" "$(moved 2 0 1024)" &&
+        wire_breaks 'controller: order' 'AVAILABLE 2 of unit 0' "$(reading 1)" "$(available 2)" "$(availed 2 0)" &&
+        wire_breaks 'controller: order' 'AVAILABLE 2 of unit 0' "$(online 1)" "$(available 2)" "$(availed 2 0)" &&
+        wire_is_right '5 3 0 2 0' 'outstanding: ONLINE 1 of unit 0' "$(online 1)" "$(reading 2 1)" "$(moved 2 0 1024 1)" \
+            "$(reading 3)" "$(moved 3 1 0)" &&
+        wire_is_right '3 2 0 1 0' 'outstanding: READ 1 of unit 0' "$(reading 1)" "$(reading 2)" "$(moved 2 0 1024)"
+}
+
+successes() {
+    wire_breaks 'controller: success' 'ABORT 1 of unit 0' "$(abort 1 9)" "$(aborted 1 1 9)" &&
+        wire_is_right '2 1 0 1 0' '' "send $(packet 12 1 0 1 0)" "$(aborted 1 1 0)"
+}
+
+abouts() {
+    wire_breaks 'controller: about' 'GET COMMAND STATUS 2 of unit 0' "$(reading 1)" "$(poll 2 1)" "$(polled 2 3 5)" &&
+        wire_breaks 'controller: about' 'ABORT 2 of unit 0' "$(reading 1)" "$(abort 2 1)" "$(aborted 2 0 0)"
+}
+
+wire_figures() {
+    local told=("$(reading 1)" "$(poll 2 1)" "$(polled 2 1 5)" "$(poll 3 1)")
+    wire_breaks 'controller: figure' 'GET COMMAND STATUS 3 of unit 0' "${told[@]}" "$(polled 3 1 5)" &&
+        wire_breaks 'controller: figure' 'GET COMMAND STATUS 3 of unit 0' "${told[@]}" "$(polled 3 1 6)" &&
+        wire_breaks 'controller: figure' 'GET COMMAND STATUS 3 of unit 0' "${told[@]}" "$(polled 3 1 0)" &&
+        wire_breaks 'controller: figure' 'GET COMMAND STATUS 3 of unit 0' "${told[@]}" "$(moved 1 0 1024)" "$(polled 3 1 4)" &&
+        wire_breaks 'controller: figure' 'GET COMMAND STATUS 2 of unit 0' "$(reading 1)" "$(poll 2 9)" "$(polled 2 9 1)" &&
+        wire_is_right '5 3 2 2 0' 'outstanding: READ 1 of unit 0' "${told[@]}" "$(polled 3 1 4)" &&
+        wire_is_right '6 3 1 3 0' '' "$(reading 1)" "$(poll 2 1)" "$(moved 1 0 1024)" "$(reading 1)" "$(polled 2 1 7)" \
+            "$(moved 1 0 1024)"
+}
+
+byte_counts() {
+    wire_breaks 'controller: byte count' 'READ 1 of unit 0' "$(reading 1)" "$(moved 1 0 512)" &&
+        wire_breaks 'controller: byte count' 'READ 1 of unit 0' "$(reading 1)" "$(moved 1 8 1025)" &&
+        wire_is_right '2 1 0 1 0' '' "$(reading 1)" "$(moved 1 232 512)"
+}
+
+# The lines are no log of the wire, for this reason.
+wire_refuses() {
+    local status
+    printf '%s\n' "${@:2}" >"$room/log"
+    "$program" wire "$room/log" </dev/null >"$room/out" 2>"$room/err"
+    status=$?
+    [ "$status" = 1 ] && cmp -- "$room/out" /dev/null && cmp -- "$room/err" <(printf '%s\n' "$1")
+}
+
+no_log_of_the_wire() {
+    wire_refuses 'line 1: word' 'read 1 0 512 0' && wire_refuses 'line 2: word' '' 'second reset' &&
+        wire_refuses 'line 1: count' second && wire_refuses 'line 1: count' send && wire_refuses 'line 1: count' 'reset 1' &&
+        wire_refuses 'line 1: count' 'end 00 00' && wire_refuses 'line 1: hex' 'send 0' && wire_refuses 'line 1: hex' 'send 0x' &&
+        wire_refuses 'line 1: hex' "send $(packet 65 1 0 33 0)" && wire_refuses 'line 1: number' 'credits -1' &&
+        wire_refuses 'line 2: word' 'credits 4' 'credits 4' && wire_refuses 'line 2: word' reset 'credits 4' &&
+        wire_refuses 'line 1: byte' $'reset\t' && wire_refuses 'line 2: count' "$(reading 1)" '@1 send'
+}
+
+wire_without_lines() {
+    wire_is_right '0 0 0 0 0' '' && printf 'reset\r\nreset' >"$room/log" &&
+        "$program" wire "$room/log" </dev/null | cmp -- - <(printf 'right\nmoments 2 messages 0 polls 0 ends 0 resets 2\n')
+}
+
+many_lines_of_the_wire() {
+    { yes "$(reading 1; moved 1 0 1024)" | head -n 200000; } >"$room/log" && "$program" wire "$room/log" </dev/null |
+        cmp -- - <(printf 'right\nmoments 200000 messages 100000 polls 0 ends 100000 resets 0\n')
+}
+
+# What goes over the wire of a run: its script joined with its report. A message that is refused doesn't, and a poll or a take
+# that finds nothing tells nothing.
+wire_of() {
+    join_log "$1" "${1%.mscp}.out" | tr -d '\r' | awk '
+        function low(number, count, text) {
+            for (; count > 0; count--) {
+                text = text sprintf("%02x", number % 256)
+                number = int(number / 256)
+            }
+            return text
+        }
+        function head(opcode, reference, unit) { return low(reference, 4) low(unit, 2) "0000" low(opcode, 1) "000000" }
+        BEGIN {
+            split("access 16 erase 18 compare 32 read 33 write 34 online 9 available 8 setunit 10 unitstatus 3 setcontroller 4 " \
+                "abort 1 status 2", table)
+            for (i = 1; i in table; i += 2) opcode[table[i]] = table[i + 1]
+        }
+        !gone { gone = $1 == "go"; next }
+        { second = sub(/^second /, "") ? "second " : "" }
+        $1 == "packet" { message = second "send " $2 }
+        $1 in opcode {
+            message = second "send "
+            if (NF == 5) message = message head(opcode[$1], $2, $3) low($4, 4) low(0, 8) low(0, 4) low($5, 4)
+            else if (NF == 2) message = message head(opcode[$1], $2, 0) low(0, 6)
+            else if (opcode[$1] < 3) message = message head(opcode[$1], $2, 0) low($3, 4)
+            else message = message head(opcode[$1], $2, $3)
+        }
+        $1 == "queued" || $1 == "answered" { print message }
+        $1 == "end" { print second $0 }'
+}
+
+# What goes over the wire of a run keeps the rules, with each of its ends.
+run_is_right() {
+    local totals
+    wire_of "$1" >"$room/log"
+    "$program" wire "$room/log" </dev/null >"$room/out" 2>"$room/err" || return
+    totals="^right"$'\n'"moments $(wc -l <"$room/log") messages [0-9]+ polls [0-9]+ ends $(grep -cE '^(second )?end ' "${1%.mscp}.out") "
+    [[ $(<"$room/out") =~ $totals ]]
+}
