@@ -42,8 +42,8 @@ of_transfer kind unit block count out = record (of_kind 6 out) {
 abbrev pub with_bytes : List ℕ → ActionOut → ActionOut
 with_bytes b out = record out { bytes = b ++ drop (length b) out.bytes }
 
--- what is told of an action, and of the bytes that it writes if it does. Its kind is the number that the header has under
--- its name. Where there is nothing to do nothing is
+-- what is told of an action, and of the bytes that it writes if it does. Its kind is the number that the header has
+-- under its name. Where there is nothing to do nothing is
 abbrev pub action_told : Action → List ℕ → ActionOut → ActionOut
 action_told actions.Rest bytes out = out
 action_told actions.Pause bytes out = of_kind 1 out

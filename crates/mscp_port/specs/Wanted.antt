@@ -42,8 +42,8 @@ abbrev pub zeros_out : {K : Type 0} → Port K → ℕ → Option Rings → List
 zeros_out p done None = []
 zeros_out p done (Some r) = replicate (clear_count p r done) 0
 
--- the bytes that are to be written for what is in hand: a packet, a slot that is given back, an interrupt word, which is
--- 1, or zeros
+-- the bytes that are to be written for what is in hand: a packet, a slot that is given back, an interrupt word, which
+-- is 1, or zeros
 abbrev pub bytes_wanted : {K : Type 0} → Port K → Task → List ℕ
 bytes_wanted p (tasks.Packet slot) = packet_out p p.outgoing
 bytes_wanted p (tasks.Return side slot) = little_bytes 4 (given_back slot.word)
