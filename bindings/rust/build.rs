@@ -1,9 +1,9 @@
-//! Compiles `c/mscp.c`, the library as one file of C99, by the C compiler; or takes `libmscp` by `pkg-config`, if
-//! `MSCP_SYSTEM` is set. Below `c` stand copies, or links to the two files of the project.
+//! Compiles `mscp.c`, the library as one file of C99, by the C compiler; or takes `libmscp` by `pkg-config`, if
+//! `MSCP_SYSTEM` is set.
 
 use std::env;
 use std::ffi::OsStr;
-use std::path::{Path, PathBuf};
+use std::path::PathBuf;
 use std::process::{exit, Command};
 
 fn main() {
@@ -62,23 +62,32 @@ fn tool(kind: &str, usual: &str) -> Command {
     }
 }
 
+/// The folders of `mscp.c` and `mscp.h`: `c`, where a release has copies of both, or else those of the project around.
+fn folders() -> (PathBuf, PathBuf) {
+    let top = PathBuf::from(told("CARGO_MANIFEST_DIR"));
+    match top.join("c") {
+        own if own.exists() => (own.clone(), own),
+        _ => (top.join("../../portable"), top.join("../../include")),
+    }
+}
+
 fn compile() {
-    let sources = Path::new(&told("CARGO_MANIFEST_DIR")).join("c");
+    let (sources, headers) = folders();
     let out = PathBuf::from(told("OUT_DIR"));
-    let (object, archive) = (out.join("mscp.o"), out.join("libmscp.a"));
-    for file in ["mscp.c", "mscp.h"] {
-        println!("cargo:rerun-if-changed={}", sources.join(file).display());
+    let (source, object, archive) = (sources.join("mscp.c"), out.join("mscp.o"), out.join("libmscp.a"));
+    for file in [&source, &headers.join("mscp.h")] {
+        println!("cargo:rerun-if-changed={}", file.display());
     }
     // Without -O the calls would take more of the stack than mscp.h says.
     let level = if matches!(told("OPT_LEVEL").as_str(), "s" | "z") { "-Os" } else { "-O2" };
     let mut compiler = tool("CC", "cc");
     compiler.args(["-std=c99", level, "-fPIC", "-ffunction-sections", "-c"]);
-    output(compiler.arg("-I").arg(&sources).arg(sources.join("mscp.c")).arg("-o").arg(&object));
+    output(compiler.arg("-I").arg(&headers).arg(&source).arg("-o").arg(&object));
     let _ = std::fs::remove_file(&archive); // else what it had before would stay in it
     output(tool("AR", "ar").args([OsStr::new("crs"), archive.as_os_str(), object.as_os_str()]));
     println!("cargo:rustc-link-search=native={}", out.display());
     println!("cargo:rustc-link-lib=static=mscp");
-    println!("cargo:include={}", sources.display());
+    println!("cargo:include={}", headers.display());
 }
 
 /// Only of the same version, since structs and numbers may be others in another one.

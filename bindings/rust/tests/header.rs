@@ -1,14 +1,26 @@
-//! What this crate says of C is what `c/mscp.h` says: numbers, texts, and by the C compiler each field of each struct.
+//! What this crate says of C is what `mscp.h` says: numbers, texts, and by the C compiler each field of each struct.
 
 use std::collections::BTreeMap;
 use std::fs;
 use std::mem::{align_of, size_of};
+use std::path::{Path, PathBuf};
 use std::process::Command;
 
 use mscp::{raw, BusKind, Connection, Error, Opcode, Picker};
 
+/// The folder of `mscp.h`: the crate's own, as in a release, or that of the project around.
+fn folder() -> PathBuf {
+    let top = Path::new(env!("CARGO_MANIFEST_DIR"));
+    let own = top.join("c");
+    if own.exists() {
+        own
+    } else {
+        top.join("../../include")
+    }
+}
+
 fn header() -> String {
-    fs::read_to_string(concat!(env!("CARGO_MANIFEST_DIR"), "/c/mscp.h")).unwrap()
+    fs::read_to_string(folder().join("mscp.h")).unwrap()
 }
 
 /// `NoCredit` as `NO_CREDIT`.
@@ -191,7 +203,8 @@ fn structs_are_those_of_c() {
     let mut words = compiler.split_whitespace();
     let told = Command::new(words.next().unwrap())
         .args(words)
-        .args(["-std=c11", "-fsyntax-only", concat!("-I", env!("CARGO_MANIFEST_DIR"), "/c")])
+        .args(["-std=c11", "-fsyntax-only", "-I"])
+        .arg(folder())
         .arg(&file)
         .output()
         .unwrap();

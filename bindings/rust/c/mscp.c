@@ -1,1 +1,0 @@
-../../../portable/mscp.c
