@@ -73,6 +73,25 @@ actions_are_told() {
         same "$(enumerated MSCP_OUTCOME_ | sort)" "$(awk -F '|' '{ print $4 }' <<<"$table" | grep -oE '`[A-Z]+`' | tr -d '`' | sort -u)"
 }
 
+# The texts of a function of the judge's program, a line each, without blanks at their ends.
+texts_of() {
+    awk -v name="fn $1[<(]" '$0 ~ name { inside = 1 } inside && /^}/ { exit } inside' "crates/mscpjudge/src/$2.rt" |
+        grep -oE '"[^"]+"' | sed -E 's/^"//; s/ ?"$//'
+}
+
+# The codes of the first column of the tables of a page below a heading, without the name of a command behind them.
+rules_below() {
+    awk -F '|' -v heading="$1" '/^## / { inside = $0 == heading } inside && /^[|].*`/ { print $2 }' "$2" | grep -oE '`[^`]+`' |
+        sed -E 's/`//g; s/ C$//'
+}
+
+rules_of_the_judge_are_told() {
+    local legal
+    legal=$(texts_of put_rule judging && texts_of put_served judging && texts_of put_holder judging)
+    same "$(texts_of rule_name wire)" "$(rules_below '## The rules' docs/JUDGE.md)" &&
+        same "$(sort <<<"$legal")" "$(rules_below '## Logs' docs/FORMATS.md | grep -vE '^(legal|.*not legal)$' | sort)"
+}
+
 # The number of a name of the header, or of a line of the sources that this expression finds.
 number_of() {
     case $1 in
