@@ -73,6 +73,16 @@ actions_are_told() {
         same "$(enumerated MSCP_OUTCOME_ | sort)" "$(awk -F '|' '{ print $4 }' <<<"$table" | grep -oE '`[A-Z]+`' | tr -d '`' | sort -u)"
 }
 
+# Each status with which a port ends a transfer stands in docs/PORT.md, and each code of a fatal error.
+statuses_of_a_port_are_told() {
+    local source=crates/mscp_port/src number
+    for number in $(sed -nE '/DRIVE_ERROR/d; s/^(pub.*)?const [A-Z_]+: u16 = (0x[0-9A-F]{4});.*/\2/p' $source/port/serving.rt); do
+        grep -qwF -- "$number" docs/PORT.md || { echo "docs/PORT.md hasn't $number" && return 1; }
+    done
+    same "$(grep -rhoE 'self\.die\([0-9]+' $source | grep -oE '[0-9]+' | sort -nu)" \
+        "$(awk -F '|' '/^[|] Code/ { inside = 1 } inside && !/^[|]/ { exit } inside { print $2 }' docs/PORT.md | grep -oE '[0-9]+')"
+}
+
 # The texts of a function of the judge's program, a line each, without blanks at their ends.
 texts_of() {
     awk -v name="fn $1[<(]" '$0 ~ name { inside = 1 } inside && /^}/ { exit } inside' "crates/mscpjudge/src/$2.rt" |
