@@ -1,0 +1,183 @@
+# One place for each fact: numbers and names that stand in several pages are those of the sources. tests/manual tries these.
+
+# The size of a part of docs/SAVED.md: by its heading, and the line above its rows. Each row begins where the one before it
+# ends; else the size so far is told.
+laid_out() {
+    awk -v part="## $1" -v name="$2:" '/^## / { inside = $0 == part } !inside { next } !/^    / && NF { rows = $0 == name }
+        rows && /^    / { if ($1 != place + 0) exit; place += $2 } END { print place }' docs/SAVED.md
+}
+
+# The number that a name has in specs/Saved.antt of a crate.
+sized() { sed -nE "s/^$2 = ([0-9]+)$/\1/p" "crates/$1/specs/Saved.antt"; }
+
+places_of_saved_bytes_add_up() {
+    local part name crate size
+    while IFS=, read -r part name crate size; do
+        same "$(sized "$crate" "$size")" "$(laid_out "$part" "$name")" || { echo "$part, $name" && return 1; }
+    done <<'END'
+A controller,The head,mscp_saved,head_size
+A controller,A drive,mscp_saved,drive_size
+A controller,A waiting command,mscp_saved,waiting_size
+A controller,An end,mscp_saved,end_size
+A host,The head,mscp_host,head_size
+A host,A submission,mscp_host,submission_size
+A port,The head,mscp_port,head_size
+A port,A volume,mscp_port,volume_size
+A port,What is kept of a command,mscp_port,buffer_size
+END
+}
+
+# The variants of the faults of a restore in this file, in order.
+restore_faults() { awk '/^pub enum RestoreFault/ { inside = 1 } inside && /^}/ { exit } inside' "$1" | sed -nE 's/^    ([A-Z][a-z]+).*/\1/p'; }
+
+# Those that a part of docs/SAVED.md lists, in order.
+listed_faults() {
+    awk -F '|' -v part="## $1" '/^## / { inside = $0 == part } inside && /^[|] `/ { print $2 }' docs/SAVED.md | grep -oE '[A-Z][a-z]+'
+}
+
+faults_of_saved_bytes_are_told() {
+    same "$(restore_faults crates/mscp_saved/src/fault.rt)" "$(listed_faults 'A controller')" &&
+        same "$(restore_faults crates/mscp_host/src/restoring.rt)" "$(listed_faults 'A host')" &&
+        same "$(restore_faults crates/mscp_port/src/port/restoring.rt)" "$(listed_faults 'A port')"
+}
+
+# The opcodes of specs/Opcodes.antt: byte, name, class, both lengths, and the body of the end.
+opcodes() {
+    local specs=crates/mscp_packet/specs/Opcodes.antt moves
+    moves=$(sed -nE 's/.*opcode_row \(move_byte kind\) Free ([0-9]+) ([0-9]+) kinds\.(\w+).*/free, \1, \2, \3/p' "$specs")
+    sed -nE "s/^row_of codes\.\w+ = opcode_row ([0-9]+) (\w+) ([0-9]+) ([0-9]+) kinds\.(\w+) +-- (.*)/\1, \6, \L\2\E, \3, \4, \5/p
+        s/^move_byte moves\.\w+ = ([0-9]+) +-- (.*)/\1, \2, $moves/p" "$specs" | sort -n
+}
+
+opcodes_are_told() {
+    same "$(opcodes)" "$(awk -F ' *[|] *' '/^## / { exit } /^### / { inside = $0 == "### Commands" }
+        inside && $2 ~ /^[0-9]+$/ { sub(/`, .*/, "", $8); sub(/`/, "", $8); print $2 ", " $3 ", " $4 ", " $6 ", " $7 ", " $8 }' \
+        <(sed 1,3d docs/FORMATS.md))"
+}
+
+# The statuses of specs/Statuses.antt, each as its number and its name.
+ended_statuses() { sed -nE 's/^([a-z_]+) = (0x[0-9A-F]{4})$/\2 \U\1/p' crates/mscp_packet/specs/Statuses.antt | sort; }
+
+ended_statuses_are_told() {
+    same "$(ended_statuses)" \
+        "$(sed -nE 's/^\| `(0x[0-9A-F]{4})` \| `([A-Z_]+)`.*/\1 \2/p' docs/FORMATS.md | sort)"
+}
+
+# The names of an enum of the header, behind this front part of theirs.
+enumerated() { sed -nE "s/^ +$1([A-Z]+) = [0-9]+.*/\1/p" include/mscp.h; }
+
+actions_are_told() {
+    local table
+    table=$(awk '/^[|] Action/ { inside = 1; next } inside && !/^[|]/ { exit } inside' docs/PORT.md)
+    same "$(enumerated MSCP_ACTION_)" "$(sed -nE 's/^\| `([A-Z]+)` .*/\1/p' <<<"$table")" &&
+        same "$(enumerated MSCP_OUTCOME_ | sort)" "$(awk -F '|' '{ print $4 }' <<<"$table" | grep -oE '`[A-Z]+`' | tr -d '`' | sort -u)"
+}
+
+# Each status with which a port ends a transfer stands in docs/PORT.md, and each code of a fatal error.
+statuses_of_a_port_are_told() {
+    local source=crates/mscp_port/src number
+    for number in $(sed -nE '/DRIVE_ERROR/d; s/^(pub.*)?const [A-Z_]+: u16 = (0x[0-9A-F]{4});.*/\2/p' $source/port/serving.rt); do
+        grep -qwF -- "$number" docs/PORT.md || { echo "docs/PORT.md hasn't $number" && return 1; }
+    done
+    same "$(grep -rhoE 'self\.die\([0-9]+' $source | grep -oE '[0-9]+' | sort -nu)" \
+        "$(awk -F '|' '/^[|] Code/ { inside = 1 } inside && !/^[|]/ { exit } inside { print $2 }' docs/PORT.md | grep -oE '[0-9]+')"
+}
+
+# The texts of a function of the judge's program, a line each, without blanks at their ends.
+texts_of() {
+    awk -v name="fn $1[<(]" '$0 ~ name { inside = 1 } inside && /^}/ { exit } inside' "crates/mscpjudge/src/$2.rt" |
+        grep -oE '"[^"]+"' | sed -E 's/^"//; s/ ?"$//'
+}
+
+# The codes of the first column of the tables of a page below a heading, without the name of a command behind them.
+rules_below() {
+    awk -F '|' -v heading="$1" '/^## / { inside = $0 == heading } inside && /^[|].*`/ { print $2 }' "$2" | grep -oE '`[^`]+`' |
+        sed -E 's/`//g; s/ C$//'
+}
+
+rules_of_the_judge_are_told() {
+    local legal
+    legal=$(texts_of put_rule judging && texts_of put_served judging && texts_of put_holder judging)
+    same "$(texts_of rule_name wire)" "$(rules_below '## The rules' docs/JUDGE.md)" &&
+        same "$(sort <<<"$legal")" "$(rules_below '## Logs' docs/FORMATS.md | grep -vE '^(legal|.*not legal)$' | sort)"
+}
+
+# The number of a name of the header, or of a line of the sources that this expression finds.
+number_of() {
+    case $1 in
+        MSCP_*) sed -nE "s/^#define $1 ([0-9]+)u.*/\1/p" include/mscp.h ;;
+        *) grep -hoE -- "${1#*:}" "${1%%:*}" | head -n 1 | grep -oE '[0-9]+$' ;;
+    esac
+}
+
+# A number with a comma before each three digits.
+grouped() { sed -E ':again; s/([0-9])([0-9]{3})($|,)/\1,\2\3/; t again' <<<"$1"; }
+
+numbers_are_those_of_the_sources() {
+    local source pages page number
+    while IFS='|' read -r source pages; do
+        number=$(number_of "$source")
+        for page in $pages; do
+            [ -n "$number" ] && { grep -qwF -- "$(grouped "$number")" "$page" || grep -qwF -- "$number" "$page"; } ||
+                { echo "$page hasn't $source: $number" && return 1; }
+        done
+    done <<'END'
+MSCP_SAVED_MAX|docs/C.md docs/SAVED.md crates/mscp_saved/README.md
+MSCP_HOST_SAVED_MAX|docs/C.md docs/SAVED.md crates/mscp_host/README.md
+MSCP_PORT_SAVED_MAX|docs/C.md docs/SAVED.md crates/mscp_port/README.md
+MSCP_SIZE|docs/SPEED.md
+MSCP_HOST_SIZE|docs/SPEED.md
+MSCP_PORT_SIZE|docs/SPEED.md
+crates/mscp_events/specs/Settings.antt:c\.longest ≤ [0-9]+|docs/FORMATS.md docs/USING.md docs/mscpq.1 include/mscp.h
+crates/mscp_reader/specs/Grammar.antt:length bytes ≤ [0-9]+|docs/FORMATS.md docs/mscpq.1 include/mscp.h
+crates/mscp_reader/specs/Grammar.antt:length new\) [0-9]+|docs/FORMATS.md docs/mscpq.1 include/mscp.h
+END
+}
+
+# The parts of a crate's page, in this order.
+parts_of_a_crate='What a contract sees
+What is proved
+What is only tested
+What is neither'
+
+# Each word of code in a page that is a name: of a crate's page in what it, the header or the tests have.
+names_in() { grep -oE '`[^`]+`' "$1" | tr -d '`' | tr -c '[:alnum:]_\n' '\n' | grep -E '^[A-Za-z_]{4,}$' | sort -u; }
+
+crates_say_what_they_are() {
+    local crate name
+    for crate in crates/*; do
+        same "$parts_of_a_crate" "$(sed -nE 's/^\*\*(What [a-z ]+)\.?\*\*.*/\1/p' "$crate/README.md")" || { echo "$crate" && return 1; }
+        for name in $(names_in "$crate/README.md"); do
+            grep -rqw -- "$name" "$crate"/{src,specs,proofs} crates/mscp_trials/src include/mscp.h tests 2>/dev/null ||
+                [ -n "$(find crates/mscp_trials "$crate" -name "$name*" -print -quit)" ] || { echo "$crate: $name isn't there" && return 1; }
+        done
+    done
+}
+
+# Each name of code that docs/PROVED.md has is in the sources, but for the line of the kit.
+proved_names_are_there() {
+    local name
+    sed '/^Proved by `/d' docs/PROVED.md >"$room/proved"
+    for name in $(names_in "$room/proved"); do
+        grep -rqw -- "$name" crates/*/{src,specs} include building.bash portable tests crates.txt || [ -e "crates/$name" ] ||
+            { echo "$name isn't there" && return 1; }
+    done
+}
+
+# The headings of a page, as links name them.
+anchors() {
+    sed -E '/^(```|~~~)/,/^(```|~~~)$/d' "$1" | sed -nE 's/^#+ (.*)/\L\1/p' | sed 's/[^[:alnum:]_ -]//g; s/ /-/g'
+}
+
+# Each link of a page leads to a file, and to a heading of it where it names one. What the changes say of older pages aside.
+links_lead_somewhere() {
+    local page link file
+    for page in README.md docs/*.md crates/*/README.md examples/README.md bench/README.md bindings/rust/README.md; do
+        for link in $(grep -oE '\]\([^):]+\)' "$page" | sed 's/^..//; s/.$//'); do
+            file=$(dirname -- "$page")/${link%%#*}
+            [[ $link != '#'* ]] || file=$page
+            [ -e "$file" ] && { [[ $link != *'#'* ]] || anchors "$file" | grep -qxF -- "${link#*#}"; } ||
+                { echo "$page: $link leads nowhere" && return 1; }
+        done
+    done
+}
