@@ -43,35 +43,50 @@ void port_write(struct port *port, unsigned offset, uint16_t word)
 
 /* ---- actions */
 
-/* The host's bytes of a block, with zeros behind them. */
-static enum mscp_outcome fetch(struct port *port, const struct mscp_action *action)
+/* A block goes to the host's memory: a READ; or it is read alone: an ACCESS. */
+static enum mscp_outcome read_block(const struct port_bus *bus, const struct mscp_action *action)
 {
-    memset(port->block, 0, sizeof port->block);
-    return port->bus.read(port->bus.machine, action->address, port->block, action->count);
+    uint8_t block[MSCP_BLOCK];
+    if (!bus->read_block(bus->machine, action->unit, action->block, block))
+        return MSCP_OUTCOME_FAILED;
+    if (action->opcode == MSCP_ACCESS)
+        return MSCP_OUTCOME_DONE;
+    return bus->write(bus->machine, action->address, block, action->count);
 }
 
-/* Moves a block between its volume and the buffer, or compares the two. */
-static enum mscp_outcome transfer(struct port *port, const struct mscp_action *action)
+/* A block comes from the host's memory, with zeros behind its bytes: a WRITE; or it is all zeros: an ERASE. */
+static enum mscp_outcome write_block(const struct port_bus *bus, const struct mscp_action *action)
 {
-    const struct port_bus *bus = &port->bus;
-    uint8_t other[MSCP_BLOCK] = {0};
-    bool good;
+    uint8_t block[MSCP_BLOCK] = {0};
+    if (action->opcode == MSCP_WRITE) {
+        enum mscp_outcome outcome = bus->read(bus->machine, action->address, block, action->count);
+        if (outcome != MSCP_OUTCOME_DONE)
+            return outcome;
+    }
+    return bus->write_block(bus->machine, action->unit, action->block, block) ? MSCP_OUTCOME_DONE : MSCP_OUTCOME_FAILED;
+}
+
+/* The host's bytes are compared with a block: a COMPARE HOST DATA. */
+static enum mscp_outcome compare(const struct port_bus *bus, const struct mscp_action *action)
+{
+    uint8_t block[MSCP_BLOCK], bytes[MSCP_BLOCK];
+    enum mscp_outcome outcome = bus->read(bus->machine, action->address, bytes, action->count);
+    if (outcome != MSCP_OUTCOME_DONE)
+        return outcome;
+    if (!bus->read_block(bus->machine, action->unit, action->block, block))
+        return MSCP_OUTCOME_FAILED;
+    return memcmp(block, bytes, action->count) == 0 ? MSCP_OUTCOME_DONE : MSCP_OUTCOME_DIFFERENT;
+}
+
+static enum mscp_outcome transfer(const struct port_bus *bus, const struct mscp_action *action)
+{
     switch (action->opcode) {
     case MSCP_READ:
-        good = bus->read_block(bus->machine, action->unit, action->block, port->block);
-        break;
+    case MSCP_ACCESS: return read_block(bus, action);
     case MSCP_WRITE:
-        good = bus->write_block(bus->machine, action->unit, action->block, port->block);
-        break;
-    case MSCP_ERASE:
-        good = bus->write_block(bus->machine, action->unit, action->block, other);
-        break;
-    default: /* ACCESS and COMPARE HOST DATA */
-        good = bus->read_block(bus->machine, action->unit, action->block, other);
-        if (good && action->opcode == MSCP_COMPARE_HOST_DATA && memcmp(other, port->block, action->count) != 0)
-            return MSCP_OUTCOME_DIFFERENT;
+    case MSCP_ERASE: return write_block(bus, action);
+    default: return compare(bus, action);
     }
-    return good ? MSCP_OUTCOME_DONE : MSCP_OUTCOME_FAILED;
 }
 
 /* Does what the port wants, and tells it how that went. If the host wrote IP in the meantime the port wants that no
@@ -89,9 +104,7 @@ static int32_t act(struct port *port, const struct mscp_action *action)
         break;
     case MSCP_ACTION_WRITE: outcome = bus->write(bus->machine, action->address, action->bytes, action->count); break;
     case MSCP_ACTION_INTERRUPT: bus->interrupt(bus->machine, action->vector); break;
-    case MSCP_ACTION_FETCH: outcome = fetch(port, action); break;
-    case MSCP_ACTION_TRANSFER: outcome = transfer(port, action); break;
-    case MSCP_ACTION_STORE: outcome = bus->write(bus->machine, action->address, port->block, action->count); break;
+    case MSCP_ACTION_TRANSFER: outcome = transfer(bus, action); break;
     default: break; /* PAUSE: the machine went on since the last turn */
     }
     return mscp_port_went(port->mscp, outcome, DRIVE_ERROR);

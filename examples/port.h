@@ -23,7 +23,6 @@ struct port {
     struct port_bus bus;
     struct mscp_port *mscp;
     uint8_t lines; /* of the bus, an enum mscp_bus */
-    uint8_t block[MSCP_BLOCK]; /* on its way between a volume and the host's memory */
     MSCP_ALIGNED uint64_t memory[(MSCP_HEAD + MSCP_PORT_SIZE) / sizeof(uint64_t)];
 };
 

@@ -247,18 +247,16 @@ struct mscp_medium {
     uint8_t is_removable; /* whether it can be taken out, which the host is told */
 };
 
-/* What a port wants done. Its `address` and `count` are of host memory: so many bytes from there on. The block's buffer
- * is yours, and has MSCP_BLOCK bytes. */
+/* What a port wants done. Its `address` and `count` are of host memory: so many bytes from there on. */
 enum mscp_action_kind {
     MSCP_ACTION_PAUSE = 1,     /* nothing, but the host is to go on a little: some hundred instructions */
     MSCP_ACTION_READ = 2,      /* hand those bytes to mscp_port_was_read */
     MSCP_ACTION_WRITE = 3,     /* write `bytes` there */
     MSCP_ACTION_INTERRUPT = 4, /* interrupt the host by `vector` */
-    MSCP_ACTION_FETCH = 5,     /* read those bytes into the block's buffer, and fill it up with zeros */
-    MSCP_ACTION_TRANSFER = 6,  /* what `opcode` says with the block's buffer and `block` of `unit`: MSCP_READ,
-                                * MSCP_WRITE, MSCP_ERASE (zeros into the block), MSCP_ACCESS (read it and drop it), or
-                                * MSCP_COMPARE_HOST_DATA (the first `count` bytes of both) */
-    MSCP_ACTION_STORE = 7      /* write the first `count` bytes of the buffer there */
+    MSCP_ACTION_TRANSFER = 5   /* what `opcode` says with `block` of `unit`: MSCP_READ writes its first `count` bytes
+                                * there, MSCP_WRITE writes those bytes to it, with zeros behind them, and
+                                * MSCP_COMPARE_HOST_DATA compares them with its first. MSCP_ACCESS reads the block,
+                                * MSCP_ERASE writes zeros to it, and both touch no memory */
 };
 
 /* How far a port has come since its host wrote IP. */
@@ -376,7 +374,7 @@ struct mscp_news {
 /* What a port wants done. What its kind doesn't say is 0. */
 struct mscp_action {
     uint32_t address;  /* in host memory, on the bus */
-    uint32_t count;    /* how many bytes: at most 64 of READ and WRITE, and MSCP_BLOCK of the others */
+    uint32_t count;    /* how many bytes: at most 64 of READ and WRITE, and MSCP_BLOCK of TRANSFER */
     uint32_t block;    /* of TRANSFER */
     uint16_t unit;
     uint16_t vector;   /* of INTERRUPT */
@@ -771,9 +769,8 @@ int32_t mscp_port_write_sa(struct mscp_port *port, uint16_t word);
 MSCP_MUST_USE int32_t mscp_port_next(struct mscp_port *port, struct mscp_action *action);
 
 /* What it wants done next while a block takes its time: polls are answered, messages come and go, and no block is begun. A
- * FETCH or TRANSFER that was in hand is put aside: mscp_port_next wants that block anew, from its first part on. So an
- * emulator that mscp_port_next asks for a block may go on by this call until the block's time has come, and do it then. As
- * mscp_port_next else. */
+ * TRANSFER that was in hand is put aside, and mscp_port_next wants it anew. So an emulator that mscp_port_next asks for a
+ * block may go on by this call until the block's time has come, and do it then. As mscp_port_next else. */
 MSCP_MUST_USE int32_t mscp_port_next_message(struct mscp_port *port, struct mscp_action *action);
 
 /* These bytes were read in host memory, as it wanted: just as many. MSCP_DONE, or MSCP_UNASKED. */
@@ -817,7 +814,7 @@ int32_t mscp_port_state(const struct mscp_port *port, struct mscp_state *state);
 /* What is in a unit. MSCP_DONE, or MSCP_UNKNOWN_UNIT. */
 int32_t mscp_port_volume(const struct mscp_port *port, uint16_t unit, struct mscp_volume *volume);
 
-/* The step that is begun: if the port wants a block fetched, moved or stored, its command and its block. Its first block has
+/* The step that is begun: if the port wants a block moved, its command and its block. Its first block has
  * `done` 0, and its last one `done + 1 == weight`. MSCP_DONE, or MSCP_NOTHING if none is begun. */
 int32_t mscp_port_begun(const struct mscp_port *port, struct mscp_upcoming *upcoming);
 

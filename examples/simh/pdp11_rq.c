@@ -30,9 +30,8 @@ static UNIT units[CONTROLLERS][UNITS];
 static struct controller controllers[CONTROLLERS] = {
     {.device = &rq_dev}, {.device = &rqb_dev}, {.device = &rqc_dev}, {.device = &rqd_dev}};
 
-/* How many actions a turn of the port has at most, and how many instructions go by before each turn. A block is two actions,
- * and mostly a look at a ring. */
-static int32 actions = 100, pause = 200;
+/* How many actions a turn of the port has at most, and how many instructions go by before each turn. A block is one action. */
+static int32 actions = 50, pause = 200;
 
 /* ---- drives */
 

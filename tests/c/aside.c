@@ -1,5 +1,5 @@
-/* A port of mscp.h whose blocks take their time: messages come and go meanwhile, and a block is wanted again from its first
- * part on. Prints what is wrong, and ends with 1 where something is. */
+/* A port of mscp.h whose blocks take their time: messages come and go meanwhile, and then a block is wanted again. Prints what
+ * is wrong, and ends with 1 where something is. */
 #include "machine.h"
 
 enum { DATA = 0x4000, BUDGET = 512 }; /* the budget is that of build */
@@ -19,7 +19,7 @@ static void exchange(void)
     struct mscp_action action = {0};
     mscp_port_look_again(machine.port);
     for (unsigned left = MOST_ACTIONS; left > 0 && mscp_port_next_message(machine.port, &action) == MSCP_DONE; left--) {
-        if (action.kind == MSCP_ACTION_FETCH || action.kind == MSCP_ACTION_TRANSFER) {
+        if (action.kind == MSCP_ACTION_TRANSFER) {
             is("of a block", action.kind, 0);
             return;
         }
@@ -63,10 +63,11 @@ static void wants_again(const struct mscp_action *wanted)
     is("the same block", again.unit == wanted->unit && again.block == wanted->block && again.opcode == wanted->opcode, 1);
 }
 
-/* A block's time begins when the port wants it, and meanwhile the command is polled. Then the port wants it again. */
-static void block_is_put_aside(uint8_t opcode, uint8_t kind, uint32_t n)
+/* A block's time begins when the port wants it, and meanwhile the command is polled. Then the port wants it again. What is
+ * written is what the memory has then. */
+static void block_is_put_aside(uint8_t opcode, uint32_t n)
 {
-    struct mscp_action wanted = until(kind), first = wanted;
+    struct mscp_action wanted = until(MSCP_ACTION_TRANSFER);
     is_begun(opcode, 7 + n, n, 3);
     for (unsigned times = 0; times < 2; times++) {
         send_command(0, 100, MSCP_GET_COMMAND_STATUS, 2, 0, 0);
@@ -75,24 +76,19 @@ static void block_is_put_aside(uint8_t opcode, uint8_t kind, uint32_t n)
         is_begun(opcode, 7 + n, n, 3);
         if (machine.saves)
             restore_port();
-        wants_again(&first);
-        if (kind == MSCP_ACTION_FETCH && times == 0) { /* and once more when its bytes were fetched */
-            memset(machine.memory + DATA + n * MSCP_BLOCK, 0x30 + (int)n, MSCP_BLOCK);
-            tell(&wanted, perform(&wanted));
-            memset(machine.memory + DATA + n * MSCP_BLOCK, 0x50 + (int)n, MSCP_BLOCK);
-            is("its block", until(MSCP_ACTION_TRANSFER).block, 7 + n);
-        }
+        wants_again(&wanted);
+        memset(machine.memory + DATA + n * MSCP_BLOCK, (int)(0x30 + 0x20 * times + n), MSCP_BLOCK);
     }
     tell(&wanted, perform(&wanted));
 }
 
-static void blocks_are_put_aside(uint8_t opcode, uint8_t kind, bool saves)
+static void blocks_are_put_aside(uint8_t opcode, bool saves)
 {
     begin();
     machine.saves = saves;
     send_command(0, 2, opcode, 3 * MSCP_BLOCK, 7, DATA);
     for (uint32_t n = 0; n < 3; n++)
-        block_is_put_aside(opcode, kind, n);
+        block_is_put_aside(opcode, n);
     expect(2, 0x80 | opcode, 0);
     is("blocks that were moved", machine.transfers, 3);
     for (unsigned k = 0; k < 3 * MSCP_BLOCK; k++) {
@@ -146,31 +142,15 @@ static void turns_go_on(uint8_t opcode)
     is("all were moved", machine.transfers, 4);
 }
 
-/* What was read goes to the host first. Then messages come. */
-static void store_stays(void)
-{
-    struct mscp_action store, action = {0};
-    begin();
-    send_command(0, 2, MSCP_READ, MSCP_BLOCK, 7, DATA);
-    store = until(MSCP_ACTION_STORE);
-    send_command(0, 3, MSCP_GET_COMMAND_STATUS, 2, 0, 0);
-    is("an action", mscp_port_next_message(machine.port, &action), MSCP_DONE);
-    is("the store", action.kind == MSCP_ACTION_STORE && action.address == store.address && action.count == MSCP_BLOCK, 1);
-    tell(&action, perform(&action));
-    is("its end", heard(2, 0xA1, 10) & 0xFFFF, 0);
-    is("of no command any more", heard(3, 0x82, 16), 0);
-    is("its bytes", number(machine.memory + DATA, 4), 0x0A090807);
-}
-
 /* No block is begun for messages, and none of a command that is aborted, or whose volume goes, while one is put aside. */
-static void blocks_that_are_dropped(uint8_t opcode, uint8_t kind)
+static void blocks_that_are_dropped(uint8_t opcode)
 {
     begin();
     send_command(0, 2, opcode, 3 * MSCP_BLOCK, 7, DATA);
     exchange();
     is_nothing_begun();
     is("it waits", mscp_port_look(machine.port, NULL, 0), 1);
-    until(kind);
+    until(MSCP_ACTION_TRANSFER);
     exchange();
     send_command(0, 3, MSCP_ABORT, 2, 0, 0);
     is("it is aborted", heard(2, 0x80 | opcode, 10) & 0xFFFF, 0x0002);
@@ -178,7 +158,7 @@ static void blocks_that_are_dropped(uint8_t opcode, uint8_t kind)
     is_nothing_begun();
     is("nothing more", run(MOST_ACTIONS), 0);
     send_command(0, 2, opcode, 3 * MSCP_BLOCK, 7, DATA);
-    until(kind);
+    until(MSCP_ACTION_TRANSFER);
     exchange();
     is("it goes", mscp_port_volume_went(machine.port, 0), MSCP_DONE);
     expect(2, 0x80 | opcode, 0x0023);
@@ -188,13 +168,12 @@ static void blocks_that_are_dropped(uint8_t opcode, uint8_t kind)
 int main(void)
 {
     for (unsigned saves = 0; saves < 2; saves++) {
-        blocks_are_put_aside(MSCP_READ, MSCP_ACTION_TRANSFER, saves);
-        blocks_are_put_aside(MSCP_WRITE, MSCP_ACTION_FETCH, saves);
+        blocks_are_put_aside(MSCP_READ, saves);
+        blocks_are_put_aside(MSCP_WRITE, saves);
     }
     turns_go_on(MSCP_READ);
     turns_go_on(MSCP_WRITE);
-    store_stays();
-    blocks_that_are_dropped(MSCP_READ, MSCP_ACTION_TRANSFER);
-    blocks_that_are_dropped(MSCP_WRITE, MSCP_ACTION_FETCH);
+    blocks_that_are_dropped(MSCP_READ);
+    blocks_that_are_dropped(MSCP_WRITE);
     return wrong;
 }

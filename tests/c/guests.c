@@ -204,12 +204,11 @@ static void judge(const struct mscp_action *action)
         must("a write to memory that wasn't named",
              (is_in_area(address, count) && is_of_area(action)) || is_in_packet(address, count));
         break;
-    case MSCP_ACTION_FETCH:
-    case MSCP_ACTION_STORE:
+    case MSCP_ACTION_TRANSFER:
+        must("a block that may not be moved", moves_rightly(action));
         must("data of nothing, or too much", count >= 1 && count <= MSCP_BLOCK);
         must("data where no buffer was named", is_in_buffer(address, count));
         break;
-    case MSCP_ACTION_TRANSFER: must("a block that may not be moved", moves_rightly(action)); break;
     case MSCP_ACTION_INTERRUPT:
         must("another vector", action->vector == (guest.first & 0x7F) * 4 && action->vector != 0);
         break;
@@ -268,7 +267,7 @@ static void act_somehow(void)
         return;
     again = action;
     must("it wants the same again", next(machine.port, &again) == MSCP_DONE && memcmp(&again, &action, sizeof action) == 0);
-    must("no message", next == mscp_port_next || (action.kind != MSCP_ACTION_FETCH && action.kind != MSCP_ACTION_TRANSFER));
+    must("no message", next == mscp_port_next || action.kind != MSCP_ACTION_TRANSFER);
     judge(&action);
     if (by_chance(20))
         tell_wrongly(&action);
@@ -390,7 +389,7 @@ int main(int words, char **word)
         do_something();
         judge_sa();
     }
-    for (unsigned kind = MSCP_ACTION_PAUSE; kind <= MSCP_ACTION_STORE; kind++)
+    for (unsigned kind = MSCP_ACTION_PAUSE; kind <= MSCP_ACTION_TRANSFER; kind++)
         must("each kind of action came often", most < 1000000 || kinds[kind] > 100);
     for (size_t i = 0; i < COUNT(FATAL); i++)
         must("each fatal error came", most < 1000000 || fatal[FATAL[i]] > 0);

@@ -38,7 +38,6 @@ static void transfer(uint8_t opcode, uint16_t status)
 /* The volume stays online, and none is told to have come. A block that is in hand isn't written any more. */
 static void protection_is_switched(void)
 {
-    static const uint8_t KINDS[] = {MSCP_ACTION_FETCH, MSCP_ACTION_TRANSFER};
     begin(2);
     for (unsigned times = 0; times < 2; times++) {
         transfer(MSCP_WRITE, 0);
@@ -51,7 +50,7 @@ static void protection_is_switched(void)
         is("no more", mscp_port_protect(machine.port, 0, 0), MSCP_DONE);
         transfer(MSCP_WRITE, 0);
         send_command(0, 70, MSCP_WRITE, MSCP_BLOCK, 9, DATA);
-        until(KINDS[times]);
+        until(MSCP_ACTION_TRANSFER);
         is("protected", mscp_port_protect(machine.port, 0, 1), MSCP_DONE);
         expect(70, 0xA2, 0x2006);
         is("its block", number(machine.disks[0][9], 4), 0x0C0B0A09);

@@ -14,7 +14,6 @@ static struct {
     bool saves; /* and so it does by the bytes that it is saved as */
     uint8_t memory[MEMORY];
     uint8_t disks[UNITS][BLOCKS][MSCP_BLOCK];
-    uint8_t block[MSCP_BLOCK];
     uint32_t missing;    /* memory from here on isn't there */
     uint32_t interrupts; /* that came, and the vector of the last one */
     uint16_t vector;
@@ -70,36 +69,35 @@ static inline bool is_there(uint32_t address, uint32_t count)
     return address <= machine.missing && count <= machine.missing - address;
 }
 
-/* Moves a block, or compares one, which the machine has of every number. */
+/* Moves a block between memory and a disk, which has one of every number, or compares the two. */
 static inline uint32_t move(const struct mscp_action *action)
 {
-    uint8_t *there = machine.disks[action->unit % UNITS][action->block % BLOCKS];
+    uint8_t *there = machine.disks[action->unit % UNITS][action->block % BLOCKS], *at = machine.memory + action->address;
+    bool touches_memory = action->opcode != MSCP_ACCESS && action->opcode != MSCP_ERASE;
+    if (touches_memory && !is_there(action->address, action->count))
+        return MSCP_OUTCOME_MISSING;
     machine.transfers++;
     switch (action->opcode) {
-    case MSCP_READ: memcpy(machine.block, there, MSCP_BLOCK); break;
-    case MSCP_WRITE: memcpy(there, machine.block, MSCP_BLOCK); break;
+    case MSCP_READ: memcpy(at, there, action->count); break;
+    case MSCP_WRITE:
+        memset(there, 0, MSCP_BLOCK);
+        memcpy(there, at, action->count);
+        break;
     case MSCP_ERASE: memset(there, 0, MSCP_BLOCK); break;
     case MSCP_COMPARE_HOST_DATA:
-        return memcmp(there, machine.block, action->count) == 0 ? MSCP_OUTCOME_DONE : MSCP_OUTCOME_DIFFERENT;
+        return memcmp(there, at, action->count) == 0 ? MSCP_OUTCOME_DONE : MSCP_OUTCOME_DIFFERENT;
     default: is("an ACCESS", action->opcode, MSCP_ACCESS);
     }
     return MSCP_OUTCOME_DONE;
 }
 
-/* Does what an action is about memory, if all of that is there. */
+/* Does what an action is about the port's own words in memory, if all of that is there. */
 static inline uint32_t reach(const struct mscp_action *action)
 {
     if (!is_there(action->address, action->count))
         return MSCP_OUTCOME_MISSING;
-    uint8_t *at = machine.memory + action->address;
-    switch (action->kind) {
-    case MSCP_ACTION_WRITE: memcpy(at, action->bytes, action->count); break;
-    case MSCP_ACTION_FETCH:
-        memset(machine.block, 0, MSCP_BLOCK);
-        memcpy(machine.block, at, action->count);
-        break;
-    case MSCP_ACTION_STORE: memcpy(at, machine.block, action->count); break;
-    }
+    if (action->kind == MSCP_ACTION_WRITE)
+        memcpy(machine.memory + action->address, action->bytes, action->count);
     return MSCP_OUTCOME_DONE;
 }
 

@@ -108,7 +108,7 @@ static int32_t want(struct mscp_action *action)
         return mscp_port_next(machine.port, action);
     int32_t begun = mscp_port_begun(machine.port, &before), status = mscp_port_next_message(machine.port, action);
     if (status == MSCP_DONE)
-        is("of a block", action->kind == MSCP_ACTION_FETCH || action->kind == MSCP_ACTION_TRANSFER, 0);
+        is("of a block", action->kind == MSCP_ACTION_TRANSFER, 0);
     is("begun", mscp_port_begun(machine.port, &after), begun);
     is("the same", before.reference == after.reference && before.lbn == after.lbn && before.done == after.done, 1);
     return status;

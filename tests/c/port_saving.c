@@ -32,7 +32,7 @@ static void work(bool saves)
     expect(4, 0xA0, 0);
     expect(5, 0x92, 0);
     send_command(0, 6, MSCP_READ, 2048, 20, 0xC000);
-    is("so many actions", run(12), 12);
+    is("so many actions", run(8), 8);
     is("the volume goes", mscp_port_volume_went(machine.port, 0), MSCP_DONE);
     expect(6, 0xA1, 0x23);
     is("a tick", mscp_port_tick(machine.port), MSCP_DONE);
@@ -79,7 +79,7 @@ static const uint8_t HEAD[72] = {
     /* the base, and one slot in each ring */
     1, 0x84, 0x0E, 0, 0, 1, 0, 0, 0, 1, 0, 0, 0,
     /* a transfer: of which command and which block is the controller's */
-    13, 0, 0, 0, 0, 0, 0, 0, 0, 0, 0, 0, 0, 0, 0, 0, 0,
+    12, 0, 0, 0, 0, 0, 0, 0, 0, 0, 0, 0, 0, 0, 0, 0, 0,
     /* nothing goes out, and something is kept of one command */
     0, 0, 1,
 };
@@ -168,7 +168,7 @@ static void edits(void)
         /* no bus, no flag, no stage, a word where there is none, no rings, no task, a text where nothing goes out, no flag */
         {{{12, 3}}, MSCP_SAVED_FORM}, {{{20, 2}}, MSCP_SAVED_FORM}, {{{33, 10}}, MSCP_SAVED_FORM},
         {{{34, 1}}, MSCP_SAVED_FORM}, {{{37, 1}}, MSCP_SAVED_FORM}, {{{44, 129}}, MSCP_SAVED_FORM},
-        {{{48, 0}}, MSCP_SAVED_FORM}, {{{52, 15}}, MSCP_SAVED_FORM}, {{{69, 3}}, MSCP_SAVED_FORM},
+        {{{48, 0}}, MSCP_SAVED_FORM}, {{{52, 13}}, MSCP_SAVED_FORM}, {{{69, 3}}, MSCP_SAVED_FORM},
         {{{112, 1}}, MSCP_SAVED_FORM},
     };
     for (size_t i = 0; i < COUNT(cases); i++) {

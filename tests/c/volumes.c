@@ -155,24 +155,26 @@ static void volumes_change(unsigned times)
     is("no unit", mscp_port_volume_went(machine.port, 9), MSCP_UNKNOWN_UNIT);
 }
 
-/* A volume changes while the port has a WRITE's bytes fetched, or its block in hand: no block is written to the new one, and
- * the port doesn't want it any more. */
-static void volume_changes_amid_a_block(bool is_block_wanted)
+/* A volume changes while a block of a WRITE is in hand: none is written to the new one, and the port doesn't want it any more.
+ * If the block was written already, its command ends so, too. */
+static void volume_changes_amid_a_block(bool is_written)
 {
     struct mscp_action action;
+    uint32_t outcome = MSCP_OUTCOME_DONE;
     build(&RQDX3);
     initialise(0x1000, 0, 0, 0);
     send_command(0, 1, MSCP_ONLINE, 0, 0, 0);
     expect(1, 0x89, 0);
     memset(machine.memory + 0x4000, 0x77, MSCP_BLOCK);
     send_command(0, 2, MSCP_WRITE, MSCP_BLOCK, 5, 0x4000);
-    action = until(MSCP_ACTION_FETCH);
-    tell(&action, perform(&action));
-    if (is_block_wanted)
-        is("its block", mscp_port_next(machine.port, &action) == MSCP_DONE && action.kind == MSCP_ACTION_TRANSFER, 1);
+    action = until(MSCP_ACTION_TRANSFER);
+    if (is_written)
+        outcome = perform(&action);
     is("another comes", insert(0, 0), MSCP_DONE);
+    if (is_written)
+        tell(&action, outcome);
     expect(2, 0xA2, 0x0023);
-    is("no block", machine.transfers, 0);
+    is("blocks that were written", machine.transfers, is_written);
 }
 
 /* A volume may have fewer blocks than its unit, and media of another type, which the host is told. Transfers past its end are
@@ -280,24 +282,24 @@ static void silent_hosts(void)
     }
 }
 
-/* What a program says of an action is what the command ends with: of a fetch, of a store and of a block. The status counts
- * for a block that couldn't be moved, and is told as it is. */
+/* What a program says of a transfer is what its command ends with. The status counts for a block that couldn't be moved, and
+ * is told as it is. */
 static void outcomes(void)
 {
     static const struct {
-        uint8_t opcode, kind;
+        uint8_t opcode;
         uint32_t outcome;
         uint16_t status, ends_with;
     } cases[] = {
-        {MSCP_WRITE, MSCP_ACTION_FETCH, MSCP_OUTCOME_MISSING, 0, 0x0069},
-        {MSCP_WRITE, MSCP_ACTION_FETCH, MSCP_OUTCOME_PARITY, 0, 0x0089},
-        {MSCP_WRITE, MSCP_ACTION_FETCH, MSCP_OUTCOME_UNMAPPED, 0, 0x00A9},
-        {MSCP_READ, MSCP_ACTION_STORE, MSCP_OUTCOME_MISSING, 0, 0x0069},
-        {MSCP_READ, MSCP_ACTION_STORE, MSCP_OUTCOME_PARITY, 0, 0x0089},
-        {MSCP_READ, MSCP_ACTION_STORE, MSCP_OUTCOME_UNMAPPED, 0, 0x00A9},
-        {MSCP_COMPARE_HOST_DATA, MSCP_ACTION_TRANSFER, MSCP_OUTCOME_DIFFERENT, 0, 0x0007},
-        {MSCP_READ, MSCP_ACTION_TRANSFER, MSCP_OUTCOME_FAILED, 0x00E8, 0x00E8},
-        {MSCP_WRITE, MSCP_ACTION_TRANSFER, MSCP_OUTCOME_FAILED, 0x012B, 0x012B},
+        {MSCP_WRITE, MSCP_OUTCOME_MISSING, 0, 0x0069},
+        {MSCP_WRITE, MSCP_OUTCOME_PARITY, 0, 0x0089},
+        {MSCP_WRITE, MSCP_OUTCOME_UNMAPPED, 0, 0x00A9},
+        {MSCP_READ, MSCP_OUTCOME_MISSING, 0, 0x0069},
+        {MSCP_READ, MSCP_OUTCOME_PARITY, 0, 0x0089},
+        {MSCP_READ, MSCP_OUTCOME_UNMAPPED, 0, 0x00A9},
+        {MSCP_COMPARE_HOST_DATA, MSCP_OUTCOME_DIFFERENT, 0, 0x0007},
+        {MSCP_READ, MSCP_OUTCOME_FAILED, 0x00E8, 0x00E8},
+        {MSCP_WRITE, MSCP_OUTCOME_FAILED, 0x012B, 0x012B},
     };
     build(&RQDX3);
     initialise(0x1000, 0, 0, 0);
@@ -305,7 +307,7 @@ static void outcomes(void)
     expect(1, 0x89, 0);
     for (uint32_t i = 0; i < COUNT(cases); i++) {
         send_command(0, 10 + i, cases[i].opcode, MSCP_BLOCK, 1, 0x4000);
-        until(cases[i].kind);
+        until(MSCP_ACTION_TRANSFER);
         is("it went", mscp_port_went(machine.port, cases[i].outcome, cases[i].status), MSCP_DONE);
         expect(10 + i, 0x80 | cases[i].opcode, cases[i].ends_with);
     }

@@ -5,8 +5,7 @@ use crate::raw;
 use crate::values::{BusKind, Opcode};
 use crate::List;
 
-/// What a port wants done. Addresses are of host memory, and have the bits of the bus. The block's buffer is the port's own:
-/// [`Port::block`](crate::Port::block).
+/// What a port wants done. Addresses are of host memory, and have the bits of the bus.
 #[derive(Clone, Copy, Debug, PartialEq, Eq)]
 pub enum Action {
     /// Nothing, but the host is to go on a little: some hundred instructions.
@@ -30,47 +29,34 @@ pub enum Action {
         /// By what the host gave.
         vector: u16,
     },
-    /// Read so many bytes of host memory into the block's buffer, and fill it up with zeros.
-    Fetch {
-        /// Where they are.
-        address: u32,
-        /// [`BLOCK`](crate::BLOCK) at most.
-        count: usize,
-    },
     /// Move a block of a unit's volume.
     Transfer {
         /// Of the volume.
         unit: u16,
         /// Of the volume.
         block: u32,
+        /// Where its bytes are in host memory.
+        address: u32,
+        /// How many they are: [`BLOCK`](crate::BLOCK) at most.
+        count: usize,
         /// Which way.
         way: Way,
     },
-    /// Write the first bytes of the block's buffer to host memory.
-    Store {
-        /// To where.
-        address: u32,
-        /// [`BLOCK`](crate::BLOCK) at most.
-        count: usize,
-    },
 }
 
-/// What is done with a block and the buffer.
+/// What is done with a block.
 #[derive(Clone, Copy, Debug, PartialEq, Eq, Hash)]
 pub enum Way {
-    /// The block is read into the buffer.
+    /// Its first bytes are written to host memory.
     Read,
-    /// The buffer is written to the block.
+    /// The bytes of host memory are written to it, with zeros behind them.
     Write,
-    /// Zeros are written to the block.
+    /// Zeros are written to it. Host memory isn't touched.
     Erase,
-    /// The block is read, and dropped.
+    /// It is read, and dropped. Host memory isn't touched.
     Access,
-    /// The first bytes of both are compared.
-    Compare {
-        /// So many.
-        count: usize,
-    },
+    /// The bytes of host memory are compared with its first.
+    Compare,
 }
 
 impl Action {
@@ -81,21 +67,19 @@ impl Action {
             2 => Action::Read { address, count },
             3 => Action::Write { address, bytes: List::new(it.bytes, count) },
             4 => Action::Interrupt { vector: it.vector },
-            5 => Action::Fetch { address, count },
-            6 => Action::Transfer { unit: it.unit, block: it.block, way: Way::told(it.opcode, count) },
-            7 => Action::Store { address, count },
+            5 => Action::Transfer { unit: it.unit, block: it.block, address, count, way: Way::told(it.opcode) },
             _ => Action::Pause,
         }
     }
 }
 
 impl Way {
-    fn told(opcode: u8, count: usize) -> Self {
+    fn told(opcode: u8) -> Self {
         match Opcode::of_number(opcode) {
             Some(Opcode::Read) => Way::Read,
             Some(Opcode::Write) => Way::Write,
             Some(Opcode::Erase) => Way::Erase,
-            Some(Opcode::CompareHostData) => Way::Compare { count },
+            Some(Opcode::CompareHostData) => Way::Compare,
             _ => Way::Access,
         }
     }
@@ -134,9 +118,9 @@ impl From<Result<(), BusFault>> for Outcome {
     }
 }
 
-impl From<Result<(), BadBlock>> for Outcome {
-    fn from(it: Result<(), BadBlock>) -> Self {
-        it.map_or_else(Outcome::Failed, |()| Outcome::Done)
+impl From<Result<(), Outcome>> for Outcome {
+    fn from(it: Result<(), Outcome>) -> Self {
+        it.err().unwrap_or(Outcome::Done)
     }
 }
 

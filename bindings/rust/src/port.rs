@@ -3,13 +3,37 @@
 use core::mem::MaybeUninit;
 
 use crate::action::{Action, Hardware, Medium, Outcome, State, Volume, Way};
-use crate::bus::{BadBlock, Bus};
+use crate::bus::Bus;
 use crate::controller::Units;
 use crate::error::{checked, never_refused, Error};
 use crate::held::Held;
 use crate::raw::{self, status};
 use crate::values::{BusKind, Connection, Holder, Limits, Picker, Settings, Unit, Upcoming, Waiting};
 use crate::{List, BLOCK, COMMANDS_MAX, PORT_SAVED_MAX, UNITS_MAX};
+
+/// Moves a block on a bus.
+fn transfer<B: Bus + ?Sized>(
+    bus: &mut B,
+    unit: u16,
+    block: u32,
+    address: u32,
+    count: usize,
+    way: Way,
+) -> Result<(), Outcome> {
+    let (mut there, mut here) = ([0; BLOCK], [0; BLOCK]);
+    if matches!(way, Way::Write | Way::Compare) {
+        bus.read(address, &mut here[..count]).map_err(Outcome::Bus)?;
+    }
+    if matches!(way, Way::Write | Way::Erase) {
+        return bus.write_block(unit, block, &here).map_err(Outcome::Failed);
+    }
+    bus.read_block(unit, block, &mut there).map_err(Outcome::Failed)?;
+    match way {
+        Way::Read => bus.write(address, &there[..count]).map_err(Outcome::Bus),
+        Way::Compare if there[..count] != here[..count] => Err(Outcome::Different),
+        _ => Ok(()),
+    }
+}
 
 /// A port between a host's bus and a controller of its own: two registers, rings, credits, and volumes.
 ///
@@ -18,7 +42,6 @@ use crate::{List, BLOCK, COMMANDS_MAX, PORT_SAVED_MAX, UNITS_MAX};
 pub struct Port {
     held: Held<{ raw::PORT_SIZE / 8 }>,
     bus: BusKind,
-    block: [u8; BLOCK],
 }
 
 impl Port {
@@ -57,7 +80,7 @@ impl Port {
     }
 
     fn room(bus: BusKind) -> Self {
-        Self { held: Held::room(raw::PORT_ROOM), bus, block: [0; BLOCK] }
+        Self { held: Held::room(raw::PORT_ROOM), bus }
     }
 
     fn init(
@@ -133,8 +156,8 @@ impl Port {
         (never_refused(status) == status::DONE).then(|| Action::told(&action, self.bus))
     }
 
-    /// What it wants done next while a block takes its time: no block is fetched or moved. One that was in hand is put aside,
-    /// and [`Port::next`] wants it anew, from its first part on.
+    /// What it wants done next while a block takes its time: no block is moved. One that was in hand is put aside, and
+    /// [`Port::next`] wants it anew.
     pub fn next_message(&mut self) -> Option<Action> {
         let mut action = raw::Action::ZERO;
         // SAFETY: the handle is that of a port that was made; `action` is ours.
@@ -162,30 +185,11 @@ impl Port {
                 bus.interrupt(vector);
                 Outcome::Done
             }
-            Action::Fetch { address, count } => {
-                self.block = [0; BLOCK];
-                bus.read(address, &mut self.block[..count.min(BLOCK)]).into()
+            Action::Transfer { unit, block, address, count, way } => {
+                transfer(bus, unit, block, address, count.min(BLOCK), way).into()
             }
-            Action::Transfer { unit, block, way } => self.transfer(bus, unit, block, way),
-            Action::Store { address, count } => bus.write(address, &self.block[..count.min(BLOCK)]).into(),
         };
         self.went(outcome)
-    }
-
-    fn transfer<B: Bus + ?Sized>(&mut self, bus: &mut B, unit: u16, block: u32, way: Way) -> Outcome {
-        let mut other = [0; BLOCK];
-        let went: Result<(), BadBlock> = match way {
-            Way::Read => bus.read_block(unit, block, &mut self.block),
-            Way::Write => bus.write_block(unit, block, &self.block),
-            Way::Erase => bus.write_block(unit, block, &other),
-            Way::Access | Way::Compare { .. } => bus.read_block(unit, block, &mut other),
-        };
-        match way {
-            Way::Compare { count } if went.is_ok() && other[..count.min(BLOCK)] != self.block[..count.min(BLOCK)] => {
-                Outcome::Different
-            }
-            _ => went.into(),
-        }
     }
 
     /// These bytes were read in host memory, as it wanted: just as many.
@@ -205,17 +209,6 @@ impl Port {
         let (number, status) = outcome.numbers();
         // SAFETY: the handle is that of a port that was made.
         checked(unsafe { raw::mscp_port_went(self.held.handle(), number, status) }).map(drop)
-    }
-
-    /// The buffer of the block that is on its way between a volume and the host's memory. Save it beside the port.
-    #[must_use]
-    pub fn block(&self) -> &[u8; BLOCK] {
-        &self.block
-    }
-
-    /// The same, to write it.
-    pub fn block_mut(&mut self) -> &mut [u8; BLOCK] {
-        &mut self.block
     }
 
     /// The port looks again whether its host has given slots for ends back, since nothing else tells it so. [`Port::turn`] does
@@ -283,7 +276,7 @@ impl Port {
         Ok(volume.into())
     }
 
-    /// The step that is begun: if the port wants a block fetched, moved or stored, its command and its block.
+    /// The step that is begun: if the port wants a block moved, its command and its block.
     #[must_use]
     pub fn begun(&self) -> Option<Upcoming> {
         let mut upcoming = raw::Upcoming::ZERO;
@@ -323,7 +316,7 @@ impl Port {
 
     // ---- bytes
 
-    /// All of the port, as bytes, with its controller. Its block's buffer isn't among them.
+    /// All of the port, as bytes, with its controller.
     #[must_use]
     pub fn save(&self) -> List<u8, PORT_SAVED_MAX> {
         let (mut bytes, mut length) = ([0; PORT_SAVED_MAX], 0);
@@ -333,7 +326,7 @@ impl Port {
         List::new(bytes, length)
     }
 
-    /// The port that was saved, on a bus of this kind: it wants again what it wanted. Write its block's buffer.
+    /// The port that was saved, on a bus of this kind: it wants again what it wanted.
     ///
     /// # Errors
     /// The first fault of the bytes.

@@ -30,9 +30,8 @@ abbrev pub of_memory : ℕ → ℕ → ℕ → ActionOut → ActionOut
 of_memory kind address count out = record (of_kind kind out) { address = address; count = count }
 
 -- of a transfer, with its opcode
-abbrev pub of_transfer : MoveKind → ℕ → ℕ → ℕ → ActionOut → ActionOut
-of_transfer kind unit block count out = record (of_kind 6 out) {
-  count = count;
+abbrev pub of_transfer : MoveKind → ℕ → ℕ → ℕ → ℕ → ActionOut → ActionOut
+of_transfer kind unit block address count out = record (of_memory 5 address count out) {
   block = block;
   unit = unit;
   opcode = move_byte kind;
@@ -50,6 +49,4 @@ action_told actions.Pause bytes out = of_kind 1 out
 action_told (actions.Read address count) bytes out = of_memory 2 address count out
 action_told (actions.Write address count) bytes out = with_bytes bytes (of_memory 3 address count out)
 action_told (actions.Interrupt vector) bytes out = record (of_kind 4 out) { vector = vector }
-action_told (actions.Fetch address count) bytes out = of_memory 5 address count out
-action_told (actions.Transfer kind unit block count) bytes out = of_transfer kind unit block count out
-action_told (actions.Store address count) bytes out = of_memory 7 address count out
+action_told (actions.Transfer kind unit block address count) bytes out = of_transfer kind unit block address count out

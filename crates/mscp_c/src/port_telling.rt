@@ -18,11 +18,7 @@ const WRITE: u8 = 3;
 
 const INTERRUPT: u8 = 4;
 
-const FETCH: u8 = 5;
-
-const TRANSFER: u8 = 6;
-
-const STORE: u8 = 7;
+const TRANSFER: u8 = 5;
 
 /// The opcode of a transfer.
 fn opcode_of(kind: MoveKind) -> u8
@@ -68,12 +64,18 @@ fn tell_write(out: &mut ActionOut, address: u32, count: u32, bytes: &[u8])
     out.bytes[..bytes.len()].copy_from_slice(bytes);
 }
 
-/// A block is to be moved.
-fn tell_transfer(out: &mut ActionOut, kind: MoveKind, unit: u16, block: u32, count: u32)
-    ensures { out.new ≡ of_transfer kind unit block count out.old }
+/// A block is to be moved, to so many bytes of host memory from an address on, or from them.
+fn tell_transfer(
+    out: &mut ActionOut,
+    kind: MoveKind,
+    unit: u16,
+    block: u32,
+    address: u32,
+    count: u32,
+)
+    ensures { out.new ≡ of_transfer kind unit block address count out.old }
 {
-    tell_kind(out, TRANSFER);
-    out.count = count;
+    tell_memory(out, TRANSFER, address, count);
     out.block = block;
     out.unit = unit;
     out.opcode = opcode_of(kind);
@@ -98,14 +100,13 @@ pub(crate) fn tell_action(out: &mut ActionOut, port: &Port<Policy>, action: Acti
             tell_kind(out, INTERRUPT);
             out.vector = vector;
         }
-        Action::Fetch { address, count } => tell_memory(out, FETCH, address, count),
         Action::Transfer {
             kind,
             unit,
             block,
+            address,
             count,
-        } => tell_transfer(out, kind, unit, block, count),
-        Action::Store { address, count } => tell_memory(out, STORE, address, count),
+        } => tell_transfer(out, kind, unit, block, address, count),
     }
     DONE
 }

@@ -1,5 +1,8 @@
 -- What a port knows stays among what it knew.
-use Rattle.mscp_port.proofs.Common.{◌≡◌, ◌⊎◌, ◌∙◌, ℕ, true, List, Option, None, Some, IfSome, ap, sym, get_or, arith, none-some, position, position-Some, Connection, Buffer, Port, Side, Descriptor, Task, KeepsSaying, Says, TakesEnd, TellsNews, in_hand, ChangesByActing, StaysInStage, is_of}
+use Rattle.mscp_port.proofs.Common.{◌≡◌, ◌⊎◌, ◌∙◌, ℕ, true, List, Option, None, Some, Contains, IfSome, Result, ap, sym, get_or, arith, none-some, position, position-Some, Connection, Buffer, Port, Side, Descriptor, Task, KeepsSaying, Says, TakesEnd, TellsNews, in_hand, ChangesByActing, StaysInStage, is_of}
+use Rattle.std.specs.Prelude.{IfOk}
+use Rattle.mscp_port.specs.Buffers.{IsInBuffer}
+use Rattle.mscp_port.specs.Ports.{IsInSomeBuffer}
 use Rattle.mscp_port.specs.declared.task.Task.TheVariants as tasks
 
 -- a descriptor that is in hand after is the one that was in hand before
@@ -30,6 +33,12 @@ keeps_the_same old new e = search arith
 -- no slot is to be given back where none is in hand
 pub none_returned : (t : Task) (side : Side) (slot : Descriptor) → in_hand t ≡ None → t ≡ tasks.Return side slot → ⊥
 none_returned t side slot none e = none-some slot.word (sym none ∙ ap in_hand e)
+
+-- a part of what is kept of a command lies in some buffer
+pub part_within : {K : Type 0} (p : Port K) (bs : List Buffer) (kept : Option Buffer) (b : Buffer)
+    (r : Result (ℕ × ℕ) ℕ) → bs ≡ p.buffers.items → kept ≡ Some b → IfSome kept (λ d. Contains bs d)
+    → IfOk r (λ part. IsInBuffer b part.0 part.1) → IfOk r (λ part. IsInSomeBuffer p part.0 part.1)
+part_within p bs kept b r all is there inside = search arith
 
 -- what is at the place of what is kept of a command is that
 pub of_command : (via : Connection) (reference : ℕ) (bs : List Buffer) (place : ℕ) (d : Buffer)

@@ -208,15 +208,15 @@ agree hardware credits controller start p unit (call ∷ calls) made a =
     agree_after unit call calls a.0 p a.2 (agree hardware credits controller start a.0 unit calls made a.1)
 
 pub moves_on_volumes : {K : Type 0} (hardware : Hardware) (credits : ℕ) (controller : Holdings K) (start p : Port K)
-    (calls : List Call) (blocks : Bool) (kind : MoveKind) (unit block count : ℕ) (bytes : List ℕ)
+    (calls : List Call) (blocks : Bool) (kind : MoveKind) (unit block address count : ℕ) (bytes : List ℕ)
     → IsMadeOf hardware credits controller start
-    → Answered start (Next blocks (actions.Transfer kind unit block count) bytes ∷ calls) p
+    → Answered start (Next blocks (actions.Transfer kind unit block address count) bytes ∷ calls) p
     → (is_loaded unit calls ≡ true) × (writes kind ≡ true → is_locked unit calls ≡ false)
     × (block < blocks_in unit calls)
-moves_on_volumes hardware credits controller start p calls blocks kind unit block count bytes made a =
-    let moves = a.2.0.moves kind unit block count refl in
+moves_on_volumes hardware credits controller start p calls blocks kind unit block address count bytes made a =
+    let moves = a.2.0.moves kind unit block address count refl in
     let agrees = agree hardware credits controller start p unit
-    (Next blocks (actions.Transfer kind unit block count) bytes ∷ calls) made a moves.0 moves.2 moves.1 in (
+    (Next blocks (actions.Transfer kind unit block address count) bytes ∷ calls) made a moves.0 moves.2 moves.1 in (
       agrees.there moves.3.there,
       λ writing. sym (agrees.protected moves.3.there) ∙ moves.3.hardware writing,
       subst (λ n. block < n) (agrees.long moves.3.there) moves.3.on,

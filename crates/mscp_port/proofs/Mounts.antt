@@ -227,20 +227,21 @@ there : (vs : List Volume) (place : ℕ) (m : Mount) → (volume_at vs place).is
 there vs place m is holds = search (arith, false≢true, get_or_past)
 
 pub moves_as_mounted : {K : Type 0} (hardware : Hardware) (credits : ℕ) (controller : Holdings K) (start p : Port K)
-    (calls : List Call) (blocks : Bool) (kind : MoveKind) (unit block count place : ℕ) (bytes : List ℕ) (m : Mount)
+    (calls : List Call) (blocks : Bool) (kind : MoveKind) (unit block address count place : ℕ) (bytes : List ℕ)
+    (m : Mount)
     → IsMadeOf hardware credits controller start
-    → (a : Answered start (Next blocks (actions.Transfer kind unit block count) bytes ∷ calls) p)
+    → (a : Answered start (Next blocks (actions.Transfer kind unit block address count) bytes ∷ calls) p)
     → place_in p.controller.settings.units unit ≡ Some place
-    → IsMounted place start p (Next blocks (actions.Transfer kind unit block count) bytes ∷ calls) a m
+    → IsMounted place start p (Next blocks (actions.Transfer kind unit block address count) bytes ∷ calls) a m
     → (m.volume ≡ Some (volume_at p.volumes place).changes) × (writes kind ≡ true → m.is_protected ≡ false)
 unfolding mount_of
-moves_as_mounted hardware credits controller start p calls blocks kind unit block count place bytes m made a here is =
-    let moves = a.2.0.moves kind unit block count refl in
+moves_as_mounted hardware credits controller start p calls blocks kind unit block address count place bytes m made a here is =
+    let moves = a.2.0.moves kind unit block address count refl in
     let at = moves.1 in
     let same : moves.0 ≡ place = cc in
     let low : place < 16 = subst (λ i. i < 16) same moves.2 in
     let may = subst (λ i. MayMove kind block (volume_at p.volumes i)) same moves.3 in
     let e = there p.volumes place m may.there
     (held hardware credits controller place low start p
-    (Next blocks (actions.Transfer kind unit block count) bytes ∷ calls) m made a is) in
+    (Next blocks (actions.Transfer kind unit block address count) bytes ∷ calls) m made a is) in
     (sym (ap (λ n. n.volume) e) ∙ may.mounted, λ writing. sym (ap (λ n. n.is_protected) e) ∙ may.host writing)

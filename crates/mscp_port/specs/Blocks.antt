@@ -1,5 +1,5 @@
 -- How the step of a command is taken, and why it isn't (statuses: manual, "Status and Event Codes").
-use Rattle.std.specs.Prelude.{nat_le, ℕ, ◌%◌, ◌==◌, ◌&&◌, ◌||◌, not, Bool, true, false, if◌then◌else◌, slice_get, List, Option, None, Some}
+use Rattle.std.specs.Prelude.{nat_le, ℕ, ◌%◌, ◌==◌, ◌&&◌, ◌||◌, not, Bool, true, false, if◌then◌else◌, slice_get, List, Option, None, Some, Result, Ok, Err}
 use Rattle.std.specs.List.{position}
 use Rattle.mscp_packet.specs.declared.command.MoveKind.{MoveKind}
 use Rattle.mscp_packet.specs.declared.command.MoveKind.TheVariants as moves
@@ -34,14 +34,6 @@ writes moves.Erase = true
 writes moves.Compare = false
 writes moves.Read = false
 writes moves.Write = true
-
--- what is done first for a block: the host's bytes are fetched, or the block is moved
-abbrev pub first_of : MoveKind → Task
-first_of moves.Access = tasks.Transfer
-first_of moves.Erase = tasks.Transfer
-first_of moves.Compare = tasks.Fetch
-first_of moves.Read = tasks.Transfer
-first_of moves.Write = tasks.Fetch
 
 -- how a step moves a block, and which: none of another order than a transfer, nor of one to a unit that is available
 abbrev pub moved_by : Order → Option ℕ → Option (MoveKind × ℕ)
@@ -81,6 +73,17 @@ has_changed b v = not v.is_there || not (b.changes == v.changes)
 abbrev pub fault_with : MoveKind → ℕ → Buffer → Volume → Option ℕ
 fault_with kind block b v = if has_changed b v then Some 0xFFFF else refusal_of kind block b v
 
+-- past the end of the buffer memory isn't there
+abbrev pub unless_fault : Option ℕ → Option (ℕ × ℕ) → Result (ℕ × ℕ) ℕ
+unless_fault (Some status) part = Err status
+unless_fault None None = Err 0x0069
+unless_fault None (Some part) = Ok part
+
+-- the part of its command's buffer that a step is about which moves this block so, behind so many others, or the status
+-- by which it may not go on
+abbrev pub part_with : MoveKind → ℕ → ℕ → Buffer → Volume → Result (ℕ × ℕ) ℕ
+part_with kind block done b v = unless_fault (fault_with kind block b v) (part_of b done)
+
 -- ---- what is done for a step
 
 abbrev pub kept_at : Option ℕ → List Buffer → Option Buffer
@@ -91,19 +94,15 @@ kept_at (Some place) buffers = slice_get buffers place
 abbrev pub kept_of : Connection → ℕ → List Buffer → Option Buffer
 kept_of via reference buffers = kept_at (position (is_of via reference) buffers) buffers
 
--- by its part of the buffer: past it memory isn't there, and a transfer of no bytes moves nothing
-abbrev pub part_task : MoveKind → Option (ℕ × ℕ) → Task
-part_task kind None = tasks.Step (blocks.Bad 0x0069)
-part_task kind (Some part) = if part.1 == 0 then tasks.Step blocks.Good else first_of kind
-
-abbrev pub unless_refused : Upcoming → MoveKind → Buffer → Option ℕ → Task
-unless_refused u kind b None = part_task kind (part_of b u.done)
-unless_refused u kind b (Some status) = tasks.Step (blocks.Bad status)
+-- a transfer of no bytes moves nothing
+abbrev pub part_task : Result (ℕ × ℕ) ℕ → Task
+part_task (Ok part) = if part.1 == 0 then tasks.Step blocks.Good else tasks.Transfer
+part_task (Err status) = tasks.Step (blocks.Bad status)
 
 -- by how it moves a block, if it moves one
 abbrev pub move_task : Upcoming → Option (MoveKind × ℕ) → Buffer → Volume → Task
 move_task u None b v = tasks.Step blocks.Good
-move_task u (Some move) b v = unless_refused u move.0 b (refusal_of move.0 move.1 b v)
+move_task u (Some move) b v = part_task (part_with move.0 move.1 u.done b v)
 
 abbrev pub is_available : Order → Bool
 is_available orders.Available = true

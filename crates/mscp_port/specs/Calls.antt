@@ -148,7 +148,8 @@ pub record Wants {K : Type 0} (blocks : Bool) (old : Port K) (action : Action) (
   pub settings : new.controller.settings ≡ old.controller.settings
   -- a block is moved only if its unit has it, on a volume that is there, with which the unit is online, and that may be
   -- written on if it is
-  pub moves : (kind : MoveKind) (unit block count : ℕ) → action ≡ actions.Transfer kind unit block count
+  pub moves : (kind : MoveKind) (unit block address count : ℕ)
+      → action ≡ actions.Transfer kind unit block address count
       → MayMoveOn kind unit block new
   -- what is in hand stays so until it is told how that went
   pub goes_on : old.task ≢ tasks.Free → new ≡ old

@@ -107,9 +107,7 @@ coded_task (tasks.Neighbour side) = record nothing { task = 8; whom = side_byte 
 coded_task (tasks.Word side) = record nothing { task = 9; whom = side_byte side }
 coded_task tasks.Interrupt = record nothing { task = 10 }
 coded_task (tasks.Step block) = record nothing { task = 11; two = bad_status block; how = bad_byte block }
-coded_task tasks.Fetch = record nothing { task = 12 }
-coded_task tasks.Transfer = record nothing { task = 13 }
-coded_task tasks.Store = record nothing { task = 14 }
+coded_task tasks.Transfer = record nothing { task = 12 }
 
 -- the clearing of the area behind so many bytes, if they are parts of one
 abbrev pub clear_task : Option ℕ → Task
@@ -141,9 +139,7 @@ ring_task_in c =
 abbrev pub block_task_in : Coded → Task
 block_task_in c =
     if nat_eq c.task 11 then tasks.Step (block_in c.how c.two) else (
-    if nat_eq c.task 12 then tasks.Fetch else (
-    if nat_eq c.task 13 then tasks.Transfer else (
-    if nat_eq c.task 14 then tasks.Store else tasks.Interrupt)))
+    if nat_eq c.task 12 then tasks.Transfer else tasks.Interrupt)
 
 abbrev pub task_in : Coded → Task
 task_in c =

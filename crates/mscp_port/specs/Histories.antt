@@ -115,8 +115,7 @@ IsNamedForData calls address count = (b : Buffer) × NamesBuffer (reads calls) b
 abbrev pub IsNamed : List Call → Action → Type 0
 IsNamed calls (actions.Read address count) = IsNamedForRings calls address count
 IsNamed calls (actions.Write address count) = IsNamedForRings calls address count
-IsNamed calls (actions.Fetch address count) = IsNamedForData calls address count
-IsNamed calls (actions.Store address count) = IsNamedForData calls address count
+IsNamed calls (actions.Transfer kind unit block address count) = IsNamedForData calls address count
 IsNamed calls action = Unit {0}
 
 -- ---- laws

@@ -37,8 +37,8 @@ blocks_in unit (call ∷ earlier) = blocks_in unit earlier
 abbrev pub PortsMoveOnVolumes : Type 0 → Type 0
 PortsMoveOnVolumes K =
     (hardware : Hardware) (credits : ℕ) (controller : Holdings K) (start p : Port K) (calls : List Call)
-    (blocks : Bool) (kind : MoveKind) (unit block count : ℕ) (bytes : List ℕ)
+    (blocks : Bool) (kind : MoveKind) (unit block address count : ℕ) (bytes : List ℕ)
     → IsMadeOf hardware credits controller start
-    → Answered start (Next blocks (actions.Transfer kind unit block count) bytes ∷ calls) p
+    → Answered start (Next blocks (actions.Transfer kind unit block address count) bytes ∷ calls) p
     → (is_loaded unit calls ≡ true) × (writes kind ≡ true → is_locked unit calls ≡ false)
     × (block < blocks_in unit calls)

@@ -86,9 +86,9 @@ IsMounted place start p (call ∷ earlier) a m =
 abbrev pub PortsMoveAsMounted : Type 0 → Type 0
 PortsMoveAsMounted K =
     (hardware : Hardware) (credits : ℕ) (controller : Holdings K) (start p : Port K) (calls : List Call)
-    (blocks : Bool) (kind : MoveKind) (unit block count place : ℕ) (bytes : List ℕ) (m : Mount)
+    (blocks : Bool) (kind : MoveKind) (unit block address count place : ℕ) (bytes : List ℕ) (m : Mount)
     → IsMadeOf hardware credits controller start
-    → (a : Answered start (Next blocks (actions.Transfer kind unit block count) bytes ∷ calls) p)
+    → (a : Answered start (Next blocks (actions.Transfer kind unit block address count) bytes ∷ calls) p)
     → place_in p.controller.settings.units unit ≡ Some place
-    → IsMounted place start p (Next blocks (actions.Transfer kind unit block count) bytes ∷ calls) a m
+    → IsMounted place start p (Next blocks (actions.Transfer kind unit block address count) bytes ∷ calls) a m
     → (m.volume ≡ Some (volume_at p.volumes place).changes) × (writes kind ≡ true → m.is_protected ≡ false)

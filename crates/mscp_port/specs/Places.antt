@@ -74,8 +74,7 @@ IsPutForData calls address count =
 abbrev pub IsPut : List Call → Action → Type 0
 IsPut calls (actions.Read address count) = IsPutForRings calls address count
 IsPut calls (actions.Write address count) = IsPutForRings calls address count
-IsPut calls (actions.Fetch address count) = IsPutForData calls address count
-IsPut calls (actions.Store address count) = IsPutForData calls address count
+IsPut calls (actions.Transfer kind unit block address count) = IsPutForData calls address count
 IsPut calls action = Unit {0}
 
 -- the law of places: whoever calls a port that was made over a controller, and tells of reads only after they were

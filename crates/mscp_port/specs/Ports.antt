@@ -96,23 +96,14 @@ abbrev pub IsReadingText : Task → Type 0
 IsReadingText (tasks.Text slot length foreign) = Unit {0}
 IsReadingText task = ⊥
 
--- it moves a block, or the bytes of one
-abbrev pub IsMoving : Task → Type 0
-IsMoving tasks.Fetch = Unit {0}
-IsMoving tasks.Transfer = Unit {0}
-IsMoving tasks.Store = Unit {0}
-IsMoving task = ⊥
-
 -- a step of a command is taken, with a block or without one
 abbrev pub IsOfBlock : Task → Type 0
 IsOfBlock (tasks.Step block) = Unit {0}
-IsOfBlock tasks.Fetch = Unit {0}
 IsOfBlock tasks.Transfer = Unit {0}
 IsOfBlock task = ⊥
 
--- a block that is in hand and wasn't moved is put aside: its step stays begun, and is taken in hand anew
+-- a block that is in hand is put aside: its step stays begun, and is taken in hand anew
 abbrev pub aside : Task → Task
-aside tasks.Fetch = tasks.Free
 aside tasks.Transfer = tasks.Free
 aside task = task
 
@@ -207,6 +198,5 @@ IsInSomeBuffer p address count = (b : Buffer) × Contains p.buffers.items b × I
 abbrev pub IsWithin : {K : Type 0} → Port K → Action → Type 0
 IsWithin p (actions.Read address count) = IsInRingsOrPacket p address count
 IsWithin p (actions.Write address count) = IsInRingsOrPacket p address count
-IsWithin p (actions.Fetch address count) = IsInSomeBuffer p address count
-IsWithin p (actions.Store address count) = IsInSomeBuffer p address count
+IsWithin p (actions.Transfer kind unit block address count) = IsInSomeBuffer p address count
 IsWithin p action = Unit {0}

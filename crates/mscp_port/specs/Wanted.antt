@@ -75,6 +75,4 @@ IsWanted p (tasks.Neighbour side) action =
 IsWanted p (tasks.Word side) action = InRings p action (λ r. action ≡ actions.Write (word_of r side) 2)
 IsWanted p (tasks.Clear done) action =
     InRings p action (λ r. action ≡ actions.Write (clear_from p r done) (clear_count p r done))
-IsWanted p tasks.Fetch action = action ≡ move_wanted p (block_begun p)
 IsWanted p tasks.Transfer action = action ≡ move_wanted p (block_begun p)
-IsWanted p tasks.Store action = action ≡ move_wanted p (block_begun p)

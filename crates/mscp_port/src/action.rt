@@ -23,20 +23,13 @@ pub enum Action {
     },
     /// The host is to be interrupted by this vector.
     Interrupt(u16),
-    /// So many bytes of host memory are to be read into the block's buffer. The rest of the buffer is to be zeros.
-    Fetch {
-        address: u32,
-        count: u32,
-    },
-    /// The block's buffer is to be moved to a unit's block or from it, or so many of its bytes to be compared with it.
+    /// A block of a unit is to be moved, and so many bytes of host memory from an address on. READ writes the first bytes of the
+    /// block there; WRITE writes the bytes, with zeros behind them, to the block; COMPARE HOST DATA compares them with its
+    /// first. ACCESS reads the block, and ERASE writes zeros to it: these touch no memory.
     Transfer {
         kind: MoveKind,
         unit: u16,
         block: u32,
-        count: u32,
-    },
-    /// So many bytes of the block's buffer are to be written to host memory.
-    Store {
         address: u32,
         count: u32,
     },
@@ -47,8 +40,8 @@ pub enum Action {
 pub enum Ask {
     /// All that it wants.
     All,
-    /// Messages alone, while a block takes its time: no block is begun, and one that is in hand and wasn't moved is wanted anew,
-    /// from its first part on, once all is asked for.
+    /// Messages alone, while a block takes its time: no block is begun, and one that is in hand is wanted anew once all is asked
+    /// for.
     Messages,
 }
 

@@ -193,9 +193,7 @@ pub(crate) fn coded_task(task: Task) -> Coded
         Task::Word(side) => of_ring(9, side),
         Task::Interrupt => bare(10),
         Task::Step(block) => coded_step(block),
-        Task::Fetch => bare(12),
-        Task::Transfer => bare(13),
-        Task::Store => bare(14),
+        Task::Transfer => bare(12),
     }
 }
 
@@ -268,9 +266,7 @@ fn block_task_in(coded: Coded) -> Task
 {
     match coded.task {
         11 => Task::Step(block_in(coded.how, coded.two)),
-        12 => Task::Fetch,
-        13 => Task::Transfer,
-        14 => Task::Store,
+        12 => Task::Transfer,
         _ => Task::Interrupt,
     }
 }

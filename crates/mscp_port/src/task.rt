@@ -41,12 +41,8 @@ pub(crate) enum Task {
     Interrupt,
     /// A step of a command that moves no block, with this outcome, is taken once the machine went on a little.
     Step(Block),
-    /// The host's bytes are fetched.
-    Fetch,
     /// A block is moved.
     Transfer,
-    /// The host gets its bytes.
-    Store,
 }
 
 impl Task {

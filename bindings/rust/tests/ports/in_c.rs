@@ -9,7 +9,6 @@ use crate::machine::{Machine, LIMITS, UNIT};
 /// C's port, and what port.c does for one.
 pub struct InC {
     pub port: Raw,
-    pub block: [u8; BLOCK],
     pub machine: Machine,
 }
 
@@ -20,7 +19,7 @@ impl InC {
         // SAFETY: the handle is that of memory of its own, in which nothing was made; all else is there.
         let status = unsafe { raw::mscp_port_init_at(port.handle(), &limits, &unit, 1, 1, &hardware, 8) };
         assert_eq!(status, status::DONE);
-        Self { port, block: [0; BLOCK], machine }
+        Self { port, machine }
     }
 
     /// The next action, of messages alone or of all, or nothing.
@@ -70,31 +69,28 @@ impl InC {
                 self.machine.interrupt(it.vector);
                 self.tell(0, 0)
             }
-            5 => {
-                let it = self.machine.read(address, &mut bytes[..count]);
-                self.block = if it.is_ok() { bytes } else { [0; BLOCK] };
-                self.went(it)
-            }
-            6 => self.transfer(it),
-            7 => {
-                let it = self.machine.write(address, &{ self.block }[..count]);
-                self.went(it)
-            }
+            5 => self.transfer(it, address, count),
             _ => self.tell(0, 0),
         }
     }
 
-    fn transfer(&mut self, it: &raw::Action) -> i32 {
-        let mut other = [0; BLOCK];
+    fn transfer(&mut self, it: &raw::Action, address: u32, count: usize) -> i32 {
+        let (mut here, mut there) = ([0; BLOCK], [0; BLOCK]);
+        if it.opcode == 34 || it.opcode == 32 {
+            if let Err(fault) = self.machine.read(address, &mut here[..count]) {
+                return self.went::<()>(Err(fault));
+            }
+        }
         let went = match it.opcode {
-            33 => self.machine.read_block(it.unit, it.block, &mut self.block),
-            34 => self.machine.write_block(it.unit, it.block, &self.block),
-            18 => self.machine.write_block(it.unit, it.block, &other),
-            _ => self.machine.read_block(it.unit, it.block, &mut other),
+            34 | 18 => self.machine.write_block(it.unit, it.block, &here),
+            _ => self.machine.read_block(it.unit, it.block, &mut there),
         };
-        let count = it.count as usize;
         match went {
-            Ok(()) if it.opcode == 32 && other[..count] != self.block[..count] => self.tell(4, 0),
+            Ok(()) if it.opcode == 32 && there[..count] != here[..count] => self.tell(4, 0),
+            Ok(()) if it.opcode == 33 => {
+                let it = self.machine.write(address, &there[..count]);
+                self.went(it)
+            }
             Ok(()) => self.tell(0, 0),
             Err(block) => self.tell(5, block.status()),
         }

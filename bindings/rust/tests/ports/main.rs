@@ -172,7 +172,7 @@ impl Both {
     }
 
     fn agree(&mut self) {
-        assert!(self.machine == self.c.machine && *self.safe.block() == self.c.block);
+        assert!(self.machine == self.c.machine);
         assert_eq!(&*self.safe.save(), self.c.saved());
     }
 
@@ -181,9 +181,7 @@ impl Both {
         if random.below(2) == 0 {
             self.safe = moved(std::mem::replace(&mut *self.safe, Both::new_port()));
         } else {
-            let block = *self.safe.block();
             self.safe = moved(Port::restore(&self.safe.save(), BusKind::Q).unwrap());
-            *self.safe.block_mut() = block;
         }
     }
 
@@ -199,7 +197,7 @@ fn is_that(action: &Action, it: &raw::Action) {
         33 => Way::Read,
         34 => Way::Write,
         18 => Way::Erase,
-        32 => Way::Compare { count },
+        32 => Way::Compare,
         _ => Way::Access,
     };
     match action {
@@ -207,11 +205,10 @@ fn is_that(action: &Action, it: &raw::Action) {
         Action::Read { address: a, count: c } => assert_eq!((2, address, count), (it.kind, *a, *c)),
         Action::Write { address: a, bytes } => assert_eq!((3, address, &it.bytes[..count]), (it.kind, *a, &**bytes)),
         Action::Interrupt { vector } => assert_eq!((4, *vector), (it.kind, it.vector)),
-        Action::Fetch { address: a, count: c } => assert_eq!((5, address, count), (it.kind, *a, *c)),
-        Action::Transfer { unit, block, way: w } => {
-            assert_eq!((6, *unit, *block, *w), (it.kind, it.unit, it.block, way))
+        Action::Transfer { unit, block, address: a, count: c, way: w } => {
+            assert_eq!((5, *unit, *block, *w), (it.kind, it.unit, it.block, way));
+            assert_eq!((*a, *c), (address, count));
         }
-        Action::Store { address: a, count: c } => assert_eq!((7, address, count), (it.kind, *a, *c)),
     }
 }
 

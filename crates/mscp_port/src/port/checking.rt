@@ -1,30 +1,40 @@
 // What is in hand is checked again: while it is, a volume may come or go.
 
-ghost use Rattle.std.specs.Prelude.{◌≡◌, ◌≤◌, ◌%◌, true, IfSome, None};
-ghost use Rattle.mscp_port.specs.Common.{has_block, MayMoveUnit, block_begun, fault_now, IsOnVolume, MayMove};
-ghost use Rattle.mscp_port.specs.Blocks.{fault_with as fault_of};
+ghost use Rattle.std.specs.Prelude.{◌≡◌, ◌≤◌, ◌%◌, true, IfErr, IfOk, IfSome, IsOk};
+ghost use Rattle.mscp_port.specs.Common.{has_block, IsInBuffer, IsInSomeBuffer, MayMoveUnit, block_begun, block_served, part_now, part_with, IsOnVolume, MayMove};
 
+use crate::action::Outcome;
 use crate::buffers::{Buffer, find_buffer};
 use crate::filling::STEP_WITHOUT_VOLUME;
 use crate::port::Port;
-use crate::port::serving::{DRIVE_ERROR, move_of, refusal};
+use crate::port::serving::{DRIVE_ERROR, MISSING, bad, block_of, move_of, refusal};
 use crate::volumes::Volume;
 use mscp_packet::MoveKind;
-use mscp_queue::{Picker, Upcoming};
+use mscp_queue::{Block, Picker, Upcoming};
 
-/// Why a step may not go on that moves this block so, if it may not, of whose command this is kept, and whose unit has this
-/// volume now.
-fn fault_with(kind: MoveKind, block: u32, buffer: &Buffer, volume: &Volume) -> Option<u16>
-    ensures value { result ≡ fault_of kind block buffer.now volume.now }
-    ensures status { IfSome result (λ status. 5 ≤ status % 32) }
+/// The part of its command's buffer that a step is about which moves this block so, behind so many others, or the status by
+/// which it may not go on. This is kept of its command, and its unit has this volume now.
+pub(crate) fn part_with(
+    kind: MoveKind,
+    block: u32,
+    done: u32,
+    buffer: &Buffer,
+    volume: &Volume,
+) -> Result<(u32, u32), u16>
+    ensures value { result ≡ part_with kind block done buffer.now volume.now }
+    ensures status { IfErr result (λ status. 5 ≤ status % 32) }
     // It goes on only on the volume that was there when its command came, and that its unit was brought online with.
-    ensures safe { result ≡ None → IsOnVolume buffer.now volume.now }
-    ensures moves { result ≡ None → MayMove kind block volume.now }
+    ensures safe { IsOk result → IsOnVolume buffer.now volume.now }
+    ensures moves { IsOk result → MayMove kind block volume.now }
+    ensures inside { IfOk result (λ part. IsInBuffer buffer.now part.0 part.1) }
 {
     if !volume.is_there || buffer.changes != volume.changes {
-        return Some(STEP_WITHOUT_VOLUME);
+        return Err(STEP_WITHOUT_VOLUME);
     }
-    refusal(kind, block, buffer, volume)
+    match refusal(kind, block, buffer, volume) {
+        Some(status) => Err(status),
+        None => buffer.part(done).ok_or(MISSING),
+    }
 }
 
 impl<K: Picker> Port<K> {
@@ -40,11 +50,17 @@ impl<K: Picker> Port<K> {
         Some((upcoming, kind, block))
     }
 
-    /// Why a step may not go on that moves this block so, if it may not.
-    pub(crate) fn fault_of(&self, upcoming: &Upcoming, kind: MoveKind, block: u32) -> Option<u16>
-        ensures value { result ≡ fault_now self.now upcoming.now kind block }
-        ensures status { IfSome result (λ status. 5 ≤ status % 32) }
-        ensures moves { result ≡ None → MayMoveUnit kind upcoming.now.command.unit block self.now }
+    /// The part of its command's buffer that a step is about which moves this block so, or the status by which it may not go on.
+    pub(crate) fn part(
+        &self,
+        upcoming: &Upcoming,
+        kind: MoveKind,
+        block: u32,
+    ) -> Result<(u32, u32), u16>
+        ensures value { result ≡ part_now self.now upcoming.now kind block }
+        ensures status { IfErr result (λ status. 5 ≤ status % 32) }
+        ensures moves { IsOk result → MayMoveUnit kind upcoming.now.command.unit block self.now }
+        ensures inside { IfOk result (λ part. IsInSomeBuffer self.now part.0 part.1) }
     {
         let command = &upcoming.command;
         let buffer = find_buffer(
@@ -54,9 +70,23 @@ impl<K: Picker> Port<K> {
         );
         match (self.place_of(command.unit), buffer) {
             (Some(place), Some(buffer)) => {
-                fault_with(kind, block, &buffer, &self.volumes[place])
+                part_with(kind, block, upcoming.done, &buffer, &self.volumes[place])
             }
-            _ => Some(DRIVE_ERROR),
+            _ => Err(DRIVE_ERROR),
+        }
+    }
+
+    /// How the block in hand was served whose action went so. Its step may have to end all the same: while it was under way a
+    /// volume may have gone. Only restored bytes say one in hand where none is begun.
+    pub(crate) fn block_served(&self, outcome: Outcome) -> Block
+        ensures { result ≡ block_served self.now outcome (block_begun self.now) }
+    {
+        let Some((upcoming, kind, block)) = self.block_begun() else {
+            return bad(DRIVE_ERROR);
+        };
+        match self.part(&upcoming, kind, block) {
+            Ok(_) => block_of(outcome),
+            Err(status) => bad(status),
         }
     }
 }

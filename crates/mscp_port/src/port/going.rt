@@ -1,7 +1,7 @@
 // How what the port wanted done went.
 
 ghost use Rattle.std.specs.Prelude.{◌≡◌, ◌⊎◌, ◌↔◌, ◌+◌, ◌%◌, if◌then◌else◌, ◌==◌, Contains, IfSome, IsOk, IsTrue, MatchOption, None};
-ghost use Rattle.mscp_port.specs.Common.{ChangesByService, ChangesByWord, Responses, Clears, GivesBack, counted, vector_in, Dies, Goes, TakesStep, GoesOnWithBlock, Moves, MovesOn, IsAsNew, IsOutcomeOf, in_hand};
+ghost use Rattle.mscp_port.specs.Common.{ChangesByWord, Responses, Clears, GivesBack, counted, vector_in, Dies, Goes, TakesStep, Moves, IsAsNew, IsOutcomeOf, in_hand};
 ghost use Rattle.mscp_port.specs.declared.action.Outcome.TheVariants as outcomes;
 ghost use Rattle.mscp_port.specs.declared.buffers.Buffer.{Buffer as Kept};
 ghost use Rattle.mscp_port.specs.declared.stage.Stage.TheVariants as stages;
@@ -9,7 +9,6 @@ ghost use Rattle.mscp_port.specs.declared.task.Task.TheVariants as tasks;
 
 use crate::action::{Outcome, Unasked};
 use crate::port::Port;
-use crate::port::serving::{DRIVE_ERROR, bad};
 use crate::rings::Side;
 use crate::sizes::{CLEARED, ClearSize};
 use crate::slot::Descriptor;
@@ -40,7 +39,7 @@ impl<K: Picker> Port<K> {
             Task::Word(_) => self.interrupt(),
             Task::Interrupt => self.task = Task::Free,
             Task::Step(block) => self.finish(block),
-            Task::Fetch | Task::Transfer | Task::Store => self.move_on(outcome),
+            Task::Transfer => self.finish(self.block_served(outcome)),
         }
         Ok(())
     }
@@ -55,24 +54,6 @@ impl<K: Picker> Port<K> {
                 *outcome != Outcome::Done
             }
             _ => true,
-        }
-    }
-
-    /// A part of a step was done, if what is kept of its command says what part.
-    fn move_on(&mut self, outcome: Outcome)
-        ensures moves { MovesOn (K.picks self.old.controller.picker) outcome self.old self.new }
-        ensures blocks { GoesOnWithBlock self.old self.new }
-        ensures frame { ChangesByService self.old self.new }
-        ensures settings { self.new.controller.settings ≡ self.old.controller.settings }
-        ensures buffers { (b : Kept) → Contains self.new.buffers.items b → Contains self.old.buffers.items b }
-        ensures packet { in_hand self.new.task ≡ None }
-    {
-        let Some((upcoming, kind, block)) = self.block_begun() else {
-            return self.finish(bad(DRIVE_ERROR));
-        };
-        match self.part(&upcoming, kind, block) {
-            Some(_) => self.moved(kind, outcome),
-            None => self.lost(&upcoming, kind, block),
         }
     }
 

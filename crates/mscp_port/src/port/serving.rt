@@ -1,7 +1,7 @@
 // How blocks are moved.
 
 ghost use Rattle.std.specs.Prelude.{◌≡◌, ◌≤◌, ◌%◌, ◌⊎◌, [], Contains, IfSome, Option, None, Some};
-ghost use Rattle.mscp_port.specs.Common.{ChangesByService, first_of, move_of, refusal_of, task_of, Foretells, begun_step, FollowsPart, GoesOnWithBlock, TakesBegun, TakesBlock, anyhow, begun_task, fault_now, lost_with, MayBegin, IsMoving, IsOfBlock, in_hand, IsOnVolume, MayMove};
+ghost use Rattle.mscp_port.specs.Common.{ChangesByService, move_of, refusal_of, task_of, Foretells, begun_step, GoesOnWithBlock, TakesBegun, TakesBlock, anyhow, begun_task, MayBegin, IsOfBlock, in_hand, IsOnVolume, MayMove};
 ghost use Rattle.mscp_port.specs.declared.buffers.Buffer.{Buffer as Kept};
 ghost use Rattle.mscp_port.specs.Blocks.{block_of as block_after, has_host_bytes as has_bytes, writes as writes_to};
 ghost use Rattle.mscp_queue.specs.declared.upcoming.Upcoming.{Upcoming as Foretold};
@@ -11,6 +11,7 @@ use crate::action::Outcome;
 use crate::buffers::{Buffer, find_buffer};
 use crate::filling::{STEP_WITHOUT_ONLINE, STEP_WITHOUT_VOLUME};
 use crate::port::Port;
+use crate::port::checking::part_with;
 use crate::task::Task;
 use crate::volumes::Volume;
 use mscp_packet::{MoveKind, Order};
@@ -22,7 +23,7 @@ const ODD_ADDRESS: u16 = 0x0029;
 
 const ODD_COUNT: u16 = 0x0049;
 
-const MISSING: u16 = 0x0069;
+pub(crate) const MISSING: u16 = 0x0069;
 
 const PARITY: u16 = 0x0089;
 
@@ -51,7 +52,7 @@ pub(crate) fn bad(status: u16) -> Block
 }
 
 /// How a block was served whose action went so.
-fn block_of(outcome: Outcome) -> Block
+pub(crate) fn block_of(outcome: Outcome) -> Block
     ensures { result ≡ block_after outcome }
 {
     match outcome {
@@ -102,18 +103,6 @@ pub(crate) fn refusal(kind: MoveKind, block: u32, buffer: &Buffer, volume: &Volu
     }
 }
 
-/// What is done first for a step of a transfer: the bytes of host memory are fetched, or the block is moved.
-fn first_task(kind: MoveKind) -> Task
-    ensures value { result ≡ first_of kind }
-    ensures packet { in_hand result ≡ None }
-    ensures block { IsOfBlock result }
-{
-    match kind {
-        MoveKind::Compare | MoveKind::Write => Task::Fetch,
-        MoveKind::Access | MoveKind::Erase | MoveKind::Read => Task::Transfer,
-    }
-}
-
 /// How a step moves a block, and which, if it moves one: a step of a transfer, to a unit that is online.
 pub(crate) fn move_of(upcoming: &Upcoming) -> Option<(MoveKind, u32)>
     ensures value { result ≡ move_of upcoming.now }
@@ -131,7 +120,7 @@ fn task_for(upcoming: &Upcoming, buffer: &Buffer, volume: &Volume) -> Task
     ensures packet { in_hand result ≡ None }
     ensures block { IsOfBlock result }
     // No block is moved on a volume that came after its command, or that its unit wasn't brought online with.
-    ensures safe { IsMoving result → IsOnVolume buffer.now volume.now }
+    ensures safe { result ≡ tasks.Transfer → IsOnVolume buffer.now volume.now }
 {
     if matches!(upcoming.command.order, Order::Available) {
         return Task::Step(Block::Good);
@@ -142,14 +131,11 @@ fn task_for(upcoming: &Upcoming, buffer: &Buffer, volume: &Volume) -> Task
     let Some((kind, block)) = move_of(upcoming) else {
         return Task::Step(Block::Good);
     };
-    if let Some(status) = refusal(kind, block, buffer, volume) {
-        return Task::Step(bad(status));
-    }
-    match buffer.part(upcoming.done) {
-        None => Task::Step(bad(MISSING)),
+    match part_with(kind, block, upcoming.done, buffer, volume) {
+        Err(status) => Task::Step(bad(status)),
         // A transfer of no bytes names a block, and moves nothing.
-        Some((_, 0)) => Task::Step(Block::Good),
-        Some(_) => first_task(kind),
+        Ok((_, 0)) => Task::Step(Block::Good),
+        Ok(_) => Task::Transfer,
     }
 }
 
@@ -221,39 +207,4 @@ impl<K: Picker> Port<K> {
         }
     }
 
-    /// A step that may not go on ends its command: its volume has changed, or its buffer isn't known.
-    pub(crate) fn lost(&mut self, upcoming: &Upcoming, kind: MoveKind, block: u32)
-        ensures takes { TakesBegun (K.picks self.old.controller.picker)
-            (lost_with (fault_now self.old upcoming.now kind block)) self.old self.new }
-        ensures blocks { GoesOnWithBlock self.old self.new }
-        ensures frame { ChangesByService self.old self.new }
-        ensures settings { self.new.controller.settings ≡ self.old.controller.settings }
-        ensures buffers { (b : Kept) → Contains self.new.buffers.items b → Contains self.old.buffers.items b }
-        ensures packet { in_hand self.new.task ≡ None }
-    {
-        let status = match self.fault_of(upcoming, kind, block) {
-            Some(status) => status,
-            None => DRIVE_ERROR,
-        };
-        self.finish(bad(status));
-    }
-
-    /// A part of a step was done: the host's bytes are fetched, then the block is moved, and what was read goes to the host.
-    /// A fault ends the command.
-    pub(crate) fn moved(&mut self, kind: MoveKind, outcome: Outcome)
-        ensures moves { FollowsPart (K.picks self.old.controller.picker) outcome kind self.old self.new }
-        ensures blocks { GoesOnWithBlock self.old self.new }
-        ensures frame { ChangesByService self.old self.new }
-        ensures settings { self.new.controller.settings ≡ self.old.controller.settings }
-        ensures buffers { (b : Kept) → Contains self.new.buffers.items b → Contains self.old.buffers.items b }
-        ensures packet { in_hand self.new.task ≡ None }
-    {
-        match self.task {
-            Task::Fetch if outcome == Outcome::Done => self.task = Task::Transfer,
-            Task::Transfer if outcome == Outcome::Done && kind == MoveKind::Read => {
-                self.task = Task::Store;
-            }
-            _ => self.finish(block_of(outcome)),
-        }
-    }
 }

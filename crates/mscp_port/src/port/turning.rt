@@ -1,23 +1,20 @@
 // What the port wants done.
 
-ghost use Rattle.std.specs.Prelude.{◌≡◌, ◌≢◌, ◌≤◌, ◌<◌, ◌⊎◌, ◌+◌, ◌-◌, ◌*◌, ◌^◌, ℕ, true, false, length, Contains, IfSome, IsSome, min, replicate, None, Some};
-ghost use Rattle.mscp_port.specs.Common.{ChangesBySaying, little_bytes, Responses, Commands, IsInArea, end_of, slot_in, slots_of, kept_of, IsInBuffer, Wants, asked, asks_blocks, HasNothingToHear, HasNothingToSay, IsAlive, IsDue, IsIdleUp, IsOfBlock, IsInSomeBuffer, IsWithin, in_hand, BeginsBlock, MayMoveOn, MayMoveUnit, block_begun, is_storing, move_wanted, part_kept, part_now, KeepsSaying, Says, TakesEnd, TellsNews, credits_told, packet_of, text_of, IsWanted, clear_count, clear_from, given_in, packet_out};
+ghost use Rattle.std.specs.Prelude.{◌≡◌, ◌≢◌, ◌≤◌, ◌<◌, ◌⊎◌, ◌+◌, ◌-◌, ◌*◌, ◌^◌, ℕ, true, false, length, IfSome, min, replicate, None, Some};
+ghost use Rattle.mscp_port.specs.Common.{ChangesBySaying, little_bytes, Responses, Commands, IsInArea, end_of, slot_in, slots_of, Wants, asked, asks_blocks, HasNothingToHear, HasNothingToSay, IsAlive, IsDue, IsIdleUp, IsOfBlock, IsWithin, in_hand, BeginsBlock, MayMoveOn, block_begun, move_wanted, KeepsSaying, Says, TakesEnd, TellsNews, credits_told, packet_of, text_of, IsWanted, clear_count, clear_from, given_in, packet_out};
 ghost use Rattle.mscp_port.specs.declared.action.Action.TheVariants as actions;
-ghost use Rattle.mscp_port.specs.declared.buffers.Buffer.{Buffer as Kept};
 ghost use Rattle.mscp_port.specs.declared.stage.Stage.TheVariants as stages;
 ghost use Rattle.mscp_port.specs.declared.task.Task.TheVariants as tasks;
 ghost use Rattle.mscp_packet.specs.declared.command.MoveKind.{MoveKind as Kind};
 
 use crate::action::{Action, Ask};
-use crate::buffers::{Buffer, find_buffer};
 use crate::port::Port;
 use crate::rings::{Rings, Side};
 use crate::sizes::ClearSize;
 use crate::slot::Descriptor;
 use crate::stage::Stage;
 use crate::task::Task;
-use mscp_packet::MoveKind;
-use mscp_queue::{Picker, Upcoming};
+use mscp_queue::Picker;
 
 /// The bytes of a packet's header, which stands in front of its text.
 const HEADER: u32 = 4;
@@ -43,19 +40,9 @@ fn number_before(rings: &Rings, side: Side, number: u32) -> u32
     number + 2 * rings.slots(side) - 2
 }
 
-/// The part of the buffer that is kept of a step's command.
-fn part_in(buffers: &[Buffer], upcoming: &Upcoming) -> Option<(u32, u32)>
-    ensures value { result ≡ part_kept
-        (kept_of upcoming.now.connection upcoming.now.command.reference buffers.now) upcoming.now.done }
-    ensures inside { IfSome result (λ part. (b : Kept) × Contains buffers.now b × IsInBuffer b part.0 part.1) }
-{
-    let buffer = find_buffer(buffers, upcoming.connection, upcoming.command.reference)?;
-    buffer.part(upcoming.done)
-}
-
 impl<K: Picker> Port<K> {
     /// What the port wants done next. Until it is told how that went it answers the same, unless a register is touched. If
-    /// messages alone are asked for, a block that is in hand and wasn't moved is put aside.
+    /// messages alone are asked for, a block that is in hand is put aside.
     pub fn next(&mut self, ask: Ask) -> Action
         ensures wants { Wants (asks_blocks ask) (asked ask self.old) result self.new }
         ensures begins { IsAlive (asked ask self.old) → (asked ask self.old).task ≡ tasks.Free
@@ -66,11 +53,11 @@ impl<K: Picker> Port<K> {
         self.want(ask)
     }
 
-    /// A block that is in hand and wasn't moved is put aside, if messages alone are asked for.
+    /// A block that is in hand is put aside, if messages alone are asked for.
     fn put_aside(&mut self, ask: Ask)
         ensures { self.new ≡ asked ask self.old }
     {
-        if let (Ask::Messages, Task::Fetch | Task::Transfer) = (ask, self.task) {
+        if let (Ask::Messages, Task::Transfer) = (ask, self.task) {
             self.task = Task::Free;
         }
     }
@@ -151,8 +138,8 @@ impl<K: Picker> Port<K> {
     fn action(&self) -> Action
         ensures within { IsWithin self.now result }
         ensures wanted { IsWanted self.now self.now.task result }
-        ensures moves { (kind : Kind) (unit block count : ℕ) → result ≡ actions.Transfer kind unit block count
-            → MayMoveOn kind unit block self.now }
+        ensures moves { (kind : Kind) (unit block address count : ℕ)
+            → result ≡ actions.Transfer kind unit block address count → MayMoveOn kind unit block self.now }
         ensures rests { result ≡ actions.Rest → self.now.task ≡ tasks.Free }
     {
         match (self.task, self.rings) {
@@ -180,7 +167,7 @@ impl<K: Picker> Port<K> {
                 address: rings.word(side),
                 count: 2,
             },
-            (Task::Fetch | Task::Transfer | Task::Store, _) => self.moving(),
+            (Task::Transfer, _) => self.moving(),
             _ => Action::Pause,
         }
     }
@@ -233,41 +220,26 @@ impl<K: Picker> Port<K> {
         }
     }
 
-    /// A part of the buffer of a command is to be moved, or its block.
+    /// The block is to be moved that is in hand, if its step may go on.
     fn moving(&self) -> Action
         ensures within { IsWithin self.now result }
         ensures value { result ≡ move_wanted self.now (block_begun self.now) }
-        ensures moves { (kind : Kind) (unit block count : ℕ) → result ≡ actions.Transfer kind unit block count
-            → MayMoveOn kind unit block self.now }
+        ensures moves { (kind : Kind) (unit block address count : ℕ)
+            → result ≡ actions.Transfer kind unit block address count → MayMoveOn kind unit block self.now }
         ensures some { result ≢ actions.Rest }
     {
         let Some((upcoming, kind, block)) = self.block_begun() else {
             return Action::Pause;
         };
-        match (self.task, self.part(&upcoming, kind, block)) {
-            (Task::Fetch, Some((address, count))) => Action::Fetch { address, count },
-            (Task::Store, Some((address, count))) => Action::Store { address, count },
-            (Task::Transfer, Some((_, count))) => Action::Transfer {
+        match self.part(&upcoming, kind, block) {
+            Ok((address, count)) => Action::Transfer {
                 kind,
                 unit: upcoming.command.unit,
                 block,
+                address,
                 count,
             },
-            _ => Action::Pause,
+            Err(_) => Action::Pause,
         }
-    }
-
-    /// The part of a command's buffer that a step is about, which moves this block so, if the step may go on.
-    pub(crate) fn part(&self, upcoming: &Upcoming, kind: MoveKind, block: u32) -> Option<(u32, u32)>
-        ensures value { result ≡ part_now self.now upcoming.now kind block }
-        ensures inside { IfSome result (λ part. IsInSomeBuffer self.now part.0 part.1) }
-        ensures moves { IsSome result → is_storing self.now.task ≡ false
-            → MayMoveUnit kind upcoming.now.command.unit block self.now }
-    {
-        // What was read goes to the host, even if its volume has gone since.
-        if !matches!(self.task, Task::Store) && self.fault_of(upcoming, kind, block).is_some() {
-            return None;
-        }
-        part_in(self.buffers.as_slice(), upcoming)
     }
 }
