@@ -170,7 +170,7 @@ static void held_back_is_seen(void)
     state_is(MSCP_STAGE_UP, 0, 0);
 }
 
-/* Two READs, of which the second weighs more than the budget, and a sequential command wait. docs/FORMATS.md has the sums. */
+/* Two READs, of which the second weighs more than the budget, and a sequential command wait. docs/MODEL.md has the sums. */
 static void waiting_is_seen(void)
 {
     static const uint32_t FIGURES[] = {BUDGET + 3, 3 + BUDGET + 513, 3 + 513 + BUDGET + 1};
