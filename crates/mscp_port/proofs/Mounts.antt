@@ -235,13 +235,13 @@ pub moves_as_mounted : {K : Type 0} (hardware : Hardware) (credits : ℕ) (contr
     → IsMounted place start p (Next blocks (actions.Transfer kind unit block address count) bytes ∷ calls) a m
     → (m.volume ≡ Some (volume_at p.volumes place).changes) × (writes kind ≡ true → m.is_protected ≡ false)
 unfolding mount_of
-moves_as_mounted hardware credits controller start p calls blocks kind unit block address count place bytes m made a here is =
-    let moves = a.2.0.moves kind unit block address count refl in
+moves_as_mounted hardware credits controller start p calls blocks kind unit block from count place bytes m made a h is =
+    let moves = a.2.0.moves kind unit block from count refl in
     let at = moves.1 in
     let same : moves.0 ≡ place = cc in
     let low : place < 16 = subst (λ i. i < 16) same moves.2 in
     let may = subst (λ i. MayMove kind block (volume_at p.volumes i)) same moves.3 in
     let e = there p.volumes place m may.there
     (held hardware credits controller place low start p
-    (Next blocks (actions.Transfer kind unit block address count) bytes ∷ calls) m made a is) in
+    (Next blocks (actions.Transfer kind unit block from count) bytes ∷ calls) m made a is) in
     (sym (ap (λ n. n.volume) e) ∙ may.mounted, λ writing. sym (ap (λ n. n.is_protected) e) ∙ may.host writing)
