@@ -1,4 +1,4 @@
-// A controller in a program of one's own. docs/USING.md has this code, and that of emulator.rt.
+// A controller in a program of one's own. docs/USING.md has parts of this code and of that of emulator.rt.
 
 mod beginning;
 mod emulator;

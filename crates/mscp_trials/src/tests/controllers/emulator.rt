@@ -1,4 +1,4 @@
-// The loop of an emulator, as docs/USING.md has it, and what it does.
+// The loop of an emulator, of which docs/USING.md has parts, and what it does.
 
 mod moving;
 
