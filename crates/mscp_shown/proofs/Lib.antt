@@ -1,0 +1,9 @@
+mod Counts
+mod Shown
+mod Taking
+mod Owed
+mod Answering
+mod Messages
+mod Small
+mod Kept
+mod Moments
