@@ -7,3 +7,11 @@ mod Messages
 mod Small
 mod Kept
 mod Moments
+mod Saying
+mod Reading
+mod Keeping
+mod Suiting
+mod Owners
+mod Owning
+mod Fitting
+mod Making

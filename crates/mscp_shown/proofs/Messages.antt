@@ -16,7 +16,7 @@ abbrev pub IsTallied : Settings → Connection → Trace → List Sent → Type 
 IsTallied c via t xs = (p : ℕ → Bool) → tally via p xs ≡ owed c via t p
 
 module _ (c : Settings) (via : Connection) (t : Trace) where
-  owed_is : (p : ℕ → Bool) → count_by p (outstanding c via t) ≡ owed c via t p
+  pub owed_is : (p : ℕ → Bool) → count_by p (outstanding c via t) ≡ owed c via t p
   unfolding outstanding
   owed_is p =
       let g : ℕ → ℕ = λ n. cond (p n) 1 0 in
@@ -27,7 +27,7 @@ module _ (c : Settings) (via : Connection) (t : Trace) where
       ∙ ap (λ n. count_by (λ x. p (reference t x)) (waiting_by via t) + n)
       (sum_by_map (λ (e : End). e.reference) g (untaken c via t))
 
-  new_number : (xs : List Sent) (n : ℕ) → IsTallied c via t xs → holds (outstanding c via t) n ≡ false
+  pub new_number : (xs : List Sent) (n : ℕ) → IsTallied c via t xs → holds (outstanding c via t) n ≡ false
       → tally via (λ x. nat_eq x n) xs ≡ 0
   new_number xs n same h =
       same (λ x. nat_eq x n) ∙ sym (owed_is (λ x. nat_eq x n))

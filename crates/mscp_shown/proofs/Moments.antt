@@ -1,21 +1,24 @@
 -- Each moment of a legal trace keeps what its parts keep, so that the whole trace does.
-use Rattle.mscp_controller.proofs.Basics.{◌≡◌, ℕ, zero, suc, ◌+◌, ◌<◌, ◌≤◌, false, not, List, [], ◌∷◌, ◌++◌, length, take, drop, get_or, refl, ap, sym, ◌∙◌, subst, arith, count_by, All, Option, Some, None, Ok, Err, AllByRecursion, recursion_from_All, Connection, End, IsOfKind, Settings, IsValid, Trace, Moment, moment, Service, takes, collect, ends, ends_at, untaken, waiting, every_append, every_parts, Event, Report, First, IsRight, IsLegal, ends_more, waiting_by, ArrayVec}
+use Rattle.mscp_controller.proofs.Basics.{◌≡◌, ℕ, zero, suc, ◌+◌, ◌<◌, ◌≤◌, true, false, not, List, [], ◌∷◌, ◌++◌, length, take, drop, get_or, refl, ap, sym, ◌∙◌, subst, arith, count_by, All, Option, Some, None, Ok, Err, AllByRecursion, recursion_from_All, Connection, End, IsOfKind, Settings, IsValid, Trace, Moment, moment, Service, takes, collect, ends, ends_at, untaken, waiting, every_append, every_parts, Event, Report, First, IsRight, IsLegal, ends_more, waiting_by, ArrayVec, Block, Command, Name, name, same_name, figure, figure_of, bound, find, is_queued, each_queued}
+use Rattle.std.specs.Prelude.{◌^◌}
+use Rattle.mscp_controller.specs.Figures.{figure_found}
+use Rattle.mscp_controller.proofs.Promise.Progress.{progress}
 use Rattle.mscp_controller.specs.declared.entry.Sent.{Sent}
 use Rattle.mscp_controller.specs.declared.entry.Entry.{Entry}
 use Rattle.std.proofs.lemmas.List.{get_or-take, length-take-le, take-append-drop, take-take, take_all}
 use Rattle.mscp_controller.proofs.Promise.Known.{Known, known, more_at}
 use Rattle.mscp_controller.proofs.Promise.Shaped.{shaped}
+use Rattle.mscp_events.specs.declared.block.Block.TheVariants.{Bad, Good}
 use Rattle.mscp_wire.specs.Wire.{outstanding}
-use Rattle.mscp_shown.specs.Keeping.{AreKept, Covers, IsOfBytes, LegalTracesAreKept}
+use Rattle.mscp_shown.specs.Keeping.{AreKept, Covers, IsPossible, LegalTracesAreKept}
 use Rattle.mscp_shown.specs.Shown.{shown}
-use Rattle.mscp_shown.proofs.Kept.{Inv, More, answered_more, queued_more, served_owed, shows_none, stills, took_more}
-use Rattle.mscp_shown.proofs.Small.{IsSmall, ends_small}
+use Rattle.mscp_shown.proofs.Kept.{Inv, More, answered_more, queued_more, served_more, stills, took_more}
+use Rattle.mscp_shown.proofs.Making.{Facts, even_more}
+use Rattle.mscp_shown.proofs.Owners.{every_drop}
+use Rattle.mscp_shown.proofs.Reading.{IsFit}
+use Rattle.mscp_shown.proofs.Small.{all_bytes}
+use Rattle.mscp_shown.proofs.Suiting.{IsFault}
 use Rattle.mscp_shown.proofs.Taking.{first_taken}
-
-every_drop : {X : Type 0} (P : X → Type 0) (n : ℕ) (xs : List X) → AllByRecursion P xs → AllByRecursion P (drop n xs)
-every_drop P zero xs h = h
-every_drop P (suc n) [] h = h
-every_drop P (suc n) (x ∷ xs) h = every_drop P n xs h.1
 
 -- what holds of all ends of a connection holds of those that weren't taken
 untaken_all : (P : End → Type 0) (c : Settings) (via : Connection) (t : Trace) → AllByRecursion P (ends c via t)
@@ -23,8 +26,12 @@ untaken_all : (P : End → Type 0) (c : Settings) (via : Connection) (t : Trace)
 unfolding untaken
 untaken_all P c via t h = every_drop P (count_by (λ (m : Moment). takes via m.1) t) (ends c via t) h
 
+fault_of : (k : Block) → IsPossible (Event.Step k) → IsFault k
+fault_of Good h = tt
+fault_of (Bad status) h = h
+
 module _ (c : Settings) (t : Trace) (k : Known c t)
-    (kinds : (via : Connection) → AllByRecursion IsOfKind (ends c via t)) (h : Inv c t) where
+    (kinds : (via : Connection) → AllByRecursion IsOfKind (ends c via t)) (facts : Facts c t) (h : Inv c t) where
   take_one : (own : Connection) (b : ArrayVec ℕ) → IsRight c t (Event.Take own) (Entry.Taken own (Some b))
       → More c t (Event.Take own, Entry.Taken own (Some b))
   take_one own b r =
@@ -32,23 +39,23 @@ module _ (c : Settings) (t : Trace) (k : Known c t)
       let e = first.0 in
       let is = first.2.is in
       let kind = subst (AllByRecursion IsOfKind) is (untaken_all IsOfKind c own t (kinds own)) in
-      let small = subst (AllByRecursion IsSmall) is (untaken_all IsSmall c own t (h.small own)) in
-      took_more c t own b k h e first.1 first.2 kind.0 small.0
+      let fit = subst (AllByRecursion IsFit) is (untaken_all IsFit c own t (h.fit own)) in
+      took_more c t own b k h e first.1 first.2 kind.0 fit.0
 
-  more : (event : Event) (entry : Entry) → IsRight c t event entry → More c t (event, entry)
-  more (Event.Send own b) (Entry.Sent other (Err fault)) r =
-      stills c t (Event.Send own b, Entry.Sent other (Err fault)) h k refl (λ via p. (refl, refl)) (λ n. refl)
+  more : (event : Event) (entry : Entry) → IsPossible event → IsRight c t event entry → More c t (event, entry)
+  more (Event.Send own b) (Entry.Sent other (Err fault)) may r =
+      stills c t (Event.Send own b, Entry.Sent other (Err fault)) h k refl (λ via p. (refl, refl)) (λ n. refl) refl
       (λ via. refl)
-  more (Event.Send own b) (Entry.Sent other (Ok (Sent.Queued q))) r =
+  more (Event.Send own b) (Entry.Sent other (Ok (Sent.Queued q))) may r =
       subst (λ o. More c t (Event.Send own b, Entry.Sent o (Ok (Sent.Queued q)))) (sym r.0)
       (queued_more c t own b k q h r.1)
-  more (Event.Send own b) (Entry.Sent other (Ok (Sent.Answered q a))) r =
+  more (Event.Send own b) (Entry.Sent other (Ok (Sent.Answered q a))) may r =
       subst (λ o. More c t (Event.Send own b, Entry.Sent o (Ok (Sent.Answered q a)))) (sym r.0)
-      (answered_more c t own b k q a h r.1)
-  more (Event.Step block) (Entry.Stepped Report.Idle) r =
-      stills c t (Event.Step block, Entry.Stepped Report.Idle) h k refl (λ via p. (refl, refl)) (λ n. refl)
+      (answered_more c t own b k q a h facts may r.1)
+  more (Event.Step block) (Entry.Stepped Report.Idle) may r =
+      stills c t (Event.Step block, Entry.Stepped Report.Idle) h k refl (λ via p. (refl, refl)) (λ n. refl) refl
       (λ via. refl)
-  more (Event.Step block) (Entry.Stepped (Report.Served other reference unit lbn started seek ended)) r =
+  more (Event.Step block) (Entry.Stepped (Report.Served other reference unit lbn started seek ended)) may r =
       let report = Report.Served other reference unit lbn started seek ended in
       let s : Service = record {
         connection = other;
@@ -59,34 +66,38 @@ module _ (c : Settings) (t : Trace) (k : Known c t)
         seek = seek;
         ended = ended;
       } in
-      shows_none c t (Event.Step block, Entry.Stepped report) h refl
-      (λ via p. served_owed c t block k h s report refl r ended refl via p refl)
-  more (Event.Take own) (Entry.Taken other None) r =
-      stills c t (Event.Take own, Entry.Taken other None) h k refl (λ via p. (refl, refl)) (λ n. refl) (λ via. refl)
-  more (Event.Take own) (Entry.Taken other (Some b)) r =
+      served_more c t block k h s report refl r ended refl r.0 r.1 (fault_of block may) facts refl (λ via. refl)
+  more (Event.Take own) (Entry.Taken other None) may r =
+      stills c t (Event.Take own, Entry.Taken other None) h k refl (λ via p. (refl, refl)) (λ n. refl) refl (λ via. refl)
+  more (Event.Take own) (Entry.Taken other (Some b)) may r =
       subst (λ o. More c t (Event.Take own, Entry.Taken o (Some b))) (sym r.0) (take_one own b (refl, r.1))
-  more Event.Look (Entry.Looked list) r =
-      stills c t (Event.Look, Entry.Looked list) h k refl (λ via p. (refl, refl)) (λ n. refl) (λ via. refl)
-  more event entry r = absurd r
+  more Event.Look (Entry.Looked list) may r =
+      stills c t (Event.Look, Entry.Looked list) h k refl (λ via p. (refl, refl)) (λ n. refl) refl (λ via. refl)
+  more event entry may r = absurd r
 
 inv_more : (c : Settings) (t : Trace) (m : Moment) → Known c t
-    → ((via : Connection) → AllByRecursion IsOfKind (ends c via t)) → AllByRecursion IsOfBytes t → IsOfBytes m
+    → ((via : Connection) → AllByRecursion IsOfKind (ends c via t)) → Facts c t → IsPossible m.0
     → IsRight c t m.0 m.1 → Inv c t → Inv c (t ++ m ∷ [])
-inv_more c t m k kinds bytes here r h =
-    let more = more c t k kinds h m.0 m.1 r in
+inv_more c t m k kinds facts may r h =
+    let one = more c t k kinds facts h m.0 m.1 may r in
     record {
-      tallied = more.tallied;
-      small = λ via. subst (AllByRecursion IsSmall) (sym (ends_more c via t m))
-          (every_append IsSmall (ends c via t) (ends_at c via t m) (h.small via)
-          (ends_small c via t m bytes here r k.steady.apart));
-      kept = more.kept;
+      tallied = one.tallied;
+      owners = one.owners;
+      queued = each_queued c (λ (k : Command). is_queued c k ≡ true) (λ k q. q) t m r h.queued;
+      even = even_more c t m r h.even;
+      fit = λ via. subst (AllByRecursion IsFit) (sym (ends_more c via t m))
+          (every_append IsFit (ends c via t) (ends_at c via t m) (h.fit via) (one.fit via));
+      kept = one.kept;
     }
 
 inv_empty : (c : Settings) → Inv c []
 unfolding shown waiting ends untaken collect
 inv_empty c = record {
   tallied = λ via p. refl;
-  small = λ via. tt;
+  owners = record { waits = tt; owed = λ via. tt };
+  queued = tt;
+  even = tt;
+  fit = λ via. tt;
   kept = λ credits covers i low. absurd (omega (arith, low));
 }
 
@@ -99,30 +110,51 @@ legal_part c t j h legal i low =
     rw (take-take i j t (omega (arith, l)), get_or-take j t i (Event.Take First, Entry.Taken First None) l)
     (legal i (omega (arith, l, h)))
 
-module _ (c : Settings) (t : Trace) (valid : IsValid c) (legal : IsLegal c t) (bytes : AllByRecursion IsOfBytes t) where
-  bytes_part : (i : ℕ) → i < length t → AllByRecursion IsOfBytes (take i t) × IsOfBytes (moment t i)
-  bytes_part i h =
-      let parts = every_parts IsOfBytes (take (i + 1) t) (drop (i + 1) t)
-      (subst (AllByRecursion IsOfBytes) (sym (take-append-drop (i + 1) t)) bytes) in
-      let both = every_parts IsOfBytes (take i t) (moment t i ∷ [])
-      (subst (AllByRecursion IsOfBytes) (more_at t i h) parts.0) in
+module _ (c : Settings) (t : Trace) (valid : IsValid c) (legal : IsLegal c t) (may : AllByRecursion (λ (m : Moment). IsPossible m.0) t) where
+  abbrev May : Moment → Type 0
+  May m = IsPossible m.0
+
+  may_part : (i : ℕ) → i < length t → AllByRecursion May (take i t) × May (moment t i)
+  may_part i h =
+      let parts = every_parts May (take (i + 1) t) (drop (i + 1) t)
+      (subst (AllByRecursion May) (sym (take-append-drop (i + 1) t)) may) in
+      let both = every_parts May (take i t) (moment t i ∷ [])
+      (subst (AllByRecursion May) (more_at t i h) parts.0) in
       (both.0, both.1.0)
+
+  -- no figure needs more than four bytes
+  figure_part : (i : ℕ) → i ≤ length t → (n : Name) → figure_of c (take i t) n < 2 ^ 32
+  unfolding figure_of
+  figure_part i h n =
+      let p = take i t in
+      found_small p (find (λ x. same_name (name p x) n) (waiting p)) ((progress c t valid legal).small i h)
+    where
+      found_small : (p : Trace) (o : Option ℕ) → ((x : ℕ) → figure c p x ≤ bound c) → figure_found c p o < 2 ^ 32
+      found_small p None all = omega arith
+      found_small p (Some x) all = omega (arith, all x, valid.small_bound)
 
   inv_at : (i : ℕ) → i ≤ length t → Inv c (take i t)
   inv_at zero h = inv_empty c
   inv_at (suc i) h =
       let low : i < length t = omega (arith, h) in
       let before = known c valid.some_blocks t legal i (omega (arith, h)) in
-      let parts = bytes_part i low in
+      let parts = may_part i low in
       let kinds = λ (via : Connection). recursion_from_All IsOfKind (ends c via (take i t))
       (shaped c via (take i t) (legal_part c t i (omega (arith, h)) legal)) in
       let one : suc i ≡ i + 1 = omega arith in
       let e : take (suc i) t ≡ take i t ++ moment t i ∷ [] =
       ap (λ n. take n t) one ∙ more_at t i low in
+      let there = inv_at i (omega (arith, h)) in
+      let facts : Facts c (take i t) = record {
+        bytes = all_bytes (take i t) parts.0;
+        figures = figure_part i (omega (arith, h));
+        queued = there.queued;
+        even = there.even;
+      } in
       subst (Inv c) (sym e)
-      (inv_more c (take i t) (moment t i) before kinds parts.0 parts.1 (legal i low) (inv_at i (omega (arith, h))))
+      (inv_more c (take i t) (moment t i) before kinds facts parts.1 (legal i low) there)
 
 pub are_kept : LegalTracesAreKept
-are_kept c t credits valid legal bytes covers =
-    let all = inv_at c t valid legal (recursion_from_All IsOfBytes t bytes) (length t) (omega arith) in
+are_kept c t credits valid legal may covers =
+    let all = inv_at c t valid legal (recursion_from_All (λ (m : Moment). IsPossible m.0) t may) (length t) (omega arith) in
     subst (λ s. AreKept credits (shown s)) (take_all (length t) t (omega arith)) (all.kept credits covers)

@@ -70,7 +70,7 @@ module _ (c : Settings) (via : Connection) (t : Trace) (m : Moment) (p : ℕ →
       ∙ ap (λ es. count_by (λ x. p (reference t x)) (waiting_by via t) + count_by (λ (e : End). p e.reference) es) e
 
 -- ---- a take
-untaken_took : (c : Settings) (via : Connection) (t : Trace) (m : Moment) → takes via m.1 ≡ true
+pub untaken_took : (c : Settings) (via : Connection) (t : Trace) (m : Moment) → takes via m.1 ≡ true
     → ends_at c via t m ≡ [] → untaken c via (t ++ m ∷ []) ≡ drop 1 (untaken c via t)
 unfolding untaken
 untaken_took c via t m q e =

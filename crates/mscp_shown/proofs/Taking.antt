@@ -22,6 +22,9 @@ byte_at b h i = ⊎_elim (λ low. h i low) (λ past. omega (arith, get_or_past b
 pub four_small : (b : List ℕ) → AreBytes b → (i : ℕ) → num b i 4 < 2 ^ 32
 four_small b h i = omega (arith, byte_at b h (i + 0), byte_at b h (i + 1), byte_at b h (i + 2), byte_at b h (i + 3))
 
+pub two_small : (b : List ℕ) → AreBytes b → (i : ℕ) → num b i 2 < 2 ^ 16
+two_small b h i = omega (arith, byte_at b h (i + 0), byte_at b h (i + 1))
+
 pub reference_read : (e : End) → e.reference < 2 ^ 32 → num (end_bytes e) 0 4 ≡ e.reference
 reference_read e h = four e.reference h
 

@@ -1,10 +1,13 @@
 -- What is promised of all that a legal trace shows on the wire.
-use Rattle.std.specs.Prelude.{◌≡◌, ℕ, ◌<◌, ◌≤◌, true, All, List, length, take, slice_index, Option, Some, None, IfSome}
+use Rattle.std.specs.Prelude.{◌≡◌, ℕ, ◌%◌, ◌^◌, ◌<◌, ◌≤◌, true, All, List, length, take, slice_index, Option, Some, None, IfSome}
 use Rattle.mscp_events.specs.Settings.{IsValid, Settings, credits_of}
 use Rattle.mscp_events.specs.declared.connection.Connection.{Connection}
-use Rattle.mscp_controller.specs.History.{Moment, Trace, sent_bytes}
+use Rattle.mscp_events.specs.declared.block.Block.TheVariants.{Bad}
+use Rattle.mscp_events.specs.declared.event.Event.{Event}
+use Rattle.mscp_events.specs.declared.event.Event.TheVariants as events
+use Rattle.mscp_controller.specs.History.{Trace}
 use Rattle.mscp_controller.specs.Legal.{IsLegal}
-use Rattle.mscp_wire.specs.Wire.{History, IsRightMessage, answer_by, is_long, moment_at, outstanding, place_of, sent_by}
+use Rattle.mscp_wire.specs.Wire.{History, IsRightMessage, answer_by, command_at, count_of, has_count, has_endcode, has_status, is_about, is_long, moment_at, names_unit, other_of, outstanding, place_of, sent_by, succeeds}
 use Rattle.mscp_wire.specs.declared.answer.Answer.{Answer}
 use Rattle.mscp_wire.specs.declared.moment.Moment.{Moment as Shown}
 use Rattle.mscp_wire.specs.declared.moment.Moment.TheVariants as wire
@@ -15,9 +18,12 @@ use Rattle.mscp_shown.specs.Shown.{shown}
 abbrev pub AreBytes : List ℕ → Type 0
 AreBytes b = (i : ℕ) → i < length b → slice_index b i < 256
 
--- so are those of a moment's message, if it has one
-abbrev pub IsOfBytes : Moment → Type 0
-IsOfBytes m = AreBytes (sent_bytes m.0)
+-- an event is one that may come: its message is of bytes, and the status of a bad block is one that a drive or a medium
+-- may have: its code is 5 to 11 (manual, "Status and Event Codes")
+abbrev pub IsPossible : Event → Type 0
+IsPossible (events.Send via b) = AreBytes b.items
+IsPossible (events.Step (Bad status)) = (status < 2 ^ 16) × (5 ≤ status % 32) × (status % 32 ≤ 11)
+IsPossible event = Unit {0}
 
 -- a host may be told so many credits, if it is told any: each connection has no more
 abbrev pub Covers : Option ℕ → Settings → Type 0
@@ -27,6 +33,12 @@ Covers credits c = IfSome credits (λ n. (via : Connection) → credits_of c via
 pub record IsAnswer (xs : List Sent) (b : List ℕ) (e : Answer) (i : ℕ) : Type 0 where
   pub length : is_long b ≡ true
   pub outstanding : place_of xs e ≡ Some i
+  pub unit : names_unit (command_at xs i) e ≡ true
+  pub endcode : has_endcode (command_at xs i) e ≡ true
+  pub status : has_status (command_at xs i) e ≡ true
+  pub success : succeeds e (other_of (command_at xs i) e) ≡ true
+  pub about : is_about e (other_of (command_at xs i) e) ≡ true
+  pub count : has_count e (count_of (command_at xs i) e) ≡ true
 
 -- a moment keeps them, before which these commands are outstanding: a message all rules of a host
 abbrev pub IsKept : Option ℕ → List Sent → Shown → Type 0
@@ -38,8 +50,8 @@ IsKept credits xs wire.Reset = Unit {0}
 abbrev pub AreKept : Option ℕ → History → Type 0
 AreKept credits h = (i : ℕ) → i < length h → IsKept credits (outstanding (take i h)) (moment_at h i)
 
--- the law: all that a legal trace of bytes shows on the wire keeps the rules
+-- the law: all that a legal trace of events that may come shows on the wire keeps the rules
 abbrev pub LegalTracesAreKept : Type 0
 LegalTracesAreKept =
-    (c : Settings) (t : Trace) (credits : Option ℕ) → IsValid c → IsLegal c t → All IsOfBytes t → Covers credits c
+    (c : Settings) (t : Trace) (credits : Option ℕ) → IsValid c → IsLegal c t → All (λ m. IsPossible m.0) t → Covers credits c
     → AreKept credits (shown t)
