@@ -5,7 +5,7 @@ use Rattle.std.proofs.lemmas.List.Elements.{filter-append}
 use Rattle.std.proofs.lemmas.List.Sums.{sum_by-append, sum_by-cons, sum_by-drop_more, sum_by-take-drop}
 use Rattle.std.specs.List.{AllByRecursion, list_all, list_any, position}
 use Rattle.std.specs.Prelude.{count_by, filter, find}
-use Rattle.mscp_queue.proofs.Lists.{every_from, every_kept, filter_all, sum_none, sum_on}
+use Rattle.mscp_queue.proofs.Lists.{every_from, every_kept, every_weaker, filter_all, sum_none, sum_on}
 use Rattle.mscp_queue.proofs.Placed.{find_cases, position_first, sum_by_map}
 
 module _ {X : Type 0} (p : X → Bool) where
@@ -93,3 +93,16 @@ pub found_passes : {X : Type 0} (p q : X → Bool) (xs : List X) (x : X) → fin
     → (p x ≡ true) × (q x ≡ true)
 found_passes p q [] x h a = cc
 found_passes p q (y ∷ ys) x h a = search (arith, found_passes p q ys x, and_parts)
+
+-- each element is counted
+pub each_counted : {X : Type 0} (same : X → X → Bool) → ((x : X) → same x x ≡ true) → (xs : List X)
+    → AllByRecursion (λ x. 1 ≤ count_by (λ y. same y x) xs) xs
+each_counted same own [] = tt
+each_counted {X} same own (x ∷ xs) = (
+  omega (arith, sum_by-cons (λ y. cond (same y x) 1 0) x xs, ap one_if (own x)),
+  every_weaker (λ z. 1 ≤ count_by (λ y. same y z) xs) (λ z. 1 ≤ count_by (λ y. same y z) (x ∷ xs))
+      (λ z h. omega (arith, h, sum_by-cons (λ y. cond (same y z) 1 0) x xs)) xs (each_counted same own xs),
+)
+  where
+    one_if : Bool → ℕ
+    one_if b = cond b 1 0

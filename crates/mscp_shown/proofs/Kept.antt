@@ -1,5 +1,5 @@
 -- All that a legal trace shows on the wire keeps the rules.
-use Rattle.mscp_controller.proofs.Basics.{◌≡◌, ◌≢◌, ℕ, zero, suc, ◌+◌, ◌<◌, ◌≤◌, Bool, true, false, cond, not, ◌&&◌, List, [], ◌∷◌, ◌++◌, length, take, drop, refl, ap, sym, ◌∙◌, subst, append-nil, arith, if◌then◌else◌, count_by, All, nat_eq, Option, Some, None, Ok, Err, AllByRecursion, recursion_from_All, true≢false, false≢true, ArrayVec, Connection, Command, End, IsOfKind, Settings, IsValid, Trace, Moment, moment, collect, Service, sent_bytes, takes, service_in, command_of, command, connection, name, reference, waiting, waiting_by, is_waiting, ends_in, ends_at, ends, untaken, answer, end_bytes, every_append, every_both, every_from, every_weaker, every_filter, every_parts, own_side, one_side, same_connection, is_queued, queues_by, arrives, Event, Report, IsRight, IsLegal, step_right, ends_more, each_push, taken_when, arrival, Block, Name, same_name, service_name, is_some, option_to_list, eq-eqb, All-from_recursion, First, queues, get_or, IsServed, untaken_more}
+use Rattle.mscp_controller.proofs.Basics.{◌≡◌, ◌≢◌, ℕ, zero, suc, ◌+◌, ◌<◌, ◌≤◌, Bool, true, false, cond, not, ◌&&◌, List, [], ◌∷◌, ◌++◌, length, take, drop, refl, ap, sym, ◌∙◌, subst, append-nil, arith, if◌then◌else◌, count_by, All, nat_eq, Option, Some, None, Ok, Err, AllByRecursion, recursion_from_All, true≢false, false≢true, ArrayVec, Connection, Command, End, IsOfKind, Settings, IsValid, Trace, Moment, moment, collect, Service, sent_bytes, takes, service_in, command_of, command, connection, name, reference, waiting, waiting_by, is_waiting, ends_in, ends_at, ends, untaken, answer, end_bytes, every_append, every_both, every_from, every_weaker, every_filter, every_parts, own_side, one_side, same_connection, is_queued, queues_by, arrives, Event, Report, IsRight, IsLegal, step_right, ends_more, each_push, taken_when, arrival, Block, Name, same_name, service_name, is_some, option_to_list, eq-eqb, All-from_recursion, First, queues, get_or, IsServed, untaken_more, list_any, and_parts, eqb-true}
 use Rattle.mscp_controller.specs.declared.entry.Sent.{Sent}
 use Rattle.mscp_controller.specs.declared.entry.Entry.{Entry}
 use Rattle.mscp_controller.proofs.Promise.Served.{ends_served}
@@ -11,23 +11,26 @@ use Rattle.mscp_controller.proofs.Promise.Arrivals.{IsTaken}
 use Rattle.mscp_controller.specs.Account.{balance, outstanding as outstanding_in}
 use Rattle.mscp_controller.specs.Credits.{aborted_reference, taken_in}
 use Rattle.mscp_packet.specs.Number.{num}
-use Rattle.mscp_wire.specs.Wire.{History, after, after_end, answer_by, command_at, is_long, is_named, moment_at, outstanding, place_of, sent_by}
+use Rattle.mscp_wire.specs.Wire.{History, after, after_end, answer_by, command_at, has_abort, is_it, is_long, is_named, moment_at, outstanding, place_of, sent_by, status_code}
 use Rattle.mscp_wire.specs.Wire as wire
+use Rattle.mscp_wire.specs.declared.sent.Sent.{Sent as Out}
+use Rattle.std.specs.Prelude.{◌%◌, ◌||◌}
 use Rattle.mscp_wire.specs.declared.answer.Answer.{Answer as Answered}
 use Rattle.mscp_wire.specs.declared.moment.Moment.{Moment as Wired}
 use Rattle.mscp_wire.specs.declared.moment.Moment.TheVariants as moments
 use Rattle.mscp_shown.specs.Keeping.{AreBytes, AreKept, Covers, IsAnswer, IsKept}
 use Rattle.mscp_shown.specs.Shown.{shown, shown_by}
+use Rattle.mscp_shown.proofs.Aborted.{Aborts, EndsAbort, IsAbort, aborts_after, aborts_rest, any_at, any_out, one_aborts}
 use Rattle.mscp_shown.proofs.Answering.{Answer, answered, goes}
-use Rattle.mscp_shown.proofs.Counts.{some_place}
+use Rattle.mscp_shown.proofs.Counts.{each_counted, some_place}
 use Rattle.mscp_shown.proofs.Messages.{message_right}
 use Rattle.mscp_shown.proofs.Owed.{came, kept, one_if, owed, owed_more, owed_took, quiet, untaken_took}
 use Rattle.mscp_shown.proofs.Keeping.{Keeps}
-use Rattle.mscp_shown.proofs.Making.{Facts, IsEven, answer_made, step_made}
+use Rattle.mscp_shown.proofs.Making.{Facts, IsEven, answer_aborts, answer_made, step_made}
 use Rattle.mscp_shown.proofs.Owners.{Fits, IsNew, IsOnly, IsOwed, IsOwn, every_drop, message, new_one, only_after, untold}
-use Rattle.mscp_shown.proofs.Owning.{Owners, only_new, own_last, owners_more, still_owed, still_own, waits_more}
-use Rattle.mscp_shown.proofs.Reading.{IsFit}
-use Rattle.mscp_shown.proofs.Shown.{after_more, shown_more, tally, tally_end, tally_sent}
+use Rattle.mscp_shown.proofs.Owning.{Owners, only_new, own_last, owners_more, still_aborts, still_owed, still_own, waits_more}
+use Rattle.mscp_shown.proofs.Reading.{IsFit, reads}
+use Rattle.mscp_shown.proofs.Shown.{after_more, placed, shown_more, tally, tally_end, tally_sent}
 use Rattle.mscp_shown.proofs.Suiting.{IsFault}
 use Rattle.mscp_shown.proofs.Taking.{Takes, first_taken, long_end, reference_read}
 
@@ -134,7 +137,8 @@ module _ (c : Settings) (t : Trace) (m : Moment) (h : Inv c t) where
       (every_from (λ x. not (ends_in (name t x) m.1) ≡ true) stay (waiting_by via t)) (none via))
       (owners_more c t m xs (λ via. k.room.taken via) (λ via. (q via (λ n. true)).0) h.owners.waits
       (λ e. absurd (false≢true (sym n ∙ e))) h.owners.owed
-      (λ via. subst (AllByRecursion (IsOwed via xs)) (sym (none via)) tt))
+      (λ via. subst (AllByRecursion (IsOwed via xs)) (sym (none via)) tt)
+      h.owners.aborts (λ via. subst (Aborts via xs) (sym (none via)) tt))
       (λ via. subst (AllByRecursion IsFit) (sym (none via)) tt)
 
 -- ---- a message
@@ -192,7 +196,8 @@ module _ (c : Settings) (t : Trace) (own : Connection) (b : ArrayVec ℕ) (k : K
       (owners_more c t m (xs ++ sent_by own b.items ∷ []) (λ via. k.room.taken via) (λ via. refl)
       (still_own c own t xs b.items n h.owners)
       (λ e. own_last t m (xs ++ sent_by own b.items ∷ []) (queued_own h n))
-      (still_owed c own t xs b.items n h.owners) (λ via. tt))
+      (still_owed c own t xs b.items n h.owners) (λ via. tt)
+      (still_aborts c own t xs b.items n h.owners) (λ via. tt))
       (λ via. tt)
 
   -- those that wait for the other connection stay
@@ -232,13 +237,13 @@ module _ (c : Settings) (t : Trace) (own : Connection) (b : ArrayVec ℕ) (k : K
       (ap (λ here. (if here then answer c via t b.items else []) ++ []) e)
 
   -- the ends of an answer, by connection
-  each_answer : (via : Connection) (P : Connection → End → Type 0) (here : Bool) → same_connection own via ≡ here
-      → AllByRecursion (P own) (answer c own t b.items)
-      → AllByRecursion (P via) ((if here then answer c via t b.items else []) ++ [])
-  each_answer via P true e h =
-      subst (λ v. AllByRecursion (P v) (answer c v t b.items ++ [])) (one_side own via e)
-      (subst (AllByRecursion (P own)) (sym (append-nil (answer c own t b.items))) h)
-  each_answer via P false e h = tt
+  each_answer : (via : Connection) (P : Connection → List End → Type 0) (here : Bool)
+      → same_connection own via ≡ here → P via [] → P own (answer c own t b.items)
+      → P via ((if here then answer c via t b.items else []) ++ [])
+  each_answer via P true e none h =
+      subst (λ v. P v (answer c v t b.items ++ [])) (one_side own via e)
+      (subst (P own) (sym (append-nil (answer c own t b.items))) h)
+  each_answer via P false e none h = none
 
   pub answered_more : (q : ℕ) (a : Option ℕ) → Inv c t → Facts c t → AreBytes b.items → Ok (Sent.Answered q a) ≡ arrival c own t b.items
       → More c t (Event.Send own b, Answer own q a)
@@ -252,6 +257,8 @@ module _ (c : Settings) (t : Trace) (own : Connection) (b : ArrayVec ℕ) (k : K
       let made = answer_made c own t xs b.items n h.owners facts bytes
       (isnt_queued c own t (command_of b.items) (is_queued c (command_of b.items)) q a z.is) in
       let each = answer c own t b.items in
+      let side = λ (via : Connection) (P : Connection → List End → Type 0) (none : P via []) (all : P own each).
+      each_answer via P (same_connection own via) refl none all in
       sent_more (Sent.Answered q a) h r
       (λ via p. owed_more c via t m p
       (cond (same_connection own via) (cond (p (command_of b.items).reference) 1 0) 0) refl (k.room.taken via)
@@ -260,9 +267,11 @@ module _ (c : Settings) (t : Trace) (own : Connection) (b : ArrayVec ℕ) (k : K
       (omega arith))
       (owners_more c t m longer (λ via. k.room.taken via) (λ via. refl) (still_own c own t xs b.items n h.owners)
       (λ e. absurd (false≢true e)) (still_owed c own t xs b.items n h.owners)
-      (λ via. each_answer via (λ v. IsOwed v longer) (same_connection own via) refl
-      (every_weaker (λ (e : End). IsOwed own longer e × IsFit e) (IsOwed own longer) (λ e k. k.0) each made)))
-      (λ via. each_answer via (λ v. IsFit) (same_connection own via) refl
+      (λ via. side via (λ v. AllByRecursion (IsOwed v longer)) tt
+      (every_weaker (λ (e : End). IsOwed own longer e × IsFit e) (IsOwed own longer) (λ e k. k.0) each made))
+      (still_aborts c own t xs b.items n h.owners)
+      (λ via. side via (λ v. Aborts v longer) tt (answer_aborts c own t xs b.items n h.owners facts)))
+      (λ via. side via (λ v. AllByRecursion IsFit) tt
       (every_weaker (λ (e : End). IsOwed own longer e × IsFit e) IsFit (λ e k. k.1) each made))
 
 -- ---- a step
@@ -294,12 +303,12 @@ module _ (c : Settings) (t : Trace) (block : Block) (k : Known c t) (h : Inv c t
       ∙ omega arith
 
   -- a step's ends, by connection
-  each_served : (P : Connection → End → Type 0) (s : Service) (via : Connection) (ended : Option End) (here : Bool)
-      → same_connection s.connection via ≡ here → AllByRecursion (P s.connection) (option_to_list ended)
-      → AllByRecursion (P via) (if here then option_to_list ended else [])
-  each_served P s via ended true e h' = subst (λ v. AllByRecursion (P v) (option_to_list ended)) (one_side s.connection
-      via e) h'
-  each_served P s via ended false e h' = tt
+  each_served : (P : Connection → List End → Type 0) (s : Service) (via : Connection) (ended : Option End) (here : Bool)
+      → same_connection s.connection via ≡ here → P via [] → P s.connection (option_to_list ended)
+      → P via (if here then option_to_list ended else [])
+  each_served P s via ended true e none all =
+      subst (λ v. P v (option_to_list ended)) (one_side s.connection via e) all
+  each_served P s via ended false e none all = none
 
   pub served_more : (s : Service) (report : Report) → service_in (Entry.Stepped report) ≡ Some s
       → IsRight c t (Event.Step block) (Entry.Stepped report) → (ended : Option End) → s.ended ≡ ended
@@ -311,23 +320,32 @@ module _ (c : Settings) (t : Trace) (block : Block) (k : Known c t) (h : Inv c t
   served_more s report is r ended e y v fault facts nothing at =
       let m : Moment = (Event.Step block, Entry.Stepped report) in
       let xs = outstanding (shown t) in
-      let made : (o : Option End) → s.ended ≡ o
-      → AllByRecursion (λ (e : End). IsOwed s.connection xs e × IsFit e) (option_to_list o) = λ o. elim o as (λ o. s.ended
-      ≡ o → AllByRecursion (λ (e : End). IsOwed s.connection xs e × IsFit e) (option_to_list o)) [
+      let Made : End → Type 0 = λ e. (IsOwed s.connection xs e × IsFit e) × (e.status % 32 ≢ 2) in
+      let made : (o : Option End) → s.ended ≡ o → AllByRecursion Made (option_to_list o) = λ o. elim o as (λ o. s.ended
+      ≡ o → AllByRecursion Made (option_to_list o)) [
         | None ↦ λ q. tt
         | Some e' ↦ λ q. (step_made c t xs h.owners facts s block y v fault e' q, tt)
       ] in
       let each = made ended e in
+      let side = λ (via : Connection) (P : Connection → List End → Type 0) (none : P via [])
+      (all : P s.connection (option_to_list ended)).
+      subst (P via) (sym (at via)) (each_served P s via ended (same_connection s.connection via) refl none all) in
       shows_none c t m h nothing (λ via p. served_owed s report is r ended e via p (at via))
       (owners_more c t m xs (λ via. k.room.taken via) (λ via. refl) h.owners.waits (λ e. absurd (false≢true e))
       h.owners.owed
-      (λ via. subst (AllByRecursion (IsOwed via xs)) (sym (at via))
-      (each_served (λ v. IsOwed v xs) s via ended (same_connection s.connection via) refl
-      (every_weaker (λ (e : End). IsOwed s.connection xs e × IsFit e) (IsOwed s.connection xs) (λ e k. k.0)
-      (option_to_list ended) each))))
-      (λ via. subst (AllByRecursion IsFit) (sym (at via))
-      (each_served (λ v. IsFit) s via ended (same_connection s.connection via) refl
-      (every_weaker (λ (e : End). IsOwed s.connection xs e × IsFit e) IsFit (λ e k. k.1) (option_to_list ended) each)))
+      (λ via. side via (λ v. AllByRecursion (IsOwed v xs)) tt
+      (every_weaker Made (IsOwed s.connection xs) (λ e k. k.0.0) (option_to_list ended) each))
+      h.owners.aborts
+      (λ via. side via (λ v. Aborts v xs) tt (aborts_of s.connection xs ended
+      (every_weaker Made (λ e. e.status % 32 ≢ 2) (λ e k. k.1) (option_to_list ended) each))))
+      (λ via. side via (λ v. AllByRecursion IsFit) tt
+      (every_weaker Made IsFit (λ e k. k.0.1) (option_to_list ended) each))
+    where
+      aborts_of : (via : Connection) (xs : List Out) (ended : Option End)
+          → AllByRecursion (λ (e : End). e.status % 32 ≢ 2) (option_to_list ended)
+          → Aborts via xs (option_to_list ended)
+      aborts_of via xs None all = tt
+      aborts_of via xs (Some e) all = one_aborts via xs e all.0
 
 -- ---- a take
 module _ (c : Settings) (t : Trace) (own : Connection) (b : ArrayVec ℕ) (known : Known c t) (h : Inv c t) where
@@ -386,20 +404,76 @@ module _ (c : Settings) (t : Trace) (own : Connection) (b : ArrayVec ℕ) (known
             (λ x k. only_after (connection t x) (reference t x) xs (λ s. s ≡ message t x) a i k) (waiting t)
             h.owners.waits)
             (λ e. absurd (false≢true e));
-        owed = λ via. left_owed via (same_connection own via) refl
+        owed = λ via. left_ends via (λ us. AllByRecursion (IsOwed via xs') us) (every_drop (IsOwed via xs') 1)
+            (same_connection own via) refl
             (every_weaker (IsOwed via xs) (IsOwed via xs') (λ e k. only_after via e.reference xs (Fits via e) a i k)
             (untaken c via t) (h.owners.owed via));
+        aborts = λ via. left_ends via (Aborts via xs') (aborts_rest via xs') (same_connection own via) refl
+            (aborts_after via xs a i (untaken c via t) (h.owners.aborts via));
       }
     where
-      left_owed : (via : Connection) (here : Bool) → same_connection own via ≡ here
-          → AllByRecursion (IsOwed via (after_end (outstanding (shown t)) a (Some i))) (untaken c via t)
-          → AllByRecursion (IsOwed via (after_end (outstanding (shown t)) a (Some i))) (untaken c via (t ++ taking ∷ []))
-      left_owed via true e k =
-          let P = IsOwed via (after_end (outstanding (shown t)) a (Some i)) in
-          subst (AllByRecursion P) (sym (untaken_took c via t taking e refl)) (every_drop P 1 (untaken c via t) k)
-      left_owed via false e k =
-          let P = IsOwed via (after_end (outstanding (shown t)) a (Some i)) in
-          subst (AllByRecursion P) (sym (untaken_more c via t taking e (known.room.taken via) ∙ append-nil (untaken c via t))) k
+      left_ends : (via : Connection) (P : List End → Type 0) → ((us : List End) → P us → P (drop 1 us)) → (here : Bool)
+          → same_connection own via ≡ here → P (untaken c via t) → P (untaken c via (t ++ taking ∷ []))
+      left_ends via P rest true e k = subst P (sym (untaken_took c via t taking e refl)) (rest (untaken c via t) k)
+      left_ends via P rest false e k =
+          subst P (sym (untaken_more c via t taking e (known.room.taken via) ∙ append-nil (untaken c via t))) k
+
+  -- an aborted command has its ABORT
+  abort_there : (e : End) (rest : List End) → untaken c own t ≡ e ∷ rest → (a : Answered) (i : ℕ)
+      → (command_at (outstanding (shown t)) i).connection ≡ own
+      → (command_at (outstanding (shown t)) i).reference ≡ e.reference → a.status ≡ e.status
+      → has_abort (outstanding (shown t)) (command_at (outstanding (shown t)) i) a ≡ true
+  abort_there e rest us a i side number status =
+      let xs = outstanding (shown t) in
+      let y = command_at xs i in
+      let behind = subst (Aborts own xs) us (h.owners.aborts own) in
+      let P : Bool → Type 0 = λ b. nat_eq (status_code a) 2 ≡ b → (not b || list_any (wire.aborts y) xs) ≡ true in
+      elim (nat_eq (status_code a) 2) as P [
+        | true ↦ λ q.
+            let code : e.status % 32 ≡ 2 = ap (λ n. n % 32) (sym status) ∙ eqb-true (status_code a) 2 q in
+            let rests = (subst (AllByRecursion (λ (k : End). 1 ≤ tally own (λ n. nat_eq n k.reference) xs)) us
+            (all_there (untaken c own t) refl)).1 in
+            let found = any_out (EndsAbort own xs e.reference)
+            (λ (k : End). 1 ≤ tally own (λ n. nat_eq n k.reference) xs) rest rests (behind.0 code) in
+            abort_at y e found.0 side number found.1 found.2
+        | false ↦ λ q. refl
+      ] refl
+    where
+      -- the commands of all untaken ends are outstanding
+      all_there : (vs : List End) → vs ≡ untaken c own t
+          → AllByRecursion (λ (k : End). 1 ≤ tally own (λ n. nat_eq n k.reference) (outstanding (shown t)))
+          vs
+      all_there vs e' = every_weaker
+          (λ (k : End). 1 ≤ count_by (λ (o : End). nat_eq o.reference k.reference) vs)
+          (λ (k : End). 1 ≤ tally own (λ n. nat_eq n k.reference) (outstanding (shown t)))
+          (λ k c'. omega (
+            arith,
+            c',
+            h.tallied own (λ n. nat_eq n k.reference),
+            ap (count_by (λ (o : End). nat_eq o.reference k.reference)) e',
+          ))
+          vs
+          (each_counted (λ (o k : End). nat_eq o.reference k.reference)
+          (λ (k : End). eq-eqb k.reference k.reference refl) vs)
+
+      -- the ABORT itself
+      abort_at : (y : Out) (e k : End) → y.connection ≡ own → y.reference ≡ e.reference
+          → 1 ≤ tally own (λ n. nat_eq n k.reference) (outstanding (shown t))
+          → EndsAbort own (outstanding (shown t)) e.reference k → list_any (wire.aborts y) (outstanding (shown t)) ≡ true
+      abort_at y e k side number some is =
+          let xs = outstanding (shown t) in
+          let place = some_place (is_named own k.reference) xs some in
+          let found = position-Some (is_named own k.reference) xs place.0 (sent_by First []) place.1 in
+          let z = command_at xs place.0 in
+          let it = every_at (λ s. is_named own k.reference s ≡ true → IsAbort e.reference (untold s)) xs is place.0
+          (sent_by First []) found.0 found.1 in
+          let named = and_parts (wire.same_connection z.connection own) (nat_eq z.reference k.reference) found.1 in
+          let one : wire.aborts y z ≡ true =
+          ap (λ v. wire.same_connection z.connection v && nat_eq z.opcode 1 && is_it z.parameter y.reference) side
+          ∙ (ap (λ s. s && nat_eq z.opcode 1 && is_it z.parameter y.reference) named.0
+          ∙ (ap (λ o. nat_eq o 1 && is_it z.parameter y.reference) it.0
+          ∙ (ap (λ o. is_it o y.reference) it.1 ∙ eq-eqb e.reference y.reference (sym number)))) in
+          any_at (wire.aborts y) xs place.0 (sent_by First []) found.0 one
 
   pub took_more : (e : End) (rest : List End) → Takes (untaken c own t) b e rest → IsOfKind e → IsFit e
       → More c t taking
@@ -412,16 +486,19 @@ module _ (c : Settings) (t : Trace) (own : Connection) (b : ArrayVec ℕ) (known
       let at : place_of xs a ≡ Some some.0 = ap (λ n. position (is_named own n) xs) number ∙ some.1 in
       let i = some.0 in
       let fit_there = fitting e rest took.is i some.1 in
+      let there = placed xs a i at in
+      let status : a.status ≡ e.status =
+      ap (λ l. (answer_by own l).status) items ∙ (reads own e fit).status in
       let here : Keeps (command_at xs i) a =
       subst (λ l. Keeps (command_at xs i) (answer_by own l)) (sym items) fit_there in
       shows_one c t taking h (moments.End own b) refl
       (λ via p.
       let end = tally_end via p xs a i at in
-      let there = ap (λ o. tally via p (after_end xs a o)) at in
+      let whole = ap (λ o. tally via p (after_end xs a o)) at in
       let gone = take_owed via p e rest (same_connection own via) refl took.is in
       let side = ap (λ n. one_if (wire.same_connection own via && p n)) number
       ∙ by_side via (p e.reference) in
-      omega (arith, there, end, gone, side, h.tallied via p))
+      omega (arith, whole, end, gone, side, h.tallied via p))
       (λ credits covers. (
         i,
         record {
@@ -430,6 +507,7 @@ module _ (c : Settings) (t : Trace) (own : Connection) (b : ArrayVec ℕ) (known
           unit = here.unit;
           endcode = here.endcode;
           status = here.status;
+          aborted = abort_there e rest took.is a i there.connection (there.reference ∙ number) status;
           success = here.success;
           about = here.about;
           count = here.count;

@@ -15,3 +15,4 @@ mod Owners
 mod Owning
 mod Fitting
 mod Making
+mod Aborted

@@ -1,6 +1,6 @@
 -- The ends that a moment makes: each fits the command that is outstanding under its name.
 use Rattle.mscp_controller.proofs.Basics.{◌≡◌, ◌≢◌, ℕ, zero, suc, ◌+◌, ◌-◌, ◌<◌, ◌≤◌, Bool, true, false, cond, not, ◌&&◌, ◌||◌, List, [], ◌∷◌, ◌++◌, length, map, refl, ap, sym, ◌∙◌, subst, arith, append-nil, filter, if◌then◌else◌, count_by, nat_eq, Option, Some, None, is_some, Ok, Err, option_to_list, AllByRecursion, true≢false, false≢true, and_parts, and-false, Block, Connection, Command, Order, End, Report, Event, Settings, Trace, Moment, moment, Service, sent_bytes, takes, service_in, service_name, command_of, command, connection, name, name_on, unit, order, reference, waiting, queues, ends_in, ends_at, untaken, answer, aborted, aborted_unless, named, aborted_end, good, done, left, serves_in, is_good, in_service, end_bytes, own_end, fault_of, is_queued, end_of, outcome, every_append, every_both, every_from, every_weaker, every_filter, every_kept, every_parts, same_connection, same_name, same_is, one_side, waiting_more, waiting_below, good_before, done_before, done_last, drop_last, IsRight, IsServed, cut, waits_below, some_same, Apart, step_right, Name, figure_of}
-use Rattle.std.specs.Prelude.{◌^◌}
+use Rattle.std.specs.Prelude.{◌%◌, ◌^◌}
 use Rattle.mscp_controller.specs.declared.entry.Entry.{Entry}
 use Rattle.mscp_controller.specs.declared.entry.Sent.{Sent as Took}
 use Rattle.mscp_controller.specs.History.{answers}
@@ -14,10 +14,13 @@ use Rattle.mscp_queue.specs.Orders.{order_weight}
 use Rattle.mscp_wire.specs.Wire.{is_named, sent_by}
 use Rattle.mscp_wire.specs.declared.sent.Sent.{Sent}
 use Rattle.mscp_shown.specs.Keeping.{AreBytes}
+use Rattle.mscp_shown.proofs.Aborted.{Aborts, EndsAbort, IsAbort, aborts_answer, named_each, outcome_apart, own_apart}
+use Rattle.mscp_shown.proofs.Answering.{own_number}
 use Rattle.mscp_shown.proofs.Fitting.{IsSmallCommand, aborted_fit, own_fit, served_fit, small_command}
 use Rattle.mscp_shown.proofs.Owners.{Fits, IsNew, IsOnly, IsOwed, IsOwn, message, untold}
 use Rattle.mscp_shown.proofs.Owning.{Owners, fits, only_new, still_own}
 use Rattle.mscp_shown.proofs.Reading.{IsFit}
+use Rattle.mscp_shown.proofs.Saying.{sent_says}
 use Rattle.mscp_shown.proofs.Small.{IsOfBytes, bytes_at}
 use Rattle.mscp_shown.proofs.Suiting.{Ends, IsFault, aborted_ends, outcome_ends, own_ends}
 
@@ -162,6 +165,25 @@ module _ (c : Settings) (own : Connection) (t : Trace) (xs : List Sent) (b : Lis
       (aborted c own t k) (aborted_each own t Q k.order (fault_of c k) all)))
       ((owed, fit), tt)
 
+  -- behind an aborted command's end stands that of the ABORT
+  pub answer_aborts : Aborts own (xs ++ sent_by own b ∷ []) (answer c own t b)
+  unfolding answer command_of
+  answer_aborts =
+      let k = command_of b in
+      let online = is_online t k.unit in
+      let figure = figure_asked c own t k.order in
+      let e = own_end c online figure k in
+      let says = sent_says own b in
+      let numbered : e.reference ≡ (sent_by own b).reference = own_number c online figure k (fault_of c k) in
+      let ys = aborted c own t k in
+      aborts_answer own t (xs ++ sent_by own b ∷ []) e ys
+      (every_weaker (λ x. IsAbort (reference t x) (sent_by own b))
+      (λ x. EndsAbort own (xs ++ sent_by own b ∷ []) (reference t x) e)
+      (λ x h. subst (λ n. IsOnly own n (xs ++ sent_by own b ∷ []) (IsAbort (reference t x))) (sym numbered)
+      (only_new c own t xs b new owners (IsAbort (reference t x)) h)) ys
+      (named_each own t (sent_by own b) k.order (fault_of c k) says))
+      (own_apart c online figure k (sent_by own b) says)
+
 -- ---- the end of a step
 module _ (c : Settings) (t : Trace) (xs : List Sent) (owners : Owners c t xs) (facts : Facts c t)
     (s : Service) (k : Block) (y : ℕ) (v : IsServed c t k s y) (fault : IsFault k) where
@@ -176,7 +198,7 @@ module _ (c : Settings) (t : Trace) (xs : List Sent) (owners : Owners c t xs) (f
   last_of true e h = absurd (false≢true (sym (ap is_some h)))
   last_of false e h = (refl, some_same e (outcome c t k y) h)
 
-  pub step_made : (e : End) → s.ended ≡ Some e → IsOwed s.connection xs e × IsFit e
+  pub step_made : (e : End) → s.ended ≡ Some e → (IsOwed s.connection xs e × IsFit e) × (e.status % 32 ≢ 2)
   unfolding outcome
   step_made e h =
       let l = last_of (goes_on (is_online t (unit t y)) (order t y) k (left t y)) e (sym h ∙ v.ended) in
@@ -184,8 +206,8 @@ module _ (c : Settings) (t : Trace) (xs : List Sent) (owners : Owners c t xs) (f
       let made = outcome_ends c online (command t y) (good t y) (done t y) k
       (at_own (λ x. is_queued c (command t x) ≡ true) facts.queued) fault (at_own (IsEven t) facts.even) l.0 in
       let fit = served_fit c online (command t y) (good t y) k (small_at t facts.bytes y) fault in
-      let own = fits_own (connection t y) t xs y (outcome c t k y) refl (at_own (IsOwn t xs) owners.waits) made fit in (
-        subst (λ v. IsOwed v xs e) (sym v.connection)
-            (subst (IsOwed (connection t y) xs) (sym l.1) own),
-        subst IsFit (sym l.1) fit,
-      )
+      let own = fits_own (connection t y) t xs y (outcome c t k y) refl (at_own (IsOwn t xs) owners.waits) made fit in
+      let owed = subst (λ u. IsOwed u xs e) (sym v.connection) (subst (IsOwed (connection t y) xs) (sym l.1) own) in
+      let apart : e.status % 32 ≢ 2 =
+      subst (λ (n : End). n.status % 32 ≢ 2) (sym l.1) (outcome_apart online (order t y) k fault) in
+      ((owed, subst IsFit (sym l.1) fit), apart)

@@ -94,7 +94,7 @@ inv_empty : (c : Settings) → Inv c []
 unfolding shown waiting ends untaken collect
 inv_empty c = record {
   tallied = λ via p. refl;
-  owners = record { waits = tt; owed = λ via. tt };
+  owners = record { waits = tt; owed = λ via. tt; aborts = λ via. tt };
   queued = tt;
   even = tt;
   fit = λ via. tt;

@@ -7,6 +7,7 @@ use Rattle.mscp_controller.specs.Units.{is_online}
 use Rattle.mscp_wire.specs.Wire.{after_end, answer_by, is_named, sent_by}
 use Rattle.mscp_wire.specs.declared.answer.Answer.{Answer}
 use Rattle.mscp_wire.specs.declared.sent.Sent.{Sent}
+use Rattle.mscp_shown.proofs.Aborted.{Aborts, aborts_append, aborts_push}
 use Rattle.mscp_shown.proofs.Keeping.{Keeps, keeps}
 use Rattle.mscp_shown.proofs.Owed.{untaken_took}
 use Rattle.mscp_shown.proofs.Owners.{Fits, IsNew, IsOnly, IsOwed, IsOwn, every_drop, message, only_after, only_push, same_sides, untold}
@@ -26,6 +27,7 @@ fits via b e h f =
 pub record Owners (c : Settings) (t : Trace) (xs : List Sent) : Type 0 where
   pub waits : AllByRecursion (IsOwn t xs) (waiting t)
   pub owed : (via : Connection) → AllByRecursion (IsOwed via xs) (untaken c via t)
+  pub aborts : (via : Connection) → Aborts via xs (untaken c via t)
 
 module _ (t : Trace) (m : Moment) (xs : List Sent) where
   -- the same by the moment of the command
@@ -65,11 +67,15 @@ module _ (c : Settings) (t : Trace) (m : Moment) (xs : List Sent)
   pub owners_more : ((via : Connection) → takes via m.1 ≡ false) → AllByRecursion (IsOwn t xs) (waiting t)
       → (queues m.1 ≡ true → IsOwn (t ++ m ∷ []) xs (length t))
       → ((via : Connection) → AllByRecursion (IsOwed via xs) (untaken c via t))
-      → ((via : Connection) → AllByRecursion (IsOwed via xs) (ends_at c via t m)) → Owners c (t ++ m ∷ []) xs
-  owners_more n waits q owed new = record {
+      → ((via : Connection) → AllByRecursion (IsOwed via xs) (ends_at c via t m))
+      → ((via : Connection) → Aborts via xs (untaken c via t))
+      → ((via : Connection) → Aborts via xs (ends_at c via t m)) → Owners c (t ++ m ∷ []) xs
+  owners_more n waits q owed new aborts more = record {
     waits = waits_more t m xs waits q;
     owed = λ via. subst (AllByRecursion (IsOwed via xs)) (sym (untaken_more c via t m (n via) (room via)))
         (every_append (IsOwed via xs) (untaken c via t) (ends_at c via t m) (owed via) (new via));
+    aborts = λ via. subst (Aborts via xs) (sym (untaken_more c via t m (n via) (room via)))
+        (aborts_append via xs (untaken c via t) (ends_at c via t m) (aborts via) (more via));
   }
 
 -- ---- a message
@@ -97,20 +103,28 @@ module _ (c : Settings) (own : Connection) (t : Trace) (xs : List Sent) (b : Lis
       → IsOwed via longer e
   owed_on via e k n = only_push via e.reference xs (sent_by own b) (Fits via e) k (λ q. absurd (true≢false (sym q ∙ n)))
 
-  pub still_owed : (via : Connection) → AllByRecursion (IsOwed via longer) (untaken c via t)
-  still_owed via =
+  -- no end that wasn't taken has its name
+  new_ends : (via : Connection) → AllByRecursion (λ (e : End). is_named via e.reference (sent_by own b) ≡ false)
+      (untaken c via t)
+  new_ends via =
       let P : Bool → Type 0 = λ s. same_connection own via ≡ s
       → AllByRecursion (λ (e : End). is_named via e.reference (sent_by own b) ≡ false) (untaken c via t) in
-      let none = elim (same_connection own via) as P [
+      elim (same_connection own via) as P [
         | true ↦ λ e. subst (λ s. AllByRecursion (λ (e : End). is_named s e.reference (sent_by own b) ≡ false)
             (untaken c s t)) (one_side own via e) new.ended
         | false ↦ λ e. every_from (λ (k : End). is_named via k.reference (sent_by own b) ≡ false)
             (λ k. other_named via k.reference e) (untaken c via t)
-      ] refl in
+      ] refl
+
+  pub still_owed : (via : Connection) → AllByRecursion (IsOwed via longer) (untaken c via t)
+  still_owed via =
       every_weaker (λ (e : End). IsOwed via xs e × (is_named via e.reference (sent_by own b) ≡ false)) (IsOwed via longer)
       (λ e k. owed_on via e k.0 k.1) (untaken c via t)
       (every_both (IsOwed via xs) (λ (e : End). is_named via e.reference (sent_by own b) ≡ false) (untaken c via t)
-      (h.owed via) none)
+      (h.owed via) (new_ends via))
+
+  pub still_aborts : (via : Connection) → Aborts via longer (untaken c via t)
+  still_aborts via = aborts_push via xs (sent_by own b) (untaken c via t) (new_ends via) (h.aborts via)
 
   -- a command under a new number
   pub only_new : (P : Sent → Type 0) → P (sent_by own b)

@@ -35,7 +35,7 @@ none_moved kind count block = grind arith
 may_be_refused : (kind : MoveKind) → (may_have (move_byte kind) 1 ≡ true) × (may_have (move_byte kind) 3 ≡ true)
 may_be_refused kind = grind arith
 
-move_refused : (c : Settings) (kind : MoveKind) (count block status : ℕ) (u : Option Shape)
+pub move_refused : (c : Settings) (kind : MoveKind) (count block status : ℕ) (u : Option Shape)
     → move_fault c count block u ≡ Some status → (status % 32 ≡ 1) ⊎ (status % 32 ≡ 3)
 move_refused c kind count block status u h = grind arith
 
@@ -50,10 +50,10 @@ move_suits kind count block status h =
     h) in
     (may, 0, none_moved kind count block, omega arith, never)
 
-unit_refused : (status : ℕ) (u : Option Shape) → unit_fault u ≡ Some status → status ≡ 3
+pub unit_refused : (status : ℕ) (u : Option Shape) → unit_fault u ≡ Some status → status ≡ 3
 unit_refused status u h = grind arith
 
-version_refused : (status version : ℕ) → version_fault version ≡ Some status → status ≡ 0x0C01
+pub version_refused : (status version : ℕ) → version_fault version ≡ Some status → status ≡ 0x0C01
 version_refused status version h = grind arith
 
 refused_suits : (c : Settings) (unit status : ℕ) (o : Order) → order_fault c unit o ≡ Some status
