@@ -1,17 +1,16 @@
 -- An aborted command's end stands before that of its ABORT, which is outstanding until then.
-use Rattle.mscp_controller.proofs.Basics.{◌≡◌, ◌≢◌, ◌⊎◌, inl, ⊎_elim, zero, ℕ, ◌+◌, ◌<◌, ◌≤◌, Bool, true, false, cond, not, ◌&&◌, ◌||◌, List, [], ◌∷◌, ◌++◌, length, drop, map, get_or, suc, some_same, refl, ap, sym, ◌∙◌, subst, arith, filter, count_by, nat_eq, list_any, Option, Some, None, AllByRecursion, true≢false, false≢true, eq-eqb, eqb-true, sum_by-cons, Block, Connection, Command, Order, End, Shape, Settings, Trace, Name, command, name, name_on, reference, waiting, aborted, aborted_unless, aborted_end, good, own_end, fault_of, is_queued, unit_found, every_weaker, every_from, every_both, every_filter, same_name, same_is}
+use Rattle.mscp_controller.proofs.Basics.{◌≡◌, ◌≢◌, ◌⊎◌, inl, ⊎_elim, zero, ℕ, ◌<◌, Bool, true, false, ◌||◌, List, [], ◌∷◌, ◌++◌, length, drop, map, get_or, suc, some_same, refl, ap, sym, ◌∙◌, arith, filter, list_any, Option, Some, None, AllByRecursion, true≢false, Block, Connection, Command, Order, End, Settings, Trace, Name, command, name, name_on, reference, waiting, aborted_unless, aborted_end, good, own_end, fault_of, unit_found, every_weaker, every_from, every_filter, same_name, same_is}
 use Rattle.std.proofs.Common.{inr}
 use Rattle.std.specs.Prelude.{◌%◌}
 use Rattle.mscp_packet.specs.declared.command.Order.TheVariants as orders
-use Rattle.mscp_events.specs.declared.block.Block.TheVariants.{Bad, Good}
 use Rattle.mscp_queue.specs.Outcomes.{outcome_status}
-use Rattle.mscp_controller.specs.Arrival.{move_fault, order_fault, unit_fault, version_fault}
+use Rattle.mscp_controller.specs.Arrival.{order_fault}
 use Rattle.mscp_controller.specs.Outcomes.{answer_status, own_end_with}
-use Rattle.mscp_wire.specs.Wire.{after_end, is_named, sent_by}
+use Rattle.mscp_wire.specs.Wire.{after_end, is_named}
 use Rattle.mscp_wire.specs.declared.answer.Answer.{Answer}
 use Rattle.mscp_wire.specs.declared.sent.Sent.{Sent}
-use Rattle.mscp_shown.proofs.Owners.{IsOnly, only_after, only_push, untold}
-use Rattle.mscp_shown.proofs.Saying.{IsShort, Says}
+use Rattle.mscp_shown.proofs.Owners.{IsOnly, only_after, only_push}
+use Rattle.mscp_shown.proofs.Saying.{Says}
 use Rattle.mscp_shown.proofs.Suiting.{IsFault, move_refused, unit_refused, version_refused}
 
 -- one of the elements is so
@@ -125,7 +124,7 @@ aborts_answer own t xs e (x ∷ ys) h n = (
 pub one_aborts : (via : Connection) (xs : List Sent) (e : End) → e.status % 32 ≢ 2 → Aborts via xs (e ∷ [])
 one_aborts via xs e n = ((λ z. absurd (n z)), tt)
 
-refused_apart : (c : Settings) (unit status : ℕ) (o : Order) (s : Sent) → Says o s → order_fault c unit o ≡ Some status
+pub refused_apart : (c : Settings) (unit status : ℕ) (o : Order) (s : Sent) → Says o s → order_fault c unit o ≡ Some status
     → (status % 32 ≡ 1) ⊎ (status % 32 ≡ 3)
 refused_apart c unit status (orders.Invalid byte fault) s says h =
     let same : fault ≡ status = some_same fault status h in

@@ -1,19 +1,17 @@
 -- What a message that is answered when it comes, and a step, change of what is outstanding: each ends as many as it
 -- takes away, and an answered message is one more.
-use Rattle.mscp_controller.proofs.Basics.{◌≡◌, ◌≢◌, ℕ, ◌+◌, ◌<◌, ◌≤◌, Bool, true, false, cond, not, ◌&&◌, List, [], ◌∷◌, ◌++◌, length, refl, ap, sym, ◌∙◌, subst, arith, append-nil, filter, if◌then◌else◌, count_by, sum_by, slice_get, Option, Some, None, is_some, option_map, option_to_list, Ok, AllByRecursion, true≢false, false≢true, Connection, Command, Order, End, Settings, Trace, Moment, Service, sent_bytes, service_in, service_name, command_of, command, connection, name, name_on, reference, waiting, waiting_by, aborts, aborted, aborted_unless, named, aborted_reference, answer, ends_in, ends_at, own_end, fault_of, map, good, is_queued, Name, same_connection, same_name, is_same, same_is, is_differ, differ_is, sum_by-append, sum_on, every_weaker, every_kept, every_from, every_filter, filter_all, filter_filter, filter_on, Event, Report, Block, Step, Alone, end_of, outcome, Apart, step_right, IsRight, taken_when}
+use Rattle.mscp_controller.proofs.Basics.{◌≡◌, ◌≢◌, ℕ, ◌+◌, Bool, true, false, cond, not, ◌&&◌, List, [], ◌∷◌, refl, ap, sym, ◌∙◌, subst, arith, filter, if◌then◌else◌, count_by, slice_get, Option, Some, None, is_some, option_map, Ok, AllByRecursion, Connection, Command, Order, End, Settings, Trace, Moment, Service, sent_bytes, service_name, command_of, command, connection, name, name_on, reference, waiting, waiting_by, aborts, aborted, aborted_unless, aborted_reference, answer, ends_in, ends_at, own_end, fault_of, map, good, Name, same_connection, same_name, is_same, same_is, is_differ, differ_is, every_weaker, every_from, every_filter, filter_all, filter_filter, filter_on, Event, Block, Step, outcome}
 use Rattle.mscp_controller.specs.declared.entry.Sent.{Sent}
 use Rattle.mscp_controller.specs.declared.entry.Entry.{Entry}
 use Rattle.mscp_controller.specs.Outcomes.{own_end_with}
 use Rattle.mscp_controller.specs.Units.{is_online}
 use Rattle.mscp_controller.specs.Ends.{figure_asked}
-use Rattle.mscp_controller.specs.Commands.{service_ends}
 use Rattle.mscp_controller.proofs.Promise.Served.{ends_served, kept_own}
 use Rattle.mscp_queue.proofs.Placed.{sum_by_map}
 use Rattle.std.proofs.lemmas.List.Sums.{sum_by_push}
 use Rattle.mscp_queue.specs.Outcomes.{aborted_end}
-use Rattle.mscp_controller.specs.declared.entry.Entry.TheVariants as entries
 use Rattle.mscp_shown.proofs.Counts.{one_gone, parted}
-use Rattle.mscp_shown.proofs.Owed.{kept, one_if, quiet}
+use Rattle.mscp_shown.proofs.Owed.{kept, one_if}
 
 -- the answer to a message of a connection that aborts the command of this reference number, or none
 abbrev pub Answer : Connection → ℕ → Option ℕ → Entry

@@ -1,11 +1,10 @@
 -- How many elements of a list pass a test.
-use Rattle.std.proofs.Common.{◌≡◌, ℕ, zero, suc, ◌+◌, ◌<◌, ◌≤◌, Bool, true, false, cond, not, ◌&&◌, ◌||◌, List, [], ◌∷◌, ◌++◌, length, get_or, take, drop, map, refl, ap, sym, ◌∙◌, subst, arith, ⊎_elim, Option, Some, None}
-use Rattle.std.proofs.lemmas.Bool.{and_parts, false≢true, or_parts, true≢false}
-use Rattle.std.proofs.lemmas.List.Elements.{filter-append}
+use Rattle.std.proofs.Common.{◌≡◌, ℕ, ◌+◌, ◌<◌, ◌≤◌, Bool, true, false, cond, not, ◌&&◌, List, [], ◌∷◌, ◌++◌, length, get_or, take, drop, map, refl, ap, ◌∙◌, arith, ⊎_elim, Some}
+use Rattle.std.proofs.lemmas.Bool.{and_parts, or_parts}
 use Rattle.std.proofs.lemmas.List.Sums.{sum_by-append, sum_by-cons, sum_by-drop_more, sum_by-take-drop}
 use Rattle.std.specs.List.{AllByRecursion, list_all, list_any, position}
 use Rattle.std.specs.Prelude.{count_by, filter, find}
-use Rattle.mscp_queue.proofs.Lists.{every_from, every_kept, every_weaker, filter_all, sum_none, sum_on}
+use Rattle.mscp_queue.proofs.Lists.{every_from, every_kept, every_weaker, filter_all, sum_on}
 use Rattle.mscp_queue.proofs.Placed.{find_cases, position_first, sum_by_map}
 
 module _ {X : Type 0} (p : X → Bool) where

@@ -1,21 +1,17 @@
 -- The numbers of the ends that a controller makes fit their places, where its messages are bytes.
-use Rattle.mscp_controller.proofs.Basics.{◌≡◌, ◌⊎◌, ℕ, ◌+◌, ◌*◌, ◌<◌, ◌≤◌, Bool, true, false, cond, ◌&&◌, List, length, refl, ap, sym, ◌∙◌, subst, arith, if◌then◌else◌, Option, Some, None, Command, Order, Block, Settings, Shape, End, fault_of, own_end, aborted_end, unit_found, unit_shape, command_of, some_same}
-use Rattle.std.specs.Prelude.{◌%◌, ◌^◌, min, nat_lt, slice_index}
+use Rattle.mscp_controller.proofs.Basics.{◌≡◌, ℕ, ◌+◌, ◌<◌, Bool, true, false, cond, ◌&&◌, List, length, refl, subst, arith, if◌then◌else◌, Option, Some, None, Command, Order, Block, Settings, Shape, fault_of, own_end, aborted_end, unit_found, unit_shape, command_of, some_same}
+use Rattle.std.specs.Prelude.{◌^◌, nat_lt, slice_index}
 use Rattle.mscp_packet.specs.Commands.{order_with, parameters}
 use Rattle.mscp_packet.specs.Ends.{refused_body, zero_body, kind_of_code}
-use Rattle.mscp_packet.specs.Number.{num}
 use Rattle.mscp_packet.specs.Opcodes.{least, opcode_of}
 use Rattle.mscp_packet.specs.declared.class.Opcode.{Opcode}
 use Rattle.mscp_packet.specs.declared.class.Opcode.TheVariants as codes
-use Rattle.mscp_packet.specs.declared.command.MoveKind.{MoveKind}
 use Rattle.mscp_packet.specs.declared.command.Order.TheVariants as orders
 use Rattle.mscp_packet.specs.declared.end.BodyKind.{BodyKind}
 use Rattle.mscp_packet.specs.declared.end.BodyKind.TheVariants as kinds
-use Rattle.mscp_packet.specs.declared.end.EndBody.{EndBody}
 use Rattle.mscp_packet.specs.declared.end.EndBody.TheVariants as bodies
-use Rattle.mscp_events.specs.declared.block.Block.TheVariants.{Bad, Good}
 use Rattle.mscp_queue.specs.Orders.{endcode}
-use Rattle.mscp_queue.specs.Outcomes.{is_good_block, is_success, moved_body, online_body, outcome_body, outcome_status, touches}
+use Rattle.mscp_queue.specs.Outcomes.{is_good_block, is_success, moved_body, outcome_body, outcome_status, touches}
 use Rattle.mscp_controller.specs.Arrival.{move_fault, order_fault, unit_fault, version_fault}
 use Rattle.mscp_controller.specs.Outcomes.{answer_body, answer_status, outcome_of, own_end_with}
 use Rattle.mscp_shown.specs.Keeping.{AreBytes}

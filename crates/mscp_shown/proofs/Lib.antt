@@ -16,3 +16,11 @@ mod Owning
 mod Fitting
 mod Making
 mod Aborted
+mod Pairing
+mod Placing
+mod Ordering
+mod Waiting
+mod Staying
+mod Sending
+mod Serving
+mod Ending

@@ -1,22 +1,19 @@
 -- The ends that a moment makes: each fits the command that is outstanding under its name.
-use Rattle.mscp_controller.proofs.Basics.{◌≡◌, ◌≢◌, ℕ, zero, suc, ◌+◌, ◌-◌, ◌<◌, ◌≤◌, Bool, true, false, cond, not, ◌&&◌, ◌||◌, List, [], ◌∷◌, ◌++◌, length, map, refl, ap, sym, ◌∙◌, subst, arith, append-nil, filter, if◌then◌else◌, count_by, nat_eq, Option, Some, None, is_some, Ok, Err, option_to_list, AllByRecursion, true≢false, false≢true, and_parts, and-false, Block, Connection, Command, Order, End, Report, Event, Settings, Trace, Moment, moment, Service, sent_bytes, takes, service_in, service_name, command_of, command, connection, name, name_on, unit, order, reference, waiting, queues, ends_in, ends_at, untaken, answer, aborted, aborted_unless, named, aborted_end, good, done, left, serves_in, is_good, in_service, end_bytes, own_end, fault_of, is_queued, end_of, outcome, every_append, every_both, every_from, every_weaker, every_filter, every_kept, every_parts, same_connection, same_name, same_is, one_side, waiting_more, waiting_below, good_before, done_before, done_last, drop_last, IsRight, IsServed, cut, waits_below, some_same, Apart, step_right, Name, figure_of}
+use Rattle.mscp_controller.proofs.Basics.{◌≡◌, ◌≢◌, ℕ, ◌+◌, ◌<◌, Bool, true, false, cond, not, ◌&&◌, List, [], ◌∷◌, ◌++◌, length, map, refl, ap, sym, ◌∙◌, subst, arith, filter, if◌then◌else◌, count_by, Option, Some, None, is_some, AllByRecursion, false≢true, and-false, Block, Connection, Order, End, Report, Event, Settings, Trace, Moment, moment, Service, sent_bytes, command_of, command, connection, name, name_on, unit, order, reference, waiting, queues, ends_in, answer, aborted, aborted_unless, aborted_end, good, done, left, serves_in, is_good, own_end, fault_of, is_queued, end_of, outcome, every_append, every_both, every_weaker, every_filter, every_parts, same_name, same_is, waiting_more, waiting_below, good_before, done_before, done_last, drop_last, IsRight, IsServed, cut, waits_below, some_same, Name, figure_of}
 use Rattle.std.specs.Prelude.{◌%◌, ◌^◌}
 use Rattle.mscp_controller.specs.declared.entry.Entry.{Entry}
-use Rattle.mscp_controller.specs.declared.entry.Sent.{Sent as Took}
-use Rattle.mscp_controller.specs.History.{answers}
-use Rattle.mscp_controller.specs.Ends.{ends_served, figure_asked}
+use Rattle.mscp_controller.specs.Ends.{figure_asked}
 use Rattle.mscp_controller.specs.Units.{is_online}
-use Rattle.mscp_controller.specs.Commands.{service_ends, service_is}
-use Rattle.mscp_controller.specs.Outcomes.{outcome_of}
 use Rattle.mscp_events.specs.declared.block.Block.TheVariants.{Bad, Good}
 use Rattle.mscp_queue.specs.Outcomes.{goes_on}
-use Rattle.mscp_queue.specs.Orders.{order_weight}
 use Rattle.mscp_wire.specs.Wire.{is_named, sent_by}
 use Rattle.mscp_wire.specs.declared.sent.Sent.{Sent}
 use Rattle.mscp_shown.specs.Keeping.{AreBytes}
 use Rattle.mscp_shown.proofs.Aborted.{Aborts, EndsAbort, IsAbort, aborts_answer, named_each, outcome_apart, own_apart}
 use Rattle.mscp_shown.proofs.Answering.{own_number}
 use Rattle.mscp_shown.proofs.Fitting.{IsSmallCommand, aborted_fit, own_fit, served_fit, small_command}
+use Rattle.mscp_shown.proofs.Ordering.{Ordered, ordered_answer}
+use Rattle.mscp_shown.proofs.Waiting.{own_order}
 use Rattle.mscp_shown.proofs.Owners.{Fits, IsNew, IsOnly, IsOwed, IsOwn, message, untold}
 use Rattle.mscp_shown.proofs.Owning.{Owners, fits, only_new, still_own}
 use Rattle.mscp_shown.proofs.Reading.{IsFit}
@@ -184,6 +181,17 @@ module _ (c : Settings) (own : Connection) (t : Trace) (xs : List Sent) (b : Lis
       (named_each own t (sent_by own b) k.order (fault_of c k) says))
       (own_apart c online figure k (sent_by own b) says)
 
+  -- each end of an answer may come at once
+  pub answer_ordered : is_queued c (command_of b) ≡ false → (before : List End)
+      → Ordered own (xs ++ sent_by own b ∷ []) before (answer c own t b)
+  unfolding answer command_of
+  answer_ordered q before =
+      let k = command_of b in
+      let online = is_online t k.unit in
+      let figure = figure_asked c own t k.order in
+      ordered_answer own t (xs ++ sent_by own b ∷ []) (own_end c online figure k) (aborted c own t k) before
+      (λ some. own_order c online figure k own xs b some q new.outstanding refl (sent_says own b))
+
 -- ---- the end of a step
 module _ (c : Settings) (t : Trace) (xs : List Sent) (owners : Owners c t xs) (facts : Facts c t)
     (s : Service) (k : Block) (y : ℕ) (v : IsServed c t k s y) (fault : IsFault k) where
@@ -198,7 +206,7 @@ module _ (c : Settings) (t : Trace) (xs : List Sent) (owners : Owners c t xs) (f
   last_of true e h = absurd (false≢true (sym (ap is_some h)))
   last_of false e h = (refl, some_same e (outcome c t k y) h)
 
-  pub step_made : (e : End) → s.ended ≡ Some e → (IsOwed s.connection xs e × IsFit e) × (e.status % 32 ≢ 2)
+  pub step_made : (e : End) → s.ended ≡ Some e → ((IsOwed s.connection xs e × IsFit e) × (e.status % 32 ≢ 2)) × (e.reference ≡ reference t y)
   unfolding outcome
   step_made e h =
       let l = last_of (goes_on (is_online t (unit t y)) (order t y) k (left t y)) e (sym h ∙ v.ended) in
@@ -210,4 +218,4 @@ module _ (c : Settings) (t : Trace) (xs : List Sent) (owners : Owners c t xs) (f
       let owed = subst (λ u. IsOwed u xs e) (sym v.connection) (subst (IsOwed (connection t y) xs) (sym l.1) own) in
       let apart : e.status % 32 ≢ 2 =
       subst (λ (n : End). n.status % 32 ≢ 2) (sym l.1) (outcome_apart online (order t y) k fault) in
-      ((owed, subst IsFit (sym l.1) fit), apart)
+      (((owed, subst IsFit (sym l.1) fit), apart), ap (λ (n : End). n.reference) l.1)

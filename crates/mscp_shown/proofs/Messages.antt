@@ -1,10 +1,10 @@
 -- A message that a controller takes keeps each rule of a host.
-use Rattle.mscp_controller.proofs.Basics.{◌≡◌, ◌≢◌, ℕ, ◌+◌, ◌-◌, ◌<◌, ◌≤◌, Bool, true, false, cond, not, ◌&&◌, ◌||◌, List, [], ◌∷◌, ◌++◌, length, map, refl, ap, sym, ◌∙◌, subst, arith, ⊎_elim, count_by, sum_by, nat_eq, nat_lt, Option, Some, None, Connection, End, Settings, Trace, credits_of, waiting_by, reference, untaken, balance, outstanding, holds, sum_by-append, sum_on, every_from, le-ltb, lt-ltb, eq-eqb, eqb-false, cases_lt}
+use Rattle.mscp_controller.proofs.Basics.{◌≡◌, ℕ, ◌+◌, ◌-◌, ◌≤◌, Bool, true, false, cond, not, ◌&&◌, ◌||◌, List, length, map, refl, ap, sym, ◌∙◌, subst, arith, ⊎_elim, count_by, sum_by, nat_eq, nat_lt, Option, Some, None, Connection, End, Settings, Trace, credits_of, waiting_by, reference, untaken, balance, outstanding, holds, sum_by-append, sum_on, every_from, le-ltb, lt-ltb, eq-eqb, eqb-false, cases_lt}
 use Rattle.std.proofs.lemmas.Bool.{le-leb}
 use Rattle.mscp_queue.proofs.Placed.{sum_by_map}
 use Rattle.mscp_controller.proofs.Promise.Arrivals.{IsTaken}
 use Rattle.mscp_packet.specs.Number.{num}
-use Rattle.mscp_wire.specs.Wire.{IsRightMessage, count_on, has_credit, is_immediate, is_named, is_new, same_connection, sent_by}
+use Rattle.mscp_wire.specs.Wire.{IsRightMessage, count_on, has_credit, is_immediate, is_named, same_connection, sent_by}
 use Rattle.mscp_wire.specs.declared.sent.Sent.{Sent}
 use Rattle.mscp_shown.specs.Keeping.{Covers}
 use Rattle.mscp_shown.proofs.Counts.{all_pass, none_any, none_passes}

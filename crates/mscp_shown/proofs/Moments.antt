@@ -1,5 +1,5 @@
 -- Each moment of a legal trace keeps what its parts keep, so that the whole trace does.
-use Rattle.mscp_controller.proofs.Basics.{◌≡◌, ℕ, zero, suc, ◌+◌, ◌<◌, ◌≤◌, true, false, not, List, [], ◌∷◌, ◌++◌, length, take, drop, get_or, refl, ap, sym, ◌∙◌, subst, arith, count_by, All, Option, Some, None, Ok, Err, AllByRecursion, recursion_from_All, Connection, End, IsOfKind, Settings, IsValid, Trace, Moment, moment, Service, takes, collect, ends, ends_at, untaken, waiting, every_append, every_parts, Event, Report, First, IsRight, IsLegal, ends_more, waiting_by, ArrayVec, Block, Command, Name, name, same_name, figure, figure_of, bound, find, is_queued, each_queued}
+use Rattle.mscp_controller.proofs.Basics.{◌≡◌, ℕ, zero, suc, ◌+◌, ◌<◌, ◌≤◌, true, [], ◌∷◌, ◌++◌, length, take, drop, refl, ap, sym, ◌∙◌, subst, arith, count_by, Option, Some, None, Ok, Err, AllByRecursion, recursion_from_All, Connection, End, IsOfKind, Settings, IsValid, Trace, Moment, moment, Service, takes, collect, ends, ends_at, untaken, waiting, every_append, every_parts, Event, Report, First, IsRight, IsLegal, ends_more, ArrayVec, Block, Command, Name, name, same_name, figure, figure_of, bound, find, is_queued, each_queued, waits_below}
 use Rattle.std.specs.Prelude.{◌^◌}
 use Rattle.mscp_controller.specs.Figures.{figure_found}
 use Rattle.mscp_controller.proofs.Promise.Progress.{progress}
@@ -9,10 +9,12 @@ use Rattle.std.proofs.lemmas.List.{get_or-take, length-take-le, take-append-drop
 use Rattle.mscp_controller.proofs.Promise.Known.{Known, known, more_at}
 use Rattle.mscp_controller.proofs.Promise.Shaped.{shaped}
 use Rattle.mscp_events.specs.declared.block.Block.TheVariants.{Bad, Good}
-use Rattle.mscp_wire.specs.Wire.{outstanding}
-use Rattle.mscp_shown.specs.Keeping.{AreKept, Covers, IsPossible, LegalTracesAreKept}
+use Rattle.mscp_shown.specs.Keeping.{AreKept, IsPossible, LegalTracesAreKept}
 use Rattle.mscp_shown.specs.Shown.{shown}
-use Rattle.mscp_shown.proofs.Kept.{Inv, More, answered_more, queued_more, served_more, stills, took_more}
+use Rattle.mscp_shown.proofs.Ending.{took_more}
+use Rattle.mscp_shown.proofs.Kept.{Inv, More, stills}
+use Rattle.mscp_shown.proofs.Sending.{answered_more, queued_more}
+use Rattle.mscp_shown.proofs.Serving.{served_more}
 use Rattle.mscp_shown.proofs.Making.{Facts, even_more}
 use Rattle.mscp_shown.proofs.Owners.{every_drop}
 use Rattle.mscp_shown.proofs.Reading.{IsFit}
@@ -40,11 +42,11 @@ module _ (c : Settings) (t : Trace) (k : Known c t)
       let is = first.2.is in
       let kind = subst (AllByRecursion IsOfKind) is (untaken_all IsOfKind c own t (kinds own)) in
       let fit = subst (AllByRecursion IsFit) is (untaken_all IsFit c own t (h.fit own)) in
-      took_more c t own b k h e first.1 first.2 kind.0 fit.0
+      took_more c t own b k h e first.1 r first.2 kind.0 fit.0
 
   more : (event : Event) (entry : Entry) → IsPossible event → IsRight c t event entry → More c t (event, entry)
   more (Event.Send own b) (Entry.Sent other (Err fault)) may r =
-      stills c t (Event.Send own b, Entry.Sent other (Err fault)) h k refl (λ via p. (refl, refl)) (λ n. refl) refl
+      stills c t (Event.Send own b, Entry.Sent other (Err fault)) h k r refl (λ via p. (refl, refl)) (λ n. refl) refl
       (λ via. refl)
   more (Event.Send own b) (Entry.Sent other (Ok (Sent.Queued q))) may r =
       subst (λ o. More c t (Event.Send own b, Entry.Sent o (Ok (Sent.Queued q)))) (sym r.0)
@@ -53,7 +55,7 @@ module _ (c : Settings) (t : Trace) (k : Known c t)
       subst (λ o. More c t (Event.Send own b, Entry.Sent o (Ok (Sent.Answered q a)))) (sym r.0)
       (answered_more c t own b k q a h facts may r.1)
   more (Event.Step block) (Entry.Stepped Report.Idle) may r =
-      stills c t (Event.Step block, Entry.Stepped Report.Idle) h k refl (λ via p. (refl, refl)) (λ n. refl) refl
+      stills c t (Event.Step block, Entry.Stepped Report.Idle) h k r refl (λ via p. (refl, refl)) (λ n. refl) refl
       (λ via. refl)
   more (Event.Step block) (Entry.Stepped (Report.Served other reference unit lbn started seek ended)) may r =
       let report = Report.Served other reference unit lbn started seek ended in
@@ -68,11 +70,11 @@ module _ (c : Settings) (t : Trace) (k : Known c t)
       } in
       served_more c t block k h s report refl r ended refl r.0 r.1 (fault_of block may) facts refl (λ via. refl)
   more (Event.Take own) (Entry.Taken other None) may r =
-      stills c t (Event.Take own, Entry.Taken other None) h k refl (λ via p. (refl, refl)) (λ n. refl) refl (λ via. refl)
+      stills c t (Event.Take own, Entry.Taken other None) h k r refl (λ via p. (refl, refl)) (λ n. refl) refl (λ via. refl)
   more (Event.Take own) (Entry.Taken other (Some b)) may r =
       subst (λ o. More c t (Event.Take own, Entry.Taken o (Some b))) (sym r.0) (take_one own b (refl, r.1))
   more Event.Look (Entry.Looked list) may r =
-      stills c t (Event.Look, Entry.Looked list) h k refl (λ via p. (refl, refl)) (λ n. refl) refl (λ via. refl)
+      stills c t (Event.Look, Entry.Looked list) h k r refl (λ via p. (refl, refl)) (λ n. refl) refl (λ via. refl)
   more event entry may r = absurd r
 
 inv_more : (c : Settings) (t : Trace) (m : Moment) → Known c t
@@ -83,6 +85,7 @@ inv_more c t m k kinds facts may r h =
     record {
       tallied = one.tallied;
       owners = one.owners;
+      orders = one.orders;
       queued = each_queued c (λ (k : Command). is_queued c k ≡ true) (λ k q. q) t m r h.queued;
       even = even_more c t m r h.even;
       fit = λ via. subst (AllByRecursion IsFit) (sym (ends_more c via t m))
@@ -95,6 +98,12 @@ unfolding shown waiting ends untaken collect
 inv_empty c = record {
   tallied = λ via p. refl;
   owners = record { waits = tt; owed = λ via. tt; aborts = λ via. tt };
+  orders = record {
+    single = λ via n. omega arith;
+    placed = λ x y wx wy. tt;
+    free = λ y w q. absurd (omega (arith, waits_below [] y w));
+    ordered = λ via. tt;
+  };
   queued = tt;
   even = tt;
   fit = λ via. tt;

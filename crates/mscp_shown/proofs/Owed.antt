@@ -1,6 +1,5 @@
 -- Whose commands are outstanding in a trace, and how one more moment changes that.
-use Rattle.mscp_controller.proofs.Basics.{◌≡◌, ◌≢◌, ℕ, ◌+◌, ◌<◌, ◌≤◌, Bool, true, false, cond, not, ◌&&◌, List, [], ◌∷◌, ◌++◌, length, drop, refl, ap, sym, ◌∙◌, subst, arith, append-nil, filter, if◌then◌else◌, count_by, sum_by, Option, Some, None, is_some, option_to_list, AllByRecursion, Connection, Command, End, Settings, Trace, Moment, Service, sent_bytes, takes, service_in, command_of, command, connection, name, reference, waiting, waiting_by, ends_in, ends_at, ends, untaken, sum_by-append, sum_by-cons, sum_on, every_weaker, every_kept, every_from, filter_all, drop-drop, command_before, command_last, ends_more, taken_more, untaken_more, waiting_below, queues_by, waiting_by_more, same_connection}
-use Rattle.std.proofs.lemmas.List.Sums.{sum_by_push}
+use Rattle.mscp_controller.proofs.Basics.{◌≡◌, ℕ, ◌+◌, ◌<◌, ◌≤◌, Bool, true, false, cond, not, List, [], ◌∷◌, ◌++◌, length, drop, refl, ap, sym, ◌∙◌, arith, append-nil, filter, count_by, sum_by, AllByRecursion, Connection, Command, End, Settings, Trace, Moment, sent_bytes, takes, command_of, connection, name, reference, waiting, waiting_by, ends_in, ends_at, ends, untaken, sum_by-append, sum_by-cons, sum_on, every_weaker, every_kept, every_from, filter_all, drop-drop, command_before, command_last, ends_more, taken_more, untaken_more, waiting_below, queues_by, waiting_by_more, same_connection}
 
 -- 1 where it is so
 abbrev pub one_if : Bool → ℕ

@@ -1,23 +1,16 @@
 -- Which command it is that is outstanding under a name: the one that waits or ended under it.
-use Rattle.mscp_controller.proofs.Basics.{◌≡◌, ◌≢◌, ℕ, zero, suc, ◌+◌, ◌<◌, ◌≤◌, Bool, true, false, cond, not, ◌&&◌, List, [], ◌∷◌, ◌++◌, length, map, take, drop, refl, ap, sym, ◌∙◌, subst, arith, append-nil, filter, if◌then◌else◌, count_by, nat_eq, Option, Some, None, Ok, option_to_list, AllByRecursion, true≢false, false≢true, and_parts, eqb-true, eqb-false, eq-eqb, ne_eqb, Connection, Command, Order, End, Settings, Trace, Moment, moment, Service, sent_bytes, connection_of, takes, service_in, command_of, command, connection, name, name_on, reference, waiting, waiting_by, queues, ends_in, ends_at, ends, untaken, answer, aborted, aborted_unless, named, aborted_end, good, end_bytes, own_end, fault_of, every_append, every_both, every_from, every_weaker, every_filter, every_kept, every_mapped, every_parts, same_connection, same_name, same_is, own_side, waiting_more, waiting_below, command_before, command_last, connection_before, connection_last, untaken_more, Name, balance, outstanding, sum_by-cons}
+use Rattle.mscp_controller.proofs.Basics.{◌≡◌, ℕ, zero, suc, ◌+◌, Bool, true, false, cond, List, [], ◌∷◌, ◌++◌, map, take, drop, refl, ap, sym, ◌∙◌, arith, filter, if◌then◌else◌, count_by, nat_eq, Option, Some, None, AllByRecursion, true≢false, and_parts, eqb-true, eq-eqb, Connection, End, Settings, Trace, moment, sent_bytes, connection, reference, waiting, waiting_by, untaken, end_bytes, every_append, every_weaker, same_connection, own_side, balance, outstanding, sum_by-cons}
 use Rattle.mscp_controller.proofs.Promise.Arrivals.{IsTaken}
-use Rattle.mscp_controller.proofs.Promise.Grows.{moment_before, moment_last}
-use Rattle.mscp_controller.specs.History.{answers}
-use Rattle.mscp_controller.specs.Ends.{ends_served, figure_asked}
-use Rattle.mscp_controller.specs.Units.{is_online}
 use Rattle.mscp_packet.specs.Number.{num}
 use Rattle.mscp_wire.specs.Wire.{after_end, answer_by, command_at, hears, is_named, polled_by, sent_by}
 use Rattle.mscp_wire.specs.Wire as wire
 use Rattle.mscp_wire.specs.declared.answer.Answer.{Answer}
 use Rattle.mscp_wire.specs.declared.sent.Sent.{Sent}
-use Rattle.mscp_shown.proofs.Keeping.{Keeps, keeps}
+use Rattle.mscp_shown.proofs.Keeping.{Keeps}
 use Rattle.mscp_shown.proofs.Messages.{IsTallied, new_number, owed_is}
 use Rattle.mscp_shown.proofs.Counts.{none_passes}
 use Rattle.mscp_shown.proofs.Owed.{one_if}
-use Rattle.mscp_shown.proofs.Reading.{IsFit, reads}
-use Rattle.mscp_shown.proofs.Saying.{sent_says}
 use Rattle.mscp_shown.proofs.Shown.{one_side}
-use Rattle.mscp_shown.proofs.Suiting.{Ends}
 
 -- a command of which no figure was told
 abbrev pub untold : Sent → Sent
@@ -84,7 +77,7 @@ only_after via n xs P a i h =
     (every_drop Q (i + 1) xs h)
 
 -- ---- a new number
-none_each : {X : Type 0} (p : X → Bool) (xs : List X) → count_by p xs ≡ 0 → AllByRecursion (λ x. p x ≡ false) xs
+pub none_each : {X : Type 0} (p : X → Bool) (xs : List X) → count_by p xs ≡ 0 → AllByRecursion (λ x. p x ≡ false) xs
 none_each p [] h = tt
 none_each p (x ∷ xs) h =
     let c = sum_by-cons (λ x. cond (p x) 1 0) x xs in
@@ -106,7 +99,7 @@ pub same_sides : (a b : Connection) → wire.same_connection a b ≡ same_connec
 same_sides a b = grind arith
 
 -- what holds of those that pass a test
-each_passing : {X : Type 0} (p : X → Bool) (P : X → Type 0) (xs : List X) → AllByRecursion P (filter p xs)
+pub each_passing : {X : Type 0} (p : X → Bool) (P : X → Type 0) (xs : List X) → AllByRecursion P (filter p xs)
     → AllByRecursion (λ x. p x ≡ true → P x) xs
 each_passing p P [] h = tt
 each_passing {X} p P (x ∷ xs) h =

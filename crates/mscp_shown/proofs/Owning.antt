@@ -1,16 +1,11 @@
 -- Each moment keeps it that a name on the wire is that of the command that waits or ended under it.
-use Rattle.mscp_controller.proofs.Basics.{◌≡◌, ◌≢◌, ℕ, zero, suc, ◌+◌, ◌<◌, ◌≤◌, Bool, true, false, cond, not, ◌&&◌, List, [], ◌∷◌, ◌++◌, length, map, take, drop, refl, ap, sym, ◌∙◌, subst, arith, append-nil, filter, if◌then◌else◌, count_by, nat_eq, Option, Some, None, Ok, option_to_list, AllByRecursion, true≢false, false≢true, and_parts, Connection, Command, Order, End, Settings, Trace, Moment, moment, Service, Step, Block, sent_bytes, connection_of, takes, service_in, service_name, command_of, command, connection, name, name_on, reference, waiting, waiting_by, queues, ends_in, ends_at, ends, untaken, answer, aborted, aborted_unless, named, aborted_end, good, end_bytes, own_end, fault_of, every_append, every_both, every_from, every_weaker, every_filter, every_kept, every_mapped, every_parts, same_connection, same_name, same_is, own_side, one_side, waiting_more, waiting_below, untaken_more, Name}
+use Rattle.mscp_controller.proofs.Basics.{◌≡◌, ℕ, ◌<◌, ◌≤◌, Bool, true, false, cond, not, List, [], ◌∷◌, ◌++◌, length, refl, sym, ◌∙◌, subst, arith, filter, count_by, AllByRecursion, true≢false, Connection, End, Settings, Trace, Moment, sent_bytes, connection_of, takes, command_of, command, connection, name, reference, waiting, queues, ends_in, ends_at, ends, untaken, end_bytes, every_append, every_both, every_from, every_weaker, every_kept, same_connection, one_side, waiting_more, waiting_below, untaken_more}
 use Rattle.mscp_controller.proofs.Promise.Grows.{moment_before, moment_last}
-use Rattle.mscp_controller.specs.History.{answers}
-use Rattle.mscp_controller.specs.Ends.{ends_served, figure_asked}
-use Rattle.mscp_controller.specs.Units.{is_online}
-use Rattle.mscp_wire.specs.Wire.{after_end, answer_by, is_named, sent_by}
-use Rattle.mscp_wire.specs.declared.answer.Answer.{Answer}
+use Rattle.mscp_wire.specs.Wire.{answer_by, is_named, sent_by}
 use Rattle.mscp_wire.specs.declared.sent.Sent.{Sent}
 use Rattle.mscp_shown.proofs.Aborted.{Aborts, aborts_append, aborts_push}
-use Rattle.mscp_shown.proofs.Keeping.{Keeps, keeps}
-use Rattle.mscp_shown.proofs.Owed.{untaken_took}
-use Rattle.mscp_shown.proofs.Owners.{Fits, IsNew, IsOnly, IsOwed, IsOwn, every_drop, message, only_after, only_push, same_sides, untold}
+use Rattle.mscp_shown.proofs.Keeping.{keeps}
+use Rattle.mscp_shown.proofs.Owners.{Fits, IsNew, IsOnly, IsOwed, IsOwn, message, only_push, same_sides, untold}
 use Rattle.mscp_shown.proofs.Reading.{IsFit, reads}
 use Rattle.mscp_shown.proofs.Saying.{sent_says}
 use Rattle.mscp_shown.proofs.Suiting.{Ends}
@@ -104,7 +99,7 @@ module _ (c : Settings) (own : Connection) (t : Trace) (xs : List Sent) (b : Lis
   owed_on via e k n = only_push via e.reference xs (sent_by own b) (Fits via e) k (λ q. absurd (true≢false (sym q ∙ n)))
 
   -- no end that wasn't taken has its name
-  new_ends : (via : Connection) → AllByRecursion (λ (e : End). is_named via e.reference (sent_by own b) ≡ false)
+  pub new_ends : (via : Connection) → AllByRecursion (λ (e : End). is_named via e.reference (sent_by own b) ≡ false)
       (untaken c via t)
   new_ends via =
       let P : Bool → Type 0 = λ s. same_connection own via ≡ s

@@ -1,6 +1,5 @@
 -- An end as the rules of the wire read its bytes.
-use Rattle.std.proofs.Common.{◌≡◌, ℕ, ◌+◌, ◌^◌, ◌<◌, List, refl, ap, arith, Option, Some}
-use Rattle.std.specs.Prelude.{nat_le, slice_index}
+use Rattle.std.proofs.Common.{◌≡◌, ℕ, ◌^◌, ◌<◌, refl, ap, Some}
 use Rattle.mscp_packet.proofs.Numbers.{four, two}
 use Rattle.mscp_packet.specs.Ends.{end_bytes}
 use Rattle.mscp_packet.specs.declared.end.End.{End}

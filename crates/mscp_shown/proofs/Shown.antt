@@ -1,5 +1,5 @@
 -- What is outstanding on the wire after one more moment.
-use Rattle.std.proofs.Common.{◌≡◌, ℕ, ◌+◌, ◌<◌, ◌≤◌, Bool, true, false, cond, ◌&&◌, List, [], ◌∷◌, ◌++◌, length, get_or, map, refl, ap, sym, ◌∙◌, subst, append-nil, arith, Option, Some, None}
+use Rattle.std.proofs.Common.{◌≡◌, ℕ, ◌+◌, ◌<◌, Bool, true, cond, ◌&&◌, List, [], ◌∷◌, ◌++◌, length, refl, ap, sym, ◌∙◌, append-nil, arith, Option, Some, None}
 use Rattle.std.proofs.lemmas.Bool.{and_parts, eqb-true, false≢true}
 use Rattle.std.proofs.lemmas.Grind.{flat_map-append}
 use Rattle.std.proofs.lemmas.List.Quantifiers.{position-Some}
@@ -7,7 +7,7 @@ use Rattle.std.proofs.lemmas.List.Sums.{fold_push, sum_by_push}
 use Rattle.std.specs.Prelude.{count_by}
 use Rattle.mscp_packet.specs.Number.{num}
 use Rattle.mscp_events.specs.declared.connection.Connection.{Connection}
-use Rattle.mscp_events.specs.declared.connection.Connection.TheVariants.{First, Second}
+use Rattle.mscp_events.specs.declared.connection.Connection.TheVariants.{First}
 use Rattle.mscp_controller.specs.History.{Moment, Trace}
 use Rattle.mscp_wire.specs.Wire.{History, after, after_end, command_at, hears, is_named, outstanding, place_of, polled_by, same_connection, sent_by}
 use Rattle.mscp_wire.specs.declared.answer.Answer.{Answer}

@@ -1,5 +1,5 @@
 -- The messages of a trace are of bytes.
-use Rattle.mscp_controller.proofs.Basics.{ℕ, zero, suc, List, [], ◌∷◌, arith, AllByRecursion, Trace, Moment, moment, sent_bytes, Event, every_weaker}
+use Rattle.mscp_controller.proofs.Basics.{ℕ, zero, suc, [], ◌∷◌, arith, AllByRecursion, Trace, Moment, moment, sent_bytes, Event, every_weaker}
 use Rattle.mscp_shown.specs.Keeping.{AreBytes, IsPossible}
 
 -- a moment's message is of bytes, if it has one

@@ -1,8 +1,8 @@
 -- The ends that a controller makes suit their commands.
-use Rattle.mscp_controller.proofs.Basics.{◌≡◌, ◌≢◌, ◌⊎◌, ⊎_elim, ℕ, ◌+◌, ◌-◌, ◌*◌, ◌<◌, ◌≤◌, Bool, true, false, cond, not, ◌&&◌, ◌||◌, refl, ap, sym, ◌∙◌, subst, arith, if◌then◌else◌, Option, Some, None, true≢false, false≢true, Command, Order, Block, Settings, Shape, End, unit_found, unit_shape, fault_of, is_queued, own_end, aborted_end, queued_open, some_same}
+use Rattle.mscp_controller.proofs.Basics.{◌≡◌, ◌≢◌, ◌⊎◌, ⊎_elim, ℕ, ◌+◌, ◌-◌, ◌*◌, ◌<◌, ◌≤◌, Bool, true, false, cond, ◌&&◌, refl, ap, sym, ◌∙◌, arith, Option, Some, None, true≢false, Command, Order, Block, Settings, Shape, End, unit_found, unit_shape, fault_of, is_queued, own_end, aborted_end, queued_open, some_same}
 use Rattle.std.proofs.lemmas.Bool.{ltb-false}
 use Rattle.std.proofs.lemmas.Bool.Decides.{nat_tests}
-use Rattle.std.specs.Prelude.{◌%◌, ◌/◌, ◌^◌, min, max, nat_eq, nat_le, nat_lt}
+use Rattle.std.specs.Prelude.{◌%◌, ◌^◌, min, nat_lt}
 use Rattle.mscp_packet.specs.Opcodes.{move_byte}
 use Rattle.mscp_packet.specs.declared.command.MoveKind.{MoveKind}
 use Rattle.mscp_packet.specs.declared.command.Order.TheVariants as orders
@@ -12,7 +12,7 @@ use Rattle.mscp_packet.specs.Ends.{refused_body}
 use Rattle.mscp_events.specs.declared.block.Block.TheVariants.{Bad, Good}
 use Rattle.mscp_drive.specs.Extent as extent
 use Rattle.mscp_queue.specs.Orders.{endcode, order_weight}
-use Rattle.mscp_queue.specs.Outcomes.{end_with, goes_on, is_good_block, moved_body, outcome_at, outcome_body, outcome_status, touches}
+use Rattle.mscp_queue.specs.Outcomes.{goes_on, is_good_block, moved_body, outcome_body, outcome_status, touches}
 use Rattle.mscp_controller.specs.Arrival.{is_immediate, move_fault, order_fault, unit_fault, version_fault}
 use Rattle.mscp_controller.specs.Outcomes.{answer_body, answer_status, outcome_of, own_end_with}
 use Rattle.mscp_wire.specs.Wire.{may_have}
@@ -192,7 +192,7 @@ module _ (shape : Shape) (good done : ℕ) (same : good ≡ done) where
 
 -- ---- the ends of commands that were queued
 -- a command that is queued is none that a message can't ask for
-valid_order : (c : Settings) (unit : ℕ) (o : Order) → order_fault c unit o ≡ None → (byte why : ℕ)
+pub valid_order : (c : Settings) (unit : ℕ) (o : Order) → order_fault c unit o ≡ None → (byte why : ℕ)
     → o ≢ orders.Invalid byte why
 valid_order c unit o h byte why e =
     let f : order_fault c unit (orders.Invalid byte why) ≡ None = ap (order_fault c unit) (sym e) ∙ h in cc

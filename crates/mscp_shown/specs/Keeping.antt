@@ -1,5 +1,5 @@
 -- What is promised of all that a legal trace shows on the wire.
-use Rattle.std.specs.Prelude.{◌≡◌, ℕ, ◌%◌, ◌^◌, ◌<◌, ◌≤◌, true, All, List, length, take, slice_index, Option, Some, None, IfSome}
+use Rattle.std.specs.Prelude.{◌≡◌, ℕ, ◌%◌, ◌^◌, ◌<◌, ◌≤◌, true, All, List, length, take, slice_index, Option, Some, IfSome}
 use Rattle.mscp_events.specs.Settings.{IsValid, Settings, credits_of}
 use Rattle.mscp_events.specs.declared.connection.Connection.{Connection}
 use Rattle.mscp_events.specs.declared.block.Block.TheVariants.{Bad}
@@ -7,7 +7,7 @@ use Rattle.mscp_events.specs.declared.event.Event.{Event}
 use Rattle.mscp_events.specs.declared.event.Event.TheVariants as events
 use Rattle.mscp_controller.specs.History.{Trace}
 use Rattle.mscp_controller.specs.Legal.{IsLegal}
-use Rattle.mscp_wire.specs.Wire.{History, IsRightMessage, answer_by, command_at, count_of, has_abort, has_count, has_endcode, has_status, is_about, is_long, moment_at, names_unit, other_of, outstanding, place_of, sent_by, succeeds}
+use Rattle.mscp_wire.specs.Wire.{History, IsRightMessage, answer_by, command_at, count_of, has_abort, has_count, has_endcode, has_status, is_about, is_long, moment_at, names_unit, other_of, outstanding, passes_none, place_of, sent_by, succeeds}
 use Rattle.mscp_wire.specs.declared.answer.Answer.{Answer}
 use Rattle.mscp_wire.specs.declared.moment.Moment.{Moment as Shown}
 use Rattle.mscp_wire.specs.declared.moment.Moment.TheVariants as wire
@@ -37,6 +37,7 @@ pub record IsAnswer (xs : List Sent) (b : List ℕ) (e : Answer) (i : ℕ) : Typ
   pub endcode : has_endcode (command_at xs i) e ≡ true
   pub status : has_status (command_at xs i) e ≡ true
   pub aborted : has_abort xs (command_at xs i) e ≡ true
+  pub order : passes_none (take i xs) (command_at xs i) e ≡ true
   pub success : succeeds e (other_of (command_at xs i) e) ≡ true
   pub about : is_about e (other_of (command_at xs i) e) ≡ true
   pub count : has_count e (count_of (command_at xs i) e) ≡ true

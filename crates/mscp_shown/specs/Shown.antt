@@ -1,7 +1,7 @@
 -- What a trace shows on the wire between the hosts and the controller. A message is there where it is taken: one that is
 -- refused for want of a credit, for its size or for its number is none that a host may send. An end is there where its
 -- host takes it.
-use Rattle.std.specs.Prelude.{List, [], ◌∷◌, flat_map, Option, Some, Ok}
+use Rattle.std.specs.Prelude.{[], ◌∷◌, flat_map, Some, Ok}
 use Rattle.mscp_events.specs.declared.event.Event.{Event}
 use Rattle.mscp_events.specs.declared.event.Event.TheVariants as events
 use Rattle.mscp_controller.specs.History.{Trace}
