@@ -1,17 +1,16 @@
 -- An aborted command's end stands before that of its ABORT, which is outstanding until then.
-use Rattle.mscp_controller.proofs.Basics.{◌≡◌, ◌≢◌, ◌⊎◌, inl, ⊎_elim, zero, ℕ, ◌<◌, Bool, true, false, ◌||◌, List, [], ◌∷◌, ◌++◌, length, drop, map, get_or, suc, some_same, refl, ap, sym, ◌∙◌, arith, filter, list_any, Option, Some, None, AllByRecursion, true≢false, Block, Connection, Command, Order, End, Settings, Trace, Name, command, name, name_on, reference, waiting, aborted_unless, aborted_end, good, own_end, fault_of, unit_found, every_weaker, every_from, every_filter, same_name, same_is}
+use Rattle.mscp_controller.proofs.Basics.{◌≡◌, ◌≢◌, ◌⊎◌, inl, ⊎_elim, zero, ℕ, ◌<◌, Bool, true, false, ◌||◌, List, [], ◌∷◌, ◌++◌, length, drop, map, get_or, suc, refl, ap, sym, ◌∙◌, arith, filter, list_any, Option, Some, None, AllByRecursion, true≢false, Block, Connection, Command, Order, End, Settings, Trace, Name, command, name, name_on, reference, waiting, aborted_unless, aborted_end, good, own_end, fault_of, every_weaker, every_from, every_filter, same_name, same_is}
 use Rattle.std.proofs.Common.{inr}
 use Rattle.std.specs.Prelude.{◌%◌}
 use Rattle.mscp_packet.specs.declared.command.Order.TheVariants as orders
 use Rattle.mscp_queue.specs.Outcomes.{outcome_status}
-use Rattle.mscp_controller.specs.Arrival.{order_fault}
 use Rattle.mscp_controller.specs.Outcomes.{answer_status, own_end_with}
 use Rattle.mscp_wire.specs.Wire.{after_end, is_named}
 use Rattle.mscp_wire.specs.declared.answer.Answer.{Answer}
 use Rattle.mscp_wire.specs.declared.sent.Sent.{Sent}
 use Rattle.mscp_shown.proofs.Owners.{IsOnly, only_after, only_push}
 use Rattle.mscp_shown.proofs.Saying.{Says}
-use Rattle.mscp_shown.proofs.Suiting.{IsFault, move_refused, unit_refused, version_refused}
+use Rattle.mscp_shown.proofs.Suiting.{IsFault, refused_apart}
 
 -- one of the elements is so
 abbrev pub AnyBy : {X : Type 0} → (X → Type 0) → List X → Type 0
@@ -123,26 +122,6 @@ aborts_answer own t xs e (x ∷ ys) h n = (
 -- ---- statuses
 pub one_aborts : (via : Connection) (xs : List Sent) (e : End) → e.status % 32 ≢ 2 → Aborts via xs (e ∷ [])
 one_aborts via xs e n = ((λ z. absurd (n z)), tt)
-
-pub refused_apart : (c : Settings) (unit status : ℕ) (o : Order) (s : Sent) → Says o s → order_fault c unit o ≡ Some status
-    → (status % 32 ≡ 1) ⊎ (status % 32 ≡ 3)
-refused_apart c unit status (orders.Invalid byte fault) s says h =
-    let same : fault ≡ status = some_same fault status h in
-    inl (ap (λ n. n % 32) (sym same) ∙ ⊎_elim (λ e. ap (λ n. n % 32) e) (λ short. ap (λ n. n % 32) short.1.why) says)
-refused_apart c unit status (orders.Abort other) s says h = cc
-refused_apart c unit status (orders.Status other) s says h = cc
-refused_apart c unit status (orders.Move kind count block) s says h =
-    move_refused c kind count block status (unit_found c unit) h
-refused_apart c unit status orders.UnitStatus s says h =
-    inr (ap (λ n. n % 32) (unit_refused status (unit_found c unit) h))
-refused_apart c unit status orders.Available s says h =
-    inr (ap (λ n. n % 32) (unit_refused status (unit_found c unit) h))
-refused_apart c unit status orders.Online s says h =
-    inr (ap (λ n. n % 32) (unit_refused status (unit_found c unit) h))
-refused_apart c unit status orders.SetUnit s says h =
-    inr (ap (λ n. n % 32) (unit_refused status (unit_found c unit) h))
-refused_apart c unit status (orders.SetController version) s says h =
-    inl (ap (λ n. n % 32) (version_refused status version h))
 
 answered_apart : (online : Bool) (o : Order) → answer_status online o % 32 ≢ 2
 answered_apart online o h = grind arith

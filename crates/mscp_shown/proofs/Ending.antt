@@ -23,6 +23,14 @@ use Rattle.mscp_shown.proofs.Shown.{placed, tally, tally_end}
 use Rattle.mscp_shown.proofs.Taking.{Takes, long_end, reference_read}
 use Rattle.std.proofs.Common.{⊎_elim}
 use Rattle.std.proofs.lemmas.List.{get_or-take, length-take-le}
+use Rattle.mscp_packet.specs.declared.end.EndBody.{EndBody}
+use Rattle.mscp_packet.specs.declared.end.EndBody.TheVariants as bodies
+use Rattle.mscp_wire.specs.Wire.{polled_by}
+use Rattle.mscp_shown.proofs.Heeded.{figure_right, heard_took}
+use Rattle.mscp_shown.proofs.Listening.{Heard}
+use Rattle.mscp_shown.proofs.Polling.{figure_by, figure_told, poll_by, poll_of}
+use Rattle.mscp_shown.proofs.Reading.{BodyReads, Reads}
+use Rattle.mscp_shown.proofs.Staying.{none_left}
 use Rattle.mscp_shown.proofs.Kept.{Inv, More, every_at, shows_one, still, same_sides}
 use Rattle.mscp_shown.proofs.Ordering.{Clear, IsClearOf, Ordered}
 use Rattle.mscp_shown.proofs.Staying.{orders_took}
@@ -68,13 +76,39 @@ module _ (c : Settings) (t : Trace) (own : Connection) (b : ArrayVec ℕ) (known
       let fit = every_at (λ s. is_named own e.reference s ≡ true → Fits own e (untold s)) xs all i (sent_by First [])
       found.0 found.1 in
       record {
-        unit = fit.unit;
-        endcode = fit.endcode;
-        status = fit.status;
-        success = fit.success;
-        about = fit.about;
-        count = fit.count;
+        unit = fit.keeps.unit;
+        endcode = fit.keeps.endcode;
+        status = fit.keeps.status;
+        success = fit.keeps.success;
+        about = fit.keeps.about;
+        count = fit.keeps.count;
       }
+
+  -- and it is the end of a poll if that is one
+  polling : (e : End) (rest : List End) → untaken c own t ≡ e ∷ rest → (i : ℕ)
+      → position (is_named own e.reference) (outstanding (shown t)) ≡ Some i
+      → polled_by (command_at (outstanding (shown t)) i) (answer_by own (end_bytes e)) ≡ poll_of e
+  polling e rest us i at =
+      let xs = outstanding (shown t) in
+      let found = position-Some (is_named own e.reference) xs i (sent_by First []) at in
+      let all = (subst (AllByRecursion (IsOwed own xs)) us (h.owners.owed own)).0 in
+      let fit = every_at (λ s. is_named own e.reference s ≡ true → Fits own e (untold s)) xs all i (sent_by First [])
+      found.0 found.1 in
+      fit.poll
+
+  figure_read : (e : End) (a : Answered) → a ≡ answer_by own (end_bytes e)
+      → Reads e (answer_by own (end_bytes e)) → (n : ℕ) → poll_of e ≡ Some n → a.figure ≡ Some (figure_told e)
+  figure_read e a is r n q = ap (λ (z : Answered). z.figure) is ∙ of_body e.status e.body r.body q
+    where
+      of_body : (status : ℕ) (body : EndBody) → BodyReads body (answer_by own (end_bytes e)) → poll_by status body ≡ Some n
+          → (answer_by own (end_bytes e)).figure ≡ Some (figure_by body)
+      of_body status (bodies.Status other figure) k p = k.1
+      of_body status bodies.Bare k p = cc
+      of_body status (bodies.Abort other) k p = cc
+      of_body status (bodies.UnitStatus id media track group cylinder) k p = cc
+      of_body status (bodies.Controller timeout id) k p = cc
+      of_body status (bodies.Online id media size serial) k p = cc
+      of_body status (bodies.Moved count) k p = cc
 
   -- whose the names are that are left
   owners_left : (a : Answered) (i : ℕ) → Owners c (t ++ taking ∷ []) (after_end (outstanding (shown t)) a (Some i))
@@ -217,6 +251,10 @@ module _ (c : Settings) (t : Trace) (own : Connection) (b : ArrayVec ℕ) (known
       ap (λ l. (answer_by own l).status) items ∙ (reads own e fit).status in
       let here : Keeps (command_at xs i) a =
       subst (λ l. Keeps (command_at xs i) (answer_by own l)) (sym items) fit_there in
+      let asks : polled_by (command_at xs i) a ≡ poll_of e =
+      ap (λ l. polled_by (command_at xs i) (answer_by own l)) items ∙ polling e rest took.is i some.1 in
+      let figure = figure_read e a (ap (answer_by own) items) (reads own e fit) in
+      let left = none_left c own t taking xs a i h.orders at e refl number in
       shows_one c t taking h (moments.End own b) refl
       (λ via p.
       let end = tally_end via p xs a i at in
@@ -237,6 +275,8 @@ module _ (c : Settings) (t : Trace) (own : Connection) (b : ArrayVec ℕ) (known
           order = waits_for_none e rest took.is a i there.low there.connection (there.reference ∙ number) status;
           success = here.success;
           about = here.about;
+          figure = figure_right c own t taking xs a i e rest took.is at refl number asks figure h.orders.single h.tallied
+              h.heard left;
           count = here.count;
         },
       ))
@@ -244,6 +284,9 @@ module _ (c : Settings) (t : Trace) (own : Connection) (b : ArrayVec ℕ) (known
       (subst (λ o. Orders c (t ++ taking ∷ []) (after_end xs a o)) (sym at)
       (orders_took c own t taking xs a i h.orders at known.steady.apart right refl (λ via. refl) (λ via. refl)
       (λ via. known.room.taken via) e rest took.is refl number))
+      (subst (λ o. Heard c (t ++ taking ∷ []) (after_end xs a o)) (sym at)
+      (heard_took c own t taking xs a i e rest took.is at refl number asks figure h.orders.single h.tallied h.heard left
+      refl (λ via. refl) (λ via. refl) (λ via. known.room.taken via)))
       (λ via. tt)
     where
       by_side : (via : Connection) (passes : Bool)

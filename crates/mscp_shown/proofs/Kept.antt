@@ -1,4 +1,5 @@
 -- What holds after each part of a legal trace, and what a moment has to keep of it.
+use Rattle.mscp_controller.proofs.Basics.{End}
 use Rattle.mscp_controller.proofs.Basics.{◌≡◌, ℕ, ◌+◌, ◌<◌, Bool, true, false, not, List, [], ◌∷◌, ◌++◌, length, refl, ap, sym, ◌∙◌, subst, append-nil, arith, Option, None, AllByRecursion, true≢false, false≢true, Connection, Command, Settings, Trace, Moment, takes, command, name, waiting, waiting_by, ends_in, ends_at, ends, untaken, every_from, same_connection, is_queued, IsRight, each_push, taken_when, All-from_recursion, queues, get_or}
 use Rattle.mscp_controller.specs.declared.entry.Sent.{Sent}
 use Rattle.mscp_controller.proofs.Promise.Known.{Known}
@@ -7,7 +8,8 @@ use Rattle.mscp_wire.specs.Wire.{History, after, after_end, answer_by, command_a
 use Rattle.mscp_wire.specs.Wire as wire
 use Rattle.mscp_wire.specs.declared.moment.Moment.{Moment as Wired}
 use Rattle.mscp_wire.specs.declared.moment.Moment.TheVariants as moments
-use Rattle.mscp_shown.specs.Keeping.{AreKept, Covers, IsKept}
+use Rattle.mscp_shown.specs.Keeping.{Covers}
+use Rattle.mscp_wire.specs.Wire.{AreRight, IsRightAfter}
 use Rattle.mscp_shown.specs.Shown.{shown, shown_by}
 use Rattle.mscp_shown.proofs.Aborted.{Aborts}
 use Rattle.mscp_shown.proofs.Owed.{came, owed, owed_more, quiet}
@@ -16,6 +18,8 @@ use Rattle.mscp_shown.proofs.Owners.{IsOwed}
 use Rattle.mscp_shown.proofs.Owning.{Owners, owners_more}
 use Rattle.mscp_shown.proofs.Reading.{IsFit}
 use Rattle.mscp_shown.proofs.Shown.{after_more, shown_more, tally}
+use Rattle.mscp_shown.proofs.Listening.{Heard, heard_still}
+use Rattle.mscp_shown.proofs.Polling.{poll_of}
 use Rattle.mscp_shown.proofs.Ordering.{Ordered}
 use Rattle.mscp_shown.proofs.Staying.{orders_still}
 use Rattle.mscp_shown.proofs.Waiting.{Orders}
@@ -25,10 +29,11 @@ pub record Inv (c : Settings) (t : Trace) : Type 0 where
   pub tallied : (via : Connection) (p : ℕ → Bool) → tally via p (outstanding (shown t)) ≡ owed c via t p
   pub owners : Owners c t (outstanding (shown t))
   pub orders : Orders c t (outstanding (shown t))
+  pub heard : Heard c t (outstanding (shown t))
   pub queued : AllByRecursion (λ x. is_queued c (command t x) ≡ true) (waiting t)
   pub even : AllByRecursion (IsEven t) (waiting t)
   pub fit : (via : Connection) → AllByRecursion IsFit (ends c via t)
-  pub kept : (credits : Option ℕ) → Covers credits c → AreKept credits (shown t)
+  pub kept : (credits : Option ℕ) → Covers credits c → AreRight credits (shown t)
 
 -- what a moment keeps, before which this holds
 pub record More (c : Settings) (t : Trace) (m : Moment) : Type 0 where
@@ -36,8 +41,9 @@ pub record More (c : Settings) (t : Trace) (m : Moment) : Type 0 where
       → tally via p (outstanding (shown (t ++ m ∷ []))) ≡ owed c via (t ++ m ∷ []) p
   pub owners : Owners c (t ++ m ∷ []) (outstanding (shown (t ++ m ∷ [])))
   pub orders : Orders c (t ++ m ∷ []) (outstanding (shown (t ++ m ∷ [])))
+  pub heard : Heard c (t ++ m ∷ []) (outstanding (shown (t ++ m ∷ [])))
   pub fit : (via : Connection) → AllByRecursion IsFit (ends_at c via t m)
-  pub kept : (credits : Option ℕ) → Covers credits c → AreKept credits (shown (t ++ m ∷ []))
+  pub kept : (credits : Option ℕ) → Covers credits c → AreRight credits (shown (t ++ m ∷ []))
 
 pub none_more : (n : ℕ) → 0 + n ≡ n
 none_more n = omega arith
@@ -69,34 +75,37 @@ unfolding is_answer
 isnt_queued c via t command true r a h = absurd (true≢false (ap is_answer h))
 isnt_queued c via t command false r a h = refl
 
-kept_more : (credits : Option ℕ) (h : History) (m : Wired) → AreKept credits h → IsKept credits (outstanding h) m
-    → AreKept credits (h ++ m ∷ [])
-kept_more credits h m all last = each_push moments.Reset (λ h m. IsKept credits (outstanding h) m) h m all last
+kept_more : (credits : Option ℕ) (h : History) (m : Wired) → AreRight credits h → IsRightAfter credits (outstanding h) m
+    → AreRight credits (h ++ m ∷ [])
+kept_more credits h m all last = each_push moments.Reset (λ h m. IsRightAfter credits (outstanding h) m) h m all last
 
 module _ (c : Settings) (t : Trace) (m : Moment) (h : Inv c t) where
   -- a moment that shows nothing
   pub shows_none : shown_by m.0 m.1 ≡ [] → ((via : Connection) (p : ℕ → Bool) → owed c via (t ++ m ∷ []) p ≡ owed c via t p)
       → Owners c (t ++ m ∷ []) (outstanding (shown t)) → Orders c (t ++ m ∷ []) (outstanding (shown t))
+      → Heard c (t ++ m ∷ []) (outstanding (shown t))
       → ((via : Connection) → AllByRecursion IsFit (ends_at c via t m)) → More c t m
-  shows_none e same owners orders fit =
+  shows_none e same owners orders heard fit =
       let is : shown (t ++ m ∷ []) ≡ shown t = shown_more t m ∙ ap (λ w. shown t ++ w) e ∙ append-nil (shown t) in
       record {
         tallied = λ via p. ap (λ w. tally via p (outstanding w)) is ∙ h.tallied via p ∙ sym (same via p);
         owners = subst (λ w. Owners c (t ++ m ∷ []) (outstanding w)) (sym is) owners;
         orders = subst (λ w. Orders c (t ++ m ∷ []) (outstanding w)) (sym is) orders;
+        heard = subst (λ w. Heard c (t ++ m ∷ []) (outstanding w)) (sym is) heard;
         fit = fit;
-        kept = λ credits covers. subst (AreKept credits) (sym is) (h.kept credits covers);
+        kept = λ credits covers. subst (AreRight credits) (sym is) (h.kept credits covers);
       }
 
   -- a moment that shows this
   pub shows_one : (w : Wired) → shown_by m.0 m.1 ≡ w ∷ []
       → ((via : Connection) (p : ℕ → Bool)
       → tally via p (after (outstanding (shown t)) w) ≡ owed c via (t ++ m ∷ []) p)
-      → ((credits : Option ℕ) → Covers credits c → IsKept credits (outstanding (shown t)) w)
+      → ((credits : Option ℕ) → Covers credits c → IsRightAfter credits (outstanding (shown t)) w)
       → Owners c (t ++ m ∷ []) (after (outstanding (shown t)) w)
       → Orders c (t ++ m ∷ []) (after (outstanding (shown t)) w)
+      → Heard c (t ++ m ∷ []) (after (outstanding (shown t)) w)
       → ((via : Connection) → AllByRecursion IsFit (ends_at c via t m)) → More c t m
-  shows_one w e same right owners orders fit =
+  shows_one w e same right owners orders heard fit =
       let is : shown (t ++ m ∷ []) ≡ shown t ++ w ∷ [] = shown_more t m ∙ ap (λ l. shown t ++ l) e in
       let there : outstanding (shown (t ++ m ∷ [])) ≡ after (outstanding (shown t)) w =
       ap outstanding is ∙ after_more (shown t) w in
@@ -104,8 +113,9 @@ module _ (c : Settings) (t : Trace) (m : Moment) (h : Inv c t) where
         tallied = λ via p. ap (tally via p) there ∙ same via p;
         owners = subst (Owners c (t ++ m ∷ [])) (sym there) owners;
         orders = subst (Orders c (t ++ m ∷ [])) (sym there) orders;
+        heard = subst (Heard c (t ++ m ∷ [])) (sym there) heard;
         fit = fit;
-        kept = λ credits covers. subst (AreKept credits) (sym is)
+        kept = λ credits covers. subst (AreRight credits) (sym is)
             (kept_more credits (shown t) w (h.kept credits covers) (right credits covers));
       }
 
@@ -132,4 +142,6 @@ module _ (c : Settings) (t : Trace) (m : Moment) (h : Inv c t) where
       h.owners.aborts (λ via. subst (Aborts via xs) (sym (none via)) tt))
       (orders_still c t m xs k.steady.apart (λ via. k.room.taken via) r n (λ via. (q via (λ n. true)).0)
       (λ via. subst (Ordered via xs (untaken c via t)) (sym (none via)) tt) h.orders)
+      (heard_still c t m xs (λ via. k.room.taken via) (λ via. (q via (λ n. true)).0) n
+      (λ via. subst (AllByRecursion (λ (e : End). poll_of e ≡ None)) (sym (none via)) tt) h.heard)
       (λ via. subst (AllByRecursion IsFit) (sym (none via)) tt)

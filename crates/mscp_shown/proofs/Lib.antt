@@ -21,6 +21,14 @@ mod Placing
 mod Ordering
 mod Waiting
 mod Staying
+mod Asking
 mod Sending
 mod Serving
 mod Ending
+mod Polling
+mod Chaining
+mod Hearing
+mod Heeding
+mod Falling
+mod Listening
+mod Heeded

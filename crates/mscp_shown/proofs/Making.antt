@@ -1,5 +1,5 @@
 -- The ends that a moment makes: each fits the command that is outstanding under its name.
-use Rattle.mscp_controller.proofs.Basics.{◌≡◌, ◌≢◌, ℕ, ◌+◌, ◌<◌, Bool, true, false, cond, not, ◌&&◌, List, [], ◌∷◌, ◌++◌, length, map, refl, ap, sym, ◌∙◌, subst, arith, filter, if◌then◌else◌, count_by, Option, Some, None, is_some, AllByRecursion, false≢true, and-false, Block, Connection, Order, End, Report, Event, Settings, Trace, Moment, moment, Service, sent_bytes, command_of, command, connection, name, name_on, unit, order, reference, waiting, queues, ends_in, answer, aborted, aborted_unless, aborted_end, good, done, left, serves_in, is_good, own_end, fault_of, is_queued, end_of, outcome, every_append, every_both, every_weaker, every_filter, every_parts, same_name, same_is, waiting_more, waiting_below, good_before, done_before, done_last, drop_last, IsRight, IsServed, cut, waits_below, some_same, Name, figure_of}
+use Rattle.mscp_controller.proofs.Basics.{Promise, ◌≡◌, ◌≢◌, ℕ, ◌+◌, ◌<◌, Bool, true, false, cond, not, ◌&&◌, List, [], ◌∷◌, ◌++◌, length, map, refl, ap, sym, ◌∙◌, subst, arith, filter, if◌then◌else◌, count_by, Option, Some, None, is_some, AllByRecursion, false≢true, and-false, Block, Connection, Order, End, Report, Event, Settings, Trace, Moment, moment, Service, sent_bytes, command_of, command, connection, name, name_on, unit, order, reference, waiting, queues, ends_in, answer, aborted, aborted_unless, aborted_end, good, done, left, serves_in, is_good, own_end, fault_of, is_queued, end_of, outcome, every_append, every_both, every_weaker, every_filter, every_parts, same_name, same_is, waiting_more, waiting_below, good_before, done_before, done_last, drop_last, IsRight, IsServed, cut, waits_below, some_same, Name, figure_of}
 use Rattle.std.specs.Prelude.{◌%◌, ◌^◌}
 use Rattle.mscp_controller.specs.declared.entry.Entry.{Entry}
 use Rattle.mscp_controller.specs.Ends.{figure_asked}
@@ -16,6 +16,7 @@ use Rattle.mscp_shown.proofs.Ordering.{Ordered, ordered_answer}
 use Rattle.mscp_shown.proofs.Waiting.{own_order}
 use Rattle.mscp_shown.proofs.Owners.{Fits, IsNew, IsOnly, IsOwed, IsOwn, message, untold}
 use Rattle.mscp_shown.proofs.Owning.{Owners, fits, only_new, still_own}
+use Rattle.mscp_shown.proofs.Polling.{aborted_polls, asked_by, own_polls, poll_of, served_polls}
 use Rattle.mscp_shown.proofs.Reading.{IsFit}
 use Rattle.mscp_shown.proofs.Saying.{sent_says}
 use Rattle.mscp_shown.proofs.Small.{IsOfBytes, bytes_at}
@@ -81,6 +82,7 @@ even_more c t m r h =
 pub record Facts (c : Settings) (t : Trace) : Type 0 where
   pub bytes : AllByRecursion IsOfBytes t
   pub figures : (n : Name) → figure_of c t n < 2 ^ 32
+  pub promise : Promise c t
   pub queued : AllByRecursion (λ x. is_queued c (command t x) ≡ true) (waiting t)
   pub even : AllByRecursion (IsEven t) (waiting t)
 
@@ -102,15 +104,15 @@ figure_small c own t (Order.Invalid byte fault) h = omega arith
 
 -- an end fits the command that waits under its name
 fits_own : (via : Connection) (t : Trace) (xs : List Sent) (x : ℕ) (e : End) → connection t x ≡ via → IsOwn t xs x
-    → Ends (command t x) e → IsFit e → IsOwed via xs e
+    → Ends (command t x) e → IsFit e → poll_of e ≡ asked_by (order t x) → IsOwed via xs e
 unfolding command
-fits_own via t xs x e side h made fit =
+fits_own via t xs x e side h made fit poll =
     let b = sent_bytes (moment t x).0 in
     subst (λ v. IsOnly v e.reference xs (Fits v e)) side
     (subst (λ n. IsOnly (connection t x) n xs (Fits (connection t x) e)) (sym made.reference)
     (every_weaker (λ s. is_named (connection t x) (reference t x) s ≡ true → untold s ≡ message t x)
     (λ s. is_named (connection t x) (reference t x) s ≡ true → Fits (connection t x) e (untold s))
-    (λ s k n. subst (Fits (connection t x) e) (sym (k n)) (fits (connection t x) b e made fit)) xs h))
+    (λ s k n. subst (Fits (connection t x) e) (sym (k n)) (fits (connection t x) b e made fit poll)) xs h))
 
 -- ---- the ends of an answer
 every_to_map : {X Y : Type 0} (f : X → Y) (P : Y → Type 0) (xs : List X) → AllByRecursion (λ x. P (f x)) xs
@@ -138,8 +140,11 @@ module _ (c : Settings) (own : Connection) (t : Trace) (xs : List Sent) (b : Lis
       → Made (aborted_end (command t x) (good t x))
   one_aborted x k =
       let e = aborted_end (command t x) (good t x) in
-      let fit = aborted_fit (command t x) (good t x) (small_at t facts.bytes x) in
-      (fits_own own t (xs ++ sent_by own b ∷ []) x e k.1 k.0.0 (aborted_ends c (command t x) (good t x) k.0.1) fit, fit)
+      let fit = aborted_fit (command t x) (good t x) (small_at t facts.bytes x) in (
+        fits_own own t (xs ++ sent_by own b ∷ []) x e k.1 k.0.0 (aborted_ends c (command t x) (good t x) k.0.1) fit
+            (aborted_polls c (command t x) (good t x) k.0.1).0,
+        fit,
+      )
 
   pub answer_made : AreBytes b → is_queued c (command_of b) ≡ false → AllByRecursion Made (answer c own t b)
   unfolding answer command_of
@@ -155,7 +160,7 @@ module _ (c : Settings) (own : Connection) (t : Trace) (xs : List Sent) (b : Lis
       let fit = own_fit c online figure k (small_command b bytes) (figure_small c own t k.order facts.figures) in
       let owed : IsOwed own (xs ++ sent_by own b ∷ []) e =
       subst (λ n. IsOnly own n (xs ++ sent_by own b ∷ []) (Fits own e)) (sym made.reference)
-      (only_new c own t xs b new owners (Fits own e) (fits own b e made fit)) in
+      (only_new c own t xs b new owners (Fits own e) (fits own b e made fit (own_polls c online figure k (sent_by own b) q (sent_says own b)))) in
       every_append Made (map (λ x. aborted_end (command t x) (good t x)) (aborted c own t k)) (e ∷ [])
       (every_to_map (λ x. aborted_end (command t x) (good t x)) Made (aborted c own t k)
       (every_weaker (λ x. Q x × (connection t x ≡ own)) (λ x. Made (aborted_end (command t x) (good t x))) one_aborted
@@ -192,6 +197,17 @@ module _ (c : Settings) (own : Connection) (t : Trace) (xs : List Sent) (b : Lis
       ordered_answer own t (xs ++ sent_by own b ∷ []) (own_end c online figure k) (aborted c own t k) before
       (λ some. own_order c online figure k own xs b some q new.outstanding refl (sent_says own b))
 
+  -- the ends of aborted commands are those of no polls
+  pub aborted_silent : AllByRecursion (λ (e : End). poll_of e ≡ None)
+      (map (λ x. aborted_end (command t x) (good t x)) (aborted c own t (command_of b)))
+  aborted_silent =
+      let k = command_of b in
+      every_to_map (λ x. aborted_end (command t x) (good t x)) (λ (e : End). poll_of e ≡ None) (aborted c own t k)
+      (every_weaker (λ x. (is_queued c (command t x) ≡ true) × (connection t x ≡ own))
+      (λ x. poll_of (aborted_end (command t x) (good t x)) ≡ None)
+      (λ x q. let p = aborted_polls c (command t x) (good t x) q.0 in p.0 ∙ p.1) (aborted c own t k)
+      (aborted_each own t (λ x. is_queued c (command t x) ≡ true) k.order (fault_of c k) facts.queued))
+
 -- ---- the end of a step
 module _ (c : Settings) (t : Trace) (xs : List Sent) (owners : Owners c t xs) (facts : Facts c t)
     (s : Service) (k : Block) (y : ℕ) (v : IsServed c t k s y) (fault : IsFault k) where
@@ -206,7 +222,8 @@ module _ (c : Settings) (t : Trace) (xs : List Sent) (owners : Owners c t xs) (f
   last_of true e h = absurd (false≢true (sym (ap is_some h)))
   last_of false e h = (refl, some_same e (outcome c t k y) h)
 
-  pub step_made : (e : End) → s.ended ≡ Some e → ((IsOwed s.connection xs e × IsFit e) × (e.status % 32 ≢ 2)) × (e.reference ≡ reference t y)
+  pub step_made : (e : End) → s.ended ≡ Some e
+      → (((IsOwed s.connection xs e × IsFit e) × (e.status % 32 ≢ 2)) × (e.reference ≡ reference t y)) × (poll_of e ≡ None)
   unfolding outcome
   step_made e h =
       let l = last_of (goes_on (is_online t (unit t y)) (order t y) k (left t y)) e (sym h ∙ v.ended) in
@@ -214,8 +231,13 @@ module _ (c : Settings) (t : Trace) (xs : List Sent) (owners : Owners c t xs) (f
       let made = outcome_ends c online (command t y) (good t y) (done t y) k
       (at_own (λ x. is_queued c (command t x) ≡ true) facts.queued) fault (at_own (IsEven t) facts.even) l.0 in
       let fit = served_fit c online (command t y) (good t y) k (small_at t facts.bytes y) fault in
-      let own = fits_own (connection t y) t xs y (outcome c t k y) refl (at_own (IsOwn t xs) owners.waits) made fit in
+      let polls = served_polls c online (command t y) (good t y) k (at_own (λ x. is_queued c (command t x) ≡ true)
+      facts.queued) in
+      let own = fits_own (connection t y) t xs y (outcome c t k y) refl (at_own (IsOwn t xs) owners.waits) made fit
+      polls.0 in
       let owed = subst (λ u. IsOwed u xs e) (sym v.connection) (subst (IsOwed (connection t y) xs) (sym l.1) own) in
       let apart : e.status % 32 ≢ 2 =
-      subst (λ (n : End). n.status % 32 ≢ 2) (sym l.1) (outcome_apart online (order t y) k fault) in
-      (((owed, subst IsFit (sym l.1) fit), apart), ap (λ (n : End). n.reference) l.1)
+      subst (λ (n : End). n.status % 32 ≢ 2) (sym l.1) (outcome_apart online (order t y) k fault) in (
+        (((owed, subst IsFit (sym l.1) fit), apart), ap (λ (n : End). n.reference) l.1),
+        ap poll_of l.1 ∙ (polls.0 ∙ polls.1),
+      )

@@ -7,6 +7,7 @@ use Rattle.mscp_wire.specs.Wire as wire
 use Rattle.mscp_wire.specs.declared.answer.Answer.{Answer}
 use Rattle.mscp_wire.specs.declared.sent.Sent.{Sent}
 use Rattle.mscp_shown.proofs.Keeping.{Keeps}
+use Rattle.mscp_shown.proofs.Polling.{poll_of}
 use Rattle.mscp_shown.proofs.Messages.{IsTallied, new_number, owed_is}
 use Rattle.mscp_shown.proofs.Counts.{none_passes}
 use Rattle.mscp_shown.proofs.Owed.{one_if}
@@ -25,8 +26,9 @@ abbrev pub IsOnly : Connection → ℕ → List Sent → (Sent → Type 0) → T
 IsOnly via n xs P = AllByRecursion (λ s. is_named via n s ≡ true → P (untold s)) xs
 
 -- the end keeps the rules that look at it and its command alone
-abbrev pub Fits : Connection → End → Sent → Type 0
-Fits via e s = Keeps s (answer_by via (end_bytes e))
+pub record Fits (via : Connection) (e : End) (s : Sent) : Type 0 where
+  pub keeps : Keeps s (answer_by via (end_bytes e))
+  pub poll : polled_by s (answer_by via (end_bytes e)) ≡ poll_of e
 
 -- under the name of a waiting command there is that command alone
 abbrev pub IsOwn : Trace → List Sent → ℕ → Type 0

@@ -6,17 +6,23 @@ use Rattle.mscp_wire.specs.declared.sent.Sent.{Sent}
 use Rattle.mscp_shown.proofs.Aborted.{Aborts, aborts_append, aborts_push}
 use Rattle.mscp_shown.proofs.Keeping.{keeps}
 use Rattle.mscp_shown.proofs.Owners.{Fits, IsNew, IsOnly, IsOwed, IsOwn, message, only_push, same_sides, untold}
+use Rattle.mscp_shown.proofs.Polling.{asked_by, poll_of, polled_says}
 use Rattle.mscp_shown.proofs.Reading.{IsFit, reads}
 use Rattle.mscp_shown.proofs.Saying.{sent_says}
 use Rattle.mscp_shown.proofs.Suiting.{Ends}
 
 -- an end that suits its command keeps the rules that look at both alone
-pub fits : (via : Connection) (b : List ℕ) (e : End) → Ends (command_of b) e → IsFit e → Fits via e (sent_by via b)
+pub fits : (via : Connection) (b : List ℕ) (e : End) → Ends (command_of b) e → IsFit e
+    → poll_of e ≡ asked_by (command_of b).order → Fits via e (sent_by via b)
 unfolding command_of
-fits via b e h f =
+fits via b e h f poll =
+    let a = answer_by via (end_bytes e) in
     let r = reads via e f in
-    keeps (sent_by via b) (answer_by via (end_bytes e)) (command_of b).order e.status e.body (sent_says via b) h.suits
-    (r.unit ∙ h.unit) (r.code ∙ h.code) r.status r.body
+    record {
+      keeps = keeps (sent_by via b) a (command_of b).order e.status e.body (sent_says via b) h.suits (r.unit ∙ h.unit)
+          (r.code ∙ h.code) r.status r.body;
+      poll = polled_says (command_of b).order (sent_by via b) a (sent_says via b) (r.code ∙ h.code) ∙ sym poll;
+    }
 
 -- whose the names are
 pub record Owners (c : Settings) (t : Trace) (xs : List Sent) : Type 0 where

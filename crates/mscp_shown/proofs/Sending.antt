@@ -11,6 +11,7 @@ use Rattle.mscp_wire.specs.Wire.{History, after, after_end, answer_by, command_a
 use Rattle.mscp_wire.specs.Wire as wire
 use Rattle.mscp_wire.specs.declared.moment.Moment.TheVariants as moments
 use Rattle.mscp_shown.specs.Keeping.{AreBytes}
+use Rattle.mscp_wire.specs.Wire.{AreRight, IsRightAfter}
 use Rattle.mscp_shown.specs.Shown.{shown}
 use Rattle.mscp_shown.proofs.Aborted.{Aborts}
 use Rattle.mscp_shown.proofs.Answering.{Answer, answered}
@@ -22,6 +23,10 @@ use Rattle.mscp_shown.proofs.Owning.{Owners, only_new, own_last, owners_more, st
 use Rattle.mscp_shown.proofs.Reading.{IsFit}
 use Rattle.mscp_shown.proofs.Shown.{tally_sent}
 use Rattle.mscp_queue.specs.Names.{name_on}
+use Rattle.mscp_shown.specs.Keeping.{IsPatient}
+use Rattle.mscp_shown.proofs.Asking.{asked_order, its_end, poll_about, poll_answer, poll_figure, silent_answer}
+use Rattle.mscp_shown.proofs.Listening.{Heard, Tells, heard_sent, tells_none, tells_poll}
+use Rattle.mscp_shown.proofs.Polling.{asked_by, poll_of}
 use Rattle.mscp_shown.proofs.Kept.{Inv, More, isnt_queued, none_more, shows_one, taken_as_answer, same_sides}
 use Rattle.mscp_shown.proofs.Ordering.{Ordered}
 use Rattle.mscp_shown.proofs.Staying.{answered_placed, orders_sent, queued_placed}
@@ -53,16 +58,18 @@ module _ (c : Settings) (t : Trace) (own : Connection) (b : ArrayVec ℕ) (k : K
       (outstanding (shown t) ++ sent_by own b.items ∷ [])
       → Orders c (t ++ (Event.Send own b, Entry.Sent own (Ok sent)) ∷ [])
       (outstanding (shown t) ++ sent_by own b.items ∷ [])
+      → Heard c (t ++ (Event.Send own b, Entry.Sent own (Ok sent)) ∷ [])
+      (outstanding (shown t) ++ sent_by own b.items ∷ [])
       → ((via : Connection) → AllByRecursion IsFit (ends_at c via t (Event.Send own b, Entry.Sent own (Ok sent))))
       → More c t (Event.Send own b, Entry.Sent own (Ok sent))
-  sent_more sent h r opens owners orders fit =
+  sent_more sent h r opens owners orders heard fit =
       let z = arrives c own t b.items sent r in
       shows_one c t (Event.Send own b, Entry.Sent own (Ok sent)) h (moments.Message own b) refl
       (λ via p. tally_sent via own p (outstanding (shown t)) b.items
       ∙ ap (λ n. n + cond (wire.same_connection own via && p (num b.items 0 4)) 1 0) (h.tallied via p)
       ∙ ap (λ n. owed c via t p + n) (sym (sent_side via p)) ∙ sym (opens via p))
       (λ credits covers. message_right credits c own t b.items (outstanding (shown t)) covers z.taken (h.tallied own))
-      owners orders fit
+      owners orders heard fit
 
   queued_own : (h : Inv c t) → IsNew c own t (outstanding (shown t)) (sent_by own b.items)
       → IsOnly own (command_of b.items).reference (outstanding (shown t) ++ sent_by own b.items ∷ [])
@@ -93,6 +100,9 @@ module _ (c : Settings) (t : Trace) (own : Connection) (b : ArrayVec ℕ) (k : K
       (still_aborts c own t xs b.items n h.owners) (λ via. tt))
       (orders_sent c own t xs b.items n h.owners h.orders m k.steady.apart (refl, r) (λ via. k.room.taken via)
       (λ via. refl) (λ via. tt) (queued_placed c own t xs b.items n h.owners h.orders m queued_is))
+      (heard_sent c own t m xs b.items (λ via. k.room.taken via) (λ via. refl) n h.owners h.heard
+      (tells_none c own t m xs b.items (λ via. k.room.taken via) (λ via. refl) n h.owners h.heard (λ via. tt))
+      (λ e. queued_is))
       (λ via. tt)
 
   -- those that wait for the other connection stay
@@ -140,9 +150,36 @@ module _ (c : Settings) (t : Trace) (own : Connection) (b : ArrayVec ℕ) (k : K
       (subst (P own) (sym (append-nil (answer c own t b.items))) h)
   each_answer via P false e none h = none
 
-  pub answered_more : (q : ℕ) (a : Option ℕ) → Inv c t → Facts c t → AreBytes b.items → Ok (Sent.Answered q a) ≡ arrival c own t b.items
+  -- what it has to tell of a poll, if it is one
+  answer_tells : (q : ℕ) (a : Option ℕ) (h : Inv c t) → Facts c t → IsPatient (t ++ (Event.Send own b, Answer own q a) ∷ [])
+      → (n : IsNew c own t (outstanding (shown t)) (sent_by own b.items)) → is_queued c (command_of b.items) ≡ false
+      → Tells c own t (Event.Send own b, Answer own q a) (outstanding (shown t)) b.items (λ via. k.room.taken via)
+      (λ via. refl) n h.owners h.heard
+  answer_tells q a h facts patient n isnt =
+      let m : Moment = (Event.Send own b, Answer own q a) in
+      let xs = outstanding (shown t) in
+      let e = its_end c own t b.items in
+      let asks = poll_about c own t b.items isnt in
+      let P : Option ℕ → Type 0 = λ o. asked_by (command_of b.items).order ≡ o
+      → Tells c own t m xs b.items (λ via. k.room.taken via) (λ via. refl) n h.owners h.heard in
+      elim (asked_by (command_of b.items).order) as P [
+        | None ↦ λ p. tells_none c own t m xs b.items (λ via. k.room.taken via) (λ via. refl) n h.owners h.heard
+            (λ via. each_answer via (λ v. AllByRecursion (λ (e : End). poll_of e ≡ None)) (same_connection own via) refl tt
+            (silent_answer c own t b.items xs n h.owners facts (asks ∙ p)))
+        | Some other ↦ λ p.
+            let o = asked_order (command_of b.items).order other p in
+            tells_poll c own t m xs b.items (λ via. k.room.taken via) (λ via. refl) n h.owners h.heard patient
+            facts.promise h.tallied h.orders.single other e
+            (ap (λ here. (if here then answer c own t b.items else []) ++ []) (own_side own)
+            ∙ (append-nil (answer c own t b.items) ∙ poll_answer c own t b.items other o))
+            (λ via s. ap (λ here. (if here then answer c via t b.items else []) ++ []) s)
+            (record { answered = own_side own; about = o }) (asks ∙ p) (poll_figure c own t b.items other o)
+      ] refl
+
+  pub answered_more : (q : ℕ) (a : Option ℕ) → Inv c t → Facts c t
+      → IsPatient (t ++ (Event.Send own b, Answer own q a) ∷ []) → AreBytes b.items → Ok (Sent.Answered q a) ≡ arrival c own t b.items
       → More c t (Event.Send own b, Answer own q a)
-  answered_more q a h facts bytes r =
+  answered_more q a h facts patient bytes r =
       let m : Moment = (Event.Send own b, Answer own q a) in
       let xs = outstanding (shown t) in
       let z = arrives c own t b.items (Sent.Answered q a) r in
@@ -172,5 +209,9 @@ module _ (c : Settings) (t : Trace) (own : Connection) (b : ArrayVec ℕ) (k : K
       (answer_ordered c own t xs b.items n h.owners facts
       (isnt_queued c own t (command_of b.items) (is_queued c (command_of b.items)) q a z.is) (untaken c own t)))
       (answered_placed c own t xs b.items n h.owners h.orders m refl))
+      (heard_sent c own t m xs b.items (λ via. k.room.taken via) (λ via. refl) n h.owners h.heard
+      (answer_tells q a h facts patient n
+      (isnt_queued c own t (command_of b.items) (is_queued c (command_of b.items)) q a z.is))
+      (λ e. absurd (false≢true e)))
       (λ via. side via (λ v. AllByRecursion IsFit) tt
       (every_weaker (λ (e : End). IsOwed own longer e × IsFit e) IsFit (λ e k. k.1) each made))

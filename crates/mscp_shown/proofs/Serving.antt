@@ -16,7 +16,9 @@ use Rattle.mscp_shown.proofs.Owning.{owners_more}
 use Rattle.mscp_shown.proofs.Reading.{IsFit}
 use Rattle.mscp_shown.proofs.Suiting.{IsFault}
 use Rattle.std.proofs.Common.{inr}
+use Rattle.mscp_shown.proofs.Polling.{poll_of}
 use Rattle.mscp_shown.proofs.Placing.{served_free}
+use Rattle.mscp_shown.proofs.Listening.{heard_still}
 use Rattle.mscp_shown.proofs.Kept.{Inv, More, shows_none, still}
 use Rattle.mscp_shown.proofs.Ordering.{Clear, Ordered}
 use Rattle.mscp_shown.proofs.Staying.{orders_still}
@@ -68,8 +70,8 @@ module _ (c : Settings) (t : Trace) (block : Block) (k : Known c t) (h : Inv c t
   served_more s report is r ended e y v fault facts nothing at =
       let m : Moment = (Event.Step block, Entry.Stepped report) in
       let xs = outstanding (shown t) in
-      let Made : End → Type 0 = λ e. ((IsOwed s.connection xs e × IsFit e) × (e.status % 32 ≢ 2))
-      × (e.reference ≡ reference t y) in
+      let Made : End → Type 0 = λ e. (((IsOwed s.connection xs e × IsFit e)
+      × (e.status % 32 ≢ 2)) × (e.reference ≡ reference t y)) × (poll_of e ≡ None) in
       let made : (o : Option End) → s.ended ≡ o → AllByRecursion Made (option_to_list o) = λ o. elim o as (λ o. s.ended
       ≡ o → AllByRecursion Made (option_to_list o)) [
         | None ↦ λ q. tt
@@ -83,20 +85,23 @@ module _ (c : Settings) (t : Trace) (block : Block) (k : Known c t) (h : Inv c t
       (owners_more c t m xs (λ via. k.room.taken via) (λ via. refl) h.owners.waits (λ e. absurd (false≢true e))
       h.owners.owed
       (λ via. side via (λ v. AllByRecursion (IsOwed v xs)) tt
-      (every_weaker Made (IsOwed s.connection xs) (λ e k. k.0.0.0) (option_to_list ended) each))
+      (every_weaker Made (IsOwed s.connection xs) (λ e k. k.0.0.0.0) (option_to_list ended) each))
       h.owners.aborts
       (λ via. side via (λ v. Aborts v xs) tt (aborts_of s.connection xs ended
-      (every_weaker Made (λ e. e.status % 32 ≢ 2) (λ e k. k.0.1) (option_to_list ended) each))))
+      (every_weaker Made (λ e. e.status % 32 ≢ 2) (λ e k. k.0.0.1) (option_to_list ended) each))))
       (orders_still c t m xs k.steady.apart (λ via. k.room.taken via) r refl (λ via. refl)
       (λ via. side via (λ v es. Ordered v xs (untaken c v t) es) tt
       (subst (λ v. Ordered v xs (untaken c v t) (option_to_list ended)) (sym v.connection)
       (orders_of ended
-      (every_weaker Made (λ e. e.reference ≡ reference t y) (λ e k. k.1) (option_to_list ended) each)
+      (every_weaker Made (λ e. e.reference ≡ reference t y) (λ e k. k.0.1) (option_to_list ended) each)
       (λ e number. clear_of c t xs h.tallied h.owners.waits h.queued h.orders.placed y e v.waits
       (served_free c t block s y v h.orders.free) number))))
       h.orders)
+      (heard_still c t m xs (λ via. k.room.taken via) (λ via. refl) refl
+      (λ via. side via (λ v. AllByRecursion (λ (e : End). poll_of e ≡ None)) tt
+      (every_weaker Made (λ e. poll_of e ≡ None) (λ e k. k.1) (option_to_list ended) each)) h.heard)
       (λ via. side via (λ v. AllByRecursion IsFit) tt
-      (every_weaker Made IsFit (λ e k. k.0.0.1) (option_to_list ended) each))
+      (every_weaker Made IsFit (λ e k. k.0.0.0.1) (option_to_list ended) each))
     where
       orders_of : (ended : Option End) → AllByRecursion (λ (e : End). e.reference ≡ reference t y) (option_to_list ended)
           → ((e : End) → e.reference ≡ reference t y

@@ -163,7 +163,7 @@ module _ (c : Settings) (own : Connection) (t : Trace) (m : Moment) (xs : List S
   fewer_names via n = omega (arith, tally_end via (λ k. nat_eq k n) xs a i at, h.single via n)
 
   -- none is left of the name of the command that ended
-  none_left : (e : End) → a.connection ≡ own → a.reference ≡ e.reference
+  pub none_left : (e : End) → a.connection ≡ own → a.reference ≡ e.reference
       → AllByRecursion (λ s. is_named own e.reference s ≡ false) left
   none_left e side number =
       let there : one_if (wire.same_connection a.connection own && nat_eq a.reference e.reference) ≡ 1 =

@@ -16,6 +16,9 @@ use Rattle.mscp_queue.specs.Outcomes.{goes_on, is_good_block, moved_body, outcom
 use Rattle.mscp_controller.specs.Arrival.{is_immediate, move_fault, order_fault, unit_fault, version_fault}
 use Rattle.mscp_controller.specs.Outcomes.{answer_body, answer_status, outcome_of, own_end_with}
 use Rattle.mscp_wire.specs.Wire.{may_have}
+use Rattle.std.proofs.Common.{inl, inr}
+use Rattle.mscp_wire.specs.declared.sent.Sent.{Sent}
+use Rattle.mscp_shown.proofs.Saying.{Says}
 use Rattle.mscp_shown.proofs.Keeping.{Suits}
 
 -- an end suits the command that it ends
@@ -220,3 +223,24 @@ outcome_ends c online k good done block q fault same last =
       suits = outcome_suits (unit_shape c k.unit) good done same online k.order block fault sound.waits
           (valid_order c k.unit k.order sound.sound) last;
     }
+
+-- a refused command has Invalid Command or Unit-Offline
+pub refused_apart : (c : Settings) (unit status : ℕ) (o : Order) (s : Sent) → Says o s → order_fault c unit o ≡ Some status
+    → (status % 32 ≡ 1) ⊎ (status % 32 ≡ 3)
+refused_apart c unit status (orders.Invalid byte fault) s says h =
+    let same : fault ≡ status = some_same fault status h in
+    inl (ap (λ n. n % 32) (sym same) ∙ ⊎_elim (λ e. ap (λ n. n % 32) e) (λ short. ap (λ n. n % 32) short.1.why) says)
+refused_apart c unit status (orders.Abort other) s says h = cc
+refused_apart c unit status (orders.Status other) s says h = cc
+refused_apart c unit status (orders.Move kind count block) s says h =
+    move_refused c kind count block status (unit_found c unit) h
+refused_apart c unit status orders.UnitStatus s says h =
+    inr (ap (λ n. n % 32) (unit_refused status (unit_found c unit) h))
+refused_apart c unit status orders.Available s says h =
+    inr (ap (λ n. n % 32) (unit_refused status (unit_found c unit) h))
+refused_apart c unit status orders.Online s says h =
+    inr (ap (λ n. n % 32) (unit_refused status (unit_found c unit) h))
+refused_apart c unit status orders.SetUnit s says h =
+    inr (ap (λ n. n % 32) (unit_refused status (unit_found c unit) h))
+refused_apart c unit status (orders.SetController version) s says h =
+    inl (ap (λ n. n % 32) (version_refused status version h))

@@ -18,7 +18,6 @@ use Rattle.mscp_queue.specs.Pairs.{Pairs}
 use Rattle.mscp_wire.specs.Wire.{is_apart, is_named, keeps_back, sent_by}
 use Rattle.mscp_wire.specs.Wire as wire
 use Rattle.mscp_wire.specs.declared.sent.Sent.{Sent}
-use Rattle.mscp_shown.proofs.Aborted.{refused_apart}
 use Rattle.mscp_shown.proofs.Counts.{none_passes, some_place}
 use Rattle.mscp_shown.proofs.Messages.{IsTallied}
 use Rattle.mscp_shown.proofs.Ordering.{Clear, IsClearOf, Ordered, fences, kept_side}
@@ -28,7 +27,7 @@ use Rattle.mscp_shown.proofs.Pairing.{index_every, index_pairs, pairs_index}
 use Rattle.mscp_shown.proofs.Placing.{IsFree, ServedAreFree, at_waiting}
 use Rattle.mscp_shown.proofs.Saying.{Says, sent_says}
 use Rattle.mscp_shown.proofs.Shown.{tally}
-use Rattle.mscp_shown.proofs.Suiting.{valid_order}
+use Rattle.mscp_shown.proofs.Suiting.{refused_apart, valid_order}
 
 -- of two commands that wait the one that is outstanding longer came first
 abbrev pub IsPlaced : Trace → ℕ → ℕ → Sent → Sent → Type 0
@@ -100,7 +99,7 @@ pub record Waits (t : Trace) (via : Connection) (n : ℕ) (x : ℕ) : Type 0 whe
   pub number : reference t x ≡ n
 
 -- a number that is outstanding and of no untaken end is that of a command that waits
-waits_under : (c : Settings) (t : Trace) (via : Connection) (n : ℕ)
+pub waits_under : (c : Settings) (t : Trace) (via : Connection) (n : ℕ)
     → 1 ≤ count_by (λ x. nat_eq (reference t x) n) (waiting_by via t) → (x : ℕ) × Waits t via n x
 waits_under c t via n some =
     let p : ℕ → Bool = λ x. nat_eq (reference t x) n in

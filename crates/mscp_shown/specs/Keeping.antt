@@ -1,17 +1,15 @@
 -- What is promised of all that a legal trace shows on the wire.
-use Rattle.std.specs.Prelude.{◌≡◌, ℕ, ◌%◌, ◌^◌, ◌<◌, ◌≤◌, true, All, List, length, take, slice_index, Option, Some, IfSome}
+use Rattle.std.specs.Prelude.{◌≡◌, ℕ, ◌%◌, ◌^◌, ◌<◌, ◌≤◌, true, All, List, length, slice_index, Option, IfSome}
 use Rattle.mscp_events.specs.Settings.{IsValid, Settings, credits_of}
 use Rattle.mscp_events.specs.declared.connection.Connection.{Connection}
 use Rattle.mscp_events.specs.declared.block.Block.TheVariants.{Bad}
 use Rattle.mscp_events.specs.declared.event.Event.{Event}
 use Rattle.mscp_events.specs.declared.event.Event.TheVariants as events
-use Rattle.mscp_controller.specs.History.{Trace}
+use Rattle.mscp_packet.specs.declared.command.Order.TheVariants as orders
+use Rattle.mscp_controller.specs.Commands.{sent_command}
+use Rattle.mscp_controller.specs.History.{Moment, Trace, answers, is_step, moment}
 use Rattle.mscp_controller.specs.Legal.{IsLegal}
-use Rattle.mscp_wire.specs.Wire.{History, IsRightMessage, answer_by, command_at, count_of, has_abort, has_count, has_endcode, has_status, is_about, is_long, moment_at, names_unit, other_of, outstanding, passes_none, place_of, sent_by, succeeds}
-use Rattle.mscp_wire.specs.declared.answer.Answer.{Answer}
-use Rattle.mscp_wire.specs.declared.moment.Moment.{Moment as Shown}
-use Rattle.mscp_wire.specs.declared.moment.Moment.TheVariants as wire
-use Rattle.mscp_wire.specs.declared.sent.Sent.{Sent}
+use Rattle.mscp_wire.specs.Wire.{AreRight}
 use Rattle.mscp_shown.specs.Shown.{shown}
 
 -- each element of a list is a byte
@@ -29,31 +27,20 @@ IsPossible event = Unit {0}
 abbrev pub Covers : Option ℕ → Settings → Type 0
 Covers credits c = IfSome credits (λ n. (via : Connection) → credits_of c via ≤ n)
 
--- an end keeps these rules: its command is at place i of those that are outstanding
-pub record IsAnswer (xs : List Sent) (b : List ℕ) (e : Answer) (i : ℕ) : Type 0 where
-  pub length : is_long b ≡ true
-  pub outstanding : place_of xs e ≡ Some i
-  pub unit : names_unit (command_at xs i) e ≡ true
-  pub endcode : has_endcode (command_at xs i) e ≡ true
-  pub status : has_status (command_at xs i) e ≡ true
-  pub aborted : has_abort xs (command_at xs i) e ≡ true
-  pub order : passes_none (take i xs) (command_at xs i) e ≡ true
-  pub success : succeeds e (other_of (command_at xs i) e) ≡ true
-  pub about : is_about e (other_of (command_at xs i) e) ≡ true
-  pub count : has_count e (count_of (command_at xs i) e) ≡ true
+-- a moment is a poll of a connection about the command of this reference number, and is answered
+pub record Polls (via : Connection) (reference : ℕ) (m : Moment) : Type 0 where
+  pub answered : answers via m.1 ≡ true
+  pub about : (sent_command m).order ≡ orders.Status reference
 
--- a moment keeps them, before which these commands are outstanding: a message all rules of a host
-abbrev pub IsKept : Option ℕ → List Sent → Shown → Type 0
-IsKept credits xs (wire.Message via b) = IsRightMessage credits xs b.items (sent_by via b.items)
-IsKept credits xs (wire.End via b) = (i : ℕ) × IsAnswer xs b.items (answer_by via b.items) i
-IsKept credits xs wire.Reset = Unit {0}
+-- between two polls about one command a step comes: a host polls once in a controller timeout (manual, "Host Command
+-- Timeouts")
+abbrev pub IsPatient : Trace → Type 0
+IsPatient t = (i j : ℕ) (via : Connection) (reference : ℕ) → i < j → j < length t
+    → Polls via reference (moment t i) → Polls via reference (moment t j)
+    → (k : ℕ) × (i < k) × (k < j) × (is_step (moment t k).0 ≡ true)
 
--- each moment of a history keeps them after those before it
-abbrev pub AreKept : Option ℕ → History → Type 0
-AreKept credits h = (i : ℕ) → i < length h → IsKept credits (outstanding (take i h)) (moment_at h i)
-
--- the law: all that a legal trace of events that may come shows on the wire keeps the rules
-abbrev pub LegalTracesAreKept : Type 0
-LegalTracesAreKept =
-    (c : Settings) (t : Trace) (credits : Option ℕ) → IsValid c → IsLegal c t → All (λ m. IsPossible m.0) t → Covers credits c
-    → AreKept credits (shown t)
+-- the law: all that a legal trace of events that may come shows on the wire is right, where its hosts are patient
+abbrev pub LegalTracesAreRight : Type 0
+LegalTracesAreRight =
+    (c : Settings) (t : Trace) (credits : Option ℕ) → IsValid c → IsLegal c t → All (λ m. IsPossible m.0) t
+    → IsPatient t → Covers credits c → AreRight credits (shown t)

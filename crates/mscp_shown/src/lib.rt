@@ -1,6 +1,6 @@
-//! What a legal trace shows on the wire, and that it keeps the rules of any controller.
+//! What a legal trace shows on the wire, and that it is right by the rules for any controller.
 #![tactic(auto)]
 
 mod law;
 
-pub use crate::law::legal_traces_are_kept;
+pub use crate::law::legal_traces_are_right;
