@@ -1,0 +1,144 @@
+-- An aborted command's end stands before that of its ABORT, which is outstanding until then.
+use Rattle.mscp_controller.proofs.Basics.{◌≡◌, ◌≢◌, ◌⊎◌, inl, ⊎_elim, zero, ℕ, ◌<◌, Bool, true, false, ◌||◌, List, [], ◌∷◌, ◌++◌, length, drop, map, get_or, suc, refl, ap, sym, ◌∙◌, arith, filter, list_any, Option, Some, None, AllByRecursion, true≢false, Block, Connection, Command, Order, End, Settings, Trace, Name, command, name, name_on, reference, waiting, aborted_unless, aborted_end, good, own_end, fault_of, every_weaker, every_from, every_filter, same_name, same_is}
+use Rattle.std.proofs.Common.{inr}
+use Rattle.std.specs.Prelude.{◌%◌}
+use Rattle.mscp_packet.specs.declared.command.Order.TheVariants as orders
+use Rattle.mscp_queue.specs.Outcomes.{outcome_status}
+use Rattle.mscp_controller.specs.Outcomes.{answer_status, own_end_with}
+use Rattle.mscp_wire.specs.Wire.{after_end, is_named}
+use Rattle.mscp_wire.specs.declared.answer.Answer.{Answer}
+use Rattle.mscp_wire.specs.declared.sent.Sent.{Sent}
+use Rattle.mscp_shown.proofs.Owners.{IsOnly, only_after, only_push}
+use Rattle.mscp_shown.proofs.Saying.{Says}
+use Rattle.mscp_shown.proofs.Suiting.{IsFault, refused_apart}
+
+-- one of the elements is so
+abbrev pub AnyBy : {X : Type 0} → (X → Type 0) → List X → Type 0
+AnyBy P [] = ⊥
+AnyBy P (x ∷ xs) = P x ⊎ AnyBy P xs
+
+-- a command is an ABORT of the command of this reference number
+abbrev pub IsAbort : ℕ → Sent → Type 0
+IsAbort n s = (s.opcode ≡ 1) × (s.parameter ≡ Some n)
+
+-- an end is that of such a command
+abbrev pub EndsAbort : Connection → List Sent → ℕ → End → Type 0
+EndsAbort via xs n e = IsOnly via e.reference xs (IsAbort n)
+
+-- behind each end of an aborted command stands that of its ABORT
+abbrev pub Aborts : Connection → List Sent → List End → Type 0
+Aborts via xs [] = Unit {0}
+Aborts via xs (e ∷ rest) = (e.status % 32 ≡ 2 → AnyBy (EndsAbort via xs e.reference) rest) × Aborts via xs rest
+
+-- ---- lists
+any_front : {X : Type 0} (P : X → Type 0) (xs ys : List X) → AnyBy P xs → AnyBy P (xs ++ ys)
+any_front P [] ys h = absurd h
+any_front P (x ∷ xs) ys h = ⊎_elim (λ k. inl k) (λ k. inr (any_front P xs ys k)) h
+
+any_last : {X : Type 0} (P : X → Type 0) (xs : List X) (y : X) → P y → AnyBy P (xs ++ y ∷ [])
+any_last P [] y h = inl h
+any_last P (x ∷ xs) y h = inr (any_last P xs y h)
+
+any_weaker : {X : Type 0} (P Q : X → Type 0) (xs : List X) → AllByRecursion (λ x. P x → Q x) xs → AnyBy P xs
+    → AnyBy Q xs
+any_weaker P Q [] f h = absurd h
+any_weaker P Q (x ∷ xs) f h = ⊎_elim (λ k. inl (f.0 k)) (λ k. inr (any_weaker P Q xs f.1 k)) h
+
+pub any_out : {X : Type 0} (P Q : X → Type 0) (xs : List X) → AllByRecursion Q xs → AnyBy P xs → (x : X) × Q x × P x
+any_out P Q [] f h = absurd h
+any_out P Q (x ∷ xs) f h = ⊎_elim (λ k. (x, f.0, k)) (λ k. any_out P Q xs f.1 k) h
+
+pub any_at : {X : Type 0} (p : X → Bool) (xs : List X) (i : ℕ) (d : X) → i < length xs → p (get_or xs i d) ≡ true
+    → list_any p xs ≡ true
+any_at p [] i d l h = absurd (omega (arith, l))
+any_at p (x ∷ xs) zero d l h = ap (λ b. b || list_any p xs) h
+any_at p (x ∷ xs) (suc i) d l h = ap (λ b. p x || b) (any_at p xs i d (omega (arith, l)) h) ∙ or_true (p x)
+  where
+    or_true : (b : Bool) → (b || true) ≡ true
+    or_true b = grind arith
+
+-- ---- from one list of ends, or of commands, to the next
+pub aborts_append : (via : Connection) (xs : List Sent) (us vs : List End) → Aborts via xs us → Aborts via xs vs
+    → Aborts via xs (us ++ vs)
+aborts_append via xs [] vs h k = k
+aborts_append via xs (e ∷ us) vs h k =
+    ((λ z. any_front (EndsAbort via xs e.reference) us vs (h.0 z)), aborts_append via xs us vs h.1 k)
+
+-- no end under such a number is lost
+abbrev IsKeptEnd : Connection → List Sent → List Sent → End → Type 0
+IsKeptEnd via xs ys e = (n : ℕ) → EndsAbort via xs n e → EndsAbort via ys n e
+
+aborts_weaker : (via : Connection) (xs ys : List Sent) (us : List End) → AllByRecursion (IsKeptEnd via xs ys) us
+    → Aborts via xs us → Aborts via ys us
+aborts_weaker via xs ys [] f h = tt
+aborts_weaker via xs ys (e ∷ us) f h = (
+  λ z. any_weaker (EndsAbort via xs e.reference) (EndsAbort via ys e.reference) us
+      (every_weaker (IsKeptEnd via xs ys) (λ k. EndsAbort via xs e.reference k → EndsAbort via ys e.reference k)
+      (λ k g. g e.reference) us f.1) (h.0 z),
+  aborts_weaker via xs ys us f.1 h.1,
+)
+
+pub aborts_push : (via : Connection) (xs : List Sent) (z : Sent) (us : List End)
+    → AllByRecursion (λ (e : End). is_named via e.reference z ≡ false) us → Aborts via xs us
+    → Aborts via (xs ++ z ∷ []) us
+aborts_push via xs z us f h = aborts_weaker via xs (xs ++ z ∷ []) us
+    (every_weaker (λ (e : End). is_named via e.reference z ≡ false) (IsKeptEnd via xs (xs ++ z ∷ []))
+    (λ e n k g. only_push via e.reference xs z (IsAbort k) g (λ q. absurd (true≢false (sym q ∙ n)))) us f) h
+
+pub aborts_after : (via : Connection) (xs : List Sent) (a : Answer) (i : ℕ) (us : List End) → Aborts via xs us
+    → Aborts via (after_end xs a (Some i)) us
+aborts_after via xs a i us h = aborts_weaker via xs (after_end xs a (Some i)) us
+    (every_from (IsKeptEnd via xs (after_end xs a (Some i)))
+    (λ e n g. only_after via e.reference xs (IsAbort n) a i g) us) h
+
+pub aborts_rest : (via : Connection) (xs : List Sent) (us : List End) → Aborts via xs us → Aborts via xs (drop 1 us)
+aborts_rest via xs [] h = tt
+aborts_rest via xs (e ∷ us) h = h.1
+
+-- ---- the end of an ABORT
+-- the commands that an ABORT names
+pub named_each : (own : Connection) (t : Trace) (s : Sent) (o : Order) (f : Option ℕ) → Says o s
+    → AllByRecursion (λ x. IsAbort (reference t x) s) (aborted_unless own t o f)
+named_each own t s o (Some fault) says = tt
+named_each own t s (orders.Abort other) None says =
+    every_weaker (λ x. Unit {0} × (same_name (name t x) (name_on own other) ≡ true)) (λ x. IsAbort (reference t x) s)
+    (λ x k.
+    let same : reference t x ≡ other = ap (λ (n : Name). n.reference) (same_is (name t x) (name_on own other) k.1) in
+    (says.0, says.1 ∙ ap Some (sym same)))
+    (filter (λ x. same_name (name t x) (name_on own other)) (waiting t))
+    (every_filter (λ x. Unit {0}) (λ x. same_name (name t x) (name_on own other)) (waiting t)
+    (every_from (λ x. Unit {0}) (λ x. tt) (waiting t)))
+named_each own t s o None says = grind arith
+
+pub aborts_answer : (own : Connection) (t : Trace) (xs : List Sent) (e : End) (ys : List ℕ)
+    → AllByRecursion (λ x. EndsAbort own xs (reference t x) e) ys → e.status % 32 ≢ 2
+    → Aborts own xs (map (λ x. aborted_end (command t x) (good t x)) ys ++ e ∷ [])
+aborts_answer own t xs e [] h n = ((λ z. absurd (n z)), tt)
+aborts_answer own t xs e (x ∷ ys) h n = (
+  λ z. any_last (EndsAbort own xs (reference t x)) (map (λ x. aborted_end (command t x) (good t x)) ys) e h.0,
+  aborts_answer own t xs e ys h.1 n,
+)
+
+-- ---- statuses
+pub one_aborts : (via : Connection) (xs : List Sent) (e : End) → e.status % 32 ≢ 2 → Aborts via xs (e ∷ [])
+one_aborts via xs e n = ((λ z. absurd (n z)), tt)
+
+answered_apart : (online : Bool) (o : Order) → answer_status online o % 32 ≢ 2
+answered_apart online o h = grind arith
+
+own_apart_with : (c : Settings) (online : Bool) (figure : ℕ) (k : Command) (s : Sent) (f : Option ℕ)
+    → fault_of c k ≡ f → Says k.order s → (own_end_with c online figure k f).status % 32 ≢ 2
+own_apart_with c online figure k s None e says h = answered_apart online k.order h
+own_apart_with c online figure k s (Some status) e says h = ⊎_elim
+    (λ q. absurd (omega (arith, h, q)))
+    (λ q. absurd (omega (arith, h, q)))
+    (refused_apart c k.unit status k.order s says e)
+
+-- an answered command isn't aborted
+pub own_apart : (c : Settings) (online : Bool) (figure : ℕ) (k : Command) (s : Sent) → Says k.order s
+    → (own_end c online figure k).status % 32 ≢ 2
+own_apart c online figure k s says = own_apart_with c online figure k s (fault_of c k) refl says
+
+-- and nor is one that a step ends
+pub outcome_apart : (online : Bool) (o : Order) (k : Block) → IsFault k → outcome_status online o k % 32 ≢ 2
+outcome_apart online o k fault h = grind arith

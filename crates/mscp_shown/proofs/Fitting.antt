@@ -1,0 +1,181 @@
+-- The numbers of the ends that a controller makes fit their places, where its messages are bytes.
+use Rattle.mscp_controller.proofs.Basics.{◌≡◌, ℕ, ◌+◌, ◌<◌, Bool, true, false, cond, ◌&&◌, List, length, refl, subst, arith, if◌then◌else◌, Option, Some, None, Command, Order, Block, Settings, Shape, fault_of, own_end, aborted_end, unit_found, unit_shape, command_of, some_same}
+use Rattle.std.specs.Prelude.{◌^◌, nat_lt, slice_index}
+use Rattle.mscp_packet.specs.Commands.{order_with, parameters}
+use Rattle.mscp_packet.specs.Ends.{refused_body, zero_body, kind_of_code}
+use Rattle.mscp_packet.specs.Opcodes.{least, opcode_of}
+use Rattle.mscp_packet.specs.declared.class.Opcode.{Opcode}
+use Rattle.mscp_packet.specs.declared.class.Opcode.TheVariants as codes
+use Rattle.mscp_packet.specs.declared.command.Order.TheVariants as orders
+use Rattle.mscp_packet.specs.declared.end.BodyKind.{BodyKind}
+use Rattle.mscp_packet.specs.declared.end.BodyKind.TheVariants as kinds
+use Rattle.mscp_packet.specs.declared.end.EndBody.TheVariants as bodies
+use Rattle.mscp_queue.specs.Orders.{endcode}
+use Rattle.mscp_queue.specs.Outcomes.{is_good_block, is_success, moved_body, outcome_body, outcome_status, touches}
+use Rattle.mscp_controller.specs.Arrival.{move_fault, order_fault, unit_fault, version_fault}
+use Rattle.mscp_controller.specs.Outcomes.{answer_body, answer_status, outcome_of, own_end_with}
+use Rattle.mscp_shown.specs.Keeping.{AreBytes}
+use Rattle.mscp_shown.proofs.Reading.{IsBodyFit, IsFit}
+use Rattle.mscp_shown.proofs.Suiting.{IsFault}
+use Rattle.mscp_shown.proofs.Taking.{four_small, two_small}
+
+-- ---- what a message asks for
+abbrev pub IsSmallOrder : Order → Type 0
+IsSmallOrder (orders.Abort other) = other < 2 ^ 32
+IsSmallOrder (orders.Status other) = other < 2 ^ 32
+IsSmallOrder (orders.Move kind count block) = count < 2 ^ 32
+IsSmallOrder (orders.Invalid byte fault) = fault < 2 ^ 16
+IsSmallOrder order = Unit {0}
+
+pub record IsSmallCommand (k : Command) : Type 0 where
+  pub reference : k.reference < 2 ^ 32
+  pub unit : k.unit < 2 ^ 16
+  pub order : IsSmallOrder k.order
+
+module _ (b : List ℕ) (h : AreBytes b) where
+  small_parameters : (o : Opcode) → IsSmallOrder (parameters o b)
+  small_parameters codes.Abort = four_small b h 12
+  small_parameters codes.Status = four_small b h 12
+  small_parameters codes.UnitStatus = tt
+  small_parameters codes.SetController = tt
+  small_parameters codes.Available = tt
+  small_parameters codes.Online = tt
+  small_parameters codes.SetUnit = tt
+  small_parameters (codes.Move kind) = four_small b h 12
+
+  small_found : (found : Option Opcode) → IsSmallOrder (order_with found b)
+  small_found None = omega arith
+  small_found (Some o) = unless_short (nat_lt (length b) (least o)) (small_parameters o)
+    where
+      unless_short : (short : Bool) → IsSmallOrder (parameters o b)
+          → IsSmallOrder (if short then orders.Invalid (slice_index b 8) 0x0001 else parameters o b)
+      unless_short true s = omega arith
+      unless_short false s = s
+
+  pub small_command : IsSmallCommand (command_of b)
+  unfolding command_of
+  small_command = record {
+    reference = four_small b h 0;
+    unit = two_small b h 4;
+    order = small_found (opcode_of (slice_index b 8));
+  }
+
+-- ---- bodies
+zero_fit : (kind : Option BodyKind) → IsBodyFit (zero_body kind)
+zero_fit None = tt
+zero_fit (Some kinds.Bare) = tt
+zero_fit (Some kinds.Abort) = omega arith
+zero_fit (Some kinds.Status) = (omega arith, omega arith)
+zero_fit (Some kinds.UnitStatus) = tt
+zero_fit (Some kinds.Controller) = tt
+zero_fit (Some kinds.Online) = tt
+zero_fit (Some kinds.Moved) = omega arith
+
+refused_fit : (code : ℕ) → IsBodyFit (refused_body code)
+refused_fit code = zero_fit (kind_of_code code)
+
+moved_fit : (o : Order) (good : ℕ) → IsSmallOrder o → IsBodyFit (moved_body o good)
+moved_fit (orders.Move kind count block) good h = omega (arith, h)
+moved_fit (orders.Abort other) good h = refused_fit (endcode (orders.Abort other))
+moved_fit (orders.Status other) good h = refused_fit (endcode (orders.Status other))
+moved_fit (orders.Invalid byte fault) good h = refused_fit (endcode (orders.Invalid byte fault))
+moved_fit orders.UnitStatus good h = tt
+moved_fit (orders.SetController version) good h = tt
+moved_fit orders.Available good h = tt
+moved_fit orders.Online good h = tt
+moved_fit orders.SetUnit good h = tt
+
+answer_fit : (c : Settings) (figure unit : ℕ) (o : Order) → IsSmallOrder o → figure < 2 ^ 32
+    → IsBodyFit (answer_body c figure unit o)
+answer_fit c figure unit (orders.Abort other) h f = h
+answer_fit c figure unit (orders.Status other) h f = (h, f)
+answer_fit c figure unit orders.UnitStatus h f = tt
+answer_fit c figure unit (orders.SetController version) h f = tt
+answer_fit c figure unit (orders.Move kind count block) h f = refused_fit (endcode (orders.Move kind count block))
+answer_fit c figure unit (orders.Invalid byte fault) h f = refused_fit (endcode (orders.Invalid byte fault))
+answer_fit c figure unit orders.Available h f = tt
+answer_fit c figure unit orders.Online h f = tt
+answer_fit c figure unit orders.SetUnit h f = tt
+
+online_fit : (s : Shape) (success : Bool)
+    → IsBodyFit (if success then bodies.Online s.id s.media s.size s.serial else bodies.Online 0 0 0 0)
+online_fit s true = tt
+online_fit s false = tt
+
+outcome_fit : (s : Shape) (status : ℕ) (o : Order) (good : ℕ) → IsSmallOrder o → IsBodyFit (outcome_body s status o good)
+outcome_fit s status orders.Online good h = online_fit s (is_success status)
+outcome_fit s status orders.SetUnit good h = online_fit s (is_success status)
+outcome_fit s status (orders.Move kind count block) good h = moved_fit (orders.Move kind count block) good h
+outcome_fit s status (orders.Abort other) good h = moved_fit (orders.Abort other) good h
+outcome_fit s status (orders.Status other) good h = moved_fit (orders.Status other) good h
+outcome_fit s status (orders.Invalid byte fault) good h = moved_fit (orders.Invalid byte fault) good h
+outcome_fit s status orders.UnitStatus good h = tt
+outcome_fit s status (orders.SetController version) good h = tt
+outcome_fit s status orders.Available good h = tt
+
+-- ---- statuses
+move_small : (c : Settings) (count block status : ℕ) (u : Option Shape) → move_fault c count block u ≡ Some status
+    → status < 2 ^ 16
+move_small c count block status u h = grind arith
+
+unit_small : (status : ℕ) (u : Option Shape) → unit_fault u ≡ Some status → status < 2 ^ 16
+unit_small status u h = grind arith
+
+version_small : (status version : ℕ) → version_fault version ≡ Some status → status < 2 ^ 16
+version_small status version h = grind arith
+
+fault_small : (c : Settings) (unit status : ℕ) (o : Order) → IsSmallOrder o → order_fault c unit o ≡ Some status
+    → status < 2 ^ 16
+fault_small c unit status (orders.Invalid byte fault) s h = subst (λ n. n < 2 ^ 16) (some_same fault status h) s
+fault_small c unit status (orders.Abort other) s h = cc
+fault_small c unit status (orders.Status other) s h = cc
+fault_small c unit status (orders.Move kind count block) s h = move_small c count block status (unit_found c unit) h
+fault_small c unit status orders.UnitStatus s h = unit_small status (unit_found c unit) h
+fault_small c unit status orders.Available s h = unit_small status (unit_found c unit) h
+fault_small c unit status orders.Online s h = unit_small status (unit_found c unit) h
+fault_small c unit status orders.SetUnit s h = unit_small status (unit_found c unit) h
+fault_small c unit status (orders.SetController version) s h = version_small status version h
+
+answered_small : (online : Bool) (o : Order) → answer_status online o < 2 ^ 16
+answered_small online o = grind arith
+
+ended_small : (online : Bool) (o : Order) (k : Block) → IsFault k → outcome_status online o k < 2 ^ 16
+ended_small online o k h = grind arith
+
+-- ---- ends
+own_fit_with : (c : Settings) (online : Bool) (figure : ℕ) (k : Command) (f : Option ℕ) → fault_of c k ≡ f
+    → IsSmallCommand k → figure < 2 ^ 32 → IsFit (own_end_with c online figure k f)
+own_fit_with c online figure k None e h l = record {
+  reference = h.reference;
+  unit = h.unit;
+  status = answered_small online k.order;
+  body = answer_fit c figure k.unit k.order h.order l;
+}
+own_fit_with c online figure k (Some status) e h l = record {
+  reference = h.reference;
+  unit = h.unit;
+  status = fault_small c k.unit status k.order h.order e;
+  body = refused_fit (endcode k.order);
+}
+
+pub own_fit : (c : Settings) (online : Bool) (figure : ℕ) (k : Command) → IsSmallCommand k → figure < 2 ^ 32
+    → IsFit (own_end c online figure k)
+own_fit c online figure k h l = own_fit_with c online figure k (fault_of c k) refl h l
+
+pub aborted_fit : (k : Command) (good : ℕ) → IsSmallCommand k → IsFit (aborted_end k good)
+aborted_fit k good h = record {
+  reference = h.reference;
+  unit = h.unit;
+  status = omega arith;
+  body = moved_fit k.order good h.order;
+}
+
+pub served_fit : (c : Settings) (online : Bool) (k : Command) (good : ℕ) (block : Block) → IsSmallCommand k
+    → IsFault block → IsFit (outcome_of c online k good block)
+served_fit c online k good block h fault = record {
+  reference = h.reference;
+  unit = h.unit;
+  status = ended_small online k.order block fault;
+  body = outcome_fit (unit_shape c k.unit) (outcome_status online k.order block) k.order
+      (good + cond (touches online k.order && is_good_block block) 1 0) h.order;
+}

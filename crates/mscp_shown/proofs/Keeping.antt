@@ -1,0 +1,231 @@
+-- An end that suits what a command asks for keeps the rules that look at that command alone.
+use Rattle.std.proofs.Common.{◌≡◌, ⊎_elim, ℕ, ◌+◌, ◌%◌, ◌≤◌, Bool, true, false, not, ◌&&◌, ◌||◌, refl, ap, sym, ◌∙◌, subst, arith, Option, Some, None}
+use Rattle.std.proofs.lemmas.Bool.{eq-eqb, eqb-true, le-leb}
+use Rattle.std.specs.Prelude.{bit_or, if◌then◌else◌, nat_eq, nat_le}
+use Rattle.mscp_packet.specs.Ends.{refused_body}
+use Rattle.mscp_packet.specs.Opcodes.{move_byte, row_of}
+use Rattle.mscp_packet.specs.declared.class.Opcode.{Opcode}
+use Rattle.mscp_packet.specs.declared.class.Opcode.TheVariants as codes
+use Rattle.mscp_packet.specs.declared.command.MoveKind.{MoveKind}
+use Rattle.mscp_packet.specs.declared.command.Order.{Order}
+use Rattle.mscp_packet.specs.declared.command.Order.TheVariants as orders
+use Rattle.mscp_packet.specs.declared.end.EndBody.{EndBody}
+use Rattle.mscp_packet.specs.declared.end.EndBody.TheVariants as bodies
+use Rattle.mscp_queue.specs.Orders.{endcode}
+use Rattle.mscp_wire.specs.Wire.{count_of, has_count, has_endcode, has_status, is_about, is_about_another, is_it, is_known, is_transfer, may_have, moves, names_unit, other_of, status_code, succeeds}
+use Rattle.mscp_wire.specs.declared.answer.Answer.{Answer}
+use Rattle.mscp_wire.specs.declared.sent.Sent.{Sent}
+use Rattle.mscp_shown.proofs.Reading.{BodyReads}
+use Rattle.mscp_shown.proofs.Saying.{IsShort, Says}
+
+-- the rules that look at the end and its command alone
+pub record Keeps (s : Sent) (a : Answer) : Type 0 where
+  pub unit : names_unit s a ≡ true
+  pub endcode : has_endcode s a ≡ true
+  pub status : has_status s a ≡ true
+  pub success : succeeds a (other_of s a) ≡ true
+  pub about : is_about a (other_of s a) ≡ true
+  pub count : has_count a (count_of s a) ≡ true
+
+-- a status and a body suit an order
+abbrev pub Suits : Order → ℕ → EndBody → Type 0
+Suits (orders.Abort other) status body = (status % 32 ≡ 0) × (body ≡ bodies.Abort other)
+Suits (orders.Status other) status body = (status % 32 ≡ 0) × (figure : ℕ) × (body ≡ bodies.Status other figure)
+Suits orders.UnitStatus status body = may_have 3 (status % 32) ≡ true
+Suits (orders.SetController version) status body = may_have 4 (status % 32) ≡ true
+Suits orders.Available status body = may_have 8 (status % 32) ≡ true
+Suits orders.Online status body = may_have 9 (status % 32) ≡ true
+Suits orders.SetUnit status body = may_have 10 (status % 32) ≡ true
+Suits (orders.Move kind count block) status body =
+    (may_have (move_byte kind) (status % 32) ≡ true)
+    × (moved : ℕ) × (body ≡ bodies.Moved moved) × (moved ≤ count) × (status % 32 ≡ 0 → moved ≡ count)
+Suits (orders.Invalid byte fault) status body =
+    (status ≡ fault) × (body ≡ refused_body (endcode (orders.Invalid byte fault)))
+
+-- what is told of the command that a command is about, if it is about one
+abbrev asked : ℕ → Sent → Option ℕ
+asked op s = if is_about_another op then s.parameter else None
+
+-- and of the bytes of a transfer
+abbrev wanted : ℕ → Sent → Option ℕ
+wanted op s = if is_transfer op then s.parameter else None
+
+module _ (s : Sent) (a : Answer) where
+  -- an opcode that is known
+  known : (op : ℕ) → s.opcode ≡ op → a.unit ≡ s.unit → is_known a ≡ true → nat_eq a.code (op + 0x80) ≡ true
+      → may_have op (status_code a) ≡ true → succeeds a (asked op s) ≡ true → is_about a (asked op s) ≡ true
+      → has_count a (wanted op s) ≡ true → Keeps s a
+  known op e unit k code status success about count =
+      let other : other_of s a ≡ asked op s =
+      ap (λ b. if b && is_about_another s.opcode then s.parameter else None) k
+      ∙ ap (λ o. if is_about_another o then s.parameter else None) e in
+      let whole : count_of s a ≡ wanted op s =
+      ap (λ b. if b && is_transfer s.opcode then s.parameter else None) k
+      ∙ ap (λ o. if is_transfer o then s.parameter else None) e in
+      record {
+        unit = eq-eqb a.unit s.unit unit;
+        endcode = ap (λ b. not b || nat_eq a.code (s.opcode + 0x80)) k
+            ∙ (ap (λ o. nat_eq a.code (o + 0x80)) e ∙ code);
+        status = ap (λ b. if b then may_have s.opcode (status_code a) else nat_eq (status_code a) 1) k
+            ∙ (ap (λ o. may_have o (status_code a)) e ∙ status);
+        success = ap (succeeds a) other ∙ success;
+        about = ap (is_about a) other ∙ about;
+        count = ap (has_count a) whole ∙ count;
+      }
+
+  -- one that isn't
+  unknown : a.unit ≡ s.unit → is_known a ≡ false → status_code a ≡ 1 → Keeps s a
+  unknown unit k one = record {
+    unit = eq-eqb a.unit s.unit unit;
+    endcode = ap (λ b. not b || nat_eq a.code (s.opcode + 0x80)) k;
+    status = ap (λ b. if b then may_have s.opcode (status_code a) else nat_eq (status_code a) 1) k
+        ∙ eq-eqb (status_code a) 1 one;
+    success = ap (λ b. succeeds a (if b && is_about_another s.opcode then s.parameter else None)) k;
+    about = ap (λ b. is_about a (if b && is_about_another s.opcode then s.parameter else None)) k;
+    count = ap (λ b. has_count a (if b && is_transfer s.opcode then s.parameter else None)) k;
+  }
+
+  -- an opcode that is about no command and moves nothing
+  plain : (op code : ℕ) → s.opcode ≡ op → a.unit ≡ s.unit → a.code ≡ code → nat_eq code 0x80 ≡ false
+      → nat_eq code (op + 0x80) ≡ true → is_about_another op ≡ false → is_transfer op ≡ false
+      → may_have op (status_code a) ≡ true → Keeps s a
+  plain op code e unit c k right none moves_none status =
+      let o : asked op s ≡ None = ap (λ b. if b then s.parameter else None) none in
+      let w : wanted op s ≡ None = ap (λ b. if b then s.parameter else None) moves_none in
+      known op e unit (ap (λ n. not (nat_eq n 0x80)) c ∙ ap not k) (ap (λ n. nat_eq n (op + 0x80)) c ∙ right) status
+      (ap (succeeds a) o) (ap (is_about a) o) (ap (has_count a) w)
+
+  -- one about another command
+  about_other : (op code other : ℕ) → s.opcode ≡ op → a.unit ≡ s.unit → a.code ≡ code → nat_eq code 0x80 ≡ false
+      → nat_eq code (op + 0x80) ≡ true → is_about_another op ≡ true → is_transfer op ≡ false
+      → s.parameter ≡ Some other → a.parameter ≡ Some other → may_have op 0 ≡ true → status_code a ≡ 0 → Keeps s a
+  about_other op code other e unit c k right some moves_none p q status zero =
+      let o : asked op s ≡ Some other = ap (λ b. if b then s.parameter else None) some ∙ p in
+      let w : wanted op s ≡ None = ap (λ b. if b then s.parameter else None) moves_none in
+      known op e unit (ap (λ n. not (nat_eq n 0x80)) c ∙ ap not k) (ap (λ n. nat_eq n (op + 0x80)) c ∙ right)
+      (ap (may_have op) zero ∙ status) (ap (succeeds a) o ∙ eq-eqb (status_code a) 0 zero)
+      (ap (is_about a) o ∙ (ap (λ f. is_it f other) q ∙ eq-eqb other other refl))
+      (ap (has_count a) w)
+
+  moved_right : (moved count code : ℕ) → moved ≤ count → (code ≡ 0 → moved ≡ count)
+      → (nat_le moved count && (nat_eq moved count || not (nat_eq code 0))) ≡ true
+  moved_right moved count code h all =
+      let P : Bool → Type 0 = λ b. nat_eq code 0 ≡ b → (nat_eq moved count || not b) ≡ true in
+      ap (λ b. b && (nat_eq moved count || not (nat_eq code 0))) (le-leb moved count h)
+      ∙ elim (nat_eq code 0) as P [
+        | true ↦ λ e. ap (λ b. b || false) (eq-eqb moved count (all (eqb-true code 0 e)))
+        | false ↦ λ e. or_true (nat_eq moved count)
+      ] refl
+    where
+      or_true : (b : Bool) → (b || true) ≡ true
+      or_true b = grind arith
+
+  -- a transfer, of which so many bytes were to be moved
+  transfer : (kind : MoveKind) (moved count : ℕ) → s.opcode ≡ move_byte kind → a.unit ≡ s.unit
+      → a.code ≡ bit_or (move_byte kind) 0x80 → s.parameter ≡ Some count → a.parameter ≡ Some moved
+      → may_have (move_byte kind) (status_code a) ≡ true → moved ≤ count → (status_code a ≡ 0 → moved ≡ count)
+      → Keeps s a
+  transfer kind moved count e unit c p q status few all =
+      let op = move_byte kind in
+      let code = bit_or op 0x80 in
+      let o : asked op s ≡ None = ap (λ b. if b then s.parameter else None) (none kind) in
+      let w : wanted op s ≡ Some count = ap (λ b. if b then s.parameter else None) (some kind) ∙ p in
+      known op e unit (ap (λ n. not (nat_eq n 0x80)) c ∙ top kind) (ap (λ n. nat_eq n (op + 0x80)) c ∙ right kind) status
+      (ap (succeeds a) o) (ap (is_about a) o)
+      (ap (has_count a) w ∙ ap (λ f. moves a f count) q ∙ moved_right moved count (status_code a) few all)
+    where
+      none : (kind : MoveKind) → is_about_another (move_byte kind) ≡ false
+      none kind = grind arith
+
+      some : (kind : MoveKind) → is_transfer (move_byte kind) ≡ true
+      some kind = grind arith
+
+      top : (kind : MoveKind) → not (nat_eq (bit_or (move_byte kind) 0x80) 0x80) ≡ true
+      top kind = grind arith
+
+      right : (kind : MoveKind) → nat_eq (bit_or (move_byte kind) 0x80) (move_byte kind + 0x80) ≡ true
+      right kind = grind arith
+
+  -- a command that is shorter than its opcode asks
+  short_about : (o : Opcode) (code : ℕ) → s.opcode ≡ (row_of o).byte → a.unit ≡ s.unit → status_code a ≡ 1
+      → (is_about_another (row_of o).byte ≡ true → s.parameter ≡ None) → a.code ≡ bit_or (row_of o).byte 0x80
+      → has_count a (wanted (row_of o).byte s) ≡ true → Keeps s a
+  short_about o code e unit one none c count =
+      let op = (row_of o).byte in
+      let P : Bool → Type 0 = λ b. is_about_another op ≡ b → (if b then s.parameter else None) ≡ None in
+      let nobody : asked op s ≡ None = elim (is_about_another op) as P [
+        | true ↦ λ h. none h
+        | false ↦ λ h. refl
+      ] refl in
+      known op e unit (ap (λ n. not (nat_eq n 0x80)) c ∙ top o) (ap (λ n. nat_eq n (op + 0x80)) c ∙ right o)
+      (ap (may_have op) one) (ap (succeeds a) nobody) (ap (is_about a) nobody) count
+    where
+      top : (o : Opcode) → not (nat_eq (bit_or (row_of o).byte 0x80) 0x80) ≡ true
+      top o = grind arith
+
+      right : (o : Opcode) → nat_eq (bit_or (row_of o).byte 0x80) ((row_of o).byte + 0x80) ≡ true
+      right o = grind arith
+
+  -- none of its bytes were moved
+  none_moved : (o : Opcode) → status_code a ≡ 1
+      → BodyReads (refused_body (bit_or (row_of o).byte 0x80)) a → has_count a (wanted (row_of o).byte s) ≡ true
+  none_moved (codes.Move kind) one q = moved_none (is_transfer (move_byte kind)) s.parameter (zero_read kind q)
+    where
+      zero_read : (kind : MoveKind) → BodyReads (refused_body (bit_or (move_byte kind) 0x80)) a → a.parameter ≡ Some 0
+      zero_read kind q = grind arith
+
+      moves_none : (n : ℕ) → a.parameter ≡ Some 0 → moves a a.parameter n ≡ true
+      moves_none n q =
+          ap (λ f. moves a f n) q ∙ moved_right 0 n (status_code a) (omega arith) (λ z. absurd (omega (arith, z, one)))
+
+      moved_none : (b : Bool) (p : Option ℕ) → a.parameter ≡ Some 0 → has_count a (if b then p else None) ≡ true
+      moved_none false p q = refl
+      moved_none true None q = refl
+      moved_none true (Some n) q = moves_none n q
+  none_moved codes.Abort one q = refl
+  none_moved codes.Status one q = refl
+  none_moved codes.UnitStatus one q = refl
+  none_moved codes.SetController one q = refl
+  none_moved codes.Available one q = refl
+  none_moved codes.Online one q = refl
+  none_moved codes.SetUnit one q = refl
+
+  short_keeps : (o : Opcode) (byte fault status : ℕ) (body : EndBody) → IsShort o byte fault s
+      → a.unit ≡ s.unit → status ≡ fault → body ≡ refused_body (endcode (orders.Invalid byte fault))
+      → a.code ≡ endcode (orders.Invalid byte fault) → a.status ≡ status → BodyReads body a → Keeps s a
+  short_keeps o byte fault status body h unit is whole c st q =
+      let code : endcode (orders.Invalid byte fault) ≡ bit_or (row_of o).byte 0x80 =
+      ap (λ f. endcode (orders.Invalid byte f)) h.why ∙ ap (λ b. bit_or b 0x80) h.byte in
+      let one : status_code a ≡ 1 = ap (λ n. n % 32) (st ∙ is ∙ h.why) in
+      let read = subst (λ b. BodyReads b a) (whole ∙ ap refused_body code) q in
+      short_about o (bit_or (row_of o).byte 0x80) h.opcode unit one h.about (c ∙ code) (none_moved o one read)
+
+  -- an end that suits the order of a command keeps its rules
+  pub keeps : (o : Order) (status : ℕ) (body : EndBody) → Says o s → Suits o status body → a.unit ≡ s.unit
+      → a.code ≡ endcode o → a.status ≡ status → BodyReads body a → Keeps s a
+  keeps (orders.Abort other) status body says suits unit c st q =
+      about_other 1 129 other says.0 unit c refl refl refl refl says.1 (subst (λ b. BodyReads b a) suits.1 q) refl
+      (ap (λ n. n % 32) st ∙ suits.0)
+  keeps (orders.Status other) status body says suits unit c st q =
+      about_other 2 130 other says.0 unit c refl refl refl refl says.1 (subst (λ b. BodyReads b a) suits.2 q).0 refl
+      (ap (λ n. n % 32) st ∙ suits.0)
+  keeps orders.UnitStatus status body says suits unit c st q =
+      plain 3 131 says unit c refl refl refl refl (ap (λ n. may_have 3 (n % 32)) st ∙ suits)
+  keeps (orders.SetController version) status body says suits unit c st q =
+      plain 4 132 says unit c refl refl refl refl (ap (λ n. may_have 4 (n % 32)) st ∙ suits)
+  keeps orders.Available status body says suits unit c st q =
+      plain 8 136 says unit c refl refl refl refl (ap (λ n. may_have 8 (n % 32)) st ∙ suits)
+  keeps orders.Online status body says suits unit c st q =
+      plain 9 137 says unit c refl refl refl refl (ap (λ n. may_have 9 (n % 32)) st ∙ suits)
+  keeps orders.SetUnit status body says suits unit c st q =
+      plain 10 138 says unit c refl refl refl refl (ap (λ n. may_have 10 (n % 32)) st ∙ suits)
+  keeps (orders.Move kind count block) status body says suits unit c st q =
+      transfer kind suits.1 count says.0 unit c says.1 (subst (λ b. BodyReads b a) suits.2 q)
+      (ap (λ n. may_have (move_byte kind) (n % 32)) st ∙ suits.0) suits.3
+      (λ z. suits.4 (ap (λ n. n % 32) (sym st) ∙ z))
+  keeps (orders.Invalid byte fault) status body says suits unit c st q = ⊎_elim
+      (λ e. unknown unit
+      (ap (λ n. not (nat_eq n 0x80)) (c ∙ ap (λ f. endcode (orders.Invalid byte f)) e))
+      (ap (λ n. n % 32) (st ∙ suits.0 ∙ e)))
+      (λ short. short_keeps short.0 byte fault status body short.1 unit suits.0 suits.1 c st q)
+      says

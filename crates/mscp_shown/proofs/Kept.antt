@@ -1,0 +1,147 @@
+-- What holds after each part of a legal trace, and what a moment has to keep of it.
+use Rattle.mscp_controller.proofs.Basics.{End}
+use Rattle.mscp_controller.proofs.Basics.{◌≡◌, ℕ, ◌+◌, ◌<◌, Bool, true, false, not, List, [], ◌∷◌, ◌++◌, length, refl, ap, sym, ◌∙◌, subst, append-nil, arith, Option, None, AllByRecursion, true≢false, false≢true, Connection, Command, Settings, Trace, Moment, takes, command, name, waiting, waiting_by, ends_in, ends_at, ends, untaken, every_from, same_connection, is_queued, IsRight, each_push, taken_when, All-from_recursion, queues, get_or}
+use Rattle.mscp_controller.specs.declared.entry.Sent.{Sent}
+use Rattle.mscp_controller.proofs.Promise.Known.{Known}
+use Rattle.mscp_controller.specs.Credits.{aborted_reference}
+use Rattle.mscp_wire.specs.Wire.{History, after, after_end, answer_by, command_at, has_abort, is_it, is_long, is_named, moment_at, outstanding, place_of, sent_by, status_code}
+use Rattle.mscp_wire.specs.Wire as wire
+use Rattle.mscp_wire.specs.declared.moment.Moment.{Moment as Wired}
+use Rattle.mscp_wire.specs.declared.moment.Moment.TheVariants as moments
+use Rattle.mscp_shown.specs.Keeping.{Covers}
+use Rattle.mscp_wire.specs.Wire.{AreRight, IsRightAfter}
+use Rattle.mscp_shown.specs.Shown.{shown, shown_by}
+use Rattle.mscp_shown.proofs.Aborted.{Aborts}
+use Rattle.mscp_shown.proofs.Owed.{came, owed, owed_more, quiet}
+use Rattle.mscp_shown.proofs.Making.{IsEven}
+use Rattle.mscp_shown.proofs.Owners.{IsOwed}
+use Rattle.mscp_shown.proofs.Owning.{Owners, owners_more}
+use Rattle.mscp_shown.proofs.Reading.{IsFit}
+use Rattle.mscp_shown.proofs.Shown.{after_more, shown_more, tally}
+use Rattle.mscp_shown.proofs.Listening.{Heard, heard_still}
+use Rattle.mscp_shown.proofs.Polling.{poll_of}
+use Rattle.mscp_shown.proofs.Ordering.{Ordered}
+use Rattle.mscp_shown.proofs.Staying.{orders_still}
+use Rattle.mscp_shown.proofs.Waiting.{Orders}
+
+-- what holds after each part of a legal trace
+pub record Inv (c : Settings) (t : Trace) : Type 0 where
+  pub tallied : (via : Connection) (p : ℕ → Bool) → tally via p (outstanding (shown t)) ≡ owed c via t p
+  pub owners : Owners c t (outstanding (shown t))
+  pub orders : Orders c t (outstanding (shown t))
+  pub heard : Heard c t (outstanding (shown t))
+  pub queued : AllByRecursion (λ x. is_queued c (command t x) ≡ true) (waiting t)
+  pub even : AllByRecursion (IsEven t) (waiting t)
+  pub fit : (via : Connection) → AllByRecursion IsFit (ends c via t)
+  pub kept : (credits : Option ℕ) → Covers credits c → AreRight credits (shown t)
+
+-- what a moment keeps, before which this holds
+pub record More (c : Settings) (t : Trace) (m : Moment) : Type 0 where
+  pub tallied : (via : Connection) (p : ℕ → Bool)
+      → tally via p (outstanding (shown (t ++ m ∷ []))) ≡ owed c via (t ++ m ∷ []) p
+  pub owners : Owners c (t ++ m ∷ []) (outstanding (shown (t ++ m ∷ [])))
+  pub orders : Orders c (t ++ m ∷ []) (outstanding (shown (t ++ m ∷ [])))
+  pub heard : Heard c (t ++ m ∷ []) (outstanding (shown (t ++ m ∷ [])))
+  pub fit : (via : Connection) → AllByRecursion IsFit (ends_at c via t m)
+  pub kept : (credits : Option ℕ) → Covers credits c → AreRight credits (shown (t ++ m ∷ []))
+
+pub none_more : (n : ℕ) → 0 + n ≡ n
+none_more n = omega arith
+
+pub same_sides : (a b : Connection) → wire.same_connection a b ≡ same_connection a b
+same_sides a b = grind arith
+
+pub every_at : {X : Type 0} (P : X → Type 0) (xs : List X) → AllByRecursion P xs → (i : ℕ) (d : X) → i < length xs
+    → P (get_or xs i d)
+every_at P xs h i d l = All-from_recursion P xs h i d l
+
+-- ---- what is shown
+is_answer : Sent → Bool
+is_answer (Sent.Queued r) = false
+is_answer (Sent.Answered r a) = true
+
+aborted_of : Sent → Option ℕ
+aborted_of (Sent.Queued r) = None
+aborted_of (Sent.Answered r a) = a
+
+pub taken_as_answer : (c : Settings) (via : Connection) (t : Trace) (command : Command) (q : Bool) (r : ℕ) (a : Option ℕ)
+    → Sent.Answered r a ≡ taken_when c via t command q → a ≡ aborted_reference c via t command
+unfolding is_answer aborted_of
+taken_as_answer c via t command q r a h = grind (arith, true≢false, is_answer, aborted_of)
+
+pub isnt_queued : (c : Settings) (via : Connection) (t : Trace) (command : Command) (q : Bool) (r : ℕ) (a : Option ℕ)
+    → Sent.Answered r a ≡ taken_when c via t command q → q ≡ false
+unfolding is_answer
+isnt_queued c via t command true r a h = absurd (true≢false (ap is_answer h))
+isnt_queued c via t command false r a h = refl
+
+kept_more : (credits : Option ℕ) (h : History) (m : Wired) → AreRight credits h → IsRightAfter credits (outstanding h) m
+    → AreRight credits (h ++ m ∷ [])
+kept_more credits h m all last = each_push moments.Reset (λ h m. IsRightAfter credits (outstanding h) m) h m all last
+
+module _ (c : Settings) (t : Trace) (m : Moment) (h : Inv c t) where
+  -- a moment that shows nothing
+  pub shows_none : shown_by m.0 m.1 ≡ [] → ((via : Connection) (p : ℕ → Bool) → owed c via (t ++ m ∷ []) p ≡ owed c via t p)
+      → Owners c (t ++ m ∷ []) (outstanding (shown t)) → Orders c (t ++ m ∷ []) (outstanding (shown t))
+      → Heard c (t ++ m ∷ []) (outstanding (shown t))
+      → ((via : Connection) → AllByRecursion IsFit (ends_at c via t m)) → More c t m
+  shows_none e same owners orders heard fit =
+      let is : shown (t ++ m ∷ []) ≡ shown t = shown_more t m ∙ ap (λ w. shown t ++ w) e ∙ append-nil (shown t) in
+      record {
+        tallied = λ via p. ap (λ w. tally via p (outstanding w)) is ∙ h.tallied via p ∙ sym (same via p);
+        owners = subst (λ w. Owners c (t ++ m ∷ []) (outstanding w)) (sym is) owners;
+        orders = subst (λ w. Orders c (t ++ m ∷ []) (outstanding w)) (sym is) orders;
+        heard = subst (λ w. Heard c (t ++ m ∷ []) (outstanding w)) (sym is) heard;
+        fit = fit;
+        kept = λ credits covers. subst (AreRight credits) (sym is) (h.kept credits covers);
+      }
+
+  -- a moment that shows this
+  pub shows_one : (w : Wired) → shown_by m.0 m.1 ≡ w ∷ []
+      → ((via : Connection) (p : ℕ → Bool)
+      → tally via p (after (outstanding (shown t)) w) ≡ owed c via (t ++ m ∷ []) p)
+      → ((credits : Option ℕ) → Covers credits c → IsRightAfter credits (outstanding (shown t)) w)
+      → Owners c (t ++ m ∷ []) (after (outstanding (shown t)) w)
+      → Orders c (t ++ m ∷ []) (after (outstanding (shown t)) w)
+      → Heard c (t ++ m ∷ []) (after (outstanding (shown t)) w)
+      → ((via : Connection) → AllByRecursion IsFit (ends_at c via t m)) → More c t m
+  shows_one w e same right owners orders heard fit =
+      let is : shown (t ++ m ∷ []) ≡ shown t ++ w ∷ [] = shown_more t m ∙ ap (λ l. shown t ++ l) e in
+      let there : outstanding (shown (t ++ m ∷ [])) ≡ after (outstanding (shown t)) w =
+      ap outstanding is ∙ after_more (shown t) w in
+      record {
+        tallied = λ via p. ap (tally via p) there ∙ same via p;
+        owners = subst (Owners c (t ++ m ∷ [])) (sym there) owners;
+        orders = subst (Orders c (t ++ m ∷ [])) (sym there) orders;
+        heard = subst (Heard c (t ++ m ∷ [])) (sym there) heard;
+        fit = fit;
+        kept = λ credits covers. subst (AreRight credits) (sym is)
+            (kept_more credits (shown t) w (h.kept credits covers) (right credits covers));
+      }
+
+  -- one that ends nobody and queues nobody changes nothing of a connection
+  pub still : Known c t → (via : Connection) (p : ℕ → Bool) → takes via m.1 ≡ false → came c via t m p ≡ 0
+      → AllByRecursion (λ x. not (ends_in (name t x) m.1) ≡ true) (waiting_by via t) → ends_at c via t m ≡ []
+      → owed c via (t ++ m ∷ []) p ≡ owed c via t p
+  still k via p q n all e =
+      let more = owed_more c via t m p 0 q (k.room.taken via) (quiet c via t m p all e) in
+      omega (arith, more, n)
+
+  pub stills : Known c t → IsRight c t m.0 m.1 → shown_by m.0 m.1 ≡ []
+      → ((via : Connection) (p : ℕ → Bool) → (takes via m.1 ≡ false) × (came c via t m p ≡ 0))
+      → ((n : ℕ) → not (ends_in (name t n) m.1) ≡ true) → queues m.1 ≡ false
+      → ((via : Connection) → ends_at c via t m ≡ []) → More c t m
+  stills k r e q stay n none =
+      let xs = outstanding (shown t) in
+      shows_none e
+      (λ via p. still k via p (q via p).0 (q via p).1
+      (every_from (λ x. not (ends_in (name t x) m.1) ≡ true) stay (waiting_by via t)) (none via))
+      (owners_more c t m xs (λ via. k.room.taken via) (λ via. (q via (λ n. true)).0) h.owners.waits
+      (λ e. absurd (false≢true (sym n ∙ e))) h.owners.owed
+      (λ via. subst (AllByRecursion (IsOwed via xs)) (sym (none via)) tt)
+      h.owners.aborts (λ via. subst (Aborts via xs) (sym (none via)) tt))
+      (orders_still c t m xs k.steady.apart (λ via. k.room.taken via) r n (λ via. (q via (λ n. true)).0)
+      (λ via. subst (Ordered via xs (untaken c via t)) (sym (none via)) tt) h.orders)
+      (heard_still c t m xs (λ via. k.room.taken via) (λ via. (q via (λ n. true)).0) n
+      (λ via. subst (AllByRecursion (λ (e : End). poll_of e ≡ None)) (sym (none via)) tt) h.heard)
+      (λ via. subst (AllByRecursion IsFit) (sym (none via)) tt)

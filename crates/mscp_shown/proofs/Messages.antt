@@ -1,0 +1,95 @@
+-- A message that a controller takes keeps each rule of a host.
+use Rattle.mscp_controller.proofs.Basics.{◌≡◌, ℕ, ◌+◌, ◌-◌, ◌≤◌, Bool, true, false, cond, not, ◌&&◌, ◌||◌, List, length, map, refl, ap, sym, ◌∙◌, subst, arith, ⊎_elim, count_by, sum_by, nat_eq, nat_lt, Option, Some, None, Connection, End, Settings, Trace, credits_of, waiting_by, reference, untaken, balance, outstanding, holds, sum_by-append, sum_on, every_from, le-ltb, lt-ltb, eq-eqb, eqb-false, cases_lt}
+use Rattle.std.proofs.lemmas.Bool.{le-leb}
+use Rattle.mscp_queue.proofs.Placed.{sum_by_map}
+use Rattle.mscp_controller.proofs.Promise.Arrivals.{IsTaken}
+use Rattle.mscp_packet.specs.Number.{num}
+use Rattle.mscp_wire.specs.Wire.{IsRightMessage, count_on, has_credit, is_immediate, is_named, same_connection, sent_by}
+use Rattle.mscp_wire.specs.declared.sent.Sent.{Sent}
+use Rattle.mscp_shown.specs.Keeping.{Covers}
+use Rattle.mscp_shown.proofs.Counts.{all_pass, none_any, none_passes}
+use Rattle.mscp_shown.proofs.Owed.{owed}
+use Rattle.mscp_shown.proofs.Shown.{tally}
+
+-- the same commands are outstanding on the wire and in the trace, as far as their numbers tell
+abbrev pub IsTallied : Settings → Connection → Trace → List Sent → Type 0
+IsTallied c via t xs = (p : ℕ → Bool) → tally via p xs ≡ owed c via t p
+
+module _ (c : Settings) (via : Connection) (t : Trace) where
+  pub owed_is : (p : ℕ → Bool) → count_by p (outstanding c via t) ≡ owed c via t p
+  unfolding outstanding
+  owed_is p =
+      let g : ℕ → ℕ = λ n. cond (p n) 1 0 in
+      let numbers = map (reference t) (waiting_by via t) in
+      let ended = map (λ (e : End). e.reference) (untaken c via t) in
+      sum_by-append g numbers ended
+      ∙ ap (λ n. n + sum_by g ended) (sum_by_map (reference t) g (waiting_by via t))
+      ∙ ap (λ n. count_by (λ x. p (reference t x)) (waiting_by via t) + n)
+      (sum_by_map (λ (e : End). e.reference) g (untaken c via t))
+
+  pub new_number : (xs : List Sent) (n : ℕ) → IsTallied c via t xs → holds (outstanding c via t) n ≡ false
+      → tally via (λ x. nat_eq x n) xs ≡ 0
+  new_number xs n same h =
+      same (λ x. nat_eq x n) ∙ sym (owed_is (λ x. nat_eq x n))
+      ∙ none_passes (λ x. nat_eq x n) (outstanding c via t) h
+
+  all_tallied : (xs : List Sent) → IsTallied c via t xs
+      → count_on via xs ≡ length (waiting_by via t) + length (untaken c via t)
+  all_tallied xs same =
+      let each : (s : Sent) → (same_connection s.connection via && true) ≡ same_connection s.connection via =
+      λ s. and_true (same_connection s.connection via) in
+      sym (sum_on (λ (s : Sent). cond (same_connection s.connection via && true) 1 0)
+      (λ (s : Sent). cond (same_connection s.connection via) 1 0) xs
+      (every_from (λ (s : Sent). cond (same_connection s.connection via && true) 1 0
+      ≡ cond (same_connection s.connection via) 1 0) (λ s. ap (λ b. cond b 1 0) (each s)) xs))
+      ∙ same (λ x. true)
+      ∙ (ap (λ n. n + count_by (λ (e : End). true) (untaken c via t)) (all_pass (waiting_by via t))
+      ∙ ap (λ n. length (waiting_by via t) + n) (all_pass (untaken c via t)))
+    where
+      and_true : (b : Bool) → (b && true) ≡ b
+      and_true b = grind arith
+
+-- ---- credits
+two_left : (n : ℕ) → (n ≡ 0 → ⊥) → nat_eq n 1 ≡ false → 2 ≤ n
+two_left n some h = let two = eqb-false n 1 h in grind arith
+
+credit_of : (n all waits ended : ℕ) (immediate : Bool) → all ≤ n → (all - waits - ended ≡ 0 → ⊥)
+    → (nat_eq (all - waits - ended) 1 && not immediate) ≡ false
+    → (nat_lt (waits + ended + 1) n || (nat_eq (waits + ended + 1) n && immediate)) ≡ true
+credit_of n all waits ended true few some last = ⊎_elim
+    (λ low. ap (λ b. b || (nat_eq (waits + ended + 1) n && true)) (lt-ltb (waits + ended + 1) n low))
+    (λ high.
+    let one : (all - waits - ended ≡ 0 → ⊥) → 1 ≤ all - waits - ended = λ f. grind arith in
+    let e : waits + ended + 1 ≡ n = omega (arith, one some) in
+    ap (λ b. b || (nat_eq (waits + ended + 1) n && true)) (le-ltb (waits + ended + 1) n high)
+    ∙ ap (λ b. b && true) (eq-eqb (waits + ended + 1) n e))
+    (cases_lt (waits + ended + 1) n)
+credit_of n all waits ended false few some last =
+    let two : 2 ≤ all - waits - ended = two_left (all - waits - ended) some (and_true' (nat_eq (all - waits - ended) 1)
+    last) in
+    ap (λ b. b || (nat_eq (waits + ended + 1) n && false)) (lt-ltb (waits + ended + 1) n (omega (arith, two)))
+  where
+    and_true' : (b : Bool) → (b && true) ≡ false → b ≡ false
+    and_true' b h = grind arith
+
+credit_kept : (credits : Option ℕ) (c : Settings) (via : Connection) (t : Trace) (b : List ℕ) (xs : List Sent)
+    → Covers credits c → IsTaken (balance c via t) (outstanding c via t) b → IsTallied c via t xs
+    → has_credit credits xs (sent_by via b) ≡ true
+unfolding balance
+credit_kept None c via t b xs covers taken same = refl
+credit_kept (Some n) c via t b xs covers taken same =
+    let s = sent_by via b in
+    subst (λ k. (nat_lt (k + 1) n || (nat_eq (k + 1) n && is_immediate s.opcode)) ≡ true)
+    (sym (all_tallied c via t xs same))
+    (credit_of n (credits_of c via) (length (waiting_by via t)) (length (untaken c via t)) (is_immediate s.opcode)
+    (covers via) taken.free taken.last)
+
+pub message_right : (credits : Option ℕ) (c : Settings) (via : Connection) (t : Trace) (b : List ℕ) (xs : List Sent)
+    → Covers credits c → IsTaken (balance c via t) (outstanding c via t) b → IsTallied c via t xs
+    → IsRightMessage credits xs b (sent_by via b)
+message_right credits c via t b xs covers taken same = record {
+  message = le-leb 12 (length b) taken.low;
+  number = ap not
+      (none_any (is_named via (num b 0 4)) xs (new_number c via t xs (num b 0 4) same taken.new));
+  credit = credit_kept credits c via t b xs covers taken same;
+}

@@ -1,0 +1,188 @@
+-- Each moment of a legal trace keeps what its parts keep, so that the whole trace does.
+use Rattle.mscp_controller.proofs.Basics.{◌≡◌, ℕ, zero, suc, ◌+◌, ◌<◌, ◌≤◌, true, [], ◌∷◌, ◌++◌, length, take, drop, refl, ap, sym, ◌∙◌, subst, arith, count_by, Option, Some, None, Ok, Err, AllByRecursion, recursion_from_All, Connection, End, IsOfKind, Settings, IsValid, Trace, Moment, moment, Service, takes, collect, ends, ends_at, untaken, waiting, every_append, every_parts, Event, Report, First, IsRight, IsLegal, ends_more, ArrayVec, Block, Command, Name, name, same_name, figure, figure_of, bound, find, is_queued, each_queued, waits_below, is_step}
+use Rattle.std.specs.Prelude.{◌^◌}
+use Rattle.mscp_controller.specs.Figures.{figure_found}
+use Rattle.mscp_controller.proofs.Promise.Progress.{progress}
+use Rattle.mscp_controller.specs.declared.entry.Sent.{Sent}
+use Rattle.mscp_controller.specs.declared.entry.Entry.{Entry}
+use Rattle.std.proofs.lemmas.List.{get_or-take, length-take-le, take-append-drop, take-take, take_all}
+use Rattle.mscp_controller.proofs.Promise.Known.{Known, known, more_at}
+use Rattle.mscp_controller.proofs.Promise.Shaped.{shaped}
+use Rattle.mscp_events.specs.declared.block.Block.TheVariants.{Bad, Good}
+use Rattle.mscp_shown.specs.Keeping.{IsPatient, IsPossible, LegalTracesAreRight, Polls}
+use Rattle.mscp_wire.specs.Wire.{AreRight}
+use Rattle.mscp_shown.specs.Shown.{shown}
+use Rattle.mscp_shown.proofs.Ending.{took_more}
+use Rattle.mscp_shown.proofs.Kept.{Inv, More, stills}
+use Rattle.mscp_shown.proofs.Sending.{answered_more, queued_more}
+use Rattle.mscp_shown.proofs.Serving.{served_more}
+use Rattle.mscp_shown.proofs.Making.{Facts, even_more}
+use Rattle.mscp_shown.proofs.Owners.{every_drop}
+use Rattle.mscp_shown.proofs.Reading.{IsFit}
+use Rattle.mscp_shown.proofs.Small.{all_bytes}
+use Rattle.mscp_shown.proofs.Suiting.{IsFault}
+use Rattle.mscp_shown.proofs.Taking.{first_taken}
+
+-- what holds of all ends of a connection holds of those that weren't taken
+untaken_all : (P : End → Type 0) (c : Settings) (via : Connection) (t : Trace) → AllByRecursion P (ends c via t)
+    → AllByRecursion P (untaken c via t)
+unfolding untaken
+untaken_all P c via t h = every_drop P (count_by (λ (m : Moment). takes via m.1) t) (ends c via t) h
+
+fault_of : (k : Block) → IsPossible (Event.Step k) → IsFault k
+fault_of Good h = tt
+fault_of (Bad status) h = h
+
+module _ (c : Settings) (t : Trace) (k : Known c t)
+    (kinds : (via : Connection) → AllByRecursion IsOfKind (ends c via t)) (facts : Facts c t) (h : Inv c t) where
+  take_one : (own : Connection) (b : ArrayVec ℕ) → IsRight c t (Event.Take own) (Entry.Taken own (Some b))
+      → More c t (Event.Take own, Entry.Taken own (Some b))
+  take_one own b r =
+      let first = first_taken (untaken c own t) b r.1 in
+      let e = first.0 in
+      let is = first.2.is in
+      let kind = subst (AllByRecursion IsOfKind) is (untaken_all IsOfKind c own t (kinds own)) in
+      let fit = subst (AllByRecursion IsFit) is (untaken_all IsFit c own t (h.fit own)) in
+      took_more c t own b k h e first.1 r first.2 kind.0 fit.0
+
+  more : (event : Event) (entry : Entry) → IsPossible event → IsPatient (t ++ (event, entry) ∷ [])
+      → IsRight c t event entry → More c t (event, entry)
+  more (Event.Send own b) (Entry.Sent other (Err fault)) may patient r =
+      stills c t (Event.Send own b, Entry.Sent other (Err fault)) h k r refl (λ via p. (refl, refl)) (λ n. refl) refl
+      (λ via. refl)
+  more (Event.Send own b) (Entry.Sent other (Ok (Sent.Queued q))) may patient r =
+      subst (λ o. More c t (Event.Send own b, Entry.Sent o (Ok (Sent.Queued q)))) (sym r.0)
+      (queued_more c t own b k q h r.1)
+  more (Event.Send own b) (Entry.Sent other (Ok (Sent.Answered q a))) may patient r =
+      subst (λ o. More c t (Event.Send own b, Entry.Sent o (Ok (Sent.Answered q a)))) (sym r.0)
+      (answered_more c t own b k q a h facts
+      (subst (λ o. IsPatient (t ++ (Event.Send own b, Entry.Sent o (Ok (Sent.Answered q a))) ∷ [])) r.0 patient) may r.1)
+  more (Event.Step block) (Entry.Stepped Report.Idle) may patient r =
+      stills c t (Event.Step block, Entry.Stepped Report.Idle) h k r refl (λ via p. (refl, refl)) (λ n. refl) refl
+      (λ via. refl)
+  more (Event.Step block) (Entry.Stepped (Report.Served other reference unit lbn started seek ended)) may patient r =
+      let report = Report.Served other reference unit lbn started seek ended in
+      let s : Service = record {
+        connection = other;
+        reference = reference;
+        unit = unit;
+        lbn = lbn;
+        started = started;
+        seek = seek;
+        ended = ended;
+      } in
+      served_more c t block k h s report refl r ended refl r.0 r.1 (fault_of block may) facts refl (λ via. refl)
+  more (Event.Take own) (Entry.Taken other None) may patient r =
+      stills c t (Event.Take own, Entry.Taken other None) h k r refl (λ via p. (refl, refl)) (λ n. refl) refl (λ via. refl)
+  more (Event.Take own) (Entry.Taken other (Some b)) may patient r =
+      subst (λ o. More c t (Event.Take own, Entry.Taken o (Some b))) (sym r.0) (take_one own b (refl, r.1))
+  more Event.Look (Entry.Looked list) may patient r =
+      stills c t (Event.Look, Entry.Looked list) h k r refl (λ via p. (refl, refl)) (λ n. refl) refl (λ via. refl)
+  more event entry may patient r = absurd r
+
+inv_more : (c : Settings) (t : Trace) (m : Moment) → Known c t
+    → ((via : Connection) → AllByRecursion IsOfKind (ends c via t)) → Facts c t → IsPossible m.0
+    → IsPatient (t ++ m ∷ []) → IsRight c t m.0 m.1 → Inv c t → Inv c (t ++ m ∷ [])
+inv_more c t m k kinds facts may patient r h =
+    let one = more c t k kinds facts h m.0 m.1 may patient r in
+    record {
+      tallied = one.tallied;
+      owners = one.owners;
+      orders = one.orders;
+      heard = one.heard;
+      queued = each_queued c (λ (k : Command). is_queued c k ≡ true) (λ k q. q) t m r h.queued;
+      even = even_more c t m r h.even;
+      fit = λ via. subst (AllByRecursion IsFit) (sym (ends_more c via t m))
+          (every_append IsFit (ends c via t) (ends_at c via t m) (h.fit via) (one.fit via));
+      kept = one.kept;
+    }
+
+inv_empty : (c : Settings) → Inv c []
+unfolding shown waiting ends untaken collect
+inv_empty c = record {
+  tallied = λ via p. refl;
+  owners = record { waits = tt; owed = λ via. tt; aborts = λ via. tt };
+  orders = record {
+    single = λ via n. omega arith;
+    placed = λ x y wx wy. tt;
+    free = λ y w q. absurd (omega (arith, waits_below [] y w));
+    ordered = λ via. tt;
+  };
+  heard = record { chains = λ via. tt; lasts = λ x w. tt; stands = λ via. tt };
+  queued = tt;
+  even = tt;
+  fit = λ via. tt;
+  kept = λ credits covers i low. absurd (omega (arith, low));
+}
+
+-- ---- parts of a legal trace
+legal_part : (c : Settings) (t : Trace) (j : ℕ) → j ≤ length t → IsLegal c t → IsLegal c (take j t)
+unfolding moment
+legal_part c t j h legal i low =
+    let size = length-take-le j t h in
+    let l : i < j = omega (arith, low, size) in
+    rw (take-take i j t (omega (arith, l)), get_or-take j t i (Event.Take First, Entry.Taken First None) l)
+    (legal i (omega (arith, l, h)))
+
+module _ (c : Settings) (t : Trace) (valid : IsValid c) (legal : IsLegal c t) (may : AllByRecursion (λ (m : Moment). IsPossible m.0) t)
+    (patient : IsPatient t) where
+  abbrev May : Moment → Type 0
+  May m = IsPossible m.0
+
+  may_part : (i : ℕ) → i < length t → AllByRecursion May (take i t) × May (moment t i)
+  may_part i h =
+      let parts = every_parts May (take (i + 1) t) (drop (i + 1) t)
+      (subst (AllByRecursion May) (sym (take-append-drop (i + 1) t)) may) in
+      let both = every_parts May (take i t) (moment t i ∷ [])
+      (subst (AllByRecursion May) (more_at t i h) parts.0) in
+      (both.0, both.1.0)
+
+  -- no figure needs more than four bytes
+  figure_part : (i : ℕ) → i ≤ length t → (n : Name) → figure_of c (take i t) n < 2 ^ 32
+  unfolding figure_of
+  figure_part i h n =
+      let p = take i t in
+      found_small p (find (λ x. same_name (name p x) n) (waiting p)) ((progress c t valid legal).small i h)
+    where
+      found_small : (p : Trace) (o : Option ℕ) → ((x : ℕ) → figure c p x ≤ bound c) → figure_found c p o < 2 ^ 32
+      found_small p None all = omega arith
+      found_small p (Some x) all = omega (arith, all x, valid.small_bound)
+
+  patient_part : (j : ℕ) → j ≤ length t → IsPatient (take j t)
+  unfolding moment
+  patient_part j h i k via reference l m p q =
+      let size = length-take-le j t h in
+      let d : Moment = (Event.Take First, Entry.Taken First None) in
+      let low : k < j = omega (arith, m, size) in
+      let same : (x : ℕ) → x < j → moment (take j t) x ≡ moment t x = λ x lx. get_or-take j t x d lx in
+      let step = patient i k via reference l (omega (arith, low, h))
+      (subst (Polls via reference) (same i (omega (arith, l, low))) p) (subst (Polls via reference) (same k low) q) in
+      (step.0, step.1, step.2, ap (λ (n : Moment). is_step n.0) (same step.0 (omega (arith, step.2, low))) ∙ step.3)
+
+  inv_at : (i : ℕ) → i ≤ length t → Inv c (take i t)
+  inv_at zero h = inv_empty c
+  inv_at (suc i) h =
+      let low : i < length t = omega (arith, h) in
+      let before = known c valid.some_blocks t legal i (omega (arith, h)) in
+      let parts = may_part i low in
+      let kinds = λ (via : Connection). recursion_from_All IsOfKind (ends c via (take i t))
+      (shaped c via (take i t) (legal_part c t i (omega (arith, h)) legal)) in
+      let one : suc i ≡ i + 1 = omega arith in
+      let e : take (suc i) t ≡ take i t ++ moment t i ∷ [] =
+      ap (λ n. take n t) one ∙ more_at t i low in
+      let there = inv_at i (omega (arith, h)) in
+      let facts : Facts c (take i t) = record {
+        bytes = all_bytes (take i t) parts.0;
+        figures = figure_part i (omega (arith, h));
+        promise = progress c (take i t) valid (legal_part c t i (omega (arith, h)) legal);
+        queued = there.queued;
+        even = there.even;
+      } in
+      subst (Inv c) (sym e)
+      (inv_more c (take i t) (moment t i) before kinds facts parts.1
+      (subst IsPatient e (patient_part (suc i) h)) (legal i low) there)
+
+pub are_right : LegalTracesAreRight
+are_right c t credits valid legal may patient covers =
+    let all = inv_at c t valid legal (recursion_from_All (λ (m : Moment). IsPossible m.0) t may) patient (length t) (omega arith) in
+    subst (λ s. AreRight credits (shown s)) (take_all (length t) t (omega arith)) (all.kept credits covers)

@@ -1,0 +1,181 @@
+-- Which ends are those of polls, and what they tell.
+use Rattle.mscp_controller.proofs.Basics.{◌≡◌, ◌≢◌, ⊎_elim, ℕ, ◌+◌, Bool, true, false, cond, not, ◌&&◌, refl, ap, sym, ◌∙◌, arith, if◌then◌else◌, nat_eq, Option, Some, None, eqb-true, Block, Command, Order, End, Shape, Settings, unit_shape, fault_of, own_end, aborted_end, is_queued, queued_open, true≢false}
+use Rattle.std.specs.Prelude.{◌%◌}
+use Rattle.mscp_packet.specs.Ends.{refused_body}
+use Rattle.mscp_packet.specs.Opcodes.{move_byte}
+use Rattle.mscp_packet.specs.declared.class.Opcode.{Opcode}
+use Rattle.mscp_packet.specs.declared.class.Opcode.TheVariants as codes
+use Rattle.mscp_packet.specs.declared.command.MoveKind.{MoveKind}
+use Rattle.mscp_packet.specs.declared.command.Order.TheVariants as orders
+use Rattle.mscp_packet.specs.declared.end.EndBody.{EndBody}
+use Rattle.mscp_packet.specs.declared.end.EndBody.TheVariants as bodies
+use Rattle.mscp_queue.specs.Orders.{endcode}
+use Rattle.mscp_queue.specs.Outcomes.{is_good_block, is_success, moved_body, outcome_body, outcome_status, touches}
+use Rattle.mscp_controller.specs.Arrival.{is_immediate, order_fault}
+use Rattle.mscp_controller.specs.Outcomes.{answer_body, answer_status, outcome_of, own_end_with}
+use Rattle.mscp_wire.specs.Wire.{is_known, polled_by}
+use Rattle.mscp_wire.specs.declared.answer.Answer.{Answer}
+use Rattle.mscp_wire.specs.declared.sent.Sent.{Sent}
+use Rattle.mscp_shown.proofs.Saying.{IsShort, Says}
+use Rattle.mscp_shown.proofs.Suiting.{refused_apart, valid_order}
+
+-- the command that the end of a poll is about
+abbrev pub poll_by : ℕ → EndBody → Option ℕ
+poll_by status (bodies.Status other figure) = if nat_eq (status % 32) 0 then Some other else None
+poll_by status body = None
+
+abbrev pub poll_of : End → Option ℕ
+poll_of e = poll_by e.status e.body
+
+-- and the figure that it tells
+abbrev pub figure_by : EndBody → ℕ
+figure_by (bodies.Status other figure) = figure
+figure_by body = 0
+
+abbrev pub figure_told : End → ℕ
+figure_told e = figure_by e.body
+
+-- the command that an order asks about as a poll
+abbrev pub asked_by : Order → Option ℕ
+asked_by (orders.Status other) = Some other
+asked_by order = None
+
+-- ---- what the wire says
+no_poll : (a : Bool) (op : ℕ) (p : Option ℕ) → nat_eq op 2 ≡ false → (if a && nat_eq op 2 then p else None) ≡ None
+no_poll a op p e = ap (λ b. if a && b then p else None) e ∙ never a
+  where
+    never : (a : Bool) → (if a && false then p else None) ≡ None
+    never a = grind arith
+
+pub polled_says : (o : Order) (s : Sent) (a : Answer) → Says o s → a.code ≡ endcode o → polled_by s a ≡ asked_by o
+polled_says (orders.Abort other) s a says c = no_poll (is_known a) s.opcode s.parameter (ap (λ n. nat_eq n 2) says.0)
+polled_says (orders.Status other) s a says c =
+    ap (λ n. if not (nat_eq n 0x80) && nat_eq s.opcode 2 then s.parameter else None) c
+    ∙ (ap (λ n. if nat_eq n 2 then s.parameter else None) says.0 ∙ says.1)
+polled_says orders.UnitStatus s a says c = no_poll (is_known a) s.opcode s.parameter (ap (λ n. nat_eq n 2) says)
+polled_says (orders.SetController version) s a says c =
+    no_poll (is_known a) s.opcode s.parameter (ap (λ n. nat_eq n 2) says)
+polled_says orders.Available s a says c = no_poll (is_known a) s.opcode s.parameter (ap (λ n. nat_eq n 2) says)
+polled_says orders.Online s a says c = no_poll (is_known a) s.opcode s.parameter (ap (λ n. nat_eq n 2) says)
+polled_says orders.SetUnit s a says c = no_poll (is_known a) s.opcode s.parameter (ap (λ n. nat_eq n 2) says)
+polled_says (orders.Move kind count block) s a says c =
+    no_poll (is_known a) s.opcode s.parameter (ap (λ n. nat_eq n 2) says.0 ∙ isnt kind)
+  where
+    isnt : (kind : MoveKind) → nat_eq (move_byte kind) 2 ≡ false
+    isnt kind = grind arith
+polled_says (orders.Invalid byte fault) s a says c = ⊎_elim
+    (λ e. ap (λ n. if not (nat_eq n 0x80) && nat_eq s.opcode 2 then s.parameter else None)
+    (c ∙ ap (λ f. endcode (orders.Invalid byte f)) e))
+    (λ short. none_short short.0 short.1)
+    says
+  where
+    none_short : (o : Opcode) → IsShort o byte fault s → polled_by s a ≡ None
+    none_short codes.Status h = ap (λ p. if is_known a && nat_eq s.opcode 2 then p else None) (h.about refl)
+        ∙ either (is_known a && nat_eq s.opcode 2) None
+      where
+        either : (b : Bool) (p : Option ℕ) → (if b then p else p) ≡ p
+        either b p = grind arith
+    none_short codes.Abort h = no_poll (is_known a) s.opcode s.parameter (ap (λ n. nat_eq n 2) h.opcode)
+    none_short codes.UnitStatus h = no_poll (is_known a) s.opcode s.parameter (ap (λ n. nat_eq n 2) h.opcode)
+    none_short codes.SetController h = no_poll (is_known a) s.opcode s.parameter (ap (λ n. nat_eq n 2) h.opcode)
+    none_short codes.Available h = no_poll (is_known a) s.opcode s.parameter (ap (λ n. nat_eq n 2) h.opcode)
+    none_short codes.Online h = no_poll (is_known a) s.opcode s.parameter (ap (λ n. nat_eq n 2) h.opcode)
+    none_short codes.SetUnit h = no_poll (is_known a) s.opcode s.parameter (ap (λ n. nat_eq n 2) h.opcode)
+    none_short (codes.Move kind) h =
+        no_poll (is_known a) s.opcode s.parameter (ap (λ n. nat_eq n 2) h.opcode ∙ isnt kind)
+      where
+        isnt : (kind : MoveKind) → nat_eq (move_byte kind) 2 ≡ false
+        isnt kind = grind arith
+
+-- ---- what the ends of a controller say
+pub unpolled : (status : ℕ) (body : EndBody) → status % 32 ≢ 0 → poll_by status body ≡ None
+unpolled status (bodies.Status other figure) n =
+    let P : Bool → Type 0 = λ b. nat_eq (status % 32) 0 ≡ b → (if b then Some other else None) ≡ None in
+    elim (nat_eq (status % 32) 0) as P [
+      | true ↦ λ e. absurd (n (eqb-true (status % 32) 0 e))
+      | false ↦ λ e. refl
+    ] refl
+unpolled status bodies.Bare n = refl
+unpolled status (bodies.Abort other) n = refl
+unpolled status (bodies.UnitStatus id media track group cylinder) n = refl
+unpolled status (bodies.Controller timeout id) n = refl
+unpolled status (bodies.Online id media size serial) n = refl
+unpolled status (bodies.Moved count) n = refl
+
+refused_asks : (c : Settings) (unit status : ℕ) (o : Order) → order_fault c unit o ≡ Some status → asked_by o ≡ None
+refused_asks c unit status (orders.Status other) h = cc
+refused_asks c unit status (orders.Invalid byte fault) h = refl
+refused_asks c unit status (orders.Abort other) h = refl
+refused_asks c unit status (orders.Move kind count block) h = refl
+refused_asks c unit status orders.UnitStatus h = refl
+refused_asks c unit status orders.Available h = refl
+refused_asks c unit status orders.Online h = refl
+refused_asks c unit status orders.SetUnit h = refl
+refused_asks c unit status (orders.SetController version) h = refl
+
+answer_polls : (c : Settings) (online : Bool) (figure unit : ℕ) (o : Order) → is_immediate o ≡ true
+    → poll_by (answer_status online o) (answer_body c figure unit o) ≡ asked_by o
+answer_polls c online figure unit (orders.Abort other) h = refl
+answer_polls c online figure unit (orders.Status other) h = refl
+answer_polls c online figure unit orders.UnitStatus h = refl
+answer_polls c online figure unit (orders.SetController version) h = refl
+answer_polls c online figure unit o h = cc
+
+own_with : (c : Settings) (online : Bool) (figure : ℕ) (k : Command) (s : Sent) (f : Option ℕ) → fault_of c k ≡ f
+    → (f ≡ None → is_immediate k.order ≡ true) → Says k.order s
+    → poll_of (own_end_with c online figure k f) ≡ asked_by k.order
+own_with c online figure k s None e h says = answer_polls c online figure k.unit k.order (h refl)
+own_with c online figure k s (Some status) e h says =
+    let apart = refused_apart c k.unit status k.order s says e in
+    let n : status % 32 ≢ 0 =
+    λ z. ⊎_elim (λ q. absurd (omega (arith, q, z))) (λ q. absurd (omega (arith, q, z))) apart in
+    unpolled status (refused_body (endcode k.order)) n ∙ sym (refused_asks c k.unit status k.order e)
+
+pub own_polls : (c : Settings) (online : Bool) (figure : ℕ) (k : Command) (s : Sent) → is_queued c k ≡ false
+    → Says k.order s → poll_of (own_end c online figure k) ≡ asked_by k.order
+own_polls c online figure k s q says = own_with c online figure k s (fault_of c k) refl (λ e. unrefused e) says
+  where
+    unrefused : fault_of c k ≡ None → is_immediate k.order ≡ true
+    unrefused e = grind (arith, true≢false)
+
+queued_asks : (o : Order) → is_immediate o ≡ false → asked_by o ≡ None
+queued_asks (orders.Status other) h = cc
+queued_asks (orders.Invalid byte fault) h = refl
+queued_asks (orders.Abort other) h = refl
+queued_asks (orders.Move kind count block) h = refl
+queued_asks orders.UnitStatus h = refl
+queued_asks orders.Available h = refl
+queued_asks orders.Online h = refl
+queued_asks orders.SetUnit h = refl
+queued_asks (orders.SetController version) h = refl
+
+pub aborted_polls : (c : Settings) (k : Command) (good : ℕ) → is_queued c k ≡ true
+    → (poll_of (aborted_end k good) ≡ asked_by k.order) × (asked_by k.order ≡ None)
+aborted_polls c k good q =
+    let none = queued_asks k.order (queued_open c k q).waits in
+    let n : 2 % 32 ≢ 0 = λ z. absurd (omega (arith, z)) in
+    (unpolled 2 (moved_body k.order good) n ∙ sym none, none)
+
+online_polls : (s : Shape) (status : ℕ) (success : Bool)
+    → poll_by status (if success then bodies.Online s.id s.media s.size s.serial else bodies.Online 0 0 0 0) ≡ None
+online_polls s status true = refl
+online_polls s status false = refl
+
+outcome_polls : (s : Shape) (status good : ℕ) (o : Order) → is_immediate o ≡ false
+    → ((byte why : ℕ) → o ≢ orders.Invalid byte why) → poll_by status (outcome_body s status o good) ≡ None
+outcome_polls s status good (orders.Move kind count block) h n = refl
+outcome_polls s status good orders.Available h n = refl
+outcome_polls s status good orders.Online h n = online_polls s status (is_success status)
+outcome_polls s status good orders.SetUnit h n = online_polls s status (is_success status)
+outcome_polls s status good (orders.Invalid byte why) h n = absurd (n byte why refl)
+outcome_polls s status good o h n = cc
+
+pub served_polls : (c : Settings) (online : Bool) (k : Command) (good : ℕ) (block : Block) → is_queued c k ≡ true
+    → (poll_of (outcome_of c online k good block) ≡ asked_by k.order) × (asked_by k.order ≡ None)
+served_polls c online k good block q =
+    let sound = queued_open c k q in
+    let none = queued_asks k.order sound.waits in (
+      outcome_polls (unit_shape c k.unit) (outcome_status online k.order block)
+          (good + cond (touches online k.order && is_good_block block) 1 0) k.order sound.waits (valid_order c k.unit k.order sound.sound) ∙ sym none,
+      none,
+    )

@@ -1,0 +1,86 @@
+-- What a message says on the wire, by what it asks for.
+use Rattle.std.proofs.Common.{◌≡◌, ◌⊎◌, inl, inr, ℕ, ◌<◌, ◌≤◌, Bool, true, false, List, length, refl, ap, sym, subst, arith, Option, Some, None}
+use Rattle.std.proofs.lemmas.Bool.{eqb-true, false≢true, le-leb, le-ltb, ltb-false, ltb-true}
+use Rattle.std.specs.Prelude.{find, if◌then◌else◌, nat_eq, nat_le, nat_lt, slice_index}
+use Rattle.mscp_packet.specs.Commands.{command_of, order_with, parameters}
+use Rattle.mscp_packet.specs.Number.{num}
+use Rattle.mscp_packet.specs.Opcodes.{least, move_byte, opcode_of, opcodes, row_of}
+use Rattle.mscp_packet.specs.Statuses.{invalid_length, invalid_opcode}
+use Rattle.mscp_packet.specs.declared.class.Opcode.{Opcode}
+use Rattle.mscp_packet.specs.declared.class.Opcode.TheVariants as codes
+use Rattle.mscp_packet.specs.declared.command.Order.{Order}
+use Rattle.mscp_packet.specs.declared.command.Order.TheVariants as orders
+use Rattle.mscp_events.specs.declared.connection.Connection.{Connection}
+use Rattle.mscp_queue.proofs.Placed.{found_is}
+use Rattle.mscp_wire.specs.Wire.{is_about_another, sent_by}
+use Rattle.mscp_wire.specs.declared.sent.Sent.{Sent}
+
+-- it is shorter than its opcode asks
+pub record IsShort (o : Opcode) (number fault : ℕ) (s : Sent) : Type 0 where
+  pub why : fault ≡ invalid_length
+  pub byte : number ≡ (row_of o).byte
+  pub opcode : s.opcode ≡ (row_of o).byte
+  pub about : is_about_another (row_of o).byte ≡ true → s.parameter ≡ None
+
+-- the command asks for this
+abbrev pub Says : Order → Sent → Type 0
+Says (orders.Abort other) s = (s.opcode ≡ 1) × (s.parameter ≡ Some other)
+Says (orders.Status other) s = (s.opcode ≡ 2) × (s.parameter ≡ Some other)
+Says orders.UnitStatus s = s.opcode ≡ 3
+Says (orders.SetController version) s = s.opcode ≡ 4
+Says orders.Available s = s.opcode ≡ 8
+Says orders.Online s = s.opcode ≡ 9
+Says orders.SetUnit s = s.opcode ≡ 10
+Says (orders.Move kind count block) s = (s.opcode ≡ move_byte kind) × (s.parameter ≡ Some count)
+Says (orders.Invalid byte status) s = (status ≡ invalid_opcode) ⊎ ((o : Opcode) × IsShort o byte status s)
+
+-- a message that is long enough has its parameter
+there : (b : List ℕ) (n : ℕ) → 16 ≤ n → n ≤ length b
+    → (if nat_le 16 (length b) then Some (num b 12 4) else None) ≡ Some (num b 12 4)
+there b n l h = ap (λ t. if t then Some (num b 12 4) else None) (le-leb 16 (length b) (omega (arith, l, h)))
+
+short_about : (o : Opcode) → is_about_another (row_of o).byte ≡ true → least o ≡ 16
+short_about o h = grind (arith, false≢true)
+
+module _ (via : Connection) (b : List ℕ) where
+  says_long : (o : Opcode) → (row_of o).byte ≡ slice_index b 8 → least o ≤ length b
+      → Says (parameters o b) (sent_by via b)
+  says_long codes.Abort e h = (sym e, there b 16 (omega arith) h)
+  says_long codes.Status e h = (sym e, there b 16 (omega arith) h)
+  says_long codes.UnitStatus e h = sym e
+  says_long codes.SetController e h = sym e
+  says_long codes.Available e h = sym e
+  says_long codes.Online e h = sym e
+  says_long codes.SetUnit e h = sym e
+  says_long (codes.Move kind) e h = (sym e, there b 32 (omega arith) h)
+
+  says_short : (o : Opcode) → (row_of o).byte ≡ slice_index b 8 → length b < least o
+      → IsShort o (slice_index b 8) invalid_length (sent_by via b)
+  says_short o e h = record {
+    why = refl;
+    byte = sym e;
+    opcode = sym e;
+    about = λ a.
+        let low : length b < 16 = subst (λ n. length b < n) (short_about o a) h in
+        ap (λ t. if t then Some (num b 12 4) else None) (below low);
+  }
+    where
+      below : length b < 16 → nat_le 16 (length b) ≡ false
+      below low = search (arith, le-ltb)
+
+  says_found : (found : Option Opcode) → find (λ o. nat_eq (row_of o).byte (slice_index b 8)) opcodes ≡ found
+      → Says (order_with found b) (sent_by via b)
+  says_found None e = inl refl
+  says_found (Some o) e =
+      let byte : (row_of o).byte ≡ slice_index b 8 = eqb-true (row_of o).byte (slice_index b 8)
+      (found_is (λ o. nat_eq (row_of o).byte (slice_index b 8)) opcodes o e) in
+      let P : Bool → Type 0 = λ short. nat_lt (length b) (least o) ≡ short
+      → Says (if short then orders.Invalid (slice_index b 8) invalid_length else parameters o b) (sent_by via b) in
+      elim (nat_lt (length b) (least o)) as P [
+        | true ↦ λ h. inr (o, says_short o byte (ltb-true (length b) (least o) h))
+        | false ↦ λ h. says_long o byte (ltb-false (length b) (least o) h)
+      ] refl
+
+  pub sent_says : Says (command_of b).order (sent_by via b)
+  unfolding command_of
+  sent_says = says_found (opcode_of (slice_index b 8)) refl

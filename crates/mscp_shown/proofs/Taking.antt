@@ -1,0 +1,73 @@
+-- An end that a host takes, as the rules of the wire read it.
+use Rattle.std.proofs.Common.{◌≡◌, ℕ, ◌+◌, ◌^◌, ◌<◌, true, ◌&&◌, List, [], ◌∷◌, length, refl, ap, sym, subst, arith, ⊎_elim, Option, Some, None}
+use Rattle.std.proofs.lemmas.Bool.{and_from, cases_lt, eqb-true, le-leb}
+use Rattle.std.proofs.lemmas.List.{get_or_past}
+use Rattle.std.specs.Prelude.{find, nat_eq, nat_le, option_map, slice_get, slice_index}
+use Rattle.arrayvec.specs.ArrayVec.{ArrayVec}
+use Rattle.mscp_packet.proofs.Ends.{length_span}
+use Rattle.mscp_packet.proofs.Numbers.{four}
+use Rattle.mscp_packet.specs.Ends.{IsOfKind, end_bytes, end_length, endcodes, kind_of_body}
+use Rattle.mscp_packet.specs.Number.{num}
+use Rattle.mscp_packet.specs.declared.end.BodyKind.{BodyKind}
+use Rattle.mscp_packet.specs.declared.end.End.{End}
+use Rattle.mscp_wire.specs.Wire.{is_long, least_length}
+use Rattle.mscp_shown.specs.Keeping.{AreBytes}
+use Rattle.mscp_shown.proofs.Counts.{found_passes}
+
+-- ---- numbers
+byte_at : (b : List ℕ) → AreBytes b → (i : ℕ) → slice_index b i < 256
+byte_at b h i = ⊎_elim (λ low. h i low) (λ past. omega (arith, get_or_past b i 0 past)) (cases_lt i (length b))
+
+-- the number in four bytes, or in two
+pub four_small : (b : List ℕ) → AreBytes b → (i : ℕ) → num b i 4 < 2 ^ 32
+four_small b h i = omega (arith, byte_at b h (i + 0), byte_at b h (i + 1), byte_at b h (i + 2), byte_at b h (i + 3))
+
+pub two_small : (b : List ℕ) → AreBytes b → (i : ℕ) → num b i 2 < 2 ^ 16
+two_small b h i = omega (arith, byte_at b h (i + 0), byte_at b h (i + 1))
+
+pub reference_read : (e : End) → e.reference < 2 ^ 32 → num (end_bytes e) 0 4 ≡ e.reference
+reference_read e h = four e.reference h
+
+-- ---- lengths
+some_value : {X : Type 0} → X → Option X → X
+some_value d None = d
+some_value d (Some x) = x
+
+least_of : (code : ℕ) (kind : BodyKind) (found : Option (ℕ × BodyKind))
+    → find (λ entry. nat_eq entry.0 code) endcodes ≡ found → option_map (λ entry. entry.1) found ≡ Some kind
+    → nat_le (least_length code) (end_length kind) ≡ true
+unfolding some_value
+least_of code kind None e h = cc
+least_of code kind (Some entry) e h =
+    let f = found_passes (λ entry. nat_eq entry.0 code) (λ entry. nat_le (least_length entry.0) (end_length entry.1))
+    endcodes entry e refl in
+    let is : entry.0 ≡ code = eqb-true entry.0 code f.0 in
+    let same : entry.1 ≡ kind = ap (some_value kind) h in
+    subst (λ n. nat_le (least_length n) (end_length kind) ≡ true) is
+    (subst (λ k. nat_le (least_length entry.0) (end_length k) ≡ true) same f.1)
+
+length_is : (e : End) → length (end_bytes e) ≡ end_length (kind_of_body e.body)
+length_is e = search arith
+
+-- an end whose body is of the shape of its endcode is as long as that asks
+pub long_end : (e : End) → IsOfKind e → is_long (end_bytes e) ≡ true
+long_end e kind =
+    let kind_of = kind_of_body e.body in
+    let least = least_of e.code kind_of (find (λ entry. nat_eq entry.0 e.code) endcodes) refl kind in
+    let span = length_span kind_of in
+    subst (λ n. (nat_le 12 n && nat_le (least_length e.code) n) ≡ true) (sym (length_is e))
+    (and_from (nat_le 12 (end_length kind_of)) (nat_le (least_length e.code) (end_length kind_of))
+    (le-leb 12 (end_length kind_of) span.0) least)
+
+-- ---- who takes it
+-- what is taken is the first of these ends
+pub record Takes (us : List End) (b : ArrayVec ℕ) (e : End) (rest : List End) : Type 0 where
+  pub is : us ≡ e ∷ rest
+  pub bytes : b ≡ record { items = end_bytes e }
+
+pub first_taken : (us : List End) (b : ArrayVec ℕ)
+    → Some b ≡ option_map (λ e. record { items = end_bytes e }) (slice_get us 0)
+    → (e : End) × (rest : List End) × Takes us b e rest
+unfolding some_value
+first_taken [] b h = cc
+first_taken (e ∷ rest) b h = (e, rest, record { is = refl; bytes = ap (some_value b) h })
