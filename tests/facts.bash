@@ -99,7 +99,7 @@ rules_of_the_judge_are_told() {
     local legal
     legal=$(texts_of put_rule judging && texts_of put_served judging && texts_of put_holder judging)
     same "$(texts_of rule_name wire)" "$(rules_below '## The rules' docs/JUDGE.md)" &&
-        same "$(sort <<<"$legal")" "$(rules_below '## Logs' docs/FORMATS.md | grep -vE '^(legal|.*not legal)$' | sort)"
+        same "$(sort <<<"$legal")" "$(rules_below '## Logs' docs/JUDGE.md | grep -vE '^(legal|.*not legal)$' | sort)"
 }
 
 # The number of a name of the header, or of a line of the sources that this expression finds.
