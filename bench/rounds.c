@@ -130,8 +130,9 @@ int main(int words, char **word)
     static const uint32_t WAITING[] = {1, 8, 31, 63};
     if (words == 6) {
         const struct work work = {(uint32_t)atol(word[2]), (uint32_t)atol(word[3]), (uint32_t)atol(word[4]), (uint32_t)atol(word[5])};
+        const uint32_t rounds = (uint32_t)atol(word[1]);
         fill(&work);
-        for (uint32_t i = 0; i < (uint32_t)atol(word[1]); i++)
+        for (uint32_t i = 0; i < rounds; i++)
             go_round(&work, i);
         return 0;
     }
