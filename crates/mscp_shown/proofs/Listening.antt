@@ -165,13 +165,17 @@ module _ (c : Settings) (own : Connection) (t : Trace) (m : Moment) (xs : List S
     falls x w side number None h' = refl
     falls x w side number (Some f) h' =
         let i = h'.0 in
-        let before : Polls own other (moment (t ++ m ∷ []) i) =
-        subst (Polls own other) (sym (moment_before t m i h'.2))
-        (subst (λ v. Polls v other (moment t i)) side
-        (subst (λ r. Polls (connection t x) r (moment t i)) number h'.3)) in
-        let now : Polls own other (moment (t ++ m ∷ []) (length t)) =
-        subst (Polls own other) (sym (moment_last t m)) polls in
-        let step = patient i (length t) own other h'.2 (omega (arith, length_push t m)) before now in
+        let later = t ++ m ∷ [] in
+        let before : Polls (connection t x) (reference t x) (moment later i) =
+        subst (Polls (connection t x) (reference t x)) (sym (moment_before t m i h'.2)) h'.3 in
+        let now : Polls (connection t x) (reference t x) (moment later (length t)) =
+        subst (Polls (connection t x) (reference t x)) (sym (moment_last t m))
+        (subst (λ v. Polls v (reference t x) m) (sym side) (subst (λ r. Polls own r m) (sym number) polls)) in
+        let step = subst (λ p. is_waiting p x ≡ true → Polls (connection p x) (reference p x) (moment later i)
+        → Polls (connection p x) (reference p x) (moment later (length t))
+        → (k : ℕ) × (i < k) × (k < length t) × (is_step (moment later k).0 ≡ true))
+        (take_at t (m ∷ []) (length t) refl)
+        (patient x i (length t) h'.1 h'.2 (omega (arith, length_push t m))) w before now in
         let there : is_step (moment t step.0).0 ≡ true =
         sym (ap (λ (n : Moment). is_step n.0) (moment_before t m step.0 step.2)) ∙ step.3 in
         let fall = falls_since c t x w promise i step.0 h'.1 step.1 step.2 there in

@@ -1,5 +1,5 @@
 -- Each moment of a legal trace keeps what its parts keep, so that the whole trace does.
-use Rattle.mscp_controller.proofs.Basics.{◌≡◌, ℕ, zero, suc, ◌+◌, ◌<◌, ◌≤◌, true, [], ◌∷◌, ◌++◌, length, take, drop, refl, ap, sym, ◌∙◌, subst, arith, count_by, Option, Some, None, Ok, Err, AllByRecursion, recursion_from_All, Connection, End, IsOfKind, Settings, IsValid, Trace, Moment, moment, Service, takes, collect, ends, ends_at, untaken, waiting, every_append, every_parts, Event, Report, First, IsRight, IsLegal, ends_more, ArrayVec, Block, Command, Name, name, same_name, figure, figure_of, bound, find, is_queued, each_queued, waits_below, is_step}
+use Rattle.mscp_controller.proofs.Basics.{◌≡◌, ℕ, zero, suc, ◌+◌, ◌<◌, ◌≤◌, true, [], ◌∷◌, ◌++◌, length, take, drop, refl, ap, sym, ◌∙◌, subst, arith, count_by, Option, Some, None, Ok, Err, AllByRecursion, recursion_from_All, Connection, End, IsOfKind, Settings, IsValid, Trace, Moment, moment, Service, takes, collect, ends, ends_at, untaken, waiting, every_append, every_parts, Event, Report, First, IsRight, IsLegal, ends_more, ArrayVec, Block, Command, Name, name, same_name, figure, figure_of, bound, find, is_queued, each_queued, waits_below, is_step, is_waiting, connection, reference}
 use Rattle.std.specs.Prelude.{◌^◌}
 use Rattle.mscp_controller.specs.Figures.{figure_found}
 use Rattle.mscp_controller.proofs.Promise.Progress.{progress}
@@ -150,13 +150,23 @@ module _ (c : Settings) (t : Trace) (valid : IsValid c) (legal : IsLegal c t) (m
 
   patient_part : (j : ℕ) → j ≤ length t → IsPatient (take j t)
   unfolding moment
-  patient_part j h i k via reference l m p q =
+  patient_part j h x i k lx l m w p q =
       let size = length-take-le j t h in
       let d : Moment = (Event.Take First, Entry.Taken First None) in
       let low : k < j = omega (arith, m, size) in
-      let same : (x : ℕ) → x < j → moment (take j t) x ≡ moment t x = λ x lx. get_or-take j t x d lx in
-      let step = patient i k via reference l (omega (arith, low, h))
-      (subst (Polls via reference) (same i (omega (arith, l, low))) p) (subst (Polls via reference) (same k low) q) in
+      let same : (y : ℕ) → y < j → moment (take j t) y ≡ moment t y = λ y ly. get_or-take j t y d ly in
+      let front : take k (take j t) ≡ take k t = take-take k j t (omega (arith, low)) in
+      let now = subst (λ f. is_waiting f x ≡ true → Polls (connection f x) (reference f x) (moment (take j t) i)
+      → Polls (connection f x) (reference f x) (moment (take j t) k)
+      → Polls (connection (take k t) x) (reference (take k t) x) (moment t i)
+      × (Polls (connection (take k t) x) (reference (take k t) x) (moment t k) × (is_waiting (take k t) x ≡ true)))
+      (sym front)
+      (λ w p q. (
+        subst (Polls (connection (take k t) x) (reference (take k t) x)) (same i (omega (arith, l, low))) p,
+        (subst (Polls (connection (take k t) x) (reference (take k t) x)) (same k low) q, w),
+      ))
+      w p q in
+      let step = patient x i k lx l (omega (arith, low, h)) now.1.1 now.0 now.1.0 in
       (step.0, step.1, step.2, ap (λ (n : Moment). is_step n.0) (same step.0 (omega (arith, step.2, low))) ∙ step.3)
 
   inv_at : (i : ℕ) → i ≤ length t → Inv c (take i t)
