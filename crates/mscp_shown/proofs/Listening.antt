@@ -121,7 +121,8 @@ module _ (c : Settings) (own : Connection) (t : Trace) (m : Moment) (xs : List S
     may = λ via front back s e q over.
         chain_silent via s.reference (back ++ sent_by own b ∷ [])
         (last_told via back s.reference s.told (untaken c via t)) (ends_at c via t m)
-        (every_weaker (λ (e : End). poll_of e ≡ None) (λ e. tells via (back ++ sent_by own b ∷ []) s.reference e ≡ false)
+        (every_weaker (λ (e : End). poll_of e ≡ None) (λ e. tells via
+        (back ++ sent_by own b ∷ []) s.reference e ≡ false)
         (λ e k. silent_of via (back ++ sent_by own b ∷ []) s.reference e k) (ends_at c via t m) (silent via));
     lasts = λ x low w later o q.
         let via = connection t x in
@@ -229,9 +230,11 @@ module _ (c : Settings) (own : Connection) (t : Trace) (m : Moment) (xs : List S
             let last = lasts_at (name t x) (IsLast c t (name t x) x) (untaken c (connection t x) t) front back s
             (subst (Lasts (name t x) (IsLast c t (name t x) x) (untaken c (connection t x) t)) e' (h.lasts x w.waits))
             named in
-            let here = subst (λ v. IsLast c t (name t x) x (last_told v back (reference t x) s.told (untaken c v t))) w.side
+            let here = subst (λ v. IsLast c t (name t x) x (last_told v back (reference t x) s.told
+            (untaken c v t))) w.side
             last in
-            let there = subst (λ r. IsLast c t (name t x) x (last_told own back r s.told (untaken c own t))) w.number here in (
+            let there = subst (λ r. IsLast c t (name t x) x (last_told own back r s.told
+            (untaken c own t))) w.number here in (
               omega (arith, its_figure x w.waits w.side number, at_least_1 x w.waits),
               falls x w.waits w.side number (last_told own back s.reference s.told (untaken c own t)) there,
               tt,

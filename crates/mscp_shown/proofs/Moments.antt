@@ -56,7 +56,11 @@ module _ (c : Settings) (t : Trace) (k : Known c t)
   more (Event.Send own b) (Entry.Sent other (Ok (Sent.Answered q a))) may patient r =
       subst (λ o. More c t (Event.Send own b, Entry.Sent o (Ok (Sent.Answered q a)))) (sym r.0)
       (answered_more c t own b k q a h facts
-      (subst (λ o. IsPatient (t ++ (Event.Send own b, Entry.Sent o (Ok (Sent.Answered q a))) ∷ [])) r.0 patient) may r.1)
+      (subst (λ o. IsPatient (t ++ (
+        Event.Send own b,
+        Entry.Sent o
+            (Ok (Sent.Answered q a)),
+      ) ∷ [])) r.0 patient) may r.1)
   more (Event.Step block) (Entry.Stepped Report.Idle) may patient r =
       stills c t (Event.Step block, Entry.Stepped Report.Idle) h k r refl (λ via p. (refl, refl)) (λ n. refl) refl
       (λ via. refl)
@@ -73,7 +77,8 @@ module _ (c : Settings) (t : Trace) (k : Known c t)
       } in
       served_more c t block k h s report refl r ended refl r.0 r.1 (fault_of block may) facts refl (λ via. refl)
   more (Event.Take own) (Entry.Taken other None) may patient r =
-      stills c t (Event.Take own, Entry.Taken other None) h k r refl (λ via p. (refl, refl)) (λ n. refl) refl (λ via. refl)
+      stills c t (Event.Take own, Entry.Taken other None) h k r refl (λ via p. (refl, refl)) (λ n. refl) refl
+      (λ via. refl)
   more (Event.Take own) (Entry.Taken other (Some b)) may patient r =
       subst (λ o. More c t (Event.Take own, Entry.Taken o (Some b))) (sym r.0) (take_one own b (refl, r.1))
   more Event.Look (Entry.Looked list) may patient r =
@@ -124,7 +129,8 @@ legal_part c t j h legal i low =
     rw (take-take i j t (omega (arith, l)), get_or-take j t i (Event.Take First, Entry.Taken First None) l)
     (legal i (omega (arith, l, h)))
 
-module _ (c : Settings) (t : Trace) (valid : IsValid c) (legal : IsLegal c t) (may : AllByRecursion (λ (m : Moment). IsPossible m.0) t)
+module _ (c : Settings) (t : Trace) (valid : IsValid c) (legal : IsLegal c t)
+    (may : AllByRecursion (λ (m : Moment). IsPossible m.0) t)
     (patient : IsPatient t) where
   abbrev May : Moment → Type 0
   May m = IsPossible m.0
@@ -194,5 +200,6 @@ module _ (c : Settings) (t : Trace) (valid : IsValid c) (legal : IsLegal c t) (m
 
 pub are_right : LegalTracesAreRight
 are_right c t credits valid legal may patient covers =
-    let all = inv_at c t valid legal (recursion_from_All (λ (m : Moment). IsPossible m.0) t may) patient (length t) (omega arith) in
+    let all = inv_at c t valid legal (recursion_from_All (λ (m : Moment). IsPossible m.0) t may) patient (length t)
+    (omega arith) in
     subst (λ s. AreRight credits (shown s)) (take_all (length t) t (omega arith)) (all.kept credits covers)
