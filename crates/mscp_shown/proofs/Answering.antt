@@ -64,7 +64,8 @@ module _ (via : Connection) (t : Trace) (q : ℕ) (p : ℕ → Bool) where
   none_named : (a : Option ℕ) (xs : List ℕ) → xs ≡ [] → a ≡ option_map (reference t) (slice_get xs 0)
       → numbered (left a) + numbered xs ≡ numbered (waiting_by via t)
   none_named a xs e first =
-      ap (λ ws. numbered ws + numbered xs) (none_left a (first ∙ ap (λ ys. option_map (reference t) (slice_get ys 0)) e))
+      ap (λ ws. numbered ws + numbered xs) (none_left a (first ∙ ap
+      (λ ys. option_map (reference t) (slice_get ys 0)) e))
       ∙ ap (λ ys. numbered (waiting_by via t) + numbered ys) e
       ∙ omega arith
 
@@ -123,7 +124,8 @@ module _ (c : Settings) (via : Connection) (t : Trace) (m : Moment) (s : Service
   unfolding outcome
   end_number e h = search (arith, st.served.ended, h)
 
-  pub goes : (e : End) → s.ended ≡ Some e → ends_at c via t m ≡ (if same_connection s.connection via then e ∷ [] else [])
+  pub goes : (e : End) → s.ended ≡ Some e → ends_at c via t m ≡
+      (if same_connection s.connection via then e ∷ [] else [])
       → kept c via t m p + count_by (λ (e : End). p e.reference) (ends_at c via t m)
       ≡ count_by (λ x. p (reference t x)) (waiting_by via t) + 0
   goes e h at =

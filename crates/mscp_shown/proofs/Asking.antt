@@ -61,7 +61,8 @@ module _ (c : Settings) (own : Connection) (t : Trace) (b : List ℕ) where
       ∙ ap (figure_asked c own t) h
 
   pub poll_about : is_queued c (command_of b) ≡ false → poll_of its_end ≡ asked_by (command_of b).order
-  poll_about q = own_polls c (is_online t (command_of b).unit) (figure_asked c own t (command_of b).order) (command_of b)
+  poll_about q = own_polls c (is_online t (command_of b).unit) (figure_asked c own t (command_of b).order)
+      (command_of b)
       (sent_by own b) q (sent_says own b)
 
   pub silent_answer : (xs : List Sent) → IsNew c own t xs (sent_by own b) → Owners c t xs → Facts c t

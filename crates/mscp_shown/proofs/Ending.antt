@@ -100,7 +100,8 @@ module _ (c : Settings) (t : Trace) (own : Connection) (b : ArrayVec ℕ) (known
       → Reads e (answer_by own (end_bytes e)) → (n : ℕ) → poll_of e ≡ Some n → a.figure ≡ Some (figure_told e)
   figure_read e a is r n q = ap (λ (z : Answered). z.figure) is ∙ of_body e.status e.body r.body q
     where
-      of_body : (status : ℕ) (body : EndBody) → BodyReads body (answer_by own (end_bytes e)) → poll_by status body ≡ Some n
+      of_body : (status : ℕ) (body : EndBody) → BodyReads body (answer_by own (end_bytes e))
+          → poll_by status body ≡ Some n
           → (answer_by own (end_bytes e)).figure ≡ Some (figure_by body)
       of_body status (bodies.Status other figure) k p = k.1
       of_body status bodies.Bare k p = cc
@@ -176,7 +177,8 @@ module _ (c : Settings) (t : Trace) (own : Connection) (b : ArrayVec ℕ) (known
       -- the ABORT itself
       abort_at : (y : Out) (e k : End) → y.connection ≡ own → y.reference ≡ e.reference
           → 1 ≤ tally own (λ n. nat_eq n k.reference) (outstanding (shown t))
-          → EndsAbort own (outstanding (shown t)) e.reference k → list_any (wire.aborts y) (outstanding (shown t)) ≡ true
+          → EndsAbort own (outstanding (shown t)) e.reference k → list_any (wire.aborts y)
+          (outstanding (shown t)) ≡ true
       abort_at y e k side number some is =
           let xs = outstanding (shown t) in
           let place = some_place (is_named own k.reference) xs some in
@@ -275,7 +277,8 @@ module _ (c : Settings) (t : Trace) (own : Connection) (b : ArrayVec ℕ) (known
           order = waits_for_none e rest took.is a i there.low there.connection (there.reference ∙ number) status;
           success = here.success;
           about = here.about;
-          figure = figure_right c own t taking xs a i e rest took.is at refl number asks figure h.orders.single h.tallied
+          figure = figure_right c own t taking xs a i e rest took.is at refl number asks figure h.orders.single
+              h.tallied
               h.heard left;
           count = here.count;
         },

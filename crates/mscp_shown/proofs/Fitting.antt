@@ -102,7 +102,8 @@ online_fit : (s : Shape) (success : Bool)
 online_fit s true = tt
 online_fit s false = tt
 
-outcome_fit : (s : Shape) (status : ℕ) (o : Order) (good : ℕ) → IsSmallOrder o → IsBodyFit (outcome_body s status o good)
+outcome_fit : (s : Shape) (status : ℕ) (o : Order) (good : ℕ) → IsSmallOrder o → IsBodyFit
+    (outcome_body s status o good)
 outcome_fit s status orders.Online good h = online_fit s (is_success status)
 outcome_fit s status orders.SetUnit good h = online_fit s (is_success status)
 outcome_fit s status (orders.Move kind count block) good h = moved_fit (orders.Move kind count block) good h

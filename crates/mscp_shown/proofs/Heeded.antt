@@ -222,8 +222,10 @@ module _ (c : Settings) (own : Connection) (t : Trace) (m : Moment) (xs : List S
           let tells_it : tells own later s.reference e ≡ true =
           ap (λ o. is_it o s.reference && heard own later e) q
           ∙ (ap (λ b. b && heard own later e) (eq-eqb n s.reference (sym same)) ∙ hears_it) in
-          let now = goes_told (nat_eq e.reference s.reference) (tells own later s.reference e) _ _ other tells_it chain in
-          ap (λ b. wire.is_immediate s.opcode || (b && is_below s.told (figure_told e))) (lt-ltb 0 (figure_told e) now.0)
+          let now = goes_told (nat_eq e.reference s.reference)
+          (tells own later s.reference e) _ _ other tells_it chain in
+          ap (λ b. wire.is_immediate s.opcode || (b && is_below s.told (figure_told e)))
+          (lt-ltb 0 (figure_told e) now.0)
           ∙ (ap (λ b. wire.is_immediate s.opcode || b) now.1 ∙ or_true (wire.is_immediate s.opcode))
 
   pub figure_right : has_figure xs (take i xs) a (polled_by (command_at xs i) a) ≡ true

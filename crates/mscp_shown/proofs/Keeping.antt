@@ -130,7 +130,8 @@ module _ (s : Sent) (a : Answer) where
       let code = bit_or op 0x80 in
       let o : asked op s ≡ None = ap (λ b. if b then s.parameter else None) (none kind) in
       let w : wanted op s ≡ Some count = ap (λ b. if b then s.parameter else None) (some kind) ∙ p in
-      known op e unit (ap (λ n. not (nat_eq n 0x80)) c ∙ top kind) (ap (λ n. nat_eq n (op + 0x80)) c ∙ right kind) status
+      known op e unit (ap (λ n. not (nat_eq n 0x80)) c ∙ top kind)
+      (ap (λ n. nat_eq n (op + 0x80)) c ∙ right kind) status
       (ap (succeeds a) o) (ap (is_about a) o)
       (ap (has_count a) w ∙ ap (λ f. moves a f count) q ∙ moved_right moved count (status_code a) few all)
     where

@@ -64,7 +64,8 @@ aborted_of : Sent → Option ℕ
 aborted_of (Sent.Queued r) = None
 aborted_of (Sent.Answered r a) = a
 
-pub taken_as_answer : (c : Settings) (via : Connection) (t : Trace) (command : Command) (q : Bool) (r : ℕ) (a : Option ℕ)
+pub taken_as_answer : (c : Settings) (via : Connection) (t : Trace) (command : Command) (q : Bool) (r : ℕ)
+    (a : Option ℕ)
     → Sent.Answered r a ≡ taken_when c via t command q → a ≡ aborted_reference c via t command
 unfolding is_answer aborted_of
 taken_as_answer c via t command q r a h = grind (arith, true≢false, is_answer, aborted_of)
@@ -81,7 +82,8 @@ kept_more credits h m all last = each_push moments.Reset (λ h m. IsRightAfter c
 
 module _ (c : Settings) (t : Trace) (m : Moment) (h : Inv c t) where
   -- a moment that shows nothing
-  pub shows_none : shown_by m.0 m.1 ≡ [] → ((via : Connection) (p : ℕ → Bool) → owed c via (t ++ m ∷ []) p ≡ owed c via t p)
+  pub shows_none : shown_by m.0 m.1 ≡ [] → ((via : Connection) (p : ℕ → Bool) → owed c via
+      (t ++ m ∷ []) p ≡ owed c via t p)
       → Owners c (t ++ m ∷ []) (outstanding (shown t)) → Orders c (t ++ m ∷ []) (outstanding (shown t))
       → Heard c (t ++ m ∷ []) (outstanding (shown t))
       → ((via : Connection) → AllByRecursion IsFit (ends_at c via t m)) → More c t m

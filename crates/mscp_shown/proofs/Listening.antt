@@ -121,7 +121,8 @@ module _ (c : Settings) (own : Connection) (t : Trace) (m : Moment) (xs : List S
     may = λ via front back s e q over.
         chain_silent via s.reference (back ++ sent_by own b ∷ [])
         (last_told via back s.reference s.told (untaken c via t)) (ends_at c via t m)
-        (every_weaker (λ (e : End). poll_of e ≡ None) (λ e. tells via (back ++ sent_by own b ∷ []) s.reference e ≡ false)
+        (every_weaker (λ (e : End). poll_of e ≡ None) (λ e. tells via
+        (back ++ sent_by own b ∷ []) s.reference e ≡ false)
         (λ e k. silent_of via (back ++ sent_by own b ∷ []) s.reference e k) (ends_at c via t m) (silent via));
     lasts = λ x low w later o q.
         let via = connection t x in
@@ -165,13 +166,17 @@ module _ (c : Settings) (own : Connection) (t : Trace) (m : Moment) (xs : List S
     falls x w side number None h' = refl
     falls x w side number (Some f) h' =
         let i = h'.0 in
-        let before : Polls own other (moment (t ++ m ∷ []) i) =
-        subst (Polls own other) (sym (moment_before t m i h'.2))
-        (subst (λ v. Polls v other (moment t i)) side
-        (subst (λ r. Polls (connection t x) r (moment t i)) number h'.3)) in
-        let now : Polls own other (moment (t ++ m ∷ []) (length t)) =
-        subst (Polls own other) (sym (moment_last t m)) polls in
-        let step = patient i (length t) own other h'.2 (omega (arith, length_push t m)) before now in
+        let later = t ++ m ∷ [] in
+        let before : Polls (connection t x) (reference t x) (moment later i) =
+        subst (Polls (connection t x) (reference t x)) (sym (moment_before t m i h'.2)) h'.3 in
+        let now : Polls (connection t x) (reference t x) (moment later (length t)) =
+        subst (Polls (connection t x) (reference t x)) (sym (moment_last t m))
+        (subst (λ v. Polls v (reference t x) m) (sym side) (subst (λ r. Polls own r m) (sym number) polls)) in
+        let step = subst (λ p. is_waiting p x ≡ true → Polls (connection p x) (reference p x) (moment later i)
+        → Polls (connection p x) (reference p x) (moment later (length t))
+        → (k : ℕ) × (i < k) × (k < length t) × (is_step (moment later k).0 ≡ true))
+        (take_at t (m ∷ []) (length t) refl)
+        (patient x i (length t) h'.1 h'.2 (omega (arith, length_push t m))) w before now in
         let there : is_step (moment t step.0).0 ≡ true =
         sym (ap (λ (n : Moment). is_step n.0) (moment_before t m step.0 step.2)) ∙ step.3 in
         let fall = falls_since c t x w promise i step.0 h'.1 step.1 step.2 there in
@@ -225,9 +230,11 @@ module _ (c : Settings) (own : Connection) (t : Trace) (m : Moment) (xs : List S
             let last = lasts_at (name t x) (IsLast c t (name t x) x) (untaken c (connection t x) t) front back s
             (subst (Lasts (name t x) (IsLast c t (name t x) x) (untaken c (connection t x) t)) e' (h.lasts x w.waits))
             named in
-            let here = subst (λ v. IsLast c t (name t x) x (last_told v back (reference t x) s.told (untaken c v t))) w.side
+            let here = subst (λ v. IsLast c t (name t x) x (last_told v back (reference t x) s.told
+            (untaken c v t))) w.side
             last in
-            let there = subst (λ r. IsLast c t (name t x) x (last_told own back r s.told (untaken c own t))) w.number here in (
+            let there = subst (λ r. IsLast c t (name t x) x (last_told own back r s.told
+            (untaken c own t))) w.number here in (
               omega (arith, its_figure x w.waits w.side number, at_least_1 x w.waits),
               falls x w.waits w.side number (last_told own back s.reference s.told (untaken c own t)) there,
               tt,

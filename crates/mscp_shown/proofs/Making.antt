@@ -29,7 +29,8 @@ IsEven t x = good t x ≡ done t x
 
 good_last : (t : Trace) (m : Moment) → good (t ++ m ∷ []) (length t) ≡ 0
 unfolding good
-good_last t m = ap (count_by (λ (n : Moment). serves_in (name (t ++ m ∷ []) (length t)) n.1 && is_good n.0)) (drop_last t m)
+good_last t m = ap (count_by (λ (n : Moment). serves_in (name (t ++ m ∷ []) (length t)) n.1 && is_good n.0))
+    (drop_last t m)
 
 and_true : (b : Bool) → (b && true) ≡ b
 and_true b = grind arith
@@ -44,7 +45,8 @@ well c t n (Event.Step (Bad status)) (Entry.Stepped (Report.Served other referen
   where
     bad_ends : (y : ℕ) → end_of c t (Bad status) y ≡ Some (outcome c t (Bad status) y)
     bad_ends y = search (arith, and-false)
-well c t n (Event.Step (Bad status)) (Entry.Stepped (Report.Served other reference unit lbn started seek (Some e))) r h =
+well c t n (Event.Step (Bad status)) (Entry.Stepped (Report.Served other reference unit lbn started seek
+    (Some e))) r h =
     let s = same_name (name_on other reference) n in
     let P : Bool → Type 0 = λ b. s ≡ b → (s && false) ≡ s in
     elim s as P [
@@ -160,7 +162,8 @@ module _ (c : Settings) (own : Connection) (t : Trace) (xs : List Sent) (b : Lis
       let fit = own_fit c online figure k (small_command b bytes) (figure_small c own t k.order facts.figures) in
       let owed : IsOwed own (xs ++ sent_by own b ∷ []) e =
       subst (λ n. IsOnly own n (xs ++ sent_by own b ∷ []) (Fits own e)) (sym made.reference)
-      (only_new c own t xs b new owners (Fits own e) (fits own b e made fit (own_polls c online figure k (sent_by own b) q (sent_says own b)))) in
+      (only_new c own t xs b new owners (Fits own e) (fits own b e made fit
+      (own_polls c online figure k (sent_by own b) q (sent_says own b)))) in
       every_append Made (map (λ x. aborted_end (command t x) (good t x)) (aborted c own t k)) (e ∷ [])
       (every_to_map (λ x. aborted_end (command t x) (good t x)) Made (aborted c own t k)
       (every_weaker (λ x. Q x × (connection t x ≡ own)) (λ x. Made (aborted_end (command t x) (good t x))) one_aborted
@@ -223,7 +226,8 @@ module _ (c : Settings) (t : Trace) (xs : List Sent) (owners : Owners c t xs) (f
   last_of false e h = (refl, some_same e (outcome c t k y) h)
 
   pub step_made : (e : End) → s.ended ≡ Some e
-      → (((IsOwed s.connection xs e × IsFit e) × (e.status % 32 ≢ 2)) × (e.reference ≡ reference t y)) × (poll_of e ≡ None)
+      → (((IsOwed s.connection xs e × IsFit e) × (e.status % 32 ≢ 2)) × (e.reference ≡ reference t y)) ×
+      (poll_of e ≡ None)
   unfolding outcome
   step_made e h =
       let l = last_of (goes_on (is_online t (unit t y)) (order t y) k (left t y)) e (sym h ∙ v.ended) in

@@ -1,5 +1,5 @@
 -- Each moment of a legal trace keeps what its parts keep, so that the whole trace does.
-use Rattle.mscp_controller.proofs.Basics.{◌≡◌, ℕ, zero, suc, ◌+◌, ◌<◌, ◌≤◌, true, [], ◌∷◌, ◌++◌, length, take, drop, refl, ap, sym, ◌∙◌, subst, arith, count_by, Option, Some, None, Ok, Err, AllByRecursion, recursion_from_All, Connection, End, IsOfKind, Settings, IsValid, Trace, Moment, moment, Service, takes, collect, ends, ends_at, untaken, waiting, every_append, every_parts, Event, Report, First, IsRight, IsLegal, ends_more, ArrayVec, Block, Command, Name, name, same_name, figure, figure_of, bound, find, is_queued, each_queued, waits_below, is_step}
+use Rattle.mscp_controller.proofs.Basics.{◌≡◌, ℕ, zero, suc, ◌+◌, ◌<◌, ◌≤◌, true, [], ◌∷◌, ◌++◌, length, take, drop, refl, ap, sym, ◌∙◌, subst, arith, count_by, Option, Some, None, Ok, Err, AllByRecursion, recursion_from_All, Connection, End, IsOfKind, Settings, IsValid, Trace, Moment, moment, Service, takes, collect, ends, ends_at, untaken, waiting, every_append, every_parts, Event, Report, First, IsRight, IsLegal, ends_more, ArrayVec, Block, Command, Name, name, same_name, figure, figure_of, bound, find, is_queued, each_queued, waits_below, is_step, is_waiting, connection, reference}
 use Rattle.std.specs.Prelude.{◌^◌}
 use Rattle.mscp_controller.specs.Figures.{figure_found}
 use Rattle.mscp_controller.proofs.Promise.Progress.{progress}
@@ -56,7 +56,11 @@ module _ (c : Settings) (t : Trace) (k : Known c t)
   more (Event.Send own b) (Entry.Sent other (Ok (Sent.Answered q a))) may patient r =
       subst (λ o. More c t (Event.Send own b, Entry.Sent o (Ok (Sent.Answered q a)))) (sym r.0)
       (answered_more c t own b k q a h facts
-      (subst (λ o. IsPatient (t ++ (Event.Send own b, Entry.Sent o (Ok (Sent.Answered q a))) ∷ [])) r.0 patient) may r.1)
+      (subst (λ o. IsPatient (t ++ (
+        Event.Send own b,
+        Entry.Sent o
+            (Ok (Sent.Answered q a)),
+      ) ∷ [])) r.0 patient) may r.1)
   more (Event.Step block) (Entry.Stepped Report.Idle) may patient r =
       stills c t (Event.Step block, Entry.Stepped Report.Idle) h k r refl (λ via p. (refl, refl)) (λ n. refl) refl
       (λ via. refl)
@@ -73,7 +77,8 @@ module _ (c : Settings) (t : Trace) (k : Known c t)
       } in
       served_more c t block k h s report refl r ended refl r.0 r.1 (fault_of block may) facts refl (λ via. refl)
   more (Event.Take own) (Entry.Taken other None) may patient r =
-      stills c t (Event.Take own, Entry.Taken other None) h k r refl (λ via p. (refl, refl)) (λ n. refl) refl (λ via. refl)
+      stills c t (Event.Take own, Entry.Taken other None) h k r refl (λ via p. (refl, refl)) (λ n. refl) refl
+      (λ via. refl)
   more (Event.Take own) (Entry.Taken other (Some b)) may patient r =
       subst (λ o. More c t (Event.Take own, Entry.Taken o (Some b))) (sym r.0) (take_one own b (refl, r.1))
   more Event.Look (Entry.Looked list) may patient r =
@@ -124,7 +129,8 @@ legal_part c t j h legal i low =
     rw (take-take i j t (omega (arith, l)), get_or-take j t i (Event.Take First, Entry.Taken First None) l)
     (legal i (omega (arith, l, h)))
 
-module _ (c : Settings) (t : Trace) (valid : IsValid c) (legal : IsLegal c t) (may : AllByRecursion (λ (m : Moment). IsPossible m.0) t)
+module _ (c : Settings) (t : Trace) (valid : IsValid c) (legal : IsLegal c t)
+    (may : AllByRecursion (λ (m : Moment). IsPossible m.0) t)
     (patient : IsPatient t) where
   abbrev May : Moment → Type 0
   May m = IsPossible m.0
@@ -150,13 +156,23 @@ module _ (c : Settings) (t : Trace) (valid : IsValid c) (legal : IsLegal c t) (m
 
   patient_part : (j : ℕ) → j ≤ length t → IsPatient (take j t)
   unfolding moment
-  patient_part j h i k via reference l m p q =
+  patient_part j h x i k lx l m w p q =
       let size = length-take-le j t h in
       let d : Moment = (Event.Take First, Entry.Taken First None) in
       let low : k < j = omega (arith, m, size) in
-      let same : (x : ℕ) → x < j → moment (take j t) x ≡ moment t x = λ x lx. get_or-take j t x d lx in
-      let step = patient i k via reference l (omega (arith, low, h))
-      (subst (Polls via reference) (same i (omega (arith, l, low))) p) (subst (Polls via reference) (same k low) q) in
+      let same : (y : ℕ) → y < j → moment (take j t) y ≡ moment t y = λ y ly. get_or-take j t y d ly in
+      let front : take k (take j t) ≡ take k t = take-take k j t (omega (arith, low)) in
+      let now = subst (λ f. is_waiting f x ≡ true → Polls (connection f x) (reference f x) (moment (take j t) i)
+      → Polls (connection f x) (reference f x) (moment (take j t) k)
+      → Polls (connection (take k t) x) (reference (take k t) x) (moment t i)
+      × (Polls (connection (take k t) x) (reference (take k t) x) (moment t k) × (is_waiting (take k t) x ≡ true)))
+      (sym front)
+      (λ w p q. (
+        subst (Polls (connection (take k t) x) (reference (take k t) x)) (same i (omega (arith, l, low))) p,
+        (subst (Polls (connection (take k t) x) (reference (take k t) x)) (same k low) q, w),
+      ))
+      w p q in
+      let step = patient x i k lx l (omega (arith, low, h)) now.1.1 now.0 now.1.0 in
       (step.0, step.1, step.2, ap (λ (n : Moment). is_step n.0) (same step.0 (omega (arith, step.2, low))) ∙ step.3)
 
   inv_at : (i : ℕ) → i ≤ length t → Inv c (take i t)
@@ -184,5 +200,6 @@ module _ (c : Settings) (t : Trace) (valid : IsValid c) (legal : IsLegal c t) (m
 
 pub are_right : LegalTracesAreRight
 are_right c t credits valid legal may patient covers =
-    let all = inv_at c t valid legal (recursion_from_All (λ (m : Moment). IsPossible m.0) t may) patient (length t) (omega arith) in
+    let all = inv_at c t valid legal (recursion_from_All (λ (m : Moment). IsPossible m.0) t may) patient (length t)
+    (omega arith) in
     subst (λ s. AreRight credits (shown s)) (take_all (length t) t (omega arith)) (all.kept credits covers)

@@ -50,7 +50,8 @@ module _ (t : Trace) (m : Moment) (xs : List Sent) where
   waits_more h q =
       let keep : ℕ → Bool = λ x. not (ends_in (name t x) m.1) in
       let P = IsOwn (t ++ m ∷ []) xs in
-      let here : (b : Bool) → queues m.1 ≡ b → AllByRecursion P (cond b (length t ∷ []) []) = λ b. elim b as (λ b. queues
+      let here : (b : Bool) → queues m.1 ≡ b → AllByRecursion P (cond b (length t ∷ []) []) = λ b. elim b as
+      (λ b. queues
       m.1 ≡ b → AllByRecursion P (cond b (length t ∷ []) [])) [
         | true ↦ λ e. (q e, tt)
         | false ↦ λ e. tt
@@ -119,7 +120,8 @@ module _ (c : Settings) (own : Connection) (t : Trace) (xs : List Sent) (b : Lis
 
   pub still_owed : (via : Connection) → AllByRecursion (IsOwed via longer) (untaken c via t)
   still_owed via =
-      every_weaker (λ (e : End). IsOwed via xs e × (is_named via e.reference (sent_by own b) ≡ false)) (IsOwed via longer)
+      every_weaker (λ (e : End). IsOwed via xs e × (is_named via e.reference (sent_by own b) ≡ false))
+      (IsOwed via longer)
       (λ e k. owed_on via e k.0 k.1) (untaken c via t)
       (every_both (IsOwed via xs) (λ (e : End). is_named via e.reference (sent_by own b) ≡ false) (untaken c via t)
       (h.owed via) (new_ends via))

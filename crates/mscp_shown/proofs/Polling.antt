@@ -176,6 +176,7 @@ served_polls c online k good block q =
     let sound = queued_open c k q in
     let none = queued_asks k.order sound.waits in (
       outcome_polls (unit_shape c k.unit) (outcome_status online k.order block)
-          (good + cond (touches online k.order && is_good_block block) 1 0) k.order sound.waits (valid_order c k.unit k.order sound.sound) ∙ sym none,
+          (good + cond (touches online k.order && is_good_block block) 1 0) k.order sound.waits
+          (valid_order c k.unit k.order sound.sound) ∙ sym none,
       none,
     )

@@ -151,7 +151,8 @@ module _ (c : Settings) (t : Trace) (own : Connection) (b : ArrayVec ℕ) (k : K
   each_answer via P false e none h = none
 
   -- what it has to tell of a poll, if it is one
-  answer_tells : (q : ℕ) (a : Option ℕ) (h : Inv c t) → Facts c t → IsPatient (t ++ (Event.Send own b, Answer own q a) ∷ [])
+  answer_tells : (q : ℕ) (a : Option ℕ) (h : Inv c t) → Facts c t → IsPatient
+      (t ++ (Event.Send own b, Answer own q a) ∷ [])
       → (n : IsNew c own t (outstanding (shown t)) (sent_by own b.items)) → is_queued c (command_of b.items) ≡ false
       → Tells c own t (Event.Send own b, Answer own q a) (outstanding (shown t)) b.items (λ via. k.room.taken via)
       (λ via. refl) n h.owners h.heard
@@ -164,7 +165,8 @@ module _ (c : Settings) (t : Trace) (own : Connection) (b : ArrayVec ℕ) (k : K
       → Tells c own t m xs b.items (λ via. k.room.taken via) (λ via. refl) n h.owners h.heard in
       elim (asked_by (command_of b.items).order) as P [
         | None ↦ λ p. tells_none c own t m xs b.items (λ via. k.room.taken via) (λ via. refl) n h.owners h.heard
-            (λ via. each_answer via (λ v. AllByRecursion (λ (e : End). poll_of e ≡ None)) (same_connection own via) refl tt
+            (λ via. each_answer via (λ v. AllByRecursion (λ (e : End). poll_of e ≡ None))
+            (same_connection own via) refl tt
             (silent_answer c own t b.items xs n h.owners facts (asks ∙ p)))
         | Some other ↦ λ p.
             let o = asked_order (command_of b.items).order other p in
@@ -177,7 +179,8 @@ module _ (c : Settings) (t : Trace) (own : Connection) (b : ArrayVec ℕ) (k : K
       ] refl
 
   pub answered_more : (q : ℕ) (a : Option ℕ) → Inv c t → Facts c t
-      → IsPatient (t ++ (Event.Send own b, Answer own q a) ∷ []) → AreBytes b.items → Ok (Sent.Answered q a) ≡ arrival c own t b.items
+      → IsPatient (t ++ (Event.Send own b, Answer own q a) ∷ []) → AreBytes b.items → Ok
+      (Sent.Answered q a) ≡ arrival c own t b.items
       → More c t (Event.Send own b, Answer own q a)
   answered_more q a h facts patient bytes r =
       let m : Moment = (Event.Send own b, Answer own q a) in

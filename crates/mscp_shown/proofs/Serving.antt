@@ -103,7 +103,8 @@ module _ (c : Settings) (t : Trace) (block : Block) (k : Known c t) (h : Inv c t
       (λ via. side via (λ v. AllByRecursion IsFit) tt
       (every_weaker Made IsFit (λ e k. k.0.0.0.1) (option_to_list ended) each))
     where
-      orders_of : (ended : Option End) → AllByRecursion (λ (e : End). e.reference ≡ reference t y) (option_to_list ended)
+      orders_of : (ended : Option End) → AllByRecursion (λ (e : End). e.reference ≡ reference t y)
+          (option_to_list ended)
           → ((e : End) → e.reference ≡ reference t y
           → Clear (connection t y) (outstanding (shown t)) (untaken c (connection t y) t) e)
           → Ordered (connection t y) (outstanding (shown t)) (untaken c (connection t y) t) (option_to_list ended)

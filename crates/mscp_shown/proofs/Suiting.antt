@@ -225,7 +225,8 @@ outcome_ends c online k good done block q fault same last =
     }
 
 -- a refused command has Invalid Command or Unit-Offline
-pub refused_apart : (c : Settings) (unit status : ℕ) (o : Order) (s : Sent) → Says o s → order_fault c unit o ≡ Some status
+pub refused_apart : (c : Settings) (unit status : ℕ) (o : Order) (s : Sent) → Says o s
+    → order_fault c unit o ≡ Some status
     → (status % 32 ≡ 1) ⊎ (status % 32 ≡ 3)
 refused_apart c unit status (orders.Invalid byte fault) s says h =
     let same : fault ≡ status = some_same fault status h in

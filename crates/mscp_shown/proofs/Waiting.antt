@@ -175,7 +175,8 @@ module _ (c : Settings) (t : Trace) (xs : List Sent) (tallied : (via : Connectio
           let named_x : is_named (connection t x) (reference t x) earlier ≡ true =
           ap (λ v. is_named v (reference t x) earlier) z.side ∙ (ap (λ r. is_named via r earlier) z.number ∙ named) in
           let named_y : is_named via (reference t y) s ≡ true = ap (λ r. is_named via r s) (sym number) ∙ q in
-          let before = index_pairs (IsPlaced t x y) xs (sent_by First []) (placed x y z.waits w) i j l m named_x named_y in
+          let before = index_pairs (IsPlaced t x y) xs (sent_by First [])
+          (placed x y z.waits w) i j l m named_x named_y in
           let is_x = named_own x i z.waits low named_x in
           let is_y = named_own y j w m named_y in
           let back : keeps_back (message t y) (message t x) ≡ true =
@@ -221,7 +222,8 @@ apart_of status h = ⊎_elim (λ e. ap is_apart e) (λ e. ap is_apart e) h
 
 own_with : (c : Settings) (online : Bool) (figure : ℕ) (k : Command) (own : Connection) (xs : List Sent) (b : List ℕ)
     (before : List End) (f : Option ℕ) → fault_of c k ≡ f → (f ≡ None → is_immediate k.order ≡ true)
-    → AllByRecursion (λ s. is_named own (sent_by own b).reference s ≡ false) xs → k.reference ≡ (sent_by own b).reference
+    → AllByRecursion (λ s. is_named own (sent_by own b).reference s ≡ false) xs → k.reference ≡
+    (sent_by own b).reference
     → Says k.order (sent_by own b) → let e = own_end_with c online figure k f in
     (is_apart (e.status % 32) ≡ true) ⊎ Clear own (xs ++ sent_by own b ∷ []) before e
 own_with c online figure k own xs b before None f h new number says =
@@ -232,7 +234,8 @@ own_with c online figure k own xs b before (Some status) f h new number says =
 -- the end of a command that isn't queued may come at once
 pub own_order : (c : Settings) (online : Bool) (figure : ℕ) (k : Command) (own : Connection) (xs : List Sent)
     (b : List ℕ) (before : List End) → is_queued c k ≡ false
-    → AllByRecursion (λ s. is_named own (sent_by own b).reference s ≡ false) xs → k.reference ≡ (sent_by own b).reference
+    → AllByRecursion (λ s. is_named own (sent_by own b).reference s ≡ false) xs → k.reference ≡
+    (sent_by own b).reference
     → Says k.order (sent_by own b)
     → (is_apart ((own_end c online figure k).status % 32) ≡ true)
     ⊎ Clear own (xs ++ sent_by own b ∷ []) before (own_end c online figure k)

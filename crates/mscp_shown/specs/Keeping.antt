@@ -1,12 +1,12 @@
 -- What is promised of all that a legal trace shows on the wire.
-use Rattle.std.specs.Prelude.{◌≡◌, ℕ, ◌%◌, ◌^◌, ◌<◌, ◌≤◌, true, All, List, length, slice_index, Option, IfSome}
+use Rattle.std.specs.Prelude.{◌≡◌, ℕ, ◌%◌, ◌^◌, ◌<◌, ◌≤◌, true, All, List, length, take, slice_index, Option, IfSome}
 use Rattle.mscp_events.specs.Settings.{IsValid, Settings, credits_of}
 use Rattle.mscp_events.specs.declared.connection.Connection.{Connection}
 use Rattle.mscp_events.specs.declared.block.Block.TheVariants.{Bad}
 use Rattle.mscp_events.specs.declared.event.Event.{Event}
 use Rattle.mscp_events.specs.declared.event.Event.TheVariants as events
 use Rattle.mscp_packet.specs.declared.command.Order.TheVariants as orders
-use Rattle.mscp_controller.specs.Commands.{sent_command}
+use Rattle.mscp_controller.specs.Commands.{connection, is_waiting, reference, sent_command}
 use Rattle.mscp_controller.specs.History.{Moment, Trace, answers, is_step, moment}
 use Rattle.mscp_controller.specs.Legal.{IsLegal}
 use Rattle.mscp_wire.specs.Wire.{AreRight}
@@ -32,11 +32,12 @@ pub record Polls (via : Connection) (reference : ℕ) (m : Moment) : Type 0 wher
   pub answered : answers via m.1 ≡ true
   pub about : (sent_command m).order ≡ orders.Status reference
 
--- between two polls about one command a step comes: a host polls once in a controller timeout (manual, "Host Command
--- Timeouts")
+-- between two polls about a command, which came before both and waits until the second, a step comes: a host polls once
+-- in a controller timeout (manual, "Host Command Timeouts")
 abbrev pub IsPatient : Trace → Type 0
-IsPatient t = (i j : ℕ) (via : Connection) (reference : ℕ) → i < j → j < length t
-    → Polls via reference (moment t i) → Polls via reference (moment t j)
+IsPatient t = (x i j : ℕ) → x < i → i < j → j < length t → is_waiting (take j t) x ≡ true
+    → Polls (connection (take j t) x) (reference (take j t) x) (moment t i)
+    → Polls (connection (take j t) x) (reference (take j t) x) (moment t j)
     → (k : ℕ) × (i < k) × (k < j) × (is_step (moment t k).0 ≡ true)
 
 -- the law: all that a legal trace of events that may come shows on the wire is right, where its hosts are patient

@@ -1,4 +1,5 @@
--- What a trace shows on the wire between the hosts and the controller. A message is there where it is taken: one that is
+-- What a trace shows on the wire between the hosts and the controller. A message is there where it is taken: one
+-- that is
 -- refused for want of a credit, for its size or for its number is none that a host may send. An end is there where its
 -- host takes it.
 use Rattle.std.specs.Prelude.{[], ◌∷◌, flat_map, Some, Ok}
