@@ -72,10 +72,11 @@ static inline bool is_there(uint32_t address, uint32_t count)
 /* Moves a block between memory and a disk, which has one of every number, or compares the two. */
 static inline uint32_t move(const struct mscp_action *action)
 {
-    uint8_t *there = machine.disks[action->unit % UNITS][action->block % BLOCKS], *at = machine.memory + action->address;
+    uint8_t *there = machine.disks[action->unit % UNITS][action->block % BLOCKS];
     bool touches_memory = action->opcode != MSCP_ACCESS && action->opcode != MSCP_ERASE;
     if (touches_memory && !is_there(action->address, action->count))
         return MSCP_OUTCOME_MISSING;
+    uint8_t *at = touches_memory ? machine.memory + action->address : NULL;
     machine.transfers++;
     switch (action->opcode) {
     case MSCP_READ: memcpy(at, there, action->count); break;
