@@ -1,10 +1,19 @@
 /* log.h: what a controller is told and what it answers, as a log for ./mscpjudge (docs/FORMATS.md, Logs). Call each of
  * these beside the call of the controller that it names, with what that was told and what it answered. Any controller
- * that counts and answers as mscp.h says can be logged so, also one that isn't ours. */
+ * that counts and answers as mscp.h says can be logged so, also one that isn't ours.
+ *
+ * With -DLOG_WIRE the same calls write what goes over the wire, for ./mscpjudge wire (docs/JUDGE.md). */
 #ifndef LOG_H
 #define LOG_H
 #include "mscp.h"
+#include <stdbool.h>
 #include <stdio.h>
+
+#ifdef LOG_WIRE
+enum { LOG_IS_OF_WIRE = 1 };
+#else
+enum { LOG_IS_OF_WIRE = 0 };
+#endif
 
 /* What every line of the second connection begins with. */
 static inline const char *log_second(uint32_t connection)
@@ -19,10 +28,14 @@ static inline void log_bytes(FILE *log, const uint8_t *bytes, size_t length)
     fputc('\n', log);
 }
 
-/* The head of the log, beside mscp_init. Unit N has the identifier and the serial number N + 1 and the media type 0, and the
- * controller the identifier 1: a log can say no others. */
+/* The head of the log, beside mscp_init: on the wire that is a reset. Unit N has the identifier and the serial number
+ * N + 1 and the media type 0, and the controller the identifier 1: a log can say no others. */
 static inline void log_init(FILE *log, const struct mscp_limits *limits, const struct mscp_unit *units, size_t count)
 {
+    if (LOG_IS_OF_WIRE) {
+        fprintf(log, "reset\n");
+        return;
+    }
     fprintf(log, "credits %u %u\nbudget %llu\nlongest %u\ntimeout %u\n", (unsigned)limits->credits,
             (unsigned)limits->second, (unsigned long long)limits->budget, (unsigned)limits->longest,
             (unsigned)limits->timeout);
@@ -37,8 +50,13 @@ static inline void log_send(FILE *log, uint32_t connection, const uint8_t *messa
                             const struct mscp_sent *sent)
 {
     const char *second = log_second(connection);
-    fprintf(log, "%spacket ", second);
+    bool is_taken = status == MSCP_QUEUED || status == MSCP_ANSWERED;
+    if (LOG_IS_OF_WIRE && !is_taken)
+        return;
+    fprintf(log, "%s%s ", second, LOG_IS_OF_WIRE ? "send" : "packet");
     log_bytes(log, message, length);
+    if (LOG_IS_OF_WIRE)
+        return;
     if (status == MSCP_QUEUED)
         fprintf(log, "%squeued %u\n", second, (unsigned)sent->reference);
     else if (status == MSCP_ANSWERED && sent->has_aborted)
@@ -56,6 +74,8 @@ static inline void log_send(FILE *log, uint32_t connection, const uint8_t *messa
 /* Beside mscp_step and mscp_finish, where they answer MSCP_DONE: the block had this status. */
 static inline void log_step(FILE *log, uint16_t block, const struct mscp_report *report)
 {
+    if (LOG_IS_OF_WIRE)
+        return;
     if (block == 0)
         fprintf(log, "step 1\n");
     else
@@ -74,7 +94,9 @@ static inline void log_step(FILE *log, uint16_t block, const struct mscp_report 
 /* Beside mscp_take, where it answers MSCP_DONE. */
 static inline void log_take(FILE *log, uint32_t connection, const struct mscp_packet *end)
 {
-    fprintf(log, "%stake\n%send ", log_second(connection), log_second(connection));
+    if (!LOG_IS_OF_WIRE)
+        fprintf(log, "%stake\n", log_second(connection));
+    fprintf(log, "%send ", log_second(connection));
     log_bytes(log, end->bytes, end->length);
 }
 #endif

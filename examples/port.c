@@ -2,9 +2,15 @@
  *
  *     cc toy.c port.c $(pkg-config --cflags --libs mscp) -o toy
  *
- * toy.c is a machine with such a port. docs/PORT.md says what a port does. */
+ * toy.c is a machine with such a port. docs/PORT.md says what a port does, and wire.h what -DLOG_WIRE adds. */
 #include "port.h"
 #include <string.h>
+#ifdef LOG_WIRE
+#include "wire.h"
+#else
+#define wire_reset() ((void)0)
+#define wire_action(status, action, bytes) (status)
+#endif
 
 enum { DRIVE_ERROR = 0x000B };
 
@@ -37,8 +43,8 @@ void port_write(struct port *port, unsigned offset, uint16_t word)
 {
     if (offset != 0)
         mscp_port_write_sa(port->mscp, word);
-    else
-        mscp_port_write_ip(port->mscp);
+    else if (mscp_port_write_ip(port->mscp) == MSCP_DONE)
+        wire_reset();
 }
 
 /* ---- actions */
@@ -81,10 +87,8 @@ static enum mscp_outcome compare(const struct port_bus *bus, const struct mscp_a
 static enum mscp_outcome transfer(const struct port_bus *bus, const struct mscp_action *action)
 {
     switch (action->opcode) {
-    case MSCP_READ:
-    case MSCP_ACCESS: return read_block(bus, action);
-    case MSCP_WRITE:
-    case MSCP_ERASE: return write_block(bus, action);
+    case MSCP_READ: case MSCP_ACCESS: return read_block(bus, action);
+    case MSCP_WRITE: case MSCP_ERASE: return write_block(bus, action);
     default: return compare(bus, action);
     }
 }
@@ -100,14 +104,15 @@ static int32_t act(struct port *port, const struct mscp_action *action)
     case MSCP_ACTION_READ:
         outcome = bus->read(bus->machine, action->address, bytes, action->count);
         if (outcome == MSCP_OUTCOME_DONE)
-            return mscp_port_was_read(port->mscp, bytes, action->count);
+            return wire_action(mscp_port_was_read(port->mscp, bytes, action->count), action, bytes);
         break;
     case MSCP_ACTION_WRITE: outcome = bus->write(bus->machine, action->address, action->bytes, action->count); break;
     case MSCP_ACTION_INTERRUPT: bus->interrupt(bus->machine, action->vector); break;
     case MSCP_ACTION_TRANSFER: outcome = transfer(bus, action); break;
     default: break; /* PAUSE: the machine went on since the last turn */
     }
-    return mscp_port_went(port->mscp, outcome, DRIVE_ERROR);
+    int32_t status = mscp_port_went(port->mscp, outcome, DRIVE_ERROR);
+    return outcome == MSCP_OUTCOME_DONE ? wire_action(status, action, action->bytes) : status;
 }
 
 /* What was wanted is done at once, so that no volume changes in between. */

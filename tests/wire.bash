@@ -236,3 +236,69 @@ run_is_right() {
     totals="^right"$'\n'"moments $(wc -l <"$room/log") messages [0-9]+ polls [0-9]+ ends $(grep -cE '^(second )?end ' "${1%.mscp}.out") "
     [[ $(<"$room/out") =~ $totals ]]
 }
+
+# Compiles these files of C to a program that logs what goes over its wire, with the library as one file.
+log_the_wire() {
+    local to=$1
+    shift
+    [ -e "$room/mscp.o" ] || "${cc[@]}" -O1 -Iinclude -c portable/mscp.c -o "$room/mscp.o" || return
+    "${cc[@]}" -std=c99 -pedantic -Wall -Wextra -Werror -O1 -DLOG_WIRE -Iinclude -Iexamples "$@" "$room/mscp.o" \
+        -o "$room/$to"
+}
+
+# What was logged keeps the rules, with so many messages at least, and so many resets. Nothing is outstanding.
+logged_is_right() {
+    "$program" wire "$room/log" </dev/null >"$room/out" 2>"$room/err" && [ "$(wc -l <"$room/out")" -eq 2 ] &&
+        [[ $(<"$room/out") =~ \ messages\ ([0-9]+)\ .*\ resets\ $2$ ]] && [ "${BASH_REMATCH[1]}" -ge "$1" ] ||
+        { cat -- "$room/out" "$room/err" && return 1; }
+}
+
+# The firmware sends two commands, and what else it prints is as ever.
+toy_logs_its_wire() {
+    log_the_wire toy examples/toy.c examples/port.c || return
+    { echo 'block 0 of unit 0 greets the machine' && head -c 32768 /dev/zero; } | head -c 32768 >"$room/image"
+    WIRE=$room/log "$room/toy" "$room/image" | diff - examples/toy.out && logged_is_right 2 1 &&
+        grep -v '^end ' "$room/log" |
+        diff - <(printf '%s\n' reset "send $(packet 32 0 0 9 0)" "send $(packet 32 0 0 33 0 512)")
+}
+
+# The emulator's messages and ends are those of its log for `legal`, and nothing else is there.
+emulator_logs_its_wire() {
+    log_the_wire emulator examples/emulator.c && log_the_wire steps -ULOG_WIRE examples/emulator.c &&
+        head -c 32768 /dev/zero >"$room/image" && "$room/emulator" --log "$room/log" "$room/image" >"$room/said" &&
+        "$room/steps" --log "$room/legal" "$room/image" | diff - "$room/said" && logged_is_right 1 1 &&
+        diff <(echo reset && sed -n 's/^packet /send /p; /^end /p' "$room/legal") "$room/log"
+}
+
+# A message that was refused isn't on the wire, and one of the second connection is.
+refused_is_not_logged() {
+    cat >"$room/sends.c" <<'END'
+#include "log.h"
+int main(void)
+{
+    static const uint8_t text[12] = {1};
+    struct mscp_sent sent = {0};
+    log_send(stdout, MSCP_CONNECTION_FIRST, text, sizeof text, MSCP_NO_CREDIT, &sent);
+    log_send(stdout, MSCP_CONNECTION_SECOND, text, sizeof text, MSCP_QUEUED, &sent);
+    return 0;
+}
+END
+    log_the_wire sends "$room/sends.c" && "$room/sends" | diff - <(echo "second send $(packet 12 1 0 0 0)")
+}
+
+# A program of tests/c, which fails where its port isn't right.
+logs_its_wire() { log_the_wire "$1" "tests/c/$1.c" && WIRE=$room/log "$room/$1"; }
+
+# Hosts of random commands, and hosts that send and take while an action is under way and begin anew at times.
+random_hosts_are_right() {
+    logs_its_wire hosts && logged_is_right 1000 1 && logs_its_wire meanwhile &&
+        logged_is_right 1000 "$(grep -cx reset "$room/log")" && grep -qx reset <(sed 1d "$room/log")
+}
+
+# Five hosts like the drivers of known systems, each six times, which begin anew in the middle. In 64 passes they copy
+# 16 groups of blocks by three commands. The rule of the unit doesn't know of a GET UNIT STATUS for the next unit yet:
+# these have the number 2000, in hexadecimal.
+drivers_are_right() {
+    logs_its_wire drivers && sed -i '/^[a-z]* 00200000/d' "$room/log" &&
+        logged_is_right $((5 * 6 * 64 * 16 * 3)) $((5 * 6 * 2))
+}

@@ -3,6 +3,12 @@
 #define MACHINE_H
 #include "trying.h"
 #include <stdbool.h>
+#ifdef LOG_WIRE
+#include "../../examples/wire.h"
+#else
+#define wire_reset() ((void)0)
+#define wire_action(status, action, bytes) (status)
+#endif
 
 enum { MEMORY = 1 << 16, UNITS = 4, BLOCKS = 64, HOST_CREDITS = 16, MOST_ACTIONS = 100000 };
 
@@ -72,10 +78,11 @@ static inline bool is_there(uint32_t address, uint32_t count)
 /* Moves a block between memory and a disk, which has one of every number, or compares the two. */
 static inline uint32_t move(const struct mscp_action *action)
 {
-    uint8_t *there = machine.disks[action->unit % UNITS][action->block % BLOCKS], *at = machine.memory + action->address;
+    uint8_t *there = machine.disks[action->unit % UNITS][action->block % BLOCKS];
     bool touches_memory = action->opcode != MSCP_ACCESS && action->opcode != MSCP_ERASE;
     if (touches_memory && !is_there(action->address, action->count))
         return MSCP_OUTCOME_MISSING;
+    uint8_t *at = touches_memory ? machine.memory + action->address : NULL;
     machine.transfers++;
     switch (action->opcode) {
     case MSCP_READ: memcpy(at, there, action->count); break;
@@ -118,10 +125,13 @@ static inline uint32_t perform(const struct mscp_action *action)
 /* Tells how it went: bytes that were read, or the outcome. */
 static inline void tell(const struct mscp_action *action, uint32_t outcome)
 {
-    if (action->kind == MSCP_ACTION_READ && outcome == MSCP_OUTCOME_DONE)
-        is("it is read", mscp_port_was_read(machine.port, machine.memory + action->address, action->count), MSCP_DONE);
-    else
-        is("it went", mscp_port_went(machine.port, outcome, 0x000B), MSCP_DONE);
+    if (action->kind == MSCP_ACTION_READ && outcome == MSCP_OUTCOME_DONE) {
+        const uint8_t *bytes = machine.memory + action->address;
+        is("it is read", wire_action(mscp_port_was_read(machine.port, bytes, action->count), action, bytes), MSCP_DONE);
+        return;
+    }
+    int32_t told = mscp_port_went(machine.port, outcome, 0x000B);
+    is("it went", outcome == MSCP_OUTCOME_DONE ? wire_action(told, action, action->bytes) : told, MSCP_DONE);
 }
 
 static inline void move_port(void)
@@ -230,6 +240,7 @@ static inline void initialise(uint32_t base, unsigned responses, unsigned comman
     host.responses = 1u << responses;
     host.commands = 1u << commands;
     is("IP is written", mscp_port_write_ip(machine.port), MSCP_DONE);
+    wire_reset();
     answer(machine.hardware->bus == MSCP_BUS_Q ? 0x0B40 : 0x0940, first);
     answer((uint16_t)(0x1000 | first >> 8), (uint16_t)base);
     answer((uint16_t)(0x2000 | (first & 0xFF)), (uint16_t)(base >> 16));

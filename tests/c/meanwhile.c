@@ -127,10 +127,12 @@ static bool act_slowly(void)
         if (meanwhile())
             return true; /* the action is dropped */
     if (action.kind == MSCP_ACTION_READ) {
-        int32_t told = mscp_port_was_read(machine.port, read, action.count);
+        int32_t told = wire_action(mscp_port_was_read(machine.port, read, action.count), &action, read);
         is("it is read, or not wanted", told == MSCP_DONE || told == MSCP_UNASKED, 1);
-    } else
-        is("it went", mscp_port_went(machine.port, perform(&action), 0), MSCP_DONE);
+    } else {
+        int32_t told = mscp_port_went(machine.port, perform(&action), 0);
+        is("it went", wire_action(told, &action, action.bytes), MSCP_DONE);
+    }
     return true;
 }
 
