@@ -206,5 +206,4 @@ impl<K: Picker> Port<K> {
             None => self.task = Task::Free,
         }
     }
-
 }
