@@ -45,10 +45,10 @@ static inline void wire_reset(void)
 /* Around mscp_port_was_read or mscp_port_went, if the action was done: what it answered, which this answers too, the
  * action, and the bytes that were read or written.
  *
- * The last text or end has gone over the wire when its slot is given back by a WRITE of four bytes: a command that has
- * no credit stays in its slot, and is read again. No address is needed: a text and a packet have 12 bytes at least, a slot
- * and an envelope four, and an interrupt word two. An attention message is no end, since it answers no command,
- * and neither are 64 zeros, which clear the rings and come before four of them. */
+ * The last text or end has gone over the wire when its slot is given back by a WRITE of four bytes: a command that
+ * has no credit stays in its slot, and is read again. No address is needed: a text and a packet have 12 bytes at
+ * least, a slot and an envelope four, and an interrupt word two. An attention message is no end, since it answers no
+ * command, and neither are 64 zeros, which clear the rings and come before four of them. */
 static inline int32_t wire_action(int32_t status, const struct mscp_action *action, const uint8_t *bytes)
 {
     if (status != MSCP_DONE)
