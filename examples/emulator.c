@@ -50,7 +50,7 @@ static struct mscp_unit unit_of(uint32_t blocks)
     return unit;
 }
 
-/* A controller of one unit of so many blocks, in memory of ours. NULL where there is none. */
+/* A controller of one unit of so many blocks, in memory of ours. NULL if there is none. */
 static struct mscp *make_controller(uint32_t blocks)
 {
     const struct mscp_unit unit = unit_of(blocks);

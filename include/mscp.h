@@ -37,7 +37,7 @@ extern "C" {
 #endif
 
 /* libmscp.a is for x86-64 and 64-bit ARM, with numbers and calls as on Linux. For any machine there is mscp.c in its place,
- * a file that you compile with yours. A handle asks for that where libmscp.a can't be called, so the linker refuses it there. */
+ * a file that you compile with yours. A handle asks for that if libmscp.a can't be called, so the linker refuses it there. */
 #if (defined(__x86_64__) || (defined(__aarch64__) && !defined(__AARCH64EB__))) && defined(__LP64__) && defined(__ELF__)
 #define MSCP_HERE() ((void)0)
 #else
@@ -49,7 +49,7 @@ extern "C" {
 #endif
 
 /* What a handle, and memory for what it is on, is aligned to, in bytes; and the bytes of a handle. Both are so on every
- * machine: where 64 bits would be aligned to fewer, MSCP_ALIGNED stands before what is to be aligned. */
+ * machine: if 64 bits would be aligned to fewer, MSCP_ALIGNED stands before what is to be aligned. */
 #define MSCP_ALIGN 8u
 #define MSCP_HEAD 32u
 #if defined(__GNUC__)
@@ -104,7 +104,7 @@ enum mscp_status {
     MSCP_UNKNOWN = -9,      /* mscp_host_receive: the end of no outstanding command */
 
     MSCP_NOT_MADE = -10,    /* nothing was made in the handle's memory: init it first */
-    MSCP_MADE = -11,        /* an init, where something is made: reset a controller, give all else a new handle */
+    MSCP_MADE = -11,        /* an init, if something is made: reset a controller, give all else a new handle */
     MSCP_NO_HANDLE = -12,   /* an init of what is no handle, or of one by the header of another version */
     MSCP_NO_MEMORY = -13,   /* an init: the handle or its memory is NULL */
     MSCP_MISALIGNED = -14,  /* an init: its address isn't a multiple of the alignment */
@@ -174,7 +174,7 @@ enum mscp_status {
 /* By which connection a host talks to the controller. Each has its own credits, ends and reference numbers. */
 enum mscp_connection {
     MSCP_CONNECTION_FIRST = 0,
-    MSCP_CONNECTION_SECOND = 1 /* only where the limits give it credits */
+    MSCP_CONNECTION_SECOND = 1 /* only if the limits give it credits */
 };
 
 /* Which of the commands that may start is started. */
@@ -220,7 +220,7 @@ struct mscp_limits {
     uint64_t id;      /* of the controller, which the host is told */
     uint64_t budget;  /* the blocks that later commands may have in all that start before a waiting command */
     uint32_t credits; /* of the first connection: commands that wait and ends that weren't taken, together: 2 to 64 */
-    uint32_t second;  /* of the second: 2 to 62, or 0 where there is none. Both together have up to 64 */
+    uint32_t second;  /* of the second: 2 to 62, or 0 if there is none. Both together have up to 64 */
     uint32_t longest; /* the longest transfer in blocks: 1 to 8388608 */
     uint16_t timeout; /* in seconds, which the host is told: 1 to 255 */
 };
@@ -283,7 +283,7 @@ enum mscp_outcome {
     MSCP_OUTCOME_FAILED = 5     /* the block couldn't be moved: its command ends with the status told beside it */
 };
 
-/* A handle on memory of yours: where it is, and what is in it. Nothing in it is for you, save where the memory moves:
+/* A handle on memory of yours: where it is, and what is in it. Nothing in it is for you, save if the memory moves:
  * see mscp_moved. */
 struct mscp {
     MSCP_ALIGNED void *at;
@@ -565,11 +565,11 @@ MSCP_INLINE int32_t mscp_send(struct mscp *mscp, uint32_t connection, const uint
     return mscp_send_at(mscp, connection, length == 0 ? &none : message, length, sent);
 }
 
-/* Takes the connection's oldest end that wasn't taken, which frees its credit. MSCP_DONE, or MSCP_NOTHING where there
+/* Takes the connection's oldest end that wasn't taken, which frees its credit. MSCP_DONE, or MSCP_NOTHING if there
  * is none. */
 MSCP_MUST_USE int32_t mscp_take(struct mscp *mscp, uint32_t connection, struct mscp_packet *end);
 
-/* What the next step serves. MSCP_DONE, or MSCP_NOTHING where no command waits. The choice is kept: until a step, an
+/* What the next step serves. MSCP_DONE, or MSCP_NOTHING if no command waits. The choice is kept: until a step, an
  * ABORT of that command or a reset this answers the same. It changes nothing that any other call tells. */
 MSCP_MUST_USE int32_t mscp_begin(struct mscp *mscp, struct mscp_upcoming *upcoming);
 
@@ -617,7 +617,7 @@ int64_t mscp_waiting(const struct mscp *mscp, uint32_t connection);
 int64_t mscp_untaken(const struct mscp *mscp, uint32_t connection);
 int64_t mscp_balance(const struct mscp *mscp, uint32_t connection);
 
-/* Whether the unit of this number is online: 1, or 0 where it isn't, or isn't configured. */
+/* Whether the unit of this number is online: 1, or 0 if it isn't, or isn't configured. */
 int32_t mscp_is_online(const struct mscp *mscp, uint16_t unit);
 
 /* The limits of the controller, and its units, as many as there is room for: what it was made of, also if it was restored.
@@ -661,7 +661,7 @@ MSCP_INLINE int32_t mscp_restore(struct mscp *mscp, const uint8_t *bytes, size_t
     return mscp_restore_at(mscp, length == 0 ? &none : bytes, length);
 }
 
-/* ---- the host's end. Each call but mscp_host_init and mscp_host_restore answers MSCP_NOT_MADE where there is none. */
+/* ---- the host's end. Each call but mscp_host_init and mscp_host_restore answers MSCP_NOT_MADE if there is none. */
 
 /* Makes a host in the handle's memory, with as many credits as its connection has: 2 to 64. MSCP_DONE, or a fault of
  * the memory (-11 to -15), or MSCP_BAD_CREDITS. Do it anew (in fresh memory, or over a new handle) when the port is
@@ -730,7 +730,7 @@ MSCP_INLINE int32_t mscp_host_restore(struct mscp_host *host, const uint8_t *byt
     return mscp_host_restore_at(host, length == 0 ? &none : bytes, length);
 }
 
-/* ---- a port over a controller of its own. Each call but mscp_port_init and mscp_port_restore answers MSCP_NOT_MADE where
+/* ---- a port over a controller of its own. Each call but mscp_port_init and mscp_port_restore answers MSCP_NOT_MADE if
  * there is none. docs/PORT.md says how an emulator takes it in. */
 
 /* Makes a port in the handle's memory, over a controller as mscp_init makes one. Its host may have so many commands
@@ -883,7 +883,7 @@ MSCP_INLINE int32_t mscp_port_restore(struct mscp_port *port, const uint8_t *byt
 /* ---- scripts. docs/FORMATS.md says what stands in one, and what its report has. */
 
 /* Runs a script of so many bytes through a controller of its own, as the program mscpq does, and writes the report to the
- * front of the room, of `*count` bytes. MSCP_DONE; MSCP_SMALL, where the room has fewer than twice as many bytes as the
+ * front of the room, of `*count` bytes. MSCP_DONE; MSCP_SMALL, if the room has fewer than twice as many bytes as the
  * report; or MSCP_SCRIPT_SIZE to _EVENTS, what is wrong in line `*line`, the first in which something is. Whatever it answers,
  * all of the room may be written over. This takes up to 60 KiB of the stack. */
 MSCP_MUST_USE
@@ -895,7 +895,7 @@ MSCP_INLINE int32_t mscp_run_script(const uint8_t *script, size_t length, uint8_
 }
 
 /* Writes what a message says, which a word of so many bytes is the hexadecimal digits of, as `mscpq packet` does: a line of
- * `*count` bytes at the front of the room. MSCP_DONE; MSCP_SMALL, where the room has fewer than twice as many bytes as the
+ * `*count` bytes at the front of the room. MSCP_DONE; MSCP_SMALL, if the room has fewer than twice as many bytes as the
  * line; or MSCP_WORD_HEX to _LENGTH. Whatever it answers, all of the room may be written over. */
 MSCP_MUST_USE
 MSCP_INLINE int32_t mscp_show_packet(const uint8_t *word, size_t length, uint8_t *bytes, size_t room, size_t *count)
