@@ -1,9 +1,8 @@
 // Who picks the command that starts.
 
-ghost use Rattle.std.specs.Prelude.{◌≡◌, ◌<◌, ◌≤◌, ◌-◌, ◌^◌, [], length};
+ghost use Rattle.std.specs.Prelude.{◌≡◌, ◌<◌, [], length};
 ghost use Rattle.mscp_queue.specs.Pickers.{IsSweep};
 
-use crate::lanes::least;
 use crate::view::View;
 
 /// Picks the command that starts, of those that may. Any choice is lawful: what a queue shows may start, and the
@@ -39,18 +38,6 @@ impl Picker for Oldest {
     }
 }
 
-/// The bits of so many places, from the first on.
-fn bits_of(places: usize) -> u64
-    requires { places ≤ 64 }
-    ensures { result ≡ 2 ^ places - 1 }
-{
-    if places < 64 {
-        (1 << places) - 1
-    } else {
-        u64::MAX
-    }
-}
-
 /// Picks the command whose start costs the least, and of those the oldest: an elevator over all units (profile).
 #[derive(Clone, Copy, Debug, Default, PartialEq, Eq)]
 pub struct Sweep;
@@ -62,10 +49,19 @@ impl Picker for Sweep {
         ensures empty { view.now ≡ [] → result ≡ 0 }
         ensures sweep { 0 < length view.now → IsSweep view.now result }
     {
-        let count = view.choices().len();
-        if count < 2 {
+        let choices = view.choices();
+        if choices.is_empty() {
             return 0;
         }
-        least(view.costs(), bits_of(count)).unwrap_or(0)
+        let mut best = 0;
+        let mut least = choices[0].cost;
+        for place in 1..choices.len() {
+            let cost = choices[place].cost;
+            if cost < least {
+                best = place;
+                least = cost;
+            }
+        }
+        best
     }
 }
