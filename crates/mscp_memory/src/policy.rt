@@ -22,4 +22,11 @@ impl Picker for Policy {
             Policy::Sweep => Sweep.pick(view),
         }
     }
+
+    fn takes_first(&self) -> bool {
+        match self {
+            Policy::Oldest => Oldest.takes_first(),
+            Policy::Sweep => Sweep.takes_first(),
+        }
+    }
 }

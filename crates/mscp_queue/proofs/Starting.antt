@@ -171,3 +171,6 @@ places_inside budget rs = All-from_recursion (λ k. k < length rs) (open_places 
 -- where something waits, something may start: the oldest may
 pub some_place : (budget : ℕ) (rs : List Record) → 0 < length rs → 0 < length (open_places budget rs)
 some_place budget rs h2 = grind arith
+
+pub first_place : (budget : ℕ) (rs : List Record) → 0 < length rs → get_or (open_places budget rs) 0 0 ≡ 0
+first_place budget rs h2 = grind arith

@@ -8,7 +8,7 @@ use crate::view::View;
 /// Picks the command that starts, of those that may. Any choice is lawful: what a queue shows may start, and the
 /// budget of each waiting command is kept, whoever picks.
 pub trait Picker {
-    ghost use Rattle.std.specs.Prelude.{◌<◌, ℕ, List, length};
+    ghost use Rattle.std.specs.Prelude.{◌≡◌, ◌<◌, ℕ, List, length, true};
     ghost use Rattle.mscp_queue.specs.declared.view.Choice.{Choice};
 
     // Which places of a view the picker may pick. It may depend on the picker's own value, and leave a choice.
@@ -20,6 +20,13 @@ pub trait Picker {
     fn pick(&self, view: &View) -> usize
         ensures place { 0 < length view.now → result < length view.now }
         ensures allowed { 0 < length view.now → picks self.now view.now result };
+
+    /// Whether it may pick the first place of each view. If so, a queue takes that place and makes no view.
+    fn takes_first(&self) -> bool
+        ensures { result ≡ true → (view : List Choice) → 0 < length view → picks self.now view 0 }
+    {
+        false
+    }
 }
 
 /// Picks the oldest command that may start.
@@ -35,6 +42,10 @@ impl Picker for Oldest {
         ensures oldest { result ≡ 0 }
     {
         0
+    }
+
+    fn takes_first(&self) -> bool {
+        true
     }
 }
 
