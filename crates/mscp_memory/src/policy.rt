@@ -23,10 +23,10 @@ impl Picker for Policy {
         }
     }
 
-    fn takes_first(&self) -> bool {
+    fn takes_first(&self, most: usize) -> bool {
         match self {
-            Policy::Oldest => Oldest.takes_first(),
-            Policy::Sweep => Sweep.takes_first(),
+            Policy::Oldest => Oldest.takes_first(most),
+            Policy::Sweep => Sweep.takes_first(most),
         }
     }
 }

@@ -10,7 +10,7 @@ pub use Rattle.std.proofs.lemmas.List.FromFn.{get_or-map-range_with_len, get_or-
 pub use Rattle.std.proofs.lemmas.List.Quantifiers.{position-Some}
 pub use Rattle.std.proofs.lemmas.List.Sums.{sum_by-append, sum_by-cons}
 pub use Rattle.std.proofs.lemmas.Nat.{and_le_l, le-div, shr-shr}
-pub use Rattle.std.proofs.lemmas.Nat.Bits.{and_pow, bit_at-lt, bit_at-suc, bit_at-trailing_ones, bit_at-trailing_zeros, bit_at-zero, bit_at_and, bit_at_clear_other, bit_at_clear_same, bit_at_lowest, bit_at_not, bit_at_ones, bit_at_ones_above, bit_at_set_other, bit_at_set_same}
+pub use Rattle.std.proofs.lemmas.Nat.Bits.{and_pow, bit_at-lt, bit_at-suc, bit_at-trailing_ones, bit_at-trailing_zeros, bit_at-zero, bit_at_above, bit_at_and, bit_at_clear_other, bit_at_clear_same, bit_at_lowest, bit_at_not, bit_at_ones, bit_at_ones_above, bit_at_set_other, bit_at_set_same}
 pub use Rattle.std.proofs.lemmas.Simd.{get_or-replicate}
 pub use Rattle.std.specs.Int.{bit_at, trailing_ones, trailing_zeros}
 pub use Rattle.std.specs.Int.Count.{trailing_of_zero}

@@ -63,14 +63,14 @@ pub record HasCome (n drive : ℕ) (sequential serving : Bool) (old new : Masks)
   pub others : (k : ℕ) → k ≢ n → slice_index_or new.earlier k 0 ≡ slice_index_or old.earlier k 0
   pub earlier : slice_index_or new.earlier n 0 ≡ old.waiting
 
--- the bit of slot n is cleared in the masks that its command belongs to, and where others wait, in the mask of each
+-- the bit of slot n is cleared in the masks that its command belongs to, and in the mask of each that waits
 pub record HasLeft (n drive : ℕ) (old new : Masks) : Type 0 where
   pub waits : IsSet false n old.waiting new.waiting
   pub ordered : IsSet false n old.sequential new.sequential
   pub served : IsSet false n old.serving new.serving
   pub units : (u : ℕ) → u ≢ drive → slice_index_or new.units u 0 ≡ slice_index_or old.units u 0
   pub own : IsSet false n (slice_index_or old.units drive 0) (slice_index_or new.units drive 0)
-  pub earlier : new.waiting ≢ 0 → (k : ℕ)
+  pub earlier : (k : ℕ) → bit_at new.waiting k ≡ 1
       → IsSet false n (slice_index_or old.earlier k 0) (slice_index_or new.earlier k 0)
 
 -- the slots in front of one that keep its command back, which is to the unit of this drive: for a sequential command

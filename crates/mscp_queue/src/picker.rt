@@ -8,7 +8,7 @@ use crate::view::View;
 /// Picks the command that starts, of those that may. Any choice is lawful: what a queue shows may start, and the
 /// budget of each waiting command is kept, whoever picks.
 pub trait Picker {
-    ghost use Rattle.std.specs.Prelude.{◌≡◌, ◌<◌, ℕ, List, length, true};
+    ghost use Rattle.std.specs.Prelude.{◌≡◌, ◌<◌, ◌≤◌, ℕ, List, length, true};
     ghost use Rattle.mscp_queue.specs.declared.view.Choice.{Choice};
 
     // Which places of a view the picker may pick. It may depend on the picker's own value, and leave a choice.
@@ -21,9 +21,11 @@ pub trait Picker {
         ensures place { 0 < length view.now → result < length view.now }
         ensures allowed { 0 < length view.now → picks self.now view.now result };
 
-    /// Whether it may pick the first place of each view. If so, a queue takes that place and makes no view.
-    fn takes_first(&self) -> bool
-        ensures { result ≡ true → (view : List Choice) → 0 < length view → picks self.now view 0 }
+    /// Whether it may pick the first place of each view that has at most so many choices. If so, a queue takes that place and
+    /// makes no view.
+    fn takes_first(&self, _most: usize) -> bool
+        ensures { result ≡ true
+            → (view : List Choice) → 0 < length view → length view ≤ _most → picks self.now view 0 }
     {
         false
     }
@@ -44,7 +46,7 @@ impl Picker for Oldest {
         0
     }
 
-    fn takes_first(&self) -> bool {
+    fn takes_first(&self, _most: usize) -> bool {
         true
     }
 }
@@ -74,5 +76,9 @@ impl Picker for Sweep {
             }
         }
         best
+    }
+
+    fn takes_first(&self, most: usize) -> bool {
+        most < 2
     }
 }

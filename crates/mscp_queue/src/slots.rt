@@ -93,6 +93,7 @@ impl Slots {
     }
 
     /// The command at the place leaves its slot.
+    #[inline(always)]
     pub fn remove(&mut self, place: usize)
         requires { place < length self.old }
         ensures { self.new ≡ take place self.old ++ drop (place + 1) self.old }

@@ -163,9 +163,8 @@ fn may_all_start(backlog: &Backlog, longest: u32) -> bool
     backlog.none_is_sequential() && (longest <= unspent || backlog.are_light(unspent))
 }
 
-/// The place of the record that the picker picks, of those that may start. If the picker takes the first, that is the
-/// oldest. Else the view is made anew, and shows these. Where all may start it is the candidates, in which a record has its
-/// place.
+/// The place of the record that the picker picks, of those that may start: the view is made anew, and shows these. Where
+/// all may start it is the candidates, in which a record has its place.
 #[inline(never)]
 pub(crate) fn picked_place<K: Picker>(
     backlog: &Backlog,
@@ -186,9 +185,6 @@ pub(crate) fn picked_place<K: Picker>(
     ensures picked { IsPick (K.picks picker.now) backlog.now.budget drives.now backlog.now.waiting result }
     ensures listed { AreCandidates candidates.new.dirty drives.now backlog.now.waiting candidates.new.view }
 {
-    if picker.takes_first() {
-        return 0;
-    }
     if may_all_start(backlog, longest) {
         candidates.renew_all(backlog, drives);
         return picker.pick(candidates.view.shown());

@@ -20,7 +20,7 @@ fn place_served(place: usize, ends: bool) -> Option<usize>
 
 impl<K: Picker> Queue<K> {
     /// The place of the command that is served next, if one waits: that in service, or what was begun, or one that the
-    /// picker picks.
+    /// picker picks. If the picker takes the first, that is the oldest.
     #[inline(always)]
     fn next_place(&mut self) -> Option<usize>
         ensures none { IfNone result (self.old.waiting ≡ []) }
@@ -35,8 +35,12 @@ impl<K: Picker> Queue<K> {
         if let Some(place) = self.begun {
             return Some(place);
         }
-        if self.backlog.len() == 0 {
+        let count = self.backlog.len();
+        if count == 0 {
             return None;
+        }
+        if self.picker.takes_first(count) {
+            return Some(0);
         }
         Some(picked_place(
             &self.backlog,

@@ -1,19 +1,7 @@
 use Rattle.mscp_queue.proofs.Common.{◌≡◌, ℕ, ◌∙◌, ◌+◌, ◌<◌, List, ap, subst, sym, length, get_or, arith, range_with_len, length-map, get_or-range_with_len, length-range_with_len, Drive, Choice, Record, AllMayStart, choices_at, open_places, view_of}
 use Rattle.mscp_queue.proofs.CandidateCosts.{all_choices, candidates_of}
-use Rattle.mscp_queue.proofs.Starting.{first_place, places_inside, some_place}
+use Rattle.mscp_queue.proofs.Starting.{places_inside, some_place}
 use Rattle.mscp_queue.proofs.start.picked_place.Goals as goal
-
--- the oldest may start, and is the first place of the view
-pub returns-then-takes_first-clause-picked : goal.returns-then-takes_first-clause-picked
-returns-then-takes_first-clause-picked g c =
-    let b = c.args.backlog.now.budget in
-    let rs = c.args.backlog.now.waiting in
-    let some = some_place b rs c.requires.some in (
-      0,
-      some,
-      first_place b rs c.requires.some,
-      c.takes_first.ensures c.if-takes_first.true (view_of b c.args.drives.now rs) (search (arith, length-map)),
-    )
 
 -- where all may start, the view shows all
 record AllPicked (budget : ℕ) (ds : List Drive) (rs : List Record) (view : List Choice) : Type 0 where
