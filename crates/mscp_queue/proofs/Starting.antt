@@ -184,5 +184,9 @@ pub first_picked : (picks : List Choice → ℕ → Type 0) (budget : ℕ) (ds :
 first_picked picks budget ds rs some first =
     let long : length (view_of budget ds rs) ≡ length (open_places budget rs) = search (arith, length-map) in
     let opens = some_place budget rs some in
-    let few = few_places budget rs in
-    (0, opens, first_place budget rs some, first (view_of budget ds rs) (omega (arith, long, opens)) (omega (arith, long, few)))
+    let few = few_places budget rs in (
+      0,
+      opens,
+      first_place budget rs some,
+      first (view_of budget ds rs) (omega (arith, long, opens)) (omega (arith, long, few)),
+    )

@@ -10,7 +10,7 @@ returns-then-self-ne0 c =
       served = c.with_bit-self-3.ensures.set;
       units = search (arith, get_or-set_other);
       own = search (arith, get_or-set_same);
-      earlier = λ k on. front_cleared c.args.self.now.earlier front.new.masks _ c.with_bit-self.result c.args.slot
-          k (omega (arith, c.if-self.false)) front.ensures.long front.ensures.cleared (length-take-le 16 c.args.self.now.earlier
-          (omega (arith, c.fits-self))) on;
+      earlier = λ k on. front_cleared c.args.self.now.earlier front.new.masks _ c.with_bit-self.result c.args.slot k
+          (omega (arith, c.if-self.false)) front.ensures.long front.ensures.cleared
+          (length-take-le 16 c.args.self.now.earlier (omega (arith, c.fits-self))) on;
     }
