@@ -76,6 +76,7 @@ impl<K: Picker> Queue<K> {
 
     /// What the next step serves, if a command waits. Where nothing is in service and nothing was begun the picker picks
     /// it, and its choice is kept: until a step, a reset, or an abort of that command, this answers the same.
+    #[inline(always)]
     pub fn begin(&mut self) -> Option<Upcoming>
         ensures begins { Begins (K.picks self.old.picker) self.old result self.new }
         ensures again { upcoming_begun self.new.drives self.new.waiting self.new.begun ≡ result }
