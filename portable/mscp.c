@@ -664,204 +664,131 @@ L1:;
     return v11;
 }
 
-static void f66(u64 v0, u64 v1)
+static u32 f66(u64 v0, u64 v1)
 {
-    ROOM(frame, 16);
-    u32 v6 = 0, v13 = 0, v14 = 0, v15 = 0, v16 = 0, v17 = 0, v18 = 0, v19 = 0, v20 = 0, v21 = 0, v22 = 0, v23 = 0, v24
-        = 0;
-    u64 v2 = 0, v3 = 0, v4 = 0, v5 = 0, v7 = 0, v8 = 0, v9 = 0, v10 = 0, v11 = 0, v12 = 0, t0;
-    v2 = A(frame);
-    v3 = v2;
-    if (l1(v1 + 5696ull) != 1u) goto L5;
-    v4 = l8(v1 + 5704ull);
-    goto L4;
-L5:;
-    if (l1(v1 + 5680ull) != 1u) goto L6;
-    v4 = l8(v1 + 5688ull);
-    goto L4;
-L6:;
-    v2 = l8(v1 + 3952ull);
-    if (v2 == 0) goto L3;
-    v4 = 0ull;
-    if (v2 == 1ull) goto L4;
-    v2 = v1 + 5712ull;
-    if ((l1(v2) & 255u) == 0) goto L4;
-    t0 = f65(v1 + 816ull, v1 + 4648ull, l8(v1 + 5672ull), l4(v1 + 812ull), v2, v1 + 5720ull, v1 + 7016ull);
-    v4 = t0;
+    u32 v6 = 0, v7 = 0, v9 = 0, v10 = 0, v11 = 0, v12 = 0, v13 = 0, v14 = 0, v15 = 0, v16 = 0;
+    u64 v3 = 0, v4 = 0, v5 = 0, v8 = 0, t0;
+    if (l8(v0 + 24ull) == 0x4D5343504D414445ull) goto L4;
+    return 0xFFFFFFF6u;
 L4:;
-    v5 = (u64)l1((v1 + v4) + 3888ull);
-    v2 = v1 + (v5 << 5);
-    v6 = l4(v2 + 832ull);
-    v7 = v2 + 828ull;
-    v8 = v2 + 826ull;
-    v9 = v2 + 825ull;
-    v10 = v2 + 820ull;
-    v11 = v2 + 816ull;
-    v12 = v2 + 822ull;
-    v13 = 0u;
-    v14 = 0u;
-    v15 = l1(v2 + 824ull);
-    if (v15 != 7u) goto L7;
-    v13 = 0u;
-    v14 = 0u;
-    if ((l1((v1 + (((l8((v1 + (v5 << 3)) + 2864ull)) << 6) & 16320ull)) + 4696ull)) != 1u) goto L7;
-    v14 = l4(v11 + 24ull) + v6;
-    v13 = 1u;
+    v0 = l8(v0);
+    if (l1(v0 + 5696ull) != 1u) goto L6;
+    v3 = l8(v0 + 5704ull);
+    goto L5;
+L6:;
+    if (l1(v0 + 5680ull) != 1u) goto L7;
+    v3 = l8(v0 + 5688ull);
+    goto L5;
 L7:;
-    v16 = l4(v7);
-    v17 = l2(v8);
-    v18 = l1(v9);
-    v19 = l2(v10);
-    v20 = l4(v11);
-    v21 = l1(v12);
-    s8(v1 + 5688ull, v4);
-    s8(v1 + 5680ull, 1ull);
-    s2(v3 + 12, 0u);
-    s1(v3 + 14, 0u);
-    v22 = l4(v11 + 20ull);
-    v23 = l4(v11 + 24ull);
-    v24 = 1u;
-    goto L2;
-L3:;
-    v24 = 0u;
-    s1(v3 + 14, 0u);
-    s2(v3 + 12, 0u);
-    v21 = 0u;
-    v20 = 0u;
-    v19 = 0u;
-    v15 = 0u;
-    v18 = 0u;
-    v17 = 0u;
-    v16 = 0u;
-    v6 = 0u;
-    v13 = 0u;
-    v14 = 0u;
-    v23 = 0u;
-    v22 = 0u;
-L2:;
-    s4(v0, v24);
-    s1(v0 + 4ull, v21);
-    s2(v0 + 5ull, l2(v3 + 12));
-    s1(v0 + 7ull, l1(v3 + 14));
-    s4(v0 + 40ull, v22);
-    s4(v0 + 36ull, v23);
-    s4(v0 + 32ull, v14);
-    s4(v0 + 28ull, v13);
-    s4(v0 + 24ull, v6);
-    s4(v0 + 20ull, v16);
-    s2(v0 + 18ull, v17);
-    s1(v0 + 17ull, v18);
-    s1(v0 + 16ull, v15);
-    s2(v0 + 14ull, 0u);
-    s2(v0 + 12ull, v19);
-    s4(v0 + 8ull, v20);
-    return;
-    TRAP();
-}
-
-static u32 f67(u64 v0, u64 v1)
-{
-    ROOM(frame, 48);
-    u32 v3 = 0, v4 = 0, v5 = 0, v6 = 0, v7 = 0, v8 = 0, v9 = 0, v10 = 0, v11 = 0, v12 = 0;
-    u64 v2 = 0;
-    v2 = A(frame);
-    s4(v2 + 40, 0u);
-    s8(v2 + 32, 0ull);
-    s8(v2 + 24, 0ull);
-    s8(v2 + 16, 0ull);
-    s8(v2 + 8, 0ull);
-    s8(v2, 0ull);
-    v3 = 0xFFFFFFF6u;
-    if (l8(v0 + 24ull) != 0x4D5343504D414445ull) goto L2;
-    f66(v2, l8(v0));
-    v4 = 1u;
-    v3 = 0u;
-    if (l1(v2) != 1u) goto L2;
-    v5 = l4(v2 + 40);
-    v6 = l4(v2 + 36);
-    v7 = l1(v2 + 17);
-    v8 = l2(v2 + 12);
-    v9 = l4(v2 + 8);
-    v10 = l1(v2 + 4);
-    v11 = l1(v2 + 28);
-    v12 = (v11 == 1u) ? l4(v2 + 32) : 0u;
-    v3 = l1(v2 + 16);
-    switch (v3) {
-    case 1: goto L14;
-    case 2: goto L13;
-    case 3: goto L12;
-    case 4: goto L11;
-    case 5: goto L10;
-    case 6: goto L9;
-    case 7: goto L15;
-    case 8: goto L4;
-    default: goto L3;
-    }
-L15:;
-    v3 = l4(v2 + 20);
-    v4 = 16u;
-    switch (v7) {
-    case 1: goto L8;
-    case 2: goto L7;
-    case 3: goto L6;
-    case 4: goto L5;
-    default: goto L3;
+    v4 = l8(v0 + 3952ull);
+    if ((u32)(v4 == 0) == 0) goto L8;
+    return 0u;
+L8:;
+    v3 = 0ull;
+    if (v4 == 1ull) goto L5;
+    v4 = v0 + 5712ull;
+    if ((l1(v4) & 255u) == 0) goto L5;
+    t0 = f65(v0 + 816ull, v0 + 4648ull, l8(v0 + 5672ull), l4(v0 + 812ull), v4, v0 + 5720ull, v0 + 7016ull);
+    v3 = t0;
+L5:;
+    v5 = (u64)l1((v0 + v3) + 3888ull);
+    v4 = v0 + (v5 << 5);
+    v6 = l1(v4 + 825ull);
+    v7 = l2(v4 + 820ull);
+    v8 = v4 + 816ull;
+    v9 = l4(v8);
+    v10 = l1(v4 + 822ull);
+    v11 = l1(v4 + 824ull);
+    if (v11 != 7u) goto L14;
+    v12 = l4(v4 + 828ull);
+    v13 = l1((v0 + (((l8((v0 + (v5 << 3)) + 2864ull)) << 6) & 16320ull)) + 4696ull);
+    s8(v0 + 5688ull, v3);
+    s8(v0 + 5680ull, 1ull);
+    v14 = l4(v8 + 24ull);
+    v11 = v13 ? (v14 + l4(v8 + 16ull)) : 0u;
+    v15 = l4(v8 + 20ull);
+    v16 = 16u;
+    switch (v6) {
+    case 1: goto L13;
+    case 2: goto L12;
+    case 3: goto L11;
+    case 4: goto L10;
+    default: goto L1;
     }
 L14:;
-    v4 = 2u;
-    v3 = 0u;
-    goto L3;
+    s8(v0 + 5688ull, v3);
+    s8(v0 + 5680ull, 1ull);
+    v15 = l4(v8 + 20ull);
+    v14 = l4(v8 + 24ull);
+    v16 = 1u;
+    v13 = 0u;
+    v12 = v11;
+    switch (v11) {
+    case 1: goto L20;
+    case 2: goto L19;
+    case 3: goto L18;
+    case 4: goto L17;
+    case 5: goto L16;
+    case 6: goto L15;
+    case 7: goto L3;
+    case 8: goto L9;
+    default: goto L1;
+    }
+L20:;
+    v16 = 2u;
+    goto L2;
+L19:;
+    v16 = 3u;
+    goto L2;
+L18:;
+    v16 = 4u;
+    goto L2;
+L17:;
+    v16 = 8u;
+    goto L2;
+L16:;
+    v16 = 9u;
+    goto L2;
+L15:;
+    v16 = 10u;
+    goto L2;
 L13:;
-    v4 = 3u;
-    v3 = 0u;
-    goto L3;
+    v16 = 18u;
+    goto L1;
 L12:;
-    v4 = 4u;
-    v3 = 0u;
-    goto L3;
+    v16 = 32u;
+    goto L1;
 L11:;
-    v4 = 8u;
-    v3 = 0u;
-    goto L3;
+    v16 = 33u;
+    goto L1;
 L10:;
-    v4 = 9u;
-    v3 = 0u;
-    goto L3;
+    v16 = 34u;
+    goto L1;
 L9:;
-    v4 = 10u;
-    v3 = 0u;
-    goto L3;
-L8:;
-    v4 = 18u;
-    goto L3;
-L7:;
-    v4 = 32u;
-    goto L3;
-L6:;
-    v4 = 33u;
-    goto L3;
-L5:;
-    v4 = 34u;
-    goto L3;
-L4:;
-    v3 = 0u;
-    v4 = v7;
+    v11 = 0u;
+    v13 = 0u;
+    v12 = 0u;
+    v16 = v6;
+    goto L1;
 L3:;
+    TRAP();
+L2:;
+    v13 = 0u;
+    v11 = 0u;
+    v12 = 0u;
+L1:;
     s2(v1 + 25, 0u);
     s1(v1 + 24, v10);
-    s1(v1 + 22, v4);
-    s2(v1 + 20, v8);
-    s4(v1 + 16, v5);
-    s4(v1 + 12, v6);
-    s4(v1 + 8, v12);
-    s4(v1 + 4, v3);
+    s1(v1 + 23, v13);
+    s1(v1 + 22, v16);
+    s2(v1 + 20, v7);
+    s4(v1 + 16, v15);
+    s4(v1 + 12, v14);
+    s4(v1 + 8, v11);
+    s4(v1 + 4, v12);
     s4(v1, v9);
     s1(v1 + 27, 0u);
-    v3 = 1u;
-    s1(v1 + 23, v11 == 1u);
-L2:;
-    return v3;
-    TRAP();
+    return 1u;
 }
 
 static u32 w_mscp_begin(u64 v0, u64 v1)
@@ -872,13 +799,13 @@ static u32 w_mscp_begin(u64 v0, u64 v1)
     f59();
     TRAP();
 L1:;
-    t1 = f67(v0, v1);
+    t1 = f66(v0, v1);
     v2 = t1;
     f61();
     return v2;
 }
 
-static u64 f68(u64 v0, u32 v1, u32 v2)
+static u64 f67(u64 v0, u32 v1, u32 v2)
 {
     u32 v3 = 0;
     u64 v4 = 0, v5 = 0, v6 = 0, v7 = 0;
@@ -926,13 +853,13 @@ static u64 w_mscp_figure(u64 v0, u32 v1, u32 v2)
     f59();
     TRAP();
 L1:;
-    t1 = f68(v0, v1, v2);
+    t1 = f67(v0, v1, v2);
     v0 = t1;
     f61();
     return v0;
 }
 
-static void f69(u64 v0, u64 v1, u64 v2, u64 v3, u64 v4)
+static void f68(u64 v0, u64 v1, u64 v2, u64 v3, u64 v4)
 {
     u64 v5 = 0, v6 = 0, t0;
     v5 = v3 >> 32;
@@ -948,7 +875,7 @@ static void f69(u64 v0, u64 v1, u64 v2, u64 v3, u64 v4)
     return;
 }
 
-static void f70(u64 v0, u64 v1, u32 v2)
+static void f69(u64 v0, u64 v1, u32 v2)
 {
     u32 v3 = 0, v4 = 0;
     u64 v5 = 0;
@@ -1013,7 +940,7 @@ L2:;
     TRAP();
 }
 
-static void f71(u64 v0, u64 v1, u64 v2)
+static void f70(u64 v0, u64 v1, u64 v2)
 {
     u64 v3 = 0, v4 = 0;
     v1 = rotl64(0xFFFFFFFFFFFFFFFEull, (v1 & 63));
@@ -1079,7 +1006,7 @@ L2:;
     TRAP();
 }
 
-static void f72(u64 v0, u64 v1)
+static void f71(u64 v0, u64 v1)
 {
     u32 v6 = 0, v7 = 0, v8 = 0;
     u64 v3 = 0, v4 = 0, v5 = 0, v9 = 0, v10 = 0, v11 = 0, v12 = 0, v13 = 0, v14 = 0, t0, t1;
@@ -1129,7 +1056,7 @@ L2:;
     s8(v11, v3);
     s1(v4 + v3, 0u);
     v3 = v0 + 3144ull;
-    f71(v3, v10, (u64)l1((v0 + (v10 << 3)) + 2048ull));
+    f70(v3, v10, (u64)l1((v0 + (v10 << 3)) + 2048ull));
     if (v6 <= v7) goto L7;
     v1 = l8(v3);
     v3 = ctz64(v1);
@@ -1146,7 +1073,7 @@ L7:;
     TRAP();
 }
 
-static void f73(u64 v0, u64 v1, u64 v2, u32 v3)
+static void f72(u64 v0, u64 v1, u64 v2, u32 v3)
 {
     ROOM(frame, 16);
     u64 v4 = 0, v5 = 0, v6 = 0, v7 = 0, v8 = 0, v9 = 0, v10 = 0, v11 = 0;
@@ -1206,7 +1133,7 @@ L2:;
     TRAP();
 }
 
-static void f74(u64 v0, u64 v1, u32 v2, u32 v3, u32 v4, u32 v5)
+static void f73(u64 v0, u64 v1, u32 v2, u32 v3, u32 v4, u32 v5)
 {
     ROOM(frame, 112);
     u32 v7 = 0, v10 = 0, v14 = 0, v15 = 0, v17 = 0, v18 = 0, v19 = 0, v20 = 0, v21 = 0, v22 = 0, v23 = 0, v24 = 0, v25
@@ -1296,7 +1223,7 @@ L7:;
     if ((v2 & 1u) == 0) goto L11;
     v13 = l8(v31 + 32ull) + 1ull;
     v23 = v26 + v14;
-    f69(v6, v13, (u64)(u32)(v13 == 0), (u64)v23, 0ull);
+    f68(v6, v13, (u64)(u32)(v13 == 0), (u64)v23, 0ull);
     v13 = l8(v6 + 8);
     v2 = (u32)v13;
     if (v26) goto L13;
@@ -1406,7 +1333,7 @@ L5:;
     v14 = 0u;
     goto L3;
 L4:;
-    f70(v6 + 80ull, v6 + 60ull, v2);
+    f69(v6 + 80ull, v6 + 60ull, v2);
     v19 = l4(v6 + 104);
     v18 = l4(v6 + 100);
     v17 = l4(v6 + 96);
@@ -1533,10 +1460,10 @@ L43:;
     s8(v30, v12);
     v13 = v29;
     if (v24) goto L45;
-    f72(v11, v29);
+    f71(v11, v29);
     v13 = 0ull;
 L45:;
-    f73(v1 + 5720ull, v29, v32, v7);
+    f72(v1 + 5720ull, v29, v32, v7);
     s8(v8 + 8, 0ull);
     s8(v8, 0ull);
     s8(v1 + 5704ull, v13);
@@ -1627,7 +1554,7 @@ L1:;
     return;
 }
 
-static u32 f75(u64 v0, u32 v1, u32 v2, u32 v3, u64 v4)
+static u32 f74(u64 v0, u32 v1, u32 v2, u32 v3, u64 v4)
 {
     ROOM(frame, 96);
     u32 v6 = 0, v7 = 0;
@@ -1656,7 +1583,7 @@ L4:;
 L6:;
     v7 = 0u;
     v1 = v1 > 4u;
-    f74(v5, l8(v0), v6, v2, v1, v1 ? v3 : 0u);
+    f73(v5, l8(v0), v6, v2, v1, v1 ? v3 : 0u);
     if (l1(v5) == 0) goto L7;
     v7 = 0xFFFFFFFAu;
     goto L2;
@@ -1687,13 +1614,13 @@ static u32 w_mscp_finish(u64 v0, u32 v1, u32 v2, u32 v3, u64 v4)
     f59();
     TRAP();
 L1:;
-    t1 = f75(v0, v1, v2, v3, v4);
+    t1 = f74(v0, v1, v2, v3, v4);
     v3 = t1;
     f61();
     return v3;
 }
 
-static void f76(void)
+static void f75(void)
 {
     goto L1;
 L1:;
@@ -1708,12 +1635,12 @@ static u64 w_mscp_host_align(void)
     f59();
     TRAP();
 L1:;
-    f76();
+    f75();
     f61();
     return 8ull;
 }
 
-static u64 f77(u64 v0)
+static u64 f76(u64 v0)
 {
     u64 v1 = 0;
     v1 = 0xFFFFFFFFFFFFFFF6ull;
@@ -1734,13 +1661,13 @@ static u64 w_mscp_host_balance(u64 v0)
     f59();
     TRAP();
 L1:;
-    t1 = f77(v0);
+    t1 = f76(v0);
     v0 = t1;
     f61();
     return v0;
 }
 
-static u32 f78(u64 v0, u32 v1)
+static u32 f77(u64 v0, u32 v1)
 {
     u64 v2 = 0;
     v2 = l8(v0 + 24ull);
@@ -1779,13 +1706,13 @@ static u32 w_mscp_host_init_at(u64 v0, u32 v1)
     f59();
     TRAP();
 L1:;
-    t1 = f78(v0, v1);
+    t1 = f77(v0, v1);
     v1 = t1;
     f61();
     return v1;
 }
 
-static void f79(u64 v0, u64 v1, u64 v2)
+static void f78(u64 v0, u64 v1, u64 v2)
 {
     ROOM(frame, 32);
     u32 v4 = 0, v6 = 0, v7 = 0, v8 = 0, v9 = 0, v10 = 0, v12 = 0, v13 = 0, v14 = 0, v15 = 0;
@@ -1978,7 +1905,7 @@ L1:;
     return;
 }
 
-static u32 f80(u64 v0, u32 v1, u64 v2)
+static u32 f79(u64 v0, u32 v1, u64 v2)
 {
     ROOM(frame, 144);
     u32 v5 = 0, v9 = 0;
@@ -2014,7 +1941,7 @@ L6:;
     v9 = l4(v8);
     s4(v4 + 136, v9);
     s2(v4 + 128, l2(v8 + 4ull));
-    f79(v4 + 56ull, v6, v4 + 124ull);
+    f78(v4 + 56ull, v6, v4 + 124ull);
     if (l1(v4 + 56)) goto L4;
     s2(v6 + 1053ull, 0u);
     s1(v6 + 1052ull, 1u);
@@ -2055,13 +1982,13 @@ static u32 w_mscp_host_poll(u64 v0, u32 v1, u64 v2)
     f59();
     TRAP();
 L1:;
-    t1 = f80(v0, v1, v2);
+    t1 = f79(v0, v1, v2);
     v1 = t1;
     f61();
     return v1;
 }
 
-static void f81(u64 v0, u64 v1, u64 v2)
+static void f80(u64 v0, u64 v1, u64 v2)
 {
     u32 v3 = 0, v4 = 0, v6 = 0, v7 = 0, v8 = 0, v9 = 0, v10 = 0, v11 = 0, v12 = 0, v13 = 0, v14 = 0, v15 = 0, v16 = 0;
     u64 v5 = 0;
@@ -2246,7 +2173,7 @@ L1:;
     return;
 }
 
-static u32 f82(u64 v0, u64 v1, u64 v2, u64 v3)
+static u32 f81(u64 v0, u64 v1, u64 v2, u64 v3)
 {
     ROOM(frame, 64);
     u32 v6 = 0, v8 = 0, v9 = 0, v10 = 0, v11 = 0, v12 = 0, v15 = 0, v16 = 0, v17 = 0, v19 = 0, v24 = 0, v25 = 0, v26 =
@@ -2264,7 +2191,7 @@ static u32 f82(u64 v0, u64 v1, u64 v2, u64 v3)
     s8(v5 + 24, 0ull);
     s8(v5 + 16, 0ull);
     s8(v5 + 8, 0ull);
-    f81(v5 + 8ull, v1 + ((v1 == 0) ? 4096ull : 0ull), v2);
+    f80(v5 + 8ull, v1 + ((v1 == 0) ? 4096ull : 0ull), v2);
     if (l1(v5 + 8)) goto L5;
     v2 = l8(v5 + 36);
     v8 = l1(v5 + 32);
@@ -2513,13 +2440,13 @@ static u32 w_mscp_host_receive_at(u64 v0, u64 v1, u64 v2, u64 v3)
     f59();
     TRAP();
 L1:;
-    t1 = f82(v0, v1, v2, v3);
+    t1 = f81(v0, v1, v2, v3);
     v4 = t1;
     f61();
     return v4;
 }
 
-static void f83(u64 v0, u32 v1, u64 v2, u64 v3, u64 v4)
+static void f82(u64 v0, u32 v1, u64 v2, u64 v3, u64 v4)
 {
     u32 v10 = 0, v11 = 0, v12 = 0, v13 = 0;
     u64 v5 = 0, v6 = 0, v7 = 0, v8 = 0, v9 = 0;
@@ -2654,7 +2581,7 @@ L1:;
     return;
 }
 
-APART void f84(u64 v0, u64 v1)
+APART void f83(u64 v0, u64 v1)
 {
     ROOM(frame, 816);
     u32 v7 = 0, v8 = 0, v9 = 0;
@@ -2730,7 +2657,7 @@ L4:;
     TRAP();
 }
 
-static u32 f85(u64 v0, u64 v1, u64 v2)
+static u32 f84(u64 v0, u64 v1, u64 v2)
 {
     u32 v4 = 0, t0, t1, t2;
     u64 v3 = 0, v5 = 0, v6 = 0, v7 = 0, v8 = 0, v9 = 0, v10 = 0;
@@ -2870,7 +2797,7 @@ L1:;
     return (v4 ^ 0xFFFFFFFFu) & 1u;
 }
 
-APART u32 f86(u64 v0, u64 v1, u64 v2)
+APART u32 f85(u64 v0, u64 v1, u64 v2)
 {
     ROOM(frame, 4784);
     u32 v5 = 0, v7 = 0, v8 = 0, v13 = 0, v14 = 0, v15 = 0, t0;
@@ -2966,7 +2893,7 @@ L16:;
     s4(v3 + 3728, v5);
     s2(v3 + 3741, l2(v3 + 4780));
     s1(v3 + 3743, l1(v3 + 4782));
-    f83(v3, v8, v3 + 3744ull, v6, v3 + 3728ull);
+    f82(v3, v8, v3 + 3744ull, v6, v3 + 3728ull);
     if (l1(v3) == 1u) goto L8;
     s4(v3 + 2672, v8);
     copy(v3 + 2680ull, v3 + 3744ull, 1032ull);
@@ -2976,14 +2903,14 @@ L16:;
     s4(v3 + 3712, v5);
     s2(v3 + 3725, l2(v3 + 4780));
     s1(v3 + 3727, l1(v3 + 4782));
-    f84(v3 + 1864ull, v3 + 2672ull);
+    f83(v3 + 1864ull, v3 + 2672ull);
     copy(v3 + 1056ull, v3 + 1864ull, 808ull);
     if (l8(v3 + 1856) != v2) goto L19;
     if (l1(v3 + 1056) != (v7 & 255u)) goto L19;
     if ((l1(v3 + 1057) & 255u) != ((v7 >> 8) & 255u)) goto L19;
     if ((l1(v3 + 1058) & 255u) != ((v7 >> 16) & 255u)) goto L19;
     if ((l1(v3 + 1059) & 255u) != (v7 >> 24)) goto L19;
-    t0 = f85(v3 + 1056ull, v2, v1);
+    t0 = f84(v3 + 1056ull, v2, v1);
     if (t0) goto L18;
 L19:;
     v5 = 0xFFFFFFCAu;
@@ -3024,13 +2951,13 @@ static u32 w_mscp_host_restore_at(u64 v0, u64 v1, u64 v2)
     f59();
     TRAP();
 L1:;
-    t1 = f86(v0, v1, v2);
+    t1 = f85(v0, v1, v2);
     v3 = t1;
     f61();
     return v3;
 }
 
-APART u32 f87(u64 v0, u64 v1, u64 v2, u64 v3)
+APART u32 f86(u64 v0, u64 v1, u64 v2, u64 v3)
 {
     ROOM(frame, 1616);
     u32 v5 = 0;
@@ -3041,7 +2968,7 @@ APART u32 f87(u64 v0, u64 v1, u64 v2, u64 v3)
     v5 = 0xFFFFFFF6u;
     goto L2;
 L3:;
-    f84(v4, l8(v0));
+    f83(v4, l8(v0));
     copy(v4 + 808ull, v4, 808ull);
     v0 = l8(v4 + 1608);
     s8(v3, v0);
@@ -3066,13 +2993,13 @@ static u32 w_mscp_host_save_at(u64 v0, u64 v1, u64 v2, u64 v3)
     f59();
     TRAP();
 L1:;
-    t1 = f87(v0, v1, v2, v3);
+    t1 = f86(v0, v1, v2, v3);
     v4 = t1;
     f61();
     return v4;
 }
 
-static void f88(void)
+static void f87(void)
 {
     goto L1;
 L1:;
@@ -3087,12 +3014,12 @@ static u64 w_mscp_host_save_size(void)
     f59();
     TRAP();
 L1:;
-    f88();
+    f87();
     f61();
     return 794ull;
 }
 
-static void f89(void)
+static void f88(void)
 {
     goto L1;
 L1:;
@@ -3107,12 +3034,12 @@ static u64 w_mscp_host_size(void)
     f59();
     TRAP();
 L1:;
-    f89();
+    f88();
     f61();
     return 1056ull;
 }
 
-static void f90(u64 v0, u64 v1, u64 v2)
+static void f89(u64 v0, u64 v1, u64 v2)
 {
     u32 v3 = 0, v4 = 0, v6 = 0, v7 = 0, v8 = 0, v9 = 0, v10 = 0, v11 = 0, v12 = 0;
     u64 v5 = 0;
@@ -3260,7 +3187,7 @@ L1:;
     TRAP();
 }
 
-static u32 f91(u64 v0, u64 v1, u64 v2)
+static u32 f90(u64 v0, u64 v1, u64 v2)
 {
     ROOM(frame, 112);
     u32 v4 = 0;
@@ -3281,7 +3208,7 @@ L4:;
     s8(v3 + 104, 0ull);
     s8(v3 + 96, 0ull);
     s8(v3 + 88, 0ull);
-    f90(v3 + 88ull, v1 + ((v1 == 0) ? 4096ull : 0ull), v2);
+    f89(v3 + 88ull, v1 + ((v1 == 0) ? 4096ull : 0ull), v2);
     s8(v3 + 68, l8(v3 + 92));
     s8(v3 + 76, l8(v3 + 100));
     s4(v3 + 84, l4(v3 + 108));
@@ -3290,7 +3217,7 @@ L4:;
     s4(v3 + 104, l4(v1 + 16));
     s8(v3 + 96, l8(v1 + 8));
     s8(v3 + 88, l8(v1));
-    f79(v3, l8(v0), v3 + 88ull);
+    f78(v3, l8(v0), v3 + 88ull);
     if (l1(v3)) goto L5;
     v4 = 1u;
     goto L1;
@@ -3312,13 +3239,13 @@ static u32 w_mscp_host_submit_at(u64 v0, u64 v1, u64 v2)
     f59();
     TRAP();
 L1:;
-    t1 = f91(v0, v1, v2);
+    t1 = f90(v0, v1, v2);
     v3 = t1;
     f61();
     return v3;
 }
 
-APART void f92(u64 v0, u64 v1, u64 v2)
+APART void f91(u64 v0, u64 v1, u64 v2)
 {
     ROOM(frame, 1104);
     u32 v24 = 0, v25 = 0, v26 = 0, v31 = 0, v32 = 0, v34 = 0, v38 = 0, v42 = 0, v46 = 0, v50 = 0, v54 = 0, v58 = 0, v62
@@ -3825,7 +3752,7 @@ L1:;
     return;
 }
 
-APART void f93(u64 v0, u64 v1, u64 v2, u64 v3)
+APART void f92(u64 v0, u64 v1, u64 v2, u64 v3)
 {
     ROOM(frame, 3312);
     u32 v5 = 0, v7 = 0, v8 = 0, v9 = 0, v10 = 0, v11 = 0, v12 = 0, v13 = 0, v17 = 0, v18 = 0, v19 = 0, v20 = 0;
@@ -4003,7 +3930,7 @@ L14:;
     v14 = l8(v2);
     v15 = div64(0xFFFFFFFFFFFFFFFFull, ((((u64)v9) & 65535ull) * ((u64)v8)) * (((u64)v10) & 65535ull));
     v6 = v15 + 1ull;
-    f69(v4, v6, (u64)(u32)(v6 == 0), (u64)(v7 + 0xFFFFFFFFu), 0ull);
+    f68(v4, v6, (u64)(u32)(v6 == 0), (u64)(v7 + 0xFFFFFFFFu), 0ull);
     v16 = l8(v4 + 3304);
     v6 = (v4 + 2536ull) + (v16 * 48ull);
     s8(v6 + 16, v14);
@@ -4024,7 +3951,7 @@ L14:;
     v3 = v3 + 0xFFFFFFFFFFFFFFFFull;
     if (v3 != 0ull) goto L11;
 L9:;
-    f92(v4 + 1592ull, v4 + 2536ull, v6);
+    f91(v4 + 1592ull, v4 + 2536ull, v6);
     if (l1(v4 + 1592) == 0) goto L6;
     v5 = l1(v4 + 1593);
 L8:;
@@ -4123,7 +4050,7 @@ L1:;
     return;
 }
 
-APART void f94(u64 v0)
+APART void f93(u64 v0)
 {
     ROOM(frame, 384);
     u64 v1 = 0;
@@ -4429,7 +4356,7 @@ APART void f94(u64 v0)
     TRAP();
 }
 
-APART u32 f95(u64 v0, u64 v1, u64 v2, u64 v3, u32 v4)
+APART u32 f94(u64 v0, u64 v1, u64 v2, u64 v3, u32 v4)
 {
     ROOM(frame, 18112);
     u32 v7 = 0, v8 = 0, v9 = 0, v10 = 0;
@@ -4463,12 +4390,12 @@ L9:;
 L11:;
     v7 = 1u;
 L10:;
-    f93(v6 + 2112ull, v1, v2 + ((v2 == 0) ? 4096ull : 0ull), v3);
+    f92(v6 + 2112ull, v1, v2 + ((v2 == 0) ? 4096ull : 0ull), v3);
     if (l1(v6 + 2112)) goto L3;
     copy(v6 + 5008ull, (v6 + 2112ull) + 8ull, 808ull);
     fill(v6 + 3713ull, 0u, 1295ull);
     fill(v6 + 2928ull, 0u, 784ull);
-    f92(v6 + 2928ull, v6 + 5040ull, l8(v6 + 5808));
+    f91(v6 + 2928ull, v6 + 5040ull, l8(v6 + 5808));
     if (l1(v6 + 2928)) goto L4;
     v8 = l4(v6 + 5020);
     v9 = l4(v6 + 5016);
@@ -4481,7 +4408,7 @@ L10:;
     fill(v6 + 9176ull, 0u, 1032ull);
     v10 = v10 - (u32)(v10 != 0u);
     v4 = v4 - (u32)(v4 != 0u);
-    f94(v6 + 9176ull);
+    f93(v6 + 9176ull);
     if (v5 == 0) goto L12;
     v11 = l8(v6 + 10200);
     if (v5 != 1ull) goto L14;
@@ -4657,13 +4584,13 @@ static u32 w_mscp_init_at(u64 v0, u64 v1, u64 v2, u64 v3, u32 v4)
     f59();
     TRAP();
 L1:;
-    t1 = f95(v0, v1, v2, v3, v4);
+    t1 = f94(v0, v1, v2, v3, v4);
     v4 = t1;
     f61();
     return v4;
 }
 
-static u32 f96(u64 v0, u32 v1)
+static u32 f95(u64 v0, u32 v1)
 {
     u64 v2 = 0, v3 = 0, v4 = 0;
     if (l8(v0 + 24ull) == 0x4D5343504D414445ull) goto L2;
@@ -4693,13 +4620,13 @@ static u32 w_mscp_is_online(u64 v0, u32 v1)
     f59();
     TRAP();
 L1:;
-    t1 = f96(v0, v1);
+    t1 = f95(v0, v1);
     v1 = t1;
     f61();
     return v1;
 }
 
-APART void f97(u64 v0, u64 v1)
+APART void f96(u64 v0, u64 v1)
 {
     ROOM(frame, 784);
     u64 v2 = 0, v3 = 0, v4 = 0, v5 = 0, v6 = 0, v7 = 0, v8 = 0, v9 = 0, v10 = 0;
@@ -4734,7 +4661,7 @@ L2:;
     TRAP();
 }
 
-APART u32 f98(u64 v0, u64 v1, u64 v2)
+APART u32 f97(u64 v0, u64 v1, u64 v2)
 {
     ROOM(frame, 784);
     u32 v5 = 0;
@@ -4745,7 +4672,7 @@ APART u32 f98(u64 v0, u64 v1, u64 v2)
     if (l8(v0 + 24ull) != 0x4D5343504D414445ull) goto L2;
     v0 = l8(v0);
     fill(v4 + 8ull, 0u, 776ull);
-    f97(v4 + 8ull, v0 + 816ull);
+    f96(v4 + 8ull, v0 + 816ull);
     v6 = l8(v4 + 776);
     v0 = (v2 < v6) ? v2 : v6;
     if (v0 == 0) goto L3;
@@ -4794,13 +4721,13 @@ static u32 w_mscp_look_at(u64 v0, u64 v1, u64 v2)
     f59();
     TRAP();
 L1:;
-    t1 = f98(v0, v1, v2);
+    t1 = f97(v0, v1, v2);
     v3 = t1;
     f61();
     return v3;
 }
 
-static void f99(void)
+static void f98(void)
 {
     goto L1;
 L1:;
@@ -4815,12 +4742,12 @@ static u64 w_mscp_port_align(void)
     f59();
     TRAP();
 L1:;
-    f99();
+    f98();
     f61();
     return 8ull;
 }
 
-static u32 f100(u64 v0, u64 v1)
+static u32 f99(u64 v0, u64 v1)
 {
     u32 v4 = 0, v5 = 0, v7 = 0, v8 = 0, v9 = 0, v10 = 0, v11 = 0, v12 = 0, v13 = 0, v14 = 0;
     u64 v2 = 0, v3 = 0, v6 = 0;
@@ -4935,13 +4862,13 @@ static u32 w_mscp_port_begun(u64 v0, u64 v1)
     f59();
     TRAP();
 L1:;
-    t1 = f100(v0, v1);
+    t1 = f99(v0, v1);
     v2 = t1;
     f61();
     return v2;
 }
 
-APART u32 f101(u64 v0, u64 v1, u64 v2, u64 v3, u32 v4, u64 v5, u32 v6)
+APART u32 f100(u64 v0, u64 v1, u64 v2, u64 v3, u32 v4, u64 v5, u32 v6)
 {
     ROOM(frame, 19408);
     u32 v8 = 0, v10 = 0, v11 = 0, v12 = 0, v13 = 0, v14 = 0, v15 = 0;
@@ -4974,7 +4901,7 @@ L10:;
 L12:;
     v8 = 1u;
 L11:;
-    f93(v7 + 3408ull, v1, v2 + ((v2 == 0) ? 4096ull : 0ull), v3);
+    f92(v7 + 3408ull, v1, v2 + ((v2 == 0) ? 4096ull : 0ull), v3);
     if (l1(v7 + 3408)) goto L3;
     v4 = l1(v5);
     switch (v4) {
@@ -4992,7 +4919,7 @@ L14:;
     copy(v7 + 6304ull, v7 + 3416ull, 808ull);
     fill(v7 + 5009ull, 0u, 1295ull);
     fill(v7 + 4224ull, 0u, 784ull);
-    f92(v7 + 4224ull, v7 + 6336ull, l8(v7 + 7104));
+    f91(v7 + 4224ull, v7 + 6336ull, l8(v7 + 7104));
     if (l1(v7 + 4224)) goto L4;
     v11 = ((v11 << 8) | v4) | (v10 << 16);
     v12 = v12 << 24;
@@ -5007,7 +4934,7 @@ L14:;
     fill(v7 + 10472ull, 0u, 1032ull);
     v15 = v4 - (u32)(v4 != 0u);
     v10 = v10 - (u32)(v10 != 0u);
-    f94(v7 + 10472ull);
+    f93(v7 + 10472ull);
     if (v9 == 0) goto L16;
     v5 = l8(v7 + 11496);
     if (v9 != 1ull) goto L18;
@@ -5207,13 +5134,13 @@ static u32 w_mscp_port_init_at(u64 v0, u64 v1, u64 v2, u64 v3, u32 v4, u64 v5, u
     f59();
     TRAP();
 L1:;
-    t1 = f101(v0, v1, v2, v3, v4, v5, v6);
+    t1 = f100(v0, v1, v2, v3, v4, v5, v6);
     v6 = t1;
     f61();
     return v6;
 }
 
-static u32 f102(u64 v0)
+static u32 f101(u64 v0)
 {
     u32 v1 = 0;
     v1 = 0xFFFFFFF6u;
@@ -5238,13 +5165,13 @@ static u32 w_mscp_port_look_again(u64 v0)
     f59();
     TRAP();
 L1:;
-    t1 = f102(v0);
+    t1 = f101(v0);
     v1 = t1;
     f61();
     return v1;
 }
 
-APART u32 f103(u64 v0, u64 v1, u64 v2)
+APART u32 f102(u64 v0, u64 v1, u64 v2)
 {
     ROOM(frame, 784);
     u32 v5 = 0;
@@ -5255,7 +5182,7 @@ APART u32 f103(u64 v0, u64 v1, u64 v2)
     if (l8(v0 + 24ull) != 0x504F52544D414445ull) goto L2;
     v0 = l8(v0);
     fill(v4 + 8ull, 0u, 776ull);
-    f97(v4 + 8ull, v0 + 824ull);
+    f96(v4 + 8ull, v0 + 824ull);
     v6 = l8(v4 + 776);
     v0 = (v2 < v6) ? v2 : v6;
     if (v0 == 0) goto L3;
@@ -5304,13 +5231,13 @@ static u32 w_mscp_port_look_at(u64 v0, u64 v1, u64 v2)
     f59();
     TRAP();
 L1:;
-    t1 = f103(v0, v1, v2);
+    t1 = f102(v0, v1, v2);
     v3 = t1;
     f61();
     return v3;
 }
 
-static void f104(u64 v0, u64 v1)
+static void f103(u64 v0, u64 v1)
 {
     ROOM(frame, 96);
     u64 v2 = 0, v3 = 0, v4 = 0, v5 = 0, v6 = 0, v7 = 0, v8 = 0;
@@ -5690,7 +5617,7 @@ L2:;
     TRAP();
 }
 
-static void f105(u64 v0, u64 v1, u64 v2, u32 v3, u32 v4)
+static void f104(u64 v0, u64 v1, u64 v2, u32 v3, u32 v4)
 {
     u32 v5 = 0, v7 = 0, v8 = 0, v9 = 0, v11 = 0, v12 = 0, v13 = 0;
     u64 v6 = 0, v10 = 0, v14 = 0;
@@ -5802,12 +5729,12 @@ L6:;
     return;
 }
 
-static u32 f106(u64 v0, u64 v1, u32 v2)
+static u32 f105(u64 v0, u64 v1, u32 v2)
 {
     ROOM(frame, 224);
     u32 v4 = 0, v6 = 0, v7 = 0, v8 = 0, v9 = 0, v10 = 0, v11 = 0, v13 = 0, v14 = 0, v15 = 0, v16 = 0, v17 = 0, v18 = 0,
         v19 = 0, v22 = 0, v23 = 0, v24 = 0, v25 = 0, v26 = 0;
-    u64 v3 = 0, v5 = 0, v12 = 0, v20 = 0, v21 = 0, v27 = 0, v28 = 0;
+    u64 v3 = 0, v5 = 0, v12 = 0, v20 = 0, v21 = 0, v27 = 0, v28 = 0, t0;
     v3 = A(frame);
     v4 = 0xFFFFFFF6u;
     if (l8(v0 + 24ull) != 0x504F52544D414445ull) goto L1;
@@ -5836,8 +5763,8 @@ L7:;
     v9 = 0u;
     v7 = 0u;
     if (v6 != 8u) goto L8;
-    if (l1(v0 + 14288ull) == 1u) goto L13;
-    if (l8(v0 + 11136ull) == 0) goto L18;
+    if (l1(v0 + 14288ull) == 1u) goto L12;
+    if (l8(v0 + 11136ull) == 0) goto L17;
     v10 = l4(v0 + 8104ull);
     v11 = l4(v0 + 8096ull);
     v12 = l8(v0 + 8088ull);
@@ -5849,11 +5776,11 @@ L7:;
     v15 = l4(v0 + 8064ull);
     v9 = l1(v0 + 8070ull);
     v16 = l4(v0 + 8100ull);
-    f104(v3 + 152ull, v0 + 8056ull);
+    f103(v3 + 152ull, v0 + 8056ull);
     v17 = 0u;
     s1(v0 + 14361ull, 0u);
     v18 = v16 >> 16;
-    if (v9 != 132u) goto L19;
+    if (v9 != 132u) goto L18;
     v5 = 12ull;
     v19 = 1u;
     v20 = 0ull;
@@ -5866,15 +5793,15 @@ L7:;
     v25 = 1u;
     v26 = 0u;
     switch (v4) {
-    case 1: goto L30;
-    case 2: goto L29;
-    case 3: goto L28;
-    case 4: goto L27;
-    case 5: goto L26;
-    case 6: goto L25;
-    default: goto L20;
+    case 1: goto L29;
+    case 2: goto L28;
+    case 3: goto L27;
+    case 4: goto L26;
+    case 5: goto L25;
+    case 6: goto L24;
+    default: goto L19;
     }
-L30:;
+L29:;
     v5 = 16ull;
     v17 = 0u;
     v4 = v13;
@@ -5885,15 +5812,15 @@ L30:;
     v23 = 0u;
     v24 = 0u;
     v25 = 0u;
-    goto L21;
-L29:;
+    goto L20;
+L28:;
     v21 = v12 & 4294901760ull;
     v17 = (u32)v12;
     v5 = 20ull;
     v8 = 0u;
     v4 = v13;
-    goto L24;
-L28:;
+    goto L23;
+L27:;
     v5 = 48ull;
     v4 = 0u;
     v17 = 0u;
@@ -5903,8 +5830,8 @@ L28:;
     v9 = v16;
     v22 = v18;
     v23 = v10;
-    goto L23;
-L27:;
+    goto L22;
+L26:;
     v5 = 28ull;
     v26 = 1u;
     v4 = 0u;
@@ -5918,8 +5845,8 @@ L27:;
     v24 = 0u;
     v25 = 0u;
     v19 = 0u;
-    goto L20;
-L26:;
+    goto L19;
+L25:;
     v24 = v10 & 0xFFFF0000u;
     v5 = 44ull;
     v4 = 0u;
@@ -5930,25 +5857,25 @@ L26:;
     v9 = v16;
     v22 = v18;
     v23 = v10;
-    goto L22;
-L25:;
+    goto L21;
+L24:;
     v5 = 32ull;
     v17 = 0u;
     v4 = v13;
     v21 = 0ull;
     v8 = 0u;
-L24:;
+L23:;
     v9 = 0u;
     v22 = 0u;
     v23 = 0u;
-L23:;
-    v24 = 0u;
 L22:;
+    v24 = 0u;
+L21:;
     v25 = 0u;
     v19 = 0u;
-L21:;
-    v26 = 0u;
 L20:;
+    v26 = 0u;
+L19:;
     v16 = v9 & 65535u;
     v10 = v22 << 16;
     v9 = v4 >> 24;
@@ -5956,36 +5883,36 @@ L20:;
     v11 = v23 & 65535u;
     v22 = (u32)(v21 >> 24);
     v23 = (u32)(v21 >> 16);
-    if (v7) goto L31;
-    if (v25) goto L31;
+    if (v7) goto L30;
+    if (v25) goto L30;
     v13 = l2(v0 + 16104ull);
     v9 = (v13 >> 8) | 0xFFFFFF80u;
-    if (v19) goto L31;
+    if (v19) goto L30;
     v5 = v26 ? 32ull : v5;
     v8 = v26 ? 0u : v8;
     v23 = l1(v0 + 2ull);
     v22 = l1(v0 + 3ull);
-L31:;
+L30:;
     v16 = v10 | v16;
     v10 = v24 | v11;
     v21 = (((((((u64)v22) << 56) | ((((u64)v23) & 255ull) << 48)) | ((((u64)v17) & 65535ull) << 32)) | ((((u64)v9) &
         255ull) << 24)) | ((((u64)v13) & 255ull) << 16)) | ((u64)(v4 & 65535u));
     v17 = 0u;
     v4 = 8650752u;
-    goto L14;
-L19:;
+    goto L13;
+L18:;
     v27 = l8(v0 + 808ull);
-    if (v27 == 0) goto L44;
+    if (v27 == 0) goto L43;
     v5 = 40ull;
     v20 = 0ull;
     v21 = v27;
-L45:;
-    if (l2(v0 + v5) == v6) goto L43;
+L44:;
+    if (l2(v0 + v5) == v6) goto L42;
     v20 = v20 + 28ull;
     v5 = v5 + 48ull;
     v21 = v21 + 0xFFFFFFFFFFFFFFFFull;
-    if ((u32)(v21 == 0) == 0) goto L45;
-L44:;
+    if ((u32)(v21 == 0) == 0) goto L44;
+L43:;
     v5 = 12ull;
     v20 = 0ull;
     v17 = 0u;
@@ -5997,90 +5924,90 @@ L44:;
     v25 = v4;
     v26 = v4;
     switch (v4) {
-    case 1: goto L42;
-    case 2: goto L41;
-    case 3: goto L40;
-    case 4: goto L39;
-    case 5: goto L38;
-    case 6: goto L37;
-    default: goto L32;
+    case 1: goto L41;
+    case 2: goto L40;
+    case 3: goto L39;
+    case 4: goto L38;
+    case 5: goto L37;
+    case 6: goto L36;
+    default: goto L31;
     }
-L43:;
+L42:;
     v28 = v0 + v20;
     v22 = 35u;
     switch (v7) {
-    case 0: goto L49;
-    case 1: case 2: case 3: goto L47;
-    case 4: goto L50;
-    default: goto L51;
+    case 0: goto L48;
+    case 1: case 2: case 3: goto L46;
+    case 4: goto L49;
+    default: goto L50;
+    }
+L50:;
+    switch (v7 + 0xFFFF0002u) {
+    case 0: goto L51;
+    case 1: goto L45;
+    default: goto L47;
     }
 L51:;
-    switch (v7 + 0xFFFF0002u) {
-    case 0: goto L52;
-    case 1: goto L46;
-    default: goto L48;
-    }
-L52:;
     v22 = 4u;
-    goto L46;
-L50:;
-    if (l1(v28 + 15656ull)) goto L47;
-    goto L46;
+    goto L45;
 L49:;
-    if (v9 != 131u) goto L47;
-    if (l1(v28 + 15656ull) != 1u) goto L46;
-    v22 = 4u;
-    if (l1(v28 + 15672ull) != 1u) goto L46;
-    if (l4(v28 + 15676ull) == l4(v28 + 15660ull)) goto L47;
-    goto L46;
+    if (l1(v28 + 15656ull)) goto L46;
+    goto L45;
 L48:;
-    if (v7 != 256u) goto L47;
-    if (v9 != 137u) goto L47;
-    v22 = 0u;
-    if (l1(v28 + 15681ull)) goto L46;
+    if (v9 != 131u) goto L46;
+    if (l1(v28 + 15656ull) != 1u) goto L45;
+    v22 = 4u;
+    if (l1(v28 + 15672ull) != 1u) goto L45;
+    if (l4(v28 + 15676ull) == l4(v28 + 15660ull)) goto L46;
+    goto L45;
 L47:;
-    v22 = v7;
+    if (v7 != 256u) goto L46;
+    if (v9 != 137u) goto L46;
+    v22 = 0u;
+    if (l1(v28 + 15681ull)) goto L45;
 L46:;
+    v22 = v7;
+L45:;
     v20 = v27 + 1ull;
     v5 = v0;
-L54:;
+L53:;
     v20 = v20 + 0xFFFFFFFFFFFFFFFFull;
-    if (v20 == 0) goto L53;
+    if (v20 == 0) goto L52;
     v21 = v5 + 40ull;
     v27 = v5 + 48ull;
     v5 = v27;
-    if (l2(v21) != v6) goto L54;
-    if ((1u << (v4 & 31)) & 87u) goto L56;
-    if (v4 == 3u) goto L57;
-    if (v22 != 35u) goto L59;
+    if (l2(v21) != v6) goto L53;
+    if ((1u << (v4 & 31)) & 87u) goto L55;
+    if (v4 == 3u) goto L56;
+    if (v22 != 35u) goto L58;
     v10 = l4(v27 + 20ull);
     v7 = v10 & 0xFFFF0000u;
     v11 = l4(v27 + 16ull);
     v12 = l8(v27 + 8ull);
     v16 = l4(v27);
-    goto L58;
-L59:;
-    if (v22 & 31u) goto L56;
-    if (l1(v28 + 15656ull) != 1u) goto L56;
+    goto L57;
+L58:;
+    if (v22 & 31u) goto L55;
+    if (l1(v28 + 15656ull) != 1u) goto L55;
     v7 = v10 & 0xFFFF0000u;
     v16 = l4(v28 + 15664ull);
     v11 = l4(v28 + 15668ull);
-L58:;
+L57:;
     v14 = 0u;
     v13 = 0u;
-    goto L55;
-L57:;
-    if (l1(v28 + 15656ull) != 1u) goto L56;
+    goto L54;
+L56:;
+    if (l1(v28 + 15656ull) != 1u) goto L55;
     v11 = l4(v28 + 15668ull);
     v14 = 0u;
     v13 = 0u;
     v7 = 0u;
-    goto L55;
-L56:;
-    v7 = v10 & 0xFFFF0000u;
+    goto L54;
 L55:;
+    v7 = v10 & 0xFFFF0000u;
+L54:;
     v10 = v7 | (v10 & 65535u);
-L53:;
+L52:;
     v5 = 12ull;
     v19 = 1u;
     v20 = 0ull;
@@ -6094,25 +6021,25 @@ L53:;
     v25 = v4;
     v26 = 1u;
     switch (v4) {
-    case 1: goto L68;
-    case 2: goto L67;
-    case 3: goto L66;
-    case 4: goto L65;
-    case 5: goto L64;
-    case 6: goto L63;
-    default: goto L16;
+    case 1: goto L67;
+    case 2: goto L66;
+    case 3: goto L65;
+    case 4: goto L64;
+    case 5: goto L63;
+    case 6: goto L62;
+    default: goto L15;
     }
-L68:;
-    v5 = 16ull;
-    goto L62;
 L67:;
+    v5 = 16ull;
+    goto L61;
+L66:;
     v21 = v12 & 4294901760ull;
     v7 = (u32)v12;
     v5 = 20ull;
     v8 = 0u;
     v4 = v13;
-    goto L60;
-L66:;
+    goto L59;
+L65:;
     v24 = v16 & 0xFFFF0000u;
     v5 = 48ull;
     v4 = 0u;
@@ -6123,15 +6050,15 @@ L66:;
     v23 = v16;
     v18 = v10;
     v25 = 0u;
-    goto L17;
-L65:;
+    goto L16;
+L64:;
     v5 = 28ull;
     v4 = 0u;
     v7 = v14;
     v21 = 0ull;
     v20 = v12;
-    goto L61;
-L64:;
+    goto L60;
+L63:;
     v25 = v10 & 0xFFFF0000u;
     v24 = v16 & 0xFFFF0000u;
     v5 = 44ull;
@@ -6142,33 +6069,33 @@ L64:;
     v8 = v11;
     v23 = v16;
     v18 = v10;
-    goto L17;
-L63:;
-    v5 = 32ull;
+    goto L16;
 L62:;
+    v5 = 32ull;
+L61:;
     v7 = 0u;
     v4 = v13;
     v21 = 0ull;
-L61:;
-    v8 = 0u;
 L60:;
+    v8 = 0u;
+L59:;
     v23 = 0u;
     v24 = 0u;
     v18 = 0u;
     v25 = 0u;
     v26 = 0u;
-    goto L16;
-L42:;
-    v5 = 16ull;
-    goto L36;
+    goto L15;
 L41:;
+    v5 = 16ull;
+    goto L35;
+L40:;
     v21 = v12 & 4294901760ull;
     v22 = (u32)v12;
     v5 = 20ull;
     v8 = 0u;
     v4 = v13;
-    goto L34;
-L40:;
+    goto L33;
+L39:;
     v5 = 48ull;
     v4 = 0u;
     v22 = 0u;
@@ -6178,15 +6105,15 @@ L40:;
     v23 = v16;
     v24 = v18;
     v25 = v10;
-    goto L33;
-L39:;
+    goto L32;
+L38:;
     v5 = 28ull;
     v4 = 0u;
     v22 = v14;
     v21 = 0ull;
     v20 = v12;
-    goto L35;
-L38:;
+    goto L34;
+L37:;
     v26 = v10 & 0xFFFF0000u;
     v5 = 44ull;
     v4 = 0u;
@@ -6197,94 +6124,94 @@ L38:;
     v23 = v16;
     v24 = v18;
     v25 = v10;
-    goto L32;
-L37:;
-    v5 = 32ull;
+    goto L31;
 L36:;
+    v5 = 32ull;
+L35:;
     v22 = 0u;
     v4 = v13;
     v21 = 0ull;
-L35:;
-    v8 = 0u;
 L34:;
+    v8 = 0u;
+L33:;
     v23 = 0u;
     v24 = 0u;
     v25 = 0u;
-L33:;
-    v26 = 0u;
 L32:;
+    v26 = 0u;
+L31:;
     v16 = (v24 << 16) | (v23 & 65535u);
     v10 = v26 | (v25 & 65535u);
     v21 = ((v21 | (((u64)v22) & 65535ull)) << 32) | ((u64)v4);
-    goto L15;
-L18:;
-    if ((l1(v0 + 16104ull) & 128u) == 0) goto L12;
-    if (l1(v0 + 15680ull) == 0) goto L70;
+    goto L14;
+L17:;
+    if ((l1(v0 + 16104ull) & 128u) == 0) goto L11;
+    if (l1(v0 + 15680ull) == 0) goto L69;
     v5 = 0ull;
-    goto L69;
-L70:;
-    if (l1(v0 + 15708ull) == 0) goto L71;
-    v5 = 1ull;
-    goto L69;
-L71:;
-    if (l1(v0 + 15736ull) == 0) goto L72;
-    v5 = 2ull;
-    goto L69;
-L72:;
-    if (l1(v0 + 15764ull) == 0) goto L73;
-    v5 = 3ull;
-    goto L69;
-L73:;
-    if (l1(v0 + 15792ull) == 0) goto L74;
-    v5 = 4ull;
-    goto L69;
-L74:;
-    if (l1(v0 + 15820ull) == 0) goto L75;
-    v5 = 5ull;
-    goto L69;
-L75:;
-    if (l1(v0 + 15848ull) == 0) goto L76;
-    v5 = 6ull;
-    goto L69;
-L76:;
-    if (l1(v0 + 15876ull) == 0) goto L77;
-    v5 = 7ull;
-    goto L69;
-L77:;
-    if (l1(v0 + 15904ull) == 0) goto L78;
-    v5 = 8ull;
-    goto L69;
-L78:;
-    if (l1(v0 + 15932ull) == 0) goto L79;
-    v5 = 9ull;
-    goto L69;
-L79:;
-    if (l1(v0 + 15960ull) == 0) goto L80;
-    v5 = 10ull;
-    goto L69;
-L80:;
-    if (l1(v0 + 15988ull) == 0) goto L81;
-    v5 = 11ull;
-    goto L69;
-L81:;
-    if (l1(v0 + 16016ull) == 0) goto L82;
-    v5 = 12ull;
-    goto L69;
-L82:;
-    if (l1(v0 + 16044ull) == 0) goto L83;
-    v5 = 13ull;
-    goto L69;
-L83:;
-    if (l1(v0 + 16072ull) == 0) goto L84;
-    v5 = 14ull;
-    goto L69;
-L84:;
-    if (l1(v0 + 16100ull) == 0) goto L12;
-    v5 = 15ull;
+    goto L68;
 L69:;
+    if (l1(v0 + 15708ull) == 0) goto L70;
+    v5 = 1ull;
+    goto L68;
+L70:;
+    if (l1(v0 + 15736ull) == 0) goto L71;
+    v5 = 2ull;
+    goto L68;
+L71:;
+    if (l1(v0 + 15764ull) == 0) goto L72;
+    v5 = 3ull;
+    goto L68;
+L72:;
+    if (l1(v0 + 15792ull) == 0) goto L73;
+    v5 = 4ull;
+    goto L68;
+L73:;
+    if (l1(v0 + 15820ull) == 0) goto L74;
+    v5 = 5ull;
+    goto L68;
+L74:;
+    if (l1(v0 + 15848ull) == 0) goto L75;
+    v5 = 6ull;
+    goto L68;
+L75:;
+    if (l1(v0 + 15876ull) == 0) goto L76;
+    v5 = 7ull;
+    goto L68;
+L76:;
+    if (l1(v0 + 15904ull) == 0) goto L77;
+    v5 = 8ull;
+    goto L68;
+L77:;
+    if (l1(v0 + 15932ull) == 0) goto L78;
+    v5 = 9ull;
+    goto L68;
+L78:;
+    if (l1(v0 + 15960ull) == 0) goto L79;
+    v5 = 10ull;
+    goto L68;
+L79:;
+    if (l1(v0 + 15988ull) == 0) goto L80;
+    v5 = 11ull;
+    goto L68;
+L80:;
+    if (l1(v0 + 16016ull) == 0) goto L81;
+    v5 = 12ull;
+    goto L68;
+L81:;
+    if (l1(v0 + 16044ull) == 0) goto L82;
+    v5 = 13ull;
+    goto L68;
+L82:;
+    if (l1(v0 + 16072ull) == 0) goto L83;
+    v5 = 14ull;
+    goto L68;
+L83:;
+    if (l1(v0 + 16100ull) == 0) goto L11;
+    v5 = 15ull;
+L68:;
     v20 = v5 * 28ull;
     v6 = v5 >= l8(v0 + 808ull);
-    if (v6) goto L86;
+    if (v6) goto L85;
     s8(v3 + 152, 0ull);
     s8(v3 + 160, 0ull);
     s4(v3 + 16, 0u);
@@ -6300,8 +6227,8 @@ L69:;
     v4 = l2(v21 + 40ull);
     v21 = 32ull;
     v27 = 1ull;
-    goto L85;
-L86:;
+    goto L84;
+L85:;
     v8 = 0u;
     s2(v3 + 12, 0u);
     s4(v3 + 8, 0u);
@@ -6314,7 +6241,7 @@ L86:;
     v7 = 0u;
     v5 = 0ull;
     v21 = 0ull;
-L85:;
+L84:;
     s2(v0 + 14300ull, v4);
     s4(v0 + 14296ull, 0u);
     s8(v0 + 14288ull, v27);
@@ -6332,36 +6259,36 @@ L85:;
     s1((v0 + v20) + 15680ull, 0u);
     s4(v0 + 14356ull, l4(v3 + 19));
     s4(v0 + 14353ull, l4(v3 + 16));
-    if (v6) goto L12;
-    goto L13;
-L17:;
+    if (v6) goto L11;
+    goto L12;
+L16:;
     v26 = 0u;
     v19 = 0u;
-L16:;
+L15:;
     v16 = v4 >> 24;
     v10 = v4 >> 16;
     v13 = v4 >> 8;
     v11 = v9 + 0xFFFFFF7Du;
-    if (v11 > 7u) goto L87;
-    if (((1u << (v11 & 31)) & 193u) == 0) goto L87;
+    if (v11 > 7u) goto L86;
+    if (((1u << (v11 & 31)) & 193u) == 0) goto L86;
     v11 = v22 & 31u;
-    if (v11 > 4u) goto L87;
-    if (((1u << (v11 & 31)) & 25u) == 0) goto L87;
-    if (v26) goto L87;
+    if (v11 > 4u) goto L86;
+    if (((1u << (v11 & 31)) & 25u) == 0) goto L86;
+    if (v26) goto L86;
     v17 = v19 ? 0u : v6;
     v16 = (l1(v28 + 15657ull) ? 0xFFFFFFA0u : 0xFFFFFF80u) | (l1(v28 + 15658ull) << 4);
     v13 = v6 >> 8;
     v10 = l1(v28 + 15659ull) << 7;
     v4 = v6;
-L87:;
+L86:;
     v21 = (((((((u64)v16) & 255ull) << 24) | ((v21 | (((u64)v7) & 65535ull)) << 32)) | ((((u64)v10) & 255ull) << 16)) |
         ((((u64)v13) & 255ull) << 8)) | (((u64)v4) & 255ull);
     v16 = v24 | (v23 & 65535u);
     v10 = v25 | (v18 & 65535u);
     v7 = v22;
-L15:;
-    v4 = v9 << 16;
 L14:;
+    v4 = v9 << 16;
+L13:;
     s4(v0 + 14353ull, 0u);
     s1(v0 + 14352ull, 1u);
     s8(v0 + 14344ull, v5);
@@ -6378,150 +6305,182 @@ L14:;
     s4(v0 + 14296ull, v15);
     s8(v0 + 14288ull, 1ull);
     s4(v0 + 14356ull, 0u);
-L13:;
-    if (l1(v0 + 14362ull) == 1u) goto L12;
+L12:;
+    if (l1(v0 + 14362ull) == 1u) goto L11;
     v8 = 0u;
     v4 = 3u;
-    goto L11;
-L12:;
+    goto L10;
+L11:;
     v8 = 1u;
-    if (l1(v0 + 14360ull) != 1u) goto L88;
-    if (l1(v0 + 14361ull) == 1u) goto L88;
+    if (l1(v0 + 14360ull) != 1u) goto L87;
+    if (l1(v0 + 14361ull) == 1u) goto L87;
     v9 = 0u;
     v4 = 3u;
-    goto L10;
-L88:;
+    goto L9;
+L87:;
     v2 = v2 & 1u;
     v4 = 0u;
     v8 = 0u;
     v9 = 0u;
     v7 = 0u;
     if (v2) goto L8;
-    v8 = 0u;
-    s4(v3 + 192, 0u);
-    s8(v3 + 184, 0ull);
-    s8(v3 + 176, 0ull);
-    s8(v3 + 168, 0ull);
-    s8(v3 + 160, 0ull);
-    s8(v3 + 152, 0ull);
-    f66(v3 + 152ull, v0 + 8ull);
-    v4 = 0u;
-    v9 = 0u;
-    v7 = 0u;
-    if (l1(v3 + 152) != 1u) goto L8;
-    v2 = 0u;
-    if (l1(v3 + 156)) goto L90;
-    v16 = 0u;
-    v17 = 0u;
-    v6 = 0u;
-    v20 = l8(v0 + 15648ull);
-    if (v20 == 0) goto L89;
-    v5 = v0 + 14368ull;
-    v4 = l4(v3 + 160);
-L92:;
-    if (l4(v5) == v4) goto L91;
-    v5 = v5 + 20ull;
-    v20 = v20 + 0xFFFFFFFFFFFFFFFFull;
-    if ((u32)(v20 == 0) == 0) goto L92;
-    v2 = 0u;
-    goto L90;
-L91:;
-    v6 = l4(v5 + 16ull);
-    v17 = l4(v5 + 8ull);
-    v16 = l4(v5 + 4ull);
-    v2 = 1u;
+    if (l1(v0 + 5704ull) != 1u) goto L90;
+    v20 = l8(v0 + 5712ull);
     goto L89;
 L90:;
+    if (l1(v0 + 5688ull) != 1u) goto L91;
+    v20 = l8(v0 + 5696ull);
+    goto L89;
+L91:;
+    v5 = l8(v0 + 3960ull);
+    if ((u32)(v5 == 0) == 0) goto L92;
+    v4 = 0u;
+    goto L88;
+L92:;
+    v20 = 0ull;
+    if (v5 == 1ull) goto L89;
+    v5 = v0 + 5720ull;
+    if ((l1(v5) & 255u) == 0) goto L89;
+    t0 = f65(v0 + 824ull, v0 + 4656ull, l8(v0 + 5680ull), l4(v0 + 820ull), v5, v0 + 5728ull, v0 + 7024ull);
+    v20 = t0;
+L89:;
+    v28 = (u64)l1((v0 + v20) + 3896ull);
+    v5 = v0 + (v28 << 5);
+    v27 = v5 + 833ull;
+    v12 = v5 + 828ull;
+    v21 = v5 + 824ull;
+    v6 = l1(v5 + 830ull);
     v16 = 0u;
     v17 = 0u;
-    v6 = 0u;
-L89:;
-    v9 = 1u;
-    v20 = l8(v0 + 808ull);
-    if (v20 == 0) goto L9;
-    v13 = l1(v3 + 169);
-    v27 = (u64)l4(v3 + 188);
-    v22 = l4(v3 + 184);
-    v15 = l1(v3 + 180);
-    v10 = l1(v3 + 168);
-    v4 = l2(v3 + 164);
-    v5 = 40ull;
-    v21 = 0ull;
-L94:;
-    if (l2(v0 + v5) == (v4 & 65535u)) goto L93;
-    v21 = v21 + 28ull;
-    v5 = v5 + 48ull;
-    v20 = v20 + 0xFFFFFFFFFFFFFFFFull;
-    if (v20 == 0) goto L9;
-    goto L94;
+    v10 = 0u;
+    v22 = l1(v5 + 832ull);
+    if (v22 != 7u) goto L93;
+    v17 = 0u;
+    v10 = 0u;
+    if ((l1((v0 + (((l8((v0 + (v28 << 3)) + 2872ull)) << 6) & 16320ull)) + 4704ull)) != 1u) goto L93;
+    v10 = l4(v21 + 24ull) + l4(v5 + 840ull);
+    v17 = 1u;
 L93:;
+    v23 = l1(v27);
+    v2 = l2(v12);
+    v4 = l4(v21);
+    s8(v0 + 5696ull, v20);
+    s8(v0 + 5688ull, 1ull);
+    if (v6 & 255u) goto L95;
+    v15 = 0u;
+    v13 = 0u;
+    v6 = 0u;
+    v20 = l8(v0 + 15648ull);
+    if (v20 == 0) goto L94;
+    v5 = v0 + 14368ull;
+L97:;
+    if (l4(v5) == v4) goto L96;
+    v5 = v5 + 20ull;
+    v20 = v20 + 0xFFFFFFFFFFFFFFFFull;
+    if ((u32)(v20 == 0) == 0) goto L97;
+    v16 = 0u;
+    goto L95;
+L96:;
+    v6 = l4(v5 + 16ull);
+    v13 = l4(v5 + 8ull);
+    v15 = l4(v5 + 4ull);
+    v16 = 1u;
+    goto L94;
+L95:;
+    v15 = 0u;
+    v13 = 0u;
+    v6 = 0u;
+L94:;
+    v9 = 1u;
+    v8 = 0u;
+    v20 = l8(v0 + 808ull);
+    if ((u32)(v20 == 0) == 0) goto L98;
     v4 = 11u;
     v7 = 11u;
-    if (v2 == 0) goto L8;
-    v9 = 0u;
+    goto L8;
+L98:;
+    v27 = (u64)l4(v21 + 24ull);
+    v5 = 40ull;
+    v21 = 0ull;
+L100:;
+    if (l2(v0 + v5) == (v2 & 65535u)) goto L99;
+    v21 = v21 + 28ull;
+    v5 = v5 + 48ull;
     v4 = 11u;
-    if ((v10 & 255u) == 4u) goto L10;
+    v20 = v20 + 0xFFFFFFFFFFFFFFFFull;
+    if ((u32)(v20 == 0) == 0) goto L100;
+    v7 = 11u;
+    goto L8;
+L99:;
+    v4 = 11u;
+    v7 = 11u;
+    if (v16 == 0) goto L8;
+    v8 = 0u;
+    v4 = 11u;
+    if (v22 == 4u) goto L10;
     v9 = 1u;
     v7 = 65535u;
+    v8 = 0u;
     v5 = v0 + v21;
     if (l1(v5 + 15656ull) != 1u) goto L8;
     if (v6 != l4(v5 + 15660ull)) goto L8;
     v9 = 0u;
-    if ((v10 & 255u) != 7u) goto L10;
-    if ((v15 & 255u) != 1u) goto L10;
+    if (((u32)(v22 != 7u) | (v17 ^ 1u)) == 0) goto L101;
+    v8 = 0u;
+    goto L9;
+L101:;
     v7 = 65534u;
-    if (l1(v5 + 15672ull) == 1u) goto L95;
+    v8 = 0u;
+    if (l1(v5 + 15672ull) == 1u) goto L102;
     v9 = 1u;
     goto L8;
-L95:;
-    if (l4(v5 + 15676ull) == v6) goto L96;
+L102:;
+    if (l4(v5 + 15676ull) == v6) goto L103;
     v9 = 1u;
     goto L8;
-L96:;
-    if (((v13 + 0xFFFFFFFBu) & 255u) < 253u) goto L97;
+L103:;
+    if (((v23 + 0xFFFFFFFBu) & 255u) < 253u) goto L104;
     v9 = 1u;
-    if ((v16 & 1u) == 0) goto L97;
+    if ((v15 & 1u) == 0) goto L104;
     v7 = 41u;
     goto L8;
-L97:;
+L104:;
     v9 = 1u;
-    if ((v17 & 1u) == 0) goto L98;
+    if ((v13 & 1u) == 0) goto L105;
     v7 = 73u;
     goto L8;
-L98:;
+L105:;
     v9 = 1u;
-    if ((1u << (v13 & 31)) & 13u) goto L99;
-    if (l1(v5 + 15658ull) == 0) goto L100;
+    if ((1u << (v23 & 31)) & 13u) goto L106;
+    if (l1(v5 + 15658ull) == 0) goto L107;
     v7 = 4102u;
     goto L8;
-L100:;
-    if ((v13 & 254u) == 2u) goto L99;
-    if (l1(v5 + 15657ull) == 0) goto L99;
+L107:;
+    if ((v23 & 254u) == 2u) goto L106;
+    if (l1(v5 + 15657ull) == 0) goto L106;
     v7 = 8198u;
     goto L8;
-L99:;
+L106:;
     v4 = 11u;
-    if (l4(v5 + 15664ull) > v22) goto L101;
+    if (l4(v5 + 15664ull) > v10) goto L108;
     v7 = 11u;
     goto L8;
-L101:;
+L108:;
     v7 = 105u;
     v4 = 11u;
-    v5 = (u64)v17;
+    v5 = (u64)v13;
     v20 = v27 << 9;
     if (v5 < v20) goto L8;
     v21 = v5 - v20;
     v21 = (v21 > v5) ? 0ull : v21;
-    if (((v20 + ((u64)v16)) + ((v21 < 512ull) ? v21 : 512ull)) > 4294967295ull) goto L8;
+    if (((v20 + ((u64)v15)) + ((v21 < 512ull) ? v21 : 512ull)) > 4294967295ull) goto L8;
     v4 = (v20 < v5) ? 12u : 11u;
-L11:;
-    v9 = 0u;
+L88:;
+    v8 = 0u;
 L10:;
-    v7 = 0u;
-    goto L8;
+    v9 = 0u;
 L9:;
-    v4 = 11u;
-    v7 = 11u;
+    v7 = 0u;
 L8:;
     s1(v0 + 14280ull, 0u);
     s4(v0 + 14276ull, 0u);
@@ -6538,73 +6497,73 @@ L6:;
     v16 = (u32)v5;
     switch (v4) {
     case 1: case 11: goto L2;
-    case 2: goto L111;
-    case 3: goto L115;
-    case 4: goto L110;
-    case 5: goto L117;
-    case 6: goto L116;
-    case 7: goto L113;
-    case 8: goto L114;
-    case 9: goto L105;
-    case 10: goto L102;
-    case 12: goto L112;
+    case 2: goto L118;
+    case 3: goto L122;
+    case 4: goto L117;
+    case 5: goto L124;
+    case 6: goto L123;
+    case 7: goto L120;
+    case 8: goto L121;
+    case 9: goto L112;
+    case 10: goto L109;
+    case 12: goto L119;
     default: goto L3;
     }
-L117:;
+L124:;
     v4 = v7 & 4194302u;
     v2 = l4(v0 + 14276ull);
-    goto L108;
-L116:;
+    goto L115;
+L123:;
     v4 = 0u;
     v5 = v0 + 14288ull;
-    if ((l1(v5) & 1u) == 0) goto L118;
+    if ((l1(v5) & 1u) == 0) goto L125;
     v4 = l4(v0 + 14344ull) + 4u;
-L118:;
+L125:;
     fill(v3 + 152ull, 0u, 68ull);
     v2 = v7 & 4194302u;
     v7 = v2 + 0xFFFFFFFCu;
     v2 = v7 > v2;
-    if (l1(v5) == 1u) goto L107;
+    if (l1(v5) == 1u) goto L114;
     v5 = 0ull;
     v8 = 0u;
     v6 = 0u;
-    goto L106;
-L115:;
+    goto L113;
+L122:;
     if ((v2 & 255u) != 1u) goto L2;
     v4 = v8 & 255u;
     v2 = l1(v0 + (v4 ? 14265ull : 14264ull));
-    if (v4) goto L119;
+    if (v4) goto L126;
     if (v6 == 0) goto L4;
     v4 = (rem32(v2, v6) << 2) + v9;
-    goto L109;
-L119:;
+    goto L116;
+L126:;
     if (v5 == 0) goto L4;
     v4 = ((rem32(v2, v16) + v6) << 2) + v9;
-    goto L109;
-L114:;
+    goto L116;
+L121:;
     if ((v2 & 255u) != 1u) goto L2;
     v4 = v8 & 255u;
     v2 = (((v4 ? v16 : v6) << 1) + (l1(v0 + (v4 ? 14265ull : 14264ull)))) + 0xFFFFFFFEu;
-    if (v4) goto L120;
+    if (v4) goto L127;
     if (v6 == 0) goto L4;
     v4 = (rem32(v2, v6) << 2) + v9;
-    goto L109;
-L120:;
+    goto L116;
+L127:;
     if (v5 == 0) goto L4;
     v4 = ((rem32(v2, v16) + v6) << 2) + v9;
-    goto L109;
-L113:;
+    goto L116;
+L120:;
     if ((v2 & 255u) != 1u) goto L2;
     v4 = v8 & 255u;
     v2 = l1(v0 + (v4 ? 14265ull : 14264ull));
-    if (v4) goto L122;
+    if (v4) goto L129;
     if (v6 == 0) goto L4;
     v4 = rem32(v2, v6);
-    goto L121;
-L122:;
+    goto L128;
+L129:;
     if (v5 == 0) goto L4;
     v4 = rem32(v2, v16) + v6;
-L121:;
+L128:;
     s8(v3 + 88, 0ull);
     s8(v3 + 96, 0ull);
     s8(v3 + 104, 0ull);
@@ -6617,8 +6576,8 @@ L121:;
     v2 = (v4 << 2) + v9;
     v5 = 4ull;
     v4 = 4u;
-    goto L103;
-L112:;
+    goto L110;
+L119:;
     s4(v3 + 24, 0u);
     s8(v3 + 16, 0ull);
     if (l1(v0 + 5688ull) != 1u) goto L2;
@@ -6652,7 +6611,7 @@ L112:;
     v2 = v6 + v2;
     s4(v3 + 180, v2);
     s8(v3 + 184, (((u64)l4(v20 + 20ull)) << 32) | ((u64)v6));
-    f105(v3 + 16ull, v0, v3 + 152ull, v4, v2);
+    f104(v3 + 16ull, v0, v3 + 152ull, v4, v2);
     if (l1(v3 + 16)) goto L2;
     v0 = l8(v3 + 20);
     s8(v1 + 8, 0ull);
@@ -6663,37 +6622,37 @@ L112:;
     s4(v1 + 8, v2);
     v4 = 1u;
     goto L1;
-L111:;
-    if ((v2 & 255u) == 1u) goto L104;
+L118:;
+    if ((v2 & 255u) == 1u) goto L111;
     goto L2;
-L110:;
+L117:;
     v4 = v7 & 4194302u;
     v2 = v4 + 0xFFFFFFFCu;
     v4 = (v2 > v4) ? 0u : v2;
-L109:;
+L116:;
     v2 = 4u;
-L108:;
+L115:;
     s8(v1 + 8, 0ull);
     s4(v1, v4);
     s2(v1 + 16ull, 2u);
     s4(v1 + 4ull, v2);
     v4 = 1u;
     goto L1;
-L107:;
+L114:;
     v20 = l8(v0 + 14344ull);
     v6 = 0u;
-    if (l1(v0 + 14352ull) != 1u) goto L123;
+    if (l1(v0 + 14352ull) != 1u) goto L130;
     v6 = l1(v0 + 14233ull);
     v6 = ((v6 < 14u) ? v6 : 14u) + 1u;
-L123:;
+L130:;
     v8 = (u32)v20;
     v5 = 4ull;
-    if (v20 > 60ull) goto L106;
-    if (v20 == 0) goto L124;
+    if (v20 > 60ull) goto L113;
+    if (v20 == 0) goto L131;
     copy(v3 + 152ull, v0 + 14296ull, v20);
-L124:;
+L131:;
     v5 = v20 + 4ull;
-L106:;
+L113:;
     v2 = v2 ? 0u : v7;
     s4(v3 + 144, l4(v3 + 208));
     s8(v3 + 136, l8(v3 + 200));
@@ -6704,8 +6663,8 @@ L106:;
     s8(v3 + 96, l8(v3 + 160));
     s8(v3 + 88, l8(v3 + 152));
     v6 = ((v6 & 255u) << 16) | (v8 & 65535u);
-    goto L103;
-L105:;
+    goto L110;
+L112:;
     v6 = 1u;
     if ((v2 & 255u) != 1u) goto L2;
     s8(v3 + 88, 0ull);
@@ -6719,8 +6678,8 @@ L105:;
     v2 = v9 + ((v8 & 255u) ? 0xFFFFFFFCu : 0xFFFFFFFEu);
     v5 = 2ull;
     v4 = 2u;
-    goto L103;
-L104:;
+    goto L110;
+L111:;
     v0 = v0 + 14240ull;
     v4 = l2(v0);
     v8 = l2(v0);
@@ -6737,9 +6696,9 @@ L104:;
     v7 = v2 - (v6 + ((v8 & 1u) ? 0xFFFFFFF8u : 0xFFFFFFFCu));
     v7 = (v7 > v2) ? 0u : v7;
     v5 = (u64)((v7 < 64u) ? v7 : 64u);
-    if (v5 == 0) goto L125;
+    if (v5 == 0) goto L132;
     fill(v3 + 152ull, 0u, v5);
-L125:;
+L132:;
     s8(v3 + 88, l8(v3 + 156));
     s8(v3 + 96, l8(v3 + 164));
     s8(v3 + 104, l8(v3 + 172));
@@ -6754,7 +6713,7 @@ L125:;
     v4 = (v4 < 64u) ? v4 : 64u;
     v2 = (v2 < v6) ? v2 : v6;
     v6 = l4(v3 + 152);
-L103:;
+L110:;
     s4(v3 + 16, v6);
     s8(v3 + 20, l8(v3 + 88));
     s8(v3 + 28, l8(v3 + 96));
@@ -6769,12 +6728,12 @@ L103:;
     s8(v1 + 8, 0ull);
     s4(v1 + 4ull, v4);
     s4(v1, v2);
-    if (v5 == 0) goto L126;
+    if (v5 == 0) goto L133;
     copy(v1 + 18ull, v3 + 16ull, v5);
-L126:;
+L133:;
     v4 = 1u;
     goto L1;
-L102:;
+L109:;
     v4 = l2(v0 + 14238ull);
     s8(v1 + 8, 0ull);
     s8(v1, 0ull);
@@ -6796,17 +6755,41 @@ L1:;
     return v4;
 }
 
-static u32 f107(u64 v0, u64 v1)
+static u32 f106(u64 v0, u64 v1)
 {
     u32 v3 = 0, t0;
     goto L1;
 L1:;
-    t0 = f106(v0, v1, 0u);
+    t0 = f105(v0, v1, 0u);
     v3 = t0;
     return v3;
 }
 
 static u32 w_mscp_port_next(u64 v0, u64 v1)
+{
+    u32 v2 = 0, t0, t1;
+    t0 = f58();
+    if (t0 == 0) goto L1;
+    f59();
+    TRAP();
+L1:;
+    t1 = f106(v0, v1);
+    v2 = t1;
+    f61();
+    return v2;
+}
+
+static u32 f107(u64 v0, u64 v1)
+{
+    u32 v3 = 0, t0;
+    goto L1;
+L1:;
+    t0 = f105(v0, v1, 1u);
+    v3 = t0;
+    return v3;
+}
+
+static u32 w_mscp_port_next_message(u64 v0, u64 v1)
 {
     u32 v2 = 0, t0, t1;
     t0 = f58();
@@ -6820,31 +6803,7 @@ L1:;
     return v2;
 }
 
-static u32 f108(u64 v0, u64 v1)
-{
-    u32 v3 = 0, t0;
-    goto L1;
-L1:;
-    t0 = f106(v0, v1, 1u);
-    v3 = t0;
-    return v3;
-}
-
-static u32 w_mscp_port_next_message(u64 v0, u64 v1)
-{
-    u32 v2 = 0, t0, t1;
-    t0 = f58();
-    if (t0 == 0) goto L1;
-    f59();
-    TRAP();
-L1:;
-    t1 = f108(v0, v1);
-    v2 = t1;
-    f61();
-    return v2;
-}
-
-static u32 f109(u64 v0, u32 v1, u32 v2)
+static u32 f108(u64 v0, u32 v1, u32 v2)
 {
     u32 v3 = 0;
     u64 v4 = 0, v5 = 0;
@@ -6879,13 +6838,13 @@ static u32 w_mscp_port_protect(u64 v0, u32 v1, u32 v2)
     f59();
     TRAP();
 L1:;
-    t1 = f109(v0, v1, v2);
+    t1 = f108(v0, v1, v2);
     v2 = t1;
     f61();
     return v2;
 }
 
-static void f110(u64 v0, u32 v1, u32 v2)
+static void f109(u64 v0, u32 v1, u32 v2)
 {
     u32 v4 = 0;
     u64 v3 = 0, v5 = 0, v6 = 0, v7 = 0;
@@ -7059,7 +7018,7 @@ L16:;
     TRAP();
 }
 
-static u32 f111(u64 v0)
+static u32 f110(u64 v0)
 {
     u32 v2 = 0, v3 = 0;
     v2 = 0xFFFFFFF6u;
@@ -7087,7 +7046,7 @@ L4:;
     return 1u;
     TRAP();
 L2:;
-    f110(v0, 9u, 7u);
+    f109(v0, 9u, 7u);
 L1:;
     return v2;
 }
@@ -7100,13 +7059,13 @@ static u32 w_mscp_port_read_ip(u64 v0)
     f59();
     TRAP();
 L1:;
-    t1 = f111(v0);
+    t1 = f110(v0);
     v1 = t1;
     f61();
     return v1;
 }
 
-static u32 f112(u64 v0)
+static u32 f111(u64 v0)
 {
     u32 v1 = 0;
     v1 = 0xFFFFFFF6u;
@@ -7154,13 +7113,13 @@ static u32 w_mscp_port_read_sa(u64 v0)
     f59();
     TRAP();
 L1:;
-    t1 = f112(v0);
+    t1 = f111(v0);
     v1 = t1;
     f61();
     return v1;
 }
 
-APART void f113(u64 v0, u64 v1)
+APART void f112(u64 v0, u64 v1)
 {
     ROOM(frame, 2080);
     u32 v7 = 0, v8 = 0, v10 = 0, v11 = 0, v12 = 0, v14 = 0, v15 = 0, v16 = 0, v17 = 0, v18 = 0, v19 = 0, v20 = 0, v21 =
@@ -7170,7 +7129,7 @@ APART void f113(u64 v0, u64 v1)
     v3 = v2;
     v2 = (u64)l1(v1 + 31);
     fill(v3 + 1048ull, 0u, 1032ull);
-    f94(v3 + 1048ull);
+    f93(v3 + 1048ull);
     if (v2 == 0) goto L2;
     v4 = v2 * 34ull;
     v5 = 0ull;
@@ -7198,7 +7157,7 @@ L3:;
     if ((v22 & 65535u) == 0) goto L4;
     v9 = div64(0xFFFFFFFFFFFFFFFFull, ((((u64)v12) & 65535ull) * (((u64)v11) & 65535ull)) * (((u64)v22) & 65535ull));
     v2 = v9 + 1ull;
-    f69(v3, v2, (u64)(u32)(v2 == 0), (u64)(v10 + 0xFFFFFFFFu), 0ull);
+    f68(v3, v2, (u64)(u32)(v2 == 0), (u64)(v10 + 0xFFFFFFFFu), 0ull);
     v16 = (l1(v6 + 49ull) << 8) | l1(v6 + 48ull);
     v13 = l8(v6 + 60ull);
     v14 = l4(v6 + 68ull);
@@ -7251,7 +7210,7 @@ L2:;
     TRAP();
 }
 
-APART void f114(u64 v0, u64 v1, u64 v2, u64 v3)
+APART void f113(u64 v0, u64 v1, u64 v2, u64 v3)
 {
     ROOM(frame, 4848);
     u32 v11 = 0, v12 = 0, v13 = 0, v14 = 0, v15 = 0, v16 = 0, v17 = 0, v18 = 0;
@@ -7445,7 +7404,7 @@ L6:;
 L5:;
     copy(v4 + 1568ull, v4 + 4072ull, 776ull);
     copy(v4 + 792ull, v4 + 1568ull, 776ull);
-    f92(v4 + 2344ull, v4 + 792ull, l8(v4 + 1560));
+    f91(v4 + 2344ull, v4 + 792ull, l8(v4 + 1560));
     if (l1(v4 + 2344)) goto L9;
     v11 = 4u;
     v3 = 0ull;
@@ -7508,7 +7467,7 @@ L1:;
     return;
 }
 
-APART void f115(u64 v0, u64 v1)
+APART void f114(u64 v0, u64 v1)
 {
     ROOM(frame, 6192);
     u32 v5 = 0, v8 = 0, v9 = 0, v10 = 0, v11 = 0, v12 = 0, v13 = 0, v14 = 0;
@@ -7556,7 +7515,7 @@ L4:;
     s8(v3 + 6184, 0ull);
     s8(v3 + 6176, 0ull);
     s8(v3 + 6168, 0ull);
-    f90(v3 + 6168ull, v7, 32ull);
+    f89(v3 + 6168ull, v7, 32ull);
     if (l1(v3 + 6168)) goto L1;
     v5 = l4(v3 + 6184);
     v8 = l1(v7 + 40ull);
@@ -7595,7 +7554,7 @@ L1:;
     TRAP();
 }
 
-APART void f116(u64 v0, u64 v1, u64 v2)
+APART void f115(u64 v0, u64 v1, u64 v2)
 {
     ROOM(frame, 3152);
     u32 v5 = 0, v6 = 0, v7 = 0, v8 = 0, v9 = 0, v10 = 0, v11 = 0, v12 = 0, v14 = 0, v15 = 0, v16 = 0, v17 = 0, v18 = 0,
@@ -7616,7 +7575,7 @@ L3:;
     v5 = 0u;
     s4(v3 + 3088, 0u);
     s2(v3 + 3092, 0u);
-    f81(v3 + 3096ull, v1, 48ull);
+    f80(v3 + 3096ull, v1, 48ull);
     if (l1(v3 + 3096) == 0) goto L5;
     v6 = 0u;
     v7 = 0u;
@@ -7679,7 +7638,7 @@ L2:;
     TRAP();
 }
 
-static u32 f117(u32 v0, u64 v1, u64 v2, u64 v3)
+static u32 f116(u32 v0, u64 v1, u64 v2, u64 v3)
 {
     u32 v4 = 0, v5 = 0, v6 = 0;
     u64 v7 = 0, v8 = 0, v9 = 0, v10 = 0;
@@ -7742,7 +7701,7 @@ L1:;
     return v4;
 }
 
-static void f118(u64 v0, u64 v1, u32 v2, u32 v3, u64 v4, u32 v5)
+static void f117(u64 v0, u64 v1, u32 v2, u32 v3, u64 v4, u32 v5)
 {
     u32 v6 = 0, v7 = 0, v8 = 0;
     u64 v9 = 0, v10 = 0, v11 = 0;
@@ -7839,7 +7798,7 @@ L11:;
     TRAP();
 }
 
-static void f119(u64 v0, u64 v1, u64 v2)
+static void f118(u64 v0, u64 v1, u64 v2)
 {
     u64 v3 = 0, v4 = 0, v5 = 0;
     if (v2 == 0) goto L2;
@@ -7919,7 +7878,7 @@ L2:;
     TRAP();
 }
 
-static void f120(u64 v0, u64 v1)
+static void f119(u64 v0, u64 v1)
 {
     ROOM(frame, 96);
     u32 v3 = 0, v5 = 0, v6 = 0, v7 = 0, v9 = 0, v10 = 0, v11 = 0, v12 = 0, v13 = 0, v14 = 0, v15 = 0;
@@ -8047,7 +8006,7 @@ L17:;
     return;
 }
 
-static void f121(u64 v0, u64 v1, u64 v2)
+static void f120(u64 v0, u64 v1, u64 v2)
 {
     ROOM(frame, 64);
     u32 v4 = 0, v5 = 0, v6 = 0, v8 = 0, v9 = 0, v10 = 0, v11 = 0, v14 = 0, v16 = 0, v17 = 0, v18 = 0, v19 = 0, v20 = 0,
@@ -8190,16 +8149,16 @@ L2:;
     TRAP();
 }
 
-APART void f122(u64 v0, u64 v1, u64 v2, u64 v3, u64 v4, u64 v5, u64 v6, u64 v7, u64 v8, u64 v9, u32 v10, u64 v11, u32
+APART void f121(u64 v0, u64 v1, u64 v2, u64 v3, u64 v4, u64 v5, u64 v6, u64 v7, u64 v8, u64 v9, u32 v10, u64 v11, u32
         v12)
 {
     ROOM(frame, 3712);
     u64 v13 = 0;
     v13 = A(frame);
     fill(v13 + 8ull, 0u, 3672ull);
-    f118(v13 + 8ull, v1, (((((u32)v9) << 24) | ((((u32)v7) << 16) & 16711680u)) | ((((u32)v5) << 8) & 65280u)) |
+    f117(v13 + 8ull, v1, (((((u32)v9) << 24) | ((((u32)v7) << 16) & 16711680u)) | ((((u32)v5) << 8) & 65280u)) |
         (((u32)v3) & 255u), v10, v11, v12);
-    f119(v13 + 8ull, v2, v3);
+    f118(v13 + 8ull, v2, v3);
     if (v5 == 0) goto L2;
 L3:;
     s8(v13 + 3704, l8(v4 + 24));
@@ -8207,18 +8166,18 @@ L3:;
     s8(v13 + 3688, l8(v4 + 8));
     s8(v13 + 3680, l8(v4));
     v4 = v4 + 32ull;
-    f120(v13 + 8ull, v13 + 3680ull);
+    f119(v13 + 8ull, v13 + 3680ull);
     v5 = v5 + 0xFFFFFFFFFFFFFFFFull;
     if (v5 != 0ull) goto L3;
 L2:;
-    f121(v13 + 8ull, v6, v7);
-    f121(v13 + 8ull, v8, v9);
+    f120(v13 + 8ull, v6, v7);
+    f120(v13 + 8ull, v8, v9);
     copy(v0, v13 + 8ull, 3672ull);
     return;
     TRAP();
 }
 
-APART void f123(u64 v0, u64 v1, u64 v2, u32 v3)
+APART void f122(u64 v0, u64 v1, u64 v2, u32 v3)
 {
     ROOM(frame, 27472);
     u32 v5 = 0, v6 = 0, v13 = 0, v17 = 0, v21 = 0, v22 = 0, v23 = 0, v24 = 0, v25 = 0, v26 = 0, v27 = 0, v28 = 0, v29 =
@@ -8253,25 +8212,25 @@ L6:;
     v5 = 2u;
     goto L1;
 L7:;
-    f113(v4 + 17256ull, v1);
+    f112(v4 + 17256ull, v1);
     copy(v4 + 19096ull, v4 + 17256ull, 1032ull);
     v14 = l8(v4 + 20120);
-    f114(v4 + 16440ull, v1, v4 + 17256ull, v14);
+    f113(v4 + 16440ull, v1, v4 + 17256ull, v14);
     if (l1(v4 + 16440)) goto L8;
     v15 = v4 + 16448ull;
     copy(v4 + 18288ull, v15, 808ull);
-    f115(v4 + 14384ull, v1);
+    f114(v4 + 14384ull, v1);
     copy(v4 + 12328ull, v4 + 14384ull, 2056ull);
     v16 = l8(v4 + 14376);
     v17 = 0u;
     fill(v4 + 23800ull, 0u, 3080ull);
     v7 = ((v7 + v9) + v1) + 48ull;
-    f116(v4 + 23800ull, v7, v10);
+    f115(v4 + 23800ull, v7, v10);
     copy(v4 + 9248ull, v4 + 23800ull, 3080ull);
     copy(v4 + 6168ull, v4 + 9248ull, 3080ull);
     v18 = l8(v4 + 9240);
     fill(v4 + 23800ull, 0u, 3080ull);
-    f116(v4 + 23800ull, v7 + (v10 * 48ull), v11);
+    f115(v4 + 23800ull, v7 + (v10 * 48ull), v11);
     copy(v4 + 3088ull, v4 + 23800ull, 3080ull);
     copy(v4 + 8ull, v4 + 3088ull, 3080ull);
     v19 = l8(v4 + 3080);
@@ -8512,12 +8471,12 @@ L43:;
     s8(v4 + 20132, v20);
     s4(v4 + 20128, v17);
     v6 = 1u;
-    t1 = f117(v24, v4 + 14384ull, v16, v4 + 20128ull);
+    t1 = f116(v24, v4 + 14384ull, v16, v4 + 20128ull);
     if (t1) goto L45;
     v5 = 12u;
     goto L1;
 L45:;
-    f122(v4 + 23800ull, v15, v4 + 17256ull, v14, v4 + 14384ull, v16, v4 + 9248ull, v18, v4 + 3088ull, v19, v17, v20,
+    f121(v4 + 23800ull, v15, v4 + 17256ull, v14, v4 + 14384ull, v16, v4 + 9248ull, v18, v4 + 3088ull, v19, v17, v20,
         v3);
     copy(v4 + 20128ull, v4 + 23800ull, 3672ull);
     if (l1(v1 + 30) == (v3 & 255u)) goto L46;
@@ -8531,7 +8490,7 @@ L46:;
     if ((l1(v4 + 20129) & 255u) != (v23 & 255u)) goto L1;
     if ((l1(v4 + 20130) & 255u) != (v22 & 255u)) goto L1;
     if ((l1(v4 + 20131) & 255u) != v21) goto L1;
-    t2 = f85(v4 + 20128ull, v2, v1);
+    t2 = f84(v4 + 20128ull, v2, v1);
     v6 = t2;
     v5 = v6 ? 0u : 14u;
     v6 = v6 ^ 1u;
@@ -8549,7 +8508,7 @@ L1:;
     return;
 }
 
-APART void f124(u64 v0, u64 v1)
+APART void f123(u64 v0, u64 v1)
 {
     ROOM(frame, 1808);
     u32 v5 = 0, v6 = 0;
@@ -8585,7 +8544,7 @@ L2:;
     TRAP();
 }
 
-static void f125(u64 v0, u64 v1)
+static void f124(u64 v0, u64 v1)
 {
     u32 v5 = 0, v6 = 0, v7 = 0, v8 = 0, v9 = 0, v10 = 0, v11 = 0, v12 = 0, v13 = 0, v14 = 0;
     u64 v2 = 0, v3 = 0, v4 = 0, v15 = 0, v16 = 0;
@@ -8651,7 +8610,7 @@ L6:;
     TRAP();
 }
 
-static void f126(u64 v0, u64 v1, u64 v2)
+static void f125(u64 v0, u64 v1, u64 v2)
 {
     u32 v4 = 0, v5 = 0, v6 = 0, v7 = 0, v8 = 0;
     u64 v3 = 0, v9 = 0, v10 = 0;
@@ -8709,7 +8668,7 @@ L2:;
     TRAP();
 }
 
-APART void f127(u64 v0, u64 v1, u64 v2)
+APART void f126(u64 v0, u64 v1, u64 v2)
 {
     ROOM(frame, 7424);
     u32 v4 = 0, v5 = 0, v7 = 0, v9 = 0, v11 = 0, v12 = 0, v13 = 0, v14 = 0;
@@ -8938,8 +8897,8 @@ L13:;
     s4(v3 + 578, (u32)v2);
     s1(v3 + 588, (u32)(v2 >> 48));
     s2(v3 + 586, (u32)(v2 >> 32));
-    f124(v3 + 8ull, v1);
-    f125(v3 + 520ull, v3 + 8ull);
+    f123(v3 + 8ull, v1);
+    f124(v3 + 520ull, v3 + 8ull);
     v2 = l8(v3 + 5936);
     if ((5416ull - v2) < v10) goto L25;
     if (v10 == 0) goto L26;
@@ -8964,13 +8923,13 @@ L28:;
     v1 = v1 + 20ull;
     if (v15 != v1) goto L28;
 L27:;
-    f126(v3 + 520ull, v3 + 6136ull, l8(v3 + 7416));
+    f125(v3 + 520ull, v3 + 6136ull, l8(v3 + 7416));
     copy(v0, v3 + 520ull, 5424ull);
     return;
     TRAP();
 }
 
-APART u32 f128(u64 v0, u64 v1)
+APART u32 f127(u64 v0, u64 v1)
 {
     ROOM(frame, 10848);
     u32 v3 = 0, t0;
@@ -8978,7 +8937,7 @@ APART u32 f128(u64 v0, u64 v1)
     v2 = A(frame);
     v3 = 0u;
     fill(v2 + 5424ull, 0u, 5424ull);
-    f127(v2 + 5424ull, v0, v1);
+    f126(v2 + 5424ull, v0, v1);
     copy(v2, v2 + 5424ull, 5424ull);
     v1 = l8(v2 + 5416);
     if (v1 != ((((u64)l1(v0 + 70)) + (((u64)l1(v0 + 71)) * 20ull)) + 424ull)) goto L2;
@@ -8986,14 +8945,14 @@ APART u32 f128(u64 v0, u64 v1)
     if ((l1(v2 + 1) & 255u) != (l1(v0 + 1ull) & 255u)) goto L2;
     if ((l1(v2 + 2) & 255u) != (l1(v0 + 2ull) & 255u)) goto L2;
     if ((l1(v2 + 3) & 255u) != (l1(v0 + 3ull) & 255u)) goto L2;
-    t0 = f85(v2, v1, v0);
+    t0 = f84(v2, v1, v0);
     v3 = t0;
 L2:;
     return v3;
     TRAP();
 }
 
-static void f129(u64 v0, u64 v1, u64 v2, u32 v3)
+static void f128(u64 v0, u64 v1, u64 v2, u32 v3)
 {
     ROOM(frame, 16);
     u32 v5 = 0, v7 = 0, t0;
@@ -9040,14 +8999,14 @@ L4:;
     s1(v0 + 1ull, v5);
     goto L2;
 L3:;
-    f123(v4 + 8ull, v1 + v6, v2 - v6, v3);
+    f122(v4 + 8ull, v1 + v6, v2 - v6, v3);
     if (l1(v4 + 8) != 1u) goto L9;
     v5 = l1(v4 + 9);
     s2(v0, 1025u);
     s1(v0 + 2ull, v5);
     goto L2;
 L9:;
-    t0 = f128(v1, v2);
+    t0 = f127(v1, v2);
     v5 = t0;
     s1(v0 + 2ull, 0u);
     s1(v0 + 1ull, v5 ? 0u : 5u);
@@ -9057,15 +9016,15 @@ L2:;
     TRAP();
 }
 
-APART void f130(u64 v0, u64 v1)
+APART void f129(u64 v0, u64 v1)
 {
     ROOM(frame, 1856);
     u64 v2 = 0;
     v2 = A(frame);
     fill(v2 + 1040ull, 0u, 816ull);
     fill(v2 + 8ull, 0u, 1032ull);
-    f113(v2 + 8ull, v1);
-    f114(v2 + 1040ull, v1, v2 + 8ull, l8(v2 + 1032));
+    f112(v2 + 8ull, v1);
+    f113(v2 + 1040ull, v1, v2 + 8ull, l8(v2 + 1032));
     if (l1(v2 + 1040) == 0) goto L1;
     TRAP();
 L1:;
@@ -9073,7 +9032,7 @@ L1:;
     return;
 }
 
-APART void f131(u64 v0, u64 v1, u32 v2)
+APART void f130(u64 v0, u64 v1, u32 v2)
 {
     ROOM(frame, 20656);
     u32 v5 = 0, v6 = 0, v7 = 0, v8 = 0;
@@ -9088,7 +9047,7 @@ APART void f131(u64 v0, u64 v1, u32 v2)
     fill(v4 + 6520ull, 0u, 1032ull);
     fill(v4 + 5225ull, 0u, 1295ull);
     fill(v4 + 4440ull, 0u, 784ull);
-    f92(v4 + 4440ull, v4 + 7584ull, l8(v4 + 8352));
+    f91(v4 + 4440ull, v4 + 7584ull, l8(v4 + 8352));
     if (l1(v4 + 4440)) goto L2;
     v5 = l4(v4 + 7564);
     v6 = l4(v4 + 7560);
@@ -9099,7 +9058,7 @@ APART void f131(u64 v0, u64 v1, u32 v2)
     fill(v4 + 8360ull, 0u, 1288ull);
     v3 = l8(v4 + 11448);
     fill(v4 + 12752ull, 0u, 1032ull);
-    f94(v4 + 12752ull);
+    f93(v4 + 12752ull);
     if (v3 == 0) goto L3;
     v9 = l8(v4 + 13776);
     if (v3 != 1ull) goto L5;
@@ -9251,7 +9210,7 @@ L1:;
     return;
 }
 
-APART void f132(u64 v0, u64 v1, u64 v2, u64 v3, u32 v4, u64 v5)
+APART void f131(u64 v0, u64 v1, u64 v2, u64 v3, u32 v4, u64 v5)
 {
     ROOM(frame, 10800);
     u32 v9 = 0, v13 = 0, v14 = 0, v15 = 0, v17 = 0, v18 = 0, v26 = 0, v27 = 0, v28 = 0;
@@ -9301,7 +9260,7 @@ L6:;
 L5:;
     v3 = 0ull;
     v16 = (l8(((v7 + 2624ull) + v6) + 32ull)) + 1ull;
-    f69(v7 + 16ull, v16, (u64)(u32)(v16 == 0), (v14 == 7u) ? ((u64)v13) : 0ull, 0ull);
+    f68(v7 + 16ull, v16, (u64)(u32)(v16 == 0), (v14 == 7u) ? ((u64)v13) : 0ull, 0ull);
     v13 = l4(v12);
     v17 = 0u;
     switch (v14) {
@@ -9496,7 +9455,7 @@ L30:;
     v27 = l2(v12 + 10);
     v28 = l1(v12 + 9);
     v6 = (l8(((v7 + 2624ull) + (v3 << 6)) + 32ull)) + 1ull;
-    f69(v7, v6, (u64)(u32)(v6 == 0), ((v13 & 255u) == 7u) ? ((u64)v9) : 0ull, 0ull);
+    f68(v7, v6, (u64)(u32)(v6 == 0), ((v13 & 255u) == 7u) ? ((u64)v9) : 0ull, 0ull);
     v10 = (u64)v4;
     if (v14 == 0) goto L33;
     v11 = v11 + v10;
@@ -9551,7 +9510,7 @@ L21:;
     TRAP();
 }
 
-APART void f133(u64 v0, u64 v1, u64 v2, u64 v3, u64 v4)
+APART void f132(u64 v0, u64 v1, u64 v2, u64 v3, u64 v4)
 {
     ROOM(frame, 6160);
     u32 v7 = 0;
@@ -9625,7 +9584,7 @@ L2:;
     TRAP();
 }
 
-APART void f134(u64 v0, u64 v1, u64 v2)
+APART void f133(u64 v0, u64 v1, u64 v2)
 {
     ROOM(frame, 9248);
     u32 v4 = 0, v8 = 0;
@@ -9635,15 +9594,15 @@ APART void f134(u64 v0, u64 v1, u64 v2)
     v4 = 0u;
     fill(v3 + 1032ull, 0u, 2056ull);
     fill(v3, 0u, 1032ull);
-    f115(v3 + 1032ull, v1);
+    f114(v3 + 1032ull, v1);
     v5 = l8(v3 + 3080);
     fill(v3 + 3088ull, 0u, 3080ull);
     v6 = (((((u64)l1(v1 + 31)) * 34ull) + (((u64)l1(v1 + 40)) * 41ull)) + v1) + 48ull;
     v7 = (u64)l1(v1 + 41);
-    f116(v3 + 3088ull, v6, v7);
+    f115(v3 + 3088ull, v6, v7);
     fill(v3 + 6168ull, 0u, 3080ull);
-    f116(v3 + 6168ull, v6 + (v7 * 48ull), (u64)l1(v1 + 42));
-    f113(v3, v1);
+    f115(v3 + 6168ull, v6 + (v7 * 48ull), (u64)l1(v1 + 42));
+    f112(v3, v1);
     v8 = l1(v1 + 43);
     if (v8) goto L3;
     v1 = 0ull;
@@ -9652,13 +9611,13 @@ L3:;
     v4 = 1u;
     v1 = (((u64)l4(v1 + 44ull)) << 32) | ((u64)(u32)(v8 != 1u));
 L2:;
-    f132(v0 + 808ull, v3 + 1032ull, v5, v3, v4, v1);
-    f133(v0 + 8048ull, v3 + 1032ull, v5, v3 + 3088ull, v3 + 6168ull);
+    f131(v0 + 808ull, v3 + 1032ull, v5, v3, v4, v1);
+    f132(v0 + 8048ull, v3 + 1032ull, v5, v3 + 3088ull, v3 + 6168ull);
     return;
     TRAP();
 }
 
-APART void f135(u64 v0, u64 v1, u64 v2)
+APART void f134(u64 v0, u64 v1, u64 v2)
 {
     ROOM(frame, 1808);
     u32 v5 = 0, v6 = 0, v7 = 0, v8 = 0, v9 = 0, v10 = 0, v11 = 0, v12 = 0;
@@ -9893,17 +9852,17 @@ L29:;
     if (v15 != v3) goto L29;
 L28:;
     copy(v0 + 14368ull, v4 + 520ull, 1288ull);
-    f124(v4 + 8ull, v1);
+    f123(v4 + 8ull, v1);
     copy(v0 + 15656ull, v4 + 8ull, 448ull);
     s2(v0 + 16104ull, l2(v1 + 23ull));
     s2(v0 + 16106ull, l2(v1 + 25ull));
     s2(v0 + 16108ull, l2(v1 + 27ull));
     v3 = (((u64)l1(v1 + 70)) + (((u64)l1(v1 + 71)) * 20ull)) + 424ull;
-    f134(v0 + 8ull, v1 + v3, v2 - v3);
+    f133(v0 + 8ull, v1 + v3, v2 - v3);
     return;
 }
 
-APART u32 f136(u64 v0, u64 v1, u64 v2)
+APART u32 f135(u64 v0, u64 v1, u64 v2)
 {
     ROOM(frame, 816);
     u32 v5 = 0, v7 = 0;
@@ -9943,7 +9902,7 @@ L8:;
     if (v1 >= v2) goto L9;
     v7 = l1(v4 + v1) == 1u;
 L9:;
-    f129(v3 + 4ull, v4, v2, v7);
+    f128(v3 + 4ull, v4, v2, v7);
     v5 = 1u;
     if (l1(v3 + 4) != 1u) goto L10;
     v5 = 0xFFFFFFD8u;
@@ -9972,9 +9931,9 @@ L11:;
     goto L1;
 L10:;
     fill(v3 + 8ull, 0u, 808ull);
-    f130(v3 + 8ull, ((v4 + ((u64)l1(v4 + 70))) + (((u64)l1(v4 + 71)) * 20ull)) + 424ull);
-    f131(v0, v3 + 8ull, v7);
-    f135(l8(v0), v4, v2);
+    f129(v3 + 8ull, ((v4 + ((u64)l1(v4 + 70))) + (((u64)l1(v4 + 71)) * 20ull)) + 424ull);
+    f130(v0, v3 + 8ull, v7);
+    f134(l8(v0), v4, v2);
     goto L1;
     TRAP();
 L2:;
@@ -9991,13 +9950,13 @@ static u32 w_mscp_port_restore_at(u64 v0, u64 v1, u64 v2)
     f59();
     TRAP();
 L1:;
-    t1 = f136(v0, v1, v2);
+    t1 = f135(v0, v1, v2);
     v3 = t1;
     f61();
     return v3;
 }
 
-APART void f137(u64 v0, u64 v1, u32 v2)
+APART void f136(u64 v0, u64 v1, u32 v2)
 {
     ROOM(frame, 3712);
     u32 v5 = 0, v9 = 0, v11 = 0, v13 = 0, v14 = 0;
@@ -10021,8 +9980,8 @@ APART void f137(u64 v0, u64 v1, u32 v2)
     v7 = (((u64)l4(v7 + 816ull)) << 32) | ((u64)l1(v7 + 822ull));
     v5 = 1u;
 L2:;
-    f118(v3 + 8ull, v1, (((v11 << 24) | ((v13 << 16) & 16711680u)) | ((v14 << 8) & 65280u)) | (v9 & 255u), v5, v7, v2);
-    f119(v3 + 8ull, v6, v4);
+    f117(v3 + 8ull, v1, (((v11 << 24) | ((v13 << 16) & 16711680u)) | ((v14 << 8) & 65280u)) | (v9 & 255u), v5, v7, v2);
+    f118(v3 + 8ull, v6, v4);
     if (v8 == 0) goto L3;
     v7 = v1 + 3888ull;
     v6 = v1 + 816ull;
@@ -10033,18 +9992,18 @@ L4:;
     s8(v3 + 3696, l8(v4 + 16));
     s8(v3 + 3704, l8(v4 + 24));
     v7 = v7 + 1ull;
-    f120(v3 + 8ull, v3 + 3680ull);
+    f119(v3 + 8ull, v3 + 3680ull);
     v8 = v8 + 0xFFFFFFFFFFFFFFFFull;
     if (v8 != 0ull) goto L4;
 L3:;
-    f121(v3 + 8ull, v1 + 8056ull, v12);
-    f121(v3 + 8ull, v1 + 11144ull, v10);
+    f120(v3 + 8ull, v1 + 8056ull, v12);
+    f120(v3 + 8ull, v1 + 11144ull, v10);
     copy(v0, v3 + 8ull, 3672ull);
     return;
     TRAP();
 }
 
-APART u32 f138(u64 v0, u64 v1, u64 v2, u64 v3)
+APART u32 f137(u64 v0, u64 v1, u64 v2, u64 v3)
 {
     ROOM(frame, 14528);
     u32 v5 = 0, v6 = 0, v11 = 0, v12 = 0, v13 = 0, v15 = 0, v16 = 0;
@@ -10057,7 +10016,7 @@ L3:;
     v0 = l8(v0);
     v5 = l1(v0 + 5720ull);
     fill(v4 + 5432ull, 0u, 3672ull);
-    f137(v4 + 5432ull, v0 + 8ull, v5);
+    f136(v4 + 5432ull, v0 + 8ull, v5);
     v6 = l1(v0 + 14288ull);
     if (v6 == 1u) goto L5;
     v7 = A(data + 0);
@@ -10182,7 +10141,7 @@ L19:;
     s1(v4 + 9175, (u32)v9);
     s1(v4 + 9174, v5);
     s1(v4 + 9173, v15);
-    f125(v4 + 9104ull, v0 + 15656ull);
+    f124(v4 + 9104ull, v0 + 15656ull);
     v0 = l8(v4 + 14520);
     if ((5416ull - v0) < v8) goto L20;
     if (v8 == 0) goto L21;
@@ -10190,7 +10149,7 @@ L19:;
 L21:;
     s8(v4 + 14520, v0 + v8);
 L20:;
-    f126(v4 + 9104ull, v14, v9);
+    f125(v4 + 9104ull, v14, v9);
     v0 = l8(v4 + 14520);
     if ((5416ull - v0) < v10) goto L22;
     if (v10 == 0) goto L23;
@@ -10224,13 +10183,13 @@ static u32 w_mscp_port_save_at(u64 v0, u64 v1, u64 v2, u64 v3)
     f59();
     TRAP();
 L1:;
-    t1 = f138(v0, v1, v2, v3);
+    t1 = f137(v0, v1, v2, v3);
     v4 = t1;
     f61();
     return v4;
 }
 
-static void f139(void)
+static void f138(void)
 {
     goto L1;
 L1:;
@@ -10245,12 +10204,12 @@ static u64 w_mscp_port_save_size(void)
     f59();
     TRAP();
 L1:;
-    f139();
+    f138();
     f61();
     return 5416ull;
 }
 
-static u32 f140(u64 v0, u64 v1, u64 v2, u64 v3)
+static u32 f139(u64 v0, u64 v1, u64 v2, u64 v3)
 {
     u32 v4 = 0, v7 = 0;
     u64 v5 = 0, v6 = 0, v8 = 0;
@@ -10299,13 +10258,13 @@ static u32 w_mscp_port_settings_at(u64 v0, u64 v1, u64 v2, u64 v3)
     f59();
     TRAP();
 L1:;
-    t1 = f140(v0, v1, v2, v3);
+    t1 = f139(v0, v1, v2, v3);
     v4 = t1;
     f61();
     return v4;
 }
 
-static void f141(void)
+static void f140(void)
 {
     goto L1;
 L1:;
@@ -10320,12 +10279,12 @@ static u64 w_mscp_port_size(void)
     f59();
     TRAP();
 L1:;
-    f141();
+    f140();
     f61();
     return 16112ull;
 }
 
-static u32 f142(u64 v0, u64 v1)
+static u32 f141(u64 v0, u64 v1)
 {
     u32 v2 = 0, v3 = 0, v4 = 0, v5 = 0;
     v2 = 0xFFFFFFF6u;
@@ -10364,13 +10323,13 @@ static u32 w_mscp_port_state(u64 v0, u64 v1)
     f59();
     TRAP();
 L1:;
-    t1 = f142(v0, v1);
+    t1 = f141(v0, v1);
     v2 = t1;
     f61();
     return v2;
 }
 
-static u32 f143(u64 v0)
+static u32 f142(u64 v0)
 {
     u32 v2 = 0, v4 = 0;
     u64 v3 = 0;
@@ -10406,7 +10365,7 @@ L6:;
     goto L2;
     TRAP();
 L3:;
-    f110(v0, 9u, 9u);
+    f109(v0, 9u, 9u);
 L2:;
     v2 = 1u;
 L1:;
@@ -10421,13 +10380,13 @@ static u32 w_mscp_port_tick(u64 v0)
     f59();
     TRAP();
 L1:;
-    t1 = f143(v0);
+    t1 = f142(v0);
     v1 = t1;
     f61();
     return v1;
 }
 
-static u32 f144(u64 v0, u32 v1, u64 v2)
+static u32 f143(u64 v0, u32 v1, u64 v2)
 {
     u32 v3 = 0, v7 = 0, v8 = 0, v9 = 0, v10 = 0, v11 = 0, v12 = 0;
     u64 v4 = 0, v5 = 0, v6 = 0;
@@ -10483,13 +10442,13 @@ static u32 w_mscp_port_volume(u64 v0, u32 v1, u64 v2)
     f59();
     TRAP();
 L1:;
-    t1 = f144(v0, v1, v2);
+    t1 = f143(v0, v1, v2);
     v1 = t1;
     f61();
     return v1;
 }
 
-static u32 f145(u64 v0, u32 v1, u64 v2)
+static u32 f144(u64 v0, u32 v1, u64 v2)
 {
     u32 v3 = 0, v4 = 0, v7 = 0, v8 = 0, v11 = 0;
     u64 v5 = 0, v6 = 0, v9 = 0, v10 = 0;
@@ -10550,13 +10509,13 @@ static u32 w_mscp_port_volume_came(u64 v0, u32 v1, u64 v2)
     f59();
     TRAP();
 L1:;
-    t1 = f145(v0, v1, v2);
+    t1 = f144(v0, v1, v2);
     v1 = t1;
     f61();
     return v1;
 }
 
-static u32 f146(u64 v0, u32 v1)
+static u32 f145(u64 v0, u32 v1)
 {
     u32 v2 = 0;
     u64 v3 = 0, v4 = 0;
@@ -10595,13 +10554,13 @@ static u32 w_mscp_port_volume_went(u64 v0, u32 v1)
     f59();
     TRAP();
 L1:;
-    t1 = f146(v0, v1);
+    t1 = f145(v0, v1);
     v1 = t1;
     f61();
     return v1;
 }
 
-static void f147(u64 v0, u32 v1, u32 v2)
+static void f146(u64 v0, u32 v1, u32 v2)
 {
     if (v1 & 255u) goto L2;
     if ((i32)v2 > (i32)0xFFFFFFFFu) goto L3;
@@ -10630,11 +10589,11 @@ L4:;
     TRAP();
 }
 
-static void f148(u64 v0, u32 v1, u32 v2)
+static void f147(u64 v0, u32 v1, u32 v2)
 {
     u32 v4 = 0;
     if ((v2 & 15728640u) == 0) goto L2;
-    f110(v0, 9u, 20u);
+    f109(v0, 9u, 20u);
     return;
 L2:;
     v4 = v2 >> 24;
@@ -10643,7 +10602,7 @@ L2:;
     default: goto L4;
     }
 L4:;
-    f110(v0, 9u, 14u);
+    f109(v0, 9u, 14u);
     return;
 L3:;
     v2 = v2 & 65535u;
@@ -10654,12 +10613,12 @@ L3:;
     s4(v0 + 14276ull, (v2 < 64u) ? v2 : 64u);
     return;
 L5:;
-    f110(v0, 9u, 1u);
+    f109(v0, 9u, 1u);
     return;
     TRAP();
 }
 
-static void f149(u64 v0, u64 v1, u32 v2)
+static void f148(u64 v0, u64 v1, u32 v2)
 {
     u32 v3 = 0, v4 = 0, v5 = 0, v6 = 0;
     u64 v7 = 0;
@@ -10791,7 +10750,7 @@ L2:;
     TRAP();
 }
 
-static void f150(u64 v0, u64 v1, u32 v2, u32 v3)
+static void f149(u64 v0, u64 v1, u32 v2, u32 v3)
 {
     ROOM(frame, 16);
     u32 v5 = 0, v6 = 0, v7 = 0, v10 = 0, v15 = 0;
@@ -10850,7 +10809,7 @@ static void f150(u64 v0, u64 v1, u32 v2, u32 v3)
     TRAP();
 }
 
-static void f151(u64 v0, u64 v1)
+static void f150(u64 v0, u64 v1)
 {
     u32 v8 = 0;
     u64 v3 = 0, v4 = 0, v5 = 0, v6 = 0, v7 = 0, v9 = 0, v10 = 0, v11 = 0, v12 = 0;
@@ -10911,15 +10870,15 @@ L5:;
     s8(v12, v5);
     s1(v3 + v5, 0u);
     v5 = ((u64)v8) & 255ull;
-    f71(v9, v5, (u64)l1((v0 + (v5 << 3)) + 2048ull));
+    f70(v9, v5, (u64)l1((v0 + (v5 << 3)) + 2048ull));
     return;
 L2:;
-    f72(v0, v1);
+    f71(v0, v1);
     return;
     TRAP();
 }
 
-static void f152(u64 v0, u64 v1, u32 v2, u64 v3, u64 v4)
+static void f151(u64 v0, u64 v1, u32 v2, u64 v3, u64 v4)
 {
     ROOM(frame, 176);
     u32 v6 = 0, v7 = 0, v8 = 0, v9 = 0, v10 = 0, v11 = 0, v12 = 0, v13 = 0, v14 = 0, v18 = 0, v19 = 0, v24 = 0, v25 =
@@ -10930,7 +10889,7 @@ static void f152(u64 v0, u64 v1, u32 v2, u64 v3, u64 v4)
     s8(v5 + 40, 0ull);
     s8(v5 + 32, 0ull);
     s8(v5 + 24, 0ull);
-    f90(v5 + 24ull, v3, v4);
+    f89(v5 + 24ull, v3, v4);
     if (l1(v5 + 24)) goto L23;
     v6 = 1u;
     v7 = l1(v5 + 37);
@@ -11073,7 +11032,7 @@ L20:;
 L19:;
     v13 = l2(v5 + 106);
 L18:;
-    f149(v5 + 48ull, v5 + 96ull, v13);
+    f148(v5 + 48ull, v5 + 96ull, v13);
     if (v2 & 255u) goto L39;
     v3 = v1 + 11128ull;
     v16 = l8(v3);
@@ -11123,7 +11082,7 @@ L40:;
     s4(v5 + 160, v13);
     v16 = v3 << 6;
     v4 = (l8((v17 + v16) + 32ull)) + 1ull;
-    f69(v5, v4, (u64)(u32)(v4 == 0), (v9 == 7u) ? ((u64)v13) : 0ull, 0ull);
+    f68(v5, v4, (u64)(u32)(v4 == 0), (v9 == 7u) ? ((u64)v13) : 0ull, 0ull);
     s8(v5 + 168, 0ull);
     s4(v5 + 164, v12);
     s4(v5 + 156, v18);
@@ -11173,7 +11132,7 @@ L42:;
     s1(v5 + 150, v2);
     s2(v5 + 148, v10);
     s4(v5 + 144, v11);
-    f150(v1 + 816ull, v5 + 144ull, (u32)v3, v12);
+    f149(v1 + 816ull, v5 + 144ull, (u32)v3, v12);
     if (v2 & 255u) goto L48;
     s4(v15, l4(v15) + 1u);
     goto L7;
@@ -11302,7 +11261,7 @@ L62:;
     v19 = l4(v4);
     v3 = 0ull;
     v33 = 0ull - v21;
-    f151(v16, v33);
+    f150(v16, v33);
     v4 = v15 + 5720ull;
     v16 = v20 + ((u64)l1(v4));
     s1(v16, l1(v16) + 0xFFFFFFFFu);
@@ -11394,7 +11353,7 @@ L72:;
     s8(v5 + 160, 0ull);
     s8(v5 + 152, 0ull);
     s8(v5 + 144, 0ull);
-    f70(v5 + 144ull, v5 + 124ull, v28);
+    f69(v5 + 144ull, v5 + 124ull, v28);
     v28 = 129u;
     switch (v12) {
     case 1: goto L80;
@@ -11578,7 +11537,7 @@ L1:;
     return;
 }
 
-static void f153(u64 v0, u32 v1, u32 v2, u64 v3, u64 v4)
+static void f152(u64 v0, u32 v1, u32 v2, u64 v3, u64 v4)
 {
     ROOM(frame, 224);
     u32 v7 = 0, v10 = 0, v14 = 0, v15 = 0, t0;
@@ -11725,7 +11684,7 @@ L3:;
     s8(v6 + 168, v4);
 L2:;
     copy(v6 + 32ull, v6 + 104ull, 72ull);
-    f152(v6 + 8ull, v13, 0u, v6 + 32ull, l8(v6 + 96));
+    f151(v6 + 8ull, v13, 0u, v6 + 32ull, l8(v6 + 96));
     if (l1(v6 + 8)) goto L26;
     if (l1(v6 + 12)) goto L27;
     v2 = 0u;
@@ -11854,7 +11813,7 @@ L1:;
     return;
 }
 
-static u32 f154(u64 v0, u64 v1, u64 v2)
+static u32 f153(u64 v0, u64 v1, u64 v2)
 {
     u32 v4 = 0, v5 = 0, v6 = 0;
     v4 = 0xFFFFFFF6u;
@@ -11874,7 +11833,7 @@ static u32 f154(u64 v0, u64 v1, u64 v2)
     }
 L6:;
     if (v2 != 4ull) goto L2;
-    f147(v0, v6, l4(v1));
+    f146(v0, v6, l4(v1));
     return 1u;
 L5:;
     if (v2 != 4ull) goto L2;
@@ -11887,12 +11846,12 @@ L5:;
     return 1u;
 L4:;
     if (v2 != 4ull) goto L2;
-    f148(v0, v5, l4(v1));
+    f147(v0, v5, l4(v1));
     return 1u;
 L3:;
     if (v2 != ((u64)l4(v0 + 14276ull))) goto L2;
     v4 = 1u;
-    f153(v0, v5, l1(v0 + 14280ull) & 1u, v1, v2);
+    f152(v0, v5, l1(v0 + 14280ull) & 1u, v1, v2);
 L2:;
     return v4;
     TRAP();
@@ -11906,13 +11865,13 @@ static u32 w_mscp_port_was_read_at(u64 v0, u64 v1, u64 v2)
     f59();
     TRAP();
 L1:;
-    t1 = f154(v0, v1, v2);
+    t1 = f153(v0, v1, v2);
     v3 = t1;
     f61();
     return v3;
 }
 
-static void f155(u64 v0)
+static void f154(u64 v0)
 {
     u32 v3 = 0, v5 = 0;
     u64 v2 = 0, v4 = 0, v6 = 0;
@@ -11978,21 +11937,21 @@ L8:;
     s4(v0 + 14234ull, 4u);
     return;
 L7:;
-    f110(v0, 9u, 7u);
+    f109(v0, 9u, 7u);
 L2:;
     return;
     TRAP();
 }
 
-static void f156(u64 v0, u32 v1, u32 v2)
+static void f155(u64 v0, u32 v1, u32 v2)
 {
     u64 v4 = 0;
     if (l1(v0 + 14248ull) != 1u) goto L4;
     if ((v2 & 255u) == 0) goto L3;
-    f110(v0, 9u, 7u);
+    f109(v0, 9u, 7u);
     return;
 L4:;
-    f110(v0, 9u, 7u);
+    f109(v0, 9u, 7u);
     goto L1;
 L3:;
     v4 = v0 + 14268ull;
@@ -12021,12 +11980,12 @@ L1:;
     return;
 }
 
-static void f157(u64 v0, u32 v1, u32 v2)
+static void f156(u64 v0, u32 v1, u32 v2)
 {
     u32 v5 = 0;
     u64 v4 = 0;
     if ((v2 & 255u) == 0) goto L2;
-    f110(v0, 9u, 2u);
+    f109(v0, 9u, 2u);
     return;
 L2:;
     if (l1(v0 + 14288ull) != 1u) goto L3;
@@ -12044,15 +12003,15 @@ L3:;
     TRAP();
 }
 
-static void f158(u64 v0, u32 v1, u32 v2, u32 v3)
+static void f157(u64 v0, u32 v1, u32 v2, u32 v3)
 {
     u64 v5 = 0;
     if (l1(v0 + 14248ull) != 1u) goto L3;
     if ((v3 & 255u) == 0) goto L2;
-    f110(v0, 9u, 7u);
+    f109(v0, 9u, 7u);
     return;
 L3:;
-    f110(v0, 9u, 7u);
+    f109(v0, 9u, 7u);
     return;
 L2:;
     if (v1 & 255u) goto L5;
@@ -12076,7 +12035,7 @@ L4:;
     TRAP();
 }
 
-static void f159(u64 v0, u32 v1, u32 v2)
+static void f158(u64 v0, u32 v1, u32 v2)
 {
     ROOM(frame, 144);
     u32 v5 = 0, v6 = 0, v8 = 0, v10 = 0, v11 = 0;
@@ -12090,7 +12049,7 @@ static void f159(u64 v0, u32 v1, u32 v2)
     fill(v4, 0u, 96ull);
     s8(v0 + 14273ull, 0ull);
     s8(v0 + 14268ull, 0ull);
-    f74(v4, v0 + 8ull, v6, v5, v1, v2);
+    f73(v4, v0 + 8ull, v6, v5, v1, v2);
     if (l1(v4)) goto L1;
     if ((l1(v4 + 8) & 255u) != 1u) goto L1;
     if ((l1(v4 + 40) & 255u) != 1u) goto L1;
@@ -12218,7 +12177,7 @@ L1:;
     return;
 }
 
-static void f160(u64 v0, u64 v1, u32 v2, u32 v3)
+static void f159(u64 v0, u64 v1, u32 v2, u32 v3)
 {
     ROOM(frame, 64);
     u32 v5 = 0, v6 = 0, v9 = 0, v10 = 0, v11 = 0, v12 = 0, v13 = 0, v14 = 0;
@@ -12261,7 +12220,7 @@ static void f160(u64 v0, u64 v1, u32 v2, u32 v3)
     v5 = v9 + v5;
     s4(v4 + 52, v5);
     s8(v4 + 56, (((u64)l4(v7 + 20ull)) << 32) | ((u64)v9));
-    f105(v4 + 8ull, v1, v4 + 24ull, v11, v5);
+    f104(v4 + 8ull, v1, v4 + 24ull, v11, v5);
     if (l1(v4 + 8)) goto L4;
     v5 = v2;
     switch ((u32)(((u64)v2) & 255ull)) {
@@ -12302,7 +12261,7 @@ L1:;
     return;
 }
 
-static u32 f161(u64 v0, u32 v1, u32 v2)
+static u32 f160(u64 v0, u32 v1, u32 v2)
 {
     ROOM(frame, 16);
     u32 v4 = 0, v5 = 0, v6 = 0, v7 = 0;
@@ -12375,19 +12334,19 @@ L11:;
     }
 L20:;
     v4 = 1u;
-    f110(v0, 9u, 1u);
+    f109(v0, 9u, 1u);
     goto L1;
 L19:;
-    f155(v0);
+    f154(v0);
     goto L2;
 L18:;
-    f156(v0, v4, v5);
+    f155(v0, v4, v5);
     goto L2;
 L17:;
-    f157(v0, v4, v5);
+    f156(v0, v4, v5);
     goto L2;
 L16:;
-    f158(v0, l1(v9), v4, v5);
+    f157(v0, l1(v9), v4, v5);
     goto L2;
 L15:;
     s8(v9, 0ull);
@@ -12399,15 +12358,15 @@ L14:;
     s8(v8, 0ull);
     goto L2;
 L13:;
-    f159(v0, l1(v0 + 14270ull), v4);
+    f158(v0, l1(v0 + 14270ull), v4);
     goto L2;
 L12:;
-    f160(v3 + 8ull, v0, v5, v7);
-    f159(v0, l1(v3 + 8), l2(v3 + 10));
+    f159(v3 + 8ull, v0, v5, v7);
+    f158(v0, l1(v3 + 8), l2(v3 + 10));
     goto L2;
     TRAP();
 L3:;
-    f110(v0, 9u, 6u);
+    f109(v0, 9u, 6u);
 L2:;
     v4 = 1u;
 L1:;
@@ -12422,13 +12381,13 @@ static u32 w_mscp_port_went(u64 v0, u32 v1, u32 v2)
     f59();
     TRAP();
 L1:;
-    t1 = f161(v0, v1, v2);
+    t1 = f160(v0, v1, v2);
     v2 = t1;
     f61();
     return v2;
 }
 
-APART void f162(u64 v0, u64 v1, u32 v2, u32 v3)
+APART void f161(u64 v0, u64 v1, u32 v2, u32 v3)
 {
     ROOM(frame, 784);
     u32 v13 = 0, v14 = 0, v15 = 0;
@@ -12497,7 +12456,7 @@ L2:;
     TRAP();
 }
 
-APART u32 f163(u64 v0, u32 v1, u32 v2, u64 v3, u64 v4)
+APART u32 f162(u64 v0, u32 v1, u32 v2, u64 v3, u64 v4)
 {
     ROOM(frame, 1552);
     u32 v7 = 0, v8 = 0;
@@ -12519,7 +12478,7 @@ L3:;
 L5:;
     v7 = 1u;
 L4:;
-    f162(v6, l8(v0) + 8ull, v7, v2);
+    f161(v6, l8(v0) + 8ull, v7, v2);
     copy(v6 + 776ull, v6, 776ull);
     v9 = l8(v6 + 1544);
     v0 = (v4 < v9) ? v4 : v9;
@@ -12571,18 +12530,18 @@ static u32 w_mscp_port_why_at(u64 v0, u32 v1, u32 v2, u64 v3, u64 v4)
     f59();
     TRAP();
 L1:;
-    t1 = f163(v0, v1, v2, v3, v4);
+    t1 = f162(v0, v1, v2, v3, v4);
     v2 = t1;
     f61();
     return v2;
 }
 
-static u32 f164(u64 v0)
+static u32 f163(u64 v0)
 {
     u32 v2 = 0;
     v2 = 0xFFFFFFF6u;
     if (l8(v0 + 24ull) != 0x504F52544D414445ull) goto L2;
-    f110(l8(v0), 0u, 0u);
+    f109(l8(v0), 0u, 0u);
     v2 = 1u;
 L2:;
     return v2;
@@ -12597,13 +12556,13 @@ static u32 w_mscp_port_write_ip(u64 v0)
     f59();
     TRAP();
 L1:;
-    t1 = f164(v0);
+    t1 = f163(v0);
     v1 = t1;
     f61();
     return v1;
 }
 
-static u32 f165(u64 v0, u32 v1)
+static u32 f164(u64 v0, u32 v1)
 {
     u32 v3 = 0;
     u64 v4 = 0;
@@ -12629,7 +12588,7 @@ L6:;
     s4(v0 + 14234ull, 5u);
     return 1u;
 L8:;
-    f110(v0, 9u, 21u);
+    f109(v0, 9u, 21u);
     return 1u;
 L5:;
     v3 = 1u;
@@ -12655,13 +12614,13 @@ static u32 w_mscp_port_write_sa(u64 v0, u32 v1)
     f59();
     TRAP();
 L1:;
-    t1 = f165(v0, v1);
+    t1 = f164(v0, v1);
     v1 = t1;
     f61();
     return v1;
 }
 
-static u32 f166(u64 v0)
+static u32 f165(u64 v0)
 {
     u32 v1 = 0;
     u64 v2 = 0, v3 = 0, v4 = 0, v5 = 0;
@@ -12778,13 +12737,13 @@ static u32 w_mscp_reset(u64 v0)
     f59();
     TRAP();
 L1:;
-    t1 = f166(v0);
+    t1 = f165(v0);
     v1 = t1;
     f61();
     return v1;
 }
 
-APART void f167(u64 v0, u64 v1, u32 v2)
+APART void f166(u64 v0, u64 v1, u32 v2)
 {
     ROOM(frame, 19360);
     u32 v5 = 0, v6 = 0, v7 = 0, v8 = 0;
@@ -12798,7 +12757,7 @@ APART void f167(u64 v0, u64 v1, u32 v2)
     fill(v4 + 5224ull, 0u, 1032ull);
     fill(v4 + 3929ull, 0u, 1295ull);
     fill(v4 + 3144ull, 0u, 784ull);
-    f92(v4 + 3144ull, v4 + 6288ull, l8(v4 + 7056));
+    f91(v4 + 3144ull, v4 + 6288ull, l8(v4 + 7056));
     if (l1(v4 + 3144)) goto L1;
     v5 = l4(v4 + 6268);
     v6 = l4(v4 + 6264);
@@ -12809,7 +12768,7 @@ APART void f167(u64 v0, u64 v1, u32 v2)
     fill(v4 + 7064ull, 0u, 1288ull);
     v3 = l8(v4 + 10152);
     fill(v4 + 11456ull, 0u, 1032ull);
-    f94(v4 + 11456ull);
+    f93(v4 + 11456ull);
     if (v3 == 0) goto L2;
     v9 = l8(v4 + 12480);
     if (v3 != 1ull) goto L4;
@@ -12949,7 +12908,7 @@ L1:;
     TRAP();
 }
 
-APART u32 f168(u64 v0, u64 v1, u64 v2)
+APART u32 f167(u64 v0, u64 v1, u64 v2)
 {
     ROOM(frame, 816);
     u32 v5 = 0, v6 = 0;
@@ -12982,15 +12941,15 @@ L7:;
 L9:;
     v6 = 0u;
 L8:;
-    f123(v3, v4, v2, v6);
+    f122(v3, v4, v2, v6);
     v5 = 1u;
     if (l1(v3) != 1u) goto L10;
     v5 = 0xFFFFFFD8u - (l1(v3 + 1) & 255u);
     goto L1;
 L10:;
-    f130(v3 + 8ull, v4);
-    f167(v0, v3 + 8ull, v6);
-    f134(l8(v0), v4, v2);
+    f129(v3 + 8ull, v4);
+    f166(v0, v3 + 8ull, v6);
+    f133(l8(v0), v4, v2);
     goto L1;
     TRAP();
 L2:;
@@ -13007,13 +12966,13 @@ static u32 w_mscp_restore_at(u64 v0, u64 v1, u64 v2)
     f59();
     TRAP();
 L1:;
-    t1 = f168(v0, v1, v2);
+    t1 = f167(v0, v1, v2);
     v3 = t1;
     f61();
     return v3;
 }
 
-static void f169(u64 v0, u64 v1)
+static void f168(u64 v0, u64 v1)
 {
     u32 v13 = 0, v14 = 0, v15 = 0, v16 = 0, v17 = 0, v18 = 0, v19 = 0, v20 = 0, v21 = 0, v22 = 0, v23 = 0, v24 = 0, v25
         = 0, v26 = 0, v27 = 0, v28 = 0, v29 = 0, v30 = 0, v31 = 0, v32 = 0, v33 = 0, v34 = 0, v35 = 0, v36 = 0, v37 =
@@ -13724,7 +13683,7 @@ L33:;
     TRAP();
 }
 
-static void f170(u64 v0, u64 v1)
+static void f169(u64 v0, u64 v1)
 {
     ROOM(frame, 32);
     u32 v4 = 0, v5 = 0;
@@ -13734,7 +13693,7 @@ static void f170(u64 v0, u64 v1)
     s8(v3 + 24, 0ull);
     s8(v3 + 16, 0ull);
     s8(v3 + 8, 0ull);
-    f169(v3 + 8ull, v1);
+    f168(v3 + 8ull, v1);
     if (l1(v3 + 8) != 1u) goto L5;
 L6:;
     v4 = l4(v1 + 16ull);
@@ -13784,7 +13743,7 @@ L16:;
     v2 = v2 + 1ull;
     if (v6 != v2) goto L16;
 L9:;
-    f169(v3 + 8ull, v1);
+    f168(v3 + 8ull, v1);
     if (l1(v3 + 8) == 1u) goto L6;
 L5:;
     v5 = l4(v1 + 16ull);
@@ -13814,7 +13773,7 @@ L1:;
     return;
 }
 
-static void f171(u64 v0, u64 v1, u64 v2, u32 v3)
+static void f170(u64 v0, u64 v1, u64 v2, u32 v3)
 {
     ROOM(frame, 32);
     u32 v8 = 0, t0;
@@ -13825,7 +13784,7 @@ static void f171(u64 v0, u64 v1, u64 v2, u32 v3)
     s8(v5 + 16, 0ull);
     s8(v5 + 8, 0ull);
     s8(v5, 0ull);
-    f170(v5, v1);
+    f169(v5, v1);
     v6 = l8(v5 + 4);
     if (l1(v5)) goto L3;
     v7 = 17179869184ull;
@@ -13861,7 +13820,7 @@ L9:;
     if ((l1(v4 + 1ull) & 255u) != (l1(v2 + 1ull) & 255u)) goto L5;
     if ((l1(v4 + 2ull) & 255u) != (l1(v2 + 2ull) & 255u)) goto L5;
     if ((l1(v4 + 3ull) & 255u) != (l1(v2 + 3ull) & 255u)) goto L5;
-    t0 = f85(v4, 7ull, v2);
+    t0 = f84(v4, 7ull, v2);
     if (t0 == 0) goto L5;
     v7 = 21474836480ull;
     v9 = v1 - v10;
@@ -13925,7 +13884,7 @@ L1:;
     return;
 }
 
-static void f172(u64 v0, u64 v1, u64 v2)
+static void f171(u64 v0, u64 v1, u64 v2)
 {
     u64 v3 = 0, v4 = 0, v5 = 0, v6 = 0, v7 = 0, v8 = 0, v9 = 0, v10 = 0, v11 = 0, v12 = 0, v13 = 0;
     if (v2 == 0) goto L2;
@@ -14075,7 +14034,7 @@ L2:;
     TRAP();
 }
 
-static void f173(u64 v0, u64 v1, u64 v2)
+static void f172(u64 v0, u64 v1, u64 v2)
 {
     u32 v4 = 0;
     u64 v3 = 0;
@@ -14098,7 +14057,7 @@ L2:;
     TRAP();
 }
 
-static void f174(u64 v0, u64 v1, u64 v2)
+static void f173(u64 v0, u64 v1, u64 v2)
 {
     u32 v3 = 0, v4 = 0, v5 = 0, v7 = 0;
     u64 v6 = 0;
@@ -14126,7 +14085,7 @@ L2:;
     TRAP();
 }
 
-static void f175(u64 v0, u32 v1, u32 v2, u32 v3, u32 v4, u32 v5)
+static void f174(u64 v0, u32 v1, u32 v2, u32 v3, u32 v4, u32 v5)
 {
     ROOM(frame, 16);
     u32 v7 = 0, v9 = 0, v10 = 0, v11 = 0, v12 = 0, v13 = 0, v14 = 0, v15 = 0, v17 = 0;
@@ -14149,7 +14108,7 @@ static void f175(u64 v0, u32 v1, u32 v2, u32 v3, u32 v4, u32 v5)
     if (v5 == 0) goto L1;
     v16 = div64(0xFFFFFFFFFFFFFFFFull, ((((u64)v3) & 65535ull) * (((u64)v2) & 65535ull)) * (((u64)v4) & 65535ull));
     v8 = v16 + 1ull;
-    f69(v6, v8, (u64)(u32)(v8 == 0), (u64)(v5 + 0xFFFFFFFFu), 0ull);
+    f68(v6, v8, (u64)(u32)(v8 == 0), (u64)(v5 + 0xFFFFFFFFu), 0ull);
     v15 = (v1 & 65535u) + 1u;
     v8 = (((u64)v1) & 65535ull) + 1ull;
     v9 = 0u;
@@ -14189,7 +14148,7 @@ L1:;
     return;
 }
 
-static void f176(u64 v0, u64 v1, u64 v2, u64 v3)
+static void f175(u64 v0, u64 v1, u64 v2, u64 v3)
 {
     ROOM(frame, 192);
     u32 v6 = 0, v9 = 0, v17 = 0, v18 = 0;
@@ -14237,7 +14196,7 @@ L11:;
 L10:;
     v4 = v8 + 0xFFFFFFFFFFFFFFFFull;
 L9:;
-    f172(v5 + 120ull, v2 + v4, v3 - v4);
+    f171(v5 + 120ull, v2 + v4, v3 - v4);
     if (l1(v5 + 120) == 0) goto L13;
     v6 = l1(v5 + 121);
     v9 = 1u;
@@ -14284,17 +14243,17 @@ L16:;
     v14 = v14 + 0xFFFFFFFFFFFFFFFFull;
     if (v14 != 0ull) goto L16;
     if (v2 > 65535ull) goto L5;
-    f173(v5 + 60ull, v13, v12);
+    f172(v5 + 60ull, v13, v12);
     if (l1(v5 + 60)) goto L2;
     v6 = l2(v5 + 62);
-    f174(v5 + 48ull, v11, v10);
+    f173(v5 + 48ull, v11, v10);
     if (l1(v5 + 48) == 0) goto L4;
     v6 = l1(v5 + 49);
 L5:;
     v9 = 1u;
     goto L1;
 L4:;
-    f175(v5 + 64ull, v17, v18, (u32)v2, v6, l4(v5 + 52));
+    f174(v5 + 64ull, v17, v18, (u32)v2, v6, l4(v5 + 52));
     s8(v5, l8(v5 + 74));
     s8(v5 + 8, l8(v5 + 82));
     s8(v5 + 16, l8(v5 + 90));
@@ -14342,7 +14301,7 @@ L1:;
     return;
 }
 
-static void f177(u64 v0, u64 v1, u64 v2)
+static void f176(u64 v0, u64 v1, u64 v2)
 {
     ROOM(frame, 144);
     u32 v4 = 0, v5 = 0, v8 = 0, v12 = 0;
@@ -14459,7 +14418,7 @@ L1:;
     TRAP();
 }
 
-static void f178(u64 v0, u32 v1, u64 v2, u64 v3, u64 v4)
+static void f177(u64 v0, u32 v1, u64 v2, u64 v3, u64 v4)
 {
     ROOM(frame, 96);
     u32 v7 = 0, v8 = 0, v10 = 0, v11 = 0, v18 = 0, v19 = 0, v20 = 0, v21 = 0, v22 = 0;
@@ -14484,7 +14443,7 @@ L29:;
     fill(v6 + 16ull, 0u, 72ull);
     v9 = 0ull;
     s8(v6 + 8, 0ull);
-    f172(v6 + 16ull, v3, v4);
+    f171(v6 + 16ull, v3, v4);
     if (l1(v6 + 16)) goto L18;
     v8 = 0u;
     v10 = 6u;
@@ -14538,7 +14497,7 @@ L33:;
     if (v14 != 0ull) goto L33;
     v8 = 0u;
     if (v4 > 4294967295ull) goto L31;
-    f174(v6 + 8ull, v13, v12);
+    f173(v6 + 8ull, v13, v12);
     if (l1(v6 + 8)) goto L34;
     v5 = (((u64)l4(v6 + 12)) << 32) | v4;
     v20 = 7u;
@@ -14935,7 +14894,7 @@ L106:;
     v10 = 7u;
     goto L9;
 L108:;
-    f177(v6 + 16ull, v3, v5);
+    f176(v6 + 16ull, v3, v5);
     if (l1(v6 + 16) == 0) goto L109;
     v10 = 7u;
     goto L9;
@@ -15208,7 +15167,7 @@ L1:;
     return;
 }
 
-static void f179(u64 v0, u64 v1, u64 v2)
+static void f178(u64 v0, u64 v1, u64 v2)
 {
     ROOM(frame, 96);
     u32 v5 = 0, v8 = 0, v9 = 0, v10 = 0, v11 = 0, v13 = 0, v15 = 0, v16 = 0, t0, t1, t2, t3, t4, t5, t6, t7, t8, t9,
@@ -15270,7 +15229,7 @@ L37:;
     if ((l1(v3) & 255u) != 101u) goto L33;
     if ((l1(v7) & 255u) != 97u) goto L33;
     if ((l1(v12) & 255u) != 100u) goto L33;
-    t0 = f85(v1, 4ull, A(data + 38));
+    t0 = f84(v1, 4ull, A(data + 38));
     if (t0 == 0) goto L33;
     v8 = 3u;
     v13 = 0u;
@@ -15283,7 +15242,7 @@ L36:;
     if ((l1(v7) & 255u) != 111u) goto L26;
     if ((l1(v12) & 255u) != 109u) goto L26;
     if ((l1(v14) & 255u) != 112u) goto L26;
-    t1 = f85(v1, 7ull, A(data + 58));
+    t1 = f84(v1, 7ull, A(data + 58));
     if (t1 == 0) goto L26;
     v8 = 2u;
     v13 = 0u;
@@ -15296,7 +15255,7 @@ L35:;
     if ((l1(v7) & 255u) != 99u) goto L31;
     if ((l1(v12) & 255u) != 99u) goto L31;
     if ((l1(v14) & 255u) != 101u) goto L31;
-    t2 = f85(v1, 6ull, A(data + 47));
+    t2 = f84(v1, 6ull, A(data + 47));
     if (t2 == 0) goto L31;
     v13 = 0u;
     v8 = 0u;
@@ -15309,7 +15268,7 @@ L34:;
     if ((v8 & 255u) != 105u) goto L38;
     if ((v11 & 255u) != 116u) goto L38;
     if ((v13 & 255u) != 114u) goto L38;
-    t3 = f85(v1, 5ull, A(data + 42));
+    t3 = f84(v1, 5ull, A(data + 42));
     if (t3 == 0) goto L30;
     v8 = 4u;
     v13 = 0u;
@@ -15319,7 +15278,7 @@ L38:;
     if ((v8 & 255u) != 97u) goto L30;
     if ((v11 & 255u) != 115u) goto L30;
     if ((v13 & 255u) != 114u) goto L30;
-    t4 = f85(v1, 5ull, A(data + 53));
+    t4 = f84(v1, 5ull, A(data + 53));
     if (t4 == 0) goto L30;
     v8 = 1u;
     v13 = 0u;
@@ -15332,7 +15291,7 @@ L33:;
     if ((v11 & 255u) != 116u) goto L39;
     if ((v13 & 255u) != 101u) goto L39;
     if ((v15 & 255u) != 112u) goto L39;
-    t5 = f85(v1, 4ull, A(data + 65));
+    t5 = f84(v1, 4ull, A(data + 65));
     if (t5 == 0) goto L39;
     v8 = 0u;
     v13 = 6u;
@@ -15342,7 +15301,7 @@ L39:;
     if ((v11 & 255u) != 97u) goto L40;
     if ((v13 & 255u) != 107u) goto L40;
     if ((v15 & 255u) != 101u) goto L40;
-    t6 = f85(v1, 4ull, A(data + 69));
+    t6 = f84(v1, 4ull, A(data + 69));
     if (t6 == 0) goto L40;
     v8 = 0u;
     v13 = 8u;
@@ -15366,7 +15325,7 @@ L43:;
     goto L2;
 L44:;
     v8 = 0u;
-    t7 = f85(v1, 4ull, A(data + 73));
+    t7 = f84(v1, 4ull, A(data + 73));
     if (t7) goto L17;
     v11 = 0u;
     goto L2;
@@ -15382,7 +15341,7 @@ L31:;
     if ((l1(v7) & 255u) != 116u) goto L29;
     if ((l1(v12) & 255u) != 97u) goto L29;
     if ((l1(v14) & 255u) != 116u) goto L29;
-    t8 = f85(v1, v3, A(data + 77));
+    t8 = f84(v1, v3, A(data + 77));
     if (t8 == 0) goto L29;
     v8 = 0u;
     v13 = 4u;
@@ -15392,7 +15351,7 @@ L30:;
     if ((l1(v1 + 1ull) & 255u) != 98u) goto L28;
     if ((l1(v1 + 2ull) & 255u) != 111u) goto L28;
     if ((l1(v1 + 3ull) & 255u) != 114u) goto L28;
-    t9 = f85(v1, v3, A(data + 83));
+    t9 = f84(v1, v3, A(data + 83));
     if (t9 == 0) goto L28;
     v8 = 0u;
     v13 = 3u;
@@ -15410,7 +15369,7 @@ L47:;
     if ((l1(v1 + 1ull) & 255u) != 97u) goto L45;
     if ((l1(v1 + 2ull) & 255u) != 99u) goto L45;
     if ((l1(v1 + 3ull) & 255u) != 107u) goto L45;
-    t10 = f85(v1, v3, A(data + 88));
+    t10 = f84(v1, v3, A(data + 88));
     if (t10 == 0) goto L45;
     goto L5;
 L46:;
@@ -15458,7 +15417,7 @@ L26:;
     if ((l1(v7) & 255u) != 101u) goto L11;
     if ((l1(v12) & 255u) != 116u) goto L11;
     if ((l1(v14) & 255u) != 117u) goto L11;
-    t11 = f85(v1, v3, A(data + 122));
+    t11 = f84(v1, v3, A(data + 122));
     if (t11 == 0) goto L11;
     v15 = 6u;
     goto L6;
@@ -15485,7 +15444,7 @@ L15:;
     if ((v11 & 255u) != 101u) goto L53;
     if ((v13 & 255u) != 116u) goto L53;
     if ((v15 & 255u) != 99u) goto L53;
-    t12 = f85(v1, v3, A(data + 94));
+    t12 = f84(v1, v3, A(data + 94));
     if (t12 == 0) goto L54;
     v8 = 0u;
     v13 = 2u;
@@ -15503,7 +15462,7 @@ L14:;
     if ((v11 & 255u) != 110u) goto L13;
     if ((v13 & 255u) != 108u) goto L13;
     if ((v15 & 255u) != 105u) goto L13;
-    t13 = f85(v1, v3, A(data + 107));
+    t13 = f84(v1, v3, A(data + 107));
     if (t13) goto L7;
 L13:;
     v8 = 0u;
@@ -15524,7 +15483,7 @@ L12:;
     if ((l1(v1 + 1ull) & 255u) != 118u) goto L11;
     if ((l1(v1 + 2ull) & 255u) != 97u) goto L11;
     if ((l1(v1 + 3ull) & 255u) != 105u) goto L11;
-    t14 = f85(v1, v3, A(data + 113));
+    t14 = f84(v1, v3, A(data + 113));
     v13 = t14;
     v15 = v13 ? 4u : 0u;
     goto L9;
@@ -15559,7 +15518,7 @@ L59:;
     v11 = 0u;
     goto L2;
 L60:;
-    t15 = f85(v1, 10ull, A(data + 129));
+    t15 = f84(v1, 10ull, A(data + 129));
     v13 = t15;
     v15 = v13 ? 2u : 0u;
 L9:;
@@ -15586,7 +15545,7 @@ L63:;
     goto L2;
 L64:;
     v11 = 0u;
-    t16 = f85(v1, 6ull, A(data + 139));
+    t16 = f84(v1, 6ull, A(data + 139));
     if (t16 == 0) goto L2;
     s8(v4 + 80, 0ull);
     s8(v4 + 88, 0ull);
@@ -15639,7 +15598,7 @@ L92:;
     if ((v11 & 255u) != 101u) goto L88;
     if ((v13 & 255u) != 97u) goto L88;
     if ((v15 & 255u) != 100u) goto L88;
-    t17 = f85(v2, 4ull, A(data + 38));
+    t17 = f84(v2, 4ull, A(data + 38));
     if (t17 == 0) goto L88;
     v5 = 3u;
     goto L67;
@@ -15651,7 +15610,7 @@ L91:;
     if ((v11 & 255u) != 111u) goto L81;
     if ((v13 & 255u) != 109u) goto L81;
     if ((v15 & 255u) != 112u) goto L81;
-    t18 = f85(v2, 7ull, A(data + 58));
+    t18 = f84(v2, 7ull, A(data + 58));
     if (t18 == 0) goto L81;
     v5 = 2u;
     goto L67;
@@ -15663,7 +15622,7 @@ L90:;
     if ((v11 & 255u) != 99u) goto L87;
     if ((v13 & 255u) != 101u) goto L87;
     if ((v15 & 255u) != 99u) goto L87;
-    t19 = f85(v2, 6ull, A(data + 47));
+    t19 = f84(v2, 6ull, A(data + 47));
     if (t19 == 0) goto L87;
     v5 = 0u;
     goto L67;
@@ -15676,7 +15635,7 @@ L89:;
     if (v5 != 119u) goto L93;
     if ((v11 & 255u) != 105u) goto L93;
     if ((v13 & 255u) != 116u) goto L93;
-    t20 = f85(v2, 5ull, A(data + 42));
+    t20 = f84(v2, 5ull, A(data + 42));
     if (t20 == 0) goto L86;
     v5 = 4u;
     goto L67;
@@ -15685,7 +15644,7 @@ L93:;
     if (v5 != 101u) goto L86;
     if ((v11 & 255u) != 97u) goto L86;
     if ((v13 & 255u) != 115u) goto L86;
-    t21 = f85(v2, 5ull, A(data + 53));
+    t21 = f84(v2, 5ull, A(data + 53));
     if (t21 == 0) goto L86;
     v5 = 1u;
     goto L67;
@@ -15694,7 +15653,7 @@ L88:;
     if ((v11 & 255u) != 116u) goto L94;
     if ((v13 & 255u) != 101u) goto L94;
     if ((v15 & 255u) != 112u) goto L94;
-    t22 = f85(v2, 4ull, A(data + 65));
+    t22 = f84(v2, 4ull, A(data + 65));
     if (t22 == 0) goto L94;
     v11 = 0u;
     goto L65;
@@ -15703,7 +15662,7 @@ L94:;
     if ((v11 & 255u) != 97u) goto L95;
     if ((v13 & 255u) != 107u) goto L95;
     if ((v15 & 255u) != 101u) goto L95;
-    t23 = f85(v2, 4ull, A(data + 69));
+    t23 = f84(v2, 4ull, A(data + 69));
     if (t23 == 0) goto L95;
     v8 = 0u;
     v9 = 8u;
@@ -15725,7 +15684,7 @@ L98:;
     v11 = 0u;
     goto L65;
 L99:;
-    f85(v2, 4ull, A(data + 73));
+    f84(v2, 4ull, A(data + 73));
     v11 = 0u;
     goto L65;
 L87:;
@@ -15733,7 +15692,7 @@ L87:;
     if ((v11 & 255u) != 116u) goto L85;
     if ((v15 & 255u) != 97u) goto L85;
     if ((v13 & 255u) != 116u) goto L85;
-    t25 = f85(v2, 6ull, A(data + 77));
+    t25 = f84(v2, 6ull, A(data + 77));
     if (t25 == 0) goto L83;
     v8 = 0u;
     v9 = 4u;
@@ -15756,7 +15715,7 @@ L102:;
     goto L65;
 L103:;
     v8 = 0u;
-    t26 = f85(v2, 5ull, A(data + 83));
+    t26 = f84(v2, 5ull, A(data + 83));
     if (t26) goto L71;
     v11 = 0u;
     goto L65;
@@ -15765,7 +15724,7 @@ L85:;
     if ((v11 & 255u) != 97u) goto L83;
     if ((v13 & 255u) != 107u) goto L83;
     if ((v15 & 255u) != 99u) goto L83;
-    t27 = f85(v2, 6ull, A(data + 88));
+    t27 = f84(v2, 6ull, A(data + 88));
     if (t27 == 0) goto L83;
     v8 = 0u;
     v9 = 5u;
@@ -15788,7 +15747,7 @@ L106:;
     goto L65;
 L107:;
     v8 = 0u;
-    t28 = f85(v2, v1, A(data + 94));
+    t28 = f84(v2, v1, A(data + 94));
     if (t28) goto L108;
     v11 = 0u;
     goto L65;
@@ -15813,7 +15772,7 @@ L111:;
     goto L65;
 L112:;
     v9 = 1u;
-    t29 = f85(v2, 6ull, A(data + 107));
+    t29 = f84(v2, 6ull, A(data + 107));
     if (t29) goto L113;
     v11 = 0u;
     goto L65;
@@ -15854,7 +15813,7 @@ L119:;
     goto L65;
 L120:;
     v9 = 1u;
-    t30 = f85(v2, 7ull, A(data + 122));
+    t30 = f84(v2, 7ull, A(data + 122));
     if (t30) goto L121;
     v11 = 0u;
     goto L65;
@@ -15880,7 +15839,7 @@ L124:;
 L125:;
     v5 = 2u;
     v11 = 0u;
-    t31 = f85(v2, 10ull, A(data + 129));
+    t31 = f84(v2, 10ull, A(data + 129));
     if (t31) goto L68;
     goto L65;
 L74:;
@@ -15909,7 +15868,7 @@ L69:;
     v5 = 4u;
     v11 = 0u;
     v10 = 4u;
-    t32 = f85(v2, v1, A(data + 113));
+    t32 = f84(v2, v1, A(data + 113));
     if (t32 == 0) goto L65;
 L68:;
     s8(v4 + 85, 0ull);
@@ -15923,7 +15882,7 @@ L67:;
     s1(v4 + 80, 0u);
     s4(v4 + 92, 0u);
 L66:;
-    f178(v4 + 48ull, 1u, v4 + 80ull, v2 + v1, v6 - v1);
+    f177(v4 + 48ull, 1u, v4 + 80ull, v2 + v1, v6 - v1);
     v8 = l1(v4 + 57);
     v11 = l1(v4 + 56);
     v10 = l1(v4 + 49);
@@ -15950,7 +15909,7 @@ L3:;
     s1(v4 + 33, v8);
     s1(v4 + 32, v13);
     s4(v4 + 44, 0u);
-    f178(v4, 0u, v4 + 32ull, v2, v6);
+    f177(v4, 0u, v4 + 32ull, v2, v6);
     v8 = l1(v4 + 9);
     v11 = l1(v4 + 8);
     v10 = l1(v4 + 1);
@@ -15967,7 +15926,7 @@ L1:;
     return;
 }
 
-static void f180(u64 v0, u64 v1, u64 v2)
+static void f179(u64 v0, u64 v1, u64 v2)
 {
     ROOM(frame, 112);
     u32 v4 = 0, v5 = 0, v11 = 0, v12 = 0, v13 = 0, v14 = 0;
@@ -15980,7 +15939,7 @@ static void f180(u64 v0, u64 v1, u64 v2)
     s8(v3 + 56, 0ull);
     s8(v3 + 8, 0ull);
     s8(v3 + 16, 0ull);
-    f169(v3 + 40ull, v1);
+    f168(v3 + 40ull, v1);
     v4 = 1u;
     if (l1(v3 + 40) != 1u) goto L4;
     v5 = l4(v1 + 16ull);
@@ -16054,7 +16013,7 @@ L2:;
     s8(v3 + 96, 0ull);
     s8(v3 + 88, 0ull);
     s8(v3 + 80, 0ull);
-    f179(v3 + 80ull, v1, v8);
+    f178(v3 + 80ull, v1, v8);
     if (l1(v3 + 80) == 0) goto L16;
     v11 = l1(v3 + 81);
     goto L15;
@@ -16096,7 +16055,7 @@ L1:;
     return;
 }
 
-static u64 f181(u64 v0, u64 v1, u64 v2, u32 v3, u64 v4, u64 v5)
+static u64 f180(u64 v0, u64 v1, u64 v2, u32 v3, u64 v4, u64 v5)
 {
     ROOM(frame, 144);
     u32 v8 = 0, v11 = 0, v13 = 0;
@@ -16261,7 +16220,7 @@ L1:;
     return v10;
 }
 
-static void f182(u64 v0, u32 v1)
+static void f181(u64 v0, u32 v1)
 {
     u32 v7 = 0, t0;
     u64 v2 = 0, v3 = 0, v4 = 0, v5 = 0, v6 = 0;
@@ -16307,7 +16266,7 @@ L4:;
     TRAP();
 }
 
-static u32 f183(u64 v0, u32 v1, u64 v2)
+static u32 f182(u64 v0, u32 v1, u64 v2)
 {
     ROOM(frame, 80);
     u32 v5 = 0, v19 = 0, v20 = 0, v21 = 0, v25 = 0, v26 = 0, v27 = 0, v28 = 0, v29 = 0, v30 = 0, v31 = 0, v32 = 0, v33
@@ -16354,7 +16313,7 @@ L14:;
     default: goto L11;
     }
 L15:;
-    t0 = f181(v15, v13, l8(v0 + 5672ull), l4(v0 + 812ull), v14, v12);
+    t0 = f180(v15, v13, l8(v0 + 5672ull), l4(v0 + 812ull), v14, v12);
     v22 = t0;
 L12:;
     v23 = v11 + v22;
@@ -16377,7 +16336,7 @@ L12:;
     if (v36 != 1u) goto L17;
     v24 = l8(v3 + 32ull) + 1ull;
     v37 = v26 + v28;
-    f69(v4, v24, (u64)(u32)(v24 == 0), (u64)v37, 0ull);
+    f68(v4, v24, (u64)(u32)(v24 == 0), (u64)v37, 0ull);
     v24 = l8(v4 + 8);
     v35 = (u32)v24;
     if (v26) goto L19;
@@ -16498,7 +16457,7 @@ L10:;
     v29 = 0u;
     goto L8;
 L9:;
-    f70(v4 + 48ull, v4 + 28ull, v26);
+    f69(v4 + 48ull, v4 + 28ull, v26);
     v26 = l4(v4 + 72);
     v21 = l4(v4 + 68);
     v28 = l4(v4 + 64);
@@ -16622,10 +16581,10 @@ L49:;
     s8(v23, v45);
     v3 = v22;
     if (v27) goto L51;
-    f72(v15, v22);
+    f71(v15, v22);
     v3 = 0ull;
 L51:;
-    f73(v14, v22, v34, v5);
+    f72(v14, v22, v34, v5);
     s8(v16 + 8, 0ull);
     s8(v16, 0ull);
     s8(v0 + 5704ull, v3);
@@ -16694,7 +16653,7 @@ L56:;
     s4(v17 + 3, l4(A(data + 478)));
     s4(v17, l4(A(data + 475)));
 L52:;
-    f182(v6, v38);
+    f181(v6, v38);
     v3 = v0 + 14360ull;
     t2 = v3;
     v3 = l8(v3) + 0xFFFFFFFFFFFFFFFAull;
@@ -16709,7 +16668,7 @@ L58:;
     s4(v3, l4(A(data + 450)));
 L57:;
     if (v36 == 0) goto L60;
-    f182(v6, v37);
+    f181(v6, v37);
     goto L59;
 L60:;
     v3 = v0 + 14360ull;
@@ -16737,7 +16696,7 @@ L63:;
     s4(v3 + 3, l4(A(data + 459)));
     s4(v3, l4(A(data + 456)));
 L62:;
-    f182(v6, v33);
+    f181(v6, v33);
     v3 = v0 + 14360ull;
     t5 = v3;
     v3 = l8(v3) + 0xFFFFFFFFFFFFFFFAull;
@@ -16751,7 +16710,7 @@ L65:;
     s2(v3 + 4, l2(A(data + 467)));
     s4(v3, l4(A(data + 463)));
 L64:;
-    f182(v6, v32);
+    f181(v6, v32);
     v3 = v0 + 14360ull;
     t6 = v3;
     v3 = l8(v3) + 0xFFFFFFFFFFFFFFFAull;
@@ -16846,7 +16805,7 @@ L2:;
     TRAP();
 }
 
-static u32 f184(u64 v0, u32 v1, u64 v2, u64 v3)
+static u32 f183(u64 v0, u32 v1, u64 v2, u64 v3)
 {
     ROOM(frame, 176);
     u32 v6 = 0, v7 = 0, v8 = 0, v9 = 0, v10 = 0, v11 = 0, v12 = 0, v13 = 0, v19 = 0, v22 = 0, v23 = 0, v24 = 0, v26 =
@@ -16858,7 +16817,7 @@ static u32 f184(u64 v0, u32 v1, u64 v2, u64 v3)
     s8(v5 + 40, 0ull);
     s8(v5 + 32, 0ull);
     s8(v5 + 24, 0ull);
-    f90(v5 + 24ull, v2, v3);
+    f89(v5 + 24ull, v2, v3);
     if (l1(v5 + 24)) goto L22;
     v6 = 1u;
     v7 = l1(v5 + 37);
@@ -16989,7 +16948,7 @@ L34:;
 L33:;
     v12 = l2(v5 + 106);
 L32:;
-    f149(v5 + 48ull, v5 + 96ull, v12);
+    f148(v5 + 48ull, v5 + 96ull, v12);
     if (v1 & 255u) goto L43;
     v3 = v0 + 11120ull;
     v2 = l8(v3);
@@ -17067,7 +17026,7 @@ L45:;
     s4(v5 + 160, v12);
     v2 = v3 << 6;
     v4 = (l8((v15 + v2) + 32ull)) + 1ull;
-    f69(v5, v4, (u64)(u32)(v4 == 0), (v8 == 7u) ? ((u64)v12) : 0ull, 0ull);
+    f68(v5, v4, (u64)(u32)(v4 == 0), (v8 == 7u) ? ((u64)v12) : 0ull, 0ull);
     s8(v5 + 168, 0ull);
     s4(v5 + 164, v11);
     s4(v5 + 156, v6);
@@ -17117,7 +17076,7 @@ L47:;
     s1(v5 + 150, v1);
     s2(v5 + 148, v9);
     s4(v5 + 144, v10);
-    f150(v0 + 816ull, v5 + 144ull, (u32)v3, v11);
+    f149(v0 + 816ull, v5 + 144ull, (u32)v3, v11);
     if (v1 & 255u) goto L13;
     s4(v14, l4(v14) + 1u);
     goto L12;
@@ -17242,7 +17201,7 @@ L66:;
     v8 = l4(v4);
     v3 = 0ull;
     v31 = 0ull - v17;
-    f151(v2, v31);
+    f150(v2, v31);
     v4 = v14 + 5712ull;
     v2 = v16 + ((u64)l1(v4));
     s1(v2, l1(v2) + 0xFFFFFFFFu);
@@ -17334,7 +17293,7 @@ L76:;
     s8(v5 + 160, 0ull);
     s8(v5 + 152, 0ull);
     s8(v5 + 144, 0ull);
-    f70(v5 + 144ull, v5 + 124ull, v26);
+    f69(v5 + 144ull, v5 + 124ull, v26);
     v26 = 129u;
     switch (v13) {
     case 1: goto L84;
@@ -17470,7 +17429,7 @@ L12:;
     v16 = v0 + 14360ull;
     s8(v16, 107ull);
     v20 = v0 + 14248ull;
-    f182(v20, v10);
+    f181(v20, v10);
     v4 = l8(v16) + 0xFFFFFFFFFFFFFFF9ull;
     s8(v16, v4);
     v4 = v20 + v4;
@@ -17520,7 +17479,7 @@ L7:;
     v20 = v0 + 14248ull;
     v9 = 0u;
     if ((v11 & 255u) != 1u) goto L6;
-    f182(v20, v8);
+    f181(v20, v8);
     v4 = l8(v16) + 0xFFFFFFFFFFFFFFF7ull;
     s8(v16, v4);
     v4 = v20 + v4;
@@ -17534,7 +17493,7 @@ L88:;
 L87:;
     v9 = 1u;
 L6:;
-    f182(v20, v10);
+    f181(v20, v10);
     v4 = v0 + 14360ull;
     t1 = v4;
     v4 = l8(v4) + 0xFFFFFFFFFFFFFFF7ull;
@@ -17680,7 +17639,7 @@ L99:;
     return v10;
 }
 
-static u32 f185(u64 v0, u32 v1)
+static u32 f184(u64 v0, u32 v1)
 {
     ROOM(frame, 128);
     u32 v4 = 0, v5 = 0, v6 = 0, v7 = 0, v8 = 0, v10 = 0, v11 = 0, v12 = 0, v14 = 0, v16 = 0, v17 = 0, v18 = 0, v19 = 0;
@@ -17695,10 +17654,10 @@ static u32 f185(u64 v0, u32 v1)
     s8(v3 + 80, 0ull);
     s8(v3 + 72, 0ull);
     if (v1 & 255u) goto L3;
-    f104(v3 + 72ull, v0 + 8040ull);
+    f103(v3 + 72ull, v0 + 8040ull);
     goto L2;
 L3:;
-    f104(v3 + 72ull, v0 + 11128ull);
+    f103(v3 + 72ull, v0 + 11128ull);
 L2:;
     v4 = l1(v3 + 72) != 1u;
     if (v4 == 0) goto L5;
@@ -17919,7 +17878,7 @@ L23:;
     TRAP();
 }
 
-APART void f186(u64 v0, u64 v1, u64 v2)
+APART void f185(u64 v0, u64 v1, u64 v2)
 {
     ROOM(frame, 1008);
     u32 v13 = 0, v14 = 0, v15 = 0, v16 = 0, v17 = 0, v18 = 0, v19 = 0, v20 = 0, v21 = 0, v22 = 0, v28 = 0, v29 = 0, v30
@@ -17991,7 +17950,7 @@ L39:;
     if ((v30 & 255u) != 101u) goto L35;
     if ((v29 & 255u) != 97u) goto L35;
     if ((v28 & 255u) != 100u) goto L35;
-    t0 = f85(v24, 4ull, A(data + 38));
+    t0 = f84(v24, 4ull, A(data + 38));
     if (t0 == 0) goto L35;
     v29 = 3u;
     goto L18;
@@ -18004,7 +17963,7 @@ L38:;
     if ((v30 & 255u) != 111u) goto L29;
     if ((v29 & 255u) != 109u) goto L29;
     if ((v28 & 255u) != 112u) goto L29;
-    t1 = f85(v24, 7ull, A(data + 58));
+    t1 = f84(v24, 7ull, A(data + 58));
     if (t1 == 0) goto L29;
     v29 = 2u;
     goto L18;
@@ -18017,7 +17976,7 @@ L37:;
     if ((v30 & 255u) != 99u) goto L34;
     if ((v29 & 255u) != 101u) goto L34;
     if ((v28 & 255u) != 99u) goto L34;
-    t2 = f85(v24, 6ull, A(data + 47));
+    t2 = f84(v24, 6ull, A(data + 47));
     if (t2 == 0) goto L34;
     v29 = 0u;
     goto L18;
@@ -18031,7 +17990,7 @@ L36:;
     if ((v30 & 255u) != 119u) goto L40;
     if ((v29 & 255u) != 105u) goto L40;
     if ((v28 & 255u) != 116u) goto L40;
-    t3 = f85(v24, 5ull, A(data + 42));
+    t3 = f84(v24, 5ull, A(data + 42));
     if (t3 == 0) goto L33;
     v29 = 4u;
     goto L18;
@@ -18040,7 +17999,7 @@ L40:;
     if ((v30 & 255u) != 101u) goto L33;
     if ((v29 & 255u) != 97u) goto L33;
     if ((v28 & 255u) != 115u) goto L33;
-    t4 = f85(v24, 5ull, A(data + 53));
+    t4 = f84(v24, 5ull, A(data + 53));
     if (t4 == 0) goto L33;
     v29 = 1u;
     goto L18;
@@ -18049,14 +18008,14 @@ L35:;
     if ((v30 & 255u) != 116u) goto L41;
     if ((v29 & 255u) != 101u) goto L41;
     if ((v28 & 255u) != 112u) goto L41;
-    t5 = f85(v24, 4ull, A(data + 65));
+    t5 = f84(v24, 4ull, A(data + 65));
     if (t5) goto L24;
 L41:;
     if (v31 != 116u) goto L42;
     if ((v30 & 255u) != 97u) goto L42;
     if ((v29 & 255u) != 107u) goto L42;
     if ((v28 & 255u) != 101u) goto L42;
-    t6 = f85(v24, 4ull, A(data + 69));
+    t6 = f84(v24, 4ull, A(data + 69));
     if (t6 == 0) goto L42;
     v28 = 0u;
     v33 = 2u;
@@ -18066,7 +18025,7 @@ L42:;
     if ((v30 & 255u) != 111u) goto L14;
     if ((v29 & 255u) != 111u) goto L14;
     if ((v28 & 255u) != 107u) goto L14;
-    t7 = f85(v24, 4ull, A(data + 73));
+    t7 = f84(v24, 4ull, A(data + 73));
     if (t7 == 0) goto L14;
     v28 = 0u;
     v33 = 4u;
@@ -18076,7 +18035,7 @@ L34:;
     if ((v30 & 255u) != 116u) goto L32;
     if ((v28 & 255u) != 97u) goto L32;
     if ((v29 & 255u) != 116u) goto L32;
-    t8 = f85(v24, 6ull, A(data + 77));
+    t8 = f84(v24, 6ull, A(data + 77));
     if (t8) goto L27;
     goto L22;
 L33:;
@@ -18084,7 +18043,7 @@ L33:;
     if (v31 != 98u) goto L14;
     if ((v29 & 255u) != 111u) goto L14;
     if ((v28 & 255u) != 114u) goto L14;
-    t9 = f85(v24, 5ull, A(data + 83));
+    t9 = f84(v24, 5ull, A(data + 83));
     v30 = t9;
     if (v26 == 0) goto L14;
     if (v30 == 0) goto L14;
@@ -18108,7 +18067,7 @@ L32:;
     if ((v30 & 255u) != 97u) goto L22;
     if ((v29 & 255u) != 107u) goto L22;
     if ((v28 & 255u) != 99u) goto L22;
-    t10 = f85(v24, 6ull, A(data + 88));
+    t10 = f84(v24, 6ull, A(data + 88));
     if (t10 == 0) goto L22;
     goto L14;
 L31:;
@@ -18116,14 +18075,14 @@ L31:;
     if ((l1(v24 + 1ull) & 255u) != 101u) goto L14;
     if ((l1(v24 + 2ull) & 255u) != 116u) goto L14;
     if ((l1(v24 + 3ull) & 255u) != 99u) goto L14;
-    f85(v24, 13ull, A(data + 94));
+    f84(v24, 13ull, A(data + 94));
     goto L14;
 L30:;
     if (l1(v24) != 97u) goto L14;
     if ((l1(v24 + 1ull) & 255u) != 118u) goto L14;
     if ((l1(v24 + 2ull) & 255u) != 97u) goto L14;
     if ((l1(v24 + 3ull) & 255u) != 105u) goto L14;
-    t12 = f85(v24, 9ull, A(data + 113));
+    t12 = f84(v24, 9ull, A(data + 113));
     if (t12 == 0) goto L14;
     v28 = 4u;
     goto L21;
@@ -18132,7 +18091,7 @@ L29:;
     if ((v30 & 255u) != 101u) goto L14;
     if ((v29 & 255u) != 116u) goto L14;
     if ((v28 & 255u) != 117u) goto L14;
-    t13 = f85(v24, 7ull, A(data + 122));
+    t13 = f84(v24, 7ull, A(data + 122));
     if (t13 == 0) goto L14;
     v28 = 6u;
     goto L21;
@@ -18141,7 +18100,7 @@ L28:;
     if ((l1(v24 + 1ull) & 255u) != 110u) goto L14;
     if ((l1(v24 + 2ull) & 255u) != 105u) goto L14;
     if ((l1(v24 + 3ull) & 255u) != 116u) goto L14;
-    t14 = f85(v24, 10ull, A(data + 129));
+    t14 = f84(v24, 10ull, A(data + 129));
     if (t14 == 0) goto L14;
     v28 = 2u;
     goto L21;
@@ -18267,7 +18226,7 @@ L22:;
     if ((v30 & 255u) != 110u) goto L14;
     if ((v28 & 255u) != 108u) goto L14;
     if ((v29 & 255u) != 105u) goto L14;
-    t15 = f85(v24, 6ull, A(data + 107));
+    t15 = f84(v24, 6ull, A(data + 107));
     if (t15 == 0) goto L14;
     v28 = 5u;
 L21:;
@@ -18449,7 +18408,7 @@ L17:;
     v21 = 0u;
     goto L13;
 L14:;
-    f180(v4 + 232ull, v1, v12);
+    f179(v4 + 232ull, v1, v12);
     if (l1(v4 + 232)) goto L10;
     if (l1(v4 + 240) != 1u) goto L8;
     v13 = l4(v4 + 268);
@@ -18549,7 +18508,7 @@ L77:;
     v3 = l8(v4 + 16);
     fill(v4 + 232ull, 0u, 80ull);
     if ((v3 + 0xFFFFFFFFFFFFFF7Eull) <= 0xFFFFFFFFFFFFFF7Full) goto L74;
-    f177(v4 + 232ull, v24, v3);
+    f176(v4 + 232ull, v24, v3);
     if (l1(v4 + 232)) goto L74;
     copy(v9, v10, 72ull);
     copy(v4 + 232ull, v9, 72ull);
@@ -18565,12 +18524,12 @@ L76:;
     s4(v4 + 4, v20);
     s1(v4 + 1, v21);
     s1(v4, v22);
-    t16 = f183(v2, v20, v11);
+    t16 = f182(v2, v20, v11);
     if ((t16 & 255u) == 0) goto L3;
     goto L4;
 L75:;
     fill(v4 + 232ull, 0u, 776ull);
-    f97(v4 + 232ull, v6);
+    f96(v4 + 232ull, v6);
     v40 = l8(v4 + 1000);
     if (v40 == 0) goto L87;
     v37 = 0ull;
@@ -18579,11 +18538,11 @@ L88:;
     v3 = v2 + 14360ull;
     s8(v3, 107ull);
     v24 = (v4 + 232ull) + (v37 * 12ull);
-    f182(v5, l4(v24 + 8ull));
+    f181(v5, l4(v24 + 8ull));
     v23 = l8(v3) + 0xFFFFFFFFFFFFFFFFull;
     s8(v3, v23);
     s1(v5 + v23, 32u);
-    f182(v5, l4(v24 + 4ull));
+    f181(v5, l4(v24 + 4ull));
     v23 = l8(v3) + 0xFFFFFFFFFFFFFFF9ull;
     s8(v3, v23);
     v3 = v5 + v23;
@@ -18674,7 +18633,7 @@ L74:;
     fill(v4 + 232ull, 0u, 72ull);
 L11:;
     copy(v4 + 24ull, v4 + 232ull, 72ull);
-    t18 = f184(v2, v21, v4 + 24ull, l8(v4 + 88));
+    t18 = f183(v2, v21, v4 + 24ull, l8(v4 + 88));
     if ((t18 & 255u) == 0) goto L3;
     goto L4;
 L10:;
@@ -18703,7 +18662,7 @@ L9:;
     s4(v4 + 4, v20);
     s1(v4 + 1, v21);
     s1(v4, v22);
-    t19 = f185(v2, v21);
+    t19 = f184(v2, v21);
     if ((t19 & 255u) == 0) goto L3;
     goto L4;
 L8:;
@@ -18741,7 +18700,7 @@ L5:;
     s4(v4 + 96, v20);
     s8(v4 + 144, v3);
     s4(v4 + 108, v30 | (v18 & 65535u));
-    t20 = f184(v2, v21, v4 + 96ull, v3);
+    t20 = f183(v2, v21, v4 + 96ull, v3);
     if ((t20 & 255u) == 0) goto L3;
 L4:;
     s1(v0, 1u);
@@ -18753,7 +18712,7 @@ L1:;
     return;
 }
 
-static u64 f187(u64 v0, u64 v1)
+static u64 f186(u64 v0, u64 v1)
 {
     u32 v5 = 0, v6 = 0, t0;
     u64 v2 = 0, v3 = 0, v4 = 0;
@@ -18796,7 +18755,7 @@ L6:;
     TRAP();
 }
 
-static void f188(u64 v0, u64 v1, u64 v2, u32 v3)
+static void f187(u64 v0, u64 v1, u64 v2, u32 v3)
 {
     u64 v4 = 0;
     if ((v3 & 64u) == 0) goto L2;
@@ -18813,7 +18772,7 @@ L1:;
     return;
 }
 
-static void f189(u64 v0, u64 v1, u64 v2, u32 v3)
+static void f188(u64 v0, u64 v1, u64 v2, u32 v3)
 {
     u64 v4 = 0;
     if ((v3 & 64u) == 0) goto L2;
@@ -18830,7 +18789,7 @@ L1:;
     return;
 }
 
-APART u32 f190(u64 v0, u64 v1, u64 v2, u64 v3, u64 v4, u64 v5)
+APART u32 f189(u64 v0, u64 v1, u64 v2, u64 v3, u64 v4, u64 v5)
 {
     ROOM(frame, 40352);
     u32 v13 = 0, v20 = 0, v21 = 0, v22 = 0, v23 = 0, v24 = 0, v25 = 0, v26 = 0, v27 = 0, v29 = 0, v30 = 0, v31 = 0, v32
@@ -18887,7 +18846,7 @@ APART u32 f190(u64 v0, u64 v1, u64 v2, u64 v3, u64 v4, u64 v5)
     s8(v6 + 35536, 0ull);
     s8(v6 + 35528, 0ull);
     s8(v6 + 35520, 0ull);
-    f170(v6 + 35520ull, v6 + 72ull);
+    f169(v6 + 35520ull, v6 + 72ull);
     v7 = l8(v6 + 35524);
     if (l1(v6 + 35520)) goto L2;
     v8 = 17179869184ull;
@@ -18927,7 +18886,7 @@ L13:;
     if ((l1(v1 + 1ull) & 255u) != 114u) goto L9;
     if ((l1(v1 + 2ull) & 255u) != 101u) goto L9;
     if ((l1(v1 + 3ull) & 255u) != 100u) goto L9;
-    t0 = f85(v1, 7ull, A(data + 14));
+    t0 = f84(v1, 7ull, A(data + 14));
     if (t0 == 0) goto L9;
     v8 = 21474836480ull;
     v3 = v0 - v15;
@@ -19034,7 +18993,7 @@ L7:;
     s8(v6 + 35536, 0ull);
     s8(v6 + 35528, 0ull);
     s8(v6 + 35520, 0ull);
-    f170(v6 + 35520ull, v6 + 72ull);
+    f169(v6 + 35520ull, v6 + 72ull);
     v7 = l8(v6 + 35524);
     if (l1(v6 + 35520)) goto L2;
     v16 = 17179869184ull;
@@ -19078,7 +19037,7 @@ L44:;
     if ((l1(v1 + 1ull) & 255u) != 97u) goto L3;
     if ((l1(v1 + 2ull) & 255u) != 115u) goto L3;
     if ((l1(v1 + 3ull) & 255u) != 115u) goto L3;
-    t1 = f85(v1, 7ull, A(data + 27));
+    t1 = f84(v1, 7ull, A(data + 27));
     if (t1 == 0) goto L3;
     v16 = 21474836480ull;
     if (v3 == 0) goto L3;
@@ -19130,7 +19089,7 @@ L43:;
     if ((l1(v1 + 1ull) & 255u) != 117u) goto L3;
     if ((l1(v1 + 2ull) & 255u) != 100u) goto L3;
     if ((l1(v1 + 3ull) & 255u) != 103u) goto L3;
-    t2 = f85(v1, 6ull, A(data + 21));
+    t2 = f84(v1, 6ull, A(data + 21));
     if (t2 == 0) goto L3;
     v16 = 21474836480ull;
     if (v3 == 0) goto L3;
@@ -19177,13 +19136,13 @@ L64:;
     if (v1 > 4294967295ull) goto L3;
     v13 = 1u;
 L42:;
-    f171(v6 + 33472ull, v6 + 72ull, A(data + 0), 0xFFFFFFFFu);
+    f170(v6 + 33472ull, v6 + 72ull, A(data + 0), 0xFFFFFFFFu);
     v2 = l8(v6 + 33476);
     if (l1(v6 + 33472) == 0) goto L65;
     v7 = v2;
     goto L2;
 L65:;
-    f171(v6 + 33472ull, v6 + 72ull, A(data + 7), 65535u);
+    f170(v6 + 33472ull, v6 + 72ull, A(data + 7), 65535u);
     v3 = l8(v6 + 33476);
     if (l1(v6 + 33472) == 0) goto L66;
     v7 = v3;
@@ -19326,7 +19285,7 @@ L66:;
     s8(v6 + 35536, 0ull);
     s8(v6 + 35528, 0ull);
     s8(v6 + 35520, 0ull);
-    f170(v6 + 35520ull, v6 + 72ull);
+    f169(v6 + 35520ull, v6 + 72ull);
     v7 = l8(v6 + 35524);
     if (l1(v6 + 35520)) goto L2;
     v16 = v7 >> 32;
@@ -19360,9 +19319,9 @@ L71:;
     if ((l1(v0 + 1ull) & 255u) != 110u) goto L68;
     if ((l1(v0 + 2ull) & 255u) != 105u) goto L68;
     if ((l1(v0 + 3ull) & 255u) != 116u) goto L68;
-    t3 = f85(v0, 4ull, A(data + 34));
+    t3 = f84(v0, 4ull, A(data + 34));
     if (t3 == 0) goto L68;
-    f176(v6 + 64ull, v6 + 23336ull, v0 + v3, v7 - v3);
+    f175(v6 + 64ull, v6 + 23336ull, v0 + v3, v7 - v3);
     if (l1(v6 + 64) == 0) goto L67;
     v7 = (((u64)l1(v6 + 65)) << 32) | v16;
     goto L2;
@@ -19394,7 +19353,7 @@ L76:;
     s4(v6 + 23320, 0u);
     s2(v6 + 23324, 0u);
     fill(v6 + 27248ull, 0u, 776ull);
-    f170(v6 + 28536ull, v6 + 72ull);
+    f169(v6 + 28536ull, v6 + 72ull);
     v7 = l8(v6 + 28540);
     if (l1(v6 + 28536)) goto L2;
     v14 = l8(v6 + 28552);
@@ -19454,7 +19413,7 @@ L90:;
     if (v1 != 0ull) goto L89;
 L88:;
     fill(v6 + 35520ull, 0u, 784ull);
-    f92(v6 + 35520ull, v6 + 23336ull, l8(v6 + 24104));
+    f91(v6 + 35520ull, v6 + 23336ull, l8(v6 + 24104));
     if (l1(v6 + 35520)) goto L91;
     v24 = 1u;
     if ((v25 & 1u) == 0) goto L92;
@@ -19480,9 +19439,9 @@ L86:;
     if ((l1(v8 + 1ull) & 255u) != 110u) goto L79;
     if ((l1(v8 + 2ull) & 255u) != 105u) goto L79;
     if ((l1(v8 + 3ull) & 255u) != 116u) goto L79;
-    t5 = f85(v8, 4ull, A(data + 34));
+    t5 = f84(v8, 4ull, A(data + 34));
     if (t5 == 0) goto L79;
-    f176(v6 + 56ull, v6 + 23336ull, v0, v3 - v1);
+    f175(v6 + 56ull, v6 + 23336ull, v0, v3 - v1);
     if (l1(v6 + 56)) goto L93;
     v24 = 0u;
     s2(v6 + 23324, 0u);
@@ -19545,7 +19504,7 @@ L77:;
     fill(v6 + 28536ull, 0u, 1032ull);
     fill(v6 + 27248ull, 0u, 1288ull);
     fill(v6 + 26464ull, 0u, 784ull);
-    f92(v6 + 26464ull, v1, l8(v6 + 30368));
+    f91(v6 + 26464ull, v1, l8(v6 + 30368));
     if (l1(v6 + 26464)) goto L6;
     v21 = l4(v6 + 29580);
     v20 = l4(v6 + 29576);
@@ -19555,7 +19514,7 @@ L77:;
     fill(v6 + 30376ull, 0u, 1288ull);
     v1 = l8(v6 + 33464);
     fill(v6 + 35520ull, 0u, 1032ull);
-    f94(v6 + 35520ull);
+    f93(v6 + 35520ull);
     if (v1 == 0) goto L94;
     v3 = l8(v6 + 36544);
     if (v1 != 1ull) goto L96;
@@ -19703,7 +19662,7 @@ L100:;
     s8(v6 + 23272, 0ull);
     s8(v6 + 23280, 0ull);
     s8(v6 + 23288, 0ull);
-    f186(v6 + 112ull, v6 + 72ull, v6 + 8880ull);
+    f185(v6 + 112ull, v6 + 72ull, v6 + 8880ull);
     if (l1(v6 + 112)) goto L5;
     v28 = l8(v6 + 23112);
     v2 = l8(v6 + 23120);
@@ -19729,7 +19688,7 @@ L101:;
     s8(v6 + 35536, 0ull);
     s8(v6 + 35528, 0ull);
     s8(v6 + 35520, 0ull);
-    t6 = f187(v5, v6 + 35520ull);
+    t6 = f186(v5, v6 + 35520ull);
     v5 = t6;
     v2 = 40ull - v5;
     if ((v28 - v7) < v2) goto L4;
@@ -19767,13 +19726,13 @@ L107:;
     v17 = v17 + 0xFFFFFFFFFFFFFFFFull;
     if (v13) goto L108;
     if (((v5 ^ 127ull) | v7) == 0) goto L108;
-    f188(v6 + 32ull, v19, v18, 127u - ((u32)v5));
+    f187(v6 + 32ull, v19, v18, 127u - ((u32)v5));
     v2 = l8(v6 + 40);
     v1 = l8(v6 + 32);
     v0 = v5 + 1ull;
     v14 = v7 + ((u64)(u32)(v0 == 0));
     if ((v0 | v14) == 0) goto L110;
-    f189(v6 + 16ull, v19, v18, (u32)v0);
+    f188(v6 + 16ull, v19, v18, (u32)v0);
     v10 = 10ull + 0xFFFFFFFFFFFFFFFFull;
     v12 = 0ull - ((u64)(u32)(10ull == 0));
     v5 = l8(v6 + 24);
@@ -19802,7 +19761,7 @@ L109:;
     v0 = (v2 << 1) | (v1 >> 63);
     v1 = v3 | (v1 << 1);
 L108:;
-    f69(v6, v1, v6, 10ull, 0ull);
+    f68(v6, v1, v6, 10ull, 0ull);
     s1((v6 + 35520ull) + v17, ((u32)(v19 - l8(v6))) | 48u);
     if (v18 > 9ull) goto L107;
 L106:;
@@ -19867,7 +19826,7 @@ L119:;
     s8(v6 + 35536, 0ull);
     s8(v6 + 35528, 0ull);
     s8(v6 + 35520, 0ull);
-    t8 = f187(v2, v6 + 35520ull);
+    t8 = f186(v2, v6 + 35520ull);
     v2 = t8;
     v1 = 40ull - v2;
     if ((v28 - v0) < v1) goto L4;
@@ -19924,13 +19883,13 @@ static u32 w_mscp_run_script_at(u64 v0, u64 v1, u64 v2, u64 v3, u64 v4, u64 v5)
     f59();
     TRAP();
 L1:;
-    t1 = f190(v0, v1, v2, v3, v4, v5);
+    t1 = f189(v0, v1, v2, v3, v4, v5);
     v6 = t1;
     f61();
     return v6;
 }
 
-APART u32 f191(u64 v0, u64 v1, u64 v2, u64 v3)
+APART u32 f190(u64 v0, u64 v1, u64 v2, u64 v3)
 {
     ROOM(frame, 7344);
     u32 v5 = 0;
@@ -19942,7 +19901,7 @@ APART u32 f191(u64 v0, u64 v1, u64 v2, u64 v3)
     goto L2;
 L3:;
     v0 = l8(v0);
-    f137(v4, v0, l1(v0 + 5712ull));
+    f136(v4, v0, l1(v0 + 5712ull));
     copy(v4 + 3672ull, v4, 3672ull);
     v0 = l8(v4 + 7336);
     s8(v3, v0);
@@ -19967,13 +19926,13 @@ static u32 w_mscp_save_at(u64 v0, u64 v1, u64 v2, u64 v3)
     f59();
     TRAP();
 L1:;
-    t1 = f191(v0, v1, v2, v3);
+    t1 = f190(v0, v1, v2, v3);
     v4 = t1;
     f61();
     return v4;
 }
 
-static void f192(void)
+static void f191(void)
 {
     goto L1;
 L1:;
@@ -19988,12 +19947,12 @@ static u64 w_mscp_save_size(void)
     f59();
     TRAP();
 L1:;
-    f192();
+    f191();
     f61();
     return 3664ull;
 }
 
-static u32 f193(u64 v0, u32 v1, u64 v2, u64 v3, u64 v4)
+static u32 f192(u64 v0, u32 v1, u64 v2, u64 v3, u64 v4)
 {
     ROOM(frame, 32);
     u32 v6 = 0, v7 = 0;
@@ -20016,7 +19975,7 @@ L4:;
 L6:;
     v6 = 1u;
 L5:;
-    f152(v5 + 8ull, l8(v0), v6, v2 + ((v2 == 0) ? 4096ull : 0ull), v3);
+    f151(v5 + 8ull, l8(v0), v6, v2 + ((v2 == 0) ? 4096ull : 0ull), v3);
     if (l1(v5 + 8)) goto L7;
     v7 = l4(v5 + 16);
     if (l1(v5 + 12)) goto L2;
@@ -20050,13 +20009,13 @@ static u32 w_mscp_send_at(u64 v0, u32 v1, u64 v2, u64 v3, u64 v4)
     f59();
     TRAP();
 L1:;
-    t1 = f193(v0, v1, v2, v3, v4);
+    t1 = f192(v0, v1, v2, v3, v4);
     v1 = t1;
     f61();
     return v1;
 }
 
-static u32 f194(u64 v0, u64 v1, u64 v2, u64 v3)
+static u32 f193(u64 v0, u64 v1, u64 v2, u64 v3)
 {
     u32 v4 = 0, v6 = 0;
     u64 v5 = 0, v7 = 0, v8 = 0, v9 = 0;
@@ -20106,13 +20065,13 @@ static u32 w_mscp_settings_at(u64 v0, u64 v1, u64 v2, u64 v3)
     f59();
     TRAP();
 L1:;
-    t1 = f194(v0, v1, v2, v3);
+    t1 = f193(v0, v1, v2, v3);
     v4 = t1;
     f61();
     return v4;
 }
 
-static u32 f195(u64 v0, u64 v1, u64 v2, u32 v3, u32 v4)
+static u32 f194(u64 v0, u64 v1, u64 v2, u32 v3, u32 v4)
 {
     ROOM(frame, 48);
     u32 v6 = 0;
@@ -20147,7 +20106,7 @@ L3:;
     s8(v5 + 24, 0ull);
     s8(v5 + 16, 0ull);
     s8(v5 + 8, 0ull);
-    t0 = f187((u64)v3, v5 + 8ull);
+    t0 = f186((u64)v3, v5 + 8ull);
     v2 = t0;
     v1 = 40ull - v2;
     if ((l8(v0 + 8ull) - v8) < v1) goto L2;
@@ -20173,7 +20132,7 @@ L6:;
     s8(v5 + 24, 0ull);
     s8(v5 + 16, 0ull);
     s8(v5 + 8, 0ull);
-    t1 = f187(((u64)v4) & 65535ull, v5 + 8ull);
+    t1 = f186(((u64)v4) & 65535ull, v5 + 8ull);
     v2 = t1;
     v6 = 1u;
     v7 = 40ull - v2;
@@ -20188,7 +20147,7 @@ L2:;
     TRAP();
 }
 
-static u32 f196(u64 v0, u64 v1, u64 v2, u32 v3, u64 v4, u64 v5, u32 v6)
+static u32 f195(u64 v0, u64 v1, u64 v2, u32 v3, u64 v4, u64 v5, u32 v6)
 {
     ROOM(frame, 48);
     u32 v8 = 0;
@@ -20221,7 +20180,7 @@ L3:;
     s8(v7 + 24, 0ull);
     s8(v7 + 16, 0ull);
     s8(v7 + 8, 0ull);
-    t0 = f187((u64)v3, v7 + 8ull);
+    t0 = f186((u64)v3, v7 + 8ull);
     v2 = t0;
     v1 = 40ull - v2;
     if ((l8(v0 + 8ull) - v10) < v1) goto L2;
@@ -20254,7 +20213,7 @@ L6:;
     s8(v7 + 24, 0ull);
     s8(v7 + 16, 0ull);
     s8(v7 + 8, 0ull);
-    t1 = f187((u64)v6, v7 + 8ull);
+    t1 = f186((u64)v6, v7 + 8ull);
     v2 = t1;
     v8 = 1u;
     v9 = 40ull - v2;
@@ -20269,7 +20228,7 @@ L2:;
     TRAP();
 }
 
-static u32 f197(u64 v0, u64 v1, u32 v2)
+static u32 f196(u64 v0, u64 v1, u32 v2)
 {
     ROOM(frame, 48);
     u32 v4 = 0;
@@ -20292,7 +20251,7 @@ L3:;
     s8(v3 + 24, 0ull);
     s8(v3 + 16, 0ull);
     s8(v3 + 8, 0ull);
-    t0 = f187(v1, v3 + 8ull);
+    t0 = f186(v1, v3 + 8ull);
     v5 = t0;
     v1 = 40ull - v5;
     if ((l8(v0 + 8ull) - v6) < v1) goto L2;
@@ -20319,7 +20278,7 @@ L6:;
     s8(v3 + 24, 0ull);
     s8(v3 + 16, 0ull);
     s8(v3 + 8, 0ull);
-    t1 = f187((u64)v2, v3 + 8ull);
+    t1 = f186((u64)v2, v3 + 8ull);
     v5 = t1;
     v4 = 1u;
     v1 = 40ull - v5;
@@ -20334,7 +20293,7 @@ L2:;
     TRAP();
 }
 
-APART u32 f198(u64 v0, u64 v1, u64 v2, u64 v3, u64 v4)
+APART u32 f197(u64 v0, u64 v1, u64 v2, u64 v3, u64 v4)
 {
     ROOM(frame, 288);
     u32 v6 = 0, v9 = 0, v10 = 0, v11 = 0, v12 = 0, v19 = 0, v20 = 0, t0, t4, t6, t7, t9, t17, t18, t21;
@@ -20368,7 +20327,7 @@ L10:;
     if ((((v9 & 0xFFFFFFDFu) + 0xFFFFFFBFu) & 255u) < 6u) goto L9;
     goto L7;
 L8:;
-    f177(v5 + 184ull, v0, v1);
+    f176(v5 + 184ull, v0, v1);
     if (l1(v5 + 184)) goto L7;
     if (v1 >= 24ull) goto L11;
     v6 = 0xFFFFFFFFu;
@@ -20389,12 +20348,12 @@ L11:;
     s8(v5 + 224, 0ull);
     s8(v5 + 232, 0ull);
     if ((i32)((u32)(i32)(i8)l1(v5 + 96)) < (i32)0u) goto L12;
-    f90(v5 + 264ull, v5 + 88ull, v0);
+    f89(v5 + 264ull, v5 + 88ull, v0);
     if (l1(v5 + 264) == 0) goto L6;
     v6 = l1(v5 + 265) ? 0xFFFFFFFEu : 0xFFFFFFFFu;
     goto L7;
 L12:;
-    f81(v5 + 184ull, v5 + 88ull, v0);
+    f80(v5 + 184ull, v5 + 88ull, v0);
     if (l1(v5 + 184) == 0) goto L5;
     v6 = (l1(v5 + 185) == 1u) ? 0xFFFFFFFDu : 0xFFFFFFFCu;
 L7:;
@@ -20405,7 +20364,7 @@ L6:;
     v11 = l4(v5 + 280);
     v9 = l2(v5 + 276);
     v6 = l2(v5 + 278);
-    t0 = f195(v5 + 160ull, A(data + 511), 8ull, l4(v5 + 268), l4(v5 + 272));
+    t0 = f194(v5 + 160ull, A(data + 511), 8ull, l4(v5 + 268), l4(v5 + 272));
     if (t0 & 255u) goto L2;
     v0 = l8(v5 + 176);
     if (l8(v5 + 168) == v0) goto L2;
@@ -20444,7 +20403,7 @@ L22:;
     s8(v5 + 200, 0ull);
     s8(v5 + 192, 0ull);
     s8(v5 + 184, 0ull);
-    t1 = f187((u64)v11, v5 + 184ull);
+    t1 = f186((u64)v11, v5 + 184ull);
     v1 = t1;
     v0 = 40ull - v1;
     if ((v13 - v14) < v0) goto L2;
@@ -20475,7 +20434,7 @@ L25:;
     s8(v5 + 200, 0ull);
     s8(v5 + 192, 0ull);
     s8(v5 + 184, 0ull);
-    t2 = f187((u64)v11, v5 + 184ull);
+    t2 = f186((u64)v11, v5 + 184ull);
     v1 = t2;
     v0 = 40ull - v1;
     if ((v13 - v14) < v0) goto L2;
@@ -20528,7 +20487,7 @@ L29:;
     s8(v5 + 200, 0ull);
     s8(v5 + 192, 0ull);
     s8(v5 + 184, 0ull);
-    t3 = f187(v15, v5 + 184ull);
+    t3 = f186(v15, v5 + 184ull);
     v1 = t3;
     v0 = 40ull - v1;
     if ((v13 - v14) < v0) goto L2;
@@ -20618,7 +20577,7 @@ L36:;
     copy(v1, v14, v13);
 L35:;
     s8(v5 + 176, v16);
-    t4 = f196(v5 + 160ull, A(data + 643), 7ull, v11, A(data + 456), 7ull, v10);
+    t4 = f195(v5 + 160ull, A(data + 643), 7ull, v11, A(data + 456), 7ull, v10);
     if ((t4 & 255u) == 0) goto L3;
     goto L2;
 L13:;
@@ -20661,7 +20620,7 @@ L42:;
     s8(v5 + 200, 0ull);
     s8(v5 + 192, 0ull);
     s8(v5 + 184, 0ull);
-    t5 = f187(v13, v5 + 184ull);
+    t5 = f186(v13, v5 + 184ull);
     v1 = t5;
     v13 = 40ull - v1;
     if ((l8(v5 + 168) - v0) < v13) goto L2;
@@ -20680,7 +20639,7 @@ L5:;
     v11 = l1(v5 + 208);
     v6 = l4(v5 + 200);
     v9 = l2(v5 + 198);
-    t6 = f195(v5 + 160ull, A(data + 421), 4ull, l4(v5 + 192), l2(v5 + 196));
+    t6 = f194(v5 + 160ull, A(data + 421), 4ull, l4(v5 + 192), l2(v5 + 196));
     if (t6 & 255u) goto L2;
     v14 = l8(v5 + 168);
     v0 = l8(v5 + 176);
@@ -20741,7 +20700,7 @@ L55:;
     s8(v5 + 200, 0ull);
     s8(v5 + 192, 0ull);
     s8(v5 + 184, 0ull);
-    t8 = f187((u64)v10, v5 + 184ull);
+    t8 = f186((u64)v10, v5 + 184ull);
     v1 = t8;
     v13 = 40ull - v1;
     if ((l8(v5 + 168) - v0) < v13) goto L2;
@@ -20751,7 +20710,7 @@ L57:;
     s8(v5 + 176, v13 + v0);
     goto L3;
 L53:;
-    t9 = f197(v5 + 160ull, v1, v12);
+    t9 = f196(v5 + 160ull, v1, v12);
     if (t9 & 255u) goto L2;
     v1 = l8(v5 + 168);
     v0 = l8(v5 + 176);
@@ -20773,7 +20732,7 @@ L58:;
     s8(v5 + 200, 0ull);
     s8(v5 + 192, 0ull);
     s8(v5 + 184, 0ull);
-    t10 = f187((u64)(v20 & 65535u), v5 + 184ull);
+    t10 = f186((u64)(v20 & 65535u), v5 + 184ull);
     t11 = v1 - v13;
     v1 = t10;
     v0 = 40ull - v1;
@@ -20803,7 +20762,7 @@ L61:;
     s8(v5 + 200, 0ull);
     s8(v5 + 192, 0ull);
     s8(v5 + 184, 0ull);
-    t12 = f187(v13, v5 + 184ull);
+    t12 = f186(v13, v5 + 184ull);
     v13 = t12;
     v0 = 40ull - v13;
     if ((v14 - v1) < v0) goto L2;
@@ -20829,7 +20788,7 @@ L64:;
     s8(v5 + 200, 0ull);
     s8(v5 + 192, 0ull);
     s8(v5 + 184, 0ull);
-    t13 = f187((u64)(v19 & 65535u), v5 + 184ull);
+    t13 = f186((u64)(v19 & 65535u), v5 + 184ull);
     t14 = v13 - v1;
     v13 = t13;
     v0 = 40ull - v13;
@@ -20858,7 +20817,7 @@ L67:;
     s8(v5 + 200, 0ull);
     s8(v5 + 192, 0ull);
     s8(v5 + 184, 0ull);
-    t15 = f187(v13, v5 + 184ull);
+    t15 = f186(v13, v5 + 184ull);
     v13 = t15;
     v0 = 40ull - v13;
     if ((v15 - v17) < v0) goto L2;
@@ -20880,7 +20839,7 @@ L70:;
     s8(v5 + 200, 0ull);
     s8(v5 + 192, 0ull);
     s8(v5 + 184, 0ull);
-    t16 = f187(v1, v5 + 184ull);
+    t16 = f186(v1, v5 + 184ull);
     v0 = t16;
     v1 = 40ull - v0;
     if ((l8(v5 + 168) - v13) < v1) goto L2;
@@ -20890,9 +20849,9 @@ L72:;
     s8(v5 + 176, v1 + v13);
     goto L3;
 L51:;
-    t17 = f197(v5 + 160ull, v1, v12);
+    t17 = f196(v5 + 160ull, v1, v12);
     if (t17 & 255u) goto L2;
-    t18 = f196(v5 + 160ull, A(data + 772), 6ull, v20, A(data + 778), 8ull, v19);
+    t18 = f195(v5 + 160ull, A(data + 772), 6ull, v20, A(data + 778), 8ull, v19);
     if ((t18 & 255u) == 0) goto L3;
     goto L2;
 L50:;
@@ -20915,7 +20874,7 @@ L73:;
     s8(v5 + 200, 0ull);
     s8(v5 + 192, 0ull);
     s8(v5 + 184, 0ull);
-    t19 = f187((u64)v10, v5 + 184ull);
+    t19 = f186((u64)v10, v5 + 184ull);
     t20 = v1 - v13;
     v1 = t19;
     v0 = 40ull - v1;
@@ -20926,7 +20885,7 @@ L75:;
     s8(v5 + 176, v0 + v13);
     goto L3;
 L49:;
-    t21 = f196(v5 + 160ull, A(data + 716), 4ull, v10, A(data + 720), 8ull, (u32)v1);
+    t21 = f195(v5 + 160ull, A(data + 716), 4ull, v10, A(data + 720), 8ull, (u32)v1);
     if ((t21 & 255u) == 0) goto L3;
     goto L2;
     TRAP();
@@ -20985,13 +20944,13 @@ static u32 w_mscp_show_packet_at(u64 v0, u64 v1, u64 v2, u64 v3, u64 v4)
     f59();
     TRAP();
 L1:;
-    t1 = f198(v0, v1, v2, v3, v4);
+    t1 = f197(v0, v1, v2, v3, v4);
     v5 = t1;
     f61();
     return v5;
 }
 
-static void f199(void)
+static void f198(void)
 {
     goto L1;
 L1:;
@@ -21006,12 +20965,12 @@ static u64 w_mscp_size(void)
     f59();
     TRAP();
 L1:;
-    f199();
+    f198();
     f61();
     return 14224ull;
 }
 
-static u32 f200(u64 v0, u32 v1, u64 v2)
+static u32 f199(u64 v0, u32 v1, u64 v2)
 {
     ROOM(frame, 80);
     u32 v4 = 0, v11 = 0, v12 = 0, v13 = 0, v14 = 0, v15 = 0, v16 = 0, v17 = 0, v18 = 0, v19 = 0, v22 = 0, v23 = 0, v24
@@ -21073,7 +21032,7 @@ L9:;
     if (v24 != 1u) goto L14;
     v0 = l8(v10 + 32ull) + 1ull;
     v25 = v13 + v15;
-    f69(v3, v0, (u64)(u32)(v0 == 0), (u64)v25, 0ull);
+    f68(v3, v0, (u64)(u32)(v0 == 0), (u64)v25, 0ull);
     v0 = l8(v3 + 8);
     v23 = (u32)v0;
     if (v13) goto L16;
@@ -21180,7 +21139,7 @@ L5:;
     v32 = 0u;
     goto L3;
 L4:;
-    f70(v3 + 48ull, v3 + 28ull, v1);
+    f69(v3 + 48ull, v3 + 28ull, v1);
     v15 = l4(v3 + 72);
     v28 = l4(v3 + 68);
     v16 = l4(v3 + 64);
@@ -21305,10 +21264,10 @@ L45:;
     s8(v8, v9);
     v0 = v6;
     if (v14) goto L47;
-    f72(v7, v6);
+    f71(v7, v6);
     v0 = 0ull;
 L47:;
-    f73(v5 + 5720ull, v6, v20, v1);
+    f72(v5 + 5720ull, v6, v20, v1);
     s8(v5 + 5688ull, 0ull);
     s8(v5 + 5680ull, 0ull);
     s8(v5 + 5704ull, v0);
@@ -21380,13 +21339,13 @@ static u32 w_mscp_step(u64 v0, u32 v1, u64 v2)
     f59();
     TRAP();
 L1:;
-    t1 = f200(v0, v1, v2);
+    t1 = f199(v0, v1, v2);
     v1 = t1;
     f61();
     return v1;
 }
 
-static void f201(u64 v0, u64 v1, u32 v2)
+static void f200(u64 v0, u64 v1, u32 v2)
 {
     ROOM(frame, 64);
     u32 v4 = 0, v5 = 0, v6 = 0, v8 = 0, v9 = 0, v10 = 0, v11 = 0, v12 = 0, v14 = 0, v15 = 0, v16 = 0, v17 = 0, v18 = 0,
@@ -21401,10 +21360,10 @@ static void f201(u64 v0, u64 v1, u32 v2)
     s8(v3 + 16, 0ull);
     s8(v3 + 8, 0ull);
     if (v2 & 255u) goto L4;
-    f104(v3 + 8ull, v1 + 8048ull);
+    f103(v3 + 8ull, v1 + 8048ull);
     goto L3;
 L4:;
-    f104(v3 + 8ull, v1 + 11136ull);
+    f103(v3 + 8ull, v1 + 11136ull);
 L3:;
     if (l1(v3 + 8) != 1u) goto L5;
     v4 = l4(v3 + 56);
@@ -21522,7 +21481,7 @@ L1:;
     return;
 }
 
-static u32 f202(u64 v0, u32 v1, u64 v2)
+static u32 f201(u64 v0, u32 v1, u64 v2)
 {
     ROOM(frame, 128);
     u32 v4 = 0, v5 = 0;
@@ -21550,7 +21509,7 @@ L3:;
 L5:;
     v5 = 1u;
 L4:;
-    f201(v3 + 8ull, l8(v0), v5);
+    f200(v3 + 8ull, l8(v0), v5);
     v4 = 0u;
     if (l1(v3 + 8) != 1u) goto L2;
     v0 = l8(v3 + 64);
@@ -21579,13 +21538,13 @@ static u32 w_mscp_take(u64 v0, u32 v1, u64 v2)
     f59();
     TRAP();
 L1:;
-    t1 = f202(v0, v1, v2);
+    t1 = f201(v0, v1, v2);
     v1 = t1;
     f61();
     return v1;
 }
 
-static u64 f203(u64 v0, u32 v1)
+static u64 f202(u64 v0, u32 v1)
 {
     u64 v2 = 0, v3 = 0;
     if (l8(v0 + 24ull) == 0x4D5343504D414445ull) goto L2;
@@ -21616,13 +21575,13 @@ static u64 w_mscp_untaken(u64 v0, u32 v1)
     f59();
     TRAP();
 L1:;
-    t1 = f203(v0, v1);
+    t1 = f202(v0, v1);
     v0 = t1;
     f61();
     return v0;
 }
 
-static void f204(void)
+static void f203(void)
 {
     goto L1;
 L1:;
@@ -21637,12 +21596,12 @@ static u32 w_mscp_version(void)
     f59();
     TRAP();
 L1:;
-    f204();
+    f203();
     f61();
     return 1280u;
 }
 
-static u64 f205(u64 v0, u32 v1)
+static u64 f204(u64 v0, u32 v1)
 {
     u64 v2 = 0, v3 = 0;
     if (l8(v0 + 24ull) == 0x4D5343504D414445ull) goto L2;
@@ -21673,13 +21632,13 @@ static u64 w_mscp_waiting(u64 v0, u32 v1)
     f59();
     TRAP();
 L1:;
-    t1 = f205(v0, v1);
+    t1 = f204(v0, v1);
     v0 = t1;
     f61();
     return v0;
 }
 
-APART u32 f206(u64 v0, u32 v1, u32 v2, u64 v3, u64 v4)
+APART u32 f205(u64 v0, u32 v1, u32 v2, u64 v3, u64 v4)
 {
     ROOM(frame, 1552);
     u32 v7 = 0, v8 = 0;
@@ -21701,7 +21660,7 @@ L3:;
 L5:;
     v7 = 1u;
 L4:;
-    f162(v6, l8(v0), v7, v2);
+    f161(v6, l8(v0), v7, v2);
     copy(v6 + 776ull, v6, 776ull);
     v9 = l8(v6 + 1544);
     v0 = (v4 < v9) ? v4 : v9;
@@ -21753,7 +21712,7 @@ static u32 w_mscp_why_at(u64 v0, u32 v1, u32 v2, u64 v3, u64 v4)
     f59();
     TRAP();
 L1:;
-    t1 = f206(v0, v1, v2, v3, v4);
+    t1 = f205(v0, v1, v2, v3, v4);
     v2 = t1;
     f61();
     return v2;
