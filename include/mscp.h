@@ -413,9 +413,9 @@ size_t mscp_port_align(void);
 
 /* At least those sizes, for memory that is there from the start, as
  * static MSCP_ALIGNED uint64_t memory[(MSCP_HEAD + MSCP_SIZE) / sizeof(uint64_t)]; */
-#define MSCP_SIZE 15248u
+#define MSCP_SIZE 14224u
 #define MSCP_HOST_SIZE 1056u
-#define MSCP_PORT_SIZE 17136u
+#define MSCP_PORT_SIZE 16112u
 
 /* Marks of handles on memory where nothing was made yet. */
 #define MSCP_ROOM UINT64_C(0x4D534350524F4F4D)

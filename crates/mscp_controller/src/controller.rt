@@ -289,7 +289,8 @@ impl<K: Picker> Controller<K> {
     /// What the next step serves, if a command waits: the command, the block that it touches, how many steps it had, and
     /// how many it takes in all. Where nothing is in service and nothing was begun the picker picks it, and its choice is
     /// kept. Until a step, a reset, or an ABORT of that command, this answers the same; and it changes nothing that `look`,
-    /// `figure`, `balance`, `config`, `send` and `take` tell.
+    /// `figure`, `balance`, `config`, `send` and `take` tell. It is built into its caller, which reads it where it is made.
+    #[inline(always)]
     pub fn begin(&mut self) -> Option<Upcoming>
         ensures begin { Foretells (K.picks self.old.picker) self.old result self.new }
         ensures again { begun_step self.new ≡ result }

@@ -22,4 +22,11 @@ impl Picker for Policy {
             Policy::Sweep => Sweep.pick(view),
         }
     }
+
+    fn takes_first(&self, most: usize) -> bool {
+        match self {
+            Policy::Oldest => Oldest.takes_first(most),
+            Policy::Sweep => Sweep.takes_first(most),
+        }
+    }
 }

@@ -1,5 +1,5 @@
 -- One mask of many is cleared.
-use Rattle.mscp_queue.proofs.Common.{◌≡◌, ◌≢◌, ◌<◌, ◌≤◌, ◌+◌, ◌⊎◌, inl, inr, ℕ, List, length, get_or, set, false, sym, subst, ◌∙◌, arith, get_or-set_same, get_or-set_other, IsSet}
+use Rattle.mscp_queue.proofs.Common.{◌≡◌, ◌≢◌, ◌<◌, ◌≤◌, ◌+◌, ◌^◌, ◌++◌, ◌⊎◌, inl, inr, ℕ, List, length, take, get_or, set, false, sym, subst, ◌∙◌, arith, bit_at, bit_at_above, get_or-set_same, get_or-set_other, get_or-take, get_or_append_left, IsSet}
 
 below_or : (s n : ℕ) → s < n + 1 → (s < n) ⊎ (s ≡ n)
 below_or s n l = grind arith
@@ -22,3 +22,25 @@ module _ (old xs : List ℕ)
 
   pub next_above : (s : ℕ) → n + 1 ≤ s → get_or (set xs n r) s 0 ≡ get_or old s 0
   next_above s l = other s (λ e. omega (arith, e)) ∙ above s (omega arith)
+
+-- the slots of a mask with no bit from 16 on are the first
+low_slot : (mask k : ℕ) → mask < 2 ^ 16 → bit_at mask k ≡ 1 → k < 16
+low_slot mask k small on = by (split k)
+  where
+    split : (k : ℕ) → (k < 16) ⊎ (16 ≤ k)
+    split k = grind arith
+
+    by : (k < 16) ⊎ (16 ≤ k) → k < 16
+    by (inl low) = low
+    by (inr high) = let off = bit_at_above mask 16 k small high in absurd (omega (arith, on, off))
+
+-- so it is enough that a bit is cleared in the first masks
+pub front_cleared : (old new rest : List ℕ) (mask p k : ℕ) → mask < 2 ^ 16 → length new ≡ length (take 16 old)
+    → ((i : ℕ) → i < length (take 16 old) → IsSet false p (get_or (take 16 old) i 0) (get_or new i 0))
+    → length (take 16 old) ≡ 16 → bit_at mask k ≡ 1 → IsSet false p (get_or old k 0) (get_or (new ++ rest) k 0)
+front_cleared old new rest mask p k small long clear full on =
+    let low = low_slot mask k small on in
+    let inside : k < length (take 16 old) = omega (arith, low, full) in
+    subst (λ x. IsSet false p x (get_or (new ++ rest) k 0)) (get_or-take 16 old k 0 low)
+    (subst (λ x. IsSet false p (get_or (take 16 old) k 0) x)
+    (sym (get_or_append_left new rest 0 k (omega (arith, long, inside)))) (clear k inside))

@@ -1,5 +1,5 @@
 -- The masks stay those of the slots where a command leaves: at an end or an abort.
-use Rattle.mscp_queue.proofs.Common.{◌≡◌, ◌≢◌, ◌<◌, ◌⊎◌, inl, inr, ℕ, Bool, true, false, ◌&&◌, ◌||◌, nat_eq, List, [], ◌∷◌, ◌++◌, sym, subst, ap, ◌∙◌, refl, arith, slice_index_or, bit_at-zero, append-nil, Masks, AreEarlier, AreMasks, AreSlots, HasLeft, IsMaskOf, IsSet, Kind, bit, has}
+use Rattle.mscp_queue.proofs.Common.{◌≡◌, ◌≢◌, ◌<◌, ◌⊎◌, inl, inr, ℕ, Bool, true, false, ◌&&◌, ◌||◌, nat_eq, List, [], ◌∷◌, ◌++◌, sym, subst, ap, ◌∙◌, refl, arith, eqb-true, slice_index_or, append-nil, Masks, AreEarlier, AreMasks, AreSlots, HasLeft, IsMaskOf, IsSet, Kind, bit, has}
 use Rattle.mscp_queue.proofs.Masked.{eq_false, eq_true, has_gone, has_kept, if_not, not_behind, not_here, off, same_or, set_mask, unit_set, without, without_append}
 
 slots_left : (order : List ℕ) (n : ℕ) → AreSlots order → AreSlots (without n order)
@@ -14,16 +14,22 @@ slots_left (s ∷ order) n a = by (slots_left order n a.2) (same_or s n)
       h,
     )
 
-module _ (earlier earlier' : ℕ → ℕ) (n : ℕ) (clear : (s : ℕ) → IsSet false n (earlier s) (earlier' s)) where
-  cleared : (s : ℕ) (front : List ℕ) → IsMaskOf (earlier s) (λ k. has k front)
+module _ (earlier earlier' : ℕ → ℕ) (n : ℕ) where
+  cleared : (s : ℕ) (front : List ℕ) → IsSet false n (earlier s) (earlier' s) → IsMaskOf (earlier s) (λ k. has k front)
       → IsMaskOf (earlier' s) (λ k. has k (without n front))
-  cleared s front is = search (arith, has_gone n front, set_mask, has_kept)
+  cleared s front clear is = search (arith, has_gone n front, set_mask, has_kept)
 
-  earlier_left : (front order : List ℕ) → AreEarlier earlier front order
+  earlier_left : (front order : List ℕ)
+      → ((s : ℕ) → has s order ≡ true → s ≢ n → IsSet false n (earlier s) (earlier' s)) → AreEarlier earlier front order
       → AreEarlier earlier' (without n front) (without n order)
-  earlier_left front [] a = tt
-  earlier_left front (s ∷ order) a = by (earlier_left (front ++ s ∷ []) order a.1) (same_or s n)
+  earlier_left front [] clear a = tt
+  earlier_left front (s ∷ order) clear a = by (earlier_left (front ++ s ∷ []) order (λ k there.
+      clear k (ap (λ b. nat_eq k s || b) there ∙ or_true (nat_eq k s))) a.1) (same_or s n)
     where
+      or_true : (b : Bool) → (b || true) ≡ true
+      or_true true = refl
+      or_true false = refl
+
       ends : (b : Bool) → nat_eq s n ≡ b → without n (front ++ s ∷ []) ≡ without n front ++ if_not b s []
       ends b e = without_append n front (s ∷ []) ∙ ap (λ b. without n front ++ if_not b s []) e
 
@@ -35,25 +41,20 @@ module _ (earlier earlier' : ℕ → ℕ) (n : ℕ) (clear : (s : ℕ) → IsSet
           ∙ append-nil (without n front)) rest)
       by rest (inr d) =
           subst (λ b. AreEarlier earlier' (without n front) (if_not b s (without n order))) (sym (eq_false s n d)) (
-            cleared s front a.0,
+            cleared s front (clear s (ap (λ b. b || has s order) (eq_true s s refl)) d) a.0,
             subst (λ xs. AreEarlier earlier' xs (without n order))
                 (ends false (eq_false s n d)) rest,
           )
 
--- where nobody waits, nobody came earlier
-none_earlier : (m : ℕ) (earlier : ℕ → ℕ) (order : List ℕ) → m ≡ 0 → AreSlots order → IsMaskOf m (λ k. has k order)
-    → AreEarlier earlier [] order
-none_earlier m earlier [] e a is = tt
-none_earlier m earlier (s ∷ order) e a is = search (arith, eq_true s s refl, bit_at-zero s)
+slot_low : (order : List ℕ) (k : ℕ) → AreSlots order → has k order ≡ true → k < 64
+slot_low [] k a e = let bad = ap bit e in absurd (omega (arith, bad))
+slot_low (s ∷ order) k a e = search (arith, nat_eq k s, eqb-true k s, slot_low order k a.2)
 
 earlier_kept : (kinds : ℕ → Kind) (order : List ℕ) (m m' : Masks) (n drive : ℕ) → AreMasks kinds order m
-    → HasLeft n drive m m' → AreSlots (without n order) → IsMaskOf m'.waiting (λ k. has k (without n order))
+    → HasLeft n drive m m' → IsMaskOf m'.waiting (λ k. has k (without n order))
     → AreEarlier (λ k. slice_index_or m'.earlier k 0) [] (without n order)
-earlier_kept kinds order m m' n drive masks l apart waits = by (same_or m'.waiting 0)
-  where
-    by : (m'.waiting ≡ 0) ⊎ (m'.waiting ≢ 0) → AreEarlier (λ k. slice_index_or m'.earlier k 0) [] (without n order)
-    by (inl e) = none_earlier m'.waiting _ (without n order) e apart waits
-    by (inr d) = earlier_left _ _ n (l.earlier d) [] order masks.of_earlier
+earlier_kept kinds order m m' n drive masks l waits = earlier_left _ _ n [] order (λ s there d. l.earlier s
+    (waits s (slot_low order s masks.apart there) ∙ ap bit (has_kept s n order d ∙ there))) masks.of_earlier
 
 masks_without : (kinds : ℕ → Kind) (order : List ℕ) (m m' : Masks) (n : ℕ) → AreMasks kinds order m → n < 64
     → HasLeft n (kinds n).drive m m' → AreMasks kinds (without n order) m'
@@ -69,7 +70,7 @@ masks_without kinds order m m' n masks low l = record {
       (ap (λ b. b && (kinds n).serving) (has_gone n order))
       (λ k d. ap (λ b. b && (kinds k).serving) (has_kept k n order d));
   of_units = search (arith, set_mask, same_or, has_gone, has_kept);
-  of_earlier = earlier_kept kinds order m m' n (kinds n).drive masks l (slots_left order n masks.apart)
+  of_earlier = earlier_kept kinds order m m' n (kinds n).drive masks l
       (set_mask m.waiting m'.waiting n false _ _ l.waits masks.of_waiting (has_gone n order)
       (λ k d. has_kept k n order d));
 }

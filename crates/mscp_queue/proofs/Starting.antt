@@ -1,6 +1,6 @@
 -- The places that may start, found one after the other.
-use Rattle.mscp_queue.proofs.Basics.{append-nil, ◌≡◌, ◌⊎◌, inl, inr, ℕ, zero, suc, ◌+◌, ◌-◌, ◌<◌, ◌≤◌, Bool, true, false, cond, not, ◌&&◌, List, [], ◌∷◌, ◌++◌, map, take, get_or, length, refl, ap, sym, ◌∙◌, arith, All, filter, nat_eq, nat_le, AllByRecursion, list_all, range_with_len, eq-eqb, le-leb, leb-true, lt-leb, true≢false, get_or-map, get_or-drop, get_or-take, length-append, length-drop, length-map, length-take-le, map-append, take-map, All-from_recursion, All-take, filter-append, recursion_from_All, Shape, one_block, Target, Drive, Choice, target_of, targets_of, no_target, unit_place, fresh_drive, ArePassedInOrder, CanBeShown, IsShut, is_known, units_of, Kind, keeps_back, is_sequential, Record, drive_at, is_in_service, no_record, record_at, is_unfenced_at, kinds_of, no_kind, choice_of, choices_at, is_affordable, is_free, is_open_at, open_places, place_same, apart_by_place, every_kept, every_weaker, range_below, range_more, all_shown}
-use Rattle.mscp_queue.specs.Views.{fences}
+use Rattle.mscp_queue.proofs.Basics.{append-nil, ◌≡◌, ◌⊎◌, inl, inr, ℕ, zero, suc, ◌+◌, ◌-◌, ◌<◌, ◌≤◌, Bool, true, false, cond, not, ◌&&◌, List, [], ◌∷◌, ◌++◌, map, take, get_or, length, refl, ap, sym, ◌∙◌, arith, All, filter, nat_eq, nat_le, AllByRecursion, list_all, range_with_len, eq-eqb, le-leb, leb-true, lt-leb, true≢false, get_or-map, get_or-drop, get_or-take, length-append, length-drop, length-map, length-range_with_len, length-take-le, map-append, take-map, All-from_recursion, All-take, filter-append, recursion_from_All, Shape, one_block, Target, Drive, Choice, target_of, targets_of, no_target, unit_place, fresh_drive, ArePassedInOrder, CanBeShown, IsPick, IsShut, is_known, units_of, Kind, keeps_back, is_sequential, Record, drive_at, is_in_service, no_record, record_at, is_unfenced_at, kinds_of, no_kind, choice_of, choices_at, is_affordable, is_free, is_open_at, open_places, place_same, apart_by_place, every_kept, every_weaker, fewer, range_below, range_more, all_shown}
+use Rattle.mscp_queue.specs.Views.{fences, view_of}
 
 -- ---- who is free
 all_on : {X : Type 0} (p q : X → Bool) (xs : List X) → AllByRecursion (λ x. p x ≡ q x) xs
@@ -171,3 +171,22 @@ places_inside budget rs = All-from_recursion (λ k. k < length rs) (open_places 
 -- where something waits, something may start: the oldest may
 pub some_place : (budget : ℕ) (rs : List Record) → 0 < length rs → 0 < length (open_places budget rs)
 some_place budget rs h2 = grind arith
+
+first_place : (budget : ℕ) (rs : List Record) → 0 < length rs → get_or (open_places budget rs) 0 0 ≡ 0
+first_place budget rs h2 = grind arith
+
+few_places : (budget : ℕ) (rs : List Record) → length (open_places budget rs) ≤ length rs
+few_places budget rs = search (arith, fewer, length-range_with_len)
+
+-- so the oldest may be picked, if the first place of any view may
+pub first_picked : (picks : List Choice → ℕ → Type 0) (budget : ℕ) (ds : List Drive) (rs : List Record) → 0 < length rs
+    → ((view : List Choice) → 0 < length view → length view ≤ length rs → picks view 0) → IsPick picks budget ds rs 0
+first_picked picks budget ds rs some first =
+    let long : length (view_of budget ds rs) ≡ length (open_places budget rs) = search (arith, length-map) in
+    let opens = some_place budget rs some in
+    let few = few_places budget rs in (
+      0,
+      opens,
+      first_place budget rs some,
+      first (view_of budget ds rs) (omega (arith, long, opens)) (omega (arith, long, few)),
+    )

@@ -1,5 +1,5 @@
 -- Masks of slots, and the order of arrival as a list of slot numbers. Bit k of a mask stands for slot k.
-use Rattle.std.specs.Prelude.{◌≡◌, ◌≢◌, ℕ, slice_index_or, ◌<◌, ◌-◌, min, ◌&&◌, ◌||◌, if◌then◌else◌, bit_and, cond, nat_eq, Bool, true, false, List, [], ◌∷◌, ◌++◌}
+use Rattle.std.specs.Prelude.{◌≡◌, ◌≢◌, ℕ, slice_index_or, ◌<◌, ◌-◌, ◌==◌, min, ◌&&◌, ◌||◌, if◌then◌else◌, bit_and, cond, nat_eq, Bool, true, false, List, [], ◌∷◌, ◌++◌}
 use Rattle.std.specs.Int.{bit_at}
 use Rattle.mscp_queue.specs.declared.masks.Masks.{Masks}
 
@@ -63,14 +63,14 @@ pub record HasCome (n drive : ℕ) (sequential serving : Bool) (old new : Masks)
   pub others : (k : ℕ) → k ≢ n → slice_index_or new.earlier k 0 ≡ slice_index_or old.earlier k 0
   pub earlier : slice_index_or new.earlier n 0 ≡ old.waiting
 
--- the bit of slot n is cleared in the masks that its command belongs to, and where others wait, in the mask of each
+-- the bit of slot n is cleared in the masks that its command belongs to, and in the mask of each that waits
 pub record HasLeft (n drive : ℕ) (old new : Masks) : Type 0 where
   pub waits : IsSet false n old.waiting new.waiting
   pub ordered : IsSet false n old.sequential new.sequential
   pub served : IsSet false n old.serving new.serving
   pub units : (u : ℕ) → u ≢ drive → slice_index_or new.units u 0 ≡ slice_index_or old.units u 0
   pub own : IsSet false n (slice_index_or old.units drive 0) (slice_index_or new.units drive 0)
-  pub earlier : new.waiting ≢ 0 → (k : ℕ)
+  pub earlier : (k : ℕ) → bit_at new.waiting k ≡ 1
       → IsSet false n (slice_index_or old.earlier k 0) (slice_index_or new.earlier k 0)
 
 -- the slots in front of one that keep its command back, which is to the unit of this drive: for a sequential command
@@ -90,3 +90,7 @@ abbrev pub IsBehind : ℕ → Masks → ℕ → Type 0
 IsBehind n m behind = (k : ℕ) → k < 64 → bit_at behind k
     ≡ cond (nat_eq k n) 0 (min (min (bit_at m.waiting k) (1 - bit_at (slice_index_or m.earlier n 0) k))
     (1 - bit_at m.serving k))
+
+-- a number x of slot k, less by an amount where the bit of the slot is set
+abbrev pub lowered : ℕ → ℕ → ℕ → ℕ → ℕ
+lowered mask by k x = if bit_at mask k == 1 then x - by else x

@@ -166,8 +166,9 @@ impl Masks {
         with_bit(without(later, self.serving), slot, false)
     }
 
-    /// The command of a slot leaves it, whose unit's drive stands at this place. If nobody else waits, `earlier` stays
-    /// as it is: `come` writes a slot's mask there, and nobody reads the mask before.
+    /// The command of a slot leaves it, whose unit's drive stands at this place. `earlier` may stay as it is where no command
+    /// waits: `come` writes a slot's mask there, and nobody reads the mask before. If few wait they have the first slots, and
+    /// the others aren't looked at.
     pub fn leave(&mut self, slot: usize, drive: usize)
         requires slot { slot < 64 }
         requires drive { drive < 16 }
@@ -177,8 +178,10 @@ impl Masks {
         self.sequential = with_bit(self.sequential, slot, false);
         self.serving = with_bit(self.serving, slot, false);
         self.units[drive] = with_bit(self.units[drive], slot, false);
-        if self.waiting != 0 {
+        if self.waiting >= 1 << 16 {
             clear_in_all(&mut self.earlier, slot);
+        } else if self.waiting != 0 {
+            clear_in_all(&mut self.earlier[..16], slot);
         }
     }
 }

@@ -1,15 +1,14 @@
 // Who picks the command that starts.
 
-ghost use Rattle.std.specs.Prelude.{◌≡◌, ◌<◌, ◌≤◌, ◌-◌, ◌^◌, [], length};
+ghost use Rattle.std.specs.Prelude.{◌≡◌, ◌<◌, [], length};
 ghost use Rattle.mscp_queue.specs.Pickers.{IsSweep};
 
-use crate::lanes::least;
 use crate::view::View;
 
 /// Picks the command that starts, of those that may. Any choice is lawful: what a queue shows may start, and the
 /// budget of each waiting command is kept, whoever picks.
 pub trait Picker {
-    ghost use Rattle.std.specs.Prelude.{◌<◌, ℕ, List, length};
+    ghost use Rattle.std.specs.Prelude.{◌≡◌, ◌<◌, ◌≤◌, ℕ, List, length, true};
     ghost use Rattle.mscp_queue.specs.declared.view.Choice.{Choice};
 
     // Which places of a view the picker may pick. It may depend on the picker's own value, and leave a choice.
@@ -21,6 +20,15 @@ pub trait Picker {
     fn pick(&self, view: &View) -> usize
         ensures place { 0 < length view.now → result < length view.now }
         ensures allowed { 0 < length view.now → picks self.now view.now result };
+
+    /// Whether it may pick the first place of each view that has at most so many choices. If so, a queue takes that place and
+    /// makes no view.
+    fn takes_first(&self, _most: usize) -> bool
+        ensures { result ≡ true
+            → (view : List Choice) → 0 < length view → length view ≤ _most → picks self.now view 0 }
+    {
+        false
+    }
 }
 
 /// Picks the oldest command that may start.
@@ -37,17 +45,9 @@ impl Picker for Oldest {
     {
         0
     }
-}
 
-/// The bits of so many places, from the first on.
-fn bits_of(places: usize) -> u64
-    requires { places ≤ 64 }
-    ensures { result ≡ 2 ^ places - 1 }
-{
-    if places < 64 {
-        (1 << places) - 1
-    } else {
-        u64::MAX
+    fn takes_first(&self, _most: usize) -> bool {
+        true
     }
 }
 
@@ -62,10 +62,23 @@ impl Picker for Sweep {
         ensures empty { view.now ≡ [] → result ≡ 0 }
         ensures sweep { 0 < length view.now → IsSweep view.now result }
     {
-        let count = view.choices().len();
-        if count < 2 {
+        let choices = view.choices();
+        if choices.is_empty() {
             return 0;
         }
-        least(view.costs(), bits_of(count)).unwrap_or(0)
+        let mut best = 0;
+        let mut least = choices[0].cost;
+        for place in 1..choices.len() {
+            let cost = choices[place].cost;
+            if cost < least {
+                best = place;
+                least = cost;
+            }
+        }
+        best
+    }
+
+    fn takes_first(&self, most: usize) -> bool {
+        most < 2
     }
 }

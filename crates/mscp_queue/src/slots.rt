@@ -6,7 +6,7 @@ ghost use Rattle.mscp_queue.specs.Common.{list_all, is_sequential, advanced, is_
 
 use crate::counted_view::CountedView;
 use crate::drive::Drive;
-use crate::lanes::lower;
+use crate::lowering::lower;
 use crate::masks::{Masks, lowest_free, lowest_set, with_bit};
 use crate::record::Record;
 use crate::target::Target;
@@ -93,6 +93,7 @@ impl Slots {
     }
 
     /// The command at the place leaves its slot.
+    #[inline(always)]
     pub fn remove(&mut self, place: usize)
         requires { place < length self.old }
         ensures { self.new ≡ take place self.old ++ drop (place + 1) self.old }

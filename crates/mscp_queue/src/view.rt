@@ -1,7 +1,7 @@
 // What a picker sees.
 
 ghost use Rattle.std.specs.Prelude.{◌≡◌, ◌↔◌, ◌<◌, ◌≤◌, ◌+◌, ◌∷◌, ◌++◌, [], length, take, drop, slice_index_or, slice_set, IsSome, IfSome};
-ghost use Rattle.mscp_queue.specs.Common.{costing, no_choice, IsRow, choice_name};
+ghost use Rattle.mscp_queue.specs.Common.{costing, no_choice, choice_name};
 
 use crate::name::Name;
 use arrayvec::ArrayVec;
@@ -56,21 +56,10 @@ impl Default for Choice {
     }
 }
 
-/// Sets what the choice at a place costs.
-fn set_cost(choices: &mut ArrayVec<Choice, 64>, place: usize, cost: u64)
-    requires { place < length choices.old.items }
-    ensures { choices.new.items
-        ≡ slice_set choices.old.items place (costing cost (slice_index_or choices.old.items place no_choice)) }
-{
-    choices[place].cost = cost;
-}
-
 /// The commands that may start, at most 64 of them. A queue shows them in order of arrival.
 #[derive(Drop)]
 pub struct View {
     choices: ArrayVec<Choice, 64>,
-    // What each choice costs, at its place: in a row of their own lanes can read them where they lie.
-    costs: [u64; 64],
 }
 
 // A clause sees the list of the choices.
@@ -80,11 +69,7 @@ impl Model for View {
 
     ghost Value = { List Shown };
 
-    ghost use Rattle.mscp_queue.specs.Pickers.{IsRow};
-
     ghost view = { λ v. v.choices.items };
-
-    ghost invariant = { λ v. IsRow v.costs v.choices.items };
 }
 
 impl View {
@@ -109,7 +94,6 @@ impl View {
     {
         View {
             choices: ArrayVec::new(),
-            costs: [0; 64],
         }
     }
 
@@ -125,7 +109,6 @@ impl View {
         requires { length self.old < 64 }
         ensures { self.new ≡ self.old ++ choice ∷ [] }
     {
-        self.costs[self.choices.len()] = choice.cost;
         self.choices.push(choice);
     }
 
@@ -134,7 +117,6 @@ impl View {
         requires { place < length self.old }
         ensures { self.new ≡ take place self.old ++ drop (place + 1) self.old }
     {
-        self.costs.copy_within(place + 1..self.choices.len(), place);
         self.choices.remove(place);
     }
 
@@ -143,8 +125,7 @@ impl View {
         requires { place < length self.old }
         ensures { self.new ≡ slice_set self.old place (costing cost (slice_index_or self.old place no_choice)) }
     {
-        set_cost(&mut self.choices, place, cost);
-        self.costs[place] = cost;
+        self.choices[place].cost = cost;
     }
 
     /// The choices, in their order.
@@ -153,13 +134,6 @@ impl View {
         ensures few { length result.now ≤ 64 }
     {
         self.choices.as_slice()
-    }
-
-    /// What the choices cost, each at its place.
-    pub(crate) fn costs(&self) -> &[u64; 64]
-        ensures { IsRow result.now self.now }
-    {
-        &self.costs
     }
 }
 

@@ -20,7 +20,7 @@ fn place_served(place: usize, ends: bool) -> Option<usize>
 
 impl<K: Picker> Queue<K> {
     /// The place of the command that is served next, if one waits: that in service, or what was begun, or one that the
-    /// picker picks.
+    /// picker picks. If the picker takes the first, that is the oldest.
     #[inline(always)]
     fn next_place(&mut self) -> Option<usize>
         ensures none { IfNone result (self.old.waiting ≡ []) }
@@ -35,8 +35,12 @@ impl<K: Picker> Queue<K> {
         if let Some(place) = self.begun {
             return Some(place);
         }
-        if self.backlog.len() == 0 {
+        let count = self.backlog.len();
+        if count == 0 {
             return None;
+        }
+        if self.picker.takes_first(count) {
+            return Some(0);
         }
         Some(picked_place(
             &self.backlog,
@@ -72,6 +76,7 @@ impl<K: Picker> Queue<K> {
 
     /// What the next step serves, if a command waits. Where nothing is in service and nothing was begun the picker picks
     /// it, and its choice is kept: until a step, a reset, or an abort of that command, this answers the same.
+    #[inline(always)]
     pub fn begin(&mut self) -> Option<Upcoming>
         ensures begins { Begins (K.picks self.old.picker) self.old result self.new }
         ensures again { upcoming_begun self.new.drives self.new.waiting self.new.begun ≡ result }

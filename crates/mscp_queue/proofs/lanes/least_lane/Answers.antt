@@ -1,5 +1,0 @@
-use Rattle.mscp_queue.proofs.Basics.{arith, lane_more}
-use Rattle.mscp_queue.proofs.lanes.least_lane.Goals as goal
-
-pub loop-place-preserved : goal.loop-place-preserved
-loop-place-preserved c = search (arith, lane_more)
