@@ -108,13 +108,9 @@ provide() {
     exec {told}<&-
 }
 
-# The name by which a program that is linked to the shared object finds it: with all that may change what the program was
-# compiled for. That is the first number of the version, or before 1.0 the first two.
-soname() {
-    local number
-    IFS=. read -ra number <"$top/VERSION"
-    [ "${number[0]}" -gt 0 ] && echo "libmscp.so.${number[0]}" || echo "libmscp.so.0.${number[1]}"
-}
+# The name by which a program that is linked to the shared object finds it: with the first number of the version, since no
+# other changes what the program was compiled for.
+soname() { echo "libmscp.so.$(cut -d . -f 1 "$top/VERSION")"; }
 
 # Makes the shared object of an archive of the library, by a compiler and its words. Nothing in it needs a stack that is
 # run as code.

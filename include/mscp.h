@@ -62,11 +62,11 @@ extern "C" {
 #define MSCP_ALIGNED
 #endif
 
-/* The version of this header, 0.5.0: a byte for each of the three numbers, and that of the library. The two fit if the first
- * number is the same, and before 1.0 the second one too: docs/C.md in the sources says what is the same then. If they don't,
- * an init says MSCP_NO_HANDLE, since a handle that this header makes is none for that library. */
-#define MSCP_VERSION UINT32_C(0x000500)
-#define MSCP_FITS() ((mscp_version() ^ MSCP_VERSION) >> (MSCP_VERSION < UINT32_C(0x010000) ? 8 : 16) == 0)
+/* The version of this header, 1.0.0: a byte for each of the three numbers, and that of the library. The two fit if the first
+ * number is the same: docs/C.md in the sources says what is the same then. If they don't, an init says MSCP_NO_HANDLE, since
+ * a handle that this header makes is none for that library. */
+#define MSCP_VERSION UINT32_C(0x010000)
+#define MSCP_FITS() ((mscp_version() ^ MSCP_VERSION) >> 16 == 0)
 uint32_t mscp_version(void);
 
 #define MSCP_CREDITS_MAX 64u  /* commands that wait and ends that weren't taken, of both connections together */

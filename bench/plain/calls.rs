@@ -71,7 +71,7 @@ pub struct CPacket {
 /// That of the header.
 #[no_mangle]
 pub extern "C" fn mscp_version() -> u32 {
-    0x0500
+    0x0001_0000
 }
 
 /// # Safety

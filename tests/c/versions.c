@@ -1,5 +1,5 @@
-/* A handle is one for the library only where that fits the header: of the same first number, and before 1.0 of the same two.
- * Prints what is wrong, and ends with 1 where something is. */
+/* A handle is one for the library only where that fits the header: of the same first number. Prints what is
+ * wrong, and ends with 1 where something is. */
 #define mscp_version told_version
 #include "trying.h"
 
@@ -32,10 +32,9 @@ static void fits(const char *what, uint32_t version, int is_so)
 
 int main(void)
 {
-    const int is_first = MSCP_VERSION < 0x10000; /* before 1.0 */
     fits("the same", MSCP_VERSION, 1);
     fits("another third number", MSCP_VERSION ^ 0x7F, 1);
-    fits("another second number", MSCP_VERSION ^ 0x100, !is_first);
+    fits("another second number", MSCP_VERSION ^ 0x100, 1);
     fits("another first number", MSCP_VERSION ^ 0x10000, 0);
     return wrong;
 }

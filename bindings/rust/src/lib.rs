@@ -29,7 +29,7 @@ pub use values::{
 };
 
 /// The version of `mscp.h` that this was written for: a byte for each of the three numbers.
-pub const VERSION: u32 = 0x00_05_00;
+pub const VERSION: u32 = 0x01_00_00;
 /// Commands that wait and ends that weren't taken, of both connections together, at most.
 pub const CREDITS_MAX: usize = 64;
 /// Commands that wait, at most: the last credit isn't theirs.
@@ -51,11 +51,11 @@ pub const HOST_SAVED_MAX: usize = 794;
 /// Bytes that a port is saved as, at most.
 pub const PORT_SAVED_MAX: usize = 5416;
 
-/// Whether a library of this version fits: its first number is that of [`VERSION`], and before 1.0 the second one too. If it
-/// doesn't, whatever makes a controller, a host or a port answers [`Error::NoHandle`].
+/// Whether a library of this version fits: its first number is that of [`VERSION`]. If it doesn't, whatever makes a controller,
+/// a host or a port answers [`Error::NoHandle`].
 #[must_use]
 pub const fn fits(version: u32) -> bool {
-    (version ^ VERSION) >> (if VERSION < 0x01_00_00 { 8 } else { 16 }) == 0
+    (version ^ VERSION) >> 16 == 0
 }
 
 /// The version of the library that is linked.
