@@ -25,12 +25,14 @@ online() { echo "send $(packet 12 "$1" "${2-0}" 9 0)"; }
 available() { echo "send $(packet 12 "$1" "${2-0}" 8 0)"; }
 reading() { echo "send $(packet 32 "$1" "${2-0}" 33 0 1024)"; }
 poll() { echo "send $(packet 16 "$1" 0 2 0 "$2")"; }
+unit_status() { echo "send $(packet 12 "$1" "$2" 3 "$3")"; } # with these modifiers
 abort() { echo "send $(packet 16 "$1" 0 1 0 "$2")"; }
 
 # Lines of a controller: each of this reference number and status.
 onlined() { echo "end $(packet 44 "$1" "${3-0}" 137 "$2")"; }
 availed() { echo "end $(packet 12 "$1" 0 136 "$2")"; }
 moved() { echo "end $(packet 32 "$1" "${4-0}" 161 "$2" "$3")"; }
+unit_told() { echo "end $(packet 48 "$1" "$2" 131 0)"; }
 polled() { echo "end $(packet 20 "$1" 0 130 0 "$2" "$3")"; }
 aborted() { echo "end $(packet 16 "$1" 0 129 "$2" "$3")"; }
 
@@ -110,7 +112,10 @@ ends_of_nobody() {
 
 end_units() {
     wire_breaks 'controller: unit' 'READ 1 of unit 3' "$(reading 1 3)" "$(moved 1 0 1024 2)" &&
-        wire_breaks 'controller: unit' 'READ 1 of unit 3' "$(reading 1 3)" "$(moved 1 0 1024 0)"
+        wire_breaks 'controller: unit' 'READ 1 of unit 3' "$(reading 1 3)" "$(moved 1 0 1024 0)" &&
+        wire_breaks 'controller: unit' 'GET UNIT STATUS 1 of unit 3' "$(unit_status 1 3 0)" "$(unit_told 1 4)" &&
+        wire_breaks 'controller: unit' 'ONLINE 1 of unit 3' "send $(packet 12 1 3 9 1)" "$(onlined 1 0 4)" &&
+        wire_is_right '2 1 0 1 0' '' "$(unit_status 1 3 1)" "$(unit_told 1 4)"
 }
 
 endcodes() {
@@ -296,9 +301,5 @@ random_hosts_are_right() {
 }
 
 # Five hosts like the drivers of known systems, each six times, which begin anew in the middle. In 64 passes they copy
-# 16 groups of blocks by three commands. The rule of the unit doesn't know of a GET UNIT STATUS for the next unit yet:
-# these have the number 2000, in hexadecimal.
-drivers_are_right() {
-    logs_its_wire drivers && sed -i '/^[a-z]* 00200000/d' "$room/log" &&
-        logged_is_right $((5 * 6 * 64 * 16 * 3)) $((5 * 6 * 2))
-}
+# 16 groups of blocks by three commands.
+drivers_are_right() { logs_its_wire drivers && logged_is_right $((5 * 6 * 64 * 16 * 3)) $((5 * 6 * 2)); }

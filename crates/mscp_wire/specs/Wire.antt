@@ -9,7 +9,8 @@
 --                    Credits      its host has a credit for it                                has_credit
 --     the            Length       an end is as long as its endcode asks                       is_long
 --     controller's   Outstanding  it answers a command that is outstanding                    place_of
---                    Unit         it names the unit of that command                           names_unit
+--                    Unit         it names the unit of that command, unless that asks for
+--                                 the next unit                                               names_unit
 --                    Endcode      it has the endcode of that command                          has_endcode
 --                    Status       its status has a code that such a command may have          has_status
 --                    Aborted      a command is aborted only while its ABORT is outstanding    has_abort
@@ -46,6 +47,10 @@ History = List Moment
 abbrev pub four_in : List ℕ → ℕ → Option ℕ
 four_in b at = if nat_le (at + 4) (length b) then Some (num b at 4) else None
 
+-- a message is a GET UNIT STATUS that asks for the next unit, by its modifiers (manual, "GET UNIT STATUS Command")
+abbrev pub asks_for_next : List ℕ → Bool
+asks_for_next b = nat_eq (slice_index b 8) 3 && nat_eq (num b 10 2 % 2) 1
+
 -- the command of a message, of which nothing was told yet (manual, "Command Messages"). Its parameter is the number in
 -- bytes 12 to 15: of an ABORT and a GET COMMAND STATUS the reference number of the command that they are about, of a
 -- transfer how many bytes are to be moved
@@ -55,6 +60,7 @@ sent_by via b = record {
   reference = num b 0 4;
   unit = num b 4 2;
   opcode = slice_index b 8;
+  next = asks_for_next b;
   parameter = four_in b 12;
   told = None;
 }
@@ -159,9 +165,9 @@ is_long b = nat_le 12 (length b) && nat_le (least_length (slice_index b 8)) (len
 abbrev pub place_of : List Sent → Answer → Option ℕ
 place_of xs e = position (is_named e.connection e.reference) xs
 
--- it names the unit of its command (manual, "End Messages")
+-- it names the unit of its command (manual, "End Messages"), or any if that asks for the next unit
 abbrev pub names_unit : Sent → Answer → Bool
-names_unit y e = nat_eq e.unit y.unit
+names_unit y e = y.next || nat_eq e.unit y.unit
 
 -- its endcode is the opcode of its command and 0x80 (manual, "End Messages"), or 0x80 alone
 abbrev pub has_endcode : Sent → Answer → Bool

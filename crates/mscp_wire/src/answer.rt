@@ -103,11 +103,11 @@ impl Answer {
         self.code != 0x80
     }
 
-    /// Whether it names the unit of its command.
+    /// Whether it names the unit of its command, or any if that asks for the next unit.
     pub fn names_unit(&self, command: &Sent) -> bool
         ensures { result ≡ wire.names_unit command.now self.now }
     {
-        self.unit == command.unit
+        command.next || self.unit == command.unit
     }
 
     /// Whether it has the endcode of its command.

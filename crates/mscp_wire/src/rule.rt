@@ -13,7 +13,7 @@ pub enum Rule {
     Length,
     /// An end answers a command that is outstanding.
     Outstanding,
-    /// An end names the unit of its command.
+    /// An end names the unit of its command, unless that asks for the next unit.
     Unit,
     /// An end has the endcode of its command.
     Endcode,
