@@ -174,6 +174,34 @@ byte_counts() {
         wire_is_right '2 1 0 1 0' '' "$(reading 1)" "$(moved 1 232 512)"
 }
 
+# Ends of a unit's ONLINE, SET UNIT CHARACTERISTICS and GET UNIT STATUS: each with an identifier, a media type, and the size
+# or what stands in its place.
+tells_online() { echo "end $(packet 44 "$1" 5 137 "$2" 0 0 "$3" 7 "$4" 0 "$5" 0)"; }
+tells_set() { echo "end $(packet 44 "$1" 5 138 "$2" 0 0 "$3" 7 "$4" 0 "$5" 0)"; }
+tells_status() { echo "end $(packet 48 "$1" 5 131 "$2" 0 0 "$3" 7 "$4" 0 "$5")"; }
+
+identities() {
+    local online=("$(online 1 5)" "$(tells_online 1 0 3 4 800)") set asks
+    set="send $(packet 36 2 5 10 0)" asks=$(unit_status 2 5 0)
+    wire_breaks 'controller: identity' 'SET UNIT CHARACTERISTICS 2 of unit 5' "${online[@]}" "$set" "$(tells_set 2 0 3 4 801)" &&
+        wire_breaks 'controller: identity' 'ONLINE 2 of unit 5' "${online[@]}" "$(online 2 5)" "$(tells_online 2 256 3 5 800)" &&
+        wire_breaks 'controller: identity' 'GET UNIT STATUS 2 of unit 5' "${online[@]}" "$asks" "$(tells_status 2 0 2 4 0)" &&
+        wire_is_right '6 3 0 3 0' '' "${online[@]}" "$set" "$(tells_set 2 0 3 4 800)" "$asks" "$(tells_status 2 0 3 4 9)" &&
+        wire_is_right '4 2 0 2 0' '' "${online[@]}" "$set" "$(tells_set 2 1 0 0 0)"
+}
+
+# Where a unit isn't online any more, or to another host, it may be another.
+identities_end() {
+    local online=("$(online 1 5)" "$(tells_online 1 0 3 4 800)") other=("$(online 2 5)" "$(tells_online 2 0 9 9 9)")
+    wire_is_right '6 3 0 3 0' '' "${online[@]}" "$(available 3 5)" "end $(packet 12 3 5 136 0)" "${other[@]}" &&
+        wire_is_right '6 3 0 3 0' '' "${online[@]}" "$(reading 3 5)" "$(moved 3 3 0 5)" "${other[@]}" &&
+        wire_is_right '6 3 0 3 0' '' "${online[@]}" "$(reading 3 5)" "$(moved 3 4 0 5)" "${other[@]}" &&
+        wire_is_right '5 2 0 2 1' '' "${online[@]}" reset "${other[@]}" &&
+        wire_is_right '4 2 0 2 0' '' "${online[@]}" "second ${other[0]}" "second ${other[1]}" &&
+        wire_breaks 'controller: identity' 'ONLINE 2 of unit 5' "${online[@]}" "$(available 3 5)" \
+            "end $(packet 12 3 5 136 1)" "${other[@]}"
+}
+
 # The lines are no log of the wire, for this reason.
 wire_refuses() {
     local status

@@ -1,3 +1,4 @@
+pub mod Units
 pub mod Hearing
 pub mod Rights
 pub mod Passing

@@ -1,3 +1,5 @@
+pub mod Messages
+pub mod Units
 pub mod Wire
 pub mod Log
 pub mod Right

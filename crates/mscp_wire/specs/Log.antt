@@ -14,7 +14,7 @@ use Rattle.mscp_reader.specs.declared.fault.Cause.TheVariants as causes
 use Rattle.mscp_reader.specs.declared.fault.ReadFault.{ReadFault}
 use Rattle.mscp_reader.specs.declared.fault.ReadFault.TheVariants as reads
 use Rattle.mscp_reader.specs.declared.fault.ScriptFault.{ScriptFault}
-use Rattle.mscp_wire.specs.Wire.{History, answer_by, broken, command_at, is_long, is_message, outstanding, place_of, sent_by}
+use Rattle.mscp_wire.specs.Wire.{History, answer_by, broken_by, command_at, is_long, is_message, kept, known, outstanding, place_of, sent_by}
 use Rattle.mscp_wire.specs.declared.answer.Answer.{Answer}
 use Rattle.mscp_wire.specs.declared.line.Said.{Said}
 use Rattle.mscp_wire.specs.declared.line.Said.TheVariants as says
@@ -155,7 +155,7 @@ after_said number log says.Nothing = Ok (Ok log)
 after_said number log (says.Credits c) =
     if is_fresh log then Ok (Ok (record log { credits = Some c })) else Err causes.Word
 after_said number log (says.Happens m) =
-    Ok (with_moment number log m (broken log.credits (outstanding log.moments) m))
+    Ok (with_moment number log m (broken_by log.credits log.moments m))
 
 -- what comes of the line of this number
 unfoldable pub after_line : ℕ → Log → List ℕ → Result (Result Log Wrong) Cause
@@ -185,6 +185,7 @@ after_log bytes =
 pub record IsAfter {A : Type 0} (log : Log) (reading : Reading A) : Type 0 where
   pub credits : reading.judge.credits ≡ log.credits
   pub commands : reading.judge.commands.items ≡ outstanding log.moments
+  pub units : (via : Connection) (unit : ℕ) → kept reading.judge.units.items via unit ≡ known log.moments via unit
   pub totals : reading.totals ≡ totals_of log.moments
 
 -- the fault of a line of this number is that of its definition, unless memory ran out

@@ -2,6 +2,7 @@
 #![tactic(auto)]
 
 mod answer;
+mod identity;
 mod judge;
 mod law;
 mod line;
@@ -14,6 +15,7 @@ mod totals;
 mod wrong;
 
 pub use crate::answer::Answer;
+pub use crate::identity::{Identity, Online};
 pub use crate::judge::Judge;
 pub use crate::law::right_breaks_no_rule;
 pub use crate::line::Said;

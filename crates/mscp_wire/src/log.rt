@@ -57,7 +57,7 @@ fn command_of(commands: &[Sent], moment: &Moment) -> Option<Sent>
     }
 }
 
-impl<A: Allocator> Reading<A> {
+impl<A: Allocator + Copy> Reading<A> {
     /// Of no line.
     fn new(alloc: A) -> Reading<A>
         ensures after { IsAfter nothing result }
@@ -134,7 +134,10 @@ impl<A: Allocator> Reading<A> {
 }
 
 /// What is said of the lines of a log.
-fn judge_lines<A: Allocator>(alloc: A, lines: &mut Lines<'_>) -> Result<Verdict<A>, ReadFault>
+fn judge_lines<A: Allocator + Copy>(
+    alloc: A,
+    lines: &mut Lines<'_>,
+) -> Result<Verdict<A>, ReadFault>
     requires { lines.old.number ≡ 0 }
     ensures { Judges result (after_lines 0 nothing (lexical.lines lines.old.rest.now)) }
 {
@@ -147,13 +150,14 @@ fn judge_lines<A: Allocator>(alloc: A, lines: &mut Lines<'_>) -> Result<Verdict<
     let Reading { judge, totals } = reading;
     let Judge {
         credits: _,
+        units: _,
         commands,
     } = judge;
     Ok(Verdict::Right(totals, commands))
 }
 
 /// What is said of a log.
-fn judged<A: Allocator>(alloc: A, bytes: &[u8]) -> Result<Verdict<A>, ReadFault>
+fn judged<A: Allocator + Copy>(alloc: A, bytes: &[u8]) -> Result<Verdict<A>, ReadFault>
     ensures { Judges result (after_log bytes.now) }
 {
     let mut lines = lines_of(bytes)?;
@@ -162,7 +166,7 @@ fn judged<A: Allocator>(alloc: A, bytes: &[u8]) -> Result<Verdict<A>, ReadFault>
 
 /// Judges a log of the wire: says that each of its moments is right, or the first that isn't, unless a line before it is at
 /// fault.
-pub fn judge_wire<A: Allocator>(alloc: A, bytes: &[u8]) -> Result<Verdict<A>, ReadFault>
+pub fn judge_wire<A: Allocator + Copy>(alloc: A, bytes: &[u8]) -> Result<Verdict<A>, ReadFault>
     ensures judges { Judges result (after_log bytes.now) }
     // So each log of which all moments are right is judged to be right,
     ensures right { IsRightLog bytes.now → IsRightVerdict result }

@@ -31,4 +31,6 @@ pub enum Rule {
     Figure,
     /// No more bytes are moved than were asked for, and all of them if the status is Success.
     Count,
+    /// While a unit is online its identifier, media type and size stay as they are.
+    Identity,
 }

@@ -67,6 +67,7 @@ rule_name rules.Success = codes "success"
 rule_name rules.About = codes "about"
 rule_name rules.Figure = codes "figure"
 rule_name rules.Count = codes "byte count"
+rule_name rules.Identity = codes "identity"
 
 -- whose rule it is
 abbrev pub breaker_name : Rule → List ℕ
@@ -91,6 +92,7 @@ rule_text rules.Success = codes "an ABORT and a GET COMMAND STATUS succeed"
 rule_text rules.About = codes "the end of an ABORT or a GET COMMAND STATUS names the command that it is about"
 rule_text rules.Figure = codes "a command status is at least 1 and falls from poll to poll, and is 0 of no command"
 rule_text rules.Count = codes "as many bytes are moved as were asked for, and fewer only if the status isn't Success"
+rule_text rules.Identity = codes "the identifier, media type and size of a unit stay the same while it is online"
 
 -- the rest of the line of the totals
 abbrev pub ends_text : Totals → List ℕ

@@ -62,6 +62,7 @@ fn rule_name(rule: Rule) -> &'static str
         Rule::About => "about",
         Rule::Figure => "figure",
         Rule::Count => "byte count",
+        Rule::Identity => "identity",
     }
 }
 
@@ -87,7 +88,8 @@ fn rule_text(rule: Rule) -> &'static str
         }
         Rule::Length => "an end message is as long as its endcode asks",
         Rule::Outstanding => "an end message answers a command that is outstanding, and each once",
-        Rule::Unit => "an end message names the unit of its command, unless that asks for the next one",
+        Rule::Unit =>
+            "an end message names the unit of its command, unless that asks for the next one",
         Rule::Endcode => "the endcode is the opcode of the command and 0x80",
         Rule::Status => "the status has a code that such a command may have",
         Rule::Aborted => "a command is aborted by an ABORT, and ends before that does",
@@ -102,6 +104,9 @@ fn rule_text(rule: Rule) -> &'static str
         }
         Rule::Count => {
             "as many bytes are moved as were asked for, and fewer only if the status isn't Success"
+        }
+        Rule::Identity => {
+            "the identifier, media type and size of a unit stay the same while it is online"
         }
     }
 }
