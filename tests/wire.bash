@@ -220,6 +220,39 @@ no_log_of_the_wire() {
         wire_refuses 'line 1: byte' $'reset\t' && wire_refuses 'line 2: count' "$(reading 1)" '@1 send'
 }
 
+# The log in words is this, by its name and on standard input.
+shows() {
+    "$program" wire --show "$room/log" </dev/null >"$room/out" 2>"$room/err" && cmp -- "$room/out" - &&
+        cmp -- "$room/err" /dev/null && "$program" wire --show <"$room/log" | cmp -- - "$room/out"
+}
+
+# Whether it is right isn't asked.
+wire_in_words() {
+    printf '%s\n' 'credits 4' '# comes up' "@0.5 $(online 1 5)" "$(tells_online 1 0 3 4 800)" '' "second $(reading 7 1)" \
+        "second $(poll 8 7)" "second $(polled 8 7 3)" "second $(moved 9 3 0 1)" reset >"$room/log" && shows <<'END'
+line 1: credits 4
+line 3: host: command 1 unit 5 ONLINE
+line 4: controller: end 1 unit 5 code 89 status 0000 id 30064771075 media 4 size 800 serial 0
+line 6: second host: command 7 unit 1 READ bytes 1024 block 0
+line 7: second host: command 8 unit 0 GET COMMAND STATUS of 7
+line 8: second controller: end 8 unit 0 code 82 status 0000 of 7 figure 3
+line 9: second controller: end 9 unit 1 code a1 status 0003 bytes 0
+line 10: reset
+END
+}
+
+# What is no packet is told by the word of its fault.
+wire_in_words_of_any_bytes() {
+    printf '%s\n' 'send 00' "end $(packet 12 1 0 161 0)" "end $(packet 12 1 0 255 0)" >"$room/log" && shows <<'END' || return
+line 1: host: short
+line 2: controller: length
+line 3: controller: code
+END
+    printf '%s\n' reset 'send 0' >"$room/log"
+    "$program" wire --show "$room/log" >"$room/out" 2>"$room/err"
+    [ $? = 1 ] && cmp -- "$room/out" /dev/null && cmp -- "$room/err" <(echo 'line 2: hex')
+}
+
 wire_without_lines() {
     wire_is_right '0 0 0 0 0' '' && printf 'reset\r\nreset' >"$room/log" &&
         "$program" wire "$room/log" </dev/null | cmp -- - <(printf 'right\nmoments 2 messages 0 polls 0 ends 0 resets 2\n')

@@ -18,7 +18,7 @@ pub use crate::answer::Answer;
 pub use crate::identity::{Identity, Online};
 pub use crate::judge::Judge;
 pub use crate::law::right_breaks_no_rule;
-pub use crate::line::Said;
+pub use crate::line::{Said, line_says};
 pub use crate::log::{Reading, Verdict, judge_wire};
 pub use crate::moment::Moment;
 pub use crate::rule::Rule;

@@ -2,4 +2,5 @@ pub mod Said
 pub mod Endings
 pub mod Heard
 pub mod Wired
+pub mod Showing
 pub mod Common

@@ -34,7 +34,7 @@ fn opcode_name(opcode: u8) -> &'static str
 }
 
 /// Whose it is, if that isn't the first connection's host.
-fn connection_name(connection: Connection) -> &'static str
+pub fn connection_name(connection: Connection) -> &'static str
     ensures { result.now ≡ connection_name connection }
 {
     match connection {
