@@ -25,12 +25,14 @@ online() { echo "send $(packet 12 "$1" "${2-0}" 9 0)"; }
 available() { echo "send $(packet 12 "$1" "${2-0}" 8 0)"; }
 reading() { echo "send $(packet 32 "$1" "${2-0}" 33 0 1024)"; }
 poll() { echo "send $(packet 16 "$1" 0 2 0 "$2")"; }
+unit_status() { echo "send $(packet 12 "$1" "$2" 3 "$3")"; } # with these modifiers
 abort() { echo "send $(packet 16 "$1" 0 1 0 "$2")"; }
 
 # Lines of a controller: each of this reference number and status.
 onlined() { echo "end $(packet 44 "$1" "${3-0}" 137 "$2")"; }
 availed() { echo "end $(packet 12 "$1" 0 136 "$2")"; }
 moved() { echo "end $(packet 32 "$1" "${4-0}" 161 "$2" "$3")"; }
+unit_told() { echo "end $(packet 48 "$1" "$2" 131 0)"; }
 polled() { echo "end $(packet 20 "$1" 0 130 0 "$2" "$3")"; }
 aborted() { echo "end $(packet 16 "$1" 0 129 "$2" "$3")"; }
 
@@ -53,13 +55,16 @@ wire_says() {
     [ "$status" = "$2" ] && cmp -- "$room/out" <(printf '%s\n' "$1") && cmp -- "$room/err" /dev/null
 }
 
-# The lines are right: so many moments, messages, polls, ends and resets, and then this is still outstanding.
+# The lines are right: so many moments, messages, polls, ends and resets, and then this is still outstanding. Other totals
+# are passed over.
 wire_is_right() {
     local totals
     read -ra totals <<<"$1"
-    wire_says "right
+    printf '%s\n' "${@:3}" >"$room/log"
+    "$program" wire "$room/log" </dev/null >"$room/out" 2>"$room/err" && cmp -- "$room/err" /dev/null &&
+        sed 's/ queue [0-9]*$//; /^sent: /d; /^ended: /d' "$room/out" | cmp -- - <(echo "right
 moments ${totals[0]} messages ${totals[1]} polls ${totals[2]} ends ${totals[3]} resets ${totals[4]}${2:+
-$2}" 0 "${@:3}"
+$2}")
 }
 
 # The last of the lines breaks this rule, by a command if it is told.
@@ -75,6 +80,20 @@ wire_of_a_right_controller() {
     wire_is_right '16 8 3 8 0' '' 'credits 4' '# comes up' "@0.5 $(online 1)" "@0.75 $(onlined 1 0)" "$(reading 2)" "$(poll 3 2)" \
         "$(polled 3 2 2)" '' '@9' "$(poll 3 2)" "$(polled 3 2 1)" "$(reading 4 7)" "$(moved 4 3 0 7)" "$(abort 5 2)" \
         "$(moved 2 2 512)" "$(aborted 5 0 2)" "$(poll 6 2)" "$(polled 6 2 0)" "second $(online 1)" "second $(onlined 1 256)"
+}
+
+# Opcodes and codes are told in their order, and the longest queue is that of the middle.
+wire_totals() {
+    wire_says 'right
+moments 10 messages 5 polls 1 ends 4 resets 1 queue 3
+sent: 1 GET COMMAND STATUS (2)
+sent: 1 ONLINE (9)
+sent: 2 READ (33)
+sent: 1 command of an unknown opcode (77)
+ended: 2 Success (0)
+ended: 1 Invalid Command (1)
+ended: 1 Data Error (8)' 0 "$(online 1)" "$(reading 2)" "$(reading 3)" "$(onlined 1 0)" "$(poll 4 2)" "$(polled 4 2 5)" \
+        "$(moved 2 232 512)" "send $(packet 12 5 0 77 0)" "end $(packet 12 5 0 128 2049)" reset
 }
 
 wire_tells_what_is_outstanding() {
@@ -110,7 +129,10 @@ ends_of_nobody() {
 
 end_units() {
     wire_breaks 'controller: unit' 'READ 1 of unit 3' "$(reading 1 3)" "$(moved 1 0 1024 2)" &&
-        wire_breaks 'controller: unit' 'READ 1 of unit 3' "$(reading 1 3)" "$(moved 1 0 1024 0)"
+        wire_breaks 'controller: unit' 'READ 1 of unit 3' "$(reading 1 3)" "$(moved 1 0 1024 0)" &&
+        wire_breaks 'controller: unit' 'GET UNIT STATUS 1 of unit 3' "$(unit_status 1 3 0)" "$(unit_told 1 4)" &&
+        wire_breaks 'controller: unit' 'ONLINE 1 of unit 3' "send $(packet 12 1 3 9 1)" "$(onlined 1 0 4)" &&
+        wire_is_right '2 1 0 1 0' '' "$(unit_status 1 3 1)" "$(unit_told 1 4)"
 }
 
 endcodes() {
@@ -169,6 +191,34 @@ byte_counts() {
         wire_is_right '2 1 0 1 0' '' "$(reading 1)" "$(moved 1 232 512)"
 }
 
+# Ends of a unit's ONLINE, SET UNIT CHARACTERISTICS and GET UNIT STATUS: each with an identifier, a media type, and the size
+# or what stands in its place.
+tells_online() { echo "end $(packet 44 "$1" 5 137 "$2" 0 0 "$3" 7 "$4" 0 "$5" 0)"; }
+tells_set() { echo "end $(packet 44 "$1" 5 138 "$2" 0 0 "$3" 7 "$4" 0 "$5" 0)"; }
+tells_status() { echo "end $(packet 48 "$1" 5 131 "$2" 0 0 "$3" 7 "$4" 0 "$5")"; }
+
+identities() {
+    local online=("$(online 1 5)" "$(tells_online 1 0 3 4 800)") set asks
+    set="send $(packet 36 2 5 10 0)" asks=$(unit_status 2 5 0)
+    wire_breaks 'controller: identity' 'SET UNIT CHARACTERISTICS 2 of unit 5' "${online[@]}" "$set" "$(tells_set 2 0 3 4 801)" &&
+        wire_breaks 'controller: identity' 'ONLINE 2 of unit 5' "${online[@]}" "$(online 2 5)" "$(tells_online 2 256 3 5 800)" &&
+        wire_breaks 'controller: identity' 'GET UNIT STATUS 2 of unit 5' "${online[@]}" "$asks" "$(tells_status 2 0 2 4 0)" &&
+        wire_is_right '6 3 0 3 0' '' "${online[@]}" "$set" "$(tells_set 2 0 3 4 800)" "$asks" "$(tells_status 2 0 3 4 9)" &&
+        wire_is_right '4 2 0 2 0' '' "${online[@]}" "$set" "$(tells_set 2 1 0 0 0)"
+}
+
+# Where a unit isn't online any more, or to another host, it may be another.
+identities_end() {
+    local online=("$(online 1 5)" "$(tells_online 1 0 3 4 800)") other=("$(online 2 5)" "$(tells_online 2 0 9 9 9)")
+    wire_is_right '6 3 0 3 0' '' "${online[@]}" "$(available 3 5)" "end $(packet 12 3 5 136 0)" "${other[@]}" &&
+        wire_is_right '6 3 0 3 0' '' "${online[@]}" "$(reading 3 5)" "$(moved 3 3 0 5)" "${other[@]}" &&
+        wire_is_right '6 3 0 3 0' '' "${online[@]}" "$(reading 3 5)" "$(moved 3 4 0 5)" "${other[@]}" &&
+        wire_is_right '5 2 0 2 1' '' "${online[@]}" reset "${other[@]}" &&
+        wire_is_right '4 2 0 2 0' '' "${online[@]}" "second ${other[0]}" "second ${other[1]}" &&
+        wire_breaks 'controller: identity' 'ONLINE 2 of unit 5' "${online[@]}" "$(available 3 5)" \
+            "end $(packet 12 3 5 136 1)" "${other[@]}"
+}
+
 # The lines are no log of the wire, for this reason.
 wire_refuses() {
     local status
@@ -187,14 +237,47 @@ no_log_of_the_wire() {
         wire_refuses 'line 1: byte' $'reset\t' && wire_refuses 'line 2: count' "$(reading 1)" '@1 send'
 }
 
+# The log in words is this, by its name and on standard input.
+shows() {
+    "$program" wire --show "$room/log" </dev/null >"$room/out" 2>"$room/err" && cmp -- "$room/out" - &&
+        cmp -- "$room/err" /dev/null && "$program" wire --show <"$room/log" | cmp -- - "$room/out"
+}
+
+# Whether it is right isn't asked.
+wire_in_words() {
+    printf '%s\n' 'credits 4' '# comes up' "@0.5 $(online 1 5)" "$(tells_online 1 0 3 4 800)" '' "second $(reading 7 1)" \
+        "second $(poll 8 7)" "second $(polled 8 7 3)" "second $(moved 9 3 0 1)" reset >"$room/log" && shows <<'END'
+line 1: credits 4
+line 3: host: command 1 unit 5 ONLINE
+line 4: controller: end 1 unit 5 code 89 status 0000 id 30064771075 media 4 size 800 serial 0
+line 6: second host: command 7 unit 1 READ bytes 1024 block 0
+line 7: second host: command 8 unit 0 GET COMMAND STATUS of 7
+line 8: second controller: end 8 unit 0 code 82 status 0000 of 7 figure 3
+line 9: second controller: end 9 unit 1 code a1 status 0003 bytes 0
+line 10: reset
+END
+}
+
+# What is no packet is told by the word of its fault.
+wire_in_words_of_any_bytes() {
+    printf '%s\n' 'send 00' "end $(packet 12 1 0 161 0)" "end $(packet 12 1 0 255 0)" >"$room/log" && shows <<'END' || return
+line 1: host: short
+line 2: controller: length
+line 3: controller: code
+END
+    printf '%s\n' reset 'send 0' >"$room/log"
+    "$program" wire --show "$room/log" >"$room/out" 2>"$room/err"
+    [ $? = 1 ] && cmp -- "$room/out" /dev/null && cmp -- "$room/err" <(echo 'line 2: hex')
+}
+
 wire_without_lines() {
     wire_is_right '0 0 0 0 0' '' && printf 'reset\r\nreset' >"$room/log" &&
-        "$program" wire "$room/log" </dev/null | cmp -- - <(printf 'right\nmoments 2 messages 0 polls 0 ends 0 resets 2\n')
+        "$program" wire "$room/log" </dev/null | cmp -- - <(printf 'right\nmoments 2 messages 0 polls 0 ends 0 resets 2 queue 0\n')
 }
 
 many_lines_of_the_wire() {
     { yes "$(reading 1; moved 1 0 1024)" | head -n 200000; } >"$room/log" && "$program" wire "$room/log" </dev/null |
-        cmp -- - <(printf 'right\nmoments 200000 messages 100000 polls 0 ends 100000 resets 0\n')
+        cmp -- - <(printf 'right\nmoments 200000 messages 100000 polls 0 ends 100000 resets 0 queue 1\nsent: 100000 READ (33)\nended: 100000 Success (0)\n')
 }
 
 # What goes over the wire of a run: its script joined with its report. A message that is refused doesn't, and a poll or a take
@@ -248,8 +331,8 @@ log_the_wire() {
 
 # What was logged keeps the rules, with so many messages at least, and so many resets. Nothing is outstanding.
 logged_is_right() {
-    "$program" wire "$room/log" </dev/null >"$room/out" 2>"$room/err" && [ "$(wc -l <"$room/out")" -eq 2 ] &&
-        [[ $(<"$room/out") =~ \ messages\ ([0-9]+)\ .*\ resets\ $2$ ]] && [ "${BASH_REMATCH[1]}" -ge "$1" ] ||
+    "$program" wire "$room/log" </dev/null >"$room/out" 2>"$room/err" && ! grep -q '^outstanding: ' "$room/out" &&
+        [[ $(<"$room/out") =~ \ messages\ ([0-9]+)\ .*\ resets\ $2\ queue\  ]] && [ "${BASH_REMATCH[1]}" -ge "$1" ] ||
         { cat -- "$room/out" "$room/err" && return 1; }
 }
 
@@ -296,9 +379,5 @@ random_hosts_are_right() {
 }
 
 # Five hosts like the drivers of known systems, each six times, which begin anew in the middle. In 64 passes they copy
-# 16 groups of blocks by three commands. The rule of the unit doesn't know of a GET UNIT STATUS for the next unit yet:
-# these have the number 2000, in hexadecimal.
-drivers_are_right() {
-    logs_its_wire drivers && sed -i '/^[a-z]* 00200000/d' "$room/log" &&
-        logged_is_right $((5 * 6 * 64 * 16 * 3)) $((5 * 6 * 2))
-}
+# 16 groups of blocks by three commands.
+drivers_are_right() { logs_its_wire drivers && logged_is_right $((5 * 6 * 64 * 16 * 3)) $((5 * 6 * 2)); }

@@ -15,6 +15,7 @@ use Rattle.mscp_shown.specs.Shown.{shown}
 use Rattle.mscp_shown.proofs.Aborted.{Aborts, EndsAbort, IsAbort, aborts_after, aborts_rest, any_at, any_out}
 use Rattle.mscp_shown.proofs.Counts.{each_counted, some_place}
 use Rattle.mscp_shown.proofs.Owed.{one_if, owed, owed_took, untaken_took}
+use Rattle.mscp_shown.proofs.Identity.{IsTold, is_told, same_right, told_more, unit_identity}
 use Rattle.mscp_shown.proofs.Keeping.{Keeps}
 use Rattle.mscp_shown.proofs.Owners.{Fits, IsOwed, IsOwn, every_drop, message, only_after, untold}
 use Rattle.mscp_shown.proofs.Owning.{Owners, waits_more}
@@ -237,7 +238,7 @@ module _ (c : Settings) (t : Trace) (own : Connection) (b : ArrayVec ℕ) (known
           ] refl))
 
   pub took_more : (e : End) (rest : List End) → IsRight c t (Event.Take own) (Entry.Taken own (Some b))
-      → Takes (untaken c own t) b e rest → IsOfKind e → IsFit e
+      → Takes (untaken c own t) b e rest → IsOfKind e → IsFit c e
       → More c t taking
   took_more e rest right took kind fit =
       let xs = outstanding (shown t) in
@@ -250,13 +251,15 @@ module _ (c : Settings) (t : Trace) (own : Connection) (b : ArrayVec ℕ) (known
       let fit_there = fitting e rest took.is i some.1 in
       let there = placed xs a i at in
       let status : a.status ≡ e.status =
-      ap (λ l. (answer_by own l).status) items ∙ (reads own e fit).status in
+      ap (λ l. (answer_by own l).status) items ∙ (reads c own e fit).status in
       let here : Keeps (command_at xs i) a =
       subst (λ l. Keeps (command_at xs i) (answer_by own l)) (sym items) fit_there in
       let asks : polled_by (command_at xs i) a ≡ poll_of e =
       ap (λ l. polled_by (command_at xs i) (answer_by own l)) items ∙ polling e rest took.is i some.1 in
-      let figure = figure_read e a (ap (answer_by own) items) (reads own e fit) in
+      let figure = figure_read e a (ap (answer_by own) items) (reads c own e fit) in
       let left = none_left c own t taking xs a i h.orders at e refl number in
+      let told : IsTold c a =
+      is_told c own b.items e items kind fit.tells (reads c own e fit).status (reads c own e fit).unit in
       shows_one c t taking h (moments.End own b) refl
       (λ via p.
       let end = tally_end via p xs a i at in
@@ -281,6 +284,8 @@ module _ (c : Settings) (t : Trace) (own : Connection) (b : ArrayVec ℕ) (known
               h.tallied
               h.heard left;
           count = here.count;
+          identity = same_right (wire.known (shown t) own (num b.items 4 2)) a (unit_identity c (num b.items 4 2))
+              (h.units own (num b.items 4 2)) told.0;
         },
       ))
       (subst (λ o. Owners c (t ++ taking ∷ []) (after_end xs a o)) (sym at) (owners_left a i))
@@ -290,7 +295,7 @@ module _ (c : Settings) (t : Trace) (own : Connection) (b : ArrayVec ℕ) (known
       (subst (λ o. Heard c (t ++ taking ∷ []) (after_end xs a o)) (sym at)
       (heard_took c own t taking xs a i e rest took.is at refl number asks figure h.orders.single h.tallied h.heard left
       refl (λ via. refl) (λ via. refl) (λ via. known.room.taken via)))
-      (λ via. tt)
+      (λ via. tt) (told_more c (shown t) a h.units told.1)
     where
       by_side : (via : Connection) (passes : Bool)
           → one_if (wire.same_connection own via && passes) ≡ cond (same_connection own via) (one_if passes) 0

@@ -1,6 +1,6 @@
 -- The numbers of the ends that a controller makes fit their places, where its messages are bytes.
-use Rattle.mscp_controller.proofs.Basics.{◌≡◌, ℕ, ◌+◌, ◌<◌, Bool, true, false, cond, ◌&&◌, List, length, refl, subst, arith, if◌then◌else◌, Option, Some, None, Command, Order, Block, Settings, Shape, fault_of, own_end, aborted_end, unit_found, unit_shape, command_of, some_same}
-use Rattle.std.specs.Prelude.{◌^◌, nat_lt, slice_index}
+use Rattle.mscp_controller.proofs.Basics.{◌≡◌, ℕ, ◌+◌, ◌<◌, Bool, true, false, cond, ◌&&◌, List, length, refl, subst, arith, if◌then◌else◌, Option, Some, None, Command, Order, Block, Settings, Shape, fault_of, own_end, aborted_end, unit_found, unit_shape, command_of, is_queued, queued_open, some_same}
+use Rattle.std.specs.Prelude.{◌%◌, ◌^◌, nat_lt, slice_index}
 use Rattle.mscp_packet.specs.Commands.{order_with, parameters}
 use Rattle.mscp_packet.specs.Ends.{refused_body, zero_body, kind_of_code}
 use Rattle.mscp_packet.specs.Opcodes.{least, opcode_of}
@@ -16,7 +16,8 @@ use Rattle.mscp_controller.specs.Arrival.{move_fault, order_fault, unit_fault, v
 use Rattle.mscp_controller.specs.Outcomes.{answer_body, answer_status, outcome_of, own_end_with}
 use Rattle.mscp_shown.specs.Keeping.{AreBytes}
 use Rattle.mscp_shown.proofs.Reading.{IsBodyFit, IsFit}
-use Rattle.mscp_shown.proofs.Suiting.{IsFault}
+use Rattle.mscp_shown.proofs.Suiting.{IsFault, valid_order}
+use Rattle.mscp_shown.proofs.Telling.{answer_tells, immediate, never_success, outcome_tells}
 use Rattle.mscp_shown.proofs.Taking.{four_small, two_small}
 
 -- ---- what a message asks for
@@ -24,7 +25,7 @@ abbrev pub IsSmallOrder : Order → Type 0
 IsSmallOrder (orders.Abort other) = other < 2 ^ 32
 IsSmallOrder (orders.Status other) = other < 2 ^ 32
 IsSmallOrder (orders.Move kind count block) = count < 2 ^ 32
-IsSmallOrder (orders.Invalid byte fault) = fault < 2 ^ 16
+IsSmallOrder (orders.Invalid byte fault) = (fault < 2 ^ 16) × (0 < fault % 32)
 IsSmallOrder order = Unit {0}
 
 pub record IsSmallCommand (k : Command) : Type 0 where
@@ -44,12 +45,12 @@ module _ (b : List ℕ) (h : AreBytes b) where
   small_parameters (codes.Move kind) = four_small b h 12
 
   small_found : (found : Option Opcode) → IsSmallOrder (order_with found b)
-  small_found None = omega arith
+  small_found None = (omega arith, omega arith)
   small_found (Some o) = unless_short (nat_lt (length b) (least o)) (small_parameters o)
     where
       unless_short : (short : Bool) → IsSmallOrder (parameters o b)
           → IsSmallOrder (if short then orders.Invalid (slice_index b 8) 0x0001 else parameters o b)
-      unless_short true s = omega arith
+      unless_short true s = (omega arith, omega arith)
       unless_short false s = s
 
   pub small_command : IsSmallCommand (command_of b)
@@ -127,7 +128,7 @@ version_small status version h = grind arith
 
 fault_small : (c : Settings) (unit status : ℕ) (o : Order) → IsSmallOrder o → order_fault c unit o ≡ Some status
     → status < 2 ^ 16
-fault_small c unit status (orders.Invalid byte fault) s h = subst (λ n. n < 2 ^ 16) (some_same fault status h) s
+fault_small c unit status (orders.Invalid byte fault) s h = subst (λ n. n < 2 ^ 16) (some_same fault status h) s.0
 fault_small c unit status (orders.Abort other) s h = cc
 fault_small c unit status (orders.Status other) s h = cc
 fault_small c unit status (orders.Move kind count block) s h = move_small c count block status (unit_found c unit) h
@@ -144,39 +145,49 @@ ended_small : (online : Bool) (o : Order) (k : Block) → IsFault k → outcome_
 ended_small online o k h = grind arith
 
 -- ---- ends
+fault_fails : (o : Order) → IsSmallOrder o → (byte fault : ℕ) → o ≡ orders.Invalid byte fault → 0 < fault % 32
+fault_fails o h byte fault e = (subst IsSmallOrder e h).1
+
 own_fit_with : (c : Settings) (online : Bool) (figure : ℕ) (k : Command) (f : Option ℕ) → fault_of c k ≡ f
-    → IsSmallCommand k → figure < 2 ^ 32 → IsFit (own_end_with c online figure k f)
-own_fit_with c online figure k None e h l = record {
+    → is_queued c k ≡ false → IsSmallCommand k → figure < 2 ^ 32 → IsFit c (own_end_with c online figure k f)
+own_fit_with c online figure k None e q h l = record {
   reference = h.reference;
   unit = h.unit;
   status = answered_small online k.order;
   body = answer_fit c figure k.unit k.order h.order l;
+  tells = λ z. answer_tells c figure k.unit k.order (immediate c k q e);
 }
-own_fit_with c online figure k (Some status) e h l = record {
+own_fit_with c online figure k (Some status) e q h l = record {
   reference = h.reference;
   unit = h.unit;
   status = fault_small c k.unit status k.order h.order e;
   body = refused_fit (endcode k.order);
+  tells = λ z. absurd (never_success c k.unit status k.order (fault_fails k.order h.order) e z);
 }
 
-pub own_fit : (c : Settings) (online : Bool) (figure : ℕ) (k : Command) → IsSmallCommand k → figure < 2 ^ 32
-    → IsFit (own_end c online figure k)
-own_fit c online figure k h l = own_fit_with c online figure k (fault_of c k) refl h l
+pub own_fit : (c : Settings) (online : Bool) (figure : ℕ) (k : Command) → is_queued c k ≡ false → IsSmallCommand k
+    → figure < 2 ^ 32 → IsFit c (own_end c online figure k)
+own_fit c online figure k q h l = own_fit_with c online figure k (fault_of c k) refl q h l
 
-pub aborted_fit : (k : Command) (good : ℕ) → IsSmallCommand k → IsFit (aborted_end k good)
-aborted_fit k good h = record {
+pub aborted_fit : (c : Settings) (k : Command) (good : ℕ) → IsSmallCommand k → IsFit c (aborted_end k good)
+aborted_fit c k good h = record {
   reference = h.reference;
   unit = h.unit;
   status = omega arith;
   body = moved_fit k.order good h.order;
+  tells = λ z. absurd (omega (arith, z));
 }
 
-pub served_fit : (c : Settings) (online : Bool) (k : Command) (good : ℕ) (block : Block) → IsSmallCommand k
-    → IsFault block → IsFit (outcome_of c online k good block)
-served_fit c online k good block h fault = record {
+pub served_fit : (c : Settings) (online : Bool) (k : Command) (good : ℕ) (block : Block) → is_queued c k ≡ true
+    → IsSmallCommand k → IsFault block → IsFit c (outcome_of c online k good block)
+served_fit c online k good block q h fault = record {
   reference = h.reference;
   unit = h.unit;
   status = ended_small online k.order block fault;
   body = outcome_fit (unit_shape c k.unit) (outcome_status online k.order block) k.order
       (good + cond (touches online k.order && is_good_block block) 1 0) h.order;
+  tells = let sound = queued_open c k q in
+      outcome_tells (unit_shape c k.unit) (outcome_status online k.order block) k.order
+      (good + cond (touches online k.order && is_good_block block) 1 0) sound.waits
+      (valid_order c k.unit k.order sound.sound);
 }

@@ -51,6 +51,13 @@ abbrev wanted : ℕ → Sent → Option ℕ
 wanted op s = if is_transfer op then s.parameter else None
 
 module _ (s : Sent) (a : Answer) where
+  -- an end of its command's unit
+  its_unit : a.unit ≡ s.unit → names_unit s a ≡ true
+  its_unit e = ap (λ b. s.next || b) (eq-eqb a.unit s.unit e) ∙ or_true s.next
+    where
+      or_true : (b : Bool) → (b || true) ≡ true
+      or_true b = grind arith
+
   -- an opcode that is known
   known : (op : ℕ) → s.opcode ≡ op → a.unit ≡ s.unit → is_known a ≡ true → nat_eq a.code (op + 0x80) ≡ true
       → may_have op (status_code a) ≡ true → succeeds a (asked op s) ≡ true → is_about a (asked op s) ≡ true
@@ -63,7 +70,7 @@ module _ (s : Sent) (a : Answer) where
       ap (λ b. if b && is_transfer s.opcode then s.parameter else None) k
       ∙ ap (λ o. if is_transfer o then s.parameter else None) e in
       record {
-        unit = eq-eqb a.unit s.unit unit;
+        unit = its_unit unit;
         endcode = ap (λ b. not b || nat_eq a.code (s.opcode + 0x80)) k
             ∙ (ap (λ o. nat_eq a.code (o + 0x80)) e ∙ code);
         status = ap (λ b. if b then may_have s.opcode (status_code a) else nat_eq (status_code a) 1) k
@@ -76,7 +83,7 @@ module _ (s : Sent) (a : Answer) where
   -- one that isn't
   unknown : a.unit ≡ s.unit → is_known a ≡ false → status_code a ≡ 1 → Keeps s a
   unknown unit k one = record {
-    unit = eq-eqb a.unit s.unit unit;
+    unit = its_unit unit;
     endcode = ap (λ b. not b || nat_eq a.code (s.opcode + 0x80)) k;
     status = ap (λ b. if b then may_have s.opcode (status_code a) else nat_eq (status_code a) 1) k
         ∙ eq-eqb (status_code a) 1 one;

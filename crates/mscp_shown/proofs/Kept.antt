@@ -1,6 +1,6 @@
 -- What holds after each part of a legal trace, and what a moment has to keep of it.
 use Rattle.mscp_controller.proofs.Basics.{End}
-use Rattle.mscp_controller.proofs.Basics.{◌≡◌, ℕ, ◌+◌, ◌<◌, Bool, true, false, not, List, [], ◌∷◌, ◌++◌, length, refl, ap, sym, ◌∙◌, subst, append-nil, arith, Option, None, AllByRecursion, true≢false, false≢true, Connection, Command, Settings, Trace, Moment, takes, command, name, waiting, waiting_by, ends_in, ends_at, ends, untaken, every_from, same_connection, is_queued, IsRight, each_push, taken_when, All-from_recursion, queues, get_or}
+use Rattle.mscp_controller.proofs.Basics.{◌≡◌, ℕ, ◌+◌, ◌<◌, Bool, true, false, not, List, [], ◌∷◌, ◌++◌, length, refl, ap, sym, ◌∙◌, subst, append-nil, arith, Option, Some, None, AllByRecursion, true≢false, false≢true, Connection, Command, Settings, Trace, Moment, takes, command, name, waiting, waiting_by, ends_in, ends_at, ends, untaken, every_from, same_connection, is_queued, IsRight, each_push, taken_when, All-from_recursion, queues, get_or}
 use Rattle.mscp_controller.specs.declared.entry.Sent.{Sent}
 use Rattle.mscp_controller.proofs.Promise.Known.{Known}
 use Rattle.mscp_controller.specs.Credits.{aborted_reference}
@@ -9,7 +9,10 @@ use Rattle.mscp_wire.specs.Wire as wire
 use Rattle.mscp_wire.specs.declared.moment.Moment.{Moment as Wired}
 use Rattle.mscp_wire.specs.declared.moment.Moment.TheVariants as moments
 use Rattle.mscp_shown.specs.Keeping.{Covers}
-use Rattle.mscp_wire.specs.Wire.{AreRight, IsRightAfter}
+use Rattle.mscp_wire.specs.Wire.{AreRight, known, known_after}
+use Rattle.mscp_wire.specs.declared.identity.Identity.{Identity}
+use Rattle.std.proofs.lemmas.List.Sums.{fold_push}
+use Rattle.mscp_shown.proofs.Identity.{AreTold, unit_identity}
 use Rattle.mscp_shown.specs.Shown.{shown, shown_by}
 use Rattle.mscp_shown.proofs.Aborted.{Aborts}
 use Rattle.mscp_shown.proofs.Owed.{came, owed, owed_more, quiet}
@@ -32,7 +35,8 @@ pub record Inv (c : Settings) (t : Trace) : Type 0 where
   pub heard : Heard c t (outstanding (shown t))
   pub queued : AllByRecursion (λ x. is_queued c (command t x) ≡ true) (waiting t)
   pub even : AllByRecursion (IsEven t) (waiting t)
-  pub fit : (via : Connection) → AllByRecursion IsFit (ends c via t)
+  pub fit : (via : Connection) → AllByRecursion (IsFit c) (ends c via t)
+  pub units : AreTold c (shown t)
   pub kept : (credits : Option ℕ) → Covers credits c → AreRight credits (shown t)
 
 -- what a moment keeps, before which this holds
@@ -42,7 +46,8 @@ pub record More (c : Settings) (t : Trace) (m : Moment) : Type 0 where
   pub owners : Owners c (t ++ m ∷ []) (outstanding (shown (t ++ m ∷ [])))
   pub orders : Orders c (t ++ m ∷ []) (outstanding (shown (t ++ m ∷ [])))
   pub heard : Heard c (t ++ m ∷ []) (outstanding (shown (t ++ m ∷ [])))
-  pub fit : (via : Connection) → AllByRecursion IsFit (ends_at c via t m)
+  pub fit : (via : Connection) → AllByRecursion (IsFit c) (ends_at c via t m)
+  pub units : AreTold c (shown (t ++ m ∷ []))
   pub kept : (credits : Option ℕ) → Covers credits c → AreRight credits (shown (t ++ m ∷ []))
 
 pub none_more : (n : ℕ) → 0 + n ≡ n
@@ -76,9 +81,9 @@ unfolding is_answer
 isnt_queued c via t command true r a h = absurd (true≢false (ap is_answer h))
 isnt_queued c via t command false r a h = refl
 
-kept_more : (credits : Option ℕ) (h : History) (m : Wired) → AreRight credits h → IsRightAfter credits (outstanding h) m
+kept_more : (credits : Option ℕ) (h : History) (m : Wired) → AreRight credits h → wire.IsRight credits h m
     → AreRight credits (h ++ m ∷ [])
-kept_more credits h m all last = each_push moments.Reset (λ h m. IsRightAfter credits (outstanding h) m) h m all last
+kept_more credits h m all last = each_push moments.Reset (wire.IsRight credits) h m all last
 
 module _ (c : Settings) (t : Trace) (m : Moment) (h : Inv c t) where
   -- a moment that shows nothing
@@ -86,7 +91,7 @@ module _ (c : Settings) (t : Trace) (m : Moment) (h : Inv c t) where
       (t ++ m ∷ []) p ≡ owed c via t p)
       → Owners c (t ++ m ∷ []) (outstanding (shown t)) → Orders c (t ++ m ∷ []) (outstanding (shown t))
       → Heard c (t ++ m ∷ []) (outstanding (shown t))
-      → ((via : Connection) → AllByRecursion IsFit (ends_at c via t m)) → More c t m
+      → ((via : Connection) → AllByRecursion (IsFit c) (ends_at c via t m)) → More c t m
   shows_none e same owners orders heard fit =
       let is : shown (t ++ m ∷ []) ≡ shown t = shown_more t m ∙ ap (λ w. shown t ++ w) e ∙ append-nil (shown t) in
       record {
@@ -95,6 +100,7 @@ module _ (c : Settings) (t : Trace) (m : Moment) (h : Inv c t) where
         orders = subst (λ w. Orders c (t ++ m ∷ []) (outstanding w)) (sym is) orders;
         heard = subst (λ w. Heard c (t ++ m ∷ []) (outstanding w)) (sym is) heard;
         fit = fit;
+        units = subst (AreTold c) (sym is) h.units;
         kept = λ credits covers. subst (AreRight credits) (sym is) (h.kept credits covers);
       }
 
@@ -102,12 +108,15 @@ module _ (c : Settings) (t : Trace) (m : Moment) (h : Inv c t) where
   pub shows_one : (w : Wired) → shown_by m.0 m.1 ≡ w ∷ []
       → ((via : Connection) (p : ℕ → Bool)
       → tally via p (after (outstanding (shown t)) w) ≡ owed c via (t ++ m ∷ []) p)
-      → ((credits : Option ℕ) → Covers credits c → IsRightAfter credits (outstanding (shown t)) w)
+      → ((credits : Option ℕ) → Covers credits c → wire.IsRight credits (shown t) w)
       → Owners c (t ++ m ∷ []) (after (outstanding (shown t)) w)
       → Orders c (t ++ m ∷ []) (after (outstanding (shown t)) w)
       → Heard c (t ++ m ∷ []) (after (outstanding (shown t)) w)
-      → ((via : Connection) → AllByRecursion IsFit (ends_at c via t m)) → More c t m
-  shows_one w e same right owners orders heard fit =
+      → ((via : Connection) → AllByRecursion (IsFit c) (ends_at c via t m))
+      → ((via : Connection) (unit : ℕ) (i : Identity) → known_after via unit (known (shown t) via unit) w ≡ Some i
+      → i ≡ unit_identity c unit)
+      → More c t m
+  shows_one w e same right owners orders heard fit units =
       let is : shown (t ++ m ∷ []) ≡ shown t ++ w ∷ [] = shown_more t m ∙ ap (λ l. shown t ++ l) e in
       let there : outstanding (shown (t ++ m ∷ [])) ≡ after (outstanding (shown t)) w =
       ap outstanding is ∙ after_more (shown t) w in
@@ -117,6 +126,8 @@ module _ (c : Settings) (t : Trace) (m : Moment) (h : Inv c t) where
         orders = subst (Orders c (t ++ m ∷ [])) (sym there) orders;
         heard = subst (Heard c (t ++ m ∷ [])) (sym there) heard;
         fit = fit;
+        units = subst (AreTold c) (sym is)
+            (λ via unit i k. units via unit i (sym (fold_push (known_after via unit) None (shown t) w) ∙ k));
         kept = λ credits covers. subst (AreRight credits) (sym is)
             (kept_more credits (shown t) w (h.kept credits covers) (right credits covers));
       }
@@ -146,4 +157,4 @@ module _ (c : Settings) (t : Trace) (m : Moment) (h : Inv c t) where
       (λ via. subst (Ordered via xs (untaken c via t)) (sym (none via)) tt) h.orders)
       (heard_still c t m xs (λ via. k.room.taken via) (λ via. (q via (λ n. true)).0) n
       (λ via. subst (AllByRecursion (λ (e : End). poll_of e ≡ None)) (sym (none via)) tt) h.heard)
-      (λ via. subst (AllByRecursion IsFit) (sym (none via)) tt)
+      (λ via. subst (AllByRecursion (IsFit c)) (sym (none via)) tt)

@@ -8,6 +8,8 @@ mod Small
 mod Kept
 mod Moments
 mod Saying
+mod Identity
+mod Telling
 mod Reading
 mod Keeping
 mod Suiting

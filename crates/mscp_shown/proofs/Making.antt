@@ -105,16 +105,16 @@ figure_small c own t (Order.Move kind count block) h = omega arith
 figure_small c own t (Order.Invalid byte fault) h = omega arith
 
 -- an end fits the command that waits under its name
-fits_own : (via : Connection) (t : Trace) (xs : List Sent) (x : ℕ) (e : End) → connection t x ≡ via → IsOwn t xs x
-    → Ends (command t x) e → IsFit e → poll_of e ≡ asked_by (order t x) → IsOwed via xs e
+fits_own : (c : Settings) (via : Connection) (t : Trace) (xs : List Sent) (x : ℕ) (e : End) → connection t x ≡ via
+    → IsOwn t xs x → Ends (command t x) e → IsFit c e → poll_of e ≡ asked_by (order t x) → IsOwed via xs e
 unfolding command
-fits_own via t xs x e side h made fit poll =
+fits_own c via t xs x e side h made fit poll =
     let b = sent_bytes (moment t x).0 in
     subst (λ v. IsOnly v e.reference xs (Fits v e)) side
     (subst (λ n. IsOnly (connection t x) n xs (Fits (connection t x) e)) (sym made.reference)
     (every_weaker (λ s. is_named (connection t x) (reference t x) s ≡ true → untold s ≡ message t x)
     (λ s. is_named (connection t x) (reference t x) s ≡ true → Fits (connection t x) e (untold s))
-    (λ s k n. subst (Fits (connection t x) e) (sym (k n)) (fits (connection t x) b e made fit poll)) xs h))
+    (λ s k n. subst (Fits (connection t x) e) (sym (k n)) (fits c (connection t x) b e made fit poll)) xs h))
 
 -- ---- the ends of an answer
 every_to_map : {X Y : Type 0} (f : X → Y) (P : Y → Type 0) (xs : List X) → AllByRecursion (λ x. P (f x)) xs
@@ -135,15 +135,15 @@ aborted_each own t P o None h = grind arith
 module _ (c : Settings) (own : Connection) (t : Trace) (xs : List Sent) (b : List ℕ)
     (new : IsNew c own t xs (sent_by own b)) (owners : Owners c t xs) (facts : Facts c t) where
   abbrev Made : End → Type 0
-  Made e = IsOwed own (xs ++ sent_by own b ∷ []) e × IsFit e
+  Made e = IsOwed own (xs ++ sent_by own b ∷ []) e × IsFit c e
 
   one_aborted : (x : ℕ)
       → (IsOwn t (xs ++ sent_by own b ∷ []) x × (is_queued c (command t x) ≡ true)) × (connection t x ≡ own)
       → Made (aborted_end (command t x) (good t x))
   one_aborted x k =
       let e = aborted_end (command t x) (good t x) in
-      let fit = aborted_fit (command t x) (good t x) (small_at t facts.bytes x) in (
-        fits_own own t (xs ++ sent_by own b ∷ []) x e k.1 k.0.0 (aborted_ends c (command t x) (good t x) k.0.1) fit
+      let fit = aborted_fit c (command t x) (good t x) (small_at t facts.bytes x) in (
+        fits_own c own t (xs ++ sent_by own b ∷ []) x e k.1 k.0.0 (aborted_ends c (command t x) (good t x) k.0.1) fit
             (aborted_polls c (command t x) (good t x) k.0.1).0,
         fit,
       )
@@ -159,10 +159,10 @@ module _ (c : Settings) (own : Connection) (t : Trace) (xs : List Sent) (b : Lis
       let all = every_both (IsOwn t (xs ++ sent_by own b ∷ [])) (λ x. is_queued c (command t x) ≡ true) (waiting t)
       (still_own c own t xs b new owners) facts.queued in
       let made = own_ends c online figure k q in
-      let fit = own_fit c online figure k (small_command b bytes) (figure_small c own t k.order facts.figures) in
+      let fit = own_fit c online figure k q (small_command b bytes) (figure_small c own t k.order facts.figures) in
       let owed : IsOwed own (xs ++ sent_by own b ∷ []) e =
       subst (λ n. IsOnly own n (xs ++ sent_by own b ∷ []) (Fits own e)) (sym made.reference)
-      (only_new c own t xs b new owners (Fits own e) (fits own b e made fit
+      (only_new c own t xs b new owners (Fits own e) (fits c own b e made fit
       (own_polls c online figure k (sent_by own b) q (sent_says own b)))) in
       every_append Made (map (λ x. aborted_end (command t x) (good t x)) (aborted c own t k)) (e ∷ [])
       (every_to_map (λ x. aborted_end (command t x) (good t x)) Made (aborted c own t k)
@@ -226,7 +226,7 @@ module _ (c : Settings) (t : Trace) (xs : List Sent) (owners : Owners c t xs) (f
   last_of false e h = (refl, some_same e (outcome c t k y) h)
 
   pub step_made : (e : End) → s.ended ≡ Some e
-      → (((IsOwed s.connection xs e × IsFit e) × (e.status % 32 ≢ 2)) × (e.reference ≡ reference t y)) ×
+      → (((IsOwed s.connection xs e × IsFit c e) × (e.status % 32 ≢ 2)) × (e.reference ≡ reference t y)) ×
       (poll_of e ≡ None)
   unfolding outcome
   step_made e h =
@@ -234,14 +234,15 @@ module _ (c : Settings) (t : Trace) (xs : List Sent) (owners : Owners c t xs) (f
       let online = is_online t (unit t y) in
       let made = outcome_ends c online (command t y) (good t y) (done t y) k
       (at_own (λ x. is_queued c (command t x) ≡ true) facts.queued) fault (at_own (IsEven t) facts.even) l.0 in
-      let fit = served_fit c online (command t y) (good t y) k (small_at t facts.bytes y) fault in
+      let fit = served_fit c online (command t y) (good t y) k
+      (at_own (λ x. is_queued c (command t x) ≡ true) facts.queued) (small_at t facts.bytes y) fault in
       let polls = served_polls c online (command t y) (good t y) k (at_own (λ x. is_queued c (command t x) ≡ true)
       facts.queued) in
-      let own = fits_own (connection t y) t xs y (outcome c t k y) refl (at_own (IsOwn t xs) owners.waits) made fit
+      let own = fits_own c (connection t y) t xs y (outcome c t k y) refl (at_own (IsOwn t xs) owners.waits) made fit
       polls.0 in
       let owed = subst (λ u. IsOwed u xs e) (sym v.connection) (subst (IsOwed (connection t y) xs) (sym l.1) own) in
       let apart : e.status % 32 ≢ 2 =
       subst (λ (n : End). n.status % 32 ≢ 2) (sym l.1) (outcome_apart online (order t y) k fault) in (
-        (((owed, subst IsFit (sym l.1) fit), apart), ap (λ (n : End). n.reference) l.1),
+        (((owed, subst (IsFit c) (sym l.1) fit), apart), ap (λ (n : End). n.reference) l.1),
         ap poll_of l.1 ∙ (polls.0 ∙ polls.1),
       )

@@ -42,7 +42,7 @@ module _ (c : Settings) (t : Trace) (k : Known c t)
       let e = first.0 in
       let is = first.2.is in
       let kind = subst (AllByRecursion IsOfKind) is (untaken_all IsOfKind c own t (kinds own)) in
-      let fit = subst (AllByRecursion IsFit) is (untaken_all IsFit c own t (h.fit own)) in
+      let fit = subst (AllByRecursion (IsFit c)) is (untaken_all (IsFit c) c own t (h.fit own)) in
       took_more c t own b k h e first.1 r first.2 kind.0 fit.0
 
   more : (event : Event) (entry : Entry) → IsPossible event → IsPatient (t ++ (event, entry) ∷ [])
@@ -97,8 +97,9 @@ inv_more c t m k kinds facts may patient r h =
       heard = one.heard;
       queued = each_queued c (λ (k : Command). is_queued c k ≡ true) (λ k q. q) t m r h.queued;
       even = even_more c t m r h.even;
-      fit = λ via. subst (AllByRecursion IsFit) (sym (ends_more c via t m))
-          (every_append IsFit (ends c via t) (ends_at c via t m) (h.fit via) (one.fit via));
+      fit = λ via. subst (AllByRecursion (IsFit c)) (sym (ends_more c via t m))
+          (every_append (IsFit c) (ends c via t) (ends_at c via t m) (h.fit via) (one.fit via));
+      units = one.units;
       kept = one.kept;
     }
 
@@ -117,6 +118,7 @@ inv_empty c = record {
   queued = tt;
   even = tt;
   fit = λ via. tt;
+  units = λ via unit i k. cc;
   kept = λ credits covers i low. absurd (omega (arith, low));
 }
 

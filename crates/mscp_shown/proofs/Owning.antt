@@ -12,12 +12,12 @@ use Rattle.mscp_shown.proofs.Saying.{sent_says}
 use Rattle.mscp_shown.proofs.Suiting.{Ends}
 
 -- an end that suits its command keeps the rules that look at both alone
-pub fits : (via : Connection) (b : List ℕ) (e : End) → Ends (command_of b) e → IsFit e
+pub fits : (c : Settings) (via : Connection) (b : List ℕ) (e : End) → Ends (command_of b) e → IsFit c e
     → poll_of e ≡ asked_by (command_of b).order → Fits via e (sent_by via b)
 unfolding command_of
-fits via b e h f poll =
+fits c via b e h f poll =
     let a = answer_by via (end_bytes e) in
-    let r = reads via e f in
+    let r = reads c via e f in
     record {
       keeps = keeps (sent_by via b) a (command_of b).order e.status e.body (sent_says via b) h.suits (r.unit ∙ h.unit)
           (r.code ∙ h.code) r.status r.body;

@@ -6,8 +6,10 @@ use Rattle.mscp_packet.specs.declared.end.End.{End}
 use Rattle.mscp_packet.specs.declared.end.EndBody.{EndBody}
 use Rattle.mscp_packet.specs.declared.end.EndBody.TheVariants as bodies
 use Rattle.mscp_events.specs.declared.connection.Connection.{Connection}
+use Rattle.mscp_events.specs.Settings.{Settings}
 use Rattle.mscp_wire.specs.Wire.{answer_by}
 use Rattle.mscp_wire.specs.declared.answer.Answer.{Answer}
+use Rattle.mscp_shown.proofs.Identity.{Tells}
 
 -- the numbers of a body that the rules read fit their places
 abbrev pub IsBodyFit : EndBody → Type 0
@@ -16,12 +18,13 @@ IsBodyFit (bodies.Status other figure) = (other < 2 ^ 32) × (figure < 2 ^ 32)
 IsBodyFit (bodies.Moved count) = count < 2 ^ 32
 IsBodyFit body = Unit {0}
 
--- and so do those of the end
-pub record IsFit (e : End) : Type 0 where
+-- and so do those of the end, which tells of its unit what it is
+pub record IsFit (c : Settings) (e : End) : Type 0 where
   pub reference : e.reference < 2 ^ 32
   pub unit : e.unit < 2 ^ 16
   pub status : e.status < 2 ^ 16
   pub body : IsBodyFit e.body
+  pub tells : Tells c e
 
 -- what is read of a body
 abbrev pub BodyReads : EndBody → Answer → Type 0
@@ -50,8 +53,8 @@ body_read via r u code status (bodies.Controller timeout id) h = tt
 body_read via r u code status (bodies.Online id media size serial) h = tt
 body_read via r u code status (bodies.Moved count) h = ap Some (four count h)
 
-pub reads : (via : Connection) (e : End) → IsFit e → Reads e (answer_by via (end_bytes e))
-reads via e h = record {
+pub reads : (c : Settings) (via : Connection) (e : End) → IsFit c e → Reads e (answer_by via (end_bytes e))
+reads c via e h = record {
   reference = four e.reference h.reference;
   unit = two e.unit h.unit;
   code = refl;

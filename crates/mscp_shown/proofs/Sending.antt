@@ -11,7 +11,7 @@ use Rattle.mscp_wire.specs.Wire.{History, after, after_end, answer_by, command_a
 use Rattle.mscp_wire.specs.Wire as wire
 use Rattle.mscp_wire.specs.declared.moment.Moment.TheVariants as moments
 use Rattle.mscp_shown.specs.Keeping.{AreBytes}
-use Rattle.mscp_wire.specs.Wire.{AreRight, IsRightAfter}
+use Rattle.mscp_wire.specs.Wire.{AreRight}
 use Rattle.mscp_shown.specs.Shown.{shown}
 use Rattle.mscp_shown.proofs.Aborted.{Aborts}
 use Rattle.mscp_shown.proofs.Answering.{Answer, answered}
@@ -60,7 +60,7 @@ module _ (c : Settings) (t : Trace) (own : Connection) (b : ArrayVec ℕ) (k : K
       (outstanding (shown t) ++ sent_by own b.items ∷ [])
       → Heard c (t ++ (Event.Send own b, Entry.Sent own (Ok sent)) ∷ [])
       (outstanding (shown t) ++ sent_by own b.items ∷ [])
-      → ((via : Connection) → AllByRecursion IsFit (ends_at c via t (Event.Send own b, Entry.Sent own (Ok sent))))
+      → ((via : Connection) → AllByRecursion (IsFit c) (ends_at c via t (Event.Send own b, Entry.Sent own (Ok sent))))
       → More c t (Event.Send own b, Entry.Sent own (Ok sent))
   sent_more sent h r opens owners orders heard fit =
       let z = arrives c own t b.items sent r in
@@ -69,7 +69,7 @@ module _ (c : Settings) (t : Trace) (own : Connection) (b : ArrayVec ℕ) (k : K
       ∙ ap (λ n. n + cond (wire.same_connection own via && p (num b.items 0 4)) 1 0) (h.tallied via p)
       ∙ ap (λ n. owed c via t p + n) (sym (sent_side via p)) ∙ sym (opens via p))
       (λ credits covers. message_right credits c own t b.items (outstanding (shown t)) covers z.taken (h.tallied own))
-      owners orders heard fit
+      owners orders heard fit h.units
 
   queued_own : (h : Inv c t) → IsNew c own t (outstanding (shown t)) (sent_by own b.items)
       → IsOnly own (command_of b.items).reference (outstanding (shown t) ++ sent_by own b.items ∷ [])
@@ -203,7 +203,7 @@ module _ (c : Settings) (t : Trace) (own : Connection) (b : ArrayVec ℕ) (k : K
       (owners_more c t m longer (λ via. k.room.taken via) (λ via. refl) (still_own c own t xs b.items n h.owners)
       (λ e. absurd (false≢true e)) (still_owed c own t xs b.items n h.owners)
       (λ via. side via (λ v. AllByRecursion (IsOwed v longer)) tt
-      (every_weaker (λ (e : End). IsOwed own longer e × IsFit e) (IsOwed own longer) (λ e k. k.0) each made))
+      (every_weaker (λ (e : End). IsOwed own longer e × IsFit c e) (IsOwed own longer) (λ e k. k.0) each made))
       (still_aborts c own t xs b.items n h.owners)
       (λ via. side via (λ v. Aborts v longer) tt (answer_aborts c own t xs b.items n h.owners facts)))
       (orders_sent c own t xs b.items n h.owners h.orders m k.steady.apart (refl, r) (λ via. k.room.taken via)
@@ -216,5 +216,5 @@ module _ (c : Settings) (t : Trace) (own : Connection) (b : ArrayVec ℕ) (k : K
       (answer_tells q a h facts patient n
       (isnt_queued c own t (command_of b.items) (is_queued c (command_of b.items)) q a z.is))
       (λ e. absurd (false≢true e)))
-      (λ via. side via (λ v. AllByRecursion IsFit) tt
-      (every_weaker (λ (e : End). IsOwed own longer e × IsFit e) IsFit (λ e k. k.1) each made))
+      (λ via. side via (λ v. AllByRecursion (IsFit c)) tt
+      (every_weaker (λ (e : End). IsOwed own longer e × IsFit c e) (IsFit c) (λ e k. k.1) each made))

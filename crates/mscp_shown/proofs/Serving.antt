@@ -70,7 +70,7 @@ module _ (c : Settings) (t : Trace) (block : Block) (k : Known c t) (h : Inv c t
   served_more s report is r ended e y v fault facts nothing at =
       let m : Moment = (Event.Step block, Entry.Stepped report) in
       let xs = outstanding (shown t) in
-      let Made : End → Type 0 = λ e. (((IsOwed s.connection xs e × IsFit e)
+      let Made : End → Type 0 = λ e. (((IsOwed s.connection xs e × IsFit c e)
       × (e.status % 32 ≢ 2)) × (e.reference ≡ reference t y)) × (poll_of e ≡ None) in
       let made : (o : Option End) → s.ended ≡ o → AllByRecursion Made (option_to_list o) = λ o. elim o as (λ o. s.ended
       ≡ o → AllByRecursion Made (option_to_list o)) [
@@ -100,8 +100,8 @@ module _ (c : Settings) (t : Trace) (block : Block) (k : Known c t) (h : Inv c t
       (heard_still c t m xs (λ via. k.room.taken via) (λ via. refl) refl
       (λ via. side via (λ v. AllByRecursion (λ (e : End). poll_of e ≡ None)) tt
       (every_weaker Made (λ e. poll_of e ≡ None) (λ e k. k.1) (option_to_list ended) each)) h.heard)
-      (λ via. side via (λ v. AllByRecursion IsFit) tt
-      (every_weaker Made IsFit (λ e k. k.0.0.0.1) (option_to_list ended) each))
+      (λ via. side via (λ v. AllByRecursion (IsFit c)) tt
+      (every_weaker Made (IsFit c) (λ e k. k.0.0.0.1) (option_to_list ended) each))
     where
       orders_of : (ended : Option End) → AllByRecursion (λ (e : End). e.reference ≡ reference t y)
           (option_to_list ended)

@@ -1,3 +1,5 @@
+pub mod Counting
+pub mod Units
 pub mod Hearing
 pub mod Rights
 pub mod Passing

@@ -10,7 +10,7 @@ use Rattle.mscp_reader.specs.Outcome.{in_line}
 use Rattle.mscp_reader.specs.declared.fault.Cause.{Cause}
 use Rattle.mscp_reader.specs.declared.fault.Cause.TheVariants as causes
 use Rattle.mscp_reader.specs.declared.fault.ScriptFault.{ScriptFault}
-use Rattle.mscp_wire.specs.Wire.{AreRight, History, IsRight, broken, outstanding}
+use Rattle.mscp_wire.specs.Wire.{AreRight, History, IsRight, broken_by, known, known_of, outstanding}
 use Rattle.mscp_wire.specs.Log.{Log, after_line, after_lines, after_said, goes_on, is_fresh, line_says, with_moment}
 use Rattle.mscp_wire.specs.Right.{told, told_line, told_lines}
 use Rattle.mscp_wire.specs.declared.line.Said.{Said}
@@ -71,14 +71,15 @@ credits_kept true log next c f h =
 credits_kept false log next c f h = cc
 
 moment_kept : (n : ℕ) (log next : Log) (m : Moment) (p : Option Rule)
-    → broken log.credits (outstanding log.moments) m ≡ p → by_moment n log m p ≡ Ok (Ok next)
+    → broken_by log.credits log.moments m ≡ p → by_moment n log m p ≡ Ok (Ok next)
     → Kept log next (says.Happens m)
 moment_kept n log next m None b h =
     let e : record log { moments = log.moments ++ m ∷ [] } ≡ next = cc in
     record {
       told_is = ap Ok e;
       right = λ r. same_kept (record log { moments = log.moments ++ m ∷ [] }) next e
-          (right_more log.credits log.moments m r (right_from_unbroken log.credits (outstanding log.moments) m b));
+          (right_more log.credits log.moments m r (right_from_unbroken log.credits (outstanding log.moments)
+          (known_of (known log.moments) m) m b));
     }
 moment_kept n log next m (Some rule) b h = cc
 
@@ -87,7 +88,7 @@ kept n log next says.Nothing h =
     let e : log ≡ next = cc in record { told_is = ap Ok e; right = same_kept log next e }
 kept n log next (says.Credits c) h = credits_kept (is_fresh log) log next c refl h
 kept n log next (says.Happens m) h =
-    moment_kept n log next m (broken log.credits (outstanding log.moments) m) refl h
+    moment_kept n log next m (broken_by log.credits log.moments m) refl h
 
 -- ---- lines
 
@@ -208,7 +209,8 @@ said_right n log next final (says.Happens m) h x r =
     let all : AreRight log.credits (log.moments ++ m ∷ x.rest) =
     subst (λ k. AreRight k (log.moments ++ m ∷ x.rest)) c (subst (λ t. AreRight final.credits t) h r) in
     ap (λ p. Ok (with_moment n log m p))
-    (unbroken_from_right log.credits (outstanding log.moments) m (right_there log.credits log.moments m x.rest all))
+    (unbroken_from_right log.credits (outstanding log.moments) (known_of (known log.moments) m) m
+    (right_there log.credits log.moments m x.rest all))
     ∙ ap (λ l. Ok (Ok l)) e
 
 told_extends : (read : Result Log Cause) (n : ℕ) (log final : Log) (said : Said)

@@ -9,14 +9,24 @@ use Rattle.mscp_reader.specs.declared.fault.Cause.{Cause}
 use Rattle.mscp_reader.specs.declared.fault.Cause.TheVariants as causes
 use Rattle.mscp_reader.specs.declared.fault.ReadFault.{ReadFault}
 use Rattle.mscp_reader.specs.declared.fault.ScriptFault.{ScriptFault}
-use Rattle.mscp_wire.specs.Wire.{History, after, broken, outstanding}
-use Rattle.mscp_wire.specs.Log.{FailsLine, Log, after_line, after_lines, after_said, line_says, totals_of, with_moment}
+use Rattle.mscp_wire.specs.Wire.{History, after, broken, broken_by, kept, known, known_after, known_of, outstanding}
+use Rattle.mscp_packet.specs.Number.{num}
+use Rattle.mscp_events.specs.declared.connection.Connection.{Connection}
+use Rattle.mscp_wire.specs.declared.identity.Online.{Online}
+use Rattle.mscp_wire.specs.declared.moment.Moment.TheVariants as moments
+use Rattle.mscp_wire.specs.declared.rule.Rule.{Rule}
+use Rattle.mscp_wire.specs.Log.{FailsLine, Log, after_line, after_lines, after_said, command_of, line_says, with_moment}
+use Rattle.mscp_wire.specs.Totals.{totals_of}
 use Rattle.mscp_wire.specs.declared.line.Said.{Said}
 use Rattle.mscp_wire.specs.declared.line.Said.TheVariants as says
 use Rattle.mscp_wire.specs.declared.moment.Moment.{Moment}
 use Rattle.mscp_wire.specs.declared.sent.Sent.{Sent}
 use Rattle.mscp_wire.specs.declared.totals.Totals.{Totals}
 use Rattle.mscp_wire.specs.declared.wrong.Wrong.{Wrong}
+
+-- what is kept of units is what is known after a history
+abbrev pub AreKnown : List Online → History → Type 0
+AreKnown units h = (via : Connection) (unit : ℕ) → kept units via unit ≡ known h via unit
 
 -- ---- a line
 
@@ -43,23 +53,61 @@ line_goes n log line said h = ap (λ r. r >>= after_said n log) (in_ok n (line_s
 
 -- the credits are told before anything else
 pub credits_told : (n c : ℕ) (log : Log) (credits : Option ℕ) (b : Bool) (t : Totals) → credits ≡ log.credits
-    → b ≡ is_some credits → b ≡ false → t ≡ totals_of log.moments → t.moments ≡ 0
+    → b ≡ is_some credits → b ≡ false → t ≡ totals_of log.moments → t.counts.moments ≡ 0
     → after_said n log (says.Credits c) ≡ Ok (Ok (record log { credits = Some c }))
 credits_told n c log credits b t p q e s z = grind (arith, nat_tests)
 
 pub credits_late : (n c : ℕ) (log : Log) (t : Totals) (b : Bool) → t ≡ totals_of log.moments
-    → b ≡ is_some log.credits → (b ≡ true) ⊎ (t.moments ≢ 0)
+    → b ≡ is_some log.credits → (b ≡ true) ⊎ (t.counts.moments ≢ 0)
     → after_said n log (says.Credits c) ≡ Err causes.Word
 credits_late n c log t b p q h = grind (arith, nat_tests)
 
+-- the same is known of a moment's unit
+pub known_same : (units : List Online) (h : History) (m : Moment) → AreKnown units h
+    → known_of (kept units) m ≡ known_of (known h) m
+known_same units h (moments.Message via b) u = refl
+known_same units h (moments.End via b) u = u via (num b.items 4 2)
+known_same units h moments.Reset u = refl
+
+-- what is known after one moment more
+pub known_more : (h : History) (m : Moment) (old new : List Online) → AreKnown old h
+    → ((via : Connection) (unit : ℕ) → kept new via unit ≡ known_after via unit (kept old via unit) m)
+    → AreKnown new (h ++ m ∷ [])
+known_more h m old new u k via unit =
+    k via unit ∙ ap (λ o. known_after via unit o m) (u via unit) ∙ sym (fold_push (known_after via unit) None h m)
+
+-- a moment that breaks a rule
+pub refused : (n : ℕ) (log : Log) (m : Moment) (credits : Option ℕ) (xs : List Sent) (units : List Online) (rule : Rule)
+    → credits ≡ log.credits → xs ≡ outstanding log.moments → AreKnown units log.moments
+    → Some rule ≡ broken credits xs (known_of (kept units) m) m
+    → broken_by log.credits log.moments m ≡ Some rule
+refused n log m credits xs units rule p q u h =
+    let was = known_of (known log.moments) m in
+    ap (λ c. broken c (outstanding log.moments) was m) (sym p) ∙ ap (λ ys. broken credits ys was m) (sym q)
+    ∙ ap (λ o. broken credits xs o m) (sym (known_same units log.moments m u)) ∙ sym h
+
+-- what is said of it
+pub told_wrong : (n : ℕ) (log : Log) (m : Moment) (credits : Option ℕ) (xs ys : List Sent) (units : List Online)
+    (rule : Rule) (command : Option Sent) → credits ≡ log.credits → xs ≡ outstanding log.moments
+    → AreKnown units log.moments → Some rule ≡ broken credits xs (known_of (kept units) m) m → ys ≡ xs
+    → command ≡ command_of ys m
+    → with_moment n log m (broken_by log.credits log.moments m)
+    ≡ Err (record { line = n; rule = rule; moment = m; command = command })
+told_wrong n log m credits xs ys units rule command p q u h e k =
+    ap (with_moment n log m) (refused n log m credits xs units rule p q u h)
+    ∙ ap (λ z. Err (record { line = n; rule = rule; moment = m; command = z }))
+    (sym (k ∙ ap (λ z. command_of z m) (e ∙ q)))
+
 -- a moment that breaks no rule
-pub taken : (n : ℕ) (log : Log) (m : Moment) (credits : Option ℕ) (xs : List Sent) → credits ≡ log.credits
-    → xs ≡ outstanding log.moments → None ≡ broken credits xs m
-    → with_moment n log m (broken log.credits (outstanding log.moments) m)
-    ≡ Ok (record log { moments = log.moments ++ m ∷ [] })
-taken n log m credits xs p q h =
+pub taken : (n : ℕ) (log : Log) (m : Moment) (credits : Option ℕ) (xs : List Sent) (units : List Online)
+    → credits ≡ log.credits → xs ≡ outstanding log.moments → AreKnown units log.moments
+    → None ≡ broken credits xs (known_of (kept units) m) m
+    → with_moment n log m (broken_by log.credits log.moments m) ≡ Ok (record log { moments = log.moments ++ m ∷ [] })
+taken n log m credits xs units p q u h =
+    let was = known_of (known log.moments) m in
     ap (with_moment n log m)
-    (ap (λ c. broken c (outstanding log.moments) m) (sym p) ∙ ap (λ ys. broken credits ys m) (sym q) ∙ sym h)
+    (ap (λ c. broken c (outstanding log.moments) was m) (sym p) ∙ ap (λ ys. broken credits ys was m) (sym q)
+    ∙ ap (λ o. broken credits xs o m) (sym (known_same units log.moments m u)) ∙ sym h)
 
 -- what is outstanding after one moment more
 pub pushed : (h : History) (m : Moment) (xs ys : List Sent) → xs ≡ outstanding h → ys ≡ after xs m

@@ -1,7 +1,8 @@
 -- A moment is right exactly if it breaks no rule.
 use Rattle.std.proofs.Common.{◌≡◌, ℕ, Bool, true, false, List, take, refl, Option, Some, None}
-use Rattle.mscp_wire.specs.Wire.{IsRightAfter, IsRightEnd, IsRightMessage, answer_by, broken, broken_at, broken_body, broken_end, broken_message, command_at, count_of, has_abort, has_count, has_credit, has_endcode, has_figure, has_status, is_about, is_long, is_message, is_new, names_unit, other_of, passes_none, place_of, polled_by, sent_by, succeeds, unless}
+use Rattle.mscp_wire.specs.Wire.{IsRightAfter, IsRightEnd, IsRightMessage, answer_by, broken, broken_at, broken_body, broken_end, broken_message, command_at, count_of, has_abort, has_count, has_credit, has_endcode, has_figure, has_status, is_about, is_long, is_message, is_new, is_same_unit, names_unit, other_of, passes_none, place_of, polled_by, sent_by, succeeds, unless}
 use Rattle.mscp_wire.specs.declared.answer.Answer.{Answer}
+use Rattle.mscp_wire.specs.declared.identity.Identity.{Identity}
 use Rattle.mscp_wire.specs.declared.moment.Moment.{Moment}
 use Rattle.mscp_wire.specs.declared.moment.Moment.TheVariants as moments
 use Rattle.mscp_wire.specs.declared.rule.Rule.{Rule}
@@ -33,41 +34,44 @@ unbroken_message credits xs b s r =
     (both (has_credit credits xs s) rules.Credits None r.credit refl))
 
 -- the rules of a body
-abbrev figure_on : List Sent → List Sent → Sent → Answer → Option Rule
-figure_on xs earlier y e =
-    unless (has_figure xs earlier e (polled_by y e)) rules.Figure (unless (has_count e (count_of y e)) rules.Count None)
+abbrev count_on : Sent → Option Identity → Answer → Option Rule
+count_on y u e = unless (has_count e (count_of y e)) rules.Count (unless (is_same_unit u e) rules.Identity None)
 
-abbrev about_on : List Sent → List Sent → Sent → Answer → Option Rule
-about_on xs earlier y e = unless (is_about e (other_of y e)) rules.About (figure_on xs earlier y e)
+abbrev figure_on : List Sent → List Sent → Sent → Option Identity → Answer → Option Rule
+figure_on xs earlier y u e = unless (has_figure xs earlier e (polled_by y e)) rules.Figure (count_on y u e)
 
-abbrev order_on : List Sent → List Sent → Sent → Answer → Option Rule
-order_on xs earlier y e = unless (passes_none earlier y e) rules.Order (broken_body xs earlier y e)
+abbrev about_on : List Sent → List Sent → Sent → Option Identity → Answer → Option Rule
+about_on xs earlier y u e = unless (is_about e (other_of y e)) rules.About (figure_on xs earlier y u e)
 
-abbrev aborted_on : List Sent → List Sent → Sent → Answer → Option Rule
-aborted_on xs earlier y e = unless (has_abort xs y e) rules.Aborted (order_on xs earlier y e)
+abbrev order_on : List Sent → List Sent → Sent → Option Identity → Answer → Option Rule
+order_on xs earlier y u e = unless (passes_none earlier y e) rules.Order (broken_body xs earlier y u e)
 
-abbrev status_on : List Sent → List Sent → Sent → Answer → Option Rule
-status_on xs earlier y e = unless (has_status y e) rules.Status (aborted_on xs earlier y e)
+abbrev aborted_on : List Sent → List Sent → Sent → Option Identity → Answer → Option Rule
+aborted_on xs earlier y u e = unless (has_abort xs y e) rules.Aborted (order_on xs earlier y u e)
 
-abbrev endcode_on : List Sent → List Sent → Sent → Answer → Option Rule
-endcode_on xs earlier y e = unless (has_endcode y e) rules.Endcode (status_on xs earlier y e)
+abbrev status_on : List Sent → List Sent → Sent → Option Identity → Answer → Option Rule
+status_on xs earlier y u e = unless (has_status y e) rules.Status (aborted_on xs earlier y u e)
 
-right_at : (xs : List Sent) (b : List ℕ) (e : Answer) (i : ℕ) → is_long b ≡ true → place_of xs e ≡ Some i
-    → broken_end xs (take i xs) (command_at xs i) e ≡ None → IsRightEnd xs b e i
-right_at xs b e i long found h =
+abbrev endcode_on : List Sent → List Sent → Sent → Option Identity → Answer → Option Rule
+endcode_on xs earlier y u e = unless (has_endcode y e) rules.Endcode (status_on xs earlier y u e)
+
+right_at : (xs : List Sent) (u : Option Identity) (b : List ℕ) (e : Answer) (i : ℕ) → is_long b ≡ true
+    → place_of xs e ≡ Some i → broken_end xs (take i xs) (command_at xs i) u e ≡ None → IsRightEnd xs u b e i
+right_at xs u b e i long found h =
     let z = take i xs in
     let y = command_at xs i in
-    let unit = parts (names_unit y e) rules.Unit (endcode_on xs z y e) h in
-    let endcode = parts (has_endcode y e) rules.Endcode (status_on xs z y e) unit.1 in
-    let status = parts (has_status y e) rules.Status (aborted_on xs z y e) endcode.1 in
-    let aborted = parts (has_abort xs y e) rules.Aborted (order_on xs z y e) status.1 in
-    let order = parts (passes_none z y e) rules.Order (broken_body xs z y e) aborted.1 in
-    let success = parts (succeeds e (other_of y e)) rules.Success (about_on xs z y e) order.1 in
-    let about = parts (is_about e (other_of y e)) rules.About (figure_on xs z y e) success.1 in
+    let unit = parts (names_unit y e) rules.Unit (endcode_on xs z y u e) h in
+    let endcode = parts (has_endcode y e) rules.Endcode (status_on xs z y u e) unit.1 in
+    let status = parts (has_status y e) rules.Status (aborted_on xs z y u e) endcode.1 in
+    let aborted = parts (has_abort xs y e) rules.Aborted (order_on xs z y u e) status.1 in
+    let order = parts (passes_none z y e) rules.Order (broken_body xs z y u e) aborted.1 in
+    let success = parts (succeeds e (other_of y e)) rules.Success (about_on xs z y u e) order.1 in
+    let about = parts (is_about e (other_of y e)) rules.About (figure_on xs z y u e) success.1 in
     let figure =
-    parts (has_figure xs z e (polled_by y e)) rules.Figure (unless (has_count e (count_of y e)) rules.Count None)
-    about.1 in
-    let count = parts (has_count e (count_of y e)) rules.Count None figure.1 in
+    parts (has_figure xs z e (polled_by y e)) rules.Figure (count_on y u e) about.1 in
+    let count =
+    parts (has_count e (count_of y e)) rules.Count (unless (is_same_unit u e) rules.Identity None) figure.1 in
+    let identity = parts (is_same_unit u e) rules.Identity None count.1 in
     record {
       length = long;
       outstanding = found;
@@ -80,48 +84,50 @@ right_at xs b e i long found h =
       about = about.0;
       figure = figure.0;
       count = count.0;
+      identity = identity.0;
     }
 
-right_end : (xs : List Sent) (b : List ℕ) (e : Answer) (p : Option ℕ) → place_of xs e ≡ p
-    → unless (is_long b) rules.Length (broken_at xs e p) ≡ None → (i : ℕ) × IsRightEnd xs b e i
-right_end xs b e None found h =
+right_end : (xs : List Sent) (u : Option Identity) (b : List ℕ) (e : Answer) (p : Option ℕ) → place_of xs e ≡ p
+    → unless (is_long b) rules.Length (broken_at xs u e p) ≡ None → (i : ℕ) × IsRightEnd xs u b e i
+right_end xs u b e None found h =
     let p = parts (is_long b) rules.Length (Some rules.Outstanding) h in
     let never : ⊥ = cc p.1 in
     absurd never
-right_end xs b e (Some i) found h =
-    let p = parts (is_long b) rules.Length (broken_end xs (take i xs) (command_at xs i) e) h in
-    (i, right_at xs b e i p.0 found p.1)
+right_end xs u b e (Some i) found h =
+    let p = parts (is_long b) rules.Length (broken_end xs (take i xs) (command_at xs i) u e) h in
+    (i, right_at xs u b e i p.0 found p.1)
 
-unbroken_end : (xs : List Sent) (b : List ℕ) (e : Answer) (i : ℕ) → IsRightEnd xs b e i
-    → unless (is_long b) rules.Length (broken_at xs e (Some i)) ≡ None
-unbroken_end xs b e i r =
+unbroken_end : (xs : List Sent) (u : Option Identity) (b : List ℕ) (e : Answer) (i : ℕ) → IsRightEnd xs u b e i
+    → unless (is_long b) rules.Length (broken_at xs u e (Some i)) ≡ None
+unbroken_end xs u b e i r =
     let z = take i xs in
     let y = command_at xs i in
-    both (is_long b) rules.Length (broken_end xs z y e) r.length
-    (both (names_unit y e) rules.Unit (endcode_on xs z y e) r.unit
-    (both (has_endcode y e) rules.Endcode (status_on xs z y e) r.endcode
-    (both (has_status y e) rules.Status (aborted_on xs z y e) r.status
-    (both (has_abort xs y e) rules.Aborted (order_on xs z y e) r.aborted
-    (both (passes_none z y e) rules.Order (broken_body xs z y e) r.order
-    (both (succeeds e (other_of y e)) rules.Success (about_on xs z y e) r.success
-    (both (is_about e (other_of y e)) rules.About (figure_on xs z y e) r.about
-    (both (has_figure xs z e (polled_by y e)) rules.Figure (unless (has_count e (count_of y e)) rules.Count None)
-    r.figure (both (has_count e (count_of y e)) rules.Count None r.count refl)))))))))
+    both (is_long b) rules.Length (broken_end xs z y u e) r.length
+    (both (names_unit y e) rules.Unit (endcode_on xs z y u e) r.unit
+    (both (has_endcode y e) rules.Endcode (status_on xs z y u e) r.endcode
+    (both (has_status y e) rules.Status (aborted_on xs z y u e) r.status
+    (both (has_abort xs y e) rules.Aborted (order_on xs z y u e) r.aborted
+    (both (passes_none z y e) rules.Order (broken_body xs z y u e) r.order
+    (both (succeeds e (other_of y e)) rules.Success (about_on xs z y u e) r.success
+    (both (is_about e (other_of y e)) rules.About (figure_on xs z y u e) r.about
+    (both (has_figure xs z e (polled_by y e)) rules.Figure (count_on y u e) r.figure
+    (both (has_count e (count_of y e)) rules.Count (unless (is_same_unit u e) rules.Identity None) r.count
+    (both (is_same_unit u e) rules.Identity None r.identity refl))))))))))
 
 -- a moment that breaks no rule is right
-pub right_from_unbroken : (credits : Option ℕ) (xs : List Sent) (m : Moment) → broken credits xs m ≡ None
-    → IsRightAfter credits xs m
-right_from_unbroken credits xs (moments.Message via b) h =
+pub right_from_unbroken : (credits : Option ℕ) (xs : List Sent) (u : Option Identity) (m : Moment)
+    → broken credits xs u m ≡ None → IsRightAfter credits xs u m
+right_from_unbroken credits xs u (moments.Message via b) h =
     right_message credits xs b.items (sent_by via b.items) h
-right_from_unbroken credits xs (moments.End via b) h =
-    right_end xs b.items (answer_by via b.items) (place_of xs (answer_by via b.items)) refl h
-right_from_unbroken credits xs moments.Reset h = tt
+right_from_unbroken credits xs u (moments.End via b) h =
+    right_end xs u b.items (answer_by via b.items) (place_of xs (answer_by via b.items)) refl h
+right_from_unbroken credits xs u moments.Reset h = tt
 
 -- and one that is right breaks none
-pub unbroken_from_right : (credits : Option ℕ) (xs : List Sent) (m : Moment) → IsRightAfter credits xs m
-    → broken credits xs m ≡ None
-unbroken_from_right credits xs (moments.Message via b) r =
+pub unbroken_from_right : (credits : Option ℕ) (xs : List Sent) (u : Option Identity) (m : Moment)
+    → IsRightAfter credits xs u m → broken credits xs u m ≡ None
+unbroken_from_right credits xs u (moments.Message via b) r =
     unbroken_message credits xs b.items (sent_by via b.items) r
-unbroken_from_right credits xs (moments.End via b) r =
-    rw r.1.outstanding (unbroken_end xs b.items (answer_by via b.items) r.0 r.1)
-unbroken_from_right credits xs moments.Reset r = refl
+unbroken_from_right credits xs u (moments.End via b) r =
+    rw r.1.outstanding (unbroken_end xs u b.items (answer_by via b.items) r.0 r.1)
+unbroken_from_right credits xs u moments.Reset r = refl

@@ -8,7 +8,7 @@ use Rattle.mscp_reader.specs.declared.fault.Cause.TheVariants as causes
 use Rattle.mscp_reader.specs.declared.fault.ReadFault.{ReadFault}
 use Rattle.mscp_reader.specs.declared.fault.ReadFault.TheVariants as reads
 use Rattle.mscp_reader.specs.declared.fault.ScriptFault.{ScriptFault}
-use Rattle.mscp_wire.specs.Wire.{AreRight, broken, outstanding}
+use Rattle.mscp_wire.specs.Wire.{AreRight, broken_by, outstanding}
 use Rattle.mscp_wire.specs.Log.{Judges, Log, after_line, after_lines, after_log, after_said, command_of, is_fresh, line_says, nothing}
 use Rattle.mscp_wire.specs.Right.{IsRightLog, IsRightVerdict, Means, told, told_line, told_lines}
 use Rattle.mscp_wire.specs.declared.line.Said.{Said}
@@ -26,7 +26,7 @@ use Rattle.mscp_wire.proofs.Meaning.{by_credits, by_moment, going, kept, lines_k
 pub record IsWrong (n : ℕ) (log : Log) (said : Said) (wrong : Wrong) : Type 0 where
   pub is_said : said ≡ says.Happens wrong.moment
   pub number : wrong.line ≡ n
-  pub broken : broken log.credits (outstanding log.moments) wrong.moment ≡ Some wrong.rule
+  pub broken : broken_by log.credits log.moments wrong.moment ≡ Some wrong.rule
 
 credits_wrong : (b : Bool) (n : ℕ) (log : Log) (c : ℕ) (wrong : Wrong) → by_credits log c b ≡ Ok (Err wrong)
     → IsWrong n log (says.Credits c) wrong
@@ -39,7 +39,7 @@ wrong_of n log m rule =
     record { line = n; rule = rule; moment = m; command = command_of (outstanding log.moments) m }
 
 moment_wrong : (p : Option Rule) (n : ℕ) (log : Log) (m : Moment) (wrong : Wrong)
-    → broken log.credits (outstanding log.moments) m ≡ p → by_moment n log m p ≡ Ok (Err wrong)
+    → broken_by log.credits log.moments m ≡ p → by_moment n log m p ≡ Ok (Err wrong)
     → IsWrong n log (says.Happens m) wrong
 moment_wrong None n log m wrong b h = cc
 moment_wrong (Some rule) n log m wrong b h =
@@ -47,7 +47,7 @@ moment_wrong (Some rule) n log m wrong b h =
     record {
       is_said = ap (λ w. says.Happens w.moment) e;
       number = ap (λ w. w.line) (sym e);
-      broken = ap (λ w. broken log.credits (outstanding log.moments) w.moment) (sym e) ∙ b ∙ ap (λ w. Some w.rule) e;
+      broken = ap (λ w. broken_by log.credits log.moments w.moment) (sym e) ∙ b ∙ ap (λ w. Some w.rule) e;
     }
 
 said_wrong : (said : Said) (n : ℕ) (log : Log) (wrong : Wrong) → after_said n log said ≡ Ok (Err wrong)
@@ -55,7 +55,7 @@ said_wrong : (said : Said) (n : ℕ) (log : Log) (wrong : Wrong) → after_said 
 said_wrong says.Nothing n log wrong h = cc
 said_wrong (says.Credits c) n log wrong h = credits_wrong (is_fresh log) n log c wrong h
 said_wrong (says.Happens m) n log wrong h =
-    moment_wrong (broken log.credits (outstanding log.moments) m) n log m wrong refl h
+    moment_wrong (broken_by log.credits log.moments m) n log m wrong refl h
 
 -- ---- lines
 
@@ -70,7 +70,7 @@ pub record WrongIn (n : ℕ) (log : Log) (all : List (List ℕ)) (wrong : Wrong)
   pub told : told_lines n log before ≡ Ok there
   pub right : AreRight there.credits there.moments
   pub says : line_says wrong.line line ≡ Ok (says.Happens wrong.moment)
-  pub broken : broken there.credits (outstanding there.moments) wrong.moment ≡ Some wrong.rule
+  pub broken : broken_by there.credits there.moments wrong.moment ≡ Some wrong.rule
 
 came_wrong : (came : Result (Result Log Wrong) Cause) (n : ℕ) (log : Log) (said : Said) (line : List ℕ)
     (rest : List (List ℕ)) (wrong : Wrong) → line_says (n + 1) line ≡ Ok said → after_said (n + 1) log said ≡ came

@@ -9,7 +9,7 @@ use Rattle.mscp_reader.specs.declared.fault.Cause.TheVariants as causes
 use Rattle.mscp_reader.specs.declared.fault.ReadFault.{ReadFault}
 use Rattle.mscp_reader.specs.declared.fault.ReadFault.TheVariants as reads
 use Rattle.mscp_reader.specs.declared.fault.ScriptFault.{ScriptFault}
-use Rattle.mscp_wire.specs.Wire.{AreRight, broken, outstanding}
+use Rattle.mscp_wire.specs.Wire.{AreRight, broken_by}
 use Rattle.mscp_wire.specs.Log.{Log, is_fresh, line_says, nothing}
 use Rattle.mscp_wire.specs.declared.line.Said.{Said}
 use Rattle.mscp_wire.specs.declared.line.Said.TheVariants as says
@@ -51,7 +51,7 @@ pub record IsFirstWrong (bytes : List ℕ) (wrong : Wrong) : Type 0 where
   pub told : told_lines 0 nothing before ≡ Ok log
   pub right : AreRight log.credits log.moments
   pub says : line_says wrong.line line ≡ Ok (says.Happens wrong.moment)
-  pub broken : broken log.credits (outstanding log.moments) wrong.moment ≡ Some wrong.rule
+  pub broken : broken_by log.credits log.moments wrong.moment ≡ Some wrong.rule
 
 -- what a verdict on a log means
 abbrev pub Means : {A : Type 0} → List ℕ → Result (Verdict A) ReadFault → Type 0

@@ -9,7 +9,8 @@
 --                    Credits      its host has a credit for it                                has_credit
 --     the            Length       an end is as long as its endcode asks                       is_long
 --     controller's   Outstanding  it answers a command that is outstanding                    place_of
---                    Unit         it names the unit of that command                           names_unit
+--                    Unit         it names the unit of that command, unless that asks for
+--                                 the next unit                                               names_unit
 --                    Endcode      it has the endcode of that command                          has_endcode
 --                    Status       its status has a code that such a command may have          has_status
 --                    Aborted      a command is aborted only while its ABORT is outstanding    has_abort
@@ -21,111 +22,21 @@
 --                                 to poll; it is 0 if no such command is outstanding          has_figure
 --                    Count        no more bytes are moved than were asked for, and all of
 --                                 them if the status is Success                               has_count
-use Rattle.std.specs.Prelude.{◌≡◌, ℕ, ◌+◌, ◌<◌, ◌%◌, Bool, true, false, not, ◌&&◌, ◌||◌, nat_eq, nat_le, nat_lt, if◌then◌else◌, List, [], ◌∷◌, ◌++◌, length, map, find, take, drop, position, count_by, fold, slice_index, slice_index_or, Option, Some, None}
+--                    Identity     while a unit is online its identifier, media type and size
+--                                 stay as they are                                            is_same_unit
+use Rattle.std.specs.Prelude.{◌≡◌, ℕ, ◌+◌, ◌<◌, Bool, true, false, not, ◌&&◌, ◌||◌, nat_eq, nat_le, nat_lt, if◌then◌else◌, List, [], ◌∷◌, ◌++◌, length, map, find, take, drop, position, count_by, fold, slice_index, slice_index_or, Option, Some, None}
 use Rattle.std.specs.List.{list_any}
-use Rattle.mscp_packet.specs.Number.{num}
-use Rattle.mscp_packet.specs.Opcodes.{class, is_immediate_class}
-use Rattle.mscp_packet.specs.declared.class.Class.{Class}
-use Rattle.mscp_packet.specs.declared.class.Class.TheVariants as classes
 use Rattle.mscp_events.specs.declared.connection.Connection.{Connection}
-use Rattle.mscp_events.specs.declared.connection.Connection.TheVariants.{First, Second}
+use Rattle.mscp_events.specs.declared.connection.Connection.TheVariants.{First}
+pub use Rattle.mscp_wire.specs.Messages.{History, answer_by, asks_for_next, four_in, identity_in, is_about_another, is_immediate, is_known, is_named, is_sequential, is_sequential_class, is_transfer, is_transfer_class, least_length, same_connection, sent_by, status_code}
+pub use Rattle.mscp_wire.specs.Units.{agrees, brings, is_same_unit, is_unit, kept, known, known_after, known_after_end, known_of, leaves, tells_unit, with_unit, without}
 use Rattle.mscp_wire.specs.declared.answer.Answer.{Answer}
+use Rattle.mscp_wire.specs.declared.identity.Identity.{Identity}
 use Rattle.mscp_wire.specs.declared.moment.Moment.{Moment}
 use Rattle.mscp_wire.specs.declared.moment.Moment.TheVariants as moments
 use Rattle.mscp_wire.specs.declared.rule.Rule.{Rule}
 use Rattle.mscp_wire.specs.declared.rule.Rule.TheVariants as rules
 use Rattle.mscp_wire.specs.declared.sent.Sent.{Sent}
-
--- what went over the wire, the first moment first
-abbrev pub History : Type 0
-History = List Moment
-
--- ---- what a message and an end say
-
--- the number in the four bytes from a place on, if the message has them
-abbrev pub four_in : List ℕ → ℕ → Option ℕ
-four_in b at = if nat_le (at + 4) (length b) then Some (num b at 4) else None
-
--- the command of a message, of which nothing was told yet (manual, "Command Messages"). Its parameter is the number in
--- bytes 12 to 15: of an ABORT and a GET COMMAND STATUS the reference number of the command that they are about, of a
--- transfer how many bytes are to be moved
-abbrev pub sent_by : Connection → List ℕ → Sent
-sent_by via b = record {
-  connection = via;
-  reference = num b 0 4;
-  unit = num b 4 2;
-  opcode = slice_index b 8;
-  parameter = four_in b 12;
-  told = None;
-}
-
--- the end in a message (manual, "End Messages"). Its parameter is that number of its command's, or how many bytes were
--- moved; the figure is that of a GET COMMAND STATUS
-abbrev pub answer_by : Connection → List ℕ → Answer
-answer_by via b = record {
-  connection = via;
-  reference = num b 0 4;
-  unit = num b 4 2;
-  code = slice_index b 8;
-  status = num b 10 2;
-  parameter = four_in b 12;
-  figure = four_in b 16;
-}
-
--- both are the same connection
-abbrev pub same_connection : Connection → Connection → Bool
-same_connection First First = true
-same_connection Second Second = true
-same_connection one other = false
-
--- the command has this reference number on this connection
-abbrev pub is_named : Connection → ℕ → Sent → Bool
-is_named via reference s = same_connection s.connection via && nat_eq s.reference reference
-
--- ---- opcodes, endcodes and statuses
-
--- a command of this opcode is answered when it arrives (manual, "Command Categories and Execution Order")
-abbrev pub is_immediate : ℕ → Bool
-is_immediate opcode = is_immediate_class (class opcode)
-
--- it keeps its place among the commands of its unit
-abbrev pub is_sequential_class : Class → Bool
-is_sequential_class classes.Sequential = true
-is_sequential_class other = false
-
-abbrev pub is_sequential : ℕ → Bool
-is_sequential opcode = is_sequential_class (class opcode)
-
--- it is a transfer
-abbrev pub is_transfer_class : Class → Bool
-is_transfer_class classes.Free = true
-is_transfer_class other = false
-
-abbrev pub is_transfer : ℕ → Bool
-is_transfer opcode = is_transfer_class (class opcode)
-
--- it is an ABORT or a GET COMMAND STATUS, which are about another command
-abbrev pub is_about_another : ℕ → Bool
-is_about_another opcode = nat_eq opcode 1 || nat_eq opcode 2
-
--- the fewest bytes of an end with this endcode (manual, "End Messages")
-abbrev pub least_length : ℕ → ℕ
-least_length code =
-    if nat_eq code 0x81 then 16 else (
-    if nat_eq code 0x82 then 20 else (
-    if nat_eq code 0x83 then 48 else (
-    if nat_eq code 0x84 then 28 else (
-    if nat_eq code 0x89 || nat_eq code 0x8A then 44 else (
-    if nat_eq code 0x90 || nat_eq code 0x92 || nat_eq code 0xA0 || nat_eq code 0xA1 || nat_eq code 0xA2 then 32
-    else 12)))))
-
--- the code of a status: its low five bits (manual, "Status and Event Codes")
-abbrev pub status_code : Answer → ℕ
-status_code e = e.status % 32
-
--- the endcode is that of an opcode which the controller knows: 0x80 alone is that of any other (profile)
-abbrev pub is_known : Answer → Bool
-is_known e = not (nat_eq e.code 0x80)
 
 -- ---- the rules of a host
 
@@ -159,9 +70,9 @@ is_long b = nat_le 12 (length b) && nat_le (least_length (slice_index b 8)) (len
 abbrev pub place_of : List Sent → Answer → Option ℕ
 place_of xs e = position (is_named e.connection e.reference) xs
 
--- it names the unit of its command (manual, "End Messages")
+-- it names the unit of its command (manual, "End Messages"), or any if that asks for the next unit
 abbrev pub names_unit : Sent → Answer → Bool
-names_unit y e = nat_eq e.unit y.unit
+names_unit y e = y.next || nat_eq e.unit y.unit
 
 -- its endcode is the opcode of its command and 0x80 (manual, "End Messages"), or 0x80 alone
 abbrev pub has_endcode : Sent → Answer → Bool
@@ -306,34 +217,40 @@ abbrev pub broken_message : Option ℕ → List Sent → Sent → Option Rule
 broken_message credits xs s = unless (is_new xs s) rules.Number (unless (has_credit credits xs s) rules.Credits None)
 
 -- by the body of an end of this command, before which these came
-abbrev pub broken_body : List Sent → List Sent → Sent → Answer → Option Rule
-broken_body xs earlier y e =
+abbrev pub broken_body : List Sent → List Sent → Sent → Option Identity → Answer → Option Rule
+broken_body xs earlier y unit e =
     unless (succeeds e (other_of y e)) rules.Success
     (unless (is_about e (other_of y e)) rules.About
     (unless (has_figure xs earlier e (polled_by y e)) rules.Figure
-    (unless (has_count e (count_of y e)) rules.Count None)))
+    (unless (has_count e (count_of y e)) rules.Count
+    (unless (is_same_unit unit e) rules.Identity None))))
 
 -- by an end of this command
-abbrev pub broken_end : List Sent → List Sent → Sent → Answer → Option Rule
-broken_end xs earlier y e =
+abbrev pub broken_end : List Sent → List Sent → Sent → Option Identity → Answer → Option Rule
+broken_end xs earlier y unit e =
     unless (names_unit y e) rules.Unit
     (unless (has_endcode y e) rules.Endcode
     (unless (has_status y e) rules.Status
     (unless (has_abort xs y e) rules.Aborted
-    (unless (passes_none earlier y e) rules.Order (broken_body xs earlier y e)))))
+    (unless (passes_none earlier y e) rules.Order (broken_body xs earlier y unit e)))))
 
 -- by an end of the command at a place, if it is there
-abbrev pub broken_at : List Sent → Answer → Option ℕ → Option Rule
-broken_at xs e None = Some rules.Outstanding
-broken_at xs e (Some i) = broken_end xs (take i xs) (command_at xs i) e
+abbrev pub broken_at : List Sent → Option Identity → Answer → Option ℕ → Option Rule
+broken_at xs unit e None = Some rules.Outstanding
+broken_at xs unit e (Some i) = broken_end xs (take i xs) (command_at xs i) unit e
 
--- by a moment, before which these are outstanding, where each host has so many credits
-abbrev pub broken : Option ℕ → List Sent → Moment → Option Rule
-broken credits xs (moments.Message via b) =
+-- by a moment, before which these are outstanding and this is known of its unit, where each host has so many credits
+abbrev pub broken : Option ℕ → List Sent → Option Identity → Moment → Option Rule
+broken credits xs unit (moments.Message via b) =
     unless (is_message b.items) rules.Message (broken_message credits xs (sent_by via b.items))
-broken credits xs (moments.End via b) =
-    unless (is_long b.items) rules.Length (broken_at xs (answer_by via b.items) (place_of xs (answer_by via b.items)))
-broken credits xs moments.Reset = None
+broken credits xs unit (moments.End via b) =
+    unless (is_long b.items) rules.Length
+    (broken_at xs unit (answer_by via b.items) (place_of xs (answer_by via b.items)))
+broken credits xs unit moments.Reset = None
+
+-- by a moment after a history
+abbrev pub broken_by : Option ℕ → History → Moment → Option Rule
+broken_by credits h m = broken credits (outstanding h) (known_of (known h) m) m
 
 -- ---- a moment that is right
 
@@ -343,8 +260,8 @@ pub record IsRightMessage (credits : Option ℕ) (xs : List Sent) (b : List ℕ)
   pub number : is_new xs s ≡ true
   pub credit : has_credit credits xs s ≡ true
 
--- an end keeps its rules: its command is at place i of those that are outstanding
-pub record IsRightEnd (xs : List Sent) (b : List ℕ) (e : Answer) (i : ℕ) : Type 0 where
+-- an end keeps its rules: its command is at place i of those that are outstanding, and this is known of its unit
+pub record IsRightEnd (xs : List Sent) (was : Option Identity) (b : List ℕ) (e : Answer) (i : ℕ) : Type 0 where
   pub length : is_long b ≡ true
   pub outstanding : place_of xs e ≡ Some i
   pub unit : names_unit (command_at xs i) e ≡ true
@@ -356,16 +273,17 @@ pub record IsRightEnd (xs : List Sent) (b : List ℕ) (e : Answer) (i : ℕ) : T
   pub about : is_about e (other_of (command_at xs i) e) ≡ true
   pub figure : has_figure xs (take i xs) e (polled_by (command_at xs i) e) ≡ true
   pub count : has_count e (count_of (command_at xs i) e) ≡ true
+  pub identity : is_same_unit was e ≡ true
 
--- a moment is right, before which these are outstanding
-abbrev pub IsRightAfter : Option ℕ → List Sent → Moment → Type 0
-IsRightAfter credits xs (moments.Message via b) = IsRightMessage credits xs b.items (sent_by via b.items)
-IsRightAfter credits xs (moments.End via b) = (i : ℕ) × IsRightEnd xs b.items (answer_by via b.items) i
-IsRightAfter credits xs moments.Reset = Unit {0}
+-- a moment is right, before which these are outstanding and this is known of its unit
+abbrev pub IsRightAfter : Option ℕ → List Sent → Option Identity → Moment → Type 0
+IsRightAfter credits xs unit (moments.Message via b) = IsRightMessage credits xs b.items (sent_by via b.items)
+IsRightAfter credits xs unit (moments.End via b) = (i : ℕ) × IsRightEnd xs unit b.items (answer_by via b.items) i
+IsRightAfter credits xs unit moments.Reset = Unit {0}
 
 -- a moment is right after a history
 abbrev pub IsRight : Option ℕ → History → Moment → Type 0
-IsRight credits h m = IsRightAfter credits (outstanding h) m
+IsRight credits h m = IsRightAfter credits (outstanding h) (known_of (known h) m) m
 
 -- the moment at a position. Past the end there is none that asks for anything
 abbrev pub moment_at : History → ℕ → Moment

@@ -3,6 +3,7 @@
 ghost use Rattle.std.specs.Prelude.{◌≡◌, ◌≤◌, ◌<◌, ◌^◌, length};
 ghost use Rattle.mscp_wire.specs.Wire as wire;
 
+use crate::identity::Identity;
 use crate::sent::{Sent, four_in, is_transfer};
 use mscp_events::Connection;
 use mscp_packet::fields::{four_at, two_at};
@@ -25,6 +26,9 @@ pub struct Answer {
     pub parameter: Option<u32>,
     /// The number in bytes 16 to 19, if the message has them: the figure of a GET COMMAND STATUS.
     pub figure: Option<u32>,
+    /// What it says of its unit, if it has 44 bytes at least: only an end of GET UNIT STATUS, ONLINE or SET UNIT CHARACTERISTICS
+    /// does.
+    pub identity: Option<Identity>,
 }
 
 /// The fewest bytes of an end with this endcode (manual, "End Messages").
@@ -62,6 +66,20 @@ fn may_have(opcode: u8, code: u16) -> bool
         && !((opcode == 8 || opcode == 9) && code == 4)
 }
 
+/// Whether an end with this endcode tells of a unit what is known of it.
+fn agrees(code: u8, told: Option<Identity>, known: &Identity) -> bool
+    ensures { result ≡ wire.agrees code told known.now }
+{
+    match told {
+        Some(told) => {
+            told.identifier == known.identifier
+                && told.media == known.media
+                && (code == 0x83 || told.size == known.size)
+        }
+        None => false,
+    }
+}
+
 /// Whether a number is there, and is this.
 pub fn is_it(found: Option<u32>, number: u32) -> bool
     ensures { result ≡ wire.is_it found number }
@@ -86,6 +104,7 @@ impl Answer {
             status: two_at(b, 10),
             parameter: four_in(b, 12),
             figure: four_in(b, 16),
+            identity: Identity::of(b),
         }
     }
 
@@ -103,11 +122,11 @@ impl Answer {
         self.code != 0x80
     }
 
-    /// Whether it names the unit of its command.
+    /// Whether it names the unit of its command, or any if that asks for the next unit.
     pub fn names_unit(&self, command: &Sent) -> bool
         ensures { result ≡ wire.names_unit command.now self.now }
     {
-        self.unit == command.unit
+        command.next || self.unit == command.unit
     }
 
     /// Whether it has the endcode of its command.
@@ -189,5 +208,38 @@ impl Answer {
             (Some(_), None) => false,
             (None, _) => true,
         }
+    }
+
+    /// Whether it tells what its unit is.
+    fn tells_unit(&self) -> bool
+        ensures { result ≡ wire.tells_unit self.now }
+    {
+        self.status_code() == 0 && (self.code == 0x83 || self.code == 0x89 || self.code == 0x8A)
+    }
+
+    /// Whether its unit is what it was when it came online, if it is known to be online.
+    pub fn is_same_unit(&self, known: Option<Identity>) -> bool
+        ensures { result ≡ wire.is_same_unit known self.now }
+    {
+        match known {
+            Some(known) => !self.tells_unit() || agrees(self.code, self.identity, &known),
+            None => true,
+        }
+    }
+
+    /// Whether it brings its unit online.
+    pub fn brings(&self) -> bool
+        ensures { result ≡ wire.brings self.now }
+    {
+        self.code == 0x89 && self.status_code() == 0
+    }
+
+    /// Whether it shows that its unit isn't online any more.
+    pub fn leaves(&self) -> bool
+        ensures { result ≡ wire.leaves self.now }
+    {
+        (self.code == 0x88 && self.status_code() == 0)
+            || self.status_code() == 3
+            || self.status_code() == 4
     }
 }

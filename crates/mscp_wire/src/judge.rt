@@ -1,9 +1,12 @@
 // What is outstanding after the moments so far, and which rule the next one breaks.
 
-ghost use Rattle.std.specs.Prelude.{◌≡◌, ◌<◌, ◌++◌, ◌∷◌, [], length, take, OnOk, IfOk, None};
+ghost use Rattle.std.specs.Prelude.{◌≡◌, ℕ, ◌<◌, ◌++◌, ◌∷◌, [], length, take, OnOk, IfOk, None};
+ghost use Rattle.mscp_packet.specs.Number.{num};
+ghost use Rattle.mscp_events.specs.declared.connection.Connection as connections;
 ghost use Rattle.mscp_wire.specs.Wire as wire;
 
 use crate::answer::{Answer, is_long};
+use crate::identity::{Identity, Online, hear, known};
 use crate::moment::Moment;
 use crate::outstanding::{count_on, has_abort, has_figure, has_named, passes_none, place_of, tell};
 use crate::rule::Rule;
@@ -37,8 +40,14 @@ fn broken_message(credits: Option<u32>, commands: &[Sent], sent: &Sent) -> Optio
 }
 
 /// The first rule that the body of an end of this command breaks, before which these came.
-fn broken_body(commands: &[Sent], earlier: &[Sent], command: &Sent, answer: &Answer) -> Option<Rule>
-    ensures { result ≡ wire.broken_body commands.now earlier.now command.now answer.now }
+fn broken_body(
+    commands: &[Sent],
+    earlier: &[Sent],
+    command: &Sent,
+    unit: Option<Identity>,
+    answer: &Answer,
+) -> Option<Rule>
+    ensures { result ≡ wire.broken_body commands.now earlier.now command.now unit answer.now }
 {
     if !answer.succeeds(answer.other_of(command)) {
         return Some(Rule::Success);
@@ -52,12 +61,21 @@ fn broken_body(commands: &[Sent], earlier: &[Sent], command: &Sent, answer: &Ans
     if !answer.has_count(answer.count_of(command)) {
         return Some(Rule::Count);
     }
+    if !answer.is_same_unit(unit) {
+        return Some(Rule::Identity);
+    }
     None
 }
 
 /// The first rule that an end of this command breaks, before which these came.
-fn broken_end(commands: &[Sent], earlier: &[Sent], command: &Sent, answer: &Answer) -> Option<Rule>
-    ensures { result ≡ wire.broken_end commands.now earlier.now command.now answer.now }
+fn broken_end(
+    commands: &[Sent],
+    earlier: &[Sent],
+    command: &Sent,
+    unit: Option<Identity>,
+    answer: &Answer,
+) -> Option<Rule>
+    ensures { result ≡ wire.broken_end commands.now earlier.now command.now unit answer.now }
 {
     if !answer.names_unit(command) {
         return Some(Rule::Unit);
@@ -74,7 +92,7 @@ fn broken_end(commands: &[Sent], earlier: &[Sent], command: &Sent, answer: &Answ
     if !passes_none(earlier, command, answer) {
         return Some(Rule::Order);
     }
-    broken_body(commands, earlier, command, answer)
+    broken_body(commands, earlier, command, unit, answer)
 }
 
 /// The command at a place.
@@ -86,36 +104,40 @@ pub fn command_at(commands: &[Sent], place: usize) -> Sent
 }
 
 /// The first rule that an end breaks, as long as its endcode asks.
-fn broken_answer(commands: &[Sent], answer: &Answer) -> Option<Rule>
-    ensures { result ≡ wire.broken_at commands.now answer.now (wire.place_of commands.now answer.now) }
+fn broken_answer(commands: &[Sent], unit: Option<Identity>, answer: &Answer) -> Option<Rule>
+    ensures { result ≡ wire.broken_at commands.now unit answer.now (wire.place_of commands.now answer.now) }
 {
     match place_of(commands, answer) {
         Some(place) => broken_end(
             commands,
             &commands[..place],
             &command_at(commands, place),
+            unit,
             answer,
         ),
         None => Some(Rule::Outstanding),
     }
 }
 
-/// What is outstanding on the wire, where each host has so many credits.
+/// What is outstanding on the wire and known of units that are online, where each host has so many credits.
 #[derive(Drop)]
 pub struct Judge<A: Allocator> {
     pub credits: Option<u32>,
     pub commands: Vec<Sent, A>,
+    pub units: Vec<Online, A>,
 }
 
-impl<A: Allocator> Judge<A> {
+impl<A: Allocator + Copy> Judge<A> {
     /// Of no moment.
     pub fn new(alloc: A, credits: Option<u32>) -> Judge<A>
         ensures credits { result.credits ≡ credits }
         ensures commands { result.commands.items ≡ [] }
+        ensures units { result.units.items ≡ [] }
     {
         Judge {
             credits,
             commands: Vec::new(alloc),
+            units: Vec::new(alloc),
         }
     }
 
@@ -125,6 +147,7 @@ impl<A: Allocator> Judge<A> {
             (wire.broken_message self.old.credits self.old.commands.items (wire.sent_by connection bytes.now))) }
         ensures after { IfOk result (λ rule. rule ≡ None → self.new.commands.items
             ≡ self.old.commands.items ++ wire.sent_by connection bytes.now ∷ []) }
+        ensures units { self.new.units ≡ self.old.units }
         ensures credits { self.new.credits ≡ self.old.credits }
     {
         if bytes.len() < 12 {
@@ -142,6 +165,7 @@ impl<A: Allocator> Judge<A> {
     fn take(&mut self, place: usize, answer: &Answer)
         requires { place < length self.old.commands.items }
         ensures after { self.new.commands.items ≡ wire.after_end self.old.commands.items answer.now (Some place) }
+        ensures units { self.new.units ≡ self.old.units }
         ensures credits { self.new.credits ≡ self.old.credits }
     {
         let polled = answer.polled_by(&command_at(self.commands.as_slice(), place));
@@ -149,39 +173,64 @@ impl<A: Allocator> Judge<A> {
         let _ = self.commands.remove(place);
     }
 
+    /// An end came that breaks no rule: its command isn't outstanding any more, and what it tells of its unit is known.
+    fn ended(&mut self, answer: &Answer) -> Result<(), OutOfMemory>
+        ensures after { OnOk result (self.new.commands.items
+            ≡ wire.after_end self.old.commands.items answer.now (wire.place_of self.old.commands.items answer.now)) }
+        ensures units { OnOk result ((via : connections.Connection) (unit : ℕ) → wire.kept self.new.units.items via unit
+            ≡ wire.known_after_end via unit (wire.kept self.old.units.items via unit) answer.now) }
+        ensures credits { self.new.credits ≡ self.old.credits }
+    {
+        hear(&mut self.units, answer)?;
+        if let Some(place) = place_of(self.commands.as_slice(), answer) {
+            self.take(place, answer);
+        }
+        Ok(())
+    }
+
     /// The first rule that an end breaks. If it breaks none its command isn't outstanding any more.
-    fn end(&mut self, connection: Connection, bytes: &[u8]) -> Option<Rule>
-        ensures rule { result ≡ wire.unless (wire.is_long bytes.now) Rule.Length (wire.broken_at self.old.commands.items
+    fn end(&mut self, connection: Connection, bytes: &[u8]) -> Result<Option<Rule>, OutOfMemory>
+        ensures rule { IfOk result (λ rule. rule ≡ wire.unless (wire.is_long bytes.now) Rule.Length
+            (wire.broken_at self.old.commands.items (wire.kept self.old.units.items connection (num bytes.now 4 2))
             (wire.answer_by connection bytes.now)
+            (wire.place_of self.old.commands.items (wire.answer_by connection bytes.now)))) }
+        ensures after { IfOk result (λ rule. rule ≡ None → self.new.commands.items
+            ≡ wire.after_end self.old.commands.items (wire.answer_by connection bytes.now)
             (wire.place_of self.old.commands.items (wire.answer_by connection bytes.now))) }
-        ensures after { result ≡ None → self.new.commands.items ≡ wire.after_end self.old.commands.items
-            (wire.answer_by connection bytes.now)
-            (wire.place_of self.old.commands.items (wire.answer_by connection bytes.now)) }
+        ensures units { IfOk result (λ rule. rule ≡ None → (via : connections.Connection) (unit : ℕ)
+            → wire.kept self.new.units.items via unit ≡ wire.known_after_end via unit
+            (wire.kept self.old.units.items via unit) (wire.answer_by connection bytes.now)) }
         ensures credits { self.new.credits ≡ self.old.credits }
     {
         if !is_long(bytes) {
-            return Some(Rule::Length);
+            return Ok(Some(Rule::Length));
         }
         let answer = Answer::of(connection, bytes);
-        let broken = broken_answer(self.commands.as_slice(), &answer);
-        if let (None, Some(place)) = (&broken, place_of(self.commands.as_slice(), &answer)) {
-            self.take(place, &answer);
+        let unit = known(self.units.as_slice(), connection, answer.unit);
+        let broken = broken_answer(self.commands.as_slice(), unit, &answer);
+        if broken.is_none() {
+            self.ended(&answer)?;
         }
-        broken
+        Ok(broken)
     }
 
     /// The first rule that a moment breaks. If it breaks none it is added to those before it.
     pub fn step(&mut self, moment: &Moment) -> Result<Option<Rule>, OutOfMemory>
-        ensures rule { IfOk result (λ rule. rule ≡ wire.broken self.old.credits self.old.commands.items moment.now) }
+        ensures rule { IfOk result (λ rule. rule ≡ wire.broken self.old.credits self.old.commands.items
+            (wire.known_of (wire.kept self.old.units.items) moment.now) moment.now) }
         ensures after { IfOk result (λ rule. rule ≡ None → self.new.commands.items
             ≡ wire.after self.old.commands.items moment.now) }
+        ensures units { IfOk result (λ rule. rule ≡ None → (via : connections.Connection) (unit : ℕ)
+            → wire.kept self.new.units.items via unit
+            ≡ wire.known_after via unit (wire.kept self.old.units.items via unit) moment.now) }
         ensures credits { self.new.credits ≡ self.old.credits }
     {
         match moment {
             Moment::Message(connection, message) => self.message(*connection, message.as_slice()),
-            Moment::End(connection, message) => Ok(self.end(*connection, message.as_slice())),
+            Moment::End(connection, message) => self.end(*connection, message.as_slice()),
             Moment::Reset => {
                 self.commands.clear();
+                self.units.clear();
                 Ok(None)
             }
         }

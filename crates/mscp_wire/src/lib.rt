@@ -2,6 +2,7 @@
 #![tactic(auto)]
 
 mod answer;
+mod identity;
 mod judge;
 mod law;
 mod line;
@@ -14,12 +15,13 @@ mod totals;
 mod wrong;
 
 pub use crate::answer::Answer;
+pub use crate::identity::{Identity, Online};
 pub use crate::judge::Judge;
 pub use crate::law::right_breaks_no_rule;
-pub use crate::line::Said;
+pub use crate::line::{Said, line_says};
 pub use crate::log::{Reading, Verdict, judge_wire};
 pub use crate::moment::Moment;
 pub use crate::rule::Rule;
 pub use crate::sent::Sent;
-pub use crate::totals::Totals;
+pub use crate::totals::{Counts, Totals};
 pub use crate::wrong::Wrong;

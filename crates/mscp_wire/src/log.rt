@@ -3,7 +3,8 @@
 ghost use Rattle.std.specs.Prelude.{◌≡◌, ◌≤◌, ◌<◌, ◌+◌, OnOk, IfOk};
 ghost use Rattle.mscp_reader.specs.Lexical as lexical;
 ghost use Rattle.mscp_wire.specs.Right.{IsRightLog, IsRightVerdict, Means};
-ghost use Rattle.mscp_wire.specs.Log.{Log, Goes, IsAfter, IsFew, Judges, after_line, after_lines, after_log, after_said, answered_by, command_of, nothing};
+ghost use Rattle.mscp_wire.specs.Totals.{IsFew};
+ghost use Rattle.mscp_wire.specs.Log.{Log, Goes, IsAfter, Judges, after_line, after_lines, after_log, after_said, answered_by, command_of, nothing};
 
 use crate::answer::{Answer, is_long};
 use crate::judge::{Judge, command_at};
@@ -57,7 +58,7 @@ fn command_of(commands: &[Sent], moment: &Moment) -> Option<Sent>
     }
 }
 
-impl<A: Allocator> Reading<A> {
+impl<A: Allocator + Copy> Reading<A> {
     /// Of no line.
     fn new(alloc: A) -> Reading<A>
         ensures after { IsAfter nothing result }
@@ -75,7 +76,7 @@ impl<A: Allocator> Reading<A> {
             → Goes number (after_said number log (Said.Credits credits)) result self.new }
         ensures few { self.new.totals ≡ self.old.totals }
     {
-        if self.judge.credits.is_some() || self.totals.moments != 0 {
+        if self.judge.credits.is_some() || self.totals.counts.moments != 0 {
             return Err(ReadFault::Script(ScriptFault {
                 line: number,
                 cause: Cause::Word,
@@ -101,7 +102,8 @@ impl<A: Allocator> Reading<A> {
                 command,
             })),
             None => {
-                self.totals = self.totals.with(number, &moment);
+                let queue = self.judge.commands.as_slice().len();
+                self.totals.add(number, &moment, queue);
                 Ok(None)
             }
         }
@@ -134,7 +136,10 @@ impl<A: Allocator> Reading<A> {
 }
 
 /// What is said of the lines of a log.
-fn judge_lines<A: Allocator>(alloc: A, lines: &mut Lines<'_>) -> Result<Verdict<A>, ReadFault>
+fn judge_lines<A: Allocator + Copy>(
+    alloc: A,
+    lines: &mut Lines<'_>,
+) -> Result<Verdict<A>, ReadFault>
     requires { lines.old.number ≡ 0 }
     ensures { Judges result (after_lines 0 nothing (lexical.lines lines.old.rest.now)) }
 {
@@ -147,13 +152,14 @@ fn judge_lines<A: Allocator>(alloc: A, lines: &mut Lines<'_>) -> Result<Verdict<
     let Reading { judge, totals } = reading;
     let Judge {
         credits: _,
+        units: _,
         commands,
     } = judge;
     Ok(Verdict::Right(totals, commands))
 }
 
 /// What is said of a log.
-fn judged<A: Allocator>(alloc: A, bytes: &[u8]) -> Result<Verdict<A>, ReadFault>
+fn judged<A: Allocator + Copy>(alloc: A, bytes: &[u8]) -> Result<Verdict<A>, ReadFault>
     ensures { Judges result (after_log bytes.now) }
 {
     let mut lines = lines_of(bytes)?;
@@ -162,7 +168,7 @@ fn judged<A: Allocator>(alloc: A, bytes: &[u8]) -> Result<Verdict<A>, ReadFault>
 
 /// Judges a log of the wire: says that each of its moments is right, or the first that isn't, unless a line before it is at
 /// fault.
-pub fn judge_wire<A: Allocator>(alloc: A, bytes: &[u8]) -> Result<Verdict<A>, ReadFault>
+pub fn judge_wire<A: Allocator + Copy>(alloc: A, bytes: &[u8]) -> Result<Verdict<A>, ReadFault>
     ensures judges { Judges result (after_log bytes.now) }
     // So each log of which all moments are right is judged to be right,
     ensures right { IsRightLog bytes.now → IsRightVerdict result }

@@ -13,7 +13,7 @@ pub enum Rule {
     Length,
     /// An end answers a command that is outstanding.
     Outstanding,
-    /// An end names the unit of its command.
+    /// An end names the unit of its command, unless that asks for the next unit.
     Unit,
     /// An end has the endcode of its command.
     Endcode,
@@ -31,4 +31,6 @@ pub enum Rule {
     Figure,
     /// No more bytes are moved than were asked for, and all of them if the status is Success.
     Count,
+    /// While a unit is online its identifier, media type and size stay as they are.
+    Identity,
 }

@@ -1,7 +1,7 @@
 // A command that is outstanding.
 
 ghost use Rattle.std.specs.Prelude.{◌≡◌, ◌≤◌, length};
-ghost use Rattle.mscp_wire.specs.Wire.{four_in, is_named, is_immediate, is_sequential, is_transfer, sent_by};
+ghost use Rattle.mscp_wire.specs.Wire.{asks_for_next, four_in, is_named, is_immediate, is_sequential, is_transfer, sent_by};
 
 use mscp_events::Connection;
 use mscp_packet::fields::{four_at, two_at};
@@ -14,6 +14,8 @@ pub struct Sent {
     pub reference: u32,
     pub unit: u16,
     pub opcode: u8,
+    /// Whether it asks for the next unit, so that its end may name another one.
+    pub next: bool,
     /// The number in bytes 12 to 15, if the message has them: of an ABORT and a GET COMMAND STATUS the reference number of the
     /// command that they are about, of a transfer how many bytes are to be moved.
     pub parameter: Option<u32>,
@@ -33,6 +35,14 @@ pub fn four_in(b: &[u8], at: usize) -> Option<u32>
     }
 }
 
+/// Whether a message is a GET UNIT STATUS that asks for the next unit (manual, "GET UNIT STATUS Command").
+fn asks_for_next(b: &[u8]) -> bool
+    requires { 12 ≤ length b.now }
+    ensures { result ≡ asks_for_next b.now }
+{
+    b[8] == 3 && two_at(b, 10) % 2 == 1
+}
+
 impl Sent {
     /// The command of a message (manual, "Command Messages").
     pub fn of(connection: Connection, b: &[u8]) -> Sent
@@ -44,6 +54,7 @@ impl Sent {
             reference: four_at(b, 0),
             unit: two_at(b, 4),
             opcode: b[8],
+            next: asks_for_next(b),
             parameter: four_in(b, 12),
             told: None,
         }

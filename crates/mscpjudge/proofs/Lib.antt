@@ -1,1 +1,3 @@
 pub mod Coming
+pub mod Shown
+pub mod Counted

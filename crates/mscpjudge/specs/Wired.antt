@@ -7,34 +7,19 @@ use Rattle.mscp_events.specs.declared.connection.Connection.{Connection}
 use Rattle.mscp_events.specs.declared.connection.Connection.TheVariants.{First, Second}
 use Rattle.mscp_script.specs.Simulated.{IsGiven}
 use Rattle.mscp_wire.specs.Wire.{outstanding}
-use Rattle.mscp_wire.specs.Log.{Log, after_log, totals_of}
+use Rattle.mscp_wire.specs.Log.{Log, after_log}
+use Rattle.mscp_wire.specs.Totals.{totals_of}
 use Rattle.mscp_wire.specs.declared.log.Verdict.{Verdict}
 use Rattle.mscp_wire.specs.declared.log.Verdict.TheVariants as verdicts
 use Rattle.mscp_wire.specs.declared.rule.Rule.{Rule}
 use Rattle.mscp_wire.specs.declared.rule.Rule.TheVariants as rules
 use Rattle.mscp_wire.specs.declared.sent.Sent.{Sent}
-use Rattle.mscp_wire.specs.declared.totals.Totals.{Totals}
 use Rattle.mscp_wire.specs.declared.wrong.Wrong.{Wrong}
+use Rattle.mscpjudge.specs.Counted.{opcode_name, totals_text}
 use Rattle.mscpjudge.specs.declared.fault.Fault.{Fault}
 use Rattle.mscpjudge.specs.declared.fault.Fault.TheVariants as faults
 use Rattle.mscpjudge.specs.declared.judging.Outcome.{Outcome}
 use Rattle.mscpjudge.specs.declared.judging.Outcome.TheVariants as outcomes
-
--- what a command of an opcode is called (manual)
-abbrev pub opcode_name : ℕ → List ℕ
-opcode_name opcode =
-    if nat_eq opcode 1 then codes "ABORT" else (
-    if nat_eq opcode 2 then codes "GET COMMAND STATUS" else (
-    if nat_eq opcode 3 then codes "GET UNIT STATUS" else (
-    if nat_eq opcode 4 then codes "SET CONTROLLER CHARACTERISTICS" else (
-    if nat_eq opcode 8 then codes "AVAILABLE" else (
-    if nat_eq opcode 9 then codes "ONLINE" else (
-    if nat_eq opcode 10 then codes "SET UNIT CHARACTERISTICS" else (
-    if nat_eq opcode 16 then codes "ACCESS" else (
-    if nat_eq opcode 18 then codes "ERASE" else (
-    if nat_eq opcode 32 then codes "COMPARE HOST DATA" else (
-    if nat_eq opcode 33 then codes "READ" else (
-    if nat_eq opcode 34 then codes "WRITE" else codes "command of an unknown opcode")))))))))))
 
 -- whose it is, if that isn't the first connection's host
 abbrev pub connection_name : Connection → List ℕ
@@ -67,6 +52,7 @@ rule_name rules.Success = codes "success"
 rule_name rules.About = codes "about"
 rule_name rules.Figure = codes "figure"
 rule_name rules.Count = codes "byte count"
+rule_name rules.Identity = codes "identity"
 
 -- whose rule it is
 abbrev pub breaker_name : Rule → List ℕ
@@ -82,7 +68,7 @@ rule_text rules.Number = codes "no outstanding command of a host has the referen
 rule_text rules.Credits = codes "a host needs a credit for each command, and keeps the last one for immediate commands"
 rule_text rules.Length = codes "an end message is as long as its endcode asks"
 rule_text rules.Outstanding = codes "an end message answers a command that is outstanding, and each once"
-rule_text rules.Unit = codes "an end message names the unit of its command"
+rule_text rules.Unit = codes "an end message names the unit of its command, unless that asks for the next one"
 rule_text rules.Endcode = codes "the endcode is the opcode of the command and 0x80"
 rule_text rules.Status = codes "the status has a code that such a command may have"
 rule_text rules.Aborted = codes "a command is aborted by an ABORT, and ends before that does"
@@ -91,18 +77,7 @@ rule_text rules.Success = codes "an ABORT and a GET COMMAND STATUS succeed"
 rule_text rules.About = codes "the end of an ABORT or a GET COMMAND STATUS names the command that it is about"
 rule_text rules.Figure = codes "a command status is at least 1 and falls from poll to poll, and is 0 of no command"
 rule_text rules.Count = codes "as many bytes are moved as were asked for, and fewer only if the status isn't Success"
-
--- the rest of the line of the totals
-abbrev pub ends_text : Totals → List ℕ
-ends_text totals =
-    codes " polls " ++ decimal totals.polls ++ codes " ends " ++ decimal totals.ends ++ codes " resets "
-    ++ decimal totals.resets ++ codes "\n"
-
--- the lines of a log that is right
-abbrev pub totals_text : Totals → List ℕ
-totals_text totals =
-    codes "right\nmoments " ++ decimal totals.moments ++ codes " messages " ++ decimal totals.messages
-    ++ ends_text totals
+rule_text rules.Identity = codes "the identifier, media type and size of a unit stay the same while it is online"
 
 -- the line of the command that is meant, if there is one
 abbrev pub meant_text : Option Sent → List ℕ

@@ -16,7 +16,7 @@ pub struct Ending {
     /// a device or memory.
     pub status: u8,
     /// The line on standard error, with its line feed. It is empty where the log was judged.
-    pub line: ArrayString<40>,
+    pub line: ArrayString<56>,
 }
 
 impl Ending {
@@ -42,13 +42,13 @@ impl Ending {
 }
 
 /// Appends what is said of a fault.
-fn put_fault(line: &mut ArrayString<40>, fault: &Fault)
+fn put_fault(line: &mut ArrayString<56>, fault: &Fault)
     requires { array_string_len line.old ≡ 0 }
     ensures text { line.new.bytes ≡ line.old.bytes ++ fault_text fault.now }
-    ensures short { array_string_len line.new ≤ 39 }
+    ensures short { array_string_len line.new ≤ 55 }
 {
     match fault {
-        Fault::Usage => line.push_str("usage: mscpjudge legal|host|wire [FILE]"),
+        Fault::Usage => line.push_str("usage: mscpjudge legal|host|wire|wire --show [FILE]"),
         Fault::Log(fault) => {
             line.push_str("line ");
             put_number(line, fault.line);
@@ -62,8 +62,8 @@ fn put_fault(line: &mut ArrayString<40>, fault: &Fault)
 }
 
 /// Appends a number, of at most 10 digits.
-fn put_number(line: &mut ArrayString<40>, number: u32)
-    requires { array_string_len line.old ≤ 30 }
+fn put_number(line: &mut ArrayString<56>, number: u32)
+    requires { array_string_len line.old ≤ 46 }
     ensures text { line.new.bytes ≡ line.old.bytes ++ decimal number }
     ensures short { array_string_len line.new ≤ array_string_len line.old + 10 }
 {

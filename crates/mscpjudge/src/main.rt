@@ -1,17 +1,20 @@
 //! Judges a log: whether what another controller answered is legal, what hosts would have heard of it, and whether what went
-//! over the wire keeps the manual's rules.
+//! over the wire keeps the manual's rules. Shows a log of the wire in words.
 #![tactic(auto)]
 
 mod ending;
 mod fault;
 mod hearing;
 mod judging;
+mod showing;
+mod totals;
 mod wire;
 
 use crate::ending::Ending;
 use crate::fault::Fault;
 use crate::hearing::hear;
 use crate::judging::{Outcome, judge};
+use crate::showing::show_captured;
 use crate::wire::judge_captured;
 use mscp_script::Stream;
 use std::fs::File;
@@ -37,6 +40,8 @@ enum Call {
     Host,
     /// Whether what went over the wire keeps the manual's rules.
     Wire,
+    /// What went over the wire, in words.
+    Show,
 }
 
 /// What a word asks for.
@@ -57,6 +62,7 @@ fn answer<R: Read + Drop>(rt: &HostRuntime, call: Call, reader: R) -> Result<Out
         Call::Legal => judge(rt.alloc(), &mut reader, &mut writer),
         Call::Host => hear(rt.alloc(), &mut reader, &mut writer),
         Call::Wire => judge_captured(rt.alloc(), &mut reader, &mut writer),
+        Call::Show => show_captured(rt.alloc(), &mut reader, &mut writer),
     }
 }
 
@@ -66,7 +72,11 @@ fn act(rt: &HostRuntime) -> Result<Outcome, Fault> {
     let (call, file) = match words.as_slice() {
         [] => (Call::Legal, "-"),
         [word] => (call_of(word.as_str())?, "-"),
+        [word, show] if word.as_str() == "wire" && show.as_str() == "--show" => (Call::Show, "-"),
         [word, file] => (call_of(word.as_str())?, file.as_str()),
+        [word, show, file] if word.as_str() == "wire" && show.as_str() == "--show" => {
+            (Call::Show, file.as_str())
+        }
         _ => return Err(Fault::Usage),
     };
     match file {

@@ -1,0 +1,117 @@
+-- What messages and ends say, as far as the rules of the wire ask for it.
+use Rattle.std.specs.Prelude.{ℕ, ◌+◌, ◌%◌, Bool, true, false, not, ◌&&◌, ◌||◌, nat_eq, nat_le, if◌then◌else◌, List, length, slice_index, Option, Some, None}
+use Rattle.mscp_packet.specs.Number.{num}
+use Rattle.mscp_packet.specs.Opcodes.{class, is_immediate_class}
+use Rattle.mscp_packet.specs.declared.class.Class.{Class}
+use Rattle.mscp_packet.specs.declared.class.Class.TheVariants as classes
+use Rattle.mscp_events.specs.declared.connection.Connection.{Connection}
+use Rattle.mscp_events.specs.declared.connection.Connection.TheVariants.{First, Second}
+use Rattle.mscp_wire.specs.declared.answer.Answer.{Answer}
+use Rattle.mscp_wire.specs.declared.identity.Identity.{Identity}
+use Rattle.mscp_wire.specs.declared.moment.Moment.{Moment}
+use Rattle.mscp_wire.specs.declared.sent.Sent.{Sent}
+
+-- what went over the wire, the first moment first
+abbrev pub History : Type 0
+History = List Moment
+
+-- ---- what a message and an end say
+
+-- the number in the four bytes from a place on, if the message has them
+abbrev pub four_in : List ℕ → ℕ → Option ℕ
+four_in b at = if nat_le (at + 4) (length b) then Some (num b at 4) else None
+
+-- a message is a GET UNIT STATUS that asks for the next unit, by its modifiers (manual, "GET UNIT STATUS Command")
+abbrev pub asks_for_next : List ℕ → Bool
+asks_for_next b = nat_eq (slice_index b 8) 3 && nat_eq (num b 10 2 % 2) 1
+
+-- the command of a message, of which nothing was told yet (manual, "Command Messages"). Its parameter is the number in
+-- bytes 12 to 15: of an ABORT and a GET COMMAND STATUS the reference number of the command that they are about, of a
+-- transfer how many bytes are to be moved
+abbrev pub sent_by : Connection → List ℕ → Sent
+sent_by via b = record {
+  connection = via;
+  reference = num b 0 4;
+  unit = num b 4 2;
+  opcode = slice_index b 8;
+  next = asks_for_next b;
+  parameter = four_in b 12;
+  told = None;
+}
+
+-- what an end of 44 bytes at least says of its unit, if it is one of ONLINE or SET UNIT CHARACTERISTICS (manual, "End
+-- Messages"). One of GET UNIT STATUS says the same but the size
+abbrev pub identity_in : List ℕ → Option Identity
+identity_in b =
+    if nat_le 44 (length b)
+    then Some (record { identifier = num b 20 8; media = num b 28 4; size = num b 36 4 })
+    else None
+
+-- the end in a message (manual, "End Messages"). Its parameter is that number of its command's, or how many bytes were
+-- moved; the figure is that of a GET COMMAND STATUS
+abbrev pub answer_by : Connection → List ℕ → Answer
+answer_by via b = record {
+  connection = via;
+  reference = num b 0 4;
+  unit = num b 4 2;
+  code = slice_index b 8;
+  status = num b 10 2;
+  parameter = four_in b 12;
+  figure = four_in b 16;
+  identity = identity_in b;
+}
+
+-- both are the same connection
+abbrev pub same_connection : Connection → Connection → Bool
+same_connection First First = true
+same_connection Second Second = true
+same_connection one other = false
+
+-- the command has this reference number on this connection
+abbrev pub is_named : Connection → ℕ → Sent → Bool
+is_named via reference s = same_connection s.connection via && nat_eq s.reference reference
+
+-- ---- opcodes, endcodes and statuses
+
+-- a command of this opcode is answered when it arrives (manual, "Command Categories and Execution Order")
+abbrev pub is_immediate : ℕ → Bool
+is_immediate opcode = is_immediate_class (class opcode)
+
+-- it keeps its place among the commands of its unit
+abbrev pub is_sequential_class : Class → Bool
+is_sequential_class classes.Sequential = true
+is_sequential_class other = false
+
+abbrev pub is_sequential : ℕ → Bool
+is_sequential opcode = is_sequential_class (class opcode)
+
+-- it is a transfer
+abbrev pub is_transfer_class : Class → Bool
+is_transfer_class classes.Free = true
+is_transfer_class other = false
+
+abbrev pub is_transfer : ℕ → Bool
+is_transfer opcode = is_transfer_class (class opcode)
+
+-- it is an ABORT or a GET COMMAND STATUS, which are about another command
+abbrev pub is_about_another : ℕ → Bool
+is_about_another opcode = nat_eq opcode 1 || nat_eq opcode 2
+
+-- the fewest bytes of an end with this endcode (manual, "End Messages")
+abbrev pub least_length : ℕ → ℕ
+least_length code =
+    if nat_eq code 0x81 then 16 else (
+    if nat_eq code 0x82 then 20 else (
+    if nat_eq code 0x83 then 48 else (
+    if nat_eq code 0x84 then 28 else (
+    if nat_eq code 0x89 || nat_eq code 0x8A then 44 else (
+    if nat_eq code 0x90 || nat_eq code 0x92 || nat_eq code 0xA0 || nat_eq code 0xA1 || nat_eq code 0xA2 then 32
+    else 12)))))
+
+-- the code of a status: its low five bits (manual, "Status and Event Codes")
+abbrev pub status_code : Answer → ℕ
+status_code e = e.status % 32
+
+-- the endcode is that of an opcode which the controller knows: 0x80 alone is that of any other (profile)
+abbrev pub is_known : Answer → Bool
+is_known e = not (nat_eq e.code 0x80)

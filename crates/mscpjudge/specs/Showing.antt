@@ -1,0 +1,83 @@
+-- What is written of a log of the wire that is shown: each line that says something, in words.
+use Rattle.std.specs.Prelude.{◌≡◌, ℕ, ◌+◌, nat_lt, List, [], ◌∷◌, ◌++◌, codes, length, if◌then◌else◌, Option, Result, Ok, Err}
+use Rattle.std.specs.Fmt.{decimal}
+use Rattle.std.specs.Io.KnownBytes.{Appends}
+use Rattle.hex.specs.Hex.{encode_lower}
+use Rattle.mscp_packet.specs.Steps.{◌>>=◌}
+use Rattle.mscp_reader.specs.Lexical.{lines}
+use Rattle.mscp_reader.specs.Outcome.{Fails, in_line}
+use Rattle.mscp_reader.specs.declared.fault.Cause.TheVariants as causes
+use Rattle.mscp_reader.specs.declared.fault.ReadFault.{ReadFault}
+use Rattle.mscp_reader.specs.declared.fault.ScriptFault.{ScriptFault}
+use Rattle.mscp_script.specs.Simulated.{IsGiven}
+use Rattle.mscp_text.specs.Shown.{shown}
+use Rattle.mscp_text.specs.declared.packet.ShowFault.{ShowFault}
+use Rattle.mscp_text.specs.declared.packet.ShowFault.TheVariants as faults_of_text
+use Rattle.mscp_wire.specs.Log.{line_says}
+use Rattle.mscp_wire.specs.declared.line.Said.{Said}
+use Rattle.mscp_wire.specs.declared.line.Said.TheVariants as says
+use Rattle.mscp_wire.specs.declared.moment.Moment.{Moment}
+use Rattle.mscp_wire.specs.declared.moment.Moment.TheVariants as moments
+use Rattle.mscpjudge.specs.Wired.{connection_name}
+use Rattle.mscpjudge.specs.declared.fault.Fault.{Fault}
+use Rattle.mscpjudge.specs.declared.fault.Fault.TheVariants as faults
+use Rattle.mscpjudge.specs.declared.judging.Outcome.{Outcome}
+use Rattle.mscpjudge.specs.declared.judging.Outcome.TheVariants as outcomes
+
+-- the line of a packet, or why it isn't one
+abbrev pub packet_text : Result (List ℕ) ShowFault → List ℕ
+packet_text (Ok text) = text
+packet_text (Err faults_of_text.Short) = codes "short\n"
+packet_text (Err faults_of_text.Long) = codes "long\n"
+packet_text (Err faults_of_text.Code) = codes "code\n"
+packet_text (Err faults_of_text.Length) = codes "length\n"
+packet_text (Err faults_of_text.Hex) = codes "hex\n"
+packet_text (Err faults_of_text.OutOfMemory) = []
+
+-- the same of these bytes
+unfoldable pub bytes_text : List ℕ → List ℕ
+bytes_text b = packet_text (shown (encode_lower b))
+
+-- what happened: what a host or the controller sent, or a reset
+abbrev pub moment_text : Moment → List ℕ
+moment_text (moments.Message via b) = connection_name via ++ codes "host: " ++ bytes_text b.items
+moment_text (moments.End via b) = connection_name via ++ codes "controller: " ++ bytes_text b.items
+moment_text moments.Reset = codes "reset\n"
+
+-- what the line of this number says
+abbrev pub said_text : ℕ → Said → List ℕ
+said_text number says.Nothing = []
+said_text number (says.Credits c) =
+    codes "line " ++ decimal number ++ codes ": credits " ++ decimal c ++ codes "\n"
+said_text number (says.Happens m) = codes "line " ++ decimal number ++ codes ": " ++ moment_text m
+
+-- the same, or its fault
+unfoldable pub line_shown : ℕ → List ℕ → Result (List ℕ) ScriptFault
+line_shown number line = in_line number (line_says number line) >>= λ said. Ok (said_text number said)
+
+-- what lines say behind this text, where so many lines stand before, or the first fault
+unfoldable pub lines_shown : ℕ → List ℕ → List (List ℕ) → Result (List ℕ) ScriptFault
+lines_shown before text [] = Ok text
+lines_shown before text (line ∷ rest) =
+    line_shown (before + 1) line >>= λ more. lines_shown (before + 1) (text ++ more) rest
+
+-- what a whole log says
+abbrev pub log_shown : List ℕ → Result (List ℕ) ScriptFault
+log_shown bytes =
+    if nat_lt 16777216 (length bytes) then Err (record { line = 0; cause = causes.Size })
+    else lines_shown 0 [] (lines bytes)
+
+-- what was returned of a line is what that says, appended
+abbrev pub ShowsLine : {X : Type 0} → Result X ReadFault → Result (List ℕ) ScriptFault → List ℕ → List ℕ → Type 0
+ShowsLine (Ok x) read old new = (more : List ℕ) × (read ≡ Ok more) × (new ≡ old ++ more)
+ShowsLine (Err fault) read old new = Fails fault read
+
+-- what is written is what the log that the reader gave says. Nothing is written on a fault, and a fault of the log is
+-- that of what the reader gave; nothing is said where the write failed
+abbrev pub TellsShown : Result Outcome Fault → Option (List ℕ) → Option (List ℕ) → Option (List ℕ) → Type 0
+TellsShown (Ok outcome) known old new =
+    IsGiven known (λ log. (text : List ℕ) × (log_shown log ≡ Ok text) × (outcome ≡ outcomes.Legal)
+    × Appends old new text)
+TellsShown (Err faults.Write) known old new = Unit {0}
+TellsShown (Err (faults.Log fault)) known old new = (new ≡ old) × IsGiven known (λ log. log_shown log ≡ Err fault)
+TellsShown (Err fault) known old new = new ≡ old

@@ -1,0 +1,121 @@
+// A log of the wire in words: each of its lines that says something.
+
+ghost use Rattle.std.specs.Prelude.{◌≡◌, ◌≤◌, ◌++◌, [], false, OnOk};
+ghost use Rattle.mscp_reader.specs.Lexical as lexical;
+ghost use Rattle.mscp_reader.specs.Outcome.{Tells};
+ghost use Rattle.mscpjudge.specs.Common.{WritesOnce};
+ghost use Rattle.mscpjudge.specs.Showing.{ShowsLine, TellsShown, bytes_text, line_shown, lines_shown, log_shown, moment_text, said_text};
+
+use crate::fault::Fault;
+use crate::judging::Outcome;
+use crate::wire::connection_name;
+use mscp_reader::{Lines, ReadFault, lines_of};
+use mscp_script::{Sink, Source, read_all};
+use mscp_text::{ShowFault, put, put_field, show_packet};
+use mscp_wire::{Moment, Said, line_says};
+use std::alloc::{AllocError, Global};
+
+/// Appends the line of the packet in these bytes, or why it isn't one.
+#[tactic(auto, unfolding(crate::specs::Showing::bytes_text))]
+fn put_packet(alloc: Global, text: &mut Vec<u8>, bytes: &[u8]) -> Result<(), AllocError>
+    ensures { OnOk result (text.new.items ≡ text.old.items ++ bytes_text bytes.now) }
+{
+    let word = hex::encode(alloc, bytes)?;
+    match show_packet(alloc, word.as_str()) {
+        Ok(line) => text.extend_from_slice(&line),
+        Err(ShowFault::Hex) => put(text, "hex\n"),
+        Err(ShowFault::Short) => put(text, "short\n"),
+        Err(ShowFault::Long) => put(text, "long\n"),
+        Err(ShowFault::Code) => put(text, "code\n"),
+        Err(ShowFault::Length) => put(text, "length\n"),
+        Err(ShowFault::OutOfMemory) => Err(AllocError),
+    }
+}
+
+/// Appends what happened.
+fn put_moment(alloc: Global, text: &mut Vec<u8>, moment: &Moment) -> Result<(), AllocError>
+    ensures { OnOk result (text.new.items ≡ text.old.items ++ moment_text moment.now) }
+{
+    match moment {
+        Moment::Message(connection, message) => {
+            put(text, connection_name(*connection))?;
+            put(text, "host: ")?;
+            put_packet(alloc, text, message.as_slice())
+        }
+        Moment::End(connection, message) => {
+            put(text, connection_name(*connection))?;
+            put(text, "controller: ")?;
+            put_packet(alloc, text, message.as_slice())
+        }
+        Moment::Reset => put(text, "reset\n"),
+    }
+}
+
+/// Appends what the line of this number says.
+fn put_said(alloc: Global, text: &mut Vec<u8>, number: u32, said: &Said) -> Result<(), AllocError>
+    ensures { OnOk result (text.new.items ≡ text.old.items ++ said_text number said.now) }
+{
+    match said {
+        Said::Nothing => Ok(()),
+        Said::Credits(credits) => {
+            put_field(text, "line ", number)?;
+            put_field(text, ": credits ", *credits)?;
+            put(text, "\n")
+        }
+        Said::Happens(moment) => {
+            put_field(text, "line ", number)?;
+            put(text, ": ")?;
+            put_moment(alloc, text, moment)
+        }
+    }
+}
+
+/// The same of the line's bytes.
+#[tactic(auto, unfolding(crate::specs::Showing::line_shown))]
+fn put_line(alloc: Global, text: &mut Vec<u8>, number: u32, line: &[u8]) -> Result<(), ReadFault>
+    requires { 1 ≤ number }
+    ensures { ShowsLine result (line_shown number line.now) text.old.items text.new.items }
+{
+    let said = line_says(number, line)?;
+    match put_said(alloc, text, number, &said) {
+        Ok(()) => Ok(()),
+        Err(_) => Err(ReadFault::OutOfMemory),
+    }
+}
+
+/// What the lines of a log say.
+fn show_lines(alloc: Global, lines: &mut Lines<'_>) -> Result<Vec<u8>, ReadFault>
+    requires { lines.old.number ≡ 0 }
+    ensures { Tells (λ text. text.items) result (lines_shown 0 [] (lexical.lines lines.old.rest.now)) }
+{
+    let mut text = Vec::new(alloc);
+    while let Some(line) = lines.cut() {
+        put_line(alloc, &mut text, lines.number, line)?;
+    }
+    Ok(text)
+}
+
+/// What a log says.
+fn show_log(alloc: Global, bytes: &[u8]) -> Result<Vec<u8>, ReadFault>
+    ensures { Tells (λ text. text.items) result (log_shown bytes.now) }
+{
+    let mut lines = lines_of(bytes)?;
+    show_lines(alloc, &mut lines)
+}
+
+/// Shows the log of the wire that a reader gives, in one write.
+pub fn show_captured<R: Source, W: Sink>(
+    alloc: Global,
+    reader: &mut R,
+    writer: &mut W,
+) -> Result<Outcome, Fault>
+    requires reader { R.has_failed reader.old ≡ false }
+    requires writer { W.has_failed writer.old ≡ false }
+    ensures told { TellsShown result (R.remaining reader.old) (W.contents writer.old) (W.contents writer.new) }
+    ensures once { WritesOnce result (W.writes writer.old) (W.writes writer.new) }
+{
+    let log = read_all(alloc, reader)?;
+    let text = show_log(alloc, &log)?;
+    writer.write_all(&text)?;
+    Ok(Outcome::Legal)
+}
