@@ -55,13 +55,16 @@ wire_says() {
     [ "$status" = "$2" ] && cmp -- "$room/out" <(printf '%s\n' "$1") && cmp -- "$room/err" /dev/null
 }
 
-# The lines are right: so many moments, messages, polls, ends and resets, and then this is still outstanding.
+# The lines are right: so many moments, messages, polls, ends and resets, and then this is still outstanding. Other totals
+# are passed over.
 wire_is_right() {
     local totals
     read -ra totals <<<"$1"
-    wire_says "right
+    printf '%s\n' "${@:3}" >"$room/log"
+    "$program" wire "$room/log" </dev/null >"$room/out" 2>"$room/err" && cmp -- "$room/err" /dev/null &&
+        sed 's/ queue [0-9]*$//; /^sent: /d; /^ended: /d' "$room/out" | cmp -- - <(echo "right
 moments ${totals[0]} messages ${totals[1]} polls ${totals[2]} ends ${totals[3]} resets ${totals[4]}${2:+
-$2}" 0 "${@:3}"
+$2}")
 }
 
 # The last of the lines breaks this rule, by a command if it is told.
@@ -77,6 +80,20 @@ wire_of_a_right_controller() {
     wire_is_right '16 8 3 8 0' '' 'credits 4' '# comes up' "@0.5 $(online 1)" "@0.75 $(onlined 1 0)" "$(reading 2)" "$(poll 3 2)" \
         "$(polled 3 2 2)" '' '@9' "$(poll 3 2)" "$(polled 3 2 1)" "$(reading 4 7)" "$(moved 4 3 0 7)" "$(abort 5 2)" \
         "$(moved 2 2 512)" "$(aborted 5 0 2)" "$(poll 6 2)" "$(polled 6 2 0)" "second $(online 1)" "second $(onlined 1 256)"
+}
+
+# Opcodes and codes are told in their order, and the longest queue is that of the middle.
+wire_totals() {
+    wire_says 'right
+moments 10 messages 5 polls 1 ends 4 resets 1 queue 3
+sent: 1 GET COMMAND STATUS (2)
+sent: 1 ONLINE (9)
+sent: 2 READ (33)
+sent: 1 command of an unknown opcode (77)
+ended: 2 Success (0)
+ended: 1 Invalid Command (1)
+ended: 1 Data Error (8)' 0 "$(online 1)" "$(reading 2)" "$(reading 3)" "$(onlined 1 0)" "$(poll 4 2)" "$(polled 4 2 5)" \
+        "$(moved 2 232 512)" "send $(packet 12 5 0 77 0)" "end $(packet 12 5 0 128 2049)" reset
 }
 
 wire_tells_what_is_outstanding() {
@@ -255,12 +272,12 @@ END
 
 wire_without_lines() {
     wire_is_right '0 0 0 0 0' '' && printf 'reset\r\nreset' >"$room/log" &&
-        "$program" wire "$room/log" </dev/null | cmp -- - <(printf 'right\nmoments 2 messages 0 polls 0 ends 0 resets 2\n')
+        "$program" wire "$room/log" </dev/null | cmp -- - <(printf 'right\nmoments 2 messages 0 polls 0 ends 0 resets 2 queue 0\n')
 }
 
 many_lines_of_the_wire() {
     { yes "$(reading 1; moved 1 0 1024)" | head -n 200000; } >"$room/log" && "$program" wire "$room/log" </dev/null |
-        cmp -- - <(printf 'right\nmoments 200000 messages 100000 polls 0 ends 100000 resets 0\n')
+        cmp -- - <(printf 'right\nmoments 200000 messages 100000 polls 0 ends 100000 resets 0 queue 1\nsent: 100000 READ (33)\nended: 100000 Success (0)\n')
 }
 
 # What goes over the wire of a run: its script joined with its report. A message that is refused doesn't, and a poll or a take
@@ -314,8 +331,8 @@ log_the_wire() {
 
 # What was logged keeps the rules, with so many messages at least, and so many resets. Nothing is outstanding.
 logged_is_right() {
-    "$program" wire "$room/log" </dev/null >"$room/out" 2>"$room/err" && [ "$(wc -l <"$room/out")" -eq 2 ] &&
-        [[ $(<"$room/out") =~ \ messages\ ([0-9]+)\ .*\ resets\ $2$ ]] && [ "${BASH_REMATCH[1]}" -ge "$1" ] ||
+    "$program" wire "$room/log" </dev/null >"$room/out" 2>"$room/err" && ! grep -q '^outstanding: ' "$room/out" &&
+        [[ $(<"$room/out") =~ \ messages\ ([0-9]+)\ .*\ resets\ $2\ queue\  ]] && [ "${BASH_REMATCH[1]}" -ge "$1" ] ||
         { cat -- "$room/out" "$room/err" && return 1; }
 }
 

@@ -1,3 +1,4 @@
+pub mod Counting
 pub mod Units
 pub mod Hearing
 pub mod Rights

@@ -15,7 +15,8 @@ use Rattle.mscp_events.specs.declared.connection.Connection.{Connection}
 use Rattle.mscp_wire.specs.declared.identity.Online.{Online}
 use Rattle.mscp_wire.specs.declared.moment.Moment.TheVariants as moments
 use Rattle.mscp_wire.specs.declared.rule.Rule.{Rule}
-use Rattle.mscp_wire.specs.Log.{FailsLine, Log, after_line, after_lines, after_said, command_of, line_says, totals_of, with_moment}
+use Rattle.mscp_wire.specs.Log.{FailsLine, Log, after_line, after_lines, after_said, command_of, line_says, with_moment}
+use Rattle.mscp_wire.specs.Totals.{totals_of}
 use Rattle.mscp_wire.specs.declared.line.Said.{Said}
 use Rattle.mscp_wire.specs.declared.line.Said.TheVariants as says
 use Rattle.mscp_wire.specs.declared.moment.Moment.{Moment}
@@ -52,12 +53,12 @@ line_goes n log line said h = ap (λ r. r >>= after_said n log) (in_ok n (line_s
 
 -- the credits are told before anything else
 pub credits_told : (n c : ℕ) (log : Log) (credits : Option ℕ) (b : Bool) (t : Totals) → credits ≡ log.credits
-    → b ≡ is_some credits → b ≡ false → t ≡ totals_of log.moments → t.moments ≡ 0
+    → b ≡ is_some credits → b ≡ false → t ≡ totals_of log.moments → t.counts.moments ≡ 0
     → after_said n log (says.Credits c) ≡ Ok (Ok (record log { credits = Some c }))
 credits_told n c log credits b t p q e s z = grind (arith, nat_tests)
 
 pub credits_late : (n c : ℕ) (log : Log) (t : Totals) (b : Bool) → t ≡ totals_of log.moments
-    → b ≡ is_some log.credits → (b ≡ true) ⊎ (t.moments ≢ 0)
+    → b ≡ is_some log.credits → (b ≡ true) ⊎ (t.counts.moments ≢ 0)
     → after_said n log (says.Credits c) ≡ Err causes.Word
 credits_late n c log t b p q h = grind (arith, nat_tests)
 

@@ -1,5 +1,6 @@
 pub mod Messages
 pub mod Units
 pub mod Wire
+pub mod Totals
 pub mod Log
 pub mod Right

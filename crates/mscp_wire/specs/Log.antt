@@ -1,5 +1,5 @@
 -- A log of the wire: what its lines say, and what is judged of them.
-use Rattle.std.specs.Prelude.{◌≡◌, ℕ, ◌+◌, ◌<◌, ◌==◌, Bool, true, false, nat_eq, nat_lt, ◌&&◌, if◌then◌else◌, List, [], ◌∷◌, ◌++◌, length, count_by, slice_index, codes, Option, Some, None, is_none, Result, Ok, Err}
+use Rattle.std.specs.Prelude.{◌≡◌, ℕ, ◌+◌, ◌==◌, Bool, false, nat_eq, nat_lt, ◌&&◌, if◌then◌else◌, List, [], ◌∷◌, ◌++◌, length, codes, Option, Some, None, is_none, Result, Ok, Err}
 use Rattle.std.specs.Str.{bytes_eq}
 use Rattle.arrayvec.specs.ArrayVec.{ArrayVec}
 use Rattle.mscp_events.specs.declared.connection.Connection.{Connection}
@@ -15,6 +15,7 @@ use Rattle.mscp_reader.specs.declared.fault.ReadFault.{ReadFault}
 use Rattle.mscp_reader.specs.declared.fault.ReadFault.TheVariants as reads
 use Rattle.mscp_reader.specs.declared.fault.ScriptFault.{ScriptFault}
 use Rattle.mscp_wire.specs.Wire.{History, answer_by, broken_by, command_at, is_long, is_message, kept, known, outstanding, place_of, sent_by}
+use Rattle.mscp_wire.specs.Totals.{totals_of}
 use Rattle.mscp_wire.specs.declared.answer.Answer.{Answer}
 use Rattle.mscp_wire.specs.declared.line.Said.{Said}
 use Rattle.mscp_wire.specs.declared.line.Said.TheVariants as says
@@ -22,7 +23,6 @@ use Rattle.mscp_wire.specs.declared.moment.Moment.{Moment}
 use Rattle.mscp_wire.specs.declared.moment.Moment.TheVariants as moments
 use Rattle.mscp_wire.specs.declared.rule.Rule.{Rule}
 use Rattle.mscp_wire.specs.declared.sent.Sent.{Sent}
-use Rattle.mscp_wire.specs.declared.totals.Totals.{Totals}
 use Rattle.mscp_wire.specs.declared.wrong.Wrong.{Wrong}
 use Rattle.mscp_wire.specs.declared.log.Reading.{Reading}
 use Rattle.mscp_wire.specs.declared.log.Verdict.{Verdict}
@@ -69,46 +69,6 @@ said_by (word ∷ fields) =
 -- what the line of this number says
 unfoldable pub line_says : ℕ → List ℕ → Result Said Cause
 line_says number line = said_at number line >>= λ words. said_by (without_time words)
-
--- ---- totals
-
--- a host sends a message
-abbrev pub is_sent : Moment → Bool
-is_sent (moments.Message via b) = true
-is_sent m = false
-
--- it is a GET COMMAND STATUS
-abbrev pub is_poll : Moment → Bool
-is_poll (moments.Message via b) = nat_eq (slice_index b.items 8) 2
-is_poll m = false
-
--- the controller answers
-abbrev pub is_end : Moment → Bool
-is_end (moments.End via b) = true
-is_end m = false
-
--- it is initialised
-abbrev pub is_reset : Moment → Bool
-is_reset moments.Reset = true
-is_reset m = false
-
--- the totals of a history
-abbrev pub totals_of : History → Totals
-totals_of h = record {
-  moments = length h;
-  messages = count_by is_sent h;
-  polls = count_by is_poll h;
-  ends = count_by is_end h;
-  resets = count_by is_reset h;
-}
-
--- none of the totals is so large
-pub record IsFew (totals : Totals) (n : ℕ) : Type 0 where
-  pub moments : totals.moments < n
-  pub messages : totals.messages < n
-  pub polls : totals.polls < n
-  pub ends : totals.ends < n
-  pub resets : totals.resets < n
 
 -- ---- a log
 

@@ -23,5 +23,5 @@ pub use crate::log::{Reading, Verdict, judge_wire};
 pub use crate::moment::Moment;
 pub use crate::rule::Rule;
 pub use crate::sent::Sent;
-pub use crate::totals::Totals;
+pub use crate::totals::{Counts, Totals};
 pub use crate::wrong::Wrong;

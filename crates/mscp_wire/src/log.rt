@@ -3,7 +3,8 @@
 ghost use Rattle.std.specs.Prelude.{◌≡◌, ◌≤◌, ◌<◌, ◌+◌, OnOk, IfOk};
 ghost use Rattle.mscp_reader.specs.Lexical as lexical;
 ghost use Rattle.mscp_wire.specs.Right.{IsRightLog, IsRightVerdict, Means};
-ghost use Rattle.mscp_wire.specs.Log.{Log, Goes, IsAfter, IsFew, Judges, after_line, after_lines, after_log, after_said, answered_by, command_of, nothing};
+ghost use Rattle.mscp_wire.specs.Totals.{IsFew};
+ghost use Rattle.mscp_wire.specs.Log.{Log, Goes, IsAfter, Judges, after_line, after_lines, after_log, after_said, answered_by, command_of, nothing};
 
 use crate::answer::{Answer, is_long};
 use crate::judge::{Judge, command_at};
@@ -75,7 +76,7 @@ impl<A: Allocator + Copy> Reading<A> {
             → Goes number (after_said number log (Said.Credits credits)) result self.new }
         ensures few { self.new.totals ≡ self.old.totals }
     {
-        if self.judge.credits.is_some() || self.totals.moments != 0 {
+        if self.judge.credits.is_some() || self.totals.counts.moments != 0 {
             return Err(ReadFault::Script(ScriptFault {
                 line: number,
                 cause: Cause::Word,
@@ -101,7 +102,8 @@ impl<A: Allocator + Copy> Reading<A> {
                 command,
             })),
             None => {
-                self.totals = self.totals.with(number, &moment);
+                let queue = self.judge.commands.as_slice().len();
+                self.totals.add(number, &moment, queue);
                 Ok(None)
             }
         }

@@ -2,11 +2,13 @@
 use Rattle.std.proofs.Common.{◌≡◌, ◌++◌, ap, ◌∙◌, refl, Result, Ok, Err}
 use Rattle.std.specs.List.{flat_map}
 use Rattle.mscp_reader.specs.declared.fault.ScriptFault.{ScriptFault}
-use Rattle.mscp_wire.specs.Log.{Judges, Log, totals_of}
+use Rattle.mscp_wire.specs.Log.{Judges, Log}
+use Rattle.mscp_wire.specs.Totals.{totals_of}
 use Rattle.mscp_wire.specs.declared.log.Verdict.{Verdict}
 use Rattle.mscp_wire.specs.declared.log.Verdict.TheVariants as verdicts
 use Rattle.mscp_wire.specs.declared.wrong.Wrong.{Wrong}
-use Rattle.mscpjudge.specs.Wired.{came_outcome, came_text, outstanding_text, totals_text, wire_outcome, wire_text}
+use Rattle.mscpjudge.specs.Wired.{came_outcome, came_text, outstanding_text, wire_outcome, wire_text}
+use Rattle.mscpjudge.specs.Counted.{totals_text}
 
 pub record Came {A : Type 0} (verdict : Verdict A) (read : Result (Result Log Wrong) ScriptFault) : Type 0 where
   pub came : Result Log Wrong

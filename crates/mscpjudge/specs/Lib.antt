@@ -1,6 +1,7 @@
 pub mod Said
 pub mod Endings
 pub mod Heard
+pub mod Counted
 pub mod Wired
 pub mod Showing
 pub mod Common

@@ -76,7 +76,8 @@ ShowsLine (Err fault) read old new = Fails fault read
 -- that of what the reader gave; nothing is said where the write failed
 abbrev pub TellsShown : Result Outcome Fault → Option (List ℕ) → Option (List ℕ) → Option (List ℕ) → Type 0
 TellsShown (Ok outcome) known old new =
-    IsGiven known (λ log. (text : List ℕ) × (log_shown log ≡ Ok text) × (outcome ≡ outcomes.Legal) × Appends old new text)
+    IsGiven known (λ log. (text : List ℕ) × (log_shown log ≡ Ok text) × (outcome ≡ outcomes.Legal)
+    × Appends old new text)
 TellsShown (Err faults.Write) known old new = Unit {0}
 TellsShown (Err (faults.Log fault)) known old new = (new ≡ old) × IsGiven known (λ log. log_shown log ≡ Err fault)
 TellsShown (Err fault) known old new = new ≡ old

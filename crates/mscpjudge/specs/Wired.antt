@@ -1,5 +1,5 @@
 -- What is written of a log of the wire.
-use Rattle.std.specs.Prelude.{◌≡◌, ℕ, nat_eq, if◌then◌else◌, List, [], ◌++◌, codes, Option, Some, None, Result, Ok, Err}
+use Rattle.std.specs.Prelude.{◌≡◌, ℕ, List, [], ◌++◌, codes, Option, Some, None, Result, Ok, Err}
 use Rattle.std.specs.List.{flat_map}
 use Rattle.std.specs.Fmt.{decimal}
 use Rattle.std.specs.Io.KnownBytes.{Appends}
@@ -7,34 +7,19 @@ use Rattle.mscp_events.specs.declared.connection.Connection.{Connection}
 use Rattle.mscp_events.specs.declared.connection.Connection.TheVariants.{First, Second}
 use Rattle.mscp_script.specs.Simulated.{IsGiven}
 use Rattle.mscp_wire.specs.Wire.{outstanding}
-use Rattle.mscp_wire.specs.Log.{Log, after_log, totals_of}
+use Rattle.mscp_wire.specs.Log.{Log, after_log}
+use Rattle.mscp_wire.specs.Totals.{totals_of}
 use Rattle.mscp_wire.specs.declared.log.Verdict.{Verdict}
 use Rattle.mscp_wire.specs.declared.log.Verdict.TheVariants as verdicts
 use Rattle.mscp_wire.specs.declared.rule.Rule.{Rule}
 use Rattle.mscp_wire.specs.declared.rule.Rule.TheVariants as rules
 use Rattle.mscp_wire.specs.declared.sent.Sent.{Sent}
-use Rattle.mscp_wire.specs.declared.totals.Totals.{Totals}
 use Rattle.mscp_wire.specs.declared.wrong.Wrong.{Wrong}
+use Rattle.mscpjudge.specs.Counted.{opcode_name, totals_text}
 use Rattle.mscpjudge.specs.declared.fault.Fault.{Fault}
 use Rattle.mscpjudge.specs.declared.fault.Fault.TheVariants as faults
 use Rattle.mscpjudge.specs.declared.judging.Outcome.{Outcome}
 use Rattle.mscpjudge.specs.declared.judging.Outcome.TheVariants as outcomes
-
--- what a command of an opcode is called (manual)
-abbrev pub opcode_name : ℕ → List ℕ
-opcode_name opcode =
-    if nat_eq opcode 1 then codes "ABORT" else (
-    if nat_eq opcode 2 then codes "GET COMMAND STATUS" else (
-    if nat_eq opcode 3 then codes "GET UNIT STATUS" else (
-    if nat_eq opcode 4 then codes "SET CONTROLLER CHARACTERISTICS" else (
-    if nat_eq opcode 8 then codes "AVAILABLE" else (
-    if nat_eq opcode 9 then codes "ONLINE" else (
-    if nat_eq opcode 10 then codes "SET UNIT CHARACTERISTICS" else (
-    if nat_eq opcode 16 then codes "ACCESS" else (
-    if nat_eq opcode 18 then codes "ERASE" else (
-    if nat_eq opcode 32 then codes "COMPARE HOST DATA" else (
-    if nat_eq opcode 33 then codes "READ" else (
-    if nat_eq opcode 34 then codes "WRITE" else codes "command of an unknown opcode")))))))))))
 
 -- whose it is, if that isn't the first connection's host
 abbrev pub connection_name : Connection → List ℕ
@@ -93,18 +78,6 @@ rule_text rules.About = codes "the end of an ABORT or a GET COMMAND STATUS names
 rule_text rules.Figure = codes "a command status is at least 1 and falls from poll to poll, and is 0 of no command"
 rule_text rules.Count = codes "as many bytes are moved as were asked for, and fewer only if the status isn't Success"
 rule_text rules.Identity = codes "the identifier, media type and size of a unit stay the same while it is online"
-
--- the rest of the line of the totals
-abbrev pub ends_text : Totals → List ℕ
-ends_text totals =
-    codes " polls " ++ decimal totals.polls ++ codes " ends " ++ decimal totals.ends ++ codes " resets "
-    ++ decimal totals.resets ++ codes "\n"
-
--- the lines of a log that is right
-abbrev pub totals_text : Totals → List ℕ
-totals_text totals =
-    codes "right\nmoments " ++ decimal totals.moments ++ codes " messages " ++ decimal totals.messages
-    ++ ends_text totals
 
 -- the line of the command that is meant, if there is one
 abbrev pub meant_text : Option Sent → List ℕ

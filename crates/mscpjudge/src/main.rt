@@ -7,6 +7,7 @@ mod fault;
 mod hearing;
 mod judging;
 mod showing;
+mod totals;
 mod wire;
 
 use crate::ending::Ending;

@@ -1,19 +1,20 @@
 // What is said of a log of the wire.
 
 ghost use Rattle.std.specs.Prelude.{◌≡◌, ◌++◌, false, OnOk, IfOk};
-ghost use Rattle.mscpjudge.specs.Common.{flat_map, TellsWire, WritesOnce, breaker_name, broken_text, command_text, connection_name, meant_text, opcode_name, outstanding_text, totals_text, wire_outcome, wire_text};
+ghost use Rattle.mscpjudge.specs.Common.{flat_map, TellsWire, WritesOnce, breaker_name, broken_text, command_text, connection_name, meant_text, opcode_name, outstanding_text, wire_outcome, wire_text};
 ghost use Rattle.mscpjudge.specs.Wired as wired;
 
 use crate::fault::Fault;
 use crate::judging::Outcome;
+use crate::totals::put_totals;
 use mscp_controller::Connection;
 use mscp_script::{Sink, Source, read_all};
 use mscp_text::{put, put_field};
-use mscp_wire::{Rule, Sent, Totals, Verdict, Wrong, judge_wire};
+use mscp_wire::{Rule, Sent, Verdict, Wrong, judge_wire};
 use std::alloc::{AllocError, Allocator, Global};
 
 /// What a command of an opcode is called.
-fn opcode_name(opcode: u8) -> &'static str
+pub fn opcode_name(opcode: u8) -> &'static str
     ensures { result.now ≡ opcode_name opcode }
 {
     match opcode {
@@ -139,25 +140,6 @@ fn put_outstanding<A: Allocator>(text: &mut Vec<u8, A>, commands: &[Sent]) -> Re
         put_left(text, command)?;
     }
     Ok(())
-}
-
-/// Appends the rest of the line of the totals.
-fn put_ends<A: Allocator>(text: &mut Vec<u8, A>, totals: &Totals) -> Result<(), AllocError>
-    ensures { OnOk result (text.new.items ≡ text.old.items ++ wired.ends_text totals.now) }
-{
-    put_field(text, " polls ", totals.polls)?;
-    put_field(text, " ends ", totals.ends)?;
-    put_field(text, " resets ", totals.resets)?;
-    put(text, "\n")
-}
-
-/// Appends the lines of a log that is right, and has these totals.
-fn put_totals<A: Allocator>(text: &mut Vec<u8, A>, totals: &Totals) -> Result<(), AllocError>
-    ensures { OnOk result (text.new.items ≡ text.old.items ++ totals_text totals.now) }
-{
-    put_field(text, "right\nmoments ", totals.moments)?;
-    put_field(text, " messages ", totals.messages)?;
-    put_ends(text, totals)
 }
 
 /// Appends the line of the command that is meant, if there is one.

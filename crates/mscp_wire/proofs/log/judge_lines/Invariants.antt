@@ -1,6 +1,7 @@
 use Rattle.std.proofs.Common.{◌≡◌, ◌+◌, length}
 use Rattle.mscp_reader.specs.Lexical.{lines}
-use Rattle.mscp_wire.specs.Log.{Log, IsAfter, IsFew, after_lines, nothing}
+use Rattle.mscp_wire.specs.Log.{Log, IsAfter, after_lines, nothing}
+use Rattle.mscp_wire.specs.Totals.{IsFew}
 use Rattle.mscp_wire.proofs.log.judge_lines.Given as goal
 
 abbrev pub invariant-loop-bytes : goal.invariant-loop-bytes

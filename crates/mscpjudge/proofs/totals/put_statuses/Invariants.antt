@@ -1,0 +1,8 @@
+use Rattle.std.proofs.Common.{◌≡◌, ◌++◌}
+use Rattle.std.specs.Prelude.{slice_index}
+use Rattle.mscpjudge.specs.Counted.{ended_text, texts}
+use Rattle.mscpjudge.proofs.totals.put_statuses.Given as goal
+
+abbrev pub invariant-loop-code : goal.invariant-loop-code
+invariant-loop-code g l =
+    l.text.items ≡ l.fn.text.items ++ texts (λ code. ended_text code (slice_index l.statuses code)) l.code
