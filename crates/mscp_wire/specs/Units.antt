@@ -21,7 +21,7 @@ agrees code (Some told) known =
     nat_eq told.identifier known.identifier && nat_eq told.media known.media
     && (nat_eq code 0x83 || nat_eq told.size known.size)
 
--- its unit is what it was when it came online, if it is known to be online (manual, "Unit Identifiers")
+-- its unit is what it was when it came online, if it is known to be online (manual, "ONLINE Command")
 abbrev pub is_same_unit : Option Identity → Answer → Bool
 is_same_unit None e = true
 is_same_unit (Some known) e = not (tells_unit e) || agrees e.code e.identity known
@@ -75,9 +75,10 @@ told_of (Some u) = u.identity
 abbrev pub kept : List Online → Connection → ℕ → Option Identity
 kept units via unit = told_of (find (is_unit via unit) units)
 
--- the units but those of a number, and but that of a connection beside what is told of that
+-- the units without those of a number
 abbrev pub without : ℕ → List Online → List Online
 without unit units = filter (λ u. not (nat_eq u.unit unit)) units
 
+-- the units with this one in place of what is kept of it
 abbrev pub with_unit : Online → List Online → List Online
 with_unit new units = filter (λ u. not (is_unit new.connection new.unit u)) units ++ new ∷ []

@@ -1,9 +1,7 @@
 -- What comes of the lines of a log that is shown.
-use Rattle.std.proofs.Common.{◌≡◌, ℕ, ◌+◌, List, [], ◌∷◌, ◌++◌, arith, refl, Result, Ok, Err}
-use Rattle.mscp_packet.specs.Steps.{◌>>=◌}
+use Rattle.std.proofs.Common.{◌≡◌, ℕ, ◌+◌, List, [], ◌∷◌, ◌++◌, arith, refl, Ok}
 use Rattle.mscp_reader.specs.Outcome.{Fails}
 use Rattle.mscp_reader.specs.declared.fault.ReadFault.{ReadFault}
-use Rattle.mscp_reader.specs.declared.fault.ScriptFault.{ScriptFault}
 use Rattle.mscpjudge.specs.Showing.{line_shown, lines_shown}
 
 -- a line that says something

@@ -1,4 +1,3 @@
-use Rattle.std.proofs.Common.{◌++◌}
 use Rattle.mscpjudge.proofs.Counted.{joined}
 use Rattle.mscpjudge.proofs.totals.put_counts.Goals as goal
 
