@@ -110,7 +110,11 @@ host_numbers() {
 }
 
 host_credits() {
-    wire_breaks 'host: credits' 'READ 2 of unit 0' 'credits 2' "$(reading 1)" "$(reading 2)" &&
+    local many
+    mapfile -t many < <(for ((n = 1; n < 1024; n++)); do reading "$n"; done)
+    wire_breaks 'host: credits' 'READ 1024 of unit 0' "${many[@]}" "$(reading 1024)" &&
+        wire_breaks 'host: credits' 'GET COMMAND STATUS 1025 of unit 0' "${many[@]}" "$(poll 1024 1)" "$(poll 1025 1)" &&
+        wire_breaks 'host: credits' 'READ 2 of unit 0' 'credits 2' "$(reading 1)" "$(reading 2)" &&
         wire_breaks 'host: credits' 'GET COMMAND STATUS 3 of unit 0' 'credits 2' "$(reading 1)" "$(poll 2 1)" "$(poll 3 1)" &&
         wire_is_right '2 2 0 0 0' $'outstanding: READ 1 of unit 0\noutstanding: second READ 1 of unit 0' 'credits 2' \
             "$(reading 1)" "second $(reading 1)"
@@ -209,11 +213,12 @@ identities() {
 
 # Where a unit isn't online any more, or to another host, it may be another.
 identities_end() {
-    local online=("$(online 1 5)" "$(tells_online 1 0 3 4 800)") other=("$(online 2 5)" "$(tells_online 2 0 9 9 9)")
+    local online=("$(online 1 5)" "$(tells_online 1 0 3 4 800)") other=("$(online 2 5)" "$(tells_online 2 256 9 9 9)")
     wire_is_right '6 3 0 3 0' '' "${online[@]}" "$(available 3 5)" "end $(packet 12 3 5 136 0)" "${other[@]}" &&
         wire_is_right '6 3 0 3 0' '' "${online[@]}" "$(reading 3 5)" "$(moved 3 3 0 5)" "${other[@]}" &&
         wire_is_right '6 3 0 3 0' '' "${online[@]}" "$(reading 3 5)" "$(moved 3 4 0 5)" "${other[@]}" &&
         wire_is_right '5 2 0 2 1' '' "${online[@]}" reset "${other[@]}" &&
+        wire_is_right '4 2 0 2 0' '' "${online[@]}" "${other[0]}" "$(tells_online 2 0 9 9 9)" &&
         wire_is_right '4 2 0 2 0' '' "${online[@]}" "second ${other[0]}" "second ${other[1]}" &&
         wire_breaks 'controller: identity' 'ONLINE 2 of unit 5' "${online[@]}" "$(available 3 5)" \
             "end $(packet 12 3 5 136 1)" "${other[@]}"

@@ -101,7 +101,8 @@ module _ (c : Settings) (via : Connection) (e : End) (kind : IsOfKind e) (tells 
   pub told_right : a.status ≡ e.status → tells_unit a ≡ true
       → agrees a.code a.identity (unit_identity c e.unit) ≡ true
   told_right st h =
-      let p = and_parts (nat_eq (status_code a) 0) (nat_eq a.code 0x83 || nat_eq a.code 0x89 || nat_eq a.code 0x8A) h in
+      let brought = nat_eq a.code 0x89 && not (nat_eq a.status 0) in
+      let p = and_parts (nat_eq (status_code a) 0) (nat_eq a.code 0x83 || brought || nat_eq a.code 0x8A) h in
       let zero : e.status % 32 ≡ 0 = ap (λ n. n % 32) (sym st) ∙ eqb-true (status_code a) 0 p.0 in
       let s = unit_shape c e.unit in
       let online : (code : ℕ) → e.code ≡ code → kind_of_code code ≡ Some kinds.Online
@@ -109,12 +110,12 @@ module _ (c : Settings) (via : Connection) (e : End) (kind : IsOfKind e) (tells 
       λ code q is. ap (λ o. agrees a.code o (unit_identity c e.unit))
       (online_read via e.reference e.unit e.code e.status s e.body (of_code code kinds.Online q is) (tells zero))
       ∙ agrees_same a.code (unit_identity c e.unit) in
-      by_code (nat_eq e.code 0x83) (nat_eq e.code 0x89) (nat_eq e.code 0x8A) p.1
+      by_code (nat_eq e.code 0x83) brought (nat_eq e.code 0x8A) p.1
       (λ q. let code = eqb-true e.code 0x83 q in
       ap (λ n. agrees n a.identity (unit_identity c e.unit)) code
       ∙ status_read via e.reference e.unit e.code e.status s e.body (of_code 0x83 kinds.UnitStatus code refl)
       (tells zero))
-      (λ q. online 0x89 (eqb-true e.code 0x89 q) refl)
+      (λ q. online 0x89 (eqb-true e.code 0x89 (and_parts (nat_eq e.code 0x89) (not (nat_eq a.status 0)) q).0) refl)
       (λ q. online 0x8A (eqb-true e.code 0x8A q) refl)
     where
       by_code : {P : Type 0} (x y z : Bool) → (x || y || z) ≡ true → (x ≡ true → P) → (y ≡ true → P)

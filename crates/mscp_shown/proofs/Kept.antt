@@ -8,7 +8,7 @@ use Rattle.mscp_wire.specs.Wire.{History, after, after_end, answer_by, command_a
 use Rattle.mscp_wire.specs.Wire as wire
 use Rattle.mscp_wire.specs.declared.moment.Moment.{Moment as Wired}
 use Rattle.mscp_wire.specs.declared.moment.Moment.TheVariants as moments
-use Rattle.mscp_shown.specs.Keeping.{Covers}
+use Rattle.mscp_shown.proofs.Messages.{HasRoom}
 use Rattle.mscp_wire.specs.Wire.{AreRight, known, known_after}
 use Rattle.mscp_wire.specs.declared.identity.Identity.{Identity}
 use Rattle.std.proofs.lemmas.List.Sums.{fold_push}
@@ -37,7 +37,7 @@ pub record Inv (c : Settings) (t : Trace) : Type 0 where
   pub even : AllByRecursion (IsEven t) (waiting t)
   pub fit : (via : Connection) → AllByRecursion (IsFit c) (ends c via t)
   pub units : AreTold c (shown t)
-  pub kept : (credits : Option ℕ) → Covers credits c → AreRight credits (shown t)
+  pub kept : (credits : Option ℕ) → HasRoom credits c → AreRight credits (shown t)
 
 -- what a moment keeps, before which this holds
 pub record More (c : Settings) (t : Trace) (m : Moment) : Type 0 where
@@ -48,7 +48,7 @@ pub record More (c : Settings) (t : Trace) (m : Moment) : Type 0 where
   pub heard : Heard c (t ++ m ∷ []) (outstanding (shown (t ++ m ∷ [])))
   pub fit : (via : Connection) → AllByRecursion (IsFit c) (ends_at c via t m)
   pub units : AreTold c (shown (t ++ m ∷ []))
-  pub kept : (credits : Option ℕ) → Covers credits c → AreRight credits (shown (t ++ m ∷ []))
+  pub kept : (credits : Option ℕ) → HasRoom credits c → AreRight credits (shown (t ++ m ∷ []))
 
 pub none_more : (n : ℕ) → 0 + n ≡ n
 none_more n = omega arith
@@ -108,7 +108,7 @@ module _ (c : Settings) (t : Trace) (m : Moment) (h : Inv c t) where
   pub shows_one : (w : Wired) → shown_by m.0 m.1 ≡ w ∷ []
       → ((via : Connection) (p : ℕ → Bool)
       → tally via p (after (outstanding (shown t)) w) ≡ owed c via (t ++ m ∷ []) p)
-      → ((credits : Option ℕ) → Covers credits c → wire.IsRight credits (shown t) w)
+      → ((credits : Option ℕ) → HasRoom credits c → wire.IsRight credits (shown t) w)
       → Owners c (t ++ m ∷ []) (after (outstanding (shown t)) w)
       → Orders c (t ++ m ∷ []) (after (outstanding (shown t)) w)
       → Heard c (t ++ m ∷ []) (after (outstanding (shown t)) w)

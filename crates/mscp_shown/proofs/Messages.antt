@@ -1,11 +1,13 @@
 -- A message that a controller takes keeps each rule of a host.
-use Rattle.mscp_controller.proofs.Basics.{◌≡◌, ℕ, ◌+◌, ◌-◌, ◌≤◌, Bool, true, false, cond, not, ◌&&◌, ◌||◌, List, length, map, refl, ap, sym, ◌∙◌, subst, arith, ⊎_elim, count_by, sum_by, nat_eq, nat_lt, Option, Some, None, Connection, End, Settings, Trace, credits_of, waiting_by, reference, untaken, balance, outstanding, holds, sum_by-append, sum_on, every_from, le-ltb, lt-ltb, eq-eqb, eqb-false, cases_lt}
+use Rattle.mscp_controller.proofs.Basics.{◌≡◌, ℕ, ◌+◌, ◌-◌, ◌≤◌, Bool, true, false, cond, not, ◌&&◌, ◌||◌, List, length, map, ap, sym, ◌∙◌, subst, arith, ⊎_elim, count_by, sum_by, nat_eq, nat_lt, Option, Some, None, Connection, End, Settings, Trace, credits_of, waiting_by, reference, untaken, balance, outstanding, holds, sum_by-append, sum_on, every_from, le-ltb, lt-ltb, eq-eqb, eqb-false, cases_lt}
 use Rattle.std.proofs.lemmas.Bool.{le-leb}
 use Rattle.mscp_queue.proofs.Placed.{sum_by_map}
 use Rattle.mscp_controller.proofs.Promise.Arrivals.{IsTaken}
 use Rattle.mscp_packet.specs.Number.{num}
-use Rattle.mscp_wire.specs.Wire.{IsRightMessage, count_on, has_credit, is_immediate, is_named, same_connection, sent_by}
+use Rattle.mscp_wire.specs.Wire.{IsRightMessage, count_on, has_credit, has_one_of, is_immediate, is_named, same_connection, sent_by}
 use Rattle.mscp_wire.specs.declared.sent.Sent.{Sent}
+use Rattle.mscp_events.specs.Settings.{IsValid}
+use Rattle.mscp_events.specs.declared.connection.Connection.TheVariants.{First, Second}
 use Rattle.mscp_shown.specs.Keeping.{Covers}
 use Rattle.mscp_shown.proofs.Counts.{all_pass, none_any, none_passes}
 use Rattle.mscp_shown.proofs.Owed.{owed}
@@ -72,24 +74,42 @@ credit_of n all waits ended false few some last =
     and_true' : (b : Bool) → (b && true) ≡ false → b ≡ false
     and_true' b h = grind arith
 
-credit_kept : (credits : Option ℕ) (c : Settings) (via : Connection) (t : Trace) (b : List ℕ) (xs : List Sent)
-    → Covers credits c → IsTaken (balance c via t) (outstanding c via t) b → IsTallied c via t xs
-    → has_credit credits xs (sent_by via b) ≡ true
+-- no connection has more credits than its host is told, or is taken to have
+abbrev pub HasRoom : Option ℕ → Settings → Type 0
+HasRoom None c = (via : Connection) → credits_of c via ≤ 1024
+HasRoom (Some n) c = (via : Connection) → credits_of c via ≤ n
+
+pub has_room : (credits : Option ℕ) (c : Settings) → IsValid c → Covers credits c → HasRoom credits c
+has_room None c valid covers = few
+  where
+    few : (via : Connection) → credits_of c via ≤ 1024
+    few First = omega (arith, valid.few_credits)
+    few Second = omega (arith, valid.few_credits)
+has_room (Some n) c valid covers = covers
+
+one_kept : (n : ℕ) (c : Settings) (via : Connection) (t : Trace) (b : List ℕ) (xs : List Sent) → credits_of c via ≤ n
+    → IsTaken (balance c via t) (outstanding c via t) b → IsTallied c via t xs
+    → has_one_of n xs (sent_by via b) ≡ true
 unfolding balance
-credit_kept None c via t b xs covers taken same = refl
-credit_kept (Some n) c via t b xs covers taken same =
+one_kept n c via t b xs few taken same =
     let s = sent_by via b in
     subst (λ k. (nat_lt (k + 1) n || (nat_eq (k + 1) n && is_immediate s.opcode)) ≡ true)
     (sym (all_tallied c via t xs same))
     (credit_of n (credits_of c via) (length (waiting_by via t)) (length (untaken c via t)) (is_immediate s.opcode)
-    (covers via) taken.free taken.last)
+    few taken.free taken.last)
+
+credit_kept : (credits : Option ℕ) (c : Settings) (via : Connection) (t : Trace) (b : List ℕ) (xs : List Sent)
+    → HasRoom credits c → IsTaken (balance c via t) (outstanding c via t) b → IsTallied c via t xs
+    → has_credit credits xs (sent_by via b) ≡ true
+credit_kept None c via t b xs room taken same = one_kept 1024 c via t b xs (room via) taken same
+credit_kept (Some n) c via t b xs room taken same = one_kept n c via t b xs (room via) taken same
 
 pub message_right : (credits : Option ℕ) (c : Settings) (via : Connection) (t : Trace) (b : List ℕ) (xs : List Sent)
-    → Covers credits c → IsTaken (balance c via t) (outstanding c via t) b → IsTallied c via t xs
+    → HasRoom credits c → IsTaken (balance c via t) (outstanding c via t) b → IsTallied c via t xs
     → IsRightMessage credits xs b (sent_by via b)
-message_right credits c via t b xs covers taken same = record {
+message_right credits c via t b xs room taken same = record {
   message = le-leb 12 (length b) taken.low;
   number = ap not
       (none_any (is_named via (num b 0 4)) xs (new_number c via t xs (num b 0 4) same taken.new));
-  credit = credit_kept credits c via t b xs covers taken same;
+  credit = credit_kept credits c via t b xs room taken same;
 }

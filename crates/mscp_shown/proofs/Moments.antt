@@ -10,6 +10,7 @@ use Rattle.mscp_controller.proofs.Promise.Known.{Known, known, more_at}
 use Rattle.mscp_controller.proofs.Promise.Shaped.{shaped}
 use Rattle.mscp_events.specs.declared.block.Block.TheVariants.{Bad, Good}
 use Rattle.mscp_shown.specs.Keeping.{IsPatient, IsPossible, LegalTracesAreRight, Polls}
+use Rattle.mscp_shown.proofs.Messages.{has_room}
 use Rattle.mscp_wire.specs.Wire.{AreRight}
 use Rattle.mscp_shown.specs.Shown.{shown}
 use Rattle.mscp_shown.proofs.Ending.{took_more}
@@ -204,4 +205,5 @@ pub are_right : LegalTracesAreRight
 are_right c t credits valid legal may patient covers =
     let all = inv_at c t valid legal (recursion_from_All (λ (m : Moment). IsPossible m.0) t may) patient (length t)
     (omega arith) in
-    subst (λ s. AreRight credits (shown s)) (take_all (length t) t (omega arith)) (all.kept credits covers)
+    subst (λ s. AreRight credits (shown s)) (take_all (length t) t (omega arith))
+    (all.kept credits (has_room credits c valid covers))

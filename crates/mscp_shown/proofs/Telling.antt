@@ -1,6 +1,6 @@
 -- The ends that a controller makes tell of a unit what it is.
-use Rattle.mscp_controller.proofs.Basics.{◌≡◌, ◌≢◌, ⊎_elim, ℕ, ◌<◌, Bool, true, false, refl, ap, sym, ◌∙◌, arith, if◌then◌else◌, Option, Some, None, Command, Order, Settings, Shape, unit_found, unit_shape, fault_of, is_queued, true≢false, some_same}
-use Rattle.std.specs.Prelude.{◌%◌, nat_eq}
+use Rattle.mscp_controller.proofs.Basics.{◌≡◌, ◌≢◌, ⊎_elim, ℕ, ◌<◌, Bool, true, false, refl, ap, arith, if◌then◌else◌, Some, None, Command, Order, Settings, Shape, unit_found, unit_shape, fault_of, is_queued, true≢false, some_same}
+use Rattle.std.specs.Prelude.{◌%◌}
 use Rattle.std.proofs.lemmas.Bool.{eq-eqb}
 use Rattle.mscp_packet.specs.declared.command.Order.TheVariants as orders
 use Rattle.mscp_packet.specs.declared.end.EndBody.TheVariants as bodies

@@ -9,10 +9,12 @@ use Rattle.mscp_wire.specs.declared.identity.Online.{Online}
 use Rattle.mscp_wire.specs.declared.moment.Moment.{Moment}
 use Rattle.mscp_wire.specs.declared.moment.Moment.TheVariants as moments
 
--- an end tells what its unit is: one of GET UNIT STATUS, ONLINE or SET UNIT CHARACTERISTICS that succeeded
+-- an end tells what a unit is that was online before: one of GET UNIT STATUS or SET UNIT CHARACTERISTICS that succeeded,
+-- or one of ONLINE that says so. With Success (0) alone an ONLINE brought the unit online (manual, "ONLINE Command")
 abbrev pub tells_unit : Answer → Bool
 tells_unit e =
-    nat_eq (status_code e) 0 && (nat_eq e.code 0x83 || nat_eq e.code 0x89 || nat_eq e.code 0x8A)
+    nat_eq (status_code e) 0
+    && (nat_eq e.code 0x83 || (nat_eq e.code 0x89 && not (nat_eq e.status 0)) || nat_eq e.code 0x8A)
 
 -- an end with this endcode tells of a unit what is known of it: one of GET UNIT STATUS tells no size
 abbrev pub agrees : ℕ → Option Identity → Identity → Bool

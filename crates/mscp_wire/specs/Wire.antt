@@ -52,13 +52,17 @@ is_new xs s = not (list_any (is_named s.connection s.reference) xs)
 abbrev pub count_on : Connection → List Sent → ℕ
 count_on via xs = count_by (λ s. same_connection s.connection via) xs
 
--- its host has a credit for it, if it is known how many it has: the last one is for a command that is answered when it
--- arrives (manual, "Flow Control")
-abbrev pub has_credit : Option ℕ → List Sent → Sent → Bool
-has_credit None xs s = true
-has_credit (Some credits) xs s =
+-- of so many credits its host has one for it: the last one is for a command that is answered when it arrives (manual,
+-- "Flow Control")
+abbrev pub has_one_of : ℕ → List Sent → Sent → Bool
+has_one_of credits xs s =
     nat_lt (count_on s.connection xs + 1) credits
     || (nat_eq (count_on s.connection xs + 1) credits && is_immediate s.opcode)
+
+-- its host has a credit for it. If the log tells none it has 1024, which is more than any controller gives
+abbrev pub has_credit : Option ℕ → List Sent → Sent → Bool
+has_credit None xs s = has_one_of 1024 xs s
+has_credit (Some credits) xs s = has_one_of credits xs s
 
 -- ---- the rules of an end
 

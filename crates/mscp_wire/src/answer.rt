@@ -210,11 +210,12 @@ impl Answer {
         }
     }
 
-    /// Whether it tells what its unit is.
+    /// Whether it tells what a unit is that was online before: with Success alone an ONLINE brought it online.
     fn tells_unit(&self) -> bool
         ensures { result ≡ wire.tells_unit self.now }
     {
-        self.status_code() == 0 && (self.code == 0x83 || self.code == 0x89 || self.code == 0x8A)
+        self.status_code() == 0
+            && (self.code == 0x83 || (self.code == 0x89 && self.status != 0) || self.code == 0x8A)
     }
 
     /// Whether its unit is what it was when it came online, if it is known to be online.

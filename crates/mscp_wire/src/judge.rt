@@ -14,15 +14,18 @@ use crate::sent::{Sent, is_immediate};
 use mscp_events::{Connection, OutOfMemory};
 use std::alloc::Allocator;
 
-/// Whether a host has a credit for a command, if it is known how many credits each has.
+/// The credits of a host in a log that tells none: more than any controller gives, and few enough to be looked through.
+const UNTOLD_CREDITS: u64 = 1024;
+
+/// Whether a host has a credit for a command.
 fn has_credit(credits: Option<u32>, commands: &[Sent], sent: &Sent) -> bool
     ensures { result ≡ wire.has_credit credits commands.now sent.now }
 {
-    let Some(credits) = credits else {
-        return true;
+    let credits = match credits {
+        Some(credits) => u64::from(credits),
+        None => UNTOLD_CREDITS,
     };
     let needed = count_on(commands, sent.connection) as u64 + 1;
-    let credits = u64::from(credits);
     needed < credits || (needed == credits && is_immediate(sent.opcode))
 }
 
