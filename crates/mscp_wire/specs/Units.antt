@@ -9,8 +9,9 @@ use Rattle.mscp_wire.specs.declared.identity.Online.{Online}
 use Rattle.mscp_wire.specs.declared.moment.Moment.{Moment}
 use Rattle.mscp_wire.specs.declared.moment.Moment.TheVariants as moments
 
--- an end tells what a unit is that was online before: one of GET UNIT STATUS or SET UNIT CHARACTERISTICS that succeeded,
--- or one of ONLINE that says so. With Success (0) alone an ONLINE brought the unit online (manual, "ONLINE Command")
+-- an end tells what a unit is that was online before: one of GET UNIT STATUS or SET UNIT CHARACTERISTICS that
+-- succeeded, or one of ONLINE that says so. With Success (0) alone an ONLINE brought the unit online (manual, "ONLINE
+-- Command")
 abbrev pub tells_unit : Answer → Bool
 tells_unit e =
     nat_eq (status_code e) 0
