@@ -62,7 +62,7 @@ wire_is_right() {
     read -ra totals <<<"$1"
     printf '%s\n' "${@:3}" >"$room/log"
     "$program" wire "$room/log" </dev/null >"$room/out" 2>"$room/err" && cmp -- "$room/err" /dev/null &&
-        sed 's/ queue [0-9]*$//; /^sent: /d; /^ended: /d' "$room/out" | cmp -- - <(echo "right
+        sed 's/ queue [0-9]*$//; /^falls /d; /^sent: /d; /^ended: /d' "$room/out" | cmp -- - <(echo "right
 moments ${totals[0]} messages ${totals[1]} polls ${totals[2]} ends ${totals[3]} resets ${totals[4]}${2:+
 $2}")
 }
@@ -94,6 +94,25 @@ ended: 2 Success (0)
 ended: 1 Invalid Command (1)
 ended: 1 Data Error (8)' 0 "$(online 1)" "$(reading 2)" "$(reading 3)" "$(onlined 1 0)" "$(poll 4 2)" "$(polled 4 2 5)" \
         "$(moved 2 232 512)" "send $(packet 12 5 0 77 0)" "end $(packet 12 5 0 128 2049)" reset
+}
+
+# A figure falls by 7, 60 and 3. The first one of a command is no fall: another host's, one of a number that was used before,
+# and one behind a reset. That of a command which is answered when it arrives needn't fall.
+wire_falls() {
+    local log=("$(reading 1)" "$(poll 2 1)" "$(polled 2 1 100)" "$(poll 3 1)" "$(polled 3 1 93)" "$(poll 4 1)" \
+        "$(polled 4 1 33)" "$(poll 5 1)" "$(polled 5 1 30)")
+    log+=("second $(reading 1)" "second $(poll 2 1)" "second $(polled 2 1 5)")
+    log+=("$(unit_status 8 0 0)" "$(poll 9 8)" "$(polled 9 8 500)" "$(poll 10 8)" "$(polled 10 8 200)")
+    log+=("$(moved 1 0 1024)" "$(reading 1)" "$(poll 2 1)" "$(polled 2 1 29)")
+    log+=(reset "$(reading 1)" "$(poll 2 1)" "$(polled 2 1 28)")
+    wire_says 'right
+moments 25 messages 14 polls 9 ends 10 resets 1 queue 4
+falls 3 to 60
+sent: 9 GET COMMAND STATUS (2)
+sent: 1 GET UNIT STATUS (3)
+sent: 4 READ (33)
+ended: 10 Success (0)
+outstanding: READ 1 of unit 0' 0 "${log[@]}"
 }
 
 wire_tells_what_is_outstanding() {

@@ -7,9 +7,11 @@ use Rattle.std.proofs.lemmas.List.{get_or-append_right, set-append_left, set-app
 use Rattle.std.proofs.Math.ListN.{get_or-append}
 use Rattle.std.proofs.lemmas.List.Sums.{sum_by-append}
 use Rattle.mscp_wire.specs.Wire.{History, is_it, outstanding}
-use Rattle.mscp_wire.specs.Totals.{code_told, counted_at, counts_of, greatest, longest, opcode_sent, tally, totals_of}
+use Rattle.mscp_wire.specs.Totals.{code_told, counted_at, counts_of, fall, fall_after, falls_of, greatest, least, lesser, longest, opcode_sent, tally, totals_of}
+use Rattle.mscp_wire.specs.declared.falls.Falls.{Falls}
 use Rattle.mscp_wire.specs.declared.totals.Totals.{Totals}
 use Rattle.mscp_wire.specs.declared.moment.Moment.{Moment}
+use Rattle.mscp_wire.specs.declared.moment.Moment.TheVariants.{Reset}
 
 -- ---- tallies
 length_tally : (number : Moment → Option ℕ) (n : ℕ) (h : History) → length (tally number n h) ≡ n
@@ -122,32 +124,84 @@ longest_more h m =
     ∙ ap (λ t. max (greatest f (length h + 1)) (length (outstanding t)))
     (take_all (length h + 1) (h ++ m ∷ []) (omega (arith, whole)))
 
+-- ---- falls
+least_same : (f g : ℕ → ℕ) (n : ℕ) → ((i : ℕ) → i < n → f i ≡ g i) → least f n ≡ least g n
+unfolding least
+least_same f g zero h = refl
+least_same f g (suc n) h =
+    ap (λ x. lesser x (f n)) (least_same f g n (λ i l. h i (omega (arith, l))))
+    ∙ ap (lesser (least g n)) (h n (omega arith))
+
+-- those before a moment more are the same
+fall_same : (h : History) (m : Moment) (i : ℕ) → i < length h → fall (h ++ m ∷ []) i ≡ fall h i
+fall_same h m i l =
+    ap (λ t. fall_after (outstanding t) (get_or (h ++ m ∷ []) i Reset)) (take-append-le i h (m ∷ []) (omega (arith, l)))
+    ∙ ap (fall_after (outstanding (take i h))) (get_or-append h (m ∷ []) Reset i l)
+
+-- that of the moment itself
+fall_last : (h : History) (m : Moment) → fall (h ++ m ∷ []) (length h) ≡ fall_after (outstanding h) m
+fall_last h m =
+    let n : ℕ = length h in
+    let none : n - n ≡ 0 = omega arith in
+    ap (λ t. fall_after (outstanding t) (get_or (h ++ m ∷ []) n Reset))
+    (take-append-le n h (m ∷ []) (omega arith) ∙ take_all n h (omega arith))
+    ∙ ap (fall_after (outstanding h))
+    (get_or-append_right h (m ∷ []) n n Reset refl (omega arith) ∙ ap (λ d. get_or (m ∷ []) d Reset) none)
+
+same_falls : (a b : Falls) → a.least ≡ b.least → a.greatest ≡ b.greatest → a ≡ b
+same_falls a b p q =
+    ap (λ x. record { least = x; greatest = a.greatest }) p
+    ∙ ap (λ x. record { least = b.least; greatest = x }) q
+
+pub falls_more : (h : History) (m : Moment) (old new : Falls) (more : ℕ) → old ≡ falls_of h
+    → more ≡ fall_after (outstanding h) m → new.least ≡ lesser old.least more → new.greatest ≡ max old.greatest more
+    → new ≡ falls_of (h ++ m ∷ [])
+unfolding least greatest
+falls_more h m old new more e k lower higher =
+    let n : ℕ = length h in
+    let f : ℕ → ℕ = fall h in
+    let g : ℕ → ℕ = fall (h ++ m ∷ []) in
+    let size : length (h ++ m ∷ []) ≡ suc n = omega (arith, length-append h (m ∷ [])) in
+    let last : more ≡ g n = k ∙ sym (fall_last h m) in
+    let same : (i : ℕ) → i < n → f i ≡ g i = λ i l. sym (fall_same h m i l) in
+    same_falls new (falls_of (h ++ m ∷ []))
+    (lower ∙ ap (λ t. lesser t.least more) e ∙ ap (lesser (least f n)) last
+    ∙ ap (λ x. lesser x (g n)) (least_same f g n same) ∙ ap (least g) (sym size))
+    (higher ∙ ap (λ t. max t.greatest more) e ∙ ap (max (greatest f n)) last
+    ∙ ap (λ x. max x (g n)) (greatest_same f g n same) ∙ ap (greatest g) (sym size))
+
 -- ---- all of them
 same_totals : (a b : Totals) → a.counts ≡ b.counts → a.commands ≡ b.commands → a.statuses ≡ b.statuses
-    → a.queue ≡ b.queue → a ≡ b
-same_totals a b p q r s =
-    ap (λ x. record { counts = x; commands = a.commands; statuses = a.statuses; queue = a.queue }) p
-    ∙ ap (λ x. record { counts = b.counts; commands = x; statuses = a.statuses; queue = a.queue }) q
-    ∙ ap (λ x. record { counts = b.counts; commands = b.commands; statuses = x; queue = a.queue }) r
-    ∙ ap (λ x. record { counts = b.counts; commands = b.commands; statuses = b.statuses; queue = x }) s
+    → a.queue ≡ b.queue → a.falls ≡ b.falls → a ≡ b
+same_totals a b p q r s t =
+    ap (λ x. record a { counts = x }) p
+    ∙ ap (λ x. record a { counts = b.counts; commands = x }) q
+    ∙ ap (λ x. record b { statuses = x; queue = a.queue; falls = a.falls }) r
+    ∙ ap (λ x. record b { queue = x; falls = a.falls }) s
+    ∙ ap (λ x. record b { falls = x }) t
 
 pub totals_more : (h : History) (m : Moment) (old new : Totals) (queue : ℕ) → old ≡ totals_of h
     → queue ≡ length (outstanding (h ++ m ∷ [])) → new.counts ≡ counts_of (h ++ m ∷ [])
     → new.commands ≡ counted_at old.commands (opcode_sent m) → new.statuses ≡ counted_at old.statuses (code_told m)
-    → new.queue ≡ max old.queue queue → new ≡ totals_of (h ++ m ∷ [])
-totals_more h m old new queue e k counts commands statuses longer =
+    → new.queue ≡ max old.queue queue → new.falls ≡ falls_of (h ++ m ∷ []) → new ≡ totals_of (h ++ m ∷ [])
+totals_more h m old new queue e k counts commands statuses longer falls =
     same_totals new (totals_of (h ++ m ∷ [])) counts
     (commands ∙ ap (λ t. counted_at t.commands (opcode_sent m)) e ∙ sym (tally_more opcode_sent 256 h m))
     (statuses ∙ ap (λ t. counted_at t.statuses (code_told m)) e ∙ sym (tally_more code_told 32 h m))
-    (longer ∙ ap (λ t. max t.queue queue) e ∙ ap (max (longest h)) k ∙ sym (longest_more h m))
+    (longer ∙ ap (λ t. max t.queue queue) e ∙ ap (max (longest h)) k ∙ sym (longest_more h m)) falls
 
 -- of no moment
 longest_none : longest [] ≡ 0
 unfolding longest greatest
 longest_none = refl
 
+falls_none : (none : Falls) → none.least ≡ 0 → none.greatest ≡ 0 → none ≡ falls_of []
+unfolding least greatest
+falls_none none p q = same_falls none (falls_of []) p q
+
 pub totals_none : (none : Totals) → none.counts ≡ counts_of [] → none.commands ≡ replicate {A = ℕ} 256 0
-    → none.statuses ≡ replicate {A = ℕ} 32 0 → none.queue ≡ 0 → none ≡ totals_of []
-totals_none none p q r s =
+    → none.statuses ≡ replicate {A = ℕ} 32 0 → none.queue ≡ 0 → none.falls.least ≡ 0 → none.falls.greatest ≡ 0
+    → none ≡ totals_of []
+totals_none none p q r s t u =
     same_totals none (totals_of []) p (q ∙ sym (tally_none opcode_sent 256)) (r ∙ sym (tally_none code_told 32))
-    (s ∙ sym longest_none)
+    (s ∙ sym longest_none) (falls_none none.falls t u)

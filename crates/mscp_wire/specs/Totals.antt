@@ -1,9 +1,12 @@
--- The totals of what went over the wire: each a count of its moments, or the most at any time.
-use Rattle.std.specs.Prelude.{ℕ, zero, suc, ◌+◌, ◌<◌, ◌%◌, Bool, true, false, nat_eq, nat_le, if◌then◌else◌, List, [], ◌∷◌, ◌++◌, length, count_by, max, take, slice_index, slice_set, Option, Some, None}
+-- The totals of what went over the wire: each a count of its moments, or the most or the least at any time.
+use Rattle.std.specs.Prelude.{ℕ, zero, suc, ◌+◌, ◌-◌, ◌<◌, ◌%◌, Bool, true, false, nat_eq, nat_le, if◌then◌else◌, List, [], ◌∷◌, ◌++◌, length, count_by, max, min, find, take, slice_index, slice_index_or, slice_set, Option, Some, None}
 use Rattle.mscp_packet.specs.Number.{num}
-use Rattle.mscp_wire.specs.Wire.{History, is_it, outstanding}
+use Rattle.mscp_wire.specs.Wire.{History, answer_by, command_at, is_immediate, is_it, is_long, is_named, outstanding, place_of, polled_by}
+use Rattle.mscp_wire.specs.declared.answer.Answer.{Answer}
+use Rattle.mscp_wire.specs.declared.falls.Falls.{Falls}
 use Rattle.mscp_wire.specs.declared.moment.Moment.{Moment}
 use Rattle.mscp_wire.specs.declared.moment.Moment.TheVariants as moments
+use Rattle.mscp_wire.specs.declared.sent.Sent.{Sent}
 use Rattle.mscp_wire.specs.declared.totals.Counts.{Counts}
 use Rattle.mscp_wire.specs.declared.totals.Totals.{Totals}
 
@@ -60,6 +63,53 @@ greatest f (suc n) = max (greatest f n) (f n)
 unfoldable pub longest : History → ℕ
 longest h = greatest (λ i. length (outstanding (take i h))) (length h + 1)
 
+-- ---- falls of a figure
+
+-- how far a figure is below the last one, if both are there
+abbrev pub fall_below : Option ℕ → Option ℕ → ℕ
+fall_below (Some last) (Some figure) = last - figure
+fall_below last figure = 0
+
+-- how far the figure of this command fell. That of one which is answered when it arrives needn't fall
+abbrev pub fall_of : Option Sent → Option ℕ → ℕ
+fall_of None figure = 0
+fall_of (Some x) figure = if is_immediate x.opcode then 0 else fall_below x.told figure
+
+-- by the end of a poll of this command, before which these came
+abbrev pub fall_polled : List Sent → Answer → Option ℕ → ℕ
+fall_polled earlier e None = 0
+fall_polled earlier e (Some other) = fall_of (find (is_named e.connection other) earlier) e.figure
+
+-- by the end of the command at a place, if it is there
+abbrev pub fall_at : List Sent → Answer → Option ℕ → ℕ
+fall_at xs e None = 0
+fall_at xs e (Some i) = fall_polled (take i xs) e (polled_by (command_at xs i) e)
+
+-- by a moment, before which these are outstanding: 0 if it tells no figure, or the first of its command
+abbrev pub fall_after : List Sent → Moment → ℕ
+fall_after xs (moments.End via b) =
+    if is_long b.items then fall_at xs (answer_by via b.items) (place_of xs (answer_by via b.items)) else 0
+fall_after xs m = 0
+
+-- by the moment at a place of a history
+abbrev pub fall : History → ℕ → ℕ
+fall h i = fall_after (outstanding (take i h)) (slice_index_or h i moments.Reset)
+
+-- the lesser of two, of which 0 is none
+abbrev pub lesser : ℕ → ℕ → ℕ
+lesser x y = if nat_eq x 0 then y else (if nat_eq y 0 then x else min x y)
+
+-- the least of f 0, f 1 .. before f n, of which 0 is none
+unfoldable pub least : (ℕ → ℕ) → ℕ → ℕ
+least f zero = 0
+least f (suc n) = lesser (least f n) (f n)
+
+-- the least and the greatest fall in a history
+abbrev pub falls_of : History → Falls
+falls_of h = record { least = least (fall h) (length h); greatest = greatest (fall h) (length h) }
+
+-- ---- all of them
+
 -- the counts of a history
 abbrev pub counts_of : History → Counts
 counts_of h = record {
@@ -77,6 +127,7 @@ totals_of h = record {
   commands = tally opcode_sent 256 h;
   statuses = tally code_told 32 h;
   queue = longest h;
+  falls = falls_of h;
 }
 
 -- none of the counts is so large

@@ -2,6 +2,7 @@
 #![tactic(auto)]
 
 mod answer;
+mod falls;
 mod identity;
 mod judge;
 mod law;
@@ -15,6 +16,7 @@ mod totals;
 mod wrong;
 
 pub use crate::answer::Answer;
+pub use crate::falls::Falls;
 pub use crate::identity::{Identity, Online};
 pub use crate::judge::Judge;
 pub use crate::law::right_breaks_no_rule;

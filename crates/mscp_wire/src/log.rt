@@ -7,6 +7,7 @@ ghost use Rattle.mscp_wire.specs.Totals.{IsFew};
 ghost use Rattle.mscp_wire.specs.Log.{Log, Goes, IsAfter, Judges, after_line, after_lines, after_log, after_said, answered_by, command_of, nothing};
 
 use crate::answer::{Answer, is_long};
+use crate::falls::fall_after;
 use crate::judge::{Judge, command_at};
 use crate::line::{Said, line_says};
 use crate::moment::Moment;
@@ -94,6 +95,7 @@ impl<A: Allocator + Copy> Reading<A> {
         ensures few { OnOk result (IsFew self.new.totals (number + 1)) }
     {
         let command = command_of(self.judge.commands.as_slice(), &moment);
+        let fall = fall_after(self.judge.commands.as_slice(), &moment);
         match self.judge.step(&moment)? {
             Some(rule) => Ok(Some(Wrong {
                 line: number,
@@ -103,7 +105,7 @@ impl<A: Allocator + Copy> Reading<A> {
             })),
             None => {
                 let queue = self.judge.commands.as_slice().len();
-                self.totals.add(number, &moment, queue);
+                self.totals.add(number, &moment, queue, fall);
                 Ok(None)
             }
         }

@@ -19,7 +19,7 @@ pub fn has_named(commands: &[Sent], connection: Connection, reference: u32) -> b
 }
 
 /// The first of the commands that has this reference number on this connection.
-fn find_named(commands: &[Sent], connection: Connection, reference: u32) -> Option<&Sent>
+pub fn find_named(commands: &[Sent], connection: Connection, reference: u32) -> Option<&Sent>
     ensures { option_copied result ≡ find (wire.is_named connection reference) commands.now }
 {
     commands

@@ -4,6 +4,7 @@ ghost use Rattle.std.specs.Prelude.{◌≡◌, ◌+◌, ◌-◌, ◌<◌, ◌^�
 ghost use Rattle.mscp_wire.specs.Wire.{History, outstanding};
 ghost use Rattle.mscp_wire.specs.Totals as total;
 
+use crate::falls::Falls;
 use crate::moment::Moment;
 use mscp_packet::fields::two_at;
 
@@ -32,6 +33,7 @@ pub struct Totals {
     pub statuses: [u32; 32],
     /// The most commands that were outstanding at any time.
     pub queue: usize,
+    pub falls: Falls,
 }
 
 /// A count, once one more is counted or not.
@@ -146,18 +148,23 @@ impl Totals {
             commands: [0; 256],
             statuses: [0; 32],
             queue: 0,
+            falls: Falls {
+                least: 0,
+                greatest: 0,
+            },
         }
     }
 
-    /// A moment more came, in the line of this number. So many commands are outstanding then.
-    pub fn add(&mut self, number: u32, moment: &Moment, queue: usize)
+    /// A moment more came, in the line of this number. So many commands are outstanding then, and a figure fell so far.
+    pub fn add(&mut self, number: u32, moment: &Moment, queue: usize, fall: u32)
         requires few { total.IsFew self.old number }
         ensures totals { (h : History) → self.old ≡ total.totals_of h → queue ≡ length (outstanding (h ++ moment.now ∷ []))
-            → self.new ≡ total.totals_of (h ++ moment.now ∷ []) }
+            → fall ≡ total.fall_after (outstanding h) moment.now → self.new ≡ total.totals_of (h ++ moment.now ∷ []) }
         ensures few { total.IsFew self.new (number + 1) }
     {
         self.counts = self.counts.with(number, moment);
         self.queue = self.queue.max(queue);
+        self.falls = self.falls.with(fall);
         count_at(&mut self.commands, opcode_sent(moment), number);
         count_at(&mut self.statuses, code_told(moment), number);
     }

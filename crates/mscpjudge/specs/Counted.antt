@@ -1,6 +1,7 @@
 -- What is written of the totals of a log of the wire.
 use Rattle.std.specs.Prelude.{ℕ, zero, suc, nat_eq, if◌then◌else◌, List, [], ◌++◌, codes, slice_index}
 use Rattle.std.specs.Fmt.{decimal}
+use Rattle.mscp_wire.specs.declared.falls.Falls.{Falls}
 use Rattle.mscp_wire.specs.declared.totals.Counts.{Counts}
 use Rattle.mscp_wire.specs.declared.totals.Totals.{Totals}
 
@@ -72,7 +73,14 @@ counts_text counts queue =
     (codes "right\nmoments " ++ decimal counts.moments) ++ (codes " messages " ++ decimal counts.messages)
     ++ ends_text counts queue
 
+-- the line of the least and the greatest fall of a figure, if one fell
+abbrev pub falls_text : Falls → List ℕ
+falls_text falls =
+    if nat_eq falls.greatest 0 then []
+    else codes "falls " ++ decimal falls.least ++ codes " to " ++ decimal falls.greatest ++ codes "\n"
+
 -- the lines of a log that is right
 abbrev pub totals_text : Totals → List ℕ
 totals_text totals =
-    counts_text totals.counts totals.queue ++ commands_text totals.commands ++ statuses_text totals.statuses
+    counts_text totals.counts totals.queue ++ falls_text totals.falls ++ commands_text totals.commands
+    ++ statuses_text totals.statuses

@@ -5,7 +5,7 @@ ghost use Rattle.mscpjudge.specs.Counted as counted;
 
 use crate::wire::opcode_name;
 use mscp_text::{put, put_field};
-use mscp_wire::{Counts, Totals};
+use mscp_wire::{Counts, Falls, Totals};
 use std::alloc::{AllocError, Allocator};
 
 /// What a status of a code is called.
@@ -113,11 +113,24 @@ fn put_counts<A: Allocator>(
     put_ends(text, counts, queue)
 }
 
+/// Appends the line of the falls, if a figure fell.
+fn put_falls<A: Allocator>(text: &mut Vec<u8, A>, falls: &Falls) -> Result<(), AllocError>
+    ensures { OnOk result (text.new.items ≡ text.old.items ++ counted.falls_text falls.now) }
+{
+    if falls.greatest == 0 {
+        return Ok(());
+    }
+    put_field(text, "falls ", falls.least)?;
+    put_field(text, " to ", falls.greatest)?;
+    put(text, "\n")
+}
+
 /// Appends the lines of a log that is right, and has these totals.
 pub fn put_totals<A: Allocator>(text: &mut Vec<u8, A>, totals: &Totals) -> Result<(), AllocError>
     ensures { OnOk result (text.new.items ≡ text.old.items ++ counted.totals_text totals.now) }
 {
     put_counts(text, &totals.counts, totals.queue)?;
+    put_falls(text, &totals.falls)?;
     put_commands(text, &totals.commands)?;
     put_statuses(text, &totals.statuses)
 }

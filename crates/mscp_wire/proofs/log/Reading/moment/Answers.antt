@@ -1,4 +1,5 @@
 use Rattle.std.proofs.Common.{[], ◌∷◌, ◌++◌, Ok, length, ap, sym, ◌∙◌}
+use Rattle.mscp_wire.specs.Totals.{fall_after}
 use Rattle.mscp_wire.proofs.Passing.{known_more, pushed, taken, told_wrong}
 use Rattle.mscp_wire.proofs.log.Reading.moment.Goals as goal
 
@@ -18,6 +19,8 @@ returns-in-None-clause-after g c = λ log s.
         commands = after;
         units = known_more log.moments c.args.moment _ _ s.units (c.in_ok-rule.ensures.units c.in-None.is);
         totals = c.add.ensures.totals log.moments s.totals
-            (ap length (c.as_slice-queue.ensures.value ∙ after));
+            (ap length (c.as_slice-queue.ensures.value ∙ after))
+            (c.fall_after-fall.ensures
+            ∙ ap (λ xs. fall_after xs c.args.moment) (c.as_slice-2.ensures.value ∙ s.commands));
       },
     )

@@ -3,7 +3,7 @@ use Rattle.mscp_wire.proofs.Counting.{totals_none, zero_at}
 use Rattle.mscp_wire.proofs.totals.Totals.none.Goals as goal
 
 pub returns-clause-totals : goal.returns-clause-totals
-returns-clause-totals c = totals_none _ refl refl refl refl
+returns-clause-totals c = totals_none _ refl refl refl refl refl refl
 
 pub returns-clause-few : goal.returns-clause-few
 returns-clause-few c = record {

@@ -1,0 +1,104 @@
+// How far the figure of a command falls from poll to poll.
+
+ghost use Rattle.std.specs.Prelude.{◌≡◌, ◌++◌, ◌∷◌, []};
+ghost use Rattle.mscp_wire.specs.Wire.{History, outstanding, place_of};
+ghost use Rattle.mscp_wire.specs.declared.moment.Moment as moments;
+ghost use Rattle.mscp_wire.specs.Totals as total;
+
+use crate::answer::{Answer, is_long};
+use crate::judge::command_at;
+use crate::moment::Moment;
+use crate::outstanding::{find_named, place_of};
+use crate::sent::{Sent, is_immediate};
+
+/// How far the figure of a command fell from poll to poll (manual, "Host Command Timeouts").
+#[derive(Clone, Copy, Debug, Default, PartialEq, Eq)]
+pub struct Falls {
+    /// The least fall, or 0 if no figure fell.
+    pub least: u32,
+    /// The greatest fall, or 0 if no figure fell.
+    pub greatest: u32,
+}
+
+/// How far a figure is below the last one, if both are there.
+fn fall_below(last: Option<u32>, figure: Option<u32>) -> u32
+    ensures { result ≡ total.fall_below last figure }
+{
+    match (last, figure) {
+        (Some(last), Some(figure)) => last.saturating_sub(figure),
+        _ => 0,
+    }
+}
+
+/// How far the figure of this command fell. That of one which is answered when it arrives needn't fall.
+fn fall_of(asked: Option<Sent>, figure: Option<u32>) -> u32
+    ensures { result ≡ total.fall_of asked figure }
+{
+    match asked {
+        Some(command) if !is_immediate(command.opcode) => fall_below(command.told, figure),
+        _ => 0,
+    }
+}
+
+/// The same by the end of a poll of this command, before which these came.
+fn fall_polled(earlier: &[Sent], answer: &Answer, polled: Option<u32>) -> u32
+    ensures { result ≡ total.fall_polled earlier.now answer.now polled }
+{
+    match polled {
+        Some(other) => {
+            let asked = find_named(earlier, answer.connection, other).copied();
+            fall_of(asked, answer.figure)
+        }
+        None => 0,
+    }
+}
+
+/// The same by the end of one of the commands, if it is there.
+fn fall_at(commands: &[Sent], answer: &Answer) -> u32
+    ensures { result ≡ total.fall_at commands.now answer.now (place_of commands.now answer.now) }
+{
+    match place_of(commands, answer) {
+        Some(place) => {
+            let polled = answer.polled_by(&command_at(commands, place));
+            fall_polled(&commands[..place], answer, polled)
+        }
+        None => 0,
+    }
+}
+
+/// How far a moment says that a figure fell, before which these commands are outstanding: 0 if it tells no figure, or the
+/// first of its command.
+pub fn fall_after(commands: &[Sent], moment: &Moment) -> u32
+    ensures { result ≡ total.fall_after commands.now moment.now }
+{
+    match moment {
+        Moment::End(connection, message) if is_long(message.as_slice()) => {
+            fall_at(commands, &Answer::of(*connection, message.as_slice()))
+        }
+        _ => 0,
+    }
+}
+
+/// The lesser of two falls, of which 0 is none.
+fn lesser(least: u32, fall: u32) -> u32
+    ensures { result ≡ total.lesser least fall }
+{
+    if least == 0 || (fall != 0 && fall < least) {
+        fall
+    } else {
+        least
+    }
+}
+
+impl Falls {
+    /// Those of one moment more, by which a figure fell so far.
+    pub fn with(&self, fall: u32) -> Falls
+        ensures { (h : History) (m : moments.Moment) → self.now ≡ total.falls_of h
+            → fall ≡ total.fall_after (outstanding h) m → result ≡ total.falls_of (h ++ m ∷ []) }
+    {
+        Falls {
+            least: lesser(self.least, fall),
+            greatest: self.greatest.max(fall),
+        }
+    }
+}
