@@ -9,7 +9,7 @@ pub use Rattle.mscp_queue.proofs.Lists.{every_append, every_from, every_kept, ev
 pub use Rattle.mscp_queue.proofs.Sums.{figure_small, figures_more, held_small}
 pub use Rattle.mscp_queue.proofs.CountedViews.{any_counted, counted_left, counted_none, some_counted}
 pub use Rattle.mscp_queue.proofs.Departed.{once_in}
-pub use Rattle.mscp_queue.proofs.Restored.{begun_back, held_seen, ready_restored, slots_of}
+pub use Rattle.mscp_queue.proofs.Restored.{begun_back, held_seen, ready_restored}
 pub use Rattle.mscp_queue.proofs.Begun.{picked_opens, still_aborted, still_begun}
 pub use Rattle.mscp_queue.proofs.Shown.{IsNumber, all_shown, cut_order, due_set, item_at, item_set, kept_advanced, kept_left, kept_passed, kept_pushed, long_shown, number_of, serves_if, serves_since, shown_left, shown_pushed, slot_is, unfenced_at}
 pub use Rattle.mscp_queue.proofs.CandidateLists.{any_of, as_many, at_place, candidates_served, line_with, line_without, none_listed, place_of, sure_but}

@@ -6,6 +6,7 @@ module _ (rs : List Record) (own : List Target)
     (ds ds' : List ℕ) (mask by : ℕ) (fall : (k : ℕ) → k < 64 → get_or ds' k 0 ≡ lowered mask by k (get_or ds k 0)) where
   pub fell : (k : ℕ) → k < 64 → bit_at mask k ≡ 1 → held rs own ds' k ≡ lowered_by by (held rs own ds k)
   fell k l on = λ i. record {
+    number = k;
     item = get_or rs k no_record;
     target = get_or own k no_target;
     due = (fall k l ∙ ap (λ b. if b then get_or ds k 0 - by else get_or ds k 0) (eq-eqb (bit_at mask k) 1 on)) i;
@@ -13,6 +14,7 @@ module _ (rs : List Record) (own : List Target)
 
   pub stayed : (k : ℕ) → k < 64 → bit_at mask k ≡ 0 → held rs own ds' k ≡ held rs own ds k
   stayed k l off = λ i. record {
+    number = k;
     item = get_or rs k no_record;
     target = get_or own k no_target;
     due = (fall k l ∙ ap (λ b. if b then get_or ds k 0 - by else get_or ds k 0)

@@ -28,7 +28,12 @@ pub mod Recosted
 pub mod Dues
 pub mod BacklogSteps
 pub mod Backlogs
+pub mod LaneBits
+pub mod LaneHits
+pub mod LaneParts
+pub mod LaneLeasts
 pub mod Lowers
+pub mod Row
 pub mod Swept
 pub mod Drives
 pub mod Starting

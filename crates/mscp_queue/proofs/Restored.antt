@@ -1,5 +1,5 @@
 -- A queue as it was: its waiting commands in their slots, and what it knows of them.
-use Rattle.mscp_queue.proofs.Common.{All, ◌≡◌, ◌+◌, ◌<◌, ◌≤◌, ◌^◌, ℕ, suc, Bool, true, false, List, [], ◌∷◌, ◌++◌, drop, get_or, length, append-nil, refl, ap, ◌∙◌, arith, sum_by, is_some, unwrap_or, Option, Some, None, IfNone, IfSome, list_any, position, false≢true, ltb-false, true≢false, drop_all, position-Some, Drive, Name, ArePassedInOrder, IsHeld, IsReady, IsStillServable, begun_name, units_of, Waiters, Slot, Shape, target_of, targets_of, AreDue, AreTimed, figure_in, Record, has_name, is_in_service, left_if_serving, left_of, no_record, targets, items}
+use Rattle.mscp_queue.proofs.Common.{All, ◌≡◌, ◌+◌, ◌<◌, ◌≤◌, ◌^◌, ℕ, suc, Bool, true, false, List, [], ◌∷◌, ◌++◌, drop, get_or, length, append-nil, refl, map, map-append, zero-add, sym, subst, ap, ◌∙◌, arith, Content, filled, sum_by, is_some, unwrap_or, Option, Some, None, IfNone, IfSome, list_any, position, false≢true, ltb-false, true≢false, drop_all, position-Some, Drive, Name, ArePassedInOrder, IsHeld, IsReady, IsStillServable, begun_name, units_of, Waiters, Slot, Shape, target_of, targets_of, AreDue, AreTimed, figure_in, Record, has_name, is_in_service, left_if_serving, left_of, no_record, targets, items}
 use Rattle.mscp_queue.proofs.Named.{same_is}
 use Rattle.mscp_queue.proofs.Placed.{position_any}
 
@@ -12,45 +12,85 @@ any_at p xs k d h4 h5 = search arith
 some_same : {X : Type 0} {x y : X} → Some x ≡ Some y → x ≡ y
 some_same {x = x} e = ap (λ o. unwrap_or o x) e
 
+nil_not_cons : {X : Type 0} {x : X} {xs : List X} → [] ≡ x ∷ xs → ⊥
+nil_not_cons e = cc
+
+head_same : {X : Type 0} {x y : X} {xs ys : List X} → x ∷ xs ≡ y ∷ ys → x ≡ y
+head_same {x = x} e = ap (λ zs. get_or zs 0 x) e
+
+tail_same : {X : Type 0} {x y : X} {xs ys : List X} → x ∷ xs ≡ y ∷ ys → xs ≡ ys
+tail_same e = ap (drop 1) e
+
 -- ---- the waiting commands
 module _ (budget : ℕ) (us : List Shape) where
-  -- the slot of a record, where so many steps are left before it, and of one in service behind it
-  abbrev pub slot_of : ℕ → ℕ → Record → Slot
-  slot_of before behind r = record { item = r; target = target_of us r.command; due = figure_in budget before behind r }
+  -- what the slot of a record holds, where so many steps are left before it, and of one in service behind it
+  abbrev pub content_of : ℕ → ℕ → Record → Content
+  content_of before behind r =
+      record { item = r; target = target_of us r.command; due = figure_in budget before behind r }
 
-  -- the slots of records
-  abbrev pub slots_of : ℕ → List Record → List Slot
-  slots_of before [] = []
-  slots_of before (r ∷ rs) = slot_of before (sum_by left_if_serving rs) r ∷ slots_of (before + left_of r) rs
+  -- what the slots of records hold
+  abbrev pub contents_of : ℕ → List Record → List Content
+  contents_of before [] = []
+  contents_of before (r ∷ rs) = content_of before (sum_by left_if_serving rs) r ∷ contents_of (before + left_of r) rs
+
+-- what slots hold, whatever their numbers are
+abbrev content : Slot → Content
+content s = record { item = s.item; target = s.target; due = s.due }
+
+abbrev pub contents : List Slot → List Content
+contents ss = map content ss
+
+-- one more of them
+pub contents_more : (ss : List Slot) (n : ℕ) (c : Content) → contents (ss ++ filled n c ∷ []) ≡ contents ss ++ c ∷ []
+contents_more ss n c = map-append content ss (filled n c ∷ [])
 
 module _ (budget : ℕ) (us : List Shape) where
-  pub items_of : (before : ℕ) (rs : List Record) → items (slots_of budget us before rs) ≡ rs
-  items_of before [] = refl
-  items_of before (r ∷ rs) = ap (λ xs. r ∷ xs) (items_of (before + left_of r) rs)
+  items_of : (before : ℕ) (ss : List Slot) (rs : List Record) → contents ss ≡ contents_of budget us before rs
+      → items ss ≡ rs
+  items_of before [] [] e = refl
+  items_of before [] (r ∷ rs) e = absurd (nil_not_cons e)
+  items_of before (s ∷ ss) [] e = absurd (nil_not_cons (sym e))
+  items_of before (s ∷ ss) (r ∷ rs) e =
+      λ i. (head_same e i).item ∷ items_of (before + left_of r) ss rs (tail_same e) i
 
-  pub targets_are : (before : ℕ) (rs : List Record) → targets (slots_of budget us before rs) ≡ targets_of us rs
-  targets_are before [] = refl
-  targets_are before (r ∷ rs) = ap (λ xs. target_of us r.command ∷ xs) (targets_are (before + left_of r) rs)
+  targets_are : (before : ℕ) (ss : List Slot) (rs : List Record) → contents ss ≡ contents_of budget us before rs
+      → targets ss ≡ targets_of us rs
+  targets_are before [] [] e = refl
+  targets_are before [] (r ∷ rs) e = absurd (nil_not_cons e)
+  targets_are before (s ∷ ss) [] e = absurd (nil_not_cons (sym e))
+  targets_are before (s ∷ ss) (r ∷ rs) e =
+      λ i. (head_same e i).target ∷ targets_are (before + left_of r) ss rs (tail_same e) i
 
-  pub are_due : (before : ℕ) (rs : List Record) → AreDue budget 0 before (slots_of budget us before rs)
-  are_due before [] = tt
-  are_due before (r ∷ rs) = search (arith, items_of (before + left_of r) rs, are_due (before + left_of r) rs)
-
-  -- one more of them
+  are_due : (before : ℕ) (ss : List Slot) (rs : List Record) → contents ss ≡ contents_of budget us before rs
+      → AreDue budget 0 before ss
+  are_due before [] rs e = tt
+  are_due before (s ∷ ss) [] e = absurd (nil_not_cons (sym e))
+  are_due before (s ∷ ss) (r ∷ rs) e =
+      let is = head_same e in
+      let item : s.item ≡ r = ap (λ (c : Content). c.item) is in
+      let rest = sym (items_of (before + left_of r) ss rs (tail_same e)) in
+      let back = sym item in
+      let due : s.due ≡ figure_in budget before (sum_by left_if_serving rs) r = ap (λ (c : Content). c.due) is in
+      (
+        due ∙ (λ i. figure_in budget before (sum_by left_if_serving (rest i)) (back i)) ∙ sym (zero-add _),
+        subst (λ (q : Record). AreDue budget 0 (before + left_of q) ss) back
+            (are_due (before + left_of r) ss rs (tail_same e)),
+      )
 
   -- at the end they are all
-  pub slots_all : (ss : List Slot) (before n : ℕ) (rs : List Record) → length rs ≤ n
-      → ss ++ slots_of budget us before (drop n rs) ≡ slots_of budget us 0 rs → ss ≡ slots_of budget us 0 rs
-  slots_all ss before n rs l h = search (arith, append-nil ss, drop_all n rs l)
+  pub contents_all : (cs : List Content) (before n : ℕ) (rs : List Record) → length rs ≤ n
+      → cs ++ contents_of budget us before (drop n rs) ≡ contents_of budget us 0 rs → cs ≡ contents_of budget us 0 rs
+  contents_all cs before n rs l h = search (arith, append-nil cs, drop_all n rs l)
 
-  pub timed : (ss : List Slot) (total : ℕ) (rs : List Record)
-      → budget < 2 ^ 32 → ss ≡ slots_of budget us 0 rs → total ≡ sum_by left_of rs → AreTimed budget 0 total ss
-  timed ss total rs fits e t = search (arith, are_due 0 rs, items_of 0 rs)
+  pub timed : (ss : List Slot) (total : ℕ) (rs : List Record) → budget < 2 ^ 32
+      → contents ss ≡ contents_of budget us 0 rs → total ≡ sum_by left_of rs → AreTimed budget 0 total ss
+  timed ss total rs fits e t = search (arith, are_due 0 ss rs e, items_of 0 ss rs e)
 
-  pub shown : (ss : List Slot) (rs : List Record) → ss ≡ slots_of budget us 0 rs
+  pub shown : (ss : List Slot) (rs : List Record) → contents ss ≡ contents_of budget us 0 rs
       → ◌≡◌ {A = Waiters} (record { budget = budget; waiting = items ss; targets = targets ss })
       (record { budget = budget; waiting = rs; targets = targets_of us rs })
-  shown ss rs e = search (arith, items_of 0 rs, targets_are 0 rs)
+  shown ss rs e =
+      λ i. record { budget = budget; waiting = items_of 0 ss rs e i; targets = targets_are 0 ss rs e i }
 
 -- ---- what a queue knows
 -- the place of the command of a name that is known

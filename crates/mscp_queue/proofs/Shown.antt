@@ -1,8 +1,8 @@
 -- What slots show once one of them holds something else.
-use Rattle.mscp_queue.proofs.Common.{◌≡◌, ◌≢◌, ◌<◌, ◌+◌, ◌^◌, ◌⊎◌, inl, inr, ℕ, zero, suc, Bool, true, false, not, ◌&&◌, nat_eq, List, [], ◌∷◌, ◌++◌, map, set, take, drop, get_or, length, sym, subst, ap, ◌∙◌, refl, arith, nat_lt, remove, slice_index_or, list_all, bit_at, eq-eqb, eqb-false, le-ltb, lt-ltb, ne_eqb, drop-map, get_or_default, get_or-map, get_or-set_same, get_or-set_other, length-map, length-set, map-append, take-map, Target, Slot, Masks, AreMasks, AreSlots, HasCome, HasLeft, IsLowestFree, IsSet, fences, has, keeps_back, is_sequential, Record, advanced, is_in_service, is_unstarted, no_record, passed_by, no_target, AreKept, held, is_unfenced, kind_at, kind_of, shown, slot_at, with_due, with_item}
+use Rattle.mscp_queue.proofs.Common.{◌≡◌, ◌≢◌, ◌<◌, ◌+◌, ◌^◌, ◌⊎◌, inl, inr, ℕ, zero, suc, Bool, true, false, not, ◌&&◌, nat_eq, List, [], ◌∷◌, ◌++◌, map, set, take, drop, get_or, length, sym, subst, ap, ◌∙◌, refl, arith, nat_lt, remove, slice_index_or, list_all, bit_at, eq-eqb, eqb-false, le-ltb, lt-ltb, ne_eqb, drop-map, get_or_default, get_or-map, get_or-set_same, get_or-set_other, length-map, length-set, map-append, take-map, Target, Slot, Masks, AreMasks, AreSlots, HasCome, HasLeft, IsLowestFree, IsSet, IsLowestUntaken, Content, filled, numbers, fences, has, keeps_back, is_sequential, Record, advanced, is_in_service, is_unstarted, no_record, passed_by, no_target, AreKept, held, is_unfenced, kind_at, kind_of, shown, slot_at, with_due, with_item}
 use Rattle.mscp_queue.proofs.Freed.{free_tells}
 use Rattle.mscp_queue.proofs.Departed.{masks_left}
-use Rattle.mscp_queue.proofs.Masked.{has_other, masks_pushed, masks_served, not_behind, not_here, off_bit, same_or, slot_has, slot_low}
+use Rattle.mscp_queue.proofs.Masked.{has_other, masks_pushed, masks_served, not_behind, not_here, off_bit, one_bit, same_or, slot_has, slot_low}
 use Rattle.mscp_queue.proofs.Placed.{cut_at}
 
 module _ (rs : List Record) (own : List Target) (ds : List ℕ) (n : ℕ) (r : Record) (a : Target) (d : ℕ) where
@@ -18,7 +18,7 @@ module _ (rs : List Record) (own : List Target) (ds : List ℕ) (n : ℕ) (r : R
       (λ i. held_other s (not_here n s order e) i ∷ shown_other order (not_behind n s order e) i)
 
   pub held_same : n < length rs
-      → n < length own → n < length ds → held_then n ≡ record { item = r; target = a; due = d }
+      → n < length own → n < length ds → held_then n ≡ record { number = n; item = r; target = a; due = d }
   held_same l m k = search (arith, get_or-set_same)
 
 -- ---- a slot of the order
@@ -140,10 +140,26 @@ kept_pushed {rs}
 
 pub shown_pushed : {rs : List Record} {own : List Target} {order new : List ℕ} {m : Masks} {n : ℕ} (ds : List ℕ)
     (now : List Slot)
-    (s : Slot) → AreKept rs own order m → length ds ≡ 64 → IsLowestFree m.waiting n → shown rs own ds order ≡ now
-    → new ≡ order ++ n ∷ [] → shown (set rs n s.item) (set own n s.target) (set ds n s.due) new ≡ now ++ s ∷ []
+    (s : Content) → AreKept rs own order m → length ds ≡ 64 → IsLowestFree m.waiting n → shown rs own ds order ≡ now
+    → new ≡ order ++ n ∷ [] → shown (set rs n s.item) (set own n s.target) (set ds n s.due) new ≡ now ++ filled n s ∷ []
 shown_pushed {rs} {own} {order} {new} {m} {n} ds now s kept long free view e =
     search (arith, off_bit, map-append, shown_other, held_same)
+
+-- the numbers of the slots that are shown are those of the order
+shown_numbers : (rs : List Record) (own : List Target) (ds order : List ℕ) → numbers (shown rs own ds order) ≡ order
+shown_numbers rs own ds [] = refl
+shown_numbers rs own ds (s ∷ order) = ap (λ ys. s ∷ ys) (shown_numbers rs own ds order)
+
+-- the lowest slot whose bit isn't set is the lowest that isn't taken
+pub lowest_untaken : {rs : List Record} {own : List Target} {order : List ℕ} {m : Masks} {n : ℕ} (ds : List ℕ)
+    (now : List Slot) → AreKept rs own order m → IsLowestFree m.waiting n → shown rs own ds order ≡ now
+    → IsLowestUntaken n now
+lowest_untaken {rs} {own} {order} {m} {n} ds now kept free view = subst (IsLowestUntaken n) view (record {
+  untaken = ap (has n) (shown_numbers rs own ds order)
+      ∙ off_bit (has n order) (sym (kept.masks.of_waiting n free.low) ∙ free.free);
+  below = λ k l. ap (has k) (shown_numbers rs own ds order)
+      ∙ one_bit (has k order) (sym (kept.masks.of_waiting k (omega (arith, l, free.low))) ∙ free.taken k l);
+})
 
 -- ---- one slot changes
 -- where one slot holds something else, so does its place
@@ -168,6 +184,7 @@ item_set {rs} {own} {order} {m} {place} {n} {r} ds now f other kept view inside 
     let g = held (set rs n r) own ds in
     let same : (k : ℕ) → k ≢ get_or order place 0 → g k ≡ held rs own ds k = search (arith, get_or-set_other) in
     let there : g n ≡ with_item f (held rs own ds n) = λ i. record {
+      number = n;
       item = (get_or-set_same rs n r no_record (omega (arith, h.low, kept.records_64))
           ∙ e ∙ ap f (get_or_default rs n other no_record (omega (arith, h.low, kept.records_64)))) i;
       target = get_or own n no_target;

@@ -8,7 +8,7 @@ pub record IsCheapest (view : List Choice) (n place least : ℕ) : Type 0 where
   pub below : (k : ℕ) → k < n → least ≤ get_or (costs view) k 0
   pub first : (k : ℕ) → k < place → least < get_or (costs view) k 0
 
-cost_at : (view : List Choice) (k : ℕ) (other : Choice) → k < length view
+pub cost_at : (view : List Choice) (k : ℕ) (other : Choice) → k < length view
     → get_or (costs view) k 0 ≡ (get_or view k other).cost
 cost_at view k other l = get_or-map (λ (c : Choice). c.cost) view k other 0 l
 

@@ -1,8 +1,7 @@
 -- The due of a waiting command: the clock, and its figure.
 use Rattle.std.specs.Prelude.{◌≡◌, ℕ, ◌+◌, ◌-◌, ◌<◌, ◌^◌, if◌then◌else◌, List, [], ◌∷◌, ◌++◌, take, drop, map, sum_by}
-use Rattle.mscp_queue.specs.declared.slots.Slot.{Slot}
 use Rattle.mscp_queue.specs.Records.{Record, is_in_service, is_unstarted, left_if_serving, left_of, passed_by}
-use Rattle.mscp_queue.specs.Slots.{items, slot_at, with_due, with_item}
+use Rattle.mscp_queue.specs.Slots.{Slot, items, slot_at, with_due, with_item}
 
 -- the figure of a record, where so many steps are left before it, and so many of one in service after it
 abbrev pub figure_in : ℕ → ℕ → ℕ → Record → ℕ

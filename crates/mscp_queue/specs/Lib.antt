@@ -14,6 +14,7 @@ pub mod Candidates
 pub mod CountedViews
 pub mod Kept
 pub mod Targets
+pub mod Lanes
 pub mod Masks
 pub mod Slots
 pub mod Waiters

@@ -1,5 +1,5 @@
 -- Masks of slots, and the order of arrival as a list of slot numbers. Bit k of a mask stands for slot k.
-use Rattle.std.specs.Prelude.{◌≡◌, ◌≢◌, ℕ, slice_index_or, ◌<◌, ◌-◌, ◌==◌, min, ◌&&◌, ◌||◌, if◌then◌else◌, bit_and, cond, nat_eq, Bool, true, false, List, [], ◌∷◌, ◌++◌}
+use Rattle.std.specs.Prelude.{◌≡◌, ◌≢◌, ℕ, slice_index_or, ◌<◌, ◌-◌, min, ◌&&◌, ◌||◌, if◌then◌else◌, bit_and, cond, nat_eq, Bool, true, false, List, [], ◌∷◌, ◌++◌}
 use Rattle.std.specs.Int.{bit_at}
 use Rattle.mscp_queue.specs.declared.masks.Masks.{Masks}
 
@@ -90,7 +90,3 @@ abbrev pub IsBehind : ℕ → Masks → ℕ → Type 0
 IsBehind n m behind = (k : ℕ) → k < 64 → bit_at behind k
     ≡ cond (nat_eq k n) 0 (min (min (bit_at m.waiting k) (1 - bit_at (slice_index_or m.earlier n 0) k))
     (1 - bit_at m.serving k))
-
--- a number x of slot k, less by an amount where the bit of the slot is set
-abbrev pub lowered : ℕ → ℕ → ℕ → ℕ → ℕ
-lowered mask by k x = if bit_at mask k == 1 then x - by else x

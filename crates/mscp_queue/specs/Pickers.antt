@@ -16,6 +16,11 @@ pub record IsFirstLeast (numbers : List ℕ) (place : ℕ) : Type 0 where
 abbrev pub costs : List Choice → List ℕ
 costs view = map (λ choice. choice.cost) view
 
+-- of each choice this row has the cost at its place
+pub record IsRow (row : List ℕ) (view : List Choice) : Type 0 where
+  pub few : length view ≤ 64
+  pub each : (k : ℕ) → k < length view → slice_index_or row k 0 ≡ slice_index_or (costs view) k 0
+
 -- what the sweep may pick: the first place of a view that has the least cost (profile)
 abbrev pub IsSweep : List Choice → ℕ → Type 0
 IsSweep view place = IsFirstLeast (costs view) place

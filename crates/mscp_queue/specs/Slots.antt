@@ -1,26 +1,37 @@
 -- What the slots show: the waiting commands in order of arrival.
-use Rattle.std.specs.Prelude.{◌≡◌, ℕ, ◌<◌, ◌-◌, Bool, true, not, if◌then◌else◌, List, [], ◌∷◌, length, map, take, slice_index_or}
+use Rattle.std.specs.Prelude.{◌≡◌, ℕ, ◌<◌, ◌-◌, Bool, true, false, not, if◌then◌else◌, List, [], ◌∷◌, length, map, take, slice_index_or}
 use Rattle.std.specs.List.{list_all}
 use Rattle.mscp_queue.specs.declared.target.Target.{Target}
 use Rattle.mscp_queue.specs.declared.masks.Masks.{Masks}
-use Rattle.mscp_queue.specs.declared.slots.Slot.{Slot}
+use Rattle.mscp_queue.specs.declared.slots.Content.{Content}
 use Rattle.mscp_queue.specs.Targets.{no_target}
 use Rattle.mscp_queue.specs.Masks.{AreMasks, Kind, has, keeps_back}
 use Rattle.mscp_queue.specs.Orders.{is_sequential}
 use Rattle.mscp_queue.specs.Records.{Record, is_in_service, no_record}
 
+-- a slot that is taken: its number, and what it holds
+pub record Slot : Type 0 where
+  pub number : ℕ
+  pub item : Record
+  pub target : Target
+  pub due : ℕ
+
 -- a slot of nothing, which stands past the end of a list
 abbrev pub no_slot : Slot
-no_slot = record { item = no_record; target = no_target; due = 0 }
+no_slot = record { number = 0; item = no_record; target = no_target; due = 0 }
 
--- what the slot of this number holds
+-- the slot of this number with this content
+abbrev pub filled : ℕ → Content → Slot
+filled n c = record { number = n; item = c.item; target = c.target; due = c.due }
+
+-- the slot of this number, and what it holds
 abbrev pub held : List Record → List Target → List ℕ → ℕ → Slot
 held records targets dues k =
     record {
+      number = k;
       item = slice_index_or records k no_record;
       target = slice_index_or targets k no_target;
-      due =
-          slice_index_or dues k 0;
+      due = slice_index_or dues k 0;
     }
 
 -- what the slots of these numbers hold
@@ -31,7 +42,10 @@ shown records targets dues order = map (held records targets dues) order
 abbrev pub slot_at : List Slot → ℕ → Slot
 slot_at slots place = slice_index_or slots place no_slot
 
--- the records, the targets and the dues of slots
+-- the numbers, the records, the targets and the dues of slots
+abbrev pub numbers : List Slot → List ℕ
+numbers slots = map (λ s. s.number) slots
+
 abbrev pub items : List Slot → List Record
 items slots = map (λ s. s.item) slots
 
@@ -40,6 +54,11 @@ targets slots = map (λ s. s.target) slots
 
 abbrev pub dues : List Slot → List ℕ
 dues slots = map (λ s. s.due) slots
+
+-- no slot of this number is taken, and each below it is
+pub record IsLowestUntaken (n : ℕ) (slots : List Slot) : Type 0 where
+  pub untaken : has n (numbers slots) ≡ false
+  pub below : (k : ℕ) → k < n → has k (numbers slots) ≡ true
 
 -- what the masks tell of a slot
 abbrev pub kind_of : Slot → Kind
@@ -73,7 +92,7 @@ is_unfenced_at ks place = list_all (λ z. not (keeps_back z (slice_index_or ks p
 
 -- a slot whose due is so much less
 abbrev pub lowered_by : ℕ → Slot → Slot
-lowered_by by s = record { item = s.item; target = s.target; due = s.due - by }
+lowered_by by s = record { number = s.number; item = s.item; target = s.target; due = s.due - by }
 
 -- the same, but for a command in service
 abbrev pub lowered_unless_serving : ℕ → Slot → Slot
@@ -81,11 +100,11 @@ lowered_unless_serving by s = if is_in_service s.item then s else lowered_by by 
 
 -- the same with another record
 abbrev pub with_item : (Record → Record) → Slot → Slot
-with_item f s = record { item = f s.item; target = s.target; due = s.due }
+with_item f s = record { number = s.number; item = f s.item; target = s.target; due = s.due }
 
 -- the same with another due
 abbrev pub with_due : ℕ → Slot → Slot
-with_due due s = record { item = s.item; target = s.target; due = due }
+with_due due s = record { number = s.number; item = s.item; target = s.target; due = due }
 
 -- what the masks tell of the slot of this number
 abbrev pub kind_at : List Record → List Target → ℕ → Kind

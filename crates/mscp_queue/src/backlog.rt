@@ -9,7 +9,7 @@ use crate::counted_view::CountedView;
 use crate::drive::Drive;
 use crate::name::Name;
 use crate::record::Record;
-use crate::slots::{Slot, Slots};
+use crate::slots::{Content, Slots};
 use crate::target::Target;
 use arrayvec::ArrayVec;
 use mscp_events::Connection;
@@ -227,7 +227,7 @@ impl Backlog {
     {
         let left = u64::from(new.left());
         let due = self.clock + self.total + u64::from(self.budget) + left;
-        self.slots.push(Slot {
+        self.slots.push(Content {
             item: new,
             target,
             due,

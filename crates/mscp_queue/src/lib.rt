@@ -5,6 +5,7 @@ mod backlog;
 mod candidates;
 mod counted_view;
 mod drive;
+pub mod lanes;
 mod lowering;
 mod masks;
 mod name;

@@ -1,9 +1,10 @@
 // Who picks the command that starts.
 
-ghost use Rattle.std.specs.Prelude.{◌≡◌, ◌<◌, [], length};
-ghost use Rattle.mscp_queue.specs.Pickers.{IsSweep};
+ghost use Rattle.std.specs.Prelude.{◌≡◌, ◌<◌, ◌≤◌, ◌-◌, ◌^◌, [], length};
+ghost use Rattle.mscp_queue.specs.Pickers.{IsRow, IsSweep};
 
-use crate::view::View;
+use crate::lanes::least;
+use crate::view::{Choice, View};
 
 /// Picks the command that starts, of those that may. Any choice is lawful: what a queue shows may start, and the
 /// budget of each waiting command is kept, whoever picks.
@@ -51,6 +52,53 @@ impl Picker for Oldest {
     }
 }
 
+/// The place of the first of the cheapest choices, one after the other: 0 if there is none.
+fn cheapest(choices: &[Choice]) -> usize
+    ensures empty { choices.now ≡ [] → result ≡ 0 }
+    ensures sweep { 0 < length choices.now → IsSweep choices.now result }
+{
+    if choices.is_empty() {
+        return 0;
+    }
+    let mut best = 0;
+    let mut least = choices[0].cost;
+    for place in 1..choices.len() {
+        let cost = choices[place].cost;
+        if cost < least {
+            best = place;
+            least = cost;
+        }
+    }
+    best
+}
+
+/// What the choices cost, each at its place of a row, where lanes can read it.
+fn row_of(choices: &[Choice]) -> [u64; 64]
+    requires { length choices.now ≤ 64 }
+    ensures { IsRow result choices.now }
+{
+    let mut row = [0; 64];
+    for place in 0..choices.len() {
+        row[place] = choices[place].cost;
+    }
+    row
+}
+
+/// The bits of so many places, from the first on.
+fn bits_of(places: usize) -> u64
+    requires { places ≤ 64 }
+    ensures { result ≡ 2 ^ places - 1 }
+{
+    if places < 64 {
+        (1 << places) - 1
+    } else {
+        u64::MAX
+    }
+}
+
+/// From so many choices on, lanes find the least cost.
+const MANY: usize = 9;
+
 /// Picks the command whose start costs the least, and of those the oldest: an elevator over all units (profile).
 #[derive(Clone, Copy, Debug, Default, PartialEq, Eq)]
 pub struct Sweep;
@@ -63,19 +111,11 @@ impl Picker for Sweep {
         ensures sweep { 0 < length view.now → IsSweep view.now result }
     {
         let choices = view.choices();
-        if choices.is_empty() {
-            return 0;
+        if choices.len() < MANY {
+            cheapest(choices)
+        } else {
+            least(&row_of(choices), bits_of(choices.len())).unwrap_or(0)
         }
-        let mut best = 0;
-        let mut least = choices[0].cost;
-        for place in 1..choices.len() {
-            let cost = choices[place].cost;
-            if cost < least {
-                best = place;
-                least = cost;
-            }
-        }
-        best
     }
 
     fn takes_first(&self, most: usize) -> bool {

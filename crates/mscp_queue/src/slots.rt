@@ -2,7 +2,7 @@
 // keeps whom back.
 
 ghost use Rattle.std.specs.Prelude.{◌≡◌, ◌+◌, ◌<◌, ◌≤◌, ◌^◌, ◌++◌, ◌∷◌, true, false, [], List, length, map, not, take, drop, slice_set, All};
-ghost use Rattle.mscp_queue.specs.Common.{list_all, is_sequential, advanced, is_in_service, passed_by, IsOnUnit, AreOnDrive, IsRecosted, targets, dues, is_unfenced, items, lowered_by, lowered_unless_serving, shown, slot_at, with_due, with_item};
+ghost use Rattle.mscp_queue.specs.Common.{list_all, is_sequential, advanced, is_in_service, passed_by, IsOnUnit, AreOnDrive, IsLowestUntaken, IsRecosted, targets, dues, filled, is_unfenced, items, lowered_by, lowered_unless_serving, shown, slot_at, with_due, with_item};
 
 use crate::counted_view::CountedView;
 use crate::drive::Drive;
@@ -15,7 +15,7 @@ use std::marker::Model;
 
 /// What a slot holds: the record of a waiting command, its target, and its due.
 #[derive(Clone, Copy)]
-pub(crate) struct Slot {
+pub(crate) struct Content {
     pub item: Record,
     pub target: Target,
     pub due: u64,
@@ -32,10 +32,10 @@ pub(crate) struct Slots {
     masks: Masks,
 }
 
-// A clause sees what the slots hold, in order of arrival.
+// A clause sees the slots that are taken, with their numbers, in order of arrival.
 impl Model for Slots {
     ghost use Rattle.mscp_queue.specs.Common.{List, AreKept, shown};
-    ghost use Rattle.mscp_queue.specs.declared.slots.Slot.{Slot as Shown};
+    ghost use Rattle.mscp_queue.specs.Slots.{Slot as Shown};
 
     ghost Value = { List Shown };
 
@@ -73,11 +73,12 @@ impl Slots {
         self.order.len()
     }
 
-    /// Takes the lowest free slot for a command that came last.
-    pub fn push(&mut self, new: Slot)
+    /// Takes the lowest free slot for a command that came last, and gives its number.
+    pub fn push(&mut self, new: Content) -> usize
         requires room { length self.old < 64 }
         requires drive { new.target.drive < 16 }
-        ensures { self.new ≡ self.old ++ new ∷ [] }
+        ensures lowest { IsLowestUntaken result self.old }
+        ensures after { self.new ≡ self.old ++ filled result new ∷ [] }
     {
         let slot = lowest_free(self.masks.waiting);
         self.records[slot] = new.item;
@@ -90,6 +91,7 @@ impl Slots {
             !new.item.is_unstarted(),
         );
         self.order.push(slot as u8);
+        slot
     }
 
     /// The command at the place leaves its slot.

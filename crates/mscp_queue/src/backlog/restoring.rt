@@ -6,7 +6,7 @@ ghost use Rattle.mscp_queue.specs.Common.{targets_of, figure_in, is_known, units
 use crate::backlog::Backlog;
 use crate::drive::Drive;
 use crate::record::Record;
-use crate::slots::{Slot, Slots};
+use crate::slots::{Content, Slots};
 use crate::target::Target;
 
 /// How many steps are left of the record, if it is in service.
@@ -66,7 +66,7 @@ impl Backlog {
         for place in 0..records.len() {
             let item = records[place];
             behind -= left_if_serving(&item);
-            slots.push(Slot {
+            slots.push(Content {
                 item,
                 target: Target::of(&item.command(), drives),
                 due: figure_in(budget, before, behind, &item),

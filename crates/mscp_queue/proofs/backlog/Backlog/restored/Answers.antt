@@ -1,5 +1,5 @@
 use Rattle.mscp_queue.proofs.Basics.{ap, ◌∙◌, arith, sum_by, take_all, units_of, left_of, place_inside}
-use Rattle.mscp_queue.proofs.Restored.{shown, slots_all, timed}
+use Rattle.mscp_queue.proofs.Restored.{contents, contents_all, shown, timed}
 use Rattle.mscp_queue.proofs.backlog.Backlog.restored.Goals as goal
 
 pub push-requires-clause-drive : goal.push-requires-clause-drive
@@ -9,9 +9,9 @@ pub invariant_of-result : goal.invariant_of-result
 invariant_of-result c =
     let us = units_of c.args.drives.now in
     timed c.args.budget us c.loop-place.slots c.loop-place.before c.args.records.now (omega arith)
-    (slots_all c.args.budget us c.loop-place.slots c.loop-place.before c.loop-place.place
+    (contents_all c.args.budget us (contents c.loop-place.slots) c.loop-place.before c.loop-place.place
     c.args.records.now c.loop-place-test.false c.loop-place.invariant.slots) (c.loop-place.invariant.before ∙ ap
     (sum_by left_of) (take_all c.loop-place.place c.args.records.now c.loop-place-test.false))
 
 pub returns : goal.returns
-returns c = search (arith, shown, slots_all)
+returns c = search (arith, shown, contents_all)

@@ -1,18 +1,12 @@
-use Rattle.mscp_queue.proofs.Common.{arith, ap, subst, length, IsSweep}
-use Rattle.mscp_queue.proofs.Swept.{cheaper, no_cheaper, swept}
+use Rattle.mscp_queue.proofs.Common.{◌^◌, ◌-◌, ◌∙◌, List, length, ap, subst, sym, Choice, IsRow, IsSweep}
+use Rattle.mscp_queue.proofs.Row.{swept_there}
 use Rattle.mscp_queue.proofs.picker.SweepPicker.pick.Goals as goal
-use Rattle.mscp_queue.proofs.picker.SweepPicker.pick.Goals.{then-cost-least, else-cost-least}
 
-pub loop-place-preserved : goal.loop-place-preserved
-loop-place-preserved c = elim c.if-cost-least.branch [
-  | then-cost-least w ↦ cheaper
-      _ c.loop-place.invariant c.loop-place-test.true w.if-cost-least.true w.best-is w.least-is
-  | else-cost-least w ↦ no_cheaper
-      _ c.loop-place.invariant c.loop-place-test.true w.if-cost-least.false w.best-is w.least-is
-]
-
-pub returns-clause-sweep : goal.returns-clause-sweep
-returns-clause-sweep c = λ some.
-    let long = ap length c.choices-choices.ensures.value in
-    subst (λ view. IsSweep view c.loop-place.best) c.choices-choices.ensures.value (swept
-    c.loop-place.invariant (omega (arith, long, some, c.loop-place-test.false, c.loop-place.auto.place-end)))
+pub returns-else-choices-lt-MANY-clause-sweep : goal.returns-else-choices-lt-MANY-clause-sweep
+returns-else-choices-lt-MANY-clause-sweep c = λ some.
+    let is = c.choices-choices.ensures.value in
+    subst (IsSweep c.args.view.now) (sym c.unwrap_or.ensures)
+    (swept_there c.row_of.result c.args.view.now c.bits_of.result c.least.result
+    (subst (IsRow c.row_of.result) is c.row_of.ensures)
+    (c.bits_of.ensures ∙ ap (λ (xs : List Choice). 2 ^ length xs - 1) is)
+    c.least.ensures.some c.least.ensures.none some)

@@ -1,4 +1,5 @@
 use Rattle.mscp_queue.proofs.Basics.{not, ap, ◌∙◌, arith, some_free, kept_pushed, long_shown, serves_if, shown_pushed}
+use Rattle.mscp_queue.proofs.Shown.{lowest_untaken}
 use Rattle.mscp_queue.proofs.slots.Slots.push.Goals as goal
 
 pub lowest_free-slot-requires : goal.lowest_free-slot-requires
@@ -12,5 +13,9 @@ invariant_of-self c = kept_pushed c.args.new.item c.args.new.target
     c.self.invariant c.lowest_free-slot.ensures c.requires.drive c.from.ensures c.is_sequential.ensures
     (ap not c.is_unstarted.ensures ∙ serves_if c.args.new.item.done) c.come.ensures c.push.ensures.items
 
-pub returns : goal.returns
-returns c = search (arith, shown_pushed)
+pub returns-clause-lowest : goal.returns-clause-lowest
+returns-clause-lowest c = lowest_untaken
+    c.self.inside.dues c.args.self.now c.self.invariant c.lowest_free-slot.ensures c.self.view_is
+
+pub returns-clause-after : goal.returns-clause-after
+returns-clause-after c = search (arith, shown_pushed)

@@ -1,5 +1,5 @@
 use Rattle.mscp_queue.proofs.Lowers.{LowersRest}
-use Rattle.mscp_queue.proofs.lowering.lower.Given as goal
+use Rattle.mscp_queue.proofs.lowering.lower_each.Given as goal
 
 abbrev pub invariant-loop-slot : goal.invariant-loop-slot
 invariant-loop-slot l = LowersRest l.mask l.by l.left l.fn.dues l.dues
