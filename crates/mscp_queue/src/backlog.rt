@@ -90,6 +90,20 @@ impl Backlog {
         }
     }
 
+    /// The same, but for the clock: so a test comes to its end.
+    #[cfg(test)]
+    pub fn at_clock(budget: u32, clock: u64) -> Backlog
+        requires early { clock < clock_end }
+        ensures { result ≡ record { budget = budget; waiting = []; targets = [] } }
+    {
+        Backlog {
+            slots: Slots::new(),
+            budget,
+            clock,
+            total: 0,
+        }
+    }
+
     /// No command waits any more.
     pub fn clear(&mut self)
         ensures { self.new ≡ record { budget = self.old.budget; waiting = []; targets = [] } }

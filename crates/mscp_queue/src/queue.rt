@@ -294,3 +294,6 @@ impl<K: Picker> Queue<K> {
         }
     }
 }
+
+#[cfg(test)]
+mod tests;

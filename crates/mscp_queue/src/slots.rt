@@ -238,3 +238,6 @@ impl Slots {
         self.masks.is_last_unit(slot, drive)
     }
 }
+
+#[cfg(test)]
+mod tests;
