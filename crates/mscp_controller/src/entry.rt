@@ -1,7 +1,7 @@
 // What a controller answers.
 
 use arrayvec::ArrayVec;
-use mscp_events::Connection;
+use mscp_drive::Connection;
 use mscp_packet::PacketFault;
 use mscp_queue::Report;
 

@@ -2,7 +2,7 @@
 pub use Rattle.mscp_drive.specs.Heads.{distance}
 pub use Rattle.mscp_drive.specs.Shape.{one_block}
 pub use Rattle.mscp_drive.specs.UnitList.{IsUnitList}
-pub use Rattle.mscp_events.specs.declared.connection.Connection.TheVariants.{First}
+pub use Rattle.mscp_drive.specs.declared.connection.Connection.TheVariants.{First}
 pub use Rattle.mscp_packet.specs.Ends.{IsOfKind}
 pub use Rattle.mscp_packet.specs.declared.class.Class.TheVariants.{Unknown}
 pub use Rattle.mscp_queue.specs.Candidates.{AreCandidates, AreOnDrive, IsPrepared, IsRecosted, IsRenewed, choice_in, costing, has_choice_name, no_choice}

@@ -1,6 +1,6 @@
 // What a step reports.
 
-use mscp_events::Connection;
+use mscp_drive::Connection;
 use mscp_packet::End;
 
 /// What a step did.

@@ -6,7 +6,7 @@ ghost use Rattle.mscp_queue.specs.Common.{first_block, upcoming_of};
 use crate::drive::Drive;
 use crate::plan::touched;
 use crate::record::Record;
-use mscp_events::Connection;
+use mscp_drive::Connection;
 use mscp_packet::Command;
 
 /// What the next step serves: the command and the connection that it came by, the block that the step touches, how many

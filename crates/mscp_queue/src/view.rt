@@ -5,7 +5,7 @@ ghost use Rattle.mscp_queue.specs.Common.{costing, no_choice, choice_name};
 
 use crate::name::Name;
 use arrayvec::ArrayVec;
-use mscp_events::Connection;
+use mscp_drive::Connection;
 use mscp_packet::Class;
 use std::fmt;
 use std::fmt::{Debug, Formatter, Write};

@@ -4,7 +4,7 @@ ghost use Rattle.std.specs.Prelude.{◌≡◌, ◌≤◌, length};
 ghost use Rattle.mscp_reader.specs.Common.{cause_word, in_line};
 ghost use Rattle.mscp_reader.specs.declared.fault.ReadFault.TheVariants as variants;
 
-use mscp_events::OutOfMemory;
+use mscp_drive::OutOfMemory;
 use thiserror::Error;
 
 /// What is wrong with a line: the first that holds, in this order.

@@ -2,10 +2,10 @@
 
 ghost use Rattle.std.specs.Prelude.{◌≡◌, ℕ, find, option_copied, OnOk};
 ghost use Rattle.mscp_wire.specs.Wire.{identity_in, is_unit, kept, known_after_end, with_unit, without};
-ghost use Rattle.mscp_events.specs.declared.connection.Connection as connections;
+ghost use Rattle.mscp_drive.specs.declared.connection.Connection as connections;
 
 use crate::answer::Answer;
-use mscp_events::{Connection, OutOfMemory};
+use mscp_drive::{Connection, OutOfMemory};
 use mscp_packet::fields::{eight_at, four_at};
 use std::alloc::Allocator;
 

@@ -3,7 +3,7 @@
 ghost use Rattle.std.specs.Prelude.{◌≡◌, ◌-◌};
 
 use crate::connection::Connection;
-use mscp_drive::Units;
+use crate::units::Units;
 use std::marker::Model;
 
 /// Why limits are refused: the first that holds, in this order.
@@ -33,7 +33,7 @@ pub struct Config {
 
 // A clause sees the limits and the units.
 impl Model for Config {
-    ghost use Rattle.mscp_events.specs.Settings.{IsValid, Settings};
+    ghost use Rattle.mscp_drive.specs.Settings.{IsValid, Settings};
 
     ghost Value = { Settings };
 
@@ -79,7 +79,7 @@ fn room_for(credits: u32) -> u32
 }
 
 impl Config {
-    ghost use Rattle.mscp_events.specs.Settings.{configured, credits_of, room, IsValid, Settings};
+    ghost use Rattle.mscp_drive.specs.Settings.{configured, credits_of, room, IsValid, Settings};
 
     /// The limits, if a controller can keep them: `credits` commands and untaken ends of the first connection at most, and
     /// `second` of the second, each waiting command passed by at most `budget` blocks, transfers of at most `longest`
