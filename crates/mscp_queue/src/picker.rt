@@ -32,7 +32,7 @@ pub trait Picker {
 }
 
 /// Picks the oldest command that may start.
-#[derive(Clone, Copy, Debug, Default, PartialEq, Eq)]
+#[derive(Clone, Copy, Default)]
 pub struct Oldest;
 
 impl Picker for Oldest {
@@ -52,7 +52,7 @@ impl Picker for Oldest {
 }
 
 /// Picks the command whose start costs the least, and of those the oldest: an elevator over all units (profile).
-#[derive(Clone, Copy, Debug, Default, PartialEq, Eq)]
+#[derive(Clone, Copy, Default)]
 pub struct Sweep;
 
 impl Picker for Sweep {

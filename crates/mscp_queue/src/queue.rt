@@ -24,7 +24,7 @@ use std::marker::Model;
 use std::mem::replace;
 
 /// A command that is to wait, and how many steps it takes.
-#[derive(Clone, Copy, Debug, PartialEq, Eq)]
+#[derive(Clone, Copy)]
 pub struct Waiting {
     /// The connection that it came by, and that its end goes to.
     pub connection: Connection,

@@ -4,7 +4,7 @@ use mscp_drive::Connection;
 use mscp_packet::End;
 
 /// What a step did.
-#[derive(Clone, Copy, Debug, PartialEq, Eq)]
+#[derive(Clone, Copy)]
 pub enum Report {
     /// Nothing waits.
     Idle,

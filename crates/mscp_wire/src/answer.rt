@@ -15,7 +15,7 @@ pub const ABORT: u8 = 1;
 pub const STATUS: u8 = 2;
 
 /// An end: what its message says.
-#[derive(Clone, Copy, Debug, PartialEq, Eq)]
+#[derive(Clone, Copy)]
 pub struct Answer {
     pub connection: Connection,
     pub reference: u32,

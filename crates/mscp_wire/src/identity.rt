@@ -10,7 +10,7 @@ use mscp_packet::fields::{eight_at, four_at};
 use std::alloc::Allocator;
 
 /// What an end says of its unit (manual, "End Messages").
-#[derive(Clone, Copy, Debug, PartialEq, Eq)]
+#[derive(Clone, Copy)]
 pub struct Identity {
     /// The unit identifier.
     pub identifier: u64,
@@ -21,7 +21,7 @@ pub struct Identity {
 }
 
 /// A unit that is online to the host of a connection.
-#[derive(Clone, Copy, Debug, PartialEq, Eq)]
+#[derive(Clone, Copy)]
 pub struct Online {
     pub connection: Connection,
     pub unit: u16,

@@ -8,7 +8,7 @@ use mscp_packet::fields::{four_at, two_at};
 use mscp_packet::{Class, class_of};
 
 /// A command that is outstanding: what its message says, and the figure that was last told of it.
-#[derive(Clone, Copy, Debug, PartialEq, Eq)]
+#[derive(Clone, Copy)]
 pub struct Sent {
     pub connection: Connection,
     pub reference: u32,
