@@ -128,7 +128,7 @@ MSCP_PORT_SAVED_MAX|docs/C.md docs/SAVED.md crates/mscp_port/README.md
 MSCP_SIZE|docs/SPEED.md
 MSCP_HOST_SIZE|docs/SPEED.md
 MSCP_PORT_SIZE|docs/SPEED.md
-crates/mscp_events/specs/Settings.antt:c\.longest ≤ [0-9]+|docs/FORMATS.md docs/USING.md docs/mscpq.1 include/mscp.h
+crates/mscp_drive/specs/Settings.antt:c\.longest ≤ [0-9]+|docs/FORMATS.md docs/USING.md docs/mscpq.1 include/mscp.h
 crates/mscp_reader/specs/Grammar.antt:length bytes ≤ [0-9]+|docs/FORMATS.md docs/mscpq.1 include/mscp.h
 crates/mscp_reader/specs/Grammar.antt:length new\) [0-9]+|docs/FORMATS.md docs/mscpq.1 include/mscp.h
 END

@@ -42,11 +42,11 @@ pub use Rattle.mscp_drive.specs.Shape.{Shape}
 pub use Rattle.mscp_drive.specs.UnitList.{IsUnitList, NumbersRise}
 pub use Rattle.mscp_drive.specs.declared.units.UnitsFault.{UnitsFault}
 pub use Rattle.mscp_drive.specs.declared.units.UnitsFault.TheVariants.{Empty, NotAscending, TooMany}
-pub use Rattle.mscp_events.specs.Both.{of}
-pub use Rattle.mscp_events.specs.Settings.{IsValid, Settings}
-pub use Rattle.mscp_events.specs.declared.block.Block.{Block}
-pub use Rattle.mscp_events.specs.declared.connection.Connection.{Connection}
-pub use Rattle.mscp_events.specs.declared.connection.Connection.TheVariants.{First}
+pub use Rattle.mscp_drive.specs.Both.{of}
+pub use Rattle.mscp_drive.specs.Settings.{IsValid, Settings}
+pub use Rattle.mscp_drive.specs.declared.block.Block.{Block}
+pub use Rattle.mscp_drive.specs.declared.connection.Connection.{Connection}
+pub use Rattle.mscp_drive.specs.declared.connection.Connection.TheVariants.{First}
 pub use Rattle.mscp_host.specs.Accounts.{Account}
 pub use Rattle.mscp_memory.specs.ControllerHandles.{placed, room_fault}
 pub use Rattle.mscp_memory.specs.Policies.{PolicyPicks}

@@ -1,7 +1,7 @@
 -- Calls on a handle are calls of the controller that its memory holds.
 use Rattle.mscp_c.proofs.Common.{◌≡◌, ℕ, List, [], ◌∷◌, ◌++◌, length, map, refl, ap, sym, ◌∙◌, subst, append_assoc, append-nil, ℤ, pos, filter, MatchOption, Option, Some, None, Ok, Err, length-map, ArrayVec, Connection, Name, name_on, same_connection, Block, Drive, Choice, is_online_in, Holder, figure_of_name, holders_of_name, Line, Record, name_of, filter_map_of, Settings, IsValid, balance, untaken, of, figure_of, holders_of, Trace, Holdings, answer_to_message, balance_of, end_taken, fresh, waiting_on, connection, name, waiting, waiting_by, AnsweredCalls, AnswersCall, Call, history, ControllersKeepThePromise, owner_kept, Policy, PolicyPicks, HolderOut, PacketOut, ReportOut, SentOut, BAD_CONNECTION, BAD_STATUS, connection_given, block_told, figure_in, figures_in, flag, holders_in, holders_told, TellsFinish, TellsStep, AnsweredByHandle, AnswersFinish, AnswersHandle, AnswersOf, AnswersSend, AnswersTake, AnswersWhy, HandleCall, HandlesKeepThePromise, Refuses, Tells, TellsAll, TellsBlock, TellsFinished, TellsRefused, TellsSent, TellsStepped, TellsTaken, TellsWhy}
 use Rattle.mscp_memory.specs.ControllerHandles.{Handle, Held}
-use Rattle.mscp_events.specs.declared.event.Event.TheVariants as events
+use Rattle.mscp_drive.specs.declared.event.Event.TheVariants as events
 use Rattle.mscp_controller.specs.declared.entry.Entry.TheVariants as entries
 use Rattle.mscp_controller.specs.Calls as calls
 use Rattle.mscp_c.specs.Given.{TellsSettings}

@@ -4,9 +4,9 @@ use Rattle.mscp_drive.specs.Shape.{Shape}
 use Rattle.mscp_drive.specs.declared.unit.UnitFault.{UnitFault}
 use Rattle.mscp_drive.specs.declared.unit.UnitFault.TheVariants.{ZeroTrack, ZeroGroup, ZeroCylinder, ZeroSize}
 use Rattle.mscp_drive.specs.declared.units.UnitsFault.TheVariants.{TooMany, NotAscending, Empty}
-use Rattle.mscp_events.specs.declared.connection.Connection.{Connection}
-use Rattle.mscp_events.specs.declared.connection.Connection.TheVariants as connections
-use Rattle.mscp_events.specs.Settings.{Settings}
+use Rattle.mscp_drive.specs.declared.connection.Connection.{Connection}
+use Rattle.mscp_drive.specs.declared.connection.Connection.TheVariants as connections
+use Rattle.mscp_drive.specs.Settings.{Settings}
 use Rattle.mscp_memory.specs.declared.policy.Policy.{Policy}
 use Rattle.mscp_memory.specs.declared.policy.Policy.TheVariants as policies
 use Rattle.mscp_c.specs.declared.units.Limits.{Limits}

@@ -2,18 +2,18 @@
 use Rattle.std.specs.Prelude.{◌≡◌, ℕ, ℤ, pos, List, [], ◌∷◌, ◌++◌, length, map, Option, MatchOption, Result, Ok}
 use Rattle.arrayvec.specs.ArrayVec.{ArrayVec}
 use Rattle.mscp_queue.specs.Names.{name_on}
-use Rattle.mscp_events.specs.declared.connection.Connection.{Connection}
-use Rattle.mscp_events.specs.declared.block.Block.{Block}
+use Rattle.mscp_drive.specs.declared.connection.Connection.{Connection}
+use Rattle.mscp_drive.specs.declared.block.Block.{Block}
 use Rattle.mscp_queue.specs.declared.report.Report.{Report}
 use Rattle.mscp_queue.specs.declared.upcoming.Upcoming.{Upcoming}
 use Rattle.mscp_queue.specs.Drives.{is_online_in}
-use Rattle.mscp_events.specs.declared.event.Event.TheVariants as events
+use Rattle.mscp_drive.specs.declared.event.Event.TheVariants as events
 use Rattle.mscp_controller.specs.declared.entry.Entry.TheVariants as entries
 use Rattle.mscp_controller.specs.declared.entry.SendFault.{SendFault}
 use Rattle.mscp_controller.specs.declared.entry.Sent.{Sent}
 use Rattle.mscp_controller.specs.declared.entry.NotBegun.{NotBegun}
-use Rattle.mscp_events.specs.Settings.{Settings, IsValid}
-use Rattle.mscp_events.specs.Both.{of}
+use Rattle.mscp_drive.specs.Settings.{Settings, IsValid}
+use Rattle.mscp_drive.specs.Both.{of}
 use Rattle.mscp_controller.specs.Holdings.{after_message, after_take, answer_to_message, balance_of, end_taken, fresh, waiting_on}
 use Rattle.mscp_controller.specs.Commands.{waiting_by}
 use Rattle.mscp_controller.specs.Account.{untaken, balance}

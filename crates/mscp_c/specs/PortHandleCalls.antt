@@ -25,7 +25,7 @@ use Rattle.mscp_port.specs.Volumes.{volume_changed, volume_protected}
 use Rattle.mscp_port.specs.declared.volumes.VolumeFault.{VolumeFault}
 use Rattle.mscp_c.specs.Told.{begin_code, figures_in, figures_told, holders_in, holders_told, upcoming_told}
 use Rattle.mscp_controller.specs.Holdings.{begun_step}
-use Rattle.mscp_events.specs.declared.connection.Connection.{Connection}
+use Rattle.mscp_drive.specs.declared.connection.Connection.{Connection}
 use Rattle.mscp_c.specs.declared.port_given.MediumIn.{MediumIn}
 use Rattle.mscp_c.specs.PortGiven.{medium_given, outcome_given}
 use Rattle.mscp_c.specs.PortSaving.{restored_by}

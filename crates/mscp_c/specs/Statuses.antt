@@ -4,8 +4,8 @@ use Rattle.mscp_drive.specs.declared.unit.UnitFault.{UnitFault}
 use Rattle.mscp_drive.specs.declared.unit.UnitFault.TheVariants as unit
 use Rattle.mscp_drive.specs.declared.units.UnitsFault.{UnitsFault}
 use Rattle.mscp_drive.specs.declared.units.UnitsFault.TheVariants as units
-use Rattle.mscp_events.specs.declared.config.ConfigFault.{ConfigFault}
-use Rattle.mscp_events.specs.declared.config.ConfigFault.TheVariants as limits
+use Rattle.mscp_drive.specs.declared.config.ConfigFault.{ConfigFault}
+use Rattle.mscp_drive.specs.declared.config.ConfigFault.TheVariants as limits
 use Rattle.mscp_controller.specs.declared.entry.SendFault.{SendFault}
 use Rattle.mscp_controller.specs.declared.entry.SendFault.TheVariants as sends
 use Rattle.mscp_host.specs.declared.news.HostFault.{HostFault}

@@ -28,7 +28,7 @@ pub struct MediumIn {
 }
 
 /// Why no port is made: the first that holds, in this order.
-#[derive(Clone, Copy, PartialEq, Eq)]
+#[derive(Clone, Copy)]
 pub(crate) enum PortInitFault {
     /// There is no such controller, or no room.
     Controller(InitFault),

@@ -35,7 +35,7 @@ pub struct UnitIn {
 }
 
 /// Why no controller is made: the first that holds, in this order.
-#[derive(Clone, Copy, PartialEq, Eq)]
+#[derive(Clone, Copy)]
 pub(crate) enum InitFault {
     /// The handle has no room.
     Room(RoomFault),

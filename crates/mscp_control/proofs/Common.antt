@@ -35,11 +35,11 @@ pub use Rattle.mscp_controller.specs.Legal.{IsLegal}
 pub use Rattle.mscp_drive.specs.Heads.{distance}
 pub use Rattle.mscp_drive.specs.Shape.{Shape, cylinder_of}
 pub use Rattle.mscp_drive.specs.declared.head.Head.{Head}
-pub use Rattle.mscp_events.specs.Both.{Both, of, put}
-pub use Rattle.mscp_events.specs.Settings.{IsValid, Settings, bound, credits_of, room, room_of, unit_found}
-pub use Rattle.mscp_events.specs.declared.block.Block.TheVariants.{Good}
-pub use Rattle.mscp_events.specs.declared.connection.Connection.{Connection}
-pub use Rattle.mscp_events.specs.declared.connection.Connection.TheVariants.{First}
+pub use Rattle.mscp_drive.specs.Both.{Both, of, put}
+pub use Rattle.mscp_drive.specs.Settings.{IsValid, Settings, bound, credits_of, room, room_of, unit_found}
+pub use Rattle.mscp_drive.specs.declared.block.Block.TheVariants.{Good}
+pub use Rattle.mscp_drive.specs.declared.connection.Connection.{Connection}
+pub use Rattle.mscp_drive.specs.declared.connection.Connection.TheVariants.{First}
 pub use Rattle.mscp_packet.proofs.Commands.{command_bytes_are_messages}
 pub use Rattle.mscp_packet.specs.Commands.{HasCommandRange, IsCommand, IsValidOrder, command_bytes}
 unfoldable pub use Rattle.mscp_packet.specs.Commands.{command_of}

@@ -1,7 +1,7 @@
 -- How long a command may have to wait: no bound under that of the configuration would be true.
 use Rattle.std.specs.Prelude.{◌≡◌, ℕ, ◌+◌, ◌<◌, ◌≤◌, ◌^◌, Bool, true, false, ◌&&◌, nat_le, [], ◌∷◌, ◌++◌, length, take, Option, Some, None, Contains}
 use Rattle.mscp_drive.specs.Shape.{Shape}
-use Rattle.mscp_events.specs.Settings.{Settings, IsValid, bound, room, unit_found}
+use Rattle.mscp_drive.specs.Settings.{Settings, IsValid, bound, room, unit_found}
 use Rattle.mscp_controller.specs.History.{Moment, Trace, is_step}
 use Rattle.mscp_controller.specs.Commands.{steps_after, unit, waiting}
 use Rattle.mscp_controller.specs.Figures.{figure}

@@ -14,17 +14,17 @@ use Rattle.mscp_packet.specs.Ends.{end_bytes}
 use Rattle.mscp_packet.specs.Statuses.{success}
 use Rattle.mscp_drive.specs.Heads.{distance}
 use Rattle.mscp_drive.specs.Shape.{Shape, cylinder_of}
-use Rattle.mscp_events.specs.declared.block.Block.TheVariants.{Good}
-use Rattle.mscp_events.specs.declared.connection.Connection.{Connection}
-use Rattle.mscp_events.specs.declared.connection.Connection.TheVariants.{First, Second}
+use Rattle.mscp_drive.specs.declared.block.Block.TheVariants.{Good}
+use Rattle.mscp_drive.specs.declared.connection.Connection.{Connection}
+use Rattle.mscp_drive.specs.declared.connection.Connection.TheVariants.{First, Second}
 use Rattle.mscp_queue.specs.declared.report.Report.{Report}
 use Rattle.mscp_queue.specs.declared.report.Report.TheVariants.{Served}
 use Rattle.mscp_queue.specs.Outcomes.{end_with}
-use Rattle.mscp_events.specs.declared.event.Event.TheVariants as events
+use Rattle.mscp_drive.specs.declared.event.Event.TheVariants as events
 use Rattle.mscp_controller.specs.declared.entry.Entry.TheVariants as entries
 use Rattle.mscp_controller.specs.declared.entry.Sent.TheVariants as sents
 use Rattle.mscp_control.specs.declared.worst_case.Transfer.{Transfer}
-use Rattle.mscp_events.specs.Settings.{Settings, room, room_of}
+use Rattle.mscp_drive.specs.Settings.{Settings, room, room_of}
 use Rattle.mscp_controller.specs.History.{Moment, Trace}
 
 -- ---- moments

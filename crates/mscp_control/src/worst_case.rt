@@ -5,8 +5,7 @@ ghost use Rattle.mscp_control.specs.Common.{command_bytes, bound, room, IsLegal,
 
 use arrayvec::ArrayVec;
 use mscp_controller::{Entry, Sent};
-use mscp_drive::Unit;
-use mscp_events::{Block, Config, Connection, Event, OutOfMemory};
+use mscp_drive::{Block, Config, Connection, Event, OutOfMemory, Unit};
 use mscp_packet::status::SUCCESS;
 use mscp_packet::{Command, End, EndBody, MoveKind, Order, write_command, write_end};
 use mscp_queue::{Report, end_with};

@@ -53,12 +53,12 @@ pub use Rattle.mscp_controller.specs.declared.entry.Sent.{Sent}
 pub use Rattle.mscp_drive.specs.Shape.{Shape, cylinder_of}
 pub use Rattle.mscp_drive.specs.UnitList.{IsUnitList}
 pub use Rattle.mscp_drive.specs.declared.head.Head.{Head}
-pub use Rattle.mscp_events.specs.Both.{Both, of, put}
-pub use Rattle.mscp_events.specs.Settings.{IsValid, Settings, bound, credits_of, room, room_of, unit_found, unit_shape}
-pub use Rattle.mscp_events.specs.declared.block.Block.{Block}
-pub use Rattle.mscp_events.specs.declared.connection.Connection.{Connection}
-pub use Rattle.mscp_events.specs.declared.connection.Connection.TheVariants.{First, Second}
-pub use Rattle.mscp_events.specs.declared.event.Event.{Event}
+pub use Rattle.mscp_drive.specs.Both.{Both, of, put}
+pub use Rattle.mscp_drive.specs.Settings.{IsValid, Settings, bound, credits_of, room, room_of, unit_found, unit_shape}
+pub use Rattle.mscp_drive.specs.declared.block.Block.{Block}
+pub use Rattle.mscp_drive.specs.declared.connection.Connection.{Connection}
+pub use Rattle.mscp_drive.specs.declared.connection.Connection.TheVariants.{First, Second}
+pub use Rattle.mscp_drive.specs.declared.event.Event.{Event}
 pub use Rattle.mscp_packet.specs.Commands.{IsCommand, order_with, parameters}
 unfoldable pub use Rattle.mscp_packet.specs.Commands.{command_of}
 pub use Rattle.mscp_packet.specs.Ends.{IsEnd, IsOfKind, end_bytes, kind_of_body, kind_of_code}

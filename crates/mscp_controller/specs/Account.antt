@@ -2,8 +2,8 @@
 -- use, and its credits. All that a run owes a host is asked for here.
 use Rattle.std.specs.Prelude.{ℕ, ◌-◌, List, ◌++◌, length, map, drop, count_by}
 use Rattle.mscp_packet.specs.declared.end.End.{End}
-use Rattle.mscp_events.specs.declared.connection.Connection.{Connection}
-use Rattle.mscp_events.specs.Settings.{Settings, credits_of}
+use Rattle.mscp_drive.specs.declared.connection.Connection.{Connection}
+use Rattle.mscp_drive.specs.Settings.{Settings, credits_of}
 use Rattle.mscp_controller.specs.History.{Trace, collect, takes}
 use Rattle.mscp_controller.specs.Commands.{reference, waiting_by}
 use Rattle.mscp_controller.specs.Ends.{ends_at}

@@ -1,13 +1,13 @@
 -- What is kept for each connection's host: how many of its commands wait, and its ends that weren't taken.
 use Rattle.std.specs.Prelude.{◌+◌, ◌-◌, ◌<◌, ◌≤◌, List, [], ◌∷◌, ◌++◌, drop, length, Some}
 use Rattle.mscp_packet.specs.declared.end.End.{End}
-use Rattle.mscp_events.specs.declared.connection.Connection.{Connection}
-use Rattle.mscp_events.specs.declared.connection.Connection.TheVariants.{First, Second}
+use Rattle.mscp_drive.specs.declared.connection.Connection.{Connection}
+use Rattle.mscp_drive.specs.declared.connection.Connection.TheVariants.{First, Second}
 use Rattle.mscp_queue.specs.declared.report.Report.{Report}
 use Rattle.mscp_queue.specs.declared.report.Report.TheVariants.{Served}
 use Rattle.mscp_controller.specs.declared.account.Account.{Account}
 use Rattle.mscp_controller.specs.declared.account.Accounts.{Accounts}
-use Rattle.mscp_events.specs.Both.{Both}
+use Rattle.mscp_drive.specs.Both.{Both}
 
 -- the account of a connection
 abbrev pub account : Connection → Accounts → Account

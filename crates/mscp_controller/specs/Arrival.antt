@@ -13,7 +13,7 @@ use Rattle.mscp_drive.specs.Extent as extent
 use Rattle.mscp_queue.specs.Orders.{order_weight}
 use Rattle.mscp_controller.specs.declared.entry.SendFault.{SendFault}
 use Rattle.mscp_controller.specs.declared.entry.SendFault.TheVariants.{Short, Long, NoCredit, LastCredit, Doubled}
-use Rattle.mscp_events.specs.Settings.{Settings, unit_found}
+use Rattle.mscp_drive.specs.Settings.{Settings, unit_found}
 
 -- ---- credits
 

@@ -2,19 +2,19 @@
 -- them: it begins a new list.
 use Rattle.std.specs.Prelude.{◌≡◌, ◌≢◌, ◌⊎◌, ℕ, ◌+◌, ◌<◌, Bool, true, false, ◌||◌, nat_eq, if◌then◌else◌, List, [], ◌∷◌, length, take, drop, flat_map, slice_index_or, Option, Some, None, IfSome, Result, Ok, Err}
 use Rattle.std.specs.List.{list_any}
-use Rattle.mscp_events.specs.declared.block.Block.{Block}
-use Rattle.mscp_events.specs.declared.connection.Connection.{Connection}
+use Rattle.mscp_drive.specs.declared.block.Block.{Block}
+use Rattle.mscp_drive.specs.declared.connection.Connection.{Connection}
 use Rattle.mscp_queue.specs.declared.name.Name.{Name}
 use Rattle.mscp_queue.specs.declared.report.Report.{Report}
 use Rattle.mscp_queue.specs.declared.upcoming.Upcoming.{Upcoming}
 use Rattle.mscp_queue.specs.declared.view.Choice.{Choice}
 use Rattle.mscp_queue.specs.Names.{name_on}
-use Rattle.mscp_events.specs.declared.event.Event.{Event}
-use Rattle.mscp_events.specs.declared.event.Event.TheVariants as events
+use Rattle.mscp_drive.specs.declared.event.Event.{Event}
+use Rattle.mscp_drive.specs.declared.event.Event.TheVariants as events
 use Rattle.mscp_controller.specs.declared.entry.Entry.{Entry}
 use Rattle.mscp_controller.specs.declared.entry.Entry.TheVariants as entries
 use Rattle.mscp_controller.specs.declared.entry.NotBegun.{NotBegun}
-use Rattle.mscp_events.specs.Settings.{Settings}
+use Rattle.mscp_drive.specs.Settings.{Settings}
 use Rattle.mscp_controller.specs.History.{Moment, Trace, Service, is_step, service_in}
 use Rattle.mscp_controller.specs.Commands.{command, connection, done, in_service, is_waiting, service_name, waiting, weight}
 use Rattle.mscp_controller.specs.Passing.{is_startable}

@@ -12,9 +12,9 @@ pub use Rattle.mscp_controller.specs.Restored.{IsSound, made_of}
 pub use Rattle.mscp_controller.specs.Runs.{RunsKeepThePromise}
 pub use Rattle.mscp_controller.specs.Sweeping.{IsSweeping, Sweeps}
 pub use Rattle.mscp_drive.specs.Extent.{weighed, weight}
-pub use Rattle.mscp_events.specs.Both.{of}
-pub use Rattle.mscp_events.specs.Settings.{IsValid, credits_of, unit_found}
-pub use Rattle.mscp_events.specs.declared.connection.Connection.TheVariants.{First, Second}
+pub use Rattle.mscp_drive.specs.Both.{of}
+pub use Rattle.mscp_drive.specs.Settings.{IsValid, credits_of, unit_found}
+pub use Rattle.mscp_drive.specs.declared.connection.Connection.TheVariants.{First, Second}
 pub use Rattle.mscp_packet.specs.Ends.{IsEnd, IsOfKind}
 pub use Rattle.mscp_packet.specs.Opcodes.{class, is_immediate_class}
 pub use Rattle.mscp_packet.specs.Statuses.{success}

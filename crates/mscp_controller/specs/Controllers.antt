@@ -2,14 +2,14 @@
 use Rattle.std.specs.Prelude.{◌≡◌, ℕ, true, List, map}
 use Rattle.mscp_drive.specs.Shape.{Shape}
 use Rattle.mscp_queue.specs.declared.drive.Drive.{Drive}
-use Rattle.mscp_events.specs.declared.connection.Connection.{Connection}
+use Rattle.mscp_drive.specs.declared.connection.Connection.{Connection}
 use Rattle.mscp_queue.specs.declared.name.Name.{Name}
 use Rattle.mscp_queue.specs.declared.view.Choice.{Choice}
 use Rattle.mscp_queue.specs.Figures.{figure_of_name}
 use Rattle.mscp_queue.specs.Kept.{names}
 use Rattle.mscp_queue.specs.Why.{holders_of_name, is_nobody}
-use Rattle.mscp_events.specs.Settings.{Settings, IsValid}
-use Rattle.mscp_events.specs.Both.{of}
+use Rattle.mscp_drive.specs.Settings.{Settings, IsValid}
+use Rattle.mscp_drive.specs.Both.{of}
 use Rattle.mscp_controller.specs.Holdings.{Holdings, balance_of, fresh}
 use Rattle.mscp_controller.specs.History.{Trace}
 use Rattle.mscp_controller.specs.Commands.{is_idle, name, waiting}

@@ -5,12 +5,12 @@ use Rattle.mscp_packet.specs.declared.command.Order.TheVariants as orders
 use Rattle.mscp_packet.specs.declared.command.Command.{Command}
 use Rattle.mscp_packet.specs.declared.end.End.{End}
 use Rattle.mscp_packet.specs.Commands.{command_of}
-use Rattle.mscp_events.specs.declared.block.Block.{Block}
-use Rattle.mscp_events.specs.Settings.{Settings}
+use Rattle.mscp_drive.specs.declared.block.Block.{Block}
+use Rattle.mscp_drive.specs.Settings.{Settings}
 use Rattle.mscp_controller.specs.Arrival.{fault_of}
 use Rattle.mscp_controller.specs.Outcomes.{own_end, outcome_of}
 use Rattle.mscp_queue.specs.Outcomes.{aborted_end}
-use Rattle.mscp_events.specs.declared.connection.Connection.{Connection}
+use Rattle.mscp_drive.specs.declared.connection.Connection.{Connection}
 use Rattle.mscp_queue.specs.Names.{name_on, same_connection, same_name}
 use Rattle.mscp_controller.specs.History.{Moment, Trace, sent_bytes, answers, Service, service_in}
 use Rattle.mscp_controller.specs.Commands.{command, name, unit, waiting, good}

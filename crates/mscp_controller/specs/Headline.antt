@@ -11,10 +11,10 @@ use Rattle.mscp_packet.specs.declared.end.End.{End}
 use Rattle.mscp_packet.specs.declared.end.EndBody.TheVariants as bodies
 use Rattle.mscp_packet.specs.Ends.{IsOfKind}
 use Rattle.mscp_packet.specs.Statuses.{success}
-use Rattle.mscp_events.specs.declared.event.Event.{Event}
+use Rattle.mscp_drive.specs.declared.event.Event.{Event}
 use Rattle.mscp_controller.specs.declared.entry.Entry.{Entry}
-use Rattle.mscp_events.specs.Settings.{Settings, IsValid, bound, credits_of}
-use Rattle.mscp_events.specs.declared.connection.Connection.{Connection}
+use Rattle.mscp_drive.specs.Settings.{Settings, IsValid, bound, credits_of}
+use Rattle.mscp_drive.specs.declared.connection.Connection.{Connection}
 use Rattle.mscp_queue.specs.Names.{name_on}
 use Rattle.mscp_queue.specs.Outcomes.{end_with}
 use Rattle.mscp_controller.specs.History.{Moment, Trace, moment, answers, comes_by, is_step, Service, service_in, WhenStarted}

@@ -3,7 +3,7 @@ use Rattle.std.specs.Prelude.{ℕ, ◌+◌, Bool, not, ◌||◌, nat_le, List, [
 use Rattle.mscp_queue.specs.declared.name.Name.{Name}
 use Rattle.mscp_queue.specs.declared.why.Holder.{Holder}
 use Rattle.mscp_queue.specs.Names.{same_name}
-use Rattle.mscp_events.specs.Settings.{Settings}
+use Rattle.mscp_drive.specs.Settings.{Settings}
 use Rattle.mscp_controller.specs.History.{Trace}
 use Rattle.mscp_controller.specs.Commands.{connection, earlier, name, reference, waiting}
 use Rattle.mscp_controller.specs.Passing.{fences, passed, charge}

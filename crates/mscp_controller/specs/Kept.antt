@@ -2,7 +2,7 @@
 use Rattle.std.specs.Prelude.{◌≡◌, ◌+◌, ◌≤◌, List, length}
 use Rattle.std.specs.List.{AllByRecursion}
 use Rattle.mscp_packet.specs.Ends.{IsOfKind}
-use Rattle.mscp_events.specs.declared.connection.Connection.{Connection}
+use Rattle.mscp_drive.specs.declared.connection.Connection.{Connection}
 use Rattle.mscp_queue.specs.Kept.{units_of}
 use Rattle.mscp_queue.specs.Lines.{Line}
 use Rattle.mscp_queue.specs.Records.{Record}
@@ -10,7 +10,7 @@ use Rattle.mscp_controller.specs.declared.account.Account.{Account}
 use Rattle.mscp_controller.specs.declared.account.Accounts.{Accounts}
 use Rattle.mscp_controller.specs.Accounts.{account}
 use Rattle.mscp_controller.specs.Holdings.{waiting_on}
-use Rattle.mscp_events.specs.Settings.{Settings, IsValid, credits_of, room, room_of}
+use Rattle.mscp_drive.specs.Settings.{Settings, IsValid, credits_of, room, room_of}
 
 -- the account counts the waiting commands that came by this connection, the credits cover them and its untaken ends,
 -- one credit is kept for commands that are answered when they come, and each of those ends has the body of its endcode

@@ -3,19 +3,19 @@
 use Rattle.std.specs.Prelude.{◌≡◌, ℕ, ◌<◌, true, ◌||◌, nat_eq, if◌then◌else◌, [], length, map, take, slice_get, slice_index_or, List, Option, Some, None, option_map}
 use Rattle.mscp_packet.specs.declared.end.End.{End}
 use Rattle.mscp_packet.specs.Ends.{end_bytes}
-use Rattle.mscp_events.specs.declared.block.Block.{Block}
+use Rattle.mscp_drive.specs.declared.block.Block.{Block}
 use Rattle.mscp_queue.specs.declared.report.Report.TheVariants as reports
-use Rattle.mscp_events.specs.declared.event.Event.{Event}
-use Rattle.mscp_events.specs.declared.event.Event.TheVariants as events
+use Rattle.mscp_drive.specs.declared.event.Event.{Event}
+use Rattle.mscp_drive.specs.declared.event.Event.TheVariants as events
 use Rattle.mscp_controller.specs.declared.entry.Entry.{Entry}
 use Rattle.mscp_controller.specs.declared.entry.Entry.TheVariants as entries
 use Rattle.mscp_drive.specs.Shape.{cylinder_of}
 use Rattle.mscp_drive.specs.Heads.{distance}
 use Rattle.mscp_queue.specs.declared.view.Choice.{Choice}
-use Rattle.mscp_events.specs.declared.connection.Connection.{Connection}
+use Rattle.mscp_drive.specs.declared.connection.Connection.{Connection}
 use Rattle.mscp_queue.specs.declared.name.Name.{Name}
 use Rattle.mscp_packet.specs.Commands.{order_class}
-use Rattle.mscp_events.specs.Settings.{Settings, unit_shape}
+use Rattle.mscp_drive.specs.Settings.{Settings, unit_shape}
 use Rattle.mscp_queue.specs.Outcomes.{block_touched, goes_on}
 use Rattle.mscp_controller.specs.History.{Trace, moment, Service, service_in, WhenStarted}
 use Rattle.mscp_controller.specs.Commands.{connection, reference, name, service_name, unit, order, is_waiting, waiting, done, left, in_service}

@@ -10,10 +10,10 @@ use Rattle.mscp_packet.specs.declared.end.End.{End}
 use Rattle.mscp_packet.specs.Ends.{refused_body}
 use Rattle.mscp_packet.specs.Statuses.{success, unit_available}
 use Rattle.mscp_drive.specs.Shape.{Shape}
-use Rattle.mscp_events.specs.declared.block.Block.{Block}
+use Rattle.mscp_drive.specs.declared.block.Block.{Block}
 use Rattle.mscp_queue.specs.Orders.{endcode}
 use Rattle.mscp_queue.specs.Outcomes.{end_with, outcome_at}
-use Rattle.mscp_events.specs.Settings.{Settings, unit_shape}
+use Rattle.mscp_drive.specs.Settings.{Settings, unit_shape}
 use Rattle.mscp_controller.specs.Arrival.{fault_of}
 
 -- the end of a command that is refused with this status (manual)

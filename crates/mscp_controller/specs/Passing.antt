@@ -1,7 +1,7 @@
 -- Which commands may start, and by how many blocks one was passed.
 use Rattle.std.specs.Prelude.{ℕ, ◌+◌, cond, Bool, not, ◌&&◌, ◌||◌, nat_eq, nat_lt, nat_le, List, length, take, filter, sum_by}
 use Rattle.std.specs.List.{list_all}
-use Rattle.mscp_events.specs.Settings.{Settings}
+use Rattle.mscp_drive.specs.Settings.{Settings}
 use Rattle.mscp_queue.specs.Orders.{is_sequential}
 use Rattle.mscp_controller.specs.History.{Moment, Trace, moment, positions}
 use Rattle.mscp_controller.specs.Commands.{unit, order, name, is_waiting, waiting, weight, done, is_idle, earlier, later, starts_in}

@@ -2,7 +2,7 @@
 use Rattle.std.specs.Prelude.{◌≡◌, ◌⊎◌, ℕ, List, [], ◌∷◌}
 use Rattle.mscp_queue.specs.declared.view.Choice.{Choice}
 use Rattle.mscp_queue.specs.Views.{view_of}
-use Rattle.mscp_events.specs.Settings.{IsValid, Settings}
+use Rattle.mscp_drive.specs.Settings.{IsValid, Settings}
 use Rattle.mscp_controller.specs.Holdings.{Holdings, fresh}
 use Rattle.mscp_controller.specs.Calls.{AnswersCall, Call}
 use Rattle.mscp_controller.specs.Controllers.{KeepsPromise}

@@ -3,15 +3,15 @@ use Rattle.std.specs.Prelude.{◌≡◌, ◌+◌, ◌≤◌, true, List, length,
 use Rattle.mscp_packet.specs.declared.end.End.{End}
 use Rattle.mscp_packet.specs.Ends.{IsOfKind}
 use Rattle.mscp_queue.specs.declared.drive.Drive.{Drive}
-use Rattle.mscp_events.specs.declared.connection.Connection.{Connection}
-use Rattle.mscp_events.specs.declared.connection.Connection.TheVariants.{First, Second}
+use Rattle.mscp_drive.specs.declared.connection.Connection.{Connection}
+use Rattle.mscp_drive.specs.declared.connection.Connection.TheVariants.{First, Second}
 use Rattle.mscp_queue.specs.declared.name.Name.{Name}
 use Rattle.mscp_queue.specs.Kept.{ArePassedInOrder, units_of}
 use Rattle.mscp_queue.specs.Kept as queue
 use Rattle.mscp_queue.specs.Records.{Record}
-use Rattle.mscp_events.specs.Both.{of}
+use Rattle.mscp_drive.specs.Both.{of}
 use Rattle.mscp_controller.specs.Holdings.{Holdings, waiting_on}
-use Rattle.mscp_events.specs.Settings.{Settings, IsValid, credits_of, room, room_of}
+use Rattle.mscp_drive.specs.Settings.{Settings, IsValid, credits_of, room, room_of}
 
 -- all that callers see of a controller
 abbrev pub made_of : {K : Type 0} → Settings → List Record → List End → List End → List Drive → Option Name → K

@@ -1,9 +1,9 @@
 -- What is promised of a run: of what a new controller answers to events, one after the other.
 use Rattle.std.specs.Prelude.{ℕ, List, zip}
 use Rattle.mscp_queue.specs.declared.view.Choice.{Choice}
-use Rattle.mscp_events.specs.declared.event.Event.{Event}
+use Rattle.mscp_drive.specs.declared.event.Event.{Event}
 use Rattle.mscp_controller.specs.declared.entry.Entry.{Entry}
-use Rattle.mscp_events.specs.Settings.{Settings, IsValid}
+use Rattle.mscp_drive.specs.Settings.{Settings, IsValid}
 use Rattle.mscp_controller.specs.Holdings.{Answered, Holdings, fresh}
 use Rattle.mscp_controller.specs.Headline.{Headline}
 use Rattle.mscp_controller.specs.Legal.{IsPicked}

@@ -4,7 +4,7 @@ use Rattle.std.specs.List.{list_all}
 use Rattle.mscp_queue.specs.declared.view.Choice.{Choice}
 use Rattle.mscp_queue.specs.declared.name.Name.{Name}
 use Rattle.mscp_queue.specs.Pickers.{IsSweep}
-use Rattle.mscp_events.specs.Settings.{Settings}
+use Rattle.mscp_drive.specs.Settings.{Settings}
 use Rattle.mscp_controller.specs.History.{Trace, moment, service_in, WhenStarted}
 use Rattle.mscp_controller.specs.Commands.{name, service_name}
 use Rattle.mscp_controller.specs.Passing.{startable}

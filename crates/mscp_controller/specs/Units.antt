@@ -5,7 +5,7 @@ use Rattle.mscp_packet.specs.declared.command.Order.TheVariants as orders
 use Rattle.mscp_packet.specs.declared.end.End.{End}
 use Rattle.mscp_drive.specs.Shape.{Shape, cylinder_of}
 use Rattle.mscp_drive.specs.declared.head.Head.{Head}
-use Rattle.mscp_events.specs.Settings.{Settings, unit_shape}
+use Rattle.mscp_drive.specs.Settings.{Settings, unit_shape}
 use Rattle.mscp_queue.specs.declared.name.Name.{Name}
 use Rattle.mscp_queue.specs.Names.{same_name}
 use Rattle.mscp_queue.specs.Outcomes.{is_success}

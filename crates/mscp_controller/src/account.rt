@@ -7,7 +7,7 @@ ghost use Rattle.mscp_controller.specs.Accounts.{fresh};
 mod restoring;
 
 use arrayvec::ArrayVec;
-use mscp_events::Connection;
+use mscp_drive::Connection;
 use mscp_packet::End;
 
 /// What is kept for the host of one connection.

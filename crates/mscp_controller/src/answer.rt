@@ -3,8 +3,7 @@
 ghost use Rattle.std.specs.Prelude.{◌≡◌};
 ghost use Rattle.mscp_controller.specs.Common.{success, end_with, controller_body, refused_end, unit_body, unit_status};
 
-use mscp_drive::Unit;
-use mscp_events::Config;
+use mscp_drive::{Config, Unit};
 use mscp_packet::status::{SUCCESS, UNIT_AVAILABLE};
 use mscp_packet::{Command, End, EndBody};
 use mscp_queue::{end_with, endcode_of};

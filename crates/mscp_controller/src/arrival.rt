@@ -3,7 +3,7 @@
 ghost use Rattle.std.specs.Prelude.{◌≡◌, ◌+◌, ◌≤◌, ◌^◌, IfOk};
 ghost use Rattle.mscp_controller.specs.Common.{class, is_immediate_class, judged, move_fault, unit_fault, version_fault, first_block, unit_found, weighed, weight};
 
-use mscp_events::Config;
+use mscp_drive::Config;
 use mscp_packet::status::{INVALID_VERSION, UNIT_OFFLINE};
 use mscp_packet::{Command, Order, class_of};
 

@@ -1,12 +1,12 @@
 // What a controller answers.
 
 use arrayvec::ArrayVec;
-use mscp_events::Connection;
+use mscp_drive::Connection;
 use mscp_packet::PacketFault;
 use mscp_queue::Report;
 
 /// Why a message is refused: the first that holds, in this order. Nothing is changed.
-#[derive(Clone, Copy, Debug, PartialEq, Eq)]
+#[derive(Clone, Copy)]
 pub enum SendFault {
     /// Under 12 bytes.
     Short,
@@ -35,11 +35,11 @@ impl From<PacketFault> for SendFault {
 }
 
 /// Why a step can't be finished: no command of its connection and reference number is begun. Nothing is changed.
-#[derive(Clone, Copy, Debug, PartialEq, Eq)]
+#[derive(Clone, Copy)]
 pub struct NotBegun;
 
 /// What became of a message: each names its reference number.
-#[derive(Clone, Copy, Debug, PartialEq, Eq)]
+#[derive(Clone, Copy)]
 pub enum Sent {
     /// The command waits for steps.
     Queued(u32),
@@ -51,7 +51,7 @@ pub enum Sent {
 }
 
 /// What a controller answers to an event.
-#[derive(Debug, PartialEq, Drop)]
+#[derive(Drop)]
 pub enum Entry {
     /// What became of the message of the connection, or why it was refused.
     Sent(Connection, Result<Sent, SendFault>),

@@ -16,7 +16,7 @@ pub use crate::law::{
     runs_keep_the_promise,
 };
 pub use crate::running::{run, run_in, run_into};
-pub use mscp_events::{Block, Config, ConfigFault, Connection, Event, FaultStatus, OutOfMemory};
+pub use mscp_drive::{Block, Config, ConfigFault, Connection, Event, FaultStatus, OutOfMemory};
 pub use mscp_queue::{
     Choice, Drive, Holder, Name, Oldest, Picker, Record, Report, Sweep, Upcoming, View,
 };

@@ -5,7 +5,7 @@ ghost use Rattle.mscp_controller.specs.Common.{Answered, Headline, IsPicked, IsS
 
 use crate::controller::Controller;
 use crate::entry::Entry;
-use mscp_events::{Config, Event, OutOfMemory};
+use mscp_drive::{Config, Event, OutOfMemory};
 use mscp_queue::Picker;
 use std::alloc::{Allocator, Global};
 

@@ -4,3 +4,5 @@ pub mod Extent
 pub mod Heads
 pub mod UnitList
 pub mod Common
+pub mod Settings
+pub mod Both

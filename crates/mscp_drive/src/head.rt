@@ -6,7 +6,7 @@ ghost use Rattle.mscp_drive.specs.Common.{last_cylinder, carried, distance, move
 use crate::unit::Unit;
 
 /// Where the head of a unit is, and whether it goes up (profile).
-#[derive(Clone, Copy, Debug, PartialEq, Eq)]
+#[derive(Clone, Copy)]
 pub struct Head {
     /// The cylinder that it is on.
     pub cylinder: u32,

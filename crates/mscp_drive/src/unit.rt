@@ -16,7 +16,7 @@ pub const INVALID_BLOCK: u16 = 0x1C01;
 pub const INVALID_BYTE_COUNT: u16 = 0x0C01;
 
 /// A unit: its number, its sizes, and its identifiers (manual). No size is zero (profile).
-#[derive(Clone, Copy, Debug, PartialEq, Eq)]
+#[derive(Clone, Copy)]
 pub struct Unit {
     number: u16,
     track: u16,
@@ -80,7 +80,7 @@ impl Default for Unit {
 }
 
 /// Which size of a unit is zero: the first that is, in this order (profile).
-#[derive(Clone, Copy, Debug, PartialEq, Eq)]
+#[derive(Clone, Copy)]
 pub enum UnitFault {
     /// A track of no blocks.
     ZeroTrack,

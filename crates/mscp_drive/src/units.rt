@@ -11,7 +11,7 @@ use std::marker::Model;
 const MOST_UNITS: usize = 16;
 
 /// The units of a controller: 1 to 16, in rising order of their numbers (profile).
-#[derive(Clone, Debug, Drop, PartialEq)]
+#[derive(Drop)]
 pub struct Units {
     list: ArrayVec<Unit, 16>,
 }
@@ -25,12 +25,10 @@ impl Model for Units {
     ghost view = { λ u. u.list.items };
 
     ghost invariant = { λ u. IsUnitList u.list.items };
-
-    ghost inverse = { λ s. record { list = record { items = s } } };
 }
 
 /// Why a list of units is refused: the first that holds, in this order (profile).
-#[derive(Clone, Copy, Debug, PartialEq, Eq)]
+#[derive(Clone, Copy)]
 pub enum UnitsFault {
     /// More than 16 units.
     TooMany,

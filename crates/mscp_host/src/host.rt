@@ -14,7 +14,7 @@ use std::marker::Model;
 
 /// The host's end of a controller: its credits, the commands whose ends it hasn't received, and the poll in flight. It takes
 /// no memory beside its own.
-#[derive(Debug, Drop)]
+#[derive(Drop)]
 pub struct Host {
     pub(crate) credits: u32,
     pub(crate) outstanding: ArrayVec<Submission, 64>,

@@ -8,7 +8,7 @@ use mscp_packet::End;
 use thiserror::Error;
 
 /// Why a host refuses. A refusal changes nothing.
-#[derive(Clone, Copy, Debug, PartialEq, Eq, Error)]
+#[derive(Clone, Copy, Debug, Error)]
 pub enum HostFault {
     /// The credits aren't 2 to 64.
     #[error("credits")]
@@ -31,7 +31,7 @@ pub enum HostFault {
 }
 
 /// What there is to do where the oldest command is to be polled.
-#[derive(Debug, PartialEq, Drop)]
+#[derive(Drop)]
 pub enum Poll {
     /// Send this GET COMMAND STATUS.
     Ask(ArrayVec<u8, 48>),
@@ -42,7 +42,7 @@ pub enum Poll {
 }
 
 /// What a received end says.
-#[derive(Clone, Copy, Debug, PartialEq, Eq)]
+#[derive(Clone, Copy)]
 pub enum News {
     /// A command ended, or a poll was refused.
     Ended(End),

@@ -14,7 +14,7 @@ use mscp_packet::fields::{four_at, two_at};
 use thiserror::Error;
 
 /// Why bytes are no saved host: the first that holds, in this order.
-#[derive(Clone, Copy, Debug, PartialEq, Eq, Error)]
+#[derive(Clone, Copy, Debug, Error)]
 pub enum RestoreFault {
     /// Fewer bytes than a head has, or not as many as the head tells, or not as many as its parts take.
     #[error("length")]

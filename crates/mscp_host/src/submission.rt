@@ -9,7 +9,7 @@ use mscp_packet::{Command, class_of};
 pub(crate) const STATUS: u8 = 2;
 
 /// A command whose end wasn't received. It is a submission, and not a number: a number that is used again is another.
-#[derive(Clone, Copy, Debug, PartialEq, Eq)]
+#[derive(Clone, Copy)]
 pub struct Submission {
     /// Its reference number.
     pub reference: u32,

@@ -12,7 +12,7 @@ use mscp_packet::{End, EndBody};
 const STATUS_END: u8 = 0x82;
 
 /// A poll whose end wasn't received.
-#[derive(Clone, Copy, Debug, PartialEq, Eq)]
+#[derive(Clone, Copy)]
 pub struct Watch {
     /// The poll's own reference number.
     pub reference: u32,

@@ -1,6 +1,6 @@
 -- What a call leaves, as a judge stands then.
 use Rattle.mscp_judge.proofs.Common.{◌≡◌, ◌≢◌, inl, ℕ, zero, suc, ◌+◌, ◌-◌, ◌<◌, true, false, List, [], ◌∷◌, ◌++◌, drop, length, replicate, refl, ap, sym, ◌∙◌, subst, arith, length-append, length-drop, drop-drop, append_assoc, append-nil, All, OnOk, Result, Ok, Err, None, ◌≤◌, Option, list_all, drop-append_seam, length-replicate, and_parts, false≢true, Block, Event, Entry, OutOfMemory, Report, Record, record_at, IsValid, Settings, Trace, is_step, Answers, Holdings, Steps, fresh, Idle, IsLegal, is_printed, words, Reported, entry_lines, reported, step_line, with_entry, Judge, Named, Wanted, Totals, IsAhead, Asked, Log, Mark, MayGoOn, IsLegalLog, asking, events_in, nothing, telling, told, transcript, whole, IsNamed, name_in, wanting, BeginsWith, Came, Counted, HasShortLine, IsHeld, IsSettled, Stands, Stood, due, marked, owed, totals_of, with_picker, AreTotals, IsLarger, figure_queued}
-use Rattle.mscp_events.specs.declared.event.Event.TheVariants as events
+use Rattle.mscp_drive.specs.declared.event.Event.TheVariants as events
 use Rattle.mscp_controller.specs.declared.entry.Entry.TheVariants as entries
 use Rattle.mscp_judge.proofs.Feeds.{NoFeed, some_none, step_ends}
 use Rattle.mscp_judge.proofs.Leading.{follow}

@@ -66,13 +66,13 @@ unfoldable pub use Rattle.mscp_controller.specs.Passing.{startable}
 pub use Rattle.mscp_controller.specs.declared.entry.Entry.{Entry}
 pub use Rattle.mscp_controller.specs.declared.entry.SendFault.{SendFault}
 pub use Rattle.mscp_controller.specs.declared.entry.Sent.{Sent}
-pub use Rattle.mscp_events.specs.Both.{Both, of}
-pub use Rattle.mscp_events.specs.Settings.{IsValid, Settings, bound}
-pub use Rattle.mscp_events.specs.declared.block.Block.{Block}
-pub use Rattle.mscp_events.specs.declared.connection.Connection.{Connection}
-pub use Rattle.mscp_events.specs.declared.connection.Connection.TheVariants.{First, Second}
-pub use Rattle.mscp_events.specs.declared.event.Event.{Event}
-pub use Rattle.mscp_events.specs.declared.memory.OutOfMemory.{OutOfMemory}
+pub use Rattle.mscp_drive.specs.Both.{Both, of}
+pub use Rattle.mscp_drive.specs.Settings.{IsValid, Settings, bound}
+pub use Rattle.mscp_drive.specs.declared.block.Block.{Block}
+pub use Rattle.mscp_drive.specs.declared.connection.Connection.{Connection}
+pub use Rattle.mscp_drive.specs.declared.connection.Connection.TheVariants.{First, Second}
+pub use Rattle.mscp_drive.specs.declared.event.Event.{Event}
+pub use Rattle.mscp_drive.specs.declared.memory.OutOfMemory.{OutOfMemory}
 pub use Rattle.mscp_host.specs.Accounts.{Account}
 pub use Rattle.mscp_judge.specs.Heard.{FailsLine, Heard, IsHeard, after_answer, after_request, command_in, heard_behind, heard_log, hosts_after_all, sends_on, silence}
 pub use Rattle.mscp_judge.specs.Judged.{Breaks, HasLegalTrace, Hears, IsAhead, IsBroken, IsLegalVerdict, IsTold, Judges, JudgesBehind, JudgesLog, Passed, Tells}

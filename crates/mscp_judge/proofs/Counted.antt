@@ -1,6 +1,6 @@
 -- How a judge stands after one more line, with the totals so far.
 use Rattle.mscp_judge.proofs.Common.{◌≡◌, ℕ, false, List, [], ◌∷◌, ◌++◌, sym, ◌∙◌, subst, append_assoc, append-nil, arith, Option, Block, Event, Entry, Settings, is_step, Answers, Holdings, words, entry_lines, Named, Wanted, Totals, Asked, Log, Mark, told, whole, IsNamed, name_in, Counted, Stood, marked, run_of, with_picker, Adds, AreTotals}
-use Rattle.mscp_events.specs.declared.event.Event.TheVariants as events
+use Rattle.mscp_drive.specs.declared.event.Event.TheVariants as events
 use Rattle.mscp_judge.proofs.Leading.{follow}
 use Rattle.mscp_judge.proofs.Marks.{is_legal_log, legal_run}
 use Rattle.mscp_judge.proofs.Standing.{ahead_of, told_all_on, told_line, told_on}

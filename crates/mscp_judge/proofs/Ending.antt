@@ -1,6 +1,6 @@
 -- Where a line asks too early, where a log ends, and how a legal one goes on.
 use Rattle.mscp_judge.proofs.Common.{◌≡◌, ◌≢◌, ℕ, List, [], ◌∷◌, ◌++◌, length, refl, ap, sym, ◌∙◌, subst, arith, append_assoc, append-nil, replicate, Block, Event, Settings, Trace, Holdings, IsLegal, entry_lines, Wanted, Mark, answers_in, told, transcript, whole, BeginsWith, Held, Stood}
-use Rattle.mscp_events.specs.declared.event.Event.TheVariants as events
+use Rattle.mscp_drive.specs.declared.event.Event.TheVariants as events
 use Rattle.mscp_judge.proofs.Existing.{steps_exist}
 use Rattle.mscp_judge.proofs.Feeds.{some_none, step_ends}
 use Rattle.mscp_judge.proofs.Leading.{follow}

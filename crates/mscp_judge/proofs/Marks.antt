@@ -1,6 +1,6 @@
 -- The marks of a log, taken apart.
 use Rattle.mscp_judge.proofs.Common.{◌≡◌, ℕ, List, [], ◌∷◌, ◌++◌, get_or, length, refl, ap, sym, ◌∙◌, subst, arith, length-append, append_assoc, None, flat_map-append, map-append, get_or-append_seam, take-append_seam, First, Event, Settings, Moment, Trace, moment, IsLegal, IsRight, entry_lines, Asked, IsLegalLog, Mark, MayGoOn, Told, answers_in, events_in, told, transcript, whole, written}
-use Rattle.mscp_events.specs.declared.event.Event.TheVariants as events
+use Rattle.mscp_drive.specs.declared.event.Event.TheVariants as events
 use Rattle.mscp_controller.specs.declared.entry.Entry.TheVariants as entries
 
 pub told_append : (xs ys : List ℕ) → told (xs ++ ys) ≡ told xs ++ told ys

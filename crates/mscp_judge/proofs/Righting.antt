@@ -1,6 +1,6 @@
 -- The line of a step that was answered is the right one.
 use Rattle.mscp_judge.proofs.Common.{◌≡◌, ◌≢◌, inl, inr, ℕ, suc, ◌-◌, ◌<◌, ◌≤◌, Bool, true, List, [], ◌∷◌, ◌++◌, get_or, length, refl, ap, sym, ◌∙◌, subst, arith, length-append, append-nil, codes, filter, replicate, Option, Some, None, AllByRecursion, flat_map, list_all, eq-eqb, ltb-true, append_cancel_right, length-replicate, Block, Event, IsValid, Settings, name_on, Report, Idle, Served, Entry, Service, Trace, WhenStarted, service_in, done, is_waiting, name, service_name, waiting, is_startable, startable, Answers, Holdings, fresh, IsPick, IsRight, IsServed, one_waits, Known, startable_of, waiting_waits, line, is_printed, entry_lines, step_line, Judge, Named, Wanted, AreAnswers, IsAnswerLine, IsRightThere, Log, telling, IsNamed, HasStepped, IsOpen, IsRightNext, IsServiceLine, IsStepLine, report_in, BeginsWith, Came, HasShortLine, IsFirstLine, IsHeld, IsSettled, Led, Stands, Stood, due, marked, owed, run_of, with_picker}
-use Rattle.mscp_events.specs.declared.event.Event.TheVariants as events
+use Rattle.mscp_drive.specs.declared.event.Event.TheVariants as events
 use Rattle.mscp_controller.specs.declared.entry.Entry.TheVariants as entries
 use Rattle.mscp_judge.proofs.Coming.{printed_fed, ready_due, ready_not, right_step, stands_held, stands_with, told_not}
 use Rattle.mscp_judge.proofs.Ending.{opens_with}

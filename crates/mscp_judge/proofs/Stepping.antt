@@ -1,6 +1,6 @@
 -- How a judge stands after a step was answered.
 use Rattle.mscp_judge.proofs.Common.{◌≡◌, ℕ, List, [], ◌∷◌, ◌++◌, ap, sym, ◌∙◌, subst, append_assoc, append-nil, arith, Option, Block, Event, Entry, Settings, Moment, Trace, Answers, Holdings, fresh, IsRight, words, entry_lines, Named, Wanted, Asked, Mark, answers_in, events_in, told, transcript, whole, IsNamed, name_in, Held, Led, Stood, with_picker}
-use Rattle.mscp_events.specs.declared.event.Event.TheVariants as events
+use Rattle.mscp_drive.specs.declared.event.Event.TheVariants as events
 use Rattle.mscp_controller.specs.declared.entry.Entry.TheVariants as entries
 use Rattle.mscp_judge.proofs.Feeds.{entry_ends}
 use Rattle.mscp_judge.proofs.Leading.{follow, led_more, turn_of}

@@ -1,6 +1,6 @@
 -- How a judge stands after all that was due was told.
 use Rattle.mscp_judge.proofs.Common.{◌≡◌, ◌-◌, ◌<◌, [], ◌++◌, length, refl, ap, sym, ◌∙◌, subst, arith, append_assoc, append-nil, ◌≤◌, List, ℕ, ◌∷◌, codes, OnOk, Result, Option, Some, None, flat_map, Block, Report, Idle, Entry, OutOfMemory, IsValid, Settings, Answers, Holdings, line, words, Reported, entry_lines, step_line, with_entry, Judge, Named, Wanted, AreAnswers, Log, telling, IsNamed, name_in, served, BeginsWith, Came, IsNamedAhead, Stands, due, marked, owed, totals_of, with_picker}
-use Rattle.mscp_events.specs.declared.event.Event.TheVariants as events
+use Rattle.mscp_drive.specs.declared.event.Event.TheVariants as events
 use Rattle.mscp_controller.specs.declared.entry.Entry.TheVariants as entries
 use Rattle.mscp_judge.proofs.Answering.{step_answers}
 use Rattle.mscp_judge.proofs.Coming.{held_settings, ready_step, right_step, stands_held, told_so}

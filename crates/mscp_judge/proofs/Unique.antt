@@ -1,6 +1,6 @@
 -- After a legal trace an event has one right answer, if at a step it is known which command it serves.
 use Rattle.mscp_judge.proofs.Common.{◌≡◌, ◌≢◌, ◌⊎◌, ⊎_elim, ℕ, ◌<◌, ◌^◌, Bool, true, false, cond, ◌||◌, [], ◌∷◌, ◌++◌, get_or, length, refl, ap, sym, ◌∙◌, subst, arith, length-append, filter, Option, Some, AllByRecursion, cases_Bool, eq-eqb, ltb-true, false≢true, get_or-map, length-map, filter-append, get_or-append_seam, Block, Choice, Name, Report, Idle, Served, name_on, choice_name, every_append, every_parts, every_weaker, is_same, same_is, Event, Entry, Settings, Service, Trace, WhenStarted, is_step, service_in, done, in_service, is_waiting, name, reference, service_name, waiting, is_startable, startable, IsPick, IsRight, IsServed, choice, view, one_waits, Known, startable_parts, Single, idle_others, cut, waits_below, Named, IsNamed, choice_at, is_wanted, wanted_name}
-use Rattle.mscp_events.specs.declared.event.Event.TheVariants as events
+use Rattle.mscp_drive.specs.declared.event.Event.TheVariants as events
 use Rattle.mscp_controller.specs.declared.entry.Entry.TheVariants as entries
 
 -- ---- who is served

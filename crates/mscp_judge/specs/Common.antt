@@ -1,7 +1,7 @@
 -- What the code of this crate takes from specifications.
 pub use Rattle.mscp_controller.specs.History.{Trace}
 pub use Rattle.mscp_controller.specs.Holdings.{fresh}
-pub use Rattle.mscp_events.specs.Settings.{IsValid, Settings, bound}
+pub use Rattle.mscp_drive.specs.Settings.{IsValid, Settings, bound}
 pub use Rattle.mscp_judge.specs.Heard.{Gives, Heard, IsHeard, after_answer, after_lines, end_bytes, heard_log, hears, host_at, hosts_after_all, sends_on, silence, told, with_host}
 pub use Rattle.mscp_judge.specs.Judged.{Breaks, Finds, HasLegalTrace, IsAhead, IsLegalVerdict, IsTold, Judges, JudgesLog, Passed, Tells}
 pub use Rattle.mscp_judge.specs.Logs.{AreAnswers, Log, is_answer, nothing, telling}

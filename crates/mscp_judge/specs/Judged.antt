@@ -2,8 +2,8 @@
 use Rattle.std.specs.Prelude.{◌≡◌, ◌≢◌, ℕ, ◌+◌, ◌<◌, ◌≤◌, List, [], ◌∷◌, ◌++◌, length, Bool, true, false, Option, Some, None, Result, Ok, Err}
 use Rattle.mscp_controller.specs.Headline.{Promise}
 use Rattle.mscp_controller.specs.Holdings.{Holdings}
-use Rattle.mscp_events.specs.Settings.{IsValid, Settings}
-use Rattle.mscp_events.specs.declared.event.Event.{Event}
+use Rattle.mscp_drive.specs.Settings.{IsValid, Settings}
+use Rattle.mscp_drive.specs.declared.event.Event.{Event}
 use Rattle.mscp_reader.specs.Lexical.{lines, words}
 use Rattle.mscp_reader.specs.Grammar.{Place, Begins, HasGone}
 use Rattle.mscp_reader.specs.Outcome.{headed}

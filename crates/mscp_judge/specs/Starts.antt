@@ -1,10 +1,10 @@
 -- Which commands may start.
 use Rattle.std.specs.Prelude.{ℕ, Bool, List, map, filter}
-use Rattle.mscp_events.specs.declared.connection.Connection.{Connection}
+use Rattle.mscp_drive.specs.declared.connection.Connection.{Connection}
 use Rattle.mscp_queue.specs.Records.{Record}
 use Rattle.mscp_queue.specs.Figures.{figures}
 use Rattle.mscp_queue.specs.Why.{holders_of_name, is_nobody}
-use Rattle.mscp_events.specs.Settings.{Settings}
+use Rattle.mscp_drive.specs.Settings.{Settings}
 use Rattle.mscp_controller.specs.History.{Trace}
 use Rattle.mscp_controller.specs.Commands.{connection, reference}
 use Rattle.mscp_controller.specs.Passing.{startable}

@@ -6,7 +6,7 @@ use Rattle.mscp_queue.specs.Records.{record_at}
 use Rattle.mscp_controller.specs.declared.entry.Entry.{Entry}
 use Rattle.mscp_controller.specs.declared.entry.Entry.TheVariants as entries
 use Rattle.mscp_controller.specs.declared.entry.Sent.TheVariants as sents
-use Rattle.mscp_events.specs.Settings.{Settings, bound}
+use Rattle.mscp_drive.specs.Settings.{Settings, bound}
 use Rattle.mscp_controller.specs.History.{Trace, is_step}
 use Rattle.mscp_controller.specs.Commands.{waiting}
 use Rattle.mscp_controller.specs.Passing.{passed}

@@ -2,7 +2,7 @@
 
 ghost use Rattle.std.specs.Prelude.{◌≡◌, ◌+◌, ◌-◌, ◌<◌, ◌^◌, [], codes, length, true, false, OnOk, IfOk, None};
 ghost use Rattle.mscp_judge.specs.Common.{IsValid, Settings, events_of, AreAnswers, Log, nothing, telling, Came, HasShortLine, IsSettled, Stands, due, totals_of};
-ghost use Rattle.mscp_events.specs.declared.event.Event.TheVariants as events;
+ghost use Rattle.mscp_drive.specs.declared.event.Event.TheVariants as events;
 ghost use Rattle.mscp_judge.specs.Logs.{asking};
 
 mod telling;

@@ -16,7 +16,7 @@ use mscp_reader::{Line, Lines, MOST_LINES, ReadFault, Request, request_after, wo
 use std::alloc::Allocator;
 
 /// What is said of a log.
-#[derive(Debug, PartialEq, Drop)]
+#[derive(Drop)]
 pub enum Verdict {
     /// It is legal, and these are its totals.
     Legal(Totals),

@@ -13,7 +13,7 @@ use mscp_reader::{Words, wide};
 const FEW_BYTES: usize = 128;
 
 /// The name of a command.
-#[derive(Clone, Copy, Debug, Default, PartialEq, Eq)]
+#[derive(Clone, Copy, Default, PartialEq, Eq)]
 pub struct Named {
     pub connection: Connection,
     pub reference: u32,

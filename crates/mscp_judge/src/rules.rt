@@ -8,7 +8,7 @@ use crate::naming::{Named, Wanted};
 use mscp_controller::{Controller, Holder};
 
 /// The rule that a line of a log breaks.
-#[derive(Clone, Copy, Debug, PartialEq, Eq)]
+#[derive(Clone, Copy)]
 pub enum Rule {
     /// No event is left that the line could answer.
     Unasked,

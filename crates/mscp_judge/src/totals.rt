@@ -8,7 +8,7 @@ use crate::naming::Wanted;
 use mscp_controller::{Config, Connection, Controller, SendFault, Sent};
 
 /// The totals of a legal log.
-#[derive(Clone, Copy, Debug, PartialEq, Eq)]
+#[derive(Clone, Copy)]
 pub struct Totals {
     /// How many moments it has: an event each, and its answer.
     pub moments: u64,

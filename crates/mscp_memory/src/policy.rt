@@ -3,7 +3,7 @@
 use mscp_controller::{Oldest, Picker, Sweep, View};
 
 /// Which picker says what starts.
-#[derive(Clone, Copy, Debug, PartialEq, Eq)]
+#[derive(Clone, Copy)]
 pub enum Policy {
     /// The oldest command that may start.
     Oldest,

@@ -7,7 +7,7 @@ use crate::command::MoveKind;
 use crate::end::BodyKind;
 
 /// How the commands of an opcode are scheduled (manual, "Command Categories and Execution Order").
-#[derive(Clone, Copy, Debug, PartialEq, Eq)]
+#[derive(Clone, Copy)]
 pub enum Class {
     /// Answered when it arrives.
     Immediate,

@@ -5,7 +5,7 @@ ghost use Rattle.std.specs.Prelude.{◌≡◌};
 use crate::class::{Class, Opcode};
 
 /// The five transfers.
-#[derive(Clone, Copy, Debug, PartialEq, Eq)]
+#[derive(Clone, Copy)]
 pub enum MoveKind {
     /// ACCESS
     Access,
@@ -20,7 +20,7 @@ pub enum MoveKind {
 }
 
 /// What a command asks for (manual, "Command Messages").
-#[derive(Clone, Copy, Debug, PartialEq, Eq)]
+#[derive(Clone, Copy)]
 pub enum Order {
     /// ABORT of the command with this reference number.
     Abort(u32),
@@ -74,7 +74,7 @@ impl Order {
 }
 
 /// A command: its reference number, the unit that it is for, and what it asks for (manual, "Command Messages").
-#[derive(Clone, Copy, Debug, PartialEq, Eq)]
+#[derive(Clone, Copy)]
 pub struct Command {
     pub reference: u32,
     pub unit: u16,

@@ -6,7 +6,7 @@ ghost use Rattle.mscp_packet.specs.Ends.{kind_of_code};
 use crate::class::opcode_of;
 
 /// What an end tells beside its status: one shape for each kind of end message.
-#[derive(Clone, Copy, Debug, Default, PartialEq, Eq)]
+#[derive(Clone, Copy, Default)]
 pub enum EndBody {
     /// Nothing: an unknown opcode, AVAILABLE.
     #[default]
@@ -47,7 +47,7 @@ pub enum EndBody {
 
 /// An end: the reference number and the unit of its command, its endcode, status and body (manual,
 /// "End Messages").
-#[derive(Clone, Copy, Debug, Default, PartialEq, Eq)]
+#[derive(Clone, Copy, Default)]
 pub struct End {
     pub reference: u32,
     pub unit: u16,

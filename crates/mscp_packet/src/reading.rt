@@ -10,7 +10,7 @@ use crate::fields::{eight_at, four_at, two_at};
 use crate::status::{INVALID_LENGTH, INVALID_OPCODE};
 
 /// Why bytes are no message: a message has 12 to 64 bytes (profile).
-#[derive(Clone, Copy, Debug, PartialEq, Eq)]
+#[derive(Clone, Copy)]
 pub enum PacketFault {
     /// Under 12 bytes.
     Short,
@@ -81,7 +81,7 @@ pub fn read_command(b: &[u8]) -> Result<Command, PacketFault>
 }
 
 /// Why bytes are no end. The code is judged before the length of the endcode (profile).
-#[derive(Clone, Copy, Debug, PartialEq, Eq)]
+#[derive(Clone, Copy)]
 pub enum EndFault {
     /// Under 12 or over 64 bytes, or under the length of its endcode.
     Length,

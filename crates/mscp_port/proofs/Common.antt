@@ -22,11 +22,11 @@ pub use Rattle.mscp_controller.specs.declared.entry.NotBegun.{NotBegun}
 pub use Rattle.mscp_controller.specs.declared.entry.SendFault.{SendFault}
 pub use Rattle.mscp_controller.specs.declared.entry.Sent.{Sent}
 pub use Rattle.mscp_drive.specs.Shape.{Shape, one_block}
-pub use Rattle.mscp_events.specs.Both.{of}
-pub use Rattle.mscp_events.specs.Settings.{Settings, credits_of}
-pub use Rattle.mscp_events.specs.declared.block.Block.{Block}
-pub use Rattle.mscp_events.specs.declared.connection.Connection.{Connection}
-pub use Rattle.mscp_events.specs.declared.connection.Connection.TheVariants.{First}
+pub use Rattle.mscp_drive.specs.Both.{of}
+pub use Rattle.mscp_drive.specs.Settings.{Settings, credits_of}
+pub use Rattle.mscp_drive.specs.declared.block.Block.{Block}
+pub use Rattle.mscp_drive.specs.declared.connection.Connection.{Connection}
+pub use Rattle.mscp_drive.specs.declared.connection.Connection.TheVariants.{First}
 pub use Rattle.mscp_packet.proofs.Numbers.{four, two}
 pub use Rattle.mscp_packet.proofs.Parts.{each_more, from_place, written_more}
 unfoldable pub use Rattle.mscp_packet.specs.Commands.{command_of}

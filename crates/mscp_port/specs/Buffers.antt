@@ -1,8 +1,8 @@
 -- Where the data of a transfer are in host memory (port).
 use Rattle.std.specs.Prelude.{ℕ, ◌+◌, ◌-◌, ◌*◌, ◌≤◌, ◌||◌, ◌++◌, ◌∷◌, [], min, nat_eq, nat_lt, not, Bool, false, List, length, filter, if◌then◌else◌, Option, None, Some}
 use Rattle.mscp_packet.specs.Number.{num}
-use Rattle.mscp_events.specs.declared.connection.Connection.{Connection}
-use Rattle.mscp_events.specs.declared.connection.Connection.TheVariants.{First, Second}
+use Rattle.mscp_drive.specs.declared.connection.Connection.{Connection}
+use Rattle.mscp_drive.specs.declared.connection.Connection.TheVariants.{First, Second}
 use Rattle.mscp_port.specs.declared.buffers.Buffer.{Buffer}
 
 -- the number in so many bytes from a place on, or 0 where the message is shorter

@@ -1,7 +1,7 @@
 -- What has no number of its own, as numbers, and what numbers stand for.
 use Rattle.std.specs.Prelude.{◌≡◌, ℕ, ◌%◌, ◌≤◌, ◌<◌, Bool, true, nat_eq, nat_le, nat_lt, if◌then◌else◌, Option, Some, None, is_some}
-use Rattle.mscp_events.specs.declared.block.Block.{Block}
-use Rattle.mscp_events.specs.declared.block.Block.TheVariants.{Good, Bad}
+use Rattle.mscp_drive.specs.declared.block.Block.{Block}
+use Rattle.mscp_drive.specs.declared.block.Block.TheVariants.{Good, Bad}
 use Rattle.mscp_saved.specs.Saved.{flag_byte}
 use Rattle.mscp_port.specs.declared.codes.Coded.{Coded}
 use Rattle.mscp_port.specs.declared.hardware.Bus.{Bus}

@@ -4,7 +4,7 @@ pub use Rattle.byteorder.specs.Endian.{little_bytes}
 pub use Rattle.mscp_controller.specs.Holdings.{Foretells, after_message, after_take, balance_of, begun_step}
 pub use Rattle.mscp_controller.specs.Restored.{IsSound}
 pub use Rattle.mscp_drive.specs.UnitList.{unit_found}
-pub use Rattle.mscp_events.specs.declared.connection.Connection.TheVariants.{First}
+pub use Rattle.mscp_drive.specs.declared.connection.Connection.TheVariants.{First}
 pub use Rattle.mscp_packet.specs.Number.{num}
 pub use Rattle.mscp_port.specs.Acted.{Clears, GivesBack, WritesOut, counted, step_task, vector_in}
 pub use Rattle.mscp_port.specs.Areas.{AreRings, IsInArea, end_of, rings_named, slot_in, slots_of}

@@ -6,7 +6,7 @@ use Rattle.mscp_port.specs.declared.action.Action.TheVariants as actions
 use Rattle.mscp_port.specs.declared.action.Outcome.{Outcome}
 use Rattle.mscp_port.specs.declared.action.Unasked.{Unasked}
 use Rattle.mscp_port.specs.declared.buffers.Buffer.{Buffer}
-use Rattle.mscp_events.specs.declared.connection.Connection.TheVariants.{First}
+use Rattle.mscp_drive.specs.declared.connection.Connection.TheVariants.{First}
 use Rattle.mscp_controller.specs.declared.entry.SendFault.TheVariants.{NoCredit, LastCredit}
 use Rattle.mscp_controller.specs.Holdings.{Holdings, answer_to_message, balance_of, outstanding_of}
 use Rattle.mscp_port.specs.declared.hardware.Hardware.{Hardware}

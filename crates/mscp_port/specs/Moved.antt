@@ -2,17 +2,17 @@
 use Rattle.std.specs.Prelude.{◌≡◌, ◌<◌, ◌⊎◌, ℕ, ◌%◌, ◌==◌, true, if◌then◌else◌, List, MatchOption, option_map, Result, Option, None, Some, Ok, Err}
 use Rattle.mscp_drive.specs.Shape.{Shape}
 use Rattle.mscp_packet.specs.declared.command.MoveKind.{MoveKind}
-use Rattle.mscp_events.specs.declared.block.Block.{Block}
-use Rattle.mscp_events.specs.declared.block.Block.TheVariants as blocks
+use Rattle.mscp_drive.specs.declared.block.Block.{Block}
+use Rattle.mscp_drive.specs.declared.block.Block.TheVariants as blocks
 use Rattle.mscp_packet.specs.declared.end.End.{End}
 use Rattle.mscp_queue.specs.declared.report.Report.{Report}
 use Rattle.mscp_queue.specs.declared.report.Report.TheVariants as reports
-use Rattle.mscp_events.specs.declared.connection.Connection.{Connection}
+use Rattle.mscp_drive.specs.declared.connection.Connection.{Connection}
 use Rattle.mscp_queue.specs.declared.view.Choice.{Choice}
 use Rattle.mscp_queue.specs.Names.{name_on}
 use Rattle.mscp_queue.specs.Serving.{has_block}
 use Rattle.mscp_queue.specs.declared.upcoming.Upcoming.{Upcoming}
-use Rattle.mscp_events.specs.declared.connection.Connection.TheVariants.{First}
+use Rattle.mscp_drive.specs.declared.connection.Connection.TheVariants.{First}
 use Rattle.mscp_controller.specs.Holdings.{Finishes, Foretells, Holdings, after_take, begun_step}
 use Rattle.mscp_controller.specs.declared.entry.NotBegun.{NotBegun}
 use Rattle.mscp_port.specs.declared.action.Action.{Action}

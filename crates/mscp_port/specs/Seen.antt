@@ -1,7 +1,7 @@
 -- What follows what was read in host memory (port: UQSSP, "Ring Entries", "Envelope Header").
 use Rattle.std.specs.Prelude.{◌≡◌, ◌≢◌, ℕ, ◌/◌, ◌%◌, ◌==◌, ◌&&◌, ◌||◌, not, Bool, true, false, nat_lt, slice_index, if◌then◌else◌, List, length, MatchOption, Result, Option, None, Some, Ok, Err}
 use Rattle.mscp_packet.specs.Number.{num}
-use Rattle.mscp_events.specs.declared.connection.Connection.TheVariants.{First}
+use Rattle.mscp_drive.specs.declared.connection.Connection.TheVariants.{First}
 use Rattle.mscp_controller.specs.Holdings.{answer_to_message}
 use Rattle.mscp_controller.specs.declared.entry.SendFault.{SendFault}
 use Rattle.mscp_controller.specs.declared.entry.Sent.{Sent}

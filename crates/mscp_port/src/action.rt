@@ -4,7 +4,7 @@ use mscp_packet::MoveKind;
 use mscp_queue::FaultStatus;
 
 /// What the port wants done. Addresses are those of the host's bus.
-#[derive(Clone, Copy, Debug, PartialEq, Eq)]
+#[derive(Clone, Copy)]
 pub enum Action {
     /// Nothing, until a register is touched, a volume comes or goes, or the clock ticks.
     Rest,
@@ -46,7 +46,7 @@ pub enum Ask {
 }
 
 /// How an action went.
-#[derive(Clone, Copy, Debug, PartialEq, Eq)]
+#[derive(Clone, Copy, PartialEq, Eq)]
 pub enum Outcome {
     /// It was done.
     Done,
@@ -63,5 +63,5 @@ pub enum Outcome {
 }
 
 /// What was told isn't what the port wants done now. Nothing is changed.
-#[derive(Clone, Copy, Debug, PartialEq, Eq)]
+#[derive(Clone, Copy)]
 pub struct Unasked;

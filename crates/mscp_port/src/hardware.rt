@@ -4,7 +4,7 @@ ghost use Rattle.std.specs.Prelude.{◌≡◌, ◌%◌};
 ghost use Rattle.mscp_port.specs.Registers.{bus_size, first_step, last_step};
 
 /// The bus of the host.
-#[derive(Clone, Copy, Debug, PartialEq, Eq)]
+#[derive(Clone, Copy)]
 pub enum Bus {
     /// The Q-bus, with addresses of 22 bits.
     Q,
@@ -25,7 +25,7 @@ impl Bus {
 }
 
 /// What kind of port it is, as it tells its host.
-#[derive(Clone, Copy, Debug, PartialEq, Eq)]
+#[derive(Clone, Copy)]
 pub struct Hardware {
     pub bus: Bus,
     /// The port's model, of which the low seven bits are told: 19 is an RQDX3, 6 a UDA50.

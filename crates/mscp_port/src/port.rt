@@ -33,7 +33,7 @@ use mscp_controller::Controller;
 use mscp_queue::{Connection, Picker};
 
 /// Why there is no such port.
-#[derive(Clone, Copy, Debug, PartialEq, Eq)]
+#[derive(Clone, Copy)]
 pub enum PortFault {
     /// A host may have 1 to 63 commands outstanding, and the controller's first connection wants one credit more.
     Credits,

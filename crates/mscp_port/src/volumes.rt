@@ -4,7 +4,7 @@ ghost use Rattle.std.specs.Prelude.{◌≡◌, ◌↔◌, true, EachIndex, Some,
 ghost use Rattle.mscp_port.specs.Common.{is_mounted, volume_at, volume_changed, volume_put, volume_reset};
 
 /// What is put into a unit.
-#[derive(Clone, Copy, Debug, Default, PartialEq, Eq)]
+#[derive(Clone, Copy, Default)]
 pub struct Medium {
     /// Its blocks: 1 to those of the unit.
     pub size: u32,
@@ -17,7 +17,7 @@ pub struct Medium {
 }
 
 /// Why a volume isn't put into a unit. Nothing is changed.
-#[derive(Clone, Copy, Debug, PartialEq, Eq)]
+#[derive(Clone, Copy)]
 pub enum VolumeFault {
     /// No unit has this number.
     NoUnit,

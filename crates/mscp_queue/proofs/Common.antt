@@ -21,8 +21,8 @@ pub use Rattle.mscp_drive.specs.Heads.{sweep_cost}
 pub use Rattle.mscp_drive.specs.Shape.{Shape, cylinder_of, last_cylinder, one_block}
 pub use Rattle.mscp_drive.specs.UnitList.{IsUnitList, NumbersRise, unit_found}
 pub use Rattle.mscp_drive.specs.declared.head.Head.{Head}
-pub use Rattle.mscp_events.specs.declared.block.Block.{Block}
-pub use Rattle.mscp_events.specs.declared.connection.Connection.{Connection}
+pub use Rattle.mscp_drive.specs.declared.block.Block.{Block}
+pub use Rattle.mscp_drive.specs.declared.connection.Connection.{Connection}
 pub use Rattle.mscp_packet.specs.Ends.{IsOfKind, kind_of_body, kind_of_code, refused_body, zero_body}
 pub use Rattle.mscp_packet.specs.declared.command.Command.{Command}
 pub use Rattle.mscp_packet.specs.declared.command.Order.{Order}

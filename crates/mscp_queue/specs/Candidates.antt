@@ -5,7 +5,7 @@ use Rattle.mscp_packet.specs.declared.class.Class.TheVariants.{Unknown}
 use Rattle.mscp_drive.specs.Heads.{sweep_cost}
 use Rattle.mscp_drive.specs.Shape.{Shape, last_cylinder, one_block}
 use Rattle.mscp_queue.specs.declared.drive.Drive.{Drive}
-use Rattle.mscp_events.specs.declared.connection.Connection.TheVariants.{First}
+use Rattle.mscp_drive.specs.declared.connection.Connection.TheVariants.{First}
 use Rattle.mscp_queue.specs.declared.name.Name.{Name}
 use Rattle.mscp_queue.specs.declared.view.Choice.{Choice}
 use Rattle.mscp_queue.specs.declared.target.Target.{Target}

@@ -2,7 +2,7 @@
 pub use Rattle.mscp_drive.specs.Heads.{distance}
 pub use Rattle.mscp_drive.specs.Shape.{one_block}
 pub use Rattle.mscp_drive.specs.UnitList.{IsUnitList}
-pub use Rattle.mscp_events.specs.declared.connection.Connection.TheVariants.{First}
+pub use Rattle.mscp_drive.specs.declared.connection.Connection.TheVariants.{First}
 pub use Rattle.mscp_packet.specs.Ends.{IsOfKind}
 pub use Rattle.mscp_packet.specs.declared.class.Class.TheVariants.{Unknown}
 pub use Rattle.mscp_queue.specs.Candidates.{AreCandidates, AreOnDrive, IsPrepared, IsRecosted, IsRenewed, choice_in, costing, has_choice_name, no_choice}
@@ -25,10 +25,7 @@ pub use Rattle.mscp_queue.specs.Targets.{IsTargeted, no_target, target_of, targe
 pub use Rattle.mscp_queue.specs.Views.{AllMayStart, IsPick, choice_name, choice_of, is_open_at, open_places, view_of}
 pub use Rattle.mscp_queue.specs.Waiters.{Waiters}
 pub use Rattle.mscp_queue.specs.Why.{holder_of, holders_at, holders_of_name, is_nobody, is_overdrawn}
-pub use Rattle.mscp_queue.specs.contracts.view.ChoicePartialEq.TheImpl.{ghosts}
-pub use Rattle.mscp_queue.specs.contracts.view.ChoicePartialEq.TheImpl.Laws.{laws-law}
 pub use Rattle.mscp_queue.specs.declared.report.Report.TheVariants.{Served}
-pub use Rattle.std.specs.Cmp.Lexicographic.{lists_per, pointwise}
 pub use Rattle.std.specs.Int.{bit_at}
 pub use Rattle.std.specs.List.{list_all, list_any, position}
 pub use Rattle.std.specs.Option.{option_copied}

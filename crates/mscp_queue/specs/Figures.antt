@@ -1,7 +1,7 @@
 -- The figure of a record: how many steps its command may still wait, at most.
 use Rattle.std.specs.Prelude.{ℕ, ◌+◌, ◌-◌, if◌then◌else◌, List, length, map, take, drop, filter, sum_by, Option, Some, None}
 use Rattle.std.specs.List.{position, range_with_len}
-use Rattle.mscp_events.specs.declared.connection.Connection.{Connection}
+use Rattle.mscp_drive.specs.declared.connection.Connection.{Connection}
 use Rattle.mscp_queue.specs.declared.name.Name.{Name}
 use Rattle.mscp_queue.specs.Records.{Record, has_name, is_in_service, left_of, record_at}
 

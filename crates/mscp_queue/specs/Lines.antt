@@ -2,13 +2,13 @@
 use Rattle.std.specs.Prelude.{◌≡◌, ℕ, List, [], ◌∷◌, ◌++◌, map, Option, Some, None}
 use Rattle.mscp_packet.specs.declared.command.Command.{Command}
 use Rattle.mscp_drive.specs.Shape.{Shape}
-use Rattle.mscp_events.specs.declared.block.Block.{Block}
+use Rattle.mscp_drive.specs.declared.block.Block.{Block}
 use Rattle.mscp_queue.specs.declared.report.Report.{Report}
 use Rattle.mscp_queue.specs.declared.report.Report.TheVariants.{Idle}
 use Rattle.mscp_queue.specs.declared.drive.Drive.{Drive}
 use Rattle.mscp_queue.specs.declared.upcoming.Upcoming.{Upcoming}
 use Rattle.mscp_queue.specs.declared.view.Choice.{Choice}
-use Rattle.mscp_events.specs.declared.connection.Connection.{Connection}
+use Rattle.mscp_drive.specs.declared.connection.Connection.{Connection}
 use Rattle.mscp_queue.specs.declared.name.Name.{Name}
 use Rattle.mscp_queue.specs.Drives.{fresh_drive}
 use Rattle.mscp_queue.specs.Records.{Record, drive_at, fresh_record, name_of, record_at, without}

@@ -12,8 +12,8 @@ use Rattle.mscp_packet.specs.Statuses.{success, already_online, aborted, unit_av
 use Rattle.mscp_drive.specs.Shape.{Shape}
 use Rattle.mscp_drive.specs.Heads.{carried, moved}
 use Rattle.mscp_drive.specs.declared.head.Head.{Head}
-use Rattle.mscp_events.specs.declared.block.Block.{Block}
-use Rattle.mscp_events.specs.declared.block.Block.TheVariants.{Good, Bad}
+use Rattle.mscp_drive.specs.declared.block.Block.{Block}
+use Rattle.mscp_drive.specs.declared.block.Block.TheVariants.{Good, Bad}
 use Rattle.mscp_queue.specs.Orders.{endcode, first_block, is_move}
 
 -- the end of a command with this status and body (manual, "End Messages")

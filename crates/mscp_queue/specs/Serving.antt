@@ -6,7 +6,7 @@ use Rattle.mscp_drive.specs.Shape.{Shape, cylinder_of}
 use Rattle.mscp_drive.specs.UnitList.{unit_found}
 use Rattle.mscp_drive.specs.Heads.{distance}
 use Rattle.mscp_drive.specs.declared.head.Head.{Head}
-use Rattle.mscp_events.specs.declared.block.Block.{Block}
+use Rattle.mscp_drive.specs.declared.block.Block.{Block}
 use Rattle.mscp_queue.specs.declared.report.Report.{Report}
 use Rattle.mscp_queue.specs.declared.report.Report.TheVariants.{Idle, Served}
 use Rattle.mscp_queue.specs.declared.drive.Drive.{Drive}

@@ -12,7 +12,7 @@ use crate::record::Record;
 use crate::slots::{Content, Slots};
 use crate::target::Target;
 use arrayvec::ArrayVec;
-use mscp_events::Connection;
+use mscp_drive::Connection;
 use std::marker::Model;
 
 /// Where the clock is set back to 0, so that no due outgrows its number.

@@ -10,7 +10,7 @@ use mscp_drive::{Head, Unit};
 use mscp_packet::Order;
 
 /// A unit, whether it is online, and where its head is.
-#[derive(Clone, Copy, Debug, PartialEq, Eq)]
+#[derive(Clone, Copy)]
 pub struct Drive {
     pub unit: Unit,
     pub online: bool,

@@ -32,4 +32,4 @@ pub use crate::report::Report;
 pub use crate::upcoming::Upcoming;
 pub use crate::view::{Choice, View};
 pub use crate::why::Holder;
-pub use mscp_events::{Block, Connection, FaultStatus};
+pub use mscp_drive::{Block, Connection, FaultStatus};

@@ -3,10 +3,10 @@
 ghost use Rattle.std.specs.Prelude.{◌≡◌};
 ghost use Rattle.mscp_queue.specs.Names.{same_name};
 
-use mscp_events::Connection;
+use mscp_drive::Connection;
 
 /// The name of a command that waits: the connection that it came by, and its reference number.
-#[derive(Clone, Copy, Debug, PartialEq, Eq)]
+#[derive(Clone, Copy)]
 pub struct Name {
     pub connection: Connection,
     pub reference: u32,

@@ -3,8 +3,7 @@
 ghost use Rattle.std.specs.Prelude.{◌≡◌, ◌+◌, ◌<◌, ◌^◌};
 ghost use Rattle.mscp_queue.specs.Common.{endcode, aborted_end, bad_status, end_with, good_status, is_success, moved_body, online_body, outcome_at, outcome_body, outcome_status, touches};
 
-use mscp_drive::Unit;
-use mscp_events::Block;
+use mscp_drive::{Block, Unit};
 use mscp_packet::status::{ABORTED, ALREADY_ONLINE, INVALID_OPCODE, SUCCESS, UNIT_AVAILABLE};
 use mscp_packet::{Command, End, EndBody, Order};
 

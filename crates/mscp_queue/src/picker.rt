@@ -33,7 +33,7 @@ pub trait Picker {
 }
 
 /// Picks the oldest command that may start.
-#[derive(Clone, Copy, Debug, Default, PartialEq, Eq)]
+#[derive(Clone, Copy, Default)]
 pub struct Oldest;
 
 impl Picker for Oldest {
@@ -100,7 +100,7 @@ fn bits_of(places: usize) -> u64
 const MANY: usize = 9;
 
 /// Picks the command whose start costs the least, and of those the oldest: an elevator over all units (profile).
-#[derive(Clone, Copy, Debug, Default, PartialEq, Eq)]
+#[derive(Clone, Copy, Default)]
 pub struct Sweep;
 
 impl Picker for Sweep {

@@ -7,8 +7,7 @@ use crate::drive::Drive;
 use crate::outcome::{outcome, touches};
 use crate::record::Record;
 use crate::report::Report;
-use mscp_drive::Head;
-use mscp_events::Block;
+use mscp_drive::{Block, Head};
 use mscp_packet::{End, Order};
 
 /// The block that the next step of the command touches, if it touches one.

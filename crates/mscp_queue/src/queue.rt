@@ -18,14 +18,13 @@ use crate::target::Target;
 use crate::view::View;
 use crate::why::{Holder, holders_at};
 use arrayvec::ArrayVec;
-use mscp_drive::Units;
-use mscp_events::Connection;
+use mscp_drive::{Connection, Units};
 use mscp_packet::{Command, End, Order};
 use std::marker::Model;
 use std::mem::replace;
 
 /// A command that is to wait, and how many steps it takes.
-#[derive(Clone, Copy, Debug, PartialEq, Eq)]
+#[derive(Clone, Copy)]
 pub struct Waiting {
     /// The connection that it came by, and that its end goes to.
     pub connection: Connection,

@@ -4,7 +4,7 @@ ghost use Rattle.std.specs.Prelude.{◌≡◌, ◌+◌, ◌<◌, ◌^◌, nat_eq
 ghost use Rattle.mscp_queue.specs.Common.{is_sequential, order_weight, advanced, fresh_record, has_name, left_of, name_of, no_record, passed_by};
 
 use crate::name::Name;
-use mscp_events::Connection;
+use mscp_drive::Connection;
 use mscp_packet::{Class, Command, Order};
 use std::marker::Model;
 

@@ -1,10 +1,10 @@
 // What a step reports.
 
-use mscp_events::Connection;
+use mscp_drive::Connection;
 use mscp_packet::End;
 
 /// What a step did.
-#[derive(Clone, Copy, Debug, PartialEq, Eq)]
+#[derive(Clone, Copy)]
 pub enum Report {
     /// Nothing waits.
     Idle,

@@ -6,13 +6,13 @@ ghost use Rattle.mscp_queue.specs.Common.{first_block, upcoming_of};
 use crate::drive::Drive;
 use crate::plan::touched;
 use crate::record::Record;
-use mscp_events::Connection;
+use mscp_drive::Connection;
 use mscp_packet::Command;
 
 /// What the next step serves: the command and the connection that it came by, the block that the step touches, how many
 /// steps the command had, and how many it takes in all. `lbn` is none for a sequential command, and for a transfer whose
 /// unit is available.
-#[derive(Clone, Copy, Debug, PartialEq, Eq)]
+#[derive(Clone, Copy)]
 pub struct Upcoming {
     pub connection: Connection,
     pub command: Command,

@@ -5,14 +5,12 @@ ghost use Rattle.mscp_queue.specs.Common.{costing, no_choice, choice_name};
 
 use crate::name::Name;
 use arrayvec::ArrayVec;
-use mscp_events::Connection;
+use mscp_drive::Connection;
 use mscp_packet::Class;
-use std::fmt;
-use std::fmt::{Debug, Formatter, Write};
 use std::marker::Model;
 
 /// A command that may start, as a picker sees it.
-#[derive(Clone, Copy, Debug, PartialEq, Eq)]
+#[derive(Clone, Copy)]
 pub struct Choice {
     /// Its reference number.
     pub reference: u32,
@@ -134,25 +132,5 @@ impl View {
         ensures few { length result.now ≤ 64 }
     {
         self.choices.as_slice()
-    }
-}
-
-impl PartialEq for View {
-    ghost use Rattle.mscp_queue.specs.Common.{pointwise, lists_per, ghosts, laws-law};
-
-    ghost eq = { pointwise ghosts.eq };
-
-    ghost laws = { lists_per laws-law };
-
-    fn eq(&self, other: &View) -> bool {
-        self.choices() == other.choices()
-    }
-}
-
-impl Debug for View {
-    fn fmt<W: Write>(&self, f: &mut Formatter<W>) -> fmt::Result {
-        f.debug_struct("View")
-            .field("choices", &self.choices())
-            .finish()
     }
 }

@@ -7,10 +7,10 @@ ghost use Rattle.mscp_queue.specs.Views.{fences};
 use crate::backlog::Backlog;
 use crate::record::Record;
 use arrayvec::ArrayVec;
-use mscp_events::Connection;
+use mscp_drive::Connection;
 
 /// An earlier command that keeps a waiting one back.
-#[derive(Clone, Copy, Debug, Default, PartialEq, Eq)]
+#[derive(Clone, Copy, Default)]
 pub struct Holder {
     /// Its connection.
     pub connection: Connection,

@@ -18,11 +18,11 @@ pub use Rattle.std.specs.Str.Parse.{digits_value}
 pub use Rattle.memchr.specs.Find.{IsFirstByte, is_byte}
 pub use Rattle.mscp_drive.specs.Shape.{Shape}
 pub use Rattle.mscp_drive.specs.UnitList.{IsUnitList, NumbersRise}
-pub use Rattle.mscp_events.specs.Both.{Both}
-pub use Rattle.mscp_events.specs.Settings.{Settings}
-pub use Rattle.mscp_events.specs.declared.block.Block.TheVariants.{Good}
-pub use Rattle.mscp_events.specs.declared.connection.Connection.TheVariants.{First}
-pub use Rattle.mscp_events.specs.declared.event.Event.{Event}
+pub use Rattle.mscp_drive.specs.Both.{Both}
+pub use Rattle.mscp_drive.specs.Settings.{Settings}
+pub use Rattle.mscp_drive.specs.declared.block.Block.TheVariants.{Good}
+pub use Rattle.mscp_drive.specs.declared.connection.Connection.TheVariants.{First}
+pub use Rattle.mscp_drive.specs.declared.event.Event.{Event}
 pub use Rattle.mscp_packet.specs.Steps.{Gives, ◌>>=◌}
 pub use Rattle.mscp_packet.specs.declared.command.MoveKind.{MoveKind}
 pub use Rattle.mscp_packet.specs.declared.command.Order.{Order}

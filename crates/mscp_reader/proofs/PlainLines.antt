@@ -3,7 +3,7 @@ use Rattle.mscp_reader.proofs.Common.{◌≡◌, ◌<◌, ◌≤◌, ◌+◌, �
 use Rattle.mscp_packet.specs.declared.command.Order.TheVariants as orders
 use Rattle.mscp_reader.specs.declared.events.Form.TheVariants as forms
 use Rattle.mscp_reader.specs.declared.fault.Cause.TheVariants as causes
-use Rattle.mscp_events.specs.declared.event.Event.TheVariants as events
+use Rattle.mscp_drive.specs.declared.event.Event.TheVariants as events
 use Rattle.mscp_reader.proofs.Cuts.{front_len, front_len_is, parts_after, split_parts, words_none}
 
 -- ---- letters and digits

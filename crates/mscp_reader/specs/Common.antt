@@ -1,10 +1,10 @@
 -- What the code of this crate takes from specifications.
 pub use Rattle.mscp_drive.specs.UnitList.{IsUnitList, NumbersRise}
-pub use Rattle.mscp_events.specs.Both.{Both}
-pub use Rattle.mscp_events.specs.Settings.{Settings}
-pub use Rattle.mscp_events.specs.declared.block.Block.TheVariants.{Good}
-pub use Rattle.mscp_events.specs.declared.connection.Connection.TheVariants.{First}
-pub use Rattle.mscp_events.specs.declared.event.Event.{Event}
+pub use Rattle.mscp_drive.specs.Both.{Both}
+pub use Rattle.mscp_drive.specs.Settings.{Settings}
+pub use Rattle.mscp_drive.specs.declared.block.Block.TheVariants.{Good}
+pub use Rattle.mscp_drive.specs.declared.connection.Connection.TheVariants.{First}
+pub use Rattle.mscp_drive.specs.declared.event.Event.{Event}
 pub use Rattle.mscp_packet.specs.Steps.{Gives}
 pub use Rattle.mscp_reader.specs.Causes.{cause_word}
 pub use Rattle.mscp_reader.specs.Grammar.{Begins, HasCredits, HasGone, HasTimeout, HasUnits, IsFault, IsInHeader, Place, Reads, asked_after, said_at}

@@ -3,10 +3,10 @@ use Rattle.std.specs.Prelude.{◌≡◌, ℕ, ◌+◌, ◌*◌, ◌<◌, ◌≤�
 use Rattle.std.specs.List.{list_all}
 use Rattle.std.specs.Str.{bytes_eq}
 use Rattle.mscp_drive.specs.Shape.{Shape}
-use Rattle.mscp_events.specs.Both.{Both}
-use Rattle.mscp_events.specs.Settings.{Settings, configured}
-use Rattle.mscp_events.specs.declared.config.ConfigFault.{ConfigFault}
-use Rattle.mscp_events.specs.declared.event.Event.{Event}
+use Rattle.mscp_drive.specs.Both.{Both}
+use Rattle.mscp_drive.specs.Settings.{Settings, configured}
+use Rattle.mscp_drive.specs.declared.config.ConfigFault.{ConfigFault}
+use Rattle.mscp_drive.specs.declared.event.Event.{Event}
 use Rattle.mscp_packet.specs.Steps.{◌>>=◌}
 use Rattle.mscp_reader.specs.Lexical.{lines, said, number, wide, narrow}
 use Rattle.mscp_reader.specs.Requests.{none, one, five, request}

@@ -1,9 +1,9 @@
 -- The meaning of a script as one function, for the loops of its reader.
 use Rattle.std.specs.Prelude.{◌≡◌, ℕ, ◌+◌, ◌*◌, nat_lt, if◌then◌else◌, List, [], ◌∷◌, length, Option, Some, None, Result, Ok, Err}
 use Rattle.mscp_drive.specs.Shape.{Shape}
-use Rattle.mscp_events.specs.Both.{Both}
-use Rattle.mscp_events.specs.Settings.{Settings}
-use Rattle.mscp_events.specs.declared.event.Event.{Event}
+use Rattle.mscp_drive.specs.Both.{Both}
+use Rattle.mscp_drive.specs.Settings.{Settings}
+use Rattle.mscp_drive.specs.declared.event.Event.{Event}
 use Rattle.mscp_packet.specs.Steps.{◌>>=◌}
 use Rattle.mscp_reader.specs.Lexical.{lines}
 use Rattle.mscp_reader.specs.Grammar.{Place, Begins, HasBudget, HasPassing, HasUnits, HasGone, IsInHeader, setting, next, after_line, asked_after, said_at}

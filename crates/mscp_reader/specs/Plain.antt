@@ -2,8 +2,8 @@
 use Rattle.std.specs.Prelude.{◌≡◌, ℕ, ◌≤◌, ◌&&◌, nat_le, Bool, true, false, List, [], ◌∷◌, ◌++◌, length, take, Result, Ok}
 use Rattle.std.specs.List.{list_all}
 use Rattle.std.specs.Str.Parse.{digits_value}
-use Rattle.mscp_events.specs.declared.connection.Connection.TheVariants.{First}
-use Rattle.mscp_events.specs.declared.event.Event.{Event}
+use Rattle.mscp_drive.specs.declared.connection.Connection.TheVariants.{First}
+use Rattle.mscp_drive.specs.declared.event.Event.{Event}
 use Rattle.mscp_reader.specs.Lexical.{is_comment, is_digit, is_printed, words}
 use Rattle.mscp_reader.specs.Requests.{asked, request}
 use Rattle.mscp_reader.specs.declared.fault.Cause.{Cause}

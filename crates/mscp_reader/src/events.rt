@@ -10,7 +10,7 @@ use crate::lines::Line;
 use crate::numbers::{message, narrow, status, wide};
 use crate::request::Request;
 use crate::words::Words;
-use mscp_events::{Block, Connection, FaultStatus};
+use mscp_drive::{Block, Connection, FaultStatus};
 use mscp_packet::{Command, MoveKind, Order};
 
 /// The most events of a script.

@@ -4,11 +4,11 @@ ghost use Rattle.std.specs.Prelude.{◌≡◌, ◌≤◌, length};
 ghost use Rattle.mscp_reader.specs.Common.{cause_word, in_line};
 ghost use Rattle.mscp_reader.specs.declared.fault.ReadFault.TheVariants as variants;
 
-use mscp_events::OutOfMemory;
+use mscp_drive::OutOfMemory;
 use thiserror::Error;
 
 /// What is wrong with a line: the first that holds, in this order.
-#[derive(Clone, Copy, Debug, PartialEq, Eq)]
+#[derive(Clone, Copy, Debug)]
 pub enum Cause {
     /// The script has over 16,777,216 bytes.
     Size,
@@ -64,7 +64,7 @@ impl Cause {
 
 /// The first fault of a script. Lines count from 1, skipped ones too. The line is 0 where the script is too
 /// large, and the number of lines plus 1 where the header isn't whole.
-#[derive(Clone, Copy, Debug, PartialEq, Eq, Error)]
+#[derive(Clone, Copy, Debug, Error)]
 #[error("line {line}: {}", .cause.word())]
 pub struct ScriptFault {
     pub line: u32,
@@ -72,7 +72,7 @@ pub struct ScriptFault {
 }
 
 /// Why a script isn't read.
-#[derive(Clone, Copy, Debug, PartialEq, Eq, Error)]
+#[derive(Clone, Copy, Debug, Error)]
 pub enum ReadFault {
     /// The script has a fault.
     #[error(transparent)]

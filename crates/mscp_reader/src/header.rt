@@ -2,7 +2,7 @@
 
 ghost use Rattle.std.specs.Prelude.{◌≡◌, ◌<◌, ◌≤◌, [], ℕ, nat_lt, length, IfOk, IfErr, OnOk};
 ghost use Rattle.mscp_reader.specs.Common.{list_all, IsUnitList, NumbersRise, Gives, Place, Begins, HasCredits, HasTimeout, HasUnits, HasGone, Both, Sets, Heads, Leads, both_of, budget_of, limited, rest_headed, rest_outcome, settled, place_after};
-ghost use Rattle.mscp_events.specs.Settings as settings;
+ghost use Rattle.mscp_drive.specs.Settings as settings;
 ghost use Rattle.mscp_reader.specs.Lexical as lexical;
 ghost use Rattle.mscp_reader.specs.Grammar as grammar;
 
@@ -11,8 +11,7 @@ use crate::lines::Lines;
 use crate::numbers::{narrow, number, wide};
 use crate::words::Words;
 use arrayvec::ArrayVec;
-use mscp_drive::{Unit, Units};
-use mscp_events::Config;
+use mscp_drive::{Config, Unit, Units};
 
 /// What a script's controller is known by.
 const IDENTIFIER: u64 = 1;

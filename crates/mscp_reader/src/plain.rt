@@ -3,13 +3,13 @@
 
 ghost use Rattle.std.specs.Prelude.{◌≡◌, ◌≤◌, [], true, not, position, take, length, replicate, IfSome};
 ghost use Rattle.mscp_reader.specs.Common.{list_all, Good, First, MOST_STEPS, Asks, CutsWord, Ends, IsNumeral, IsPlain, is_letter, events_of, sent};
-ghost use Rattle.mscp_events.specs.declared.event.Event.TheVariants as events;
+ghost use Rattle.mscp_drive.specs.declared.event.Event.TheVariants as events;
 ghost use Rattle.mscp_reader.specs.Lexical as lexical;
 
 use crate::events::{Form, MOST_STEPS, form_of};
 use crate::numbers::MOST_DIGITS;
 use crate::request::Request;
-use mscp_events::{Block, Connection};
+use mscp_drive::{Block, Connection};
 use mscp_packet::{Command, MoveKind, Order};
 
 /// What the first line of these bytes asks for, and what stands behind it, if that line is found to be plain. Nothing is

@@ -3,7 +3,7 @@
 ghost use Rattle.std.specs.Prelude.{◌≡◌, length};
 ghost use Rattle.mscp_reader.specs.Requests.{events_of};
 
-use mscp_events::{Block, Connection};
+use mscp_drive::{Block, Connection};
 use mscp_packet::Command;
 
 /// What a line asks for. The digits of a message are borrowed from the script: room for its bytes would be cleared and moved

@@ -18,10 +18,10 @@ pub use Rattle.mscp_controller.specs.Restored.{IsCovered, IsSound, made_of}
 pub use Rattle.mscp_drive.specs.Extent.{weight}
 pub use Rattle.mscp_drive.specs.Shape.{Shape, one_block}
 pub use Rattle.mscp_drive.specs.UnitList.{IsUnitList, NumbersRise}
-pub use Rattle.mscp_events.specs.Settings.{IsValid, Settings, configured, configured_unless, credits_of, limit_fault, room_of}
-pub use Rattle.mscp_events.specs.declared.config.ConfigFault.{ConfigFault}
-pub use Rattle.mscp_events.specs.declared.connection.Connection.{Connection}
-pub use Rattle.mscp_events.specs.declared.connection.Connection.TheVariants.{First, Second}
+pub use Rattle.mscp_drive.specs.Settings.{IsValid, Settings, configured, configured_unless, credits_of, limit_fault, room_of}
+pub use Rattle.mscp_drive.specs.declared.config.ConfigFault.{ConfigFault}
+pub use Rattle.mscp_drive.specs.declared.connection.Connection.{Connection}
+pub use Rattle.mscp_drive.specs.declared.connection.Connection.TheVariants.{First, Second}
 pub use Rattle.mscp_packet.proofs.Numbers.{eight, four, two}
 pub use Rattle.mscp_packet.proofs.Parts.{each_more, written_more}
 pub use Rattle.mscp_packet.specs.Commands.{command_bytes}

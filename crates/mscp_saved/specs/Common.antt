@@ -4,7 +4,7 @@ pub use Rattle.mscp_controller.specs.Arrival.{is_queued}
 pub use Rattle.mscp_controller.specs.Holdings.{waiting_on}
 pub use Rattle.mscp_controller.specs.Restored.{IsSound, made_of}
 pub use Rattle.mscp_drive.specs.Shape.{shape}
-pub use Rattle.mscp_events.specs.Settings.{IsValid}
+pub use Rattle.mscp_drive.specs.Settings.{IsValid}
 pub use Rattle.mscp_packet.specs.Commands.{command_of}
 pub use Rattle.mscp_packet.specs.Ends.{HasEndRange}
 pub use Rattle.mscp_queue.specs.Kept.{IsWaitable, units_of}

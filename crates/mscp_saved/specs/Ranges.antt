@@ -6,7 +6,7 @@ use Rattle.mscp_queue.specs.declared.drive.Drive.{Drive}
 use Rattle.mscp_queue.specs.Records.{Record}
 use Rattle.mscp_drive.specs.Shape.{Shape}
 use Rattle.mscp_controller.specs.Holdings.{Holdings}
-use Rattle.mscp_events.specs.Settings.{Settings}
+use Rattle.mscp_drive.specs.Settings.{Settings}
 
 -- a unit's number and its sizes, none of which is zero
 pub record HasSizesRange (u : Shape) : Type 0 where

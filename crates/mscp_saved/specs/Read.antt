@@ -9,8 +9,8 @@ use Rattle.mscp_packet.specs.Ends.{end_at, kind_of_code}
 use Rattle.mscp_packet.specs.Number.{num}
 use Rattle.mscp_drive.specs.Shape.{Shape, shape, one_block}
 use Rattle.mscp_queue.specs.declared.drive.Drive.{Drive}
-use Rattle.mscp_events.specs.declared.connection.Connection.{Connection}
-use Rattle.mscp_events.specs.declared.connection.Connection.TheVariants.{First, Second}
+use Rattle.mscp_drive.specs.declared.connection.Connection.{Connection}
+use Rattle.mscp_drive.specs.declared.connection.Connection.TheVariants.{First, Second}
 use Rattle.mscp_queue.specs.declared.name.Name.{Name}
 use Rattle.mscp_queue.specs.Kept.{units_of}
 use Rattle.mscp_queue.specs.Names.{name_on}
@@ -18,7 +18,7 @@ use Rattle.mscp_queue.specs.Orders.{order_weight}
 use Rattle.mscp_queue.specs.Records.{Record}
 use Rattle.mscp_controller.specs.Holdings.{Holdings}
 use Rattle.mscp_controller.specs.Restored.{made_of}
-use Rattle.mscp_events.specs.Settings.{Settings}
+use Rattle.mscp_drive.specs.Settings.{Settings}
 use Rattle.mscp_saved.specs.Saved.{drive_size, end_size, head_size, waiting_size}
 
 -- ---- parts

@@ -6,15 +6,15 @@ use Rattle.mscp_packet.specs.declared.end.End.{End}
 use Rattle.mscp_packet.specs.Number.{num}
 use Rattle.mscp_drive.specs.Shape.{Shape, last_cylinder}
 use Rattle.mscp_queue.specs.declared.drive.Drive.{Drive}
-use Rattle.mscp_events.specs.declared.connection.Connection.{Connection}
-use Rattle.mscp_events.specs.declared.connection.Connection.TheVariants.{First, Second}
+use Rattle.mscp_drive.specs.declared.connection.Connection.{Connection}
+use Rattle.mscp_drive.specs.declared.connection.Connection.TheVariants.{First, Second}
 use Rattle.mscp_queue.specs.declared.name.Name.{Name}
 use Rattle.mscp_queue.specs.Records.{Record, has_name, is_in_service, is_unstarted, name_of, record_at}
 use Rattle.mscp_queue.specs.Views.{is_open_at}
 use Rattle.mscp_controller.specs.Arrival.{is_queued}
 use Rattle.mscp_controller.specs.Holdings.{Holdings, waiting_on}
 use Rattle.mscp_controller.specs.Restored.{IsSound}
-use Rattle.mscp_events.specs.Settings.{Settings, credits_of, limit_fault, room_of}
+use Rattle.mscp_drive.specs.Settings.{Settings, credits_of, limit_fault, room_of}
 use Rattle.mscp_saved.specs.declared.fault.RestoreFault.{RestoreFault}
 use Rattle.mscp_saved.specs.declared.fault.RestoreFault.TheVariants as faults
 use Rattle.mscp_saved.specs.Read.{drive_count, first_count, held_in, second_count, waiting_count}

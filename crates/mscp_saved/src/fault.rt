@@ -1,7 +1,7 @@
 // Why bytes are no saved controller.
 
 /// Why bytes are no saved controller: the first that holds, in this order.
-#[derive(Clone, Copy, Debug, PartialEq, Eq)]
+#[derive(Clone, Copy)]
 pub enum RestoreFault {
     /// Fewer bytes than a head has, or not as many as the head tells, or not as many as its parts take; or more parts than
     /// any controller has: 16 drives, and 64 waiting commands and untaken ends.

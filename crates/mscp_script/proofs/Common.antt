@@ -11,9 +11,9 @@ pub use Rattle.std.specs.List.{flat_map}
 pub use Rattle.std.specs.Prelude.{IsErrAnd, codes}
 pub use Rattle.mscp_controller.specs.Holdings.{Answered, Answers, Holdings, fresh}
 pub use Rattle.mscp_controller.specs.declared.entry.Entry.{Entry}
-pub use Rattle.mscp_events.specs.Settings.{Settings}
-pub use Rattle.mscp_events.specs.declared.event.Event.{Event}
-pub use Rattle.mscp_events.specs.declared.memory.OutOfMemory.{OutOfMemory}
+pub use Rattle.mscp_drive.specs.Settings.{Settings}
+pub use Rattle.mscp_drive.specs.declared.event.Event.{Event}
+pub use Rattle.mscp_drive.specs.declared.memory.OutOfMemory.{OutOfMemory}
 pub use Rattle.mscp_queue.specs.Pickers.{IsSweep}
 pub use Rattle.mscp_queue.specs.declared.picker.Sweep.{Sweep}
 pub use Rattle.mscp_queue.specs.declared.view.Choice.{Choice}

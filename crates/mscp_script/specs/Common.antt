@@ -1,6 +1,6 @@
 -- What the code of this crate takes from specifications.
 pub use Rattle.arrayvec.specs.ArrayString.{array_string_len}
-pub use Rattle.mscp_events.specs.Settings.{Settings}
+pub use Rattle.mscp_drive.specs.Settings.{Settings}
 pub use Rattle.mscp_packet.specs.Steps.{Gives}
 pub use Rattle.mscp_reader.specs.Grammar.{Begins, HasGone, IsFault}
 pub use Rattle.mscp_reader.specs.Outcome.{rest_outcome}

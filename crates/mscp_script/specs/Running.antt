@@ -1,9 +1,9 @@
 -- What comes to a controller, event by event, and the report of what it answers.
 use Rattle.std.specs.Prelude.{◌≡◌, ℕ, List, ◌++◌, length, Result, Ok, Err}
 use Rattle.mscp_queue.specs.Pickers.{IsSweep}
-use Rattle.mscp_events.specs.declared.event.Event.{Event}
+use Rattle.mscp_drive.specs.declared.event.Event.{Event}
 use Rattle.mscp_controller.specs.declared.entry.Entry.{Entry}
-use Rattle.mscp_events.specs.Settings.{Settings}
+use Rattle.mscp_drive.specs.Settings.{Settings}
 use Rattle.mscp_controller.specs.Holdings.{Answered, Answers, fresh}
 use Rattle.mscp_script.specs.declared.running.Run.{Run}
 use Rattle.mscp_script.specs.Text.{reported, with_entry}

@@ -1,7 +1,7 @@
 -- What a script leaves in the reader and in the writer.
 use Rattle.std.specs.Prelude.{◌≡◌, ℕ, ◌+◌, List, zip, Option, option_map, Result, Ok, Err}
 use Rattle.std.specs.Io.KnownBytes.{Appends}
-use Rattle.mscp_events.specs.declared.event.Event.{Event}
+use Rattle.mscp_drive.specs.declared.event.Event.{Event}
 use Rattle.mscp_controller.specs.declared.entry.Entry.{Entry}
 use Rattle.mscp_script.specs.declared.reading.ReadAllFault.{ReadAllFault}
 use Rattle.mscp_script.specs.declared.reading.ReadAllFault.TheVariants as readings
@@ -9,7 +9,7 @@ use Rattle.mscp_reader.specs.declared.fault.ReadFault.{ReadFault}
 use Rattle.mscp_reader.specs.declared.fault.ReadFault.TheVariants as scripts
 use Rattle.mscp_script.specs.declared.simulation.SimFault.{SimFault}
 use Rattle.mscp_script.specs.declared.simulation.SimFault.TheVariants as faults
-use Rattle.mscp_events.specs.Settings.{IsValid, Settings}
+use Rattle.mscp_drive.specs.Settings.{IsValid, Settings}
 use Rattle.mscp_controller.specs.Headline.{Headline}
 use Rattle.mscp_controller.specs.Sweeping.{IsSweeping}
 use Rattle.mscp_script.specs.Text.{text}

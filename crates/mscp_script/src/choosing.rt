@@ -5,7 +5,7 @@ ghost use Rattle.mscp_script.specs.Common.{map, string_bytes, Gives, chosen, see
 use thiserror::Error;
 
 /// What a call of the program is to do.
-#[derive(Clone, Copy, Debug, PartialEq, Eq)]
+#[derive(Clone, Copy)]
 pub enum Deed<'a> {
     /// Run the script of this file, or where it is `-` that on standard input.
     Run(&'a str),
@@ -14,7 +14,7 @@ pub enum Deed<'a> {
 }
 
 /// Why the words of a command line are no call.
-#[derive(Clone, Copy, Debug, PartialEq, Eq, Error)]
+#[derive(Clone, Copy, Debug, Error)]
 pub enum LineFault {
     #[error("usage: mscpq [run FILE | packet HEX]")]
     Usage,

@@ -11,7 +11,7 @@ use std::alloc::Allocator;
 pub const LIMIT: usize = MOST_BYTES + 1;
 
 /// Why not all was read.
-#[derive(Clone, Copy, Debug, PartialEq, Eq)]
+#[derive(Clone, Copy)]
 pub enum ReadAllFault {
     /// A read failed.
     Read,

@@ -2,8 +2,8 @@
 
 ghost use Rattle.std.specs.Prelude.{◌≡◌, ◌+◌, ◌<◌, ◌^◌, [], length, replicate, OnOk};
 ghost use Rattle.mscp_controller.specs.Holdings.{fresh};
-ghost use Rattle.mscp_events.specs.Settings.{IsValid};
-ghost use Rattle.mscp_events.specs.declared.event.Event.TheVariants as events;
+ghost use Rattle.mscp_drive.specs.Settings.{IsValid};
+ghost use Rattle.mscp_drive.specs.declared.event.Event.TheVariants as events;
 ghost use Rattle.mscp_reader.specs.Requests.{events_of};
 ghost use Rattle.mscp_script.specs.Running.{Meets, Ran};
 ghost use Rattle.mscp_script.specs.Text.{reported};

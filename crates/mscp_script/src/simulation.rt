@@ -12,7 +12,7 @@ use std::alloc::{Allocator, Global};
 use thiserror::Error;
 
 /// Why nothing was reported, or not all of it.
-#[derive(Clone, Copy, Debug, PartialEq, Eq, Error)]
+#[derive(Clone, Copy, Debug, Error)]
 pub enum SimFault {
     /// A read failed.
     #[error("cannot read")]

@@ -25,7 +25,7 @@ pub struct Totals {
 }
 
 impl Totals {
-    ghost use Rattle.mscp_events.specs.declared.connection.Connection.{Connection};
+    ghost use Rattle.mscp_drive.specs.declared.connection.Connection.{Connection};
     ghost use Rattle.mscp_controller.specs.declared.entry.Entry.TheVariants as entries;
     ghost use Rattle.mscp_script.specs.Counted.{IsCounted};
 

@@ -1,7 +1,7 @@
 -- A take keeps what hosts will hear, and its own figure is right.
 use Rattle.mscp_controller.proofs.Basics.{◌≡◌, ⊎_elim, ℕ, suc, ◌+◌, ◌<◌, ◌≤◌, Bool, true, false, ◌&&◌, ◌||◌, List, [], ◌∷◌, ◌++◌, length, map, take, drop, get_or, refl, ap, sym, ◌∙◌, subst, arith, append-nil, append_assoc, drop_more, list_any-append, find, count_by, sum_by, sum_by-cons, list_any, nat_eq, nat_lt, Option, Some, None, AllByRecursion, true≢false, and_parts, eq-eqb, eqb-true, lt-ltb, take-append-drop, Connection, End, Name, name_on, Settings, Trace, Moment, is_waiting, name, connection, reference, queues, takes, ends, ends_at, untaken, untaken_more, every_parts, every_mapped, every_weaker, one_side, own_side, same_connection}
 use Rattle.mscp_controller.proofs.Promise.Grows.{name_before}
-use Rattle.mscp_events.specs.declared.connection.Connection.TheVariants.{First}
+use Rattle.mscp_drive.specs.declared.connection.Connection.TheVariants.{First}
 use Rattle.mscp_queue.proofs.Placed.{find_cases, find_first, find_none}
 use Rattle.mscp_wire.specs.Wire.{after_end, command_at, has_figure, hears, is_below, is_it, is_named, may_tell, place_of, polled_by, sent_by}
 use Rattle.mscp_wire.specs.Wire as wire

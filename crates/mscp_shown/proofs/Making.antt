@@ -4,7 +4,7 @@ use Rattle.std.specs.Prelude.{◌%◌, ◌^◌}
 use Rattle.mscp_controller.specs.declared.entry.Entry.{Entry}
 use Rattle.mscp_controller.specs.Ends.{figure_asked}
 use Rattle.mscp_controller.specs.Units.{is_online}
-use Rattle.mscp_events.specs.declared.block.Block.TheVariants.{Bad, Good}
+use Rattle.mscp_drive.specs.declared.block.Block.TheVariants.{Bad, Good}
 use Rattle.mscp_queue.specs.Outcomes.{goes_on}
 use Rattle.mscp_wire.specs.Wire.{is_named, sent_by}
 use Rattle.mscp_wire.specs.declared.sent.Sent.{Sent}

@@ -6,8 +6,8 @@ use Rattle.mscp_controller.proofs.Promise.Arrivals.{IsTaken}
 use Rattle.mscp_packet.specs.Number.{num}
 use Rattle.mscp_wire.specs.Wire.{IsRightMessage, count_on, has_credit, has_one_of, is_immediate, is_named, same_connection, sent_by}
 use Rattle.mscp_wire.specs.declared.sent.Sent.{Sent}
-use Rattle.mscp_events.specs.Settings.{IsValid}
-use Rattle.mscp_events.specs.declared.connection.Connection.TheVariants.{First, Second}
+use Rattle.mscp_drive.specs.Settings.{IsValid}
+use Rattle.mscp_drive.specs.declared.connection.Connection.TheVariants.{First, Second}
 use Rattle.mscp_shown.specs.Keeping.{Covers}
 use Rattle.mscp_shown.proofs.Counts.{all_pass, none_any, none_passes}
 use Rattle.mscp_shown.proofs.Owed.{owed}

@@ -8,7 +8,7 @@ use Rattle.mscp_controller.specs.declared.entry.Entry.{Entry}
 use Rattle.std.proofs.lemmas.List.{get_or-take, length-take-le, take-append-drop, take-take, take_all}
 use Rattle.mscp_controller.proofs.Promise.Known.{Known, known, more_at}
 use Rattle.mscp_controller.proofs.Promise.Shaped.{shaped}
-use Rattle.mscp_events.specs.declared.block.Block.TheVariants.{Bad, Good}
+use Rattle.mscp_drive.specs.declared.block.Block.TheVariants.{Bad, Good}
 use Rattle.mscp_shown.specs.Keeping.{IsPatient, IsPossible, LegalTracesAreRight, Polls}
 use Rattle.mscp_shown.proofs.Messages.{has_room}
 use Rattle.mscp_wire.specs.Wire.{AreRight}

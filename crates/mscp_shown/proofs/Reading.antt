@@ -5,8 +5,8 @@ use Rattle.mscp_packet.specs.Ends.{end_bytes}
 use Rattle.mscp_packet.specs.declared.end.End.{End}
 use Rattle.mscp_packet.specs.declared.end.EndBody.{EndBody}
 use Rattle.mscp_packet.specs.declared.end.EndBody.TheVariants as bodies
-use Rattle.mscp_events.specs.declared.connection.Connection.{Connection}
-use Rattle.mscp_events.specs.Settings.{Settings}
+use Rattle.mscp_drive.specs.declared.connection.Connection.{Connection}
+use Rattle.mscp_drive.specs.Settings.{Settings}
 use Rattle.mscp_wire.specs.Wire.{answer_by}
 use Rattle.mscp_wire.specs.declared.answer.Answer.{Answer}
 use Rattle.mscp_shown.proofs.Identity.{Tells}

@@ -10,7 +10,7 @@ use Rattle.mscp_packet.specs.declared.class.Opcode.{Opcode}
 use Rattle.mscp_packet.specs.declared.class.Opcode.TheVariants as codes
 use Rattle.mscp_packet.specs.declared.command.Order.{Order}
 use Rattle.mscp_packet.specs.declared.command.Order.TheVariants as orders
-use Rattle.mscp_events.specs.declared.connection.Connection.{Connection}
+use Rattle.mscp_drive.specs.declared.connection.Connection.{Connection}
 use Rattle.mscp_queue.proofs.Placed.{found_is}
 use Rattle.mscp_wire.specs.Wire.{is_about_another, sent_by}
 use Rattle.mscp_wire.specs.declared.sent.Sent.{Sent}

@@ -1,6 +1,6 @@
 -- Each moment keeps what is known of the order of all that is outstanding.
 use Rattle.mscp_controller.proofs.Basics.{◌≡◌, ⊎_elim, ℕ, ◌<◌, ◌≤◌, Bool, true, false, ◌&&◌, List, [], ◌∷◌, ◌++◌, length, drop, get_or, refl, ap, sym, ◌∙◌, subst, arith, append-nil, count_by, nat_eq, Some, AllByRecursion, true≢false, and_parts, eq-eqb, eqb-true, Connection, End, Name, Settings, Trace, Moment, IsRight, Apart, waiting, is_waiting, name, name_on, connection, reference, queues, takes, ends, ends_at, untaken, untaken_more, every_from, every_weaker, one_side, own_side, same_connection}
-use Rattle.mscp_events.specs.declared.connection.Connection.TheVariants.{First}
+use Rattle.mscp_drive.specs.declared.connection.Connection.TheVariants.{First}
 use Rattle.mscp_controller.proofs.Promise.Apart.{name_last, queued_name}
 use Rattle.mscp_controller.proofs.Promise.Grows.{name_before}
 use Rattle.mscp_packet.specs.Number.{num}

@@ -9,7 +9,7 @@ use Rattle.mscp_packet.specs.declared.command.Order.TheVariants as orders
 use Rattle.mscp_packet.specs.declared.end.EndBody.{EndBody}
 use Rattle.mscp_packet.specs.declared.end.EndBody.TheVariants as bodies
 use Rattle.mscp_packet.specs.Ends.{refused_body}
-use Rattle.mscp_events.specs.declared.block.Block.TheVariants.{Bad, Good}
+use Rattle.mscp_drive.specs.declared.block.Block.TheVariants.{Bad, Good}
 use Rattle.mscp_drive.specs.Extent as extent
 use Rattle.mscp_queue.specs.Orders.{endcode, order_weight}
 use Rattle.mscp_queue.specs.Outcomes.{goes_on, is_good_block, moved_body, outcome_body, outcome_status, touches}

@@ -1,10 +1,10 @@
 -- What is promised of all that a legal trace shows on the wire.
 use Rattle.std.specs.Prelude.{◌≡◌, ℕ, ◌%◌, ◌^◌, ◌<◌, ◌≤◌, true, All, List, length, take, slice_index, Option, IfSome}
-use Rattle.mscp_events.specs.Settings.{IsValid, Settings, credits_of}
-use Rattle.mscp_events.specs.declared.connection.Connection.{Connection}
-use Rattle.mscp_events.specs.declared.block.Block.TheVariants.{Bad}
-use Rattle.mscp_events.specs.declared.event.Event.{Event}
-use Rattle.mscp_events.specs.declared.event.Event.TheVariants as events
+use Rattle.mscp_drive.specs.Settings.{IsValid, Settings, credits_of}
+use Rattle.mscp_drive.specs.declared.connection.Connection.{Connection}
+use Rattle.mscp_drive.specs.declared.block.Block.TheVariants.{Bad}
+use Rattle.mscp_drive.specs.declared.event.Event.{Event}
+use Rattle.mscp_drive.specs.declared.event.Event.TheVariants as events
 use Rattle.mscp_packet.specs.declared.command.Order.TheVariants as orders
 use Rattle.mscp_controller.specs.Commands.{connection, is_waiting, reference, sent_command}
 use Rattle.mscp_controller.specs.History.{Moment, Trace, answers, is_step, moment}

@@ -3,8 +3,8 @@
 -- refused for want of a credit, for its size or for its number is none that a host may send. An end is there where its
 -- host takes it.
 use Rattle.std.specs.Prelude.{[], ◌∷◌, flat_map, Some, Ok}
-use Rattle.mscp_events.specs.declared.event.Event.{Event}
-use Rattle.mscp_events.specs.declared.event.Event.TheVariants as events
+use Rattle.mscp_drive.specs.declared.event.Event.{Event}
+use Rattle.mscp_drive.specs.declared.event.Event.TheVariants as events
 use Rattle.mscp_controller.specs.History.{Trace}
 use Rattle.mscp_controller.specs.declared.entry.Entry.{Entry}
 use Rattle.mscp_controller.specs.declared.entry.Entry.TheVariants as entries

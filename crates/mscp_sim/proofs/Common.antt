@@ -33,12 +33,12 @@ pub use Rattle.mscp_controller.specs.Sweeping.{IsSweeping}
 pub use Rattle.mscp_controller.specs.declared.entry.Entry.{Entry}
 pub use Rattle.mscp_controller.specs.declared.entry.SendFault.{SendFault}
 pub use Rattle.mscp_controller.specs.declared.entry.Sent.{Sent}
-pub use Rattle.mscp_events.specs.Both.{Both, of, put}
-pub use Rattle.mscp_events.specs.Settings.{IsValid, Settings, credits_of}
-pub use Rattle.mscp_events.specs.declared.block.Block.{Block}
-pub use Rattle.mscp_events.specs.declared.connection.Connection.{Connection}
-pub use Rattle.mscp_events.specs.declared.connection.Connection.TheVariants.{First, Second}
-pub use Rattle.mscp_events.specs.declared.event.Event.{Event}
+pub use Rattle.mscp_drive.specs.Both.{Both, of, put}
+pub use Rattle.mscp_drive.specs.Settings.{IsValid, Settings, credits_of}
+pub use Rattle.mscp_drive.specs.declared.block.Block.{Block}
+pub use Rattle.mscp_drive.specs.declared.connection.Connection.{Connection}
+pub use Rattle.mscp_drive.specs.declared.connection.Connection.TheVariants.{First, Second}
+pub use Rattle.mscp_drive.specs.declared.event.Event.{Event}
 pub use Rattle.mscp_host.proofs.Collected.{found_before, found_out, last_then, out_below, out_new, out_old, was_out}
 pub use Rattle.mscp_host.proofs.Hearing.{heard_ok}
 pub use Rattle.mscp_host.proofs.Kept.{oldest_is}

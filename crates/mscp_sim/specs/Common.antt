@@ -1,8 +1,8 @@
 -- What the code of this crate takes from specifications.
-pub use Rattle.mscp_events.specs.Both.{Both, of, put}
-pub use Rattle.mscp_events.specs.Settings.{IsValid, Settings}
-pub use Rattle.mscp_events.specs.declared.event.Event.{Event}
-pub use Rattle.mscp_events.specs.declared.event.Event.TheVariants.{Step}
+pub use Rattle.mscp_drive.specs.Both.{Both, of, put}
+pub use Rattle.mscp_drive.specs.Settings.{IsValid, Settings}
+pub use Rattle.mscp_drive.specs.declared.event.Event.{Event}
+pub use Rattle.mscp_drive.specs.declared.event.Event.TheVariants.{Step}
 pub use Rattle.mscp_host.specs.Accounts.{Account, fresh, heard, polls_oldest, submits}
 pub use Rattle.mscp_packet.specs.Commands.{command_bytes}
 pub use Rattle.mscp_reader.specs.Grammar.{Begins, HasGone, IsFault, Reads}

@@ -5,9 +5,9 @@ use Rattle.arrayvec.specs.ArrayVec.{ArrayVec}
 use Rattle.mscp_packet.specs.declared.end.End.{End}
 use Rattle.mscp_packet.specs.Ends.{IsEnd}
 use Rattle.mscp_queue.specs.declared.view.Choice.{Choice}
-use Rattle.mscp_events.specs.declared.event.Event.TheVariants as events
+use Rattle.mscp_drive.specs.declared.event.Event.TheVariants as events
 use Rattle.mscp_controller.specs.declared.entry.Entry.TheVariants as entries
-use Rattle.mscp_events.specs.Both.{Both, of}
+use Rattle.mscp_drive.specs.Both.{Both, of}
 use Rattle.mscp_controller.specs.History.{Moment, Trace}
 use Rattle.mscp_controller.specs.Holdings.{Answers, Holdings}
 use Rattle.mscp_host.specs.Accounts.{Account}

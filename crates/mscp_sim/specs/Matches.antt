@@ -9,9 +9,9 @@ use Rattle.mscp_packet.specs.declared.command.Command.{Command}
 use Rattle.mscp_packet.specs.declared.command.Order.{Order}
 use Rattle.mscp_queue.specs.Orders.{endcode}
 use Rattle.mscp_queue.specs.Records.{Record}
-use Rattle.mscp_events.specs.declared.connection.Connection.{Connection}
-use Rattle.mscp_events.specs.Both.{Both, of}
-use Rattle.mscp_events.specs.Settings.{credits_of}
+use Rattle.mscp_drive.specs.declared.connection.Connection.{Connection}
+use Rattle.mscp_drive.specs.Both.{Both, of}
+use Rattle.mscp_drive.specs.Settings.{credits_of}
 use Rattle.mscp_controller.specs.Holdings.{Holdings, outstanding_of, waiting_on}
 use Rattle.mscp_host.specs.declared.submission.Submission.{Submission}
 use Rattle.mscp_host.specs.declared.watch.Watch.{Watch}

@@ -1,7 +1,7 @@
 -- What a script that was read stands for.
 use Rattle.std.specs.Prelude.{List}
-use Rattle.mscp_events.specs.Settings.{Settings}
-use Rattle.mscp_events.specs.declared.event.Event.{Event}
+use Rattle.mscp_drive.specs.Settings.{Settings}
+use Rattle.mscp_drive.specs.declared.event.Event.{Event}
 use Rattle.mscp_sim.specs.declared.reading.Script.{Script}
 
 -- its settings, and its events

@@ -1,11 +1,11 @@
 -- A talk of two hosts with a controller, and what of it is each host's own.
 use Rattle.std.specs.Prelude.{ℕ, if◌then◌else◌, List, take, map, flat_map, slice_index_or, Option, Some, None, option_to_list, Ok, Err}
 use Rattle.mscp_packet.specs.declared.command.Command.{Command}
-use Rattle.mscp_events.specs.declared.connection.Connection.{Connection}
-use Rattle.mscp_events.specs.declared.connection.Connection.TheVariants.{First, Second}
-use Rattle.mscp_events.specs.declared.event.Event.TheVariants as events
-use Rattle.mscp_events.specs.Settings.{Settings, credits_of}
-use Rattle.mscp_events.specs.Both.{Both}
+use Rattle.mscp_drive.specs.declared.connection.Connection.{Connection}
+use Rattle.mscp_drive.specs.declared.connection.Connection.TheVariants.{First, Second}
+use Rattle.mscp_drive.specs.declared.event.Event.TheVariants as events
+use Rattle.mscp_drive.specs.Settings.{Settings, credits_of}
+use Rattle.mscp_drive.specs.Both.{Both}
 use Rattle.mscp_queue.specs.Names.{name_on, same_connection}
 use Rattle.mscp_controller.specs.declared.entry.Entry.TheVariants as entries
 use Rattle.mscp_controller.specs.History.{Moment, Trace}

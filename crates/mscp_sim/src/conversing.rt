@@ -14,7 +14,7 @@ use mscp_packet::Command;
 use std::alloc::{Allocator, Global};
 
 /// What comes next in a talk.
-#[derive(Clone, Copy, Debug, PartialEq, Eq)]
+#[derive(Clone, Copy)]
 pub enum Turn {
     /// The connection's host submits this command, and its message comes to the controller.
     Submit(Connection, Command),
@@ -27,7 +27,7 @@ pub enum Turn {
 }
 
 /// What is heard in a turn.
-#[derive(Clone, Copy, Debug, PartialEq, Eq)]
+#[derive(Clone, Copy)]
 pub enum Heard {
     /// The host refuses to submit or to poll.
     Refused(HostFault),
@@ -48,7 +48,7 @@ pub enum Heard {
 }
 
 /// What was heard, in each turn, and what came to the controller and what it answered.
-#[derive(Debug, Drop)]
+#[derive(Drop)]
 pub struct Talk<A: Allocator = Global> {
     pub heard: Vec<Heard, A>,
     pub trace: Vec<(Event, Entry), A>,

@@ -22,14 +22,14 @@ const LEAST_BYTES: usize = 12;
 const END_BIT: u8 = 0x80;
 
 /// A message as a value.
-#[derive(Clone, Copy, Debug, PartialEq, Eq)]
+#[derive(Clone, Copy)]
 pub enum Packet {
     Command(Command),
     End(End),
 }
 
 /// Why a packet isn't shown: the first that holds, in this order.
-#[derive(Clone, Copy, Debug, PartialEq, Eq, Error)]
+#[derive(Clone, Copy, Debug, Error)]
 pub enum ShowFault {
     /// The word has a byte that is no hexadecimal digit, or an odd number of digits.
     #[error("packet: hex")]

@@ -25,12 +25,12 @@ pub use Rattle.mscp_controller.specs.declared.entry.NotBegun.{NotBegun}
 pub use Rattle.mscp_controller.specs.declared.entry.SendFault.{SendFault}
 pub use Rattle.mscp_controller.specs.declared.entry.Sent.{Sent}
 pub use Rattle.mscp_drive.specs.Shape.{Shape}
-pub use Rattle.mscp_events.specs.Settings.{Settings}
-pub use Rattle.mscp_events.specs.declared.block.Block.{Block}
-pub use Rattle.mscp_events.specs.declared.block.Block.TheVariants.{Bad, Good}
-pub use Rattle.mscp_events.specs.declared.connection.Connection.{Connection}
-pub use Rattle.mscp_events.specs.declared.connection.Connection.TheVariants.{First, Second}
-pub use Rattle.mscp_events.specs.declared.event.Event.{Event}
+pub use Rattle.mscp_drive.specs.Settings.{Settings}
+pub use Rattle.mscp_drive.specs.declared.block.Block.{Block}
+pub use Rattle.mscp_drive.specs.declared.block.Block.TheVariants.{Bad, Good}
+pub use Rattle.mscp_drive.specs.declared.connection.Connection.{Connection}
+pub use Rattle.mscp_drive.specs.declared.connection.Connection.TheVariants.{First, Second}
+pub use Rattle.mscp_drive.specs.declared.event.Event.{Event}
 pub use Rattle.mscp_host.specs.Accounts.{fresh, polls_oldest}
 pub use Rattle.mscp_host.specs.Histories.{asks_about, handed_over, is_outstanding, last_told}
 unfoldable pub use Rattle.mscp_host.specs.Histories.{outstanding}

@@ -26,6 +26,7 @@ mod scripts;
 mod streams;
 mod talks;
 mod texts;
+mod told;
 mod values;
 
 /// The configuration of 4 credits and a budget of 16 blocks, as the header of a script.

@@ -5,7 +5,7 @@ use Rattle.std.specs.Option.{option_or}
 use Rattle.std.specs.Result.{OnOk}
 use Rattle.std.proofs.lemmas.Bool.{and_parts, eqb-true, eq-eqb, false≢true}
 use Rattle.std.proofs.lemmas.List.Folds.{find-append}
-use Rattle.mscp_events.specs.declared.connection.Connection.{Connection}
+use Rattle.mscp_drive.specs.declared.connection.Connection.{Connection}
 use Rattle.mscp_wire.specs.Units.{brings, is_unit, kept, known_after_end, leaves, told_of, with_unit, without}
 use Rattle.mscp_wire.specs.Messages.{same_connection}
 use Rattle.mscp_wire.specs.declared.answer.Answer.{Answer}

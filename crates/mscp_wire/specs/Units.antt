@@ -1,7 +1,7 @@
 -- What is known of units that are online: what the ends of a history told of them.
 use Rattle.std.specs.Prelude.{ℕ, Bool, true, false, not, ◌&&◌, ◌||◌, nat_eq, if◌then◌else◌, List, [], ◌++◌, ◌∷◌, filter, find, fold, Option, Some, None}
 use Rattle.mscp_packet.specs.Number.{num}
-use Rattle.mscp_events.specs.declared.connection.Connection.{Connection}
+use Rattle.mscp_drive.specs.declared.connection.Connection.{Connection}
 use Rattle.mscp_wire.specs.Messages.{History, answer_by, same_connection, status_code}
 use Rattle.mscp_wire.specs.declared.answer.Answer.{Answer}
 use Rattle.mscp_wire.specs.declared.identity.Identity.{Identity}

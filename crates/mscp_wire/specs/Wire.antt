@@ -26,8 +26,8 @@
 --                                 stay as they are                                            is_same_unit
 use Rattle.std.specs.Prelude.{◌≡◌, ℕ, ◌+◌, ◌<◌, Bool, true, false, not, ◌&&◌, ◌||◌, nat_eq, nat_le, nat_lt, if◌then◌else◌, List, [], ◌∷◌, ◌++◌, length, map, find, take, drop, position, count_by, fold, slice_index, slice_index_or, Option, Some, None}
 use Rattle.std.specs.List.{list_any}
-use Rattle.mscp_events.specs.declared.connection.Connection.{Connection}
-use Rattle.mscp_events.specs.declared.connection.Connection.TheVariants.{First}
+use Rattle.mscp_drive.specs.declared.connection.Connection.{Connection}
+use Rattle.mscp_drive.specs.declared.connection.Connection.TheVariants.{First}
 pub use Rattle.mscp_wire.specs.Messages.{History, answer_by, asks_for_next, four_in, identity_in, is_about_another, is_immediate, is_known, is_named, is_sequential, is_sequential_class, is_transfer, is_transfer_class, least_length, same_connection, sent_by, status_code}
 pub use Rattle.mscp_wire.specs.Units.{agrees, brings, is_same_unit, is_unit, kept, known, known_after, known_after_end, known_of, leaves, tells_unit, with_unit, without}
 use Rattle.mscp_wire.specs.declared.answer.Answer.{Answer}

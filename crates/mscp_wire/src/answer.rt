@@ -5,7 +5,7 @@ ghost use Rattle.mscp_wire.specs.Wire as wire;
 
 use crate::identity::Identity;
 use crate::sent::{Sent, four_in, is_transfer};
-use mscp_events::Connection;
+use mscp_drive::Connection;
 use mscp_packet::fields::{four_at, two_at};
 
 /// The opcode of an ABORT.
@@ -15,7 +15,7 @@ pub const ABORT: u8 = 1;
 pub const STATUS: u8 = 2;
 
 /// An end: what its message says.
-#[derive(Clone, Copy, Debug, PartialEq, Eq)]
+#[derive(Clone, Copy)]
 pub struct Answer {
     pub connection: Connection,
     pub reference: u32,

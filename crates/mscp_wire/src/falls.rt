@@ -12,7 +12,7 @@ use crate::outstanding::{find_named, place_of};
 use crate::sent::{Sent, is_immediate};
 
 /// How far the figure of a command fell from poll to poll (manual, "Host Command Timeouts").
-#[derive(Clone, Copy, Debug, Default, PartialEq, Eq)]
+#[derive(Clone, Copy, Default)]
 pub struct Falls {
     /// The least fall, or 0 if no figure fell.
     pub least: u32,

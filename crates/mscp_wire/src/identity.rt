@@ -2,15 +2,15 @@
 
 ghost use Rattle.std.specs.Prelude.{◌≡◌, ℕ, find, option_copied, OnOk};
 ghost use Rattle.mscp_wire.specs.Wire.{identity_in, is_unit, kept, known_after_end, with_unit, without};
-ghost use Rattle.mscp_events.specs.declared.connection.Connection as connections;
+ghost use Rattle.mscp_drive.specs.declared.connection.Connection as connections;
 
 use crate::answer::Answer;
-use mscp_events::{Connection, OutOfMemory};
+use mscp_drive::{Connection, OutOfMemory};
 use mscp_packet::fields::{eight_at, four_at};
 use std::alloc::Allocator;
 
 /// What an end says of its unit (manual, "End Messages").
-#[derive(Clone, Copy, Debug, PartialEq, Eq)]
+#[derive(Clone, Copy)]
 pub struct Identity {
     /// The unit identifier.
     pub identifier: u64,
@@ -21,7 +21,7 @@ pub struct Identity {
 }
 
 /// A unit that is online to the host of a connection.
-#[derive(Clone, Copy, Debug, PartialEq, Eq)]
+#[derive(Clone, Copy)]
 pub struct Online {
     pub connection: Connection,
     pub unit: u16,

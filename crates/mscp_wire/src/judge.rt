@@ -2,7 +2,7 @@
 
 ghost use Rattle.std.specs.Prelude.{◌≡◌, ℕ, ◌<◌, ◌++◌, ◌∷◌, [], length, take, OnOk, IfOk, None};
 ghost use Rattle.mscp_packet.specs.Number.{num};
-ghost use Rattle.mscp_events.specs.declared.connection.Connection as connections;
+ghost use Rattle.mscp_drive.specs.declared.connection.Connection as connections;
 ghost use Rattle.mscp_wire.specs.Wire as wire;
 
 use crate::answer::{Answer, is_long};
@@ -11,7 +11,7 @@ use crate::moment::Moment;
 use crate::outstanding::{count_on, has_abort, has_figure, has_named, passes_none, place_of, tell};
 use crate::rule::Rule;
 use crate::sent::{Sent, is_immediate};
-use mscp_events::{Connection, OutOfMemory};
+use mscp_drive::{Connection, OutOfMemory};
 use std::alloc::Allocator;
 
 /// The credits of a host in a log that tells none: more than any controller gives, and few enough to be looked through.

@@ -8,7 +8,7 @@ ghost use Rattle.mscp_wire.specs.Log as log;
 
 use crate::moment::Moment;
 use arrayvec::ArrayVec;
-use mscp_events::Connection;
+use mscp_drive::Connection;
 use mscp_reader::{Cause, ScriptFault, Words, bytes_in, wide, words_of};
 
 /// What a line of a log says.

@@ -1,7 +1,7 @@
 // What goes over the wire.
 
 use arrayvec::ArrayVec;
-use mscp_events::Connection;
+use mscp_drive::Connection;
 
 /// What goes over the wire at one time.
 #[derive(Drop)]

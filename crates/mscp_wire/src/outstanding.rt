@@ -6,7 +6,7 @@ ghost use Rattle.mscp_wire.specs.Wire as wire;
 
 use crate::answer::{ABORT, Answer, is_it};
 use crate::sent::{Sent, is_immediate, is_sequential, is_transfer};
-use mscp_events::Connection;
+use mscp_drive::Connection;
 use std::alloc::Allocator;
 
 /// Whether one of the commands has this reference number on this connection.

@@ -3,12 +3,12 @@
 ghost use Rattle.std.specs.Prelude.{◌≡◌, ◌≤◌, length};
 ghost use Rattle.mscp_wire.specs.Wire.{asks_for_next, four_in, is_named, is_immediate, is_sequential, is_transfer, sent_by};
 
-use mscp_events::Connection;
+use mscp_drive::Connection;
 use mscp_packet::fields::{four_at, two_at};
 use mscp_packet::{Class, class_of};
 
 /// A command that is outstanding: what its message says, and the figure that was last told of it.
-#[derive(Clone, Copy, Debug, PartialEq, Eq)]
+#[derive(Clone, Copy)]
 pub struct Sent {
     pub connection: Connection,
     pub reference: u32,

@@ -9,7 +9,7 @@ use crate::moment::Moment;
 use mscp_packet::fields::two_at;
 
 /// How many moments a log has, and how many of each kind.
-#[derive(Clone, Copy, Debug, Default, PartialEq, Eq)]
+#[derive(Clone, Copy, Default)]
 pub struct Counts {
     /// How many moments it has.
     pub moments: u32,

@@ -9,7 +9,7 @@ use mscp_script::{Failed, ReadAllFault};
 use std::alloc::AllocError;
 
 /// Why a log isn't judged.
-#[derive(Clone, Copy, Debug, PartialEq, Eq)]
+#[derive(Clone, Copy)]
 pub enum Fault {
     /// The words of the command line aren't those of a call.
     Usage,

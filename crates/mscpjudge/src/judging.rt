@@ -11,7 +11,7 @@ use mscp_text::{put, put_field};
 use std::alloc::{AllocError, Allocator, Global};
 
 /// How a log was judged.
-#[derive(Clone, Copy, Debug, PartialEq, Eq)]
+#[derive(Clone, Copy)]
 pub enum Outcome {
     /// It is legal, or no host would have reset the controller.
     Legal,

@@ -1,6 +1,6 @@
 -- What is held after one more moment of a run that is written out: a message that is queued, a take, or a good step.
 use Rattle.mscp_control.proofs.Common.{◌≡◌, ℕ, ◌+◌, ◌-◌, ◌<◌, ◌≤◌, ◌^◌, true, false, not, List, [], ◌∷◌, ◌++◌, map, drop, length, refl, ap, sym, ◌∙◌, arith, find, slice_index, slice_get, if◌then◌else◌, Option, Some, None, is_some, option_map, Ok, eq-eqb, ne_eqb, le-ltb, true≢false, false≢true, ArrayVec, Command, End, HasCommandRange, IsCommand, IsValidOrder, command_bytes, command_of, end_bytes, num, class, is_immediate_class, command_bytes_are_messages, Shape, Good, Drive, Connection, Name, Choice, drive_of, fresh_drive, has_number, replaced, ServesAt, Record, fresh_record, name_of, no_record, passed_by, record_at, remains, step_charge, IsServable, drive_after, drives_after, end_given, report_of, waiting_after, is_same, at_place, Settings, IsValid, credits_of, unit_found, Both, of, put, holds, is_queued, refusal, Moment, Trace, Holdings, aborting, after_message, after_take, answer_to_message, answered_end, balance_of, ends_after, fresh, held_unless, line_of, numbers, numbers_ended, outstanding_of, queued, reference_aborted, sent_unless, waiting_on, with_end, IsLegal, handing, queueing, some_same, Driven, find_map, none_held, turns, Follows, legal_more, Agrees, sends, turns_at}
-use Rattle.mscp_events.specs.declared.event.Event.TheVariants as events
+use Rattle.mscp_drive.specs.declared.event.Event.TheVariants as events
 use Rattle.mscp_controller.specs.declared.entry.Entry.TheVariants as entries
 use Rattle.mscp_controller.specs.declared.entry.Sent.TheVariants as sents
 

@@ -1,6 +1,6 @@
 -- What is held while the READs of the run that is written out come and run.
 use Rattle.mscp_control.proofs.Common.{◌≡◌, ◌≢◌, ℕ, zero, suc, ◌+◌, ◌-◌, ◌*◌, ◌<◌, ◌≤◌, Bool, true, false, cond, ◌&&◌, List, [], ◌∷◌, ◌++◌, map, length, refl, ap, sym, ◌∙◌, subst, append-nil, arith, nat_eq, nat_lt, drop, if◌then◌else◌, Option, Some, None, AllByRecursion, and-false, zero-div, eqb-true, le-leb, le-ltb, lt-ltb, ltb-false, ne_eqb, length-append, All-from_recursion, End, Head, distance, Shape, cylinder_of, Good, Drive, Connection, First, Report, Served, head_after, Record, fresh_record, passed_by, remains, step_charge, IsServable, drive_after, end_given, report_of, is_affordable, is_free, every_append, at_place, fresh_drive, Transfer, Settings, room, Both, of, put, Trace, ends_after, block_before, come_on, connection_at, long_read, online_command, online_end, opened, pass_on, queueing, read_command, read_end, read_report, rest_on, runs_on, short_read, stepping, steps_on}
-use Rattle.mscp_events.specs.declared.event.Event.TheVariants as events
+use Rattle.mscp_drive.specs.declared.event.Event.TheVariants as events
 use Rattle.mscp_controller.specs.declared.entry.Entry.TheVariants as entries
 use Rattle.mscp_control.proofs.Longest.Moments.{Holds, IsUnit, MaySend, holds_none, holds_queued, holds_stepped, holds_taken, nothing}
 use Rattle.mscp_control.proofs.Longest.Reads.{IsRead, long_is, long_sent, longs, longs_idle, longs_more, longs_passed, record_fresh, record_of, short_is, short_sent}

@@ -5,7 +5,7 @@ ghost use Rattle.mscp_controller.specs.Common.{First, Second, account, waiting_o
 
 use crate::account::Accounts;
 use arrayvec::ArrayVec;
-use mscp_events::Connection;
+use mscp_drive::Connection;
 use mscp_packet::End;
 use mscp_queue::Record;
 

@@ -5,7 +5,7 @@ ghost use Rattle.mscp_controller.specs.Common.{record_at, of, IsSound, made_of};
 
 use crate::controller::Controller;
 use arrayvec::ArrayVec;
-use mscp_events::Connection;
+use mscp_drive::Connection;
 use mscp_packet::End;
 use mscp_queue::{Drive, Name, Picker, Record};
 

@@ -5,7 +5,7 @@ ghost use Rattle.mscp_controller.specs.Common.{is_online_in, figure_of_name, fig
 
 use crate::controller::Controller;
 use arrayvec::ArrayVec;
-use mscp_events::Connection;
+use mscp_drive::Connection;
 use mscp_queue::{Holder, Picker, Upcoming};
 
 impl<K: Picker> Controller<K> {

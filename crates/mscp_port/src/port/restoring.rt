@@ -22,7 +22,7 @@ use mscp_queue::Picker;
 use mscp_saved::{part, resume};
 
 /// Why bytes are no saved port: the first that holds, in this order.
-#[derive(Clone, Copy, Debug, PartialEq, Eq)]
+#[derive(Clone, Copy)]
 pub enum RestoreFault {
     /// Fewer bytes than a head and volumes have, or not as many as the head tells, or too few for its parts; or more parts than
     /// any port has: a text of 48 bytes, and 64 commands of which something is kept.

@@ -10,7 +10,7 @@ use crate::volumes::{Medium, VolumeFault};
 use mscp_queue::{Connection, Picker};
 
 /// No unit has this number. Nothing is changed.
-#[derive(Clone, Copy, Debug, PartialEq, Eq)]
+#[derive(Clone, Copy)]
 pub struct NoUnit;
 
 impl<K: Picker> Port<K> {

@@ -9,7 +9,7 @@ use crate::queue::Queue;
 use crate::report::Report;
 use crate::start::picked_place;
 use crate::upcoming::Upcoming;
-use mscp_events::Block;
+use mscp_drive::Block;
 
 /// The place of the command in service after a step of the one at the place, which ends with it or not.
 fn place_served(place: usize, ends: bool) -> Option<usize>

@@ -1,6 +1,6 @@
 -- What a turn in which an end is handed over leaves, and one in which there is none.
 use Rattle.mscp_sim.proofs.Common.{◌≡◌, ℕ, List, [], ◌∷◌, drop, refl, ap, sym, ◌∙◌, subst, arith, option_map, Option, Some, None, is_some, slice_get, unwrap_or, Ok, false≢true, true≢false, ArrayVec, End, end_bytes, IsEnd, Moment, Connection, of, put, Holdings, after_take, end_taken, Account, answered, heard, news_with, received, Flight, Matches}
-use Rattle.mscp_events.specs.declared.event.Event.TheVariants as events
+use Rattle.mscp_drive.specs.declared.event.Event.TheVariants as events
 use Rattle.mscp_controller.specs.declared.entry.Entry.TheVariants as entries
 use Rattle.mscp_sim.proofs.TwoEnds.Handing.{first_heard, received_match}
 use Rattle.mscp_sim.proofs.TwoEnds.Sides.{put_own}

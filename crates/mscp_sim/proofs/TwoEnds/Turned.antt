@@ -1,6 +1,6 @@
 -- What is said in a turn keeps the match, for the hosts of both connections.
 use Rattle.mscp_sim.proofs.Common.{◌^◌, ◌≡◌, ℕ, ◌<◌, Bool, true, false, List, ◌∷◌, refl, ap, sym, ◌∙◌, subst, arith, slice_get, Option, Some, None, is_some, Result, Ok, Err, and_parts, false≢true, true≢false, ArrayVec, Command, End, command_of, IsEnd, Connection, Both, of, put, Choice, same_connection, one_side, own_side, Sent, sent_command, Moment, Holdings, after_message, after_take, end_taken, queues_by, HostFault, Poll, Submission, Account, oldest, polls_oldest, submits, end_heard, is_poll, is_sent, reference_in, Heard, Turn, Flight, Match, MatchOn, Matches, Said, heard_by, receives_in, AnswersTurn, IsSound, Says, IsHanded, IsHeard, IsPolled, IsSubmitted}
-use Rattle.mscp_events.specs.declared.event.Event.TheVariants as events
+use Rattle.mscp_drive.specs.declared.event.Event.TheVariants as events
 use Rattle.mscp_controller.specs.declared.entry.Entry.TheVariants as entries
 use Rattle.mscp_host.specs.declared.news.Poll.TheVariants as polls
 use Rattle.mscp_host.specs.Histories as host

@@ -4,7 +4,7 @@ ghost use Rattle.std.specs.Prelude.{◌≡◌, ◌++◌, ◌≤◌, [], replicat
 ghost use Rattle.mscp_sim.specs.Common.{command_bytes, Step, Settings, events_of, HasGone, Tells, rest_outcome, MOST_EVENTS};
 
 use arrayvec::ArrayVec;
-use mscp_events::{Block, Event, OutOfMemory};
+use mscp_drive::{Block, Event, OutOfMemory};
 use mscp_packet::{Command, write_command};
 use mscp_reader::{Lines, ReadFault, Request, ScriptFault, bytes_in};
 use std::alloc::Allocator;

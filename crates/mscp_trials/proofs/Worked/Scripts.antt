@@ -1,6 +1,6 @@
 -- Literal scripts: what they mean, and a fault of each cause.
 use Rattle.mscp_trials.proofs.Common.{◌≡◌, ◌+◌, ℕ, List, [], ◌∷◌, ◌++◌, length, refl, lit≤, lit<, inl, codes, replicate, Ok, Err, flat_map, Shape, First, Second, Settings, Good, Bad, Event, command_bytes, Cause, ScriptFault, lines, words, said, number, message, status, form_of, plain_form, message_form, event_form, asked, request, second_request, Place, HasGone, setting, credits, credits_of, limit, unit_of, more_units, first_units, with_unit, gone, unit_or_go, next, after_line, Reads, IsFault, lines_outcome, is_read, is_fault, decode_pairs}
-use Rattle.mscp_events.specs.declared.event.Event.TheVariants as events
+use Rattle.mscp_drive.specs.declared.event.Event.TheVariants as events
 use Rattle.mscp_packet.specs.declared.command.Order.TheVariants as orders
 use Rattle.mscp_packet.specs.declared.command.MoveKind.TheVariants as moves
 use Rattle.mscp_reader.specs.declared.fault.Cause.TheVariants as causes

@@ -45,15 +45,19 @@ fn no_abort_raises_a_figure(rt: HostRuntime) {
     }
 }
 
-/// This command is in service, or none, and the most blocks by which a command was passed are so many.
+/// This command of the first connection is in service, or none of it, and the most blocks by which a command was passed are so many.
 fn is_serving(
     rt: &impl Abort,
     trial: &Trial<Sweep>,
-    serving: Option<(Connection, u32)>,
+    serving: Option<u32>,
     passed: u32,
 ) {
-    let told = (trial.controller.serving(), trial.controller.most_passed());
-    same(rt, told, (serving, passed));
+    let told = match trial.controller.serving() {
+        Some((Connection::First, reference)) => Some(reference),
+        _ => None,
+    };
+    let most = trial.controller.most_passed();
+    same(rt, (told, most), (serving, passed));
 }
 
 // Of two READs, of one block and of four, the sweep starts the second, which passes the first by its four blocks.
@@ -66,5 +70,5 @@ fn what_is_in_service_is_told(rt: HostRuntime) {
     trial.queues(rt, FIRST, &read(2, 2048, 0));
     is_serving(rt, &trial, None, 0);
     trial.makes_steps(1);
-    is_serving(rt, &trial, Some((FIRST, 2)), 4);
+    is_serving(rt, &trial, Some(2), 4);
 }

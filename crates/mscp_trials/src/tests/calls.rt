@@ -1,9 +1,10 @@
 // A controller on trial: a call each, and what it answers.
 
+use super::told::{answer, step};
 use super::values::{FIRST, SECOND, command};
 use crate::tests::checks::{holds, same};
 use mscp_controller::{
-    Block, Config, Connection, Controller, Picker, Report, SendFault, Sent, Upcoming,
+    Block, Config, Connection, Controller, Picker, Report, SendFault, Sent,
 };
 use mscp_packet::{Command, Order, write_command};
 use std::process::Abort;
@@ -37,14 +38,16 @@ impl<K: Picker> Trial<K> {
     /// The command waits.
     pub fn queues(&mut self, rt: &impl Abort, connection: Connection, command: &Command) {
         let sent = self.sent(connection, command);
-        same(rt, sent, Ok(Sent::Queued(command.reference)));
+        let wanted = Ok(Sent::Queued(command.reference));
+        same(rt, answer(&sent), answer(&wanted));
     }
 
     /// An ABORT of the other command finds it.
     pub fn aborts(&mut self, rt: &impl Abort, connection: Connection, reference: u32, other: u32) {
         let sent = self.sent(connection, &command(reference, Order::Abort(other)));
         let aborted = Some(other);
-        same(rt, sent, Ok(Sent::Answered { reference, aborted }));
+        let wanted = Ok(Sent::Answered { reference, aborted });
+        same(rt, answer(&sent), answer(&wanted));
     }
 
     /// Each end was taken.
@@ -52,14 +55,14 @@ impl<K: Picker> Trial<K> {
         holds(rt, self.controller.take(connection).is_none());
     }
 
-    /// This is begun, or nothing.
-    pub fn begins(&mut self, rt: &impl Abort, upcoming: Option<Upcoming>) {
-        same(rt, self.controller.begin(), upcoming);
+    /// Nothing is begun.
+    pub fn begins_nothing(&mut self, rt: &impl Abort) {
+        holds(rt, self.controller.begin().is_none());
     }
 
     /// A step with this block does this.
     pub fn steps(&mut self, rt: &impl Abort, block: Block, report: Report) {
-        same(rt, self.controller.step(block), report);
+        same(rt, step(&self.controller.step(block)), step(&report));
     }
 
     /// So many steps with good blocks are made.

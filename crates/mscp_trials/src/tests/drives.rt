@@ -31,7 +31,7 @@ fn the_first_size_of_zero_is_the_fault(rt: HostRuntime) {
         (10, 2, 1, UnitFault::ZeroSize),
     ] {
         let unit = Unit::new(0, track, group, cylinder, 0, 0, 0, 0);
-        same(&rt, unit, Err(fault));
+        same(&rt, unit.err().map(|it| it as u8), Some(fault as u8));
     }
 }
 
@@ -106,11 +106,8 @@ fn a_sweep_goes_on_to_the_end_before_it_turns(rt: HostRuntime) {
 #[test]
 fn a_start_turns_the_head_and_a_later_block_does_not(rt: HostRuntime) {
     let rt = &rt;
-    let new = Head {
-        cylinder: 0,
-        up: true,
-    };
-    same(rt, Head::default(), new);
+    let new = Head::default();
+    same(rt, (new.cylinder, new.up), (0, true));
     for (cylinder, up, to, turned, far) in [
         (10, true, 30, true, 20),
         (10, true, 5, false, 5),
@@ -122,7 +119,8 @@ fn a_start_turns_the_head_and_a_later_block_does_not(rt: HostRuntime) {
         let head = Head { cylinder, up };
         let moved = head.moved(to);
         same_of(rt, (to, up), (moved.cylinder, moved.up), (to, turned));
-        same_of(rt, (to, up), head.carried(to), Head { cylinder: to, up });
+        let carried = head.carried(to);
+        same_of(rt, (to, up), (carried.cylinder, carried.up), (to, up));
         same_of(rt, (to, up), head.distance(to), far);
     }
 }
@@ -136,33 +134,48 @@ fn sixteen() -> [Unit; 16] {
     most
 }
 
+/// These are no list, for this reason.
+fn is_refused(rt: &impl Abort, units: &[Unit], fault: UnitsFault) {
+    let told = Units::new(units).err();
+    same(rt, told.map(|it| it as u8), Some(fault as u8));
+}
+
 #[test]
 fn a_list_of_units_rises(rt: HostRuntime) {
     let rt = &rt;
     let [a, b, c] = [usual(2), usual(5), usual(65535)];
-    same(rt, Units::new(&[]), Err(UnitsFault::Empty));
-    same(rt, Units::new(&[a; 16]), Err(UnitsFault::NotAscending));
-    same(rt, Units::new(&[a; 17]), Err(UnitsFault::TooMany));
-    same(rt, Units::new(&[a, a]), Err(UnitsFault::NotAscending));
-    same(rt, Units::new(&[a, c, b]), Err(UnitsFault::NotAscending));
+    is_refused(rt, &[], UnitsFault::Empty);
+    is_refused(rt, &[a; 16], UnitsFault::NotAscending);
+    is_refused(rt, &[a; 17], UnitsFault::TooMany);
+    is_refused(rt, &[a, a], UnitsFault::NotAscending);
+    is_refused(rt, &[a, c, b], UnitsFault::NotAscending);
     holds(rt, Units::new(&sixteen()).is_ok());
 }
 
 /// In a list of these units each is found by its number, and no other.
 fn are_found(rt: &impl Abort, units: &Units, list: &[Unit]) {
     for unit in list {
-        same(rt, units.find(unit.number()), Some(unit));
+        same(rt, units.find(unit.number()).map(Unit::number), Some(unit.number()));
     }
     for absent in [0, 3, 6, 65534] {
-        same_of(rt, absent, units.find(absent), None);
+        same_of(rt, absent, units.find(absent).is_none(), true);
     }
+}
+
+/// The numbers of three units.
+fn numbers(rt: &impl Abort, units: &Units) -> [u16; 3] {
+    let [a, b, c] = units.list() else {
+        panic!(rt; "three units");
+    };
+    [a.number(), b.number(), c.number()]
 }
 
 #[test]
 fn units_are_found_and_made_again(rt: HostRuntime) {
     let list = [usual(2), usual(5), usual(65535)];
     let units = got(&rt, Units::new(&list));
-    same(&rt, units.list(), list.as_slice());
+    same(&rt, numbers(&rt, &units), [2, 5, 65535]);
     are_found(&rt, &units, &list);
-    same(&rt, Units::new(units.list()), Ok(units));
+    let again = got(&rt, Units::new(units.list()));
+    same(&rt, numbers(&rt, &again), [2, 5, 65535]);
 }

@@ -6,10 +6,12 @@ use super::messages::{TABLE, message};
 use super::moments::event_of;
 use super::scripts::{is_told_by_both, repeated};
 use super::streams::simulated;
+use super::texts::told;
+use super::told::{event, heard};
 use super::values::config;
 use crate::tests::checks::{got, holds, same, same_of};
 use mscp_controller::{Block, Connection, Event, Sweep, run};
-use mscp_sim::{Heard, ShowFault, Turn, converse, read_script, report, show_packet};
+use mscp_sim::{Heard, Turn, converse, read_script, report, show_packet};
 use std::fmt::Write;
 use std::process::Abort;
 
@@ -30,11 +32,12 @@ fn a_header_alone_wants_no_memory(rt: HostRuntime) {
 }
 
 /// A talk of these turns, which are so many, ends with what is heard in the last.
-fn is_heard(rt: &(impl Abort + AllocGlobal), turns: &[Turn], count: usize, last: Option<&Heard>) {
+fn is_heard(rt: &(impl Abort + AllocGlobal), turns: &[Turn], count: usize, last: Option<Heard>) {
     let talk = got(rt, converse(rt.alloc(), config(rt, 4, 16), Sweep, turns));
     let counts = (talk.heard.len(), talk.trace.len());
     same(rt, counts, (count, count));
-    same(rt, talk.heard.as_slice().last(), last);
+    let told = talk.heard.as_slice().last().map(heard);
+    same(rt, told, last.as_ref().map(heard));
 }
 
 #[test]
@@ -46,30 +49,30 @@ fn no_turns_want_no_memory(rt: HostRuntime) {
 fn a_talk_of_many_turns_is_heard(rt: HostRuntime) {
     let take = Turn::Take(Connection::First);
     let turns = got(&rt, vec![in rt.alloc(); take; 1_000_000]);
-    is_heard(&rt, turns.as_slice(), 1_000_000, Some(&Heard::Quiet));
+    is_heard(&rt, turns.as_slice(), 1_000_000, Some(Heard::Quiet));
 }
 
-/// The word of a packet shows a line that begins like this, or has this fault.
-fn begins(opcode: u8, length: usize) -> Result<&'static str, ShowFault> {
+/// The word of a packet shows a line that begins like this, or has a fault with this text.
+fn begins(opcode: u8, length: usize) -> &'static str {
     if length < 12 {
-        return Err(ShowFault::Short);
+        return "packet: short";
     }
     if opcode < 0x80 {
-        return Ok("command ");
+        return "command ";
     }
     if opcode == 0x80 {
-        return Ok("end ");
+        return "end ";
     }
     for (known, count) in TABLE {
         if known == opcode - 0x80 {
             return if length < count {
-                Err(ShowFault::Length)
+                "packet: length"
             } else {
-                Ok("end ")
+                "end "
             };
         }
     }
-    Err(ShowFault::Code)
+    "packet: code"
 }
 
 /// How a line begins that tells a packet.
@@ -83,12 +86,12 @@ fn beginning(line: &[u8]) -> &'static str {
     }
 }
 
-/// These bytes are shown, as digits, as a line that begins like this, or have this fault.
-fn is_shown(rt: &(impl Abort + AllocGlobal), bytes: &[u8], wanted: Result<&str, ShowFault>) {
+/// These bytes are shown, as digits, as a line that begins like this, or have a fault with this text.
+fn is_shown(rt: &(impl Abort + AllocGlobal), bytes: &[u8], wanted: &str) {
     let word = got(rt, hex::encode(rt.alloc(), bytes));
     match show_packet(rt.alloc(), word.as_str()) {
-        Ok(line) => same_of(rt, bytes, Ok(beginning(line.as_slice())), wanted),
-        Err(fault) => same_of(rt, bytes, Err(fault), wanted),
+        Ok(line) => same_of(rt, bytes, beginning(line.as_slice()), wanted),
+        Err(fault) => told(rt, &fault, wanted),
     }
 }
 
@@ -145,7 +148,10 @@ fn every_message_is_read(rt: HostRuntime) {
     let rt = &rt;
     let (events, script) = all_messages(rt);
     let read = got(rt, read_script(rt.alloc(), script.as_bytes()));
-    holds(rt, read.events == events);
+    same(rt, read.events.len(), events.len());
+    for (place, (made, wanted)) in read.events.iter().zip(&events).enumerate() {
+        same_of(rt, place, event(made), event(wanted));
+    }
 }
 
 #[test]

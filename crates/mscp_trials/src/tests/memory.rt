@@ -4,6 +4,8 @@
 use super::first::{REPORT, SCRIPT};
 use super::moments::event_of;
 use super::streams::{NEVER, reading, writing};
+use super::texts::told;
+use super::told::{event, heard};
 use super::values::{FIRST, command, config};
 use crate::Scarce;
 use crate::tests::checks::{holds, same, same_of};
@@ -12,7 +14,7 @@ use mscp_controller::{Block, Config, Entry, Event, OutOfMemory, Sweep, run, run_
 use mscp_host::News;
 use mscp_packet::{MoveKind, Order, write_command};
 use mscp_sim::{
-    Heard, ReadFault, ShowFault, SimFault, Turn, converse_in, read_script, read_script_in, report,
+    Heard, ReadFault, ShowFault, Turn, converse_in, read_script, read_script_in, report,
     report_in, show_packet_to, simulate_in,
 };
 use std::alloc::Global;
@@ -117,9 +119,11 @@ fn reports(rt: &(impl Abort + AllocGlobal), heap: &Scarce<Global>) -> bool {
 /// These are the settings and the events of the first script.
 fn are_read(rt: &(impl Abort + AllocGlobal), settings: &Config, events: &[Event]) {
     let whole = read_script(rt.alloc(), SCRIPT).ok().expect(rt, "a script");
-    same(rt, settings, &config(rt, 4, 16));
-    same(rt, events, whole.events.as_slice());
-    same(rt, events.len(), 10);
+    same(rt, (settings.credits(), settings.budget()), (4, 16));
+    same(rt, (events.len(), whole.events.len()), (10, 10));
+    for (made, wanted) in events.iter().zip(&whole.events) {
+        same(rt, event(made), event(wanted));
+    }
 }
 
 fn reads(rt: &(impl Abort + AllocGlobal), heap: &Scarce<Global>) -> bool {
@@ -140,13 +144,15 @@ fn simulates(rt: &(impl Abort + AllocGlobal), heap: &Scarce<Global>) -> bool {
     let mut writer = writing(&mut bytes, 4096, NEVER);
     let answer = simulate_in(heap, &mut reader, &mut writer);
     drop(writer);
-    let (wanted, written) = match answer {
-        Ok(()) => (Ok(()), REPORT),
-        Err(_) => (Err(SimFault::OutOfMemory), b"".as_slice()),
+    let written = match answer {
+        Ok(()) => REPORT,
+        Err(fault) => {
+            told(rt, &fault, "out of memory");
+            b"".as_slice()
+        }
     };
-    same(rt, answer, wanted);
     same(rt, bytes.as_slice(), written);
-    wanted.is_ok()
+    answer.is_ok()
 }
 
 fn talks(rt: &(impl Abort + AllocGlobal), heap: &Scarce<Global>) -> bool {
@@ -154,24 +160,26 @@ fn talks(rt: &(impl Abort + AllocGlobal), heap: &Scarce<Global>) -> bool {
         Err(OutOfMemory) => false,
         Ok(talk) => {
             same(rt, (talk.heard.len(), talk.trace.len()), (8, 8));
-            let heard = talk.heard.as_slice().get(4..);
-            same(rt, heard, Some(ANSWERS.as_slice()));
+            for (made, wanted) in talk.heard.iter().skip(4).zip(&ANSWERS) {
+                same(rt, heard(made), heard(wanted));
+            }
             true
         }
     }
 }
 
-/// A word is shown as this line, or has this fault.
+/// A word is shown as this line, or has a fault with this text.
 fn shows(
-    rt: &impl Abort,
+    rt: &(impl Abort + AllocGlobal),
     heap: &Scarce<Global>,
     word: &str,
-    wanted: Result<&[u8], ShowFault>,
+    wanted: Result<&[u8], &str>,
 ) -> bool {
-    match show_packet_to(Vec::new(heap), word.as_bytes()) {
-        Err(ShowFault::OutOfMemory) => return false,
-        Err(fault) => same_of(rt, word, Err(fault), wanted),
-        Ok(line) => same_of(rt, word, Ok(line.as_slice()), wanted),
+    match (show_packet_to(Vec::new(heap), word.as_bytes()), wanted) {
+        (Err(ShowFault::OutOfMemory), _) => return false,
+        (Err(fault), Err(text)) => told(rt, &fault, text),
+        (Ok(line), Ok(text)) => same_of(rt, word, line.as_slice(), text),
+        (_, _) => panic!(rt; "{word} is shown, or it isn't"),
     }
     true
 }
@@ -225,8 +233,8 @@ fn each_call_is_refused_memory(rt: HostRuntime) {
     same(rt, least(rt, Call::Converse), 3);
 }
 
-/// A word is shown as this line, for which memory is wanted, or has this fault.
-fn is_shown(rt: &(impl Abort + AllocGlobal), word: &str, wanted: Result<&[u8], ShowFault>) {
+/// A word is shown as this line, for which memory is wanted, or has a fault with this text.
+fn is_shown(rt: &(impl Abort + AllocGlobal), word: &str, wanted: Result<&[u8], &str>) {
     for number in 1..MANY {
         let heap = Scarce::new(rt.alloc(), number);
         let is_given = shows(rt, &heap, word, wanted);
@@ -257,8 +265,8 @@ fn show_packet_is_refused_memory(rt: HostRuntime) {
     is_shown(rt, "050000000000000013000000", Ok(unknown));
     let end = b"end 5 unit 0 code 80 status 0801\n";
     is_shown(rt, "050000000000000080000108", Ok(end));
-    is_shown(rt, "0500", Err(ShowFault::Short));
-    is_shown(rt, "0", Err(ShowFault::Hex));
+    is_shown(rt, "0500", Err("packet: short"));
+    is_shown(rt, "0", Err("packet: hex"));
 }
 
 /// A thousand takes of nothing.

@@ -1,7 +1,8 @@
 // Moments of a run: each event, and what it answers.
 
+use super::told::{entry, event};
 use super::values::FIRST;
-use crate::tests::checks::{got, same};
+use crate::tests::checks::{got, same, same_of};
 use arrayvec::ArrayVec;
 use mscp_controller::{Block, Config, Connection, Entry, Event, Picker, Report, Sent, run};
 use std::process::Abort;
@@ -78,7 +79,11 @@ impl Moments {
 
     /// All of them are these.
     pub fn are(&self, rt: &impl Abort, trace: &[(Event, Entry)]) {
-        same(rt, trace, self.list.as_slice());
+        same(rt, trace.len(), self.list.len());
+        for (place, (made, wanted)) in trace.iter().zip(&self.list).enumerate() {
+            same_of(rt, place, event(&made.0), event(&wanted.0));
+            same_of(rt, place, entry(&made.1), entry(&wanted.1));
+        }
     }
 
     /// The events, and what they answer.
@@ -101,6 +106,9 @@ impl Moments {
     ) {
         let (events, entries) = self.split(rt);
         let ran = got(rt, run(rt.alloc(), config, picker, events.as_slice()));
-        same(rt, ran.as_slice(), entries.as_slice());
+        same(rt, ran.len(), entries.len());
+        for (place, (made, wanted)) in ran.iter().zip(&entries).enumerate() {
+            same_of(rt, place, entry(made), entry(wanted));
+        }
     }
 }

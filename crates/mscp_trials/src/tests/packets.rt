@@ -3,10 +3,11 @@
 mod worked;
 
 use super::values::ended;
-use crate::tests::checks::{same, same_of};
+use crate::tests::checks::{got, holds, same, same_of};
+use arrayvec::ArrayVec;
 use mscp_packet::{
     Class, Command, End, EndBody, EndFault, MoveKind, Order, class_of, read_command, read_end,
-    read_written_end, write_command,
+    read_written_end, write_command, write_end,
 };
 use std::process::Abort;
 
@@ -20,8 +21,16 @@ fn command(reference: u32, unit: u16, order: Order) -> Command {
 
 #[test]
 fn an_end_is_zero_by_default(rt: HostRuntime) {
-    same(&rt, EndBody::default(), EndBody::Bare);
-    same(&rt, End::default(), ended(0, 0, 0, EndBody::Bare));
+    holds(&rt, matches!(EndBody::default(), EndBody::Bare));
+    same(&rt, write_end(&End::default()).as_slice(), [0; 12].as_slice());
+}
+
+/// An end as its bytes, or the number of a fault.
+fn told(end: Result<End, EndFault>) -> Result<ArrayVec<u8, 48>, u8> {
+    match end {
+        Ok(end) => Ok(write_end(&end)),
+        Err(fault) => Err(fault as u8),
+    }
 }
 
 /// The end with this endcode and body, or this fault.
@@ -29,11 +38,10 @@ fn whole(code: u8, body: Result<EndBody, EndFault>) -> Result<End, EndFault> {
     Ok(ended(1, code, 0, body?))
 }
 
-/// The endcode and the body of so many bytes that are zeros but for the endcode.
-fn of_zeros(rt: &impl Abort, code: u8, length: usize) -> Result<(u8, EndBody), EndFault> {
+/// The end of so many bytes that are zeros but for the endcode.
+fn of_zeros(rt: &impl Abort, code: u8, length: usize) -> Result<End, EndFault> {
     let bytes = zeros(code);
-    let end = read_end(bytes.get(..length).expect(rt, "65 bytes"))?;
-    Ok((end.code, end.body))
+    read_end(bytes.get(..length).expect(rt, "65 bytes"))
 }
 
 #[test]
@@ -46,7 +54,7 @@ fn an_end_of_another_shape_is_read_by_its_endcode(rt: HostRuntime) {
         (0x21, EndBody::Moved(7), Err(EndFault::Code)),
     ] {
         let back = read_written_end(&ended(1, code, 0, body));
-        same_of(&rt, code, back, whole(code, wanted));
+        same_of(&rt, code, told(back), told(whole(code, wanted)));
     }
 }
 
@@ -71,8 +79,11 @@ fn what_is_not_named_is_ignored(rt: HostRuntime) {
         (0x13, unknown),
     ] {
         let wanted = command(all, 0xFFFF, order);
-        same_of(&rt, opcode, read_command(&ones(opcode)), Ok(wanted));
+        let read = got(&rt, read_command(&ones(opcode)));
+        same_of(&rt, opcode, write_command(&read), write_command(&wanted));
     }
+    let unread = got(&rt, read_command(&ones(0x13))).order;
+    holds(&rt, matches!(unread, Order::Invalid { status: 0x0801, .. }));
     let controller = EndBody::Controller {
         timeout: 0xFFFF,
         id: u64::MAX,
@@ -86,7 +97,7 @@ fn what_is_not_named_is_ignored(rt: HostRuntime) {
             unit: 0xFFFF,
             ..ended(all, code, 0xFFFF, body)
         };
-        same_of(&rt, code, read_end(&ones(code)), Ok(wanted));
+        same_of(&rt, code, told(read_end(&ones(code))), told(Ok(wanted)));
     }
 }
 
@@ -113,13 +124,14 @@ fn ends_are_judged_by_length_then_endcode(rt: HostRuntime) {
     for (code, length, wanted) in [
         (0xA1, 31, Err(EndFault::Length)),
         (0x83, 47, Err(EndFault::Length)),
-        (0x83, 48, Ok((0x83, EndBody::refused(0x83)))),
+        (0x83, 48, Ok(ended(0, 0x83, 0, EndBody::refused(0x83)))),
         (0x21, 11, Err(EndFault::Length)),
         (0x21, 12, Err(EndFault::Code)),
         (0x21, 64, Err(EndFault::Code)),
         (0x21, 65, Err(EndFault::Length)),
     ] {
-        same_of(&rt, (code, length), of_zeros(&rt, code, length), wanted);
+        let end = of_zeros(&rt, code, length);
+        same_of(&rt, (code, length), told(end), told(wanted));
     }
 }
 
@@ -128,10 +140,10 @@ fn refused_commands_have_the_body_that_zeros_are_read_as(rt: HostRuntime) {
     for code in [
         0x80, 0x81, 0x82, 0x83, 0x84, 0x88, 0x89, 0x8A, 0x90, 0x92, 0xA0, 0xA1, 0xA2,
     ] {
-        let wanted = Ok((code, EndBody::refused(code)));
-        same_of(&rt, code, of_zeros(&rt, code, 64), wanted);
+        let wanted = ended(0, code, 0, EndBody::refused(code));
+        same_of(&rt, code, told(of_zeros(&rt, code, 64)), told(Ok(wanted)));
     }
-    same(&rt, EndBody::refused(0x85), EndBody::Bare);
+    holds(&rt, matches!(EndBody::refused(0x85), EndBody::Bare));
 }
 
 #[test]
@@ -143,7 +155,7 @@ fn opcodes_have_classes(rt: HostRuntime) {
         ([0, 19, 0xA1, 255].as_slice(), Class::Unknown),
     ] {
         for opcode in opcodes {
-            same_of(&rt, *opcode, class_of(*opcode), class);
+            same_of(&rt, *opcode, class_of(*opcode) as u8, class as u8);
         }
     }
 }

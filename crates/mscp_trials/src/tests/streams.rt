@@ -3,6 +3,7 @@
 ghost use Rattle.std.specs.Prelude.{◌≡◌, false};
 
 use super::first::{REPORT, SCRIPT};
+use super::texts::told;
 use crate::tests::checks::{got, holds, same, same_of};
 use mscp_sim::{SimFault, Stream, simulate};
 use std::alloc::Global;
@@ -123,18 +124,21 @@ pub(super) fn is_told(rt: &(impl Abort + AllocGlobal), script: &[u8], wanted: &[
     holds(rt, text.as_slice() == wanted);
 }
 
-/// By a reader and a writer of so many bytes a call, which fail at these calls, the first script is simulated so, and
-/// this is written.
+/// By a reader and a writer of so many bytes a call, which fail at these calls, the first script has a fault of this text,
+/// or none, and this is written.
 fn comes_to(
     rt: &(impl Abort + AllocGlobal),
     read: (usize, usize),
     written: (usize, usize),
-    wanted: Result<(), SimFault>,
+    wanted: &str,
     report: &[u8],
 ) {
     let (answer, bytes) = simulated_by(rt.alloc(), SCRIPT, read, written);
     let row = (read, written);
-    same_of(rt, row, answer, wanted);
+    match answer {
+        Ok(()) => same_of(rt, row, "", wanted),
+        Err(fault) => told(rt, &fault, wanted),
+    }
     same_of(rt, row, bytes.as_slice(), report);
 }
 
@@ -142,7 +146,7 @@ fn comes_to(
 fn a_script_may_come_and_go_by_any_steps(rt: HostRuntime) {
     for step in [1, 2, 7, 4096] {
         for taken in [1, 2, 7, 4096] {
-            comes_to(&rt, (step, NEVER), (taken, NEVER), Ok(()), REPORT);
+            comes_to(&rt, (step, NEVER), (taken, NEVER), "", REPORT);
         }
     }
 }
@@ -150,7 +154,7 @@ fn a_script_may_come_and_go_by_any_steps(rt: HostRuntime) {
 // The last call is the one that gives no byte.
 #[test]
 fn a_reader_that_fails_at_any_call_is_told(rt: HostRuntime) {
-    let fault = Err(SimFault::Read);
+    let fault = "cannot read";
     for step in [1, 2, 7, 4096] {
         for call in 1..=SCRIPT.len().div_ceil(step) + 1 {
             comes_to(&rt, (step, call), (4096, NEVER), fault, b"");
@@ -166,7 +170,7 @@ fn fails_to_write(rt: &(impl Abort + AllocGlobal), taken: usize, call: usize) {
         rt,
         (4096, NEVER),
         (taken, call),
-        Err(SimFault::Write),
+        "cannot write",
         before,
     );
 }

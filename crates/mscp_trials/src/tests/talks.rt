@@ -3,8 +3,9 @@
 mod paired;
 
 use super::moments::Moments;
+use super::told::heard;
 use super::values::*;
-use crate::tests::checks::{holds, same};
+use crate::tests::checks::{same, same_of};
 use mscp_controller::{Block, Connection, Entry, Report, Sent, Sweep};
 use mscp_host::{HostFault, News};
 use mscp_packet::{Command, End, Order};
@@ -95,7 +96,10 @@ impl Told {
     /// Just this is heard, where the second connection has so many credits. What came to the controller is given back.
     fn talk(&self, rt: &(impl Abort + AllocGlobal), second: u32) -> Talk {
         let talk = talk_of(rt, second, self.turns.as_slice());
-        same(rt, talk.heard.as_slice(), self.heard.as_slice());
+        same(rt, talk.heard.len(), self.heard.len());
+        for (turn, (made, wanted)) in talk.heard.iter().zip(&self.heard).enumerate() {
+            same_of(rt, turn, heard(made), heard(wanted));
+        }
         talk
     }
 

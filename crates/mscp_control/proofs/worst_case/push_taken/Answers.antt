@@ -1,5 +1,5 @@
 use Rattle.mscp_control.proofs.Common.{[], ◌∷◌, ◌++◌, ◌∙◌, Some}
-use Rattle.mscp_events.specs.declared.event.Event.TheVariants as events
+use Rattle.mscp_drive.specs.declared.event.Event.TheVariants as events
 use Rattle.mscp_controller.specs.declared.entry.Entry.TheVariants as entries
 use Rattle.mscp_control.proofs.worst_case.push_taken.Goals as goal
 

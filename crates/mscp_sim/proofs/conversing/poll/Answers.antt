@@ -1,5 +1,5 @@
 use Rattle.mscp_sim.proofs.Common.{arith, ◌≡◌, ◌<◌, ◌^◌, ap, sym, ◌∙◌, refl, rules, None, Some, Ok, false≢true, of, after_message, answer_to_message, polls_oldest}
-use Rattle.mscp_events.specs.declared.event.Event.TheVariants as events
+use Rattle.mscp_drive.specs.declared.event.Event.TheVariants as events
 use Rattle.mscp_controller.specs.declared.entry.Entry.TheVariants as entries
 use Rattle.mscp_sim.specs.declared.conversing.Turn.TheVariants as turns
 use Rattle.mscp_sim.specs.declared.conversing.Heard.TheVariants as hears

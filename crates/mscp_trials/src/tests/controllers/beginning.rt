@@ -5,10 +5,10 @@ use super::*;
 use crate::tests::calls::Trial;
 use crate::tests::checks::same;
 use crate::tests::crowds::{full, one_of_many};
-use mscp_packet::Command;
+use mscp_packet::write_command;
 
-/// A step: its command, unit and block, and whether it is the command's first and its last.
-type Step = (Command, u16, Option<u32>, bool, bool);
+/// A step: the bytes of its command, its unit and block, and whether it is the command's first and its last.
+type Step = (ArrayVec<u8, 48>, u16, Option<u32>, bool, bool);
 
 /// The step that a begin tells.
 fn foretold(upcoming: &Upcoming) -> Step {
@@ -20,7 +20,13 @@ fn foretold(upcoming: &Upcoming) -> Step {
         ..
     } = *upcoming;
     let is_last = done == weight.saturating_sub(1);
-    (command, command.unit, lbn, done == 0, is_last)
+    (
+        write_command(&command),
+        command.unit,
+        lbn,
+        done == 0,
+        is_last,
+    )
 }
 
 /// The step that a report tells.
@@ -36,17 +42,18 @@ fn reported(rt: &impl Abort, report: &Report) -> Step {
     else {
         panic!(rt; "a command waits");
     };
-    let command = one_of_many(reference);
+    let command = write_command(&one_of_many(reference));
     (command, unit, lbn, started, ended.is_some())
 }
 
-/// A step of the first, which is begun, reports what its begin told. The same step of the other reports the same.
+/// A step of the first, which is begun, reports what its begin told, twice. The same step of the other reports the same.
 fn step_is_told<K: Picker>(rt: &impl Abort, begun: &mut Trial<K>, other: &mut Trial<K>) {
     let upcoming = begun.controller.begin().expect(rt, "a command waits");
-    begun.begins(rt, Some(upcoming));
+    let again = begun.controller.begin().expect(rt, "it is begun");
     let report = begun.controller.step(Block::Good);
     other.steps(rt, Block::Good, report);
     same(rt, foretold(&upcoming), reported(rt, &report));
+    same(rt, foretold(&again), reported(rt, &report));
 }
 
 /// Two controllers to which the same came serve the same, where each step of the first is begun, and reports what its
@@ -57,7 +64,7 @@ fn begin_tells<K: Picker + Drop>(rt: &impl Abort, mut begun: Trial<K>, mut other
     for _ in 0..7 * 36 + 9 + 4 {
         step_is_told(rt, &mut begun, &mut other);
     }
-    begun.begins(rt, None);
+    begun.begins_nothing(rt);
     begun.steps(rt, Block::Good, Report::Idle);
     other.steps(rt, Block::Good, Report::Idle);
 }

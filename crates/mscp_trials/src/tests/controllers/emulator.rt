@@ -4,7 +4,7 @@ mod moving;
 
 use super::*;
 use crate::tests::checks::{got, holds, same};
-use mscp_packet::{Command, EndBody, read_end, write_command};
+use mscp_packet::{Command, End, EndBody, read_end, write_command, write_end};
 
 /// Where the host wants the data of a transfer: a place in its memory.
 #[derive(Clone, Copy, Default)]
@@ -153,7 +153,7 @@ impl<K: Picker> Machine<K> {
             .controller
             .finish(Connection::First, command.reference, block)?;
         let read = matches!(command.order, Order::Move(MoveKind::Read, ..));
-        if read && block == Block::Good && job.upcoming.lbn.is_some() {
+        if read && matches!(block, Block::Good) && job.upcoming.lbn.is_some() {
             self.fill(job);
         }
         if let Report::Served { ended: Some(_), .. } = report {
@@ -201,14 +201,9 @@ fn message(reference: u32, order: Order) -> ArrayVec<u8, 48> {
 }
 
 impl<K: Picker> Machine<K> {
-    /// This is said to a message.
-    fn says(&mut self, rt: &impl Abort, message: &[u8], wanted: Result<(), SendFault>) {
-        same(rt, self.on_message(message), wanted);
-    }
-
     /// A message comes that is not refused.
     fn gets(&mut self, rt: &impl Abort, message: &[u8]) {
-        self.says(rt, message, Ok(()));
+        holds(rt, self.on_message(message).is_ok());
     }
 
     /// The oldest end that wasn't taken is this one.
@@ -216,8 +211,13 @@ impl<K: Picker> Machine<K> {
         let bytes = self.controller.take(Connection::First);
         let bytes = bytes.expect(rt, "an end");
         let end = got(rt, read_end(bytes.as_slice()));
-        let told = (end.reference, end.status, end.body);
-        same(rt, told, (reference, status, body));
+        let wanted = End {
+            reference,
+            status,
+            body,
+            ..end
+        };
+        same(rt, bytes.as_slice(), write_end(&wanted).as_slice());
     }
 
     /// No end is left, and no buffer.
@@ -275,7 +275,7 @@ fn what_was_aborted_meanwhile_leaves_the_memory_alone(rt: HostRuntime) {
     let mut job = machine.begin().expect(&rt, "the READ");
     machine.gets(&rt, message(2, Order::Abort(1)).as_slice());
     let block = machine.work(&mut job);
-    same(&rt, machine.finish(&job, block), Err(NotBegun));
+    holds(&rt, machine.finish(&job, block).is_err());
     holds(&rt, are_all(&machine.memory, 7));
     machine.ends(&rt, 1, 0x0002, EndBody::Moved(0));
     machine.ends(&rt, 2, 0, EndBody::Abort(1));

@@ -15,7 +15,7 @@ struct Driver {
 }
 
 /// What is to be done next.
-#[derive(Clone, Copy, Debug, PartialEq, Eq)]
+#[derive(Clone, Copy)]
 enum Deed {
     /// Nothing.
     Wait,
@@ -83,6 +83,15 @@ fn new_driver(rt: &impl Abort) -> Driver {
     }
 }
 
+/// What is to be done, in a word, and the bytes of the end that is told.
+fn told(deed: &Deed) -> (&'static str, Option<ArrayVec<u8, 48>>) {
+    match deed {
+        Deed::Wait => ("wait", None),
+        Deed::Complete(end) => ("complete", Some(write_end(end))),
+        Deed::Resynchronise => ("resynchronise", None),
+    }
+}
+
 /// A driver whose READ 1 of blocks 40 and 41 was sent.
 fn reading(rt: &impl Abort) -> Driver {
     let mut driver = new_driver(rt);
@@ -95,17 +104,20 @@ fn polls(rt: &impl Abort, driver: &mut Driver, number: u8) {
     let (poll, deed) = driver.on_timer();
     let poll = poll.expect(rt, "a poll");
     same(rt, poll.as_slice(), status_bytes(number, 1).as_slice());
-    same(rt, deed, Deed::Wait);
+    holds(rt, matches!(deed, Deed::Wait));
 }
 
 /// The timer goes off: no poll is to be sent, and the driver does this.
 fn times_out(rt: &impl Abort, driver: &mut Driver, wanted: Deed) {
-    same(rt, driver.on_timer(), (None, wanted));
+    let (poll, deed) = driver.on_timer();
+    holds(rt, poll.is_none());
+    same(rt, told(&deed), told(&wanted));
 }
 
 /// This end comes, and the driver does this.
 fn gets(rt: &impl Abort, driver: &mut Driver, end: End, wanted: Deed) {
-    same(rt, driver.on_end(write_end(&end).as_slice()), wanted);
+    let deed = driver.on_end(write_end(&end).as_slice());
+    same(rt, told(&deed), told(&wanted));
 }
 
 #[test]

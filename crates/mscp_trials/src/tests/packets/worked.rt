@@ -20,8 +20,10 @@ fn command_is(
     let bytes = got(rt, hex::decode(rt.alloc(), digits));
     let written = write_command(&command);
     same_of(rt, digits, written.as_slice(), bytes.as_slice());
-    same_of(rt, digits, read_command(bytes.as_slice()), Ok(command));
-    same_of(rt, digits, read_written_command(&command), Ok(command));
+    let read = got(rt, read_command(bytes.as_slice()));
+    same_of(rt, digits, write_command(&read).as_slice(), bytes.as_slice());
+    let back = got(rt, read_written_command(&command));
+    same_of(rt, digits, write_command(&back).as_slice(), bytes.as_slice());
     same_of(rt, digits, bytes.as_slice().get(8), Some(&command.opcode()));
 }
 
@@ -118,8 +120,10 @@ fn end_is(
     let end = ended(reference, code, status, body);
     let bytes = got(rt, hex::decode(rt.alloc(), digits));
     same_of(rt, digits, write_end(&end).as_slice(), bytes.as_slice());
-    same_of(rt, digits, read_end(bytes.as_slice()), Ok(end));
-    same_of(rt, digits, read_written_end(&end), Ok(end));
+    let read = got(rt, read_end(bytes.as_slice()));
+    same_of(rt, digits, write_end(&read).as_slice(), bytes.as_slice());
+    let back = got(rt, read_written_end(&end));
+    same_of(rt, digits, write_end(&back).as_slice(), bytes.as_slice());
 }
 
 #[test]

@@ -1,5 +1,5 @@
 use Rattle.mscp_judge.proofs.Common.{refl, ◌∙◌, subst, OnOk, Came}
-use Rattle.mscp_events.specs.declared.event.Event.TheVariants as events
+use Rattle.mscp_drive.specs.declared.event.Event.TheVariants as events
 use Rattle.mscp_judge.proofs.Coming.{asked_one, asked_steps}
 use Rattle.mscp_judge.proofs.judge.Judge.ask.Goals as goal
 

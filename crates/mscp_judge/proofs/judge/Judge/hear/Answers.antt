@@ -1,5 +1,5 @@
 use Rattle.mscp_judge.proofs.Common.{◌≡◌, [], sym, ◌∙◌, ap, arith, common_steps, replicate, words, name_in}
-use Rattle.mscp_events.specs.declared.event.Event.TheVariants as events
+use Rattle.mscp_drive.specs.declared.event.Event.TheVariants as events
 use Rattle.mscp_judge.proofs.Breaking.{broken_unasked}
 use Rattle.mscp_judge.proofs.Coming.{ready_not}
 use Rattle.mscp_judge.proofs.Righting.{stands_open_held}

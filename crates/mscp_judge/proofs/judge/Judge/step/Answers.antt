@@ -1,6 +1,6 @@
 use Rattle.mscp_judge.proofs.Common.{refl, subst, arith, Holdings, Steps, Wanted, IsNamed}
 use Rattle.mscp_controller.specs.declared.entry.Entry.TheVariants as entries
-use Rattle.mscp_events.specs.declared.event.Event.TheVariants as events
+use Rattle.mscp_drive.specs.declared.event.Event.TheVariants as events
 use Rattle.mscp_judge.proofs.Coming.{came_on, stepped_short}
 use Rattle.mscp_judge.proofs.Telling.{stepped_answers}
 use Rattle.mscp_judge.proofs.judge.Judge.step.Goals as goal

@@ -1,6 +1,6 @@
 use Rattle.mscp_judge.proofs.Common.{refl, sym, subst, Ok, slice_get, of, AreAnswers}
 use Rattle.mscp_controller.specs.declared.entry.Entry.TheVariants as entries
-use Rattle.mscp_events.specs.declared.event.Event.TheVariants as events
+use Rattle.mscp_drive.specs.declared.event.Event.TheVariants as events
 use Rattle.mscp_judge.proofs.Answering.{taken_answers}
 use Rattle.mscp_judge.proofs.Coming.{came_on}
 use Rattle.mscp_judge.proofs.Printed.{taken_are}

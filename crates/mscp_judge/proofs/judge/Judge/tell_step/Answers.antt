@@ -1,5 +1,5 @@
 use Rattle.mscp_judge.proofs.Common.{◌++◌, ◌<◌, [], ◌∷◌, ◌∙◌, sym, subst, ap, Option, Named, words, IsTold, telling, name_in, wanted_name, IsStepRule, is_service, Came, due}
-use Rattle.mscp_events.specs.declared.event.Event.TheVariants as events
+use Rattle.mscp_drive.specs.declared.event.Event.TheVariants as events
 use Rattle.mscp_judge.proofs.Breaking.{broken_step}
 use Rattle.mscp_judge.proofs.Coming.{ready_step, stands_with}
 use Rattle.mscp_judge.proofs.Righting.{owed_some, stepped_open}

@@ -1,5 +1,5 @@
 use Rattle.mscp_script.proofs.Common.{arith, OnOk, ◌∙◌, subst, Ran}
-use Rattle.mscp_events.specs.declared.event.Event.TheVariants as events
+use Rattle.mscp_drive.specs.declared.event.Event.TheVariants as events
 use Rattle.mscp_script.proofs.Growing.{meets_ok}
 use Rattle.mscp_script.proofs.running.Run.meet.Goals as goal
 

@@ -1,5 +1,5 @@
 use Rattle.mscp_sim.proofs.Common.{◌≡◌, ◌++◌, replicate}
-use Rattle.mscp_events.specs.declared.event.Event.TheVariants as events
+use Rattle.mscp_drive.specs.declared.event.Event.TheVariants as events
 use Rattle.mscp_sim.proofs.reading.events.add_steps.Given as goal
 
 abbrev pub invariant-loop-step : goal.invariant-loop-step

@@ -2,10 +2,10 @@
 use Rattle.std.specs.Prelude.{ℕ, ◌+◌, ◌-◌, ◌*◌, ◌^◌, ◌<◌, ◌≤◌, ◌≡◌, ◌⊎◌, ◌||◌, ◌==◌, nat_lt, nat_le, if◌then◌else◌, List, Option, Some, None, unwrap_or, Result, Ok, Err}
 use Rattle.mscp_drive.specs.Shape.{Shape, one_block}
 use Rattle.mscp_drive.specs.UnitList as list
-use Rattle.mscp_events.specs.declared.connection.Connection.{Connection}
-use Rattle.mscp_events.specs.declared.connection.Connection.TheVariants.{First, Second}
-use Rattle.mscp_events.specs.declared.config.ConfigFault.{ConfigFault}
-use Rattle.mscp_events.specs.declared.config.ConfigFault.TheVariants.{Credits, Longest, Timeout, Figure}
+use Rattle.mscp_drive.specs.declared.connection.Connection.{Connection}
+use Rattle.mscp_drive.specs.declared.connection.Connection.TheVariants.{First, Second}
+use Rattle.mscp_drive.specs.declared.config.ConfigFault.{ConfigFault}
+use Rattle.mscp_drive.specs.declared.config.ConfigFault.TheVariants.{Credits, Longest, Timeout, Figure}
 
 -- the limits of a controller, and its units. The second connection has no credits where there is none (profile)
 pub record Settings : Type 0 where

@@ -6,7 +6,7 @@ use std::marker::Model;
 
 /// The status of a bad block: its code, the low five bits, is at least 5 (manual, "Status and Event
 /// Codes"; the lower codes are Success, and those that a controller itself finds).
-#[derive(Clone, Copy, Debug, PartialEq, Eq)]
+#[derive(Clone, Copy)]
 pub struct FaultStatus {
     status: u16,
 }
@@ -46,7 +46,7 @@ impl FaultStatus {
 }
 
 /// How one block was served.
-#[derive(Clone, Copy, Debug, PartialEq, Eq)]
+#[derive(Clone, Copy)]
 pub enum Block {
     /// The block was read or written, or the command needs none.
     Good,

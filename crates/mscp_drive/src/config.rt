@@ -3,11 +3,11 @@
 ghost use Rattle.std.specs.Prelude.{◌≡◌, ◌-◌};
 
 use crate::connection::Connection;
-use mscp_drive::Units;
+use crate::units::Units;
 use std::marker::Model;
 
 /// Why limits are refused: the first that holds, in this order.
-#[derive(Clone, Copy, Debug, PartialEq, Eq)]
+#[derive(Clone, Copy)]
 pub enum ConfigFault {
     /// The first connection's credits not 2 to 64, the second's not 0 or 2 to 62, or more than 64 of both.
     Credits,
@@ -20,7 +20,7 @@ pub enum ConfigFault {
 }
 
 /// The limits of a controller, and its units.
-#[derive(Debug, Drop, PartialEq)]
+#[derive(Drop)]
 pub struct Config {
     credits: u32,
     second: u32,
@@ -33,7 +33,7 @@ pub struct Config {
 
 // A clause sees the limits and the units.
 impl Model for Config {
-    ghost use Rattle.mscp_events.specs.Settings.{IsValid, Settings};
+    ghost use Rattle.mscp_drive.specs.Settings.{IsValid, Settings};
 
     ghost Value = { Settings };
 
@@ -58,17 +58,6 @@ impl Model for Config {
           id = c.id;
           units = c.units;
         }) };
-
-    ghost inverse = { λ s.
-        record {
-          credits = s.credits;
-          second = s.second;
-          budget = s.budget;
-          longest = s.longest;
-          timeout = s.timeout;
-          id = s.id;
-          units = s.units;
-        } };
 }
 
 /// How many commands may wait of so many credits: one is kept for commands that are answered when they come.
@@ -79,7 +68,7 @@ fn room_for(credits: u32) -> u32
 }
 
 impl Config {
-    ghost use Rattle.mscp_events.specs.Settings.{configured, credits_of, room, IsValid, Settings};
+    ghost use Rattle.mscp_drive.specs.Settings.{configured, credits_of, room, IsValid, Settings};
 
     /// The limits, if a controller can keep them: `credits` commands and untaken ends of the first connection at most, and
     /// `second` of the second, each waiting command passed by at most `budget` blocks, transfers of at most `longest`

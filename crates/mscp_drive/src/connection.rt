@@ -1,7 +1,7 @@
 // The two connections of a controller.
 
 /// One of the two connections of a controller. Each has a host of its own, which numbers its commands itself.
-#[derive(Clone, Copy, Debug, Default, PartialEq, Eq)]
+#[derive(Clone, Copy, Default, PartialEq, Eq)]
 pub enum Connection {
     /// The connection that each controller has.
     #[default]

@@ -5,7 +5,7 @@ use crate::connection::Connection;
 use arrayvec::ArrayVec;
 
 /// What comes to a controller.
-#[derive(Debug, PartialEq, Drop)]
+#[derive(Drop)]
 pub enum Event {
     /// A message of the connection's host.
     Send(Connection, ArrayVec<u8, 64>),

@@ -3,7 +3,7 @@
 use std::alloc::{AllocError, AllocFailed};
 
 /// No memory was left. Nothing else is wrong.
-#[derive(Clone, Copy, Debug, PartialEq, Eq)]
+#[derive(Clone, Copy)]
 pub struct OutOfMemory;
 
 impl From<AllocError> for OutOfMemory {

@@ -1,6 +1,6 @@
 -- One thing for each connection.
-use Rattle.mscp_events.specs.declared.connection.Connection.{Connection}
-use Rattle.mscp_events.specs.declared.connection.Connection.TheVariants.{First, Second}
+use Rattle.mscp_drive.specs.declared.connection.Connection.{Connection}
+use Rattle.mscp_drive.specs.declared.connection.Connection.TheVariants.{First, Second}
 
 pub record Both (X : Type 0) : Type 0 where
   pub first : X
