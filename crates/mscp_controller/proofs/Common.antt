@@ -36,7 +36,7 @@ unfoldable pub use Rattle.mscp_controller.specs.Legal.{block_of}
 pub use Rattle.mscp_controller.specs.Outcomes.{answer_body, own_end, own_end_with}
 pub use Rattle.mscp_controller.specs.Passing.{charge, fences, is_affordable, is_unstarted}
 unfoldable pub use Rattle.mscp_controller.specs.Passing.{is_free, is_startable, passed, passed_at, startable}
-pub use Rattle.mscp_controller.specs.Replacing.{AnsweredInTurn, Called, MayPickThen, Replaced, Turn, calls_of}
+pub use Rattle.mscp_controller.specs.Replacing.{AnsweredInTurn, Called, KeepsPromiseInTurn, Replaced, Turn, calls_of, picker_at}
 pub use Rattle.mscp_controller.specs.Restored.{IsCovered, IsSound}
 pub use Rattle.mscp_controller.specs.Runs.{IsRun}
 pub use Rattle.mscp_controller.specs.Sweeping.{IsSweeping, IsSwept, Sweeps, goes_before}

@@ -145,15 +145,16 @@ HoldsTo upcoming call = IfSome (service_of call) (IsAsTold upcoming)
 abbrev pub HoldsToBegun : List Call → Call → Type 0
 HoldsToBegun so_far call = (upcoming : Upcoming) (y j : ℕ) → IsBegunSince so_far upcoming y j → HoldsTo upcoming call
 
--- R allows the command of this name: now, if nothing is begun, or else at the begin that told of it (profile)
-abbrev pub IsChosen : (Trace → Name → Type 0) → List Call → Name → Type 0
+-- R allows the command of this name after the calls so far: now, if nothing is begun, or else at the begin that told
+-- of it (profile)
+abbrev pub IsChosen : (List Call → Name → Type 0) → List Call → Name → Type 0
 IsChosen R so_far n =
-    (NothingBegun so_far × R (history so_far) n)
+    (NothingBegun so_far × R so_far n)
     ⊎ ((upcoming : Upcoming) × (y : ℕ) × (j : ℕ) × IsBegunSince so_far upcoming y j × (upcoming_name upcoming ≡ n)
-    × R (history (take j so_far)) n)
+    × R (take j so_far) n)
 
 -- what the call starts, or tells that the next step starts it, was chosen where R allowed it
-abbrev pub StartsChosen : (Trace → Name → Type 0) → List Call → Call → Type 0
+abbrev pub StartsChosen : (List Call → Name → Type 0) → List Call → Call → Type 0
 StartsChosen R so_far call = IfSome (starts call) (IsChosen R so_far)
 
 -- R holds at each call, of the calls before it and of itself

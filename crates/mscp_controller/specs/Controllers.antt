@@ -40,9 +40,9 @@ pub record KeepsPromise {K : Type 0} (picks : List Choice → ℕ → Type 0) (c
   pub begun : AtEachCall calls HoldsToBegun
   -- each start, and each that a begin tells, is one that its picker may pick in the view at its begin, or at the step
   -- where nothing was begun (profile)
-  pub picked : AtEachCall calls (StartsChosen (IsPick c picks))
+  pub picked : AtEachCall calls (StartsChosen (λ so_far. IsPick c picks (history so_far)))
   -- where the picker sweeps, each is the one of least cost in that view, and of those the oldest (profile)
-  pub swept : Sweeps picks → AtEachCall calls (StartsChosen (IsSwept c))
+  pub swept : Sweeps picks → AtEachCall calls (StartsChosen (λ so_far. IsSwept c (history so_far)))
   -- its settings are those that it was made with (profile)
   pub settings : held.settings ≡ c
   -- it holds the commands that wait after the history, and each connection's ends that weren't taken (manual)

@@ -1,10 +1,11 @@
 -- What is promised of a controller whose picker is replaced between calls.
-use Rattle.std.specs.Prelude.{◌≡◌, ◌⊎◌, ℕ, List, [], ◌∷◌}
+use Rattle.std.specs.Prelude.{◌≡◌, ℕ, zero, suc, List, [], ◌∷◌, length}
 use Rattle.mscp_queue.specs.declared.view.Choice.{Choice}
-use Rattle.mscp_queue.specs.Views.{view_of}
 use Rattle.mscp_drive.specs.Settings.{IsValid, Settings}
 use Rattle.mscp_controller.specs.Holdings.{Holdings, fresh}
-use Rattle.mscp_controller.specs.Calls.{AnswersCall, Call}
+use Rattle.mscp_controller.specs.Legal.{IsPick}
+use Rattle.mscp_controller.specs.Sweeping.{IsSwept, Sweeps}
+use Rattle.mscp_controller.specs.Calls.{AnswersCall, AtEachCall, Call, StartsChosen, history}
 use Rattle.mscp_controller.specs.Controllers.{KeepsPromise}
 
 -- a call of a controller, or another picker, which picks from then on
@@ -27,21 +28,29 @@ AnsweredInTurn {K} picks old (Called call ∷ turns) new =
     (next : Holdings K) × AnswersCall (picks old.picker) old call next × AnsweredInTurn picks next turns new
 AnsweredInTurn picks old (Replaced picker ∷ turns) new = AnsweredInTurn picks (record old { picker = picker }) turns new
 
--- at one of the calls the controller would have shown this view, and the picker that it had then may pick this place of
--- it
-abbrev pub MayPickThen : {K : Type 0} (picks : K → List Choice → ℕ → Type 0) (old : Holdings K) (turns : List (Turn K))
-    (new : Holdings K) → AnsweredInTurn picks old turns new → List Choice → ℕ → Type 0
-MayPickThen picks old [] new r view place = ⊥
-MayPickThen picks old (Called call ∷ turns) new r view place =
-    ((view ≡ view_of old.settings.budget old.drives old.waiting) × picks old.picker view place)
-    ⊎ MayPickThen picks r.0 turns new r.2 view place
-MayPickThen picks old (Replaced picker ∷ turns) new r view place =
-    MayPickThen picks (record old { picker = picker }) turns new r view place
+-- the picker that the controller has at a call, before which so many were made
+abbrev pub picker_at : {K : Type 0} → K → List (Turn K) → ℕ → K
+picker_at now [] n = now
+picker_at now (Called call ∷ turns) zero = now
+picker_at now (Called call ∷ turns) (suc n) = picker_at now turns n
+picker_at now (Replaced picker ∷ turns) n = picker_at picker turns n
 
--- the law of pickers that are replaced: the promise is kept as by one picker, and each start is one that the picker of
--- a call which saw this view may pick of it
+-- what is promised of a controller that was made with this picker, whose picker was replaced among these calls, and
+-- that now holds this
+pub record KeepsPromiseInTurn {K : Type 0} (picks : K → List Choice → ℕ → Type 0) (picker : K) (c : Settings)
+    (turns : List (Turn K)) (held : Holdings K) : Type 0 where
+  -- the promise is kept, whoever picks
+  pub kept : KeepsPromise (λ view place. Unit {0}) c (calls_of turns) held
+  -- each start, and each that a begin tells, is one that the picker which the controller had then may pick, in the view
+  -- at its begin, or at the step where nothing was begun (profile)
+  pub picked : AtEachCall (calls_of turns) (StartsChosen (λ so_far.
+      IsPick c (picks (picker_at picker turns (length so_far))) (history so_far)))
+  -- where that picker sweeps, it is the one of least cost in that view, and of those the oldest (profile)
+  pub swept : AtEachCall (calls_of turns) (StartsChosen (λ so_far n.
+      Sweeps (picks (picker_at picker turns (length so_far))) → IsSwept c (history so_far) n))
+
+-- the law of pickers that are replaced (profile)
 abbrev pub PromiseIsKeptInTurn : {K : Type 0} → (K → List Choice → ℕ → Type 0) → K → Type 0
 PromiseIsKeptInTurn {K} picks picker =
     (c : Settings) (turns : List (Turn K)) (held : Holdings K) → IsValid c
-    → (r : AnsweredInTurn picks (fresh c picker) turns held)
-    → KeepsPromise (MayPickThen picks (fresh c picker) turns held r) c (calls_of turns) held
+    → AnsweredInTurn picks (fresh c picker) turns held → KeepsPromiseInTurn picks picker c turns held

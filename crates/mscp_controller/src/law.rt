@@ -35,8 +35,9 @@ pub fn controllers_keep_the_promise<K: Picker>(picker: &K)
     ensures { ControllersKeepThePromise (K.picks picker.now) picker.now }
 {}
 
-/// The same of a controller whose picker is replaced between calls, as often as one likes: its answers keep the promise as those
-/// of one picker do. Each start is one that may be picked of its view by the picker of a call which saw that view.
+/// The same of a controller whose picker is replaced between calls, as often as one likes: its answers keep the promise,
+/// whoever picks. Each start is one that the picker which the controller had then may pick in the view at its begin, or at
+/// the step where nothing was begun: where that picks as `Sweep` does, the one of least cost, and of those the oldest.
 pub fn replaced_pickers_keep_the_promise<K: Picker>(picker: &K)
     ensures { PromiseIsKeptInTurn K.picks picker.now }
 {}

@@ -56,21 +56,25 @@ begun_more calls call up y j b n w =
     search (arith, length-append, list_any-append, front_same, drop-append-le, get_or_append_left)
 
 -- ---- what is known of what is begun
-pub record Begun (c : Settings) (picks : List Choice → ℕ → Type 0) (calls : List Call) (n : Name) (up : Upcoming)
+-- a picker may pick the command of this name after the calls so far: what it may pick depends on them
+abbrev pub IsPickThen : Settings → (List Call → List Choice → ℕ → Type 0) → List Call → Name → Type 0
+IsPickThen c picks so_far = IsPick c (picks so_far) (history so_far)
+
+pub record Begun (c : Settings) (picks : List Call → List Choice → ℕ → Type 0) (calls : List Call) (n : Name) (up : Upcoming)
     (y j : ℕ) : Type 0 where
   pub is : IsBegunSince calls up y j
   pub now : up ≡ foretold (history calls) y
   pub own : upcoming_name up ≡ n
   pub only : (up' : Upcoming) (y' j' : ℕ) → IsBegunSince calls up' y' j' → (y' ≡ y) × (up' ≡ up)
-  pub chosen : nat_eq up.done 0 ≡ true → IsPick c picks (history (take j calls)) n
+  pub chosen : nat_eq up.done 0 ≡ true → IsPickThen c picks (take j calls) n
 
 -- what is held to be begun is what is begun
-abbrev pub Holds : Settings → (List Choice → ℕ → Type 0) → List Call → Option Name → Type 0
+abbrev pub Holds : Settings → (List Call → List Choice → ℕ → Type 0) → List Call → Option Name → Type 0
 Holds c picks calls None = NothingBegun calls
 Holds c picks calls (Some n) = (up : Upcoming) × (y : ℕ) × (j : ℕ) × Begun c picks calls n up y j
 
 -- its name is that of the history
-pub name_begun : {c : Settings} {picks : List Choice → ℕ → Type 0} {calls : List Call} {n : Name} {up : Upcoming}
+pub name_begun : {c : Settings} {picks : List Call → List Choice → ℕ → Type 0} {calls : List Call} {n : Name} {up : Upcoming}
     {y j : ℕ} → Begun c picks calls n up y j → name (history calls) y ≡ n
 name_begun b = ap upcoming_name (sym b.now) ∙ b.own
 
@@ -78,7 +82,7 @@ untold : (call : Call) (up : Upcoming) → upcoming_in call ≡ None → upcomin
 untold call up n e = true≢false (ap is_some (sym e ∙ n))
 
 -- a call that is no step, and tells nothing
-pub holds_on : (c : Settings) (picks : List Choice → ℕ → Type 0) (calls : List Call) (call : Call) (o o' : Option Name)
+pub holds_on : (c : Settings) (picks : List Call → List Choice → ℕ → Type 0) (calls : List Call) (call : Call) (o o' : Option Name)
     → steps call ≡ false → upcoming_in call ≡ None
     → ((y : ℕ) → is_waiting (history calls) y ≡ true → foretold (history (calls ++ call ∷ [])) y
     ≡ foretold (history calls) y) → ((n : Name) (y : ℕ) → o ≡ Some n → is_waiting (history calls) y
@@ -105,7 +109,8 @@ holds_on c picks calls call (Some n) o' s q stay link none h =
             own = b.own;
             only = λ up' y' j' k. either ((y' ≡ y) × (up' ≡ up)) calls call up' y' j' (λ m z. b.only up' y' j' m)
                 (λ l. absurd (untold call up' q l.told)) k;
-            chosen = search (arith, j, b, front_same);
+            chosen = λ d. subst (λ cs. IsPickThen c picks cs n)
+                (sym (front_same calls call j b.is.inside)) (b.chosen d);
           } in
           (up, y, j, on)
       | false ↦ λ e up' y' j' k.
@@ -134,11 +139,11 @@ pub begin_same : (calls : List Call) (upcoming : Option Upcoming)
     → history (calls ++ Begin upcoming ∷ []) ≡ history calls
 begin_same calls upcoming = history_more calls (Begin upcoming) ∙ append-nil (history calls)
 
-module _ (c : Settings) (picks : List Choice → ℕ → Type 0) (calls : List Call) (n : Name) (up : Upcoming) (y : ℕ) where
+module _ (c : Settings) (picks : List Call → List Choice → ℕ → Type 0) (calls : List Call) (n : Name) (up : Upcoming) (y : ℕ) where
   -- it begins y where nothing is begun
   pub holds_new : Apart (history calls) (waiting (history calls)) → NothingBegun calls
       → is_waiting (history calls) y ≡ true → up ≡ foretold (history calls) y → upcoming_name up ≡ n → (nat_eq up.done 0
-      ≡ true → IsPick c picks (history calls) n) → Holds c picks (calls ++ Begin (Some up) ∷ []) (Some n)
+      ≡ true → IsPickThen c picks calls n) → Holds c picks (calls ++ Begin (Some up) ∷ []) (Some n)
   holds_new apart none w e own p =
       let call = Begin (Some up) in
       let calls' = calls ++ call ∷ [] in
@@ -159,7 +164,7 @@ module _ (c : Settings) (picks : List Choice → ℕ → Type 0) (calls : List C
         own = own;
         only = λ up' y' j' k. either ((y' ≡ y) × (up' ≡ up)) calls call up' y' j' (λ m z. absurd (none up' y' j' m))
             (last_same calls up up' y y' apart w e) k;
-        chosen = λ d. subst (λ cs. IsPick c picks (history cs) n) (sym front) (p d);
+        chosen = λ d. subst (λ cs. IsPickThen c picks cs n) (sym front) (p d);
       } in
       (up, y, j, all)
 
@@ -176,7 +181,7 @@ module _ (c : Settings) (picks : List Choice → ℕ → Type 0) (calls : List C
         only = λ up' y' j' k. either ((y' ≡ y) × (up' ≡ up)) calls call up' y' j' (λ m z. b.only up' y' j' m)
             (last_same calls up up' y y' apart b.is.waits b.now) k;
         chosen =
-            λ d. subst (λ cs. IsPick c picks (history cs) n) (sym (front_same calls call j b.is.inside)) (b.chosen d);
+            λ d. subst (λ cs. IsPickThen c picks cs n) (sym (front_same calls call j b.is.inside)) (b.chosen d);
       } in
       (up, y, j, all)
 
@@ -188,17 +193,17 @@ nothing_told calls e none up y j b = either ⊥ calls (Begin None) up y j (λ k 
 
 -- ---- a call
 -- what is known of a call, and of what is then held
-pub record Turned {K : Type 0} (c : Settings) (picks : List Choice → ℕ → Type 0) (calls : List Call) (call : Call)
+pub record Turned {K : Type 0} (c : Settings) (picks : List Call → List Choice → ℕ → Type 0) (calls : List Call) (call : Call)
     (h : Holdings K) : Type 0 where
   pub legal : IsLegal c (history (calls ++ call ∷ []))
   pub agrees : Agrees c (history (calls ++ call ∷ [])) h
   pub right : IsRightCall c calls call
   pub begun : HoldsToBegun calls call
-  pub picked : StartsChosen (IsPick c picks) calls call
+  pub picked : StartsChosen (IsPickThen c picks) calls call
   pub holds : Holds c picks (calls ++ call ∷ []) h.begun
 
 -- what is held to be begun, and that it is
-abbrev pub Held : {K : Type 0} → Settings → (List Choice → ℕ → Type 0) → List Call → Holdings K → Option Name → Type 0
+abbrev pub Held : {K : Type 0} → Settings → (List Call → List Choice → ℕ → Type 0) → List Call → Holdings K → Option Name → Type 0
 Held c picks calls h o = (h.begun ≡ o) × Holds c picks calls o
 
 -- something waits that is begun

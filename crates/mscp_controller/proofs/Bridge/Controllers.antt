@@ -1,11 +1,12 @@
 -- A controller of a picker keeps the promise, and a run has it.
-use Rattle.mscp_controller.proofs.Common.{◌≡◌, inl, inr, ℕ, ◌-◌, ◌+◌, List, take, length, ap, ◌∙◌, arith, IfSome, Option, Some, None, Choice, figure_of_name, Name, name_of, holders_of_name, names, map_map, Event, Entry, Settings, IsValid, credits_of, of, Answered, Holdings, fresh, waiting_on, IsRun, IsPick, IsSwept, Sweeps, AnsweredCalls, Call, IsChosen, call_at, history, starts, KeepsPromise, waiting}
+use Rattle.mscp_controller.proofs.Common.{◌≡◌, inl, inr, ℕ, ◌-◌, ◌+◌, ◌++◌, ◌∷◌, [], List, take, length, ap, ◌∙◌, arith, IfSome, Option, Some, None, Choice, figure_of_name, Name, name_of, holders_of_name, names, map_map, Event, Entry, Settings, IsValid, credits_of, of, Answered, Holdings, fresh, waiting_on, IsRun, IsPick, IsSwept, Sweeps, AnsweredCalls, AtEachCall, Call, IsChosen, StartsChosen, Trace, call_at, view, history, starts, KeepsPromise, waiting}
 use Rattle.mscp_controller.proofs.Bridge.Swept.{sweeping, swept_pick}
 use Rattle.mscp_controller.proofs.Bridge.Basics.{figure_of_held, held_of, balance_held}
 use Rattle.mscp_controller.proofs.Bridge.Holders.{holders_of_held, startable_unheld}
 use Rattle.mscp_controller.proofs.Promise.Progress.{progress}
 use Rattle.mscp_controller.proofs.Bridge.Following.{as_many, comes}
-use Rattle.mscp_controller.proofs.Bridge.Calling.{called}
+use Rattle.mscp_controller.proofs.Bridge.Begun.{IsPickThen}
+use Rattle.mscp_controller.proofs.Bridge.Calling.{AnsweredThen, Knows, called}
 
 -- ---- a run
 pub runs : {K : Type 0} (c : Settings) (picks : List Choice → ℕ → Type 0) (picker : K) (es : List Event)
@@ -20,29 +21,47 @@ pub new_runs : {K : Type 0} (c : Settings) (picks : K → List Choice → ℕ �
 new_runs {K} c picks picker new es ns h v e r = search (arith, runs)
 
 -- ---- whoever calls
-chosen_swept : (c : Settings) (picks : List Choice → ℕ → Type 0) (so_far : List Call) (n : Name) → Sweeps picks
-    → IsChosen (IsPick c picks) so_far n → IsChosen (IsSwept c) so_far n
-chosen_swept c picks so_far n w (inl h) = inl (h.0, swept_pick c picks (history so_far) n w h.1)
-chosen_swept c picks so_far n w (inr h) = search (arith, swept_pick c picks (history (take h.2 so_far)) n w h.5)
+-- what was chosen where one relation allowed it was chosen where a weaker one does
+chosen_weaker : (R S : List Call → Name → Type 0) → ((so_far : List Call) (n : Name) → R so_far n → S so_far n)
+    → (so_far : List Call) (n : Name) → IsChosen R so_far n → IsChosen S so_far n
+chosen_weaker R S w so_far n (inl h) = inl (h.0, w so_far n h.1)
+chosen_weaker R S w so_far n (inr h) = inr (h.0, h.1, h.2, h.3, h.4, w (take h.2 so_far) n h.5)
 
-starts_swept : (c : Settings) (picks : List Choice → ℕ → Type 0) (so_far : List Call) (o : Option Name) → Sweeps picks
-    → IfSome o (IsChosen (IsPick c picks) so_far) → IfSome o (IsChosen (IsSwept c) so_far)
-starts_swept c picks so_far None w h = tt
-starts_swept c picks so_far (Some n) w h = chosen_swept c picks so_far n w h
+starts_weaker : (R S : List Call → Name → Type 0) → ((so_far : List Call) (n : Name) → R so_far n → S so_far n)
+    → (so_far : List Call) (o : Option Name) → IfSome o (IsChosen R so_far) → IfSome o (IsChosen S so_far)
+starts_weaker R S w so_far None h = tt
+starts_weaker R S w so_far (Some n) h = chosen_weaker R S w so_far n h
 
-pub keeps_promise : {K : Type 0} (c : Settings) (picks : List Choice → ℕ → Type 0) (picker : K) (calls : List Call)
-    (h : Holdings K) → IsValid c → AnsweredCalls picks (fresh c picker) calls h → KeepsPromise picks c calls h
-keeps_promise c picks picker calls h v r =
+-- the same at each call
+pub each_weaker : (R S : List Call → Name → Type 0) → ((so_far : List Call) (n : Name) → R so_far n → S so_far n)
+    → (calls : List Call) → AtEachCall calls (StartsChosen R) → AtEachCall calls (StartsChosen S)
+each_weaker R S w calls h = λ i l. starts_weaker R S w (take i calls) (starts (call_at calls i)) (h i l)
+
+-- what a picker may pick that allows no more
+pick_weaker : (c : Settings) (picks allowed : List Choice → ℕ → Type 0)
+    → ((view : List Choice) (place : ℕ) → picks view place → allowed view place)
+    → (t : Trace) (n : Name) → IsPick c picks t n → IsPick c allowed t n
+pick_weaker c picks allowed w t n p = (p.0, p.1, p.2, w (view c t) p.0 p.3)
+
+-- A controller keeps the promise of a picker that may pick whatever it may pick after any calls.
+pub keeps_then : {K : Type 0} (c : Settings) (picks : List Call → List Choice → ℕ → Type 0)
+    (allowed : List Choice → ℕ → Type 0) (picker : K) (calls : List Call) (h : Holdings K) → IsValid c
+    → ((so_far : List Call) (view : List Choice) (place : ℕ) → picks so_far view place → allowed view place)
+    → Knows c picks calls h → KeepsPromise allowed c calls h
+keeps_then c picks allowed picker calls h v w k =
     let t = history calls in
-    let k = called c picks picker h calls v r in
     let f = k.agrees.follows in
+    let picked : AtEachCall calls (StartsChosen (λ so_far. IsPick c allowed (history so_far))) = each_weaker
+    (IsPickThen c picks) (λ so_far. IsPick c allowed (history so_far))
+    (λ so_far n. pick_weaker c (picks so_far) allowed (w so_far) (history so_far) n) calls k.picked in
     record {
       legal = k.legal;
       promise = progress c t v k.legal;
       right = k.right;
       begun = k.begun;
-      picked = k.picked;
-      swept = λ w i l. starts_swept c picks (take i calls) (starts (call_at calls i)) w (k.picked i l);
+      picked = picked;
+      swept = λ sweeps. each_weaker (λ so_far. IsPick c allowed (history so_far)) (λ so_far. IsSwept c (history so_far))
+          (λ so_far n. swept_pick c allowed (history so_far) n sweeps) calls picked;
       settings = k.settings;
       waiting = ap names f.waits ∙ map_map (held_of t) name_of (waiting t);
       untaken = f.ends;
@@ -53,3 +72,14 @@ keeps_promise c picks picker calls h v r =
       balance = λ via. ap (λ (s : Settings). credits_of s via - (length (waiting_on via h.waiting) + length
           (of via h.untaken))) k.settings ∙ balance_held c via t h.waiting h.untaken f;
     }
+
+-- where one picker picks all the time
+by_one : {K : Type 0} (picks : List Choice → ℕ → Type 0) (so_far : List Call) (h h' : Holdings K) (calls : List Call)
+    → AnsweredCalls picks h calls h' → AnsweredThen (λ before. picks) so_far h calls h'
+by_one picks so_far h h' [] r = r
+by_one picks so_far h h' (call ∷ calls) r = (r.0, r.1, by_one picks (so_far ++ call ∷ []) r.0 h' calls r.2)
+
+pub keeps_promise : {K : Type 0} (c : Settings) (picks : List Choice → ℕ → Type 0) (picker : K) (calls : List Call)
+    (h : Holdings K) → IsValid c → AnsweredCalls picks (fresh c picker) calls h → KeepsPromise picks c calls h
+keeps_promise c picks picker calls h v r = keeps_then c (λ before. picks) picks picker calls h v
+    (λ so_far view place own. own) (called c (λ before. picks) picker h calls v (by_one picks [] (fresh c picker) h calls r))

@@ -1,6 +1,10 @@
--- A controller whose picker is replaced keeps the promise as one whose picker may pick what that of the call may.
-use Rattle.mscp_controller.proofs.Common.{◌≡◌, ℕ, List, [], ◌∷◌, Option, None, Some, inl, inr, refl, ap, arith, Result, Command, Block, Connection, Event, IsValid, Settings, Drive, Name, Report, Upcoming, Choice, Begins, Serves, Record, IsNext, view_of, AnsweredCalls, AnswersCall, Call, KeepsPromise, Answers, Finishes, Holdings, Steps, fresh, held_unless, line_of, sent_unless, AnsweredInTurn, Called, MayPickThen, Replaced, Turn, calls_of, Entry, SendFault, NotBegun}
-use Rattle.mscp_controller.proofs.Bridge.Controllers.{keeps_promise}
+-- A controller whose picker is replaced keeps the promise: at each call its picker is that which it has at.
+use Rattle.mscp_controller.proofs.Common.{◌≡◌, ℕ, List, [], ◌∷◌, Option, None, Some, refl, ap, arith, Result, Command, Block, Connection, Event, IsValid, Settings, Drive, Name, Report, Upcoming, Choice, Begins, Serves, Record, IsNext, view_of, AnswersCall, Begin, Call, Finish, Line, Plain, Ok, Err, history, length, ◌++◌, ◌∙◌, append-nil, append_assoc, subst, sym, KeepsPromiseInTurn, picker_at, IsSwept, Sweeps, Answers, Finishes, Holdings, Steps, fresh, held_unless, line_of, sent_unless, AnsweredInTurn, Called, Replaced, Turn, calls_of, Entry, SendFault, NotBegun}
+use Rattle.mscp_controller.proofs.Bridge.Begun.{IsPickThen}
+use Rattle.mscp_controller.proofs.Bridge.Calling.{AnsweredThen, called}
+use Rattle.mscp_controller.proofs.Bridge.Controllers.{each_weaker, keeps_then}
+use Rattle.mscp_controller.proofs.Bridge.Owning.{owner_kept, stays}
+use Rattle.mscp_controller.proofs.Bridge.Swept.{swept_pick}
 
 -- what is held, with another picker
 abbrev by : {K : Type 0} → K → Holdings K → Holdings K
@@ -62,41 +66,65 @@ call_by : {K : Type 0} (picks allowed : List Choice → ℕ → Type 0) (a : K) 
     → Allows (shown old) picks allowed → AnswersCall picks old call new → AnswersCall allowed (by a old) call (by a new)
 call_by picks allowed a old new call h6 h7 = grind (arith, answers_by, begins_by, finishes_by)
 
+picker_kept : {K : Type 0} (picks : List Choice → ℕ → Type 0) (h h' : Holdings K) (call : Call)
+    → AnswersCall picks h call h' → h'.picker ≡ h.picker
+picker_kept picks h h' (Plain event entry) r = (owner_kept picks h h' event entry r).1
+picker_kept {K} picks h h' (Begin None) r = ap (λ (l : Line K). l.picker) r.begins.2
+picker_kept {K} picks h h' (Begin (Some upcoming)) r = ap (λ (l : Line K). l.picker) r.begins.1.left
+picker_kept picks h h' (Finish via number k (Ok report)) r =
+    (stays picks k (line_of h) report (line_of h') r.1.serves).3
+picker_kept {K} picks h h' (Finish via number k (Err not_begun)) r = ap (λ (x : Holdings K). x.picker) r.1
+
 -- ---- calls, one after the other
-in_turn : {K : Type 0} (picks : K → List Choice → ℕ → Type 0) (allowed : List Choice → ℕ → Type 0) (a : K)
-    (turns : List (Turn K)) (old new : Holdings K) → (r : AnsweredInTurn picks old turns new)
-    → ((view : List Choice) (place : ℕ) → MayPickThen picks old turns new r view place → allowed view place)
-    → AnsweredCalls allowed (by a old) (calls_of turns) (by a new)
-in_turn {K} picks allowed a [] old new e covers = ap (λ (h : Holdings K). by a h) e
-in_turn picks allowed a (Called call ∷ turns) old new r covers = (
-  by a r.0,
-  call_by (picks old.picker) allowed a old r.0 call (λ place own. covers (shown old) place (inl (refl, own))) r.1,
-  in_turn picks allowed a turns r.0 new r.2 (λ view place later. covers view place (inr later)),
-)
-in_turn picks allowed a (Replaced picker ∷ turns) old new r covers =
-    in_turn picks allowed a turns (by picker old) new r covers
+-- what is answered in turn is answered by the picker of each call, where `at` tells what that may pick after the calls
+-- before it
+in_turn : {K : Type 0} (picks : K → List Choice → ℕ → Type 0) (at : List Call → List Choice → ℕ → Type 0) (a : K)
+    (turns : List (Turn K)) (so_far : List Call) (old new : Holdings K)
+    → ((calls : List Call) → at (so_far ++ calls) ≡ picks (picker_at old.picker turns (length calls)))
+    → AnsweredInTurn picks old turns new → AnsweredThen at so_far (by a old) (calls_of turns) (by a new)
+in_turn {K} picks at a [] so_far old new is r = ap (λ (h : Holdings K). by a h) r
+in_turn {K} picks at a (Called call ∷ turns) so_far old new is r =
+    let now : at so_far ≡ picks old.picker = ap at (sym (append-nil so_far)) ∙ is [] in
+    let kept = picker_kept (picks old.picker) old r.0 call r.1 in
+    (
+      by a r.0,
+      subst (λ allowed. AnswersCall allowed (by a old) call (by a r.0)) (sym now)
+          (call_by (picks old.picker) (picks old.picker) a old r.0 call (λ place own. own) r.1),
+      in_turn picks at a turns (so_far ++ call ∷ []) r.0 new (λ calls.
+          ap at (append_assoc so_far (call ∷ []) calls) ∙ (is (call ∷ calls)
+          ∙ ap (λ (p : K). picks (picker_at p turns (length calls))) (sym kept))) r.2,
+    )
+in_turn picks at a (Replaced picker ∷ turns) so_far old new is r =
+    in_turn picks at a turns so_far (by picker old) new is r
 
 -- ---- the law
 pub keeps_in_turn : {K : Type 0} (c : Settings) (picks : K → List Choice → ℕ → Type 0) (picker : K)
-    (turns : List (Turn K)) (held : Holdings K) → IsValid c → (r : AnsweredInTurn picks (fresh c picker) turns held)
-    → KeepsPromise (MayPickThen picks (fresh c picker) turns held r) c (calls_of turns) held
-keeps_in_turn c picks picker turns held v r =
-    let allowed = MayPickThen picks (fresh c picker) turns held r in
-    let k = keeps_promise c allowed picker (calls_of turns) (by picker held) v
-    (in_turn picks allowed picker turns (fresh c picker) held r (λ view place own. own)) in
+    (turns : List (Turn K)) (held : Holdings K) → IsValid c → AnsweredInTurn picks (fresh c picker) turns held
+    → KeepsPromiseInTurn picks picker c turns held
+keeps_in_turn {K} c picks picker turns held v r =
+    let calls = calls_of turns in
+    let at : List Call → List Choice → ℕ → Type 0 = λ so_far. picks (picker_at picker turns (length so_far)) in
+    let k = called c at picker (by picker held) calls v
+    (in_turn picks at picker turns [] (fresh c picker) held (λ calls. refl) r) in
+    let kept = keeps_then c at (λ view place. Unit {0}) picker calls (by picker held) v (λ so_far view place own. tt) k in
     record {
-      legal = k.legal;
-      promise = k.promise;
-      right = k.right;
-      begun = k.begun;
+      kept = record {
+        legal = kept.legal;
+        promise = kept.promise;
+        right = kept.right;
+        begun = kept.begun;
+        picked = kept.picked;
+        swept = kept.swept;
+        settings = kept.settings;
+        waiting = kept.waiting;
+        untaken = kept.untaken;
+        figure = kept.figure;
+        kept_back = kept.kept_back;
+        unheld = kept.unheld;
+        drives = kept.drives;
+        balance = kept.balance;
+      };
       picked = k.picked;
-      swept = k.swept;
-      settings = k.settings;
-      waiting = k.waiting;
-      untaken = k.untaken;
-      figure = k.figure;
-      kept_back = k.kept_back;
-      unheld = k.unheld;
-      drives = k.drives;
-      balance = k.balance;
+      swept = each_weaker (IsPickThen c at) (λ so_far n. Sweeps (at so_far) → IsSwept c (history so_far) n)
+          (λ so_far n p sweeps. swept_pick c (at so_far) (history so_far) n sweeps p) calls k.picked;
     }

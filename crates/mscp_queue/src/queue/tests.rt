@@ -6,8 +6,7 @@ ghost use Rattle.mscp_queue.specs.Common.{IsWaitable, clock_end, order_weight, u
 
 use super::*;
 use crate::picker::Sweep;
-use mscp_drive::Unit;
-use mscp_events::Block;
+use mscp_drive::{Block, Unit};
 use mscp_packet::MoveKind;
 use std::process::Abort;
 

@@ -3,7 +3,7 @@
 ghost use Rattle.std.specs.Prelude.{◌<◌};
 
 use super::*;
-use mscp_events::Connection;
+use mscp_drive::Connection;
 use mscp_packet::{Command, MoveKind, Order};
 
 /// A READ of a block with this reference number.
