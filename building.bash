@@ -151,19 +151,47 @@ elapsed() { printf '%d:%02d' $((SECONDS / 60)) $((SECONDS % 60)); }
 # Says what rt is at, where no line on a terminal does.
 begin() {
     doing=$1 checked='' # and how many functions of that crate are checked
-    [ -t 2 ] || say "$doing, after $(elapsed)"
+    [ -t 2 ] || tell "$doing"
 }
 
-# Prints which of the crates of crates.txt this is, if it is one of them.
+tell() {
+    say "$1, after $(elapsed)"
+    told=$SECONDS
+}
+
+# Says what isn't done yet, where no line was said for a minute: a crate may take many, if the machine has much else to do.
+remind() {
+    local names=$doing
+    [ ! -t 2 ] && [ $((SECONDS - told)) -ge "$minute" ] || return 0
+    [ "${#at_work[@]}" -eq 0 ] || { printf -v names ', %s' "${at_work[@]}" && names="proving ${names#, }"; }
+    tell "still $names"
+}
+
+# Prints which of the crates that are wanted this is, if it is one of them.
 place() {
-    awk -F '[^A-Za-z0-9_]' -v name="$1" '/^[A-Za-z0-9_]+.*:/ { n++; if ($1 == name) place = n }
-        END { if (place) printf ", crate %d of %d", place, n }' "$top/crates.txt"
+    local it number=0
+    for it in "${crates[@]}"; do
+        number=$((number + 1))
+        [ "$it" != "$1" ] || printf ', crate %d of %d' "$number" "${#crates[@]}"
+    done
+}
+
+# This crate is proved.
+leave() {
+    local it rest=()
+    for it in "${at_work[@]}"; do [ "$it" = "$1" ] || rest+=("$it"); done
+    at_work=("${rest[@]}")
 }
 
 # Takes a line of rt's: where rt is, from the words that it has for that, and else what a failure is to show.
 hear() {
     case $1 in
-        'rt: chose --jobs '*' for '*) begin "proving ${1##* }$(place "${1##* }")" ;;
+        'rt: chose --jobs '*' for '*)
+            [ -n "$side_by_side" ] || at_work=()
+            at_work+=("${1##* }")
+            begin "proving ${1##* }$(place "${1##* }")"
+            ;;
+        'rt: ended '*) leave "${1##* }" ;;
         'rt: waiting for another rt '*) begin 'waiting for another rt' ;;
         'so far: '*' functions checked'*) checked=${1#so far: } checked=", ${checked%% functions checked*} functions" ;;
         *': proved' | *': modules loaded='*) ;;
@@ -180,6 +208,7 @@ follow() {
         line+=$piece
         [ "$status" -ne 0 ] || { hear "$line" && line=''; }
         draw "$name: $doing$checked, after $(elapsed)"
+        remind
     done
     [ -z "$line" ] || hear "$line"
     draw ''
@@ -207,16 +236,20 @@ build_library() {
     done
     # rt says so itself where it chooses.
     [ $# -eq 1 ] || echo "rt: chose $2 $3 for $1"
-    cp -a -- "$top/crates/$1" "$at/crates" && (cd -- "$at/crates/$1" && become_rt lib "${@:2}" </dev/null) && : >"$at/built"
+    cp -a -- "$top/crates/$1" "$at/crates" && (cd -- "$at/crates/$1" && become_rt lib "${@:2}" </dev/null) && : >"$at/built" &&
+        echo "rt: ended $1"
 }
 
-# Prints those of these libraries, lowest first, that have time: the longest chain of lines through one of them is well short
-# of the longest of all.
-unhurried() {
+# The seconds that a crate takes of processors, from proving.txt. One that isn't there takes none.
+seconds() { sed -n "s/^$1 //p" "$top/proving.txt" 2>/dev/null | grep . || echo 0; }
+
+# Prints how each of these libraries, lowest first, is proved: its name, by which command (`nice` where it gives way to the
+# others, else `env`), and by how many processes, 0 for as many as rt chooses. The longest chain of seconds sets the pace. A
+# library in no chain about as long is proved by two processes, or by one if it is small, which takes less in all; and it
+# gives way if what the others leave is enough for it, about a fifth of the seconds that they take beside it.
+manners() {
     local low
-    for low in "$@"; do
-        echo "$low $(find "$top/crates/$low" -path '*/out' -prune -o -type f -exec cat -- {} + | wc -l)" $(below "$low")
-    done | awk '
+    for low in "$@"; do echo "$low $(seconds "$low")" $(below "$low"); done | awk '
         {
             for (i = 3; i <= NF; i++) if (upto[$1] < upto[$i]) upto[$1] = upto[$i]
             upto[$1] += $2
@@ -225,27 +258,27 @@ unhurried() {
         END {
             for (n = NR; n; n--) {
                 count = split(line[n], low)
+                own[low[1]] = low[2]
                 for (i = 3; i <= count; i++) if (above[low[i]] < above[low[1]] + low[2]) above[low[i]] = above[low[1]] + low[2]
                 through[low[1]] = upto[low[1]] + above[low[1]]
                 if (most < through[low[1]]) most = through[low[1]]
             }
-            for (it in through) if (through[it] < most * 0.9) print it
+            for (it in through) {
+                processes = !own[it] || through[it] >= most * 0.9 ? 0 : own[it] < 100 ? 1 : 2
+                print it, processes && own[it] * 5 <= most - through[it] + own[it] ? "nice" : "env", processes
+            }
         }'
 }
 
-# Has these libraries built, each by a process that ends where this one does. One that has time gives way to the others, and is
-# proved by one process, or by two if it isn't small, which takes less in all than as many as rt would choose.
+# Has these libraries built, each by a process that ends where this one does.
 build_libraries() {
-    local low slow manner words
-    slow=" $(unhurried "$@" | tr '\n' ' ')"
-    for low in "$@"; do
-        manner=() words=()
-        if [[ $slow == *" $low "* ]]; then
-            manner=(nice) words=(--jobs 2)
-            [ "$(find "$top/crates/$low/src" -type f -exec cat -- {} + | wc -l)" -ge 1000 ] || words=(--jobs 1)
-        fi
-        tied "${manner[@]}" "$BASH" "$top/building.bash" build_library "$top" "$name" "$nothing" "$room" "$low" "${words[@]}" &
-    done
+    local low manner processes words ways
+    ways=$(manners "$@") || return
+    while read -r low manner processes; do
+        words=()
+        [ "$processes" -eq 0 ] || words=(--jobs "$processes")
+        tied "$manner" "$BASH" "$top/building.bash" build_library "$top" "$name" "$nothing" "$room" "$low" "${words[@]}" &
+    done <<<"$ways"
     for low in "$@"; do wait -n || return; done
     for low in "$@"; do
         mv -- "$room/apart/$low/crates/$low/out" "$top/crates/$low" || refuse "crates/$low/out can't be written"
@@ -262,16 +295,20 @@ ended_well() {
 # Proves and builds by rt: the libraries side by side if nothing of them is there, and then what is wanted, which takes them.
 prove() {
     local libraries few=()
+    side_by_side='' at_work=() # whether more than one crate is proved at once, and which are
     # The last command of a pipe runs in this shell. Bash 5.2 may tell a status of -1 for a process that it reads by < <( ).
     shopt -s lastpipe
     said='' doing='reading the sources' checked=''
     mapfile -t libraries < <(below "${crate##*/}")
+    crates=("${libraries[@]}" "${crate##*/}")
     if [ "${#libraries[@]}" -gt 0 ] && ! (cd -- "$top/crates" && find "${libraries[@]/%//out}" -maxdepth 0 2>/dev/null) | grep -q .; then
+        side_by_side=yes
         tied "$BASH" "$top/building.bash" build_libraries "$top" "$name" "$nothing" "$room" "${libraries[@]}" \
             2>&1 {lock}>&- | follow
         ended_well "${PIPESTATUS[0]}"
+        side_by_side='' at_work=()
         # What is left of a program is small, and rt says what it is at only where it chooses itself.
-        [ "${words[0]}" != run ] || { few=(--jobs 1) && begin "proving ${crate##*/}$(place "${crate##*/}")"; }
+        [ "${words[0]}" != run ] || { few=(--jobs 1) at_work=("${crate##*/}") && begin "proving ${crate##*/}$(place "${crate##*/}")"; }
     fi
     (cd -- "$crate" && become_rt "${words[@]}" "${few[@]}" <"$input" 2>&1 {lock}>&-) | follow
     ended_well "${PIPESTATUS[0]}"
@@ -294,7 +331,7 @@ is_kept() {
 # Runs rt until no source is touched meanwhile. What was kept of other sources goes then.
 build() {
     local round=0
-    SECONDS=0
+    SECONDS=0 told=0 minute=60
     say "proving and building $what: from nothing, allow 10 minutes on four processors"
     mkdir -p -- "$top/out" && exec {lock}>>"$top/out/lock" || refuse "$top/out can't be written"
     flock -n "$lock" || { say 'waiting for another build' && flock "$lock"; } || refuse "$top/out/lock can't be locked"
