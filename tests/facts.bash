@@ -122,9 +122,12 @@ numbers_are_those_of_the_sources() {
                 { echo "$page hasn't $source: $number" && return 1; }
         done
     done <<'END'
-MSCP_SAVED_MAX|docs/C.md docs/SAVED.md crates/mscp_saved/README.md
-MSCP_HOST_SAVED_MAX|docs/C.md docs/SAVED.md crates/mscp_host/README.md
-MSCP_PORT_SAVED_MAX|docs/C.md docs/SAVED.md crates/mscp_port/README.md
+MSCP_SAVED_MAX|docs/C.md docs/SAVED.md
+MSCP_HOST_SAVED_MAX|docs/C.md docs/SAVED.md
+MSCP_PORT_SAVED_MAX|docs/C.md docs/SAVED.md
+crates/mscp_saved/src/fields.rt:const ROOM: usize = [0-9]+|docs/SAVED.md crates/mscp_saved/README.md
+crates/mscp_host/src/saving.rt:const ROOM: usize = [0-9]+|docs/SAVED.md crates/mscp_host/README.md
+crates/mscp_port/src/port/saving.rt:const ROOM: usize = [0-9]+|docs/SAVED.md crates/mscp_port/README.md
 MSCP_SIZE|docs/SPEED.md
 MSCP_HOST_SIZE|docs/SPEED.md
 MSCP_PORT_SIZE|docs/SPEED.md
