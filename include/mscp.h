@@ -62,10 +62,10 @@ extern "C" {
 #define MSCP_ALIGNED
 #endif
 
-/* The version of this header, 1.0.0: a byte for each of the three numbers, and that of the library. The two fit if the first
+/* The version of this header, 2.0.0: a byte for each of the three numbers, and that of the library. The two fit if the first
  * number is the same: docs/C.md in the sources says what is the same then. If they don't, an init says MSCP_NO_HANDLE, since
  * a handle that this header makes is none for that library. */
-#define MSCP_VERSION UINT32_C(0x010000)
+#define MSCP_VERSION UINT32_C(0x020000)
 #define MSCP_FITS() ((mscp_version() ^ MSCP_VERSION) >> 16 == 0)
 uint32_t mscp_version(void);
 
@@ -75,9 +75,9 @@ uint32_t mscp_version(void);
 #define MSCP_MESSAGE_MAX 64u
 #define MSCP_PACKET_MAX 48u   /* bytes that a call writes of a message or an end, at most */
 #define MSCP_BLOCK 512u       /* bytes of a block */
-#define MSCP_SAVED_MAX 3664u  /* bytes that a controller is saved as, at most */
-#define MSCP_HOST_SAVED_MAX 794u /* bytes that a host is saved as, at most */
-#define MSCP_PORT_SAVED_MAX 5416u /* bytes that a port is saved as, at most */
+#define MSCP_SAVED_MAX 4608u  /* bytes that a controller is saved as, at most, by any library that fits */
+#define MSCP_HOST_SAVED_MAX 1024u /* the same of a host */
+#define MSCP_PORT_SAVED_MAX 7168u /* and of a port */
 
 /* What a call answers: 0 and up what came of it, below 0 why it was refused. */
 enum mscp_status {
@@ -403,7 +403,8 @@ struct mscp_volume {
 
 /* ---- memory */
 
-/* How many bytes a controller, a host or a port takes, and what its address is a multiple of. malloc aligns so. */
+/* How many bytes a controller, a host or a port takes in this library, and what its address is a multiple of. malloc aligns
+ * so. */
 size_t mscp_size(void);
 size_t mscp_align(void);
 size_t mscp_host_size(void);
@@ -411,11 +412,11 @@ size_t mscp_host_align(void);
 size_t mscp_port_size(void);
 size_t mscp_port_align(void);
 
-/* At least those sizes, for memory that is there from the start, as
+/* No library that fits takes more, so memory may be there from the start, as
  * static MSCP_ALIGNED uint64_t memory[(MSCP_HEAD + MSCP_SIZE) / sizeof(uint64_t)]; */
-#define MSCP_SIZE 14224u
-#define MSCP_HOST_SIZE 1056u
-#define MSCP_PORT_SIZE 16112u
+#define MSCP_SIZE 17920u
+#define MSCP_HOST_SIZE 1536u
+#define MSCP_PORT_SIZE 20480u
 
 /* Marks of handles on memory where nothing was made yet. */
 #define MSCP_ROOM UINT64_C(0x4D534350524F4F4D)
@@ -633,7 +634,7 @@ MSCP_INLINE int64_t mscp_settings(const struct mscp *mscp, struct mscp_limits *l
 
 /* ---- a controller as bytes */
 
-/* As many bytes as a controller is saved as, at most: MSCP_SAVED_MAX. */
+/* As many bytes as this library saves a controller as, at most: no more than MSCP_SAVED_MAX. */
 size_t mscp_save_size(void);
 
 /* Writes all that the calls tell of the controller, and its limits, units and picker, as `*length` bytes to the front
@@ -705,7 +706,7 @@ MSCP_INLINE int32_t mscp_host_receive(struct mscp_host *host, const uint8_t *byt
     return mscp_host_receive_at(host, length == 0 ? &none : bytes, length, news);
 }
 
-/* As many bytes as a host is saved as, at most: MSCP_HOST_SAVED_MAX. */
+/* As many bytes as this library saves a host as, at most: no more than MSCP_HOST_SAVED_MAX. */
 size_t mscp_host_save_size(void);
 
 /* All that the host keeps, as mscp_save does it of a controller. */
@@ -853,7 +854,7 @@ MSCP_INLINE uint32_t mscp_on_bus(uint8_t bus, uint32_t address)
     return address & (bus == MSCP_BUS_UNI ? UINT32_C(0x3FFFF) : UINT32_C(0x3FFFFF));
 }
 
-/* As many bytes as a port is saved as, at most: MSCP_PORT_SAVED_MAX. */
+/* As many bytes as this library saves a port as, at most: no more than MSCP_PORT_SAVED_MAX. */
 size_t mscp_port_save_size(void);
 
 /* All of the port, as mscp_save does it of a controller, which is in it. What it wants stays wanted: tell how that went

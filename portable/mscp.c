@@ -21598,7 +21598,7 @@ static u32 w_mscp_version(void)
 L1:;
     f203();
     f61();
-    return 65536u;
+    return 131072u;
 }
 
 static u64 f204(u64 v0, u32 v1)

@@ -102,10 +102,11 @@ rules_of_the_judge_are_told() {
         same "$(sort <<<"$legal")" "$(rules_below '## Logs' docs/JUDGE.md | grep -vE '^(legal|.*not legal)$' | sort)"
 }
 
-# The number of a name of the header, or of a line of the sources that this expression finds.
+# The number of a name of the header, that a call of the C file answers, or of a line of the sources that this expression finds.
 number_of() {
     case $1 in
         MSCP_*) sed -nE "s/^#define $1 ([0-9]+)u.*/\1/p" include/mscp.h ;;
+        mscp_*) sed -nE "/^static u64 w_$1\(/,/^\}/s/^ +return ([0-9]+)ull;/\1/p" portable/mscp.c ;;
         *) grep -hoE -- "${1#*:}" "${1%%:*}" | head -n 1 | grep -oE '[0-9]+$' ;;
     esac
 }
@@ -122,12 +123,18 @@ numbers_are_those_of_the_sources() {
                 { echo "$page hasn't $source: $number" && return 1; }
         done
     done <<'END'
-MSCP_SAVED_MAX|docs/C.md docs/SAVED.md crates/mscp_saved/README.md
-MSCP_HOST_SAVED_MAX|docs/C.md docs/SAVED.md crates/mscp_host/README.md
-MSCP_PORT_SAVED_MAX|docs/C.md docs/SAVED.md crates/mscp_port/README.md
+MSCP_SAVED_MAX|docs/C.md docs/SAVED.md
+MSCP_HOST_SAVED_MAX|docs/C.md docs/SAVED.md
+MSCP_PORT_SAVED_MAX|docs/C.md docs/SAVED.md
+crates/mscp_saved/src/fields.rt:const ROOM: usize = [0-9]+|docs/SAVED.md crates/mscp_saved/README.md
+crates/mscp_host/src/saving.rt:const ROOM: usize = [0-9]+|docs/SAVED.md crates/mscp_host/README.md
+crates/mscp_port/src/port/saving.rt:const ROOM: usize = [0-9]+|docs/SAVED.md crates/mscp_port/README.md
 MSCP_SIZE|docs/SPEED.md
 MSCP_HOST_SIZE|docs/SPEED.md
 MSCP_PORT_SIZE|docs/SPEED.md
+mscp_size|docs/SPEED.md
+mscp_host_size|docs/SPEED.md
+mscp_port_size|docs/SPEED.md
 crates/mscp_drive/specs/Settings.antt:c\.longest ≤ [0-9]+|docs/FORMATS.md docs/USING.md docs/mscpq.1 include/mscp.h
 crates/mscp_reader/specs/Grammar.antt:length bytes ≤ [0-9]+|docs/FORMATS.md docs/mscpq.1 include/mscp.h
 crates/mscp_reader/specs/Grammar.antt:length new\) [0-9]+|docs/FORMATS.md docs/mscpq.1 include/mscp.h

@@ -254,7 +254,7 @@ static void nothing_is_there(void)
     is("save of none", mscp_port_save(&port, none, sizeof none, &length), MSCP_NOT_MADE);
     is("restore to no memory", mscp_port_restore(&port, none, 0), MSCP_NO_MEMORY);
     is("nothing told", (int64_t)length, 5);
-    is("most of a port", (int64_t)mscp_port_save_size(), MSCP_PORT_SAVED_MAX);
+    is("most of a port", mscp_port_save_size() <= MSCP_PORT_SAVED_MAX, 1);
 }
 
 /* What has no room is left, and so is the port that is there. */

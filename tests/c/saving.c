@@ -189,8 +189,8 @@ static void nothing_is_there(void)
     is("restore to no memory", mscp_restore(&mscp, bytes, 0), MSCP_NO_MEMORY);
     is("a host to no memory", mscp_host_restore(&host, bytes, 0), MSCP_NO_MEMORY);
     is("nothing told", (int64_t)length, 5);
-    is("most of a controller", (int64_t)mscp_save_size(), MSCP_SAVED_MAX);
-    is("most of a host", (int64_t)mscp_host_save_size(), MSCP_HOST_SAVED_MAX);
+    is("most of a controller", mscp_save_size() <= MSCP_SAVED_MAX, 1);
+    is("most of a host", mscp_host_save_size() <= MSCP_HOST_SAVED_MAX, 1);
 }
 
 /* A restored controller says of which limits and units it is: of as many as there is room for. */

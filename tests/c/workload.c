@@ -41,8 +41,8 @@ static struct mscp handle_of(int fault, uint64_t mark, size_t size)
 
 static void try_handles(int fault)
 {
-    struct mscp it = handle_of(fault, MSCP_ROOM, MSCP_SIZE);
-    struct mscp at = handle_of(fault, MSCP_HOST_ROOM, MSCP_HOST_SIZE), top = handle_of(fault, MSCP_PORT_ROOM, MSCP_PORT_SIZE);
+    struct mscp it = handle_of(fault, MSCP_ROOM, mscp_size());
+    struct mscp at = handle_of(fault, MSCP_HOST_ROOM, mscp_host_size()), top = handle_of(fault, MSCP_PORT_ROOM, mscp_port_size());
     struct mscp_host a_host = {at.at, at.address, at.length, at.mark};
     struct mscp_port a_port = {top.at, top.address, top.length, top.mark};
     choose();

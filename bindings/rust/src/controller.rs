@@ -10,7 +10,7 @@ use crate::{List, Packet, COMMANDS_MAX, SAVED_MAX, UNITS_MAX};
 
 /// A controller: it takes its hosts' messages in, tells which block is served next, and gives their ends.
 ///
-/// It lies in place, in some 15 KiB, and may move: box it, or make it where it is to stay ([`Controller::new_in`]). It may go
+/// It lies in place, in some 18 KiB, and may move: box it, or make it where it is to stay ([`Controller::new_in`]). It may go
 /// to another thread, but two have none in common:
 ///
 /// ```compile_fail

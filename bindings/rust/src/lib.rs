@@ -29,7 +29,7 @@ pub use values::{
 };
 
 /// The version of `mscp.h` that this was written for: a byte for each of the three numbers.
-pub const VERSION: u32 = 0x01_00_00;
+pub const VERSION: u32 = 0x02_00_00;
 /// Commands that wait and ends that weren't taken, of both connections together, at most.
 pub const CREDITS_MAX: usize = 64;
 /// Commands that wait, at most: the last credit isn't theirs.
@@ -44,12 +44,12 @@ pub const MESSAGE_MAX: usize = 64;
 pub const PACKET_MAX: usize = 48;
 /// Bytes of a block.
 pub const BLOCK: usize = 512;
-/// Bytes that a controller is saved as, at most.
-pub const SAVED_MAX: usize = 3664;
-/// Bytes that a host is saved as, at most.
-pub const HOST_SAVED_MAX: usize = 794;
-/// Bytes that a port is saved as, at most.
-pub const PORT_SAVED_MAX: usize = 5416;
+/// Bytes that a controller is saved as, at most, by any library that fits.
+pub const SAVED_MAX: usize = 4608;
+/// Bytes that a host is saved as, at most, by any library that fits.
+pub const HOST_SAVED_MAX: usize = 1024;
+/// Bytes that a port is saved as, at most, by any library that fits.
+pub const PORT_SAVED_MAX: usize = 7168;
 
 /// Whether a library of this version fits: its first number is that of [`VERSION`]. If it doesn't, whatever makes a controller,
 /// a host or a port answers [`Error::NoHandle`].

@@ -24,9 +24,9 @@ pub struct Handle {
 pub const ROOM: u64 = 0x4D53_4350_524F_4F4D;
 pub const HOST_ROOM: u64 = 0x484F_5354_524F_4F4D;
 pub const PORT_ROOM: u64 = 0x504F_5254_524F_4F4D;
-pub const SIZE: usize = 14224;
-pub const HOST_SIZE: usize = 1056;
-pub const PORT_SIZE: usize = 16112;
+pub const SIZE: usize = 17920;
+pub const HOST_SIZE: usize = 1536;
+pub const PORT_SIZE: usize = 20480;
 
 /// The statuses that are no faults.
 pub mod status {

@@ -140,9 +140,9 @@ fn library_is_of_this_version() {
         assert!(raw::mscp_size() <= raw::SIZE && raw::mscp_align() <= align_of::<raw::Handle>());
         assert!(raw::mscp_host_size() <= raw::HOST_SIZE && raw::mscp_host_align() <= align_of::<raw::Handle>());
         assert!(raw::mscp_port_size() <= raw::PORT_SIZE && raw::mscp_port_align() <= align_of::<raw::Handle>());
-        assert_eq!(raw::mscp_save_size(), mscp::SAVED_MAX);
-        assert_eq!(raw::mscp_host_save_size(), mscp::HOST_SAVED_MAX);
-        assert_eq!(raw::mscp_port_save_size(), mscp::PORT_SAVED_MAX);
+        assert!(raw::mscp_save_size() <= mscp::SAVED_MAX);
+        assert!(raw::mscp_host_save_size() <= mscp::HOST_SAVED_MAX);
+        assert!(raw::mscp_port_save_size() <= mscp::PORT_SAVED_MAX);
     }
 }
 

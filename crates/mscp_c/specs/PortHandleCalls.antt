@@ -73,7 +73,7 @@ TellsHolders (Some via) reference held before answer after =
     (answer ≡ pos (length (holders_in held.controller via reference)))
     × (after ≡ holders_told (holders_in held.controller via reference) before)
 
--- what a call on a handle that was made answers, and what is there then: it is what the call itself promises
+-- what a call on a handle that was made answers, and what is there then
 abbrev pub AnswersHandle : Handle → HandleCall → Handle → Type 0
 AnswersHandle old (ReadIp status) new = Holds ports.ReadsIp old new × (status ≡ DONE)
 AnswersHandle old (WriteIp status) new = Holds ports.WritesIp old new × (status ≡ DONE)

@@ -30,8 +30,9 @@ pub fn handles_keep_the_promise(policy: Policy)
     controllers_keep_the_promise(&policy);
 }
 
-/// Calls on a port's handle, one after the other, are calls of a port, also where it was saved and restored in between: each
-/// law of ports is about them, and statuses and out-structs tell what the port answers.
+/// Calls on a port's handle, one after the other, each answered as the relation of such calls says, are calls of a port, also
+/// where it was saved and restored in between: each law of ports is about them. Statuses and out-structs of those that change
+/// the port tell what it answers; of those that only look nothing is told here.
 pub fn port_handles_keep_the_promise()
     ensures { PortHandlesKeepThePromise }
 {}

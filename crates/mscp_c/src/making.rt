@@ -10,12 +10,12 @@ use crate::units::{InitFault, Limits, UnitIn, policy_of, units_of};
 use mscp_controller::{Config, Controller};
 use mscp_memory::controller::{ALIGN, Handle, SIZE, is_made, lend, place, room_fault};
 
-/// The version of the library, 1.0.0: a byte for each of the three numbers.
+/// The version of the library, 2.0.0: a byte for each of the three numbers.
 #[unsafe(no_mangle)]
 pub extern "C" fn mscp_version() -> u32
-    ensures { result ≡ 0x0001_0000 }
+    ensures { result ≡ 0x0002_0000 }
 {
-    0x0001_0000
+    0x0002_0000
 }
 
 /// How many bytes a controller takes.

@@ -5,9 +5,9 @@ ghost use Rattle.mscp_port.specs.Common.{PortsFillTheirSlots, PortsSpeakInOrder,
 use mscp_queue::Picker;
 
 /// Whoever calls a port that was made over a controller, and whatever its host writes to registers and into its memory: the
-/// port wants no memory touched but a communication area that the host named by three words, a packet whose descriptor it
-/// gave to the port, and a buffer that a command of its own names; each since it wrote IP last. So says the list of the calls
-/// alone, with what was answered to them.
+/// port wants no memory touched but a communication area that three words name which the host wrote to SA in this order, with
+/// or without others between them, a packet whose descriptor it gave to the port, and a buffer that a command of its own names;
+/// each since it wrote IP last. So says the list of the calls alone, with what was answered to them.
 pub fn ports_touch_what_is_named<K: Picker>(picker: &K)
     ensures { PortsTouchWhatIsNamed K }
 {
@@ -24,8 +24,8 @@ pub fn ports_touch_what_was_put<K: Picker>(picker: &K)
 }
 
 /// A port was made for a host that may have so many commands outstanding. Whoever calls the port: where the controller has fewer
-/// of them that wait, or whose ends weren't taken, no message is refused for want of a credit. So no command of a host that
-/// keeps to its credits stays in its slot.
+/// of them that wait, or whose ends weren't taken, no message is refused for want of a credit. A command may still stay in its
+/// slot while its number is in use, or, if the port answers it itself, while something else goes out.
 pub fn ports_have_credit<K: Picker>(picker: &K)
     ensures { PortsHaveCredit K }
 {
@@ -45,9 +45,10 @@ pub fn ports_move_on_volumes<K: Picker>(picker: &K)
     let _ = picker;
 }
 
-/// Whoever calls such a port: each message that began to go out is gone in its turn, once, or still goes out. It is gone once its
-/// slot was given back, which its host had made the port's since it wrote IP; or the host wrote IP again, or a fatal error came.
-/// The credits that its host was told since are all that it may have but those that it wasn't told yet.
+/// Whoever calls such a port: each message that began to go out is gone in its turn, once, or still goes out. It is gone once a
+/// slot of the ring of responses was given back, whose descriptor its host had made the port's since it wrote IP; or the host
+/// wrote IP again, or a fatal error came. The credits that were told since are all that the host may have but the one that it
+/// begins with and those that it wasn't told yet, and one for each end. What stands in a packet isn't said here.
 pub fn ports_speak_in_order<K: Picker>(picker: &K)
     ensures order { PortsSpeakInOrder K }
     ensures slots { PortsFillTheirSlots K }

@@ -1,0 +1,149 @@
+/* port.c: what the proved port of mscp.h wants done, as callbacks. Take it into an emulator as it is, with port.h:
+ *
+ *     cc toy.c port.c $(pkg-config --cflags --libs mscp) -o toy
+ *
+ * toy.c is a machine with such a port. docs/PORT.md says what a port does, and wire.h what -DLOG_WIRE adds. */
+#include "port.h"
+#include <string.h>
+#ifdef LOG_WIRE
+#include "wire.h"
+#else
+#define wire_reset() ((void)0)
+#define wire_action(status, action, bytes) (status)
+#endif
+
+enum { DRIVE_ERROR = 0x000B };
+
+/* One credit more than the host has is for commands that are answered at once. */
+int32_t port_open(struct port *port, const struct port_bus *bus, const struct mscp_hardware *hardware,
+                  const struct mscp_unit *units, size_t count)
+{
+    const struct mscp_limits limits = {
+        .id = (uint64_t)1 << 56 | (uint64_t)hardware->model << 48,
+        .budget = 512,
+        .credits = PORT_COMMANDS + 1,
+        .longest = 65536,
+        .timeout = 120,
+    };
+    port->bus = *bus;
+    port->lines = hardware->bus;
+    port->mscp = mscp_port_in_memory(port->memory, sizeof port->memory);
+    return mscp_port_init(port->mscp, &limits, units, count, MSCP_SWEEP, hardware, PORT_COMMANDS);
+}
+
+uint16_t port_read(struct port *port, unsigned offset)
+{
+    if (offset != 0)
+        return (uint16_t)mscp_port_read_sa(port->mscp);
+    mscp_port_read_ip(port->mscp);
+    return 0;
+}
+
+void port_write(struct port *port, unsigned offset, uint16_t word)
+{
+    if (offset != 0)
+        mscp_port_write_sa(port->mscp, word);
+    else if (mscp_port_write_ip(port->mscp) == MSCP_DONE)
+        wire_reset();
+}
+
+/* ---- actions */
+
+/* A block goes to the host's memory: a READ; or it is read alone: an ACCESS. */
+static enum mscp_outcome read_block(const struct port_bus *bus, const struct mscp_action *action)
+{
+    uint8_t block[MSCP_BLOCK];
+    if (!bus->read_block(bus->machine, action->unit, action->block, block))
+        return MSCP_OUTCOME_FAILED;
+    if (action->opcode == MSCP_ACCESS)
+        return MSCP_OUTCOME_DONE;
+    return bus->write(bus->machine, action->address, block, action->count);
+}
+
+/* A block comes from the host's memory, with zeros behind its bytes: a WRITE; or it is all zeros: an ERASE. */
+static enum mscp_outcome write_block(const struct port_bus *bus, const struct mscp_action *action)
+{
+    uint8_t block[MSCP_BLOCK] = {0};
+    if (action->opcode == MSCP_WRITE) {
+        enum mscp_outcome outcome = bus->read(bus->machine, action->address, block, action->count);
+        if (outcome != MSCP_OUTCOME_DONE)
+            return outcome;
+    }
+    return bus->write_block(bus->machine, action->unit, action->block, block) ? MSCP_OUTCOME_DONE : MSCP_OUTCOME_FAILED;
+}
+
+/* The host's bytes are compared with a block: a COMPARE HOST DATA. */
+static enum mscp_outcome compare(const struct port_bus *bus, const struct mscp_action *action)
+{
+    uint8_t block[MSCP_BLOCK], bytes[MSCP_BLOCK];
+    enum mscp_outcome outcome = bus->read(bus->machine, action->address, bytes, action->count);
+    if (outcome != MSCP_OUTCOME_DONE)
+        return outcome;
+    if (!bus->read_block(bus->machine, action->unit, action->block, block))
+        return MSCP_OUTCOME_FAILED;
+    return memcmp(block, bytes, action->count) == 0 ? MSCP_OUTCOME_DONE : MSCP_OUTCOME_DIFFERENT;
+}
+
+static enum mscp_outcome transfer(const struct port_bus *bus, const struct mscp_action *action)
+{
+    switch (action->opcode) {
+    case MSCP_READ: case MSCP_ACCESS: return read_block(bus, action);
+    case MSCP_WRITE: case MSCP_ERASE: return write_block(bus, action);
+    default: return compare(bus, action);
+    }
+}
+
+/* Does what the port wants, and tells it how that went. If the host wrote IP in the meantime the port wants that no
+ * more, and answers so: then there is nothing to do. */
+static int32_t act(struct port *port, const struct mscp_action *action)
+{
+    const struct port_bus *bus = &port->bus;
+    enum mscp_outcome outcome = MSCP_OUTCOME_DONE;
+    uint8_t bytes[sizeof action->bytes];
+    switch (action->kind) {
+    case MSCP_ACTION_READ:
+        outcome = bus->read(bus->machine, action->address, bytes, action->count);
+        if (outcome == MSCP_OUTCOME_DONE)
+            return wire_action(mscp_port_was_read(port->mscp, bytes, action->count), action, bytes);
+        break;
+    case MSCP_ACTION_WRITE: outcome = bus->write(bus->machine, action->address, action->bytes, action->count); break;
+    case MSCP_ACTION_INTERRUPT: bus->interrupt(bus->machine, action->vector); break;
+    case MSCP_ACTION_TRANSFER: outcome = transfer(bus, action); break;
+    default: break; /* PAUSE: the machine went on since the last turn */
+    }
+    int32_t status = mscp_port_went(port->mscp, outcome, DRIVE_ERROR);
+    return outcome == MSCP_OUTCOME_DONE ? wire_action(status, action, action->bytes) : status;
+}
+
+/* What was wanted is done at once, so that no volume changes in between. */
+bool port_turn(struct port *port, unsigned most)
+{
+    struct mscp_action action;
+    mscp_port_look_again(port->mscp);
+    for (unsigned done = 0; done < most; done++) {
+        if (mscp_port_next(port->mscp, &action) != MSCP_DONE)
+            return false;
+        if (done > 0 && action.kind == MSCP_ACTION_PAUSE)
+            return true;
+        action.address = mscp_on_bus(port->lines, action.address);
+        act(port, &action);
+    }
+    return true;
+}
+
+/* ---- what comes from elsewhere */
+
+void port_second(struct port *port)
+{
+    mscp_port_tick(port->mscp);
+}
+
+bool port_insert(struct port *port, uint16_t unit, const struct mscp_medium *medium)
+{
+    return mscp_port_volume_came(port->mscp, unit, medium) == MSCP_DONE;
+}
+
+bool port_eject(struct port *port, uint16_t unit)
+{
+    return mscp_port_volume_went(port->mscp, unit) == MSCP_DONE;
+}

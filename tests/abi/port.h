@@ -1,0 +1,47 @@
+/* port.h: a disk port between the bus of an emulated machine and its disks, by callbacks. port.c has it. */
+#ifndef PORT_H
+#define PORT_H
+#include "mscp.h"
+#include <stdbool.h>
+
+#define PORT_COMMANDS 16u /* that a host may have outstanding */
+
+/* What the machine does for its port. Each callback gets `machine` as it is here. Addresses are those of the bus, of 22 bits or
+ * 18, and mapping them is the machine's: it answers MSCP_OUTCOME_DONE, or else MSCP_OUTCOME_MISSING, _PARITY or _UNMAPPED. */
+struct port_bus {
+    void *machine;
+    enum mscp_outcome (*read)(void *machine, uint32_t address, uint8_t *bytes, uint32_t count);
+    enum mscp_outcome (*write)(void *machine, uint32_t address, const uint8_t *bytes, uint32_t count);
+    void (*interrupt)(void *machine, uint16_t vector);
+    /* A block of 512 bytes of a unit's volume. Whether it could be read or written. */
+    bool (*read_block)(void *machine, uint16_t unit, uint32_t block, uint8_t *bytes);
+    bool (*write_block)(void *machine, uint16_t unit, uint32_t block, const uint8_t *bytes);
+};
+
+/* A port, with a controller. It holds no pointer but those of its bus. */
+struct port {
+    struct port_bus bus;
+    struct mscp_port *mscp;
+    uint8_t lines; /* of the bus, an enum mscp_bus */
+    MSCP_ALIGNED uint64_t memory[(MSCP_HEAD + MSCP_PORT_SIZE) / sizeof(uint64_t)];
+};
+
+/* Makes a port of these units in rising order of their numbers, without volumes. A status of mscp_port_init. */
+int32_t port_open(struct port *port, const struct port_bus *bus, const struct mscp_hardware *hardware,
+                  const struct mscp_unit *units, size_t count);
+
+/* The host reads or writes a word at the port's first address (IP, with 0) or the second (SA, with 2). */
+uint16_t port_read(struct port *port, unsigned offset);
+void port_write(struct port *port, unsigned offset, uint16_t word);
+
+/* From the machine's clock, every few hundred instructions: so many actions at most, or as many as there are until the
+ * host has to go on a little. Whether more is to be done. */
+bool port_turn(struct port *port, unsigned most);
+
+/* A second of the machine went by. */
+void port_second(struct port *port);
+
+/* A volume is put into a unit, or taken out. Whether there is such a unit, and the volume fits. */
+bool port_insert(struct port *port, uint16_t unit, const struct mscp_medium *medium);
+bool port_eject(struct port *port, uint16_t unit);
+#endif
