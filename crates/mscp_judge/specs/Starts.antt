@@ -1,5 +1,5 @@
 -- Which commands may start.
-use Rattle.std.specs.Prelude.{ℕ, Bool, List, map, filter}
+use Rattle.std.specs.Prelude.{ℕ, Bool, List, map}
 use Rattle.mscp_drive.specs.declared.connection.Connection.{Connection}
 use Rattle.mscp_queue.specs.Records.{Record}
 use Rattle.mscp_queue.specs.Figures.{figures}
@@ -19,12 +19,9 @@ named shown = record { connection = shown.0; reference = shown.1 }
 abbrev pub is_open : ℕ → List Record → Named → Bool
 is_open budget rs n = is_nobody (holders_of_name budget rs (name_of n))
 
--- the names of all that wait, and of those that nobody keeps back
+-- the names of all that wait
 abbrev pub names : ℕ → List Record → List Named
 names budget rs = map named (figures budget rs)
-
-abbrev pub open_names : ℕ → List Record → List Named
-open_names budget rs = filter (is_open budget rs) (names budget rs)
 
 -- the name of a command of a run
 abbrev pub named_in : Trace → ℕ → Named

@@ -33,7 +33,7 @@ pub use Rattle.mscp_queue.specs.CountedViews.{IsCounted, has_byte, low_byte}
 pub use Rattle.mscp_queue.specs.Drives.{IsOnUnit, drive_of, fresh_drive, has_number, replaced}
 pub use Rattle.mscp_queue.specs.Dues.{AreDue, AreTimed, figure_in, started}
 pub use Rattle.mscp_queue.specs.Figures.{figure_at, figures_from, looked_at}
-pub use Rattle.mscp_queue.specs.Kept.{AreApart, ArePassedInOrder, CanBeShown, HasBlocks, IsHeld, IsInside, IsKept, IsOfUnit, IsReady, IsShut, IsStillServable, IsWaitable, begun_name, is_known, names, place_served, place_without, sequential_count, units_of}
+pub use Rattle.mscp_queue.specs.Kept.{AreApart, ArePassedInOrder, CanBeShown, HasBlocks, IsHeld, IsInside, IsKept, IsOfUnit, IsReady, IsShut, IsStillServable, IsWaitable, begun_name, is_known, names, place_served, place_without, units_of}
 pub use Rattle.mscp_queue.specs.Lanes.{HasLanes, IsCost, IsFirst, IsLane, IsLeast, IsLow, lowered}
 pub use Rattle.mscp_queue.specs.Lines.{Line, aborting, served}
 pub use Rattle.mscp_queue.specs.Masks.{AreEarlier, AreMasks, AreSlots, HasCome, HasLeft, IsBehind, IsLowestFree, IsMaskOf, IsSet, Kind, bit, fences, has, keeps_back}
@@ -46,7 +46,7 @@ pub use Rattle.mscp_queue.specs.Records.{Record, advanced, charge, drive_at, fre
 pub use Rattle.mscp_queue.specs.Serving.{IsNext, IsServable, begun_without, drive_after, end_given, has_block, is_begun, plan_of, report_of, state_left, touched, upcoming_begun, upcoming_of, waiting_after}
 pub use Rattle.mscp_queue.specs.Slots.{AreKept, IsLowestUntaken, Slot, filled, held, is_unfenced, is_unfenced_at, items, kind_at, kind_of, kinds_of, lowered_by, lowered_unless_serving, no_kind, no_slot, numbers, shown, slot_at, targets, with_due, with_item}
 pub use Rattle.mscp_queue.specs.Targets.{IsTargeted, no_target, target_of, targets_of, unit_place}
-pub use Rattle.mscp_queue.specs.Views.{AllMayStart, IsPick, choice_name, choice_of, choices_at, is_affordable, is_free, is_open, is_open_at, is_passable, open_places, view_of}
+pub use Rattle.mscp_queue.specs.Views.{AllMayStart, IsPick, choice_name, choice_of, choices_at, is_affordable, is_free, is_open, is_open_at, open_places, view_of}
 pub use Rattle.mscp_queue.specs.Waiters.{Waiters}
 pub use Rattle.mscp_queue.specs.Why.{holder_of, holders_among, is_nobody}
 pub use Rattle.mscp_queue.specs.declared.drive.Drive.{Drive}

@@ -1,10 +1,5 @@
--- Who came earlier was passed at least as often, and how many of those that wait are sequential.
+-- Who came earlier was passed at least as often.
 use Rattle.mscp_queue.proofs.Basics.{◌≡◌, ℕ, ◌+◌, ◌<◌, ◌≤◌, Bool, cond, List, [], ◌∷◌, ◌++◌, map, take, drop, length, arith, AllByRecursion, ArePassedInOrder, is_sequential, Record, advanced, passed_by, record_at, every_append, every_parts, every_weaker, cut_at}
-
--- ---- how many are sequential
--- one, if the record is of a sequential command
-abbrev pub one_if : Record → ℕ
-one_if r = cond (is_sequential r.command.order) 1 0
 
 -- ---- a step
 -- what a step leaves of a record, whose command ends or not

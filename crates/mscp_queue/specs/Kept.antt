@@ -100,10 +100,6 @@ pub record IsHeld (room budget longest : ℕ) (rs : List Record) (ds : List Driv
 abbrev pub ArePassedInOrder : List Record → Type 0
 ArePassedInOrder rs = Pairs (λ r z. z.passed ≤ r.passed) rs
 
--- how many are records of sequential commands
-abbrev pub sequential_count : List Record → ℕ
-sequential_count rs = count_by (λ r. is_sequential r.command.order) rs
-
 -- the name of the command at a place that is known
 abbrev pub begun_name : List Record → Option ℕ → Option Name
 begun_name rs place = option_map (λ k. name_of (record_at rs k)) place

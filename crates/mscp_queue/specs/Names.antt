@@ -1,7 +1,6 @@
 -- What tells a command apart from the others that wait or whose ends weren't taken: the connection that it came by, and
 -- its reference number (manual: each host numbers its own). Where commands are told apart, it is by these words.
 use Rattle.std.specs.Prelude.{ℕ, Bool, true, false, ◌&&◌, nat_eq}
-use Rattle.mscp_packet.specs.declared.end.End.{End}
 use Rattle.mscp_drive.specs.declared.connection.Connection.{Connection}
 use Rattle.mscp_drive.specs.declared.connection.Connection.TheVariants.{First, Second}
 use Rattle.mscp_queue.specs.declared.name.Name.{Name}
@@ -19,7 +18,3 @@ same_name one other = same_connection one.connection other.connection && nat_eq 
 -- the name that a reference number is on a connection
 abbrev pub name_on : Connection → ℕ → Name
 name_on connection reference = record { connection = connection; reference = reference }
-
--- the name of the command that an end, which goes to a connection, is of
-abbrev pub end_name : Connection → End → Name
-end_name connection end = name_on connection end.reference

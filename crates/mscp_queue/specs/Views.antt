@@ -26,10 +26,6 @@ is_affordable budget r front = list_all (λ z. nat_le (z.passed + charge r) budg
 abbrev pub is_open : ℕ → Record → List Record → Bool
 is_open budget r front = is_free r front && is_affordable budget r front
 
--- a transfer that the longest may still pass: where all are such, each may start
-abbrev pub is_passable : ℕ → ℕ → Record → Bool
-is_passable budget longest r = is_move r.command.order && nat_le (r.passed + longest) budget
-
 -- the record at a place may start, where nothing is in service
 abbrev pub is_open_at : ℕ → List Record → ℕ → Bool
 is_open_at budget rs place = is_open budget (record_at rs place) (take place rs)

@@ -36,10 +36,6 @@ pub held_fresh : {K : Type 0} (c : Settings) (units : List Shape) (room' budget 
 held_fresh {K} c units room' budget longest picker line a v u r p l e n = search (arith, units_fresh units)
 
 -- ---- a step
--- the ends that a step brings are of their kind
-kind_either : (here : Bool) (end : End) → IsOfKind end → AllByRecursion IsOfKind (if here then end ∷ [] else [])
-kind_either here end h2 = grind arith
-
 few_of : (c : Settings) (via : Connection) → IsValid c → credits_of c via ≤ 64
 few_of c via h2 = grind arith
 
