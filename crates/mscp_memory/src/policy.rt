@@ -29,4 +29,11 @@ impl Picker for Policy {
             Policy::Sweep => Sweep.takes_first(most),
         }
     }
+
+    fn takes_cheapest(&self) -> bool {
+        match self {
+            Policy::Oldest => false,
+            Policy::Sweep => Sweep.takes_cheapest(),
+        }
+    }
 }

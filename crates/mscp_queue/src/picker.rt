@@ -11,6 +11,7 @@ use crate::view::{Choice, View};
 pub trait Picker {
     ghost use Rattle.std.specs.Prelude.{◌≡◌, ◌<◌, ◌≤◌, ℕ, List, length, true};
     ghost use Rattle.mscp_queue.specs.declared.view.Choice.{Choice};
+    ghost use Rattle.mscp_queue.specs.Pickers.{IsSweep};
 
     // Which places of a view the picker may pick. It may depend on the picker's own value, and leave a choice.
     ghost picks: { Self → List Choice → ℕ → Type 0 };
@@ -27,6 +28,14 @@ pub trait Picker {
     fn takes_first(&self, _most: usize) -> bool
         ensures { result ≡ true
             → (view : List Choice) → 0 < length view → length view ≤ _most → picks self.now view 0 }
+    {
+        false
+    }
+
+    /// Whether it may pick the first of the cheapest choices of each view. If so, a queue that shows all that wait finds that
+    /// place itself.
+    fn takes_cheapest(&self) -> bool
+        ensures { result ≡ true → (view : List Choice) → (place : ℕ) → IsSweep view place → picks self.now view place }
     {
         false
     }
@@ -53,7 +62,7 @@ impl Picker for Oldest {
 }
 
 /// The place of the first of the cheapest choices, one after the other: 0 if there is none.
-fn cheapest(choices: &[Choice]) -> usize
+pub(crate) fn cheapest(choices: &[Choice]) -> usize
     ensures empty { choices.now ≡ [] → result ≡ 0 }
     ensures sweep { 0 < length choices.now → IsSweep choices.now result }
 {
@@ -72,16 +81,14 @@ fn cheapest(choices: &[Choice]) -> usize
     best
 }
 
-/// What the choices cost, each at its place of a row, where lanes can read it.
-fn row_of(choices: &[Choice]) -> [u64; 64]
+/// Writes what the choices cost, each at its place, into a row, where lanes can read it.
+fn fill_row(row: &mut [u64; 64], choices: &[Choice])
     requires { length choices.now ≤ 64 }
-    ensures { IsRow result choices.now }
+    ensures { IsRow row.new choices.now }
 {
-    let mut row = [0; 64];
     for place in 0..choices.len() {
         row[place] = choices[place].cost;
     }
-    row
 }
 
 /// The bits of so many places, from the first on.
@@ -114,11 +121,17 @@ impl Picker for Sweep {
         if choices.len() < MANY {
             cheapest(choices)
         } else {
-            least(&row_of(choices), bits_of(choices.len())).unwrap_or(0)
+            let mut row = [0; 64];
+            fill_row(&mut row, choices);
+            least(&row, bits_of(choices.len())).unwrap_or(0)
         }
     }
 
     fn takes_first(&self, most: usize) -> bool {
         most < 2
+    }
+
+    fn takes_cheapest(&self) -> bool {
+        true
     }
 }

@@ -6,7 +6,7 @@ ghost use Rattle.mscp_queue.specs.Common.{IsUnitList, IsTargeted, target_of, IsO
 use crate::backlog::Backlog;
 use crate::candidates::Candidates;
 use crate::drive::Drive;
-use crate::picker::Picker;
+use crate::picker::{Picker, cheapest};
 use crate::record::Record;
 use crate::target::Target;
 use crate::view::{Choice, View};
@@ -163,6 +163,18 @@ fn may_all_start(backlog: &Backlog, longest: u32) -> bool
     backlog.none_is_sequential() && (longest <= unspent || backlog.are_light(unspent))
 }
 
+/// The place that the picker picks of the candidates, or that of the cheapest, if it may pick that.
+fn picked_of<K: Picker>(picker: &K, shown: &View) -> usize
+    ensures place { 0 < length shown.now → result < length shown.now }
+    ensures allowed { 0 < length shown.now → K.picks picker.now shown.now result }
+{
+    if picker.takes_cheapest() {
+        cheapest(shown.choices())
+    } else {
+        picker.pick(shown)
+    }
+}
+
 /// The place of the record that the picker picks, of those that may start: the view is made anew, and shows these. Where
 /// all may start it is the candidates, in which a record has its place.
 #[inline(never)]
@@ -187,7 +199,7 @@ pub(crate) fn picked_place<K: Picker>(
 {
     if may_all_start(backlog, longest) {
         candidates.renew_all(backlog, drives);
-        return picker.pick(candidates.view.shown());
+        return picked_of(picker, candidates.view.shown());
     }
     view.clear();
     if backlog.unspent() == 0 {

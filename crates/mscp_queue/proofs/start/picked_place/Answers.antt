@@ -21,7 +21,7 @@ pub returns-then-may_all_start-clause-inside : goal.returns-then-may_all_start-c
 returns-then-may_all_start-clause-inside g c =
     (all_picked c.args.backlog.now.budget c.args.drives.now c.args.backlog.now.waiting _ c.requires.some
     (c.may_all_start.ensures c.if-may_all_start.true) (c.shown.ensures ∙ (c.renew_all.ensures ∙ all_choices
-    c.args.drives.now c.args.backlog.now.waiting))).inside c.pick.result c.pick.ensures.place
+    c.args.drives.now c.args.backlog.now.waiting))).inside c.picked_of.result c.picked_of.ensures.place
 
 pub returns-then-may_all_start-clause-listed : goal.returns-then-may_all_start-clause-listed
 returns-then-may_all_start-clause-listed g c = candidates_of c.renew_all.new.self.dirty c.renew_all.ensures
@@ -34,12 +34,12 @@ returns-then-may_all_start-clause-picked g c =
     let picks = g.K.Picker.picks c.args.picker.now in
     let all = all_picked b c.args.drives.now rs _ c.requires.some (c.may_all_start.ensures c.if-may_all_start.true)
     (c.shown.ensures ∙ (c.renew_all.ensures ∙ all_choices c.args.drives.now c.args.backlog.now.waiting)) in
-    let inside = all.inside c.pick.result c.pick.ensures.place in (
-      c.pick.result,
+    let inside = all.inside c.picked_of.result c.picked_of.ensures.place in (
+      c.picked_of.result,
       omega (arith, ap length all.opens, length-range_with_len 0 (length rs), inside),
-      ap (λ places. get_or places c.pick.result 0) all.opens
-          ∙ (get_or-range_with_len 0 (length rs) c.pick.result 0 inside ∙ from_0 c.pick.result),
-      subst (λ view. picks view c.pick.result) all.shown (c.pick.ensures.allowed all.some),
+      ap (λ places. get_or places c.picked_of.result 0) all.opens
+          ∙ (get_or-range_with_len 0 (length rs) c.picked_of.result 0 inside ∙ from_0 c.picked_of.result),
+      subst (λ view. picks view c.picked_of.result) all.shown (c.picked_of.ensures.allowed all.some),
     )
 
 -- else the picker picks one of those that may start

@@ -6,7 +6,7 @@ pub returns-else-choices-lt-MANY-clause-sweep : goal.returns-else-choices-lt-MAN
 returns-else-choices-lt-MANY-clause-sweep c = λ some.
     let is = c.choices-choices.ensures.value in
     subst (IsSweep c.args.view.now) (sym c.unwrap_or.ensures)
-    (swept_there c.row_of.result c.args.view.now c.bits_of.result c.least.result
-    (subst (IsRow c.row_of.result) is c.row_of.ensures)
+    (swept_there c.fill_row.new.row c.args.view.now c.bits_of.result c.least.result
+    (subst (IsRow c.fill_row.new.row) is c.fill_row.ensures)
     (c.bits_of.ensures ∙ ap (λ (xs : List Choice). 2 ^ length xs - 1) is)
     c.least.ensures.some c.least.ensures.none some)

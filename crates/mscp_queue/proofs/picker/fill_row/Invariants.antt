@@ -1,5 +1,5 @@
 use Rattle.mscp_queue.proofs.Common.{◌≡◌, ◌<◌, ℕ, get_or, length, costs}
-use Rattle.mscp_queue.proofs.picker.row_of.Given as goal
+use Rattle.mscp_queue.proofs.picker.fill_row.Given as goal
 
 abbrev pub invariant-loop-place : goal.invariant-loop-place
 invariant-loop-place l = record {
