@@ -1,6 +1,5 @@
 -- What was begun is held to, whatever comes in between, until it is aborted.
 use Rattle.mscp_trials.proofs.Common.{ℕ, true, false, List, [], ◌∷◌, ◌++◌, map, take, refl, ap, arith, Some, Ok, Err, unwrap_or, replicate, false≢true, First, Good, Upcoming, NotBegun, Moment, cost, swept, Begin, Call, Finish, HoldsToBegun, IsBegunSince, Plain, answers_by}
-
 use Rattle.mscp_queue.specs.declared.report.Report.TheVariants as reports
 use Rattle.mscp_trials.proofs.Worked.Literals.{came_online, read, queued, aborted, served, moved, took}
 

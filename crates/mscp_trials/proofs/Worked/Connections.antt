@@ -1,6 +1,5 @@
 -- Two hosts, each with a connection of its own: answers that aren't right.
 use Rattle.mscp_trials.proofs.Common.{◌≡◌, ℕ, true, List, [], ◌∷◌, ◌++◌, take, ap, arith, replicate, Option, Some, None, Result, is_some, is_ok, slice_index, Ok, Err, true≢false, false≢true, ArrayVec, Order, End, command_bytes, Good, Connection, First, Second, SendFault, Sent, Event, Settings, Trace, Moment, figure, IsRight, answers_by}
-
 use Rattle.mscp_packet.specs.declared.command.Order.TheVariants as orders
 use Rattle.mscp_queue.specs.declared.report.Report.TheVariants as reports
 use Rattle.mscp_controller.specs.declared.entry.SendFault.TheVariants as faults

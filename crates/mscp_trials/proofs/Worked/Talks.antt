@@ -1,6 +1,5 @@
 -- A literal talk of the first host alone, worked by hand: answers that don't stand.
 use Rattle.mscp_trials.proofs.Common.{◌≡◌, ℕ, true, false, [], ◌∷◌, ◌++◌, Bool, ap, sym, subst, arith, Option, Some, None, unwrap_or, eqb-true, false≢true, First, Order, End, end_bytes, Good, asks_about, is_outstanding, last_told, outstanding, Stands, Said, Talk, history}
-
 use Rattle.mscp_packet.specs.declared.command.Order.TheVariants as orders
 use Rattle.mscp_packet.specs.declared.end.EndBody.TheVariants as bodies
 use Rattle.mscp_queue.specs.declared.report.Report.TheVariants as reports
