@@ -1,8 +1,7 @@
 -- What was begun is held to, whatever comes in between, until it is aborted.
-use Rattle.mscp_trials.proofs.Common.{◌≡◌, ℕ, true, false, List, [], ◌∷◌, ◌++◌, map, take, refl, ap, arith, Some, Ok, Err, unwrap_or, replicate, false≢true, name_on, First, Good, Upcoming, NotBegun, Moment, is_waiting, cost, IsLegal, swept, Begin, Call, Finish, HoldsTo, HoldsToBegun, IsBegun, IsBegunSince, IsForetold, Plain, call_at, answers_by, legal_by}
-use Rattle.mscp_controller.specs.Calls.{history}
+use Rattle.mscp_trials.proofs.Common.{ℕ, true, false, List, [], ◌∷◌, ◌++◌, map, take, refl, ap, arith, Some, Ok, Err, unwrap_or, replicate, false≢true, First, Good, Upcoming, NotBegun, Moment, cost, swept, Begin, Call, Finish, HoldsToBegun, IsBegunSince, Plain, answers_by}
 use Rattle.mscp_queue.specs.declared.report.Report.TheVariants as reports
-use Rattle.mscp_trials.proofs.Worked.Literals.{settings, came_online, read, queued, aborted, served, moved, took}
+use Rattle.mscp_trials.proofs.Worked.Literals.{came_online, read, queued, aborted, served, moved, took}
 
 abbrev plain : Moment → Call
 plain m = Plain m.0 m.1
@@ -36,27 +35,12 @@ begun_and_aborted =
     ∷ Finish First 2 Good (Ok (reports.Served First 2 0 (Some 0) true 0 (moved 2 0 0 512)))
     ∷ []
 
-begun_and_told :
-    IsLegal (settings 8 8) (history begun_and_aborted)
-    -- It is told of the far one,
-    × IsForetold (settings 8 8) (history (take 4 begun_and_aborted)) (Some (one_block 1 60))
-unfolding answers_by cost swept
-begun_and_told = (legal_by (settings 8 8) (history begun_and_aborted) (0 ∷ 4 ∷ []) refl, (3, refl, refl, refl))
-
--- which is begun when the near one has come, though the sweep would start that one.
+-- It is begun when the near one has come, though the sweep would start that one.
 far_begun : IsBegunSince (take 6 begun_and_aborted) (one_block 1 60) 3 4
 unfolding answers_by cost swept
 far_begun = record { inside = omega arith; told = refl; own = refl; waited = refl; unstepped = refl; waits = refl }
 
-near_swept : swept (settings 8 8) (history (take 6 begun_and_aborted)) ≡ Some 4
-unfolding answers_by cost swept
-near_swept = refl
-
--- So the next begin tells the same.
-told_again : HoldsTo (one_block 1 60) (call_at begun_and_aborted 6)
-told_again = refl
-
--- No begin may tell of the near one then,
+-- So no begin may tell of the near one then,
 near_untold : HoldsToBegun (take 6 begun_and_aborted) (Begin (Some (one_block 2 0))) → ⊥
 near_untold h = let e = ap (λ o. (unwrap_or o (one_block 0 0)).command.reference) (h (one_block 1 60) 3 4 far_begun) in
     absurd (omega (arith, e))
@@ -75,33 +59,6 @@ other_block_unserved h = let e = ap (λ o. unwrap_or o 1) (h (one_block 1 60) 3 
 far_can_finish : HoldsToBegun (take 6 begun_and_aborted) (Finish First 1 Good (Err not_begun)) → ⊥
 far_can_finish h = h (one_block 1 60) 3 4 far_begun refl
 
-near_next :
-    -- Once it is aborted it is begun no more,
-    (is_waiting (history (take 8 begun_and_aborted)) 3 ≡ false)
-    -- the near one is told then,
-    × IsForetold (settings 8 8) (history (take 9 begun_and_aborted)) (Some (one_block 2 0))
-unfolding answers_by cost swept
-near_next = (refl, (4, refl, refl, refl))
-
--- and what is finished is that one.
-near_finished : IsBegun (take 10 begun_and_aborted) (name_on First 2)
-unfolding answers_by cost swept
-near_finished = (
-  one_block 2 0,
-  4,
-  9,
-  record {
-    inside = omega arith;
-    told = refl;
-    own = refl;
-    waited = refl;
-    unstepped =
-        refl;
-    waits = refl;
-  },
-  refl,
-)
-
 -- ---- a number that is used again
 
 -- The end of the far one is taken, and a third read comes under its number. The old begin isn't of that one: it can't
@@ -116,35 +73,12 @@ number_again =
     ∷ Finish First 1 Good (Ok (reports.Served First 1 0 (Some 80) true 4 (moved 1 0 0 512)))
     ∷ []
 
-again_legal : IsLegal (settings 8 8) (history number_again)
-unfolding answers_by cost swept
-again_legal = legal_by (settings 8 8) (history number_again) (0 ∷ 7 ∷ []) refl
-
--- The old one waits no more,
+-- The old one waits no more.
 old_left : IsBegunSince (take 10 number_again) (one_block 1 60) 3 4 → ⊥
 unfolding answers_by cost swept
 old_left b = false≢true b.waits
 
--- the new one hadn't come when the old one was begun,
+-- The new one hadn't come when the old one was begun.
 new_unbegun : (upcoming : Upcoming) → IsBegunSince (take 10 number_again) upcoming 7 4 → ⊥
 unfolding answers_by cost swept
 new_unbegun upcoming b = false≢true b.waited
-
--- and what is finished in the end is the new one.
-new_finished : IsBegun (take 12 number_again) (name_on First 1)
-unfolding answers_by cost swept
-new_finished = (
-  one_block 1 80,
-  7,
-  11,
-  record {
-    inside = omega arith;
-    told = refl;
-    own = refl;
-    waited =
-        refl;
-    unstepped = refl;
-    waits = refl;
-  },
-  refl,
-)

@@ -1,6 +1,5 @@
--- Two hosts: what is legal where each has a connection of its own, and what isn't right.
-use Rattle.mscp_trials.proofs.Common.{◌≡◌, ℕ, true, List, [], ◌∷◌, ◌++◌, take, refl, ap, arith, replicate, Option, Some, None, Result, is_some, is_ok, slice_index, Ok, Err, true≢false, false≢true, ArrayVec, Order, End, command_bytes, Good, Connection, First, Second, SendFault, Sent, Event, Settings, Trace, Moment, figure, balance, IsLegal, IsRight, answers_by, legal_by}
-use Rattle.mscp_controller.specs.Account.{outstanding}
+-- Two hosts, each with a connection of its own: answers that aren't right.
+use Rattle.mscp_trials.proofs.Common.{◌≡◌, ℕ, true, List, [], ◌∷◌, ◌++◌, take, ap, arith, replicate, Option, Some, None, Result, is_some, is_ok, slice_index, Ok, Err, true≢false, false≢true, ArrayVec, Order, End, command_bytes, Good, Connection, First, Second, SendFault, Sent, Event, Settings, Trace, Moment, figure, IsRight, answers_by}
 use Rattle.mscp_packet.specs.declared.command.Order.TheVariants as orders
 use Rattle.mscp_queue.specs.declared.report.Report.TheVariants as reports
 use Rattle.mscp_controller.specs.declared.entry.SendFault.TheVariants as faults
@@ -46,18 +45,6 @@ shared =
     ∷ took Second ((1 ∷ 0 ∷ 0 ∷ 0 ∷ 0 ∷ 0 ∷ 0 ∷ 0 ∷ 0xA1 ∷ 0 ∷ 0 ∷ 0 ∷ 0 ∷ 2 ∷ 0 ∷ 0 ∷ []) ++ replicate 16 0)
     ∷ []
 
-shared_holds :
-    IsLegal (of_both 4) shared
-    -- The end of the ONLINE is the first host's, who didn't take it.
-    × ((balance (of_both 4) First shared ≡ 3) × (balance (of_both 4) Second shared ≡ 4))
-    -- A reference number of the other host is none of one's own.
-    × ((outstanding (of_both 4) First (take 3 shared) ≡ 1 ∷ [])
-    × (outstanding (of_both 4) Second (take 3 shared) ≡ 1 ∷ 2 ∷ []))
-unfolding answers_by
-shared_holds = (legal_by (of_both 4) shared (0 ∷ 1 ∷ []) refl, (refl, refl), (refl, refl))
-
--- ---- what isn't right
-
 abbrev IsWrong : Settings → Trace → Moment → Type 0
 IsWrong c t m = IsRight c t m.0 m.1 → ⊥
 
@@ -75,12 +62,7 @@ figure_byte (Some b) = slice_index b.items 16
 abbrev seven : Trace
 seven = queued Second 7 (read 512 0) ∷ []
 
--- The first host's ABORT doesn't find it: nothing is aborted.
-abort_finds_nothing : IsRight (of_both 4) seven (answered First 2 (orders.Abort 7) None).0
-    (answered First 2 (orders.Abort 7) None).1
-unfolding answers_by
-abort_finds_nothing = (refl, refl)
-
+-- The first host's ABORT doesn't find it.
 abort_across : IsWrong (of_both 4) seven (answered First 2 (orders.Abort 7) (Some 7))
 unfolding answers_by aborted_in
 abort_across h = true≢false (ap (λ s. is_some (aborted_in s)) h.1)
@@ -99,9 +81,3 @@ taken_across h = true≢false (ap is_some h.1)
 told_the_others : IsWrong (of_both 4) (take 3 shared) (took Second (told 17))
 unfolding answers_by figure_byte
 told_the_others h = let e : 17 ≡ 18 = ap figure_byte h.1 in omega (arith, e)
-
--- Where there is no second connection its messages find no credit.
-absent : IsRight (record (of_both 4) { second = 0 }) [] (sends Second 1 (read 512 0))
-    (entries.Sent Second (Err faults.NoCredit))
-unfolding answers_by
-absent = (refl, refl)

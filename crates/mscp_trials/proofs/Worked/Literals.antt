@@ -43,10 +43,6 @@ with_budget credits budget = settings_of (shape 0 ∷ []) credits budget
 abbrev pub settings : ℕ → ℕ → Settings
 settings credits passes = settings_of (shape 0 ∷ []) credits (passes * 8)
 
--- and with units 0 and 1
-abbrev pub two_units : ℕ → ℕ → Settings
-two_units credits passes = settings_of (shape 0 ∷ shape 1 ∷ []) credits (passes * 8)
-
 -- a read of so many bytes from this block on
 abbrev pub read : ℕ → ℕ → Order
 read count block = orders.Move moves.Read count block
@@ -76,19 +72,6 @@ refused r u o fault = (message r u o, entries.Sent First (Err fault))
 
 abbrev pub took : List ℕ → Moment
 took b = (events.Take First, entries.Taken First (Some (record { items = b })))
-
--- the end of an ONLINE of unit 0 under this reference number, with a status of these two bytes, is taken
-abbrev pub took_online : ℕ → ℕ → ℕ → Moment
-took_online r low high =
-    took ((r ∷ 0 ∷ 0 ∷ 0 ∷ 0 ∷ 0 ∷ 0 ∷ 0 ∷ 0x89 ∷ 0 ∷ low ∷ high ∷ [])
-    ++ (replicate 8 0 ++ ((1 ∷ 0 ∷ 0 ∷ 0 ∷ 0 ∷ 0 ∷ 0 ∷ 0 ∷ [])
-    ++ (replicate 8 0 ++ (0xE8 ∷ 3 ∷ 0 ∷ 0 ∷ 1 ∷ 0 ∷ 0 ∷ 0 ∷ [])))))
-
-abbrev pub took_none : Moment
-took_none = (events.Take First, entries.Taken First None)
-
-abbrev pub idle : Moment
-idle = (events.Step Good, entries.Stepped reports.Idle)
 
 -- a look that tells these reference numbers and figures, of commands that came by the first connection
 abbrev pub looked : List (ℕ × ℕ) → Moment
@@ -124,10 +107,6 @@ onlined r u status = Some (record {
   body =
       bodies.Online (u + 1) 0 1000 (u + 1);
 })
-
--- an end that tells no more than its status
-abbrev pub bare_end : ℕ → ℕ → ℕ → ℕ → Option End
-bare_end r u code status = Some (record { reference = r; unit = u; code = code; status = status; body = bodies.Bare })
 
 -- unit 0 comes online by a command with the reference number 900, and the end is taken
 abbrev pub came_online : Trace

@@ -1,11 +1,10 @@
--- Literal talks of the first host alone, worked by hand: what stands there, and what it keeps.
-use Rattle.mscp_trials.proofs.Common.{◌≡◌, ℕ, true, false, [], ◌∷◌, ◌++◌, Bool, refl, ap, sym, subst, arith, Option, Some, None, unwrap_or, eqb-true, false≢true, First, Order, End, end_bytes, Good, asks_about, is_outstanding, last_told, outstanding, Stands, Said, Talk, account_at, accounts_at, figure_told, history, IsHeard, answers_by}
-use Rattle.mscp_sim.specs.Talks.{said}
+-- A literal talk of the first host alone, worked by hand: answers that don't stand.
+use Rattle.mscp_trials.proofs.Common.{◌≡◌, ℕ, true, false, [], ◌∷◌, ◌++◌, Bool, ap, sym, subst, arith, Option, Some, None, unwrap_or, eqb-true, false≢true, First, Order, End, end_bytes, Good, asks_about, is_outstanding, last_told, outstanding, Stands, Said, Talk, history}
 use Rattle.mscp_packet.specs.declared.command.Order.TheVariants as orders
 use Rattle.mscp_packet.specs.declared.end.EndBody.TheVariants as bodies
 use Rattle.mscp_queue.specs.declared.report.Report.TheVariants as reports
 use Rattle.mscp_controller.specs.declared.entry.Sent.TheVariants as sents
-use Rattle.mscp_trials.proofs.Worked.Literals.{answered, moved, onlined, queued, read, served, settings, took}
+use Rattle.mscp_trials.proofs.Worked.Literals.{answered, moved, onlined, queued, read, served, took}
 use Rattle.mscp_host.specs.declared.news.News.TheVariants as news
 use Rattle.mscp_sim.specs.declared.conversing.Turn.TheVariants as turns
 use Rattle.mscp_sim.specs.declared.conversing.Heard.TheVariants as hears
@@ -55,38 +54,6 @@ opening =
     ∷ hands (answer 10 18) (news.First 18)
     ∷ []
 
--- ---- an answer that stands
-
--- a second poll right after it
-abbrev standing : Talk
-standing = opening ++ asks 11 ∷ hands (answer 11 18) news.Reset ∷ []
-
-first_told : figure_told (settings 4 2) First standing 4 ≡ 18
-unfolding answers_by outstanding
-first_told = refl
-
-it_stands : Stands (history First standing) 7
-unfolding outstanding
-it_stands = record {
-  poll = 6;
-  command = 3;
-  figure = 18;
-  last = 18;
-  is_told = record { handed = refl; about = refl; outstanding = refl; tells = refl };
-  before = refl;
-  not_less = omega arith;
-}
-
--- before the second poll is answered the host keeps the READ, of which 18 was told, and the poll
-kept : account_at (settings 4 2) First standing 7 ≡ record {
-  credits = 4;
-  outstanding = record { reference = 1; unit = 0; opcode = 0x21; told = Some 18 }
-      ∷ record { reference = 11; unit = 0; opcode = 0x02; told = None } ∷ [];
-  watch = Some (record { reference = 11; polled = 1; is_outstanding = true });
-}
-unfolding answers_by outstanding
-kept = refl
-
 -- ---- a step between the polls, and one that ends the command
 
 abbrev moving : Talk
@@ -100,16 +67,6 @@ moving =
     ∷ hands read_end (news.Ended read_end)
     ∷ hands (answer 12 0) news.Late
     ∷ []
-
-second_told : figure_told (settings 4 2) First moving 7 ≡ 1
-unfolding answers_by outstanding
-second_told = refl
-
-third_told_and_on :
-    (figure_told (settings 4 2) First moving 10 ≡ 0)
-    × (last_told (history First moving) 8 3 ≡ Some 18)
-unfolding answers_by outstanding
-third_told_and_on = (refl, refl)
 
 -- the second answer doesn't stand: 1 is less than 18
 falls : Stands (history First moving) 8 → ⊥
@@ -134,53 +91,3 @@ late st =
     let command : st.command ≡ 3 = sym (eqb-true 3 st.command
     (subst (λ p. asks_about h st.command p ≡ true) poll st.is_told.about)) in
     false≢true (subst (λ i. is_outstanding h 12 i ≡ true) command st.is_told.outstanding)
-
--- when the third answer comes the READ is outstanding no more
-kept_late : account_at (settings 4 2) First moving 12 ≡ record {
-  credits = 4;
-  outstanding = record { reference = 12; unit = 0; opcode = 0x02; told = None } ∷ [];
-  watch = Some (record { reference = 12; polled = 1; is_outstanding = false });
-}
-unfolding answers_by outstanding
-kept_late = refl
-
--- what is heard there is what the rules of a host say
-heard_late : IsHeard (accounts_at (settings 4 2) moving 12) (turns.Take First) (said moving 12)
-    (accounts_at (settings 4 2) moving 13)
-unfolding answers_by outstanding
-heard_late = (
-  Some (record { items = end_bytes (answer 12 0) }),
-  account_at (settings 4 2) First moving 13,
-  refl,
-  (news.Late, refl, refl),
-  refl,
-)
-
--- ---- a number that is used again
-
--- READ 1 ends while its poll is under way, and another READ 1 waits before the answer comes
-abbrev again : Talk
-again =
-    opening
-    ++ steps 1 (Some 40) true 2 None
-    ∷ steps 1 (Some 41) false 0 (moved 1 0 0 1024)
-    ∷ asks 11
-    ∷ hands read_end (news.Ended read_end)
-    ∷ submits 1 (read 1024 40)
-    ∷ hands (answer 11 0) news.Late
-    ∷ asks 12
-    ∷ hands (answer 12 18) (news.First 18)
-    ∷ []
-
-untold_and_on :
-    -- of the second nothing was told yet
-    (last_told (history First again) 13 10 ≡ None)
-    -- though the figure is the one that was last told of the first
-    × (account_at (settings 4 2) First again 13 ≡ record {
-      credits = 4;
-      outstanding = record { reference = 1; unit = 0; opcode = 0x21; told = None }
-          ∷ record { reference = 12; unit = 0; opcode = 0x02; told = None } ∷ [];
-      watch = Some (record { reference = 12; polled = 1; is_outstanding = true });
-    })
-unfolding answers_by outstanding
-untold_and_on = (refl, refl)

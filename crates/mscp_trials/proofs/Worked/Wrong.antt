@@ -4,14 +4,23 @@ use Rattle.mscp_packet.specs.declared.command.Order.TheVariants as orders
 use Rattle.mscp_packet.specs.declared.end.EndBody.TheVariants as bodies
 use Rattle.mscp_controller.specs.declared.entry.SendFault.TheVariants as faults
 use Rattle.mscp_trials.proofs.Worked.Literals.{settings, came_online, read, queued, answered, refused, took, looked, served, moved, onlined, with_budget}
-use Rattle.mscp_trials.proofs.Worked.Credits.{last_credit}
-use Rattle.mscp_trials.proofs.Worked.Passing.{passed_once}
 
 -- this answer may not come after t
 abbrev pub IsWrong : Settings → Trace → Moment → Type 0
 IsWrong c t m = IsRight c t m.0 m.1 → ⊥
 
 -- ---- messages
+
+-- With two credits a read takes one, and the other is for polls alone. A credit is back once an end is taken.
+abbrev last_credit : Trace
+last_credit =
+    queued 1 0 (read 512 0)
+    ∷ refused 2 0 (read 512 0) faults.LastCredit
+    ∷ answered 3 0 (orders.Status 1)
+    ∷ refused 4 0 (orders.Status 1) faults.NoCredit
+    ∷ took (3 ∷ 0 ∷ 0 ∷ 0 ∷ 0 ∷ 0 ∷ 0 ∷ 0 ∷ 0x82 ∷ 0 ∷ 0 ∷ 0 ∷ 1 ∷ 0 ∷ 0 ∷ 0 ∷ 0x11 ∷ 0 ∷ 0 ∷ 0 ∷ [])
+    ∷ answered 4 0 (orders.Status 1)
+    ∷ []
 
 -- The last credit isn't for a read.
 last_credit_taken : IsWrong (settings 2 2) (take 1 last_credit) (queued 2 0 (read 512 0))
@@ -109,6 +118,22 @@ bad_available h =
     omega (arith, e)
 
 -- ---- starts
+
+-- Of three reads each may be passed by a block: the second starts first, and then the first has to.
+abbrev passed_once : Trace
+passed_once =
+    came_online
+    ++ queued 1 0 (read 512 800)
+    ∷ queued 2 0 (read 512 40)
+    ∷ queued 3 0 (read 512 60)
+    ∷ looked ((1, 2) ∷ (2, 3) ∷ (3, 4) ∷ [])
+    ∷ served Good 2 0 (Some 40) true 2 (moved 2 0 0 512)
+    ∷ looked ((1, 1) ∷ (3, 3) ∷ [])
+    ∷ served Good 1 0 (Some 800) true 38 (moved 1 0 0 512)
+    ∷ looked ((3, 2) ∷ [])
+    ∷ served Good 3 0 (Some 60) true 37 (moved 3 0 0 512)
+    ∷ looked []
+    ∷ []
 
 third : Service
 third = record {

@@ -3,9 +3,7 @@
 use super::told::{answer, step};
 use super::values::{FIRST, SECOND, command};
 use crate::tests::checks::{holds, same};
-use mscp_controller::{
-    Block, Config, Connection, Controller, Picker, Report, SendFault, Sent,
-};
+use mscp_controller::{Block, Config, Connection, Controller, Picker, Report, SendFault, Sent};
 use mscp_packet::{Command, Order, write_command};
 use std::process::Abort;
 

@@ -155,7 +155,11 @@ fn a_list_of_units_rises(rt: HostRuntime) {
 /// In a list of these units each is found by its number, and no other.
 fn are_found(rt: &impl Abort, units: &Units, list: &[Unit]) {
     for unit in list {
-        same(rt, units.find(unit.number()).map(Unit::number), Some(unit.number()));
+        same(
+            rt,
+            units.find(unit.number()).map(Unit::number),
+            Some(unit.number()),
+        );
     }
     for absent in [0, 3, 6, 65534] {
         same_of(rt, absent, units.find(absent).is_none(), true);

@@ -14,8 +14,8 @@ use mscp_controller::{Block, Config, Entry, Event, OutOfMemory, Sweep, run, run_
 use mscp_host::News;
 use mscp_packet::{MoveKind, Order, write_command};
 use mscp_sim::{
-    Heard, ReadFault, ShowFault, Turn, converse_in, read_script, read_script_in, report,
-    report_in, show_packet_to, simulate_in,
+    Heard, ReadFault, ShowFault, Turn, converse_in, read_script, read_script_in, report, report_in,
+    show_packet_to, simulate_in,
 };
 use std::alloc::Global;
 use std::mem::size_of;

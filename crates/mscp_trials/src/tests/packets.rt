@@ -22,7 +22,11 @@ fn command(reference: u32, unit: u16, order: Order) -> Command {
 #[test]
 fn an_end_is_zero_by_default(rt: HostRuntime) {
     holds(&rt, matches!(EndBody::default(), EndBody::Bare));
-    same(&rt, write_end(&End::default()).as_slice(), [0; 12].as_slice());
+    same(
+        &rt,
+        write_end(&End::default()).as_slice(),
+        [0; 12].as_slice(),
+    );
 }
 
 /// An end as its bytes, or the number of a fault.

@@ -166,13 +166,7 @@ fn a_reader_that_fails_at_any_call_is_told(rt: HostRuntime) {
 fn fails_to_write(rt: &(impl Abort + AllocGlobal), taken: usize, call: usize) {
     let count = call.saturating_sub(1).saturating_mul(taken);
     let before = REPORT.get(..count).expect(rt, "so much of the report");
-    comes_to(
-        rt,
-        (4096, NEVER),
-        (taken, call),
-        "cannot write",
-        before,
-    );
+    comes_to(rt, (4096, NEVER), (taken, call), "cannot write", before);
 }
 
 #[test]

@@ -21,9 +21,19 @@ fn command_is(
     let written = write_command(&command);
     same_of(rt, digits, written.as_slice(), bytes.as_slice());
     let read = got(rt, read_command(bytes.as_slice()));
-    same_of(rt, digits, write_command(&read).as_slice(), bytes.as_slice());
+    same_of(
+        rt,
+        digits,
+        write_command(&read).as_slice(),
+        bytes.as_slice(),
+    );
     let back = got(rt, read_written_command(&command));
-    same_of(rt, digits, write_command(&back).as_slice(), bytes.as_slice());
+    same_of(
+        rt,
+        digits,
+        write_command(&back).as_slice(),
+        bytes.as_slice(),
+    );
     same_of(rt, digits, bytes.as_slice().get(8), Some(&command.opcode()));
 }
 
