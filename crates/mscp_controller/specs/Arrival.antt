@@ -1,5 +1,5 @@
 -- How a message is judged when it comes. Nothing here asks what came before it.
-use Rattle.std.specs.Prelude.{ℕ, Bool, true, false, not, ◌&&◌, nat_eq, nat_lt, if◌then◌else◌, ◌==◌, List, length, slice_index, Option, Some, None, is_none, Result}
+use Rattle.std.specs.Prelude.{ℕ, Bool, false, not, ◌&&◌, nat_eq, nat_lt, if◌then◌else◌, ◌==◌, List, length, slice_index, Option, Some, None, is_none, Result}
 use Rattle.std.specs.List.{list_any}
 use Rattle.mscp_packet.specs.declared.command.Order.{Order}
 use Rattle.mscp_packet.specs.declared.command.Order.TheVariants as orders

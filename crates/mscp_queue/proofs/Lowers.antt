@@ -1,6 +1,5 @@
 -- Dues are lowered, slot by slot.
-use Rattle.mscp_queue.proofs.Common.{◌≡◌, ◌<◌, ◌-◌, ℕ, List, false, get_or, set, length, arith, bit_at, eq-eqb, ne_eqb, get_or-set_other, get_or-set_same, IsSet, lowered}
-use Rattle.mscp_queue.proofs.Masked.{same_or}
+use Rattle.mscp_queue.proofs.Common.{◌≡◌, ◌<◌, ℕ, List, get_or, bit_at, lowered}
 
 -- the slots of these bits are left, whose dues are as they were; the others are done
 pub record LowersRest (mask by left : ℕ) (old new : List ℕ) : Type 0 where

@@ -1,5 +1,5 @@
 -- Who came earlier was passed at least as often.
-use Rattle.mscp_queue.proofs.Basics.{◌≡◌, ℕ, ◌+◌, ◌<◌, ◌≤◌, Bool, cond, List, [], ◌∷◌, ◌++◌, map, take, drop, length, arith, AllByRecursion, ArePassedInOrder, is_sequential, Record, advanced, passed_by, record_at, every_append, every_parts, every_weaker, cut_at}
+use Rattle.mscp_queue.proofs.Basics.{◌≡◌, ℕ, ◌+◌, ◌<◌, ◌≤◌, Bool, cond, List, [], ◌∷◌, ◌++◌, map, take, drop, length, arith, AllByRecursion, ArePassedInOrder, Record, advanced, passed_by, record_at, every_append, every_parts, every_weaker, cut_at}
 
 -- ---- a step
 -- what a step leaves of a record, whose command ends or not

@@ -1,5 +1,5 @@
 -- Where all are transfers that each may still pass, each may start.
-use Rattle.mscp_queue.proofs.Basics.{◌≡◌, ℕ, ◌+◌, ◌<◌, ◌≤◌, Bool, true, false, not, ◌&&◌, ◌||◌, List, [], ◌∷◌, take, get_or, length, refl, sym, arith, All, AllByRecursion, list_all, range_with_len, and_parts, false≢true, le-leb, All-from_recursion, All-take, recursion_from_All, Order, ArePassedInOrder, is_move, is_sequential, Record, no_record, record_at, AllMayStart, is_affordable, is_free, is_open_at, open_places, every_weaker, filter_all, range_below}
+use Rattle.mscp_queue.proofs.Basics.{◌≡◌, ℕ, ◌+◌, ◌<◌, ◌≤◌, Bool, true, false, not, ◌&&◌, ◌||◌, List, [], ◌∷◌, take, length, refl, arith, All, AllByRecursion, list_all, range_with_len, and_parts, false≢true, le-leb, All-from_recursion, All-take, recursion_from_All, Order, ArePassedInOrder, is_move, is_sequential, Record, no_record, record_at, AllMayStart, is_affordable, is_free, is_open_at, every_weaker, filter_all, range_below}
 
 -- a transfer that so many blocks may still pass
 abbrev IsPassable : ℕ → ℕ → Record → Type 0
@@ -40,9 +40,10 @@ module _ (budget most : ℕ) where
   each_passable top [] none w l m = tt
   each_passable top (r ∷ rs) none w l m =
       let b = and_parts (not (is_sequential r.command.order))
-      (list_all (λ r. not (is_sequential r.command.order)) rs) none in
-      ((moves (is_sequential r.command.order) (is_move r.command.order) b.0 w.0, omega (arith, l.0, m)),
-      each_passable top rs b.1 w.1 l.1 m)
+      (list_all (λ r. not (is_sequential r.command.order)) rs) none in (
+        (moves (is_sequential r.command.order) (is_move r.command.order) b.0 w.0, omega (arith, l.0, m)),
+        each_passable top rs b.1 w.1 l.1 m,
+      )
     where
       moves : (s m : Bool) → not s ≡ true → (s || m) ≡ true → m ≡ true
       moves s m n e = grind (arith, false≢true)

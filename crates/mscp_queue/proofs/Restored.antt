@@ -70,8 +70,7 @@ module _ (budget : ℕ) (us : List Shape) where
       let item : s.item ≡ r = ap (λ (c : Content). c.item) is in
       let rest = sym (items_of (before + left_of r) ss rs (tail_same e)) in
       let back = sym item in
-      let due : s.due ≡ figure_in budget before (sum_by left_if_serving rs) r = ap (λ (c : Content). c.due) is in
-      (
+      let due : s.due ≡ figure_in budget before (sum_by left_if_serving rs) r = ap (λ (c : Content). c.due) is in (
         due ∙ (λ i. figure_in budget before (sum_by left_if_serving (rest i)) (back i)) ∙ sym (zero-add _),
         subst (λ (q : Record). AreDue budget 0 (before + left_of q) ss) back
             (are_due (before + left_of r) ss rs (tail_same e)),

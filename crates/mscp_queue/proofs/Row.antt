@@ -1,5 +1,5 @@
 -- The costs of a view in a row of their own, and the first of the least of them.
-use Rattle.mscp_queue.proofs.Common.{◌≡◌, ◌-◌, ◌<◌, ◌≤◌, ◌^◌, ℕ, List, length, get_or, subst, arith, Option, None, Some, IfNone, IfSome, unwrap_or, cases_lt, bit_at-zero, bit_at_ones, bit_at_ones_above, get_or-take, length-map, length-take-le, get_or_default, Choice, IsLeast, IsRow, IsSweep}
+use Rattle.mscp_queue.proofs.Common.{◌≡◌, ◌-◌, ◌<◌, ◌^◌, ℕ, List, length, subst, arith, Option, None, Some, IfNone, IfSome, unwrap_or, cases_lt, bit_at-zero, bit_at_ones, bit_at_ones_above, get_or-take, length-map, length-take-le, get_or_default, Choice, IsLeast, IsRow, IsSweep}
 
 -- the first place with the least of these costs is what the sweep picks
 swept : (row : List ℕ) (view : List Choice) (p : ℕ) → IsRow row view → IsLeast row (2 ^ length view - 1) p

@@ -1,5 +1,5 @@
 -- What is true of each queue, whatever came to it.
-use Rattle.std.specs.Prelude.{◌≡◌, ◌≢◌, ℕ, ◌+◌, ◌*◌, ◌^◌, ◌<◌, ◌≤◌, Bool, true, false, ◌||◌, ◌-◌, if◌then◌else◌, nat_lt, option_map, is_some, unwrap_or, List, [], ◌∷◌, length, map, filter, count_by, All, IfSome, Option, Some, None, ◌⊎◌, drop, slice_index_or}
+use Rattle.std.specs.Prelude.{◌≡◌, ◌≢◌, ℕ, ◌+◌, ◌*◌, ◌^◌, ◌<◌, ◌≤◌, Bool, true, false, ◌||◌, ◌-◌, if◌then◌else◌, nat_lt, option_map, is_some, unwrap_or, List, [], ◌∷◌, length, map, filter, All, IfSome, Option, Some, None, ◌⊎◌, drop, slice_index_or}
 use Rattle.std.specs.List.{AllByRecursion}
 use Rattle.mscp_packet.specs.declared.command.Command.{Command}
 use Rattle.mscp_packet.specs.declared.command.Order.{Order}

@@ -1,5 +1,5 @@
 -- Every call of a controller that somebody holds is answered right, and what was begun is held to.
-use Rattle.mscp_controller.proofs.Bridge.Basics.{◌≡◌, ℕ, ◌<◌, Bool, true, false, not, List, [], ◌∷◌, ◌++◌, map, refl, ap, sym, ◌∙◌, subst, append_assoc, append-nil, arith, IfSome, if◌then◌else◌, Option, Some, None, Result, Ok, Err, false≢true, Command, command_of, Block, Report, Upcoming, Choice, Line, Name, Connection, name_on, same_name, is_begun, Event, Entry, SendFault, NotBegun, Settings, IsValid, refusal, Trace, Moment, Service, is_step, service_in, ends_in, is_waiting, name, waiting, IsLegal, IsPick, IsServed, block_of, Answers, Finishes, Holdings, Steps, balance_of, fresh, held_unless, outstanding_of, sent_unless, AnsweredCalls, AnswersCall, AtEachCall, Begin, Call, Finish, HoldsToBegun, IsAsTold, IsBegun, IsBegunSince, IsChosen, IsRightCall, Plain, StartsChosen, foretold, history, start_of, upcoming_name, differ_is, same_is, each_push, one_waits, command_before, connection_before, is_waiting_before, done_kept, waits_below, owner_kept, unbegun_kept, legal_more, held_of, Agrees}
+use Rattle.mscp_controller.proofs.Bridge.Basics.{◌≡◌, ℕ, ◌<◌, Bool, true, false, not, List, [], ◌∷◌, ◌++◌, map, refl, ap, sym, ◌∙◌, subst, append_assoc, append-nil, arith, IfSome, if◌then◌else◌, Option, Some, None, Result, Ok, Err, false≢true, Command, command_of, Block, Report, Upcoming, Choice, Line, Name, Connection, name_on, same_name, is_begun, Event, Entry, SendFault, NotBegun, Settings, IsValid, refusal, Trace, Moment, Service, is_step, service_in, ends_in, is_waiting, name, waiting, IsLegal, IsServed, block_of, Answers, Finishes, Holdings, Steps, balance_of, fresh, held_unless, outstanding_of, sent_unless, AnswersCall, AtEachCall, Begin, Call, Finish, HoldsToBegun, IsAsTold, IsBegun, IsBegunSince, IsChosen, IsRightCall, Plain, StartsChosen, foretold, history, start_of, upcoming_name, differ_is, same_is, each_push, one_waits, command_before, connection_before, is_waiting_before, done_kept, waits_below, owner_kept, unbegun_kept, legal_more, held_of, Agrees}
 use Rattle.mscp_controller.proofs.Promise.States.{is_online_kept}
 use Rattle.mscp_controller.proofs.Bridge.Aborting.{begun_left}
 use Rattle.mscp_controller.proofs.Bridge.Begun.{Held, IsPickThen, Turned, none_waits, Holds, history_more, holds_on, nothing_stepped, name_begun}
@@ -186,7 +186,6 @@ module _ {K : Type 0} (picks : List Call → List Choice → ℕ → Type 0) whe
   turned calls (Plain event entry) h h' v a legal b r = plain picks calls event entry h h' v a legal b r
   turned calls (Begin upcoming) h h' v a legal b r = begin picks calls upcoming h h' a legal b r
   turned calls (Finish via number k answer) h h' v a legal b r = finish calls via number k answer h h' v a legal b r
-
 
 module _ {K : Type 0} (picks : List Choice → ℕ → Type 0) (h h' : Holdings K) (call : Call) where
   settings_kept : AnswersCall picks h call h' → h'.settings ≡ h.settings

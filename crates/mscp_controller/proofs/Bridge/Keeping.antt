@@ -1,5 +1,5 @@
 -- What each call keeps of what a controller holds.
-use Rattle.mscp_controller.proofs.Basics.{◌≡◌, ℕ, ◌+◌, ◌-◌, ◌<◌, ◌≤◌, Bool, List, [], ◌∷◌, map, length, drop, ap, refl, sym, subst, ◌∙◌, arith, if◌then◌else◌, slice_get, Option, Some, None, IfSome, is_some, false≢true, AllByRecursion, length-append, length-drop, End, IsOfKind, Shape, Block, Connection, First, Second, Name, Report, Choice, fresh_drive, units_of, Line, Serves, name_on, Record, without, end_in, every_append, Account, Accounts, CanEnd, account, put_account, reported, taken, untaken_in, Settings, IsValid, credits_of, room, waiting_on, of, IsAccount, IsHeld, each_account, seen_of, some_same, sides_length}
+use Rattle.mscp_controller.proofs.Basics.{◌≡◌, ℕ, ◌+◌, ◌-◌, ◌<◌, ◌≤◌, List, [], ◌∷◌, map, length, drop, ap, refl, sym, subst, ◌∙◌, arith, slice_get, Option, Some, None, IfSome, is_some, false≢true, AllByRecursion, length-append, length-drop, End, IsOfKind, Shape, Block, Connection, First, Second, Name, Report, Choice, fresh_drive, units_of, Line, Serves, name_on, Record, without, end_in, every_append, Account, Accounts, CanEnd, account, put_account, reported, taken, untaken_in, Settings, IsValid, credits_of, room, waiting_on, of, IsAccount, IsHeld, each_account, seen_of, some_same, sides_length}
 use Rattle.mscp_controller.specs.Accounts.{fresh, left}
 use Rattle.mscp_queue.specs.Lines as lines
 use Rattle.mscp_controller.proofs.Bridge.Counting.{count_stepped, other_count, own_count}

@@ -85,8 +85,7 @@ in_turn : {K : Type 0} (picks : K → List Choice → ℕ → Type 0) (at : List
 in_turn {K} picks at a [] so_far old new is r = ap (λ (h : Holdings K). by a h) r
 in_turn {K} picks at a (Called call ∷ turns) so_far old new is r =
     let now : at so_far ≡ picks old.picker = ap at (sym (append-nil so_far)) ∙ is [] in
-    let kept = picker_kept (picks old.picker) old r.0 call r.1 in
-    (
+    let kept = picker_kept (picks old.picker) old r.0 call r.1 in (
       by a r.0,
       subst (λ allowed. AnswersCall allowed (by a old) call (by a r.0)) (sym now)
           (call_by (picks old.picker) (picks old.picker) a old r.0 call (λ place own. own) r.1),
