@@ -56,11 +56,15 @@ begun_more calls call up y j b n w =
     search (arith, length-append, list_any-append, front_same, drop-append-le, get_or_append_left)
 
 -- ---- what is known of what is begun
+-- what may be picked of a view, after the calls so far
+abbrev pub PicksThen : Type 1
+PicksThen = List Call → List Choice → ℕ → Type 0
+
 -- a picker may pick the command of this name after the calls so far: what it may pick depends on them
-abbrev pub IsPickThen : Settings → (List Call → List Choice → ℕ → Type 0) → List Call → Name → Type 0
+abbrev pub IsPickThen : Settings → (PicksThen) → List Call → Name → Type 0
 IsPickThen c picks so_far = IsPick c (picks so_far) (history so_far)
 
-pub record Begun (c : Settings) (picks : List Call → List Choice → ℕ → Type 0) (calls : List Call) (n : Name) (up : Upcoming)
+pub record Begun (c : Settings) (picks : PicksThen) (calls : List Call) (n : Name) (up : Upcoming)
     (y j : ℕ) : Type 0 where
   pub is : IsBegunSince calls up y j
   pub now : up ≡ foretold (history calls) y
@@ -69,12 +73,12 @@ pub record Begun (c : Settings) (picks : List Call → List Choice → ℕ → T
   pub chosen : nat_eq up.done 0 ≡ true → IsPickThen c picks (take j calls) n
 
 -- what is held to be begun is what is begun
-abbrev pub Holds : Settings → (List Call → List Choice → ℕ → Type 0) → List Call → Option Name → Type 0
+abbrev pub Holds : Settings → (PicksThen) → List Call → Option Name → Type 0
 Holds c picks calls None = NothingBegun calls
 Holds c picks calls (Some n) = (up : Upcoming) × (y : ℕ) × (j : ℕ) × Begun c picks calls n up y j
 
 -- its name is that of the history
-pub name_begun : {c : Settings} {picks : List Call → List Choice → ℕ → Type 0} {calls : List Call} {n : Name} {up : Upcoming}
+pub name_begun : {c : Settings} {picks : PicksThen} {calls : List Call} {n : Name} {up : Upcoming}
     {y j : ℕ} → Begun c picks calls n up y j → name (history calls) y ≡ n
 name_begun b = ap upcoming_name (sym b.now) ∙ b.own
 
@@ -82,7 +86,7 @@ untold : (call : Call) (up : Upcoming) → upcoming_in call ≡ None → upcomin
 untold call up n e = true≢false (ap is_some (sym e ∙ n))
 
 -- a call that is no step, and tells nothing
-pub holds_on : (c : Settings) (picks : List Call → List Choice → ℕ → Type 0) (calls : List Call) (call : Call) (o o' : Option Name)
+pub holds_on : (c : Settings) (picks : PicksThen) (calls : List Call) (call : Call) (o o' : Option Name)
     → steps call ≡ false → upcoming_in call ≡ None
     → ((y : ℕ) → is_waiting (history calls) y ≡ true → foretold (history (calls ++ call ∷ [])) y
     ≡ foretold (history calls) y) → ((n : Name) (y : ℕ) → o ≡ Some n → is_waiting (history calls) y
@@ -139,7 +143,7 @@ pub begin_same : (calls : List Call) (upcoming : Option Upcoming)
     → history (calls ++ Begin upcoming ∷ []) ≡ history calls
 begin_same calls upcoming = history_more calls (Begin upcoming) ∙ append-nil (history calls)
 
-module _ (c : Settings) (picks : List Call → List Choice → ℕ → Type 0) (calls : List Call) (n : Name) (up : Upcoming) (y : ℕ) where
+module _ (c : Settings) (picks : PicksThen) (calls : List Call) (n : Name) (up : Upcoming) (y : ℕ) where
   -- it begins y where nothing is begun
   pub holds_new : Apart (history calls) (waiting (history calls)) → NothingBegun calls
       → is_waiting (history calls) y ≡ true → up ≡ foretold (history calls) y → upcoming_name up ≡ n → (nat_eq up.done 0
@@ -193,7 +197,7 @@ nothing_told calls e none up y j b = either ⊥ calls (Begin None) up y j (λ k 
 
 -- ---- a call
 -- what is known of a call, and of what is then held
-pub record Turned {K : Type 0} (c : Settings) (picks : List Call → List Choice → ℕ → Type 0) (calls : List Call) (call : Call)
+pub record Turned {K : Type 0} (c : Settings) (picks : PicksThen) (calls : List Call) (call : Call)
     (h : Holdings K) : Type 0 where
   pub legal : IsLegal c (history (calls ++ call ∷ []))
   pub agrees : Agrees c (history (calls ++ call ∷ [])) h
@@ -203,7 +207,7 @@ pub record Turned {K : Type 0} (c : Settings) (picks : List Call → List Choice
   pub holds : Holds c picks (calls ++ call ∷ []) h.begun
 
 -- what is held to be begun, and that it is
-abbrev pub Held : {K : Type 0} → Settings → (List Call → List Choice → ℕ → Type 0) → List Call → Holdings K → Option Name → Type 0
+abbrev pub Held : {K : Type 0} → Settings → (PicksThen) → List Call → Holdings K → Option Name → Type 0
 Held c picks calls h o = (h.begun ≡ o) × Holds c picks calls o
 
 -- something waits that is begun

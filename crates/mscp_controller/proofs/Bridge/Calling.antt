@@ -2,7 +2,7 @@
 use Rattle.mscp_controller.proofs.Bridge.Basics.{◌≡◌, ℕ, ◌<◌, Bool, true, false, not, List, [], ◌∷◌, ◌++◌, map, refl, ap, sym, ◌∙◌, subst, append_assoc, append-nil, arith, IfSome, if◌then◌else◌, Option, Some, None, Result, Ok, Err, false≢true, Command, command_of, Block, Report, Upcoming, Choice, Line, Name, Connection, name_on, same_name, is_begun, Event, Entry, SendFault, NotBegun, Settings, IsValid, refusal, Trace, Moment, Service, is_step, service_in, ends_in, is_waiting, name, waiting, IsLegal, IsServed, block_of, Answers, Finishes, Holdings, Steps, balance_of, fresh, held_unless, outstanding_of, sent_unless, AnswersCall, AtEachCall, Begin, Call, Finish, HoldsToBegun, IsAsTold, IsBegun, IsBegunSince, IsChosen, IsRightCall, Plain, StartsChosen, foretold, history, start_of, upcoming_name, differ_is, same_is, each_push, one_waits, command_before, connection_before, is_waiting_before, done_kept, waits_below, owner_kept, unbegun_kept, legal_more, held_of, Agrees}
 use Rattle.mscp_controller.proofs.Promise.States.{is_online_kept}
 use Rattle.mscp_controller.proofs.Bridge.Aborting.{begun_left}
-use Rattle.mscp_controller.proofs.Bridge.Begun.{Held, IsPickThen, Turned, none_waits, Holds, history_more, holds_on, nothing_stepped, name_begun}
+use Rattle.mscp_controller.proofs.Bridge.Begun.{PicksThen, Held, IsPickThen, Turned, none_waits, Holds, history_more, holds_on, nothing_stepped, name_begun}
 use Rattle.mscp_controller.proofs.Bridge.Following.{none_held, turns}
 use Rattle.mscp_controller.proofs.Bridge.Stepped.{Turns}
 use Rattle.mscp_controller.proofs.Bridge.Telling.{begin}
@@ -13,8 +13,9 @@ abbrev IsLeft : {K : Type 0} → Holdings K → Holdings K → Trace → Entry �
 IsLeft h h' t entry = (n : Name) (y : ℕ) → h.begun ≡ Some n → is_waiting t y ≡ true → name t y ≡ n
     → h'.begun ≡ (if not (ends_in n entry) then Some n else None)
 
-quiet : {K : Type 0} (c : Settings) (picks : List Call → List Choice → ℕ → Type 0) (calls : List Call)
-    (event : Event) (entry : Entry) (h h' : Holdings K) → Turns c (picks calls) (history calls) (event, entry) h.begun h'
+quiet : {K : Type 0} (c : Settings) (picks : PicksThen) (calls : List Call)
+    (event : Event) (entry : Entry) (h h' : Holdings K)
+    → Turns c (picks calls) (history calls) (event, entry) h.begun h'
     → IsLegal c (history calls) → service_in entry ≡ None → is_step event ≡ false → IsLeft h h' (history calls) entry
     → (h.begun ≡ None → h'.begun ≡ None) → Holds c picks calls h.begun → Turned c picks calls (Plain event entry) h'
 unfolding block_of
@@ -39,7 +40,7 @@ begun_unless : {K : Type 0} (via : Connection) (h : Holdings K)
 begun_unless via h t k n y o h7 h8 h9 h10 = grind (arith, not, begun_left)
 
 -- ---- a step
-module _ {K : Type 0} (c : Settings) (picks : List Call → List Choice → ℕ → Type 0) (calls : List Call) (k : Block) where
+module _ {K : Type 0} (c : Settings) (picks : PicksThen) (calls : List Call) (k : Block) where
   as_told : (report : Report) (h h' : Holdings K) (o : Option Name) → Agrees c (history calls) h
       → Held c picks calls h o → Turns c (picks calls) (history calls) (Event.Step k, Entry.Stepped report) h.begun h'
       → (up : Upcoming) (y j : ℕ) → IsBegunSince calls up y j → IfSome (service_in (Entry.Stepped report)) (IsAsTold up)
@@ -77,16 +78,18 @@ module _ {K : Type 0} (c : Settings) (picks : List Call → List Choice → ℕ 
       search arith
 
   -- after a step nothing is begun
-  unbegun_after : (report : Report) (h h' : Holdings K) (o : Option Name) → Held c picks calls h o → Turns c (picks calls)
-      (history calls) (Event.Step k, Entry.Stepped report) h.begun h' → Steps (picks calls) k h report h' → h'.begun ≡ None
+  unbegun_after : (report : Report) (h h' : Holdings K) (o : Option Name) → Held c picks calls h o
+      → Turns c (picks calls) (history calls) (Event.Step k, Entry.Stepped report) h.begun h'
+      → Steps (picks calls) k h report h' → h'.begun ≡ None
   unbegun_after Report.Idle h h' None b turn s = ap (λ (l : Line K). l.begun) s.serves.2 ∙ b.0
   unbegun_after Report.Idle h h' (Some n) b turn s =
       absurd (none_waits (history calls) b.1.1 turn.sends.right b.1.3.is.waits)
   unbegun_after (Report.Served via' reference' unit' lbn b' seek e') h h' o b turn s = search arith
 
   stepped : (report : Report) (h h' : Holdings K) (o : Option Name) → Agrees c (history calls) h → IsLegal c
-      (history calls) → Held c picks calls h o → Turns c (picks calls) (history calls) (Event.Step k, Entry.Stepped report)
-      h.begun h' → Steps (picks calls) k h report h' → Turned c picks calls (Plain (Event.Step k) (Entry.Stepped report)) h'
+      (history calls) → Held c picks calls h o
+      → Turns c (picks calls) (history calls) (Event.Step k, Entry.Stepped report) h.begun h'
+      → Steps (picks calls) k h report h' → Turned c picks calls (Plain (Event.Step k) (Entry.Stepped report)) h'
   stepped report h h' o a legal b turn s =
       let m : Moment = (Event.Step k, Entry.Stepped report) in
       let call = Plain (Event.Step k) (Entry.Stepped report) in
@@ -102,7 +105,7 @@ module _ {K : Type 0} (c : Settings) (picks : List Call → List Choice → ℕ 
       }
 
 -- ---- every event
-plain : {K : Type 0} (picks : List Call → List Choice → ℕ → Type 0)
+plain : {K : Type 0} (picks : PicksThen)
     (calls : List Call) (event : Event) (entry : Entry) (h h' : Holdings K) → IsValid h.settings
     → Agrees h.settings (history calls) h → IsLegal h.settings (history calls) → Holds h.settings picks calls h.begun
     → Answers (picks calls) h event entry h' → Turned h.settings picks calls (Plain event entry) h'
@@ -119,7 +122,8 @@ plain {K} picks calls (Event.Take via) (Entry.Taken other end) h h' v a legal b 
     (Event.Take via) (Entry.Taken other end) v a r) legal refl refl (λ n y e w own. ap (λ (x : Holdings K). x.begun)
     r.2 ∙ e) (λ n. unbegun_kept (picks calls) h h' (Event.Take via) (Entry.Taken other end) n r) b
 plain picks calls (Event.Step k) (Entry.Stepped report) h h' v a legal b r = stepped h.settings picks calls k report
-    h h' h.begun a legal (refl, b) (turns (picks calls) h h' (history calls) (Event.Step k) (Entry.Stepped report) v a r) r
+    h h' h.begun a legal (refl, b)
+    (turns (picks calls) h h' (history calls) (Event.Step k) (Entry.Stepped report) v a r) r
 plain {K} picks calls Event.Look (Entry.Looked list) h h' v a legal b r =
     quiet h.settings picks calls Event.Look (Entry.Looked list) h h' (turns (picks calls) h h' (history calls)
     Event.Look (Entry.Looked list) v a r) legal refl refl (λ n y e w own. ap (λ (x : Holdings K). x.begun) r.1 ∙ e)
@@ -127,7 +131,7 @@ plain {K} picks calls Event.Look (Entry.Looked list) h h' v a legal b r =
 plain picks calls _ _ h h' v a legal b r = absurd r
 
 -- ---- a finish
-module _ (c : Settings) (picks : List Call → List Choice → ℕ → Type 0) (calls : List Call) (via : Connection) (number : ℕ) where
+module _ (c : Settings) (picks : PicksThen) (calls : List Call) (via : Connection) (number : ℕ) where
   begun_as : (o : Option Name)
       → is_begun (name_on via number) o ≡ true → Holds c picks calls o → IsBegun calls (name_on via number)
   begun_as o h6 h7 = grind (arith, false≢true, same_is)
@@ -139,7 +143,7 @@ module _ (c : Settings) (picks : List Call → List Choice → ℕ → Type 0) (
   only_begun (Some n) q e b up y j is =
       ap (λ k. same_name k (name_on via number)) (ap upcoming_name (b.3.only up y j is).1 ∙ b.3.own) ∙ e
 
-module _ {K : Type 0} (picks : List Call → List Choice → ℕ → Type 0) where
+module _ {K : Type 0} (picks : PicksThen) where
   finish : (calls : List Call) (via : Connection) (number : ℕ) (k : Block)
       (answer : Result Report NotBegun) (h h' : Holdings K) → IsValid h.settings → Agrees h.settings (history calls) h
       → IsLegal h.settings (history calls) → Holds h.settings picks calls h.begun → Finishes (picks calls)
@@ -158,7 +162,8 @@ module _ {K : Type 0} (picks : List Call → List Choice → ℕ → Type 0) whe
         begun = step.begun;
         picked = step.picked;
         holds = subst (Holds c picks (calls ++ call ∷ [])) (sym (unbegun_after c picks calls k report h
-            h' h.begun (refl, b) (turns (picks calls) h h' (history calls) (Event.Step k) (Entry.Stepped report) v a r.1) r.1))
+            h' h.begun (refl, b)
+            (turns (picks calls) h h' (history calls) (Event.Step k) (Entry.Stepped report) v a r.1) r.1))
             (nothing_stepped calls call refl refl);
       }
   finish calls via number k (Err not_begun) h h' v a legal b r =
@@ -182,7 +187,8 @@ module _ {K : Type 0} (picks : List Call → List Choice → ℕ → Type 0) whe
   -- ---- every call
   turned : (calls : List Call) (call : Call) (h h' : Holdings K)
       → IsValid h.settings → Agrees h.settings (history calls) h → IsLegal h.settings (history calls)
-      → Holds h.settings picks calls h.begun → AnswersCall (picks calls) h call h' → Turned h.settings picks calls call h'
+      → Holds h.settings picks calls h.begun → AnswersCall (picks calls) h call h'
+      → Turned h.settings picks calls call h'
   turned calls (Plain event entry) h h' v a legal b r = plain picks calls event entry h h' v a legal b r
   turned calls (Begin upcoming) h h' v a legal b r = begin picks calls upcoming h h' a legal b r
   turned calls (Finish via number k answer) h h' v a legal b r = finish calls via number k answer h h' v a legal b r
@@ -192,14 +198,15 @@ module _ {K : Type 0} (picks : List Choice → ℕ → Type 0) (h h' : Holdings 
   settings_kept r = grind (arith, owner_kept)
 
 -- what may be answered to calls, where what may be picked depends on the calls before
-abbrev pub AnsweredThen : {K : Type 0} → (List Call → List Choice → ℕ → Type 0)
+abbrev pub AnsweredThen : {K : Type 0} → (PicksThen)
     → List Call → Holdings K → List Call → Holdings K → Type 0
 AnsweredThen picks so_far old [] new = new ≡ old
 AnsweredThen {K} picks so_far old (call ∷ calls) new =
-    (next : Holdings K) × AnswersCall (picks so_far) old call next × AnsweredThen picks (so_far ++ call ∷ []) next calls new
+    (next : Holdings K) × AnswersCall (picks so_far) old call next
+    × AnsweredThen picks (so_far ++ call ∷ []) next calls new
 
 -- what is known after each part of the calls
-pub record Knows {K : Type 0} (c : Settings) (picks : List Call → List Choice → ℕ → Type 0) (calls : List Call) (h : Holdings K) :
+pub record Knows {K : Type 0} (c : Settings) (picks : PicksThen) (calls : List Call) (h : Holdings K) :
     Type 0 where
   pub settings : h.settings ≡ c
   pub legal : IsLegal c (history calls)
@@ -209,7 +216,7 @@ pub record Knows {K : Type 0} (c : Settings) (picks : List Call → List Choice 
   pub picked : AtEachCall calls (StartsChosen (IsPickThen c picks))
   pub holds : Holds c picks calls h.begun
 
-module _ {K : Type 0} (c : Settings) (picks : List Call → List Choice → ℕ → Type 0) where
+module _ {K : Type 0} (c : Settings) (picks : PicksThen) where
   knows_more : (calls : List Call) (call : Call) (h h' : Holdings K)
       → IsValid c → AnswersCall (picks calls) h call h' → Knows c picks calls h → Knows c picks (calls ++ call ∷ []) h'
   knows_more calls call h h' v r k =
@@ -234,7 +241,7 @@ module _ {K : Type 0} (c : Settings) (picks : List Call → List Choice → ℕ 
       (call ∷ []) calls) (knows_after (so_far ++ call ∷ []) r.0 h' calls v r.2 (knows_more so_far call h r.0 v r.1 k))
 
 -- What somebody calls of a new controller is answered so.
-pub called : {K : Type 0} (c : Settings) (picks : List Call → List Choice → ℕ → Type 0) (picker : K) (h : Holdings K)
+pub called : {K : Type 0} (c : Settings) (picks : PicksThen) (picker : K) (h : Holdings K)
     (calls : List Call) → IsValid c → AnsweredThen picks [] (fresh c picker) calls h → Knows c picks calls h
 called c picks picker h calls v r =
     let past : (i : ℕ) → i < 0 → ⊥ = λ i l. absurd (omega (arith, l)) in

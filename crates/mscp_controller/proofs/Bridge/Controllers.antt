@@ -5,7 +5,7 @@ use Rattle.mscp_controller.proofs.Bridge.Basics.{figure_of_held, held_of, balanc
 use Rattle.mscp_controller.proofs.Bridge.Holders.{holders_of_held, startable_unheld}
 use Rattle.mscp_controller.proofs.Promise.Progress.{progress}
 use Rattle.mscp_controller.proofs.Bridge.Following.{as_many, comes}
-use Rattle.mscp_controller.proofs.Bridge.Begun.{IsPickThen}
+use Rattle.mscp_controller.proofs.Bridge.Begun.{PicksThen, IsPickThen}
 use Rattle.mscp_controller.proofs.Bridge.Calling.{AnsweredThen, Knows, called}
 
 -- ---- a run
@@ -44,7 +44,7 @@ pick_weaker : (c : Settings) (picks allowed : List Choice → ℕ → Type 0)
 pick_weaker c picks allowed w t n p = (p.0, p.1, p.2, w (view c t) p.0 p.3)
 
 -- A controller keeps the promise of a picker that may pick whatever it may pick after any calls.
-pub keeps_then : {K : Type 0} (c : Settings) (picks : List Call → List Choice → ℕ → Type 0)
+pub keeps_then : {K : Type 0} (c : Settings) (picks : PicksThen)
     (allowed : List Choice → ℕ → Type 0) (picker : K) (calls : List Call) (h : Holdings K) → IsValid c
     → ((so_far : List Call) (view : List Choice) (place : ℕ) → picks so_far view place → allowed view place)
     → Knows c picks calls h → KeepsPromise allowed c calls h
@@ -82,4 +82,5 @@ by_one picks so_far h h' (call ∷ calls) r = (r.0, r.1, by_one picks (so_far ++
 pub keeps_promise : {K : Type 0} (c : Settings) (picks : List Choice → ℕ → Type 0) (picker : K) (calls : List Call)
     (h : Holdings K) → IsValid c → AnsweredCalls picks (fresh c picker) calls h → KeepsPromise picks c calls h
 keeps_promise c picks picker calls h v r = keeps_then c (λ before. picks) picks picker calls h v
-    (λ so_far view place own. own) (called c (λ before. picks) picker h calls v (by_one picks [] (fresh c picker) h calls r))
+    (λ so_far view place own. own)
+    (called c (λ before. picks) picker h calls v (by_one picks [] (fresh c picker) h calls r))

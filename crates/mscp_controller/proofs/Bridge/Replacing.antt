@@ -1,6 +1,6 @@
 -- A controller whose picker is replaced keeps the promise: at each call its picker is that which it has at.
 use Rattle.mscp_controller.proofs.Common.{◌≡◌, ℕ, List, [], ◌∷◌, Option, None, Some, refl, ap, arith, Result, Command, Block, Connection, Event, IsValid, Settings, Drive, Name, Report, Upcoming, Choice, Begins, Serves, Record, IsNext, view_of, AnswersCall, Begin, Call, Finish, Line, Plain, Ok, Err, history, length, ◌++◌, ◌∙◌, append-nil, append_assoc, subst, sym, KeepsPromiseInTurn, picker_at, IsSwept, Sweeps, Answers, Finishes, Holdings, Steps, fresh, held_unless, line_of, sent_unless, AnsweredInTurn, Called, Replaced, Turn, calls_of, Entry, SendFault, NotBegun}
-use Rattle.mscp_controller.proofs.Bridge.Begun.{IsPickThen}
+use Rattle.mscp_controller.proofs.Bridge.Begun.{PicksThen, IsPickThen}
 use Rattle.mscp_controller.proofs.Bridge.Calling.{AnsweredThen, called}
 use Rattle.mscp_controller.proofs.Bridge.Controllers.{each_weaker, keeps_then}
 use Rattle.mscp_controller.proofs.Bridge.Owning.{owner_kept, stays}
@@ -78,7 +78,7 @@ picker_kept {K} picks h h' (Finish via number k (Err not_begun)) r = ap (λ (x :
 -- ---- calls, one after the other
 -- what is answered in turn is answered by the picker of each call, where `at` tells what that may pick after the calls
 -- before it
-in_turn : {K : Type 0} (picks : K → List Choice → ℕ → Type 0) (at : List Call → List Choice → ℕ → Type 0) (a : K)
+in_turn : {K : Type 0} (picks : K → List Choice → ℕ → Type 0) (at : PicksThen) (a : K)
     (turns : List (Turn K)) (so_far : List Call) (old new : Holdings K)
     → ((calls : List Call) → at (so_far ++ calls) ≡ picks (picker_at old.picker turns (length calls)))
     → AnsweredInTurn picks old turns new → AnsweredThen at so_far (by a old) (calls_of turns) (by a new)
@@ -102,10 +102,11 @@ pub keeps_in_turn : {K : Type 0} (c : Settings) (picks : K → List Choice → �
     → KeepsPromiseInTurn picks picker c turns held
 keeps_in_turn {K} c picks picker turns held v r =
     let calls = calls_of turns in
-    let at : List Call → List Choice → ℕ → Type 0 = λ so_far. picks (picker_at picker turns (length so_far)) in
+    let at : PicksThen = λ so_far. picks (picker_at picker turns (length so_far)) in
     let k = called c at picker (by picker held) calls v
     (in_turn picks at picker turns [] (fresh c picker) held (λ calls. refl) r) in
-    let kept = keeps_then c at (λ view place. Unit {0}) picker calls (by picker held) v (λ so_far view place own. tt) k in
+    let kept = keeps_then c at (λ view place. Unit {0}) picker calls (by picker held) v
+    (λ so_far view place own. tt) k in
     record {
       kept = record {
         legal = kept.legal;

@@ -1,6 +1,6 @@
 -- What a begin tells is what the next step serves, and it is kept.
 use Rattle.mscp_controller.proofs.Bridge.Basics.{◌≡◌, inl, ℕ, Bool, true, false, List, [], ◌∷◌, ◌++◌, map, refl, ap, sym, ◌∙◌, subst, arith, IfSome, if◌then◌else◌, nat_eq, Option, Some, None, Upcoming, Choice, BeginsAt, Line, Name, Record, name_of, IsNext, upcoming_of, Settings, Trace, is_waiting, name, unit, waiting, IsLegal, block_of, Foretells, Holdings, line_of, Begin, Call, HoldsToBegun, IsChosen, NothingBegun, foretold, history, upcoming_name, one_waits, drive_by, held_of, Agrees, waiting_at}
-use Rattle.mscp_controller.proofs.Bridge.Begun.{Held, IsPickThen, Turned, Holds, begin_same, holds_again, holds_new, nothing_told, name_begun}
+use Rattle.mscp_controller.proofs.Bridge.Begun.{PicksThen, Held, IsPickThen, Turned, Holds, begin_same, holds_again, holds_new, nothing_told, name_begun}
 use Rattle.mscp_controller.proofs.Bridge.Following.{none_mapped}
 use Rattle.mscp_controller.proofs.Bridge.Servable.{next_held, reads, waits_at}
 
@@ -14,7 +14,7 @@ unfolding block_of
 told_held c t y = refl
 
 -- what is known of a begin of the command y
-record Tells {K : Type 0} (c : Settings) (picks : List Call → List Choice → ℕ → Type 0) (calls : List Call) (up : Upcoming)
+record Tells {K : Type 0} (c : Settings) (picks : PicksThen) (calls : List Call) (up : Upcoming)
     (h h' : Holdings K) (y : ℕ) : Type 0 where
   pub waits : is_waiting (history calls) y ≡ true
   pub own : up ≡ foretold (history calls) y
@@ -23,7 +23,7 @@ record Tells {K : Type 0} (c : Settings) (picks : List Call → List Choice → 
   pub kept : h'.begun ≡ Some (upcoming_name up)
 
 module _ {K : Type 0} (c : Settings)
-    (picks : List Call → List Choice → ℕ → Type 0) (calls : List Call) (up : Upcoming) (h h' : Holdings K) (y : ℕ) where
+    (picks : PicksThen) (calls : List Call) (up : Upcoming) (h h' : Holdings K) (y : ℕ) where
   -- it is what was begun, if something was
   tells_again : (n : Name) → Agrees c (history calls) h
       → h.begun ≡ Some n → (b : Holds c picks calls (Some n)) → Tells c picks calls up h h' y → up ≡ b.0
@@ -48,7 +48,7 @@ module _ {K : Type 0} (c : Settings)
       let name : n ≡ upcoming_name up = sym b.1.3.own ∙ ap upcoming_name (sym again) in
       search (arith, holds_again c picks calls n b.1.0 b.1.1 b.1.2 a.follows.known.steady.apart b.1.3)
 
-begin_at : {K : Type 0} (picks : List Call → List Choice → ℕ → Type 0) (calls : List Call) (up : Upcoming)
+begin_at : {K : Type 0} (picks : PicksThen) (calls : List Call) (up : Upcoming)
     (h h' : Holdings K) (place : ℕ) → Agrees h.settings (history calls) h → IsLegal h.settings (history calls)
     → Holds h.settings picks calls h.begun → BeginsAt (picks calls) (line_of h) up (line_of h') place
     → h'.untaken ≡ h.untaken → Turned h.settings picks calls (Begin (Some up)) h'
@@ -68,7 +68,8 @@ begin_at {K} picks calls up h h' place a legal b s u =
     let same = begin_same calls (Some up) in
     let chosen : (q : Bool) → nat_eq up.done 0 ≡ q
     → IfSome (if q then Some (upcoming_name up) else None) (IsChosen (IsPickThen c picks) calls) = λ q. elim q as
-    (λ q. nat_eq up.done 0 ≡ q → IfSome (if q then Some (upcoming_name up) else None) (IsChosen (IsPickThen c picks) calls))
+    (λ q. nat_eq up.done 0 ≡ q → IfSome (if q then Some (upcoming_name up) else None)
+    (IsChosen (IsPickThen c picks) calls))
     [ true ↦ λ e. tells_chosen c picks calls up h h' y h.begun a (refl, b) tells e | false ↦ λ e. tt ] in
     record {
       legal = subst (IsLegal c) (sym same) legal;
@@ -80,13 +81,13 @@ begin_at {K} picks calls up h h' place a legal b s u =
           (sym tells.kept) (tells_holds c picks calls up h h' y h.begun a (refl, b) tells);
     }
 
-begin_none : {K : Type 0} (picks : List Call → List Choice → ℕ → Type 0) (calls : List Call) (h h' : Holdings K)
+begin_none : {K : Type 0} (picks : PicksThen) (calls : List Call) (h h' : Holdings K)
     → Agrees h.settings (history calls) h → IsLegal h.settings (history calls) → NothingBegun calls → h.waiting ≡ []
     → h.begun ≡ None → line_of h' ≡ line_of h → h'.untaken ≡ h.untaken → Turned h.settings picks calls (Begin None) h'
 begin_none {K} picks calls h h' a legal nothing e n l u =
     search (arith, begin_same calls None, none_mapped, held_of, agrees_same, nothing_told)
 
-pub begin : {K : Type 0} (picks : List Call → List Choice → ℕ → Type 0) (calls : List Call) (upcoming : Option Upcoming)
+pub begin : {K : Type 0} (picks : PicksThen) (calls : List Call) (upcoming : Option Upcoming)
     (h h' : Holdings K) → Agrees h.settings (history calls) h → IsLegal h.settings (history calls) → Holds h.settings
     picks calls h.begun → Foretells (picks calls) h upcoming h' → Turned h.settings picks calls (Begin upcoming) h'
 begin picks calls None h h' a legal b r = begin_none picks
