@@ -154,7 +154,7 @@ impl<K: Picker> Port<K> {
         ensures returned { (side : Side) → (other : Descriptor) → self.new.task ≡ tasks.Return side other
             → (side ≡ Responses) × (other ≡ slot) × (outcome ≡ outcomes.Done) }
     {
-        if outcome != Outcome::Done {
+        if !matches!(outcome, Outcome::Done) {
             return self.die(2);
         }
         if let Some(outgoing) = &self.outgoing
