@@ -246,7 +246,7 @@ seconds() { sed -n "s/^$1 //p" "$top/proving.txt" 2>/dev/null | grep . || echo 0
 # Prints how each of these libraries, lowest first, is proved: its name, by which command (`nice` where it gives way to the
 # others, else `env`), and by how many processes, 0 for as many as rt chooses. The longest chain of seconds sets the pace. A
 # library in no chain about as long is proved by two processes, or by one if it is small, which takes less in all; and it
-# gives way if what the others leave is enough for it, about a fifth of the seconds that they take beside it.
+# gives way if what the others leave is enough for it, about a quarter of the seconds that they take beside it.
 manners() {
     local low
     for low in "$@"; do echo "$low $(seconds "$low")" $(below "$low"); done | awk '
@@ -265,7 +265,7 @@ manners() {
             }
             for (it in through) {
                 processes = !own[it] || through[it] >= most * 0.9 ? 0 : own[it] < 100 ? 1 : 2
-                print it, processes && own[it] * 5 <= most - through[it] + own[it] ? "nice" : "env", processes
+                print it, processes && own[it] * 4 <= most - through[it] + own[it] ? "nice" : "env", processes
             }
         }'
 }

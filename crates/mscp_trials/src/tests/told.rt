@@ -47,7 +47,7 @@ pub fn step(report: &Report) -> Option<Step> {
     else {
         return None;
     };
-    let end = ended.as_ref().map(write_end);
+    let end = ended.map(|end| write_end(&end));
     let second = is_second(connection);
     Some((second, *reference, *unit, *lbn, *started, *seek, end))
 }

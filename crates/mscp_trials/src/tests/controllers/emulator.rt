@@ -149,11 +149,12 @@ impl<K: Picker> Machine<K> {
     /// command was aborted in the meantime.
     fn finish(&mut self, job: &Job, block: Block) -> Result<Report, NotBegun> {
         let command = job.upcoming.command;
+        let is_good = matches!(block, Block::Good);
         let report = self
             .controller
             .finish(Connection::First, command.reference, block)?;
         let read = matches!(command.order, Order::Move(MoveKind::Read, ..));
-        if read && matches!(block, Block::Good) && job.upcoming.lbn.is_some() {
+        if read && is_good && job.upcoming.lbn.is_some() {
             self.fill(job);
         }
         if let Report::Served { ended: Some(_), .. } = report {
