@@ -62,8 +62,8 @@ enum { LENGTH = 424 + 20 + 48 + 34 * UNITS + 41 };
 
 /* Its head. */
 static const uint8_t HEAD[72] = {
-    /* "MSCP", version 1, and so many bytes */
-    0x4D, 0x53, 0x43, 0x50, 1, 0, 0, 0, LENGTH & 255, LENGTH >> 8, 0, 0,
+    /* "MSCP", version 2, and so many bytes */
+    0x4D, 0x53, 0x43, 0x50, 2, 0, 0, 0, LENGTH & 255, LENGTH >> 8, 0, 0,
     /* the Q-bus, and model, software and hardware of an RQDX3 */
     1, 19, 3, 1,
     /* 15 credits beside one, of which 1 is untold; a slot of responses and two of commands were given back */
@@ -155,7 +155,7 @@ static void edits(void)
     } cases[] = {
         /* a text of 49 bytes, 65 commands, and more of either than there are bytes */
         {{{8, 14}}, MSCP_SAVED_LENGTH}, {{{70, 49}}, MSCP_SAVED_LENGTH}, {{{71, 65}}, MSCP_SAVED_LENGTH},
-        {{{71, 13}}, MSCP_SAVED_LENGTH}, {{{3, 0}}, MSCP_SAVED_MAGIC}, {{{4, 2}}, MSCP_SAVED_VERSION},
+        {{{71, 13}}, MSCP_SAVED_LENGTH}, {{{3, 0}}, MSCP_SAVED_MAGIC}, {{{4, 1}}, MSCP_SAVED_VERSION},
         /* a controller that begins elsewhere, isn't one, or has 65 + 1 credits or another picker */
         {{{71, 0}}, MSCP_SAVED_LENGTH}, {{{444, 0}}, MSCP_SAVED_MAGIC}, {{{456, 65}}, MSCP_SAVED_LIMITS},
         {{{474, 2}}, MSCP_SAVED_PICKER},
@@ -168,7 +168,7 @@ static void edits(void)
         /* no bus, no flag, no stage, a word where there is none, no rings, no task, a text where nothing goes out, no flag */
         {{{12, 3}}, MSCP_SAVED_FORM}, {{{20, 2}}, MSCP_SAVED_FORM}, {{{33, 10}}, MSCP_SAVED_FORM},
         {{{34, 1}}, MSCP_SAVED_FORM}, {{{37, 1}}, MSCP_SAVED_FORM}, {{{44, 129}}, MSCP_SAVED_FORM},
-        {{{48, 0}}, MSCP_SAVED_FORM}, {{{52, 13}}, MSCP_SAVED_FORM}, {{{69, 3}}, MSCP_SAVED_FORM},
+        {{{48, 0}}, MSCP_SAVED_FORM}, {{{52, 13}}, MSCP_SAVED_FORM}, {{{69, 4}}, MSCP_SAVED_FORM},
         {{{112, 1}}, MSCP_SAVED_FORM},
     };
     for (size_t i = 0; i < COUNT(cases); i++) {

@@ -75,6 +75,27 @@ static void own_answers(void)
     expect(4, 0x80, 0x0801);
 }
 
+/* An end for the diagnostic protocol is of its message's connection, 2, and gives back the credit of that message alone. The
+ * 15 that the host wasn't told yet are told by the disk's ends: 14 by the first, and 1 by the second. */
+static void ends_of_the_utilities(void)
+{
+    uint8_t packet[68];
+    build(&RQDX3);
+    initialise(0x1000, 0, 0, 0);
+    send_command(1, 1, 1, 0, 0, 0);
+    machine.memory[packet_of(false, 0) + 3] = 2;
+    run(MOST_ACTIONS);
+    is("its end", take(packet) && number(packet + 4, 4) == 1 && packet[12] == 0x80, 1);
+    is("one credit, and its connection", number(packet + 2, 2), 0x0201);
+    for (uint32_t i = 0; i < 3; i++) {
+        static const uint16_t told[] = {0x000F, 0x0002, 0x0001};
+        send_command(1, 2 + i, 19, 0, 0, 0);
+        run(MOST_ACTIONS);
+        is("an end of the disk's", take(packet) && number(packet + 4, 4) == 2 + i && packet[12] == 0x93, 1);
+        is("its credits, and the disk's connection", number(packet + 2, 2), told[i]);
+    }
+}
+
 /* Each transfer that can't be made ends with its status. */
 static void refused_transfers(void)
 {
@@ -319,6 +340,7 @@ int main(void)
     polls(true);
     aborts();
     own_answers();
+    ends_of_the_utilities();
     refused_transfers();
     outcomes();
     own_sizes();

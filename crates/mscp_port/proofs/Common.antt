@@ -41,7 +41,7 @@ pub use Rattle.mscp_port.specs.Blocks.{kept_at, kept_of, writes}
 pub use Rattle.mscp_port.specs.Buffers.{is_of, kept_beside, without_aborted}
 pub use Rattle.mscp_port.specs.Calls.{Changes, ChangesByActing, Dies, Goes, Hears, HoldsPacket, IsMadeOf, PutsIn, ReadsIp, StaysInStage, TakesStep, Ticks, Wants, WritesSa, read_again, step_answered}
 pub use Rattle.mscp_port.specs.Codes.{IsTask, bus_byte, bus_in, coded_task, has_size, number_or_none, optional, some_byte, stage_byte, stage_in, stage_word, task_in}
-pub use Rattle.mscp_port.specs.Departures.{IsDelivered, IsForgotten, IsWritten, Told, begins, begun, ends_in, gone, leaves}
+pub use Rattle.mscp_port.specs.Departures.{IsDelivered, IsForgotten, IsWritten, Told, begins, begun, disk_credits, ends_in, gone, leaves}
 pub use Rattle.mscp_port.specs.Histories.{Answered, Becomes, Call, HasCredit, HasInOrder, IsNamed, IsNamedForData, IsNamedForRings, LookAgain, NamesArea, NamesBuffer, NamesPacket, Next, Protect, PutAside, ReadIp, Tick, VolumeCame, VolumeWent, WasRead, Went, WriteIp, WriteSa, reads, words}
 pub use Rattle.mscp_port.specs.Kept.{IsSaidBy, WasSaid}
 pub use Rattle.mscp_port.specs.Loaded.{is_loaded, is_locked}

@@ -10,6 +10,7 @@ use Rattle.mscp_packet.specs.declared.end.EndBody.{EndBody}
 use Rattle.mscp_packet.specs.declared.end.EndBody.TheVariants as bodies
 use Rattle.mscp_port.specs.declared.hardware.Hardware.{Hardware}
 use Rattle.mscp_port.specs.declared.port.Outgoing.{Outgoing}
+use Rattle.mscp_port.specs.declared.port.OutgoingKind.TheVariants as kinds
 use Rattle.mscp_port.specs.declared.port.Port.{Port}
 use Rattle.mscp_port.specs.declared.volumes.Volume.{Volume}
 use Rattle.mscp_port.specs.Blocks.{is_mounted}
@@ -115,5 +116,7 @@ attention unit v =
 -- what goes out with news of the volume at a place
 abbrev pub news_at : List Shape → List Volume → ℕ → Option Outgoing
 news_at units volumes place =
-    option_map (λ unit. record { bytes = record { items = attention unit (volume_at volumes place) }; is_end = false })
-    (slice_get units place)
+    option_map (λ unit. record {
+      bytes = record { items = attention unit (volume_at volumes place) };
+      kind = kinds.Attention;
+    }) (slice_get units place)

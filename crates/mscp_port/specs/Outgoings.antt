@@ -10,6 +10,7 @@ use Rattle.mscp_controller.specs.Holdings.{Holdings, after_take}
 use Rattle.mscp_port.specs.declared.action.Outcome.{Outcome}
 use Rattle.mscp_port.specs.declared.action.Outcome.TheVariants as outcomes
 use Rattle.mscp_port.specs.declared.port.Outgoing.{Outgoing}
+use Rattle.mscp_port.specs.declared.port.OutgoingKind.TheVariants as kinds
 use Rattle.mscp_port.specs.declared.port.Port.{Port}
 use Rattle.mscp_port.specs.declared.rings.Side.TheVariants.{Responses}
 use Rattle.mscp_port.specs.declared.slot.Descriptor.{Descriptor}
@@ -18,6 +19,7 @@ use Rattle.mscp_port.specs.declared.task.Task.TheVariants as tasks
 use Rattle.mscp_port.specs.declared.volumes.Volume.{Volume}
 use Rattle.mscp_port.specs.Leaving.{news_at, told_end}
 use Rattle.mscp_port.specs.Messages.{own_end_of}
+use Rattle.mscp_port.specs.Packets.{end_kind}
 use Rattle.mscp_port.specs.Volumes.{volume_at}
 
 -- the controller is as it was, but that it may have begun a step
@@ -40,7 +42,7 @@ oldest_end p = slice_get (of First p.controller.untaken) 0
 pub record TakesEnd {K : Type 0} (old new : Port K) : Type 0 where
   pub nothing : old.outgoing ≡ None
   pub out : (e : End) × (oldest_end old ≡ Some e)
-      × (new.outgoing ≡ Some (record { bytes = record { items = told_end old e }; is_end = true }))
+      × (new.outgoing ≡ Some (record { bytes = record { items = told_end old e }; kind = kinds.End }))
   pub controller : MayBegin (after_take First old.controller) new.controller
   pub stalled : new.is_stalled ≡ false
   pub volumes : new.volumes ≡ old.volumes
@@ -76,11 +78,11 @@ pub record Says {K : Type 0} (old new : Port K) : Type 0 where
   pub looks : LooksForOut old → TakesEnd old new ⊎ TellsNews old new
   pub keeps : (LooksForOut old → ⊥) → KeepsSaying old new
 
--- nothing went out, and the end that the port makes of these bytes itself goes out
+-- nothing went out, and the end that the port makes of these bytes itself goes out, by its message's connection
 pub record AnswersItself {K : Type 0} (foreign : Bool) (bytes : List ℕ) (old new : Port K) : Type 0 where
   pub nothing : old.outgoing ≡ None
   pub out : IsSomeAnd (own_end_of old foreign bytes) (λ e.
-      IsSomeAnd new.outgoing (λ o. (o.bytes.items ≡ end_bytes e) × (o.is_end ≡ true)))
+      IsSomeAnd new.outgoing (λ o. (o.bytes.items ≡ end_bytes e) × (o.kind ≡ end_kind foreign)))
 
 -- what went out is gone: it was written, and its slot was given back
 pub record HasSaid {K : Type 0} (outcome : Outcome) (old new : Port K) : Type 0 where

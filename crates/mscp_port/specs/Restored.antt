@@ -10,6 +10,8 @@ use Rattle.mscp_port.specs.declared.buffers.Buffer.{Buffer}
 use Rattle.mscp_port.specs.declared.codes.Coded.{Coded}
 use Rattle.mscp_port.specs.declared.hardware.Hardware.{Hardware}
 use Rattle.mscp_port.specs.declared.port.Outgoing.{Outgoing}
+use Rattle.mscp_port.specs.declared.port.OutgoingKind.{OutgoingKind}
+use Rattle.mscp_port.specs.declared.port.OutgoingKind.TheVariants as kinds
 use Rattle.mscp_port.specs.declared.port.Port.{Port}
 use Rattle.mscp_port.specs.declared.port.Words.{Words}
 use Rattle.mscp_port.specs.declared.port.restoring.RestoreFault.{RestoreFault}
@@ -48,10 +50,14 @@ coded_in b = record {
 abbrev pub words_in : List ℕ → Words
 words_in b = record { first = num b 29 2; second = num b 31 2 }
 
+-- what a message is that goes out, by its number
+abbrev pub kind_in : ℕ → OutgoingKind
+kind_in byte = if nat_eq byte 1 then kinds.Attention else if nat_eq byte 2 then kinds.End else kinds.UtilitiesEnd
+
 -- what goes out, by its number and its text
 abbrev pub outgoing_in : ℕ → List ℕ → Option Outgoing
 outgoing_in byte text =
-    if nat_eq byte 0 then None else Some (record { bytes = record { items = text }; is_end = nat_eq byte 2 })
+    if nat_eq byte 0 then None else Some (record { bytes = record { items = text }; kind = kind_in byte })
 
 -- the volume in the bytes of one
 abbrev pub volume_in : List ℕ → Volume

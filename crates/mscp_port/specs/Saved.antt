@@ -7,6 +7,8 @@ use Rattle.mscp_port.specs.declared.buffers.Buffer.{Buffer}
 use Rattle.mscp_port.specs.declared.codes.Coded.{Coded}
 use Rattle.mscp_port.specs.declared.hardware.Hardware.{Hardware}
 use Rattle.mscp_port.specs.declared.port.Outgoing.{Outgoing}
+use Rattle.mscp_port.specs.declared.port.OutgoingKind.{OutgoingKind}
+use Rattle.mscp_port.specs.declared.port.OutgoingKind.TheVariants as kinds
 use Rattle.mscp_port.specs.declared.port.Port.{Port}
 use Rattle.mscp_port.specs.declared.port.Words.{Words}
 use Rattle.mscp_port.specs.declared.stage.Stage.{Stage}
@@ -35,7 +37,7 @@ abbrev pub magic : ℕ
 magic = 0x5043534D
 
 abbrev pub version : ℕ
-version = 1
+version = 2
 
 -- ---- parts
 
@@ -86,10 +88,16 @@ coded_bytes c =
     ++ little_bytes 2 c.two
     ++ (c.how ∷ [])
 
--- what goes out: 0 where nothing does, 1 for an attention message, 2 for an end; and its text
+-- what goes out: 0 where nothing does, 1 for an attention message, 2 for an end of the disk's, 3 for one of the
+-- utilities; and its text
+abbrev pub kind_byte : OutgoingKind → ℕ
+kind_byte kinds.Attention = 1
+kind_byte kinds.End = 2
+kind_byte kinds.UtilitiesEnd = 3
+
 abbrev pub outgoing_byte : Option Outgoing → ℕ
 outgoing_byte None = 0
-outgoing_byte (Some o) = if o.is_end then 2 else 1
+outgoing_byte (Some o) = kind_byte o.kind
 
 abbrev pub outgoing_text : Option Outgoing → List ℕ
 outgoing_text None = []

@@ -46,7 +46,7 @@ pub enum Ask {
 }
 
 /// How an action went.
-#[derive(Clone, Copy, PartialEq, Eq)]
+#[derive(Clone, Copy)]
 pub enum Outcome {
     /// It was done.
     Done,

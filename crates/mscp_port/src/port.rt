@@ -39,11 +39,22 @@ pub enum PortFault {
     Credits,
 }
 
-/// What goes out to the host: the end of a command, or an attention message.
+/// What a message is that goes out.
+#[derive(Clone, Copy)]
+pub(crate) enum OutgoingKind {
+    /// An attention message.
+    Attention,
+    /// The end of a command of the disk's.
+    End,
+    /// The end of a message for the diagnostic and utilities protocol.
+    UtilitiesEnd,
+}
+
+/// What goes out to the host.
 #[derive(Drop)]
 pub(crate) struct Outgoing {
     bytes: ArrayVec<u8, 48>,
-    is_end: bool,
+    kind: OutgoingKind,
 }
 
 /// What the host wrote in the first two steps.

@@ -13,7 +13,7 @@ use crate::buffers::{Buffer, find_buffer, forget};
 use crate::filling::{
     PROTECTED_BY_HOST, attention, fill_controller, filled, status_told, unit_told,
 };
-use crate::port::{Outgoing, Port};
+use crate::port::{Outgoing, OutgoingKind, Port};
 use crate::rings::Side;
 use crate::slot::Descriptor;
 use crate::task::Task;
@@ -26,7 +26,8 @@ use mscp_queue::{Connection, Picker};
 /// The flag by which a host wants attention messages.
 const WANTS_ATTENTION: u16 = 0x0080;
 
-/// A host is told at most so many credits more than the one that an end gives back, since their field has four bits.
+/// A host is told at most so many credits more than the one that an end of the disk's gives back, since their field has
+/// four bits.
 const MOST_MORE: u8 = 14;
 
 impl<K: Picker> Port<K> {
@@ -44,7 +45,7 @@ impl<K: Picker> Port<K> {
             self.is_stalled = false;
             self.outgoing = Some(Outgoing {
                 bytes: self.told(end),
-                is_end: true,
+                kind: OutgoingKind::End,
             });
         } else {
             self.tell_news();
@@ -127,18 +128,23 @@ impl<K: Picker> Port<K> {
         let unit = self.controller.config().units().list().get(place)?;
         Some(Outgoing {
             bytes: attention(unit, &self.volumes[place]),
-            is_end: false,
+            kind: OutgoingKind::Attention,
         })
     }
 
-    /// How many credits what goes out gives the host: the one that an end gives back, and those that it wasn't told yet.
+    /// How many credits what goes out gives the host: the one that an end gives back, and with an end of the disk's those
+    /// that it wasn't told yet.
     pub(crate) fn credits_told(&self) -> u8
         ensures value { result ≡ credits_told self.now }
         ensures few { result ≤ 15 }
     {
-        match &self.outgoing {
-            Some(outgoing) if outgoing.is_end => 1 + self.untold.min(MOST_MORE),
-            _ => 0,
+        let Some(outgoing) = &self.outgoing else {
+            return 0;
+        };
+        match outgoing.kind {
+            OutgoingKind::Attention => 0,
+            OutgoingKind::End => 1 + self.untold.min(MOST_MORE),
+            OutgoingKind::UtilitiesEnd => 1,
         }
     }
 
@@ -154,11 +160,11 @@ impl<K: Picker> Port<K> {
         ensures returned { (side : Side) → (other : Descriptor) → self.new.task ≡ tasks.Return side other
             → (side ≡ Responses) × (other ≡ slot) × (outcome ≡ outcomes.Done) }
     {
-        if outcome != Outcome::Done {
+        if !matches!(outcome, Outcome::Done) {
             return self.die(2);
         }
         if let Some(outgoing) = &self.outgoing
-            && outgoing.is_end
+            && let OutgoingKind::End = outgoing.kind
         {
             self.untold -= self.untold.min(MOST_MORE);
         }

@@ -51,7 +51,7 @@ impl<K: Picker> Port<K> {
         match self.task {
             Task::Free => false,
             Task::Slot(_) | Task::Header(_) | Task::Text { .. } | Task::Neighbour(_) => {
-                *outcome != Outcome::Done
+                !matches!(*outcome, Outcome::Done)
             }
             _ => true,
         }
@@ -84,7 +84,7 @@ impl<K: Picker> Port<K> {
         let Some(rings) = self.rings else {
             return self.die(7);
         };
-        if outcome != Outcome::Done {
+        if !matches!(outcome, Outcome::Done) {
             return self.die(7);
         }
         if rings.start(self.has_purge_word()) + done.get() + CLEARED < rings.end() {
@@ -114,7 +114,7 @@ impl<K: Picker> Port<K> {
         let Some(rings) = self.rings else {
             return self.die(7);
         };
-        if outcome != Outcome::Done {
+        if !matches!(outcome, Outcome::Done) {
             return self.die(7);
         }
         self.count(side);

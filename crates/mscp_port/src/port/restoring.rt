@@ -1,7 +1,7 @@
 // Bytes to a port.
 
 ghost use Rattle.std.specs.Prelude.{◌≡◌, ◌*◌, ◌≤◌, ◌<◌, true, nat_eq, length, take, drop, slice_index, IfNone, IfOk, None};
-ghost use Rattle.mscp_port.specs.Common.{bytes_eq, num, IsSound, parts_in, optional, stage_in, IsFramed, IsSaved, area_in, buffers_in, coded_in, controller_in, controller_place, frame_fault, held_in, hardware_in, is_framed, outgoing_in, port_in, restored, rings_if, text_in, told_front, unless, volume_in, volumes_in, words_in, saved_bytes};
+ghost use Rattle.mscp_port.specs.Common.{bytes_eq, num, IsSound, parts_in, optional, stage_in, IsFramed, IsSaved, area_in, buffers_in, coded_in, controller_in, controller_place, frame_fault, held_in, hardware_in, is_framed, kind_in, outgoing_in, port_in, restored, rings_if, text_in, told_front, unless, volume_in, volumes_in, words_in, saved_bytes};
 ghost use Rattle.mscp_port.specs.Restored.{buffer_in};
 
 mod front;
@@ -11,7 +11,7 @@ use crate::codes::{Coded, bus_in, has_size, stage_in, task_in};
 use crate::hardware::Hardware;
 use crate::port::restoring::front::saved_front;
 use crate::port::saving::{MAGIC, VERSION};
-use crate::port::{Outgoing, Port, Words};
+use crate::port::{Outgoing, OutgoingKind, Port, Words};
 use crate::rings::Rings;
 use crate::stage::Stage;
 use crate::volumes::Volume;
@@ -121,6 +121,17 @@ fn words_in(b: &[u8]) -> Words
     }
 }
 
+/// What a message is that goes out, by its number.
+fn kind_in(byte: u8) -> OutgoingKind
+    ensures { result ≡ kind_in byte }
+{
+    match byte {
+        1 => OutgoingKind::Attention,
+        2 => OutgoingKind::End,
+        _ => OutgoingKind::UtilitiesEnd,
+    }
+}
+
 /// What goes out, by its number and its text.
 fn outgoing_in(byte: u8, text: &[u8]) -> Option<Outgoing>
     requires { length text.now ≤ 48 }
@@ -133,7 +144,7 @@ fn outgoing_in(byte: u8, text: &[u8]) -> Option<Outgoing>
     put(&mut bytes, text);
     Some(Outgoing {
         bytes,
-        is_end: byte == 2,
+        kind: kind_in(byte),
     })
 }
 

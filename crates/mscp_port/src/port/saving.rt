@@ -1,12 +1,12 @@
 // A port to bytes.
 
 ghost use Rattle.std.specs.Prelude.{◌≡◌, ◌+◌, ◌*◌, ◌≤◌, ◌<◌, ◌^◌, ◌++◌, ◌∷◌, [], flat_map, length, All, IfSome, Ok};
-ghost use Rattle.mscp_port.specs.Common.{array_vec_len, flag_byte, AreRings, number_or_none, stage_word, restored, HasBufferRange, HasCodedRange, HasHandRange, HasStateRange, HasVolumeRange, told_byte, area_bytes, buffer_bytes, coded_bytes, counts_bytes, frame_bytes, hand_bytes, hardware_bytes, mounted_bytes, outgoing_byte, outgoing_text, rings_bytes, saved_bytes, stage_bytes, state_bytes, volume_bytes, words_bytes, written_bytes};
+ghost use Rattle.mscp_port.specs.Common.{array_vec_len, flag_byte, AreRings, number_or_none, stage_word, restored, HasBufferRange, HasCodedRange, HasHandRange, HasStateRange, HasVolumeRange, told_byte, area_bytes, buffer_bytes, coded_bytes, counts_bytes, frame_bytes, hand_bytes, hardware_bytes, kind_byte, mounted_bytes, outgoing_byte, outgoing_text, rings_bytes, saved_bytes, stage_bytes, state_bytes, volume_bytes, words_bytes, written_bytes};
 
 use crate::buffers::Buffer;
 use crate::codes::{Coded, bus_byte, coded_task};
 use crate::hardware::Hardware;
-use crate::port::{Outgoing, Port, Words};
+use crate::port::{Outgoing, OutgoingKind, Port, Words};
 use crate::rings::{Rings, Side};
 use crate::stage::Stage;
 use crate::volumes::Volume;
@@ -22,7 +22,7 @@ pub const ROOM: usize = 5416;
 pub(super) const MAGIC: u32 = 0x5043_534D;
 
 /// The version of the format.
-pub(super) const VERSION: u32 = 1;
+pub(super) const VERSION: u32 = 2;
 
 /// Appends whether something is so.
 pub(super) fn put_flag(out: &mut ArrayVec<u8, ROOM>, so: bool)
@@ -245,13 +245,23 @@ pub(super) fn text_of(outgoing: &Option<Outgoing>) -> &[u8]
     }
 }
 
-/// Whether something goes out, and whether that is an end.
+/// The number of what a message is.
+fn kind_byte(kind: OutgoingKind) -> u8
+    ensures { result ≡ kind_byte kind }
+{
+    match kind {
+        OutgoingKind::Attention => 1,
+        OutgoingKind::End => 2,
+        OutgoingKind::UtilitiesEnd => 3,
+    }
+}
+
+/// Whether something goes out, and what that is.
 pub(super) fn outgoing_byte(outgoing: &Option<Outgoing>) -> u8
     ensures { result ≡ outgoing_byte outgoing.now }
 {
     match outgoing {
-        Some(outgoing) if outgoing.is_end => 2,
-        Some(_) => 1,
+        Some(outgoing) => kind_byte(outgoing.kind),
         None => 0,
     }
 }
