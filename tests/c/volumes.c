@@ -242,6 +242,24 @@ static void own_sizes(void)
     expect(51, 0x90, 0);
 }
 
+/* Of a unit without a volume no protection is kept: its host isn't told any, and a volume that comes has its own. */
+static void nothing_to_protect(void)
+{
+    uint8_t packet[68];
+    struct mscp_volume volume;
+    build(&RQDX3);
+    initialise(0x1000, 0, 0, 0);
+    is("it is protected", mscp_port_protect(machine.port, 1, 1), MSCP_DONE);
+    is("what is there", mscp_port_volume(machine.port, 1, &volume) == MSCP_DONE && !volume.is_protected, 1);
+    send_command(1, 1, MSCP_GET_UNIT_STATUS, 0, 0, 0);
+    run(MOST_ACTIONS);
+    is("its end", take(packet) && number(packet + 14, 2) == 0x0023, 1);
+    is("its flags", number(packet + 18, 2), 0x8000);
+    is("a volume", insert(1, 0), MSCP_DONE);
+    is("it is protected", mscp_port_protect(machine.port, 1, 1), MSCP_DONE);
+    is("what is there", mscp_port_volume(machine.port, 1, &volume) == MSCP_DONE && volume.is_protected, 1);
+}
+
 /* A volume that comes is told by an attention message without credits, if the host wants it. */
 static void attention(void)
 {
@@ -348,6 +366,7 @@ int main(void)
     volumes_change(2);
     volume_changes_amid_a_block(false);
     volume_changes_amid_a_block(true);
+    nothing_to_protect();
     attention();
     no_stale_attention();
     silent_hosts();

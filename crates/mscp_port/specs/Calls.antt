@@ -1,5 +1,5 @@
 -- What is called of a port, and what becomes of it.
-use Rattle.std.specs.Prelude.{◌≡◌, ◌≢◌, ◌≤◌, ◌<◌, ◌==◌, ◌+◌, ◌-◌, ◌%◌, ◌/◌, ◌⊎◌, ◌↔◌, ℕ, Bool, true, false, nat_lt, if◌then◌else◌, List, [], length, Contains, IfSome, IsErr, IsOk, OnErr, Result, Option, None, Some, Err}
+use Rattle.std.specs.Prelude.{◌≡◌, ◌≢◌, ◌≤◌, ◌<◌, ◌==◌, ◌+◌, ◌-◌, ◌%◌, ◌/◌, ◌⊎◌, ◌↔◌, ℕ, Bool, true, false, nat_lt, if◌then◌else◌, List, [], length, Contains, IfSome, IsErr, IsOk, OnErr, Result, Option, None, Some}
 use Rattle.mscp_drive.specs.declared.connection.Connection.TheVariants.{First}
 use Rattle.mscp_drive.specs.Both.{of}
 use Rattle.mscp_controller.specs.Holdings.{after_message, Holdings, waiting_on}

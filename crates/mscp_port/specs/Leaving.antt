@@ -1,6 +1,6 @@
 -- What a message says as it leaves for the host: an end as the controller made it, with the fields that are the port's
 -- to tell, and news of a volume (manual, "End Messages", "Attention Messages", "Unit Flags").
-use Rattle.std.specs.Prelude.{ℕ, ◌+◌, ◌*◌, ◌/◌, ◌%◌, ◌==◌, ◌&&◌, ◌||◌, ◌++◌, ◌∷◌, [], not, Bool, nat_lt, if◌then◌else◌, false, List, length, slice_get, slice_set, option_map, Option, None, Some}
+use Rattle.std.specs.Prelude.{ℕ, ◌+◌, ◌*◌, ◌/◌, ◌%◌, ◌==◌, ◌&&◌, ◌||◌, ◌++◌, ◌∷◌, [], not, Bool, nat_lt, if◌then◌else◌, List, length, slice_get, slice_set, option_map, Option, None, Some}
 use Rattle.byteorder.specs.Endian.{little_bytes}
 use Rattle.mscp_drive.specs.Shape.{Shape}
 use Rattle.mscp_drive.specs.UnitList.{unit_found}

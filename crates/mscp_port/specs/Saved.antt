@@ -1,6 +1,6 @@
 -- The bytes that a port is saved as. All numbers are little-endian, and what has no number of its own is written as
 -- one.
-use Rattle.std.specs.Prelude.{◌≡◌, ℕ, ◌+◌, ◌*◌, ◌^◌, ◌≤◌, ◌<◌, if◌then◌else◌, List, [], ◌∷◌, ◌++◌, length, flat_map, All, Option, Some, None, IfSome}
+use Rattle.std.specs.Prelude.{◌≡◌, ℕ, ◌+◌, ◌*◌, ◌^◌, ◌≤◌, ◌<◌, List, [], ◌∷◌, ◌++◌, length, flat_map, All, Option, Some, None, IfSome}
 use Rattle.byteorder.specs.Endian.{little_bytes}
 use Rattle.mscp_saved.specs.Saved.{flag_byte, saved_bytes as controller_bytes}
 use Rattle.mscp_port.specs.declared.buffers.Buffer.{Buffer}

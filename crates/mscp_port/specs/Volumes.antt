@@ -90,9 +90,9 @@ abbrev pub volumes_with : (Volume → Volume) → Option ℕ → List Volume →
 volumes_with becomes None volumes = volumes
 volumes_with becomes (Some place) volumes = slice_set volumes place (becomes (volume_at volumes place))
 
--- nothing may be written on it, or something may again
+-- nothing may be written on it, or something may again, if it is there
 abbrev pub volume_protected : Bool → Volume → Volume
-volume_protected protected v = record v { is_protected = protected }
+volume_protected protected v = record v { is_protected = if v.is_there then protected else false }
 
 -- whether this may be put into a unit, if there is such a unit: it has blocks, and no more than the unit
 abbrev pub medium_answer : Medium → Option Shape → Result (Unit {0}) VolumeFault

@@ -1,5 +1,5 @@
 -- What a port touches after a whole history was put into its host's memory.
-use Rattle.mscp_port.proofs.Common.{◌≢◌, ◌⊎◌, ℕ, Bool, List, [], ◌∷◌, length, Option, None, Some, IfSome, refl, sym, subst, arith, Ok, Err, Holdings, Action, Hardware, Port, Stage, Hears, IsMadeOf, Ticks, Answered, Becomes, Call, NamesArea, words, reads, WriteIp, ReadIp, WriteSa, Next, PutAside, WasRead, Went, LookAgain, Tick, Protect, VolumeCame, VolumeWent, AsksFirst, IsPut, IsPutForData, IsPutForRings, asked, reads_at, with_read, Drops, IsAsNew, IsInRingsOrPacket, IsInSomeBuffer, IsWithin, Leaves}
+use Rattle.mscp_port.proofs.Common.{◌≢◌, ◌⊎◌, ℕ, Bool, List, [], ◌∷◌, Option, None, Some, IfSome, refl, sym, subst, arith, Ok, Err, Holdings, Action, Hardware, Port, Stage, Hears, IsMadeOf, Ticks, Answered, Becomes, Call, NamesArea, words, reads, WriteIp, ReadIp, WriteSa, Next, PutAside, WasRead, Went, LookAgain, Tick, Protect, VolumeCame, VolumeWent, AsksFirst, IsPut, IsPutForData, IsPutForRings, asked, reads_at, with_read, Drops, IsAsNew, IsInRingsOrPacket, IsInSomeBuffer, IsWithin, Leaves}
 use Rattle.mscp_port.specs.declared.action.Action.TheVariants as actions
 use Rattle.mscp_port.proofs.Among.{none_among}
 use Rattle.mscp_port.proofs.Naming.Knowing.{Knows}

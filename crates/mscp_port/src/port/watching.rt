@@ -48,13 +48,15 @@ impl<K: Picker> Port<K> {
     }
 
     /// Nothing may be written on the volume of a unit from now on, or something may again. It stays the same volume to its host.
+    /// Of a unit without a volume nothing is kept.
     pub fn protect(&mut self, unit: u16, is_protected: bool) -> Result<(), NoUnit>
         ensures { Changes (volume_protected is_protected) unit self.old result self.new }
     {
         let Some(place) = self.place_of(unit) else {
             return Err(NoUnit);
         };
-        self.volumes[place].is_protected = is_protected;
+        let volume = &mut self.volumes[place];
+        volume.is_protected = volume.is_there && is_protected;
         Ok(())
     }
 
