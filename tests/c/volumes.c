@@ -260,6 +260,75 @@ static void nothing_to_protect(void)
     is("what is there", mscp_port_volume(machine.port, 1, &volume) == MSCP_DONE && volume.is_protected, 1);
 }
 
+/* ---- ends of ONLINEs that wait */
+
+/* Unit 0 is online, and two ends stand in front of what comes next: one in the only slot for ends, and one that goes out. */
+static void hold_ends_back(void)
+{
+    build(&RQDX3);
+    initialise(0x1000, 0, 3, 0);
+    send_command(0, 1, MSCP_ONLINE, 0, 0, 0);
+    expect(1, 0x89, 0);
+    send_command(0, 2, 19, 0, 0, 0);
+    run(MOST_ACTIONS);
+    send_command(0, 3, MSCP_GET_UNIT_STATUS, 0, 0, 0);
+    run(MOST_ACTIONS);
+}
+
+/* A volume of so many blocks comes into unit 0, and the host brings it online. */
+static void bring_online(uint32_t size, uint32_t reference)
+{
+    const struct mscp_medium medium = {.size = size, .media = 0x25658000 + size};
+    if (size != 0)
+        is("a volume", mscp_port_volume_came(machine.port, 0, &medium), MSCP_DONE);
+    send_command(0, reference, MSCP_ONLINE, 0, 0, 0);
+    run(MOST_ACTIONS);
+}
+
+static void online_told(uint32_t reference, uint16_t status, uint32_t size, uint32_t media)
+{
+    uint8_t packet[68];
+    mscp_port_look_again(machine.port);
+    run(MOST_ACTIONS);
+    is("its end", take(packet) && number(packet + 4, 4) == reference && packet[12] == 0x89, 1);
+    is("its status", number(packet + 14, 2), status);
+    is("its blocks", number(packet + 40, 4), size);
+    is("its media", number(packet + 32, 4), media);
+}
+
+/* Each ONLINE tells whether it brought its unit online, and which volume, as that was when it ended: also if others end before it
+ * leaves, or another volume comes. */
+static void online_as_decided(bool saves)
+{
+    hold_ends_back();
+    machine.saves = saves;
+    bring_online(0, 4);
+    bring_online(1000, 5);
+    bring_online(0, 6);
+    bring_online(500, 7);
+    is("another comes", insert(0, 0), MSCP_DONE);
+    is("the one in the slot", end_of(2, 0x93), 0);
+    is("the one that went out", end_of(3, 0x83), 0);
+    online_told(4, 0x0100, 311200, 0x25644036);
+    online_told(5, 0, 1000, 0x25658000 + 1000);
+    online_told(6, 0x0100, 1000, 0x25658000 + 1000);
+    online_told(7, 0, 500, 0x25658000 + 500);
+    send_command(0, 8, MSCP_READ, 512, 0, 0x4000);
+    expect(8, 0xA1, 0x0004);
+}
+
+/* An ONLINE that is about to end as its volume goes isn't told Success: its step is taken anew. */
+static void online_amid_a_change(void)
+{
+    build(&RQDX3);
+    initialise(0x1000, 0, 0, 0);
+    send_command(0, 1, MSCP_ONLINE, 0, 0, 0);
+    until(MSCP_ACTION_PAUSE);
+    is("it goes", mscp_port_volume_went(machine.port, 0), MSCP_DONE);
+    is("it went", mscp_port_went(machine.port, MSCP_OUTCOME_DONE, 0), MSCP_UNASKED);
+    expect(1, 0x89, 0x0023);
+}
+
 /* A volume that comes is told by an attention message without credits, if the host wants it. */
 static void attention(void)
 {
@@ -366,6 +435,9 @@ int main(void)
     volumes_change(2);
     volume_changes_amid_a_block(false);
     volume_changes_amid_a_block(true);
+    online_as_decided(false);
+    online_as_decided(true);
+    online_amid_a_change();
     nothing_to_protect();
     attention();
     no_stale_attention();

@@ -52,8 +52,8 @@ pub use Rattle.mscp_port.specs.Outgoings.{IsNews, KeepsSaying, LooksForOut, Says
 pub use Rattle.mscp_port.specs.Packets.{credits_told}
 pub use Rattle.mscp_port.specs.Places.{AsksFirst, IsPut, IsPutForData, IsPutForRings, PutsBuffer, PutsPacket, asked, read_from, reads_at, with_read}
 pub use Rattle.mscp_port.specs.Ports.{Drops, IsAsNew, IsDue, IsInRingsOrPacket, IsInSomeBuffer, IsOfBlock, IsReadingSlot, IsReadingText, IsWithin, Leaves, in_hand, asks_blocks}
-pub use Rattle.mscp_port.specs.Restored.{IsFramed, area_in, buffer_count, buffer_in, buffer_place, buffers_in, coded_in, controller_in, controller_place, frame_fault, front_in, held_in, is_framed, outgoing_in, over, port_in, restored, restored_unless, rings_if, text_count, text_in, told_front, unless, volume_in, volumes_in, whose}
-pub use Rattle.mscp_port.specs.Saved.{HasBufferRange, HasRange, HasVolumeRange, buffer_bytes, coded_bytes, frame_bytes, front_bytes, hand_bytes, hardware_bytes, length_before, length_of, outgoing_byte, outgoing_text, rings_bytes, rings_or_none, saved_bytes, stage_bytes, state_bytes, volume_bytes, words_bytes, written_bytes}
+pub use Rattle.mscp_port.specs.Restored.{IsFramed, all_brought_in, area_in, brought_count, brought_in, brought_place, buffer_count, buffer_in, buffer_place, buffers_in, coded_in, controller_in, controller_place, frame_fault, front_in, held_in, is_framed, outgoing_in, over, port_in, restored, restored_unless, rings_if, text_count, text_in, told_front, unless, volume_in, volumes_in, whose}
+pub use Rattle.mscp_port.specs.Saved.{HasBroughtRange, HasBufferRange, HasRange, HasVolumeRange, brought_bytes, buffer_bytes, coded_bytes, frame_bytes, front_bytes, hand_bytes, hardware_bytes, length_before, length_of, outgoing_byte, outgoing_text, rings_bytes, rings_or_none, saved_bytes, stage_bytes, state_bytes, volume_bytes, words_bytes, written_bytes}
 pub use Rattle.mscp_port.specs.Seen.{SeesText, Sends, answered_to, changes_at, kept_of_sent}
 pub use Rattle.mscp_port.specs.Sizes.{clear_size, text_size}
 pub use Rattle.mscp_port.specs.Slots.{is_owned, text_of}
@@ -62,6 +62,7 @@ pub use Rattle.mscp_port.specs.Wanted.{IsWanted, given_in}
 pub use Rattle.mscp_port.specs.declared.action.Action.{Action}
 pub use Rattle.mscp_port.specs.declared.action.Outcome.{Outcome}
 pub use Rattle.mscp_port.specs.declared.action.Unasked.{Unasked}
+pub use Rattle.mscp_port.specs.declared.brought.Brought.{Brought}
 pub use Rattle.mscp_port.specs.declared.buffers.Buffer.{Buffer}
 pub use Rattle.mscp_port.specs.declared.hardware.Bus.{Bus}
 pub use Rattle.mscp_port.specs.declared.hardware.Hardware.{Hardware}

@@ -1,11 +1,12 @@
 -- What comes of bytes that a port is to be made of: the port that they say, or why there is none.
-use Rattle.std.specs.Prelude.{ℕ, ◌+◌, ◌-◌, ◌*◌, ◌/◌, ◌%◌, ◌^◌, ◌≤◌, ◌<◌, Bool, not, ◌&&◌, nat_eq, nat_le, if◌then◌else◌, List, [], length, take, drop, slice_index, Option, Some, None, Result, Ok, Err}
+use Rattle.std.specs.Prelude.{ℕ, ◌+◌, ◌-◌, ◌*◌, ◌^◌, ◌≤◌, ◌<◌, Bool, not, ◌&&◌, nat_eq, nat_le, if◌then◌else◌, List, [], length, take, drop, slice_index, Option, Some, None, Result, Ok, Err}
 use Rattle.std.specs.Str.{bytes_eq}
 use Rattle.mscp_packet.specs.Number.{num}
 use Rattle.mscp_controller.specs.Holdings.{Holdings}
 use Rattle.mscp_saved.specs.declared.fault.RestoreFault.{RestoreFault as ControllerFault}
 use Rattle.mscp_saved.specs.Read.{held_in as controller_said, parts_in}
 use Rattle.mscp_saved.specs.Restored.{IsSaved as IsSavedController, restored as controller_restored}
+use Rattle.mscp_port.specs.declared.brought.Brought.{Brought}
 use Rattle.mscp_port.specs.declared.buffers.Buffer.{Buffer}
 use Rattle.mscp_port.specs.declared.codes.Coded.{Coded}
 use Rattle.mscp_port.specs.declared.hardware.Hardware.{Hardware}
@@ -19,7 +20,7 @@ use Rattle.mscp_port.specs.declared.port.restoring.RestoreFault.TheVariants as f
 use Rattle.mscp_port.specs.declared.volumes.Volume.{Volume}
 use Rattle.mscp_port.specs.Areas.{Rings, rings_of}
 use Rattle.mscp_port.specs.Codes.{bus_in, has_size, optional, stage_in, task_in}
-use Rattle.mscp_port.specs.Saved.{buffer_size, front_bytes, front_size, head_size, length_before, magic, saved_bytes, version, volume_size}
+use Rattle.mscp_port.specs.Saved.{brought_size, buffer_size, front_bytes, front_size, head_size, length_before, magic, saved_bytes, version, volume_size}
 
 -- ---- what bytes say. Of bytes that are nobody's something is said, too
 
@@ -70,8 +71,7 @@ volume_in b = record {
   size = num b 9 4;
   media = num b 13 4;
   mounted = optional (slice_index b 17) (num b 18 4);
-  is_news = nat_eq (slice_index b 3 % 2) 1;
-  is_fresh = nat_eq (slice_index b 3 / 2) 1;
+  is_news = nat_eq (slice_index b 3) 1;
 }
 
 -- what is kept of a command, in the bytes of that
@@ -85,21 +85,37 @@ buffer_in b = record {
   changes = num b 16 4;
 }
 
+-- what the end of an ONLINE tells, in the bytes of that
+abbrev pub brought_in : List ℕ → Brought
+brought_in b = record {
+  reference = num b 0 4;
+  is_fresh = nat_eq (slice_index b 4) 1;
+  size = num b 5 4;
+  media = num b 9 4;
+}
+
 -- ---- where the parts are
 
--- how long what goes out is, and of how many commands something is kept
+-- how long what goes out is, of how many commands something is kept, and of how many ends of ONLINEs
 abbrev pub text_count : List ℕ → ℕ
 text_count b = slice_index b 70
 
 abbrev pub buffer_count : List ℕ → ℕ
 buffer_count b = slice_index b 71
 
--- the volumes are behind the head, what goes out behind them, and then what is kept of commands, and the controller
+abbrev pub brought_count : List ℕ → ℕ
+brought_count b = slice_index b 72
+
+-- the volumes are behind the head, what goes out behind them, and then what is kept of commands, what ends of ONLINEs
+-- tell, and the controller
 abbrev pub buffer_place : List ℕ → ℕ
 buffer_place b = front_size + text_count b
 
+abbrev pub brought_place : List ℕ → ℕ
+brought_place b = buffer_place b + buffer_size * buffer_count b
+
 abbrev pub controller_place : List ℕ → ℕ
-controller_place b = buffer_place b + buffer_size * buffer_count b
+controller_place b = brought_place b + brought_size * brought_count b
 
 abbrev pub volumes_in : List ℕ → List Volume
 volumes_in b = parts_in volume_in volume_size 16 (drop head_size b)
@@ -109,6 +125,9 @@ text_in b = take (text_count b) (drop front_size b)
 
 abbrev pub buffers_in : List ℕ → List Buffer
 buffers_in b = parts_in buffer_in buffer_size (buffer_count b) (drop (buffer_place b) b)
+
+abbrev pub all_brought_in : List ℕ → List Brought
+all_brought_in b = parts_in brought_in brought_size (brought_count b) (drop (brought_place b) b)
 
 -- all that is said of a port over this controller
 abbrev pub port_in : {K : Type 0} → List ℕ → Holdings K → Port K
@@ -129,6 +148,7 @@ port_in b h = record {
   is_stalled = nat_eq (slice_index b 21) 1;
   is_full = nat_eq (slice_index b 22) 1;
   buffers = record { items = buffers_in b };
+  brought = record { items = all_brought_in b };
   volumes = volumes_in b;
   flags = num b 23 2;
   timeout = num b 25 2;
@@ -159,14 +179,16 @@ abbrev pub is_framed : List ℕ → Bool
 is_framed b =
     nat_le front_size (length b)
     && (nat_eq (num b 8 4) (length b)
-    && (nat_le (text_count b) 48 && (nat_le (buffer_count b) 64 && nat_le (controller_place b) (length b))))
+    && (nat_le (text_count b) 48 && (nat_le (buffer_count b) 64 && (nat_le (brought_count b) 64
+    && nat_le (controller_place b) (length b)))))
 
 -- the same, as facts
 pub record IsFramed (b : List ℕ) : Type 0 where
-  pub front : 424 ≤ length b
+  pub front : 425 ≤ length b
   pub told : length b < 2 ^ 32
   pub text : text_count b ≤ 48
   pub buffers : buffer_count b ≤ 64
+  pub brought : brought_count b ≤ 64
   pub parts : controller_place b ≤ length b
 
 -- why no parts are read: the first that holds
