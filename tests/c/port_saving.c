@@ -80,7 +80,7 @@ static const uint8_t HEAD[73] = {
     1, 0x84, 0x0E, 0, 0, 1, 0, 0, 0, 1, 0, 0, 0,
     /* a transfer: of which command and which block is the controller's */
     12, 0, 0, 0, 0, 0, 0, 0, 0, 0, 0, 0, 0, 0, 0, 0, 0,
-    /* nothing goes out, something is kept of one command, and no end of an ONLINE waits */
+    /* nothing goes out, something is kept of one command, and no end of an ONLINE or a SET UNIT CHARACTERISTICS waits */
     0, 0, 1, 0,
 };
 

@@ -260,7 +260,7 @@ static void nothing_to_protect(void)
     is("what is there", mscp_port_volume(machine.port, 1, &volume) == MSCP_DONE && volume.is_protected, 1);
 }
 
-/* ---- ends of ONLINEs that wait */
+/* ---- ends that wait */
 
 /* Unit 0 is online, and two ends stand in front of what comes next: one in the only slot for ends, and one that goes out. */
 static void hold_ends_back(void)
@@ -285,19 +285,19 @@ static void bring_online(uint32_t size, uint32_t reference)
     run(MOST_ACTIONS);
 }
 
-static void online_told(uint32_t reference, uint16_t status, uint32_t size, uint32_t media)
+static void told(uint32_t reference, uint8_t code, uint16_t status, uint32_t size, uint32_t media)
 {
     uint8_t packet[68];
     mscp_port_look_again(machine.port);
     run(MOST_ACTIONS);
-    is("its end", take(packet) && number(packet + 4, 4) == reference && packet[12] == 0x89, 1);
+    is("its end", take(packet) && number(packet + 4, 4) == reference && packet[12] == code, 1);
     is("its status", number(packet + 14, 2), status);
     is("its blocks", number(packet + 40, 4), size);
     is("its media", number(packet + 32, 4), media);
 }
 
-/* Each ONLINE tells whether it brought its unit online, and which volume, as that was when it ended: also if others end before it
- * leaves, or another volume comes. */
+/* Each ONLINE tells whether it brought its unit online, and which volume, as that was when it ended, and a SET UNIT CHARACTERISTICS
+ * which volume: also if others end before it leaves, or another volume comes. */
 static void online_as_decided(bool saves)
 {
     hold_ends_back();
@@ -306,15 +306,18 @@ static void online_as_decided(bool saves)
     bring_online(1000, 5);
     bring_online(0, 6);
     bring_online(500, 7);
+    send_command(0, 8, MSCP_SET_UNIT_CHARACTERISTICS, 0, 0, 0);
+    run(MOST_ACTIONS);
     is("another comes", insert(0, 0), MSCP_DONE);
     is("the one in the slot", end_of(2, 0x93), 0);
     is("the one that went out", end_of(3, 0x83), 0);
-    online_told(4, 0x0100, 311200, 0x25644036);
-    online_told(5, 0, 1000, 0x25658000 + 1000);
-    online_told(6, 0x0100, 1000, 0x25658000 + 1000);
-    online_told(7, 0, 500, 0x25658000 + 500);
-    send_command(0, 8, MSCP_READ, 512, 0, 0x4000);
-    expect(8, 0xA1, 0x0004);
+    told(4, 0x89, 0x0100, 311200, 0x25644036);
+    told(5, 0x89, 0, 1000, 0x25658000 + 1000);
+    told(6, 0x89, 0x0100, 1000, 0x25658000 + 1000);
+    told(7, 0x89, 0, 500, 0x25658000 + 500);
+    told(8, 0x8A, 0, 500, 0x25658000 + 500);
+    send_command(0, 9, MSCP_READ, 512, 0, 0x4000);
+    expect(9, 0xA1, 0x0004);
 }
 
 /* An ONLINE that is about to end as its volume goes isn't told Success: its step is taken anew. */

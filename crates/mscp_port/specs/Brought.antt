@@ -1,5 +1,5 @@
--- What ends of ONLINEs tell that wait to leave: each leaves as it was decided.
-use Rattle.std.specs.Prelude.{ℕ, ◌==◌, ◌++◌, ◌∷◌, [], not, Bool, false, nat_eq, nat_lt, List, length, filter, find, if◌then◌else◌, Option, None, Some}
+-- What ends of ONLINEs and SET UNIT CHARACTERISTICS tell that wait to leave: each leaves as it was decided.
+use Rattle.std.specs.Prelude.{ℕ, ◌==◌, ◌||◌, ◌++◌, ◌∷◌, [], not, Bool, false, nat_eq, nat_lt, List, length, filter, find, if◌then◌else◌, Option, None, Some}
 use Rattle.mscp_port.specs.declared.brought.Brought.{Brought}
 use Rattle.mscp_port.specs.declared.buffers.Buffer.{Buffer}
 use Rattle.mscp_port.specs.declared.volumes.Volume.{Volume}
@@ -25,7 +25,7 @@ abbrev pub is_fresh : Option Brought → Bool
 is_fresh None = false
 is_fresh (Some b) = b.is_fresh
 
--- what the ONLINE tells of whose message this is kept, as it ends with Success while its unit has this volume: whether
+-- what the command tells of whose message this is kept, as it ends with Success while its unit has this volume: whether
 -- the unit wasn't online yet with the volume that was there when it came, and the volume
 abbrev pub brought_by : Buffer → Volume → Brought
 brought_by b v = record {
@@ -36,10 +36,11 @@ brought_by b v = record {
 }
 
 -- the ends that wait, once a command ended of whose message this is kept, to a unit with this volume: an ONLINE (0x89)
--- is one more
+-- or a SET UNIT CHARACTERISTICS (0x8A) is one more
 abbrev pub brought_with : ℕ → Option Buffer → Volume → List Brought → List Brought
 brought_with code None v all = all
-brought_with code (Some b) v all = if code == 0x89 then brought_beside (brought_by b v) all else all
+brought_with code (Some b) v all =
+    if code == 0x89 || code == 0x8A then brought_beside (brought_by b v) all else all
 
 -- to the unit at a place
 abbrev pub brought_heeded : ℕ → Option Buffer → Option ℕ → List Volume → List Brought → List Brought

@@ -41,7 +41,8 @@ status_told code status v fresh =
     else if status == 0x0100 && code == 0x89 && fresh then 0
     else status
 
--- the media and the size that the Success of an ONLINE tells are those of the volume that it was decided with
+-- the media and the size that the Success of an ONLINE or a SET UNIT CHARACTERISTICS tells are those of the volume that
+-- it was decided with
 abbrev pub online_with : ℕ → EndBody → Option Brought → EndBody
 online_with status (bodies.Online id media size serial) (Some b) =
     if status % 32 == 0 then bodies.Online id b.media b.size serial else bodies.Online id media size serial

@@ -128,7 +128,7 @@ volumes_after units buffers via None volumes = volumes
 volumes_after units buffers via (Some e) volumes =
     volumes_heeded e.code (kept_of via e.reference buffers) (place_heeded units e) volumes
 
--- and what ends of ONLINEs tell
+-- and what ends that wait tell
 abbrev pub brought_after : List Shape → List Buffer → Connection → Option End → List Volume → List Brought
     → List Brought
 brought_after units buffers via None volumes all = all

@@ -45,7 +45,7 @@ pub record TakesEnd {K : Type 0} (old new : Port K) : Type 0 where
   pub nothing : old.outgoing ≡ None
   pub out : (e : End) × (oldest_end old ≡ Some e)
       × (new.outgoing ≡ Some (record { bytes = record { items = told_end old e }; kind = kinds.End }))
-  -- what it tells, if it is an ONLINE's, is forgotten
+  -- what it tells, if it is kept, is forgotten
   pub brought : IfSome (oldest_end old) (λ e. new.brought.items ≡ without_brought e.reference old.brought.items)
   pub controller : MayBegin (after_take First old.controller) new.controller
   pub stalled : new.is_stalled ≡ false

@@ -85,7 +85,7 @@ buffer_in b = record {
   changes = num b 16 4;
 }
 
--- what the end of an ONLINE tells, in the bytes of that
+-- what an end that waits tells, in the bytes of that
 abbrev pub brought_in : List ℕ → Brought
 brought_in b = record {
   reference = num b 0 4;
@@ -96,7 +96,7 @@ brought_in b = record {
 
 -- ---- where the parts are
 
--- how long what goes out is, of how many commands something is kept, and of how many ends of ONLINEs
+-- how long what goes out is, of how many commands something is kept, and of how many ends that wait
 abbrev pub text_count : List ℕ → ℕ
 text_count b = slice_index b 70
 
@@ -106,7 +106,7 @@ buffer_count b = slice_index b 71
 abbrev pub brought_count : List ℕ → ℕ
 brought_count b = slice_index b 72
 
--- the volumes are behind the head, what goes out behind them, and then what is kept of commands, what ends of ONLINEs
+-- the volumes are behind the head, what goes out behind them, and then what is kept of commands, what ends that wait
 -- tell, and the controller
 abbrev pub buffer_place : List ℕ → ℕ
 buffer_place b = front_size + text_count b

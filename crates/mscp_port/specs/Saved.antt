@@ -19,7 +19,7 @@ use Rattle.mscp_port.specs.Codes.{IsTask, bus_byte, coded_task, number_or_none, 
 
 -- ---- sizes
 
--- the head, the volume of a unit, what is kept of a command, and what the end of an ONLINE tells take so many bytes
+-- the head, the volume of a unit, what is kept of a command, and what an end that waits tells take so many bytes
 abbrev pub head_size : ℕ
 head_size = 73
 
@@ -107,7 +107,7 @@ abbrev pub outgoing_text : Option Outgoing → List ℕ
 outgoing_text None = []
 outgoing_text (Some o) = o.bytes.items
 
--- how long that is, of how many commands something is kept, and of how many ends of ONLINEs
+-- how long that is, of how many commands something is kept, and of how many ends that wait
 abbrev pub lengths_bytes : {K : Type 0} → Port K → List ℕ
 lengths_bytes p =
     outgoing_byte p.outgoing ∷ length (outgoing_text p.outgoing) ∷ length p.buffers.items ∷ length p.brought.items ∷ []
@@ -133,7 +133,7 @@ buffer_bytes b =
     ++ little_bytes 2 b.flags
     ++ little_bytes 4 b.changes
 
--- what the end of an ONLINE tells
+-- what an end that waits tells
 abbrev pub brought_bytes : Brought → List ℕ
 brought_bytes b =
     little_bytes 4 b.reference ++ (flag_byte b.is_fresh ∷ []) ++ little_bytes 4 b.size ++ little_bytes 4 b.media
@@ -169,7 +169,7 @@ abbrev pub head_bytes : {K : Type 0} → ℕ → Port K → List ℕ
 head_bytes total p = frame_bytes total ++ state_bytes p ++ hand_bytes p
 
 -- what is in front of the controller, where all is so long: the volumes in the order of the units, what goes out, what
--- is kept of commands, and what ends of ONLINEs tell
+-- is kept of commands, and what ends that wait tell
 abbrev pub front_bytes : {K : Type 0} → ℕ → Port K → List ℕ
 front_bytes total p =
     head_bytes total p
@@ -178,7 +178,7 @@ front_bytes total p =
     ++ flat_map buffer_bytes p.buffers.items
     ++ flat_map brought_bytes p.brought.items
 
--- all of a port: the volumes in the order of the units, what goes out, what is kept of commands, what ends of ONLINEs
+-- all of a port: the volumes in the order of the units, what goes out, what is kept of commands, what ends that wait
 -- tell, and the controller
 abbrev pub saved_bytes : {K : Type 0} → ℕ → Port K → List ℕ
 saved_bytes picker p =
@@ -207,7 +207,7 @@ pub record HasBufferRange (b : Buffer) : Type 0 where
   pub flags : b.flags < 2 ^ 16
   pub changes : b.changes < 2 ^ 32
 
--- those of what the end of an ONLINE tells
+-- those of what an end that waits tells
 pub record HasBroughtRange (b : Brought) : Type 0 where
   pub reference : b.reference < 2 ^ 32
   pub size : b.size < 2 ^ 32

@@ -1,4 +1,4 @@
-// What ends of ONLINEs tell that wait to leave: each leaves as it was decided.
+// What ends of ONLINEs and SET UNIT CHARACTERISTICS tell that wait to leave: each leaves as it was decided.
 
 ghost use Rattle.std.specs.Prelude.{◌≡◌, length};
 ghost use Rattle.mscp_port.specs.Restored.{brought_in};
@@ -8,7 +8,8 @@ ghost use Rattle.mscp_port.specs.Brought.{brought_beside, brought_of, is_brought
 use arrayvec::ArrayVec;
 use mscp_packet::fields::four_at;
 
-/// What the Success of an ONLINE tells: whether it brought its unit online, and didn't find it so, and the volume.
+/// What the Success of an ONLINE or a SET UNIT CHARACTERISTICS tells: whether the unit wasn't online with the volume, and
+/// the volume.
 #[derive(Clone, Copy, Default)]
 pub(crate) struct Brought {
     pub reference: u32,
@@ -41,7 +42,7 @@ pub(crate) fn find_brought(all: &[Brought], reference: u32) -> Option<Brought>
     first_of(all, reference).copied()
 }
 
-/// What the end of an ONLINE tells, in the bytes of that.
+/// What such an end tells, in the bytes of that.
 pub(crate) fn brought_in(b: &[u8]) -> Brought
     requires { length b.now ≡ 13 }
     ensures { result ≡ brought_in b.now }

@@ -221,12 +221,12 @@ fn news_in(volumes: &[Volume]) -> Option<usize>
     volumes.iter().position(|volume| volume.is_news)
 }
 
-/// What the Success of a command to a unit with this volume tells when it leaves: of an ONLINE whether it brought the unit
-/// online, and the volume.
+/// What the Success of a command to a unit with this volume tells when it leaves: of an ONLINE or a SET UNIT CHARACTERISTICS
+/// the volume, and whether the unit wasn't online with it.
 fn keep_unit(all: &mut ArrayVec<Brought, 64>, volume: &Volume, code: u8, buffer: Option<Buffer>)
     ensures { all.new.items ≡ brought_with code buffer volume.now all.old.items }
 {
-    if let (0x89, Some(buffer)) = (code, buffer) {
+    if let (0x89 | 0x8A, Some(buffer)) = (code, buffer) {
         let brought = Brought {
             reference: buffer.reference,
             is_fresh: volume.mounted != Some(buffer.changes),

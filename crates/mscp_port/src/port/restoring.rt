@@ -26,7 +26,7 @@ use mscp_saved::{part, resume};
 #[derive(Clone, Copy)]
 pub enum RestoreFault {
     /// Fewer bytes than a head and volumes have, or not as many as the head tells, or too few for its parts; or more parts than
-    /// any port has: a text of 48 bytes, 64 commands of which something is kept, and 64 ends of ONLINEs.
+    /// any port has: a text of 48 bytes, 64 commands of which something is kept, and 64 ends that wait.
     Length,
     /// They don't begin with "MSCP".
     Magic,
@@ -274,7 +274,7 @@ fn buffers_of(b: &[u8]) -> ArrayVec<Buffer, 64>
     buffers_in(&b[425 + usize::from(b[70])..], usize::from(b[71]))
 }
 
-/// What ends of ONLINEs tell.
+/// What ends that wait tell.
 fn all_brought_of(b: &[u8]) -> ArrayVec<Brought, 64>
     requires { IsFramed b.now }
     ensures { result.items ≡ all_brought_in b.now }

@@ -15,8 +15,8 @@ use arrayvec::ArrayVec;
 use mscp_packet::fields::{put, put_four, put_two};
 use mscp_queue::Picker;
 
-/// The most bytes that a port is saved as: a head, 16 volumes, a text of 48 bytes, what is kept of 64 commands, what the ends
-/// of 64 ONLINEs tell, and a controller.
+/// The most bytes that a port is saved as: a head, 16 volumes, a text of 48 bytes, what is kept of 64 commands, what 64
+/// ends tell that wait, and a controller.
 pub const ROOM: usize = 6249;
 
 /// "MSCP", as a number.
@@ -223,7 +223,7 @@ pub(super) fn put_buffers(out: &mut ArrayVec<u8, ROOM>, buffers: &[Buffer])
     }
 }
 
-/// Appends what an end of an ONLINE tells.
+/// Appends what an end that waits tells.
 fn put_brought(out: &mut ArrayVec<u8, ROOM>, brought: Brought)
     requires { array_vec_len out.old + 13 ≤ 6249 }
     ensures items { out.new.items ≡ out.old.items ++ brought_bytes brought }
@@ -236,7 +236,7 @@ fn put_brought(out: &mut ArrayVec<u8, ROOM>, brought: Brought)
     put_four(out, brought.media);
 }
 
-/// Appends what ends of ONLINEs tell.
+/// Appends what ends that wait tell.
 pub(super) fn put_all_brought(out: &mut ArrayVec<u8, ROOM>, all: &[Brought])
     requires { array_vec_len out.old + 13 * length all.now ≤ 6249 }
     ensures items { out.new.items ≡ out.old.items ++ flat_map brought_bytes all.now }
