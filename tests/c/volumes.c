@@ -320,6 +320,26 @@ static void online_as_decided(bool saves)
     expect(9, 0xA1, 0x0004);
 }
 
+/* An ONLINE and a SET UNIT CHARACTERISTICS that wait while another volume comes are about that one. A READ that waits isn't made. */
+static void another_while_they_wait(void)
+{
+    build(&RQDX3);
+    initialise(0x1000, 2, 2, 0);
+    send_command(0, 1, MSCP_ONLINE, 0, 0, 0);
+    expect(1, 0x89, 0);
+    send_command(0, 2, MSCP_READ, 8 * MSCP_BLOCK, 0, 0x4000);
+    send_command(0, 3, MSCP_ONLINE, 0, 0, 0);
+    send_command(0, 4, MSCP_SET_UNIT_CHARACTERISTICS, 0, 0, 0);
+    while (machine.transfers < 3)
+        act();
+    is("another comes", insert(0, 0), MSCP_DONE);
+    expect(2, 0xA1, 0x0023);
+    expect(3, 0x89, 0);
+    expect(4, 0x8A, 0);
+    send_command(0, 5, MSCP_READ, MSCP_BLOCK, 3, 0x4000);
+    expect(5, 0xA1, 0);
+}
+
 /* An ONLINE that is about to end as its volume goes isn't told Success: its step is taken anew. */
 static void online_amid_a_change(void)
 {
@@ -440,6 +460,7 @@ int main(void)
     volume_changes_amid_a_block(true);
     online_as_decided(false);
     online_as_decided(true);
+    another_while_they_wait();
     online_amid_a_change();
     nothing_to_protect();
     attention();

@@ -26,11 +26,11 @@ is_fresh None = false
 is_fresh (Some b) = b.is_fresh
 
 -- what the command tells of whose message this is kept, as it ends with Success while its unit has this volume: whether
--- the unit wasn't online yet with the volume that was there when it came, and the volume
+-- the unit wasn't online with it yet, and the volume
 abbrev pub brought_by : Buffer → Volume → Brought
 brought_by b v = record {
   reference = b.reference;
-  is_fresh = not (is_count v.mounted b.changes);
+  is_fresh = not (is_count v.mounted v.changes);
   size = v.size;
   media = v.media;
 }

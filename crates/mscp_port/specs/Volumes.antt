@@ -59,13 +59,9 @@ abbrev pub protected_by : Buffer → Volume → Volume
 protected_by b v =
     if b.modifiers / 4 % 2 == 1 then record v { is_protected_by_host = b.flags / 0x1000 % 2 == 1 } else v
 
--- the unit is online with the volume that was there when the command came. If that volume is the one in it, its host
--- needs no news of it any more
-abbrev pub brought_online : Buffer → Volume → Volume
-brought_online b v = record v {
-  mounted = Some b.changes;
-  is_news = if b.changes == v.changes then false else v.is_news;
-}
+-- the unit is online with the volume that is in it, and its host needs no news of it any more
+abbrev pub brought_online : Volume → Volume
+brought_online v = record v { mounted = Some v.changes; is_news = false }
 
 -- by its endcode: AVAILABLE (0x88) takes the unit offline, ONLINE (0x89) brings it online, and sets the host's
 -- protection, as SET UNIT CHARACTERISTICS (0x8A) does
@@ -73,7 +69,7 @@ abbrev pub volume_heeded : ℕ → Option Buffer → Volume → Volume
 volume_heeded code None v = if code == 0x88 then record v { mounted = None; is_protected_by_host = false } else v
 volume_heeded code (Some b) v =
     if code == 0x88 then record v { mounted = None; is_protected_by_host = false }
-    else if code == 0x89 then protected_by b (brought_online b v)
+    else if code == 0x89 then protected_by b (brought_online v)
     else if code == 0x8A then protected_by b v
     else v
 

@@ -229,7 +229,7 @@ fn keep_unit(all: &mut ArrayVec<Brought, 64>, volume: &Volume, code: u8, buffer:
     if let (0x89 | 0x8A, Some(buffer)) = (code, buffer) {
         let brought = Brought {
             reference: buffer.reference,
-            is_fresh: volume.mounted != Some(buffer.changes),
+            is_fresh: volume.mounted != Some(volume.changes),
             size: volume.size,
             media: volume.media,
         };
@@ -251,8 +251,8 @@ fn heed_unit(volume: &mut Volume, code: u8, buffer: Option<Buffer>)
         }
         (0x89 | 0x8A, Some(buffer)) => {
             if code == 0x89 {
-                volume.mounted = Some(buffer.changes);
-                volume.is_news = volume.is_news && buffer.changes != volume.changes;
+                volume.mounted = Some(volume.changes);
+                volume.is_news = false;
             }
             if buffer.modifiers / SETS_PROTECTION % 2 == 1 {
                 volume.is_protected_by_host = buffer.flags / PROTECTED_BY_HOST % 2 == 1;
