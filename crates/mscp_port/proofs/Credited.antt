@@ -1,5 +1,5 @@
 -- What a host is told of credits over a whole history.
-use Rattle.mscp_port.proofs.Common.{◌≡◌, ◌⊎◌, ◌∙◌, ◌+◌, ◌-◌, ◌∷◌, [], ℕ, Bool, true, false, List, inl, inr, refl, ap, sym, arith, Result, Ok, Err, min-le_left, false≢true, Holdings, Outcome, Unasked, Hardware, Port, Descriptor, Task, WritesOut, Goes, HoldsPacket, IsMadeOf, IsForgotten, IsWritten, Told, disk_credits, ends_in, Answered, Becomes, Call, WriteIp, ReadIp, WriteSa, Next, PutAside, WasRead, Went, LookAgain, Tick, Protect, VolumeCame, VolumeWent}
+use Rattle.mscp_port.proofs.Common.{◌≡◌, ◌⊎◌, ◌∙◌, ◌+◌, ◌∷◌, [], ℕ, Bool, true, false, List, inl, inr, refl, ap, sym, arith, Result, Ok, Err, min-le_left, false≢true, Holdings, Outcome, Unasked, Hardware, Port, Descriptor, Task, WritesOut, Goes, HoldsPacket, IsMadeOf, IsForgotten, IsWritten, Told, disk_credits, ends_in, Answered, Becomes, Call, WriteIp, ReadIp, WriteSa, Next, PutAside, WasRead, Went, LookAgain, Tick, Protect, VolumeCame, VolumeWent}
 use Rattle.mscp_port.specs.declared.action.Outcome.TheVariants as outcomes
 use Rattle.mscp_port.specs.declared.stage.Stage.TheVariants as stages
 use Rattle.mscp_port.specs.declared.task.Task.TheVariants as tasks

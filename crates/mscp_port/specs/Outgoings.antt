@@ -1,5 +1,5 @@
 -- What goes out to the host, and what becomes of it.
-use Rattle.std.specs.Prelude.{◌≡◌, ◌⊎◌, ℕ, ◌+◌, ◌%◌, ◌/◌, ◌==◌, Bool, true, false, if◌then◌else◌, List, slice_get, slice_set, IfSome, IsSomeAnd, Option, None, Some}
+use Rattle.std.specs.Prelude.{◌≡◌, ◌⊎◌, ℕ, ◌+◌, ◌%◌, ◌/◌, ◌==◌, Bool, false, if◌then◌else◌, List, slice_get, slice_set, IfSome, IsSomeAnd, Option, None, Some}
 use Rattle.std.specs.List.{position}
 use Rattle.mscp_drive.specs.Shape.{Shape}
 use Rattle.mscp_packet.specs.Ends.{end_bytes}
