@@ -58,12 +58,12 @@ static void goes_on(void)
 
 /* ---- the bytes of one port, written by hand */
 
-enum { LENGTH = 424 + 20 + 48 + 34 * UNITS + 41 };
+enum { LENGTH = 425 + 20 + 48 + 34 * UNITS + 41 };
 
 /* Its head. */
-static const uint8_t HEAD[72] = {
-    /* "MSCP", version 1, and so many bytes */
-    0x4D, 0x53, 0x43, 0x50, 1, 0, 0, 0, LENGTH & 255, LENGTH >> 8, 0, 0,
+static const uint8_t HEAD[73] = {
+    /* "MSCP", version 2, and so many bytes */
+    0x4D, 0x53, 0x43, 0x50, 2, 0, 0, 0, LENGTH & 255, LENGTH >> 8, 0, 0,
     /* the Q-bus, and model, software and hardware of an RQDX3 */
     1, 19, 3, 1,
     /* 15 credits beside one, of which 1 is untold; a slot of responses and two of commands were given back */
@@ -80,13 +80,13 @@ static const uint8_t HEAD[72] = {
     1, 0x84, 0x0E, 0, 0, 1, 0, 0, 0, 1, 0, 0, 0,
     /* a transfer: of which command and which block is the controller's */
     12, 0, 0, 0, 0, 0, 0, 0, 0, 0, 0, 0, 0, 0, 0, 0, 0,
-    /* nothing goes out, and something is kept of one command */
-    0, 0, 1,
+    /* nothing goes out, something is kept of one command, and no end of an ONLINE or a SET UNIT CHARACTERISTICS waits */
+    0, 0, 1, 0,
 };
 
-/* The volumes of units 0 and 1: one that is there, is no news and freshly online, can't be taken out, and changed once, of 311,200
- * blocks, on media of an RD54; and none. */
-static const uint8_t VOLUMES[44] = {1, 0, 0, 2, 0, 1, 0, 0, 0, 0xA0, 0xBF, 4, 0, 0x36, 0x40, 0x64, 0x25, 1, 1};
+/* The volumes of units 0 and 1: one that is there, is no news, can't be taken out, and changed once, of 311,200 blocks, on media of
+ * an RD54; and none. */
+static const uint8_t VOLUMES[44] = {1, 0, 0, 0, 0, 1, 0, 0, 0, 0xA0, 0xBF, 4, 0, 0x36, 0x40, 0x64, 0x25, 1, 1};
 
 /* What is kept of the READ: its number, address and count, no modifiers, no flags, and the volume that changed once. */
 static const uint8_t BUFFER[20] = {2, 0, 0, 0, 0, 4, 0, 0, 0, 8, 0, 0, 0, 0, 0, 0, 1, 0, 0, 0};
@@ -117,9 +117,9 @@ static void bytes_are_these(void)
     is("the first", is_same_unit(told, &first), 1);
     is("its longest and its credits", limits.longest == 65536 && limits.credits == HOST_CREDITS + 1, 1);
     is("head", memcmp(bytes, HEAD, sizeof HEAD), 0);
-    is("volumes", memcmp(bytes + 72, VOLUMES, sizeof VOLUMES), 0);
-    is("kept of the READ", memcmp(bytes + 424, BUFFER, sizeof BUFFER), 0);
-    is("a controller", memcmp(bytes + 444, "MSCQ", 4), 0);
+    is("volumes", memcmp(bytes + 73, VOLUMES, sizeof VOLUMES), 0);
+    is("kept of the READ", memcmp(bytes + 425, BUFFER, sizeof BUFFER), 0);
+    is("a controller", memcmp(bytes + 445, "MSCQ", 4), 0);
 }
 
 /* What comes of so many of the bytes: a port that is saved as they are, and to which what comes then does no harm; or a
@@ -153,12 +153,12 @@ static void edits(void)
         } edits[3];
         int32_t status;
     } cases[] = {
-        /* a text of 49 bytes, 65 commands, and more of either than there are bytes */
+        /* a text of 49 bytes, 65 commands, 65 ends, and more of each than there are bytes */
         {{{8, 14}}, MSCP_SAVED_LENGTH}, {{{70, 49}}, MSCP_SAVED_LENGTH}, {{{71, 65}}, MSCP_SAVED_LENGTH},
-        {{{71, 13}}, MSCP_SAVED_LENGTH}, {{{3, 0}}, MSCP_SAVED_MAGIC}, {{{4, 2}}, MSCP_SAVED_VERSION},
+        {{{71, 13}}, MSCP_SAVED_LENGTH}, {{{72, 65}}, MSCP_SAVED_LENGTH}, {{{72, 20}}, MSCP_SAVED_LENGTH}, {{{3, 0}}, MSCP_SAVED_MAGIC}, {{{4, 1}}, MSCP_SAVED_VERSION},
         /* a controller that begins elsewhere, isn't one, or has 65 + 1 credits or another picker */
-        {{{71, 0}}, MSCP_SAVED_LENGTH}, {{{444, 0}}, MSCP_SAVED_MAGIC}, {{{456, 65}}, MSCP_SAVED_LIMITS},
-        {{{474, 2}}, MSCP_SAVED_PICKER},
+        {{{71, 0}}, MSCP_SAVED_LENGTH}, {{{445, 0}}, MSCP_SAVED_MAGIC}, {{{457, 65}}, MSCP_SAVED_LIMITS},
+        {{{475, 2}}, MSCP_SAVED_PICKER},
         /* a text of no bytes, of 11, 12, 64 and 65 */
         {{{52, 5}}, MSCP_SAVED_SIZE}, {{{52, 5}, {58, 11}}, MSCP_SAVED_SIZE}, {{{52, 5}, {58, 12}}, MSCP_DONE},
         {{{52, 5}, {58, 64}}, MSCP_DONE}, {{{52, 5}, {58, 65}}, MSCP_SAVED_SIZE},
@@ -168,8 +168,8 @@ static void edits(void)
         /* no bus, no flag, no stage, a word where there is none, no rings, no task, a text where nothing goes out, no flag */
         {{{12, 3}}, MSCP_SAVED_FORM}, {{{20, 2}}, MSCP_SAVED_FORM}, {{{33, 10}}, MSCP_SAVED_FORM},
         {{{34, 1}}, MSCP_SAVED_FORM}, {{{37, 1}}, MSCP_SAVED_FORM}, {{{44, 129}}, MSCP_SAVED_FORM},
-        {{{48, 0}}, MSCP_SAVED_FORM}, {{{52, 13}}, MSCP_SAVED_FORM}, {{{69, 3}}, MSCP_SAVED_FORM},
-        {{{112, 1}}, MSCP_SAVED_FORM},
+        {{{48, 0}}, MSCP_SAVED_FORM}, {{{52, 13}}, MSCP_SAVED_FORM}, {{{69, 4}}, MSCP_SAVED_FORM},
+        {{{113, 1}}, MSCP_SAVED_FORM},
     };
     for (size_t i = 0; i < COUNT(cases); i++) {
         for (unsigned k = 0; k < 3 && cases[i].edits[k].place != 0; k++)
@@ -190,7 +190,7 @@ static void edits(void)
 static void nothing_is_begun(void)
 {
     struct mscp_action action;
-    bytes[487] = bytes[488] = 0;
+    bytes[488] = bytes[489] = 0;
     is("restored", restored(LENGTH), MSCP_DONE);
     machine.port = mscp_port_in_memory(machine.rooms[0], sizeof machine.rooms[0]);
     is("restore", mscp_port_restore(machine.port, bytes, LENGTH), MSCP_DONE);
@@ -221,7 +221,7 @@ static void flipped_bits(void)
  * the port keeps of the host's command is the host's alone. */
 static void other_connection(void)
 {
-    enum { CONTROLLER = 424, RECORD = CONTROLLER + 48 + 34 * UNITS, ALL = RECORD + 41 };
+    enum { CONTROLLER = 425, RECORD = CONTROLLER + 48 + 34 * UNITS, ALL = RECORD + 41 };
     static uint8_t two[ALL];
     size_t length = 0;
     build(&RQDX3);

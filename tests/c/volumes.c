@@ -75,6 +75,27 @@ static void own_answers(void)
     expect(4, 0x80, 0x0801);
 }
 
+/* An end for the diagnostic protocol is of its message's connection, 2, and gives back the credit of that message alone. The
+ * 15 that the host wasn't told yet are told by the disk's ends: 14 by the first, and 1 by the second. */
+static void ends_of_the_utilities(void)
+{
+    uint8_t packet[68];
+    build(&RQDX3);
+    initialise(0x1000, 0, 0, 0);
+    send_command(1, 1, 1, 0, 0, 0);
+    machine.memory[packet_of(false, 0) + 3] = 2;
+    run(MOST_ACTIONS);
+    is("its end", take(packet) && number(packet + 4, 4) == 1 && packet[12] == 0x80, 1);
+    is("one credit, and its connection", number(packet + 2, 2), 0x0201);
+    for (uint32_t i = 0; i < 3; i++) {
+        static const uint16_t told[] = {0x000F, 0x0002, 0x0001};
+        send_command(1, 2 + i, 19, 0, 0, 0);
+        run(MOST_ACTIONS);
+        is("an end of the disk's", take(packet) && number(packet + 4, 4) == 2 + i && packet[12] == 0x93, 1);
+        is("its credits, and the disk's connection", number(packet + 2, 2), told[i]);
+    }
+}
+
 /* Each transfer that can't be made ends with its status. */
 static void refused_transfers(void)
 {
@@ -221,6 +242,116 @@ static void own_sizes(void)
     expect(51, 0x90, 0);
 }
 
+/* Of a unit without a volume no protection is kept: its host isn't told any, and a volume that comes has its own. */
+static void nothing_to_protect(void)
+{
+    uint8_t packet[68];
+    struct mscp_volume volume;
+    build(&RQDX3);
+    initialise(0x1000, 0, 0, 0);
+    is("it is protected", mscp_port_protect(machine.port, 1, 1), MSCP_DONE);
+    is("what is there", mscp_port_volume(machine.port, 1, &volume) == MSCP_DONE && !volume.is_protected, 1);
+    send_command(1, 1, MSCP_GET_UNIT_STATUS, 0, 0, 0);
+    run(MOST_ACTIONS);
+    is("its end", take(packet) && number(packet + 14, 2) == 0x0023, 1);
+    is("its flags", number(packet + 18, 2), 0x8000);
+    is("a volume", insert(1, 0), MSCP_DONE);
+    is("it is protected", mscp_port_protect(machine.port, 1, 1), MSCP_DONE);
+    is("what is there", mscp_port_volume(machine.port, 1, &volume) == MSCP_DONE && volume.is_protected, 1);
+}
+
+/* ---- ends that wait */
+
+/* Unit 0 is online, and two ends stand in front of what comes next: one in the only slot for ends, and one that goes out. */
+static void hold_ends_back(void)
+{
+    build(&RQDX3);
+    initialise(0x1000, 0, 3, 0);
+    send_command(0, 1, MSCP_ONLINE, 0, 0, 0);
+    expect(1, 0x89, 0);
+    send_command(0, 2, 19, 0, 0, 0);
+    run(MOST_ACTIONS);
+    send_command(0, 3, MSCP_GET_UNIT_STATUS, 0, 0, 0);
+    run(MOST_ACTIONS);
+}
+
+/* A volume of so many blocks comes into unit 0, and the host brings it online. */
+static void bring_online(uint32_t size, uint32_t reference)
+{
+    const struct mscp_medium medium = {.size = size, .media = 0x25658000 + size};
+    if (size != 0)
+        is("a volume", mscp_port_volume_came(machine.port, 0, &medium), MSCP_DONE);
+    send_command(0, reference, MSCP_ONLINE, 0, 0, 0);
+    run(MOST_ACTIONS);
+}
+
+static void told(uint32_t reference, uint8_t code, uint16_t status, uint32_t size, uint32_t media)
+{
+    uint8_t packet[68];
+    mscp_port_look_again(machine.port);
+    run(MOST_ACTIONS);
+    is("its end", take(packet) && number(packet + 4, 4) == reference && packet[12] == code, 1);
+    is("its status", number(packet + 14, 2), status);
+    is("its blocks", number(packet + 40, 4), size);
+    is("its media", number(packet + 32, 4), media);
+}
+
+/* Each ONLINE tells whether it brought its unit online, and which volume, as that was when it ended, and a SET UNIT CHARACTERISTICS
+ * which volume: also if others end before it leaves, or another volume comes. */
+static void online_as_decided(bool saves)
+{
+    hold_ends_back();
+    machine.saves = saves;
+    bring_online(0, 4);
+    bring_online(1000, 5);
+    bring_online(0, 6);
+    bring_online(500, 7);
+    send_command(0, 8, MSCP_SET_UNIT_CHARACTERISTICS, 0, 0, 0);
+    run(MOST_ACTIONS);
+    is("another comes", insert(0, 0), MSCP_DONE);
+    is("the one in the slot", end_of(2, 0x93), 0);
+    is("the one that went out", end_of(3, 0x83), 0);
+    told(4, 0x89, 0x0100, 311200, 0x25644036);
+    told(5, 0x89, 0, 1000, 0x25658000 + 1000);
+    told(6, 0x89, 0x0100, 1000, 0x25658000 + 1000);
+    told(7, 0x89, 0, 500, 0x25658000 + 500);
+    told(8, 0x8A, 0, 500, 0x25658000 + 500);
+    send_command(0, 9, MSCP_READ, 512, 0, 0x4000);
+    expect(9, 0xA1, 0x0004);
+}
+
+/* An ONLINE and a SET UNIT CHARACTERISTICS that wait while another volume comes are about that one. A READ that waits isn't made. */
+static void another_while_they_wait(void)
+{
+    build(&RQDX3);
+    initialise(0x1000, 2, 2, 0);
+    send_command(0, 1, MSCP_ONLINE, 0, 0, 0);
+    expect(1, 0x89, 0);
+    send_command(0, 2, MSCP_READ, 8 * MSCP_BLOCK, 0, 0x4000);
+    send_command(0, 3, MSCP_ONLINE, 0, 0, 0);
+    send_command(0, 4, MSCP_SET_UNIT_CHARACTERISTICS, 0, 0, 0);
+    while (machine.transfers < 3)
+        act();
+    is("another comes", insert(0, 0), MSCP_DONE);
+    expect(2, 0xA1, 0x0023);
+    expect(3, 0x89, 0);
+    expect(4, 0x8A, 0);
+    send_command(0, 5, MSCP_READ, MSCP_BLOCK, 3, 0x4000);
+    expect(5, 0xA1, 0);
+}
+
+/* An ONLINE that is about to end as its volume goes isn't told Success: its step is taken anew. */
+static void online_amid_a_change(void)
+{
+    build(&RQDX3);
+    initialise(0x1000, 0, 0, 0);
+    send_command(0, 1, MSCP_ONLINE, 0, 0, 0);
+    until(MSCP_ACTION_PAUSE);
+    is("it goes", mscp_port_volume_went(machine.port, 0), MSCP_DONE);
+    is("it went", mscp_port_went(machine.port, MSCP_OUTCOME_DONE, 0), MSCP_UNASKED);
+    expect(1, 0x89, 0x0023);
+}
+
 /* A volume that comes is told by an attention message without credits, if the host wants it. */
 static void attention(void)
 {
@@ -319,6 +450,7 @@ int main(void)
     polls(true);
     aborts();
     own_answers();
+    ends_of_the_utilities();
     refused_transfers();
     outcomes();
     own_sizes();
@@ -326,6 +458,11 @@ int main(void)
     volumes_change(2);
     volume_changes_amid_a_block(false);
     volume_changes_amid_a_block(true);
+    online_as_decided(false);
+    online_as_decided(true);
+    another_while_they_wait();
+    online_amid_a_change();
+    nothing_to_protect();
     attention();
     no_stale_attention();
     silent_hosts();

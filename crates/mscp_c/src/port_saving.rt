@@ -16,7 +16,7 @@ use mscp_port::{Bus, Hardware, Port, ROOM, restore_fault, saved_settings};
 /// The most bytes that a port is saved as.
 #[unsafe(no_mangle)]
 pub extern "C" fn mscp_port_save_size() -> usize
-    ensures { result ≡ 5416 }
+    ensures { result ≡ 6249 }
 {
     ROOM
 }

@@ -1,5 +1,5 @@
 -- What a host is told of credits over a whole history.
-use Rattle.mscp_port.proofs.Common.{◌≡◌, ◌⊎◌, ◌∙◌, ◌+◌, ◌-◌, ◌∷◌, [], ℕ, Bool, true, false, List, inl, inr, refl, ap, sym, arith, Result, Ok, Err, min-le_left, false≢true, Holdings, Outcome, Unasked, Hardware, Port, Descriptor, Task, WritesOut, Goes, HoldsPacket, IsMadeOf, IsForgotten, IsWritten, Told, ends_in, Answered, Becomes, Call, WriteIp, ReadIp, WriteSa, Next, PutAside, WasRead, Went, LookAgain, Tick, Protect, VolumeCame, VolumeWent, credits_told}
+use Rattle.mscp_port.proofs.Common.{◌≡◌, ◌⊎◌, ◌∙◌, ◌+◌, ◌∷◌, [], ℕ, Bool, true, false, List, inl, inr, refl, ap, sym, arith, Result, Ok, Err, min-le_left, false≢true, Holdings, Outcome, Unasked, Hardware, Port, Descriptor, Task, WritesOut, Goes, HoldsPacket, IsMadeOf, IsForgotten, IsWritten, Told, disk_credits, ends_in, Answered, Becomes, Call, WriteIp, ReadIp, WriteSa, Next, PutAside, WasRead, Went, LookAgain, Tick, Protect, VolumeCame, VolumeWent}
 use Rattle.mscp_port.specs.declared.action.Outcome.TheVariants as outcomes
 use Rattle.mscp_port.specs.declared.stage.Stage.TheVariants as stages
 use Rattle.mscp_port.specs.declared.task.Task.TheVariants as tasks
@@ -90,7 +90,7 @@ all_but_one hardware credits controller start p (call ∷ calls) made a =
 after_written : {K : Type 0} (old new : Port K) (slot : Descriptor) (told ended : ℕ)
     → WritesOut outcomes.Done slot old new
     → told + old.untold ≡ old.more + ended
-    → (told + credits_told old) + new.untold ≡ new.more + (ended + ends_in old.outgoing)
+    → (told + disk_credits old.untold old.outgoing) + new.untold ≡ new.more + (ended + ends_in old.outgoing)
 after_written old new slot told ended w e = search (arith, min-le_left)
 
 pub tells_its_credits : {K : Type 0} (hardware : Hardware) (credits : ℕ) (controller : Holdings K) (start p : Port K)

@@ -1,5 +1,5 @@
 -- What was told of the volumes is what a port knows of them.
-use Rattle.mscp_port.proofs.Common.{subst, ◌≡◌, ◌≢◌, ◌⊎◌, ◌∙◌, ◌<◌, ℕ, Bool, true, false, cond, List, [], ◌∷◌, Option, None, Some, inl, inr, refl, ap, sym, length, get_or, set, arith, Result, Ok, Err, nat_eq, cases_eq, cases_lt, eqb-true, false≢true, get_or-set_other, get_or-set_same, get_or_past, length-set, position-Some, none-some, eq_false, eq_true, Shape, one_block, End, MoveKind, Connection, Holdings, Buffer, Hardware, Port, NoUnit, Stage, Task, Volume, writes, Changes, PutsIn, IsMadeOf, Answered, Becomes, Call, WriteIp, ReadIp, WriteSa, Next, PutAside, WasRead, Went, LookAgain, Tick, Protect, VolumeCame, VolumeWent, is_loaded, is_locked, GoesOnWithBlock, volumes_after, IsNews, LooksForOut, Says, IsAsNew, no_volume, place_in, protected_by, volume_at, volume_changed, volume_heeded, volume_put, volumes_heeded, volumes_with}
+use Rattle.mscp_port.proofs.Common.{subst, ◌≡◌, ◌≢◌, ◌⊎◌, ◌∙◌, ◌<◌, ℕ, Bool, true, false, cond, if◌then◌else◌, List, [], ◌∷◌, Option, None, Some, inl, inr, refl, ap, sym, length, get_or, set, arith, Result, Ok, Err, nat_eq, cases_eq, cases_lt, eqb-true, false≢true, get_or-set_other, get_or-set_same, get_or_past, length-set, position-Some, none-some, eq_false, eq_true, Shape, one_block, End, MoveKind, Connection, Holdings, Buffer, Hardware, Port, NoUnit, Stage, Task, Volume, writes, Changes, PutsIn, IsMadeOf, Answered, Becomes, Call, WriteIp, ReadIp, WriteSa, Next, PutAside, WasRead, Went, LookAgain, Tick, Protect, VolumeCame, VolumeWent, is_loaded, is_locked, GoesOnWithBlock, volumes_after, IsNews, LooksForOut, Says, IsAsNew, no_volume, place_in, protected_by, volume_at, volume_changed, volume_heeded, volume_put, volumes_heeded, volumes_with}
 use Rattle.mscp_port.specs.declared.action.Action.TheVariants as actions
 use Rattle.mscp_port.specs.declared.stage.Stage.TheVariants as stages
 use Rattle.mscp_port.specs.declared.task.Task.TheVariants as tasks
@@ -160,12 +160,15 @@ gone : {K : Type 0} (unit : ℕ) (calls : List Call) (other : ℕ) (result : Res
 gone unit calls other result old new r a =
     search (arith, cases_eq other unit, eq_true, gone_here, eq_false, elsewhere)
 
+if_there : (there protected : Bool) → there ≡ true → (if there then protected else false) ≡ protected
+if_there there protected e = grind (arith, false≢true)
+
 -- its volume is protected, or isn't any more
 guarded_here : (vs : List Volume) (loaded locked protected : Bool) (size place : ℕ)
     → Agrees loaded locked size (volume_at vs place)
     → Agrees loaded protected size (volume_at (volumes_with (volume_protected protected) (Some place) vs) place)
 guarded_here vs loaded locked protected size place a =
-    search (arith, at_set vs place (volume_protected protected (volume_at vs place)), agrees_none)
+    search (arith, at_set vs place (volume_protected protected (volume_at vs place)), agrees_none, if_there)
 
 guarded : {K : Type 0} (unit : ℕ) (calls : List Call) (protected : Bool) (other : ℕ) (result : Result Unit NoUnit)
     (old new : Port K) → Changes (volume_protected protected) other old result new → Agree unit calls old

@@ -12,7 +12,7 @@ mount_of : Volume → Mount
 mount_of v = record { volume = v.mounted; is_protected = v.is_protected_by_host }
 
 heeded_of : (code : ℕ) (kept : Option Buffer) (v : Volume)
-    → mount_of (volume_heeded code kept v) ≡ mount_after code kept (mount_of v)
+    → mount_of (volume_heeded code kept v) ≡ mount_after code kept v.changes (mount_of v)
 unfolding mount_of
 heeded_of code kept v = search (arith, mount_of)
 
@@ -58,15 +58,16 @@ forgotten place old new low f = inr (ap mount_of (f.1.volumes place low))
 
 -- an end of this unit, by what was held before
 ended : (vs : List Volume) (place code : ℕ) (kept : Option Buffer) (m : Mount) → Holds place vs m
-    → Holds place (volumes_heeded code kept (Some place) vs) (mount_after code kept m)
+    → Holds place (volumes_heeded code kept (Some place) vs) (mount_after code kept (volume_at vs place).changes m)
 ended vs place code kept m holds = elim holds [
   | inl past ↦ inl (subst (λ n. n ≤ place) (sym (length-set vs place _)) past)
-  | inr e ↦ set_here vs place _ _ (heeded_of code kept (volume_at vs place) ∙ ap (mount_after code kept) e)
+  | inr e ↦ set_here vs place _ _ (heeded_of code kept (volume_at vs place) ∙ ap (mount_after code kept (volume_at vs place).changes) e)
 ]
 
 ends : {K : Type 0} (place : ℕ) (old new : Port K) (via : Connection) (e : End) (m : Mount) → Ends place old new via e
     → Holds place old.volumes m
-    → Holds place new.volumes (mount_after e.code (kept_of via e.reference old.buffers.items) m)
+    → Holds place new.volumes (mount_after e.code (kept_of via e.reference old.buffers.items)
+    (volume_at old.volumes place).changes m)
 ends place old new via e m end holds = search (arith, ended)
 
 -- an end of another unit

@@ -1,12 +1,12 @@
 -- What is kept once the text of a command was read.
-use Rattle.mscp_port.proofs.Common.{◌≡◌, ◌≢◌, ◌⊎◌, ◌∙◌, ℕ, Bool, true, false, cond, List, [], ◌∷◌, ◌++◌, Option, None, Some, Contains, inl, inr, refl, ap, sym, subst, length, Result, Ok, Err, IsOk, find, nat_eq, nat_lt, option_map, list_any, and_parts, eq-eqb, eqb-true, false≢true, Contains-push_cases, none-some, same_Some, command_of, num, Order, First, same_connection, Record, fresh_record, SendFault, Sent, is_queued, refusal, Holdings, aborting, answered_end, arrives, balance_of, held_unless, outstanding_of, queued, reference_aborted, sent_unless, taken_as, unaborted, with_end, Unasked, Buffer, Port, Descriptor, kept_beside, without_aborted, Hears, WasRead, handed, own_end_of, IsReadingText, SeesText, answered_to, changes_at, kept_of_sent, place_in}
+use Rattle.mscp_port.proofs.Common.{◌≡◌, ◌≢◌, ◌⊎◌, ◌∙◌, ℕ, Bool, true, false, cond, List, [], ◌∷◌, ◌++◌, Option, None, Some, Contains, inl, inr, refl, ap, sym, subst, length, Result, Ok, IsOk, find, nat_eq, nat_lt, option_map, list_any, and_parts, eq-eqb, eqb-true, false≢true, Contains-push_cases, none-some, same_Some, command_of, num, Order, First, same_connection, Record, fresh_record, SendFault, is_queued, refusal, Holdings, aborting, answered_end, arrives, balance_of, held_unless, outstanding_of, queued, reference_aborted, sent_unless, taken_as, unaborted, with_end, Unasked, Buffer, Port, Descriptor, kept_beside, without_aborted, Hears, WasRead, handed, own_end_of, IsReadingText, SeesText, answered_to, changes_at, kept_of_sent, place_in}
 use Rattle.mscp_port.specs.Buffers.{buffer_in}
 use Rattle.mscp_packet.specs.declared.command.Order.TheVariants as orders
 use Rattle.mscp_controller.specs.declared.entry.Sent.TheVariants as sents
 use Rattle.mscp_port.specs.declared.task.Task.TheVariants as tasks
 use Rattle.mscp_port.proofs.Come.{handed_as_read, long_enough, none_waits, taken_number}
 use Rattle.mscp_port.proofs.Kept.{IsFor, aborted_for, beside_for, come_for, found_numbered, is_numbered}
-use Rattle.mscp_port.proofs.Said.{Keeps, More, is_first, keeps_none, keeps_same, more, none_or_some, not_of, without_among}
+use Rattle.mscp_port.proofs.Said.{Keeps, More, is_first, keeps_same, more, none_or_some, not_of, without_among}
 
 -- ---- a command is aborted
 

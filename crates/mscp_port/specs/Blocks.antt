@@ -108,10 +108,17 @@ abbrev pub is_available : Order → Bool
 is_available orders.Available = true
 is_available order = false
 
+-- ONLINE and SET UNIT CHARACTERISTICS are about the volume that is there as they end, whichever it is
+abbrev pub takes_any_volume : Order → Bool
+takes_any_volume orders.Online = true
+takes_any_volume orders.SetUnit = true
+takes_any_volume order = false
+
 -- for a step of a command, of whose message this is kept, and whose unit has this volume. AVAILABLE wants no volume
 abbrev pub task_of : Upcoming → Buffer → Volume → Task
 task_of u b v =
     if is_available u.command.order then tasks.Step blocks.Good
+    else if v.is_there && takes_any_volume u.command.order then tasks.Step blocks.Good
     else if has_changed b v then tasks.Step (blocks.Bad 0xFFFF)
     else move_task u (move_of u) b v
 

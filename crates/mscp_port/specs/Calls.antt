@@ -1,5 +1,5 @@
 -- What is called of a port, and what becomes of it.
-use Rattle.std.specs.Prelude.{◌≡◌, ◌≢◌, ◌≤◌, ◌<◌, ◌==◌, ◌+◌, ◌-◌, ◌%◌, ◌/◌, ◌⊎◌, ◌↔◌, ℕ, Bool, true, false, nat_lt, if◌then◌else◌, List, [], length, Contains, IfSome, IsErr, IsOk, OnErr, Result, Option, None, Some, Err}
+use Rattle.std.specs.Prelude.{◌≡◌, ◌≢◌, ◌≤◌, ◌<◌, ◌==◌, ◌+◌, ◌-◌, ◌%◌, ◌/◌, ◌⊎◌, ◌↔◌, ℕ, Bool, true, false, nat_lt, if◌then◌else◌, List, [], length, Contains, IfSome, IsErr, IsOk, OnErr, Result, Option, None, Some}
 use Rattle.mscp_drive.specs.declared.connection.Connection.TheVariants.{First}
 use Rattle.mscp_drive.specs.Both.{of}
 use Rattle.mscp_controller.specs.Holdings.{after_message, Holdings, waiting_on}
@@ -61,6 +61,7 @@ pub record IsMadeOf {K : Type 0} (made_hardware : Hardware) (credits : ℕ) (mad
   pub stalled : p.is_stalled ≡ false
   pub full : p.is_full ≡ false
   pub buffers : p.buffers.items ≡ []
+  pub brought : p.brought.items ≡ []
   pub volumes : (place : ℕ) → place < 16 → volume_at p.volumes place ≡ no_volume
   pub flags : p.flags ≡ 0
   -- a host has no limit before its first command, and one minute then, if it says nothing else
@@ -126,6 +127,7 @@ pub record Wants {K : Type 0} (blocks : Bool) (old : Port K) (action : Action) (
   pub frame : new ≡ record old {
     controller = new.controller;
     outgoing = new.outgoing;
+    brought = new.brought;
     is_stalled = new.is_stalled;
     volumes = new.volumes;
     task = new.task;
@@ -250,6 +252,7 @@ ChangesByService old new = new ≡ record old {
   controller = new.controller;
   task = new.task;
   buffers = new.buffers;
+  brought = new.brought;
   volumes = new.volumes;
 }
 
@@ -268,6 +271,7 @@ abbrev pub ChangesBySaying : {K : Type 0} → Port K → Port K → Type 0
 ChangesBySaying old new = new ≡ record old {
   controller = new.controller;
   outgoing = new.outgoing;
+  brought = new.brought;
   is_stalled = new.is_stalled;
   volumes = new.volumes;
 }
@@ -348,10 +352,21 @@ pub record Ticks {K : Type 0} (old new : Port K) : Type 0 where
   pub either : (new ≡ record old { is_full = false; task = read_again old.task; left = new.left })
       ⊎ IsAsNew (stages.Dead 9) old new
 
+-- what becomes of a step in hand that moves no block, where a volume changes: it is taken in hand anew
+abbrev pub step_again : Task → Task
+step_again (tasks.Step block) = tasks.Free
+step_again task = task
+
+-- that of the unit at a place, if there is such a unit
+abbrev pub step_at : Option ℕ → Task → Task
+step_at None task = task
+step_at (Some place) task = step_again task
+
 -- the volume in the unit of this number became what this makes of it
 abbrev pub ChangesVolume : {K : Type 0} → (Volume → Volume) → ℕ → Port K → Port K → Type 0
 ChangesVolume becomes unit old new = new ≡ record old {
   volumes = volumes_with becomes (place_in old.controller.settings.units unit) old.volumes;
+  task = step_at (place_in old.controller.settings.units unit) old.task;
 }
 
 -- this came into the unit of this number, if it fits there

@@ -10,7 +10,7 @@ pub use Rattle.mscp_port.specs.Acted.{Clears, GivesBack, WritesOut, counted, ste
 pub use Rattle.mscp_port.specs.Areas.{AreRings, IsInArea, end_of, rings_named, slot_in, slots_of}
 pub use Rattle.mscp_port.specs.Blocks.{is_mounted, kept_of, move_of, part_with, refusal_of, task_of}
 pub use Rattle.mscp_port.specs.Buffers.{IsInBuffer, is_of, kept_beside, part_of, without, without_aborted}
-pub use Rattle.mscp_port.specs.Calls.{Changes, ChangesByReading, ChangesBySaying, ChangesByService, ChangesByWord, Dies, Goes, Hears, IsMadeOf, IsQuiet, LooksAgain, PutsIn, ReadsIp, TakesStep, Ticks, Wants, WritesIp, WritesSa, sa_of}
+pub use Rattle.mscp_port.specs.Calls.{Changes, ChangesByReading, ChangesBySaying, ChangesByService, ChangesByWord, Dies, Goes, Hears, IsMadeOf, IsQuiet, LooksAgain, PutsIn, ReadsIp, TakesStep, Ticks, Wants, WritesIp, WritesSa, sa_of, step_again}
 pub use Rattle.mscp_port.specs.Codes.{number_or_none, optional, stage_in, stage_word}
 pub use Rattle.mscp_port.specs.Departures.{PortsFillTheirSlots, PortsSpeakInOrder, PortsTellTheirCredits}
 pub use Rattle.mscp_port.specs.Histories.{PortsHaveCredit, PortsTouchWhatIsNamed}
@@ -21,11 +21,11 @@ pub use Rattle.mscp_port.specs.Messages.{bare_end, handed, next_unit, volume_of}
 pub use Rattle.mscp_port.specs.Mounted.{PortsMoveAsMounted}
 pub use Rattle.mscp_port.specs.Moved.{BeginsBlock, GoesOnWithBlock, MayMoveOn, MayMoveUnit, Moves, TakesBegun, TakesBlock, anyhow, begun_task, block_begun, block_served, move_wanted, part_now, volumes_after}
 pub use Rattle.mscp_port.specs.Outgoings.{AnswersItself, IsNews, KeepsSaying, MayBegin, Says, TakesEnd, TellsNews, news_place}
-pub use Rattle.mscp_port.specs.Packets.{credits_told, packet_of}
+pub use Rattle.mscp_port.specs.Packets.{connection_of, credits_told, end_kind, packet_of}
 pub use Rattle.mscp_port.specs.Places.{PortsTouchWhatWasPut}
 pub use Rattle.mscp_port.specs.Ports.{HasNothingToHear, HasNothingToSay, IsAlive, IsAsNew, IsDue, IsIdleUp, IsInSomeBuffer, IsOfBlock, IsOutcomeOf, IsWithin, asked, asks_blocks, in_hand, seconds}
-pub use Rattle.mscp_port.specs.Restored.{IsFramed, IsSaved, area_in, buffers_in, coded_in, controller_in, controller_place, frame_fault, front_in, hardware_in, held_in, is_framed, outgoing_in, port_in, restored, rings_if, text_in, told_front, unless, volume_in, volumes_in, words_in}
-pub use Rattle.mscp_port.specs.Saved.{HasBufferRange, HasCodedRange, HasHandRange, HasStateRange, HasVolumeRange, area_bytes, buffer_bytes, coded_bytes, counts_bytes, frame_bytes, hand_bytes, hardware_bytes, mounted_bytes, outgoing_byte, outgoing_text, rings_bytes, saved_bytes, stage_bytes, state_bytes, told_byte, volume_bytes, words_bytes, written_bytes}
+pub use Rattle.mscp_port.specs.Restored.{IsFramed, IsSaved, area_in, buffers_in, coded_in, controller_in, controller_place, frame_fault, front_in, hardware_in, held_in, is_framed, kind_in, outgoing_in, port_in, restored, rings_if, text_in, told_front, unless, volume_in, volumes_in, words_in}
+pub use Rattle.mscp_port.specs.Saved.{HasBroughtRange, HasBufferRange, HasCodedRange, HasHandRange, HasStateRange, HasVolumeRange, area_bytes, brought_bytes, buffer_bytes, coded_bytes, counts_bytes, frame_bytes, hand_bytes, hardware_bytes, kind_byte, mounted_bytes, outgoing_byte, outgoing_text, rings_bytes, saved_bytes, stage_bytes, state_bytes, volume_bytes, words_bytes, written_bytes}
 pub use Rattle.mscp_port.specs.Seen.{SeesHeader, SeesText, answered_to, changes_at, heeded, neighbour_seen, settings_heeded, slot_seen}
 pub use Rattle.mscp_port.specs.Slots.{given_back, is_owned, text_of}
 pub use Rattle.mscp_port.specs.Volumes.{IsOnVolume, MayMove, medium_answer, place_in, volume_at, volume_changed, volume_heeded, volume_protected, volume_put, volume_reset}

@@ -12,7 +12,7 @@ use Rattle.mscp_port.specs.declared.task.Task.TheVariants as tasks
 use Rattle.mscp_port.specs.declared.action.Outcome.TheVariants as outcomes
 use Rattle.mscp_port.specs.Calls.{HoldsPacket, IsMadeOf}
 use Rattle.mscp_port.specs.Histories.{Answered, Call, NamesPacket, Went, reads}
-use Rattle.mscp_port.specs.Packets.{credits_told}
+use Rattle.mscp_port.specs.Packets.{credits_by, is_disk_end}
 use Rattle.mscp_port.specs.Ports.{IsAsNew}
 
 -- by a call a message begins to go out, where nothing did
@@ -67,22 +67,28 @@ abbrev pub IsWritten : {K : Type 0} → Call → Port K → Type 0
 IsWritten (Went outcomes.Done (Ok done)) old = HoldsPacket old.task
 IsWritten call old = ⊥
 
--- how many ends stand in it
+-- how many ends of the disk's stand in it
 abbrev pub ends_in : Option Outgoing → ℕ
 ends_in None = 0
-ends_in (Some o) = if o.is_end then 1 else 0
+ends_in (Some o) = if is_disk_end o.kind then 1 else 0
 
--- in the packets that were written since all was forgotten last, so many credits were told, and so many ends
+-- and how many credits of the disk's are told with it
+abbrev pub disk_credits : ℕ → Option Outgoing → ℕ
+disk_credits untold None = 0
+disk_credits untold (Some o) = if is_disk_end o.kind then credits_by untold o.kind else 0
+
+-- in the packets that were written since all was forgotten last, so many credits of the disk's were told, and so many
+-- of its ends
 abbrev pub Told : {K : Type 0} (start p : Port K) (calls : List Call) → Answered start calls p → ℕ → ℕ → Type 0
 Told start p [] a credits ends = (credits ≡ 0) × (ends ≡ 0)
 Told start p (call ∷ earlier) a credits ends =
     (IsForgotten a.0 p × (credits ≡ 0) × (ends ≡ 0))
     ⊎ (IsWritten call a.0 × (before : ℕ) × (ended : ℕ) × Told start a.0 earlier a.1 before ended
-    × (credits ≡ before + credits_told a.0) × (ends ≡ ended + ends_in a.0.outgoing))
+    × (credits ≡ before + disk_credits a.0.untold a.0.outgoing) × (ends ≡ ended + ends_in a.0.outgoing))
     ⊎ ((IsForgotten a.0 p ⊎ IsWritten call a.0 → ⊥) × Told start a.0 earlier a.1 credits ends)
 
--- what the host was told of credits, and what it wasn't told yet, are all that it may have outstanding but one, and one
--- for each end that it got
+-- what the host was told of the disk's credits, and what it wasn't told yet, are all that it may have outstanding but
+-- one, and one for each end of the disk's that it got
 abbrev pub PortsTellTheirCredits : Type 0 → Type 0
 PortsTellTheirCredits K =
     (hardware : Hardware) (credits : ℕ) (controller : Holdings K) (start p : Port K) (calls : List Call)

@@ -1,6 +1,6 @@
 -- What a message says as it leaves for the host: an end as the controller made it, with the fields that are the port's
 -- to tell, and news of a volume (manual, "End Messages", "Attention Messages", "Unit Flags").
-use Rattle.std.specs.Prelude.{ℕ, ◌+◌, ◌*◌, ◌/◌, ◌%◌, ◌==◌, ◌&&◌, ◌||◌, ◌++◌, ◌∷◌, [], not, Bool, nat_lt, if◌then◌else◌, false, List, length, slice_get, slice_set, option_map, Option, None, Some}
+use Rattle.std.specs.Prelude.{ℕ, ◌+◌, ◌*◌, ◌/◌, ◌%◌, ◌==◌, ◌&&◌, ◌||◌, ◌++◌, ◌∷◌, [], not, Bool, nat_lt, if◌then◌else◌, List, length, slice_get, slice_set, option_map, Option, None, Some}
 use Rattle.byteorder.specs.Endian.{little_bytes}
 use Rattle.mscp_drive.specs.Shape.{Shape}
 use Rattle.mscp_drive.specs.UnitList.{unit_found}
@@ -10,9 +10,12 @@ use Rattle.mscp_packet.specs.declared.end.EndBody.{EndBody}
 use Rattle.mscp_packet.specs.declared.end.EndBody.TheVariants as bodies
 use Rattle.mscp_port.specs.declared.hardware.Hardware.{Hardware}
 use Rattle.mscp_port.specs.declared.port.Outgoing.{Outgoing}
+use Rattle.mscp_port.specs.declared.port.OutgoingKind.TheVariants as kinds
 use Rattle.mscp_port.specs.declared.port.Port.{Port}
 use Rattle.mscp_port.specs.declared.volumes.Volume.{Volume}
+use Rattle.mscp_port.specs.declared.brought.Brought.{Brought}
 use Rattle.mscp_port.specs.Blocks.{is_mounted}
+use Rattle.mscp_port.specs.Brought.{brought_of, is_fresh}
 use Rattle.mscp_port.specs.Volumes.{place_in, volume_at}
 
 -- ---- a unit's end
@@ -26,32 +29,43 @@ unit_flags v =
 
 -- the status that is told: a step that had no volume (0xFFFF), and an end of a unit without one, are Unit-Offline, no
 -- volume (0x23); a step of a unit that wasn't online with its volume (0xFFFE), and the Success of a GET UNIT STATUS
--- (0x83) of one, are Unit-Available (4). An ONLINE (0x89) that was the first one of its volume found no unit online
--- already (0x0100)
-abbrev pub status_told : ℕ → ℕ → Volume → ℕ
-status_told code status v =
+-- (0x83) of one, are Unit-Available (4). An ONLINE (0x89) that was the first one of its volume, as was decided
+-- when it ended, found no unit online already (0x0100)
+abbrev pub status_told : ℕ → ℕ → Volume → Bool → ℕ
+status_told code status v fresh =
     if status == 0xFFFF then 0x23
     else if status == 0xFFFE then 4
     else if status == 4 && not v.is_there then 0x23
     else if status == 0 && code == 0x83 && not v.is_there then 0x23
     else if status == 0 && code == 0x83 && not (is_mounted v) then 4
-    else if status == 0x0100 && code == 0x89 && v.is_fresh then 0
+    else if status == 0x0100 && code == 0x89 && fresh then 0
     else status
 
--- media and size that are told are those of the volume, if there is one. An ONLINE that found none tells the unit's, as
--- one that found one tells the volume's
-abbrev pub unit_told : ℕ → EndBody → Option Shape → Volume → EndBody
-unit_told status (bodies.Online id media size serial) (Some unit) v =
+-- the media and the size that the Success of an ONLINE or a SET UNIT CHARACTERISTICS tells are those of the volume that
+-- it was decided with
+abbrev pub online_with : ℕ → EndBody → Option Brought → EndBody
+online_with status (bodies.Online id media size serial) (Some b) =
+    if status % 32 == 0 then bodies.Online id b.media b.size serial else bodies.Online id media size serial
+online_with status body brought = body
+
+-- and one that found none tells the unit's
+abbrev pub online_told : ℕ → EndBody → Shape → Option Brought → EndBody
+online_told status (bodies.Online id media size serial) unit brought =
     if status == 0x23 then bodies.Online unit.id unit.media unit.size unit.serial
-    else if status % 32 == 0 && v.is_there then bodies.Online id v.media v.size serial
-    else bodies.Online id media size serial
-unit_told status (bodies.UnitStatus id media track group cylinder) (Some unit) v =
+    else online_with status (bodies.Online id media size serial) brought
+online_told status body unit brought = body
+
+-- a GET UNIT STATUS tells the media of the volume, if there is one
+abbrev pub unit_told : ℕ → EndBody → Option Shape → Volume → Option Brought → EndBody
+unit_told status (bodies.Online id media size serial) (Some unit) v brought =
+    online_told status (bodies.Online id media size serial) unit brought
+unit_told status (bodies.UnitStatus id media track group cylinder) (Some unit) v brought =
     bodies.UnitStatus id (if v.is_there then v.media else media) track group cylinder
-unit_told status body unit v = body
+unit_told status body unit v brought = body
 
 -- the end with the status that is told, and with its unit
-abbrev pub with_status : ℕ → Option Shape → Volume → End → End
-with_status status unit v e = record e { status = status; body = unit_told status e.body unit v }
+abbrev pub with_status : ℕ → Option Shape → Volume → Option Brought → End → End
+with_status status unit v brought e = record e { status = status; body = unit_told status e.body unit v brought }
 
 -- these two bytes, the low one first, in place of those from a place on, if the message has both
 abbrev pub with_two : ℕ → ℕ → List ℕ → List ℕ
@@ -72,9 +86,11 @@ has_unit code status =
 abbrev pub filled_for : Volume → End → List ℕ
 filled_for v e = if has_unit e.code e.status then unit_filled e.unit (unit_flags v) (end_bytes e) else end_bytes e
 
--- the end of a command to a unit with this volume
-abbrev pub unit_end : List Shape → Volume → End → List ℕ
-unit_end units v e = filled_for v (with_status (status_told e.code e.status v) (unit_found units e.unit) v e)
+-- the end of a command to a unit with this volume, and of an ONLINE what it tells
+abbrev pub unit_end : List Shape → Volume → Option Brought → End → List ℕ
+unit_end units v brought e =
+    filled_for v
+    (with_status (status_told e.code e.status v (is_fresh brought)) (unit_found units e.unit) v brought e)
 
 -- ---- all ends
 
@@ -92,15 +108,16 @@ abbrev pub controller_end : Hardware → ℕ → End → List ℕ
 controller_end h flags e = if e.status == 0 then controller_filled h flags (end_bytes e) else end_bytes e
 
 -- the end of a command to the unit at a place, and of one to no unit
-abbrev pub end_at : List Shape → List Volume → Option ℕ → End → List ℕ
-end_at units volumes None e = end_bytes e
-end_at units volumes (Some place) e = unit_end units (volume_at volumes place) e
+abbrev pub end_at : List Shape → List Volume → Option Brought → Option ℕ → End → List ℕ
+end_at units volumes brought None e = end_bytes e
+end_at units volumes brought (Some place) e = unit_end units (volume_at volumes place) brought e
 
 -- the bytes with which an end of the controller leaves
 abbrev pub told_end : {K : Type 0} → Port K → End → List ℕ
 told_end p e =
     if e.code == 0x84 then controller_end p.hardware p.flags e
-    else end_at p.controller.settings.units p.volumes (place_in p.controller.settings.units e.unit) e
+    else end_at p.controller.settings.units p.volumes (brought_of e.reference p.brought.items)
+    (place_in p.controller.settings.units e.unit) e
 
 -- ---- news
 
@@ -115,5 +132,7 @@ attention unit v =
 -- what goes out with news of the volume at a place
 abbrev pub news_at : List Shape → List Volume → ℕ → Option Outgoing
 news_at units volumes place =
-    option_map (λ unit. record { bytes = record { items = attention unit (volume_at volumes place) }; is_end = false })
-    (slice_get units place)
+    option_map (λ unit. record {
+      bytes = record { items = attention unit (volume_at volumes place) };
+      kind = kinds.Attention;
+    }) (slice_get units place)

@@ -1,6 +1,7 @@
 pub mod Acted
 pub mod Areas
 pub mod Blocks
+pub mod Brought
 pub mod Buffers
 pub mod Calls
 pub mod Codes

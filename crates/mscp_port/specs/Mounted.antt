@@ -34,13 +34,13 @@ offline = record { volume = None; is_protected = false }
 abbrev pub flagged : Buffer → Mount → Mount
 flagged b m = if b.modifiers / 4 % 2 == 1 then record m { is_protected = b.flags / 0x1000 % 2 == 1 } else m
 
--- by the endcode: AVAILABLE (0x88) takes it offline, ONLINE (0x89) brings it online with the volume that was there when
--- its message came, and sets the flags, as SET UNIT CHARACTERISTICS (0x8A) does
-abbrev pub mount_after : ℕ → Option Buffer → Mount → Mount
-mount_after code None m = if code == 0x88 then offline else m
-mount_after code (Some b) m =
+-- by the endcode: AVAILABLE (0x88) takes it offline, ONLINE (0x89) brings it online with the volume that is there as it
+-- ends, before which so many had come or gone, and sets the flags, as SET UNIT CHARACTERISTICS (0x8A) does
+abbrev pub mount_after : ℕ → Option Buffer → ℕ → Mount → Mount
+mount_after code None changes m = if code == 0x88 then offline else m
+mount_after code (Some b) changes m =
     if code == 0x88 then offline
-    else if code == 0x89 then flagged b (record m { volume = Some b.changes })
+    else if code == 0x89 then flagged b (record m { volume = Some changes })
     else if code == 0x8A then flagged b m
     else m
 
@@ -75,7 +75,7 @@ IsMounted place start p (call ∷ earlier) a m =
     (IsForgotten a.0 p × (m ≡ offline))
     ⊎ ((via : Connection) × (e : End) × Ends place a.0 p via e
     × (before : Mount) × IsMounted place start a.0 earlier a.1 before
-    × (m ≡ mount_after e.code (kept_of via e.reference a.0.buffers.items) before))
+    × (m ≡ mount_after e.code (kept_of via e.reference a.0.buffers.items) (volume_at a.0.volumes place).changes before))
     ⊎ (IsChangeAt place call a.0 × (before : Mount) × IsMounted place start a.0 earlier a.1 before
     × (m ≡ record before { is_protected = false }))
     ⊎ ((IsRemounted place call a.0 p → ⊥) × IsMounted place start a.0 earlier a.1 m)

@@ -18,12 +18,14 @@ use Rattle.mscp_controller.specs.declared.entry.NotBegun.{NotBegun}
 use Rattle.mscp_port.specs.declared.action.Action.{Action}
 use Rattle.mscp_port.specs.declared.action.Action.TheVariants as actions
 use Rattle.mscp_port.specs.declared.action.Outcome.{Outcome}
+use Rattle.mscp_port.specs.declared.brought.Brought.{Brought}
 use Rattle.mscp_port.specs.declared.buffers.Buffer.{Buffer}
 use Rattle.mscp_port.specs.declared.port.Port.{Port}
 use Rattle.mscp_port.specs.declared.task.Task.{Task}
 use Rattle.mscp_port.specs.declared.task.Task.TheVariants as tasks
 use Rattle.mscp_port.specs.declared.volumes.Volume.{Volume}
 use Rattle.mscp_port.specs.Blocks.{block_of, kept_of, move_of, part_with, task_of}
+use Rattle.mscp_port.specs.Brought.{brought_heeded}
 use Rattle.mscp_port.specs.Buffers.{without}
 use Rattle.mscp_port.specs.Volumes.{MayMove, place_in, volume_at, volumes_heeded}
 
@@ -126,6 +128,13 @@ volumes_after units buffers via None volumes = volumes
 volumes_after units buffers via (Some e) volumes =
     volumes_heeded e.code (kept_of via e.reference buffers) (place_heeded units e) volumes
 
+-- and what ends that wait tell
+abbrev pub brought_after : List Shape → List Buffer → Connection → Option End → List Volume → List Brought
+    → List Brought
+brought_after units buffers via None volumes all = all
+brought_after units buffers via (Some e) volumes all =
+    brought_heeded e.code (kept_of via e.reference buffers) (place_heeded units e) volumes all
+
 -- the controller has taken a step of a command of a connection, which brought this end, if it brought one: nothing is
 -- in hand, and the end is heeded
 pub record HeedsStep {K : Type 0} (via : Connection) (ended : Option End) (old new : Port K) : Type 0 where
@@ -133,9 +142,12 @@ pub record HeedsStep {K : Type 0} (via : Connection) (ended : Option End) (old n
     controller = new.controller;
     task = tasks.Free;
     buffers = new.buffers;
+    brought = new.brought;
     volumes = volumes_after old.controller.settings.units old.buffers.items via ended old.volumes;
   }
   pub buffers : new.buffers.items ≡ kept_after via ended old.buffers.items
+  pub brought : new.brought.items
+      ≡ brought_after old.controller.settings.units old.buffers.items via ended old.volumes old.brought.items
 
 -- the controller is told of a step whose block had this outcome, and nothing is in hand
 pub record TakesBlock {K : Type 0} (picks : List Choice → ℕ → Type 0) (via : Connection) (reference : ℕ) (block : Block)

@@ -1,5 +1,5 @@
 -- What goes out to the host, and what becomes of it.
-use Rattle.std.specs.Prelude.{◌≡◌, ◌⊎◌, ℕ, ◌+◌, ◌%◌, ◌/◌, ◌==◌, Bool, true, false, if◌then◌else◌, List, slice_get, slice_set, IsSomeAnd, Option, None, Some}
+use Rattle.std.specs.Prelude.{◌≡◌, ◌⊎◌, ℕ, ◌+◌, ◌%◌, ◌/◌, ◌==◌, Bool, false, if◌then◌else◌, List, slice_get, slice_set, IfSome, IsSomeAnd, Option, None, Some}
 use Rattle.std.specs.List.{position}
 use Rattle.mscp_drive.specs.Shape.{Shape}
 use Rattle.mscp_packet.specs.Ends.{end_bytes}
@@ -10,14 +10,17 @@ use Rattle.mscp_controller.specs.Holdings.{Holdings, after_take}
 use Rattle.mscp_port.specs.declared.action.Outcome.{Outcome}
 use Rattle.mscp_port.specs.declared.action.Outcome.TheVariants as outcomes
 use Rattle.mscp_port.specs.declared.port.Outgoing.{Outgoing}
+use Rattle.mscp_port.specs.declared.port.OutgoingKind.TheVariants as kinds
 use Rattle.mscp_port.specs.declared.port.Port.{Port}
 use Rattle.mscp_port.specs.declared.rings.Side.TheVariants.{Responses}
 use Rattle.mscp_port.specs.declared.slot.Descriptor.{Descriptor}
 use Rattle.mscp_port.specs.declared.stage.Stage.TheVariants as stages
 use Rattle.mscp_port.specs.declared.task.Task.TheVariants as tasks
 use Rattle.mscp_port.specs.declared.volumes.Volume.{Volume}
+use Rattle.mscp_port.specs.Brought.{without_brought}
 use Rattle.mscp_port.specs.Leaving.{news_at, told_end}
 use Rattle.mscp_port.specs.Messages.{own_end_of}
+use Rattle.mscp_port.specs.Packets.{end_kind}
 use Rattle.mscp_port.specs.Volumes.{volume_at}
 
 -- the controller is as it was, but that it may have begun a step
@@ -27,6 +30,7 @@ MayBegin old new = new ≡ record old { begun = new.begun }
 -- what goes out stays so, and no end is taken
 pub record KeepsSaying {K : Type 0} (old new : Port K) : Type 0 where
   pub outgoing : new.outgoing ≡ old.outgoing
+  pub brought : new.brought ≡ old.brought
   pub controller : MayBegin old.controller new.controller
   pub stalled : new.is_stalled ≡ old.is_stalled
   pub volumes : new.volumes ≡ old.volumes
@@ -40,7 +44,9 @@ oldest_end p = slice_get (of First p.controller.untaken) 0
 pub record TakesEnd {K : Type 0} (old new : Port K) : Type 0 where
   pub nothing : old.outgoing ≡ None
   pub out : (e : End) × (oldest_end old ≡ Some e)
-      × (new.outgoing ≡ Some (record { bytes = record { items = told_end old e }; is_end = true }))
+      × (new.outgoing ≡ Some (record { bytes = record { items = told_end old e }; kind = kinds.End }))
+  -- what it tells, if it is kept, is forgotten
+  pub brought : IfSome (oldest_end old) (λ e. new.brought.items ≡ without_brought e.reference old.brought.items)
   pub controller : MayBegin (after_take First old.controller) new.controller
   pub stalled : new.is_stalled ≡ false
   pub volumes : new.volumes ≡ old.volumes
@@ -61,6 +67,7 @@ pub record TellsNews {K : Type 0} (old new : Port K) : Type 0 where
   pub nothing : old.outgoing ≡ None
   pub none : oldest_end old ≡ None
   pub out : IsNews old.controller.settings.units old.volumes (news_place old) new.outgoing new.volumes
+  pub brought : new.brought ≡ old.brought
   pub controller : MayBegin old.controller new.controller
   pub stalled : new.is_stalled ≡ old.is_stalled
 
@@ -76,11 +83,11 @@ pub record Says {K : Type 0} (old new : Port K) : Type 0 where
   pub looks : LooksForOut old → TakesEnd old new ⊎ TellsNews old new
   pub keeps : (LooksForOut old → ⊥) → KeepsSaying old new
 
--- nothing went out, and the end that the port makes of these bytes itself goes out
+-- nothing went out, and the end that the port makes of these bytes itself goes out, by its message's connection
 pub record AnswersItself {K : Type 0} (foreign : Bool) (bytes : List ℕ) (old new : Port K) : Type 0 where
   pub nothing : old.outgoing ≡ None
   pub out : IsSomeAnd (own_end_of old foreign bytes) (λ e.
-      IsSomeAnd new.outgoing (λ o. (o.bytes.items ≡ end_bytes e) × (o.is_end ≡ true)))
+      IsSomeAnd new.outgoing (λ o. (o.bytes.items ≡ end_bytes e) × (o.kind ≡ end_kind foreign)))
 
 -- what went out is gone: it was written, and its slot was given back
 pub record HasSaid {K : Type 0} (outcome : Outcome) (old new : Port K) : Type 0 where

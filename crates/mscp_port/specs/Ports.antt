@@ -32,10 +32,11 @@ pub record IsAsNew {K : Type 0} (in_stage : Stage) (old new : Port K) : Type 0 w
   pub hardware : new.hardware ≡ old.hardware
   -- nothing waits, and no end is left
   pub controller : new.controller ≡ fresh old.controller.settings old.controller.picker
-  -- no rings, no word, no buffer, and nothing in hand
+  -- no rings, no word, no buffer, no end, and nothing in hand
   pub rings : new.rings ≡ None
   pub written : new.written ≡ None
   pub buffers : new.buffers.items ≡ []
+  pub brought : new.brought.items ≡ []
   pub task : new.task ≡ tasks.Free
   pub outgoing : new.outgoing ≡ None
   pub polled : new.is_polled ≡ false

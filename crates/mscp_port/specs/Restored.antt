@@ -1,15 +1,18 @@
 -- What comes of bytes that a port is to be made of: the port that they say, or why there is none.
-use Rattle.std.specs.Prelude.{ℕ, ◌+◌, ◌-◌, ◌*◌, ◌/◌, ◌%◌, ◌^◌, ◌≤◌, ◌<◌, Bool, not, ◌&&◌, nat_eq, nat_le, if◌then◌else◌, List, [], length, take, drop, slice_index, Option, Some, None, Result, Ok, Err}
+use Rattle.std.specs.Prelude.{ℕ, ◌+◌, ◌-◌, ◌*◌, ◌^◌, ◌≤◌, ◌<◌, Bool, not, ◌&&◌, nat_eq, nat_le, if◌then◌else◌, List, [], length, take, drop, slice_index, Option, Some, None, Result, Ok, Err}
 use Rattle.std.specs.Str.{bytes_eq}
 use Rattle.mscp_packet.specs.Number.{num}
 use Rattle.mscp_controller.specs.Holdings.{Holdings}
 use Rattle.mscp_saved.specs.declared.fault.RestoreFault.{RestoreFault as ControllerFault}
 use Rattle.mscp_saved.specs.Read.{held_in as controller_said, parts_in}
 use Rattle.mscp_saved.specs.Restored.{IsSaved as IsSavedController, restored as controller_restored}
+use Rattle.mscp_port.specs.declared.brought.Brought.{Brought}
 use Rattle.mscp_port.specs.declared.buffers.Buffer.{Buffer}
 use Rattle.mscp_port.specs.declared.codes.Coded.{Coded}
 use Rattle.mscp_port.specs.declared.hardware.Hardware.{Hardware}
 use Rattle.mscp_port.specs.declared.port.Outgoing.{Outgoing}
+use Rattle.mscp_port.specs.declared.port.OutgoingKind.{OutgoingKind}
+use Rattle.mscp_port.specs.declared.port.OutgoingKind.TheVariants as kinds
 use Rattle.mscp_port.specs.declared.port.Port.{Port}
 use Rattle.mscp_port.specs.declared.port.Words.{Words}
 use Rattle.mscp_port.specs.declared.port.restoring.RestoreFault.{RestoreFault}
@@ -17,7 +20,7 @@ use Rattle.mscp_port.specs.declared.port.restoring.RestoreFault.TheVariants as f
 use Rattle.mscp_port.specs.declared.volumes.Volume.{Volume}
 use Rattle.mscp_port.specs.Areas.{Rings, rings_of}
 use Rattle.mscp_port.specs.Codes.{bus_in, has_size, optional, stage_in, task_in}
-use Rattle.mscp_port.specs.Saved.{buffer_size, front_bytes, front_size, head_size, length_before, magic, saved_bytes, version, volume_size}
+use Rattle.mscp_port.specs.Saved.{brought_size, buffer_size, front_bytes, front_size, head_size, length_before, magic, saved_bytes, version, volume_size}
 
 -- ---- what bytes say. Of bytes that are nobody's something is said, too
 
@@ -48,10 +51,14 @@ coded_in b = record {
 abbrev pub words_in : List ℕ → Words
 words_in b = record { first = num b 29 2; second = num b 31 2 }
 
+-- what a message is that goes out, by its number
+abbrev pub kind_in : ℕ → OutgoingKind
+kind_in byte = if nat_eq byte 1 then kinds.Attention else if nat_eq byte 2 then kinds.End else kinds.UtilitiesEnd
+
 -- what goes out, by its number and its text
 abbrev pub outgoing_in : ℕ → List ℕ → Option Outgoing
 outgoing_in byte text =
-    if nat_eq byte 0 then None else Some (record { bytes = record { items = text }; is_end = nat_eq byte 2 })
+    if nat_eq byte 0 then None else Some (record { bytes = record { items = text }; kind = kind_in byte })
 
 -- the volume in the bytes of one
 abbrev pub volume_in : List ℕ → Volume
@@ -64,8 +71,7 @@ volume_in b = record {
   size = num b 9 4;
   media = num b 13 4;
   mounted = optional (slice_index b 17) (num b 18 4);
-  is_news = nat_eq (slice_index b 3 % 2) 1;
-  is_fresh = nat_eq (slice_index b 3 / 2) 1;
+  is_news = nat_eq (slice_index b 3) 1;
 }
 
 -- what is kept of a command, in the bytes of that
@@ -79,21 +85,37 @@ buffer_in b = record {
   changes = num b 16 4;
 }
 
+-- what an end that waits tells, in the bytes of that
+abbrev pub brought_in : List ℕ → Brought
+brought_in b = record {
+  reference = num b 0 4;
+  is_fresh = nat_eq (slice_index b 4) 1;
+  size = num b 5 4;
+  media = num b 9 4;
+}
+
 -- ---- where the parts are
 
--- how long what goes out is, and of how many commands something is kept
+-- how long what goes out is, of how many commands something is kept, and of how many ends that wait
 abbrev pub text_count : List ℕ → ℕ
 text_count b = slice_index b 70
 
 abbrev pub buffer_count : List ℕ → ℕ
 buffer_count b = slice_index b 71
 
--- the volumes are behind the head, what goes out behind them, and then what is kept of commands, and the controller
+abbrev pub brought_count : List ℕ → ℕ
+brought_count b = slice_index b 72
+
+-- the volumes are behind the head, what goes out behind them, and then what is kept of commands, what ends that wait
+-- tell, and the controller
 abbrev pub buffer_place : List ℕ → ℕ
 buffer_place b = front_size + text_count b
 
+abbrev pub brought_place : List ℕ → ℕ
+brought_place b = buffer_place b + buffer_size * buffer_count b
+
 abbrev pub controller_place : List ℕ → ℕ
-controller_place b = buffer_place b + buffer_size * buffer_count b
+controller_place b = brought_place b + brought_size * brought_count b
 
 abbrev pub volumes_in : List ℕ → List Volume
 volumes_in b = parts_in volume_in volume_size 16 (drop head_size b)
@@ -103,6 +125,9 @@ text_in b = take (text_count b) (drop front_size b)
 
 abbrev pub buffers_in : List ℕ → List Buffer
 buffers_in b = parts_in buffer_in buffer_size (buffer_count b) (drop (buffer_place b) b)
+
+abbrev pub all_brought_in : List ℕ → List Brought
+all_brought_in b = parts_in brought_in brought_size (brought_count b) (drop (brought_place b) b)
 
 -- all that is said of a port over this controller
 abbrev pub port_in : {K : Type 0} → List ℕ → Holdings K → Port K
@@ -123,6 +148,7 @@ port_in b h = record {
   is_stalled = nat_eq (slice_index b 21) 1;
   is_full = nat_eq (slice_index b 22) 1;
   buffers = record { items = buffers_in b };
+  brought = record { items = all_brought_in b };
   volumes = volumes_in b;
   flags = num b 23 2;
   timeout = num b 25 2;
@@ -153,14 +179,16 @@ abbrev pub is_framed : List ℕ → Bool
 is_framed b =
     nat_le front_size (length b)
     && (nat_eq (num b 8 4) (length b)
-    && (nat_le (text_count b) 48 && (nat_le (buffer_count b) 64 && nat_le (controller_place b) (length b))))
+    && (nat_le (text_count b) 48 && (nat_le (buffer_count b) 64 && (nat_le (brought_count b) 64
+    && nat_le (controller_place b) (length b)))))
 
 -- the same, as facts
 pub record IsFramed (b : List ℕ) : Type 0 where
-  pub front : 424 ≤ length b
+  pub front : 425 ≤ length b
   pub told : length b < 2 ^ 32
   pub text : text_count b ≤ 48
   pub buffers : buffer_count b ≤ 64
+  pub brought : brought_count b ≤ 64
   pub parts : controller_place b ≤ length b
 
 -- why no parts are read: the first that holds

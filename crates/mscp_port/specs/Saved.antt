@@ -1,12 +1,15 @@
 -- The bytes that a port is saved as. All numbers are little-endian, and what has no number of its own is written as
 -- one.
-use Rattle.std.specs.Prelude.{◌≡◌, ℕ, ◌+◌, ◌*◌, ◌^◌, ◌≤◌, ◌<◌, if◌then◌else◌, List, [], ◌∷◌, ◌++◌, length, flat_map, All, Option, Some, None, IfSome}
+use Rattle.std.specs.Prelude.{◌≡◌, ℕ, ◌+◌, ◌*◌, ◌^◌, ◌≤◌, ◌<◌, List, [], ◌∷◌, ◌++◌, length, flat_map, All, Option, Some, None, IfSome}
 use Rattle.byteorder.specs.Endian.{little_bytes}
 use Rattle.mscp_saved.specs.Saved.{flag_byte, saved_bytes as controller_bytes}
+use Rattle.mscp_port.specs.declared.brought.Brought.{Brought}
 use Rattle.mscp_port.specs.declared.buffers.Buffer.{Buffer}
 use Rattle.mscp_port.specs.declared.codes.Coded.{Coded}
 use Rattle.mscp_port.specs.declared.hardware.Hardware.{Hardware}
 use Rattle.mscp_port.specs.declared.port.Outgoing.{Outgoing}
+use Rattle.mscp_port.specs.declared.port.OutgoingKind.{OutgoingKind}
+use Rattle.mscp_port.specs.declared.port.OutgoingKind.TheVariants as kinds
 use Rattle.mscp_port.specs.declared.port.Port.{Port}
 use Rattle.mscp_port.specs.declared.port.Words.{Words}
 use Rattle.mscp_port.specs.declared.stage.Stage.{Stage}
@@ -16,15 +19,18 @@ use Rattle.mscp_port.specs.Codes.{IsTask, bus_byte, coded_task, number_or_none, 
 
 -- ---- sizes
 
--- the head, the volume of a unit, and what is kept of a command take so many bytes
+-- the head, the volume of a unit, what is kept of a command, and what an end that waits tells take so many bytes
 abbrev pub head_size : ℕ
-head_size = 72
+head_size = 73
 
 abbrev pub volume_size : ℕ
 volume_size = 22
 
 abbrev pub buffer_size : ℕ
 buffer_size = 20
+
+abbrev pub brought_size : ℕ
+brought_size = 13
 
 -- the head and the 16 volumes
 abbrev pub front_size : ℕ
@@ -35,7 +41,7 @@ abbrev pub magic : ℕ
 magic = 0x5043534D
 
 abbrev pub version : ℕ
-version = 1
+version = 2
 
 -- ---- parts
 
@@ -86,29 +92,32 @@ coded_bytes c =
     ++ little_bytes 2 c.two
     ++ (c.how ∷ [])
 
--- what goes out: 0 where nothing does, 1 for an attention message, 2 for an end; and its text
+-- what goes out: 0 where nothing does, 1 for an attention message, 2 for an end of the disk's, 3 for one of the
+-- utilities; and its text
+abbrev pub kind_byte : OutgoingKind → ℕ
+kind_byte kinds.Attention = 1
+kind_byte kinds.End = 2
+kind_byte kinds.UtilitiesEnd = 3
+
 abbrev pub outgoing_byte : Option Outgoing → ℕ
 outgoing_byte None = 0
-outgoing_byte (Some o) = if o.is_end then 2 else 1
+outgoing_byte (Some o) = kind_byte o.kind
 
 abbrev pub outgoing_text : Option Outgoing → List ℕ
 outgoing_text None = []
 outgoing_text (Some o) = o.bytes.items
 
--- how long that is, and of how many commands something is kept
+-- how long that is, of how many commands something is kept, and of how many ends that wait
 abbrev pub lengths_bytes : {K : Type 0} → Port K → List ℕ
-lengths_bytes p = outgoing_byte p.outgoing ∷ length (outgoing_text p.outgoing) ∷ length p.buffers.items ∷ []
+lengths_bytes p =
+    outgoing_byte p.outgoing ∷ length (outgoing_text p.outgoing) ∷ length p.buffers.items ∷ length p.brought.items ∷ []
 
 abbrev pub mounted_bytes : Option ℕ → List ℕ
 mounted_bytes mounted = some_byte mounted ∷ little_bytes 4 (number_or_none mounted)
 
--- whether it is news, and twice whether it is fresh
-abbrev pub told_byte : Volume → ℕ
-told_byte v = flag_byte v.is_news + 2 * flag_byte v.is_fresh
-
 abbrev pub volume_bytes : Volume → List ℕ
 volume_bytes v =
-    (flag_byte v.is_there ∷ flag_byte v.is_protected ∷ flag_byte v.is_protected_by_host ∷ told_byte v
+    (flag_byte v.is_there ∷ flag_byte v.is_protected ∷ flag_byte v.is_protected_by_host ∷ flag_byte v.is_news
     ∷ flag_byte v.is_removable ∷ [])
     ++ little_bytes 4 v.changes
     ++ little_bytes 4 v.size
@@ -124,16 +133,22 @@ buffer_bytes b =
     ++ little_bytes 2 b.flags
     ++ little_bytes 4 b.changes
 
+-- what an end that waits tells
+abbrev pub brought_bytes : Brought → List ℕ
+brought_bytes b =
+    little_bytes 4 b.reference ++ (flag_byte b.is_fresh ∷ []) ++ little_bytes 4 b.size ++ little_bytes 4 b.media
+
 -- ---- all
 
--- with so many bytes of a text, so many commands, and so many bytes of a controller all is so long
-abbrev pub saved_length : ℕ → ℕ → ℕ → ℕ
-saved_length text buffers controller = front_size + text + buffer_size * buffers + controller
+-- with so many bytes of a text, so many commands and ends, and so many bytes of a controller all is so long
+abbrev pub saved_length : ℕ → ℕ → ℕ → ℕ → ℕ
+saved_length text buffers brought controller =
+    front_size + text + buffer_size * buffers + brought_size * brought + controller
 
 -- how long all is of a port before so many bytes of a controller
 abbrev pub length_before : {K : Type 0} → ℕ → Port K → ℕ
 length_before controller p =
-    saved_length (length (outgoing_text p.outgoing)) (length p.buffers.items) controller
+    saved_length (length (outgoing_text p.outgoing)) (length p.buffers.items) (length p.brought.items) controller
 
 -- how long all is of a port whose picker has this number
 abbrev pub length_of : {K : Type 0} → ℕ → Port K → ℕ
@@ -153,22 +168,25 @@ hand_bytes p =
 abbrev pub head_bytes : {K : Type 0} → ℕ → Port K → List ℕ
 head_bytes total p = frame_bytes total ++ state_bytes p ++ hand_bytes p
 
--- what is in front of the controller, where all is so long: the volumes in the order of the units, what goes out, and
--- what is kept of commands
+-- what is in front of the controller, where all is so long: the volumes in the order of the units, what goes out, what
+-- is kept of commands, and what ends that wait tell
 abbrev pub front_bytes : {K : Type 0} → ℕ → Port K → List ℕ
 front_bytes total p =
     head_bytes total p
     ++ flat_map volume_bytes p.volumes
     ++ outgoing_text p.outgoing
     ++ flat_map buffer_bytes p.buffers.items
+    ++ flat_map brought_bytes p.brought.items
 
--- all of a port: the volumes in the order of the units, what goes out, what is kept of commands, and the controller
+-- all of a port: the volumes in the order of the units, what goes out, what is kept of commands, what ends that wait
+-- tell, and the controller
 abbrev pub saved_bytes : {K : Type 0} → ℕ → Port K → List ℕ
 saved_bytes picker p =
     head_bytes (length_of picker p) p
     ++ flat_map volume_bytes p.volumes
     ++ outgoing_text p.outgoing
     ++ flat_map buffer_bytes p.buffers.items
+    ++ flat_map brought_bytes p.brought.items
     ++ controller_bytes picker p.controller
 
 -- ---- ranges
@@ -188,6 +206,12 @@ pub record HasBufferRange (b : Buffer) : Type 0 where
   pub modifiers : b.modifiers < 2 ^ 16
   pub flags : b.flags < 2 ^ 16
   pub changes : b.changes < 2 ^ 32
+
+-- those of what an end that waits tells
+pub record HasBroughtRange (b : Brought) : Type 0 where
+  pub reference : b.reference < 2 ^ 32
+  pub size : b.size < 2 ^ 32
+  pub media : b.media < 2 ^ 32
 
 -- those of a task
 pub record HasCodedRange (c : Coded) : Type 0 where
@@ -219,4 +243,6 @@ pub record HasRange {K : Type 0} (p : Port K) : Type 0 where
   pub sixteen : length p.volumes ≡ 16
   pub buffers : All HasBufferRange p.buffers.items
   pub few : length p.buffers.items ≤ 64
+  pub brought : All HasBroughtRange p.brought.items
+  pub few_brought : length p.brought.items ≤ 64
   pub short : length (outgoing_text p.outgoing) ≤ 48

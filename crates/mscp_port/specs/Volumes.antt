@@ -1,5 +1,5 @@
 -- How the volume of a unit changes.
-use Rattle.std.specs.Prelude.{◌≡◌, ◌<◌, ℕ, ◌+◌, ◌%◌, ◌/◌, ◌==◌, if◌then◌else◌, not, Bool, true, false, List, nat_eq, nat_le, ◌&&◌, slice_index_or, slice_set, Option, None, Some, Result, Ok, Err}
+use Rattle.std.specs.Prelude.{◌≡◌, ◌<◌, ℕ, ◌+◌, ◌%◌, ◌/◌, ◌==◌, if◌then◌else◌, Bool, true, false, List, nat_eq, nat_le, ◌&&◌, slice_index_or, slice_set, Option, None, Some, Result, Ok, Err}
 use Rattle.std.specs.List.{position}
 use Rattle.mscp_drive.specs.Shape.{Shape}
 use Rattle.mscp_port.specs.declared.buffers.Buffer.{Buffer}
@@ -8,7 +8,7 @@ use Rattle.mscp_port.specs.declared.volumes.Volume.{Volume}
 use Rattle.mscp_port.specs.declared.volumes.VolumeFault.{VolumeFault}
 use Rattle.mscp_port.specs.declared.volumes.VolumeFault.TheVariants as faults
 use Rattle.mscp_packet.specs.declared.command.MoveKind.{MoveKind}
-use Rattle.mscp_port.specs.Blocks.{is_count, writes}
+use Rattle.mscp_port.specs.Blocks.{writes}
 
 abbrev pub no_volume : Volume
 no_volume = record {
@@ -21,7 +21,6 @@ no_volume = record {
   media = 0;
   mounted = None;
   is_news = false;
-  is_fresh = false;
 }
 
 -- the volume at a place
@@ -50,7 +49,7 @@ volume_put m v = record (volume_changed true v) {
 
 -- a reset of the port leaves the volume: the unit isn't online, its host has protected nothing, and is to hear of none
 abbrev pub volume_reset : Volume → Volume
-volume_reset v = record v { mounted = None; is_protected_by_host = false; is_news = false; is_fresh = false }
+volume_reset v = record v { mounted = None; is_protected_by_host = false; is_news = false }
 
 -- ---- what the Success of a command does
 
@@ -60,14 +59,9 @@ abbrev pub protected_by : Buffer → Volume → Volume
 protected_by b v =
     if b.modifiers / 4 % 2 == 1 then record v { is_protected_by_host = b.flags / 0x1000 % 2 == 1 } else v
 
--- the unit is online with the volume that was there when the command came, and freshly so if it wasn't. If that volume
--- is the one in it, its host needs no news of it any more
-abbrev pub brought_online : Buffer → Volume → Volume
-brought_online b v = record v {
-  mounted = Some b.changes;
-  is_news = if b.changes == v.changes then false else v.is_news;
-  is_fresh = not (is_count v.mounted b.changes);
-}
+-- the unit is online with the volume that is in it, and its host needs no news of it any more
+abbrev pub brought_online : Volume → Volume
+brought_online v = record v { mounted = Some v.changes; is_news = false }
 
 -- by its endcode: AVAILABLE (0x88) takes the unit offline, ONLINE (0x89) brings it online, and sets the host's
 -- protection, as SET UNIT CHARACTERISTICS (0x8A) does
@@ -75,7 +69,7 @@ abbrev pub volume_heeded : ℕ → Option Buffer → Volume → Volume
 volume_heeded code None v = if code == 0x88 then record v { mounted = None; is_protected_by_host = false } else v
 volume_heeded code (Some b) v =
     if code == 0x88 then record v { mounted = None; is_protected_by_host = false }
-    else if code == 0x89 then protected_by b (brought_online b v)
+    else if code == 0x89 then protected_by b (brought_online v)
     else if code == 0x8A then protected_by b v
     else v
 
@@ -90,9 +84,9 @@ abbrev pub volumes_with : (Volume → Volume) → Option ℕ → List Volume →
 volumes_with becomes None volumes = volumes
 volumes_with becomes (Some place) volumes = slice_set volumes place (becomes (volume_at volumes place))
 
--- nothing may be written on it, or something may again
+-- nothing may be written on it, or something may again, if it is there
 abbrev pub volume_protected : Bool → Volume → Volume
-volume_protected protected v = record v { is_protected = protected }
+volume_protected protected v = record v { is_protected = if v.is_there then protected else false }
 
 -- whether this may be put into a unit, if there is such a unit: it has blocks, and no more than the unit
 abbrev pub medium_answer : Medium → Option Shape → Result (Unit {0}) VolumeFault

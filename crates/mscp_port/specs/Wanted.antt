@@ -35,7 +35,7 @@ clear_count p r done = min (end_of r - clear_from p r done) 64
 -- the packet of what goes out, if something does
 abbrev pub packet_out : {K : Type 0} → Port K → Option Outgoing → List ℕ
 packet_out p None = []
-packet_out p (Some o) = packet_of (credits_told p) o.bytes.items
+packet_out p (Some o) = packet_of (credits_told p) o.kind o.bytes.items
 
 -- the zeros that clear an area, if the host has named the rings
 abbrev pub zeros_out : {K : Type 0} → Port K → ℕ → Option Rings → List ℕ

@@ -2,9 +2,11 @@
 
 ghost use Rattle.std.specs.Prelude.{◌≡◌};
 ghost use Rattle.mscp_port.specs.Codes.{IsTask, bad_byte, bad_status, block_in, block_task_in, bus_byte, bus_in, clear_task, coded_task, early_task_in, has_size, nothing, ring_task_in, side_byte, side_in, stage_in, task_in, text_task};
+ghost use Rattle.mscp_port.specs.Common.{kind_byte, kind_in};
 ghost use Rattle.mscp_port.specs.declared.task.Task.TheVariants as tasks;
 
 use crate::hardware::Bus;
+use crate::port::OutgoingKind;
 use crate::rings::Side;
 use crate::sizes::{ClearSize, TextSize};
 use crate::slot::Descriptor;
@@ -53,6 +55,28 @@ pub(crate) fn bus_in(byte: u8) -> Bus
     ensures { result ≡ bus_in byte }
 {
     if byte == 1 { Bus::Q } else { Bus::Uni }
+}
+
+/// The number of what a message is.
+pub(crate) fn kind_byte(kind: OutgoingKind) -> u8
+    ensures { result ≡ kind_byte kind }
+{
+    match kind {
+        OutgoingKind::Attention => 1,
+        OutgoingKind::End => 2,
+        OutgoingKind::UtilitiesEnd => 3,
+    }
+}
+
+/// What a message is that goes out, by its number.
+pub(crate) fn kind_in(byte: u8) -> OutgoingKind
+    ensures { result ≡ kind_in byte }
+{
+    match byte {
+        1 => OutgoingKind::Attention,
+        2 => OutgoingKind::End,
+        _ => OutgoingKind::UtilitiesEnd,
+    }
 }
 
 /// The number of a ring.

@@ -3,6 +3,7 @@
 ghost use Rattle.std.specs.Prelude.{◌≡◌, ◌≤◌, Some};
 ghost use Rattle.mscp_port.specs.Leaving as leaving;
 
+use crate::brought::Brought;
 use crate::hardware::Hardware;
 use crate::volumes::Volume;
 use arrayvec::ArrayVec;
@@ -36,10 +37,10 @@ const REMOVABLE: u16 = 0x0080;
 /// The code of an attention message that says that a unit came.
 const UNIT_CAME: u8 = 0x40;
 
-/// What is told of a status that an end came with, whose endcode and unit are these. A controller that doesn't know of
-/// volumes says 'already online' of a unit that was online with another one.
-pub(crate) fn status_told(code: u8, status: u16, volume: &Volume) -> u16
-    ensures { result ≡ leaving.status_told code status volume.now }
+/// What is told of a status that an end came with, whose endcode and unit are these, and of an ONLINE what it tells. A
+/// controller that doesn't know of volumes says 'already online' of a unit that was online with another one.
+pub(crate) fn status_told(code: u8, status: u16, volume: &Volume, is_fresh: bool) -> u16
+    ensures { result ≡ leaving.status_told code status volume.now is_fresh }
 {
     match status {
         STEP_WITHOUT_VOLUME => NO_VOLUME,
@@ -47,30 +48,47 @@ pub(crate) fn status_told(code: u8, status: u16, volume: &Volume) -> u16
         UNIT_AVAILABLE if !volume.is_there => NO_VOLUME,
         SUCCESS if code == 0x83 && !volume.is_there => NO_VOLUME,
         SUCCESS if code == 0x83 && !volume.is_mounted() => UNIT_AVAILABLE,
-        ALREADY_ONLINE if code == 0x89 && volume.is_fresh => SUCCESS,
+        ALREADY_ONLINE if code == 0x89 && is_fresh => SUCCESS,
         other => other,
     }
 }
 
-/// What is told of a unit with this volume: media and size are the volume's. An ONLINE that found none tells the unit's.
-pub(crate) fn unit_told(status: u16, body: EndBody, unit: &Unit, volume: &Volume) -> EndBody
-    ensures { result ≡ leaving.unit_told status body (Some unit.now) volume.now }
+/// What an ONLINE tells of its unit that ends with this status: media and size are those of the volume that it was decided
+/// with. One that found none tells the unit's.
+fn online_told(status: u16, body: EndBody, unit: &Unit, brought: Option<Brought>) -> EndBody
+    ensures { result ≡ leaving.online_told status body unit.now brought }
 {
-    match body {
-        EndBody::Online { .. } if status == NO_VOLUME => EndBody::Online {
+    match (body, brought) {
+        (EndBody::Online { .. }, _) if status == NO_VOLUME => EndBody::Online {
             id: unit.id(),
             media: unit.media(),
             size: unit.size(),
             serial: unit.serial(),
         },
-        EndBody::Online { id, serial, .. } if status % 32 == 0 && volume.is_there => {
+        (EndBody::Online { id, serial, .. }, Some(brought)) if status % 32 == 0 => {
             EndBody::Online {
                 id,
-                media: volume.media,
-                size: volume.size,
+                media: brought.media,
+                size: brought.size,
                 serial,
             }
         }
+        (other, _) => other,
+    }
+}
+
+/// What is told of a unit with this volume: media are the volume's. An ONLINE tells what it was decided with.
+pub(crate) fn unit_told(
+    status: u16,
+    body: EndBody,
+    unit: &Unit,
+    volume: &Volume,
+    brought: Option<Brought>,
+) -> EndBody
+    ensures { result ≡ leaving.unit_told status body (Some unit.now) volume.now brought }
+{
+    match body {
+        EndBody::Online { .. } => online_told(status, body, unit, brought),
         EndBody::UnitStatus {
             id,
             track,

@@ -47,8 +47,9 @@ pub fn ports_move_on_volumes<K: Picker>(picker: &K)
 
 /// Whoever calls such a port: each message that began to go out is gone in its turn, once, or still goes out. It is gone once a
 /// slot of the ring of responses was given back, whose descriptor its host had made the port's since it wrote IP; or the host
-/// wrote IP again, or a fatal error came. The credits that were told since are all that the host may have but the one that it
-/// begins with and those that it wasn't told yet, and one for each end. What stands in a packet isn't said here.
+/// wrote IP again, or a fatal error came. The credits of the disk's connection that were told since are all that the host may
+/// have but the one that it begins with and those that it wasn't told yet, and one for each end of the disk's. What stands in a
+/// packet isn't said here.
 pub fn ports_speak_in_order<K: Picker>(picker: &K)
     ensures order { PortsSpeakInOrder K }
     ensures slots { PortsFillTheirSlots K }

@@ -3,6 +3,7 @@
 #![tactic(auto)]
 
 mod action;
+mod brought;
 mod buffers;
 mod codes;
 mod filling;

@@ -18,6 +18,7 @@ mod turning;
 mod watching;
 mod writing;
 
+use crate::brought::Brought;
 use crate::buffers::Buffer;
 use crate::hardware::Hardware;
 pub use crate::port::restoring::{RestoreFault, restore_fault, saved_settings};
@@ -39,11 +40,22 @@ pub enum PortFault {
     Credits,
 }
 
-/// What goes out to the host: the end of a command, or an attention message.
+/// What a message is that goes out.
+#[derive(Clone, Copy)]
+pub(crate) enum OutgoingKind {
+    /// An attention message.
+    Attention,
+    /// The end of a command of the disk's.
+    End,
+    /// The end of a message for the diagnostic and utilities protocol.
+    UtilitiesEnd,
+}
+
+/// What goes out to the host.
 #[derive(Drop)]
 pub(crate) struct Outgoing {
     bytes: ArrayVec<u8, 48>,
-    is_end: bool,
+    kind: OutgoingKind,
 }
 
 /// What the host wrote in the first two steps.
@@ -78,6 +90,7 @@ pub struct Port<K> {
     // The next slot of the ring of responses was the host's.
     is_full: bool,
     buffers: ArrayVec<Buffer, 64>,
+    brought: ArrayVec<Brought, 64>,
     volumes: [Volume; 16],
     // The controller flags and the timeout in seconds that the host has set, and the seconds that are left. Before its first
     // command the host has no limit: the timeout is 0, and those that it has from then on are left.
@@ -131,6 +144,7 @@ impl<K: Picker> Port<K> {
             is_stalled: false,
             is_full: false,
             buffers: ArrayVec::new(),
+            brought: ArrayVec::new(),
             volumes: [Volume::default(); 16],
             flags: 0,
             timeout: 0,
@@ -156,6 +170,7 @@ impl<K: Picker> Port<K> {
         self.is_stalled = false;
         self.is_full = false;
         self.buffers.clear();
+        self.brought.clear();
         reset_all(&mut self.volumes);
         self.flags = 0;
         self.timeout = 0;

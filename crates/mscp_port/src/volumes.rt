@@ -44,8 +44,6 @@ pub struct Volume {
     pub mounted: Option<u32>,
     /// It came, and the host is to hear of it.
     pub is_news: bool,
-    /// The last ONLINE brought the unit online with it, and didn't find it so.
-    pub is_fresh: bool,
 }
 
 impl Volume {
@@ -86,7 +84,6 @@ impl Volume {
         self.mounted = None;
         self.is_protected_by_host = false;
         self.is_news = false;
-        self.is_fresh = false;
     }
 }
 

@@ -1,6 +1,9 @@
 -- What a port touches after a whole history was put into its host's memory.
-use Rattle.mscp_port.proofs.Common.{◌≢◌, ◌⊎◌, ℕ, Bool, List, [], ◌∷◌, length, Option, None, Some, IfSome, refl, sym, subst, arith, Ok, Err, Holdings, Action, Hardware, Port, Stage, Hears, IsMadeOf, Ticks, Answered, Becomes, Call, NamesArea, words, reads, WriteIp, ReadIp, WriteSa, Next, PutAside, WasRead, Went, LookAgain, Tick, Protect, VolumeCame, VolumeWent, AsksFirst, IsPut, IsPutForData, IsPutForRings, asked, reads_at, with_read, Drops, IsAsNew, IsInRingsOrPacket, IsInSomeBuffer, IsWithin, Leaves}
+use Rattle.mscp_port.proofs.Common.{◌≡◌, ◌≢◌, ◌⊎◌, ◌∙◌, ℕ, Bool, false, List, [], ◌∷◌, Option, None, Some, Contains, IfSome, inl, inr, refl, ap, sym, subst, arith, Ok, Err, Holdings, Action, Hardware, Port, Stage, Hears, IsMadeOf, Ticks, Answered, Becomes, Call, NamesArea, words, reads, WriteIp, ReadIp, WriteSa, Next, PutAside, WasRead, Went, LookAgain, Tick, Protect, VolumeCame, VolumeWent, AsksFirst, IsPut, IsPutForData, IsPutForRings, asked, reads_at, with_read, Drops, IsAsNew, IsInRingsOrPacket, IsInSomeBuffer, IsWithin, Leaves, Task, Volume, place_in, volume_changed, volume_put}
 use Rattle.mscp_port.specs.declared.action.Action.TheVariants as actions
+use Rattle.mscp_port.specs.declared.task.Task.TheVariants as tasks
+use Rattle.mscp_port.specs.Calls.{ChangesVolume, step_at}
+use Rattle.mscp_port.specs.Volumes.{volume_protected}
 use Rattle.mscp_port.proofs.Among.{none_among}
 use Rattle.mscp_port.proofs.Naming.Knowing.{Knows}
 use Rattle.mscp_port.proofs.Naming.Placing.{Places, hand_placed, next_placed, nothing_placed, places_behind, read_placed, went_placed}
@@ -11,6 +14,28 @@ new_drops s old new n = search (arith, none_among)
 
 tick_hands : {K : Type 0} (old new : Port K) → Ticks old new → Leaves old new ⊎ Drops old new
 tick_hands old new r = search (arith, new_drops)
+
+same_or_free : (o : Option ℕ) (t : Task) → (step_at o t ≡ t) ⊎ (step_at o t ≡ tasks.Free)
+same_or_free None t = inl refl
+same_or_free (Some place) (tasks.Step block) = inr refl
+same_or_free (Some place) t = inl refl
+
+volume_hands : {K : Type 0} (becomes : Volume → Volume) (unit : ℕ) (old new : Port K)
+    → ChangesVolume becomes unit old new → Leaves old new ⊎ Drops old new
+volume_hands becomes unit old new e =
+    elim (same_or_free (place_in old.controller.settings.units unit) old.task) [
+      | inl same ↦ inl (record {
+        task = ap (λ (p : Port _). p.task) e ∙ same;
+        rings = ap (λ (p : Port _). p.rings) e;
+        responses = ap (λ (p : Port _). p.responses) e;
+        commands = ap (λ (p : Port _). p.commands) e;
+        buffers = ap (λ (p : Port _). p.buffers) e;
+      })
+      | inr free ↦ inr (record {
+        task = inl (ap (λ (p : Port _). p.task) e ∙ free);
+        buffers = λ b there. subst (λ bs. Contains bs b) (ap (λ (p : Port _). p.buffers.items) e) there;
+      })
+    ]
 
 -- the bytes of a read that was wanted
 heard_placed : {K : Type 0} (ws : List ℕ) (rs : List (ℕ × List ℕ)) (o : Option ℕ) (old new : Port K) (bytes : List ℕ)
@@ -43,10 +68,15 @@ call_placed LookAgain earlier old new areas asks k r = search (arith, hand_place
 call_placed Tick earlier old new areas asks k r =
     hand_placed (words earlier) (reads_at earlier) (asked earlier) old new k (tick_hands old new r)
 call_placed (VolumeCame m unit (Ok done)) earlier old new areas asks k r =
-    let is = r.came refl in search (arith, is, hand_placed)
+    hand_placed (words earlier) (reads_at earlier) (asked earlier) old new k
+    (volume_hands (volume_put m) unit old new (r.came refl))
 call_placed (VolumeCame m unit (Err fault)) earlier old new areas asks k r = search arith
-call_placed (VolumeWent unit result) earlier old new areas asks k r = search (arith, hand_placed)
-call_placed (Protect protected unit result) earlier old new areas asks k r = search (arith, hand_placed)
+call_placed (VolumeWent unit result) earlier old new areas asks k r =
+    hand_placed (words earlier) (reads_at earlier) (asked earlier) old new k
+    (volume_hands (volume_changed false) unit old new r.frame)
+call_placed (Protect protected unit result) earlier old new areas asks k r =
+    hand_placed (words earlier) (reads_at earlier) (asked earlier) old new k
+    (volume_hands (volume_protected protected) unit old new r.frame)
 
 -- who asked before also asked earlier
 asked_before : (call : Call) (earlier : List Call) → AsksFirst (call ∷ earlier) → AsksFirst earlier

@@ -1,5 +1,7 @@
 -- What a port knows after a whole history, and what it touches then.
-use Rattle.mscp_port.proofs.Common.{ℕ, Bool, List, [], ◌∷◌, Option, Contains, IfSome, IsSomeAnd, inl, inr, refl, ap, sym, subst, arith, Result, Ok, Err, Action, Unasked, Buffer, Holdings, Hardware, Port, Hears, IsMadeOf, Ticks, Answered, Becomes, Call, IsNamed, IsNamedForData, IsNamedForRings, NamesBuffer, NamesPacket, reads, words, WriteIp, ReadIp, WriteSa, Next, PutAside, WasRead, Went, LookAgain, Tick, Protect, VolumeCame, VolumeWent, IsInRingsOrPacket, IsInSomeBuffer, IsWithin, in_hand, read_again, Task}
+use Rattle.mscp_port.proofs.Common.{ℕ, Bool, false, List, [], ◌∷◌, Option, None, Some, Contains, IfSome, IsSomeAnd, inl, inr, refl, ap, sym, subst, arith, Result, Ok, Err, Action, Unasked, Buffer, Holdings, Hardware, Port, Hears, IsMadeOf, Ticks, Answered, Becomes, Call, IsNamed, IsNamedForData, IsNamedForRings, NamesBuffer, NamesPacket, reads, words, WriteIp, ReadIp, WriteSa, Next, PutAside, WasRead, Went, LookAgain, Tick, Protect, VolumeCame, VolumeWent, IsInRingsOrPacket, IsInSomeBuffer, IsWithin, in_hand, read_again, Task, Volume, place_in, volume_changed, volume_put}
+use Rattle.mscp_port.specs.Calls.{ChangesVolume, step_again, step_at}
+use Rattle.mscp_port.specs.Volumes.{volume_protected}
 use Rattle.mscp_port.specs.declared.stage.Stage.TheVariants as stages
 use Rattle.mscp_port.specs.declared.task.Task.TheVariants as tasks
 use Rattle.mscp_port.proofs.Naming.Knowing.{answers, Knows, fresh_knows, new_knows, still_knows}
@@ -19,6 +21,33 @@ hand_again : (bs : List (List ℕ)) (task : Task) → IfSome (in_hand task) (λ 
     → IfSome (in_hand (read_again task)) (λ word. NamesPacket bs word)
 hand_again bs (tasks.Slot side) named = tt
 hand_again bs task named = named
+
+-- nor does a step that is taken anew
+step_named : (bs : List (List ℕ)) (task : Task) → IfSome (in_hand task) (λ word. NamesPacket bs word)
+    → IfSome (in_hand (step_again task)) (λ word. NamesPacket bs word)
+step_named bs (tasks.Step block) named = tt
+step_named bs task named = named
+
+at_named : (bs : List (List ℕ)) (o : Option ℕ) (task : Task) → IfSome (in_hand task) (λ word. NamesPacket bs word)
+    → IfSome (in_hand (step_at o task)) (λ word. NamesPacket bs word)
+at_named bs None task named = named
+at_named bs (Some place) task named = step_named bs task named
+
+-- a volume changes
+volume_known : {K : Type 0} (ws : List ℕ) (bs : List (List ℕ)) (becomes : Volume → Volume) (unit : ℕ) (old new : Port K)
+    → Knows ws bs old → ChangesVolume becomes unit old new → Knows ws bs new
+volume_known ws bs becomes unit old new k e =
+    still_knows ws bs bs old new k
+    (record {
+      taken = inl (ap (λ p. answers p.stage p.words) e);
+      given = ap (λ p. p.written) e;
+      area = ap (λ p. p.rings) e;
+    })
+    (record {
+      packet = subst (λ (p : Port _). IfSome (in_hand p.task) (λ word. NamesPacket bs word)) (sym e)
+          (at_named bs (place_in old.controller.settings.units unit) old.task k.packet);
+      buffer = subst (λ (p : Port _). (b : Buffer) → Contains p.buffers.items b → NamesBuffer bs b) (sym e) k.buffer;
+    })
 
 pub ticked : {K : Type 0} (ws : List ℕ) (bs : List (List ℕ)) (old new : Port K) → Knows ws bs old → Ticks old new
     → Knows ws bs new
@@ -51,10 +80,13 @@ after_call (Went outcome result) earlier old new k r =
     after_went (words earlier) (reads earlier) old new outcome result k r
 after_call LookAgain earlier old new k r = search arith
 after_call Tick earlier old new k r = ticked (words earlier) (reads earlier) old new k r
-after_call (VolumeCame m unit (Ok done)) earlier old new k r = let is = r.came refl in search (arith, is)
+after_call (VolumeCame m unit (Ok done)) earlier old new k r =
+    volume_known (words earlier) (reads earlier) (volume_put m) unit old new k (r.came refl)
 after_call (VolumeCame m unit (Err fault)) earlier old new k r = search arith
-after_call (VolumeWent unit result) earlier old new k r = search arith
-after_call (Protect protected unit result) earlier old new k r = search arith
+after_call (VolumeWent unit result) earlier old new k r =
+    volume_known (words earlier) (reads earlier) (volume_changed false) unit old new k r.frame
+after_call (Protect protected unit result) earlier old new k r =
+    volume_known (words earlier) (reads earlier) (volume_protected protected) unit old new k r.frame
 
 -- what a port knows after a history its host has named in it
 pub knows : {K : Type 0} (hardware : Hardware) (credits : ℕ) (controller : Holdings K) (start p : Port K)

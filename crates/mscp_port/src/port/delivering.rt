@@ -7,13 +7,16 @@ ghost use Rattle.mscp_port.specs.declared.action.Outcome.TheVariants as outcomes
 ghost use Rattle.mscp_port.specs.declared.stage.Stage.TheVariants as stages;
 ghost use Rattle.mscp_port.specs.declared.task.Task.TheVariants as tasks;
 ghost use Rattle.mscp_port.specs.Leaving.{status_told as leaving_status};
+ghost use Rattle.mscp_port.specs.Brought.{brought_of, brought_with, is_fresh as fresh_of};
+ghost use Rattle.mscp_port.specs.Moved.{brought_after};
 
 use crate::action::Outcome;
+use crate::brought::{Brought, find_brought, forget_brought, is_fresh, keep_brought};
 use crate::buffers::{Buffer, find_buffer, forget};
 use crate::filling::{
     PROTECTED_BY_HOST, attention, fill_controller, filled, status_told, unit_told,
 };
-use crate::port::{Outgoing, Port};
+use crate::port::{Outgoing, OutgoingKind, Port};
 use crate::rings::Side;
 use crate::slot::Descriptor;
 use crate::task::Task;
@@ -26,7 +29,8 @@ use mscp_queue::{Connection, Picker};
 /// The flag by which a host wants attention messages.
 const WANTS_ATTENTION: u16 = 0x0080;
 
-/// A host is told at most so many credits more than the one that an end gives back, since their field has four bits.
+/// A host is told at most so many credits more than the one that an end of the disk's gives back, since their field has
+/// four bits.
 const MOST_MORE: u8 = 14;
 
 impl<K: Picker> Port<K> {
@@ -44,8 +48,9 @@ impl<K: Picker> Port<K> {
             self.is_stalled = false;
             self.outgoing = Some(Outgoing {
                 bytes: self.told(end),
-                is_end: true,
+                kind: OutgoingKind::End,
             });
+            forget_brought(&mut self.brought, end.reference);
         } else {
             self.tell_news();
         }
@@ -72,20 +77,22 @@ impl<K: Picker> Port<K> {
     fn unit_end_told(&self, end: End, place: usize) -> ArrayVec<u8, 48>
         requires { place < 16 }
         ensures { result.items
-            ≡ unit_end self.now.controller.settings.units (volume_at self.now.volumes place) end }
+            ≡ unit_end self.now.controller.settings.units (volume_at self.now.volumes place)
+            (brought_of end.reference self.now.brought.items) end }
     {
         let volume = &self.volumes[place];
-        filled(&self.with_status(end, volume), volume)
+        let brought = find_brought(self.brought.as_slice(), end.reference);
+        filled(&self.with_status(end, volume, brought), volume)
     }
 
-    /// An end with the status that is told where the unit has this volume.
-    fn with_status(&self, end: End, volume: &Volume) -> End
-        ensures { result ≡ with_status (leaving_status end.code end.status volume.now)
-            (unit_found self.now.controller.settings.units end.unit) volume.now end }
+    /// An end with the status that is told where the unit has this volume, and of an ONLINE what it tells.
+    fn with_status(&self, end: End, volume: &Volume, brought: Option<Brought>) -> End
+        ensures { result ≡ with_status (leaving_status end.code end.status volume.now (fresh_of brought))
+            (unit_found self.now.controller.settings.units end.unit) volume.now brought end }
     {
-        let status = status_told(end.code, end.status, volume);
+        let status = status_told(end.code, end.status, volume, is_fresh(brought));
         let body = match self.controller.config().units().find(end.unit) {
-            Some(unit) => unit_told(status, end.body, unit, volume),
+            Some(unit) => unit_told(status, end.body, unit, volume, brought),
             None => end.body,
         };
         End {
@@ -127,18 +134,23 @@ impl<K: Picker> Port<K> {
         let unit = self.controller.config().units().list().get(place)?;
         Some(Outgoing {
             bytes: attention(unit, &self.volumes[place]),
-            is_end: false,
+            kind: OutgoingKind::Attention,
         })
     }
 
-    /// How many credits what goes out gives the host: the one that an end gives back, and those that it wasn't told yet.
+    /// How many credits what goes out gives the host: the one that an end gives back, and with an end of the disk's those
+    /// that it wasn't told yet.
     pub(crate) fn credits_told(&self) -> u8
         ensures value { result ≡ credits_told self.now }
         ensures few { result ≤ 15 }
     {
-        match &self.outgoing {
-            Some(outgoing) if outgoing.is_end => 1 + self.untold.min(MOST_MORE),
-            _ => 0,
+        let Some(outgoing) = &self.outgoing else {
+            return 0;
+        };
+        match outgoing.kind {
+            OutgoingKind::Attention => 0,
+            OutgoingKind::End => 1 + self.untold.min(MOST_MORE),
+            OutgoingKind::UtilitiesEnd => 1,
         }
     }
 
@@ -158,20 +170,24 @@ impl<K: Picker> Port<K> {
             return self.die(2);
         }
         if let Some(outgoing) = &self.outgoing
-            && outgoing.is_end
+            && let OutgoingKind::End = outgoing.kind
         {
             self.untold -= self.untold.min(MOST_MORE);
         }
         self.task = Task::Return(Side::Responses, slot);
     }
 
-    /// A step brought the end of a command: what is kept of it is heeded if it had Success, and forgotten.
+    /// A step brought the end of a command: what is kept of it is heeded if it had Success, and forgotten. What the Success of
+    /// an ONLINE tells is kept until it leaves.
     pub(crate) fn command_ended(&mut self, connection: Connection, end: &End)
         ensures frame { self.new ≡ record self.old {
           buffers = self.new.buffers;
+          brought = self.new.brought;
           volumes = volumes_after self.old.controller.settings.units self.old.buffers.items connection
               (Some end.now) self.old.volumes;
         } }
+        ensures brought { self.new.brought.items ≡ brought_after self.old.controller.settings.units
+            self.old.buffers.items connection (Some end.now) self.old.volumes self.old.brought.items }
         ensures buffers { self.new.buffers.items ≡ without connection end.now.reference self.old.buffers.items }
         ensures among { (b : Kept) → Contains self.new.buffers.items b → Contains self.old.buffers.items b }
     {
@@ -179,15 +195,19 @@ impl<K: Picker> Port<K> {
         forget(&mut self.buffers, connection, end.reference);
     }
 
-    /// Heeds what is kept of a command that ended, if it had Success.
+    /// Heeds what is kept of a command that ended, if it had Success, and keeps what an ONLINE tells then.
     fn heed_end(&mut self, connection: Connection, end: &End)
-        ensures { self.new ≡ record self.old {
+        ensures brought { self.new.brought.items ≡ brought_after self.old.controller.settings.units
+            self.old.buffers.items connection (Some end.now) self.old.volumes self.old.brought.items }
+        ensures frame { self.new ≡ record self.old {
+          brought = self.new.brought;
           volumes = volumes_after self.old.controller.settings.units self.old.buffers.items connection
               (Some end.now) self.old.volumes;
         } }
     {
         if let (Some(place), 0) = (self.place_of(end.unit), end.status % 32) {
             let buffer = find_buffer(self.buffers.as_slice(), connection, end.reference);
+            keep_unit(&mut self.brought, &self.volumes[place], end.code, buffer);
             heed_unit(&mut self.volumes[place], end.code, buffer);
         }
     }
@@ -201,11 +221,26 @@ fn news_in(volumes: &[Volume]) -> Option<usize>
     volumes.iter().position(|volume| volume.is_news)
 }
 
+/// What the Success of a command to a unit with this volume tells when it leaves: of an ONLINE or a SET UNIT CHARACTERISTICS
+/// the volume, and whether the unit wasn't online with it.
+fn keep_unit(all: &mut ArrayVec<Brought, 64>, volume: &Volume, code: u8, buffer: Option<Buffer>)
+    ensures { all.new.items ≡ brought_with code buffer volume.now all.old.items }
+{
+    if let (0x89 | 0x8A, Some(buffer)) = (code, buffer) {
+        let brought = Brought {
+            reference: buffer.reference,
+            is_fresh: volume.mounted != Some(volume.changes),
+            size: volume.size,
+            media: volume.media,
+        };
+        keep_brought(all, brought);
+    }
+}
+
 /// The modifier by which a host sets or clears its write protection.
 const SETS_PROTECTION: u16 = 0x0004;
 
-/// What the Success of a command to a unit means for its volume: ONLINE brings the unit online with it, freshly if it wasn't,
-/// and its host needs no news of it then; AVAILABLE takes it offline; ONLINE and SET UNIT CHARACTERISTICS set its write protection, if their modifier says so.
+/// What the Success of a command to a unit means for its volume: ONLINE brings the unit online with it, and its host needs no news of it then; AVAILABLE takes it offline; ONLINE and SET UNIT CHARACTERISTICS set its write protection, if their modifier says so.
 fn heed_unit(volume: &mut Volume, code: u8, buffer: Option<Buffer>)
     ensures { volume.new ≡ volume_heeded code buffer volume.old }
 {
@@ -216,9 +251,8 @@ fn heed_unit(volume: &mut Volume, code: u8, buffer: Option<Buffer>)
         }
         (0x89 | 0x8A, Some(buffer)) => {
             if code == 0x89 {
-                volume.is_fresh = volume.mounted != Some(buffer.changes);
-                volume.mounted = Some(buffer.changes);
-                volume.is_news = volume.is_news && buffer.changes != volume.changes;
+                volume.mounted = Some(volume.changes);
+                volume.is_news = false;
             }
             if buffer.modifiers / SETS_PROTECTION % 2 == 1 {
                 volume.is_protected_by_host = buffer.flags / PROTECTED_BY_HOST % 2 == 1;

@@ -1,7 +1,7 @@
 // What the port reads in host memory.
 
 ghost use Rattle.std.specs.Prelude.{◌≡◌, ◌≢◌, ◌≤◌, ◌⊎◌, ℕ, true, length, Bool, Contains, IfSome, Option, None, Ok, Err};
-ghost use Rattle.mscp_port.specs.Common.{First, after_message, num, Responses, Commands, kept_beside, without_aborted, handed, ChangesByReading, Dies, Hears, AnswersItself, in_hand, SeesHeader, SeesText, answered_to, changes_at, heeded, neighbour_seen, settings_heeded, slot_seen, is_owned, place_in};
+ghost use Rattle.mscp_port.specs.Common.{First, after_message, num, Responses, Commands, kept_beside, without_aborted, handed, ChangesByReading, Dies, Hears, AnswersItself, end_kind, in_hand, SeesHeader, SeesText, answered_to, changes_at, heeded, neighbour_seen, settings_heeded, slot_seen, is_owned, place_in};
 ghost use Rattle.mscp_controller.specs.declared.entry.SendFault.{SendFault as Refused};
 ghost use Rattle.mscp_controller.specs.declared.entry.Sent.{Sent as Told};
 ghost use Rattle.mscp_controller.specs.declared.entry.Sent.TheVariants as sents;
@@ -13,7 +13,7 @@ ghost use Rattle.mscp_port.specs.Messages.{own_end_of};
 use crate::action::Unasked;
 use crate::buffers::{Buffer, forget_aborted, keep};
 use crate::message::{SET_CONTROLLER, message_for_controller, own_end};
-use crate::port::{Outgoing, Port};
+use crate::port::{Outgoing, OutgoingKind, Port};
 use crate::rings::Side;
 use crate::sizes::{LONGEST_TEXT, TextSize};
 use crate::slot::Descriptor;
@@ -25,7 +25,18 @@ use mscp_packet::{End, write_end};
 use mscp_queue::{Connection, Picker};
 
 /// The connection of commands that the diagnostic and utilities protocol has.
-const UTILITIES: u32 = 2;
+pub(super) const UTILITIES: u8 = 2;
+
+/// What the port's own end of a message is.
+fn end_kind(is_foreign: bool) -> OutgoingKind
+    ensures { result ≡ end_kind is_foreign }
+{
+    if is_foreign {
+        OutgoingKind::UtilitiesEnd
+    } else {
+        OutgoingKind::End
+    }
+}
 
 impl<K: Picker> Port<K> {
     /// These bytes were read in host memory, as the port wanted. An error where it wanted no bytes, or not as many.
@@ -110,7 +121,7 @@ impl<K: Picker> Port<K> {
         if header / 0x10_0000 % 0x10 != 0 {
             return self.die(20);
         }
-        if connection != 0 && connection != UTILITIES {
+        if connection != 0 && connection != u32::from(UTILITIES) {
             return self.die(14);
         }
         let Some(length) = TextSize::of((header % 0x1_0000).min(LONGEST_TEXT)) else {
@@ -119,7 +130,7 @@ impl<K: Picker> Port<K> {
         self.task = Task::Text {
             slot,
             length,
-            is_foreign: connection == UTILITIES,
+            is_foreign: connection == u32::from(UTILITIES),
         };
     }
 
@@ -148,7 +159,7 @@ impl<K: Picker> Port<K> {
             Some(end) => {
                 self.outgoing = Some(Outgoing {
                     bytes: write_end(&end),
-                    is_end: true,
+                    kind: end_kind(is_foreign),
                 });
             }
             None => self.send(message),

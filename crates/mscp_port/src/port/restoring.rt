@@ -2,12 +2,13 @@
 
 ghost use Rattle.std.specs.Prelude.{◌≡◌, ◌*◌, ◌≤◌, ◌<◌, true, nat_eq, length, take, drop, slice_index, IfNone, IfOk, None};
 ghost use Rattle.mscp_port.specs.Common.{bytes_eq, num, IsSound, parts_in, optional, stage_in, IsFramed, IsSaved, area_in, buffers_in, coded_in, controller_in, controller_place, frame_fault, held_in, hardware_in, is_framed, outgoing_in, port_in, restored, rings_if, text_in, told_front, unless, volume_in, volumes_in, words_in, saved_bytes};
-ghost use Rattle.mscp_port.specs.Restored.{buffer_in};
+ghost use Rattle.mscp_port.specs.Restored.{all_brought_in, brought_in, buffer_in};
 
 mod front;
 
+use crate::brought::{Brought, brought_in};
 use crate::buffers::Buffer;
-use crate::codes::{Coded, bus_in, has_size, stage_in, task_in};
+use crate::codes::{Coded, bus_in, has_size, kind_in, stage_in, task_in};
 use crate::hardware::Hardware;
 use crate::port::restoring::front::saved_front;
 use crate::port::saving::{MAGIC, VERSION};
@@ -25,7 +26,7 @@ use mscp_saved::{part, resume};
 #[derive(Clone, Copy)]
 pub enum RestoreFault {
     /// Fewer bytes than a head and volumes have, or not as many as the head tells, or too few for its parts; or more parts than
-    /// any port has: a text of 48 bytes, and 64 commands of which something is kept.
+    /// any port has: a text of 48 bytes, 64 commands of which something is kept, and 64 ends that wait.
     Length,
     /// They don't begin with "MSCP".
     Magic,
@@ -42,7 +43,7 @@ pub enum RestoreFault {
 
 /// What kind of port it is.
 fn hardware_in(b: &[u8]) -> Hardware
-    requires { 424 ≤ length b.now }
+    requires { 425 ≤ length b.now }
     ensures { result ≡ hardware_in b.now }
 {
     Hardware {
@@ -70,7 +71,7 @@ fn flag_at(b: &[u8], at: usize) -> bool
 
 /// How far the port has come.
 fn stage_of(b: &[u8]) -> Stage
-    requires { 424 ≤ length b.now }
+    requires { 425 ≤ length b.now }
     ensures { result ≡ stage_in (slice_index b.now 33) (num b.now 34 2) }
 {
     stage_in(b[33], two_at(b, 34))
@@ -78,7 +79,7 @@ fn stage_of(b: &[u8]) -> Stage
 
 /// What the host wrote to SA.
 fn written_in(b: &[u8]) -> Option<u16>
-    requires { 424 ≤ length b.now }
+    requires { 425 ≤ length b.now }
     ensures { result ≡ optional (slice_index b.now 36) (num b.now 37 2) }
 {
     optional(b[36], two_at(b, 37))
@@ -86,7 +87,7 @@ fn written_in(b: &[u8]) -> Option<u16>
 
 /// The communication area, if there is one.
 fn rings_in(b: &[u8]) -> Option<Rings>
-    requires { 424 ≤ length b.now }
+    requires { 425 ≤ length b.now }
     ensures { result ≡ rings_if (slice_index b.now 39) (area_in b.now) }
 {
     if b[39] != 1 {
@@ -97,7 +98,7 @@ fn rings_in(b: &[u8]) -> Option<Rings>
 
 /// A task, as numbers.
 fn coded_in(b: &[u8]) -> Coded
-    requires { 424 ≤ length b.now }
+    requires { 425 ≤ length b.now }
     ensures { result ≡ coded_in b.now }
 {
     Coded {
@@ -112,7 +113,7 @@ fn coded_in(b: &[u8]) -> Coded
 
 /// What the host wrote in the first two steps.
 fn words_in(b: &[u8]) -> Words
-    requires { 424 ≤ length b.now }
+    requires { 425 ≤ length b.now }
     ensures { result ≡ words_in b.now }
 {
     Words {
@@ -133,7 +134,7 @@ fn outgoing_in(byte: u8, text: &[u8]) -> Option<Outgoing>
     put(&mut bytes, text);
     Some(Outgoing {
         bytes,
-        is_end: byte == 2,
+        kind: kind_in(byte),
     })
 }
 
@@ -151,8 +152,7 @@ fn volume_in(b: &[u8]) -> Volume
         size: four_at(b, 9),
         media: four_at(b, 13),
         mounted: optional(b[17], four_at(b, 18)),
-        is_news: b[3] % 2 == 1,
-        is_fresh: b[3] / 2 == 1,
+        is_news: b[3] == 1,
     }
 }
 
@@ -199,20 +199,35 @@ fn buffers_in(b: &[u8], count: usize) -> ArrayVec<Buffer, 64>
     buffers
 }
 
+/// What so many ends tell, behind one another from the first byte on.
+fn all_brought_in(b: &[u8], count: usize) -> ArrayVec<Brought, 64>
+    requires few { count ≤ 64 }
+    requires long { 13 * count ≤ length b.now }
+    ensures { result.items ≡ parts_in brought_in 13 count b.now }
+{
+    let mut all = ArrayVec::new();
+    for place in 0..count {
+        all.push(brought_in(part(b, 13, place)));
+    }
+    all
+}
+
 /// Whether there is a head with volumes, and as many bytes as it tells, which are not too few for its parts; and no more of
 /// each part than a port has.
 fn is_framed(b: &[u8]) -> bool
     ensures value { result ≡ is_framed b.now }
     ensures framed { result ≡ true → IsFramed b.now }
 {
-    if b.len() < 424 {
+    if b.len() < 425 {
         return false;
     }
     let (text, buffers) = (usize::from(b[70]), usize::from(b[71]));
+    let brought = usize::from(b[72]);
     four_at(b, 8) as usize == b.len()
         && text <= 48
         && buffers <= 64
-        && 424 + text + 20 * buffers <= b.len()
+        && brought <= 64
+        && 425 + text + 20 * buffers + 13 * brought <= b.len()
 }
 
 /// Why no parts are read: the first fault that holds.
@@ -240,15 +255,15 @@ fn outgoing_of(b: &[u8]) -> Option<Outgoing>
     requires { IsFramed b.now }
     ensures { result ≡ outgoing_in (slice_index b.now 69) (text_in b.now) }
 {
-    outgoing_in(b[69], &b[424..][..usize::from(b[70])])
+    outgoing_in(b[69], &b[425..][..usize::from(b[70])])
 }
 
 /// The volumes.
 fn volumes_of(b: &[u8]) -> [Volume; 16]
-    requires { 424 ≤ length b.now }
+    requires { 425 ≤ length b.now }
     ensures { result ≡ volumes_in b.now }
 {
-    volumes_in(&b[72..])
+    volumes_in(&b[73..])
 }
 
 /// What is kept of commands.
@@ -256,7 +271,18 @@ fn buffers_of(b: &[u8]) -> ArrayVec<Buffer, 64>
     requires { IsFramed b.now }
     ensures { result.items ≡ buffers_in b.now }
 {
-    buffers_in(&b[424 + usize::from(b[70])..], usize::from(b[71]))
+    buffers_in(&b[425 + usize::from(b[70])..], usize::from(b[71]))
+}
+
+/// What ends that wait tell.
+fn all_brought_of(b: &[u8]) -> ArrayVec<Brought, 64>
+    requires { IsFramed b.now }
+    ensures { result.items ≡ all_brought_in b.now }
+{
+    all_brought_in(
+        &b[425 + usize::from(b[70]) + 20 * usize::from(b[71])..],
+        usize::from(b[72]),
+    )
 }
 
 /// The bytes of the controller.
@@ -264,7 +290,7 @@ fn controller_bytes(b: &[u8]) -> &[u8]
     requires { IsFramed b.now }
     ensures { result.now ≡ drop (controller_place b.now) b.now }
 {
-    &b[424 + usize::from(b[70]) + 20 * usize::from(b[71])..]
+    &b[425 + usize::from(b[70]) + 20 * usize::from(b[71]) + 13 * usize::from(b[72])..]
 }
 
 /// Whether the bytes in front of the controller's are those that the port is saved as that they say.
@@ -325,6 +351,7 @@ impl<K: Picker> Port<K> {
         self.is_stalled = flag_at(b, 21);
         self.is_full = flag_at(b, 22);
         self.buffers = buffers_of(b);
+        self.brought = all_brought_of(b);
         self.volumes = volumes_of(b);
         self.flags = two_at(b, 23);
         self.timeout = two_at(b, 25);

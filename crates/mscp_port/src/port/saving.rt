@@ -1,10 +1,11 @@
 // A port to bytes.
 
 ghost use Rattle.std.specs.Prelude.{◌≡◌, ◌+◌, ◌*◌, ◌≤◌, ◌<◌, ◌^◌, ◌++◌, ◌∷◌, [], flat_map, length, All, IfSome, Ok};
-ghost use Rattle.mscp_port.specs.Common.{array_vec_len, flag_byte, AreRings, number_or_none, stage_word, restored, HasBufferRange, HasCodedRange, HasHandRange, HasStateRange, HasVolumeRange, told_byte, area_bytes, buffer_bytes, coded_bytes, counts_bytes, frame_bytes, hand_bytes, hardware_bytes, mounted_bytes, outgoing_byte, outgoing_text, rings_bytes, saved_bytes, stage_bytes, state_bytes, volume_bytes, words_bytes, written_bytes};
+ghost use Rattle.mscp_port.specs.Common.{array_vec_len, flag_byte, AreRings, number_or_none, stage_word, restored, HasBroughtRange, HasBufferRange, HasCodedRange, HasHandRange, HasStateRange, HasVolumeRange, area_bytes, brought_bytes, buffer_bytes, coded_bytes, counts_bytes, frame_bytes, hand_bytes, hardware_bytes, mounted_bytes, outgoing_byte, outgoing_text, rings_bytes, saved_bytes, stage_bytes, state_bytes, volume_bytes, words_bytes, written_bytes};
 
+use crate::brought::Brought;
 use crate::buffers::Buffer;
-use crate::codes::{Coded, bus_byte, coded_task};
+use crate::codes::{Coded, bus_byte, coded_task, kind_byte};
 use crate::hardware::Hardware;
 use crate::port::{Outgoing, Port, Words};
 use crate::rings::{Rings, Side};
@@ -14,19 +15,19 @@ use arrayvec::ArrayVec;
 use mscp_packet::fields::{put, put_four, put_two};
 use mscp_queue::Picker;
 
-/// The most bytes that a port is saved as: a head, 16 volumes, a text of 48 bytes, what is kept of 64 commands, and a
-/// controller.
-pub const ROOM: usize = 5416;
+/// The most bytes that a port is saved as: a head, 16 volumes, a text of 48 bytes, what is kept of 64 commands, what 64
+/// ends tell that wait, and a controller.
+pub const ROOM: usize = 6249;
 
 /// "MSCP", as a number.
 pub(super) const MAGIC: u32 = 0x5043_534D;
 
 /// The version of the format.
-pub(super) const VERSION: u32 = 1;
+pub(super) const VERSION: u32 = 2;
 
 /// Appends whether something is so.
 pub(super) fn put_flag(out: &mut ArrayVec<u8, ROOM>, so: bool)
-    requires { array_vec_len out.old + 1 ≤ 5416 }
+    requires { array_vec_len out.old + 1 ≤ 6249 }
     ensures items { out.new.items ≡ out.old.items ++ (flag_byte so ∷ []) }
     ensures len { array_vec_len out.new ≡ array_vec_len out.old + 1 }
 {
@@ -47,7 +48,7 @@ pub(super) fn put_frame(out: &mut ArrayVec<u8, ROOM>, total: u32)
 
 /// Appends what kind of port it is.
 pub(super) fn put_hardware(out: &mut ArrayVec<u8, ROOM>, hardware: Hardware)
-    requires { array_vec_len out.old + 4 ≤ 5416 }
+    requires { array_vec_len out.old + 4 ≤ 6249 }
     ensures items { out.new.items ≡ out.old.items ++ hardware_bytes hardware }
     ensures len { array_vec_len out.new ≡ array_vec_len out.old + 4 }
 {
@@ -59,7 +60,7 @@ pub(super) fn put_hardware(out: &mut ArrayVec<u8, ROOM>, hardware: Hardware)
 
 /// Appends what the host wrote in the first two steps.
 pub(super) fn put_words(out: &mut ArrayVec<u8, ROOM>, words: Words)
-    requires { array_vec_len out.old + 4 ≤ 5416 }
+    requires { array_vec_len out.old + 4 ≤ 6249 }
     ensures items { out.new.items ≡ out.old.items ++ words_bytes words }
     ensures len { array_vec_len out.new ≡ array_vec_len out.old + 4 }
     ensures first { words.first < 2 ^ 16 }
@@ -71,7 +72,7 @@ pub(super) fn put_words(out: &mut ArrayVec<u8, ROOM>, words: Words)
 
 /// Appends how far the port has come.
 pub(super) fn put_stage(out: &mut ArrayVec<u8, ROOM>, stage: Stage)
-    requires { array_vec_len out.old + 3 ≤ 5416 }
+    requires { array_vec_len out.old + 3 ≤ 6249 }
     ensures items { out.new.items ≡ out.old.items ++ stage_bytes stage }
     ensures len { array_vec_len out.new ≡ array_vec_len out.old + 3 }
     ensures range { stage_word stage < 2 ^ 16 }
@@ -82,7 +83,7 @@ pub(super) fn put_stage(out: &mut ArrayVec<u8, ROOM>, stage: Stage)
 
 /// Appends what the host wrote to SA.
 pub(super) fn put_written(out: &mut ArrayVec<u8, ROOM>, written: Option<u16>)
-    requires { array_vec_len out.old + 3 ≤ 5416 }
+    requires { array_vec_len out.old + 3 ≤ 6249 }
     ensures items { out.new.items ≡ out.old.items ++ written_bytes written }
     ensures len { array_vec_len out.new ≡ array_vec_len out.old + 3 }
     ensures range { number_or_none written < 2 ^ 16 }
@@ -101,7 +102,7 @@ pub(super) fn put_written(out: &mut ArrayVec<u8, ROOM>, written: Option<u16>)
 
 /// Appends where the communication area is.
 fn put_area(out: &mut ArrayVec<u8, ROOM>, rings: Rings)
-    requires { array_vec_len out.old + 12 ≤ 5416 }
+    requires { array_vec_len out.old + 12 ≤ 6249 }
     ensures items { out.new.items ≡ out.old.items ++ area_bytes rings }
     ensures len { array_vec_len out.new ≡ array_vec_len out.old + 12 }
     ensures range { AreRings rings }
@@ -113,7 +114,7 @@ fn put_area(out: &mut ArrayVec<u8, ROOM>, rings: Rings)
 
 /// Appends the communication area, if there is one.
 pub(super) fn put_rings(out: &mut ArrayVec<u8, ROOM>, rings: Option<Rings>)
-    requires { array_vec_len out.old + 13 ≤ 5416 }
+    requires { array_vec_len out.old + 13 ≤ 6249 }
     ensures items { out.new.items ≡ out.old.items ++ rings_bytes rings }
     ensures len { array_vec_len out.new ≡ array_vec_len out.old + 13 }
     ensures range { IfSome rings (λ r. AreRings r) }
@@ -132,7 +133,7 @@ pub(super) fn put_rings(out: &mut ArrayVec<u8, ROOM>, rings: Option<Rings>)
 
 /// Appends a task, with four zeros where the format has room.
 pub(super) fn put_coded(out: &mut ArrayVec<u8, ROOM>, coded: Coded)
-    requires { array_vec_len out.old + 17 ≤ 5416 }
+    requires { array_vec_len out.old + 17 ≤ 6249 }
     ensures items { out.new.items ≡ out.old.items ++ coded_bytes coded }
     ensures len { array_vec_len out.new ≡ array_vec_len out.old + 17 }
     ensures range { HasCodedRange coded }
@@ -148,7 +149,7 @@ pub(super) fn put_coded(out: &mut ArrayVec<u8, ROOM>, coded: Coded)
 
 /// Appends how often a volume had changed when its unit was brought online, if it was.
 fn put_mounted(out: &mut ArrayVec<u8, ROOM>, mounted: Option<u32>)
-    requires { array_vec_len out.old + 5 ≤ 5416 }
+    requires { array_vec_len out.old + 5 ≤ 6249 }
     ensures items { out.new.items ≡ out.old.items ++ mounted_bytes mounted }
     ensures len { array_vec_len out.new ≡ array_vec_len out.old + 5 }
     ensures range { number_or_none mounted < 2 ^ 32 }
@@ -165,21 +166,9 @@ fn put_mounted(out: &mut ArrayVec<u8, ROOM>, mounted: Option<u32>)
     }
 }
 
-/// Whether a volume is news, and twice whether it is fresh.
-fn told_byte(volume: &Volume) -> u8
-    ensures { result ≡ told_byte volume.now }
-{
-    match (volume.is_news, volume.is_fresh) {
-        (false, false) => 0,
-        (true, false) => 1,
-        (false, true) => 2,
-        (true, true) => 3,
-    }
-}
-
 /// Appends a volume.
 fn put_volume(out: &mut ArrayVec<u8, ROOM>, volume: Volume)
-    requires { array_vec_len out.old + 22 ≤ 5416 }
+    requires { array_vec_len out.old + 22 ≤ 6249 }
     ensures items { out.new.items ≡ out.old.items ++ volume_bytes volume }
     ensures len { array_vec_len out.new ≡ array_vec_len out.old + 22 }
     ensures range { HasVolumeRange volume }
@@ -187,7 +176,7 @@ fn put_volume(out: &mut ArrayVec<u8, ROOM>, volume: Volume)
     put_flag(out, volume.is_there);
     put_flag(out, volume.is_protected);
     put_flag(out, volume.is_protected_by_host);
-    out.push(told_byte(&volume));
+    put_flag(out, volume.is_news);
     put_flag(out, volume.is_removable);
     put_four(out, volume.changes);
     put_four(out, volume.size);
@@ -197,7 +186,7 @@ fn put_volume(out: &mut ArrayVec<u8, ROOM>, volume: Volume)
 
 /// Appends volumes.
 pub(super) fn put_volumes(out: &mut ArrayVec<u8, ROOM>, volumes: &[Volume])
-    requires { array_vec_len out.old + 22 * length volumes.now ≤ 5416 }
+    requires { array_vec_len out.old + 22 * length volumes.now ≤ 6249 }
     ensures items { out.new.items ≡ out.old.items ++ flat_map volume_bytes volumes.now }
     ensures len { array_vec_len out.new ≡ array_vec_len out.old + 22 * length volumes.now }
     ensures range { All HasVolumeRange volumes.now }
@@ -209,7 +198,7 @@ pub(super) fn put_volumes(out: &mut ArrayVec<u8, ROOM>, volumes: &[Volume])
 
 /// Appends what is kept of a command.
 fn put_buffer(out: &mut ArrayVec<u8, ROOM>, buffer: Buffer)
-    requires { array_vec_len out.old + 20 ≤ 5416 }
+    requires { array_vec_len out.old + 20 ≤ 6249 }
     ensures items { out.new.items ≡ out.old.items ++ buffer_bytes buffer }
     ensures len { array_vec_len out.new ≡ array_vec_len out.old + 20 }
     ensures range { HasBufferRange buffer }
@@ -224,13 +213,38 @@ fn put_buffer(out: &mut ArrayVec<u8, ROOM>, buffer: Buffer)
 
 /// Appends what is kept of commands.
 pub(super) fn put_buffers(out: &mut ArrayVec<u8, ROOM>, buffers: &[Buffer])
-    requires { array_vec_len out.old + 20 * length buffers.now ≤ 5416 }
+    requires { array_vec_len out.old + 20 * length buffers.now ≤ 6249 }
     ensures items { out.new.items ≡ out.old.items ++ flat_map buffer_bytes buffers.now }
     ensures len { array_vec_len out.new ≡ array_vec_len out.old + 20 * length buffers.now }
     ensures range { All HasBufferRange buffers.now }
 {
     for buffer in buffers {
         put_buffer(out, *buffer);
+    }
+}
+
+/// Appends what an end that waits tells.
+fn put_brought(out: &mut ArrayVec<u8, ROOM>, brought: Brought)
+    requires { array_vec_len out.old + 13 ≤ 6249 }
+    ensures items { out.new.items ≡ out.old.items ++ brought_bytes brought }
+    ensures len { array_vec_len out.new ≡ array_vec_len out.old + 13 }
+    ensures range { HasBroughtRange brought }
+{
+    put_four(out, brought.reference);
+    put_flag(out, brought.is_fresh);
+    put_four(out, brought.size);
+    put_four(out, brought.media);
+}
+
+/// Appends what ends that wait tell.
+pub(super) fn put_all_brought(out: &mut ArrayVec<u8, ROOM>, all: &[Brought])
+    requires { array_vec_len out.old + 13 * length all.now ≤ 6249 }
+    ensures items { out.new.items ≡ out.old.items ++ flat_map brought_bytes all.now }
+    ensures len { array_vec_len out.new ≡ array_vec_len out.old + 13 * length all.now }
+    ensures range { All HasBroughtRange all.now }
+{
+    for brought in all {
+        put_brought(out, *brought);
     }
 }
 
@@ -245,13 +259,12 @@ pub(super) fn text_of(outgoing: &Option<Outgoing>) -> &[u8]
     }
 }
 
-/// Whether something goes out, and whether that is an end.
+/// Whether something goes out, and what that is.
 pub(super) fn outgoing_byte(outgoing: &Option<Outgoing>) -> u8
     ensures { result ≡ outgoing_byte outgoing.now }
 {
     match outgoing {
-        Some(outgoing) if outgoing.is_end => 2,
-        Some(_) => 1,
+        Some(outgoing) => kind_byte(outgoing.kind),
         None => 0,
     }
 }
@@ -259,7 +272,7 @@ pub(super) fn outgoing_byte(outgoing: &Option<Outgoing>) -> u8
 impl<K: Picker> Port<K> {
     /// Appends what it counts, and whether something is so.
     fn put_counts(&self, out: &mut ArrayVec<u8, ROOM>)
-        requires { array_vec_len out.old + 7 ≤ 5416 }
+        requires { array_vec_len out.old + 7 ≤ 6249 }
         ensures items { out.new.items ≡ out.old.items ++ counts_bytes self.now }
         ensures len { array_vec_len out.new ≡ array_vec_len out.old + 7 }
     {
@@ -274,7 +287,7 @@ impl<K: Picker> Port<K> {
 
     /// Appends what kind of port it is, what it counts, and what its host has set.
     fn put_state(&self, out: &mut ArrayVec<u8, ROOM>)
-        requires { array_vec_len out.old + 21 ≤ 5416 }
+        requires { array_vec_len out.old + 21 ≤ 6249 }
         ensures items { out.new.items ≡ out.old.items ++ state_bytes self.now }
         ensures len { array_vec_len out.new ≡ array_vec_len out.old + 21 }
         ensures range { HasStateRange self.now }
@@ -289,9 +302,9 @@ impl<K: Picker> Port<K> {
 
     /// Appends how far it has come, and what it has in hand.
     fn put_hand(&self, out: &mut ArrayVec<u8, ROOM>)
-        requires { array_vec_len out.old + 39 ≤ 5416 }
+        requires { array_vec_len out.old + 40 ≤ 6249 }
         ensures items { out.new.items ≡ out.old.items ++ hand_bytes self.now }
-        ensures len { array_vec_len out.new ≡ array_vec_len out.old + 39 }
+        ensures len { array_vec_len out.new ≡ array_vec_len out.old + 40 }
         ensures range { HasHandRange self.now }
     {
         put_stage(out, self.stage);
@@ -301,6 +314,7 @@ impl<K: Picker> Port<K> {
         out.push(outgoing_byte(&self.outgoing));
         out.push(text_of(&self.outgoing).len() as u8);
         out.push(self.buffers.len() as u8);
+        out.push(self.brought.len() as u8);
     }
 
     /// The picker of its controller.
@@ -319,7 +333,8 @@ impl<K: Picker> Port<K> {
         let controller = mscp_saved::save(&self.controller, number);
         let text = text_of(&self.outgoing);
         let buffers = self.buffers.as_slice();
-        let total = 424 + text.len() + 20 * buffers.len() + controller.len();
+        let brought = self.brought.as_slice();
+        let total = 425 + text.len() + 20 * buffers.len() + 13 * brought.len() + controller.len();
         let mut out = ArrayVec::new();
         put_frame(&mut out, total as u32);
         self.put_state(&mut out);
@@ -327,6 +342,7 @@ impl<K: Picker> Port<K> {
         put_volumes(&mut out, &self.volumes);
         put(&mut out, text);
         put_buffers(&mut out, buffers);
+        put_all_brought(&mut out, brought);
         put(&mut out, controller.as_slice());
         out
     }

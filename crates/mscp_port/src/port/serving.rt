@@ -125,6 +125,9 @@ fn task_for(upcoming: &Upcoming, buffer: &Buffer, volume: &Volume) -> Task
     if matches!(upcoming.command.order, Order::Available) {
         return Task::Step(Block::Good);
     }
+    if volume.is_there && matches!(upcoming.command.order, Order::Online | Order::SetUnit) {
+        return Task::Step(Block::Good);
+    }
     if !volume.is_there || buffer.changes != volume.changes {
         return Task::Step(bad(STEP_WITHOUT_VOLUME));
     }

@@ -1,7 +1,7 @@
 // What comes from elsewhere than the host: volumes, and time.
 
 ghost use Rattle.std.specs.Prelude.{◌≡◌, ◌↔◌, true, false, IsTrue};
-ghost use Rattle.mscp_port.specs.Common.{Changes, IsQuiet, LooksAgain, PutsIn, Ticks, medium_answer, seconds, unit_found, volume_changed, volume_protected};
+ghost use Rattle.mscp_port.specs.Common.{Changes, IsQuiet, LooksAgain, PutsIn, Ticks, medium_answer, seconds, step_again, unit_found, volume_changed, volume_protected};
 
 use crate::port::Port;
 use crate::stage::Stage;
@@ -21,6 +21,7 @@ impl<K: Picker> Port<K> {
         self.fits(unit, &medium)?;
         if let Some(place) = self.place_of(unit) {
             self.volumes[place].put(medium);
+            self.take_anew();
         }
         Ok(())
     }
@@ -36,6 +37,15 @@ impl<K: Picker> Port<K> {
         }
     }
 
+    /// A step in hand that moves no block was decided with the volumes that were there: it is taken in hand anew.
+    fn take_anew(&mut self)
+        ensures { self.new ≡ record self.old { task = step_again self.old.task } }
+    {
+        if let Task::Step(_) = self.task {
+            self.task = Task::Free;
+        }
+    }
+
     /// The volume of a unit went.
     pub fn volume_went(&mut self, unit: u16) -> Result<(), NoUnit>
         ensures { Changes (volume_changed false) unit self.old result self.new }
@@ -44,17 +54,21 @@ impl<K: Picker> Port<K> {
             return Err(NoUnit);
         };
         self.volumes[place].change(false);
+        self.take_anew();
         Ok(())
     }
 
     /// Nothing may be written on the volume of a unit from now on, or something may again. It stays the same volume to its host.
+    /// Of a unit without a volume nothing is kept.
     pub fn protect(&mut self, unit: u16, is_protected: bool) -> Result<(), NoUnit>
         ensures { Changes (volume_protected is_protected) unit self.old result self.new }
     {
         let Some(place) = self.place_of(unit) else {
             return Err(NoUnit);
         };
-        self.volumes[place].is_protected = is_protected;
+        let volume = &mut self.volumes[place];
+        volume.is_protected = volume.is_there && is_protected;
+        self.take_anew();
         Ok(())
     }
 

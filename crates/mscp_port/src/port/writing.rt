@@ -1,9 +1,10 @@
 // The bytes that a port wants written.
 
 ghost use Rattle.std.specs.Prelude.{◌≡◌, ◌≤◌, length, replicate, None, Some};
-ghost use Rattle.mscp_port.specs.Common.{bytes_wanted, clear_count, clear_from, credits_told, given_back, little_bytes, packet_of, packet_out};
+ghost use Rattle.mscp_port.specs.Common.{bytes_wanted, clear_count, clear_from, connection_of, credits_told, given_back, little_bytes, packet_of, packet_out};
 
-use crate::port::Port;
+use crate::port::hearing::UTILITIES;
+use crate::port::{OutgoingKind, Port};
 use crate::rings::Rings;
 use crate::sizes::{CLEARED, ClearSize};
 use crate::slot::Descriptor;
@@ -40,6 +41,16 @@ fn descriptor(slot: &Descriptor) -> ArrayVec<u8, 64>
     bytes
 }
 
+/// The connection of a message.
+fn connection_of(kind: OutgoingKind) -> u8
+    ensures { result ≡ connection_of kind }
+{
+    match kind {
+        OutgoingKind::Attention | OutgoingKind::End => 0,
+        OutgoingKind::UtilitiesEnd => UTILITIES,
+    }
+}
+
 impl<K: Picker> Port<K> {
     /// The bytes that are to be written to host memory, if the action that `next` told last is to write some: as many as it
     /// says.
@@ -57,14 +68,15 @@ impl<K: Picker> Port<K> {
         }
     }
 
-    /// The packet of what goes out: its length, the credits and the type, the connection, and its text.
+    /// The packet of what goes out: its length, the credits and the type, which is 0, the connection, and its text.
     fn packet(&self) -> ArrayVec<u8, 64>
         ensures { result.items ≡ packet_out self.now self.now.outgoing }
     {
         let mut packet = ArrayVec::new();
         if let Some(outgoing) = &self.outgoing {
             put_two(&mut packet, outgoing.bytes.len() as u16);
-            put_two(&mut packet, u16::from(self.credits_told()));
+            packet.push(self.credits_told());
+            packet.push(connection_of(outgoing.kind));
             put(&mut packet, outgoing.bytes.as_slice());
         }
         packet

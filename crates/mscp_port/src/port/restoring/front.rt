@@ -6,20 +6,20 @@ ghost use Rattle.mscp_port.specs.Common.{array_vec_len, IsFramed, front_in, told
 use crate::codes::{coded_task, task_in};
 use crate::port::Outgoing;
 use crate::port::restoring::{
-    buffers_of, coded_in, flag_at, hardware_in, outgoing_of, rings_in, stage_of, volumes_of,
-    words_in, written_in,
+    all_brought_of, buffers_of, coded_in, flag_at, hardware_in, outgoing_of, rings_in, stage_of,
+    volumes_of, words_in, written_in,
 };
 use crate::port::saving::{
-    ROOM, outgoing_byte, put_buffers, put_coded, put_flag, put_frame, put_hardware, put_rings,
-    put_stage, put_volumes, put_words, put_written, text_of,
+    ROOM, outgoing_byte, put_all_brought, put_buffers, put_coded, put_flag, put_frame,
+    put_hardware, put_rings, put_stage, put_volumes, put_words, put_written, text_of,
 };
 use arrayvec::ArrayVec;
 use mscp_packet::fields::{put, put_two, two_at};
 
 /// Appends what bytes say that a port counts, and whether something is so.
 fn put_told_counts(out: &mut ArrayVec<u8, ROOM>, b: &[u8])
-    requires room { array_vec_len out.old + 7 ≤ 5416 }
-    requires long { 424 ≤ length b.now }
+    requires room { array_vec_len out.old + 7 ≤ 6249 }
+    requires long { 425 ≤ length b.now }
     ensures items { out.new.items ≡ out.old.items ++ counts_bytes (front_in b.now) }
     ensures len { array_vec_len out.new ≡ array_vec_len out.old + 7 }
 {
@@ -34,8 +34,8 @@ fn put_told_counts(out: &mut ArrayVec<u8, ROOM>, b: &[u8])
 
 /// Appends what kind of port they say, what it counts, and what its host has set.
 fn put_told_state(out: &mut ArrayVec<u8, ROOM>, b: &[u8])
-    requires room { array_vec_len out.old + 21 ≤ 5416 }
-    requires long { 424 ≤ length b.now }
+    requires room { array_vec_len out.old + 21 ≤ 6249 }
+    requires long { 425 ≤ length b.now }
     ensures items { out.new.items ≡ out.old.items ++ state_bytes (front_in b.now) }
     ensures len { array_vec_len out.new ≡ array_vec_len out.old + 21 }
 {
@@ -49,11 +49,11 @@ fn put_told_state(out: &mut ArrayVec<u8, ROOM>, b: &[u8])
 
 /// Appends how far they say that it has come, and what it has in hand, with what goes out.
 fn put_told_hand(out: &mut ArrayVec<u8, ROOM>, b: &[u8], outgoing: &Option<Outgoing>)
-    requires room { array_vec_len out.old + 39 ≤ 5416 }
+    requires room { array_vec_len out.old + 40 ≤ 6249 }
     requires framed { IsFramed b.now }
     requires told { outgoing.now ≡ (front_in b.now).outgoing }
     ensures items { out.new.items ≡ out.old.items ++ hand_bytes (front_in b.now) }
-    ensures len { array_vec_len out.new ≡ array_vec_len out.old + 39 }
+    ensures len { array_vec_len out.new ≡ array_vec_len out.old + 40 }
 {
     put_stage(out, stage_of(b));
     put_written(out, written_in(b));
@@ -62,6 +62,7 @@ fn put_told_hand(out: &mut ArrayVec<u8, ROOM>, b: &[u8], outgoing: &Option<Outgo
     out.push(outgoing_byte(outgoing));
     out.push(text_of(outgoing).len() as u8);
     out.push(b[71]);
+    out.push(b[72]);
 }
 
 /// The bytes in front of its controller that the port is saved as that bytes say.
@@ -80,5 +81,6 @@ pub(super) fn saved_front(b: &[u8]) -> ArrayVec<u8, ROOM>
     put_volumes(&mut out, &volumes_of(b));
     put(&mut out, text);
     put_buffers(&mut out, buffers_of(b).as_slice());
+    put_all_brought(&mut out, all_brought_of(b).as_slice());
     out
 }

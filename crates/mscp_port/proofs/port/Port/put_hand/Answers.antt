@@ -11,4 +11,5 @@ returns-clause-items g c =
     let kind = more xs _ _ _ task c.push.ensures.items (ap (λ n. n ∷ []) c.outgoing_byte.ensures) in
     let text = more xs _ _ _ kind c.push-2.ensures.items
     (ap (λ (l : List ℕ). length l ∷ []) c.text_of.ensures.value) in
-    more xs _ _ _ text c.push-3.ensures.items (ap (λ n. n ∷ []) c.len.ensures.value)
+    let buffers = more xs _ _ _ text c.push-3.ensures.items (ap (λ n. n ∷ []) c.len.ensures.value) in
+    more xs _ _ _ buffers c.push-4.ensures.items (ap (λ n. n ∷ []) c.len-2.ensures.value)

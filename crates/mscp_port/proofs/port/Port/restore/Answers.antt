@@ -1,4 +1,4 @@
-use Rattle.mscp_port.proofs.Common.{◌≡◌, ◌∙◌, ◌<◌, ◌-◌, IsOk, First, balance_of, ap, sym, subst, arith, Ok, false≢true, Holdings, fresh, IsSound, held_in, unless}
+use Rattle.mscp_port.proofs.Common.{◌≡◌, ◌∙◌, ◌<◌, ◌-◌, IsOk, First, balance_of, ap, sym, subst, arith, Ok, false≢true, Holdings, IsSound, held_in, unless}
 use Rattle.mscp_port.proofs.Comes.{bytes_told}
 use Rattle.mscp_port.proofs.port.Port.restore.Goals as goal
 

@@ -1,4 +1,4 @@
-use Rattle.mscp_port.proofs.Common.{◌≡◌, ◌∙◌, controller_in, Holdings, controller_said}
+use Rattle.mscp_port.proofs.Common.{◌≡◌, ◌∙◌, controller_in, controller_said}
 use Rattle.mscp_port.proofs.port.Port.resume.Goals as goal
 
 pub returns : goal.returns

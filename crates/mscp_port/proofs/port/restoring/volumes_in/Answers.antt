@@ -1,4 +1,4 @@
-use Rattle.mscp_port.proofs.Common.{◌≡◌, ap, ◌∙◌, arith, refl, sym, parts_in, part_more, volume_in, false≢true, IsOk, Result, Ok, Err}
+use Rattle.mscp_port.proofs.Common.{◌≡◌, ap, ◌∙◌, arith, refl, parts_in, part_more, volume_in, false≢true, IsOk, Result, Ok, Err}
 use Rattle.mscp_port.proofs.port.restoring.volumes_in.Goals as goal
 
 pub loop-place-preserved : goal.loop-place-preserved

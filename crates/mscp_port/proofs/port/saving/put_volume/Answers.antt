@@ -1,4 +1,4 @@
-use Rattle.mscp_port.proofs.Common.{◌∷◌, [], ap, refl, first, grow, more}
+use Rattle.mscp_port.proofs.Common.{refl, first, grow, more}
 use Rattle.mscp_port.proofs.port.saving.put_volume.Goals as goal
 
 pub returns-clause-items : goal.returns-clause-items
@@ -7,8 +7,8 @@ returns-clause-items c =
     let there = first xs _ _ c.put_flag.ensures.items refl in
     let locked = more xs _ _ _ there c.put_flag-2.ensures.items refl in
     let by_host = more xs _ _ _ locked c.put_flag-3.ensures.items refl in
-    let news = more xs _ _ _ by_host c.push.ensures.items (ap (λ byte. byte ∷ []) c.told_byte.ensures) in
-    let removable = more xs _ _ _ news c.put_flag-4.ensures.items refl in
+    let news = more xs _ _ _ by_host c.put_flag-4.ensures.items refl in
+    let removable = more xs _ _ _ news c.put_flag-5.ensures.items refl in
     let changes = grow xs _ 4 _ c.args.volume.changes removable c.put_four.ensures.items refl in
     let size = grow xs _ 4 _ c.args.volume.size changes c.put_four-2.ensures.items refl in
     let media = grow xs _ 4 _ c.args.volume.media size c.put_four-3.ensures.items refl in

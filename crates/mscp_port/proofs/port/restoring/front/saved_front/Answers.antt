@@ -1,4 +1,4 @@
-use Rattle.mscp_port.proofs.Common.{◌+◌, ◌-◌, ◌++◌, length, ap, ◌∙◌, arith, flat_map, front_in, buffer_bytes, frame_bytes, hand_bytes, outgoing_text, state_bytes, volume_bytes}
+use Rattle.mscp_port.proofs.Common.{◌+◌, ◌-◌, ◌++◌, length, ap, ◌∙◌, arith, flat_map, front_in, brought_bytes, buffer_bytes, frame_bytes, hand_bytes, outgoing_text, state_bytes, volume_bytes}
 use Rattle.mscp_port.proofs.Formed.{text_told, total_is}
 use Rattle.mscp_port.proofs.port.restoring.front.saved_front.Goals as goal
 
@@ -16,5 +16,7 @@ returns c =
     ∙ ap (λ l. l ++ state_bytes p) (c.put_frame.ensures.items ∙ ap frame_bytes total)) in
     let volumes = c.put_volumes.ensures.items ∙ λ i. head i ++ flat_map volume_bytes (c.volumes_of.ensures i) in
     let said = c.put.ensures.items ∙ λ i. volumes i ++ text i in
-    c.put_buffers.ensures.items
-    ∙ λ i. said i ++ flat_map buffer_bytes ((c.as_slice.ensures.value ∙ c.buffers_of.ensures) i)
+    let kept = c.put_buffers.ensures.items
+    ∙ λ i. said i ++ flat_map buffer_bytes ((c.as_slice.ensures.value ∙ c.buffers_of.ensures) i) in
+    c.put_all_brought.ensures.items
+    ∙ λ i. kept i ++ flat_map brought_bytes ((c.as_slice-2.ensures.value ∙ c.all_brought_of.ensures) i)
