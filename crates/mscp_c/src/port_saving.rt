@@ -53,7 +53,8 @@ fn policy_named(bytes: &[u8]) -> Policy
 {
     let text = usize::from(byte_or_zero(bytes, 70));
     let buffers = usize::from(byte_or_zero(bytes, 71));
-    if byte_or_zero(bytes, 424 + text + 20 * buffers + 30) == 1 {
+    let brought = usize::from(byte_or_zero(bytes, 72));
+    if byte_or_zero(bytes, 425 + text + 20 * buffers + 13 * brought + 30) == 1 {
         Policy::Sweep
     } else {
         Policy::Oldest
