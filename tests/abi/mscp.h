@@ -805,7 +805,7 @@ MSCP_MUST_USE int32_t mscp_port_volume_came(struct mscp_port *port, uint16_t uni
 MSCP_MUST_USE int32_t mscp_port_volume_went(struct mscp_port *port, uint16_t unit);
 
 /* Nothing may be written on the volume of a unit from now on, or with 0 something may again. It stays the same volume to
- * its host. MSCP_DONE, or MSCP_UNKNOWN_UNIT. */
+ * its host. Of a unit without a volume nothing is kept. MSCP_DONE, or MSCP_UNKNOWN_UNIT. */
 MSCP_MUST_USE int32_t mscp_port_protect(struct mscp_port *port, uint16_t unit, uint32_t is_protected);
 
 /* How far the port has come. If it answered MSCP_NOTHING and is held back, it is to look again: its host doesn't say that it
@@ -885,7 +885,7 @@ MSCP_INLINE int32_t mscp_port_restore(struct mscp_port *port, const uint8_t *byt
 
 /* Runs a script of so many bytes through a controller of its own, as the program mscpq does, and writes the report to the
  * front of the room, of `*count` bytes. MSCP_DONE; MSCP_SMALL, if the room has fewer than twice as many bytes as the
- * report; or MSCP_SCRIPT_SIZE to _EVENTS, what is wrong in line `*line`, the first in which something is. Whatever it answers,
+ * report, or of a faulty script as the report of the lines in front of the fault; or MSCP_SCRIPT_SIZE to _EVENTS, what is wrong in line `*line`, the first in which something is. Whatever it answers,
  * all of the room may be written over. This takes up to 60 KiB of the stack. */
 MSCP_MUST_USE
 MSCP_INLINE int32_t mscp_run_script(const uint8_t *script, size_t length, uint8_t *bytes, size_t room, size_t *count,
