@@ -61,7 +61,8 @@ ended : (vs : List Volume) (place code : ℕ) (kept : Option Buffer) (m : Mount)
     → Holds place (volumes_heeded code kept (Some place) vs) (mount_after code kept (volume_at vs place).changes m)
 ended vs place code kept m holds = elim holds [
   | inl past ↦ inl (subst (λ n. n ≤ place) (sym (length-set vs place _)) past)
-  | inr e ↦ set_here vs place _ _ (heeded_of code kept (volume_at vs place) ∙ ap (mount_after code kept (volume_at vs place).changes) e)
+  | inr e ↦ set_here vs place _ _
+      (heeded_of code kept (volume_at vs place) ∙ ap (mount_after code kept (volume_at vs place).changes) e)
 ]
 
 ends : {K : Type 0} (place : ℕ) (old new : Port K) (via : Connection) (e : End) (m : Mount) → Ends place old new via e
