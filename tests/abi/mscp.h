@@ -871,7 +871,7 @@ MSCP_INLINE int32_t mscp_port_save(const struct mscp_port *port, uint8_t *bytes,
 /* Makes the port that was saved, in the handle's memory: it goes on as it would have there. MSCP_DONE, or the first fault
  * of those of the memory (-11 to -15) and those of the bytes (-40 to -54 and MSCP_SAVED_SIZE), which may be those of its
  * controller's. Bytes of a stranger make a port with which every call is safe, and which moves only blocks that its units
- * have, or none. This takes up to 40 KiB of the stack, and mscp_port_save up to 28. */
+ * have, or none. This takes up to 40 KiB of the stack, and mscp_port_save up to 36. */
 MSCP_MUST_USE
 MSCP_INLINE int32_t mscp_port_restore(struct mscp_port *port, const uint8_t *bytes, size_t length)
 {

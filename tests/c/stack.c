@@ -251,7 +251,7 @@ static size_t most(int call)
     case HOST_SAVE: case WHY: case PORT_WHY: return 3 * 1024;
     case INIT: case PORT_INIT: case RESTORE: case PORT_RESTORE: return 40 * 1024;
     case HOST_RESTORE: return 6 * 1024;
-    case PORT_SAVE: return 28 * 1024;
+    case PORT_SAVE: return 36 * 1024;
     case RUN_SCRIPT: return 60 * 1024;
     default: return 2 * 1024;
     }
