@@ -1,7 +1,6 @@
 -- How what a port is is told.
 use Rattle.std.specs.Prelude.{ℤ, ◌&&◌, is_some, Option, None, Some}
 use Rattle.mscp_memory.specs.PortHandles.{Held}
-use Rattle.mscp_port.specs.Blocks.{is_mounted}
 use Rattle.mscp_port.specs.Codes.{stage_byte, stage_word}
 use Rattle.mscp_port.specs.declared.volumes.Volume.{Volume}
 use Rattle.mscp_c.specs.declared.outs.StateOut.{StateOut}
@@ -31,6 +30,6 @@ volume_told (Some v) out = record {
   is_there = flag v.is_there;
   is_protected = flag v.is_protected;
   is_protected_by_host = flag v.is_protected_by_host;
-  is_online = flag (is_mounted v);
+  is_online = flag v.is_mounted;
   is_removable = flag v.is_removable;
 }

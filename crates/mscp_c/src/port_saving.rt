@@ -16,7 +16,7 @@ use mscp_port::{Bus, Hardware, Port, ROOM, restore_fault, saved_settings};
 /// The most bytes that a port is saved as.
 #[unsafe(no_mangle)]
 pub extern "C" fn mscp_port_save_size() -> usize
-    ensures { result ≡ 6249 }
+    ensures { result ≡ 6122 }
 {
     ROOM
 }
@@ -51,10 +51,10 @@ fn byte_or_zero(bytes: &[u8], place: usize) -> u8
 fn policy_named(bytes: &[u8]) -> Policy
     ensures { result ≡ policy_named bytes.now }
 {
-    let text = usize::from(byte_or_zero(bytes, 70));
-    let buffers = usize::from(byte_or_zero(bytes, 71));
-    let brought = usize::from(byte_or_zero(bytes, 72));
-    if byte_or_zero(bytes, 425 + text + 20 * buffers + 13 * brought + 30) == 1 {
+    let text = usize::from(byte_or_zero(bytes, 71));
+    let buffers = usize::from(byte_or_zero(bytes, 72));
+    let decided = usize::from(byte_or_zero(bytes, 73));
+    if byte_or_zero(bytes, 362 + text + 20 * buffers + 12 * decided + 30) == 1 {
         Policy::Sweep
     } else {
         Policy::Oldest

@@ -170,7 +170,7 @@ pub(crate) fn tell_volume(out: &mut VolumeOut, volume: &Option<Volume>) -> i32
         is_there: flag(volume.is_there),
         is_protected: flag(volume.is_protected),
         is_protected_by_host: flag(volume.is_protected_by_host),
-        is_online: flag(volume.is_mounted()),
+        is_online: flag(volume.is_mounted),
         is_removable: flag(volume.is_removable),
     };
     DONE

@@ -1,24 +1,22 @@
 -- The bytes that a port is saved as say that port.
-use Rattle.mscp_port.proofs.Common.{◌≡◌, ℕ, ◌+◌, ◌*◌, ◌<◌, ◌≤◌, ◌^◌, Bool, true, List, ◌++◌, drop, take, get_or, length, append_assoc, refl, ap, subst, ◌∙◌, arith, flat_map, if◌then◌else◌, Option, None, IfSome, Ok, Err, AllByRecursion, drop-append_seam, take-append_seam, and_from, eq-eqb, le-leb, lt-ltb, drop-drop, length-append, recursion_from_All, bytes_eq-Decides, four, two, parts_in, controller_restored, controller_bytes, flag_back, IsBack, parts_rest, parts_said, Brought, Buffer, Outgoing, Port, RestoreFault, Volume, AreRings, Rings, coded_task, number_or_none, optional, some_byte, stage_byte, stage_in, stage_word, task_in, all_brought_in, area_in, brought_in, buffer_in, buffers_in, coded_in, frame_fault, is_framed, outgoing_in, over, port_in, restored, restored_unless, rings_if, text_in, volume_in, volumes_in, whose, HasBroughtRange, HasBufferRange, HasRange, HasVolumeRange, brought_bytes, buffer_bytes, length_of, outgoing_byte, outgoing_text, rings_or_none, saved_bytes, volume_bytes}
+use Rattle.mscp_port.proofs.Common.{◌≡◌, ℕ, ◌+◌, ◌*◌, ◌<◌, ◌≤◌, ◌^◌, Bool, true, List, ◌++◌, drop, take, get_or, length, append_assoc, refl, ap, subst, ◌∙◌, arith, flat_map, if◌then◌else◌, Option, None, IfSome, Ok, Err, AllByRecursion, drop-append_seam, take-append_seam, and_from, eq-eqb, le-leb, lt-ltb, drop-drop, length-append, recursion_from_All, bytes_eq-Decides, four, two, parts_in, controller_restored, controller_bytes, flag_back, IsBack, parts_rest, parts_said, Buffer, Decided, Outgoing, Port, RestoreFault, Volume, AreRings, Rings, coded_task, number_or_none, optional, some_byte, stage_byte, stage_in, stage_word, task_in, all_decided_in, area_in, decided_in, buffer_in, buffers_in, coded_in, frame_fault, is_framed, outgoing_in, over, port_in, restored, restored_unless, rings_if, text_in, volume_in, volumes_in, whose, HasDecidedRange, HasBufferRange, HasRange, HasVolumeRange, decided_bytes, buffer_bytes, length_of, outgoing_byte, outgoing_text, rings_or_none, saved_bytes, volume_bytes}
 use Rattle.mscp_saved.proofs.BackParts.{parts_long}
 use Rattle.mscp_port.specs.declared.port.restoring.RestoreFault.TheVariants as faults
 use Rattle.mscp_port.proofs.Coded.{bus_back, optional_back, size_back, stage_back, task_back}
 
 -- ---- parts
 
-volume_is_back : (v : Volume) → HasVolumeRange v → IsBack volume_in volume_bytes 22 v
+volume_is_back : (v : Volume) → HasVolumeRange v → IsBack volume_in volume_bytes 18 v
 volume_is_back v h =
     search (
       arith,
-      four (number_or_none v.mounted) h.mounted,
       four v.size h.size,
       four v.media h.media,
-      optional_back v.mounted,
       flag_back,
     )
 
-brought_is_back : (b : Brought) → HasBroughtRange b → IsBack brought_in brought_bytes 13 b
-brought_is_back b h = search (arith, four, flag_back)
+decided_is_back : (d : Decided) → HasDecidedRange d → IsBack decided_in decided_bytes 12 d
+decided_is_back d h = search (arith, four, two)
 
 buffer_is_back : (b : Buffer) → HasBufferRange b → IsBack buffer_in buffer_bytes 20 b
 buffer_is_back b h = search (arith, four, two)
@@ -54,69 +52,69 @@ module _ {K : Type 0} (number : ℕ) (p : Port K) where
   bs = flat_map buffer_bytes p.buffers.items
 
   abbrev os : List ℕ
-  os = flat_map brought_bytes p.brought.items
+  os = flat_map decided_bytes p.decided.items
 
   abbrev cs : List ℕ
   cs = controller_bytes number p.controller
 
-  volumes_back : HasRange p → AllByRecursion (IsBack volume_in volume_bytes 22) p.volumes
-  volumes_back r = recursion_from_All (IsBack volume_in volume_bytes 22) p.volumes
+  volumes_back : HasRange p → AllByRecursion (IsBack volume_in volume_bytes 18) p.volumes
+  volumes_back r = recursion_from_All (IsBack volume_in volume_bytes 18) p.volumes
       (λ k d l. volume_is_back (get_or p.volumes k d) (r.volumes k d l))
 
   buffers_back : HasRange p → AllByRecursion (IsBack buffer_in buffer_bytes 20) p.buffers.items
   buffers_back r = search (arith, recursion_from_All, buffer_is_back)
 
-  brought_back : HasRange p → AllByRecursion (IsBack brought_in brought_bytes 13) p.brought.items
-  brought_back r = search (arith, recursion_from_All, brought_is_back)
+  decided_back : HasRange p → AllByRecursion (IsBack decided_in decided_bytes 12) p.decided.items
+  decided_back r = search (arith, recursion_from_All, decided_is_back)
 
-  behind_head : drop 73 b ≡ vs ++ (ts ++ (bs ++ (os ++ cs)))
+  behind_head : drop 74 b ≡ vs ++ (ts ++ (bs ++ (os ++ cs)))
   behind_head =
       append_assoc (vs ++ ts ++ bs) os cs
       ∙ append_assoc (vs ++ ts) bs (os ++ cs)
       ∙ append_assoc vs ts (bs ++ (os ++ cs))
 
-  behind_volumes : HasRange p → drop 425 b ≡ ts ++ (bs ++ (os ++ cs))
+  behind_volumes : HasRange p → drop 362 b ≡ ts ++ (bs ++ (os ++ cs))
   behind_volumes r =
       search (
         arith,
-        drop-drop 352 73 b,
-        parts_rest volume_in volume_bytes 22 p.volumes (ts ++ (bs ++ (os ++ cs))) (volumes_back
+        drop-drop 288 74 b,
+        parts_rest volume_in volume_bytes 18 p.volumes (ts ++ (bs ++ (os ++ cs))) (volumes_back
             r),
         volumes_back r,
         behind_head,
       )
 
-  behind_text : HasRange p → drop (425 + length ts) b ≡ bs ++ (os ++ cs)
-  behind_text r = search (arith, drop-drop (length ts) 425 b, behind_volumes r, drop-append_seam ts (bs ++ (os ++ cs)))
+  behind_text : HasRange p → drop (362 + length ts) b ≡ bs ++ (os ++ cs)
+  behind_text r = search (arith, drop-drop (length ts) 362 b, behind_volumes r, drop-append_seam ts (bs ++ (os ++ cs)))
 
-  behind_buffers : HasRange p → drop (425 + length ts + 20 * length p.buffers.items) b ≡ os ++ cs
+  behind_buffers : HasRange p → drop (362 + length ts + 20 * length p.buffers.items) b ≡ os ++ cs
   behind_buffers r =
       search (
         arith,
-        drop-drop (20 * length p.buffers.items) (425 + length ts) b,
+        drop-drop (20 * length p.buffers.items) (362 + length ts) b,
         behind_text r,
         parts_rest buffer_in
             buffer_bytes 20 p.buffers.items (os ++ cs) (buffers_back r),
         buffers_back r,
       )
 
-  behind_brought : HasRange p
-      → drop (425 + length ts + 20 * length p.buffers.items + 13 * length p.brought.items) b ≡ cs
-  behind_brought r =
+  behind_decided : HasRange p
+      → drop (362 + length ts + 20 * length p.buffers.items + 12 * length p.decided.items) b ≡ cs
+  behind_decided r =
       search (
         arith,
-        drop-drop (13 * length p.brought.items) (425 + length ts + 20 * length p.buffers.items) b,
+        drop-drop (12 * length p.decided.items) (362 + length ts + 20 * length p.buffers.items) b,
         behind_buffers r,
-        parts_rest brought_in
-            brought_bytes 13 p.brought.items cs (brought_back r),
-        brought_back r,
+        parts_rest decided_in
+            decided_bytes 12 p.decided.items cs (decided_back r),
+        decided_back r,
       )
 
   volumes_said : HasRange p → volumes_in b ≡ p.volumes
   volumes_said r =
-      ap (parts_in volume_in 22 16) behind_head
-      ∙ subst (λ n. parts_in volume_in 22 n (vs ++ (ts ++ (bs ++ (os ++ cs)))) ≡ p.volumes) r.sixteen
-      (parts_said volume_in volume_bytes 22 p.volumes (ts ++ (bs ++ (os ++ cs))) (volumes_back r))
+      ap (parts_in volume_in 18 16) behind_head
+      ∙ subst (λ n. parts_in volume_in 18 n (vs ++ (ts ++ (bs ++ (os ++ cs)))) ≡ p.volumes) r.sixteen
+      (parts_said volume_in volume_bytes 18 p.volumes (ts ++ (bs ++ (os ++ cs))) (volumes_back r))
 
   text_said : HasRange p → text_in b ≡ ts
   text_said r = ap (take (length ts)) (behind_volumes r) ∙ take-append_seam ts (bs ++ (os ++ cs))
@@ -126,10 +124,10 @@ module _ {K : Type 0} (number : ℕ) (p : Port K) where
       ap (parts_in buffer_in 20 (length p.buffers.items)) (behind_text r)
       ∙ parts_said buffer_in buffer_bytes 20 p.buffers.items (os ++ cs) (buffers_back r)
 
-  brought_said : HasRange p → all_brought_in b ≡ p.brought.items
-  brought_said r =
-      ap (parts_in brought_in 13 (length p.brought.items)) (behind_buffers r)
-      ∙ parts_said brought_in brought_bytes 13 p.brought.items cs (brought_back r)
+  decided_said : HasRange p → all_decided_in b ≡ p.decided.items
+  decided_said r =
+      ap (parts_in decided_in 12 (length p.decided.items)) (behind_buffers r)
+      ∙ parts_said decided_in decided_bytes 12 p.decided.items cs (decided_back r)
 
   area_said : HasRange p → area_in b ≡ rings_or_none p.rings
   area_said r = search (arith, small p.rings r.hand.rings, four)
@@ -163,8 +161,9 @@ module _ {K : Type 0} (number : ℕ) (p : Port K) where
     is_polled = flag_back p.is_polled i;
     is_stalled = flag_back p.is_stalled i;
     is_full = flag_back p.is_full i;
+    owes_block = flag_back p.owes_block i;
     buffers = record { items = buffers_said r i };
-    brought = record { items = brought_said r i };
+    decided = record { items = decided_said r i };
     volumes = volumes_said r i;
     flags = two p.flags r.state.flags i;
     timeout = two p.timeout r.state.timeout i;
@@ -177,13 +176,13 @@ module _ {K : Type 0} (number : ℕ) (p : Port K) where
   saved_long r =
       search (
         arith,
-        parts_long volume_in volume_bytes 22 p.volumes (volumes_back r),
+        parts_long volume_in volume_bytes 18 p.volumes (volumes_back r),
         volumes_back r,
         parts_long
             buffer_in buffer_bytes 20 p.buffers.items (buffers_back r),
         buffers_back r,
-        parts_long brought_in brought_bytes 13 p.brought.items (brought_back r),
-        brought_back r,
+        parts_long decided_in decided_bytes 12 p.decided.items (decided_back r),
+        decided_back r,
         length-append (vs ++ ts ++ bs ++ os) cs,
         length-append (vs ++ ts ++ bs) os,
         length-append (vs ++ ts) bs,
@@ -203,7 +202,7 @@ module _ {K : Type 0} (number : ℕ) (p : Port K) where
       → restored number p.controller.picker b ≡ Ok p
   restored_back r fits back =
       ap (λ (f : Option RestoreFault). restored_unless f number p.controller.picker b) (frame_passes r fits)
-      ∙ (ap (λ l. over number b (controller_restored number p.controller.picker l)) (behind_brought r)
+      ∙ (ap (λ l. over number b (controller_restored number p.controller.picker l)) (behind_decided r)
       ∙ (ap (over number b) back
       ∙ (ap (whose number b) (port_said r)
       ∙ ap (λ (yes : Bool). if yes then Ok p else Err faults.Form) ((bytes_eq-Decides b b).1 refl))))

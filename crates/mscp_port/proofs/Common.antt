@@ -37,23 +37,24 @@ pub use Rattle.mscp_packet.specs.declared.command.Order.{Order}
 pub use Rattle.mscp_packet.specs.declared.end.End.{End}
 pub use Rattle.mscp_port.specs.Acted.{WritesOut}
 pub use Rattle.mscp_port.specs.Areas.{AreRings, Rings, rings_named, slot_in}
-pub use Rattle.mscp_port.specs.Blocks.{kept_at, kept_of, writes}
+pub use Rattle.mscp_port.specs.Blocks.{block_told, kept_at, kept_of, writes}
 pub use Rattle.mscp_port.specs.Buffers.{is_of, kept_beside, without_aborted}
 pub use Rattle.mscp_port.specs.Calls.{Changes, ChangesByActing, Dies, Goes, Hears, HoldsPacket, IsMadeOf, PutsIn, ReadsIp, StaysInStage, TakesStep, Ticks, Wants, WritesSa, read_again, step_answered}
 pub use Rattle.mscp_port.specs.Codes.{IsTask, bus_byte, bus_in, coded_task, has_size, number_or_none, optional, some_byte, stage_byte, stage_in, stage_word, task_in}
+pub use Rattle.mscp_port.specs.Decided.{decided_in}
 pub use Rattle.mscp_port.specs.Departures.{IsDelivered, IsForgotten, IsWritten, Told, begins, begun, disk_credits, ends_in, gone, leaves}
 pub use Rattle.mscp_port.specs.Histories.{Answered, Becomes, Call, HasCredit, HasInOrder, IsNamed, IsNamedForData, IsNamedForRings, LookAgain, NamesArea, NamesBuffer, NamesPacket, Next, Protect, PutAside, ReadIp, Tick, VolumeCame, VolumeWent, WasRead, Went, WriteIp, WriteSa, reads, words}
 pub use Rattle.mscp_port.specs.Kept.{IsSaidBy, WasSaid}
 pub use Rattle.mscp_port.specs.Loaded.{is_loaded, is_locked}
 pub use Rattle.mscp_port.specs.Messages.{handed, number_or_zero, own_end_of}
-pub use Rattle.mscp_port.specs.Mounted.{Ends, IsChangeAt, IsMounted, IsRemounted, Mount, mount_after, offline}
+pub use Rattle.mscp_port.specs.Mounted.{Ends, IsChangeAt, IsMounted, IsRemounted, Mount, flagged, mount_after, offline}
 pub use Rattle.mscp_port.specs.Moved.{BeginsBlock, GoesOnWithBlock, HeedsStep, anyhow, begun_task, end_brought, kept_after, place_heeded, volumes_after}
 pub use Rattle.mscp_port.specs.Outgoings.{IsNews, KeepsSaying, LooksForOut, Says, TakesEnd, TellsNews, news_place}
 pub use Rattle.mscp_port.specs.Packets.{credits_told}
 pub use Rattle.mscp_port.specs.Places.{AsksFirst, IsPut, IsPutForData, IsPutForRings, PutsBuffer, PutsPacket, asked, read_from, reads_at, with_read}
 pub use Rattle.mscp_port.specs.Ports.{Drops, IsAsNew, IsDue, IsInRingsOrPacket, IsInSomeBuffer, IsOfBlock, IsReadingSlot, IsReadingText, IsWithin, Leaves, in_hand, asks_blocks}
-pub use Rattle.mscp_port.specs.Restored.{IsFramed, all_brought_in, area_in, brought_count, brought_in, brought_place, buffer_count, buffer_in, buffer_place, buffers_in, coded_in, controller_in, controller_place, frame_fault, front_in, held_in, is_framed, outgoing_in, over, port_in, restored, restored_unless, rings_if, text_count, text_in, told_front, unless, volume_in, volumes_in, whose}
-pub use Rattle.mscp_port.specs.Saved.{HasBroughtRange, HasBufferRange, HasRange, HasVolumeRange, brought_bytes, buffer_bytes, coded_bytes, frame_bytes, front_bytes, hand_bytes, hardware_bytes, length_before, length_of, outgoing_byte, outgoing_text, rings_bytes, rings_or_none, saved_bytes, stage_bytes, state_bytes, volume_bytes, words_bytes, written_bytes}
+pub use Rattle.mscp_port.specs.Restored.{IsFramed, all_decided_in, area_in, decided_count, decided_place, buffer_count, buffer_in, buffer_place, buffers_in, coded_in, controller_in, controller_place, frame_fault, front_in, held_in, is_framed, outgoing_in, over, port_in, restored, restored_unless, rings_if, text_count, text_in, told_front, unless, volume_in, volumes_in, whose}
+pub use Rattle.mscp_port.specs.Saved.{HasBufferRange, HasDecidedRange, HasRange, HasVolumeRange, buffer_bytes, coded_bytes, decided_bytes, frame_bytes, front_bytes, hand_bytes, hardware_bytes, length_before, length_of, outgoing_byte, outgoing_text, rings_bytes, rings_or_none, saved_bytes, stage_bytes, state_bytes, volume_bytes, words_bytes, written_bytes}
 pub use Rattle.mscp_port.specs.Seen.{SeesText, Sends, answered_to, changes_at, kept_of_sent}
 pub use Rattle.mscp_port.specs.Sizes.{clear_size, text_size}
 pub use Rattle.mscp_port.specs.Slots.{is_owned, text_of}
@@ -62,8 +63,8 @@ pub use Rattle.mscp_port.specs.Wanted.{IsWanted, given_in}
 pub use Rattle.mscp_port.specs.declared.action.Action.{Action}
 pub use Rattle.mscp_port.specs.declared.action.Outcome.{Outcome}
 pub use Rattle.mscp_port.specs.declared.action.Unasked.{Unasked}
-pub use Rattle.mscp_port.specs.declared.brought.Brought.{Brought}
 pub use Rattle.mscp_port.specs.declared.buffers.Buffer.{Buffer}
+pub use Rattle.mscp_port.specs.declared.decided.Decided.{Decided}
 pub use Rattle.mscp_port.specs.declared.hardware.Bus.{Bus}
 pub use Rattle.mscp_port.specs.declared.hardware.Hardware.{Hardware}
 pub use Rattle.mscp_port.specs.declared.port.Outgoing.{Outgoing}
@@ -76,6 +77,7 @@ pub use Rattle.mscp_port.specs.declared.rings.Side.TheVariants.{Responses}
 pub use Rattle.mscp_port.specs.declared.slot.Descriptor.{Descriptor}
 pub use Rattle.mscp_port.specs.declared.stage.Stage.{Stage}
 pub use Rattle.mscp_port.specs.declared.task.Task.{Task}
+pub use Rattle.mscp_port.specs.declared.verdict.Verdict.{Verdict}
 pub use Rattle.mscp_port.specs.declared.volumes.Volume.{Volume}
 pub use Rattle.mscp_queue.proofs.Masked.{eq_false, eq_true}
 pub use Rattle.mscp_queue.proofs.Named.{is_same, same_is}

@@ -1,5 +1,5 @@
 -- Bytes that are a port's: those in front of the controller's are those that it is saved as.
-use Rattle.mscp_port.proofs.Common.{◌≡◌, ◌≤◌, ◌+◌, ◌-◌, ◌++◌, ℕ, List, Bool, false, take, drop, length, nat_eq, refl, ap, ◌∙◌, arith, bytes_eq, false≢true, append_cancel_right, length-drop, length-take, take-append-drop, bytes_eq-Decides, Holdings, controller_bytes, parts_long, IsFramed, brought_count, brought_in, brought_place, buffer_count, buffer_in, buffer_place, controller_place, front_in, port_in, text_count, told_front, front_bytes, length_before, outgoing_text, saved_bytes}
+use Rattle.mscp_port.proofs.Common.{◌≡◌, ◌≤◌, ◌+◌, ◌-◌, ◌++◌, ℕ, List, Bool, false, take, drop, length, nat_eq, refl, ap, ◌∙◌, arith, bytes_eq, false≢true, append_cancel_right, length-drop, length-take, take-append-drop, bytes_eq-Decides, Holdings, controller_bytes, parts_long, IsFramed, decided_count, decided_in, decided_place, buffer_count, buffer_in, buffer_place, controller_place, front_in, port_in, text_count, told_front, front_bytes, length_before, outgoing_text, saved_bytes}
 
 -- how long all is
 pub total_is : (b : List ℕ) → IsFramed b
@@ -9,7 +9,7 @@ total_is b f =
     search (
       arith,
       parts_long buffer_in 20 (buffer_count b) (drop (buffer_place b) b),
-      parts_long brought_in 13 (brought_count b) (drop (brought_place b) b),
+      parts_long decided_in 12 (decided_count b) (drop (decided_place b) b),
     )
 
 pub text_told : (b : List ℕ) → IsFramed b → length (outgoing_text (front_in b).outgoing) ≤ text_count b

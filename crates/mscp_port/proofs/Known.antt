@@ -1,5 +1,5 @@
 -- What a port knows stays among what it knew.
-use Rattle.mscp_port.proofs.Common.{◌≡◌, ◌⊎◌, ◌∙◌, ℕ, true, List, Option, None, Some, Contains, IfSome, Result, ap, sym, get_or, arith, none-some, position, position-Some, Connection, Buffer, Port, Side, Descriptor, Task, KeepsSaying, Says, TakesEnd, TellsNews, in_hand, ChangesByActing, StaysInStage, is_of}
+use Rattle.mscp_port.proofs.Common.{◌≡◌, ◌⊎◌, ◌∙◌, ℕ, true, List, Option, None, Some, Contains, IfSome, Result, ap, sym, get_or, arith, none-some, position, position-Some, Connection, Buffer, Port, Side, Descriptor, Task, KeepsSaying, Says, TakesEnd, TellsNews, in_hand, ChangesByActing, StaysInStage, is_of, Verdict}
 use Rattle.std.specs.Prelude.{IfOk}
 use Rattle.mscp_port.specs.Buffers.{IsInBuffer}
 use Rattle.mscp_port.specs.Ports.{IsInSomeBuffer}
@@ -36,7 +36,7 @@ none_returned t side slot none e = none-some slot.word (sym none ∙ ap in_hand 
 
 -- a part of what is kept of a command lies in some buffer
 pub part_within : {K : Type 0} (p : Port K) (bs : List Buffer) (kept : Option Buffer) (b : Buffer)
-    (r : Result (ℕ × ℕ) ℕ) → bs ≡ p.buffers.items → kept ≡ Some b → IfSome kept (λ d. Contains bs d)
+    (r : Result (ℕ × ℕ) Verdict) → bs ≡ p.buffers.items → kept ≡ Some b → IfSome kept (λ d. Contains bs d)
     → IfOk r (λ part. IsInBuffer b part.0 part.1) → IfOk r (λ part. IsInSomeBuffer p part.0 part.1)
 part_within p bs kept b r all is there inside = search arith
 

@@ -7,7 +7,9 @@ pub mod Among
 pub mod Begun
 pub mod Credited
 pub mod Credits
+pub mod Deciding
 pub mod Departing
+pub mod Fair
 pub mod Kept
 pub mod Known
 pub mod Loads

@@ -78,12 +78,12 @@ is_up : Stage → Bool
 is_up stages.Up = true
 is_up s = false
 
-up_or_not : (s : Stage) → (s ≡ stages.Up) ⊎ (s ≢ stages.Up)
+pub up_or_not : (s : Stage) → (s ≡ stages.Up) ⊎ (s ≢ stages.Up)
 unfolding is_up
 up_or_not stages.Up = inl refl
 up_or_not s = inr (λ e. false≢true (ap is_up e))
 
-none_or_not : {X : Type 0} (o : Option X) → (o ≡ None) ⊎ (o ≢ None)
+pub none_or_not : {X : Type 0} (o : Option X) → (o ≡ None) ⊎ (o ≢ None)
 none_or_not o = grind (arith, none-some)
 
 pub looks_or_not : {K : Type 0} (p : Port K) → LooksForOut p ⊎ (LooksForOut p → ⊥)
@@ -193,7 +193,7 @@ agree_after unit (Went outcome result) calls old new r a =
     agree_still unit calls old new (settings_stay (Went outcome result) old new r) (elim r.commands [
       | inl e ↦ the_same old.volumes new.volumes e.volumes
       | inr more ↦ elim more
-          [ inl block ↦ with_block old new block | inr dead ↦ as_new (stages.Dead dead.0) old new dead.1 ]
+          [ inl block ↦ with_block old new block.1 | inr dead ↦ as_new (stages.Dead dead.0) old new dead.1 ]
     ]) a
 agree_after unit LookAgain calls old new r a = search (arith, settings_stay LookAgain old new r, agree_still, the_same)
 agree_after unit Tick calls old new r a = search (arith, settings_stay Tick old new r, agree_still, the_same, as_new)

@@ -1,5 +1,5 @@
 -- What a host has made of a unit is what a port holds of its volume.
-use Rattle.mscp_port.proofs.Common.{Ok, Err, ◌≡◌, ◌≢◌, ◌⊎◌, ◌∙◌, ◌<◌, ◌≤◌, ℕ, Bool, true, false, List, [], ◌∷◌, Option, None, Some, inl, inr, refl, ap, sym, subst, length, set, arith, cases_eq, cases_lt, false≢true, get_or-set_other, get_or-set_same, get_or_past, length-set, Shape, End, MoveKind, Connection, Holdings, Buffer, Hardware, Port, Volume, kept_of, writes, IsMadeOf, IsForgotten, Answered, Becomes, Call, WriteIp, ReadIp, WriteSa, Next, PutAside, WasRead, Went, LookAgain, Tick, Protect, VolumeCame, VolumeWent, Ends, IsChangeAt, IsMounted, IsRemounted, Mount, mount_after, offline, GoesOnWithBlock, HeedsStep, end_brought, place_heeded, IsNews, Says, news_place, MayMove, no_volume, place_in, volume_at, volume_changed, volume_heeded, volume_put, volumes_heeded, volumes_with}
+use Rattle.mscp_port.proofs.Common.{Ok, Err, ◌≡◌, ◌≢◌, ◌⊎◌, ◌∙◌, ◌<◌, ◌≤◌, ℕ, Bool, true, false, List, [], ◌∷◌, Option, None, Some, inl, inr, refl, ap, sym, subst, length, set, arith, cases_eq, cases_lt, false≢true, get_or-set_other, get_or-set_same, get_or_past, length-set, Shape, End, MoveKind, Connection, Holdings, Buffer, Hardware, Port, Verdict, Volume, kept_of, writes, IsMadeOf, IsForgotten, Answered, Becomes, Call, WriteIp, ReadIp, WriteSa, Next, PutAside, WasRead, Went, LookAgain, Tick, Protect, VolumeCame, VolumeWent, Ends, IsChangeAt, IsMounted, IsRemounted, Mount, flagged, mount_after, offline, GoesOnWithBlock, HeedsStep, end_brought, place_heeded, IsNews, Says, news_place, MayMove, no_volume, place_in, protected_by, volume_at, volume_changed, volume_heeded, volume_put, volumes_heeded, volumes_with}
 use Rattle.mscp_port.specs.declared.action.Action.TheVariants as actions
 use Rattle.mscp_port.specs.declared.stage.Stage.TheVariants as stages
 use Rattle.mscp_port.specs.Calls.{ChangesVolume}
@@ -8,40 +8,59 @@ use Rattle.mscp_port.proofs.Loads.{looks_or_not}
 
 -- ---- a volume
 
-mount_of : Volume → Mount
-mount_of v = record { volume = v.mounted; is_protected = v.is_protected_by_host }
+-- a unit that is online has the volume with which it was brought online, and its host protects what it said
+pub record Fits (v : Volume) (m : Mount) : Type 0 where
+  pub volume : v.is_mounted ≡ true → m.volume ≡ Some v.changes
+  pub host : m.is_protected ≡ v.is_protected_by_host
 
-heeded_of : (code : ℕ) (kept : Option Buffer) (v : Volume)
-    → mount_of (volume_heeded code kept v) ≡ mount_after code kept v.changes (mount_of v)
-unfolding mount_of
-heeded_of code kept v = search (arith, mount_of)
+-- so does one that is as it was
+pub record IsAlike (v w : Volume) : Type 0 where
+  pub mounted : w.is_mounted ≡ v.is_mounted
+  pub changes : w.changes ≡ v.changes
+  pub host : w.is_protected_by_host ≡ v.is_protected_by_host
+
+fits_alike : (v w : Volume) (m : Mount) → IsAlike v w → Fits v m → Fits w m
+fits_alike v w m alike fits = record {
+  volume = λ is. fits.volume (sym alike.mounted ∙ is) ∙ ap Some (sym alike.changes);
+  host = fits.host ∙ sym alike.host;
+}
+
+flagged_fits : (b : Buffer) (v : Volume) (m : Mount) → Fits v m → Fits (protected_by b v) (flagged b m)
+flagged_fits b v m fits = grind (arith)
+
+heeded_of : (code : ℕ) (kept : Option Buffer) (v : Volume) (m : Mount) → Fits v m
+    → Fits (volume_heeded code kept v) (mount_after code kept v.changes m)
+heeded_of code kept v m fits = grind (arith, flagged_fits, false≢true)
 
 -- ---- the volumes
 
 -- a place behind them, or what is held of the volume there
 abbrev Holds : ℕ → List Volume → Mount → Type 0
-Holds place vs m = (length vs ≤ place) ⊎ (mount_of (volume_at vs place) ≡ m)
+Holds place vs m = (length vs ≤ place) ⊎ Fits (volume_at vs place) m
 
 -- the volume at that place is another one, or one at another place is
-set_here : (vs : List Volume) (place : ℕ) (x : Volume) (m : Mount) → mount_of x ≡ m → Holds place (set vs place x) m
-set_here vs place x m e = search (arith, cases_lt place (length vs), length-set vs place x, mount_of, get_or-set_same)
+set_here : (vs : List Volume) (place : ℕ) (x : Volume) (m : Mount) → Fits x m → Holds place (set vs place x) m
+set_here vs place x m e = elim (cases_lt place (length vs)) [
+  | inl low ↦ inr (subst (λ v. Fits v m) (sym (get_or-set_same vs place x no_volume low)) e)
+  | inr past ↦ inl (subst (λ n. n ≤ place) (sym (length-set vs place x)) past)
+]
 
 set_elsewhere : (vs : List Volume) (place q : ℕ) (x : Volume) (m : Mount) → place ≢ q → Holds place vs m
     → Holds place (set vs q x) m
 set_elsewhere vs place q x m ne holds = elim holds [
   | inl past ↦ inl (subst (λ n. n ≤ place) (sym (length-set vs q x)) past)
-  | inr e ↦ inr (ap mount_of (get_or-set_other vs q place x no_volume ne) ∙ e)
+  | inr e ↦ inr (subst (λ v. Fits v m) (sym (get_or-set_other vs q place x no_volume ne)) e)
 ]
 
 -- or one that is as it was
-set_alike : (vs : List Volume) (place q : ℕ) (x : Volume) (m : Mount) → mount_of x ≡ mount_of (volume_at vs q)
+set_alike : (vs : List Volume) (place q : ℕ) (x : Volume) (m : Mount) → IsAlike (volume_at vs q) x
     → Holds place vs m → Holds place (set vs q x) m
 set_alike vs place q x m alike holds = elim (cases_eq place q) [
   | inr ne ↦ set_elsewhere vs place q x m ne holds
   | inl e ↦ elim holds [
     | inl past ↦ inl (subst (λ n. n ≤ place) (sym (length-set vs q x)) past)
     | inr is ↦ subst (λ i. Holds place (set vs i x) m) e
-        (set_here vs place x m (alike ∙ ap (λ i. mount_of (volume_at vs i)) (sym e) ∙ is))
+        (set_here vs place x m (fits_alike (volume_at vs q) x m alike (subst (λ i. Fits (volume_at vs i) m) e is)))
   ]
 ]
 
@@ -53,23 +72,22 @@ the_same place m old new e holds = subst (λ vs. Holds place vs m) (sym e) holds
 
 forgotten : {K : Type 0} (place : ℕ) (old new : Port K) → place < 16 → IsForgotten old new
     → Holds place new.volumes offline
-unfolding mount_of
-forgotten place old new low f = inr (ap mount_of (f.1.volumes place low))
+forgotten place old new low f =
+    inr (subst (λ v. Fits v offline) (sym (f.1.volumes place low)) (record { volume = λ is. absurd (false≢true is); host = refl }))
 
 -- an end of this unit, by what was held before
 ended : (vs : List Volume) (place code : ℕ) (kept : Option Buffer) (m : Mount) → Holds place vs m
     → Holds place (volumes_heeded code kept (Some place) vs) (mount_after code kept (volume_at vs place).changes m)
 ended vs place code kept m holds = elim holds [
   | inl past ↦ inl (subst (λ n. n ≤ place) (sym (length-set vs place _)) past)
-  | inr e ↦ set_here vs place _ _
-      (heeded_of code kept (volume_at vs place) ∙ ap (mount_after code kept (volume_at vs place).changes) e)
+  | inr e ↦ set_here vs place _ _ (heeded_of code kept (volume_at vs place) m e)
 ]
 
 ends : {K : Type 0} (place : ℕ) (old new : Port K) (via : Connection) (e : End) (m : Mount) → Ends place old new via e
     → Holds place old.volumes m
     → Holds place new.volumes (mount_after e.code (kept_of via e.reference old.buffers.items)
     (volume_at old.volumes place).changes m)
-ends place old new via e m end holds = search (arith, ended)
+ends place old new via e m end holds = search (arith, ended, end.step.4)
 
 -- an end of another unit
 heeded_elsewhere : (vs : List Volume) (place code : ℕ) (kept : Option Buffer) (o : Option ℕ) (m : Mount)
@@ -78,12 +96,13 @@ heeded_elsewhere vs place code kept None m ne holds = holds
 heeded_elsewhere vs place code kept (Some q) m ne holds =
     set_elsewhere vs place q _ m (λ e. ne (ap Some (sym e))) holds
 
-heeded : {K : Type 0} (place : ℕ) (m : Mount) (old new : Port K) (via : Connection) (ended : Option End)
-    → HeedsStep via ended old new
+heeded : {K : Type 0} (place : ℕ) (m : Mount) (old new : Port K) (via : Connection) (verdict : Verdict)
+    (ended : Option End)
+    → HeedsStep via verdict ended old new
     → ((e : End) → ended ≡ Some e → place_heeded old.controller.settings.units e ≢ Some place)
     → Holds place old.volumes m → Holds place new.volumes m
-heeded place m old new via None heeds other holds = search (arith, the_same)
-heeded place m old new via (Some e) heeds other holds =
+heeded place m old new via verdict None heeds other holds = search (arith, the_same)
+heeded place m old new via verdict (Some e) heeds other holds =
     search (
       arith,
       heeded_elsewhere old.volumes place e.code (kept_of via e.reference old.buffers.items) (place_heeded
@@ -97,28 +116,33 @@ with_block place m old new (inl e) other holds = the_same place m old new (ap (�
 with_block place m old new (inr taken) other holds =
     let via = taken.0 in
     let t = taken.3.finished in
-    heeded place m old new via (end_brought t.0) t.2 (λ e brought here. other (
+    heeded place m old new via taken.2 (end_brought t.0) t.2 (λ e brought here. other (
       via,
       e,
       record {
-        step = (taken.1, taken.2, t.0, t.1, brought);
-        heeds = subst (λ o. HeedsStep via o old new) brought t.2;
+        step = (taken.1, taken.2, t.0, t.1, brought, subst (λ o. HeedsStep via taken.2 o old new) brought t.2);
         unit = here;
       },
     )) holds
 
 -- a volume that comes or goes
+unmounted : (v : Volume) (m : Mount) → v.is_mounted ≡ false → v.is_protected_by_host ≡ false
+    → Fits v (record m { is_protected = false })
+unmounted v m off unguarded = record {
+  volume = λ on. absurd (false≢true (sym off ∙ on));
+  host = sym unguarded;
+}
+
 changed : (vs : List Volume) (becomes : Volume → Volume) (place : ℕ) (m : Mount)
-    → ((v : Volume) → mount_of (becomes v) ≡ record (mount_of v) { is_protected = false }) → Holds place vs m
+    → ((v : Volume) → Fits (becomes v) (record m { is_protected = false })) → Holds place vs m
     → Holds place (volumes_with becomes (Some place) vs) (record m { is_protected = false })
 changed vs becomes place m unprotected holds = elim holds [
   | inl past ↦ inl (subst (λ n. n ≤ place) (sym (length-set vs place _)) past)
-  | inr e ↦ set_here vs place (becomes (volume_at vs place)) _
-      (unprotected (volume_at vs place) ∙ ap {A = Mount} (λ n. record n { is_protected = false }) e)
+  | inr e ↦ set_here vs place (becomes (volume_at vs place)) _ (unprotected (volume_at vs place))
 ]
 
 changed_here : {K : Type 0} (place : ℕ) (becomes : Volume → Volume) (unit : ℕ) (old new : Port K) (m : Mount)
-    → ((v : Volume) → mount_of (becomes v) ≡ record (mount_of v) { is_protected = false })
+    → ((v : Volume) → Fits (becomes v) (record m { is_protected = false }))
     → place_in old.controller.settings.units unit ≡ Some place → ChangesVolume becomes unit old new
     → Holds place old.volumes m → Holds place new.volumes (record m { is_protected = false })
 changed_here place becomes unit old new m unprotected here frame holds =
@@ -128,11 +152,10 @@ changed_here place becomes unit old new m unprotected here frame holds =
 
 changes : {K : Type 0} (place : ℕ) (call : Call) (old new : Port K) (m : Mount) → IsChangeAt place call old
     → Becomes call old new → Holds place old.volumes m → Holds place new.volumes (record m { is_protected = false })
-unfolding mount_of
 changes place (VolumeCame it unit (Ok done)) old new m here r holds =
-    changed_here place (volume_put it) unit old new m (λ v. refl) here (r.came refl) holds
+    changed_here place (volume_put it) unit old new m (λ v. unmounted _ m refl refl) here (r.came refl) holds
 changes place (VolumeWent unit result) old new m here r holds =
-    changed_here place (volume_changed false) unit old new m (λ v. refl) here r.frame holds
+    changed_here place (volume_changed false) unit old new m (λ v. unmounted _ m refl refl) here r.frame holds
 changes place call old new m here r holds = absurd here
 
 changed_elsewhere : (vs : List Volume) (becomes : Volume → Volume) (place : ℕ) (o : Option ℕ) (m : Mount)
@@ -144,18 +167,23 @@ changed_elsewhere vs becomes place (Some q) m ne holds =
 -- the hardware's protection is no matter of the host's
 guarded : (vs : List Volume) (protected : Bool) (place : ℕ) (o : Option ℕ) (m : Mount) → Holds place vs m
     → Holds place (volumes_with (volume_protected protected) o vs) m
-unfolding mount_of
 guarded vs protected place None m holds = holds
 guarded vs protected place (Some q) m holds =
-    set_alike vs place q (volume_protected protected (volume_at vs q)) m refl holds
+    set_alike vs place q (volume_protected protected (volume_at vs q)) m (record { mounted = refl; changes = refl; host = refl }) holds
 
 -- news, and what goes out else
 with_news : (place : ℕ) (m : Mount) (units : List Shape) (vs ws : List Volume) (o : Option ℕ)
     (out : Option _) → IsNews units vs o out ws → Holds place vs m → Holds place ws m
-unfolding mount_of
 with_news place m units vs ws None out news holds = subst (λ xs. Holds place xs m) (sym news.1) holds
 with_news place m units vs ws (Some q) out news holds =
-    search (arith, set_alike vs place q (record (volume_at vs q) { is_news = false }) m refl holds)
+    search (
+      arith,
+      set_alike vs place q (record (volume_at vs q) { is_news = false }) m (record {
+        mounted = refl;
+        changes = refl;
+        host = refl;
+      }) holds,
+    )
 
 said : {K : Type 0} (place : ℕ) (m : Mount) (old new : Port K) → Says old new → Holds place old.volumes m
     → Holds place new.volumes m
@@ -180,7 +208,7 @@ stays place m (WasRead bytes result) old new r other holds = search (arith, the_
 stays place m (Went outcome result) old new r other holds = elim r.commands [
   | inl e ↦ the_same place m old new e.volumes holds
   | inr more ↦ elim more [
-    | inl block ↦ with_block place m old new block (λ end. other (inr (inl end))) holds
+    | inl block ↦ with_block place m old new block.1 (λ end. other (inr (inl end))) holds
     | inr dead ↦ absurd (other (inl (stages.Dead dead.0, dead.1)))
   ]
 ]
@@ -205,9 +233,9 @@ stays place m (Protect protected unit result) old new r other holds =
 held : {K : Type 0} (hardware : Hardware) (credits : ℕ) (controller : Holdings K) (place : ℕ) → place < 16
     → (start p : Port K) (calls : List Call) (m : Mount) → IsMadeOf hardware credits controller start
     → (a : Answered start calls p) → IsMounted place start p calls a m → Holds place p.volumes m
-unfolding mount_of
 held hardware credits controller place low start p [] m made a is =
-    inr (ap (λ q. mount_of (volume_at q.volumes place)) a ∙ ap mount_of (made.volumes place low) ∙ sym is)
+    inr (subst (λ q. Fits (volume_at q.volumes place) m) (sym a) (subst (λ v. Fits v m) (sym (made.volumes place low))
+    (subst (Fits no_volume) (sym is) (record { volume = λ on. absurd (false≢true on); host = refl }))))
 held hardware credits controller place low start p (call ∷ calls) m made a is =
     let before = held hardware credits controller place low start a.0 calls in
     elim is [
@@ -225,7 +253,7 @@ held hardware credits controller place low start p (call ∷ calls) m made a is 
 
 -- the mount of a volume that is there
 there : (vs : List Volume) (place : ℕ) (m : Mount) → (volume_at vs place).is_there ≡ true → Holds place vs m
-    → mount_of (volume_at vs place) ≡ m
+    → Fits (volume_at vs place) m
 there vs place m is holds = search (arith, false≢true, get_or_past)
 
 pub moves_as_mounted : {K : Type 0} (hardware : Hardware) (credits : ℕ) (controller : Holdings K) (start p : Port K)
@@ -236,7 +264,6 @@ pub moves_as_mounted : {K : Type 0} (hardware : Hardware) (credits : ℕ) (contr
     → place_in p.controller.settings.units unit ≡ Some place
     → IsMounted place start p (Next blocks (actions.Transfer kind unit block address count) bytes ∷ calls) a m
     → (m.volume ≡ Some (volume_at p.volumes place).changes) × (writes kind ≡ true → m.is_protected ≡ false)
-unfolding mount_of
 moves_as_mounted hardware credits controller start p calls blocks kind unit block from count place bytes m made a h is =
     let moves = a.2.0.moves kind unit block from count refl in
     let at = moves.1 in
@@ -246,4 +273,4 @@ moves_as_mounted hardware credits controller start p calls blocks kind unit bloc
     let e = there p.volumes place m may.there
     (held hardware credits controller place low start p
     (Next blocks (actions.Transfer kind unit block from count) bytes ∷ calls) m made a is) in
-    (sym (ap (λ n. n.volume) e) ∙ may.mounted, λ writing. sym (ap (λ n. n.is_protected) e) ∙ may.host writing)
+    (e.volume may.mounted, λ writing. e.host ∙ may.host writing)

@@ -1,5 +1,5 @@
 -- What a port keeps of a command was said by the message by which that command came, call by call.
-use Rattle.mscp_port.proofs.Common.{◌≡◌, ◌⊎◌, ◌∙◌, ◌<◌, ℕ, Bool, true, false, cond, not, List, [], Option, None, Some, Contains, inl, inr, refl, ap, sym, subst, length, arith, Result, Ok, Err, position, eqb-true, eq-eqb, false≢true, All-contains, filter_passes, position-Some, get_or_from_slice_get, none-some, same_Some, End, Block, Connection, First, Drive, Name, Report, Idle, Served, name_on, goes_on, outcome_at, Record, drive_at, has_name, left_of, name_of, record_at, end_given, is_begun, same_is, NotBegun, Finishes, Holdings, Buffer, Port, kept_at, is_of, Call, IsSaidBy, GoesOnWithBlock, HeedsStep, anyhow, end_brought, kept_after}
+use Rattle.mscp_port.proofs.Common.{◌≡◌, ◌⊎◌, ◌∙◌, ◌<◌, ℕ, Bool, true, false, cond, not, List, [], Option, None, Some, Contains, inl, inr, refl, ap, sym, subst, length, arith, Result, Ok, Err, position, eqb-true, eq-eqb, false≢true, All-contains, filter_passes, position-Some, get_or_from_slice_get, none-some, same_Some, End, Block, Connection, First, Drive, Name, Report, Idle, Served, name_on, goes_on, outcome_at, Record, drive_at, has_name, left_of, name_of, record_at, end_given, is_begun, same_is, NotBegun, Finishes, Holdings, Buffer, Port, kept_at, is_of, Call, IsSaidBy, GoesOnWithBlock, HeedsStep, Verdict, anyhow, block_told, end_brought, kept_after}
 use Rattle.mscp_port.specs.Buffers.{without}
 use Rattle.mscp_port.proofs.Among.{among_left, none_among}
 use Rattle.mscp_port.proofs.Kept.{IsFor, is_numbered, served_for, weaker_for}
@@ -118,14 +118,15 @@ served_stays via reference bs b r k d o told named there is = elim (none_or_some
 ]
 
 module _ {K : Type 0} (said : ℕ → Buffer → Type 0) where
-  taken_keeps : (via : Connection) (reference : ℕ) (block : Block) (old new : Port K) (result : Result Report NotBegun)
-      → Finishes anyhow (name_on via reference) block old.controller result new.controller
-      → HeedsStep via (end_brought result) old new → Keeps said old → Keeps said new
-  taken_keeps via reference block old new (Err not_begun) f heeds k =
+  taken_keeps : (via : Connection) (reference : ℕ) (verdict : Verdict) (old new : Port K)
+      (result : Result Report NotBegun)
+      → Finishes anyhow (name_on via reference) (block_told verdict) old.controller result new.controller
+      → HeedsStep via verdict (end_brought result) old new → Keeps said old → Keeps said new
+  taken_keeps via reference verdict old new (Err not_begun) f heeds k =
       keeps_same said old new (λ b there. subst (λ bs. Contains bs b) heeds.buffers there)
       (ap (λ h. h.waiting) f.1) k
-  taken_keeps via reference block old new (Ok Idle) f heeds k = search (arith, keeps_same)
-  taken_keeps via reference block old new (Ok (Served other number unit lbn started seek ended)) f heeds k = λ b there.
+  taken_keeps via reference verdict old new (Ok Idle) f heeds k = search (arith, keeps_same)
+  taken_keeps via reference verdict old new (Ok (Served other number unit lbn started seek ended)) f heeds k = λ b there.
       let h = old.controller in
       let place = f.1.serves.0 in
       let s = f.1.serves.1 in
@@ -133,8 +134,8 @@ module _ {K : Type 0} (said : ℕ → Buffer → Type 0) where
       let d = drive_at h.drives h.waiting place in
       let left = subst (λ bs. Contains bs b) heeds.buffers there in
       subst (λ rs. IsFor (λ u. said u b) b.reference rs) (sym (ap (λ l. l.waiting) s.left))
-      (served_for (λ u. said u b) b.reference block d h.waiting place s.next.servable.inside
-      (served_stays via reference old.buffers.items b r block d ended (ap (λ x. end_brought (Ok x)) s.told)
+      (served_for (λ u. said u b) b.reference (block_told verdict) d h.waiting place s.next.servable.inside
+      (served_stays via reference old.buffers.items b r (block_told verdict) d ended (ap (λ x. end_brought (Ok x)) s.told)
       (served_name h.begun (name_on via reference) r f.0 s.next.same) left)
       (k b (kept_among via ended old.buffers.items b left)))
 

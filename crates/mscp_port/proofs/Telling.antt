@@ -1,5 +1,5 @@
 -- What is kept of a command whose end comes was said by a message to the unit that the end names.
-use Rattle.mscp_port.proofs.Common.{◌≡◌, ◌∙◌, ℕ, List, [], ◌∷◌, Option, None, Some, Contains, IfSome, inl, inr, refl, ap, sym, subst, arith, Result, Ok, Err, position, All-get_or, End, Connection, First, name_on, name_of, no_record, record_at, is_same, Holdings, Unasked, Buffer, Hardware, Port, Task, kept_of, is_of, Dies, Hears, IsMadeOf, Answered, Becomes, Call, WriteIp, ReadIp, WriteSa, Next, PutAside, WasRead, Went, LookAgain, Tick, Protect, VolumeCame, VolumeWent, WasSaid, Ends, Says, IsReadingText}
+use Rattle.mscp_port.proofs.Common.{◌≡◌, ◌∙◌, ℕ, List, [], ◌∷◌, Option, None, Some, Contains, IfSome, inl, inr, refl, ap, sym, subst, arith, Result, Ok, Err, position, All-get_or, End, Connection, First, name_on, name_of, no_record, record_at, is_same, Holdings, Unasked, Buffer, Hardware, Port, Task, kept_of, is_of, Dies, Hears, IsMadeOf, Answered, Becomes, Call, WriteIp, ReadIp, WriteSa, Next, PutAside, WasRead, Went, LookAgain, Tick, Protect, VolumeCame, VolumeWent, WasSaid, Ends, Says, IsReadingText, block_told}
 use Rattle.mscp_port.specs.declared.task.Task.TheVariants as tasks
 use Rattle.mscp_port.proofs.Kept.{IsTo}
 use Rattle.mscp_port.proofs.Loads.{looks_or_not}
@@ -62,7 +62,7 @@ keeps_after said PutAside old new r k = more said PutAside old new
 keeps_after said (WasRead bytes result) old new r k = text_heard said bytes result old new old.task refl r k
 keeps_after said (Went outcome result) old new r k = more said (Went outcome result) old new (elim r.commands [
   | inl e ↦ framed said old new k e.buffers e.controller
-  | inr rest ↦ elim rest [ inl goes ↦ goes_on_keeps said old new goes k | inr d ↦ dies said old new k d ]
+  | inr rest ↦ elim rest [ inl goes ↦ goes_on_keeps said old new goes.1 k | inr d ↦ dies said old new k d ]
 ])
 keeps_after said LookAgain old new r k = more said LookAgain old new
     (framed said old new k (ap (λ (p : Port _). p.buffers) r) (ap (λ (p : Port _). p.controller) r))
@@ -110,7 +110,7 @@ keeps_what_was_said {K} hardware credits controller start p call calls place via
         let first = of_first via e.reference b found.1 in
         let is = kept_was_said hardware credits controller start a.0 calls made a.1 b found.0 in
         let step = end.step in
-        let of_end = ended_of via step.0 step.1 old.controller p.controller step.2 e step.3 step.4 in
+        let of_end = ended_of via step.0 (block_told step.1) old.controller p.controller step.2 e step.3 step.4 in
         let r = record_at rs of_end.place in
         let name : name_of r ≡ name_on First b.reference =
         ap (λ c. name_on c r.command.reference) (of_end.connection ∙ first.0)

@@ -14,6 +14,8 @@ use Rattle.mscp_port.specs.declared.action.Outcome.TheVariants as outcomes
 use Rattle.mscp_port.specs.declared.buffers.Buffer.{Buffer}
 use Rattle.mscp_port.specs.declared.task.Task.{Task}
 use Rattle.mscp_port.specs.declared.task.Task.TheVariants as tasks
+use Rattle.mscp_port.specs.declared.verdict.Verdict.{Verdict}
+use Rattle.mscp_port.specs.declared.verdict.Verdict.TheVariants as verdicts
 use Rattle.mscp_port.specs.declared.volumes.Volume.{Volume}
 use Rattle.mscp_port.specs.Buffers.{is_of, part_of}
 
@@ -45,43 +47,38 @@ move_of u = moved_by u.command.order u.lbn
 
 -- ---- why a step isn't taken
 
-abbrev pub is_count : Option ℕ → ℕ → Bool
-is_count None n = false
-is_count (Some m) n = m == n
+-- it ends its command with this status
+abbrev pub faulted : ℕ → Verdict
+faulted status = verdicts.Served (blocks.Bad status)
 
--- the unit is online with the volume that is in it
-abbrev pub is_mounted : Volume → Bool
-is_mounted v = v.is_there && is_count v.mounted v.changes
-
--- the first that holds: the unit isn't online with its volume (0xFFFE, which the host hears as Unit-Available), the
--- address or the count is odd, the volume is protected by the host or by the hardware, or it has no such block (only
+-- the first that holds: the unit isn't online with its volume, the address or the count is odd, the volume is protected by the host or by the hardware, or it has no such block (only
 -- restored bytes say that)
-abbrev pub refusal_of : MoveKind → ℕ → Buffer → Volume → Option ℕ
+abbrev pub refusal_of : MoveKind → ℕ → Buffer → Volume → Option Verdict
 refusal_of kind block b v =
-    if not (is_mounted v) then Some 0xFFFE
-    else if has_host_bytes kind && b.address % 2 == 1 then Some 0x0029
-    else if b.count % 2 == 1 then Some 0x0049
-    else if writes kind && v.is_protected_by_host then Some 0x1006
-    else if writes kind && v.is_protected then Some 0x2006
-    else if nat_le v.size block then Some 0x000B
+    if not v.is_mounted then Some verdicts.NotOnline
+    else if has_host_bytes kind && b.address % 2 == 1 then Some (faulted 0x0029)
+    else if b.count % 2 == 1 then Some (faulted 0x0049)
+    else if writes kind && v.is_protected_by_host then Some (faulted 0x1006)
+    else if writes kind && v.is_protected then Some (faulted 0x2006)
+    else if nat_le v.size block then Some (faulted 0x000B)
     else None
 
--- no volume, or another one than when the command came (0xFFFF, which the host hears as Unit-Offline)
+-- no volume, or another one than when the command came
 abbrev pub has_changed : Buffer → Volume → Bool
 has_changed b v = not v.is_there || not (b.changes == v.changes)
 
-abbrev pub fault_with : MoveKind → ℕ → Buffer → Volume → Option ℕ
-fault_with kind block b v = if has_changed b v then Some 0xFFFF else refusal_of kind block b v
+abbrev pub fault_with : MoveKind → ℕ → Buffer → Volume → Option Verdict
+fault_with kind block b v = if has_changed b v then Some verdicts.NoVolume else refusal_of kind block b v
 
 -- past the end of the buffer memory isn't there
-abbrev pub unless_fault : Option ℕ → Option (ℕ × ℕ) → Result (ℕ × ℕ) ℕ
-unless_fault (Some status) part = Err status
-unless_fault None None = Err 0x0069
+abbrev pub unless_fault : Option Verdict → Option (ℕ × ℕ) → Result (ℕ × ℕ) Verdict
+unless_fault (Some verdict) part = Err verdict
+unless_fault None None = Err (faulted 0x0069)
 unless_fault None (Some part) = Ok part
 
--- the part of its command's buffer that a step is about which moves this block so, behind so many others, or the status
--- by which it may not go on
-abbrev pub part_with : MoveKind → ℕ → ℕ → Buffer → Volume → Result (ℕ × ℕ) ℕ
+-- the part of its command's buffer that a step is about which moves this block so, behind so many others, or how it
+-- goes that may not go on
+abbrev pub part_with : MoveKind → ℕ → ℕ → Buffer → Volume → Result (ℕ × ℕ) Verdict
 part_with kind block done b v = unless_fault (fault_with kind block b v) (part_of b done)
 
 -- ---- what is done for a step
@@ -94,14 +91,17 @@ kept_at (Some place) buffers = slice_get buffers place
 abbrev pub kept_of : Connection → ℕ → List Buffer → Option Buffer
 kept_of via reference buffers = kept_at (position (is_of via reference) buffers) buffers
 
+abbrev pub good_step : Task
+good_step = tasks.Step (verdicts.Served blocks.Good)
+
 -- a transfer of no bytes moves nothing
-abbrev pub part_task : Result (ℕ × ℕ) ℕ → Task
-part_task (Ok part) = if part.1 == 0 then tasks.Step blocks.Good else tasks.Transfer
-part_task (Err status) = tasks.Step (blocks.Bad status)
+abbrev pub part_task : Result (ℕ × ℕ) Verdict → Task
+part_task (Ok part) = if part.1 == 0 then good_step else tasks.Transfer
+part_task (Err verdict) = tasks.Step verdict
 
 -- by how it moves a block, if it moves one
 abbrev pub move_task : Upcoming → Option (MoveKind × ℕ) → Buffer → Volume → Task
-move_task u None b v = tasks.Step blocks.Good
+move_task u None b v = good_step
 move_task u (Some move) b v = part_task (part_with move.0 move.1 u.done b v)
 
 abbrev pub is_available : Order → Bool
@@ -117,9 +117,9 @@ takes_any_volume order = false
 -- for a step of a command, of whose message this is kept, and whose unit has this volume. AVAILABLE wants no volume
 abbrev pub task_of : Upcoming → Buffer → Volume → Task
 task_of u b v =
-    if is_available u.command.order then tasks.Step blocks.Good
-    else if v.is_there && takes_any_volume u.command.order then tasks.Step blocks.Good
-    else if has_changed b v then tasks.Step (blocks.Bad 0xFFFF)
+    if is_available u.command.order then good_step
+    else if v.is_there && takes_any_volume u.command.order then good_step
+    else if has_changed b v then tasks.Step verdicts.NoVolume
     else move_task u (move_of u) b v
 
 -- how a block was served whose action went so: memory isn't there, has a parity error, isn't mapped; bytes differ
@@ -130,3 +130,9 @@ block_of outcomes.Parity = blocks.Bad 0x0089
 block_of outcomes.Unmapped = blocks.Bad 0x00A9
 block_of outcomes.Different = blocks.Bad 0x0007
 block_of (outcomes.Failed status) = blocks.Bad status
+
+-- what the controller is told, which doesn't know of volumes: a step that had none is a drive's error there
+abbrev pub block_told : Verdict → Block
+block_told (verdicts.Served block) = block
+block_told verdicts.NoVolume = blocks.Bad 0x000B
+block_told verdicts.NotOnline = blocks.Bad 0x000B

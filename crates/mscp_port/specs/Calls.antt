@@ -60,8 +60,9 @@ pub record IsMadeOf {K : Type 0} (made_hardware : Hardware) (credits : ℕ) (mad
   pub polled : p.is_polled ≡ false
   pub stalled : p.is_stalled ≡ false
   pub full : p.is_full ≡ false
+  pub owes : p.owes_block ≡ false
   pub buffers : p.buffers.items ≡ []
-  pub brought : p.brought.items ≡ []
+  pub decided : p.decided.items ≡ []
   pub volumes : (place : ℕ) → place < 16 → volume_at p.volumes place ≡ no_volume
   pub flags : p.flags ≡ 0
   -- a host has no limit before its first command, and one minute then, if it says nothing else
@@ -127,7 +128,7 @@ pub record Wants {K : Type 0} (blocks : Bool) (old : Port K) (action : Action) (
   pub frame : new ≡ record old {
     controller = new.controller;
     outgoing = new.outgoing;
-    brought = new.brought;
+    decided = new.decided;
     is_stalled = new.is_stalled;
     volumes = new.volumes;
     task = new.task;
@@ -167,7 +168,9 @@ ChangesByReading old new = (new ≡ record old {
   is_polled = new.is_polled;
   is_stalled = new.is_stalled;
   is_full = new.is_full;
+  owes_block = new.owes_block;
   buffers = new.buffers;
+  decided = new.decided;
   flags = new.flags;
   timeout = new.timeout;
   left = new.left;
@@ -251,8 +254,9 @@ abbrev pub ChangesByService : {K : Type 0} → Port K → Port K → Type 0
 ChangesByService old new = new ≡ record old {
   controller = new.controller;
   task = new.task;
+  owes_block = new.owes_block;
   buffers = new.buffers;
-  brought = new.brought;
+  decided = new.decided;
   volumes = new.volumes;
 }
 
@@ -271,7 +275,7 @@ abbrev pub ChangesBySaying : {K : Type 0} → Port K → Port K → Type 0
 ChangesBySaying old new = new ≡ record old {
   controller = new.controller;
   outgoing = new.outgoing;
-  brought = new.brought;
+  decided = new.decided;
   is_stalled = new.is_stalled;
   volumes = new.volumes;
 }
@@ -286,17 +290,18 @@ ChangesByActing old new = (new ≡ record old {
   task = new.task;
   outgoing = new.outgoing;
   is_stalled = new.is_stalled;
-}) ⊎ GoesOnWithBlock old new ⊎ Dies old new
+}) ⊎ (IsStepping old.task × GoesOnWithBlock old new) ⊎ Dies old new
 
 -- the stage stays, or is the last step of the initialisation, once the communication area is clear
 abbrev pub StaysInStage : {K : Type 0} → Port K → Port K → Type 0
 StaysInStage old new = (new.stage ≡ old.stage) ⊎ (new.stage ≡ stages.Last) ⊎ Dies old new
 
--- the volumes stay, and the commands that wait, with what is kept of them
+-- the volumes stay, and the commands that wait, with what is kept of them, and whether a poll was heard since a step
 pub record KeepsCommands {K : Type 0} (old new : Port K) : Type 0 where
   pub volumes : new.volumes ≡ old.volumes
   pub controller : new.controller ≡ old.controller
   pub buffers : new.buffers ≡ old.buffers
+  pub owes : new.owes_block ≡ old.owes_block
 
 -- a packet is in hand
 abbrev pub HoldsPacket : Task → Type 0
@@ -316,7 +321,7 @@ pub record Goes {K : Type 0} (outcome : Outcome) (old : Port K) (result : Result
   pub steps : IsOk result → IfSome (step_answered old.task old.written) (λ word. TakesStep word old new)
   pub settings : new.controller.settings ≡ old.controller.settings
   pub still : step_answered old.task old.written ≡ None → ChangesByActing old new × StaysInStage old new
-  pub commands : KeepsCommands old new ⊎ GoesOnWithBlock old new ⊎ Dies old new
+  pub commands : KeepsCommands old new ⊎ (IsStepping old.task × GoesOnWithBlock old new) ⊎ Dies old new
   -- its credits are told by a packet alone
   pub credits : HoldsPacket old.task ⊎ ((new.untold ≡ old.untold) × (new.more ≡ old.more)) ⊎ Dies old new
   -- of its host's memory the port learns nothing but the area
@@ -354,7 +359,7 @@ pub record Ticks {K : Type 0} (old new : Port K) : Type 0 where
 
 -- what becomes of a step in hand that moves no block, where a volume changes: it is taken in hand anew
 abbrev pub step_again : Task → Task
-step_again (tasks.Step block) = tasks.Free
+step_again (tasks.Step verdict) = tasks.Free
 step_again task = task
 
 -- that of the unit at a place, if there is such a unit

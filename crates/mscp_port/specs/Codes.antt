@@ -1,5 +1,5 @@
 -- What has no number of its own, as numbers, and what numbers stand for.
-use Rattle.std.specs.Prelude.{◌≡◌, ℕ, ◌%◌, ◌≤◌, ◌<◌, Bool, true, nat_eq, nat_le, nat_lt, if◌then◌else◌, Option, Some, None, is_some}
+use Rattle.std.specs.Prelude.{◌≡◌, ℕ, ◌%◌, ◌≤◌, ◌<◌, ◌&&◌, Bool, true, nat_eq, nat_le, nat_lt, if◌then◌else◌, Option, Some, None, is_some}
 use Rattle.mscp_drive.specs.declared.block.Block.{Block}
 use Rattle.mscp_drive.specs.declared.block.Block.TheVariants.{Good, Bad}
 use Rattle.mscp_saved.specs.Saved.{flag_byte}
@@ -13,6 +13,8 @@ use Rattle.mscp_port.specs.declared.stage.Stage.{Stage}
 use Rattle.mscp_port.specs.declared.stage.Stage.TheVariants as stages
 use Rattle.mscp_port.specs.declared.task.Task.{Task}
 use Rattle.mscp_port.specs.declared.task.Task.TheVariants as tasks
+use Rattle.mscp_port.specs.declared.verdict.Verdict.{Verdict}
+use Rattle.mscp_port.specs.declared.verdict.Verdict.TheVariants as verdicts
 use Rattle.mscp_port.specs.Sizes.{clear_size, text_size}
 
 -- ---- what there may be
@@ -81,7 +83,7 @@ stage_in byte word =
 abbrev pub nothing : Coded
 nothing = record { task = 0; whom = 0; first = 0; second = 0; two = 0; how = 0 }
 
--- the outcome of a block: whether it was bad, and the status
+-- how a step went: its number, and the status of a bad block
 abbrev pub bad_byte : Block → ℕ
 bad_byte Good = 0
 bad_byte (Bad status) = 1
@@ -90,8 +92,20 @@ abbrev pub bad_status : Block → ℕ
 bad_status Good = 0
 bad_status (Bad status) = status
 
-abbrev pub block_in : ℕ → ℕ → Block
-block_in byte status = if nat_eq byte 1 then (if nat_le 5 (status % 32) then Bad status else Good) else Good
+abbrev pub verdict_byte : Verdict → ℕ
+verdict_byte (verdicts.Served block) = bad_byte block
+verdict_byte verdicts.NoVolume = 2
+verdict_byte verdicts.NotOnline = 3
+
+abbrev pub verdict_status : Verdict → ℕ
+verdict_status (verdicts.Served block) = bad_status block
+verdict_status verdict = 0
+
+abbrev pub verdict_in : ℕ → ℕ → Verdict
+verdict_in byte status =
+    if nat_eq byte 2 then verdicts.NoVolume else (
+    if nat_eq byte 3 then verdicts.NotOnline else (
+    if nat_eq byte 1 && nat_le 5 (status % 32) then verdicts.Served (Bad status) else verdicts.Served Good))
 
 abbrev pub coded_task : Task → Coded
 coded_task tasks.Free = nothing
@@ -106,7 +120,8 @@ coded_task (tasks.Return side slot) = record nothing { task = 7; whom = side_byt
 coded_task (tasks.Neighbour side) = record nothing { task = 8; whom = side_byte side }
 coded_task (tasks.Word side) = record nothing { task = 9; whom = side_byte side }
 coded_task tasks.Interrupt = record nothing { task = 10 }
-coded_task (tasks.Step block) = record nothing { task = 11; two = bad_status block; how = bad_byte block }
+coded_task (tasks.Step verdict) =
+    record nothing { task = 11; two = verdict_status verdict; how = verdict_byte verdict }
 coded_task tasks.Transfer = record nothing { task = 12 }
 
 -- the clearing of the area behind so many bytes, if they are parts of one
@@ -138,7 +153,7 @@ ring_task_in c =
 -- what is done for a command
 abbrev pub block_task_in : Coded → Task
 block_task_in c =
-    if nat_eq c.task 11 then tasks.Step (block_in c.how c.two) else (
+    if nat_eq c.task 11 then tasks.Step (verdict_in c.how c.two) else (
     if nat_eq c.task 12 then tasks.Transfer else tasks.Interrupt)
 
 abbrev pub task_in : Coded → Task
@@ -157,5 +172,5 @@ has_size c =
 abbrev pub IsTask : Task → Type 0
 IsTask (tasks.Clear done) = (done % 64 ≡ 0) × (done < 1032)
 IsTask (tasks.Text slot size foreign) = (12 ≤ size) × (size ≤ 64)
-IsTask (tasks.Step (Bad status)) = 5 ≤ status % 32
+IsTask (tasks.Step (verdicts.Served (Bad status))) = 5 ≤ status % 32
 IsTask task = Unit {0}

@@ -1,6 +1,6 @@
--- What a message says as it leaves for the host: an end as the controller made it, with the fields that are the port's
--- to tell, and news of a volume (manual, "End Messages", "Attention Messages", "Unit Flags").
-use Rattle.std.specs.Prelude.{ℕ, ◌+◌, ◌*◌, ◌/◌, ◌%◌, ◌==◌, ◌&&◌, ◌||◌, ◌++◌, ◌∷◌, [], not, Bool, nat_lt, if◌then◌else◌, List, length, slice_get, slice_set, option_map, Option, None, Some}
+-- What a message says as it leaves for the host: an end as the controller made it, with what was decided of it, and news
+-- of a volume (manual, "End Messages", "Attention Messages").
+use Rattle.std.specs.Prelude.{ℕ, ◌%◌, ◌==◌, ◌||◌, ◌++◌, ◌∷◌, [], Bool, if◌then◌else◌, List, replicate, slice_get, option_map, Option, None, Some}
 use Rattle.byteorder.specs.Endian.{little_bytes}
 use Rattle.mscp_drive.specs.Shape.{Shape}
 use Rattle.mscp_drive.specs.UnitList.{unit_found}
@@ -8,126 +8,89 @@ use Rattle.mscp_packet.specs.Ends.{end_bytes}
 use Rattle.mscp_packet.specs.declared.end.End.{End}
 use Rattle.mscp_packet.specs.declared.end.EndBody.{EndBody}
 use Rattle.mscp_packet.specs.declared.end.EndBody.TheVariants as bodies
+use Rattle.mscp_port.specs.declared.decided.Decided.{Decided}
 use Rattle.mscp_port.specs.declared.hardware.Hardware.{Hardware}
 use Rattle.mscp_port.specs.declared.port.Outgoing.{Outgoing}
 use Rattle.mscp_port.specs.declared.port.OutgoingKind.TheVariants as kinds
 use Rattle.mscp_port.specs.declared.port.Port.{Port}
 use Rattle.mscp_port.specs.declared.volumes.Volume.{Volume}
-use Rattle.mscp_port.specs.declared.brought.Brought.{Brought}
-use Rattle.mscp_port.specs.Blocks.{is_mounted}
-use Rattle.mscp_port.specs.Brought.{brought_of, is_fresh}
-use Rattle.mscp_port.specs.Volumes.{place_in, volume_at}
+use Rattle.mscp_port.specs.Decided.{unit_flags}
+use Rattle.mscp_port.specs.Volumes.{volume_at}
 
--- ---- a unit's end
+-- ---- parts
 
--- the flags of a unit: the controller replaces bad blocks, the hardware and the host protect what is written, and the
--- volume can be taken out
-abbrev pub unit_flags : Volume → ℕ
-unit_flags v =
-    0x8000 + (if v.is_protected then 0x2000 else 0) + (if v.is_protected_by_host then 0x1000 else 0)
-    + (if v.is_removable then 0x80 else 0)
+-- the first 12 bytes: reference number, unit, code and status
+abbrev pub head : ℕ → ℕ → ℕ → ℕ → List ℕ
+head reference unit code status =
+    little_bytes 4 reference ++ little_bytes 2 unit ++ (0 ∷ 0 ∷ code ∷ 0 ∷ []) ++ little_bytes 2 status
 
--- the status that is told: a step that had no volume (0xFFFF), and an end of a unit without one, are Unit-Offline, no
--- volume (0x23); a step of a unit that wasn't online with its volume (0xFFFE), and the Success of a GET UNIT STATUS
--- (0x83) of one, are Unit-Available (4). An ONLINE (0x89) that was the first one of its volume, as was decided
--- when it ended, found no unit online already (0x0100)
-abbrev pub status_told : ℕ → ℕ → Volume → Bool → ℕ
-status_told code status v fresh =
-    if status == 0xFFFF then 0x23
-    else if status == 0xFFFE then 4
-    else if status == 4 && not v.is_there then 0x23
-    else if status == 0 && code == 0x83 && not v.is_there then 0x23
-    else if status == 0 && code == 0x83 && not (is_mounted v) then 4
-    else if status == 0x0100 && code == 0x89 && fresh then 0
-    else status
+-- bytes 12 to 31, of a unit: its number as that of its multi-unit, its flags, its identifier, and the type of its media
+abbrev pub unit_part : Shape → ℕ → ℕ → List ℕ
+unit_part unit flags media =
+    little_bytes 2 unit.number ++ little_bytes 2 flags ++ little_bytes 4 0 ++ little_bytes 8 unit.id
+    ++ little_bytes 4 media
 
--- the media and the size that the Success of an ONLINE or a SET UNIT CHARACTERISTICS tells are those of the volume that
--- it was decided with
-abbrev pub online_with : ℕ → EndBody → Option Brought → EndBody
-online_with status (bodies.Online id media size serial) (Some b) =
-    if status % 32 == 0 then bodies.Online id b.media b.size serial else bodies.Online id media size serial
-online_with status body brought = body
+-- bytes 32 to 35: its number as that of its shadow unit, and no status of that
+abbrev pub shadow_part : Shape → List ℕ
+shadow_part unit = little_bytes 2 unit.number ++ little_bytes 2 0
 
--- and one that found none tells the unit's
-abbrev pub online_told : ℕ → EndBody → Shape → Option Brought → EndBody
-online_told status (bodies.Online id media size serial) unit brought =
-    if status == 0x23 then bodies.Online unit.id unit.media unit.size unit.serial
-    else online_with status (bodies.Online id media size serial) brought
-online_told status body unit brought = body
+abbrev pub unit_end : End → Decided → Shape → List ℕ
+unit_end e told unit =
+    head e.reference e.unit e.code told.status ++ unit_part unit told.flags told.media ++ shadow_part unit
 
--- a GET UNIT STATUS tells the media of the volume, if there is one
-abbrev pub unit_told : ℕ → EndBody → Option Shape → Volume → Option Brought → EndBody
-unit_told status (bodies.Online id media size serial) (Some unit) v brought =
-    online_told status (bodies.Online id media size serial) unit brought
-unit_told status (bodies.UnitStatus id media track group cylinder) (Some unit) v brought =
-    bodies.UnitStatus id (if v.is_there then v.media else media) track group cylinder
-unit_told status body unit v brought = body
+-- ---- ends
 
--- the end with the status that is told, and with its unit
-abbrev pub with_status : ℕ → Option Shape → Volume → Option Brought → End → End
-with_status status unit v brought e = record e { status = status; body = unit_told status e.body unit v brought }
+-- an ONLINE or a SET UNIT CHARACTERISTICS tells the blocks of the volume, and the serial number of the unit's
+abbrev pub online_end : End → Decided → Shape → List ℕ
+online_end e told unit = unit_end e told unit ++ little_bytes 4 told.size ++ little_bytes 4 unit.serial
 
--- these two bytes, the low one first, in place of those from a place on, if the message has both
-abbrev pub with_two : ℕ → ℕ → List ℕ → List ℕ
-with_two at value b =
-    if nat_lt (length b) (at + 2) then b else slice_set (slice_set b at (value % 0x100)) (at + 1) (value / 0x100)
+-- a GET UNIT STATUS the unit's sizes
+abbrev pub unit_status_end : End → Decided → Shape → List ℕ
+unit_status_end e told unit =
+    unit_end e told unit ++ little_bytes 2 unit.track ++ little_bytes 2 unit.group ++ little_bytes 2 unit.cylinder
+    ++ replicate 6 0
 
--- the fields of a unit that are the port's: its number as that of its multi-unit, in bytes 12 and 13, and of its shadow
--- unit, in 32 and 33; and its flags, in 14 and 15
-abbrev pub unit_filled : ℕ → ℕ → List ℕ → List ℕ
-unit_filled unit flags b = with_two 32 unit (with_two 14 flags (with_two 12 unit b))
+-- a SET CONTROLLER CHARACTERISTICS the flags and the timeout, the versions of software and hardware, and the
+-- controller's identifier
+abbrev pub controller_end : End → Decided → Hardware → ℕ → ℕ → List ℕ
+controller_end e told h timeout id =
+    head e.reference e.unit e.code told.status ++ little_bytes 2 0 ++ little_bytes 2 told.flags
+    ++ little_bytes 2 timeout ++ (h.software ∷ h.version ∷ []) ++ little_bytes 8 id ++ little_bytes 4 0
 
--- the ends of GET UNIT STATUS, ONLINE and SET UNIT CHARACTERISTICS have these fields with Success, Unit-Offline and
--- Unit-Available
-abbrev pub has_unit : ℕ → ℕ → Bool
-has_unit code status =
-    (code == 0x83 || code == 0x89 || code == 0x8A) && (status % 32 == 0 || status % 32 == 3 || status % 32 == 4)
+-- Success, Unit-Offline and Unit-Available tell of the unit
+abbrev pub tells_unit : ℕ → Bool
+tells_unit status = status % 32 == 0 || status % 32 == 3 || status % 32 == 4
 
-abbrev pub filled_for : Volume → End → List ℕ
-filled_for v e = if has_unit e.code e.status then unit_filled e.unit (unit_flags v) (end_bytes e) else end_bytes e
+-- any other end leaves as the controller made it, but with the status that was decided
+abbrev pub plain_end : End → Decided → List ℕ
+plain_end e told = end_bytes (record e { status = told.status })
 
--- the end of a command to a unit with this volume, and of an ONLINE what it tells
-abbrev pub unit_end : List Shape → Volume → Option Brought → End → List ℕ
-unit_end units v brought e =
-    filled_for v
-    (with_status (status_told e.code e.status v (is_fresh brought)) (unit_found units e.unit) v brought e)
+-- by its body, to this unit, or to none that is there
+abbrev pub end_with_body : EndBody → End → Decided → Option Shape → Hardware → List ℕ
+end_with_body (bodies.Online id media size serial) e told (Some unit) h =
+    if tells_unit told.status then online_end e told unit else plain_end e told
+end_with_body (bodies.UnitStatus id media track group cylinder) e told (Some unit) h =
+    if tells_unit told.status then unit_status_end e told unit else plain_end e told
+end_with_body (bodies.Controller timeout id) e told unit h =
+    if told.status == 0 then controller_end e told h timeout id else plain_end e told
+end_with_body body e told unit h = plain_end e told
 
--- ---- all ends
+abbrev pub end_told : End → Decided → Option Shape → Hardware → List ℕ
+end_told e told unit h = end_with_body e.body e told unit h
 
--- the end of a SET CONTROLLER CHARACTERISTICS (0x84) with Success tells in bytes 14 and 15 the host's flags, beside
--- that of a controller which replaces bad blocks, in 18 and 19 the versions of its software and hardware, and has 32
--- bytes
-abbrev pub lengthened : List ℕ → List ℕ
-lengthened b = if length b == 28 then b ++ 0 ∷ 0 ∷ 0 ∷ 0 ∷ [] else b
+abbrev pub end_left : End → Option Decided → Option Shape → Hardware → List ℕ
+end_left e None unit h = end_bytes e
+end_left e (Some told) unit h = end_told e told unit h
 
-abbrev pub controller_filled : Hardware → ℕ → List ℕ → List ℕ
-controller_filled h flags b =
-    lengthened (with_two 18 (h.version * 0x100 + h.software) (with_two 14 (0x8000 + flags % 0x8000) b))
-
-abbrev pub controller_end : Hardware → ℕ → End → List ℕ
-controller_end h flags e = if e.status == 0 then controller_filled h flags (end_bytes e) else end_bytes e
-
--- the end of a command to the unit at a place, and of one to no unit
-abbrev pub end_at : List Shape → List Volume → Option Brought → Option ℕ → End → List ℕ
-end_at units volumes brought None e = end_bytes e
-end_at units volumes brought (Some place) e = unit_end units (volume_at volumes place) brought e
-
--- the bytes with which an end of the controller leaves
+-- the bytes with which the controller's oldest end leaves
 abbrev pub told_end : {K : Type 0} → Port K → End → List ℕ
-told_end p e =
-    if e.code == 0x84 then controller_end p.hardware p.flags e
-    else end_at p.controller.settings.units p.volumes (brought_of e.reference p.brought.items)
-    (place_in p.controller.settings.units e.unit) e
+told_end p e = end_left e (slice_get p.decided.items 0) (unit_found p.controller.settings.units e.unit) p.hardware
 
 -- ---- news
 
--- the attention message that a volume came into a unit, of which 0x40 is the code: an Available of the unit, with the
--- fields of an end that tells one
+-- the attention message that a volume came into a unit, of which 0x40 is the code: an Available of the unit
 abbrev pub attention : Shape → Volume → List ℕ
-attention unit v =
-    little_bytes 4 0 ++ little_bytes 2 unit.number ++ (0 ∷ 0 ∷ 0x40 ∷ 0 ∷ 0 ∷ 0 ∷ [])
-    ++ little_bytes 2 unit.number ++ little_bytes 2 (unit_flags v) ++ little_bytes 4 0
-    ++ little_bytes 8 unit.id ++ little_bytes 4 v.media
+attention unit v = head 0 unit.number 0x40 0 ++ unit_part unit (unit_flags v) v.media
 
 -- what goes out with news of the volume at a place
 abbrev pub news_at : List Shape → List Volume → ℕ → Option Outgoing

@@ -1,11 +1,12 @@
 pub mod Acted
 pub mod Areas
 pub mod Blocks
-pub mod Brought
 pub mod Buffers
 pub mod Calls
 pub mod Codes
+pub mod Decided
 pub mod Departures
+pub mod Fair
 pub mod Histories
 pub mod Kept
 pub mod Leaving

@@ -2,7 +2,6 @@
 use Rattle.std.specs.Prelude.{◌≡◌, ◌⊎◌, ◌%◌, ◌/◌, ◌==◌, ℕ, Bool, true, false, if◌then◌else◌, List, [], ◌∷◌, Option, None, Some, Result, Ok}
 use Rattle.mscp_packet.specs.declared.command.MoveKind.{MoveKind}
 use Rattle.mscp_packet.specs.declared.end.End.{End}
-use Rattle.mscp_drive.specs.declared.block.Block.{Block}
 use Rattle.mscp_drive.specs.declared.connection.Connection.{Connection}
 use Rattle.mscp_queue.specs.declared.report.Report.{Report}
 use Rattle.mscp_queue.specs.Names.{name_on}
@@ -12,7 +11,8 @@ use Rattle.mscp_port.specs.declared.action.Action.TheVariants as actions
 use Rattle.mscp_port.specs.declared.buffers.Buffer.{Buffer}
 use Rattle.mscp_port.specs.declared.hardware.Hardware.{Hardware}
 use Rattle.mscp_port.specs.declared.port.Port.{Port}
-use Rattle.mscp_port.specs.Blocks.{kept_of, writes}
+use Rattle.mscp_port.specs.declared.verdict.Verdict.{Verdict}
+use Rattle.mscp_port.specs.Blocks.{block_told, kept_of, writes}
 use Rattle.mscp_port.specs.Calls.{IsMadeOf}
 use Rattle.mscp_port.specs.Departures.{IsForgotten}
 use Rattle.mscp_port.specs.Histories.{Answered, Call, Next, VolumeCame, VolumeWent}
@@ -49,10 +49,9 @@ mount_after code (Some b) changes m =
 -- by a call this end of Success came, of a command of this connection, to the unit at this place: the controller took
 -- the step that brought it
 pub record Ends {K : Type 0} (place : ℕ) (old new : Port K) (via : Connection) (e : End) : Type 0 where
-  pub step : (reference : ℕ) × (block : Block) × (result : Result Report NotBegun)
-      × Finishes anyhow (name_on via reference) block old.controller result new.controller
-      × (end_brought result ≡ Some e)
-  pub heeds : HeedsStep via (Some e) old new
+  pub step : (reference : ℕ) × (verdict : Verdict) × (result : Result Report NotBegun)
+      × Finishes anyhow (name_on via reference) (block_told verdict) old.controller result new.controller
+      × (end_brought result ≡ Some e) × HeedsStep via verdict (Some e) old new
   pub unit : place_heeded old.controller.settings.units e ≡ Some place
 
 -- it says that a volume came into that unit, or went

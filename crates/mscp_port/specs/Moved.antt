@@ -1,9 +1,7 @@
 -- What is wanted for a block in hand, and what follows once that was done.
-use Rattle.std.specs.Prelude.{◌≡◌, ◌<◌, ◌⊎◌, ℕ, ◌%◌, ◌==◌, true, if◌then◌else◌, List, MatchOption, option_map, Result, Option, None, Some, Ok, Err}
+use Rattle.std.specs.Prelude.{◌≡◌, ◌<◌, ◌⊎◌, ℕ, ◌%◌, ◌==◌, true, false, if◌then◌else◌, List, MatchOption, option_map, Result, Option, None, Some, Ok, Err}
 use Rattle.mscp_drive.specs.Shape.{Shape}
 use Rattle.mscp_packet.specs.declared.command.MoveKind.{MoveKind}
-use Rattle.mscp_drive.specs.declared.block.Block.{Block}
-use Rattle.mscp_drive.specs.declared.block.Block.TheVariants as blocks
 use Rattle.mscp_packet.specs.declared.end.End.{End}
 use Rattle.mscp_queue.specs.declared.report.Report.{Report}
 use Rattle.mscp_queue.specs.declared.report.Report.TheVariants as reports
@@ -18,23 +16,25 @@ use Rattle.mscp_controller.specs.declared.entry.NotBegun.{NotBegun}
 use Rattle.mscp_port.specs.declared.action.Action.{Action}
 use Rattle.mscp_port.specs.declared.action.Action.TheVariants as actions
 use Rattle.mscp_port.specs.declared.action.Outcome.{Outcome}
-use Rattle.mscp_port.specs.declared.brought.Brought.{Brought}
 use Rattle.mscp_port.specs.declared.buffers.Buffer.{Buffer}
+use Rattle.mscp_port.specs.declared.decided.Decided.{Decided}
 use Rattle.mscp_port.specs.declared.port.Port.{Port}
 use Rattle.mscp_port.specs.declared.task.Task.{Task}
 use Rattle.mscp_port.specs.declared.task.Task.TheVariants as tasks
+use Rattle.mscp_port.specs.declared.verdict.Verdict.{Verdict}
+use Rattle.mscp_port.specs.declared.verdict.Verdict.TheVariants as verdicts
 use Rattle.mscp_port.specs.declared.volumes.Volume.{Volume}
-use Rattle.mscp_port.specs.Blocks.{block_of, kept_of, move_of, part_with, task_of}
-use Rattle.mscp_port.specs.Brought.{brought_heeded}
+use Rattle.mscp_port.specs.Blocks.{block_of, block_told, faulted, kept_of, move_of, part_with, task_of}
 use Rattle.mscp_port.specs.Buffers.{without}
-use Rattle.mscp_port.specs.Volumes.{MayMove, place_in, volume_at, volumes_heeded}
+use Rattle.mscp_port.specs.Decided.{decided_step}
+use Rattle.mscp_port.specs.Volumes.{MayMove, place_in, volume_at, volume_found, volumes_heeded}
 
 -- ---- which step is taken
 
 -- it ends with Drive Error where its unit or its buffer isn't known
 abbrev pub known_task : Upcoming → Option ℕ → Option Buffer → List Volume → Task
 known_task u (Some place) (Some b) volumes = task_of u b (volume_at volumes place)
-known_task u place kept volumes = tasks.Step (blocks.Bad 0x000B)
+known_task u place kept volumes = tasks.Step (faulted 0x000B)
 
 -- what is done for the step that the controller has begun, if a command waits
 abbrev pub begun_task : List Shape → List Buffer → List Volume → Option Upcoming → Task
@@ -63,13 +63,13 @@ abbrev pub block_begun : {K : Type 0} → Port K → Option (Upcoming × MoveKin
 block_begun p = moved_step (begun_step p.controller)
 
 -- it may not where its unit or its buffer isn't known (Drive Error)
-abbrev pub part_at : Option ℕ → Option Buffer → MoveKind → ℕ → ℕ → List Volume → Result (ℕ × ℕ) ℕ
+abbrev pub part_at : Option ℕ → Option Buffer → MoveKind → ℕ → ℕ → List Volume → Result (ℕ × ℕ) Verdict
 part_at (Some place) (Some b) kind block done volumes = part_with kind block done b (volume_at volumes place)
-part_at place kept kind block done volumes = Err 0x000B
+part_at place kept kind block done volumes = Err (faulted 0x000B)
 
--- the part of its command's buffer that a step is about which moves this block so, or the status by which it may not go
--- on: its volume may have changed since it was begun
-abbrev pub part_now : {K : Type 0} → Port K → Upcoming → MoveKind → ℕ → Result (ℕ × ℕ) ℕ
+-- the part of its command's buffer that a step is about which moves this block so, or how it goes that may not go on:
+-- its volume may have changed since it was begun
+abbrev pub part_now : {K : Type 0} → Port K → Upcoming → MoveKind → ℕ → Result (ℕ × ℕ) Verdict
 part_now p u kind block =
     part_at (place_in p.controller.settings.units u.command.unit)
     (kept_of u.connection u.command.reference p.buffers.items) kind block u.done p.volumes
@@ -87,9 +87,9 @@ MayMoveOn kind unit block p = (place : ℕ) × (place_in p.controller.settings.u
 -- ---- what is wanted
 
 -- the block is moved to this part or from it. Nothing of a step that may not go on
-abbrev pub part_wanted : Upcoming → MoveKind → ℕ → Result (ℕ × ℕ) ℕ → Action
+abbrev pub part_wanted : Upcoming → MoveKind → ℕ → Result (ℕ × ℕ) Verdict → Action
 part_wanted u kind block (Ok part) = actions.Transfer kind u.command.unit block part.0 part.1
-part_wanted u kind block (Err status) = actions.Pause
+part_wanted u kind block (Err verdict) = actions.Pause
 
 -- of the block that the step moves which is begun. Only restored bytes say a block in hand where that moves none
 abbrev pub move_wanted : {K : Type 0} → Port K → Option (Upcoming × MoveKind × ℕ) → Action
@@ -98,14 +98,14 @@ move_wanted p (Some m) = part_wanted m.0 m.1 m.2 (part_now p m.0 m.1 m.2)
 
 -- ---- what follows
 
--- how a block was served whose action went so: its step may have to end all the same
-abbrev pub part_served : Outcome → Result (ℕ × ℕ) ℕ → Block
-part_served outcome (Ok part) = block_of outcome
-part_served outcome (Err status) = blocks.Bad status
+-- how a step went whose block's action went so: it may have to end all the same
+abbrev pub part_served : Outcome → Result (ℕ × ℕ) Verdict → Verdict
+part_served outcome (Ok part) = verdicts.Served (block_of outcome)
+part_served outcome (Err verdict) = verdict
 
 -- of the block that the step moves which is begun
-abbrev pub block_served : {K : Type 0} → Port K → Outcome → Option (Upcoming × MoveKind × ℕ) → Block
-block_served p outcome None = blocks.Bad 0x000B
+abbrev pub block_served : {K : Type 0} → Port K → Outcome → Option (Upcoming × MoveKind × ℕ) → Verdict
+block_served p outcome None = faulted 0x000B
 block_served p outcome (Some m) = part_served outcome (part_now p m.0 m.1 m.2)
 
 -- the end that a step brought, if it brought one
@@ -128,44 +128,44 @@ volumes_after units buffers via None volumes = volumes
 volumes_after units buffers via (Some e) volumes =
     volumes_heeded e.code (kept_of via e.reference buffers) (place_heeded units e) volumes
 
--- and what ends that wait tell
-abbrev pub brought_after : List Shape → List Buffer → Connection → Option End → List Volume → List Brought
-    → List Brought
-brought_after units buffers via None volumes all = all
-brought_after units buffers via (Some e) volumes all =
-    brought_heeded e.code (kept_of via e.reference buffers) (place_heeded units e) volumes all
+-- and what ends say that wait, where the port is this then
+abbrev pub decided_ended : {K : Type 0} → Connection → Verdict → Option End → Port K → Port K → List Decided
+decided_ended via verdict None old new = old.decided.items
+decided_ended via verdict (Some e) old new =
+    decided_step via verdict (volume_found old.controller.settings.units old.volumes e.unit) e old.decided.items new
 
--- the controller has taken a step of a command of a connection, which brought this end, if it brought one: nothing is
--- in hand, and the end is heeded
-pub record HeedsStep {K : Type 0} (via : Connection) (ended : Option End) (old new : Port K) : Type 0 where
+-- the controller has taken a step of a command of a connection that went so, which brought this end, if it brought one:
+-- nothing is in hand, a poll may be heard again, and the end is heeded, and what it says is decided
+pub record HeedsStep {K : Type 0} (via : Connection) (verdict : Verdict) (ended : Option End) (old new : Port K)
+    : Type 0 where
   pub frame : new ≡ record old {
     controller = new.controller;
     task = tasks.Free;
+    owes_block = false;
     buffers = new.buffers;
-    brought = new.brought;
+    decided = new.decided;
     volumes = volumes_after old.controller.settings.units old.buffers.items via ended old.volumes;
   }
   pub buffers : new.buffers.items ≡ kept_after via ended old.buffers.items
-  pub brought : new.brought.items
-      ≡ brought_after old.controller.settings.units old.buffers.items via ended old.volumes old.brought.items
+  pub decided : new.decided.items ≡ decided_ended via verdict ended old new
 
--- the controller is told of a step whose block had this outcome, and nothing is in hand
-pub record TakesBlock {K : Type 0} (picks : List Choice → ℕ → Type 0) (via : Connection) (reference : ℕ) (block : Block)
-    (old new : Port K) : Type 0 where
+-- the controller is told of a step that went so, and nothing is in hand
+pub record TakesBlock {K : Type 0} (picks : List Choice → ℕ → Type 0) (via : Connection) (reference : ℕ)
+    (verdict : Verdict) (old new : Port K) : Type 0 where
   pub finished : (result : Result Report NotBegun)
-      × Finishes picks (name_on via reference) block old.controller result new.controller
-      × HeedsStep via (end_brought result) old new
+      × Finishes picks (name_on via reference) (block_told verdict) old.controller result new.controller
+      × HeedsStep via verdict (end_brought result) old new
 
--- the controller is told of the step that it has begun, whose block had this outcome. Where none is begun, which only
--- restored bytes say, nothing is in hand any more
-abbrev pub TakesBegun : {K : Type 0} → (List Choice → ℕ → Type 0) → Block → Port K → Port K → Type 0
-TakesBegun picks block old new = MatchOption old.controller.begun
+-- the controller is told of the step that it has begun, which went so. Where none is begun, which only restored bytes
+-- say, nothing is in hand any more
+abbrev pub TakesBegun : {K : Type 0} → (List Choice → ℕ → Type 0) → Verdict → Port K → Port K → Type 0
+TakesBegun picks verdict old new = MatchOption old.controller.begun
     (new ≡ record old { task = tasks.Free })
-    (λ name. TakesBlock picks name.connection name.reference block old new)
+    (λ name. TakesBlock picks name.connection name.reference verdict old new)
 
 -- what follows for a step in hand, with a block or without one
 pub record Moves {K : Type 0} (picks : List Choice → ℕ → Type 0) (outcome : Outcome) (old new : Port K) : Type 0 where
-  pub step : (block : Block) → old.task ≡ tasks.Step block → TakesBegun picks block old new
+  pub step : (verdict : Verdict) → old.task ≡ tasks.Step verdict → TakesBegun picks verdict old new
   pub transfer : old.task ≡ tasks.Transfer
       → TakesBegun picks (block_served old outcome (block_begun old)) old new
 
@@ -173,7 +173,7 @@ pub record Moves {K : Type 0} (picks : List Choice → ℕ → Type 0) (outcome 
 
 -- a block, or a step without one, is in hand
 abbrev pub IsStepping : Task → Type 0
-IsStepping (tasks.Step block) = Unit {0}
+IsStepping (tasks.Step verdict) = Unit {0}
 IsStepping tasks.Transfer = Unit {0}
 IsStepping task = ⊥
 
@@ -185,4 +185,4 @@ anyhow choices place = Unit {0}
 abbrev pub GoesOnWithBlock : {K : Type 0} → Port K → Port K → Type 0
 GoesOnWithBlock old new =
     (new ≡ record old { task = new.task })
-    ⊎ ((via : Connection) × (reference : ℕ) × (block : Block) × TakesBlock anyhow via reference block old new)
+    ⊎ ((via : Connection) × (reference : ℕ) × (verdict : Verdict) × TakesBlock anyhow via reference verdict old new)

@@ -1,5 +1,5 @@
 -- What goes out to the host, and what becomes of it.
-use Rattle.std.specs.Prelude.{◌≡◌, ◌⊎◌, ℕ, ◌+◌, ◌%◌, ◌/◌, ◌==◌, Bool, false, if◌then◌else◌, List, slice_get, slice_set, IfSome, IsSomeAnd, Option, None, Some}
+use Rattle.std.specs.Prelude.{◌≡◌, ◌⊎◌, ℕ, ◌+◌, ◌%◌, ◌/◌, ◌==◌, drop, Bool, false, if◌then◌else◌, List, slice_get, slice_set, IsSomeAnd, Option, None, Some}
 use Rattle.std.specs.List.{position}
 use Rattle.mscp_drive.specs.Shape.{Shape}
 use Rattle.mscp_packet.specs.Ends.{end_bytes}
@@ -17,7 +17,6 @@ use Rattle.mscp_port.specs.declared.slot.Descriptor.{Descriptor}
 use Rattle.mscp_port.specs.declared.stage.Stage.TheVariants as stages
 use Rattle.mscp_port.specs.declared.task.Task.TheVariants as tasks
 use Rattle.mscp_port.specs.declared.volumes.Volume.{Volume}
-use Rattle.mscp_port.specs.Brought.{without_brought}
 use Rattle.mscp_port.specs.Leaving.{news_at, told_end}
 use Rattle.mscp_port.specs.Messages.{own_end_of}
 use Rattle.mscp_port.specs.Packets.{end_kind}
@@ -30,7 +29,7 @@ MayBegin old new = new ≡ record old { begun = new.begun }
 -- what goes out stays so, and no end is taken
 pub record KeepsSaying {K : Type 0} (old new : Port K) : Type 0 where
   pub outgoing : new.outgoing ≡ old.outgoing
-  pub brought : new.brought ≡ old.brought
+  pub decided : new.decided ≡ old.decided
   pub controller : MayBegin old.controller new.controller
   pub stalled : new.is_stalled ≡ old.is_stalled
   pub volumes : new.volumes ≡ old.volumes
@@ -45,8 +44,8 @@ pub record TakesEnd {K : Type 0} (old new : Port K) : Type 0 where
   pub nothing : old.outgoing ≡ None
   pub out : (e : End) × (oldest_end old ≡ Some e)
       × (new.outgoing ≡ Some (record { bytes = record { items = told_end old e }; kind = kinds.End }))
-  -- what it tells, if it is kept, is forgotten
-  pub brought : IfSome (oldest_end old) (λ e. new.brought.items ≡ without_brought e.reference old.brought.items)
+  -- and with it what was decided of it
+  pub decided : new.decided.items ≡ drop 1 old.decided.items
   pub controller : MayBegin (after_take First old.controller) new.controller
   pub stalled : new.is_stalled ≡ false
   pub volumes : new.volumes ≡ old.volumes
@@ -67,7 +66,7 @@ pub record TellsNews {K : Type 0} (old new : Port K) : Type 0 where
   pub nothing : old.outgoing ≡ None
   pub none : oldest_end old ≡ None
   pub out : IsNews old.controller.settings.units old.volumes (news_place old) new.outgoing new.volumes
-  pub brought : new.brought ≡ old.brought
+  pub decided : new.decided ≡ old.decided
   pub controller : MayBegin old.controller new.controller
   pub stalled : new.is_stalled ≡ old.is_stalled
 

@@ -1,5 +1,5 @@
 -- What a port knows of its host's memory, and what it may touch there.
-use Rattle.std.specs.Prelude.{◌≡◌, ◌≢◌, ℕ, ◌+◌, ◌-◌, ◌≤◌, ◌<◌, ◌⊎◌, nat_lt, if◌then◌else◌, Bool, true, false, List, [], length, Contains, IfSome, IsSomeAnd, Option, None, Some}
+use Rattle.std.specs.Prelude.{◌≡◌, ◌≢◌, ℕ, ◌+◌, ◌-◌, ◌≤◌, ◌<◌, ◌⊎◌, nat_lt, nat_eq, not, ◌&&◌, if◌then◌else◌, Bool, true, false, List, [], length, Contains, IfSome, IsSomeAnd, Option, None, Some}
 use Rattle.mscp_controller.specs.Holdings.{fresh}
 use Rattle.mscp_packet.specs.Number.{num}
 use Rattle.mscp_port.specs.declared.action.Action.{Action}
@@ -36,7 +36,7 @@ pub record IsAsNew {K : Type 0} (in_stage : Stage) (old new : Port K) : Type 0 w
   pub rings : new.rings ≡ None
   pub written : new.written ≡ None
   pub buffers : new.buffers.items ≡ []
-  pub brought : new.brought.items ≡ []
+  pub decided : new.decided.items ≡ []
   pub task : new.task ≡ tasks.Free
   pub outgoing : new.outgoing ≡ None
   pub polled : new.is_polled ≡ false
@@ -48,6 +48,7 @@ pub record IsAsNew {K : Type 0} (in_stage : Stage) (old new : Port K) : Type 0 w
   pub words : new.words ≡ record { first = 0; second = 0 }
   pub stalled : new.is_stalled ≡ false
   pub full : new.is_full ≡ false
+  pub owes : new.owes_block ≡ false
   pub flags : new.flags ≡ 0
   -- a host has no limit before its first command, and one minute then, if it says nothing else
   pub timeout : new.timeout ≡ 0
@@ -99,7 +100,7 @@ IsReadingText task = ⊥
 
 -- a step of a command is taken, with a block or without one
 abbrev pub IsOfBlock : Task → Type 0
-IsOfBlock (tasks.Step block) = Unit {0}
+IsOfBlock (tasks.Step verdict) = Unit {0}
 IsOfBlock tasks.Transfer = Unit {0}
 IsOfBlock task = ⊥
 
@@ -148,6 +149,11 @@ pub record Drops {K : Type 0} (old new : Port K) : Type 0 where
 abbrev pub HasNothingToSay : {K : Type 0} → Port K → Type 0
 HasNothingToSay p = (p.outgoing ≡ None) ⊎ (p.is_full ≡ true)
 
+-- a poll was heard and no step was taken since, a command waits, and blocks are asked for: so a block comes before the
+-- next message
+abbrev pub block_is_due : {K : Type 0} → Bool → Port K → Bool
+block_is_due blocks p = p.owes_block && blocks && not (nat_eq (length p.controller.waiting) 0)
+
 -- no slot of the ring of commands is looked for, or its command waits for a credit
 abbrev pub HasNothingToHear : {K : Type 0} → Port K → Type 0
 HasNothingToHear p = (p.is_polled ≡ false) ⊎ (p.is_stalled ≡ true)
@@ -159,14 +165,15 @@ pub record IsIdleUp {K : Type 0} (blocks : Bool) (p : Port K) : Type 0 where
   pub waiting : blocks ≡ true → p.controller.waiting ≡ []
 
 -- this is taken in hand: a step that the host has answered; and once the rings are in use what goes out, then what
--- comes in, and then a block, if blocks are asked for
+-- comes in, and then a block, if blocks are asked for. Behind a poll comes a block first
 pub record IsDue {K : Type 0} (blocks : Bool) (p : Port K) (task : Task) : Type 0 where
   pub step : p.written ≢ None → task ≡ tasks.Settle
   pub still : p.written ≡ None → p.stage ≢ stages.Up → task ≡ tasks.Free
   pub goes_out : p.written ≡ None → p.stage ≡ stages.Up → p.outgoing ≢ None → p.is_full ≡ false
       → task ≡ tasks.Slot Responses
   pub comes_in : p.written ≡ None → p.stage ≡ stages.Up → HasNothingToSay p → p.is_polled ≡ true
-      → p.is_stalled ≡ false → task ≡ tasks.Slot Commands
+      → p.is_stalled ≡ false → block_is_due blocks p ≡ false → task ≡ tasks.Slot Commands
+  pub first : p.written ≡ None → p.stage ≡ stages.Up → HasNothingToSay p → block_is_due blocks p ≡ true → IsOfBlock task
   pub block : p.written ≡ None → p.stage ≡ stages.Up → HasNothingToSay p → HasNothingToHear p
       → (task ≡ tasks.Free) ⊎ IsOfBlock task
   pub message : blocks ≡ false → IsOfBlock task → ⊥

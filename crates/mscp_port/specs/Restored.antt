@@ -6,9 +6,9 @@ use Rattle.mscp_controller.specs.Holdings.{Holdings}
 use Rattle.mscp_saved.specs.declared.fault.RestoreFault.{RestoreFault as ControllerFault}
 use Rattle.mscp_saved.specs.Read.{held_in as controller_said, parts_in}
 use Rattle.mscp_saved.specs.Restored.{IsSaved as IsSavedController, restored as controller_restored}
-use Rattle.mscp_port.specs.declared.brought.Brought.{Brought}
 use Rattle.mscp_port.specs.declared.buffers.Buffer.{Buffer}
 use Rattle.mscp_port.specs.declared.codes.Coded.{Coded}
+use Rattle.mscp_port.specs.declared.decided.Decided.{Decided}
 use Rattle.mscp_port.specs.declared.hardware.Hardware.{Hardware}
 use Rattle.mscp_port.specs.declared.port.Outgoing.{Outgoing}
 use Rattle.mscp_port.specs.declared.port.OutgoingKind.{OutgoingKind}
@@ -20,7 +20,8 @@ use Rattle.mscp_port.specs.declared.port.restoring.RestoreFault.TheVariants as f
 use Rattle.mscp_port.specs.declared.volumes.Volume.{Volume}
 use Rattle.mscp_port.specs.Areas.{Rings, rings_of}
 use Rattle.mscp_port.specs.Codes.{bus_in, has_size, optional, stage_in, task_in}
-use Rattle.mscp_port.specs.Saved.{brought_size, buffer_size, front_bytes, front_size, head_size, length_before, magic, saved_bytes, version, volume_size}
+use Rattle.mscp_port.specs.Decided.{decided_in}
+use Rattle.mscp_port.specs.Saved.{buffer_size, decided_size, front_bytes, front_size, head_size, length_before, magic, saved_bytes, version, volume_size}
 
 -- ---- what bytes say. Of bytes that are nobody's something is said, too
 
@@ -33,23 +34,23 @@ hardware_in b = record {
 }
 
 abbrev pub area_in : List ℕ → Rings
-area_in b = record { base = num b 40 4; responses = num b 44 4; commands = num b 48 4 }
+area_in b = record { base = num b 41 4; responses = num b 45 4; commands = num b 49 4 }
 
 abbrev pub rings_if : ℕ → Rings → Option Rings
 rings_if byte r = if nat_eq byte 1 then rings_of r else None
 
 abbrev pub coded_in : List ℕ → Coded
 coded_in b = record {
-  task = slice_index b 52;
-  whom = slice_index b 53;
-  first = num b 54 4;
-  second = num b 58 4;
-  two = num b 66 2;
-  how = slice_index b 68;
+  task = slice_index b 53;
+  whom = slice_index b 54;
+  first = num b 55 4;
+  second = num b 59 4;
+  two = num b 67 2;
+  how = slice_index b 69;
 }
 
 abbrev pub words_in : List ℕ → Words
-words_in b = record { first = num b 29 2; second = num b 31 2 }
+words_in b = record { first = num b 30 2; second = num b 32 2 }
 
 -- what a message is that goes out, by its number
 abbrev pub kind_in : ℕ → OutgoingKind
@@ -67,10 +68,10 @@ volume_in b = record {
   is_protected = nat_eq (slice_index b 1) 1;
   is_protected_by_host = nat_eq (slice_index b 2) 1;
   is_removable = nat_eq (slice_index b 4) 1;
-  changes = num b 5 4;
-  size = num b 9 4;
-  media = num b 13 4;
-  mounted = optional (slice_index b 17) (num b 18 4);
+  changes = num b 6 4;
+  size = num b 10 4;
+  media = num b 14 4;
+  is_mounted = nat_eq (slice_index b 5) 1;
   is_news = nat_eq (slice_index b 3) 1;
 }
 
@@ -85,37 +86,28 @@ buffer_in b = record {
   changes = num b 16 4;
 }
 
--- what an end that waits tells, in the bytes of that
-abbrev pub brought_in : List ℕ → Brought
-brought_in b = record {
-  reference = num b 0 4;
-  is_fresh = nat_eq (slice_index b 4) 1;
-  size = num b 5 4;
-  media = num b 9 4;
-}
-
 -- ---- where the parts are
 
 -- how long what goes out is, of how many commands something is kept, and of how many ends that wait
 abbrev pub text_count : List ℕ → ℕ
-text_count b = slice_index b 70
+text_count b = slice_index b 71
 
 abbrev pub buffer_count : List ℕ → ℕ
-buffer_count b = slice_index b 71
+buffer_count b = slice_index b 72
 
-abbrev pub brought_count : List ℕ → ℕ
-brought_count b = slice_index b 72
+abbrev pub decided_count : List ℕ → ℕ
+decided_count b = slice_index b 73
 
--- the volumes are behind the head, what goes out behind them, and then what is kept of commands, what ends that wait
--- tell, and the controller
+-- the volumes are behind the head, what goes out behind them, and then what is kept of commands, what ends say
+-- that wait, and the controller
 abbrev pub buffer_place : List ℕ → ℕ
 buffer_place b = front_size + text_count b
 
-abbrev pub brought_place : List ℕ → ℕ
-brought_place b = buffer_place b + buffer_size * buffer_count b
+abbrev pub decided_place : List ℕ → ℕ
+decided_place b = buffer_place b + buffer_size * buffer_count b
 
 abbrev pub controller_place : List ℕ → ℕ
-controller_place b = brought_place b + brought_size * brought_count b
+controller_place b = decided_place b + decided_size * decided_count b
 
 abbrev pub volumes_in : List ℕ → List Volume
 volumes_in b = parts_in volume_in volume_size 16 (drop head_size b)
@@ -126,8 +118,8 @@ text_in b = take (text_count b) (drop front_size b)
 abbrev pub buffers_in : List ℕ → List Buffer
 buffers_in b = parts_in buffer_in buffer_size (buffer_count b) (drop (buffer_place b) b)
 
-abbrev pub all_brought_in : List ℕ → List Brought
-all_brought_in b = parts_in brought_in brought_size (brought_count b) (drop (brought_place b) b)
+abbrev pub all_decided_in : List ℕ → List Decided
+all_decided_in b = parts_in decided_in decided_size (decided_count b) (drop (decided_place b) b)
 
 -- all that is said of a port over this controller
 abbrev pub port_in : {K : Type 0} → List ℕ → Holdings K → Port K
@@ -136,23 +128,24 @@ port_in b h = record {
   controller = h;
   more = slice_index b 16;
   untold = slice_index b 17;
-  stage = stage_in (slice_index b 33) (num b 34 2);
+  stage = stage_in (slice_index b 34) (num b 35 2);
   words = words_in b;
-  written = optional (slice_index b 36) (num b 37 2);
-  rings = rings_if (slice_index b 39) (area_in b);
+  written = optional (slice_index b 37) (num b 38 2);
+  rings = rings_if (slice_index b 40) (area_in b);
   responses = slice_index b 18;
   commands = slice_index b 19;
   task = task_in (coded_in b);
-  outgoing = outgoing_in (slice_index b 69) (text_in b);
+  outgoing = outgoing_in (slice_index b 70) (text_in b);
   is_polled = nat_eq (slice_index b 20) 1;
   is_stalled = nat_eq (slice_index b 21) 1;
   is_full = nat_eq (slice_index b 22) 1;
+  owes_block = nat_eq (slice_index b 23) 1;
   buffers = record { items = buffers_in b };
-  brought = record { items = all_brought_in b };
+  decided = record { items = all_decided_in b };
   volumes = volumes_in b;
-  flags = num b 23 2;
-  timeout = num b 25 2;
-  left = num b 27 2;
+  flags = num b 24 2;
+  timeout = num b 26 2;
+  left = num b 28 2;
 }
 
 -- the controller that its bytes say, with this picker
@@ -179,16 +172,16 @@ abbrev pub is_framed : List ℕ → Bool
 is_framed b =
     nat_le front_size (length b)
     && (nat_eq (num b 8 4) (length b)
-    && (nat_le (text_count b) 48 && (nat_le (buffer_count b) 64 && (nat_le (brought_count b) 64
+    && (nat_le (text_count b) 48 && (nat_le (buffer_count b) 64 && (nat_le (decided_count b) 64
     && nat_le (controller_place b) (length b)))))
 
 -- the same, as facts
 pub record IsFramed (b : List ℕ) : Type 0 where
-  pub front : 425 ≤ length b
+  pub front : 362 ≤ length b
   pub told : length b < 2 ^ 32
   pub text : text_count b ≤ 48
   pub buffers : buffer_count b ≤ 64
-  pub brought : brought_count b ≤ 64
+  pub decided : decided_count b ≤ 64
   pub parts : controller_place b ≤ length b
 
 -- why no parts are read: the first that holds

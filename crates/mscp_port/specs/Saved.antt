@@ -3,9 +3,9 @@
 use Rattle.std.specs.Prelude.{◌≡◌, ℕ, ◌+◌, ◌*◌, ◌^◌, ◌≤◌, ◌<◌, List, [], ◌∷◌, ◌++◌, length, flat_map, All, Option, Some, None, IfSome}
 use Rattle.byteorder.specs.Endian.{little_bytes}
 use Rattle.mscp_saved.specs.Saved.{flag_byte, saved_bytes as controller_bytes}
-use Rattle.mscp_port.specs.declared.brought.Brought.{Brought}
 use Rattle.mscp_port.specs.declared.buffers.Buffer.{Buffer}
 use Rattle.mscp_port.specs.declared.codes.Coded.{Coded}
+use Rattle.mscp_port.specs.declared.decided.Decided.{Decided}
 use Rattle.mscp_port.specs.declared.hardware.Hardware.{Hardware}
 use Rattle.mscp_port.specs.declared.port.Outgoing.{Outgoing}
 use Rattle.mscp_port.specs.declared.port.OutgoingKind.{OutgoingKind}
@@ -19,18 +19,18 @@ use Rattle.mscp_port.specs.Codes.{IsTask, bus_byte, coded_task, number_or_none, 
 
 -- ---- sizes
 
--- the head, the volume of a unit, what is kept of a command, and what an end that waits tells take so many bytes
+-- the head, the volume of a unit, what is kept of a command, and what an end says that waits take so many bytes
 abbrev pub head_size : ℕ
-head_size = 73
+head_size = 74
 
 abbrev pub volume_size : ℕ
-volume_size = 22
+volume_size = 18
 
 abbrev pub buffer_size : ℕ
 buffer_size = 20
 
-abbrev pub brought_size : ℕ
-brought_size = 13
+abbrev pub decided_size : ℕ
+decided_size = 12
 
 -- the head and the 16 volumes
 abbrev pub front_size : ℕ
@@ -56,7 +56,8 @@ hardware_bytes h = bus_byte h.bus ∷ h.model ∷ h.software ∷ h.version ∷ [
 abbrev pub counts_bytes : {K : Type 0} → Port K → List ℕ
 counts_bytes p =
     p.more ∷ p.untold ∷ p.responses ∷ p.commands
-    ∷ flag_byte p.is_polled ∷ flag_byte p.is_stalled ∷ flag_byte p.is_full ∷ []
+    ∷ flag_byte p.is_polled ∷ flag_byte p.is_stalled ∷ flag_byte p.is_full
+    ∷ flag_byte p.owes_block ∷ []
 
 -- what the host has set, and the seconds that are left
 abbrev pub host_bytes : {K : Type 0} → Port K → List ℕ
@@ -110,19 +111,15 @@ outgoing_text (Some o) = o.bytes.items
 -- how long that is, of how many commands something is kept, and of how many ends that wait
 abbrev pub lengths_bytes : {K : Type 0} → Port K → List ℕ
 lengths_bytes p =
-    outgoing_byte p.outgoing ∷ length (outgoing_text p.outgoing) ∷ length p.buffers.items ∷ length p.brought.items ∷ []
-
-abbrev pub mounted_bytes : Option ℕ → List ℕ
-mounted_bytes mounted = some_byte mounted ∷ little_bytes 4 (number_or_none mounted)
+    outgoing_byte p.outgoing ∷ length (outgoing_text p.outgoing) ∷ length p.buffers.items ∷ length p.decided.items ∷ []
 
 abbrev pub volume_bytes : Volume → List ℕ
 volume_bytes v =
     (flag_byte v.is_there ∷ flag_byte v.is_protected ∷ flag_byte v.is_protected_by_host ∷ flag_byte v.is_news
-    ∷ flag_byte v.is_removable ∷ [])
+    ∷ flag_byte v.is_removable ∷ flag_byte v.is_mounted ∷ [])
     ++ little_bytes 4 v.changes
     ++ little_bytes 4 v.size
     ++ little_bytes 4 v.media
-    ++ mounted_bytes v.mounted
 
 abbrev pub buffer_bytes : Buffer → List ℕ
 buffer_bytes b =
@@ -133,22 +130,22 @@ buffer_bytes b =
     ++ little_bytes 2 b.flags
     ++ little_bytes 4 b.changes
 
--- what an end that waits tells
-abbrev pub brought_bytes : Brought → List ℕ
-brought_bytes b =
-    little_bytes 4 b.reference ++ (flag_byte b.is_fresh ∷ []) ++ little_bytes 4 b.size ++ little_bytes 4 b.media
+-- what an end says that waits
+abbrev pub decided_bytes : Decided → List ℕ
+decided_bytes d =
+    little_bytes 2 d.status ++ little_bytes 2 d.flags ++ little_bytes 4 d.media ++ little_bytes 4 d.size
 
 -- ---- all
 
 -- with so many bytes of a text, so many commands and ends, and so many bytes of a controller all is so long
 abbrev pub saved_length : ℕ → ℕ → ℕ → ℕ → ℕ
-saved_length text buffers brought controller =
-    front_size + text + buffer_size * buffers + brought_size * brought + controller
+saved_length text buffers decided controller =
+    front_size + text + buffer_size * buffers + decided_size * decided + controller
 
 -- how long all is of a port before so many bytes of a controller
 abbrev pub length_before : {K : Type 0} → ℕ → Port K → ℕ
 length_before controller p =
-    saved_length (length (outgoing_text p.outgoing)) (length p.buffers.items) (length p.brought.items) controller
+    saved_length (length (outgoing_text p.outgoing)) (length p.buffers.items) (length p.decided.items) controller
 
 -- how long all is of a port whose picker has this number
 abbrev pub length_of : {K : Type 0} → ℕ → Port K → ℕ
@@ -169,24 +166,24 @@ abbrev pub head_bytes : {K : Type 0} → ℕ → Port K → List ℕ
 head_bytes total p = frame_bytes total ++ state_bytes p ++ hand_bytes p
 
 -- what is in front of the controller, where all is so long: the volumes in the order of the units, what goes out, what
--- is kept of commands, and what ends that wait tell
+-- is kept of commands, and what ends say that wait
 abbrev pub front_bytes : {K : Type 0} → ℕ → Port K → List ℕ
 front_bytes total p =
     head_bytes total p
     ++ flat_map volume_bytes p.volumes
     ++ outgoing_text p.outgoing
     ++ flat_map buffer_bytes p.buffers.items
-    ++ flat_map brought_bytes p.brought.items
+    ++ flat_map decided_bytes p.decided.items
 
--- all of a port: the volumes in the order of the units, what goes out, what is kept of commands, what ends that wait
--- tell, and the controller
+-- all of a port: the volumes in the order of the units, what goes out, what is kept of commands, what ends say
+-- that wait, and the controller
 abbrev pub saved_bytes : {K : Type 0} → ℕ → Port K → List ℕ
 saved_bytes picker p =
     head_bytes (length_of picker p) p
     ++ flat_map volume_bytes p.volumes
     ++ outgoing_text p.outgoing
     ++ flat_map buffer_bytes p.buffers.items
-    ++ flat_map brought_bytes p.brought.items
+    ++ flat_map decided_bytes p.decided.items
     ++ controller_bytes picker p.controller
 
 -- ---- ranges
@@ -196,7 +193,6 @@ pub record HasVolumeRange (v : Volume) : Type 0 where
   pub changes : v.changes < 2 ^ 32
   pub size : v.size < 2 ^ 32
   pub media : v.media < 2 ^ 32
-  pub mounted : number_or_none v.mounted < 2 ^ 32
 
 -- those of what is kept of a command
 pub record HasBufferRange (b : Buffer) : Type 0 where
@@ -207,11 +203,12 @@ pub record HasBufferRange (b : Buffer) : Type 0 where
   pub flags : b.flags < 2 ^ 16
   pub changes : b.changes < 2 ^ 32
 
--- those of what an end that waits tells
-pub record HasBroughtRange (b : Brought) : Type 0 where
-  pub reference : b.reference < 2 ^ 32
-  pub size : b.size < 2 ^ 32
-  pub media : b.media < 2 ^ 32
+-- those of what an end says that waits
+pub record HasDecidedRange (d : Decided) : Type 0 where
+  pub status : d.status < 2 ^ 16
+  pub flags : d.flags < 2 ^ 16
+  pub media : d.media < 2 ^ 32
+  pub size : d.size < 2 ^ 32
 
 -- those of a task
 pub record HasCodedRange (c : Coded) : Type 0 where
@@ -243,6 +240,6 @@ pub record HasRange {K : Type 0} (p : Port K) : Type 0 where
   pub sixteen : length p.volumes ≡ 16
   pub buffers : All HasBufferRange p.buffers.items
   pub few : length p.buffers.items ≤ 64
-  pub brought : All HasBroughtRange p.brought.items
-  pub few_brought : length p.brought.items ≤ 64
+  pub decided : All HasDecidedRange p.decided.items
+  pub few_decided : length p.decided.items ≤ 64
   pub short : length (outgoing_text p.outgoing) ≤ 48

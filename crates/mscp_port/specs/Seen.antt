@@ -16,6 +16,7 @@ use Rattle.mscp_port.specs.declared.task.Task.TheVariants as tasks
 use Rattle.mscp_port.specs.declared.volumes.Volume.{Volume}
 use Rattle.mscp_port.specs.declared.buffers.Buffer.{Buffer}
 use Rattle.mscp_port.specs.Buffers.{buffer_in, kept_beside, without_aborted}
+use Rattle.mscp_port.specs.Decided.{decided_after}
 use Rattle.mscp_port.specs.Messages.{handed, own_end_of}
 use Rattle.mscp_port.specs.Outgoings.{AnswersItself}
 use Rattle.mscp_port.specs.Ports.{IsAsNew, seconds}
@@ -92,8 +93,14 @@ stays old new = new ≡ record (heard old) { controller = new.controller; task =
 abbrev pub sets_controller : List ℕ → Bool
 sets_controller b = slice_index b 8 == 4 && not (nat_lt (length b) 18) && num b 12 2 == 0
 
+-- a message is a poll: a GET COMMAND STATUS (opcode 2)
+abbrev pub is_poll : List ℕ → Bool
+is_poll b = slice_index b 8 == 2
+
+-- behind a poll comes a block first
 abbrev pub settings_heeded : {K : Type 0} → List ℕ → Port K → Port K
 settings_heeded b p = record p {
+  owes_block = if is_poll b then true else p.owes_block;
   flags = if sets_controller b then num b 14 2 else p.flags;
   timeout = if sets_controller b then num b 16 2 else p.timeout;
   left = if sets_controller b then num b 16 2 else p.left;
@@ -115,7 +122,9 @@ pub record Sends {K : Type 0} (slot : Descriptor) (s : Sent) (bytes : List ℕ) 
     controller = new.controller;
     task = tasks.Return Commands slot;
     buffers = new.buffers;
+    decided = new.decided;
   }
+  pub decided : new.decided.items ≡ decided_after s old.decided.items new
   pub kept : new.buffers.items ≡ kept_of_sent s
       (buffer_in bytes (changes_at old.volumes (place_in old.controller.settings.units (num bytes 4 2))))
       old.buffers.items

@@ -19,7 +19,7 @@ no_volume = record {
   changes = 0;
   size = 0;
   media = 0;
-  mounted = None;
+  is_mounted = false;
   is_news = false;
 }
 
@@ -34,6 +34,7 @@ volume_changed there v = record v {
   is_there = there;
   is_protected = false;
   is_protected_by_host = false;
+  is_mounted = false;
   changes = (v.changes + 1) % 0x1_0000_0000;
   is_news = there;
 }
@@ -49,7 +50,7 @@ volume_put m v = record (volume_changed true v) {
 
 -- a reset of the port leaves the volume: the unit isn't online, its host has protected nothing, and is to hear of none
 abbrev pub volume_reset : Volume → Volume
-volume_reset v = record v { mounted = None; is_protected_by_host = false; is_news = false }
+volume_reset v = record v { is_mounted = false; is_protected_by_host = false; is_news = false }
 
 -- ---- what the Success of a command does
 
@@ -61,14 +62,14 @@ protected_by b v =
 
 -- the unit is online with the volume that is in it, and its host needs no news of it any more
 abbrev pub brought_online : Volume → Volume
-brought_online v = record v { mounted = Some v.changes; is_news = false }
+brought_online v = record v { is_mounted = true; is_news = false }
 
 -- by its endcode: AVAILABLE (0x88) takes the unit offline, ONLINE (0x89) brings it online, and sets the host's
 -- protection, as SET UNIT CHARACTERISTICS (0x8A) does
 abbrev pub volume_heeded : ℕ → Option Buffer → Volume → Volume
-volume_heeded code None v = if code == 0x88 then record v { mounted = None; is_protected_by_host = false } else v
+volume_heeded code None v = if code == 0x88 then record v { is_mounted = false; is_protected_by_host = false } else v
 volume_heeded code (Some b) v =
-    if code == 0x88 then record v { mounted = None; is_protected_by_host = false }
+    if code == 0x88 then record v { is_mounted = false; is_protected_by_host = false }
     else if code == 0x89 then protected_by b (brought_online v)
     else if code == 0x8A then protected_by b v
     else v
@@ -78,6 +79,14 @@ volume_heeded code (Some b) v =
 -- the place of the unit of a number, if there is one
 abbrev pub place_in : List Shape → ℕ → Option ℕ
 place_in units number = position (λ unit. nat_eq unit.number number) units
+
+-- the volume of the unit of a number: none where there is no such unit
+abbrev pub volume_in_place : List Volume → Option ℕ → Volume
+volume_in_place volumes None = no_volume
+volume_in_place volumes (Some place) = volume_at volumes place
+
+abbrev pub volume_found : List Shape → List Volume → ℕ → Volume
+volume_found units volumes number = volume_in_place volumes (place_in units number)
 
 -- the volumes, once the one at this place became what this makes of it
 abbrev pub volumes_with : (Volume → Volume) → Option ℕ → List Volume → List Volume
@@ -104,12 +113,12 @@ volumes_heeded code kept (Some place) volumes =
 pub record IsOnVolume (b : Buffer) (v : Volume) : Type 0 where
   pub there : v.is_there ≡ true
   pub same : b.changes ≡ v.changes
-  pub mounted : v.mounted ≡ Some v.changes
+  pub mounted : v.is_mounted ≡ true
 
 -- this block may be moved on this volume: it is there, the unit is online with it, and what is written isn't protected
 pub record MayMove (kind : MoveKind) (block : ℕ) (v : Volume) : Type 0 where
   pub there : v.is_there ≡ true
-  pub mounted : v.mounted ≡ Some v.changes
+  pub mounted : v.is_mounted ≡ true
   pub hardware : writes kind ≡ true → v.is_protected ≡ false
   pub host : writes kind ≡ true → v.is_protected_by_host ≡ false
   pub on : block < v.size

@@ -1,7 +1,7 @@
 // What has no number of its own, as numbers, and what numbers stand for.
 
 ghost use Rattle.std.specs.Prelude.{◌≡◌};
-ghost use Rattle.mscp_port.specs.Codes.{IsTask, bad_byte, bad_status, block_in, block_task_in, bus_byte, bus_in, clear_task, coded_task, early_task_in, has_size, nothing, ring_task_in, side_byte, side_in, stage_in, task_in, text_task};
+ghost use Rattle.mscp_port.specs.Codes.{IsTask, bad_byte, bad_status, block_task_in, bus_byte, bus_in, clear_task, coded_task, early_task_in, has_size, nothing, ring_task_in, side_byte, side_in, stage_in, task_in, text_task, verdict_byte, verdict_in, verdict_status};
 ghost use Rattle.mscp_port.specs.Common.{kind_byte, kind_in};
 ghost use Rattle.mscp_port.specs.declared.task.Task.TheVariants as tasks;
 
@@ -12,6 +12,7 @@ use crate::sizes::{ClearSize, TextSize};
 use crate::slot::Descriptor;
 use crate::stage::Stage;
 use crate::task::Task;
+use crate::verdict::Verdict;
 use mscp_queue::{Block, FaultStatus};
 
 /// A task as numbers: which it is, and what is known for it. What it lacks is 0.
@@ -26,7 +27,7 @@ pub(crate) struct Coded {
     pub second: u32,
     /// The status of a bad block.
     pub two: u16,
-    /// Whether a block was bad.
+    /// How a step went.
     pub how: u8,
 }
 
@@ -129,16 +130,27 @@ fn coded_block(block: Block) -> (u8, u16)
     }
 }
 
-/// The outcome of a block that was bad, if this is 1, with this status.
-fn block_in(byte: u8, status: u16) -> Block
-    ensures { result ≡ block_in byte status }
+/// How a step went, and the status of a bad block.
+fn coded_verdict(verdict: Verdict) -> (u8, u16)
+    ensures how { result.0 ≡ verdict_byte verdict }
+    ensures status { result.1 ≡ verdict_status verdict }
 {
-    if byte != 1 {
-        return Block::Good;
+    match verdict {
+        Verdict::Served(block) => coded_block(block),
+        Verdict::NoVolume => (2, 0),
+        Verdict::NotOnline => (3, 0),
     }
-    match FaultStatus::new(status) {
-        Some(status) => Block::Bad(status),
-        None => Block::Good,
+}
+
+/// How a step went, by its number and the status of a block that was bad.
+fn verdict_in(byte: u8, status: u16) -> Verdict
+    ensures { result ≡ verdict_in byte status }
+{
+    match (byte, FaultStatus::new(status)) {
+        (1, Some(status)) => Verdict::Served(Block::Bad(status)),
+        (2, _) => Verdict::NoVolume,
+        (3, _) => Verdict::NotOnline,
+        _ => Verdict::Served(Block::Good),
     }
 }
 
@@ -171,12 +183,12 @@ fn of_packet(task: u8, slot: Descriptor) -> Coded
     }
 }
 
-/// The taking of a step whose block had this outcome.
-fn coded_step(block: Block) -> Coded
-    ensures value { result ≡ coded_task (tasks.Step block) }
-    ensures status { IsTask (tasks.Step block) }
+/// The taking of a step that went so.
+fn coded_step(verdict: Verdict) -> Coded
+    ensures value { result ≡ coded_task (tasks.Step verdict) }
+    ensures status { IsTask (tasks.Step verdict) }
 {
-    let (how, two) = coded_block(block);
+    let (how, two) = coded_verdict(verdict);
     Coded {
         two,
         how,
@@ -216,7 +228,7 @@ pub(crate) fn coded_task(task: Task) -> Coded
         Task::Neighbour(side) => of_ring(8, side),
         Task::Word(side) => of_ring(9, side),
         Task::Interrupt => bare(10),
-        Task::Step(block) => coded_step(block),
+        Task::Step(verdict) => coded_step(verdict),
         Task::Transfer => bare(12),
     }
 }
@@ -289,7 +301,7 @@ fn block_task_in(coded: Coded) -> Task
     ensures { result ≡ block_task_in coded }
 {
     match coded.task {
-        11 => Task::Step(block_in(coded.how, coded.two)),
+        11 => Task::Step(verdict_in(coded.how, coded.two)),
         12 => Task::Transfer,
         _ => Task::Interrupt,
     }

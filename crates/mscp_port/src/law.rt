@@ -1,6 +1,6 @@
 // What is true of every port.
 
-ghost use Rattle.mscp_port.specs.Common.{PortsFillTheirSlots, PortsSpeakInOrder, PortsTellTheirCredits, PortsHaveCredit, PortsTouchWhatIsNamed, PortsKeepWhatWasSaid, PortsMoveOnVolumes, PortsMoveAsMounted, PortsTouchWhatWasPut};
+ghost use Rattle.mscp_port.specs.Common.{PortsFillTheirSlots, PortsSpeakInOrder, PortsTellTheirCredits, PortsHaveCredit, PortsTouchWhatIsNamed, PortsKeepWhatWasSaid, PortsMoveOnVolumes, PortsMoveAsMounted, PortsServeBetweenPolls, PortsTouchWhatWasPut};
 
 use mscp_queue::Picker;
 
@@ -54,6 +54,15 @@ pub fn ports_speak_in_order<K: Picker>(picker: &K)
     ensures order { PortsSpeakInOrder K }
     ensures slots { PortsFillTheirSlots K }
     ensures credits { PortsTellTheirCredits K }
+{
+    let _ = picker;
+}
+
+/// Whoever calls such a port and asks for blocks: after a poll was heard, no message is looked for while a command waits, until a
+/// step of a command was told. So a host that polls as soon as its last poll ended gets its READ, however few actions a turn
+/// has, and a figure that it hears twice has fallen. Only a holder that is at a block asks for messages alone meanwhile.
+pub fn ports_serve_between_polls<K: Picker>(picker: &K)
+    ensures { PortsServeBetweenPolls K }
 {
     let _ = picker;
 }

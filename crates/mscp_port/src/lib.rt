@@ -3,12 +3,12 @@
 #![tactic(auto)]
 
 mod action;
-mod brought;
 mod buffers;
 mod codes;
-mod filling;
+mod decided;
 mod hardware;
 mod law;
+mod leaving;
 mod message;
 mod port;
 mod rings;
@@ -16,11 +16,15 @@ mod sizes;
 mod slot;
 mod stage;
 mod task;
+mod verdict;
 mod volumes;
 
 pub use crate::action::{Action, Ask, Outcome, Unasked};
 pub use crate::hardware::{Bus, Hardware};
-pub use crate::law::{ports_have_credit, ports_touch_what_is_named, ports_touch_what_was_put};
+pub use crate::law::{
+    ports_have_credit, ports_serve_between_polls, ports_touch_what_is_named,
+    ports_touch_what_was_put,
+};
 pub use crate::port::{NoUnit, Port, PortFault, ROOM, RestoreFault, restore_fault, saved_settings};
 pub use crate::stage::Stage;
 pub use crate::volumes::{Medium, Volume, VolumeFault};

@@ -22,6 +22,8 @@ const FLUSH: u8 = 19;
 const BLOCK_BYTES: u32 = 512;
 
 /// The opcodes of commands that the port looks into.
+pub(crate) const GET_COMMAND_STATUS: u8 = 2;
+
 pub(crate) const GET_UNIT_STATUS: u8 = 3;
 
 pub(crate) const SET_CONTROLLER: u8 = 4;

@@ -10,6 +10,7 @@ mod checking;
 mod delivering;
 mod going;
 mod hearing;
+mod heeding;
 mod restoring;
 mod saving;
 mod seeing;
@@ -18,8 +19,8 @@ mod turning;
 mod watching;
 mod writing;
 
-use crate::brought::Brought;
 use crate::buffers::Buffer;
+use crate::decided::Decided;
 use crate::hardware::Hardware;
 pub use crate::port::restoring::{RestoreFault, restore_fault, saved_settings};
 pub use crate::port::saving::ROOM;
@@ -89,8 +90,11 @@ pub struct Port<K> {
     is_stalled: bool,
     // The next slot of the ring of responses was the host's.
     is_full: bool,
+    // A poll was heard, and no step of a command was taken since.
+    owes_block: bool,
     buffers: ArrayVec<Buffer, 64>,
-    brought: ArrayVec<Brought, 64>,
+    // What the controller's ends say that weren't taken, oldest first.
+    decided: ArrayVec<Decided, 64>,
     volumes: [Volume; 16],
     // The controller flags and the timeout in seconds that the host has set, and the seconds that are left. Before its first
     // command the host has no limit: the timeout is 0, and those that it has from then on are left.
@@ -143,8 +147,9 @@ impl<K: Picker> Port<K> {
             is_polled: false,
             is_stalled: false,
             is_full: false,
+            owes_block: false,
             buffers: ArrayVec::new(),
-            brought: ArrayVec::new(),
+            decided: ArrayVec::new(),
             volumes: [Volume::default(); 16],
             flags: 0,
             timeout: 0,
@@ -169,8 +174,9 @@ impl<K: Picker> Port<K> {
         self.is_polled = false;
         self.is_stalled = false;
         self.is_full = false;
+        self.owes_block = false;
         self.buffers.clear();
-        self.brought.clear();
+        self.decided.clear();
         reset_all(&mut self.volumes);
         self.flags = 0;
         self.timeout = 0;

@@ -7,7 +7,7 @@ ghost use Rattle.mscp_port.specs.declared.task.Task.TheVariants as tasks;
 use crate::rings::Side;
 use crate::sizes::{ClearSize, TextSize};
 use crate::slot::Descriptor;
-use mscp_queue::Block;
+use crate::verdict::Verdict;
 
 /// What the port has in hand: the next action, with what is known for it. Of a step of a command that is what the controller
 /// doesn't know: which step is begun, its block and its command are read there.
@@ -39,8 +39,8 @@ pub(crate) enum Task {
     Word(Side),
     /// The host is interrupted.
     Interrupt,
-    /// A step of a command that moves no block, with this outcome, is taken once the machine went on a little.
-    Step(Block),
+    /// A step of a command that moves no block, and went so, is taken once the machine went on a little.
+    Step(Verdict),
     /// A block is moved.
     Transfer,
 }

@@ -1,7 +1,7 @@
 // The volumes that lie in the units, and how they change.
 
-ghost use Rattle.std.specs.Prelude.{◌≡◌, ◌↔◌, true, EachIndex, Some, IsTrue};
-ghost use Rattle.mscp_port.specs.Common.{is_mounted, volume_at, volume_changed, volume_put, volume_reset};
+ghost use Rattle.std.specs.Prelude.{◌≡◌, EachIndex};
+ghost use Rattle.mscp_port.specs.Common.{volume_at, volume_changed, volume_put, volume_reset};
 
 /// What is put into a unit.
 #[derive(Clone, Copy, Default)]
@@ -25,7 +25,8 @@ pub enum VolumeFault {
     Size,
 }
 
-/// A unit's volume. All is counted: a unit that was brought online with another volume than the one in it isn't online.
+/// A unit's volume, and what its host has made of it. The port alone knows whether a unit is online with its volume: to the
+/// controller it is online since its first ONLINE.
 #[derive(Clone, Copy, Default)]
 pub struct Volume {
     pub is_there: bool,
@@ -40,21 +41,13 @@ pub struct Volume {
     /// Its blocks, and the type of its media.
     pub size: u32,
     pub media: u32,
-    /// How often it had changed when the unit was brought online, if it was.
-    pub mounted: Option<u32>,
+    /// The unit is online with it.
+    pub is_mounted: bool,
     /// It came, and the host is to hear of it.
     pub is_news: bool,
 }
 
 impl Volume {
-    /// Whether the unit is online with the volume that is in it.
-    pub fn is_mounted(&self) -> bool
-        ensures value { result ≡ is_mounted self.now }
-        ensures mounted { IsTrue result ↔ ((self.now.is_there ≡ true) × (self.now.mounted ≡ Some self.now.changes)) }
-    {
-        self.is_there && self.mounted == Some(self.changes)
-    }
-
     /// Another volume came.
     pub(crate) fn put(&mut self, medium: Medium)
         ensures { self.new ≡ volume_put medium self.old }
@@ -73,6 +66,7 @@ impl Volume {
         self.is_there = is_there;
         self.is_protected = false;
         self.is_protected_by_host = false;
+        self.is_mounted = false;
         self.changes = self.changes.wrapping_add(1);
         self.is_news = is_there;
     }
@@ -81,7 +75,7 @@ impl Volume {
     pub(crate) fn reset(&mut self)
         ensures { self.new ≡ volume_reset self.old }
     {
-        self.mounted = None;
+        self.is_mounted = false;
         self.is_protected_by_host = false;
         self.is_news = false;
     }

@@ -46,7 +46,8 @@ impl Accounts {
 
     /// The ends of the connection that weren't taken, oldest first.
     pub(crate) fn ends(&self, connection: Connection) -> &[End]
-        ensures { result.now ≡ (account connection self.now).untaken.items }
+        ensures value { result.now ≡ (account connection self.now).untaken.items }
+        ensures few { length result.now ≤ 64 }
     {
         self.of(connection).untaken.as_slice()
     }

@@ -1,6 +1,6 @@
 // A controller as it was, and what is to be kept of one so that it can be again.
 
-ghost use Rattle.std.specs.Prelude.{◌≡◌, ◌<◌, length};
+ghost use Rattle.std.specs.Prelude.{◌≡◌, ◌<◌, ◌≤◌, length};
 ghost use Rattle.mscp_controller.specs.Common.{record_at, of, IsSound, made_of};
 
 use crate::controller::Controller;
@@ -47,7 +47,8 @@ impl<K: Picker> Controller<K> {
 
     /// The ends of the connection that weren't taken, oldest first.
     pub fn ends(&self, connection: Connection) -> &[End]
-        ensures { result.now ≡ of connection self.now.untaken }
+        ensures value { result.now ≡ of connection self.now.untaken }
+        ensures few { length result.now ≤ 64 }
     {
         self.accounts.ends(connection)
     }

@@ -1,39 +1,38 @@
 // What is in hand is checked again: while it is, a volume may come or go.
 
-ghost use Rattle.std.specs.Prelude.{◌≡◌, ◌≤◌, ◌%◌, true, IfErr, IfOk, IfSome, IsOk};
+ghost use Rattle.std.specs.Prelude.{◌≡◌, true, IfOk, IfSome, IsOk};
 ghost use Rattle.mscp_port.specs.Common.{has_block, IsInBuffer, IsInSomeBuffer, MayMoveUnit, block_begun, block_served, part_now, part_with, IsOnVolume, MayMove};
 
 use crate::action::Outcome;
 use crate::buffers::{Buffer, find_buffer};
-use crate::filling::STEP_WITHOUT_VOLUME;
 use crate::port::Port;
-use crate::port::serving::{DRIVE_ERROR, MISSING, bad, block_of, move_of, refusal};
+use crate::port::serving::{move_of, refusal};
+use crate::verdict::{DRIVE_ERROR, MISSING, Verdict, block_of};
 use crate::volumes::Volume;
 use mscp_packet::MoveKind;
-use mscp_queue::{Block, Picker, Upcoming};
+use mscp_queue::{Picker, Upcoming};
 
-/// The part of its command's buffer that a step is about which moves this block so, behind so many others, or the status by
-/// which it may not go on. This is kept of its command, and its unit has this volume now.
+/// The part of its command's buffer that a step is about which moves this block so, behind so many others, or how it goes that
+/// may not go on. This is kept of its command, and its unit has this volume now.
 pub(crate) fn part_with(
     kind: MoveKind,
     block: u32,
     done: u32,
     buffer: &Buffer,
     volume: &Volume,
-) -> Result<(u32, u32), u16>
+) -> Result<(u32, u32), Verdict>
     ensures value { result ≡ part_with kind block done buffer.now volume.now }
-    ensures status { IfErr result (λ status. 5 ≤ status % 32) }
     // It goes on only on the volume that was there when its command came, and that its unit was brought online with.
     ensures safe { IsOk result → IsOnVolume buffer.now volume.now }
     ensures moves { IsOk result → MayMove kind block volume.now }
     ensures inside { IfOk result (λ part. IsInBuffer buffer.now part.0 part.1) }
 {
     if !volume.is_there || buffer.changes != volume.changes {
-        return Err(STEP_WITHOUT_VOLUME);
+        return Err(Verdict::NoVolume);
     }
     match refusal(kind, block, buffer, volume) {
-        Some(status) => Err(status),
-        None => buffer.part(done).ok_or(MISSING),
+        Some(verdict) => Err(verdict),
+        None => buffer.part(done).ok_or(Verdict::fault(MISSING)),
     }
 }
 
@@ -50,15 +49,14 @@ impl<K: Picker> Port<K> {
         Some((upcoming, kind, block))
     }
 
-    /// The part of its command's buffer that a step is about which moves this block so, or the status by which it may not go on.
+    /// The part of its command's buffer that a step is about which moves this block so, or how it goes that may not go on.
     pub(crate) fn part(
         &self,
         upcoming: &Upcoming,
         kind: MoveKind,
         block: u32,
-    ) -> Result<(u32, u32), u16>
+    ) -> Result<(u32, u32), Verdict>
         ensures value { result ≡ part_now self.now upcoming.now kind block }
-        ensures status { IfErr result (λ status. 5 ≤ status % 32) }
         ensures moves { IsOk result → MayMoveUnit kind upcoming.now.command.unit block self.now }
         ensures inside { IfOk result (λ part. IsInSomeBuffer self.now part.0 part.1) }
     {
@@ -72,21 +70,21 @@ impl<K: Picker> Port<K> {
             (Some(place), Some(buffer)) => {
                 part_with(kind, block, upcoming.done, &buffer, &self.volumes[place])
             }
-            _ => Err(DRIVE_ERROR),
+            _ => Err(Verdict::fault(DRIVE_ERROR)),
         }
     }
 
-    /// How the block in hand was served whose action went so. Its step may have to end all the same: while it was under way a
+    /// How the step in hand went whose action went so. It may have to end all the same: while it was under way a
     /// volume may have gone. Only restored bytes say one in hand where none is begun.
-    pub(crate) fn block_served(&self, outcome: Outcome) -> Block
+    pub(crate) fn block_served(&self, outcome: Outcome) -> Verdict
         ensures { result ≡ block_served self.now outcome (block_begun self.now) }
     {
         let Some((upcoming, kind, block)) = self.block_begun() else {
-            return bad(DRIVE_ERROR);
+            return Verdict::fault(DRIVE_ERROR);
         };
         match self.part(&upcoming, kind, block) {
-            Ok(_) => block_of(outcome),
-            Err(status) => bad(status),
+            Ok(_) => Verdict::Served(block_of(outcome)),
+            Err(verdict) => verdict,
         }
     }
 }

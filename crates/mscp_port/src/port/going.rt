@@ -38,7 +38,7 @@ impl<K: Picker> Port<K> {
             // A fault at the interrupt word is ignored.
             Task::Word(_) => self.interrupt(),
             Task::Interrupt => self.task = Task::Free,
-            Task::Step(block) => self.finish(block),
+            Task::Step(verdict) => self.finish(verdict),
             Task::Transfer => self.finish(self.block_served(outcome)),
         }
         Ok(())

@@ -1,7 +1,7 @@
 // What the port reads in host memory.
 
 ghost use Rattle.std.specs.Prelude.{◌≡◌, ◌≢◌, ◌≤◌, ◌⊎◌, ℕ, true, length, Bool, Contains, IfSome, Option, None, Ok, Err};
-ghost use Rattle.mscp_port.specs.Common.{First, after_message, num, Responses, Commands, kept_beside, without_aborted, handed, ChangesByReading, Dies, Hears, AnswersItself, end_kind, in_hand, SeesHeader, SeesText, answered_to, changes_at, heeded, neighbour_seen, settings_heeded, slot_seen, is_owned, place_in};
+ghost use Rattle.mscp_port.specs.Common.{First, after_message, num, Responses, Commands, kept_beside, without_aborted, handed, ChangesByReading, Dies, Hears, AnswersItself, end_kind, in_hand, SeesHeader, SeesText, answered_to, changes_at, decided_after, heeded, neighbour_seen, settings_heeded, slot_seen, is_owned, place_in};
 ghost use Rattle.mscp_controller.specs.declared.entry.SendFault.{SendFault as Refused};
 ghost use Rattle.mscp_controller.specs.declared.entry.Sent.{Sent as Told};
 ghost use Rattle.mscp_controller.specs.declared.entry.Sent.TheVariants as sents;
@@ -12,7 +12,7 @@ ghost use Rattle.mscp_port.specs.Messages.{own_end_of};
 
 use crate::action::Unasked;
 use crate::buffers::{Buffer, forget_aborted, keep};
-use crate::message::{SET_CONTROLLER, message_for_controller, own_end};
+use crate::message::{GET_COMMAND_STATUS, SET_CONTROLLER, message_for_controller, own_end};
 use crate::port::{Outgoing, OutgoingKind, Port};
 use crate::rings::Side;
 use crate::sizes::{LONGEST_TEXT, TextSize};
@@ -193,7 +193,9 @@ impl<K: Picker> Port<K> {
           controller = self.new.controller;
           task = self.new.task;
           is_stalled = self.new.is_stalled;
+          owes_block = self.new.owes_block;
           buffers = self.new.buffers;
+          decided = self.new.decided;
           flags = self.new.flags;
           timeout = self.new.timeout;
           left = self.new.left;
@@ -203,7 +205,10 @@ impl<K: Picker> Port<K> {
             → self.new ≡ record (heeded s message.now self.old) {
               controller = self.new.controller;
               buffers = self.new.buffers;
+              decided = self.new.decided;
             } }
+        ensures decides { (s : Told) → answered_to self.old message.now ≡ Ok s
+            → self.new.decided.items ≡ decided_after s self.old.decided.items self.new }
         ensures queued { (reference : ℕ) → answered_to self.old message.now ≡ Ok (sents.Queued reference)
             → self.new.buffers.items ≡ kept_beside (buffer_in message.now (changes_at self.old.volumes
             (place_in self.old.controller.settings.units (num message.now 4 2)))) self.old.buffers.items }
@@ -221,6 +226,7 @@ impl<K: Picker> Port<K> {
             Ok(Sent::Answered { aborted, .. }) => {
                 forget_aborted(&mut self.buffers, aborted);
                 self.heed(message);
+                self.decide_answers();
             }
             // Its length was judged by its header, so a credit is wanting, or its number is in use.
             Err(_) => self.stall(),
@@ -243,16 +249,20 @@ impl<K: Picker> Port<K> {
         keep(&mut self.buffers, Buffer::of(message, changes));
     }
 
-    /// Heeds what the host sets of its controller: flags, and its own timeout.
+    /// Heeds a message that was answered: a poll, and what the host sets of its controller: flags, and its own timeout.
     fn heed(&mut self, message: &[u8])
         requires short { 12 ≤ length message.now }
         ensures value { self.new ≡ settings_heeded message.now self.old }
         ensures frame { self.new ≡ record self.old {
+          owes_block = self.new.owes_block;
           flags = self.new.flags;
           timeout = self.new.timeout;
           left = self.new.left;
         } }
     {
+        if message[8] == GET_COMMAND_STATUS {
+            self.owes_block = true;
+        }
         if message[8] == SET_CONTROLLER && message.len() >= 18 && two_at(message, 12) == 0 {
             self.flags = two_at(message, 14);
             self.timeout = two_at(message, 16);

@@ -2,13 +2,14 @@
 
 ghost use Rattle.std.specs.Prelude.{◌≡◌, ◌*◌, ◌≤◌, ◌<◌, true, nat_eq, length, take, drop, slice_index, IfNone, IfOk, None};
 ghost use Rattle.mscp_port.specs.Common.{bytes_eq, num, IsSound, parts_in, optional, stage_in, IsFramed, IsSaved, area_in, buffers_in, coded_in, controller_in, controller_place, frame_fault, held_in, hardware_in, is_framed, outgoing_in, port_in, restored, rings_if, text_in, told_front, unless, volume_in, volumes_in, words_in, saved_bytes};
-ghost use Rattle.mscp_port.specs.Restored.{all_brought_in, brought_in, buffer_in};
+ghost use Rattle.mscp_port.specs.Decided.{decided_in};
+ghost use Rattle.mscp_port.specs.Restored.{all_decided_in, buffer_in};
 
 mod front;
 
-use crate::brought::{Brought, brought_in};
 use crate::buffers::Buffer;
 use crate::codes::{Coded, bus_in, has_size, kind_in, stage_in, task_in};
+use crate::decided::Decided;
 use crate::hardware::Hardware;
 use crate::port::restoring::front::saved_front;
 use crate::port::saving::{MAGIC, VERSION};
@@ -43,7 +44,7 @@ pub enum RestoreFault {
 
 /// What kind of port it is.
 fn hardware_in(b: &[u8]) -> Hardware
-    requires { 425 ≤ length b.now }
+    requires { 362 ≤ length b.now }
     ensures { result ≡ hardware_in b.now }
 {
     Hardware {
@@ -71,54 +72,54 @@ fn flag_at(b: &[u8], at: usize) -> bool
 
 /// How far the port has come.
 fn stage_of(b: &[u8]) -> Stage
-    requires { 425 ≤ length b.now }
-    ensures { result ≡ stage_in (slice_index b.now 33) (num b.now 34 2) }
+    requires { 362 ≤ length b.now }
+    ensures { result ≡ stage_in (slice_index b.now 34) (num b.now 35 2) }
 {
-    stage_in(b[33], two_at(b, 34))
+    stage_in(b[34], two_at(b, 35))
 }
 
 /// What the host wrote to SA.
 fn written_in(b: &[u8]) -> Option<u16>
-    requires { 425 ≤ length b.now }
-    ensures { result ≡ optional (slice_index b.now 36) (num b.now 37 2) }
+    requires { 362 ≤ length b.now }
+    ensures { result ≡ optional (slice_index b.now 37) (num b.now 38 2) }
 {
-    optional(b[36], two_at(b, 37))
+    optional(b[37], two_at(b, 38))
 }
 
 /// The communication area, if there is one.
 fn rings_in(b: &[u8]) -> Option<Rings>
-    requires { 425 ≤ length b.now }
-    ensures { result ≡ rings_if (slice_index b.now 39) (area_in b.now) }
+    requires { 362 ≤ length b.now }
+    ensures { result ≡ rings_if (slice_index b.now 40) (area_in b.now) }
 {
-    if b[39] != 1 {
+    if b[40] != 1 {
         return None;
     }
-    Rings::of(four_at(b, 40), four_at(b, 44), four_at(b, 48))
+    Rings::of(four_at(b, 41), four_at(b, 45), four_at(b, 49))
 }
 
 /// A task, as numbers.
 fn coded_in(b: &[u8]) -> Coded
-    requires { 425 ≤ length b.now }
+    requires { 362 ≤ length b.now }
     ensures { result ≡ coded_in b.now }
 {
     Coded {
-        task: b[52],
-        whom: b[53],
-        first: four_at(b, 54),
-        second: four_at(b, 58),
-        two: two_at(b, 66),
-        how: b[68],
+        task: b[53],
+        whom: b[54],
+        first: four_at(b, 55),
+        second: four_at(b, 59),
+        two: two_at(b, 67),
+        how: b[69],
     }
 }
 
 /// What the host wrote in the first two steps.
 fn words_in(b: &[u8]) -> Words
-    requires { 425 ≤ length b.now }
+    requires { 362 ≤ length b.now }
     ensures { result ≡ words_in b.now }
 {
     Words {
-        first: two_at(b, 29),
-        second: two_at(b, 31),
+        first: two_at(b, 30),
+        second: two_at(b, 32),
     }
 }
 
@@ -140,7 +141,7 @@ fn outgoing_in(byte: u8, text: &[u8]) -> Option<Outgoing>
 
 /// The volume in the bytes of one.
 fn volume_in(b: &[u8]) -> Volume
-    requires { length b.now ≡ 22 }
+    requires { length b.now ≡ 18 }
     ensures { result ≡ volume_in b.now }
 {
     Volume {
@@ -148,22 +149,22 @@ fn volume_in(b: &[u8]) -> Volume
         is_protected: b[1] == 1,
         is_protected_by_host: b[2] == 1,
         is_removable: b[4] == 1,
-        changes: four_at(b, 5),
-        size: four_at(b, 9),
-        media: four_at(b, 13),
-        mounted: optional(b[17], four_at(b, 18)),
+        changes: four_at(b, 6),
+        size: four_at(b, 10),
+        media: four_at(b, 14),
+        is_mounted: b[5] == 1,
         is_news: b[3] == 1,
     }
 }
 
 /// 16 volumes, behind one another from the first byte on.
 fn volumes_in(b: &[u8]) -> [Volume; 16]
-    requires { 352 ≤ length b.now }
-    ensures { result ≡ parts_in volume_in 22 16 b.now }
+    requires { 288 ≤ length b.now }
+    ensures { result ≡ parts_in volume_in 18 16 b.now }
 {
     let mut volumes = ArrayVec::new();
     for place in 0..16 {
-        volumes.push(volume_in(part(b, 22, place)));
+        volumes.push(volume_in(part(b, 18, place)));
     }
     let Ok(volumes) = volumes.into_inner() else {
         unreachable!();
@@ -199,15 +200,15 @@ fn buffers_in(b: &[u8], count: usize) -> ArrayVec<Buffer, 64>
     buffers
 }
 
-/// What so many ends tell, behind one another from the first byte on.
-fn all_brought_in(b: &[u8], count: usize) -> ArrayVec<Brought, 64>
+/// What so many ends say, behind one another from the first byte on.
+fn all_decided_in(b: &[u8], count: usize) -> ArrayVec<Decided, 64>
     requires few { count ≤ 64 }
-    requires long { 13 * count ≤ length b.now }
-    ensures { result.items ≡ parts_in brought_in 13 count b.now }
+    requires long { 12 * count ≤ length b.now }
+    ensures { result.items ≡ parts_in decided_in 12 count b.now }
 {
     let mut all = ArrayVec::new();
     for place in 0..count {
-        all.push(brought_in(part(b, 13, place)));
+        all.push(Decided::read(part(b, 12, place)));
     }
     all
 }
@@ -218,16 +219,16 @@ fn is_framed(b: &[u8]) -> bool
     ensures value { result ≡ is_framed b.now }
     ensures framed { result ≡ true → IsFramed b.now }
 {
-    if b.len() < 425 {
+    if b.len() < 362 {
         return false;
     }
-    let (text, buffers) = (usize::from(b[70]), usize::from(b[71]));
-    let brought = usize::from(b[72]);
+    let (text, buffers) = (usize::from(b[71]), usize::from(b[72]));
+    let decided = usize::from(b[73]);
     four_at(b, 8) as usize == b.len()
         && text <= 48
         && buffers <= 64
-        && brought <= 64
-        && 425 + text + 20 * buffers + 13 * brought <= b.len()
+        && decided <= 64
+        && 362 + text + 20 * buffers + 12 * decided <= b.len()
 }
 
 /// Why no parts are read: the first fault that holds.
@@ -253,17 +254,17 @@ fn frame_fault(b: &[u8]) -> Option<RestoreFault>
 /// What goes out.
 fn outgoing_of(b: &[u8]) -> Option<Outgoing>
     requires { IsFramed b.now }
-    ensures { result ≡ outgoing_in (slice_index b.now 69) (text_in b.now) }
+    ensures { result ≡ outgoing_in (slice_index b.now 70) (text_in b.now) }
 {
-    outgoing_in(b[69], &b[425..][..usize::from(b[70])])
+    outgoing_in(b[70], &b[362..][..usize::from(b[71])])
 }
 
 /// The volumes.
 fn volumes_of(b: &[u8]) -> [Volume; 16]
-    requires { 425 ≤ length b.now }
+    requires { 362 ≤ length b.now }
     ensures { result ≡ volumes_in b.now }
 {
-    volumes_in(&b[73..])
+    volumes_in(&b[74..])
 }
 
 /// What is kept of commands.
@@ -271,17 +272,17 @@ fn buffers_of(b: &[u8]) -> ArrayVec<Buffer, 64>
     requires { IsFramed b.now }
     ensures { result.items ≡ buffers_in b.now }
 {
-    buffers_in(&b[425 + usize::from(b[70])..], usize::from(b[71]))
+    buffers_in(&b[362 + usize::from(b[71])..], usize::from(b[72]))
 }
 
-/// What ends that wait tell.
-fn all_brought_of(b: &[u8]) -> ArrayVec<Brought, 64>
+/// What ends say that wait.
+fn all_decided_of(b: &[u8]) -> ArrayVec<Decided, 64>
     requires { IsFramed b.now }
-    ensures { result.items ≡ all_brought_in b.now }
+    ensures { result.items ≡ all_decided_in b.now }
 {
-    all_brought_in(
-        &b[425 + usize::from(b[70]) + 20 * usize::from(b[71])..],
-        usize::from(b[72]),
+    all_decided_in(
+        &b[362 + usize::from(b[71]) + 20 * usize::from(b[72])..],
+        usize::from(b[73]),
     )
 }
 
@@ -290,7 +291,7 @@ fn controller_bytes(b: &[u8]) -> &[u8]
     requires { IsFramed b.now }
     ensures { result.now ≡ drop (controller_place b.now) b.now }
 {
-    &b[425 + usize::from(b[70]) + 20 * usize::from(b[71]) + 13 * usize::from(b[72])..]
+    &b[362 + usize::from(b[71]) + 20 * usize::from(b[72]) + 12 * usize::from(b[73])..]
 }
 
 /// Whether the bytes in front of the controller's are those that the port is saved as that they say.
@@ -350,12 +351,13 @@ impl<K: Picker> Port<K> {
         self.is_polled = flag_at(b, 20);
         self.is_stalled = flag_at(b, 21);
         self.is_full = flag_at(b, 22);
+        self.owes_block = flag_at(b, 23);
         self.buffers = buffers_of(b);
-        self.brought = all_brought_of(b);
+        self.decided = all_decided_of(b);
         self.volumes = volumes_of(b);
-        self.flags = two_at(b, 23);
-        self.timeout = two_at(b, 25);
-        self.left = two_at(b, 27);
+        self.flags = two_at(b, 24);
+        self.timeout = two_at(b, 26);
+        self.left = two_at(b, 28);
     }
 
     /// Lets a port over a controller that has the settings of a saved one be the port that was saved.

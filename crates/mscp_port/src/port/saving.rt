@@ -1,11 +1,11 @@
 // A port to bytes.
 
 ghost use Rattle.std.specs.Prelude.{◌≡◌, ◌+◌, ◌*◌, ◌≤◌, ◌<◌, ◌^◌, ◌++◌, ◌∷◌, [], flat_map, length, All, IfSome, Ok};
-ghost use Rattle.mscp_port.specs.Common.{array_vec_len, flag_byte, AreRings, number_or_none, stage_word, restored, HasBroughtRange, HasBufferRange, HasCodedRange, HasHandRange, HasStateRange, HasVolumeRange, area_bytes, brought_bytes, buffer_bytes, coded_bytes, counts_bytes, frame_bytes, hand_bytes, hardware_bytes, mounted_bytes, outgoing_byte, outgoing_text, rings_bytes, saved_bytes, stage_bytes, state_bytes, volume_bytes, words_bytes, written_bytes};
+ghost use Rattle.mscp_port.specs.Common.{array_vec_len, flag_byte, AreRings, number_or_none, stage_word, restored, HasBufferRange, HasCodedRange, HasDecidedRange, HasHandRange, HasStateRange, HasVolumeRange, area_bytes, buffer_bytes, coded_bytes, counts_bytes, decided_bytes, frame_bytes, hand_bytes, hardware_bytes, outgoing_byte, outgoing_text, rings_bytes, saved_bytes, stage_bytes, state_bytes, volume_bytes, words_bytes, written_bytes};
 
-use crate::brought::Brought;
 use crate::buffers::Buffer;
 use crate::codes::{Coded, bus_byte, coded_task, kind_byte};
+use crate::decided::Decided;
 use crate::hardware::Hardware;
 use crate::port::{Outgoing, Port, Words};
 use crate::rings::{Rings, Side};
@@ -16,8 +16,8 @@ use mscp_packet::fields::{put, put_four, put_two};
 use mscp_queue::Picker;
 
 /// The most bytes that a port is saved as: a head, 16 volumes, a text of 48 bytes, what is kept of 64 commands, what 64
-/// ends tell that wait, and a controller.
-pub const ROOM: usize = 6249;
+/// ends say that wait, and a controller.
+pub const ROOM: usize = 6122;
 
 /// "MSCP", as a number.
 pub(super) const MAGIC: u32 = 0x5043_534D;
@@ -27,7 +27,7 @@ pub(super) const VERSION: u32 = 2;
 
 /// Appends whether something is so.
 pub(super) fn put_flag(out: &mut ArrayVec<u8, ROOM>, so: bool)
-    requires { array_vec_len out.old + 1 ≤ 6249 }
+    requires { array_vec_len out.old + 1 ≤ 6122 }
     ensures items { out.new.items ≡ out.old.items ++ (flag_byte so ∷ []) }
     ensures len { array_vec_len out.new ≡ array_vec_len out.old + 1 }
 {
@@ -48,7 +48,7 @@ pub(super) fn put_frame(out: &mut ArrayVec<u8, ROOM>, total: u32)
 
 /// Appends what kind of port it is.
 pub(super) fn put_hardware(out: &mut ArrayVec<u8, ROOM>, hardware: Hardware)
-    requires { array_vec_len out.old + 4 ≤ 6249 }
+    requires { array_vec_len out.old + 4 ≤ 6122 }
     ensures items { out.new.items ≡ out.old.items ++ hardware_bytes hardware }
     ensures len { array_vec_len out.new ≡ array_vec_len out.old + 4 }
 {
@@ -60,7 +60,7 @@ pub(super) fn put_hardware(out: &mut ArrayVec<u8, ROOM>, hardware: Hardware)
 
 /// Appends what the host wrote in the first two steps.
 pub(super) fn put_words(out: &mut ArrayVec<u8, ROOM>, words: Words)
-    requires { array_vec_len out.old + 4 ≤ 6249 }
+    requires { array_vec_len out.old + 4 ≤ 6122 }
     ensures items { out.new.items ≡ out.old.items ++ words_bytes words }
     ensures len { array_vec_len out.new ≡ array_vec_len out.old + 4 }
     ensures first { words.first < 2 ^ 16 }
@@ -72,7 +72,7 @@ pub(super) fn put_words(out: &mut ArrayVec<u8, ROOM>, words: Words)
 
 /// Appends how far the port has come.
 pub(super) fn put_stage(out: &mut ArrayVec<u8, ROOM>, stage: Stage)
-    requires { array_vec_len out.old + 3 ≤ 6249 }
+    requires { array_vec_len out.old + 3 ≤ 6122 }
     ensures items { out.new.items ≡ out.old.items ++ stage_bytes stage }
     ensures len { array_vec_len out.new ≡ array_vec_len out.old + 3 }
     ensures range { stage_word stage < 2 ^ 16 }
@@ -83,7 +83,7 @@ pub(super) fn put_stage(out: &mut ArrayVec<u8, ROOM>, stage: Stage)
 
 /// Appends what the host wrote to SA.
 pub(super) fn put_written(out: &mut ArrayVec<u8, ROOM>, written: Option<u16>)
-    requires { array_vec_len out.old + 3 ≤ 6249 }
+    requires { array_vec_len out.old + 3 ≤ 6122 }
     ensures items { out.new.items ≡ out.old.items ++ written_bytes written }
     ensures len { array_vec_len out.new ≡ array_vec_len out.old + 3 }
     ensures range { number_or_none written < 2 ^ 16 }
@@ -102,7 +102,7 @@ pub(super) fn put_written(out: &mut ArrayVec<u8, ROOM>, written: Option<u16>)
 
 /// Appends where the communication area is.
 fn put_area(out: &mut ArrayVec<u8, ROOM>, rings: Rings)
-    requires { array_vec_len out.old + 12 ≤ 6249 }
+    requires { array_vec_len out.old + 12 ≤ 6122 }
     ensures items { out.new.items ≡ out.old.items ++ area_bytes rings }
     ensures len { array_vec_len out.new ≡ array_vec_len out.old + 12 }
     ensures range { AreRings rings }
@@ -114,7 +114,7 @@ fn put_area(out: &mut ArrayVec<u8, ROOM>, rings: Rings)
 
 /// Appends the communication area, if there is one.
 pub(super) fn put_rings(out: &mut ArrayVec<u8, ROOM>, rings: Option<Rings>)
-    requires { array_vec_len out.old + 13 ≤ 6249 }
+    requires { array_vec_len out.old + 13 ≤ 6122 }
     ensures items { out.new.items ≡ out.old.items ++ rings_bytes rings }
     ensures len { array_vec_len out.new ≡ array_vec_len out.old + 13 }
     ensures range { IfSome rings (λ r. AreRings r) }
@@ -133,7 +133,7 @@ pub(super) fn put_rings(out: &mut ArrayVec<u8, ROOM>, rings: Option<Rings>)
 
 /// Appends a task, with four zeros where the format has room.
 pub(super) fn put_coded(out: &mut ArrayVec<u8, ROOM>, coded: Coded)
-    requires { array_vec_len out.old + 17 ≤ 6249 }
+    requires { array_vec_len out.old + 17 ≤ 6122 }
     ensures items { out.new.items ≡ out.old.items ++ coded_bytes coded }
     ensures len { array_vec_len out.new ≡ array_vec_len out.old + 17 }
     ensures range { HasCodedRange coded }
@@ -147,30 +147,11 @@ pub(super) fn put_coded(out: &mut ArrayVec<u8, ROOM>, coded: Coded)
     out.push(coded.how);
 }
 
-/// Appends how often a volume had changed when its unit was brought online, if it was.
-fn put_mounted(out: &mut ArrayVec<u8, ROOM>, mounted: Option<u32>)
-    requires { array_vec_len out.old + 5 ≤ 6249 }
-    ensures items { out.new.items ≡ out.old.items ++ mounted_bytes mounted }
-    ensures len { array_vec_len out.new ≡ array_vec_len out.old + 5 }
-    ensures range { number_or_none mounted < 2 ^ 32 }
-{
-    match mounted {
-        Some(changes) => {
-            out.push(1);
-            put_four(out, changes);
-        }
-        None => {
-            out.push(0);
-            put_four(out, 0);
-        }
-    }
-}
-
 /// Appends a volume.
 fn put_volume(out: &mut ArrayVec<u8, ROOM>, volume: Volume)
-    requires { array_vec_len out.old + 22 ≤ 6249 }
+    requires { array_vec_len out.old + 18 ≤ 6122 }
     ensures items { out.new.items ≡ out.old.items ++ volume_bytes volume }
-    ensures len { array_vec_len out.new ≡ array_vec_len out.old + 22 }
+    ensures len { array_vec_len out.new ≡ array_vec_len out.old + 18 }
     ensures range { HasVolumeRange volume }
 {
     put_flag(out, volume.is_there);
@@ -178,17 +159,17 @@ fn put_volume(out: &mut ArrayVec<u8, ROOM>, volume: Volume)
     put_flag(out, volume.is_protected_by_host);
     put_flag(out, volume.is_news);
     put_flag(out, volume.is_removable);
+    put_flag(out, volume.is_mounted);
     put_four(out, volume.changes);
     put_four(out, volume.size);
     put_four(out, volume.media);
-    put_mounted(out, volume.mounted);
 }
 
 /// Appends volumes.
 pub(super) fn put_volumes(out: &mut ArrayVec<u8, ROOM>, volumes: &[Volume])
-    requires { array_vec_len out.old + 22 * length volumes.now ≤ 6249 }
+    requires { array_vec_len out.old + 18 * length volumes.now ≤ 6122 }
     ensures items { out.new.items ≡ out.old.items ++ flat_map volume_bytes volumes.now }
-    ensures len { array_vec_len out.new ≡ array_vec_len out.old + 22 * length volumes.now }
+    ensures len { array_vec_len out.new ≡ array_vec_len out.old + 18 * length volumes.now }
     ensures range { All HasVolumeRange volumes.now }
 {
     for volume in volumes {
@@ -198,7 +179,7 @@ pub(super) fn put_volumes(out: &mut ArrayVec<u8, ROOM>, volumes: &[Volume])
 
 /// Appends what is kept of a command.
 fn put_buffer(out: &mut ArrayVec<u8, ROOM>, buffer: Buffer)
-    requires { array_vec_len out.old + 20 ≤ 6249 }
+    requires { array_vec_len out.old + 20 ≤ 6122 }
     ensures items { out.new.items ≡ out.old.items ++ buffer_bytes buffer }
     ensures len { array_vec_len out.new ≡ array_vec_len out.old + 20 }
     ensures range { HasBufferRange buffer }
@@ -213,7 +194,7 @@ fn put_buffer(out: &mut ArrayVec<u8, ROOM>, buffer: Buffer)
 
 /// Appends what is kept of commands.
 pub(super) fn put_buffers(out: &mut ArrayVec<u8, ROOM>, buffers: &[Buffer])
-    requires { array_vec_len out.old + 20 * length buffers.now ≤ 6249 }
+    requires { array_vec_len out.old + 20 * length buffers.now ≤ 6122 }
     ensures items { out.new.items ≡ out.old.items ++ flat_map buffer_bytes buffers.now }
     ensures len { array_vec_len out.new ≡ array_vec_len out.old + 20 * length buffers.now }
     ensures range { All HasBufferRange buffers.now }
@@ -223,28 +204,28 @@ pub(super) fn put_buffers(out: &mut ArrayVec<u8, ROOM>, buffers: &[Buffer])
     }
 }
 
-/// Appends what an end that waits tells.
-fn put_brought(out: &mut ArrayVec<u8, ROOM>, brought: Brought)
-    requires { array_vec_len out.old + 13 ≤ 6249 }
-    ensures items { out.new.items ≡ out.old.items ++ brought_bytes brought }
-    ensures len { array_vec_len out.new ≡ array_vec_len out.old + 13 }
-    ensures range { HasBroughtRange brought }
+/// Appends what an end says that waits.
+fn put_decided(out: &mut ArrayVec<u8, ROOM>, decided: Decided)
+    requires { array_vec_len out.old + 12 ≤ 6122 }
+    ensures items { out.new.items ≡ out.old.items ++ decided_bytes decided }
+    ensures len { array_vec_len out.new ≡ array_vec_len out.old + 12 }
+    ensures range { HasDecidedRange decided }
 {
-    put_four(out, brought.reference);
-    put_flag(out, brought.is_fresh);
-    put_four(out, brought.size);
-    put_four(out, brought.media);
+    put_two(out, decided.status);
+    put_two(out, decided.flags);
+    put_four(out, decided.media);
+    put_four(out, decided.size);
 }
 
-/// Appends what ends that wait tell.
-pub(super) fn put_all_brought(out: &mut ArrayVec<u8, ROOM>, all: &[Brought])
-    requires { array_vec_len out.old + 13 * length all.now ≤ 6249 }
-    ensures items { out.new.items ≡ out.old.items ++ flat_map brought_bytes all.now }
-    ensures len { array_vec_len out.new ≡ array_vec_len out.old + 13 * length all.now }
-    ensures range { All HasBroughtRange all.now }
+/// Appends what ends say that wait.
+pub(super) fn put_all_decided(out: &mut ArrayVec<u8, ROOM>, all: &[Decided])
+    requires { array_vec_len out.old + 12 * length all.now ≤ 6122 }
+    ensures items { out.new.items ≡ out.old.items ++ flat_map decided_bytes all.now }
+    ensures len { array_vec_len out.new ≡ array_vec_len out.old + 12 * length all.now }
+    ensures range { All HasDecidedRange all.now }
 {
-    for brought in all {
-        put_brought(out, *brought);
+    for decided in all {
+        put_decided(out, *decided);
     }
 }
 
@@ -272,9 +253,9 @@ pub(super) fn outgoing_byte(outgoing: &Option<Outgoing>) -> u8
 impl<K: Picker> Port<K> {
     /// Appends what it counts, and whether something is so.
     fn put_counts(&self, out: &mut ArrayVec<u8, ROOM>)
-        requires { array_vec_len out.old + 7 ≤ 6249 }
+        requires { array_vec_len out.old + 8 ≤ 6122 }
         ensures items { out.new.items ≡ out.old.items ++ counts_bytes self.now }
-        ensures len { array_vec_len out.new ≡ array_vec_len out.old + 7 }
+        ensures len { array_vec_len out.new ≡ array_vec_len out.old + 8 }
     {
         out.push(self.more);
         out.push(self.untold);
@@ -283,13 +264,14 @@ impl<K: Picker> Port<K> {
         put_flag(out, self.is_polled);
         put_flag(out, self.is_stalled);
         put_flag(out, self.is_full);
+        put_flag(out, self.owes_block);
     }
 
     /// Appends what kind of port it is, what it counts, and what its host has set.
     fn put_state(&self, out: &mut ArrayVec<u8, ROOM>)
-        requires { array_vec_len out.old + 21 ≤ 6249 }
+        requires { array_vec_len out.old + 22 ≤ 6122 }
         ensures items { out.new.items ≡ out.old.items ++ state_bytes self.now }
-        ensures len { array_vec_len out.new ≡ array_vec_len out.old + 21 }
+        ensures len { array_vec_len out.new ≡ array_vec_len out.old + 22 }
         ensures range { HasStateRange self.now }
     {
         put_hardware(out, self.hardware);
@@ -302,7 +284,7 @@ impl<K: Picker> Port<K> {
 
     /// Appends how far it has come, and what it has in hand.
     fn put_hand(&self, out: &mut ArrayVec<u8, ROOM>)
-        requires { array_vec_len out.old + 40 ≤ 6249 }
+        requires { array_vec_len out.old + 40 ≤ 6122 }
         ensures items { out.new.items ≡ out.old.items ++ hand_bytes self.now }
         ensures len { array_vec_len out.new ≡ array_vec_len out.old + 40 }
         ensures range { HasHandRange self.now }
@@ -314,7 +296,7 @@ impl<K: Picker> Port<K> {
         out.push(outgoing_byte(&self.outgoing));
         out.push(text_of(&self.outgoing).len() as u8);
         out.push(self.buffers.len() as u8);
-        out.push(self.brought.len() as u8);
+        out.push(self.decided.len() as u8);
     }
 
     /// The picker of its controller.
@@ -333,8 +315,8 @@ impl<K: Picker> Port<K> {
         let controller = mscp_saved::save(&self.controller, number);
         let text = text_of(&self.outgoing);
         let buffers = self.buffers.as_slice();
-        let brought = self.brought.as_slice();
-        let total = 425 + text.len() + 20 * buffers.len() + 13 * brought.len() + controller.len();
+        let decided = self.decided.as_slice();
+        let total = 362 + text.len() + 20 * buffers.len() + 12 * decided.len() + controller.len();
         let mut out = ArrayVec::new();
         put_frame(&mut out, total as u32);
         self.put_state(&mut out);
@@ -342,7 +324,7 @@ impl<K: Picker> Port<K> {
         put_volumes(&mut out, &self.volumes);
         put(&mut out, text);
         put_buffers(&mut out, buffers);
-        put_all_brought(&mut out, brought);
+        put_all_decided(&mut out, decided);
         put(&mut out, controller.as_slice());
         out
     }

@@ -1,69 +1,20 @@
 // How blocks are moved.
 
-ghost use Rattle.std.specs.Prelude.{◌≡◌, ◌≤◌, ◌%◌, ◌⊎◌, [], Contains, IfSome, Option, None, Some};
+ghost use Rattle.std.specs.Prelude.{◌≡◌, ◌≤◌, ◌%◌, ◌⊎◌, [], true, Contains, IfSome, Option, None, Some};
 ghost use Rattle.mscp_port.specs.Common.{ChangesByService, move_of, refusal_of, task_of, Foretells, begun_step, GoesOnWithBlock, TakesBegun, TakesBlock, anyhow, begun_task, MayBegin, IsOfBlock, in_hand, IsOnVolume, MayMove};
 ghost use Rattle.mscp_port.specs.declared.buffers.Buffer.{Buffer as Kept};
 ghost use Rattle.mscp_port.specs.Blocks.{block_of as block_after, has_host_bytes as has_bytes, writes as writes_to};
 ghost use Rattle.mscp_queue.specs.declared.upcoming.Upcoming.{Upcoming as Foretold};
 ghost use Rattle.mscp_port.specs.declared.task.Task.TheVariants as tasks;
 
-use crate::action::Outcome;
 use crate::buffers::{Buffer, find_buffer};
-use crate::filling::{STEP_WITHOUT_ONLINE, STEP_WITHOUT_VOLUME};
 use crate::port::Port;
 use crate::port::checking::part_with;
 use crate::task::Task;
+use crate::verdict::{DRIVE_ERROR, ODD_ADDRESS, ODD_COUNT, PROTECTED, PROTECTED_BY_HOST, Verdict};
 use crate::volumes::Volume;
 use mscp_packet::{MoveKind, Order};
-use mscp_queue::{Block, Connection, FaultStatus, Picker, Report, Upcoming};
-
-/// Host Buffer Access Error: an odd address, an odd count, memory that isn't there, a parity error, an address that isn't
-/// mapped.
-const ODD_ADDRESS: u16 = 0x0029;
-
-const ODD_COUNT: u16 = 0x0049;
-
-pub(crate) const MISSING: u16 = 0x0069;
-
-const PARITY: u16 = 0x0089;
-
-const UNMAPPED: u16 = 0x00A9;
-
-/// Compare Error.
-const DIFFERENT: u16 = 0x0007;
-
-/// Write Protected, by the host and by the hardware.
-const PROTECTED_BY_HOST: u16 = 0x1006;
-
-const PROTECTED: u16 = 0x2006;
-
-/// Drive Error.
-pub(crate) const DRIVE_ERROR: u16 = 0x000B;
-
-/// A block that ends its command with this status.
-pub(crate) fn bad(status: u16) -> Block
-    requires { 5 ≤ status % 32 }
-    ensures { result ≡ Block.Bad status }
-{
-    match FaultStatus::new(status) {
-        Some(status) => Block::Bad(status),
-        None => unreachable!(),
-    }
-}
-
-/// How a block was served whose action went so.
-pub(crate) fn block_of(outcome: Outcome) -> Block
-    ensures { result ≡ block_after outcome }
-{
-    match outcome {
-        Outcome::Done => Block::Good,
-        Outcome::Missing => bad(MISSING),
-        Outcome::Parity => bad(PARITY),
-        Outcome::Unmapped => bad(UNMAPPED),
-        Outcome::Different => bad(DIFFERENT),
-        Outcome::Failed(status) => Block::Bad(status),
-    }
-}
+use mscp_queue::{Block, Connection, Picker, Report, Upcoming};
 
 /// Whether a transfer moves bytes of host memory.
 fn has_host_bytes(kind: MoveKind) -> bool
@@ -80,24 +31,28 @@ fn writes(kind: MoveKind) -> bool
 }
 
 /// Why a step of a transfer isn't made, if it isn't: the first that holds.
-pub(crate) fn refusal(kind: MoveKind, block: u32, buffer: &Buffer, volume: &Volume) -> Option<u16>
+pub(crate) fn refusal(
+    kind: MoveKind,
+    block: u32,
+    buffer: &Buffer,
+    volume: &Volume,
+) -> Option<Verdict>
     ensures value { result ≡ refusal_of kind block buffer.now volume.now }
-    ensures status { IfSome result (λ status. 5 ≤ status % 32) }
-    ensures moves { result ≡ None → MayMove kind block volume.now }
+    ensures moves { volume.now.is_there ≡ true → result ≡ None → MayMove kind block volume.now }
     ensures even { result ≡ None → buffer.now.count % 2 ≡ 0 }
 {
-    if !volume.is_mounted() {
-        Some(STEP_WITHOUT_ONLINE)
+    if !volume.is_mounted {
+        Some(Verdict::NotOnline)
     } else if has_host_bytes(kind) && buffer.address % 2 == 1 {
-        Some(ODD_ADDRESS)
+        Some(Verdict::fault(ODD_ADDRESS))
     } else if buffer.count % 2 == 1 {
-        Some(ODD_COUNT)
+        Some(Verdict::fault(ODD_COUNT))
     } else if writes(kind) && volume.is_protected_by_host {
-        Some(PROTECTED_BY_HOST)
+        Some(Verdict::fault(PROTECTED_BY_HOST))
     } else if writes(kind) && volume.is_protected {
-        Some(PROTECTED)
+        Some(Verdict::fault(PROTECTED))
     } else if volume.size <= block {
-        Some(DRIVE_ERROR)
+        Some(Verdict::fault(DRIVE_ERROR))
     } else {
         None
     }
@@ -123,21 +78,21 @@ fn task_for(upcoming: &Upcoming, buffer: &Buffer, volume: &Volume) -> Task
     ensures safe { result ≡ tasks.Transfer → IsOnVolume buffer.now volume.now }
 {
     if matches!(upcoming.command.order, Order::Available) {
-        return Task::Step(Block::Good);
+        return Task::Step(Verdict::Served(Block::Good));
     }
     if volume.is_there && matches!(upcoming.command.order, Order::Online | Order::SetUnit) {
-        return Task::Step(Block::Good);
+        return Task::Step(Verdict::Served(Block::Good));
     }
     if !volume.is_there || buffer.changes != volume.changes {
-        return Task::Step(bad(STEP_WITHOUT_VOLUME));
+        return Task::Step(Verdict::NoVolume);
     }
     let Some((kind, block)) = move_of(upcoming) else {
-        return Task::Step(Block::Good);
+        return Task::Step(Verdict::Served(Block::Good));
     };
     match part_with(kind, block, upcoming.done, buffer, volume) {
-        Err(status) => Task::Step(bad(status)),
+        Err(verdict) => Task::Step(verdict),
         // A transfer of no bytes names a block, and moves nothing.
-        Ok((_, 0)) => Task::Step(Block::Good),
+        Ok((_, 0)) => Task::Step(Verdict::Served(Block::Good)),
         Ok(_) => Task::Transfer,
     }
 }
@@ -169,20 +124,22 @@ impl<K: Picker> Port<K> {
         );
         match (self.place_of(command.unit), buffer) {
             (Some(place), Some(buffer)) => task_for(&upcoming, &buffer, &self.volumes[place]),
-            _ => Task::Step(bad(DRIVE_ERROR)),
+            _ => Task::Step(Verdict::fault(DRIVE_ERROR)),
         }
     }
 
-    /// The step of the command of this connection and number is taken, if it is begun, whose block had this outcome.
-    fn finish_of(&mut self, connection: Connection, reference: u32, block: Block)
-        ensures takes { TakesBlock (K.picks self.old.controller.picker) connection reference block self.old self.new }
-        ensures whoever { TakesBlock anyhow connection reference block self.old self.new }
+    /// The step of the command of this connection and number is taken, if it is begun, and went so.
+    fn finish_of(&mut self, connection: Connection, reference: u32, verdict: Verdict)
+        ensures takes { TakesBlock (K.picks self.old.controller.picker) connection reference verdict self.old self.new }
+        ensures whoever { TakesBlock anyhow connection reference verdict self.old self.new }
         ensures frame { ChangesByService self.old self.new }
         ensures settings { self.new.controller.settings ≡ self.old.controller.settings }
         ensures buffers { (b : Kept) → Contains self.new.buffers.items b → Contains self.old.buffers.items b }
         ensures packet { in_hand self.new.task ≡ None }
     {
         self.task = Task::Free;
+        self.owes_block = false;
+        let block = verdict.block();
         if let Ok(
             Report::Served {
                 ended: Some(end),
@@ -190,14 +147,13 @@ impl<K: Picker> Port<K> {
             },
         ) = self.controller.finish(connection, reference, block)
         {
-            self.command_ended(connection, &end);
+            self.command_ended(connection, &end, &verdict);
         }
     }
 
-    /// The step that is begun is taken, whose block had this outcome. Only restored bytes say that one is in hand where none is
-    /// begun.
-    pub(crate) fn finish(&mut self, block: Block)
-        ensures takes { TakesBegun (K.picks self.old.controller.picker) block self.old self.new }
+    /// The step that is begun is taken, and went so. Only restored bytes say that one is in hand where none is begun.
+    pub(crate) fn finish(&mut self, verdict: Verdict)
+        ensures takes { TakesBegun (K.picks self.old.controller.picker) verdict self.old self.new }
         ensures blocks { GoesOnWithBlock self.old self.new }
         ensures frame { ChangesByService self.old self.new }
         ensures settings { self.new.controller.settings ≡ self.old.controller.settings }
@@ -205,7 +161,7 @@ impl<K: Picker> Port<K> {
         ensures packet { in_hand self.new.task ≡ None }
     {
         match self.controller.begun() {
-            Some(name) => self.finish_of(name.connection, name.reference, block),
+            Some(name) => self.finish_of(name.connection, name.reference, verdict),
             None => self.task = Task::Free,
         }
     }

@@ -1,7 +1,7 @@
 // What the port wants done.
 
 ghost use Rattle.std.specs.Prelude.{◌≡◌, ◌≢◌, ◌≤◌, ◌<◌, ◌⊎◌, ◌+◌, ◌-◌, ◌*◌, ◌^◌, ℕ, true, false, length, IfSome, min, replicate, None, Some};
-ghost use Rattle.mscp_port.specs.Common.{ChangesBySaying, little_bytes, Responses, Commands, IsInArea, end_of, slot_in, slots_of, Wants, asked, asks_blocks, HasNothingToHear, HasNothingToSay, IsAlive, IsDue, IsIdleUp, IsOfBlock, IsWithin, in_hand, BeginsBlock, MayMoveOn, block_begun, move_wanted, KeepsSaying, Says, TakesEnd, TellsNews, credits_told, packet_of, text_of, IsWanted, clear_count, clear_from, given_in, packet_out};
+ghost use Rattle.mscp_port.specs.Common.{ChangesBySaying, little_bytes, Responses, Commands, IsInArea, end_of, slot_in, slots_of, Wants, asked, asks_blocks, block_is_due, HasNothingToHear, HasNothingToSay, IsAlive, IsDue, IsIdleUp, IsOfBlock, IsWithin, in_hand, BeginsBlock, MayMoveOn, block_begun, move_wanted, KeepsSaying, Says, TakesEnd, TellsNews, credits_told, packet_of, text_of, IsWanted, clear_count, clear_from, given_in, packet_out};
 ghost use Rattle.mscp_port.specs.declared.action.Action.TheVariants as actions;
 ghost use Rattle.mscp_port.specs.declared.stage.Stage.TheVariants as stages;
 ghost use Rattle.mscp_port.specs.declared.task.Task.TheVariants as tasks;
@@ -101,13 +101,14 @@ impl<K: Picker> Port<K> {
     }
 
     /// What it takes in hand while the rings are in use: what goes out, what comes in, and then a block, if not
-    /// messages alone are asked for.
+    /// messages alone are asked for. Behind a poll comes a block first.
     fn choose_work(&mut self, ask: Ask) -> Task
         ensures frame { ChangesBySaying self.old self.new }
         ensures packet { in_hand result ≡ None }
         ensures goes_out { self.new.outgoing ≢ None → self.new.is_full ≡ false → result ≡ tasks.Slot Responses }
         ensures comes_in { HasNothingToSay self.new → self.new.is_polled ≡ true → self.new.is_stalled ≡ false
-            → result ≡ tasks.Slot Commands }
+            → block_is_due (asks_blocks ask) self.new ≡ false → result ≡ tasks.Slot Commands }
+        ensures first { HasNothingToSay self.new → block_is_due (asks_blocks ask) self.new ≡ true → IsOfBlock result }
         ensures block { HasNothingToSay self.new → HasNothingToHear self.new
             → (result ≡ tasks.Free) ⊎ IsOfBlock result }
         ensures message { asks_blocks ask ≡ false → IsOfBlock result → ⊥ }
@@ -125,13 +126,21 @@ impl<K: Picker> Port<K> {
         if self.outgoing.is_some() && !self.is_full {
             return Task::Slot(Side::Responses);
         }
-        if self.is_polled && !self.is_stalled {
+        if self.is_polled && !self.is_stalled && !self.block_is_due(ask) {
             return Task::Slot(Side::Commands);
         }
         if let Ask::Messages = ask {
             return Task::Free;
         }
         self.choose_block()
+    }
+
+    /// Whether a block comes before the next message: a poll was heard and no block was told since, one may be served, and blocks
+    /// are asked for. So a host that polls at once again can't keep its own commands back.
+    fn block_is_due(&self, ask: Ask) -> bool
+        ensures { result ≡ block_is_due (asks_blocks ask) self.now }
+    {
+        self.owes_block && matches!(ask, Ask::All) && self.controller.len() > 0
     }
 
     /// What is wanted for what it has in hand.

@@ -6,11 +6,11 @@ ghost use Rattle.mscp_port.specs.Common.{array_vec_len, IsFramed, front_in, told
 use crate::codes::{coded_task, task_in};
 use crate::port::Outgoing;
 use crate::port::restoring::{
-    all_brought_of, buffers_of, coded_in, flag_at, hardware_in, outgoing_of, rings_in, stage_of,
+    all_decided_of, buffers_of, coded_in, flag_at, hardware_in, outgoing_of, rings_in, stage_of,
     volumes_of, words_in, written_in,
 };
 use crate::port::saving::{
-    ROOM, outgoing_byte, put_all_brought, put_buffers, put_coded, put_flag, put_frame,
+    ROOM, outgoing_byte, put_all_decided, put_buffers, put_coded, put_flag, put_frame,
     put_hardware, put_rings, put_stage, put_volumes, put_words, put_written, text_of,
 };
 use arrayvec::ArrayVec;
@@ -18,10 +18,10 @@ use mscp_packet::fields::{put, put_two, two_at};
 
 /// Appends what bytes say that a port counts, and whether something is so.
 fn put_told_counts(out: &mut ArrayVec<u8, ROOM>, b: &[u8])
-    requires room { array_vec_len out.old + 7 ≤ 6249 }
-    requires long { 425 ≤ length b.now }
+    requires room { array_vec_len out.old + 8 ≤ 6122 }
+    requires long { 362 ≤ length b.now }
     ensures items { out.new.items ≡ out.old.items ++ counts_bytes (front_in b.now) }
-    ensures len { array_vec_len out.new ≡ array_vec_len out.old + 7 }
+    ensures len { array_vec_len out.new ≡ array_vec_len out.old + 8 }
 {
     out.push(b[16]);
     out.push(b[17]);
@@ -30,26 +30,27 @@ fn put_told_counts(out: &mut ArrayVec<u8, ROOM>, b: &[u8])
     put_flag(out, flag_at(b, 20));
     put_flag(out, flag_at(b, 21));
     put_flag(out, flag_at(b, 22));
+    put_flag(out, flag_at(b, 23));
 }
 
 /// Appends what kind of port they say, what it counts, and what its host has set.
 fn put_told_state(out: &mut ArrayVec<u8, ROOM>, b: &[u8])
-    requires room { array_vec_len out.old + 21 ≤ 6249 }
-    requires long { 425 ≤ length b.now }
+    requires room { array_vec_len out.old + 22 ≤ 6122 }
+    requires long { 362 ≤ length b.now }
     ensures items { out.new.items ≡ out.old.items ++ state_bytes (front_in b.now) }
-    ensures len { array_vec_len out.new ≡ array_vec_len out.old + 21 }
+    ensures len { array_vec_len out.new ≡ array_vec_len out.old + 22 }
 {
     put_hardware(out, hardware_in(b));
     put_told_counts(out, b);
-    put_two(out, two_at(b, 23));
-    put_two(out, two_at(b, 25));
-    put_two(out, two_at(b, 27));
+    put_two(out, two_at(b, 24));
+    put_two(out, two_at(b, 26));
+    put_two(out, two_at(b, 28));
     put_words(out, words_in(b));
 }
 
 /// Appends how far they say that it has come, and what it has in hand, with what goes out.
 fn put_told_hand(out: &mut ArrayVec<u8, ROOM>, b: &[u8], outgoing: &Option<Outgoing>)
-    requires room { array_vec_len out.old + 40 ≤ 6249 }
+    requires room { array_vec_len out.old + 40 ≤ 6122 }
     requires framed { IsFramed b.now }
     requires told { outgoing.now ≡ (front_in b.now).outgoing }
     ensures items { out.new.items ≡ out.old.items ++ hand_bytes (front_in b.now) }
@@ -61,8 +62,8 @@ fn put_told_hand(out: &mut ArrayVec<u8, ROOM>, b: &[u8], outgoing: &Option<Outgo
     put_coded(out, coded_task(task_in(coded_in(b))));
     out.push(outgoing_byte(outgoing));
     out.push(text_of(outgoing).len() as u8);
-    out.push(b[71]);
     out.push(b[72]);
+    out.push(b[73]);
 }
 
 /// The bytes in front of its controller that the port is saved as that bytes say.
@@ -73,7 +74,7 @@ pub(super) fn saved_front(b: &[u8]) -> ArrayVec<u8, ROOM>
 {
     let outgoing = outgoing_of(b);
     let text = text_of(&outgoing);
-    let total = text.len() + (b.len() - usize::from(b[70]));
+    let total = text.len() + (b.len() - usize::from(b[71]));
     let mut out = ArrayVec::new();
     put_frame(&mut out, total as u32);
     put_told_state(&mut out, b);
@@ -81,6 +82,6 @@ pub(super) fn saved_front(b: &[u8]) -> ArrayVec<u8, ROOM>
     put_volumes(&mut out, &volumes_of(b));
     put(&mut out, text);
     put_buffers(&mut out, buffers_of(b).as_slice());
-    put_all_brought(&mut out, all_brought_of(b).as_slice());
+    put_all_decided(&mut out, all_decided_of(b).as_slice());
     out
 }

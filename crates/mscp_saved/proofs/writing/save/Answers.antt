@@ -14,7 +14,7 @@ put_ends-requires g c =
       c.put_drives.ensures.len,
       c.put_all_waiting.ensures.len,
       ap (λ (ds : List Drive). length ds) c.drives-drives.ensures.value,
-      ap (λ (es : List End). length es) c.ends.ensures,
+      ap (λ (es : List End). length es) c.ends.ensures.value,
     )
 
 pub put_ends-requires-2 : goal.put_ends-requires-2
@@ -29,8 +29,8 @@ put_ends-requires-2 g c =
       c.put_all_waiting.ensures.len,
       c.put_ends.ensures.len,
       ap (λ (ds : List Drive). length ds) c.drives-drives.ensures.value,
-      ap (λ (es : List End). length es) c.ends.ensures,
-      ap (λ (es : List End). length es) c.ends-2.ensures,
+      ap (λ (es : List End). length es) c.ends.ensures.value,
+      ap (λ (es : List End). length es) c.ends-2.ensures.value,
     )
 
 pub returns-clause-back : goal.returns-clause-back
@@ -40,8 +40,8 @@ returns-clause-back g c =
       limits = subst HasLimitRange c.config.ensures.value c.put_head.ensures.limits;
       drives = subst (All HasDriveRange) c.drives-drives.ensures.value c.put_drives.ensures.range;
       waiting = c.put_all_waiting.ensures.range;
-      first = subst (All HasEndRange) c.ends.ensures c.put_ends.ensures.range;
-      second = subst (All HasEndRange) c.ends-2.ensures c.put_ends-2.ensures.range;
+      first = subst (All HasEndRange) c.ends.ensures.value c.put_ends.ensures.range;
+      second = subst (All HasEndRange) c.ends-2.ensures.value c.put_ends-2.ensures.range;
       begun = subst (λ begun. IfSome begun (λ name. name.reference < 2 ^ 32)) c.begun.ensures c.put_head.ensures.begun;
     } in
     let bytes : c.put_ends-2.new.out.items ≡ saved_bytes c.args.picker h = search rules in

@@ -20,8 +20,9 @@ returns g c =
       is_polled = c.flag_at-self.ensures i;
       is_stalled = c.flag_at-self-2.ensures i;
       is_full = c.flag_at-self-3.ensures i;
+      owes_block = c.flag_at-self-4.ensures i;
       buffers = record { items = c.buffers_of-self.ensures i };
-      brought = record { items = c.all_brought_of-self.ensures i };
+      decided = record { items = c.all_decided_of-self.ensures i };
       volumes = c.volumes_of-self.ensures i;
       flags = c.two_at-self.ensures i;
       timeout = c.two_at-self-2.ensures i;

@@ -1,4 +1,4 @@
-use Rattle.mscp_port.proofs.Common.{All, ◌≡◌, ℕ, ◌+◌, ◌*◌, ◌≤◌, ◌++◌, List, length, ap, sym, subst, ◌∙◌, rules, flat_map, controller_restored, Brought, Buffer, restored, HasBroughtRange, HasBufferRange, HasRange, brought_bytes, buffer_bytes, frame_bytes, hand_bytes, length_of, state_bytes, volume_bytes}
+use Rattle.mscp_port.proofs.Common.{All, ◌≡◌, ℕ, ◌+◌, ◌*◌, ◌≤◌, ◌++◌, List, length, ap, sym, subst, ◌∙◌, rules, flat_map, controller_restored, Buffer, Decided, restored, HasDecidedRange, HasBufferRange, HasRange, decided_bytes, buffer_bytes, frame_bytes, hand_bytes, length_of, state_bytes, volume_bytes}
 use Rattle.mscp_port.proofs.Back.{restored_back}
 use Rattle.mscp_port.proofs.port.Port.save.Goals as goal
 
@@ -8,11 +8,11 @@ returns-clause-bytes g c =
     let controller = c.save-controller.ensures.bytes in
     let text = c.text_of-text.ensures.value in
     let buffers = c.as_slice-buffers.ensures.value in
-    let brought = c.as_slice-brought.ensures.value in
-    let total : 425 + length c.text_of-text.result.now + 20 * length c.as_slice-buffers.result.now
-    + 13 * length c.as_slice-brought.result.now + c.len.result
+    let decided = c.as_slice-decided.ensures.value in
+    let total : 362 + length c.text_of-text.result.now + 20 * length c.as_slice-buffers.result.now
+    + 12 * length c.as_slice-decided.result.now + c.len.result
     ≡ length_of c.args.number p =
-    λ i. 425 + length (text i) + 20 * length (buffers i) + 13 * length (brought i)
+    λ i. 362 + length (text i) + 20 * length (buffers i) + 12 * length (decided i)
     + (c.len.ensures.value ∙ ap (λ (l : List ℕ). length l) controller) i in
     let head = c.put_hand.ensures.items
     ∙ ap (λ l. l ++ hand_bytes p) (c.put_state.ensures.items
@@ -20,7 +20,7 @@ returns-clause-bytes g c =
     let volumes = c.put_volumes.ensures.items ∙ ap (λ l. l ++ flat_map volume_bytes p.volumes) head in
     let said = c.put.ensures.items ∙ λ i. volumes i ++ text i in
     let kept = c.put_buffers.ensures.items ∙ λ i. said i ++ flat_map buffer_bytes (buffers i) in
-    let ends = c.put_all_brought.ensures.items ∙ λ i. kept i ++ flat_map brought_bytes (brought i) in
+    let ends = c.put_all_decided.ensures.items ∙ λ i. kept i ++ flat_map decided_bytes (decided i) in
     c.put-2.ensures.items ∙ λ i. ends i ++ (c.as_slice.ensures.value ∙ controller) i
 
 pub returns-clause-back : goal.returns-clause-back
@@ -36,9 +36,9 @@ returns-clause-back g c =
       buffers = subst (All HasBufferRange) c.as_slice-buffers.ensures.value c.put_buffers.ensures.range;
       few = subst (λ (bs : List Buffer). length bs ≤ 64) c.as_slice-buffers.ensures.value
           c.as_slice-buffers.ensures.fits;
-      brought = subst (All HasBroughtRange) c.as_slice-brought.ensures.value c.put_all_brought.ensures.range;
-      few_brought = subst (λ (bs : List Brought). length bs ≤ 64) c.as_slice-brought.ensures.value
-          c.as_slice-brought.ensures.fits;
+      decided = subst (All HasDecidedRange) c.as_slice-decided.ensures.value c.put_all_decided.ensures.range;
+      few_decided = subst (λ (bs : List Decided). length bs ≤ 64) c.as_slice-decided.ensures.value
+          c.as_slice-decided.ensures.fits;
       short = subst (λ (l : List ℕ). length l ≤ 48) c.text_of-text.ensures.value c.text_of-text.ensures.short;
     } in
     let fits = subst (λ (l : List ℕ). length l ≤ 3664) (c.as_slice.ensures.value ∙ bytes) c.as_slice.ensures.fits in

@@ -10,10 +10,12 @@ returns-in-None-clause-sees g c = record {
       → Sends c.args.slot s c.args.message.now c.args.self.now c.send.new.self) [
         | sents.Queued reference ↦ λ answer. record {
           frame = search (arith, c.seconds-self.ensures, c.send.ensures.sent (sents.Queued reference) answer);
+          decided = c.send.ensures.decides (sents.Queued reference) answer;
           kept = c.send.ensures.queued reference answer;
         }
         | sents.Answered reference aborted ↦ λ answer. record {
           frame = search (arith, c.seconds-self.ensures, c.send.ensures.sent (sents.Answered reference aborted) answer);
+          decided = c.send.ensures.decides (sents.Answered reference aborted) answer;
           kept = c.send.ensures.answered reference aborted answer;
         }
       ];

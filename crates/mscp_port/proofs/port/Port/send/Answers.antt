@@ -7,7 +7,14 @@ returns-in-Ok-Queued-clause-settings g c = search (arith, settings_after)
 
 pub returns-in-Ok-Answered-clause-settings : goal.returns-in-Ok-Answered-clause-settings
 returns-in-Ok-Answered-clause-settings g c =
-    search (arith, settings_after, c.heed.ensures.frame, c.send.ensures.after, c.args.self.now.controller)
+    search (
+      arith,
+      settings_after,
+      c.decide_answers.ensures.frame,
+      c.heed.ensures.frame,
+      c.send.ensures.after,
+      c.args.self.now.controller,
+    )
 
 pub returns-in-Ok-Queued-clause-queued : goal.returns-in-Ok-Queued-clause-queued
 returns-in-Ok-Queued-clause-queued g c =

@@ -19,6 +19,7 @@ returns-clause-wants g c = record {
           still = d.still;
           goes_out = d.goes_out;
           comes_in = d.comes_in;
+          first = d.first;
           block = d.block;
           message = d.message;
         })

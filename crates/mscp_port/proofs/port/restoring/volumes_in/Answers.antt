@@ -7,7 +7,7 @@ loop-place-preserved c = search (arith, part_more)
 pub returns : goal.returns
 returns c =
     let all : c.loop-place.place ≡ 16 = omega arith in
-    c.in-Ok.ensures.ok ∙ (c.loop-place.invariant.items ∙ ap (λ n. parts_in volume_in 22 n c.args.b.now) all)
+    c.in-Ok.ensures.ok ∙ (c.loop-place.invariant.items ∙ ap (λ n. parts_in volume_in 18 n c.args.b.now) all)
 
 no_other : {X Y : Type 0} (r : Result X Y) → IsOk r → ((x : X) → r ≡ Ok x → ⊥) → ⊥
 no_other (Ok x) ok other = other x refl

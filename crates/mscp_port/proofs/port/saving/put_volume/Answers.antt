@@ -9,7 +9,7 @@ returns-clause-items c =
     let by_host = more xs _ _ _ locked c.put_flag-3.ensures.items refl in
     let news = more xs _ _ _ by_host c.put_flag-4.ensures.items refl in
     let removable = more xs _ _ _ news c.put_flag-5.ensures.items refl in
-    let changes = grow xs _ 4 _ c.args.volume.changes removable c.put_four.ensures.items refl in
+    let mounted = more xs _ _ _ removable c.put_flag-6.ensures.items refl in
+    let changes = grow xs _ 4 _ c.args.volume.changes mounted c.put_four.ensures.items refl in
     let size = grow xs _ 4 _ c.args.volume.size changes c.put_four-2.ensures.items refl in
-    let media = grow xs _ 4 _ c.args.volume.media size c.put_four-3.ensures.items refl in
-    more xs _ _ _ media c.put_mounted.ensures.items refl
+    grow xs _ 4 _ c.args.volume.media size c.put_four-3.ensures.items refl

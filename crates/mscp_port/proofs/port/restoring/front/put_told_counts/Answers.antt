@@ -11,4 +11,6 @@ returns-clause-items c =
     let polled = more xs _ _ _ e c.put_flag.ensures.items (ap (λ (so : Bool). flag_byte so ∷ []) c.flag_at.ensures) in
     let stalled = more xs _ _ _ polled c.put_flag-2.ensures.items
     (ap (λ (so : Bool). flag_byte so ∷ []) c.flag_at-2.ensures) in
-    more xs _ _ _ stalled c.put_flag-3.ensures.items (ap (λ (so : Bool). flag_byte so ∷ []) c.flag_at-3.ensures)
+    let full = more xs _ _ _ stalled c.put_flag-3.ensures.items
+    (ap (λ (so : Bool). flag_byte so ∷ []) c.flag_at-3.ensures) in
+    more xs _ _ _ full c.put_flag-4.ensures.items (ap (λ (so : Bool). flag_byte so ∷ []) c.flag_at-4.ensures)

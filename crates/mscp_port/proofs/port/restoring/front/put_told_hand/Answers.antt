@@ -1,4 +1,4 @@
-use Rattle.mscp_port.proofs.Common.{ℕ, List, ◌∷◌, [], drop, length, sym, ap, ◌∙◌, first, more, parts_long, coded_task, task_in, brought_count, brought_in, brought_place, buffer_count, buffer_in, buffer_place, coded_bytes, outgoing_byte, outgoing_text, rings_bytes, stage_bytes, written_bytes}
+use Rattle.mscp_port.proofs.Common.{ℕ, List, ◌∷◌, [], drop, length, sym, ap, ◌∙◌, first, more, parts_long, coded_task, task_in, decided_count, decided_in, decided_place, buffer_count, buffer_in, buffer_place, coded_bytes, outgoing_byte, outgoing_text, rings_bytes, stage_bytes, written_bytes}
 use Rattle.mscp_port.proofs.port.restoring.front.put_told_hand.Goals as goal
 
 pub returns-clause-items : goal.returns-clause-items
@@ -17,4 +17,4 @@ returns-clause-items c =
     let buffers = more xs _ _ _ text c.push-3.ensures.items
     (ap (λ (n : ℕ). n ∷ []) (sym (parts_long buffer_in 20 (buffer_count b) (drop (buffer_place b) b)))) in
     more xs _ _ _ buffers c.push-4.ensures.items
-    (ap (λ (n : ℕ). n ∷ []) (sym (parts_long brought_in 13 (brought_count b) (drop (brought_place b) b))))
+    (ap (λ (n : ℕ). n ∷ []) (sym (parts_long decided_in 12 (decided_count b) (drop (decided_place b) b))))

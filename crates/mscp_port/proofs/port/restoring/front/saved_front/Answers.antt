@@ -1,4 +1,4 @@
-use Rattle.mscp_port.proofs.Common.{◌+◌, ◌-◌, ◌++◌, length, ap, ◌∙◌, arith, flat_map, front_in, brought_bytes, buffer_bytes, frame_bytes, hand_bytes, outgoing_text, state_bytes, volume_bytes}
+use Rattle.mscp_port.proofs.Common.{◌+◌, ◌-◌, ◌++◌, length, ap, ◌∙◌, arith, flat_map, front_in, decided_bytes, buffer_bytes, frame_bytes, hand_bytes, outgoing_text, state_bytes, volume_bytes}
 use Rattle.mscp_port.proofs.Formed.{text_told, total_is}
 use Rattle.mscp_port.proofs.port.restoring.front.saved_front.Goals as goal
 
@@ -18,5 +18,5 @@ returns c =
     let said = c.put.ensures.items ∙ λ i. volumes i ++ text i in
     let kept = c.put_buffers.ensures.items
     ∙ λ i. said i ++ flat_map buffer_bytes ((c.as_slice.ensures.value ∙ c.buffers_of.ensures) i) in
-    c.put_all_brought.ensures.items
-    ∙ λ i. kept i ++ flat_map brought_bytes ((c.as_slice-2.ensures.value ∙ c.all_brought_of.ensures) i)
+    c.put_all_decided.ensures.items
+    ∙ λ i. kept i ++ flat_map decided_bytes ((c.as_slice-2.ensures.value ∙ c.all_decided_of.ensures) i)

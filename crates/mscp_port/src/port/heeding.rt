@@ -1,0 +1,133 @@
+// How commands that ended are heeded: what their ends say is decided, and units become what they say.
+
+ghost use Rattle.std.specs.Prelude.{◌≡◌, ◌≤◌, ◌++◌, Contains, map, drop, length, Some};
+ghost use Rattle.mscp_port.specs.Common.{First, answer_decided, decided_answers, decided_step, of, place_in, volume_found, volume_heeded, volumes_after, without};
+ghost use Rattle.mscp_port.specs.Decided.{end_decided, status_told as told};
+ghost use Rattle.mscp_port.specs.declared.buffers.Buffer.{Buffer as Kept};
+
+use crate::buffers::{Buffer, find_buffer, forget};
+use crate::decided::{Decided, PROTECTED_BY_HOST, status_told};
+use crate::port::Port;
+use crate::verdict::Verdict;
+use crate::volumes::Volume;
+use mscp_drive::Units;
+use mscp_packet::End;
+use mscp_queue::{Block, Connection, Picker};
+
+/// The modifier by which a host sets or clears its write protection.
+const SETS_PROTECTION: u16 = 0x0004;
+
+/// What the Success of a command to a unit means for its volume: ONLINE brings the unit online with it, and its host needs no
+/// news of it then; AVAILABLE takes it offline; ONLINE and SET UNIT CHARACTERISTICS set its write protection, if their modifier
+/// says so.
+fn heed_unit(volume: &mut Volume, code: u8, buffer: Option<Buffer>)
+    ensures { volume.new ≡ volume_heeded code buffer volume.old }
+{
+    match (code, buffer) {
+        (0x88, _) => {
+            volume.is_mounted = false;
+            volume.is_protected_by_host = false;
+        }
+        (0x89 | 0x8A, Some(buffer)) => {
+            if code == 0x89 {
+                volume.is_mounted = true;
+                volume.is_news = false;
+            }
+            if buffer.modifiers / SETS_PROTECTION % 2 == 1 {
+                volume.is_protected_by_host = buffer.flags / PROTECTED_BY_HOST % 2 == 1;
+            }
+        }
+        _ => {}
+    }
+}
+
+/// What an end says that was made as its message came, where its unit, if there is such a unit, has this volume.
+fn answer_decided(end: &End, units: &Units, flags: u16, volume: &Volume) -> Decided
+    ensures { result ≡ answer_decided units.now flags volume.now end.now }
+{
+    let served = Verdict::Served(Block::Good);
+    let status = status_told(served, end.code, end.status, volume);
+    Decided::of_end(status, end, units, flags, volume)
+}
+
+impl<K: Picker> Port<K> {
+    /// The volume of a unit: none where there is no such unit.
+    fn volume_found(&self, unit: u16) -> Volume
+        ensures { result ≡ volume_found self.now.controller.settings.units self.now.volumes unit }
+    {
+        match self.place_of(unit) {
+            Some(place) => self.volumes[place],
+            None => Volume::default(),
+        }
+    }
+
+    /// What an end says that was made as its message came.
+    fn answer(&self, end: &End) -> Decided
+        ensures { result ≡ answer_decided self.now.controller.settings.units self.now.flags
+            (volume_found self.now.controller.settings.units self.now.volumes end.now.unit) end.now }
+    {
+        let volume = self.volume_found(end.unit);
+        answer_decided(end, self.controller.config().units(), self.flags, &volume)
+    }
+
+    /// Decides what the ends say that were made of a message, which are those of which nothing is decided yet.
+    pub(crate) fn decide_answers(&mut self)
+        ensures frame { self.new ≡ record self.old { decided = self.new.decided } }
+        ensures value { self.new.decided.items ≡ decided_answers self.old.decided.items self.new }
+    {
+        for place in self.decided.len()..self.controller.ends(Connection::First).len() {
+            let end = self.controller.ends(Connection::First)[place];
+            let decided = self.answer(&end);
+            self.decided.push(decided);
+        }
+    }
+
+    /// Decides what the end of a step says that went so, to whose unit this volume belonged before it was heeded.
+    fn decide_step(&mut self, connection: Connection, end: &End, verdict: &Verdict, before: &Volume)
+        ensures frame { self.new ≡ record self.old { decided = self.new.decided } }
+        ensures value { self.new.decided.items
+            ≡ decided_step connection verdict.now before.now end.now self.old.decided.items self.old }
+    {
+        if let (Connection::First, false) = (connection, self.decided.is_full()) {
+            let status = status_told(*verdict, end.code, end.status, before);
+            let units = self.controller.config().units();
+            let volume = self.volume_found(end.unit);
+            let decided = Decided::of_end(status, end, units, self.flags, &volume);
+            self.decided.push(decided);
+        }
+    }
+
+    /// A step brought the end of a command, and went so: what is kept of it is heeded if it had Success, and forgotten, and what
+    /// the end says is decided.
+    pub(crate) fn command_ended(&mut self, connection: Connection, end: &End, verdict: &Verdict)
+        ensures frame { self.new ≡ record self.old {
+          buffers = self.new.buffers;
+          decided = self.new.decided;
+          volumes = volumes_after self.old.controller.settings.units self.old.buffers.items connection
+              (Some end.now) self.old.volumes;
+        } }
+        ensures decided { self.new.decided.items ≡ decided_step connection verdict.now
+            (volume_found self.old.controller.settings.units self.old.volumes end.now.unit) end.now
+            self.old.decided.items self.new }
+        ensures buffers { self.new.buffers.items ≡ without connection end.now.reference self.old.buffers.items }
+        ensures among { (b : Kept) → Contains self.new.buffers.items b → Contains self.old.buffers.items b }
+    {
+        let before = self.volume_found(end.unit);
+        self.heed_end(connection, end);
+        forget(&mut self.buffers, connection, end.reference);
+        self.decide_step(connection, end, verdict, &before);
+    }
+
+    /// Heeds what is kept of a command that ended, if it had Success.
+    fn heed_end(&mut self, connection: Connection, end: &End)
+        ensures { self.new ≡ record self.old {
+          volumes = volumes_after self.old.controller.settings.units self.old.buffers.items connection
+              (Some end.now) self.old.volumes;
+        } }
+    {
+        if let (Some(place), 0) = (self.place_of(end.unit), end.status % 32) {
+            let buffer = find_buffer(self.buffers.as_slice(), connection, end.reference);
+            heed_unit(&mut self.volumes[place], end.code, buffer);
+        }
+    }
+}
