@@ -24,7 +24,7 @@ A host,A submission,mscp_host,submission_size
 A port,The head,mscp_port,head_size
 A port,A volume,mscp_port,volume_size
 A port,What is kept of a command,mscp_port,buffer_size
-A port,What such an end tells,mscp_port,brought_size
+A port,What an end says,mscp_port,decided_size
 END
 }
 

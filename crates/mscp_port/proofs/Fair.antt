@@ -1,7 +1,7 @@
 -- Between two polls comes a step of a command, if one may be served.
-use Rattle.mscp_port.proofs.Common.{◌≡◌, ◌≢◌, ◌⊎◌, ◌∙◌, ℕ, Bool, true, false, List, [], ◌∷◌, Option, None, Some, Result, Ok, Err, inl, inr, refl, ap, sym, subst, arith, false≢true, none-some, Holdings, Hardware, Port, Action, Descriptor, Record, Sent, SendFault, Side, Stage, Task, IsAsNew, IsDue, IsMadeOf, IsForgotten, Answered, Becomes, Call, WriteIp, ReadIp, WriteSa, Next, PutAside, WasRead, Went, LookAgain, Tick, VolumeCame, VolumeWent, Protect, Hears, SeesText, Sends, Wants, answered_to, own_end_of, ◌&&◌, not, nat_eq, length, if◌then◌else◌, MatchOption, num, is_owned, Responses}
+use Rattle.mscp_port.proofs.Common.{◌≡◌, ◌≢◌, ◌⊎◌, ◌∙◌, ℕ, Bool, true, false, List, [], ◌∷◌, Option, None, Some, Result, Ok, Err, inl, inr, refl, ap, sym, arith, false≢true, none-some, Holdings, Hardware, Port, Action, Descriptor, Record, Sent, SendFault, Side, Task, IsAsNew, IsDue, IsMadeOf, IsForgotten, Answered, Becomes, Call, WriteIp, ReadIp, WriteSa, Next, PutAside, WasRead, Went, LookAgain, Tick, VolumeCame, VolumeWent, Protect, Hears, SeesText, Sends, Wants, answered_to, own_end_of, ◌&&◌, not, nat_eq, length, if◌then◌else◌, MatchOption, num, is_owned, Responses}
 use Rattle.std.specs.Prelude.{◌==◌}
-use Rattle.mscp_port.specs.Fair.{HearsPoll, IsOwed, IsPollHeard, TellsStep}
+use Rattle.mscp_port.specs.Fair.{HearsPoll, IsOwed, TellsStep}
 use Rattle.mscp_controller.specs.declared.entry.Sent.TheVariants as sents
 use Rattle.mscp_port.specs.Ports.{block_is_due}
 use Rattle.mscp_port.specs.Seen.{bytes_read, connection_in, header_fault, is_poll, length_in, slot_seen}

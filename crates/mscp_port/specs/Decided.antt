@@ -1,6 +1,6 @@
 -- What an end says that only its port knows: it is decided as its command ends, also where the end leaves much later
 -- (manual, "Status and Event Codes", "Unit Flags").
-use Rattle.std.specs.Prelude.{ℕ, ◌+◌, ◌%◌, ◌==◌, ◌&&◌, ◌||◌, ◌++◌, ◌∷◌, [], not, Bool, nat_lt, if◌then◌else◌, List, length, map, drop, Option, None, Some}
+use Rattle.std.specs.Prelude.{ℕ, ◌+◌, ◌%◌, ◌==◌, ◌&&◌, ◌||◌, ◌++◌, ◌∷◌, [], not, nat_lt, if◌then◌else◌, List, length, map, drop, Option, None, Some}
 use Rattle.mscp_drive.specs.Both.{of}
 use Rattle.mscp_drive.specs.Shape.{Shape}
 use Rattle.mscp_drive.specs.UnitList.{unit_found}

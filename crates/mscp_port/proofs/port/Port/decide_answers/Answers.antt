@@ -1,4 +1,4 @@
-use Rattle.mscp_port.proofs.Common.{rules, arith, refl, ap, sym, ◌∙◌, ◌≡◌, ◌++◌, length, of, First, append-nil, End, Port, get_or}
+use Rattle.mscp_port.proofs.Common.{arith, ap, sym, ◌∙◌, length, of, First, append-nil, End, Port, get_or}
 use Rattle.mscp_packet.specs.declared.end.EndBody.TheVariants as bodies
 use Rattle.mscp_port.specs.Decided.{answer_of, decided_answers}
 use Rattle.mscp_port.proofs.Deciding.{decided_all, decided_more}
