@@ -1,5 +1,5 @@
 -- Calls on a port's handle are calls of the port.
-use Rattle.mscp_c.proofs.Common.{◌≡◌, ◌++◌, ◌∷◌, [], ℕ, ℤ, true, false, List, Option, None, Some, refl, ap, sym, subst, MatchOption, Outcome, Answered, Becomes, Handle, Held, BAD_OUTCOME, outcome_given, KeepsPortPromise, Begun, Configured, Look, LookAgain, Next, NextMessage, Protect, ReadIp, ReadSa, Resume, State, TellsOutcome, Tick, Volume, VolumeCame, VolumeWent, WasRead, Went, Why, WriteIp, WriteSa, TellsWent}
+use Rattle.mscp_c.proofs.Common.{◌≡◌, ◌++◌, ◌∷◌, [], ℕ, ℤ, true, false, List, Option, None, Some, refl, ap, sym, subst, MatchOption, Outcome, Answered, Becomes, Handle, Held, BAD_OUTCOME, outcome_given, KeepsPortPromise, Begun, Configured, Look, LookAgain, Next, NextMessage, Protect, ReadIp, ReadSa, Resume, State, TellsOutcome, Tick, Volume, VolumeCame, VolumeWent, WasRead, Went, Why, WriteIp, WriteSa, TellsWent, PolicyPicks}
 use Rattle.mscp_port.specs.Histories.{Call}
 use Rattle.mscp_port.specs.Ports.{put_aside}
 use Rattle.mscp_port.specs.Wanted.{bytes_wanted}
@@ -10,26 +10,26 @@ use Rattle.mscp_port.specs.Histories as calls
 record Is (call : HandleCall) (old new : Held) : Type 0 where
   next : List Call
   tells : Tells call next
-  becomes : (start : Held) (told : List Call) → Answered start told old → Answered start (next ++ told) new
+  becomes : (start : Held) (told : List Call) → Answered PolicyPicks start told old → Answered PolicyPicks start (next ++ told) new
 
 -- it is this call of the port
-one : (call : HandleCall) (it : Call) (old new : Held) → Tells call (it ∷ []) → Becomes it old new → Is call old new
+one : (call : HandleCall) (it : Call) (old new : Held) → Tells call (it ∷ []) → Becomes PolicyPicks it old new → Is call old new
 one call it old new tells b = record { next = it ∷ []; tells = tells; becomes = λ start told a. (old, a, b) }
 
 -- or none
 none : (call : HandleCall) (old new : Held) → Tells call [] → new ≡ old → Is call old new
 none call old new tells e =
-    record { next = []; tells = tells; becomes = λ start told a. subst (Answered start told) (sym e) a }
+    record { next = []; tells = tells; becomes = λ start told a. subst (Answered PolicyPicks start told) (sym e) a }
 
 went : (number block : ℕ) (status : ℤ) (o : Option Outcome) (old new : Handle)
     → MatchOption o ((status ≡ BAD_OUTCOME) × (new ≡ old)) (λ outcome. TellsWent outcome old status new)
     → (next : List Call)
     × MatchOption o ((next ≡ []) × (status ≡ BAD_OUTCOME)) (λ outcome. TellsOutcome outcome status next)
-    × ((start : Held) (told : List Call) → Answered start told old.held → Answered start (next ++ told) new.held)
+    × ((start : Held) (told : List Call) → Answered PolicyPicks start told old.held → Answered PolicyPicks start (next ++ told) new.held)
 went number block status None old new refused = (
   [],
   (refl, refused.0),
-  λ start told a. subst (Answered start told) (ap (λ h. h.held) (sym refused.1)) a,
+  λ start told a. subst (Answered PolicyPicks start told) (ap (λ h. h.held) (sym refused.1)) a,
 )
 went number block status (Some outcome) old new t = (
   calls.Went outcome t.answer ∷ [],

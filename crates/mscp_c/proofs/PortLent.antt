@@ -43,28 +43,24 @@ module _ (h old : Handle) (x new : Held) (same : x ≡ h.held) (kept : h ≡ old
     code = code;
   }
 
-  pub went_told : (outcome : Outcome) (answer : Result (Unit {0}) Unasked) (status : ℤ) → Goes outcome x answer new
-      → (IsOk answer → Moves (PolicyPicks x.controller.picker) outcome x new) → status ≡ told_code answer
+  pub went_told : (outcome : Outcome) (answer : Result (Unit {0}) Unasked) (status : ℤ) 
+      → Goes (PolicyPicks x.controller.picker) outcome x answer new → status ≡ told_code answer
       → TellsWent outcome old status (with_held h new)
-  went_told outcome answer status goes moves code = record {
+  went_told outcome answer status goes code = record {
     answer = answer;
-    goes = subst (λ (p : Held). Goes outcome p answer new) was goes;
-    moves = subst (λ (p : Held). IsOk answer → Moves (PolicyPicks p.controller.picker) outcome p new) was moves;
+    goes = subst (λ (p : Held). Goes (PolicyPicks p.controller.picker) outcome p answer new) was goes;
     rest = rest;
     code = code;
   }
 
   pub wanted_told : (ask : Ask) (action : Action) (status : ℤ) (before after : ActionOut)
-      → Wants (asks_blocks ask) (asked ask x) action new
-      → (IsAlive (asked ask x) → (asked ask x).task ≡ tasks.Free → IsOfBlock new.task
-      → BeginsBlock (PolicyPicks (asked ask x).controller.picker) new.task (asked ask x) new)
+      → Wants (PolicyPicks (asked ask x).controller.picker) (asks_blocks ask) (asked ask x) action new
       → status ≡ next_code action → after ≡ action_told action (bytes_wanted new new.task) before
       → TellsWanted ask old before status (with_held h new) after
-  wanted_told ask action status before after wants begins code told = record {
+  wanted_told ask action status before after wants code told = record {
     action = action;
-    wants = subst (λ (p : Held). Wants (asks_blocks ask) (asked ask p) action new) was wants;
-    begins = subst (λ (p : Held). IsAlive (asked ask p) → (asked ask p).task ≡ tasks.Free → IsOfBlock new.task
-        → BeginsBlock (PolicyPicks (asked ask p).controller.picker) new.task (asked ask p) new) was begins;
+    wants = subst (λ (p : Held). Wants (PolicyPicks (asked ask p).controller.picker) (asks_blocks ask) (asked ask p)
+        action new) was wants;
     rest = rest;
     code = code;
     told = told;

@@ -6,6 +6,7 @@ use Rattle.mscp_port.specs.declared.action.Outcome.{Outcome}
 use Rattle.mscp_port.specs.declared.action.Unasked.{Unasked}
 use Rattle.mscp_port.specs.declared.port.watching.NoUnit.{NoUnit}
 use Rattle.mscp_port.specs.Calls as ports
+use Rattle.mscp_memory.specs.Policies.{PolicyPicks}
 use Rattle.mscp_port.specs.Histories.{Answered, Call}
 use Rattle.mscp_port.specs.Histories as calls
 use Rattle.mscp_memory.specs.PortHandles.{Handle, Held}
@@ -169,7 +170,7 @@ pub record KeepsPortPromise (start : Held) (made : List HandleCall) (held : Held
   pub told : List Call
   pub tells : TellsAll made told
   -- in their order, so that each law of ports is about them
-  pub answered : Answered start told held
+  pub answered : Answered PolicyPicks start told held
 
 -- the law: every handle on a port keeps the promise, whoever calls it, from any moment on; from an init on the port is
 -- one that was made over a controller (profile)

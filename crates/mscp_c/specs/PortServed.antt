@@ -15,8 +15,7 @@ use Rattle.mscp_port.specs.Calls as ports
 use Rattle.mscp_memory.specs.PortHandles.{Handle, Held, placed, with_held}
 use Rattle.mscp_memory.specs.declared.policy.Policy.TheVariants.{Oldest}
 use Rattle.mscp_memory.specs.Policies.{PolicyPicks}
-use Rattle.mscp_port.specs.Moved.{BeginsBlock, Moves}
-use Rattle.mscp_port.specs.Ports.{IsAlive, IsOfBlock, asked, asks_blocks}
+use Rattle.mscp_port.specs.Ports.{asked, asks_blocks}
 use Rattle.mscp_port.specs.Wanted.{bytes_wanted}
 use Rattle.mscp_c.specs.declared.outs.ActionOut.{ActionOut}
 use Rattle.mscp_c.specs.declared.port_given.HardwareIn.{HardwareIn}
@@ -48,10 +47,8 @@ pub record MakesPort (l : Limits) (us : List UnitIn) (picker : ℕ) (hardware : 
 pub record TellsWanted (ask : Ask) (old : Handle) (before : ActionOut) (status : ℤ) (new : Handle) (after : ActionOut)
     : Type 0 where
   pub action : Action
-  pub wants : ports.Wants (asks_blocks ask) (asked ask old.held) action new.held
-  -- what it takes in hand of a block is what its controller has begun, by the word of its policy
-  pub begins : IsAlive (asked ask old.held) → (asked ask old.held).task ≡ tasks.Free → IsOfBlock new.held.task
-      → BeginsBlock (PolicyPicks (asked ask old.held).controller.picker) new.held.task (asked ask old.held) new.held
+  pub wants : ports.Wants (PolicyPicks (asked ask old.held).controller.picker) (asks_blocks ask) (asked ask old.held)
+      action new.held
   pub rest : new ≡ with_held old new.held
   pub code : status ≡ next_code action
   pub told : after ≡ action_told action (bytes_wanted new.held new.held.task) before
@@ -71,8 +68,7 @@ pub record TellsHeard (bytes : List ℕ) (old : Handle) (status : ℤ) (new : Ha
 -- it tells what came of an action that went so. Of each action just what follows this outcome of it
 pub record TellsWent (outcome : Outcome) (old : Handle) (status : ℤ) (new : Handle) : Type 0 where
   pub answer : Result (Unit {0}) Unasked
-  pub goes : ports.Goes outcome old.held answer new.held
-  pub moves : IsOk answer → Moves (PolicyPicks old.held.controller.picker) outcome old.held new.held
+  pub goes : ports.Goes (PolicyPicks old.held.controller.picker) outcome old.held answer new.held
   pub rest : new ≡ with_held old new.held
   pub code : status ≡ told_code answer
 

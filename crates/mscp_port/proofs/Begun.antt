@@ -1,5 +1,6 @@
 -- What the controller begins for a port, behind an end that may have been taken.
-use Rattle.mscp_port.proofs.Common.{◌≡◌, ◌⊎◌, ℕ, List, Option, inl, inr, ap, subst, First, Upcoming, Choice, Foretells, Holdings, after_take, begun_step, Port, Task, BeginsBlock, begun_task}
+use Rattle.mscp_port.proofs.Common.{◌≡◌, ◌⊎◌, ℕ, List, MatchOption, Option, None, Some, inl, inr, refl, ap, subst, First, Upcoming, Choice, Foretells, Holdings, after_take, begun_step, Name, Port, Task, Verdict, BeginsBlock, GoesOnWithBlock, TakesBlock, begun_task}
+use Rattle.mscp_port.specs.declared.task.Task.TheVariants as tasks
 
 -- the picker stays where an end is taken
 same_picker : {K : Type 0} (old held : Holdings K) → (held ≡ old) ⊎ (held ≡ after_take First old)
@@ -25,3 +26,25 @@ begun_behind picks_of task old between new either begun = record {
     begun.3,
   );
 }
+
+-- ---- a step that is taken
+
+-- the controller took the step that it had begun, or had begun none
+pub taken_or_not : {K : Type 0} (picks : List Choice → ℕ → Type 0) (old new : Port K) → GoesOnWithBlock picks old new
+    → (new ≡ record old { task = tasks.Free })
+    ⊎ ((name : Name) × (verdict : Verdict) × TakesBlock picks name.connection name.reference verdict old new)
+taken_or_not {K} picks old new goes = by old.controller.begun refl
+  where
+    by : (o : Option Name) → old.controller.begun ≡ o
+        → (new ≡ record old { task = tasks.Free })
+        ⊎ ((name : Name) × (verdict : Verdict) × TakesBlock picks name.connection name.reference verdict old new)
+    by None e = inl (subst
+        (λ (x : Option Name). MatchOption x (new ≡ record old { task = tasks.Free })
+        (λ name. TakesBlock picks name.connection name.reference goes.0 old new)) e goes.1)
+    by (Some name) e = inr (
+      name,
+      goes.0,
+      subst
+          (λ (x : Option Name). MatchOption x (new ≡ record old { task = tasks.Free })
+          (λ n. TakesBlock picks n.connection n.reference goes.0 old new)) e goes.1,
+    )

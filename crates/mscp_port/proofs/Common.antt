@@ -43,12 +43,12 @@ pub use Rattle.mscp_port.specs.Calls.{Changes, ChangesByActing, Dies, Goes, Hear
 pub use Rattle.mscp_port.specs.Codes.{IsTask, bus_byte, bus_in, coded_task, has_size, number_or_none, optional, some_byte, stage_byte, stage_in, stage_word, task_in}
 pub use Rattle.mscp_port.specs.Decided.{decided_in}
 pub use Rattle.mscp_port.specs.Departures.{IsDelivered, IsForgotten, IsWritten, Told, begins, begun, disk_credits, ends_in, gone, leaves}
-pub use Rattle.mscp_port.specs.Histories.{Answered, Becomes, Call, HasCredit, HasInOrder, IsNamed, IsNamedForData, IsNamedForRings, LookAgain, NamesArea, NamesBuffer, NamesPacket, Next, Protect, PutAside, ReadIp, Tick, VolumeCame, VolumeWent, WasRead, Went, WriteIp, WriteSa, reads, words}
+pub use Rattle.mscp_port.specs.Histories.{Answered, Picking, Becomes, Call, HasCredit, HasInOrder, IsNamed, IsNamedForData, IsNamedForRings, LookAgain, NamesArea, NamesBuffer, NamesPacket, Next, Protect, PutAside, ReadIp, Tick, VolumeCame, VolumeWent, WasRead, Went, WriteIp, WriteSa, reads, words}
 pub use Rattle.mscp_port.specs.Kept.{IsSaidBy, WasSaid}
 pub use Rattle.mscp_port.specs.Loaded.{is_loaded, is_locked}
 pub use Rattle.mscp_port.specs.Messages.{handed, number_or_zero, own_end_of}
 pub use Rattle.mscp_port.specs.Mounted.{Ends, IsChangeAt, IsMounted, IsRemounted, Mount, flagged, mount_after, offline}
-pub use Rattle.mscp_port.specs.Moved.{BeginsBlock, GoesOnWithBlock, HeedsStep, anyhow, begun_task, end_brought, kept_after, place_heeded, volumes_after}
+pub use Rattle.mscp_port.specs.Moved.{BeginsBlock, GoesOnWithBlock, HeedsStep, TakesBegun, TakesBlock, begun_task, end_brought, kept_after, place_heeded, volumes_after}
 pub use Rattle.mscp_port.specs.Outgoings.{IsNews, KeepsSaying, LooksForOut, Says, TakesEnd, TellsNews, news_place}
 pub use Rattle.mscp_port.specs.Packets.{credits_told}
 pub use Rattle.mscp_port.specs.Places.{AsksFirst, IsPut, IsPutForData, IsPutForRings, PutsBuffer, PutsPacket, asked, read_from, reads_at, with_read}

@@ -1,5 +1,5 @@
 -- What a host is told of credits over a whole history.
-use Rattle.mscp_port.proofs.Common.{◌≡◌, ◌⊎◌, ◌∙◌, ◌+◌, ◌∷◌, [], ℕ, Bool, true, false, List, inl, inr, refl, ap, sym, arith, Result, Ok, Err, min-le_left, false≢true, Holdings, Outcome, Unasked, Hardware, Port, Descriptor, Task, WritesOut, Goes, HoldsPacket, IsMadeOf, IsForgotten, IsWritten, Told, disk_credits, ends_in, Answered, Becomes, Call, WriteIp, ReadIp, WriteSa, Next, PutAside, WasRead, Went, LookAgain, Tick, Protect, VolumeCame, VolumeWent}
+use Rattle.mscp_port.proofs.Common.{◌≡◌, ◌⊎◌, ◌∙◌, ◌+◌, ◌∷◌, [], ℕ, Bool, true, false, List, inl, inr, refl, ap, sym, arith, Result, Ok, Err, min-le_left, false≢true, Holdings, Outcome, Unasked, Hardware, Port, Descriptor, Task, WritesOut, Goes, HoldsPacket, IsMadeOf, IsForgotten, IsWritten, Told, disk_credits, ends_in, Answered, Becomes, Call, WriteIp, ReadIp, WriteSa, Next, PutAside, WasRead, Went, LookAgain, Tick, Protect, VolumeCame, VolumeWent, Picking, Choice}
 use Rattle.mscp_port.specs.declared.action.Outcome.TheVariants as outcomes
 use Rattle.mscp_port.specs.declared.stage.Stage.TheVariants as stages
 use Rattle.mscp_port.specs.declared.task.Task.TheVariants as tasks
@@ -25,54 +25,54 @@ is_done outcomes.Done = true
 is_done outcome = false
 
 -- an outcome but Done of a packet is a fatal error
-went_with : {K : Type 0} (outcome : Outcome) (done : Unit) (old new : Port K) → Goes outcome old (Ok done) new
+went_with : {K : Type 0} (picks : List Choice → ℕ → Type 0) (outcome : Outcome) (done : Unit) (old new : Port K) → Goes picks outcome old (Ok done) new
     → HoldsPacket old.task → Counts (Went outcome (Ok done)) old new
 unfolding is_done
-went_with outcomes.Done done old new r holds =
+went_with picks outcomes.Done done old new r holds =
     let held = packet_in old.task holds in inr (inl (holds, held.0, (r.acts refl).packet held.0 held.1))
-went_with outcome done old new r holds =
+went_with picks outcome done old new r holds =
     let held = packet_in old.task holds in
     inl (stages.Dead 2, ((r.acts refl).packet held.0 held.1).missing (λ e. false≢true (ap is_done e)))
 
-went : {K : Type 0} (outcome : Outcome) (result : Result Unit Unasked) (old new : Port K) → Goes outcome old result new
+went : {K : Type 0} (picks : List Choice → ℕ → Type 0) (outcome : Outcome) (result : Result Unit Unasked) (old new : Port K) → Goes picks outcome old result new
     → Counts (Went outcome result) old new
-went outcome (Err unasked) old new r =
+went picks outcome (Err unasked) old new r =
     inr (inr (ap (λ p. p.untold) r.unasked, ap (λ p. p.more) r.unasked))
-went outcome (Ok done) old new r = elim r.credits [
-  | inl holds ↦ went_with outcome done old new r holds
+went picks outcome (Ok done) old new r = elim r.credits [
+  | inl holds ↦ went_with _ outcome done old new r holds
   | inr more ↦ elim more [ inl same ↦ inr (inr same) | inr dead ↦ inl (stages.Dead dead.0, dead.1) ]
 ]
 
-counts : {K : Type 0} (call : Call) (old new : Port K) → Becomes call old new → Counts call old new
-counts WriteIp old new r = inl (stages.First, r)
-counts ReadIp old new r = elim r.frame
+counts : {K : Type 0} (picks : Picking K) (call : Call) (old new : Port K) → Becomes picks call old new → Counts call old new
+counts picks WriteIp old new r = inl (stages.First, r)
+counts picks ReadIp old new r = elim r.frame
     [ inl e ↦ inr (inr (ap (λ p. p.untold) e, ap (λ p. p.more) e)) | inr dead ↦ inl (stages.Dead dead.0, dead.1) ]
-counts (WriteSa word) old new r = elim r.frame
+counts picks (WriteSa word) old new r = elim r.frame
     [ inl e ↦ inr (inr (ap (λ p. p.untold) e, ap (λ p. p.more) e)) | inr dead ↦ inl (stages.Dead dead.0, dead.1) ]
-counts (Next blocks action bytes) old new r = inr (inr (ap (λ p. p.untold) r.0.frame, ap (λ p. p.more) r.0.frame))
-counts PutAside old new r = inr (inr (ap (λ p. p.untold) r, ap (λ p. p.more) r))
-counts (WasRead bytes result) old new r = elim r.frame
+counts picks (Next blocks action bytes) old new r = inr (inr (ap (λ p. p.untold) r.0.frame, ap (λ p. p.more) r.0.frame))
+counts picks PutAside old new r = inr (inr (ap (λ p. p.untold) r, ap (λ p. p.more) r))
+counts picks (WasRead bytes result) old new r = elim r.frame
     [ inl e ↦ inr (inr (ap (λ p. p.untold) e, ap (λ p. p.more) e)) | inr dead ↦ inl (stages.Dead dead.0, dead.1) ]
-counts (Went outcome result) old new r = went outcome result old new r
-counts LookAgain old new r = inr (inr (ap (λ p. p.untold) r, ap (λ p. p.more) r))
-counts Tick old new r = elim r.either
+counts picks (Went outcome result) old new r = went _ outcome result old new r
+counts picks LookAgain old new r = inr (inr (ap (λ p. p.untold) r, ap (λ p. p.more) r))
+counts picks Tick old new r = elim r.either
     [ inl e ↦ inr (inr (ap (λ p. p.untold) e, ap (λ p. p.more) e)) | inr dead ↦ inl (stages.Dead 9, dead) ]
-counts (VolumeCame m unit (Ok done)) old new r =
+counts picks (VolumeCame m unit (Ok done)) old new r =
     inr (inr (ap (λ p. p.untold) (r.came refl), ap (λ p. p.more) (r.came refl)))
-counts (VolumeCame m unit (Err fault)) old new r =
+counts picks (VolumeCame m unit (Err fault)) old new r =
     inr (inr (ap (λ p. p.untold) r.refused, ap (λ p. p.more) r.refused))
-counts (VolumeWent unit result) old new r = inr (inr (ap (λ p. p.untold) r.frame, ap (λ p. p.more) r.frame))
-counts (Protect protected unit result) old new r =
+counts picks (VolumeWent unit result) old new r = inr (inr (ap (λ p. p.untold) r.frame, ap (λ p. p.more) r.frame))
+counts picks (Protect protected unit result) old new r =
     inr (inr (ap (λ p. p.untold) r.frame, ap (λ p. p.more) r.frame))
 
 -- ---- the law
 
 -- what is told of a packet that was written
-written : {K : Type 0} (call : Call) (old new : Port K) → IsWritten call old → Becomes call old new
+written : {K : Type 0} (picks : Picking K) (call : Call) (old new : Port K) → IsWritten call old → Becomes picks call old new
     → (slot : Descriptor) × WritesOut outcomes.Done slot old new
-written (Went outcomes.Done (Ok done)) old new holds r =
+written picks (Went outcomes.Done (Ok done)) old new holds r =
     let held = packet_in old.task holds in (held.0, (r.acts refl).packet held.0 held.1)
-written call old new holds r = absurd holds
+written picks call old new holds r = absurd holds
 
 more_after : {K : Type 0} (call : Call) (old new : Port K) → Counts call old new → new.more ≡ old.more
 more_after call old new counted = elim counted [
@@ -80,12 +80,12 @@ more_after call old new counted = elim counted [
   | inr more ↦ elim more [ inl w ↦ ap (λ p. p.more) (w.2.done refl) | inr keeps ↦ keeps.1 ]
 ]
 
-pub all_but_one : {K : Type 0} (hardware : Hardware) (credits : ℕ) (controller : Holdings K) (start p : Port K)
-    (calls : List Call) → IsMadeOf hardware credits controller start → Answered start calls p → p.more + 1 ≡ credits
-all_but_one hardware credits controller start p [] made e = ap (λ q. q.more + 1) e ∙ made.credit
-all_but_one hardware credits controller start p (call ∷ calls) made a =
-    ap (λ m. m + 1) (more_after call a.0 p (counts call a.0 p a.2))
-    ∙ all_but_one hardware credits controller start a.0 calls made a.1
+pub all_but_one : {K : Type 0} (picks : Picking K) (hardware : Hardware) (credits : ℕ) (controller : Holdings K) (start p : Port K)
+    (calls : List Call) → IsMadeOf hardware credits controller start → Answered picks start calls p → p.more + 1 ≡ credits
+all_but_one picks hardware credits controller start p [] made e = ap (λ q. q.more + 1) e ∙ made.credit
+all_but_one picks hardware credits controller start p (call ∷ calls) made a =
+    ap (λ m. m + 1) (more_after call a.0 p (counts picks call a.0 p a.2))
+    ∙ all_but_one picks hardware credits controller start a.0 calls made a.1
 
 after_written : {K : Type 0} (old new : Port K) (slot : Descriptor) (told ended : ℕ)
     → WritesOut outcomes.Done slot old new
@@ -93,33 +93,33 @@ after_written : {K : Type 0} (old new : Port K) (slot : Descriptor) (told ended 
     → (told + disk_credits old.untold old.outgoing) + new.untold ≡ new.more + (ended + ends_in old.outgoing)
 after_written old new slot told ended w e = search (arith, min-le_left)
 
-pub tells_its_credits : {K : Type 0} (hardware : Hardware) (credits : ℕ) (controller : Holdings K) (start p : Port K)
-    (calls : List Call) (told ends : ℕ) → IsMadeOf hardware credits controller start → (a : Answered start calls p)
-    → Told start p calls a told ends → told + p.untold ≡ p.more + ends
-tells_its_credits hardware credits controller start p [] told ends made a t =
+pub tells_its_credits : {K : Type 0} (picks : Picking K) (hardware : Hardware) (credits : ℕ) (controller : Holdings K) (start p : Port K)
+    (calls : List Call) (told ends : ℕ) → IsMadeOf hardware credits controller start → (a : Answered picks start calls p)
+    → Told picks start p calls a told ends → told + p.untold ≡ p.more + ends
+tells_its_credits picks hardware credits controller start p [] told ends made a t =
     let untold : p.untold ≡ start.untold = ap (λ q. q.untold) a in
     let more : p.more ≡ start.more = ap (λ q. q.more) a in
     let all : start.untold ≡ start.more = made.untold in
     omega (arith, untold, more, all, t.0, t.1)
-tells_its_credits hardware credits controller start p (call ∷ calls) told ends made a t = elim t [
+tells_its_credits picks hardware credits controller start p (call ∷ calls) told ends made a t = elim t [
   | inl anew ↦
       let untold : p.untold ≡ a.0.more = anew.0.1.untold in
       let more : p.more ≡ a.0.more = anew.0.1.more in
       omega (arith, untold, more, anew.1, anew.2)
   | inr some ↦ elim some [
     | inl w ↦
-        let packet = written call a.0 p w.0 a.2 in
+        let packet = written picks call a.0 p w.0 a.2 in
         ap (λ n. n + p.untold) w.4
         ∙ after_written a.0 p packet.0 w.1 w.2 packet.1
-        (tells_its_credits hardware credits controller start a.0 calls w.1 w.2 made a.1 w.3)
+        (tells_its_credits picks hardware credits controller start a.0 calls w.1 w.2 made a.1 w.3)
         ∙ ap (λ n. p.more + n) (sym w.5)
-    | inr none ↦ elim (counts call a.0 p a.2) [
+    | inr none ↦ elim (counts picks call a.0 p a.2) [
       | inl forgotten ↦ absurd (none.0 (inl forgotten))
       | inr more ↦ elim more [
         | inl w ↦ absurd (none.0 (inr w.0))
         | inr keeps ↦
             ap (λ n. told + n) keeps.0
-            ∙ tells_its_credits hardware credits controller start a.0 calls told ends made a.1 none.1
+            ∙ tells_its_credits picks hardware credits controller start a.0 calls told ends made a.1 none.1
             ∙ ap (λ m. m + ends) (sym keeps.1)
       ]
     ]

@@ -1,5 +1,5 @@
 -- A port has a credit for each message of a host that has no more commands outstanding than it may.
-use Rattle.mscp_port.proofs.Common.{◌≡◌, ◌≢◌, ◌∙◌, ◌+◌, ◌-◌, ◌<◌, ◌≤◌, ℕ, Bool, true, false, List, [], ◌∷◌, length, Option, None, Some, inl, inr, refl, ap, subst, arith, Result, Ok, Err, false≢true, length-append, length-map, none-some, eq_false, First, SendFault, Sent, refusal, Holdings, answer_to_message, balance_of, outstanding_of, waiting_on, numbers, numbers_ended, of, credits_of, Hardware, Port, IsMadeOf, Ticks, Answered, Becomes, Call, HasCredit, WriteIp, ReadIp, WriteSa, Next, PutAside, WasRead, Went, LookAgain, Tick, Protect, VolumeCame, VolumeWent}
+use Rattle.mscp_port.proofs.Common.{◌≡◌, ◌≢◌, ◌∙◌, ◌+◌, ◌-◌, ◌<◌, ◌≤◌, ℕ, Bool, true, false, List, [], ◌∷◌, length, Option, None, Some, inl, inr, refl, ap, subst, arith, Result, Ok, Err, false≢true, length-append, length-map, none-some, eq_false, First, SendFault, Sent, refusal, Holdings, answer_to_message, balance_of, outstanding_of, waiting_on, numbers, numbers_ended, of, credits_of, Hardware, Port, IsMadeOf, Ticks, Answered, Becomes, Call, HasCredit, WriteIp, ReadIp, WriteSa, Next, PutAside, WasRead, Went, LookAgain, Tick, Protect, VolumeCame, VolumeWent, Picking}
 use Rattle.mscp_controller.specs.declared.entry.SendFault.TheVariants as faults
 
 -- ---- the settings stay
@@ -10,27 +10,27 @@ ticked old new r = elim r.either [
   | inr dead ↦ ap (λ h. h.settings) dead.controller
 ]
 
-pub settings_stay : {K : Type 0} (call : Call) (old new : Port K) → Becomes call old new
+pub settings_stay : {K : Type 0} (picks : Picking K) (call : Call) (old new : Port K) → Becomes picks call old new
     → new.controller.settings ≡ old.controller.settings
-settings_stay WriteIp old new r = ap (λ h. h.settings) r.controller
-settings_stay ReadIp old new r = r.settings
-settings_stay (WriteSa word) old new r = r.settings
-settings_stay (Next blocks action bytes) old new r = r.0.settings
-settings_stay PutAside old new r = ap (λ p. p.controller.settings) r
-settings_stay (WasRead bytes result) old new r = r.settings
-settings_stay (Went outcome result) old new r = r.settings
-settings_stay LookAgain old new r = ap (λ p. p.controller.settings) r
-settings_stay Tick old new r = ticked old new r
-settings_stay (VolumeCame m unit (Ok done)) old new r = ap (λ p. p.controller.settings) (r.came refl)
-settings_stay (VolumeCame m unit (Err fault)) old new r = ap (λ p. p.controller.settings) r.refused
-settings_stay (VolumeWent unit result) old new r = ap (λ p. p.controller.settings) r.frame
-settings_stay (Protect protected unit result) old new r = ap (λ p. p.controller.settings) r.frame
+settings_stay picks WriteIp old new r = ap (λ h. h.settings) r.controller
+settings_stay picks ReadIp old new r = r.settings
+settings_stay picks (WriteSa word) old new r = r.settings
+settings_stay picks (Next blocks action bytes) old new r = r.0.settings
+settings_stay picks PutAside old new r = ap (λ p. p.controller.settings) r
+settings_stay picks (WasRead bytes result) old new r = r.settings
+settings_stay picks (Went outcome result) old new r = r.settings
+settings_stay picks LookAgain old new r = ap (λ p. p.controller.settings) r
+settings_stay picks Tick old new r = ticked old new r
+settings_stay picks (VolumeCame m unit (Ok done)) old new r = ap (λ p. p.controller.settings) (r.came refl)
+settings_stay picks (VolumeCame m unit (Err fault)) old new r = ap (λ p. p.controller.settings) r.refused
+settings_stay picks (VolumeWent unit result) old new r = ap (λ p. p.controller.settings) r.frame
+settings_stay picks (Protect protected unit result) old new r = ap (λ p. p.controller.settings) r.frame
 
-pub settings_still : {K : Type 0} (start p : Port K) (calls : List Call) → Answered start calls p
+pub settings_still : {K : Type 0} (picks : Picking K) (start p : Port K) (calls : List Call) → Answered picks start calls p
     → p.controller.settings ≡ start.controller.settings
-settings_still start p [] e = ap (λ q. q.controller.settings) e
-settings_still start p (call ∷ earlier) a =
-    settings_stay call a.0 p a.2 ∙ settings_still start a.0 earlier a.1
+settings_still picks start p [] e = ap (λ q. q.controller.settings) e
+settings_still picks start p (call ∷ earlier) a =
+    settings_stay picks call a.0 p a.2 ∙ settings_still picks start a.0 earlier a.1
 
 -- ---- a message that is refused for want of a credit finds one at most
 
@@ -66,14 +66,14 @@ outstanding_count h =
 two_left : (all before now held credits : ℕ) → now ≡ all → credits < all - before → held < credits → 2 ≤ now - held
 two_left all before now held credits same spare few = omega (arith, same, spare, few)
 
-pub has_credit : {K : Type 0} (hardware : Hardware) (credits : ℕ) (controller : Holdings K) (start p : Port K)
+pub has_credit : {K : Type 0} (picks : Picking K) (hardware : Hardware) (credits : ℕ) (controller : Holdings K) (start p : Port K)
     (calls : List Call) (bytes : List ℕ) → IsMadeOf hardware credits controller start
-    → credits < balance_of First controller → Answered start calls p
+    → credits < balance_of First controller → Answered picks start calls p
     → length (outstanding_of First p.controller) < credits → HasCredit p.controller bytes
 unfolding is_of_credit
-has_credit hardware credits controller start p calls bytes made spare a few =
+has_credit picks hardware credits controller start p calls bytes made spare a few =
     let settings : p.controller.settings ≡ controller.settings =
-    settings_still start p calls a ∙ ap (λ h. h.settings) made.over in
+    settings_still picks start p calls a ∙ ap (λ h. h.settings) made.over in
     let held : ℕ = length (waiting_on First p.controller.waiting) + length (of First p.controller.untaken) in
     let left : held < credits = subst (λ n. n < credits) (outstanding_count p.controller) few in
     let two : 2 ≤ balance_of First p.controller =

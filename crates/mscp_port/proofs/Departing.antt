@@ -1,5 +1,5 @@
 -- What goes out of a port over a whole history.
-use Rattle.mscp_port.proofs.Common.{◌≡◌, ◌⊎◌, ◌∙◌, ◌++◌, ◌∷◌, [], ℕ, List, Option, None, Some, IfSome, inl, inr, ap, sym, subst, arith, option_to_list, append-nil, none-some, Holdings, Hardware, Outgoing, Port, Responses, Descriptor, Dies, IsMadeOf, IsDelivered, IsForgotten, begins, begun, gone, leaves, Answered, Becomes, Call, NamesPacket, reads, Says, in_hand}
+use Rattle.mscp_port.proofs.Common.{◌≡◌, ◌⊎◌, ◌∙◌, ◌++◌, ◌∷◌, [], ℕ, List, Option, None, Some, IfSome, inl, inr, ap, sym, subst, arith, option_to_list, append-nil, none-some, Holdings, Hardware, Outgoing, Port, Responses, Descriptor, Dies, IsMadeOf, IsDelivered, IsForgotten, begins, begun, gone, leaves, Answered, Becomes, Call, NamesPacket, reads, Says, in_hand, Picking}
 use Rattle.mscp_port.specs.declared.stage.Stage.TheVariants as stages
 use Rattle.mscp_port.specs.declared.task.Task.TheVariants as tasks
 use Rattle.mscp_port.proofs.Loads.{looks_or_not}
@@ -25,8 +25,8 @@ dead old new d = forgotten old new (stages.Dead d.0, d.1)
 said : {K : Type 0} (old new : Port K) → Says old new → Passes old new
 said old new says = search (arith, looks_or_not old)
 
-passes : {K : Type 0} (call : Call) (old new : Port K) → Becomes call old new → Passes old new
-passes call old new h3 = grind (arith, forgotten, dead, said)
+passes : {K : Type 0} (picks : Picking K) (call : Call) (old new : Port K) → Becomes picks call old new → Passes old new
+passes picks call old new h3 = grind (arith, forgotten, dead, said)
 
 -- ---- the law of order
 
@@ -36,14 +36,14 @@ in_step : (xs ys : List Outgoing) (before after : Option Outgoing) (Gone : Type 
     → xs ++ begins before after ≡ (ys ++ leaves before after) ++ option_to_list after
 in_step xs ys before after Gone h5 h6 = grind (arith, append-nil, none-some)
 
-pub speaks_in_order : {K : Type 0} (hardware : Hardware) (credits : ℕ) (controller : Holdings K) (start p : Port K)
-    (calls : List Call) → IsMadeOf hardware credits controller start → (a : Answered start calls p)
-    → begun start p calls a ≡ gone start p calls a ++ option_to_list p.outgoing
-speaks_in_order hardware credits controller start p [] made e = search arith
-speaks_in_order hardware credits controller start p (call ∷ calls) made a =
-    in_step (begun start a.0 calls a.1) (gone start a.0 calls a.1) a.0.outgoing p.outgoing
-    (IsForgotten a.0 p ⊎ IsReturned a.0) (passes call a.0 p a.2)
-    (speaks_in_order hardware credits controller start a.0 calls made a.1)
+pub speaks_in_order : {K : Type 0} (picks : Picking K) (hardware : Hardware) (credits : ℕ) (controller : Holdings K) (start p : Port K)
+    (calls : List Call) → IsMadeOf hardware credits controller start → (a : Answered picks start calls p)
+    → begun picks start p calls a ≡ gone picks start p calls a ++ option_to_list p.outgoing
+speaks_in_order picks hardware credits controller start p [] made e = search arith
+speaks_in_order picks hardware credits controller start p (call ∷ calls) made a =
+    in_step (begun picks start a.0 calls a.1) (gone picks start a.0 calls a.1) a.0.outgoing p.outgoing
+    (IsForgotten a.0 p ⊎ IsReturned a.0) (passes picks call a.0 p a.2)
+    (speaks_in_order picks hardware credits controller start a.0 calls made a.1)
 
 -- ---- the law of slots
 
@@ -51,28 +51,28 @@ named_of : (o : Option ℕ) (word : ℕ) (bs : List (List ℕ)) → o ≡ Some w
     → NamesPacket bs word
 named_of o word bs e h = subst (λ x. IfSome x (λ w. NamesPacket bs w)) e h
 
-delivered : {K : Type 0} (hardware : Hardware) (credits : ℕ) (controller : Holdings K) (start old : Port K)
-    (calls : List Call) → IsMadeOf hardware credits controller start → Answered start calls old → IsReturned old
+delivered : {K : Type 0} (picks : Picking K) (hardware : Hardware) (credits : ℕ) (controller : Holdings K) (start old : Port K)
+    (calls : List Call) → IsMadeOf hardware credits controller start → Answered picks start calls old → IsReturned old
     → IsDelivered calls old
-delivered hardware credits controller start old calls made a returned =
+delivered picks hardware credits controller start old calls made a returned =
     search (
       arith,
-      named_of (in_hand old.task) returned.0.word (reads calls) (ap in_hand returned.1) (knows hardware
+      named_of (in_hand old.task) returned.0.word (reads calls) (ap in_hand returned.1) (knows picks hardware
           credits controller start old calls made a).packet,
-      knows hardware credits controller start old calls made a,
+      knows picks hardware credits controller start old calls made a,
     )
 
-pub fills_its_slot : {K : Type 0} (hardware : Hardware) (credits : ℕ) (controller : Holdings K) (start p : Port K)
+pub fills_its_slot : {K : Type 0} (picks : Picking K) (hardware : Hardware) (credits : ℕ) (controller : Holdings K) (start p : Port K)
     (call : Call) (calls : List Call) (o : Outgoing) → IsMadeOf hardware credits controller start
-    → (a : Answered start (call ∷ calls) p) → a.0.outgoing ≡ Some o → p.outgoing ≡ None
+    → (a : Answered picks start (call ∷ calls) p) → a.0.outgoing ≡ Some o → p.outgoing ≡ None
     → IsForgotten a.0 p ⊎ IsDelivered calls a.0
-fills_its_slot hardware credits controller start p call calls o made a some none = elim (passes call a.0 p a.2) [
+fills_its_slot picks hardware credits controller start p call calls o made a some none = elim (passes picks call a.0 p a.2) [
   | inl same ↦ absurd (none-some o (sym none ∙ same ∙ some))
   | inr more ↦ elim more [
     | inl nothing ↦ absurd (none-some o (sym nothing ∙ some))
     | inr left ↦ elim left.1 [
       | inl f ↦ inl f
-      | inr returned ↦ inr (delivered hardware credits controller start a.0 calls made a.1 returned)
+      | inr returned ↦ inr (delivered picks hardware credits controller start a.0 calls made a.1 returned)
     ]
   ]
 ]

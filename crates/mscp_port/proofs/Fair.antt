@@ -1,5 +1,5 @@
 -- Between two polls comes a step of a command, if one may be served.
-use Rattle.mscp_port.proofs.Common.{◌≡◌, ◌≢◌, ◌⊎◌, ◌∙◌, ℕ, Bool, true, false, List, [], ◌∷◌, Option, None, Some, Result, Ok, Err, inl, inr, refl, ap, sym, arith, false≢true, none-some, Holdings, Hardware, Port, Action, Descriptor, Record, Sent, SendFault, Side, Task, IsAsNew, IsDue, IsMadeOf, IsForgotten, Answered, Becomes, Call, WriteIp, ReadIp, WriteSa, Next, PutAside, WasRead, Went, LookAgain, Tick, VolumeCame, VolumeWent, Protect, Hears, SeesText, Sends, Wants, answered_to, own_end_of, ◌&&◌, not, nat_eq, length, if◌then◌else◌, MatchOption, num, is_owned, Responses}
+use Rattle.mscp_port.proofs.Common.{◌≡◌, ◌≢◌, ◌⊎◌, ◌∙◌, ℕ, Bool, true, false, List, [], ◌∷◌, Option, None, Some, Result, Ok, Err, inl, inr, refl, ap, sym, arith, false≢true, none-some, Holdings, Hardware, Port, Action, Descriptor, Record, Sent, SendFault, Side, Task, IsAsNew, IsDue, IsMadeOf, IsForgotten, Answered, Becomes, Call, WriteIp, ReadIp, WriteSa, Next, PutAside, WasRead, Went, LookAgain, Tick, VolumeCame, VolumeWent, Protect, Hears, SeesText, Sends, Wants, answered_to, own_end_of, ◌&&◌, not, nat_eq, length, if◌then◌else◌, MatchOption, num, is_owned, Responses, Picking, Choice}
 use Rattle.std.specs.Prelude.{◌==◌}
 use Rattle.mscp_port.specs.Fair.{HearsPoll, IsOwed, TellsStep}
 use Rattle.mscp_controller.specs.declared.entry.Sent.TheVariants as sents
@@ -81,61 +81,61 @@ reading bytes old new (tasks.Header slot) at r alive owes =
     header_keeps (header_fault (num bytes 0 4)) slot bytes old new ((r.sees refl).header slot at) alive owes
 reading bytes old new t at r alive owes = grind arith
 
-stays : {K : Type 0} (call : Call) (old new : Port K) → Becomes call old new
+stays : {K : Type 0} (picks : Picking K) (call : Call) (old new : Port K) → Becomes picks call old new
     → (IsForgotten old new ⊎ TellsStep call old → ⊥) → old.owes_block ≡ true → new.owes_block ≡ true
-stays (WasRead bytes (Ok done)) old new r neither owes =
+stays picks (WasRead bytes (Ok done)) old new r neither owes =
     reading bytes old new old.task refl r (λ f. neither (inl f)) owes
-stays (WasRead bytes (Err unasked)) old new r neither owes = ap (λ p. p.owes_block) r.unasked ∙ owes
-stays WriteIp old new r neither owes = absurd (neither (inl (stages.First, r)))
-stays ReadIp old new r neither owes = elim r.frame [
+stays picks (WasRead bytes (Err unasked)) old new r neither owes = ap (λ p. p.owes_block) r.unasked ∙ owes
+stays picks WriteIp old new r neither owes = absurd (neither (inl (stages.First, r)))
+stays picks ReadIp old new r neither owes = elim r.frame [
   | inl e ↦ ap (λ p. p.owes_block) e ∙ owes
   | inr d ↦ absurd (neither (inl (stages.Dead d.0, d.1)))
 ]
-stays (WriteSa word) old new r neither owes = elim r.frame [
+stays picks (WriteSa word) old new r neither owes = elim r.frame [
   | inl e ↦ ap (λ p. p.owes_block) e ∙ owes
   | inr d ↦ absurd (neither (inl (stages.Dead d.0, d.1)))
 ]
-stays (Next blocks action bytes) old new r neither owes = ap (λ p. p.owes_block) r.0.frame ∙ owes
-stays PutAside old new r neither owes = ap (λ p. p.owes_block) r ∙ owes
-stays (Went outcome (Ok done)) old new r neither owes = elim r.commands [
+stays picks (Next blocks action bytes) old new r neither owes = ap (λ p. p.owes_block) r.0.frame ∙ owes
+stays picks PutAside old new r neither owes = ap (λ p. p.owes_block) r ∙ owes
+stays picks (Went outcome (Ok done)) old new r neither owes = elim r.commands [
   | inl e ↦ e.owes ∙ owes
   | inr more ↦ elim more [
     | inl block ↦ absurd (neither (inr block.0))
     | inr d ↦ absurd (neither (inl (stages.Dead d.0, d.1)))
   ]
 ]
-stays (Went outcome (Err unasked)) old new r neither owes = ap (λ p. p.owes_block) r.unasked ∙ owes
-stays LookAgain old new r neither owes = ap (λ p. p.owes_block) r ∙ owes
-stays Tick old new r neither owes = elim r.either [
+stays picks (Went outcome (Err unasked)) old new r neither owes = ap (λ p. p.owes_block) r.unasked ∙ owes
+stays picks LookAgain old new r neither owes = ap (λ p. p.owes_block) r ∙ owes
+stays picks Tick old new r neither owes = elim r.either [
   | inl e ↦ ap (λ p. p.owes_block) e ∙ owes
   | inr d ↦ absurd (neither (inl (stages.Dead 9, d)))
 ]
-stays (VolumeCame m unit (Ok done)) old new r neither owes = ap (λ p. p.owes_block) (r.came refl) ∙ owes
-stays (VolumeCame m unit (Err fault)) old new r neither owes = ap (λ p. p.owes_block) r.refused ∙ owes
-stays (VolumeWent unit result) old new r neither owes = ap (λ p. p.owes_block) r.frame ∙ owes
-stays (Protect protected unit result) old new r neither owes = ap (λ p. p.owes_block) r.frame ∙ owes
+stays picks (VolumeCame m unit (Ok done)) old new r neither owes = ap (λ p. p.owes_block) (r.came refl) ∙ owes
+stays picks (VolumeCame m unit (Err fault)) old new r neither owes = ap (λ p. p.owes_block) r.refused ∙ owes
+stays picks (VolumeWent unit result) old new r neither owes = ap (λ p. p.owes_block) r.frame ∙ owes
+stays picks (Protect protected unit result) old new r neither owes = ap (λ p. p.owes_block) r.frame ∙ owes
 
 polled : {K : Type 0} (slot : Descriptor) (reference : ℕ) (aborted : Option ℕ) (bytes : List ℕ) (old new : Port K)
     → Sends slot (sents.Answered reference aborted) bytes old new → is_poll bytes ≡ true → new.owes_block ≡ true
 polled slot reference aborted bytes old new sends is =
     ap (λ p. p.owes_block) sends.frame ∙ ap (λ (b : Bool). if b then true else old.owes_block) is
 
-heard : {K : Type 0} (call : Call) (old new : Port K) → Becomes call old new → HearsPoll call old
+heard : {K : Type 0} (picks : Picking K) (call : Call) (old new : Port K) → Becomes picks call old new → HearsPoll call old
     → new.owes_block ≡ true
-heard (WasRead bytes (Ok done)) old new r is =
+heard picks (WasRead bytes (Ok done)) old new r is =
     let t = is.text in
     let a = is.answered in
     polled t.0 a.0 a.1 bytes old new (((r.sees refl).text t.0 t.1 t.2 t.3).sent (sents.Answered a.0 a.1) t.4 a.2) is.poll
-heard call old new r is = absurd is
+heard picks call old new r is = absurd is
 
 -- ---- a history
 
-owed : {K : Type 0} (start p : Port K) (calls : List Call) → (a : Answered start calls p) → IsOwed start p calls a
+owed : {K : Type 0} (picks : Picking K) (start p : Port K) (calls : List Call) → (a : Answered picks start calls p) → IsOwed picks start p calls a
     → p.owes_block ≡ true
-owed start p [] a is = absurd is
-owed start p (call ∷ calls) a is = elim is [
-  | inl hears ↦ heard call a.0 p a.2 hears
-  | inr more ↦ stays call a.0 p a.2 more.0 (owed start a.0 calls a.1 more.1)
+owed picks start p [] a is = absurd is
+owed picks start p (call ∷ calls) a is = elim is [
+  | inl hears ↦ heard picks call a.0 p a.2 hears
+  | inr more ↦ stays picks call a.0 p a.2 more.0 (owed picks start a.0 calls a.1 more.1)
 ]
 
 -- ---- the law
@@ -174,9 +174,9 @@ nothing_waits owes [] is e = refl
 nothing_waits owes (r ∷ rs) is e = search (arith, false≢true)
 
 -- what is due is a slot of commands only where a block isn't
-not_first : {K : Type 0} (old p : Port K) (action : Action) → Wants true old action p → old.task ≡ tasks.Free
+not_first : {K : Type 0} (picks : List Choice → ℕ → Type 0) (old p : Port K) (action : Action) → Wants picks true old action p → old.task ≡ tasks.Free
     → p.task ≡ tasks.Slot Commands → block_is_due true p ≡ false
-not_first old p action wants free slot = by (block_is_due true p) refl
+not_first picks old p action wants free slot = by (block_is_due true p) refl
   where
     alive : (code : ℕ) → old.stage ≢ stages.Dead code
     alive code e = not_free (sym slot ∙ (ap (λ q. q.task) (wants.dead code e).1 ∙ free))
@@ -185,10 +185,10 @@ not_first old p action wants free slot = by (block_is_due true p) refl
     by false e = refl
     by true e = absurd (block_due p p.task (wants.due alive free) slot e)
 
-pub serves_between_polls : {K : Type 0} (hardware : Hardware) (credits : ℕ) (controller : Holdings K) (start p : Port K)
+pub serves_between_polls : {K : Type 0} (picks : Picking K) (hardware : Hardware) (credits : ℕ) (controller : Holdings K) (start p : Port K)
     (calls : List Call) (action : Action) (bytes : List ℕ) → IsMadeOf hardware credits controller start
-    → (a : Answered start (Next true action bytes ∷ calls) p) → a.0.task ≡ tasks.Free → IsOwed start a.0 calls a.1
+    → (a : Answered picks start (Next true action bytes ∷ calls) p) → a.0.task ≡ tasks.Free → IsOwed picks start a.0 calls a.1
     → p.task ≡ tasks.Slot Commands → p.controller.waiting ≡ []
-serves_between_polls hardware credits controller start p calls action bytes made a free is slot =
-    let owes = ap (λ q. q.owes_block) a.2.0.frame ∙ owed start a.0 calls a.1 is in
-    nothing_waits p.owes_block p.controller.waiting owes (not_first a.0 p action a.2.0 free slot)
+serves_between_polls picks hardware credits controller start p calls action bytes made a free is slot =
+    let owes = ap (λ q. q.owes_block) a.2.0.frame ∙ owed picks start a.0 calls a.1 is in
+    nothing_waits p.owes_block p.controller.waiting owes (not_first _ a.0 p action a.2.0 free slot)

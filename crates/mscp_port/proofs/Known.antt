@@ -1,5 +1,5 @@
 -- What a port knows stays among what it knew.
-use Rattle.mscp_port.proofs.Common.{◌≡◌, ◌⊎◌, ◌∙◌, ℕ, true, List, Option, None, Some, Contains, IfSome, Result, ap, sym, get_or, arith, none-some, position, position-Some, Connection, Buffer, Port, Side, Descriptor, Task, KeepsSaying, Says, TakesEnd, TellsNews, in_hand, ChangesByActing, StaysInStage, is_of, Verdict}
+use Rattle.mscp_port.proofs.Common.{◌≡◌, ◌⊎◌, ◌∙◌, ℕ, true, List, Option, None, Some, Contains, IfSome, Result, ap, sym, get_or, arith, none-some, position, position-Some, Connection, Buffer, Port, Side, Descriptor, Task, KeepsSaying, Says, TakesEnd, TellsNews, in_hand, ChangesByActing, StaysInStage, is_of, Verdict, Choice}
 use Rattle.std.specs.Prelude.{IfOk}
 use Rattle.mscp_port.specs.Buffers.{IsInBuffer}
 use Rattle.mscp_port.specs.Ports.{IsInSomeBuffer}
@@ -11,9 +11,9 @@ pub held_on : (o before : Option ℕ) (w : ℕ) (Q : ℕ → Type 0) → before 
 held_on o before w Q h4 h5 = grind arith
 
 -- where nothing but the task in hand changes, only what may change by an action does
-pub unsettled : {K : Type 0} (old new : Port K) → new ≡ record old { task = tasks.Free }
-    → ChangesByActing old new × StaysInStage old new
-unsettled old new e = search arith
+pub unsettled : {K : Type 0} (picks : List Choice → ℕ → Type 0) (old new : Port K) → new ≡ record old { task = tasks.Free }
+    → ChangesByActing picks old new × StaysInStage old new
+unsettled picks old new e = search arith
 
 -- what goes out doesn't depend on what is in hand
 keeps_on : {K : Type 0} (old new : Port K) (t : Task) → KeepsSaying old new → KeepsSaying old (record new { task = t })

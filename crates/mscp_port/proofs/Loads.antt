@@ -1,5 +1,5 @@
 -- What was told of the volumes is what a port knows of them.
-use Rattle.mscp_port.proofs.Common.{subst, ◌≡◌, ◌≢◌, ◌⊎◌, ◌∙◌, ◌<◌, ℕ, Bool, true, false, cond, if◌then◌else◌, List, [], ◌∷◌, Option, None, Some, inl, inr, refl, ap, sym, length, get_or, set, arith, Result, Ok, Err, nat_eq, cases_eq, cases_lt, eqb-true, false≢true, get_or-set_other, get_or-set_same, get_or_past, length-set, position-Some, none-some, eq_false, eq_true, Shape, one_block, End, MoveKind, Connection, Holdings, Buffer, Hardware, Port, NoUnit, Stage, Task, Volume, writes, Changes, PutsIn, IsMadeOf, Answered, Becomes, Call, WriteIp, ReadIp, WriteSa, Next, PutAside, WasRead, Went, LookAgain, Tick, Protect, VolumeCame, VolumeWent, is_loaded, is_locked, GoesOnWithBlock, volumes_after, IsNews, LooksForOut, Says, IsAsNew, no_volume, place_in, protected_by, volume_at, volume_changed, volume_heeded, volume_put, volumes_heeded, volumes_with}
+use Rattle.mscp_port.proofs.Common.{subst, ◌≡◌, ◌≢◌, ◌⊎◌, ◌∙◌, ◌<◌, ℕ, Bool, true, false, cond, if◌then◌else◌, List, [], ◌∷◌, Option, None, Some, inl, inr, refl, ap, sym, length, get_or, set, arith, Result, Ok, Err, nat_eq, cases_eq, cases_lt, eqb-true, false≢true, get_or-set_other, get_or-set_same, get_or_past, length-set, position-Some, none-some, eq_false, eq_true, Shape, one_block, End, MoveKind, Connection, Holdings, Buffer, Hardware, Port, NoUnit, Stage, Task, Volume, writes, Changes, PutsIn, IsMadeOf, Answered, Becomes, Call, WriteIp, ReadIp, WriteSa, Next, PutAside, WasRead, Went, LookAgain, Tick, Protect, VolumeCame, VolumeWent, is_loaded, is_locked, GoesOnWithBlock, volumes_after, IsNews, LooksForOut, Says, IsAsNew, no_volume, place_in, protected_by, volume_at, volume_changed, volume_heeded, volume_put, volumes_heeded, volumes_with, Picking, Choice}
 use Rattle.mscp_port.specs.declared.action.Action.TheVariants as actions
 use Rattle.mscp_port.specs.declared.stage.Stage.TheVariants as stages
 use Rattle.mscp_port.specs.declared.task.Task.TheVariants as tasks
@@ -8,6 +8,7 @@ use Rattle.mscp_port.specs.declared.volumes.VolumeFault.{VolumeFault}
 use Rattle.mscp_port.specs.Loaded.{blocks_in}
 use Rattle.mscp_port.specs.Volumes.{volume_protected}
 use Rattle.mscp_port.proofs.Credits.{settings_stay}
+use Rattle.mscp_port.proofs.Begun.{taken_or_not}
 
 -- ---- a volume
 
@@ -56,8 +57,8 @@ after_end : (units : List Shape) (bs : List Buffer) (via : Connection) (ended : 
     → AreAsBefore vs (volumes_after units bs via ended vs)
 after_end units bs via ended vs = grind (arith, the_same, heeded_at)
 
-with_block : {K : Type 0} (old new : Port K) → GoesOnWithBlock old new → AreAsBefore old.volumes new.volumes
-with_block old new either = search (arith, the_same, after_end)
+with_block : {K : Type 0} (picks : List Choice → ℕ → Type 0) (old new : Port K) → GoesOnWithBlock picks old new → AreAsBefore old.volumes new.volumes
+with_block picks old new goes = search (arith, the_same, after_end, taken_or_not picks old new goes)
 
 -- ---- news
 
@@ -138,14 +139,14 @@ put_here : (vs : List Volume) (m : Medium) (place : ℕ)
     → Agrees true m.is_protected m.size (volume_at (volumes_with (volume_put m) (Some place) vs) place)
 put_here vs m place = search (arith, at_set vs place (volume_put m (volume_at vs place)), agrees_none)
 
-came : {K : Type 0} (unit : ℕ) (calls : List Call) (m : Medium) (other : ℕ) (result : Result Unit VolumeFault)
+came : {K : Type 0} (picks : Picking K) (unit : ℕ) (calls : List Call) (m : Medium) (other : ℕ) (result : Result Unit VolumeFault)
     (old new : Port K) → PutsIn m other old result new → Agree unit calls old
     → Agree unit (VolumeCame m other result ∷ calls) new
-came unit calls m other (Ok done) old new r a =
+came picks unit calls m other (Ok done) old new r a =
     let is = r.came refl in
     search (arith, is, cases_eq other unit, eq_true, put_here, eq_false, elsewhere)
-came unit calls m other (Err fault) old new r a =
-    agree_still unit calls old new (settings_stay (VolumeCame m other (Err fault)) old new r)
+came picks unit calls m other (Err fault) old new r a =
+    agree_still unit calls old new (settings_stay picks (VolumeCame m other (Err fault)) old new r)
     (the_same old.volumes new.volumes (ap (λ (p : Port _). p.volumes) r.refused)) a
 
 -- or that of this one went
@@ -176,49 +177,49 @@ guarded : {K : Type 0} (unit : ℕ) (calls : List Call) (protected : Bool) (othe
 guarded unit calls protected other result old new r a =
     search (arith, cases_eq other unit, eq_true, guarded_here, eq_false, elsewhere)
 
-agree_after : {K : Type 0} (unit : ℕ) (call : Call) (calls : List Call) (old new : Port K) → Becomes call old new
+agree_after : {K : Type 0} (picks : Picking K) (unit : ℕ) (call : Call) (calls : List Call) (old new : Port K) → Becomes picks call old new
     → Agree unit calls old → Agree unit (call ∷ calls) new
-agree_after unit WriteIp calls old new r a =
-    agree_still unit calls old new (settings_stay WriteIp old new r) (as_new stages.First old new r) a
-agree_after unit ReadIp calls old new r a =
-    search (arith, settings_stay ReadIp old new r, agree_still, the_same, as_new)
-agree_after unit (WriteSa word) calls old new r a =
-    search (arith, settings_stay (WriteSa word) old new r, agree_still, the_same, as_new)
-agree_after unit (Next blocks action bytes) calls old new r a =
-    agree_still unit calls old new (settings_stay (Next blocks action bytes) old new r) (said old new r.0.says) a
-agree_after unit PutAside calls old new r a = search (arith, settings_stay PutAside old new r, agree_still, the_same)
-agree_after unit (WasRead bytes result) calls old new r a =
-    search (arith, settings_stay (WasRead bytes result) old new r, agree_still, the_same, as_new)
-agree_after unit (Went outcome result) calls old new r a =
-    agree_still unit calls old new (settings_stay (Went outcome result) old new r) (elim r.commands [
+agree_after picks unit WriteIp calls old new r a =
+    agree_still unit calls old new (settings_stay picks WriteIp old new r) (as_new stages.First old new r) a
+agree_after picks unit ReadIp calls old new r a =
+    search (arith, settings_stay picks ReadIp old new r, agree_still, the_same, as_new)
+agree_after picks unit (WriteSa word) calls old new r a =
+    search (arith, settings_stay picks (WriteSa word) old new r, agree_still, the_same, as_new)
+agree_after picks unit (Next blocks action bytes) calls old new r a =
+    agree_still unit calls old new (settings_stay picks (Next blocks action bytes) old new r) (said old new r.0.says) a
+agree_after picks unit PutAside calls old new r a = search (arith, settings_stay picks PutAside old new r, agree_still, the_same)
+agree_after picks unit (WasRead bytes result) calls old new r a =
+    search (arith, settings_stay picks (WasRead bytes result) old new r, agree_still, the_same, as_new)
+agree_after picks unit (Went outcome result) calls old new r a =
+    agree_still unit calls old new (settings_stay picks (Went outcome result) old new r) (elim r.commands [
       | inl e ↦ the_same old.volumes new.volumes e.volumes
       | inr more ↦ elim more
-          [ inl block ↦ with_block old new block.1 | inr dead ↦ as_new (stages.Dead dead.0) old new dead.1 ]
+          [ inl block ↦ with_block _ old new block.1 | inr dead ↦ as_new (stages.Dead dead.0) old new dead.1 ]
     ]) a
-agree_after unit LookAgain calls old new r a = search (arith, settings_stay LookAgain old new r, agree_still, the_same)
-agree_after unit Tick calls old new r a = search (arith, settings_stay Tick old new r, agree_still, the_same, as_new)
-agree_after unit (VolumeCame m other result) calls old new r a = came unit calls m other result old new r a
-agree_after unit (VolumeWent other result) calls old new r a = gone unit calls other result old new r a
-agree_after unit (Protect protected other result) calls old new r a =
+agree_after picks unit LookAgain calls old new r a = search (arith, settings_stay picks LookAgain old new r, agree_still, the_same)
+agree_after picks unit Tick calls old new r a = search (arith, settings_stay picks Tick old new r, agree_still, the_same, as_new)
+agree_after picks unit (VolumeCame m other result) calls old new r a = came picks unit calls m other result old new r a
+agree_after picks unit (VolumeWent other result) calls old new r a = gone unit calls other result old new r a
+agree_after picks unit (Protect protected other result) calls old new r a =
     guarded unit calls protected other result old new r a
 
 -- ---- the law
 
-agree : {K : Type 0} (hardware : Hardware) (credits : ℕ) (controller : Holdings K) (start p : Port K) (unit : ℕ)
-    (calls : List Call) → IsMadeOf hardware credits controller start → Answered start calls p → Agree unit calls p
-agree hardware credits controller start p unit [] made e = search (arith, agrees_none)
-agree hardware credits controller start p unit (call ∷ calls) made a =
-    agree_after unit call calls a.0 p a.2 (agree hardware credits controller start a.0 unit calls made a.1)
+agree : {K : Type 0} (picks : Picking K) (hardware : Hardware) (credits : ℕ) (controller : Holdings K) (start p : Port K) (unit : ℕ)
+    (calls : List Call) → IsMadeOf hardware credits controller start → Answered picks start calls p → Agree unit calls p
+agree picks hardware credits controller start p unit [] made e = search (arith, agrees_none)
+agree picks hardware credits controller start p unit (call ∷ calls) made a =
+    agree_after picks unit call calls a.0 p a.2 (agree picks hardware credits controller start a.0 unit calls made a.1)
 
-pub moves_on_volumes : {K : Type 0} (hardware : Hardware) (credits : ℕ) (controller : Holdings K) (start p : Port K)
+pub moves_on_volumes : {K : Type 0} (picks : Picking K) (hardware : Hardware) (credits : ℕ) (controller : Holdings K) (start p : Port K)
     (calls : List Call) (blocks : Bool) (kind : MoveKind) (unit block address count : ℕ) (bytes : List ℕ)
     → IsMadeOf hardware credits controller start
-    → Answered start (Next blocks (actions.Transfer kind unit block address count) bytes ∷ calls) p
+    → Answered picks start (Next blocks (actions.Transfer kind unit block address count) bytes ∷ calls) p
     → (is_loaded unit calls ≡ true) × (writes kind ≡ true → is_locked unit calls ≡ false)
     × (block < blocks_in unit calls)
-moves_on_volumes hardware credits controller start p calls blocks kind unit block address count bytes made a =
+moves_on_volumes picks hardware credits controller start p calls blocks kind unit block address count bytes made a =
     let moves = a.2.0.moves kind unit block address count refl in
-    let agrees = agree hardware credits controller start p unit
+    let agrees = agree picks hardware credits controller start p unit
     (Next blocks (actions.Transfer kind unit block address count) bytes ∷ calls) made a moves.0 moves.2 moves.1 in (
       agrees.there moves.3.there,
       λ writing. sym (agrees.protected moves.3.there) ∙ moves.3.hardware writing,

@@ -1,9 +1,10 @@
 -- What a host has made of a unit is what a port holds of its volume.
-use Rattle.mscp_port.proofs.Common.{Ok, Err, ◌≡◌, ◌≢◌, ◌⊎◌, ◌∙◌, ◌<◌, ◌≤◌, ℕ, Bool, true, false, List, [], ◌∷◌, Option, None, Some, inl, inr, refl, ap, sym, subst, length, set, arith, cases_eq, cases_lt, false≢true, get_or-set_other, get_or-set_same, get_or_past, length-set, Shape, End, MoveKind, Connection, Holdings, Buffer, Hardware, Port, Verdict, Volume, kept_of, writes, IsMadeOf, IsForgotten, Answered, Becomes, Call, WriteIp, ReadIp, WriteSa, Next, PutAside, WasRead, Went, LookAgain, Tick, Protect, VolumeCame, VolumeWent, Ends, IsChangeAt, IsMounted, IsRemounted, Mount, flagged, mount_after, offline, GoesOnWithBlock, HeedsStep, end_brought, place_heeded, IsNews, Says, news_place, MayMove, no_volume, place_in, protected_by, volume_at, volume_changed, volume_heeded, volume_put, volumes_heeded, volumes_with}
+use Rattle.mscp_port.proofs.Common.{Ok, Err, ◌≡◌, ◌≢◌, ◌⊎◌, ◌∙◌, ◌<◌, ◌≤◌, ℕ, Bool, true, false, List, [], ◌∷◌, Option, None, Some, inl, inr, refl, ap, sym, subst, length, set, arith, cases_eq, cases_lt, false≢true, get_or-set_other, get_or-set_same, get_or_past, length-set, Shape, End, MoveKind, Connection, Holdings, Buffer, Hardware, Port, Verdict, Volume, kept_of, writes, IsMadeOf, IsForgotten, Answered, Becomes, Call, WriteIp, ReadIp, WriteSa, Next, PutAside, WasRead, Went, LookAgain, Tick, Protect, VolumeCame, VolumeWent, Ends, IsChangeAt, IsMounted, IsRemounted, Mount, flagged, mount_after, offline, GoesOnWithBlock, HeedsStep, end_brought, place_heeded, IsNews, Says, news_place, MayMove, no_volume, place_in, protected_by, volume_at, volume_changed, volume_heeded, volume_put, volumes_heeded, volumes_with, Picking}
 use Rattle.mscp_port.specs.declared.action.Action.TheVariants as actions
 use Rattle.mscp_port.specs.declared.stage.Stage.TheVariants as stages
 use Rattle.mscp_port.specs.Calls.{ChangesVolume}
 use Rattle.mscp_port.specs.Volumes.{volume_protected}
+use Rattle.mscp_port.proofs.Begun.{taken_or_not}
 use Rattle.mscp_port.proofs.Loads.{looks_or_not}
 
 -- ---- a volume
@@ -83,11 +84,11 @@ ended vs place code kept m holds = elim holds [
   | inr e ↦ set_here vs place _ _ (heeded_of code kept (volume_at vs place) m e)
 ]
 
-ends : {K : Type 0} (place : ℕ) (old new : Port K) (via : Connection) (e : End) (m : Mount) → Ends place old new via e
+ends : {K : Type 0} (picks : Picking K) (place : ℕ) (old new : Port K) (via : Connection) (e : End) (m : Mount) → Ends picks place old new via e
     → Holds place old.volumes m
     → Holds place new.volumes (mount_after e.code (kept_of via e.reference old.buffers.items)
     (volume_at old.volumes place).changes m)
-ends place old new via e m end holds = search (arith, ended, end.step.4)
+ends picks place old new via e m end holds = search (arith, ended, end.step.4)
 
 -- an end of another unit
 heeded_elsewhere : (vs : List Volume) (place code : ℕ) (kept : Option Buffer) (o : Option ℕ) (m : Mount)
@@ -109,21 +110,32 @@ heeded place m old new via verdict (Some e) heeds other holds =
           old.controller.settings.units e) m (other e refl) holds,
     )
 
-with_block : {K : Type 0} (place : ℕ) (m : Mount) (old new : Port K) → GoesOnWithBlock old new
-    → (((via : Connection) × (e : End) × Ends place old new via e) → ⊥) → Holds place old.volumes m
+with_block : {K : Type 0} (picks : Picking K) (place : ℕ) (m : Mount) (old new : Port K)
+    → GoesOnWithBlock (picks old.controller.picker) old new
+    → (((via : Connection) × (e : End) × Ends picks place old new via e) → ⊥) → Holds place old.volumes m
     → Holds place new.volumes m
-with_block place m old new (inl e) other holds = the_same place m old new (ap (λ p. p.volumes) e) holds
-with_block place m old new (inr taken) other holds =
-    let via = taken.0 in
-    let t = taken.3.finished in
-    heeded place m old new via taken.2 (end_brought t.0) t.2 (λ e brought here. other (
-      via,
-      e,
-      record {
-        step = (taken.1, taken.2, t.0, t.1, brought, subst (λ o. HeedsStep via taken.2 o old new) brought t.2);
-        unit = here;
-      },
-    )) holds
+with_block picks place m old new goes other holds =
+    elim (taken_or_not (picks old.controller.picker) old new goes) [
+      | inl e ↦ the_same place m old new (ap (λ p. p.volumes) e) holds
+      | inr taken ↦
+          let via = taken.0.connection in
+          let t = taken.2.finished in
+          heeded place m old new via taken.1 (end_brought t.0) t.2 (λ e brought here. other (
+            via,
+            e,
+            record {
+              step = (
+                taken.0.reference,
+                taken.1,
+                t.0,
+                t.1,
+                brought,
+                subst (λ o. HeedsStep via taken.1 o old new) brought t.2,
+              );
+              unit = here;
+            },
+          )) holds
+    ]
 
 -- a volume that comes or goes
 unmounted : (v : Volume) (m : Mount) → v.is_mounted ≡ false → v.is_protected_by_host ≡ false
@@ -150,13 +162,13 @@ changed_here place becomes unit old new m unprotected here frame holds =
     (subst (λ o. Holds place (volumes_with becomes o old.volumes) (record m { is_protected = false })) (sym here)
     (changed old.volumes becomes place m unprotected holds))
 
-changes : {K : Type 0} (place : ℕ) (call : Call) (old new : Port K) (m : Mount) → IsChangeAt place call old
-    → Becomes call old new → Holds place old.volumes m → Holds place new.volumes (record m { is_protected = false })
-changes place (VolumeCame it unit (Ok done)) old new m here r holds =
+changes : {K : Type 0} (picks : Picking K) (place : ℕ) (call : Call) (old new : Port K) (m : Mount) → IsChangeAt place call old
+    → Becomes picks call old new → Holds place old.volumes m → Holds place new.volumes (record m { is_protected = false })
+changes picks place (VolumeCame it unit (Ok done)) old new m here r holds =
     changed_here place (volume_put it) unit old new m (λ v. unmounted _ m refl refl) here (r.came refl) holds
-changes place (VolumeWent unit result) old new m here r holds =
+changes picks place (VolumeWent unit result) old new m here r holds =
     changed_here place (volume_changed false) unit old new m (λ v. unmounted _ m refl refl) here r.frame holds
-changes place call old new m here r holds = absurd here
+changes picks place call old new m here r holds = absurd here
 
 changed_elsewhere : (vs : List Volume) (becomes : Volume → Volume) (place : ℕ) (o : Option ℕ) (m : Mount)
     → (o ≡ Some place → ⊥) → Holds place vs m → Holds place (volumes_with becomes o vs) m
@@ -197,56 +209,56 @@ said place m old new says holds = elim (looks_or_not old) [
 ]
 
 -- a call by which the unit isn't mounted anew
-stays : {K : Type 0} (place : ℕ) (m : Mount) (call : Call) (old new : Port K) → Becomes call old new
-    → (IsRemounted place call old new → ⊥) → Holds place old.volumes m → Holds place new.volumes m
-stays place m WriteIp old new r other holds = absurd (other (inl (stages.First, r)))
-stays place m ReadIp old new r other holds = search (arith, the_same)
-stays place m (WriteSa word) old new r other holds = search (arith, the_same)
-stays place m (Next blocks action bytes) old new r other holds = said place m old new r.0.says holds
-stays place m PutAside old new r other holds = the_same place m old new (ap (λ p. p.volumes) r) holds
-stays place m (WasRead bytes result) old new r other holds = search (arith, the_same)
-stays place m (Went outcome result) old new r other holds = elim r.commands [
+stays : {K : Type 0} (picks : Picking K) (place : ℕ) (m : Mount) (call : Call) (old new : Port K) → Becomes picks call old new
+    → (IsRemounted picks place call old new → ⊥) → Holds place old.volumes m → Holds place new.volumes m
+stays picks place m WriteIp old new r other holds = absurd (other (inl (stages.First, r)))
+stays picks place m ReadIp old new r other holds = search (arith, the_same)
+stays picks place m (WriteSa word) old new r other holds = search (arith, the_same)
+stays picks place m (Next blocks action bytes) old new r other holds = said place m old new r.0.says holds
+stays picks place m PutAside old new r other holds = the_same place m old new (ap (λ p. p.volumes) r) holds
+stays picks place m (WasRead bytes result) old new r other holds = search (arith, the_same)
+stays picks place m (Went outcome result) old new r other holds = elim r.commands [
   | inl e ↦ the_same place m old new e.volumes holds
   | inr more ↦ elim more [
-    | inl block ↦ with_block place m old new block.1 (λ end. other (inr (inl end))) holds
+    | inl block ↦ with_block picks place m old new block.1 (λ end. other (inr (inl end))) holds
     | inr dead ↦ absurd (other (inl (stages.Dead dead.0, dead.1)))
   ]
 ]
-stays place m LookAgain old new r other holds = the_same place m old new (ap (λ p. p.volumes) r) holds
-stays place m Tick old new r other holds = search (arith, the_same)
-stays place m (VolumeCame it unit (Ok done)) old new r other holds =
+stays picks place m LookAgain old new r other holds = the_same place m old new (ap (λ p. p.volumes) r) holds
+stays picks place m Tick old new r other holds = search (arith, the_same)
+stays picks place m (VolumeCame it unit (Ok done)) old new r other holds =
     subst (λ vs. Holds place vs m) (sym (ap (λ p. p.volumes) (r.came refl)))
     (changed_elsewhere old.volumes (volume_put it) place (place_in old.controller.settings.units unit) m
     (λ here. other (inr (inr here))) holds)
-stays place m (VolumeCame it unit (Err fault)) old new r other holds =
+stays picks place m (VolumeCame it unit (Err fault)) old new r other holds =
     the_same place m old new (ap (λ p. p.volumes) r.refused) holds
-stays place m (VolumeWent unit result) old new r other holds =
+stays picks place m (VolumeWent unit result) old new r other holds =
     subst (λ vs. Holds place vs m) (sym (ap (λ p. p.volumes) r.frame))
     (changed_elsewhere old.volumes (volume_changed false) place (place_in old.controller.settings.units unit) m
     (λ here. other (inr (inr here))) holds)
-stays place m (Protect protected unit result) old new r other holds =
+stays picks place m (Protect protected unit result) old new r other holds =
     subst (λ vs. Holds place vs m) (sym (ap (λ p. p.volumes) r.frame))
     (guarded old.volumes protected place (place_in old.controller.settings.units unit) m holds)
 
 -- ---- the law
 
-held : {K : Type 0} (hardware : Hardware) (credits : ℕ) (controller : Holdings K) (place : ℕ) → place < 16
+held : {K : Type 0} (picks : Picking K) (hardware : Hardware) (credits : ℕ) (controller : Holdings K) (place : ℕ) → place < 16
     → (start p : Port K) (calls : List Call) (m : Mount) → IsMadeOf hardware credits controller start
-    → (a : Answered start calls p) → IsMounted place start p calls a m → Holds place p.volumes m
-held hardware credits controller place low start p [] m made a is =
+    → (a : Answered picks start calls p) → IsMounted picks place start p calls a m → Holds place p.volumes m
+held picks hardware credits controller place low start p [] m made a is =
     inr (subst (λ q. Fits (volume_at q.volumes place) m) (sym a) (subst (λ v. Fits v m) (sym (made.volumes place low))
     (subst (Fits no_volume) (sym is) (record { volume = λ on. absurd (false≢true on); host = refl }))))
-held hardware credits controller place low start p (call ∷ calls) m made a is =
-    let before = held hardware credits controller place low start a.0 calls in
+held picks hardware credits controller place low start p (call ∷ calls) m made a is =
+    let before = held picks hardware credits controller place low start a.0 calls in
     elim is [
       | inl f ↦ subst (Holds place p.volumes) (sym f.1) (forgotten place a.0 p low f.0)
       | inr more ↦ elim more [
         | inl end ↦ subst (Holds place p.volumes) (sym end.5)
-            (ends place a.0 p end.0 end.1 end.3 end.2 (before end.3 made a.1 end.4))
+            (ends picks place a.0 p end.0 end.1 end.3 end.2 (before end.3 made a.1 end.4))
         | inr rest ↦ elim rest [
           | inl change ↦ subst (Holds place p.volumes) (sym change.3)
-              (changes place call a.0 p change.1 change.0 a.2 (before change.1 made a.1 change.2))
-          | inr stay ↦ stays place m call a.0 p a.2 stay.0 (before m made a.1 stay.1)
+              (changes picks place call a.0 p change.1 change.0 a.2 (before change.1 made a.1 change.2))
+          | inr stay ↦ stays picks place m call a.0 p a.2 stay.0 (before m made a.1 stay.1)
         ]
       ]
     ]
@@ -256,21 +268,21 @@ there : (vs : List Volume) (place : ℕ) (m : Mount) → (volume_at vs place).is
     → Fits (volume_at vs place) m
 there vs place m is holds = search (arith, false≢true, get_or_past)
 
-pub moves_as_mounted : {K : Type 0} (hardware : Hardware) (credits : ℕ) (controller : Holdings K) (start p : Port K)
+pub moves_as_mounted : {K : Type 0} (picks : Picking K) (hardware : Hardware) (credits : ℕ) (controller : Holdings K) (start p : Port K)
     (calls : List Call) (blocks : Bool) (kind : MoveKind) (unit block address count place : ℕ) (bytes : List ℕ)
     (m : Mount)
     → IsMadeOf hardware credits controller start
-    → (a : Answered start (Next blocks (actions.Transfer kind unit block address count) bytes ∷ calls) p)
+    → (a : Answered picks start (Next blocks (actions.Transfer kind unit block address count) bytes ∷ calls) p)
     → place_in p.controller.settings.units unit ≡ Some place
-    → IsMounted place start p (Next blocks (actions.Transfer kind unit block address count) bytes ∷ calls) a m
+    → IsMounted picks place start p (Next blocks (actions.Transfer kind unit block address count) bytes ∷ calls) a m
     → (m.volume ≡ Some (volume_at p.volumes place).changes) × (writes kind ≡ true → m.is_protected ≡ false)
-moves_as_mounted hardware credits controller start p calls blocks kind unit block from count place bytes m made a h is =
+moves_as_mounted picks hardware credits controller start p calls blocks kind unit block from count place bytes m made a h is =
     let moves = a.2.0.moves kind unit block from count refl in
     let at = moves.1 in
     let same : moves.0 ≡ place = cc in
     let low : place < 16 = subst (λ i. i < 16) same moves.2 in
     let may = subst (λ i. MayMove kind block (volume_at p.volumes i)) same moves.3 in
     let e = there p.volumes place m may.there
-    (held hardware credits controller place low start p
+    (held picks hardware credits controller place low start p
     (Next blocks (actions.Transfer kind unit block from count) bytes ∷ calls) m made a is) in
     (e.volume may.mounted, λ writing. e.host ∙ may.host writing)

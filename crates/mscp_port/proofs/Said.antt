@@ -1,6 +1,7 @@
 -- What a port keeps of a command was said by the message by which that command came, call by call.
-use Rattle.mscp_port.proofs.Common.{◌≡◌, ◌⊎◌, ◌∙◌, ◌<◌, ℕ, Bool, true, false, cond, not, List, [], Option, None, Some, Contains, inl, inr, refl, ap, sym, subst, length, arith, Result, Ok, Err, position, eqb-true, eq-eqb, false≢true, All-contains, filter_passes, position-Some, get_or_from_slice_get, none-some, same_Some, End, Block, Connection, First, Drive, Name, Report, Idle, Served, name_on, goes_on, outcome_at, Record, drive_at, has_name, left_of, name_of, record_at, end_given, is_begun, same_is, NotBegun, Finishes, Holdings, Buffer, Port, kept_at, is_of, Call, IsSaidBy, GoesOnWithBlock, HeedsStep, Verdict, anyhow, block_told, end_brought, kept_after}
+use Rattle.mscp_port.proofs.Common.{◌≡◌, ◌⊎◌, ◌∙◌, ◌<◌, ℕ, Bool, true, false, cond, not, List, [], Option, None, Some, Contains, inl, inr, refl, ap, sym, subst, length, arith, Result, Ok, Err, position, eqb-true, eq-eqb, false≢true, All-contains, filter_passes, position-Some, get_or_from_slice_get, none-some, same_Some, End, Block, Connection, First, Drive, Name, Report, Idle, Served, name_on, goes_on, outcome_at, Record, drive_at, has_name, left_of, name_of, record_at, end_given, is_begun, same_is, NotBegun, Finishes, Holdings, Buffer, Port, kept_at, is_of, Call, IsSaidBy, GoesOnWithBlock, HeedsStep, Verdict, Choice, block_told, end_brought, kept_after}
 use Rattle.mscp_port.specs.Buffers.{without}
+use Rattle.mscp_port.proofs.Begun.{taken_or_not}
 use Rattle.mscp_port.proofs.Among.{among_left, none_among}
 use Rattle.mscp_port.proofs.Kept.{IsFor, is_numbered, served_for, weaker_for}
 
@@ -80,10 +81,10 @@ pub record IsOf (via : Connection) (rs : List Record) (e : End) : Type 0 where
   pub reference : e.reference ≡ (record_at rs place).command.reference
   pub unit : e.unit ≡ (record_at rs place).command.unit
 
-pub ended_of : {K : Type 0} (via : Connection) (reference : ℕ) (block : Block) (old new : Holdings K)
-    (result : Result Report NotBegun) (e : End) → Finishes anyhow (name_on via reference) block old result new
+pub ended_of : {K : Type 0} (picks : List Choice → ℕ → Type 0) (via : Connection) (reference : ℕ) (block : Block) (old new : Holdings K)
+    (result : Result Report NotBegun) (e : End) → Finishes picks (name_on via reference) block old result new
     → end_brought result ≡ Some e → IsOf via old.waiting e
-ended_of via reference block old new result e h7 h8 = grind (arith, none-some, end_tells, served_name)
+ended_of picks via reference block old new result e h8 h9 = grind (arith, none-some, end_tells, served_name)
 
 -- ---- a step
 
@@ -118,15 +119,15 @@ served_stays via reference bs b r k d o told named there is = elim (none_or_some
 ]
 
 module _ {K : Type 0} (said : ℕ → Buffer → Type 0) where
-  taken_keeps : (via : Connection) (reference : ℕ) (verdict : Verdict) (old new : Port K)
+  taken_keeps : (picks : List Choice → ℕ → Type 0) (via : Connection) (reference : ℕ) (verdict : Verdict) (old new : Port K)
       (result : Result Report NotBegun)
-      → Finishes anyhow (name_on via reference) (block_told verdict) old.controller result new.controller
+      → Finishes picks (name_on via reference) (block_told verdict) old.controller result new.controller
       → HeedsStep via verdict (end_brought result) old new → Keeps said old → Keeps said new
-  taken_keeps via reference verdict old new (Err not_begun) f heeds k =
+  taken_keeps picks via reference verdict old new (Err not_begun) f heeds k =
       keeps_same said old new (λ b there. subst (λ bs. Contains bs b) heeds.buffers there)
       (ap (λ h. h.waiting) f.1) k
-  taken_keeps via reference verdict old new (Ok Idle) f heeds k = search (arith, keeps_same)
-  taken_keeps via reference verdict old new (Ok (Served other number unit lbn started seek ended)) f heeds k = λ b there.
+  taken_keeps picks via reference verdict old new (Ok Idle) f heeds k = search (arith, keeps_same)
+  taken_keeps picks via reference verdict old new (Ok (Served other number unit lbn started seek ended)) f heeds k = λ b there.
       let h = old.controller in
       let place = f.1.serves.0 in
       let s = f.1.serves.1 in
@@ -139,9 +140,9 @@ module _ {K : Type 0} (said : ℕ → Buffer → Type 0) where
       (served_name h.begun (name_on via reference) r f.0 s.next.same) left)
       (k b (kept_among via ended old.buffers.items b left)))
 
-  pub goes_on_keeps : (old new : Port K) → GoesOnWithBlock old new → Keeps said old → Keeps said new
-  goes_on_keeps old new goes k = elim goes [
+  pub goes_on_keeps : (picks : List Choice → ℕ → Type 0) (old new : Port K) → GoesOnWithBlock picks old new → Keeps said old → Keeps said new
+  goes_on_keeps picks old new goes k = elim (taken_or_not picks old new goes) [
     | inl e ↦ keeps_same said old new (λ b there. subst (λ (p : Port K). Contains p.buffers.items b) e there)
         (ap (λ (p : Port K). p.controller.waiting) e) k
-    | inr t ↦ taken_keeps t.0 t.1 t.2 old new t.3.finished.0 t.3.finished.1 t.3.finished.2 k
+    | inr t ↦ taken_keeps picks t.0.connection t.0.reference t.1 old new t.2.finished.0 t.2.finished.1 t.2.finished.2 k
   ]

@@ -1,6 +1,7 @@
 -- What is called of a port, and what becomes of it.
 use Rattle.std.specs.Prelude.{◌≡◌, ◌≢◌, ◌≤◌, ◌<◌, ◌==◌, ◌+◌, ◌-◌, ◌%◌, ◌/◌, ◌⊎◌, ◌↔◌, ℕ, Bool, true, false, nat_lt, if◌then◌else◌, List, [], length, Contains, IfSome, IsErr, IsOk, OnErr, Result, Option, None, Some}
 use Rattle.mscp_drive.specs.declared.connection.Connection.TheVariants.{First}
+use Rattle.mscp_queue.specs.declared.view.Choice.{Choice}
 use Rattle.mscp_drive.specs.Both.{of}
 use Rattle.mscp_controller.specs.Holdings.{after_message, Holdings, waiting_on}
 use Rattle.mscp_port.specs.declared.action.Action.{Action}
@@ -25,7 +26,7 @@ use Rattle.mscp_drive.specs.UnitList.{unit_found}
 use Rattle.mscp_port.specs.Acted.{Acts, step_task}
 use Rattle.mscp_port.specs.Areas.{rings_named}
 use Rattle.mscp_port.specs.Messages.{handed, own_end_of}
-use Rattle.mscp_port.specs.Moved.{GoesOnWithBlock, IsStepping, MayMoveOn}
+use Rattle.mscp_port.specs.Moved.{BeginsBlock, GoesOnWithBlock, IsStepping, MayMoveOn, Moves}
 use Rattle.mscp_port.specs.Outgoings.{AnswersItself, HasSaid, Says}
 use Rattle.mscp_port.specs.Slots.{is_owned}
 use Rattle.mscp_packet.specs.Number.{num}
@@ -124,7 +125,8 @@ pub record WritesSa {K : Type 0} (word : ℕ) (old new : Port K) : Type 0 where
 -- ---- what is wanted
 
 -- this action is wanted next, where blocks are asked for, or messages alone
-pub record Wants {K : Type 0} (blocks : Bool) (old : Port K) (action : Action) (new : Port K) : Type 0 where
+pub record Wants {K : Type 0} (picks : List Choice → ℕ → Type 0) (blocks : Bool) (old : Port K) (action : Action)
+    (new : Port K) : Type 0 where
   pub frame : new ≡ record old {
     controller = new.controller;
     outgoing = new.outgoing;
@@ -144,6 +146,8 @@ pub record Wants {K : Type 0} (blocks : Bool) (old : Port K) (action : Action) (
   pub wanted : IsAlive old → IsWanted new new.task action
   -- which is what is due, where there was nothing
   pub due : IsAlive old → old.task ≡ tasks.Free → IsDue blocks new new.task
+  -- of a block it is what the controller has begun, by its picker's word
+  pub begins : IsAlive old → old.task ≡ tasks.Free → IsOfBlock new.task → BeginsBlock picks new.task old new
   -- and what goes out next: ends leave in the order in which the controller has them. Of the controller nothing else
   -- changes but what it has begun, and that only for a block
   pub says : Says old new
@@ -281,8 +285,8 @@ ChangesBySaying old new = new ≡ record old {
 }
 
 -- what may change as an action went, but for a step that is taken: of a block only what follows it
-abbrev pub ChangesByActing : {K : Type 0} → Port K → Port K → Type 0
-ChangesByActing old new = (new ≡ record old {
+abbrev pub ChangesByActing : {K : Type 0} → (List Choice → ℕ → Type 0) → Port K → Port K → Type 0
+ChangesByActing picks old new = (new ≡ record old {
   untold = new.untold;
   stage = new.stage;
   responses = new.responses;
@@ -290,7 +294,7 @@ ChangesByActing old new = (new ≡ record old {
   task = new.task;
   outgoing = new.outgoing;
   is_stalled = new.is_stalled;
-}) ⊎ (IsStepping old.task × GoesOnWithBlock old new) ⊎ Dies old new
+}) ⊎ (IsStepping old.task × GoesOnWithBlock picks old new) ⊎ Dies old new
 
 -- the stage stays, or is the last step of the initialisation, once the communication area is clear
 abbrev pub StaysInStage : {K : Type 0} → Port K → Port K → Type 0
@@ -309,19 +313,19 @@ HoldsPacket (tasks.Packet slot) = Unit {0}
 HoldsPacket task = ⊥
 
 -- an action that isn't a read went so, or a read failed so
-pub record Goes {K : Type 0} (outcome : Outcome) (old : Port K) (result : Result Unit Unasked) (new : Port K)
-    : Type 0 where
+pub record Goes {K : Type 0} (picks : List Choice → ℕ → Type 0) (outcome : Outcome) (old : Port K)
+    (result : Result Unit Unasked) (new : Port K) : Type 0 where
   pub dead : (code : ℕ) → old.stage ≡ stages.Dead code → IsErr result
   pub taken : IsAlive old → IsOutcomeOf old.task outcome → IsOk result
   pub only : IsOk result → IsOutcomeOf old.task outcome
   pub unasked : OnErr result (new ≡ old)
   pub acts : IsOk result → Acts outcome old new
-  -- of a block it follows what is next, or what the controller's step has left
-  pub blocks : IsOk result → IsStepping old.task → GoesOnWithBlock old new
+  -- of a step in hand the controller takes it, by its picker's word
+  pub moves : IsOk result → Moves picks outcome old new
   pub steps : IsOk result → IfSome (step_answered old.task old.written) (λ word. TakesStep word old new)
   pub settings : new.controller.settings ≡ old.controller.settings
-  pub still : step_answered old.task old.written ≡ None → ChangesByActing old new × StaysInStage old new
-  pub commands : KeepsCommands old new ⊎ (IsStepping old.task × GoesOnWithBlock old new) ⊎ Dies old new
+  pub still : step_answered old.task old.written ≡ None → ChangesByActing picks old new × StaysInStage old new
+  pub commands : KeepsCommands old new ⊎ (IsStepping old.task × GoesOnWithBlock picks old new) ⊎ Dies old new
   -- its credits are told by a packet alone
   pub credits : HoldsPacket old.task ⊎ ((new.untold ≡ old.untold) × (new.more ≡ old.more)) ⊎ Dies old new
   -- of its host's memory the port learns nothing but the area

@@ -22,7 +22,7 @@ pub use Rattle.mscp_port.specs.Leaving.{news_at, told_end}
 pub use Rattle.mscp_port.specs.Loaded.{PortsMoveOnVolumes}
 pub use Rattle.mscp_port.specs.Messages.{bare_end, handed, next_unit, volume_of}
 pub use Rattle.mscp_port.specs.Mounted.{PortsMoveAsMounted}
-pub use Rattle.mscp_port.specs.Moved.{BeginsBlock, GoesOnWithBlock, MayMoveOn, MayMoveUnit, Moves, TakesBegun, TakesBlock, anyhow, begun_task, block_begun, block_served, move_wanted, part_now, volumes_after}
+pub use Rattle.mscp_port.specs.Moved.{BeginsBlock, GoesOnWithBlock, MayMoveOn, MayMoveUnit, TakesBegun, TakesBlock, begun_task, block_begun, block_served, move_wanted, part_now, volumes_after}
 pub use Rattle.mscp_port.specs.Outgoings.{AnswersItself, IsNews, KeepsSaying, MayBegin, Says, TakesEnd, TellsNews, news_place}
 pub use Rattle.mscp_port.specs.Packets.{connection_of, credits_told, end_kind, packet_of}
 pub use Rattle.mscp_port.specs.Places.{PortsTouchWhatWasPut}

@@ -11,7 +11,7 @@ use Rattle.mscp_port.specs.declared.slot.Descriptor.{Descriptor}
 use Rattle.mscp_port.specs.declared.task.Task.TheVariants as tasks
 use Rattle.mscp_port.specs.Calls.{IsMadeOf}
 use Rattle.mscp_port.specs.Departures.{IsForgotten}
-use Rattle.mscp_port.specs.Histories.{Answered, Call, Next, WasRead, Went}
+use Rattle.mscp_port.specs.Histories.{Answered, Picking, Call, Next, WasRead, Went}
 use Rattle.mscp_port.specs.Messages.{own_end_of}
 use Rattle.mscp_port.specs.Moved.{IsStepping}
 use Rattle.mscp_port.specs.Seen.{answered_to, is_poll}
@@ -34,17 +34,17 @@ TellsStep (Went outcome (Ok done)) old = IsStepping old.task
 TellsStep call old = ⊥
 
 -- a poll was heard since the port forgot last what its host had said, and no step was told since
-abbrev pub IsOwed : {K : Type 0} (start p : Port K) (calls : List Call) → Answered start calls p → Type 0
-IsOwed start p [] a = ⊥
-IsOwed start p (call ∷ earlier) a =
+abbrev pub IsOwed : {K : Type 0} (picks : Picking K) (start p : Port K) (calls : List Call) → Answered picks start calls p → Type 0
+IsOwed picks start p [] a = ⊥
+IsOwed picks start p (call ∷ earlier) a =
     HearsPoll call a.0
-    ⊎ ((IsForgotten a.0 p ⊎ TellsStep call a.0 → ⊥) × IsOwed start a.0 earlier a.1)
+    ⊎ ((IsForgotten a.0 p ⊎ TellsStep call a.0 → ⊥) × IsOwed picks start a.0 earlier a.1)
 
 -- the law of turns: whoever calls a port that was made over a controller and asks for blocks, while a step is owed the
 -- port takes no slot of commands in hand but where no command waits
-abbrev pub PortsServeBetweenPolls : Type 0 → Type 0
-PortsServeBetweenPolls K =
+abbrev pub PortsServeBetweenPolls : {K : Type 0} → Picking K → Type 0
+PortsServeBetweenPolls {K} picks =
     (hardware : Hardware) (credits : ℕ) (controller : Holdings K) (start p : Port K) (calls : List Call)
     (action : Action) (bytes : List ℕ) → IsMadeOf hardware credits controller start
-    → (a : Answered start (Next true action bytes ∷ calls) p) → a.0.task ≡ tasks.Free → IsOwed start a.0 calls a.1
+    → (a : Answered picks start (Next true action bytes ∷ calls) p) → a.0.task ≡ tasks.Free → IsOwed picks start a.0 calls a.1
     → p.task ≡ tasks.Slot Commands → p.controller.waiting ≡ []

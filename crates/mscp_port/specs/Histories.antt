@@ -8,6 +8,7 @@ use Rattle.mscp_port.specs.declared.action.Unasked.{Unasked}
 use Rattle.mscp_port.specs.declared.buffers.Buffer.{Buffer}
 use Rattle.mscp_drive.specs.declared.connection.Connection.TheVariants.{First}
 use Rattle.mscp_controller.specs.declared.entry.SendFault.TheVariants.{NoCredit, LastCredit}
+use Rattle.mscp_queue.specs.declared.view.Choice.{Choice}
 use Rattle.mscp_controller.specs.Holdings.{Holdings, answer_to_message, balance_of, outstanding_of}
 use Rattle.mscp_port.specs.declared.hardware.Hardware.{Hardware}
 use Rattle.mscp_port.specs.declared.port.Port.{Port}
@@ -45,25 +46,30 @@ pub data Call : Type 0 where
   -- nothing may be written on a volume, or something may, and the number of its unit
   Protect : Bool → ℕ → Result Unit NoUnit → Call
 
+-- how each of these pickers picks
+abbrev pub Picking : Type 0 → Type 1
+Picking K = K → List Choice → ℕ → Type 0
+
 -- what becomes of a port by a call
-abbrev pub Becomes : {K : Type 0} → Call → Port K → Port K → Type 0
-Becomes WriteIp old new = WritesIp old new
-Becomes ReadIp old new = ReadsIp old new
-Becomes (WriteSa word) old new = WritesSa word old new
-Becomes (Next blocks action bytes) old new = Wants blocks old action new × (bytes ≡ bytes_wanted new new.task)
-Becomes PutAside old new = new ≡ put_aside old
-Becomes (WasRead bytes result) old new = Hears bytes old result new
-Becomes (Went outcome result) old new = Goes outcome old result new
-Becomes LookAgain old new = LooksAgain old new
-Becomes Tick old new = Ticks old new
-Becomes (VolumeCame m unit result) old new = PutsIn m unit old result new
-Becomes (VolumeWent unit result) old new = Changes (volume_changed false) unit old result new
-Becomes (Protect protected unit result) old new = Changes (volume_protected protected) unit old result new
+abbrev pub Becomes : {K : Type 0} → Picking K → Call → Port K → Port K → Type 0
+Becomes picks WriteIp old new = WritesIp old new
+Becomes picks ReadIp old new = ReadsIp old new
+Becomes picks (WriteSa word) old new = WritesSa word old new
+Becomes picks (Next blocks action bytes) old new = Wants (picks old.controller.picker) blocks old action new × (bytes ≡ bytes_wanted new new.task)
+Becomes picks PutAside old new = new ≡ put_aside old
+Becomes picks (WasRead bytes result) old new = Hears bytes old result new
+Becomes picks (Went outcome result) old new = Goes (picks old.controller.picker) outcome old result new
+Becomes picks LookAgain old new = LooksAgain old new
+Becomes picks Tick old new = Ticks old new
+Becomes picks (VolumeCame m unit result) old new = PutsIn m unit old result new
+Becomes picks (VolumeWent unit result) old new = Changes (volume_changed false) unit old result new
+Becomes picks (Protect protected unit result) old new = Changes (volume_protected protected) unit old result new
 
 -- a history, the last call first: from a port at its start on, each call answered as its contract says, up to this one
-abbrev pub Answered : {K : Type 0} → Port K → List Call → Port K → Type 0
-Answered start [] p = p ≡ start
-Answered start (call ∷ earlier) p = (before : Port _) × Answered start earlier before × Becomes call before p
+abbrev pub Answered : {K : Type 0} → Picking K → Port K → List Call → Port K → Type 0
+Answered picks start [] p = p ≡ start
+Answered picks start (call ∷ earlier) p =
+    (before : Port _) × Answered picks start earlier before × Becomes picks call before p
 
 -- ---- what the host has said since it wrote IP
 
@@ -122,11 +128,11 @@ IsNamed calls action = Unit {0}
 
 -- the law of ports: whoever calls a port that was made over a controller, and whatever the host writes, the port wants
 -- only memory touched that the host has named since it wrote IP last
-abbrev pub PortsTouchWhatIsNamed : Type 0 → Type 0
-PortsTouchWhatIsNamed K =
+abbrev pub PortsTouchWhatIsNamed : {K : Type 0} → Picking K → Type 0
+PortsTouchWhatIsNamed {K} picks =
     (hardware : Hardware) (credits : ℕ) (controller : Holdings K) (start p : Port K) (calls : List Call)
     (blocks : Bool) (action : Action) (bytes : List ℕ) → IsMadeOf hardware credits controller start
-    → Answered start (Next blocks action bytes ∷ calls) p → IsNamed calls action
+    → Answered picks start (Next blocks action bytes ∷ calls) p → IsNamed calls action
 
 -- no message with these bytes is refused for want of a credit
 pub record HasCredit {K : Type 0} (h : Holdings K) (bytes : List ℕ) : Type 0 where
@@ -135,9 +141,9 @@ pub record HasCredit {K : Type 0} (h : Holdings K) (bytes : List ℕ) : Type 0 w
 
 -- the law of credits: a port was made for a host that may have so many commands outstanding. Whoever calls it, where
 -- the controller has fewer of them that wait or whose ends weren't taken, no message is refused for want of a credit
-abbrev pub PortsHaveCredit : Type 0 → Type 0
-PortsHaveCredit K =
+abbrev pub PortsHaveCredit : {K : Type 0} → Picking K → Type 0
+PortsHaveCredit {K} picks =
     (hardware : Hardware) (credits : ℕ) (controller : Holdings K) (start p : Port K) (calls : List Call)
     (bytes : List ℕ)
-    → IsMadeOf hardware credits controller start → credits < balance_of First controller → Answered start calls p
+    → IsMadeOf hardware credits controller start → credits < balance_of First controller → Answered picks start calls p
     → length (outstanding_of First p.controller) < credits → HasCredit p.controller bytes

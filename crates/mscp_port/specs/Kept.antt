@@ -10,7 +10,7 @@ use Rattle.mscp_port.specs.declared.port.Port.{Port}
 use Rattle.mscp_port.specs.Blocks.{kept_of}
 use Rattle.mscp_port.specs.Buffers.{buffer_in}
 use Rattle.mscp_port.specs.Calls.{IsMadeOf}
-use Rattle.mscp_port.specs.Histories.{Answered, Call, WasRead}
+use Rattle.mscp_port.specs.Histories.{Answered, Picking, Call, WasRead}
 use Rattle.mscp_port.specs.Mounted.{Ends}
 use Rattle.mscp_port.specs.Ports.{IsReadingText}
 use Rattle.mscp_port.specs.Seen.{changes_at}
@@ -30,17 +30,17 @@ IsSaidBy number to (WasRead bytes result) old b = IsOfMessage number to bytes ol
 IsSaidBy number to call old b = ⊥
 
 -- by a call of a history
-abbrev pub WasSaid : {K : Type 0} (number to : ℕ) (start p : Port K) (calls : List Call) → Answered start calls p
+abbrev pub WasSaid : {K : Type 0} (picks : Picking K) (number to : ℕ) (start p : Port K) (calls : List Call) → Answered picks start calls p
     → Buffer → Type 0
-WasSaid number to start p [] a b = ⊥
-WasSaid number to start p (call ∷ earlier) a b =
-    IsSaidBy number to call a.0 b ⊎ WasSaid number to start a.0 earlier a.1 b
+WasSaid picks number to start p [] a b = ⊥
+WasSaid picks number to start p (call ∷ earlier) a b =
+    IsSaidBy number to call a.0 b ⊎ WasSaid picks number to start a.0 earlier a.1 b
 
 -- the law of what is kept: whoever calls a port that was made over a controller, what is kept under the reference
 -- number of a command whose end of Success comes was said by a message of that number, to the unit that the end names
-abbrev pub PortsKeepWhatWasSaid : Type 0 → Type 0
-PortsKeepWhatWasSaid K =
+abbrev pub PortsKeepWhatWasSaid : {K : Type 0} → Picking K → Type 0
+PortsKeepWhatWasSaid {K} picks =
     (hardware : Hardware) (credits : ℕ) (controller : Holdings K) (start p : Port K) (call : Call) (calls : List Call)
     (place : ℕ) (via : Connection) (e : End)
-    → IsMadeOf hardware credits controller start → (a : Answered start (call ∷ calls) p) → Ends place a.0 p via e
-    → IfSome (kept_of via e.reference a.0.buffers.items) (λ b. WasSaid e.reference e.unit start a.0 calls a.1 b)
+    → IsMadeOf hardware credits controller start → (a : Answered picks start (call ∷ calls) p) → Ends picks place a.0 p via e
+    → IfSome (kept_of via e.reference a.0.buffers.items) (λ b. WasSaid picks e.reference e.unit start a.0 calls a.1 b)

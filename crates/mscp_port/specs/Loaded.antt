@@ -8,7 +8,7 @@ use Rattle.mscp_port.specs.declared.hardware.Hardware.{Hardware}
 use Rattle.mscp_port.specs.declared.port.Port.{Port}
 use Rattle.mscp_port.specs.Blocks.{writes}
 use Rattle.mscp_port.specs.Calls.{IsMadeOf}
-use Rattle.mscp_port.specs.Histories.{Answered, Call, Next, Protect, VolumeCame, VolumeWent}
+use Rattle.mscp_port.specs.Histories.{Answered, Picking, Call, Next, Protect, VolumeCame, VolumeWent}
 
 -- whether a volume is in the unit of this number, as was told last. At first there is none
 abbrev pub is_loaded : ℕ → List Call → Bool
@@ -34,11 +34,11 @@ blocks_in unit (call ∷ earlier) = blocks_in unit earlier
 
 -- the law of volumes: whoever calls a port that was made over a controller, a block is moved only where a volume is in
 -- its unit that has this block, and one that is written or erased only where that isn't protected
-abbrev pub PortsMoveOnVolumes : Type 0 → Type 0
-PortsMoveOnVolumes K =
+abbrev pub PortsMoveOnVolumes : {K : Type 0} → Picking K → Type 0
+PortsMoveOnVolumes {K} picks =
     (hardware : Hardware) (credits : ℕ) (controller : Holdings K) (start p : Port K) (calls : List Call)
     (blocks : Bool) (kind : MoveKind) (unit block address count : ℕ) (bytes : List ℕ)
     → IsMadeOf hardware credits controller start
-    → Answered start (Next blocks (actions.Transfer kind unit block address count) bytes ∷ calls) p
+    → Answered picks start (Next blocks (actions.Transfer kind unit block address count) bytes ∷ calls) p
     → (is_loaded unit calls ≡ true) × (writes kind ≡ true → is_locked unit calls ≡ false)
     × (block < blocks_in unit calls)

@@ -169,20 +169,12 @@ pub record Moves {K : Type 0} (picks : List Choice → ℕ → Type 0) (outcome 
   pub transfer : old.task ≡ tasks.Transfer
       → TakesBegun picks (block_served old outcome (block_begun old)) old new
 
--- ---- without the picker
-
 -- a block, or a step without one, is in hand
 abbrev pub IsStepping : Task → Type 0
 IsStepping (tasks.Step verdict) = Unit {0}
 IsStepping tasks.Transfer = Unit {0}
 IsStepping task = ⊥
 
--- whatever a picker picks
-abbrev pub anyhow : List Choice → ℕ → Type 0
-anyhow choices place = Unit {0}
-
 -- the controller has taken the step, or there was none
-abbrev pub GoesOnWithBlock : {K : Type 0} → Port K → Port K → Type 0
-GoesOnWithBlock old new =
-    (new ≡ record old { task = new.task })
-    ⊎ ((via : Connection) × (reference : ℕ) × (verdict : Verdict) × TakesBlock anyhow via reference verdict old new)
+abbrev pub GoesOnWithBlock : {K : Type 0} → (List Choice → ℕ → Type 0) → Port K → Port K → Type 0
+GoesOnWithBlock picks old new = (verdict : Verdict) × TakesBegun picks verdict old new

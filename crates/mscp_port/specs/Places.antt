@@ -11,7 +11,7 @@ use Rattle.mscp_port.specs.declared.rings.Side.{Side}
 use Rattle.mscp_port.specs.Areas.{Rings, IsInArea, slot_in}
 use Rattle.mscp_port.specs.Buffers.{buffer_in, IsInBuffer}
 use Rattle.mscp_port.specs.Calls.{IsMadeOf}
-use Rattle.mscp_port.specs.Histories.{Answered, Call, NamesArea, Next, WasRead, Went, WriteIp, words}
+use Rattle.mscp_port.specs.Histories.{Answered, Picking, Call, NamesArea, Next, WasRead, Went, WriteIp, words}
 use Rattle.mscp_port.specs.Ports.{IsInPacket}
 use Rattle.mscp_port.specs.Slots.{is_owned, text_of}
 
@@ -79,8 +79,8 @@ IsPut calls action = Unit {0}
 
 -- the law of places: whoever calls a port that was made over a controller, and tells of reads only after they were
 -- wanted: the port wants only memory touched that the host has named in its memory since it wrote IP last
-abbrev pub PortsTouchWhatWasPut : Type 0 → Type 0
-PortsTouchWhatWasPut K =
+abbrev pub PortsTouchWhatWasPut : {K : Type 0} → Picking K → Type 0
+PortsTouchWhatWasPut {K} picks =
     (hardware : Hardware) (credits : ℕ) (controller : Holdings K) (start p : Port K) (calls : List Call)
     (blocks : Bool) (action : Action) (bytes : List ℕ) → IsMadeOf hardware credits controller start → AsksFirst calls
-    → Answered start (Next blocks action bytes ∷ calls) p → IsPut calls action
+    → Answered picks start (Next blocks action bytes ∷ calls) p → IsPut calls action

@@ -9,7 +9,7 @@ use mscp_queue::Picker;
 /// or without others between them, a packet whose descriptor it gave to the port, and a buffer that a command of its own names;
 /// each since it wrote IP last. So says the list of the calls alone, with what was answered to them.
 pub fn ports_touch_what_is_named<K: Picker>(picker: &K)
-    ensures { PortsTouchWhatIsNamed K }
+    ensures { PortsTouchWhatIsNamed K.picks }
 {
     let _ = picker;
 }
@@ -18,7 +18,7 @@ pub fn ports_touch_what_is_named<K: Picker>(picker: &K)
 /// that the host named, and the buffer's command where such a descriptor says. So the host has put all of it into its memory, at
 /// the places where a host puts it.
 pub fn ports_touch_what_was_put<K: Picker>(picker: &K)
-    ensures { PortsTouchWhatWasPut K }
+    ensures { PortsTouchWhatWasPut K.picks }
 {
     let _ = picker;
 }
@@ -27,7 +27,7 @@ pub fn ports_touch_what_was_put<K: Picker>(picker: &K)
 /// of them that wait, or whose ends weren't taken, no message is refused for want of a credit. A command may still stay in its
 /// slot while its number is in use, or, if the port answers it itself, while something else goes out.
 pub fn ports_have_credit<K: Picker>(picker: &K)
-    ensures { PortsHaveCredit K }
+    ensures { PortsHaveCredit K.picks }
 {
     let _ = picker;
 }
@@ -38,9 +38,9 @@ pub fn ports_have_credit<K: Picker>(picker: &K)
 /// were heeded, with what was kept of their commands. And that was said by a message of the command's number, to the unit that its
 /// end names.
 pub fn ports_move_on_volumes<K: Picker>(picker: &K)
-    ensures volumes { PortsMoveOnVolumes K }
-    ensures mounts { PortsMoveAsMounted K }
-    ensures kept { PortsKeepWhatWasSaid K }
+    ensures volumes { PortsMoveOnVolumes K.picks }
+    ensures mounts { PortsMoveAsMounted K.picks }
+    ensures kept { PortsKeepWhatWasSaid K.picks }
 {
     let _ = picker;
 }
@@ -51,9 +51,9 @@ pub fn ports_move_on_volumes<K: Picker>(picker: &K)
 /// have but the one that it begins with and those that it wasn't told yet, and one for each end of the disk's. What stands in a
 /// packet isn't said here.
 pub fn ports_speak_in_order<K: Picker>(picker: &K)
-    ensures order { PortsSpeakInOrder K }
-    ensures slots { PortsFillTheirSlots K }
-    ensures credits { PortsTellTheirCredits K }
+    ensures order { PortsSpeakInOrder K.picks }
+    ensures slots { PortsFillTheirSlots K.picks }
+    ensures credits { PortsTellTheirCredits K.picks }
 {
     let _ = picker;
 }
@@ -62,7 +62,7 @@ pub fn ports_speak_in_order<K: Picker>(picker: &K)
 /// step of a command was told. So a host that polls as soon as its last poll ended gets its READ, however few actions a turn
 /// has, and a figure that it hears twice has fallen. Only a holder that is at a block asks for messages alone meanwhile.
 pub fn ports_serve_between_polls<K: Picker>(picker: &K)
-    ensures { PortsServeBetweenPolls K }
+    ensures { PortsServeBetweenPolls K.picks }
 {
     let _ = picker;
 }

@@ -1,5 +1,5 @@
 -- What a port knows once bytes were read, or an action went some way.
-use Rattle.mscp_port.proofs.Common.{◌≡◌, ◌⊎◌, ℕ, Bool, true, false, ◌/◌, ◌%◌, List, [], ◌∷◌, Option, None, Some, Contains, IfSome, inl, inr, refl, ap, sym, subst, arith, eqb-true, eqb-false, ltb-true, ltb-false, none-some, Result, Ok, Err, nat_lt, nat_eq, num, Outcome, Unasked, Buffer, Port, Stage, Task, rings_named, is_owned, Goes, Hears, StaysInStage, TakesStep, step_answered, HasInOrder, NamesArea, NamesBuffer, NamesPacket, words, IsReadingSlot, IsReadingText, in_hand}
+use Rattle.mscp_port.proofs.Common.{◌≡◌, ◌⊎◌, ℕ, Bool, true, false, ◌/◌, ◌%◌, List, [], ◌∷◌, Option, None, Some, Contains, IfSome, inl, inr, refl, ap, sym, subst, arith, eqb-true, eqb-false, ltb-true, ltb-false, none-some, Result, Ok, Err, nat_lt, nat_eq, num, Outcome, Unasked, Buffer, Port, Stage, Task, rings_named, is_owned, Goes, Hears, StaysInStage, TakesStep, step_answered, HasInOrder, NamesArea, NamesBuffer, NamesPacket, words, IsReadingSlot, IsReadingText, in_hand, Choice}
 use Rattle.mscp_port.specs.Buffers.{buffer_in}
 use Rattle.mscp_port.specs.declared.stage.Stage.TheVariants as stages
 use Rattle.mscp_port.proofs.Naming.Knowing.{answers, Knows, first_in_order, if_none, if_same, carried, new_knows, dead_knows, Handles, still_knows, here, packet_named_still, buffer_named_still}
@@ -38,10 +38,10 @@ after_read ws bs old new bytes result k r = elim r.frame [
 
 -- ---- how an action went
 
-pub acted : {K : Type 0} (ws : List ℕ) (bs : List (List ℕ)) (old new : Port K) (outcome : Outcome)
-    (result : Result Unit Unasked) → Knows ws bs old → Goes outcome old result new → new.words ≡ old.words
+pub acted : {K : Type 0} (picks : List Choice → ℕ → Type 0) (ws : List ℕ) (bs : List (List ℕ)) (old new : Port K) (outcome : Outcome)
+    (result : Result Unit Unasked) → Knows ws bs old → Goes picks outcome old result new → new.words ≡ old.words
     → new.written ≡ old.written → new.rings ≡ old.rings → StaysInStage old new → Knows ws bs new
-acted ws bs old new outcome result k r words written rings stays =
+acted picks ws bs old new outcome result k r words written rings stays =
     let handles : Handles bs new = record {
       packet = carried (in_hand new.task) (in_hand old.task) (λ word. NamesPacket bs word) r.packet k.packet;
       buffer = λ b there. k.buffer b (r.buffers b there);
@@ -49,10 +49,10 @@ acted ws bs old new outcome result k r words written rings stays =
     search (arith, still_knows, answers, dead_knows)
 
 -- no step is taken
-pub no_step : {K : Type 0} (ws : List ℕ) (bs : List (List ℕ)) (old new : Port K) (outcome : Outcome)
-    (result : Result Unit Unasked) → Knows ws bs old → Goes outcome old result new
+pub no_step : {K : Type 0} (picks : List Choice → ℕ → Type 0) (ws : List ℕ) (bs : List (List ℕ)) (old new : Port K) (outcome : Outcome)
+    (result : Result Unit Unasked) → Knows ws bs old → Goes picks outcome old result new
     → step_answered old.task old.written ≡ None → Knows ws bs new
-no_step ws bs old new outcome result k r none = search (arith, acted, dead_knows)
+no_step picks ws bs old new outcome result k r none = search (arith, acted, dead_knows)
 
 -- the word of the step that is taken is the one that the host wrote
 pub word_given : (task : Task) (written : Option ℕ) (word : ℕ) → step_answered task written ≡ Some word
@@ -132,11 +132,11 @@ after_step ws bs old new word k given handles t =
     ] in
     by_stage old.stage refl
 
-pub done_or_not : {K : Type 0} (ws : List ℕ) (bs : List (List ℕ)) (old new : Port K) (outcome : Outcome)
-    (done : Unit {0}) → Knows ws bs old → Goes outcome old (Ok done) new → (o : Option ℕ)
+pub done_or_not : {K : Type 0} (picks : List Choice → ℕ → Type 0) (ws : List ℕ) (bs : List (List ℕ)) (old new : Port K) (outcome : Outcome)
+    (done : Unit {0}) → Knows ws bs old → Goes picks outcome old (Ok done) new → (o : Option ℕ)
     → step_answered old.task old.written ≡ o → Knows ws bs new
-done_or_not ws bs old new outcome done k r None e = no_step ws bs old new outcome (Ok done) k r e
-done_or_not ws bs old new outcome done k r (Some word) e =
+done_or_not picks ws bs old new outcome done k r None e = no_step _ ws bs old new outcome (Ok done) k r e
+done_or_not picks ws bs old new outcome done k r (Some word) e =
     let written : old.written ≡ Some word = word_given old.task old.written word e in
     after_step ws bs old new word k
     (subst (λ o. IfSome o (λ w. HasInOrder (w ∷ answers old.stage old.words) ws)) written k.given)
@@ -146,8 +146,8 @@ done_or_not ws bs old new outcome done k r (Some word) e =
     })
     (subst (λ o. IfSome o (λ w. TakesStep w old new)) e (r.steps refl))
 
-pub after_went : {K : Type 0} (ws : List ℕ) (bs : List (List ℕ)) (old new : Port K) (outcome : Outcome)
-    (result : Result Unit Unasked) → Knows ws bs old → Goes outcome old result new → Knows ws bs new
-after_went ws bs old new outcome (Ok done) k r =
-    done_or_not ws bs old new outcome done k r (step_answered old.task old.written) refl
-after_went ws bs old new outcome (Err unasked) k r = subst (Knows ws bs) (sym r.unasked) k
+pub after_went : {K : Type 0} (picks : List Choice → ℕ → Type 0) (ws : List ℕ) (bs : List (List ℕ)) (old new : Port K) (outcome : Outcome)
+    (result : Result Unit Unasked) → Knows ws bs old → Goes picks outcome old result new → Knows ws bs new
+after_went picks ws bs old new outcome (Ok done) k r =
+    done_or_not _ ws bs old new outcome done k r (step_answered old.task old.written) refl
+after_went picks ws bs old new outcome (Err unasked) k r = subst (Knows ws bs) (sym r.unasked) k

@@ -1,5 +1,5 @@
 -- What a port reads was put where it was wanted from.
-use Rattle.mscp_port.proofs.Common.{◌≡◌, ◌⊎◌, ℕ, Bool, List, [], ◌∷◌, Option, None, Some, Contains, IfSome, IsSomeAnd, MatchOption, inl, inr, refl, true, arith, none-some, Result, num, Action, Outcome, Unasked, Buffer, Port, Side, Stage, Task, Rings, slot_in, Goes, Hears, Wants, NamesArea, PutsBuffer, PutsPacket, read_from, Drops, IsReadingSlot, IsReadingText, Leaves, in_hand, is_owned, text_of, IsWanted, given_in}
+use Rattle.mscp_port.proofs.Common.{◌≡◌, ◌⊎◌, ℕ, Bool, List, [], ◌∷◌, Option, None, Some, Contains, IfSome, IsSomeAnd, MatchOption, inl, inr, refl, true, arith, none-some, Result, num, Action, Outcome, Unasked, Buffer, Port, Side, Stage, Task, Rings, slot_in, Goes, Hears, Wants, NamesArea, PutsBuffer, PutsPacket, read_from, Drops, IsReadingSlot, IsReadingText, Leaves, in_hand, is_owned, text_of, IsWanted, given_in, Choice}
 use Rattle.mscp_port.specs.Buffers.{buffer_in}
 use Rattle.mscp_port.specs.declared.action.Action.TheVariants as actions
 use Rattle.mscp_port.specs.declared.stage.Stage.TheVariants as stages
@@ -109,22 +109,22 @@ abbrev dead_code : Stage → Option ℕ
 dead_code (stages.Dead code) = Some code
 dead_code s = None
 
-asked_next : {K : Type 0} (old new : Port K) (blocks : Bool) (action : Action) → Wants blocks old action new
+asked_next : {K : Type 0} (picks : List Choice → ℕ → Type 0) (old new : Port K) (blocks : Bool) (action : Action) → Wants picks blocks old action new
     → (o : Option ℕ) → dead_code old.stage ≡ o → IfSome (read_from action) (λ address. IsReadFrom new new.task address)
-asked_next old new blocks action h4 o h6 = search (arith, wanted_from, none-some)
+asked_next picks old new blocks action h4 o h6 = search (arith, wanted_from, none-some)
 
-pub next_placed : {K : Type 0} (ws : List ℕ) (rs : List (ℕ × List ℕ)) (o : Option ℕ) (old new : Port K)
-    (blocks : Bool) (action : Action) → Places ws rs o old → Wants blocks old action new
+pub next_placed : {K : Type 0} (picks : List Choice → ℕ → Type 0) (ws : List ℕ) (rs : List (ℕ × List ℕ)) (o : Option ℕ) (old new : Port K)
+    (blocks : Bool) (action : Action) → Places ws rs o old → Wants picks blocks old action new
     → Places ws rs (read_from action) new
-next_placed ws rs o old new blocks action k r =
-    search (arith, asked_next old new blocks action r (dead_code old.stage) refl, carried)
+next_placed picks ws rs o old new blocks action k r =
+    search (arith, asked_next _ old new blocks action r (dead_code old.stage) refl, carried)
 
 -- ---- how it went
 
-pub went_placed : {K : Type 0} (ws : List ℕ) (rs : List (ℕ × List ℕ)) (o : Option ℕ) (old new : Port K)
-    (outcome : Outcome) (result : Result Unit Unasked) → Places ws rs o old → Goes outcome old result new
+pub went_placed : {K : Type 0} (picks : List Choice → ℕ → Type 0) (ws : List ℕ) (rs : List (ℕ × List ℕ)) (o : Option ℕ) (old new : Port K)
+    (outcome : Outcome) (result : Result Unit Unasked) → Places ws rs o old → Goes picks outcome old result new
     → Places ws rs None new
-went_placed ws rs o old new outcome result k r = search (arith, carried)
+went_placed picks ws rs o old new outcome result k r = search (arith, carried)
 
 -- ---- what was read
 

@@ -1,5 +1,5 @@
 -- What a port touches after a whole history was put into its host's memory.
-use Rattle.mscp_port.proofs.Common.{◌≡◌, ◌≢◌, ◌⊎◌, ◌∙◌, ℕ, Bool, false, List, [], ◌∷◌, Option, None, Some, Contains, IfSome, inl, inr, refl, ap, sym, subst, arith, Ok, Err, Holdings, Action, Hardware, Port, Stage, Hears, IsMadeOf, Ticks, Answered, Becomes, Call, NamesArea, words, reads, WriteIp, ReadIp, WriteSa, Next, PutAside, WasRead, Went, LookAgain, Tick, Protect, VolumeCame, VolumeWent, AsksFirst, IsPut, IsPutForData, IsPutForRings, asked, reads_at, with_read, Drops, IsAsNew, IsInRingsOrPacket, IsInSomeBuffer, IsWithin, Leaves, Task, Volume, place_in, volume_changed, volume_put}
+use Rattle.mscp_port.proofs.Common.{◌≡◌, ◌≢◌, ◌⊎◌, ◌∙◌, ℕ, Bool, false, List, [], ◌∷◌, Option, None, Some, Contains, IfSome, inl, inr, refl, ap, sym, subst, arith, Ok, Err, Holdings, Action, Hardware, Port, Stage, Hears, IsMadeOf, Ticks, Answered, Becomes, Call, NamesArea, words, reads, WriteIp, ReadIp, WriteSa, Next, PutAside, WasRead, Went, LookAgain, Tick, Protect, VolumeCame, VolumeWent, AsksFirst, IsPut, IsPutForData, IsPutForRings, asked, reads_at, with_read, Drops, IsAsNew, IsInRingsOrPacket, IsInSomeBuffer, IsWithin, Leaves, Task, Volume, place_in, volume_changed, volume_put, Picking}
 use Rattle.mscp_port.specs.declared.action.Action.TheVariants as actions
 use Rattle.mscp_port.specs.declared.task.Task.TheVariants as tasks
 use Rattle.mscp_port.specs.Calls.{ChangesVolume, step_at}
@@ -45,36 +45,36 @@ heard_placed ws rs None old new bytes done areas some k r = absurd (some refl)
 heard_placed ws rs (Some address) old new bytes done areas some k r =
     read_placed ws rs address old new bytes (Ok done) areas k r
 
-call_placed : {K : Type 0} (call : Call) (earlier : List Call) (old new : Port K)
+call_placed : {K : Type 0} (picks : Picking K) (call : Call) (earlier : List Call) (old new : Port K)
     → IfSome old.rings (λ r. NamesArea (words earlier) r) → AsksFirst (call ∷ earlier)
-    → Places (words earlier) (reads_at earlier) (asked earlier) old → Becomes call old new
+    → Places (words earlier) (reads_at earlier) (asked earlier) old → Becomes picks call old new
     → Places (words (call ∷ earlier)) (reads_at (call ∷ earlier)) (asked (call ∷ earlier)) new
-call_placed WriteIp earlier old new areas asks k r = nothing_placed [] [] new r.task r.buffers
-call_placed ReadIp earlier old new areas asks k r =
+call_placed picks WriteIp earlier old new areas asks k r = nothing_placed [] [] new r.task r.buffers
+call_placed picks ReadIp earlier old new areas asks k r =
     hand_placed (words earlier) (reads_at earlier) (asked earlier) old new k r.hand
-call_placed (WriteSa word) earlier old new areas asks k r =
+call_placed picks (WriteSa word) earlier old new areas asks k r =
     places_behind (words earlier) (reads_at earlier) (asked earlier) new word
     (hand_placed (words earlier) (reads_at earlier) (asked earlier) old new k r.hand)
-call_placed (Next blocks action bytes) earlier old new areas asks k r =
-    next_placed (words earlier) (reads_at earlier) (asked earlier) old new blocks action k r.0
-call_placed PutAside earlier old new areas asks k r = search (arith, hand_placed)
-call_placed (WasRead bytes (Ok done)) earlier old new areas asks k r =
+call_placed picks (Next blocks action bytes) earlier old new areas asks k r =
+    next_placed _ (words earlier) (reads_at earlier) (asked earlier) old new blocks action k r.0
+call_placed picks PutAside earlier old new areas asks k r = search (arith, hand_placed)
+call_placed picks (WasRead bytes (Ok done)) earlier old new areas asks k r =
     heard_placed (words earlier) (reads_at earlier) (asked earlier) old new bytes done areas asks.0 k r
-call_placed (WasRead bytes (Err unasked)) earlier old new areas asks k r = search arith
-call_placed (Went outcome (Ok done)) earlier old new areas asks k r =
-    went_placed (words earlier) (reads_at earlier) (asked earlier) old new outcome (Ok done) k r
-call_placed (Went outcome (Err unasked)) earlier old new areas asks k r = search arith
-call_placed LookAgain earlier old new areas asks k r = search (arith, hand_placed)
-call_placed Tick earlier old new areas asks k r =
+call_placed picks (WasRead bytes (Err unasked)) earlier old new areas asks k r = search arith
+call_placed picks (Went outcome (Ok done)) earlier old new areas asks k r =
+    went_placed _ (words earlier) (reads_at earlier) (asked earlier) old new outcome (Ok done) k r
+call_placed picks (Went outcome (Err unasked)) earlier old new areas asks k r = search arith
+call_placed picks LookAgain earlier old new areas asks k r = search (arith, hand_placed)
+call_placed picks Tick earlier old new areas asks k r =
     hand_placed (words earlier) (reads_at earlier) (asked earlier) old new k (tick_hands old new r)
-call_placed (VolumeCame m unit (Ok done)) earlier old new areas asks k r =
+call_placed picks (VolumeCame m unit (Ok done)) earlier old new areas asks k r =
     hand_placed (words earlier) (reads_at earlier) (asked earlier) old new k
     (volume_hands (volume_put m) unit old new (r.came refl))
-call_placed (VolumeCame m unit (Err fault)) earlier old new areas asks k r = search arith
-call_placed (VolumeWent unit result) earlier old new areas asks k r =
+call_placed picks (VolumeCame m unit (Err fault)) earlier old new areas asks k r = search arith
+call_placed picks (VolumeWent unit result) earlier old new areas asks k r =
     hand_placed (words earlier) (reads_at earlier) (asked earlier) old new k
     (volume_hands (volume_changed false) unit old new r.frame)
-call_placed (Protect protected unit result) earlier old new areas asks k r =
+call_placed picks (Protect protected unit result) earlier old new areas asks k r =
     hand_placed (words earlier) (reads_at earlier) (asked earlier) old new k
     (volume_hands (volume_protected protected) unit old new r.frame)
 
@@ -82,14 +82,14 @@ call_placed (Protect protected unit result) earlier old new areas asks k r =
 asked_before : (call : Call) (earlier : List Call) → AsksFirst (call ∷ earlier) → AsksFirst earlier
 asked_before call earlier h2 = grind arith
 
-pub placed : {K : Type 0} (hardware : Hardware) (credits : ℕ) (controller : Holdings K) (start p : Port K)
-    (calls : List Call) → IsMadeOf hardware credits controller start → AsksFirst calls → Answered start calls p
+pub placed : {K : Type 0} (picks : Picking K) (hardware : Hardware) (credits : ℕ) (controller : Holdings K) (start p : Port K)
+    (calls : List Call) → IsMadeOf hardware credits controller start → AsksFirst calls → Answered picks start calls p
     → Places (words calls) (reads_at calls) (asked calls) p
-placed hardware credits controller start p [] made asks e =
+placed picks hardware credits controller start p [] made asks e =
     subst (Places [] [] None) (sym e) (nothing_placed [] [] start made.free made.buffers)
-placed hardware credits controller start p (call ∷ earlier) made asks a =
-    call_placed call earlier a.0 p (knows hardware credits controller start a.0 earlier made a.1).area asks
-    (placed hardware credits controller start a.0 earlier made (asked_before call earlier asks) a.1) a.2
+placed picks hardware credits controller start p (call ∷ earlier) made asks a =
+    call_placed picks call earlier a.0 p (knows picks hardware credits controller start a.0 earlier made a.1).area asks
+    (placed picks hardware credits controller start a.0 earlier made (asked_before call earlier asks) a.1) a.2
 
 -- ---- what an action touches
 
@@ -111,11 +111,11 @@ within_put calls o p (actions.Write address count) k m lies = ring_put calls o p
 within_put calls o p action h4 h5 h6 = grind (arith, ring_put, data_put)
 
 -- the law of places
-pub touches_what_was_put : {K : Type 0} (hardware : Hardware) (credits : ℕ) (controller : Holdings K)
+pub touches_what_was_put : {K : Type 0} (picks : Picking K) (hardware : Hardware) (credits : ℕ) (controller : Holdings K)
     (start p : Port K) (calls : List Call) (blocks : Bool) (action : Action) (bytes : List ℕ)
-    → IsMadeOf hardware credits controller start → AsksFirst calls → Answered start (Next blocks action bytes ∷ calls) p
+    → IsMadeOf hardware credits controller start → AsksFirst calls → Answered picks start (Next blocks action bytes ∷ calls) p
     → IsPut calls action
-touches_what_was_put hardware credits controller start p calls blocks action bytes made asks a =
+touches_what_was_put picks hardware credits controller start p calls blocks action bytes made asks a =
     within_put calls (asked (Next blocks action bytes ∷ calls)) p action
-    (knows hardware credits controller start p (Next blocks action bytes ∷ calls) made a)
-    (placed hardware credits controller start p (Next blocks action bytes ∷ calls) made asks a) a.2.0.within
+    (knows picks hardware credits controller start p (Next blocks action bytes ∷ calls) made a)
+    (placed picks hardware credits controller start p (Next blocks action bytes ∷ calls) made asks a) a.2.0.within

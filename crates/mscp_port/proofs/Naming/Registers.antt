@@ -1,5 +1,5 @@
 -- What a port knows once a register was touched, or an action was wanted.
-use Rattle.mscp_port.proofs.Common.{◌≡◌, ◌≢◌, ℕ, Bool, true, false, cond, ◌%◌, List, [], ◌∷◌, Some, inr, refl, ap, sym, ◌∙◌, subst, arith, eqb-true, eqb-false, false≢true, none-some, nat_lt, nat_eq, Action, Port, Words, Stage, ReadsIp, Wants, WritesSa}
+use Rattle.mscp_port.proofs.Common.{◌≡◌, ◌≢◌, ℕ, Bool, true, false, cond, ◌%◌, List, [], ◌∷◌, Some, inr, refl, ap, sym, ◌∙◌, subst, arith, eqb-true, eqb-false, false≢true, none-some, nat_lt, nat_eq, Action, Port, Words, Stage, ReadsIp, Wants, WritesSa, Choice}
 use Rattle.mscp_port.specs.declared.stage.Stage.TheVariants as stages
 use Rattle.mscp_port.proofs.Naming.Knowing.{answers, Knows, in_order_behind, in_order_more, carried, new_knows, still_knows, knows_more_words}
 
@@ -114,6 +114,6 @@ after_write_sa ws bs old new word k r =
     by_stage old.stage refl
 
 -- nothing is learned as an action is wanted
-pub after_next : {K : Type 0} (ws : List ℕ) (bs : List (List ℕ)) (old new : Port K) (blocks : Bool) (action : Action)
-    → Knows ws bs old → Wants blocks old action new → Knows ws bs new
-after_next ws bs old new blocks action k r = search (arith, still_knows, answers, carried)
+pub after_next : {K : Type 0} (picks : List Choice → ℕ → Type 0) (ws : List ℕ) (bs : List (List ℕ)) (old new : Port K) (blocks : Bool) (action : Action)
+    → Knows ws bs old → Wants picks blocks old action new → Knows ws bs new
+after_next picks ws bs old new blocks action k r = search (arith, still_knows, answers, carried)

@@ -1,5 +1,5 @@
 -- What a port knows after a whole history, and what it touches then.
-use Rattle.mscp_port.proofs.Common.{ℕ, Bool, false, List, [], ◌∷◌, Option, None, Some, Contains, IfSome, IsSomeAnd, inl, inr, refl, ap, sym, subst, arith, Result, Ok, Err, Action, Unasked, Buffer, Holdings, Hardware, Port, Hears, IsMadeOf, Ticks, Answered, Becomes, Call, IsNamed, IsNamedForData, IsNamedForRings, NamesBuffer, NamesPacket, reads, words, WriteIp, ReadIp, WriteSa, Next, PutAside, WasRead, Went, LookAgain, Tick, Protect, VolumeCame, VolumeWent, IsInRingsOrPacket, IsInSomeBuffer, IsWithin, in_hand, read_again, Task, Volume, place_in, volume_changed, volume_put}
+use Rattle.mscp_port.proofs.Common.{ℕ, Bool, false, List, [], ◌∷◌, Option, None, Some, Contains, IfSome, IsSomeAnd, inl, inr, refl, ap, sym, subst, arith, Result, Ok, Err, Action, Unasked, Buffer, Holdings, Hardware, Port, Hears, IsMadeOf, Ticks, Answered, Becomes, Call, IsNamed, IsNamedForData, IsNamedForRings, NamesBuffer, NamesPacket, reads, words, WriteIp, ReadIp, WriteSa, Next, PutAside, WasRead, Went, LookAgain, Tick, Protect, VolumeCame, VolumeWent, IsInRingsOrPacket, IsInSomeBuffer, IsWithin, in_hand, read_again, Task, Volume, place_in, volume_changed, volume_put, Picking}
 use Rattle.mscp_port.specs.Calls.{ChangesVolume, step_again, step_at}
 use Rattle.mscp_port.specs.Volumes.{volume_protected}
 use Rattle.mscp_port.specs.declared.stage.Stage.TheVariants as stages
@@ -66,35 +66,35 @@ ticked ws bs old new k r = elim r.either [
   | inr dead ↦ new_knows ws bs (stages.Dead 9) old new (λ w. refl) dead
 ]
 
-pub after_call : {K : Type 0} (call : Call) (earlier : List Call) (old new : Port K)
-    → Knows (words earlier) (reads earlier) old → Becomes call old new
+pub after_call : {K : Type 0} (picks : Picking K) (call : Call) (earlier : List Call) (old new : Port K)
+    → Knows (words earlier) (reads earlier) old → Becomes picks call old new
     → Knows (words (call ∷ earlier)) (reads (call ∷ earlier)) new
-after_call WriteIp earlier old new k r = new_knows [] [] stages.First old new (λ w. refl) r
-after_call ReadIp earlier old new k r = after_read_ip (words earlier) (reads earlier) old new k r
-after_call (WriteSa word) earlier old new k r = after_write_sa (words earlier) (reads earlier) old new word k r
-after_call (Next blocks action bytes) earlier old new k r =
-    after_next (words earlier) (reads earlier) old new blocks action k r.0
-after_call PutAside earlier old new k r = search arith
-after_call (WasRead bytes result) earlier old new k r = heard earlier old new bytes result k r
-after_call (Went outcome result) earlier old new k r =
-    after_went (words earlier) (reads earlier) old new outcome result k r
-after_call LookAgain earlier old new k r = search arith
-after_call Tick earlier old new k r = ticked (words earlier) (reads earlier) old new k r
-after_call (VolumeCame m unit (Ok done)) earlier old new k r =
+after_call picks WriteIp earlier old new k r = new_knows [] [] stages.First old new (λ w. refl) r
+after_call picks ReadIp earlier old new k r = after_read_ip (words earlier) (reads earlier) old new k r
+after_call picks (WriteSa word) earlier old new k r = after_write_sa (words earlier) (reads earlier) old new word k r
+after_call picks (Next blocks action bytes) earlier old new k r =
+    after_next _ (words earlier) (reads earlier) old new blocks action k r.0
+after_call picks PutAside earlier old new k r = search arith
+after_call picks (WasRead bytes result) earlier old new k r = heard earlier old new bytes result k r
+after_call picks (Went outcome result) earlier old new k r =
+    after_went _ (words earlier) (reads earlier) old new outcome result k r
+after_call picks LookAgain earlier old new k r = search arith
+after_call picks Tick earlier old new k r = ticked (words earlier) (reads earlier) old new k r
+after_call picks (VolumeCame m unit (Ok done)) earlier old new k r =
     volume_known (words earlier) (reads earlier) (volume_put m) unit old new k (r.came refl)
-after_call (VolumeCame m unit (Err fault)) earlier old new k r = search arith
-after_call (VolumeWent unit result) earlier old new k r =
+after_call picks (VolumeCame m unit (Err fault)) earlier old new k r = search arith
+after_call picks (VolumeWent unit result) earlier old new k r =
     volume_known (words earlier) (reads earlier) (volume_changed false) unit old new k r.frame
-after_call (Protect protected unit result) earlier old new k r =
+after_call picks (Protect protected unit result) earlier old new k r =
     volume_known (words earlier) (reads earlier) (volume_protected protected) unit old new k r.frame
 
 -- what a port knows after a history its host has named in it
-pub knows : {K : Type 0} (hardware : Hardware) (credits : ℕ) (controller : Holdings K) (start p : Port K)
-    (calls : List Call) → IsMadeOf hardware credits controller start → Answered start calls p
+pub knows : {K : Type 0} (picks : Picking K) (hardware : Hardware) (credits : ℕ) (controller : Holdings K) (start p : Port K)
+    (calls : List Call) → IsMadeOf hardware credits controller start → Answered picks start calls p
     → Knows (words calls) (reads calls) p
-knows hardware credits controller start p [] made e = search (arith, fresh_knows, answers)
-knows hardware credits controller start p (call ∷ earlier) made a =
-    after_call call earlier a.0 p (knows hardware credits controller start a.0 earlier made a.1) a.2
+knows picks hardware credits controller start p [] made e = search (arith, fresh_knows, answers)
+knows picks hardware credits controller start p (call ∷ earlier) made a =
+    after_call picks call earlier a.0 p (knows picks hardware credits controller start a.0 earlier made a.1) a.2
 
 -- ---- what an action touches
 
@@ -114,10 +114,10 @@ pub within_named : {K : Type 0} (calls : List Call) (p : Port K) (action : Actio
 within_named calls p action h3 h4 = grind (arith, ring_named, data_named)
 
 -- the law of ports
-pub touches_what_is_named : {K : Type 0} (hardware : Hardware) (credits : ℕ) (controller : Holdings K) (start : Port K)
+pub touches_what_is_named : {K : Type 0} (picks : Picking K) (hardware : Hardware) (credits : ℕ) (controller : Holdings K) (start : Port K)
     (p : Port K) (calls : List Call) (blocks : Bool) (action : Action) (bytes : List ℕ)
-    → IsMadeOf hardware credits controller start → Answered start (Next blocks action bytes ∷ calls) p
+    → IsMadeOf hardware credits controller start → Answered picks start (Next blocks action bytes ∷ calls) p
     → IsNamed calls action
-touches_what_is_named hardware credits controller start p calls blocks action bytes made a =
-    within_named calls p action (knows hardware credits controller start p (Next blocks action bytes ∷ calls) made a)
+touches_what_is_named picks hardware credits controller start p calls blocks action bytes made a =
+    within_named calls p action (knows picks hardware credits controller start p (Next blocks action bytes ∷ calls) made a)
     a.2.0.within

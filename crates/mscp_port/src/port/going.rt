@@ -1,7 +1,7 @@
 // How what the port wanted done went.
 
 ghost use Rattle.std.specs.Prelude.{◌≡◌, ◌⊎◌, ◌↔◌, ◌+◌, ◌%◌, if◌then◌else◌, ◌==◌, Contains, IfSome, IsOk, IsTrue, MatchOption, None};
-ghost use Rattle.mscp_port.specs.Common.{ChangesByWord, Responses, Clears, GivesBack, counted, vector_in, Dies, Goes, TakesStep, Moves, IsAsNew, IsOutcomeOf, in_hand};
+ghost use Rattle.mscp_port.specs.Common.{ChangesByWord, Responses, Clears, GivesBack, counted, vector_in, Dies, Goes, TakesStep, IsAsNew, IsOutcomeOf, in_hand};
 ghost use Rattle.mscp_port.specs.declared.action.Outcome.TheVariants as outcomes;
 ghost use Rattle.mscp_port.specs.declared.buffers.Buffer.{Buffer as Kept};
 ghost use Rattle.mscp_port.specs.declared.stage.Stage.TheVariants as stages;
@@ -20,8 +20,7 @@ impl<K: Picker> Port<K> {
     /// An action that isn't a read went so; or a read failed so. An error where nothing was wanted, or where a read is told
     /// to be done without its bytes.
     pub fn went(&mut self, outcome: Outcome) -> Result<(), Unasked>
-        ensures goes { Goes outcome self.old result self.new }
-        ensures moves { IsOk result → Moves (K.picks self.old.controller.picker) outcome self.old self.new }
+        ensures { Goes (K.picks self.old.controller.picker) outcome self.old result self.new }
     {
         if self.is_dead() || !self.may_go(&outcome) {
             return Err(Unasked);

@@ -1,7 +1,7 @@
 // How blocks are moved.
 
 ghost use Rattle.std.specs.Prelude.{◌≡◌, ◌≤◌, ◌%◌, ◌⊎◌, [], true, Contains, IfSome, Option, None, Some};
-ghost use Rattle.mscp_port.specs.Common.{ChangesByService, move_of, refusal_of, task_of, Foretells, begun_step, GoesOnWithBlock, TakesBegun, TakesBlock, anyhow, begun_task, MayBegin, IsOfBlock, in_hand, IsOnVolume, MayMove};
+ghost use Rattle.mscp_port.specs.Common.{ChangesByService, move_of, refusal_of, task_of, Foretells, begun_step, GoesOnWithBlock, TakesBegun, TakesBlock, begun_task, MayBegin, IsOfBlock, in_hand, IsOnVolume, MayMove};
 ghost use Rattle.mscp_port.specs.declared.buffers.Buffer.{Buffer as Kept};
 ghost use Rattle.mscp_port.specs.Blocks.{block_of as block_after, has_host_bytes as has_bytes, writes as writes_to};
 ghost use Rattle.mscp_queue.specs.declared.upcoming.Upcoming.{Upcoming as Foretold};
@@ -131,7 +131,6 @@ impl<K: Picker> Port<K> {
     /// The step of the command of this connection and number is taken, if it is begun, and went so.
     fn finish_of(&mut self, connection: Connection, reference: u32, verdict: Verdict)
         ensures takes { TakesBlock (K.picks self.old.controller.picker) connection reference verdict self.old self.new }
-        ensures whoever { TakesBlock anyhow connection reference verdict self.old self.new }
         ensures frame { ChangesByService self.old self.new }
         ensures settings { self.new.controller.settings ≡ self.old.controller.settings }
         ensures buffers { (b : Kept) → Contains self.new.buffers.items b → Contains self.old.buffers.items b }
@@ -154,7 +153,7 @@ impl<K: Picker> Port<K> {
     /// The step that is begun is taken, and went so. Only restored bytes say that one is in hand where none is begun.
     pub(crate) fn finish(&mut self, verdict: Verdict)
         ensures takes { TakesBegun (K.picks self.old.controller.picker) verdict self.old self.new }
-        ensures blocks { GoesOnWithBlock self.old self.new }
+        ensures goes { GoesOnWithBlock (K.picks self.old.controller.picker) self.old self.new }
         ensures frame { ChangesByService self.old self.new }
         ensures settings { self.new.controller.settings ≡ self.old.controller.settings }
         ensures buffers { (b : Kept) → Contains self.new.buffers.items b → Contains self.old.buffers.items b }

@@ -44,10 +44,8 @@ impl<K: Picker> Port<K> {
     /// What the port wants done next. Until it is told how that went it answers the same, unless a register is touched. If
     /// messages alone are asked for, a block that is in hand is put aside.
     pub fn next(&mut self, ask: Ask) -> Action
-        ensures wants { Wants (asks_blocks ask) (asked ask self.old) result self.new }
-        ensures begins { IsAlive (asked ask self.old) → (asked ask self.old).task ≡ tasks.Free
-            → IsOfBlock self.new.task → BeginsBlock (K.picks (asked ask self.old).controller.picker) self.new.task
-            (asked ask self.old) self.new }
+        ensures { Wants (K.picks (asked ask self.old).controller.picker) (asks_blocks ask) (asked ask self.old) result
+            self.new }
     {
         self.put_aside(ask);
         self.want(ask)
@@ -64,9 +62,7 @@ impl<K: Picker> Port<K> {
 
     /// What is wanted next, if nothing is to be put aside.
     fn want(&mut self, ask: Ask) -> Action
-        ensures wants { Wants (asks_blocks ask) self.old result self.new }
-        ensures begins { IsAlive self.old → self.old.task ≡ tasks.Free → IsOfBlock self.new.task
-            → BeginsBlock (K.picks self.old.controller.picker) self.new.task self.old self.new }
+        ensures { Wants (K.picks self.old.controller.picker) (asks_blocks ask) self.old result self.new }
     {
         if self.is_dead() {
             return Action::Rest;

@@ -10,5 +10,5 @@ returns-clause-went c made =
     sym c.outcome_of.ensures ∙ c.in-Some.is in
     subst (λ o. IfSome o (λ outcome. TellsWent outcome c.args.handle.now status new)) (sym given)
     (went_told c.is_made.new.handle c.args.handle.now c.lend.result.now c.went.new.self c.lend.ensures.value
-    c.is_made.ensures.same c.in-Some.outcome c.went.result status c.went.ensures.goes c.went.ensures.moves
+    c.is_made.ensures.same c.in-Some.outcome c.went.result status c.went.ensures
     (search rules))

@@ -3,8 +3,8 @@ use Rattle.mscp_port.proofs.Known.{keeps_the_same, said_on}
 use Rattle.mscp_port.proofs.port.Port.want.Goals as goal
 use Rattle.mscp_port.proofs.port.Port.want.Goals.{in-Free, in_default}
 
-pub returns-clause-wants : goal.returns-clause-wants
-returns-clause-wants g c = record {
+pub returns : goal.returns
+returns g c = record {
   frame = search rules;
   within = c.action.ensures.within;
   packet = search rules;
@@ -25,6 +25,13 @@ returns-clause-wants g c = record {
         })
     | in_default w ↦ absurd (w.in_default.not-Free free)
   ];
+  begins = λ alive free of_block. elim c.match-self.branch [
+    | in-Free w ↦ subst
+        (λ (p : Port g.row.K.Denot). IsOfBlock p.task
+        → BeginsBlock (g.K.Picker.picks c.args.self.now.controller.picker) p.task c.args.self.now p)
+        (sym w.self-is) (λ is. record { begun = (w.choose-self.ensures.begins is).begun }) of_block
+    | in_default w ↦ absurd (w.in_default.not-Free free)
+  ];
   says = elim c.match-self.branch [
     | in-Free w ↦ subst (λ (p : Port g.row.K.Denot). Says c.args.self.now p) (sym w.self-is)
         (said_on c.args.self.now w.choose-self.new.self w.choose-self.result w.choose-self.ensures.says)
@@ -43,12 +50,3 @@ returns-clause-wants g c = record {
   moves = c.action.ensures.moves;
   goes_on = search rules;
 }
-
-pub returns-clause-begins : goal.returns-clause-begins
-returns-clause-begins g c = λ alive free of_block. elim c.match-self.branch [
-  | in-Free w ↦ subst
-      (λ (p : Port g.row.K.Denot). IsOfBlock p.task
-      → BeginsBlock (g.K.Picker.picks c.args.self.now.controller.picker) p.task c.args.self.now p)
-      (sym w.self-is) (λ is. record { begun = (w.choose-self.ensures.begins is).begun }) of_block
-  | in_default w ↦ absurd (w.in_default.not-Free free)
-]
