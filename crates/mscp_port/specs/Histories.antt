@@ -55,7 +55,8 @@ abbrev pub Becomes : {K : Type 0} → Picking K → Call → Port K → Port K �
 Becomes picks WriteIp old new = WritesIp old new
 Becomes picks ReadIp old new = ReadsIp old new
 Becomes picks (WriteSa word) old new = WritesSa word old new
-Becomes picks (Next blocks action bytes) old new = Wants (picks old.controller.picker) blocks old action new × (bytes ≡ bytes_wanted new new.task)
+Becomes picks (Next blocks action bytes) old new =
+    Wants (picks old.controller.picker) blocks old action new × (bytes ≡ bytes_wanted new new.task)
 Becomes picks PutAside old new = new ≡ put_aside old
 Becomes picks (WasRead bytes result) old new = Hears bytes old result new
 Becomes picks (Went outcome result) old new = Goes (picks old.controller.picker) outcome old result new

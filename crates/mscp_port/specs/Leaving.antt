@@ -1,5 +1,5 @@
--- What a message says as it leaves for the host: an end as the controller made it, with what was decided of it, and news
--- of a volume (manual, "End Messages", "Attention Messages").
+-- What a message says as it leaves for the host: an end as the controller made it, with what was decided of it, and
+-- news of a volume (manual, "End Messages", "Attention Messages").
 use Rattle.std.specs.Prelude.{ℕ, ◌%◌, ◌==◌, ◌||◌, ◌++◌, ◌∷◌, [], Bool, if◌then◌else◌, List, replicate, slice_get, option_map, Option, None, Some}
 use Rattle.byteorder.specs.Endian.{little_bytes}
 use Rattle.mscp_drive.specs.Shape.{Shape}
