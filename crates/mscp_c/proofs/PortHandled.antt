@@ -10,10 +10,12 @@ use Rattle.mscp_port.specs.Histories as calls
 record Is (call : HandleCall) (old new : Held) : Type 0 where
   next : List Call
   tells : Tells call next
-  becomes : (start : Held) (told : List Call) → Answered PolicyPicks start told old → Answered PolicyPicks start (next ++ told) new
+  becomes : (start : Held) (told : List Call) → Answered PolicyPicks start told old
+      → Answered PolicyPicks start (next ++ told) new
 
 -- it is this call of the port
-one : (call : HandleCall) (it : Call) (old new : Held) → Tells call (it ∷ []) → Becomes PolicyPicks it old new → Is call old new
+one : (call : HandleCall) (it : Call) (old new : Held) → Tells call (it ∷ []) → Becomes PolicyPicks it old new
+    → Is call old new
 one call it old new tells b = record { next = it ∷ []; tells = tells; becomes = λ start told a. (old, a, b) }
 
 -- or none
@@ -25,7 +27,8 @@ went : (number block : ℕ) (status : ℤ) (o : Option Outcome) (old new : Handl
     → MatchOption o ((status ≡ BAD_OUTCOME) × (new ≡ old)) (λ outcome. TellsWent outcome old status new)
     → (next : List Call)
     × MatchOption o ((next ≡ []) × (status ≡ BAD_OUTCOME)) (λ outcome. TellsOutcome outcome status next)
-    × ((start : Held) (told : List Call) → Answered PolicyPicks start told old.held → Answered PolicyPicks start (next ++ told) new.held)
+    × ((start : Held) (told : List Call) → Answered PolicyPicks start told old.held
+        → Answered PolicyPicks start (next ++ told) new.held)
 went number block status None old new refused = (
   [],
   (refl, refused.0),

@@ -25,7 +25,8 @@ is_done outcomes.Done = true
 is_done outcome = false
 
 -- an outcome but Done of a packet is a fatal error
-went_with : {K : Type 0} (picks : List Choice → ℕ → Type 0) (outcome : Outcome) (done : Unit) (old new : Port K) → Goes picks outcome old (Ok done) new
+went_with : {K : Type 0} (picks : List Choice → ℕ → Type 0) (outcome : Outcome) (done : Unit) (old new : Port K)
+    → Goes picks outcome old (Ok done) new
     → HoldsPacket old.task → Counts (Went outcome (Ok done)) old new
 unfolding is_done
 went_with picks outcomes.Done done old new r holds =
@@ -34,7 +35,8 @@ went_with picks outcome done old new r holds =
     let held = packet_in old.task holds in
     inl (stages.Dead 2, ((r.acts refl).packet held.0 held.1).missing (λ e. false≢true (ap is_done e)))
 
-went : {K : Type 0} (picks : List Choice → ℕ → Type 0) (outcome : Outcome) (result : Result Unit Unasked) (old new : Port K) → Goes picks outcome old result new
+went : {K : Type 0} (picks : List Choice → ℕ
+    → Type 0) (outcome : Outcome) (result : Result Unit Unasked) (old new : Port K) → Goes picks outcome old result new
     → Counts (Went outcome result) old new
 went picks outcome (Err unasked) old new r =
     inr (inr (ap (λ p. p.untold) r.unasked, ap (λ p. p.more) r.unasked))
@@ -43,7 +45,8 @@ went picks outcome (Ok done) old new r = elim r.credits [
   | inr more ↦ elim more [ inl same ↦ inr (inr same) | inr dead ↦ inl (stages.Dead dead.0, dead.1) ]
 ]
 
-counts : {K : Type 0} (picks : Picking K) (call : Call) (old new : Port K) → Becomes picks call old new → Counts call old new
+counts : {K : Type 0} (picks : Picking K) (call : Call) (old new : Port K) → Becomes picks call old new
+    → Counts call old new
 counts picks WriteIp old new r = inl (stages.First, r)
 counts picks ReadIp old new r = elim r.frame
     [ inl e ↦ inr (inr (ap (λ p. p.untold) e, ap (λ p. p.more) e)) | inr dead ↦ inl (stages.Dead dead.0, dead.1) ]
@@ -68,7 +71,8 @@ counts picks (Protect protected unit result) old new r =
 -- ---- the law
 
 -- what is told of a packet that was written
-written : {K : Type 0} (picks : Picking K) (call : Call) (old new : Port K) → IsWritten call old → Becomes picks call old new
+written : {K : Type 0} (picks : Picking K) (call : Call) (old new : Port K) → IsWritten call old
+    → Becomes picks call old new
     → (slot : Descriptor) × WritesOut outcomes.Done slot old new
 written picks (Went outcomes.Done (Ok done)) old new holds r =
     let held = packet_in old.task holds in (held.0, (r.acts refl).packet held.0 held.1)
@@ -80,8 +84,10 @@ more_after call old new counted = elim counted [
   | inr more ↦ elim more [ inl w ↦ ap (λ p. p.more) (w.2.done refl) | inr keeps ↦ keeps.1 ]
 ]
 
-pub all_but_one : {K : Type 0} (picks : Picking K) (hardware : Hardware) (credits : ℕ) (controller : Holdings K) (start p : Port K)
-    (calls : List Call) → IsMadeOf hardware credits controller start → Answered picks start calls p → p.more + 1 ≡ credits
+pub all_but_one : {K : Type 0} (picks : Picking K) (hardware : Hardware) (credits : ℕ) (controller : Holdings K)
+    (start p : Port K)
+    (calls : List Call) → IsMadeOf hardware credits controller start → Answered picks start calls p
+        → p.more + 1 ≡ credits
 all_but_one picks hardware credits controller start p [] made e = ap (λ q. q.more + 1) e ∙ made.credit
 all_but_one picks hardware credits controller start p (call ∷ calls) made a =
     ap (λ m. m + 1) (more_after call a.0 p (counts picks call a.0 p a.2))
@@ -93,8 +99,10 @@ after_written : {K : Type 0} (old new : Port K) (slot : Descriptor) (told ended 
     → (told + disk_credits old.untold old.outgoing) + new.untold ≡ new.more + (ended + ends_in old.outgoing)
 after_written old new slot told ended w e = search (arith, min-le_left)
 
-pub tells_its_credits : {K : Type 0} (picks : Picking K) (hardware : Hardware) (credits : ℕ) (controller : Holdings K) (start p : Port K)
-    (calls : List Call) (told ends : ℕ) → IsMadeOf hardware credits controller start → (a : Answered picks start calls p)
+pub tells_its_credits : {K : Type 0} (picks : Picking K) (hardware : Hardware) (credits : ℕ)
+    (controller : Holdings K) (start p : Port K)
+    (calls : List Call) (told ends : ℕ) → IsMadeOf hardware credits controller start
+        → (a : Answered picks start calls p)
     → Told picks start p calls a told ends → told + p.untold ≡ p.more + ends
 tells_its_credits picks hardware credits controller start p [] told ends made a t =
     let untold : p.untold ≡ start.untold = ap (λ q. q.untold) a in

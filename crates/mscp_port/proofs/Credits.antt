@@ -26,7 +26,8 @@ settings_stay picks (VolumeCame m unit (Err fault)) old new r = ap (λ p. p.cont
 settings_stay picks (VolumeWent unit result) old new r = ap (λ p. p.controller.settings) r.frame
 settings_stay picks (Protect protected unit result) old new r = ap (λ p. p.controller.settings) r.frame
 
-pub settings_still : {K : Type 0} (picks : Picking K) (start p : Port K) (calls : List Call) → Answered picks start calls p
+pub settings_still : {K : Type 0} (picks : Picking K) (start p : Port K) (calls : List Call)
+    → Answered picks start calls p
     → p.controller.settings ≡ start.controller.settings
 settings_still picks start p [] e = ap (λ q. q.controller.settings) e
 settings_still picks start p (call ∷ earlier) a =
@@ -66,7 +67,8 @@ outstanding_count h =
 two_left : (all before now held credits : ℕ) → now ≡ all → credits < all - before → held < credits → 2 ≤ now - held
 two_left all before now held credits same spare few = omega (arith, same, spare, few)
 
-pub has_credit : {K : Type 0} (picks : Picking K) (hardware : Hardware) (credits : ℕ) (controller : Holdings K) (start p : Port K)
+pub has_credit : {K : Type 0} (picks : Picking K) (hardware : Hardware) (credits : ℕ) (controller : Holdings K)
+    (start p : Port K)
     (calls : List Call) (bytes : List ℕ) → IsMadeOf hardware credits controller start
     → credits < balance_of First controller → Answered picks start calls p
     → length (outstanding_of First p.controller) < credits → HasCredit p.controller bytes

@@ -36,7 +36,8 @@ in_step : (xs ys : List Outgoing) (before after : Option Outgoing) (Gone : Type 
     → xs ++ begins before after ≡ (ys ++ leaves before after) ++ option_to_list after
 in_step xs ys before after Gone h5 h6 = grind (arith, append-nil, none-some)
 
-pub speaks_in_order : {K : Type 0} (picks : Picking K) (hardware : Hardware) (credits : ℕ) (controller : Holdings K) (start p : Port K)
+pub speaks_in_order : {K : Type 0} (picks : Picking K) (hardware : Hardware) (credits : ℕ) (controller : Holdings K)
+    (start p : Port K)
     (calls : List Call) → IsMadeOf hardware credits controller start → (a : Answered picks start calls p)
     → begun picks start p calls a ≡ gone picks start p calls a ++ option_to_list p.outgoing
 speaks_in_order picks hardware credits controller start p [] made e = search arith
@@ -51,7 +52,8 @@ named_of : (o : Option ℕ) (word : ℕ) (bs : List (List ℕ)) → o ≡ Some w
     → NamesPacket bs word
 named_of o word bs e h = subst (λ x. IfSome x (λ w. NamesPacket bs w)) e h
 
-delivered : {K : Type 0} (picks : Picking K) (hardware : Hardware) (credits : ℕ) (controller : Holdings K) (start old : Port K)
+delivered : {K : Type 0} (picks : Picking K) (hardware : Hardware) (credits : ℕ) (controller : Holdings K)
+    (start old : Port K)
     (calls : List Call) → IsMadeOf hardware credits controller start → Answered picks start calls old → IsReturned old
     → IsDelivered calls old
 delivered picks hardware credits controller start old calls made a returned =
@@ -62,11 +64,13 @@ delivered picks hardware credits controller start old calls made a returned =
       knows picks hardware credits controller start old calls made a,
     )
 
-pub fills_its_slot : {K : Type 0} (picks : Picking K) (hardware : Hardware) (credits : ℕ) (controller : Holdings K) (start p : Port K)
+pub fills_its_slot : {K : Type 0} (picks : Picking K) (hardware : Hardware) (credits : ℕ) (controller : Holdings K)
+    (start p : Port K)
     (call : Call) (calls : List Call) (o : Outgoing) → IsMadeOf hardware credits controller start
     → (a : Answered picks start (call ∷ calls) p) → a.0.outgoing ≡ Some o → p.outgoing ≡ None
     → IsForgotten a.0 p ⊎ IsDelivered calls a.0
-fills_its_slot picks hardware credits controller start p call calls o made a some none = elim (passes picks call a.0 p a.2) [
+fills_its_slot picks hardware credits controller start p call calls o made a some none = elim
+    (passes picks call a.0 p a.2) [
   | inl same ↦ absurd (none-some o (sym none ∙ same ∙ some))
   | inr more ↦ elim more [
     | inl nothing ↦ absurd (none-some o (sym nothing ∙ some))

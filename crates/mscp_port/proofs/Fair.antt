@@ -45,7 +45,8 @@ slot_keeps {K} side bytes old new at r owes =
     seen Responses p slot = owned (is_owned slot.word)
       where
         owned : (b : Bool)
-            → (if b then record p { task = tasks.Packet slot } else record p { is_full = true; task = tasks.Free }).owes_block
+            → (if b then record p { task = tasks.Packet slot } else record p { is_full = true; task = tasks.Free
+            }).owes_block
             ≡ p.owes_block
         owned true = refl
         owned false = refl
@@ -120,17 +121,20 @@ polled : {K : Type 0} (slot : Descriptor) (reference : ℕ) (aborted : Option �
 polled slot reference aborted bytes old new sends is =
     ap (λ p. p.owes_block) sends.frame ∙ ap (λ (b : Bool). if b then true else old.owes_block) is
 
-heard : {K : Type 0} (picks : Picking K) (call : Call) (old new : Port K) → Becomes picks call old new → HearsPoll call old
+heard : {K : Type 0} (picks : Picking K) (call : Call) (old new : Port K) → Becomes picks call old new
+    → HearsPoll call old
     → new.owes_block ≡ true
 heard picks (WasRead bytes (Ok done)) old new r is =
     let t = is.text in
     let a = is.answered in
-    polled t.0 a.0 a.1 bytes old new (((r.sees refl).text t.0 t.1 t.2 t.3).sent (sents.Answered a.0 a.1) t.4 a.2) is.poll
+    polled t.0 a.0 a.1 bytes old new (((r.sees refl).text t.0 t.1 t.2 t.3).sent
+        (sents.Answered a.0 a.1) t.4 a.2) is.poll
 heard picks call old new r is = absurd is
 
 -- ---- a history
 
-owed : {K : Type 0} (picks : Picking K) (start p : Port K) (calls : List Call) → (a : Answered picks start calls p) → IsOwed picks start p calls a
+owed : {K : Type 0} (picks : Picking K) (start p : Port K) (calls : List Call) → (a : Answered picks start calls p)
+    → IsOwed picks start p calls a
     → p.owes_block ≡ true
 owed picks start p [] a is = absurd is
 owed picks start p (call ∷ calls) a is = elim is [
@@ -174,7 +178,8 @@ nothing_waits owes [] is e = refl
 nothing_waits owes (r ∷ rs) is e = search (arith, false≢true)
 
 -- what is due is a slot of commands only where a block isn't
-not_first : {K : Type 0} (picks : List Choice → ℕ → Type 0) (old p : Port K) (action : Action) → Wants picks true old action p → old.task ≡ tasks.Free
+not_first : {K : Type 0} (picks : List Choice → ℕ → Type 0) (old p : Port K) (action : Action)
+    → Wants picks true old action p → old.task ≡ tasks.Free
     → p.task ≡ tasks.Slot Commands → block_is_due true p ≡ false
 not_first picks old p action wants free slot = by (block_is_due true p) refl
   where
@@ -185,9 +190,11 @@ not_first picks old p action wants free slot = by (block_is_due true p) refl
     by false e = refl
     by true e = absurd (block_due p p.task (wants.due alive free) slot e)
 
-pub serves_between_polls : {K : Type 0} (picks : Picking K) (hardware : Hardware) (credits : ℕ) (controller : Holdings K) (start p : Port K)
+pub serves_between_polls : {K : Type 0} (picks : Picking K) (hardware : Hardware) (credits : ℕ)
+    (controller : Holdings K) (start p : Port K)
     (calls : List Call) (action : Action) (bytes : List ℕ) → IsMadeOf hardware credits controller start
-    → (a : Answered picks start (Next true action bytes ∷ calls) p) → a.0.task ≡ tasks.Free → IsOwed picks start a.0 calls a.1
+    → (a : Answered picks start (Next true action bytes ∷ calls) p) → a.0.task ≡ tasks.Free
+    → IsOwed picks start a.0 calls a.1
     → p.task ≡ tasks.Slot Commands → p.controller.waiting ≡ []
 serves_between_polls picks hardware credits controller start p calls action bytes made a free is slot =
     let owes = ap (λ q. q.owes_block) a.2.0.frame ∙ owed picks start a.0 calls a.1 is in

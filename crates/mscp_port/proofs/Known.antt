@@ -11,7 +11,8 @@ pub held_on : (o before : Option ℕ) (w : ℕ) (Q : ℕ → Type 0) → before 
 held_on o before w Q h4 h5 = grind arith
 
 -- where nothing but the task in hand changes, only what may change by an action does
-pub unsettled : {K : Type 0} (picks : List Choice → ℕ → Type 0) (old new : Port K) → new ≡ record old { task = tasks.Free }
+pub unsettled : {K : Type 0} (picks : List Choice → ℕ → Type 0) (old new : Port K)
+    → new ≡ record old { task = tasks.Free }
     → ChangesByActing picks old new × StaysInStage old new
 unsettled picks old new e = search arith
 

@@ -57,7 +57,8 @@ after_end : (units : List Shape) (bs : List Buffer) (via : Connection) (ended : 
     → AreAsBefore vs (volumes_after units bs via ended vs)
 after_end units bs via ended vs = grind (arith, the_same, heeded_at)
 
-with_block : {K : Type 0} (picks : List Choice → ℕ → Type 0) (old new : Port K) → GoesOnWithBlock picks old new → AreAsBefore old.volumes new.volumes
+with_block : {K : Type 0} (picks : List Choice → ℕ → Type 0) (old new : Port K) → GoesOnWithBlock picks old new
+    → AreAsBefore old.volumes new.volumes
 with_block picks old new goes = search (arith, the_same, after_end, taken_or_not picks old new goes)
 
 -- ---- news
@@ -139,7 +140,8 @@ put_here : (vs : List Volume) (m : Medium) (place : ℕ)
     → Agrees true m.is_protected m.size (volume_at (volumes_with (volume_put m) (Some place) vs) place)
 put_here vs m place = search (arith, at_set vs place (volume_put m (volume_at vs place)), agrees_none)
 
-came : {K : Type 0} (picks : Picking K) (unit : ℕ) (calls : List Call) (m : Medium) (other : ℕ) (result : Result Unit VolumeFault)
+came : {K : Type 0} (picks : Picking K) (unit : ℕ) (calls : List Call) (m : Medium) (other : ℕ)
+    (result : Result Unit VolumeFault)
     (old new : Port K) → PutsIn m other old result new → Agree unit calls old
     → Agree unit (VolumeCame m other result ∷ calls) new
 came picks unit calls m other (Ok done) old new r a =
@@ -177,7 +179,8 @@ guarded : {K : Type 0} (unit : ℕ) (calls : List Call) (protected : Bool) (othe
 guarded unit calls protected other result old new r a =
     search (arith, cases_eq other unit, eq_true, guarded_here, eq_false, elsewhere)
 
-agree_after : {K : Type 0} (picks : Picking K) (unit : ℕ) (call : Call) (calls : List Call) (old new : Port K) → Becomes picks call old new
+agree_after : {K : Type 0} (picks : Picking K) (unit : ℕ) (call : Call) (calls : List Call) (old new : Port K)
+    → Becomes picks call old new
     → Agree unit calls old → Agree unit (call ∷ calls) new
 agree_after picks unit WriteIp calls old new r a =
     agree_still unit calls old new (settings_stay picks WriteIp old new r) (as_new stages.First old new r) a
@@ -187,7 +190,8 @@ agree_after picks unit (WriteSa word) calls old new r a =
     search (arith, settings_stay picks (WriteSa word) old new r, agree_still, the_same, as_new)
 agree_after picks unit (Next blocks action bytes) calls old new r a =
     agree_still unit calls old new (settings_stay picks (Next blocks action bytes) old new r) (said old new r.0.says) a
-agree_after picks unit PutAside calls old new r a = search (arith, settings_stay picks PutAside old new r, agree_still, the_same)
+agree_after picks unit PutAside calls old new r a = search
+    (arith, settings_stay picks PutAside old new r, agree_still, the_same)
 agree_after picks unit (WasRead bytes result) calls old new r a =
     search (arith, settings_stay picks (WasRead bytes result) old new r, agree_still, the_same, as_new)
 agree_after picks unit (Went outcome result) calls old new r a =
@@ -196,8 +200,10 @@ agree_after picks unit (Went outcome result) calls old new r a =
       | inr more ↦ elim more
           [ inl block ↦ with_block _ old new block.1 | inr dead ↦ as_new (stages.Dead dead.0) old new dead.1 ]
     ]) a
-agree_after picks unit LookAgain calls old new r a = search (arith, settings_stay picks LookAgain old new r, agree_still, the_same)
-agree_after picks unit Tick calls old new r a = search (arith, settings_stay picks Tick old new r, agree_still, the_same, as_new)
+agree_after picks unit LookAgain calls old new r a = search
+    (arith, settings_stay picks LookAgain old new r, agree_still, the_same)
+agree_after picks unit Tick calls old new r a = search
+    (arith, settings_stay picks Tick old new r, agree_still, the_same, as_new)
 agree_after picks unit (VolumeCame m other result) calls old new r a = came picks unit calls m other result old new r a
 agree_after picks unit (VolumeWent other result) calls old new r a = gone unit calls other result old new r a
 agree_after picks unit (Protect protected other result) calls old new r a =
@@ -205,13 +211,15 @@ agree_after picks unit (Protect protected other result) calls old new r a =
 
 -- ---- the law
 
-agree : {K : Type 0} (picks : Picking K) (hardware : Hardware) (credits : ℕ) (controller : Holdings K) (start p : Port K) (unit : ℕ)
+agree : {K : Type 0} (picks : Picking K) (hardware : Hardware) (credits : ℕ) (controller : Holdings K)
+    (start p : Port K) (unit : ℕ)
     (calls : List Call) → IsMadeOf hardware credits controller start → Answered picks start calls p → Agree unit calls p
 agree picks hardware credits controller start p unit [] made e = search (arith, agrees_none)
 agree picks hardware credits controller start p unit (call ∷ calls) made a =
     agree_after picks unit call calls a.0 p a.2 (agree picks hardware credits controller start a.0 unit calls made a.1)
 
-pub moves_on_volumes : {K : Type 0} (picks : Picking K) (hardware : Hardware) (credits : ℕ) (controller : Holdings K) (start p : Port K)
+pub moves_on_volumes : {K : Type 0} (picks : Picking K) (hardware : Hardware) (credits : ℕ) (controller : Holdings K)
+    (start p : Port K)
     (calls : List Call) (blocks : Bool) (kind : MoveKind) (unit block address count : ℕ) (bytes : List ℕ)
     → IsMadeOf hardware credits controller start
     → Answered picks start (Next blocks (actions.Transfer kind unit block address count) bytes ∷ calls) p

@@ -74,7 +74,8 @@ the_same place m old new e holds = subst (λ vs. Holds place vs m) (sym e) holds
 forgotten : {K : Type 0} (place : ℕ) (old new : Port K) → place < 16 → IsForgotten old new
     → Holds place new.volumes offline
 forgotten place old new low f =
-    inr (subst (λ v. Fits v offline) (sym (f.1.volumes place low)) (record { volume = λ is. absurd (false≢true is); host = refl }))
+    inr (subst (λ v. Fits v offline) (sym (f.1.volumes place low)) (record { volume = λ is. absurd
+        (false≢true is); host = refl }))
 
 -- an end of this unit, by what was held before
 ended : (vs : List Volume) (place code : ℕ) (kept : Option Buffer) (m : Mount) → Holds place vs m
@@ -84,7 +85,8 @@ ended vs place code kept m holds = elim holds [
   | inr e ↦ set_here vs place _ _ (heeded_of code kept (volume_at vs place) m e)
 ]
 
-ends : {K : Type 0} (picks : Picking K) (place : ℕ) (old new : Port K) (via : Connection) (e : End) (m : Mount) → Ends picks place old new via e
+ends : {K : Type 0} (picks : Picking K) (place : ℕ) (old new : Port K) (via : Connection) (e : End) (m : Mount)
+    → Ends picks place old new via e
     → Holds place old.volumes m
     → Holds place new.volumes (mount_after e.code (kept_of via e.reference old.buffers.items)
     (volume_at old.volumes place).changes m)
@@ -162,8 +164,10 @@ changed_here place becomes unit old new m unprotected here frame holds =
     (subst (λ o. Holds place (volumes_with becomes o old.volumes) (record m { is_protected = false })) (sym here)
     (changed old.volumes becomes place m unprotected holds))
 
-changes : {K : Type 0} (picks : Picking K) (place : ℕ) (call : Call) (old new : Port K) (m : Mount) → IsChangeAt place call old
-    → Becomes picks call old new → Holds place old.volumes m → Holds place new.volumes (record m { is_protected = false })
+changes : {K : Type 0} (picks : Picking K) (place : ℕ) (call : Call) (old new : Port K) (m : Mount)
+    → IsChangeAt place call old
+    → Becomes picks call old new → Holds place old.volumes m
+    → Holds place new.volumes (record m { is_protected = false })
 changes picks place (VolumeCame it unit (Ok done)) old new m here r holds =
     changed_here place (volume_put it) unit old new m (λ v. unmounted _ m refl refl) here (r.came refl) holds
 changes picks place (VolumeWent unit result) old new m here r holds =
@@ -181,7 +185,8 @@ guarded : (vs : List Volume) (protected : Bool) (place : ℕ) (o : Option ℕ) (
     → Holds place (volumes_with (volume_protected protected) o vs) m
 guarded vs protected place None m holds = holds
 guarded vs protected place (Some q) m holds =
-    set_alike vs place q (volume_protected protected (volume_at vs q)) m (record { mounted = refl; changes = refl; host = refl }) holds
+    set_alike vs place q (volume_protected protected (volume_at vs q)) m
+        (record { mounted = refl; changes = refl; host = refl }) holds
 
 -- news, and what goes out else
 with_news : (place : ℕ) (m : Mount) (units : List Shape) (vs ws : List Volume) (o : Option ℕ)
@@ -209,7 +214,8 @@ said place m old new says holds = elim (looks_or_not old) [
 ]
 
 -- a call by which the unit isn't mounted anew
-stays : {K : Type 0} (picks : Picking K) (place : ℕ) (m : Mount) (call : Call) (old new : Port K) → Becomes picks call old new
+stays : {K : Type 0} (picks : Picking K) (place : ℕ) (m : Mount) (call : Call) (old new : Port K)
+    → Becomes picks call old new
     → (IsRemounted picks place call old new → ⊥) → Holds place old.volumes m → Holds place new.volumes m
 stays picks place m WriteIp old new r other holds = absurd (other (inl (stages.First, r)))
 stays picks place m ReadIp old new r other holds = search (arith, the_same)
@@ -242,7 +248,8 @@ stays picks place m (Protect protected unit result) old new r other holds =
 
 -- ---- the law
 
-held : {K : Type 0} (picks : Picking K) (hardware : Hardware) (credits : ℕ) (controller : Holdings K) (place : ℕ) → place < 16
+held : {K : Type 0} (picks : Picking K) (hardware : Hardware) (credits : ℕ) (controller : Holdings K) (place : ℕ)
+    → place < 16
     → (start p : Port K) (calls : List Call) (m : Mount) → IsMadeOf hardware credits controller start
     → (a : Answered picks start calls p) → IsMounted picks place start p calls a m → Holds place p.volumes m
 held picks hardware credits controller place low start p [] m made a is =
@@ -268,7 +275,8 @@ there : (vs : List Volume) (place : ℕ) (m : Mount) → (volume_at vs place).is
     → Fits (volume_at vs place) m
 there vs place m is holds = search (arith, false≢true, get_or_past)
 
-pub moves_as_mounted : {K : Type 0} (picks : Picking K) (hardware : Hardware) (credits : ℕ) (controller : Holdings K) (start p : Port K)
+pub moves_as_mounted : {K : Type 0} (picks : Picking K) (hardware : Hardware) (credits : ℕ) (controller : Holdings K)
+    (start p : Port K)
     (calls : List Call) (blocks : Bool) (kind : MoveKind) (unit block address count place : ℕ) (bytes : List ℕ)
     (m : Mount)
     → IsMadeOf hardware credits controller start
@@ -276,7 +284,8 @@ pub moves_as_mounted : {K : Type 0} (picks : Picking K) (hardware : Hardware) (c
     → place_in p.controller.settings.units unit ≡ Some place
     → IsMounted picks place start p (Next blocks (actions.Transfer kind unit block address count) bytes ∷ calls) a m
     → (m.volume ≡ Some (volume_at p.volumes place).changes) × (writes kind ≡ true → m.is_protected ≡ false)
-moves_as_mounted picks hardware credits controller start p calls blocks kind unit block from count place bytes m made a h is =
+moves_as_mounted picks hardware credits controller start p calls blocks kind unit block from count place bytes m made
+    a h is =
     let moves = a.2.0.moves kind unit block from count refl in
     let at = moves.1 in
     let same : moves.0 ≡ place = cc in

@@ -81,7 +81,8 @@ pub record IsOf (via : Connection) (rs : List Record) (e : End) : Type 0 where
   pub reference : e.reference ≡ (record_at rs place).command.reference
   pub unit : e.unit ≡ (record_at rs place).command.unit
 
-pub ended_of : {K : Type 0} (picks : List Choice → ℕ → Type 0) (via : Connection) (reference : ℕ) (block : Block) (old new : Holdings K)
+pub ended_of : {K : Type 0} (picks : List Choice → ℕ
+    → Type 0) (via : Connection) (reference : ℕ) (block : Block) (old new : Holdings K)
     (result : Result Report NotBegun) (e : End) → Finishes picks (name_on via reference) block old result new
     → end_brought result ≡ Some e → IsOf via old.waiting e
 ended_of picks via reference block old new result e h8 h9 = grind (arith, none-some, end_tells, served_name)
@@ -119,7 +120,8 @@ served_stays via reference bs b r k d o told named there is = elim (none_or_some
 ]
 
 module _ {K : Type 0} (said : ℕ → Buffer → Type 0) where
-  taken_keeps : (picks : List Choice → ℕ → Type 0) (via : Connection) (reference : ℕ) (verdict : Verdict) (old new : Port K)
+  taken_keeps : (picks : List Choice → ℕ
+      → Type 0) (via : Connection) (reference : ℕ) (verdict : Verdict) (old new : Port K)
       (result : Result Report NotBegun)
       → Finishes picks (name_on via reference) (block_told verdict) old.controller result new.controller
       → HeedsStep via verdict (end_brought result) old new → Keeps said old → Keeps said new
@@ -127,7 +129,8 @@ module _ {K : Type 0} (said : ℕ → Buffer → Type 0) where
       keeps_same said old new (λ b there. subst (λ bs. Contains bs b) heeds.buffers there)
       (ap (λ h. h.waiting) f.1) k
   taken_keeps picks via reference verdict old new (Ok Idle) f heeds k = search (arith, keeps_same)
-  taken_keeps picks via reference verdict old new (Ok (Served other number unit lbn started seek ended)) f heeds k = λ b there.
+  taken_keeps picks via reference verdict old new (Ok
+      (Served other number unit lbn started seek ended)) f heeds k = λ b there.
       let h = old.controller in
       let place = f.1.serves.0 in
       let s = f.1.serves.1 in
@@ -136,11 +139,13 @@ module _ {K : Type 0} (said : ℕ → Buffer → Type 0) where
       let left = subst (λ bs. Contains bs b) heeds.buffers there in
       subst (λ rs. IsFor (λ u. said u b) b.reference rs) (sym (ap (λ l. l.waiting) s.left))
       (served_for (λ u. said u b) b.reference (block_told verdict) d h.waiting place s.next.servable.inside
-      (served_stays via reference old.buffers.items b r (block_told verdict) d ended (ap (λ x. end_brought (Ok x)) s.told)
+      (served_stays via reference old.buffers.items b r (block_told verdict) d ended (ap (λ x. end_brought
+          (Ok x)) s.told)
       (served_name h.begun (name_on via reference) r f.0 s.next.same) left)
       (k b (kept_among via ended old.buffers.items b left)))
 
-  pub goes_on_keeps : (picks : List Choice → ℕ → Type 0) (old new : Port K) → GoesOnWithBlock picks old new → Keeps said old → Keeps said new
+  pub goes_on_keeps : (picks : List Choice → ℕ → Type 0) (old new : Port K) → GoesOnWithBlock picks old new
+      → Keeps said old → Keeps said new
   goes_on_keeps picks old new goes k = elim (taken_or_not picks old new goes) [
     | inl e ↦ keeps_same said old new (λ b there. subst (λ (p : Port K). Contains p.buffers.items b) e there)
         (ap (λ (p : Port K). p.controller.waiting) e) k

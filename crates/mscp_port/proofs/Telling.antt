@@ -42,7 +42,8 @@ text_heard said bytes (Ok done) old new t at r k =
       | inr d ↦ dies said old new k d
     ])
 
-keeps_after : {K : Type 0} (picks : Picking K) (said : ℕ → Buffer → Type 0) (call : Call) (old new : Port K) → Becomes picks call old new
+keeps_after : {K : Type 0} (picks : Picking K) (said : ℕ → Buffer → Type 0) (call : Call) (old new : Port K)
+    → Becomes picks call old new
     → Keeps said old → Keeps (More call old said) new
 keeps_after picks said WriteIp old new r k = more said WriteIp old new (keeps_none said new r.buffers)
 keeps_after picks said ReadIp old new r k = more said ReadIp old new (elim r.frame [
@@ -82,7 +83,8 @@ keeps_after picks said (Protect protected unit result) old new r k = more said (
 
 -- ---- the law
 
-kept_was_said : {K : Type 0} (picks : Picking K) (hardware : Hardware) (credits : ℕ) (controller : Holdings K) (start p : Port K)
+kept_was_said : {K : Type 0} (picks : Picking K) (hardware : Hardware) (credits : ℕ) (controller : Holdings K)
+    (start p : Port K)
     (calls : List Call) → IsMadeOf hardware credits controller start → (a : Answered picks start calls p)
     → Keeps (λ unit b. WasSaid picks b.reference unit start p calls a b) p
 kept_was_said picks hardware credits controller start p [] made a = search (arith, keeps_none)
@@ -90,9 +92,11 @@ kept_was_said picks hardware credits controller start p (call ∷ calls) made a 
     keeps_after picks (λ unit b. WasSaid picks b.reference unit start a.0 calls a.1 b) call a.0 p a.2
     (kept_was_said picks hardware credits controller start a.0 calls made a.1)
 
-pub keeps_what_was_said : {K : Type 0} (picks : Picking K) (hardware : Hardware) (credits : ℕ) (controller : Holdings K) (start p : Port K)
+pub keeps_what_was_said : {K : Type 0} (picks : Picking K) (hardware : Hardware) (credits : ℕ)
+    (controller : Holdings K) (start p : Port K)
     (call : Call) (calls : List Call) (place : ℕ) (via : Connection) (e : End)
-    → IsMadeOf hardware credits controller start → (a : Answered picks start (call ∷ calls) p) → Ends picks place a.0 p via e
+    → IsMadeOf hardware credits controller start → (a : Answered picks start (call ∷ calls) p)
+    → Ends picks place a.0 p via e
     → IfSome (kept_of via e.reference a.0.buffers.items) (λ b. WasSaid picks e.reference e.unit start a.0 calls a.1 b)
 keeps_what_was_said {K} picks hardware credits controller start p call calls place via e made a end =
     by (kept_of via e.reference a.0.buffers.items) refl
@@ -110,13 +114,15 @@ keeps_what_was_said {K} picks hardware credits controller start p call calls pla
         let first = of_first via e.reference b found.1 in
         let is = kept_was_said picks hardware credits controller start a.0 calls made a.1 b found.0 in
         let step = end.step in
-        let of_end = ended_of (picks old.controller.picker) via step.0 (block_told step.1) old.controller p.controller step.2 e step.3 step.4 in
+        let of_end = ended_of (picks old.controller.picker) via step.0
+            (block_told step.1) old.controller p.controller step.2 e step.3 step.4 in
         let r = record_at rs of_end.place in
         let name : name_of r ≡ name_on First b.reference =
         ap (λ c. name_on c r.command.reference) (of_end.connection ∙ first.0)
         ∙ ap (name_on First) (sym of_end.reference ∙ sym first.1) in
         let units : WasSaid picks b.reference r.command.unit start a.0 calls a.1 b =
-        All-get_or (IsTo (λ unit. WasSaid picks b.reference unit start a.0 calls a.1 b) b.reference) rs of_end.place no_record
+        All-get_or (IsTo (λ unit. WasSaid picks b.reference unit start a.0 calls a.1 b) b.reference) rs of_end.place
+            no_record
         of_end.inside is.units (is_same (name_of r) (name_on First b.reference) name) in
         subst (λ n. WasSaid picks n e.unit start a.0 calls a.1 b) first.1
         (subst (λ u. WasSaid picks b.reference u start a.0 calls a.1 b) (sym of_end.unit) units)

@@ -51,7 +51,8 @@ move_of u = moved_by u.command.order u.lbn
 abbrev pub faulted : ℕ → Verdict
 faulted status = verdicts.Served (blocks.Bad status)
 
--- the first that holds: the unit isn't online with its volume, the address or the count is odd, the volume is protected by the host or by the hardware, or it has no such block (only
+-- the first that holds: the unit isn't online with its volume, the address or the count is odd, the volume is
+-- protected by the host or by the hardware, or it has no such block (only
 -- restored bytes say that)
 abbrev pub refusal_of : MoveKind → ℕ → Buffer → Volume → Option Verdict
 refusal_of kind block b v =

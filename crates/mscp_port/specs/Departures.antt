@@ -26,12 +26,14 @@ leaves (Some o) None = o ∷ []
 leaves before after = []
 
 -- what began to go out by each call of a history, the first one first
-abbrev pub begun : {K : Type 0} (picks : Picking K) (start p : Port K) (calls : List Call) → Answered picks start calls p → List Outgoing
+abbrev pub begun : {K : Type 0} (picks : Picking K) (start p : Port K) (calls : List Call)
+    → Answered picks start calls p → List Outgoing
 begun picks start p [] a = []
 begun picks start p (call ∷ earlier) a = begun picks start a.0 earlier a.1 ++ begins a.0.outgoing p.outgoing
 
 -- and what is gone
-abbrev pub gone : {K : Type 0} (picks : Picking K) (start p : Port K) (calls : List Call) → Answered picks start calls p → List Outgoing
+abbrev pub gone : {K : Type 0} (picks : Picking K) (start p : Port K) (calls : List Call)
+    → Answered picks start calls p → List Outgoing
 gone picks start p [] a = []
 gone picks start p (call ∷ earlier) a = gone picks start a.0 earlier a.1 ++ leaves a.0.outgoing p.outgoing
 
@@ -79,7 +81,8 @@ disk_credits untold (Some o) = if is_disk_end o.kind then credits_by untold o.ki
 
 -- in the packets that were written since all was forgotten last, so many credits of the disk's were told, and so many
 -- of its ends
-abbrev pub Told : {K : Type 0} (picks : Picking K) (start p : Port K) (calls : List Call) → Answered picks start calls p → ℕ → ℕ → Type 0
+abbrev pub Told : {K : Type 0} (picks : Picking K) (start p : Port K) (calls : List Call)
+    → Answered picks start calls p → ℕ → ℕ → Type 0
 Told picks start p [] a credits ends = (credits ≡ 0) × (ends ≡ 0)
 Told picks start p (call ∷ earlier) a credits ends =
     (IsForgotten a.0 p × (credits ≡ 0) × (ends ≡ 0))

@@ -1,4 +1,5 @@
--- Between two polls comes a step of a command, if one may be served: so a host that polls at once again can't keep its own
+-- Between two polls comes a step of a command, if one may be served: so a host that polls at once again can't keep its
+-- own
 -- commands back, and a figure that is told twice has fallen.
 use Rattle.std.specs.Prelude.{◌≡◌, ◌⊎◌, ℕ, Bool, true, List, [], ◌∷◌, Option, None, Ok}
 use Rattle.mscp_controller.specs.Holdings.{Holdings}
@@ -34,7 +35,8 @@ TellsStep (Went outcome (Ok done)) old = IsStepping old.task
 TellsStep call old = ⊥
 
 -- a poll was heard since the port forgot last what its host had said, and no step was told since
-abbrev pub IsOwed : {K : Type 0} (picks : Picking K) (start p : Port K) (calls : List Call) → Answered picks start calls p → Type 0
+abbrev pub IsOwed : {K : Type 0} (picks : Picking K) (start p : Port K) (calls : List Call)
+    → Answered picks start calls p → Type 0
 IsOwed picks start p [] a = ⊥
 IsOwed picks start p (call ∷ earlier) a =
     HearsPoll call a.0
@@ -46,5 +48,6 @@ abbrev pub PortsServeBetweenPolls : {K : Type 0} → Picking K → Type 0
 PortsServeBetweenPolls {K} picks =
     (hardware : Hardware) (credits : ℕ) (controller : Holdings K) (start p : Port K) (calls : List Call)
     (action : Action) (bytes : List ℕ) → IsMadeOf hardware credits controller start
-    → (a : Answered picks start (Next true action bytes ∷ calls) p) → a.0.task ≡ tasks.Free → IsOwed picks start a.0 calls a.1
+    → (a : Answered picks start (Next true action bytes ∷ calls) p) → a.0.task ≡ tasks.Free
+    → IsOwed picks start a.0 calls a.1
     → p.task ≡ tasks.Slot Commands → p.controller.waiting ≡ []

@@ -30,7 +30,8 @@ IsSaidBy number to (WasRead bytes result) old b = IsOfMessage number to bytes ol
 IsSaidBy number to call old b = ⊥
 
 -- by a call of a history
-abbrev pub WasSaid : {K : Type 0} (picks : Picking K) (number to : ℕ) (start p : Port K) (calls : List Call) → Answered picks start calls p
+abbrev pub WasSaid : {K : Type 0} (picks : Picking K) (number to : ℕ) (start p : Port K) (calls : List Call)
+    → Answered picks start calls p
     → Buffer → Type 0
 WasSaid picks number to start p [] a b = ⊥
 WasSaid picks number to start p (call ∷ earlier) a b =
@@ -42,5 +43,6 @@ abbrev pub PortsKeepWhatWasSaid : {K : Type 0} → Picking K → Type 0
 PortsKeepWhatWasSaid {K} picks =
     (hardware : Hardware) (credits : ℕ) (controller : Holdings K) (start p : Port K) (call : Call) (calls : List Call)
     (place : ℕ) (via : Connection) (e : End)
-    → IsMadeOf hardware credits controller start → (a : Answered picks start (call ∷ calls) p) → Ends picks place a.0 p via e
+    → IsMadeOf hardware credits controller start → (a : Answered picks start (call ∷ calls) p)
+    → Ends picks place a.0 p via e
     → IfSome (kept_of via e.reference a.0.buffers.items) (λ b. WasSaid picks e.reference e.unit start a.0 calls a.1 b)

@@ -48,9 +48,11 @@ mount_after code (Some b) changes m =
 
 -- by a call this end of Success came, of a command of this connection, to the unit at this place: the controller took
 -- the step that brought it
-pub record Ends {K : Type 0} (picks : Picking K) (place : ℕ) (old new : Port K) (via : Connection) (e : End) : Type 0 where
+pub record Ends {K : Type 0} (picks : Picking K) (place : ℕ) (old new : Port K) (via : Connection)
+    (e : End) : Type 0 where
   pub step : (reference : ℕ) × (verdict : Verdict) × (result : Result Report NotBegun)
-      × Finishes (picks old.controller.picker) (name_on via reference) (block_told verdict) old.controller result new.controller
+      × Finishes (picks old.controller.picker) (name_on via reference)
+          (block_told verdict) old.controller result new.controller
       × (end_brought result ≡ Some e) × HeedsStep via verdict (Some e) old new
   pub unit : place_heeded old.controller.settings.units e ≡ Some place
 
@@ -67,7 +69,8 @@ IsRemounted picks place call old new =
 
 -- what the host has made of the unit at a place: it begins offline, and is so again once all is forgotten. Each end of
 -- Success makes of it what its endcode says, by what is kept of its command, and another volume isn't protected
-abbrev pub IsMounted : {K : Type 0} (picks : Picking K) (place : ℕ) (start p : Port K) (calls : List Call) → Answered picks start calls p → Mount
+abbrev pub IsMounted : {K : Type 0} (picks : Picking K) (place : ℕ) (start p : Port K) (calls : List Call)
+    → Answered picks start calls p → Mount
     → Type 0
 IsMounted picks place start p [] a m = m ≡ offline
 IsMounted picks place start p (call ∷ earlier) a m =

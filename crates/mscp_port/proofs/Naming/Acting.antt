@@ -38,7 +38,8 @@ after_read ws bs old new bytes result k r = elim r.frame [
 
 -- ---- how an action went
 
-pub acted : {K : Type 0} (picks : List Choice → ℕ → Type 0) (ws : List ℕ) (bs : List (List ℕ)) (old new : Port K) (outcome : Outcome)
+pub acted : {K : Type 0} (picks : List Choice → ℕ
+    → Type 0) (ws : List ℕ) (bs : List (List ℕ)) (old new : Port K) (outcome : Outcome)
     (result : Result Unit Unasked) → Knows ws bs old → Goes picks outcome old result new → new.words ≡ old.words
     → new.written ≡ old.written → new.rings ≡ old.rings → StaysInStage old new → Knows ws bs new
 acted picks ws bs old new outcome result k r words written rings stays =
@@ -49,7 +50,8 @@ acted picks ws bs old new outcome result k r words written rings stays =
     search (arith, still_knows, answers, dead_knows)
 
 -- no step is taken
-pub no_step : {K : Type 0} (picks : List Choice → ℕ → Type 0) (ws : List ℕ) (bs : List (List ℕ)) (old new : Port K) (outcome : Outcome)
+pub no_step : {K : Type 0} (picks : List Choice → ℕ
+    → Type 0) (ws : List ℕ) (bs : List (List ℕ)) (old new : Port K) (outcome : Outcome)
     (result : Result Unit Unasked) → Knows ws bs old → Goes picks outcome old result new
     → step_answered old.task old.written ≡ None → Knows ws bs new
 no_step picks ws bs old new outcome result k r none = search (arith, acted, dead_knows)
@@ -132,7 +134,8 @@ after_step ws bs old new word k given handles t =
     ] in
     by_stage old.stage refl
 
-pub done_or_not : {K : Type 0} (picks : List Choice → ℕ → Type 0) (ws : List ℕ) (bs : List (List ℕ)) (old new : Port K) (outcome : Outcome)
+pub done_or_not : {K : Type 0} (picks : List Choice → ℕ
+    → Type 0) (ws : List ℕ) (bs : List (List ℕ)) (old new : Port K) (outcome : Outcome)
     (done : Unit {0}) → Knows ws bs old → Goes picks outcome old (Ok done) new → (o : Option ℕ)
     → step_answered old.task old.written ≡ o → Knows ws bs new
 done_or_not picks ws bs old new outcome done k r None e = no_step _ ws bs old new outcome (Ok done) k r e
@@ -146,7 +149,8 @@ done_or_not picks ws bs old new outcome done k r (Some word) e =
     })
     (subst (λ o. IfSome o (λ w. TakesStep w old new)) e (r.steps refl))
 
-pub after_went : {K : Type 0} (picks : List Choice → ℕ → Type 0) (ws : List ℕ) (bs : List (List ℕ)) (old new : Port K) (outcome : Outcome)
+pub after_went : {K : Type 0} (picks : List Choice → ℕ
+    → Type 0) (ws : List ℕ) (bs : List (List ℕ)) (old new : Port K) (outcome : Outcome)
     (result : Result Unit Unasked) → Knows ws bs old → Goes picks outcome old result new → Knows ws bs new
 after_went picks ws bs old new outcome (Ok done) k r =
     done_or_not _ ws bs old new outcome done k r (step_answered old.task old.written) refl

@@ -109,11 +109,13 @@ abbrev dead_code : Stage → Option ℕ
 dead_code (stages.Dead code) = Some code
 dead_code s = None
 
-asked_next : {K : Type 0} (picks : List Choice → ℕ → Type 0) (old new : Port K) (blocks : Bool) (action : Action) → Wants picks blocks old action new
+asked_next : {K : Type 0} (picks : List Choice → ℕ → Type 0) (old new : Port K) (blocks : Bool) (action : Action)
+    → Wants picks blocks old action new
     → (o : Option ℕ) → dead_code old.stage ≡ o → IfSome (read_from action) (λ address. IsReadFrom new new.task address)
 asked_next picks old new blocks action h4 o h6 = search (arith, wanted_from, none-some)
 
-pub next_placed : {K : Type 0} (picks : List Choice → ℕ → Type 0) (ws : List ℕ) (rs : List (ℕ × List ℕ)) (o : Option ℕ) (old new : Port K)
+pub next_placed : {K : Type 0} (picks : List Choice → ℕ
+    → Type 0) (ws : List ℕ) (rs : List (ℕ × List ℕ)) (o : Option ℕ) (old new : Port K)
     (blocks : Bool) (action : Action) → Places ws rs o old → Wants picks blocks old action new
     → Places ws rs (read_from action) new
 next_placed picks ws rs o old new blocks action k r =
@@ -121,7 +123,8 @@ next_placed picks ws rs o old new blocks action k r =
 
 -- ---- how it went
 
-pub went_placed : {K : Type 0} (picks : List Choice → ℕ → Type 0) (ws : List ℕ) (rs : List (ℕ × List ℕ)) (o : Option ℕ) (old new : Port K)
+pub went_placed : {K : Type 0} (picks : List Choice → ℕ
+    → Type 0) (ws : List ℕ) (rs : List (ℕ × List ℕ)) (o : Option ℕ) (old new : Port K)
     (outcome : Outcome) (result : Result Unit Unasked) → Places ws rs o old → Goes picks outcome old result new
     → Places ws rs None new
 went_placed picks ws rs o old new outcome result k r = search (arith, carried)

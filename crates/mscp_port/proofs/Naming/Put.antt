@@ -82,7 +82,8 @@ call_placed picks (Protect protected unit result) earlier old new areas asks k r
 asked_before : (call : Call) (earlier : List Call) → AsksFirst (call ∷ earlier) → AsksFirst earlier
 asked_before call earlier h2 = grind arith
 
-pub placed : {K : Type 0} (picks : Picking K) (hardware : Hardware) (credits : ℕ) (controller : Holdings K) (start p : Port K)
+pub placed : {K : Type 0} (picks : Picking K) (hardware : Hardware) (credits : ℕ) (controller : Holdings K)
+    (start p : Port K)
     (calls : List Call) → IsMadeOf hardware credits controller start → AsksFirst calls → Answered picks start calls p
     → Places (words calls) (reads_at calls) (asked calls) p
 placed picks hardware credits controller start p [] made asks e =
@@ -111,9 +112,11 @@ within_put calls o p (actions.Write address count) k m lies = ring_put calls o p
 within_put calls o p action h4 h5 h6 = grind (arith, ring_put, data_put)
 
 -- the law of places
-pub touches_what_was_put : {K : Type 0} (picks : Picking K) (hardware : Hardware) (credits : ℕ) (controller : Holdings K)
+pub touches_what_was_put : {K : Type 0} (picks : Picking K) (hardware : Hardware) (credits : ℕ)
+    (controller : Holdings K)
     (start p : Port K) (calls : List Call) (blocks : Bool) (action : Action) (bytes : List ℕ)
-    → IsMadeOf hardware credits controller start → AsksFirst calls → Answered picks start (Next blocks action bytes ∷ calls) p
+    → IsMadeOf hardware credits controller start → AsksFirst calls
+    → Answered picks start (Next blocks action bytes ∷ calls) p
     → IsPut calls action
 touches_what_was_put picks hardware credits controller start p calls blocks action bytes made asks a =
     within_put calls (asked (Next blocks action bytes ∷ calls)) p action

@@ -114,6 +114,7 @@ after_write_sa ws bs old new word k r =
     by_stage old.stage refl
 
 -- nothing is learned as an action is wanted
-pub after_next : {K : Type 0} (picks : List Choice → ℕ → Type 0) (ws : List ℕ) (bs : List (List ℕ)) (old new : Port K) (blocks : Bool) (action : Action)
+pub after_next : {K : Type 0} (picks : List Choice → ℕ
+    → Type 0) (ws : List ℕ) (bs : List (List ℕ)) (old new : Port K) (blocks : Bool) (action : Action)
     → Knows ws bs old → Wants picks blocks old action new → Knows ws bs new
 after_next picks ws bs old new blocks action k r = search (arith, still_knows, answers, carried)

@@ -89,7 +89,8 @@ after_call picks (Protect protected unit result) earlier old new k r =
     volume_known (words earlier) (reads earlier) (volume_protected protected) unit old new k r.frame
 
 -- what a port knows after a history its host has named in it
-pub knows : {K : Type 0} (picks : Picking K) (hardware : Hardware) (credits : ℕ) (controller : Holdings K) (start p : Port K)
+pub knows : {K : Type 0} (picks : Picking K) (hardware : Hardware) (credits : ℕ) (controller : Holdings K)
+    (start p : Port K)
     (calls : List Call) → IsMadeOf hardware credits controller start → Answered picks start calls p
     → Knows (words calls) (reads calls) p
 knows picks hardware credits controller start p [] made e = search (arith, fresh_knows, answers)
@@ -114,10 +115,12 @@ pub within_named : {K : Type 0} (calls : List Call) (p : Port K) (action : Actio
 within_named calls p action h3 h4 = grind (arith, ring_named, data_named)
 
 -- the law of ports
-pub touches_what_is_named : {K : Type 0} (picks : Picking K) (hardware : Hardware) (credits : ℕ) (controller : Holdings K) (start : Port K)
+pub touches_what_is_named : {K : Type 0} (picks : Picking K) (hardware : Hardware) (credits : ℕ)
+    (controller : Holdings K) (start : Port K)
     (p : Port K) (calls : List Call) (blocks : Bool) (action : Action) (bytes : List ℕ)
     → IsMadeOf hardware credits controller start → Answered picks start (Next blocks action bytes ∷ calls) p
     → IsNamed calls action
 touches_what_is_named picks hardware credits controller start p calls blocks action bytes made a =
-    within_named calls p action (knows picks hardware credits controller start p (Next blocks action bytes ∷ calls) made a)
+    within_named calls p action (knows picks hardware credits controller start p
+        (Next blocks action bytes ∷ calls) made a)
     a.2.0.within
