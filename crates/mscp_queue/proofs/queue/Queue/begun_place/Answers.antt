@@ -1,4 +1,4 @@
-use Rattle.mscp_queue.proofs.Basics.{◌≡◌, ap, subst, sym, ◌∙◌, IfSome, IsAlone, Line, place_begun}
+use Rattle.mscp_queue.proofs.Basics.{ap, subst, ◌∙◌, IfSome, IsAlone, Line, place_begun}
 use Rattle.mscp_queue.proofs.Nexts.{known_alone, known_place}
 use Rattle.mscp_queue.proofs.queue.Queue.begun_place.Goals as goal
 

@@ -1,0 +1,6 @@
+pub mod Common
+pub mod Keeping
+pub mod Stepped
+pub mod Back
+pub mod Begun
+pub mod Serials
