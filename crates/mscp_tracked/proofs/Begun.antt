@@ -44,7 +44,7 @@ message_unbegun h via b e =
 
 -- ---- what a message leaves of what was begun
 -- a command of this name is told so
-named_so : (ds : List Drive) (rs : List Record) (name : Name) (u : Upcoming) (found : Option Record)
+pub named_so : (ds : List Drive) (rs : List Record) (name : Name) (u : Upcoming) (found : Option Record)
     → found ≡ find (has_name name) rs → option_map (λ r. upcoming_of (drive_of ds r.command.unit) r) found ≡ Some u
     → (r : Record) × (find (has_name name) rs ≡ Some r) × (upcoming_of (drive_of ds r.command.unit) r ≡ u)
     × (name_of r ≡ name)

@@ -57,3 +57,19 @@ pub use Rattle.mscp_saved.specs.Restored.{first_of, frame_fault, is_framed}
 pub use Rattle.mscp_saved.proofs.Outcomes.{ok_is}
 pub use Rattle.mscp_packet.specs.Number.{num}
 pub use Rattle.mscp_saved.specs.declared.fault.RestoreFault.{RestoreFault}
+pub use Rattle.std.proofs.lemmas.List.{drop-map, get_or-map, map-append, take-map}
+pub use Rattle.mscp_queue.proofs.Nexts.{name_found}
+pub use Rattle.mscp_queue.proofs.Placed.{cut_at}
+pub use Rattle.mscp_queue.specs.Kept.{AreApart, names}
+pub use Rattle.mscp_controller.proofs.Bridge.Judging.{holds_either, none_waits}
+pub use Rattle.mscp_controller.specs.Arrival.{holds}
+pub use Rattle.mscp_controller.specs.Holdings.{fresh}
+pub use Rattle.mscp_queue.specs.Records.{fresh_record}
+pub use Rattle.mscp_controller.specs.Outcomes.{own_end_with}
+pub use Rattle.mscp_tracked.specs.Cookied.{CookiesAreKept, HasCookie, IsEndWith, SoundlyAnswered, TellsCookies, cookie_sent, cookie_since, cookie_with}
+pub use Rattle.mscp_controller.specs.Restored.{IsSound}
+pub use Rattle.std.proofs.lemmas.Bool.{or_parts}
+pub use Rattle.mscp_tracked.specs.Trackings.{end_taken, oldest_end}
+pub use Rattle.mscp_tracked.specs.declared.tracked.Ended.{Ended}
+pub use Rattle.mscp_packet.specs.Ends.{end_bytes}
+pub use Rattle.mscp_tracked.specs.declared.tracked.Taken.{Taken}

@@ -98,7 +98,7 @@ beside_left h new k Second place end l w u b =
     }
 
 -- nothing goes to a connection
-none_more : {X : Type 0} (via : Connection) (both : Both (List X)) → put via (of via both ++ []) both ≡ both
+pub none_more : {X : Type 0} (via : Connection) (both : Both (List X)) → put via (of via both ++ []) both ≡ both
 none_more First both = ap (λ xs. record { first = xs; second = both.second }) (append-nil both.first)
 none_more Second both = ap (λ xs. record { first = both.first; second = xs }) (append-nil both.second)
 

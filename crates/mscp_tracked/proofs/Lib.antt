@@ -4,3 +4,5 @@ pub mod Stepped
 pub mod Back
 pub mod Begun
 pub mod Serials
+pub mod Cookied
+pub mod Told

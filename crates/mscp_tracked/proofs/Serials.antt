@@ -9,7 +9,7 @@ abbrev ok_or : {X E : Type 0} → X → Result X E → X
 ok_or x (Ok y) = y
 ok_or x (Err e) = x
 
-same_ok : {X E : Type 0} (r : Result X E) (x y : X) → r ≡ Ok x → r ≡ Ok y → y ≡ x
+pub same_ok : {X E : Type 0} (r : Result X E) (x y : X) → r ≡ Ok x → r ≡ Ok y → y ≡ x
 same_ok r x y e f = ap (ok_or x) (sym f ∙ e)
 
 -- what is begun has a name

@@ -1,6 +1,7 @@
 // What is true of the serials and the cookies of every tracked controller.
 
 ghost use Rattle.mscp_tracked.specs.Calls.{SerialsAreKept};
+ghost use Rattle.mscp_tracked.specs.Cookied.{CookiesAreKept};
 
 use mscp_controller::Picker;
 
@@ -10,4 +11,11 @@ use mscp_controller::Picker;
 /// block that this begin told. One that fails is as if nobody had called it.
 pub fn serials_are_kept<K: Picker>(picker: &K)
     ensures { SerialsAreKept (K.picks picker.now) picker.now }
+{}
+
+/// Whatever is called of a new tracked controller over this picker: each begin, each finish and step, and each end that is
+/// looked at or taken is told with the cookie that was sent with the last message of its command's connection and number
+/// that was taken in before.
+pub fn cookies_are_kept<K: Picker>(picker: &K)
+    ensures { CookiesAreKept (K.picks picker.now) picker.now }
 {}

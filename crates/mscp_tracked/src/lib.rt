@@ -7,6 +7,6 @@ mod law;
 mod saving;
 mod tracked;
 
-pub use crate::law::serials_are_kept;
+pub use crate::law::{cookies_are_kept, serials_are_kept};
 pub use crate::saving::{ROOM, restore, save};
 pub use crate::tracked::{Beginning, Ended, Finished, Taken, Tracked};
