@@ -1,6 +1,6 @@
 -- Each call of a list tells the cookies that were sent.
 use Rattle.mscp_controller.specs.declared.entry.Sent.TheVariants as sents
-use Rattle.mscp_tracked.proofs.Common.{Bool, true, false, List, [], ◌∷◌, ◌++◌, length, ℕ, ◌+◌, ◌<◌, ◌≡◌, ◌∙◌, refl, sym, ap, subst, Option, Some, None, Result, Ok, Err, IfSome, if◌then◌else◌, get_or, is_some, unwrap_or, option_map, map, drop, position, slice_get, true≢false, false≢true, position-Some, drop-map, find, AreApart, names, Command, command_of, Block, Connection, First, Second, Both, of, put, End, Record, has_name, name_of, name_on, no_record, record_at, same_is, Name, Report, Choice, Upcoming, Drive, Holdings, IsSound, NotBegun, SendFault, Sent, Settings, Cookies, cookie_in, sent, taken, refusal, outstanding_of, balance_of, holds, is_queued, held_unless, sent_unless, aborts_none, queued, aborting, answered_end, with_end, reference_aborted, place_aborted, after_message, answer_to_message, upcoming_begun, begun_step, place_begun, upcoming_of, drive_of, upcoming_name, Beginning, Finished, Tracking, Begins, BeginsAfter, BeginsAnew, Finishes, Serves, after_message_with, beginning, beginning_of, cookies_sent, cookie_begun, new_after, is_begun, has_serial, AnswersCall, Call, CookiesAreKept, HasCookie, SoundlyAnswered, TellsCookies, cookie_sent, cookie_since, cookie_with, Ended, oldest_end, end_taken, end_bytes, IsEndWith, Taken}
+use Rattle.mscp_tracked.proofs.Common.{Bool, true, false, List, [], ◌∷◌, ◌++◌, ℕ, ◌≡◌, ◌∙◌, refl, sym, ap, subst, Option, Some, None, Result, Ok, Err, if◌then◌else◌, get_or, is_some, unwrap_or, option_map, drop, position, slice_get, true≢false, false≢true, position-Some, drop-map, find, AreApart, names, command_of, Block, Connection, First, Second, of, put, End, Record, has_name, name_of, name_on, no_record, record_at, same_is, Name, Choice, Upcoming, Drive, Holdings, SendFault, Sent, cookie_in, taken, refusal, outstanding_of, balance_of, is_queued, held_unless, sent_unless, aborts_none, queued, aborting, answered_end, with_end, reference_aborted, after_message, answer_to_message, upcoming_begun, begun_step, place_begun, upcoming_name, Beginning, Finished, Tracking, BeginsAfter, Serves, beginning_of, cookies_sent, new_after, AnswersCall, Call, CookiesAreKept, HasCookie, SoundlyAnswered, TellsCookies, cookie_since, cookie_with, Ended, oldest_end, end_taken, end_bytes, IsEndWith, Taken}
 use Rattle.mscp_tracked.proofs.Begun.{named_so}
 use Rattle.mscp_tracked.proofs.Cookied.{AreOwn, arrived_owns, own, own_at, own_ends, own_sent, sent_with, still_own, step_owns, unheld}
 use Rattle.mscp_tracked.proofs.Serials.{same_ok}
@@ -108,10 +108,12 @@ module _ {K : Type 0} (picks : List Choice → ℕ → Type 0) where
         finished.report finished.cookie a.steps a.cookie a.cookies
 
     takes_own : (via : Connection) → Owns f (record old {
-          controller = record old.controller { untaken = put via (drop 1 (of via old.controller.untaken))
-              old.controller.untaken };
-          cookies = taken via old.cookies;
-        })
+      controller = record old.controller {
+        untaken = put via (drop 1 (of via old.controller.untaken))
+            old.controller.untaken;
+      };
+      cookies = taken via old.cookies;
+    })
     takes_own First = record {
       waiting = o.waiting;
       first = ap (drop 1) o.first ∙ drop-map (λ e. f (name_on First e.reference)) 1 old.controller.untaken.first;
@@ -133,10 +135,13 @@ module _ {K : Type 0} (picks : List Choice → ℕ → Type 0) where
     took_own Second t s = took f Second old.controller.untaken.second old.cookies.untaken.second t o.second s
 
     call_owns : (call : Call) → AnswersCall picks old call new → TellsCookies f call × Owns (cookie_with f call) new
-    call_owns (Call.Send via b cookie became) a = (tt, subst (Owns (cookie_with f (Call.Send via b cookie became)))
-        (sym a.1) (subst (λ r. AreOwn (cookie_with f (Call.Send via b cookie r)) (after_message via old.controller b)
-        (cookies_sent via old b cookie (answer_to_message via old.controller b))) (sym a.0)
-        (came f old via b cookie apart o)))
+    call_owns (Call.Send via b cookie became) a = (
+      tt,
+      subst (Owns (cookie_with f (Call.Send via b cookie became)))
+          (sym a.1) (subst (λ r. AreOwn (cookie_with f (Call.Send via b cookie r)) (after_message via old.controller b)
+          (cookies_sent via old b cookie (answer_to_message via old.controller b))) (sym a.0)
+          (came f old via b cookie apart o)),
+    )
     call_owns (Call.Look via None) a = (tt, same_owns f old new a.1 o)
     call_owns (Call.Look via (Some e)) a = (looks_own via e a.0, same_owns f old new a.1 o)
     call_owns (Call.Take via None) a = (tt, subst (Owns f) (sym a.1) (takes_own via))

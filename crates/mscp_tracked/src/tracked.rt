@@ -61,10 +61,17 @@ impl<K> Model for Tracked<K> {
     ghost invariant = { λ t. IsTracked t.controller t.cookies };
 }
 
+/// The opcode byte of an ABORT.
+const ABORT: u8 = 1;
+
 /// The number of the command that a message aborts, if it is an ABORT.
 fn number_aborted(b: &[u8]) -> Option<u32>
     ensures { (command : Command) → IsCommand b.now command → result ≡ number_aborted command.order }
 {
+    // Few messages are, and the others are read only once.
+    if b.len() < 12 || b[8] != ABORT {
+        return None;
+    }
     match read_command(b) {
         Ok(command) => number_in(&command.order),
         Err(_) => None,
@@ -132,7 +139,6 @@ impl<K: Picker> Tracked<K> {
     pub fn reset(&mut self)
         ensures { self.new ≡ new_after self.old.beginnings self.old.controller.settings self.old.controller.picker }
     {
-        let _ = self.controller.drives();
         self.controller.reset();
         self.cookies.clear();
     }
