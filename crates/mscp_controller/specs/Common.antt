@@ -20,11 +20,12 @@ pub use Rattle.mscp_packet.specs.Opcodes.{class, is_immediate_class}
 pub use Rattle.mscp_packet.specs.Statuses.{success}
 pub use Rattle.mscp_queue.specs.Drives.{is_online_in}
 pub use Rattle.mscp_queue.specs.Figures.{figure_of_name, figures}
-pub use Rattle.mscp_queue.specs.Kept.{IsOfUnit}
+pub use Rattle.mscp_queue.specs.Kept.{IsOfUnit, begun_name}
 pub use Rattle.mscp_queue.specs.Names.{name_on}
 pub use Rattle.mscp_queue.specs.Orders.{first_block, order_weight}
 pub use Rattle.mscp_queue.specs.Outcomes.{IsCoded, end_with}
-pub use Rattle.mscp_queue.specs.Records.{IsServing, has_name, record_at}
+pub use Rattle.mscp_queue.specs.Records.{IsAlone, IsServing, has_name, record_at, without}
+pub use Rattle.mscp_queue.specs.Serving.{place_begun}
 pub use Rattle.mscp_queue.specs.Views.{is_open_at}
 pub use Rattle.mscp_queue.specs.Why.{holders_of_name, is_nobody}
 pub use Rattle.std.specs.List.{list_any, position}

@@ -1,5 +1,5 @@
 -- A command that is aborted is taken out of those that wait, and no other.
-use Rattle.mscp_queue.proofs.Basics.{◌≡◌, ◌≢◌, ⊎_elim, ℕ, ◌+◌, ◌<◌, ◌≤◌, Bool, true, false, cond, not, List, [], ◌∷◌, ◌++◌, length, ap, sym, ◌∙◌, arith, filter, find, option_to_list, remove, slice_index_or, is_some, if◌then◌else◌, Option, Some, None, AllByRecursion, position, false≢true, true≢false, get_or_at, length-append, map-append, All-from_recursion, filter-append, recursion_from_All, Drive, AreApart, IsHeld, IsKept, IsStillServable, names, units_of, Name, begun_without, is_begun, Record, has_name, is_in_service, name_of, record_at, without, still_aborted, still_begun, every_kept, every_weaker, fewer, filter_all, filter_none, filter_one, is_differ, same_is, removed_at, Found, find_cases, find_first, find_none, position_first, position_none}
+use Rattle.mscp_queue.proofs.Basics.{◌≡◌, ◌≢◌, ⊎_elim, ℕ, ◌+◌, ◌<◌, ◌≤◌, Bool, true, false, cond, not, List, [], ◌∷◌, ◌++◌, length, ap, sym, ◌∙◌, arith, filter, find, option_to_list, remove, slice_index_or, is_some, if◌then◌else◌, IfSome, Option, Some, None, AllByRecursion, position, false≢true, true≢false, get_or_at, length-append, map-append, All-from_recursion, filter-append, recursion_from_All, Drive, AreApart, IsHeld, IsKept, IsStillServable, names, units_of, Name, begun_without, is_begun, Record, has_name, is_in_service, name_of, record_at, without, still_aborted, still_begun, every_kept, every_weaker, fewer, filter_all, filter_none, filter_one, is_differ, same_is, removed_at, Found, find_cases, find_first, find_none, position_first, position_none}
 
 -- ---- names that stand once
 apart_behind : (A : List Name) (x : Name) (B : List Name) → AreApart (A ++ x ∷ B) → AllByRecursion (λ y. y ≢ x) B
@@ -49,6 +49,12 @@ aborts_at gone rs place apart h = search (
   every_weaker,
   filter-append,
 )
+
+-- the others are left where one is found
+pub others_left : (gone : Name) (rs : List Record) (o : Option ℕ) → AreApart (names rs)
+    → o ≡ position (has_name gone) rs → IfSome o (λ place. remove rs place ≡ without gone rs)
+others_left gone rs None apart e = tt
+others_left gone rs (Some place) apart e = (aborts_at gone rs place apart (sym e)).left
 
 -- nothing is taken out where none is found
 pub record AbortsNone (gone : Name) (rs : List Record) : Type 0 where

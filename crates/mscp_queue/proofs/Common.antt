@@ -42,8 +42,8 @@ pub use Rattle.mscp_queue.specs.Orders.{endcode, first_block, is_move, is_sequen
 pub use Rattle.mscp_queue.specs.Outcomes.{IsCoded, aborted_end, moved_body, outcome_at, outcome_body, touches}
 pub use Rattle.mscp_queue.specs.Pairs.{Pairs}
 pub use Rattle.mscp_queue.specs.Pickers.{IsRow, IsSweep, costs}
-pub use Rattle.mscp_queue.specs.Records.{Record, advanced, charge, drive_at, fresh_record, has_name, is_in_service, is_unstarted, left_if_serving, left_of, name_of, no_record, passed_by, record_at, step_charge, without}
-pub use Rattle.mscp_queue.specs.Serving.{IsNext, IsServable, begun_without, drive_after, end_given, has_block, is_begun, plan_of, report_of, state_left, touched, upcoming_begun, upcoming_of, waiting_after}
+pub use Rattle.mscp_queue.specs.Records.{IsAlone, Record, advanced, charge, drive_at, fresh_record, has_name, is_in_service, is_unstarted, left_if_serving, left_of, name_of, no_record, passed_by, record_at, step_charge, without}
+pub use Rattle.mscp_queue.specs.Serving.{IsNext, IsServable, begun_without, drive_after, end_given, has_block, is_begun, place_begun, plan_of, report_of, state_left, touched, upcoming_begun, upcoming_of, waiting_after}
 pub use Rattle.mscp_queue.specs.Slots.{AreKept, IsLowestUntaken, Slot, filled, held, is_unfenced, is_unfenced_at, items, kind_at, kind_of, kinds_of, lowered_by, lowered_unless_serving, no_kind, no_slot, numbers, shown, slot_at, targets, with_due, with_item}
 pub use Rattle.mscp_queue.specs.Targets.{IsTargeted, no_target, target_of, targets_of, unit_place}
 pub use Rattle.mscp_queue.specs.Views.{AllMayStart, IsPick, choice_name, choice_of, choices_at, is_affordable, is_free, is_open, is_open_at, open_places, view_of}

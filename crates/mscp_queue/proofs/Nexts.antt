@@ -1,5 +1,5 @@
 -- Which record is served next: what was begun, or else that in service, or else one that may be picked.
-use Rattle.mscp_queue.proofs.Basics.{◌≡◌, ◌≢◌, ⊎_elim, ◌⊎◌, inl, inr, ℕ, zero, suc, ◌+◌, ◌-◌, ◌<◌, ◌≤◌, Bool, true, false, List, [], ◌∷◌, ◌++◌, take, drop, length, refl, ap, sym, ◌∙◌, subst, arith, All, filter, if◌then◌else◌, is_some, nat_lt, unwrap_or, Option, Some, None, AllByRecursion, position, get_or_append_left, get_or-append_right, get_or_at, get_or-drop, get_or-take, length-append, length-drop, length-take-le, All-from_recursion, recursion_from_All, eq-eqb, eqb-true, false≢true, lt-ltb, ltb-false, ltb-true, true≢false, Drive, Choice, AreApart, IsHeld, IsStillServable, begun_name, names, place_without, Name, same_name, Record, has_name, is_in_service, is_unstarted, name_of, no_record, record_at, without, IsNext, IsServable, begun_without, IsPick, picked_opens, is_differ, is_same, same_is, every_append, every_parts, every_weaker, cut_at, find_cases, position_first, position_none, others_idle}
+use Rattle.mscp_queue.proofs.Basics.{◌≡◌, ◌≢◌, ⊎_elim, ◌⊎◌, inl, inr, ℕ, zero, suc, ◌+◌, ◌-◌, ◌<◌, ◌≤◌, Bool, true, false, List, [], ◌∷◌, ◌++◌, take, drop, length, refl, ap, sym, ◌∙◌, subst, arith, All, IfSome, filter, if◌then◌else◌, is_some, nat_lt, unwrap_or, Option, Some, None, AllByRecursion, position, get_or_append_left, get_or-append_right, get_or_at, get_or-drop, get_or-take, length-append, length-drop, length-take-le, All-from_recursion, recursion_from_All, eq-eqb, eqb-true, false≢true, lt-ltb, ltb-false, ltb-true, true≢false, Drive, Choice, AreApart, IsHeld, IsStillServable, begun_name, names, place_without, Name, same_name, Record, IsAlone, has_name, is_in_service, is_unstarted, name_of, no_record, record_at, without, IsNext, IsServable, begun_without, place_begun, IsPick, picked_opens, is_differ, is_same, same_is, every_append, every_parts, every_weaker, cut_at, find_cases, position_first, position_none, others_idle}
 use Rattle.mscp_queue.proofs.Aborts.{aborts_at, held_aborted}
 
 -- the place of the first record that passes a test
@@ -69,6 +69,18 @@ name_found rs name place None a l e h =
     ∙ (ap (position (has_name name)) (sym f.is) ∙ sym h)))))
     (find_cases (has_name name) rs)
 name_found rs name place (Some other) a l e h = search (arith, found_at (has_name name) rs other (sym h), once, same_is)
+
+-- the place that is known of what was begun is where its name stands, and there alone
+pub known_place : (rs : List Record) (begun : Option ℕ) → AreApart (names rs)
+    → ((place : ℕ) → begun ≡ Some place → place < length rs) → begun ≡ place_begun rs (begun_name rs begun)
+known_place rs None a l = refl
+known_place rs (Some place) a l = sym (name_found rs (name_of (record_at rs place)) place
+    (position (has_name (name_of (record_at rs place))) rs) a (l place refl) refl refl)
+
+pub known_alone : (rs : List Record) (begun : Option ℕ) → AreApart (names rs)
+    → ((place : ℕ) → begun ≡ Some place → place < length rs) → IfSome begun (IsAlone rs)
+known_alone rs None a l = tt
+known_alone rs (Some place) a l = λ other inside e. once rs other place a inside (l place refl) e
 
 -- the record at the place that is known of what was begun is next
 pub known_next : (picks : List Choice → ℕ → Type 0) (budget : ℕ) (ds : List Drive) (rs : List Record) (place : ℕ)

@@ -18,8 +18,8 @@ pub use Rattle.mscp_queue.specs.Names.{name_on}
 pub use Rattle.mscp_queue.specs.Orders.{endcode, first_block, is_move, is_sequential, order_weight}
 pub use Rattle.mscp_queue.specs.Outcomes.{aborted_end, bad_status, end_with, goes_on, good_status, head_after, is_success, moved_body, online_body, outcome_at, outcome_body, outcome_status, state_after, touches}
 pub use Rattle.mscp_queue.specs.Pickers.{IsRow}
-pub use Rattle.mscp_queue.specs.Records.{IsServing, aborted_record, advanced, drive_at, fresh_record, has_name, is_in_service, is_unstarted, left_if_serving, left_of, name_of, no_record, passed_by, record_at, step_charge}
-pub use Rattle.mscp_queue.specs.Serving.{IsNext, end_given, end_in, is_begun, plan_of, state_left, touched, upcoming_begun, upcoming_of}
+pub use Rattle.mscp_queue.specs.Records.{IsAlone, IsServing, aborted_record, advanced, drive_at, fresh_record, has_name, is_in_service, is_unstarted, left_if_serving, left_of, name_of, no_record, passed_by, record_at, step_charge, without}
+pub use Rattle.mscp_queue.specs.Serving.{IsNext, end_given, end_in, is_begun, place_begun, plan_of, state_left, touched, upcoming_begun, upcoming_of}
 pub use Rattle.mscp_queue.specs.Slots.{AreKept, IsLowestUntaken, dues, filled, is_unfenced, is_unfenced_at, items, kinds_of, lowered_by, lowered_unless_serving, shown, slot_at, targets, with_due, with_item}
 pub use Rattle.mscp_queue.specs.Targets.{IsTargeted, no_target, target_of, targets_of, unit_place}
 pub use Rattle.mscp_queue.specs.Views.{AllMayStart, IsPick, choice_name, choice_of, is_open_at, open_places, view_of}

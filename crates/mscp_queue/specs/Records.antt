@@ -62,6 +62,11 @@ has_name name r = same_name (name_of r) name
 abbrev pub drive_at : List Drive → List Record → ℕ → Drive
 drive_at ds rs place = drive_of ds (record_at rs place).command.unit
 
+-- no other record has the name of the one at a place
+abbrev pub IsAlone : List Record → ℕ → Type 0
+IsAlone rs place =
+    (other : ℕ) → other < length rs → name_of (record_at rs other) ≡ name_of (record_at rs place) → other ≡ place
+
 -- the records without that of the command of this name
 abbrev pub without : Name → List Record → List Record
 without name rs = filter (λ r. not (has_name name r)) rs

@@ -1,5 +1,6 @@
 -- One step: what it does with a record and its drive, what is told of it before, and which record it may serve.
 use Rattle.std.specs.Prelude.{◌≡◌, ℕ, ◌+◌, ◌<◌, Bool, true, false, if◌then◌else◌, List, ◌++◌, length, map, take, drop, All, find, nat_lt, Option, Some, None, option_map}
+use Rattle.std.specs.List.{position}
 use Rattle.mscp_packet.specs.declared.command.Order.{Order}
 use Rattle.mscp_packet.specs.declared.end.End.{End}
 use Rattle.mscp_drive.specs.Shape.{Shape, cylinder_of}
@@ -109,6 +110,11 @@ pub record IsServable (budget : ℕ) (rs : List Record) (place : ℕ) : Type 0 w
 abbrev pub is_begun : Name → Option Name → Bool
 is_begun name None = false
 is_begun name (Some begun) = same_name begun name
+
+-- the place of what was begun, if something was (profile)
+abbrev pub place_begun : List Record → Option Name → Option ℕ
+place_begun rs None = None
+place_begun rs (Some name) = position (has_name name) rs
 
 -- what is begun without the command of this name: nothing, where it was that (profile)
 abbrev pub begun_without : Name → Option Name → Option Name

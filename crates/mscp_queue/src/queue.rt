@@ -1,7 +1,7 @@
 // The queue of a disk controller: its waiting commands, its drives, and its picker.
 
-ghost use Rattle.std.specs.Prelude.{◌≡◌, ◌+◌, ◌*◌, ◌<◌, ◌≤◌, All, length, find, option_map, false, IfNone, IfSome};
-ghost use Rattle.mscp_queue.specs.Common.{list_any, position, IsOfKind, is_online_in, figure_of_name, figures, IsWaitable, place_without, units_of, Line, aborting, fresh, pushed, name_on, order_weight, IsServing, aborted_record, has_name, name_of, record_at, is_begun, is_open_at, holders_of_name, is_nobody};
+ghost use Rattle.std.specs.Prelude.{◌≡◌, ◌+◌, ◌*◌, ◌<◌, ◌≤◌, All, length, find, option_map, remove, false, IfNone, IfSome};
+ghost use Rattle.mscp_queue.specs.Common.{list_any, position, IsOfKind, is_online_in, figure_of_name, figures, IsAlone, IsWaitable, begun_name, place_begun, place_without, units_of, Line, aborting, fresh, pushed, name_on, order_weight, IsServing, aborted_record, has_name, name_of, record_at, is_begun, without, is_open_at, holders_of_name, is_nobody};
 
 mod restoring;
 mod stepping;
@@ -153,6 +153,20 @@ impl<K: Picker> Queue<K> {
         self.candidates.has_any(name)
     }
 
+    /// The place of the waiting command of the connection with the reference number, in order of arrival, if it waits. No
+    /// other has its name.
+    pub fn place_of(&self, connection: Connection, reference: u32) -> Option<usize>
+        ensures place { result ≡ position (has_name (name_on connection reference)) self.now.waiting }
+        ensures others { IfSome result (λ place.
+            remove self.now.waiting place ≡ without (name_on connection reference) self.now.waiting) }
+    {
+        let name = Name {
+            connection,
+            reference,
+        };
+        self.candidates.place_of(name)
+    }
+
     /// Whether the unit of this number is online: false where it isn't configured.
     pub fn is_online(&self, unit: u16) -> bool
         ensures { result ≡ is_online_in self.now.drives unit }
@@ -291,6 +305,16 @@ impl<K: Picker> Queue<K> {
             Some(place) => self.backlog.record(place).has_name(name),
             None => false,
         }
+    }
+
+    /// The place of what was begun, in order of arrival, if something was. No other has its name.
+    pub fn begun_place(&self) -> Option<usize>
+        ensures place { result ≡ place_begun self.now.waiting self.now.begun }
+        ensures named { begun_name self.now.waiting result ≡ self.now.begun }
+        ensures inside { IfSome result (λ place. place < length self.now.waiting) }
+        ensures alone { IfSome result (IsAlone self.now.waiting) }
+    {
+        self.begun
     }
 }
 

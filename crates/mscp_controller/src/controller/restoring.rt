@@ -1,7 +1,7 @@
 // A controller as it was, and what is to be kept of one so that it can be again.
 
-ghost use Rattle.std.specs.Prelude.{◌≡◌, ◌<◌, ◌≤◌, length};
-ghost use Rattle.mscp_controller.specs.Common.{record_at, of, IsSound, made_of};
+ghost use Rattle.std.specs.Prelude.{◌≡◌, ◌<◌, ◌≤◌, length, IfSome};
+ghost use Rattle.mscp_controller.specs.Common.{IsAlone, record_at, begun_name, place_begun, of, IsSound, made_of};
 
 use crate::controller::Controller;
 use arrayvec::ArrayVec;
@@ -67,6 +67,16 @@ impl<K: Picker> Controller<K> {
         ensures { result ≡ self.now.begun }
     {
         self.queue.begun()
+    }
+
+    /// The place of what was begun, in order of arrival, if something was. No other has its name.
+    pub fn begun_place(&self) -> Option<usize>
+        ensures place { result ≡ place_begun self.now.waiting self.now.begun }
+        ensures named { begun_name self.now.waiting result ≡ self.now.begun }
+        ensures inside { IfSome result (λ place. place < length self.now.waiting) }
+        ensures alone { IfSome result (IsAlone self.now.waiting) }
+    {
+        self.queue.begun_place()
     }
 
     /// Who picks.

@@ -1,7 +1,7 @@
 // What callers see of a controller.
 
-ghost use Rattle.std.specs.Prelude.{◌≡◌, ◌+◌, ◌≤◌, All, length, IfNone, IfSome};
-ghost use Rattle.mscp_controller.specs.Common.{is_online_in, figure_of_name, figures, IsOfUnit, name_on, IsServing, has_name, record_at, is_open_at, holders_of_name, is_nobody, position, of, credits_of, IsBalanced, balance_of, begun_step, waiting_on};
+ghost use Rattle.std.specs.Prelude.{◌≡◌, ◌+◌, ◌≤◌, All, length, remove, IfNone, IfSome};
+ghost use Rattle.mscp_controller.specs.Common.{is_online_in, figure_of_name, figures, IsOfUnit, name_on, IsServing, has_name, record_at, is_open_at, holders_of_name, is_nobody, position, of, credits_of, IsBalanced, balance_of, begun_step, waiting_on, without};
 
 use crate::controller::Controller;
 use arrayvec::ArrayVec;
@@ -53,6 +53,16 @@ impl<K: Picker> Controller<K> {
         ensures account { IsBalanced self.now }
     {
         self.queue.figure(connection, reference)
+    }
+
+    /// The place of the waiting command of the connection with the reference number, in order of arrival, if it waits. No
+    /// other has its name.
+    pub fn place_of(&self, connection: Connection, reference: u32) -> Option<usize>
+        ensures place { result ≡ position (has_name (name_on connection reference)) self.now.waiting }
+        ensures others { IfSome result (λ place.
+            remove self.now.waiting place ≡ without (name_on connection reference) self.now.waiting) }
+    {
+        self.queue.place_of(connection, reference)
     }
 
     /// Who keeps the waiting command of the connection with the reference number back, oldest first: nobody where none
