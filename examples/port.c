@@ -27,23 +27,29 @@ int32_t port_open(struct port *port, const struct port_bus *bus, const struct ms
     };
     port->bus = *bus;
     port->lines = hardware->bus;
-    port->mscp = mscp_port_in_memory(port->memory, sizeof port->memory);
-    return mscp_port_init(port->mscp, &limits, units, count, MSCP_SWEEP, hardware, PORT_COMMANDS);
+    struct mscp_port *made = mscp_port_in_memory(port->memory, sizeof port->memory);
+    return mscp_port_init(made, &limits, units, count, MSCP_SWEEP, hardware, PORT_COMMANDS);
+}
+
+/* Its handle has a pointer to what lies behind it, which is set anew: the port may have been copied. */
+struct mscp_port *port_itself(struct port *port)
+{
+    return mscp_port_moved(port->memory);
 }
 
 uint16_t port_read(struct port *port, unsigned offset)
 {
     if (offset != 0)
-        return (uint16_t)mscp_port_read_sa(port->mscp);
-    mscp_port_read_ip(port->mscp);
+        return (uint16_t)mscp_port_read_sa(port_itself(port));
+    mscp_port_read_ip(port_itself(port));
     return 0;
 }
 
 void port_write(struct port *port, unsigned offset, uint16_t word)
 {
     if (offset != 0)
-        mscp_port_write_sa(port->mscp, word);
-    else if (mscp_port_write_ip(port->mscp) == MSCP_DONE)
+        mscp_port_write_sa(port_itself(port), word);
+    else if (mscp_port_write_ip(port_itself(port)) == MSCP_DONE)
         wire_reset();
 }
 
@@ -104,14 +110,14 @@ static int32_t act(struct port *port, const struct mscp_action *action)
     case MSCP_ACTION_READ:
         outcome = bus->read(bus->machine, action->address, bytes, action->count);
         if (outcome == MSCP_OUTCOME_DONE)
-            return wire_action(mscp_port_was_read(port->mscp, bytes, action->count), action, bytes);
+            return wire_action(mscp_port_was_read(port_itself(port), bytes, action->count), action, bytes);
         break;
     case MSCP_ACTION_WRITE: outcome = bus->write(bus->machine, action->address, action->bytes, action->count); break;
     case MSCP_ACTION_INTERRUPT: bus->interrupt(bus->machine, action->vector); break;
     case MSCP_ACTION_TRANSFER: outcome = transfer(bus, action); break;
     default: break; /* PAUSE: the machine went on since the last turn */
     }
-    int32_t status = mscp_port_went(port->mscp, outcome, DRIVE_ERROR);
+    int32_t status = mscp_port_went(port_itself(port), outcome, DRIVE_ERROR);
     return outcome == MSCP_OUTCOME_DONE ? wire_action(status, action, action->bytes) : status;
 }
 
@@ -119,9 +125,9 @@ static int32_t act(struct port *port, const struct mscp_action *action)
 bool port_turn(struct port *port, unsigned most)
 {
     struct mscp_action action;
-    mscp_port_look_again(port->mscp);
+    mscp_port_look_again(port_itself(port));
     for (unsigned done = 0; done < most; done++) {
-        if (mscp_port_next(port->mscp, &action) != MSCP_DONE)
+        if (mscp_port_next(port_itself(port), &action) != MSCP_DONE)
             return false;
         if (done > 0 && action.kind == MSCP_ACTION_PAUSE)
             return true;
@@ -135,15 +141,15 @@ bool port_turn(struct port *port, unsigned most)
 
 void port_second(struct port *port)
 {
-    mscp_port_tick(port->mscp);
+    mscp_port_tick(port_itself(port));
 }
 
 bool port_insert(struct port *port, uint16_t unit, const struct mscp_medium *medium)
 {
-    return mscp_port_volume_came(port->mscp, unit, medium) == MSCP_DONE;
+    return mscp_port_volume_came(port_itself(port), unit, medium) == MSCP_DONE;
 }
 
 bool port_eject(struct port *port, uint16_t unit)
 {
-    return mscp_port_volume_went(port->mscp, unit) == MSCP_DONE;
+    return mscp_port_volume_went(port_itself(port), unit) == MSCP_DONE;
 }

@@ -18,10 +18,9 @@ struct port_bus {
     bool (*write_block)(void *machine, uint16_t unit, uint32_t block, const uint8_t *bytes);
 };
 
-/* A port, with a controller. It holds no pointer but those of its bus. */
+/* A port, with a controller. It holds no pointer but those of its bus: it may be copied, and saved as the bytes behind `bus`. */
 struct port {
     struct port_bus bus;
-    struct mscp_port *mscp;
     uint8_t lines; /* of the bus, an enum mscp_bus */
     MSCP_ALIGNED uint64_t memory[(MSCP_HEAD + MSCP_PORT_SIZE) / sizeof(uint64_t)];
 };
@@ -29,6 +28,9 @@ struct port {
 /* Makes a port of these units in rising order of their numbers, without volumes. A status of mscp_port_init. */
 int32_t port_open(struct port *port, const struct port_bus *bus, const struct mscp_hardware *hardware,
                   const struct mscp_unit *units, size_t count);
+
+/* The port for the calls of mscp.h that have no other name here: mscp_port_protect, _state, _volume, _look, _save. */
+struct mscp_port *port_itself(struct port *port);
 
 /* The host reads or writes a word at the port's first address (IP, with 0) or the second (SA, with 2). */
 uint16_t port_read(struct port *port, unsigned offset);

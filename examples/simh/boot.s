@@ -30,7 +30,9 @@ clear:  clr (r3)+
         mov #1000, command+14   ; of 512 bytes of block 0, to address 0
         jsr pc, send
         clr -(r1)               ; write IP: the port forgets the rings
-        mov #start+20, r4       ; as other boot code leaves it
+        clr r3                  ; r3 to r5 as other boot code of SIMH leaves them
+        mov #start+20, r4
+        clr r5
         clr pc
 send:   mov #60., command-4     ; the length of the text
         mov #rings, r3

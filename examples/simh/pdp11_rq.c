@@ -12,11 +12,13 @@ enum { CONTROLLERS = 4, DRIVES = 4, WORK = DRIVES, SECOND, UNITS, RD54 = 4 };
 #define DRIVE u3                      /* in a unit: which drive of the table below it is */
 #define WROTE u4                      /* whether the last that was done with its file was a write */
 
-/* A controller: the port, and an interrupt that was posted and not yet taken. */
+/* A controller: the port, an interrupt that was posted and not yet taken, and which build's port it is, since SIMH restores what
+ * another one saved. */
 struct controller {
     struct port port;
     DEVICE *device;
     int32 is_posted, vector;
+    uint32 build;
 };
 
 extern uint16 *M;
@@ -122,10 +124,26 @@ static bool went_well (FILE *file)
     return is_good;
 }
 
+/* The units of RQ have the numbers 0 to 3, those of RQB 4 to 7, and so on, as with SIMH's own disks. */
+static uint16_t first_number (const struct controller *it)
+{
+    return (uint16_t)((it - controllers) * DRIVES);
+}
+
+static UNIT *unit_of (const struct controller *it, uint16_t number)
+{
+    return it->device->units + number - first_number (it);
+}
+
+static uint16_t number_of (const struct controller *it, const UNIT *unit)
+{
+    return (uint16_t)(first_number (it) + (unit - it->device->units));
+}
+
 /* Behind the end of its file a volume has zeros. */
 static bool read_block (void *machine, uint16_t number, uint32_t block, uint8_t *bytes)
 {
-    UNIT *unit = ((struct controller *)machine)->device->units + number;
+    UNIT *unit = unit_of (machine, number);
     if (!seek (unit, block, FALSE))
         return false;
     size_t length = fread (bytes, 1, MSCP_BLOCK, unit->fileref);
@@ -135,7 +153,7 @@ static bool read_block (void *machine, uint16_t number, uint32_t block, uint8_t 
 
 static bool write_block (void *machine, uint16_t number, uint32_t block, const uint8_t *bytes)
 {
-    UNIT *unit = ((struct controller *)machine)->device->units + number;
+    UNIT *unit = unit_of (machine, number);
     return seek (unit, block, TRUE) && fwrite (bytes, MSCP_BLOCK, 1, unit->fileref) == 1 && went_well (unit->fileref);
 }
 
@@ -180,11 +198,29 @@ static void call (struct controller *it)
         sim_activate_abs (unit, unit->wait = pause);
 }
 
+/* Of the sources of the port that is linked, by what they say of themselves. */
+static uint32 this_build (void)
+{
+    return mscp_version () << 8 ^ (uint32)mscp_port_size ();
+}
+
+static t_stat reset (DEVICE *device);
+
+/* SIMH has restored what another build saved: that is no port here. The controller is as new, and that is said. */
+static void check_build (struct controller *it)
+{
+    if (it->build == this_build ())
+        return;
+    printf ("%s: saved by another build of the port. The controller is reset.\n", it->device->name);
+    reset (it->device);
+}
+
 static t_stat read_register (int32 *data, int32 address, int32 access)
 {
     struct controller *it = controller_at (address);
     if (it == NULL)
         return SCPE_NXM;
+    check_build (it);
     *data = port_read (&it->port, address & 2);
     if (!(address & 2))
         call (it);
@@ -196,6 +232,7 @@ static t_stat write_register (int32 data, int32 address, int32 access)
     struct controller *it = controller_at (address);
     if (it == NULL)
         return SCPE_NXM;
+    check_build (it);
     port_write (&it->port, address & 2, (uint16_t)data);
     if (!(address & 2)) {
         withdraw (it);
@@ -236,7 +273,7 @@ static void load (struct controller *it, UNIT *unit)
     const struct drive *drive = &drives[unit->DRIVE];
     const struct mscp_medium medium = {
         drive->blocks, media (drive), (unit->flags & (UNIT_RO | UNIT_LOCKED)) != 0, drive->letter == 'J'};
-    port_insert (&it->port, (uint16_t)(unit - it->device->units), &medium);
+    port_insert (&it->port, number_of (it, unit), &medium);
 }
 
 /* Makes the port as new: RESET, BOOT, the processor's RESET, and whatever changes the drives. On a Unibus it is a UDA50,
@@ -251,7 +288,7 @@ static t_stat reset (DEVICE *device)
         const struct drive *drive = &drives[device->units[i].DRIVE];
         told[i] = (struct mscp_unit){
             .id = (uint64_t)2 << 56 | (uint64_t)drive->model << 48 | (uint64_t)(it - controllers) << 16 | i,
-            .size = drive->blocks, .media = media (drive), .serial = i + 1, .number = i, .track = drive->track,
+            .size = drive->blocks, .media = media (drive), .serial = i + 1, .number = first_number (it) + i, .track = drive->track,
             .group = drive->group, .cylinder = 1,
         };
     }
@@ -260,6 +297,7 @@ static t_stat reset (DEVICE *device)
     for (uint16_t i = 0; i < DRIVES; i++)
         if (device->units[i].flags & UNIT_ATT)
             load (it, &device->units[i]);
+    it->build = this_build ();
     withdraw (it);
     sim_cancel (&device->units[WORK]);
     sim_cancel (&device->units[SECOND]);
@@ -282,7 +320,7 @@ static t_stat detach (UNIT *unit)
 {
     struct controller *it = controller_of (unit);
     if (unit->flags & UNIT_ATT)
-        port_eject (&it->port, (uint16_t)(unit - it->device->units));
+        port_eject (&it->port, number_of (it, unit));
     return detach_unit (unit);
 }
 
@@ -302,10 +340,13 @@ static t_stat show_drive (FILE *to, UNIT *unit, int32 value, void *nothing)
     return SCPE_OK;
 }
 
-/* A volume is protected or not from the moment that it is put in. */
-static t_stat may_lock (UNIT *unit, int32 value, char *text, void *nothing)
+/* A disk is locked or not from now on, also one that is attached, but for one that can't be written on. */
+static t_stat lock (UNIT *unit, int32 value, char *text, void *nothing)
 {
-    return unit->flags & UNIT_ATT ? SCPE_ALATT : SCPE_OK;
+    struct controller *it = controller_of (unit);
+    if (unit->flags & UNIT_ATT)
+        mscp_port_protect (port_itself (&it->port), number_of (it, unit), value != 0 || (unit->flags & UNIT_RO) != 0);
+    return SCPE_OK;
 }
 
 /* ---- BOOT: the words of boot.s, which reads block 0 of the unit to address 0 and jumps there, with the unit in R0 and
@@ -318,10 +359,10 @@ static const uint16 boot_words[] = {
     0012706, BOOT,             /*         mov #start, sp */
     0012700, 0,                /* unit:   mov #0, r0 */
     0012701, 0,                /* csr:    mov #172150, r1 */
-    0012702, 0016212,          /*         mov #answers, r2 */
+    0012702, 0016216,          /*         mov #answers, r2 */
     0012703, 0004000,          /*         mov #4000, r3 */
     0005021,                   /*         clr (r1)+              write IP. From here on R1 is SA */
-    0005711, 0100466,          /* step:   tst (r1), bmi fail     a fatal error */
+    0005711, 0100470,          /* step:   tst (r1), bmi fail     a fatal error */
     0030311, 0001774,          /*         bit r3, (r1), beq step until the port shows this step */
     0012211,                   /*         mov (r2)+, (r1) */
     0006303, 0100371,          /*         asl r3, bpl step       the four steps have bits 11 to 14 */
@@ -331,14 +372,16 @@ static const uint16 boot_words[] = {
     0103774,                   /*         blo clear */
     0110067, 0164026,          /*         movb r0, command+4 */
     0112767, 0000011, 0164024, /*         movb #11, command+10   ONLINE */
-    0004767, 0000030,          /*         jsr pc, send */
+    0004767, 0000034,          /*         jsr pc, send */
     0112767, 0000041, 0164012, /*         movb #41, command+10   READ */
     0012767, 0001000, 0164010, /*         mov #1000, command+14  of 512 bytes of block 0 to address 0 */
-    0004767, 0000010,          /*         jsr pc, send */
+    0004767, 0000014,          /*         jsr pc, send */
     0005041,                   /*         clr -(r1)              write IP: the port forgets the rings */
-    0012704, 0016020,          /*         mov #start+20, r4      as SIMH's other boot code leaves it */
+    0005003,                   /*         clr r3                 R3 to R5 as SIMH's other boot code leaves them */
+    0012704, 0016020,          /*         mov #start+20, r4 */
+    0005005,                   /*         clr r5 */
     0005007,                   /*         clr pc */
-    0012767, 0000074, 0163746, /* send:   mov #60., command-4    the length of the text */
+    0012767, 0000074, 0163742, /* send:   mov #60., command-4    the length of the text */
     0012703, 0002210,          /*         mov #rings, r3 */
     0012723, 0002004,          /*         mov #text, (r3)+       both slots are the port's */
     0012723, 0100000,          /*         mov #100000, (r3)+ */
@@ -347,9 +390,9 @@ static const uint16 boot_words[] = {
     0005761, 0177776,          /*         tst -2(r1)             read IP */
     0005711,                   /* wait:   tst (r1) */
     0100407,                   /*         bmi fail */
-    0005767, 0164014,          /*         tst rings+2 */
+    0005767, 0164010,          /*         tst rings+2 */
     0100773,                   /*         bmi wait               until the response is the host's */
-    0005767, 0163612,          /*         tst text+12            its status */
+    0005767, 0163606,          /*         tst text+12            its status */
     0001001,                   /*         bne fail */
     0000207,                   /*         rts pc */
     0000000,                   /* fail:   halt */
@@ -360,7 +403,7 @@ static t_stat boot (int32 number, DEVICE *device)
 {
     for (size_t i = 0; i < sizeof boot_words / sizeof *boot_words; i++)
         M[BOOT / 2 + i] = boot_words[i];
-    M[BOOT_UNIT / 2] = (uint16)number;
+    M[BOOT_UNIT / 2] = number_of (controller_of (device->units), device->units + number);
     M[BOOT_IP / 2] = (uint16)(((DIB *)device->ctxt)->ba & DMASK);
     saved_PC = BOOT_ENTRY;
     return SCPE_OK;
@@ -376,8 +419,14 @@ static UNIT units[CONTROLLERS][UNITS] = {ALL_UNITS, ALL_UNITS, ALL_UNITS, ALL_UN
 #define A_DIB(name) {IOBA_##name, IOLN_##name, read_register, write_register, 1, IVCL (RQ), 0, {acknowledge}}
 static DIB dibs[CONTROLLERS] = {A_DIB (RQ), A_DIB (RQB), A_DIB (RQC), A_DIB (RQD)};
 
-static REG registers[] = {{DRDATA (ACTIONS, actions, 24), PV_LEFT + REG_NZ},
-                          {DRDATA (PAUSE, pause, 24), PV_LEFT + REG_NZ}, {NULL}};
+/* Behind the two that are set by hand stand those of a controller which SAVE and RESTORE want. */
+#define REGISTERS(n) \
+    {{DRDATA (ACTIONS, actions, 24), PV_LEFT + REG_NZ}, {DRDATA (PAUSE, pause, 24), PV_LEFT + REG_NZ}, \
+     {BRDATA (PORT, (char *)controllers[n].port.memory + MSCP_HEAD, 16, 8, MSCP_PORT_SIZE), REG_HIDDEN}, \
+     {GRDATA (BUILD, controllers[n].build, 16, 32, 0), REG_HIDDEN}, \
+     {DRDATA (POSTED, controllers[n].is_posted, 1), REG_HIDDEN}, {GRDATA (VECTOR, controllers[n].vector, 8, 16, 0), REG_HIDDEN}, \
+     {DRDATA (WAIT, units[n][WORK].wait, 24), REG_HIDDEN}, {NULL}}
+static REG registers[CONTROLLERS][8] = {REGISTERS (0), REGISTERS (1), REGISTERS (2), REGISTERS (3)};
 
 #define SET_TO(number, name) {MTAB_XTD | MTAB_VUN, number, NULL, name, set_drive, NULL, NULL}
 static MTAB modifiers[] = {
@@ -385,12 +434,12 @@ static MTAB modifiers[] = {
     SET_TO (5, "RA60"), SET_TO (6, "RA71"), SET_TO (7, "RA72"), SET_TO (8, "RA80"), SET_TO (9, "RA81"),
     SET_TO (10, "RA82"), SET_TO (11, "RA90"), SET_TO (12, "RA92"),
     {MTAB_XTD | MTAB_VUN, 0, "TYPE", NULL, NULL, show_drive, NULL},
-    {UNIT_LOCKED, 0, "write enabled", "WRITEENABLED", may_lock}, {UNIT_LOCKED, UNIT_LOCKED, "write locked", "LOCKED", may_lock},
+    {UNIT_LOCKED, 0, "write enabled", "WRITEENABLED", lock}, {UNIT_LOCKED, UNIT_LOCKED, "write locked", "LOCKED", lock},
     {MTAB_XTD | MTAB_VDV, 4, "ADDRESS", "ADDRESS", set_addr, show_addr, NULL},
     {0}};
 
 #define A_DEVICE(name, number, flags) \
-    {name, units[number], registers, modifiers, UNITS, DEV_RDX, 31, 2, DEV_RDX, 16, NULL, NULL, reset, boot, \
+    {name, units[number], registers[number], modifiers, UNITS, DEV_RDX, 31, 2, DEV_RDX, 16, NULL, NULL, reset, boot, \
      attach, detach, &dibs[number], (flags) | DEV_DISABLE | DEV_UBUS | DEV_QBUS}
 DEVICE rq_dev = A_DEVICE ("RQ", 0, DEV_FLTA);
 DEVICE rqb_dev = A_DEVICE ("RQB", 1, DEV_FLTA | DEV_DIS);
