@@ -27,7 +27,8 @@ unbegun_after : (via : Connection) (order : Order) → begun_after via None orde
 unbegun_after via order = grind arith
 
 unbegun_if : {K : Type 0} (h : Holdings K) (via : Connection) (command : Command) (q : Bool) → h.begun ≡ None
-    → (if q then queued via h command else with_end via (aborting via h command.order) (answered_end via h command)).begun
+    → (if q then queued via h command
+    else with_end via (aborting via h command.order) (answered_end via h command)).begun
     ≡ None
 unbegun_if h via command true e = e
 unbegun_if h via command false e = ap (λ o. begun_after via o command.order) e ∙ unbegun_after via command.order

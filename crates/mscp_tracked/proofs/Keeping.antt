@@ -151,7 +151,8 @@ module _ {K : Type 0} (h : Holdings K) (k : Cookies) (via : Connection) where
         → AreBeside (held_unless via h command fault) (sent via became place cookie k)
     unless_beside (Some fault) became s = absurd (false≢true (ap is_ok s))
     unless_beside None became s =
-        subst (λ z. AreBeside (arrives via h command) (sent via z place cookie k)) (ok_is (sent_unless via h command None) (taken_as via h command) became refl s)
+        subst (λ z. AreBeside (arrives via h command) (sent via z place cookie k))
+        (ok_is (sent_unless via h command None) (taken_as via h command) became refl s)
         (arrived_beside (is_queued h.settings command))
 
   arrived_settings : (command : Command) (q : Bool) → (if q then queued via h command else with_end via

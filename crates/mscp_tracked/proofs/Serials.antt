@@ -71,7 +71,8 @@ module _ {K : Type 0} (picks : List Choice → ℕ → Type 0) where
   count_call (Call.Look via end) old new few a = same_count old new (ap (λ t. t.beginnings) a.1)
   count_call (Call.Take via end) old new few a = same_count old new (ap (λ t. t.beginnings) a.1)
   count_call (Call.Begin told) old new few a = count_begins old.controller.begun told old new few a.left
-  count_call (Call.FinishBegun serial k answer) old new few a = count_finishes (has_serial serial old) k answer old new a
+  count_call (Call.FinishBegun serial k answer) old new few a =
+      count_finishes (has_serial serial old) k answer old new a
   count_call (Call.Finish via reference k answer) old new few a = count_finishes _ k answer old new a
   count_call (Call.Step k finished) old new few a = same_count old new a.count
   count_call Call.Reset old new few a = same_count old new (ap (λ t. t.beginnings) a)
@@ -277,7 +278,8 @@ module _ {K : Type 0} (picks : List Choice → ℕ → Type 0) where
   later : (n : ℕ) (told : Beginning) (old new : Tracking K) → old.beginnings + 1 < 2 ^ 64 → IsPast n old
       → Begins picks old (Some told) new → n < told.serial
   later n told old new few (inl p) a =
-      omega (arith, later_begins n old.controller.begun told old new few p.0 p.1 a.left, (told_at told old new a).serial)
+      let less = later_begins n old.controller.begun told old new few p.0 p.1 a.left in
+      omega (arith, less, (told_at told old new a).serial)
   later n told old new few (inr p) a =
       omega (arith, p, (count_call (Call.Begin (Some told)) old new few a).low, (told_at told old new a).serial)
 

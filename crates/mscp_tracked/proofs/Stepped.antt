@@ -234,7 +234,8 @@ module _ {K : Type 0} (picks : List Choice → ℕ → Type 0) (k : Block) (old 
       let name = name_of (record_at old.waiting p) in
       let begun : mid.begun ≡ Some name = ap (λ l. l.begun) b in
       let found : position (has_name name) mid.waiting ≡ Some place = sym (ap (place_begun mid.waiting) begun) ∙ at in
-      let here = alone_at mid.waiting name place p alone found (subst (λ rs. p < length rs) (sym own) next.servable.inside)
+      let here = alone_at mid.waiting name place p alone found
+      (subst (λ rs. p < length rs) (sym own) next.servable.inside)
       (is_same (name_of (record_at mid.waiting p)) name (ap (λ rs. name_of (record_at rs p)) own)) in
       let there = alone_at mid.waiting name place q alone found a.next.servable.inside (a.next.same name begun) in
       record {

@@ -57,8 +57,8 @@ SoundlyAnswered picks old [] new = new ≡ old
 SoundlyAnswered {K} picks old (call ∷ calls) new = (next : Tracking K) × AnswersCall picks old call next
     × IsSound next.controller × SoundlyAnswered picks next calls new
 
--- the law: each begin, finish, step and end is told with the cookie that was sent with the last message of its command's
--- name that was taken in before
+-- the law: each begin, finish, step and end is told with the cookie that was sent with the last message of its
+-- command's name that was taken in before
 abbrev pub CookiesAreKept : {K : Type 0} → (List Choice → ℕ → Type 0) → K → Type 0
 CookiesAreKept {K} picks picker = (beginnings : ℕ) (c : Settings) (held : Tracking K) (before behind : List Call)
     (call : Call) → SoundlyAnswered picks (new_after beginnings c picker) (before ++ call ∷ behind) held

@@ -68,6 +68,7 @@ returns-clause-back g c =
       first = subst AreSmall c.untaken_cookies.ensures c.put_words-2.ensures.range;
       second = subst AreSmall c.untaken_cookies-2.ensures c.put_words-3.ensures.range;
       count = subst (λ n. n < 2 ^ 64) c.beginnings.ensures c.beginnings.type_inv;
-    }) c.args.number (subst (λ (h : Holdings K). saved.restored c.args.number h.picker (saving.saved_bytes c.args.number h) ≡ Ok h)
+    }) c.args.number (subst (λ (h : Holdings K). saved.restored c.args.number h.picker
+    (saving.saved_bytes c.args.number h) ≡ Ok h)
     c.controller.ensures (subst (λ b. saved.restored c.args.number c.controller.result.now.picker b
     ≡ Ok c.controller.result.now) c.save.ensures.bytes c.save.ensures.back))
