@@ -28,6 +28,29 @@ A port,What an end says,mscp_port,decided_size
 END
 }
 
+# The drives of docs/PORT.md are those of examples/drives.h.
+drives_are_those_of_the_header() {
+    local program
+    program=$(mktemp -d) || return
+    cat >"$program/drives.c" <<'END'
+#include "drives.h"
+#include <stdio.h>
+int main(void)
+{
+    for (size_t i = 0; i < sizeof drives / sizeof *drives; i++) {
+        const struct drive *it = &drives[i];
+        printf("| %s | %u | %u, %u, %u | %u | 0x%08X | %s |\n", it->name, (unsigned)it->blocks, it->track, it->group, it->cylinder,
+               it->model, (unsigned)drive_media(it), it->is_removable ? "yes" : "no");
+    }
+    return 0;
+}
+END
+    cc -Iinclude -Iexamples "$program/drives.c" -o "$program/drives" && same "$("$program/drives")" "$(grep -E '^\| R[ADX][0-9]+ \|' docs/PORT.md)"
+    local status=$?
+    rm -r -- "$program"
+    return "$status"
+}
+
 # The variants of the faults of a restore in this file, in order.
 restore_faults() { awk '/^pub enum RestoreFault/ { inside = 1 } inside && /^}/ { exit } inside' "$1" | sed -nE 's/^    ([A-Z][a-z]+).*/\1/p'; }
 

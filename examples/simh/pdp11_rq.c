@@ -3,13 +3,14 @@
  *     examples/simh/build SOURCE FOLDER      (SOURCE is SIMH's tarball, or a folder with what is in it)
  *
  * It takes the place of SIMH's own file of this name, and has nothing of it. docs/PORT.md says how to use it. */
+#include "drives.h"
 #include "port.h"
 #include "pdp11_defs.h"
 
-enum { CONTROLLERS = 4, DRIVES = 4, WORK = DRIVES, SECOND, UNITS, RD54 = 4 };
+enum { CONTROLLERS = 4, DRIVES = 4, WORK = DRIVES, SECOND, UNITS, RD54 = 6 };
 
 #define UNIT_LOCKED (1u << UNIT_V_UF) /* a flag of a unit: the host may not write on it */
-#define DRIVE u3                      /* in a unit: which drive of the table below it is */
+#define DRIVE u3                      /* in a unit: which drive of drives.h it is */
 #define WROTE u4                      /* whether the last that was done with its file was a write */
 
 /* A controller: the port, an interrupt that was posted and not yet taken, and which build's port it is, since SIMH restores what
@@ -34,35 +35,6 @@ static struct controller controllers[CONTROLLERS] = {
 
 /* How many actions a turn of the port has at most, and how many instructions go by before each turn. A block is one action. */
 static int32 actions = 50, pause = 200;
-
-/* ---- drives */
-
-/* The drives that a unit can be. The figures are written from memory, and all but those of the RA80 were compared with SIMH's
- * list. The blocks of an RA drive other than the RA80 fill whole cylinders. The model is told in the unit's identifier. */
-static const struct drive {
-    const char *name;
-    uint8 letter, model, number; /* the letter is U, or J where the pack can be taken out */
-    uint32 blocks;
-    uint16 track, group;
-} drives[] = {
-    {"RD31", 'U', 12, 31, 41560, 17, 4},    {"RD51", 'U', 6, 51, 21600, 18, 4},
-    {"RD52", 'U', 8, 52, 60480, 17, 8},     {"RD53", 'U', 9, 53, 138672, 17, 8},
-    {"RD54", 'U', 13, 54, 311200, 17, 15},  {"RA60", 'J', 4, 60, 400176, 42, 6},
-    {"RA71", 'U', 40, 71, 1367310, 51, 14}, {"RA72", 'U', 37, 72, 1953300, 51, 20},
-    {"RA80", 'U', 1, 80, 237212, 31, 14},   {"RA81", 'U', 5, 81, 891072, 51, 14},
-    {"RA82", 'U', 11, 82, 1216665, 57, 15}, {"RA90", 'U', 19, 90, 2376153, 69, 13},
-    {"RA92", 'U', 29, 92, 2940951, 73, 13},
-};
-
-/* The media identifier as the manual of MSCP has it: five letters of five bits, and a number of seven. */
-static uint32_t media (const struct drive *drive)
-{
-    const char letters[] = {'D', (char)drive->letter, drive->name[0], drive->name[1]};
-    uint32_t all = 0;
-    for (size_t i = 0; i < sizeof letters; i++)
-        all = all << 5 | (uint32_t)(letters[i] - '@');
-    return all << 12 | drive->number;
-}
 
 /* ---- what the port wants of the machine */
 
@@ -270,9 +242,7 @@ static t_stat second (UNIT *unit)
 /* What is attached to a unit comes into it. */
 static void load (struct controller *it, UNIT *unit)
 {
-    const struct drive *drive = &drives[unit->DRIVE];
-    const struct mscp_medium medium = {
-        drive->blocks, media (drive), (unit->flags & (UNIT_RO | UNIT_LOCKED)) != 0, drive->letter == 'J'};
+    const struct mscp_medium medium = drive_medium (&drives[unit->DRIVE], (unit->flags & (UNIT_RO | UNIT_LOCKED)) != 0);
     port_insert (&it->port, number_of (it, unit), &medium);
 }
 
@@ -284,14 +254,8 @@ static t_stat reset (DEVICE *device)
     struct controller *it = controller_of (device->units);
     const struct port_bus bus = {it, read_memory, write_memory, interrupt, read_block, write_block};
     struct mscp_unit told[DRIVES];
-    for (uint16_t i = 0; i < DRIVES; i++) {
-        const struct drive *drive = &drives[device->units[i].DRIVE];
-        told[i] = (struct mscp_unit){
-            .id = (uint64_t)2 << 56 | (uint64_t)drive->model << 48 | (uint64_t)(it - controllers) << 16 | i,
-            .size = drive->blocks, .media = media (drive), .serial = i + 1, .number = first_number (it) + i, .track = drive->track,
-            .group = drive->group, .cylinder = 1,
-        };
-    }
+    for (uint16_t i = 0; i < DRIVES; i++)
+        told[i] = drive_unit (&drives[device->units[i].DRIVE], first_number (it) + i, (uint64_t)(it - controllers) << 16 | i);
     if (port_open (&it->port, &bus, UNIBUS ? &uda50 : &rqdx3, told, DRIVES) != MSCP_DONE)
         return SCPE_IERR;
     for (uint16_t i = 0; i < DRIVES; i++)
@@ -430,9 +394,9 @@ static REG registers[CONTROLLERS][8] = {REGISTERS (0), REGISTERS (1), REGISTERS 
 
 #define SET_TO(number, name) {MTAB_XTD | MTAB_VUN, number, NULL, name, set_drive, NULL, NULL}
 static MTAB modifiers[] = {
-    SET_TO (0, "RD31"), SET_TO (1, "RD51"), SET_TO (2, "RD52"), SET_TO (3, "RD53"), SET_TO (4, "RD54"),
-    SET_TO (5, "RA60"), SET_TO (6, "RA71"), SET_TO (7, "RA72"), SET_TO (8, "RA80"), SET_TO (9, "RA81"),
-    SET_TO (10, "RA82"), SET_TO (11, "RA90"), SET_TO (12, "RA92"),
+    SET_TO (0, "RX33"), SET_TO (1, "RX50"), SET_TO (2, "RD31"), SET_TO (3, "RD51"), SET_TO (4, "RD52"),
+    SET_TO (5, "RD53"), SET_TO (6, "RD54"), SET_TO (7, "RA60"), SET_TO (8, "RA71"), SET_TO (9, "RA72"),
+    SET_TO (10, "RA80"), SET_TO (11, "RA81"), SET_TO (12, "RA82"), SET_TO (13, "RA90"), SET_TO (14, "RA92"),
     {MTAB_XTD | MTAB_VUN, 0, "TYPE", NULL, NULL, show_drive, NULL},
     {UNIT_LOCKED, 0, "write enabled", "WRITEENABLED", lock}, {UNIT_LOCKED, UNIT_LOCKED, "write locked", "LOCKED", lock},
     {MTAB_XTD | MTAB_VDV, 4, "ADDRESS", "ADDRESS", set_addr, show_addr, NULL},
