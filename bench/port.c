@@ -101,7 +101,8 @@ static void command(uint8_t opcode, uint32_t bytes)
 
 static void open(void)
 {
-    static const struct port_bus bus = {NULL, read_memory, write_memory, interrupt, read_block, write_block};
+    static const struct port_bus bus = {.read = read_memory, .write = write_memory, .interrupt = interrupt,
+                                        .read_block = read_block, .write_block = write_block};
     static const struct mscp_hardware rqdx3 = {.bus = MSCP_BUS_Q, .model = 19, .software = 3, .version = 1};
     const struct mscp_unit rd54 = {.id = 1, .size = 311200, .media = 0x25644036, .serial = 1, .track = 17, .group = 15, .cylinder = 1};
     const struct mscp_medium medium = {.size = 311200, .media = 0x25644036};

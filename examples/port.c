@@ -26,6 +26,7 @@ int32_t port_open(struct port *port, const struct port_bus *bus, const struct ms
         .timeout = 120,
     };
     port->bus = *bus;
+    port->ahead.count = 0;
     port->lines = hardware->bus;
     struct mscp_port *made = mscp_port_in_memory(port->memory, sizeof port->memory);
     return mscp_port_init(made, &limits, units, count, MSCP_SWEEP, hardware, PORT_COMMANDS);
@@ -53,49 +54,134 @@ void port_write(struct port *port, unsigned offset, uint16_t word)
         wire_reset();
 }
 
+/* ---- blocks */
+
+/* How many blocks may be moved at once, from that of this step on: those of its command, of this turn, and of a run. */
+static uint32_t run_of(const struct port *port, const struct mscp_upcoming *step)
+{
+    uint32_t count = step->weight - step->done;
+    if (count > port->left)
+        count = port->left;
+    return count > PORT_RUN ? PORT_RUN : count;
+}
+
+/* Whether the block of this step was moved ahead, which is used up then. Another command begins behind no block, and nothing
+ * is ahead of a first one, so it never goes on with a run of the last command. */
+static bool was_ahead(struct port *port, const struct mscp_upcoming *step)
+{
+    if (port->ahead.count == 0 || port->ahead.done != step->done) {
+        port->ahead.count = 0;
+        return false;
+    }
+    port->ahead.done++;
+    port->ahead.count--;
+    return true;
+}
+
+/* So many blocks were moved, from that of this step on, of which it uses the first. */
+static void moved_ahead(struct port *port, const struct mscp_upcoming *step, uint32_t count)
+{
+    port->ahead.first = step->done;
+    port->ahead.done = step->done + 1;
+    port->ahead.count = count - 1;
+}
+
+/* The bytes of a block, or NULL if it can't be read. */
+static const uint8_t *block_read(struct port *port, const struct mscp_action *action)
+{
+    const struct port_bus *bus = &port->bus;
+    struct mscp_upcoming step = {0};
+    mscp_port_begun(port_itself(port), &step);
+    if (was_ahead(port, &step))
+        return port->blocks + (step.done - port->ahead.first) * MSCP_BLOCK;
+    uint32_t count = run_of(port, &step);
+    if (count > 1 && bus->read_run != NULL &&
+        bus->read_run(bus->machine, action->unit, action->block, count, port->blocks)) {
+        moved_ahead(port, &step, count);
+        return port->blocks;
+    }
+    return bus->read_block(bus->machine, action->unit, action->block, port->blocks) ? port->blocks : NULL;
+}
+
+/* Fills this many blocks from the host's memory, with zeros behind the bytes of the last one. */
+static enum mscp_outcome gather(struct port *port, const struct mscp_action *action, const struct mscp_upcoming *step,
+                                uint32_t count)
+{
+    const struct port_bus *bus = &port->bus;
+    memset(port->blocks, 0, (size_t)count * MSCP_BLOCK);
+    for (uint32_t i = 0; i < count; i++) {
+        uint32_t left = step->bytes - (step->done + i) * MSCP_BLOCK;
+        enum mscp_outcome outcome =
+            bus->read(bus->machine, mscp_on_bus(port->lines, action->address + i * MSCP_BLOCK),
+                      port->blocks + i * MSCP_BLOCK, left < MSCP_BLOCK ? left : MSCP_BLOCK);
+        if (outcome != MSCP_OUTCOME_DONE)
+            return outcome;
+    }
+    return MSCP_OUTCOME_DONE;
+}
+
 /* ---- actions */
 
 /* A block goes to the host's memory: a READ; or it is read alone: an ACCESS. */
-static enum mscp_outcome read_block(const struct port_bus *bus, const struct mscp_action *action)
+static enum mscp_outcome read_block(struct port *port, const struct mscp_action *action)
 {
-    uint8_t block[MSCP_BLOCK];
-    if (!bus->read_block(bus->machine, action->unit, action->block, block))
+    const struct port_bus *bus = &port->bus;
+    const uint8_t *block = block_read(port, action);
+    if (block == NULL)
         return MSCP_OUTCOME_FAILED;
     if (action->opcode == MSCP_ACCESS)
         return MSCP_OUTCOME_DONE;
     return bus->write(bus->machine, action->address, block, action->count);
 }
 
-/* A block comes from the host's memory, with zeros behind its bytes: a WRITE; or it is all zeros: an ERASE. */
-static enum mscp_outcome write_block(const struct port_bus *bus, const struct mscp_action *action)
+/* A block comes from the host's memory, with zeros behind its bytes: a WRITE. */
+static enum mscp_outcome write_block(struct port *port, const struct mscp_action *action)
 {
-    uint8_t block[MSCP_BLOCK] = {0};
-    if (action->opcode == MSCP_WRITE) {
-        enum mscp_outcome outcome = bus->read(bus->machine, action->address, block, action->count);
-        if (outcome != MSCP_OUTCOME_DONE)
-            return outcome;
+    const struct port_bus *bus = &port->bus;
+    struct mscp_upcoming step = {0};
+    mscp_port_begun(port_itself(port), &step);
+    if (was_ahead(port, &step))
+        return MSCP_OUTCOME_DONE;
+    uint32_t count = run_of(port, &step);
+    if (count > 1 && bus->write_run != NULL && gather(port, action, &step, count) == MSCP_OUTCOME_DONE &&
+        bus->write_run(bus->machine, action->unit, action->block, count, port->blocks)) {
+        moved_ahead(port, &step, count);
+        return MSCP_OUTCOME_DONE;
     }
-    return bus->write_block(bus->machine, action->unit, action->block, block) ? MSCP_OUTCOME_DONE : MSCP_OUTCOME_FAILED;
+    enum mscp_outcome outcome = gather(port, action, &step, 1);
+    if (outcome != MSCP_OUTCOME_DONE)
+        return outcome;
+    return bus->write_block(bus->machine, action->unit, action->block, port->blocks) ? MSCP_OUTCOME_DONE : MSCP_OUTCOME_FAILED;
+}
+
+/* A block is all zeros: an ERASE. */
+static enum mscp_outcome erase_block(const struct port_bus *bus, const struct mscp_action *action)
+{
+    static const uint8_t zeros[MSCP_BLOCK];
+    return bus->write_block(bus->machine, action->unit, action->block, zeros) ? MSCP_OUTCOME_DONE : MSCP_OUTCOME_FAILED;
 }
 
 /* The host's bytes are compared with a block: a COMPARE HOST DATA. */
-static enum mscp_outcome compare(const struct port_bus *bus, const struct mscp_action *action)
+static enum mscp_outcome compare(struct port *port, const struct mscp_action *action)
 {
-    uint8_t block[MSCP_BLOCK], bytes[MSCP_BLOCK];
+    const struct port_bus *bus = &port->bus;
+    uint8_t bytes[MSCP_BLOCK];
     enum mscp_outcome outcome = bus->read(bus->machine, action->address, bytes, action->count);
     if (outcome != MSCP_OUTCOME_DONE)
         return outcome;
-    if (!bus->read_block(bus->machine, action->unit, action->block, block))
+    const uint8_t *block = block_read(port, action);
+    if (block == NULL)
         return MSCP_OUTCOME_FAILED;
     return memcmp(block, bytes, action->count) == 0 ? MSCP_OUTCOME_DONE : MSCP_OUTCOME_DIFFERENT;
 }
 
-static enum mscp_outcome transfer(const struct port_bus *bus, const struct mscp_action *action)
+static enum mscp_outcome transfer(struct port *port, const struct mscp_action *action)
 {
     switch (action->opcode) {
-    case MSCP_READ: case MSCP_ACCESS: return read_block(bus, action);
-    case MSCP_WRITE: case MSCP_ERASE: return write_block(bus, action);
-    default: return compare(bus, action);
+    case MSCP_READ: case MSCP_ACCESS: return read_block(port, action);
+    case MSCP_WRITE: return write_block(port, action);
+    case MSCP_ERASE: return erase_block(&port->bus, action);
+    default: return compare(port, action);
     }
 }
 
@@ -114,17 +200,18 @@ static int32_t act(struct port *port, const struct mscp_action *action)
         break;
     case MSCP_ACTION_WRITE: outcome = bus->write(bus->machine, action->address, action->bytes, action->count); break;
     case MSCP_ACTION_INTERRUPT: bus->interrupt(bus->machine, action->vector); break;
-    case MSCP_ACTION_TRANSFER: outcome = transfer(bus, action); break;
+    case MSCP_ACTION_TRANSFER: outcome = transfer(port, action); break;
     default: break; /* PAUSE: the machine went on since the last turn */
     }
     int32_t status = mscp_port_went(port_itself(port), outcome, DRIVE_ERROR);
     return outcome == MSCP_OUTCOME_DONE ? wire_action(status, action, action->bytes) : status;
 }
 
-/* What was wanted is done at once, so that no volume changes in between. */
+/* What was wanted is done at once, so that no volume changes in between. What was moved ahead counts in this turn alone. */
 bool port_turn(struct port *port, unsigned most)
 {
     struct mscp_action action;
+    port->ahead.count = 0;
     mscp_port_look_again(port_itself(port));
     for (unsigned done = 0; done < most; done++) {
         if (mscp_port_next(port_itself(port), &action) != MSCP_DONE)
@@ -132,6 +219,7 @@ bool port_turn(struct port *port, unsigned most)
         if (done > 0 && action.kind == MSCP_ACTION_PAUSE)
             return true;
         action.address = mscp_on_bus(port->lines, action.address);
+        port->left = most - done;
         act(port, &action);
     }
     return true;

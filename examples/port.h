@@ -5,6 +5,7 @@
 #include <stdbool.h>
 
 #define PORT_COMMANDS 16u /* that a host may have outstanding */
+#define PORT_RUN 64u      /* blocks that are moved at once */
 
 /* What the machine does for its port. Each callback gets `machine` as it is here. Addresses are those of the bus, of 22 bits or
  * 18, and mapping them is the machine's: it answers MSCP_OUTCOME_DONE, or else MSCP_OUTCOME_MISSING, _PARITY or _UNMAPPED. */
@@ -13,15 +14,24 @@ struct port_bus {
     enum mscp_outcome (*read)(void *machine, uint32_t address, uint8_t *bytes, uint32_t count);
     enum mscp_outcome (*write)(void *machine, uint32_t address, const uint8_t *bytes, uint32_t count);
     void (*interrupt)(void *machine, uint16_t vector);
-    /* A block of 512 bytes of a unit's volume. Whether it could be read or written. */
+    /* A block of 512 bytes of a unit's volume. Whether it could be read or written: a block that was written can be read. */
     bool (*read_block)(void *machine, uint16_t unit, uint32_t block, uint8_t *bytes);
     bool (*write_block)(void *machine, uint16_t unit, uint32_t block, const uint8_t *bytes);
+    /* So many blocks of it at once, from one on, of one command and in one turn; NULL where the machine has no such calls. If one
+     * of the blocks can't be moved the answer is false, and they are moved one by one. */
+    bool (*read_run)(void *machine, uint16_t unit, uint32_t block, uint32_t count, uint8_t *bytes);
+    bool (*write_run)(void *machine, uint16_t unit, uint32_t block, uint32_t count, const uint8_t *bytes);
 };
 
 /* A port, with a controller. It holds no pointer but those of its bus: it may be copied, and saved as the bytes behind `bus`. */
 struct port {
     struct port_bus bus;
     uint8_t lines; /* of the bus, an enum mscp_bus */
+    struct {
+        uint32_t first, done, count; /* of its command: behind how many blocks the run and the next of it are, and how many wait */
+    } ahead;                         /* blocks that were moved in this turn, and not told yet */
+    uint32_t left; /* actions in this turn */
+    uint8_t blocks[PORT_RUN * MSCP_BLOCK];
     MSCP_ALIGNED uint64_t memory[(MSCP_HEAD + MSCP_PORT_SIZE) / sizeof(uint64_t)];
 };
 

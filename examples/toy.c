@@ -64,7 +64,8 @@ static bool write_block(void *machine, uint16_t unit, uint32_t block, const uint
 /* A port as an RQDX3, with one unit of so many blocks, in which the image is. */
 static bool attach(uint32_t blocks)
 {
-    static const struct port_bus bus = {NULL, read_memory, write_memory, interrupt, read_block, write_block};
+    static const struct port_bus bus = {.read = read_memory, .write = write_memory, .interrupt = interrupt,
+                                        .read_block = read_block, .write_block = write_block};
     static const struct mscp_hardware rqdx3 = {.bus = MSCP_BUS_Q, .model = 19, .software = 3, .version = 1};
     const struct drive *rd54 = drive_named("RD54");
     struct mscp_unit unit = drive_unit(rd54, 0, 0);

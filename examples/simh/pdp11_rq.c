@@ -6,12 +6,12 @@
 #include "drives.h"
 #include "port.h"
 #include "pdp11_defs.h"
+#include <unistd.h>
 
 enum { CONTROLLERS = 4, DRIVES = 4, WORK = DRIVES, SECOND, UNITS, RD54 = 6 };
 
 #define UNIT_LOCKED (1u << UNIT_V_UF) /* a flag of a unit: the host may not write on it */
 #define DRIVE u3                      /* in a unit: which drive of drives.h it is */
-#define WROTE u4                      /* whether the last that was done with its file was a write */
 
 /* A controller: the port, an interrupt that was posted and not yet taken, and which build's port it is, since SIMH restores what
  * another one saved. */
@@ -34,7 +34,7 @@ static struct controller controllers[CONTROLLERS] = {
     {.device = &rq_dev}, {.device = &rqb_dev}, {.device = &rqc_dev}, {.device = &rqd_dev}};
 
 /* How many actions a turn of the port has at most, and how many instructions go by before each turn. A block is one action. */
-static int32 actions = 50, pause = 200;
+static int32 actions = 50, slack = 200;
 
 /* ---- what the port wants of the machine */
 
@@ -75,27 +75,6 @@ static void interrupt (void *machine, uint16_t vector)
     SET_INT (RQ);
 }
 
-/* Mostly a file is where the last block ended, and is only sought where another one is wanted, or where reading and writing
- * take turns. SIMH's EXAMINE and DEPOSIT move it too, so it is asked. */
-static t_bool seek (UNIT *unit, uint32_t block, t_bool writes)
-{
-    t_addr wanted = block * MSCP_BLOCK;
-    if (!(unit->flags & UNIT_ATT))
-        return FALSE;
-    if (unit->WROTE == writes && ftell (unit->fileref) == (long)wanted)
-        return TRUE;
-    unit->WROTE = writes;
-    return sim_fseek (unit->fileref, wanted, SEEK_SET) == 0;
-}
-
-/* An error isn't kept: the next block may be a good one. */
-static bool went_well (FILE *file)
-{
-    bool is_good = !ferror (file);
-    clearerr (file);
-    return is_good;
-}
-
 /* The units of RQ have the numbers 0 to 3, those of RQB 4 to 7, and so on, as with SIMH's own disks. */
 static uint16_t first_number (const struct controller *it)
 {
@@ -112,21 +91,38 @@ static uint16_t number_of (const struct controller *it, const UNIT *unit)
     return (uint16_t)(first_number (it) + (unit - it->device->units));
 }
 
+/* The file of what is attached to a unit, as the operating system has it: a block that was written is there, also if the disk is
+ * full then, and an error says nothing of the next block. Negative where nothing is attached. */
+static int file_of (const UNIT *unit)
+{
+    return unit->flags & UNIT_ATT ? fileno (unit->fileref) : -1;
+}
+
 /* Behind the end of its file a volume has zeros. */
+static bool read_run (void *machine, uint16_t number, uint32_t block, uint32_t count, uint8_t *bytes)
+{
+    size_t wanted = (size_t)count * MSCP_BLOCK;
+    ssize_t length = pread (file_of (unit_of (machine, number)), bytes, wanted, (off_t)block * MSCP_BLOCK);
+    if (length < 0)
+        return false;
+    memset (bytes + length, 0, wanted - (size_t)length);
+    return true;
+}
+
 static bool read_block (void *machine, uint16_t number, uint32_t block, uint8_t *bytes)
 {
-    UNIT *unit = unit_of (machine, number);
-    if (!seek (unit, block, FALSE))
-        return false;
-    size_t length = fread (bytes, 1, MSCP_BLOCK, unit->fileref);
-    memset (bytes + length, 0, MSCP_BLOCK - length);
-    return went_well (unit->fileref);
+    return read_run (machine, number, block, 1, bytes);
+}
+
+static bool write_run (void *machine, uint16_t number, uint32_t block, uint32_t count, const uint8_t *bytes)
+{
+    size_t wanted = (size_t)count * MSCP_BLOCK;
+    return pwrite (file_of (unit_of (machine, number)), bytes, wanted, (off_t)block * MSCP_BLOCK) == (ssize_t)wanted;
 }
 
 static bool write_block (void *machine, uint16_t number, uint32_t block, const uint8_t *bytes)
 {
-    UNIT *unit = unit_of (machine, number);
-    return seek (unit, block, TRUE) && fwrite (bytes, MSCP_BLOCK, 1, unit->fileref) == 1 && went_well (unit->fileref);
+    return write_run (machine, number, block, 1, bytes);
 }
 
 /* ---- the controller's two registers, its interrupt and its time */
@@ -166,8 +162,8 @@ static struct controller *controller_at (int32 address)
 static void call (struct controller *it)
 {
     UNIT *unit = &it->device->units[WORK];
-    if (unit->wait > pause || !sim_is_active (unit))
-        sim_activate_abs (unit, unit->wait = pause);
+    if (unit->wait > slack || !sim_is_active (unit))
+        sim_activate_abs (unit, unit->wait = slack);
 }
 
 /* Of the sources of the port that is linked, by what they say of themselves. */
@@ -224,7 +220,7 @@ static struct controller *controller_of (const UNIT *unit)
 static t_stat work (UNIT *unit)
 {
     t_bool has_more = port_turn (&controller_of (unit)->port, actions);
-    unit->wait = has_more ? pause : unit->wait * 2;
+    unit->wait = has_more ? slack : unit->wait * 2;
     if (unit->wait < tmr_poll)
         return sim_activate (unit, unit->wait);
     unit->wait = tmr_poll;
@@ -252,7 +248,7 @@ static t_stat reset (DEVICE *device)
 {
     static const struct mscp_hardware uda50 = {MSCP_BUS_UNI, 6, 3, 1}, rqdx3 = {MSCP_BUS_Q, 19, 3, 1};
     struct controller *it = controller_of (device->units);
-    const struct port_bus bus = {it, read_memory, write_memory, interrupt, read_block, write_block};
+    const struct port_bus bus = {it, read_memory, write_memory, interrupt, read_block, write_block, read_run, write_run};
     struct mscp_unit told[DRIVES];
     for (uint16_t i = 0; i < DRIVES; i++)
         told[i] = drive_unit (&drives[device->units[i].DRIVE], first_number (it) + i, (uint64_t)(it - controllers) << 16 | i);
@@ -274,6 +270,7 @@ static t_stat attach (UNIT *unit, char *name)
     t_stat status = attach_unit (unit, name);
     if (status != SCPE_OK)
         return status;
+    setvbuf (unit->fileref, NULL, _IONBF, 0); /* what EXAMINE and DEPOSIT move is in the file at once, too */
     load (it, unit);
     if (sim_is_active (&it->device->units[WORK]))
         call (it); /* a host that has asked for attention messages gets one */
@@ -385,7 +382,7 @@ static DIB dibs[CONTROLLERS] = {A_DIB (RQ), A_DIB (RQB), A_DIB (RQC), A_DIB (RQD
 
 /* Behind the two that are set by hand stand those of a controller which SAVE and RESTORE want. */
 #define REGISTERS(n) \
-    {{DRDATA (ACTIONS, actions, 24), PV_LEFT + REG_NZ}, {DRDATA (PAUSE, pause, 24), PV_LEFT + REG_NZ}, \
+    {{DRDATA (ACTIONS, actions, 24), PV_LEFT + REG_NZ}, {DRDATA (PAUSE, slack, 24), PV_LEFT + REG_NZ}, \
      {BRDATA (PORT, (char *)controllers[n].port.memory + MSCP_HEAD, 16, 8, MSCP_PORT_SIZE), REG_HIDDEN}, \
      {GRDATA (BUILD, controllers[n].build, 16, 32, 0), REG_HIDDEN}, \
      {DRDATA (POSTED, controllers[n].is_posted, 1), REG_HIDDEN}, {GRDATA (VECTOR, controllers[n].vector, 8, 16, 0), REG_HIDDEN}, \

@@ -87,7 +87,7 @@ more_after call old new counted = elim counted [
 pub all_but_one : {K : Type 0} (picks : Picking K) (hardware : Hardware) (credits : ℕ) (controller : Holdings K)
     (start p : Port K)
     (calls : List Call) → IsMadeOf hardware credits controller start → Answered picks start calls p
-        → p.more + 1 ≡ credits
+    → p.more + 1 ≡ credits
 all_but_one picks hardware credits controller start p [] made e = ap (λ q. q.more + 1) e ∙ made.credit
 all_but_one picks hardware credits controller start p (call ∷ calls) made a =
     ap (λ m. m + 1) (more_after call a.0 p (counts picks call a.0 p a.2))
@@ -102,7 +102,7 @@ after_written old new slot told ended w e = search (arith, min-le_left)
 pub tells_its_credits : {K : Type 0} (picks : Picking K) (hardware : Hardware) (credits : ℕ)
     (controller : Holdings K) (start p : Port K)
     (calls : List Call) (told ends : ℕ) → IsMadeOf hardware credits controller start
-        → (a : Answered picks start calls p)
+    → (a : Answered picks start calls p)
     → Told picks start p calls a told ends → told + p.untold ≡ p.more + ends
 tells_its_credits picks hardware credits controller start p [] told ends made a t =
     let untold : p.untold ≡ start.untold = ap (λ q. q.untold) a in

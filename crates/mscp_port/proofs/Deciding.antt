@@ -8,7 +8,7 @@ pub decided_more : {X Y : Type 0} (f : X → Y) (all : List Y) (xs : List X) (n 
 decided_more f all xs n i d ys zs y low inside before after is =
     let inner : i - n < length (drop n xs) = search (arith, length-drop n xs) in
     let one : map f (take (i - n + 1) (drop n xs))
-        ≡ map f (take (i - n) (drop n xs)) ++ f (get_or (drop n xs) (i - n) d) ∷ [] =
+    ≡ map f (take (i - n) (drop n xs)) ++ f (get_or (drop n xs) (i - n) d) ∷ [] =
     map_more f (drop n xs) (i - n) d inner in
     let there : get_or (drop n xs) (i - n) d ≡ get_or xs i d = search (arith, get_or-drop) in
     search (arith, one, there, append_assoc)

@@ -71,12 +71,12 @@ pub fills_its_slot : {K : Type 0} (picks : Picking K) (hardware : Hardware) (cre
     → IsForgotten a.0 p ⊎ IsDelivered calls a.0
 fills_its_slot picks hardware credits controller start p call calls o made a some none = elim
     (passes picks call a.0 p a.2) [
-  | inl same ↦ absurd (none-some o (sym none ∙ same ∙ some))
-  | inr more ↦ elim more [
-    | inl nothing ↦ absurd (none-some o (sym nothing ∙ some))
-    | inr left ↦ elim left.1 [
-      | inl f ↦ inl f
-      | inr returned ↦ inr (delivered picks hardware credits controller start a.0 calls made a.1 returned)
+      | inl same ↦ absurd (none-some o (sym none ∙ same ∙ some))
+      | inr more ↦ elim more [
+        | inl nothing ↦ absurd (none-some o (sym nothing ∙ some))
+        | inr left ↦ elim left.1 [
+          | inl f ↦ inl f
+          | inr returned ↦ inr (delivered picks hardware credits controller start a.0 calls made a.1 returned)
+        ]
+      ]
     ]
-  ]
-]

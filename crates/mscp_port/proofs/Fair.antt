@@ -45,7 +45,9 @@ slot_keeps {K} side bytes old new at r owes =
     seen Responses p slot = owned (is_owned slot.word)
       where
         owned : (b : Bool)
-            → (if b then record p { task = tasks.Packet slot } else record p { is_full = true; task = tasks.Free
+            → (if b then record p { task = tasks.Packet slot } else record p {
+              is_full = true;
+              task = tasks.Free;
             }).owes_block
             ≡ p.owes_block
         owned true = refl
@@ -128,7 +130,7 @@ heard picks (WasRead bytes (Ok done)) old new r is =
     let t = is.text in
     let a = is.answered in
     polled t.0 a.0 a.1 bytes old new (((r.sees refl).text t.0 t.1 t.2 t.3).sent
-        (sents.Answered a.0 a.1) t.4 a.2) is.poll
+    (sents.Answered a.0 a.1) t.4 a.2) is.poll
 heard picks call old new r is = absurd is
 
 -- ---- a history

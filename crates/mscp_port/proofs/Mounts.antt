@@ -74,8 +74,11 @@ the_same place m old new e holds = subst (λ vs. Holds place vs m) (sym e) holds
 forgotten : {K : Type 0} (place : ℕ) (old new : Port K) → place < 16 → IsForgotten old new
     → Holds place new.volumes offline
 forgotten place old new low f =
-    inr (subst (λ v. Fits v offline) (sym (f.1.volumes place low)) (record { volume = λ is. absurd
-        (false≢true is); host = refl }))
+    inr (subst (λ v. Fits v offline) (sym (f.1.volumes place low)) (record {
+      volume = λ is. absurd
+          (false≢true is);
+      host = refl;
+    }))
 
 -- an end of this unit, by what was held before
 ended : (vs : List Volume) (place code : ℕ) (kept : Option Buffer) (m : Mount) → Holds place vs m
@@ -186,7 +189,7 @@ guarded : (vs : List Volume) (protected : Bool) (place : ℕ) (o : Option ℕ) (
 guarded vs protected place None m holds = holds
 guarded vs protected place (Some q) m holds =
     set_alike vs place q (volume_protected protected (volume_at vs q)) m
-        (record { mounted = refl; changes = refl; host = refl }) holds
+    (record { mounted = refl; changes = refl; host = refl }) holds
 
 -- news, and what goes out else
 with_news : (place : ℕ) (m : Mount) (units : List Shape) (vs ws : List Volume) (o : Option ℕ)

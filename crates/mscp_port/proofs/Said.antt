@@ -140,7 +140,7 @@ module _ {K : Type 0} (said : ℕ → Buffer → Type 0) where
       subst (λ rs. IsFor (λ u. said u b) b.reference rs) (sym (ap (λ l. l.waiting) s.left))
       (served_for (λ u. said u b) b.reference (block_told verdict) d h.waiting place s.next.servable.inside
       (served_stays via reference old.buffers.items b r (block_told verdict) d ended (ap (λ x. end_brought
-          (Ok x)) s.told)
+      (Ok x)) s.told)
       (served_name h.begun (name_on via reference) r f.0 s.next.same) left)
       (k b (kept_among via ended old.buffers.items b left)))
 

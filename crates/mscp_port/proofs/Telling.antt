@@ -115,14 +115,14 @@ keeps_what_was_said {K} picks hardware credits controller start p call calls pla
         let is = kept_was_said picks hardware credits controller start a.0 calls made a.1 b found.0 in
         let step = end.step in
         let of_end = ended_of (picks old.controller.picker) via step.0
-            (block_told step.1) old.controller p.controller step.2 e step.3 step.4 in
+        (block_told step.1) old.controller p.controller step.2 e step.3 step.4 in
         let r = record_at rs of_end.place in
         let name : name_of r ≡ name_on First b.reference =
         ap (λ c. name_on c r.command.reference) (of_end.connection ∙ first.0)
         ∙ ap (name_on First) (sym of_end.reference ∙ sym first.1) in
         let units : WasSaid picks b.reference r.command.unit start a.0 calls a.1 b =
         All-get_or (IsTo (λ unit. WasSaid picks b.reference unit start a.0 calls a.1 b) b.reference) rs of_end.place
-            no_record
+        no_record
         of_end.inside is.units (is_same (name_of r) (name_on First b.reference) name) in
         subst (λ n. WasSaid picks n e.unit start a.0 calls a.1 b) first.1
         (subst (λ u. WasSaid picks b.reference u start a.0 calls a.1 b) (sym of_end.unit) units)

@@ -52,7 +52,7 @@ pub record Ends {K : Type 0} (picks : Picking K) (place : ℕ) (old new : Port K
     (e : End) : Type 0 where
   pub step : (reference : ℕ) × (verdict : Verdict) × (result : Result Report NotBegun)
       × Finishes (picks old.controller.picker) (name_on via reference)
-          (block_told verdict) old.controller result new.controller
+      (block_told verdict) old.controller result new.controller
       × (end_brought result ≡ Some e) × HeedsStep via verdict (Some e) old new
   pub unit : place_heeded old.controller.settings.units e ≡ Some place
 

@@ -122,5 +122,5 @@ pub touches_what_is_named : {K : Type 0} (picks : Picking K) (hardware : Hardwar
     → IsNamed calls action
 touches_what_is_named picks hardware credits controller start p calls blocks action bytes made a =
     within_named calls p action (knows picks hardware credits controller start p
-        (Next blocks action bytes ∷ calls) made a)
+    (Next blocks action bytes ∷ calls) made a)
     a.2.0.within

@@ -11,8 +11,13 @@ pub loop-place-init : goal.loop-place-init
 loop-place-init g c = search (arith, append-nil)
 
 pub bounds-ends-place : goal.bounds-ends-place
-bounds-ends-place g c = search (arith, c.ends.ensures.value, c.ends-place-end.ensures.value, ap
-    (λ p. of First p.controller.untaken) c.loop-place.invariant.frame)
+bounds-ends-place g c = search (
+  arith,
+  c.ends.ensures.value,
+  c.ends-place-end.ensures.value,
+  ap
+      (λ p. of First p.controller.untaken) c.loop-place.invariant.frame,
+)
 
 pub push-requires : goal.push-requires
 push-requires g c = search (arith, c.ends-place-end.ensures.few)

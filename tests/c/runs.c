@@ -1,0 +1,210 @@
+/* A disk of which one block can't be moved, behind examples/port.c: a command fails at that block, with the count of those
+ * before it, and the next command works. It is told the same whether blocks are moved one by one or in runs.
+ *
+ * Prints what is wrong, and ends with 1 where something is. */
+#include "machine.h"
+#include "../../examples/port.h"
+
+enum {
+    AREA = 0x1000, DATA = 0x4000, START = 3, MANY = 12, TAIL = 100, SIZE = (MANY - 1) * MSCP_BLOCK + TAIL, NOWHERE = BLOCKS,
+    DRIVE_ERROR = 0x000B, NO_MEMORY = 0x0069, ABORTED = 0x0002, ALL = 1000,
+};
+
+static struct port port;
+static uint32_t bad;   /* the block that can't be moved */
+static uint32_t calls; /* of those that move blocks */
+static uint32_t late;  /* a WRITE or READ of this address has the host send what it has kept back, once */
+
+/* ---- the machine */
+
+/* The command 5 is aborted, and its number is given to a READ of the first blocks of unit 2. */
+static void change_mind(uint32_t address)
+{
+    if (late == 0 || address != late)
+        return;
+    late = 0;
+    uint8_t *text = command(6, MSCP_ABORT, 5, 0);
+    send(text, 32);
+    text = command(5, MSCP_READ, SIZE, 0);
+    put(text + 4, 2, 2);
+    put(text + 16, 4, DATA);
+    send(text, 32);
+}
+
+static enum mscp_outcome read_memory(void *it, uint32_t address, uint8_t *bytes, uint32_t count)
+{
+    (void)it;
+    if (!is_there(address, count))
+        return MSCP_OUTCOME_MISSING;
+    memcpy(bytes, machine.memory + address, count);
+    return MSCP_OUTCOME_DONE;
+}
+
+static enum mscp_outcome write_memory(void *it, uint32_t address, const uint8_t *bytes, uint32_t count)
+{
+    (void)it;
+    if (!is_there(address, count))
+        return MSCP_OUTCOME_MISSING;
+    memcpy(machine.memory + address, bytes, count);
+    change_mind(address);
+    return MSCP_OUTCOME_DONE;
+}
+
+static void interrupt(void *it, uint16_t vector)
+{
+    (void)it;
+    machine.vector = vector;
+}
+
+/* So many blocks of them up to the bad one are moved. Whether those were all. */
+static bool read_run(void *it, uint16_t unit, uint32_t block, uint32_t count, uint8_t *bytes)
+{
+    (void)it;
+    calls++;
+    for (uint32_t i = 0; i < count; i++) {
+        if (block + i == bad)
+            return false;
+        memcpy(bytes + i * MSCP_BLOCK, machine.disks[unit][block + i], MSCP_BLOCK);
+        machine.transfers++;
+    }
+    return true;
+}
+
+static bool write_run(void *it, uint16_t unit, uint32_t block, uint32_t count, const uint8_t *bytes)
+{
+    (void)it;
+    calls++;
+    for (uint32_t i = 0; i < count; i++) {
+        if (block + i == bad)
+            return false;
+        memcpy(machine.disks[unit][block + i], bytes + i * MSCP_BLOCK, MSCP_BLOCK);
+        machine.transfers++;
+    }
+    return true;
+}
+
+static bool read_block(void *it, uint16_t unit, uint32_t block, uint8_t *bytes) { return read_run(it, unit, block, 1, bytes); }
+
+static bool write_block(void *it, uint16_t unit, uint32_t block, const uint8_t *bytes)
+{
+    return write_run(it, unit, block, 1, bytes);
+}
+
+/* The machine of machine.h, with the port of port.c. Units 0 and 2 are online. */
+static void begin(bool has_runs)
+{
+    static const struct port_bus bus = {.read = read_memory, .write = write_memory, .interrupt = interrupt,
+                                        .read_block = read_block, .write_block = write_block},
+                                 fast = {.read = read_memory, .write = write_memory, .interrupt = interrupt,
+                                         .read_block = read_block, .write_block = write_block,
+                                         .read_run = read_run, .write_run = write_run};
+    const struct mscp_unit units[] = {rd54(0), rd54(1), rd54(2), rd54(3)};
+    build(&RQDX3);
+    bad = NOWHERE;
+    late = 0;
+    is("it is opened", port_open(&port, has_runs ? &fast : &bus, &RQDX3, units, UNITS), MSCP_DONE);
+    machine.port = port_itself(&port);
+    is("a volume", insert(0, 0), MSCP_DONE);
+    is("another", insert(2, 0), MSCP_DONE);
+    initialise(AREA, 2, 2, 0);
+    send_command(0, 100, MSCP_ONLINE, 0, 0, 0);
+    expect(100, 0x89, 0);
+    send_command(2, 101, MSCP_ONLINE, 0, 0, 0);
+    expect(101, 0x89, 0);
+    for (uint32_t i = 0; i < MANY * MSCP_BLOCK; i++)
+        machine.memory[DATA + i] = (uint8_t)(0xC0 + i / MSCP_BLOCK);
+}
+
+/* ---- the host */
+
+/* The machine goes on by turns of so many actions until this command ends: its status, and how many bytes it was told. */
+static void ends_with(unsigned most, uint32_t reference, uint32_t status, uint32_t bytes)
+{
+    uint8_t packet[68] = {0};
+    for (unsigned turns = 0; turns < ALL && !take(packet); turns++)
+        port_turn(&port, most);
+    is("its number", number(packet + 4, 4), reference);
+    is("its status", number(packet + 14, 2), status);
+    is("its bytes", number(packet + 16, 4), bytes);
+}
+
+/* What memory and disk have from the k-th block on, and before it. */
+static uint8_t in_memory(uint32_t k, uint32_t i) { return machine.memory[DATA + k * MSCP_BLOCK + i]; }
+static uint8_t on_disk(uint32_t k, uint32_t i) { return machine.disks[0][START + k][i]; }
+
+static void are_moved(const char *what, uint32_t many, uint8_t (*there)(uint32_t, uint32_t), uint8_t (*wanted)(uint32_t, uint32_t),
+                      uint8_t (*before)(uint32_t, uint32_t))
+{
+    for (uint32_t k = 0; k < MANY; k++)
+        is(what, there(k, 5), k < many ? wanted(k, 5) : before(k, 5));
+}
+
+static uint8_t of_memory(uint32_t k, uint32_t i) { (void)i; return (uint8_t)(0xC0 + k); }
+static uint8_t of_disk(uint32_t k, uint32_t i) { return (uint8_t)(i + START + k); }
+static uint8_t of_zeros(uint32_t k, uint32_t i) { (void)k; (void)i; return 0; }
+
+/* A command of which the k-th block fails; the same once more, when it doesn't; and how many calls that took. */
+static void fails_at(bool has_runs, unsigned most, uint8_t opcode, uint32_t k)
+{
+    begin(has_runs);
+    bad = START + k;
+    send_command(0, 1, opcode, SIZE, START, DATA);
+    ends_with(most, 1, k < MANY ? DRIVE_ERROR : 0, k < MANY ? k * MSCP_BLOCK : SIZE);
+    are_moved("a block in memory", opcode == MSCP_READ ? k : 0, in_memory, of_disk, of_memory);
+    are_moved("a block on the disk", opcode == MSCP_WRITE || opcode == MSCP_ERASE ? k : 0, on_disk,
+              opcode == MSCP_ERASE ? of_zeros : of_memory, of_disk);
+    bad = NOWHERE;
+    calls = machine.transfers = 0;
+    send_command(0, 2, opcode, SIZE, START, DATA);
+    ends_with(most, 2, 0, SIZE);
+    is("each block is moved once", machine.transfers, MANY);
+    if (!has_runs || opcode == MSCP_ERASE)
+        is("its calls", calls, MANY);
+    else if (most == ALL)
+        is("its calls", calls, 1);
+    if (opcode == MSCP_WRITE)
+        is("behind its bytes", on_disk(MANY - 1, TAIL), 0);
+    if (opcode == MSCP_READ)
+        is("behind its bytes", in_memory(MANY - 1, TAIL), of_memory(MANY - 1, TAIL));
+}
+
+/* Memory ends behind the k-th block of what a WRITE or a READ moves. */
+static void memory_ends_at(bool has_runs, unsigned most, uint8_t opcode, uint32_t k)
+{
+    begin(has_runs);
+    machine.missing = DATA + k * MSCP_BLOCK;
+    send_command(0, 1, opcode, SIZE, START, DATA);
+    ends_with(most, 1, NO_MEMORY, k * MSCP_BLOCK);
+    are_moved("a block on the disk", opcode == MSCP_WRITE ? k : 0, on_disk, of_memory, of_disk);
+}
+
+/* Amid a READ its number becomes another one's, of another unit, and that gets its own blocks. */
+static void number_is_reused(bool has_runs)
+{
+    begin(has_runs);
+    send_command(0, 5, MSCP_READ, SIZE, START, DATA);
+    late = DATA + 4 * MSCP_BLOCK;
+    ends_with(ALL, 5, ABORTED, 5 * MSCP_BLOCK);
+    ends_with(ALL, 6, 0, 5); /* an ABORT's end has the number that it meant there */
+    ends_with(ALL, 5, 0, SIZE);
+    for (uint32_t k = 0; k < MANY; k++)
+        is("a block of the other unit", in_memory(k, 5), (uint8_t)(5 + k + 2));
+}
+
+int main(void)
+{
+    static const uint8_t opcodes[] = {MSCP_READ, MSCP_WRITE, MSCP_ERASE, MSCP_ACCESS};
+    static const unsigned turns[] = {1, 2, 7, ALL};
+    for (unsigned runs = 0; runs < 2; runs++) {
+        for (unsigned most = 0; most < COUNT(turns); most++) {
+            for (uint32_t k = 0; k <= MANY; k++) {
+                for (unsigned i = 0; i < COUNT(opcodes); i++)
+                    fails_at(runs != 0, turns[most], opcodes[i], k);
+                for (unsigned i = 0; i < 2 && k < MANY; i++)
+                    memory_ends_at(runs != 0, turns[most], opcodes[i], k);
+            }
+        }
+        number_is_reused(runs != 0);
+    }
+    return wrong;
+}
