@@ -28,7 +28,7 @@ went : (number block : ℕ) (status : ℤ) (o : Option Outcome) (old new : Handl
     → (next : List Call)
     × MatchOption o ((next ≡ []) × (status ≡ BAD_OUTCOME)) (λ outcome. TellsOutcome outcome status next)
     × ((start : Held) (told : List Call) → Answered PolicyPicks start told old.held
-        → Answered PolicyPicks start (next ++ told) new.held)
+    → Answered PolicyPicks start (next ++ told) new.held)
 went number block status None old new refused = (
   [],
   (refl, refused.0),

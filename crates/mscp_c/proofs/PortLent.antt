@@ -43,7 +43,7 @@ module _ (h old : Handle) (x new : Held) (same : x ≡ h.held) (kept : h ≡ old
     code = code;
   }
 
-  pub went_told : (outcome : Outcome) (answer : Result (Unit {0}) Unasked) (status : ℤ) 
+  pub went_told : (outcome : Outcome) (answer : Result (Unit {0}) Unasked) (status : ℤ)
       → Goes (PolicyPicks x.controller.picker) outcome x answer new → status ≡ told_code answer
       → TellsWent outcome old status (with_held h new)
   went_told outcome answer status goes code = record {
