@@ -14,6 +14,15 @@
 
 enum { DRIVE_ERROR = 0x000B };
 
+/* The memory for a port that isn't made yet. */
+static struct mscp_port *make_room(struct port *port, const struct port_bus *bus, uint8_t lines)
+{
+    port->bus = *bus;
+    port->lines = lines;
+    port->ahead.count = 0;
+    return mscp_port_in_memory(port->memory, sizeof port->memory);
+}
+
 /* One credit more than the host has is for commands that are answered at once. */
 int32_t port_open(struct port *port, const struct port_bus *bus, const struct mscp_hardware *hardware,
                   const struct mscp_unit *units, size_t count)
@@ -25,11 +34,12 @@ int32_t port_open(struct port *port, const struct port_bus *bus, const struct ms
         .longest = 65536,
         .timeout = 120,
     };
-    port->bus = *bus;
-    port->ahead.count = 0;
-    port->lines = hardware->bus;
-    struct mscp_port *made = mscp_port_in_memory(port->memory, sizeof port->memory);
-    return mscp_port_init(made, &limits, units, count, MSCP_SWEEP, hardware, PORT_COMMANDS);
+    return mscp_port_init(make_room(port, bus, hardware->bus), &limits, units, count, MSCP_SWEEP, hardware, PORT_COMMANDS);
+}
+
+int32_t port_restore(struct port *port, const struct port_bus *bus, enum mscp_bus lines, const uint8_t *bytes, size_t length)
+{
+    return mscp_port_restore(make_room(port, bus, (uint8_t)lines), bytes, length);
 }
 
 /* Its handle has a pointer to what lies behind it, which is set anew: the port may have been copied. */

@@ -5,7 +5,9 @@
 #include <stdbool.h>
 
 #define PORT_COMMANDS 16u /* that a host may have outstanding */
-#define PORT_RUN 64u      /* blocks that are moved at once */
+#ifndef PORT_RUN
+#define PORT_RUN 64u /* blocks that are moved at once, for which a port has room: 1 where memory is short */
+#endif
 
 /* What the machine does for its port. Each callback gets `machine` as it is here. Addresses are those of the bus, of 22 bits or
  * 18, and mapping them is the machine's: it answers MSCP_OUTCOME_DONE, or else MSCP_OUTCOME_MISSING, _PARITY or _UNMAPPED. */
@@ -39,8 +41,13 @@ struct port {
 int32_t port_open(struct port *port, const struct port_bus *bus, const struct mscp_hardware *hardware,
                   const struct mscp_unit *units, size_t count);
 
-/* The port for the calls of mscp.h that have no other name here: mscp_port_protect, _state, _volume, _look, _save. */
+/* The port for the calls of mscp.h that have no other name here: mscp_port_protect, _state, _volume, _look, _save. Those of a
+ * volume answer a status there. */
 struct mscp_port *port_itself(struct port *port);
+
+/* Makes the port that mscp_port_save saved, with the bus lines of its hardware, in a struct that isn't in use: so one that runs
+ * goes on where this fails, and is assigned this one where it doesn't. A status of mscp_port_restore. */
+int32_t port_restore(struct port *port, const struct port_bus *bus, enum mscp_bus lines, const uint8_t *bytes, size_t length);
 
 /* The host reads or writes a word at the port's first address (IP, with 0) or the second (SA, with 2). */
 uint16_t port_read(struct port *port, unsigned offset);

@@ -191,6 +191,28 @@ static void number_is_reused(bool has_runs)
         is("a block of the other unit", in_memory(k, 5), (uint8_t)(5 + k + 2));
 }
 
+/* Amid a WRITE the port is saved, bytes that aren't a port's are refused and it goes on, and what was saved goes on in another
+ * struct, which is assigned to it. */
+static void is_restored(bool has_runs)
+{
+    static uint8_t bytes[MSCP_PORT_SAVED_MAX];
+    static struct port other;
+    size_t length = 0;
+    begin(has_runs);
+    send_command(0, 1, MSCP_WRITE, SIZE, START, DATA);
+    port_turn(&port, 7);
+    is("it is saved", mscp_port_save(port_itself(&port), bytes, sizeof bytes, &length), MSCP_DONE);
+    is("half of it isn't a port", port_restore(&other, &port.bus, MSCP_BUS_Q, bytes, length / 2), MSCP_SAVED_LENGTH);
+    port_turn(&port, 2);
+    memset(machine.disks[0], 0, sizeof machine.disks[0]);
+    is("all of it is", port_restore(&other, &port.bus, MSCP_BUS_Q, bytes, length), MSCP_DONE);
+    port = other;
+    machine.port = port_itself(&port);
+    ends_with(7, 1, 0, SIZE);
+    is("the last block is written", on_disk(MANY - 1, 5), of_memory(MANY - 1, 5));
+    is("the first was before", on_disk(0, 5), 0);
+}
+
 int main(void)
 {
     static const uint8_t opcodes[] = {MSCP_READ, MSCP_WRITE, MSCP_ERASE, MSCP_ACCESS};
@@ -205,6 +227,7 @@ int main(void)
             }
         }
         number_is_reused(runs != 0);
+        is_restored(runs != 0);
     }
     return wrong;
 }
