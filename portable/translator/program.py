@@ -2,6 +2,7 @@
 
 import re
 
+from .flag import Flag
 from .function import Function, beside, read_code
 from .values import I32, I64, WIDTHS, Value, constant, literal
 from .wasm import Refusal
@@ -36,13 +37,16 @@ class Program:
         self.module, self.other = module, other
         self.constants, self.addresses = read_constants(module, other)
         self.begun = set() # the places of addresses from which on some are loaded
-        self.functions = {}
+        self.functions, self.codes = {}, {}
         self.order = [] # the numbers of functions, each behind those that it calls
         self.names = {}
+        self.flag = next((it for it, first in enumerate(module.globals) if first == other.globals[it] == 0), None)
+        flag = Flag(self)
         for name in sorted(module.exports):
             if name.startswith("mscp_"):
                 self.names[module.exports[name]] = "w_" + name
                 self.visit(module.exports[name], ())
+                flag.check(module.exports[name])
         if any(it - 8 not in self.addresses | self.begun and it not in self.begun for it in self.addresses):
             raise Refusal("no load begins at an address among constants")
         for number in self.order:
@@ -56,14 +60,16 @@ class Program:
         if number in self.functions:
             return
         (_, reader, end), (_, other, other_end) = self.module.code[number], self.other.code[number]
-        code = list(beside(read_code(reader, end), read_code(other, other_end)))
+        code = self.codes[number] = list(beside(read_code(reader, end), read_code(other, other_end)))
         it = self.functions[number] = Function(self, number, code)
         for callee in it.calls:
             self.visit(callee, above + (number,))
         self.order.append(number)
 
     def is_stack_pointer(self, number):
-        return self.module.globals[number] != self.other.globals[number]
+        """Whether a global begins where the stack ends, and the constants begin."""
+        return [self.module.globals[number]] == [at for at, _ in self.module.data] and \
+            [self.other.globals[number]] == [at for at, _ in self.other.data]
 
     def mark(self, number):
         """Stands for the name of a function until all have one."""
@@ -82,7 +88,7 @@ class Program:
 
     def number(self, it, kind):
         if it.number != it.other:
-            return Value(f"A(data + {self.place(it)})", kind)
+            return Value(f"A(data + {self.place(it)})", kind, fixed=True)
         return constant(it.number, kind)
 
     def is_of_addresses(self, it):
@@ -99,7 +105,7 @@ class Program:
             text = base if value.number == 0 else f"{base} + {value}"
         else:
             text = f"{value} + {it.number}" if it.number else format(value, "all")
-        return Value(text, I64, local=value.locals, memory=value.memory)
+        return Value(text, I64, local=value.locals, memory=value.memory, fixed=value.fixed or it.number != it.other)
 
     # ---- text
 
@@ -153,4 +159,4 @@ def declarations(it, body):
 
 def constants(data):
     rows = [", ".join(str(it) for it in data[at : at + 24]) for at in range(0, len(data), 24)]
-    return "static const u8 data[] = {\n    " + ",\n    ".join(rows) + ",\n};\n" if data else ""
+    return f"FIXED(data, {len(data)}) = {{\n    " + ",\n    ".join(rows) + ",\n};\n" if data else ""
