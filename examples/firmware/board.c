@@ -148,6 +148,7 @@ void start(void)
     SERIAL_CONTROL = 1;
 #ifdef ALIGNED_ALONE
     CONFIGURATION |= 1u << 3; /* an access that isn't aligned is a fault, as it is on a Cortex-M0+ */
+    __asm__ volatile("dsb\n\tisb" ::: "memory");
 #endif
     COUNTER_RELOAD = 0xFFFFFF;
     COUNTER = 0;

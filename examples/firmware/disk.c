@@ -85,6 +85,8 @@ static bool go_on(void)
 /* ---- what the port wants of its machine */
 
 static uint8_t memory[MEMORY]; /* of the host */
+static bool changes_its_mind;  /* whether the host writes IP as the port writes its memory next */
+static void host_writes(uint8_t offset, uint16_t word);
 
 static bool is_there(uint32_t address, uint32_t count) { return address <= MEMORY && count <= MEMORY - address; }
 
@@ -103,6 +105,9 @@ static enum mscp_outcome write_memory(void *machine, uint32_t address, const uin
     if (!is_there(address, count))
         return MSCP_OUTCOME_MISSING;
     memcpy(memory + address, bytes, count);
+    if (changes_its_mind)
+        host_writes(IP, 0);
+    changes_its_mind = false;
     return MSCP_OUTCOME_DONE;
 }
 
@@ -206,12 +211,25 @@ static bool command(uint8_t opcode, uint32_t bytes)
     return get(RINGS, 4) < 0x80000000u && memory[RESPONSE + 8] == (0x80 | opcode) && get(RESPONSE + 10, 2) == 0;
 }
 
+/* The first three steps, up to where the port clears the rings. */
+static bool begin(void)
+{
+    host_writes(IP, 0);
+    return step(1, 0x8000) && step(2, RINGS) && step(3, 0);
+}
+
+/* The host writes IP in the middle of a turn: SA shows 0 when that has ended, though the port isn't told yet. */
+static bool is_interrupted(void)
+{
+    changes_its_mind = true;
+    for (unsigned i = 0; i < 1000 && changes_its_mind; i++)
+        go_on();
+    return !changes_its_mind && host_reads(SA) == 0;
+}
+
 static bool boot(void)
 {
-    if (!attach())
-        return false;
-    host_writes(IP, 0);
-    if (host_reads(SA) != 0 || !step(1, 0x8000) || !step(2, RINGS) || !step(3, 0) || !step(4, 1) || !command(MSCP_ONLINE, 0))
+    if (!attach() || !begin() || !is_interrupted() || !begin() || !step(4, 1) || !command(MSCP_ONLINE, 0))
         return false;
     say("unit 0 is online: ");
     say_number(get(RESPONSE + 36, 4));
