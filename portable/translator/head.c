@@ -82,10 +82,11 @@ NAME_OF_C void MSCP_TRAP(void);
 #define A(pointer) ((u64)(uintptr_t)(pointer))
 #define P(address) ((u8 *)(uintptr_t)(address))
 
-/* What lies at an address that so many bytes divide: the compiler is told so where the machine, or its compiler, loads no
- * number from elsewhere, as then it would load byte by byte. */
+/* Whether the machine loads numbers only from addresses that their bytes divide. There the compiler is told which addresses
+ * are known to be so, and a number at another one is loaded byte by byte. */
 #if defined(LIKE_GCC) && (defined(MSCP_STRICT) || (defined(__arm__) && !defined(__ARM_FEATURE_UNALIGNED)) || defined(__riscv) || \
                           defined(__mips__) || defined(__sparc__) || defined(__hppa__) || defined(__sh__) || defined(__alpha__))
+#define STRICT
 #define AT(address, bytes) __builtin_assume_aligned(P(address), bytes)
 #else
 #define AT(address, bytes) P(address)

@@ -1,12 +1,12 @@
 /* Paragraphs of mscp.c, of which it has those that it calls. Nothing includes this file. */
 
-#ifdef ORDERED
+#if defined(ORDERED) && !defined(STRICT)
 static inline u32 l2(u64 a) { u16 v; COPY(&v, P(a), 2); return ORDERED(16, v); }
 #else
 static inline u32 l2(u64 a) { const u8 *p = P(a); return (u32)p[0] | (u32)p[1] << 8; }
 #endif
 
-#ifdef ORDERED
+#if defined(ORDERED) && !defined(STRICT)
 static inline u32 l4(u64 a) { u32 v; COPY(&v, P(a), 4); return ORDERED(32, v); }
 #else
 static inline u32 l4(u64 a)
@@ -16,7 +16,7 @@ static inline u32 l4(u64 a)
 }
 #endif
 
-#ifdef ORDERED
+#if defined(ORDERED) && !defined(STRICT)
 static inline u64 l8(u64 a) { u64 v; COPY(&v, P(a), 8); return ORDERED(64, v); }
 #else
 static inline u64 l8(u64 a)
@@ -27,13 +27,13 @@ static inline u64 l8(u64 a)
 }
 #endif
 
-#ifdef ORDERED
+#if defined(ORDERED) && !defined(STRICT)
 static inline void s2(u64 a, u32 v) { const u16 low = ORDERED(16, (u16)v); COPY(P(a), &low, 2); }
 #else
 static inline void s2(u64 a, u32 v) { u8 *p = P(a); p[0] = (u8)v; p[1] = (u8)(v >> 8); }
 #endif
 
-#ifdef ORDERED
+#if defined(ORDERED) && !defined(STRICT)
 static inline void s4(u64 a, u32 v) { v = ORDERED(32, v); COPY(P(a), &v, 4); }
 #else
 static inline void s4(u64 a, u32 v)
@@ -43,7 +43,7 @@ static inline void s4(u64 a, u32 v)
 }
 #endif
 
-#ifdef ORDERED
+#if defined(ORDERED) && !defined(STRICT)
 static inline void s8(u64 a, u64 v) { v = ORDERED(64, v); COPY(P(a), &v, 8); }
 #else
 static inline void s8(u64 a, u64 v)
@@ -60,8 +60,8 @@ static inline u32 l2_2(u64 a) { u16 v; COPY(&v, AT(a, 2), 2); return ORDERED(16,
 static inline u32 l2_2(u64 a) { return l2(a); }
 #endif
 
-#ifdef ORDERED
-static inline u32 l4_2(u64 a) { u32 v; COPY(&v, AT(a, 2), 4); return ORDERED(32, v); }
+#ifdef STRICT
+static inline u32 l4_2(u64 a) { return l2_2(a) | l2_2(a + 2) << 16; }
 #else
 static inline u32 l4_2(u64 a) { return l4(a); }
 #endif
@@ -72,14 +72,14 @@ static inline u32 l4_4(u64 a) { u32 v; COPY(&v, AT(a, 4), 4); return ORDERED(32,
 static inline u32 l4_4(u64 a) { return l4(a); }
 #endif
 
-#ifdef ORDERED
-static inline u64 l8_2(u64 a) { u64 v; COPY(&v, AT(a, 2), 8); return ORDERED(64, v); }
+#ifdef STRICT
+static inline u64 l8_2(u64 a) { return (u64)l4_2(a) | (u64)l4_2(a + 4) << 32; }
 #else
 static inline u64 l8_2(u64 a) { return l8(a); }
 #endif
 
-#ifdef ORDERED
-static inline u64 l8_4(u64 a) { u64 v; COPY(&v, AT(a, 4), 8); return ORDERED(64, v); }
+#ifdef STRICT
+static inline u64 l8_4(u64 a) { return (u64)l4_4(a) | (u64)l4_4(a + 4) << 32; }
 #else
 static inline u64 l8_4(u64 a) { return l8(a); }
 #endif
@@ -96,8 +96,8 @@ static inline void s2_2(u64 a, u32 v) { const u16 low = ORDERED(16, (u16)v); COP
 static inline void s2_2(u64 a, u32 v) { s2(a, v); }
 #endif
 
-#ifdef ORDERED
-static inline void s4_2(u64 a, u32 v) { v = ORDERED(32, v); COPY(AT(a, 2), &v, 4); }
+#ifdef STRICT
+static inline void s4_2(u64 a, u32 v) { s2_2(a, v); s2_2(a + 2, v >> 16); }
 #else
 static inline void s4_2(u64 a, u32 v) { s4(a, v); }
 #endif
@@ -108,14 +108,14 @@ static inline void s4_4(u64 a, u32 v) { v = ORDERED(32, v); COPY(AT(a, 4), &v, 4
 static inline void s4_4(u64 a, u32 v) { s4(a, v); }
 #endif
 
-#ifdef ORDERED
-static inline void s8_2(u64 a, u64 v) { v = ORDERED(64, v); COPY(AT(a, 2), &v, 8); }
+#ifdef STRICT
+static inline void s8_2(u64 a, u64 v) { s4_2(a, (u32)v); s4_2(a + 4, (u32)(v >> 32)); }
 #else
 static inline void s8_2(u64 a, u64 v) { s8(a, v); }
 #endif
 
-#ifdef ORDERED
-static inline void s8_4(u64 a, u64 v) { v = ORDERED(64, v); COPY(AT(a, 4), &v, 8); }
+#ifdef STRICT
+static inline void s8_4(u64 a, u64 v) { s4_4(a, (u32)v); s4_4(a + 4, (u32)(v >> 32)); }
 #else
 static inline void s8_4(u64 a, u64 v) { s8(a, v); }
 #endif

@@ -4,6 +4,7 @@ import re
 
 from .flag import Flag
 from .function import Function, beside, read_code
+from .names import Names
 from .values import I32, I64, WIDTHS, Value, constant, literal
 from .wasm import Refusal
 
@@ -33,8 +34,8 @@ class Program:
     """A library that was linked twice, so that its constants lie at two places: a number that differs is an address of them.
     Where one of the constants is such an address, its place is loaded: of a list of them, by loads from its first one on."""
 
-    def __init__(self, module, other):
-        self.module, self.other = module, other
+    def __init__(self, module, other, sources=None):
+        self.module, self.other, self.said = module, other, Names(module.names, sources)
         self.constants, self.addresses = read_constants(module, other)
         self.begun = set() # the places of addresses from which on some are loaded
         self.functions, self.codes = {}, {}
@@ -50,11 +51,12 @@ class Program:
         if any(it - 8 not in self.addresses | self.begun and it not in self.begun for it in self.addresses):
             raise Refusal("no load begins at an address among constants")
         for number in self.order:
-            self.names.setdefault(number, f"f{len(self.names)}")
+            if number not in self.names:
+                self.names[number] = self.said.name(number)
 
     def visit(self, number, above):
-        """Translates a function, and first those that it calls. Functions are known by who calls them first, so neither their
-        names in the module nor their order there are seen in the C."""
+        """Translates a function, and first those that it calls. They stand in the order of who calls them first, so their order
+        in the module isn't seen in the C."""
         if number in above:
             raise Refusal("a function calls itself")
         if number in self.functions:
@@ -120,7 +122,8 @@ class Program:
         takes = ", ".join(f"{WIDTHS[kind]} v{place}" for place, kind in enumerate(it.takes))
         gives = WIDTHS[it.gives[0]] if it.gives else "void"
         begins = "APART" if (it.frame or 0) >= MUCH else "static"
-        lines = [f"{begins} {gives} {self.names[number]}({takes or 'void'})", "{", *declarations(it, body)]
+        comment = [] if self.names[number].startswith("w_") else self.said.comment(number)
+        lines = [*comment, f"{begins} {gives} {self.names[number]}({takes or 'void'})", "{", *declarations(it, body)]
         return "\n".join(lines + [body, "}"]) + "\n"
 
     def statement(self, line, it):
