@@ -15,8 +15,8 @@ TRANSFERS = "read", "write", "access", "erase", "compare"
 LATER = "online", "available", "setunit", "unitstatus"
 OPCODES = 0, 1, 2, 3, 4, 8, 9, 10, 16, 18, 32, 33, 34, 0x7F, 0xA1
 WRONG = (
-    "", "step", "step 0", "step 1001", "step 00000000001", "read 1 2 3", "read 1 0 0 4294967296", "status 00000000001 1", "take 1",
-    "bad 0004", "bad 12", "bad 00G8", "second", "second step 1", "second look", "packet 0", "packet 0G", "packet " + "00" * 65,
+    "", "step", "step 0", "step 1001", "step 00000000001", "read 1 2 3", "read 1 0 0 4294967296", "status 00000000001 1",
+    "take 1", "bad 0004", "bad 12", "bad 00G8", "second", "second step 1", "second look", "packet 0", "packet 0G", "packet " + "00" * 65,
     "look 1", "Step 1", "online 1 65536", "credits 5", "go", "unit 1 1 1 1 1", "abort -1 1", "# " + "x" * 199, "take\t",
     "take \x7f", "status 4294967296 1",
 )
@@ -96,7 +96,9 @@ class Script:
             return "setcontroller", self.reference()
         if kind < 0.80 and not self.is_full:
             return "packet", self.message().hex()
-        return ("take",) if not self.is_full or kind > 0.95 else (dice.choice(TRANSFERS), self.reference(), unit, 512, dice.randrange(size + 1))
+        if self.is_full and kind < 0.95:
+            return dice.choice(TRANSFERS), self.reference(), unit, 512, dice.randrange(size + 1)
+        return ("take",)
 
     def event(self):
         kind = self.dice.random() if not self.is_full else self.dice.choice((0, 0.7, 0.7, self.dice.random()))
@@ -133,7 +135,7 @@ class Script:
             place = self.dice.randrange(len(self.lines) or 1)
             self.lines[place:place + 1] = [misspelt(self.dice, it) for it in self.lines[place:place + 1]]
         if self.dice.random() < 0.3:
-            self.lines = [self.dice.choice((it, "  " + it.replace(" ", "   "), it + "\r", it + "\n# a comment")) for it in self.lines]
+            self.lines = [self.dice.choice((it, "  " + it.replace(" ", "   "), it + "\r", it + "\n# x")) for it in self.lines]
         return "\n".join(self.lines) + self.dice.choice(("\n", "", "\n\n"))
 
 

@@ -1,4 +1,5 @@
-/* board.h: what this firmware asks of its board, a Cortex-M of qemu's mps2-an385 without an operating system. board.c has it. */
+/* board.h: what this firmware asks of its board, a Cortex-M of qemu's mps2-an385 without an operating system. board.c has
+ * it. */
 #ifndef BOARD_H
 #define BOARD_H
 #include <stddef.h>

@@ -116,7 +116,8 @@ static bool work(void)
 int run(void)
 {
     bool good = work();
-    good = tell(&init) && tell(&send) && tell(&poll) && tell(&begin) && tell(&end_of_block) && tell(&take) && tell(&reset) && good;
+    good = tell(&init) && tell(&send) && tell(&poll) && tell(&begin) && tell(&end_of_block) && tell(&take) && tell(&reset) &&
+           good;
     say(good ? "the controller serves\n" : "the controller doesn't serve\n");
     return !good;
 }

@@ -24,8 +24,8 @@ static volatile struct { bool is_write; uint8_t offset; uint16_t word; } queue[W
 static volatile unsigned first, behind; /* both only grow */
 static volatile uint16_t shown;
 
-/* A host waits for the port's steps, so it never does more at once than the queue has room for. From a write of IP on SA shows 0
- * until the port is told. */
+/* A host waits for the port's steps, so it never does more at once than the queue has room for. From a write of IP on SA
+ * shows 0 until the port is told. */
 void bus_interrupt(void)
 {
     const bool is_look = lines.offset == SA && !lines.is_write;

@@ -1,5 +1,5 @@
-/* link.ld: where all of it lies. RAM and STACK are bytes, given by --defsym: what wouldn't leave the stack its bytes isn't linked.
- * The addresses are those of qemu's mps2-an385. */
+/* link.ld: where all of it lies. RAM and STACK are bytes, given by --defsym: what wouldn't leave the stack its bytes isn't
+ * linked. The addresses are those of qemu's mps2-an385. */
 MEMORY
 {
     flash (rx) : ORIGIN = 0, LENGTH = 256K

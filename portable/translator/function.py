@@ -334,8 +334,8 @@ class Function:
             raise Refusal("the stack's pointer is set in a way that isn't known")
 
     def about_the_frame(self, name, parts):
-        """What an instruction gives that asks for a part of the stack, or gives it back, or asks whether there is so much of it;
-        else None."""
+        """What an instruction gives that asks for a part of the stack, or gives it back, or asks whether there is so much of
+        it; else None."""
         top = parts[0].top
         if top is None or len(parts) < 2:
             return None

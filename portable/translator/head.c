@@ -84,8 +84,9 @@ NAME_OF_C void MSCP_TRAP(void);
 
 /* Whether the machine loads numbers only from addresses that their bytes divide. There the compiler is told which addresses
  * are known to be so, and a number at another one is loaded byte by byte. */
-#if defined(LIKE_GCC) && (defined(MSCP_STRICT) || (defined(__arm__) && !defined(__ARM_FEATURE_UNALIGNED)) || defined(__riscv) || \
-                          defined(__mips__) || defined(__sparc__) || defined(__hppa__) || defined(__sh__) || defined(__alpha__))
+#if defined(LIKE_GCC) && (defined(MSCP_STRICT) || (defined(__arm__) && !defined(__ARM_FEATURE_UNALIGNED)) || \
+                          defined(__riscv) || defined(__mips__) || defined(__sparc__) || defined(__hppa__) || \
+                          defined(__sh__) || defined(__alpha__))
 #define STRICT
 #define AT(address, bytes) __builtin_assume_aligned(P(address), bytes)
 #else

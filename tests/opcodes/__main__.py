@@ -1,4 +1,5 @@
-"""Writes C that tries each instruction as it is translated; or, with the word refusals, what is said of modules that can't be, and how functions are named.
+"""Writes C that tries each instruction as it is translated; or, with the word refusals, what is said of modules that can't be,
+and how functions are named.
 
 usage: python3 -m opcodes [refusals]"""
 

@@ -66,7 +66,8 @@ def body(text, base):
             out += several([unsigned(it) for it in labels[:-1]]) + unsigned(labels[-1])
         elif "load" in word or "store" in word:
             it = next(words)
-            out += unsigned(int(divides or 1).bit_length() - 1) + unsigned(base + int(it[5:]) if it.startswith("DATA+") else int(it))
+            place = base + int(it[5:]) if it.startswith("DATA+") else int(it)
+            out += unsigned(int(divides or 1).bit_length() - 1) + unsigned(place)
         elif word in ("br", "br_if", "call", "local.get", "local.set", "local.tee", "global.get", "global.set"):
             out += unsigned(int(next(words)))
         elif word in ("memory.copy", "memory.fill"):

@@ -62,19 +62,20 @@ CASES = (
     ("a place in the frame", "i", "i", "I", FRAME + "local.get 1 local.get 0 i32.store 8 local.get 0 call 1 local.get 1 "
      "i32.load 8 " + LEFT, (DIRTY,), [((5,), 5)]),
     ("there is always a stack", "", "i", "", LOOK, (), [((), 42)]),
-    ("a stack's pointer in a local that is set twice", "i", "i", "II", "global.get 0 local.set 1 block void local.get 0 br_if 0 "
-     "global.get 0 local.set 1 end local.get 1 i64.const 32 i64.sub local.tee 2 local.get 0 i32.store 8 local.get 2 i32.load 8", (),
-     [((0,), 0), ((9,), 9)]),
-    ("a branch on 0 isn't taken", "", "i", "", "block void i32.const 0 br_if 0 i32.const 5 return end i32.const 6", (), [((), 5)]),
+    ("a stack's pointer in a local that is set twice", "i", "i", "II", "global.get 0 local.set 1 block void local.get 0 "
+     "br_if 0 global.get 0 local.set 1 end local.get 1 i64.const 32 i64.sub local.tee 2 local.get 0 i32.store 8 local.get 2 i32.load 8",
+     (), [((0,), 0), ((9,), 9)]),
+    ("a branch on 0 isn't taken", "", "i", "", "block void i32.const 0 br_if 0 i32.const 5 return end i32.const 6", (),
+     [((), 5)]),
     ("a branch on 2 is taken", "", "i", "", "block void i32.const 2 br_if 0 i32.const 5 return end i32.const 6", (), [((), 6)]),
-    ("a table leads to one place by several numbers", "i", "i", "", "block void block void local.get 0 br_table 4 0 1 0 1 0 end "
-     "i32.const 10 return end i32.const 11", (), [((0,), 10), ((1,), 11), ((2,), 10), ((3,), 11), ((4,), 10)]),
+    ("a table leads to one place by several numbers", "i", "i", "", "block void block void local.get 0 br_table 4 0 1 0 1 0 "
+     "end i32.const 10 return end i32.const 11", (), [((0,), 10), ((1,), 11), ((2,), 10), ((3,), 11), ((4,), 10)]),
     ("what was loaded in a sum stays as a store comes", "I", "i", "", "local.get 0 i32.load 0 i32.const 1 i32.add local.get 0 "
      "i32.const 7 i32.store 0 local.get 0 i32.load 0 i32.sub", (), [(("M",), 0xF4030201 + 1 - 7)]),
-    ("what was loaded in a sum stays as a call comes", "I", "i", "", "local.get 0 i32.load 0 i32.const 1 i32.add local.get 0 call 1 "
-     "local.get 0 i32.load 0 i32.sub", (STORE,), [(("M",), 0xF4030201 + 1 - 7)]),
-    ("what was loaded in a select stays as a store comes", "I", "i", "", "local.get 0 i32.load 0 i32.const 5 local.get 0 i32.load 4 "
-     "select local.get 0 i32.const 7 i32.store 0 local.get 0 i32.load 0 i32.sub", (), [(("M",), 0xF4030201 - 7)]),
+    ("what was loaded in a sum stays as a call comes", "I", "i", "", "local.get 0 i32.load 0 i32.const 1 i32.add local.get 0 "
+     "call 1 local.get 0 i32.load 0 i32.sub", (STORE,), [(("M",), 0xF4030201 + 1 - 7)]),
+    ("what was loaded in a select stays as a store comes", "I", "i", "", "local.get 0 i32.load 0 i32.const 5 local.get 0 "
+     "i32.load 4 select local.get 0 i32.const 7 i32.store 0 local.get 0 i32.load 0 i32.sub", (), [(("M",), 0xF4030201 - 7)]),
     ("what a local was in a sum stays as it is set", "i", "i", "", "local.get 0 i32.const 1 i32.add i32.const 9 local.set 0 "
      "local.get 0 i32.sub", (), [((14,), 6)]),
     ("a call is made whose result nobody reads", "I", "i", "", "local.get 0 call 1 drop local.get 0 i32.load 0", (TELL,),

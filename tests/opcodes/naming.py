@@ -10,7 +10,8 @@ from .assembling import module, several, unsigned
 
 FILES = {
     "low/src/lib.rt": "mod queue;\npub fn wide(b: u8)\n",
-    "low/src/queue.rt": "pub struct Queue;\n\nimpl Model for Queue {\n    fn take(&self)\n}\n\nimpl<K: Picker> Queue<K> {\n    pub fn take(&self)\n}\n",
+    "low/src/queue.rt": "pub struct Queue;\n\nimpl Model for Queue {\n    fn take(&self)\n}\n\nimpl<K: Picker> Queue<K> {\n"
+    "    pub fn take(&self)\n}\n",
     "low/src/queue/stepping.rt": "impl<K> Queue<K> {\n    pub(crate) fn serve(&self)\n}\n\npub(super) fn serve(b: u8)\n",
     "low/src/picker.rt": "impl Picker for Oldest {\n    fn pick(&self)\n}\n\nimpl Picker for Sweep {\n    fn pick(&self)\n}\n",
     "mscp_c/src/seeing.rt": 'fn other()\npub extern "C" fn mscp_take(handle: u8) -> u8\n',
