@@ -6,7 +6,16 @@
  * Compile it with your program, as C99 or later: cc -O2 -c mscp.c. It asks nothing of an operating system, and of the C
  * library memcpy, memmove and memset. It has no state of its own that is ever written. */
 #include "mscp.h"
-#include <string.h>
+
+/* A compiler that has the words of gcc for what C can't say. */
+#if defined(__GNUC__) || defined(__clang__)
+#define LIKE_GCC
+#endif
+/* Where a sanitizer asks whether an address is NULL, gcc warns of what would be moved there if it was. */
+#if defined(__GNUC__) && !defined(__clang__)
+#pragma GCC diagnostic ignored "-Warray-bounds"
+#pragma GCC diagnostic ignored "-Wstringop-overflow"
+#endif
 
 typedef uint8_t u8;
 typedef uint16_t u16;
@@ -17,42 +26,79 @@ typedef int16_t i16;
 typedef int32_t i32;
 typedef int64_t i64;
 
-/* What is asked of the compiler: numbers of two's complement, a shift to the right that keeps the sign, and handles as
- * mscp.h says. */
+/* What is asked of the compiler: numbers of two's complement, a shift to the right that keeps the sign, an int of 32 bits
+ * or more, and handles as mscp.h says. */
 typedef u8 numbers_are_known[(i32)0xFFFFFFFFu == -1 && (i8)0x80u == -128 && (i64)0xFFFFFFFFFFFFFFFEull >> 1 == -1 ? 1 : -1];
+typedef u8 int_has_32_bits[sizeof(int) >= 4 ? 1 : -1];
 typedef u8 handles_are_known[sizeof(struct mscp) == MSCP_HEAD && sizeof(struct mscp_host) == MSCP_HEAD &&
                              sizeof(struct mscp_port) == MSCP_HEAD ? 1 : -1];
 
-/* Where it is proved that nobody comes. */
+/* A name of C, also if this is compiled as C++. */
+#ifdef __cplusplus
+#define NAME_OF_C extern "C"
+#else
+#define NAME_OF_C extern
+#endif
+
+/* Where it is proved that nobody comes. No way leads on from there, whatever the compiler knows of the function. */
 #ifdef MSCP_TRAP
-#define TRAP() MSCP_TRAP()
-#elif defined(__GNUC__)
+NAME_OF_C void MSCP_TRAP(void);
+#define TRAP() for (;;) MSCP_TRAP()
+#elif defined(LIKE_GCC)
 #define TRAP() __builtin_trap()
 #else
 #include <stdlib.h>
-#define TRAP() abort()
+#define TRAP() for (;;) abort()
+#endif
+
+/* How bytes are moved: by the compiler itself where it can be told so, as it then has no call for a few of them, also under
+ * -ffreestanding, and needs no header of a C library. */
+#ifdef LIKE_GCC
+#define COPY __builtin_memcpy
+#define MOVE __builtin_memmove
+#define FILL __builtin_memset
+#else
+#include <string.h>
+#define COPY memcpy
+#define MOVE memmove
+#define FILL memset
 #endif
 
 /* In memory the code's numbers have the low byte first. LITTLE is whether the machine's have, and ORDERED the other form of a
- * number of so many bits. Where neither is known, as MSCP_BYTES says, numbers are read and written byte by byte. */
+ * number of so many bits. Where the compiler can't be told to load one, or its order isn't known, as MSCP_BYTES says, numbers
+ * are read and written byte by byte. */
 #if (defined(_MSC_VER) || (defined(__BYTE_ORDER__) && __BYTE_ORDER__ == __ORDER_LITTLE_ENDIAN__)) && !defined(MSCP_BYTES)
 #define LITTLE 1
-#define ORDERED(bits, number) (number)
 #else
 #define LITTLE 0
-#if defined(__GNUC__) && defined(__BYTE_ORDER__) && __BYTE_ORDER__ == __ORDER_BIG_ENDIAN__ && !defined(MSCP_BYTES)
-#define ORDERED(bits, number) __builtin_bswap##bits(number)
 #endif
+#if defined(LIKE_GCC) && LITTLE
+#define ORDERED(bits, number) (number)
+#elif defined(LIKE_GCC) && defined(__BYTE_ORDER__) && __BYTE_ORDER__ == __ORDER_BIG_ENDIAN__ && !defined(MSCP_BYTES)
+#define ORDERED(bits, number) __builtin_bswap##bits(number)
 #endif
 
 /* The code's addresses have 64 bits, and are the machine's own. */
 #define A(pointer) ((u64)(uintptr_t)(pointer))
 #define P(address) ((u8 *)(uintptr_t)(address))
 
-/* What a function has in memory, which is aligned to 16. */
-#ifdef __GNUC__
+/* Whether the machine loads numbers only from addresses that their bytes divide. There the compiler is told which addresses
+ * are known to be so, and a number at another one is loaded byte by byte. */
+#if defined(LIKE_GCC) && (defined(MSCP_STRICT) || (defined(__arm__) && !defined(__ARM_FEATURE_UNALIGNED)) || \
+                          defined(__riscv) || defined(__mips__) || defined(__sparc__) || defined(__hppa__) || \
+                          defined(__sh__) || defined(__alpha__))
+#define STRICT
+#define AT(address, bytes) __builtin_assume_aligned(P(address), bytes)
+#else
+#define AT(address, bytes) P(address)
+#endif
+
+/* What a function has in memory, and the constants, which are aligned to 16. */
+#ifdef LIKE_GCC
+#define FIXED(name, bytes) __attribute__((aligned(16))) static const u8 name[bytes]
 #define ROOM(name, bytes) __attribute__((aligned(16))) u8 name[bytes]
 #else
+#define FIXED(name, bytes) static const u8 name[bytes]
 #define ROOM(name, bytes) \
     u64 name##_words[(bytes) / 8 + 2]; \
     u8 *const name = P((A(name##_words) + 15) & ~15ull)
@@ -60,7 +106,7 @@ typedef u8 handles_are_known[sizeof(struct mscp) == MSCP_HEAD && sizeof(struct m
 
 /* A function that has much of it isn't built into another one, so that it gives it back: no call takes more of the stack
  * than mscp.h says. */
-#if defined(__GNUC__)
+#if defined(LIKE_GCC)
 #define APART __attribute__((noinline)) static
 #elif defined(_MSC_VER)
 #define APART __declspec(noinline) static
@@ -69,16 +115,16 @@ typedef u8 handles_are_known[sizeof(struct mscp) == MSCP_HEAD && sizeof(struct m
 #endif
 
 /* Where mscp.h asks for it. Of libmscp.a nobody has this. */
-extern void mscp_is_for_any_machine(void);
+NAME_OF_C void mscp_is_for_any_machine(void);
 void mscp_is_for_any_machine(void) {}
 
-#ifdef ORDERED
-static inline u32 l2(u64 a) { u16 v; memcpy(&v, P(a), 2); return ORDERED(16, v); }
+#if defined(ORDERED) && !defined(STRICT)
+static inline u32 l2(u64 a) { u16 v; COPY(&v, P(a), 2); return ORDERED(16, v); }
 #else
 static inline u32 l2(u64 a) { const u8 *p = P(a); return (u32)p[0] | (u32)p[1] << 8; }
 #endif
-#ifdef ORDERED
-static inline u32 l4(u64 a) { u32 v; memcpy(&v, P(a), 4); return ORDERED(32, v); }
+#if defined(ORDERED) && !defined(STRICT)
+static inline u32 l4(u64 a) { u32 v; COPY(&v, P(a), 4); return ORDERED(32, v); }
 #else
 static inline u32 l4(u64 a)
 {
@@ -86,8 +132,8 @@ static inline u32 l4(u64 a)
     return (u32)p[0] | (u32)p[1] << 8 | (u32)p[2] << 16 | (u32)p[3] << 24;
 }
 #endif
-#ifdef ORDERED
-static inline u64 l8(u64 a) { u64 v; memcpy(&v, P(a), 8); return ORDERED(64, v); }
+#if defined(ORDERED) && !defined(STRICT)
+static inline u64 l8(u64 a) { u64 v; COPY(&v, P(a), 8); return ORDERED(64, v); }
 #else
 static inline u64 l8(u64 a)
 {
@@ -96,13 +142,13 @@ static inline u64 l8(u64 a)
            (u64)p[6] << 48 | (u64)p[7] << 56;
 }
 #endif
-#ifdef ORDERED
-static inline void s2(u64 a, u32 v) { const u16 low = ORDERED(16, (u16)v); memcpy(P(a), &low, 2); }
+#if defined(ORDERED) && !defined(STRICT)
+static inline void s2(u64 a, u32 v) { const u16 low = ORDERED(16, (u16)v); COPY(P(a), &low, 2); }
 #else
 static inline void s2(u64 a, u32 v) { u8 *p = P(a); p[0] = (u8)v; p[1] = (u8)(v >> 8); }
 #endif
-#ifdef ORDERED
-static inline void s4(u64 a, u32 v) { v = ORDERED(32, v); memcpy(P(a), &v, 4); }
+#if defined(ORDERED) && !defined(STRICT)
+static inline void s4(u64 a, u32 v) { v = ORDERED(32, v); COPY(P(a), &v, 4); }
 #else
 static inline void s4(u64 a, u32 v)
 {
@@ -110,8 +156,8 @@ static inline void s4(u64 a, u32 v)
     p[0] = (u8)v; p[1] = (u8)(v >> 8); p[2] = (u8)(v >> 16); p[3] = (u8)(v >> 24);
 }
 #endif
-#ifdef ORDERED
-static inline void s8(u64 a, u64 v) { v = ORDERED(64, v); memcpy(P(a), &v, 8); }
+#if defined(ORDERED) && !defined(STRICT)
+static inline void s8(u64 a, u64 v) { v = ORDERED(64, v); COPY(P(a), &v, 8); }
 #else
 static inline void s8(u64 a, u64 v)
 {
@@ -120,10 +166,70 @@ static inline void s8(u64 a, u64 v)
     p[4] = (u8)(v >> 32); p[5] = (u8)(v >> 40); p[6] = (u8)(v >> 48); p[7] = (u8)(v >> 56);
 }
 #endif
+#ifdef ORDERED
+static inline u32 l2_2(u64 a) { u16 v; COPY(&v, AT(a, 2), 2); return ORDERED(16, v); }
+#else
+static inline u32 l2_2(u64 a) { return l2(a); }
+#endif
+#ifdef STRICT
+static inline u32 l4_2(u64 a) { return l2_2(a) | l2_2(a + 2) << 16; }
+#else
+static inline u32 l4_2(u64 a) { return l4(a); }
+#endif
+#ifdef ORDERED
+static inline u32 l4_4(u64 a) { u32 v; COPY(&v, AT(a, 4), 4); return ORDERED(32, v); }
+#else
+static inline u32 l4_4(u64 a) { return l4(a); }
+#endif
+#ifdef STRICT
+static inline u64 l8_2(u64 a) { return (u64)l4_2(a) | (u64)l4_2(a + 4) << 32; }
+#else
+static inline u64 l8_2(u64 a) { return l8(a); }
+#endif
+#ifdef STRICT
+static inline u64 l8_4(u64 a) { return (u64)l4_4(a) | (u64)l4_4(a + 4) << 32; }
+#else
+static inline u64 l8_4(u64 a) { return l8(a); }
+#endif
+#ifdef ORDERED
+static inline u64 l8_8(u64 a) { u64 v; COPY(&v, AT(a, 8), 8); return ORDERED(64, v); }
+#else
+static inline u64 l8_8(u64 a) { return l8(a); }
+#endif
+#ifdef ORDERED
+static inline void s2_2(u64 a, u32 v) { const u16 low = ORDERED(16, (u16)v); COPY(AT(a, 2), &low, 2); }
+#else
+static inline void s2_2(u64 a, u32 v) { s2(a, v); }
+#endif
+#ifdef STRICT
+static inline void s4_2(u64 a, u32 v) { s2_2(a, v); s2_2(a + 2, v >> 16); }
+#else
+static inline void s4_2(u64 a, u32 v) { s4(a, v); }
+#endif
+#ifdef ORDERED
+static inline void s4_4(u64 a, u32 v) { v = ORDERED(32, v); COPY(AT(a, 4), &v, 4); }
+#else
+static inline void s4_4(u64 a, u32 v) { s4(a, v); }
+#endif
+#ifdef STRICT
+static inline void s8_2(u64 a, u64 v) { s4_2(a, (u32)v); s4_2(a + 4, (u32)(v >> 32)); }
+#else
+static inline void s8_2(u64 a, u64 v) { s8(a, v); }
+#endif
+#ifdef STRICT
+static inline void s8_4(u64 a, u64 v) { s4_4(a, (u32)v); s4_4(a + 4, (u32)(v >> 32)); }
+#else
+static inline void s8_4(u64 a, u64 v) { s8(a, v); }
+#endif
+#ifdef ORDERED
+static inline void s8_8(u64 a, u64 v) { v = ORDERED(64, v); COPY(AT(a, 8), &v, 8); }
+#else
+static inline void s8_8(u64 a, u64 v) { s8(a, v); }
+#endif
 static inline u32 l1(u64 a) { return *P(a); }
 static inline void s1(u64 a, u32 v) { *P(a) = (u8)v; }
-static inline void copy(u64 to, u64 from, u64 count) { memmove(P(to), P(from), (size_t)count); }
-static inline void fill(u64 to, u32 v, u64 count) { memset(P(to), (int)(v & 255), (size_t)count); }
+static inline void copy(u64 to, u64 from, u64 count) { MOVE(P(to), P(from), (size_t)count); }
+static inline void fill(u64 to, u32 v, u64 count) { FILL(P(to), (int)(v & 255), (size_t)count); }
 static inline u64 rotl64(u64 v, u64 n) { return v << n | v >> ((64 - n) & 63); }
 #ifdef __POPCNT__
 static inline u64 pop64(u64 v) { return (u64)__builtin_popcountll(v); }
@@ -135,12 +241,12 @@ static inline u64 pop64(u64 v)
     return ((v + (v >> 4)) & 0x0F0F0F0F0F0F0F0Full) * 0x0101010101010101ull >> 56;
 }
 #endif
-#ifdef __GNUC__
+#ifdef LIKE_GCC
 static inline u64 ctz64(u64 v) { return v == 0 ? 64 : (u64)(u32)__builtin_ctzll(v); }
 #else
 static inline u64 ctz64(u64 v) { return pop64(~v & (v - 1)); }
 #endif
-#ifdef __GNUC__
+#ifdef LIKE_GCC
 static inline u64 clz64(u64 v) { return v == 0 ? 64 : (u64)(u32)__builtin_clzll(v); }
 #else
 static inline u64 clz64(u64 v)
@@ -157,7 +263,7 @@ static inline u64 div64(u64 v, u64 by) { if (by == 0) TRAP(); return v / by; }
 
 /* ---- the code */
 
-static const u8 data[] = {
+FIXED(data, 1000) = {
     108, 111, 110, 103, 101, 115, 116, 116, 105, 109, 101, 111, 117, 116, 99, 114, 101, 100, 105, 116, 115, 98, 117,
         100,
     103, 101, 116, 112, 97, 115, 115, 105, 110, 103, 117, 110, 105, 116, 114, 101, 97, 100, 119, 114, 105, 116, 101, 97,
@@ -205,26 +311,30 @@ static const u8 data[] = {
     0, 0, 0, 0, 0, 0, 161, 0, 0, 0, 0, 0, 0, 0, 162, 0,
 };
 
-static u32 f58(void)
+/* __rattle_enter, of the kit */
+static u32 rattle_enter(void)
 {
     u32 v0 = 0;
     v0 = 0u;
     return v0 != 0u;
 }
 
-static void f59(void)
+/* __rattle_trap, of the kit */
+static void rattle_trap(void)
 {
     TRAP();
 }
 
-static void f60(void)
+/* mscp_c::mscp_align, crates/mscp_c/src/making.rt:31 */
+static void export_mscp_align(void)
 {
     goto L1;
 L1:;
     return;
 }
 
-static void f61(void)
+/* __rattle_leave, of the kit */
+static void rattle_leave(void)
 {
     return;
 }
@@ -232,21 +342,22 @@ static void f61(void)
 static u64 w_mscp_align(void)
 {
     u32 t0;
-    t0 = f58();
+    t0 = rattle_enter();
     if (t0 == 0) goto L1;
-    f59();
+    rattle_trap();
     TRAP();
 L1:;
-    f60();
-    f61();
+    export_mscp_align();
+    rattle_leave();
     return 8ull;
 }
 
-static u64 f62(u64 v0, u32 v1)
+/* mscp_c::mscp_balance, crates/mscp_c/src/seeing.rt:158 */
+static u64 export_mscp_balance(u64 v0, u32 v1)
 {
     u32 v3 = 0;
     u64 v2 = 0;
-    if (l8(v0 + 24ull) == 0x4D5343504D414445ull) goto L2;
+    if (l8_8(v0 + 24ull) == 0x4D5343504D414445ull) goto L2;
     return 0xFFFFFFFFFFFFFFF6ull;
 L2:;
     v2 = 0xFFFFFFFFFFFFFFE0ull;
@@ -256,16 +367,16 @@ L2:;
     default: goto L3;
     }
 L6:;
-    v0 = l8(v0);
-    v1 = l4(v0 + 11136ull) + l4(v0 + 14216ull);
+    v0 = l8_8(v0);
+    v1 = l4_4(v0 + 11136ull) + l4_4(v0 + 14216ull);
     v2 = 4ull;
     goto L4;
 L5:;
-    v0 = l8(v0);
-    v1 = l4(v0 + 8048ull) + l4(v0 + 11128ull);
+    v0 = l8_8(v0);
+    v1 = l4_4(v0 + 8048ull) + l4_4(v0 + 11128ull);
     v2 = 0ull;
 L4:;
-    v3 = l4(v0 + v2);
+    v3 = l4_4(v0 + v2);
     v1 = v3 - v1;
     v2 = (u64)((v1 > v3) ? 0u : v1);
 L3:;
@@ -277,18 +388,19 @@ static u64 w_mscp_balance(u64 v0, u32 v1)
 {
     u32 t0;
     u64 t1;
-    t0 = f58();
+    t0 = rattle_enter();
     if (t0 == 0) goto L1;
-    f59();
+    rattle_trap();
     TRAP();
 L1:;
-    t1 = f62(v0, v1);
+    t1 = export_mscp_balance(v0, v1);
     v0 = t1;
-    f61();
+    rattle_leave();
     return v0;
 }
 
-APART u64 f63(u64 v0)
+/* mscp_queue::picker::SweepPicker::pick, crates/mscp_queue/src/picker.rt:116 */
+APART u64 SweepPicker_pick(u64 v0)
 {
     ROOM(frame, 512);
     u32 v21 = 0;
@@ -296,7 +408,7 @@ APART u64 f63(u64 v0)
         = 0, v15 = 0, v16 = 0, v17 = 0, v18 = 0, v19 = 0, v20 = 0;
     v1 = A(frame);
     v2 = v1;
-    v3 = l8(v0 + 1024ull);
+    v3 = l8_8(v0 + 1024ull);
     if (v3 < 9ull) goto L2;
     fill(v2, 0u, 512ull);
     v0 = v0 + 56ull;
@@ -305,10 +417,10 @@ APART u64 f63(u64 v0)
     v6 = 0ull;
 L4:;
     v1 = v2 + v6;
-    s8(v1, l8(v0 + 0xFFFFFFFFFFFFFFD0ull));
-    s8(v1 + 8ull, l8(v0 + 0xFFFFFFFFFFFFFFE0ull));
-    s8(v1 + 16ull, l8(v0 + 0xFFFFFFFFFFFFFFF0ull));
-    s8(v1 + 24ull, l8(v0));
+    s8_8(v1, l8_8(v0 + 0xFFFFFFFFFFFFFFD0ull));
+    s8_8(v1 + 8ull, l8_8(v0 + 0xFFFFFFFFFFFFFFE0ull));
+    s8_8(v1 + 16ull, l8_8(v0 + 0xFFFFFFFFFFFFFFF0ull));
+    s8_8(v1 + 24ull, l8_8(v0));
     v6 = v6 + 32ull;
     v0 = v0 + 64ull;
     v4 = v4 + 0xFFFFFFFFFFFFFFFCull;
@@ -317,7 +429,7 @@ L4:;
     v0 = v0 + 0xFFFFFFFFFFFFFFD0ull;
     v1 = v2 + v6;
 L6:;
-    s8(v1, l8(v0));
+    s8_8(v1, l8_8(v0));
     v0 = v0 + 16ull;
     v1 = v1 + 8ull;
     v5 = v5 + 0xFFFFFFFFFFFFFFFFull;
@@ -346,14 +458,14 @@ L8:;
     v0 = (v7 < v0) ? v7 : v0;
     goto L7;
 L9:;
-    v6 = l8(v0 + 56);
-    v4 = l8(v0 + 48);
-    v5 = l8(v0 + 40);
-    v3 = l8(v0 + 32);
-    v17 = l8(v0 + 24);
-    v18 = l8(v0 + 16);
-    v19 = l8(v0 + 8);
-    v20 = l8(v0);
+    v6 = l8_8(v0 + 56);
+    v4 = l8_8(v0 + 48);
+    v5 = l8_8(v0 + 40);
+    v3 = l8_8(v0 + 32);
+    v17 = l8_8(v0 + 24);
+    v18 = l8_8(v0 + 16);
+    v19 = l8_8(v0 + 8);
+    v20 = l8_8(v0);
     if (v1 > 254ull) goto L10;
     v18 = ((v1 & 4ull) == 0) ? 0xFFFFFFFFFFFFFFFFull : v18;
     v19 = ((v1 & 2ull) == 0) ? 0xFFFFFFFFFFFFFFFFull : v19;
@@ -384,44 +496,44 @@ L10:;
     v0 = (v7 < v0) ? v7 : v0;
 L7:;
     v1 = 0ull;
-    v6 = v8 & ((u64)((((u32)(l8(v2) == v0) | ((u32)(l8(v2 + 8) == v0) << 1)) | (((u32)(l8(v2 + 24) == v0) << 3) |
-        ((u32)(l8(v2 + 16) == v0) << 2))) | ((((u32)(l8(v2 + 32) == v0) | ((u32)(l8(v2 + 40) == v0) << 1)) |
-        (((u32)(l8(v2 + 56) == v0) << 3) | ((u32)(l8(v2 + 48) == v0) << 2))) << 4)));
+    v6 = v8 & ((u64)((((u32)(l8_8(v2) == v0) | ((u32)(l8_8(v2 + 8) == v0) << 1)) | (((u32)(l8_8(v2 + 24) == v0) << 3) |
+        ((u32)(l8_8(v2 + 16) == v0) << 2))) | ((((u32)(l8_8(v2 + 32) == v0) | ((u32)(l8_8(v2 + 40) == v0) << 1)) |
+        (((u32)(l8_8(v2 + 56) == v0) << 3) | ((u32)(l8_8(v2 + 48) == v0) << 2))) << 4)));
     if (v6 != 0ull) goto L11;
     v1 = 8ull;
-    v6 = (v8 >> 8) & ((u64)((((u32)(l8(v2 + 64) == v0) | ((u32)(l8(v2 + 72) == v0) << 1)) | (((u32)(l8(v2 + 88) == v0)
-        << 3) | ((u32)(l8(v2 + 80) == v0) << 2))) | ((((u32)(l8(v2 + 96) == v0) | ((u32)(l8(v2 + 104) == v0) << 1)) |
-        (((u32)(l8(v2 + 120) == v0) << 3) | ((u32)(l8(v2 + 112) == v0) << 2))) << 4)));
+    v6 = (v8 >> 8) & ((u64)((((u32)(l8_8(v2 + 64) == v0) | ((u32)(l8_8(v2 + 72) == v0) << 1)) | (((u32)(l8_8(v2 + 88)
+        == v0) << 3) | ((u32)(l8_8(v2 + 80) == v0) << 2))) | ((((u32)(l8_8(v2 + 96) == v0) | ((u32)(l8_8(v2 + 104) ==
+        v0) << 1)) | (((u32)(l8_8(v2 + 120) == v0) << 3) | ((u32)(l8_8(v2 + 112) == v0) << 2))) << 4)));
     if (v6 != 0ull) goto L11;
     v1 = 16ull;
-    v6 = (v8 >> 16) & ((u64)((((u32)(l8(v2 + 128) == v0) | ((u32)(l8(v2 + 136) == v0) << 1)) | (((u32)(l8(v2 + 152) ==
-        v0) << 3) | ((u32)(l8(v2 + 144) == v0) << 2))) | ((((u32)(l8(v2 + 160) == v0) | ((u32)(l8(v2 + 168) == v0) <<
-        1)) | (((u32)(l8(v2 + 184) == v0) << 3) | ((u32)(l8(v2 + 176) == v0) << 2))) << 4)));
+    v6 = (v8 >> 16) & ((u64)((((u32)(l8_8(v2 + 128) == v0) | ((u32)(l8_8(v2 + 136) == v0) << 1)) | (((u32)(l8_8(v2 +
+        152) == v0) << 3) | ((u32)(l8_8(v2 + 144) == v0) << 2))) | ((((u32)(l8_8(v2 + 160) == v0) | ((u32)(l8_8(v2 +
+        168) == v0) << 1)) | (((u32)(l8_8(v2 + 184) == v0) << 3) | ((u32)(l8_8(v2 + 176) == v0) << 2))) << 4)));
     if (v6 != 0ull) goto L11;
     v1 = 24ull;
-    v6 = (v8 >> 24) & ((u64)((((u32)(l8(v2 + 192) == v0) | ((u32)(l8(v2 + 200) == v0) << 1)) | (((u32)(l8(v2 + 216) ==
-        v0) << 3) | ((u32)(l8(v2 + 208) == v0) << 2))) | ((((u32)(l8(v2 + 224) == v0) | ((u32)(l8(v2 + 232) == v0) <<
-        1)) | (((u32)(l8(v2 + 248) == v0) << 3) | ((u32)(l8(v2 + 240) == v0) << 2))) << 4)));
+    v6 = (v8 >> 24) & ((u64)((((u32)(l8_8(v2 + 192) == v0) | ((u32)(l8_8(v2 + 200) == v0) << 1)) | (((u32)(l8_8(v2 +
+        216) == v0) << 3) | ((u32)(l8_8(v2 + 208) == v0) << 2))) | ((((u32)(l8_8(v2 + 224) == v0) | ((u32)(l8_8(v2 +
+        232) == v0) << 1)) | (((u32)(l8_8(v2 + 248) == v0) << 3) | ((u32)(l8_8(v2 + 240) == v0) << 2))) << 4)));
     if (v6 != 0ull) goto L11;
     v1 = 32ull;
-    v6 = (v8 >> 32) & ((u64)((((u32)(l8(v2 + 256) == v0) | ((u32)(l8(v2 + 264) == v0) << 1)) | (((u32)(l8(v2 + 280) ==
-        v0) << 3) | ((u32)(l8(v2 + 272) == v0) << 2))) | ((((u32)(l8(v2 + 288) == v0) | ((u32)(l8(v2 + 296) == v0) <<
-        1)) | (((u32)(l8(v2 + 312) == v0) << 3) | ((u32)(l8(v2 + 304) == v0) << 2))) << 4)));
+    v6 = (v8 >> 32) & ((u64)((((u32)(l8_8(v2 + 256) == v0) | ((u32)(l8_8(v2 + 264) == v0) << 1)) | (((u32)(l8_8(v2 +
+        280) == v0) << 3) | ((u32)(l8_8(v2 + 272) == v0) << 2))) | ((((u32)(l8_8(v2 + 288) == v0) | ((u32)(l8_8(v2 +
+        296) == v0) << 1)) | (((u32)(l8_8(v2 + 312) == v0) << 3) | ((u32)(l8_8(v2 + 304) == v0) << 2))) << 4)));
     if (v6 != 0ull) goto L11;
     v1 = 40ull;
-    v6 = (v8 >> 40) & ((u64)((((u32)(l8(v2 + 320) == v0) | ((u32)(l8(v2 + 328) == v0) << 1)) | (((u32)(l8(v2 + 344) ==
-        v0) << 3) | ((u32)(l8(v2 + 336) == v0) << 2))) | ((((u32)(l8(v2 + 352) == v0) | ((u32)(l8(v2 + 360) == v0) <<
-        1)) | (((u32)(l8(v2 + 376) == v0) << 3) | ((u32)(l8(v2 + 368) == v0) << 2))) << 4)));
+    v6 = (v8 >> 40) & ((u64)((((u32)(l8_8(v2 + 320) == v0) | ((u32)(l8_8(v2 + 328) == v0) << 1)) | (((u32)(l8_8(v2 +
+        344) == v0) << 3) | ((u32)(l8_8(v2 + 336) == v0) << 2))) | ((((u32)(l8_8(v2 + 352) == v0) | ((u32)(l8_8(v2 +
+        360) == v0) << 1)) | (((u32)(l8_8(v2 + 376) == v0) << 3) | ((u32)(l8_8(v2 + 368) == v0) << 2))) << 4)));
     if (v6 != 0ull) goto L11;
     v1 = 48ull;
-    v6 = (v8 >> 48) & ((u64)((((u32)(l8(v2 + 384) == v0) | ((u32)(l8(v2 + 392) == v0) << 1)) | (((u32)(l8(v2 + 408) ==
-        v0) << 3) | ((u32)(l8(v2 + 400) == v0) << 2))) | ((((u32)(l8(v2 + 416) == v0) | ((u32)(l8(v2 + 424) == v0) <<
-        1)) | (((u32)(l8(v2 + 440) == v0) << 3) | ((u32)(l8(v2 + 432) == v0) << 2))) << 4)));
+    v6 = (v8 >> 48) & ((u64)((((u32)(l8_8(v2 + 384) == v0) | ((u32)(l8_8(v2 + 392) == v0) << 1)) | (((u32)(l8_8(v2 +
+        408) == v0) << 3) | ((u32)(l8_8(v2 + 400) == v0) << 2))) | ((((u32)(l8_8(v2 + 416) == v0) | ((u32)(l8_8(v2 +
+        424) == v0) << 1)) | (((u32)(l8_8(v2 + 440) == v0) << 3) | ((u32)(l8_8(v2 + 432) == v0) << 2))) << 4)));
     if (v6 != 0ull) goto L11;
     v1 = 56ull;
-    v6 = (v8 >> 56) & ((u64)((((u32)(l8(v2 + 448) == v0) | ((u32)(l8(v2 + 456) == v0) << 1)) | (((u32)(l8(v2 + 472) ==
-        v0) << 3) | ((u32)(l8(v2 + 464) == v0) << 2))) | ((((u32)(l8(v2 + 480) == v0) | ((u32)(l8(v2 + 488) == v0) <<
-        1)) | (((u32)(l8(v2 + 504) == v0) << 3) | ((u32)(l8(v2 + 496) == v0) << 2))) << 4)));
+    v6 = (v8 >> 56) & ((u64)((((u32)(l8_8(v2 + 448) == v0) | ((u32)(l8_8(v2 + 456) == v0) << 1)) | (((u32)(l8_8(v2 +
+        472) == v0) << 3) | ((u32)(l8_8(v2 + 464) == v0) << 2))) | ((((u32)(l8_8(v2 + 480) == v0) | ((u32)(l8_8(v2 +
+        488) == v0) << 1)) | (((u32)(l8_8(v2 + 504) == v0) << 3) | ((u32)(l8_8(v2 + 496) == v0) << 2))) << 4)));
     if ((u32)(v6 == 0) == 0) goto L11;
     v1 = 0ull;
     goto L1;
@@ -434,42 +546,43 @@ L2:;
     v1 = 0ull;
     goto L1;
 L12:;
-    v6 = l8(v0 + 24ull);
-    v4 = l8(v0 + 8ull);
+    v6 = l8_8(v0 + 24ull);
+    v4 = l8_8(v0 + 8ull);
     v21 = v6 < v4;
     v1 = (u64)v21;
     if (v3 == 2ull) goto L1;
-    v5 = l8(v0 + 40ull);
+    v5 = l8_8(v0 + 40ull);
     v6 = v21 ? v6 : v4;
     v21 = v5 < v6;
     v1 = v21 ? 2ull : v1;
     if (v3 == 3ull) goto L1;
-    v4 = l8(v0 + 56ull);
+    v4 = l8_8(v0 + 56ull);
     v6 = v21 ? v5 : v6;
     v21 = v4 < v6;
     v1 = v21 ? 3ull : v1;
     if (v3 == 4ull) goto L1;
-    v5 = l8(v0 + 72ull);
+    v5 = l8_8(v0 + 72ull);
     v6 = v21 ? v4 : v6;
     v21 = v5 < v6;
     v1 = v21 ? 4ull : v1;
     if (v3 == 5ull) goto L1;
-    v4 = l8(v0 + 88ull);
+    v4 = l8_8(v0 + 88ull);
     v6 = v21 ? v5 : v6;
     v21 = v4 < v6;
     v1 = v21 ? 5ull : v1;
     if (v3 == 6ull) goto L1;
-    v5 = l8(v0 + 104ull);
+    v5 = l8_8(v0 + 104ull);
     v6 = v21 ? v4 : v6;
     v21 = v5 < v6;
     v1 = v21 ? 6ull : v1;
     if (v3 == 7ull) goto L1;
-    v1 = (l8(v0 + 120ull) < (v21 ? v5 : v6)) ? 7ull : v1;
+    v1 = (l8_8(v0 + 120ull) < (v21 ? v5 : v6)) ? 7ull : v1;
 L1:;
     return v1;
 }
 
-static void f64(u64 v0, u64 v1, u64 v2, u64 v3)
+/* mscp_queue::start::show_each, crates/mscp_queue/src/start.rt:117 */
+static void start_show_each(u64 v0, u64 v1, u64 v2, u64 v3)
 {
     ROOM(frame, 80);
     u32 v14 = 0, v15 = 0, v16 = 0, v17 = 0, v18 = 0, v19 = 0;
@@ -477,7 +590,7 @@ static void f64(u64 v0, u64 v1, u64 v2, u64 v3)
         v23 = 0;
     v4 = A(frame);
     fill(v4 + 8ull, 0u, 72ull);
-    v5 = l8(v2 + 3136ull);
+    v5 = l8_8(v2 + 3136ull);
     if (v5 == 0) goto L3;
     v6 = v2 + 3808ull;
     v7 = (u64)l1(v2 + 3072ull);
@@ -488,17 +601,17 @@ static void f64(u64 v0, u64 v1, u64 v2, u64 v3)
     v7 = v7 << 3;
     v12 = v11 + v7;
     v13 = v2 + 3296ull;
-    v7 = (l8(v10 + (((u64)l1(v12)) << 3))) & l8(v13 + v7);
+    v7 = (l8_8(v10 + (((u64)l1(v12)) << 3))) & l8_8(v13 + v7);
     v14 = l1(v8 + 8ull);
     if (((v14 + 0xFFFFFFFCu) & 255u) < 3u) goto L4;
-    v7 = l8(v2 + 3152ull) & v7;
+    v7 = l8_8(v2 + 3152ull) & v7;
 L4:;
-    v15 = l4(v6);
-    v16 = l4(v9);
+    v15 = l4_4(v6);
+    v16 = l4_4(v9);
     v6 = 0ull;
     if (v7 != 0ull) goto L5;
-    v17 = l2(v8 + 4ull);
-    v18 = l4(v8);
+    v17 = l2_2(v8 + 4ull);
+    v18 = l4_4(v8);
     v19 = 0u;
     switch (v14) {
     case 4: case 5: case 6: goto L9;
@@ -514,14 +627,14 @@ L8:;
     v7 = v6 >> 32;
     v14 = (u32)v7;
     v6 = v3 + ((v6 << 6) & 16320ull);
-    v19 = l4(v6 + 52ull);
+    v19 = l4_4(v6 + 52ull);
     v9 = (u64)v19;
     if (l1(v6 + 56ull)) goto L10;
     v6 = ((v19 < v14) ? v7 : (0ull - v7)) + v9;
     v19 = 2u;
     goto L6;
 L10:;
-    v6 = (v19 > v14) ? ((((u64)l4(v6 + 40ull)) << 1) - (v7 + v9)) : (v7 - v9);
+    v6 = (v19 > v14) ? ((((u64)l4_4(v6 + 40ull)) << 1) - (v7 + v9)) : (v7 - v9);
     v19 = 2u;
     goto L6;
 L7:;
@@ -529,23 +642,23 @@ L7:;
 L6:;
     v14 = l1(v8 + 6ull);
     v7 = v1 + 1024ull;
-    v9 = l8(v7);
+    v9 = l8_8(v7);
     v8 = v1 + (v9 << 4);
     s1(v8 + 7, v19);
     s1(v8 + 6, v14);
     s2(v8 + 4, v17);
     s4(v8, v18);
-    v12 = l8(v4 + 72);
+    v12 = l8_8(v4 + 72);
     s1((v4 + 8ull) + v12, 0u);
     s8(v8 + 8, v6);
-    s8(v7, v9 + 1ull);
-    s8(v4 + 72, v12 + 1ull);
+    s8_8(v7, v9 + 1ull);
+    s8_8(v4 + 72, v12 + 1ull);
 L5:;
     if (v15 <= v16) goto L1;
     v8 = (u64)l1(v2 + 3072ull);
     if ((((l1((v2 + (v8 << 5)) + 8ull)) + 0xFFFFFFFCu) & 255u) > 2u) goto L11;
     v7 = v8 << 3;
-    if ((l8(v2 + 3144ull) & (((l8(v13 + v7) | (1ull << (v8 & 63))) | (l8(v10 + (((u64)l1(v11 + v7)) << 3)))) ^
+    if ((l8_8(v2 + 3144ull) & (((l8_8(v13 + v7) | (1ull << (v8 & 63))) | (l8_8(v10 + (((u64)l1(v11 + v7)) << 3)))) ^
         0xFFFFFFFFFFFFFFFFull)) == 0) goto L1;
 L11:;
     if (v5 == 1ull) goto L3;
@@ -559,18 +672,18 @@ L12:;
     v6 = (u64)l1(v5);
     v7 = v6 << 3;
     v20 = v11 + v7;
-    v7 = (l8(v10 + (((u64)l1(v20)) << 3))) & l8(v13 + v7);
+    v7 = (l8_8(v10 + (((u64)l1(v20)) << 3))) & l8_8(v13 + v7);
     v6 = v2 + (v6 << 5);
     v15 = l1(v6 + 8ull);
     if (((v15 + 0xFFFFFFFCu) & 255u) < 3u) goto L13;
-    v7 = l8(v2 + 3152ull) & v7;
+    v7 = l8_8(v2 + 3152ull) & v7;
 L13:;
     if (v7 != 0ull) goto L14;
-    if (l4(v6 + 20ull) > v14) goto L14;
+    if (l4_4(v6 + 20ull) > v14) goto L14;
     v21 = v8 + 1ull;
     v22 = 0ull;
-    v19 = l2(v6 + 4ull);
-    v17 = l4(v6);
+    v19 = l2_2(v6 + 4ull);
+    v17 = l4_4(v6);
     v16 = 0u;
     switch (v15) {
     case 4: case 5: case 6: goto L17;
@@ -589,10 +702,10 @@ L16:;
     v7 = v20 >> 32;
     v15 = (u32)v7;
     v20 = v3 + ((v20 << 6) & 16320ull);
-    v16 = l4(v20 + 52ull);
+    v16 = l4_4(v20 + 52ull);
     v22 = (u64)v16;
     if (l1(v20 + 56ull) != 1u) goto L20;
-    v22 = (v16 > v15) ? ((((u64)l4(v20 + 40ull)) << 1) - (v7 + v22)) : (v7 - v22);
+    v22 = (v16 > v15) ? ((((u64)l4_4(v20 + 40ull)) << 1) - (v7 + v22)) : (v7 - v22);
     goto L19;
 L20:;
     v22 = ((v16 < v15) ? v7 : (0ull - v7)) + v22;
@@ -601,22 +714,22 @@ L19:;
 L15:;
     v15 = l1(v6 + 6ull);
     v6 = v1 + 1024ull;
-    v20 = l8(v6);
+    v20 = l8_8(v6);
     v7 = v1 + (v20 << 4);
     s1(v7 + 7, v16);
     s1(v7 + 6, v15);
     s2(v7 + 4, v19);
     s4(v7, v17);
-    v23 = l8(v4 + 72);
+    v23 = l8_8(v4 + 72);
     s1((v4 + 8ull) + v23, (u32)v21);
     s8(v7 + 8, v22);
-    s8(v6, v20 + 1ull);
-    s8(v4 + 72, v23 + 1ull);
+    s8_8(v6, v20 + 1ull);
+    s8_8(v4 + 72, v23 + 1ull);
 L14:;
     v7 = (u64)l1(v5);
     if ((((l1((v2 + (v7 << 5)) + 8ull)) + 0xFFFFFFFCu) & 255u) > 2u) goto L21;
     v5 = v7 << 3;
-    if ((l8(v2 + 3144ull) & (((l8(v13 + v5) | (1ull << (v7 & 63))) | (l8(v10 + (((u64)l1(v11 + v5)) << 3)))) ^
+    if ((l8_8(v2 + 3144ull) & (((l8_8(v13 + v5) | (1ull << (v7 & 63))) | (l8_8(v10 + (((u64)l1(v11 + v5)) << 3)))) ^
         0xFFFFFFFFFFFFFFFFull)) == 0) goto L1;
 L21:;
     v8 = v8 + 1ull;
@@ -630,17 +743,18 @@ L1:;
     return;
 }
 
-static void f65(u64 v0, u64 v1, u64 v2, u64 v3)
+/* mscp_queue::candidates::Candidates::renew_all, crates/mscp_queue/src/candidates.rt:104 */
+static void Candidates_renew_all(u64 v0, u64 v1, u64 v2, u64 v3)
 {
     u32 v11 = 0, v14 = 0;
     u64 v4 = 0, v5 = 0, v6 = 0, v7 = 0, v8 = 0, v9 = 0, v10 = 0, v12 = 0, v13 = 0, t0, t1;
-    v4 = l8(v0 + 1288ull);
+    v4 = l8_8(v0 + 1288ull);
     v5 = ctz64(v4);
     if (v5 >= v3) goto L2;
     v6 = v1 + 3296ull;
     v7 = v1 + 3168ull;
 L3:;
-    v8 = l8(v7 + (v5 << 3));
+    v8 = l8_8(v7 + (v5 << 3));
     v9 = ctz64(v8);
     if (v9 > 63ull) goto L4;
     v10 = v2 + (v5 << 6);
@@ -650,10 +764,10 @@ L3:;
     v13 = ((u64)l4(v10 + 40)) << 1;
 L6:;
     v10 = v9 << 3;
-    v14 = l4((v1 + v10) + 2052ull);
-    t0 = (v0 + ((pop64(l8(v6 + v10))) << 4)) + 8ull;
+    v14 = l4_4((v1 + v10) + 2052ull);
+    t0 = (v0 + ((pop64(l8_8(v6 + v10))) << 4)) + 8ull;
     v10 = (u64)v14;
-    s8(t0, (v11 > v14) ? (v13 - (v12 + v10)) : (v10 - v12));
+    s8_8(t0, (v11 > v14) ? (v13 - (v12 + v10)) : (v10 - v12));
     v8 = v8 & (rotl64(0xFFFFFFFFFFFFFFFEull, (v9 & 63)));
     v9 = ctz64(v8);
     if (v9 < 64ull) goto L6;
@@ -661,16 +775,16 @@ L6:;
 L5:;
 L7:;
     v10 = v9 << 3;
-    v14 = l4((v1 + v10) + 2052ull);
-    t1 = (v0 + ((pop64(l8(v6 + v10))) << 4)) + 8ull;
+    v14 = l4_4((v1 + v10) + 2052ull);
+    t1 = (v0 + ((pop64(l8_8(v6 + v10))) << 4)) + 8ull;
     v10 = (u64)v14;
-    s8(t1, ((v14 > v11) ? v10 : (0ull - v10)) + v12);
+    s8_8(t1, ((v14 > v11) ? v10 : (0ull - v10)) + v12);
     v8 = v8 & (rotl64(0xFFFFFFFFFFFFFFFEull, (v9 & 63)));
     v9 = ctz64(v8);
     if (v9 < 64ull) goto L7;
 L4:;
     v4 = v4 & (rotl64(0xFFFFFFFFFFFFFFFEull, (v5 & 63)));
-    s8(v0 + 1288ull, v4);
+    s8_8(v0 + 1288ull, v4);
     v5 = ctz64(v4);
     if (v5 < v3) goto L3;
 L2:;
@@ -678,7 +792,8 @@ L2:;
     TRAP();
 }
 
-static u64 f66(u64 v0, u64 v1, u64 v2, u32 v3, u64 v4, u64 v5, u64 v6)
+/* mscp_queue::start::picked_place, crates/mscp_queue/src/start.rt:181 */
+static u64 start_picked_place(u64 v0, u64 v1, u64 v2, u32 v3, u64 v4, u64 v5, u64 v6)
 {
     ROOM(frame, 144);
     u32 v9 = 0, v12 = 0, v14 = 0;
@@ -686,24 +801,24 @@ static u64 f66(u64 v0, u64 v1, u64 v2, u32 v3, u64 v4, u64 v5, u64 v6)
     v7 = A(frame);
     v8 = v7;
     fill(v8, 0u, 72ull);
-    v9 = l4(v0 + 3808ull);
+    v9 = l4_4(v0 + 3808ull);
     v7 = v0 + 3072ull;
     v10 = (u64)l1(v7);
     v11 = v10 << 5;
-    if (l8(v0 + 3152ull) != 0ull) goto L4;
-    v12 = v9 - (l4((v0 + v11) + 28ull));
+    if (l8_8(v0 + 3152ull) != 0ull) goto L4;
+    v12 = v9 - (l4_4((v0 + v11) + 28ull));
     v12 = (v12 > v9) ? 0u : v12;
     if (v3 <= v12) goto L2;
-    v13 = l8(v0 + 3136ull);
+    v13 = l8_8(v0 + 3136ull);
     if (v13 == 0) goto L2;
 L5:;
-    if (v12 < (l4((v0 + (((u64)l1(v7)) << 5)) + 20ull))) goto L4;
+    if (v12 < (l4_4((v0 + (((u64)l1(v7)) << 5)) + 20ull))) goto L4;
     v7 = v7 + 1ull;
     v13 = v13 + 0xFFFFFFFFFFFFFFFFull;
     if (v13 == 0) goto L2;
     goto L5;
 L4:;
-    v7 = l8(v6 + 1024ull);
+    v7 = l8_8(v6 + 1024ull);
     if (v7 == 0) goto L6;
     v13 = 0ull;
     if (v7 == 1ull) goto L8;
@@ -725,16 +840,16 @@ L8:;
     s8(v7 + 8, 0ull);
     s8(v7, 0x300000000000000ull);
 L7:;
-    s8(v6 + 1024ull, 0ull);
+    s8_8(v6 + 1024ull, 0ull);
     v10 = (u64)l1(v0 + 3072ull);
     v11 = v10 << 5;
-    v9 = l4(v0 + 3808ull);
+    v9 = l4_4(v0 + 3808ull);
 L6:;
     v7 = v0 + v11;
-    if (v9 > l4(v7 + 28ull)) goto L10;
+    if (v9 > l4_4(v7 + 28ull)) goto L10;
     v11 = 0ull;
-    v12 = l2(v7 + 4ull);
-    v3 = l4(v7);
+    v12 = l2_2(v7 + 4ull);
+    v3 = l4_4(v7);
     v9 = 0u;
     v13 = 0ull;
     switch ((u32)((u64)l1(v7 + 8ull))) {
@@ -756,10 +871,10 @@ L12:;
     v13 = v0 >> 32;
     v9 = (u32)v13;
     v0 = v1 + ((v0 << 6) & 16320ull);
-    v14 = l4(v0 + 52ull);
+    v14 = l4_4(v0 + 52ull);
     v5 = (u64)v14;
     if (l1(v0 + 56ull) != 1u) goto L16;
-    v13 = (v14 > v9) ? ((((u64)l4(v0 + 40ull)) << 1) - (v13 + v5)) : (v13 - v5);
+    v13 = (v14 > v9) ? ((((u64)l4_4(v0 + 40ull)) << 1) - (v13 + v5)) : (v13 - v5);
     goto L15;
 L16:;
     v13 = ((v14 < v9) ? v13 : (0ull - v13)) + v5;
@@ -767,37 +882,37 @@ L15:;
     v9 = 2u;
 L11:;
     v14 = l1(v7 + 6ull);
-    s8(v6 + 1024ull, 1ull);
+    s8_8(v6 + 1024ull, 1ull);
     s8(v6 + 8, v13);
     s1(v6 + 7, v9);
     s1(v6 + 6, v14);
     s2(v6 + 4, v12);
     s4(v6, v3);
     if (l1(v4) == 0) goto L1;
-    t0 = f63(v6);
+    t0 = SweepPicker_pick(v6);
     v11 = t0;
     goto L1;
 L10:;
-    f64(v8, v6, v0, v1);
+    start_show_each(v8, v6, v0, v1);
     copy(v8 + 72ull, v8, 72ull);
     if (l1(v4)) goto L18;
     v7 = 0ull;
     goto L17;
 L18:;
-    t1 = f63(v6);
+    t1 = SweepPicker_pick(v6);
     v7 = t1;
 L17:;
     v11 = (u64)l1((v8 + 72ull) + v7);
     goto L1;
     TRAP();
 L2:;
-    f65(v5, v0, v1, v2);
+    Candidates_renew_all(v5, v0, v1, v2);
     v11 = 0ull;
     if (l1(v4) == 0) goto L1;
-    v13 = l8(v5 + 1024ull);
+    v13 = l8_8(v5 + 1024ull);
     if (v13 < 2ull) goto L1;
     v7 = 1ull;
-    v0 = l8(v5 + 8ull);
+    v0 = l8_8(v5 + 8ull);
     v11 = 0ull;
     if (v13 == 2ull) goto L19;
     v7 = v13 + 0xFFFFFFFFFFFFFFFFull;
@@ -807,8 +922,8 @@ L2:;
     v11 = 0ull;
     v7 = 1ull;
 L20:;
-    v6 = l8(v13);
-    v4 = l8(v13 + 0xFFFFFFFFFFFFFFF0ull);
+    v6 = l8_8(v13);
+    v4 = l8_8(v13 + 0xFFFFFFFFFFFFFFF0ull);
     v9 = v4 < v0;
     v0 = v9 ? v4 : v0;
     v12 = v6 < v0;
@@ -820,28 +935,29 @@ L20:;
     if (v6 != v1) goto L20;
     if (v10 == 0) goto L1;
 L19:;
-    v11 = ((l8((v5 + (v7 << 4)) + 8ull)) < v0) ? v7 : v11;
+    v11 = ((l8_8((v5 + (v7 << 4)) + 8ull)) < v0) ? v7 : v11;
 L1:;
     return v11;
 }
 
-static u32 f67(u64 v0, u64 v1)
+/* mscp_c::mscp_begin, crates/mscp_c/src/serving.rt:16 */
+static u32 export_mscp_begin(u64 v0, u64 v1)
 {
     u32 v6 = 0, v7 = 0, v9 = 0, v10 = 0, v11 = 0, v12 = 0, v13 = 0, v14 = 0, v15 = 0, v16 = 0;
     u64 v3 = 0, v4 = 0, v5 = 0, v8 = 0, t0;
-    if (l8(v0 + 24ull) == 0x4D5343504D414445ull) goto L4;
+    if (l8_8(v0 + 24ull) == 0x4D5343504D414445ull) goto L4;
     return 0xFFFFFFF6u;
 L4:;
-    v0 = l8(v0);
+    v0 = l8_8(v0);
     if (l1(v0 + 5696ull) != 1u) goto L6;
-    v3 = l8(v0 + 5704ull);
+    v3 = l8_8(v0 + 5704ull);
     goto L5;
 L6:;
     if (l1(v0 + 5680ull) != 1u) goto L7;
-    v3 = l8(v0 + 5688ull);
+    v3 = l8_8(v0 + 5688ull);
     goto L5;
 L7:;
-    v4 = l8(v0 + 3952ull);
+    v4 = l8_8(v0 + 3952ull);
     if ((u32)(v4 == 0) == 0) goto L8;
     return 0u;
 L8:;
@@ -849,25 +965,26 @@ L8:;
     if (v4 == 1ull) goto L5;
     v4 = v0 + 5712ull;
     if ((l1(v4) & 255u) == 0) goto L5;
-    t0 = f66(v0 + 816ull, v0 + 4648ull, l8(v0 + 5672ull), l4(v0 + 812ull), v4, v0 + 5720ull, v0 + 7016ull);
+    t0 = start_picked_place(v0 + 816ull, v0 + 4648ull, l8_8(v0 + 5672ull), l4_4(v0 + 812ull), v4, v0 + 5720ull, v0 +
+        7016ull);
     v3 = t0;
 L5:;
     v5 = (u64)l1((v0 + v3) + 3888ull);
     v4 = v0 + (v5 << 5);
     v6 = l1(v4 + 825ull);
-    v7 = l2(v4 + 820ull);
+    v7 = l2_2(v4 + 820ull);
     v8 = v4 + 816ull;
-    v9 = l4(v8);
+    v9 = l4_4(v8);
     v10 = l1(v4 + 822ull);
     v11 = l1(v4 + 824ull);
     if (v11 != 7u) goto L14;
-    v12 = l4(v4 + 828ull);
+    v12 = l4_4(v4 + 828ull);
     v13 = l1((v0 + (((l8((v0 + (v5 << 3)) + 2864ull)) << 6) & 16320ull)) + 4696ull);
     s8(v0 + 5688ull, v3);
     s8(v0 + 5680ull, 1ull);
-    v14 = l4(v8 + 24ull);
+    v14 = l4_4(v8 + 24ull);
     v11 = v13 ? (v14 + l4(v8 + 16ull)) : 0u;
-    v15 = l4(v8 + 20ull);
+    v15 = l4_4(v8 + 20ull);
     v16 = 16u;
     switch (v6) {
     case 1: goto L13;
@@ -879,8 +996,8 @@ L5:;
 L14:;
     s8(v0 + 5688ull, v3);
     s8(v0 + 5680ull, 1ull);
-    v15 = l4(v8 + 20ull);
-    v14 = l4(v8 + 24ull);
+    v15 = l4_4(v8 + 20ull);
+    v14 = l4_4(v8 + 24ull);
     v16 = 1u;
     v13 = 0u;
     v12 = v11;
@@ -955,22 +1072,23 @@ L1:;
 static u32 w_mscp_begin(u64 v0, u64 v1)
 {
     u32 v2 = 0, t0, t1;
-    t0 = f58();
+    t0 = rattle_enter();
     if (t0 == 0) goto L1;
-    f59();
+    rattle_trap();
     TRAP();
 L1:;
-    t1 = f67(v0, v1);
+    t1 = export_mscp_begin(v0, v1);
     v2 = t1;
-    f61();
+    rattle_leave();
     return v2;
 }
 
-static u64 f68(u64 v0, u32 v1, u32 v2)
+/* mscp_c::mscp_figure, crates/mscp_c/src/seeing.rt:56 */
+static u64 export_mscp_figure(u64 v0, u32 v1, u32 v2)
 {
     u32 v3 = 0;
     u64 v4 = 0, v5 = 0, v6 = 0, v7 = 0;
-    if (l8(v0 + 24ull) == 0x4D5343504D414445ull) goto L4;
+    if (l8_8(v0 + 24ull) == 0x4D5343504D414445ull) goto L4;
     return 0xFFFFFFFFFFFFFFF6ull;
 L4:;
     v3 = 0u;
@@ -984,14 +1102,14 @@ L6:;
     v3 = 1u;
 L5:;
     v4 = 0ull;
-    v5 = l8(v0);
-    v6 = l8(v5 + 6744ull);
+    v5 = l8_8(v0);
+    v6 = l8_8(v5 + 6744ull);
     if (v6 == 0) goto L1;
     v7 = v5 + 3888ull;
     v0 = v5 + 5720ull;
 L7:;
     if (l1(v0 + 6ull) != v3) goto L8;
-    if (l4(v0) == v2) goto L2;
+    if (l4_4(v0) == v2) goto L2;
 L8:;
     v7 = v7 + 1ull;
     v0 = v0 + 16ull;
@@ -1000,7 +1118,7 @@ L8:;
     goto L1;
     TRAP();
 L2:;
-    v4 = ((l8((v5 + (((u64)l1(v7)) << 3)) + 3376ull)) - l8(v5 + 4632ull)) & 4294967295ull;
+    v4 = ((l8_8((v5 + (((u64)l1(v7)) << 3)) + 3376ull)) - l8_8(v5 + 4632ull)) & 4294967295ull;
 L1:;
     return v4;
 }
@@ -1009,18 +1127,19 @@ static u64 w_mscp_figure(u64 v0, u32 v1, u32 v2)
 {
     u32 t0;
     u64 t1;
-    t0 = f58();
+    t0 = rattle_enter();
     if (t0 == 0) goto L1;
-    f59();
+    rattle_trap();
     TRAP();
 L1:;
-    t1 = f68(v0, v1, v2);
+    t1 = export_mscp_figure(v0, v1, v2);
     v0 = t1;
-    f61();
+    rattle_leave();
     return v0;
 }
 
-static void f69(u64 v0, u64 v1, u64 v2, u64 v3, u64 v4)
+/* __multi3, of the kit */
+static void multi3(u64 v0, u64 v1, u64 v2, u64 v3, u64 v4)
 {
     u64 v5 = 0, v6 = 0, t0;
     v5 = v3 >> 32;
@@ -1031,12 +1150,13 @@ static void f69(u64 v0, u64 v1, u64 v2, u64 v3, u64 v4)
     v2 = v3 * v1;
     v3 = (v2 >> 32) + (v3 * v6);
     v1 = (v3 & 4294967295ull) + (v5 * v1);
-    s8(v0 + 8, (t0 + (v3 >> 32)) + (v1 >> 32));
-    s8(v0, (v1 << 32) | (v2 & 4294967295ull));
+    s8_8(v0 + 8, (t0 + (v3 >> 32)) + (v1 >> 32));
+    s8_8(v0, (v1 << 32) | (v2 & 4294967295ull));
     return;
 }
 
-static void f70(u64 v0, u64 v1, u32 v2)
+/* mscp_queue::outcome::moved_body, crates/mscp_queue/src/outcome.rt:61 */
+static void outcome_moved_body(u64 v0, u64 v1, u32 v2)
 {
     u32 v3 = 0, v4 = 0;
     u64 v5 = 0;
@@ -1054,12 +1174,12 @@ static void f70(u64 v0, u64 v1, u32 v2)
     }
 L11:;
     v5 = ((u64)v2) << 9;
-    v1 = (u64)l4(v1 + 12ull);
+    v1 = (u64)l4_4(v1 + 12ull);
     v4 = (u32)((v5 < v1) ? v5 : v1);
     v3 = 6u;
     goto L2;
 L10:;
-    if (l2(v1 + 10ull) == 2049u) goto L8;
+    if (l2_2(v1 + 10ull) == 2049u) goto L8;
     v4 = 0u;
     v3 = l1(v1 + 9ull) & 127u;
     switch (v3 + 0xFFFFFFFFu) {
@@ -1101,73 +1221,75 @@ L2:;
     TRAP();
 }
 
-static void f71(u64 v0, u64 v1, u64 v2)
+/* mscp_queue::masks::Masks::leave, crates/mscp_queue/src/masks.rt:172 */
+static void Masks_leave(u64 v0, u64 v1, u64 v2)
 {
     u64 v3 = 0, v4 = 0;
     v1 = rotl64(0xFFFFFFFFFFFFFFFEull, (v1 & 63));
-    v3 = l8(v0) & v1;
-    s8(v0, v3);
+    v3 = l8_8(v0) & v1;
+    s8_8(v0, v3);
     v4 = v0 + 8ull;
-    s8(v4, l8(v4) & v1);
+    s8_8(v4, l8_8(v4) & v1);
     v4 = v0 + 16ull;
-    s8(v4, l8(v4) & v1);
+    s8_8(v4, l8_8(v4) & v1);
     v2 = (v0 + (v2 << 3)) + 24ull;
-    s8(v2, l8(v2) & v1);
+    s8_8(v2, l8_8(v2) & v1);
     if (v3 < 65536ull) goto L3;
     v2 = 0ull;
 L4:;
     v3 = v0 + v2;
     v4 = v3 + 152ull;
-    s8(v4, l8(v4) & v1);
+    s8_8(v4, l8_8(v4) & v1);
     v4 = v3 + 160ull;
-    s8(v4, l8(v4) & v1);
+    s8_8(v4, l8_8(v4) & v1);
     v4 = v3 + 168ull;
-    s8(v4, l8(v4) & v1);
+    s8_8(v4, l8_8(v4) & v1);
     v3 = v3 + 176ull;
-    s8(v3, l8(v3) & v1);
+    s8_8(v3, l8_8(v3) & v1);
     v2 = v2 + 32ull;
     if (v2 != 512ull) goto L4;
     goto L2;
 L3:;
     if (v3 == 0) goto L2;
     v3 = v0 + 152ull;
-    s8(v3, l8(v3) & v1);
+    s8_8(v3, l8_8(v3) & v1);
     v3 = v0 + 160ull;
-    s8(v3, l8(v3) & v1);
+    s8_8(v3, l8_8(v3) & v1);
     v3 = v0 + 168ull;
-    s8(v3, l8(v3) & v1);
+    s8_8(v3, l8_8(v3) & v1);
     v3 = v0 + 176ull;
-    s8(v3, l8(v3) & v1);
+    s8_8(v3, l8_8(v3) & v1);
     v3 = v0 + 184ull;
-    s8(v3, l8(v3) & v1);
+    s8_8(v3, l8_8(v3) & v1);
     v3 = v0 + 192ull;
-    s8(v3, l8(v3) & v1);
+    s8_8(v3, l8_8(v3) & v1);
     v3 = v0 + 200ull;
-    s8(v3, l8(v3) & v1);
+    s8_8(v3, l8_8(v3) & v1);
     v3 = v0 + 208ull;
-    s8(v3, l8(v3) & v1);
+    s8_8(v3, l8_8(v3) & v1);
     v3 = v0 + 216ull;
-    s8(v3, l8(v3) & v1);
+    s8_8(v3, l8_8(v3) & v1);
     v3 = v0 + 224ull;
-    s8(v3, l8(v3) & v1);
+    s8_8(v3, l8_8(v3) & v1);
     v3 = v0 + 232ull;
-    s8(v3, l8(v3) & v1);
+    s8_8(v3, l8_8(v3) & v1);
     v3 = v0 + 240ull;
-    s8(v3, l8(v3) & v1);
+    s8_8(v3, l8_8(v3) & v1);
     v3 = v0 + 248ull;
-    s8(v3, l8(v3) & v1);
+    s8_8(v3, l8_8(v3) & v1);
     v3 = v0 + 256ull;
-    s8(v3, l8(v3) & v1);
+    s8_8(v3, l8_8(v3) & v1);
     v3 = v0 + 264ull;
-    s8(v3, l8(v3) & v1);
+    s8_8(v3, l8_8(v3) & v1);
     v3 = v0 + 272ull;
-    s8(v3, l8(v3) & v1);
+    s8_8(v3, l8_8(v3) & v1);
 L2:;
     return;
     TRAP();
 }
 
-static void f72(u64 v0, u64 v1)
+/* mscp_queue::backlog::Backlog::leave, crates/mscp_queue/src/backlog.rt:277 */
+static void Backlog_leave(u64 v0, u64 v1)
 {
     u32 v6 = 0, v7 = 0, v8 = 0;
     u64 v3 = 0, v4 = 0, v5 = 0, v9 = 0, v10 = 0, v11 = 0, v12 = 0, v13 = 0, v14 = 0, t0, t1;
@@ -1175,17 +1297,17 @@ static void f72(u64 v0, u64 v1)
     v4 = v0 + 3072ull;
     v5 = v4 + v1;
     t0 = v3;
-    t1 = l8(v3);
+    t1 = l8_8(v3);
     v3 = v0 + (((u64)l1(v5)) << 5);
-    v6 = l4(v3 + 20ull);
-    v7 = l4(v3 + 24ull);
+    v6 = l4_4(v3 + 20ull);
+    v7 = l4_4(v3 + 24ull);
     v8 = v6 - v7;
     v9 = (u64)((v8 > v6) ? 0u : v8);
-    s8(t0, t1 - v9);
+    s8_8(t0, t1 - v9);
     v8 = l1(v5);
     v10 = ((u64)v8) & 255ull;
     v11 = v0 + 3136ull;
-    v3 = l8(v11);
+    v3 = l8_8(v11);
     if ((v1 + 1ull) == v3) goto L2;
     v12 = 0ull;
     v13 = v3 + (v1 ^ 0xFFFFFFFFFFFFFFFFull);
@@ -1211,22 +1333,22 @@ L3:;
     copy(v1, v1 + 1ull, v3);
 L6:;
     s1(v5 + v13, v8);
-    v3 = l8(v0 + 3136ull);
+    v3 = l8_8(v0 + 3136ull);
 L2:;
     v3 = v3 + 0xFFFFFFFFFFFFFFFFull;
-    s8(v11, v3);
+    s8_8(v11, v3);
     s1(v4 + v3, 0u);
     v1 = v0 + 3144ull;
-    f71(v1, v10, (u64)l1((v0 + (v10 << 3)) + 2048ull));
+    Masks_leave(v1, v10, (u64)l1((v0 + (v10 << 3)) + 2048ull));
     if (v6 <= v7) goto L7;
     v3 = v0 + 2560ull;
-    v14 = l8(v1);
+    v14 = l8_8(v1);
     if (v14 > 255ull) goto L8;
     v1 = ctz64(v14);
     if (v1 > 63ull) goto L7;
 L9:;
     v12 = v3 + (v1 << 3);
-    s8(v12, l8(v12) - v9);
+    s8_8(v12, l8_8(v12) - v9);
     v14 = v14 & (rotl64(0xFFFFFFFFFFFFFFFEull, (v1 & 63)));
     v1 = ctz64(v14);
     if (v1 < 64ull) goto L9;
@@ -1236,14 +1358,14 @@ L8:;
 L10:;
     v1 = v14 >> (v12 & 63);
     if (v1 == 0) goto L7;
-    s8(v3 + 16, l8(v3 + 16) - (((u64)((i64)(v1 << 61) >> 63)) & v9));
-    s8(v3 + 8, l8(v3 + 8) - (((u64)((i64)(v1 << 62) >> 63)) & v9));
-    s8(v3, l8(v3) - ((0ull - (v1 & 1ull)) & v9));
-    s8(v3 + 24, l8(v3 + 24) - (((u64)((i64)(v1 << 60) >> 63)) & v9));
-    s8(v3 + 32, l8(v3 + 32) - (((u64)((i64)(v1 << 59) >> 63)) & v9));
-    s8(v3 + 40, l8(v3 + 40) - (((u64)((i64)(v1 << 58) >> 63)) & v9));
-    s8(v3 + 48, l8(v3 + 48) - (((u64)((i64)(v1 << 57) >> 63)) & v9));
-    s8(v3 + 56, l8(v3 + 56) - (((u64)((i64)(v1 << 56) >> 63)) & v9));
+    s8_8(v3 + 16, l8_8(v3 + 16) - (((u64)((i64)(v1 << 61) >> 63)) & v9));
+    s8_8(v3 + 8, l8_8(v3 + 8) - (((u64)((i64)(v1 << 62) >> 63)) & v9));
+    s8_8(v3, l8_8(v3) - ((0ull - (v1 & 1ull)) & v9));
+    s8_8(v3 + 24, l8_8(v3 + 24) - (((u64)((i64)(v1 << 60) >> 63)) & v9));
+    s8_8(v3 + 32, l8_8(v3 + 32) - (((u64)((i64)(v1 << 59) >> 63)) & v9));
+    s8_8(v3 + 40, l8_8(v3 + 40) - (((u64)((i64)(v1 << 58) >> 63)) & v9));
+    s8_8(v3 + 48, l8_8(v3 + 48) - (((u64)((i64)(v1 << 57) >> 63)) & v9));
+    s8_8(v3 + 56, l8_8(v3 + 56) - (((u64)((i64)(v1 << 56) >> 63)) & v9));
     v3 = v3 + 64ull;
     v12 = v12 + 8ull;
     if (v12 != 64ull) goto L10;
@@ -1252,22 +1374,23 @@ L7:;
     TRAP();
 }
 
-static void f73(u64 v0, u64 v1, u64 v2, u32 v3)
+/* mscp_queue::candidates::Candidates::serve, crates/mscp_queue/src/candidates.rt:59 */
+static void Candidates_serve(u64 v0, u64 v1, u64 v2, u32 v3)
 {
     ROOM(frame, 16);
     u64 v4 = 0, v5 = 0, v6 = 0, v7 = 0, v8 = 0, v9 = 0, v10 = 0, v11 = 0;
     v4 = A(frame);
     v5 = v0 + 1288ull;
-    s8(v5, l8(v5) | (1ull << (v2 & 63)));
+    s8_8(v5, l8_8(v5) | (1ull << (v2 & 63)));
     if (v3 == 0) goto L2;
     v6 = v0 + (v1 << 4);
     v2 = (v0 + ((u64)l1(v6))) + 1032ull;
     s1(v2, l1(v2) + 0xFFFFFFFFu);
     v7 = v0 + 1024ull;
-    v2 = l8(v7);
+    v2 = l8_8(v7);
     if ((v1 + 1ull) == v2) goto L3;
-    s8(v4 + 8, l8(v6 + 8));
-    s8(v4, l8(v6));
+    s8_8(v4 + 8, l8(v6 + 8));
+    s8_8(v4, l8(v6));
     v8 = 0ull;
     v9 = v2 + (v1 ^ 0xFFFFFFFFFFFFFFFFull);
     v1 = v9;
@@ -1298,12 +1421,12 @@ L4:;
     copy(v2, v2 + 16ull, v1);
 L7:;
     v1 = v6 + (v9 << 4);
-    s8(v1 + 8, l8(v4 + 8));
-    s8(v1, l8(v4));
-    v2 = l8(v0 + 1024ull);
+    s8(v1 + 8, l8_8(v4 + 8));
+    s8(v1, l8_8(v4));
+    v2 = l8_8(v0 + 1024ull);
 L3:;
     v1 = v2 + 0xFFFFFFFFFFFFFFFFull;
-    s8(v7, v1);
+    s8_8(v7, v1);
     v1 = v0 + (v1 << 4);
     s8(v1 + 8, 0ull);
     s8(v1, 0x300000000000000ull);
@@ -1312,7 +1435,8 @@ L2:;
     TRAP();
 }
 
-static void f74(u64 v0, u64 v1, u32 v2, u32 v3, u32 v4, u32 v5)
+/* mscp_controller::controller::Controller::finish, crates/mscp_controller/src/controller.rt:309 */
+static void Controller_finish(u64 v0, u64 v1, u32 v2, u32 v3, u32 v4, u32 v5)
 {
     ROOM(frame, 112);
     u32 v8 = 0, v11 = 0, v14 = 0, v15 = 0, v17 = 0, v18 = 0, v19 = 0, v20 = 0, v21 = 0, v22 = 0, v23 = 0, v24 = 0, v25
@@ -1322,9 +1446,9 @@ static void f74(u64 v0, u64 v1, u32 v2, u32 v3, u32 v4, u32 v5)
     v6 = A(frame);
     v7 = v6;
     s1(v7 + 34, 0u);
-    s2(v7 + 32, 0u);
-    s4(v7 + 24, 0u);
-    s2(v7 + 28, 0u);
+    s2_2(v7 + 32, 0u);
+    s4_4(v7 + 24, 0u);
+    s2_2(v7 + 28, 0u);
     v8 = 1u;
     v9 = v1 + 5680ull;
     if (l1(v9) == 1u) goto L9;
@@ -1335,7 +1459,7 @@ L9:;
     v11 = 0u;
     v12 = v1 + 816ull;
     v13 = v1 + 3888ull;
-    v6 = v12 + (((u64)l1(v13 + l8(v1 + 5688ull))) << 5);
+    v6 = v12 + (((u64)l1(v13 + l8_8(v1 + 5688ull))) << 5);
     if (l1(v6 + 6ull) == (v2 & 255u)) goto L7;
     v10 = 0ull;
 L8:;
@@ -1374,13 +1498,13 @@ L7:;
     v26 = 0u;
     v27 = 0u;
     v28 = 0u;
-    if (l4(v6) != v3) goto L1;
+    if (l4_4(v6) != v3) goto L1;
     v23 = 0u;
-    s2(v7 + 40, 0u);
-    s4(v7 + 36, 0u);
-    s2(v7 + 48, 0u);
-    s4(v7 + 44, 0u);
-    v29 = l8(v1 + ((l1(v1 + 5696ull) == 1u) ? 5704ull : 5688ull));
+    s2_2(v7 + 40, 0u);
+    s4_4(v7 + 36, 0u);
+    s2_2(v7 + 48, 0u);
+    s4_4(v7 + 44, 0u);
+    v29 = l8_8(v1 + ((l1(v1 + 5696ull) == 1u) ? 5704ull : 5688ull));
     v30 = v13 + v29;
     v31 = (u64)l1(v30);
     v6 = v12 + (v31 << 5);
@@ -1401,13 +1525,13 @@ L7:;
     v19 = v8 != 7u;
     if (v19) goto L11;
     if ((v2 & 1u) == 0) goto L11;
-    v6 = l8(v31 + 32ull) + 1ull;
+    v6 = l8_8(v31 + 32ull) + 1ull;
     v23 = v26 + v14;
-    f69(v7, v6, (u64)(u32)(v6 == 0), (u64)v23, 0ull);
-    v6 = l8(v7 + 8);
+    multi3(v7, v6, (u64)(u32)(v6 == 0), (u64)v23, 0ull);
+    v6 = l8_8(v7 + 8);
     v2 = (u32)v6;
     if (v26) goto L13;
-    v19 = l4(v31 + 52ull);
+    v19 = l4_4(v31 + 52ull);
     if (v19 != v2) goto L15;
     v17 = l1(v31 + 56ull);
     goto L14;
@@ -1417,7 +1541,7 @@ L14:;
     v17 = v17 & 1u;
     goto L12;
 L13:;
-    v19 = l4(v31 + 52ull);
+    v19 = l4_4(v31 + 52ull);
     v17 = l1(v31 + 56ull);
 L12:;
     v25 = (v19 > v2) ? (v19 - v2) : (v2 - v19);
@@ -1439,8 +1563,8 @@ L10:;
     v19 = (u32)(v8 == 7u) & v3;
     v24 = t0 & v19;
     if (v24 != 1u) goto L16;
-    s2(v7 + 84, 0u);
-    s4(v7 + 80, 0u);
+    s2_2(v7 + 84, 0u);
+    s4_4(v7 + 80, 0u);
     v16 = 0ull;
     v14 = 0u;
     v15 = 0u;
@@ -1453,14 +1577,14 @@ L10:;
     goto L2;
 L16:;
     v33 = ((u64)v21) & 65535ull;
-    s4(v7 + 76, v14);
-    s4(v7 + 72, v15);
-    s2(v7 + 70, v34);
+    s4_4(v7 + 76, v14);
+    s4_4(v7 + 72, v15);
+    s2_2(v7 + 70, v34);
     s1(v7 + 69, v28);
     s1(v7 + 68, v8);
-    s2(v7 + 66, 0u);
-    s2(v7 + 64, v21);
-    s4(v7 + 60, v20);
+    s2_2(v7 + 66, 0u);
+    s2_2(v7 + 64, v21);
+    s4_4(v7 + 60, v20);
     if (v17) goto L20;
     if ((1u << (v8 & 31)) & 351u) goto L21;
     if (v8 == 5u) goto L22;
@@ -1479,18 +1603,18 @@ L20:;
 L19:;
     if (v19 == 0) goto L17;
 L18:;
-    s8(v7 + 104, 0ull);
-    s8(v7 + 96, 0ull);
-    s8(v7 + 88, 0ull);
-    s8(v7 + 80, 0ull);
+    s8_8(v7 + 104, 0ull);
+    s8_8(v7 + 96, 0ull);
+    s8_8(v7 + 88, 0ull);
+    s8_8(v7 + 80, 0ull);
     v2 = v26 + v18;
     goto L4;
 L17:;
     v16 = 0ull;
-    s8(v7 + 104, 0ull);
-    s8(v7 + 96, 0ull);
-    s8(v7 + 88, 0ull);
-    s8(v7 + 80, 0ull);
+    s8_8(v7 + 104, 0ull);
+    s8_8(v7 + 96, 0ull);
+    s8_8(v7 + 88, 0ull);
+    s8_8(v7 + 80, 0ull);
     if (((v8 + 0xFFFFFFFBu) & 255u) <= 1u) goto L23;
     v2 = v26;
     goto L4;
@@ -1502,10 +1626,10 @@ L23:;
     v17 = 0u;
     goto L5;
 L24:;
-    v19 = l4(v31 + 28ull);
-    v18 = l4(v31 + 8ull);
-    v17 = l4(v31 + 24ull);
-    v16 = l8(v31 + 16ull);
+    v19 = l4_4(v31 + 28ull);
+    v18 = l4_4(v31 + 8ull);
+    v17 = l4_4(v31 + 24ull);
+    v16 = l8_8(v31 + 16ull);
     goto L5;
     TRAP();
 L5:;
@@ -1513,13 +1637,13 @@ L5:;
     v14 = 0u;
     goto L3;
 L4:;
-    f70(v7 + 80ull, v7 + 60ull, v2);
-    v19 = l4(v7 + 104);
-    v18 = l4(v7 + 100);
-    v17 = l4(v7 + 96);
-    v16 = l8(v7 + 88);
-    v15 = l4(v7 + 84);
-    v14 = l2(v7 + 82);
+    outcome_moved_body(v7 + 80ull, v7 + 60ull, v2);
+    v19 = l4_4(v7 + 104);
+    v18 = l4_4(v7 + 100);
+    v17 = l4_4(v7 + 96);
+    v16 = l8_8(v7 + 88);
+    v15 = l4_4(v7 + 84);
+    v14 = l2_2(v7 + 82);
     v2 = l1(v7 + 80);
 L3:;
     v35 = v33 << 32;
@@ -1558,16 +1682,16 @@ L27:;
     v33 = 0x8A000000000000ull;
     goto L25;
 L26:;
-    v33 = l8(A(data + 960) + ((((u64)v28) & 255ull) << 3));
+    v33 = l8_8(A(data + 960) + ((((u64)v28) & 255ull) << 3));
 L25:;
     v2 = v2 & 255u;
-    s2(v7 + 84, 0u);
-    s4(v7 + 80, 0u);
+    s2_2(v7 + 84, 0u);
+    s4_4(v7 + 80, 0u);
     v10 = (v35 | v10) | v33;
     v28 = 1u;
 L2:;
-    s4(v7 + 52, l4(v7 + 80));
-    s2(v7 + 56, l2(v7 + 84));
+    s4_4(v7 + 52, l4_4(v7 + 80));
+    s2_2(v7 + 56, l2_2(v7 + 84));
     if (v24) goto L34;
     if ((1u << (v8 & 31)) & 463u) goto L35;
     if (v8 == 4u) goto L36;
@@ -1585,7 +1709,7 @@ L34:;
     v6 = v31 << 5;
     v33 = v12 + v6;
     if (l4(v33 + 24)) goto L37;
-    v36 = l8(v1 + 4632ull);
+    v36 = l8_8(v1 + 4632ull);
     v8 = l4(v33 + 20);
     if (v29 == 0) goto L38;
     v6 = 0ull;
@@ -1596,36 +1720,36 @@ L34:;
 L41:;
     v31 = v1 + v6;
     v33 = (v12 + (((u64)l1(v31 + 3888ull)) << 5)) + 28ull;
-    s4(v33, l4(v33) + v8);
+    s4_4(v33, l4_4(v33) + v8);
     v31 = (v12 + (((u64)l1(v31 + 3889ull)) << 5)) + 28ull;
-    s4(v31, l4(v31) + v8);
+    s4_4(v31, l4_4(v31) + v8);
     v6 = v6 + 2ull;
     if (v35 != v6) goto L41;
     if (v37 == 0) goto L39;
 L40:;
     v6 = (v12 + (((u64)l1(v13 + v6)) << 5)) + 28ull;
-    s4(v6, l4(v6) + v8);
+    s4_4(v6, l4_4(v6) + v8);
 L39:;
     v31 = (u64)l1(v30);
 L38:;
-    s8((v1 + (v31 << 3)) + 3376ull, v36 + ((u64)v8));
+    s8_8((v1 + (v31 << 3)) + 3376ull, v36 + ((u64)v8));
     v31 = (u64)l1(v30);
     v6 = v31 << 5;
 L37:;
     v6 = (v12 + v6) + 24ull;
-    v8 = l4(v6);
-    s4(v6, v8 + 1u);
+    v8 = l4_4(v6);
+    s4_4(v6, v8 + 1u);
     if (v8) goto L42;
     v6 = v1 + 3976ull;
-    s8(v6, l8(v6) | (1ull << (v31 & 63)));
+    s8_8(v6, l8_8(v6) | (1ull << (v31 & 63)));
 L42:;
     v6 = v1 + 4640ull;
-    s8(v6, l8(v6) + 0xFFFFFFFFFFFFFFFFull);
+    s8_8(v6, l8_8(v6) + 0xFFFFFFFFFFFFFFFFull);
     v30 = v1 + 4632ull;
-    v13 = l8(v30) + 1ull;
+    v13 = l8_8(v30) + 1ull;
     if (v13 < 1099511627776ull) goto L43;
     v6 = v1 + 3376ull;
-    v33 = l8(v1 + 3960ull);
+    v33 = l8_8(v1 + 3960ull);
     if (v33 < 256ull) goto L44;
     v35 = 0ull;
 L45:;
@@ -1634,15 +1758,15 @@ L45:;
     v13 = 0ull;
     goto L43;
 L46:;
-    s8(v6 + 56, l8(v6 + 56) + (((u64)((i64)(v31 << 56) >> 63)) & 0xFFFFFF0000000000ull));
-    s8(v6 + 48, l8(v6 + 48) + (((u64)((i64)(v31 << 57) >> 63)) & 0xFFFFFF0000000000ull));
-    s8(v6 + 40, l8(v6 + 40) + (((u64)((i64)(v31 << 58) >> 63)) & 0xFFFFFF0000000000ull));
-    s8(v6 + 32, l8(v6 + 32) + (((u64)((i64)(v31 << 59) >> 63)) & 0xFFFFFF0000000000ull));
-    s8(v6 + 24, l8(v6 + 24) + (((u64)((i64)(v31 << 60) >> 63)) & 0xFFFFFF0000000000ull));
-    s8(v6 + 16, l8(v6 + 16) + (((u64)((i64)(v31 << 61) >> 63)) & 0xFFFFFF0000000000ull));
-    s8(v6 + 8, l8(v6 + 8) + (((u64)((i64)(v31 << 62) >> 63)) & 0xFFFFFF0000000000ull));
+    s8_8(v6 + 56, l8_8(v6 + 56) + (((u64)((i64)(v31 << 56) >> 63)) & 0xFFFFFF0000000000ull));
+    s8_8(v6 + 48, l8_8(v6 + 48) + (((u64)((i64)(v31 << 57) >> 63)) & 0xFFFFFF0000000000ull));
+    s8_8(v6 + 40, l8_8(v6 + 40) + (((u64)((i64)(v31 << 58) >> 63)) & 0xFFFFFF0000000000ull));
+    s8_8(v6 + 32, l8_8(v6 + 32) + (((u64)((i64)(v31 << 59) >> 63)) & 0xFFFFFF0000000000ull));
+    s8_8(v6 + 24, l8_8(v6 + 24) + (((u64)((i64)(v31 << 60) >> 63)) & 0xFFFFFF0000000000ull));
+    s8_8(v6 + 16, l8_8(v6 + 16) + (((u64)((i64)(v31 << 61) >> 63)) & 0xFFFFFF0000000000ull));
+    s8_8(v6 + 8, l8_8(v6 + 8) + (((u64)((i64)(v31 << 62) >> 63)) & 0xFFFFFF0000000000ull));
     v13 = 0ull;
-    s8(v6, l8(v6) + ((0ull - (v31 & 1ull)) & 0xFFFFFF0000000000ull));
+    s8_8(v6, l8_8(v6) + ((0ull - (v31 & 1ull)) & 0xFFFFFF0000000000ull));
     v6 = v6 + 64ull;
     v35 = v35 + 8ull;
     if (v35 != 64ull) goto L45;
@@ -1653,33 +1777,33 @@ L44:;
     if (v31 > 63ull) goto L43;
 L47:;
     v35 = v6 + (v31 << 3);
-    s8(v35, l8(v35) + 0xFFFFFF0000000000ull);
+    s8_8(v35, l8_8(v35) + 0xFFFFFF0000000000ull);
     v33 = v33 & (rotl64(0xFFFFFFFFFFFFFFFEull, (v31 & 63)));
     v31 = ctz64(v33);
     if (v31 < 64ull) goto L47;
 L43:;
     v8 = v24 ^ 1u;
-    s8(v30, v13);
+    s8_8(v30, v13);
     v6 = v29;
     if (v24) goto L48;
-    f72(v12, v29);
+    Backlog_leave(v12, v29);
     v6 = 0ull;
 L48:;
-    f73(v1 + 5720ull, v29, v32, v8);
+    Candidates_serve(v1 + 5720ull, v29, v32, v8);
     s8(v9 + 8, 0ull);
     s8(v9, 0ull);
     s8(v1 + 5704ull, v6);
     s8(v1 + 5696ull, (u64)v24);
-    v8 = l2(v7 + 56);
-    s2(v7 + 48, v8);
-    s4(v7 + 36, l4(v7 + 52));
-    s2(v7 + 40, v8);
+    v8 = l2_2(v7 + 56);
+    s2_2(v7 + 48, v8);
+    s4_4(v7 + 36, l4_4(v7 + 52));
+    s2_2(v7 + 40, v8);
     if (v24) goto L49;
     if (v27 & 255u) goto L50;
     v6 = v1 + 8048ull;
-    s4(v6, l4(v6) + 0xFFFFFFFFu);
+    s4_4(v6, l4_4(v6) + 0xFFFFFFFFu);
     v31 = v1 + 11128ull;
-    v12 = l8(v31);
+    v12 = l8_8(v31);
     v6 = v1 + (v12 * 48ull);
     s8(v6 + 8056ull, v10);
     s4(v6 + 8076ull, v15);
@@ -1688,18 +1812,18 @@ L48:;
     s2(v6 + 8074ull, v14);
     s2(v6 + 8072ull, v2);
     s2(v6 + 8064ull, v11);
-    s4(v6 + 8066ull, l4(v7 + 36));
-    s2(v6 + 8070ull, l2(v7 + 40));
+    s4(v6 + 8066ull, l4_4(v7 + 36));
+    s2(v6 + 8070ull, l2_2(v7 + 40));
     s8(v6 + 8080ull, v16);
     s4(v6 + 8100ull, 0u);
     s4(v6 + 8096ull, v19);
-    s8(v31, v12 + 1ull);
+    s8_8(v31, v12 + 1ull);
     goto L49;
 L50:;
     v6 = v1 + 11136ull;
-    s4(v6, l4(v6) + 0xFFFFFFFFu);
+    s4_4(v6, l4_4(v6) + 0xFFFFFFFFu);
     v31 = v1 + 14216ull;
-    v12 = l8(v31);
+    v12 = l8_8(v31);
     v6 = v1 + (v12 * 48ull);
     s8(v6 + 11144ull, v10);
     s4(v6 + 11164ull, v15);
@@ -1708,19 +1832,19 @@ L50:;
     s2(v6 + 11162ull, v14);
     s2(v6 + 11160ull, v2);
     s2(v6 + 11152ull, v11);
-    s4(v6 + 11154ull, l4(v7 + 36));
-    s2(v6 + 11158ull, l2(v7 + 40));
+    s4(v6 + 11154ull, l4_4(v7 + 36));
+    s2(v6 + 11158ull, l2_2(v7 + 40));
     s8(v6 + 11168ull, v16);
     s4(v6 + 11188ull, 0u);
     s4(v6 + 11184ull, v19);
-    s8(v31, v12 + 1ull);
+    s8_8(v31, v12 + 1ull);
 L49:;
     v24 = v26 == 0;
     v8 = 0u;
     s1(v7 + 34, 0u);
-    s2(v7 + 32, 0u);
-    s4(v7 + 24, l4(v7 + 36));
-    s2(v7 + 28, l2(v7 + 40));
+    s2_2(v7 + 32, 0u);
+    s4_4(v7 + 24, l4_4(v7 + 36));
+    s2_2(v7 + 28, l2_2(v7 + 40));
     v26 = 1u;
 L1:;
     s1(v0, v8);
@@ -1736,7 +1860,7 @@ L1:;
     s2(v0 + 10ull, 0u);
     s1(v0 + 9ull, v27);
     s1(v0 + 8ull, v26);
-    s2(v0 + 29ull, l2(v7 + 32));
+    s2(v0 + 29ull, l2_2(v7 + 32));
     s1(v0 + 31ull, l1(v7 + 34));
     s2(v0 + 56ull, v11);
     s8(v0 + 48ull, v10);
@@ -1751,12 +1875,13 @@ L1:;
     s4(v0 + 92ull, 0u);
     s2(v0 + 66ull, v14);
     s2(v0 + 64ull, v2);
-    s2(v0 + 62ull, l2(v7 + 28));
-    s4(v0 + 58ull, l4(v7 + 24));
+    s2(v0 + 62ull, l2_2(v7 + 28));
+    s4(v0 + 58ull, l4_4(v7 + 24));
     return;
 }
 
-static u32 f75(u64 v0, u32 v1, u32 v2, u32 v3, u64 v4)
+/* mscp_c::mscp_finish, crates/mscp_c/src/serving.rt:31 */
+static u32 export_mscp_finish(u64 v0, u32 v1, u32 v2, u32 v3, u64 v4)
 {
     ROOM(frame, 96);
     u32 v6 = 0, v7 = 0;
@@ -1764,7 +1889,7 @@ static u32 f75(u64 v0, u32 v1, u32 v2, u32 v3, u64 v4)
     v5 = A(frame);
     v6 = 0u;
     fill(v5, 0u, 96ull);
-    if (l8(v0 + 24ull) == 0x4D5343504D414445ull) goto L3;
+    if (l8_8(v0 + 24ull) == 0x4D5343504D414445ull) goto L3;
     v7 = 0xFFFFFFF6u;
     goto L2;
 L3:;
@@ -1785,7 +1910,7 @@ L4:;
 L6:;
     v7 = 0u;
     v1 = v1 > 4u;
-    f74(v5, l8(v0), v6, v2, v1, v1 ? v3 : 0u);
+    Controller_finish(v5, l8_8(v0), v6, v2, v1, v1 ? v3 : 0u);
     if (l1(v5) == 0) goto L7;
     v7 = 0xFFFFFFFAu;
     goto L2;
@@ -1793,16 +1918,16 @@ L7:;
     if (l1(v5 + 8) == 0) goto L2;
     s1(v4 + 19, l1(v5 + 9));
     s1(v4 + 17, l1(v5 + 28));
-    s2(v4 + 12, l2(v5 + 16));
-    s4(v4 + 8, l4(v5 + 32));
-    s4(v4, l4(v5 + 12));
+    s2(v4 + 12, l2_2(v5 + 16));
+    s4(v4 + 8, l4_4(v5 + 32));
+    s4(v4, l4_4(v5 + 12));
     v7 = 1u;
     v3 = l1(v5 + 40) == 1u;
     s1(v4 + 18, v3);
     v1 = l1(v5 + 20) == 1u;
     s1(v4 + 16, v1);
-    s2(v4 + 14, v3 ? l2(v5 + 56) : 0u);
-    s4(v4 + 4, v1 ? l4(v5 + 24) : 0u);
+    s2(v4 + 14, v3 ? l2_2(v5 + 56) : 0u);
+    s4(v4 + 4, v1 ? l4_4(v5 + 24) : 0u);
 L2:;
     return v7;
     TRAP();
@@ -1811,18 +1936,19 @@ L2:;
 static u32 w_mscp_finish(u64 v0, u32 v1, u32 v2, u32 v3, u64 v4)
 {
     u32 t0, t1;
-    t0 = f58();
+    t0 = rattle_enter();
     if (t0 == 0) goto L1;
-    f59();
+    rattle_trap();
     TRAP();
 L1:;
-    t1 = f75(v0, v1, v2, v3, v4);
+    t1 = export_mscp_finish(v0, v1, v2, v3, v4);
     v3 = t1;
-    f61();
+    rattle_leave();
     return v3;
 }
 
-static void f76(void)
+/* mscp_c::mscp_host_align, crates/mscp_c/src/hosting.rt:26 */
+static void export_mscp_host_align(void)
 {
     goto L1;
 L1:;
@@ -1832,23 +1958,24 @@ L1:;
 static u64 w_mscp_host_align(void)
 {
     u32 t0;
-    t0 = f58();
+    t0 = rattle_enter();
     if (t0 == 0) goto L1;
-    f59();
+    rattle_trap();
     TRAP();
 L1:;
-    f76();
-    f61();
+    export_mscp_host_align();
+    rattle_leave();
     return 8ull;
 }
 
-static u64 f77(u64 v0)
+/* mscp_c::mscp_host_balance, crates/mscp_c/src/hosting.rt:51 */
+static u64 export_mscp_host_balance(u64 v0)
 {
     u64 v1 = 0;
     v1 = 0xFFFFFFFFFFFFFFF6ull;
-    if (l8(v0 + 24ull) != 0x484F53544D414445ull) goto L2;
-    v0 = l8(v0);
-    v1 = (u64)(l4(v0) - l4(v0 + 1032ull));
+    if (l8_8(v0 + 24ull) != 0x484F53544D414445ull) goto L2;
+    v0 = l8_8(v0);
+    v1 = (u64)(l4_4(v0) - l4_4(v0 + 1032ull));
 L2:;
     return v1;
     TRAP();
@@ -1858,42 +1985,43 @@ static u64 w_mscp_host_balance(u64 v0)
 {
     u32 t0;
     u64 t1;
-    t0 = f58();
+    t0 = rattle_enter();
     if (t0 == 0) goto L1;
-    f59();
+    rattle_trap();
     TRAP();
 L1:;
-    t1 = f77(v0);
+    t1 = export_mscp_host_balance(v0);
     v0 = t1;
-    f61();
+    rattle_leave();
     return v0;
 }
 
-static u32 f78(u64 v0, u32 v1)
+/* mscp_c::mscp_host_init_at, crates/mscp_c/src/hosting.rt:34 */
+static u32 export_mscp_host_init_at(u64 v0, u32 v1)
 {
     u64 v2 = 0;
-    v2 = l8(v0 + 24ull);
+    v2 = l8_8(v0 + 24ull);
     if (v2 != 0x484F53544D414445ull) goto L3;
     return 0xFFFFFFF5u;
 L3:;
     if (v2 != 0x484F5354524F4F4Dull) goto L1;
-    v2 = l8(v0 + 8ull);
+    v2 = l8_8(v0 + 8ull);
     if ((u32)(v2 == 0) == 0) goto L4;
     return 0xFFFFFFF3u;
 L4:;
     if ((v2 & 7ull) == 0) goto L5;
     return 0xFFFFFFF2u;
 L5:;
-    if (l8(v0 + 16ull) >= 1056ull) goto L6;
+    if (l8_8(v0 + 16ull) >= 1056ull) goto L6;
     return 0xFFFFFFF1u;
 L6:;
     if ((v1 + 0xFFFFFFFEu) <= 62u) goto L7;
     return 0xFFFFFFE4u;
 L7:;
-    v2 = l8(v0);
+    v2 = l8_8(v0);
     s4(v2, v1);
     fill(v2 + 8ull, 0u, 1048ull);
-    s8(v0 + 24ull, 0x484F53544D414445ull);
+    s8_8(v0 + 24ull, 0x484F53544D414445ull);
     return 1u;
     TRAP();
 L1:;
@@ -1903,29 +2031,30 @@ L1:;
 static u32 w_mscp_host_init_at(u64 v0, u32 v1)
 {
     u32 t0, t1;
-    t0 = f58();
+    t0 = rattle_enter();
     if (t0 == 0) goto L1;
-    f59();
+    rattle_trap();
     TRAP();
 L1:;
-    t1 = f78(v0, v1);
+    t1 = export_mscp_host_init_at(v0, v1);
     v1 = t1;
-    f61();
+    rattle_leave();
     return v1;
 }
 
-static void f79(u64 v0, u64 v1, u64 v2)
+/* mscp_host::host::Host::submit, crates/mscp_host/src/host.rt:81 */
+static void Host_submit(u64 v0, u64 v1, u64 v2)
 {
     ROOM(frame, 32);
     u32 v4 = 0, v6 = 0, v7 = 0, v8 = 0, v9 = 0, v10 = 0, v12 = 0, v13 = 0, v14 = 0, v15 = 0;
     u64 v3 = 0, v5 = 0, v11 = 0, v16 = 0, v17 = 0, v18 = 0;
     v3 = A(frame);
     v4 = 0u;
-    s2(v3 + 24, 0u);
+    s2_2(v3 + 24, 0u);
     v5 = 0ull;
-    s8(v3 + 16, 0ull);
-    s8(v3, 0ull);
-    s8(v3 + 8, 0ull);
+    s8_8(v3 + 16, 0ull);
+    s8_8(v3, 0ull);
+    s8_8(v3 + 8, 0ull);
     v6 = 1u;
     v7 = 1u;
     v8 = l1(v2 + 8ull);
@@ -1940,10 +2069,10 @@ L9:;
 L8:;
     v7 = ((l1(v2 + 9ull) + 0xFFFFFFFFu) & 255u) < 4u;
 L7:;
-    v9 = l4(v2);
+    v9 = l4_4(v2);
     v10 = 0u;
-    v11 = l8(v1 + 1032ull);
-    v12 = l4(v1) - ((u32)v11);
+    v11 = l8_8(v1 + 1032ull);
+    v12 = l4_4(v1) - ((u32)v11);
     v13 = v12;
     v14 = v12;
     v15 = 1u;
@@ -1963,14 +2092,14 @@ L10:;
 L13:;
     v16 = v16 + 0xFFFFFFFFFFFFFFFFull;
     if (v16 == 0) goto L12;
-    v12 = l4(v18);
+    v12 = l4_4(v18);
     v18 = v18 + 16ull;
     if (v12 != v9) goto L13;
     v15 = 3u;
     goto L2;
 L12:;
     v16 = v2 + 4ull;
-    v14 = l2(v16);
+    v14 = l2_2(v16);
     v4 = 1u;
     v12 = 1u;
     switch (v8) {
@@ -2015,7 +2144,7 @@ L14:;
     s4(v18, v9);
     v6 = 0u;
     s1(v18 + 15, 0u);
-    s8(v1 + 1032ull, v11 + 1ull);
+    s8_8(v1 + 1032ull, v11 + 1ull);
     v5 = 12ull;
     v10 = 3u;
     v9 = 0u;
@@ -2042,9 +2171,9 @@ L28:;
     v10 = 10u;
     goto L5;
 L27:;
-    v9 = l4(v2 + 12ull);
+    v9 = l4_4(v2 + 12ull);
     v13 = v9 & 0xFFFF0000u;
-    v14 = l4(v2 + 16ull);
+    v14 = l4_4(v2 + 16ull);
     v10 = (u32)(146584637968ull >> ((((u64)l1(v2 + 9ull)) << 3) & 63));
     v5 = 32ull;
     goto L3;
@@ -2052,7 +2181,7 @@ L26:;
     v10 = l1(v2 + 9ull);
     goto L5;
 L25:;
-    v9 = l2(v2 + 10ull);
+    v9 = l2_2(v2 + 10ull);
     v5 = 18ull;
     v10 = 4u;
     v13 = 0u;
@@ -2060,7 +2189,7 @@ L25:;
 L24:;
     v4 = 2u;
 L23:;
-    v9 = l4(v2 + 12ull);
+    v9 = l4_4(v2 + 12ull);
     v13 = v9 & 0xFFFF0000u;
     v5 = 16ull;
     v10 = v4;
@@ -2072,12 +2201,12 @@ L5:;
 L4:;
     v14 = 0u;
 L3:;
-    v4 = l2(v16);
-    v12 = l4(v2);
-    s2(v3 + 24, 0u);
-    s8(v3 + 16, 0ull);
-    s8(v3, 0ull);
-    s8(v3 + 8, 0ull);
+    v4 = l2_2(v16);
+    v12 = l4_4(v2);
+    s2_2(v3 + 24, 0u);
+    s8_8(v3 + 16, 0ull);
+    s8_8(v3, 0ull);
+    s8_8(v3 + 8, 0ull);
     v13 = v13 | (v9 & 65535u);
     v15 = 0u;
     goto L1;
@@ -2098,16 +2227,17 @@ L1:;
     s2(v0 + 12ull, v4);
     s4(v0 + 8ull, v12);
     s1(v0 + 1ull, v15);
-    s8(v0 + 26ull, l8(v3 + 16));
-    s2(v0 + 34ull, l2(v3 + 24));
+    s8(v0 + 26ull, l8_8(v3 + 16));
+    s2(v0 + 34ull, l2_2(v3 + 24));
     s4(v0 + 36ull, v14);
-    s8(v0 + 40ull, l8(v3));
-    s8(v0 + 48ull, l8(v3 + 8));
+    s8(v0 + 40ull, l8_8(v3));
+    s8(v0 + 48ull, l8_8(v3 + 8));
     s8(v0 + 56ull, v5);
     return;
 }
 
-static u32 f80(u64 v0, u32 v1, u64 v2)
+/* mscp_c::mscp_host_poll, crates/mscp_c/src/hosting.rt:93 */
+static u32 export_mscp_host_poll(u64 v0, u32 v1, u64 v2)
 {
     ROOM(frame, 144);
     u32 v5 = 0, v9 = 0;
@@ -2115,20 +2245,20 @@ static u32 f80(u64 v0, u32 v1, u64 v2)
     v3 = A(frame);
     v4 = v3;
     v5 = 0xFFFFFFF6u;
-    if (l8(v0 + 24ull) != 0x484F53544D414445ull) goto L1;
-    v6 = l8(v0);
-    s4(v4 + 128, 0u);
-    s8(v4 + 56, 0ull);
-    s8(v4 + 64, 0ull);
-    s8(v4 + 72, 0ull);
-    s8(v4 + 80, 0ull);
-    s8(v4 + 88, 0ull);
-    s8(v4 + 96, 0ull);
-    s8(v4 + 104, 0ull);
-    s8(v4 + 112, 0ull);
+    if (l8_8(v0 + 24ull) != 0x484F53544D414445ull) goto L1;
+    v6 = l8_8(v0);
+    s4_4(v4 + 128, 0u);
+    s8_8(v4 + 56, 0ull);
+    s8_8(v4 + 64, 0ull);
+    s8_8(v4 + 72, 0ull);
+    s8_8(v4 + 80, 0ull);
+    s8_8(v4 + 88, 0ull);
+    s8_8(v4 + 96, 0ull);
+    s8_8(v4 + 104, 0ull);
+    s8_8(v4 + 112, 0ull);
     if (l1(v6 + 1040ull) == 1u) goto L5;
     v0 = v6 + 0xFFFFFFFFFFFFFFF8ull;
-    v3 = l8(v6 + 1032ull) + 1ull;
+    v3 = l8_8(v6 + 1032ull) + 1ull;
 L6:;
     v3 = v3 + 0xFFFFFFFFFFFFFFFFull;
     if (v3 == 0) goto L2;
@@ -2136,14 +2266,14 @@ L6:;
     v8 = v0 + 16ull;
     v0 = v8;
     if (((l1(v7) + 0xFFFFFFFBu) & 255u) > 251u) goto L6;
-    s4(v4 + 140, 0u);
+    s4_4(v4 + 140, 0u);
     v5 = 1u;
-    s4(v4 + 132, 1u);
-    s4(v4 + 124, v1);
+    s4_4(v4 + 132, 1u);
+    s4_4(v4 + 124, v1);
     v9 = l4(v8);
-    s4(v4 + 136, v9);
-    s2(v4 + 128, l2(v8 + 4ull));
-    f79(v4 + 56ull, v6, v4 + 124ull);
+    s4_4(v4 + 136, v9);
+    s2_2(v4 + 128, l2(v8 + 4ull));
+    Host_submit(v4 + 56ull, v6, v4 + 124ull);
     if (l1(v4 + 56)) goto L4;
     s2(v6 + 1053ull, 0u);
     s1(v6 + 1052ull, 1u);
@@ -2151,15 +2281,15 @@ L6:;
     s4(v6 + 1044ull, v1);
     s4(v6 + 1040ull, 1u);
     s1(v6 + 1055ull, 0u);
-    s8(v4, l8(v4 + 64));
-    s8(v4 + 8, l8(v4 + 72));
-    s8(v4 + 16, l8(v4 + 80));
-    s8(v4 + 24, l8(v4 + 88));
-    s8(v4 + 32, l8(v4 + 96));
-    s8(v4 + 40, l8(v4 + 104));
-    s8(v4 + 48, l8(v4 + 112));
-    v0 = l8(v4 + 48);
-    s4(v2, (u32)v0);
+    s8_8(v4, l8_8(v4 + 64));
+    s8_8(v4 + 8, l8_8(v4 + 72));
+    s8_8(v4 + 16, l8_8(v4 + 80));
+    s8_8(v4 + 24, l8_8(v4 + 88));
+    s8_8(v4 + 32, l8_8(v4 + 96));
+    s8_8(v4 + 40, l8_8(v4 + 104));
+    s8_8(v4 + 48, l8_8(v4 + 112));
+    v0 = l8_8(v4 + 48);
+    s4_4(v2, (u32)v0);
     if (v0 == 0) goto L1;
     copy(v2 + 4ull, v4, v0);
     goto L1;
@@ -2167,7 +2297,7 @@ L5:;
     v5 = 4u;
     goto L1;
 L4:;
-    v5 = l4(A(data + 936) + (((u64)l1(v4 + 57)) << 2));
+    v5 = l4_4(A(data + 936) + (((u64)l1(v4 + 57)) << 2));
     goto L1;
     TRAP();
 L2:;
@@ -2179,18 +2309,19 @@ L1:;
 static u32 w_mscp_host_poll(u64 v0, u32 v1, u64 v2)
 {
     u32 t0, t1;
-    t0 = f58();
+    t0 = rattle_enter();
     if (t0 == 0) goto L1;
-    f59();
+    rattle_trap();
     TRAP();
 L1:;
-    t1 = f80(v0, v1, v2);
+    t1 = export_mscp_host_poll(v0, v1, v2);
     v1 = t1;
-    f61();
+    rattle_leave();
     return v1;
 }
 
-static void f81(u64 v0, u64 v1, u64 v2)
+/* mscp_packet::reading::read_end, crates/mscp_packet/src/reading.rt:143 */
+static void reading_read_end(u64 v0, u64 v1, u64 v2)
 {
     u32 v3 = 0, v4 = 0, v6 = 0, v7 = 0, v8 = 0, v9 = 0, v10 = 0, v11 = 0, v12 = 0, v13 = 0, v14 = 0, v15 = 0, v16 = 0;
     u64 v5 = 0;
@@ -2375,7 +2506,8 @@ L1:;
     return;
 }
 
-static u32 f82(u64 v0, u64 v1, u64 v2, u64 v3)
+/* mscp_c::mscp_host_receive_at, crates/mscp_c/src/hosting.rt:110 */
+static u32 export_mscp_host_receive_at(u64 v0, u64 v1, u64 v2, u64 v3)
 {
     ROOM(frame, 64);
     u32 v6 = 0, v8 = 0, v9 = 0, v10 = 0, v11 = 0, v12 = 0, v15 = 0, v16 = 0, v17 = 0, v19 = 0, v24 = 0, v25 = 0, v26 =
@@ -2384,24 +2516,24 @@ static u32 f82(u64 v0, u64 v1, u64 v2, u64 v3)
     v4 = A(frame);
     v5 = v4;
     v6 = 0xFFFFFFF6u;
-    if (l8(v0 + 24ull) != 0x484F53544D414445ull) goto L1;
-    v7 = l8(v0);
-    s8(v5 + 56, 0ull);
-    s8(v5 + 48, 0ull);
-    s8(v5 + 40, 0ull);
-    s8(v5 + 32, 0ull);
-    s8(v5 + 24, 0ull);
-    s8(v5 + 16, 0ull);
-    s8(v5 + 8, 0ull);
-    f81(v5 + 8ull, v1 + ((v1 == 0) ? 4096ull : 0ull), v2);
+    if (l8_8(v0 + 24ull) != 0x484F53544D414445ull) goto L1;
+    v7 = l8_8(v0);
+    s8_8(v5 + 56, 0ull);
+    s8_8(v5 + 48, 0ull);
+    s8_8(v5 + 40, 0ull);
+    s8_8(v5 + 32, 0ull);
+    s8_8(v5 + 24, 0ull);
+    s8_8(v5 + 16, 0ull);
+    s8_8(v5 + 8, 0ull);
+    reading_read_end(v5 + 8ull, v1 + ((v1 == 0) ? 4096ull : 0ull), v2);
     if (l1(v5 + 8)) goto L5;
-    v2 = l8(v5 + 36);
+    v2 = l8_4(v5 + 36);
     v8 = l1(v5 + 32);
-    v9 = l2(v5 + 24);
+    v9 = l2_2(v5 + 24);
     v10 = l1(v5 + 22);
-    v11 = l2(v5 + 20);
-    v12 = l4(v5 + 16);
-    v13 = l8(v7 + 1032ull);
+    v11 = l2_2(v5 + 20);
+    v12 = l4_4(v5 + 16);
+    v13 = l8_8(v7 + 1032ull);
     v4 = 0xFFFFFFFFFFFFFFFFull;
     v14 = v7 + 8ull;
     v0 = v14;
@@ -2409,13 +2541,13 @@ L7:;
     v6 = 0xFFFFFFF7u;
     v4 = v4 + 1ull;
     if (v13 == v4) goto L1;
-    v15 = l4(v0);
+    v15 = l4_4(v0);
     v1 = v0 + 16ull;
     v0 = v1;
     if (v15 != v12) goto L7;
     v15 = l1(v1 + 0xFFFFFFFFFFFFFFF6ull);
     if (l1(v7 + 1040ull) != 1u) goto L10;
-    v16 = l4(v7 + 1044ull);
+    v16 = l4_4(v7 + 1044ull);
     v17 = v10 & 255u;
     if (v17 == 128u) goto L11;
     if (((v15 & 255u) + 128u) != v17) goto L1;
@@ -2424,7 +2556,7 @@ L11:;
     if (v15) goto L9;
     v18 = v15 ? 0ull : v2;
     v10 = (u32)v18;
-    if (l4(v7 + 1048ull) != v10) goto L1;
+    if (l4_4(v7 + 1048ull) != v10) goto L1;
     if (l1(v7 + 1052ull) == 1u) goto L8;
     v15 = 3u;
     v9 = 0u;
@@ -2457,7 +2589,7 @@ L13:;
     v1 = v0 + 8ull;
     v2 = v0 + 16ull;
     v0 = v2;
-    if (l4(v1) != v10) goto L12;
+    if (l4_4(v1) != v10) goto L12;
     v19 = (u32)(v18 >> 32);
     v15 = l1(v2);
     if (v15 != 1u) goto L4;
@@ -2481,7 +2613,7 @@ L3:;
     v6 = (u32)(v18 >> 32);
     v4 = v13;
 L17:;
-    if (l4(v0 + 0xFFFFFFFFFFFFFFF4ull) == v10) goto L16;
+    if (l4_4(v0 + 0xFFFFFFFFFFFFFFF4ull) == v10) goto L16;
     v0 = v0 + 16ull;
     v4 = v4 + 0xFFFFFFFFFFFFFFFFull;
     if ((u32)(v4 == 0) == 0) goto L17;
@@ -2492,7 +2624,7 @@ L16:;
     s4(v0 + 0xFFFFFFFFFFFFFFFCull, 1u);
     v9 = 0u;
     s1(v0 + 0xFFFFFFFFFFFFFFFBull, 0u);
-    v13 = l8(v7 + 1032ull);
+    v13 = l8_8(v7 + 1032ull);
 L15:;
     v11 = 0u;
     v17 = 0u;
@@ -2505,15 +2637,15 @@ L2:;
 L20:;
     v18 = v7 + v21;
     v22 = v18 + 8ull;
-    if (l4(v22) == v12) goto L19;
+    if (l4_4(v22) == v12) goto L19;
     v21 = v21 + 16ull;
     v20 = v20 + 0xFFFFFFFFFFFFFFFFull;
     if (v20 != 0xFFFFFFFFFFFFFFFFull) goto L20;
     goto L18;
 L19:;
     if (v20 == 0) goto L21;
-    s8(v5 + 16, l8(v22 + 8));
-    s8(v5 + 8, l8(v22));
+    s8_8(v5 + 16, l8(v22 + 8));
+    s8_8(v5 + 8, l8(v22));
     v4 = 0ull;
     v0 = v20;
     if (v20 < 129ull) goto L22;
@@ -2544,12 +2676,12 @@ L22:;
     copy(v4 + 8ull, v4 + 24ull, v0);
 L25:;
     v0 = (((v13 << 4) - v21) + v22) + 0xFFFFFFFFFFFFFFF0ull;
-    s8(v0 + 8, l8(v5 + 16));
-    s8(v0, l8(v5 + 8));
-    v13 = l8(v7 + 1032ull);
+    s8(v0 + 8, l8_8(v5 + 16));
+    s8(v0, l8_8(v5 + 8));
+    v13 = l8_8(v7 + 1032ull);
 L21:;
     v0 = v13 + 0xFFFFFFFFFFFFFFFFull;
-    s8(v7 + 1032ull, v0);
+    s8_8(v7 + 1032ull, v0);
     v0 = v14 + (v0 << 4);
     s8(v0 + 8, 0ull);
     s8(v0, 0ull);
@@ -2637,18 +2769,19 @@ L1:;
 static u32 w_mscp_host_receive_at(u64 v0, u64 v1, u64 v2, u64 v3)
 {
     u32 v4 = 0, t0, t1;
-    t0 = f58();
+    t0 = rattle_enter();
     if (t0 == 0) goto L1;
-    f59();
+    rattle_trap();
     TRAP();
 L1:;
-    t1 = f82(v0, v1, v2, v3);
+    t1 = export_mscp_host_receive_at(v0, v1, v2, v3);
     v4 = t1;
-    f61();
+    rattle_leave();
     return v4;
 }
 
-static void f83(u64 v0, u32 v1, u64 v2, u64 v3, u64 v4)
+/* mscp_host::restoring::account_fault, crates/mscp_host/src/restoring.rt:144 */
+static void restoring_account_fault(u64 v0, u32 v1, u64 v2, u64 v3, u64 v4)
 {
     u32 v10 = 0, v11 = 0, v12 = 0, v13 = 0;
     u64 v5 = 0, v6 = 0, v7 = 0, v8 = 0, v9 = 0;
@@ -2680,12 +2813,12 @@ L10:;
     v8 = v9;
     v9 = v8 + 1ull;
     v5 = v2 + (v9 << 4);
-    v11 = l4(v2 + (v8 << 4));
+    v11 = l4_4(v2 + (v8 << 4));
     v6 = v3;
 L12:;
     v6 = v6 + 0xFFFFFFFFFFFFFFFFull;
     if (v8 == v6) goto L11;
-    v1 = l4(v5);
+    v1 = l4_4(v5);
     v5 = v5 + 16ull;
     if (v1 != v11) goto L12;
     v1 = 5u;
@@ -2696,11 +2829,11 @@ L11:;
     goto L3;
     TRAP();
 L4:;
-    v11 = l4(v4 + 4ull);
+    v11 = l4_4(v4 + 4ull);
     v5 = v2;
     v6 = v3;
 L14:;
-    if (l4(v5) != v11) goto L15;
+    if (l4_4(v5) != v11) goto L15;
     if (l1(v5 + 6ull) == 2u) goto L13;
 L15:;
     v5 = v5 + 16ull;
@@ -2711,7 +2844,7 @@ L15:;
     goto L1;
 L13:;
     v10 = 1u;
-    v12 = l4(v4 + 8ull);
+    v12 = l4_4(v4 + 8ull);
     if (l1(v4 + 12ull) != 1u) goto L16;
     v6 = v3 + 1ull;
     v5 = v2 + 6ull;
@@ -2737,9 +2870,9 @@ L18:;
     v5 = v2;
     v6 = v3;
 L19:;
-    if (l4(v5) != v11) goto L20;
+    if (l4_4(v5) != v11) goto L20;
     if (l1(v5 + 6ull) != 2u) goto L20;
-    if (l2(v5 + 4ull) == (v13 & 65535u)) goto L3;
+    if (l2_2(v5 + 4ull) == (v13 & 65535u)) goto L3;
 L20:;
     v5 = v5 + 16ull;
     v6 = v6 + 0xFFFFFFFFFFFFFFFFull;
@@ -2754,7 +2887,7 @@ L3:;
     v7 = v2 + 6ull;
 L21:;
     if (l1(v2 + 8ull) != 1u) goto L22;
-    v13 = l4(v2);
+    v13 = l4_4(v2);
     v6 = v9;
     v5 = v7;
 L23:;
@@ -2783,31 +2916,32 @@ L1:;
     return;
 }
 
-APART void f84(u64 v0, u64 v1)
+/* mscp_host::host::Host::save, crates/mscp_host/src/saving.rt:101 */
+APART void Host_save(u64 v0, u64 v1)
 {
     ROOM(frame, 816);
     u32 v7 = 0, v8 = 0, v9 = 0;
     u64 v2 = 0, v3 = 0, v4 = 0, v5 = 0, v6 = 0, v10 = 0;
     v2 = A(frame);
     v3 = v2;
-    v4 = l8(v1 + 1032ull);
+    v4 = l8_8(v1 + 1032ull);
     fill(v3 + 8ull, 0u, 808ull);
-    s8(v3 + 8, 5507339085ull);
+    s8_8(v3 + 8, 5507339085ull);
     s1(v3 + 24, (u32)v4);
-    s4(v3 + 20, l4(v1));
-    s4(v3 + 16, (((u32)v4) * 12u) + 26u);
+    s4_4(v3 + 20, l4_4(v1));
+    s4_4(v3 + 16, (((u32)v4) * 12u) + 26u);
     if (l1(v1 + 1040ull) != 1u) goto L3;
-    s8(v3 + 808, 22ull);
-    s8(v3 + 26, l8(v1 + 1044ull));
+    s8_8(v3 + 808, 22ull);
+    s8_2(v3 + 26, l8(v1 + 1044ull));
     s1(v3 + 25, (l1(v1 + 1052ull) & 1u) + 1u);
     goto L2;
 L3:;
-    s8(v3 + 808, 22ull);
+    s8_8(v3 + 808, 22ull);
     s1(v3 + 25, 0u);
-    s8(v3 + 26, 0ull);
+    s8_2(v3 + 26, 0ull);
 L2:;
     v2 = 26ull;
-    s8(v3 + 808, 26ull);
+    s8_8(v3 + 808, 26ull);
     if (v4 == 0) goto L4;
     v1 = v1 + 20ull;
 L5:;
@@ -2830,7 +2964,7 @@ L7:;
     v5 = v2 + 2ull;
     if ((v7 & 255u) != 1u) goto L10;
     s1(v6 + 1ull, 1u);
-    s8(v3 + 808, v5);
+    s8_8(v3 + 808, v5);
     if (v10 >= 4ull) goto L11;
     v2 = v5;
     goto L8;
@@ -2840,7 +2974,7 @@ L11:;
     goto L9;
 L10:;
     s1(v6 + 1ull, 0u);
-    s8(v3 + 808, v5);
+    s8_8(v3 + 808, v5);
     if (v10 >= 4ull) goto L12;
     v2 = v5;
     goto L8;
@@ -2848,7 +2982,7 @@ L12:;
     s4((v3 + 8ull) + v5, 0u);
     v2 = v2 + 6ull;
 L9:;
-    s8(v3 + 808, v2);
+    s8_8(v3 + 808, v2);
 L8:;
     v1 = v1 + 16ull;
     v4 = v4 + 0xFFFFFFFFFFFFFFFFull;
@@ -2859,7 +2993,8 @@ L4:;
     TRAP();
 }
 
-static u32 f85(u64 v0, u64 v1, u64 v2)
+/* core::cmp::slices::groups_equal, of the kit */
+static u32 slices_groups_equal(u64 v0, u64 v1, u64 v2)
 {
     u32 v4 = 0, t0, t1, t2;
     u64 v3 = 0, v5 = 0, v6 = 0, v7 = 0, v8 = 0, v9 = 0, v10 = 0;
@@ -2999,20 +3134,21 @@ L1:;
     return (v4 ^ 0xFFFFFFFFu) & 1u;
 }
 
-APART u32 f86(u64 v0, u64 v1, u64 v2)
+/* mscp_c::mscp_host_restore_at, crates/mscp_c/src/host_saving.rt:41 */
+APART u32 export_mscp_host_restore_at(u64 v0, u64 v1, u64 v2)
 {
     ROOM(frame, 4784);
     u32 v5 = 0, v7 = 0, v8 = 0, v13 = 0, v14 = 0, v15 = 0, t0;
     u64 v3 = 0, v4 = 0, v6 = 0, v9 = 0, v10 = 0, v11 = 0, v12 = 0;
     v3 = A(frame);
     fill(v3 + 20ull, 0u, 1036ull);
-    v4 = l8(v0 + 24ull);
+    v4 = l8_8(v0 + 24ull);
     if (v4 != 0x484F53544D414445ull) goto L4;
     v5 = 0xFFFFFFF5u;
     goto L1;
 L4:;
     if (v4 != 0x484F5354524F4F4Dull) goto L2;
-    v4 = l8(v0 + 8ull);
+    v4 = l8_8(v0 + 8ull);
     if ((u32)(v4 == 0) == 0) goto L5;
     v5 = 0xFFFFFFF3u;
     goto L1;
@@ -3021,11 +3157,11 @@ L5:;
     v5 = 0xFFFFFFF2u;
     goto L1;
 L6:;
-    if (l8(v0 + 16ull) >= 1056ull) goto L7;
+    if (l8_8(v0 + 16ull) >= 1056ull) goto L7;
     v5 = 0xFFFFFFF1u;
     goto L1;
 L7:;
-    s8(v3 + 2672, 0ull);
+    s8_8(v3 + 2672, 0ull);
     fill(v3 + 1864ull, 0u, 808ull);
     if (v2 < 26ull) goto L9;
     v1 = v1 + ((v1 == 0) ? 4096ull : 0ull);
@@ -3061,13 +3197,13 @@ L15:;
     v12 = (v3 + 3744ull) + v10;
     s1(v12 + 7ull, 0u);
     s1(v12 + 6ull, l1(v4 + 32ull));
-    s2(v12 + 4ull, l2(v4 + 30ull));
-    s4(v12, l4(v4 + 26ull));
+    s2_2(v12 + 4ull, l2(v4 + 30ull));
+    s4_4(v12, l4(v4 + 26ull));
     v5 = l1(v4 + 33ull);
-    s4(v12 + 12ull, v5 ? l4(v4 + 34ull) : 0u);
-    s4(v12 + 8ull, v5 != 0u);
+    s4_4(v12 + 12ull, v5 ? l4(v4 + 34ull) : 0u);
+    s4_4(v12 + 8ull, v5 != 0u);
     v4 = v4 + 12ull;
-    s8(v3 + 4768, v11);
+    s8_8(v3 + 4768, v11);
     v11 = v11 + 1ull;
     v10 = v10 + 16ull;
     if (v9 != v10) goto L15;
@@ -3076,13 +3212,13 @@ L14:;
     if (v5) goto L17;
     v5 = 0u;
     s1(v3 + 4782, 0u);
-    s2(v3 + 4780, 0u);
+    s2_2(v3 + 4780, 0u);
     v13 = 0u;
     v14 = 0u;
     v15 = 0u;
     goto L16;
 L17:;
-    s2(v3 + 4780, 0u);
+    s2_2(v3 + 4780, 0u);
     s1(v3 + 4782, 0u);
     v15 = v5 == 2u;
     v13 = l4(v1 + 18ull);
@@ -3090,29 +3226,29 @@ L17:;
     v5 = 1u;
 L16:;
     s1(v3 + 3740, v15);
-    s4(v3 + 3736, v14);
-    s4(v3 + 3732, v13);
-    s4(v3 + 3728, v5);
-    s2(v3 + 3741, l2(v3 + 4780));
+    s4_4(v3 + 3736, v14);
+    s4_4(v3 + 3732, v13);
+    s4_4(v3 + 3728, v5);
+    s2(v3 + 3741, l2_2(v3 + 4780));
     s1(v3 + 3743, l1(v3 + 4782));
-    f83(v3, v8, v3 + 3744ull, v6, v3 + 3728ull);
+    restoring_account_fault(v3, v8, v3 + 3744ull, v6, v3 + 3728ull);
     if (l1(v3) == 1u) goto L8;
-    s4(v3 + 2672, v8);
+    s4_4(v3 + 2672, v8);
     copy(v3 + 2680ull, v3 + 3744ull, 1032ull);
     s1(v3 + 3724, v15);
-    s4(v3 + 3720, v14);
-    s4(v3 + 3716, v13);
-    s4(v3 + 3712, v5);
-    s2(v3 + 3725, l2(v3 + 4780));
+    s4_4(v3 + 3720, v14);
+    s4_4(v3 + 3716, v13);
+    s4_4(v3 + 3712, v5);
+    s2(v3 + 3725, l2_2(v3 + 4780));
     s1(v3 + 3727, l1(v3 + 4782));
-    f84(v3 + 1864ull, v3 + 2672ull);
+    Host_save(v3 + 1864ull, v3 + 2672ull);
     copy(v3 + 1056ull, v3 + 1864ull, 808ull);
-    if (l8(v3 + 1856) != v2) goto L19;
+    if (l8_8(v3 + 1856) != v2) goto L19;
     if (l1(v3 + 1056) != (v7 & 255u)) goto L19;
     if ((l1(v3 + 1057) & 255u) != ((v7 >> 8) & 255u)) goto L19;
     if ((l1(v3 + 1058) & 255u) != ((v7 >> 16) & 255u)) goto L19;
     if ((l1(v3 + 1059) & 255u) != (v7 >> 24)) goto L19;
-    t0 = f85(v3 + 1056ull, v2, v1);
+    t0 = slices_groups_equal(v3 + 1056ull, v2, v1);
     if (t0) goto L18;
 L19:;
     v5 = 0xFFFFFFCAu;
@@ -3121,22 +3257,22 @@ L18:;
     v2 = v3 + 24ull;
     copy(v2, v3 + 3744ull, 1032ull);
     v4 = v3 + 3716ull;
-    s4(v3 + 16, l4(v4 + 8));
-    s8(v3 + 8, l8(v4));
-    v4 = l8(v0);
+    s4_4(v3 + 16, l4_4(v4 + 8));
+    s8_8(v3 + 8, l8_4(v4));
+    v4 = l8_8(v0);
     s4(v4, v8);
     copy(v4 + 8ull, v2, 1032ull);
     s4(v4 + 1040ull, v5);
-    s8(v4 + 1044ull, l8(v3 + 8));
-    s4(v4 + 1052ull, l4(v3 + 16));
-    s8(v0 + 24ull, 0x484F53544D414445ull);
+    s8(v4 + 1044ull, l8_8(v3 + 8));
+    s4(v4 + 1052ull, l4_4(v3 + 16));
+    s8_8(v0 + 24ull, 0x484F53544D414445ull);
     v5 = 1u;
     goto L1;
 L9:;
     v5 = 0xFFFFFFD8u;
     goto L1;
 L8:;
-    v5 = l4(A(data + 824) + ((((u64)l1(v3 + 1)) & 255ull) << 2));
+    v5 = l4_4(A(data + 824) + ((((u64)l1(v3 + 1)) & 255ull) << 2));
     goto L1;
     TRAP();
 L2:;
@@ -3148,32 +3284,33 @@ L1:;
 static u32 w_mscp_host_restore_at(u64 v0, u64 v1, u64 v2)
 {
     u32 v3 = 0, t0, t1;
-    t0 = f58();
+    t0 = rattle_enter();
     if (t0 == 0) goto L1;
-    f59();
+    rattle_trap();
     TRAP();
 L1:;
-    t1 = f86(v0, v1, v2);
+    t1 = export_mscp_host_restore_at(v0, v1, v2);
     v3 = t1;
-    f61();
+    rattle_leave();
     return v3;
 }
 
-APART u32 f87(u64 v0, u64 v1, u64 v2, u64 v3)
+/* mscp_c::mscp_host_save_at, crates/mscp_c/src/host_saving.rt:23 */
+APART u32 export_mscp_host_save_at(u64 v0, u64 v1, u64 v2, u64 v3)
 {
     ROOM(frame, 1616);
     u32 v5 = 0;
     u64 v4 = 0;
     v4 = A(frame);
     fill(v4, 0u, 808ull);
-    if (l8(v0 + 24ull) == 0x484F53544D414445ull) goto L3;
+    if (l8_8(v0 + 24ull) == 0x484F53544D414445ull) goto L3;
     v5 = 0xFFFFFFF6u;
     goto L2;
 L3:;
-    f84(v4, l8(v0));
+    Host_save(v4, l8_8(v0));
     copy(v4 + 808ull, v4, 808ull);
-    v0 = l8(v4 + 1608);
-    s8(v3, v0);
+    v0 = l8_8(v4 + 1608);
+    s8_8(v3, v0);
     if (v2 >= v0) goto L4;
     v5 = 0xFFFFFFF1u;
     goto L2;
@@ -3190,18 +3327,19 @@ L2:;
 static u32 w_mscp_host_save_at(u64 v0, u64 v1, u64 v2, u64 v3)
 {
     u32 v4 = 0, t0, t1;
-    t0 = f58();
+    t0 = rattle_enter();
     if (t0 == 0) goto L1;
-    f59();
+    rattle_trap();
     TRAP();
 L1:;
-    t1 = f87(v0, v1, v2, v3);
+    t1 = export_mscp_host_save_at(v0, v1, v2, v3);
     v4 = t1;
-    f61();
+    rattle_leave();
     return v4;
 }
 
-static void f88(void)
+/* mscp_c::mscp_host_save_size, crates/mscp_c/src/host_saving.rt:15 */
+static void export_mscp_host_save_size(void)
 {
     goto L1;
 L1:;
@@ -3211,17 +3349,18 @@ L1:;
 static u64 w_mscp_host_save_size(void)
 {
     u32 t0;
-    t0 = f58();
+    t0 = rattle_enter();
     if (t0 == 0) goto L1;
-    f59();
+    rattle_trap();
     TRAP();
 L1:;
-    f88();
-    f61();
+    export_mscp_host_save_size();
+    rattle_leave();
     return 794ull;
 }
 
-static void f89(void)
+/* mscp_c::mscp_host_size, crates/mscp_c/src/hosting.rt:18 */
+static void export_mscp_host_size(void)
 {
     goto L1;
 L1:;
@@ -3231,17 +3370,18 @@ L1:;
 static u64 w_mscp_host_size(void)
 {
     u32 t0;
-    t0 = f58();
+    t0 = rattle_enter();
     if (t0 == 0) goto L1;
-    f59();
+    rattle_trap();
     TRAP();
 L1:;
-    f89();
-    f61();
+    export_mscp_host_size();
+    rattle_leave();
     return 1056ull;
 }
 
-static void f90(u64 v0, u64 v1, u64 v2)
+/* mscp_packet::reading::read_command, crates/mscp_packet/src/reading.rt:63 */
+static void reading_read_command(u64 v0, u64 v1, u64 v2)
 {
     u32 v3 = 0, v4 = 0, v6 = 0, v7 = 0, v8 = 0, v9 = 0, v10 = 0, v11 = 0, v12 = 0;
     u64 v5 = 0;
@@ -3389,42 +3529,43 @@ L1:;
     TRAP();
 }
 
-static u32 f91(u64 v0, u64 v1, u64 v2)
+/* mscp_c::mscp_host_submit_at, crates/mscp_c/src/hosting.rt:71 */
+static u32 export_mscp_host_submit_at(u64 v0, u64 v1, u64 v2)
 {
     ROOM(frame, 112);
     u32 v4 = 0;
     u64 v3 = 0;
     v3 = A(frame);
-    s8(v3 + 56, 0ull);
-    s8(v3 + 48, 0ull);
-    s8(v3 + 40, 0ull);
-    s8(v3 + 32, 0ull);
-    s8(v3 + 24, 0ull);
-    s8(v3 + 16, 0ull);
-    s8(v3 + 8, 0ull);
-    s8(v3, 0ull);
-    if (l8(v0 + 24ull) == 0x484F53544D414445ull) goto L4;
+    s8_8(v3 + 56, 0ull);
+    s8_8(v3 + 48, 0ull);
+    s8_8(v3 + 40, 0ull);
+    s8_8(v3 + 32, 0ull);
+    s8_8(v3 + 24, 0ull);
+    s8_8(v3 + 16, 0ull);
+    s8_8(v3 + 8, 0ull);
+    s8_8(v3, 0ull);
+    if (l8_8(v0 + 24ull) == 0x484F53544D414445ull) goto L4;
     v4 = 0xFFFFFFF6u;
     goto L1;
 L4:;
-    s8(v3 + 104, 0ull);
-    s8(v3 + 96, 0ull);
-    s8(v3 + 88, 0ull);
-    f90(v3 + 88ull, v1 + ((v1 == 0) ? 4096ull : 0ull), v2);
-    s8(v3 + 68, l8(v3 + 92));
-    s8(v3 + 76, l8(v3 + 100));
-    s4(v3 + 84, l4(v3 + 108));
+    s8_8(v3 + 104, 0ull);
+    s8_8(v3 + 96, 0ull);
+    s8_8(v3 + 88, 0ull);
+    reading_read_command(v3 + 88ull, v1 + ((v1 == 0) ? 4096ull : 0ull), v2);
+    s8_2(v3 + 68, l8_4(v3 + 92));
+    s8_2(v3 + 76, l8_4(v3 + 100));
+    s4_2(v3 + 84, l4_4(v3 + 108));
     if (l1(v3 + 88)) goto L2;
     v1 = v3 + 68ull;
-    s4(v3 + 104, l4(v1 + 16));
-    s8(v3 + 96, l8(v1 + 8));
-    s8(v3 + 88, l8(v1));
-    f79(v3, l8(v0), v3 + 88ull);
+    s4_4(v3 + 104, l4_2(v1 + 16));
+    s8_8(v3 + 96, l8_2(v1 + 8));
+    s8_8(v3 + 88, l8_2(v1));
+    Host_submit(v3, l8_8(v0), v3 + 88ull);
     if (l1(v3)) goto L5;
     v4 = 1u;
     goto L1;
 L5:;
-    v4 = l4(A(data + 936) + (((u64)l1(v3 + 1)) << 2));
+    v4 = l4_4(A(data + 936) + (((u64)l1(v3 + 1)) << 2));
     goto L1;
     TRAP();
 L2:;
@@ -3436,18 +3577,19 @@ L1:;
 static u32 w_mscp_host_submit_at(u64 v0, u64 v1, u64 v2)
 {
     u32 v3 = 0, t0, t1;
-    t0 = f58();
+    t0 = rattle_enter();
     if (t0 == 0) goto L1;
-    f59();
+    rattle_trap();
     TRAP();
 L1:;
-    t1 = f91(v0, v1, v2);
+    t1 = export_mscp_host_submit_at(v0, v1, v2);
     v3 = t1;
-    f61();
+    rattle_leave();
     return v3;
 }
 
-APART void f92(u64 v0, u64 v1, u64 v2)
+/* mscp_drive::units::Units::new, crates/mscp_drive/src/units.rt:44 */
+APART void Units_new(u64 v0, u64 v1, u64 v2)
 {
     ROOM(frame, 1104);
     u32 v24 = 0, v25 = 0, v26 = 0, v31 = 0, v32 = 0, v34 = 0, v38 = 0, v42 = 0, v46 = 0, v50 = 0, v54 = 0, v58 = 0, v62
@@ -3458,47 +3600,47 @@ APART void f92(u64 v0, u64 v1, u64 v2)
         0, v51 = 0, v52 = 0, v53 = 0, v55 = 0, v56 = 0, v57 = 0, v59 = 0, v60 = 0, v61 = 0, v63 = 0, v65 = 0, v66 = 0,
         v67 = 0, v72 = 0, v73 = 0, v74 = 0, v76 = 0, v77 = 0, v78 = 0, v80 = 0, v81 = 0, v82 = 0, v83 = 0;
     v3 = A(frame);
-    s4(v3 + 1096, 0u);
-    s8(v3 + 1088, 0ull);
-    s8(v3 + 1080, 0ull);
-    s8(v3 + 1056, 0ull);
-    s8(v3 + 1064, 0ull);
-    s4(v3 + 1072, 0u);
-    s8(v3 + 1032, 0ull);
-    s8(v3 + 1040, 0ull);
-    s4(v3 + 1048, 0u);
-    s8(v3 + 1008, 0ull);
-    s8(v3 + 1016, 0ull);
-    s4(v3 + 1024, 0u);
-    s8(v3 + 984, 0ull);
-    s8(v3 + 992, 0ull);
-    s4(v3 + 1000, 0u);
-    s4(v3 + 976, 0u);
-    s8(v3 + 968, 0ull);
-    s8(v3 + 960, 0ull);
-    s8(v3 + 952, 0ull);
-    s8(v3 + 944, 0ull);
+    s4_4(v3 + 1096, 0u);
+    s8_8(v3 + 1088, 0ull);
+    s8_8(v3 + 1080, 0ull);
+    s8_8(v3 + 1056, 0ull);
+    s8_8(v3 + 1064, 0ull);
+    s4_4(v3 + 1072, 0u);
+    s8_8(v3 + 1032, 0ull);
+    s8_8(v3 + 1040, 0ull);
+    s4_4(v3 + 1048, 0u);
+    s8_8(v3 + 1008, 0ull);
+    s8_8(v3 + 1016, 0ull);
+    s4_4(v3 + 1024, 0u);
+    s8_8(v3 + 984, 0ull);
+    s8_8(v3 + 992, 0ull);
+    s4_4(v3 + 1000, 0u);
+    s4_4(v3 + 976, 0u);
+    s8_8(v3 + 968, 0ull);
+    s8_8(v3 + 960, 0ull);
+    s8_8(v3 + 952, 0ull);
+    s8_8(v3 + 944, 0ull);
     fill(v3 + 168ull, 0u, 776ull);
-    s4(v3 + 160, 0u);
-    s8(v3 + 152, 0ull);
-    s8(v3 + 144, 0ull);
-    s8(v3 + 120, 0ull);
-    s8(v3 + 128, 0ull);
-    s4(v3 + 136, 0u);
-    s8(v3 + 96, 0ull);
-    s8(v3 + 104, 0ull);
-    s4(v3 + 112, 0u);
-    s8(v3 + 72, 0ull);
-    s8(v3 + 80, 0ull);
-    s4(v3 + 88, 0u);
-    s8(v3 + 48, 0ull);
-    s8(v3 + 56, 0ull);
-    s4(v3 + 64, 0u);
-    s8(v3 + 24, 0ull);
-    s8(v3 + 32, 0ull);
-    s4(v3 + 40, 0u);
-    s8(v3 + 16, 0ull);
-    s8(v3 + 8, 0ull);
+    s4_4(v3 + 160, 0u);
+    s8_8(v3 + 152, 0ull);
+    s8_8(v3 + 144, 0ull);
+    s8_8(v3 + 120, 0ull);
+    s8_8(v3 + 128, 0ull);
+    s4_4(v3 + 136, 0u);
+    s8_8(v3 + 96, 0ull);
+    s8_8(v3 + 104, 0ull);
+    s4_4(v3 + 112, 0u);
+    s8_8(v3 + 72, 0ull);
+    s8_8(v3 + 80, 0ull);
+    s4_4(v3 + 88, 0u);
+    s8_8(v3 + 48, 0ull);
+    s8_8(v3 + 56, 0ull);
+    s4_4(v3 + 64, 0u);
+    s8_8(v3 + 24, 0ull);
+    s8_8(v3 + 32, 0ull);
+    s4_4(v3 + 40, 0u);
+    s8_8(v3 + 16, 0ull);
+    s8_8(v3 + 8, 0ull);
     if (v2 <= 16ull) goto L3;
     s2(v0, 1u);
     fill(v0 + 8ull, 0u, 776ull);
@@ -3509,7 +3651,7 @@ L3:;
     v5 = v1;
 L7:;
     v6 = v5 + 48ull;
-    if (l2(v6) <= l2(v5)) goto L6;
+    if (l2_2(v6) <= l2_2(v5)) goto L6;
     v5 = v6;
     v4 = v4 + 0xFFFFFFFFFFFFFFFFull;
     if (v4 == 0) goto L4;
@@ -3524,140 +3666,140 @@ L5:;
     fill(v0 + 8ull, 0u, 776ull);
     goto L1;
 L4:;
-    s4(v3 + 160, 0u);
-    s8(v3 + 152, 0ull);
-    s8(v3 + 144, 0ull);
-    s8(v3 + 120, 0ull);
-    s8(v3 + 128, 0ull);
-    s4(v3 + 136, 0u);
-    s8(v3 + 96, 0ull);
-    s8(v3 + 104, 0ull);
-    s4(v3 + 112, 0u);
-    s8(v3 + 72, 0ull);
-    s8(v3 + 80, 0ull);
-    s4(v3 + 88, 0u);
-    s8(v3 + 48, 0ull);
-    s8(v3 + 56, 0ull);
-    s4(v3 + 64, 0u);
-    s4(v3 + 40, 0u);
-    s8(v3 + 32, 0ull);
-    s8(v3 + 24, 0ull);
-    s8(v3 + 16, 0ull);
-    s8(v3 + 8, 0ull);
-    s4(v3 + 176, 1u);
-    s8(v3 + 168, 0x1000100010000ull);
-    s8(v3 + 180, 0ull);
-    s8(v3 + 188, 0ull);
-    s4(v3 + 196, 0u);
+    s4_4(v3 + 160, 0u);
+    s8_8(v3 + 152, 0ull);
+    s8_8(v3 + 144, 0ull);
+    s8_8(v3 + 120, 0ull);
+    s8_8(v3 + 128, 0ull);
+    s4_4(v3 + 136, 0u);
+    s8_8(v3 + 96, 0ull);
+    s8_8(v3 + 104, 0ull);
+    s4_4(v3 + 112, 0u);
+    s8_8(v3 + 72, 0ull);
+    s8_8(v3 + 80, 0ull);
+    s4_4(v3 + 88, 0u);
+    s8_8(v3 + 48, 0ull);
+    s8_8(v3 + 56, 0ull);
+    s4_4(v3 + 64, 0u);
+    s4_4(v3 + 40, 0u);
+    s8_8(v3 + 32, 0ull);
+    s8_8(v3 + 24, 0ull);
+    s8_8(v3 + 16, 0ull);
+    s8_8(v3 + 8, 0ull);
+    s4_4(v3 + 176, 1u);
+    s8_8(v3 + 168, 0x1000100010000ull);
+    s8_4(v3 + 180, 0ull);
+    s8_4(v3 + 188, 0ull);
+    s4_4(v3 + 196, 0u);
     v5 = 0xFFFFFFFFFFFFFFFFull;
-    s8(v3 + 200, 0xFFFFFFFFFFFFFFFFull);
-    s4(v3 + 224, 1u);
-    s8(v3 + 208, 0ull);
-    s8(v3 + 216, 0x1000100010000ull);
-    s8(v3 + 228, 0ull);
-    s8(v3 + 236, 0ull);
-    s4(v3 + 244, 0u);
-    s8(v3 + 248, 0xFFFFFFFFFFFFFFFFull);
-    s4(v3 + 272, 1u);
-    s8(v3 + 256, 0ull);
-    s8(v3 + 264, 0x1000100010000ull);
-    s4(v3 + 292, 0u);
-    s8(v3 + 284, 0ull);
-    s8(v3 + 276, 0ull);
-    s8(v3 + 312, 0x1000100010000ull);
-    s8(v3 + 304, 0ull);
-    s4(v3 + 320, 1u);
-    s8(v3 + 296, 0xFFFFFFFFFFFFFFFFull);
-    s8(v3 + 324, 0ull);
-    s8(v3 + 332, 0ull);
-    s4(v3 + 340, 0u);
-    s8(v3 + 360, 0x1000100010000ull);
-    s8(v3 + 352, 0ull);
-    s4(v3 + 368, 1u);
-    s8(v3 + 344, 0xFFFFFFFFFFFFFFFFull);
-    s8(v3 + 372, 0ull);
-    s8(v3 + 380, 0ull);
-    s4(v3 + 388, 0u);
-    s8(v3 + 408, 0x1000100010000ull);
-    s8(v3 + 400, 0ull);
-    s4(v3 + 416, 1u);
-    s8(v3 + 392, 0xFFFFFFFFFFFFFFFFull);
-    s4(v3 + 436, 0u);
-    s8(v3 + 428, 0ull);
-    s8(v3 + 420, 0ull);
-    s4(v3 + 464, 1u);
-    s8(v3 + 456, 0x1000100010000ull);
-    s8(v3 + 448, 0ull);
-    s8(v3 + 440, 0xFFFFFFFFFFFFFFFFull);
-    s4(v3 + 484, 0u);
-    s8(v3 + 476, 0ull);
-    s8(v3 + 468, 0ull);
-    s4(v3 + 512, 1u);
-    s8(v3 + 504, 0x1000100010000ull);
-    s8(v3 + 496, 0ull);
-    s8(v3 + 488, 0xFFFFFFFFFFFFFFFFull);
-    s4(v3 + 532, 0u);
-    s8(v3 + 524, 0ull);
-    s8(v3 + 516, 0ull);
-    s4(v3 + 560, 1u);
-    s8(v3 + 552, 0x1000100010000ull);
-    s8(v3 + 544, 0ull);
-    s8(v3 + 536, 0xFFFFFFFFFFFFFFFFull);
-    s4(v3 + 580, 0u);
-    s8(v3 + 572, 0ull);
-    s8(v3 + 564, 0ull);
-    s4(v3 + 608, 1u);
-    s8(v3 + 600, 0x1000100010000ull);
-    s8(v3 + 592, 0ull);
-    s8(v3 + 584, 0xFFFFFFFFFFFFFFFFull);
-    s4(v3 + 628, 0u);
-    s8(v3 + 620, 0ull);
-    s8(v3 + 612, 0ull);
-    s4(v3 + 656, 1u);
-    s8(v3 + 648, 0x1000100010000ull);
-    s8(v3 + 640, 0ull);
-    s8(v3 + 632, 0xFFFFFFFFFFFFFFFFull);
-    s4(v3 + 676, l4(v3 + 160));
-    s8(v3 + 668, l8(v3 + 152));
-    s8(v3 + 660, l8(v3 + 144));
-    s4(v3 + 704, 1u);
-    s8(v3 + 696, 0x1000100010000ull);
-    s8(v3 + 688, 0ull);
-    s8(v3 + 680, 0xFFFFFFFFFFFFFFFFull);
-    s4(v3 + 724, l4(v3 + 136));
-    s8(v3 + 716, l8(v3 + 128));
-    s8(v3 + 708, l8(v3 + 120));
-    s4(v3 + 752, 1u);
-    s8(v3 + 744, 0x1000100010000ull);
-    s8(v3 + 736, 0ull);
-    s8(v3 + 728, 0xFFFFFFFFFFFFFFFFull);
-    s4(v3 + 772, l4(v3 + 112));
-    s8(v3 + 764, l8(v3 + 104));
-    s8(v3 + 756, l8(v3 + 96));
-    s4(v3 + 800, 1u);
-    s8(v3 + 792, 0x1000100010000ull);
-    s8(v3 + 784, 0ull);
-    s8(v3 + 776, 0xFFFFFFFFFFFFFFFFull);
-    s4(v3 + 820, l4(v3 + 88));
-    s8(v3 + 812, l8(v3 + 80));
-    s8(v3 + 804, l8(v3 + 72));
-    s4(v3 + 848, 1u);
-    s8(v3 + 840, 0x1000100010000ull);
-    s8(v3 + 832, 0ull);
-    s8(v3 + 824, 0xFFFFFFFFFFFFFFFFull);
-    s4(v3 + 868, l4(v3 + 64));
-    s8(v3 + 860, l8(v3 + 56));
-    s8(v3 + 852, l8(v3 + 48));
-    s4(v3 + 896, 1u);
-    s8(v3 + 888, 0x1000100010000ull);
-    s8(v3 + 880, 0ull);
-    s8(v3 + 872, 0xFFFFFFFFFFFFFFFFull);
-    s4(v3 + 916, l4(v3 + 40));
-    s8(v3 + 908, l8(v3 + 32));
-    s8(v3 + 900, l8(v3 + 24));
-    s8(v3 + 920, 0xFFFFFFFFFFFFFFFFull);
-    s8(v3 + 936, l8(v3 + 16));
-    s8(v3 + 928, l8(v3 + 8));
+    s8_8(v3 + 200, 0xFFFFFFFFFFFFFFFFull);
+    s4_4(v3 + 224, 1u);
+    s8_8(v3 + 208, 0ull);
+    s8_8(v3 + 216, 0x1000100010000ull);
+    s8_4(v3 + 228, 0ull);
+    s8_4(v3 + 236, 0ull);
+    s4_4(v3 + 244, 0u);
+    s8_8(v3 + 248, 0xFFFFFFFFFFFFFFFFull);
+    s4_4(v3 + 272, 1u);
+    s8_8(v3 + 256, 0ull);
+    s8_8(v3 + 264, 0x1000100010000ull);
+    s4_4(v3 + 292, 0u);
+    s8_4(v3 + 284, 0ull);
+    s8_4(v3 + 276, 0ull);
+    s8_8(v3 + 312, 0x1000100010000ull);
+    s8_8(v3 + 304, 0ull);
+    s4_4(v3 + 320, 1u);
+    s8_8(v3 + 296, 0xFFFFFFFFFFFFFFFFull);
+    s8_4(v3 + 324, 0ull);
+    s8_4(v3 + 332, 0ull);
+    s4_4(v3 + 340, 0u);
+    s8_8(v3 + 360, 0x1000100010000ull);
+    s8_8(v3 + 352, 0ull);
+    s4_4(v3 + 368, 1u);
+    s8_8(v3 + 344, 0xFFFFFFFFFFFFFFFFull);
+    s8_4(v3 + 372, 0ull);
+    s8_4(v3 + 380, 0ull);
+    s4_4(v3 + 388, 0u);
+    s8_8(v3 + 408, 0x1000100010000ull);
+    s8_8(v3 + 400, 0ull);
+    s4_4(v3 + 416, 1u);
+    s8_8(v3 + 392, 0xFFFFFFFFFFFFFFFFull);
+    s4_4(v3 + 436, 0u);
+    s8_4(v3 + 428, 0ull);
+    s8_4(v3 + 420, 0ull);
+    s4_4(v3 + 464, 1u);
+    s8_8(v3 + 456, 0x1000100010000ull);
+    s8_8(v3 + 448, 0ull);
+    s8_8(v3 + 440, 0xFFFFFFFFFFFFFFFFull);
+    s4_4(v3 + 484, 0u);
+    s8_4(v3 + 476, 0ull);
+    s8_4(v3 + 468, 0ull);
+    s4_4(v3 + 512, 1u);
+    s8_8(v3 + 504, 0x1000100010000ull);
+    s8_8(v3 + 496, 0ull);
+    s8_8(v3 + 488, 0xFFFFFFFFFFFFFFFFull);
+    s4_4(v3 + 532, 0u);
+    s8_4(v3 + 524, 0ull);
+    s8_4(v3 + 516, 0ull);
+    s4_4(v3 + 560, 1u);
+    s8_8(v3 + 552, 0x1000100010000ull);
+    s8_8(v3 + 544, 0ull);
+    s8_8(v3 + 536, 0xFFFFFFFFFFFFFFFFull);
+    s4_4(v3 + 580, 0u);
+    s8_4(v3 + 572, 0ull);
+    s8_4(v3 + 564, 0ull);
+    s4_4(v3 + 608, 1u);
+    s8_8(v3 + 600, 0x1000100010000ull);
+    s8_8(v3 + 592, 0ull);
+    s8_8(v3 + 584, 0xFFFFFFFFFFFFFFFFull);
+    s4_4(v3 + 628, 0u);
+    s8_4(v3 + 620, 0ull);
+    s8_4(v3 + 612, 0ull);
+    s4_4(v3 + 656, 1u);
+    s8_8(v3 + 648, 0x1000100010000ull);
+    s8_8(v3 + 640, 0ull);
+    s8_8(v3 + 632, 0xFFFFFFFFFFFFFFFFull);
+    s4_4(v3 + 676, l4_4(v3 + 160));
+    s8_4(v3 + 668, l8_8(v3 + 152));
+    s8_4(v3 + 660, l8_8(v3 + 144));
+    s4_4(v3 + 704, 1u);
+    s8_8(v3 + 696, 0x1000100010000ull);
+    s8_8(v3 + 688, 0ull);
+    s8_8(v3 + 680, 0xFFFFFFFFFFFFFFFFull);
+    s4_4(v3 + 724, l4_4(v3 + 136));
+    s8_4(v3 + 716, l8_8(v3 + 128));
+    s8_4(v3 + 708, l8_8(v3 + 120));
+    s4_4(v3 + 752, 1u);
+    s8_8(v3 + 744, 0x1000100010000ull);
+    s8_8(v3 + 736, 0ull);
+    s8_8(v3 + 728, 0xFFFFFFFFFFFFFFFFull);
+    s4_4(v3 + 772, l4_4(v3 + 112));
+    s8_4(v3 + 764, l8_8(v3 + 104));
+    s8_4(v3 + 756, l8_8(v3 + 96));
+    s4_4(v3 + 800, 1u);
+    s8_8(v3 + 792, 0x1000100010000ull);
+    s8_8(v3 + 784, 0ull);
+    s8_8(v3 + 776, 0xFFFFFFFFFFFFFFFFull);
+    s4_4(v3 + 820, l4_4(v3 + 88));
+    s8_4(v3 + 812, l8_8(v3 + 80));
+    s8_4(v3 + 804, l8_8(v3 + 72));
+    s4_4(v3 + 848, 1u);
+    s8_8(v3 + 840, 0x1000100010000ull);
+    s8_8(v3 + 832, 0ull);
+    s8_8(v3 + 824, 0xFFFFFFFFFFFFFFFFull);
+    s4_4(v3 + 868, l4_4(v3 + 64));
+    s8_4(v3 + 860, l8_8(v3 + 56));
+    s8_4(v3 + 852, l8_8(v3 + 48));
+    s4_4(v3 + 896, 1u);
+    s8_8(v3 + 888, 0x1000100010000ull);
+    s8_8(v3 + 880, 0ull);
+    s8_8(v3 + 872, 0xFFFFFFFFFFFFFFFFull);
+    s4_4(v3 + 916, l4_4(v3 + 40));
+    s8_4(v3 + 908, l8_8(v3 + 32));
+    s8_4(v3 + 900, l8_8(v3 + 24));
+    s8_8(v3 + 920, 0xFFFFFFFFFFFFFFFFull);
+    s8_8(v3 + 936, l8_8(v3 + 16));
+    s8_8(v3 + 928, l8_8(v3 + 8));
     v7 = (v3 + 168ull) + 760ull;
     v8 = v3 + 900ull;
     v9 = v3 + 852ull;
@@ -3678,7 +3820,7 @@ L4:;
     v24 = 0u;
     v25 = 0u;
     v26 = 0u;
-    v27 = l8(v3 + 936);
+    v27 = l8_8(v3 + 936);
     if ((16ull - v27) < v2) goto L8;
     v28 = (v3 + 168ull) + (v27 * 48ull);
     v5 = v2 * 48ull;
@@ -3723,114 +3865,114 @@ L10:;
     if (v5 == 0) goto L9;
     copy(v28, v1, v5);
 L9:;
-    s8(v3 + 936, v27 + v2);
-    v24 = l2(v3 + 696);
-    v25 = l4(v3 + 692);
-    v26 = l4(v3 + 688);
-    v5 = l8(v3 + 680);
+    s8_8(v3 + 936, v27 + v2);
+    v24 = l2_2(v3 + 696);
+    v25 = l4_4(v3 + 692);
+    v26 = l4_4(v3 + 688);
+    v5 = l8_8(v3 + 680);
 L8:;
-    v4 = l8(v3 + 632);
-    v6 = l8(v3 + 640);
-    v2 = l8(v3 + 648);
-    v31 = l4(v3 + 656);
-    v1 = l8(v3 + 584);
-    v30 = l8(v3 + 592);
-    v27 = l8(v3 + 600);
-    v32 = l4(v3 + 608);
-    v28 = l8(v3 + 536);
-    v29 = l8(v3 + 544);
-    v33 = l8(v3 + 552);
-    v34 = l4(v3 + 560);
-    v35 = l8(v3 + 488);
-    v36 = l8(v3 + 496);
-    v37 = l8(v3 + 504);
-    v38 = l4(v3 + 512);
-    v39 = l8(v3 + 440);
-    v40 = l8(v3 + 448);
-    v41 = l8(v3 + 456);
-    v42 = l4(v3 + 464);
-    v43 = l8(v3 + 392);
-    v44 = l8(v3 + 400);
-    v45 = l8(v3 + 408);
-    v46 = l4(v3 + 416);
-    v47 = l8(v3 + 344);
-    v48 = l8(v3 + 352);
-    v49 = l8(v3 + 360);
-    v50 = l4(v3 + 368);
-    v51 = l8(v3 + 296);
-    v52 = l8(v3 + 304);
-    v53 = l8(v3 + 312);
-    v54 = l4(v3 + 320);
-    v55 = l8(v3 + 248);
-    v56 = l8(v3 + 256);
-    v57 = l8(v3 + 264);
-    v58 = l4(v3 + 272);
-    v59 = l8(v3 + 200);
-    v60 = l8(v3 + 208);
-    v61 = l8(v3 + 216);
-    v62 = l4(v3 + 224);
-    v63 = l8(v3 + 168);
-    v64 = l4(v3 + 176);
-    s4(v3 + 160, l4(v13 + 16));
-    s8(v3 + 152, l8(v13 + 8));
-    s8(v3 + 144, l8(v13));
-    s8(v3 + 120, l8(v12));
-    s8(v3 + 128, l8(v12 + 8));
-    s4(v3 + 136, l4(v12 + 16));
-    v65 = l8(v3 + 728);
-    v66 = l8(v3 + 736);
-    v67 = l8(v3 + 744);
-    v68 = l4(v3 + 752);
-    v69 = l4(v3 + 698);
-    v70 = l2(v3 + 702);
-    v71 = l4(v3 + 704);
-    s4(v3 + 112, l4(v11 + 16));
-    s8(v3 + 104, l8(v11 + 8));
-    s8(v3 + 96, l8(v11));
-    s8(v3 + 72, l8(v10));
-    s8(v3 + 80, l8(v10 + 8));
-    s4(v3 + 88, l4(v10 + 16));
-    v72 = l8(v3 + 824);
-    v73 = l8(v3 + 832);
-    v74 = l8(v3 + 840);
-    v75 = l4(v3 + 848);
-    v76 = l8(v3 + 776);
-    v77 = l8(v3 + 784);
-    v78 = l8(v3 + 792);
-    v79 = l4(v3 + 800);
-    s4(v3 + 64, l4(v9 + 16));
-    s8(v3 + 56, l8(v9 + 8));
-    s8(v3 + 48, l8(v9));
-    s8(v3 + 24, l8(v8));
-    s8(v3 + 32, l8(v8 + 8));
-    s4(v3 + 40, l4(v8 + 16));
-    s8(v3 + 16, l8(v7 + 8));
-    s8(v3 + 8, l8(v7));
-    v80 = l8(v3 + 920);
-    v81 = l8(v3 + 872);
-    v82 = l8(v3 + 880);
-    v83 = l8(v3 + 888);
-    v84 = l4(v3 + 896);
-    s4(v3 + 1096, l4(v13 + 16));
-    s8(v3 + 1088, l8(v13 + 8));
-    s8(v3 + 1080, l8(v13));
-    s4(v3 + 1072, l4(v12 + 16));
-    s8(v3 + 1064, l8(v12 + 8));
-    s8(v3 + 1056, l8(v12));
-    s4(v3 + 1048, l4(v11 + 16));
-    s8(v3 + 1040, l8(v11 + 8));
-    s8(v3 + 1032, l8(v11));
-    s4(v3 + 1024, l4(v10 + 16));
-    s8(v3 + 1016, l8(v10 + 8));
-    s8(v3 + 1008, l8(v10));
-    s4(v3 + 1000, l4(v9 + 16));
-    s8(v3 + 992, l8(v9 + 8));
-    s8(v3 + 984, l8(v9));
-    s4(v3 + 976, l4(v8 + 16));
-    s8(v3 + 968, l8(v8 + 8));
-    s8(v3 + 960, l8(v8));
-    s8(v3 + 952, l8(v7 + 8));
-    s8(v3 + 944, l8(v7));
+    v4 = l8_8(v3 + 632);
+    v6 = l8_8(v3 + 640);
+    v2 = l8_8(v3 + 648);
+    v31 = l4_4(v3 + 656);
+    v1 = l8_8(v3 + 584);
+    v30 = l8_8(v3 + 592);
+    v27 = l8_8(v3 + 600);
+    v32 = l4_4(v3 + 608);
+    v28 = l8_8(v3 + 536);
+    v29 = l8_8(v3 + 544);
+    v33 = l8_8(v3 + 552);
+    v34 = l4_4(v3 + 560);
+    v35 = l8_8(v3 + 488);
+    v36 = l8_8(v3 + 496);
+    v37 = l8_8(v3 + 504);
+    v38 = l4_4(v3 + 512);
+    v39 = l8_8(v3 + 440);
+    v40 = l8_8(v3 + 448);
+    v41 = l8_8(v3 + 456);
+    v42 = l4_4(v3 + 464);
+    v43 = l8_8(v3 + 392);
+    v44 = l8_8(v3 + 400);
+    v45 = l8_8(v3 + 408);
+    v46 = l4_4(v3 + 416);
+    v47 = l8_8(v3 + 344);
+    v48 = l8_8(v3 + 352);
+    v49 = l8_8(v3 + 360);
+    v50 = l4_4(v3 + 368);
+    v51 = l8_8(v3 + 296);
+    v52 = l8_8(v3 + 304);
+    v53 = l8_8(v3 + 312);
+    v54 = l4_4(v3 + 320);
+    v55 = l8_8(v3 + 248);
+    v56 = l8_8(v3 + 256);
+    v57 = l8_8(v3 + 264);
+    v58 = l4_4(v3 + 272);
+    v59 = l8_8(v3 + 200);
+    v60 = l8_8(v3 + 208);
+    v61 = l8_8(v3 + 216);
+    v62 = l4_4(v3 + 224);
+    v63 = l8_8(v3 + 168);
+    v64 = l4_4(v3 + 176);
+    s4_4(v3 + 160, l4_4(v13 + 16));
+    s8_8(v3 + 152, l8_4(v13 + 8));
+    s8_8(v3 + 144, l8_4(v13));
+    s8_8(v3 + 120, l8_4(v12));
+    s8_8(v3 + 128, l8_4(v12 + 8));
+    s4_4(v3 + 136, l4_4(v12 + 16));
+    v65 = l8_8(v3 + 728);
+    v66 = l8_8(v3 + 736);
+    v67 = l8_8(v3 + 744);
+    v68 = l4_4(v3 + 752);
+    v69 = l4_2(v3 + 698);
+    v70 = l2_2(v3 + 702);
+    v71 = l4_4(v3 + 704);
+    s4_4(v3 + 112, l4_4(v11 + 16));
+    s8_8(v3 + 104, l8_4(v11 + 8));
+    s8_8(v3 + 96, l8_4(v11));
+    s8_8(v3 + 72, l8_4(v10));
+    s8_8(v3 + 80, l8_4(v10 + 8));
+    s4_4(v3 + 88, l4_4(v10 + 16));
+    v72 = l8_8(v3 + 824);
+    v73 = l8_8(v3 + 832);
+    v74 = l8_8(v3 + 840);
+    v75 = l4_4(v3 + 848);
+    v76 = l8_8(v3 + 776);
+    v77 = l8_8(v3 + 784);
+    v78 = l8_8(v3 + 792);
+    v79 = l4_4(v3 + 800);
+    s4_4(v3 + 64, l4_4(v9 + 16));
+    s8_8(v3 + 56, l8_4(v9 + 8));
+    s8_8(v3 + 48, l8_4(v9));
+    s8_8(v3 + 24, l8_4(v8));
+    s8_8(v3 + 32, l8_4(v8 + 8));
+    s4_4(v3 + 40, l4_4(v8 + 16));
+    s8_8(v3 + 16, l8_8(v7 + 8));
+    s8_8(v3 + 8, l8_8(v7));
+    v80 = l8_8(v3 + 920);
+    v81 = l8_8(v3 + 872);
+    v82 = l8_8(v3 + 880);
+    v83 = l8_8(v3 + 888);
+    v84 = l4_4(v3 + 896);
+    s4_4(v3 + 1096, l4_2(v13 + 16));
+    s8_8(v3 + 1088, l8_2(v13 + 8));
+    s8_8(v3 + 1080, l8_2(v13));
+    s4_4(v3 + 1072, l4_2(v12 + 16));
+    s8_8(v3 + 1064, l8_2(v12 + 8));
+    s8_8(v3 + 1056, l8_2(v12));
+    s4_4(v3 + 1048, l4_2(v11 + 16));
+    s8_8(v3 + 1040, l8_2(v11 + 8));
+    s8_8(v3 + 1032, l8_2(v11));
+    s4_4(v3 + 1024, l4_2(v10 + 16));
+    s8_8(v3 + 1016, l8_2(v10 + 8));
+    s8_8(v3 + 1008, l8_2(v10));
+    s4_4(v3 + 1000, l4_2(v9 + 16));
+    s8_8(v3 + 992, l8_2(v9 + 8));
+    s8_8(v3 + 984, l8_2(v9));
+    s4_4(v3 + 976, l4_2(v8 + 16));
+    s8_8(v3 + 968, l8_2(v8 + 8));
+    s8_8(v3 + 960, l8_2(v8));
+    s8_8(v3 + 952, l8_2(v7 + 8));
+    s8_8(v3 + 944, l8_2(v7));
     s4(v0 + 16ull, v64);
     s8(v0 + 8ull, v63);
     s2(v0, 0u);
@@ -3904,9 +4046,9 @@ L8:;
     s8(v0 + 488ull, v2);
     s8(v0 + 480ull, v6);
     s8(v0 + 472ull, v4);
-    s4(v0 + 516ull, l4(v3 + 1096));
-    s8(v0 + 508ull, l8(v3 + 1088));
-    s8(v0 + 500ull, l8(v3 + 1080));
+    s4(v0 + 516ull, l4_4(v3 + 1096));
+    s8(v0 + 508ull, l8_8(v3 + 1088));
+    s8(v0 + 500ull, l8_8(v3 + 1080));
     s4(v0 + 544ull, v71);
     s2(v0 + 542ull, v70);
     s4(v0 + 538ull, v69);
@@ -3914,47 +4056,48 @@ L8:;
     s4(v0 + 532ull, v25);
     s4(v0 + 528ull, v26);
     s8(v0 + 520ull, v5);
-    s4(v0 + 564ull, l4(v3 + 1072));
-    s8(v0 + 556ull, l8(v3 + 1064));
-    s8(v0 + 548ull, l8(v3 + 1056));
+    s4(v0 + 564ull, l4_4(v3 + 1072));
+    s8(v0 + 556ull, l8_8(v3 + 1064));
+    s8(v0 + 548ull, l8_8(v3 + 1056));
     s4(v0 + 592ull, v68);
     s8(v0 + 584ull, v67);
     s8(v0 + 576ull, v66);
     s8(v0 + 568ull, v65);
-    s4(v0 + 612ull, l4(v3 + 1048));
-    s8(v0 + 604ull, l8(v3 + 1040));
-    s8(v0 + 596ull, l8(v3 + 1032));
+    s4(v0 + 612ull, l4_4(v3 + 1048));
+    s8(v0 + 604ull, l8_8(v3 + 1040));
+    s8(v0 + 596ull, l8_8(v3 + 1032));
     s4(v0 + 640ull, v79);
     s8(v0 + 632ull, v78);
     s8(v0 + 624ull, v77);
     s8(v0 + 616ull, v76);
-    s4(v0 + 660ull, l4(v3 + 1024));
-    s8(v0 + 652ull, l8(v3 + 1016));
-    s8(v0 + 644ull, l8(v3 + 1008));
+    s4(v0 + 660ull, l4_4(v3 + 1024));
+    s8(v0 + 652ull, l8_8(v3 + 1016));
+    s8(v0 + 644ull, l8_8(v3 + 1008));
     s4(v0 + 688ull, v75);
     s8(v0 + 680ull, v74);
     s8(v0 + 672ull, v73);
     s8(v0 + 664ull, v72);
-    s4(v0 + 708ull, l4(v3 + 1000));
-    s8(v0 + 700ull, l8(v3 + 992));
-    s8(v0 + 692ull, l8(v3 + 984));
+    s4(v0 + 708ull, l4_4(v3 + 1000));
+    s8(v0 + 700ull, l8_8(v3 + 992));
+    s8(v0 + 692ull, l8_8(v3 + 984));
     s4(v0 + 736ull, v84);
     s8(v0 + 728ull, v83);
     s8(v0 + 720ull, v82);
     s8(v0 + 712ull, v81);
-    s4(v0 + 756ull, l4(v3 + 976));
-    s8(v0 + 748ull, l8(v3 + 968));
-    s8(v0 + 740ull, l8(v3 + 960));
+    s4(v0 + 756ull, l4_4(v3 + 976));
+    s8(v0 + 748ull, l8_8(v3 + 968));
+    s8(v0 + 740ull, l8_8(v3 + 960));
     s8(v0 + 760ull, v80);
-    s8(v0 + 776ull, l8(v3 + 952));
-    s8(v0 + 768ull, l8(v3 + 944));
+    s8(v0 + 776ull, l8_8(v3 + 952));
+    s8(v0 + 768ull, l8_8(v3 + 944));
     goto L1;
     TRAP();
 L1:;
     return;
 }
 
-APART void f93(u64 v0, u64 v1, u64 v2, u64 v3)
+/* mscp_c::making::config_of, crates/mscp_c/src/making.rt:38 */
+APART void making_config_of(u64 v0, u64 v1, u64 v2, u64 v3)
 {
     ROOM(frame, 3312);
     u32 v5 = 0, v7 = 0, v8 = 0, v9 = 0, v10 = 0, v11 = 0, v12 = 0, v13 = 0, v17 = 0, v18 = 0, v19 = 0, v20 = 0;
@@ -3962,198 +4105,198 @@ APART void f93(u64 v0, u64 v1, u64 v2, u64 v3)
     v4 = A(frame);
     v5 = 0u;
     fill(v4 + 811ull, 0u, 781ull);
-    s2(v4 + 808, 0u);
-    s4(v4 + 804, 0u);
+    s2_2(v4 + 808, 0u);
+    s4_4(v4 + 804, 0u);
     fill(v4 + 28ull, 0u, 776ull);
     fill(v4 + 2880ull, 0u, 432ull);
     fill(v4 + 1592ull, 0u, 784ull);
     if (v3 > 16ull) goto L8;
     v5 = 0u;
-    s4(v4 + 2528, 0u);
-    s8(v4 + 2520, 0ull);
-    s8(v4 + 2512, 0ull);
-    s8(v4 + 2488, 0ull);
-    s8(v4 + 2496, 0ull);
-    s4(v4 + 2504, 0u);
-    s8(v4 + 2464, 0ull);
-    s8(v4 + 2472, 0ull);
-    s4(v4 + 2480, 0u);
-    s8(v4 + 2440, 0ull);
-    s8(v4 + 2448, 0ull);
-    s4(v4 + 2456, 0u);
-    s8(v4 + 2416, 0ull);
-    s8(v4 + 2424, 0ull);
-    s4(v4 + 2432, 0u);
-    s4(v4 + 2408, 0u);
-    s8(v4 + 2400, 0ull);
-    s8(v4 + 2392, 0ull);
-    s8(v4 + 2384, 0ull);
-    s8(v4 + 2376, 0ull);
-    s4(v4 + 2544, 1u);
-    s8(v4 + 2536, 0x1000100010000ull);
-    s8(v4 + 2548, 0ull);
-    s8(v4 + 2556, 0ull);
-    s4(v4 + 2564, 0u);
-    s8(v4 + 2568, 0xFFFFFFFFFFFFFFFFull);
-    s4(v4 + 2592, 1u);
-    s8(v4 + 2576, 0ull);
-    s8(v4 + 2584, 0x1000100010000ull);
-    s8(v4 + 2596, 0ull);
-    s8(v4 + 2604, 0ull);
-    s4(v4 + 2612, 0u);
-    s8(v4 + 2616, 0xFFFFFFFFFFFFFFFFull);
-    s4(v4 + 2640, 1u);
-    s8(v4 + 2624, 0ull);
-    s8(v4 + 2632, 0x1000100010000ull);
-    s4(v4 + 2660, 0u);
-    s8(v4 + 2652, 0ull);
-    s8(v4 + 2644, 0ull);
-    s8(v4 + 2680, 0x1000100010000ull);
-    s8(v4 + 2672, 0ull);
-    s4(v4 + 2688, 1u);
-    s8(v4 + 2664, 0xFFFFFFFFFFFFFFFFull);
-    s8(v4 + 2692, 0ull);
-    s8(v4 + 2700, 0ull);
-    s4(v4 + 2708, 0u);
-    s8(v4 + 2728, 0x1000100010000ull);
-    s8(v4 + 2720, 0ull);
-    s4(v4 + 2736, 1u);
-    s8(v4 + 2712, 0xFFFFFFFFFFFFFFFFull);
-    s8(v4 + 2740, 0ull);
-    s8(v4 + 2748, 0ull);
-    s4(v4 + 2756, 0u);
-    s8(v4 + 2776, 0x1000100010000ull);
-    s8(v4 + 2768, 0ull);
-    s4(v4 + 2784, 1u);
-    s8(v4 + 2760, 0xFFFFFFFFFFFFFFFFull);
-    s4(v4 + 2804, 0u);
-    s8(v4 + 2796, 0ull);
-    s8(v4 + 2788, 0ull);
-    s4(v4 + 2832, 1u);
-    s8(v4 + 2824, 0x1000100010000ull);
-    s8(v4 + 2816, 0ull);
-    s8(v4 + 2808, 0xFFFFFFFFFFFFFFFFull);
-    s4(v4 + 2852, 0u);
-    s8(v4 + 2844, 0ull);
-    s8(v4 + 2836, 0ull);
-    s4(v4 + 2880, 1u);
-    s8(v4 + 2872, 0x1000100010000ull);
-    s8(v4 + 2864, 0ull);
-    s8(v4 + 2856, 0xFFFFFFFFFFFFFFFFull);
-    s4(v4 + 2900, 0u);
-    s8(v4 + 2892, 0ull);
-    s8(v4 + 2884, 0ull);
-    s4(v4 + 2928, 1u);
-    s8(v4 + 2920, 0x1000100010000ull);
-    s8(v4 + 2912, 0ull);
-    s8(v4 + 2904, 0xFFFFFFFFFFFFFFFFull);
-    s4(v4 + 2948, 0u);
-    s8(v4 + 2940, 0ull);
-    s8(v4 + 2932, 0ull);
-    s4(v4 + 2976, 1u);
-    s8(v4 + 2968, 0x1000100010000ull);
-    s8(v4 + 2960, 0ull);
-    s8(v4 + 2952, 0xFFFFFFFFFFFFFFFFull);
-    s4(v4 + 2996, 0u);
-    s8(v4 + 2988, 0ull);
-    s8(v4 + 2980, 0ull);
-    s4(v4 + 3024, 1u);
-    s8(v4 + 3016, 0x1000100010000ull);
-    s8(v4 + 3008, 0ull);
-    s8(v4 + 3000, 0xFFFFFFFFFFFFFFFFull);
-    s4(v4 + 3044, l4(v4 + 2528));
-    s8(v4 + 3036, l8(v4 + 2520));
-    s8(v4 + 3028, l8(v4 + 2512));
-    s4(v4 + 3072, 1u);
-    s8(v4 + 3064, 0x1000100010000ull);
-    s8(v4 + 3056, 0ull);
-    s8(v4 + 3048, 0xFFFFFFFFFFFFFFFFull);
-    s4(v4 + 3092, l4(v4 + 2504));
-    s8(v4 + 3084, l8(v4 + 2496));
-    s8(v4 + 3076, l8(v4 + 2488));
-    s4(v4 + 3120, 1u);
-    s8(v4 + 3112, 0x1000100010000ull);
-    s8(v4 + 3104, 0ull);
-    s8(v4 + 3096, 0xFFFFFFFFFFFFFFFFull);
-    s4(v4 + 3140, l4(v4 + 2480));
-    s8(v4 + 3132, l8(v4 + 2472));
-    s8(v4 + 3124, l8(v4 + 2464));
-    s4(v4 + 3168, 1u);
-    s8(v4 + 3160, 0x1000100010000ull);
-    s8(v4 + 3152, 0ull);
-    s8(v4 + 3144, 0xFFFFFFFFFFFFFFFFull);
-    s4(v4 + 3188, l4(v4 + 2456));
-    s8(v4 + 3180, l8(v4 + 2448));
-    s8(v4 + 3172, l8(v4 + 2440));
-    s4(v4 + 3216, 1u);
-    s8(v4 + 3208, 0x1000100010000ull);
-    s8(v4 + 3200, 0ull);
-    s8(v4 + 3192, 0xFFFFFFFFFFFFFFFFull);
-    s4(v4 + 3236, l4(v4 + 2432));
-    s8(v4 + 3228, l8(v4 + 2424));
-    s8(v4 + 3220, l8(v4 + 2416));
-    s4(v4 + 3264, 1u);
-    s8(v4 + 3256, 0x1000100010000ull);
-    s8(v4 + 3248, 0ull);
-    s8(v4 + 3240, 0xFFFFFFFFFFFFFFFFull);
-    s4(v4 + 3284, l4(v4 + 2408));
-    s8(v4 + 3276, l8(v4 + 2400));
-    s8(v4 + 3268, l8(v4 + 2392));
-    s8(v4 + 3288, 0xFFFFFFFFFFFFFFFFull);
-    s8(v4 + 3304, l8(v4 + 2384));
-    s8(v4 + 3296, l8(v4 + 2376));
+    s4_4(v4 + 2528, 0u);
+    s8_8(v4 + 2520, 0ull);
+    s8_8(v4 + 2512, 0ull);
+    s8_8(v4 + 2488, 0ull);
+    s8_8(v4 + 2496, 0ull);
+    s4_4(v4 + 2504, 0u);
+    s8_8(v4 + 2464, 0ull);
+    s8_8(v4 + 2472, 0ull);
+    s4_4(v4 + 2480, 0u);
+    s8_8(v4 + 2440, 0ull);
+    s8_8(v4 + 2448, 0ull);
+    s4_4(v4 + 2456, 0u);
+    s8_8(v4 + 2416, 0ull);
+    s8_8(v4 + 2424, 0ull);
+    s4_4(v4 + 2432, 0u);
+    s4_4(v4 + 2408, 0u);
+    s8_8(v4 + 2400, 0ull);
+    s8_8(v4 + 2392, 0ull);
+    s8_8(v4 + 2384, 0ull);
+    s8_8(v4 + 2376, 0ull);
+    s4_4(v4 + 2544, 1u);
+    s8_8(v4 + 2536, 0x1000100010000ull);
+    s8_4(v4 + 2548, 0ull);
+    s8_4(v4 + 2556, 0ull);
+    s4_4(v4 + 2564, 0u);
+    s8_8(v4 + 2568, 0xFFFFFFFFFFFFFFFFull);
+    s4_4(v4 + 2592, 1u);
+    s8_8(v4 + 2576, 0ull);
+    s8_8(v4 + 2584, 0x1000100010000ull);
+    s8_4(v4 + 2596, 0ull);
+    s8_4(v4 + 2604, 0ull);
+    s4_4(v4 + 2612, 0u);
+    s8_8(v4 + 2616, 0xFFFFFFFFFFFFFFFFull);
+    s4_4(v4 + 2640, 1u);
+    s8_8(v4 + 2624, 0ull);
+    s8_8(v4 + 2632, 0x1000100010000ull);
+    s4_4(v4 + 2660, 0u);
+    s8_4(v4 + 2652, 0ull);
+    s8_4(v4 + 2644, 0ull);
+    s8_8(v4 + 2680, 0x1000100010000ull);
+    s8_8(v4 + 2672, 0ull);
+    s4_4(v4 + 2688, 1u);
+    s8_8(v4 + 2664, 0xFFFFFFFFFFFFFFFFull);
+    s8_4(v4 + 2692, 0ull);
+    s8_4(v4 + 2700, 0ull);
+    s4_4(v4 + 2708, 0u);
+    s8_8(v4 + 2728, 0x1000100010000ull);
+    s8_8(v4 + 2720, 0ull);
+    s4_4(v4 + 2736, 1u);
+    s8_8(v4 + 2712, 0xFFFFFFFFFFFFFFFFull);
+    s8_4(v4 + 2740, 0ull);
+    s8_4(v4 + 2748, 0ull);
+    s4_4(v4 + 2756, 0u);
+    s8_8(v4 + 2776, 0x1000100010000ull);
+    s8_8(v4 + 2768, 0ull);
+    s4_4(v4 + 2784, 1u);
+    s8_8(v4 + 2760, 0xFFFFFFFFFFFFFFFFull);
+    s4_4(v4 + 2804, 0u);
+    s8_4(v4 + 2796, 0ull);
+    s8_4(v4 + 2788, 0ull);
+    s4_4(v4 + 2832, 1u);
+    s8_8(v4 + 2824, 0x1000100010000ull);
+    s8_8(v4 + 2816, 0ull);
+    s8_8(v4 + 2808, 0xFFFFFFFFFFFFFFFFull);
+    s4_4(v4 + 2852, 0u);
+    s8_4(v4 + 2844, 0ull);
+    s8_4(v4 + 2836, 0ull);
+    s4_4(v4 + 2880, 1u);
+    s8_8(v4 + 2872, 0x1000100010000ull);
+    s8_8(v4 + 2864, 0ull);
+    s8_8(v4 + 2856, 0xFFFFFFFFFFFFFFFFull);
+    s4_4(v4 + 2900, 0u);
+    s8_4(v4 + 2892, 0ull);
+    s8_4(v4 + 2884, 0ull);
+    s4_4(v4 + 2928, 1u);
+    s8_8(v4 + 2920, 0x1000100010000ull);
+    s8_8(v4 + 2912, 0ull);
+    s8_8(v4 + 2904, 0xFFFFFFFFFFFFFFFFull);
+    s4_4(v4 + 2948, 0u);
+    s8_4(v4 + 2940, 0ull);
+    s8_4(v4 + 2932, 0ull);
+    s4_4(v4 + 2976, 1u);
+    s8_8(v4 + 2968, 0x1000100010000ull);
+    s8_8(v4 + 2960, 0ull);
+    s8_8(v4 + 2952, 0xFFFFFFFFFFFFFFFFull);
+    s4_4(v4 + 2996, 0u);
+    s8_4(v4 + 2988, 0ull);
+    s8_4(v4 + 2980, 0ull);
+    s4_4(v4 + 3024, 1u);
+    s8_8(v4 + 3016, 0x1000100010000ull);
+    s8_8(v4 + 3008, 0ull);
+    s8_8(v4 + 3000, 0xFFFFFFFFFFFFFFFFull);
+    s4_4(v4 + 3044, l4_4(v4 + 2528));
+    s8_4(v4 + 3036, l8_8(v4 + 2520));
+    s8_4(v4 + 3028, l8_8(v4 + 2512));
+    s4_4(v4 + 3072, 1u);
+    s8_8(v4 + 3064, 0x1000100010000ull);
+    s8_8(v4 + 3056, 0ull);
+    s8_8(v4 + 3048, 0xFFFFFFFFFFFFFFFFull);
+    s4_4(v4 + 3092, l4_4(v4 + 2504));
+    s8_4(v4 + 3084, l8_8(v4 + 2496));
+    s8_4(v4 + 3076, l8_8(v4 + 2488));
+    s4_4(v4 + 3120, 1u);
+    s8_8(v4 + 3112, 0x1000100010000ull);
+    s8_8(v4 + 3104, 0ull);
+    s8_8(v4 + 3096, 0xFFFFFFFFFFFFFFFFull);
+    s4_4(v4 + 3140, l4_4(v4 + 2480));
+    s8_4(v4 + 3132, l8_8(v4 + 2472));
+    s8_4(v4 + 3124, l8_8(v4 + 2464));
+    s4_4(v4 + 3168, 1u);
+    s8_8(v4 + 3160, 0x1000100010000ull);
+    s8_8(v4 + 3152, 0ull);
+    s8_8(v4 + 3144, 0xFFFFFFFFFFFFFFFFull);
+    s4_4(v4 + 3188, l4_4(v4 + 2456));
+    s8_4(v4 + 3180, l8_8(v4 + 2448));
+    s8_4(v4 + 3172, l8_8(v4 + 2440));
+    s4_4(v4 + 3216, 1u);
+    s8_8(v4 + 3208, 0x1000100010000ull);
+    s8_8(v4 + 3200, 0ull);
+    s8_8(v4 + 3192, 0xFFFFFFFFFFFFFFFFull);
+    s4_4(v4 + 3236, l4_4(v4 + 2432));
+    s8_4(v4 + 3228, l8_8(v4 + 2424));
+    s8_4(v4 + 3220, l8_8(v4 + 2416));
+    s4_4(v4 + 3264, 1u);
+    s8_8(v4 + 3256, 0x1000100010000ull);
+    s8_8(v4 + 3248, 0ull);
+    s8_8(v4 + 3240, 0xFFFFFFFFFFFFFFFFull);
+    s4_4(v4 + 3284, l4_4(v4 + 2408));
+    s8_4(v4 + 3276, l8_8(v4 + 2400));
+    s8_4(v4 + 3268, l8_8(v4 + 2392));
+    s8_8(v4 + 3288, 0xFFFFFFFFFFFFFFFFull);
+    s8_8(v4 + 3304, l8_8(v4 + 2384));
+    s8_8(v4 + 3296, l8_8(v4 + 2376));
     if ((u32)(v3 == 0) == 0) goto L10;
-    v6 = l8(v4 + 3304);
+    v6 = l8_8(v4 + 3304);
     goto L9;
 L10:;
 L11:;
     v7 = 3u;
-    v8 = l2(v2 + 22ull);
+    v8 = l2_2(v2 + 22ull);
     if (v8 == 0) goto L7;
-    v9 = l2(v2 + 24ull);
+    v9 = l2_2(v2 + 24ull);
     if (v9 & 65535u) goto L12;
     v5 = 1u;
     goto L7;
 L12:;
-    v10 = l2(v2 + 26ull);
+    v10 = l2_2(v2 + 26ull);
     if (v10 & 65535u) goto L13;
     v5 = 2u;
     goto L7;
 L13:;
-    v7 = l4(v2 + 8ull);
+    v7 = l4_4(v2 + 8ull);
     if (v7) goto L14;
     v7 = 3u;
     v5 = 3u;
     goto L7;
 L14:;
-    v11 = l4(v2 + 16ull);
-    v12 = l4(v2 + 12ull);
-    v13 = l2(v2 + 20ull);
-    v14 = l8(v2);
+    v11 = l4_4(v2 + 16ull);
+    v12 = l4_4(v2 + 12ull);
+    v13 = l2_2(v2 + 20ull);
+    v14 = l8_8(v2);
     v15 = div64(0xFFFFFFFFFFFFFFFFull, ((((u64)v9) & 65535ull) * ((u64)v8)) * (((u64)v10) & 65535ull));
     v6 = v15 + 1ull;
-    f69(v4, v6, (u64)(u32)(v6 == 0), (u64)(v7 + 0xFFFFFFFFu), 0ull);
-    v16 = l8(v4 + 3304);
+    multi3(v4, v6, (u64)(u32)(v6 == 0), (u64)(v7 + 0xFFFFFFFFu), 0ull);
+    v16 = l8_8(v4 + 3304);
     v6 = (v4 + 2536ull) + (v16 * 48ull);
-    s8(v6 + 16, v14);
-    s2(v6 + 6, v10);
-    s2(v6 + 4, v9);
-    s2(v6 + 2, v8);
-    s2(v6, v13);
-    s8(v6 + 32, v15);
-    s4(v6 + 28, v11);
-    s4(v6 + 24, v12);
-    s4(v6 + 12, 0u);
-    s4(v6 + 8, v7);
-    s4(v6 + 44, 0u);
-    s4(v6 + 40, l4(v4 + 8));
+    s8_8(v6 + 16, v14);
+    s2_2(v6 + 6, v10);
+    s2_2(v6 + 4, v9);
+    s2_2(v6 + 2, v8);
+    s2_2(v6, v13);
+    s8_8(v6 + 32, v15);
+    s4_4(v6 + 28, v11);
+    s4_4(v6 + 24, v12);
+    s4_4(v6 + 12, 0u);
+    s4_4(v6 + 8, v7);
+    s4_4(v6 + 44, 0u);
+    s4_4(v6 + 40, l4_4(v4 + 8));
     v6 = v16 + 1ull;
-    s8(v4 + 3304, v6);
+    s8_8(v4 + 3304, v6);
     v2 = v2 + 32ull;
     v3 = v3 + 0xFFFFFFFFFFFFFFFFull;
     if (v3 != 0ull) goto L11;
 L9:;
-    f92(v4 + 1592ull, v4 + 2536ull, v6);
+    Units_new(v4 + 1592ull, v4 + 2536ull, v6);
     if (l1(v4 + 1592) == 0) goto L6;
     v5 = l1(v4 + 1593);
 L8:;
@@ -4170,19 +4313,19 @@ L6:;
     v10 = 4u;
     v6 = 0ull;
     v9 = 1u;
-    v17 = l4(v1 + 16ull);
+    v17 = l4_4(v1 + 16ull);
     if (v17 >= 2u) goto L15;
     v8 = 0u;
     goto L4;
 L15:;
     v8 = 0u;
     if (v17 > 64u) goto L4;
-    v18 = l4(v1 + 20ull);
+    v18 = l4_4(v1 + 20ull);
     if (v18 == 1u) goto L4;
     if ((64u - v17) < v18) goto L4;
     v8 = 0u;
     v9 = 1u;
-    v19 = l4(v1 + 24ull);
+    v19 = l4_4(v1 + 24ull);
     if ((v19 + 0xFFFFFFFFu) <= 8388607u) goto L16;
     v7 = 0u;
     v11 = 0u;
@@ -4191,7 +4334,7 @@ L15:;
     v5 = 1u;
     goto L2;
 L16:;
-    v20 = l2(v1 + 28ull);
+    v20 = l2_2(v1 + 28ull);
     if (((v20 + 0xFFFFFFFFu) & 65535u) <= 254u) goto L19;
     v5 = 2u;
     v8 = 0u;
@@ -4199,7 +4342,7 @@ L16:;
 L19:;
     v5 = 3u;
     v8 = 0u;
-    v3 = l8(v1 + 8ull);
+    v3 = l8_8(v1 + 8ull);
     if (v3 <= 4294967295ull) goto L17;
 L18:;
     v7 = 0u;
@@ -4215,11 +4358,11 @@ L17:;
     v13 = 0u;
     v3 = (v3 < 4294967296ull) ? v3 : 4294967296ull;
     if (((((u64)((v17 + (v18 - (u32)(v18 != 0u))) + 0xFFFFFFFFu)) * ((u64)v19)) + v3) > 4294967295ull) goto L2;
-    v6 = l8(v1);
+    v6 = l8_8(v1);
     v11 = (u32)v3;
     v9 = 0u;
-    s2(v4 + 808, 0u);
-    s4(v4 + 804, 0u);
+    s2_2(v4 + 808, 0u);
+    s4_4(v4 + 804, 0u);
     copy(v4 + 28ull, v2, 776ull);
     v8 = v17;
     v7 = v18;
@@ -4244,131 +4387,132 @@ L2:;
     s4(v0 + 8ull, v8);
     s1(v0 + 2ull, v5);
     s1(v0 + 1ull, v10);
-    s4(v0 + 26ull, l4(v4 + 804));
-    s2(v0 + 30ull, l2(v4 + 808));
+    s4(v0 + 26ull, l4_4(v4 + 804));
+    s2(v0 + 30ull, l2_2(v4 + 808));
     s8(v0 + 32ull, v6);
     copy(v0 + 40ull, v4 + 28ull, 776ull);
 L1:;
     return;
 }
 
-APART void f94(u64 v0)
+/* arrayvec::array_vec::ArrayVec::new, of the kit */
+APART void ArrayVec_new(u64 v0)
 {
     ROOM(frame, 384);
     u64 v1 = 0;
     v1 = A(frame);
-    s4(v1 + 376, 0u);
-    s8(v1 + 368, 0ull);
-    s8(v1 + 360, 0ull);
-    s8(v1 + 344, 0ull);
-    s8(v1 + 352, 0ull);
-    s4(v1 + 336, 0u);
+    s4_4(v1 + 376, 0u);
+    s8_8(v1 + 368, 0ull);
+    s8_8(v1 + 360, 0ull);
+    s8_8(v1 + 344, 0ull);
+    s8_8(v1 + 352, 0ull);
+    s4_4(v1 + 336, 0u);
     s4(v1 + 339, 0u);
-    s8(v1 + 312, 0ull);
-    s8(v1 + 320, 0ull);
-    s4(v1 + 328, 0u);
-    s8(v1 + 296, 0ull);
-    s8(v1 + 304, 0ull);
-    s4(v1 + 288, 0u);
+    s8_8(v1 + 312, 0ull);
+    s8_8(v1 + 320, 0ull);
+    s4_4(v1 + 328, 0u);
+    s8_8(v1 + 296, 0ull);
+    s8_8(v1 + 304, 0ull);
+    s4_4(v1 + 288, 0u);
     s4(v1 + 291, 0u);
-    s4(v1 + 280, 0u);
-    s8(v1 + 272, 0ull);
-    s8(v1 + 264, 0ull);
-    s8(v1 + 256, 0ull);
-    s8(v1 + 248, 0ull);
-    s4(v1 + 240, 0u);
+    s4_4(v1 + 280, 0u);
+    s8_8(v1 + 272, 0ull);
+    s8_8(v1 + 264, 0ull);
+    s8_8(v1 + 256, 0ull);
+    s8_8(v1 + 248, 0ull);
+    s4_4(v1 + 240, 0u);
     s4(v1 + 243, 0u);
-    s8(v1 + 216, 0ull);
-    s8(v1 + 224, 0ull);
-    s4(v1 + 232, 0u);
-    s8(v1 + 200, 0ull);
-    s8(v1 + 208, 0ull);
-    s4(v1 + 192, 0u);
+    s8_8(v1 + 216, 0ull);
+    s8_8(v1 + 224, 0ull);
+    s4_4(v1 + 232, 0u);
+    s8_8(v1 + 200, 0ull);
+    s8_8(v1 + 208, 0ull);
+    s4_4(v1 + 192, 0u);
     s4(v1 + 195, 0u);
-    s8(v1 + 168, 0ull);
-    s8(v1 + 176, 0ull);
-    s4(v1 + 184, 0u);
-    s8(v1 + 152, 0ull);
-    s8(v1 + 160, 0ull);
+    s8_8(v1 + 168, 0ull);
+    s8_8(v1 + 176, 0ull);
+    s4_4(v1 + 184, 0u);
+    s8_8(v1 + 152, 0ull);
+    s8_8(v1 + 160, 0ull);
     s4(v1 + 147, 0u);
-    s4(v1 + 144, 0u);
-    s4(v1 + 136, 0u);
-    s8(v1 + 128, 0ull);
-    s8(v1 + 120, 0ull);
-    s8(v1 + 112, 0ull);
-    s8(v1 + 104, 0ull);
+    s4_4(v1 + 144, 0u);
+    s4_4(v1 + 136, 0u);
+    s8_8(v1 + 128, 0ull);
+    s8_8(v1 + 120, 0ull);
+    s8_8(v1 + 112, 0ull);
+    s8_8(v1 + 104, 0ull);
     s4(v1 + 99, 0u);
-    s4(v1 + 96, 0u);
-    s4(v1 + 88, 0u);
-    s8(v1 + 80, 0ull);
-    s8(v1 + 72, 0ull);
-    s8(v1 + 64, 0ull);
-    s8(v1 + 56, 0ull);
+    s4_4(v1 + 96, 0u);
+    s4_4(v1 + 88, 0u);
+    s8_8(v1 + 80, 0ull);
+    s8_8(v1 + 72, 0ull);
+    s8_8(v1 + 64, 0ull);
+    s8_8(v1 + 56, 0ull);
     s4(v1 + 51, 0u);
-    s4(v1 + 48, 0u);
-    s4(v1 + 40, 0u);
-    s8(v1 + 32, 0ull);
-    s8(v1 + 24, 0ull);
-    s8(v1 + 16, 0ull);
-    s8(v1 + 8, 0ull);
+    s4_4(v1 + 48, 0u);
+    s4_4(v1 + 40, 0u);
+    s8_8(v1 + 32, 0ull);
+    s8_8(v1 + 24, 0ull);
+    s8_8(v1 + 16, 0ull);
+    s8_8(v1 + 8, 0ull);
     s4(v1 + 3, 0u);
-    s4(v1, 0u);
-    s4(v1 + 376, 0u);
-    s8(v1 + 368, 0ull);
-    s8(v1 + 360, 0ull);
-    s8(v1 + 352, 0ull);
-    s8(v1 + 344, 0ull);
+    s4_4(v1, 0u);
+    s4_4(v1 + 376, 0u);
+    s8_8(v1 + 368, 0ull);
+    s8_8(v1 + 360, 0ull);
+    s8_8(v1 + 352, 0ull);
+    s8_8(v1 + 344, 0ull);
     s4(v1 + 339, 0u);
-    s4(v1 + 336, 0u);
-    s4(v1 + 328, 0u);
-    s8(v1 + 320, 0ull);
-    s8(v1 + 312, 0ull);
-    s8(v1 + 304, 0ull);
-    s8(v1 + 296, 0ull);
+    s4_4(v1 + 336, 0u);
+    s4_4(v1 + 328, 0u);
+    s8_8(v1 + 320, 0ull);
+    s8_8(v1 + 312, 0ull);
+    s8_8(v1 + 304, 0ull);
+    s8_8(v1 + 296, 0ull);
     s4(v1 + 291, 0u);
-    s4(v1 + 288, 0u);
-    s4(v1 + 280, 0u);
-    s8(v1 + 272, 0ull);
-    s8(v1 + 264, 0ull);
-    s8(v1 + 256, 0ull);
-    s8(v1 + 248, 0ull);
+    s4_4(v1 + 288, 0u);
+    s4_4(v1 + 280, 0u);
+    s8_8(v1 + 272, 0ull);
+    s8_8(v1 + 264, 0ull);
+    s8_8(v1 + 256, 0ull);
+    s8_8(v1 + 248, 0ull);
     s4(v1 + 243, 0u);
-    s4(v1 + 240, 0u);
-    s4(v1 + 232, 0u);
-    s8(v1 + 224, 0ull);
-    s8(v1 + 216, 0ull);
-    s8(v1 + 208, 0ull);
-    s8(v1 + 200, 0ull);
+    s4_4(v1 + 240, 0u);
+    s4_4(v1 + 232, 0u);
+    s8_8(v1 + 224, 0ull);
+    s8_8(v1 + 216, 0ull);
+    s8_8(v1 + 208, 0ull);
+    s8_8(v1 + 200, 0ull);
     s4(v1 + 195, 0u);
-    s4(v1 + 192, 0u);
-    s4(v1 + 184, 0u);
-    s8(v1 + 176, 0ull);
-    s8(v1 + 168, 0ull);
-    s8(v1 + 160, 0ull);
-    s8(v1 + 152, 0ull);
+    s4_4(v1 + 192, 0u);
+    s4_4(v1 + 184, 0u);
+    s8_8(v1 + 176, 0ull);
+    s8_8(v1 + 168, 0ull);
+    s8_8(v1 + 160, 0ull);
+    s8_8(v1 + 152, 0ull);
     s4(v1 + 147, 0u);
-    s4(v1 + 144, 0u);
-    s4(v1 + 136, 0u);
-    s8(v1 + 128, 0ull);
-    s8(v1 + 120, 0ull);
-    s8(v1 + 112, 0ull);
-    s8(v1 + 104, 0ull);
+    s4_4(v1 + 144, 0u);
+    s4_4(v1 + 136, 0u);
+    s8_8(v1 + 128, 0ull);
+    s8_8(v1 + 120, 0ull);
+    s8_8(v1 + 112, 0ull);
+    s8_8(v1 + 104, 0ull);
     s4(v1 + 99, 0u);
-    s4(v1 + 96, 0u);
-    s4(v1 + 88, 0u);
-    s8(v1 + 80, 0ull);
-    s8(v1 + 72, 0ull);
-    s8(v1 + 64, 0ull);
-    s8(v1 + 56, 0ull);
+    s4_4(v1 + 96, 0u);
+    s4_4(v1 + 88, 0u);
+    s8_8(v1 + 80, 0ull);
+    s8_8(v1 + 72, 0ull);
+    s8_8(v1 + 64, 0ull);
+    s8_8(v1 + 56, 0ull);
     s4(v1 + 51, 0u);
-    s4(v1 + 48, 0u);
-    s4(v1 + 40, 0u);
-    s8(v1 + 32, 0ull);
-    s8(v1 + 24, 0ull);
-    s8(v1 + 16, 0ull);
-    s8(v1 + 8, 0ull);
+    s4_4(v1 + 48, 0u);
+    s4_4(v1 + 40, 0u);
+    s8_8(v1 + 32, 0ull);
+    s8_8(v1 + 24, 0ull);
+    s8_8(v1 + 16, 0ull);
+    s8_8(v1 + 8, 0ull);
     s4(v1 + 3, 0u);
-    s4(v1, 0u);
+    s4_4(v1, 0u);
     s4(v0 + 8, 1u);
     s8(v0, 0x1000100010000ull);
     s4(v0 + 28, 0u);
@@ -4467,98 +4611,99 @@ APART void f94(u64 v0)
     s4(v0 + 520, 1u);
     s2(v0 + 518, 1u);
     s4(v0 + 514, 65537u);
-    s4(v0 + 540, l4(v1 + 376));
-    s8(v0 + 532, l8(v1 + 368));
-    s8(v0 + 524, l8(v1 + 360));
+    s4(v0 + 540, l4_4(v1 + 376));
+    s8(v0 + 532, l8_8(v1 + 368));
+    s8(v0 + 524, l8_8(v1 + 360));
     s8(v0 + 544, 0xFFFFFFFFFFFFFFFFull);
-    s8(v0 + 560, l8(v1 + 352));
-    s8(v0 + 552, l8(v1 + 344));
+    s8(v0 + 560, l8_8(v1 + 352));
+    s8(v0 + 552, l8_8(v1 + 344));
     s1(v0 + 568, 1u);
     s4(v0 + 572, l4(v1 + 339));
-    s4(v0 + 569, l4(v1 + 336));
+    s4(v0 + 569, l4_4(v1 + 336));
     s4(v0 + 584, 1u);
     s8(v0 + 576, 0x1000100010000ull);
-    s4(v0 + 604, l4(v1 + 328));
-    s8(v0 + 596, l8(v1 + 320));
-    s8(v0 + 588, l8(v1 + 312));
+    s4(v0 + 604, l4_4(v1 + 328));
+    s8(v0 + 596, l8_8(v1 + 320));
+    s8(v0 + 588, l8_8(v1 + 312));
     s8(v0 + 608, 0xFFFFFFFFFFFFFFFFull);
-    s8(v0 + 624, l8(v1 + 304));
-    s8(v0 + 616, l8(v1 + 296));
+    s8(v0 + 624, l8_8(v1 + 304));
+    s8(v0 + 616, l8_8(v1 + 296));
     s1(v0 + 632, 1u);
     s4(v0 + 636, l4(v1 + 291));
-    s4(v0 + 633, l4(v1 + 288));
+    s4(v0 + 633, l4_4(v1 + 288));
     s4(v0 + 648, 1u);
     s8(v0 + 640, 0x1000100010000ull);
-    s4(v0 + 668, l4(v1 + 280));
-    s8(v0 + 660, l8(v1 + 272));
-    s8(v0 + 652, l8(v1 + 264));
+    s4(v0 + 668, l4_4(v1 + 280));
+    s8(v0 + 660, l8_8(v1 + 272));
+    s8(v0 + 652, l8_8(v1 + 264));
     s8(v0 + 672, 0xFFFFFFFFFFFFFFFFull);
-    s8(v0 + 688, l8(v1 + 256));
-    s8(v0 + 680, l8(v1 + 248));
+    s8(v0 + 688, l8_8(v1 + 256));
+    s8(v0 + 680, l8_8(v1 + 248));
     s1(v0 + 696, 1u);
     s4(v0 + 700, l4(v1 + 243));
-    s4(v0 + 697, l4(v1 + 240));
+    s4(v0 + 697, l4_4(v1 + 240));
     s4(v0 + 712, 1u);
     s8(v0 + 704, 0x1000100010000ull);
-    s4(v0 + 732, l4(v1 + 232));
-    s8(v0 + 724, l8(v1 + 224));
-    s8(v0 + 716, l8(v1 + 216));
+    s4(v0 + 732, l4_4(v1 + 232));
+    s8(v0 + 724, l8_8(v1 + 224));
+    s8(v0 + 716, l8_8(v1 + 216));
     s8(v0 + 736, 0xFFFFFFFFFFFFFFFFull);
-    s8(v0 + 752, l8(v1 + 208));
-    s8(v0 + 744, l8(v1 + 200));
+    s8(v0 + 752, l8_8(v1 + 208));
+    s8(v0 + 744, l8_8(v1 + 200));
     s1(v0 + 760, 1u);
     s4(v0 + 764, l4(v1 + 195));
-    s4(v0 + 761, l4(v1 + 192));
+    s4(v0 + 761, l4_4(v1 + 192));
     s4(v0 + 776, 1u);
     s8(v0 + 768, 0x1000100010000ull);
-    s4(v0 + 796, l4(v1 + 184));
-    s8(v0 + 788, l8(v1 + 176));
-    s8(v0 + 780, l8(v1 + 168));
+    s4(v0 + 796, l4_4(v1 + 184));
+    s8(v0 + 788, l8_8(v1 + 176));
+    s8(v0 + 780, l8_8(v1 + 168));
     s8(v0 + 800, 0xFFFFFFFFFFFFFFFFull);
-    s8(v0 + 816, l8(v1 + 160));
-    s8(v0 + 808, l8(v1 + 152));
+    s8(v0 + 816, l8_8(v1 + 160));
+    s8(v0 + 808, l8_8(v1 + 152));
     s1(v0 + 824, 1u);
     s4(v0 + 828, l4(v1 + 147));
-    s4(v0 + 825, l4(v1 + 144));
+    s4(v0 + 825, l4_4(v1 + 144));
     s4(v0 + 840, 1u);
     s8(v0 + 832, 0x1000100010000ull);
-    s4(v0 + 860, l4(v1 + 136));
-    s8(v0 + 852, l8(v1 + 128));
-    s8(v0 + 844, l8(v1 + 120));
+    s4(v0 + 860, l4_4(v1 + 136));
+    s8(v0 + 852, l8_8(v1 + 128));
+    s8(v0 + 844, l8_8(v1 + 120));
     s8(v0 + 864, 0xFFFFFFFFFFFFFFFFull);
-    s8(v0 + 880, l8(v1 + 112));
-    s8(v0 + 872, l8(v1 + 104));
+    s8(v0 + 880, l8_8(v1 + 112));
+    s8(v0 + 872, l8_8(v1 + 104));
     s1(v0 + 888, 1u);
     s4(v0 + 892, l4(v1 + 99));
-    s4(v0 + 889, l4(v1 + 96));
+    s4(v0 + 889, l4_4(v1 + 96));
     s4(v0 + 904, 1u);
     s8(v0 + 896, 0x1000100010000ull);
-    s4(v0 + 924, l4(v1 + 88));
-    s8(v0 + 916, l8(v1 + 80));
-    s8(v0 + 908, l8(v1 + 72));
+    s4(v0 + 924, l4_4(v1 + 88));
+    s8(v0 + 916, l8_8(v1 + 80));
+    s8(v0 + 908, l8_8(v1 + 72));
     s8(v0 + 928, 0xFFFFFFFFFFFFFFFFull);
-    s8(v0 + 944, l8(v1 + 64));
-    s8(v0 + 936, l8(v1 + 56));
+    s8(v0 + 944, l8_8(v1 + 64));
+    s8(v0 + 936, l8_8(v1 + 56));
     s1(v0 + 952, 1u);
     s4(v0 + 956, l4(v1 + 51));
-    s4(v0 + 953, l4(v1 + 48));
+    s4(v0 + 953, l4_4(v1 + 48));
     s4(v0 + 968, 1u);
     s8(v0 + 960, 0x1000100010000ull);
-    s4(v0 + 988, l4(v1 + 40));
-    s8(v0 + 980, l8(v1 + 32));
-    s8(v0 + 972, l8(v1 + 24));
+    s4(v0 + 988, l4_4(v1 + 40));
+    s8(v0 + 980, l8_8(v1 + 32));
+    s8(v0 + 972, l8_8(v1 + 24));
     s8(v0 + 992, 0xFFFFFFFFFFFFFFFFull);
-    s8(v0 + 1008, l8(v1 + 16));
-    s8(v0 + 1000, l8(v1 + 8));
+    s8(v0 + 1008, l8_8(v1 + 16));
+    s8(v0 + 1000, l8_8(v1 + 8));
     s1(v0 + 1016, 1u);
     s4(v0 + 1020, l4(v1 + 3));
-    s4(v0 + 1017, l4(v1));
+    s4(v0 + 1017, l4_4(v1));
     s8(v0 + 1024, 0ull);
     return;
     TRAP();
 }
 
-APART u32 f95(u64 v0, u64 v1, u64 v2, u64 v3, u32 v4)
+/* mscp_c::mscp_init_at, crates/mscp_c/src/making.rt:84 */
+APART u32 export_mscp_init_at(u64 v0, u64 v1, u64 v2, u64 v3, u32 v4)
 {
     ROOM(frame, 18112);
     u32 v7 = 0, v8 = 0, v9 = 0, v10 = 0;
@@ -4567,10 +4712,10 @@ APART u32 f95(u64 v0, u64 v1, u64 v2, u64 v3, u32 v4)
     v6 = v5;
     v7 = 0u;
     fill(v6 + 2112ull, 0u, 816ull);
-    v5 = l8(v0 + 24ull);
+    v5 = l8_8(v0 + 24ull);
     if (v5 == 0x4D5343504D414445ull) goto L2;
     if (v5 != 0x4D534350524F4F4Dull) goto L6;
-    v5 = l8(v0 + 8ull);
+    v5 = l8_8(v0 + 8ull);
     if ((u32)(v5 == 0) == 0) goto L7;
     v7 = 2u;
     goto L2;
@@ -4579,7 +4724,7 @@ L7:;
     v7 = 3u;
     goto L2;
 L8:;
-    if (l8(v0 + 16ull) >= 14224ull) goto L9;
+    if (l8_8(v0 + 16ull) >= 14224ull) goto L9;
     v7 = 4u;
     goto L2;
 L9:;
@@ -4592,27 +4737,27 @@ L9:;
 L11:;
     v7 = 1u;
 L10:;
-    f93(v6 + 2112ull, v1, v2 + ((v2 == 0) ? 4096ull : 0ull), v3);
+    making_config_of(v6 + 2112ull, v1, v2 + ((v2 == 0) ? 4096ull : 0ull), v3);
     if (l1(v6 + 2112)) goto L3;
     copy(v6 + 5008ull, (v6 + 2112ull) + 8ull, 808ull);
     fill(v6 + 3713ull, 0u, 1295ull);
     fill(v6 + 2928ull, 0u, 784ull);
-    f92(v6 + 2928ull, v6 + 5040ull, l8(v6 + 5808));
+    Units_new(v6 + 2928ull, v6 + 5040ull, l8_8(v6 + 5808));
     if (l1(v6 + 2928)) goto L4;
-    v8 = l4(v6 + 5020);
-    v9 = l4(v6 + 5016);
-    v4 = l4(v6 + 5012);
-    v10 = l4(v6 + 5008);
+    v8 = l4_4(v6 + 5020);
+    v9 = l4_4(v6 + 5016);
+    v4 = l4_4(v6 + 5012);
+    v10 = l4_4(v6 + 5008);
     copy(v6 + 7104ull, (v6 + 2928ull) + 8ull, 776ull);
     fill(v6 + 7881ull, 0u, 1295ull);
     fill(v6 + 5816ull, 0u, 1288ull);
-    v5 = l8(v6 + 7872);
+    v5 = l8_8(v6 + 7872);
     fill(v6 + 9176ull, 0u, 1032ull);
     v10 = v10 - (u32)(v10 != 0u);
     v4 = v4 - (u32)(v4 != 0u);
-    f94(v6 + 9176ull);
+    ArrayVec_new(v6 + 9176ull);
     if (v5 == 0) goto L12;
-    v11 = l8(v6 + 10200);
+    v11 = l8_8(v6 + 10200);
     if (v5 != 1ull) goto L14;
     v3 = 0ull;
     goto L13;
@@ -4623,29 +4768,29 @@ L14:;
     v2 = v6 + 7104ull;
     v3 = 0ull;
 L15:;
-    s8(v5 + 40, l8(v2 + 40));
-    s8(v5 + 32, l8(v2 + 32));
-    s8(v5 + 24, l8(v2 + 24));
-    s8(v5 + 16, l8(v2 + 16));
-    s8(v5 + 8, l8(v2 + 8));
-    s8(v5, l8(v2));
+    s8_8(v5 + 40, l8_8(v2 + 40));
+    s8_8(v5 + 32, l8_8(v2 + 32));
+    s8_8(v5 + 24, l8_8(v2 + 24));
+    s8_8(v5 + 16, l8_8(v2 + 16));
+    s8_8(v5 + 8, l8_8(v2 + 8));
+    s8_8(v5, l8_8(v2));
     s4(v5 + 57ull, 0u);
     s1(v5 + 56ull, 1u);
-    s8(v5 + 48ull, 0ull);
+    s8_8(v5 + 48ull, 0ull);
     s4(v5 + 60ull, 0u);
     v1 = v11 + v3;
-    s8(v6 + 10200, v1 + 1ull);
+    s8_8(v6 + 10200, v1 + 1ull);
     s4(v5 + 121ull, 0u);
     s1(v5 + 120ull, 1u);
-    s8(v5 + 112ull, 0ull);
+    s8_8(v5 + 112ull, 0ull);
     s4(v5 + 124ull, 0u);
-    s8(v5 + 104ull, l8(v2 + 88ull));
-    s8(v5 + 96ull, l8(v2 + 80ull));
-    s8(v5 + 88ull, l8(v2 + 72ull));
-    s8(v5 + 80ull, l8(v2 + 64ull));
-    s8(v5 + 72ull, l8(v2 + 56ull));
-    s8(v5 + 64ull, l8(v2 + 48ull));
-    s8(v6 + 10200, v1 + 2ull);
+    s8_8(v5 + 104ull, l8_8(v2 + 88ull));
+    s8_8(v5 + 96ull, l8_8(v2 + 80ull));
+    s8_8(v5 + 88ull, l8_8(v2 + 72ull));
+    s8_8(v5 + 80ull, l8_8(v2 + 64ull));
+    s8_8(v5 + 72ull, l8_8(v2 + 56ull));
+    s8_8(v5 + 64ull, l8_8(v2 + 48ull));
+    s8_8(v6 + 10200, v1 + 2ull);
     v2 = v2 + 96ull;
     v5 = v5 + 128ull;
     v3 = v3 + 2ull;
@@ -4655,17 +4800,17 @@ L15:;
 L13:;
     v5 = (v6 + 9176ull) + (v11 << 6);
     v2 = (v6 + 7104ull) + (v3 * 48ull);
-    s8(v5 + 40, l8(v2 + 40));
-    s8(v5 + 32, l8(v2 + 32));
-    s8(v5 + 24, l8(v2 + 24));
-    s8(v5 + 16, l8(v2 + 16));
-    s8(v5 + 8, l8(v2 + 8));
-    s8(v5, l8(v2));
+    s8_8(v5 + 40, l8_8(v2 + 40));
+    s8_8(v5 + 32, l8_8(v2 + 32));
+    s8_8(v5 + 24, l8_8(v2 + 24));
+    s8_8(v5 + 16, l8_8(v2 + 16));
+    s8_8(v5 + 8, l8_8(v2 + 8));
+    s8_8(v5, l8_8(v2));
     s4(v5 + 57, 0u);
     s1(v5 + 56, 1u);
-    s8(v5 + 48, 0ull);
+    s8_8(v5 + 48, 0ull);
     s4(v5 + 60, 0u);
-    s8(v6 + 10200, v11 + 1ull);
+    s8_8(v6 + 10200, v11 + 1ull);
 L12:;
     v4 = v4 + v10;
     fill(v6 + 10208ull, 0u, 2048ull);
@@ -4674,21 +4819,21 @@ L16:;
     v5 = (v6 + 10208ull) + v2;
     s8(v5 + 2057ull, 0ull);
     s1(v5 + 2056ull, 5u);
-    s8(v5 + 2048ull, 0ull);
+    s8_4(v5 + 2048ull, 0ull);
     s8(v5 + 2065ull, 0ull);
     s8(v5 + 2072ull, 0ull);
     s8(v5 + 2089ull, 0ull);
     s1(v5 + 2088ull, 5u);
-    s8(v5 + 2080ull, 0ull);
+    s8_4(v5 + 2080ull, 0ull);
     s8(v5 + 2097ull, 0ull);
     s8(v5 + 2104ull, 0ull);
     s8(v5 + 2121ull, 0ull);
     s1(v5 + 2120ull, 5u);
-    s8(v5 + 2112ull, 0ull);
+    s8_4(v5 + 2112ull, 0ull);
     s8(v5 + 2129ull, 0ull);
     s8(v5 + 2136ull, 0ull);
     s1(v5 + 2152ull, 5u);
-    s8(v5 + 2144ull, 0ull);
+    s8_4(v5 + 2144ull, 0ull);
     s8(v5 + 2168ull, 0ull);
     s8(v5 + 2161ull, 0ull);
     s8(v5 + 2153ull, 0ull);
@@ -4700,10 +4845,10 @@ L16:;
     v2 = 0xFFFFFFFFFFFFFC00ull;
 L17:;
     v5 = (v6 + 16064ull) + v2;
-    s8(v5 + 1048ull, 0ull);
-    s8(v5 + 1040ull, 0x300000000000000ull);
-    s8(v5 + 1032ull, 0ull);
-    s8(v5 + 1024ull, 0x300000000000000ull);
+    s8_8(v5 + 1048ull, 0ull);
+    s8_8(v5 + 1040ull, 0x300000000000000ull);
+    s8_8(v5 + 1032ull, 0ull);
+    s8_8(v5 + 1024ull, 0x300000000000000ull);
     v2 = v2 + 32ull;
     if (v2 != 0ull) goto L17;
     copy(v6 + 10208ull, v6 + 16064ull, 1024ull);
@@ -4713,17 +4858,17 @@ L17:;
     v2 = 0xFFFFFFFFFFFFFC00ull;
 L18:;
     v5 = (v6 + 17088ull) + v2;
-    s8(v5 + 1048ull, 0ull);
-    s8(v5 + 1040ull, 0x300000000000000ull);
-    s8(v5 + 1032ull, 0ull);
-    s8(v5 + 1024ull, 0x300000000000000ull);
+    s8_8(v5 + 1048ull, 0ull);
+    s8_8(v5 + 1040ull, 0x300000000000000ull);
+    s8_8(v5 + 1032ull, 0ull);
+    s8_8(v5 + 1024ull, 0x300000000000000ull);
     v2 = v2 + 32ull;
     if (v2 != 0ull) goto L18;
     copy(v6 + 7888ull, v6 + 5816ull, 1288ull);
     copy(v6 + 3713ull, v6 + 7881ull, 1295ull);
     copy(v6 + 1304ull, v6 + 5008ull, 808ull);
     copy(v6 + 9ull, v6 + 3713ull, 1295ull);
-    v5 = l8(v0);
+    v5 = l8_8(v0);
     copy(v5, v6 + 1304ull, 808ull);
     s4(v5 + 812, v8);
     s4(v5 + 808, v4);
@@ -4742,7 +4887,7 @@ L18:;
     s8(v5 + 7008, 0ull);
     copy(v5 + 7016ull, v6 + 17088ull, 1024ull);
     fill(v5 + 8040ull, 0u, 6184ull);
-    s8(v0 + 24ull, 0x4D5343504D414445ull);
+    s8_8(v0 + 24ull, 0x4D5343504D414445ull);
     v4 = 1u;
     goto L1;
 L6:;
@@ -4781,26 +4926,27 @@ L1:;
 static u32 w_mscp_init_at(u64 v0, u64 v1, u64 v2, u64 v3, u32 v4)
 {
     u32 t0, t1;
-    t0 = f58();
+    t0 = rattle_enter();
     if (t0 == 0) goto L1;
-    f59();
+    rattle_trap();
     TRAP();
 L1:;
-    t1 = f95(v0, v1, v2, v3, v4);
+    t1 = export_mscp_init_at(v0, v1, v2, v3, v4);
     v4 = t1;
-    f61();
+    rattle_leave();
     return v4;
 }
 
-static u32 f96(u64 v0, u32 v1)
+/* mscp_c::mscp_is_online, crates/mscp_c/src/seeing.rt:144 */
+static u32 export_mscp_is_online(u64 v0, u32 v1)
 {
     u64 v2 = 0, v3 = 0, v4 = 0;
-    if (l8(v0 + 24ull) == 0x4D5343504D414445ull) goto L2;
+    if (l8_8(v0 + 24ull) == 0x4D5343504D414445ull) goto L2;
     return 0xFFFFFFF6u;
 L2:;
-    v2 = l8(v0);
+    v2 = l8_8(v0);
     v0 = v2 + 4632ull;
-    v2 = l8(v2 + 5672ull) + 1ull;
+    v2 = l8_8(v2 + 5672ull) + 1ull;
 L3:;
     v2 = v2 + 0xFFFFFFFFFFFFFFFFull;
     if ((u32)(v2 == 0) == 0) goto L4;
@@ -4809,7 +4955,7 @@ L4:;
     v3 = v0 + 16ull;
     v4 = v0 + 64ull;
     v0 = v4;
-    if (l2(v3) != (v1 & 65535u)) goto L3;
+    if (l2_2(v3) != (v1 & 65535u)) goto L3;
     return l1(v4) & 1u;
     TRAP();
 }
@@ -4817,43 +4963,44 @@ L4:;
 static u32 w_mscp_is_online(u64 v0, u32 v1)
 {
     u32 t0, t1;
-    t0 = f58();
+    t0 = rattle_enter();
     if (t0 == 0) goto L1;
-    f59();
+    rattle_trap();
     TRAP();
 L1:;
-    t1 = f96(v0, v1);
+    t1 = export_mscp_is_online(v0, v1);
     v1 = t1;
-    f61();
+    rattle_leave();
     return v1;
 }
 
-APART void f97(u64 v0, u64 v1)
+/* mscp_queue::backlog::Backlog::look, crates/mscp_queue/src/backlog.rt:214 */
+APART void Backlog_look(u64 v0, u64 v1)
 {
     ROOM(frame, 784);
     u64 v2 = 0, v3 = 0, v4 = 0, v5 = 0, v6 = 0, v7 = 0, v8 = 0, v9 = 0, v10 = 0;
     v2 = A(frame);
     v3 = v2;
     fill(v3 + 8ull, 0u, 776ull);
-    v4 = l8(v1 + 3136ull);
+    v4 = l8_8(v1 + 3136ull);
     if (v4 == 0) goto L2;
-    v2 = l8(v3 + 776);
+    v2 = l8_8(v3 + 776);
     v5 = v2 + 1ull;
     v6 = v1 + 2560ull;
     v7 = v1 + 3072ull;
     v2 = (v3 + 8ull) + (v2 * 12ull);
-    v8 = l8(v1 + 3816ull);
+    v8 = l8_8(v1 + 3816ull);
 L3:;
     s2(v2 + 1ull, 0u);
     s1(v2 + 3ull, 0u);
     v9 = (u64)l1(v7);
     v10 = v1 + (v9 << 5);
-    s4(v2 + 4ull, l4(v10));
+    s4_4(v2 + 4ull, l4_4(v10));
     s1(v2, l1(v10 + 6ull));
-    s4(v2 + 8ull, (u32)((l8(v6 + (v9 << 3))) - v8));
+    s4_4(v2 + 8ull, (u32)((l8_8(v6 + (v9 << 3))) - v8));
     v7 = v7 + 1ull;
     v2 = v2 + 12ull;
-    s8(v3 + 776, v5);
+    s8_8(v3 + 776, v5);
     v5 = v5 + 1ull;
     v4 = v4 + 0xFFFFFFFFFFFFFFFFull;
     if (v4 != 0ull) goto L3;
@@ -4863,7 +5010,8 @@ L2:;
     TRAP();
 }
 
-APART u32 f98(u64 v0, u64 v1, u64 v2)
+/* mscp_c::mscp_look_at, crates/mscp_c/src/seeing.rt:17 */
+APART u32 export_mscp_look_at(u64 v0, u64 v1, u64 v2)
 {
     ROOM(frame, 784);
     u32 v5 = 0;
@@ -4871,11 +5019,11 @@ APART u32 f98(u64 v0, u64 v1, u64 v2)
     v3 = A(frame);
     v4 = v3;
     v5 = 0xFFFFFFF6u;
-    if (l8(v0 + 24ull) != 0x4D5343504D414445ull) goto L2;
-    v0 = l8(v0);
+    if (l8_8(v0 + 24ull) != 0x4D5343504D414445ull) goto L2;
+    v0 = l8_8(v0);
     fill(v4 + 8ull, 0u, 776ull);
-    f97(v4 + 8ull, v0 + 816ull);
-    v6 = l8(v4 + 776);
+    Backlog_look(v4 + 8ull, v0 + 816ull);
+    v6 = l8_8(v4 + 776);
     v0 = (v2 < v6) ? v2 : v6;
     if (v0 == 0) goto L3;
     v7 = v1 + ((v1 == 0) ? 4096ull : 0ull);
@@ -4893,9 +5041,9 @@ L5:;
     s1(v0 + 11ull, 0u);
     s2(v0 + 21ull, 0u);
     s1(v0 + 23ull, 0u);
-    s8(v0, l8(v2 + 4ull));
+    s8(v0, l8_4(v2 + 4ull));
     s1(v0 + 20ull, l1(v2 + 12ull));
-    s8(v0 + 12ull, l8(v2 + 16ull));
+    s8(v0 + 12ull, l8_8(v2 + 16ull));
     v3 = v3 + 24ull;
     v1 = v1 + 2ull;
     if (v9 != v1) goto L5;
@@ -4907,7 +5055,7 @@ L4:;
     s1(v0 + 11, 0u);
     v3 = (v4 + 8ull) + v3;
     s1(v0 + 8, l1(v3));
-    s8(v0, l8(v3 + 4ull));
+    s8(v0, l8_4(v3 + 4ull));
 L3:;
     v5 = (u32)v6;
 L2:;
@@ -4918,18 +5066,19 @@ L2:;
 static u32 w_mscp_look_at(u64 v0, u64 v1, u64 v2)
 {
     u32 v3 = 0, t0, t1;
-    t0 = f58();
+    t0 = rattle_enter();
     if (t0 == 0) goto L1;
-    f59();
+    rattle_trap();
     TRAP();
 L1:;
-    t1 = f98(v0, v1, v2);
+    t1 = export_mscp_look_at(v0, v1, v2);
     v3 = t1;
-    f61();
+    rattle_leave();
     return v3;
 }
 
-static void f99(void)
+/* mscp_c::mscp_port_align, crates/mscp_c/src/port_making.rt:25 */
+static void export_mscp_port_align(void)
 {
     goto L1;
 L1:;
@@ -4939,41 +5088,42 @@ L1:;
 static u64 w_mscp_port_align(void)
 {
     u32 t0;
-    t0 = f58();
+    t0 = rattle_enter();
     if (t0 == 0) goto L1;
-    f59();
+    rattle_trap();
     TRAP();
 L1:;
-    f99();
-    f61();
+    export_mscp_port_align();
+    rattle_leave();
     return 8ull;
 }
 
-static u32 f100(u64 v0, u64 v1)
+/* mscp_c::mscp_port_begun, crates/mscp_c/src/port_seeing.rt:72 */
+static u32 export_mscp_port_begun(u64 v0, u64 v1)
 {
     u32 v4 = 0, v5 = 0, v7 = 0, v8 = 0, v9 = 0, v10 = 0, v11 = 0, v12 = 0, v13 = 0, v14 = 0;
     u64 v2 = 0, v3 = 0, v6 = 0;
-    if (l8(v0 + 24ull) == 0x504F52544D414445ull) goto L4;
+    if (l8_8(v0 + 24ull) == 0x504F52544D414445ull) goto L4;
     return 0xFFFFFFF6u;
 L4:;
-    v0 = l8(v0);
+    v0 = l8_8(v0);
     if (l1(v0 + 5688ull) == 1u) goto L5;
     return 0u;
 L5:;
     v2 = (u64)l1((v0 + l8(v0 + 5696ull)) + 3896ull);
     v3 = v0 + (v2 << 5);
     v4 = l1(v3 + 833ull);
-    v5 = l2(v3 + 828ull);
+    v5 = l2_2(v3 + 828ull);
     v6 = v3 + 824ull;
-    v7 = l4(v6);
+    v7 = l4_4(v6);
     v8 = l1(v3 + 830ull);
     v9 = l1(v3 + 832ull);
     if (v9 != 7u) goto L11;
-    v10 = l4(v3 + 836ull);
-    v11 = l4(v6 + 24ull);
+    v10 = l4_4(v3 + 836ull);
+    v11 = l4_4(v6 + 24ull);
     v12 = l1((v0 + (((l8((v0 + (v2 << 3)) + 2872ull)) << 6) & 16320ull)) + 4704ull);
     v9 = v12 ? (v11 + l4(v6 + 16ull)) : 0u;
-    v13 = l4(v6 + 20ull);
+    v13 = l4_4(v6 + 20ull);
     v14 = 16u;
     switch (v4) {
     case 1: goto L10;
@@ -4983,8 +5133,8 @@ L5:;
     default: goto L1;
     }
 L11:;
-    v13 = l4(v6 + 20ull);
-    v11 = l4(v6 + 24ull);
+    v13 = l4_4(v6 + 20ull);
+    v11 = l4_4(v6 + 24ull);
     v14 = 1u;
     v12 = 0u;
     v10 = v9;
@@ -5059,18 +5209,19 @@ L1:;
 static u32 w_mscp_port_begun(u64 v0, u64 v1)
 {
     u32 v2 = 0, t0, t1;
-    t0 = f58();
+    t0 = rattle_enter();
     if (t0 == 0) goto L1;
-    f59();
+    rattle_trap();
     TRAP();
 L1:;
-    t1 = f100(v0, v1);
+    t1 = export_mscp_port_begun(v0, v1);
     v2 = t1;
-    f61();
+    rattle_leave();
     return v2;
 }
 
-APART u32 f101(u64 v0, u64 v1, u64 v2, u64 v3, u32 v4, u64 v5, u32 v6)
+/* mscp_c::mscp_port_init_at, crates/mscp_c/src/port_making.rt:73 */
+APART u32 export_mscp_port_init_at(u64 v0, u64 v1, u64 v2, u64 v3, u32 v4, u64 v5, u32 v6)
 {
     ROOM(frame, 19408);
     u32 v8 = 0, v10 = 0, v11 = 0, v12 = 0, v13 = 0, v14 = 0, v15 = 0;
@@ -5078,10 +5229,10 @@ APART u32 f101(u64 v0, u64 v1, u64 v2, u64 v3, u32 v4, u64 v5, u32 v6)
     v7 = A(frame);
     v8 = 0u;
     fill(v7 + 3408ull, 0u, 816ull);
-    v9 = l8(v0 + 24ull);
+    v9 = l8_8(v0 + 24ull);
     if (v9 == 0x504F52544D414445ull) goto L2;
     if (v9 != 0x504F5254524F4F4Dull) goto L7;
-    v9 = l8(v0 + 8ull);
+    v9 = l8_8(v0 + 8ull);
     if ((u32)(v9 == 0) == 0) goto L8;
     v8 = 2u;
     goto L2;
@@ -5090,7 +5241,7 @@ L8:;
     v8 = 3u;
     goto L2;
 L9:;
-    if (l8(v0 + 16ull) >= 17144ull) goto L10;
+    if (l8_8(v0 + 16ull) >= 17144ull) goto L10;
     v8 = 4u;
     goto L2;
 L10:;
@@ -5103,7 +5254,7 @@ L10:;
 L12:;
     v8 = 1u;
 L11:;
-    f93(v7 + 3408ull, v1, v2 + ((v2 == 0) ? 4096ull : 0ull), v3);
+    making_config_of(v7 + 3408ull, v1, v2 + ((v2 == 0) ? 4096ull : 0ull), v3);
     if (l1(v7 + 3408)) goto L3;
     v4 = l1(v5);
     switch (v4) {
@@ -5121,24 +5272,24 @@ L14:;
     copy(v7 + 6304ull, v7 + 3416ull, 808ull);
     fill(v7 + 5009ull, 0u, 1295ull);
     fill(v7 + 4224ull, 0u, 784ull);
-    f92(v7 + 4224ull, v7 + 6336ull, l8(v7 + 7104));
+    Units_new(v7 + 4224ull, v7 + 6336ull, l8_8(v7 + 7104));
     if (l1(v7 + 4224)) goto L4;
     v11 = ((v11 << 8) | v4) | (v10 << 16);
     v12 = v12 << 24;
-    v13 = l4(v7 + 6316);
-    v14 = l4(v7 + 6312);
-    v10 = l4(v7 + 6308);
-    v4 = l4(v7 + 6304);
+    v13 = l4_4(v7 + 6316);
+    v14 = l4_4(v7 + 6312);
+    v10 = l4_4(v7 + 6308);
+    v4 = l4_4(v7 + 6304);
     copy(v7 + 8400ull, v7 + 4232ull, 776ull);
     fill(v7 + 9177ull, 0u, 1295ull);
     fill(v7 + 7112ull, 0u, 1288ull);
-    v9 = l8(v7 + 9168);
+    v9 = l8_8(v7 + 9168);
     fill(v7 + 10472ull, 0u, 1032ull);
     v15 = v4 - (u32)(v4 != 0u);
     v10 = v10 - (u32)(v10 != 0u);
-    f94(v7 + 10472ull);
+    ArrayVec_new(v7 + 10472ull);
     if (v9 == 0) goto L16;
-    v5 = l8(v7 + 11496);
+    v5 = l8_8(v7 + 11496);
     if (v9 != 1ull) goto L18;
     v3 = 0ull;
     goto L17;
@@ -5149,29 +5300,29 @@ L18:;
     v2 = v7 + 8400ull;
     v3 = 0ull;
 L19:;
-    s8(v9 + 40, l8(v2 + 40));
-    s8(v9 + 32, l8(v2 + 32));
-    s8(v9 + 24, l8(v2 + 24));
-    s8(v9 + 16, l8(v2 + 16));
-    s8(v9 + 8, l8(v2 + 8));
-    s8(v9, l8(v2));
+    s8_8(v9 + 40, l8_8(v2 + 40));
+    s8_8(v9 + 32, l8_8(v2 + 32));
+    s8_8(v9 + 24, l8_8(v2 + 24));
+    s8_8(v9 + 16, l8_8(v2 + 16));
+    s8_8(v9 + 8, l8_8(v2 + 8));
+    s8_8(v9, l8_8(v2));
     s4(v9 + 57ull, 0u);
     s1(v9 + 56ull, 1u);
-    s8(v9 + 48ull, 0ull);
+    s8_8(v9 + 48ull, 0ull);
     s4(v9 + 60ull, 0u);
     v1 = v5 + v3;
-    s8(v7 + 11496, v1 + 1ull);
+    s8_8(v7 + 11496, v1 + 1ull);
     s4(v9 + 121ull, 0u);
     s1(v9 + 120ull, 1u);
-    s8(v9 + 112ull, 0ull);
+    s8_8(v9 + 112ull, 0ull);
     s4(v9 + 124ull, 0u);
-    s8(v9 + 104ull, l8(v2 + 88ull));
-    s8(v9 + 96ull, l8(v2 + 80ull));
-    s8(v9 + 88ull, l8(v2 + 72ull));
-    s8(v9 + 80ull, l8(v2 + 64ull));
-    s8(v9 + 72ull, l8(v2 + 56ull));
-    s8(v9 + 64ull, l8(v2 + 48ull));
-    s8(v7 + 11496, v1 + 2ull);
+    s8_8(v9 + 104ull, l8_8(v2 + 88ull));
+    s8_8(v9 + 96ull, l8_8(v2 + 80ull));
+    s8_8(v9 + 88ull, l8_8(v2 + 72ull));
+    s8_8(v9 + 80ull, l8_8(v2 + 64ull));
+    s8_8(v9 + 72ull, l8_8(v2 + 56ull));
+    s8_8(v9 + 64ull, l8_8(v2 + 48ull));
+    s8_8(v7 + 11496, v1 + 2ull);
     v2 = v2 + 96ull;
     v9 = v9 + 128ull;
     v3 = v3 + 2ull;
@@ -5181,17 +5332,17 @@ L19:;
 L17:;
     v9 = (v7 + 10472ull) + (v5 << 6);
     v2 = (v7 + 8400ull) + (v3 * 48ull);
-    s8(v9 + 40, l8(v2 + 40));
-    s8(v9 + 32, l8(v2 + 32));
-    s8(v9 + 24, l8(v2 + 24));
-    s8(v9 + 16, l8(v2 + 16));
-    s8(v9 + 8, l8(v2 + 8));
-    s8(v9, l8(v2));
+    s8_8(v9 + 40, l8_8(v2 + 40));
+    s8_8(v9 + 32, l8_8(v2 + 32));
+    s8_8(v9 + 24, l8_8(v2 + 24));
+    s8_8(v9 + 16, l8_8(v2 + 16));
+    s8_8(v9 + 8, l8_8(v2 + 8));
+    s8_8(v9, l8_8(v2));
     s4(v9 + 57, 0u);
     s1(v9 + 56, 1u);
-    s8(v9 + 48, 0ull);
+    s8_8(v9 + 48, 0ull);
     s4(v9 + 60, 0u);
-    s8(v7 + 11496, v5 + 1ull);
+    s8_8(v7 + 11496, v5 + 1ull);
 L16:;
     v11 = v11 | v12;
     v10 = v10 + v15;
@@ -5202,21 +5353,21 @@ L20:;
     v9 = (v7 + 11504ull) + v2;
     s8(v9 + 2057ull, 0ull);
     s1(v9 + 2056ull, 5u);
-    s8(v9 + 2048ull, 0ull);
+    s8_4(v9 + 2048ull, 0ull);
     s8(v9 + 2065ull, 0ull);
     s8(v9 + 2072ull, 0ull);
     s8(v9 + 2089ull, 0ull);
     s1(v9 + 2088ull, 5u);
-    s8(v9 + 2080ull, 0ull);
+    s8_4(v9 + 2080ull, 0ull);
     s8(v9 + 2097ull, 0ull);
     s8(v9 + 2104ull, 0ull);
     s8(v9 + 2121ull, 0ull);
     s1(v9 + 2120ull, 5u);
-    s8(v9 + 2112ull, 0ull);
+    s8_4(v9 + 2112ull, 0ull);
     s8(v9 + 2129ull, 0ull);
     s8(v9 + 2136ull, 0ull);
     s1(v9 + 2152ull, 5u);
-    s8(v9 + 2144ull, 0ull);
+    s8_4(v9 + 2144ull, 0ull);
     s8(v9 + 2168ull, 0ull);
     s8(v9 + 2161ull, 0ull);
     s8(v9 + 2153ull, 0ull);
@@ -5228,10 +5379,10 @@ L20:;
     v2 = 0xFFFFFFFFFFFFFC00ull;
 L21:;
     v9 = (v7 + 17360ull) + v2;
-    s8(v9 + 1048ull, 0ull);
-    s8(v9 + 1040ull, 0x300000000000000ull);
-    s8(v9 + 1032ull, 0ull);
-    s8(v9 + 1024ull, 0x300000000000000ull);
+    s8_8(v9 + 1048ull, 0ull);
+    s8_8(v9 + 1040ull, 0x300000000000000ull);
+    s8_8(v9 + 1032ull, 0ull);
+    s8_8(v9 + 1024ull, 0x300000000000000ull);
     v2 = v2 + 32ull;
     if (v2 != 0ull) goto L21;
     copy(v7 + 11504ull, v7 + 17360ull, 1024ull);
@@ -5241,10 +5392,10 @@ L21:;
     v2 = 0xFFFFFFFFFFFFFC00ull;
 L22:;
     v9 = (v7 + 18384ull) + v2;
-    s8(v9 + 1048ull, 0ull);
-    s8(v9 + 1040ull, 0x300000000000000ull);
-    s8(v9 + 1032ull, 0ull);
-    s8(v9 + 1024ull, 0x300000000000000ull);
+    s8_8(v9 + 1048ull, 0ull);
+    s8_8(v9 + 1040ull, 0x300000000000000ull);
+    s8_8(v9 + 1032ull, 0ull);
+    s8_8(v9 + 1024ull, 0x300000000000000ull);
     v2 = v2 + 32ull;
     if (v2 != 0ull) goto L22;
     copy(v7 + 9184ull, v7 + 7112ull, 1288ull);
@@ -5252,12 +5403,12 @@ L22:;
     copy(v7 + 1308ull, v3, 804ull);
     copy(v7 + 13ull, v7 + 5009ull, 1295ull);
     s1(v7 + 11508, 0u);
-    s4(v7 + 11504, 0u);
+    s4_4(v7 + 11504, 0u);
     if (v6 == 0) goto L6;
     if (v4 <= v6) goto L6;
     fill(v7 + 11509ull, 0u, 1288ull);
     copy(v7 + 2115ull, v7 + 11504ull, 1293ull);
-    v9 = l8(v0);
+    v9 = l8_8(v0);
     s4(v9 + 8, v4);
     s4(v9 + 4, 0u);
     s4(v9, v11);
@@ -5286,7 +5437,7 @@ L22:;
     copy(v9 + 14363ull, v7 + 2115ull, 1293ull);
     fill(v9 + 15656ull, 0u, 1484ull);
     s4(v9 + 17140, 60u);
-    s8(v0 + 24ull, 0x504F52544D414445ull);
+    s8_8(v0 + 24ull, 0x504F52544D414445ull);
     v4 = 1u;
     goto L1;
 L13:;
@@ -5331,23 +5482,24 @@ L1:;
 static u32 w_mscp_port_init_at(u64 v0, u64 v1, u64 v2, u64 v3, u32 v4, u64 v5, u32 v6)
 {
     u32 t0, t1;
-    t0 = f58();
+    t0 = rattle_enter();
     if (t0 == 0) goto L1;
-    f59();
+    rattle_trap();
     TRAP();
 L1:;
-    t1 = f101(v0, v1, v2, v3, v4, v5, v6);
+    t1 = export_mscp_port_init_at(v0, v1, v2, v3, v4, v5, v6);
     v6 = t1;
-    f61();
+    rattle_leave();
     return v6;
 }
 
-static u32 f102(u64 v0)
+/* mscp_c::mscp_port_look_again, crates/mscp_c/src/port_watching.rt:13 */
+static u32 export_mscp_port_look_again(u64 v0)
 {
     u32 v1 = 0;
     v1 = 0xFFFFFFF6u;
-    if (l8(v0 + 24ull) != 0x504F52544D414445ull) goto L2;
-    v0 = l8(v0);
+    if (l8_8(v0 + 24ull) != 0x504F52544D414445ull) goto L2;
+    v0 = l8_8(v0);
     s1(v0 + 14362ull, 0u);
     v1 = 1u;
     v0 = v0 + 14268ull;
@@ -5362,18 +5514,19 @@ L2:;
 static u32 w_mscp_port_look_again(u64 v0)
 {
     u32 v1 = 0, t0, t1;
-    t0 = f58();
+    t0 = rattle_enter();
     if (t0 == 0) goto L1;
-    f59();
+    rattle_trap();
     TRAP();
 L1:;
-    t1 = f102(v0);
+    t1 = export_mscp_port_look_again(v0);
     v1 = t1;
-    f61();
+    rattle_leave();
     return v1;
 }
 
-APART u32 f103(u64 v0, u64 v1, u64 v2)
+/* mscp_c::mscp_port_look_at, crates/mscp_c/src/port_seeing.rt:88 */
+APART u32 export_mscp_port_look_at(u64 v0, u64 v1, u64 v2)
 {
     ROOM(frame, 784);
     u32 v5 = 0;
@@ -5381,11 +5534,11 @@ APART u32 f103(u64 v0, u64 v1, u64 v2)
     v3 = A(frame);
     v4 = v3;
     v5 = 0xFFFFFFF6u;
-    if (l8(v0 + 24ull) != 0x504F52544D414445ull) goto L2;
-    v0 = l8(v0);
+    if (l8_8(v0 + 24ull) != 0x504F52544D414445ull) goto L2;
+    v0 = l8_8(v0);
     fill(v4 + 8ull, 0u, 776ull);
-    f97(v4 + 8ull, v0 + 824ull);
-    v6 = l8(v4 + 776);
+    Backlog_look(v4 + 8ull, v0 + 824ull);
+    v6 = l8_8(v4 + 776);
     v0 = (v2 < v6) ? v2 : v6;
     if (v0 == 0) goto L3;
     v7 = v1 + ((v1 == 0) ? 4096ull : 0ull);
@@ -5403,9 +5556,9 @@ L5:;
     s1(v0 + 11ull, 0u);
     s2(v0 + 21ull, 0u);
     s1(v0 + 23ull, 0u);
-    s8(v0, l8(v2 + 4ull));
+    s8(v0, l8_4(v2 + 4ull));
     s1(v0 + 20ull, l1(v2 + 12ull));
-    s8(v0 + 12ull, l8(v2 + 16ull));
+    s8(v0 + 12ull, l8_8(v2 + 16ull));
     v3 = v3 + 24ull;
     v1 = v1 + 2ull;
     if (v9 != v1) goto L5;
@@ -5417,7 +5570,7 @@ L4:;
     s1(v0 + 11, 0u);
     v3 = (v4 + 8ull) + v3;
     s1(v0 + 8, l1(v3));
-    s8(v0, l8(v3 + 4ull));
+    s8(v0, l8_4(v3 + 4ull));
 L3:;
     v5 = (u32)v6;
 L2:;
@@ -5428,24 +5581,25 @@ L2:;
 static u32 w_mscp_port_look_at(u64 v0, u64 v1, u64 v2)
 {
     u32 v3 = 0, t0, t1;
-    t0 = f58();
+    t0 = rattle_enter();
     if (t0 == 0) goto L1;
-    f59();
+    rattle_trap();
     TRAP();
 L1:;
-    t1 = f103(v0, v1, v2);
+    t1 = export_mscp_port_look_at(v0, v1, v2);
     v3 = t1;
-    f61();
+    rattle_leave();
     return v3;
 }
 
-static void f104(u64 v0, u64 v1)
+/* mscp_controller::account::Account::take, crates/mscp_controller/src/account.rt:68 */
+static void Account_take(u64 v0, u64 v1)
 {
     ROOM(frame, 96);
     u64 v2 = 0, v3 = 0, v4 = 0, v5 = 0, v6 = 0, v7 = 0, v8 = 0;
     v2 = A(frame);
     v3 = v1 + 8ull;
-    v4 = l8(v1 + 3080ull);
+    v4 = l8_8(v1 + 3080ull);
     if (v4 > 1ull) goto L3;
     v5 = 0ull;
     switch ((u32)v4) {
@@ -5462,12 +5616,12 @@ L4:;
     s8(v0, 0ull);
     return;
 L3:;
-    s8(v2 + 88, l8(v3 + 40));
-    s8(v2 + 80, l8(v3 + 32));
-    s8(v2 + 72, l8(v3 + 24));
-    s8(v2 + 64, l8(v3 + 16));
-    s8(v2 + 56, l8(v3 + 8));
-    s8(v2 + 48, l8(v3));
+    s8_8(v2 + 88, l8(v3 + 40));
+    s8_8(v2 + 80, l8(v3 + 32));
+    s8_8(v2 + 72, l8(v3 + 24));
+    s8_8(v2 + 64, l8(v3 + 16));
+    s8_8(v2 + 56, l8(v3 + 8));
+    s8_8(v2 + 48, l8(v3));
     v5 = v3;
     v6 = v4 + 0xFFFFFFFFFFFFFFFFull;
     v7 = v6;
@@ -5780,15 +5934,15 @@ L6:;
     copy(v5, v5 + 48ull, v4);
 L5:;
     v5 = v3 + (v6 * 48ull);
-    s8(v5 + 40, l8(v2 + 88));
-    s8(v5 + 32, l8(v2 + 80));
-    s8(v5 + 24, l8(v2 + 72));
-    s8(v5 + 16, l8(v2 + 64));
-    s8(v5 + 8, l8(v2 + 56));
-    s8(v5, l8(v2 + 48));
-    v5 = l8(v1 + 3080ull) + 0xFFFFFFFFFFFFFFFFull;
+    s8(v5 + 40, l8_8(v2 + 88));
+    s8(v5 + 32, l8_8(v2 + 80));
+    s8(v5 + 24, l8_8(v2 + 72));
+    s8(v5 + 16, l8_8(v2 + 64));
+    s8(v5 + 8, l8_8(v2 + 56));
+    s8(v5, l8_8(v2 + 48));
+    v5 = l8_8(v1 + 3080ull) + 0xFFFFFFFFFFFFFFFFull;
 L2:;
-    s8(v1 + 3080ull, v5);
+    s8_8(v1 + 3080ull, v5);
     v5 = v3 + (v5 * 48ull);
     v4 = l8(v5);
     s8(v5, 0ull);
@@ -5803,37 +5957,38 @@ L2:;
     v6 = l8(v5 + 40);
     s8(v5 + 40, 0ull);
     s8(v0, 1ull);
-    s8(v2, v4);
-    s8(v2 + 8, v8);
-    s8(v2 + 16, v7);
-    s8(v2 + 24, v3);
-    s8(v2 + 32, v1);
-    s8(v2 + 40, v6);
-    s8(v0 + 8ull, l8(v2));
-    s8(v0 + 16ull, l8(v2 + 8));
-    s8(v0 + 24ull, l8(v2 + 16));
-    s8(v0 + 32ull, l8(v2 + 24));
-    s8(v0 + 40ull, l8(v2 + 32));
-    s8(v0 + 48ull, l8(v2 + 40));
+    s8_8(v2, v4);
+    s8_8(v2 + 8, v8);
+    s8_8(v2 + 16, v7);
+    s8_8(v2 + 24, v3);
+    s8_8(v2 + 32, v1);
+    s8_8(v2 + 40, v6);
+    s8(v0 + 8ull, l8_8(v2));
+    s8(v0 + 16ull, l8_8(v2 + 8));
+    s8(v0 + 24ull, l8_8(v2 + 16));
+    s8(v0 + 32ull, l8_8(v2 + 24));
+    s8(v0 + 40ull, l8_8(v2 + 32));
+    s8(v0 + 48ull, l8_8(v2 + 40));
     return;
     TRAP();
 }
 
-static void f105(u64 v0, u64 v1, u64 v2, u32 v3, u32 v4)
+/* mscp_port::port::Port::part, crates/mscp_port/src/port/checking.rt:54 */
+static void Port_part(u64 v0, u64 v1, u64 v2, u32 v3, u32 v4)
 {
     u32 v5 = 0, v7 = 0, v8 = 0, v9 = 0, v11 = 0, v12 = 0, v13 = 0;
     u64 v6 = 0, v10 = 0, v14 = 0;
     v5 = 0u;
-    v6 = l8(v1 + 15648ull);
+    v6 = l8_8(v1 + 15648ull);
     if (v6 == 0) goto L2;
     v7 = 0u;
     v8 = 0u;
     v9 = 0u;
     if (l1(v2) & 255u) goto L1;
     v10 = v1 + 14368ull;
-    v11 = l4(v2 + 4ull);
+    v11 = l4_4(v2 + 4ull);
 L5:;
-    if (l4(v10) == v11) goto L4;
+    if (l4_4(v10) == v11) goto L4;
     v10 = v10 + 20ull;
     v6 = v6 + 0xFFFFFFFFFFFFFFFFull;
     if ((u32)(v6 == 0) == 0) goto L5;
@@ -5853,16 +6008,16 @@ L2:;
 L1:;
     v12 = 11u;
     v13 = 1u;
-    v6 = l8(v1 + 808ull);
+    v6 = l8_8(v1 + 808ull);
     if ((u32)(v6 == 0) == 0) goto L7;
     v10 = 0ull;
     goto L6;
 L7:;
-    v11 = l2(v2 + 8ull);
+    v11 = l2_2(v2 + 8ull);
     v10 = 40ull;
     v14 = 0ull;
 L9:;
-    if (l2(v1 + v10) == (v11 & 65535u)) goto L8;
+    if (l2_2(v1 + v10) == (v11 & 65535u)) goto L8;
     v14 = v14 + 28ull;
     v10 = v10 + 48ull;
     v6 = v6 + 0xFFFFFFFFFFFFFFFFull;
@@ -5878,7 +6033,7 @@ L8:;
     v12 = 65535u;
     goto L6;
 L10:;
-    if (v9 == l4(v6 + 16692ull)) goto L11;
+    if (v9 == l4_4(v6 + 16692ull)) goto L11;
     v12 = 65535u;
     goto L6;
 L11:;
@@ -5887,11 +6042,11 @@ L11:;
     v12 = 65534u;
     goto L6;
 L12:;
-    if (l4(v6 + 16708ull) == v9) goto L13;
+    if (l4_4(v6 + 16708ull) == v9) goto L13;
     v12 = 65534u;
     goto L6;
 L13:;
-    v14 = (u64)l4(v2 + 32ull);
+    v14 = (u64)l4_4(v2 + 32ull);
     if (((v3 + 0xFFFFFFFBu) & 255u) < 253u) goto L14;
     v13 = 1u;
     if ((v7 & 1u) == 0) goto L14;
@@ -5914,7 +6069,7 @@ L17:;
     v12 = 8198u;
     goto L6;
 L16:;
-    if (l4(v6 + 16696ull) <= v4) goto L6;
+    if (l4_4(v6 + 16696ull) <= v4) goto L6;
     v10 = (u64)v8;
     v6 = v14 << 9;
     v14 = v10 - v6;
@@ -5931,7 +6086,8 @@ L6:;
     return;
 }
 
-APART u32 f106(u64 v0, u64 v1, u32 v2)
+/* mscp_c::port_turning::tell_next, crates/mscp_c/src/port_turning.rt:15 */
+APART u32 port_turning_tell_next(u64 v0, u64 v1, u32 v2)
 {
     ROOM(frame, 256);
     u32 v4 = 0, v6 = 0, v7 = 0, v8 = 0, v9 = 0, v10 = 0, v11 = 0, v13 = 0, v14 = 0, v15 = 0, v16 = 0, v17 = 0, v18 = 0,
@@ -5939,8 +6095,8 @@ APART u32 f106(u64 v0, u64 v1, u32 v2)
     u64 v3 = 0, v5 = 0, v12 = 0, v20 = 0, v21 = 0, v27 = 0, v28 = 0, v29 = 0, v30 = 0, v31 = 0, t0;
     v3 = A(frame);
     v4 = 0xFFFFFFF6u;
-    if (l8(v0 + 24ull) != 0x504F52544D414445ull) goto L1;
-    v0 = l8(v0);
+    if (l8_8(v0 + 24ull) != 0x504F52544D414445ull) goto L1;
+    v0 = l8_8(v0);
     v5 = v0 + 14268ull;
     if ((v2 & 1u) == 0) goto L5;
     if (l1(v5) != 12u) goto L5;
@@ -5966,7 +6122,7 @@ L7:;
     v7 = 0u;
     if (v6 != 8u) goto L8;
     if (l1(v0 + 14288ull) == 1u) goto L12;
-    if (l8(v0 + 11136ull) == 0) goto L18;
+    if (l8_8(v0 + 11136ull) == 0) goto L18;
     v10 = l4(v0 + 8104ull);
     v11 = l4(v0 + 8096ull);
     v12 = l8(v0 + 8088ull);
@@ -5978,7 +6134,7 @@ L7:;
     v4 = l4(v0 + 8064ull);
     v15 = l1(v0 + 8070ull);
     v16 = l4(v0 + 8100ull);
-    f104(v3 + 184ull, v0 + 8056ull);
+    Account_take(v3 + 184ull, v0 + 8056ull);
     v17 = 0u;
     s1(v0 + 14361ull, 0u);
     v18 = v16 >> 16;
@@ -6087,7 +6243,7 @@ L20:;
     v23 = (u32)(v21 >> 16);
     if (v9) goto L31;
     if (v25) goto L31;
-    v13 = l2(v0 + 17136ull);
+    v13 = l2_2(v0 + 17136ull);
     v15 = (v13 >> 8) | 0xFFFFFF80u;
     if (v19) goto L31;
     v5 = v26 ? 32ull : v5;
@@ -6103,13 +6259,13 @@ L31:;
     v6 = 8650752u;
     goto L14;
 L19:;
-    v27 = l8(v0 + 808ull);
+    v27 = l8_8(v0 + 808ull);
     if (v27 == 0) goto L44;
     v5 = 40ull;
     v20 = 0ull;
     v21 = v27;
 L45:;
-    if (l2(v0 + v5) == v7) goto L43;
+    if (l2_2(v0 + v5) == v7) goto L43;
     v20 = v20 + 28ull;
     v5 = v5 + 48ull;
     v21 = v21 + 0xFFFFFFFFFFFFFFFFull;
@@ -6137,7 +6293,7 @@ L44:;
 L43:;
     v5 = v0 + 15656ull;
     v28 = v0 + v20;
-    v20 = l8(v0 + 16680ull) + 1ull;
+    v20 = l8_8(v0 + 16680ull) + 1ull;
 L47:;
     v20 = v20 + 0xFFFFFFFFFFFFFFFFull;
     v17 = v20 == 0;
@@ -6147,7 +6303,7 @@ L47:;
     v24 = 0u;
     goto L46;
 L48:;
-    v8 = l4(v5);
+    v8 = l4_4(v5);
     v21 = v5 + 16ull;
     v5 = v21;
     if (v8 != v4) goto L47;
@@ -6179,7 +6335,7 @@ L52:;
     if (l1(v28 + 16688ull) != 1u) goto L49;
     v22 = 4u;
     if (l1(v28 + 16704ull) != 1u) goto L49;
-    if (l4(v28 + 16708ull) == l4(v28 + 16692ull)) goto L50;
+    if (l4_4(v28 + 16708ull) == l4_4(v28 + 16692ull)) goto L50;
     goto L49;
 L51:;
     if (v9 != 256u) goto L50;
@@ -6196,14 +6352,14 @@ L57:;
     v21 = v5 + 40ull;
     v27 = v5 + 48ull;
     v5 = v27;
-    if (l2(v21) != v7) goto L57;
+    if (l2_2(v21) != v7) goto L57;
     if ((1u << (v6 & 31)) & 87u) goto L59;
     if (v6 == 3u) goto L60;
     if (v22 != 35u) goto L62;
-    v10 = l4(v27 + 20ull);
-    v11 = l4(v27 + 16ull);
-    v12 = l8(v27 + 8ull);
-    v16 = l4(v27);
+    v10 = l4_4(v27 + 20ull);
+    v11 = l4_4(v27 + 16ull);
+    v12 = l8_8(v27 + 8ull);
+    v16 = l4_4(v27);
     v14 = 0u;
     v13 = 0u;
     goto L61;
@@ -6219,7 +6375,7 @@ L61:;
     goto L58;
 L60:;
     if (l1(v28 + 16688ull) != 1u) goto L59;
-    v11 = l4(v28 + 16700ull);
+    v11 = l4_4(v28 + 16700ull);
     v14 = 0u;
     v13 = 0u;
     v8 = 0u;
@@ -6431,31 +6587,31 @@ L87:;
     v5 = 15ull;
 L72:;
     v20 = v5 * 28ull;
-    if (v5 >= l8(v0 + 808ull)) goto L89;
-    s8(v3 + 184, 0ull);
-    s8(v3 + 192, 0ull);
-    s4(v3 + 48, 0u);
+    if (v5 >= l8_8(v0 + 808ull)) goto L89;
+    s8_8(v3 + 184, 0ull);
+    s8_8(v3 + 192, 0ull);
+    s4_4(v3 + 48, 0u);
     s4(v3 + 51, 0u);
-    s4(v3 + 40, l4(A(data + 786)));
-    s2(v3 + 44, l2(A(data + 790)));
+    s4_4(v3 + 40, l4(A(data + 786)));
+    s2_2(v3 + 44, l2(A(data + 790)));
     v21 = v0 + v20;
     v6 = ((l1(v21 + 16689ull) ? 0xFFFFA000u : 0xFFFF8000u) | (l1(v21 + 16690ull) << 12)) | ((l1(v21 + 16691ull) << 7) &
         128u);
-    v7 = l4(v21 + 16700ull);
+    v7 = l4_4(v21 + 16700ull);
     v21 = v0 + (v5 * 48ull);
-    v5 = l8(v21 + 56ull);
-    v4 = l2(v21 + 40ull);
+    v5 = l8_8(v21 + 56ull);
+    v4 = l2_2(v21 + 40ull);
     v21 = 32ull;
     v27 = 1ull;
     goto L88;
 L89:;
     v7 = 0u;
-    s2(v3 + 44, 0u);
-    s4(v3 + 40, 0u);
+    s2_2(v3 + 44, 0u);
+    s4_4(v3 + 40, 0u);
     v27 = 0ull;
-    s8(v3 + 184, 0ull);
-    s8(v3 + 192, 0ull);
-    s4(v3 + 48, 0u);
+    s8_8(v3 + 184, 0ull);
+    s8_8(v3 + 192, 0ull);
+    s4_4(v3 + 48, 0u);
     s4(v3 + 51, 0u);
     v4 = 0u;
     v6 = 0u;
@@ -6465,20 +6621,20 @@ L88:;
     s2(v0 + 14300ull, v4);
     s4(v0 + 14296ull, 0u);
     s8(v0 + 14288ull, v27);
-    s4(v0 + 14302ull, l4(v3 + 40));
-    s2(v0 + 14306ull, l2(v3 + 44));
+    s4(v0 + 14302ull, l4_4(v3 + 40));
+    s2(v0 + 14306ull, l2_2(v3 + 44));
     s4(v0 + 14324ull, v7);
     s8(v0 + 14316ull, v5);
     s4(v0 + 14312ull, 0u);
     s2(v0 + 14310ull, v6);
     s2(v0 + 14308ull, v4);
-    s8(v0 + 14328ull, l8(v3 + 184));
-    s8(v0 + 14336ull, l8(v3 + 192));
+    s8(v0 + 14328ull, l8_8(v3 + 184));
+    s8(v0 + 14336ull, l8_8(v3 + 192));
     s1(v0 + 14352ull, 0u);
     s8(v0 + 14344ull, v21);
     s1((v0 + v20) + 16712ull, 0u);
     s4(v0 + 14356ull, l4(v3 + 51));
-    s4(v0 + 14353ull, l4(v3 + 48));
+    s4(v0 + 14353ull, l4_4(v3 + 48));
     goto L13;
 L17:;
     v26 = 0u;
@@ -6524,14 +6680,14 @@ L14:;
     s4(v0 + 14296ull, v4);
     s8(v0 + 14288ull, 1ull);
     s4(v0 + 14356ull, 0u);
-    v27 = l8(v0 + 16680ull);
+    v27 = l8_8(v0 + 16680ull);
     if (v27 == 0) goto L13;
     v21 = 0ull;
     v29 = v0 + 15656ull;
     v5 = v29;
     v20 = 0ull;
 L91:;
-    if (l4(v5) == v4) goto L92;
+    if (l4_4(v5) == v4) goto L92;
     if (v21 >= v20) goto L94;
     v12 = v29 + (v21 << 4);
     v28 = l8(v12);
@@ -6558,13 +6714,13 @@ L92:;
     v5 = v5 + 16ull;
     v20 = v20 + 1ull;
     if (v27 != v20) goto L91;
-    v5 = l8(v0 + 16680ull);
+    v5 = l8_8(v0 + 16680ull);
     if (v5 <= v21) goto L13;
     v5 = (v5 - v21) << 4;
     if (v5 == 0) goto L95;
     fill(v29 + (v21 << 4), 0u, v5);
 L95:;
-    s8(v0 + 16680ull, v21);
+    s8_8(v0 + 16680ull, v21);
 L13:;
     if (l1(v0 + 14288ull) != 1u) goto L11;
 L12:;
@@ -6587,14 +6743,14 @@ L96:;
     v7 = 0u;
     if (v2) goto L8;
     if (l1(v0 + 5704ull) != 1u) goto L99;
-    v20 = l8(v0 + 5712ull);
+    v20 = l8_8(v0 + 5712ull);
     goto L98;
 L99:;
     if (l1(v0 + 5688ull) != 1u) goto L100;
-    v20 = l8(v0 + 5696ull);
+    v20 = l8_8(v0 + 5696ull);
     goto L98;
 L100:;
-    v5 = l8(v0 + 3960ull);
+    v5 = l8_8(v0 + 3960ull);
     if ((u32)(v5 == 0) == 0) goto L101;
     v4 = 0u;
     goto L97;
@@ -6603,7 +6759,8 @@ L101:;
     if (v5 == 1ull) goto L98;
     v5 = v0 + 5720ull;
     if ((l1(v5) & 255u) == 0) goto L98;
-    t0 = f66(v0 + 824ull, v0 + 4656ull, l8(v0 + 5680ull), l4(v0 + 820ull), v5, v0 + 5728ull, v0 + 7024ull);
+    t0 = start_picked_place(v0 + 824ull, v0 + 4656ull, l8_8(v0 + 5680ull), l4_4(v0 + 820ull), v5, v0 + 5728ull, v0 +
+        7024ull);
     v20 = t0;
 L98:;
     v28 = (u64)l1((v0 + v20) + 3896ull);
@@ -6620,23 +6777,23 @@ L98:;
     v17 = 0u;
     v16 = 0u;
     if ((l1((v0 + (((l8((v0 + (v28 << 3)) + 2872ull)) << 6) & 16320ull)) + 4704ull)) != 1u) goto L102;
-    v16 = l4(v21 + 24ull) + l4(v5 + 840ull);
+    v16 = l4_4(v21 + 24ull) + l4_4(v5 + 840ull);
     v17 = 1u;
 L102:;
     v23 = l1(v27);
-    v2 = l2(v12);
-    v4 = l4(v21);
+    v2 = l2_2(v12);
+    v4 = l4_4(v21);
     s8(v0 + 5696ull, v20);
     s8(v0 + 5688ull, 1ull);
     if (v6 & 255u) goto L104;
     v10 = 0u;
     v13 = 0u;
     v6 = 0u;
-    v20 = l8(v0 + 15648ull);
+    v20 = l8_8(v0 + 15648ull);
     if (v20 == 0) goto L103;
     v5 = v0 + 14368ull;
 L106:;
-    if (l4(v5) == v4) goto L105;
+    if (l4_4(v5) == v4) goto L105;
     v5 = v5 + 20ull;
     v20 = v20 + 0xFFFFFFFFFFFFFFFFull;
     if ((u32)(v20 == 0) == 0) goto L106;
@@ -6655,17 +6812,17 @@ L104:;
 L103:;
     v9 = 1u;
     v8 = 0u;
-    v20 = l8(v0 + 808ull);
+    v20 = l8_8(v0 + 808ull);
     if ((u32)(v20 == 0) == 0) goto L107;
     v4 = 11u;
     v7 = 11u;
     goto L8;
 L107:;
-    v27 = (u64)l4(v21 + 24ull);
+    v27 = (u64)l4_4(v21 + 24ull);
     v5 = 40ull;
     v21 = 0ull;
 L109:;
-    if (l2(v0 + v5) == (v2 & 65535u)) goto L108;
+    if (l2_2(v0 + v5) == (v2 & 65535u)) goto L108;
     v21 = v21 + 28ull;
     v5 = v5 + 48ull;
     v4 = 11u;
@@ -6689,7 +6846,7 @@ L108:;
 L110:;
     v8 = 0u;
     if (((v22 + 0xFFFFFFFBu) & 255u) < 2u) goto L10;
-    if (v6 == l4(v5 + 16692ull)) goto L111;
+    if (v6 == l4_4(v5 + 16692ull)) goto L111;
     v8 = 0u;
     goto L8;
 L111:;
@@ -6704,7 +6861,7 @@ L112:;
     v9 = 1u;
     goto L8;
 L113:;
-    if (l4(v5 + 16708ull) == v6) goto L114;
+    if (l4_4(v5 + 16708ull) == v6) goto L114;
     v9 = 1u;
     goto L8;
 L114:;
@@ -6731,7 +6888,7 @@ L118:;
     goto L8;
 L117:;
     v4 = 11u;
-    if (l4(v5 + 16696ull) > v16) goto L119;
+    if (l4_4(v5 + 16696ull) > v16) goto L119;
     v7 = 11u;
     goto L8;
 L119:;
@@ -6786,7 +6943,7 @@ L134:;
     v4 = 0u;
     v5 = v0 + 14288ull;
     if ((l1(v5) & 1u) == 0) goto L136;
-    v4 = l4(v0 + 14344ull) + 4u;
+    v4 = l4_4(v0 + 14344ull) + 4u;
 L136:;
     fill(v3 + 184ull, 0u, 68ull);
     v2 = v7 & 4194302u;
@@ -6834,34 +6991,34 @@ L140:;
     if (v5 == 0) goto L4;
     v4 = rem32(v2, v15) + v6;
 L139:;
-    s8(v3 + 120, 0ull);
-    s8(v3 + 128, 0ull);
-    s8(v3 + 136, 0ull);
-    s8(v3 + 144, 0ull);
-    s8(v3 + 152, 0ull);
-    s8(v3 + 160, 0ull);
-    s8(v3 + 168, 0ull);
-    s4(v3 + 176, 0u);
+    s8_8(v3 + 120, 0ull);
+    s8_8(v3 + 128, 0ull);
+    s8_8(v3 + 136, 0ull);
+    s8_8(v3 + 144, 0ull);
+    s8_8(v3 + 152, 0ull);
+    s8_8(v3 + 160, 0ull);
+    s8_8(v3 + 168, 0ull);
+    s4_4(v3 + 176, 0u);
     v6 = (v7 & 1073741823u) | 1073741824u;
     v2 = (v4 << 2) + v9;
     v5 = 4ull;
     v4 = 4u;
     goto L121;
 L130:;
-    s4(v3 + 56, 0u);
-    s8(v3 + 48, 0ull);
+    s4_4(v3 + 56, 0u);
+    s8_8(v3 + 48, 0ull);
     if (l1(v0 + 5688ull) != 1u) goto L2;
     v20 = (u64)l1((v0 + l8(v0 + 5696ull)) + 3896ull);
     v5 = v0 + (v20 << 5);
     if (l1(v5 + 832ull) != 7u) goto L2;
     if ((l1((v0 + (((l8((v0 + (v20 << 3)) + 2872ull)) << 6) & 16320ull)) + 4704ull)) != 1u) goto L2;
-    v2 = l4(v5 + 840ull);
-    v6 = l4(v5 + 836ull);
-    v8 = l2(v5 + 834ull);
+    v2 = l4_4(v5 + 840ull);
+    v6 = l4_4(v5 + 836ull);
+    v8 = l2_2(v5 + 834ull);
     v4 = l1(v5 + 833ull);
-    v7 = l2(v5 + 828ull);
+    v7 = l2_2(v5 + 828ull);
     v20 = v5 + 824ull;
-    v9 = l4(v20);
+    v9 = l4_4(v20);
     v15 = l1(v5 + 830ull);
     s1(v3 + 211ull, 0u);
     s2(v3 + 209, 0u);
@@ -6869,27 +7026,27 @@ L130:;
     s1(v3 + 184, v15);
     s1(v3 + 187, 0u);
     s1(v3 + 208, 1u);
-    s4(v3 + 200, v6);
-    s2(v3 + 198, v8);
+    s4_4(v3 + 200, v6);
+    s2_2(v3 + 198, v8);
     s1(v3 + 197, v4);
     s1(v3 + 196, 7u);
-    s2(v3 + 194, 0u);
-    s2(v3 + 192, v7);
-    s4(v3 + 188, v9);
-    v6 = l4(v20 + 24ull);
-    s4(v3 + 204, v2);
+    s2_2(v3 + 194, 0u);
+    s2_2(v3 + 192, v7);
+    s4_4(v3 + 188, v9);
+    v6 = l4_4(v20 + 24ull);
+    s4_4(v3 + 204, v2);
     v2 = v6 + v2;
-    s4(v3 + 212, v2);
-    s8(v3 + 216, (((u64)l4(v20 + 20ull)) << 32) | ((u64)v6));
-    f105(v3 + 48ull, v0, v3 + 184ull, v4, v2);
+    s4_4(v3 + 212, v2);
+    s8_4(v3 + 216, (((u64)l4_4(v20 + 20ull)) << 32) | ((u64)v6));
+    Port_part(v3 + 48ull, v0, v3 + 184ull, v4, v2);
     if (l1(v3 + 48)) goto L2;
-    v0 = l8(v3 + 52);
-    s8(v1 + 8, 0ull);
+    v0 = l8_4(v3 + 52);
+    s8_4(v1 + 8, 0ull);
     s1(v1 + 16ull, 5u);
-    s8(v1, v0);
+    s8_4(v1, v0);
     s1(v1 + 17ull, (u32)(146584637968ull >> (((((u64)v4) & 255ull) << 3) & 63)));
-    s2(v1 + 12ull, v7);
-    s4(v1 + 8, v2);
+    s2_2(v1 + 12ull, v7);
+    s4_4(v1 + 8, v2);
     v4 = 1u;
     goto L1;
 L129:;
@@ -6902,14 +7059,14 @@ L128:;
 L127:;
     v2 = 4u;
 L126:;
-    s8(v1 + 8, 0ull);
-    s4(v1, v4);
-    s2(v1 + 16ull, 2u);
-    s4(v1 + 4ull, v2);
+    s8_4(v1 + 8, 0ull);
+    s4_4(v1, v4);
+    s2_2(v1 + 16ull, 2u);
+    s4_4(v1 + 4ull, v2);
     v4 = 1u;
     goto L1;
 L125:;
-    v20 = l8(v0 + 14344ull);
+    v20 = l8_8(v0 + 14344ull);
     v9 = l1(v0 + 14352ull);
     v6 = v9;
     switch ((u32)(((u64)v9) & 255ull)) {
@@ -6934,43 +7091,43 @@ L144:;
     v5 = v20 + 4ull;
 L124:;
     v2 = v2 ? 0u : v7;
-    s4(v3 + 176, l4(v3 + 240));
-    s8(v3 + 168, l8(v3 + 232));
-    s8(v3 + 160, l8(v3 + 224));
-    s8(v3 + 152, l8(v3 + 216));
-    s8(v3 + 144, l8(v3 + 208));
-    s8(v3 + 136, l8(v3 + 200));
-    s8(v3 + 128, l8(v3 + 192));
-    s8(v3 + 120, l8(v3 + 184));
+    s4_4(v3 + 176, l4_4(v3 + 240));
+    s8_8(v3 + 168, l8_4(v3 + 232));
+    s8_8(v3 + 160, l8_4(v3 + 224));
+    s8_8(v3 + 152, l8_4(v3 + 216));
+    s8_8(v3 + 144, l8_4(v3 + 208));
+    s8_8(v3 + 136, l8_4(v3 + 200));
+    s8_8(v3 + 128, l8_4(v3 + 192));
+    s8_8(v3 + 120, l8_4(v3 + 184));
     v6 = ((v9 << 24) | ((v6 & 255u) << 16)) | (v8 & 65535u);
     goto L121;
 L123:;
     v6 = 1u;
     if ((v2 & 255u) != 1u) goto L2;
-    s8(v3 + 120, 0ull);
-    s8(v3 + 128, 0ull);
-    s8(v3 + 136, 0ull);
-    s8(v3 + 144, 0ull);
-    s8(v3 + 152, 0ull);
-    s8(v3 + 160, 0ull);
-    s8(v3 + 168, 0ull);
-    s4(v3 + 176, 0u);
+    s8_8(v3 + 120, 0ull);
+    s8_8(v3 + 128, 0ull);
+    s8_8(v3 + 136, 0ull);
+    s8_8(v3 + 144, 0ull);
+    s8_8(v3 + 152, 0ull);
+    s8_8(v3 + 160, 0ull);
+    s8_8(v3 + 168, 0ull);
+    s4_4(v3 + 176, 0u);
     v2 = v9 + ((v8 & 255u) ? 0xFFFFFFFCu : 0xFFFFFFFEu);
     v5 = 2ull;
     v4 = 2u;
     goto L121;
 L122:;
     v0 = v0 + 14240ull;
-    v4 = l2(v0);
-    v8 = l2(v0);
-    s8(v3 + 240, 0ull);
-    s8(v3 + 232, 0ull);
-    s8(v3 + 224, 0ull);
-    s8(v3 + 216, 0ull);
-    s8(v3 + 208, 0ull);
-    s8(v3 + 200, 0ull);
-    s8(v3 + 192, 0ull);
-    s8(v3 + 184, 0ull);
+    v4 = l2_2(v0);
+    v8 = l2_2(v0);
+    s8_8(v3 + 240, 0ull);
+    s8_8(v3 + 232, 0ull);
+    s8_8(v3 + 224, 0ull);
+    s8_8(v3 + 216, 0ull);
+    s8_8(v3 + 208, 0ull);
+    s8_8(v3 + 200, 0ull);
+    s8_8(v3 + 192, 0ull);
+    s8_8(v3 + 184, 0ull);
     v2 = ((v15 + v6) << 2) + v9;
     v6 = v9 + v7;
     v7 = v2 - (v6 + ((v8 & 1u) ? 0xFFFFFFF8u : 0xFFFFFFFCu));
@@ -6979,46 +7136,46 @@ L122:;
     if (v5 == 0) goto L145;
     fill(v3 + 184ull, 0u, v5);
 L145:;
-    s8(v3 + 120, l8(v3 + 188));
-    s8(v3 + 128, l8(v3 + 196));
-    s8(v3 + 136, l8(v3 + 204));
-    s8(v3 + 144, l8(v3 + 212));
-    s8(v3 + 152, l8(v3 + 220));
-    s8(v3 + 160, l8(v3 + 228));
-    s8(v3 + 168, l8(v3 + 236));
-    s4(v3 + 176, l4(v3 + 244));
+    s8_8(v3 + 120, l8_4(v3 + 188));
+    s8_8(v3 + 128, l8_4(v3 + 196));
+    s8_8(v3 + 136, l8_4(v3 + 204));
+    s8_8(v3 + 144, l8_4(v3 + 212));
+    s8_8(v3 + 152, l8_4(v3 + 220));
+    s8_8(v3 + 160, l8_4(v3 + 228));
+    s8_8(v3 + 168, l8_4(v3 + 236));
+    s4_4(v3 + 176, l4_4(v3 + 244));
     v6 = v6 + ((v4 & 1u) ? 0xFFFFFFF8u : 0xFFFFFFFCu);
     v4 = v2 - v6;
     v4 = (v4 > v2) ? 0u : v4;
     v4 = (v4 < 64u) ? v4 : 64u;
     v2 = (v2 < v6) ? v2 : v6;
-    v6 = l4(v3 + 184);
+    v6 = l4_4(v3 + 184);
 L121:;
-    s4(v3 + 48, v6);
-    s8(v3 + 52, l8(v3 + 120));
-    s8(v3 + 60, l8(v3 + 128));
-    s8(v3 + 68, l8(v3 + 136));
-    s8(v3 + 76, l8(v3 + 144));
-    s8(v3 + 84, l8(v3 + 152));
-    s8(v3 + 92, l8(v3 + 160));
-    s8(v3 + 100, l8(v3 + 168));
-    s4(v3 + 108, l4(v3 + 176));
-    s8(v3 + 112, v5);
-    s2(v1 + 16ull, 3u);
-    s8(v1 + 8, 0ull);
-    s4(v1 + 4ull, v4);
-    s4(v1, v2);
+    s4_4(v3 + 48, v6);
+    s8_4(v3 + 52, l8_8(v3 + 120));
+    s8_4(v3 + 60, l8_8(v3 + 128));
+    s8_4(v3 + 68, l8_8(v3 + 136));
+    s8_4(v3 + 76, l8_8(v3 + 144));
+    s8_4(v3 + 84, l8_8(v3 + 152));
+    s8_4(v3 + 92, l8_8(v3 + 160));
+    s8_4(v3 + 100, l8_8(v3 + 168));
+    s4_4(v3 + 108, l4_4(v3 + 176));
+    s8_8(v3 + 112, v5);
+    s2_2(v1 + 16ull, 3u);
+    s8_4(v1 + 8, 0ull);
+    s4_4(v1 + 4ull, v4);
+    s4_4(v1, v2);
     if (v5 == 0) goto L146;
     copy(v1 + 18ull, v3 + 48ull, v5);
 L146:;
     v4 = 1u;
     goto L1;
 L120:;
-    v4 = l2(v0 + 14238ull);
-    s8(v1 + 8, 0ull);
-    s8(v1, 0ull);
+    v4 = l2_2(v0 + 14238ull);
+    s8_4(v1 + 8, 0ull);
+    s8_4(v1, 0ull);
     s2(v1 + 16ull, 4u);
-    s2(v1 + 14ull, (v4 << 2) & 508u);
+    s2_2(v1 + 14ull, (v4 << 2) & 508u);
     v4 = 1u;
     goto L1;
 L4:;
@@ -7027,20 +7184,21 @@ L3:;
     v4 = 0u;
     goto L1;
 L2:;
-    s8(v1 + 8, 0ull);
-    s8(v1, 0ull);
+    s8_4(v1 + 8, 0ull);
+    s8_4(v1, 0ull);
     v4 = 1u;
     s2(v1 + 16ull, 1u);
 L1:;
     return v4;
 }
 
-static u32 f107(u64 v0, u64 v1)
+/* mscp_c::mscp_port_next, crates/mscp_c/src/port_turning.rt:30 */
+static u32 export_mscp_port_next(u64 v0, u64 v1)
 {
     u32 v3 = 0, t0;
     goto L1;
 L1:;
-    t0 = f106(v0, v1, 0u);
+    t0 = port_turning_tell_next(v0, v1, 0u);
     v3 = t0;
     return v3;
 }
@@ -7048,23 +7206,24 @@ L1:;
 static u32 w_mscp_port_next(u64 v0, u64 v1)
 {
     u32 v2 = 0, t0, t1;
-    t0 = f58();
+    t0 = rattle_enter();
     if (t0 == 0) goto L1;
-    f59();
+    rattle_trap();
     TRAP();
 L1:;
-    t1 = f107(v0, v1);
+    t1 = export_mscp_port_next(v0, v1);
     v2 = t1;
-    f61();
+    rattle_leave();
     return v2;
 }
 
-static u32 f108(u64 v0, u64 v1)
+/* mscp_c::mscp_port_next_message, crates/mscp_c/src/port_turning.rt:40 */
+static u32 export_mscp_port_next_message(u64 v0, u64 v1)
 {
     u32 v3 = 0, t0;
     goto L1;
 L1:;
-    t0 = f106(v0, v1, 1u);
+    t0 = port_turning_tell_next(v0, v1, 1u);
     v3 = t0;
     return v3;
 }
@@ -7072,31 +7231,32 @@ L1:;
 static u32 w_mscp_port_next_message(u64 v0, u64 v1)
 {
     u32 v2 = 0, t0, t1;
-    t0 = f58();
+    t0 = rattle_enter();
     if (t0 == 0) goto L1;
-    f59();
+    rattle_trap();
     TRAP();
 L1:;
-    t1 = f108(v0, v1);
+    t1 = export_mscp_port_next_message(v0, v1);
     v2 = t1;
-    f61();
+    rattle_leave();
     return v2;
 }
 
-static u32 f109(u64 v0, u32 v1, u32 v2)
+/* mscp_c::mscp_port_protect, crates/mscp_c/src/port_watching.rt:66 */
+static u32 export_mscp_port_protect(u64 v0, u32 v1, u32 v2)
 {
     u32 v3 = 0;
     u64 v4 = 0, v5 = 0, v6 = 0;
     v3 = 0xFFFFFFF6u;
-    if (l8(v0 + 24ull) != 0x504F52544D414445ull) goto L2;
+    if (l8_8(v0 + 24ull) != 0x504F52544D414445ull) goto L2;
     v3 = 0xFFFFFFDBu;
-    v4 = l8(v0);
-    v5 = l8(v4 + 808ull);
+    v4 = l8_8(v0);
+    v5 = l8_8(v4 + 808ull);
     if (v5 == 0) goto L2;
     v6 = v4 + 16689ull;
     v0 = v4 + 40ull;
 L4:;
-    if (l2(v0) == (v1 & 65535u)) goto L3;
+    if (l2_2(v0) == (v1 & 65535u)) goto L3;
     v6 = v6 + 28ull;
     v0 = v0 + 48ull;
     v5 = v5 + 0xFFFFFFFFFFFFFFFFull;
@@ -7117,33 +7277,34 @@ L2:;
 static u32 w_mscp_port_protect(u64 v0, u32 v1, u32 v2)
 {
     u32 t0, t1;
-    t0 = f58();
+    t0 = rattle_enter();
     if (t0 == 0) goto L1;
-    f59();
+    rattle_trap();
     TRAP();
 L1:;
-    t1 = f109(v0, v1, v2);
+    t1 = export_mscp_port_protect(v0, v1, v2);
     v2 = t1;
-    f61();
+    rattle_leave();
     return v2;
 }
 
-static void f110(u64 v0, u32 v1, u32 v2)
+/* mscp_port::port::Port::forget_all, crates/mscp_port/src/port.rt:156 */
+static void Port_forget_all(u64 v0, u32 v1, u32 v2)
 {
     u32 v4 = 0;
     u64 v3 = 0, v5 = 0, v6 = 0, v7 = 0;
-    v3 = l8(v0 + 3960ull);
+    v3 = l8_8(v0 + 3960ull);
     v4 = v3 == 0;
     if (v4) goto L2;
     if (v4) goto L3;
     fill(v0 + 3896ull, 0u, v3);
 L3:;
-    s8(v0 + 3960ull, 0ull);
+    s8_8(v0 + 3960ull, 0ull);
 L2:;
     fill(v0 + 3968ull, 0u, 664ull);
     v5 = 0ull;
-    s8(v0 + 4648ull, 0ull);
-    v3 = l8(v0 + 6752ull);
+    s8_8(v0 + 4648ull, 0ull);
+    v3 = l8_8(v0 + 6752ull);
     if (v3 == 0) goto L4;
     if (v3 == 1ull) goto L6;
     v6 = v3 & 1ull;
@@ -7164,10 +7325,10 @@ L6:;
     s8(v3 + 8, 0ull);
     s8(v3, 0x300000000000000ull);
 L5:;
-    s8(v0 + 6752ull, 0ull);
+    s8_8(v0 + 6752ull, 0ull);
 L4:;
     fill(v0 + 6760ull, 0u, 256ull);
-    v3 = l8(v0 + 5680ull);
+    v3 = l8_8(v0 + 5680ull);
     if (v3 == 0) goto L8;
     v5 = v3 & 3ull;
     v7 = 0ull;
@@ -7211,24 +7372,24 @@ L8:;
     s8(v0 + 5704ull, 0ull);
     s8(v0 + 5696ull, 0ull);
     s8(v0 + 5688ull, 0ull);
-    s4(v0 + 8056ull, 0u);
-    v3 = l8(v0 + 11136ull);
+    s4_4(v0 + 8056ull, 0u);
+    v3 = l8_8(v0 + 11136ull);
     if (v3 == 0) goto L12;
     v3 = v3 * 48ull;
     if (v3 == 0) goto L13;
     fill(v0 + 8064ull, 0u, v3);
 L13:;
-    s8(v0 + 11136ull, 0ull);
+    s8_8(v0 + 11136ull, 0ull);
 L12:;
     v1 = v1 & 255u;
-    s4(v0 + 11144ull, 0u);
-    v3 = l8(v0 + 14224ull);
+    s4_4(v0 + 11144ull, 0u);
+    v3 = l8_8(v0 + 14224ull);
     if (v3 == 0) goto L14;
     v3 = v3 * 48ull;
     if (v3 == 0) goto L15;
     fill(v0 + 11152ull, 0u, v3);
 L15:;
-    s8(v0 + 14224ull, 0ull);
+    s8_8(v0 + 14224ull, 0ull);
 L14:;
     s8(v0 + 14268ull, 0ull);
     s8(v0 + 14238ull, 0ull);
@@ -7240,21 +7401,21 @@ L14:;
     s2(v0 + 14264ull, 0u);
     s1(v0 + 14233ull, l1(v0 + 14232ull));
     fill(v0 + 14288ull, 0u, 75ull);
-    v3 = l8(v0 + 15648ull);
+    v3 = l8_8(v0 + 15648ull);
     if (v3 == 0) goto L16;
     v3 = v3 * 20ull;
     if (v3 == 0) goto L17;
     fill(v0 + 14368ull, 0u, v3);
 L17:;
-    s8(v0 + 15648ull, 0ull);
+    s8_8(v0 + 15648ull, 0ull);
 L16:;
-    v3 = l8(v0 + 16680ull);
+    v3 = l8_8(v0 + 16680ull);
     if (v3 == 0) goto L18;
     v3 = v3 << 4;
     if (v3 == 0) goto L19;
     fill(v0 + 15656ull, 0u, v3);
 L19:;
-    s8(v0 + 16680ull, 0ull);
+    s8_8(v0 + 16680ull, 0ull);
 L18:;
     s8(v0 + 16704ull, 0ull);
     s1(v0 + 16690ull, 0u);
@@ -7304,19 +7465,20 @@ L18:;
     s1(v0 + 17132ull, 0u);
     s1(v0 + 17110ull, 0u);
     s8(v0 + 17124ull, 0ull);
-    s2(v0 + 17140ull, 60u);
-    s4(v0 + 17136ull, 0u);
+    s2_2(v0 + 17140ull, 60u);
+    s4_2(v0 + 17136ull, 0u);
     return;
     TRAP();
 }
 
-static u32 f111(u64 v0)
+/* mscp_c::mscp_port_read_ip, crates/mscp_c/src/port_registers.rt:13 */
+static u32 export_mscp_port_read_ip(u64 v0)
 {
     u32 v2 = 0, v3 = 0;
     v2 = 0xFFFFFFF6u;
-    if (l8(v0 + 24ull) != 0x504F52544D414445ull) goto L1;
+    if (l8_8(v0 + 24ull) != 0x504F52544D414445ull) goto L1;
     v2 = 1u;
-    v0 = l8(v0);
+    v0 = l8_8(v0);
     v3 = l1(v0 + 14234ull);
     if ((1u << (v3 & 31)) & 735u) goto L1;
     if (v3 == 5u) goto L4;
@@ -7338,7 +7500,7 @@ L4:;
     return 1u;
     TRAP();
 L2:;
-    f110(v0, 9u, 7u);
+    Port_forget_all(v0, 9u, 7u);
 L1:;
     return v2;
 }
@@ -7346,24 +7508,25 @@ L1:;
 static u32 w_mscp_port_read_ip(u64 v0)
 {
     u32 v1 = 0, t0, t1;
-    t0 = f58();
+    t0 = rattle_enter();
     if (t0 == 0) goto L1;
-    f59();
+    rattle_trap();
     TRAP();
 L1:;
-    t1 = f111(v0);
+    t1 = export_mscp_port_read_ip(v0);
     v1 = t1;
-    f61();
+    rattle_leave();
     return v1;
 }
 
-static u32 f112(u64 v0)
+/* mscp_c::mscp_port_read_sa, crates/mscp_c/src/port_registers.rt:41 */
+static u32 export_mscp_port_read_sa(u64 v0)
 {
     u32 v1 = 0;
     v1 = 0xFFFFFFF6u;
-    if (l8(v0 + 24ull) != 0x504F52544D414445ull) goto L2;
+    if (l8_8(v0 + 24ull) != 0x504F52544D414445ull) goto L2;
     v1 = 0u;
-    v0 = l8(v0);
+    v0 = l8_8(v0);
     switch ((u32)((u64)l1(v0 + 14234ull))) {
     case 1: goto L8;
     case 2: goto L7;
@@ -7377,7 +7540,7 @@ L9:;
     v1 = l1(v0) ? 2368u : 2880u;
     goto L3;
 L8:;
-    v1 = l2(v0 + 14236ull);
+    v1 = l2_2(v0 + 14236ull);
     goto L3;
 L7:;
     v1 = l1(v0 + 14239ull) | 4096u;
@@ -7389,7 +7552,7 @@ L5:;
     v1 = (((l1(v0 + 1ull) & 127u) << 4) | (l1(v0 + 2ull) & 15u)) | 16384u;
     goto L3;
 L4:;
-    v1 = l2(v0 + 14236ull) | 0xFFFF8000u;
+    v1 = l2_2(v0 + 14236ull) | 0xFFFF8000u;
 L3:;
     v1 = v1 & 65535u;
 L2:;
@@ -7400,18 +7563,19 @@ L2:;
 static u32 w_mscp_port_read_sa(u64 v0)
 {
     u32 v1 = 0, t0, t1;
-    t0 = f58();
+    t0 = rattle_enter();
     if (t0 == 0) goto L1;
-    f59();
+    rattle_trap();
     TRAP();
 L1:;
-    t1 = f112(v0);
+    t1 = export_mscp_port_read_sa(v0);
     v1 = t1;
-    f61();
+    rattle_leave();
     return v1;
 }
 
-APART void f113(u64 v0, u64 v1)
+/* mscp_saved::framing::drives_in, crates/mscp_saved/src/framing.rt:74 */
+APART void framing_drives_in(u64 v0, u64 v1)
 {
     ROOM(frame, 2080);
     u32 v7 = 0, v8 = 0, v10 = 0, v11 = 0, v12 = 0, v14 = 0, v15 = 0, v16 = 0, v17 = 0, v18 = 0, v19 = 0, v20 = 0, v21 =
@@ -7421,7 +7585,7 @@ APART void f113(u64 v0, u64 v1)
     v3 = v2;
     v2 = (u64)l1(v1 + 31);
     fill(v3 + 1048ull, 0u, 1032ull);
-    f94(v3 + 1048ull);
+    ArrayVec_new(v3 + 1048ull);
     if (v2 == 0) goto L2;
     v4 = v2 * 34ull;
     v5 = 0ull;
@@ -7449,12 +7613,12 @@ L3:;
     if ((v22 & 65535u) == 0) goto L4;
     v9 = div64(0xFFFFFFFFFFFFFFFFull, ((((u64)v12) & 65535ull) * (((u64)v11) & 65535ull)) * (((u64)v22) & 65535ull));
     v2 = v9 + 1ull;
-    f69(v3, v2, (u64)(u32)(v2 == 0), (u64)(v10 + 0xFFFFFFFFu), 0ull);
+    multi3(v3, v2, (u64)(u32)(v2 == 0), (u64)(v10 + 0xFFFFFFFFu), 0ull);
     v16 = (l1(v6 + 49ull) << 8) | l1(v6 + 48ull);
     v13 = l8(v6 + 60ull);
     v14 = l4(v6 + 68ull);
     v15 = l4(v6 + 72ull);
-    v21 = l4(v3 + 8);
+    v21 = l4_4(v3 + 8);
     v17 = v11;
     v18 = v12;
     v19 = v22;
@@ -7471,28 +7635,28 @@ L5:;
     v20 = 1u;
     v21 = 0u;
 L4:;
-    v23 = l8(v3 + 2072);
+    v23 = l8_8(v3 + 2072);
     v2 = (v3 + 1048ull) + (v23 << 6);
-    s2(v2 + 6, v19);
-    s2(v2 + 4, v18);
-    s2(v2 + 2, v17);
-    s2(v2, v16);
+    s2_2(v2 + 6, v19);
+    s2_2(v2 + 4, v18);
+    s2_2(v2 + 2, v17);
+    s2_2(v2, v16);
     s2(v2 + 49, 0u);
-    s4(v2 + 44, 0u);
-    s4(v2 + 40, v21);
-    s8(v2 + 32, v9);
-    s4(v2 + 28, v15);
-    s4(v2 + 24, v14);
-    s8(v2 + 16, v13);
-    s4(v2 + 12, 0u);
-    s4(v2 + 8, v20);
+    s4_4(v2 + 44, 0u);
+    s4_4(v2 + 40, v21);
+    s8_8(v2 + 32, v9);
+    s4_4(v2 + 28, v15);
+    s4_4(v2 + 24, v14);
+    s8_8(v2 + 16, v13);
+    s4_4(v2 + 12, 0u);
+    s4_4(v2 + 8, v20);
     s1(v2 + 51, 0u);
-    s4(v2 + 52, v8);
+    s4_4(v2 + 52, v8);
     s1(v2 + 56, (v7 & 255u) == 1u);
     s1(v2 + 48, l1(v6 + 76ull) == 1u);
     s4(v2 + 60, 0u);
     s4(v2 + 57, 0u);
-    s8(v3 + 2072, v23 + 1ull);
+    s8_8(v3 + 2072, v23 + 1ull);
     v5 = v5 + 34ull;
     if (v4 != v5) goto L3;
 L2:;
@@ -7502,159 +7666,160 @@ L2:;
     TRAP();
 }
 
-APART void f114(u64 v0, u64 v1, u64 v2, u64 v3)
+/* mscp_saved::restoring::settings_in, crates/mscp_saved/src/restoring.rt:30 */
+APART void restoring_settings_in(u64 v0, u64 v1, u64 v2, u64 v3)
 {
     ROOM(frame, 4848);
     u32 v11 = 0, v12 = 0, v13 = 0, v14 = 0, v15 = 0, v16 = 0, v17 = 0, v18 = 0;
     u64 v4 = 0, v5 = 0, v6 = 0, v7 = 0, v8 = 0, v9 = 0, v10 = 0;
     v4 = A(frame);
-    s2(v4 + 3908, 0u);
-    s4(v4 + 3904, 0u);
+    s2_2(v4 + 3908, 0u);
+    s4_4(v4 + 3904, 0u);
     fill(v4 + 3128ull, 0u, 776ull);
     fill(v4 + 2344ull, 0u, 784ull);
     fill(v4 + 1568ull, 0u, 776ull);
     fill(v4 + 792ull, 0u, 776ull);
-    s2(v4 + 788, 0u);
-    s4(v4 + 784, 0u);
+    s2_2(v4 + 788, 0u);
+    s4_4(v4 + 784, 0u);
     fill(v4 + 8ull, 0u, 776ull);
     fill(v4 + 4504ull, 0u, 344ull);
-    s4(v4 + 4064, 0u);
+    s4_4(v4 + 4064, 0u);
     v5 = 0ull;
-    s8(v4 + 4056, 0ull);
-    s8(v4 + 4048, 0ull);
-    s8(v4 + 4024, 0ull);
-    s8(v4 + 4032, 0ull);
-    s4(v4 + 4040, 0u);
-    s8(v4 + 4000, 0ull);
-    s8(v4 + 4008, 0ull);
-    s4(v4 + 4016, 0u);
-    s8(v4 + 3976, 0ull);
-    s8(v4 + 3984, 0ull);
-    s4(v4 + 3992, 0u);
-    s8(v4 + 3952, 0ull);
-    s8(v4 + 3960, 0ull);
-    s4(v4 + 3968, 0u);
-    s8(v4 + 3928, 0ull);
-    s8(v4 + 3936, 0ull);
-    s4(v4 + 3944, 0u);
-    s8(v4 + 3920, 0ull);
-    s8(v4 + 3912, 0ull);
-    s4(v4 + 4080, 1u);
-    s8(v4 + 4072, 0x1000100010000ull);
-    s8(v4 + 4084, 0ull);
-    s8(v4 + 4092, 0ull);
-    s4(v4 + 4100, 0u);
-    s8(v4 + 4104, 0xFFFFFFFFFFFFFFFFull);
-    s4(v4 + 4128, 1u);
-    s8(v4 + 4112, 0ull);
-    s8(v4 + 4120, 0x1000100010000ull);
-    s8(v4 + 4132, 0ull);
-    s8(v4 + 4140, 0ull);
-    s4(v4 + 4148, 0u);
-    s8(v4 + 4152, 0xFFFFFFFFFFFFFFFFull);
-    s4(v4 + 4176, 1u);
-    s8(v4 + 4160, 0ull);
-    s8(v4 + 4168, 0x1000100010000ull);
-    s4(v4 + 4196, 0u);
-    s8(v4 + 4188, 0ull);
-    s8(v4 + 4180, 0ull);
-    s8(v4 + 4216, 0x1000100010000ull);
-    s8(v4 + 4208, 0ull);
-    s4(v4 + 4224, 1u);
-    s8(v4 + 4200, 0xFFFFFFFFFFFFFFFFull);
-    s8(v4 + 4228, 0ull);
-    s8(v4 + 4236, 0ull);
-    s4(v4 + 4244, 0u);
-    s8(v4 + 4264, 0x1000100010000ull);
-    s8(v4 + 4256, 0ull);
-    s4(v4 + 4272, 1u);
-    s8(v4 + 4248, 0xFFFFFFFFFFFFFFFFull);
-    s8(v4 + 4276, 0ull);
-    s8(v4 + 4284, 0ull);
-    s4(v4 + 4292, 0u);
-    s8(v4 + 4312, 0x1000100010000ull);
-    s8(v4 + 4304, 0ull);
-    s4(v4 + 4320, 1u);
-    s8(v4 + 4296, 0xFFFFFFFFFFFFFFFFull);
-    s4(v4 + 4340, 0u);
-    s8(v4 + 4332, 0ull);
-    s8(v4 + 4324, 0ull);
-    s4(v4 + 4368, 1u);
-    s8(v4 + 4360, 0x1000100010000ull);
-    s8(v4 + 4352, 0ull);
-    s8(v4 + 4344, 0xFFFFFFFFFFFFFFFFull);
-    s4(v4 + 4388, 0u);
-    s8(v4 + 4380, 0ull);
-    s8(v4 + 4372, 0ull);
-    s4(v4 + 4416, 1u);
-    s8(v4 + 4408, 0x1000100010000ull);
-    s8(v4 + 4400, 0ull);
-    s8(v4 + 4392, 0xFFFFFFFFFFFFFFFFull);
-    s4(v4 + 4436, 0u);
-    s8(v4 + 4428, 0ull);
-    s8(v4 + 4420, 0ull);
-    s4(v4 + 4464, 1u);
-    s8(v4 + 4456, 0x1000100010000ull);
-    s8(v4 + 4448, 0ull);
-    s8(v4 + 4440, 0xFFFFFFFFFFFFFFFFull);
-    s4(v4 + 4484, 0u);
-    s8(v4 + 4476, 0ull);
-    s8(v4 + 4468, 0ull);
-    s4(v4 + 4512, 1u);
-    s2(v4 + 4510, 1u);
-    s4(v4 + 4506, 65537u);
-    s8(v4 + 4496, 0ull);
-    s8(v4 + 4488, 0xFFFFFFFFFFFFFFFFull);
-    s4(v4 + 4532, 0u);
-    s8(v4 + 4524, 0ull);
-    s8(v4 + 4516, 0ull);
-    s4(v4 + 4560, 1u);
-    s8(v4 + 4552, 0x1000100010000ull);
-    s8(v4 + 4544, 0ull);
-    s8(v4 + 4536, 0xFFFFFFFFFFFFFFFFull);
-    s4(v4 + 4580, l4(v4 + 4064));
-    s8(v4 + 4572, l8(v4 + 4056));
-    s8(v4 + 4564, l8(v4 + 4048));
-    s4(v4 + 4608, 1u);
-    s8(v4 + 4600, 0x1000100010000ull);
-    s8(v4 + 4592, 0ull);
-    s8(v4 + 4584, 0xFFFFFFFFFFFFFFFFull);
-    s4(v4 + 4628, l4(v4 + 4040));
-    s8(v4 + 4620, l8(v4 + 4032));
-    s8(v4 + 4612, l8(v4 + 4024));
-    s4(v4 + 4656, 1u);
-    s8(v4 + 4648, 0x1000100010000ull);
-    s8(v4 + 4640, 0ull);
-    s8(v4 + 4632, 0xFFFFFFFFFFFFFFFFull);
-    s4(v4 + 4676, l4(v4 + 4016));
-    s8(v4 + 4668, l8(v4 + 4008));
-    s8(v4 + 4660, l8(v4 + 4000));
-    s4(v4 + 4704, 1u);
-    s8(v4 + 4696, 0x1000100010000ull);
-    s8(v4 + 4688, 0ull);
-    s8(v4 + 4680, 0xFFFFFFFFFFFFFFFFull);
-    s4(v4 + 4724, l4(v4 + 3992));
-    s8(v4 + 4716, l8(v4 + 3984));
-    s8(v4 + 4708, l8(v4 + 3976));
-    s4(v4 + 4752, 1u);
-    s8(v4 + 4744, 0x1000100010000ull);
-    s8(v4 + 4736, 0ull);
-    s8(v4 + 4728, 0xFFFFFFFFFFFFFFFFull);
-    s4(v4 + 4772, l4(v4 + 3968));
-    s8(v4 + 4764, l8(v4 + 3960));
-    s8(v4 + 4756, l8(v4 + 3952));
-    s4(v4 + 4800, 1u);
-    s8(v4 + 4792, 0x1000100010000ull);
-    s8(v4 + 4784, 0ull);
-    s8(v4 + 4776, 0xFFFFFFFFFFFFFFFFull);
-    s4(v4 + 4820, l4(v4 + 3944));
-    s8(v4 + 4812, l8(v4 + 3936));
-    s8(v4 + 4804, l8(v4 + 3928));
-    s8(v4 + 4824, 0xFFFFFFFFFFFFFFFFull);
-    s8(v4 + 4840, l8(v4 + 3920));
-    s8(v4 + 4832, l8(v4 + 3912));
+    s8_8(v4 + 4056, 0ull);
+    s8_8(v4 + 4048, 0ull);
+    s8_8(v4 + 4024, 0ull);
+    s8_8(v4 + 4032, 0ull);
+    s4_4(v4 + 4040, 0u);
+    s8_8(v4 + 4000, 0ull);
+    s8_8(v4 + 4008, 0ull);
+    s4_4(v4 + 4016, 0u);
+    s8_8(v4 + 3976, 0ull);
+    s8_8(v4 + 3984, 0ull);
+    s4_4(v4 + 3992, 0u);
+    s8_8(v4 + 3952, 0ull);
+    s8_8(v4 + 3960, 0ull);
+    s4_4(v4 + 3968, 0u);
+    s8_8(v4 + 3928, 0ull);
+    s8_8(v4 + 3936, 0ull);
+    s4_4(v4 + 3944, 0u);
+    s8_8(v4 + 3920, 0ull);
+    s8_8(v4 + 3912, 0ull);
+    s4_4(v4 + 4080, 1u);
+    s8_8(v4 + 4072, 0x1000100010000ull);
+    s8_4(v4 + 4084, 0ull);
+    s8_4(v4 + 4092, 0ull);
+    s4_4(v4 + 4100, 0u);
+    s8_8(v4 + 4104, 0xFFFFFFFFFFFFFFFFull);
+    s4_4(v4 + 4128, 1u);
+    s8_8(v4 + 4112, 0ull);
+    s8_8(v4 + 4120, 0x1000100010000ull);
+    s8_4(v4 + 4132, 0ull);
+    s8_4(v4 + 4140, 0ull);
+    s4_4(v4 + 4148, 0u);
+    s8_8(v4 + 4152, 0xFFFFFFFFFFFFFFFFull);
+    s4_4(v4 + 4176, 1u);
+    s8_8(v4 + 4160, 0ull);
+    s8_8(v4 + 4168, 0x1000100010000ull);
+    s4_4(v4 + 4196, 0u);
+    s8_4(v4 + 4188, 0ull);
+    s8_4(v4 + 4180, 0ull);
+    s8_8(v4 + 4216, 0x1000100010000ull);
+    s8_8(v4 + 4208, 0ull);
+    s4_4(v4 + 4224, 1u);
+    s8_8(v4 + 4200, 0xFFFFFFFFFFFFFFFFull);
+    s8_4(v4 + 4228, 0ull);
+    s8_4(v4 + 4236, 0ull);
+    s4_4(v4 + 4244, 0u);
+    s8_8(v4 + 4264, 0x1000100010000ull);
+    s8_8(v4 + 4256, 0ull);
+    s4_4(v4 + 4272, 1u);
+    s8_8(v4 + 4248, 0xFFFFFFFFFFFFFFFFull);
+    s8_4(v4 + 4276, 0ull);
+    s8_4(v4 + 4284, 0ull);
+    s4_4(v4 + 4292, 0u);
+    s8_8(v4 + 4312, 0x1000100010000ull);
+    s8_8(v4 + 4304, 0ull);
+    s4_4(v4 + 4320, 1u);
+    s8_8(v4 + 4296, 0xFFFFFFFFFFFFFFFFull);
+    s4_4(v4 + 4340, 0u);
+    s8_4(v4 + 4332, 0ull);
+    s8_4(v4 + 4324, 0ull);
+    s4_4(v4 + 4368, 1u);
+    s8_8(v4 + 4360, 0x1000100010000ull);
+    s8_8(v4 + 4352, 0ull);
+    s8_8(v4 + 4344, 0xFFFFFFFFFFFFFFFFull);
+    s4_4(v4 + 4388, 0u);
+    s8_4(v4 + 4380, 0ull);
+    s8_4(v4 + 4372, 0ull);
+    s4_4(v4 + 4416, 1u);
+    s8_8(v4 + 4408, 0x1000100010000ull);
+    s8_8(v4 + 4400, 0ull);
+    s8_8(v4 + 4392, 0xFFFFFFFFFFFFFFFFull);
+    s4_4(v4 + 4436, 0u);
+    s8_4(v4 + 4428, 0ull);
+    s8_4(v4 + 4420, 0ull);
+    s4_4(v4 + 4464, 1u);
+    s8_8(v4 + 4456, 0x1000100010000ull);
+    s8_8(v4 + 4448, 0ull);
+    s8_8(v4 + 4440, 0xFFFFFFFFFFFFFFFFull);
+    s4_4(v4 + 4484, 0u);
+    s8_4(v4 + 4476, 0ull);
+    s8_4(v4 + 4468, 0ull);
+    s4_4(v4 + 4512, 1u);
+    s2_2(v4 + 4510, 1u);
+    s4_2(v4 + 4506, 65537u);
+    s8_8(v4 + 4496, 0ull);
+    s8_8(v4 + 4488, 0xFFFFFFFFFFFFFFFFull);
+    s4_4(v4 + 4532, 0u);
+    s8_4(v4 + 4524, 0ull);
+    s8_4(v4 + 4516, 0ull);
+    s4_4(v4 + 4560, 1u);
+    s8_8(v4 + 4552, 0x1000100010000ull);
+    s8_8(v4 + 4544, 0ull);
+    s8_8(v4 + 4536, 0xFFFFFFFFFFFFFFFFull);
+    s4_4(v4 + 4580, l4_4(v4 + 4064));
+    s8_4(v4 + 4572, l8_8(v4 + 4056));
+    s8_4(v4 + 4564, l8_8(v4 + 4048));
+    s4_4(v4 + 4608, 1u);
+    s8_8(v4 + 4600, 0x1000100010000ull);
+    s8_8(v4 + 4592, 0ull);
+    s8_8(v4 + 4584, 0xFFFFFFFFFFFFFFFFull);
+    s4_4(v4 + 4628, l4_4(v4 + 4040));
+    s8_4(v4 + 4620, l8_8(v4 + 4032));
+    s8_4(v4 + 4612, l8_8(v4 + 4024));
+    s4_4(v4 + 4656, 1u);
+    s8_8(v4 + 4648, 0x1000100010000ull);
+    s8_8(v4 + 4640, 0ull);
+    s8_8(v4 + 4632, 0xFFFFFFFFFFFFFFFFull);
+    s4_4(v4 + 4676, l4_4(v4 + 4016));
+    s8_4(v4 + 4668, l8_8(v4 + 4008));
+    s8_4(v4 + 4660, l8_8(v4 + 4000));
+    s4_4(v4 + 4704, 1u);
+    s8_8(v4 + 4696, 0x1000100010000ull);
+    s8_8(v4 + 4688, 0ull);
+    s8_8(v4 + 4680, 0xFFFFFFFFFFFFFFFFull);
+    s4_4(v4 + 4724, l4_4(v4 + 3992));
+    s8_4(v4 + 4716, l8_8(v4 + 3984));
+    s8_4(v4 + 4708, l8_8(v4 + 3976));
+    s4_4(v4 + 4752, 1u);
+    s8_8(v4 + 4744, 0x1000100010000ull);
+    s8_8(v4 + 4736, 0ull);
+    s8_8(v4 + 4728, 0xFFFFFFFFFFFFFFFFull);
+    s4_4(v4 + 4772, l4_4(v4 + 3968));
+    s8_4(v4 + 4764, l8_8(v4 + 3960));
+    s8_4(v4 + 4756, l8_8(v4 + 3952));
+    s4_4(v4 + 4800, 1u);
+    s8_8(v4 + 4792, 0x1000100010000ull);
+    s8_8(v4 + 4784, 0ull);
+    s8_8(v4 + 4776, 0xFFFFFFFFFFFFFFFFull);
+    s4_4(v4 + 4820, l4_4(v4 + 3944));
+    s8_4(v4 + 4812, l8_8(v4 + 3936));
+    s8_4(v4 + 4804, l8_8(v4 + 3928));
+    s8_8(v4 + 4824, 0xFFFFFFFFFFFFFFFFull);
+    s8_8(v4 + 4840, l8_8(v4 + 3920));
+    s8_8(v4 + 4832, l8_8(v4 + 3912));
     if (v3 == 0) goto L5;
-    v6 = l8(v4 + 4840);
+    v6 = l8_8(v4 + 4840);
     if (v3 == 1ull) goto L6;
     v7 = v3 & 1ull;
     v8 = v3 & 0xFFFFFFFFFFFFFFFEull;
@@ -7669,14 +7834,14 @@ L7:;
     s8(v3 + 8, l8(v9 + 8));
     s8(v3, l8(v9));
     v10 = v6 + v5;
-    s8(v4 + 4840, v10 + 1ull);
+    s8_8(v4 + 4840, v10 + 1ull);
     s8(v3 + 88ull, l8(v9 + 104ull));
     s8(v3 + 80ull, l8(v9 + 96ull));
     s8(v3 + 72ull, l8(v9 + 88ull));
     s8(v3 + 64ull, l8(v9 + 80ull));
     s8(v3 + 56ull, l8(v9 + 72ull));
     s8(v3 + 48ull, l8(v9 + 64ull));
-    s8(v4 + 4840, v10 + 2ull);
+    s8_8(v4 + 4840, v10 + 2ull);
     v9 = v9 + 128ull;
     v3 = v3 + 96ull;
     v5 = v5 + 2ull;
@@ -7692,11 +7857,11 @@ L6:;
     s8(v3 + 16, l8(v9 + 16));
     s8(v3 + 8, l8(v9 + 8));
     s8(v3, l8(v9));
-    s8(v4 + 4840, v6 + 1ull);
+    s8_8(v4 + 4840, v6 + 1ull);
 L5:;
     copy(v4 + 1568ull, v4 + 4072ull, 776ull);
     copy(v4 + 792ull, v4 + 1568ull, 776ull);
-    f92(v4 + 2344ull, v4 + 792ull, l8(v4 + 1560));
+    Units_new(v4 + 2344ull, v4 + 792ull, l8_8(v4 + 1560));
     if (l1(v4 + 2344)) goto L9;
     v11 = 4u;
     v3 = 0ull;
@@ -7723,16 +7888,16 @@ L9:;
     s8(v0 + 8ull, 0ull);
     s8(v0 + 16ull, 0ull);
     s2(v0 + 24ull, 0u);
-    s4(v0 + 26ull, l4(v4 + 3904));
-    s2(v0 + 30ull, l2(v4 + 3908));
+    s4(v0 + 26ull, l4_4(v4 + 3904));
+    s2(v0 + 30ull, l2_2(v4 + 3908));
     s8(v0 + 32ull, 0ull);
     copy(v0 + 40ull, v4 + 3128ull, 776ull);
     goto L1;
 L8:;
     v3 = l8(v1 + 32ull);
     v13 = 0u;
-    s2(v4 + 788, 0u);
-    s4(v4 + 784, 0u);
+    s2_2(v4 + 788, 0u);
+    s4_4(v4 + 784, 0u);
     copy(v4 + 8ull, (v4 + 2344ull) + 8ull, 776ull);
     v12 = v14;
     v11 = 0u;
@@ -7751,15 +7916,16 @@ L2:;
     s4(v0 + 12ull, v15);
     s4(v0 + 8ull, v12);
     s1(v0 + 1ull, v11);
-    s4(v0 + 26ull, l4(v4 + 784));
-    s2(v0 + 30ull, l2(v4 + 788));
+    s4(v0 + 26ull, l4_4(v4 + 784));
+    s2(v0 + 30ull, l2_2(v4 + 788));
     s8(v0 + 32ull, v3);
     copy(v0 + 40ull, v4 + 8ull, 776ull);
 L1:;
     return;
 }
 
-APART void f115(u64 v0, u64 v1)
+/* mscp_saved::framing::all_waiting_in, crates/mscp_saved/src/framing.rt:83 */
+APART void framing_all_waiting_in(u64 v0, u64 v1)
 {
     ROOM(frame, 6192);
     u32 v5 = 0, v8 = 0, v9 = 0, v10 = 0, v11 = 0, v12 = 0, v13 = 0, v14 = 0;
@@ -7776,40 +7942,40 @@ L2:;
     v2 = (v3 + 4120ull) + v7;
     s8(v2 + 2057ull, 0ull);
     s1(v2 + 2056ull, 5u);
-    s8(v2 + 2048ull, 0ull);
+    s8_8(v2 + 2048ull, 0ull);
     s8(v2 + 2065ull, 0ull);
     s8(v2 + 2072ull, 0ull);
     s8(v2 + 2089ull, 0ull);
     s1(v2 + 2088ull, 5u);
-    s8(v2 + 2080ull, 0ull);
+    s8_8(v2 + 2080ull, 0ull);
     s8(v2 + 2097ull, 0ull);
     s8(v2 + 2104ull, 0ull);
     s8(v2 + 2121ull, 0ull);
     s1(v2 + 2120ull, 5u);
-    s8(v2 + 2112ull, 0ull);
+    s8_8(v2 + 2112ull, 0ull);
     s8(v2 + 2129ull, 0ull);
     s8(v2 + 2136ull, 0ull);
     s1(v2 + 2152ull, 5u);
-    s8(v2 + 2144ull, 0ull);
+    s8_8(v2 + 2144ull, 0ull);
     s8(v2 + 2168ull, 0ull);
     s8(v2 + 2161ull, 0ull);
     s8(v2 + 2153ull, 0ull);
     v7 = v7 + 128ull;
     if (v7 != 0ull) goto L2;
     copy(v3 + 2064ull, v3 + 4120ull, 2048ull);
-    s8(v3 + 4112, 0ull);
+    s8_8(v3 + 4112, 0ull);
     if ((v5 & 255u) == 0) goto L3;
     v7 = (v1 + (v4 * 34ull)) + 48ull;
     v6 = v6 << 5;
     v1 = 1ull;
     v4 = 0ull;
 L4:;
-    s8(v3 + 6184, 0ull);
-    s8(v3 + 6176, 0ull);
-    s8(v3 + 6168, 0ull);
-    f90(v3 + 6168ull, v7, 32ull);
+    s8_8(v3 + 6184, 0ull);
+    s8_8(v3 + 6176, 0ull);
+    s8_8(v3 + 6168, 0ull);
+    reading_read_command(v3 + 6168ull, v7, 32ull);
     if (l1(v3 + 6168)) goto L1;
-    v5 = l4(v3 + 6184);
+    v5 = l4_4(v3 + 6184);
     v8 = l1(v7 + 40ull);
     v9 = 1u;
     v10 = l1(v3 + 6180);
@@ -7817,24 +7983,24 @@ L4:;
     v9 = (v5 >> 9) + (u32)((v5 & 511u) != 0u);
     v9 = (v9 > 1u) ? v9 : 1u;
 L5:;
-    v11 = l4(v3 + 6188);
-    v12 = l2(v3 + 6182);
+    v11 = l4_4(v3 + 6188);
+    v12 = l2_2(v3 + 6182);
     v13 = l1(v3 + 6181);
-    v14 = l2(v3 + 6176);
+    v14 = l2_2(v3 + 6176);
     v2 = (v3 + 2064ull) + v4;
-    s4(v2, l4(v3 + 6172));
-    s8(v2 + 24ull, l8(v7 + 32ull));
-    s4(v2 + 20ull, v9);
-    s4(v2 + 16ull, v11);
-    s4(v2 + 12ull, v5);
-    s2(v2 + 10ull, v12);
+    s4_4(v2, l4_4(v3 + 6172));
+    s8_8(v2 + 24ull, l8(v7 + 32ull));
+    s4_4(v2 + 20ull, v9);
+    s4_4(v2 + 16ull, v11);
+    s4_4(v2 + 12ull, v5);
+    s2_2(v2 + 10ull, v12);
     s1(v2 + 9ull, v13);
     s1(v2 + 8ull, v10);
     s1(v2 + 7ull, 0u);
     s1(v2 + 6ull, (v8 & 255u) != 1u);
-    s2(v2 + 4ull, v14);
+    s2_2(v2 + 4ull, v14);
     v7 = v7 + 41ull;
-    s8(v3 + 4112, v1);
+    s8_8(v3 + 4112, v1);
     v1 = v1 + 1ull;
     v4 = v4 + 32ull;
     if (v6 != v4) goto L4;
@@ -7846,7 +8012,8 @@ L1:;
     TRAP();
 }
 
-APART void f116(u64 v0, u64 v1, u64 v2)
+/* mscp_saved::reading::read_ends, crates/mscp_saved/src/reading.rt:159 */
+APART void reading_read_ends(u64 v0, u64 v1, u64 v2)
 {
     ROOM(frame, 3152);
     u32 v5 = 0, v6 = 0, v7 = 0, v8 = 0, v9 = 0, v10 = 0, v11 = 0, v12 = 0, v14 = 0, v15 = 0, v16 = 0, v17 = 0, v18 = 0,
@@ -7857,17 +8024,17 @@ APART void f116(u64 v0, u64 v1, u64 v2)
     if (v2 == 0) goto L2;
     v4 = v3 + 3114ull;
 L3:;
-    s8(v3 + 3096, 0ull);
-    s8(v3 + 3104, 0ull);
-    s8(v3 + 3112, 0ull);
-    s8(v3 + 3120, 0ull);
-    s8(v3 + 3128, 0ull);
-    s8(v3 + 3136, 0ull);
-    s8(v3 + 3144, 0ull);
+    s8_8(v3 + 3096, 0ull);
+    s8_8(v3 + 3104, 0ull);
+    s8_8(v3 + 3112, 0ull);
+    s8_8(v3 + 3120, 0ull);
+    s8_8(v3 + 3128, 0ull);
+    s8_8(v3 + 3136, 0ull);
+    s8_8(v3 + 3144, 0ull);
     v5 = 0u;
-    s4(v3 + 3088, 0u);
-    s2(v3 + 3092, 0u);
-    f81(v3 + 3096ull, v1, 48ull);
+    s4_4(v3 + 3088, 0u);
+    s2_2(v3 + 3092, 0u);
+    reading_read_end(v3 + 3096ull, v1, 48ull);
     if (l1(v3 + 3096) == 0) goto L5;
     v6 = 0u;
     v7 = 0u;
@@ -7883,44 +8050,44 @@ L3:;
     v17 = 0u;
     goto L4;
 L5:;
-    s4(v3 + 3088, l4(v4));
-    s2(v3 + 3092, l2(v4 + 4));
-    v17 = l4(v3 + 3148);
-    v16 = l4(v3 + 3144);
-    v15 = l4(v3 + 3140);
-    v14 = l4(v3 + 3136);
-    v13 = l8(v3 + 3128);
-    v12 = l4(v3 + 3124);
-    v5 = l2(v3 + 3122);
-    v11 = l2(v3 + 3120);
-    v10 = l2(v3 + 3112);
+    s4_4(v3 + 3088, l4_2(v4));
+    s2_2(v3 + 3092, l2_2(v4 + 4));
+    v17 = l4_4(v3 + 3148);
+    v16 = l4_4(v3 + 3144);
+    v15 = l4_4(v3 + 3140);
+    v14 = l4_4(v3 + 3136);
+    v13 = l8_8(v3 + 3128);
+    v12 = l4_4(v3 + 3124);
+    v5 = l2_2(v3 + 3122);
+    v11 = l2_2(v3 + 3120);
+    v10 = l2_2(v3 + 3112);
     v9 = l1(v3 + 3111);
     v8 = l1(v3 + 3110);
-    v7 = l2(v3 + 3108);
-    v6 = l4(v3 + 3104);
+    v7 = l2_2(v3 + 3108);
+    v6 = l4_4(v3 + 3104);
 L4:;
-    v18 = l2(v3 + 3092);
-    s2(v3 + 4, v18);
-    v19 = l4(v3 + 3088);
-    s4(v3, v19);
-    v20 = l8(v3 + 3080);
+    v18 = l2_2(v3 + 3092);
+    s2_2(v3 + 4, v18);
+    v19 = l4_4(v3 + 3088);
+    s4_4(v3, v19);
+    v20 = l8_8(v3 + 3080);
     v21 = (v3 + 8ull) + (v20 * 48ull);
     s1(v21 + 7, v9);
     s1(v21 + 6, v8);
-    s2(v21 + 4, v7);
-    s4(v21, v6);
-    s4(v21 + 36, v15);
-    s4(v21 + 32, v14);
-    s4(v21 + 20, v12);
-    s2(v21 + 18, v5);
-    s2(v21 + 16, v11);
-    s2(v21 + 8, v10);
-    s4(v21 + 10, v19);
-    s2(v21 + 14, v18);
-    s8(v21 + 24, v13);
-    s4(v21 + 44, v17);
-    s4(v21 + 40, v16);
-    s8(v3 + 3080, v20 + 1ull);
+    s2_2(v21 + 4, v7);
+    s4_4(v21, v6);
+    s4_4(v21 + 36, v15);
+    s4_4(v21 + 32, v14);
+    s4_4(v21 + 20, v12);
+    s2_2(v21 + 18, v5);
+    s2_2(v21 + 16, v11);
+    s2_2(v21 + 8, v10);
+    s4_2(v21 + 10, v19);
+    s2_2(v21 + 14, v18);
+    s8_8(v21 + 24, v13);
+    s4_4(v21 + 44, v17);
+    s4_4(v21 + 40, v16);
+    s8_8(v3 + 3080, v20 + 1ull);
     v1 = v1 + 48ull;
     v2 = v2 + 0xFFFFFFFFFFFFFFFFull;
     if (v2 != 0ull) goto L3;
@@ -7930,7 +8097,8 @@ L2:;
     TRAP();
 }
 
-static u32 f117(u32 v0, u64 v1, u64 v2, u64 v3)
+/* mscp_saved::checking::may_be_begun, crates/mscp_saved/src/checking.rt:214 */
+static u32 checking_may_be_begun(u32 v0, u64 v1, u64 v2, u64 v3)
 {
     u32 v4 = 0, v5 = 0, v6 = 0;
     u64 v7 = 0, v8 = 0, v9 = 0, v10 = 0;
@@ -7943,14 +8111,14 @@ static u32 f117(u32 v0, u64 v1, u64 v2, u64 v3)
     v3 = v1;
 L5:;
     if (l1(v3 + 6ull) != (v6 & 255u)) goto L6;
-    if (l4(v3) == v5) goto L4;
+    if (l4_4(v3) == v5) goto L4;
 L6:;
     v3 = v3 + 32ull;
     v7 = v7 + 1ull;
     if (v2 != v7) goto L5;
     goto L2;
 L4:;
-    if (l4(v3 + 24ull)) goto L1;
+    if (l4_4(v3 + 24ull)) goto L1;
     v8 = v7 ^ 0xFFFFFFFFFFFFFFFFull;
     v9 = 0ull - v7;
     v10 = v2 + 1ull;
@@ -7958,16 +8126,16 @@ L4:;
 L8:;
     v10 = v10 + 0xFFFFFFFFFFFFFFFFull;
     if (v10 == 0) goto L7;
-    v6 = l4(v2);
+    v6 = l4_4(v2);
     v2 = v2 + 32ull;
     if (v6) goto L2;
     goto L8;
 L7:;
     if (v7 == 0) goto L9;
     v7 = v1 + 8ull;
-    v6 = l2(v3 + 4ull);
+    v6 = l2_2(v3 + 4ull);
 L10:;
-    if (l2(v7 + 0xFFFFFFFFFFFFFFFCull) != (v6 & 65535u)) goto L11;
+    if (l2_2(v7 + 0xFFFFFFFFFFFFFFFCull) != (v6 & 65535u)) goto L11;
     if (((l1(v7) + 0xFFFFFFFCu) & 255u) < 3u) goto L2;
     if (((l1(v3 + 8ull) + 0xFFFFFFF9u) & 255u) > 252u) goto L2;
 L11:;
@@ -7976,13 +8144,13 @@ L11:;
     if (v9 != 0ull) goto L10;
 L9:;
     v7 = v1 + 28ull;
-    v2 = (u64)l4(v3 + 20ull);
+    v2 = (u64)l4_4(v3 + 20ull);
     v1 = (u64)v0;
 L12:;
     v8 = v8 + 1ull;
     v4 = v8 == 0;
     if (v4) goto L1;
-    v3 = (u64)l4(v7);
+    v3 = (u64)l4_4(v7);
     v7 = v7 + 32ull;
     if ((v3 + v2) > v1) goto L1;
     goto L12;
@@ -7993,7 +8161,8 @@ L1:;
     return v4;
 }
 
-static void f118(u64 v0, u64 v1, u32 v2, u32 v3, u64 v4, u32 v5)
+/* mscp_saved::writing::put_head, crates/mscp_saved/src/writing.rt:184 */
+static void writing_put_head(u64 v0, u64 v1, u32 v2, u32 v3, u64 v4, u32 v5)
 {
     u32 v6 = 0, v7 = 0, v8 = 0;
     u64 v9 = 0, v10 = 0, v11 = 0;
@@ -8001,11 +8170,11 @@ static void f118(u64 v0, u64 v1, u32 v2, u32 v3, u64 v4, u32 v5)
     v7 = v2 >> 16;
     v8 = v2 >> 8;
     v9 = v0 + 3664ull;
-    v10 = l8(v9);
+    v10 = l8_8(v9);
     if ((v10 + 0xFFFFFFFFFFFFF1B3ull) < 4ull) goto L2;
     s4(v0 + v10, 1363366733u);
     v11 = v10 + 4ull;
-    s8(v9, v11);
+    s8_8(v9, v11);
     if ((v10 + 0xFFFFFFFFFFFFF1B7ull) >= 4ull) goto L3;
     v10 = v11;
     goto L2;
@@ -8013,54 +8182,54 @@ L3:;
     s4(v0 + v11, 1u);
     v11 = v0 + 3664ull;
     v9 = v10 + 8ull;
-    s8(v11, v9);
+    s8_8(v11, v9);
     if ((v10 + 0xFFFFFFFFFFFFF1BBull) >= 4ull) goto L4;
     v10 = v9;
     goto L2;
 L4:;
     s4(v0 + v9, ((((v2 & 255u) * 34u) + ((v8 & 255u) * 41u)) + (((v7 & 255u) + v6) * 48u)) + 48u);
     v10 = v10 + 12ull;
-    s8(v11, v10);
+    s8_8(v11, v10);
 L2:;
     if ((v10 + 0xFFFFFFFFFFFFF1B3ull) < 4ull) goto L5;
-    s4(v0 + v10, l4(v1));
+    s4(v0 + v10, l4_4(v1));
     v11 = v0 + 3664ull;
     v9 = v10 + 4ull;
-    s8(v11, v9);
+    s8_8(v11, v9);
     if ((v10 + 0xFFFFFFFFFFFFF1B7ull) >= 4ull) goto L6;
     v10 = v9;
     goto L5;
 L6:;
-    s4(v0 + v9, l4(v1 + 4ull));
+    s4(v0 + v9, l4_4(v1 + 4ull));
     v9 = v10 + 8ull;
-    s8(v11, v9);
+    s8_8(v11, v9);
     if ((v10 + 0xFFFFFFFFFFFFF1BBull) >= 4ull) goto L7;
     v10 = v9;
     goto L5;
 L7:;
-    s4(v0 + v9, l4(v1 + 8ull));
+    s4(v0 + v9, l4_4(v1 + 8ull));
     v11 = v0 + 3664ull;
     v9 = v10 + 12ull;
-    s8(v11, v9);
+    s8_8(v11, v9);
     if ((v10 + 0xFFFFFFFFFFFFF1BFull) >= 4ull) goto L8;
     v10 = v9;
     goto L5;
 L8:;
-    s4(v0 + v9, l4(v1 + 12ull));
+    s4(v0 + v9, l4_4(v1 + 12ull));
     v10 = v10 + 16ull;
-    s8(v11, v10);
+    s8_8(v11, v10);
 L5:;
     if ((v10 + 0xFFFFFFFFFFFFF1B1ull) < 2ull) goto L9;
-    s2(v0 + v10, l2(v1 + 16ull));
+    s2(v0 + v10, l2_2(v1 + 16ull));
     v10 = v10 + 2ull;
 L9:;
     v9 = v0 + v10;
     s1(v9, v5);
     s1(v9 + 1ull, v2);
     v9 = v10 + 2ull;
-    s8(v0 + 3664ull, v9);
+    s8_8(v0 + 3664ull, v9);
     if ((v10 + 0xFFFFFFFFFFFFF1B9ull) < 8ull) goto L10;
-    s8(v0 + v9, l8(v1 + 24ull));
+    s8(v0 + v9, l8_8(v1 + 24ull));
     v9 = v10 + 10ull;
 L10:;
     v10 = v0 + v9;
@@ -8072,95 +8241,96 @@ L10:;
     s1(v0 + v10, ((v4 & 255ull) == 0) ? 1u : 2u);
     v1 = v0 + 3664ull;
     v11 = v9 + 4ull;
-    s8(v1, v11);
+    s8_8(v1, v11);
     if ((v10 & 0xFFFFFFFFFFFFFFFCull) == 3660ull) goto L11;
     s4(v0 + v11, (u32)(v4 >> 32));
-    s8(v1, v9 + 8ull);
+    s8_8(v1, v9 + 8ull);
     return;
 L12:;
     s1(v0 + v10, 0u);
     v1 = v0 + 3664ull;
     v4 = v9 + 4ull;
-    s8(v1, v4);
+    s8_8(v1, v4);
     if ((v10 & 0xFFFFFFFFFFFFFFFCull) == 3660ull) goto L11;
     s4(v0 + v4, 0u);
-    s8(v1, v9 + 8ull);
+    s8_8(v1, v9 + 8ull);
 L11:;
     return;
     TRAP();
 }
 
-static void f119(u64 v0, u64 v1, u64 v2)
+/* mscp_saved::writing::put_drives, crates/mscp_saved/src/writing.rt:203 */
+static void writing_put_drives(u64 v0, u64 v1, u64 v2)
 {
     u64 v3 = 0, v4 = 0, v5 = 0;
     if (v2 == 0) goto L2;
-    v3 = l8(v0 + 3664ull);
+    v3 = l8_8(v0 + 3664ull);
 L3:;
     if ((v3 + 0xFFFFFFFFFFFFF1B1ull) < 2ull) goto L4;
-    s2(v0 + v3, l2(v1));
+    s2(v0 + v3, l2_2(v1));
     v4 = v0 + 3664ull;
     v5 = v3 + 2ull;
-    s8(v4, v5);
+    s8_8(v4, v5);
     if ((v3 + 0xFFFFFFFFFFFFF1B3ull) >= 2ull) goto L5;
     v3 = v5;
     goto L4;
 L5:;
-    s2(v0 + v5, l2(v1 + 2ull));
+    s2(v0 + v5, l2_2(v1 + 2ull));
     v5 = v3 + 4ull;
-    s8(v4, v5);
+    s8_8(v4, v5);
     if ((v3 + 0xFFFFFFFFFFFFF1B5ull) >= 2ull) goto L6;
     v3 = v5;
     goto L4;
 L6:;
-    s2(v0 + v5, l2(v1 + 4ull));
+    s2(v0 + v5, l2_2(v1 + 4ull));
     v4 = v0 + 3664ull;
     v5 = v3 + 6ull;
-    s8(v4, v5);
+    s8_8(v4, v5);
     if ((v3 + 0xFFFFFFFFFFFFF1B7ull) >= 2ull) goto L7;
     v3 = v5;
     goto L4;
 L7:;
-    s2(v0 + v5, l2(v1 + 6ull));
+    s2(v0 + v5, l2_2(v1 + 6ull));
     v3 = v3 + 8ull;
-    s8(v4, v3);
+    s8_8(v4, v3);
 L4:;
     if ((v3 + 0xFFFFFFFFFFFFF1B3ull) < 4ull) goto L8;
-    s4(v0 + v3, l4(v1 + 8ull));
+    s4(v0 + v3, l4_4(v1 + 8ull));
     v3 = v3 + 4ull;
-    s8(v0 + 3664ull, v3);
+    s8_8(v0 + 3664ull, v3);
 L8:;
     if ((v3 + 0xFFFFFFFFFFFFF1B7ull) < 8ull) goto L9;
-    s8(v0 + v3, l8(v1 + 16ull));
+    s8(v0 + v3, l8_8(v1 + 16ull));
     v3 = v3 + 8ull;
-    s8(v0 + 3664ull, v3);
+    s8_8(v0 + 3664ull, v3);
 L9:;
     if ((v3 + 0xFFFFFFFFFFFFF1B3ull) < 4ull) goto L10;
-    s4(v0 + v3, l4(v1 + 24ull));
+    s4(v0 + v3, l4_4(v1 + 24ull));
     v4 = v0 + 3664ull;
     v5 = v3 + 4ull;
-    s8(v4, v5);
+    s8_8(v4, v5);
     if ((v3 + 0xFFFFFFFFFFFFF1B7ull) >= 4ull) goto L11;
     v3 = v5;
     goto L10;
 L11:;
-    s4(v0 + v5, l4(v1 + 28ull));
+    s4(v0 + v5, l4_4(v1 + 28ull));
     v3 = v3 + 8ull;
-    s8(v4, v3);
+    s8_8(v4, v3);
 L10:;
     s1(v0 + v3, l1(v1 + 48ull));
     v5 = v0 + 3664ull;
     v4 = v3 + 1ull;
-    s8(v5, v4);
+    s8_8(v5, v4);
     s1(v0 + v4, l1(v1 + 56ull));
     v4 = v3 + 2ull;
-    s8(v5, v4);
+    s8_8(v5, v4);
     if ((v3 + 0xFFFFFFFFFFFFF1B5ull) >= 4ull) goto L13;
     v3 = v4;
     goto L12;
 L13:;
-    s4(v0 + v4, l4(v1 + 52ull));
+    s4(v0 + v4, l4_4(v1 + 52ull));
     v3 = v3 + 6ull;
-    s8(v5, v3);
+    s8_8(v5, v3);
 L12:;
     v1 = v1 + 64ull;
     v2 = v2 + 0xFFFFFFFFFFFFFFFFull;
@@ -8170,22 +8340,23 @@ L2:;
     TRAP();
 }
 
-static void f120(u64 v0, u64 v1)
+/* mscp_saved::writing::put_waiting, crates/mscp_saved/src/writing.rt:78 */
+static void writing_put_waiting(u64 v0, u64 v1)
 {
     ROOM(frame, 96);
     u32 v3 = 0, v5 = 0, v6 = 0, v7 = 0, v9 = 0, v10 = 0, v11 = 0, v12 = 0, v13 = 0, v14 = 0, v15 = 0;
     u64 v2 = 0, v4 = 0, v8 = 0, v16 = 0;
     v2 = A(frame);
-    v3 = l4(v1 + 16ull);
+    v3 = l4_4(v1 + 16ull);
     v4 = 12ull;
-    v5 = l4(v1 + 12ull);
-    v6 = l2(v1 + 10ull);
+    v5 = l4_4(v1 + 12ull);
+    v6 = l2_2(v1 + 10ull);
     v7 = l1(v1 + 9ull);
     v8 = (u64)l1(v1 + 8ull);
-    v9 = l2(v1 + 4ull);
-    v10 = l4(v1);
-    s2(v2 + 88, 0u);
-    s8(v2 + 80, 0ull);
+    v9 = l2_2(v1 + 4ull);
+    v10 = l4_4(v1);
+    s2_2(v2 + 88, 0u);
+    s8_8(v2 + 80, 0ull);
     v11 = 3u;
     v12 = 1u;
     v13 = 0u;
@@ -8244,32 +8415,32 @@ L3:;
 L2:;
     v15 = 0u;
 L1:;
-    v5 = l2(v2 + 88);
-    s2(v2 + 16, v5);
-    v8 = l8(v2 + 80);
-    s8(v2 + 8, v8);
-    s2(v2 + 40, 0u);
+    v5 = l2_2(v2 + 88);
+    s2_2(v2 + 16, v5);
+    v8 = l8_8(v2 + 80);
+    s8_8(v2 + 8, v8);
+    s2_2(v2 + 40, 0u);
     s1(v2 + 35, 0u);
     s2(v2 + 33, 0u);
     s1(v2 + 32, v11);
-    s2(v2 + 30, 0u);
-    s2(v2 + 28, v9);
-    s4(v2 + 24, v10);
-    s8(v2 + 42, v8);
-    s2(v2 + 50, v5);
-    s4(v2 + 52, v15);
-    s8(v2 + 64, 0ull);
-    s8(v2 + 56, 0ull);
-    s4(v2 + 36, v14 | (v13 & 65535u));
-    v8 = l8(v0 + 3664ull);
-    s8(v2 + 72, v4);
+    s2_2(v2 + 30, 0u);
+    s2_2(v2 + 28, v9);
+    s4_4(v2 + 24, v10);
+    s8_2(v2 + 42, v8);
+    s2_2(v2 + 50, v5);
+    s4_4(v2 + 52, v15);
+    s8_8(v2 + 64, 0ull);
+    s8_8(v2 + 56, 0ull);
+    s4_4(v2 + 36, v14 | (v13 & 65535u));
+    v8 = l8_8(v0 + 3664ull);
+    s8_8(v2 + 72, v4);
     v16 = 3664ull - v8;
     if (v16 < v4) goto L13;
     if (v4 == 0) goto L14;
     copy(v0 + v8, v2 + 24ull, v4);
 L14:;
     v8 = v8 + v4;
-    s8(v0 + 3664ull, v8);
+    s8_8(v0 + 3664ull, v8);
     v16 = 3664ull - v8;
 L13:;
     v2 = 32ull - v4;
@@ -8278,27 +8449,28 @@ L13:;
     fill(v0 + v8, 0u, v2);
 L16:;
     v8 = v8 + v2;
-    s8(v0 + 3664ull, v8);
+    s8_8(v0 + 3664ull, v8);
 L15:;
     if ((v8 + 0xFFFFFFFFFFFFF1B3ull) < 4ull) goto L17;
-    s4(v0 + v8, l4(v1 + 24ull));
+    s4(v0 + v8, l4_4(v1 + 24ull));
     v4 = v0 + 3664ull;
     v2 = v8 + 4ull;
-    s8(v4, v2);
+    s8_8(v4, v2);
     if ((v8 + 0xFFFFFFFFFFFFF1B7ull) >= 4ull) goto L18;
     v8 = v2;
     goto L17;
 L18:;
-    s4(v0 + v2, l4(v1 + 28ull));
+    s4(v0 + v2, l4_4(v1 + 28ull));
     v8 = v8 + 8ull;
-    s8(v4, v8);
+    s8_8(v4, v8);
 L17:;
     s1(v0 + v8, l1(v1 + 6ull) ? 2u : 1u);
-    s8(v0 + 3664ull, v8 + 1ull);
+    s8_8(v0 + 3664ull, v8 + 1ull);
     return;
 }
 
-static void f121(u64 v0, u64 v1, u64 v2)
+/* mscp_saved::writing::put_ends, crates/mscp_saved/src/writing.rt:254 */
+static void writing_put_ends(u64 v0, u64 v1, u64 v2)
 {
     ROOM(frame, 64);
     u32 v4 = 0, v5 = 0, v6 = 0, v8 = 0, v9 = 0, v10 = 0, v11 = 0, v14 = 0, v16 = 0, v17 = 0, v18 = 0, v19 = 0, v20 = 0,
@@ -8404,26 +8576,26 @@ L5:;
     v12 = 32ull;
 L4:;
     v5 = l4(v1);
-    s4(v3 + 52, 0u);
-    s4(v3 + 40, 0u);
-    s4(v3 + 36, v17);
-    s8(v3 + 28, v13);
-    s2(v3 + 18, v9);
-    s2(v3 + 12, v11);
-    s4(v3 + 8, v5);
-    s4(v3 + 14, v10 << 16);
-    s4(v3 + 48, v21 | (v20 & 65535u));
-    s4(v3 + 44, v19 | (v18 & 65535u));
-    s8(v3 + 20, ((v15 | (((u64)v14) & 65535ull)) << 32) | ((u64)v16));
-    v15 = l8(v0 + 3664ull);
-    s8(v3 + 56, v12);
+    s4_4(v3 + 52, 0u);
+    s4_4(v3 + 40, 0u);
+    s4_4(v3 + 36, v17);
+    s8_4(v3 + 28, v13);
+    s2_2(v3 + 18, v9);
+    s2_2(v3 + 12, v11);
+    s4_4(v3 + 8, v5);
+    s4_2(v3 + 14, v10 << 16);
+    s4_4(v3 + 48, v21 | (v20 & 65535u));
+    s4_4(v3 + 44, v19 | (v18 & 65535u));
+    s8_4(v3 + 20, ((v15 | (((u64)v14) & 65535ull)) << 32) | ((u64)v16));
+    v15 = l8_8(v0 + 3664ull);
+    s8_8(v3 + 56, v12);
     v13 = 3664ull - v15;
     if (v13 < v12) goto L11;
     if (v12 == 0) goto L12;
     copy(v0 + v15, v3 + 8ull, v12);
 L12:;
     v15 = v15 + v12;
-    s8(v0 + 3664ull, v15);
+    s8_8(v0 + 3664ull, v15);
     v13 = 3664ull - v15;
 L11:;
     v12 = 48ull - v12;
@@ -8431,7 +8603,7 @@ L11:;
     if (v12 == 0) goto L14;
     fill(v0 + v15, 0u, v12);
 L14:;
-    s8(v0 + 3664ull, v15 + v12);
+    s8_8(v0 + 3664ull, v15 + v12);
 L13:;
     v1 = v1 + 48ull;
     v2 = v2 + 0xFFFFFFFFFFFFFFFFull;
@@ -8441,35 +8613,37 @@ L2:;
     TRAP();
 }
 
-APART void f122(u64 v0, u64 v1, u64 v2, u64 v3, u64 v4, u64 v5, u64 v6, u64 v7, u64 v8, u64 v9, u32 v10, u64 v11, u32
-        v12)
+/* mscp_saved::writing::save_parts, crates/mscp_saved/src/writing.rt:280 */
+APART void writing_save_parts(u64 v0, u64 v1, u64 v2, u64 v3, u64 v4, u64 v5, u64 v6, u64 v7, u64 v8, u64 v9, u32 v10,
+        u64 v11, u32 v12)
 {
     ROOM(frame, 3712);
     u64 v13 = 0;
     v13 = A(frame);
     fill(v13 + 8ull, 0u, 3672ull);
-    f118(v13 + 8ull, v1, (((((u32)v9) << 24) | ((((u32)v7) << 16) & 16711680u)) | ((((u32)v5) << 8) & 65280u)) |
-        (((u32)v3) & 255u), v10, v11, v12);
-    f119(v13 + 8ull, v2, v3);
+    writing_put_head(v13 + 8ull, v1, (((((u32)v9) << 24) | ((((u32)v7) << 16) & 16711680u)) | ((((u32)v5) << 8) &
+        65280u)) | (((u32)v3) & 255u), v10, v11, v12);
+    writing_put_drives(v13 + 8ull, v2, v3);
     if (v5 == 0) goto L2;
 L3:;
-    s8(v13 + 3704, l8(v4 + 24));
-    s8(v13 + 3696, l8(v4 + 16));
-    s8(v13 + 3688, l8(v4 + 8));
-    s8(v13 + 3680, l8(v4));
+    s8_8(v13 + 3704, l8(v4 + 24));
+    s8_8(v13 + 3696, l8(v4 + 16));
+    s8_8(v13 + 3688, l8(v4 + 8));
+    s8_8(v13 + 3680, l8(v4));
     v4 = v4 + 32ull;
-    f120(v13 + 8ull, v13 + 3680ull);
+    writing_put_waiting(v13 + 8ull, v13 + 3680ull);
     v5 = v5 + 0xFFFFFFFFFFFFFFFFull;
     if (v5 != 0ull) goto L3;
 L2:;
-    f121(v13 + 8ull, v6, v7);
-    f121(v13 + 8ull, v8, v9);
+    writing_put_ends(v13 + 8ull, v6, v7);
+    writing_put_ends(v13 + 8ull, v8, v9);
     copy(v0, v13 + 8ull, 3672ull);
     return;
     TRAP();
 }
 
-APART void f123(u64 v0, u64 v1, u64 v2, u32 v3)
+/* mscp_saved::restoring::restore_fault, crates/mscp_saved/src/restoring.rt:96 */
+APART void restoring_restore_fault(u64 v0, u64 v1, u64 v2, u32 v3)
 {
     ROOM(frame, 27472);
     u32 v5 = 0, v6 = 0, v13 = 0, v17 = 0, v21 = 0, v22 = 0, v23 = 0, v24 = 0, v25 = 0, v26 = 0, v27 = 0, v28 = 0, v29 =
@@ -8504,28 +8678,28 @@ L6:;
     v5 = 2u;
     goto L1;
 L7:;
-    f113(v4 + 17256ull, v1);
+    framing_drives_in(v4 + 17256ull, v1);
     copy(v4 + 19096ull, v4 + 17256ull, 1032ull);
-    v14 = l8(v4 + 20120);
-    f114(v4 + 16440ull, v1, v4 + 17256ull, v14);
+    v14 = l8_8(v4 + 20120);
+    restoring_settings_in(v4 + 16440ull, v1, v4 + 17256ull, v14);
     if (l1(v4 + 16440)) goto L8;
     v15 = v4 + 16448ull;
     copy(v4 + 18288ull, v15, 808ull);
-    f115(v4 + 14384ull, v1);
+    framing_all_waiting_in(v4 + 14384ull, v1);
     copy(v4 + 12328ull, v4 + 14384ull, 2056ull);
-    v16 = l8(v4 + 14376);
+    v16 = l8_8(v4 + 14376);
     v17 = 0u;
     fill(v4 + 23800ull, 0u, 3080ull);
     v7 = ((v7 + v9) + v1) + 48ull;
-    f116(v4 + 23800ull, v7, v10);
+    reading_read_ends(v4 + 23800ull, v7, v10);
     copy(v4 + 9248ull, v4 + 23800ull, 3080ull);
     copy(v4 + 6168ull, v4 + 9248ull, 3080ull);
-    v18 = l8(v4 + 9240);
+    v18 = l8_8(v4 + 9240);
     fill(v4 + 23800ull, 0u, 3080ull);
-    f116(v4 + 23800ull, v7 + (v10 * 48ull), v11);
+    reading_read_ends(v4 + 23800ull, v7 + (v10 * 48ull), v11);
     copy(v4 + 3088ull, v4 + 23800ull, 3080ull);
     copy(v4 + 8ull, v4 + 3088ull, 3080ull);
-    v19 = l8(v4 + 3080);
+    v19 = l8_8(v4 + 3080);
     fill(v4 + 23800ull, 0u, 3672ull);
     v5 = l1(v1 + 43);
     if (v5) goto L10;
@@ -8540,19 +8714,19 @@ L9:;
     v23 = v13 >> 8;
     v7 = v4 + 19136ull;
     v8 = 0xFFFFFFFFFFFFFFFFull;
-    v24 = l4(v4 + 18296);
+    v24 = l4_4(v4 + 18296);
 L12:;
     v8 = v8 + 1ull;
     if (v14 == v8) goto L11;
     v12 = v7 + 12ull;
-    v5 = l4(v7);
+    v5 = l4_4(v7);
     v7 = v7 + 64ull;
-    if (l4(v12) <= v5) goto L12;
+    if (l4_4(v12) <= v5) goto L12;
     v5 = 5u;
     v6 = 1u;
     goto L1;
 L11:;
-    v11 = (u64)l4(v4 + 18288);
+    v11 = (u64)l4_4(v4 + 18288);
     v8 = 0ull;
     v25 = v16 == 0;
     if (v25) goto L13;
@@ -8582,7 +8756,7 @@ L13:;
     v5 = 6u;
     if ((v8 + v18) > v11) goto L2;
     if (v8 > (v11 - ((u64)(u32)(v11 != 0ull)))) goto L2;
-    v6 = l4(v4 + 18292);
+    v6 = l4_4(v4 + 18292);
     if (v25) goto L4;
     v12 = v16 & 3ull;
     v8 = 0ull;
@@ -8610,13 +8784,13 @@ L17:;
     v7 = (u64)v6;
     if ((v8 + v19) > v7) goto L2;
     if (v8 > (v7 - ((u64)(u32)(v6 != 0u)))) goto L2;
-    v9 = l8(v4 + 19088) + 1ull;
+    v9 = l8_8(v4 + 19088) + 1ull;
     v11 = v4 + 18320ull;
     v10 = 0ull;
-    v26 = l4(v4 + 18300);
+    v26 = l4_4(v4 + 18300);
 L21:;
     v12 = (v4 + 12328ull) + (v10 << 5);
-    v27 = l2(v12 + 4);
+    v27 = l2_2(v12 + 4);
     v5 = 7u;
     v8 = v9;
     v7 = v11;
@@ -8628,18 +8802,18 @@ L21:;
     default: goto L2;
     }
 L24:;
-    v28 = l4(v12 + 16ull);
-    v29 = l4(v12 + 12ull);
+    v28 = l4_4(v12 + 16ull);
+    v29 = l4_4(v12 + 12ull);
     v8 = v9;
     v7 = v11;
 L25:;
     v8 = v8 + 0xFFFFFFFFFFFFFFFFull;
     if (v8 == 0) goto L2;
-    v6 = l2(v7);
+    v6 = l2_2(v7);
     v12 = v7 + 48ull;
     v7 = v12;
     if (v6 != (v27 & 65535u)) goto L25;
-    v6 = l4(v12 + 0xFFFFFFFFFFFFFFD8ull);
+    v6 = l4_4(v12 + 0xFFFFFFFFFFFFFFD8ull);
     if (v6 <= v28) goto L2;
     t0 = v6 - v28;
     v6 = (v29 >> 9) + (u32)((v29 & 511u) != 0u);
@@ -8650,7 +8824,7 @@ L23:;
 L26:;
     v8 = v8 + 0xFFFFFFFFFFFFFFFFull;
     if (v8 == 0) goto L2;
-    v6 = l2(v7);
+    v6 = l2_2(v7);
     v7 = v7 + 48ull;
     if (v6 != (v27 & 65535u)) goto L26;
 L22:;
@@ -8667,7 +8841,7 @@ L27:;
     v8 = v11;
 L29:;
     if (l1(v7 + 6ull) != (v5 & 255u)) goto L30;
-    if (l4(v7) != l4(v10)) goto L30;
+    if (l4_4(v7) != l4_4(v10)) goto L30;
     v5 = 8u;
     v6 = 1u;
     goto L1;
@@ -8693,10 +8867,10 @@ L32:;
     v8 = v8 + 1ull;
     if (v16 == v8) goto L31;
     v12 = v7 + 4ull;
-    v6 = l4(v7);
+    v6 = l4_4(v7);
     v5 = 9u;
     v7 = v7 + 32ull;
-    if (l4(v12) < v6) goto L32;
+    if (l4_4(v12) < v6) goto L32;
     goto L2;
 L31:;
     if (v25) goto L33;
@@ -8709,8 +8883,8 @@ L31:;
     v8 = 0ull;
     v10 = 0ull;
 L36:;
-    v8 = (((v8 + ((u64)(u32)(l4(v7 + 0xFFFFFFFFFFFFFFA0ull) != 0u))) + ((u64)(u32)(l4(v7 + 0xFFFFFFFFFFFFFFC0ull) !=
-        0u))) + ((u64)(u32)(l4(v7 + 0xFFFFFFFFFFFFFFE0ull) != 0u))) + ((u64)(u32)(l4(v7) != 0u));
+    v8 = (((v8 + ((u64)(u32)(l4_4(v7 + 0xFFFFFFFFFFFFFFA0ull) != 0u))) + ((u64)(u32)(l4_4(v7 + 0xFFFFFFFFFFFFFFC0ull)
+        != 0u))) + ((u64)(u32)(l4_4(v7 + 0xFFFFFFFFFFFFFFE0ull) != 0u))) + ((u64)(u32)(l4_4(v7) != 0u));
     v7 = v7 + 128ull;
     v10 = v10 + 4ull;
     if (v9 != v10) goto L36;
@@ -8718,7 +8892,7 @@ L36:;
 L35:;
     v7 = ((v10 << 5) + (v4 + 12328ull)) + 24ull;
 L37:;
-    v8 = v8 + ((u64)(u32)(l4(v7) != 0u));
+    v8 = v8 + ((u64)(u32)(l4_4(v7) != 0u));
     v7 = v7 + 32ull;
     v12 = v12 + 0xFFFFFFFFFFFFFFFFull;
     if (v12 != 0ull) goto L37;
@@ -8732,7 +8906,7 @@ L38:;
     v8 = v16;
     v5 = v24;
 L40:;
-    v6 = l4(v7);
+    v6 = l4_4(v7);
     if (v5 < v6) goto L39;
     v7 = v7 + 32ull;
     v5 = v6;
@@ -8760,16 +8934,16 @@ L44:;
     if (v6) goto L44;
     goto L2;
 L43:;
-    s8(v4 + 20132, v20);
-    s4(v4 + 20128, v17);
+    s8_4(v4 + 20132, v20);
+    s4_4(v4 + 20128, v17);
     v6 = 1u;
-    t1 = f117(v24, v4 + 14384ull, v16, v4 + 20128ull);
+    t1 = checking_may_be_begun(v24, v4 + 14384ull, v16, v4 + 20128ull);
     if (t1) goto L45;
     v5 = 12u;
     goto L1;
 L45:;
-    f122(v4 + 23800ull, v15, v4 + 17256ull, v14, v4 + 14384ull, v16, v4 + 9248ull, v18, v4 + 3088ull, v19, v17, v20,
-        v3);
+    writing_save_parts(v4 + 23800ull, v15, v4 + 17256ull, v14, v4 + 14384ull, v16, v4 + 9248ull, v18, v4 + 3088ull,
+        v19, v17, v20, v3);
     copy(v4 + 20128ull, v4 + 23800ull, 3672ull);
     if (l1(v1 + 30) == (v3 & 255u)) goto L46;
     v5 = 13u;
@@ -8777,12 +8951,12 @@ L45:;
 L46:;
     v5 = 14u;
     v6 = 1u;
-    if (l8(v4 + 23792) != v2) goto L1;
+    if (l8_8(v4 + 23792) != v2) goto L1;
     if (l1(v4 + 20128) != (v13 & 255u)) goto L1;
     if ((l1(v4 + 20129) & 255u) != (v23 & 255u)) goto L1;
     if ((l1(v4 + 20130) & 255u) != (v22 & 255u)) goto L1;
     if ((l1(v4 + 20131) & 255u) != v21) goto L1;
-    t2 = f85(v4 + 20128ull, v2, v1);
+    t2 = slices_groups_equal(v4 + 20128ull, v2, v1);
     v6 = t2;
     v5 = v6 ? 0u : 14u;
     v6 = v6 ^ 1u;
@@ -8800,11 +8974,12 @@ L1:;
     return;
 }
 
-static void f124(u64 v0, u64 v1)
+/* mscp_port::port::saving::put_volumes, crates/mscp_port/src/port/saving.rt:188 */
+static void saving_put_volumes(u64 v0, u64 v1)
 {
     u32 v5 = 0, v6 = 0, v7 = 0, v8 = 0, v9 = 0, v10 = 0, v11 = 0, v12 = 0, v13 = 0;
     u64 v2 = 0, v3 = 0, v4 = 0, v14 = 0, v15 = 0;
-    v2 = l8(v0 + 6256ull);
+    v2 = l8_8(v0 + 6256ull);
     v3 = 0ull;
 L2:;
     v4 = v1 + v3;
@@ -8844,20 +9019,20 @@ L4:;
     if ((v6 & 255u) != 1u) goto L7;
     s1(v15, 1u);
     v15 = v0 + 6256ull;
-    s8(v15, v2);
+    s8_8(v15, v2);
     if (v14 < 4ull) goto L6;
     s4(v0 + v2, v5);
     v2 = v4 + 5ull;
-    s8(v15, v2);
+    s8_8(v15, v2);
     goto L6;
 L7:;
     s1(v15, 0u);
     v15 = v0 + 6256ull;
-    s8(v15, v2);
+    s8_8(v15, v2);
     if (v14 < 4ull) goto L6;
     s4(v0 + v2, 0u);
     v2 = v4 + 5ull;
-    s8(v15, v2);
+    s8_8(v15, v2);
 L6:;
     v3 = v3 + 28ull;
     if (v3 != 448ull) goto L2;
@@ -8865,12 +9040,13 @@ L6:;
     TRAP();
 }
 
-static void f125(u64 v0, u64 v1, u64 v2)
+/* mscp_port::port::saving::put_buffers, crates/mscp_port/src/port/saving.rt:215 */
+static void saving_put_buffers(u64 v0, u64 v1, u64 v2)
 {
     u32 v4 = 0, v5 = 0, v6 = 0, v7 = 0, v8 = 0;
     u64 v3 = 0, v9 = 0, v10 = 0;
     if (v2 == 0) goto L2;
-    v3 = l8(v0 + 6256ull);
+    v3 = l8_8(v0 + 6256ull);
 L3:;
     v4 = l4(v1 + 16ull);
     v5 = l2(v1 + 14ull);
@@ -8881,39 +9057,39 @@ L3:;
     s4(v0 + v3, l4(v1));
     v9 = v0 + 6256ull;
     v10 = v3 + 4ull;
-    s8(v9, v10);
+    s8_8(v9, v10);
     if ((v3 + 0xFFFFFFFFFFFFE79Eull) >= 4ull) goto L5;
     v3 = v10;
     goto L4;
 L5:;
     s4(v0 + v10, v8);
     v10 = v3 + 8ull;
-    s8(v9, v10);
+    s8_8(v9, v10);
     if ((v3 + 0xFFFFFFFFFFFFE7A2ull) >= 4ull) goto L6;
     v3 = v10;
     goto L4;
 L6:;
     s4(v0 + v10, v7);
     v3 = v3 + 12ull;
-    s8(v0 + 6256ull, v3);
+    s8_8(v0 + 6256ull, v3);
 L4:;
     if ((v3 & 0xFFFFFFFFFFFFFFFEull) == 6248ull) goto L7;
     s2(v0 + v3, v6);
     v9 = v0 + 6256ull;
     v10 = v3 + 2ull;
-    s8(v9, v10);
+    s8_8(v9, v10);
     if ((v10 & 0xFFFFFFFFFFFFFFFEull) != 6248ull) goto L8;
     v3 = v10;
     goto L7;
 L8:;
     s2(v0 + v10, v5);
     v3 = v3 + 4ull;
-    s8(v9, v3);
+    s8_8(v9, v3);
 L7:;
     if ((v3 + 0xFFFFFFFFFFFFE79Aull) < 4ull) goto L9;
     s4(v0 + v3, v4);
     v3 = v3 + 4ull;
-    s8(v0 + 6256ull, v3);
+    s8_8(v0 + 6256ull, v3);
 L9:;
     v1 = v1 + 20ull;
     v2 = v2 + 0xFFFFFFFFFFFFFFFFull;
@@ -8923,7 +9099,8 @@ L2:;
     TRAP();
 }
 
-APART void f126(u64 v0, u64 v1, u64 v2)
+/* mscp_port::port::restoring::front::saved_front, crates/mscp_port/src/port/restoring/front.rt:70 */
+APART void front_saved_front(u64 v0, u64 v1, u64 v2)
 {
     ROOM(frame, 10720);
     u32 v5 = 0, v6 = 0, v8 = 0, v10 = 0, v12 = 0, v13 = 0, v14 = 0, v15 = 0;
@@ -8938,81 +9115,81 @@ APART void f126(u64 v0, u64 v1, u64 v2)
     v8 = l1(v1 + 69);
     if (v8) goto L3;
     v3 = 0ull;
-    s8(v4 + 7936, 0ull);
-    s8(v4 + 7928, 0ull);
-    s8(v4 + 7920, 0ull);
-    s8(v4 + 7912, 0ull);
-    s8(v4 + 7904, 0ull);
-    s8(v4 + 7896, 0ull);
-    s8(v4 + 7888, 0ull);
-    s4(v4 + 7880, 0u);
+    s8_8(v4 + 7936, 0ull);
+    s8_8(v4 + 7928, 0ull);
+    s8_8(v4 + 7920, 0ull);
+    s8_8(v4 + 7912, 0ull);
+    s8_8(v4 + 7904, 0ull);
+    s8_8(v4 + 7896, 0ull);
+    s8_8(v4 + 7888, 0ull);
+    s4_4(v4 + 7880, 0u);
     s4(v4 + 7883, 0u);
     goto L2;
 L3:;
-    s8(v4 + 7992, 0ull);
-    s8(v4 + 7984, 0ull);
-    s8(v4 + 7976, 0ull);
-    s8(v4 + 7968, 0ull);
-    s8(v4 + 7960, 0ull);
-    s8(v4 + 7952, 0ull);
-    s8(v4 + 7944, 0ull);
+    s8_8(v4 + 7992, 0ull);
+    s8_8(v4 + 7984, 0ull);
+    s8_8(v4 + 7976, 0ull);
+    s8_8(v4 + 7968, 0ull);
+    s8_8(v4 + 7960, 0ull);
+    s8_8(v4 + 7952, 0ull);
+    s8_8(v4 + 7944, 0ull);
     if ((v6 & 255u) > 48u) goto L4;
     if (v7 == 0) goto L5;
     copy(v4 + 7944ull, v1 + 425ull, v7);
 L5:;
-    s8(v4 + 7992, v7);
+    s8_8(v4 + 7992, v7);
 L4:;
-    s8(v4 + 7936, l8(v4 + 7992));
-    s8(v4 + 7928, l8(v4 + 7984));
-    s8(v4 + 7920, l8(v4 + 7976));
-    s8(v4 + 7912, l8(v4 + 7968));
-    s8(v4 + 7904, l8(v4 + 7960));
-    s8(v4 + 7896, l8(v4 + 7952));
-    s8(v4 + 7888, l8(v4 + 7944));
-    s4(v4 + 7880, 0u);
+    s8_8(v4 + 7936, l8_8(v4 + 7992));
+    s8_8(v4 + 7928, l8_8(v4 + 7984));
+    s8_8(v4 + 7920, l8_8(v4 + 7976));
+    s8_8(v4 + 7912, l8_8(v4 + 7968));
+    s8_8(v4 + 7904, l8_8(v4 + 7960));
+    s8_8(v4 + 7896, l8_8(v4 + 7952));
+    s8_8(v4 + 7888, l8_8(v4 + 7944));
+    s4_4(v4 + 7880, 0u);
     s4(v4 + 7883, 0u);
     v5 = (v8 == 1u) ? 0u : ((v8 == 2u) ? 1u : 2u);
     v3 = 1ull;
 L2:;
-    s8(v4 + 1488, l8(v4 + 7888));
-    s8(v4 + 1496, l8(v4 + 7896));
-    s8(v4 + 1504, l8(v4 + 7904));
-    s8(v4 + 1512, l8(v4 + 7912));
-    s8(v4 + 1520, l8(v4 + 7920));
-    s8(v4 + 1528, l8(v4 + 7928));
-    s8(v4 + 1536, l8(v4 + 7936));
-    s4(v4 + 1480, l4(v4 + 7880));
+    s8_8(v4 + 1488, l8_8(v4 + 7888));
+    s8_8(v4 + 1496, l8_8(v4 + 7896));
+    s8_8(v4 + 1504, l8_8(v4 + 7904));
+    s8_8(v4 + 1512, l8_8(v4 + 7912));
+    s8_8(v4 + 1520, l8_8(v4 + 7920));
+    s8_8(v4 + 1528, l8_8(v4 + 7928));
+    s8_8(v4 + 1536, l8_8(v4 + 7936));
+    s4_4(v4 + 1480, l4_4(v4 + 7880));
     s4(v4 + 1483, l4(v4 + 7883));
-    s8(v4 + 7808, v3);
+    s8_8(v4 + 7808, v3);
     s1(v4 + 7872, v5);
-    s8(v4 + 7816, l8(v4 + 1488));
-    s8(v4 + 7824, l8(v4 + 1496));
-    s8(v4 + 7832, l8(v4 + 1504));
-    s8(v4 + 7840, l8(v4 + 1512));
-    s8(v4 + 7848, l8(v4 + 1520));
-    s8(v4 + 7856, l8(v4 + 1528));
-    s8(v4 + 7864, l8(v4 + 1536));
-    s4(v4 + 7873, l4(v4 + 1480));
+    s8_8(v4 + 7816, l8_8(v4 + 1488));
+    s8_8(v4 + 7824, l8_8(v4 + 1496));
+    s8_8(v4 + 7832, l8_8(v4 + 1504));
+    s8_8(v4 + 7840, l8_8(v4 + 1512));
+    s8_8(v4 + 7848, l8_8(v4 + 1520));
+    s8_8(v4 + 7856, l8_8(v4 + 1528));
+    s8_8(v4 + 7864, l8_8(v4 + 1536));
+    s4(v4 + 7873, l4_4(v4 + 1480));
     s4(v4 + 7876, l4(v4 + 1483));
-    v9 = l8(v4 + 7864);
+    v9 = l8_8(v4 + 7864);
     v10 = 0u;
     fill(v4 + 1544ull, 0u, 6264ull);
-    s8(v4 + 1544, 9936524109ull);
-    s8(v4 + 7800, 21ull);
+    s8_8(v4 + 1544, 9936524109ull);
+    s8_8(v4 + 7800, 21ull);
     v11 = v8 ? v9 : 0ull;
-    s4(v4 + 1552, (u32)((v2 - v7) + v11));
+    s4_4(v4 + 1552, (u32)((v2 - v7) + v11));
     s1(v4 + 1559, l1(v1 + 15));
     s2(v4 + 1557, l2(v1 + 13));
-    s4(v4 + 1560, l4(v1 + 16));
+    s4_4(v4 + 1560, l4(v1 + 16));
     s1(v4 + 1564, l1(v1 + 20) == 1u);
     s1(v4 + 1556, (l1(v1 + 12) == 1u) ? 1u : 2u);
     s1(v4 + 1565, l1(v1 + 21) == 1u);
     s1(v4 + 1566, l1(v1 + 22) == 1u);
     s2(v4 + 1567, l2(v1 + 23ull));
     s2(v4 + 1569, l2(v1 + 25ull));
-    s8(v4 + 7800, 27ull);
+    s8_8(v4 + 7800, 27ull);
     s2(v4 + 1571, l2(v1 + 27ull));
-    s8(v4 + 7800, 33ull);
+    s8_8(v4 + 7800, 33ull);
     s4(v4 + 1573, l4(v1 + 29ull));
     v6 = l1(v1 + 33);
     if ((v6 + 0xFFFFFFFEu) < 7u) goto L7;
@@ -9029,8 +9206,8 @@ L8:;
 L7:;
     s1(v4 + 1577, v6);
 L6:;
-    s8(v4 + 7800, 36ull);
-    s2(v4 + 1578, v10);
+    s8_8(v4 + 7800, 36ull);
+    s2_2(v4 + 1578, v10);
     v6 = 0u;
     v10 = 0u;
     if (l1(v1 + 36) != 1u) goto L10;
@@ -9045,18 +9222,18 @@ L10:;
     v10 = l4(v1 + 48ull);
     v12 = l4(v1 + 44ull);
     if (((v10 + 0xFFFFFFFFu) | (v12 + 0xFFFFFFFFu)) > 127u) goto L12;
-    s4(v4 + 1592, v10);
-    s4(v4 + 1588, v12);
-    s4(v4 + 1584, v6);
+    s4_4(v4 + 1592, v10);
+    s4_4(v4 + 1588, v12);
+    s4_4(v4 + 1584, v6);
     s1(v4 + 1583, 1u);
     goto L11;
 L12:;
-    s8(v4 + 1584, 0ull);
+    s8_8(v4 + 1584, 0ull);
     s1(v4 + 1583, 0u);
-    s4(v4 + 1592, 0u);
+    s4_4(v4 + 1592, 0u);
 L11:;
     v2 = v4 + 7816ull;
-    s8(v4 + 7800, 52ull);
+    s8_8(v4 + 7800, 52ull);
     v13 = l4(v1 + 54ull);
     v6 = l1(v1 + 52);
     if (v6 > 2u) goto L14;
@@ -9147,20 +9324,20 @@ L17:;
     v10 = 0u;
 L13:;
     v16 = v8 ? v2 : A(data + 0);
-    s4(v4 + 1606, 0u);
-    s4(v4 + 1598, v12);
+    s4_2(v4 + 1606, 0u);
+    s4_2(v4 + 1598, v12);
     s1(v4 + 1597, v10);
     s1(v4 + 1596, v6);
-    s8(v4 + 7800, 73ull);
+    s8_8(v4 + 7800, 73ull);
     v6 = l1(v1 + 71);
     s1(v4 + 1615, v6);
     v10 = l1(v1 + 72);
     s1(v4 + 1616, v10);
     s1(v4 + 1614, v8 ? ((u32)v9) : 0u);
     s1(v4 + 1613, v8 ? (v5 + 1u) : 0u);
-    s4(v4 + 1602, (u32)v3);
+    s4_2(v4 + 1602, (u32)v3);
     s1(v4 + 1612, (u32)(v3 >> 48));
-    s2(v4 + 1610, (u32)(v3 >> 32));
+    s2_2(v4 + 1610, (u32)(v3 >> 32));
     fill(v4 + 7944ull, 0u, 448ull);
     v17 = ((u64)v10) & 255ull;
     v18 = ((u64)v6) & 255ull;
@@ -9168,29 +9345,29 @@ L13:;
     v3 = v1;
 L25:;
     v9 = (v4 + 7944ull) + v2;
-    s4(v9 + 12ull, l4(v3 + 86ull));
-    s8(v9 + 4ull, l8(v3 + 78ull));
+    s4_4(v9 + 12ull, l4(v3 + 86ull));
+    s8_4(v9 + 4ull, l8(v3 + 78ull));
     s1(v9 + 24ull, l1(v3 + 76ull) == 1u);
     v8 = l1(v3 + 90ull) == 1u;
-    s4(v9 + 16ull, v8);
+    s4_4(v9 + 16ull, v8);
     s1(v9 + 3ull, l1(v3 + 77ull) == 1u);
     s1(v9 + 2ull, l1(v3 + 75ull) == 1u);
     s1(v9 + 1ull, l1(v3 + 74ull) == 1u);
     s1(v9, l1(v3 + 73ull) == 1u);
-    s4(v9 + 20ull, v8 ? l4(v3 + 91ull) : 0u);
+    s4_4(v9 + 20ull, v8 ? l4(v3 + 91ull) : 0u);
     s1(v9 + 27ull, 0u);
     s2(v9 + 25ull, 0u);
     v3 = v3 + 22ull;
     v2 = v2 + 28ull;
     if (v2 != 448ull) goto L25;
     copy(v4 + 1032ull, v4 + 7944ull, 448ull);
-    f124(v4 + 1544ull, v4 + 1032ull);
-    v3 = l8(v4 + 7800);
+    saving_put_volumes(v4 + 1544ull, v4 + 1032ull);
+    v3 = l8_8(v4 + 7800);
     if ((6249ull - v3) < v11) goto L26;
     if (v11 == 0) goto L27;
     copy((v4 + 1544ull) + v3, v16, v11);
 L27:;
-    s8(v4 + 7800, v3 + v11);
+    s8_8(v4 + 7800, v3 + v11);
 L26:;
     fill(v4 + 8400ull, 0u, 1288ull);
     if ((v6 & 255u) == 0) goto L28;
@@ -9201,15 +9378,15 @@ L26:;
 L29:;
     v2 = (v4 + 8400ull) + v3;
     v11 = v16 + v3;
-    s4(v2 + 16ull, l4(v11 + 441ull));
-    s8(v2 + 8ull, l8(v11 + 433ull));
-    s8(v2, l8(v11 + 425ull));
-    s8(v4 + 9680, v9);
+    s4_4(v2 + 16ull, l4(v11 + 441ull));
+    s8_4(v2 + 8ull, l8(v11 + 433ull));
+    s8_4(v2, l8(v11 + 425ull));
+    s8_8(v4 + 9680, v9);
     v9 = v9 + 1ull;
     v3 = v3 + 20ull;
     if (v19 != v3) goto L29;
 L28:;
-    f125(v4 + 1544ull, v4 + 8400ull, l8(v4 + 9680));
+    saving_put_buffers(v4 + 1544ull, v4 + 8400ull, l8_8(v4 + 9680));
     fill(v4 + 9688ull, 0u, 1032ull);
     if ((v10 & 255u) == 0) goto L30;
     v16 = v17 << 4;
@@ -9219,38 +9396,38 @@ L28:;
 L31:;
     v9 = (v4 + 9688ull) + v2;
     s2(v9 + 5ull, 0u);
-    s4(v9, l4(v3 + 425ull));
+    s4_4(v9, l4(v3 + 425ull));
     s1(v9 + 7ull, 0u);
-    s8(v9 + 8ull, l8(v3 + 430ull));
+    s8_8(v9 + 8ull, l8(v3 + 430ull));
     s1(v9 + 4ull, l1(v3 + 429ull) == 1u);
     v3 = v3 + 13ull;
-    s8(v4 + 10712, v11);
+    s8_8(v4 + 10712, v11);
     v11 = v11 + 1ull;
     v2 = v2 + 16ull;
     if (v16 != v2) goto L31;
 L30:;
     copy(v4, v4 + 9688ull, 1032ull);
-    v11 = l8(v4 + 1024);
+    v11 = l8_8(v4 + 1024);
     if (v11 == 0) goto L32;
     v9 = v4;
-    v3 = l8(v4 + 7800);
+    v3 = l8_8(v4 + 7800);
 L33:;
     v2 = v9 + 12ull;
     v1 = v9 + 8ull;
     v8 = l1(v9 + 4ull);
     if ((v3 + 0xFFFFFFFFFFFFE79Aull) < 4ull) goto L34;
-    s4((v4 + 1544ull) + v3, l4(v9));
+    s4((v4 + 1544ull) + v3, l4_4(v9));
     v3 = v3 + 4ull;
 L34:;
-    v6 = l4(v2);
-    v5 = l4(v1);
+    v6 = l4_4(v2);
+    v5 = l4_4(v1);
     s1((v4 + 1544ull) + v3, v8 & 1u);
     v2 = v3 + 1ull;
-    s8(v4 + 7800, v2);
+    s8_8(v4 + 7800, v2);
     if ((v3 + 0xFFFFFFFFFFFFE79Bull) < 4ull) goto L35;
     s4((v4 + 1544ull) + v2, v5);
     v2 = v3 + 5ull;
-    s8(v4 + 7800, v2);
+    s8_8(v4 + 7800, v2);
 L35:;
     if ((v2 + 0xFFFFFFFFFFFFE79Aull) >= 4ull) goto L37;
     v3 = v2;
@@ -9258,7 +9435,7 @@ L35:;
 L37:;
     s4((v4 + 1544ull) + v2, v6);
     v3 = v2 + 4ull;
-    s8(v4 + 7800, v3);
+    s8_8(v4 + 7800, v3);
 L36:;
     v9 = v9 + 16ull;
     v11 = v11 + 0xFFFFFFFFFFFFFFFFull;
@@ -9269,7 +9446,8 @@ L32:;
     TRAP();
 }
 
-APART u32 f127(u64 v0, u64 v1)
+/* mscp_port::port::restoring::is_front, crates/mscp_port/src/port/restoring.rt:298 */
+APART u32 restoring_is_front(u64 v0, u64 v1)
 {
     ROOM(frame, 12528);
     u32 v3 = 0, t0;
@@ -9277,22 +9455,23 @@ APART u32 f127(u64 v0, u64 v1)
     v2 = A(frame);
     v3 = 0u;
     fill(v2 + 6264ull, 0u, 6264ull);
-    f126(v2 + 6264ull, v0, v1);
+    front_saved_front(v2 + 6264ull, v0, v1);
     copy(v2, v2 + 6264ull, 6264ull);
-    v1 = l8(v2 + 6256);
+    v1 = l8_8(v2 + 6256);
     if (v1 != (((((u64)l1(v0 + 70)) + (((u64)l1(v0 + 71)) * 20ull)) + (((u64)l1(v0 + 72)) * 13ull)) + 425ull)) goto L2;
     if (l1(v2) != l1(v0)) goto L2;
     if ((l1(v2 + 1) & 255u) != (l1(v0 + 1ull) & 255u)) goto L2;
     if ((l1(v2 + 2) & 255u) != (l1(v0 + 2ull) & 255u)) goto L2;
     if ((l1(v2 + 3) & 255u) != (l1(v0 + 3ull) & 255u)) goto L2;
-    t0 = f85(v2, v1, v0);
+    t0 = slices_groups_equal(v2, v1, v0);
     v3 = t0;
 L2:;
     return v3;
     TRAP();
 }
 
-static void f128(u64 v0, u64 v1, u64 v2, u32 v3)
+/* mscp_port::port::restoring::restore_fault, crates/mscp_port/src/port/restoring.rt:307 */
+static void restoring_restore_fault_2(u64 v0, u64 v1, u64 v2, u32 v3)
 {
     ROOM(frame, 16);
     u32 v5 = 0, v7 = 0, v8 = 0, t0;
@@ -9340,14 +9519,14 @@ L4:;
     s1(v0 + 1ull, v5);
     goto L2;
 L3:;
-    f123(v4 + 8ull, v1 + v6, v2 - v6, v3);
+    restoring_restore_fault(v4 + 8ull, v1 + v6, v2 - v6, v3);
     if (l1(v4 + 8) != 1u) goto L8;
     v5 = l1(v4 + 9);
     s2(v0, 1025u);
     s1(v0 + 2ull, v5);
     goto L2;
 L8:;
-    t0 = f127(v1, v2);
+    t0 = restoring_is_front(v1, v2);
     v5 = t0;
     s1(v0 + 2ull, 0u);
     s1(v0 + 1ull, v5 ? 0u : 5u);
@@ -9357,15 +9536,16 @@ L2:;
     TRAP();
 }
 
-APART void f129(u64 v0, u64 v1)
+/* mscp_saved::restoring::saved_settings, crates/mscp_saved/src/restoring.rt:120 */
+APART void restoring_saved_settings(u64 v0, u64 v1)
 {
     ROOM(frame, 1856);
     u64 v2 = 0;
     v2 = A(frame);
     fill(v2 + 1040ull, 0u, 816ull);
     fill(v2 + 8ull, 0u, 1032ull);
-    f113(v2 + 8ull, v1);
-    f114(v2 + 1040ull, v1, v2 + 8ull, l8(v2 + 1032));
+    framing_drives_in(v2 + 8ull, v1);
+    restoring_settings_in(v2 + 1040ull, v1, v2 + 8ull, l8_8(v2 + 1032));
     if (l1(v2 + 1040) == 0) goto L1;
     TRAP();
 L1:;
@@ -9373,7 +9553,8 @@ L1:;
     return;
 }
 
-APART void f130(u64 v0, u64 v1, u32 v2)
+/* mscp_c::port_saving::make_unresumed, crates/mscp_c/src/port_saving.rt:74 */
+APART void port_saving_make_unresumed(u64 v0, u64 v1, u32 v2)
 {
     ROOM(frame, 20656);
     u32 v5 = 0, v6 = 0, v7 = 0, v8 = 0;
@@ -9388,20 +9569,20 @@ APART void f130(u64 v0, u64 v1, u32 v2)
     fill(v4 + 6520ull, 0u, 1032ull);
     fill(v4 + 5225ull, 0u, 1295ull);
     fill(v4 + 4440ull, 0u, 784ull);
-    f92(v4 + 4440ull, v4 + 7584ull, l8(v4 + 8352));
+    Units_new(v4 + 4440ull, v4 + 7584ull, l8_8(v4 + 8352));
     if (l1(v4 + 4440)) goto L2;
-    v5 = l4(v4 + 7564);
-    v6 = l4(v4 + 7560);
-    v7 = l4(v4 + 7556);
-    v8 = l4(v4 + 7552);
+    v5 = l4_4(v4 + 7564);
+    v6 = l4_4(v4 + 7560);
+    v7 = l4_4(v4 + 7556);
+    v8 = l4_4(v4 + 7552);
     copy(v4 + 10680ull, v4 + 4448ull, 776ull);
     fill(v4 + 11457ull, 0u, 1295ull);
     fill(v4 + 8360ull, 0u, 1288ull);
-    v3 = l8(v4 + 11448);
+    v3 = l8_8(v4 + 11448);
     fill(v4 + 12752ull, 0u, 1032ull);
-    f94(v4 + 12752ull);
+    ArrayVec_new(v4 + 12752ull);
     if (v3 == 0) goto L3;
-    v9 = l8(v4 + 13776);
+    v9 = l8_8(v4 + 13776);
     if (v3 != 1ull) goto L5;
     v10 = 0ull;
     goto L4;
@@ -9412,29 +9593,29 @@ L5:;
     v1 = v4 + 10680ull;
     v10 = 0ull;
 L6:;
-    s8(v3 + 40, l8(v1 + 40));
-    s8(v3 + 32, l8(v1 + 32));
-    s8(v3 + 24, l8(v1 + 24));
-    s8(v3 + 16, l8(v1 + 16));
-    s8(v3 + 8, l8(v1 + 8));
-    s8(v3, l8(v1));
+    s8_8(v3 + 40, l8_8(v1 + 40));
+    s8_8(v3 + 32, l8_8(v1 + 32));
+    s8_8(v3 + 24, l8_8(v1 + 24));
+    s8_8(v3 + 16, l8_8(v1 + 16));
+    s8_8(v3 + 8, l8_8(v1 + 8));
+    s8_8(v3, l8_8(v1));
     s4(v3 + 57ull, 0u);
     s1(v3 + 56ull, 1u);
-    s8(v3 + 48ull, 0ull);
+    s8_8(v3 + 48ull, 0ull);
     s4(v3 + 60ull, 0u);
     v13 = v9 + v10;
-    s8(v4 + 13776, v13 + 1ull);
+    s8_8(v4 + 13776, v13 + 1ull);
     s4(v3 + 121ull, 0u);
     s1(v3 + 120ull, 1u);
-    s8(v3 + 112ull, 0ull);
+    s8_8(v3 + 112ull, 0ull);
     s4(v3 + 124ull, 0u);
-    s8(v3 + 104ull, l8(v1 + 88ull));
-    s8(v3 + 96ull, l8(v1 + 80ull));
-    s8(v3 + 88ull, l8(v1 + 72ull));
-    s8(v3 + 80ull, l8(v1 + 64ull));
-    s8(v3 + 72ull, l8(v1 + 56ull));
-    s8(v3 + 64ull, l8(v1 + 48ull));
-    s8(v4 + 13776, v13 + 2ull);
+    s8_8(v3 + 104ull, l8_8(v1 + 88ull));
+    s8_8(v3 + 96ull, l8_8(v1 + 80ull));
+    s8_8(v3 + 88ull, l8_8(v1 + 72ull));
+    s8_8(v3 + 80ull, l8_8(v1 + 64ull));
+    s8_8(v3 + 72ull, l8_8(v1 + 56ull));
+    s8_8(v3 + 64ull, l8_8(v1 + 48ull));
+    s8_8(v4 + 13776, v13 + 2ull);
     v1 = v1 + 96ull;
     v3 = v3 + 128ull;
     v10 = v10 + 2ull;
@@ -9444,17 +9625,17 @@ L6:;
 L4:;
     v3 = (v4 + 12752ull) + (v9 << 6);
     v1 = (v4 + 10680ull) + (v10 * 48ull);
-    s8(v3 + 40, l8(v1 + 40));
-    s8(v3 + 32, l8(v1 + 32));
-    s8(v3 + 24, l8(v1 + 24));
-    s8(v3 + 16, l8(v1 + 16));
-    s8(v3 + 8, l8(v1 + 8));
-    s8(v3, l8(v1));
+    s8_8(v3 + 40, l8_8(v1 + 40));
+    s8_8(v3 + 32, l8_8(v1 + 32));
+    s8_8(v3 + 24, l8_8(v1 + 24));
+    s8_8(v3 + 16, l8_8(v1 + 16));
+    s8_8(v3 + 8, l8_8(v1 + 8));
+    s8_8(v3, l8_8(v1));
     s4(v3 + 57, 0u);
     s1(v3 + 56, 1u);
-    s8(v3 + 48, 0ull);
+    s8_8(v3 + 48, 0ull);
     s4(v3 + 60, 0u);
-    s8(v4 + 13776, v9 + 1ull);
+    s8_8(v4 + 13776, v9 + 1ull);
 L3:;
     v10 = (v4 + 7552ull) | 4ull;
     copy(v4 + 9648ull, v4 + 12752ull, 1032ull);
@@ -9464,21 +9645,21 @@ L7:;
     v3 = (v4 + 12752ull) + v1;
     s8(v3 + 2057ull, 0ull);
     s1(v3 + 2056ull, 5u);
-    s8(v3 + 2048ull, 0ull);
+    s8_4(v3 + 2048ull, 0ull);
     s8(v3 + 2065ull, 0ull);
     s8(v3 + 2072ull, 0ull);
     s8(v3 + 2089ull, 0ull);
     s1(v3 + 2088ull, 5u);
-    s8(v3 + 2080ull, 0ull);
+    s8_4(v3 + 2080ull, 0ull);
     s8(v3 + 2097ull, 0ull);
     s8(v3 + 2104ull, 0ull);
     s8(v3 + 2121ull, 0ull);
     s1(v3 + 2120ull, 5u);
-    s8(v3 + 2112ull, 0ull);
+    s8_4(v3 + 2112ull, 0ull);
     s8(v3 + 2129ull, 0ull);
     s8(v3 + 2136ull, 0ull);
     s1(v3 + 2152ull, 5u);
-    s8(v3 + 2144ull, 0ull);
+    s8_4(v3 + 2144ull, 0ull);
     s8(v3 + 2168ull, 0ull);
     s8(v3 + 2161ull, 0ull);
     s8(v3 + 2153ull, 0ull);
@@ -9490,10 +9671,10 @@ L7:;
     v1 = 0xFFFFFFFFFFFFFC00ull;
 L8:;
     v3 = (v4 + 18608ull) + v1;
-    s8(v3 + 1048ull, 0ull);
-    s8(v3 + 1040ull, 0x300000000000000ull);
-    s8(v3 + 1032ull, 0ull);
-    s8(v3 + 1024ull, 0x300000000000000ull);
+    s8_8(v3 + 1048ull, 0ull);
+    s8_8(v3 + 1040ull, 0x300000000000000ull);
+    s8_8(v3 + 1032ull, 0ull);
+    s8_8(v3 + 1024ull, 0x300000000000000ull);
     v1 = v1 + 32ull;
     if (v1 != 0ull) goto L8;
     copy(v4 + 12752ull, v4 + 18608ull, 1024ull);
@@ -9503,10 +9684,10 @@ L8:;
     v1 = 0xFFFFFFFFFFFFFC00ull;
 L9:;
     v3 = (v4 + 19632ull) + v1;
-    s8(v3 + 1048ull, 0ull);
-    s8(v3 + 1040ull, 0x300000000000000ull);
-    s8(v3 + 1032ull, 0ull);
-    s8(v3 + 1024ull, 0x300000000000000ull);
+    s8_8(v3 + 1048ull, 0ull);
+    s8_8(v3 + 1040ull, 0x300000000000000ull);
+    s8_8(v3 + 1032ull, 0ull);
+    s8_8(v3 + 1024ull, 0x300000000000000ull);
     v1 = v1 + 32ull;
     if (v1 != 0ull) goto L9;
     copy(v4 + 11464ull, v4 + 8360ull, 1288ull);
@@ -9516,14 +9697,14 @@ L9:;
     copy(v4 + 1308ull, v4 + 6520ull, 1032ull);
     copy(v4 + 13ull, v4 + 5225ull, 1295ull);
     s1(v4 + 12756, 0u);
-    s4(v4 + 12752, 0u);
+    s4_4(v4 + 12752, 0u);
     if (v8 >= 2u) goto L1;
 L2:;
     TRAP();
 L1:;
     fill(v4 + 12757ull, 0u, 1288ull);
     copy(v4 + 3147ull, v4 + 12752ull, 1293ull);
-    v3 = l8(v0);
+    v3 = l8_8(v0);
     s4(v3 + 8, v8);
     s8(v3, 0ull);
     copy(v3 + 12ull, v4 + 2340ull, 804ull);
@@ -9547,11 +9728,12 @@ L1:;
     copy(v3 + 14363ull, v4 + 3147ull, 1293ull);
     fill(v3 + 15656ull, 0u, 1484ull);
     s4(v3 + 17140, 60u);
-    s8(v0 + 24ull, 0x504F52544D414445ull);
+    s8_8(v0 + 24ull, 0x504F52544D414445ull);
     return;
 }
 
-APART void f131(u64 v0, u64 v1, u64 v2, u64 v3, u32 v4, u64 v5)
+/* mscp_queue::queue::Queue::restore, crates/mscp_queue/src/queue/restoring.rt:54 */
+APART void Queue_restore(u64 v0, u64 v1, u64 v2, u64 v3, u32 v4, u64 v5)
 {
     ROOM(frame, 10800);
     u32 v9 = 0, v13 = 0, v14 = 0, v15 = 0, v17 = 0, v18 = 0, v26 = 0, v27 = 0, v28 = 0;
@@ -9562,36 +9744,36 @@ APART void f131(u64 v0, u64 v1, u64 v2, u64 v3, u32 v4, u64 v5)
     fill(v7 + 1328ull, 0u, 1296ull);
     fill(v7 + 32ull, 0u, 1296ull);
     copy(v7 + 2624ull, v3, 1032ull);
-    v8 = l8(v7 + 3648);
+    v8 = l8_8(v7 + 3648);
     fill(v7 + 4944ull, 0u, 1024ull);
     v3 = 0xFFFFFFFFFFFFFC00ull;
 L2:;
     v6 = (v7 + 4944ull) + v3;
-    s8(v6 + 1048ull, 0ull);
-    s8(v6 + 1040ull, 0x300000000000000ull);
-    s8(v6 + 1032ull, 0ull);
-    s8(v6 + 1024ull, 0x300000000000000ull);
+    s8_8(v6 + 1048ull, 0ull);
+    s8_8(v6 + 1040ull, 0x300000000000000ull);
+    s8_8(v6 + 1032ull, 0ull);
+    s8_8(v6 + 1024ull, 0x300000000000000ull);
     v3 = v3 + 32ull;
     if (v3 != 0ull) goto L2;
     copy(v7 + 3656ull, v7 + 4944ull, 1024ull);
     fill((v7 + 3656ull) + 1024ull, 0u, 264ull);
     copy(v7 + 4944ull, v7 + 3656ull, 1288ull);
-    s8(v7 + 6232, 0ull);
+    s8_8(v7 + 6232, 0ull);
     v9 = v2 == 0;
     if (v9) goto L3;
     v10 = v7 + 5976ull;
     v11 = 0ull;
 L4:;
     v12 = v1 + (v11 << 5);
-    v13 = l4(v12 + 16ull);
+    v13 = l4_2(v12 + 16ull);
     v14 = l1(v12 + 8ull);
-    v15 = l2(v12 + 4ull);
+    v15 = l2_2(v12 + 4ull);
     v6 = 0ull;
     if (v8 == 0) goto L5;
     v3 = 0ull;
     v6 = v7 + 2624ull;
 L7:;
-    if (l2(v6) == (v15 & 65535u)) goto L6;
+    if (l2_2(v6) == (v15 & 65535u)) goto L6;
     v6 = v6 + 64ull;
     v3 = v3 + 1ull;
     if (v8 != v3) goto L7;
@@ -9600,9 +9782,9 @@ L6:;
     v6 = v3 << 6;
 L5:;
     v3 = 0ull;
-    v16 = (l8(((v7 + 2624ull) + v6) + 32ull)) + 1ull;
-    f69(v7 + 16ull, v16, (u64)(u32)(v16 == 0), (v14 == 7u) ? ((u64)v13) : 0ull, 0ull);
-    v13 = l4(v12);
+    v16 = (l8_8(((v7 + 2624ull) + v6) + 32ull)) + 1ull;
+    multi3(v7 + 16ull, v16, (u64)(u32)(v16 == 0), (v14 == 7u) ? ((u64)v13) : 0ull, 0ull);
+    v13 = l4_4(v12);
     v17 = 0u;
     switch (v14) {
     case 4: case 5: case 6: goto L10;
@@ -9617,13 +9799,13 @@ L10:;
     v17 = 1u;
     goto L8;
 L9:;
-    v3 = l8(v7 + 24);
+    v3 = l8_8(v7 + 24);
     v14 = (u32)v3;
     v6 = (v7 + 2624ull) + (v6 & 16320ull);
-    v17 = l4(v6 + 52ull);
+    v17 = l4_4(v6 + 52ull);
     v16 = (u64)v17;
     if (l1(v6 + 56ull) != 1u) goto L13;
-    v3 = (v17 > v14) ? ((((u64)l4(v6 + 40ull)) << 1) - (v16 + v3)) : (v3 - v16);
+    v3 = (v17 > v14) ? ((((u64)l4_4(v6 + 40ull)) << 1) - (v16 + v3)) : (v3 - v16);
     goto L12;
 L13:;
     v3 = ((v17 < v14) ? v3 : (0ull - v3)) + v16;
@@ -9632,14 +9814,14 @@ L12:;
 L8:;
     v6 = v10 + ((u64)(v13 & 255u));
     s1(v6, l1(v6) + 1u);
-    v16 = l8(v7 + 5968);
+    v16 = l8_8(v7 + 5968);
     v6 = (v7 + 4944ull) + (v16 << 4);
-    s2(v6 + 4, v15);
+    s2_2(v6 + 4, v15);
     s1(v6 + 7, v17);
     s1(v6 + 6, l1(v12 + 6ull));
-    s4(v6, v13);
-    s8(v6 + 8, v3);
-    s8(v7 + 5968, v16 + 1ull);
+    s4_4(v6, v13);
+    s8_8(v6 + 8, v3);
+    s8_8(v7 + 5968, v16 + 1ull);
     v11 = v11 + 1ull;
     if (v11 != v2) goto L4;
 L3:;
@@ -9651,7 +9833,7 @@ L3:;
     if ((v4 & 255u) != 1u) goto L14;
     v3 = 0ull;
     v6 = 0ull;
-    v12 = l8(v7 + 2352);
+    v12 = l8_8(v7 + 2352);
     if (v12 == 0) goto L14;
     v14 = (u32)(v5 >> 32);
     v15 = (u32)v5;
@@ -9659,7 +9841,7 @@ L3:;
     v6 = v7 + 1328ull;
 L15:;
     if (l1(v6 + 6ull) != (v15 & 255u)) goto L16;
-    if (l4(v6) != v14) goto L16;
+    if (l4_4(v6) != v14) goto L16;
     v6 = 1ull;
     goto L14;
 L16:;
@@ -9676,7 +9858,7 @@ L14:;
     v6 = v1 + 24ull;
     v3 = 0ull;
 L18:;
-    if (l4(v6) == 0) goto L19;
+    if (l4_4(v6) == 0) goto L19;
     v11 = 1ull;
     goto L17;
 L19:;
@@ -9688,7 +9870,7 @@ L19:;
 L17:;
     s8(v0 + 4896ull, v3);
     s8(v0 + 4888ull, v11);
-    v18 = l4(v0 + 3816ull);
+    v18 = l4_4(v0 + 3816ull);
     fill(v7 + 4944ull, 0u, 2048ull);
     v3 = 0xFFFFFFFFFFFFF800ull;
 L20:;
@@ -9696,21 +9878,21 @@ L20:;
     v6 = (v7 + 4944ull) + v3;
     s8(v6 + 2057ull, 0ull);
     s1(v6 + 2056ull, 5u);
-    s8(v6 + 2048ull, 0ull);
+    s8_4(v6 + 2048ull, 0ull);
     s8(v6 + 2065ull, 0ull);
     s8(v6 + 2072ull, 0ull);
     s8(v6 + 2089ull, 0ull);
     s1(v6 + 2088ull, 5u);
-    s8(v6 + 2080ull, 0ull);
+    s8_4(v6 + 2080ull, 0ull);
     s8(v6 + 2097ull, 0ull);
     s8(v6 + 2104ull, 0ull);
     s8(v6 + 2121ull, 0ull);
     s1(v6 + 2120ull, 5u);
-    s8(v6 + 2112ull, 0ull);
+    s8_4(v6 + 2112ull, 0ull);
     s8(v6 + 2129ull, 0ull);
     s8(v6 + 2136ull, 0ull);
     s1(v6 + 2152ull, 5u);
-    s8(v6 + 2144ull, 0ull);
+    s8_4(v6 + 2144ull, 0ull);
     s8(v6 + 2168ull, 0ull);
     s8(v6 + 2161ull, 0ull);
     s8(v6 + 2153ull, 0ull);
@@ -9730,19 +9912,19 @@ L20:;
     v12 = 0ull;
 L24:;
     v3 = 0ull;
-    v15 = l4(v6 + 0xFFFFFFFFFFFFFFE4ull);
+    v15 = l4_4(v6 + 0xFFFFFFFFFFFFFFE4ull);
     if (v15 == 0) goto L25;
-    v14 = l4(v6 + 0xFFFFFFFFFFFFFFE0ull);
+    v14 = l4_4(v6 + 0xFFFFFFFFFFFFFFE0ull);
     v15 = v14 - v15;
     v3 = (u64)((v15 > v14) ? 0u : v15);
 L25:;
     v3 = v3 + v16;
-    v15 = l4(v6 + 4ull);
+    v15 = l4_4(v6 + 4ull);
     if (v15) goto L27;
     v11 = 0ull;
     goto L26;
 L27:;
-    v14 = l4(v6);
+    v14 = l4_4(v6);
     v15 = v14 - v15;
     v11 = (u64)((v15 > v14) ? 0u : v15);
 L26:;
@@ -9753,9 +9935,9 @@ L26:;
     if (v19 == 0) goto L22;
 L23:;
     v6 = v1 + (v12 << 5);
-    v15 = l4(v6 + 24ull);
+    v15 = l4_4(v6 + 24ull);
     if (v15 == 0) goto L28;
-    v14 = l4(v6 + 20ull);
+    v14 = l4_4(v6 + 20ull);
     v15 = v14 - v15;
     v5 = (u64)((v15 > v14) ? 0u : v15);
 L28:;
@@ -9784,7 +9966,7 @@ L29:;
     v3 = 0ull;
     v6 = v7 + 2624ull;
 L31:;
-    if (l2(v6) == (v15 & 65535u)) goto L30;
+    if (l2_2(v6) == (v15 & 65535u)) goto L30;
     v6 = v6 + 64ull;
     v3 = v3 + 1ull;
     if (v8 != v3) goto L31;
@@ -9795,8 +9977,8 @@ L30:;
     v26 = l4(v12 + 12);
     v27 = l2(v12 + 10);
     v28 = l1(v12 + 9);
-    v6 = (l8(((v7 + 2624ull) + (v3 << 6)) + 32ull)) + 1ull;
-    f69(v7, v6, (u64)(u32)(v6 == 0), ((v13 & 255u) == 7u) ? ((u64)v9) : 0ull, 0ull);
+    v6 = (l8_8(((v7 + 2624ull) + (v3 << 6)) + 32ull)) + 1ull;
+    multi3(v7, v6, (u64)(u32)(v6 == 0), ((v13 & 255u) == 7u) ? ((u64)v9) : 0ull, 0ull);
     v10 = (u64)v4;
     if (v14 == 0) goto L33;
     v11 = v11 + v10;
@@ -9806,38 +9988,38 @@ L33:;
     v4 = v18 - v15;
     v10 = (v11 + ((u64)((v4 > v18) ? 0u : v4))) + v16;
 L32:;
-    v29 = l8(v7 + 8);
-    v19 = l8(v7 + 10136);
+    v29 = l8_8(v7 + 8);
+    v19 = l8_8(v7 + 10136);
     v12 = ctz64(v19 ^ 0xFFFFFFFFFFFFFFFFull);
     v30 = v12 << 3;
-    s8(v22 + v30, v19);
+    s8_8(v22 + v30, v19);
     v6 = (v7 + 6992ull) + (v12 << 5);
-    s4(v6 + 28, v15);
-    s4(v6 + 24, v14);
-    s4(v6 + 20, v17);
-    s4(v6 + 16, v9);
-    s4(v6 + 12, v26);
-    s2(v6 + 10, v27);
+    s4_4(v6 + 28, v15);
+    s4_4(v6 + 24, v14);
+    s4_4(v6 + 20, v17);
+    s4_4(v6 + 16, v9);
+    s4_4(v6 + 12, v26);
+    s2_2(v6 + 10, v27);
     s1(v6 + 9, v28);
     s1(v6 + 8, v13);
-    s8(v6, v25);
+    s8_8(v6, v25);
     v6 = v3 & 255ull;
-    s8(v24 + v30, (v29 << 32) | v6);
-    s8(v23 + v30, v10);
+    s8_8(v24 + v30, (v29 << 32) | v6);
+    s8_8(v23 + v30, v10);
     v6 = v21 + (v6 << 3);
     t0 = v6;
-    t1 = l8(v6);
+    t1 = l8_8(v6);
     v6 = 1ull << (v12 & 63);
-    s8(t0, t1 | v6);
-    s8(v7 + 10136, v6 | v19);
-    v3 = l8(v7 + 10144);
+    s8_8(t0, t1 | v6);
+    s8_8(v7 + 10136, v6 | v19);
+    v3 = l8_8(v7 + 10144);
     v10 = rotl64(0xFFFFFFFFFFFFFFFEull, (v12 & 63));
-    s8(v7 + 10144, (((v13 + 0xFFFFFFFCu) & 255u) < 3u) ? (v3 | v6) : (v3 & v10));
-    v3 = l8(v7 + 10152);
-    s8(v7 + 10152, v14 ? (v3 | v6) : (v3 & v10));
-    v6 = l8(v7 + 10128);
+    s8_8(v7 + 10144, (((v13 + 0xFFFFFFFCu) & 255u) < 3u) ? (v3 | v6) : (v3 & v10));
+    v3 = l8_8(v7 + 10152);
+    s8_8(v7 + 10152, v14 ? (v3 | v6) : (v3 & v10));
+    v6 = l8_8(v7 + 10128);
     s1(v20 + v6, (u32)v12);
-    s8(v7 + 10128, v6 + 1ull);
+    s8_8(v7 + 10128, v6 + 1ull);
     v5 = v5 + 1ull;
     if (v5 != v2) goto L29;
 L21:;
@@ -9851,7 +10033,8 @@ L21:;
     TRAP();
 }
 
-APART void f132(u64 v0, u64 v1, u64 v2, u64 v3, u64 v4)
+/* mscp_controller::account::Accounts::restore, crates/mscp_controller/src/account/restoring.rt:29 */
+APART void Accounts_restore(u64 v0, u64 v1, u64 v2, u64 v3, u64 v4)
 {
     ROOM(frame, 6160);
     u32 v7 = 0;
@@ -9868,7 +10051,7 @@ APART void f132(u64 v0, u64 v1, u64 v2, u64 v3, u64 v4)
     goto L4;
 L6:;
     v7 = 0u;
-    s4(v0, 0u);
+    s4_4(v0, 0u);
     copy(v0 + 8ull, v6 + 3080ull, 3080ull);
     goto L2;
 L5:;
@@ -9892,7 +10075,7 @@ L8:;
     v5 = v5 + 0xFFFFFFFFFFFFFFFFull;
     if (v5 != 0ull) goto L8;
 L3:;
-    s4(v0, v7);
+    s4_4(v0, v7);
     copy(v0 + 8ull, v6 + 3080ull, 3080ull);
     if (v2 >= 4ull) goto L10;
     v5 = 0ull;
@@ -9919,13 +10102,14 @@ L12:;
     v4 = v4 + 0xFFFFFFFFFFFFFFFFull;
     if (v4 != 0ull) goto L12;
 L2:;
-    s4(v0 + 3088ull, v7);
+    s4_4(v0 + 3088ull, v7);
     copy(v0 + 3096ull, v6, 3080ull);
     return;
     TRAP();
 }
 
-APART void f133(u64 v0, u64 v1, u64 v2)
+/* mscp_saved::restoring::resume, crates/mscp_saved/src/restoring.rt:132 */
+APART void restoring_resume(u64 v0, u64 v1, u64 v2)
 {
     ROOM(frame, 9248);
     u32 v4 = 0, v8 = 0;
@@ -9935,15 +10119,15 @@ APART void f133(u64 v0, u64 v1, u64 v2)
     v4 = 0u;
     fill(v3 + 1032ull, 0u, 2056ull);
     fill(v3, 0u, 1032ull);
-    f115(v3 + 1032ull, v1);
-    v5 = l8(v3 + 3080);
+    framing_all_waiting_in(v3 + 1032ull, v1);
+    v5 = l8_8(v3 + 3080);
     fill(v3 + 3088ull, 0u, 3080ull);
     v6 = (((((u64)l1(v1 + 31)) * 34ull) + (((u64)l1(v1 + 40)) * 41ull)) + v1) + 48ull;
     v7 = (u64)l1(v1 + 41);
-    f116(v3 + 3088ull, v6, v7);
+    reading_read_ends(v3 + 3088ull, v6, v7);
     fill(v3 + 6168ull, 0u, 3080ull);
-    f116(v3 + 6168ull, v6 + (v7 * 48ull), (u64)l1(v1 + 42));
-    f113(v3, v1);
+    reading_read_ends(v3 + 6168ull, v6 + (v7 * 48ull), (u64)l1(v1 + 42));
+    framing_drives_in(v3, v1);
     v8 = l1(v1 + 43);
     if (v8) goto L3;
     v1 = 0ull;
@@ -9952,13 +10136,14 @@ L3:;
     v4 = 1u;
     v1 = (((u64)l4(v1 + 44ull)) << 32) | ((u64)(u32)(v8 != 1u));
 L2:;
-    f131(v0 + 808ull, v3 + 1032ull, v5, v3, v4, v1);
-    f132(v0 + 8048ull, v3 + 1032ull, v5, v3 + 3088ull, v3 + 6168ull);
+    Queue_restore(v0 + 808ull, v3 + 1032ull, v5, v3, v4, v1);
+    Accounts_restore(v0 + 8048ull, v3 + 1032ull, v5, v3 + 3088ull, v3 + 6168ull);
     return;
     TRAP();
 }
 
-APART void f134(u64 v0, u64 v1, u64 v2)
+/* mscp_port::port::Port::resume, crates/mscp_port/src/port/restoring.rt:363 */
+APART void Port_resume(u64 v0, u64 v1, u64 v2)
 {
     ROOM(frame, 3296);
     u32 v5 = 0, v6 = 0, v7 = 0, v8 = 0, v9 = 0, v10 = 0, v11 = 0, v12 = 0;
@@ -9966,7 +10151,7 @@ APART void f134(u64 v0, u64 v1, u64 v2)
     v3 = A(frame);
     v4 = v3;
     v5 = 0u;
-    s4(v4 + 456, 0u);
+    s4_4(v4 + 456, 0u);
     s4(v4 + 459, 0u);
     fill(v4 + 8ull, 0u, 448ull);
     s4(v0, (((l1(v1 + 13) << 8) | (u32)(l1(v1 + 12) != 1u)) | (l1(v1 + 14) << 16)) | (l1(v1 + 15) << 24));
@@ -10130,18 +10315,18 @@ L6:;
     s1(v0 + 14269ull, v9);
     s1(v0 + 14268ull, v5);
     v3 = 0ull;
-    s8(v4 + 464, 0ull);
-    s8(v4 + 472, 0ull);
-    s8(v4 + 480, 0ull);
-    s8(v4 + 488, 0ull);
-    s8(v4 + 496, 0ull);
-    s8(v4 + 504, 0ull);
-    s8(v4 + 512, 0ull);
+    s8_8(v4 + 464, 0ull);
+    s8_8(v4 + 472, 0ull);
+    s8_8(v4 + 480, 0ull);
+    s8_8(v4 + 488, 0ull);
+    s8_8(v4 + 496, 0ull);
+    s8_8(v4 + 504, 0ull);
+    s8_8(v4 + 512, 0ull);
     v5 = l1(v1 + 69);
     if (v5) goto L25;
     v5 = 0u;
     s4(v4 + 523, 0u);
-    s4(v4 + 520, 0u);
+    s4_4(v4 + 520, 0u);
     goto L24;
 L25:;
     v6 = l1(v1 + 70);
@@ -10150,25 +10335,25 @@ L25:;
     if (v3 == 0) goto L27;
     copy(v4 + 464ull, v1 + 425ull, v3);
 L27:;
-    s8(v4 + 512, v3);
+    s8_8(v4 + 512, v3);
 L26:;
     s4(v4 + 523, 0u);
-    s4(v4 + 520, 0u);
+    s4_4(v4 + 520, 0u);
     v5 = (v5 == 1u) ? 0u : ((v5 == 2u) ? 1u : 2u);
     v3 = 1ull;
 L24:;
     s4(v4 + 459, l4(v4 + 523));
-    s4(v4 + 456, l4(v4 + 520));
+    s4_4(v4 + 456, l4_4(v4 + 520));
     s8(v0 + 14288ull, v3);
-    s8(v0 + 14296ull, l8(v4 + 464));
-    s8(v0 + 14304ull, l8(v4 + 472));
-    s8(v0 + 14312ull, l8(v4 + 480));
-    s8(v0 + 14320ull, l8(v4 + 488));
-    s8(v0 + 14328ull, l8(v4 + 496));
-    s8(v0 + 14336ull, l8(v4 + 504));
-    s8(v0 + 14344ull, l8(v4 + 512));
+    s8(v0 + 14296ull, l8_8(v4 + 464));
+    s8(v0 + 14304ull, l8_8(v4 + 472));
+    s8(v0 + 14312ull, l8_8(v4 + 480));
+    s8(v0 + 14320ull, l8_8(v4 + 488));
+    s8(v0 + 14328ull, l8_8(v4 + 496));
+    s8(v0 + 14336ull, l8_8(v4 + 504));
+    s8(v0 + 14344ull, l8_8(v4 + 512));
     s1(v0 + 14352ull, v5);
-    s4(v0 + 14353ull, l4(v4 + 456));
+    s4(v0 + 14353ull, l4_4(v4 + 456));
     s4(v0 + 14356ull, l4(v4 + 459));
     s1(v0 + 14360ull, l1(v1 + 20) == 1u);
     s1(v0 + 14361ull, l1(v1 + 21) == 1u);
@@ -10184,10 +10369,10 @@ L24:;
 L29:;
     v16 = (v4 + 520ull) + v3;
     v17 = v14 + v3;
-    s4(v16 + 16ull, l4(v17 + 441ull));
-    s8(v16 + 8ull, l8(v17 + 433ull));
-    s8(v16, l8(v17 + 425ull));
-    s8(v4 + 1800, v13);
+    s4_4(v16 + 16ull, l4(v17 + 441ull));
+    s8_4(v16 + 8ull, l8(v17 + 433ull));
+    s8_4(v16, l8(v17 + 425ull));
+    s8_8(v4 + 1800, v13);
     v13 = v13 + 1ull;
     v3 = v3 + 20ull;
     if (v15 != v3) goto L29;
@@ -10205,12 +10390,12 @@ L28:;
 L31:;
     v13 = (v4 + 1808ull) + v16;
     s2(v13 + 5ull, 0u);
-    s4(v13, l4(v3 + 425ull));
+    s4_4(v13, l4(v3 + 425ull));
     s1(v13 + 7ull, 0u);
-    s8(v13 + 8ull, l8(v3 + 430ull));
+    s8_8(v13 + 8ull, l8(v3 + 430ull));
     s1(v13 + 4ull, l1(v3 + 429ull) == 1u);
     v3 = v3 + 13ull;
-    s8(v4 + 2832, v17);
+    s8_8(v4 + 2832, v17);
     v17 = v17 + 1ull;
     v16 = v16 + 16ull;
     if (v14 != v16) goto L31;
@@ -10221,16 +10406,16 @@ L30:;
     v3 = v1;
 L32:;
     v13 = (v4 + 2840ull) + v16;
-    s4(v13 + 12ull, l4(v3 + 86ull));
-    s8(v13 + 4ull, l8(v3 + 78ull));
+    s4_4(v13 + 12ull, l4(v3 + 86ull));
+    s8_4(v13 + 4ull, l8(v3 + 78ull));
     s1(v13 + 24ull, l1(v3 + 76ull) == 1u);
     v5 = l1(v3 + 90ull) == 1u;
-    s4(v13 + 16ull, v5);
+    s4_4(v13 + 16ull, v5);
     s1(v13 + 3ull, l1(v3 + 77ull) == 1u);
     s1(v13 + 2ull, l1(v3 + 75ull) == 1u);
     s1(v13 + 1ull, l1(v3 + 74ull) == 1u);
     s1(v13, l1(v3 + 73ull) == 1u);
-    s4(v13 + 20ull, v5 ? l4(v3 + 91ull) : 0u);
+    s4_4(v13 + 20ull, v5 ? l4(v3 + 91ull) : 0u);
     s1(v13 + 27ull, 0u);
     s2(v13 + 25ull, 0u);
     v3 = v3 + 22ull;
@@ -10238,29 +10423,30 @@ L32:;
     if (v16 != 448ull) goto L32;
     copy(v4 + 8ull, v4 + 2840ull, 448ull);
     copy(v0 + 16688ull, v4 + 8ull, 448ull);
-    s2(v0 + 17136ull, l2(v1 + 23ull));
-    s2(v0 + 17138ull, l2(v1 + 25ull));
-    s2(v0 + 17140ull, l2(v1 + 27ull));
+    s2_2(v0 + 17136ull, l2(v1 + 23ull));
+    s2_2(v0 + 17138ull, l2(v1 + 25ull));
+    s2_2(v0 + 17140ull, l2(v1 + 27ull));
     v3 = ((((u64)l1(v1 + 70)) + (((u64)l1(v1 + 71)) * 20ull)) + (((u64)l1(v1 + 72)) * 13ull)) + 425ull;
-    f133(v0 + 8ull, v1 + v3, v2 - v3);
+    restoring_resume(v0 + 8ull, v1 + v3, v2 - v3);
     return;
 }
 
-APART u32 f135(u64 v0, u64 v1, u64 v2)
+/* mscp_c::mscp_port_restore_at, crates/mscp_c/src/port_saving.rt:88 */
+APART u32 export_mscp_port_restore_at(u64 v0, u64 v1, u64 v2)
 {
     ROOM(frame, 816);
     u32 v5 = 0, v8 = 0;
     u64 v3 = 0, v4 = 0, v6 = 0, v7 = 0;
     v3 = A(frame);
     s1(v3 + 6, 0u);
-    s2(v3 + 4, 0u);
-    v4 = l8(v0 + 24ull);
+    s2_2(v3 + 4, 0u);
+    v4 = l8_8(v0 + 24ull);
     if (v4 != 0x504F52544D414445ull) goto L4;
     v5 = 0xFFFFFFF5u;
     goto L1;
 L4:;
     if (v4 != 0x504F5254524F4F4Dull) goto L2;
-    v4 = l8(v0 + 8ull);
+    v4 = l8_8(v0 + 8ull);
     if ((u32)(v4 == 0) == 0) goto L5;
     v5 = 0xFFFFFFF3u;
     goto L1;
@@ -10269,7 +10455,7 @@ L5:;
     v5 = 0xFFFFFFF2u;
     goto L1;
 L6:;
-    if (l8(v0 + 16ull) >= 17144ull) goto L7;
+    if (l8_8(v0 + 16ull) >= 17144ull) goto L7;
     v5 = 0xFFFFFFF1u;
     goto L1;
 L7:;
@@ -10294,7 +10480,7 @@ L8:;
     if (v1 >= v2) goto L11;
     v8 = l1(v4 + v1) == 1u;
 L11:;
-    f128(v3 + 4ull, v4, v2, v8);
+    restoring_restore_fault_2(v3 + 4ull, v4, v2, v8);
     v5 = 1u;
     if (l1(v3 + 4) != 1u) goto L12;
     v5 = 0xFFFFFFD8u;
@@ -10323,10 +10509,10 @@ L13:;
     goto L1;
 L12:;
     fill(v3 + 8ull, 0u, 808ull);
-    f129(v3 + 8ull, (((v4 + ((u64)l1(v4 + 70))) + (((u64)l1(v4 + 71)) * 20ull)) + (((u64)l1(v4 + 72)) * 13ull)) +
-        425ull);
-    f130(v0, v3 + 8ull, v8);
-    f134(l8(v0), v4, v2);
+    restoring_saved_settings(v3 + 8ull, (((v4 + ((u64)l1(v4 + 70))) + (((u64)l1(v4 + 71)) * 20ull)) + (((u64)l1(v4 +
+        72)) * 13ull)) + 425ull);
+    port_saving_make_unresumed(v0, v3 + 8ull, v8);
+    Port_resume(l8_8(v0), v4, v2);
     goto L1;
     TRAP();
 L2:;
@@ -10338,78 +10524,81 @@ L1:;
 static u32 w_mscp_port_restore_at(u64 v0, u64 v1, u64 v2)
 {
     u32 v3 = 0, t0, t1;
-    t0 = f58();
+    t0 = rattle_enter();
     if (t0 == 0) goto L1;
-    f59();
+    rattle_trap();
     TRAP();
 L1:;
-    t1 = f135(v0, v1, v2);
+    t1 = export_mscp_port_restore_at(v0, v1, v2);
     v3 = t1;
-    f61();
+    rattle_leave();
     return v3;
 }
 
-APART void f136(u64 v0, u64 v1, u32 v2)
+/* mscp_saved::writing::save, crates/mscp_saved/src/writing.rt:311 */
+APART void writing_save(u64 v0, u64 v1, u32 v2)
 {
     ROOM(frame, 3712);
     u32 v5 = 0, v9 = 0, v11 = 0, v13 = 0, v14 = 0;
     u64 v3 = 0, v4 = 0, v6 = 0, v7 = 0, v8 = 0, v10 = 0, v12 = 0;
     v3 = A(frame);
-    v4 = l8(v1 + 5672ull);
+    v4 = l8_8(v1 + 5672ull);
     v5 = 0u;
     fill(v3 + 8ull, 0u, 3672ull);
     v6 = v1 + 4648ull;
-    v7 = l8(v1 + 3952ull);
+    v7 = l8_8(v1 + 3952ull);
     v8 = v7 & 4294967295ull;
     v9 = (u32)v4;
-    v10 = l8(v1 + 14216ull);
+    v10 = l8_8(v1 + 14216ull);
     v11 = (u32)v10;
-    v12 = l8(v1 + 11128ull);
+    v12 = l8_8(v1 + 11128ull);
     v13 = (u32)v12;
     v14 = (u32)v7;
     v7 = 0ull;
     if (l1(v1 + 5680ull) != 1u) goto L2;
     v7 = v1 + (((u64)l1((v1 + l8(v1 + 5688ull)) + 3888ull)) << 5);
-    v7 = (((u64)l4(v7 + 816ull)) << 32) | ((u64)l1(v7 + 822ull));
+    v7 = (((u64)l4_4(v7 + 816ull)) << 32) | ((u64)l1(v7 + 822ull));
     v5 = 1u;
 L2:;
-    f118(v3 + 8ull, v1, (((v11 << 24) | ((v13 << 16) & 16711680u)) | ((v14 << 8) & 65280u)) | (v9 & 255u), v5, v7, v2);
-    f119(v3 + 8ull, v6, v4);
+    writing_put_head(v3 + 8ull, v1, (((v11 << 24) | ((v13 << 16) & 16711680u)) | ((v14 << 8) & 65280u)) | (v9 & 255u),
+        v5, v7, v2);
+    writing_put_drives(v3 + 8ull, v6, v4);
     if (v8 == 0) goto L3;
     v7 = v1 + 3888ull;
     v6 = v1 + 816ull;
 L4:;
     v4 = v6 + (((u64)l1(v7)) << 5);
-    s8(v3 + 3680, l8(v4));
-    s8(v3 + 3688, l8(v4 + 8));
-    s8(v3 + 3696, l8(v4 + 16));
-    s8(v3 + 3704, l8(v4 + 24));
+    s8_8(v3 + 3680, l8(v4));
+    s8_8(v3 + 3688, l8(v4 + 8));
+    s8_8(v3 + 3696, l8(v4 + 16));
+    s8_8(v3 + 3704, l8(v4 + 24));
     v7 = v7 + 1ull;
-    f120(v3 + 8ull, v3 + 3680ull);
+    writing_put_waiting(v3 + 8ull, v3 + 3680ull);
     v8 = v8 + 0xFFFFFFFFFFFFFFFFull;
     if (v8 != 0ull) goto L4;
 L3:;
-    f121(v3 + 8ull, v1 + 8056ull, v12);
-    f121(v3 + 8ull, v1 + 11144ull, v10);
+    writing_put_ends(v3 + 8ull, v1 + 8056ull, v12);
+    writing_put_ends(v3 + 8ull, v1 + 11144ull, v10);
     copy(v0, v3 + 8ull, 3672ull);
     return;
     TRAP();
 }
 
-APART u32 f137(u64 v0, u64 v1, u64 v2, u64 v3)
+/* mscp_c::mscp_port_save_at, crates/mscp_c/src/port_saving.rt:26 */
+APART u32 export_mscp_port_save_at(u64 v0, u64 v1, u64 v2, u64 v3)
 {
     ROOM(frame, 19872);
     u32 v5 = 0, v7 = 0, v12 = 0, v14 = 0, v15 = 0, v16 = 0, v17 = 0;
     u64 v4 = 0, v6 = 0, v8 = 0, v9 = 0, v10 = 0, v11 = 0, v13 = 0, v18 = 0;
     v4 = A(frame);
-    if (l8(v0 + 24ull) == 0x504F52544D414445ull) goto L3;
+    if (l8_8(v0 + 24ull) == 0x504F52544D414445ull) goto L3;
     v5 = 0xFFFFFFF6u;
     goto L2;
 L3:;
-    v6 = l8(v0);
+    v6 = l8_8(v0);
     v5 = l1(v6 + 5720ull);
     fill(v4 + 6264ull, 0u, 3672ull);
-    f136(v4 + 6264ull, v6 + 8ull, v5);
+    writing_save(v4 + 6264ull, v6 + 8ull, v5);
     copy(v4 + 16200ull, v4 + 6264ull, 3672ull);
     v7 = l1(v6 + 14288ull);
     if (v7 == 1u) goto L5;
@@ -10418,15 +10607,15 @@ L3:;
     goto L4;
 L5:;
     v8 = v6 + 14296ull;
-    v0 = l8(v6 + 14344ull);
+    v0 = l8_8(v6 + 14344ull);
 L4:;
-    v9 = l8(v6 + 15648ull);
-    v10 = l8(v6 + 16680ull);
-    v11 = l8(v4 + 19864);
+    v9 = l8_8(v6 + 15648ull);
+    v10 = l8_8(v6 + 16680ull);
+    v11 = l8_8(v4 + 19864);
     fill((v4 + 9936ull) + 8ull, 0u, 6256ull);
-    s8(v4 + 9936, 9936524109ull);
-    s4(v4 + 9944, (u32)((v11 + ((v0 + (v9 * 20ull)) + (v10 * 13ull))) + 425ull));
-    v5 = l4(v6);
+    s8_8(v4 + 9936, 9936524109ull);
+    s4_4(v4 + 9944, (u32)((v11 + ((v0 + (v9 * 20ull)) + (v10 * 13ull))) + 425ull));
+    v5 = l4_4(v6);
     s1(v4 + 9951, v5 >> 24);
     s1(v4 + 9950, v5 >> 16);
     s1(v4 + 9949, v5 >> 8);
@@ -10436,19 +10625,19 @@ L4:;
     s1(v4 + 9954, l1(v6 + 14264ull));
     s1(v4 + 9955, l1(v6 + 14265ull));
     v5 = l1(v6 + 14360ull);
-    s8(v4 + 16192, 21ull);
+    s8_8(v4 + 16192, 21ull);
     s1(v4 + 9956, v5);
     s1(v4 + 9957, l1(v6 + 14361ull));
     s1(v4 + 9958, l1(v6 + 14362ull));
-    s2(v4 + 9959, l2(v6 + 17136ull));
-    v5 = l2(v6 + 17138ull);
-    s8(v4 + 16192, 27ull);
+    s2(v4 + 9959, l2_2(v6 + 17136ull));
+    v5 = l2_2(v6 + 17138ull);
+    s8_8(v4 + 16192, 27ull);
     s2(v4 + 9961, v5);
-    s2(v4 + 9963, l2(v6 + 17140ull));
-    v5 = l4(v6 + 14238ull);
-    s8(v4 + 16192, 33ull);
+    s2(v4 + 9963, l2_2(v6 + 17140ull));
+    v5 = l4_2(v6 + 14238ull);
+    s8_8(v4 + 16192, 33ull);
     s4(v4 + 9965, v5);
-    v5 = l2(v6 + 14236ull);
+    v5 = l2_2(v6 + 14236ull);
     v12 = l1(v6 + 14234ull);
     s1(v4 + 9969, v12);
     if ((v12 + 0xFFFFFFFEu) < 7u) goto L7;
@@ -10460,8 +10649,8 @@ L4:;
 L7:;
     v5 = 0u;
 L6:;
-    s8(v4 + 16192, 36ull);
-    s2(v4 + 9970, v5);
+    s8_8(v4 + 16192, 36ull);
+    s2_2(v4 + 9970, v5);
     v5 = 0u;
     v12 = 0u;
     if (l1(v6 + 14242ull) != 1u) goto L8;
@@ -10472,16 +10661,16 @@ L8:;
     s1(v4 + 9972, v5);
     if (l1(v6 + 14248ull) != 1u) goto L10;
     v13 = l8(v6 + 14252ull);
-    s4(v4 + 9984, l4(v6 + 14260ull));
-    s8(v4 + 9976, v13);
+    s4_4(v4 + 9984, l4(v6 + 14260ull));
+    s8_8(v4 + 9976, v13);
     v5 = 1u;
     goto L9;
 L10:;
     v5 = 0u;
-    s4(v4 + 9984, 0u);
-    s8(v4 + 9976, 0ull);
+    s4_4(v4 + 9984, 0u);
+    s8_8(v4 + 9976, 0ull);
 L9:;
-    s8(v4 + 16192, 52ull);
+    s8_8(v4 + 16192, 52ull);
     s1(v4 + 9975, v5);
     v14 = l4(v6 + 14272ull);
     v15 = l1(v6 + 14269ull);
@@ -10531,34 +10720,34 @@ L12:;
     v12 = 0u;
     v5 = 0u;
 L11:;
-    s4(v4 + 9998, 0u);
-    s4(v4 + 9990, v12);
+    s4_2(v4 + 9998, 0u);
+    s4_2(v4 + 9990, v12);
     s1(v4 + 9989, v5);
     s1(v4 + 9988, v17);
-    s4(v4 + 9994, (u32)v13);
+    s4_2(v4 + 9994, (u32)v13);
     s1(v4 + 10004, (u32)(v13 >> 48));
-    s2(v4 + 10002, (u32)(v13 >> 32));
+    s2_2(v4 + 10002, (u32)(v13 >> 32));
     v5 = 0u;
     if (v7 != 1u) goto L19;
     v16 = l1(v6 + 14352ull) + 1u;
     v5 = l1(v6 + 14344ull);
 L19:;
     v13 = v6 + 14368ull;
-    s8(v4 + 16192, 73ull);
+    s8_8(v4 + 16192, 73ull);
     s1(v4 + 10008, (u32)v10);
     s1(v4 + 10007, (u32)v9);
     s1(v4 + 10006, v5);
     s1(v4 + 10005, v16);
-    f124(v4 + 9936ull, v6 + 16688ull);
-    v18 = l8(v4 + 16192);
+    saving_put_volumes(v4 + 9936ull, v6 + 16688ull);
+    v18 = l8_8(v4 + 16192);
     if ((6249ull - v18) < v0) goto L20;
     if (v0 == 0) goto L21;
     copy((v4 + 9936ull) + v18, v8, v0);
 L21:;
-    s8(v4 + 16192, v18 + v0);
+    s8_8(v4 + 16192, v18 + v0);
 L20:;
-    f125(v4 + 9936ull, v13, v9);
-    v0 = l8(v4 + 16192);
+    saving_put_buffers(v4 + 9936ull, v13, v9);
+    v0 = l8_8(v4 + 16192);
     if (v10 == 0) goto L22;
     v6 = v6 + 15656ull;
 L23:;
@@ -10571,11 +10760,11 @@ L23:;
 L24:;
     s1((v4 + 9936ull) + v0, v5 & 1u);
     v13 = v0 + 1ull;
-    s8(v4 + 16192, v13);
+    s8_8(v4 + 16192, v13);
     if ((v0 + 0xFFFFFFFFFFFFE79Bull) < 4ull) goto L25;
     s4((v4 + 9936ull) + v13, v16);
     v13 = v0 + 5ull;
-    s8(v4 + 16192, v13);
+    s8_8(v4 + 16192, v13);
 L25:;
     if ((v13 + 0xFFFFFFFFFFFFE79Aull) >= 4ull) goto L27;
     v0 = v13;
@@ -10583,7 +10772,7 @@ L25:;
 L27:;
     s4((v4 + 9936ull) + v13, v12);
     v0 = v13 + 4ull;
-    s8(v4 + 16192, v0);
+    s8_8(v4 + 16192, v0);
 L26:;
     v6 = v6 + 16ull;
     v10 = v10 + 0xFFFFFFFFFFFFFFFFull;
@@ -10593,12 +10782,12 @@ L22:;
     if (v11 == 0) goto L29;
     copy((v4 + 9936ull) + v0, v4 + 16200ull, v11);
 L29:;
-    s8(v4 + 16192, v0 + v11);
+    s8_8(v4 + 16192, v0 + v11);
 L28:;
     copy(v4, v4 + 9936ull, 6264ull);
     copy(v4 + 9936ull, v4, 6264ull);
-    v0 = l8(v4 + 16192);
-    s8(v3, v0);
+    v0 = l8_8(v4 + 16192);
+    s8_8(v3, v0);
     if (v2 >= v0) goto L30;
     v5 = 0xFFFFFFF1u;
     goto L2;
@@ -10616,18 +10805,19 @@ L1:;
 static u32 w_mscp_port_save_at(u64 v0, u64 v1, u64 v2, u64 v3)
 {
     u32 v4 = 0, t0, t1;
-    t0 = f58();
+    t0 = rattle_enter();
     if (t0 == 0) goto L1;
-    f59();
+    rattle_trap();
     TRAP();
 L1:;
-    t1 = f137(v0, v1, v2, v3);
+    t1 = export_mscp_port_save_at(v0, v1, v2, v3);
     v4 = t1;
-    f61();
+    rattle_leave();
     return v4;
 }
 
-static void f138(void)
+/* mscp_c::mscp_port_save_size, crates/mscp_c/src/port_saving.rt:18 */
+static void export_mscp_port_save_size(void)
 {
     goto L1;
 L1:;
@@ -10637,43 +10827,44 @@ L1:;
 static u64 w_mscp_port_save_size(void)
 {
     u32 t0;
-    t0 = f58();
+    t0 = rattle_enter();
     if (t0 == 0) goto L1;
-    f59();
+    rattle_trap();
     TRAP();
 L1:;
-    f138();
-    f61();
+    export_mscp_port_save_size();
+    rattle_leave();
     return 6249ull;
 }
 
-static u32 f139(u64 v0, u64 v1, u64 v2, u64 v3)
+/* mscp_c::mscp_port_settings_at, crates/mscp_c/src/port_seeing.rt:36 */
+static u32 export_mscp_port_settings_at(u64 v0, u64 v1, u64 v2, u64 v3)
 {
     u32 v4 = 0, v7 = 0;
     u64 v5 = 0, v6 = 0, v8 = 0;
     v4 = 0xFFFFFFF6u;
-    if (l8(v0 + 24ull) != 0x504F52544D414445ull) goto L2;
-    v0 = l8(v0);
-    v5 = l8(v0 + 32ull);
-    v6 = l8(v0 + 8ull);
-    v4 = l4(v0 + 20ull);
-    v7 = l2(v0 + 24ull);
-    s8(v1 + 8, (u64)l4(v0 + 16ull));
+    if (l8_8(v0 + 24ull) != 0x504F52544D414445ull) goto L2;
+    v0 = l8_8(v0);
+    v5 = l8_8(v0 + 32ull);
+    v6 = l8_8(v0 + 8ull);
+    v4 = l4_4(v0 + 20ull);
+    v7 = l2_2(v0 + 24ull);
+    s8(v1 + 8, (u64)l4_4(v0 + 16ull));
     s2(v1 + 30, 0u);
     s2(v1 + 28, v7);
     s4(v1 + 24, v4);
     s8(v1 + 16, v6);
     s8(v1, v5);
-    v8 = l8(v0 + 808ull);
+    v8 = l8_8(v0 + 808ull);
     v3 = (v3 < v8) ? v3 : v8;
     if (v3 == 0) goto L3;
     v1 = v2 + ((v2 == 0) ? 4096ull : 0ull);
 L4:;
-    v2 = l8(v0 + 56ull);
-    v5 = l8(v0 + 40ull);
-    v6 = l8(v0 + 64ull);
+    v2 = l8_8(v0 + 56ull);
+    v5 = l8_8(v0 + 40ull);
+    v6 = l8_8(v0 + 64ull);
     v0 = v0 + 48ull;
-    s4(v1 + 8ull, l4(v0));
+    s4(v1 + 8ull, l4_4(v0));
     s8(v1 + 12ull, v6);
     s4(v1 + 28ull, 0u);
     s8(v1 + 20ull, v5);
@@ -10691,18 +10882,19 @@ L2:;
 static u32 w_mscp_port_settings_at(u64 v0, u64 v1, u64 v2, u64 v3)
 {
     u32 v4 = 0, t0, t1;
-    t0 = f58();
+    t0 = rattle_enter();
     if (t0 == 0) goto L1;
-    f59();
+    rattle_trap();
     TRAP();
 L1:;
-    t1 = f139(v0, v1, v2, v3);
+    t1 = export_mscp_port_settings_at(v0, v1, v2, v3);
     v4 = t1;
-    f61();
+    rattle_leave();
     return v4;
 }
 
-static void f140(void)
+/* mscp_c::mscp_port_size, crates/mscp_c/src/port_making.rt:17 */
+static void export_mscp_port_size(void)
 {
     goto L1;
 L1:;
@@ -10712,22 +10904,23 @@ L1:;
 static u64 w_mscp_port_size(void)
 {
     u32 t0;
-    t0 = f58();
+    t0 = rattle_enter();
     if (t0 == 0) goto L1;
-    f59();
+    rattle_trap();
     TRAP();
 L1:;
-    f140();
-    f61();
+    export_mscp_port_size();
+    rattle_leave();
     return 17144ull;
 }
 
-static u32 f141(u64 v0, u64 v1)
+/* mscp_c::mscp_port_state, crates/mscp_c/src/port_seeing.rt:16 */
+static u32 export_mscp_port_state(u64 v0, u64 v1)
 {
     u32 v2 = 0, v3 = 0, v4 = 0, v5 = 0;
     v2 = 0xFFFFFFF6u;
-    if (l8(v0 + 24ull) != 0x504F52544D414445ull) goto L2;
-    v0 = l8(v0);
+    if (l8_8(v0 + 24ull) != 0x504F52544D414445ull) goto L2;
+    v0 = l8_8(v0);
     v3 = l1(v0 + 14234ull);
     if ((v3 + 0xFFFFFFFEu) < 7u) goto L4;
     v4 = l2(v0 + 14236ull);
@@ -10756,54 +10949,55 @@ L1:;
 static u32 w_mscp_port_state(u64 v0, u64 v1)
 {
     u32 v2 = 0, t0, t1;
-    t0 = f58();
+    t0 = rattle_enter();
     if (t0 == 0) goto L1;
-    f59();
+    rattle_trap();
     TRAP();
 L1:;
-    t1 = f141(v0, v1);
+    t1 = export_mscp_port_state(v0, v1);
     v2 = t1;
-    f61();
+    rattle_leave();
     return v2;
 }
 
-static u32 f142(u64 v0)
+/* mscp_c::mscp_port_tick, crates/mscp_c/src/port_watching.rt:27 */
+static u32 export_mscp_port_tick(u64 v0)
 {
     u32 v2 = 0, v4 = 0;
     u64 v3 = 0;
     v2 = 0xFFFFFFF6u;
-    if (l8(v0 + 24ull) != 0x504F52544D414445ull) goto L1;
-    v0 = l8(v0);
+    if (l8_8(v0 + 24ull) != 0x504F52544D414445ull) goto L1;
+    v0 = l8_8(v0);
     s1(v0 + 14362ull, 0u);
     v3 = v0 + 14268ull;
     if (l1(v3) != 3u) goto L5;
     s8(v3 + 5, 0ull);
     s8(v3, 0ull);
 L5:;
-    v2 = l2(v0 + 17138ull);
+    v2 = l2_2(v0 + 17138ull);
     if (l1(v0 + 14234ull) != 8u) goto L7;
     if (v2 & 65535u) goto L8;
     v2 = 0u;
     goto L7;
 L8:;
     if (l1(v0 + 14288ull) == 1u) goto L7;
-    if (l4(v0 + 8056ull)) goto L7;
-    if (l4(v0 + 11136ull) == 0) goto L6;
+    if (l4_4(v0 + 8056ull)) goto L7;
+    if (l4_4(v0 + 11136ull) == 0) goto L6;
 L7:;
     v0 = v0 + 17140ull;
     v2 = v2 & 65535u;
-    v4 = l2(v0);
-    s2(v0, (v2 > v4) ? v2 : v4);
+    v4 = l2_2(v0);
+    s2_2(v0, (v2 > v4) ? v2 : v4);
     goto L2;
 L6:;
     v3 = v0 + 17140ull;
-    v2 = l2(v3);
+    v2 = l2_2(v3);
     if (v2 == 0) goto L3;
-    s2(v3, v2 + 0xFFFFFFFFu);
+    s2_2(v3, v2 + 0xFFFFFFFFu);
     goto L2;
     TRAP();
 L3:;
-    f110(v0, 9u, 9u);
+    Port_forget_all(v0, 9u, 9u);
 L2:;
     v2 = 1u;
 L1:;
@@ -10813,31 +11007,32 @@ L1:;
 static u32 w_mscp_port_tick(u64 v0)
 {
     u32 v1 = 0, t0, t1;
-    t0 = f58();
+    t0 = rattle_enter();
     if (t0 == 0) goto L1;
-    f59();
+    rattle_trap();
     TRAP();
 L1:;
-    t1 = f142(v0);
+    t1 = export_mscp_port_tick(v0);
     v1 = t1;
-    f61();
+    rattle_leave();
     return v1;
 }
 
-static u32 f143(u64 v0, u32 v1, u64 v2)
+/* mscp_c::mscp_port_volume, crates/mscp_c/src/port_seeing.rt:57 */
+static u32 export_mscp_port_volume(u64 v0, u32 v1, u64 v2)
 {
     u32 v3 = 0, v7 = 0, v8 = 0, v9 = 0, v10 = 0, v11 = 0, v12 = 0;
     u64 v4 = 0, v5 = 0, v6 = 0;
     v3 = 0xFFFFFFF6u;
-    if (l8(v0 + 24ull) != 0x504F52544D414445ull) goto L2;
+    if (l8_8(v0 + 24ull) != 0x504F52544D414445ull) goto L2;
     v3 = 0xFFFFFFDBu;
-    v4 = l8(v0);
-    v5 = l8(v4 + 808ull);
+    v4 = l8_8(v0);
+    v5 = l8_8(v4 + 808ull);
     if (v5 == 0) goto L2;
     v0 = 40ull;
     v6 = 0ull;
 L4:;
-    if (l2(v4 + v0) == (v1 & 65535u)) goto L3;
+    if (l2_2(v4 + v0) == (v1 & 65535u)) goto L3;
     v6 = v6 + 28ull;
     v0 = v0 + 48ull;
     v5 = v5 + 0xFFFFFFFFFFFFFFFFull;
@@ -10875,31 +11070,32 @@ L2:;
 static u32 w_mscp_port_volume(u64 v0, u32 v1, u64 v2)
 {
     u32 t0, t1;
-    t0 = f58();
+    t0 = rattle_enter();
     if (t0 == 0) goto L1;
-    f59();
+    rattle_trap();
     TRAP();
 L1:;
-    t1 = f143(v0, v1, v2);
+    t1 = export_mscp_port_volume(v0, v1, v2);
     v1 = t1;
-    f61();
+    rattle_leave();
     return v1;
 }
 
-static u32 f144(u64 v0, u32 v1, u64 v2)
+/* mscp_c::mscp_port_volume_came, crates/mscp_c/src/port_watching.rt:41 */
+static u32 export_mscp_port_volume_came(u64 v0, u32 v1, u64 v2)
 {
     u32 v3 = 0, v4 = 0, v7 = 0, v8 = 0, v11 = 0;
     u64 v5 = 0, v6 = 0, v9 = 0, v10 = 0;
-    if (l8(v0 + 24ull) == 0x504F52544D414445ull) goto L2;
+    if (l8_8(v0 + 24ull) == 0x504F52544D414445ull) goto L2;
     return 0xFFFFFFF6u;
 L2:;
     v3 = l1(v2 + 9ull) != 0u;
     v4 = l1(v2 + 8ull) != 0u;
-    v5 = l8(v0);
-    v6 = l8(v5 + 808ull);
+    v5 = l8_8(v0);
+    v6 = l8_8(v5 + 808ull);
     v0 = v6 + 1ull;
-    v7 = l4(v2 + 4ull);
-    v8 = l4(v2);
+    v7 = l4_4(v2 + 4ull);
+    v8 = l4_4(v2);
     v2 = v5;
 L3:;
     v0 = v0 + 0xFFFFFFFFFFFFFFFFull;
@@ -10909,14 +11105,14 @@ L4:;
     v9 = v2 + 40ull;
     v10 = v2 + 48ull;
     v2 = v10;
-    if (l2(v9) != (v1 & 65535u)) goto L3;
+    if (l2_2(v9) != (v1 & 65535u)) goto L3;
     v11 = 0xFFFFFFDAu;
     if (v8 == 0) goto L5;
-    if (v8 > l4(v10)) goto L5;
+    if (v8 > l4_4(v10)) goto L5;
     v2 = 40ull;
     v0 = 0ull;
 L7:;
-    if (l2(v5 + v2) == (v1 & 65535u)) goto L6;
+    if (l2_2(v5 + v2) == (v1 & 65535u)) goto L6;
     v0 = v0 + 28ull;
     v2 = v2 + 48ull;
     v6 = v6 + 0xFFFFFFFFFFFFFFFFull;
@@ -10928,12 +11124,12 @@ L6:;
     v11 = 1u;
     s1(v2 + 16688ull, 1u);
     s1(v2 + 16712ull, 1u);
-    s4(v2 + 16700ull, v7);
-    s4(v2 + 16696ull, v8);
+    s4_4(v2 + 16700ull, v7);
+    s4_4(v2 + 16696ull, v8);
     s1(v2 + 16691ull, v3);
     s1(v2 + 16689ull, v4);
     v2 = v2 + 16692ull;
-    s4(v2, l4(v2) + 1u);
+    s4_4(v2, l4_4(v2) + 1u);
     v2 = v5 + 14268ull;
     if (l1(v2) != 11u) goto L5;
     s8(v2 + 5, 0ull);
@@ -10946,31 +11142,32 @@ L5:;
 static u32 w_mscp_port_volume_came(u64 v0, u32 v1, u64 v2)
 {
     u32 t0, t1;
-    t0 = f58();
+    t0 = rattle_enter();
     if (t0 == 0) goto L1;
-    f59();
+    rattle_trap();
     TRAP();
 L1:;
-    t1 = f144(v0, v1, v2);
+    t1 = export_mscp_port_volume_came(v0, v1, v2);
     v1 = t1;
-    f61();
+    rattle_leave();
     return v1;
 }
 
-static u32 f145(u64 v0, u32 v1)
+/* mscp_c::mscp_port_volume_went, crates/mscp_c/src/port_watching.rt:54 */
+static u32 export_mscp_port_volume_went(u64 v0, u32 v1)
 {
     u32 v2 = 0;
     u64 v3 = 0, v4 = 0, v5 = 0;
     v2 = 0xFFFFFFF6u;
-    if (l8(v0 + 24ull) != 0x504F52544D414445ull) goto L2;
+    if (l8_8(v0 + 24ull) != 0x504F52544D414445ull) goto L2;
     v2 = 0xFFFFFFDBu;
-    v3 = l8(v0);
-    v4 = l8(v3 + 808ull);
+    v3 = l8_8(v0);
+    v4 = l8_8(v3 + 808ull);
     if (v4 == 0) goto L2;
     v5 = v3 + 16712ull;
     v0 = v3 + 40ull;
 L4:;
-    if (l2(v0) == (v1 & 65535u)) goto L3;
+    if (l2_2(v0) == (v1 & 65535u)) goto L3;
     v5 = v5 + 28ull;
     v0 = v0 + 48ull;
     v4 = v4 + 0xFFFFFFFFFFFFFFFFull;
@@ -10982,7 +11179,7 @@ L3:;
     s2(v5 + 0xFFFFFFFFFFFFFFE8ull, 0u);
     v2 = 1u;
     v0 = v5 + 0xFFFFFFFFFFFFFFECull;
-    s4(v0, l4(v0) + 1u);
+    s4_4(v0, l4_4(v0) + 1u);
     v0 = v3 + 14268ull;
     if (l1(v0) != 11u) goto L2;
     s8(v0 + 5, 0ull);
@@ -10995,18 +11192,19 @@ L2:;
 static u32 w_mscp_port_volume_went(u64 v0, u32 v1)
 {
     u32 t0, t1;
-    t0 = f58();
+    t0 = rattle_enter();
     if (t0 == 0) goto L1;
-    f59();
+    rattle_trap();
     TRAP();
 L1:;
-    t1 = f145(v0, v1);
+    t1 = export_mscp_port_volume_went(v0, v1);
     v1 = t1;
-    f61();
+    rattle_leave();
     return v1;
 }
 
-static void f146(u64 v0, u32 v1, u32 v2)
+/* mscp_port::port::Port::see_slot, crates/mscp_port/src/port/hearing.rt:72 */
+static void Port_see_slot(u64 v0, u32 v1, u32 v2)
 {
     if (v1 & 255u) goto L2;
     if ((i32)v2 > (i32)0xFFFFFFFFu) goto L3;
@@ -11035,11 +11233,12 @@ L4:;
     TRAP();
 }
 
-static void f147(u64 v0, u32 v1, u32 v2)
+/* mscp_port::port::Port::see_header, crates/mscp_port/src/port/hearing.rt:113 */
+static void Port_see_header(u64 v0, u32 v1, u32 v2)
 {
     u32 v4 = 0;
     if ((v2 & 15728640u) == 0) goto L2;
-    f110(v0, 9u, 20u);
+    Port_forget_all(v0, 9u, 20u);
     return;
 L2:;
     v4 = v2 >> 24;
@@ -11048,7 +11247,7 @@ L2:;
     default: goto L4;
     }
 L4:;
-    f110(v0, 9u, 14u);
+    Port_forget_all(v0, 9u, 14u);
     return;
 L3:;
     v2 = v2 & 65535u;
@@ -11059,12 +11258,13 @@ L3:;
     s4(v0 + 14276ull, (v2 < 64u) ? v2 : 64u);
     return;
 L5:;
-    f110(v0, 9u, 1u);
+    Port_forget_all(v0, 9u, 1u);
     return;
     TRAP();
 }
 
-static void f148(u64 v0, u64 v1, u32 v2)
+/* mscp_controller::answer::refused_end, crates/mscp_controller/src/answer.rt:12 */
+static void answer_refused_end(u64 v0, u64 v1, u32 v2)
 {
     u32 v3 = 0, v4 = 0, v5 = 0, v6 = 0;
     u64 v7 = 0;
@@ -11080,39 +11280,39 @@ static void f148(u64 v0, u64 v1, u32 v2)
     default: goto L16;
     }
 L19:;
-    v4 = l2(v1 + 4ull);
-    v5 = l4(v1);
+    v4 = l2_2(v1 + 4ull);
+    v5 = l4_4(v1);
     v3 = 132u;
     v6 = 4u;
     goto L2;
 L18:;
-    v4 = l2(v1 + 4ull);
-    v5 = l4(v1);
+    v4 = l2_2(v1 + 4ull);
+    v5 = l4_4(v1);
     v3 = 131u;
     v6 = 3u;
     goto L2;
 L17:;
-    v4 = l2(v1 + 4ull);
-    v5 = l4(v1);
+    v4 = l2_2(v1 + 4ull);
+    v5 = l4_4(v1);
     v3 = 136u;
     v6 = 0u;
     goto L2;
 L16:;
-    v4 = l2(v1 + 4ull);
-    v5 = l4(v1);
+    v4 = l2_2(v1 + 4ull);
+    v5 = l4_4(v1);
     v3 = 129u;
     v6 = 1u;
     goto L2;
 L15:;
-    if (l2(v1 + 10ull) != 2049u) goto L13;
-    v4 = l2(v1 + 4ull);
-    v5 = l4(v1);
+    if (l2_2(v1 + 10ull) != 2049u) goto L13;
+    v4 = l2_2(v1 + 4ull);
+    v5 = l4_4(v1);
     v3 = 128u;
     v6 = 0u;
     goto L2;
 L14:;
-    v4 = l2(v1 + 4ull);
-    v5 = l4(v1);
+    v4 = l2_2(v1 + 4ull);
+    v5 = l4_4(v1);
     v3 = 130u;
     v6 = 2u;
     goto L2;
@@ -11141,8 +11341,8 @@ L20:;
     v6 = 6u;
     goto L4;
 L12:;
-    v4 = l2(v1 + 4ull);
-    v5 = l4(v1);
+    v4 = l2_2(v1 + 4ull);
+    v5 = l4_4(v1);
     v3 = 144u;
     v6 = 6u;
     switch ((u32)((u64)l1(v1 + 9ull))) {
@@ -11155,7 +11355,7 @@ L12:;
 L11:;
     v6 = 5u;
     v3 = ((v3 & 255u) == 5u) ? 0xFFFFFF89u : 0xFFFFFF8Au;
-    v4 = l2(v1 + 4ull);
+    v4 = l2_2(v1 + 4ull);
     goto L3;
 L10:;
     v6 = 0u;
@@ -11176,9 +11376,9 @@ L5:;
     v6 = 3u;
 L4:;
     v3 = l1(v7) | 0xFFFFFF80u;
-    v4 = l2(v1 + 4ull);
+    v4 = l2_2(v1 + 4ull);
 L3:;
-    v5 = l4(v1);
+    v5 = l4_4(v1);
 L2:;
     s4(v0 + 10, 0u);
     s2(v0 + 8, v2);
@@ -11196,7 +11396,8 @@ L2:;
     TRAP();
 }
 
-static void f149(u64 v0, u64 v1, u32 v2, u32 v3)
+/* mscp_queue::backlog::Backlog::push, crates/mscp_queue/src/backlog.rt:232 */
+static void Backlog_push(u64 v0, u64 v1, u32 v2, u32 v3)
 {
     ROOM(frame, 16);
     u32 v5 = 0, v6 = 0, v7 = 0, v10 = 0, v15 = 0;
@@ -11209,77 +11410,78 @@ static void f149(u64 v0, u64 v1, u32 v2, u32 v3)
     v9 = l8(v1 + 9);
     v10 = l4(v1 + 16);
     v11 = v0 + 3144ull;
-    v12 = l8(v11);
+    v12 = l8_8(v11);
     v13 = ctz64(v12 ^ 0xFFFFFFFFFFFFFFFFull);
     v14 = v0 + (v13 << 5);
     v15 = l1(v1 + 8);
     s1(v14 + 8, v15);
     s8(v14, v8);
     s4(v4 + 7, v10);
-    s8(v4, v9);
-    s8(v14 + 9, l8(v4));
+    s8_8(v4, v9);
+    s8(v14 + 9, l8_8(v4));
     s4(v14 + 16, l4(v4 + 7));
     s4(v14 + 28, v7);
     s4(v14 + 24, v6);
     s4(v14 + 20, v5);
-    v4 = (u64)l4(v0 + 3808ull);
+    v4 = (u64)l4_4(v0 + 3808ull);
     v1 = v0 + (v13 << 3);
-    s8(v1 + 3296ull, v12);
+    s8_8(v1 + 3296ull, v12);
     v8 = ((u64)v2) & 255ull;
     s8(v1 + 2048ull, (((u64)v3) << 32) | v8);
     v3 = v5 - v6;
     v9 = (u64)((v3 > v5) ? 0u : v3);
     v14 = v0 + 3824ull;
-    s8(v1 + 2560ull, v4 + ((l8(v0 + 3816ull) + v9) + l8(v14)));
+    s8_8(v1 + 2560ull, v4 + ((l8_8(v0 + 3816ull) + v9) + l8_8(v14)));
     v1 = (v0 + (v8 << 3)) + 3168ull;
     t0 = v1;
-    t1 = l8(v1);
+    t1 = l8_8(v1);
     v1 = 1ull << (v13 & 63);
-    s8(t0, t1 | v1);
+    s8_8(t0, t1 | v1);
     v4 = v0 + 3152ull;
     t2 = v4;
-    v4 = l8(v4);
+    v4 = l8_8(v4);
     v8 = rotl64(0xFFFFFFFFFFFFFFFEull, (v13 & 63));
-    s8(t2, (((v15 + 0xFFFFFFFCu) & 255u) < 3u) ? (v4 | v1) : (v4 & v8));
+    s8_8(t2, (((v15 + 0xFFFFFFFCu) & 255u) < 3u) ? (v4 | v1) : (v4 & v8));
     v4 = v0 + 3160ull;
     t3 = v4;
-    v4 = l8(v4);
-    s8(t3, v6 ? (v4 | v1) : (v4 & v8));
-    s8(v11, v1 | v12);
+    v4 = l8_8(v4);
+    s8_8(t3, v6 ? (v4 | v1) : (v4 & v8));
+    s8_8(v11, v1 | v12);
     v1 = v0 + 3136ull;
-    v4 = l8(v1);
+    v4 = l8_8(v1);
     s1((v0 + v4) + 3072ull, (u32)v13);
-    s8(v1, v4 + 1ull);
-    s8(v14, l8(v14) + v9);
+    s8_8(v1, v4 + 1ull);
+    s8_8(v14, l8_8(v14) + v9);
     return;
     TRAP();
 }
 
-static void f150(u64 v0, u64 v1)
+/* mscp_queue::backlog::Backlog::take_out, crates/mscp_queue/src/backlog.rt:330 */
+static void Backlog_take_out(u64 v0, u64 v1)
 {
     u32 v11 = 0;
     u64 v3 = 0, v4 = 0, v5 = 0, v6 = 0, v7 = 0, v8 = 0, v9 = 0, v10 = 0, v12 = 0, v13 = 0, t0, t1;
     v3 = v0 + 3072ull;
     v4 = v3 + v1;
     v5 = v0 + (((u64)l1(v4)) << 5);
-    if (l4(v5 + 24ull)) goto L2;
+    if (l4_4(v5 + 24ull)) goto L2;
     v6 = v0 + 3824ull;
     t0 = v6;
-    t1 = l8(v6);
-    v6 = (u64)l4(v5 + 20ull);
-    s8(t0, t1 - v6);
+    t1 = l8_8(v6);
+    v6 = (u64)l4_4(v5 + 20ull);
+    s8_8(t0, t1 - v6);
     v7 = v0 + 3144ull;
     if (v6 == 0) goto L3;
     v5 = v0 + 2560ull;
     v8 = (u64)l1(v4);
-    v9 = l8(v7) & ((((l8((v0 + (v8 << 3)) + 3296ull)) | (1ull << (v8 & 63))) | l8(v0 + 3160ull)) ^
+    v9 = l8_8(v7) & ((((l8_8((v0 + (v8 << 3)) + 3296ull)) | (1ull << (v8 & 63))) | l8_8(v0 + 3160ull)) ^
         0xFFFFFFFFFFFFFFFFull);
     if (v9 > 255ull) goto L4;
     v8 = ctz64(v9);
     if (v8 > 63ull) goto L3;
 L5:;
     v10 = v5 + (v8 << 3);
-    s8(v10, l8(v10) - v6);
+    s8_8(v10, l8_8(v10) - v6);
     v9 = v9 & (rotl64(0xFFFFFFFFFFFFFFFEull, (v8 & 63)));
     v8 = ctz64(v9);
     if (v8 < 64ull) goto L5;
@@ -11289,14 +11491,14 @@ L4:;
 L6:;
     v8 = v9 >> (v10 & 63);
     if (v8 == 0) goto L3;
-    s8(v5 + 16, l8(v5 + 16) - (((u64)((i64)(v8 << 61) >> 63)) & v6));
-    s8(v5 + 8, l8(v5 + 8) - (((u64)((i64)(v8 << 62) >> 63)) & v6));
-    s8(v5, l8(v5) - ((0ull - (v8 & 1ull)) & v6));
-    s8(v5 + 24, l8(v5 + 24) - (((u64)((i64)(v8 << 60) >> 63)) & v6));
-    s8(v5 + 32, l8(v5 + 32) - (((u64)((i64)(v8 << 59) >> 63)) & v6));
-    s8(v5 + 40, l8(v5 + 40) - (((u64)((i64)(v8 << 58) >> 63)) & v6));
-    s8(v5 + 48, l8(v5 + 48) - (((u64)((i64)(v8 << 57) >> 63)) & v6));
-    s8(v5 + 56, l8(v5 + 56) - (((u64)((i64)(v8 << 56) >> 63)) & v6));
+    s8_8(v5 + 16, l8_8(v5 + 16) - (((u64)((i64)(v8 << 61) >> 63)) & v6));
+    s8_8(v5 + 8, l8_8(v5 + 8) - (((u64)((i64)(v8 << 62) >> 63)) & v6));
+    s8_8(v5, l8_8(v5) - ((0ull - (v8 & 1ull)) & v6));
+    s8_8(v5 + 24, l8_8(v5 + 24) - (((u64)((i64)(v8 << 60) >> 63)) & v6));
+    s8_8(v5 + 32, l8_8(v5 + 32) - (((u64)((i64)(v8 << 59) >> 63)) & v6));
+    s8_8(v5 + 40, l8_8(v5 + 40) - (((u64)((i64)(v8 << 58) >> 63)) & v6));
+    s8_8(v5 + 48, l8_8(v5 + 48) - (((u64)((i64)(v8 << 57) >> 63)) & v6));
+    s8_8(v5 + 56, l8_8(v5 + 56) - (((u64)((i64)(v8 << 56) >> 63)) & v6));
     v5 = v5 + 64ull;
     v10 = v10 + 8ull;
     if (v10 != 64ull) goto L6;
@@ -11304,7 +11506,7 @@ L3:;
     v11 = l1(v4);
     v12 = ((u64)v11) & 255ull;
     v13 = v0 + 3136ull;
-    v5 = l8(v13);
+    v5 = l8_8(v13);
     if ((v1 + 1ull) == v5) goto L7;
     v9 = 0ull;
     v10 = v5 + (v1 ^ 0xFFFFFFFFFFFFFFFFull);
@@ -11330,20 +11532,21 @@ L8:;
     copy(v6, v6 + 1ull, v5);
 L11:;
     s1(v4 + v10, v11);
-    v5 = l8(v0 + 3136ull);
+    v5 = l8_8(v0 + 3136ull);
 L7:;
     v5 = v5 + 0xFFFFFFFFFFFFFFFFull;
-    s8(v13, v5);
+    s8_8(v13, v5);
     s1(v3 + v5, 0u);
-    f71(v7, v12, (u64)l1((v0 + (v12 << 3)) + 2048ull));
+    Masks_leave(v7, v12, (u64)l1((v0 + (v12 << 3)) + 2048ull));
     return;
 L2:;
-    f72(v0, v1);
+    Backlog_leave(v0, v1);
     return;
     TRAP();
 }
 
-static void f151(u64 v0, u64 v1, u32 v2, u64 v3, u64 v4)
+/* mscp_controller::controller::Controller::send, crates/mscp_controller/src/controller.rt:261 */
+static void Controller_send(u64 v0, u64 v1, u32 v2, u64 v3, u64 v4)
 {
     ROOM(frame, 176);
     u32 v6 = 0, v7 = 0, v8 = 0, v9 = 0, v10 = 0, v11 = 0, v12 = 0, v13 = 0, v14 = 0, v18 = 0, v19 = 0, v24 = 0, v25 =
@@ -11351,10 +11554,10 @@ static void f151(u64 v0, u64 v1, u32 v2, u64 v3, u64 v4)
     u64 v5 = 0, v15 = 0, v16 = 0, v17 = 0, v20 = 0, v21 = 0, v22 = 0, v23 = 0, v26 = 0, v27 = 0, v33 = 0, v34 = 0, v35
         = 0, v36 = 0;
     v5 = A(frame);
-    s8(v5 + 40, 0ull);
-    s8(v5 + 32, 0ull);
-    s8(v5 + 24, 0ull);
-    f90(v5 + 24ull, v3, v4);
+    s8_8(v5 + 40, 0ull);
+    s8_8(v5 + 32, 0ull);
+    s8_8(v5 + 24, 0ull);
+    reading_read_command(v5 + 24ull, v3, v4);
     if (l1(v5 + 24)) goto L23;
     v6 = 1u;
     v7 = l1(v5 + 37);
@@ -11371,15 +11574,15 @@ L26:;
 L25:;
     v8 = ((v7 + 0xFFFFFFFFu) & 255u) < 4u;
 L24:;
-    v10 = l4(v5 + 32);
-    v11 = l4(v5 + 28);
+    v10 = l4_4(v5 + 32);
+    v11 = l4_4(v5 + 28);
     v12 = 2u;
     v13 = v2 & 255u;
-    v14 = l4(v1 + (v13 ? 4ull : 0ull));
+    v14 = l4_4(v1 + (v13 ? 4ull : 0ull));
     v15 = v1 + 8048ull;
     v16 = v15 + (v13 ? 3088ull : 0ull);
-    v17 = l8(v16 + 3080ull);
-    v13 = v14 - (l4(v16) + ((u32)v17));
+    v17 = l8_8(v16 + 3080ull);
+    v13 = v14 - (l4_4(v16) + ((u32)v17));
     v13 = (v13 > v14) ? 0u : v13;
     v14 = v13;
     v18 = v13;
@@ -11400,12 +11603,12 @@ L27:;
     v21 = v20 + ((u64)(v11 & 255u));
     v19 = l1(v21);
     if (v19 == 0) goto L29;
-    v4 = l8(v1 + 6744ull);
+    v4 = l8_8(v1 + 6744ull);
     if (v4 == 0) goto L29;
     v3 = v4 + 0xFFFFFFFFFFFFFFFFull;
     v4 = v1 + 5720ull;
 L30:;
-    v14 = (u32)(l1(v4 + 6ull) == (v2 & 255u)) & (u32)(l4(v4) == v11);
+    v14 = (u32)(l1(v4 + 6ull) == (v2 & 255u)) & (u32)(l4_4(v4) == v11);
     if (v14) goto L29;
     v4 = v4 + 16ull;
     v13 = v3 != 0ull;
@@ -11418,7 +11621,7 @@ L29:;
 L32:;
     v3 = v3 + 0xFFFFFFFFFFFFFFFFull;
     if (v3 == 0) goto L31;
-    v13 = l4(v4);
+    v13 = l4_4(v4);
     v4 = v4 + 48ull;
     if (v13 != v11) goto L32;
     goto L4;
@@ -11426,16 +11629,16 @@ L31:;
     if (v14) goto L4;
     s1(v5 + 105, v7);
     s1(v5 + 104, v9);
-    s4(v5 + 100, v10);
-    s4(v5 + 96, v11);
-    s8(v5 + 88, 0ull);
-    s8(v5 + 80, 0ull);
-    s8(v5 + 72, 0ull);
-    s8(v5 + 64, 0ull);
-    s8(v5 + 56, 0ull);
-    s8(v5 + 48, 0ull);
-    s8(v5 + 106, l8(v22));
-    s2(v5 + 114, l2(v22 + 8));
+    s4_4(v5 + 100, v10);
+    s4_4(v5 + 96, v11);
+    s8_8(v5 + 88, 0ull);
+    s8_8(v5 + 80, 0ull);
+    s8_8(v5 + 72, 0ull);
+    s8_8(v5 + 64, 0ull);
+    s8_8(v5 + 56, 0ull);
+    s8_8(v5 + 48, 0ull);
+    s8_2(v5 + 106, l8_2(v22));
+    s2_2(v5 + 114, l2_2(v22 + 8));
     switch (v9) {
     case 2: case 4: case 5: case 6: goto L21;
     case 3: goto L20;
@@ -11451,20 +11654,20 @@ L23:;
     goto L1;
 L22:;
     v4 = v1 + 32ull;
-    v3 = l8(v1 + 800ull) + 1ull;
-    v12 = l4(v5 + 112);
-    v18 = l4(v5 + 108);
+    v3 = l8_8(v1 + 800ull) + 1ull;
+    v12 = l4_4(v5 + 112);
+    v18 = l4_4(v5 + 108);
 L33:;
     v3 = v3 + 0xFFFFFFFFFFFFFFFFull;
     if ((u32)(v3 == 0) == 0) goto L34;
     v13 = 3u;
     goto L18;
 L34:;
-    v13 = l2(v4);
+    v13 = l2_2(v4);
     v16 = v4 + 48ull;
     v4 = v16;
     if (v13 != (v10 & 65535u)) goto L33;
-    v6 = l4(v16 + 0xFFFFFFFFFFFFFFD8ull);
+    v6 = l4_4(v16 + 0xFFFFFFFFFFFFFFD8ull);
     if (v6 > v12) goto L35;
     v13 = 7169u;
     goto L18;
@@ -11474,53 +11677,53 @@ L35:;
     v12 = (v18 >> 9) + (u32)((v18 & 511u) != 0u);
     if (t0 < v12) goto L18;
     v12 = (v12 > 1u) ? v12 : 1u;
-    if (l4(v1 + 12ull) < v12) goto L18;
+    if (l4_4(v1 + 12ull) < v12) goto L18;
     goto L17;
 L21:;
     v4 = v1 + 32ull;
-    v3 = l8(v1 + 800ull) + 1ull;
+    v3 = l8_8(v1 + 800ull) + 1ull;
 L36:;
     v3 = v3 + 0xFFFFFFFFFFFFFFFFull;
     if ((u32)(v3 == 0) == 0) goto L37;
     v13 = 3u;
     goto L18;
 L37:;
-    v13 = l2(v4);
+    v13 = l2_2(v4);
     v4 = v4 + 48ull;
     if (v13 != (v10 & 65535u)) goto L36;
     v12 = 1u;
     goto L17;
 L20:;
-    if (l2(v5 + 106) == 0) goto L15;
+    if (l2_2(v5 + 106) == 0) goto L15;
     v13 = 3073u;
     goto L18;
 L19:;
-    v13 = l2(v5 + 106);
+    v13 = l2_2(v5 + 106);
 L18:;
-    f148(v5 + 48ull, v5 + 96ull, v13);
+    answer_refused_end(v5 + 48ull, v5 + 96ull, v13);
     if (v2 & 255u) goto L39;
     v3 = v1 + 11128ull;
-    v16 = l8(v3);
+    v16 = l8_8(v3);
     v4 = v1 + (v16 * 48ull);
-    s8(v4 + 8096ull, l8(v5 + 88));
-    s8(v4 + 8088ull, l8(v5 + 80));
-    s8(v4 + 8080ull, l8(v5 + 72));
-    s8(v4 + 8072ull, l8(v5 + 64));
-    s8(v4 + 8064ull, l8(v5 + 56));
-    s8(v4 + 8056ull, l8(v5 + 48));
-    s8(v3, v16 + 1ull);
+    s8(v4 + 8096ull, l8_8(v5 + 88));
+    s8(v4 + 8088ull, l8_8(v5 + 80));
+    s8(v4 + 8080ull, l8_8(v5 + 72));
+    s8(v4 + 8072ull, l8_8(v5 + 64));
+    s8(v4 + 8064ull, l8_8(v5 + 56));
+    s8(v4 + 8056ull, l8_8(v5 + 48));
+    s8_8(v3, v16 + 1ull);
     goto L38;
 L39:;
     v3 = v1 + 14216ull;
-    v16 = l8(v3);
+    v16 = l8_8(v3);
     v4 = v1 + (v16 * 48ull);
-    s8(v4 + 11184ull, l8(v5 + 88));
-    s8(v4 + 11176ull, l8(v5 + 80));
-    s8(v4 + 11168ull, l8(v5 + 72));
-    s8(v4 + 11160ull, l8(v5 + 64));
-    s8(v4 + 11152ull, l8(v5 + 56));
-    s8(v4 + 11144ull, l8(v5 + 48));
-    s8(v3, v16 + 1ull);
+    s8(v4 + 11184ull, l8_8(v5 + 88));
+    s8(v4 + 11176ull, l8_8(v5 + 80));
+    s8(v4 + 11168ull, l8_8(v5 + 72));
+    s8(v4 + 11160ull, l8_8(v5 + 64));
+    s8(v4 + 11152ull, l8_8(v5 + 56));
+    s8(v4 + 11144ull, l8_8(v5 + 48));
+    s8_8(v3, v16 + 1ull);
 L38:;
     v18 = 0u;
     v13 = 1u;
@@ -11528,32 +11731,32 @@ L38:;
 L17:;
     if (((v9 + 0xFFFFFFFCu) & 255u) > 4u) goto L16;
     v17 = v1 + 4648ull;
-    v13 = l4(v5 + 112);
-    v18 = l4(v5 + 108);
-    v6 = l2(v5 + 106);
+    v13 = l4_4(v5 + 112);
+    v18 = l4_4(v5 + 108);
+    v6 = l2_2(v5 + 106);
     v22 = 0ull;
     v3 = 0ull;
-    v16 = l8(v1 + 5672ull);
+    v16 = l8_8(v1 + 5672ull);
     if (v16 == 0) goto L40;
     v3 = 0ull;
     v4 = v17;
 L41:;
-    if (l2(v4) == (v10 & 65535u)) goto L40;
+    if (l2_2(v4) == (v10 & 65535u)) goto L40;
     v4 = v4 + 64ull;
     v3 = v3 + 1ull;
     if (v16 != v3) goto L41;
     v3 = v16;
 L40:;
-    s4(v5 + 160, v13);
+    s4_4(v5 + 160, v13);
     v16 = v3 << 6;
-    v4 = (l8((v17 + v16) + 32ull)) + 1ull;
-    f69(v5, v4, (u64)(u32)(v4 == 0), (v9 == 7u) ? ((u64)v13) : 0ull, 0ull);
-    s8(v5 + 168, 0ull);
-    s4(v5 + 164, v12);
-    s4(v5 + 156, v18);
-    s2(v5 + 154, v6);
+    v4 = (l8_8((v17 + v16) + 32ull)) + 1ull;
+    multi3(v5, v4, (u64)(u32)(v4 == 0), (v9 == 7u) ? ((u64)v13) : 0ull, 0ull);
+    s8_4(v5 + 168, 0ull);
+    s4_4(v5 + 164, v12);
+    s4_4(v5 + 156, v18);
+    s2_2(v5 + 154, v6);
     s1(v5 + 153, v7);
-    v4 = l8(v5 + 8);
+    v4 = l8_8(v5 + 8);
     v12 = (u32)v4;
     v13 = 0u;
     switch (v9) {
@@ -11572,10 +11775,10 @@ L44:;
     goto L42;
 L43:;
     v16 = v17 + (v16 & 16320ull);
-    v13 = l4(v16 + 52ull);
+    v13 = l4_4(v16 + 52ull);
     v17 = (u64)v13;
     if (l1(v16 + 56ull) != 1u) goto L47;
-    v22 = (v13 > v12) ? ((((u64)l4(v16 + 40ull)) << 1) - (v17 + v4)) : (v4 - v17);
+    v22 = (v13 > v12) ? ((((u64)l4_4(v16 + 40ull)) << 1) - (v17 + v4)) : (v4 - v17);
     goto L46;
 L47:;
     v22 = ((v13 < v12) ? v4 : (0ull - v4)) + v17;
@@ -11584,26 +11787,26 @@ L46:;
 L42:;
     s1(v21, v19 + 1u);
     v16 = v1 + 6744ull;
-    v17 = l8(v16);
+    v17 = l8_8(v16);
     v4 = v1 + (v17 << 4);
     s1(v4 + 5727ull, v13);
     s1(v4 + 5726ull, v2);
     s2(v4 + 5724ull, v10);
     s4(v4 + 5720ull, v11);
     s8(v4 + 5728ull, v22);
-    s8(v16, v17 + 1ull);
+    s8_8(v16, v17 + 1ull);
     s1(v5 + 152, v9);
     s1(v5 + 151, 0u);
     s1(v5 + 150, v2);
-    s2(v5 + 148, v10);
-    s4(v5 + 144, v11);
-    f149(v1 + 816ull, v5 + 144ull, (u32)v3, v12);
+    s2_2(v5 + 148, v10);
+    s4_4(v5 + 144, v11);
+    Backlog_push(v1 + 816ull, v5 + 144ull, (u32)v3, v12);
     if (v2 & 255u) goto L48;
-    s4(v15, l4(v15) + 1u);
+    s4_4(v15, l4_4(v15) + 1u);
     goto L7;
 L48:;
     v4 = v1 + 11136ull;
-    s4(v4, l4(v4) + 1u);
+    s4_4(v4, l4_4(v4) + 1u);
     goto L7;
 L16:;
     switch (v9) {
@@ -11614,27 +11817,27 @@ L16:;
     }
 L53:;
     v18 = 0u;
-    s4(v5 + 116, 0u);
-    s2(v5 + 120, 0u);
+    s4_4(v5 + 116, 0u);
+    s2_2(v5 + 120, 0u);
     v6 = 129u;
     v8 = 1u;
     v23 = 0ull;
     v7 = 0u;
     v24 = 0u;
     v25 = 0u;
-    v13 = l4(v5 + 108);
+    v13 = l4_4(v5 + 108);
     v19 = v13;
     goto L49;
 L52:;
     v23 = 0ull;
-    v13 = l4(v5 + 108);
-    v3 = l8(v1 + 6744ull);
+    v13 = l4_4(v5 + 108);
+    v3 = l8_8(v1 + 6744ull);
     if (v3 == 0) goto L54;
     v16 = v1 + 3888ull;
     v4 = v1 + 5720ull;
 L56:;
     if (l1(v4 + 6ull) != (v2 & 255u)) goto L57;
-    if (l4(v4) == v13) goto L55;
+    if (l4_4(v4) == v13) goto L55;
 L57:;
     v16 = v16 + 1ull;
     v4 = v4 + 16ull;
@@ -11642,11 +11845,11 @@ L57:;
     if ((u32)(v3 == 0) == 0) goto L56;
     goto L54;
 L55:;
-    v23 = ((l8((v1 + (((u64)l1(v16)) << 3)) + 3376ull)) - l8(v1 + 4632ull)) & 4294967295ull;
+    v23 = ((l8_8((v1 + (((u64)l1(v16)) << 3)) + 3376ull)) - l8_8(v1 + 4632ull)) & 4294967295ull;
 L54:;
     v25 = 0u;
-    s2(v5 + 148, 0u);
-    s4(v5 + 144, 0u);
+    s2_2(v5 + 148, 0u);
+    s4_4(v5 + 144, 0u);
     v8 = 2u;
     v6 = 130u;
     v24 = 0u;
@@ -11655,16 +11858,16 @@ L54:;
     goto L50;
 L51:;
     v4 = v1 + 0xFFFFFFFFFFFFFFF2ull;
-    v3 = l8(v1 + 800ull) + 1ull;
+    v3 = l8_8(v1 + 800ull) + 1ull;
 L58:;
     v3 = v3 + 0xFFFFFFFFFFFFFFFFull;
     if (v3 == 0) goto L11;
     v16 = v4 + 46ull;
     v17 = v4 + 48ull;
     v4 = v17;
-    if (l2(v16) != (v10 & 65535u)) goto L58;
+    if (l2_2(v16) != (v10 & 65535u)) goto L58;
     v4 = v1 + 4632ull;
-    v3 = l8(v1 + 5672ull) + 1ull;
+    v3 = l8_8(v1 + 5672ull) + 1ull;
 L60:;
     v3 = v3 + 0xFFFFFFFFFFFFFFFFull;
     if ((u32)(v3 == 0) == 0) goto L61;
@@ -11674,27 +11877,27 @@ L61:;
     v16 = v4 + 16ull;
     v15 = v4 + 64ull;
     v4 = v15;
-    if (l2(v16) != (v10 & 65535u)) goto L60;
+    if (l2_2(v16) != (v10 & 65535u)) goto L60;
     v25 = (l1(v15) & 1u) ? 0u : 4u;
 L59:;
     v13 = 0u;
-    s4(v5 + 144, 0u);
-    s2(v5 + 148, 0u);
-    v18 = l2(v17 + 4ull);
-    v24 = l4(v17 + 22ull);
-    v23 = l8(v17 + 14ull);
-    v7 = l4(v17);
+    s4_4(v5 + 144, 0u);
+    s2_2(v5 + 148, 0u);
+    v18 = l2_2(v17 + 4ull);
+    v24 = l4_4(v17 + 22ull);
+    v23 = l8_8(v17 + 14ull);
+    v7 = l4_2(v17);
     v8 = 3u;
     v6 = 131u;
 L50:;
-    s2(v5 + 120, l2(v5 + 148));
-    s4(v5 + 116, l4(v5 + 144));
+    s2_2(v5 + 120, l2_2(v5 + 148));
+    s4_4(v5 + 116, l4_4(v5 + 144));
     v12 = 0u;
     if (v9) goto L14;
-    v19 = l4(v5 + 108);
+    v19 = l4_4(v5 + 108);
 L49:;
     v12 = 0u;
-    v4 = l8(v1 + 6744ull);
+    v4 = l8_8(v1 + 6744ull);
     if (v4 == 0) goto L14;
     v26 = v1 + 5720ull;
     v22 = 0ull;
@@ -11705,7 +11908,7 @@ L49:;
 L63:;
     v15 = v1 + v22;
     if (l1(v15 + 5726ull) != (v2 & 255u)) goto L64;
-    if (l4(v15 + 5720ull) == v19) goto L62;
+    if (l4_4(v15 + 5720ull) == v19) goto L62;
 L64:;
     v4 = v4 + 1ull;
     v27 = v27 + 0xFFFFFFFFFFFFFFF0ull;
@@ -11726,19 +11929,19 @@ L62:;
     v19 = l4(v4);
     v3 = 0ull;
     v33 = 0ull - v21;
-    f150(v16, v33);
+    Backlog_take_out(v16, v33);
     v4 = v15 + 5720ull;
     v16 = v20 + ((u64)l1(v4));
     s1(v16, l1(v16) + 0xFFFFFFFFu);
     v34 = v1 + 6744ull;
-    v35 = l8(v34);
+    v35 = l8_8(v34);
     v36 = v35 + v21;
     if (v36 != 1ull) goto L66;
     v4 = v33;
     goto L65;
 L66:;
-    s8(v5 + 152, l8(v4 + 8));
-    s8(v5 + 144, l8(v4));
+    s8_8(v5 + 152, l8(v4 + 8));
+    s8_8(v5 + 144, l8(v4));
     v4 = v36 + 0xFFFFFFFFFFFFFFFFull;
     if (v4 < 129ull) goto L67;
     v20 = 0ull;
@@ -11769,12 +11972,12 @@ L67:;
     copy(v3 + 5720ull, v3 + 5736ull, v4);
 L70:;
     v4 = (v16 + ((v35 << 4) + v27)) + v22;
-    s8(v4 + 1824ull, l8(v5 + 152));
-    s8(v4 + 1816ull, l8(v5 + 144));
-    v4 = l8(v1 + 6744ull) + 0xFFFFFFFFFFFFFFFFull;
+    s8(v4 + 1824ull, l8_8(v5 + 152));
+    s8(v4 + 1816ull, l8_8(v5 + 144));
+    v4 = l8_8(v1 + 6744ull) + 0xFFFFFFFFFFFFFFFFull;
     v22 = v4 << 4;
 L65:;
-    s8(v34, v4);
+    s8_8(v34, v4);
     v3 = 0ull;
     v4 = v26 + v22;
     s8(v4 + 8, 0ull);
@@ -11785,7 +11988,7 @@ L65:;
     v15 = v1 + 5680ull;
     if (l1(v15) != 1u) goto L71;
     v16 = 1ull;
-    v4 = l8(v17);
+    v4 = l8_8(v17);
     if (v4 < v33) goto L71;
     v37 = v33 < v4;
     v4 = v37 ? (v4 + 0xFFFFFFFFFFFFFFFFull) : 0ull;
@@ -11806,19 +12009,19 @@ L71:;
 L72:;
     s8(v16, v4);
     s8(v17, v3);
-    s4(v5 + 140, v29);
-    s4(v5 + 136, v30);
-    s2(v5 + 134, v31);
+    s4_4(v5 + 140, v29);
+    s4_4(v5 + 136, v30);
+    s2_2(v5 + 134, v31);
     s1(v5 + 133, v32);
     s1(v5 + 132, v12);
-    s2(v5 + 130, 0u);
-    s2(v5 + 128, v9);
-    s4(v5 + 124, v19);
-    s8(v5 + 168, 0ull);
-    s8(v5 + 160, 0ull);
-    s8(v5 + 152, 0ull);
-    s8(v5 + 144, 0ull);
-    f70(v5 + 144ull, v5 + 124ull, v28);
+    s2_2(v5 + 130, 0u);
+    s2_2(v5 + 128, v9);
+    s4_4(v5 + 124, v19);
+    s8_8(v5 + 168, 0ull);
+    s8_8(v5 + 160, 0ull);
+    s8_8(v5 + 152, 0ull);
+    s8_8(v5 + 144, 0ull);
+    outcome_moved_body(v5 + 144ull, v5 + 124ull, v28);
     v28 = 129u;
     switch (v12) {
     case 1: goto L80;
@@ -11855,17 +12058,17 @@ L75:;
 L74:;
     v28 = (u32)(698496357008ull >> (((((u64)v32) & 255ull) << 3) & 63));
 L73:;
-    v12 = l4(v5 + 148);
-    v3 = l8(v5 + 152);
-    v32 = l4(v5 + 160);
-    v31 = l4(v5 + 164);
-    v29 = l4(v5 + 168);
+    v12 = l4_4(v5 + 148);
+    v3 = l8_8(v5 + 152);
+    v32 = l4_4(v5 + 160);
+    v31 = l4_4(v5 + 164);
+    v29 = l4_4(v5 + 168);
     v30 = l1(v5 + 144);
-    v37 = l2(v5 + 146);
+    v37 = l2_2(v5 + 146);
     if (v2 & 255u) goto L12;
     v4 = v1 + 8048ull;
-    s4(v4, l4(v4) + 0xFFFFFFFFu);
-    v16 = l8(v1 + 11128ull);
+    s4_4(v4, l4_4(v4) + 0xFFFFFFFFu);
+    v16 = l8_8(v1 + 11128ull);
     v4 = v1 + (v16 * 48ull);
     s4(v4 + 8056ull, v19);
     s4(v4 + 8076ull, v12);
@@ -11888,10 +12091,10 @@ L73:;
     goto L13;
 L15:;
     v18 = 0u;
-    s4(v5 + 116, 0u);
-    s2(v5 + 120, 0u);
-    v23 = l8(v1 + 24ull);
-    v12 = l2(v1 + 16ull);
+    s4_4(v5 + 116, 0u);
+    s2_2(v5 + 120, 0u);
+    v23 = l8_8(v1 + 24ull);
+    v12 = l2_2(v1 + 16ull);
     v6 = 132u;
     v8 = 4u;
     v7 = 0u;
@@ -11900,7 +12103,7 @@ L15:;
     v25 = 0u;
 L14:;
     if (v2 & 255u) goto L10;
-    v3 = l8(v1 + 11128ull);
+    v3 = l8_8(v1 + 11128ull);
     v2 = 0u;
     v19 = 0u;
 L13:;
@@ -11915,17 +12118,17 @@ L13:;
     s2(v4 + 8074ull, v12);
     s2(v4 + 8072ull, v8);
     s2(v4 + 8064ull, v25);
-    s4(v4 + 8066ull, l4(v5 + 116));
-    s2(v4 + 8070ull, l2(v5 + 120));
+    s4(v4 + 8066ull, l4_4(v5 + 116));
+    s2(v4 + 8070ull, l2_2(v5 + 120));
     s8(v4 + 8080ull, v23);
     s4(v4 + 8100ull, 0u);
     s4(v4 + 8096ull, v18);
-    s8(v1 + 11128ull, v3 + 1ull);
+    s8_8(v1 + 11128ull, v3 + 1ull);
     goto L8;
 L12:;
     v4 = v1 + 11136ull;
-    s4(v4, l4(v4) + 0xFFFFFFFFu);
-    v16 = l8(v1 + 14216ull);
+    s4_4(v4, l4_4(v4) + 0xFFFFFFFFu);
+    v16 = l8_8(v1 + 14216ull);
     v4 = v1 + (v16 * 48ull);
     s4(v4 + 11144ull, v19);
     s4(v4 + 11164ull, v12);
@@ -11949,7 +12152,7 @@ L12:;
 L11:;
     TRAP();
 L10:;
-    v3 = l8(v1 + 14216ull);
+    v3 = l8_8(v1 + 14216ull);
     v19 = 0u;
     v2 = 0u;
 L9:;
@@ -11964,12 +12167,12 @@ L9:;
     s2(v4 + 11162ull, v12);
     s2(v4 + 11160ull, v8);
     s2(v4 + 11152ull, v25);
-    s4(v4 + 11154ull, l4(v5 + 116));
-    s2(v4 + 11158ull, l2(v5 + 120));
+    s4(v4 + 11154ull, l4_4(v5 + 116));
+    s2(v4 + 11158ull, l2_2(v5 + 120));
     s8(v4 + 11168ull, v23);
     s4(v4 + 11188ull, 0u);
     s4(v4 + 11184ull, v18);
-    s8(v1 + 14216ull, v3 + 1ull);
+    s8_8(v1 + 14216ull, v3 + 1ull);
 L8:;
     v18 = v2 & 255u;
     v13 = 1u;
@@ -12002,7 +12205,8 @@ L1:;
     return;
 }
 
-static void f152(u64 v0, u32 v1, u32 v2, u64 v3, u64 v4)
+/* mscp_port::port::Port::see_text, crates/mscp_port/src/port/hearing.rt:138 */
+static void Port_see_text(u64 v0, u32 v1, u32 v2, u64 v3, u64 v4)
 {
     ROOM(frame, 224);
     u32 v7 = 0, v10 = 0, v12 = 0, v15 = 0, t0;
@@ -12011,19 +12215,19 @@ static void f152(u64 v0, u32 v1, u32 v2, u64 v3, u64 v4)
     v6 = v5;
     v7 = 0u;
     s1(v0 + 14280ull, 0u);
-    s4(v0 + 14276ull, 0u);
-    s4(v0 + 14272ull, v1);
+    s4_2(v0 + 14276ull, 0u);
+    s4_2(v0 + 14272ull, v1);
     v8 = v0 + 14268ull;
-    s4(v8, 263u);
+    s4_2(v8, 263u);
     v5 = v0 + 17140ull;
     v9 = v0 + 17138ull;
-    v1 = l2(v9);
-    v10 = l2(v5);
+    v1 = l2_2(v9);
+    v10 = l2_2(v5);
     v1 = (v1 > v10) ? v1 : v10;
-    s2(v5, v1);
-    s2(v9, v1);
+    s2_2(v5, v1);
+    s2_2(v9, v1);
     v1 = l2(v3 + 4ull);
-    v11 = l8(v0 + 808ull);
+    v11 = l8_8(v0 + 808ull);
     if ((u32)(v11 == 0) == 0) goto L12;
     v12 = 0u;
     goto L11;
@@ -12032,7 +12236,7 @@ L12:;
     v5 = v0 + 40ull;
     v13 = v11;
 L14:;
-    if (l2(v5) == (v1 & 65535u)) goto L13;
+    if (l2_2(v5) == (v1 & 65535u)) goto L13;
     v9 = v9 + 28ull;
     v5 = v5 + 48ull;
     v13 = v13 + 0xFFFFFFFFFFFFFFFFull;
@@ -12066,15 +12270,15 @@ L18:;
     if (((v10 + 0xFFFFFFE0u) & 255u) > 2u) goto L17;
     if (v4 > 31ull) goto L8;
 L17:;
-    s4(v6 + 24, 0u);
-    s8(v6 + 16, 0ull);
-    s8(v6 + 8, 0ull);
+    s4_4(v6 + 24, 0u);
+    s8_8(v6 + 16, 0ull);
+    s8_8(v6 + 8, 0ull);
     fill(v6 + 104ull, 0u, 72ull);
     v13 = v0 + 40ull;
     v14 = v0 + 8ull;
     if (v10 != 3u) goto L4;
     if ((l1(v3 + 10ull) & 1u) == 0) goto L4;
-    s4(v6 + 104, l4(v3));
+    s4_4(v6 + 104, l4(v3));
     v9 = v11 + 1ull;
     v5 = v13;
 L20:;
@@ -12083,12 +12287,12 @@ L20:;
     v2 = 0u;
     goto L19;
 L21:;
-    v2 = l2(v5);
+    v2 = l2_2(v5);
     v5 = v5 + 48ull;
     if ((v1 & 65535u) > v2) goto L20;
 L19:;
-    s8(v6 + 168, 6ull);
-    s2(v6 + 108, v2);
+    s8_8(v6 + 168, 6ull);
+    s2_2(v6 + 108, v2);
     v5 = v4 + 0xFFFFFFFFFFFFFFFAull;
     if (v5 > 58ull) goto L2;
     if (v5 == 0) goto L3;
@@ -12135,9 +12339,9 @@ L23:;
     s4(v0 + 14356ull, 0u);
     goto L1;
 L5:;
-    s4(v6 + 24, 0u);
-    s8(v6 + 16, 0ull);
-    s8(v6 + 8, 0ull);
+    s4_4(v6 + 24, 0u);
+    s8_8(v6 + 16, 0ull);
+    s8_8(v6 + 8, 0ull);
     fill(v6 + 104ull, 0u, 72ull);
     v13 = v0 + 40ull;
     v14 = v0 + 8ull;
@@ -12146,20 +12350,20 @@ L4:;
     if (v4 == 0) goto L3;
     copy(v6 + 104ull, v3, v4);
 L3:;
-    s8(v6 + 168, v4);
+    s8_8(v6 + 168, v4);
 L2:;
     copy(v6 + 32ull, v6 + 104ull, 72ull);
-    f151(v6 + 8ull, v14, 0u, v6 + 32ull, l8(v6 + 96));
+    Controller_send(v6 + 8ull, v14, 0u, v6 + 32ull, l8_8(v6 + 96));
     if (l1(v6 + 8)) goto L26;
     if (l1(v6 + 12)) goto L27;
     v2 = 0u;
     v1 = 0u;
-    v5 = l8(v0 + 808ull);
+    v5 = l8_8(v0 + 808ull);
     if (v5 == 0) goto L28;
     v1 = l2(v3 + 4ull);
     v9 = v0 + 16692ull;
 L30:;
-    if (l2(v13) == (v1 & 65535u)) goto L29;
+    if (l2_2(v13) == (v1 & 65535u)) goto L29;
     v9 = v9 + 28ull;
     v13 = v13 + 48ull;
     v5 = v5 + 0xFFFFFFFFFFFFFFFFull;
@@ -12167,7 +12371,7 @@ L30:;
     v1 = 0u;
     goto L28;
 L29:;
-    v1 = l4(v9);
+    v1 = l4_4(v9);
 L28:;
     v10 = 0u;
     v7 = 0u;
@@ -12194,15 +12398,15 @@ L31:;
     goto L24;
 L27:;
     if (l1(v6 + 20) != 1u) goto L34;
-    v11 = l8(v0 + 15648ull);
+    v11 = l8_8(v0 + 15648ull);
     if (v11 == 0) goto L34;
-    v1 = l4(v6 + 24);
+    v1 = l4_4(v6 + 24);
     v13 = 0ull;
     v16 = v0 + 14368ull;
     v5 = v16;
     v9 = 0ull;
 L35:;
-    if (l4(v5) == v1) goto L36;
+    if (l4_4(v5) == v1) goto L36;
     if (v13 < v9) goto L38;
     if (v9 >= v13) goto L37;
     v8 = v16 + (v13 * 20ull);
@@ -12237,21 +12441,21 @@ L36:;
     v5 = v5 + 20ull;
     v9 = v9 + 1ull;
     if (v11 != v9) goto L35;
-    v5 = l8(v0 + 15648ull);
+    v5 = l8_8(v0 + 15648ull);
     if (v5 <= v13) goto L34;
     v5 = (v5 - v13) * 20ull;
     if (v5 == 0) goto L39;
     fill(v16 + (v13 * 20ull), 0u, v5);
 L39:;
-    s8(v0 + 15648ull, v13);
+    s8_8(v0 + 15648ull, v13);
 L34:;
     if (l1(v3 + 8) != 4u) goto L1;
     if (v4 < 18ull) goto L1;
     if (l1(v3 + 13ull) | l1(v3 + 12ull)) goto L1;
-    s2(v0 + 17136ull, l2(v3 + 14ull));
+    s2_2(v0 + 17136ull, l2(v3 + 14ull));
     v1 = l2(v3 + 16ull);
-    s2(v0 + 17140ull, v1);
-    s2(v0 + 17138ull, v1);
+    s2_2(v0 + 17140ull, v1);
+    s2_2(v0 + 17138ull, v1);
     goto L1;
 L26:;
     s8(v8, 0ull);
@@ -12264,7 +12468,7 @@ L25:;
     v15 = 0u;
 L24:;
     v13 = v0 + 15648ull;
-    v9 = l8(v13);
+    v9 = l8_8(v13);
     if (v9 == 64ull) goto L1;
     v5 = (v0 + 14368ull) + (v9 * 20ull);
     s4(v5 + 16, v1);
@@ -12273,18 +12477,19 @@ L24:;
     s4(v5 + 8, v12);
     s4(v5 + 4, v10);
     s4(v5, v7);
-    s8(v13, v9 + 1ull);
+    s8_8(v13, v9 + 1ull);
 L1:;
     return;
 }
 
-static u32 f153(u64 v0, u64 v1, u64 v2)
+/* mscp_c::mscp_port_was_read_at, crates/mscp_c/src/port_turning.rt:51 */
+static u32 export_mscp_port_was_read_at(u64 v0, u64 v1, u64 v2)
 {
     u32 v4 = 0, v5 = 0, v6 = 0;
     v4 = 0xFFFFFFF6u;
-    if (l8(v0 + 24ull) != 0x504F52544D414445ull) goto L2;
+    if (l8_8(v0 + 24ull) != 0x504F52544D414445ull) goto L2;
     v4 = 0xFFFFFFDCu;
-    v0 = l8(v0);
+    v0 = l8_8(v0);
     if (l1(v0 + 14234ull) == 9u) goto L2;
     v1 = v1 + ((v1 == 0) ? 4096ull : 0ull);
     v5 = l4(v0 + 14272ull);
@@ -12298,7 +12503,7 @@ static u32 f153(u64 v0, u64 v1, u64 v2)
     }
 L6:;
     if (v2 != 4ull) goto L2;
-    f146(v0, v6, l4(v1));
+    Port_see_slot(v0, v6, l4(v1));
     return 1u;
 L5:;
     if (v2 != 4ull) goto L2;
@@ -12311,12 +12516,12 @@ L5:;
     return 1u;
 L4:;
     if (v2 != 4ull) goto L2;
-    f147(v0, v5, l4(v1));
+    Port_see_header(v0, v5, l4(v1));
     return 1u;
 L3:;
     if (v2 != ((u64)l4(v0 + 14276ull))) goto L2;
     v4 = 1u;
-    f152(v0, v5, l1(v0 + 14280ull) & 1u, v1, v2);
+    Port_see_text(v0, v5, l1(v0 + 14280ull) & 1u, v1, v2);
 L2:;
     return v4;
     TRAP();
@@ -12325,18 +12530,19 @@ L2:;
 static u32 w_mscp_port_was_read_at(u64 v0, u64 v1, u64 v2)
 {
     u32 v3 = 0, t0, t1;
-    t0 = f58();
+    t0 = rattle_enter();
     if (t0 == 0) goto L1;
-    f59();
+    rattle_trap();
     TRAP();
 L1:;
-    t1 = f153(v0, v1, v2);
+    t1 = export_mscp_port_was_read_at(v0, v1, v2);
     v3 = t1;
-    f61();
+    rattle_leave();
     return v3;
 }
 
-static void f154(u64 v0)
+/* mscp_port::port::Port::settled, crates/mscp_port/src/port/going.rt:61 */
+static void Port_settled(u64 v0)
 {
     u32 v3 = 0, v5 = 0;
     u64 v2 = 0, v4 = 0, v6 = 0;
@@ -12362,8 +12568,8 @@ L5:;
     s2(v0 + 14234ull, 1u);
     return;
 L6:;
-    s4(v0 + 14234ull, 2u);
-    s2(v0 + 14238ull, v3);
+    s4_2(v0 + 14234ull, 2u);
+    s2_2(v0 + 14238ull, v3);
     if ((v3 & 128u) == 0) goto L2;
     if ((v3 & 127u) == 0) goto L2;
     s8(v4, 0ull);
@@ -12371,9 +12577,9 @@ L6:;
     s4(v4 + 8, 0u);
     return;
 L4:;
-    s4(v6, 3u);
-    s2(v0 + 14240ull, v3);
-    v5 = l2(v0 + 14238ull);
+    s4_2(v6, 3u);
+    s2_2(v0 + 14240ull, v3);
+    v5 = l2_2(v0 + 14238ull);
     if ((v5 & 128u) == 0) goto L2;
     if ((v5 & 127u) == 0) goto L2;
     s8(v4, 0ull);
@@ -12381,13 +12587,13 @@ L4:;
     s4(v4 + 8, 0u);
     return;
 L3:;
-    v5 = ((v3 & 32767u) << 16) | (l2(v0 + 14240ull) & 65534u);
+    v5 = ((v3 & 32767u) << 16) | (l2_2(v0 + 14240ull) & 65534u);
     if (v5 < 8u) goto L9;
-    s4(v0 + 14252ull, v5);
-    s4(v0 + 14248ull, 1u);
-    v5 = l2(v0 + 14238ull);
-    s4(v0 + 14260ull, l4(A(data + 792) + (((u64)((v5 >> 11) & 7u)) << 2)));
-    s4(v0 + 14256ull, l4(A(data + 792) + (((u64)((v5 >> 8) & 7u)) << 2)));
+    s4_2(v0 + 14252ull, v5);
+    s4_2(v0 + 14248ull, 1u);
+    v5 = l2_2(v0 + 14238ull);
+    s4_2(v0 + 14260ull, l4_4(A(data + 792) + (((u64)((v5 >> 11) & 7u)) << 2)));
+    s4_2(v0 + 14256ull, l4_4(A(data + 792) + (((u64)((v5 >> 8) & 7u)) << 2)));
     if ((i32)v3 < (i32)0u) goto L8;
     s8(v4, 0ull);
     s4(v4 + 8, 0u);
@@ -12402,21 +12608,22 @@ L8:;
     s4(v0 + 14234ull, 4u);
     return;
 L7:;
-    f110(v0, 9u, 7u);
+    Port_forget_all(v0, 9u, 7u);
 L2:;
     return;
     TRAP();
 }
 
-static void f155(u64 v0, u32 v1, u32 v2)
+/* mscp_port::port::Port::cleared, crates/mscp_port/src/port/going.rt:76 */
+static void Port_cleared(u64 v0, u32 v1, u32 v2)
 {
     u64 v4 = 0;
     if (l1(v0 + 14248ull) != 1u) goto L4;
     if ((v2 & 255u) == 0) goto L3;
-    f110(v0, 9u, 7u);
+    Port_forget_all(v0, 9u, 7u);
     return;
 L4:;
-    f110(v0, 9u, 7u);
+    Port_forget_all(v0, 9u, 7u);
     goto L1;
 L3:;
     v4 = v0 + 14268ull;
@@ -12433,7 +12640,7 @@ L5:;
     s8(v4 + 5, 0ull);
     s8(v4, 0ull);
     s4(v0 + 14234ull, 7u);
-    v2 = l2(v0 + 14238ull);
+    v2 = l2_2(v0 + 14238ull);
     if ((v2 & 128u) == 0) goto L1;
     if ((v2 & 127u) == 0) goto L1;
     s8(v0 + 14269ull, 0ull);
@@ -12445,12 +12652,13 @@ L1:;
     return;
 }
 
-static void f156(u64 v0, u32 v1, u32 v2)
+/* mscp_port::port::Port::written_out, crates/mscp_port/src/port/delivering.rt:158 */
+static void Port_written_out(u64 v0, u32 v1, u32 v2)
 {
     u32 v5 = 0;
     u64 v4 = 0;
     if ((v2 & 255u) == 0) goto L2;
-    f110(v0, 9u, 2u);
+    Port_forget_all(v0, 9u, 2u);
     return;
 L2:;
     if (l1(v0 + 14288ull) != 1u) goto L3;
@@ -12468,15 +12676,16 @@ L3:;
     TRAP();
 }
 
-static void f157(u64 v0, u32 v1, u32 v2, u32 v3)
+/* mscp_port::port::Port::returned, crates/mscp_port/src/port/going.rt:99 */
+static void Port_returned(u64 v0, u32 v1, u32 v2, u32 v3)
 {
     u64 v5 = 0;
     if (l1(v0 + 14248ull) != 1u) goto L3;
     if ((v3 & 255u) == 0) goto L2;
-    f110(v0, 9u, 7u);
+    Port_forget_all(v0, 9u, 7u);
     return;
 L3:;
-    f110(v0, 9u, 7u);
+    Port_forget_all(v0, 9u, 7u);
     return;
 L2:;
     if (v1 & 255u) goto L5;
@@ -12500,7 +12709,8 @@ L4:;
     TRAP();
 }
 
-static void f158(u64 v0, u32 v1, u32 v2)
+/* mscp_port::port::Port::finish, crates/mscp_port/src/port/serving.rt:199 */
+static void Port_finish(u64 v0, u32 v1, u32 v2)
 {
     ROOM(frame, 144);
     u32 v5 = 0, v6 = 0, v8 = 0, v10 = 0, v11 = 0, v14 = 0;
@@ -12509,25 +12719,25 @@ static void f158(u64 v0, u32 v1, u32 v2)
     v4 = v3;
     if (l1(v0 + 5688ull) != 1u) goto L6;
     v3 = v0 + (((u64)l1((v0 + l8(v0 + 5696ull)) + 3896ull)) << 5);
-    v5 = l4(v3 + 824ull);
+    v5 = l4_4(v3 + 824ull);
     v6 = l1(v3 + 830ull);
     fill(v4, 0u, 96ull);
     s8(v0 + 14273ull, 0ull);
     s8(v0 + 14268ull, 0ull);
-    f74(v4, v0 + 8ull, v6, v5, v1, v2);
+    Controller_finish(v4, v0 + 8ull, v6, v5, v1, v2);
     if (l1(v4)) goto L1;
     if ((l1(v4 + 8) & 255u) != 1u) goto L1;
     if ((l1(v4 + 40) & 255u) != 1u) goto L1;
-    v2 = l4(v4 + 48);
-    v7 = l8(v0 + 808ull);
+    v2 = l4_4(v4 + 48);
+    v7 = l8_8(v0 + 808ull);
     if (v7 == 0) goto L2;
-    v5 = l2(v4 + 56);
+    v5 = l2_2(v4 + 56);
     v8 = l1(v4 + 54);
-    v1 = l2(v4 + 52);
+    v1 = l2_2(v4 + 52);
     v3 = 40ull;
     v9 = 0ull;
 L8:;
-    if (l2(v0 + v3) == (v1 & 65535u)) goto L7;
+    if (l2_2(v0 + v3) == (v1 & 65535u)) goto L7;
     v9 = v9 + 28ull;
     v3 = v3 + 48ull;
     v7 = v7 + 0xFFFFFFFFFFFFFFFFull;
@@ -12536,11 +12746,11 @@ L8:;
 L7:;
     if (v5 & 31u) goto L2;
     if (v6 & 255u) goto L10;
-    v7 = l8(v0 + 15648ull);
+    v7 = l8_8(v0 + 15648ull);
     if (v7 == 0) goto L10;
     v3 = v0 + 14368ull;
 L11:;
-    if (l4(v3) == v2) goto L9;
+    if (l4_4(v3) == v2) goto L9;
     v3 = v3 + 20ull;
     v7 = v7 + 0xFFFFFFFFFFFFFFFFull;
     if (v7 != 0ull) goto L11;
@@ -12560,20 +12770,20 @@ L9:;
     v1 = 1u;
     v11 = 1u;
     if (l1(v9 + 16704ull) != 1u) goto L12;
-    v11 = l4(v9 + 16708ull) != l4(v9 + 16692ull);
+    v11 = l4_4(v9 + 16708ull) != l4_4(v9 + 16692ull);
 L12:;
     v12 = v0 + 16680ull;
-    v13 = l8(v12);
+    v13 = l8_8(v12);
     if (v13 == 64ull) goto L3;
     v14 = l4(v3);
-    v9 = l8(v9 + 16696ull);
+    v9 = l8_4(v9 + 16696ull);
     v3 = (v0 + 15656ull) + (v13 << 4);
     s2(v3 + 5, 0u);
     s1(v3 + 4, v11);
     s4(v3, v14);
     s1(v3 + 7, 0u);
     s8(v3 + 8, v9);
-    s8(v12, v13 + 1ull);
+    s8_8(v12, v13 + 1ull);
     goto L3;
 L6:;
     s8(v0 + 14273ull, 0ull);
@@ -12590,21 +12800,21 @@ L3:;
     if (v1 == 0) goto L2;
     if ((v8 & 255u) != 137u) goto L13;
     s1(v7 + 24ull, 0u);
-    s4(v7 + 16ull, 1u);
-    s4(v7 + 20ull, l4(v7 + 4ull));
+    s4_4(v7 + 16ull, 1u);
+    s4_4(v7 + 20ull, l4_4(v7 + 4ull));
 L13:;
     if (v5) goto L2;
     s1(v7 + 2ull, v10);
 L2:;
     if (v6 & 255u) goto L1;
-    v12 = l8(v0 + 15648ull);
+    v12 = l8_8(v0 + 15648ull);
     if (v12 == 0) goto L1;
     v9 = 0ull;
     v15 = v0 + 14368ull;
     v3 = v15;
     v7 = 0ull;
 L14:;
-    if (l4(v3) == v2) goto L15;
+    if (l4_4(v3) == v2) goto L15;
     if (v9 < v7) goto L17;
     if (v7 >= v9) goto L16;
     v13 = v15 + (v9 * 20ull);
@@ -12639,25 +12849,26 @@ L15:;
     v3 = v3 + 20ull;
     v7 = v7 + 1ull;
     if (v12 != v7) goto L14;
-    v3 = l8(v0 + 15648ull);
+    v3 = l8_8(v0 + 15648ull);
     if (v3 <= v9) goto L1;
     v3 = (v3 - v9) * 20ull;
     if (v3 == 0) goto L18;
     fill(v15 + (v9 * 20ull), 0u, v3);
 L18:;
-    s8(v0 + 15648ull, v9);
+    s8_8(v0 + 15648ull, v9);
 L1:;
     return;
 }
 
-static void f159(u64 v0, u64 v1, u32 v2, u32 v3)
+/* mscp_port::port::Port::block_served, crates/mscp_port/src/port/checking.rt:81 */
+static void Port_block_served(u64 v0, u64 v1, u32 v2, u32 v3)
 {
     ROOM(frame, 64);
     u32 v5 = 0, v6 = 0, v9 = 0, v10 = 0, v11 = 0, v12 = 0, v13 = 0, v14 = 0;
     u64 v4 = 0, v7 = 0, v8 = 0;
     v4 = A(frame);
-    s4(v4 + 16, 0u);
-    s8(v4 + 8, 0ull);
+    s4_4(v4 + 16, 0u);
+    s8_8(v4 + 8, 0ull);
     v5 = 1u;
     v6 = 11u;
     if (l1(v1 + 5688ull) != 1u) goto L1;
@@ -12666,13 +12877,13 @@ static void f159(u64 v0, u64 v1, u32 v2, u32 v3)
     if (l1(v8 + 832ull) != 7u) goto L1;
     v5 = 1u;
     if ((l1((v1 + (((l8((v1 + (v7 << 3)) + 2872ull)) << 6) & 16320ull)) + 4704ull)) != 1u) goto L1;
-    v5 = l4(v8 + 840ull);
-    v9 = l4(v8 + 836ull);
-    v10 = l2(v8 + 834ull);
+    v5 = l4_4(v8 + 840ull);
+    v9 = l4_4(v8 + 836ull);
+    v10 = l2_2(v8 + 834ull);
     v11 = l1(v8 + 833ull);
-    v12 = l2(v8 + 828ull);
+    v12 = l2_2(v8 + 828ull);
     v7 = v8 + 824ull;
-    v13 = l4(v7);
+    v13 = l4_4(v7);
     v14 = l1(v8 + 830ull);
     v6 = 0u;
     s1(v4 + 51ull, 0u);
@@ -12681,19 +12892,19 @@ static void f159(u64 v0, u64 v1, u32 v2, u32 v3)
     s1(v4 + 24, v14);
     s1(v4 + 27, 0u);
     s1(v4 + 48, 1u);
-    s4(v4 + 40, v9);
-    s2(v4 + 38, v10);
+    s4_4(v4 + 40, v9);
+    s2_2(v4 + 38, v10);
     s1(v4 + 37, v11);
     s1(v4 + 36, 7u);
-    s2(v4 + 34, 0u);
-    s2(v4 + 32, v12);
-    s4(v4 + 28, v13);
-    v9 = l4(v7 + 24ull);
-    s4(v4 + 44, v5);
+    s2_2(v4 + 34, 0u);
+    s2_2(v4 + 32, v12);
+    s4_4(v4 + 28, v13);
+    v9 = l4_4(v7 + 24ull);
+    s4_4(v4 + 44, v5);
     v5 = v9 + v5;
-    s4(v4 + 52, v5);
-    s8(v4 + 56, (((u64)l4(v7 + 20ull)) << 32) | ((u64)v9));
-    f105(v4 + 8ull, v1, v4 + 24ull, v11, v5);
+    s4_4(v4 + 52, v5);
+    s8_4(v4 + 56, (((u64)l4_4(v7 + 20ull)) << 32) | ((u64)v9));
+    Port_part(v4 + 8ull, v1, v4 + 24ull, v11, v5);
     if (l1(v4 + 8)) goto L4;
     v5 = v2;
     switch ((u32)(((u64)v2) & 255ull)) {
@@ -12722,26 +12933,27 @@ L5:;
     goto L1;
 L4:;
     v5 = 1u;
-    v6 = l2(v4 + 10);
+    v6 = l2_2(v4 + 10);
     if ((v6 & 31u) > 4u) goto L1;
     TRAP();
 L2:;
     v6 = 105u;
     v5 = v2;
 L1:;
-    s2(v0 + 2, v6);
+    s2_2(v0 + 2, v6);
     s1(v0, v5);
     return;
 }
 
-static u32 f160(u64 v0, u32 v1, u32 v2)
+/* mscp_c::mscp_port_went, crates/mscp_c/src/port_turning.rt:63 */
+static u32 export_mscp_port_went(u64 v0, u32 v1, u32 v2)
 {
     ROOM(frame, 16);
     u32 v4 = 0, v5 = 0, v6 = 0, v7 = 0;
     u64 v3 = 0, v8 = 0, v9 = 0;
     v3 = A(frame);
     v4 = 0xFFFFFFF6u;
-    if (l8(v0 + 24ull) != 0x504F52544D414445ull) goto L1;
+    if (l8_8(v0 + 24ull) != 0x504F52544D414445ull) goto L1;
     v5 = 0u;
     v6 = 1u;
     v4 = 0xFFFFFFDDu;
@@ -12782,7 +12994,7 @@ L6:;
     v7 = v2;
 L5:;
     v4 = 0xFFFFFFDCu;
-    v0 = l8(v0);
+    v0 = l8_8(v0);
     if (l1(v0 + 14234ull) == 9u) goto L1;
     v8 = v0 + 14268ull;
     v1 = l1(v8);
@@ -12807,39 +13019,39 @@ L11:;
     }
 L20:;
     v4 = 1u;
-    f110(v0, 9u, 1u);
+    Port_forget_all(v0, 9u, 1u);
     goto L1;
 L19:;
-    f154(v0);
+    Port_settled(v0);
     goto L2;
 L18:;
-    f155(v0, v4, v5);
+    Port_cleared(v0, v4, v5);
     goto L2;
 L17:;
-    f156(v0, v4, v5);
+    Port_written_out(v0, v4, v5);
     goto L2;
 L16:;
-    f157(v0, l1(v9), v4, v5);
+    Port_returned(v0, l1(v9), v4, v5);
     goto L2;
 L15:;
     s8(v9, 0ull);
     s4(v9 + 8, 0u);
-    s1(v0 + 14268ull, (l2(v0 + 14238ull) & 127u) ? 10u : 0u);
+    s1(v0 + 14268ull, (l2_2(v0 + 14238ull) & 127u) ? 10u : 0u);
     goto L2;
 L14:;
     s8(v8 + 5, 0ull);
     s8(v8, 0ull);
     goto L2;
 L13:;
-    f158(v0, l1(v0 + 14270ull), v4);
+    Port_finish(v0, l1(v0 + 14270ull), v4);
     goto L2;
 L12:;
-    f159(v3 + 8ull, v0, v5, v7);
-    f158(v0, l1(v3 + 8), l2(v3 + 10));
+    Port_block_served(v3 + 8ull, v0, v5, v7);
+    Port_finish(v0, l1(v3 + 8), l2_2(v3 + 10));
     goto L2;
     TRAP();
 L3:;
-    f110(v0, 9u, 6u);
+    Port_forget_all(v0, 9u, 6u);
 L2:;
     v4 = 1u;
 L1:;
@@ -12849,31 +13061,32 @@ L1:;
 static u32 w_mscp_port_went(u64 v0, u32 v1, u32 v2)
 {
     u32 t0, t1;
-    t0 = f58();
+    t0 = rattle_enter();
     if (t0 == 0) goto L1;
-    f59();
+    rattle_trap();
     TRAP();
 L1:;
-    t1 = f160(v0, v1, v2);
+    t1 = export_mscp_port_went(v0, v1, v2);
     v2 = t1;
-    f61();
+    rattle_leave();
     return v2;
 }
 
-APART void f161(u64 v0, u64 v1, u32 v2, u32 v3)
+/* mscp_controller::controller::Controller::holders, crates/mscp_controller/src/controller/seeing.rt:60 */
+APART void Controller_holders(u64 v0, u64 v1, u32 v2, u32 v3)
 {
     ROOM(frame, 784);
     u32 v13 = 0, v14 = 0, v15 = 0;
     u64 v4 = 0, v5 = 0, v6 = 0, v7 = 0, v8 = 0, v9 = 0, v10 = 0, v11 = 0, v12 = 0;
     v4 = A(frame);
     v5 = v4;
-    v6 = l8(v1 + 6744ull);
+    v6 = l8_8(v1 + 6744ull);
     if (v6 == 0) goto L4;
     v4 = v1 + 5720ull;
     v7 = 0ull;
 L5:;
     if (l1(v4 + 6ull) != (v2 & 255u)) goto L6;
-    if (l4(v4) == v3) goto L3;
+    if (l4_4(v4) == v3) goto L3;
 L6:;
     v4 = v4 + 16ull;
     v7 = v7 + 1ull;
@@ -12882,30 +13095,30 @@ L4:;
     fill(v5 + 8ull, 0u, 776ull);
     goto L2;
 L3:;
-    v8 = (u64)l4(v1 + 4624ull);
+    v8 = (u64)l4_4(v1 + 4624ull);
     fill(v5 + 8ull, 0u, 776ull);
     if (v7 == 0) goto L2;
     v9 = v1 + 816ull;
     v10 = v1 + 3888ull;
     v11 = v9 + (((u64)l1(v10 + v7)) << 5);
-    v12 = (u64)l4(v11 + 20ull);
-    v13 = l2(v11 + 4ull);
+    v12 = (u64)l4_4(v11 + 20ull);
+    v13 = l2_2(v11 + 4ull);
     v1 = 0ull;
     v6 = 0ull;
 L7:;
     v4 = v9 + (((u64)l1(v10 + v6)) << 5);
-    v3 = l4(v4);
+    v3 = l4_4(v4);
     v14 = l1(v4 + 6ull);
     v2 = 0u;
-    if ((v13 & 65535u) != l2(v4 + 4ull)) goto L10;
+    if ((v13 & 65535u) != l2_2(v4 + 4ull)) goto L10;
     if (((l1(v4 + 8ull) + 0xFFFFFFFCu) & 255u) > 2u) goto L11;
-    v15 = (((u64)l4(v4 + 28ull)) + v12) > v8;
+    v15 = (((u64)l4_4(v4 + 28ull)) + v12) > v8;
     v2 = 1u;
     goto L9;
 L11:;
     v2 = ((l1(v11 + 8ull) + 0xFFFFFFFCu) & 255u) < 3u;
 L10:;
-    v4 = ((u64)l4(v4 + 28ull)) + v12;
+    v4 = ((u64)l4_4(v4 + 28ull)) + v12;
     v15 = v4 > v8;
     if (v2) goto L9;
     if (v4 <= v8) goto L8;
@@ -12914,12 +13127,12 @@ L9:;
     s2(v4 + 1, 0u);
     s1(v4, v14);
     s1(v4 + 3, 0u);
-    s2(v4 + 10, 0u);
+    s2_2(v4 + 10, 0u);
     s1(v4 + 9, v15);
     s1(v4 + 8, v2);
-    s4(v4 + 4, v3);
+    s4_4(v4 + 4, v3);
     v1 = v1 + 1ull;
-    s8(v5 + 776, v1);
+    s8_8(v5 + 776, v1);
 L8:;
     v6 = v6 + 1ull;
     if (v7 != v6) goto L7;
@@ -12929,7 +13142,8 @@ L2:;
     TRAP();
 }
 
-APART u32 f162(u64 v0, u32 v1, u32 v2, u64 v3, u64 v4)
+/* mscp_c::mscp_port_why_at, crates/mscp_c/src/port_seeing.rt:105 */
+APART u32 export_mscp_port_why_at(u64 v0, u32 v1, u32 v2, u64 v3, u64 v4)
 {
     ROOM(frame, 1552);
     u32 v7 = 0, v8 = 0;
@@ -12938,7 +13152,7 @@ APART u32 f162(u64 v0, u32 v1, u32 v2, u64 v3, u64 v4)
     v6 = v5;
     v7 = 0u;
     fill(v6, 0u, 776ull);
-    if (l8(v0 + 24ull) == 0x504F52544D414445ull) goto L3;
+    if (l8_8(v0 + 24ull) == 0x504F52544D414445ull) goto L3;
     v8 = 0xFFFFFFF6u;
     goto L2;
 L3:;
@@ -12951,9 +13165,9 @@ L3:;
 L5:;
     v7 = 1u;
 L4:;
-    f161(v6, l8(v0) + 8ull, v7, v2);
+    Controller_holders(v6, l8_8(v0) + 8ull, v7, v2);
     copy(v6 + 776ull, v6, 776ull);
-    v9 = l8(v6 + 1544);
+    v9 = l8_8(v6 + 1544);
     v0 = (v4 < v9) ? v4 : v9;
     if (v0 == 0) goto L6;
     v10 = v3 + ((v3 == 0) ? 4096ull : 0ull);
@@ -12970,11 +13184,11 @@ L8:;
     s1(v0 + 15ull, 0u);
     s1(v0 + 6ull, l1(v5 + 9ull));
     s1(v0 + 5ull, l1(v5 + 8ull));
-    s4(v0, l4(v5 + 4ull));
+    s4(v0, l4_4(v5 + 4ull));
     s1(v0 + 14ull, l1(v5 + 21ull));
     s1(v0 + 13ull, l1(v5 + 20ull));
     s1(v0 + 12ull, l1(v5 + 12ull));
-    s4(v0 + 8ull, l4(v5 + 16ull));
+    s4(v0 + 8ull, l4_4(v5 + 16ull));
     v0 = v0 + 16ull;
     v5 = v5 + 24ull;
     v4 = v4 + 2ull;
@@ -12987,7 +13201,7 @@ L7:;
     s1(v0 + 4, l1(v5));
     s1(v0 + 6, l1(v5 + 9ull));
     s1(v0 + 5, l1(v5 + 8ull));
-    s4(v0, l4(v5 + 4ull));
+    s4(v0, l4_4(v5 + 4ull));
 L6:;
     v8 = (u32)v9;
 L2:;
@@ -12998,23 +13212,24 @@ L2:;
 static u32 w_mscp_port_why_at(u64 v0, u32 v1, u32 v2, u64 v3, u64 v4)
 {
     u32 t0, t1;
-    t0 = f58();
+    t0 = rattle_enter();
     if (t0 == 0) goto L1;
-    f59();
+    rattle_trap();
     TRAP();
 L1:;
-    t1 = f162(v0, v1, v2, v3, v4);
+    t1 = export_mscp_port_why_at(v0, v1, v2, v3, v4);
     v2 = t1;
-    f61();
+    rattle_leave();
     return v2;
 }
 
-static u32 f163(u64 v0)
+/* mscp_c::mscp_port_write_ip, crates/mscp_c/src/port_registers.rt:27 */
+static u32 export_mscp_port_write_ip(u64 v0)
 {
     u32 v2 = 0;
     v2 = 0xFFFFFFF6u;
-    if (l8(v0 + 24ull) != 0x504F52544D414445ull) goto L2;
-    f110(l8(v0), 0u, 0u);
+    if (l8_8(v0 + 24ull) != 0x504F52544D414445ull) goto L2;
+    Port_forget_all(l8_8(v0), 0u, 0u);
     v2 = 1u;
 L2:;
     return v2;
@@ -13024,25 +13239,26 @@ L2:;
 static u32 w_mscp_port_write_ip(u64 v0)
 {
     u32 v1 = 0, t0, t1;
-    t0 = f58();
+    t0 = rattle_enter();
     if (t0 == 0) goto L1;
-    f59();
+    rattle_trap();
     TRAP();
 L1:;
-    t1 = f163(v0);
+    t1 = export_mscp_port_write_ip(v0);
     v1 = t1;
-    f61();
+    rattle_leave();
     return v1;
 }
 
-static u32 f164(u64 v0, u32 v1)
+/* mscp_c::mscp_port_write_sa, crates/mscp_c/src/port_registers.rt:54 */
+static u32 export_mscp_port_write_sa(u64 v0, u32 v1)
 {
     u32 v3 = 0;
     u64 v4 = 0;
     v3 = 0xFFFFFFF6u;
-    if (l8(v0 + 24ull) != 0x504F52544D414445ull) goto L2;
+    if (l8_8(v0 + 24ull) != 0x504F52544D414445ull) goto L2;
     v3 = 1u;
-    v0 = l8(v0);
+    v0 = l8_8(v0);
     v4 = v0 + 14234ull;
     switch ((u32)((u64)l1(v4))) {
     case 1: goto L7;
@@ -13061,7 +13277,7 @@ L6:;
     s4(v0 + 14234ull, 5u);
     return 1u;
 L8:;
-    f110(v0, 9u, 21u);
+    Port_forget_all(v0, 9u, 21u);
     return 1u;
 L5:;
     v3 = 1u;
@@ -13082,36 +13298,37 @@ L1:;
 static u32 w_mscp_port_write_sa(u64 v0, u32 v1)
 {
     u32 t0, t1;
-    t0 = f58();
+    t0 = rattle_enter();
     if (t0 == 0) goto L1;
-    f59();
+    rattle_trap();
     TRAP();
 L1:;
-    t1 = f164(v0, v1);
+    t1 = export_mscp_port_write_sa(v0, v1);
     v1 = t1;
-    f61();
+    rattle_leave();
     return v1;
 }
 
-static u32 f165(u64 v0)
+/* mscp_c::mscp_reset, crates/mscp_c/src/making.rt:97 */
+static u32 export_mscp_reset(u64 v0)
 {
     u32 v1 = 0;
     u64 v2 = 0, v3 = 0, v4 = 0, v5 = 0;
     v1 = 0xFFFFFFF6u;
-    if (l8(v0 + 24ull) != 0x4D5343504D414445ull) goto L2;
-    v2 = l8(v0);
-    v0 = l8(v2 + 3952ull);
+    if (l8_8(v0 + 24ull) != 0x4D5343504D414445ull) goto L2;
+    v2 = l8_8(v0);
+    v0 = l8_8(v2 + 3952ull);
     v1 = v0 == 0;
     if (v1) goto L3;
     if (v1) goto L4;
     fill(v2 + 3888ull, 0u, v0);
 L4:;
-    s8(v2 + 3952ull, 0ull);
+    s8_8(v2 + 3952ull, 0ull);
 L3:;
     fill(v2 + 3960ull, 0u, 664ull);
     v3 = 0ull;
-    s8(v2 + 4640ull, 0ull);
-    v0 = l8(v2 + 6744ull);
+    s8_8(v2 + 4640ull, 0ull);
+    v0 = l8_8(v2 + 6744ull);
     if (v0 == 0) goto L5;
     if (v0 == 1ull) goto L7;
     v4 = v0 & 1ull;
@@ -13132,10 +13349,10 @@ L7:;
     s8(v0 + 8, 0ull);
     s8(v0, 0x300000000000000ull);
 L6:;
-    s8(v2 + 6744ull, 0ull);
+    s8_8(v2 + 6744ull, 0ull);
 L5:;
     fill(v2 + 6752ull, 0u, 256ull);
-    v0 = l8(v2 + 5672ull);
+    v0 = l8_8(v2 + 5672ull);
     if (v0 == 0) goto L9;
     v3 = v0 & 3ull;
     v5 = 0ull;
@@ -13179,24 +13396,24 @@ L9:;
     s8(v2 + 5696ull, 0ull);
     s8(v2 + 5688ull, 0ull);
     s8(v2 + 5680ull, 0ull);
-    s4(v2 + 8048ull, 0u);
-    v0 = l8(v2 + 11128ull);
+    s4_4(v2 + 8048ull, 0u);
+    v0 = l8_8(v2 + 11128ull);
     if (v0 == 0) goto L13;
     v0 = v0 * 48ull;
     if (v0 == 0) goto L14;
     fill(v2 + 8056ull, 0u, v0);
 L14:;
-    s8(v2 + 11128ull, 0ull);
+    s8_8(v2 + 11128ull, 0ull);
 L13:;
-    s4(v2 + 11136ull, 0u);
+    s4_4(v2 + 11136ull, 0u);
     v1 = 1u;
-    v0 = l8(v2 + 14216ull);
+    v0 = l8_8(v2 + 14216ull);
     if (v0 == 0) goto L2;
     v0 = v0 * 48ull;
     if (v0 == 0) goto L15;
     fill(v2 + 11144ull, 0u, v0);
 L15:;
-    s8(v2 + 14216ull, 0ull);
+    s8_8(v2 + 14216ull, 0ull);
 L2:;
     return v1;
     TRAP();
@@ -13205,18 +13422,19 @@ L2:;
 static u32 w_mscp_reset(u64 v0)
 {
     u32 v1 = 0, t0, t1;
-    t0 = f58();
+    t0 = rattle_enter();
     if (t0 == 0) goto L1;
-    f59();
+    rattle_trap();
     TRAP();
 L1:;
-    t1 = f165(v0);
+    t1 = export_mscp_reset(v0);
     v1 = t1;
-    f61();
+    rattle_leave();
     return v1;
 }
 
-APART void f166(u64 v0, u64 v1, u32 v2)
+/* mscp_c::controller_saving::make_new, crates/mscp_c/src/controller_saving.rt:68 */
+APART void controller_saving_make_new(u64 v0, u64 v1, u32 v2)
 {
     ROOM(frame, 19360);
     u32 v5 = 0, v6 = 0, v7 = 0, v8 = 0;
@@ -13230,20 +13448,20 @@ APART void f166(u64 v0, u64 v1, u32 v2)
     fill(v4 + 5224ull, 0u, 1032ull);
     fill(v4 + 3929ull, 0u, 1295ull);
     fill(v4 + 3144ull, 0u, 784ull);
-    f92(v4 + 3144ull, v4 + 6288ull, l8(v4 + 7056));
+    Units_new(v4 + 3144ull, v4 + 6288ull, l8_8(v4 + 7056));
     if (l1(v4 + 3144)) goto L1;
-    v5 = l4(v4 + 6268);
-    v6 = l4(v4 + 6264);
-    v7 = l4(v4 + 6260);
-    v8 = l4(v4 + 6256);
+    v5 = l4_4(v4 + 6268);
+    v6 = l4_4(v4 + 6264);
+    v7 = l4_4(v4 + 6260);
+    v8 = l4_4(v4 + 6256);
     copy(v4 + 9384ull, v4 + 3152ull, 776ull);
     fill(v4 + 10161ull, 0u, 1295ull);
     fill(v4 + 7064ull, 0u, 1288ull);
-    v3 = l8(v4 + 10152);
+    v3 = l8_8(v4 + 10152);
     fill(v4 + 11456ull, 0u, 1032ull);
-    f94(v4 + 11456ull);
+    ArrayVec_new(v4 + 11456ull);
     if (v3 == 0) goto L2;
-    v9 = l8(v4 + 12480);
+    v9 = l8_8(v4 + 12480);
     if (v3 != 1ull) goto L4;
     v10 = 0ull;
     goto L3;
@@ -13254,29 +13472,29 @@ L4:;
     v1 = v4 + 9384ull;
     v10 = 0ull;
 L5:;
-    s8(v3 + 40, l8(v1 + 40));
-    s8(v3 + 32, l8(v1 + 32));
-    s8(v3 + 24, l8(v1 + 24));
-    s8(v3 + 16, l8(v1 + 16));
-    s8(v3 + 8, l8(v1 + 8));
-    s8(v3, l8(v1));
+    s8_8(v3 + 40, l8_8(v1 + 40));
+    s8_8(v3 + 32, l8_8(v1 + 32));
+    s8_8(v3 + 24, l8_8(v1 + 24));
+    s8_8(v3 + 16, l8_8(v1 + 16));
+    s8_8(v3 + 8, l8_8(v1 + 8));
+    s8_8(v3, l8_8(v1));
     s4(v3 + 57ull, 0u);
     s1(v3 + 56ull, 1u);
-    s8(v3 + 48ull, 0ull);
+    s8_8(v3 + 48ull, 0ull);
     s4(v3 + 60ull, 0u);
     v13 = v9 + v10;
-    s8(v4 + 12480, v13 + 1ull);
+    s8_8(v4 + 12480, v13 + 1ull);
     s4(v3 + 121ull, 0u);
     s1(v3 + 120ull, 1u);
-    s8(v3 + 112ull, 0ull);
+    s8_8(v3 + 112ull, 0ull);
     s4(v3 + 124ull, 0u);
-    s8(v3 + 104ull, l8(v1 + 88ull));
-    s8(v3 + 96ull, l8(v1 + 80ull));
-    s8(v3 + 88ull, l8(v1 + 72ull));
-    s8(v3 + 80ull, l8(v1 + 64ull));
-    s8(v3 + 72ull, l8(v1 + 56ull));
-    s8(v3 + 64ull, l8(v1 + 48ull));
-    s8(v4 + 12480, v13 + 2ull);
+    s8_8(v3 + 104ull, l8_8(v1 + 88ull));
+    s8_8(v3 + 96ull, l8_8(v1 + 80ull));
+    s8_8(v3 + 88ull, l8_8(v1 + 72ull));
+    s8_8(v3 + 80ull, l8_8(v1 + 64ull));
+    s8_8(v3 + 72ull, l8_8(v1 + 56ull));
+    s8_8(v3 + 64ull, l8_8(v1 + 48ull));
+    s8_8(v4 + 12480, v13 + 2ull);
     v1 = v1 + 96ull;
     v3 = v3 + 128ull;
     v10 = v10 + 2ull;
@@ -13286,17 +13504,17 @@ L5:;
 L3:;
     v3 = (v4 + 11456ull) + (v9 << 6);
     v1 = (v4 + 9384ull) + (v10 * 48ull);
-    s8(v3 + 40, l8(v1 + 40));
-    s8(v3 + 32, l8(v1 + 32));
-    s8(v3 + 24, l8(v1 + 24));
-    s8(v3 + 16, l8(v1 + 16));
-    s8(v3 + 8, l8(v1 + 8));
-    s8(v3, l8(v1));
+    s8_8(v3 + 40, l8_8(v1 + 40));
+    s8_8(v3 + 32, l8_8(v1 + 32));
+    s8_8(v3 + 24, l8_8(v1 + 24));
+    s8_8(v3 + 16, l8_8(v1 + 16));
+    s8_8(v3 + 8, l8_8(v1 + 8));
+    s8_8(v3, l8_8(v1));
     s4(v3 + 57, 0u);
     s1(v3 + 56, 1u);
-    s8(v3 + 48, 0ull);
+    s8_8(v3 + 48, 0ull);
     s4(v3 + 60, 0u);
-    s8(v4 + 12480, v9 + 1ull);
+    s8_8(v4 + 12480, v9 + 1ull);
 L2:;
     copy(v4 + 8352ull, v4 + 11456ull, 1032ull);
     fill(v4 + 11456ull, 0u, 2048ull);
@@ -13305,21 +13523,21 @@ L6:;
     v3 = (v4 + 11456ull) + v1;
     s8(v3 + 2057ull, 0ull);
     s1(v3 + 2056ull, 5u);
-    s8(v3 + 2048ull, 0ull);
+    s8_4(v3 + 2048ull, 0ull);
     s8(v3 + 2065ull, 0ull);
     s8(v3 + 2072ull, 0ull);
     s8(v3 + 2089ull, 0ull);
     s1(v3 + 2088ull, 5u);
-    s8(v3 + 2080ull, 0ull);
+    s8_4(v3 + 2080ull, 0ull);
     s8(v3 + 2097ull, 0ull);
     s8(v3 + 2104ull, 0ull);
     s8(v3 + 2121ull, 0ull);
     s1(v3 + 2120ull, 5u);
-    s8(v3 + 2112ull, 0ull);
+    s8_4(v3 + 2112ull, 0ull);
     s8(v3 + 2129ull, 0ull);
     s8(v3 + 2136ull, 0ull);
     s1(v3 + 2152ull, 5u);
-    s8(v3 + 2144ull, 0ull);
+    s8_4(v3 + 2144ull, 0ull);
     s8(v3 + 2168ull, 0ull);
     s8(v3 + 2161ull, 0ull);
     s8(v3 + 2153ull, 0ull);
@@ -13331,10 +13549,10 @@ L6:;
     v1 = 0xFFFFFFFFFFFFFC00ull;
 L7:;
     v3 = (v4 + 17312ull) + v1;
-    s8(v3 + 1048ull, 0ull);
-    s8(v3 + 1040ull, 0x300000000000000ull);
-    s8(v3 + 1032ull, 0ull);
-    s8(v3 + 1024ull, 0x300000000000000ull);
+    s8_8(v3 + 1048ull, 0ull);
+    s8_8(v3 + 1040ull, 0x300000000000000ull);
+    s8_8(v3 + 1032ull, 0ull);
+    s8_8(v3 + 1024ull, 0x300000000000000ull);
     v1 = v1 + 32ull;
     if (v1 != 0ull) goto L7;
     copy(v4 + 11456ull, v4 + 17312ull, 1024ull);
@@ -13344,10 +13562,10 @@ L7:;
     v1 = 0xFFFFFFFFFFFFFC00ull;
 L8:;
     v3 = (v4 + 18336ull) + v1;
-    s8(v3 + 1048ull, 0ull);
-    s8(v3 + 1040ull, 0x300000000000000ull);
-    s8(v3 + 1032ull, 0ull);
-    s8(v3 + 1024ull, 0x300000000000000ull);
+    s8_8(v3 + 1048ull, 0ull);
+    s8_8(v3 + 1040ull, 0x300000000000000ull);
+    s8_8(v3 + 1032ull, 0ull);
+    s8_8(v3 + 1024ull, 0x300000000000000ull);
     v1 = v1 + 32ull;
     if (v1 != 0ull) goto L8;
     copy(v4 + 10168ull, v4 + 7064ull, 1288ull);
@@ -13356,7 +13574,7 @@ L8:;
     copy(v4 + 2336ull, v4 + 6256ull, 808ull);
     copy(v4 + 1304ull, v4 + 5224ull, 1032ull);
     copy(v4 + 9ull, v4 + 3929ull, 1295ull);
-    v3 = l8(v0);
+    v3 = l8_8(v0);
     copy(v3, v4 + 2336ull, 808ull);
     s4(v3 + 812, v5);
     s4(v3 + 808, (v7 - (u32)(v7 != 0u)) + (v8 - (u32)(v8 != 0u)));
@@ -13375,26 +13593,27 @@ L8:;
     s8(v3 + 7008, 0ull);
     copy(v3 + 7016ull, v4 + 18336ull, 1024ull);
     fill(v3 + 8040ull, 0u, 6184ull);
-    s8(v0 + 24ull, 0x4D5343504D414445ull);
+    s8_8(v0 + 24ull, 0x4D5343504D414445ull);
     return;
 L1:;
     TRAP();
 }
 
-APART u32 f167(u64 v0, u64 v1, u64 v2)
+/* mscp_c::mscp_restore_at, crates/mscp_c/src/controller_saving.rt:78 */
+APART u32 export_mscp_restore_at(u64 v0, u64 v1, u64 v2)
 {
     ROOM(frame, 816);
     u32 v5 = 0, v6 = 0;
     u64 v3 = 0, v4 = 0;
     v3 = A(frame);
     fill(v3 + 8ull, 0u, 808ull);
-    v4 = l8(v0 + 24ull);
+    v4 = l8_8(v0 + 24ull);
     if (v4 != 0x4D5343504D414445ull) goto L4;
     v5 = 0xFFFFFFF5u;
     goto L1;
 L4:;
     if (v4 != 0x4D534350524F4F4Dull) goto L2;
-    v4 = l8(v0 + 8ull);
+    v4 = l8_8(v0 + 8ull);
     if ((u32)(v4 == 0) == 0) goto L5;
     v5 = 0xFFFFFFF3u;
     goto L1;
@@ -13403,7 +13622,7 @@ L5:;
     v5 = 0xFFFFFFF2u;
     goto L1;
 L6:;
-    if (l8(v0 + 16ull) >= 14224ull) goto L7;
+    if (l8_8(v0 + 16ull) >= 14224ull) goto L7;
     v5 = 0xFFFFFFF1u;
     goto L1;
 L7:;
@@ -13414,15 +13633,15 @@ L7:;
 L9:;
     v6 = 0u;
 L8:;
-    f123(v3, v4, v2, v6);
+    restoring_restore_fault(v3, v4, v2, v6);
     v5 = 1u;
     if (l1(v3) != 1u) goto L10;
     v5 = 0xFFFFFFD8u - (l1(v3 + 1) & 255u);
     goto L1;
 L10:;
-    f129(v3 + 8ull, v4);
-    f166(v0, v3 + 8ull, v6);
-    f133(l8(v0), v4, v2);
+    restoring_saved_settings(v3 + 8ull, v4);
+    controller_saving_make_new(v0, v3 + 8ull, v6);
+    restoring_resume(l8_8(v0), v4, v2);
     goto L1;
     TRAP();
 L2:;
@@ -13434,18 +13653,19 @@ L1:;
 static u32 w_mscp_restore_at(u64 v0, u64 v1, u64 v2)
 {
     u32 v3 = 0, t0, t1;
-    t0 = f58();
+    t0 = rattle_enter();
     if (t0 == 0) goto L1;
-    f59();
+    rattle_trap();
     TRAP();
 L1:;
-    t1 = f167(v0, v1, v2);
+    t1 = export_mscp_restore_at(v0, v1, v2);
     v3 = t1;
-    f61();
+    rattle_leave();
     return v3;
 }
 
-static void f168(u64 v0, u64 v1)
+/* mscp_reader::lines::Lines::cut, crates/mscp_reader/src/lines.rt:162 */
+static void Lines_cut(u64 v0, u64 v1)
 {
     u32 v13 = 0, v14 = 0, v15 = 0, v16 = 0, v17 = 0, v18 = 0, v19 = 0, v20 = 0, v21 = 0, v22 = 0, v23 = 0, v24 = 0, v25
         = 0, v26 = 0, v27 = 0, v28 = 0, v29 = 0, v30 = 0, v31 = 0, v32 = 0, v33 = 0, v34 = 0, v35 = 0, v36 = 0, v37 =
@@ -14140,7 +14360,7 @@ L4:;
 L3:;
     s8(v1, (v3 + v4) + ((u64)(u32)(v2 != v4)));
     v11 = v1 + 16ull;
-    s4(v11, l4(v11) + 1u);
+    s4_4(v11, l4_4(v11) + 1u);
     v11 = v2 - v4;
     s8(v1 + 8, v11 - ((u64)(u32)(v11 != 0ull)));
     if (v4 == 0) goto L34;
@@ -14156,31 +14376,32 @@ L33:;
     TRAP();
 }
 
-static void f169(u64 v0, u64 v1)
+/* mscp_reader::lines::Lines::header_line, crates/mscp_reader/src/lines.rt:50 */
+static void Lines_header_line(u64 v0, u64 v1)
 {
     ROOM(frame, 32);
     u32 v4 = 0, v5 = 0;
     u64 v2 = 0, v3 = 0, v6 = 0, v7 = 0, v8 = 0, v9 = 0, v10 = 0;
     v2 = A(frame);
     v3 = v2;
-    s8(v3 + 24, 0ull);
-    s8(v3 + 16, 0ull);
-    s8(v3 + 8, 0ull);
-    f168(v3 + 8ull, v1);
+    s8_8(v3 + 24, 0ull);
+    s8_8(v3 + 16, 0ull);
+    s8_8(v3 + 8, 0ull);
+    Lines_cut(v3 + 8ull, v1);
     if (l1(v3 + 8) != 1u) goto L5;
 L6:;
-    v4 = l4(v1 + 16ull);
+    v4 = l4_4(v1 + 16ull);
     if (v4 <= 1000000u) goto L7;
     v5 = 1u;
     goto L2;
 L7:;
-    v6 = l8(v3 + 24);
+    v6 = l8_8(v3 + 24);
     if (v6 <= 200ull) goto L8;
     v5 = 2u;
     goto L2;
 L8:;
     if (v6 == 0) goto L9;
-    v7 = l8(v3 + 16);
+    v7 = l8_8(v3 + 16);
     if (l1(v7) == 35u) goto L9;
     v8 = v6 & 3ull;
     if (v6 >= 4ull) goto L12;
@@ -14216,10 +14437,10 @@ L16:;
     v2 = v2 + 1ull;
     if (v6 != v2) goto L16;
 L9:;
-    f168(v3 + 8ull, v1);
+    Lines_cut(v3 + 8ull, v1);
     if (l1(v3 + 8) == 1u) goto L6;
 L5:;
-    v5 = l4(v1 + 16ull);
+    v5 = l4_4(v1 + 16ull);
     s8(v0 + 12ull, 0ull);
     s4(v0 + 8ull, 11u);
     s4(v0, 1u);
@@ -14246,24 +14467,25 @@ L1:;
     return;
 }
 
-static void f170(u64 v0, u64 v1, u64 v2, u32 v3)
+/* mscp_reader::header::read_setting, crates/mscp_reader/src/header.rt:96 */
+static void header_read_setting(u64 v0, u64 v1, u64 v2, u32 v3)
 {
     ROOM(frame, 32);
     u32 v8 = 0, t0;
     u64 v4 = 0, v5 = 0, v6 = 0, v7 = 0, v9 = 0, v10 = 0, v11 = 0;
     v4 = A(frame);
     v5 = v4;
-    s8(v5 + 24, 0ull);
-    s8(v5 + 16, 0ull);
-    s8(v5 + 8, 0ull);
-    s8(v5, 0ull);
-    f169(v5, v1);
-    v6 = l8(v5 + 4);
+    s8_8(v5 + 24, 0ull);
+    s8_8(v5 + 16, 0ull);
+    s8_8(v5 + 8, 0ull);
+    s8_8(v5, 0ull);
+    Lines_header_line(v5, v1);
+    v6 = l8_4(v5 + 4);
     if (l1(v5)) goto L3;
     v7 = 17179869184ull;
-    v1 = l8(v5 + 24);
+    v1 = l8_8(v5 + 24);
     if (v1 == 0) goto L5;
-    v4 = l8(v5 + 16);
+    v4 = l8_8(v5 + 16);
 L7:;
     v8 = l1(v4);
     if (v8 == 32u) goto L8;
@@ -14293,7 +14515,7 @@ L9:;
     if ((l1(v4 + 1ull) & 255u) != (l1(v2 + 1ull) & 255u)) goto L5;
     if ((l1(v4 + 2ull) & 255u) != (l1(v2 + 2ull) & 255u)) goto L5;
     if ((l1(v4 + 3ull) & 255u) != (l1(v2 + 3ull) & 255u)) goto L5;
-    t0 = f85(v4, 7ull, v2);
+    t0 = slices_groups_equal(v4, 7ull, v2);
     if (t0 == 0) goto L5;
     v7 = 21474836480ull;
     v9 = v1 - v10;
@@ -14357,7 +14579,8 @@ L1:;
     return;
 }
 
-static void f171(u64 v0, u64 v1, u64 v2)
+/* mscp_reader::words::Words::four, crates/mscp_reader/src/words.rt:82 */
+static void Words_four(u64 v0, u64 v1, u64 v2)
 {
     u64 v3 = 0, v4 = 0, v5 = 0, v6 = 0, v7 = 0, v8 = 0, v9 = 0, v10 = 0, v11 = 0, v12 = 0, v13 = 0;
     if (v2 == 0) goto L2;
@@ -14507,7 +14730,8 @@ L2:;
     TRAP();
 }
 
-static void f172(u64 v0, u64 v1, u64 v2)
+/* mscp_reader::numbers::narrow, crates/mscp_reader/src/numbers.rt:45 */
+static void numbers_narrow(u64 v0, u64 v1, u64 v2)
 {
     u32 v4 = 0;
     u64 v3 = 0;
@@ -14530,7 +14754,8 @@ L2:;
     TRAP();
 }
 
-static void f173(u64 v0, u64 v1, u64 v2)
+/* mscp_reader::numbers::wide, crates/mscp_reader/src/numbers.rt:38 */
+static void numbers_wide(u64 v0, u64 v1, u64 v2)
 {
     u32 v3 = 0, v4 = 0, v5 = 0, v7 = 0;
     u64 v6 = 0;
@@ -14558,7 +14783,8 @@ L2:;
     TRAP();
 }
 
-static void f174(u64 v0, u32 v1, u32 v2, u32 v3, u32 v4, u32 v5)
+/* mscp_reader::header::unit_with, crates/mscp_reader/src/header.rt:309 */
+static void header_unit_with(u64 v0, u32 v1, u32 v2, u32 v3, u32 v4, u32 v5)
 {
     ROOM(frame, 16);
     u32 v7 = 0, v9 = 0, v10 = 0, v11 = 0, v12 = 0, v13 = 0, v14 = 0, v15 = 0, v17 = 0;
@@ -14581,11 +14807,11 @@ static void f174(u64 v0, u32 v1, u32 v2, u32 v3, u32 v4, u32 v5)
     if (v5 == 0) goto L1;
     v16 = div64(0xFFFFFFFFFFFFFFFFull, ((((u64)v3) & 65535ull) * (((u64)v2) & 65535ull)) * (((u64)v4) & 65535ull));
     v8 = v16 + 1ull;
-    f69(v6, v8, (u64)(u32)(v8 == 0), (u64)(v5 + 0xFFFFFFFFu), 0ull);
+    multi3(v6, v8, (u64)(u32)(v8 == 0), (u64)(v5 + 0xFFFFFFFFu), 0ull);
     v15 = (v1 & 65535u) + 1u;
     v8 = (((u64)v1) & 65535ull) + 1ull;
     v9 = 0u;
-    v17 = l4(v6 + 8);
+    v17 = l4_4(v6 + 8);
     v10 = v1;
     v11 = v2;
     v12 = v3;
@@ -14621,28 +14847,29 @@ L1:;
     return;
 }
 
-static void f175(u64 v0, u64 v1, u64 v2, u64 v3)
+/* mscp_reader::header::add_unit, crates/mscp_reader/src/header.rt:265 */
+static void header_add_unit(u64 v0, u64 v1, u64 v2, u64 v3)
 {
     ROOM(frame, 192);
     u32 v6 = 0, v9 = 0, v17 = 0, v18 = 0;
     u64 v4 = 0, v5 = 0, v7 = 0, v8 = 0, v10 = 0, v11 = 0, v12 = 0, v13 = 0, v14 = 0, v15 = 0, v16 = 0;
     v4 = A(frame);
     v5 = v4;
-    s8(v5 + 38, 0ull);
-    s8(v5 + 32, 0ull);
-    s8(v5 + 24, 0ull);
-    s8(v5 + 16, 0ull);
-    s8(v5 + 8, 0ull);
-    s8(v5, 0ull);
-    s8(v5 + 64, 0ull);
-    s8(v5 + 72, 0ull);
-    s8(v5 + 80, 0ull);
-    s8(v5 + 88, 0ull);
-    s8(v5 + 96, 0ull);
-    s8(v5 + 104, 0ull);
-    s8(v5 + 112, 0ull);
-    s4(v5 + 60, 0u);
-    s8(v5 + 48, 0ull);
+    s8_2(v5 + 38, 0ull);
+    s8_8(v5 + 32, 0ull);
+    s8_8(v5 + 24, 0ull);
+    s8_8(v5 + 16, 0ull);
+    s8_8(v5 + 8, 0ull);
+    s8_8(v5, 0ull);
+    s8_8(v5 + 64, 0ull);
+    s8_8(v5 + 72, 0ull);
+    s8_8(v5 + 80, 0ull);
+    s8_8(v5 + 88, 0ull);
+    s8_8(v5 + 96, 0ull);
+    s8_8(v5 + 104, 0ull);
+    s8_8(v5 + 112, 0ull);
+    s4_4(v5 + 60, 0u);
+    s8_8(v5 + 48, 0ull);
     fill(v5 + 120ull, 0u, 72ull);
     v6 = 5u;
     if (v3 == 0) goto L5;
@@ -14669,7 +14896,7 @@ L11:;
 L10:;
     v4 = v8 + 0xFFFFFFFFFFFFFFFFull;
 L9:;
-    f171(v5 + 120ull, v2 + v4, v3 - v4);
+    Words_four(v5 + 120ull, v2 + v4, v3 - v4);
     if (l1(v5 + 120) == 0) goto L13;
     v6 = l1(v5 + 121);
     v9 = 1u;
@@ -14677,14 +14904,14 @@ L9:;
 L13:;
     v6 = 6u;
     if (v4 > 10ull) goto L5;
-    v10 = l8(v5 + 184);
-    v11 = l8(v5 + 176);
-    v12 = l8(v5 + 168);
-    v13 = l8(v5 + 160);
-    v14 = l8(v5 + 152);
-    v15 = l8(v5 + 144);
-    v16 = l8(v5 + 136);
-    v8 = l8(v5 + 128);
+    v10 = l8_8(v5 + 184);
+    v11 = l8_8(v5 + 176);
+    v12 = l8_8(v5 + 168);
+    v13 = l8_8(v5 + 160);
+    v14 = l8_8(v5 + 152);
+    v15 = l8_8(v5 + 144);
+    v16 = l8_8(v5 + 136);
+    v8 = l8_8(v5 + 128);
     v7 = 0ull;
     v3 = 0ull;
 L14:;
@@ -14716,51 +14943,51 @@ L16:;
     v14 = v14 + 0xFFFFFFFFFFFFFFFFull;
     if (v14 != 0ull) goto L16;
     if (v2 > 65535ull) goto L5;
-    f172(v5 + 60ull, v13, v12);
+    numbers_narrow(v5 + 60ull, v13, v12);
     if (l1(v5 + 60)) goto L2;
-    v6 = l2(v5 + 62);
-    f173(v5 + 48ull, v11, v10);
+    v6 = l2_2(v5 + 62);
+    numbers_wide(v5 + 48ull, v11, v10);
     if (l1(v5 + 48) == 0) goto L4;
     v6 = l1(v5 + 49);
 L5:;
     v9 = 1u;
     goto L1;
 L4:;
-    f174(v5 + 64ull, v17, v18, (u32)v2, v6, l4(v5 + 52));
-    s8(v5, l8(v5 + 74));
-    s8(v5 + 8, l8(v5 + 82));
-    s8(v5 + 16, l8(v5 + 90));
-    s8(v5 + 24, l8(v5 + 98));
-    s8(v5 + 32, l8(v5 + 106));
-    s8(v5 + 38, l8(v5 + 112));
+    header_unit_with(v5 + 64ull, v17, v18, (u32)v2, v6, l4_4(v5 + 52));
+    s8_8(v5, l8_2(v5 + 74));
+    s8_8(v5 + 8, l8_2(v5 + 82));
+    s8_8(v5 + 16, l8_2(v5 + 90));
+    s8_8(v5 + 24, l8_2(v5 + 98));
+    s8_8(v5 + 32, l8_2(v5 + 106));
+    s8_2(v5 + 38, l8_2(v5 + 112));
     v9 = 1u;
     if (l1(v5 + 64) == 0) goto L17;
     v6 = l1(v5 + 65);
     goto L1;
 L17:;
     v6 = 9u;
-    v4 = l8(v1 + 768ull);
+    v4 = l8_8(v1 + 768ull);
     if (v4 > 15ull) goto L1;
-    v18 = l2(v5 + 72);
+    v18 = l2_2(v5 + 72);
     v3 = v4 + 1ull;
     v2 = v1;
 L19:;
     v3 = v3 + 0xFFFFFFFFFFFFFFFFull;
     if (v3 == 0) goto L18;
-    v17 = l2(v2);
+    v17 = l2_2(v2);
     v2 = v2 + 48ull;
     if (v17 < (v18 & 65535u)) goto L19;
     goto L1;
 L18:;
     v2 = v1 + (v4 * 48ull);
-    s8(v2 + 2, l8(v5));
+    s8(v2 + 2, l8_8(v5));
     s2(v2, v18);
-    s8(v2 + 10, l8(v5 + 8));
-    s8(v2 + 18, l8(v5 + 16));
-    s8(v2 + 26, l8(v5 + 24));
-    s8(v2 + 34, l8(v5 + 32));
-    s8(v2 + 40, l8(v5 + 38));
-    s8(v1 + 768ull, v4 + 1ull);
+    s8(v2 + 10, l8_8(v5 + 8));
+    s8(v2 + 18, l8_8(v5 + 16));
+    s8(v2 + 26, l8_8(v5 + 24));
+    s8(v2 + 34, l8_8(v5 + 32));
+    s8(v2 + 40, l8_2(v5 + 38));
+    s8_8(v1 + 768ull, v4 + 1ull);
     v6 = 0u;
     v9 = 0u;
     goto L1;
@@ -14774,20 +15001,21 @@ L1:;
     return;
 }
 
-static void f176(u64 v0, u64 v1, u64 v2)
+/* mscp_packet::decoding::decode, crates/mscp_packet/src/decoding.rt:15 */
+static void decoding_decode(u64 v0, u64 v1, u64 v2)
 {
     ROOM(frame, 144);
     u32 v4 = 0, v5 = 0, v8 = 0, v12 = 0;
     u64 v3 = 0, v6 = 0, v7 = 0, v9 = 0, v10 = 0, v11 = 0;
     v3 = A(frame);
-    s8(v3 + 136, 0ull);
-    s8(v3 + 128, 0ull);
-    s8(v3 + 120, 0ull);
-    s8(v3 + 112, 0ull);
-    s8(v3 + 104, 0ull);
-    s8(v3 + 96, 0ull);
-    s8(v3 + 88, 0ull);
-    s8(v3 + 80, 0ull);
+    s8_8(v3 + 136, 0ull);
+    s8_8(v3 + 128, 0ull);
+    s8_8(v3 + 120, 0ull);
+    s8_8(v3 + 112, 0ull);
+    s8_8(v3 + 104, 0ull);
+    s8_8(v3 + 96, 0ull);
+    s8_8(v3 + 88, 0ull);
+    s8_8(v3 + 80, 0ull);
     v4 = 1u;
     v5 = 0u;
     v6 = 0ull;
@@ -14852,15 +15080,15 @@ L8:;
 L19:;
     s8(v0, 0ull);
     s8(v0 + 72ull, v7);
-    s8(v0 + 16ull, l8(v3 + 16));
-    s8(v0 + 8ull, l8(v3 + 8));
-    s8(v0 + 24ull, l8(v3 + 24));
-    s8(v0 + 32ull, l8(v3 + 32));
-    s8(v0 + 40ull, l8(v3 + 40));
-    s8(v0 + 48ull, l8(v3 + 48));
-    s8(v0 + 56ull, l8(v3 + 56));
-    s8(v0 + 64ull, l8(v3 + 64));
-    s8(v3 + 72, v7);
+    s8(v0 + 16ull, l8_8(v3 + 16));
+    s8(v0 + 8ull, l8_8(v3 + 8));
+    s8(v0 + 24ull, l8_8(v3 + 24));
+    s8(v0 + 32ull, l8_8(v3 + 32));
+    s8(v0 + 40ull, l8_8(v3 + 40));
+    s8(v0 + 48ull, l8_8(v3 + 48));
+    s8(v0 + 56ull, l8_8(v3 + 56));
+    s8(v0 + 64ull, l8_8(v3 + 64));
+    s8_8(v3 + 72, v7);
     goto L2;
 L7:;
     v6 = v6 + 1ull;
@@ -14891,7 +15119,8 @@ L1:;
     TRAP();
 }
 
-static void f177(u64 v0, u32 v1, u64 v2, u64 v3, u64 v4)
+/* mscp_reader::events::read_fields, crates/mscp_reader/src/events.rt:186 */
+static void events_read_fields(u64 v0, u32 v1, u64 v2, u64 v3, u64 v4)
 {
     ROOM(frame, 96);
     u32 v7 = 0, v8 = 0, v10 = 0, v11 = 0, v18 = 0, v19 = 0, v20 = 0, v21 = 0, v22 = 0;
@@ -14915,21 +15144,21 @@ L29:;
     v8 = 0u;
     fill(v6 + 16ull, 0u, 72ull);
     v9 = 0ull;
-    s8(v6 + 8, 0ull);
-    f171(v6 + 16ull, v3, v4);
+    s8_8(v6 + 8, 0ull);
+    Words_four(v6 + 16ull, v3, v4);
     if (l1(v6 + 16)) goto L18;
     v8 = 0u;
     v10 = 6u;
     v11 = 1u;
-    v4 = l8(v6 + 32);
+    v4 = l8_8(v6 + 32);
     if ((v4 + 0xFFFFFFFFFFFFFFF5ull) < 0xFFFFFFFFFFFFFFF6ull) goto L4;
-    v12 = l8(v6 + 80);
-    v13 = l8(v6 + 72);
-    v14 = l8(v6 + 64);
-    v15 = l8(v6 + 56);
-    v16 = l8(v6 + 48);
-    v17 = l8(v6 + 40);
-    v3 = l8(v6 + 24);
+    v12 = l8_8(v6 + 80);
+    v13 = l8_8(v6 + 72);
+    v14 = l8_8(v6 + 64);
+    v15 = l8_8(v6 + 56);
+    v16 = l8_8(v6 + 48);
+    v17 = l8_8(v6 + 40);
+    v3 = l8_8(v6 + 24);
     v9 = 0ull;
     v2 = 0ull;
 L30:;
@@ -14970,9 +15199,9 @@ L33:;
     if (v14 != 0ull) goto L33;
     v8 = 0u;
     if (v4 > 4294967295ull) goto L31;
-    f173(v6 + 8ull, v13, v12);
+    numbers_wide(v6 + 8ull, v13, v12);
     if (l1(v6 + 8)) goto L34;
-    v5 = (((u64)l4(v6 + 12)) << 32) | v4;
+    v5 = (((u64)l4_4(v6 + 12)) << 32) | v4;
     v20 = 7u;
     v11 = 0u;
     v10 = 0u;
@@ -15367,7 +15596,7 @@ L106:;
     v10 = 7u;
     goto L9;
 L108:;
-    f176(v6 + 16ull, v3, v5);
+    decoding_decode(v6 + 16ull, v3, v5);
     if (l1(v6 + 16) == 0) goto L109;
     v10 = 7u;
     goto L9;
@@ -15640,7 +15869,8 @@ L1:;
     return;
 }
 
-static void f178(u64 v0, u64 v1, u64 v2)
+/* mscp_reader::events::read_request, crates/mscp_reader/src/events.rt:81 */
+static void events_read_request(u64 v0, u64 v1, u64 v2)
 {
     ROOM(frame, 96);
     u32 v5 = 0, v8 = 0, v9 = 0, v10 = 0, v11 = 0, v13 = 0, v15 = 0, v16 = 0, t0, t1, t2, t3, t4, t5, t6, t7, t8, t9,
@@ -15648,12 +15878,12 @@ static void f178(u64 v0, u64 v1, u64 v2)
     u64 v3 = 0, v4 = 0, v6 = 0, v7 = 0, v12 = 0, v14 = 0;
     v3 = A(frame);
     v4 = v3;
-    s8(v4 + 40, 0ull);
-    s8(v4 + 32, 0ull);
-    s8(v4, 0ull);
-    s8(v4 + 8, 0ull);
-    s8(v4 + 16, 0ull);
-    s8(v4 + 24, 0ull);
+    s8_8(v4 + 40, 0ull);
+    s8_8(v4 + 32, 0ull);
+    s8_8(v4, 0ull);
+    s8_8(v4 + 8, 0ull);
+    s8_8(v4 + 16, 0ull);
+    s8_8(v4 + 24, 0ull);
     if (v2 == 0) goto L18;
 L19:;
     v5 = l1(v1);
@@ -15702,7 +15932,7 @@ L37:;
     if ((l1(v3) & 255u) != 101u) goto L33;
     if ((l1(v7) & 255u) != 97u) goto L33;
     if ((l1(v12) & 255u) != 100u) goto L33;
-    t0 = f85(v1, 4ull, A(data + 38));
+    t0 = slices_groups_equal(v1, 4ull, A(data + 38));
     if (t0 == 0) goto L33;
     v8 = 3u;
     v13 = 0u;
@@ -15715,7 +15945,7 @@ L36:;
     if ((l1(v7) & 255u) != 111u) goto L26;
     if ((l1(v12) & 255u) != 109u) goto L26;
     if ((l1(v14) & 255u) != 112u) goto L26;
-    t1 = f85(v1, 7ull, A(data + 58));
+    t1 = slices_groups_equal(v1, 7ull, A(data + 58));
     if (t1 == 0) goto L26;
     v8 = 2u;
     v13 = 0u;
@@ -15728,7 +15958,7 @@ L35:;
     if ((l1(v7) & 255u) != 99u) goto L31;
     if ((l1(v12) & 255u) != 99u) goto L31;
     if ((l1(v14) & 255u) != 101u) goto L31;
-    t2 = f85(v1, 6ull, A(data + 47));
+    t2 = slices_groups_equal(v1, 6ull, A(data + 47));
     if (t2 == 0) goto L31;
     v13 = 0u;
     v8 = 0u;
@@ -15741,7 +15971,7 @@ L34:;
     if ((v8 & 255u) != 105u) goto L38;
     if ((v11 & 255u) != 116u) goto L38;
     if ((v13 & 255u) != 114u) goto L38;
-    t3 = f85(v1, 5ull, A(data + 42));
+    t3 = slices_groups_equal(v1, 5ull, A(data + 42));
     if (t3 == 0) goto L30;
     v8 = 4u;
     v13 = 0u;
@@ -15751,7 +15981,7 @@ L38:;
     if ((v8 & 255u) != 97u) goto L30;
     if ((v11 & 255u) != 115u) goto L30;
     if ((v13 & 255u) != 114u) goto L30;
-    t4 = f85(v1, 5ull, A(data + 53));
+    t4 = slices_groups_equal(v1, 5ull, A(data + 53));
     if (t4 == 0) goto L30;
     v8 = 1u;
     v13 = 0u;
@@ -15764,7 +15994,7 @@ L33:;
     if ((v11 & 255u) != 116u) goto L39;
     if ((v13 & 255u) != 101u) goto L39;
     if ((v15 & 255u) != 112u) goto L39;
-    t5 = f85(v1, 4ull, A(data + 65));
+    t5 = slices_groups_equal(v1, 4ull, A(data + 65));
     if (t5 == 0) goto L39;
     v8 = 0u;
     v13 = 6u;
@@ -15774,7 +16004,7 @@ L39:;
     if ((v11 & 255u) != 97u) goto L40;
     if ((v13 & 255u) != 107u) goto L40;
     if ((v15 & 255u) != 101u) goto L40;
-    t6 = f85(v1, 4ull, A(data + 69));
+    t6 = slices_groups_equal(v1, 4ull, A(data + 69));
     if (t6 == 0) goto L40;
     v8 = 0u;
     v13 = 8u;
@@ -15798,7 +16028,7 @@ L43:;
     goto L2;
 L44:;
     v8 = 0u;
-    t7 = f85(v1, 4ull, A(data + 73));
+    t7 = slices_groups_equal(v1, 4ull, A(data + 73));
     if (t7) goto L17;
     v11 = 0u;
     goto L2;
@@ -15814,7 +16044,7 @@ L31:;
     if ((l1(v7) & 255u) != 116u) goto L29;
     if ((l1(v12) & 255u) != 97u) goto L29;
     if ((l1(v14) & 255u) != 116u) goto L29;
-    t8 = f85(v1, v3, A(data + 77));
+    t8 = slices_groups_equal(v1, v3, A(data + 77));
     if (t8 == 0) goto L29;
     v8 = 0u;
     v13 = 4u;
@@ -15824,7 +16054,7 @@ L30:;
     if ((l1(v1 + 1ull) & 255u) != 98u) goto L28;
     if ((l1(v1 + 2ull) & 255u) != 111u) goto L28;
     if ((l1(v1 + 3ull) & 255u) != 114u) goto L28;
-    t9 = f85(v1, v3, A(data + 83));
+    t9 = slices_groups_equal(v1, v3, A(data + 83));
     if (t9 == 0) goto L28;
     v8 = 0u;
     v13 = 3u;
@@ -15842,7 +16072,7 @@ L47:;
     if ((l1(v1 + 1ull) & 255u) != 97u) goto L45;
     if ((l1(v1 + 2ull) & 255u) != 99u) goto L45;
     if ((l1(v1 + 3ull) & 255u) != 107u) goto L45;
-    t10 = f85(v1, v3, A(data + 88));
+    t10 = slices_groups_equal(v1, v3, A(data + 88));
     if (t10 == 0) goto L45;
     goto L5;
 L46:;
@@ -15890,7 +16120,7 @@ L26:;
     if ((l1(v7) & 255u) != 101u) goto L11;
     if ((l1(v12) & 255u) != 116u) goto L11;
     if ((l1(v14) & 255u) != 117u) goto L11;
-    t11 = f85(v1, v3, A(data + 122));
+    t11 = slices_groups_equal(v1, v3, A(data + 122));
     if (t11 == 0) goto L11;
     v15 = 6u;
     goto L6;
@@ -15917,7 +16147,7 @@ L15:;
     if ((v11 & 255u) != 101u) goto L53;
     if ((v13 & 255u) != 116u) goto L53;
     if ((v15 & 255u) != 99u) goto L53;
-    t12 = f85(v1, v3, A(data + 94));
+    t12 = slices_groups_equal(v1, v3, A(data + 94));
     if (t12 == 0) goto L54;
     v8 = 0u;
     v13 = 2u;
@@ -15935,7 +16165,7 @@ L14:;
     if ((v11 & 255u) != 110u) goto L13;
     if ((v13 & 255u) != 108u) goto L13;
     if ((v15 & 255u) != 105u) goto L13;
-    t13 = f85(v1, v3, A(data + 107));
+    t13 = slices_groups_equal(v1, v3, A(data + 107));
     if (t13) goto L7;
 L13:;
     v8 = 0u;
@@ -15956,7 +16186,7 @@ L12:;
     if ((l1(v1 + 1ull) & 255u) != 118u) goto L11;
     if ((l1(v1 + 2ull) & 255u) != 97u) goto L11;
     if ((l1(v1 + 3ull) & 255u) != 105u) goto L11;
-    t14 = f85(v1, v3, A(data + 113));
+    t14 = slices_groups_equal(v1, v3, A(data + 113));
     v13 = t14;
     v15 = v13 ? 4u : 0u;
     goto L9;
@@ -15991,7 +16221,7 @@ L59:;
     v11 = 0u;
     goto L2;
 L60:;
-    t15 = f85(v1, 10ull, A(data + 129));
+    t15 = slices_groups_equal(v1, 10ull, A(data + 129));
     v13 = t15;
     v15 = v13 ? 2u : 0u;
 L9:;
@@ -16018,14 +16248,14 @@ L63:;
     goto L2;
 L64:;
     v11 = 0u;
-    t16 = f85(v1, 6ull, A(data + 139));
+    t16 = slices_groups_equal(v1, 6ull, A(data + 139));
     if (t16 == 0) goto L2;
-    s8(v4 + 80, 0ull);
-    s8(v4 + 88, 0ull);
-    s8(v4 + 48, 0ull);
-    s8(v4 + 56, 0ull);
-    s8(v4 + 64, 0ull);
-    s8(v4 + 72, 0ull);
+    s8_8(v4 + 80, 0ull);
+    s8_8(v4 + 88, 0ull);
+    s8_8(v4 + 48, 0ull);
+    s8_8(v4 + 56, 0ull);
+    s8_8(v4 + 64, 0ull);
+    s8_8(v4 + 72, 0ull);
     if (v6 == 0) goto L72;
 L73:;
     v5 = l1(v2);
@@ -16071,7 +16301,7 @@ L92:;
     if ((v11 & 255u) != 101u) goto L88;
     if ((v13 & 255u) != 97u) goto L88;
     if ((v15 & 255u) != 100u) goto L88;
-    t17 = f85(v2, 4ull, A(data + 38));
+    t17 = slices_groups_equal(v2, 4ull, A(data + 38));
     if (t17 == 0) goto L88;
     v5 = 3u;
     goto L67;
@@ -16083,7 +16313,7 @@ L91:;
     if ((v11 & 255u) != 111u) goto L81;
     if ((v13 & 255u) != 109u) goto L81;
     if ((v15 & 255u) != 112u) goto L81;
-    t18 = f85(v2, 7ull, A(data + 58));
+    t18 = slices_groups_equal(v2, 7ull, A(data + 58));
     if (t18 == 0) goto L81;
     v5 = 2u;
     goto L67;
@@ -16095,7 +16325,7 @@ L90:;
     if ((v11 & 255u) != 99u) goto L87;
     if ((v13 & 255u) != 101u) goto L87;
     if ((v15 & 255u) != 99u) goto L87;
-    t19 = f85(v2, 6ull, A(data + 47));
+    t19 = slices_groups_equal(v2, 6ull, A(data + 47));
     if (t19 == 0) goto L87;
     v5 = 0u;
     goto L67;
@@ -16108,7 +16338,7 @@ L89:;
     if (v5 != 119u) goto L93;
     if ((v11 & 255u) != 105u) goto L93;
     if ((v13 & 255u) != 116u) goto L93;
-    t20 = f85(v2, 5ull, A(data + 42));
+    t20 = slices_groups_equal(v2, 5ull, A(data + 42));
     if (t20 == 0) goto L86;
     v5 = 4u;
     goto L67;
@@ -16117,7 +16347,7 @@ L93:;
     if (v5 != 101u) goto L86;
     if ((v11 & 255u) != 97u) goto L86;
     if ((v13 & 255u) != 115u) goto L86;
-    t21 = f85(v2, 5ull, A(data + 53));
+    t21 = slices_groups_equal(v2, 5ull, A(data + 53));
     if (t21 == 0) goto L86;
     v5 = 1u;
     goto L67;
@@ -16126,7 +16356,7 @@ L88:;
     if ((v11 & 255u) != 116u) goto L94;
     if ((v13 & 255u) != 101u) goto L94;
     if ((v15 & 255u) != 112u) goto L94;
-    t22 = f85(v2, 4ull, A(data + 65));
+    t22 = slices_groups_equal(v2, 4ull, A(data + 65));
     if (t22 == 0) goto L94;
     v11 = 0u;
     goto L65;
@@ -16135,7 +16365,7 @@ L94:;
     if ((v11 & 255u) != 97u) goto L95;
     if ((v13 & 255u) != 107u) goto L95;
     if ((v15 & 255u) != 101u) goto L95;
-    t23 = f85(v2, 4ull, A(data + 69));
+    t23 = slices_groups_equal(v2, 4ull, A(data + 69));
     if (t23 == 0) goto L95;
     v8 = 0u;
     v9 = 8u;
@@ -16157,7 +16387,7 @@ L98:;
     v11 = 0u;
     goto L65;
 L99:;
-    f85(v2, 4ull, A(data + 73));
+    slices_groups_equal(v2, 4ull, A(data + 73));
     v11 = 0u;
     goto L65;
 L87:;
@@ -16165,7 +16395,7 @@ L87:;
     if ((v11 & 255u) != 116u) goto L85;
     if ((v15 & 255u) != 97u) goto L85;
     if ((v13 & 255u) != 116u) goto L85;
-    t25 = f85(v2, 6ull, A(data + 77));
+    t25 = slices_groups_equal(v2, 6ull, A(data + 77));
     if (t25 == 0) goto L83;
     v8 = 0u;
     v9 = 4u;
@@ -16188,7 +16418,7 @@ L102:;
     goto L65;
 L103:;
     v8 = 0u;
-    t26 = f85(v2, 5ull, A(data + 83));
+    t26 = slices_groups_equal(v2, 5ull, A(data + 83));
     if (t26) goto L71;
     v11 = 0u;
     goto L65;
@@ -16197,7 +16427,7 @@ L85:;
     if ((v11 & 255u) != 97u) goto L83;
     if ((v13 & 255u) != 107u) goto L83;
     if ((v15 & 255u) != 99u) goto L83;
-    t27 = f85(v2, 6ull, A(data + 88));
+    t27 = slices_groups_equal(v2, 6ull, A(data + 88));
     if (t27 == 0) goto L83;
     v8 = 0u;
     v9 = 5u;
@@ -16220,7 +16450,7 @@ L106:;
     goto L65;
 L107:;
     v8 = 0u;
-    t28 = f85(v2, v1, A(data + 94));
+    t28 = slices_groups_equal(v2, v1, A(data + 94));
     if (t28) goto L108;
     v11 = 0u;
     goto L65;
@@ -16245,7 +16475,7 @@ L111:;
     goto L65;
 L112:;
     v9 = 1u;
-    t29 = f85(v2, 6ull, A(data + 107));
+    t29 = slices_groups_equal(v2, 6ull, A(data + 107));
     if (t29) goto L113;
     v11 = 0u;
     goto L65;
@@ -16286,7 +16516,7 @@ L119:;
     goto L65;
 L120:;
     v9 = 1u;
-    t30 = f85(v2, 7ull, A(data + 122));
+    t30 = slices_groups_equal(v2, 7ull, A(data + 122));
     if (t30) goto L121;
     v11 = 0u;
     goto L65;
@@ -16312,7 +16542,7 @@ L124:;
 L125:;
     v5 = 2u;
     v11 = 0u;
-    t31 = f85(v2, 10ull, A(data + 129));
+    t31 = slices_groups_equal(v2, 10ull, A(data + 129));
     if (t31) goto L68;
     goto L65;
 L74:;
@@ -16321,9 +16551,9 @@ L74:;
     if ((u32)(v6 == 0) == 0) goto L73;
 L72:;
     v8 = 0u;
-    s4(v4 + 28, 0u);
-    s8(v4 + 20, 0ull);
-    s8(v4 + 12, 0ull);
+    s4_4(v4 + 28, 0u);
+    s8_4(v4 + 20, 0ull);
+    s8_4(v4 + 12, 0ull);
     v9 = 1u;
     v10 = 5u;
     v11 = 0u;
@@ -16341,29 +16571,29 @@ L69:;
     v5 = 4u;
     v11 = 0u;
     v10 = 4u;
-    t32 = f85(v2, v1, A(data + 113));
+    t32 = slices_groups_equal(v2, v1, A(data + 113));
     if (t32 == 0) goto L65;
 L68:;
     s8(v4 + 85, 0ull);
     s1(v4 + 84, v5);
-    s2(v4 + 80, 1u);
+    s2_2(v4 + 80, 1u);
     s4(v4 + 92, 0u);
     goto L66;
 L67:;
-    s8(v4 + 84, 0ull);
+    s8_4(v4 + 84, 0ull);
     s1(v4 + 81, v5);
     s1(v4 + 80, 0u);
-    s4(v4 + 92, 0u);
+    s4_4(v4 + 92, 0u);
 L66:;
-    f177(v4 + 48ull, 1u, v4 + 80ull, v2 + v1, v6 - v1);
+    events_read_fields(v4 + 48ull, 1u, v4 + 80ull, v2 + v1, v6 - v1);
     v8 = l1(v4 + 57);
     v11 = l1(v4 + 56);
     v10 = l1(v4 + 49);
     v9 = l1(v4 + 48);
 L65:;
-    s4(v4 + 28, l4(v4 + 76));
-    s8(v4 + 20, l8(v4 + 68));
-    s8(v4 + 12, l8(v4 + 60));
+    s4_4(v4 + 28, l4_4(v4 + 76));
+    s8_4(v4 + 20, l8_4(v4 + 68));
+    s8_4(v4 + 12, l8_4(v4 + 60));
     goto L2;
 L7:;
     v15 = 5u;
@@ -16382,47 +16612,48 @@ L3:;
     s1(v4 + 33, v8);
     s1(v4 + 32, v13);
     s4(v4 + 44, 0u);
-    f177(v4, 0u, v4 + 32ull, v2, v6);
+    events_read_fields(v4, 0u, v4 + 32ull, v2, v6);
     v8 = l1(v4 + 9);
     v11 = l1(v4 + 8);
     v10 = l1(v4 + 1);
     v9 = l1(v4);
 L2:;
     s1(v0, v9);
-    s8(v0 + 12ull, l8(v4 + 12));
+    s8(v0 + 12ull, l8_4(v4 + 12));
     s1(v0 + 9ull, v8);
     s1(v0 + 8ull, v11);
     s1(v0 + 1ull, v10);
-    s8(v0 + 20ull, l8(v4 + 20));
-    s4(v0 + 28ull, l4(v4 + 28));
+    s8(v0 + 20ull, l8_4(v4 + 20));
+    s4(v0 + 28ull, l4_4(v4 + 28));
 L1:;
     return;
 }
 
-static void f179(u64 v0, u64 v1, u64 v2)
+/* mscp_reader::lines::Lines::worded_request, crates/mscp_reader/src/lines.rt:103 */
+static void Lines_worded_request(u64 v0, u64 v1, u64 v2)
 {
     ROOM(frame, 112);
     u32 v4 = 0, v5 = 0, v11 = 0, v12 = 0, v13 = 0, v14 = 0;
     u64 v3 = 0, v6 = 0, v7 = 0, v8 = 0, v9 = 0, v10 = 0;
     v3 = A(frame);
-    s4(v3 + 72, 0u);
-    s8(v3 + 64, 0ull);
-    s8(v3 + 40, 0ull);
-    s8(v3 + 48, 0ull);
-    s8(v3 + 56, 0ull);
-    s8(v3 + 8, 0ull);
-    s8(v3 + 16, 0ull);
-    f168(v3 + 40ull, v1);
+    s4_4(v3 + 72, 0u);
+    s8_8(v3 + 64, 0ull);
+    s8_8(v3 + 40, 0ull);
+    s8_8(v3 + 48, 0ull);
+    s8_8(v3 + 56, 0ull);
+    s8_8(v3 + 8, 0ull);
+    s8_8(v3 + 16, 0ull);
+    Lines_cut(v3 + 40ull, v1);
     v4 = 1u;
     if (l1(v3 + 40) != 1u) goto L4;
-    v5 = l4(v1 + 16ull);
+    v5 = l4_4(v1 + 16ull);
     if (v5 > 1000000u) goto L5;
-    v6 = l8(v3 + 56);
+    v6 = l8_8(v3 + 56);
     if (v6 <= 200ull) goto L6;
     v4 = 2u;
     goto L5;
 L6:;
-    v7 = l8(v3 + 48);
+    v7 = l8_8(v3 + 48);
     if ((u32)(v6 == 0) == 0) goto L7;
     v1 = v7;
     v8 = 0ull;
@@ -16467,9 +16698,9 @@ L5:;
     s4(v0 + 36ull, 0u);
     s2(v3 + 69, 0u);
     s1(v3 + 68, v4);
-    s4(v3 + 64, v5);
+    s4_4(v3 + 64, v5);
     s1(v3 + 71, 0u);
-    s8(v0 + 4ull, l8(v3 + 64));
+    s8(v0 + 4ull, l8_8(v3 + 64));
     goto L1;
 L4:;
     s4(v0, 0u);
@@ -16477,22 +16708,22 @@ L4:;
     s2(v0 + 16ull, 0u);
     s8(v0 + 28ull, 0ull);
     s4(v0 + 36ull, 0u);
-    s8(v3 + 68, 0ull);
-    s8(v0 + 4ull, l8(v3 + 64));
+    s8_4(v3 + 68, 0ull);
+    s8(v0 + 4ull, l8_8(v3 + 64));
     goto L1;
     TRAP();
 L2:;
-    s8(v3 + 104, 0ull);
-    s8(v3 + 96, 0ull);
-    s8(v3 + 88, 0ull);
-    s8(v3 + 80, 0ull);
-    f178(v3 + 80ull, v1, v8);
+    s8_8(v3 + 104, 0ull);
+    s8_8(v3 + 96, 0ull);
+    s8_8(v3 + 88, 0ull);
+    s8_8(v3 + 80, 0ull);
+    events_read_request(v3 + 80ull, v1, v8);
     if (l1(v3 + 80) == 0) goto L16;
     v11 = l1(v3 + 81);
     goto L15;
 L16:;
     v11 = 12u;
-    v4 = l4(v3 + 92);
+    v4 = l4_4(v3 + 92);
     v12 = l1(v3 + 88);
     if ((((v12 & 255u) == 3u) ? ((u64)v4) : 1ull) <= (1000000ull - v2)) goto L14;
 L15:;
@@ -16505,12 +16736,12 @@ L15:;
 L14:;
     v11 = l1(v3 + 89);
     v1 = v3 + 96ull;
-    v8 = l8(v1 + 8);
-    s8(v3 + 32, v8);
-    v1 = l8(v1);
-    s8(v3 + 24, v1);
-    s8(v3 + 8, v1);
-    s8(v3 + 16, v8);
+    v8 = l8_8(v1 + 8);
+    s8_8(v3 + 32, v8);
+    v1 = l8_8(v1);
+    s8_8(v3 + 24, v1);
+    s8_8(v3 + 8, v1);
+    s8_8(v3 + 16, v8);
     v13 = 1u;
     v14 = 0u;
     v5 = 0u;
@@ -16519,16 +16750,17 @@ L13:;
     s4(v0 + 20ull, v4);
     s1(v0 + 17ull, v11);
     s1(v0 + 16ull, v12);
-    s8(v0 + 24ull, l8(v3 + 8));
-    s8(v0 + 32ull, l8(v3 + 16));
-    s4(v3 + 68, v13);
-    s4(v3 + 64, v5);
-    s8(v0 + 4ull, l8(v3 + 64));
+    s8(v0 + 24ull, l8_8(v3 + 8));
+    s8(v0 + 32ull, l8_8(v3 + 16));
+    s4_4(v3 + 68, v13);
+    s4_4(v3 + 64, v5);
+    s8(v0 + 4ull, l8_8(v3 + 64));
 L1:;
     return;
 }
 
-static u64 f180(u64 v0, u64 v1, u64 v2, u32 v3, u64 v4, u64 v5)
+/* mscp_queue::start::picked_place, crates/mscp_queue/src/start.rt:181 */
+static u64 start_picked_place_2(u64 v0, u64 v1, u64 v2, u32 v3, u64 v4, u64 v5)
 {
     ROOM(frame, 144);
     u32 v8 = 0, v11 = 0, v13 = 0;
@@ -16536,24 +16768,24 @@ static u64 f180(u64 v0, u64 v1, u64 v2, u32 v3, u64 v4, u64 v5)
     v6 = A(frame);
     v7 = v6;
     fill(v7, 0u, 72ull);
-    v8 = l4(v0 + 3808ull);
+    v8 = l4_4(v0 + 3808ull);
     v6 = v0 + 3072ull;
     v9 = (u64)l1(v6);
     v10 = v9 << 5;
-    if (l8(v0 + 3152ull) != 0ull) goto L4;
-    v11 = v8 - (l4((v0 + v10) + 28ull));
+    if (l8_8(v0 + 3152ull) != 0ull) goto L4;
+    v11 = v8 - (l4_4((v0 + v10) + 28ull));
     v11 = (v11 > v8) ? 0u : v11;
     if (v3 <= v11) goto L2;
-    v12 = l8(v0 + 3136ull);
+    v12 = l8_8(v0 + 3136ull);
     if (v12 == 0) goto L2;
 L5:;
-    if (v11 < (l4((v0 + (((u64)l1(v6)) << 5)) + 20ull))) goto L4;
+    if (v11 < (l4_4((v0 + (((u64)l1(v6)) << 5)) + 20ull))) goto L4;
     v6 = v6 + 1ull;
     v12 = v12 + 0xFFFFFFFFFFFFFFFFull;
     if (v12 == 0) goto L2;
     goto L5;
 L4:;
-    v6 = l8(v5 + 1024ull);
+    v6 = l8_8(v5 + 1024ull);
     if (v6 == 0) goto L6;
     v12 = 0ull;
     if (v6 == 1ull) goto L8;
@@ -16575,16 +16807,16 @@ L8:;
     s8(v6 + 8, 0ull);
     s8(v6, 0x300000000000000ull);
 L7:;
-    s8(v5 + 1024ull, 0ull);
+    s8_8(v5 + 1024ull, 0ull);
     v9 = (u64)l1(v0 + 3072ull);
     v10 = v9 << 5;
-    v8 = l4(v0 + 3808ull);
+    v8 = l4_4(v0 + 3808ull);
 L6:;
     v6 = v0 + v10;
-    if (v8 > l4(v6 + 28ull)) goto L10;
+    if (v8 > l4_4(v6 + 28ull)) goto L10;
     v12 = 0ull;
-    v11 = l2(v6 + 4ull);
-    v3 = l4(v6);
+    v11 = l2_2(v6 + 4ull);
+    v3 = l4_4(v6);
     v8 = 0u;
     switch ((u32)((u64)l1(v6 + 8ull))) {
     case 4: case 5: case 6: goto L13;
@@ -16603,10 +16835,10 @@ L12:;
     v12 = v0 >> 32;
     v8 = (u32)v12;
     v0 = v1 + ((v0 << 6) & 16320ull);
-    v13 = l4(v0 + 52ull);
+    v13 = l4_4(v0 + 52ull);
     v10 = (u64)v13;
     if (l1(v0 + 56ull) != 1u) goto L16;
-    v12 = (v13 > v8) ? ((((u64)l4(v0 + 40ull)) << 1) - (v12 + v10)) : (v12 - v10);
+    v12 = (v13 > v8) ? ((((u64)l4_4(v0 + 40ull)) << 1) - (v12 + v10)) : (v12 - v10);
     goto L15;
 L16:;
     v12 = ((v13 < v8) ? v12 : (0ull - v12)) + v10;
@@ -16614,29 +16846,29 @@ L15:;
     v8 = 2u;
 L11:;
     v13 = l1(v6 + 6ull);
-    s8(v5 + 1024ull, 1ull);
+    s8_8(v5 + 1024ull, 1ull);
     s8(v5 + 8, v12);
     s1(v5 + 7, v8);
     s1(v5 + 6, v13);
     s2(v5 + 4, v11);
     s4(v5, v3);
-    t0 = f63(v5);
+    t0 = SweepPicker_pick(v5);
     v10 = t0;
     goto L1;
 L10:;
-    f64(v7, v5, v0, v1);
+    start_show_each(v7, v5, v0, v1);
     copy(v7 + 72ull, v7, 72ull);
-    t1 = f63(v5);
+    t1 = SweepPicker_pick(v5);
     v10 = (u64)l1((v7 + 72ull) + t1);
     goto L1;
     TRAP();
 L2:;
-    f65(v4, v0, v1, v2);
+    Candidates_renew_all(v4, v0, v1, v2);
     v10 = 0ull;
-    v12 = l8(v4 + 1024ull);
+    v12 = l8_8(v4 + 1024ull);
     if (v12 < 2ull) goto L1;
     v6 = 1ull;
-    v0 = l8(v4 + 8ull);
+    v0 = l8_8(v4 + 8ull);
     v10 = 0ull;
     if (v12 == 2ull) goto L17;
     v6 = v12 + 0xFFFFFFFFFFFFFFFFull;
@@ -16646,8 +16878,8 @@ L2:;
     v10 = 0ull;
     v6 = 1ull;
 L18:;
-    v5 = l8(v12);
-    v1 = l8(v12 + 0xFFFFFFFFFFFFFFF0ull);
+    v5 = l8_8(v12);
+    v1 = l8_8(v12 + 0xFFFFFFFFFFFFFFF0ull);
     v8 = v1 < v0;
     v0 = v8 ? v1 : v0;
     v11 = v5 < v0;
@@ -16659,16 +16891,17 @@ L18:;
     if (v5 != v9) goto L18;
     if (v2 == 0) goto L1;
 L17:;
-    v10 = ((l8((v4 + (v6 << 4)) + 8ull)) < v0) ? v6 : v10;
+    v10 = ((l8_8((v4 + (v6 << 4)) + 8ull)) < v0) ? v6 : v10;
 L1:;
     return v10;
 }
 
-static void f181(u64 v0, u32 v1)
+/* mscp_script::reporting::tail::Tail::number, crates/mscp_script/src/reporting/tail.rt:67 */
+static void Tail_number(u64 v0, u32 v1)
 {
     u32 v7 = 0, t0;
     u64 v2 = 0, v3 = 0, v4 = 0, v5 = 0, v6 = 0;
-    v2 = l8(v0 + 112ull);
+    v2 = l8_8(v0 + 112ull);
     v3 = (u64)v1;
     if (v1 < 10000u) goto L2;
     v4 = v0 + 0xFFFFFFFFFFFFFFFCull;
@@ -16705,12 +16938,13 @@ L7:;
     v2 = v2 + 0xFFFFFFFFFFFFFFFCull;
     s2(v0 + v2, l2(A(data + 178) + (((u64)v1) << 1)));
 L4:;
-    s8(v0 + 112ull, v2);
+    s8_8(v0 + 112ull, v2);
     return;
     TRAP();
 }
 
-static u32 f182(u64 v0, u32 v1, u64 v2)
+/* mscp_script::running::Run::steps, crates/mscp_script/src/running.rt:85 */
+static u32 Run_steps(u64 v0, u32 v1, u64 v2)
 {
     ROOM(frame, 80);
     u32 v5 = 0, v19 = 0, v20 = 0, v21 = 0, v25 = 0, v26 = 0, v27 = 0, v28 = 0, v29 = 0, v30 = 0, v31 = 0, v32 = 0, v33
@@ -16742,14 +16976,14 @@ L5:;
     v20 = l2(v2 + 2ull);
     v21 = l1(v2);
     if (l1(v0 + 5696ull) != 1u) goto L13;
-    v22 = l8(v0 + 5704ull);
+    v22 = l8_8(v0 + 5704ull);
     goto L12;
 L13:;
     if (l1(v16) != 1u) goto L14;
-    v22 = l8(v0 + 5688ull);
+    v22 = l8_8(v0 + 5688ull);
     goto L12;
 L14:;
-    v3 = l8(v0 + 3952ull);
+    v3 = l8_8(v0 + 3952ull);
     if (v3 > 1ull) goto L15;
     v22 = 0ull;
     switch ((u32)v3) {
@@ -16757,7 +16991,7 @@ L14:;
     default: goto L11;
     }
 L15:;
-    t0 = f180(v15, v13, l8(v0 + 5672ull), l4(v0 + 812ull), v14, v12);
+    t0 = start_picked_place_2(v15, v13, l8_8(v0 + 5672ull), l4_4(v0 + 812ull), v14, v12);
     v22 = t0;
 L12:;
     v23 = v11 + v22;
@@ -16778,13 +17012,13 @@ L12:;
     v35 = l1(v3 + 48ull);
     v36 = (u32)(v5 == 7u) & v35;
     if (v36 != 1u) goto L17;
-    v24 = l8(v3 + 32ull) + 1ull;
+    v24 = l8_8(v3 + 32ull) + 1ull;
     v37 = v26 + v28;
-    f69(v4, v24, (u64)(u32)(v24 == 0), (u64)v37, 0ull);
-    v24 = l8(v4 + 8);
+    multi3(v4, v24, (u64)(u32)(v24 == 0), (u64)v37, 0ull);
+    v24 = l8_8(v4 + 8);
     v35 = (u32)v24;
     if (v26) goto L19;
-    v38 = l4(v3 + 52ull);
+    v38 = l4_4(v3 + 52ull);
     if (v38 != v35) goto L21;
     v39 = l1(v3 + 56ull);
     goto L20;
@@ -16794,7 +17028,7 @@ L20:;
     v39 = v39 & 1u;
     goto L18;
 L19:;
-    v38 = l4(v3 + 52ull);
+    v38 = l4_4(v3 + 52ull);
     v39 = l1(v3 + 56ull);
 L18:;
     v38 = (v38 > v35) ? (v38 - v35) : (v35 - v38);
@@ -16815,8 +17049,8 @@ L16:;
     v21 = (u32)(v5 == 7u) & v39;
     v27 = t1 & v21;
     if (v27 != 1u) goto L22;
-    s4(v4 + 48, 0u);
-    s2(v4 + 52, 0u);
+    s4_4(v4 + 48, 0u);
+    s2_2(v4 + 52, 0u);
     v42 = 0ull;
     v26 = 0u;
     v21 = 0u;
@@ -16828,14 +17062,14 @@ L16:;
     goto L7;
 L22:;
     v44 = (u64)v33;
-    s4(v4 + 44, v28);
-    s4(v4 + 40, v29);
-    s2(v4 + 38, v30);
+    s4_4(v4 + 44, v28);
+    s4_4(v4 + 40, v29);
+    s2_2(v4 + 38, v30);
     s1(v4 + 37, v25);
     s1(v4 + 36, v5);
-    s2(v4 + 34, 0u);
-    s2(v4 + 32, v33);
-    s4(v4 + 28, v32);
+    s2_2(v4 + 34, 0u);
+    s2_2(v4 + 32, v33);
+    s4_4(v4 + 28, v32);
     if (v40) goto L26;
     if ((1u << (v5 & 31)) & 351u) goto L27;
     if (v5 == 5u) goto L28;
@@ -16854,18 +17088,18 @@ L26:;
 L25:;
     if (v21 == 0) goto L23;
 L24:;
-    s8(v4 + 72, 0ull);
-    s8(v4 + 64, 0ull);
-    s8(v4 + 56, 0ull);
-    s8(v4 + 48, 0ull);
+    s8_8(v4 + 72, 0ull);
+    s8_8(v4 + 64, 0ull);
+    s8_8(v4 + 56, 0ull);
+    s8_8(v4 + 48, 0ull);
     v26 = v26 + v41;
     goto L9;
 L23:;
     v43 = 0ull;
-    s8(v4 + 72, 0ull);
-    s8(v4 + 64, 0ull);
-    s8(v4 + 56, 0ull);
-    s8(v4 + 48, 0ull);
+    s8_8(v4 + 72, 0ull);
+    s8_8(v4 + 64, 0ull);
+    s8_8(v4 + 56, 0ull);
+    s8_8(v4 + 48, 0ull);
     if (((v5 + 0xFFFFFFFBu) & 255u) > 1u) goto L9;
     v40 = 5u;
     v26 = 0u;
@@ -16874,16 +17108,16 @@ L23:;
     v28 = 0u;
     goto L10;
 L29:;
-    v26 = l4(v3 + 28ull);
-    v21 = l4(v3 + 8ull);
-    v28 = l4(v3 + 24ull);
-    v43 = l8(v3 + 16ull);
+    v26 = l4_4(v3 + 28ull);
+    v21 = l4_4(v3 + 8ull);
+    v28 = l4_4(v3 + 24ull);
+    v43 = l8_8(v3 + 16ull);
     goto L10;
 L11:;
-    v3 = l8(v0 + 14240ull);
-    if ((l8(v0 + 14232ull) - v3) < 5ull) goto L4;
+    v3 = l8_8(v0 + 14240ull);
+    if ((l8_8(v0 + 14232ull) - v3) < 5ull) goto L4;
     v24 = v3 + 5ull;
-    v3 = l8(v0 + 14224ull) + v3;
+    v3 = l8_8(v0 + 14224ull) + v3;
     if ((v3 - A(data + 445)) > 4ull) goto L31;
     s1(v3 + 4, 10u);
     s4(v3, 1701602409u);
@@ -16892,7 +17126,7 @@ L31:;
     s1(v3 + 4, l1(A(data + 449)));
     s4(v3, l4(A(data + 445)));
 L30:;
-    s8(v0 + 14240ull, v24);
+    s8_8(v0 + 14240ull, v24);
     v38 = 0u;
     v3 = 0ull;
     goto L6;
@@ -16901,13 +17135,13 @@ L10:;
     v29 = 0u;
     goto L8;
 L9:;
-    f70(v4 + 48ull, v4 + 28ull, v26);
-    v26 = l4(v4 + 72);
-    v21 = l4(v4 + 68);
-    v28 = l4(v4 + 64);
-    v43 = l8(v4 + 56);
-    v20 = l4(v4 + 52);
-    v29 = l2(v4 + 50);
+    outcome_moved_body(v4 + 48ull, v4 + 28ull, v26);
+    v26 = l4_4(v4 + 72);
+    v21 = l4_4(v4 + 68);
+    v28 = l4_4(v4 + 64);
+    v43 = l8_8(v4 + 56);
+    v20 = l4_4(v4 + 52);
+    v29 = l2_2(v4 + 50);
     v40 = l1(v4 + 48);
 L8:;
     v45 = v44 << 32;
@@ -16940,23 +17174,23 @@ L38:;
     v44 = 0x8A000000000000ull;
     goto L36;
 L37:;
-    v44 = l8(A(data + 960) + ((((u64)v25) & 255ull) << 3));
+    v44 = l8_8(A(data + 960) + ((((u64)v25) & 255ull) << 3));
 L36:;
-    s4(v4 + 48, 0u);
-    s2(v4 + 52, 0u);
+    s4_4(v4 + 48, 0u);
+    s2_2(v4 + 52, 0u);
     v42 = (v44 | v46) | v45;
     goto L33;
 L35:;
-    s4(v4 + 48, 0u);
-    s2(v4 + 52, 0u);
+    s4_4(v4 + 48, 0u);
+    s2_2(v4 + 52, 0u);
     v42 = (v45 | v46) | 0x89000000000000ull;
     if (v35 & 31u) goto L33;
     v5 = 1u;
     goto L32;
 L34:;
     v5 = 0u;
-    s4(v4 + 48, 0u);
-    s2(v4 + 52, 0u);
+    s4_4(v4 + 48, 0u);
+    s2_2(v4 + 52, 0u);
     v42 = (v45 | v46) | 0x88000000000000ull;
     if ((v35 & 31u) == 0) goto L32;
 L33:;
@@ -16970,10 +17204,10 @@ L7:;
     v3 = v15 + (v24 << 5);
     v5 = l4(v3 + 24);
     if (v5 == 0) goto L44;
-    s4(v3 + 24ull, v5 + 1u);
+    s4_4(v3 + 24ull, v5 + 1u);
     goto L43;
 L44:;
-    v46 = l8(v0 + 4632ull);
+    v46 = l8_8(v0 + 4632ull);
     v5 = l4(v3 + 20);
     if (v22 == 0) goto L45;
     v3 = 0ull;
@@ -16984,33 +17218,33 @@ L44:;
 L48:;
     v24 = v0 + v3;
     v44 = (v15 + (((u64)l1(v24 + 3888ull)) << 5)) + 28ull;
-    s4(v44, l4(v44) + v5);
+    s4_4(v44, l4_4(v44) + v5);
     v24 = (v15 + (((u64)l1(v24 + 3889ull)) << 5)) + 28ull;
-    s4(v24, l4(v24) + v5);
+    s4_4(v24, l4_4(v24) + v5);
     v3 = v3 + 2ull;
     if (v45 != v3) goto L48;
     if (v47 == 0) goto L46;
 L47:;
     v3 = (v15 + (((u64)l1(v11 + v3)) << 5)) + 28ull;
-    s4(v3, l4(v3) + v5);
+    s4_4(v3, l4_4(v3) + v5);
 L46:;
     v24 = (u64)l1(v23);
 L45:;
-    s8(v9 + (v24 << 3), v46 + ((u64)v5));
+    s8_8(v9 + (v24 << 3), v46 + ((u64)v5));
     v24 = (u64)l1(v23);
     v3 = (v15 + (v24 << 5)) + 24ull;
-    v5 = l4(v3);
-    s4(v3, v5 + 1u);
+    v5 = l4_4(v3);
+    s4_4(v3, v5 + 1u);
     if (v5) goto L43;
     v3 = v0 + 3976ull;
-    s8(v3, l8(v3) | (1ull << (v24 & 63)));
+    s8_8(v3, l8_8(v3) | (1ull << (v24 & 63)));
 L43:;
     v3 = v0 + 4640ull;
-    s8(v3, l8(v3) + 0xFFFFFFFFFFFFFFFFull);
+    s8_8(v3, l8_8(v3) + 0xFFFFFFFFFFFFFFFFull);
     v46 = v0 + 4632ull;
-    v23 = l8(v46) + 1ull;
+    v23 = l8_8(v46) + 1ull;
     if (v23 < 1099511627776ull) goto L49;
-    v44 = l8(v0 + 3960ull);
+    v44 = l8_8(v0 + 3960ull);
     if (v44 < 256ull) goto L50;
     v3 = v9;
     v45 = 0ull;
@@ -17020,15 +17254,15 @@ L51:;
     v23 = 0ull;
     goto L49;
 L52:;
-    s8(v3 + 56, l8(v3 + 56) + (((u64)((i64)(v24 << 56) >> 63)) & 0xFFFFFF0000000000ull));
-    s8(v3 + 48, l8(v3 + 48) + (((u64)((i64)(v24 << 57) >> 63)) & 0xFFFFFF0000000000ull));
-    s8(v3 + 40, l8(v3 + 40) + (((u64)((i64)(v24 << 58) >> 63)) & 0xFFFFFF0000000000ull));
-    s8(v3 + 32, l8(v3 + 32) + (((u64)((i64)(v24 << 59) >> 63)) & 0xFFFFFF0000000000ull));
-    s8(v3 + 24, l8(v3 + 24) + (((u64)((i64)(v24 << 60) >> 63)) & 0xFFFFFF0000000000ull));
-    s8(v3 + 16, l8(v3 + 16) + (((u64)((i64)(v24 << 61) >> 63)) & 0xFFFFFF0000000000ull));
-    s8(v3 + 8, l8(v3 + 8) + (((u64)((i64)(v24 << 62) >> 63)) & 0xFFFFFF0000000000ull));
+    s8_8(v3 + 56, l8_8(v3 + 56) + (((u64)((i64)(v24 << 56) >> 63)) & 0xFFFFFF0000000000ull));
+    s8_8(v3 + 48, l8_8(v3 + 48) + (((u64)((i64)(v24 << 57) >> 63)) & 0xFFFFFF0000000000ull));
+    s8_8(v3 + 40, l8_8(v3 + 40) + (((u64)((i64)(v24 << 58) >> 63)) & 0xFFFFFF0000000000ull));
+    s8_8(v3 + 32, l8_8(v3 + 32) + (((u64)((i64)(v24 << 59) >> 63)) & 0xFFFFFF0000000000ull));
+    s8_8(v3 + 24, l8_8(v3 + 24) + (((u64)((i64)(v24 << 60) >> 63)) & 0xFFFFFF0000000000ull));
+    s8_8(v3 + 16, l8_8(v3 + 16) + (((u64)((i64)(v24 << 61) >> 63)) & 0xFFFFFF0000000000ull));
+    s8_8(v3 + 8, l8_8(v3 + 8) + (((u64)((i64)(v24 << 62) >> 63)) & 0xFFFFFF0000000000ull));
     v23 = 0ull;
-    s8(v3, l8(v3) + ((0ull - (v24 & 1ull)) & 0xFFFFFF0000000000ull));
+    s8_8(v3, l8_8(v3) + ((0ull - (v24 & 1ull)) & 0xFFFFFF0000000000ull));
     v3 = v3 + 64ull;
     v45 = v45 + 8ull;
     if (v45 != 64ull) goto L51;
@@ -17039,31 +17273,31 @@ L50:;
     if (v3 > 63ull) goto L49;
 L53:;
     v24 = v9 + (v3 << 3);
-    s8(v24, l8(v24) + 0xFFFFFF0000000000ull);
+    s8_8(v24, l8_8(v24) + 0xFFFFFF0000000000ull);
     v44 = v44 & (rotl64(0xFFFFFFFFFFFFFFFEull, (v3 & 63)));
     v3 = ctz64(v44);
     if (v3 < 64ull) goto L53;
 L49:;
     v5 = v27 ^ 1u;
-    s8(v46, v23);
+    s8_8(v46, v23);
     v3 = v22;
     if (v27) goto L54;
-    f72(v15, v22);
+    Backlog_leave(v15, v22);
     v3 = 0ull;
 L54:;
-    f73(v14, v22, v34, v5);
+    Candidates_serve(v14, v22, v34, v5);
     s8(v16 + 8, 0ull);
     s8(v16, 0ull);
     s8(v0 + 5704ull, v3);
     s8(v0 + 5696ull, (u64)v27);
-    s4(v4 + 20, l4(v4 + 48));
-    s2(v4 + 24, l2(v4 + 52));
+    s4_4(v4 + 20, l4_4(v4 + 48));
+    s2_2(v4 + 24, l2_2(v4 + 52));
     if (v27) goto L58;
     if (v31 & 255u) goto L57;
     v3 = v0 + 8040ull;
-    s4(v3, l4(v3) + 0xFFFFFFFFu);
+    s4_4(v3, l4_4(v3) + 0xFFFFFFFFu);
     v24 = v0 + 11120ull;
-    v44 = l8(v24);
+    v44 = l8_8(v24);
     v3 = v7 + (v44 * 48ull);
     s8(v3, v42);
     s4(v3 + 20, v20);
@@ -17072,22 +17306,22 @@ L54:;
     s2(v3 + 18, v29);
     s2(v3 + 16, v39);
     s2(v3 + 8, v35);
-    s4(v3 + 10, l4(v4 + 20));
-    s2(v3 + 14, l2(v4 + 24));
+    s4(v3 + 10, l4_4(v4 + 20));
+    s2(v3 + 14, l2_2(v4 + 24));
     s8(v3 + 24, v43);
     s4(v3 + 44, 0u);
     s4(v3 + 40, v26);
-    s8(v24, v44 + 1ull);
+    s8_8(v24, v44 + 1ull);
     goto L56;
 L58:;
     s1(v0 + 14355ull, 10u);
-    s8(v0 + 14360ull, 107ull);
+    s8_8(v0 + 14360ull, 107ull);
     goto L55;
 L57:;
     v3 = v0 + 11128ull;
-    s4(v3, l4(v3) + 0xFFFFFFFFu);
+    s4_4(v3, l4_4(v3) + 0xFFFFFFFFu);
     v24 = v0 + 14208ull;
-    v44 = l8(v24);
+    v44 = l8_8(v24);
     v3 = v8 + (v44 * 48ull);
     s8(v3, v42);
     s4(v3 + 20, v20);
@@ -17096,14 +17330,14 @@ L57:;
     s2(v3 + 18, v29);
     s2(v3 + 16, v39);
     s2(v3 + 8, v35);
-    s4(v3 + 10, l4(v4 + 20));
-    s2(v3 + 14, l2(v4 + 24));
+    s4(v3 + 10, l4_4(v4 + 20));
+    s2(v3 + 14, l2_2(v4 + 24));
     s8(v3 + 24, v43);
     s4(v3 + 44, 0u);
     s4(v3 + 40, v26);
-    s8(v24, v44 + 1ull);
+    s8_8(v24, v44 + 1ull);
 L56:;
-    s8(v0 + 14360ull, 96ull);
+    s8_8(v0 + 14360ull, 96ull);
     s1(v0 + 14355ull, 10u);
     v3 = (u64)(v35 & 255u);
     s1(v0 + 14354ull, l1(A(data + 429) + (v3 & 15ull)));
@@ -17120,11 +17354,11 @@ L59:;
     s4(v17 + 3, l4(A(data + 478)));
     s4(v17, l4(A(data + 475)));
 L55:;
-    f181(v6, v38);
+    Tail_number(v6, v38);
     v3 = v0 + 14360ull;
     t2 = v3;
-    v3 = l8(v3) + 0xFFFFFFFFFFFFFFFAull;
-    s8(t2, v3);
+    v3 = l8_8(v3) + 0xFFFFFFFFFFFFFFFAull;
+    s8_8(t2, v3);
     v3 = v6 + v3;
     if ((v3 - A(data + 450)) > 5ull) goto L61;
     s2(v3 + 4, 8299u);
@@ -17135,13 +17369,13 @@ L61:;
     s4(v3, l4(A(data + 450)));
 L60:;
     if (v36 == 0) goto L63;
-    f181(v6, v37);
+    Tail_number(v6, v37);
     goto L62;
 L63:;
     v3 = v0 + 14360ull;
     t3 = v3;
-    v3 = l8(v3) + 0xFFFFFFFFFFFFFFFCull;
-    s8(t3, v3);
+    v3 = l8_8(v3) + 0xFFFFFFFFFFFFFFFCull;
+    s8_8(t3, v3);
     v3 = v6 + v3;
     if ((v3 - A(data + 425)) > 3ull) goto L64;
     s4(v3, 1701736302u);
@@ -17151,8 +17385,8 @@ L64:;
 L62:;
     v3 = v0 + 14360ull;
     t4 = v3;
-    v3 = l8(v3) + 0xFFFFFFFFFFFFFFF9ull;
-    s8(t4, v3);
+    v3 = l8_8(v3) + 0xFFFFFFFFFFFFFFF9ull;
+    s8_8(t4, v3);
     v3 = v6 + v3;
     if ((v3 - A(data + 456)) > 6ull) goto L66;
     s1(v3 + 6, 32u);
@@ -17163,11 +17397,11 @@ L66:;
     s4(v3 + 3, l4(A(data + 459)));
     s4(v3, l4(A(data + 456)));
 L65:;
-    f181(v6, v33);
+    Tail_number(v6, v33);
     v3 = v0 + 14360ull;
     t5 = v3;
-    v3 = l8(v3) + 0xFFFFFFFFFFFFFFFAull;
-    s8(t5, v3);
+    v3 = l8_8(v3) + 0xFFFFFFFFFFFFFFFAull;
+    s8_8(t5, v3);
     v3 = v6 + v3;
     if ((v3 - A(data + 463)) > 5ull) goto L68;
     s2(v3 + 4, 8308u);
@@ -17177,11 +17411,11 @@ L68:;
     s2(v3 + 4, l2(A(data + 467)));
     s4(v3, l4(A(data + 463)));
 L67:;
-    f181(v6, v32);
+    Tail_number(v6, v32);
     v3 = v0 + 14360ull;
     t6 = v3;
-    v3 = l8(v3) + 0xFFFFFFFFFFFFFFFAull;
-    s8(t6, v3);
+    v3 = l8_8(v3) + 0xFFFFFFFFFFFFFFFAull;
+    s8_8(t6, v3);
     v3 = v6 + v3;
     if ((v3 - A(data + 469)) > 5ull) goto L70;
     s2(v3 + 4, 8293u);
@@ -17194,8 +17428,8 @@ L69:;
     if ((v31 & 255u) != 1u) goto L71;
     v3 = v0 + 14360ull;
     t7 = v3;
-    v3 = l8(v3) + 0xFFFFFFFFFFFFFFF9ull;
-    s8(t7, v3);
+    v3 = l8_8(v3) + 0xFFFFFFFFFFFFFFF9ull;
+    s8_8(t7, v3);
     v3 = v6 + v3;
     if ((v3 - A(data + 414)) > 6ull) goto L72;
     s1(v3 + 6, 32u);
@@ -17206,12 +17440,12 @@ L72:;
     s4(v3 + 3, l4(A(data + 417)));
     s4(v3, l4(A(data + 414)));
 L71:;
-    v46 = l8(v0 + 14240ull);
-    v43 = l8(v0 + 14360ull);
+    v46 = l8_8(v0 + 14240ull);
+    v43 = l8_8(v0 + 14360ull);
     v3 = 108ull - v43;
-    if ((l8(v0 + 14232ull) - v46) < v3) goto L4;
+    if ((l8_8(v0 + 14232ull) - v46) < v3) goto L4;
     v42 = v46 + v3;
-    v47 = l8(v0 + 14224ull);
+    v47 = l8_8(v0 + 14224ull);
     v23 = v47 + v46;
     v24 = v6 + v43;
     if ((v23 - v24) >= v3) goto L74;
@@ -17245,22 +17479,22 @@ L74:;
     if (v3 == 0) goto L73;
     copy(v23, v24, v3);
 L73:;
-    s8(v0 + 14240ull, v42);
+    s8_8(v0 + 14240ull, v42);
     v3 = (u64)v5;
 L6:;
     v24 = v0 + 14384ull;
     t8 = v24;
-    v24 = l8(v24);
+    v24 = l8_8(v24);
     v44 = v24 + ((u64)v38);
-    s8(t8, v44);
+    s8_8(t8, v44);
     v45 = v0 + 14368ull;
-    s8(v45, l8(v45) + 1ull);
+    s8_8(v45, l8_8(v45) + 1ull);
     v45 = v0 + 14376ull;
-    s8(v45, l8(v45) + 1ull);
+    s8_8(v45, l8_8(v45) + 1ull);
     v45 = v0 + 14408ull;
-    s8(v45, l8(v45) + v3);
+    s8_8(v45, l8_8(v45) + v3);
     v3 = v0 + 14392ull;
-    s8(v3, l8(v3) + ((u64)(u32)(v44 < v24)));
+    s8_8(v3, l8_8(v3) + ((u64)(u32)(v44 < v24)));
     v19 = v19 + 1u;
     if (v19 != v1) goto L5;
     v5 = 0u;
@@ -17272,7 +17506,8 @@ L2:;
     TRAP();
 }
 
-static u32 f183(u64 v0, u32 v1, u64 v2, u64 v3)
+/* mscp_script::running::Run::send, crates/mscp_script/src/running.rt:46 */
+static u32 Run_send(u64 v0, u32 v1, u64 v2, u64 v3)
 {
     ROOM(frame, 176);
     u32 v6 = 0, v7 = 0, v8 = 0, v9 = 0, v10 = 0, v11 = 0, v12 = 0, v13 = 0, v19 = 0, v22 = 0, v23 = 0, v24 = 0, v26 =
@@ -17281,10 +17516,10 @@ static u32 f183(u64 v0, u32 v1, u64 v2, u64 v3)
         0, v34 = 0, t1;
     v4 = A(frame);
     v5 = v4;
-    s8(v5 + 40, 0ull);
-    s8(v5 + 32, 0ull);
-    s8(v5 + 24, 0ull);
-    f90(v5 + 24ull, v2, v3);
+    s8_8(v5 + 40, 0ull);
+    s8_8(v5 + 32, 0ull);
+    s8_8(v5 + 24, 0ull);
+    reading_read_command(v5 + 24ull, v2, v3);
     if (l1(v5 + 24)) goto L22;
     v6 = 1u;
     v7 = l1(v5 + 37);
@@ -17300,15 +17535,15 @@ L25:;
 L24:;
     v6 = ((v7 + 0xFFFFFFFFu) & 255u) < 4u;
 L23:;
-    v9 = l4(v5 + 32);
-    v10 = l4(v5 + 28);
+    v9 = l4_4(v5 + 32);
+    v10 = l4_4(v5 + 28);
     v11 = 0u;
     v12 = v1 & 255u;
-    v13 = l4(v0 + (v12 ? 4ull : 0ull));
+    v13 = l4_4(v0 + (v12 ? 4ull : 0ull));
     v14 = v0 + 8040ull;
     v2 = v14 + (v12 ? 3088ull : 0ull);
-    v15 = l8(v2 + 3080ull);
-    v12 = v13 - (l4(v2) + ((u32)v15));
+    v15 = l8_8(v2 + 3080ull);
+    v12 = v13 - (l4_4(v2) + ((u32)v15));
     switch ((v12 > v13) ? 0u : v12) {
     case 0: goto L21;
     case 1: goto L27;
@@ -17324,12 +17559,12 @@ L26:;
     v17 = v16 + ((u64)(v10 & 255u));
     v13 = l1(v17);
     if (v13 == 0) goto L28;
-    v4 = l8(v0 + 6736ull);
+    v4 = l8_8(v0 + 6736ull);
     if (v4 == 0) goto L28;
     v3 = v4 + 0xFFFFFFFFFFFFFFFFull;
     v4 = v0 + 5712ull;
 L29:;
-    v11 = (u32)(l1(v4 + 6ull) == (v1 & 255u)) & (u32)(l4(v4) == v10);
+    v11 = (u32)(l1(v4 + 6ull) == (v1 & 255u)) & (u32)(l4_4(v4) == v10);
     if (v11) goto L28;
     v4 = v4 + 16ull;
     v12 = v3 != 0ull;
@@ -17342,7 +17577,7 @@ L28:;
 L31:;
     v3 = v3 + 0xFFFFFFFFFFFFFFFFull;
     if (v3 == 0) goto L30;
-    v12 = l4(v4);
+    v12 = l4_4(v4);
     v4 = v4 + 48ull;
     if (v12 != v10) goto L31;
     goto L5;
@@ -17350,16 +17585,16 @@ L30:;
     if (v11) goto L5;
     s1(v5 + 105, v7);
     s1(v5 + 104, v8);
-    s4(v5 + 100, v9);
-    s4(v5 + 96, v10);
-    s8(v5 + 88, 0ull);
-    s8(v5 + 80, 0ull);
-    s8(v5 + 72, 0ull);
-    s8(v5 + 64, 0ull);
-    s8(v5 + 56, 0ull);
-    s8(v5 + 48, 0ull);
-    s8(v5 + 106, l8(v18));
-    s2(v5 + 114, l2(v18 + 8));
+    s4_4(v5 + 100, v9);
+    s4_4(v5 + 96, v10);
+    s8_8(v5 + 88, 0ull);
+    s8_8(v5 + 80, 0ull);
+    s8_8(v5 + 72, 0ull);
+    s8_8(v5 + 64, 0ull);
+    s8_8(v5 + 56, 0ull);
+    s8_8(v5 + 48, 0ull);
+    s8_2(v5 + 106, l8_2(v18));
+    s2_2(v5 + 114, l2_2(v18 + 8));
     switch (v8) {
     case 2: case 4: case 5: case 6: goto L35;
     case 3: goto L34;
@@ -17369,20 +17604,20 @@ L30:;
     }
 L36:;
     v4 = v0 + 32ull;
-    v3 = l8(v0 + 800ull) + 1ull;
-    v11 = l4(v5 + 112);
-    v6 = l4(v5 + 108);
+    v3 = l8_8(v0 + 800ull) + 1ull;
+    v11 = l4_4(v5 + 112);
+    v6 = l4_4(v5 + 108);
 L37:;
     v3 = v3 + 0xFFFFFFFFFFFFFFFFull;
     if ((u32)(v3 == 0) == 0) goto L38;
     v12 = 3u;
     goto L32;
 L38:;
-    v12 = l2(v4);
+    v12 = l2_2(v4);
     v2 = v4 + 48ull;
     v4 = v2;
     if (v12 != (v9 & 65535u)) goto L37;
-    v19 = l4(v2 + 0xFFFFFFFFFFFFFFD8ull);
+    v19 = l4_4(v2 + 0xFFFFFFFFFFFFFFD8ull);
     if (v19 > v11) goto L39;
     v12 = 7169u;
     goto L32;
@@ -17392,57 +17627,57 @@ L39:;
     v11 = (v6 >> 9) + (u32)((v6 & 511u) != 0u);
     if (t0 < v11) goto L32;
     v11 = (v11 > 1u) ? v11 : 1u;
-    if (l4(v0 + 12ull) < v11) goto L32;
+    if (l4_4(v0 + 12ull) < v11) goto L32;
     goto L19;
 L35:;
     v4 = v0 + 32ull;
-    v3 = l8(v0 + 800ull) + 1ull;
+    v3 = l8_8(v0 + 800ull) + 1ull;
 L40:;
     v3 = v3 + 0xFFFFFFFFFFFFFFFFull;
     if ((u32)(v3 == 0) == 0) goto L41;
     v12 = 3u;
     goto L32;
 L41:;
-    v12 = l2(v4);
+    v12 = l2_2(v4);
     v4 = v4 + 48ull;
     if (v12 != (v9 & 65535u)) goto L40;
     v11 = 1u;
     goto L19;
 L34:;
-    if (l2(v5 + 106) == 0) goto L17;
+    if (l2_2(v5 + 106) == 0) goto L17;
     v12 = 3073u;
     goto L32;
 L33:;
-    v12 = l2(v5 + 106);
+    v12 = l2_2(v5 + 106);
 L32:;
-    f148(v5 + 48ull, v5 + 96ull, v12);
+    answer_refused_end(v5 + 48ull, v5 + 96ull, v12);
     if (v1 & 255u) goto L43;
     v3 = v0 + 11120ull;
-    v2 = l8(v3);
+    v2 = l8_8(v3);
     v4 = v0 + (v2 * 48ull);
-    s8(v4 + 8088ull, l8(v5 + 88));
-    s8(v4 + 8080ull, l8(v5 + 80));
-    s8(v4 + 8072ull, l8(v5 + 72));
-    s8(v4 + 8064ull, l8(v5 + 64));
-    s8(v4 + 8056ull, l8(v5 + 56));
-    s8(v4 + 8048ull, l8(v5 + 48));
-    s8(v3, v2 + 1ull);
+    s8(v4 + 8088ull, l8_8(v5 + 88));
+    s8(v4 + 8080ull, l8_8(v5 + 80));
+    s8(v4 + 8072ull, l8_8(v5 + 72));
+    s8(v4 + 8064ull, l8_8(v5 + 64));
+    s8(v4 + 8056ull, l8_8(v5 + 56));
+    s8(v4 + 8048ull, l8_8(v5 + 48));
+    s8_8(v3, v2 + 1ull);
     goto L42;
 L43:;
     v3 = v0 + 14208ull;
-    v2 = l8(v3);
+    v2 = l8_8(v3);
     v4 = v0 + (v2 * 48ull);
-    s8(v4 + 11176ull, l8(v5 + 88));
-    s8(v4 + 11168ull, l8(v5 + 80));
-    s8(v4 + 11160ull, l8(v5 + 72));
-    s8(v4 + 11152ull, l8(v5 + 64));
-    s8(v4 + 11144ull, l8(v5 + 56));
-    s8(v4 + 11136ull, l8(v5 + 48));
-    s8(v3, v2 + 1ull);
+    s8(v4 + 11176ull, l8_8(v5 + 88));
+    s8(v4 + 11168ull, l8_8(v5 + 80));
+    s8(v4 + 11160ull, l8_8(v5 + 72));
+    s8(v4 + 11152ull, l8_8(v5 + 64));
+    s8(v4 + 11144ull, l8_8(v5 + 56));
+    s8(v4 + 11136ull, l8_8(v5 + 48));
+    s8_8(v3, v2 + 1ull);
 L42:;
     s1(v0 + 14355ull, 10u);
     v16 = v0 + 14360ull;
-    s8(v16, 107ull);
+    s8_8(v16, 107ull);
     v20 = v0 + 14248ull;
     v9 = 0u;
     goto L6;
@@ -17450,7 +17685,7 @@ L22:;
     v3 = (u64)l1(v5 + 25);
     s1(v0 + 14355ull, 10u);
     v16 = v0 + 14360ull;
-    s8(v16, 107ull);
+    s8_8(v16, 107ull);
     v14 = A(data + 378);
     v4 = 5ull;
     switch ((u32)v3) {
@@ -17474,32 +17709,32 @@ L20:;
 L19:;
     if (((v8 + 0xFFFFFFFCu) & 255u) > 4u) goto L18;
     v15 = v0 + 4648ull;
-    v12 = l4(v5 + 112);
-    v6 = l4(v5 + 108);
-    v19 = l2(v5 + 106);
+    v12 = l4_4(v5 + 112);
+    v6 = l4_4(v5 + 108);
+    v19 = l2_2(v5 + 106);
     v18 = 0ull;
     v3 = 0ull;
-    v2 = l8(v0 + 5672ull);
+    v2 = l8_8(v0 + 5672ull);
     if (v2 == 0) goto L45;
     v3 = 0ull;
     v4 = v15;
 L46:;
-    if (l2(v4) == (v9 & 65535u)) goto L45;
+    if (l2_2(v4) == (v9 & 65535u)) goto L45;
     v4 = v4 + 64ull;
     v3 = v3 + 1ull;
     if (v2 != v3) goto L46;
     v3 = v2;
 L45:;
-    s4(v5 + 160, v12);
+    s4_4(v5 + 160, v12);
     v2 = v3 << 6;
-    v4 = (l8((v15 + v2) + 32ull)) + 1ull;
-    f69(v5, v4, (u64)(u32)(v4 == 0), (v8 == 7u) ? ((u64)v12) : 0ull, 0ull);
-    s8(v5 + 168, 0ull);
-    s4(v5 + 164, v11);
-    s4(v5 + 156, v6);
-    s2(v5 + 154, v19);
+    v4 = (l8_8((v15 + v2) + 32ull)) + 1ull;
+    multi3(v5, v4, (u64)(u32)(v4 == 0), (v8 == 7u) ? ((u64)v12) : 0ull, 0ull);
+    s8_4(v5 + 168, 0ull);
+    s4_4(v5 + 164, v11);
+    s4_4(v5 + 156, v6);
+    s2_2(v5 + 154, v19);
     s1(v5 + 153, v7);
-    v4 = l8(v5 + 8);
+    v4 = l8_8(v5 + 8);
     v11 = (u32)v4;
     v12 = 0u;
     switch (v8) {
@@ -17518,10 +17753,10 @@ L49:;
     goto L47;
 L48:;
     v2 = v15 + (v2 & 16320ull);
-    v12 = l4(v2 + 52ull);
+    v12 = l4_4(v2 + 52ull);
     v15 = (u64)v12;
     if (l1(v2 + 56ull) != 1u) goto L52;
-    v18 = (v12 > v11) ? ((((u64)l4(v2 + 40ull)) << 1) - (v15 + v4)) : (v4 - v15);
+    v18 = (v12 > v11) ? ((((u64)l4_4(v2 + 40ull)) << 1) - (v15 + v4)) : (v4 - v15);
     goto L51;
 L52:;
     v18 = ((v12 < v11) ? v4 : (0ull - v4)) + v15;
@@ -17530,22 +17765,22 @@ L51:;
 L47:;
     s1(v17, v13 + 1u);
     v2 = v0 + 6736ull;
-    v15 = l8(v2);
+    v15 = l8_8(v2);
     v4 = v0 + (v15 << 4);
     s1(v4 + 5719ull, v12);
     s1(v4 + 5718ull, v1);
     s2(v4 + 5716ull, v9);
     s4(v4 + 5712ull, v10);
     s8(v4 + 5720ull, v18);
-    s8(v2, v15 + 1ull);
+    s8_8(v2, v15 + 1ull);
     s1(v5 + 152, v8);
     s1(v5 + 151, 0u);
     s1(v5 + 150, v1);
-    s2(v5 + 148, v9);
-    s4(v5 + 144, v10);
-    f149(v0 + 816ull, v5 + 144ull, (u32)v3, v11);
+    s2_2(v5 + 148, v9);
+    s4_4(v5 + 144, v10);
+    Backlog_push(v0 + 816ull, v5 + 144ull, (u32)v3, v11);
     if (v1 & 255u) goto L13;
-    s4(v14, l4(v14) + 1u);
+    s4_4(v14, l4_4(v14) + 1u);
     goto L12;
 L18:;
     switch (v8) {
@@ -17556,27 +17791,27 @@ L18:;
     }
 L57:;
     v6 = 0u;
-    s4(v5 + 116, 0u);
-    s2(v5 + 120, 0u);
+    s4_4(v5 + 116, 0u);
+    s2_2(v5 + 120, 0u);
     v7 = 129u;
     v19 = 1u;
     v21 = 0ull;
     v22 = 0u;
     v23 = 0u;
     v24 = 0u;
-    v12 = l4(v5 + 108);
+    v12 = l4_4(v5 + 108);
     v11 = v12;
     goto L53;
 L56:;
     v21 = 0ull;
-    v12 = l4(v5 + 108);
-    v3 = l8(v0 + 6736ull);
+    v12 = l4_4(v5 + 108);
+    v3 = l8_8(v0 + 6736ull);
     if (v3 == 0) goto L58;
     v2 = v0 + 3888ull;
     v4 = v0 + 5712ull;
 L60:;
     if (l1(v4 + 6ull) != (v1 & 255u)) goto L61;
-    if (l4(v4) == v12) goto L59;
+    if (l4_4(v4) == v12) goto L59;
 L61:;
     v2 = v2 + 1ull;
     v4 = v4 + 16ull;
@@ -17584,11 +17819,11 @@ L61:;
     if ((u32)(v3 == 0) == 0) goto L60;
     goto L58;
 L59:;
-    v21 = ((l8((v0 + (((u64)l1(v2)) << 3)) + 3376ull)) - l8(v0 + 4632ull)) & 4294967295ull;
+    v21 = ((l8_8((v0 + (((u64)l1(v2)) << 3)) + 3376ull)) - l8_8(v0 + 4632ull)) & 4294967295ull;
 L58:;
     v24 = 0u;
-    s2(v5 + 148, 0u);
-    s4(v5 + 144, 0u);
+    s2_2(v5 + 148, 0u);
+    s4_4(v5 + 144, 0u);
     v19 = 2u;
     v7 = 130u;
     v23 = 0u;
@@ -17597,16 +17832,16 @@ L58:;
     goto L54;
 L55:;
     v4 = v0 + 0xFFFFFFFFFFFFFFF2ull;
-    v3 = l8(v0 + 800ull) + 1ull;
+    v3 = l8_8(v0 + 800ull) + 1ull;
 L62:;
     v3 = v3 + 0xFFFFFFFFFFFFFFFFull;
     if (v3 == 0) goto L11;
     v2 = v4 + 46ull;
     v15 = v4 + 48ull;
     v4 = v15;
-    if (l2(v2) != (v9 & 65535u)) goto L62;
+    if (l2_2(v2) != (v9 & 65535u)) goto L62;
     v4 = v0 + 4632ull;
-    v3 = l8(v0 + 5672ull) + 1ull;
+    v3 = l8_8(v0 + 5672ull) + 1ull;
 L64:;
     v3 = v3 + 0xFFFFFFFFFFFFFFFFull;
     if ((u32)(v3 == 0) == 0) goto L65;
@@ -17616,27 +17851,27 @@ L65:;
     v2 = v4 + 16ull;
     v14 = v4 + 64ull;
     v4 = v14;
-    if (l2(v2) != (v9 & 65535u)) goto L64;
+    if (l2_2(v2) != (v9 & 65535u)) goto L64;
     v24 = (l1(v14) & 1u) ? 0u : 4u;
 L63:;
     v12 = 0u;
-    s4(v5 + 144, 0u);
-    s2(v5 + 148, 0u);
-    v6 = l2(v15 + 4ull);
-    v23 = l4(v15 + 22ull);
-    v21 = l8(v15 + 14ull);
-    v22 = l4(v15);
+    s4_4(v5 + 144, 0u);
+    s2_2(v5 + 148, 0u);
+    v6 = l2_2(v15 + 4ull);
+    v23 = l4_4(v15 + 22ull);
+    v21 = l8_8(v15 + 14ull);
+    v22 = l4_2(v15);
     v19 = 3u;
     v7 = 131u;
 L54:;
-    s2(v5 + 120, l2(v5 + 148));
-    s4(v5 + 116, l4(v5 + 144));
+    s2_2(v5 + 120, l2_2(v5 + 148));
+    s4_4(v5 + 116, l4_4(v5 + 144));
     v13 = 0u;
     if (v8) goto L16;
-    v11 = l4(v5 + 108);
+    v11 = l4_4(v5 + 108);
 L53:;
     v13 = 0u;
-    v4 = l8(v0 + 6736ull);
+    v4 = l8_8(v0 + 6736ull);
     if (v4 == 0) goto L16;
     v25 = v0 + 5712ull;
     v18 = 0ull;
@@ -17647,7 +17882,7 @@ L53:;
 L67:;
     v14 = v0 + v18;
     if (l1(v14 + 5718ull) != (v1 & 255u)) goto L68;
-    if (l4(v14 + 5712ull) == v11) goto L66;
+    if (l4_4(v14 + 5712ull) == v11) goto L66;
 L68:;
     v4 = v4 + 1ull;
     v20 = v20 + 0xFFFFFFFFFFFFFFF0ull;
@@ -17668,19 +17903,19 @@ L66:;
     v8 = l4(v4);
     v3 = 0ull;
     v31 = 0ull - v17;
-    f150(v2, v31);
+    Backlog_take_out(v2, v31);
     v4 = v14 + 5712ull;
     v2 = v16 + ((u64)l1(v4));
     s1(v2, l1(v2) + 0xFFFFFFFFu);
     v32 = v0 + 6736ull;
-    v33 = l8(v32);
+    v33 = l8_8(v32);
     v34 = v33 + v17;
     if (v34 != 1ull) goto L70;
     v4 = v31;
     goto L69;
 L70:;
-    s8(v5 + 152, l8(v4 + 8));
-    s8(v5 + 144, l8(v4));
+    s8_8(v5 + 152, l8(v4 + 8));
+    s8_8(v5 + 144, l8(v4));
     v4 = v34 + 0xFFFFFFFFFFFFFFFFull;
     if (v4 < 129ull) goto L71;
     v16 = 0ull;
@@ -17711,12 +17946,12 @@ L71:;
     copy(v3 + 5712ull, v3 + 5728ull, v4);
 L74:;
     v4 = (v2 + ((v33 << 4) + v20)) + v18;
-    s8(v4 + 1816ull, l8(v5 + 152));
-    s8(v4 + 1808ull, l8(v5 + 144));
-    v4 = l8(v0 + 6736ull) + 0xFFFFFFFFFFFFFFFFull;
+    s8(v4 + 1816ull, l8_8(v5 + 152));
+    s8(v4 + 1808ull, l8_8(v5 + 144));
+    v4 = l8_8(v0 + 6736ull) + 0xFFFFFFFFFFFFFFFFull;
     v18 = v4 << 4;
 L69:;
-    s8(v32, v4);
+    s8_8(v32, v4);
     v3 = 0ull;
     v4 = v25 + v18;
     s8(v4 + 8, 0ull);
@@ -17727,7 +17962,7 @@ L69:;
     v14 = v0 + 5680ull;
     if (l1(v14) != 1u) goto L75;
     v2 = 1ull;
-    v4 = l8(v15);
+    v4 = l8_8(v15);
     if (v4 < v31) goto L75;
     v35 = v31 < v4;
     v4 = v35 ? (v4 + 0xFFFFFFFFFFFFFFFFull) : 0ull;
@@ -17748,19 +17983,19 @@ L75:;
 L76:;
     s8(v2, v4);
     s8(v15, v3);
-    s4(v5 + 140, v27);
-    s4(v5 + 136, v28);
-    s2(v5 + 134, v29);
+    s4_4(v5 + 140, v27);
+    s4_4(v5 + 136, v28);
+    s2_2(v5 + 134, v29);
     s1(v5 + 133, v30);
     s1(v5 + 132, v13);
-    s2(v5 + 130, 0u);
-    s2(v5 + 128, v11);
-    s4(v5 + 124, v8);
-    s8(v5 + 168, 0ull);
-    s8(v5 + 160, 0ull);
-    s8(v5 + 152, 0ull);
-    s8(v5 + 144, 0ull);
-    f70(v5 + 144ull, v5 + 124ull, v26);
+    s2_2(v5 + 130, 0u);
+    s2_2(v5 + 128, v11);
+    s4_4(v5 + 124, v8);
+    s8_8(v5 + 168, 0ull);
+    s8_8(v5 + 160, 0ull);
+    s8_8(v5 + 152, 0ull);
+    s8_8(v5 + 144, 0ull);
+    outcome_moved_body(v5 + 144ull, v5 + 124ull, v26);
     v26 = 129u;
     switch (v13) {
     case 1: goto L84;
@@ -17797,17 +18032,17 @@ L79:;
 L78:;
     v26 = (u32)(698496357008ull >> (((((u64)v30) & 255ull) << 3) & 63));
 L77:;
-    v13 = l4(v5 + 148);
-    v3 = l8(v5 + 152);
-    v30 = l4(v5 + 160);
-    v29 = l4(v5 + 164);
-    v27 = l4(v5 + 168);
+    v13 = l4_4(v5 + 148);
+    v3 = l8_8(v5 + 152);
+    v30 = l4_4(v5 + 160);
+    v29 = l4_4(v5 + 164);
+    v27 = l4_4(v5 + 168);
     v28 = l1(v5 + 144);
-    v35 = l2(v5 + 146);
+    v35 = l2_2(v5 + 146);
     if (v1 & 255u) goto L14;
     v4 = v0 + 8040ull;
-    s4(v4, l4(v4) + 0xFFFFFFFFu);
-    v2 = l8(v0 + 11120ull);
+    s4_4(v4, l4_4(v4) + 0xFFFFFFFFu);
+    v2 = l8_8(v0 + 11120ull);
     v4 = v0 + (v2 * 48ull);
     s4(v4 + 8048ull, v8);
     s4(v4 + 8068ull, v13);
@@ -17830,10 +18065,10 @@ L77:;
     goto L15;
 L17:;
     v6 = 0u;
-    s4(v5 + 116, 0u);
-    s2(v5 + 120, 0u);
-    v21 = l8(v0 + 24ull);
-    v13 = l2(v0 + 16ull);
+    s4_4(v5 + 116, 0u);
+    s2_2(v5 + 120, 0u);
+    v21 = l8_8(v0 + 24ull);
+    v13 = l2_2(v0 + 16ull);
     v7 = 132u;
     v19 = 4u;
     v22 = 0u;
@@ -17842,7 +18077,7 @@ L17:;
     v24 = 0u;
 L16:;
     if (v1 & 255u) goto L10;
-    v3 = l8(v0 + 11120ull);
+    v3 = l8_8(v0 + 11120ull);
     v11 = 0u;
     v8 = 0u;
 L15:;
@@ -17857,17 +18092,17 @@ L15:;
     s2(v4 + 8066ull, v13);
     s2(v4 + 8064ull, v19);
     s2(v4 + 8056ull, v24);
-    s4(v4 + 8058ull, l4(v5 + 116));
-    s2(v4 + 8062ull, l2(v5 + 120));
+    s4(v4 + 8058ull, l4_4(v5 + 116));
+    s2(v4 + 8062ull, l2_2(v5 + 120));
     s8(v4 + 8072ull, v21);
     s4(v4 + 8092ull, 0u);
     s4(v4 + 8088ull, v6);
-    s8(v0 + 11120ull, v3 + 1ull);
+    s8_8(v0 + 11120ull, v3 + 1ull);
     goto L7;
 L14:;
     v4 = v0 + 11128ull;
-    s4(v4, l4(v4) + 0xFFFFFFFFu);
-    v2 = l8(v0 + 14208ull);
+    s4_4(v4, l4_4(v4) + 0xFFFFFFFFu);
+    v2 = l8_8(v0 + 14208ull);
     v4 = v0 + (v2 * 48ull);
     s4(v4 + 11136ull, v8);
     s4(v4 + 11156ull, v13);
@@ -17890,15 +18125,15 @@ L14:;
     goto L8;
 L13:;
     v4 = v0 + 11128ull;
-    s4(v4, l4(v4) + 1u);
+    s4_4(v4, l4_4(v4) + 1u);
 L12:;
     s1(v0 + 14355ull, 10u);
     v16 = v0 + 14360ull;
-    s8(v16, 107ull);
+    s8_8(v16, 107ull);
     v20 = v0 + 14248ull;
-    f181(v20, v10);
-    v4 = l8(v16) + 0xFFFFFFFFFFFFFFF9ull;
-    s8(v16, v4);
+    Tail_number(v20, v10);
+    v4 = l8_8(v16) + 0xFFFFFFFFFFFFFFF9ull;
+    s8_8(v16, v4);
     v4 = v20 + v4;
     if ((v4 - A(data + 153)) > 6ull) goto L86;
     s1(v4 + 6, 32u);
@@ -17912,7 +18147,7 @@ L86:;
 L11:;
     TRAP();
 L10:;
-    v3 = l8(v0 + 14208ull);
+    v3 = l8_8(v0 + 14208ull);
     v8 = 0u;
     v11 = 0u;
     goto L8;
@@ -17933,22 +18168,22 @@ L8:;
     s2(v4 + 11154ull, v13);
     s2(v4 + 11152ull, v19);
     s2(v4 + 11144ull, v24);
-    s4(v4 + 11146ull, l4(v5 + 116));
-    s2(v4 + 11150ull, l2(v5 + 120));
+    s4(v4 + 11146ull, l4_4(v5 + 116));
+    s2(v4 + 11150ull, l2_2(v5 + 120));
     s8(v4 + 11160ull, v21);
     s4(v4 + 11180ull, 0u);
     s4(v4 + 11176ull, v6);
-    s8(v0 + 14208ull, v3 + 1ull);
+    s8_8(v0 + 14208ull, v3 + 1ull);
 L7:;
     s1(v0 + 14355ull, 10u);
     v16 = v0 + 14360ull;
-    s8(v16, 107ull);
+    s8_8(v16, 107ull);
     v20 = v0 + 14248ull;
     v9 = 0u;
     if ((v11 & 255u) != 1u) goto L6;
-    f181(v20, v8);
-    v4 = l8(v16) + 0xFFFFFFFFFFFFFFF7ull;
-    s8(v16, v4);
+    Tail_number(v20, v8);
+    v4 = l8_8(v16) + 0xFFFFFFFFFFFFFFF7ull;
+    s8_8(v16, v4);
     v4 = v20 + v4;
     if ((v4 - A(data + 169)) > 8ull) goto L88;
     s1(v4 + 8, 32u);
@@ -17960,11 +18195,11 @@ L88:;
 L87:;
     v9 = 1u;
 L6:;
-    f181(v20, v10);
+    Tail_number(v20, v10);
     v4 = v0 + 14360ull;
     t1 = v4;
-    v4 = l8(v4) + 0xFFFFFFFFFFFFFFF7ull;
-    s8(t1, v4);
+    v4 = l8_8(v4) + 0xFFFFFFFFFFFFFFF7ull;
+    s8_8(t1, v4);
     v4 = (v0 + v4) + 14248ull;
     if ((v4 - A(data + 160)) > 8ull) goto L90;
     s1(v4 + 8, 32u);
@@ -17989,7 +18224,7 @@ L3:;
     v4 = 11ull;
 L2:;
     v3 = 107ull - v4;
-    s8(v0 + 14360ull, v3);
+    s8_8(v0 + 14360ull, v3);
     v20 = v0 + 14248ull;
     v3 = v20 + v3;
     if ((v3 - v14) >= v4) goto L92;
@@ -18020,8 +18255,8 @@ L92:;
     if (v4 == 0) goto L91;
     copy(v3, v14, v4);
 L91:;
-    v4 = l8(v16) + 0xFFFFFFFFFFFFFFF8ull;
-    s8(v16, v4);
+    v4 = l8_8(v16) + 0xFFFFFFFFFFFFFFF8ull;
+    s8_8(v16, v4);
     v4 = v20 + v4;
     if ((v4 - A(data + 145)) > 7ull) goto L96;
     s8(v4, 0x2064657375666572ull);
@@ -18035,8 +18270,8 @@ L95:;
 L1:;
     v10 = 1u;
     if ((v1 & 255u) != 1u) goto L97;
-    v4 = l8(v16) + 0xFFFFFFFFFFFFFFF9ull;
-    s8(v16, v4);
+    v4 = l8_8(v16) + 0xFFFFFFFFFFFFFFF9ull;
+    s8_8(v16, v4);
     v4 = v20 + v4;
     if ((v4 - A(data + 414)) > 6ull) goto L98;
     s1(v4 + 6, 32u);
@@ -18047,12 +18282,12 @@ L98:;
     s4(v4 + 3, l4(A(data + 417)));
     s4(v4, l4(A(data + 414)));
 L97:;
-    v16 = l8(v0 + 14240ull);
-    v21 = l8(v0 + 14360ull);
+    v16 = l8_8(v0 + 14240ull);
+    v21 = l8_8(v0 + 14360ull);
     v4 = 108ull - v21;
-    if ((l8(v0 + 14232ull) - v16) < v4) goto L99;
+    if ((l8_8(v0 + 14232ull) - v16) < v4) goto L99;
     v34 = v16 + v4;
-    v25 = l8(v0 + 14224ull);
+    v25 = l8_8(v0 + 14224ull);
     v14 = v25 + v16;
     v18 = v20 + v21;
     if ((v14 - v18) >= v4) goto L101;
@@ -18085,7 +18320,7 @@ L101:;
     if (v4 == 0) goto L100;
     copy(v14, v18, v4);
 L100:;
-    s8(v0 + 14240ull, v34);
+    s8_8(v0 + 14240ull, v34);
     if (v11 == 0) goto L106;
     if ((v12 | v9) == 0) goto L106;
     v4 = (u64)(v12 ^ 1u);
@@ -18096,35 +18331,36 @@ L106:;
     v4 = 0ull;
 L105:;
     v2 = v0 + 14368ull;
-    s8(v2, l8(v2) + 1ull);
+    s8_8(v2, l8_8(v2) + 1ull);
     v2 = v0 + 14400ull;
-    s8(v2, l8(v2) + v3);
+    s8_8(v2, l8_8(v2) + v3);
     v3 = v0 + 14408ull;
-    s8(v3, l8(v3) + v4);
+    s8_8(v3, l8_8(v3) + v4);
     v10 = 0u;
 L99:;
     return v10;
 }
 
-static u32 f184(u64 v0, u32 v1)
+/* mscp_script::running::Run::take, crates/mscp_script/src/running.rt:57 */
+static u32 Run_take(u64 v0, u32 v1)
 {
     ROOM(frame, 128);
     u32 v4 = 0, v5 = 0, v6 = 0, v7 = 0, v8 = 0, v10 = 0, v11 = 0, v12 = 0, v14 = 0, v16 = 0, v17 = 0, v18 = 0, v19 = 0;
     u64 v2 = 0, v3 = 0, v9 = 0, v13 = 0, v15 = 0, v20 = 0, v21 = 0, v22 = 0, v23 = 0, v24 = 0, v25 = 0, v26 = 0, t0;
     v2 = A(frame);
     v3 = v2;
-    s8(v3 + 120, 0ull);
-    s8(v3 + 112, 0ull);
-    s8(v3 + 104, 0ull);
-    s8(v3 + 96, 0ull);
-    s8(v3 + 88, 0ull);
-    s8(v3 + 80, 0ull);
-    s8(v3 + 72, 0ull);
+    s8_8(v3 + 120, 0ull);
+    s8_8(v3 + 112, 0ull);
+    s8_8(v3 + 104, 0ull);
+    s8_8(v3 + 96, 0ull);
+    s8_8(v3 + 88, 0ull);
+    s8_8(v3 + 80, 0ull);
+    s8_8(v3 + 72, 0ull);
     if (v1 & 255u) goto L3;
-    f104(v3 + 72ull, v0 + 8040ull);
+    Account_take(v3 + 72ull, v0 + 8040ull);
     goto L2;
 L3:;
-    f104(v3 + 72ull, v0 + 11128ull);
+    Account_take(v3 + 72ull, v0 + 11128ull);
 L2:;
     v4 = l1(v3 + 72) != 1u;
     if (v4 == 0) goto L5;
@@ -18140,11 +18376,11 @@ L2:;
     v13 = 0ull;
     goto L4;
 L5:;
-    v6 = l4(v3 + 120);
-    v5 = l4(v3 + 116);
-    v14 = l4(v3 + 112);
-    v15 = l8(v3 + 104);
-    v8 = l4(v3 + 100);
+    v6 = l4_4(v3 + 120);
+    v5 = l4_4(v3 + 116);
+    v14 = l4_4(v3 + 112);
+    v15 = l8_8(v3 + 104);
+    v8 = l4_4(v3 + 100);
     v7 = l1(v3 + 86);
     v13 = 12ull;
     v2 = 0ull;
@@ -18191,7 +18427,7 @@ L12:;
     v12 = v6;
     goto L7;
 L11:;
-    v16 = l2(v3 + 98);
+    v16 = l2_2(v3 + 98);
     v13 = 28ull;
     v17 = 0u;
     v9 = 0ull;
@@ -18223,33 +18459,33 @@ L8:;
 L7:;
     v19 = 0u;
 L6:;
-    v8 = l2(v3 + 88);
-    v6 = l2(v3 + 84);
-    v5 = l4(v3 + 80);
+    v8 = l2_2(v3 + 88);
+    v6 = l2_2(v3 + 84);
+    v5 = l4_4(v3 + 80);
     v7 = v7 << 16;
     v12 = v19 | (v12 & 65535u);
     v11 = v18 | (v11 & 65535u);
     v9 = ((v9 | (((u64)v16) & 65535ull)) << 32) | ((u64)v17);
 L4:;
     s1(v0 + 14355ull, 10u);
-    s8(v3 + 64, v13);
-    s4(v3 + 60, 0u);
-    s4(v3 + 56, v12);
-    s4(v3 + 52, v11);
-    s4(v3 + 48, 0u);
-    s4(v3 + 44, v10);
-    s8(v3 + 36, v2);
-    s8(v3 + 28, v9);
-    s2(v3 + 26, v8);
-    s4(v3 + 22, v7);
-    s2(v3 + 20, v6);
-    s4(v3 + 16, v5);
+    s8_8(v3 + 64, v13);
+    s4_4(v3 + 60, 0u);
+    s4_4(v3 + 56, v12);
+    s4_4(v3 + 52, v11);
+    s4_4(v3 + 48, 0u);
+    s4_4(v3 + 44, v10);
+    s8_4(v3 + 36, v2);
+    s8_4(v3 + 28, v9);
+    s2_2(v3 + 26, v8);
+    s4_2(v3 + 22, v7);
+    s2_2(v3 + 20, v6);
+    s4_4(v3 + 16, v5);
     v20 = v0 + 14248ull;
     if (v4) goto L16;
     v21 = v0 + 14360ull;
     v15 = v13 << 1;
     v2 = 107ull - v15;
-    s8(v21, v2);
+    s8_8(v21, v2);
     if (v13 == 0) goto L17;
     v9 = v3 + 16ull;
     v2 = (v0 - v15) + 14356ull;
@@ -18261,10 +18497,10 @@ L18:;
     v2 = v2 + 2ull;
     v13 = v13 + 0xFFFFFFFFFFFFFFFFull;
     if (v13 != 0ull) goto L18;
-    v2 = l8(v0 + 14360ull);
+    v2 = l8_8(v0 + 14360ull);
 L17:;
     v2 = v2 + 0xFFFFFFFFFFFFFFFCull;
-    s8(v21, v2);
+    s8_8(v21, v2);
     v2 = v20 + v2;
     if ((v2 - A(data + 421)) > 3ull) goto L19;
     s4(v2, 543452773u);
@@ -18273,7 +18509,7 @@ L19:;
     s4(v2, 543452773u);
     goto L15;
 L16:;
-    s8(v0 + 14360ull, 103ull);
+    s8_8(v0 + 14360ull, 103ull);
     v2 = v0 + 14351ull;
     if ((v2 - A(data + 425)) > 3ull) goto L20;
     s4(v2, 1701736302u);
@@ -18285,8 +18521,8 @@ L15:;
     if ((v1 & 255u) != 1u) goto L21;
     v2 = v0 + 14360ull;
     t0 = v2;
-    v2 = l8(v2) + 0xFFFFFFFFFFFFFFF9ull;
-    s8(t0, v2);
+    v2 = l8_8(v2) + 0xFFFFFFFFFFFFFFF9ull;
+    s8_8(t0, v2);
     v2 = v20 + v2;
     if ((v2 - A(data + 414)) > 6ull) goto L22;
     s1(v2 + 6, 32u);
@@ -18297,12 +18533,12 @@ L22:;
     s4(v2 + 3, l4(A(data + 417)));
     s4(v2, l4(A(data + 414)));
 L21:;
-    v22 = l8(v0 + 14240ull);
-    v23 = l8(v0 + 14360ull);
+    v22 = l8_8(v0 + 14240ull);
+    v23 = l8_8(v0 + 14360ull);
     v2 = 108ull - v23;
-    if ((l8(v0 + 14232ull) - v22) < v2) goto L23;
+    if ((l8_8(v0 + 14232ull) - v22) < v2) goto L23;
     v24 = v22 + v2;
-    v25 = l8(v0 + 14224ull);
+    v25 = l8_8(v0 + 14224ull);
     v21 = v25 + v22;
     v9 = v20 + v23;
     if ((v21 - v9) >= v2) goto L25;
@@ -18336,16 +18572,17 @@ L25:;
     if (v2 == 0) goto L24;
     copy(v21, v9, v2);
 L24:;
-    s8(v0 + 14240ull, v24);
+    s8_8(v0 + 14240ull, v24);
     v2 = v0 + 14368ull;
-    s8(v2, l8(v2) + 1ull);
+    s8_8(v2, l8_8(v2) + 1ull);
     v17 = 0u;
 L23:;
     return v17;
     TRAP();
 }
 
-APART void f185(u64 v0, u64 v1, u64 v2)
+/* mscp_script::reported::run_events, crates/mscp_script/src/reported.rt:38 */
+APART void reported_run_events(u64 v0, u64 v1, u64 v2)
 {
     ROOM(frame, 1008);
     u32 v13 = 0, v14 = 0, v15 = 0, v16 = 0, v17 = 0, v18 = 0, v19 = 0, v20 = 0, v21 = 0, v22 = 0, v28 = 0, v29 = 0, v30
@@ -18355,9 +18592,9 @@ APART void f185(u64 v0, u64 v1, u64 v2)
         v26 = 0, v27 = 0, v34 = 0, v36 = 0, v37 = 0, v38 = 0, v40 = 0, v41 = 0, t17;
     v3 = A(frame);
     v4 = v3;
-    s8(v4 + 16, 0ull);
-    s8(v4 + 8, 0ull);
-    s8(v4, 0ull);
+    s8_8(v4 + 16, 0ull);
+    s8_8(v4 + 8, 0ull);
+    s8_8(v4, 0ull);
     v5 = v2 + 14248ull;
     v6 = v2 + 816ull;
     v7 = v4 + 128ull;
@@ -18366,23 +18603,23 @@ APART void f185(u64 v0, u64 v1, u64 v2)
     v10 = (v4 + 232ull) + 8ull;
     v11 = v4 + 8ull;
 L3:;
-    v12 = l8(v2 + 14368ull);
-    v13 = l4(v4 + 20);
-    v14 = l4(v4 + 16);
-    v15 = l2(v4 + 14);
+    v12 = l8_8(v2 + 14368ull);
+    v13 = l4_4(v4 + 20);
+    v14 = l4_4(v4 + 16);
+    v15 = l2_2(v4 + 14);
     v16 = l1(v4 + 13);
     v17 = l1(v4 + 12);
-    v18 = l2(v4 + 10);
-    v19 = l2(v4 + 8);
-    v20 = l4(v4 + 4);
+    v18 = l2_2(v4 + 10);
+    v19 = l2_2(v4 + 8);
+    v20 = l4_4(v4 + 4);
     v21 = l1(v4 + 1);
     v22 = l1(v4);
 L12:;
-    s8(v4 + 264, 0ull);
-    s8(v4 + 256, 0ull);
-    s8(v4 + 248, 0ull);
-    s8(v4 + 240, 0ull);
-    s8(v4 + 232, 0ull);
+    s8_8(v4 + 264, 0ull);
+    s8_8(v4 + 256, 0ull);
+    s8_8(v4 + 248, 0ull);
+    s8_8(v4 + 240, 0ull);
+    s8_8(v4 + 232, 0ull);
     if (v12 > 999000ull) goto L14;
     v23 = l8(v1 + 8);
     if (v23 == 0) goto L14;
@@ -18417,7 +18654,7 @@ L39:;
     if ((v30 & 255u) != 101u) goto L35;
     if ((v29 & 255u) != 97u) goto L35;
     if ((v28 & 255u) != 100u) goto L35;
-    t0 = f85(v24, 4ull, A(data + 38));
+    t0 = slices_groups_equal(v24, 4ull, A(data + 38));
     if (t0 == 0) goto L35;
     v29 = 3u;
     goto L18;
@@ -18430,7 +18667,7 @@ L38:;
     if ((v30 & 255u) != 111u) goto L29;
     if ((v29 & 255u) != 109u) goto L29;
     if ((v28 & 255u) != 112u) goto L29;
-    t1 = f85(v24, 7ull, A(data + 58));
+    t1 = slices_groups_equal(v24, 7ull, A(data + 58));
     if (t1 == 0) goto L29;
     v29 = 2u;
     goto L18;
@@ -18443,7 +18680,7 @@ L37:;
     if ((v30 & 255u) != 99u) goto L34;
     if ((v29 & 255u) != 101u) goto L34;
     if ((v28 & 255u) != 99u) goto L34;
-    t2 = f85(v24, 6ull, A(data + 47));
+    t2 = slices_groups_equal(v24, 6ull, A(data + 47));
     if (t2 == 0) goto L34;
     v29 = 0u;
     goto L18;
@@ -18457,7 +18694,7 @@ L36:;
     if ((v30 & 255u) != 119u) goto L40;
     if ((v29 & 255u) != 105u) goto L40;
     if ((v28 & 255u) != 116u) goto L40;
-    t3 = f85(v24, 5ull, A(data + 42));
+    t3 = slices_groups_equal(v24, 5ull, A(data + 42));
     if (t3 == 0) goto L33;
     v29 = 4u;
     goto L18;
@@ -18466,7 +18703,7 @@ L40:;
     if ((v30 & 255u) != 101u) goto L33;
     if ((v29 & 255u) != 97u) goto L33;
     if ((v28 & 255u) != 115u) goto L33;
-    t4 = f85(v24, 5ull, A(data + 53));
+    t4 = slices_groups_equal(v24, 5ull, A(data + 53));
     if (t4 == 0) goto L33;
     v29 = 1u;
     goto L18;
@@ -18475,14 +18712,14 @@ L35:;
     if ((v30 & 255u) != 116u) goto L41;
     if ((v29 & 255u) != 101u) goto L41;
     if ((v28 & 255u) != 112u) goto L41;
-    t5 = f85(v24, 4ull, A(data + 65));
+    t5 = slices_groups_equal(v24, 4ull, A(data + 65));
     if (t5) goto L24;
 L41:;
     if (v31 != 116u) goto L42;
     if ((v30 & 255u) != 97u) goto L42;
     if ((v29 & 255u) != 107u) goto L42;
     if ((v28 & 255u) != 101u) goto L42;
-    t6 = f85(v24, 4ull, A(data + 69));
+    t6 = slices_groups_equal(v24, 4ull, A(data + 69));
     if (t6 == 0) goto L42;
     v28 = 0u;
     v33 = 2u;
@@ -18492,7 +18729,7 @@ L42:;
     if ((v30 & 255u) != 111u) goto L14;
     if ((v29 & 255u) != 111u) goto L14;
     if ((v28 & 255u) != 107u) goto L14;
-    t7 = f85(v24, 4ull, A(data + 73));
+    t7 = slices_groups_equal(v24, 4ull, A(data + 73));
     if (t7 == 0) goto L14;
     v28 = 0u;
     v33 = 4u;
@@ -18502,7 +18739,7 @@ L34:;
     if ((v30 & 255u) != 116u) goto L32;
     if ((v28 & 255u) != 97u) goto L32;
     if ((v29 & 255u) != 116u) goto L32;
-    t8 = f85(v24, 6ull, A(data + 77));
+    t8 = slices_groups_equal(v24, 6ull, A(data + 77));
     if (t8) goto L27;
     goto L22;
 L33:;
@@ -18510,7 +18747,7 @@ L33:;
     if (v31 != 98u) goto L14;
     if ((v29 & 255u) != 111u) goto L14;
     if ((v28 & 255u) != 114u) goto L14;
-    t9 = f85(v24, 5ull, A(data + 83));
+    t9 = slices_groups_equal(v24, 5ull, A(data + 83));
     v30 = t9;
     if (v26 == 0) goto L14;
     if (v30 == 0) goto L14;
@@ -18534,7 +18771,7 @@ L32:;
     if ((v30 & 255u) != 97u) goto L22;
     if ((v29 & 255u) != 107u) goto L22;
     if ((v28 & 255u) != 99u) goto L22;
-    t10 = f85(v24, 6ull, A(data + 88));
+    t10 = slices_groups_equal(v24, 6ull, A(data + 88));
     if (t10 == 0) goto L22;
     goto L14;
 L31:;
@@ -18542,14 +18779,14 @@ L31:;
     if ((l1(v24 + 1ull) & 255u) != 101u) goto L14;
     if ((l1(v24 + 2ull) & 255u) != 116u) goto L14;
     if ((l1(v24 + 3ull) & 255u) != 99u) goto L14;
-    f85(v24, 13ull, A(data + 94));
+    slices_groups_equal(v24, 13ull, A(data + 94));
     goto L14;
 L30:;
     if (l1(v24) != 97u) goto L14;
     if ((l1(v24 + 1ull) & 255u) != 118u) goto L14;
     if ((l1(v24 + 2ull) & 255u) != 97u) goto L14;
     if ((l1(v24 + 3ull) & 255u) != 105u) goto L14;
-    t12 = f85(v24, 9ull, A(data + 113));
+    t12 = slices_groups_equal(v24, 9ull, A(data + 113));
     if (t12 == 0) goto L14;
     v28 = 4u;
     goto L21;
@@ -18558,7 +18795,7 @@ L29:;
     if ((v30 & 255u) != 101u) goto L14;
     if ((v29 & 255u) != 116u) goto L14;
     if ((v28 & 255u) != 117u) goto L14;
-    t13 = f85(v24, 7ull, A(data + 122));
+    t13 = slices_groups_equal(v24, 7ull, A(data + 122));
     if (t13 == 0) goto L14;
     v28 = 6u;
     goto L21;
@@ -18567,7 +18804,7 @@ L28:;
     if ((l1(v24 + 1ull) & 255u) != 110u) goto L14;
     if ((l1(v24 + 2ull) & 255u) != 105u) goto L14;
     if ((l1(v24 + 3ull) & 255u) != 116u) goto L14;
-    t14 = f85(v24, 10ull, A(data + 129));
+    t14 = slices_groups_equal(v24, 10ull, A(data + 129));
     if (t14 == 0) goto L14;
     v28 = 2u;
     goto L21;
@@ -18693,7 +18930,7 @@ L22:;
     if ((v30 & 255u) != 110u) goto L14;
     if ((v28 & 255u) != 108u) goto L14;
     if ((v29 & 255u) != 105u) goto L14;
-    t15 = f85(v24, 6ull, A(data + 107));
+    t15 = slices_groups_equal(v24, 6ull, A(data + 107));
     if (t15 == 0) goto L14;
     v28 = 5u;
 L21:;
@@ -18857,7 +19094,7 @@ L17:;
     v3 = v26 + 0xFFFFFFFFFFFFFFFFull;
     if ((v3 - v23) < 0xFFFFFFFFFFFFFF37ull) goto L14;
     v24 = v1 + 16ull;
-    v39 = l4(v24);
+    v39 = l4_4(v24);
     if (v39 > 999999u) goto L14;
     v18 = 0u;
     s4(v1 + 20, 0u);
@@ -18875,17 +19112,17 @@ L17:;
     v21 = 0u;
     goto L13;
 L14:;
-    f179(v4 + 232ull, v1, v12);
+    Lines_worded_request(v4 + 232ull, v1, v12);
     if (l1(v4 + 232)) goto L10;
     if (l1(v4 + 240) != 1u) goto L8;
-    v13 = l4(v4 + 268);
-    v14 = l4(v4 + 264);
-    v15 = l2(v4 + 262);
+    v13 = l4_4(v4 + 268);
+    v14 = l4_4(v4 + 264);
+    v15 = l2_2(v4 + 262);
     v16 = l1(v4 + 261);
     v17 = l1(v4 + 260);
-    v18 = l2(v4 + 258);
-    v19 = l2(v4 + 256);
-    v20 = l4(v4 + 252);
+    v18 = l2_2(v4 + 258);
+    v19 = l2_2(v4 + 256);
+    v20 = l4_4(v4 + 252);
     v21 = l1(v4 + 249);
     v22 = l1(v4 + 248);
 L13:;
@@ -18898,13 +19135,13 @@ L13:;
     default: goto L78;
     }
 L78:;
-    s4(v4 + 20, v13);
-    s4(v4 + 16, v14);
-    s2(v4 + 14, v15);
+    s4_4(v4 + 20, v13);
+    s4_4(v4 + 16, v14);
+    s2_2(v4 + 14, v15);
     s1(v4 + 13, v16);
-    s2(v4 + 10, v18);
-    s2(v4 + 8, v19);
-    s4(v4 + 4, v20);
+    s2_2(v4 + 10, v18);
+    s2_2(v4 + 8, v19);
+    s4_4(v4 + 4, v20);
     s1(v4 + 1, v21);
     s1(v4, v22);
     s1(v4 + 12, v17);
@@ -18961,57 +19198,57 @@ L79:;
     v22 = v28;
     goto L6;
 L77:;
-    s2(v4 + 14, v15);
+    s2_2(v4 + 14, v15);
     s1(v4 + 13, v16);
     s1(v4 + 12, v17);
-    s2(v4 + 10, v18);
-    s2(v4 + 8, v19);
-    s4(v4 + 20, v13);
-    s4(v4 + 16, v14);
-    s4(v4 + 4, v20);
+    s2_2(v4 + 10, v18);
+    s2_2(v4 + 8, v19);
+    s4_4(v4 + 20, v13);
+    s4_4(v4 + 16, v14);
+    s4_4(v4 + 4, v20);
     s1(v4 + 1, v21);
     s1(v4, v22);
-    v24 = l8(v4 + 8);
-    v3 = l8(v4 + 16);
+    v24 = l8_8(v4 + 8);
+    v3 = l8_8(v4 + 16);
     fill(v4 + 232ull, 0u, 80ull);
     if ((v3 + 0xFFFFFFFFFFFFFF7Eull) <= 0xFFFFFFFFFFFFFF7Full) goto L74;
-    f176(v4 + 232ull, v24, v3);
+    decoding_decode(v4 + 232ull, v24, v3);
     if (l1(v4 + 232)) goto L74;
     copy(v9, v10, 72ull);
     copy(v4 + 232ull, v9, 72ull);
     goto L11;
 L76:;
-    s4(v4 + 20, v13);
-    s4(v4 + 16, v14);
-    s2(v4 + 14, v15);
+    s4_4(v4 + 20, v13);
+    s4_4(v4 + 16, v14);
+    s2_2(v4 + 14, v15);
     s1(v4 + 13, v16);
     s1(v4 + 12, v17);
-    s2(v4 + 10, v18);
-    s2(v4 + 8, v19);
-    s4(v4 + 4, v20);
+    s2_2(v4 + 10, v18);
+    s2_2(v4 + 8, v19);
+    s4_4(v4 + 4, v20);
     s1(v4 + 1, v21);
     s1(v4, v22);
-    t16 = f182(v2, v20, v11);
+    t16 = Run_steps(v2, v20, v11);
     if ((t16 & 255u) == 0) goto L3;
     goto L4;
 L75:;
     fill(v4 + 232ull, 0u, 776ull);
-    f97(v4 + 232ull, v6);
-    v40 = l8(v4 + 1000);
+    Backlog_look(v4 + 232ull, v6);
+    v40 = l8_8(v4 + 1000);
     if (v40 == 0) goto L87;
     v37 = 0ull;
 L88:;
     s1(v2 + 14355ull, 10u);
     v3 = v2 + 14360ull;
-    s8(v3, 107ull);
+    s8_8(v3, 107ull);
     v24 = (v4 + 232ull) + (v37 * 12ull);
-    f181(v5, l4(v24 + 8ull));
-    v23 = l8(v3) + 0xFFFFFFFFFFFFFFFFull;
-    s8(v3, v23);
+    Tail_number(v5, l4_4(v24 + 8ull));
+    v23 = l8_8(v3) + 0xFFFFFFFFFFFFFFFFull;
+    s8_8(v3, v23);
     s1(v5 + v23, 32u);
-    f181(v5, l4(v24 + 4ull));
-    v23 = l8(v3) + 0xFFFFFFFFFFFFFFF9ull;
-    s8(v3, v23);
+    Tail_number(v5, l4_4(v24 + 4ull));
+    v23 = l8_8(v3) + 0xFFFFFFFFFFFFFFF9ull;
+    s8_8(v3, v23);
     v3 = v5 + v23;
     if ((v3 - A(data + 482)) > 6ull) goto L90;
     s1(v3 + 6, 32u);
@@ -19025,8 +19262,8 @@ L89:;
     if (l1(v24) != 1u) goto L91;
     v3 = v2 + 14360ull;
     t17 = v3;
-    v3 = l8(v3) + 0xFFFFFFFFFFFFFFF9ull;
-    s8(t17, v3);
+    v3 = l8_8(v3) + 0xFFFFFFFFFFFFFFF9ull;
+    s8_8(t17, v3);
     v3 = v5 + v3;
     if ((v3 - A(data + 414)) > 6ull) goto L92;
     s1(v3 + 6, 32u);
@@ -19037,24 +19274,24 @@ L92:;
     s4(v3 + 3, l4(A(data + 417)));
     s4(v3, l4(A(data + 414)));
 L91:;
-    v34 = l8(v2 + 14240ull);
-    v36 = l8(v2 + 14360ull);
+    v34 = l8_8(v2 + 14240ull);
+    v36 = l8_8(v2 + 14360ull);
     v3 = 108ull - v36;
-    if ((l8(v2 + 14232ull) - v34) >= v3) goto L93;
-    s4(v4 + 20, v13);
-    s4(v4 + 16, v14);
-    s2(v4 + 14, v15);
+    if ((l8_8(v2 + 14232ull) - v34) >= v3) goto L93;
+    s4_4(v4 + 20, v13);
+    s4_4(v4 + 16, v14);
+    s2_2(v4 + 14, v15);
     s1(v4 + 13, v16);
     s1(v4 + 12, v17);
-    s2(v4 + 10, v18);
-    s2(v4 + 8, v19);
-    s4(v4 + 4, v20);
+    s2_2(v4 + 10, v18);
+    s2_2(v4 + 8, v19);
+    s4_4(v4 + 4, v20);
     s1(v4 + 1, v21);
     s1(v4, v22);
     goto L4;
 L93:;
     v38 = v34 + v3;
-    v41 = l8(v2 + 14224ull);
+    v41 = l8_8(v2 + 14224ull);
     v25 = v41 + v34;
     v24 = v5 + v36;
     if ((v25 - v24) >= v3) goto L95;
@@ -19088,59 +19325,59 @@ L95:;
     if (v3 == 0) goto L94;
     copy(v25, v24, v3);
 L94:;
-    s8(v2 + 14240ull, v38);
+    s8_8(v2 + 14240ull, v38);
     v37 = v37 + 1ull;
     if (v37 != v40) goto L88;
 L87:;
     v3 = v2 + 14368ull;
-    v12 = l8(v3) + 1ull;
-    s8(v3, v12);
+    v12 = l8_8(v3) + 1ull;
+    s8_8(v3, v12);
     goto L12;
 L74:;
     fill(v4 + 232ull, 0u, 72ull);
 L11:;
     copy(v4 + 24ull, v4 + 232ull, 72ull);
-    t18 = f183(v2, v21, v4 + 24ull, l8(v4 + 88));
+    t18 = Run_send(v2, v21, v4 + 24ull, l8_8(v4 + 88));
     if ((t18 & 255u) == 0) goto L3;
     goto L4;
 L10:;
-    s4(v4 + 20, v13);
-    s4(v4 + 16, v14);
-    s2(v4 + 14, v15);
+    s4_4(v4 + 20, v13);
+    s4_4(v4 + 16, v14);
+    s2_2(v4 + 14, v15);
     s1(v4 + 13, v16);
     s1(v4 + 12, v17);
-    s2(v4 + 10, v18);
-    s2(v4 + 8, v19);
-    s4(v4 + 4, v20);
+    s2_2(v4 + 10, v18);
+    s2_2(v4 + 8, v19);
+    s4_4(v4 + 4, v20);
     s1(v4 + 1, v21);
     s1(v4, v22);
-    s8(v0 + 8ull, l8(v4 + 236));
+    s8(v0 + 8ull, l8_4(v4 + 236));
     s4(v0 + 4ull, 0u);
     s1(v0, 1u);
     goto L1;
 L9:;
-    s4(v4 + 20, v13);
-    s4(v4 + 16, v14);
-    s2(v4 + 14, v15);
+    s4_4(v4 + 20, v13);
+    s4_4(v4 + 16, v14);
+    s2_2(v4 + 14, v15);
     s1(v4 + 13, v16);
     s1(v4 + 12, v17);
-    s2(v4 + 10, v18);
-    s2(v4 + 8, v19);
-    s4(v4 + 4, v20);
+    s2_2(v4 + 10, v18);
+    s2_2(v4 + 8, v19);
+    s4_4(v4 + 4, v20);
     s1(v4 + 1, v21);
     s1(v4, v22);
-    t19 = f184(v2, v21);
+    t19 = Run_take(v2, v21);
     if ((t19 & 255u) == 0) goto L3;
     goto L4;
 L8:;
-    s4(v4 + 20, v13);
-    s4(v4 + 16, v14);
-    s2(v4 + 14, v15);
+    s4_4(v4 + 20, v13);
+    s4_4(v4 + 16, v14);
+    s2_2(v4 + 14, v15);
     s1(v4 + 13, v16);
     s1(v4 + 12, v17);
-    s2(v4 + 10, v18);
-    s2(v4 + 8, v19);
-    s4(v4 + 4, v20);
+    s2_2(v4 + 10, v18);
+    s2_2(v4 + 8, v19);
+    s4_4(v4 + 4, v20);
     s1(v4 + 1, v21);
     s1(v4, v22);
     s8(v0 + 8ull, 0ull);
@@ -19153,21 +19390,21 @@ L7:;
 L6:;
     v29 = 0u;
 L5:;
-    s2(v8 + 8, 0u);
-    s8(v8, 0ull);
-    s8(v7, 0ull);
-    s8(v7 + 8, 0ull);
-    s4(v4 + 124, v29);
-    s2(v4 + 112, 0u);
+    s2_2(v8 + 8, 0u);
+    s8_2(v8, 0ull);
+    s8_8(v7, 0ull);
+    s8_8(v7 + 8, 0ull);
+    s4_4(v4 + 124, v29);
+    s2_2(v4 + 112, 0u);
     s1(v4 + 107, 0u);
     s2(v4 + 105, 0u);
     s1(v4 + 104, v22);
-    s2(v4 + 102, 0u);
-    s2(v4 + 100, v19);
-    s4(v4 + 96, v20);
-    s8(v4 + 144, v3);
-    s4(v4 + 108, v30 | (v18 & 65535u));
-    t20 = f183(v2, v21, v4 + 96ull, v3);
+    s2_2(v4 + 102, 0u);
+    s2_2(v4 + 100, v19);
+    s4_4(v4 + 96, v20);
+    s8_8(v4 + 144, v3);
+    s4_4(v4 + 108, v30 | (v18 & 65535u));
+    t20 = Run_send(v2, v21, v4 + 96ull, v3);
     if ((t20 & 255u) == 0) goto L3;
 L4:;
     s1(v0, 1u);
@@ -19179,7 +19416,8 @@ L1:;
     return;
 }
 
-static u64 f186(u64 v0, u64 v1)
+/* itoa::integer::write_unsigned, of the kit */
+static u64 integer_write_unsigned(u64 v0, u64 v1)
 {
     u32 v5 = 0, v6 = 0, t0;
     u64 v2 = 0, v3 = 0, v4 = 0;
@@ -19222,7 +19460,8 @@ L6:;
     TRAP();
 }
 
-static void f187(u64 v0, u64 v1, u64 v2, u32 v3)
+/* __ashlti3, of the kit */
+static void ashlti3(u64 v0, u64 v1, u64 v2, u32 v3)
 {
     u64 v4 = 0;
     if ((v3 & 64u) == 0) goto L2;
@@ -19234,12 +19473,13 @@ L2:;
     v2 = ((v1 >> 1) >> (((u64)((v3 & 63u) ^ 63u)) & 63)) | (v2 << (v4 & 63));
     v1 = v1 << (v4 & 63);
 L1:;
-    s8(v0 + 8, v2);
-    s8(v0, v1);
+    s8_8(v0 + 8, v2);
+    s8_8(v0, v1);
     return;
 }
 
-static void f188(u64 v0, u64 v1, u64 v2, u32 v3)
+/* __lshrti3, of the kit */
+static void lshrti3(u64 v0, u64 v1, u64 v2, u32 v3)
 {
     u64 v4 = 0;
     if ((v3 & 64u) == 0) goto L2;
@@ -19251,12 +19491,13 @@ L2:;
     v1 = ((v2 << 1) << (((u64)((v3 & 63u) ^ 63u)) & 63)) | (v1 >> (v4 & 63));
     v2 = v2 >> (v4 & 63);
 L1:;
-    s8(v0 + 8, v2);
-    s8(v0, v1);
+    s8_8(v0 + 8, v2);
+    s8_8(v0, v1);
     return;
 }
 
-APART u32 f189(u64 v0, u64 v1, u64 v2, u64 v3, u64 v4, u64 v5)
+/* mscp_c::mscp_run_script_at, crates/mscp_c/src/running.rt:37 */
+APART u32 export_mscp_run_script_at(u64 v0, u64 v1, u64 v2, u64 v3, u64 v4, u64 v5)
 {
     ROOM(frame, 40352);
     u32 v13 = 0, v20 = 0, v21 = 0, v22 = 0, v23 = 0, v24 = 0, v25 = 0, v26 = 0, v27 = 0, v29 = 0, v30 = 0, v31 = 0, v32
@@ -19264,66 +19505,66 @@ APART u32 f189(u64 v0, u64 v1, u64 v2, u64 v3, u64 v4, u64 v5)
     u64 v6 = 0, v7 = 0, v8 = 0, v9 = 0, v10 = 0, v11 = 0, v12 = 0, v14 = 0, v15 = 0, v16 = 0, v17 = 0, v18 = 0, v19 =
         0, v28 = 0, v33 = 0, v34 = 0, v35 = 0, v36 = 0, t6, t8;
     v6 = A(frame);
-    s4(v6 + 96, 0u);
+    s4_4(v6 + 96, 0u);
     if (v1 > 16777216ull) goto L8;
-    s8(v6 + 88, 0ull);
-    s8(v6 + 80, v1);
+    s8_8(v6 + 88, 0ull);
+    s8_8(v6 + 80, v1);
     v1 = v0 + ((v0 == 0) ? 4096ull : 0ull);
-    s4(v6 + 72, (u32)v1);
-    s8(v6 + 100, v1);
-    s4(v6 + 76, (u32)(v1 >> 32));
+    s4_4(v6 + 72, (u32)v1);
+    s8_4(v6 + 100, v1);
+    s4_4(v6 + 76, (u32)(v1 >> 32));
     fill(v6 + 8880ull, 0u, 14416ull);
     fill(v6 + 8064ull, 0u, 808ull);
     fill(v6 + 4256ull, 0u, 3808ull);
     fill(v6 + 3224ull, 0u, 1032ull);
     fill(v6 + 1936ull, 0u, 1288ull);
     fill(v6 + 912ull, 0u, 1024ull);
-    s2(v6 + 908, 0u);
-    s4(v6 + 904, 0u);
+    s2_2(v6 + 908, 0u);
+    s4_4(v6 + 904, 0u);
     fill(v6 + 128ull, 0u, 776ull);
-    s8(v6 + 120, 0ull);
-    s8(v6 + 112, 0ull);
+    s8_8(v6 + 120, 0ull);
+    s8_8(v6 + 112, 0ull);
     fill(v6 + 23336ull, 0u, 776ull);
-    s4(v6 + 24640, 0u);
-    s8(v6 + 24632, 0ull);
-    s8(v6 + 24624, 0ull);
-    s8(v6 + 39328, 0ull);
-    s8(v6 + 39336, 0ull);
-    s4(v6 + 39344, 0u);
-    s8(v6 + 29568, 0ull);
-    s8(v6 + 29576, 0ull);
-    s4(v6 + 29584, 0u);
-    s8(v6 + 25656, 0ull);
-    s8(v6 + 25664, 0ull);
-    s4(v6 + 25672, 0u);
-    s8(v6 + 26464, 0ull);
-    s8(v6 + 26472, 0ull);
-    s4(v6 + 26480, 0u);
-    s8(v6 + 32696, 0ull);
-    s8(v6 + 32704, 0ull);
-    s4(v6 + 32712, 0u);
-    s8(v6 + 23312, 0ull);
-    s8(v6 + 23304, 0ull);
-    s4(v6 + 23296, 0u);
-    s2(v6 + 23300, 0u);
+    s4_4(v6 + 24640, 0u);
+    s8_8(v6 + 24632, 0ull);
+    s8_8(v6 + 24624, 0ull);
+    s8_8(v6 + 39328, 0ull);
+    s8_8(v6 + 39336, 0ull);
+    s4_4(v6 + 39344, 0u);
+    s8_8(v6 + 29568, 0ull);
+    s8_8(v6 + 29576, 0ull);
+    s4_4(v6 + 29584, 0u);
+    s8_8(v6 + 25656, 0ull);
+    s8_8(v6 + 25664, 0ull);
+    s4_4(v6 + 25672, 0u);
+    s8_8(v6 + 26464, 0ull);
+    s8_8(v6 + 26472, 0ull);
+    s4_4(v6 + 26480, 0u);
+    s8_8(v6 + 32696, 0ull);
+    s8_8(v6 + 32704, 0ull);
+    s4_4(v6 + 32712, 0u);
+    s8_8(v6 + 23312, 0ull);
+    s8_8(v6 + 23304, 0ull);
+    s4_4(v6 + 23296, 0u);
+    s2_2(v6 + 23300, 0u);
     fill(v6 + 31664ull, 0u, 776ull);
-    s4(v6 + 33480, 0u);
-    s8(v6 + 33472, 0ull);
-    s8(v6 + 35544, 0ull);
-    s8(v6 + 35536, 0ull);
-    s8(v6 + 35528, 0ull);
-    s8(v6 + 35520, 0ull);
-    f169(v6 + 35520ull, v6 + 72ull);
-    v7 = l8(v6 + 35524);
+    s4_4(v6 + 33480, 0u);
+    s8_8(v6 + 33472, 0ull);
+    s8_8(v6 + 35544, 0ull);
+    s8_8(v6 + 35536, 0ull);
+    s8_8(v6 + 35528, 0ull);
+    s8_8(v6 + 35520, 0ull);
+    Lines_header_line(v6 + 35520ull, v6 + 72ull);
+    v7 = l8_4(v6 + 35524);
     if (l1(v6 + 35520)) goto L2;
     v8 = 17179869184ull;
-    v0 = l8(v6 + 35544);
+    v0 = l8_8(v6 + 35544);
     if (v0 == 0) goto L9;
     v9 = v3 >> 1;
     v10 = v3 - v9;
     v11 = v2 + ((v2 == 0) ? 4096ull : 0ull);
     v12 = v11 + v9;
-    v1 = l8(v6 + 35536);
+    v1 = l8_8(v6 + 35536);
 L11:;
     v13 = l1(v1);
     if (v13 == 32u) goto L12;
@@ -19353,7 +19594,7 @@ L13:;
     if ((l1(v1 + 1ull) & 255u) != 114u) goto L9;
     if ((l1(v1 + 2ull) & 255u) != 101u) goto L9;
     if ((l1(v1 + 3ull) & 255u) != 100u) goto L9;
-    t0 = f85(v1, 7ull, A(data + 14));
+    t0 = slices_groups_equal(v1, 7ull, A(data + 14));
     if (t0 == 0) goto L9;
     v8 = 21474836480ull;
     v3 = v0 - v15;
@@ -19456,17 +19697,17 @@ L8:;
     v7 = 0ull;
     goto L2;
 L7:;
-    s8(v6 + 35544, 0ull);
-    s8(v6 + 35536, 0ull);
-    s8(v6 + 35528, 0ull);
-    s8(v6 + 35520, 0ull);
-    f169(v6 + 35520ull, v6 + 72ull);
-    v7 = l8(v6 + 35524);
+    s8_8(v6 + 35544, 0ull);
+    s8_8(v6 + 35536, 0ull);
+    s8_8(v6 + 35528, 0ull);
+    s8_8(v6 + 35520, 0ull);
+    Lines_header_line(v6 + 35520ull, v6 + 72ull);
+    v7 = l8_4(v6 + 35524);
     if (l1(v6 + 35520)) goto L2;
     v16 = 17179869184ull;
-    v2 = l8(v6 + 35544);
+    v2 = l8_8(v6 + 35544);
     if (v2 == 0) goto L3;
-    v1 = l8(v6 + 35536);
+    v1 = l8_8(v6 + 35536);
 L36:;
     v13 = l1(v1);
     if (v13 == 32u) goto L37;
@@ -19504,7 +19745,7 @@ L44:;
     if ((l1(v1 + 1ull) & 255u) != 97u) goto L3;
     if ((l1(v1 + 2ull) & 255u) != 115u) goto L3;
     if ((l1(v1 + 3ull) & 255u) != 115u) goto L3;
-    t1 = f85(v1, 7ull, A(data + 27));
+    t1 = slices_groups_equal(v1, 7ull, A(data + 27));
     if (t1 == 0) goto L3;
     v16 = 21474836480ull;
     if (v3 == 0) goto L3;
@@ -19556,7 +19797,7 @@ L43:;
     if ((l1(v1 + 1ull) & 255u) != 117u) goto L3;
     if ((l1(v1 + 2ull) & 255u) != 100u) goto L3;
     if ((l1(v1 + 3ull) & 255u) != 103u) goto L3;
-    t2 = f85(v1, 6ull, A(data + 21));
+    t2 = slices_groups_equal(v1, 6ull, A(data + 21));
     if (t2 == 0) goto L3;
     v16 = 21474836480ull;
     if (v3 == 0) goto L3;
@@ -19603,167 +19844,167 @@ L64:;
     if (v1 > 4294967295ull) goto L3;
     v13 = 1u;
 L42:;
-    f170(v6 + 33472ull, v6 + 72ull, A(data + 0), 0xFFFFFFFFu);
-    v2 = l8(v6 + 33476);
+    header_read_setting(v6 + 33472ull, v6 + 72ull, A(data + 0), 0xFFFFFFFFu);
+    v2 = l8_4(v6 + 33476);
     if (l1(v6 + 33472) == 0) goto L65;
     v7 = v2;
     goto L2;
 L65:;
-    f170(v6 + 33472ull, v6 + 72ull, A(data + 7), 65535u);
-    v3 = l8(v6 + 33476);
+    header_read_setting(v6 + 33472ull, v6 + 72ull, A(data + 7), 65535u);
+    v3 = l8_4(v6 + 33476);
     if (l1(v6 + 33472) == 0) goto L66;
     v7 = v3;
     goto L2;
 L66:;
-    s8(v6 + 24624, 0ull);
-    s8(v6 + 24632, 0ull);
-    s4(v6 + 24640, 0u);
-    s8(v6 + 39328, 0ull);
-    s8(v6 + 39336, 0ull);
-    s4(v6 + 39344, 0u);
-    s8(v6 + 29568, 0ull);
-    s8(v6 + 29576, 0ull);
-    s4(v6 + 29584, 0u);
-    s8(v6 + 25656, 0ull);
-    s8(v6 + 25664, 0ull);
-    s4(v6 + 25672, 0u);
-    s8(v6 + 26464, 0ull);
-    s8(v6 + 26472, 0ull);
-    s4(v6 + 26480, 0u);
-    s8(v6 + 32696, 0ull);
-    s8(v6 + 32704, 0ull);
-    s4(v6 + 32712, 0u);
-    s8(v6 + 23312, 0ull);
-    s8(v6 + 23304, 0ull);
-    s4(v6 + 23344, 1u);
-    s8(v6 + 23336, 0x1000100010000ull);
-    s8(v6 + 23348, 0ull);
-    s8(v6 + 23356, 0ull);
-    s4(v6 + 23364, 0u);
-    s8(v6 + 23368, 0xFFFFFFFFFFFFFFFFull);
-    s4(v6 + 23392, 1u);
-    s8(v6 + 23376, 0ull);
-    s8(v6 + 23384, 0x1000100010000ull);
-    s8(v6 + 23396, 0ull);
-    s8(v6 + 23404, 0ull);
-    s4(v6 + 23412, 0u);
-    s8(v6 + 23416, 0xFFFFFFFFFFFFFFFFull);
-    s4(v6 + 23440, 1u);
-    s8(v6 + 23424, 0ull);
-    s8(v6 + 23432, 0x1000100010000ull);
-    s4(v6 + 23460, 0u);
-    s8(v6 + 23452, 0ull);
-    s8(v6 + 23444, 0ull);
-    s8(v6 + 23480, 0x1000100010000ull);
-    s8(v6 + 23472, 0ull);
-    s4(v6 + 23488, 1u);
-    s8(v6 + 23464, 0xFFFFFFFFFFFFFFFFull);
-    s8(v6 + 23492, 0ull);
-    s8(v6 + 23500, 0ull);
-    s4(v6 + 23508, 0u);
-    s8(v6 + 23528, 0x1000100010000ull);
-    s8(v6 + 23520, 0ull);
-    s4(v6 + 23536, 1u);
-    s8(v6 + 23512, 0xFFFFFFFFFFFFFFFFull);
-    s8(v6 + 23540, 0ull);
-    s8(v6 + 23548, 0ull);
-    s4(v6 + 23556, 0u);
-    s8(v6 + 23576, 0x1000100010000ull);
-    s8(v6 + 23568, 0ull);
-    s4(v6 + 23584, 1u);
-    s8(v6 + 23560, 0xFFFFFFFFFFFFFFFFull);
-    s4(v6 + 23604, 0u);
-    s8(v6 + 23596, 0ull);
-    s8(v6 + 23588, 0ull);
-    s4(v6 + 23632, 1u);
-    s8(v6 + 23624, 0x1000100010000ull);
-    s8(v6 + 23616, 0ull);
-    s8(v6 + 23608, 0xFFFFFFFFFFFFFFFFull);
-    s4(v6 + 23652, 0u);
-    s8(v6 + 23644, 0ull);
-    s8(v6 + 23636, 0ull);
-    s4(v6 + 23680, 1u);
-    s8(v6 + 23672, 0x1000100010000ull);
-    s8(v6 + 23664, 0ull);
-    s8(v6 + 23656, 0xFFFFFFFFFFFFFFFFull);
-    s4(v6 + 23700, 0u);
-    s8(v6 + 23692, 0ull);
-    s8(v6 + 23684, 0ull);
-    s4(v6 + 23728, 1u);
-    s8(v6 + 23720, 0x1000100010000ull);
-    s8(v6 + 23712, 0ull);
-    s8(v6 + 23704, 0xFFFFFFFFFFFFFFFFull);
-    s4(v6 + 23748, 0u);
-    s8(v6 + 23740, 0ull);
-    s8(v6 + 23732, 0ull);
-    s4(v6 + 23776, 1u);
-    s8(v6 + 23768, 0x1000100010000ull);
-    s8(v6 + 23760, 0ull);
-    s8(v6 + 23752, 0xFFFFFFFFFFFFFFFFull);
-    s4(v6 + 23796, 0u);
-    s8(v6 + 23788, 0ull);
-    s8(v6 + 23780, 0ull);
-    s4(v6 + 23824, 1u);
-    s8(v6 + 23816, 0x1000100010000ull);
-    s8(v6 + 23808, 0ull);
-    s8(v6 + 23800, 0xFFFFFFFFFFFFFFFFull);
-    s4(v6 + 23844, l4(v6 + 24640));
-    s8(v6 + 23836, l8(v6 + 24632));
-    s8(v6 + 23828, l8(v6 + 24624));
-    s4(v6 + 23872, 1u);
-    s8(v6 + 23864, 0x1000100010000ull);
-    s8(v6 + 23856, 0ull);
-    s8(v6 + 23848, 0xFFFFFFFFFFFFFFFFull);
-    s4(v6 + 23892, l4(v6 + 39344));
-    s8(v6 + 23884, l8(v6 + 39336));
-    s8(v6 + 23876, l8(v6 + 39328));
-    s4(v6 + 23920, 1u);
-    s8(v6 + 23912, 0x1000100010000ull);
-    s8(v6 + 23904, 0ull);
-    s8(v6 + 23896, 0xFFFFFFFFFFFFFFFFull);
-    s4(v6 + 23940, l4(v6 + 29584));
-    s8(v6 + 23932, l8(v6 + 29576));
-    s8(v6 + 23924, l8(v6 + 29568));
-    s4(v6 + 23968, 1u);
-    s8(v6 + 23960, 0x1000100010000ull);
-    s8(v6 + 23952, 0ull);
-    s8(v6 + 23944, 0xFFFFFFFFFFFFFFFFull);
-    s4(v6 + 23988, l4(v6 + 25672));
-    s8(v6 + 23980, l8(v6 + 25664));
-    s8(v6 + 23972, l8(v6 + 25656));
-    s4(v6 + 24016, 1u);
-    s8(v6 + 24008, 0x1000100010000ull);
-    s8(v6 + 24000, 0ull);
-    s8(v6 + 23992, 0xFFFFFFFFFFFFFFFFull);
-    s4(v6 + 24036, l4(v6 + 26480));
-    s8(v6 + 24028, l8(v6 + 26472));
-    s8(v6 + 24020, l8(v6 + 26464));
-    s4(v6 + 24064, 1u);
-    s8(v6 + 24056, 0x1000100010000ull);
-    s8(v6 + 24048, 0ull);
-    s8(v6 + 24040, 0xFFFFFFFFFFFFFFFFull);
-    s4(v6 + 24084, l4(v6 + 32712));
-    s8(v6 + 24076, l8(v6 + 32704));
-    s8(v6 + 24068, l8(v6 + 32696));
-    s8(v6 + 24088, 0xFFFFFFFFFFFFFFFFull);
-    s8(v6 + 24104, l8(v6 + 23312));
-    s8(v6 + 24096, l8(v6 + 23304));
-    s8(v6 + 35544, 0ull);
-    s8(v6 + 35536, 0ull);
-    s8(v6 + 35528, 0ull);
-    s8(v6 + 35520, 0ull);
-    f169(v6 + 35520ull, v6 + 72ull);
-    v7 = l8(v6 + 35524);
+    s8_8(v6 + 24624, 0ull);
+    s8_8(v6 + 24632, 0ull);
+    s4_4(v6 + 24640, 0u);
+    s8_8(v6 + 39328, 0ull);
+    s8_8(v6 + 39336, 0ull);
+    s4_4(v6 + 39344, 0u);
+    s8_8(v6 + 29568, 0ull);
+    s8_8(v6 + 29576, 0ull);
+    s4_4(v6 + 29584, 0u);
+    s8_8(v6 + 25656, 0ull);
+    s8_8(v6 + 25664, 0ull);
+    s4_4(v6 + 25672, 0u);
+    s8_8(v6 + 26464, 0ull);
+    s8_8(v6 + 26472, 0ull);
+    s4_4(v6 + 26480, 0u);
+    s8_8(v6 + 32696, 0ull);
+    s8_8(v6 + 32704, 0ull);
+    s4_4(v6 + 32712, 0u);
+    s8_8(v6 + 23312, 0ull);
+    s8_8(v6 + 23304, 0ull);
+    s4_4(v6 + 23344, 1u);
+    s8_8(v6 + 23336, 0x1000100010000ull);
+    s8_4(v6 + 23348, 0ull);
+    s8_4(v6 + 23356, 0ull);
+    s4_4(v6 + 23364, 0u);
+    s8_8(v6 + 23368, 0xFFFFFFFFFFFFFFFFull);
+    s4_4(v6 + 23392, 1u);
+    s8_8(v6 + 23376, 0ull);
+    s8_8(v6 + 23384, 0x1000100010000ull);
+    s8_4(v6 + 23396, 0ull);
+    s8_4(v6 + 23404, 0ull);
+    s4_4(v6 + 23412, 0u);
+    s8_8(v6 + 23416, 0xFFFFFFFFFFFFFFFFull);
+    s4_4(v6 + 23440, 1u);
+    s8_8(v6 + 23424, 0ull);
+    s8_8(v6 + 23432, 0x1000100010000ull);
+    s4_4(v6 + 23460, 0u);
+    s8_4(v6 + 23452, 0ull);
+    s8_4(v6 + 23444, 0ull);
+    s8_8(v6 + 23480, 0x1000100010000ull);
+    s8_8(v6 + 23472, 0ull);
+    s4_4(v6 + 23488, 1u);
+    s8_8(v6 + 23464, 0xFFFFFFFFFFFFFFFFull);
+    s8_4(v6 + 23492, 0ull);
+    s8_4(v6 + 23500, 0ull);
+    s4_4(v6 + 23508, 0u);
+    s8_8(v6 + 23528, 0x1000100010000ull);
+    s8_8(v6 + 23520, 0ull);
+    s4_4(v6 + 23536, 1u);
+    s8_8(v6 + 23512, 0xFFFFFFFFFFFFFFFFull);
+    s8_4(v6 + 23540, 0ull);
+    s8_4(v6 + 23548, 0ull);
+    s4_4(v6 + 23556, 0u);
+    s8_8(v6 + 23576, 0x1000100010000ull);
+    s8_8(v6 + 23568, 0ull);
+    s4_4(v6 + 23584, 1u);
+    s8_8(v6 + 23560, 0xFFFFFFFFFFFFFFFFull);
+    s4_4(v6 + 23604, 0u);
+    s8_4(v6 + 23596, 0ull);
+    s8_4(v6 + 23588, 0ull);
+    s4_4(v6 + 23632, 1u);
+    s8_8(v6 + 23624, 0x1000100010000ull);
+    s8_8(v6 + 23616, 0ull);
+    s8_8(v6 + 23608, 0xFFFFFFFFFFFFFFFFull);
+    s4_4(v6 + 23652, 0u);
+    s8_4(v6 + 23644, 0ull);
+    s8_4(v6 + 23636, 0ull);
+    s4_4(v6 + 23680, 1u);
+    s8_8(v6 + 23672, 0x1000100010000ull);
+    s8_8(v6 + 23664, 0ull);
+    s8_8(v6 + 23656, 0xFFFFFFFFFFFFFFFFull);
+    s4_4(v6 + 23700, 0u);
+    s8_4(v6 + 23692, 0ull);
+    s8_4(v6 + 23684, 0ull);
+    s4_4(v6 + 23728, 1u);
+    s8_8(v6 + 23720, 0x1000100010000ull);
+    s8_8(v6 + 23712, 0ull);
+    s8_8(v6 + 23704, 0xFFFFFFFFFFFFFFFFull);
+    s4_4(v6 + 23748, 0u);
+    s8_4(v6 + 23740, 0ull);
+    s8_4(v6 + 23732, 0ull);
+    s4_4(v6 + 23776, 1u);
+    s8_8(v6 + 23768, 0x1000100010000ull);
+    s8_8(v6 + 23760, 0ull);
+    s8_8(v6 + 23752, 0xFFFFFFFFFFFFFFFFull);
+    s4_4(v6 + 23796, 0u);
+    s8_4(v6 + 23788, 0ull);
+    s8_4(v6 + 23780, 0ull);
+    s4_4(v6 + 23824, 1u);
+    s8_8(v6 + 23816, 0x1000100010000ull);
+    s8_8(v6 + 23808, 0ull);
+    s8_8(v6 + 23800, 0xFFFFFFFFFFFFFFFFull);
+    s4_4(v6 + 23844, l4_4(v6 + 24640));
+    s8_4(v6 + 23836, l8_8(v6 + 24632));
+    s8_4(v6 + 23828, l8_8(v6 + 24624));
+    s4_4(v6 + 23872, 1u);
+    s8_8(v6 + 23864, 0x1000100010000ull);
+    s8_8(v6 + 23856, 0ull);
+    s8_8(v6 + 23848, 0xFFFFFFFFFFFFFFFFull);
+    s4_4(v6 + 23892, l4_4(v6 + 39344));
+    s8_4(v6 + 23884, l8_8(v6 + 39336));
+    s8_4(v6 + 23876, l8_8(v6 + 39328));
+    s4_4(v6 + 23920, 1u);
+    s8_8(v6 + 23912, 0x1000100010000ull);
+    s8_8(v6 + 23904, 0ull);
+    s8_8(v6 + 23896, 0xFFFFFFFFFFFFFFFFull);
+    s4_4(v6 + 23940, l4_4(v6 + 29584));
+    s8_4(v6 + 23932, l8_8(v6 + 29576));
+    s8_4(v6 + 23924, l8_8(v6 + 29568));
+    s4_4(v6 + 23968, 1u);
+    s8_8(v6 + 23960, 0x1000100010000ull);
+    s8_8(v6 + 23952, 0ull);
+    s8_8(v6 + 23944, 0xFFFFFFFFFFFFFFFFull);
+    s4_4(v6 + 23988, l4_4(v6 + 25672));
+    s8_4(v6 + 23980, l8_8(v6 + 25664));
+    s8_4(v6 + 23972, l8_8(v6 + 25656));
+    s4_4(v6 + 24016, 1u);
+    s8_8(v6 + 24008, 0x1000100010000ull);
+    s8_8(v6 + 24000, 0ull);
+    s8_8(v6 + 23992, 0xFFFFFFFFFFFFFFFFull);
+    s4_4(v6 + 24036, l4_4(v6 + 26480));
+    s8_4(v6 + 24028, l8_8(v6 + 26472));
+    s8_4(v6 + 24020, l8_8(v6 + 26464));
+    s4_4(v6 + 24064, 1u);
+    s8_8(v6 + 24056, 0x1000100010000ull);
+    s8_8(v6 + 24048, 0ull);
+    s8_8(v6 + 24040, 0xFFFFFFFFFFFFFFFFull);
+    s4_4(v6 + 24084, l4_4(v6 + 32712));
+    s8_4(v6 + 24076, l8_8(v6 + 32704));
+    s8_4(v6 + 24068, l8_8(v6 + 32696));
+    s8_8(v6 + 24088, 0xFFFFFFFFFFFFFFFFull);
+    s8_8(v6 + 24104, l8_8(v6 + 23312));
+    s8_8(v6 + 24096, l8_8(v6 + 23304));
+    s8_8(v6 + 35544, 0ull);
+    s8_8(v6 + 35536, 0ull);
+    s8_8(v6 + 35528, 0ull);
+    s8_8(v6 + 35520, 0ull);
+    Lines_header_line(v6 + 35520ull, v6 + 72ull);
+    v7 = l8_4(v6 + 35524);
     if (l1(v6 + 35520)) goto L2;
     v16 = v7 >> 32;
-    v7 = l8(v6 + 35544);
+    v7 = l8_8(v6 + 35544);
     if (v7 == 0) goto L68;
     v15 = v0 >> 32;
     v20 = (u32)v15;
     v21 = (u32)v0;
     v22 = (u32)v3;
     v23 = (u32)v2;
-    v0 = l8(v6 + 35536);
+    v0 = l8_8(v6 + 35536);
 L69:;
     v24 = l1(v0);
     if (v24 == 32u) goto L70;
@@ -19786,9 +20027,9 @@ L71:;
     if ((l1(v0 + 1ull) & 255u) != 110u) goto L68;
     if ((l1(v0 + 2ull) & 255u) != 105u) goto L68;
     if ((l1(v0 + 3ull) & 255u) != 116u) goto L68;
-    t3 = f85(v0, 4ull, A(data + 34));
+    t3 = slices_groups_equal(v0, 4ull, A(data + 34));
     if (t3 == 0) goto L68;
-    f175(v6 + 64ull, v6 + 23336ull, v0 + v3, v7 - v3);
+    header_add_unit(v6 + 64ull, v6 + 23336ull, v0 + v3, v7 - v3);
     if (l1(v6 + 64) == 0) goto L67;
     v7 = (((u64)l1(v6 + 65)) << 32) | v16;
     goto L2;
@@ -19810,21 +20051,21 @@ L67:;
     v27 = v21 & 255u;
     v28 = v6 + 35528ull;
 L76:;
-    s4(v6 + 23328, 0u);
-    s2(v6 + 23332, 0u);
+    s4_4(v6 + 23328, 0u);
+    s2_2(v6 + 23332, 0u);
     fill(v6 + 30376ull, 0u, 776ull);
-    s8(v6 + 28560, 0ull);
-    s8(v6 + 28552, 0ull);
-    s8(v6 + 28544, 0ull);
-    s8(v6 + 28536, 0ull);
-    s4(v6 + 23320, 0u);
-    s2(v6 + 23324, 0u);
+    s8_8(v6 + 28560, 0ull);
+    s8_8(v6 + 28552, 0ull);
+    s8_8(v6 + 28544, 0ull);
+    s8_8(v6 + 28536, 0ull);
+    s4_4(v6 + 23320, 0u);
+    s2_2(v6 + 23324, 0u);
     fill(v6 + 27248ull, 0u, 776ull);
-    f169(v6 + 28536ull, v6 + 72ull);
-    v7 = l8(v6 + 28540);
+    Lines_header_line(v6 + 28536ull, v6 + 72ull);
+    v7 = l8_4(v6 + 28540);
     if (l1(v6 + 28536)) goto L2;
-    v14 = l8(v6 + 28552);
-    v3 = l8(v6 + 28560);
+    v14 = l8_8(v6 + 28552);
+    v3 = l8_8(v6 + 28560);
     v21 = 0u;
     fill(v6 + 33472ull, 0u, 776ull);
     v24 = 4u;
@@ -19880,7 +20121,7 @@ L90:;
     if (v1 != 0ull) goto L89;
 L88:;
     fill(v6 + 35520ull, 0u, 784ull);
-    f92(v6 + 35520ull, v6 + 23336ull, l8(v6 + 24104));
+    Units_new(v6 + 35520ull, v6 + 23336ull, l8_8(v6 + 24104));
     if (l1(v6 + 35520)) goto L91;
     v24 = 1u;
     if ((v25 & 1u) == 0) goto L92;
@@ -19888,8 +20129,8 @@ L88:;
     goto L79;
 L92:;
     copy(v6 + 33472ull, v28, 776ull);
-    s4(v6 + 23320, 0u);
-    s2(v6 + 23324, 0u);
+    s4_4(v6 + 23320, 0u);
+    s2_2(v6 + 23324, 0u);
     copy(v6 + 27248ull, v6 + 33472ull, 776ull);
     v2 = 1ull;
     v13 = v27;
@@ -19906,13 +20147,13 @@ L86:;
     if ((l1(v8 + 1ull) & 255u) != 110u) goto L79;
     if ((l1(v8 + 2ull) & 255u) != 105u) goto L79;
     if ((l1(v8 + 3ull) & 255u) != 116u) goto L79;
-    t5 = f85(v8, 4ull, A(data + 34));
+    t5 = slices_groups_equal(v8, 4ull, A(data + 34));
     if (t5 == 0) goto L79;
-    f175(v6 + 56ull, v6 + 23336ull, v0, v3 - v1);
+    header_add_unit(v6 + 56ull, v6 + 23336ull, v0, v3 - v1);
     if (l1(v6 + 56)) goto L93;
     v24 = 0u;
-    s2(v6 + 23324, 0u);
-    s4(v6 + 23320, 0u);
+    s2_2(v6 + 23324, 0u);
+    s4_4(v6 + 23320, 0u);
     fill(v6 + 27248ull, 0u, 776ull);
     v2 = 0ull;
     v13 = 0u;
@@ -19925,8 +20166,8 @@ L93:;
     v24 = l1(v6 + 57);
 L79:;
     v0 = v7 >> 32;
-    s4(v6 + 33472, 0u);
-    s2(v6 + 33476, 0u);
+    s4_4(v6 + 33472, 0u);
+    s2_2(v6 + 33476, 0u);
     fill(v6 + 35520ull, 0u, 776ull);
     v2 = 0ull;
     v13 = 0u;
@@ -19936,54 +20177,54 @@ L79:;
     v32 = 0u;
     goto L77;
 L78:;
-    s4(v6 + 33472, l4(v6 + 23320));
-    s2(v6 + 33476, l2(v6 + 23324));
+    s4_4(v6 + 33472, l4_4(v6 + 23320));
+    s2_2(v6 + 33476, l2_2(v6 + 23324));
     copy(v6 + 35520ull, v6 + 27248ull, 776ull);
     v0 = 0ull;
     v21 = 1u;
 L77:;
-    s2(v6 + 23332, l2(v6 + 33476));
-    s4(v6 + 23328, l4(v6 + 33472));
+    s2_2(v6 + 23332, l2_2(v6 + 33476));
+    s4_4(v6 + 23328, l4_4(v6 + 33472));
     copy(v6 + 30376ull, v6 + 35520ull, 776ull);
-    s4(v6 + 23296, l4(v6 + 23328));
-    s2(v6 + 23300, l2(v6 + 23332));
+    s4_4(v6 + 23296, l4_4(v6 + 23328));
+    s2_2(v6 + 23300, l2_2(v6 + 23332));
     copy(v6 + 31664ull, v6 + 30376ull, 776ull);
-    s4(v6 + 35520, 0u);
+    s4_4(v6 + 35520, 0u);
     v1 = ((u64)v24) & 255ull;
     if (v21 == 0) goto L75;
     if ((v1 << 32) != 4294967296ull) goto L76;
-    s2(v6 + 908, l2(v6 + 23300));
-    s4(v6 + 904, l4(v6 + 23296));
+    s2_2(v6 + 908, l2_2(v6 + 23300));
+    s4_4(v6 + 904, l4_4(v6 + 23296));
     copy(v6 + 128ull, v6 + 31664ull, 776ull);
     fill(v6 + 25656ull, 0u, 808ull);
     fill(v6 + 24624ull, 0u, 1032ull);
     fill(v6 + 23336ull, 0u, 1288ull);
-    s2(v6 + 29584, v32);
-    s4(v6 + 29580, v31);
-    s4(v6 + 29576, v30);
-    s4(v6 + 29572, v29);
-    s4(v6 + 29568, v13);
-    s4(v6 + 29586, l4(v6 + 904));
-    s2(v6 + 29590, l2(v6 + 908));
-    s8(v6 + 29592, v2);
+    s2_2(v6 + 29584, v32);
+    s4_4(v6 + 29580, v31);
+    s4_4(v6 + 29576, v30);
+    s4_4(v6 + 29572, v29);
+    s4_4(v6 + 29568, v13);
+    s4_2(v6 + 29586, l4_4(v6 + 904));
+    s2_2(v6 + 29590, l2_2(v6 + 908));
+    s8_8(v6 + 29592, v2);
     v1 = (v6 + 29568ull) + 32ull;
     copy(v1, v6 + 128ull, 776ull);
     fill(v6 + 28536ull, 0u, 1032ull);
     fill(v6 + 27248ull, 0u, 1288ull);
     fill(v6 + 26464ull, 0u, 784ull);
-    f92(v6 + 26464ull, v1, l8(v6 + 30368));
+    Units_new(v6 + 26464ull, v1, l8_8(v6 + 30368));
     if (l1(v6 + 26464)) goto L6;
-    v21 = l4(v6 + 29580);
-    v20 = l4(v6 + 29576);
-    v13 = l4(v6 + 29572);
-    v24 = l4(v6 + 29568);
+    v21 = l4_4(v6 + 29580);
+    v20 = l4_4(v6 + 29576);
+    v13 = l4_4(v6 + 29572);
+    v24 = l4_4(v6 + 29568);
     copy(v6 + 32696ull, v6 + 26472ull, 776ull);
     fill(v6 + 30376ull, 0u, 1288ull);
-    v1 = l8(v6 + 33464);
+    v1 = l8_8(v6 + 33464);
     fill(v6 + 35520ull, 0u, 1032ull);
-    f94(v6 + 35520ull);
+    ArrayVec_new(v6 + 35520ull);
     if (v1 == 0) goto L94;
-    v3 = l8(v6 + 36544);
+    v3 = l8_8(v6 + 36544);
     if (v1 != 1ull) goto L96;
     v2 = 0ull;
     goto L95;
@@ -19994,29 +20235,29 @@ L96:;
     v0 = v6 + 32696ull;
     v2 = 0ull;
 L97:;
-    s8(v1 + 40, l8(v0 + 40));
-    s8(v1 + 32, l8(v0 + 32));
-    s8(v1 + 24, l8(v0 + 24));
-    s8(v1 + 16, l8(v0 + 16));
-    s8(v1 + 8, l8(v0 + 8));
-    s8(v1, l8(v0));
+    s8_8(v1 + 40, l8_8(v0 + 40));
+    s8_8(v1 + 32, l8_8(v0 + 32));
+    s8_8(v1 + 24, l8_8(v0 + 24));
+    s8_8(v1 + 16, l8_8(v0 + 16));
+    s8_8(v1 + 8, l8_8(v0 + 8));
+    s8_8(v1, l8_8(v0));
     s4(v1 + 57ull, 0u);
     s1(v1 + 56ull, 1u);
-    s8(v1 + 48ull, 0ull);
+    s8_8(v1 + 48ull, 0ull);
     s4(v1 + 60ull, 0u);
     v7 = v3 + v2;
-    s8(v6 + 36544, v7 + 1ull);
+    s8_8(v6 + 36544, v7 + 1ull);
     s4(v1 + 121ull, 0u);
     s1(v1 + 120ull, 1u);
-    s8(v1 + 112ull, 0ull);
+    s8_8(v1 + 112ull, 0ull);
     s4(v1 + 124ull, 0u);
-    s8(v1 + 104ull, l8(v0 + 88ull));
-    s8(v1 + 96ull, l8(v0 + 80ull));
-    s8(v1 + 88ull, l8(v0 + 72ull));
-    s8(v1 + 80ull, l8(v0 + 64ull));
-    s8(v1 + 72ull, l8(v0 + 56ull));
-    s8(v1 + 64ull, l8(v0 + 48ull));
-    s8(v6 + 36544, v7 + 2ull);
+    s8_8(v1 + 104ull, l8_8(v0 + 88ull));
+    s8_8(v1 + 96ull, l8_8(v0 + 80ull));
+    s8_8(v1 + 88ull, l8_8(v0 + 72ull));
+    s8_8(v1 + 80ull, l8_8(v0 + 64ull));
+    s8_8(v1 + 72ull, l8_8(v0 + 56ull));
+    s8_8(v1 + 64ull, l8_8(v0 + 48ull));
+    s8_8(v6 + 36544, v7 + 2ull);
     v0 = v0 + 96ull;
     v1 = v1 + 128ull;
     v2 = v2 + 2ull;
@@ -20026,17 +20267,17 @@ L97:;
 L95:;
     v1 = (v6 + 35520ull) + (v3 << 6);
     v0 = (v6 + 32696ull) + (v2 * 48ull);
-    s8(v1 + 40, l8(v0 + 40));
-    s8(v1 + 32, l8(v0 + 32));
-    s8(v1 + 24, l8(v0 + 24));
-    s8(v1 + 16, l8(v0 + 16));
-    s8(v1 + 8, l8(v0 + 8));
-    s8(v1, l8(v0));
+    s8_8(v1 + 40, l8_8(v0 + 40));
+    s8_8(v1 + 32, l8_8(v0 + 32));
+    s8_8(v1 + 24, l8_8(v0 + 24));
+    s8_8(v1 + 16, l8_8(v0 + 16));
+    s8_8(v1 + 8, l8_8(v0 + 8));
+    s8_8(v1, l8_8(v0));
     s4(v1 + 57, 0u);
     s1(v1 + 56, 1u);
-    s8(v1 + 48, 0ull);
+    s8_8(v1 + 48, 0ull);
     s4(v1 + 60, 0u);
-    s8(v6 + 36544, v3 + 1ull);
+    s8_8(v6 + 36544, v3 + 1ull);
 L94:;
     copy(v6 + 31664ull, v6 + 35520ull, 1032ull);
     fill(v6 + 33472ull, 0u, 2048ull);
@@ -20045,21 +20286,21 @@ L98:;
     v1 = (v6 + 33472ull) + v0;
     s8(v1 + 2057ull, 0ull);
     s1(v1 + 2056ull, 5u);
-    s8(v1 + 2048ull, 0ull);
+    s8_4(v1 + 2048ull, 0ull);
     s8(v1 + 2065ull, 0ull);
     s8(v1 + 2072ull, 0ull);
     s8(v1 + 2089ull, 0ull);
     s1(v1 + 2088ull, 5u);
-    s8(v1 + 2080ull, 0ull);
+    s8_4(v1 + 2080ull, 0ull);
     s8(v1 + 2097ull, 0ull);
     s8(v1 + 2104ull, 0ull);
     s8(v1 + 2121ull, 0ull);
     s1(v1 + 2120ull, 5u);
-    s8(v1 + 2112ull, 0ull);
+    s8_4(v1 + 2112ull, 0ull);
     s8(v1 + 2129ull, 0ull);
     s8(v1 + 2136ull, 0ull);
     s1(v1 + 2152ull, 5u);
-    s8(v1 + 2144ull, 0ull);
+    s8_4(v1 + 2144ull, 0ull);
     s8(v1 + 2168ull, 0ull);
     s8(v1 + 2161ull, 0ull);
     s8(v1 + 2153ull, 0ull);
@@ -20071,10 +20312,10 @@ L98:;
     v0 = 0xFFFFFFFFFFFFFC00ull;
 L99:;
     v1 = (v6 + 39328ull) + v0;
-    s8(v1 + 1048ull, 0ull);
-    s8(v1 + 1040ull, 0x300000000000000ull);
-    s8(v1 + 1032ull, 0ull);
-    s8(v1 + 1024ull, 0x300000000000000ull);
+    s8_8(v1 + 1048ull, 0ull);
+    s8_8(v1 + 1040ull, 0x300000000000000ull);
+    s8_8(v1 + 1032ull, 0ull);
+    s8_8(v1 + 1024ull, 0x300000000000000ull);
     v0 = v0 + 32ull;
     if (v0 != 0ull) goto L99;
     copy(v6 + 33472ull, v6 + 39328ull, 1024ull);
@@ -20084,10 +20325,10 @@ L99:;
     v0 = 0xFFFFFFFFFFFFFC00ull;
 L100:;
     v1 = (v6 + 33472ull) + v0;
-    s8(v1 + 1048ull, 0ull);
-    s8(v1 + 1040ull, 0x300000000000000ull);
-    s8(v1 + 1032ull, 0ull);
-    s8(v1 + 1024ull, 0x300000000000000ull);
+    s8_8(v1 + 1048ull, 0ull);
+    s8_8(v1 + 1040ull, 0x300000000000000ull);
+    s8_8(v1 + 1032ull, 0ull);
+    s8_8(v1 + 1024ull, 0x300000000000000ull);
     v0 = v0 + 32ull;
     if (v0 != 0ull) goto L100;
     copy(v6 + 28536ull, v6 + 31664ull, 1032ull);
@@ -20101,46 +20342,46 @@ L100:;
     copy(v6 + 1936ull, v6 + 23336ull, 1288ull);
     copy(v6 + 912ull, v6 + 33472ull, 1024ull);
     copy(v6 + 8880ull, v6 + 8064ull, 808ull);
-    s4(v6 + 9692, v21);
-    s4(v6 + 9688, (v13 - (u32)(v13 != 0u)) + (v24 - (u32)(v24 != 0u)));
+    s4_4(v6 + 9692, v21);
+    s4_4(v6 + 9688, (v13 - (u32)(v13 != 0u)) + (v24 - (u32)(v24 != 0u)));
     copy(v6 + 9696ull, v6 + 4256ull, 3808ull);
-    s8(v6 + 13508, 0ull);
-    s4(v6 + 13504, v20);
-    s8(v6 + 13516, 0ull);
-    s4(v6 + 13524, 0u);
+    s8_4(v6 + 13508, 0ull);
+    s4_4(v6 + 13504, v20);
+    s8_4(v6 + 13516, 0ull);
+    s4_4(v6 + 13524, 0u);
     copy(v6 + 13528ull, v6 + 3224ull, 1032ull);
-    s8(v6 + 14584, 0ull);
-    s8(v6 + 14576, 0ull);
-    s8(v6 + 14568, 0ull);
-    s8(v6 + 14560, 0ull);
+    s8_8(v6 + 14584, 0ull);
+    s8_8(v6 + 14576, 0ull);
+    s8_8(v6 + 14568, 0ull);
+    s8_8(v6 + 14560, 0ull);
     copy(v6 + 14592ull, v6 + 1936ull, 1288ull);
-    s8(v6 + 15880, 0ull);
+    s8_8(v6 + 15880, 0ull);
     copy(v6 + 15888ull, v6 + 912ull, 1024ull);
     fill(v6 + 16912ull, 0u, 6192ull);
-    s8(v6 + 23120, 0ull);
-    s8(v6 + 23112, v10);
-    s8(v6 + 23104, v12);
+    s8_8(v6 + 23120, 0ull);
+    s8_8(v6 + 23112, v10);
+    s8_8(v6 + 23104, v12);
     fill(v6 + 23128ull, 10u, 108ull);
-    s8(v6 + 23248, 0ull);
-    s8(v6 + 23240, 107ull);
-    s4(v6 + 23236, 0u);
-    s8(v6 + 23256, 0ull);
-    s8(v6 + 23264, 0ull);
-    s8(v6 + 23272, 0ull);
-    s8(v6 + 23280, 0ull);
-    s8(v6 + 23288, 0ull);
-    f185(v6 + 112ull, v6 + 72ull, v6 + 8880ull);
+    s8_8(v6 + 23248, 0ull);
+    s8_8(v6 + 23240, 107ull);
+    s4_4(v6 + 23236, 0u);
+    s8_8(v6 + 23256, 0ull);
+    s8_8(v6 + 23264, 0ull);
+    s8_8(v6 + 23272, 0ull);
+    s8_8(v6 + 23280, 0ull);
+    s8_8(v6 + 23288, 0ull);
+    reported_run_events(v6 + 112ull, v6 + 72ull, v6 + 8880ull);
     if (l1(v6 + 112)) goto L5;
-    v28 = l8(v6 + 23112);
-    v2 = l8(v6 + 23120);
+    v28 = l8_8(v6 + 23112);
+    v2 = l8_8(v6 + 23120);
     if ((v28 - v2) < 6ull) goto L4;
-    v0 = l8(v6 + 23272);
-    v1 = l8(v6 + 23264);
-    v33 = l8(v6 + 23288);
-    v34 = l8(v6 + 23280);
-    v5 = l8(v6 + 23256);
+    v0 = l8_8(v6 + 23272);
+    v1 = l8_8(v6 + 23264);
+    v33 = l8_8(v6 + 23288);
+    v34 = l8_8(v6 + 23280);
+    v5 = l8_8(v6 + 23256);
     v7 = v2 + 6ull;
-    v35 = l8(v6 + 23104);
+    v35 = l8_8(v6 + 23104);
     v2 = v35 + v2;
     if ((v2 - A(data + 489)) > 5ull) goto L102;
     s2(v2 + 4, 8307u);
@@ -20150,12 +20391,12 @@ L102:;
     s2(v2 + 4, l2(A(data + 493)));
     s4(v2, l4(A(data + 489)));
 L101:;
-    s8(v6 + 35552, 0ull);
-    s8(v6 + 35544, 0ull);
-    s8(v6 + 35536, 0ull);
-    s8(v6 + 35528, 0ull);
-    s8(v6 + 35520, 0ull);
-    t6 = f186(v5, v6 + 35520ull);
+    s8_8(v6 + 35552, 0ull);
+    s8_8(v6 + 35544, 0ull);
+    s8_8(v6 + 35536, 0ull);
+    s8_8(v6 + 35528, 0ull);
+    s8_8(v6 + 35520, 0ull);
+    t6 = integer_write_unsigned(v5, v6 + 35520ull);
     v5 = t6;
     v2 = 40ull - v5;
     if ((v28 - v7) < v2) goto L4;
@@ -20174,11 +20415,11 @@ L105:;
     s4(v2 + 3, l4(A(data + 498)));
     s4(v2, l4(A(data + 495)));
 L104:;
-    s8(v6 + 35552, 0ull);
-    s8(v6 + 35544, 0ull);
-    s8(v6 + 35536, 0ull);
-    s8(v6 + 35528, 0ull);
-    s8(v6 + 35520, 0ull);
+    s8_8(v6 + 35552, 0ull);
+    s8_8(v6 + 35544, 0ull);
+    s8_8(v6 + 35536, 0ull);
+    s8_8(v6 + 35528, 0ull);
+    s8_8(v6 + 35520, 0ull);
     v17 = 40ull;
     if (v0 == 0) goto L106;
 L107:;
@@ -20193,17 +20434,17 @@ L107:;
     v17 = v17 + 0xFFFFFFFFFFFFFFFFull;
     if (v13) goto L108;
     if (((v5 ^ 127ull) | v7) == 0) goto L108;
-    f187(v6 + 32ull, v19, v18, 127u - ((u32)v5));
-    v2 = l8(v6 + 40);
-    v1 = l8(v6 + 32);
+    ashlti3(v6 + 32ull, v19, v18, 127u - ((u32)v5));
+    v2 = l8_8(v6 + 40);
+    v1 = l8_8(v6 + 32);
     v0 = v5 + 1ull;
     v14 = v7 + ((u64)(u32)(v0 == 0));
     if ((v0 | v14) == 0) goto L110;
-    f188(v6 + 16ull, v19, v18, (u32)v0);
+    lshrti3(v6 + 16ull, v19, v18, (u32)v0);
     v10 = 10ull + 0xFFFFFFFFFFFFFFFFull;
     v12 = 0ull - ((u64)(u32)(10ull == 0));
-    v5 = l8(v6 + 24);
-    v7 = l8(v6 + 16);
+    v5 = l8_8(v6 + 24);
+    v7 = l8_8(v6 + 16);
     v3 = 0ull;
 L111:;
     v8 = v3;
@@ -20228,8 +20469,8 @@ L109:;
     v0 = (v2 << 1) | (v1 >> 63);
     v1 = v3 | (v1 << 1);
 L108:;
-    f69(v6, v1, v6, 10ull, 0ull);
-    s1((v6 + 35520ull) + v17, ((u32)(v19 - l8(v6))) | 48u);
+    multi3(v6, v1, v6, 10ull, 0ull);
+    s1((v6 + 35520ull) + v17, ((u32)(v19 - l8_8(v6))) | 48u);
     if (v18 > 9ull) goto L107;
 L106:;
     if (v1 < 10000ull) goto L112;
@@ -20288,12 +20529,12 @@ L120:;
     s1(v1 + 8, l1(A(data + 510)));
     s8(v1, l8(A(data + 502)));
 L119:;
-    s8(v6 + 35552, 0ull);
-    s8(v6 + 35544, 0ull);
-    s8(v6 + 35536, 0ull);
-    s8(v6 + 35528, 0ull);
-    s8(v6 + 35520, 0ull);
-    t8 = f186(v2, v6 + 35520ull);
+    s8_8(v6 + 35552, 0ull);
+    s8_8(v6 + 35544, 0ull);
+    s8_8(v6 + 35536, 0ull);
+    s8_8(v6 + 35528, 0ull);
+    s8_8(v6 + 35520, 0ull);
+    t8 = integer_write_unsigned(v2, v6 + 35520ull);
     v2 = t8;
     v1 = 40ull - v2;
     if ((v28 - v0) < v1) goto L4;
@@ -20318,7 +20559,7 @@ L123:;
     if (v0 == 0) goto L122;
     copy(v11, v35, v0);
 L122:;
-    s8(v4, v0);
+    s8_8(v4, v0);
     v13 = 1u;
     goto L1;
 L75:;
@@ -20328,7 +20569,7 @@ L6:;
     TRAP();
 L5:;
     if (l1(v6 + 116) == 1u) goto L4;
-    v7 = l8(v6 + 120);
+    v7 = l8_8(v6 + 120);
     goto L2;
 L4:;
     v13 = 0xFFFFFFF1u;
@@ -20336,7 +20577,7 @@ L4:;
 L3:;
     v7 = v16 | (v7 >> 32);
 L2:;
-    s4(v5, (u32)v7);
+    s4_4(v5, (u32)v7);
     v13 = 0xFFFFFFC4u - (((u32)(v7 >> 32)) & 255u);
 L1:;
     return v13;
@@ -20345,33 +20586,34 @@ L1:;
 static u32 w_mscp_run_script_at(u64 v0, u64 v1, u64 v2, u64 v3, u64 v4, u64 v5)
 {
     u32 v6 = 0, t0, t1;
-    t0 = f58();
+    t0 = rattle_enter();
     if (t0 == 0) goto L1;
-    f59();
+    rattle_trap();
     TRAP();
 L1:;
-    t1 = f189(v0, v1, v2, v3, v4, v5);
+    t1 = export_mscp_run_script_at(v0, v1, v2, v3, v4, v5);
     v6 = t1;
-    f61();
+    rattle_leave();
     return v6;
 }
 
-APART u32 f190(u64 v0, u64 v1, u64 v2, u64 v3)
+/* mscp_c::mscp_save_at, crates/mscp_c/src/controller_saving.rt:37 */
+APART u32 export_mscp_save_at(u64 v0, u64 v1, u64 v2, u64 v3)
 {
     ROOM(frame, 7344);
     u32 v5 = 0;
     u64 v4 = 0;
     v4 = A(frame);
     fill(v4, 0u, 3672ull);
-    if (l8(v0 + 24ull) == 0x4D5343504D414445ull) goto L3;
+    if (l8_8(v0 + 24ull) == 0x4D5343504D414445ull) goto L3;
     v5 = 0xFFFFFFF6u;
     goto L2;
 L3:;
-    v0 = l8(v0);
-    f136(v4, v0, l1(v0 + 5712ull));
+    v0 = l8_8(v0);
+    writing_save(v4, v0, l1(v0 + 5712ull));
     copy(v4 + 3672ull, v4, 3672ull);
-    v0 = l8(v4 + 7336);
-    s8(v3, v0);
+    v0 = l8_8(v4 + 7336);
+    s8_8(v3, v0);
     if (v2 >= v0) goto L4;
     v5 = 0xFFFFFFF1u;
     goto L2;
@@ -20388,18 +20630,19 @@ L2:;
 static u32 w_mscp_save_at(u64 v0, u64 v1, u64 v2, u64 v3)
 {
     u32 v4 = 0, t0, t1;
-    t0 = f58();
+    t0 = rattle_enter();
     if (t0 == 0) goto L1;
-    f59();
+    rattle_trap();
     TRAP();
 L1:;
-    t1 = f190(v0, v1, v2, v3);
+    t1 = export_mscp_save_at(v0, v1, v2, v3);
     v4 = t1;
-    f61();
+    rattle_leave();
     return v4;
 }
 
-static void f191(void)
+/* mscp_c::mscp_save_size, crates/mscp_c/src/controller_saving.rt:19 */
+static void export_mscp_save_size(void)
 {
     goto L1;
 L1:;
@@ -20409,27 +20652,28 @@ L1:;
 static u64 w_mscp_save_size(void)
 {
     u32 t0;
-    t0 = f58();
+    t0 = rattle_enter();
     if (t0 == 0) goto L1;
-    f59();
+    rattle_trap();
     TRAP();
 L1:;
-    f191();
-    f61();
+    export_mscp_save_size();
+    rattle_leave();
     return 3664ull;
 }
 
-static u32 f192(u64 v0, u32 v1, u64 v2, u64 v3, u64 v4)
+/* mscp_c::mscp_send_at, crates/mscp_c/src/sending.rt:16 */
+static u32 export_mscp_send_at(u64 v0, u32 v1, u64 v2, u64 v3, u64 v4)
 {
     ROOM(frame, 32);
     u32 v6 = 0, v7 = 0;
     u64 v5 = 0;
     v5 = A(frame);
     v6 = 0u;
-    s4(v5 + 24, 0u);
-    s8(v5 + 16, 0ull);
-    s8(v5 + 8, 0ull);
-    if (l8(v0 + 24ull) == 0x4D5343504D414445ull) goto L4;
+    s4_4(v5 + 24, 0u);
+    s8_8(v5 + 16, 0ull);
+    s8_8(v5 + 8, 0ull);
+    if (l8_8(v0 + 24ull) == 0x4D5343504D414445ull) goto L4;
     v7 = 0xFFFFFFF6u;
     goto L1;
 L4:;
@@ -20442,9 +20686,9 @@ L4:;
 L6:;
     v6 = 1u;
 L5:;
-    f151(v5 + 8ull, l8(v0), v6, v2 + ((v2 == 0) ? 4096ull : 0ull), v3);
+    Controller_send(v5 + 8ull, l8_8(v0), v6, v2 + ((v2 == 0) ? 4096ull : 0ull), v3);
     if (l1(v5 + 8)) goto L7;
-    v7 = l4(v5 + 16);
+    v7 = l4_4(v5 + 16);
     if (l1(v5 + 12)) goto L2;
     s8(v4 + 4, 0ull);
     s4(v4, v7);
@@ -20455,7 +20699,7 @@ L7:;
     goto L1;
     TRAP();
 L2:;
-    v6 = l4(v5 + 24);
+    v6 = l4_4(v5 + 24);
     v1 = l1(v5 + 20);
     s2(v4 + 9, 0u);
     s4(v4, v7);
@@ -20471,44 +20715,45 @@ L1:;
 static u32 w_mscp_send_at(u64 v0, u32 v1, u64 v2, u64 v3, u64 v4)
 {
     u32 t0, t1;
-    t0 = f58();
+    t0 = rattle_enter();
     if (t0 == 0) goto L1;
-    f59();
+    rattle_trap();
     TRAP();
 L1:;
-    t1 = f192(v0, v1, v2, v3, v4);
+    t1 = export_mscp_send_at(v0, v1, v2, v3, v4);
     v1 = t1;
-    f61();
+    rattle_leave();
     return v1;
 }
 
-static u32 f193(u64 v0, u64 v1, u64 v2, u64 v3)
+/* mscp_c::mscp_settings_at, crates/mscp_c/src/seeing.rt:34 */
+static u32 export_mscp_settings_at(u64 v0, u64 v1, u64 v2, u64 v3)
 {
     u32 v4 = 0, v6 = 0;
     u64 v5 = 0, v7 = 0, v8 = 0, v9 = 0;
     v4 = 0xFFFFFFF6u;
-    if (l8(v0 + 24ull) != 0x4D5343504D414445ull) goto L2;
-    v0 = l8(v0);
-    v5 = l8(v0 + 24ull);
-    v4 = l4(v0 + 12ull);
-    v6 = l2(v0 + 16ull);
-    v7 = l8(v0);
-    s8(v1 + 8, (u64)l4(v0 + 8ull));
+    if (l8_8(v0 + 24ull) != 0x4D5343504D414445ull) goto L2;
+    v0 = l8_8(v0);
+    v5 = l8_8(v0 + 24ull);
+    v4 = l4_4(v0 + 12ull);
+    v6 = l2_2(v0 + 16ull);
+    v7 = l8_8(v0);
+    s8(v1 + 8, (u64)l4_4(v0 + 8ull));
     s2(v1 + 30, 0u);
     s2(v1 + 28, v6);
     s4(v1 + 24, v4);
     s8(v1 + 16, v7);
     s8(v1, v5);
-    v8 = l8(v0 + 800ull);
+    v8 = l8_8(v0 + 800ull);
     v3 = (v3 < v8) ? v3 : v8;
     if (v3 == 0) goto L3;
     v1 = v2 + ((v2 == 0) ? 4096ull : 0ull);
 L4:;
     v2 = v0 + 48ull;
-    v5 = l8(v2);
-    v7 = l8(v0 + 32ull);
-    v9 = l8(v0 + 56ull);
-    s4(v1 + 8ull, l4(v0 + 40ull));
+    v5 = l8_8(v2);
+    v7 = l8_8(v0 + 32ull);
+    v9 = l8_8(v0 + 56ull);
+    s4(v1 + 8ull, l4_4(v0 + 40ull));
     s8(v1 + 12ull, v9);
     s4(v1 + 28ull, 0u);
     s8(v1 + 20ull, v7);
@@ -20527,28 +20772,29 @@ L2:;
 static u32 w_mscp_settings_at(u64 v0, u64 v1, u64 v2, u64 v3)
 {
     u32 v4 = 0, t0, t1;
-    t0 = f58();
+    t0 = rattle_enter();
     if (t0 == 0) goto L1;
-    f59();
+    rattle_trap();
     TRAP();
 L1:;
-    t1 = f193(v0, v1, v2, v3);
+    t1 = export_mscp_settings_at(v0, v1, v2, v3);
     v4 = t1;
-    f61();
+    rattle_leave();
     return v4;
 }
 
-static u32 f194(u64 v0, u64 v1, u64 v2, u32 v3, u32 v4)
+/* mscp_text::words::put_two, crates/mscp_text/src/words.rt:34 */
+static u32 words_put_two(u64 v0, u64 v1, u64 v2, u32 v3, u32 v4)
 {
     ROOM(frame, 48);
     u32 v6 = 0;
     u64 v5 = 0, v7 = 0, v8 = 0, t0, t1;
     v5 = A(frame);
     v6 = 1u;
-    v7 = l8(v0 + 16ull);
-    if ((l8(v0 + 8ull) - v7) < v2) goto L2;
+    v7 = l8_8(v0 + 16ull);
+    if ((l8_8(v0 + 8ull) - v7) < v2) goto L2;
     v8 = v7 + v2;
-    v7 = l8(v0) + v7;
+    v7 = l8_8(v0) + v7;
     if ((v7 - v1) < v2) goto L4;
     if (v2 == 0) goto L3;
     copy(v7, v1, v2);
@@ -20567,24 +20813,24 @@ L4:;
     if (v2 == 7ull) goto L3;
     s1(v7 + 7, l1(v1 + 7));
 L3:;
-    s8(v0 + 16ull, v8);
-    s8(v5 + 40, 0ull);
-    s8(v5 + 32, 0ull);
-    s8(v5 + 24, 0ull);
-    s8(v5 + 16, 0ull);
-    s8(v5 + 8, 0ull);
-    t0 = f186((u64)v3, v5 + 8ull);
+    s8_8(v0 + 16ull, v8);
+    s8_8(v5 + 40, 0ull);
+    s8_8(v5 + 32, 0ull);
+    s8_8(v5 + 24, 0ull);
+    s8_8(v5 + 16, 0ull);
+    s8_8(v5 + 8, 0ull);
+    t0 = integer_write_unsigned((u64)v3, v5 + 8ull);
     v2 = t0;
     v1 = 40ull - v2;
-    if ((l8(v0 + 8ull) - v8) < v1) goto L2;
+    if ((l8_8(v0 + 8ull) - v8) < v1) goto L2;
     if (v1 == 0) goto L5;
-    copy(l8(v0) + v8, (v5 + 8ull) + v2, v1);
+    copy(l8_8(v0) + v8, (v5 + 8ull) + v2, v1);
 L5:;
     v2 = v1 + v8;
-    s8(v0 + 16ull, v2);
-    if ((l8(v0 + 8ull) - v2) < 6ull) goto L2;
+    s8_8(v0 + 16ull, v2);
+    if ((l8_8(v0 + 8ull) - v2) < 6ull) goto L2;
     v1 = v2 + 6ull;
-    v2 = l8(v0) + v2;
+    v2 = l8_8(v0) + v2;
     if ((v2 - A(data + 463)) > 5ull) goto L7;
     s2(v2 + 4, 8308u);
     s4(v2, 1768846624u);
@@ -20593,38 +20839,39 @@ L7:;
     s2(v2 + 4, l2(A(data + 467)));
     s4(v2, l4(A(data + 463)));
 L6:;
-    s8(v0 + 16ull, v1);
-    s8(v5 + 40, 0ull);
-    s8(v5 + 32, 0ull);
-    s8(v5 + 24, 0ull);
-    s8(v5 + 16, 0ull);
-    s8(v5 + 8, 0ull);
-    t1 = f186(((u64)v4) & 65535ull, v5 + 8ull);
+    s8_8(v0 + 16ull, v1);
+    s8_8(v5 + 40, 0ull);
+    s8_8(v5 + 32, 0ull);
+    s8_8(v5 + 24, 0ull);
+    s8_8(v5 + 16, 0ull);
+    s8_8(v5 + 8, 0ull);
+    t1 = integer_write_unsigned(((u64)v4) & 65535ull, v5 + 8ull);
     v2 = t1;
     v6 = 1u;
     v7 = 40ull - v2;
-    if ((l8(v0 + 8ull) - v1) < v7) goto L2;
+    if ((l8_8(v0 + 8ull) - v1) < v7) goto L2;
     if (v7 == 0) goto L8;
-    copy(l8(v0) + v1, (v5 + 8ull) + v2, v7);
+    copy(l8_8(v0) + v1, (v5 + 8ull) + v2, v7);
 L8:;
-    s8(v0 + 16ull, v7 + v1);
+    s8_8(v0 + 16ull, v7 + v1);
     v6 = 0u;
 L2:;
     return v6;
     TRAP();
 }
 
-static u32 f195(u64 v0, u64 v1, u64 v2, u32 v3, u64 v4, u64 v5, u32 v6)
+/* mscp_text::words::put_two, crates/mscp_text/src/words.rt:34 */
+static u32 words_put_two_2(u64 v0, u64 v1, u64 v2, u32 v3, u64 v4, u64 v5, u32 v6)
 {
     ROOM(frame, 48);
     u32 v8 = 0;
     u64 v7 = 0, v9 = 0, v10 = 0, t0, t1;
     v7 = A(frame);
     v8 = 1u;
-    v9 = l8(v0 + 16ull);
-    if ((l8(v0 + 8ull) - v9) < v2) goto L2;
+    v9 = l8_8(v0 + 16ull);
+    if ((l8_8(v0 + 8ull) - v9) < v2) goto L2;
     v10 = v9 + v2;
-    v9 = l8(v0) + v9;
+    v9 = l8_8(v0) + v9;
     if ((v9 - v1) < v2) goto L4;
     if (v2 == 0) goto L3;
     copy(v9, v1, v2);
@@ -20641,24 +20888,24 @@ L4:;
     if (v2 == 6ull) goto L3;
     s1(v9 + 6, l1(v1 + 6));
 L3:;
-    s8(v0 + 16ull, v10);
-    s8(v7 + 40, 0ull);
-    s8(v7 + 32, 0ull);
-    s8(v7 + 24, 0ull);
-    s8(v7 + 16, 0ull);
-    s8(v7 + 8, 0ull);
-    t0 = f186((u64)v3, v7 + 8ull);
+    s8_8(v0 + 16ull, v10);
+    s8_8(v7 + 40, 0ull);
+    s8_8(v7 + 32, 0ull);
+    s8_8(v7 + 24, 0ull);
+    s8_8(v7 + 16, 0ull);
+    s8_8(v7 + 8, 0ull);
+    t0 = integer_write_unsigned((u64)v3, v7 + 8ull);
     v2 = t0;
     v1 = 40ull - v2;
-    if ((l8(v0 + 8ull) - v10) < v1) goto L2;
+    if ((l8_8(v0 + 8ull) - v10) < v1) goto L2;
     if (v1 == 0) goto L5;
-    copy(l8(v0) + v10, (v7 + 8ull) + v2, v1);
+    copy(l8_8(v0) + v10, (v7 + 8ull) + v2, v1);
 L5:;
     v2 = v1 + v10;
-    s8(v0 + 16ull, v2);
-    if ((l8(v0 + 8ull) - v2) < v5) goto L2;
+    s8_8(v0 + 16ull, v2);
+    if ((l8_8(v0 + 8ull) - v2) < v5) goto L2;
     v1 = v2 + v5;
-    v2 = l8(v0) + v2;
+    v2 = l8_8(v0) + v2;
     if ((v2 - v4) < v5) goto L7;
     if (v5 == 0) goto L6;
     copy(v2, v4, v5);
@@ -20674,62 +20921,63 @@ L7:;
     if (v5 == 7ull) goto L6;
     s1(v2 + 7, l1(v4 + 7));
 L6:;
-    s8(v0 + 16ull, v1);
-    s8(v7 + 40, 0ull);
-    s8(v7 + 32, 0ull);
-    s8(v7 + 24, 0ull);
-    s8(v7 + 16, 0ull);
-    s8(v7 + 8, 0ull);
-    t1 = f186((u64)v6, v7 + 8ull);
+    s8_8(v0 + 16ull, v1);
+    s8_8(v7 + 40, 0ull);
+    s8_8(v7 + 32, 0ull);
+    s8_8(v7 + 24, 0ull);
+    s8_8(v7 + 16, 0ull);
+    s8_8(v7 + 8, 0ull);
+    t1 = integer_write_unsigned((u64)v6, v7 + 8ull);
     v2 = t1;
     v8 = 1u;
     v9 = 40ull - v2;
-    if ((l8(v0 + 8ull) - v1) < v9) goto L2;
+    if ((l8_8(v0 + 8ull) - v1) < v9) goto L2;
     if (v9 == 0) goto L8;
-    copy(l8(v0) + v1, (v7 + 8ull) + v2, v9);
+    copy(l8_8(v0) + v1, (v7 + 8ull) + v2, v9);
 L8:;
-    s8(v0 + 16ull, v9 + v1);
+    s8_8(v0 + 16ull, v9 + v1);
     v8 = 0u;
 L2:;
     return v8;
     TRAP();
 }
 
-static u32 f196(u64 v0, u64 v1, u32 v2)
+/* mscp_text::words::put_two, crates/mscp_text/src/words.rt:34 */
+static u32 words_put_two_3(u64 v0, u64 v1, u32 v2)
 {
     ROOM(frame, 48);
     u32 v4 = 0;
     u64 v3 = 0, v5 = 0, v6 = 0, t0, t1;
     v3 = A(frame);
     v4 = 1u;
-    v5 = l8(v0 + 16ull);
-    if ((l8(v0 + 8ull) - v5) < 4ull) goto L2;
+    v5 = l8_8(v0 + 16ull);
+    if ((l8_8(v0 + 8ull) - v5) < 4ull) goto L2;
     v6 = v5 + 4ull;
-    v5 = l8(v0) + v5;
+    v5 = l8_8(v0) + v5;
     if ((v5 - A(data + 728)) > 3ull) goto L4;
     s4(v5, 543451424u);
     goto L3;
 L4:;
     s4(v5, 543451424u);
 L3:;
-    s8(v0 + 16ull, v6);
-    s8(v3 + 40, 0ull);
-    s8(v3 + 32, 0ull);
-    s8(v3 + 24, 0ull);
-    s8(v3 + 16, 0ull);
-    s8(v3 + 8, 0ull);
-    t0 = f186(v1, v3 + 8ull);
+    s8_8(v0 + 16ull, v6);
+    s8_8(v3 + 40, 0ull);
+    s8_8(v3 + 32, 0ull);
+    s8_8(v3 + 24, 0ull);
+    s8_8(v3 + 16, 0ull);
+    s8_8(v3 + 8, 0ull);
+    t0 = integer_write_unsigned(v1, v3 + 8ull);
     v5 = t0;
     v1 = 40ull - v5;
-    if ((l8(v0 + 8ull) - v6) < v1) goto L2;
+    if ((l8_8(v0 + 8ull) - v6) < v1) goto L2;
     if (v1 == 0) goto L5;
-    copy(l8(v0) + v6, (v3 + 8ull) + v5, v1);
+    copy(l8_8(v0) + v6, (v3 + 8ull) + v5, v1);
 L5:;
     v5 = v1 + v6;
-    s8(v0 + 16ull, v5);
-    if ((l8(v0 + 8ull) - v5) < 7ull) goto L2;
+    s8_8(v0 + 16ull, v5);
+    if ((l8_8(v0 + 8ull) - v5) < 7ull) goto L2;
     v6 = v5 + 7ull;
-    v5 = l8(v0) + v5;
+    v5 = l8_8(v0) + v5;
     if ((v5 - A(data + 732)) > 6ull) goto L7;
     s1(v5 + 6, 32u);
     s2(v5 + 4, 24937u);
@@ -20739,28 +20987,29 @@ L7:;
     s4(v5 + 3, l4(A(data + 735)));
     s4(v5, l4(A(data + 732)));
 L6:;
-    s8(v0 + 16ull, v6);
-    s8(v3 + 40, 0ull);
-    s8(v3 + 32, 0ull);
-    s8(v3 + 24, 0ull);
-    s8(v3 + 16, 0ull);
-    s8(v3 + 8, 0ull);
-    t1 = f186((u64)v2, v3 + 8ull);
+    s8_8(v0 + 16ull, v6);
+    s8_8(v3 + 40, 0ull);
+    s8_8(v3 + 32, 0ull);
+    s8_8(v3 + 24, 0ull);
+    s8_8(v3 + 16, 0ull);
+    s8_8(v3 + 8, 0ull);
+    t1 = integer_write_unsigned((u64)v2, v3 + 8ull);
     v5 = t1;
     v4 = 1u;
     v1 = 40ull - v5;
-    if ((l8(v0 + 8ull) - v6) < v1) goto L2;
+    if ((l8_8(v0 + 8ull) - v6) < v1) goto L2;
     if (v1 == 0) goto L8;
-    copy(l8(v0) + v6, (v3 + 8ull) + v5, v1);
+    copy(l8_8(v0) + v6, (v3 + 8ull) + v5, v1);
 L8:;
-    s8(v0 + 16ull, v1 + v6);
+    s8_8(v0 + 16ull, v1 + v6);
     v4 = 0u;
 L2:;
     return v4;
     TRAP();
 }
 
-APART u32 f197(u64 v0, u64 v1, u64 v2, u64 v3, u64 v4)
+/* mscp_c::mscp_show_packet_at, crates/mscp_c/src/running.rt:77 */
+APART u32 export_mscp_show_packet_at(u64 v0, u64 v1, u64 v2, u64 v3, u64 v4)
 {
     ROOM(frame, 288);
     u32 v6 = 0, v9 = 0, v10 = 0, v11 = 0, v12 = 0, v19 = 0, v20 = 0, t0, t4, t6, t7, t9, t17, t18, t21;
@@ -20768,15 +21017,15 @@ APART u32 f197(u64 v0, u64 v1, u64 v2, u64 v3, u64 v4)
         t12, t13, t14, t15, t16, t19, t20;
     v5 = A(frame);
     v0 = v0 + ((v0 == 0) ? 4096ull : 0ull);
-    s8(v5 + 176, 0ull);
+    s8_8(v5 + 176, 0ull);
     v6 = 0u;
-    s2(v5 + 12, 0u);
-    s4(v5 + 8, 0u);
+    s2_2(v5 + 12, 0u);
+    s4_4(v5 + 8, 0u);
     v7 = v3 >> 1;
-    s8(v5 + 168, v3 - v7);
+    s8_8(v5 + 168, v3 - v7);
     v8 = (v2 == 0) ? 4096ull : 0ull;
     v3 = v2 + v8;
-    s8(v5 + 160, v3 + v7);
+    s8_8(v5 + 160, v3 + v7);
     fill(v5 + 184ull, 0u, 80ull);
     if (v1 < 130ull) goto L8;
     if (((u32)v1) & 1u) goto L7;
@@ -20794,7 +21043,7 @@ L10:;
     if ((((v9 & 0xFFFFFFDFu) + 0xFFFFFFBFu) & 255u) < 6u) goto L9;
     goto L7;
 L8:;
-    f176(v5 + 184ull, v0, v1);
+    decoding_decode(v5 + 184ull, v0, v1);
     if (l1(v5 + 184)) goto L7;
     if (v1 >= 24ull) goto L11;
     v6 = 0xFFFFFFFFu;
@@ -20803,43 +21052,43 @@ L11:;
     v0 = v5 + 14ull;
     copy(v0, v5 + 192ull, 72ull);
     copy(v5 + 88ull, v0, 72ull);
-    v0 = l8(v5 + 152);
-    s8(v5 + 264, 0ull);
-    s8(v5 + 272, 0ull);
-    s8(v5 + 280, 0ull);
-    s8(v5 + 184, 0ull);
-    s8(v5 + 192, 0ull);
-    s8(v5 + 200, 0ull);
-    s8(v5 + 208, 0ull);
-    s8(v5 + 216, 0ull);
-    s8(v5 + 224, 0ull);
-    s8(v5 + 232, 0ull);
+    v0 = l8_8(v5 + 152);
+    s8_8(v5 + 264, 0ull);
+    s8_8(v5 + 272, 0ull);
+    s8_8(v5 + 280, 0ull);
+    s8_8(v5 + 184, 0ull);
+    s8_8(v5 + 192, 0ull);
+    s8_8(v5 + 200, 0ull);
+    s8_8(v5 + 208, 0ull);
+    s8_8(v5 + 216, 0ull);
+    s8_8(v5 + 224, 0ull);
+    s8_8(v5 + 232, 0ull);
     if ((i32)((u32)(i32)(i8)l1(v5 + 96)) < (i32)0u) goto L12;
-    f90(v5 + 264ull, v5 + 88ull, v0);
+    reading_read_command(v5 + 264ull, v5 + 88ull, v0);
     if (l1(v5 + 264) == 0) goto L6;
     v6 = l1(v5 + 265) ? 0xFFFFFFFEu : 0xFFFFFFFFu;
     goto L7;
 L12:;
-    f81(v5 + 184ull, v5 + 88ull, v0);
+    reading_read_end(v5 + 184ull, v5 + 88ull, v0);
     if (l1(v5 + 184) == 0) goto L5;
     v6 = (l1(v5 + 185) == 1u) ? 0xFFFFFFFDu : 0xFFFFFFFCu;
 L7:;
     v9 = v6 + 0xFFFFFFB7u;
     goto L1;
 L6:;
-    v10 = l4(v5 + 284);
-    v11 = l4(v5 + 280);
-    v9 = l2(v5 + 276);
-    v6 = l2(v5 + 278);
-    t0 = f194(v5 + 160ull, A(data + 511), 8ull, l4(v5 + 268), l4(v5 + 272));
+    v10 = l4_4(v5 + 284);
+    v11 = l4_4(v5 + 280);
+    v9 = l2_2(v5 + 276);
+    v6 = l2_2(v5 + 278);
+    t0 = words_put_two(v5 + 160ull, A(data + 511), 8ull, l4_4(v5 + 268), l4_4(v5 + 272));
     if (t0 & 255u) goto L2;
-    v0 = l8(v5 + 176);
-    if (l8(v5 + 168) == v0) goto L2;
+    v0 = l8_8(v5 + 176);
+    if (l8_8(v5 + 168) == v0) goto L2;
     v12 = v9 >> 8;
     v13 = (u64)v12;
-    s1(l8(v5 + 160) + v0, 32u);
+    s1(l8_8(v5 + 160) + v0, 32u);
     v1 = v0 + 1ull;
-    s8(v5 + 176, v1);
+    s8_8(v5 + 176, v1);
     switch ((u32)(((u64)v9) & 255ull)) {
     case 1: goto L20;
     case 2: goto L19;
@@ -20852,86 +21101,86 @@ L6:;
     default: goto L21;
     }
 L21:;
-    v13 = l8(v5 + 168);
+    v13 = l8_8(v5 + 168);
     if ((v13 - v1) < 9ull) goto L2;
     v14 = v0 + 10ull;
-    v0 = l8(v5 + 160) + v1;
+    v0 = l8_8(v5 + 160) + v1;
     if ((v0 - A(data + 519)) > 8ull) goto L23;
     s1(v0 + 8, 32u);
     s8(v0, 0x666F2054524F4241ull);
-    v13 = l8(v5 + 168);
+    v13 = l8_8(v5 + 168);
     goto L22;
 L23:;
     s1(v0 + 8, l1(A(data + 527)));
     s8(v0, l8(A(data + 519)));
 L22:;
-    s8(v5 + 216, 0ull);
-    s8(v5 + 208, 0ull);
-    s8(v5 + 200, 0ull);
-    s8(v5 + 192, 0ull);
-    s8(v5 + 184, 0ull);
-    t1 = f186((u64)v11, v5 + 184ull);
+    s8_8(v5 + 216, 0ull);
+    s8_8(v5 + 208, 0ull);
+    s8_8(v5 + 200, 0ull);
+    s8_8(v5 + 192, 0ull);
+    s8_8(v5 + 184, 0ull);
+    t1 = integer_write_unsigned((u64)v11, v5 + 184ull);
     v1 = t1;
     v0 = 40ull - v1;
     if ((v13 - v14) < v0) goto L2;
     if (v0 == 0) goto L24;
-    copy(l8(v5 + 160) + v14, (v5 + 184ull) + v1, v0);
+    copy(l8_8(v5 + 160) + v14, (v5 + 184ull) + v1, v0);
 L24:;
-    s8(v5 + 176, v0 + v14);
+    s8_8(v5 + 176, v0 + v14);
     goto L3;
 L20:;
-    v13 = l8(v5 + 168);
+    v13 = l8_8(v5 + 168);
     if ((v13 - v1) < 22ull) goto L2;
     v14 = v0 + 23ull;
-    v0 = l8(v5 + 160) + v1;
+    v0 = l8_8(v5 + 160) + v1;
     if ((v0 - A(data + 528)) > 21ull) goto L26;
     s2(v0 + 20, 8294u);
     s4(v0 + 16, 1864389461u);
     s8(v0 + 8, 0x5441545320444E41ull);
     s8(v0, 0x4D4D4F4320544547ull);
-    v13 = l8(v5 + 168);
+    v13 = l8_8(v5 + 168);
     goto L25;
 L26:;
     s8(v0 + 14, l8(A(data + 542)));
     s8(v0 + 8, l8(A(data + 536)));
     s8(v0, l8(A(data + 528)));
 L25:;
-    s8(v5 + 216, 0ull);
-    s8(v5 + 208, 0ull);
-    s8(v5 + 200, 0ull);
-    s8(v5 + 192, 0ull);
-    s8(v5 + 184, 0ull);
-    t2 = f186((u64)v11, v5 + 184ull);
+    s8_8(v5 + 216, 0ull);
+    s8_8(v5 + 208, 0ull);
+    s8_8(v5 + 200, 0ull);
+    s8_8(v5 + 192, 0ull);
+    s8_8(v5 + 184, 0ull);
+    t2 = integer_write_unsigned((u64)v11, v5 + 184ull);
     v1 = t2;
     v0 = 40ull - v1;
     if ((v13 - v14) < v0) goto L2;
     if (v0 == 0) goto L27;
-    copy(l8(v5 + 160) + v14, (v5 + 184ull) + v1, v0);
+    copy(l8_8(v5 + 160) + v14, (v5 + 184ull) + v1, v0);
 L27:;
-    s8(v5 + 176, v0 + v14);
+    s8_8(v5 + 176, v0 + v14);
     goto L3;
 L19:;
-    if ((l8(v5 + 168) - v1) < 15ull) goto L2;
+    if ((l8_8(v5 + 168) - v1) < 15ull) goto L2;
     v13 = v0 + 16ull;
-    v0 = l8(v5 + 160) + v1;
+    v0 = l8_8(v5 + 160) + v1;
     if ((v0 - A(data + 550)) > 14ull) goto L28;
     s1(v0 + 14, 83u);
     s2(v0 + 12, 21844u);
     s4(v0 + 8, 1096045344u);
     s8(v0, 0x54494E5520544547ull);
-    s8(v5 + 176, v13);
+    s8_8(v5 + 176, v13);
     goto L3;
 L28:;
     s8(v0 + 7, l8(A(data + 557)));
     s8(v0, l8(A(data + 550)));
-    s8(v5 + 176, v13);
+    s8_8(v5 + 176, v13);
     goto L3;
 L18:;
-    v13 = l8(v5 + 168);
+    v13 = l8_8(v5 + 168);
     if ((v13 - v1) < 39ull) goto L2;
     v15 = ((u64)v6) & 65535ull;
     v14 = v0 + 40ull;
-    v0 = l8(v5 + 160) + v1;
+    v0 = l8_8(v5 + 160) + v1;
     if ((v0 - A(data + 565)) > 38ull) goto L30;
     s1(v0 + 38, 32u);
     s2(v0 + 36, 28271u);
@@ -20940,7 +21189,7 @@ L18:;
     s8(v0 + 16, 0x5245544341524148ull);
     s8(v0 + 8, 0x432052454C4C4F52ull);
     s8(v0, 0x544E4F4320544553ull);
-    v13 = l8(v5 + 168);
+    v13 = l8_8(v5 + 168);
     goto L29;
 L30:;
     s8(v0 + 31, l8(A(data + 596)));
@@ -20949,72 +21198,72 @@ L30:;
     s8(v0 + 8, l8(A(data + 573)));
     s8(v0, l8(A(data + 565)));
 L29:;
-    s8(v5 + 216, 0ull);
-    s8(v5 + 208, 0ull);
-    s8(v5 + 200, 0ull);
-    s8(v5 + 192, 0ull);
-    s8(v5 + 184, 0ull);
-    t3 = f186(v15, v5 + 184ull);
+    s8_8(v5 + 216, 0ull);
+    s8_8(v5 + 208, 0ull);
+    s8_8(v5 + 200, 0ull);
+    s8_8(v5 + 192, 0ull);
+    s8_8(v5 + 184, 0ull);
+    t3 = integer_write_unsigned(v15, v5 + 184ull);
     v1 = t3;
     v0 = 40ull - v1;
     if ((v13 - v14) < v0) goto L2;
     if (v0 == 0) goto L31;
-    copy(l8(v5 + 160) + v14, (v5 + 184ull) + v1, v0);
+    copy(l8_8(v5 + 160) + v14, (v5 + 184ull) + v1, v0);
 L31:;
-    s8(v5 + 176, v0 + v14);
+    s8_8(v5 + 176, v0 + v14);
     goto L3;
 L17:;
-    if ((l8(v5 + 168) - v1) < 9ull) goto L2;
+    if ((l8_8(v5 + 168) - v1) < 9ull) goto L2;
     v13 = v0 + 10ull;
-    v0 = l8(v5 + 160) + v1;
+    v0 = l8_8(v5 + 160) + v1;
     if ((v0 - A(data + 604)) > 8ull) goto L32;
     s1(v0 + 8, 69u);
     s8(v0, 0x4C42414C49415641ull);
-    s8(v5 + 176, v13);
+    s8_8(v5 + 176, v13);
     goto L3;
 L32:;
     s1(v0 + 8, l1(A(data + 612)));
     s8(v0, l8(A(data + 604)));
-    s8(v5 + 176, v13);
+    s8_8(v5 + 176, v13);
     goto L3;
 L16:;
-    if ((l8(v5 + 168) - v1) < 6ull) goto L2;
+    if ((l8_8(v5 + 168) - v1) < 6ull) goto L2;
     v13 = v0 + 7ull;
-    v0 = l8(v5 + 160) + v1;
+    v0 = l8_8(v5 + 160) + v1;
     if ((v0 - A(data + 613)) > 5ull) goto L33;
     s2(v0 + 4, 17742u);
     s4(v0, 1229737551u);
-    s8(v5 + 176, v13);
+    s8_8(v5 + 176, v13);
     goto L3;
 L33:;
     s2(v0 + 4, l2(A(data + 617)));
     s4(v0, l4(A(data + 613)));
-    s8(v5 + 176, v13);
+    s8_8(v5 + 176, v13);
     goto L3;
 L15:;
-    if ((l8(v5 + 168) - v1) < 24ull) goto L2;
+    if ((l8_8(v5 + 168) - v1) < 24ull) goto L2;
     v13 = v0 + 25ull;
-    v0 = l8(v5 + 160) + v1;
+    v0 = l8_8(v5 + 160) + v1;
     if ((v0 - A(data + 619)) > 23ull) goto L34;
     s8(v0 + 16, 0x5343495453495245ull);
     s8(v0 + 8, 0x5443415241484320ull);
     s8(v0, 0x54494E5520544553ull);
-    s8(v5 + 176, v13);
+    s8_8(v5 + 176, v13);
     goto L3;
 L34:;
     s8(v0 + 16, l8(A(data + 635)));
     s8(v0 + 8, l8(A(data + 627)));
     s8(v0, l8(A(data + 619)));
-    s8(v5 + 176, v13);
+    s8_8(v5 + 176, v13);
     goto L3;
 L14:;
     v14 = v13 << 3;
-    v13 = l8(A(data + 856) + v14);
-    if ((l8(v5 + 168) - v1) < v13) goto L2;
+    v13 = l8_8(A(data + 856) + v14);
+    if ((l8_8(v5 + 168) - v1) < v13) goto L2;
     v16 = v13 + v1;
-    v15 = l8(v5 + 160);
+    v15 = l8_8(v5 + 160);
     v1 = v15 + v1;
-    v14 = A(data + (l8(A(data + 896) + v14)));
+    v14 = A(data + (l8_8(A(data + 896) + v14)));
     if ((v1 - v14) >= v13) goto L36;
     v15 = v15 + v0;
     v17 = v13 & 0xFFFFFFFFFFFFFFFCull;
@@ -21043,17 +21292,17 @@ L36:;
     if (v13 == 0) goto L35;
     copy(v1, v14, v13);
 L35:;
-    s8(v5 + 176, v16);
-    t4 = f195(v5 + 160ull, A(data + 643), 7ull, v11, A(data + 456), 7ull, v10);
+    s8_8(v5 + 176, v16);
+    t4 = words_put_two_2(v5 + 160ull, A(data + 643), 7ull, v11, A(data + 456), 7ull, v10);
     if ((t4 & 255u) == 0) goto L3;
     goto L2;
 L13:;
-    v14 = l8(v5 + 168);
+    v14 = l8_8(v5 + 168);
     v9 = (v6 & 65535u) == 2049u;
     v0 = v9 ? 7ull : 5ull;
     if ((v14 - v1) < v0) goto L2;
     v15 = v1 + v0;
-    v1 = l8(v5 + 160) + v1;
+    v1 = l8_8(v5 + 160) + v1;
     v17 = v9 ? A(data + 695) : A(data + 378);
     if ((v1 - v17) < v0) goto L40;
     if (v0 == 0) goto L39;
@@ -21071,52 +21320,52 @@ L40:;
     s1(v1 + 5, 119u);
     s1(v1 + 6, l1((v9 ? A(data + 695) : A(data + 378)) + 6));
 L41:;
-    v14 = l8(v5 + 168);
+    v14 = l8_8(v5 + 168);
 L39:;
     if ((v14 - v15) < 8ull) goto L2;
     v0 = v15 + 8ull;
-    v1 = l8(v5 + 160) + v15;
+    v1 = l8_8(v5 + 160) + v15;
     if ((v1 - A(data + 650)) > 7ull) goto L43;
     s8(v1, 0x2065646F63706F20ull);
     goto L42;
 L43:;
     s8(v1, 0x2065646F63706F20ull);
 L42:;
-    s8(v5 + 216, 0ull);
-    s8(v5 + 208, 0ull);
-    s8(v5 + 200, 0ull);
-    s8(v5 + 192, 0ull);
-    s8(v5 + 184, 0ull);
-    t5 = f186(v13, v5 + 184ull);
+    s8_8(v5 + 216, 0ull);
+    s8_8(v5 + 208, 0ull);
+    s8_8(v5 + 200, 0ull);
+    s8_8(v5 + 192, 0ull);
+    s8_8(v5 + 184, 0ull);
+    t5 = integer_write_unsigned(v13, v5 + 184ull);
     v1 = t5;
     v13 = 40ull - v1;
-    if ((l8(v5 + 168) - v0) < v13) goto L2;
+    if ((l8_8(v5 + 168) - v0) < v13) goto L2;
     if (v13 == 0) goto L44;
-    copy(l8(v5 + 160) + v0, (v5 + 184ull) + v1, v13);
+    copy(l8_8(v5 + 160) + v0, (v5 + 184ull) + v1, v13);
 L44:;
-    s8(v5 + 176, v13 + v0);
+    s8_8(v5 + 176, v13 + v0);
     goto L3;
 L5:;
-    v19 = l4(v5 + 232);
-    v20 = l4(v5 + 228);
-    v12 = l4(v5 + 224);
-    v1 = l8(v5 + 216);
-    v10 = l4(v5 + 212);
-    v13 = (u64)l2(v5 + 210);
+    v19 = l4_4(v5 + 232);
+    v20 = l4_4(v5 + 228);
+    v12 = l4_4(v5 + 224);
+    v1 = l8_8(v5 + 216);
+    v10 = l4_4(v5 + 212);
+    v13 = (u64)l2_2(v5 + 210);
     v11 = l1(v5 + 208);
-    v6 = l4(v5 + 200);
-    v9 = l2(v5 + 198);
-    t6 = f194(v5 + 160ull, A(data + 421), 4ull, l4(v5 + 192), l2(v5 + 196));
+    v6 = l4_4(v5 + 200);
+    v9 = l2_2(v5 + 198);
+    t6 = words_put_two(v5 + 160ull, A(data + 421), 4ull, l4_4(v5 + 192), l2_2(v5 + 196));
     if (t6 & 255u) goto L2;
-    v14 = l8(v5 + 168);
-    v0 = l8(v5 + 176);
+    v14 = l8_8(v5 + 168);
+    v0 = l8_8(v5 + 176);
     if ((v14 - v0) < 6ull) goto L2;
     v17 = v0 + 6ull;
-    v15 = l8(v5 + 160) + v0;
+    v15 = l8_8(v5 + 160) + v0;
     if ((v15 - A(data + 702)) > 5ull) goto L46;
     s2(v15 + 4, 8293u);
     s4(v15, 1685021472u);
-    v14 = l8(v5 + 168);
+    v14 = l8_8(v5 + 168);
     goto L45;
 L46:;
     s2(v15 + 4, l2(A(data + 706)));
@@ -21124,25 +21373,25 @@ L46:;
 L45:;
     if ((v14 - v17) < 2ull) goto L2;
     v14 = (u64)v9;
-    s2(l8(v5 + 160) + v17, ((l1(A(data + 429) + (v14 & 15ull))) << 8) | (l1(((v14 & 240ull) >> 4) + A(data + 429))));
+    s2(l8_8(v5 + 160) + v17, ((l1(A(data + 429) + (v14 & 15ull))) << 8) | (l1(((v14 & 240ull) >> 4) + A(data + 429))));
     v14 = v0 + 8ull;
-    if ((l8(v5 + 168) - v14) < 8ull) goto L2;
+    if ((l8_8(v5 + 168) - v14) < 8ull) goto L2;
     v15 = v0 + 16ull;
-    v14 = l8(v5 + 160) + v14;
+    v14 = l8_8(v5 + 160) + v14;
     if ((v14 - A(data + 708)) > 7ull) goto L48;
     s8(v14, 0x2073757461747320ull);
     goto L47;
 L48:;
     s8(v14, 0x2073757461747320ull);
 L47:;
-    if ((l8(v5 + 168) - v15) < 4ull) goto L2;
+    if ((l8_8(v5 + 168) - v15) < 4ull) goto L2;
     v14 = (u64)(v6 & 255u);
     t7 = ((l1(A(data + 429) + (v14 >> 4))) << 16) | ((l1(A(data + 429) + (v14 & 15ull))) << 24);
     v14 = (u64)((v6 << 8) | ((v6 & 65280u) >> 8));
-    s4(l8(v5 + 160) + v15, (t7 | ((l1(A(data + 429) + (v14 & 15ull))) << 8)) | (l1(((v14 & 240ull) >> 4) + A(data +
+    s4(l8_8(v5 + 160) + v15, (t7 | ((l1(A(data + 429) + (v14 & 15ull))) << 8)) | (l1(((v14 & 240ull) >> 4) + A(data +
         429))));
     v14 = v0 + 20ull;
-    s8(v5 + 176, v14);
+    s8_8(v5 + 176, v14);
     switch (v11) {
     case 1: goto L54;
     case 2: goto L49;
@@ -21153,217 +21402,217 @@ L47:;
     default: goto L3;
     }
 L54:;
-    if ((l8(v5 + 168) - v14) < 4ull) goto L2;
+    if ((l8_8(v5 + 168) - v14) < 4ull) goto L2;
     v0 = v0 + 24ull;
-    v1 = l8(v5 + 160) + v14;
+    v1 = l8_8(v5 + 160) + v14;
     if ((v1 - A(data + 716)) > 3ull) goto L56;
     s4(v1, 543584032u);
     goto L55;
 L56:;
     s4(v1, 543584032u);
 L55:;
-    s8(v5 + 216, 0ull);
-    s8(v5 + 208, 0ull);
-    s8(v5 + 200, 0ull);
-    s8(v5 + 192, 0ull);
-    s8(v5 + 184, 0ull);
-    t8 = f186((u64)v10, v5 + 184ull);
+    s8_8(v5 + 216, 0ull);
+    s8_8(v5 + 208, 0ull);
+    s8_8(v5 + 200, 0ull);
+    s8_8(v5 + 192, 0ull);
+    s8_8(v5 + 184, 0ull);
+    t8 = integer_write_unsigned((u64)v10, v5 + 184ull);
     v1 = t8;
     v13 = 40ull - v1;
-    if ((l8(v5 + 168) - v0) < v13) goto L2;
+    if ((l8_8(v5 + 168) - v0) < v13) goto L2;
     if (v13 == 0) goto L57;
-    copy(l8(v5 + 160) + v0, (v5 + 184ull) + v1, v13);
+    copy(l8_8(v5 + 160) + v0, (v5 + 184ull) + v1, v13);
 L57:;
-    s8(v5 + 176, v13 + v0);
+    s8_8(v5 + 176, v13 + v0);
     goto L3;
 L53:;
-    t9 = f196(v5 + 160ull, v1, v12);
+    t9 = words_put_two_3(v5 + 160ull, v1, v12);
     if (t9 & 255u) goto L2;
-    v1 = l8(v5 + 168);
-    v0 = l8(v5 + 176);
+    v1 = l8_8(v5 + 168);
+    v0 = l8_8(v5 + 176);
     if ((v1 - v0) < 7ull) goto L2;
     v13 = v0 + 7ull;
-    v0 = l8(v5 + 160) + v0;
+    v0 = l8_8(v5 + 160) + v0;
     if ((v0 - A(data + 739)) > 6ull) goto L59;
     s1(v0 + 6, 32u);
     s2(v0 + 4, 27491u);
     s4(v0, 1634890784u);
-    v1 = l8(v5 + 168);
+    v1 = l8_8(v5 + 168);
     goto L58;
 L59:;
     s4(v0 + 3, l4(A(data + 742)));
     s4(v0, l4(A(data + 739)));
 L58:;
-    s8(v5 + 216, 0ull);
-    s8(v5 + 208, 0ull);
-    s8(v5 + 200, 0ull);
-    s8(v5 + 192, 0ull);
-    s8(v5 + 184, 0ull);
-    t10 = f186((u64)(v20 & 65535u), v5 + 184ull);
+    s8_8(v5 + 216, 0ull);
+    s8_8(v5 + 208, 0ull);
+    s8_8(v5 + 200, 0ull);
+    s8_8(v5 + 192, 0ull);
+    s8_8(v5 + 184, 0ull);
+    t10 = integer_write_unsigned((u64)(v20 & 65535u), v5 + 184ull);
     t11 = v1 - v13;
     v1 = t10;
     v0 = 40ull - v1;
     if (t11 < v0) goto L2;
     if (v0 == 0) goto L60;
-    copy(l8(v5 + 160) + v13, (v5 + 184ull) + v1, v0);
+    copy(l8_8(v5 + 160) + v13, (v5 + 184ull) + v1, v0);
 L60:;
-    v14 = l8(v5 + 168);
+    v14 = l8_8(v5 + 168);
     v0 = v0 + v13;
     if ((v14 - v0) < 7ull) goto L2;
     v13 = (u64)(v20 >> 16);
     v1 = v0 + 7ull;
-    v0 = l8(v5 + 160) + v0;
+    v0 = l8_8(v5 + 160) + v0;
     if ((v0 - A(data + 746)) > 6ull) goto L62;
     s1(v0 + 6, 32u);
     s2(v0 + 4, 28789u);
     s4(v0, 1869768480u);
-    v14 = l8(v5 + 168);
+    v14 = l8_8(v5 + 168);
     goto L61;
 L62:;
     s4(v0 + 3, l4(A(data + 749)));
     s4(v0, l4(A(data + 746)));
 L61:;
-    s8(v5 + 176, v1);
-    s8(v5 + 216, 0ull);
-    s8(v5 + 208, 0ull);
-    s8(v5 + 200, 0ull);
-    s8(v5 + 192, 0ull);
-    s8(v5 + 184, 0ull);
-    t12 = f186(v13, v5 + 184ull);
+    s8_8(v5 + 176, v1);
+    s8_8(v5 + 216, 0ull);
+    s8_8(v5 + 208, 0ull);
+    s8_8(v5 + 200, 0ull);
+    s8_8(v5 + 192, 0ull);
+    s8_8(v5 + 184, 0ull);
+    t12 = integer_write_unsigned(v13, v5 + 184ull);
     v13 = t12;
     v0 = 40ull - v13;
     if ((v14 - v1) < v0) goto L2;
     if (v0 == 0) goto L63;
-    copy(l8(v5 + 160) + v1, (v5 + 184ull) + v13, v0);
+    copy(l8_8(v5 + 160) + v1, (v5 + 184ull) + v13, v0);
 L63:;
-    v13 = l8(v5 + 168);
+    v13 = l8_8(v5 + 168);
     v0 = v0 + v1;
     if ((v13 - v0) < 10ull) goto L2;
     v1 = v0 + 10ull;
-    v0 = l8(v5 + 160) + v0;
+    v0 = l8_8(v5 + 160) + v0;
     if ((v0 - A(data + 753)) > 9ull) goto L65;
     s2(v0 + 8, 8306u);
     s8(v0, 0x65646E696C796320ull);
-    v13 = l8(v5 + 168);
+    v13 = l8_8(v5 + 168);
     goto L64;
 L65:;
     s2(v0 + 8, l2(A(data + 761)));
     s8(v0, l8(A(data + 753)));
 L64:;
-    s8(v5 + 216, 0ull);
-    s8(v5 + 208, 0ull);
-    s8(v5 + 200, 0ull);
-    s8(v5 + 192, 0ull);
-    s8(v5 + 184, 0ull);
-    t13 = f186((u64)(v19 & 65535u), v5 + 184ull);
+    s8_8(v5 + 216, 0ull);
+    s8_8(v5 + 208, 0ull);
+    s8_8(v5 + 200, 0ull);
+    s8_8(v5 + 192, 0ull);
+    s8_8(v5 + 184, 0ull);
+    t13 = integer_write_unsigned((u64)(v19 & 65535u), v5 + 184ull);
     t14 = v13 - v1;
     v13 = t13;
     v0 = 40ull - v13;
     if (t14 < v0) goto L2;
     if (v0 == 0) goto L66;
-    copy(l8(v5 + 160) + v1, (v5 + 184ull) + v13, v0);
+    copy(l8_8(v5 + 160) + v1, (v5 + 184ull) + v13, v0);
 L66:;
-    s8(v5 + 176, v0 + v1);
+    s8_8(v5 + 176, v0 + v1);
     goto L3;
 L52:;
-    v15 = l8(v5 + 168);
+    v15 = l8_8(v5 + 168);
     if ((v15 - v14) < 9ull) goto L2;
     v17 = v0 + 29ull;
-    v0 = l8(v5 + 160) + v14;
+    v0 = l8_8(v5 + 160) + v14;
     if ((v0 - A(data + 763)) > 8ull) goto L68;
     s1(v0 + 8, 32u);
     s8(v0, 0x74756F656D697420ull);
-    v15 = l8(v5 + 168);
+    v15 = l8_8(v5 + 168);
     goto L67;
 L68:;
     s1(v0 + 8, l1(A(data + 771)));
     s8(v0, l8(A(data + 763)));
 L67:;
-    s8(v5 + 216, 0ull);
-    s8(v5 + 208, 0ull);
-    s8(v5 + 200, 0ull);
-    s8(v5 + 192, 0ull);
-    s8(v5 + 184, 0ull);
-    t15 = f186(v13, v5 + 184ull);
+    s8_8(v5 + 216, 0ull);
+    s8_8(v5 + 208, 0ull);
+    s8_8(v5 + 200, 0ull);
+    s8_8(v5 + 192, 0ull);
+    s8_8(v5 + 184, 0ull);
+    t15 = integer_write_unsigned(v13, v5 + 184ull);
     v13 = t15;
     v0 = 40ull - v13;
     if ((v15 - v17) < v0) goto L2;
     if (v0 == 0) goto L69;
-    copy(l8(v5 + 160) + v17, (v5 + 184ull) + v13, v0);
+    copy(l8_8(v5 + 160) + v17, (v5 + 184ull) + v13, v0);
 L69:;
     v0 = v0 + v17;
-    if ((l8(v5 + 168) - v0) < 4ull) goto L2;
+    if ((l8_8(v5 + 168) - v0) < 4ull) goto L2;
     v13 = v0 + 4ull;
-    v0 = l8(v5 + 160) + v0;
+    v0 = l8_8(v5 + 160) + v0;
     if ((v0 - A(data + 728)) > 3ull) goto L71;
     s4(v0, 543451424u);
     goto L70;
 L71:;
     s4(v0, 543451424u);
 L70:;
-    s8(v5 + 216, 0ull);
-    s8(v5 + 208, 0ull);
-    s8(v5 + 200, 0ull);
-    s8(v5 + 192, 0ull);
-    s8(v5 + 184, 0ull);
-    t16 = f186(v1, v5 + 184ull);
+    s8_8(v5 + 216, 0ull);
+    s8_8(v5 + 208, 0ull);
+    s8_8(v5 + 200, 0ull);
+    s8_8(v5 + 192, 0ull);
+    s8_8(v5 + 184, 0ull);
+    t16 = integer_write_unsigned(v1, v5 + 184ull);
     v0 = t16;
     v1 = 40ull - v0;
-    if ((l8(v5 + 168) - v13) < v1) goto L2;
+    if ((l8_8(v5 + 168) - v13) < v1) goto L2;
     if (v1 == 0) goto L72;
-    copy(l8(v5 + 160) + v13, (v5 + 184ull) + v0, v1);
+    copy(l8_8(v5 + 160) + v13, (v5 + 184ull) + v0, v1);
 L72:;
-    s8(v5 + 176, v1 + v13);
+    s8_8(v5 + 176, v1 + v13);
     goto L3;
 L51:;
-    t17 = f196(v5 + 160ull, v1, v12);
+    t17 = words_put_two_3(v5 + 160ull, v1, v12);
     if (t17 & 255u) goto L2;
-    t18 = f195(v5 + 160ull, A(data + 772), 6ull, v20, A(data + 778), 8ull, v19);
+    t18 = words_put_two_2(v5 + 160ull, A(data + 772), 6ull, v20, A(data + 778), 8ull, v19);
     if ((t18 & 255u) == 0) goto L3;
     goto L2;
 L50:;
-    v1 = l8(v5 + 168);
+    v1 = l8_8(v5 + 168);
     if ((v1 - v14) < 7ull) goto L2;
     v13 = v0 + 27ull;
-    v0 = l8(v5 + 160) + v14;
+    v0 = l8_8(v5 + 160) + v14;
     if ((v0 - A(data + 643)) > 6ull) goto L74;
     s1(v0 + 6, 32u);
     s2(v0 + 4, 29541u);
     s4(v0, 1954112032u);
-    v1 = l8(v5 + 168);
+    v1 = l8_8(v5 + 168);
     goto L73;
 L74:;
     s4(v0 + 3, l4(A(data + 646)));
     s4(v0, l4(A(data + 643)));
 L73:;
-    s8(v5 + 216, 0ull);
-    s8(v5 + 208, 0ull);
-    s8(v5 + 200, 0ull);
-    s8(v5 + 192, 0ull);
-    s8(v5 + 184, 0ull);
-    t19 = f186((u64)v10, v5 + 184ull);
+    s8_8(v5 + 216, 0ull);
+    s8_8(v5 + 208, 0ull);
+    s8_8(v5 + 200, 0ull);
+    s8_8(v5 + 192, 0ull);
+    s8_8(v5 + 184, 0ull);
+    t19 = integer_write_unsigned((u64)v10, v5 + 184ull);
     t20 = v1 - v13;
     v1 = t19;
     v0 = 40ull - v1;
     if (t20 < v0) goto L2;
     if (v0 == 0) goto L75;
-    copy(l8(v5 + 160) + v13, (v5 + 184ull) + v1, v0);
+    copy(l8_8(v5 + 160) + v13, (v5 + 184ull) + v1, v0);
 L75:;
-    s8(v5 + 176, v0 + v13);
+    s8_8(v5 + 176, v0 + v13);
     goto L3;
 L49:;
-    t21 = f195(v5 + 160ull, A(data + 716), 4ull, v10, A(data + 720), 8ull, (u32)v1);
+    t21 = words_put_two_2(v5 + 160ull, A(data + 716), 4ull, v10, A(data + 720), 8ull, (u32)v1);
     if ((t21 & 255u) == 0) goto L3;
     goto L2;
     TRAP();
 L3:;
-    v0 = l8(v5 + 176);
-    if (l8(v5 + 168) == v0) goto L2;
-    s1(l8(v5 + 160) + v0, 10u);
+    v0 = l8_8(v5 + 176);
+    if (l8_8(v5 + 168) == v0) goto L2;
+    s1(l8_8(v5 + 160) + v0, 10u);
     v9 = 0xFFFFFFF1u;
     v17 = v0 + 1ull;
     if (v7 < v17) goto L1;
-    v14 = l8(v5 + 160);
+    v14 = l8_8(v5 + 160);
     if ((v3 - v14) >= v17) goto L77;
     v13 = v17 & 3ull;
     v1 = 0ull;
@@ -21394,7 +21643,7 @@ L77:;
     if (v17 == 0) goto L76;
     copy(v3, v14, v17);
 L76:;
-    s8(v4, v17);
+    s8_8(v4, v17);
     v9 = 1u;
     goto L1;
 L2:;
@@ -21406,18 +21655,19 @@ L1:;
 static u32 w_mscp_show_packet_at(u64 v0, u64 v1, u64 v2, u64 v3, u64 v4)
 {
     u32 v5 = 0, t0, t1;
-    t0 = f58();
+    t0 = rattle_enter();
     if (t0 == 0) goto L1;
-    f59();
+    rattle_trap();
     TRAP();
 L1:;
-    t1 = f197(v0, v1, v2, v3, v4);
+    t1 = export_mscp_show_packet_at(v0, v1, v2, v3, v4);
     v5 = t1;
-    f61();
+    rattle_leave();
     return v5;
 }
 
-static void f198(void)
+/* mscp_c::mscp_size, crates/mscp_c/src/making.rt:23 */
+static void export_mscp_size(void)
 {
     goto L1;
 L1:;
@@ -21427,17 +21677,18 @@ L1:;
 static u64 w_mscp_size(void)
 {
     u32 t0;
-    t0 = f58();
+    t0 = rattle_enter();
     if (t0 == 0) goto L1;
-    f59();
+    rattle_trap();
     TRAP();
 L1:;
-    f198();
-    f61();
+    export_mscp_size();
+    rattle_leave();
     return 14224ull;
 }
 
-static u32 f199(u64 v0, u32 v1, u64 v2)
+/* mscp_c::mscp_step, crates/mscp_c/src/serving.rt:67 */
+static u32 export_mscp_step(u64 v0, u32 v1, u64 v2)
 {
     ROOM(frame, 80);
     u32 v5 = 0, v11 = 0, v12 = 0, v13 = 0, v14 = 0, v15 = 0, v16 = 0, v17 = 0, v18 = 0, v19 = 0, v22 = 0, v23 = 0, v24
@@ -21446,7 +21697,7 @@ static u32 f199(u64 v0, u32 v1, u64 v2)
         v35 = 0, t0;
     v3 = A(frame);
     v4 = v3;
-    if (l8(v0 + 24ull) == 0x4D5343504D414445ull) goto L7;
+    if (l8_8(v0 + 24ull) == 0x4D5343504D414445ull) goto L7;
     v1 = 0xFFFFFFF6u;
     goto L1;
 L7:;
@@ -21456,16 +21707,16 @@ L7:;
     v1 = 0xFFFFFFF9u;
     goto L1;
 L8:;
-    v6 = l8(v0);
+    v6 = l8_8(v0);
     if (l1(v6 + 5696ull) != 1u) goto L10;
-    v7 = l8(v6 + 5704ull);
+    v7 = l8_8(v6 + 5704ull);
     goto L9;
 L10:;
     if (l1(v6 + 5680ull) != 1u) goto L11;
-    v7 = l8(v6 + 5688ull);
+    v7 = l8_8(v6 + 5688ull);
     goto L9;
 L11:;
-    v0 = l8(v6 + 3952ull);
+    v0 = l8_8(v6 + 3952ull);
     if ((u32)(v0 == 0) == 0) goto L12;
     v1 = 0u;
     goto L1;
@@ -21474,7 +21725,8 @@ L12:;
     if (v0 == 1ull) goto L9;
     v0 = v6 + 5712ull;
     if ((l1(v0) & 255u) == 0) goto L9;
-    t0 = f66(v6 + 816ull, v6 + 4648ull, l8(v6 + 5672ull), l4(v6 + 812ull), v0, v6 + 5720ull, v6 + 7016ull);
+    t0 = start_picked_place(v6 + 816ull, v6 + 4648ull, l8_8(v6 + 5672ull), l4_4(v6 + 812ull), v0, v6 + 5720ull, v6 +
+        7016ull);
     v7 = t0;
 L9:;
     v8 = v6 + 816ull;
@@ -21498,13 +21750,13 @@ L9:;
     v23 = l1(v21 + 4696ull);
     v24 = (u32)(v22 == 7u) & v23;
     if (v24 != 1u) goto L14;
-    v0 = l8(v3 + 32ull) + 1ull;
+    v0 = l8_8(v3 + 32ull) + 1ull;
     v25 = v13 + v15;
-    f69(v4, v0, (u64)(u32)(v0 == 0), (u64)v25, 0ull);
-    v0 = l8(v4 + 8);
+    multi3(v4, v0, (u64)(u32)(v0 == 0), (u64)v25, 0ull);
+    v0 = l8_8(v4 + 8);
     v23 = (u32)v0;
     if (v13) goto L16;
-    v26 = l4(v3 + 52ull);
+    v26 = l4_4(v3 + 52ull);
     if (v26 != v23) goto L18;
     v27 = l1(v3 + 56ull);
     goto L17;
@@ -21514,7 +21766,7 @@ L17:;
     v28 = v27 & 1u;
     goto L15;
 L16:;
-    v26 = l4(v3 + 52ull);
+    v26 = l4_4(v3 + 52ull);
     v28 = l1(v3 + 56ull);
 L15:;
     v27 = (v26 > v23) ? (v26 - v23) : (v23 - v26);
@@ -21534,8 +21786,8 @@ L13:;
     v29 = (v5 & 65535u) < 5u;
     v14 = t1 & (v28 & v29);
     if (v14 != 1u) goto L19;
-    s4(v4 + 20, 0u);
-    s2(v4 + 24, 0u);
+    s4_4(v4 + 20, 0u);
+    s2_2(v4 + 24, 0u);
     v30 = 0ull;
     v15 = 0u;
     v28 = 0u;
@@ -21547,14 +21799,14 @@ L13:;
     goto L2;
 L19:;
     v21 = ((u64)v12) & 65535ull;
-    s4(v4 + 44, v15);
-    s4(v4 + 40, v16);
-    s2(v4 + 38, v17);
+    s4_4(v4 + 44, v15);
+    s4_4(v4 + 40, v16);
+    s2_2(v4 + 38, v17);
     s1(v4 + 37, v11);
     s1(v4 + 36, v22);
-    s2(v4 + 34, 0u);
-    s2(v4 + 32, v12);
-    s4(v4 + 28, v19);
+    s2_2(v4 + 34, 0u);
+    s2_2(v4 + 32, v12);
+    s4_4(v4 + 28, v19);
     if (v5 > 4u) goto L23;
     if ((1u << (v22 & 31)) & 351u) goto L24;
     if (v22 == 5u) goto L25;
@@ -21573,18 +21825,18 @@ L23:;
 L22:;
     if (v28 == 0) goto L20;
 L21:;
-    s8(v4 + 72, 0ull);
-    s8(v4 + 64, 0ull);
-    s8(v4 + 56, 0ull);
-    s8(v4 + 48, 0ull);
+    s8_8(v4 + 72, 0ull);
+    s8_8(v4 + 64, 0ull);
+    s8_8(v4 + 56, 0ull);
+    s8_8(v4 + 48, 0ull);
     v1 = v13 + v29;
     goto L4;
 L20:;
     v31 = 0ull;
-    s8(v4 + 72, 0ull);
-    s8(v4 + 64, 0ull);
-    s8(v4 + 56, 0ull);
-    s8(v4 + 48, 0ull);
+    s8_8(v4 + 72, 0ull);
+    s8_8(v4 + 64, 0ull);
+    s8_8(v4 + 56, 0ull);
+    s8_8(v4 + 48, 0ull);
     if (((v22 + 0xFFFFFFFBu) & 255u) <= 1u) goto L26;
     v1 = v13;
     goto L4;
@@ -21596,10 +21848,10 @@ L26:;
     v16 = 0u;
     goto L5;
 L27:;
-    v15 = l4(v3 + 28ull);
-    v28 = l4(v3 + 8ull);
-    v16 = l4(v3 + 24ull);
-    v31 = l8(v3 + 16ull);
+    v15 = l4_4(v3 + 28ull);
+    v28 = l4_4(v3 + 8ull);
+    v16 = l4_4(v3 + 24ull);
+    v31 = l8_8(v3 + 16ull);
     goto L5;
     TRAP();
 L5:;
@@ -21607,13 +21859,13 @@ L5:;
     v32 = 0u;
     goto L3;
 L4:;
-    f70(v4 + 48ull, v4 + 28ull, v1);
-    v15 = l4(v4 + 72);
-    v28 = l4(v4 + 68);
-    v16 = l4(v4 + 64);
-    v31 = l8(v4 + 56);
-    v29 = l4(v4 + 52);
-    v32 = l2(v4 + 50);
+    outcome_moved_body(v4 + 48ull, v4 + 28ull, v1);
+    v15 = l4_4(v4 + 72);
+    v28 = l4_4(v4 + 68);
+    v16 = l4_4(v4 + 64);
+    v31 = l8_8(v4 + 56);
+    v29 = l4_4(v4 + 52);
+    v32 = l2_2(v4 + 50);
     v5 = l1(v4 + 48);
 L3:;
     v33 = v21 << 32;
@@ -21646,23 +21898,23 @@ L34:;
     v21 = 0x8A000000000000ull;
     goto L32;
 L33:;
-    v21 = l8(A(data + 960) + ((((u64)v11) & 255ull) << 3));
+    v21 = l8_8(A(data + 960) + ((((u64)v11) & 255ull) << 3));
 L32:;
-    s4(v4 + 20, 0u);
-    s2(v4 + 24, 0u);
+    s4_4(v4 + 20, 0u);
+    s2_2(v4 + 24, 0u);
     v30 = (v21 | v30) | v33;
     goto L29;
 L31:;
-    s4(v4 + 20, 0u);
-    s2(v4 + 24, 0u);
+    s4_4(v4 + 20, 0u);
+    s2_2(v4 + 24, 0u);
     v30 = (v33 | v30) | 0x89000000000000ull;
     if (v26 & 31u) goto L29;
     v1 = 1u;
     goto L28;
 L30:;
     v1 = 0u;
-    s4(v4 + 20, 0u);
-    s2(v4 + 24, 0u);
+    s4_4(v4 + 20, 0u);
+    s2_2(v4 + 24, 0u);
     v30 = (v33 | v30) | 0x88000000000000ull;
     if ((v26 & 31u) == 0) goto L28;
 L29:;
@@ -21676,10 +21928,10 @@ L2:;
     v0 = v8 + (v3 << 5);
     v1 = l4(v0 + 24);
     if (v1 == 0) goto L40;
-    s4(v0 + 24ull, v1 + 1u);
+    s4_4(v0 + 24ull, v1 + 1u);
     goto L39;
 L40:;
-    v34 = l8(v6 + 4632ull);
+    v34 = l8_8(v6 + 4632ull);
     v1 = l4(v0 + 20);
     if (v7 == 0) goto L41;
     v0 = 0ull;
@@ -21690,34 +21942,34 @@ L40:;
 L44:;
     v3 = v6 + v0;
     v21 = (v8 + (((u64)l1(v3 + 3888ull)) << 5)) + 28ull;
-    s4(v21, l4(v21) + v1);
+    s4_4(v21, l4_4(v21) + v1);
     v3 = (v8 + (((u64)l1(v3 + 3889ull)) << 5)) + 28ull;
-    s4(v3, l4(v3) + v1);
+    s4_4(v3, l4_4(v3) + v1);
     v0 = v0 + 2ull;
     if (v33 != v0) goto L44;
     if (v35 == 0) goto L42;
 L43:;
     v0 = (v8 + (((u64)l1(v9 + v0)) << 5)) + 28ull;
-    s4(v0, l4(v0) + v1);
+    s4_4(v0, l4_4(v0) + v1);
 L42:;
     v3 = (u64)l1(v10);
 L41:;
-    s8((v6 + (v3 << 3)) + 3376ull, v34 + ((u64)v1));
+    s8_8((v6 + (v3 << 3)) + 3376ull, v34 + ((u64)v1));
     v3 = (u64)l1(v10);
     v0 = (v8 + (v3 << 5)) + 24ull;
-    v1 = l4(v0);
-    s4(v0, v1 + 1u);
+    v1 = l4_4(v0);
+    s4_4(v0, v1 + 1u);
     if (v1) goto L39;
     v0 = v6 + 3976ull;
-    s8(v0, l8(v0) | (1ull << (v3 & 63)));
+    s8_8(v0, l8_8(v0) | (1ull << (v3 & 63)));
 L39:;
     v0 = v6 + 4640ull;
-    s8(v0, l8(v0) + 0xFFFFFFFFFFFFFFFFull);
+    s8_8(v0, l8_8(v0) + 0xFFFFFFFFFFFFFFFFull);
     v9 = v6 + 4632ull;
-    v10 = l8(v9) + 1ull;
+    v10 = l8_8(v9) + 1ull;
     if (v10 < 1099511627776ull) goto L45;
     v0 = v6 + 3376ull;
-    v21 = l8(v6 + 3960ull);
+    v21 = l8_8(v6 + 3960ull);
     if (v21 < 256ull) goto L46;
     v33 = 0ull;
 L47:;
@@ -21726,15 +21978,15 @@ L47:;
     v10 = 0ull;
     goto L45;
 L48:;
-    s8(v0 + 56, l8(v0 + 56) + (((u64)((i64)(v3 << 56) >> 63)) & 0xFFFFFF0000000000ull));
-    s8(v0 + 48, l8(v0 + 48) + (((u64)((i64)(v3 << 57) >> 63)) & 0xFFFFFF0000000000ull));
-    s8(v0 + 40, l8(v0 + 40) + (((u64)((i64)(v3 << 58) >> 63)) & 0xFFFFFF0000000000ull));
-    s8(v0 + 32, l8(v0 + 32) + (((u64)((i64)(v3 << 59) >> 63)) & 0xFFFFFF0000000000ull));
-    s8(v0 + 24, l8(v0 + 24) + (((u64)((i64)(v3 << 60) >> 63)) & 0xFFFFFF0000000000ull));
-    s8(v0 + 16, l8(v0 + 16) + (((u64)((i64)(v3 << 61) >> 63)) & 0xFFFFFF0000000000ull));
-    s8(v0 + 8, l8(v0 + 8) + (((u64)((i64)(v3 << 62) >> 63)) & 0xFFFFFF0000000000ull));
+    s8_8(v0 + 56, l8_8(v0 + 56) + (((u64)((i64)(v3 << 56) >> 63)) & 0xFFFFFF0000000000ull));
+    s8_8(v0 + 48, l8_8(v0 + 48) + (((u64)((i64)(v3 << 57) >> 63)) & 0xFFFFFF0000000000ull));
+    s8_8(v0 + 40, l8_8(v0 + 40) + (((u64)((i64)(v3 << 58) >> 63)) & 0xFFFFFF0000000000ull));
+    s8_8(v0 + 32, l8_8(v0 + 32) + (((u64)((i64)(v3 << 59) >> 63)) & 0xFFFFFF0000000000ull));
+    s8_8(v0 + 24, l8_8(v0 + 24) + (((u64)((i64)(v3 << 60) >> 63)) & 0xFFFFFF0000000000ull));
+    s8_8(v0 + 16, l8_8(v0 + 16) + (((u64)((i64)(v3 << 61) >> 63)) & 0xFFFFFF0000000000ull));
+    s8_8(v0 + 8, l8_8(v0 + 8) + (((u64)((i64)(v3 << 62) >> 63)) & 0xFFFFFF0000000000ull));
     v10 = 0ull;
-    s8(v0, l8(v0) + ((0ull - (v3 & 1ull)) & 0xFFFFFF0000000000ull));
+    s8_8(v0, l8_8(v0) + ((0ull - (v3 & 1ull)) & 0xFFFFFF0000000000ull));
     v0 = v0 + 64ull;
     v33 = v33 + 8ull;
     if (v33 != 64ull) goto L47;
@@ -21745,19 +21997,19 @@ L46:;
     if (v3 > 63ull) goto L45;
 L49:;
     v33 = v0 + (v3 << 3);
-    s8(v33, l8(v33) + 0xFFFFFF0000000000ull);
+    s8_8(v33, l8_8(v33) + 0xFFFFFF0000000000ull);
     v21 = v21 & (rotl64(0xFFFFFFFFFFFFFFFEull, (v3 & 63)));
     v3 = ctz64(v21);
     if (v3 < 64ull) goto L49;
 L45:;
     v1 = v14 ^ 1u;
-    s8(v9, v10);
+    s8_8(v9, v10);
     v0 = v7;
     if (v14) goto L50;
-    f72(v8, v7);
+    Backlog_leave(v8, v7);
     v0 = 0ull;
 L50:;
-    f73(v6 + 5720ull, v7, v20, v1);
+    Candidates_serve(v6 + 5720ull, v7, v20, v1);
     s8(v6 + 5688ull, 0ull);
     s8(v6 + 5680ull, 0ull);
     s8(v6 + 5704ull, v0);
@@ -21767,9 +22019,9 @@ L50:;
     if (v14) goto L51;
     if (v18 & 255u) goto L53;
     v0 = v6 + 8048ull;
-    s4(v0, l4(v0) + 0xFFFFFFFFu);
+    s4_4(v0, l4_4(v0) + 0xFFFFFFFFu);
     v3 = v6 + 11128ull;
-    v21 = l8(v3);
+    v21 = l8_8(v3);
     v0 = v6 + (v21 * 48ull);
     s8(v0 + 8056ull, v30);
     s4(v0 + 8076ull, v29);
@@ -21778,18 +22030,18 @@ L50:;
     s2(v0 + 8074ull, v32);
     s2(v0 + 8072ull, v22);
     s2(v0 + 8064ull, v26);
-    s4(v0 + 8066ull, l4(v4 + 20));
-    s2(v0 + 8070ull, l2(v4 + 24));
+    s4(v0 + 8066ull, l4_4(v4 + 20));
+    s2(v0 + 8070ull, l2_2(v4 + 24));
     s8(v0 + 8080ull, v31);
     s4(v0 + 8100ull, 0u);
     s4(v0 + 8096ull, v15);
-    s8(v3, v21 + 1ull);
+    s8_8(v3, v21 + 1ull);
     goto L52;
 L53:;
     v0 = v6 + 11136ull;
-    s4(v0, l4(v0) + 0xFFFFFFFFu);
+    s4_4(v0, l4_4(v0) + 0xFFFFFFFFu);
     v3 = v6 + 14216ull;
-    v21 = l8(v3);
+    v21 = l8_8(v3);
     v0 = v6 + (v21 * 48ull);
     s8(v0 + 11144ull, v30);
     s4(v0 + 11164ull, v29);
@@ -21798,12 +22050,12 @@ L53:;
     s2(v0 + 11162ull, v32);
     s2(v0 + 11160ull, v22);
     s2(v0 + 11152ull, v26);
-    s4(v0 + 11154ull, l4(v4 + 20));
-    s2(v0 + 11158ull, l2(v4 + 24));
+    s4(v0 + 11154ull, l4_4(v4 + 20));
+    s2(v0 + 11158ull, l2_2(v4 + 24));
     s8(v0 + 11168ull, v31);
     s4(v0 + 11188ull, 0u);
     s4(v0 + 11184ull, v15);
-    s8(v3, v21 + 1ull);
+    s8_8(v3, v21 + 1ull);
 L52:;
     v5 = v26;
 L51:;
@@ -21824,47 +22076,48 @@ L1:;
 static u32 w_mscp_step(u64 v0, u32 v1, u64 v2)
 {
     u32 t0, t1;
-    t0 = f58();
+    t0 = rattle_enter();
     if (t0 == 0) goto L1;
-    f59();
+    rattle_trap();
     TRAP();
 L1:;
-    t1 = f199(v0, v1, v2);
+    t1 = export_mscp_step(v0, v1, v2);
     v1 = t1;
-    f61();
+    rattle_leave();
     return v1;
 }
 
-static void f200(u64 v0, u64 v1, u32 v2)
+/* mscp_controller::controller::Controller::take, crates/mscp_controller/src/controller.rt:277 */
+static void Controller_take(u64 v0, u64 v1, u32 v2)
 {
     ROOM(frame, 64);
     u32 v4 = 0, v5 = 0, v6 = 0, v8 = 0, v9 = 0, v10 = 0, v11 = 0, v12 = 0, v14 = 0, v15 = 0, v16 = 0, v17 = 0, v18 = 0,
         v19 = 0;
     u64 v3 = 0, v7 = 0, v13 = 0, v20 = 0;
     v3 = A(frame);
-    s8(v3 + 56, 0ull);
-    s8(v3 + 48, 0ull);
-    s8(v3 + 40, 0ull);
-    s8(v3 + 32, 0ull);
-    s8(v3 + 24, 0ull);
-    s8(v3 + 16, 0ull);
-    s8(v3 + 8, 0ull);
+    s8_8(v3 + 56, 0ull);
+    s8_8(v3 + 48, 0ull);
+    s8_8(v3 + 40, 0ull);
+    s8_8(v3 + 32, 0ull);
+    s8_8(v3 + 24, 0ull);
+    s8_8(v3 + 16, 0ull);
+    s8_8(v3 + 8, 0ull);
     if (v2 & 255u) goto L4;
-    f104(v3 + 8ull, v1 + 8048ull);
+    Account_take(v3 + 8ull, v1 + 8048ull);
     goto L3;
 L4:;
-    f104(v3 + 8ull, v1 + 11136ull);
+    Account_take(v3 + 8ull, v1 + 11136ull);
 L3:;
     if (l1(v3 + 8) != 1u) goto L5;
-    v4 = l4(v3 + 56);
-    v5 = l4(v3 + 52);
-    v6 = l4(v3 + 48);
-    v7 = l8(v3 + 40);
-    v8 = l4(v3 + 36);
-    v9 = l2(v3 + 24);
+    v4 = l4_4(v3 + 56);
+    v5 = l4_4(v3 + 52);
+    v6 = l4_4(v3 + 48);
+    v7 = l8_8(v3 + 40);
+    v8 = l4_4(v3 + 36);
+    v9 = l2_2(v3 + 24);
     v10 = l1(v3 + 22);
-    v11 = l2(v3 + 20);
-    v12 = l4(v3 + 16);
+    v11 = l2_2(v3 + 20);
+    v12 = l4_4(v3 + 16);
     v13 = 0ull;
     v14 = 0u;
     v1 = 0ull;
@@ -21910,7 +22163,7 @@ L12:;
     v18 = v4;
     goto L7;
 L11:;
-    v14 = l2(v3 + 34);
+    v14 = l2_2(v3 + 34);
     v20 = 28ull;
     v2 = 0u;
     v1 = 0ull;
@@ -21971,21 +22224,22 @@ L1:;
     return;
 }
 
-static u32 f201(u64 v0, u32 v1, u64 v2)
+/* mscp_c::mscp_take, crates/mscp_c/src/sending.rt:47 */
+static u32 export_mscp_take(u64 v0, u32 v1, u64 v2)
 {
     ROOM(frame, 128);
     u32 v4 = 0, v5 = 0;
     u64 v3 = 0;
     v3 = A(frame);
-    s8(v3 + 64, 0ull);
-    s8(v3 + 56, 0ull);
-    s8(v3 + 48, 0ull);
-    s8(v3 + 40, 0ull);
-    s8(v3 + 32, 0ull);
-    s8(v3 + 24, 0ull);
-    s8(v3 + 16, 0ull);
-    s8(v3 + 8, 0ull);
-    if (l8(v0 + 24ull) == 0x4D5343504D414445ull) goto L3;
+    s8_8(v3 + 64, 0ull);
+    s8_8(v3 + 56, 0ull);
+    s8_8(v3 + 48, 0ull);
+    s8_8(v3 + 40, 0ull);
+    s8_8(v3 + 32, 0ull);
+    s8_8(v3 + 24, 0ull);
+    s8_8(v3 + 16, 0ull);
+    s8_8(v3 + 8, 0ull);
+    if (l8_8(v0 + 24ull) == 0x4D5343504D414445ull) goto L3;
     v4 = 0xFFFFFFF6u;
     goto L2;
 L3:;
@@ -21999,18 +22253,18 @@ L3:;
 L5:;
     v5 = 1u;
 L4:;
-    f200(v3 + 8ull, l8(v0), v5);
+    Controller_take(v3 + 8ull, l8_8(v0), v5);
     v4 = 0u;
     if (l1(v3 + 8) != 1u) goto L2;
-    v0 = l8(v3 + 64);
-    s4(v2, (u32)v0);
-    s8(v3 + 112, l8(v3 + 56));
-    s8(v3 + 104, l8(v3 + 48));
-    s8(v3 + 96, l8(v3 + 40));
-    s8(v3 + 88, l8(v3 + 32));
-    s8(v3 + 80, l8(v3 + 24));
-    s8(v3 + 72, l8(v3 + 16));
-    s8(v3 + 120, v0);
+    v0 = l8_8(v3 + 64);
+    s4_4(v2, (u32)v0);
+    s8_8(v3 + 112, l8_8(v3 + 56));
+    s8_8(v3 + 104, l8_8(v3 + 48));
+    s8_8(v3 + 96, l8_8(v3 + 40));
+    s8_8(v3 + 88, l8_8(v3 + 32));
+    s8_8(v3 + 80, l8_8(v3 + 24));
+    s8_8(v3 + 72, l8_8(v3 + 16));
+    s8_8(v3 + 120, v0);
     if (v0 == 0) goto L6;
     copy(v2 + 4ull, v3 + 72ull, v0);
 L6:;
@@ -22023,21 +22277,22 @@ L2:;
 static u32 w_mscp_take(u64 v0, u32 v1, u64 v2)
 {
     u32 t0, t1;
-    t0 = f58();
+    t0 = rattle_enter();
     if (t0 == 0) goto L1;
-    f59();
+    rattle_trap();
     TRAP();
 L1:;
-    t1 = f201(v0, v1, v2);
+    t1 = export_mscp_take(v0, v1, v2);
     v1 = t1;
-    f61();
+    rattle_leave();
     return v1;
 }
 
-static u64 f202(u64 v0, u32 v1)
+/* mscp_c::mscp_untaken, crates/mscp_c/src/seeing.rt:125 */
+static u64 export_mscp_untaken(u64 v0, u32 v1)
 {
     u64 v2 = 0, v3 = 0;
-    if (l8(v0 + 24ull) == 0x4D5343504D414445ull) goto L2;
+    if (l8_8(v0 + 24ull) == 0x4D5343504D414445ull) goto L2;
     return 0xFFFFFFFFFFFFFFF6ull;
 L2:;
     v2 = 3088ull;
@@ -22050,7 +22305,7 @@ L2:;
 L5:;
     v2 = 0ull;
 L4:;
-    v3 = (u64)l4((l8(v0) + v2) + 11128ull);
+    v3 = (u64)l4_4((l8_8(v0) + v2) + 11128ull);
 L3:;
     return v3;
     TRAP();
@@ -22060,18 +22315,19 @@ static u64 w_mscp_untaken(u64 v0, u32 v1)
 {
     u32 t0;
     u64 t1;
-    t0 = f58();
+    t0 = rattle_enter();
     if (t0 == 0) goto L1;
-    f59();
+    rattle_trap();
     TRAP();
 L1:;
-    t1 = f202(v0, v1);
+    t1 = export_mscp_untaken(v0, v1);
     v0 = t1;
-    f61();
+    rattle_leave();
     return v0;
 }
 
-static void f203(void)
+/* mscp_c::mscp_version, crates/mscp_c/src/making.rt:15 */
+static void export_mscp_version(void)
 {
     goto L1;
 L1:;
@@ -22081,20 +22337,21 @@ L1:;
 static u32 w_mscp_version(void)
 {
     u32 t0;
-    t0 = f58();
+    t0 = rattle_enter();
     if (t0 == 0) goto L1;
-    f59();
+    rattle_trap();
     TRAP();
 L1:;
-    f203();
-    f61();
+    export_mscp_version();
+    rattle_leave();
     return 131072u;
 }
 
-static u64 f204(u64 v0, u32 v1)
+/* mscp_c::mscp_waiting, crates/mscp_c/src/seeing.rt:106 */
+static u64 export_mscp_waiting(u64 v0, u32 v1)
 {
     u64 v2 = 0, v3 = 0;
-    if (l8(v0 + 24ull) == 0x4D5343504D414445ull) goto L2;
+    if (l8_8(v0 + 24ull) == 0x4D5343504D414445ull) goto L2;
     return 0xFFFFFFFFFFFFFFF6ull;
 L2:;
     v2 = 3088ull;
@@ -22107,7 +22364,7 @@ L2:;
 L5:;
     v2 = 0ull;
 L4:;
-    v3 = (u64)l4((l8(v0) + v2) + 8048ull);
+    v3 = (u64)l4_4((l8_8(v0) + v2) + 8048ull);
 L3:;
     return v3;
     TRAP();
@@ -22117,18 +22374,19 @@ static u64 w_mscp_waiting(u64 v0, u32 v1)
 {
     u32 t0;
     u64 t1;
-    t0 = f58();
+    t0 = rattle_enter();
     if (t0 == 0) goto L1;
-    f59();
+    rattle_trap();
     TRAP();
 L1:;
-    t1 = f204(v0, v1);
+    t1 = export_mscp_waiting(v0, v1);
     v0 = t1;
-    f61();
+    rattle_leave();
     return v0;
 }
 
-APART u32 f205(u64 v0, u32 v1, u32 v2, u64 v3, u64 v4)
+/* mscp_c::mscp_why_at, crates/mscp_c/src/seeing.rt:76 */
+APART u32 export_mscp_why_at(u64 v0, u32 v1, u32 v2, u64 v3, u64 v4)
 {
     ROOM(frame, 1552);
     u32 v7 = 0, v8 = 0;
@@ -22137,7 +22395,7 @@ APART u32 f205(u64 v0, u32 v1, u32 v2, u64 v3, u64 v4)
     v6 = v5;
     v7 = 0u;
     fill(v6, 0u, 776ull);
-    if (l8(v0 + 24ull) == 0x4D5343504D414445ull) goto L3;
+    if (l8_8(v0 + 24ull) == 0x4D5343504D414445ull) goto L3;
     v8 = 0xFFFFFFF6u;
     goto L2;
 L3:;
@@ -22150,9 +22408,9 @@ L3:;
 L5:;
     v7 = 1u;
 L4:;
-    f161(v6, l8(v0), v7, v2);
+    Controller_holders(v6, l8_8(v0), v7, v2);
     copy(v6 + 776ull, v6, 776ull);
-    v9 = l8(v6 + 1544);
+    v9 = l8_8(v6 + 1544);
     v0 = (v4 < v9) ? v4 : v9;
     if (v0 == 0) goto L6;
     v10 = v3 + ((v3 == 0) ? 4096ull : 0ull);
@@ -22169,11 +22427,11 @@ L8:;
     s1(v0 + 15ull, 0u);
     s1(v0 + 6ull, l1(v5 + 9ull));
     s1(v0 + 5ull, l1(v5 + 8ull));
-    s4(v0, l4(v5 + 4ull));
+    s4(v0, l4_4(v5 + 4ull));
     s1(v0 + 14ull, l1(v5 + 21ull));
     s1(v0 + 13ull, l1(v5 + 20ull));
     s1(v0 + 12ull, l1(v5 + 12ull));
-    s4(v0 + 8ull, l4(v5 + 16ull));
+    s4(v0 + 8ull, l4_4(v5 + 16ull));
     v0 = v0 + 16ull;
     v5 = v5 + 24ull;
     v4 = v4 + 2ull;
@@ -22186,7 +22444,7 @@ L7:;
     s1(v0 + 4, l1(v5));
     s1(v0 + 6, l1(v5 + 9ull));
     s1(v0 + 5, l1(v5 + 8ull));
-    s4(v0, l4(v5 + 4ull));
+    s4(v0, l4_4(v5 + 4ull));
 L6:;
     v8 = (u32)v9;
 L2:;
@@ -22197,14 +22455,14 @@ L2:;
 static u32 w_mscp_why_at(u64 v0, u32 v1, u32 v2, u64 v3, u64 v4)
 {
     u32 t0, t1;
-    t0 = f58();
+    t0 = rattle_enter();
     if (t0 == 0) goto L1;
-    f59();
+    rattle_trap();
     TRAP();
 L1:;
-    t1 = f205(v0, v1, v2, v3, v4);
+    t1 = export_mscp_why_at(v0, v1, v2, v3, v4);
     v2 = t1;
-    f61();
+    rattle_leave();
     return v2;
 }
 
@@ -22213,8 +22471,6 @@ L1:;
 #define LIES_unit (LITTLE && sizeof(struct mscp_unit) == 32)
 static u64 take_unit(const struct mscp_unit *it, u8 *room)
 {
-    if (LIES_unit)
-        return A(it);
     s8(A(room + 0), it->id);
     s4(A(room + 8), it->size);
     s4(A(room + 12), it->media);
@@ -22227,23 +22483,19 @@ static u64 take_unit(const struct mscp_unit *it, u8 *room)
 }
 static void give_unit(struct mscp_unit *it, const u8 *room)
 {
-    if (!LIES_unit) {
-        it->id = l8(A(room + 0));
-        it->size = l4(A(room + 8));
-        it->media = l4(A(room + 12));
-        it->serial = l4(A(room + 16));
-        it->number = (uint16_t)l2(A(room + 20));
-        it->track = (uint16_t)l2(A(room + 22));
-        it->group = (uint16_t)l2(A(room + 24));
-        it->cylinder = (uint16_t)l2(A(room + 26));
-    }
+    it->id = l8(A(room + 0));
+    it->size = l4(A(room + 8));
+    it->media = l4(A(room + 12));
+    it->serial = l4(A(room + 16));
+    it->number = (uint16_t)l2(A(room + 20));
+    it->track = (uint16_t)l2(A(room + 22));
+    it->group = (uint16_t)l2(A(room + 24));
+    it->cylinder = (uint16_t)l2(A(room + 26));
 }
 
 #define LIES_limits (LITTLE && sizeof(struct mscp_limits) == 32)
 static u64 take_limits(const struct mscp_limits *it, u8 *room)
 {
-    if (LIES_limits)
-        return A(it);
     s8(A(room + 0), it->id);
     s8(A(room + 8), it->budget);
     s4(A(room + 16), it->credits);
@@ -22254,21 +22506,17 @@ static u64 take_limits(const struct mscp_limits *it, u8 *room)
 }
 static void give_limits(struct mscp_limits *it, const u8 *room)
 {
-    if (!LIES_limits) {
-        it->id = l8(A(room + 0));
-        it->budget = l8(A(room + 8));
-        it->credits = l4(A(room + 16));
-        it->second = l4(A(room + 20));
-        it->longest = l4(A(room + 24));
-        it->timeout = (uint16_t)l2(A(room + 28));
-    }
+    it->id = l8(A(room + 0));
+    it->budget = l8(A(room + 8));
+    it->credits = l4(A(room + 16));
+    it->second = l4(A(room + 20));
+    it->longest = l4(A(room + 24));
+    it->timeout = (uint16_t)l2(A(room + 28));
 }
 
 #define LIES_hardware (LITTLE && sizeof(struct mscp_hardware) == 4)
 static u64 take_hardware(const struct mscp_hardware *it, u8 *room)
 {
-    if (LIES_hardware)
-        return A(it);
     s1(A(room + 0), it->bus);
     s1(A(room + 1), it->model);
     s1(A(room + 2), it->software);
@@ -22279,8 +22527,6 @@ static u64 take_hardware(const struct mscp_hardware *it, u8 *room)
 #define LIES_medium (LITTLE && sizeof(struct mscp_medium) == 12)
 static u64 take_medium(const struct mscp_medium *it, u8 *room)
 {
-    if (LIES_medium)
-        return A(it);
     s4(A(room + 0), it->size);
     s4(A(room + 4), it->media);
     s1(A(room + 8), it->is_protected);
@@ -22291,8 +22537,6 @@ static u64 take_medium(const struct mscp_medium *it, u8 *room)
 #define LIES_controller (LITTLE && sizeof(struct mscp) == 32 && sizeof(void *) == 8)
 static u64 take_controller(const struct mscp *it, u8 *room)
 {
-    if (LIES_controller)
-        return A(it);
     s8(A(room + 0), A(it->at));
     s8(A(room + 8), it->address);
     s8(A(room + 16), it->length);
@@ -22301,19 +22545,15 @@ static u64 take_controller(const struct mscp *it, u8 *room)
 }
 static void give_controller(struct mscp *it, const u8 *room)
 {
-    if (!LIES_controller) {
-        it->at = P(l8(A(room + 0)));
-        it->address = l8(A(room + 8));
-        it->length = l8(A(room + 16));
-        it->mark = l8(A(room + 24));
-    }
+    it->at = P(l8(A(room + 0)));
+    it->address = l8(A(room + 8));
+    it->length = l8(A(room + 16));
+    it->mark = l8(A(room + 24));
 }
 
 #define LIES_host (LITTLE && sizeof(struct mscp_host) == 32 && sizeof(void *) == 8)
 static u64 take_host(const struct mscp_host *it, u8 *room)
 {
-    if (LIES_host)
-        return A(it);
     s8(A(room + 0), A(it->at));
     s8(A(room + 8), it->address);
     s8(A(room + 16), it->length);
@@ -22322,19 +22562,15 @@ static u64 take_host(const struct mscp_host *it, u8 *room)
 }
 static void give_host(struct mscp_host *it, const u8 *room)
 {
-    if (!LIES_host) {
-        it->at = P(l8(A(room + 0)));
-        it->address = l8(A(room + 8));
-        it->length = l8(A(room + 16));
-        it->mark = l8(A(room + 24));
-    }
+    it->at = P(l8(A(room + 0)));
+    it->address = l8(A(room + 8));
+    it->length = l8(A(room + 16));
+    it->mark = l8(A(room + 24));
 }
 
 #define LIES_port (LITTLE && sizeof(struct mscp_port) == 32 && sizeof(void *) == 8)
 static u64 take_port(const struct mscp_port *it, u8 *room)
 {
-    if (LIES_port)
-        return A(it);
     s8(A(room + 0), A(it->at));
     s8(A(room + 8), it->address);
     s8(A(room + 16), it->length);
@@ -22343,19 +22579,15 @@ static u64 take_port(const struct mscp_port *it, u8 *room)
 }
 static void give_port(struct mscp_port *it, const u8 *room)
 {
-    if (!LIES_port) {
-        it->at = P(l8(A(room + 0)));
-        it->address = l8(A(room + 8));
-        it->length = l8(A(room + 16));
-        it->mark = l8(A(room + 24));
-    }
+    it->at = P(l8(A(room + 0)));
+    it->address = l8(A(room + 8));
+    it->length = l8(A(room + 16));
+    it->mark = l8(A(room + 24));
 }
 
 #define LIES_sent (LITTLE && sizeof(struct mscp_sent) == 12)
 static u64 take_sent(const struct mscp_sent *it, u8 *room)
 {
-    if (LIES_sent)
-        return A(it);
     s4(A(room + 0), it->reference);
     s4(A(room + 4), it->aborted);
     s1(A(room + 8), it->has_aborted);
@@ -22363,35 +22595,27 @@ static u64 take_sent(const struct mscp_sent *it, u8 *room)
 }
 static void give_sent(struct mscp_sent *it, const u8 *room)
 {
-    if (!LIES_sent) {
-        it->reference = l4(A(room + 0));
-        it->aborted = l4(A(room + 4));
-        it->has_aborted = (uint8_t)l1(A(room + 8));
-    }
+    it->reference = l4(A(room + 0));
+    it->aborted = l4(A(room + 4));
+    it->has_aborted = (uint8_t)l1(A(room + 8));
 }
 
 #define LIES_packet (LITTLE && sizeof(struct mscp_packet) == 52)
 static u64 take_packet(const struct mscp_packet *it, u8 *room)
 {
-    if (LIES_packet)
-        return A(it);
     s4(A(room + 0), it->length);
-    memcpy(room + 4, it->bytes, 48);
+    COPY(room + 4, it->bytes, 48);
     return A(room);
 }
 static void give_packet(struct mscp_packet *it, const u8 *room)
 {
-    if (!LIES_packet) {
-        it->length = l4(A(room + 0));
-        memcpy(it->bytes, room + 4, 48);
-    }
+    it->length = l4(A(room + 0));
+    COPY(it->bytes, room + 4, 48);
 }
 
 #define LIES_upcoming (LITTLE && sizeof(struct mscp_upcoming) == 28)
 static u64 take_upcoming(const struct mscp_upcoming *it, u8 *room)
 {
-    if (LIES_upcoming)
-        return A(it);
     s4(A(room + 0), it->reference);
     s4(A(room + 4), it->bytes);
     s4(A(room + 8), it->lbn);
@@ -22405,24 +22629,20 @@ static u64 take_upcoming(const struct mscp_upcoming *it, u8 *room)
 }
 static void give_upcoming(struct mscp_upcoming *it, const u8 *room)
 {
-    if (!LIES_upcoming) {
-        it->reference = l4(A(room + 0));
-        it->bytes = l4(A(room + 4));
-        it->lbn = l4(A(room + 8));
-        it->done = l4(A(room + 12));
-        it->weight = l4(A(room + 16));
-        it->unit = (uint16_t)l2(A(room + 20));
-        it->opcode = (uint8_t)l1(A(room + 22));
-        it->touches = (uint8_t)l1(A(room + 23));
-        it->connection = (uint8_t)l1(A(room + 24));
-    }
+    it->reference = l4(A(room + 0));
+    it->bytes = l4(A(room + 4));
+    it->lbn = l4(A(room + 8));
+    it->done = l4(A(room + 12));
+    it->weight = l4(A(room + 16));
+    it->unit = (uint16_t)l2(A(room + 20));
+    it->opcode = (uint8_t)l1(A(room + 22));
+    it->touches = (uint8_t)l1(A(room + 23));
+    it->connection = (uint8_t)l1(A(room + 24));
 }
 
 #define LIES_report (LITTLE && sizeof(struct mscp_report) == 20)
 static u64 take_report(const struct mscp_report *it, u8 *room)
 {
-    if (LIES_report)
-        return A(it);
     s4(A(room + 0), it->reference);
     s4(A(room + 4), it->lbn);
     s4(A(room + 8), it->seek);
@@ -22436,45 +22656,37 @@ static u64 take_report(const struct mscp_report *it, u8 *room)
 }
 static void give_report(struct mscp_report *it, const u8 *room)
 {
-    if (!LIES_report) {
-        it->reference = l4(A(room + 0));
-        it->lbn = l4(A(room + 4));
-        it->seek = l4(A(room + 8));
-        it->unit = (uint16_t)l2(A(room + 12));
-        it->status = (uint16_t)l2(A(room + 14));
-        it->touched = (uint8_t)l1(A(room + 16));
-        it->started = (uint8_t)l1(A(room + 17));
-        it->ended = (uint8_t)l1(A(room + 18));
-        it->connection = (uint8_t)l1(A(room + 19));
-    }
+    it->reference = l4(A(room + 0));
+    it->lbn = l4(A(room + 4));
+    it->seek = l4(A(room + 8));
+    it->unit = (uint16_t)l2(A(room + 12));
+    it->status = (uint16_t)l2(A(room + 14));
+    it->touched = (uint8_t)l1(A(room + 16));
+    it->started = (uint8_t)l1(A(room + 17));
+    it->ended = (uint8_t)l1(A(room + 18));
+    it->connection = (uint8_t)l1(A(room + 19));
 }
 
 #define LIES_waiting (LITTLE && sizeof(struct mscp_waiting) == 12)
 static void give_waiting(struct mscp_waiting *it, const u8 *room)
 {
-    if (!LIES_waiting) {
-        it->reference = l4(A(room + 0));
-        it->figure = l4(A(room + 4));
-        it->connection = (uint8_t)l1(A(room + 8));
-    }
+    it->reference = l4(A(room + 0));
+    it->figure = l4(A(room + 4));
+    it->connection = (uint8_t)l1(A(room + 8));
 }
 
 #define LIES_holder (LITTLE && sizeof(struct mscp_holder) == 8)
 static void give_holder(struct mscp_holder *it, const u8 *room)
 {
-    if (!LIES_holder) {
-        it->reference = l4(A(room + 0));
-        it->connection = (uint8_t)l1(A(room + 4));
-        it->fences = (uint8_t)l1(A(room + 5));
-        it->overdrawn = (uint8_t)l1(A(room + 6));
-    }
+    it->reference = l4(A(room + 0));
+    it->connection = (uint8_t)l1(A(room + 4));
+    it->fences = (uint8_t)l1(A(room + 5));
+    it->overdrawn = (uint8_t)l1(A(room + 6));
 }
 
 #define LIES_news (LITTLE && sizeof(struct mscp_news) == 20)
 static u64 take_news(const struct mscp_news *it, u8 *room)
 {
-    if (LIES_news)
-        return A(it);
     s4(A(room + 0), it->figure);
     s4(A(room + 4), it->reference);
     s4(A(room + 8), it->moved);
@@ -22485,21 +22697,17 @@ static u64 take_news(const struct mscp_news *it, u8 *room)
 }
 static void give_news(struct mscp_news *it, const u8 *room)
 {
-    if (!LIES_news) {
-        it->figure = l4(A(room + 0));
-        it->reference = l4(A(room + 4));
-        it->moved = l4(A(room + 8));
-        it->unit = (uint16_t)l2(A(room + 12));
-        it->status = (uint16_t)l2(A(room + 14));
-        it->code = (uint8_t)l1(A(room + 16));
-    }
+    it->figure = l4(A(room + 0));
+    it->reference = l4(A(room + 4));
+    it->moved = l4(A(room + 8));
+    it->unit = (uint16_t)l2(A(room + 12));
+    it->status = (uint16_t)l2(A(room + 14));
+    it->code = (uint8_t)l1(A(room + 16));
 }
 
 #define LIES_action (LITTLE && sizeof(struct mscp_action) == 84)
 static u64 take_action(const struct mscp_action *it, u8 *room)
 {
-    if (LIES_action)
-        return A(it);
     s4(A(room + 0), it->address);
     s4(A(room + 4), it->count);
     s4(A(room + 8), it->block);
@@ -22507,28 +22715,24 @@ static u64 take_action(const struct mscp_action *it, u8 *room)
     s2(A(room + 14), it->vector);
     s1(A(room + 16), it->kind);
     s1(A(room + 17), it->opcode);
-    memcpy(room + 18, it->bytes, 64);
+    COPY(room + 18, it->bytes, 64);
     return A(room);
 }
 static void give_action(struct mscp_action *it, const u8 *room)
 {
-    if (!LIES_action) {
-        it->address = l4(A(room + 0));
-        it->count = l4(A(room + 4));
-        it->block = l4(A(room + 8));
-        it->unit = (uint16_t)l2(A(room + 12));
-        it->vector = (uint16_t)l2(A(room + 14));
-        it->kind = (uint8_t)l1(A(room + 16));
-        it->opcode = (uint8_t)l1(A(room + 17));
-        memcpy(it->bytes, room + 18, 64);
-    }
+    it->address = l4(A(room + 0));
+    it->count = l4(A(room + 4));
+    it->block = l4(A(room + 8));
+    it->unit = (uint16_t)l2(A(room + 12));
+    it->vector = (uint16_t)l2(A(room + 14));
+    it->kind = (uint8_t)l1(A(room + 16));
+    it->opcode = (uint8_t)l1(A(room + 17));
+    COPY(it->bytes, room + 18, 64);
 }
 
 #define LIES_state (LITTLE && sizeof(struct mscp_state) == 4)
 static u64 take_state(const struct mscp_state *it, u8 *room)
 {
-    if (LIES_state)
-        return A(it);
     s2(A(room + 0), it->word);
     s1(A(room + 2), it->stage);
     s1(A(room + 3), it->is_held_back);
@@ -22536,18 +22740,14 @@ static u64 take_state(const struct mscp_state *it, u8 *room)
 }
 static void give_state(struct mscp_state *it, const u8 *room)
 {
-    if (!LIES_state) {
-        it->word = (uint16_t)l2(A(room + 0));
-        it->stage = (uint8_t)l1(A(room + 2));
-        it->is_held_back = (uint8_t)l1(A(room + 3));
-    }
+    it->word = (uint16_t)l2(A(room + 0));
+    it->stage = (uint8_t)l1(A(room + 2));
+    it->is_held_back = (uint8_t)l1(A(room + 3));
 }
 
 #define LIES_volume (LITTLE && sizeof(struct mscp_volume) == 16)
 static u64 take_volume(const struct mscp_volume *it, u8 *room)
 {
-    if (LIES_volume)
-        return A(it);
     s4(A(room + 0), it->size);
     s4(A(room + 4), it->media);
     s1(A(room + 8), it->is_there);
@@ -22559,15 +22759,13 @@ static u64 take_volume(const struct mscp_volume *it, u8 *room)
 }
 static void give_volume(struct mscp_volume *it, const u8 *room)
 {
-    if (!LIES_volume) {
-        it->size = l4(A(room + 0));
-        it->media = l4(A(room + 4));
-        it->is_there = (uint8_t)l1(A(room + 8));
-        it->is_protected = (uint8_t)l1(A(room + 9));
-        it->is_protected_by_host = (uint8_t)l1(A(room + 10));
-        it->is_online = (uint8_t)l1(A(room + 11));
-        it->is_removable = (uint8_t)l1(A(room + 12));
-    }
+    it->size = l4(A(room + 0));
+    it->media = l4(A(room + 4));
+    it->is_there = (uint8_t)l1(A(room + 8));
+    it->is_protected = (uint8_t)l1(A(room + 9));
+    it->is_protected_by_host = (uint8_t)l1(A(room + 10));
+    it->is_online = (uint8_t)l1(A(room + 11));
+    it->is_removable = (uint8_t)l1(A(room + 12));
 }
 
 size_t mscp_align(void)
@@ -22577,36 +22775,40 @@ size_t mscp_align(void)
 
 int64_t mscp_balance(const struct mscp *mscp, uint32_t connection)
 {
-    u8 mscp_room[LIES_controller ? 1 : 32];
-    return (int64_t)w_mscp_balance(take_controller(mscp, mscp_room), connection);
+    ROOM(mscp_room, LIES_controller ? 1 : 32);
+    return (int64_t)w_mscp_balance(LIES_controller ? A(mscp) : take_controller(mscp, mscp_room), connection);
 }
 
 int32_t mscp_begin(struct mscp *mscp, struct mscp_upcoming *upcoming)
 {
-    u8 mscp_room[LIES_controller ? 1 : 32];
-    u8 upcoming_room[LIES_upcoming ? 1 : 28];
-    const int32_t answer = (int32_t)w_mscp_begin(take_controller(mscp, mscp_room), take_upcoming(upcoming,
-        upcoming_room));
-    give_controller(mscp, mscp_room);
-    give_upcoming(upcoming, upcoming_room);
+    ROOM(mscp_room, LIES_controller ? 1 : 32);
+    ROOM(upcoming_room, LIES_upcoming ? 1 : 28);
+    const int32_t answer = (int32_t)w_mscp_begin(LIES_controller ? A(mscp) : take_controller(mscp, mscp_room),
+        LIES_upcoming ? A(upcoming) : take_upcoming(upcoming, upcoming_room));
+    if (!LIES_controller)
+        give_controller(mscp, mscp_room);
+    if (!LIES_upcoming)
+        give_upcoming(upcoming, upcoming_room);
     return answer;
 }
 
 int64_t mscp_figure(const struct mscp *mscp, uint32_t connection, uint32_t reference)
 {
-    u8 mscp_room[LIES_controller ? 1 : 32];
-    return (int64_t)w_mscp_figure(take_controller(mscp, mscp_room), connection, reference);
+    ROOM(mscp_room, LIES_controller ? 1 : 32);
+    return (int64_t)w_mscp_figure(LIES_controller ? A(mscp) : take_controller(mscp, mscp_room), connection, reference);
 }
 
 int32_t mscp_finish(struct mscp *mscp, uint32_t connection, uint32_t reference, uint16_t status, struct mscp_report
         *report)
 {
-    u8 mscp_room[LIES_controller ? 1 : 32];
-    u8 report_room[LIES_report ? 1 : 20];
-    const int32_t answer = (int32_t)w_mscp_finish(take_controller(mscp, mscp_room), connection, reference, status,
-        take_report(report, report_room));
-    give_controller(mscp, mscp_room);
-    give_report(report, report_room);
+    ROOM(mscp_room, LIES_controller ? 1 : 32);
+    ROOM(report_room, LIES_report ? 1 : 20);
+    const int32_t answer = (int32_t)w_mscp_finish(LIES_controller ? A(mscp) : take_controller(mscp, mscp_room),
+        connection, reference, status, LIES_report ? A(report) : take_report(report, report_room));
+    if (!LIES_controller)
+        give_controller(mscp, mscp_room);
+    if (!LIES_report)
+        give_report(report, report_room);
     return answer;
 }
 
@@ -22617,53 +22819,61 @@ size_t mscp_host_align(void)
 
 int64_t mscp_host_balance(const struct mscp_host *host)
 {
-    u8 host_room[LIES_host ? 1 : 32];
-    return (int64_t)w_mscp_host_balance(take_host(host, host_room));
+    ROOM(host_room, LIES_host ? 1 : 32);
+    return (int64_t)w_mscp_host_balance(LIES_host ? A(host) : take_host(host, host_room));
 }
 
 int32_t mscp_host_init_at(struct mscp_host *host, uint32_t credits)
 {
-    u8 host_room[LIES_host ? 1 : 32];
-    const int32_t answer = (int32_t)w_mscp_host_init_at(take_host(host, host_room), credits);
-    give_host(host, host_room);
+    ROOM(host_room, LIES_host ? 1 : 32);
+    const int32_t answer = (int32_t)w_mscp_host_init_at(LIES_host ? A(host) : take_host(host, host_room), credits);
+    if (!LIES_host)
+        give_host(host, host_room);
     return answer;
 }
 
 int32_t mscp_host_poll(struct mscp_host *host, uint32_t reference, struct mscp_packet *message)
 {
-    u8 host_room[LIES_host ? 1 : 32];
-    u8 message_room[LIES_packet ? 1 : 52];
-    const int32_t answer = (int32_t)w_mscp_host_poll(take_host(host, host_room), reference, take_packet(message,
-        message_room));
-    give_host(host, host_room);
-    give_packet(message, message_room);
+    ROOM(host_room, LIES_host ? 1 : 32);
+    ROOM(message_room, LIES_packet ? 1 : 52);
+    const int32_t answer = (int32_t)w_mscp_host_poll(LIES_host ? A(host) : take_host(host, host_room), reference,
+        LIES_packet ? A(message) : take_packet(message, message_room));
+    if (!LIES_host)
+        give_host(host, host_room);
+    if (!LIES_packet)
+        give_packet(message, message_room);
     return answer;
 }
 
 int32_t mscp_host_receive_at(struct mscp_host *host, const uint8_t *bytes, size_t length, struct mscp_news *news)
 {
-    u8 host_room[LIES_host ? 1 : 32];
-    u8 news_room[LIES_news ? 1 : 20];
-    const int32_t answer = (int32_t)w_mscp_host_receive_at(take_host(host, host_room), A(bytes), length,
-        take_news(news, news_room));
-    give_host(host, host_room);
-    give_news(news, news_room);
+    ROOM(host_room, LIES_host ? 1 : 32);
+    ROOM(news_room, LIES_news ? 1 : 20);
+    const int32_t answer = (int32_t)w_mscp_host_receive_at(LIES_host ? A(host) : take_host(host, host_room), A(bytes),
+        length, LIES_news ? A(news) : take_news(news, news_room));
+    if (!LIES_host)
+        give_host(host, host_room);
+    if (!LIES_news)
+        give_news(news, news_room);
     return answer;
 }
 
 int32_t mscp_host_restore_at(struct mscp_host *host, const uint8_t *bytes, size_t length)
 {
-    u8 host_room[LIES_host ? 1 : 32];
-    const int32_t answer = (int32_t)w_mscp_host_restore_at(take_host(host, host_room), A(bytes), length);
-    give_host(host, host_room);
+    ROOM(host_room, LIES_host ? 1 : 32);
+    const int32_t answer = (int32_t)w_mscp_host_restore_at(LIES_host ? A(host) : take_host(host, host_room), A(bytes),
+        length);
+    if (!LIES_host)
+        give_host(host, host_room);
     return answer;
 }
 
 int32_t mscp_host_save_at(const struct mscp_host *host, uint8_t *bytes, size_t room, size_t *length)
 {
-    u8 host_room[LIES_host ? 1 : 32];
-    u8 length_room[8];
-    const int32_t answer = (int32_t)w_mscp_host_save_at(take_host(host, host_room), A(bytes), room, A(length_room));
+    ROOM(host_room, LIES_host ? 1 : 32);
+    ROOM(length_room, 8);
+    const int32_t answer = (int32_t)w_mscp_host_save_at(LIES_host ? A(host) : take_host(host, host_room), A(bytes),
+        room, A(length_room));
     if (answer == MSCP_DONE || answer == MSCP_SMALL)
         *length = (size_t)l8(A(length_room));
     return answer;
@@ -22681,40 +22891,45 @@ size_t mscp_host_size(void)
 
 int32_t mscp_host_submit_at(struct mscp_host *host, const uint8_t *message, size_t length)
 {
-    u8 host_room[LIES_host ? 1 : 32];
-    const int32_t answer = (int32_t)w_mscp_host_submit_at(take_host(host, host_room), A(message), length);
-    give_host(host, host_room);
+    ROOM(host_room, LIES_host ? 1 : 32);
+    const int32_t answer = (int32_t)w_mscp_host_submit_at(LIES_host ? A(host) : take_host(host, host_room), A(message),
+        length);
+    if (!LIES_host)
+        give_host(host, host_room);
     return answer;
 }
 
 int32_t mscp_init_at(struct mscp *mscp, const struct mscp_limits *limits, const struct mscp_unit *units, size_t count,
         uint32_t picker)
 {
-    u8 mscp_room[LIES_controller ? 1 : 32];
-    u8 limits_room[LIES_limits ? 1 : 32];
-    u8 units_room[LIES_unit ? 1 : 32 * MSCP_UNITS_MAX];
+    ROOM(mscp_room, LIES_controller ? 1 : 32);
+    ROOM(limits_room, LIES_limits ? 1 : 32);
+    ROOM(units_room, LIES_unit ? 1 : 32 * MSCP_UNITS_MAX);
     for (size_t k = 0; !LIES_unit && k < count && k < MSCP_UNITS_MAX; k++)
         take_unit(units + k, units_room + 32 * k);
-    const int32_t answer = (int32_t)w_mscp_init_at(take_controller(mscp, mscp_room), take_limits(limits, limits_room),
-        LIES_unit ? A(units) : A(units_room), count, picker);
-    give_controller(mscp, mscp_room);
+    const int32_t answer = (int32_t)w_mscp_init_at(LIES_controller ? A(mscp) : take_controller(mscp, mscp_room),
+        LIES_limits ? A(limits) : take_limits(limits, limits_room), LIES_unit ? A(units) : A(units_room), count,
+        picker);
+    if (!LIES_controller)
+        give_controller(mscp, mscp_room);
     return answer;
 }
 
 int32_t mscp_is_online(const struct mscp *mscp, uint16_t unit)
 {
-    u8 mscp_room[LIES_controller ? 1 : 32];
-    return (int32_t)w_mscp_is_online(take_controller(mscp, mscp_room), unit);
+    ROOM(mscp_room, LIES_controller ? 1 : 32);
+    return (int32_t)w_mscp_is_online(LIES_controller ? A(mscp) : take_controller(mscp, mscp_room), unit);
 }
 
 int32_t mscp_look_at(const struct mscp *mscp, struct mscp_waiting *list, size_t room)
 {
-    u8 mscp_room[LIES_controller ? 1 : 32];
-    u8 list_room[sizeof *list == 12 ? 1 : 12 * MSCP_CREDITS_MAX];
+    ROOM(mscp_room, LIES_controller ? 1 : 32);
+    ROOM(list_room, sizeof *list == 12 ? 1 : 12 * MSCP_CREDITS_MAX);
     u8 *const list_there = sizeof *list == 12 ? (u8 *)list : list_room;
     const size_t list_most = sizeof *list == 12 || room < MSCP_CREDITS_MAX ? room : MSCP_CREDITS_MAX;
-    const int32_t answer = (int32_t)w_mscp_look_at(take_controller(mscp, mscp_room), A(list_there), list_most);
-    for (size_t k = 0; k < list_most && (i64)k < answer; k++)
+    const int32_t answer = (int32_t)w_mscp_look_at(LIES_controller ? A(mscp) : take_controller(mscp, mscp_room),
+        A(list_there), list_most);
+    for (size_t k = 0; !LIES_waiting && k < list_most && (i64)k < answer; k++)
         give_waiting(list + k, list_there + 12 * k);
     return answer;
 }
@@ -22726,105 +22941,121 @@ size_t mscp_port_align(void)
 
 int32_t mscp_port_begun(const struct mscp_port *port, struct mscp_upcoming *upcoming)
 {
-    u8 port_room[LIES_port ? 1 : 32];
-    u8 upcoming_room[LIES_upcoming ? 1 : 28];
-    const int32_t answer = (int32_t)w_mscp_port_begun(take_port(port, port_room), take_upcoming(upcoming,
-        upcoming_room));
-    give_upcoming(upcoming, upcoming_room);
+    ROOM(port_room, LIES_port ? 1 : 32);
+    ROOM(upcoming_room, LIES_upcoming ? 1 : 28);
+    const int32_t answer = (int32_t)w_mscp_port_begun(LIES_port ? A(port) : take_port(port, port_room), LIES_upcoming ?
+        A(upcoming) : take_upcoming(upcoming, upcoming_room));
+    if (!LIES_upcoming)
+        give_upcoming(upcoming, upcoming_room);
     return answer;
 }
 
 int32_t mscp_port_init_at(struct mscp_port *port, const struct mscp_limits *limits, const struct mscp_unit *units,
         size_t count, uint32_t picker, const struct mscp_hardware *hardware, uint32_t credits)
 {
-    u8 port_room[LIES_port ? 1 : 32];
-    u8 limits_room[LIES_limits ? 1 : 32];
-    u8 units_room[LIES_unit ? 1 : 32 * MSCP_UNITS_MAX];
+    ROOM(port_room, LIES_port ? 1 : 32);
+    ROOM(limits_room, LIES_limits ? 1 : 32);
+    ROOM(units_room, LIES_unit ? 1 : 32 * MSCP_UNITS_MAX);
     for (size_t k = 0; !LIES_unit && k < count && k < MSCP_UNITS_MAX; k++)
         take_unit(units + k, units_room + 32 * k);
-    u8 hardware_room[LIES_hardware ? 1 : 4];
-    const int32_t answer = (int32_t)w_mscp_port_init_at(take_port(port, port_room), take_limits(limits, limits_room),
-        LIES_unit ? A(units) : A(units_room), count, picker, take_hardware(hardware, hardware_room), credits);
-    give_port(port, port_room);
+    ROOM(hardware_room, LIES_hardware ? 1 : 4);
+    const int32_t answer = (int32_t)w_mscp_port_init_at(LIES_port ? A(port) : take_port(port, port_room), LIES_limits ?
+        A(limits) : take_limits(limits, limits_room), LIES_unit ? A(units) : A(units_room), count, picker,
+        LIES_hardware ? A(hardware) : take_hardware(hardware, hardware_room), credits);
+    if (!LIES_port)
+        give_port(port, port_room);
     return answer;
 }
 
 int32_t mscp_port_look_again(struct mscp_port *port)
 {
-    u8 port_room[LIES_port ? 1 : 32];
-    const int32_t answer = (int32_t)w_mscp_port_look_again(take_port(port, port_room));
-    give_port(port, port_room);
+    ROOM(port_room, LIES_port ? 1 : 32);
+    const int32_t answer = (int32_t)w_mscp_port_look_again(LIES_port ? A(port) : take_port(port, port_room));
+    if (!LIES_port)
+        give_port(port, port_room);
     return answer;
 }
 
 int32_t mscp_port_look_at(const struct mscp_port *port, struct mscp_waiting *list, size_t room)
 {
-    u8 port_room[LIES_port ? 1 : 32];
-    u8 list_room[sizeof *list == 12 ? 1 : 12 * MSCP_CREDITS_MAX];
+    ROOM(port_room, LIES_port ? 1 : 32);
+    ROOM(list_room, sizeof *list == 12 ? 1 : 12 * MSCP_CREDITS_MAX);
     u8 *const list_there = sizeof *list == 12 ? (u8 *)list : list_room;
     const size_t list_most = sizeof *list == 12 || room < MSCP_CREDITS_MAX ? room : MSCP_CREDITS_MAX;
-    const int32_t answer = (int32_t)w_mscp_port_look_at(take_port(port, port_room), A(list_there), list_most);
-    for (size_t k = 0; k < list_most && (i64)k < answer; k++)
+    const int32_t answer = (int32_t)w_mscp_port_look_at(LIES_port ? A(port) : take_port(port, port_room),
+        A(list_there), list_most);
+    for (size_t k = 0; !LIES_waiting && k < list_most && (i64)k < answer; k++)
         give_waiting(list + k, list_there + 12 * k);
     return answer;
 }
 
 int32_t mscp_port_next(struct mscp_port *port, struct mscp_action *action)
 {
-    u8 port_room[LIES_port ? 1 : 32];
-    u8 action_room[LIES_action ? 1 : 84];
-    const int32_t answer = (int32_t)w_mscp_port_next(take_port(port, port_room), take_action(action, action_room));
-    give_port(port, port_room);
-    give_action(action, action_room);
+    ROOM(port_room, LIES_port ? 1 : 32);
+    ROOM(action_room, LIES_action ? 1 : 84);
+    const int32_t answer = (int32_t)w_mscp_port_next(LIES_port ? A(port) : take_port(port, port_room), LIES_action ?
+        A(action) : take_action(action, action_room));
+    if (!LIES_port)
+        give_port(port, port_room);
+    if (!LIES_action)
+        give_action(action, action_room);
     return answer;
 }
 
 int32_t mscp_port_next_message(struct mscp_port *port, struct mscp_action *action)
 {
-    u8 port_room[LIES_port ? 1 : 32];
-    u8 action_room[LIES_action ? 1 : 84];
-    const int32_t answer = (int32_t)w_mscp_port_next_message(take_port(port, port_room), take_action(action,
-        action_room));
-    give_port(port, port_room);
-    give_action(action, action_room);
+    ROOM(port_room, LIES_port ? 1 : 32);
+    ROOM(action_room, LIES_action ? 1 : 84);
+    const int32_t answer = (int32_t)w_mscp_port_next_message(LIES_port ? A(port) : take_port(port, port_room),
+        LIES_action ? A(action) : take_action(action, action_room));
+    if (!LIES_port)
+        give_port(port, port_room);
+    if (!LIES_action)
+        give_action(action, action_room);
     return answer;
 }
 
 int32_t mscp_port_protect(struct mscp_port *port, uint16_t unit, uint32_t is_protected)
 {
-    u8 port_room[LIES_port ? 1 : 32];
-    const int32_t answer = (int32_t)w_mscp_port_protect(take_port(port, port_room), unit, is_protected);
-    give_port(port, port_room);
+    ROOM(port_room, LIES_port ? 1 : 32);
+    const int32_t answer = (int32_t)w_mscp_port_protect(LIES_port ? A(port) : take_port(port, port_room), unit,
+        is_protected);
+    if (!LIES_port)
+        give_port(port, port_room);
     return answer;
 }
 
 int32_t mscp_port_read_ip(struct mscp_port *port)
 {
-    u8 port_room[LIES_port ? 1 : 32];
-    const int32_t answer = (int32_t)w_mscp_port_read_ip(take_port(port, port_room));
-    give_port(port, port_room);
+    ROOM(port_room, LIES_port ? 1 : 32);
+    const int32_t answer = (int32_t)w_mscp_port_read_ip(LIES_port ? A(port) : take_port(port, port_room));
+    if (!LIES_port)
+        give_port(port, port_room);
     return answer;
 }
 
 int32_t mscp_port_read_sa(const struct mscp_port *port)
 {
-    u8 port_room[LIES_port ? 1 : 32];
-    return (int32_t)w_mscp_port_read_sa(take_port(port, port_room));
+    ROOM(port_room, LIES_port ? 1 : 32);
+    return (int32_t)w_mscp_port_read_sa(LIES_port ? A(port) : take_port(port, port_room));
 }
 
 int32_t mscp_port_restore_at(struct mscp_port *port, const uint8_t *bytes, size_t length)
 {
-    u8 port_room[LIES_port ? 1 : 32];
-    const int32_t answer = (int32_t)w_mscp_port_restore_at(take_port(port, port_room), A(bytes), length);
-    give_port(port, port_room);
+    ROOM(port_room, LIES_port ? 1 : 32);
+    const int32_t answer = (int32_t)w_mscp_port_restore_at(LIES_port ? A(port) : take_port(port, port_room), A(bytes),
+        length);
+    if (!LIES_port)
+        give_port(port, port_room);
     return answer;
 }
 
 int32_t mscp_port_save_at(const struct mscp_port *port, uint8_t *bytes, size_t room, size_t *length)
 {
-    u8 port_room[LIES_port ? 1 : 32];
-    u8 length_room[8];
-    const int32_t answer = (int32_t)w_mscp_port_save_at(take_port(port, port_room), A(bytes), room, A(length_room));
+    ROOM(port_room, LIES_port ? 1 : 32);
+    ROOM(length_room, 8);
+    const int32_t answer = (int32_t)w_mscp_port_save_at(LIES_port ? A(port) : take_port(port, port_room), A(bytes),
+        room, A(length_room));
     if (answer == MSCP_DONE || answer == MSCP_SMALL)
         *length = (size_t)l8(A(length_room));
     return answer;
@@ -22838,15 +23069,16 @@ size_t mscp_port_save_size(void)
 int32_t mscp_port_settings_at(const struct mscp_port *port, struct mscp_limits *limits, struct mscp_unit *units, size_t
         room)
 {
-    u8 port_room[LIES_port ? 1 : 32];
-    u8 limits_room[LIES_limits ? 1 : 32];
-    u8 units_room[sizeof *units == 32 ? 1 : 32 * MSCP_CREDITS_MAX];
+    ROOM(port_room, LIES_port ? 1 : 32);
+    ROOM(limits_room, LIES_limits ? 1 : 32);
+    ROOM(units_room, sizeof *units == 32 ? 1 : 32 * MSCP_CREDITS_MAX);
     u8 *const units_there = sizeof *units == 32 ? (u8 *)units : units_room;
     const size_t units_most = sizeof *units == 32 || room < MSCP_CREDITS_MAX ? room : MSCP_CREDITS_MAX;
-    const int32_t answer = (int32_t)w_mscp_port_settings_at(take_port(port, port_room), take_limits(limits,
-        limits_room), A(units_there), units_most);
-    give_limits(limits, limits_room);
-    for (size_t k = 0; k < units_most && (i64)k < answer; k++)
+    const int32_t answer = (int32_t)w_mscp_port_settings_at(LIES_port ? A(port) : take_port(port, port_room),
+        LIES_limits ? A(limits) : take_limits(limits, limits_room), A(units_there), units_most);
+    if (!LIES_limits)
+        give_limits(limits, limits_room);
+    for (size_t k = 0; !LIES_unit && k < units_most && (i64)k < answer; k++)
         give_unit(units + k, units_there + 32 * k);
     return answer;
 }
@@ -22858,116 +23090,130 @@ size_t mscp_port_size(void)
 
 int32_t mscp_port_state(const struct mscp_port *port, struct mscp_state *state)
 {
-    u8 port_room[LIES_port ? 1 : 32];
-    u8 state_room[LIES_state ? 1 : 4];
-    const int32_t answer = (int32_t)w_mscp_port_state(take_port(port, port_room), take_state(state, state_room));
-    give_state(state, state_room);
+    ROOM(port_room, LIES_port ? 1 : 32);
+    ROOM(state_room, LIES_state ? 1 : 4);
+    const int32_t answer = (int32_t)w_mscp_port_state(LIES_port ? A(port) : take_port(port, port_room), LIES_state ?
+        A(state) : take_state(state, state_room));
+    if (!LIES_state)
+        give_state(state, state_room);
     return answer;
 }
 
 int32_t mscp_port_tick(struct mscp_port *port)
 {
-    u8 port_room[LIES_port ? 1 : 32];
-    const int32_t answer = (int32_t)w_mscp_port_tick(take_port(port, port_room));
-    give_port(port, port_room);
+    ROOM(port_room, LIES_port ? 1 : 32);
+    const int32_t answer = (int32_t)w_mscp_port_tick(LIES_port ? A(port) : take_port(port, port_room));
+    if (!LIES_port)
+        give_port(port, port_room);
     return answer;
 }
 
 int32_t mscp_port_volume(const struct mscp_port *port, uint16_t unit, struct mscp_volume *volume)
 {
-    u8 port_room[LIES_port ? 1 : 32];
-    u8 volume_room[LIES_volume ? 1 : 16];
-    const int32_t answer = (int32_t)w_mscp_port_volume(take_port(port, port_room), unit, take_volume(volume,
-        volume_room));
-    give_volume(volume, volume_room);
+    ROOM(port_room, LIES_port ? 1 : 32);
+    ROOM(volume_room, LIES_volume ? 1 : 16);
+    const int32_t answer = (int32_t)w_mscp_port_volume(LIES_port ? A(port) : take_port(port, port_room), unit,
+        LIES_volume ? A(volume) : take_volume(volume, volume_room));
+    if (!LIES_volume)
+        give_volume(volume, volume_room);
     return answer;
 }
 
 int32_t mscp_port_volume_came(struct mscp_port *port, uint16_t unit, const struct mscp_medium *medium)
 {
-    u8 port_room[LIES_port ? 1 : 32];
-    u8 medium_room[LIES_medium ? 1 : 12];
-    const int32_t answer = (int32_t)w_mscp_port_volume_came(take_port(port, port_room), unit, take_medium(medium,
-        medium_room));
-    give_port(port, port_room);
+    ROOM(port_room, LIES_port ? 1 : 32);
+    ROOM(medium_room, LIES_medium ? 1 : 12);
+    const int32_t answer = (int32_t)w_mscp_port_volume_came(LIES_port ? A(port) : take_port(port, port_room), unit,
+        LIES_medium ? A(medium) : take_medium(medium, medium_room));
+    if (!LIES_port)
+        give_port(port, port_room);
     return answer;
 }
 
 int32_t mscp_port_volume_went(struct mscp_port *port, uint16_t unit)
 {
-    u8 port_room[LIES_port ? 1 : 32];
-    const int32_t answer = (int32_t)w_mscp_port_volume_went(take_port(port, port_room), unit);
-    give_port(port, port_room);
+    ROOM(port_room, LIES_port ? 1 : 32);
+    const int32_t answer = (int32_t)w_mscp_port_volume_went(LIES_port ? A(port) : take_port(port, port_room), unit);
+    if (!LIES_port)
+        give_port(port, port_room);
     return answer;
 }
 
 int32_t mscp_port_was_read_at(struct mscp_port *port, const uint8_t *bytes, size_t length)
 {
-    u8 port_room[LIES_port ? 1 : 32];
-    const int32_t answer = (int32_t)w_mscp_port_was_read_at(take_port(port, port_room), A(bytes), length);
-    give_port(port, port_room);
+    ROOM(port_room, LIES_port ? 1 : 32);
+    const int32_t answer = (int32_t)w_mscp_port_was_read_at(LIES_port ? A(port) : take_port(port, port_room), A(bytes),
+        length);
+    if (!LIES_port)
+        give_port(port, port_room);
     return answer;
 }
 
 int32_t mscp_port_went(struct mscp_port *port, uint32_t outcome, uint16_t status)
 {
-    u8 port_room[LIES_port ? 1 : 32];
-    const int32_t answer = (int32_t)w_mscp_port_went(take_port(port, port_room), outcome, status);
-    give_port(port, port_room);
+    ROOM(port_room, LIES_port ? 1 : 32);
+    const int32_t answer = (int32_t)w_mscp_port_went(LIES_port ? A(port) : take_port(port, port_room), outcome, status);
+    if (!LIES_port)
+        give_port(port, port_room);
     return answer;
 }
 
 int32_t mscp_port_why_at(const struct mscp_port *port, uint32_t connection, uint32_t reference, struct mscp_holder
         *list, size_t room)
 {
-    u8 port_room[LIES_port ? 1 : 32];
-    u8 list_room[sizeof *list == 8 ? 1 : 8 * MSCP_CREDITS_MAX];
+    ROOM(port_room, LIES_port ? 1 : 32);
+    ROOM(list_room, sizeof *list == 8 ? 1 : 8 * MSCP_CREDITS_MAX);
     u8 *const list_there = sizeof *list == 8 ? (u8 *)list : list_room;
     const size_t list_most = sizeof *list == 8 || room < MSCP_CREDITS_MAX ? room : MSCP_CREDITS_MAX;
-    const int32_t answer = (int32_t)w_mscp_port_why_at(take_port(port, port_room), connection, reference,
-        A(list_there), list_most);
-    for (size_t k = 0; k < list_most && (i64)k < answer; k++)
+    const int32_t answer = (int32_t)w_mscp_port_why_at(LIES_port ? A(port) : take_port(port, port_room), connection,
+        reference, A(list_there), list_most);
+    for (size_t k = 0; !LIES_holder && k < list_most && (i64)k < answer; k++)
         give_holder(list + k, list_there + 8 * k);
     return answer;
 }
 
 int32_t mscp_port_write_ip(struct mscp_port *port)
 {
-    u8 port_room[LIES_port ? 1 : 32];
-    const int32_t answer = (int32_t)w_mscp_port_write_ip(take_port(port, port_room));
-    give_port(port, port_room);
+    ROOM(port_room, LIES_port ? 1 : 32);
+    const int32_t answer = (int32_t)w_mscp_port_write_ip(LIES_port ? A(port) : take_port(port, port_room));
+    if (!LIES_port)
+        give_port(port, port_room);
     return answer;
 }
 
 int32_t mscp_port_write_sa(struct mscp_port *port, uint16_t word)
 {
-    u8 port_room[LIES_port ? 1 : 32];
-    const int32_t answer = (int32_t)w_mscp_port_write_sa(take_port(port, port_room), word);
-    give_port(port, port_room);
+    ROOM(port_room, LIES_port ? 1 : 32);
+    const int32_t answer = (int32_t)w_mscp_port_write_sa(LIES_port ? A(port) : take_port(port, port_room), word);
+    if (!LIES_port)
+        give_port(port, port_room);
     return answer;
 }
 
 int32_t mscp_reset(struct mscp *mscp)
 {
-    u8 mscp_room[LIES_controller ? 1 : 32];
-    const int32_t answer = (int32_t)w_mscp_reset(take_controller(mscp, mscp_room));
-    give_controller(mscp, mscp_room);
+    ROOM(mscp_room, LIES_controller ? 1 : 32);
+    const int32_t answer = (int32_t)w_mscp_reset(LIES_controller ? A(mscp) : take_controller(mscp, mscp_room));
+    if (!LIES_controller)
+        give_controller(mscp, mscp_room);
     return answer;
 }
 
 int32_t mscp_restore_at(struct mscp *mscp, const uint8_t *bytes, size_t length)
 {
-    u8 mscp_room[LIES_controller ? 1 : 32];
-    const int32_t answer = (int32_t)w_mscp_restore_at(take_controller(mscp, mscp_room), A(bytes), length);
-    give_controller(mscp, mscp_room);
+    ROOM(mscp_room, LIES_controller ? 1 : 32);
+    const int32_t answer = (int32_t)w_mscp_restore_at(LIES_controller ? A(mscp) : take_controller(mscp, mscp_room),
+        A(bytes), length);
+    if (!LIES_controller)
+        give_controller(mscp, mscp_room);
     return answer;
 }
 
 int32_t mscp_run_script_at(const uint8_t *script, size_t length, uint8_t *bytes, size_t room, size_t *count, uint32_t
         *line)
 {
-    u8 count_room[8];
-    u8 line_room[4];
+    ROOM(count_room, 8);
+    ROOM(line_room, 4);
     const int32_t answer = (int32_t)w_mscp_run_script_at(A(script), length, A(bytes), room, A(count_room),
         A(line_room));
     if (answer == MSCP_DONE)
@@ -22979,9 +23225,10 @@ int32_t mscp_run_script_at(const uint8_t *script, size_t length, uint8_t *bytes,
 
 int32_t mscp_save_at(const struct mscp *mscp, uint8_t *bytes, size_t room, size_t *length)
 {
-    u8 mscp_room[LIES_controller ? 1 : 32];
-    u8 length_room[8];
-    const int32_t answer = (int32_t)w_mscp_save_at(take_controller(mscp, mscp_room), A(bytes), room, A(length_room));
+    ROOM(mscp_room, LIES_controller ? 1 : 32);
+    ROOM(length_room, 8);
+    const int32_t answer = (int32_t)w_mscp_save_at(LIES_controller ? A(mscp) : take_controller(mscp, mscp_room),
+        A(bytes), room, A(length_room));
     if (answer == MSCP_DONE || answer == MSCP_SMALL)
         *length = (size_t)l8(A(length_room));
     return answer;
@@ -22995,33 +23242,36 @@ size_t mscp_save_size(void)
 int32_t mscp_send_at(struct mscp *mscp, uint32_t connection, const uint8_t *message, size_t length, struct mscp_sent
         *sent)
 {
-    u8 mscp_room[LIES_controller ? 1 : 32];
-    u8 sent_room[LIES_sent ? 1 : 12];
-    const int32_t answer = (int32_t)w_mscp_send_at(take_controller(mscp, mscp_room), connection, A(message), length,
-        take_sent(sent, sent_room));
-    give_controller(mscp, mscp_room);
-    give_sent(sent, sent_room);
+    ROOM(mscp_room, LIES_controller ? 1 : 32);
+    ROOM(sent_room, LIES_sent ? 1 : 12);
+    const int32_t answer = (int32_t)w_mscp_send_at(LIES_controller ? A(mscp) : take_controller(mscp, mscp_room),
+        connection, A(message), length, LIES_sent ? A(sent) : take_sent(sent, sent_room));
+    if (!LIES_controller)
+        give_controller(mscp, mscp_room);
+    if (!LIES_sent)
+        give_sent(sent, sent_room);
     return answer;
 }
 
 int32_t mscp_settings_at(const struct mscp *mscp, struct mscp_limits *limits, struct mscp_unit *units, size_t room)
 {
-    u8 mscp_room[LIES_controller ? 1 : 32];
-    u8 limits_room[LIES_limits ? 1 : 32];
-    u8 units_room[sizeof *units == 32 ? 1 : 32 * MSCP_CREDITS_MAX];
+    ROOM(mscp_room, LIES_controller ? 1 : 32);
+    ROOM(limits_room, LIES_limits ? 1 : 32);
+    ROOM(units_room, sizeof *units == 32 ? 1 : 32 * MSCP_CREDITS_MAX);
     u8 *const units_there = sizeof *units == 32 ? (u8 *)units : units_room;
     const size_t units_most = sizeof *units == 32 || room < MSCP_CREDITS_MAX ? room : MSCP_CREDITS_MAX;
-    const int32_t answer = (int32_t)w_mscp_settings_at(take_controller(mscp, mscp_room), take_limits(limits,
-        limits_room), A(units_there), units_most);
-    give_limits(limits, limits_room);
-    for (size_t k = 0; k < units_most && (i64)k < answer; k++)
+    const int32_t answer = (int32_t)w_mscp_settings_at(LIES_controller ? A(mscp) : take_controller(mscp, mscp_room),
+        LIES_limits ? A(limits) : take_limits(limits, limits_room), A(units_there), units_most);
+    if (!LIES_limits)
+        give_limits(limits, limits_room);
+    for (size_t k = 0; !LIES_unit && k < units_most && (i64)k < answer; k++)
         give_unit(units + k, units_there + 32 * k);
     return answer;
 }
 
 int32_t mscp_show_packet_at(const uint8_t *word, size_t length, uint8_t *bytes, size_t room, size_t *count)
 {
-    u8 count_room[8];
+    ROOM(count_room, 8);
     const int32_t answer = (int32_t)w_mscp_show_packet_at(A(word), length, A(bytes), room, A(count_room));
     if (answer == MSCP_DONE)
         *count = (size_t)l8(A(count_room));
@@ -23035,30 +23285,34 @@ size_t mscp_size(void)
 
 int32_t mscp_step(struct mscp *mscp, uint16_t status, struct mscp_report *report)
 {
-    u8 mscp_room[LIES_controller ? 1 : 32];
-    u8 report_room[LIES_report ? 1 : 20];
-    const int32_t answer = (int32_t)w_mscp_step(take_controller(mscp, mscp_room), status, take_report(report,
-        report_room));
-    give_controller(mscp, mscp_room);
-    give_report(report, report_room);
+    ROOM(mscp_room, LIES_controller ? 1 : 32);
+    ROOM(report_room, LIES_report ? 1 : 20);
+    const int32_t answer = (int32_t)w_mscp_step(LIES_controller ? A(mscp) : take_controller(mscp, mscp_room), status,
+        LIES_report ? A(report) : take_report(report, report_room));
+    if (!LIES_controller)
+        give_controller(mscp, mscp_room);
+    if (!LIES_report)
+        give_report(report, report_room);
     return answer;
 }
 
 int32_t mscp_take(struct mscp *mscp, uint32_t connection, struct mscp_packet *end)
 {
-    u8 mscp_room[LIES_controller ? 1 : 32];
-    u8 end_room[LIES_packet ? 1 : 52];
-    const int32_t answer = (int32_t)w_mscp_take(take_controller(mscp, mscp_room), connection, take_packet(end,
-        end_room));
-    give_controller(mscp, mscp_room);
-    give_packet(end, end_room);
+    ROOM(mscp_room, LIES_controller ? 1 : 32);
+    ROOM(end_room, LIES_packet ? 1 : 52);
+    const int32_t answer = (int32_t)w_mscp_take(LIES_controller ? A(mscp) : take_controller(mscp, mscp_room),
+        connection, LIES_packet ? A(end) : take_packet(end, end_room));
+    if (!LIES_controller)
+        give_controller(mscp, mscp_room);
+    if (!LIES_packet)
+        give_packet(end, end_room);
     return answer;
 }
 
 int64_t mscp_untaken(const struct mscp *mscp, uint32_t connection)
 {
-    u8 mscp_room[LIES_controller ? 1 : 32];
-    return (int64_t)w_mscp_untaken(take_controller(mscp, mscp_room), connection);
+    ROOM(mscp_room, LIES_controller ? 1 : 32);
+    return (int64_t)w_mscp_untaken(LIES_controller ? A(mscp) : take_controller(mscp, mscp_room), connection);
 }
 
 uint32_t mscp_version(void)
@@ -23068,20 +23322,20 @@ uint32_t mscp_version(void)
 
 int64_t mscp_waiting(const struct mscp *mscp, uint32_t connection)
 {
-    u8 mscp_room[LIES_controller ? 1 : 32];
-    return (int64_t)w_mscp_waiting(take_controller(mscp, mscp_room), connection);
+    ROOM(mscp_room, LIES_controller ? 1 : 32);
+    return (int64_t)w_mscp_waiting(LIES_controller ? A(mscp) : take_controller(mscp, mscp_room), connection);
 }
 
 int32_t mscp_why_at(const struct mscp *mscp, uint32_t connection, uint32_t reference, struct mscp_holder *list, size_t
         room)
 {
-    u8 mscp_room[LIES_controller ? 1 : 32];
-    u8 list_room[sizeof *list == 8 ? 1 : 8 * MSCP_CREDITS_MAX];
+    ROOM(mscp_room, LIES_controller ? 1 : 32);
+    ROOM(list_room, sizeof *list == 8 ? 1 : 8 * MSCP_CREDITS_MAX);
     u8 *const list_there = sizeof *list == 8 ? (u8 *)list : list_room;
     const size_t list_most = sizeof *list == 8 || room < MSCP_CREDITS_MAX ? room : MSCP_CREDITS_MAX;
-    const int32_t answer = (int32_t)w_mscp_why_at(take_controller(mscp, mscp_room), connection, reference,
-        A(list_there), list_most);
-    for (size_t k = 0; k < list_most && (i64)k < answer; k++)
+    const int32_t answer = (int32_t)w_mscp_why_at(LIES_controller ? A(mscp) : take_controller(mscp, mscp_room),
+        connection, reference, A(list_there), list_most);
+    for (size_t k = 0; !LIES_holder && k < list_most && (i64)k < answer; k++)
         give_holder(list + k, list_there + 8 * k);
     return answer;
 }
