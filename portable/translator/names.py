@@ -1,7 +1,8 @@
 """Names the functions of mscp.c as their sources do, and says where those stand.
 
 A function of the module is named mscp_queue::candidates::Candidates::serve, or of a trait
-mscp_queue::picker::SweepPicker::pick. One for some types has these behind it. In C it is Candidates_serve, with a number behind that if another one has it already."""
+mscp_queue::picker::SweepPicker::pick. One for some types has these behind it. In C it is Candidates_serve, with a number
+behind that if another one has that name already."""
 
 import re
 

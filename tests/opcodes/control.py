@@ -63,8 +63,8 @@ CASES = (
      "i32.load 8 " + LEFT, (DIRTY,), [((5,), 5)]),
     ("there is always a stack", "", "i", "", LOOK, (), [((), 42)]),
     ("a stack's pointer in a local that is set twice", "i", "i", "II", "global.get 0 local.set 1 block void local.get 0 "
-     "br_if 0 global.get 0 local.set 1 end local.get 1 i64.const 32 i64.sub local.tee 2 local.get 0 i32.store 8 local.get 2 i32.load 8",
-     (), [((0,), 0), ((9,), 9)]),
+     "br_if 0 global.get 0 local.set 1 end local.get 1 i64.const 32 i64.sub local.tee 2 local.get 0 i32.store 8 "
+     "local.get 2 i32.load 8", (), [((0,), 0), ((9,), 9)]),
     ("a branch on 0 isn't taken", "", "i", "", "block void i32.const 0 br_if 0 i32.const 5 return end i32.const 6", (),
      [((), 5)]),
     ("a branch on 2 is taken", "", "i", "", "block void i32.const 2 br_if 0 i32.const 5 return end i32.const 6", (), [((), 6)]),
