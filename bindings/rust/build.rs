@@ -11,10 +11,23 @@ fn main() {
         println!("cargo:rerun-if-env-changed={name}");
     }
     println!("cargo:rerun-if-changed=build.rs");
+    tell_of_errors();
     if env::var_os("MSCP_SYSTEM").map_or(false, |it| !it.is_empty() && it != *"0") {
         take_from_system();
     } else {
         compile();
+    }
+}
+
+/// `core` has the trait of errors since Rust 1.81: from then on `has_core_error` is set.
+fn tell_of_errors() {
+    let version = output(Command::new(told("RUSTC")).arg("--version"));
+    let minor = version.split('.').nth(1).and_then(|it| it.parse().ok()).unwrap_or(0);
+    if minor >= 80 {
+        println!("cargo:rustc-check-cfg=cfg(has_core_error)");
+    }
+    if minor >= 81 {
+        println!("cargo:rustc-cfg=has_core_error");
     }
 }
 
@@ -57,6 +70,11 @@ fn tool(kind: &str, usual: &str) -> Command {
             command.args(words);
             command
         }
+        None if target.ends_with("-msvc") => fail(&format!(
+            "Microsoft's compiler isn't served: build for a target that ends with -gnu, or set {kind}_{} to a tool that takes \
+             GCC's words",
+            target.replace('-', "_")
+        )),
         None if is_other => fail(&format!("set {kind}_{} to what makes code for {target}", target.replace('-', "_"))),
         None => Command::new(usual),
     }

@@ -48,17 +48,15 @@ class Struct:
         return f"#define LIES_{self.short} (LITTLE && sizeof(struct {self.name}) == {self.size}{pointers})"
 
     def take(self):
-        """A function that answers where the code finds what stands in a struct of the caller's."""
+        """A function that moves what stands in a struct of the caller's to where the code finds it, and answers that place."""
         puts = {
             "number": "s{1}(A(room + {0}), it->{2});",
             "pointer": "s8(A(room + {0}), A(it->{2}));",
-            "bytes": "memcpy(room + {0}, it->{2}, {1});",
+            "bytes": "COPY(room + {0}, it->{2}, {1});",
         }
         return [
             f"static u64 take_{self.short}(const struct {self.name} *it, u8 *room)",
             "{",
-            f"    if (LIES_{self.short})",
-            "        return A(it);",
             *("    " + puts[it[3]].format(*it) for it in self.fields),
             "    return A(room);",
             "}",
@@ -70,16 +68,14 @@ class Struct:
             "number": "it->{2} = l{1}(A(room + {0}));",
             "narrow": "it->{2} = (uint{3}_t)l{1}(A(room + {0}));",
             "pointer": "it->{2} = P(l8(A(room + {0})));",
-            "bytes": "memcpy(it->{2}, room + {0}, {1});",
+            "bytes": "COPY(it->{2}, room + {0}, {1});",
         }
         narrow = [(at, length, name, 8 * length, "narrow") if kind == "number" and length < 4 else (at, length, name, 0, kind)
                   for at, length, name, kind in self.fields]
         return [
             f"static void give_{self.short}(struct {self.name} *it, const u8 *room)",
             "{",
-            f"    if (!LIES_{self.short}) {{",
-            *("        " + gets[it[4]].format(*it) for it in narrow),
-            "    }",
+            *("    " + gets[it[4]].format(*it) for it in narrow),
             "}",
         ]
 
@@ -117,23 +113,23 @@ class Call:
         else:
             self.single(header.use(kind, "take"), name)
             if not is_const:
-                header.use(kind, "give")
-                self.after.append(f"give_{header.structs[kind].short}({name}, {name}_room);")
+                short = header.use(kind, "give").short
+                self.after += [f"if (!LIES_{short})", f"    give_{short}({name}, {name}_room);"]
 
     def number(self, kind, name):
         width = WIDTHS[kind]
-        self.before.append(f"u8 {name}_room[{width}];")
+        self.before.append(f"ROOM({name}_room, {width});")
         self.passed.append(f"A({name}_room)")
         told = TOLD_OF_A_SAVE if name == "length" else TOLD[kind]
         self.after += [f"if ({told})", f"    *{name} = ({kind})l{width}(A({name}_room));"]
 
     def single(self, struct, name):
-        self.before.append(f"u8 {name}_room[LIES_{struct.short} ? 1 : {struct.size}];")
-        self.passed.append(f"take_{struct.short}({name}, {name}_room)")
+        self.before.append(f"ROOM({name}_room, LIES_{struct.short} ? 1 : {struct.size});")
+        self.passed.append(f"LIES_{struct.short} ? A({name}) : take_{struct.short}({name}, {name}_room)")
 
     def list_taken(self, struct, name):
         self.before += [
-            f"u8 {name}_room[LIES_{struct.short} ? 1 : {struct.size} * MSCP_UNITS_MAX];",
+            f"ROOM({name}_room, LIES_{struct.short} ? 1 : {struct.size} * MSCP_UNITS_MAX);",
             f"for (size_t k = 0; !LIES_{struct.short} && k < count && k < MSCP_UNITS_MAX; k++)",
             f"    take_{struct.short}({name} + k, {name}_room + {struct.size} * k);",
         ]
@@ -143,13 +139,13 @@ class Call:
         """In the caller's own list the code finds room where a struct is as wide there, in whatever order its bytes are."""
         own = f"sizeof *{name} == {struct.size}"
         self.before += [
-            f"u8 {name}_room[{own} ? 1 : {struct.size} * MSCP_CREDITS_MAX];",
+            f"ROOM({name}_room, {own} ? 1 : {struct.size} * MSCP_CREDITS_MAX);",
             f"u8 *const {name}_there = {own} ? (u8 *){name} : {name}_room;",
             f"const size_t {name}_most = {own} || room < MSCP_CREDITS_MAX ? room : MSCP_CREDITS_MAX;",
         ]
         self.passed.append(f"A({name}_there)")
         self.after += [
-            f"for (size_t k = 0; k < {name}_most && (i64)k < answer; k++)",
+            f"for (size_t k = 0; !LIES_{struct.short} && k < {name}_most && (i64)k < answer; k++)",
             f"    give_{struct.short}({name} + k, {name}_there + {struct.size} * k);",
         ]
         self.count = f"{name}_most"

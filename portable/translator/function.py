@@ -4,22 +4,29 @@ What stands on the stack of WebAssembly are expressions without an effect. They 
 where something is about to change that they read. A block is a label, and a branch is a goto."""
 
 import collections
+import re
 
 from .opcodes import TABLE, name_of_other
 from .values import I32, I64, Value, combined, constant
 from .wasm import Refusal
 
-# An instruction: the number that stands behind it, and that of the same one in the other module.
-Instruction = collections.namedtuple("Instruction", "opcode number other")
-# A block of code: its kind, its label, the temporary of what it gives, and how much stood on the stack before it.
-Block = collections.namedtuple("Block", "kind label result height")
+# An instruction: the number that stands behind it, that of the same one in the other module, and of a load or a store by how
+# many bytes its address can be divided, as its compiler knew.
+Instruction = collections.namedtuple("Instruction", "opcode number other aligned")
+# A block of code: its kind, its label, the temporary of what it gives, how much stood on the stack before it, and what was
+# known of locals where a branch led to its end.
+Block = collections.namedtuple("Block", "kind label result height known")
 NO_RESULT = 0x40
+LOST = -1 # what a local has that holds the stack's pointer if one way was gone, and something else if another was
+ACCESS = re.compile(r"\b([ls])([248])\(")
+# Which operators make another address of a constant, if these operands are one.
+KEEPS = {"i64.add": ([True, False], [False, True]), "i64.sub": ([True, False],)}
 READ = {
     "-": lambda reader: None,
     "kind": lambda reader: reader.byte(),
     "index": lambda reader: reader.unsigned(),
     "labels": lambda reader: reader.several(reader.unsigned) + [reader.unsigned()],
-    "memory": lambda reader: (reader.unsigned(), reader.unsigned())[1],
+    "memory": lambda reader: (reader.unsigned(), reader.unsigned()),
     "number": lambda reader: reader.signed(),
     "two": lambda reader: reader.take(2) and None,
     "one": lambda reader: reader.take(1) and None,
@@ -47,7 +54,39 @@ def beside(code, others):
     for (opcode, number), (other_opcode, other) in zip(code, others):
         if opcode != other_opcode or (number != other and opcode.immediate not in ("memory", "number")):
             raise Refusal(f"the two modules differ in {opcode.name}")
-        yield Instruction(opcode, number, other)
+        if opcode.immediate != "memory":
+            yield Instruction(opcode, number, other, None)
+        elif number[0] == other[0] <= 3:
+            yield Instruction(opcode, number[1], other[1], 1 << number[0])
+        else:
+            raise Refusal(f"{opcode.name} has an alignment that isn't known")
+
+
+def sets_of_loops(code):
+    """Of each loop, by its place in the code, the locals that it sets."""
+    found, opened = {}, []
+    for place, it in enumerate(code):
+        if it.opcode.name in ("block", "loop"):
+            opened.append(place)
+            found[place] = set()
+        elif it.opcode.name == "end" and opened:
+            opened.pop()
+        elif it.opcode.name in ("local.set", "local.tee"):
+            for begin in opened:
+                found[begin].add(it.number)
+    return found
+
+
+def merged(known):
+    """What is known of locals where several ways lead to: what all of them say."""
+    tops = {}
+    for local in set().union(*(its for its, _ in known)):
+        found = {its.get(local) for its, _ in known}
+        if len(found) == 1:
+            tops[local] = found.pop()
+        elif found & {0, LOST}:
+            tops[local] = LOST
+    return tops, frozenset.intersection(*(fixed for _, fixed in known))
 
 
 class Function:
@@ -59,7 +98,8 @@ class Function:
     used: the labels that some branch goes to
     calls: the functions that it calls
     frame: how many bytes it has in memory, None if it asks for none
-    tops: of locals that hold where that begins, how far below the stack's pointer it is
+    tops: of locals that hold the stack's pointer, or where the frame begins, how far below that pointer it is, or LOST
+    fixed: the locals that hold an address of a constant
     unreached: None, or the blocks that began since nobody comes there
     """
 
@@ -68,10 +108,10 @@ class Function:
         self.takes, self.gives = program.module.functions[number]
         self.kinds = self.takes + program.module.code[number][0]
         self.lines, self.stack, self.temporaries, self.blocks, self.calls = [], [], [], [], []
-        self.labels, self.used, self.frame, self.tops, self.unreached = 0, set(), None, {}, None
-        self.sets = collections.Counter(it.number for it in code if it.opcode.name in ("local.set", "local.tee"))
-        self.blocks.append(Block("function", 0, None, 0))
-        for it in code:
+        self.labels, self.used, self.frame, self.tops, self.fixed, self.unreached = 0, set(), None, {}, frozenset(), None
+        self.sets = sets_of_loops(code)
+        self.blocks.append(Block("function", 0, None, 0, []))
+        for self.place, it in enumerate(code):
             if self.unreached is None:
                 self.translate(it)
             else:
@@ -88,18 +128,29 @@ class Function:
         if known is not None:
             self.stack.append(known)
         elif it.opcode.gives:
-            value = combined(it.opcode.text.format(*parts), it.opcode.gives, parts)
+            value = combined(self.text(it, parts), it.opcode.gives, parts)
             value.memory |= it.opcode.immediate == "memory"
+            value.fixed = [part.fixed for part in parts] in KEEPS.get(it.opcode.name, ())
             self.stack.append(self.loaded(it, value))
         else:
+            if parts[0].fixed:
+                raise Refusal(f"{it.opcode.name} writes to a constant")
             self.spill(lambda value: value.memory)
-            self.lines.append(it.opcode.text.format(*parts))
+            self.lines.append(self.text(it, parts))
+
+    def text(self, it, parts):
+        """An instruction in C. A load or a store of a number whose address is known to be aligned is told by how many bytes."""
+        def told(access):
+            return f"{access[1]}{access[2]}_{min(int(access[2]), it.aligned)}("
+
+        text = it.opcode.text.format(*parts)
+        return ACCESS.sub(told, text, count=1) if (it.aligned or 1) > 1 else text
 
     def loaded(self, it, value):
         """What an instruction gives: of an address among the constants its place was loaded."""
         if not self.program.is_of_addresses(it):
             return value
-        return Value(f"A(data + {value})", I64, local=value.locals, memory=True)
+        return Value(f"A(data + {value})", I64, local=value.locals, memory=True, fixed=True)
 
     def pass_over(self, name):
         if name in ("block", "loop"):
@@ -126,7 +177,7 @@ class Function:
             if value.number is None and wanted(value):
                 name = self.temporary(value.kind)
                 self.lines.append(f"{name} = {value:all};")
-                self.stack[place] = Value(name, value.kind)
+                self.stack[place] = Value(name, value.kind, fixed=value.fixed)
 
     # ---- blocks
 
@@ -136,19 +187,17 @@ class Function:
         self.spill(lambda value: True)
         self.labels += 1
         result = None if gives == NO_RESULT else self.temporary(gives)
-        self.blocks.append(Block(kind, self.labels, result, len(self.stack)))
+        self.blocks.append(Block(kind, self.labels, result, len(self.stack), []))
 
     def do_block(self, it):
         self.begin_block("block", it.number)
 
     def do_loop(self, it):
         self.begin_block("loop", it.number)
-        self.come_together(self.labels)
-
-    def come_together(self, label):
-        """A place to which several ways lead: of a local that is set more than once it isn't known which value it has."""
-        self.lines.append(label)
-        self.tops = {local: top for local, top in self.tops.items() if self.sets[local] == 1}
+        self.lines.append(self.labels)
+        entered = {local: top for local, top in self.tops.items() if local not in self.sets[self.place]}
+        lost = {local: LOST for local, top in self.tops.items() if local in self.sets[self.place] and top in (0, LOST)}
+        self.tops, self.fixed = {**entered, **lost}, self.fixed - self.sets[self.place]
 
     def end_block(self, is_reached):
         block = self.blocks.pop()
@@ -160,7 +209,9 @@ class Function:
             self.lines.append(f"{block.result} = {self.stack[-1]:all};")
         del self.stack[block.height :]
         if block.kind == "block":
-            self.come_together(block.label)
+            self.lines.append(block.label)
+            block.known.extend([(self.tops, self.fixed)] if is_reached or not block.known else [])
+            self.tops, self.fixed = merged(block.known)
         if block.result:
             self.stack.append(Value(block.result, self.temporaries[int(block.result[1:])]))
         self.unreached = None
@@ -177,6 +228,7 @@ class Function:
         if block.kind == "function":
             return [self.give_back()]
         self.used.add(block.label)
+        block.known.append((self.tops, self.fixed))
         moved = [f"{block.result} = {self.stack[-1]:all};"] if block.result and block.kind == "block" else []
         return moved + [f"goto L{block.label};"]
 
@@ -251,15 +303,16 @@ class Function:
     # ---- locals
 
     def do_local_get(self, it):
-        top = self.tops.get(it.number)
-        self.stack.append(Value(None if top == 0 else f"v{it.number}", self.kinds[it.number], local=[it.number], top=top))
+        top, fixed = self.tops.get(it.number), it.number in self.fixed
+        text = None if top in (0, LOST) else f"v{it.number}"
+        self.stack.append(Value(text, self.kinds[it.number], local=[it.number], top=None if top == LOST else top, fixed=fixed))
 
     def do_local_set(self, it):
         (value,) = self.pop(1)
         self.spill(lambda other: it.number in other.locals)
-        self.tops.pop(it.number, None)
-        if value.top is not None:
-            self.tops[it.number] = value.top
+        others = {local: top for local, top in self.tops.items() if local != it.number}
+        self.tops = others if value.top is None else {**others, it.number: value.top}
+        self.fixed = self.fixed | {it.number} if value.fixed else self.fixed - {it.number}
         if value.top != 0 and value.text != f"v{it.number}":
             self.lines.append(f"v{it.number} = {value:all};")
 
@@ -270,24 +323,32 @@ class Function:
     # ---- the stack in memory, of which each function has its own part, as an array
 
     def do_global_get(self, it):
-        """The stack's pointer; or the flag of a call that is at work, which is never up: no call is made within another."""
+        """The stack's pointer; or the flag of a call that is at work, which is down (flag.py)."""
         is_pointer = self.program.is_stack_pointer(it.number)
         self.stack.append(Value(None, I64, top=0) if is_pointer else constant(0, I32))
 
     def do_global_set(self, it):
         """Where the part of the next function begins, or the flag: nobody asks for either."""
-        self.pop(1)
+        (value,) = self.pop(1)
+        if self.program.is_stack_pointer(it.number) and (value.top is None or value.top not in (0, self.frame)):
+            raise Refusal("the stack's pointer is set in a way that isn't known")
 
     def about_the_frame(self, name, parts):
-        """What an instruction gives that asks for a part of the stack, or whether there is so much of it; else None."""
+        """What an instruction gives that asks for a part of the stack, or gives it back, or asks whether there is so much of
+        it; else None."""
         top = parts[0].top
         if top is None or len(parts) < 2:
             return None
-        if name == "i64.sub" and top == 0 and parts[1].number is not None and self.frame is None:
-            self.frame = parts[1].number
+        other = parts[1].number
+        if name == "i64.sub" and top == 0 and other is not None and self.frame is None:
+            self.frame = other
             return Value("A(frame)", I64, top=self.frame)
-        if name in ("i64.lt_s", "i64.gt_s") and parts[1].number in (15, 16):
+        if name in ("i64.lt_s", "i64.gt_s") and other in (15, 16):
             return constant(int(name == "i64.gt_s"), I32)
+        if name == "i64.add" and top > 0 and other == top:
+            return Value(f"{parts[0]} + {other}", I64, local=parts[0].locals, top=0)
         if top == 0:
             raise Refusal(f"{name} asks for the stack's pointer in a way that isn't known")
+        if name == "i64.sub" or (name == "i64.add" and (other or 0) >> 63):
+            raise Refusal("more of the stack is asked for, below what a function has")
         return None

@@ -38,9 +38,9 @@ def whole(text):
     return (HERE / "head.c").read_text() + helpers(text) + "\n".join(broken(line) for line in text.split("\n"))
 
 
-def library(header, one, other):
-    """mscp.c, of the header's text and of the bytes of both modules."""
-    program, calls = Program(Module(one), Module(other)), Header(header)
+def library(header, one, other, sources=None):
+    """mscp.c, of the header's text, of the bytes of both modules, and of the folder of the crates that they were made of."""
+    program, calls = Program(Module(one), Module(other), sources), Header(header)
     differing = {"w_" + name for name in calls.calls} ^ {name for name in program.names.values() if name.startswith("w_")}
     if differing:
         raise Refusal(f"header and module differ in {', '.join(sorted(differing))}")

@@ -2,7 +2,9 @@
 
 import re
 
+from .flag import Flag
 from .function import Function, beside, read_code
+from .names import Names
 from .values import I32, I64, WIDTHS, Value, constant, literal
 from .wasm import Refusal
 
@@ -32,38 +34,44 @@ class Program:
     """A library that was linked twice, so that its constants lie at two places: a number that differs is an address of them.
     Where one of the constants is such an address, its place is loaded: of a list of them, by loads from its first one on."""
 
-    def __init__(self, module, other):
-        self.module, self.other = module, other
+    def __init__(self, module, other, sources=None):
+        self.module, self.other, self.said = module, other, Names(module.names, sources)
         self.constants, self.addresses = read_constants(module, other)
         self.begun = set() # the places of addresses from which on some are loaded
-        self.functions = {}
+        self.functions, self.codes = {}, {}
         self.order = [] # the numbers of functions, each behind those that it calls
         self.names = {}
+        self.flag = next((it for it, first in enumerate(module.globals) if first == other.globals[it] == 0), None)
+        flag = Flag(self)
         for name in sorted(module.exports):
             if name.startswith("mscp_"):
                 self.names[module.exports[name]] = "w_" + name
                 self.visit(module.exports[name], ())
+                flag.check(module.exports[name])
         if any(it - 8 not in self.addresses | self.begun and it not in self.begun for it in self.addresses):
             raise Refusal("no load begins at an address among constants")
         for number in self.order:
-            self.names.setdefault(number, f"f{len(self.names)}")
+            if number not in self.names:
+                self.names[number] = self.said.name(number)
 
     def visit(self, number, above):
-        """Translates a function, and first those that it calls. Functions are known by who calls them first, so neither their
-        names in the module nor their order there are seen in the C."""
+        """Translates a function, and first those that it calls. They stand in the order of who calls them first, so their order
+        in the module isn't seen in the C."""
         if number in above:
             raise Refusal("a function calls itself")
         if number in self.functions:
             return
         (_, reader, end), (_, other, other_end) = self.module.code[number], self.other.code[number]
-        code = list(beside(read_code(reader, end), read_code(other, other_end)))
+        code = self.codes[number] = list(beside(read_code(reader, end), read_code(other, other_end)))
         it = self.functions[number] = Function(self, number, code)
         for callee in it.calls:
             self.visit(callee, above + (number,))
         self.order.append(number)
 
     def is_stack_pointer(self, number):
-        return self.module.globals[number] != self.other.globals[number]
+        """Whether a global begins where the stack ends, and the constants begin."""
+        return [self.module.globals[number]] == [at for at, _ in self.module.data] and \
+            [self.other.globals[number]] == [at for at, _ in self.other.data]
 
     def mark(self, number):
         """Stands for the name of a function until all have one."""
@@ -82,7 +90,7 @@ class Program:
 
     def number(self, it, kind):
         if it.number != it.other:
-            return Value(f"A(data + {self.place(it)})", kind)
+            return Value(f"A(data + {self.place(it)})", kind, fixed=True)
         return constant(it.number, kind)
 
     def is_of_addresses(self, it):
@@ -99,7 +107,7 @@ class Program:
             text = base if value.number == 0 else f"{base} + {value}"
         else:
             text = f"{value} + {it.number}" if it.number else format(value, "all")
-        return Value(text, I64, local=value.locals, memory=value.memory)
+        return Value(text, I64, local=value.locals, memory=value.memory, fixed=value.fixed or it.number != it.other)
 
     # ---- text
 
@@ -114,7 +122,8 @@ class Program:
         takes = ", ".join(f"{WIDTHS[kind]} v{place}" for place, kind in enumerate(it.takes))
         gives = WIDTHS[it.gives[0]] if it.gives else "void"
         begins = "APART" if (it.frame or 0) >= MUCH else "static"
-        lines = [f"{begins} {gives} {self.names[number]}({takes or 'void'})", "{", *declarations(it, body)]
+        comment = [] if self.names[number].startswith("w_") else self.said.comment(number)
+        lines = [*comment, f"{begins} {gives} {self.names[number]}({takes or 'void'})", "{", *declarations(it, body)]
         return "\n".join(lines + [body, "}"]) + "\n"
 
     def statement(self, line, it):
@@ -153,4 +162,4 @@ def declarations(it, body):
 
 def constants(data):
     rows = [", ".join(str(it) for it in data[at : at + 24]) for at in range(0, len(data), 24)]
-    return "static const u8 data[] = {\n    " + ",\n    ".join(rows) + ",\n};\n" if data else ""
+    return f"FIXED(data, {len(data)}) = {{\n    " + ",\n    ".join(rows) + ",\n};\n" if data else ""

@@ -20,11 +20,12 @@ class Value:
     memory: whether it reads memory
     number: what it is, if it is a constant
     top: it is the stack's pointer, as the function found it, less so many bytes (None: it isn't)
+    fixed: it is made of an address of a constant
     """
 
-    def __init__(self, text, kind, is_bool=False, local=(), memory=False, number=None, top=None):
+    def __init__(self, text, kind, is_bool=False, local=(), memory=False, number=None, top=None, fixed=False):
         self.text, self.kind, self.is_bool = text, kind, is_bool
-        self.locals, self.memory, self.number, self.top = frozenset(local), memory, number, top
+        self.locals, self.memory, self.number, self.top, self.fixed = frozenset(local), memory, number, top, fixed
 
     def __format__(self, how):
         if self.text is None:
@@ -56,4 +57,5 @@ def constant(number, kind):
 def combined(text, letter, parts):
     """An expression of these ones, of the kind of this letter."""
     local = frozenset().union(*(it.locals for it in parts))
-    return Value(text, LETTERS[letter], letter == "b", local, any(it.memory for it in parts))
+    memory, fixed = any(it.memory for it in parts), any(it.fixed for it in parts)
+    return Value(text, LETTERS[letter], letter == "b", local, memory, fixed=fixed)

@@ -1,8 +1,8 @@
-"""Reads a linked module of WebAssembly, as far as the library has one: functions, one memory, globals, constants."""
+"""Reads a linked module of WebAssembly, as far as the library has one: functions, one memory, globals, constants, names."""
 
 MAGIC = b"\0asm\1\0\0\0"
 # The kinds of sections; what stands in those that aren't read here changes nothing.
-SECTIONS = {1: "types", 3: "functions", 5: "memory", 6: "globals", 7: "exports", 10: "code", 11: "data"}
+SECTIONS = {0: "names", 1: "types", 3: "functions", 5: "memory", 6: "globals", 7: "exports", 10: "code", 11: "data"}
 REFUSED = {2: "an import", 4: "a table", 8: "a start", 9: "elements of a table", 13: "a tag"}
 
 
@@ -57,20 +57,31 @@ class Module:
     globals: the constant that each begins with
     code: of each function the types of its locals, and a reader of its instructions with their end
     data: the address and the bytes of its constants
+    names: of functions, as the linker has them, by their numbers
     """
 
     def __init__(self, data):
-        self.types, self.functions, self.exports, self.globals, self.code, self.data = [], [], {}, [], [], []
+        self.types, self.functions, self.exports, self.globals, self.code, self.data, self.names = [], [], {}, [], [], [], {}
         reader = Reader(data)
         if reader.take(8) != MAGIC:
             raise Refusal("this is no module of WebAssembly")
         while reader.at < len(data):
             kind, size = reader.byte(), reader.unsigned()
-            end = reader.at + size
+            self.end = end = reader.at + size
             if kind in REFUSED:
                 raise Refusal(f"the module has {REFUSED[kind]}")
             if kind in SECTIONS:
                 getattr(self, "read_" + SECTIONS[kind])(reader)
+            reader.at = end
+
+    def read_names(self, reader):
+        """Of a section that isn't of the standard: if it is that of names, the part of functions."""
+        is_of_names = reader.name() == "name"
+        while is_of_names and reader.at < self.end:
+            kind, size = reader.byte(), reader.unsigned()
+            end = reader.at + size
+            if kind == 1:
+                self.names = dict(reader.several(lambda: (reader.unsigned(), reader.name())))
             reader.at = end
 
     def read_types(self, reader):

@@ -48,9 +48,11 @@ def section(kind, parts):
 
 
 def body(text, base):
-    """Instructions with what stands behind them, as words. DATA+k is the address of constant k."""
+    """Instructions with what stands behind them, as words. DATA+k is the address of constant k, and i64.load:4 one from an
+    address that 4 divides."""
     words, out = iter(text.split()), b""
     for word in words:
+        word, _, divides = word.partition(":")
         number = NUMBERS[word]
         out += bytes([number]) if number < 256 else bytes([number >> 8]) + unsigned(number & 255)
         if word in ("block", "loop", "if"):
@@ -64,7 +66,8 @@ def body(text, base):
             out += several([unsigned(it) for it in labels[:-1]]) + unsigned(labels[-1])
         elif "load" in word or "store" in word:
             it = next(words)
-            out += unsigned(0) + unsigned(base + int(it[5:]) if it.startswith("DATA+") else int(it))
+            place = base + int(it[5:]) if it.startswith("DATA+") else int(it)
+            out += unsigned(int(divides or 1).bit_length() - 1) + unsigned(place)
         elif word in ("br", "br_if", "call", "local.get", "local.set", "local.tee", "global.get", "global.set"):
             out += unsigned(int(next(words)))
         elif word in ("memory.copy", "memory.fill"):

@@ -1,11 +1,14 @@
 """Functions about blocks, branches, calls, locals and constants, what they give, and wrong translations of each."""
 
+from unittest import mock
+
 from translator.function import Function
 from translator.values import I32, I64, Value, combined, constant
 
 TRAP = None
 SUB = ("sub", "ii", "i", "", "local.get 0 local.get 1 i32.sub")
 STORE = ("store", "I", "", "", "local.get 0 i32.const 7 i32.store 0")
+TELL = ("tell", "I", "i", "", "local.get 0 i32.const 7 i32.store 0 i32.const 3")
 FRAME = (
     "global.get 0 i64.const 32 i64.sub local.tee 1 global.set 0 block void local.get 1 i64.const 16 i64.lt_s i32.eqz br_if 0 "
     "unreachable end "
@@ -36,8 +39,8 @@ CASES = (
     ("local.get", "ii", "i", "", "local.get 0 local.get 1 i32.sub", (), [((9, 4), 5)]),
     ("local.set", "i", "i", "", "local.get 0 i32.const 9 local.set 0 local.get 0 i32.sub", (), [((14,), 5)]),
     ("local.tee", "i", "i", "i", "local.get 0 i32.const 1 i32.add local.tee 1 local.get 1 i32.mul", (), [((5,), 36)]),
-    ("global.get", "", "i", "", "i32.const 1 global.set 1 global.get 1", (), [((), 0)]),
-    ("global.set", "", "i", "", "i32.const 7 i32.const 1 global.set 1", (), [((), 7)]),
+    ("global.get", "", "i", "", "i32.const 1 global.set 1 i32.const 0 global.set 1 global.get 1", (), [((), 0)]),
+    ("global.set", "", "i", "", "i32.const 7 i32.const 1 global.set 1 i32.const 0 global.set 1", (), [((), 7)]),
     ("i32.const", "", "i", "", "i32.const -1", (), [((), 0xFFFFFFFF)]),
     ("i64.const", "", "I", "", "i64.const -2", (), [((), 0xFFFFFFFFFFFFFFFE)]),
     ("what was loaded stays as a store comes", "I", "i", "", "local.get 0 i32.load 0 local.get 0 i32.const 7 i32.store 0 "
@@ -59,6 +62,24 @@ CASES = (
     ("a place in the frame", "i", "i", "I", FRAME + "local.get 1 local.get 0 i32.store 8 local.get 0 call 1 local.get 1 "
      "i32.load 8 " + LEFT, (DIRTY,), [((5,), 5)]),
     ("there is always a stack", "", "i", "", LOOK, (), [((), 42)]),
+    ("a stack's pointer in a local that is set twice", "i", "i", "II", "global.get 0 local.set 1 block void local.get 0 "
+     "br_if 0 global.get 0 local.set 1 end local.get 1 i64.const 32 i64.sub local.tee 2 local.get 0 i32.store 8 "
+     "local.get 2 i32.load 8", (), [((0,), 0), ((9,), 9)]),
+    ("a branch on 0 isn't taken", "", "i", "", "block void i32.const 0 br_if 0 i32.const 5 return end i32.const 6", (),
+     [((), 5)]),
+    ("a branch on 2 is taken", "", "i", "", "block void i32.const 2 br_if 0 i32.const 5 return end i32.const 6", (), [((), 6)]),
+    ("a table leads to one place by several numbers", "i", "i", "", "block void block void local.get 0 br_table 4 0 1 0 1 0 "
+     "end i32.const 10 return end i32.const 11", (), [((0,), 10), ((1,), 11), ((2,), 10), ((3,), 11), ((4,), 10)]),
+    ("what was loaded in a sum stays as a store comes", "I", "i", "", "local.get 0 i32.load 0 i32.const 1 i32.add local.get 0 "
+     "i32.const 7 i32.store 0 local.get 0 i32.load 0 i32.sub", (), [(("M",), 0xF4030201 + 1 - 7)]),
+    ("what was loaded in a sum stays as a call comes", "I", "i", "", "local.get 0 i32.load 0 i32.const 1 i32.add local.get 0 "
+     "call 1 local.get 0 i32.load 0 i32.sub", (STORE,), [(("M",), 0xF4030201 + 1 - 7)]),
+    ("what was loaded in a select stays as a store comes", "I", "i", "", "local.get 0 i32.load 0 i32.const 5 local.get 0 "
+     "i32.load 4 select local.get 0 i32.const 7 i32.store 0 local.get 0 i32.load 0 i32.sub", (), [(("M",), 0xF4030201 - 7)]),
+    ("what a local was in a sum stays as it is set", "i", "i", "", "local.get 0 i32.const 1 i32.add i32.const 9 local.set 0 "
+     "local.get 0 i32.sub", (), [((14,), 6)]),
+    ("a call is made whose result nobody reads", "I", "i", "", "local.get 0 call 1 drop local.get 0 i32.load 0", (TELL,),
+     [(("M",), 7)]),
 )
 
 
@@ -107,7 +128,35 @@ def unspilled(self, wanted):
     """Nothing is found before it changes."""
 
 
-# What is wrong of each: methods of a function, in whose place another one stands.
+def taken(self, it):
+    self.pop(1)
+    self.go(self.leave(it.number))
+
+
+def passed(self, it):
+    self.pop(1)
+
+
+def thinned_table(self, it):
+    """Each place is led to by its first number alone."""
+    first = {depth: place for place, depth in reversed(list(enumerate(it.number[:-1])))}
+    kept = [depth if first[depth] == place else it.number[-1] for place, depth in enumerate(it.number[:-1])]
+    TRUE["do_br_table"](self, it._replace(number=[*kept, it.number[-1]]))
+
+
+def forgetful(text, letter, parts):
+    """An operator isn't known to read what its parts do."""
+    value = combined(text, letter, parts)
+    return Value(value.text, value.kind, value.is_bool)
+
+
+def unmade(line, read):
+    """What nobody reads isn't wanted, be it a call."""
+    return None if isinstance(line, str) and line[0] == "t" and line.split(" ")[0] not in read else line
+
+
+FORGETFUL = mock.patch("translator.function.combined", forgetful)
+# What is wrong of each: methods of a function, in whose place another one stands, or another change of the translator.
 WRONG = {
     "unreachable": {"do_unreachable": lambda self, it: self.go(["return 5;"])},
     "nop": {"do_nop": lambda self, it: self.stack.append(constant(1, I32))},
@@ -132,4 +181,12 @@ WRONG = {
     "what was loaded stays as a store comes": {"spill": unspilled},
     "what was loaded stays as a call comes": {"spill": unspilled},
     "what was loaded stays as bytes are moved": {"spill": unspilled},
+    "a branch on 0 isn't taken": {"do_br_if": taken},
+    "a branch on 2 is taken": {"do_br_if": passed},
+    "a table leads to one place by several numbers": {"do_br_table": thinned_table},
+    "what was loaded in a sum stays as a store comes": FORGETFUL,
+    "what was loaded in a sum stays as a call comes": FORGETFUL,
+    "what was loaded in a select stays as a store comes": FORGETFUL,
+    "what a local was in a sum stays as it is set": FORGETFUL,
+    "a call is made whose result nobody reads": mock.patch("translator.program.wanted", unmade),
 }

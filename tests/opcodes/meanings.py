@@ -106,8 +106,9 @@ def signed(number, bits):
     return number - (1 << bits) if number >> (bits - 1) else number
 
 
-def meant(text, width, a=0, b=0):
-    """What an instruction gives by this row, as a number without a sign, of operands of so many bits. None is a trap."""
+def meant(text, width, a=0, b=0, at=3):
+    """What an instruction gives by this row, as a number without a sign, of operands of so many bits, or of memory from that
+    byte on. None is a trap."""
     mask = (1 << width) - 1
 
     def quotient(first, other):
@@ -123,8 +124,8 @@ def meant(text, width, a=0, b=0):
         "a": a, "b": b, "w": width, "S": lambda it: signed(it, width), "signed": signed, "quotient": quotient, "rest": rest,
         "low": lambda it: (it & -it).bit_length() - 1 if it else width,
         "turned": lambda it, by: (it << by | it >> (width - by)) & mask,
-        "L": lambda count: int.from_bytes(MEMORY[3 : 3 + count], "little"),
-        "LS": lambda count: int.from_bytes(MEMORY[3 : 3 + count], "little", signed=True),
+        "L": lambda count: int.from_bytes(MEMORY[at : at + count], "little"),
+        "LS": lambda count: int.from_bytes(MEMORY[at : at + count], "little", signed=True),
     }
     found = eval(text, words)  # pylint: disable=eval-used
     return None if found is None else int(found) & 0xFFFFFFFFFFFFFFFF

@@ -12,8 +12,11 @@ from .meanings import rows
 BASES = 0x100000, 0x300000
 
 
-def function(text, takes=""):
-    return [("mscp_it", takes, "", "", text)]
+ASKED = "global.get 0 i64.const 32 i64.sub local.tee 0 global.set 0 "
+
+
+def function(text, takes="", local=""):
+    return [("mscp_it", takes, "", local, text)]
 
 
 def made(functions):
@@ -35,6 +38,41 @@ REFUSED = (
     ("a function that calls itself", made(function("call 0")), "a function calls itself"),
     ("a stack's pointer that is an address", made(function("global.get 0 i32.load 0 drop")), "the stack's pointer"),
     ("a stack's pointer that is moved in another way", made(function("global.get 0 i64.const 8 i64.and drop")), "i64.and"),
+    ("a stack's pointer in a local that is a number by another way", made(function("block void local.get 0 i64.eqz br_if 0 "
+     "global.get 0 local.set 1 end local.get 1 i64.const 32 i64.sub drop", "I", "I")), "the stack's pointer"),
+    ("a stack's pointer in a local that a loop sets", made(function("global.get 0 local.set 1 loop void local.get 1 "
+     "i64.const 32 i64.sub drop local.get 0 local.set 1 br 0 end", "I", "I")), "the stack's pointer"),
+    ("a second part of the stack", made(function(ASKED + "local.get 0 i64.const 16 i64.sub i32.const 7 i32.store 0",
+     local="I")), "below what a function has"),
+    ("a second part by a sum", made(function(ASKED + "local.get 0 i64.const -16 i64.add i32.const 7 i32.store 0", local="I")),
+     "below what a function has"),
+    ("a second part of the stack's own", made(function(ASKED + "global.get 0 i64.const 16 i64.sub global.set 0", local="I")),
+     "asks for the stack's pointer"),
+    ("a global that begins with something", [it.replace(b"\x7f\x01\x41\0\x0b", b"\x7f\x01\x41\5\x0b") for it in
+     made(function("global.get 1 drop"))], "neither the stack's pointer nor a flag"),
+    ("a global that differs, and isn't where the stack ends", [it.replace(b"\x7f\x01\x41\0\x0b", b"\x7f\x01\x41" +
+     bytes([place]) + b"\x0b") for place, it in enumerate(made(function("global.get 1 drop")))],
+     "neither the stack's pointer nor a flag"),
+    ("a flag that is read where it is up", made(function("i32.const 1 global.set 1 global.get 1 drop i32.const 0 "
+     "global.set 1")), "may be up"),
+    ("a flag that stays up", made(function("i32.const 1 global.set 1")), "leaves a flag up"),
+    ("a flag that is lowered by some ways", made(function("i32.const 1 global.set 1 block void local.get 0 br_if 0 i32.const 0 "
+     "global.set 1 end", "i")), "on some ways"),
+    ("a flag that stays up by a return", made(function("i32.const 1 global.set 1 block void local.get 0 br_if 0 return end "
+     "i32.const 0 global.set 1", "i")), "on some ways"),
+    ("a flag that is set to something", made(function("local.get 0 global.set 1", "i")), "something else than 0 or 1"),
+    ("a stack's pointer that is set to a number", made(function("i64.const 64 global.set 0")), "is set in a way"),
+    ("a store to a constant", made(function("i64.const DATA+5 i32.const 7 i32.store 0")), "writes to a constant"),
+    ("a store into a list of constants", made(function("local.get 0 i32.const 7 i32.store8 DATA+5", "I")),
+     "writes to a constant"),
+    ("a store to a constant by a sum", made(function("i64.const DATA+5 local.get 0 i64.add i32.const 7 i32.store 0", "I")),
+     "writes to a constant"),
+    ("a store to a constant by a local", made(function("i64.const DATA+5 local.set 0 local.get 0 i32.const 7 i32.store 0",
+     local="I")), "writes to a constant"),
+    ("a move to a constant", made(function("i64.const DATA+5 local.get 0 i64.const 4 memory.copy", "I")),
+     "writes to a constant"),
+    ("a fill of a constant", made(function("i64.const DATA+5 i32.const 0 i64.const 4 memory.fill")), "writes to a constant"),
+    ("another alignment than is known", made(function("local.get 0 i64.load:16 0 drop", "I")), "an alignment"),
     ("an address of no constant", made(function("i64.const DATA+99 drop")), "no constant"),
     ("an address of an address", made(function("i64.const DATA+16 drop")), "an address of an address"),
     ("a part of an address", made(function("i64.const 0 i32.load DATA+16 drop")), "an address of an address"),

@@ -23,12 +23,16 @@ NO_RESULT = object()
 HEAD = """
 #include <setjmp.h>
 #include <stdio.h>
+#include <string.h>
 static jmp_buf out;
 static void trapped(void) { longjmp(out, 1); }
+#ifndef OWN_TRAP
 #define MSCP_TRAP trapped
+#endif
 """
 TRYING = """
-static u8 memory[32];
+static u64 words[4]; /* aligned for any number */
+#define memory ((u8 *)words)
 static volatile int wrong;
 static void begin(void) { static const u8 first[] = {%s}; memcpy(memory, first, 32); }
 #define GIVES(call, wanted) do { begin(); if (setjmp(out)) wrong++; else if ((u64)(call) != (wanted)) wrong++; } while (0)
@@ -85,17 +89,30 @@ def numeric(name, takes, gives, meaning):
     return Suite(name, functions, checks)
 
 
+def divisors(width):
+    """Of a number of so many bytes: what its address may be divided by, beside 1."""
+    return [it for it in (2, 4, 8) if it <= width]
+
+
 def load(name, gives, meaning):
     functions = [("mscp_it", "I", gives, "", f"local.get 0 {name} 3"), ("mscp_there", "I", gives, "", f"local.get 0 {name} 0")]
     wanted = masked(meant(meaning, WIDTHS[gives]), gives)
-    return Suite(name, functions, [(call("it", ("M",), "I"), wanted, None), (call("there", ("M3",), "I"), wanted, None)])
+    checks = [(call("it", ("M",), "I"), wanted, None), (call("there", ("M3",), "I"), wanted, None)]
+    for it in divisors(int(re.search(r"\d", meaning).group())):
+        functions.append((f"mscp_by_{it}", "I", gives, "", f"local.get 0 {name}:{it} {it}"))
+        checks.append((call(f"by_{it}", ("M",), "I"), masked(meant(meaning, WIDTHS[gives], at=it), gives), None))
+    return Suite(name, functions, checks)
 
 
 def store(name, takes, width):
     value = 0x8796A5B4C3D2E1F0
-    after = MEMORY[:5] + value.to_bytes(8, "little")[:width] + MEMORY[5 + width :]
     functions = [("mscp_it", takes, "", "", f"local.get 0 local.get 1 {name} 5")]
-    return Suite(name, functions, [(call("it", ("M", value), takes), NO_RESULT, after)])
+    functions += [(f"mscp_by_{it}", takes, "", "", f"local.get 0 local.get 1 {name}:{it} {it}") for it in divisors(width)]
+    checks = []
+    for it, at in [("it", 5)] + [(f"by_{it}", it) for it in divisors(width)]:
+        after = MEMORY[:at] + value.to_bytes(8, "little")[:width] + MEMORY[at + width :]
+        checks.append((call(it, ("M", value), takes), NO_RESULT, after))
+    return Suite(name, functions, checks)
 
 
 def moved(name, takes):
@@ -157,7 +174,8 @@ def wrongly():
         other = opcodes.TABLE[code]._replace(text=text)
         yield of_row(name, takes, gives, meaning), mock.patch.dict(opcodes.TABLE, {code: other})
     for case in CASES:
-        yield of_case(*case), mock.patch.multiple(Function, **WRONG[case[0]]) if case[0] in WRONG else None
+        wrong = WRONG.get(case[0])
+        yield of_case(*case), mock.patch.multiple(Function, **wrong) if isinstance(wrong, dict) else wrong
 
 
 def run(function, name, if_wrong, else_):
@@ -167,9 +185,11 @@ def run(function, name, if_wrong, else_):
 
 def write():
     """C that prints a line for each: what is tried, and whether it is right, or its wrong translation seen. With RIGHT defined
-    it has no wrong one."""
+    it has no wrong one, and with OWN_TRAP it comes to a trap at once, as a program does that names none."""
     parts, runs = [], []
     for place, (suite, patch) in enumerate(wrongly()):
+        if suite.name == "unreachable":
+            runs.insert(0, f"#ifdef OWN_TRAP\n    right_{place}_w_mscp_it(1);\n    return 0;\n#endif")
         parts.append(written(f"right_{place}_", suite, f"right_{place}"))
         runs.append(run(f"right_{place}", suite.name, "FAILED", "passed"))
         if patch is not None:
@@ -177,5 +197,5 @@ def write():
                 parts += ["#ifndef RIGHT", written(f"wrong_{place}_", suite, f"wrong_{place}"), "#endif"]
             runs += ["#ifndef RIGHT", run(f"wrong_{place}", f"wrong {suite.name} is seen", "passed", "FAILED"), "#endif"]
     main = "int main(void)\n{\n" + "\n".join(runs) + "\n    return 0;\n}\n"
-    text = TRYING % ", ".join(str(it) for it in MEMORY) + "\n".join(parts) + main
+    text = TRYING % ", ".join(str(it) for it in MEMORY) + "\n".join(parts + [main])
     return HEAD + whole(text)

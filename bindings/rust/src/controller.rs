@@ -1,6 +1,8 @@
 //! The controller.
 
+use core::fmt;
 use core::mem::MaybeUninit;
+use core::ptr::addr_of_mut;
 
 use crate::error::{checked, never_refused, Error};
 use crate::held::Held;
@@ -32,7 +34,8 @@ impl Controller {
         Ok(it)
     }
 
-    /// The same where it is to stay, as in a `static`: nothing of its size is moved.
+    /// The same where it is to stay, as in a `static`: nothing of its size is moved here. What the library moves while it makes
+    /// one is told in `mscp.h`, at `mscp_init`.
     ///
     /// # Errors
     /// As [`Controller::new`].
@@ -42,7 +45,12 @@ impl Controller {
         units: &[Unit],
         picker: Picker,
     ) -> Result<&'a mut Self, Error> {
-        let it = place.write(Self(Held::room(raw::ROOM)));
+        let at = place.as_mut_ptr();
+        // SAFETY: the place is ours. What has to be written of a controller is written: its memory may be anything.
+        let it = unsafe {
+            Held::room_at(addr_of_mut!((*at).0), raw::ROOM);
+            &mut *at
+        };
         it.init(limits, units, picker)?;
         Ok(it)
     }
@@ -200,6 +208,14 @@ impl Controller {
         // SAFETY: the handle is that of memory of ours, in which nothing was made; there are so many bytes.
         checked(unsafe { raw::mscp_restore_at(it.0.handle(), bytes.as_ptr(), bytes.len()) })?;
         Ok(it)
+    }
+}
+
+/// What waits in it, and how many ends weren't taken, by connection.
+impl fmt::Debug for Controller {
+    fn fmt(&self, to: &mut fmt::Formatter<'_>) -> fmt::Result {
+        let untaken = [Connection::First, Connection::Second].map(|it| self.untaken(it));
+        to.debug_struct("Controller").field("waiting", &self.look()).field("untaken", &untaken).finish_non_exhaustive()
     }
 }
 

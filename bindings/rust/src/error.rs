@@ -105,7 +105,10 @@ impl fmt::Display for Error {
     }
 }
 
-#[cfg(feature = "std")]
+#[cfg(has_core_error)]
+impl core::error::Error for Error {}
+
+#[cfg(all(feature = "std", not(has_core_error)))]
 impl std::error::Error for Error {}
 
 /// A status that a call of C answered, if it is no fault.

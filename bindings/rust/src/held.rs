@@ -22,15 +22,25 @@ pub(crate) struct Held<const WORDS: usize> {
 unsafe impl<const WORDS: usize> Send for Held<WORDS> {}
 
 impl<const WORDS: usize> Held<WORDS> {
-    /// Memory in which nothing was made, by the mark of such memory. It has none if the library doesn't fit: then every init
-    /// refuses it.
+    /// Memory in which nothing was made, by the mark of such memory.
     pub(crate) fn room(mark: u64) -> Self {
+        Self { handle: Self::fresh(mark), memory: UnsafeCell::new([MaybeUninit::uninit(); WORDS]) }
+    }
+
+    /// Makes that where it is to stay: its handle is written, and none of its memory.
+    ///
+    /// # Safety
+    /// The pointer is good for writes of all of it.
+    pub(crate) unsafe fn room_at(place: *mut Self, mark: u64) {
+        // SAFETY: the field lies in what the pointer is good for.
+        unsafe { addr_of_mut!((*place).handle).write(Self::fresh(mark)) }
+    }
+
+    /// A handle on memory in which nothing was made. It has no mark if the library doesn't fit: then every init refuses it.
+    fn fresh(mark: u64) -> Handle {
         let mark = if crate::fits(crate::version()) { mark } else { 0 };
         let length = (WORDS * core::mem::size_of::<u64>()) as u64;
-        Self {
-            handle: Handle { at: Aligned(core::ptr::null_mut()), address: Aligned(0), length, mark },
-            memory: UnsafeCell::new([MaybeUninit::uninit(); WORDS]),
-        }
+        Handle { at: Aligned(core::ptr::null_mut()), address: Aligned(0), length, mark }
     }
 
     /// The handle, with the memory where it lies now: for one call, which may write both.

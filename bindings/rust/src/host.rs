@@ -1,6 +1,8 @@
 //! The host's end.
 
+use core::fmt;
 use core::mem::MaybeUninit;
+use core::ptr::addr_of_mut;
 
 use crate::error::{checked, never_refused, Error};
 use crate::held::Held;
@@ -61,12 +63,17 @@ impl Host {
         Ok(it)
     }
 
-    /// The same where it is to stay.
+    /// The same where it is to stay, as in [`Controller::new_in`](crate::Controller::new_in).
     ///
     /// # Errors
     /// As [`Host::new`].
     pub fn new_in(place: &mut MaybeUninit<Self>, credits: u32) -> Result<&mut Self, Error> {
-        let it = place.write(Self(Held::room(raw::HOST_ROOM)));
+        let at = place.as_mut_ptr();
+        // SAFETY: the place is ours. What has to be written of a host is written: its memory may be anything.
+        let it = unsafe {
+            Held::room_at(addr_of_mut!((*at).0), raw::HOST_ROOM);
+            &mut *at
+        };
         it.init(credits)?;
         Ok(it)
     }
@@ -149,5 +156,12 @@ impl Host {
         // SAFETY: the handle is that of memory of ours, in which nothing was made; there are so many bytes.
         checked(unsafe { raw::mscp_host_restore_at(it.0.handle(), bytes.as_ptr(), bytes.len()) })?;
         Ok(it)
+    }
+}
+
+/// How many credits are free.
+impl fmt::Debug for Host {
+    fn fmt(&self, to: &mut fmt::Formatter<'_>) -> fmt::Result {
+        to.debug_struct("Host").field("balance", &self.balance()).finish_non_exhaustive()
     }
 }

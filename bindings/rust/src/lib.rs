@@ -3,7 +3,7 @@
 #![deny(unsafe_op_in_unsafe_fn)]
 #![warn(missing_docs, clippy::undocumented_unsafe_blocks)]
 
-#[cfg(feature = "std")]
+#[cfg(all(feature = "std", not(has_core_error)))]
 extern crate std;
 
 mod action;

@@ -48,6 +48,16 @@ impl<'a, T, const N: usize> IntoIterator for &'a List<T, N> {
     }
 }
 
+impl<T, const N: usize> IntoIterator for List<T, N> {
+    type Item = T;
+    type IntoIter = core::iter::Take<core::array::IntoIter<T, N>>;
+
+    fn into_iter(self) -> Self::IntoIter {
+        let count = self.count;
+        self.items.into_iter().take(count)
+    }
+}
+
 impl<T: PartialEq, const N: usize> PartialEq for List<T, N> {
     fn eq(&self, other: &Self) -> bool {
         **self == **other

@@ -1,6 +1,8 @@
 //! The port.
 
+use core::fmt;
 use core::mem::MaybeUninit;
+use core::ptr::addr_of_mut;
 
 use crate::action::{Action, Hardware, Medium, Outcome, State, Volume, Way};
 use crate::bus::Bus;
@@ -62,7 +64,7 @@ impl Port {
         Ok(it)
     }
 
-    /// The same where it is to stay.
+    /// The same where it is to stay, as in [`Controller::new_in`](crate::Controller::new_in).
     ///
     /// # Errors
     /// As [`Port::new`].
@@ -74,7 +76,13 @@ impl Port {
         hardware: Hardware,
         credits: u32,
     ) -> Result<&'a mut Self, Error> {
-        let it = place.write(Self::room(hardware.bus));
+        let at = place.as_mut_ptr();
+        // SAFETY: the place is ours. What has to be written of a port is written: its memory may be anything.
+        let it = unsafe {
+            Held::room_at(addr_of_mut!((*at).held), raw::PORT_ROOM);
+            addr_of_mut!((*at).bus).write(hardware.bus);
+            &mut *at
+        };
         it.init(limits, units, picker, hardware, credits)?;
         Ok(it)
     }
@@ -335,5 +343,13 @@ impl Port {
         // SAFETY: the handle is that of memory of ours, in which nothing was made; there are so many bytes.
         checked(unsafe { raw::mscp_port_restore_at(it.held.handle(), bytes.as_ptr(), bytes.len()) })?;
         Ok(it)
+    }
+}
+
+/// Its bus, how far it has come, and what waits in its controller.
+impl fmt::Debug for Port {
+    fn fmt(&self, to: &mut fmt::Formatter<'_>) -> fmt::Result {
+        let mut it = to.debug_struct("Port");
+        it.field("bus", &self.bus).field("state", &self.state()).field("waiting", &self.look()).finish_non_exhaustive()
     }
 }
