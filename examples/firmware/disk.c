@@ -9,7 +9,7 @@
 #include "string.h"
 
 enum { IP = 0, SA = 2, MEMORY = 4096, WAITING = 8, BUFFER = 0x400, RESPONSE = 0x204, COMMAND = 0x244, RINGS = 0x284 };
-enum { STACK_OF_TURNS = STACK_OF_CALLS + 1536 }; /* with what port.c takes, which has two blocks there at most */
+enum { STACK_OF_TURNS = STACK_OF_CALLS + 1024 }; /* with what port.c takes, which has a block there at most */
 
 static struct port port;
 static struct measured init = {"an init", STACK_OF_INIT, 0, 0}, reading = {"reads of IP", STACK_OF_CALLS, 0, 0},
