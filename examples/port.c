@@ -66,6 +66,13 @@ void port_write(struct port *port, unsigned offset, uint16_t word)
 
 /* ---- blocks */
 
+/* The step that a block is of. Without one, as in a port that a stranger saved, a block is moved alone. */
+static struct mscp_upcoming step_of(struct port *port)
+{
+    struct mscp_upcoming step;
+    return mscp_port_begun(port_itself(port), &step) == MSCP_DONE ? step : (struct mscp_upcoming){.weight = 1};
+}
+
 /* How many blocks may be moved at once, from that of this step on: those of its command, of this turn, and of a run. */
 static uint32_t run_of(const struct port *port, const struct mscp_upcoming *step)
 {
@@ -100,8 +107,7 @@ static void moved_ahead(struct port *port, const struct mscp_upcoming *step, uin
 static const uint8_t *block_read(struct port *port, const struct mscp_action *action)
 {
     const struct port_bus *bus = &port->bus;
-    struct mscp_upcoming step = {0};
-    mscp_port_begun(port_itself(port), &step);
+    const struct mscp_upcoming step = step_of(port);
     if (was_ahead(port, &step))
         return port->blocks + (step.done - port->ahead.first) * MSCP_BLOCK;
     uint32_t count = run_of(port, &step);
@@ -120,7 +126,7 @@ static enum mscp_outcome gather(struct port *port, const struct mscp_action *act
     const struct port_bus *bus = &port->bus;
     memset(port->blocks, 0, (size_t)count * MSCP_BLOCK);
     for (uint32_t i = 0; i < count; i++) {
-        uint32_t left = step->bytes - (step->done + i) * MSCP_BLOCK;
+        uint32_t left = i == 0 ? action->count : step->bytes - (step->done + i) * MSCP_BLOCK;
         enum mscp_outcome outcome =
             bus->read(bus->machine, mscp_on_bus(port->lines, action->address + i * MSCP_BLOCK),
                       port->blocks + i * MSCP_BLOCK, left < MSCP_BLOCK ? left : MSCP_BLOCK);
@@ -148,8 +154,7 @@ static enum mscp_outcome read_block(struct port *port, const struct mscp_action 
 static enum mscp_outcome write_block(struct port *port, const struct mscp_action *action)
 {
     const struct port_bus *bus = &port->bus;
-    struct mscp_upcoming step = {0};
-    mscp_port_begun(port_itself(port), &step);
+    const struct mscp_upcoming step = step_of(port);
     if (was_ahead(port, &step))
         return MSCP_OUTCOME_DONE;
     uint32_t count = run_of(port, &step);

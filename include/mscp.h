@@ -587,6 +587,7 @@ MSCP_MUST_USE int32_t mscp_step(struct mscp *mscp, uint16_t status, struct mscp_
 
 /* Lists the figures of the waiting commands of both connections, oldest first, as many as there is room for. It answers
  * how many commands wait: 0 to 63. */
+MSCP_MUST_USE
 MSCP_INLINE int64_t mscp_look(const struct mscp *mscp, struct mscp_waiting *list, size_t room)
 {
     struct mscp_waiting none = {0, 0, 0};
@@ -599,6 +600,7 @@ MSCP_INLINE int64_t mscp_look(const struct mscp *mscp, struct mscp_waiting *list
  * there is room for. It answers how many keep it back: 0 to 62, and 0 too if no command of that number waits. While no
  * other command is in service, a command that nobody keeps back may start. For the command in service this lists those
  * that would keep it back if it had still to start. */
+MSCP_MUST_USE
 MSCP_INLINE int64_t mscp_why(const struct mscp *mscp, uint32_t connection, uint32_t reference,
                              struct mscp_holder *list, size_t room)
 {
@@ -623,6 +625,7 @@ int32_t mscp_is_online(const struct mscp *mscp, uint16_t unit);
 
 /* The limits of the controller, and its units, as many as there is room for: what it was made of, also if it was restored.
  * It answers how many units there are: 1 to 16. */
+MSCP_MUST_USE
 MSCP_INLINE int64_t mscp_settings(const struct mscp *mscp, struct mscp_limits *limits, struct mscp_unit *units,
                                   size_t room)
 {
@@ -810,16 +813,17 @@ MSCP_MUST_USE int32_t mscp_port_protect(struct mscp_port *port, uint16_t unit, u
 
 /* How far the port has come. If it answered MSCP_NOTHING and is held back, it is to look again: its host doesn't say that it
  * has given a slot of the ring of responses back. If it isn't, it waits for a register, a volume or the clock. MSCP_DONE. */
-int32_t mscp_port_state(const struct mscp_port *port, struct mscp_state *state);
+MSCP_MUST_USE int32_t mscp_port_state(const struct mscp_port *port, struct mscp_state *state);
 
 /* What is in a unit. MSCP_DONE, or MSCP_UNKNOWN_UNIT. */
-int32_t mscp_port_volume(const struct mscp_port *port, uint16_t unit, struct mscp_volume *volume);
+MSCP_MUST_USE int32_t mscp_port_volume(const struct mscp_port *port, uint16_t unit, struct mscp_volume *volume);
 
 /* The step that is begun: if the port wants a block moved, its command and its block. Its first block has
  * `done` 0, and its last one `done + 1 == weight`. MSCP_DONE, or MSCP_NOTHING if none is begun. */
-int32_t mscp_port_begun(const struct mscp_port *port, struct mscp_upcoming *upcoming);
+MSCP_MUST_USE int32_t mscp_port_begun(const struct mscp_port *port, struct mscp_upcoming *upcoming);
 
 /* The limits and units of the port's controller, as mscp_settings tells them. */
+MSCP_MUST_USE
 MSCP_INLINE int64_t mscp_port_settings(const struct mscp_port *port, struct mscp_limits *limits,
                                        struct mscp_unit *units, size_t room)
 {
@@ -831,6 +835,7 @@ MSCP_INLINE int64_t mscp_port_settings(const struct mscp_port *port, struct mscp
 
 /* The commands that wait in the port's controller, as mscp_look lists them, and who keeps one of them back, as mscp_why does.
  * The host's are those of the first connection. */
+MSCP_MUST_USE
 MSCP_INLINE int64_t mscp_port_look(const struct mscp_port *port, struct mscp_waiting *list, size_t room)
 {
     struct mscp_waiting none = {0, 0, 0};
@@ -838,6 +843,7 @@ MSCP_INLINE int64_t mscp_port_look(const struct mscp_port *port, struct mscp_wai
         return MSCP_NOT_MADE;
     return mscp_port_look_at(port, room == 0 ? &none : list, room);
 }
+MSCP_MUST_USE
 MSCP_INLINE int64_t mscp_port_why(const struct mscp_port *port, uint32_t connection, uint32_t reference,
                                   struct mscp_holder *list, size_t room)
 {

@@ -5,13 +5,15 @@ void calls(struct mscp *mscp, struct mscp_host *host, const struct mscp_limits *
            const uint8_t *bytes, struct mscp_sent *sent, struct mscp_packet *packet, struct mscp_upcoming *upcoming,
            struct mscp_report *report, struct mscp_news *news, uint8_t *out, size_t *length,
            struct mscp_port *port, const struct mscp_hardware *hardware, struct mscp_action *action,
-           const struct mscp_medium *medium, uint32_t *line);
+           const struct mscp_medium *medium, uint32_t *line, struct mscp_limits *told, struct mscp_unit *list,
+           struct mscp_waiting *waiting, struct mscp_holder *holders, struct mscp_state *state, struct mscp_volume *volume);
 
 void calls(struct mscp *mscp, struct mscp_host *host, const struct mscp_limits *limits, const struct mscp_unit *units,
            const uint8_t *bytes, struct mscp_sent *sent, struct mscp_packet *packet, struct mscp_upcoming *upcoming,
            struct mscp_report *report, struct mscp_news *news, uint8_t *out, size_t *length,
            struct mscp_port *port, const struct mscp_hardware *hardware, struct mscp_action *action,
-           const struct mscp_medium *medium, uint32_t *line)
+           const struct mscp_medium *medium, uint32_t *line, struct mscp_limits *told, struct mscp_unit *list,
+           struct mscp_waiting *waiting, struct mscp_holder *holders, struct mscp_state *state, struct mscp_volume *volume)
 {
     mscp_init(mscp, limits, units, 1, MSCP_SWEEP);
     mscp_reset(mscp);
@@ -20,6 +22,9 @@ void calls(struct mscp *mscp, struct mscp_host *host, const struct mscp_limits *
     mscp_begin(mscp, upcoming);
     mscp_finish(mscp, MSCP_CONNECTION_FIRST, 1, 0, report);
     mscp_step(mscp, 0, report);
+    mscp_look(mscp, waiting, 1);
+    mscp_why(mscp, MSCP_CONNECTION_FIRST, 1, holders, 1);
+    mscp_settings(mscp, told, list, 1);
     mscp_save(mscp, out, 1, length);
     mscp_restore(mscp, bytes, 12);
     mscp_host_init(host, 2);
@@ -36,6 +41,12 @@ void calls(struct mscp *mscp, struct mscp_host *host, const struct mscp_limits *
     mscp_port_volume_came(port, 0, medium);
     mscp_port_volume_went(port, 0);
     mscp_port_protect(port, 0, 1);
+    mscp_port_state(port, state);
+    mscp_port_volume(port, 0, volume);
+    mscp_port_begun(port, upcoming);
+    mscp_port_settings(port, told, list, 1);
+    mscp_port_look(port, waiting, 1);
+    mscp_port_why(port, MSCP_CONNECTION_FIRST, 1, holders, 1);
     mscp_port_save(port, out, 1, length);
     mscp_port_restore(port, bytes, 12);
     mscp_run_script(bytes, 1, out, 1, length, line);
