@@ -103,37 +103,58 @@ static void moved_ahead(struct port *port, const struct mscp_upcoming *step, uin
     port->ahead.count = count - 1;
 }
 
-/* The bytes of a block, or NULL if it can't be read. */
-static const uint8_t *block_read(struct port *port, const struct mscp_action *action)
+/* A block that was read ahead, or is at the head of a run that is read now. NULL, if it is to be read alone. */
+static const uint8_t *read_in_run(struct port *port, const struct mscp_action *action)
 {
     const struct port_bus *bus = &port->bus;
     const struct mscp_upcoming step = step_of(port);
     if (was_ahead(port, &step))
         return port->blocks + (step.done - port->ahead.first) * MSCP_BLOCK;
     uint32_t count = run_of(port, &step);
-    if (count > 1 && bus->read_run != NULL &&
-        bus->read_run(bus->machine, action->unit, action->block, count, port->blocks)) {
-        moved_ahead(port, &step, count);
-        return port->blocks;
-    }
+    if (count < 2 || !bus->read_run(bus->machine, action->unit, action->block, count, port->blocks))
+        return NULL;
+    moved_ahead(port, &step, count);
+    return port->blocks;
+}
+
+/* The bytes of a block, or NULL if it can't be read. */
+static const uint8_t *block_read(struct port *port, const struct mscp_action *action)
+{
+    const struct port_bus *bus = &port->bus;
+    const uint8_t *block = bus->read_run == NULL ? NULL : read_in_run(port, action);
+    if (block != NULL)
+        return block;
     return bus->read_block(bus->machine, action->unit, action->block, port->blocks) ? port->blocks : NULL;
 }
 
-/* Fills this many blocks from the host's memory, with zeros behind the bytes of the last one. */
-static enum mscp_outcome gather(struct port *port, const struct mscp_action *action, const struct mscp_upcoming *step,
-                                uint32_t count)
+/* Fills the n-th block of a run with so many bytes of the host's memory, and zeros behind them. */
+static enum mscp_outcome fill(struct port *port, const struct mscp_action *action, uint32_t n, uint32_t count)
+{
+    uint8_t *block = port->blocks + n * MSCP_BLOCK;
+    if (count >= MSCP_BLOCK)
+        count = MSCP_BLOCK;
+    else
+        memset(block + count, 0, MSCP_BLOCK - count);
+    return port->bus.read(port->bus.machine, mscp_on_bus(port->lines, action->address + n * MSCP_BLOCK), block, count);
+}
+
+/* Whether a block was written ahead, or is at the head of a run that is written now. If not it is to be written alone. */
+static bool write_in_run(struct port *port, const struct mscp_action *action)
 {
     const struct port_bus *bus = &port->bus;
-    memset(port->blocks, 0, (size_t)count * MSCP_BLOCK);
-    for (uint32_t i = 0; i < count; i++) {
-        uint32_t left = i == 0 ? action->count : step->bytes - (step->done + i) * MSCP_BLOCK;
-        enum mscp_outcome outcome =
-            bus->read(bus->machine, mscp_on_bus(port->lines, action->address + i * MSCP_BLOCK),
-                      port->blocks + i * MSCP_BLOCK, left < MSCP_BLOCK ? left : MSCP_BLOCK);
-        if (outcome != MSCP_OUTCOME_DONE)
-            return outcome;
-    }
-    return MSCP_OUTCOME_DONE;
+    const struct mscp_upcoming step = step_of(port);
+    if (was_ahead(port, &step))
+        return true;
+    uint32_t count = run_of(port, &step);
+    if (count < 2)
+        return false;
+    for (uint32_t n = 0; n < count; n++)
+        if (fill(port, action, n, step.bytes - (step.done + n) * MSCP_BLOCK) != MSCP_OUTCOME_DONE)
+            return false;
+    if (!bus->write_run(bus->machine, action->unit, action->block, count, port->blocks))
+        return false;
+    moved_ahead(port, &step, count);
+    return true;
 }
 
 /* ---- actions */
@@ -154,16 +175,9 @@ static enum mscp_outcome read_block(struct port *port, const struct mscp_action 
 static enum mscp_outcome write_block(struct port *port, const struct mscp_action *action)
 {
     const struct port_bus *bus = &port->bus;
-    const struct mscp_upcoming step = step_of(port);
-    if (was_ahead(port, &step))
+    if (bus->write_run != NULL && write_in_run(port, action))
         return MSCP_OUTCOME_DONE;
-    uint32_t count = run_of(port, &step);
-    if (count > 1 && bus->write_run != NULL && gather(port, action, &step, count) == MSCP_OUTCOME_DONE &&
-        bus->write_run(bus->machine, action->unit, action->block, count, port->blocks)) {
-        moved_ahead(port, &step, count);
-        return MSCP_OUTCOME_DONE;
-    }
-    enum mscp_outcome outcome = gather(port, action, &step, 1);
+    enum mscp_outcome outcome = fill(port, action, 0, action->count);
     if (outcome != MSCP_OUTCOME_DONE)
         return outcome;
     return bus->write_block(bus->machine, action->unit, action->block, port->blocks) ? MSCP_OUTCOME_DONE : MSCP_OUTCOME_FAILED;

@@ -137,7 +137,8 @@ static bool write_block(void *machine, uint16_t unit, uint32_t block, const uint
 
 static bool attach(void)
 {
-    static const struct port_bus bus = {NULL, read_memory, write_memory, interrupt, read_block, write_block};
+    static const struct port_bus bus = {.read = read_memory, .write = write_memory, .interrupt = interrupt,
+                                        .read_block = read_block, .write_block = write_block};
     static const struct mscp_hardware rqdx3 = {.bus = MSCP_BUS_Q, .model = 19, .software = 3, .version = 1};
     static const struct mscp_unit rd54 = {.id = (uint64_t)2 << 56 | (uint64_t)13 << 48, .size = 64, .media = 0x25644036,
                                           .serial = 1, .track = 17, .group = 15, .cylinder = 1};
