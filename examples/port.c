@@ -15,11 +15,13 @@
 enum { DRIVE_ERROR = 0x000B };
 
 /* The memory for a port that isn't made yet. */
-static struct mscp_port *make_room(struct port *port, const struct port_bus *bus, uint8_t lines)
+static struct mscp_port *make_room(struct port *port, const struct port_bus *bus, uint8_t lines, uint64_t serial)
 {
     port->bus = *bus;
     port->lines = lines;
     port->ahead.count = 0;
+    port->slow = PORT_IDLE;
+    port->serial = serial;
     return mscp_port_in_memory(port->memory, sizeof port->memory);
 }
 
@@ -34,12 +36,12 @@ int32_t port_open(struct port *port, const struct port_bus *bus, const struct ms
         .longest = 65536,
         .timeout = 120,
     };
-    return mscp_port_init(make_room(port, bus, hardware->bus), &limits, units, count, MSCP_SWEEP, hardware, PORT_COMMANDS);
+    return mscp_port_init(make_room(port, bus, hardware->bus, 0), &limits, units, count, MSCP_SWEEP, hardware, PORT_COMMANDS);
 }
 
-int32_t port_restore(struct port *port, const struct port_bus *bus, enum mscp_bus lines, const uint8_t *bytes, size_t length)
+int32_t port_restore(struct port *port, const struct port *running, const uint8_t *bytes, size_t length)
 {
-    return mscp_port_restore(make_room(port, bus, (uint8_t)lines), bytes, length);
+    return mscp_port_restore(make_room(port, &running->bus, running->lines, running->serial), bytes, length);
 }
 
 /* Its handle has a pointer to what lies behind it, which is set anew: the port may have been copied. */
@@ -117,10 +119,17 @@ static const uint8_t *read_in_run(struct port *port, const struct mscp_action *a
     return port->blocks;
 }
 
+static bool is_slow(const struct port_bus *bus)
+{
+    return bus->begin_read != NULL;
+}
+
 /* The bytes of a block, or NULL if it can't be read. */
 static const uint8_t *block_read(struct port *port, const struct mscp_action *action)
 {
     const struct port_bus *bus = &port->bus;
+    if (is_slow(bus))
+        return port->slow == PORT_MOVED ? port->blocks : NULL;
     const uint8_t *block = bus->read_run == NULL ? NULL : read_in_run(port, action);
     if (block != NULL)
         return block;
@@ -171,24 +180,30 @@ static enum mscp_outcome read_block(struct port *port, const struct mscp_action 
     return bus->write(bus->machine, action->address, block, action->count);
 }
 
+/* A block gets these bytes, or has got them if it took its time. */
+static enum mscp_outcome written(struct port *port, const struct mscp_action *action, const uint8_t *bytes)
+{
+    const struct port_bus *bus = &port->bus;
+    bool went_well = is_slow(bus) ? port->slow == PORT_MOVED
+                                  : bus->write_block(bus->machine, action->unit, action->block, bytes);
+    return went_well ? MSCP_OUTCOME_DONE : MSCP_OUTCOME_FAILED;
+}
+
 /* A block comes from the host's memory, with zeros behind its bytes: a WRITE. */
 static enum mscp_outcome write_block(struct port *port, const struct mscp_action *action)
 {
-    const struct port_bus *bus = &port->bus;
-    if (bus->write_run != NULL && write_in_run(port, action))
-        return MSCP_OUTCOME_DONE;
-    enum mscp_outcome outcome = fill(port, action, 0, action->count);
-    if (outcome != MSCP_OUTCOME_DONE)
-        return outcome;
-    return bus->write_block(bus->machine, action->unit, action->block, port->blocks) ? MSCP_OUTCOME_DONE : MSCP_OUTCOME_FAILED;
+    if (!is_slow(&port->bus)) {
+        if (port->bus.write_run != NULL && write_in_run(port, action))
+            return MSCP_OUTCOME_DONE;
+        enum mscp_outcome outcome = fill(port, action, 0, action->count);
+        if (outcome != MSCP_OUTCOME_DONE)
+            return outcome;
+    }
+    return written(port, action, port->blocks);
 }
 
 /* A block is all zeros: an ERASE. */
-static enum mscp_outcome erase_block(const struct port_bus *bus, const struct mscp_action *action)
-{
-    static const uint8_t zeros[MSCP_BLOCK];
-    return bus->write_block(bus->machine, action->unit, action->block, zeros) ? MSCP_OUTCOME_DONE : MSCP_OUTCOME_FAILED;
-}
+static const uint8_t zeros[MSCP_BLOCK];
 
 /* The host's bytes are compared with a block: a COMPARE HOST DATA. */
 static enum mscp_outcome compare(struct port *port, const struct mscp_action *action)
@@ -209,10 +224,54 @@ static enum mscp_outcome transfer(struct port *port, const struct mscp_action *a
     switch (action->opcode) {
     case MSCP_READ: case MSCP_ACCESS: return read_block(port, action);
     case MSCP_WRITE: return write_block(port, action);
-    case MSCP_ERASE: return erase_block(&port->bus, action);
+    case MSCP_ERASE: return written(port, action, zeros);
     default: return compare(port, action);
     }
 }
+
+/* ---- a block that takes its time */
+
+/* Begins with it, for which a WRITE takes its bytes out of the host's memory. It can't if those aren't there. */
+static enum mscp_outcome begin_block(struct port *port, const struct mscp_action *action)
+{
+    const struct port_bus *bus = &port->bus;
+    if (action->opcode == MSCP_WRITE) {
+        enum mscp_outcome outcome = fill(port, action, 0, action->count);
+        if (outcome != MSCP_OUTCOME_DONE)
+            return outcome;
+    }
+    port->step = step_of(port);
+    port->slow = PORT_BEGUN;
+    port->serial++;
+    if (action->opcode == MSCP_WRITE || action->opcode == MSCP_ERASE)
+        bus->begin_write(bus->machine, action->unit, action->block, action->opcode == MSCP_WRITE ? port->blocks : zeros,
+                         port->serial);
+    else
+        bus->begin_read(bus->machine, action->unit, action->block, port->serial);
+    return MSCP_OUTCOME_DONE;
+}
+
+/* Before an action is asked for: an ABORT, a reset or a new volume may have ended its command, and then another one may begin with
+ * the same number. */
+static void drop_unless_begun(struct port *port)
+{
+    const struct mscp_upcoming *was = &port->step, now = step_of(port);
+    if (now.connection != was->connection || now.reference != was->reference || now.opcode != was->opcode ||
+        now.unit != was->unit || now.lbn != was->lbn || now.done != was->done)
+        port->slow = PORT_IDLE;
+}
+
+bool port_moved(struct port *port, uint64_t serial, bool went_well, const uint8_t *bytes)
+{
+    if (port->slow != PORT_BEGUN || port->serial != serial)
+        return false;
+    port->slow = went_well ? PORT_MOVED : PORT_FAILED;
+    if (went_well && bytes != NULL)
+        memcpy(port->blocks, bytes, MSCP_BLOCK);
+    return true;
+}
+
+/* ---- a turn */
 
 /* Does what the port wants, and tells it how that went. If the host wrote IP in the meantime the port wants that no
  * more, and answers so: then there is nothing to do. */
@@ -229,11 +288,29 @@ static int32_t act(struct port *port, const struct mscp_action *action)
         break;
     case MSCP_ACTION_WRITE: outcome = bus->write(bus->machine, action->address, action->bytes, action->count); break;
     case MSCP_ACTION_INTERRUPT: bus->interrupt(bus->machine, action->vector); break;
-    case MSCP_ACTION_TRANSFER: outcome = transfer(port, action); break;
+    case MSCP_ACTION_TRANSFER:
+        if (is_slow(bus) && port->slow == PORT_IDLE) {
+            outcome = begin_block(port, action);
+            if (port->slow != PORT_IDLE)
+                return MSCP_DONE; /* how it went is told later */
+        } else {
+            outcome = transfer(port, action);
+            port->slow = PORT_IDLE;
+        }
+        break;
     default: break; /* PAUSE: the machine went on since the last turn */
     }
     int32_t status = mscp_port_went(port_itself(port), outcome, DRIVE_ERROR);
     return outcome == MSCP_OUTCOME_DONE ? wire_action(status, action, action->bytes) : status;
+}
+
+/* What it wants next: of messages alone, while a block takes its time. */
+static int32_t next(struct port *port, struct mscp_action *action)
+{
+    if (port->slow != PORT_IDLE)
+        drop_unless_begun(port);
+    return port->slow == PORT_BEGUN ? mscp_port_next_message(port_itself(port), action)
+                                    : mscp_port_next(port_itself(port), action);
 }
 
 /* What was wanted is done at once, so that no volume changes in between. What was moved ahead counts in this turn alone. */
@@ -243,7 +320,7 @@ bool port_turn(struct port *port, unsigned most)
     port->ahead.count = 0;
     mscp_port_look_again(port_itself(port));
     for (unsigned done = 0; done < most; done++) {
-        if (mscp_port_next(port_itself(port), &action) != MSCP_DONE)
+        if (next(port, &action) != MSCP_DONE)
             return false;
         if (done > 0 && action.kind == MSCP_ACTION_PAUSE)
             return true;

@@ -23,7 +23,14 @@ struct port_bus {
      * of the blocks can't be moved the answer is false, and they are moved one by one. */
     bool (*read_run)(void *machine, uint16_t unit, uint32_t block, uint32_t count, uint8_t *bytes);
     bool (*write_run)(void *machine, uint16_t unit, uint32_t block, uint32_t count, const uint8_t *bytes);
+    /* In place of those four, for a disk that takes its time: they begin with a block and return, and port_moved tells of it by
+     * its serial when it is done. Blocks are done in the order in which they were begun. The bytes are the port's. */
+    void (*begin_read)(void *machine, uint16_t unit, uint32_t block, uint64_t serial);
+    void (*begin_write)(void *machine, uint16_t unit, uint32_t block, const uint8_t *bytes, uint64_t serial);
 };
+
+/* A block that takes its time: none is begun, one is, or it was moved, or it couldn't be. */
+enum port_slow { PORT_IDLE, PORT_BEGUN, PORT_MOVED, PORT_FAILED };
 
 /* A port, with a controller. It holds no pointer but those of its bus: it may be copied, and saved as the bytes behind `bus`. */
 struct port {
@@ -33,6 +40,9 @@ struct port {
         uint32_t first, done, count; /* of its command: behind how many blocks the run and the next of it are, and how many wait */
     } ahead;                         /* blocks that were moved in this turn, and not told yet */
     uint32_t left; /* actions in this turn */
+    enum port_slow slow;
+    struct mscp_upcoming step; /* that the block is of */
+    uint64_t serial;           /* of the last block that was begun; they only grow */
     uint8_t blocks[PORT_RUN * MSCP_BLOCK];
     MSCP_ALIGNED uint64_t memory[(MSCP_HEAD + MSCP_PORT_SIZE) / sizeof(uint64_t)];
 };
@@ -45,9 +55,10 @@ int32_t port_open(struct port *port, const struct port_bus *bus, const struct ms
  * volume answer a status there. */
 struct mscp_port *port_itself(struct port *port);
 
-/* Makes the port that mscp_port_save saved, with the bus lines of its hardware, in a struct that isn't in use: so one that runs
- * goes on where this fails, and is assigned this one where it doesn't. A status of mscp_port_restore. */
-int32_t port_restore(struct port *port, const struct port_bus *bus, enum mscp_bus lines, const uint8_t *bytes, size_t length);
+/* Makes the port that mscp_port_save saved, in a struct that isn't in use, beside one that runs: it gets the machine and the bus
+ * of that, and its serials go on. Where this fails that one goes on, and where it doesn't it is assigned this one. A status of
+ * mscp_port_restore. */
+int32_t port_restore(struct port *port, const struct port *running, const uint8_t *bytes, size_t length);
 
 /* The host reads or writes a word at the port's first address (IP, with 0) or the second (SA, with 2). */
 uint16_t port_read(struct port *port, unsigned offset);
@@ -56,6 +67,10 @@ void port_write(struct port *port, unsigned offset, uint16_t word);
 /* From the machine's clock, every few hundred instructions: so many actions at most, or as many as there are until the
  * host has to go on a little. Whether more is to be done. */
 bool port_turn(struct port *port, unsigned most);
+
+/* The block of this serial was moved, with the bytes that were read, or it couldn't be. Whether the port still wants it: if not it
+ * is dropped, as after an ABORT or a reset. Then it is time for a turn. To be called where no other call is under way. */
+bool port_moved(struct port *port, uint64_t serial, bool went_well, const uint8_t *bytes);
 
 /* A second of the machine went by. */
 void port_second(struct port *port);

@@ -202,10 +202,10 @@ static void is_restored(bool has_runs)
     send_command(0, 1, MSCP_WRITE, SIZE, START, DATA);
     port_turn(&port, 7);
     is("it is saved", mscp_port_save(port_itself(&port), bytes, sizeof bytes, &length), MSCP_DONE);
-    is("half of it isn't a port", port_restore(&other, &port.bus, MSCP_BUS_Q, bytes, length / 2), MSCP_SAVED_LENGTH);
+    is("half of it isn't a port", port_restore(&other, &port, bytes, length / 2), MSCP_SAVED_LENGTH);
     port_turn(&port, 2);
     memset(machine.disks[0], 0, sizeof machine.disks[0]);
-    is("all of it is", port_restore(&other, &port.bus, MSCP_BUS_Q, bytes, length), MSCP_DONE);
+    is("all of it is", port_restore(&other, &port, bytes, length), MSCP_DONE);
     port = other;
     machine.port = port_itself(&port);
     ends_with(7, 1, 0, SIZE);
