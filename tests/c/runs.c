@@ -2,20 +2,11 @@
  * before it, and the next command works. It is told the same whether blocks are moved one by one or in runs.
  *
  * Prints what is wrong, and ends with 1 where something is. */
-#include "machine.h"
-#include "../../examples/port.h"
+#include "callbacks.h"
 
-enum {
-    AREA = 0x1000, DATA = 0x4000, START = 3, MANY = 12, TAIL = 100, SIZE = (MANY - 1) * MSCP_BLOCK + TAIL, NOWHERE = BLOCKS,
-    DRIVE_ERROR = 0x000B, NO_MEMORY = 0x0069, ABORTED = 0x0002, ALL = 1000,
-};
+enum { START = 3, MANY = 12, TAIL = 100, SIZE = (MANY - 1) * MSCP_BLOCK + TAIL, ABORTED = 0x0002 };
 
-static struct port port;
-static uint32_t bad;   /* the block that can't be moved */
-static uint32_t calls; /* of those that move blocks */
-static uint32_t late;  /* a WRITE or READ of this address has the host send what it has kept back, once */
-
-/* ---- the machine */
+static uint32_t late; /* a READ of this address has the host send what it has kept back, once */
 
 /* The command 5 is aborted, and its number is given to a READ of the first blocks of unit 2. */
 static void change_mind(uint32_t address)
@@ -29,103 +20,6 @@ static void change_mind(uint32_t address)
     put(text + 4, 2, 2);
     put(text + 16, 4, DATA);
     send(text, 32);
-}
-
-static enum mscp_outcome read_memory(void *it, uint32_t address, uint8_t *bytes, uint32_t count)
-{
-    (void)it;
-    if (!is_there(address, count))
-        return MSCP_OUTCOME_MISSING;
-    memcpy(bytes, machine.memory + address, count);
-    return MSCP_OUTCOME_DONE;
-}
-
-static enum mscp_outcome write_memory(void *it, uint32_t address, const uint8_t *bytes, uint32_t count)
-{
-    (void)it;
-    if (!is_there(address, count))
-        return MSCP_OUTCOME_MISSING;
-    memcpy(machine.memory + address, bytes, count);
-    change_mind(address);
-    return MSCP_OUTCOME_DONE;
-}
-
-static void interrupt(void *it, uint16_t vector)
-{
-    (void)it;
-    machine.vector = vector;
-}
-
-/* So many blocks of them up to the bad one are moved. Whether those were all. */
-static bool read_run(void *it, uint16_t unit, uint32_t block, uint32_t count, uint8_t *bytes)
-{
-    (void)it;
-    calls++;
-    for (uint32_t i = 0; i < count; i++) {
-        if (block + i == bad)
-            return false;
-        memcpy(bytes + i * MSCP_BLOCK, machine.disks[unit][block + i], MSCP_BLOCK);
-        machine.transfers++;
-    }
-    return true;
-}
-
-static bool write_run(void *it, uint16_t unit, uint32_t block, uint32_t count, const uint8_t *bytes)
-{
-    (void)it;
-    calls++;
-    for (uint32_t i = 0; i < count; i++) {
-        if (block + i == bad)
-            return false;
-        memcpy(machine.disks[unit][block + i], bytes + i * MSCP_BLOCK, MSCP_BLOCK);
-        machine.transfers++;
-    }
-    return true;
-}
-
-static bool read_block(void *it, uint16_t unit, uint32_t block, uint8_t *bytes) { return read_run(it, unit, block, 1, bytes); }
-
-static bool write_block(void *it, uint16_t unit, uint32_t block, const uint8_t *bytes)
-{
-    return write_run(it, unit, block, 1, bytes);
-}
-
-/* The machine of machine.h, with the port of port.c. Units 0 and 2 are online. */
-static void begin(bool has_runs)
-{
-    static const struct port_bus bus = {.read = read_memory, .write = write_memory, .interrupt = interrupt,
-                                        .read_block = read_block, .write_block = write_block},
-                                 fast = {.read = read_memory, .write = write_memory, .interrupt = interrupt,
-                                         .read_block = read_block, .write_block = write_block,
-                                         .read_run = read_run, .write_run = write_run};
-    const struct mscp_unit units[] = {rd54(0), rd54(1), rd54(2), rd54(3)};
-    build(&RQDX3);
-    bad = NOWHERE;
-    late = 0;
-    is("it is opened", port_open(&port, has_runs ? &fast : &bus, &RQDX3, units, UNITS), MSCP_DONE);
-    machine.port = port_itself(&port);
-    is("a volume", insert(0, 0), MSCP_DONE);
-    is("another", insert(2, 0), MSCP_DONE);
-    initialise(AREA, 2, 2, 0);
-    send_command(0, 100, MSCP_ONLINE, 0, 0, 0);
-    expect(100, 0x89, 0);
-    send_command(2, 101, MSCP_ONLINE, 0, 0, 0);
-    expect(101, 0x89, 0);
-    for (uint32_t i = 0; i < MANY * MSCP_BLOCK; i++)
-        machine.memory[DATA + i] = (uint8_t)(0xC0 + i / MSCP_BLOCK);
-}
-
-/* ---- the host */
-
-/* The machine goes on by turns of so many actions until this command ends: its status, and how many bytes it was told. */
-static void ends_with(unsigned most, uint32_t reference, uint32_t status, uint32_t bytes)
-{
-    uint8_t packet[68] = {0};
-    for (unsigned turns = 0; turns < ALL && !take(packet); turns++)
-        port_turn(&port, most);
-    is("its number", number(packet + 4, 4), reference);
-    is("its status", number(packet + 14, 2), status);
-    is("its bytes", number(packet + 16, 4), bytes);
 }
 
 /* What memory and disk have from the k-th block on, and before it. */
@@ -146,7 +40,7 @@ static uint8_t of_zeros(uint32_t k, uint32_t i) { (void)k; (void)i; return 0; }
 /* A command of which the k-th block fails; the same once more, when it doesn't; and how many calls that took. */
 static void fails_at(bool has_runs, unsigned most, uint8_t opcode, uint32_t k)
 {
-    begin(has_runs);
+    begin_host(&RQDX3, has_runs);
     bad = START + k;
     send_command(0, 1, opcode, SIZE, START, DATA);
     ends_with(most, 1, k < MANY ? DRIVE_ERROR : 0, k < MANY ? k * MSCP_BLOCK : SIZE);
@@ -171,7 +65,7 @@ static void fails_at(bool has_runs, unsigned most, uint8_t opcode, uint32_t k)
 /* Memory ends behind the k-th block of what a WRITE or a READ moves. */
 static void memory_ends_at(bool has_runs, unsigned most, uint8_t opcode, uint32_t k)
 {
-    begin(has_runs);
+    begin_host(&RQDX3, has_runs);
     machine.missing = DATA + k * MSCP_BLOCK;
     send_command(0, 1, opcode, SIZE, START, DATA);
     ends_with(most, 1, NO_MEMORY, k * MSCP_BLOCK);
@@ -181,9 +75,10 @@ static void memory_ends_at(bool has_runs, unsigned most, uint8_t opcode, uint32_
 /* Amid a READ its number becomes another one's, of another unit, and that gets its own blocks. */
 static void number_is_reused(bool has_runs)
 {
-    begin(has_runs);
+    begin_host(&RQDX3, has_runs);
     send_command(0, 5, MSCP_READ, SIZE, START, DATA);
     late = DATA + 4 * MSCP_BLOCK;
+    written_to = change_mind;
     ends_with(ALL, 5, ABORTED, 5 * MSCP_BLOCK);
     ends_with(ALL, 6, 0, 5); /* an ABORT's end has the number that it meant there */
     ends_with(ALL, 5, 0, SIZE);
@@ -198,7 +93,7 @@ static void is_restored(bool has_runs)
     static uint8_t bytes[MSCP_PORT_SAVED_MAX];
     static struct port other;
     size_t length = 0;
-    begin(has_runs);
+    begin_host(&RQDX3, has_runs);
     send_command(0, 1, MSCP_WRITE, SIZE, START, DATA);
     port_turn(&port, 7);
     is("it is saved", mscp_port_save(port_itself(&port), bytes, sizeof bytes, &length), MSCP_DONE);
