@@ -23,6 +23,15 @@ refuse() {
     exit 3
 }
 
+# What does the same without the kit, if something does.
+without_rt() {
+    case $name in
+        mscpq) echo '; without it, cc -O2 -Iinclude portable/mscpq.c portable/mscp.c -o mscpq-c builds the same as C' ;;
+        install) echo '; without it, compile portable/mscp.c with yours' ;;
+        mscpjudge) echo '; a release for x86-64 Linux has the judge built' ;;
+    esac
+}
+
 # The line that moves on a terminal.
 draw() { [ ! -t 2 ] || printf '\r\033[K%s' "$1" >&2; }
 
@@ -355,7 +364,7 @@ if [ "$0" = "${BASH_SOURCE[0]}" ]; then
     "$role" "$@"
     ended=$?
     [[ $role != build_* ]] || exit "$ended"
-    command -v rt >/dev/null || refuse "the Rattle kit's command rt is wanted on the path"
+    command -v rt >/dev/null || refuse "the Rattle kit's command rt is wanted on the path$(without_rt)"
     is_kept || build
     echo "$wanted"
 fi
