@@ -1,7 +1,7 @@
-/* Hosts that drive a port of mscp.h as the drivers of known systems do, which systems.h tells. Each initialises it, finds
- * its units, copies and compares two megabytes, loses a volume and gets one back, and begins anew in the middle; then it
- * dismounts, mounts with write protection, rests, and falls silent. With the oldest command first and with the sweep, and
- * with much and with little done for the disk between two looks of the host. */
+/* Hosts that drive a port of mscp.h as the drivers of known systems do, which systems.h tells. Each initialises it,
+ * finds its units, copies and compares two megabytes, loses a volume and gets one back, and begins anew in the middle.
+ * Then it dismounts, mounts with write protection, rests, and falls silent. So with the oldest command first and with
+ * the sweep, and with much and with little done for the disk between two looks of the host. */
 #include "driving.h"
 
 enum { PASSES = 64, MOST_TURNS = 1 << 16 };
@@ -19,7 +19,7 @@ static void begin_pass(unsigned pass)
     driver.next_group = driver.copied = 0;
 }
 
-/* In the third pass the volume of unit 2 goes, and comes back some turns later, and in the sixth the host begins anew. */
+/* In the third pass the volume of unit 2 goes, and comes back some turns later; in the sixth the host begins anew. */
 static void trouble(unsigned pass)
 {
     if (driver.copied >= GROUPS / 4 && pass == 2 && driver.gone == 0) {
@@ -147,7 +147,8 @@ static bool copies_all(void)
 {
     for (unsigned pass = 0; pass < PASSES; pass++)
         if (!copies(pass)) {
-            printf("%s (%s), %u actions a turn, pass %u: not copied\n", driver.is->name, driver.is->known, driver.most, pass);
+            printf("%s (%s), %u actions a turn, pass %u: not copied\n", driver.is->name, driver.is->known, driver.most,
+                   pass);
             wrong = 1;
             return false;
         }

@@ -50,7 +50,8 @@ static bool may_send(void)
 enum { ONLINE = 0x1000, NEXT_UNIT = 0x2000, POLL = 0x3000, PATHS = 0x4000, ALIVE = 0x5000, ASKED = 0x6000 };
 enum { DETERMINE_ACCESS_PATHS = 0x0B };
 
-static void send_text(uint32_t reference, uint8_t opcode, uint16_t unit, uint16_t modifiers, uint32_t first, uint32_t second)
+static void send_text(uint32_t reference, uint8_t opcode, uint16_t unit, uint16_t modifiers, uint32_t first,
+                      uint32_t second)
 {
     uint8_t text[32] = {0};
     put(text, 4, reference);
@@ -102,8 +103,9 @@ static void begin(void)
 {
     const struct driver *it = driver.is;
     const struct asked asked = {
-        .base = it->base, .responses = it->responses, .commands = it->commands, .purges = it->purges, .tests = it->tests,
-        .go = it->go, .bits = (uint16_t)(it->vector ? 0x80 | it->vector : 0), .flag = it->waking == LOOKS ? 0 : 1u << 30,
+        .base = it->base, .responses = it->responses, .commands = it->commands, .purges = it->purges,
+        .tests = it->tests, .go = it->go, .bits = (uint16_t)(it->vector ? 0x80 | it->vector : 0),
+        .flag = it->vector || it->waking != LOOKS ? 1u << 30 : 0,
     };
     uint32_t before = machine.interrupts;
     initialise_as(&asked);

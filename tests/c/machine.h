@@ -231,9 +231,9 @@ static inline void offer(uint32_t slot)
     put(machine.memory + slot_of(true, slot), 4, 0x80000000u | host.flag | (packet_of(true, slot) + 4));
 }
 
-/* What a host asks for as it initialises its port: rings at this base of two to these powers of slots, the low byte of the
- * first word, purge interrupts, a purge and poll test, the word of the last step, and bit 30 of its slots, if it wants to
- * hear of them. */
+/* What a host asks for as it initialises its port: rings at this base of two to these powers of slots, the low byte of
+ * the first word, purge interrupts, a purge and poll test, the word of the last step, and bit 30 of its slots, if it
+ * wants to hear of them. */
 struct asked {
     uint32_t base;
     unsigned responses, commands;
