@@ -5,7 +5,7 @@
 #include "driving.h"
 
 enum { PASSES = 64, MOST_TURNS = 1 << 16 };
-enum { ACTIONS_A_SECOND = 60 }; /* if there are so many: some blocks are among them */
+enum { ACTIONS_A_SECOND = 12 }; /* if there are so many: few, so that a command is polled more than once */
 enum { SECONDS_OF_A_BOOT = 60, REST = 200 };
 
 /* ---- a pass, and what happens amid it */
@@ -170,7 +170,7 @@ static void drive(const struct driver *it, unsigned most)
     is("interrupts", machine.interrupts > 0, it->vector != 0);
     is("its vector", machine.vector, 4 * it->vector);
     is("paths", driver.paths > 0, it->asks_for_paths);
-    is("figures", driver.figures > 0, it->polls && most < MOST_ACTIONS);
+    is("figures that fell", driver.falls > 0, it->polls && most < MOST_ACTIONS);
     dismounts();
     if (it->stays_alive || seconds() == 0)
         rests();

@@ -33,7 +33,7 @@ static struct {
     uint32_t last;       /* number that it gave */
     uint32_t interrupts; /* that it has seen */
     uint32_t paths;      /* of which it was told */
-    uint32_t figures;    /* that it was told of commands that wait */
+    uint32_t falls;      /* of figures, from one poll of a command to the next */
     unsigned quiet;      /* seconds, since it sent something */
     bool is_answered;    /* what it asked at last, by this */
     uint8_t answer[64];
@@ -205,8 +205,8 @@ static void poll_ended(const uint8_t *text)
         if (it->is_out && it->sent == driver.polled) {
             is("its number", number(text + 12, 4), it->reference);
             is("its figure falls", number(text + 16, 4) < it->figure && number(text + 16, 4) > 0, 1);
+            driver.falls += it->figure != UINT32_MAX;
             it->figure = number(text + 16, 4);
-            driver.figures++;
         }
     }
 }
