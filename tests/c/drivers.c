@@ -1,10 +1,10 @@
 /* Hosts that drive a port of mscp.h as the drivers of known systems do, which systems.h tells. Each initialises it,
- * finds its units, copies and compares two megabytes, loses a volume and gets one back, and begins anew in the middle.
+ * finds its units, copies and compares 24 times 64 blocks, loses a volume and gets one back, and begins anew amid that.
  * Then it dismounts, mounts with write protection, rests, and falls silent. So with the oldest command first and with
  * the sweep, and with much and with little done for the disk between two looks of the host. */
 #include "driving.h"
 
-enum { PASSES = 64, MOST_TURNS = 1 << 16 };
+enum { PASSES = 24, MOST_TURNS = 1 << 16 };
 enum { ACTIONS_A_SECOND = 12 }; /* if there are so many: few, so that a command is polled more than once */
 enum { SECONDS_OF_A_BOOT = 60, REST = 200 };
 
