@@ -402,6 +402,6 @@ random_hosts_are_right() {
         logged_is_right 1000 "$(grep -cx reset "$room/log")" && grep -qx reset <(sed 1d "$room/log")
 }
 
-# Five hosts like the drivers of known systems, each six times, which begin anew in the middle. In 64 passes they copy
-# 16 groups of blocks by three commands.
-drivers_are_right() { logs_its_wire drivers && logged_is_right $((5 * 6 * 64 * 16 * 3)) $((5 * 6 * 2)); }
+# Nine hosts, most like the drivers of known systems, each six times, which begin anew amid it. In 24 passes they
+# copy 16 groups of blocks by three commands.
+drivers_are_right() { logs_its_wire drivers && logged_is_right $((9 * 6 * 24 * 16 * 3)) $((9 * 6 * 2)); }

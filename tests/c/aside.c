@@ -122,7 +122,8 @@ static void turn(void)
     }
 }
 
-/* Four blocks take five turns each, and a poll is answered in each turn, before a block is moved. */
+/* Four blocks take five turns each, and a poll is answered in each turn: after the block, if one is moved, since a port that heard a
+ * poll wants a block before the next one. */
 static void turns_go_on(uint8_t opcode)
 {
     uint8_t packet[68];
@@ -130,11 +131,10 @@ static void turns_go_on(uint8_t opcode)
     now = ready = 0;
     send_command(0, 2, opcode, 4 * MSCP_BLOCK, 7, DATA);
     for (; now < 20; now++) {
-        uint32_t moved = machine.transfers;
         send_command(0, 100, MSCP_GET_COMMAND_STATUS, 2, 0, 0);
         turn();
         is("the answer", take(packet) && packet[12] == 0x82, 1);
-        is("its figure", number(packet + 20, 4), moved == 0 ? BUDGET + 4 : 4 - moved);
+        is("its figure", number(packet + 20, 4), machine.transfers == 0 ? BUDGET + 4 : 4 - machine.transfers);
         is("blocks that were moved", machine.transfers, (int64_t)now / 5);
     }
     turn();

@@ -1,226 +1,12 @@
-/* Hosts that drive a port of mscp.h as the drivers of known systems do. Each initialises it, finds its units, copies and
- * compares two megabytes, loses a volume and gets one back, and begins anew in the middle; with the oldest command first and
- * with the sweep, and with much and with little done for the disk between two looks of the host.
- *
- * The rows were written from memory, with no source at hand: `known` says what is sure of each. */
-#include "machine.h"
+/* Hosts that drive a port of mscp.h as the drivers of known systems do, which systems.h tells. Each initialises it,
+ * finds its units, copies and compares 24 times 64 blocks, loses a volume and gets one back, and begins anew amid that.
+ * Then it dismounts, mounts with write protection, rests, and falls silent. So with the oldest command first and with
+ * the sweep, and with much and with little done for the disk between two looks of the host. */
+#include "driving.h"
 
-enum { REQUESTS = 12, EACH = 4, GROUPS = BLOCKS / EACH, PASSES = 64, MOST_TURNS = 1 << 20, BUFFERS = 0x4000 };
-enum { ACTIONS_A_SECOND = 400 }; /* if there are so many: some blocks are among them */
-
-struct driver {
-    const char *name, *known;
-    const struct mscp_hardware *hardware;
-    unsigned responses, commands; /* the rings have two to this power of slots */
-    uint16_t vector;              /* it wants interrupts, with this vector in its units of 4, or none with 0 */
-    uint32_t base;                /* of its rings */
-    unsigned requests;            /* at most so many are outstanding */
-    bool numbers_rise;            /* a number isn't used again; else it is that of the request's packet */
-    bool asks_for_units;          /* by Next Unit; else it brings each unit online that it knows */
-    bool wants_attention;         /* it waits for an attention message; else it tries ONLINE each second */
-    bool polls;                   /* its oldest command, each second, and its figure has to fall */
-    bool onlines_are_1;           /* each ONLINE has the number 1, whatever else has it */
-};
-
-static const struct driver DRIVERS[] = {
-    {"VMS", "the manual, Host Command Timeouts: it polls its oldest command, and resets; the size of its rings is a guess",
-     &RQDX3, 4, 4, 0x2B, 0x2000, REQUESTS, true, true, true, true, false},
-    {"4.3BSD, Ultrix", "rings of 8, a number for each packet, no polls: likely", &UDA50, 3, 3, 0x1B, 0x1000, 8, false, false,
-     true, false, false},
-    {"NetBSD", "each ONLINE has the number 1, and units are found by Next Unit: likely; its rings are a guess", &RQDX3, 3, 3,
-     0x1B, 0x1800, 8, false, true, true, false, true},
-    {"2.11BSD", "a bus of 18 bits and small rings: likely; how it finds a volume again is a guess", &UDA50, 1, 2, 0x1B,
-     0x0800, 2, false, false, false, false, false},
-    {"RT-11", "one request at a time: likely; that it wants no interrupts is a guess", &RQDX3, 0, 0, 0, 0x0400, 1, false,
-     false, false, false, false},
-};
-
-enum stage { READ, WRITE, COMPARE, COPIED };
-static const uint8_t OPCODES[] = {MSCP_READ, MSCP_WRITE, MSCP_COMPARE_HOST_DATA};
-static const uint16_t UNIT_OF[] = {0, 2, 2};
-
-/* A copy of some blocks from unit 0 to unit 2, on its way. */
-struct request {
-    enum stage stage;
-    bool is_out;
-    uint32_t group, reference, sent; /* its blocks, its number, and which command of all it was */
-    uint32_t figure;                 /* that was told last, or UINT32_MAX */
-};
-
-static struct {
-    const struct driver *is;
-    struct request requests[REQUESTS];
-    unsigned next_group, copied; /* of this pass */
-    bool is_online[UNITS], wants_online[UNITS], is_asked[UNITS];
-    bool is_polling, began_anew;
-    unsigned gone; /* so many turns ago the volume went, if it did */
-    uint16_t next_unit; /* that it asked for */
-    uint32_t commands;  /* that it sent */
-    uint32_t last;      /* number that it gave */
-} driver;
-
-/* A slot is free, and a credit, and one more: the last is for commands that are answered when they arrive. */
-static bool may_send(void)
-{
-    uint32_t slot = slot_of(false, host.sent % host.commands);
-    return host.credits + 1 >= host.sent + 2 && number(machine.memory + slot, 4) < 0x80000000u;
-}
-
-/* ONLINEs, the GET UNIT STATUS and the poll have numbers of their own. */
-enum { ONLINE = 0x1000, NEXT_UNIT = 0x2000, POLL = 0x3000 };
-
-static void send_text(uint32_t reference, uint8_t opcode, uint16_t unit, uint16_t modifiers, uint32_t first)
-{
-    uint8_t text[32] = {0};
-    put(text, 4, reference);
-    put(text + 4, 2, unit);
-    text[8] = opcode;
-    put(text + 10, 2, modifiers);
-    put(text + 12, 4, first);
-    send(text, 32);
-    driver.commands++;
-}
-
-/* Asks for the next unit from this number on. */
-static void ask_for_unit(uint16_t unit)
-{
-    driver.next_unit = unit;
-    send_text(NEXT_UNIT, MSCP_GET_UNIT_STATUS, unit, 1, 0);
-}
-
-/* The port is initialised, and told of its host's flags. Its units are found. */
-static void begin(void)
-{
-    uint8_t text[32] = {0};
-    const struct driver *is_it = driver.is;
-    initialise(is_it->base, is_it->responses, is_it->commands, is_it->vector ? 0x80 | is_it->vector : 0);
-    host.flag = is_it->vector ? 1u << 30 : 0;
-    text[8] = MSCP_SET_CONTROLLER_CHARACTERISTICS;
-    text[14] = is_it->wants_attention ? 0x80 : 0;
-    send(text, 32);
-    expect(0, 0x84, 0);
-    for (unsigned u = 0; u < UNITS; u++)
-        driver.is_online[u] = driver.is_asked[u] = false, driver.wants_online[u] = !is_it->asks_for_units;
-    for (unsigned i = 0; i < REQUESTS; i++)
-        driver.requests[i].is_out = false;
-    driver.is_polling = false;
-    if (is_it->asks_for_units)
-        ask_for_unit(0);
-}
-
-static void send_request(struct request *it)
-{
-    unsigned i = (unsigned)(it - driver.requests);
-    it->reference = driver.is->numbers_rise ? 0x10000 + ++driver.last : i + 1;
-    it->is_out = true;
-    it->figure = UINT32_MAX;
-    it->sent = driver.commands++;
-    send_command(UNIT_OF[it->stage], it->reference, OPCODES[it->stage], EACH * MSCP_BLOCK, it->group * EACH,
-                 BUFFERS + i * EACH * MSCP_BLOCK);
-}
-
-static void send_what_can_be(void)
-{
-    for (unsigned u = 0; u < UNITS; u++)
-        if (driver.wants_online[u] && !driver.is_asked[u] && may_send()) {
-            driver.is_asked[u] = true;
-            send_text(driver.is->onlines_are_1 ? 1 : ONLINE + u, MSCP_ONLINE, (uint16_t)u, 0, 0);
-        }
-    for (unsigned i = 0; i < driver.is->requests; i++) {
-        struct request *it = &driver.requests[i];
-        if (!it->is_out && it->stage == COPIED && driver.next_group < GROUPS)
-            it->stage = READ, it->group = driver.next_group++;
-        if (!it->is_out && it->stage != COPIED && driver.is_online[UNIT_OF[it->stage]] && may_send())
-            send_request(it);
-    }
-}
-
-static struct request *oldest(void)
-{
-    struct request *found = NULL;
-    for (unsigned i = 0; i < driver.is->requests; i++) {
-        struct request *it = &driver.requests[i];
-        if (it->is_out && (found == NULL || it->sent < found->sent))
-            found = it;
-    }
-    return found;
-}
-
-static void second_goes_by(void)
-{
-    struct request *it = oldest();
-    is("a tick", mscp_port_tick(machine.port), MSCP_DONE);
-    if (driver.is->polls && it != NULL && !driver.is_polling && may_send()) {
-        driver.is_polling = true;
-        send_text(POLL, MSCP_GET_COMMAND_STATUS, UNIT_OF[it->stage], 0, it->reference);
-    }
-    if (!driver.is->wants_attention)
-        for (unsigned u = 0; u < UNITS; u += 2)
-            driver.wants_online[u] = !driver.is_online[u];
-}
-
-/* ---- what comes */
-
-static void unit_is_gone(unsigned unit)
-{
-    driver.is_online[unit] = false;
-}
-
-static void poll_ended(const uint8_t *text)
-{
-    driver.is_polling = false;
-    for (unsigned i = 0; i < driver.is->requests; i++) {
-        struct request *it = &driver.requests[i];
-        if (it->is_out && it->reference == number(text + 12, 4)) {
-            is("its figure falls", number(text + 16, 4) < it->figure && number(text + 16, 4) > 0, 1);
-            it->figure = number(text + 16, 4);
-        }
-    }
-}
-
-static void unit_told(const uint8_t *text)
-{
-    uint16_t unit = (uint16_t)number(text + 4, 2), status = (uint16_t)number(text + 10, 2);
-    if (unit < UNITS && (status & 31) == 4)
-        driver.wants_online[unit] = true;
-    if (unit >= driver.next_unit) /* behind the last it tells of unit 0 */
-        ask_for_unit((uint16_t)(unit + 1));
-}
-
-static void request_ended(struct request *it, uint8_t code, uint16_t status)
-{
-    is("its code", code, OPCODES[it->stage] | 0x80);
-    it->is_out = false;
-    if ((status & 31) == 3 || (status & 31) == 4) {
-        unit_is_gone(UNIT_OF[it->stage]);
-        return;
-    }
-    is("its status", status, 0);
-    it->stage++;
-    if (it->stage == COPIED)
-        driver.copied++;
-}
-
-static void hear(const uint8_t *text)
-{
-    uint32_t reference = number(text, 4);
-    uint16_t unit = (uint16_t)number(text + 4, 2), status = (uint16_t)number(text + 10, 2);
-    switch (text[8]) {
-    case 0x40: driver.wants_online[unit] = true; return;
-    case 0x82: poll_ended(text); return;
-    case 0x83: unit_told(text); return;
-    case 0x89:
-        driver.is_online[unit] = (status & 31) == 0;
-        driver.wants_online[unit] = driver.is_asked[unit] = false;
-        return;
-    }
-    for (unsigned i = 0; i < driver.is->requests; i++)
-        if (driver.requests[i].is_out && driver.requests[i].reference == reference) {
-            request_ended(&driver.requests[i], text[8], status);
-            return;
-        }
-    is("an end of nothing", reference, 0);
-}
+enum { PASSES = 24, MOST_TURNS = 1 << 16 };
+enum { ACTIONS_A_SECOND = 12 }; /* if there are so many: few, so that a command is polled more than once */
+enum { SECONDS_OF_A_BOOT = 60, REST = 200 };
 
 /* ---- a pass, and what happens amid it */
 
@@ -233,7 +19,7 @@ static void begin_pass(unsigned pass)
     driver.next_group = driver.copied = 0;
 }
 
-/* In the third pass the volume of unit 2 goes, and comes back some turns later, and in the sixth the host begins anew. */
+/* In the third pass the volume of unit 2 goes, and comes back some turns later; in the sixth the host begins anew. */
 static void trouble(unsigned pass)
 {
     if (driver.copied >= GROUPS / 4 && pass == 2 && driver.gone == 0) {
@@ -247,19 +33,14 @@ static void trouble(unsigned pass)
     }
 }
 
-static bool copies(unsigned pass, unsigned most)
+static bool copies(unsigned pass)
 {
-    uint8_t packet[68];
     unsigned actions = 0, done;
     begin_pass(pass);
-    for (unsigned turn = 0; turn < MOST_TURNS; turn++) {
+    for (unsigned turns = 0; turns < MOST_TURNS && mscp_port_read_sa(machine.port) == 0; turns++) {
         trouble(pass);
-        send_what_can_be();
-        mscp_port_look_again(machine.port);
-        actions += done = run(most);
-        while (take(packet))
-            hear(packet + 4);
-        if (actions >= ACTIONS_A_SECOND || done < most) {
+        actions += done = turn();
+        if (actions >= ACTIONS_A_SECOND || done < driver.most) {
             actions = 0;
             second_goes_by();
         }
@@ -269,24 +50,131 @@ static bool copies(unsigned pass, unsigned most)
     return false;
 }
 
+/* ---- one command after another */
+
+/* Sends a command to unit 2, and waits for its end. Its status. */
+static uint16_t ask(uint8_t opcode, uint16_t modifiers, uint32_t first)
+{
+    unsigned turns = 0;
+    for (; turns < MOST_TURNS && !may_send(); turns++)
+        turn();
+    driver.is_answered = false;
+    send_text(ASKED, opcode, 2, modifiers, first, 0);
+    for (; turns < MOST_TURNS && !driver.is_answered; turns++)
+        turn();
+    is("it is answered", driver.is_answered, 1);
+    is("its code", driver.answer[8], opcode | 0x80);
+    return (uint16_t)number(driver.answer + 10, 2);
+}
+
+/* Whether the first block of unit 2 is what the memory at 0 has. */
+static bool is_same(void)
+{
+    return memcmp(machine.disks[2][0], machine.memory, MSCP_BLOCK) == 0;
+}
+
+enum { SET_PROTECTION = 4, PROTECTED = 0x1000 };
+
+/* The unit is online, and its host protects it or doesn't. Its end says so, and whether it can be written. */
+static void mount(uint16_t modifiers, uint16_t flags)
+{
+    uint16_t refused = flags & PROTECTED ? 0x1006 : 0;
+    is("ONLINE", ask(MSCP_ONLINE, modifiers, (uint32_t)flags << 16), 0);
+    is("its flag", number(driver.answer + 14, 2) & PROTECTED, flags);
+    memset(machine.memory, flags ? 0x55 : 0x66, MSCP_BLOCK);
+    is("WRITE", ask(MSCP_WRITE, 0, MSCP_BLOCK), refused);
+    is("what it wrote", number(driver.answer + 12, 4), refused ? 0 : MSCP_BLOCK);
+    is("it is there", is_same(), refused == 0);
+    is("READ", ask(MSCP_READ, 0, MSCP_BLOCK), 0);
+    is("it is read", is_same(), 1);
+    is("ERASE", ask(MSCP_ERASE, 0, MSCP_BLOCK), refused);
+    is("it is there still", is_same(), refused != 0);
+}
+
+static void dismount(void)
+{
+    is("AVAILABLE", ask(MSCP_AVAILABLE, 0, 0), 0);
+    is("READ of it", ask(MSCP_READ, 0, MSCP_BLOCK), 4);
+}
+
+static void dismounts(void)
+{
+    dismount();
+    mount(SET_PROTECTION, PROTECTED);
+    dismount();
+    mount(0, 0);
+}
+
+/* ---- seconds */
+
+/* Of silence that a host may have: none is too many with 0. */
+static unsigned seconds(void)
+{
+    return driver.is->is_boot ? SECONDS_OF_A_BOOT : driver.is->timeout;
+}
+
+static void is_alive(void)
+{
+    is("SA of a host that is alive", mscp_port_read_sa(machine.port), 0);
+}
+
+/* Nothing is to be done for a while, and the host says no more than its row has it say. */
+static void rests(void)
+{
+    for (unsigned i = 0; i < REST; i++) {
+        second_goes_by();
+        turn();
+        is_alive();
+    }
+}
+
+/* The host says nothing at all any more: it is alive for its seconds, and dead one later. */
+static void falls_silent(void)
+{
+    is("AVAILABLE", ask(MSCP_AVAILABLE, 0, 0), 0);
+    for (unsigned i = 0; i < (seconds() ? seconds() : REST); i++) {
+        is("a tick", mscp_port_tick(machine.port), MSCP_DONE);
+        run(MOST_ACTIONS);
+        is_alive();
+    }
+    is("the last tick", mscp_port_tick(machine.port), MSCP_DONE);
+    is("SA", mscp_port_read_sa(machine.port), seconds() ? 0x8009 : 0);
+}
+
+/* ---- a row */
+
+static bool copies_all(void)
+{
+    for (unsigned pass = 0; pass < PASSES; pass++)
+        if (!copies(pass)) {
+            printf("%s (%s), %u actions a turn, pass %u: not copied\n", driver.is->name, driver.is->known, driver.most,
+                   pass);
+            wrong = 1;
+            return false;
+        }
+    return true;
+}
+
 static void drive(const struct driver *it, unsigned most)
 {
     memset(&driver, 0, sizeof driver);
     driver.is = it;
+    driver.most = most;
     for (unsigned i = 0; i < REQUESTS; i++)
         driver.requests[i].stage = COPIED;
     build(it->hardware);
     begin();
-    for (unsigned pass = 0; pass < PASSES; pass++)
-        if (!copies(pass, most)) {
-            printf("%s (%s), %u actions a turn, pass %u: not copied\n", it->name, it->known, most, pass);
-            wrong = 1;
-            return;
-        }
-    is("SA", mscp_port_read_sa(machine.port), 0);
+    if (!copies_all())
+        return;
     is("the trouble", driver.gone > 20 && driver.began_anew, 1);
     is("interrupts", machine.interrupts > 0, it->vector != 0);
     is("its vector", machine.vector, 4 * it->vector);
+    is("paths", driver.paths > 0, it->asks_for_paths);
+    is("figures that fell", driver.falls > 0, it->polls && most < MOST_ACTIONS);
+    dismounts();
+    if (it->stays_alive || seconds() == 0)
+        rests();
+    falls_silent();
 }
 
 int main(void)

@@ -231,23 +231,52 @@ static inline void offer(uint32_t slot)
     put(machine.memory + slot_of(true, slot), 4, 0x80000000u | host.flag | (packet_of(true, slot) + 4));
 }
 
-/* Initialises the port with rings of so many slots, 1 to 128, and gives it the slots for ends. */
-static inline void initialise(uint32_t base, unsigned responses, unsigned commands, uint16_t bits)
+/* What a host asks for as it initialises its port: rings at this base of two to these powers of slots, the low byte of
+ * the first word, purge interrupts, a purge and poll test, the word of the last step, and bit 30 of its slots, if it
+ * wants to hear of them. */
+struct asked {
+    uint32_t base;
+    unsigned responses, commands;
+    uint16_t bits;
+    bool purges, tests;
+    uint16_t go;
+    uint32_t flag;
+};
+
+/* SA shows 0: the host purges, which the word 0 says, and polls. */
+static inline void purge_and_poll(void)
 {
-    uint16_t first = (uint16_t)(0x8000 | commands << 11 | responses << 8 | bits);
+    answer(0, 0);
+    is("IP is read", mscp_port_read_ip(machine.port), MSCP_DONE);
+    run(MOST_ACTIONS);
+}
+
+/* Initialises the port with rings of 1 to 128 slots, and gives it the slots for ends. */
+static inline void initialise_as(const struct asked *it)
+{
+    uint16_t first = (uint16_t)(0x8000 | it->commands << 11 | it->responses << 8 | it->bits);
     memset(&host, 0, sizeof host);
-    host.base = base;
-    host.responses = 1u << responses;
-    host.commands = 1u << commands;
+    host.base = it->base;
+    host.flag = it->flag;
+    host.responses = 1u << it->responses;
+    host.commands = 1u << it->commands;
     is("IP is written", mscp_port_write_ip(machine.port), MSCP_DONE);
     wire_reset();
     answer(machine.hardware->bus == MSCP_BUS_Q ? 0x0B40 : 0x0940, first);
-    answer((uint16_t)(0x1000 | first >> 8), (uint16_t)base);
-    answer((uint16_t)(0x2000 | (first & 0xFF)), (uint16_t)(base >> 16));
-    answer((uint16_t)(0x4000 | machine.hardware->model << 4 | machine.hardware->software), 1);
+    answer((uint16_t)(0x1000 | first >> 8), (uint16_t)(it->base | it->purges));
+    answer((uint16_t)(0x2000 | (first & 0xFF)), (uint16_t)(it->base >> 16 | (it->tests ? 0x8000 : 0)));
+    if (it->tests)
+        purge_and_poll();
+    answer((uint16_t)(0x4000 | machine.hardware->model << 4 | machine.hardware->software), it->go);
     is("SA once it is up", mscp_port_read_sa(machine.port), 0);
     for (uint32_t slot = 0; slot < host.responses; slot++)
         offer(slot);
+}
+
+static inline void initialise(uint32_t base, unsigned responses, unsigned commands, uint16_t bits)
+{
+    const struct asked asked = {.base = base, .responses = responses, .commands = commands, .bits = bits, .go = 1};
+    initialise_as(&asked);
 }
 
 /* Puts a message of so many bytes into the next slot for commands, and reads IP. */

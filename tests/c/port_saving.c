@@ -58,18 +58,18 @@ static void goes_on(void)
 
 /* ---- the bytes of one port, written by hand */
 
-enum { LENGTH = 425 + 20 + 48 + 34 * UNITS + 41 };
+enum { KEPT = 74 + 16 * 18, CONTROLLER = KEPT + 20, LENGTH = CONTROLLER + 48 + 34 * UNITS + 41 };
 
 /* Its head. */
-static const uint8_t HEAD[73] = {
+static const uint8_t HEAD[74] = {
     /* "MSCP", version 2, and so many bytes */
     0x4D, 0x53, 0x43, 0x50, 2, 0, 0, 0, LENGTH & 255, LENGTH >> 8, 0, 0,
     /* the Q-bus, and model, software and hardware of an RQDX3 */
     1, 19, 3, 1,
     /* 15 credits beside one, of which 1 is untold; a slot of responses and two of commands were given back */
     15, 1, 1, 2,
-    /* no slot is looked for, no command waits for a credit, and the ring of responses isn't full */
-    0, 0, 0,
+    /* no slot is looked for, no command waits for a credit, the ring of responses isn't full, and no poll was heard */
+    0, 0, 0, 0,
     /* no controller flags, 60 seconds, and 60 left */
     0, 0, 60, 0, 60, 0,
     /* the host's first two words */
@@ -80,13 +80,13 @@ static const uint8_t HEAD[73] = {
     1, 0x84, 0x0E, 0, 0, 1, 0, 0, 0, 1, 0, 0, 0,
     /* a transfer: of which command and which block is the controller's */
     12, 0, 0, 0, 0, 0, 0, 0, 0, 0, 0, 0, 0, 0, 0, 0, 0,
-    /* nothing goes out, something is kept of one command, and no end of an ONLINE or a SET UNIT CHARACTERISTICS waits */
+    /* nothing goes out, something is kept of one command, and no end waits */
     0, 0, 1, 0,
 };
 
-/* The volumes of units 0 and 1: one that is there, is no news, can't be taken out, and changed once, of 311,200 blocks, on media of
- * an RD54; and none. */
-static const uint8_t VOLUMES[44] = {1, 0, 0, 0, 0, 1, 0, 0, 0, 0xA0, 0xBF, 4, 0, 0x36, 0x40, 0x64, 0x25, 1, 1};
+/* The volumes of units 0 and 1: one that is there, is no news, can't be taken out, and with which the unit is online; it changed
+ * once, has 311,200 blocks, and media of an RD54; and none. */
+static const uint8_t VOLUMES[36] = {1, 0, 0, 0, 0, 1, 1, 0, 0, 0, 0xA0, 0xBF, 4, 0, 0x36, 0x40, 0x64, 0x25};
 
 /* What is kept of the READ: its number, address and count, no modifiers, no flags, and the volume that changed once. */
 static const uint8_t BUFFER[20] = {2, 0, 0, 0, 0, 4, 0, 0, 0, 8, 0, 0, 0, 0, 0, 0, 1, 0, 0, 0};
@@ -117,9 +117,9 @@ static void bytes_are_these(void)
     is("the first", is_same_unit(told, &first), 1);
     is("its longest and its credits", limits.longest == 65536 && limits.credits == HOST_CREDITS + 1, 1);
     is("head", memcmp(bytes, HEAD, sizeof HEAD), 0);
-    is("volumes", memcmp(bytes + 73, VOLUMES, sizeof VOLUMES), 0);
-    is("kept of the READ", memcmp(bytes + 425, BUFFER, sizeof BUFFER), 0);
-    is("a controller", memcmp(bytes + 445, "MSCQ", 4), 0);
+    is("volumes", memcmp(bytes + sizeof HEAD, VOLUMES, sizeof VOLUMES), 0);
+    is("kept of the READ", memcmp(bytes + KEPT, BUFFER, sizeof BUFFER), 0);
+    is("a controller", memcmp(bytes + CONTROLLER, "MSCQ", 4), 0);
 }
 
 /* What comes of so many of the bytes: a port that is saved as they are, and to which what comes then does no harm; or a
@@ -154,22 +154,24 @@ static void edits(void)
         int32_t status;
     } cases[] = {
         /* a text of 49 bytes, 65 commands, 65 ends, and more of each than there are bytes */
-        {{{8, 14}}, MSCP_SAVED_LENGTH}, {{{70, 49}}, MSCP_SAVED_LENGTH}, {{{71, 65}}, MSCP_SAVED_LENGTH},
-        {{{71, 13}}, MSCP_SAVED_LENGTH}, {{{72, 65}}, MSCP_SAVED_LENGTH}, {{{72, 20}}, MSCP_SAVED_LENGTH}, {{{3, 0}}, MSCP_SAVED_MAGIC}, {{{4, 1}}, MSCP_SAVED_VERSION},
+        {{{8, 14}}, MSCP_SAVED_LENGTH}, {{{71, 49}}, MSCP_SAVED_LENGTH}, {{{72, 65}}, MSCP_SAVED_LENGTH},
+        {{{72, 13}}, MSCP_SAVED_LENGTH}, {{{73, 65}}, MSCP_SAVED_LENGTH}, {{{73, 20}}, MSCP_SAVED_LENGTH},
+        {{{3, 0}}, MSCP_SAVED_MAGIC}, {{{4, 1}}, MSCP_SAVED_VERSION},
         /* a controller that begins elsewhere, isn't one, or has 65 + 1 credits or another picker */
-        {{{71, 0}}, MSCP_SAVED_LENGTH}, {{{445, 0}}, MSCP_SAVED_MAGIC}, {{{457, 65}}, MSCP_SAVED_LIMITS},
-        {{{475, 2}}, MSCP_SAVED_PICKER},
+        {{{72, 0}}, MSCP_SAVED_LENGTH}, {{{CONTROLLER, 0}}, MSCP_SAVED_MAGIC}, {{{CONTROLLER + 12, 65}}, MSCP_SAVED_LIMITS},
+        {{{CONTROLLER + 30, 2}}, MSCP_SAVED_PICKER},
         /* a text of no bytes, of 11, 12, 64 and 65 */
-        {{{52, 5}}, MSCP_SAVED_SIZE}, {{{52, 5}, {58, 11}}, MSCP_SAVED_SIZE}, {{{52, 5}, {58, 12}}, MSCP_DONE},
-        {{{52, 5}, {58, 64}}, MSCP_DONE}, {{{52, 5}, {58, 65}}, MSCP_SAVED_SIZE},
+        {{{53, 5}}, MSCP_SAVED_SIZE}, {{{53, 5}, {59, 11}}, MSCP_SAVED_SIZE}, {{{53, 5}, {59, 12}}, MSCP_DONE},
+        {{{53, 5}, {59, 64}}, MSCP_DONE}, {{{53, 5}, {59, 65}}, MSCP_SAVED_SIZE},
         /* 2 bytes of the area that are clear, 64, 1,024 and 1,088 */
-        {{{52, 2}, {54, 2}}, MSCP_SAVED_SIZE}, {{{52, 2}, {54, 64}}, MSCP_DONE}, {{{52, 2}, {55, 4}}, MSCP_DONE},
-        {{{52, 2}, {55, 4}, {54, 64}}, MSCP_SAVED_SIZE},
-        /* no bus, no flag, no stage, a word where there is none, no rings, no task, a text where nothing goes out, no flag */
-        {{{12, 3}}, MSCP_SAVED_FORM}, {{{20, 2}}, MSCP_SAVED_FORM}, {{{33, 10}}, MSCP_SAVED_FORM},
-        {{{34, 1}}, MSCP_SAVED_FORM}, {{{37, 1}}, MSCP_SAVED_FORM}, {{{44, 129}}, MSCP_SAVED_FORM},
-        {{{48, 0}}, MSCP_SAVED_FORM}, {{{52, 13}}, MSCP_SAVED_FORM}, {{{69, 4}}, MSCP_SAVED_FORM},
-        {{{113, 1}}, MSCP_SAVED_FORM},
+        {{{53, 2}, {55, 2}}, MSCP_SAVED_SIZE}, {{{53, 2}, {55, 64}}, MSCP_DONE}, {{{53, 2}, {56, 4}}, MSCP_DONE},
+        {{{53, 2}, {56, 4}, {55, 64}}, MSCP_SAVED_SIZE},
+        /* no bus, no flags, no stage, a word where there is none, no rings, no task, a text where nothing goes out, no flag of a
+         * volume's */
+        {{{12, 3}}, MSCP_SAVED_FORM}, {{{20, 2}}, MSCP_SAVED_FORM}, {{{23, 2}}, MSCP_SAVED_FORM}, {{{34, 10}}, MSCP_SAVED_FORM},
+        {{{35, 1}}, MSCP_SAVED_FORM}, {{{38, 1}}, MSCP_SAVED_FORM}, {{{45, 129}}, MSCP_SAVED_FORM},
+        {{{49, 0}}, MSCP_SAVED_FORM}, {{{53, 13}}, MSCP_SAVED_FORM}, {{{70, 4}}, MSCP_SAVED_FORM},
+        {{{74 + 18 + 1, 2}}, MSCP_SAVED_FORM},
     };
     for (size_t i = 0; i < COUNT(cases); i++) {
         for (unsigned k = 0; k < 3 && cases[i].edits[k].place != 0; k++)
@@ -178,7 +180,7 @@ static void edits(void)
         save_in_the_middle();
     }
     /* a transfer in hand says no connection, number, block, count of steps, unit or kind: these are the controller's */
-    for (size_t place = 53; place < 69; place++) {
+    for (size_t place = 54; place < 70; place++) {
         bytes[place] = 1;
         is("a transfer's block", restored(LENGTH), MSCP_SAVED_FORM);
         bytes[place] = 0;
@@ -190,7 +192,7 @@ static void edits(void)
 static void nothing_is_begun(void)
 {
     struct mscp_action action;
-    bytes[488] = bytes[489] = 0;
+    bytes[CONTROLLER + 43] = bytes[CONTROLLER + 44] = 0;
     is("restored", restored(LENGTH), MSCP_DONE);
     machine.port = mscp_port_in_memory(machine.rooms[0], sizeof machine.rooms[0]);
     is("restore", mscp_port_restore(machine.port, bytes, LENGTH), MSCP_DONE);
@@ -221,7 +223,7 @@ static void flipped_bits(void)
  * the port keeps of the host's command is the host's alone. */
 static void other_connection(void)
 {
-    enum { CONTROLLER = 425, RECORD = CONTROLLER + 48 + 34 * UNITS, ALL = RECORD + 41 };
+    enum { BEGIN = KEPT, RECORD = BEGIN + 48 + 34 * UNITS, ALL = RECORD + 41 };
     static uint8_t two[ALL];
     size_t length = 0;
     build(&RQDX3);
@@ -231,9 +233,9 @@ static void other_connection(void)
     is("save", mscp_port_save(machine.port, two, sizeof two, &length), MSCP_DONE);
     is("without it", (int64_t)length, RECORD);
     put(two + 8, 4, ALL);
-    put(two + CONTROLLER + 8, 4, ALL - CONTROLLER);
-    two[CONTROLLER + 16] = 2;
-    two[CONTROLLER + 40] = 1;
+    put(two + BEGIN + 8, 4, ALL - BEGIN);
+    two[BEGIN + 16] = 2;
+    two[BEGIN + 40] = 1;
     two[RECORD] = 7;
     two[RECORD + 8] = MSCP_ONLINE;
     two[RECORD + 40] = 2;
