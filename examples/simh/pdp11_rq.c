@@ -1,12 +1,16 @@
-/* pdp11_rq.c: the disks RQ, RQB, RQC and RQD of SIMH 3.8.1's PDP-11, over the proved port of mscp.h.
+/* pdp11_rq.c: the disks RQ, RQB, RQC and RQD of SIMH 3.8.1's PDP-11 and VAX, over the proved port of mscp.h.
  *
- *     examples/simh/build SOURCE FOLDER      (SOURCE is SIMH's tarball, or a folder with what is in it)
+ *     examples/simh/build SOURCE FOLDER [vax]      (SOURCE is SIMH's tarball, or a folder with what is in it)
  *
  * It takes the place of SIMH's own file of this name, and has nothing of it. docs/PORT.md says how to use it. */
 #include "drives.h"
 #include "port.h"
 #include "rq.h"
+#ifdef VM_VAX
+#include "vax_defs.h"
+#else
 #include "pdp11_defs.h"
+#endif
 #include <unistd.h>
 
 enum { CONTROLLERS = 4, DRIVES = 4, WORK = DRIVES, SECOND, UNITS, RD54 = 6, RA82 = 12, RAUSER = 15 };
@@ -23,11 +27,8 @@ struct controller {
     uint32 shown, build;
 };
 
-extern uint16 *M;
 extern int32 int_req[IPL_HLVL];
-extern int32 cpu_opt, cpu_bme, sim_switches, tmr_poll, clk_tps, sim_end;
-extern t_addr cpu_memsize;
-extern uint32 Map_Addr (uint32 address);
+extern int32 cpu_opt, sim_switches, tmr_poll, clk_tps;
 extern DEVICE rq_dev, rqb_dev, rqc_dev, rqd_dev;
 
 static UNIT units[CONTROLLERS][UNITS];
@@ -39,47 +40,18 @@ static int32 actions = 50, slack = 200;
 
 /* ---- what the port wants of the machine */
 
-/* Where these bytes of the bus lie in SIMH's memory, or NULL where they don't lie there in one piece: the Unibus map may move
- * them page by page, and a host of the other order of bytes has each word swapped. */
-static uint8_t *in_memory (uint32_t address, uint32_t count)
-{
-    if (!sim_end || (cpu_bme && UBM_GETOFF (address) + count > UBM_PAGSIZE))
-        return NULL;
-    if (cpu_bme)
-        address = Map_Addr (address);
-    return address + count <= cpu_memsize ? (uint8_t *)M + address : NULL;
-}
-
-static enum mscp_outcome read_memory (void *machine, uint32_t address, uint8_t *bytes, uint32_t count)
-{
-    const uint8_t *from = in_memory (address, count);
-    if (from == NULL)
-        return Map_ReadB (address, count, bytes) == 0 ? MSCP_OUTCOME_DONE : MSCP_OUTCOME_MISSING;
-    memcpy (bytes, from, count);
-    return MSCP_OUTCOME_DONE;
-}
-
-static enum mscp_outcome write_memory (void *machine, uint32_t address, const uint8_t *bytes, uint32_t count)
-{
-    uint8_t *to = in_memory (address, count);
-    if (to == NULL)
-        return Map_WriteB (address, count, (uint8 *)bytes) == 0 ? MSCP_OUTCOME_DONE : MSCP_OUTCOME_MISSING;
-    memcpy (to, bytes, count);
-    return MSCP_OUTCOME_DONE;
-}
-
 static void interrupt (void *machine, uint16_t vector)
 {
     struct controller *it = machine;
     it->is_posted = TRUE;
-    it->vector = vector;
+    it->vector = vector + VEC_Q;
     SET_INT (RQ);
 }
 
-/* The units of RQ have the numbers 0 to 3, those of RQB 4 to 7, and so on, as with SIMH's own disks. */
+/* As with SIMH's own disks the units of a PDP-11's RQ have the numbers 0 to 3, those of RQB 4 to 7, and so on. */
 static uint16_t first_number (const struct controller *it)
 {
-    return (uint16_t)((it - controllers) * DRIVES);
+    return RQ_NUMBERS_RISE ? (uint16_t)((it - controllers) * DRIVES) : 0;
 }
 
 static UNIT *unit_of (const struct controller *it, uint16_t number)
@@ -270,7 +242,7 @@ static t_stat reset (DEVICE *device)
 {
     static const struct mscp_hardware uda50 = {MSCP_BUS_UNI, 6, 3, 1}, rqdx3 = {MSCP_BUS_Q, 19, 3, 1};
     struct controller *it = controller_of (device->units);
-    const struct port_bus bus = {it, read_memory, write_memory, interrupt, read_block, write_block, read_run, write_run};
+    const struct port_bus bus = {it, rq_read_memory, rq_write_memory, interrupt, read_block, write_block, read_run, write_run};
     struct mscp_unit told[DRIVES];
     size_t count = 0;
     for (uint16_t i = 0; i < DRIVES; i++) {
@@ -372,8 +344,8 @@ static t_stat lock (UNIT *unit, int32 value, char *text, void *nothing)
 
 static t_stat boot (int32 number, DEVICE *device)
 {
-    rq_boot (number_of (controller_of (device->units), device->units + number), (uint16_t)((DIB *)device->ctxt)->ba);
-    return SCPE_OK;
+    uint16_t unit = number_of (controller_of (device->units), device->units + number);
+    return rq_boot (unit, (uint16_t)((DIB *)device->ctxt)->ba) ? SCPE_OK : SCPE_NOFNC;
 }
 
 /* ---- SIMH's tables */

@@ -1,12 +1,45 @@
-/* rq_boot.c: BOOT of a PDP-11, the words of boot.s. They read block 0 of the unit to address 0 and jump there, with the
- * unit in R0 and the address of IP in R1. */
+/* rq_pdp11.c: what the disks of pdp11_rq.c want of a PDP-11, its memory and BOOT. */
 #include "rq.h"
 #include "pdp11_defs.h"
 
-enum { BOOT = 016000, BOOT_ENTRY = BOOT + 2, BOOT_UNIT = BOOT + 010, BOOT_IP = BOOT + 014 };
-
 extern uint16 *M;
-extern int32 saved_PC;
+extern int32 cpu_bme, saved_PC, sim_end;
+extern t_addr cpu_memsize;
+extern uint32 Map_Addr (uint32 address);
+
+/* Where these bytes of the bus lie in SIMH's memory, or NULL where they don't lie there in one piece: the Unibus map may move
+ * them page by page, and a host of the other order of bytes has each word swapped. */
+static uint8_t *in_memory (uint32_t address, uint32_t count)
+{
+    if (!sim_end || (cpu_bme && UBM_GETOFF (address) + count > UBM_PAGSIZE))
+        return NULL;
+    if (cpu_bme)
+        address = Map_Addr (address);
+    return address + count <= cpu_memsize ? (uint8_t *)M + address : NULL;
+}
+
+enum mscp_outcome rq_read_memory (void *machine, uint32_t address, uint8_t *bytes, uint32_t count)
+{
+    const uint8_t *from = in_memory (address, count);
+    if (from == NULL)
+        return Map_ReadB (address, count, bytes) == 0 ? MSCP_OUTCOME_DONE : MSCP_OUTCOME_MISSING;
+    memcpy (bytes, from, count);
+    return MSCP_OUTCOME_DONE;
+}
+
+enum mscp_outcome rq_write_memory (void *machine, uint32_t address, const uint8_t *bytes, uint32_t count)
+{
+    uint8_t *to = in_memory (address, count);
+    if (to == NULL)
+        return Map_WriteB (address, count, (uint8 *)bytes) == 0 ? MSCP_OUTCOME_DONE : MSCP_OUTCOME_MISSING;
+    memcpy (to, bytes, count);
+    return MSCP_OUTCOME_DONE;
+}
+
+/* ---- BOOT: the words of boot.s, which reads block 0 of the unit to address 0 and jumps there, with the unit in R0 and
+ * the address of IP in R1 */
+
+enum { BOOT = 016000, BOOT_ENTRY = BOOT + 2, BOOT_UNIT = BOOT + 010, BOOT_IP = BOOT + 014 };
 
 static const uint16 boot_words[] = {
     0042125,                   /* start:  .word "UD" */
@@ -53,11 +86,12 @@ static const uint16 boot_words[] = {
     0100000, 0002210, 0, 1,    /* answers: one slot a ring, where they are, and go */
 };
 
-void rq_boot (uint16_t number, uint16_t address)
+bool rq_boot (uint16_t number, uint16_t address)
 {
     for (size_t i = 0; i < sizeof boot_words / sizeof *boot_words; i++)
         M[BOOT / 2 + i] = boot_words[i];
     M[BOOT_UNIT / 2] = number;
     M[BOOT_IP / 2] = address;
     saved_PC = BOOT_ENTRY;
+    return true;
 }
