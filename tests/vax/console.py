@@ -1,8 +1,9 @@
 #!/usr/bin/env python3
 """Types at a program's console: console.py SECONDS [PROMPT LINE..] LAST -- PROGRAM [WORD..]
 
-The program runs on a terminal of its own. Whenever it has shown the next prompt, the line behind that is typed. What the
-program shows goes out, as far as it is text. It is ended when it has shown the last text, or after so many seconds, which is a failure."""
+The program runs on a terminal of its own. Whenever it has shown the next prompt, the line behind that is typed. What
+it shows goes out, as far as it is text. It is ended when it has shown the last text, or after so many seconds, which is
+a failure."""
 import os
 import pty
 import select
