@@ -1,4 +1,4 @@
-; The boot code of examples/simh/pdp11_rq.c: brings a unit online, reads its block 0 to address 0, and jumps there.
+; The boot code of examples/simh/rq_pdp11.c: brings a unit online, reads its block 0 to address 0, and jumps there.
 
 text = 2004             ; of the response, in the port's ring of responses
 command = 2110          ; the text of the command

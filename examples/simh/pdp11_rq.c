@@ -1,32 +1,34 @@
-/* pdp11_rq.c: the disks RQ, RQB, RQC and RQD of SIMH 3.8.1's PDP-11, over the proved port of mscp.h.
+/* pdp11_rq.c: the disks RQ, RQB, RQC and RQD of SIMH 3.8.1's PDP-11 and VAX, over the proved port of mscp.h.
  *
- *     examples/simh/build SOURCE FOLDER      (SOURCE is SIMH's tarball, or a folder with what is in it)
+ *     examples/simh/build SOURCE FOLDER [vax]      (SOURCE is SIMH's tarball, or a folder with what is in it)
  *
  * It takes the place of SIMH's own file of this name, and has nothing of it. docs/PORT.md says how to use it. */
 #include "drives.h"
 #include "port.h"
+#include "rq.h"
+#ifdef VM_VAX
+#include "vax_defs.h"
+#else
 #include "pdp11_defs.h"
+#endif
 #include <unistd.h>
 
-enum { CONTROLLERS = 4, DRIVES = 4, WORK = DRIVES, SECOND, UNITS, RD54 = 6 };
+enum { CONTROLLERS = 4, DRIVES = 4, WORK = DRIVES, SECOND, UNITS, RD54 = 6, RA82 = 12, RAUSER = 15 };
 
 #define UNIT_LOCKED (1u << UNIT_V_UF) /* a flag of a unit: the host may not write on it */
-#define DRIVE u3                      /* in a unit: which drive of drives.h it is */
+#define DRIVE u3                      /* in a unit: which drive of drives.h it is, or RAUSER */
 
-/* A controller: the port, an interrupt that was posted and not yet taken, and which build's port it is, since SIMH restores what
- * another one saved. */
+/* A controller: the port, an interrupt that was posted and not yet taken, what SA shows, and which build's port it is, since
+ * SIMH restores what another one saved. */
 struct controller {
     struct port port;
     DEVICE *device;
     int32 is_posted, vector;
-    uint32 build;
+    uint32 shown, build;
 };
 
-extern uint16 *M;
 extern int32 int_req[IPL_HLVL];
-extern int32 cpu_opt, cpu_bme, saved_PC, tmr_poll, clk_tps, sim_end;
-extern t_addr cpu_memsize;
-extern uint32 Map_Addr (uint32 address);
+extern int32 cpu_opt, sim_switches, tmr_poll, clk_tps;
 extern DEVICE rq_dev, rqb_dev, rqc_dev, rqd_dev;
 
 static UNIT units[CONTROLLERS][UNITS];
@@ -38,47 +40,18 @@ static int32 actions = 50, slack = 200;
 
 /* ---- what the port wants of the machine */
 
-/* Where these bytes of the bus lie in SIMH's memory, or NULL where they don't lie there in one piece: the Unibus map may move
- * them page by page, and a host of the other order of bytes has each word swapped. */
-static uint8_t *in_memory (uint32_t address, uint32_t count)
-{
-    if (!sim_end || (cpu_bme && UBM_GETOFF (address) + count > UBM_PAGSIZE))
-        return NULL;
-    if (cpu_bme)
-        address = Map_Addr (address);
-    return address + count <= cpu_memsize ? (uint8_t *)M + address : NULL;
-}
-
-static enum mscp_outcome read_memory (void *machine, uint32_t address, uint8_t *bytes, uint32_t count)
-{
-    const uint8_t *from = in_memory (address, count);
-    if (from == NULL)
-        return Map_ReadB (address, count, bytes) == 0 ? MSCP_OUTCOME_DONE : MSCP_OUTCOME_MISSING;
-    memcpy (bytes, from, count);
-    return MSCP_OUTCOME_DONE;
-}
-
-static enum mscp_outcome write_memory (void *machine, uint32_t address, const uint8_t *bytes, uint32_t count)
-{
-    uint8_t *to = in_memory (address, count);
-    if (to == NULL)
-        return Map_WriteB (address, count, (uint8 *)bytes) == 0 ? MSCP_OUTCOME_DONE : MSCP_OUTCOME_MISSING;
-    memcpy (to, bytes, count);
-    return MSCP_OUTCOME_DONE;
-}
-
 static void interrupt (void *machine, uint16_t vector)
 {
     struct controller *it = machine;
     it->is_posted = TRUE;
-    it->vector = vector;
+    it->vector = vector + VEC_Q;
     SET_INT (RQ);
 }
 
-/* The units of RQ have the numbers 0 to 3, those of RQB 4 to 7, and so on, as with SIMH's own disks. */
+/* As with SIMH's own disks the units of a PDP-11's RQ have the numbers 0 to 3, those of RQB 4 to 7, and so on. */
 static uint16_t first_number (const struct controller *it)
 {
-    return (uint16_t)((it - controllers) * DRIVES);
+    return RQ_NUMBERS_RISE ? (uint16_t)((it - controllers) * DRIVES) : 0;
 }
 
 static UNIT *unit_of (const struct controller *it, uint16_t number)
@@ -166,6 +139,12 @@ static void call (struct controller *it)
         sim_activate_abs (unit, unit->wait = slack);
 }
 
+/* SA is kept for EXAMINE. */
+static void show_sa (struct controller *it)
+{
+    it->shown = port_read (&it->port, 2);
+}
+
 /* Of the sources of the port that is linked, by what they say of themselves. */
 static uint32 this_build (void)
 {
@@ -202,6 +181,7 @@ static t_stat write_register (int32 data, int32 address, int32 access)
         return SCPE_NXM;
     check_build (it);
     port_write (&it->port, address & 2, (uint16_t)data);
+    show_sa (it);
     if (!(address & 2)) {
         withdraw (it);
         sim_activate_abs (&it->device->units[SECOND], tmr_poll * clk_tps);
@@ -220,6 +200,7 @@ static struct controller *controller_of (const UNIT *unit)
 static t_stat work (UNIT *unit)
 {
     t_bool has_more = port_turn (&controller_of (unit)->port, actions);
+    show_sa (controller_of (unit));
     unit->wait = has_more ? slack : unit->wait * 2;
     if (unit->wait < tmr_poll)
         return sim_activate (unit, unit->wait);
@@ -230,15 +211,28 @@ static t_stat work (UNIT *unit)
 static t_stat second (UNIT *unit)
 {
     port_second (&controller_of (unit)->port);
+    show_sa (controller_of (unit));
     return sim_activate (unit, tmr_poll * clk_tps);
 }
 
 /* ---- SIMH's commands */
 
+/* The drive of a unit: one of drives.h, or RAUSER, which is an RA82 with as many blocks as the unit has. */
+static struct drive drive_of (const UNIT *unit)
+{
+    struct drive drive = drives[unit->DRIVE == RAUSER ? RA82 : unit->DRIVE];
+    if (unit->DRIVE == RAUSER) {
+        drive.name = "RAUSER";
+        drive.blocks = (uint32_t)(unit->capac / MSCP_BLOCK);
+    }
+    return drive;
+}
+
 /* What is attached to a unit comes into it. */
 static void load (struct controller *it, UNIT *unit)
 {
-    const struct mscp_medium medium = drive_medium (&drives[unit->DRIVE], (unit->flags & (UNIT_RO | UNIT_LOCKED)) != 0);
+    const struct drive drive = drive_of (unit);
+    const struct mscp_medium medium = drive_medium (&drive, (unit->flags & (UNIT_RO | UNIT_LOCKED)) != 0);
     port_insert (&it->port, number_of (it, unit), &medium);
 }
 
@@ -248,16 +242,21 @@ static t_stat reset (DEVICE *device)
 {
     static const struct mscp_hardware uda50 = {MSCP_BUS_UNI, 6, 3, 1}, rqdx3 = {MSCP_BUS_Q, 19, 3, 1};
     struct controller *it = controller_of (device->units);
-    const struct port_bus bus = {it, read_memory, write_memory, interrupt, read_block, write_block, read_run, write_run};
+    const struct port_bus bus = {it, rq_read_memory, rq_write_memory, interrupt, read_block, write_block, read_run, write_run};
     struct mscp_unit told[DRIVES];
-    for (uint16_t i = 0; i < DRIVES; i++)
-        told[i] = drive_unit (&drives[device->units[i].DRIVE], first_number (it) + i, (uint64_t)(it - controllers) << 16 | i);
-    if (port_open (&it->port, &bus, UNIBUS ? &uda50 : &rqdx3, told, DRIVES) != MSCP_DONE)
+    size_t count = 0;
+    for (uint16_t i = 0; i < DRIVES; i++) {
+        const struct drive drive = drive_of (&device->units[i]);
+        told[count] = drive_unit (&drive, first_number (it) + i, (uint64_t)(it - controllers) << 16 | i);
+        count += !(device->units[i].flags & UNIT_DIS) || (i == DRIVES - 1 && count == 0); /* a port has one at least */
+    }
+    if (port_open (&it->port, &bus, UNIBUS ? &uda50 : &rqdx3, told, count) != MSCP_DONE)
         return SCPE_IERR;
     for (uint16_t i = 0; i < DRIVES; i++)
         if (device->units[i].flags & UNIT_ATT)
             load (it, &device->units[i]);
     it->build = this_build ();
+    show_sa (it);
     withdraw (it);
     sim_cancel (&device->units[WORK]);
     sim_cancel (&device->units[SECOND]);
@@ -285,19 +284,52 @@ static t_stat detach (UNIT *unit)
     return detach_unit (unit);
 }
 
-/* The drive of a unit has another size, and so the controller is another one. */
+/* The drive of a unit is another one, of so many blocks, and so the controller is another one. */
+static t_stat change (UNIT *unit, int32 drive, uint32_t blocks)
+{
+    if (unit->flags & UNIT_ATT)
+        return SCPE_ALATT;
+    unit->DRIVE = drive;
+    unit->capac = (t_addr)blocks * MSCP_BLOCK;
+    return reset (controller_of (unit)->device);
+}
+
 static t_stat set_drive (UNIT *unit, int32 value, char *text, void *nothing)
 {
-    if (text != NULL || unit->flags & UNIT_ATT)
-        return text != NULL ? SCPE_ARG : SCPE_ALATT;
-    unit->DRIVE = value;
-    unit->capac = drives[value].blocks * MSCP_BLOCK;
-    return reset (controller_of (unit)->device);
+    return text != NULL ? SCPE_ARG : change (unit, value, drives[value].blocks);
+}
+
+/* RAUSER is as large as SIMH's own: of so many megabytes, of so many blocks with the switch -L, or as an RA82. */
+static t_stat set_user (UNIT *unit, int32 value, char *text, void *nothing)
+{
+    enum { A_MEGABYTE = 1954, LEAST = 10000, MOST = 4000000 };
+    if (text == NULL)
+        return change (unit, RAUSER, drives[RA82].blocks);
+    t_stat status;
+    uint32 per = sim_switches & SWMASK ('L') ? 1 : A_MEGABYTE;
+    uint32 blocks = (uint32)get_uint (text, 10, (MOST - 1) / per, &status) * per;
+    return status != SCPE_OK || blocks < LEAST ? SCPE_ARG : change (unit, RAUSER, blocks);
 }
 
 static t_stat show_drive (FILE *to, UNIT *unit, int32 value, void *nothing)
 {
-    fprintf (to, "%s", drives[unit->DRIVE].name);
+    fprintf (to, "%s", drive_of (unit).name);
+    return SCPE_OK;
+}
+
+static t_stat show_queue (FILE *to, UNIT *unit, int32 value, void *nothing)
+{
+    struct controller *it = controller_of (unit);
+    check_build (it);
+    rq_show_queue (to, port_itself (&it->port), it->device->name, first_number (it));
+    return SCPE_OK;
+}
+
+static t_stat show_vector (FILE *to, UNIT *unit, int32 value, void *nothing)
+{
+    struct controller *it = controller_of (unit);
+    check_build (it);
+    rq_show_vector (to, port_itself (&it->port));
     return SCPE_OK;
 }
 
@@ -310,69 +342,15 @@ static t_stat lock (UNIT *unit, int32 value, char *text, void *nothing)
     return SCPE_OK;
 }
 
-/* ---- BOOT: the words of boot.s, which reads block 0 of the unit to address 0 and jumps there, with the unit in R0 and
- * the address of IP in R1 */
-
-enum { BOOT = 016000, BOOT_ENTRY = BOOT + 2, BOOT_UNIT = BOOT + 010, BOOT_IP = BOOT + 014 };
-
-static const uint16 boot_words[] = {
-    0042125,                   /* start:  .word "UD" */
-    0012706, BOOT,             /*         mov #start, sp */
-    0012700, 0,                /* unit:   mov #0, r0 */
-    0012701, 0,                /* csr:    mov #172150, r1 */
-    0012702, 0016216,          /*         mov #answers, r2 */
-    0012703, 0004000,          /*         mov #4000, r3 */
-    0005021,                   /*         clr (r1)+              write IP. From here on R1 is SA */
-    0005711, 0100470,          /* step:   tst (r1), bmi fail     a fatal error */
-    0030311, 0001774,          /*         bit r3, (r1), beq step until the port shows this step */
-    0012211,                   /*         mov (r2)+, (r1) */
-    0006303, 0100371,          /*         asl r3, bpl step       the four steps have bits 11 to 14 */
-    0012703, 0002000,          /*         mov #text-4, r3 */
-    0005023,                   /* clear:  clr (r3)+ */
-    0020327, 0002210,          /*         cmp r3, #rings */
-    0103774,                   /*         blo clear */
-    0110067, 0164026,          /*         movb r0, command+4 */
-    0112767, 0000011, 0164024, /*         movb #11, command+10   ONLINE */
-    0004767, 0000034,          /*         jsr pc, send */
-    0112767, 0000041, 0164012, /*         movb #41, command+10   READ */
-    0012767, 0001000, 0164010, /*         mov #1000, command+14  of 512 bytes of block 0 to address 0 */
-    0004767, 0000014,          /*         jsr pc, send */
-    0005041,                   /*         clr -(r1)              write IP: the port forgets the rings */
-    0005003,                   /*         clr r3                 R3 to R5 as SIMH's other boot code leaves them */
-    0012704, 0016020,          /*         mov #start+20, r4 */
-    0005005,                   /*         clr r5 */
-    0005007,                   /*         clr pc */
-    0012767, 0000074, 0163742, /* send:   mov #60., command-4    the length of the text */
-    0012703, 0002210,          /*         mov #rings, r3 */
-    0012723, 0002004,          /*         mov #text, (r3)+       both slots are the port's */
-    0012723, 0100000,          /*         mov #100000, (r3)+ */
-    0012723, 0002110,          /*         mov #command, (r3)+ */
-    0012713, 0100000,          /*         mov #100000, (r3) */
-    0005761, 0177776,          /*         tst -2(r1)             read IP */
-    0005711,                   /* wait:   tst (r1) */
-    0100407,                   /*         bmi fail */
-    0005767, 0164010,          /*         tst rings+2 */
-    0100773,                   /*         bmi wait               until the response is the host's */
-    0005767, 0163606,          /*         tst text+12            its status */
-    0001001,                   /*         bne fail */
-    0000207,                   /*         rts pc */
-    0000000,                   /* fail:   halt */
-    0100000, 0002210, 0, 1,    /* answers: one slot a ring, where they are, and go */
-};
-
 static t_stat boot (int32 number, DEVICE *device)
 {
-    for (size_t i = 0; i < sizeof boot_words / sizeof *boot_words; i++)
-        M[BOOT / 2 + i] = boot_words[i];
-    M[BOOT_UNIT / 2] = number_of (controller_of (device->units), device->units + number);
-    M[BOOT_IP / 2] = (uint16)(((DIB *)device->ctxt)->ba & DMASK);
-    saved_PC = BOOT_ENTRY;
-    return SCPE_OK;
+    uint16_t unit = number_of (controller_of (device->units), device->units + number);
+    return rq_boot (unit, (uint16_t)((DIB *)device->ctxt)->ba) ? SCPE_OK : SCPE_NOFNC;
 }
 
 /* ---- SIMH's tables */
 
-#define A_DRIVE {UDATA (NULL, UNIT_FIX | UNIT_ATTABLE | UNIT_ROABLE, 311200 * MSCP_BLOCK), 0, RD54}
+#define A_DRIVE {UDATA (NULL, UNIT_FIX | UNIT_ATTABLE | UNIT_ROABLE | UNIT_DISABLE, 311200 * MSCP_BLOCK), 0, RD54}
 #define ALL_UNITS {A_DRIVE, A_DRIVE, A_DRIVE, A_DRIVE, {UDATA (work, UNIT_IDLE | UNIT_DIS, 0)}, \
                    {UDATA (second, UNIT_IDLE | UNIT_DIS, 0)}}
 static UNIT units[CONTROLLERS][UNITS] = {ALL_UNITS, ALL_UNITS, ALL_UNITS, ALL_UNITS};
@@ -380,23 +358,28 @@ static UNIT units[CONTROLLERS][UNITS] = {ALL_UNITS, ALL_UNITS, ALL_UNITS, ALL_UN
 #define A_DIB(name) {IOBA_##name, IOLN_##name, read_register, write_register, 1, IVCL (RQ), 0, {acknowledge}}
 static DIB dibs[CONTROLLERS] = {A_DIB (RQ), A_DIB (RQB), A_DIB (RQC), A_DIB (RQD)};
 
-/* Behind the two that are set by hand stand those of a controller which SAVE and RESTORE want. */
+/* Two are set by hand, one shows what SA does, and the others are those which SAVE and RESTORE want. */
 #define REGISTERS(n) \
     {{DRDATA (ACTIONS, actions, 24), PV_LEFT + REG_NZ}, {DRDATA (PAUSE, slack, 24), PV_LEFT + REG_NZ}, \
+     {GRDATA (SA, controllers[n].shown, DEV_RDX, 16, 0), REG_RO}, \
      {BRDATA (PORT, (char *)controllers[n].port.memory + MSCP_HEAD, 16, 8, MSCP_PORT_SIZE), REG_HIDDEN}, \
      {GRDATA (BUILD, controllers[n].build, 16, 32, 0), REG_HIDDEN}, \
      {DRDATA (POSTED, controllers[n].is_posted, 1), REG_HIDDEN}, {GRDATA (VECTOR, controllers[n].vector, 8, 16, 0), REG_HIDDEN}, \
      {DRDATA (WAIT, units[n][WORK].wait, 24), REG_HIDDEN}, {NULL}}
-static REG registers[CONTROLLERS][8] = {REGISTERS (0), REGISTERS (1), REGISTERS (2), REGISTERS (3)};
+static REG registers[CONTROLLERS][9] = {REGISTERS (0), REGISTERS (1), REGISTERS (2), REGISTERS (3)};
 
 #define SET_TO(number, name) {MTAB_XTD | MTAB_VUN, number, NULL, name, set_drive, NULL, NULL}
 static MTAB modifiers[] = {
     SET_TO (0, "RX33"), SET_TO (1, "RX50"), SET_TO (2, "RD31"), SET_TO (3, "RD51"), SET_TO (4, "RD52"),
     SET_TO (5, "RD53"), SET_TO (6, "RD54"), SET_TO (7, "RA60"), SET_TO (8, "RA71"), SET_TO (9, "RA72"),
     SET_TO (10, "RA80"), SET_TO (11, "RA81"), SET_TO (12, "RA82"), SET_TO (13, "RA90"), SET_TO (14, "RA92"),
+    {MTAB_XTD | MTAB_VUN, RAUSER, NULL, "RAUSER", set_user, NULL, NULL},
     {MTAB_XTD | MTAB_VUN, 0, "TYPE", NULL, NULL, show_drive, NULL},
     {UNIT_LOCKED, 0, "write enabled", "WRITEENABLED", lock}, {UNIT_LOCKED, UNIT_LOCKED, "write locked", "LOCKED", lock},
     {MTAB_XTD | MTAB_VDV, 4, "ADDRESS", "ADDRESS", set_addr, show_addr, NULL},
+    {MTAB_XTD | MTAB_VDV, 0, NULL, "AUTOCONFIGURE", set_addr_flt, NULL, NULL},
+    {MTAB_XTD | MTAB_VDV, 0, "VECTOR", NULL, NULL, show_vector, NULL},
+    {MTAB_XTD | MTAB_VDV | MTAB_NMO, 0, "QUEUE", NULL, NULL, show_queue, NULL},
     {0}};
 
 #define A_DEVICE(name, number, flags) \
