@@ -768,9 +768,9 @@ int32_t mscp_port_write_sa(struct mscp_port *port, uint16_t word);
 
 /* What the port wants done next. MSCP_DONE, or MSCP_NOTHING until a register is touched, a volume comes or goes, the
  * clock ticks, or it is to look again. Until the port is told how its action went it answers the same, unless a
- * register is touched, or the volume of the action's unit comes or goes. The processor may run meanwhile: if the port
- * wants the action no more, what it is told of it is MSCP_UNASKED, and it is asked anew. If a block's volume went, its
- * command ends so, whether it is told of the block or asked anew. */
+ * register is touched, or a volume comes, goes, or is protected or no more. The processor may run meanwhile: if the port
+ * wants the action no more, what it is told of it is MSCP_UNASKED, and it is asked anew. So it is of a block where a
+ * volume changed: the port wants the block once more, or its command ends. */
 MSCP_MUST_USE int32_t mscp_port_next(struct mscp_port *port, struct mscp_action *action);
 
 /* What it wants done next while a block takes its time: polls are answered, messages come and go, and no block is begun. A

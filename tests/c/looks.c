@@ -60,6 +60,24 @@ static void protection_is_switched(void)
     is("no unit", mscp_port_protect(machine.port, 9, 1), MSCP_UNKNOWN_UNIT);
 }
 
+/* A pause that was wanted while a volume was protected counts as no block of it, also where that ends before the pause is
+ * told: the block is wanted again. */
+static void pauses_are_no_blocks(void)
+{
+    struct mscp_action pause;
+    begin(2);
+    memset(machine.memory + DATA, 0x5A, MSCP_BLOCK);
+    send_command(0, 71, MSCP_WRITE, MSCP_BLOCK, 9, DATA);
+    until(MSCP_ACTION_TRANSFER);
+    is("protected", mscp_port_protect(machine.port, 0, 1), MSCP_DONE);
+    is("wanted", mscp_port_next(machine.port, &pause), MSCP_DONE);
+    is("a pause", pause.kind, MSCP_ACTION_PAUSE);
+    is("no more", mscp_port_protect(machine.port, 0, 0), MSCP_DONE);
+    is("the pause", mscp_port_went(machine.port, MSCP_OUTCOME_DONE, 0x000B), MSCP_UNASKED);
+    expect(71, 0xA2, 0);
+    is("its block", number(machine.disks[0][9], 4), 0x5A5A5A5A);
+}
+
 /* ---- looks */
 
 static void volume_is(uint16_t unit, bool there, bool is_protected, bool by_host, bool online)
@@ -213,6 +231,7 @@ static void addresses_are_cut(void)
 int main(void)
 {
     protection_is_switched();
+    pauses_are_no_blocks();
     volumes_are_seen();
     stages_are_seen();
     held_back_is_seen();

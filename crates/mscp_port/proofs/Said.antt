@@ -69,7 +69,7 @@ end_tells k d r e h = by (goes_on d.online r.command.order k (left_of r)) h
         let same = same_Some own e h in (sym (ap (λ x. x.reference) same), sym (ap (λ x. x.unit) same))
 
 -- the command that was served is the one that was begun
-served_name : (begun : Option Name) (name : Name) (r : Record) → is_begun name begun ≡ true
+pub served_name : (begun : Option Name) (name : Name) (r : Record) → is_begun name begun ≡ true
     → ((other : Name) → begun ≡ Some other → has_name other r ≡ true) → name_of r ≡ name
 served_name begun name r h3 h4 = grind (arith, false≢true, same_is)
 

@@ -83,7 +83,7 @@ keeps_after picks said (Protect protected unit result) old new r k = more said (
 
 -- ---- the law
 
-kept_was_said : {K : Type 0} (picks : Picking K) (hardware : Hardware) (credits : ℕ) (controller : Holdings K)
+pub kept_was_said : {K : Type 0} (picks : Picking K) (hardware : Hardware) (credits : ℕ) (controller : Holdings K)
     (start p : Port K)
     (calls : List Call) → IsMadeOf hardware credits controller start → (a : Answered picks start calls p)
     → Keeps (λ unit b. WasSaid picks b.reference unit start p calls a b) p

@@ -361,9 +361,10 @@ pub record Ticks {K : Type 0} (old new : Port K) : Type 0 where
   pub either : (new ≡ record old { is_full = false; task = read_again old.task; left = new.left })
       ⊎ IsAsNew (stages.Dead 9) old new
 
--- what becomes of a step in hand that moves no block, where a volume changes: it is taken in hand anew
+-- what becomes of a step in hand where a volume changes: it is taken in hand anew
 abbrev pub step_again : Task → Task
 step_again (tasks.Step verdict) = tasks.Free
+step_again tasks.Transfer = tasks.Free
 step_again task = task
 
 -- that of the unit at a place, if there is such a unit

@@ -18,6 +18,7 @@ tick_hands old new r = search (arith, new_drops)
 same_or_free : (o : Option ℕ) (t : Task) → (step_at o t ≡ t) ⊎ (step_at o t ≡ tasks.Free)
 same_or_free None t = inl refl
 same_or_free (Some place) (tasks.Step block) = inr refl
+same_or_free (Some place) tasks.Transfer = inr refl
 same_or_free (Some place) t = inl refl
 
 volume_hands : {K : Type 0} (becomes : Volume → Volume) (unit : ℕ) (old new : Port K)

@@ -37,11 +37,12 @@ impl<K: Picker> Port<K> {
         }
     }
 
-    /// A step in hand that moves no block was decided with the volumes that were there: it is taken in hand anew.
+    /// A step in hand was decided with the volumes that were there: it is taken in hand anew. So what is told of a block counts
+    /// only if it was wanted with the volume as it is now.
     fn take_anew(&mut self)
         ensures { self.new ≡ record self.old { task = step_again self.old.task } }
     {
-        if let Task::Step(_) = self.task {
+        if let Task::Step(_) | Task::Transfer = self.task {
             self.task = Task::Free;
         }
     }
