@@ -1,0 +1,216 @@
+-- What an action leaves that touches no memory, and the steps of the initialisation.
+use Rattle.std.proofs.Common.{◌≡◌, ◌≢◌, ◌⊎◌, ◌∙◌, ◌*◌, ◌/◌, ◌%◌, ◌++◌, [], ℕ, Bool, true, false, cond, map, not, List, Option, None, Some, MatchOption, inl, inr, refl, ap, sym, subst, arith}
+use Rattle.std.specs.Prelude.{◌==◌, ◌&&◌, Ok}
+use Rattle.std.proofs.lemmas.List.{append-nil}
+use Rattle.mscp_queue.specs.declared.name.Name.{Name}
+use Rattle.mscp_queue.specs.declared.view.Choice.{Choice}
+use Rattle.mscp_port.specs.declared.action.Action.{Action}
+use Rattle.mscp_port.specs.declared.action.Action.TheVariants as actions
+use Rattle.mscp_port.specs.declared.action.Outcome.{Outcome}
+use Rattle.mscp_port.specs.declared.action.Outcome.TheVariants as outcomes
+use Rattle.mscp_port.specs.declared.port.Port.{Port}
+use Rattle.mscp_port.specs.declared.rings.Side.TheVariants.{Responses, Commands}
+use Rattle.mscp_port.specs.declared.stage.Stage.{Stage}
+use Rattle.mscp_port.specs.declared.stage.Stage.TheVariants as stages
+use Rattle.mscp_port.specs.declared.task.Task.{Task}
+use Rattle.mscp_port.specs.declared.task.Task.TheVariants as tasks
+use Rattle.mscp_port.specs.declared.verdict.Verdict.{Verdict}
+use Rattle.mscp_port.specs.Acted.{step_task}
+use Rattle.mscp_port.specs.Areas.{Rings}
+use Rattle.mscp_port.specs.Calls.{Goes}
+use Rattle.mscp_port.specs.Departures.{begins}
+use Rattle.mscp_port.specs.Histories.{Went}
+use Rattle.mscp_port.specs.Moved.{TakesBegun, TakesBlock}
+use Rattle.mscp_port.specs.Ports.{IsAsNew}
+use Rattle.mscp_ported.specs.Talk.{Wish, Turn, Idle, Read, Due, Talk, at_step, done_by, interrupted, is_dead, stepped, written}
+use Rattle.mscp_ported.specs.Told.{Said, StandInOrder, message_slot, message_text, packet_slot, said_in}
+use Rattle.mscp_ported.proofs.After.{After, IsNoReset, alters, none_said, same_stage}
+use Rattle.mscp_ported.proofs.Look.{AreTold, Counts, Fits, InStep, IsClear, IsElse, IsOfRings, IsOpen, IsOwned, IsSimple, IsTelling, IsWrite, Look, Names, NeedsOut, block_rings, in_hand, is_loud, look, told_on}
+use Rattle.mscp_ported.proofs.Plain.{dies}
+
+-- ---- the initialisation
+
+-- a step is over, or the next one begins
+pub init_step : (l : Look) (t : Talk) (w : Option Wish) (said : List Said) (texts : List (List ℕ))
+    (s : Stage) (first second : ℕ) (rings : Option Rings) (word : Option ℕ) (task : Task) (turn : Turn)
+    (named : Option Rings) (said_first said_second : ℕ)
+    → InStep l t w said texts → l.stage ≢ stages.Up → IsOpen t.turn → in_hand l.task t.turn ≡ []
+    → Names s first second word rings said_first said_second t.answer named
+    → Counts rings l.responses l.commands t.told t.heard → Fits (record l {
+      stage = s;
+      first = first;
+      second = second;
+      word = word;
+      rings = rings;
+      task = task;
+    }) task turn
+    → IsSimple turn → IsOwned turn → (IsOfRings task → ⊥) → (NeedsOut task → ⊥)
+    → (task ≡ tasks.Interrupt → is_loud s ≡ true) → (IsClear task → s ≡ stages.Clearing) → (IsTelling l.task → ⊥)
+    → (IsTelling task → ⊥) → in_hand task turn ≡ [] → is_dead s ≡ false → InStep (record l {
+      stage = s;
+      first = first;
+      second = second;
+      word = word;
+      rings = rings;
+      task = task;
+    }) (record t { turn = turn; first = said_first; second = said_second; rings = named }) None said texts
+init_step l t w said texts s first second rings word task turn named said_first said_second k not_up calm before names
+    counts fits simple own no_rings no_out loud clear calm_before calm_after after alive = record {
+      names = names;
+      counts = counts;
+      hand = record {
+        fits = fits;
+        asked = tt;
+        up = λ h. absurd (no_rings h);
+        step = loud;
+        clear = clear;
+        own = own;
+        idle = λ h. simple;
+        wished = λ e h. no_rings (block_rings task h);
+      };
+      speech = record {
+        out = λ h. absurd (not_up (k.speech.out h));
+        has = λ h. absurd (no_out h);
+        tells = told_on l.more l.task task t.turn turn l.outgoing l.untold t.told said calm_before calm_after
+            k.speech.tells;
+      };
+      hears = ap (λ xs. map message_text t.heard ++ xs) (after ∙ sym before) ∙ k.hears;
+      ended = λ d. absurd (search (arith, d, alive));
+    }
+
+-- the host is interrupted at a step as its first word wants
+module _ (l : Look) (first : ℕ) where
+  pub step_cases : (P : Task → Turn → Type 0) → P tasks.Interrupt Due → P tasks.Free Idle
+      → P (step_task first tasks.Free) (at_step first)
+  step_cases P h k = by (first / 0x80 % 2 == 1) (first % 0x80 * 4 == 0)
+    where
+      by : (b c : Bool) → P (cond (b && not c) tasks.Interrupt tasks.Free) (cond b (cond c Idle Due) Idle)
+      by true true = k
+      by true false = h
+      by false true = k
+      by false false = k
+
+-- nothing was told nor heard of before the area was named
+pub early_counts : (o : Option Rings) (l : Look) (t : Talk) (w : Option Wish) (said : List Said) (texts : List (List ℕ))
+    → InStep l t w said texts → l.rings ≡ None → Counts o l.responses l.commands t.told t.heard
+early_counts o l t w said texts k none =
+    let e = k.counts.none none in record {
+      told_so = k.counts.told_so;
+      heard_so = k.counts.heard_so;
+      packets = subst (λ xs. StandInOrder o Responses 0 (map packet_slot xs)) (sym e.0) tt;
+      messages = subst (λ xs. StandInOrder o Commands 0 (map message_slot xs)) (sym e.1) tt;
+      none = λ h. e;
+    }
+
+pub idle_so : (turn : Turn) → IsOpen turn → IsSimple turn → turn ≡ Idle
+idle_so Idle h k = refl
+idle_so (Read slot header text) h k = absurd k
+idle_so turn h k = absurd h
+
+pub idle_deed : (a : Action) (bytes : List ℕ) (t : Talk) → t.turn ≡ Idle → done_by a bytes t ≡ t
+idle_deed (actions.Write address count) bytes t e = ap (λ x. written address bytes x t) e
+idle_deed (actions.Interrupt vector) bytes t e =
+    ap (λ x. record t { turn = interrupted x }) e ∙ ap (λ x. record t { turn = x }) (sym e)
+idle_deed a bytes t e = refl
+
+pub else_deed : (a : Action) (bytes : List ℕ) (t : Talk) → IsElse a → done_by a bytes t ≡ t
+else_deed (actions.Read address count) bytes t is = refl
+else_deed (actions.Write address count) bytes t is = absurd is
+else_deed (actions.Interrupt vector) bytes t is = absurd is
+else_deed a bytes t is = refl
+
+module _ {K : Type 0} (picks : List Choice → ℕ → Type 0) (old new : Port K) (t : Talk) (w : Wish) (outcome : Outcome)
+    (done : Unit) (said : List Said) (texts : List (List ℕ)) (k : InStep (look old) t (Some w) said texts)
+    (r : Goes picks outcome old (Ok done) new) where
+  abbrev So : Type 0
+  So = After (Went outcome (Ok done)) old (look new) t (Some w) None said texts
+
+  no_reset : IsNoReset (Went outcome (Ok done))
+  no_reset = record { said = λ s xs ys. refl; texts = λ s xs ys. refl }
+
+  pub dead_so : (code : ℕ) → IsAsNew (stages.Dead code) old new → So
+  dead_so code n = dies (Went outcome (Ok done)) code old new t (Some w) None said texts no_reset n
+
+  pub alive : is_dead old.stage ≡ false
+  alive = by old.stage refl
+    where
+      by : (s : Stage) → old.stage ≡ s → is_dead old.stage ≡ false
+      by (stages.Dead code) e = search (arith, r.dead code e)
+      by s e = ap is_dead e
+
+  -- an action went, after which the port looks so
+  pub goes_on : (l : Look) (t' : Talk) (said' : List Said) → look new ≡ l → is_dead l.stage ≡ false
+      → stepped old.stage l.stage (done_by w.action w.bytes t) ≡ t'
+      → said ++ map said_in (begins old.outgoing l.outgoing) ≡ said' → InStep l t' None said' texts → So
+  goes_on l t' said' e lives talk more_said x =
+      subst (λ y. After (Went outcome (Ok done)) old y t (Some w) None said texts) (sym e)
+      (alters (Went outcome (Ok done)) old l t t' (Some w) None said said' texts texts no_reset lives talk more_said
+      (append-nil texts) x)
+
+  -- what is in hand tells nothing
+  pub quiet_of : (task : Task) → old.task ≡ task → (IsTelling task → ⊥) → IsTelling old.task → ⊥
+  quiet_of task at calm = subst (λ x. IsTelling x → ⊥) (sym at) calm
+
+  pub told_so : (task : Task) (turn : Turn) → (IsTelling old.task → ⊥) → (IsTelling task → ⊥)
+      → AreTold old.more task turn old.outgoing old.untold t.told said
+  told_so task turn calm calm' =
+      told_on old.more old.task task t.turn turn old.outgoing old.untold t.told said calm calm' k.speech.tells
+
+  pub same_said : said ++ map said_in (begins old.outgoing old.outgoing) ≡ said
+  same_said = none_said old.outgoing old.outgoing said refl
+
+  -- ---- what touches no memory
+
+  -- nothing is in hand any more
+  pub freed : IsOpen t.turn → in_hand old.task t.turn ≡ [] → (IsTelling old.task → ⊥) → IsElse w.action
+      → look new ≡ record (look old) { task = tasks.Free } → So
+  freed calm before quiet is e =
+      goes_on (record (look old) { task = tasks.Free }) t said e alive
+      (same_stage old.stage _ ∙ else_deed w.action w.bytes t is) same_said (record {
+        names = k.names;
+        counts = k.counts;
+        hand = record {
+          fits = calm;
+          asked = tt;
+          up = λ h. absurd h;
+          step = λ e. search (arith, e);
+          clear = λ h. absurd h;
+          own = k.hand.own;
+          idle = k.hand.idle;
+          wished = λ e h. h;
+        };
+        speech = record { out = k.speech.out; has = λ h. absurd h; tells = told_so tasks.Free t.turn quiet (λ h. h) };
+        hears = ap (λ xs. map message_text t.heard ++ xs) (sym before) ∙ k.hears;
+        ended = λ d. absurd (search (arith, d, alive));
+      })
+
+  pub begun_so : (task : Task) (verdict : Verdict) → old.task ≡ task → IsOpen t.turn → in_hand task t.turn ≡ []
+      → (IsTelling task → ⊥) → IsElse w.action → TakesBegun picks verdict old new → So
+  begun_so task verdict at calm before quiet is h = by old.controller.begun h
+    where
+      free : look new ≡ record (look old) { task = tasks.Free } → So
+      free = freed calm (ap (λ x. in_hand x t.turn) at ∙ before) (quiet_of task at quiet) is
+
+      by : (o : Option Name) → MatchOption o (new ≡ record old { task = tasks.Free })
+          (λ name. TakesBlock picks name.connection name.reference verdict old new) → So
+      by None e = free (ap look e)
+      by (Some name) b = free (ap look b.finished.2.frame)
+
+  pub is_done : (outcome ≡ outcomes.Done) ⊎ (outcome ≢ outcomes.Done)
+  is_done = by outcome
+    where
+      by : (o : Outcome) → (o ≡ outcomes.Done) ⊎ (o ≢ outcomes.Done)
+      by outcomes.Done = inl refl
+      by o = inr (λ e. search (arith, e))
+
+  -- what was written in a task of the rings
+  pub write_one : (x : Turn) (t' : Talk) → t.turn ≡ x → IsWrite w.action
+      → ((address : ℕ) → written address w.bytes x t ≡ t') → done_by w.action w.bytes t ≡ t'
+  write_one x t' e is h = by w.action is
+    where
+      by : (a : Action) → IsWrite a → done_by a w.bytes t ≡ t'
+      by (actions.Write address count) is = ap (λ u. written address w.bytes u t) e ∙ h address
+      by a is = absurd is
+
+  pub up_of : (task : Task) → old.task ≡ task → IsOfRings task → old.stage ≡ stages.Up
+  up_of task at ring = k.hand.up (subst (λ x. IsOfRings x) (sym at) ring)

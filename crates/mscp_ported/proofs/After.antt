@@ -1,0 +1,131 @@
+-- What a call leaves in step.
+use Rattle.std.proofs.Common.{◌≡◌, ◌⊎◌, ◌∙◌, ◌++◌, [], ℕ, true, false, cond, map, List, Option, None, Some, inl, inr, refl, ap, sym, subst, arith}
+use Rattle.std.specs.Prelude.{option_to_list}
+use Rattle.std.proofs.lemmas.List.{append-nil}
+use Rattle.mscp_port.specs.declared.port.Outgoing.{Outgoing}
+use Rattle.mscp_port.specs.declared.port.Port.{Port}
+use Rattle.mscp_port.specs.declared.stage.Stage.{Stage}
+use Rattle.mscp_port.specs.declared.stage.Stage.TheVariants as stages
+use Rattle.mscp_port.specs.declared.task.Task.{Task}
+use Rattle.mscp_port.specs.Departures.{begins}
+use Rattle.mscp_port.specs.Histories.{Call}
+use Rattle.mscp_ported.specs.Talk.{Wish, Turn, Packet, Talk, is_dead, silence, since, stepped, talk_after, talk_by}
+use Rattle.mscp_ported.specs.Told.{Said, accepted_by, said_in}
+use Rattle.mscp_ported.proofs.Look.{AreTold, InStep, IsTelling, Look, left_all, left_quiet, quiet_left}
+
+-- what is in step after a call, by which the port looks so
+abbrev pub After : {K : Type 0} → Call → Port K → Look → Talk → Option Wish → Option Wish → List Said
+    → List (List ℕ) → Type 0
+After call old l t w v said texts = InStep l (talk_after old.stage l.stage w call t) v
+    (since l.stage call said (map said_in (begins old.outgoing l.outgoing)))
+    (since l.stage call texts (accepted_by call old))
+
+-- ---- calls
+
+-- a call is no write of IP
+pub record IsNoReset (call : Call) : Type 0 where
+  pub said : (s : Stage) (xs ys : List Said) → since s call xs ys ≡ cond (is_dead s) [] (xs ++ ys)
+  pub texts : (s : Stage) (xs ys : List (List ℕ)) → since s call xs ys ≡ cond (is_dead s) [] (xs ++ ys)
+
+pub become : (l : Look) (v : Option Wish) (t t' : Talk) (said said' : List Said) (texts texts' : List (List ℕ))
+    → t ≡ t' → said ≡ said' → texts ≡ texts' → InStep l t' v said' texts' → InStep l t v said texts
+become l v t t' said said' texts texts' e f g k =
+    subst (λ x. InStep l x v said texts) (sym e)
+    (subst (λ x. InStep l t' v x texts) (sym f) (subst (λ x. InStep l t' v said' x) (sym g) k))
+
+-- by a call after which there is no fatal error the talk, what was said and what was accepted became these
+pub alters : {K : Type 0} (call : Call) (old : Port K) (l : Look) (t t' : Talk) (w v : Option Wish)
+    (said said' : List Said) (texts texts' : List (List ℕ)) → IsNoReset call → is_dead l.stage ≡ false
+    → stepped old.stage l.stage (talk_by old.stage w call t) ≡ t'
+    → said ++ map said_in (begins old.outgoing l.outgoing) ≡ said'
+    → texts ++ accepted_by call old ≡ texts'
+    → InStep l t' v said' texts' → After call old l t w v said texts
+alters call old l t t' w v said said' texts texts' calm alive talk more_said more_texts k =
+    let more = map said_in (begins old.outgoing l.outgoing) in
+    become l v (talk_after old.stage l.stage w call t) t' (since l.stage call said more) said'
+    (since l.stage call texts (accepted_by call old)) texts'
+    (ap (λ b. cond b silence (stepped old.stage l.stage (talk_by old.stage w call t))) alive ∙ talk)
+    (calm.said l.stage said more ∙ ap (λ b. cond b [] (said ++ more)) alive ∙ more_said)
+    (calm.texts l.stage texts (accepted_by call old)
+    ∙ ap (λ b. cond b [] (texts ++ accepted_by call old)) alive ∙ more_texts) k
+
+-- and after a fatal error they are none
+pub ends : {K : Type 0} (call : Call) (old : Port K) (l : Look) (t : Talk) (w v : Option Wish) (said : List Said)
+    (texts : List (List ℕ)) → IsNoReset call → is_dead l.stage ≡ true → InStep l silence v [] []
+    → After call old l t w v said texts
+ends call old l t w v said texts calm dead k =
+    let more = map said_in (begins old.outgoing l.outgoing) in
+    become l v (talk_after old.stage l.stage w call t) silence (since l.stage call said more) []
+    (since l.stage call texts (accepted_by call old)) []
+    (ap (λ b. cond b silence (stepped old.stage l.stage (talk_by old.stage w call t))) dead)
+    (calm.said l.stage said more ∙ ap (λ b. cond b [] (said ++ more)) dead)
+    (calm.texts l.stage texts (accepted_by call old) ∙ ap (λ b. cond b [] (texts ++ accepted_by call old)) dead) k
+
+pub begins_same : (o : Option Outgoing) → begins o o ≡ []
+begins_same None = refl
+begins_same (Some o) = refl
+
+-- nothing more is said
+pub none_said : (before after : Option Outgoing) (said : List Said) → after ≡ before
+    → said ++ map said_in (begins before after) ≡ said
+none_said before after said e =
+    ap (λ o. said ++ map said_in (begins before o)) e ∙ ap (λ xs. said ++ map said_in xs) (begins_same before)
+    ∙ append-nil said
+
+-- what is in hand tells nothing, and nothing more is said, or something is where nothing went out
+pub say_on : (more : ℕ) (task task' : Task) (turn turn' : Turn) (before after : Option Outgoing) (untold : ℕ)
+    (told : List Packet) (said : List Said) → (IsTelling task → ⊥) → (IsTelling task' → ⊥)
+    → (after ≡ before) ⊎ (before ≡ None) → AreTold more task turn before untold told said
+    → AreTold more task' turn' after untold told (said ++ map said_in (begins before after))
+say_on more task task' turn turn' before after untold told said calm calm' either h = (
+  h.0,
+  elim either [
+    | inl same ↦ ap (λ o. h.0 ++ map said_in (option_to_list o)) same ∙ h.1 ∙ sym (none_said before after said same)
+    | inr none ↦
+        let is : h.0 ≡ said = sym (append-nil h.0)
+        ∙ ap (λ x. h.0 ++ map said_in (option_to_list x)) (sym none) ∙ h.1 in
+        ap (λ xs. xs ++ map said_in (option_to_list after)) is ∙ by after
+        ∙ ap (λ b. said ++ map said_in (begins b after)) (sym none)
+  ],
+  h.2,
+  quiet_left task' turn' after untold (left_all more h.0) calm'
+      (left_quiet task turn before untold (left_all more h.0) calm h.3),
+)
+  where
+    by : (o : Option Outgoing) → said ++ map said_in (option_to_list o) ≡ said ++ map said_in (begins None o)
+    by None = refl
+    by (Some x) = refl
+
+-- ---- calls that report no action
+
+pub same_stage : (s : Stage) (t : Talk) → stepped s s t ≡ t
+same_stage s t = grind arith
+
+pub by_dead : (s : Stage) → (is_dead s ≡ true) ⊎ (is_dead s ≡ false)
+by_dead (stages.Dead code) = inl refl
+by_dead s = inr refl
+
+-- a call that is no write of IP, and reports no action
+pub record IsPlain {K : Type 0} (call : Call) (old : Port K) : Type 0 where
+  pub talk : (w : Option Wish) (t : Talk) → talk_by old.stage w call t ≡ t
+  pub no_reset : IsNoReset call
+  pub accepts : accepted_by call old ≡ []
+
+module _ {K : Type 0} (call : Call) (old : Port K) (l : Look) (t : Talk) (w v : Option Wish) (said : List Said)
+    (texts : List (List ℕ)) (stage : l.stage ≡ old.stage) (out : l.outgoing ≡ old.outgoing) (plain : IsPlain call old)
+    (k : InStep l t v said texts) where
+  end_so : is_dead l.stage ≡ true → After call old l t w v said texts
+  end_so dead =
+      let e = k.ended dead in
+      ends call old l t w v said texts plain.no_reset dead
+      (become l v silence t [] said [] texts (sym e.talk) (sym e.none_said) (sym e.none_accepted) k)
+
+  -- the talk stays as it was
+  pub unmoved : After call old l t w v said texts
+  unmoved = elim (by_dead old.stage) [
+    | inl d ↦ end_so (ap is_dead stage ∙ d)
+    | inr d ↦ alters call old l t t w v said said texts texts plain.no_reset (ap is_dead stage ∙ d)
+        (ap (stepped old.stage l.stage) (plain.talk w t) ∙ ap (λ s. stepped old.stage s t) stage
+        ∙ same_stage old.stage t)
+        (none_said old.outgoing l.outgoing said out) (ap (λ ys. texts ++ ys) plain.accepts ∙ append-nil texts) k
+  ]

@@ -1,0 +1,133 @@
+-- The ends that come for a host by a message or by a step.
+use Rattle.std.proofs.Common.{◌≡◌, ◌∙◌, ◌+◌, ◌≤◌, ◌++◌, ◌∷◌, [], ℕ, Bool, true, false, cond, length, List, Option, None, Some, refl, ap, sym, subst, arith, append_assoc}
+use Rattle.mscp_queue.specs.Records.{aborted_record, record_at}
+use Rattle.std.specs.Prelude.{if◌then◌else◌, Result, Ok, Err, option_map, option_to_list}
+use Rattle.std.proofs.lemmas.List.{append-nil}
+use Rattle.std.proofs.Math.Seq.{take-length}
+use Rattle.mscp_packet.specs.Commands.{command_of}
+use Rattle.mscp_packet.specs.declared.command.Command.{Command}
+use Rattle.mscp_packet.specs.declared.end.End.{End}
+use Rattle.mscp_drive.specs.Both.{of}
+use Rattle.mscp_drive.specs.Settings.{IsValid, Settings, credits_of}
+use Rattle.mscp_drive.specs.declared.block.Block.{Block}
+use Rattle.mscp_drive.specs.declared.connection.Connection.{Connection}
+use Rattle.mscp_drive.specs.declared.connection.Connection.TheVariants.{First, Second}
+use Rattle.mscp_queue.specs.declared.report.Report.{Report}
+use Rattle.mscp_queue.specs.declared.report.Report.TheVariants as reports
+use Rattle.mscp_queue.specs.declared.view.Choice.{Choice}
+use Rattle.mscp_queue.specs.declared.name.Name.{Name}
+use Rattle.mscp_queue.specs.Names.{name_on, same_connection}
+use Rattle.mscp_controller.specs.Arrival.{is_queued, refusal}
+use Rattle.mscp_controller.specs.Account.{untaken}
+use Rattle.mscp_controller.specs.Commands.{waiting_by}
+use Rattle.mscp_controller.specs.Calls.{Call as Made, history}
+use Rattle.mscp_controller.specs.Controllers.{KeepsPromise}
+use Rattle.mscp_controller.specs.Holdings.{Finishes, Holdings, after_message, answer_to_message, aborting, answered_end, balance_of, held_unless, outstanding_of, queued, record_aborted, reference_aborted, sent_unless, with_end}
+use Rattle.mscp_controller.specs.declared.entry.NotBegun.{NotBegun}
+use Rattle.mscp_controller.specs.declared.entry.SendFault.{SendFault}
+use Rattle.mscp_controller.specs.declared.entry.Sent.{Sent}
+use Rattle.mscp_controller.specs.declared.entry.Sent.TheVariants as sents
+use Rattle.mscp_port.specs.Moved.{end_brought}
+use Rattle.mscp_port.proofs.Said.{served_name}
+
+-- the ends of the host's connection
+abbrev pub ends_of : {K : Type 0} → Holdings K → List End
+ends_of h = of First h.untaken
+
+-- ---- a message
+
+-- a message brings none, or some, behind those that are there; and one that is queued or refused brings none
+pub record Brings {K : Type 0} (h new : Holdings K) (answer : Result Sent SendFault) : Type 0 where
+  pub ends : List End
+  pub all : ends_of new ≡ ends_of h ++ ends
+  pub queued : (reference : ℕ) → answer ≡ Ok (sents.Queued reference) → ends_of new ≡ ends_of h
+  pub refused : (fault : SendFault) → answer ≡ Err fault → new ≡ h
+
+pub brings : {K : Type 0} (h : Holdings K) (b : List ℕ)
+    → Brings h (after_message First h b) (answer_to_message First h b)
+brings {K} h b = by (refusal (balance_of First h) (outstanding_of First h) b)
+  where
+    c : Command
+    c = command_of b
+
+    by : (o : Option SendFault) → Brings h (held_unless First h (command_of b) o) (sent_unless First h (command_of b) o)
+    by (Some fault) = record {
+      ends = [];
+      all = sym (append-nil (ends_of h));
+      queued = λ reference e. refl;
+      refused = λ other e. refl;
+    }
+    by None = taken (is_queued h.settings (command_of b))
+      where
+        brought : List End
+        brought = option_to_list (option_map aborted_record (record_aborted First h.waiting (command_of b).order))
+
+        taken : (q : Bool) → Brings h (cond q (queued First h (command_of b))
+            (with_end First (aborting First h (command_of b).order) (answered_end First h (command_of b))))
+            (Ok (cond q (sents.Queued (command_of b).reference) (sents.Answered (command_of b).reference
+            (reference_aborted First h.waiting (command_of b).order))))
+        taken true = record {
+          ends = [];
+          all = sym (append-nil (ends_of h));
+          queued = λ reference e. refl;
+          refused = λ fault e. search (arith, e);
+        }
+        taken false = record {
+          ends = brought ++ answered_end First h (command_of b) ∷ [];
+          all = append_assoc (ends_of h) brought (answered_end First h (command_of b) ∷ []);
+          queued = λ reference e. search (arith, e);
+          refused = λ fault e. search (arith, e);
+        }
+
+-- ---- a step
+
+-- the end of the command that is served comes by its connection
+abbrev pub brought_for : Connection → Option End → List End
+brought_for First ended = option_to_list ended
+brought_for Second ended = []
+
+pub steps_bring : {K : Type 0} (picks : List Choice → ℕ → Type 0) (via : Connection) (reference : ℕ) (block : Block)
+    (old new : Holdings K) (result : Result Report NotBegun)
+    → Finishes picks (name_on via reference) block old result new
+    → ends_of new ≡ ends_of old ++ brought_for via (end_brought result)
+steps_bring picks via reference block old new (Err not_begun) f =
+    ap (λ h. ends_of h) f.1 ∙ sym (append-nil (ends_of old)) ∙ ap (λ xs. ends_of old ++ xs) (none via)
+  where
+    none : (via : Connection) → [] ≡ brought_for via None
+    none First = refl
+    none Second = refl
+steps_bring picks via reference block old new (Ok reports.Idle) f = search (arith, f.0)
+steps_bring picks via reference block old new (Ok (reports.Served other number unit lbn started seek ended)) f =
+    ap (of First) f.1.ends ∙ ap (λ xs. ends_of old ++ xs) (by other same)
+  where
+    connection_in : Report → Connection
+    connection_in (reports.Served c n u l b k e) = c
+    connection_in reports.Idle = other
+
+    same : other ≡ via
+    same =
+        let place = f.1.serves.0 in
+        let s = f.1.serves.1 in
+        let r = record_at old.waiting place in
+        ap connection_in s.told
+        ∙ ap (λ (n : Name). n.connection) (served_name old.begun (name_on via reference) r f.0 s.next.same)
+
+    by : (c : Connection) → c ≡ via
+        → (if same_connection c First then option_to_list ended else []) ≡ brought_for via ended
+    by First e = subst (λ x. option_to_list ended ≡ brought_for x ended) e refl
+    by Second e = subst (λ x. [] ≡ brought_for x ended) e refl
+
+-- ---- how many
+
+pub few_ends : {K : Type 0} (picks : List Choice → ℕ → Type 0) (c : Settings) (made : List Made) (h : Holdings K)
+    → IsValid c → KeepsPromise picks c made h → length (ends_of h) ≤ 64
+few_ends picks c made h valid k =
+    let t = history made in
+    let whole : length (waiting_by First t) + length (untaken c First t) ≤ credits_of c First =
+    subst (λ x. length (waiting_by First x) + length (untaken c First x) ≤ credits_of c First) (take-length t)
+    (k.promise.credits (length t) (search arith) First) in
+    few (length (ends_of h)) (length (untaken c First t)) (length (waiting_by First t)) c.credits c.second
+    (ap length (k.untaken First)) whole valid.few_credits
+  where
+    few : (n m w c d : ℕ) → n ≡ m → w + m ≤ c → c + d ≤ 64 → n ≤ 64
+    few n m w c d e f g = omega (arith, e, f, g)

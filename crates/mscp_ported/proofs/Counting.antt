@@ -1,0 +1,69 @@
+-- Slots that were given back, one behind the other, and what was told in them.
+use Rattle.std.proofs.Common.{◌≡◌, ◌∙◌, ◌+◌, ◌-◌, ◌*◌, ◌/◌, ◌%◌, ◌^◌, ◌++◌, ◌∷◌, [], ℕ, Bool, true, false, cond, length, nat_lt, List, Option, None, Some, IfSome, refl, ap, sym, arith}
+use Rattle.std.proofs.Math.Pow.{mod-mod-pow}
+use Rattle.std.proofs.Common.{mod-lt, pow_pos}
+use Rattle.mscp_port.specs.declared.rings.Side.{Side}
+use Rattle.mscp_port.specs.declared.rings.Side.TheVariants.{Responses, Commands}
+use Rattle.mscp_port.specs.Areas.{Rings, area_named, base_named, rings_named, slot_in}
+use Rattle.mscp_port.specs.Slots.{is_owned}
+use Rattle.mscp_ported.specs.Talk.{Slot, Packet, address_in}
+use Rattle.mscp_ported.specs.Told.{Said, StandInOrder, TellAll, Tells, left_after}
+use Rattle.mscp_ported.proofs.Look.{IsWide, left_all}
+
+-- ---- counts
+
+pub mod_power : (n d : ℕ) → (j : ℕ) × (k : ℕ) × (j + k ≡ 8) × (d ≡ 2 ^ k) → n % 256 % d ≡ n % d
+mod_power n d h =
+    ap (λ x. n % 256 % x) h.3 ∙ ap (λ x. n % 2 ^ x % 2 ^ h.1) (sym h.2) ∙ mod-mod-pow n h.0 h.1
+    ∙ ap (λ x. n % x) (sym h.3)
+
+count_mod : (r : Rings) (side : Side) (n : ℕ) → IsWide r → slot_in r side (n % 256) ≡ slot_in r side n
+count_mod r Responses n wide = ap (λ x. r.base + x * 4) (mod_power n r.responses wide.response_log)
+count_mod r Commands n wide = ap (λ x. r.base + (r.responses + x) * 4) (mod_power n r.commands wide.command_log)
+
+pub address_mod : (o : Option Rings) (side : Side) (n : ℕ) → IfSome o IsWide
+    → address_in o side (n % 256) ≡ address_in o side n
+address_mod None side n wide = refl
+address_mod (Some r) side n wide = count_mod r side n wide
+
+-- one more slot, behind the others
+pub one_more : (o : Option Rings) (side : Side) (n : ℕ) (xs : List Slot) (x : Slot) → StandInOrder o side n xs
+    → x.side ≡ side → x.address ≡ address_in o side (n + length xs) → is_owned x.word ≡ true
+    → StandInOrder o side n (xs ++ x ∷ [])
+one_more o side n [] x h at place own = (at, place ∙ ap (address_in o side) (search arith), own, tt)
+one_more o side n (y ∷ ys) x h at place own = (
+  h.0,
+  h.1,
+  h.2,
+  one_more o side (n + 1) ys x h.3 at (place ∙ ap (address_in o side) (search arith)) own,
+)
+
+pub tell_more : (left : ℕ) (ps : List Packet) (xs : List Said) (p : Packet) (x : Said) → TellAll left ps xs
+    → Tells (left_all left xs) p x → TellAll left (ps ++ p ∷ []) (xs ++ x ∷ [])
+tell_more left [] [] p x h one = (one, tt)
+tell_more left [] (y ∷ ys) p x h one = absurd h
+tell_more left (q ∷ qs) [] p x h one = absurd h
+tell_more left (q ∷ qs) (y ∷ ys) p x h one = (h.0, tell_more (left_after left y.kind) qs ys p x h.1 one)
+
+pub left_more : (left : ℕ) (xs : List Said) (x : Said) → left_all left (xs ++ x ∷ []) ≡ left_after (left_all left xs) x.kind
+left_more left [] x = refl
+left_more left (y ∷ ys) x = left_more (left_after left y.kind) ys x
+
+-- ---- rings that were named
+
+slots_log : (n : ℕ) → (j : ℕ) × (k : ℕ) × (j + k ≡ 8) × (2 ^ (n % 8) ≡ 2 ^ k)
+slots_log n = (8 - n % 8, n % 8, search (arith, mod-lt n), refl)
+
+pub named_wide : (first second third : ℕ) → IfSome (rings_named first second third) IsWide
+named_wide first second third = by (nat_lt (base_named second third) 8) refl
+  where
+    by : (b : Bool) → nat_lt (base_named second third) 8 ≡ b
+        → IfSome (cond b None (Some (area_named first second third))) IsWide
+    by true e = tt
+    by false e = record {
+      responses = pow_pos (first / 0x0100 % 8);
+      commands = pow_pos (first / 0x0800 % 8);
+      response_log = slots_log (first / 0x0100);
+      command_log = slots_log (first / 0x0800);
+      room = search (arith, e);
+    }

@@ -1,0 +1,149 @@
+-- The ends that came go out with what was decided of them, call by call.
+use Rattle.std.proofs.Common.{◌≡◌, ◌∙◌, ◌++◌, ◌∷◌, [], ℕ, Bool, true, false, cond, drop, length, map, List, refl, ap, sym, subst, arith, append_assoc}
+use Rattle.std.proofs.lemmas.List.{append-nil, length-append, length-map}
+use Rattle.std.proofs.Math.Seq.{drop-append_seam}
+use Rattle.mscp_packet.specs.declared.end.End.{End}
+use Rattle.mscp_drive.specs.Shape.{Shape}
+use Rattle.mscp_port.specs.declared.decided.Decided.{Decided}
+use Rattle.mscp_port.specs.declared.hardware.Hardware.{Hardware}
+use Rattle.mscp_port.specs.declared.port.Port.{Port}
+use Rattle.mscp_port.specs.Histories.{Call}
+use Rattle.mscp_ported.specs.Ends.{Leaving, came_by, come, end_text, ends_said_by}
+use Rattle.mscp_ported.specs.Talk.{is_dead, since}
+use Rattle.mscp_ported.proofs.Coming.{ends_of}
+use Rattle.mscp_ported.proofs.Tables.{fields_of}
+
+-- ---- ends, with what is decided of them
+
+abbrev pub left_with : End → Decided → Leaving
+left_with e d = record { end = e; fields = fields_of d }
+
+abbrev pub zipped : List End → List Decided → List Leaving
+zipped [] ds = []
+zipped (e ∷ es) [] = []
+zipped (e ∷ es) (d ∷ ds) = left_with e d ∷ zipped es ds
+
+zip_more : (es fs : List End) (ds gs : List Decided) → length es ≡ length ds
+    → zipped (es ++ fs) (ds ++ gs) ≡ zipped es ds ++ zipped fs gs
+zip_more [] fs [] gs e = refl
+zip_more [] fs (d ∷ ds) gs e = search (arith, e)
+zip_more (x ∷ es) fs [] gs e = search (arith, e)
+zip_more (x ∷ es) fs (d ∷ ds) gs e = ap (λ xs. left_with x d ∷ xs) (zip_more es fs ds gs (search (arith, e)))
+
+zip_map : (f : End → Decided) (g : End → Leaving) (es : List End) → ((e : End) → left_with e (f e) ≡ g e)
+    → zipped es (map f es) ≡ map g es
+zip_map f g [] same = refl
+zip_map f g (e ∷ es) same = ap (λ l. l ∷ zipped es (map f es)) (same e) ∙ ap (λ xs. g e ∷ xs) (zip_map f g es same)
+
+pub zip_ends : (es : List End) (ds : List Decided) → length es ≡ length ds → map (λ l. l.end) (zipped es ds) ≡ es
+zip_ends [] ds e = refl
+zip_ends (x ∷ es) [] e = search (arith, e)
+zip_ends (x ∷ es) (d ∷ ds) e = ap (λ xs. x ∷ xs) (zip_ends es ds (search (arith, e)))
+
+-- ---- what is kept
+
+pub record Ends {K : Type 0} (h : Hardware) (units : List Shape) (p : Port K) (came : List Leaving)
+    (said : List (List ℕ)) : Type 0 where
+  pub gone : List Leaving
+  pub all : came ≡ gone ++ zipped (ends_of p.controller) p.decided.items
+  pub long : length (ends_of p.controller) ≡ length p.decided.items
+  pub texts : said ≡ map (end_text h units) gone
+  pub dead : is_dead p.stage ≡ true → ends_of p.controller ≡ []
+
+-- all was forgotten
+pub none_left : {K : Type 0} (h : Hardware) (units : List Shape) (p : Port K) → ends_of p.controller ≡ []
+    → p.decided.items ≡ [] → Ends h units p [] []
+none_left h units p ends decided = record {
+  gone = [];
+  all = sym (ap (λ es. zipped es p.decided.items) ends);
+  long = ap length ends ∙ sym (ap length decided);
+  texts = refl;
+  dead = λ d. ends;
+}
+
+no_more : (ds : List Decided) (es : List End) → es ≡ [] → length es ≡ length ds → ds ≡ []
+no_more [] es e long = refl
+no_more (d ∷ ds) es e long = search (arith, e, long)
+
+-- by a call ends come, behind those that are there, with what is decided of each
+pub record Grows {K : Type 0} (old new : Port K) (f : End → Decided) : Type 0 where
+  pub brought : List End
+  pub ends : ends_of new.controller ≡ ends_of old.controller ++ brought
+  pub decided : new.decided.items ≡ old.decided.items ++ map f brought
+
+pub none_come : {K : Type 0} (old new : Port K) (f : End → Decided) → ends_of new.controller ≡ ends_of old.controller
+    → new.decided.items ≡ old.decided.items → Grows old new f
+none_come old new f ends decided = record {
+  brought = [];
+  ends = ends ∙ sym (append-nil (ends_of old.controller));
+  decided = decided ∙ sym (append-nil old.decided.items);
+}
+
+module _ {K : Type 0} (h : Hardware) (units : List Shape) (old new : Port K) (came : List Leaving)
+    (said : List (List ℕ)) (k : Ends h units old came said) where
+  pub grows : (f : End → Decided) (g : End → Leaving) → Grows old new f → ((e : End) → left_with e (f e) ≡ g e)
+      → is_dead new.stage ≡ false → Ends h units new (came ++ map g (come old new)) said
+  grows f g r same alive = record {
+    gone = k.gone;
+    all = ap (λ xs. xs ++ map g (come old new)) k.all
+        ∙ append_assoc k.gone (zipped (ends_of old.controller) old.decided.items) (map g (come old new))
+        ∙ ap (λ xs. k.gone ++ xs)
+        (ap (λ xs. zipped (ends_of old.controller) old.decided.items ++ map g xs) come_so
+        ∙ ap (λ xs. zipped (ends_of old.controller) old.decided.items ++ xs) (sym (zip_map f g r.brought same))
+        ∙ sym (zip_more (ends_of old.controller) r.brought old.decided.items (map f r.brought) k.long)
+        ∙ sym (ap (λ es. zipped es new.decided.items) r.ends
+        ∙ ap (zipped (ends_of old.controller ++ r.brought)) r.decided));
+    long = search (
+      arith,
+      ap length r.ends,
+      ap length r.decided,
+      length-append (ends_of old.controller) r.brought,
+      length-append old.decided.items (map f r.brought),
+      length-map r.brought f,
+      k.long,
+    );
+    texts = k.texts;
+    dead = λ d. search (arith, d, alive);
+  }
+    where
+      come_so : come old new ≡ r.brought
+      come_so = ap (drop (length (ends_of old.controller))) r.ends ∙ drop-append_seam (ends_of old.controller) r.brought
+
+  -- nothing comes and nothing is said
+  pub stays : (call : Call) → (is_dead new.stage ≡ true → is_dead old.stage ≡ true)
+      → ((s : _) (xs ys : List Leaving) → since s call xs ys ≡ cond (is_dead s) [] (xs ++ ys))
+      → ((s : _) (xs ys : List (List ℕ)) → since s call xs ys ≡ cond (is_dead s) [] (xs ++ ys))
+      → came_by call old new ≡ [] → ends_said_by call old new ≡ [] → ends_of new.controller ≡ ends_of old.controller
+      → new.decided.items ≡ old.decided.items
+      → Ends h units new (since new.stage call came (came_by call old new))
+      (since new.stage call said (ends_said_by call old new))
+  stays call dead reset_came reset_said no_came no_said ends decided = by (is_dead new.stage) refl
+    where
+      both : (xs : List Leaving) (ys : List (List ℕ)) → Ends h units new xs ys
+          → since new.stage call came (came_by call old new) ≡ xs
+          → since new.stage call said (ends_said_by call old new) ≡ ys
+          → Ends h units new (since new.stage call came (came_by call old new))
+          (since new.stage call said (ends_said_by call old new))
+      both xs ys x e f = subst (λ z. Ends h units new z (since new.stage call said (ends_said_by call old new))) (sym e)
+          (subst (λ z. Ends h units new xs z) (sym f) x)
+
+      by : (b : Bool) → is_dead new.stage ≡ b → Ends h units new (since new.stage call came (came_by call old new))
+          (since new.stage call said (ends_said_by call old new))
+      by true is =
+          let none = ends ∙ k.dead (dead is) in
+          both [] [] (none_left h units new none
+          (decided ∙ no_more old.decided.items (ends_of old.controller) (k.dead (dead is)) k.long))
+          (reset_came new.stage came _ ∙ ap (λ b. cond b [] (came ++ came_by call old new)) is)
+          (reset_said new.stage said _ ∙ ap (λ b. cond b [] (said ++ ends_said_by call old new)) is)
+      by false is = both came said (record {
+        gone = k.gone;
+        all = k.all ∙ ap (λ xs. k.gone ++ xs)
+            (sym (ap (λ es. zipped es new.decided.items) ends ∙ ap (zipped (ends_of old.controller)) decided));
+        long = ap length ends ∙ k.long ∙ sym (ap length decided);
+        texts = k.texts;
+        dead = λ d. search (arith, d, is);
+      })
+          (reset_came new.stage came _ ∙ ap (λ b. cond b [] (came ++ came_by call old new)) is
+          ∙ ap (λ xs. came ++ xs) no_came ∙ append-nil came)
+          (reset_said new.stage said _ ∙ ap (λ b. cond b [] (said ++ ends_said_by call old new)) is
+          ∙ ap (λ xs. said ++ xs) no_said ∙ append-nil said)

@@ -1,0 +1,180 @@
+-- What follows each call of a port, and so a list of calls.
+use Rattle.std.proofs.Common.{◌≡◌, ◌≢◌, ◌∙◌, ◌∷◌, [], ℕ, Bool, map, List, Option, None, Some, IfSome, inl, inr, refl, ap, sym, subst, arith}
+use Rattle.std.specs.Prelude.{Ok, Err, option_to_list}
+use Rattle.std.proofs.lemmas.List.{append-nil}
+use Rattle.mscp_controller.specs.Holdings.{Holdings}
+use Rattle.mscp_port.specs.declared.action.Action.{Action}
+use Rattle.mscp_port.specs.declared.hardware.Hardware.{Hardware}
+use Rattle.mscp_port.specs.declared.port.Port.{Port}
+use Rattle.mscp_port.specs.declared.rings.Side.TheVariants.{Commands}
+use Rattle.mscp_port.specs.declared.stage.Stage.TheVariants as stages
+use Rattle.mscp_port.specs.declared.task.Task.{Task}
+use Rattle.mscp_port.specs.declared.task.Task.TheVariants as tasks
+use Rattle.mscp_port.specs.Calls.{IsMadeOf}
+use Rattle.mscp_port.specs.Histories.{Answered, Becomes, Call, Picking, WriteIp, ReadIp, WriteSa, Next, PutAside, WasRead, Went, LookAgain, Tick, VolumeCame, VolumeWent, Protect}
+use Rattle.mscp_port.specs.Ports.{IsOfBlock}
+use Rattle.mscp_port.specs.Volumes.{place_in}
+use Rattle.mscp_ported.specs.Owed.{IsOwed}
+use Rattle.mscp_ported.specs.Talk.{AsksAlways, Idle, Message, Read, Talk, Turn, Wish, silence, talk_by, talk_of, wish}
+use Rattle.mscp_ported.specs.Told.{AreAccepted, Said, accepted, accepted_by, message_text, said, said_in}
+use Rattle.mscp_ported.proofs.After.{After, IsNoReset, IsPlain}
+use Rattle.mscp_ported.proofs.Look.{Fits, HasLeft, Hears, InStep, IsClear, IsOfRings, IsWide, NeedsOut, has_area, in_hand, look}
+use Rattle.mscp_ported.proofs.Going.{went}
+use Rattle.mscp_ported.proofs.Hearing.{was_read}
+use Rattle.mscp_ported.proofs.Plain.{again_so, aside_so, dies, lets_be, same_port, step_so, writes_ip}
+use Rattle.mscp_ported.proofs.Registers.{reads_ip, writes_sa}
+use Rattle.mscp_ported.proofs.Wanting.{follows}
+
+-- an action that was told of was wanted
+told_of : {K : Type 0} (call : Call) (old new : Port K) (t : Talk) (w : Option Wish) (said : List Said)
+    (texts : List (List ℕ)) → w ≢ None → InStep (look old) t w said texts
+    → ((x : Wish) → InStep (look old) t (Some x) said texts → After call old (look new) t (Some x) None said texts)
+    → After call old (look new) t w None said texts
+told_of call old new t None said texts some k get = absurd (some refl)
+told_of call old new t (Some x) said texts some k get = get x k
+
+module _ {K : Type 0} (picks : Picking K) (old new : Port K) (t : Talk) (said : List Said) (texts : List (List ℕ)) where
+  -- a call that is no report of an action
+  plain : (call : Call) → ((w : Option Wish) (x : Talk) → talk_by old.stage w call x ≡ x)
+      → IsNoReset call → accepted_by call old ≡ []
+      → IsPlain call old
+  plain call talk reset none = record { talk = talk; no_reset = reset; accepts = none }
+
+  pub after_call : (call : Call) (earlier : List Call) → AsksAlways (call ∷ earlier) → Becomes picks call old new
+      → InStep (look old) t (wish earlier) said texts
+      → After call old (look new) t (wish earlier) (wish (call ∷ earlier)) said texts
+  after_call WriteIp earlier asks r k = writes_ip old new t (wish earlier) None said texts r
+  after_call ReadIp earlier asks r k = reads_ip old new t (wish earlier) said texts r k
+  after_call (WriteSa word) earlier asks r k = writes_sa word old new t (wish earlier) said texts k r
+  after_call (Next blocks action bytes) earlier asks r k =
+      (follows (picks old.controller.picker) blocks old new action bytes t (wish earlier) said texts k r.0 r.1).after
+  after_call PutAside earlier asks r k = lets_be PutAside old new t (wish earlier) said texts
+      (plain PutAside (λ w x. refl) (record { said = λ s xs ys. refl; texts = λ s xs ys. refl }) refl) k _
+      (aside_so old.task) (ap look r)
+  after_call (WasRead bytes (Ok done)) earlier asks r k =
+      told_of (WasRead bytes (Ok done)) old new t (wish earlier) said texts asks.0 k
+      (λ w x. was_read old new t w bytes done said texts x r)
+  after_call (WasRead bytes (Err unasked)) earlier asks r k =
+      same_port (WasRead bytes (Err unasked)) old new t (wish earlier) said texts
+      (plain (WasRead bytes (Err unasked)) (λ w x. refl)
+      (record { said = λ s xs ys. refl; texts = λ s xs ys. refl }) refl) k r.unasked
+  after_call (Went outcome (Ok done)) earlier asks r k =
+      told_of (Went outcome (Ok done)) old new t (wish earlier) said texts asks.0 k
+      (λ w x. went (picks old.controller.picker) old new t w outcome done said texts x r (r.moves refl))
+  after_call (Went outcome (Err unasked)) earlier asks r k =
+      same_port (Went outcome (Err unasked)) old new t (wish earlier) said texts
+      (plain (Went outcome (Err unasked)) (λ w x. refl)
+      (record { said = λ s xs ys. refl; texts = λ s xs ys. refl }) refl) k r.unasked
+  after_call LookAgain earlier asks r k = lets_be LookAgain old new t (wish earlier) said texts
+      (plain LookAgain (λ w x. refl) (record { said = λ s xs ys. refl; texts = λ s xs ys. refl }) refl) k _
+      (again_so old.task) (ap look r)
+  after_call Tick earlier asks r k = elim r.either [
+    | inl e ↦ lets_be Tick old new t (wish earlier) said texts
+        (plain Tick (λ w x. refl) (record { said = λ s xs ys. refl; texts = λ s xs ys. refl }) refl) k _
+        (again_so old.task) (ap look e)
+    | inr n ↦ dies Tick 9 old new t (wish earlier) (wish earlier) said texts
+        (record { said = λ s xs ys. refl; texts = λ s xs ys. refl }) n
+  ]
+  after_call (VolumeCame m unit (Ok done)) earlier asks r k =
+      lets_be (VolumeCame m unit (Ok done)) old new t (wish earlier) said texts
+      (plain (VolumeCame m unit (Ok done)) (λ w x. refl)
+      (record { said = λ s xs ys. refl; texts = λ s xs ys. refl }) refl) k _
+      (step_so (place_in old.controller.settings.units unit) old.task) (ap look (r.came refl))
+  after_call (VolumeCame m unit (Err fault)) earlier asks r k =
+      same_port (VolumeCame m unit (Err fault)) old new t (wish earlier) said texts
+      (plain (VolumeCame m unit (Err fault)) (λ w x. refl)
+      (record { said = λ s xs ys. refl; texts = λ s xs ys. refl }) refl) k r.refused
+  after_call (VolumeWent unit result) earlier asks r k =
+      lets_be (VolumeWent unit result) old new t (wish earlier) said texts
+      (plain (VolumeWent unit result) (λ w x. refl)
+      (record { said = λ s xs ys. refl; texts = λ s xs ys. refl }) refl) k _
+      (step_so (place_in old.controller.settings.units unit) old.task) (ap look r.frame)
+  after_call (Protect protected unit result) earlier asks r k =
+      lets_be (Protect protected unit result) old new t (wish earlier) said texts
+      (plain (Protect protected unit result) (λ w x. refl)
+      (record { said = λ s xs ys. refl; texts = λ s xs ys. refl }) refl) k _
+      (step_so (place_in old.controller.settings.units unit) old.task) (ap look r.frame)
+
+asked_before : (call : Call) (earlier : List Call) → AsksAlways (call ∷ earlier) → AsksAlways earlier
+asked_before (WasRead bytes (Ok done)) earlier asks = asks.1
+asked_before (Went outcome (Ok done)) earlier asks = asks.1
+asked_before call earlier asks = asks
+
+module _ {K : Type 0} (picks : Picking K) (hardware : Hardware) (credits : ℕ) (controller : Holdings K)
+    (start : Port K) (made : IsMadeOf hardware credits controller start) where
+  begins_so : (p : Port K) → p ≡ start → InStep (look p) silence None [] []
+  begins_so p e = record {
+    names = record {
+      first_so = sym (ap (λ (q : Port K). q.words.first) e ∙ ap (λ w. w.first) made.words);
+      second_so = sym (ap (λ (q : Port K). q.words.second) e ∙ ap (λ w. w.second) made.words);
+      answer_so = subst (λ o. IfSome o (λ w. 0 ≡ w)) (sym (ap (λ (q : Port K). q.written) e ∙ made.written)) tt;
+      named_so = sym none;
+      area = λ h. search (arith, h, ap has_area stage);
+      early = λ h. none;
+      wide = subst (λ o. IfSome o IsWide) (sym none) tt;
+    };
+    counts = record {
+      told_so = ap (λ (q : Port K). q.responses) e ∙ made.responses;
+      heard_so = ap (λ (q : Port K). q.commands) e ∙ made.commands;
+      packets = tt;
+      messages = tt;
+      none = λ h. (refl, refl);
+    };
+    hand = record {
+      fits = subst (λ x. Fits (look p) x Idle) (sym free) tt;
+      asked = tt;
+      up = λ h. absurd (subst (λ x. IsOfRings x) free h);
+      step = λ h. search (arith, free, h);
+      clear = λ h. absurd (subst (λ x. IsClear x) free h);
+      own = tt;
+      idle = λ h. tt;
+      wished = λ h is. subst (λ x. IsOfBlock x) free is;
+    };
+    speech = record {
+      out = λ h. absurd (h quiet);
+      has = λ h. absurd (subst (λ x. NeedsOut x) free h);
+      tells = (
+        [],
+        ap (λ o. map said_in (option_to_list o)) quiet,
+        tt,
+        subst (λ x. HasLeft x Idle p.outgoing p.untold p.more) (sym free)
+            (ap (λ (q : Port K). q.untold) e ∙ made.untold ∙ sym (ap (λ (q : Port K). q.more) e)),
+      );
+    };
+    hears = ap (λ x. in_hand x Idle) free;
+    ended = λ d. record { talk = refl; none_said = refl; none_accepted = refl };
+  }
+    where
+      stage : p.stage ≡ stages.First
+      stage = ap (λ (q : Port K). q.stage) e ∙ made.first
+
+      free : p.task ≡ tasks.Free
+      free = ap (λ (q : Port K). q.task) e ∙ made.free
+
+      none : p.rings ≡ None
+      none = ap (λ (q : Port K). q.rings) e ∙ made.rings
+
+      quiet : p.outgoing ≡ None
+      quiet = ap (λ (q : Port K). q.outgoing) e ∙ made.outgoing
+
+  pub in_step : (p : Port K) (calls : List Call) → AsksAlways calls → (a : Answered picks start calls p)
+      → InStep (look p) (talk_of picks start p calls a) (wish calls) (said picks start p calls a)
+      (accepted picks start p calls a)
+  in_step p [] asks a = begins_so p a
+  in_step p (call ∷ calls) asks a =
+      after_call picks a.0 p (talk_of picks start a.0 calls a.1) (said picks start a.0 calls a.1)
+      (accepted picks start a.0 calls a.1) call calls asks a.2 (in_step a.0 calls (asked_before call calls asks) a.1)
+
+  pub owed_so : (p : Port K) (calls : List Call) (blocks : Bool) (action : Action) (bytes : List ℕ) → AsksAlways calls
+      → (a : Answered picks start (Next blocks action bytes ∷ calls) p)
+      → IsOwed p.stage (talk_of picks start a.0 calls a.1) (talk_of picks start a.0 calls a.1).turn action bytes
+  owed_so p calls blocks action bytes asks a =
+      (follows (picks a.0.controller.picker) blocks a.0 p action bytes (talk_of picks start a.0 calls a.1) (wish calls)
+      (said picks start a.0 calls a.1) (accepted picks start a.0 calls a.1) (in_step a.0 calls asks a.1) a.2.0 a.2.1).owed
+
+-- what was accepted, by the message in hand
+pub accepted_so : (task : Task) (turn : Turn) (heard : List Message) (texts : List (List ℕ))
+    → Hears task turn heard texts → AreAccepted heard turn texts
+accepted_so (tasks.Return Commands slot) (Read at header text) heard texts h =
+    inr (at, header, text, refl, sym h)
+accepted_so task turn heard texts h = inl (sym h ∙ append-nil (map message_text heard))

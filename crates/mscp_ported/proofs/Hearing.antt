@@ -1,0 +1,325 @@
+-- What follows when bytes of a host's memory were read.
+use Rattle.std.proofs.Common.{◌≡◌, ◌≢◌, ◌⊎◌, ◌∙◌, ◌≤◌, ◌++◌, ◌∷◌, [], ℕ, Bool, true, false, cond, length, map, List, Option, None, Some, IfSome, IsSomeAnd, MatchOption, inl, inr, refl, ap, sym, subst, arith}
+use Rattle.std.specs.Prelude.{◌==◌, Result, Ok, Err}
+use Rattle.std.proofs.Common.{mod-lt}
+use Rattle.std.proofs.lemmas.List.{append-nil}
+use Rattle.std.proofs.lemmas.Option.{none-some}
+use Rattle.mscp_packet.specs.Number.{num}
+use Rattle.mscp_controller.specs.declared.entry.Sent.TheVariants as sents
+use Rattle.mscp_port.specs.declared.action.Action.{Action}
+use Rattle.mscp_port.specs.declared.action.Action.TheVariants as actions
+use Rattle.mscp_port.specs.declared.port.Outgoing.{Outgoing}
+use Rattle.mscp_port.specs.declared.port.Port.{Port}
+use Rattle.mscp_port.specs.declared.rings.Side.{Side}
+use Rattle.mscp_port.specs.declared.rings.Side.TheVariants.{Responses, Commands}
+use Rattle.mscp_port.specs.declared.slot.Descriptor.{Descriptor}
+use Rattle.mscp_port.specs.declared.stage.Stage.TheVariants as stages
+use Rattle.mscp_port.specs.declared.task.Task.{Task}
+use Rattle.mscp_port.specs.declared.task.Task.TheVariants as tasks
+use Rattle.mscp_port.specs.Areas.{Rings, slot_in}
+use Rattle.mscp_port.specs.Calls.{Hears as Reads}
+use Rattle.mscp_port.specs.Departures.{begins}
+use Rattle.mscp_port.specs.Histories.{WasRead}
+use Rattle.mscp_port.specs.Messages.{own_end_of}
+use Rattle.mscp_port.specs.Ports.{IsAsNew, IsOfBlock, read_size}
+use Rattle.mscp_port.specs.Seen.{SeesText, answered_to, bytes_read, connection_in, header_fault, length_in, stays}
+use Rattle.mscp_port.specs.Slots.{is_owned}
+use Rattle.mscp_ported.specs.Talk.{Wish, Slot, Turn, Idle, Taken, Opened, Read, Looks, Marks, Message, Packet, Talk, address_in, is_dead, read_by, read_turn, side_at, slot_read, stepped, takes}
+use Rattle.mscp_ported.specs.Told.{Said, accepted_by, accepted_text, accepts, message_text, said_in}
+use Rattle.mscp_ported.proofs.After.{After, IsNoReset, alters, none_said, say_on, same_stage}
+use Rattle.mscp_ported.proofs.Look.{AreTold, Counts, Fits, Hears, InStep, IsAsked, IsClear, IsOfRings, IsOpen, IsOwned, IsRead, IsWide, IsTelling, Look, NeedsOut, given_at, in_hand, is_loud, look, slot_at, told_on}
+use Rattle.mscp_ported.proofs.Plain.{dies}
+
+-- ---- the rings are in use
+
+-- all but the names may have become other
+pub up_step : (l : Look) (t : Talk) (w : Option Wish) (said said' : List Said) (texts texts' : List (List ℕ))
+    (responses commands : ℕ) (task : Task) (outgoing : Option Outgoing) (untold : ℕ) (turn : Turn) (told : List Packet)
+    (heard : List Message) → InStep l t w said texts → l.stage ≡ stages.Up
+    → Counts l.rings responses commands told heard
+    → Fits (record l {
+      responses = responses;
+      commands = commands;
+      task = task;
+      outgoing = outgoing;
+      untold = untold;
+    }) task turn
+    → IsOwned turn → (NeedsOut task → outgoing ≢ None) → (IsClear task → ⊥)
+    → (IsOfBlock task → ⊥) → AreTold l.more task turn outgoing untold told said'
+    → Hears task turn heard texts'
+    → InStep (record l {
+      responses = responses;
+      commands = commands;
+      task = task;
+      outgoing = outgoing;
+      untold = untold;
+    }) (record t { turn = turn; told = told; heard = heard }) None said' texts'
+up_step l t w said said' texts texts' responses commands task outgoing untold turn told heard k up counts fits own has
+    clear no_block tells hears = record {
+      names = k.names;
+      counts = counts;
+      hand = record {
+        fits = fits;
+        asked = tt;
+        up = λ h. up;
+        step = λ h. ap is_loud up;
+        clear = λ h. absurd (clear h);
+        own = own;
+        idle = λ h. absurd (h up);
+        wished = λ e h. no_block h;
+      };
+      speech = record { out = λ h. up; has = has; tells = tells };
+      hears = hears;
+      ended = λ d. absurd (search (arith, d, ap is_dead up));
+    }
+
+-- a slot's address lies in its ring
+side_of : (r : Rings) (side : Side) (n : ℕ) → 1 ≤ r.responses → side_at (Some r) (slot_in r side n) ≡ side
+side_of r Responses n wide = search (arith, mod-lt n)
+side_of r Commands n wide = search arith
+
+module _ {K : Type 0} (old new : Port K) (t : Talk) (w : Wish) (bytes : List ℕ) (done : Unit) (said : List Said)
+    (texts : List (List ℕ)) (k : InStep (look old) t (Some w) said texts) (r : Reads bytes old (Ok done) new) where
+  abbrev So : Type 0
+  So = After (WasRead bytes (Ok done)) old (look new) t (Some w) None said texts
+
+  no_reset : IsNoReset (WasRead bytes (Ok done))
+  no_reset = record { said = λ s xs ys. refl; texts = λ s xs ys. refl }
+
+  -- what is read in a task of the rings, after which the port looks so
+  read_on : (l : Look) (t' : Talk) (said' : List Said) (texts' : List (List ℕ)) → look new ≡ l → l.stage ≡ old.stage
+      → old.stage ≡ stages.Up → read_by w.action bytes t ≡ t'
+      → said ++ map said_in (begins old.outgoing l.outgoing) ≡ said'
+      → texts ++ accepted_by (WasRead bytes (Ok done)) old ≡ texts' → InStep l t' None said' texts' → So
+  read_on l t' said' texts' e stage up talk more_said more_texts x =
+      subst (λ y. After (WasRead bytes (Ok done)) old y t (Some w) None said texts) (sym e)
+      (alters (WasRead bytes (Ok done)) old l t t' (Some w) None said said' texts texts' no_reset
+      (ap is_dead (stage ∙ up))
+      (ap (λ s. stepped old.stage s (read_by w.action bytes t)) stage
+      ∙ same_stage old.stage _ ∙ talk)
+      more_said more_texts x)
+
+  -- nothing but the task became another, and nothing is accepted
+  task_on : (task task' : Task) (turn : Turn) → old.task ≡ task → IsOfRings task
+      → look new ≡ record (look old) { task = task' } → read_by w.action bytes t ≡ record t { turn = turn }
+      → accepted_by (WasRead bytes (Ok done)) old ≡ [] → Fits (record (look old) { task = task' }) task' turn
+      → IsOwned turn → (NeedsOut task' → old.outgoing ≢ None) → (IsClear task' → ⊥) → (IsOfBlock task' → ⊥) → (IsTelling task → ⊥)
+      → (IsTelling task' → ⊥) → in_hand task t.turn ≡ [] → in_hand task' turn ≡ [] → So
+  task_on task task' turn at ring e talk none fits own has clear no_block calm calm' before after =
+      let up : old.stage ≡ stages.Up = k.hand.up (subst (λ x. IsOfRings x) (sym at) ring) in
+      read_on (record (look old) { task = task' }) (record t { turn = turn }) said texts e refl up talk
+      (none_said old.outgoing old.outgoing said refl) (ap (λ ys. texts ++ ys) none ∙ append-nil texts)
+      (up_step (look old) t (Some w) said said texts texts old.responses old.commands task' old.outgoing old.untold turn
+      t.told t.heard k up k.counts fits own has clear no_block
+      (told_on old.more old.task task' t.turn turn old.outgoing old.untold t.told said
+      (subst (λ x. IsTelling x → ⊥) (sym at) calm) calm' k.speech.tells)
+      (ap (λ xs. map message_text t.heard ++ xs) (after ∙ sym (ap (λ x. in_hand x t.turn) at ∙ before)) ∙ k.hears))
+
+  -- ---- a slot
+
+  slot_talk : (side : Side) → old.task ≡ tasks.Slot side
+      → read_by w.action bytes t ≡ record t { turn = takes (slot_at (look old) side (num bytes 0 4)) }
+  slot_talk side at = with_rings old.rings refl (subst (λ x. IsAsked (look old) x w) at k.hand.asked)
+    where
+      open_read : (x : Turn) (o : Option Rings) (address : ℕ) → IsOpen x
+          → read_turn o address bytes x ≡ takes (slot_read o address bytes)
+      open_read Idle o address fit = refl
+      open_read (Read slot header text) o address fit = refl
+      open_read x o address fit = absurd fit
+
+      with_rings : (o : Option Rings) → old.rings ≡ o
+          → IsSomeAnd o (λ x. w.action ≡ actions.Read (slot_in x side (given_at (look old) side)) 4)
+          → read_by w.action bytes t ≡ record t { turn = takes (slot_at (look old) side (num bytes 0 4)) }
+      with_rings None e h = absurd h
+      with_rings (Some area) e h =
+          let wide : IsWide area = subst (λ o. IfSome o IsWide) e k.names.wide in
+          let n = given_at (look old) side in
+          let named : t.rings ≡ Some area = k.names.named_so ∙ e in
+          ap (λ a. read_by a bytes t) h
+          ∙ ap (λ x. record t { turn = x })
+          (open_read t.turn t.rings (slot_in area side n) (subst (λ x. Fits (look old) x t.turn) at k.hand.fits)
+          ∙ ap (λ o. takes (slot_read o (slot_in area side n) bytes)) named
+          ∙ ap (λ s. takes (record { side = s; address = slot_in area side n; word = num bytes 0 4 }))
+          (side_of area side n wide.responses)
+          ∙ ap (λ o. takes (record {
+            side = side;
+            address = address_in o side n;
+            word = num bytes 0 4;
+          })) (sym e))
+
+  slot_read_so : (side : Side) → old.task ≡ tasks.Slot side → So
+  slot_read_so side at = by side at
+    where
+      not_accepted : (s : Side) → old.task ≡ tasks.Slot s → accepted_by (WasRead bytes (Ok done)) old ≡ []
+      not_accepted s e = ap (λ x. accepted_text old x bytes) e
+
+      of_responses : old.task ≡ tasks.Slot Responses → (b : Bool) → is_owned (num bytes 0 4) ≡ b
+          → new ≡ cond b (record old { task = tasks.Packet (record { word = num bytes 0 4 }) })
+          (record old { is_full = true; task = tasks.Free })
+          → read_by w.action bytes t
+          ≡ record t { turn = cond b (Taken (slot_at (look old) Responses (num bytes 0 4))) Idle } → So
+      of_responses e true own h talk =
+          task_on (tasks.Slot Responses) (tasks.Packet (record { word = num bytes 0 4 }))
+          (Taken (slot_at (look old) Responses (num bytes 0 4))) e tt (ap look h) talk (not_accepted Responses e) refl own
+          (λ x. k.speech.has (subst (λ x. NeedsOut x) (sym e) tt)) (λ x. x) (λ x. x) (λ x. x) (λ x. x) refl refl
+      of_responses e false own h talk =
+          task_on (tasks.Slot Responses) tasks.Free Idle e tt (ap look h) talk (not_accepted Responses e) tt tt
+          (λ x. absurd x) (λ x. x) (λ x. x) (λ x. x) (λ x. x) refl refl
+
+      of_commands : old.task ≡ tasks.Slot Commands → (b : Bool) → is_owned (num bytes 0 4) ≡ b
+          → new ≡ cond b (record old { task = tasks.Header (record { word = num bytes 0 4 }) })
+          (record old { is_polled = false; task = tasks.Free })
+          → read_by w.action bytes t
+          ≡ record t { turn = cond b (Taken (slot_at (look old) Commands (num bytes 0 4))) Idle } → So
+      of_commands e true own h talk =
+          task_on (tasks.Slot Commands) (tasks.Header (record { word = num bytes 0 4 }))
+          (Taken (slot_at (look old) Commands (num bytes 0 4))) e tt (ap look h) talk (not_accepted Commands e) refl own
+          (λ x. absurd x) (λ x. x) (λ x. x) (λ x. x) (λ x. x) refl refl
+      of_commands e false own h talk =
+          task_on (tasks.Slot Commands) tasks.Free Idle e tt (ap look h) talk (not_accepted Commands e) tt tt
+          (λ x. absurd x) (λ x. x) (λ x. x) (λ x. x) (λ x. x) refl refl
+
+      by : (s : Side) → old.task ≡ tasks.Slot s → So
+      by Responses e = of_responses e (is_owned (num bytes 0 4)) refl ((r.sees refl).slot Responses e)
+          (slot_talk Responses e)
+      by Commands e = of_commands e (is_owned (num bytes 0 4)) refl ((r.sees refl).slot Commands e)
+          (slot_talk Commands e)
+
+  -- ---- the slot in front, a header, a text
+
+  read_one : (x y : Turn) → t.turn ≡ x → IsRead w.action
+      → ((address : ℕ) → read_turn t.rings address bytes x ≡ y) → read_by w.action bytes t ≡ record t { turn = y }
+  read_one x y e is h = by w.action is
+    where
+      by : (a : Action) → IsRead a → read_by a bytes t ≡ record t { turn = y }
+      by (actions.Read address count) is =
+          ap (λ u. record t { turn = read_turn t.rings address bytes u }) e ∙ ap (λ u. record t { turn = u }) (h address)
+      by a is = absurd is
+
+  neighbour_so : (side : Side) → old.task ≡ tasks.Neighbour side → So
+  neighbour_so side at = by (is_owned (num bytes 0 4)) ((r.sees refl).neighbour side at)
+      (read_one (Looks side) (cond (is_owned (num bytes 0 4)) (Marks side) Idle)
+      (subst (λ x. Fits (look old) x t.turn) at k.hand.fits) (subst (λ x. IsAsked (look old) x w) at k.hand.asked)
+      (λ address. refl))
+    where
+      none : accepted_by (WasRead bytes (Ok done)) old ≡ []
+      none = ap (λ x. accepted_text old x bytes) at
+
+      by : (b : Bool) → new ≡ record old { task = cond b (tasks.Word side) tasks.Free }
+          → read_by w.action bytes t ≡ record t { turn = cond b (Marks side) Idle } → So
+      by true h talk = task_on (tasks.Neighbour side) (tasks.Word side) (Marks side) at tt (ap look h) talk none refl tt
+          (λ x. absurd x) (λ x. x) (λ x. x) (λ x. x) (λ x. x) refl refl
+      by false h talk = task_on (tasks.Neighbour side) tasks.Free Idle at tt (ap look h) talk none tt tt (λ x. absurd x)
+          (λ x. x) (λ x. x) (λ x. x) (λ x. x) refl refl
+
+  header_so : (slot : Descriptor) → old.task ≡ tasks.Header slot → So
+  header_so slot at = by (header_fault (num bytes 0 4)) ((r.sees refl).header slot at)
+    where
+      taken : t.turn ≡ Taken (slot_at (look old) Commands slot.word)
+      taken = subst (λ x. Fits (look old) x t.turn) at k.hand.fits
+
+      by : (o : Option ℕ) → MatchOption o
+          (new ≡ record old {
+            task = tasks.Text slot (bytes_read (length_in (num bytes 0 4))) (connection_in (num bytes 0 4) == 2);
+          })
+          (λ code. IsAsNew (stages.Dead code) old new) → So
+      by None h = task_on (tasks.Header slot)
+          (tasks.Text slot (bytes_read (length_in (num bytes 0 4))) (connection_in (num bytes 0 4) == 2))
+          (Opened (slot_at (look old) Commands slot.word) (num bytes 0 4)) at tt (ap look h)
+          (read_one (Taken (slot_at (look old) Commands slot.word))
+          (Opened (slot_at (look old) Commands slot.word) (num bytes 0 4)) taken
+          (subst (λ x. IsAsked (look old) x w) at k.hand.asked) (λ address. refl))
+          (ap (λ x. accepted_text old x bytes) at) (num bytes 0 4, refl, refl)
+          (subst (λ x. IsOwned x) taken k.hand.own) (λ x. absurd x) (λ x. x) (λ x. x) (λ x. x) (λ x. x) refl refl
+      by (Some code) h =
+          dies (WasRead bytes (Ok done)) code old new t (Some w) None said texts no_reset h
+
+  text_so : (slot : Descriptor) (size : ℕ) (foreign : Bool) → old.task ≡ tasks.Text slot size foreign → So
+  text_so slot size foreign at = by (own_end_of old foreign bytes) refl
+    where
+      s : Slot
+      s = slot_at (look old) Commands slot.word
+
+      sees : SeesText slot foreign bytes old new
+      sees = (r.sees refl).text slot size foreign at
+
+      up : old.stage ≡ stages.Up
+      up = k.hand.up (subst (λ x. IsOfRings x) (sym at) tt)
+
+      was : (header : ℕ) × (t.turn ≡ Opened s header) × (size ≡ bytes_read (length_in header))
+      was = subst (λ x. Fits (look old) x t.turn) at k.hand.fits
+
+      turn : Turn
+      turn = Read s was.0 bytes
+
+      own : IsOwned turn
+      own = subst (λ x. IsOwned x) was.1 k.hand.own
+
+      talk : read_by w.action bytes t ≡ record t { turn = turn }
+      talk = read_one (Opened s was.0) turn was.1 (subst (λ x. IsAsked (look old) x w) at k.hand.asked)
+          (λ address. refl)
+
+      heard_so : map message_text t.heard ++ [] ≡ texts
+      heard_so = ap (λ x. map message_text t.heard ++ in_hand x t.turn) (sym at) ∙ k.hears
+
+      accepted_so : (b : Bool) → accepts (own_end_of old foreign bytes) old.outgoing (answered_to old bytes) ≡ b
+          → accepted_by (WasRead bytes (Ok done)) old ≡ cond b (bytes ∷ []) []
+      accepted_so b e = ap (λ x. accepted_text old x bytes) at
+          ∙ ap (λ c. cond c (bytes ∷ []) []) e
+
+      -- its slot is given back
+      taken_so : (o : Option Outgoing) → accepts (own_end_of old foreign bytes) old.outgoing (answered_to old bytes) ≡ true
+          → look new ≡ record (look old) { outgoing = o; task = tasks.Return Commands slot }
+          → (o ≡ old.outgoing) ⊎ (old.outgoing ≡ None) → So
+      taken_so o is e either =
+          read_on (record (look old) { outgoing = o; task = tasks.Return Commands slot }) (record t { turn = turn })
+          (said ++ map said_in (begins old.outgoing o)) (texts ++ bytes ∷ []) e refl up
+          talk refl (ap (λ ys. texts ++ ys) (accepted_so true is))
+          (up_step (look old) t (Some w) said _ texts _ old.responses old.commands (tasks.Return Commands slot) o
+          old.untold turn t.told t.heard k up k.counts (was.0, bytes, refl) own (λ x. absurd x) (λ x. x) (λ x. x)
+          (say_on old.more old.task (tasks.Return Commands slot) t.turn turn old.outgoing o old.untold t.told said
+          (subst (λ x. IsTelling x → ⊥) (sym at) (λ x. x)) (λ x. x) either k.speech.tells)
+          (ap (λ xs. xs ++ bytes ∷ []) (sym (append-nil (map message_text t.heard)) ∙ heard_so)))
+
+      stays_so : accepts (own_end_of old foreign bytes) old.outgoing (answered_to old bytes) ≡ false → stays old new → So
+      stays_so no_more e = task_on (tasks.Text slot size foreign) tasks.Free turn at tt (ap look e) talk
+          (accepted_so false no_more) tt own (λ x. absurd x) (λ x. x) (λ x. x) (λ x. x) (λ x. x) refl refl
+
+      own_or : (e : _) → own_end_of old foreign bytes ≡ Some e → (o : Option Outgoing) → old.outgoing ≡ o → So
+      own_or e some None none =
+          taken_so new.outgoing (ap (λ x. accepts x old.outgoing (answered_to old bytes)) some
+          ∙ ap (λ x. accepts (Some e) x (answered_to old bytes)) none)
+          (ap look (sees.own (λ n. none-some e (sym n ∙ some)) none).0) (inr none)
+      own_or e some (Some x) out =
+          stays_so (ap (λ x. accepts x old.outgoing (answered_to old bytes)) some
+          ∙ ap (λ x. accepts (Some e) x (answered_to old bytes)) out)
+          (sees.own_waits (λ n. none-some e (sym n ∙ some)) (λ n. none-some x (sym n ∙ out)))
+
+      sent_or : own_end_of old foreign bytes ≡ None → (a : Result _ _) → answered_to old bytes ≡ a → So
+      sent_or none (Ok (sents.Queued reference)) ok =
+          taken_so old.outgoing (ap (λ x. accepts x old.outgoing (answered_to old bytes)) none
+          ∙ ap (accepts None old.outgoing) ok) (ap look (sees.sent (sents.Queued reference) none ok).frame) (inl refl)
+      sent_or none (Ok (sents.Answered reference aborted)) ok =
+          taken_so old.outgoing (ap (λ x. accepts x old.outgoing (answered_to old bytes)) none
+          ∙ ap (accepts None old.outgoing) ok) (ap look (sees.sent (sents.Answered reference aborted) none ok).frame)
+          (inl refl)
+      sent_or none (Err fault) err =
+          stays_so (ap (λ x. accepts x old.outgoing (answered_to old bytes)) none
+          ∙ ap (accepts None old.outgoing) err) (sees.waits fault none err)
+
+      by : (o : Option _) → own_end_of old foreign bytes ≡ o → So
+      by None none = sent_or none (answered_to old bytes) refl
+      by (Some e) some = own_or e some old.outgoing refl
+
+  not_read : (task : Task) → old.task ≡ task → read_size task ≡ None → So
+  not_read task at none = absurd (none-some (length bytes) (sym none ∙ sym (ap read_size at) ∙ r.only refl))
+
+  pub was_read : So
+  was_read = by old.task refl
+    where
+      by : (task : Task) → old.task ≡ task → So
+      by (tasks.Slot side) at = slot_read_so side at
+      by (tasks.Neighbour side) at = neighbour_so side at
+      by (tasks.Header slot) at = header_so slot at
+      by (tasks.Text slot size foreign) at = text_so slot size foreign at
+      by task at = not_read task at refl

@@ -1,0 +1,25 @@
+pub mod Look
+pub mod After
+pub mod Plain
+pub mod Registers
+pub mod Hearing
+pub mod Counting
+pub mod Acting
+pub mod Settling
+pub mod Giving
+pub mod Going
+pub mod Owing
+pub mod Wanting
+pub mod Following
+pub mod Staying
+pub mod Making
+pub mod Beginning
+pub mod Made
+pub mod Promised
+pub mod Moving
+mod Moved
+pub mod Tables
+pub mod Coming
+pub mod Ending
+pub mod Leaving
+pub mod Decided

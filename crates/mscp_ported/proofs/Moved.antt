@@ -1,0 +1,339 @@
+-- A block of which the controller is told that it went well was moved at its place.
+use Rattle.std.proofs.Common.{◌≡◌, ◌≢◌, ◌⊎◌, ◌∙◌, ◌+◌, ◌-◌, ◌*◌, ◌≤◌, ◌||◌, ◌&&◌, ◌∷◌, [], ℕ, All, Bool, true, false, cond, min, nat_eq, nat_lt, List, Option, None, Some, IfSome, inl, inr, refl, ap, sym, subst, arith}
+use Rattle.std.specs.Prelude.{Result, Ok, Err, find, option_map}
+use Rattle.std.specs.List.{position}
+use Rattle.std.proofs.lemmas.List.Elements.{All-head, All-tail}
+use Rattle.mscp_port.proofs.Common.{eqb-true}
+use Rattle.std.proofs.lemmas.Option.{none-some, same_Some}
+use Rattle.mscp_packet.specs.declared.command.MoveKind.{MoveKind}
+use Rattle.mscp_packet.specs.declared.command.Order.{Order}
+use Rattle.mscp_drive.specs.declared.block.Block.{Block}
+use Rattle.mscp_drive.specs.declared.block.Block.TheVariants as blocks
+use Rattle.mscp_drive.specs.declared.connection.Connection.{Connection}
+use Rattle.mscp_drive.specs.declared.connection.Connection.TheVariants.{First}
+use Rattle.mscp_queue.specs.declared.name.Name.{Name}
+use Rattle.mscp_queue.specs.declared.report.Report.{Report}
+use Rattle.mscp_queue.specs.declared.upcoming.Upcoming.{Upcoming}
+use Rattle.mscp_queue.specs.Names.{name_on}
+use Rattle.mscp_queue.specs.Records.{Record, has_name, name_of}
+use Rattle.mscp_queue.specs.Drives.{drive_of}
+use Rattle.mscp_queue.specs.Serving.{upcoming_begun, upcoming_of}
+use Rattle.mscp_queue.proofs.Named.{is_same}
+use Rattle.mscp_controller.specs.declared.entry.NotBegun.{NotBegun}
+use Rattle.mscp_controller.specs.Calls.{Finish, Call as Made}
+use Rattle.mscp_controller.specs.Holdings.{Holdings, begun_step}
+use Rattle.mscp_port.specs.declared.action.Action.TheVariants as actions
+use Rattle.mscp_port.specs.declared.action.Outcome.{Outcome}
+use Rattle.mscp_port.specs.declared.action.Outcome.TheVariants as outcomes
+use Rattle.mscp_port.specs.declared.buffers.Buffer.{Buffer}
+use Rattle.mscp_port.specs.declared.hardware.Hardware.{Hardware}
+use Rattle.mscp_port.specs.declared.port.Port.{Port}
+use Rattle.mscp_port.specs.declared.task.Task.{Task}
+use Rattle.mscp_port.specs.declared.task.Task.TheVariants as tasks
+use Rattle.mscp_port.specs.declared.verdict.Verdict.{Verdict}
+use Rattle.mscp_port.specs.declared.verdict.Verdict.TheVariants as verdicts
+use Rattle.mscp_port.specs.declared.volumes.Volume.{Volume}
+use Rattle.mscp_port.specs.Blocks.{fault_with, has_changed, is_available, kept_of, move_of, move_task, moved_by, part_task, part_with, refusal_of, takes_any_volume, task_of, unless_fault}
+use Rattle.mscp_port.specs.Buffers.{is_of, left_of, part_of}
+use Rattle.mscp_port.specs.Calls.{IsMadeOf}
+use Rattle.mscp_port.specs.Histories.{Answered, Call, Picking, Went}
+use Rattle.mscp_port.specs.Kept.{WasSaid}
+use Rattle.mscp_port.specs.Moved.{begun_task, block_begun, known_task, move_wanted, moved_step, part_at, part_now, part_wanted}
+use Rattle.mscp_port.specs.Ports.{IsOfBlock}
+use Rattle.mscp_port.specs.Volumes.{place_in, volume_at}
+use Rattle.mscp_port.proofs.Kept.{IsTo}
+use Rattle.mscp_port.proofs.Said.{Keeps, kept_found, of_first}
+use Rattle.mscp_port.proofs.Telling.{kept_was_said}
+use Rattle.mscp_ported.specs.Making.{IsFinish, Makes, step_told, told_as, told_of, told_unless, transfer_told}
+use Rattle.mscp_ported.specs.Moved.{WasMoved, block_moved}
+use Rattle.mscp_ported.specs.Talk.{AsksAlways, Wish, wish}
+use Rattle.mscp_ported.proofs.Moving.{Steps, steps}
+
+-- ---- what the controller is told
+
+good_told : (o : Option Block) (n : Option Name) (via : Connection) (reference : ℕ) (result : Result Report NotBegun)
+    → IsFinish o n (Finish via reference blocks.Good result ∷ []) → o ≡ Some blocks.Good
+good_told (Some block) (Some name) via reference result h = ap (λ xs. block_in xs) (sym h.1)
+  where
+    block_in : List Made → Option Block
+    block_in (Finish v r k answer ∷ more) = Some k
+    block_in xs = None
+good_told (Some block) None via reference result h = search (arith, h)
+good_told None n via reference result h = search (arith, h)
+
+good_verdict : (verdict : Verdict) → told_of verdict ≡ blocks.Good → verdict ≡ verdicts.Served blocks.Good
+good_verdict (verdicts.Served block) e = ap verdicts.Served e
+good_verdict verdicts.NoVolume e = search (arith, e)
+good_verdict verdicts.NotOnline e = search (arith, e)
+
+good_outcome : (outcome : Outcome) → told_as outcome ≡ blocks.Good → outcome ≡ outcomes.Done
+good_outcome outcomes.Done e = refl
+good_outcome outcome e = search (arith, e)
+
+-- ---- parts of buffers
+
+-- no step goes well that may not go on
+abbrev IsNoGood : Verdict → Type 0
+IsNoGood verdict = verdict ≢ verdicts.Served blocks.Good
+
+refused : (kind : MoveKind) (block : ℕ) (b : Buffer) (v : Volume) → IfSome (refusal_of kind block b v) IsNoGood
+refused kind block b v = grind arith
+
+faulty : (kind : MoveKind) (block : ℕ) (b : Buffer) (v : Volume) → IfSome (fault_with kind block b v) IsNoGood
+faulty kind block b v = grind (arith, refused)
+
+-- this part of a buffer is left, where a step may go on
+part_left : (kind : MoveKind) (block at : ℕ) (b : Buffer) (v : Volume) (part : ℕ × ℕ)
+    → part_with kind block at b v ≡ Ok part → part_of b at ≡ Some part
+part_left kind block at b v part e = by (fault_with kind block b v) (part_of b at) e
+  where
+    by : (o : Option Verdict) (q : Option (ℕ × ℕ)) → unless_fault o q ≡ Ok part → q ≡ Some part
+    by (Some verdict) q e = search (arith, e)
+    by None None e = search (arith, e)
+    by None (Some x) e = search (arith, e)
+
+no_good_part : (kind : MoveKind) (block at : ℕ) (b : Buffer) (v : Volume) (verdict : Verdict)
+    → part_with kind block at b v ≡ Err verdict → IsNoGood verdict
+no_good_part kind block at b v verdict e = by (fault_with kind block b v) (part_of b at) (faulty kind block b v) e
+  where
+    by : (o : Option Verdict) (q : Option (ℕ × ℕ)) → IfSome o IsNoGood → unless_fault o q ≡ Err verdict
+        → verdict ≢ verdicts.Served blocks.Good
+    by (Some x) q h e = search (arith, e, h)
+    by None None h e = search (arith, e)
+    by None (Some x) h e = search (arith, e)
+
+part_is : (b : Buffer) (at : ℕ) (part : ℕ × ℕ) → part_of b at ≡ Some part
+    → (part.0 ≡ b.address + at * 512) × (part.1 ≡ min (b.count - at * 512) 512)
+part_is b at part e = by (nat_lt b.count (at * 512) || nat_lt 0xFFFF_FFFF (b.address + at * 512 + left_of b at)) e
+  where
+    by : (c : Bool) → cond c None (Some (b.address + at * 512, left_of b at)) ≡ Some part
+        → (part.0 ≡ b.address + at * 512) × (part.1 ≡ min (b.count - at * 512) 512)
+    by true e = absurd (none-some part e)
+    by false e =
+        let same = same_Some (b.address + at * 512, left_of b at) part e in
+        (sym (ap (λ x. x.0) same), sym (ap (λ x. x.1) same))
+
+none_left : (n m : ℕ) → min (n - m) 512 ≡ 0 → n ≤ m
+none_left n m e = search (arith, e)
+
+-- ---- the step that is begun
+
+moved_so : (order : Order) (lbn : Option ℕ) → moved_by order lbn ≡ block_moved order lbn
+moved_so order lbn = grind arith
+
+is_move : (order : Order) (lbn : Option ℕ) (x : MoveKind × ℕ) → block_moved order lbn ≡ Some x
+    → (is_available order ≡ false)
+    × (takes_any_volume order ≡ false)
+is_move order lbn x e = grind (arith, none-some)
+
+module _ (u : Upcoming) (kind : MoveKind) (block : ℕ) (moves : block_moved u.command.order u.lbn ≡ Some (kind, block))
+  where
+    move_so : move_of u ≡ Some (kind, block)
+    move_so = moved_so u.command.order u.lbn ∙ moves
+
+    -- a step without a block goes well only where the buffer has no byte for it
+    good_part : (at : MoveKind × ℕ) (b : Buffer) (v : Volume) (r : Result (ℕ × ℕ) Verdict)
+        → part_with at.0 at.1 u.done b v ≡ r → part_task r ≡ tasks.Step (verdicts.Served blocks.Good)
+        → b.count ≤ u.done * 512
+    good_part at b v (Ok part) e h = by (nat_eq part.1 0) refl h
+      where
+        by : (c : Bool) → nat_eq part.1 0 ≡ c
+            → cond c (tasks.Step (verdicts.Served blocks.Good)) tasks.Transfer ≡ tasks.Step (verdicts.Served blocks.Good)
+            → b.count ≤ u.done * 512
+        by true is h = none_left b.count (u.done * 512)
+            (sym (part_is b u.done part (part_left at.0 at.1 u.done b v part e)).1 ∙ eqb-true part.1 0 is)
+        by false is h = search (arith, h)
+    good_part at b v (Err verdict) e h =
+        absurd (no_good_part at.0 at.1 u.done b v verdict e (ap (λ x. verdict_in x) h))
+      where
+        verdict_in : Task → Verdict
+        verdict_in (tasks.Step x) = x
+        verdict_in task = verdict
+
+    good_step : (b : Buffer) (v : Volume) → task_of u b v ≡ tasks.Step (verdicts.Served blocks.Good)
+        → b.count ≤ u.done * 512
+    good_step b v e =
+        let a = is_move u.command.order u.lbn (kind, block) moves in
+        by (is_available u.command.order) (v.is_there && takes_any_volume u.command.order) (has_changed b v) (move_of u)
+        a.0 (search (arith, a.1)) move_so e
+      where
+        good : Task
+        good = tasks.Step (verdicts.Served blocks.Good)
+
+        by : (x y z : Bool) (q : Option (MoveKind × ℕ)) → x ≡ false → y ≡ false → q ≡ Some (kind, block)
+            → cond x good (cond y good (cond z (tasks.Step verdicts.NoVolume) (move_task u q b v))) ≡ good
+            → b.count ≤ u.done * 512
+        by true y z q f g is h = search (arith, f)
+        by false true z q f g is h = search (arith, g)
+        by false false true q f g is h = search (arith, h)
+        by false false false None f g is h = absurd (none-some (kind, block) is)
+        by false false false (Some at) f g is h = good_part at b v (part_with at.0 at.1 u.done b v) refl h
+
+    -- of the buffer that is kept
+    begun_good : (o : Option ℕ) (k : Option Buffer) (volumes : List Volume)
+        → known_task u o k volumes ≡ tasks.Step (verdicts.Served blocks.Good)
+        → (b : Buffer) × (k ≡ Some b) × (b.count ≤ u.done * 512)
+    begun_good (Some place) (Some b) volumes e = (b, refl, good_step b (volume_at volumes place) e)
+    begun_good None k volumes e = search (arith, e)
+    begun_good (Some place) None volumes e = search (arith, e)
+
+    -- a part is known only of a buffer that is kept
+    part_of_kept : (o : Option ℕ) (k : Option Buffer) (volumes : List Volume) (part : ℕ × ℕ)
+        → part_at o k kind block u.done volumes ≡ Ok part → (b : Buffer) × (k ≡ Some b) × (part_of b u.done ≡ Some part)
+    part_of_kept (Some place) (Some b) volumes part e =
+        (b, refl, part_left kind block u.done b (volume_at volumes place) part e)
+    part_of_kept None k volumes part e = search (arith, e)
+    part_of_kept (Some place) None volumes part e = search (arith, e)
+
+    -- a block that went well was moved
+    moved_good : {K : Type 0} (old : Port K) (outcome : Outcome) (w : Option Wish) → begun_step old.controller ≡ Some u
+        → transfer_told old outcome (block_begun old) ≡ blocks.Good → w ≢ None
+        → IfSome w (λ x. x.action ≡ move_wanted old (block_begun old))
+        → (b : Buffer) × (kept_of u.connection u.command.reference old.buffers.items ≡ Some b)
+        × WasMoved b u kind block outcome w
+    moved_good {K} old outcome w begun told some wanted =
+        by (part_now old u kind block) refl (told_so) w some (subst (λ o. IfSome w (λ x. x.action
+        ≡ move_wanted old o)) at wanted)
+      where
+        at : block_begun old ≡ Some (u, kind, block)
+        at = ap moved_step begun ∙ ap (λ o. option_map (λ move. (u, move.0, move.1)) o) move_so
+
+        told_so : told_unless outcome (part_now old u kind block) ≡ blocks.Good
+        told_so = sym (ap (transfer_told old outcome) at) ∙ told
+
+        by : (r : Result (ℕ × ℕ) Verdict) → part_now old u kind block ≡ r
+            → told_unless outcome (part_now old u kind block) ≡ blocks.Good → (o : Option Wish) → o ≢ None
+            → IfSome o (λ x. x.action ≡ move_wanted old (Some (u, kind, block)))
+            → (b : Buffer) × (kept_of u.connection u.command.reference old.buffers.items ≡ Some b)
+            × WasMoved b u kind block outcome o
+        by r e told None some wanted = absurd (some refl)
+        by (Ok part) e told (Some x) some wanted =
+            let kept = part_of_kept (place_in old.controller.settings.units u.command.unit)
+            (kept_of u.connection u.command.reference old.buffers.items) old.volumes part e in
+            let is = part_is kept.0 u.done part kept.2 in (
+              kept.0,
+              kept.1,
+              (
+                good_outcome outcome (ap (told_unless outcome) (sym e) ∙ told),
+                record {
+                  action = wanted ∙ ap (part_wanted u kind block) e
+                      ∙ ap (λ n. actions.Transfer kind u.command.unit block n part.1) is.0
+                      ∙ ap (actions.Transfer kind u.command.unit block (kept.0.address + u.done * 512)) is.1;
+                },
+              ),
+            )
+        by (Err verdict) e told (Some x) some wanted = absurd (bad verdict e (ap (told_unless outcome) (sym e) ∙ told))
+          where
+            bad : (verdict : Verdict) → part_now old u kind block ≡ Err verdict → told_of verdict ≡ blocks.Good → ⊥
+            bad verdict e h = no_good_now (place_in old.controller.settings.units u.command.unit)
+                (kept_of u.connection u.command.reference old.buffers.items) e (good_verdict verdict h)
+              where
+                no_good_now : (o : Option ℕ) (k : Option Buffer)
+                    → part_at o k kind block u.done old.volumes ≡ Err verdict → verdict ≡ verdicts.Served blocks.Good → ⊥
+                no_good_now (Some place) (Some b) e is =
+                    no_good_part kind block u.done b (volume_at old.volumes place) verdict e is
+                no_good_now None k e is = search (arith, e, is)
+                no_good_now (Some place) None e is = search (arith, e, is)
+
+-- ---- who said it
+
+found_all : {A : Type 0} (P : A → Type 0) (f : A → Bool) (xs : List A) (x : A) → All P xs → find f xs ≡ Some x
+    → P x × (f x ≡ true)
+found_all P f [] x all e = absurd (none-some x e)
+found_all P f (y ∷ ys) x all e = by (f y) refl e (λ h. found_all P f ys x (All-tail P y ys all) h)
+  where
+    by : (b : Bool) → f y ≡ b → cond b (Some y) (find f ys) ≡ Some x
+        → (find f ys ≡ Some x → P x × (f x ≡ true)) → P x × (f x ≡ true)
+    by true is h rest =
+        let same = same_Some y x h in
+        (subst P same (All-head P y ys all), subst (λ z. f z ≡ true) same is)
+    by false is h rest = rest h
+
+-- the step that is begun is of a command that waits
+begun_of : {K : Type 0} (P : Record → Type 0) (h : Holdings K) (u : Upcoming) → All P h.waiting
+    → begun_step h ≡ Some u
+    → (r : Record) × P r × (u.connection ≡ r.connection) × (u.command ≡ r.command)
+begun_of {K} P h u all e = by h.begun e
+  where
+    by : (o : Option Name) → upcoming_begun h.drives h.waiting o ≡ Some u
+        → (r : Record) × P r × (u.connection ≡ r.connection) × (u.command ≡ r.command)
+    by None e = absurd (none-some u e)
+    by (Some name) e = found (find (has_name name) h.waiting) refl e
+      where
+        found : (o : Option Record) → find (has_name name) h.waiting ≡ o
+            → option_map (λ r. upcoming_of (drive_of h.drives r.command.unit) r) o ≡ Some u
+            → (r : Record) × P r × (u.connection ≡ r.connection) × (u.command ≡ r.command)
+        found None f e = absurd (none-some u e)
+        found (Some r) f e =
+            let same = same_Some (upcoming_of (drive_of h.drives r.command.unit) r) u e in (
+              r,
+              (found_all P (has_name name) h.waiting r all f).0,
+              sym (ap (λ (x : Upcoming). x.connection) same),
+              sym (ap (λ (x : Upcoming). x.command) same),
+            )
+
+-- what is kept for the step that is begun was said by a message of its number, to its unit
+kept_said : {K : Type 0} (said : ℕ → Buffer → Type 0) (p : Port K) (u : Upcoming) (b : Buffer)
+    → Keeps said p → begun_step p.controller ≡ Some u
+    → kept_of u.connection u.command.reference p.buffers.items ≡ Some b
+    → (u.connection ≡ First) × (b.reference ≡ u.command.reference) × said u.command.unit b
+kept_said {K} said p u b keeps begun kept =
+    let found = kept_found (is_of u.connection u.command.reference) p.buffers.items b
+    (position (is_of u.connection u.command.reference) p.buffers.items) refl kept in
+    let first = of_first u.connection u.command.reference b found.1 in
+    let is = keeps b found.0 in
+    let r = begun_of (IsTo (λ unit. said unit b) b.reference) p.controller u is.units begun in
+    let name : name_of r.0 ≡ name_on First b.reference =
+    ap (λ c. name_on c r.0.command.reference) (sym r.2 ∙ first.0)
+    ∙ ap (name_on First) (sym (ap (λ c. c.reference) r.3) ∙ sym first.1) in (
+      first.0,
+      first.1,
+      subst (λ c. said c.unit b) (sym r.3) (r.1 (is_same (name_of r.0) (name_on First b.reference) name)),
+    )
+
+module _ {K : Type 0} (picks : Picking K) (hardware : Hardware) (credits : ℕ) (controller : Holdings K)
+    (start : Port K) (made : IsMadeOf hardware credits controller start) where
+  pub moves_what_it_says : (p : Port K) (calls : List Call) (outcome : Outcome) (done : Unit) (via : Connection)
+      (reference : ℕ) (result : Result Report NotBegun) (u : Upcoming) (kind : MoveKind) (block : ℕ)
+      → AsksAlways (Went outcome (Ok done) ∷ calls) → (a : Answered picks start (Went outcome (Ok done) ∷ calls) p)
+      → Makes (Went outcome (Ok done)) a.0 p (Finish via reference blocks.Good result ∷ [])
+      → begun_step a.0.controller ≡ Some u → block_moved u.command.order u.lbn ≡ Some (kind, block)
+      → (b : Buffer) × (u.connection ≡ First) × WasSaid picks u.command.reference u.command.unit start a.0 calls a.1 b
+      × ((b.count ≤ u.done * 512) ⊎ WasMoved b u kind block outcome (wish calls))
+  moves_what_it_says p calls outcome done via reference result u kind block asks a makes begun moves =
+      by old.task refl (good_told (step_told old outcome old.task) old.controller.begun via reference result makes)
+    where
+      old : Port K
+      old = a.0
+
+      s : Steps old (wish calls)
+      s = steps picks hardware credits controller start made old calls asks.1 a.1
+
+      whose : (b : Buffer) → kept_of u.connection u.command.reference old.buffers.items ≡ Some b
+          → ((b.count ≤ u.done * 512) ⊎ WasMoved b u kind block outcome (wish calls))
+          → (b : Buffer) × (u.connection ≡ First) × WasSaid picks u.command.reference u.command.unit start a.0 calls a.1 b
+          × ((b.count ≤ u.done * 512) ⊎ WasMoved b u kind block outcome (wish calls))
+      whose b kept either =
+          let is = kept_said (λ unit x. WasSaid picks x.reference unit start old calls a.1 x) old u b
+          (kept_was_said picks hardware credits controller start old calls made a.1) begun kept in
+          (b, is.0, subst (λ n. WasSaid picks n u.command.unit start old calls a.1 b) is.1 is.2, either)
+
+      by : (task : Task) → old.task ≡ task → step_told old outcome old.task ≡ Some blocks.Good
+          → (b : Buffer) × (u.connection ≡ First) × WasSaid picks u.command.reference u.command.unit start a.0 calls a.1 b
+          × ((b.count ≤ u.done * 512) ⊎ WasMoved b u kind block outcome (wish calls))
+      by (tasks.Step verdict) at told =
+          let good = good_verdict verdict (same_Some (told_of verdict) blocks.Good
+          (sym (ap (step_told old outcome) at) ∙ told)) in
+          let is : begun_task old.controller.settings.units old.buffers.items old.volumes (Some u)
+          ≡ tasks.Step (verdicts.Served blocks.Good) =
+          ap (begun_task old.controller.settings.units old.buffers.items old.volumes) (sym begun)
+          ∙ sym (s.begun (subst (λ x. IsOfBlock x) (sym at) tt)) ∙ at ∙ ap tasks.Step good in
+          let b = begun_good u kind block moves (place_in old.controller.settings.units u.command.unit)
+          (kept_of u.connection u.command.reference old.buffers.items) old.volumes is in
+          whose b.0 b.1 (inl b.2)
+      by tasks.Transfer at told =
+          let good = same_Some (transfer_told old outcome (block_begun old)) blocks.Good
+          (sym (ap (step_told old outcome) at) ∙ told) in
+          let b = moved_good u kind block moves old outcome (wish calls) begun good asks.0 (s.wanted at) in
+          whose b.0 b.1 (inr b.2)
+      by task at told = absurd (none-some blocks.Good (sym (ap (step_told old outcome) at) ∙ told))

@@ -1,0 +1,248 @@
+-- A block of which the controller is told that it went well was moved.
+use Rattle.std.proofs.Common.{◌≡◌, ◌⊎◌, ◌∙◌, ◌∷◌, [], ℕ, Bool, false, List, Option, None, Some, IfSome, inl, inr, refl, ap, sym, subst, arith}
+use Rattle.std.specs.Prelude.{Ok, Err}
+use Rattle.mscp_packet.specs.declared.command.MoveKind.{MoveKind}
+use Rattle.mscp_drive.specs.Shape.{Shape}
+use Rattle.mscp_queue.specs.declared.upcoming.Upcoming.{Upcoming}
+use Rattle.mscp_controller.specs.Holdings.{Holdings, begun_step}
+use Rattle.mscp_port.specs.declared.action.Action.{Action}
+use Rattle.mscp_port.specs.declared.action.Action.TheVariants as actions
+use Rattle.mscp_port.specs.declared.buffers.Buffer.{Buffer}
+use Rattle.mscp_port.specs.declared.hardware.Hardware.{Hardware}
+use Rattle.mscp_port.specs.declared.port.Port.{Port}
+use Rattle.mscp_port.specs.declared.stage.Stage.TheVariants as stages
+use Rattle.mscp_port.specs.declared.task.Task.{Task}
+use Rattle.mscp_port.specs.declared.task.Task.TheVariants as tasks
+use Rattle.mscp_port.specs.declared.volumes.Volume.{Volume}
+use Rattle.mscp_port.specs.Blocks.{kept_of}
+use Rattle.mscp_port.specs.Calls.{Dies, IsMadeOf, read_again, step_again, step_at}
+use Rattle.mscp_port.specs.Histories.{Answered, Becomes, Call, Picking, WriteIp, ReadIp, WriteSa, Next, PutAside, WasRead, Went, LookAgain, Tick, VolumeCame, VolumeWent, Protect}
+use Rattle.mscp_port.specs.Moved.{begun_task, block_begun, move_wanted, moved_step, part_at, part_wanted}
+use Rattle.mscp_port.specs.Ports.{Drops, IsAlive, IsOfBlock, Leaves, aside}
+use Rattle.mscp_port.specs.Volumes.{place_in, volume_changed, volume_protected, volume_put, volumes_with}
+use Rattle.mscp_port.specs.Wanted.{IsWanted}
+use Rattle.mscp_ported.specs.Talk.{AsksAlways, Wish, wish}
+use Rattle.mscp_ported.proofs.Following.{in_step}
+use Rattle.mscp_ported.proofs.Look.{block_rings}
+use Rattle.mscp_ported.proofs.Wanting.{alive_or_dead}
+
+-- ---- the step in hand
+
+-- a step in hand is that which the controller has begun, by the volumes that are there
+abbrev pub IsBegunStep : {K : Type 0} → Port K → Type 0
+IsBegunStep p = IsOfBlock p.task
+    → p.task ≡ begun_task p.controller.settings.units p.buffers.items p.volumes (begun_step p.controller)
+
+-- and what was wanted for a block is what is wanted for it still
+abbrev pub IsWishOf : {K : Type 0} → Port K → Option Wish → Type 0
+IsWishOf p w = p.task ≡ tasks.Transfer → IfSome w (λ x. x.action ≡ move_wanted p (block_begun p))
+
+pub record Steps {K : Type 0} (p : Port K) (w : Option Wish) : Type 0 where
+  pub begun : IsBegunStep p
+  pub wanted : IsWishOf p w
+
+no_steps : {K : Type 0} (p : Port K) (w : Option Wish) → (IsOfBlock p.task → ⊥) → Steps p w
+no_steps p w never = record {
+  begun = λ h. absurd (never h);
+  wanted = λ e. absurd (never (subst (λ x. IsOfBlock x) (sym e) tt));
+}
+
+-- what a call leaves of the port where a step stays in hand
+pub record Keeps {K : Type 0} (old new : Port K) : Type 0 where
+  pub controller : new.controller ≡ old.controller
+  pub buffers : new.buffers ≡ old.buffers
+  pub volumes : new.volumes ≡ old.volumes
+  pub task : new.task ≡ old.task
+
+-- what is wanted for a block hangs on no more
+move_by : List Shape → List Buffer → List Volume → Option (Upcoming × MoveKind × ℕ) → Action
+move_by units buffers volumes None = actions.Pause
+move_by units buffers volumes (Some m) = part_wanted m.0 m.1 m.2 (part_at (place_in units m.0.command.unit)
+    (kept_of m.0.connection m.0.command.reference buffers) m.1 m.2 m.0.done volumes)
+
+move_so : {K : Type 0} (p : Port K) (o : Option (Upcoming × MoveKind × ℕ))
+    → move_wanted p o ≡ move_by p.controller.settings.units p.buffers.items p.volumes o
+unfolding move_by
+move_so p None = refl
+move_so p (Some m) = refl
+
+keeps : {K : Type 0} (old new : Port K) (w : Option Wish) → Keeps old new → Steps old w → Steps new w
+keeps {K} old new w k s = record {
+  begun = λ h. k.task ∙ s.begun (subst (λ x. IsOfBlock x) k.task h) ∙ sym same;
+  wanted = λ e. subst (λ x. IfSome w (λ y. y.action ≡ x)) (sym wish_same) (s.wanted (sym k.task ∙ e));
+}
+  where
+    same : begun_task new.controller.settings.units new.buffers.items new.volumes (begun_step new.controller)
+        ≡ begun_task old.controller.settings.units old.buffers.items old.volumes (begun_step old.controller)
+    same = ap (λ (c : Holdings K). begun_task c.settings.units new.buffers.items new.volumes (begun_step c)) k.controller
+        ∙ ap (λ b. begun_task old.controller.settings.units b.items new.volumes (begun_step old.controller)) k.buffers
+        ∙ ap (λ v. begun_task old.controller.settings.units old.buffers.items v (begun_step old.controller)) k.volumes
+
+    wish_same : move_wanted new (block_begun new) ≡ move_wanted old (block_begun old)
+    wish_same = move_so new (block_begun new)
+        ∙ ap (λ (c : Holdings K). move_by c.settings.units new.buffers.items new.volumes (moved_step (begun_step c)))
+        k.controller
+        ∙ ap (λ b. move_by old.controller.settings.units b.items new.volumes (block_begun old)) k.buffers
+        ∙ ap (λ v. move_by old.controller.settings.units old.buffers.items v (block_begun old)) k.volumes
+        ∙ sym (move_so old (block_begun old))
+
+-- a step stays in hand, or none is
+either : {K : Type 0} (old new : Port K) (w : Option Wish) → (IsOfBlock new.task → Keeps old new) → Steps old w
+    → Steps new w
+either {K} old new w k s = by new.task refl
+  where
+    by : (task : Task) → new.task ≡ task → Steps new w
+    by (tasks.Step verdict) e = keeps old new w (k (subst (λ x. IsOfBlock x) (sym e) tt)) s
+    by tasks.Transfer e = keeps old new w (k (subst (λ x. IsOfBlock x) (sym e) tt)) s
+    by task e = no_steps new w (λ h. subst (λ x. IsOfBlock x) e h)
+
+-- ---- calls
+
+free_again : (task : Task) → IsOfBlock (read_again task) → read_again task ≡ task
+free_again (tasks.Step verdict) h = refl
+free_again tasks.Transfer h = refl
+free_again (tasks.Slot side) h = absurd h
+free_again task h = absurd h
+
+free_aside : (task : Task) → IsOfBlock (aside task) → aside task ≡ task
+free_aside (tasks.Step verdict) h = refl
+free_aside tasks.Transfer h = absurd h
+free_aside task h = absurd h
+
+free_step : (task : Task) → IsOfBlock (step_again task) → ⊥
+free_step (tasks.Step verdict) h = h
+free_step tasks.Transfer h = h
+free_step task h = h
+
+module _ {K : Type 0} (old new : Port K) (w : Option Wish) (s : Steps old w) where
+  same_so : new ≡ old → Steps new w
+  same_so e = keeps old new w (record {
+    controller = ap (λ (p : Port K). p.controller) e;
+    buffers = ap (λ (p : Port K). p.buffers) e;
+    volumes = ap (λ (p : Port K). p.volumes) e;
+    task = ap (λ (p : Port K). p.task) e;
+  }) s
+
+  -- what is in hand stays, or is dropped
+  hand_so : (new.controller ≡ old.controller) → (new.volumes ≡ old.volumes) → Leaves old new ⊎ Drops old new → Steps new w
+  hand_so controller volumes hand = elim hand [
+    | inl l ↦ keeps old new w (record { controller = controller; buffers = l.buffers; volumes = volumes; task = l.task }) s
+    | inr d ↦ no_steps new w (λ h. elim d.task [
+      | inl free ↦ subst (λ x. IsOfBlock x) free h
+      | inr clear ↦ subst (λ x. IsOfBlock x) clear h
+    ])
+  ]
+
+  dead_so : Dies old new → Steps new w
+  dead_so d = no_steps new w (λ h. subst (λ x. IsOfBlock x) d.1.task h)
+
+  again_so : {b : Bool} {n : ℕ} → new ≡ record old { is_full = b; task = read_again old.task; left = n } → Steps new w
+  again_so e = either old new w (λ h. record {
+    controller = ap (λ (p : Port K). p.controller) e;
+    buffers = ap (λ (p : Port K). p.buffers) e;
+    volumes = ap (λ (p : Port K). p.volumes) e;
+    task = ap (λ (p : Port K). p.task) e
+        ∙ free_again old.task (subst (λ x. IsOfBlock x) (ap (λ (p : Port K). p.task) e) h);
+  }) s
+
+  volume_so : (becomes : Volume → Volume) (o : Option ℕ)
+      → new ≡ record old { volumes = volumes_with becomes o old.volumes; task = step_at o old.task } → Steps new w
+  volume_so becomes None e = keeps old new w (record {
+    controller = ap (λ (p : Port K). p.controller) e;
+    buffers = ap (λ (p : Port K). p.buffers) e;
+    volumes = ap (λ (p : Port K). p.volumes) e;
+    task = ap (λ (p : Port K). p.task) e;
+  }) s
+  volume_so becomes (Some place) e =
+      no_steps new w (λ h. free_step old.task (subst (λ x. IsOfBlock x) (ap (λ (p : Port K). p.task) e) h))
+
+-- something is wanted
+wants_so : {K : Type 0} (picks : Picking K) (blocks : Bool) (action : Action) (bytes : List ℕ) (old new : Port K)
+    (w : Option Wish) → Becomes picks (Next blocks action bytes) old new → Steps old w
+    → ((code : ℕ) → old.stage ≡ stages.Dead code → IsOfBlock old.task → ⊥) → Steps new (Some (record { action = action; bytes = bytes }))
+wants_so {K} picks blocks action bytes old new w r s calm = elim (alive_or_dead old old.stage refl) [
+  | inl alive ↦ record { begun = begun_so alive; wanted = λ e. wanted_so alive e }
+  | inr d ↦ no_steps new (Some (record { action = action; bytes = bytes }))
+      (λ h. calm d.0 d.1 (subst (λ x. IsOfBlock x) (ap (λ (p : Port K). p.task) (r.0.dead d.0 d.1).1) h))
+]
+  where
+    begun_so : IsAlive old → IsBegunStep new
+    begun_so alive h = by old.task refl
+      where
+        by : (task : Task) → old.task ≡ task
+            → new.task ≡ begun_task new.controller.settings.units new.buffers.items new.volumes (begun_step new.controller)
+        by tasks.Free at =
+            let b = (r.0.begins alive at h).begun in
+            b.4 ∙ ap (begun_task new.controller.settings.units new.buffers.items new.volumes) (sym b.5)
+        by task at = (same_so old new w s (r.0.goes_on (λ e. search (arith, at, e)))).begun h
+
+    wanted_so : IsAlive old → new.task ≡ tasks.Transfer → action ≡ move_wanted new (block_begun new)
+    wanted_so alive e = subst (λ x. IsWanted new x action) e (r.0.wanted alive)
+
+module _ {K : Type 0} (picks : Picking K) (hardware : Hardware) (credits : ℕ) (controller : Holdings K)
+    (start : Port K) (made : IsMadeOf hardware credits controller start) where
+  -- where nothing is wanted no step is in hand
+  none_so : (p : Port K) (calls : List Call) → AsksAlways calls → Answered picks start calls p → wish calls ≡ None
+      → Steps p None
+  none_so p calls asks a none =
+      no_steps p None ((in_step picks hardware credits controller start made p calls asks a).hand.wished none)
+
+  pub steps : (p : Port K) (calls : List Call) → AsksAlways calls → Answered picks start calls p → Steps p (wish calls)
+  steps p [] asks a = none_so p [] asks a refl
+  steps p (WriteIp ∷ calls) asks a = none_so p (WriteIp ∷ calls) asks a refl
+  steps p (ReadIp ∷ calls) asks a =
+      let s = steps a.0 calls asks a.1 in elim a.2.frame [
+        | inl e ↦ hand_so a.0 p (wish calls) s (ap (λ (q : Port K). q.controller) e) (ap (λ (q : Port K). q.volumes) e)
+            a.2.hand
+        | inr d ↦ dead_so a.0 p (wish calls) s d
+      ]
+  steps p (WriteSa word ∷ calls) asks a =
+      let s = steps a.0 calls asks a.1 in elim a.2.frame [
+        | inl e ↦ hand_so a.0 p (wish calls) s (ap (λ (q : Port K). q.controller) e) (ap (λ (q : Port K). q.volumes) e)
+            a.2.hand
+        | inr d ↦ dead_so a.0 p (wish calls) s d
+      ]
+  steps p (Next blocks action bytes ∷ calls) asks a =
+      wants_so picks blocks action bytes a.0 p (wish calls) a.2 (steps a.0 calls asks a.1) (λ code dead h. search (
+        arith,
+        dead,
+        (in_step picks hardware credits controller start made a.0 calls asks a.1).hand.up (block_rings a.0.task h),
+      ))
+  steps p (PutAside ∷ calls) asks a =
+      either a.0 p (wish calls) (λ h. record {
+        controller = ap (λ (q : Port K). q.controller) a.2;
+        buffers = ap (λ (q : Port K). q.buffers) a.2;
+        volumes = ap (λ (q : Port K). q.volumes) a.2;
+        task = ap (λ (q : Port K). q.task) a.2
+            ∙ free_aside a.0.task (subst (λ x. IsOfBlock x) (ap (λ (q : Port K). q.task) a.2) h);
+      }) (steps a.0 calls asks a.1)
+  steps p (WasRead bytes (Ok done) ∷ calls) asks a = none_so p (WasRead bytes (Ok done) ∷ calls) asks a refl
+  steps p (WasRead bytes (Err unasked) ∷ calls) asks a =
+      same_so a.0 p (wish calls) (steps a.0 calls asks a.1) a.2.unasked
+  steps p (Went outcome (Ok done) ∷ calls) asks a = none_so p (Went outcome (Ok done) ∷ calls) asks a refl
+  steps p (Went outcome (Err unasked) ∷ calls) asks a =
+      same_so a.0 p (wish calls) (steps a.0 calls asks a.1) a.2.unasked
+  steps p (LookAgain ∷ calls) asks a =
+      either a.0 p (wish calls) (λ h. record {
+        controller = ap (λ (q : Port K). q.controller) a.2;
+        buffers = ap (λ (q : Port K). q.buffers) a.2;
+        volumes = ap (λ (q : Port K). q.volumes) a.2;
+        task = ap (λ (q : Port K). q.task) a.2
+            ∙ free_again a.0.task (subst (λ x. IsOfBlock x) (ap (λ (q : Port K). q.task) a.2) h);
+      }) (steps a.0 calls asks a.1)
+  steps p (Tick ∷ calls) asks a =
+      let s = steps a.0 calls asks a.1 in elim a.2.either [
+        | inl e ↦ again_so a.0 p (wish calls) s e
+        | inr n ↦ no_steps p (wish calls) (λ h. subst (λ x. IsOfBlock x) n.task h)
+      ]
+  steps p (VolumeCame m unit (Ok done) ∷ calls) asks a =
+      volume_so a.0 p (wish calls) (steps a.0 calls asks a.1) (volume_put m)
+      (place_in a.0.controller.settings.units unit) (a.2.came refl)
+  steps p (VolumeCame m unit (Err fault) ∷ calls) asks a =
+      same_so a.0 p (wish calls) (steps a.0 calls asks a.1) a.2.refused
+  steps p (VolumeWent unit result ∷ calls) asks a =
+      volume_so a.0 p (wish calls) (steps a.0 calls asks a.1) (volume_changed false)
+      (place_in a.0.controller.settings.units unit) a.2.frame
+  steps p (Protect protected unit result ∷ calls) asks a =
+      volume_so a.0 p (wish calls) (steps a.0 calls asks a.1) (volume_protected protected)
+      (place_in a.0.controller.settings.units unit) a.2.frame

@@ -1,0 +1,209 @@
+-- What is wanted for what is in hand is what is due.
+use Rattle.std.proofs.Common.{◌≡◌, ◌≢◌, ◌⊎◌, ◌∙◌, ◌+◌, ◌-◌, ◌*◌, ◌%◌, ◌^◌, ◌≤◌, ℕ, length, replicate, List, Option, None, Some, IfSome, IsSomeAnd, MatchOption, inl, inr, refl, ap, sym, subst, arith}
+use Rattle.std.specs.Prelude.{Result, Ok, Err}
+use Rattle.std.proofs.Math.Nat.{mod-add-mod}
+use Rattle.byteorder.specs.Endian.{little_bytes}
+use Rattle.mscp_port.specs.declared.action.Action.{Action}
+use Rattle.mscp_port.specs.declared.action.Action.TheVariants as actions
+use Rattle.mscp_port.specs.declared.port.Outgoing.{Outgoing}
+use Rattle.mscp_port.specs.declared.port.Port.{Port}
+use Rattle.mscp_port.specs.declared.rings.Side.{Side}
+use Rattle.mscp_port.specs.declared.rings.Side.TheVariants.{Responses, Commands}
+use Rattle.mscp_port.specs.declared.stage.Stage.{Stage}
+use Rattle.mscp_port.specs.declared.stage.Stage.TheVariants as stages
+use Rattle.mscp_port.specs.declared.task.Task.{Task}
+use Rattle.mscp_port.specs.declared.task.Task.TheVariants as tasks
+use Rattle.mscp_port.specs.Areas.{Rings, IsInArea, slot_in, slots_of, word_of}
+use Rattle.mscp_port.specs.Moved.{block_begun, move_wanted, part_now, part_wanted}
+use Rattle.mscp_port.specs.Packets.{credits_by, credits_with, packet_of}
+use Rattle.mscp_port.specs.Ports.{IsInPacket, IsWithin, in_hand}
+use Rattle.mscp_port.specs.Slots.{given_back, text_of}
+use Rattle.mscp_port.specs.Wanted.{IsWanted, bytes_wanted, clear_count, clear_from, given_in, packet_out, zeros_out}
+use Rattle.mscp_ported.specs.Owed.{GivesBack, IsCalm, IsLook, IsOwed}
+use Rattle.mscp_ported.specs.Talk.{Turn, Idle, Taken, Opened, Read, Written, Looks, Marks, Due, Talk, address_in, given}
+use Rattle.mscp_ported.proofs.Counting.{address_mod, mod_power}
+use Rattle.mscp_ported.proofs.Look.{Counts, Fits, IsAsked, IsClear, IsElse, IsOfRings, IsOpen, IsRead, IsWide, IsWrite, IsInterrupt, Names, NeedsOut, given_at, look, slot_at}
+
+-- ---- actions
+
+move_else : {K : Type 0} (p : Port K) (o : Option _) → IsElse (move_wanted p o)
+move_else p None = tt
+move_else p (Some m) = by (part_now p m.0 m.1 m.2)
+  where
+    by : (x : Result _ _) → IsElse (part_wanted m.0 m.1 m.2 x)
+    by (Ok part) = tt
+    by (Err status) = tt
+
+else_calm : (s : Stage) (t : Talk) (action : Action) (bytes : List ℕ) → IsElse action → IsCalm s t action bytes
+else_calm s t (actions.Read address count) bytes h = absurd h
+else_calm s t (actions.Write address count) bytes h = absurd h
+else_calm s t (actions.Interrupt vector) bytes h = absurd h
+else_calm s t action bytes h = tt
+
+given_same : {K : Type 0} (p : Port K) (side : Side) → given_in p side ≡ given_at (look p) side
+given_same p Responses = refl
+given_same p Commands = refl
+
+-- what goes out stands in the packet that is wanted
+out_of : {K : Type 0} (p : Port K) (o : Option Outgoing) → p.outgoing ≡ o → p.outgoing ≢ None
+    → IsSomeAnd o (λ x. packet_out p o ≡ packet_of (credits_by p.untold x.kind) x.kind x.bytes.items)
+out_of p None e some = absurd (some e)
+out_of p (Some x) e some = ap (λ o. packet_of (credits_with p.untold o) x.kind x.bytes.items) e
+
+module _ {K : Type 0} (p : Port K) (t : Talk) (action : Action) (bytes : List ℕ)
+    (names : Names p.stage p.words.first p.words.second p.written p.rings t.first t.second t.answer t.rings)
+    (counts : Counts p.rings p.responses p.commands t.told t.heard) where
+  -- the rings that the host has named
+  in_rings : (wants : Rings → Type 0) (P : Type 0) → (o : Option Rings) → p.rings ≡ o → p.rings ≢ None
+      → MatchOption o (action ≡ actions.Pause) wants → ((r : Rings) → p.rings ≡ Some r → wants r → P) → P
+  in_rings wants P None e some h get = absurd (some e)
+  in_rings wants P (Some r) e some h get = get r e h
+
+  count_so : (side : Side) → given_in p side ≡ given t side % 256
+  count_so Responses = counts.told_so
+  count_so Commands = counts.heard_so
+
+  pub asked_of : (task : Task) → IsWanted p task action → bytes ≡ bytes_wanted p task → (IsOfRings task → p.rings ≢ None)
+      → (NeedsOut task → p.outgoing ≢ None)
+      → IsAsked (look p) task (record { action = action; bytes = bytes })
+  asked_of tasks.Free h is some out = tt
+  asked_of tasks.Settle h is some out = subst (λ x. IsElse x) (sym h) tt
+  asked_of (tasks.Clear done) h is some out = tt
+  asked_of (tasks.Slot side) h is some out =
+      in_rings (λ r. action ≡ actions.Read (slot_in r side (given_in p side)) 4)
+      (IsSomeAnd p.rings (λ r. action ≡ actions.Read (slot_in r side (given_at (look p) side)) 4)) p.rings refl (some tt) h
+      (λ r e x. subst (λ o. IsSomeAnd o (λ y. action ≡ actions.Read (slot_in y side (given_at (look p) side)) 4)) (sym e)
+      (x ∙ ap (λ n. actions.Read (slot_in r side n) 4) (given_same p side)))
+  asked_of (tasks.Header slot) h is some out = subst (λ x. IsRead x) (sym h) tt
+  asked_of (tasks.Text slot size foreign) h is some out = subst (λ x. IsRead x) (sym h) tt
+  asked_of (tasks.Packet slot) h is some out = (
+    (length (packet_out p p.outgoing), h),
+    by p.outgoing refl (out_of p p.outgoing refl (out tt)),
+  )
+    where
+      by : (o : Option Outgoing) → p.outgoing ≡ o
+          → IsSomeAnd o (λ x. packet_out p o ≡ packet_of (credits_by p.untold x.kind) x.kind x.bytes.items)
+          → IsSomeAnd o (λ x. bytes ≡ packet_of (credits_by p.untold x.kind) x.kind x.bytes.items)
+      by None e h = h
+      by (Some x) e h = is ∙ ap (packet_out p) e ∙ h
+  asked_of (tasks.Return side slot) h is some out =
+      in_rings (λ r. action ≡ actions.Write (slot_in r side (given_in p side)) 4) (IsWrite action) p.rings refl (some tt) h
+      (λ r e x. subst (λ y. IsWrite y) (sym x) tt)
+  asked_of (tasks.Neighbour side) h is some out =
+      in_rings (λ r. action ≡ actions.Read (slot_in r side (given_in p side + 2 * slots_of r side - 2)) 4) (IsRead action)
+      p.rings refl (some tt) h (λ r e x. subst (λ y. IsRead y) (sym x) tt)
+  asked_of (tasks.Word side) h is some out =
+      in_rings (λ r. action ≡ actions.Write (word_of r side) 2) (IsWrite action) p.rings refl (some tt) h
+      (λ r e x. subst (λ y. IsWrite y) (sym x) tt)
+  asked_of tasks.Interrupt h is some out = subst (λ x. IsInterrupt x) (sym h) tt
+  asked_of (tasks.Step verdict) h is some out = subst (λ x. IsElse x) (sym h) tt
+  asked_of tasks.Transfer h is some out = subst (λ x. IsElse x) (sym h) (move_else p (block_begun p))
+
+  owed_open : (turn : Turn) → IsOpen turn → IsCalm p.stage t action bytes → IsOwed p.stage t turn action bytes
+  owed_open Idle fit h = h
+  owed_open (Read slot header text) fit h = inr h
+  owed_open turn fit h = absurd fit
+
+  owed_at : (turn : Turn) (x : Turn) → turn ≡ x → IsOwed p.stage t x action bytes → IsOwed p.stage t turn action bytes
+  owed_at turn x e h = subst (λ y. IsOwed p.stage t y action bytes) (sym e) h
+
+  -- so many slots were given back
+  slot_count : (r : Rings) (side : Side) → p.rings ≡ Some r
+      → slot_in r side (given_in p side) ≡ address_in t.rings side (given t side)
+  slot_count r side e =
+      ap (slot_in r side) (count_so side)
+      ∙ address_mod (Some r) side (given t side) (subst (λ o. IfSome o IsWide) e names.wide)
+      ∙ ap (λ o. address_in o side (given t side)) (sym (names.named_so ∙ e))
+
+  back_so : (side : Side) (word : ℕ) → p.rings ≢ None → bytes ≡ little_bytes 4 (given_back word)
+      → MatchOption p.rings (action ≡ actions.Pause) (λ r. action ≡ actions.Write (slot_in r side (given_in p side)) 4)
+      → GivesBack (slot_at (look p) side word) action bytes
+  back_so side word some is h = (
+    in_rings (λ r. action ≡ actions.Write (slot_in r side (given_in p side)) 4)
+        (action ≡ actions.Write (address_in p.rings side (given_at (look p) side)) 4) p.rings refl some h
+        (λ r e x. x ∙ ap (λ n. actions.Write (slot_in r side n) 4) (given_same p side)
+        ∙ ap (λ o. actions.Write (address_in o side (given_at (look p) side)) 4) (sym e)),
+    is,
+  )
+
+  look_count : (r : Rings) (side : Side) (n : ℕ) → IsWide r
+      → slot_in r side (n % 256 + 2 * slots_of r side - 2) ≡ slot_in r side (n + 2 * slots_of r side - 2)
+  look_count r side n wide = by side
+    where
+      part : (d : ℕ) → 1 ≤ d → (j : ℕ) × (k : ℕ) × (j + k ≡ 8) × (d ≡ 2 ^ k)
+          → (n % 256 + 2 * d - 2) % d ≡ (n + 2 * d - 2) % d
+      part d some h =
+          let before : n % 256 + 2 * d - 2 ≡ n % 256 + (2 * d - 2) = search arith in
+          let behind : n + 2 * d - 2 ≡ n + (2 * d - 2) = search arith in
+          ap (λ x. x % d) before ∙ sym (mod-add-mod (n % 256) d (2 * d - 2))
+          ∙ ap (λ x. (x + (2 * d - 2)) % d) (mod_power n d h) ∙ mod-add-mod n d (2 * d - 2)
+          ∙ ap (λ x. x % d) (sym behind)
+
+      by : (side : Side) → slot_in r side (n % 256 + 2 * slots_of r side - 2)
+          ≡ slot_in r side (n + 2 * slots_of r side - 2)
+      by Responses = ap (λ x. r.base + x * 4) (part r.responses wide.responses wide.response_log)
+      by Commands = ap (λ x. r.base + (r.responses + x) * 4) (part r.commands wide.commands wide.command_log)
+
+  pub owed_of : (task : Task) → IsWanted p task action → bytes ≡ bytes_wanted p task → p.task ≡ task
+      → IsWithin p action → (IsOfRings task → p.rings ≢ None) → (IsOfRings task → p.stage ≡ stages.Up)
+      → (IsClear task → p.stage ≡ stages.Clearing) → (IsClear task → p.rings ≢ None) → Fits (look p) task t.turn
+      → IsOwed p.stage t t.turn action bytes
+  owed_of tasks.Free h is at within some up clear area fit =
+      owed_open t.turn fit (subst (λ x. IsCalm p.stage t x bytes) (sym h) tt)
+  owed_of tasks.Settle h is at within some up clear area fit =
+      owed_open t.turn fit (subst (λ x. IsCalm p.stage t x bytes) (sym h) tt)
+  owed_of (tasks.Step verdict) h is at within some up clear area fit =
+      owed_open t.turn fit (subst (λ x. IsCalm p.stage t x bytes) (sym h) tt)
+  owed_of tasks.Transfer h is at within some up clear area fit = owed_open t.turn fit
+      (else_calm p.stage t action bytes (subst (λ x. IsElse x) (sym h) (move_else p (block_begun p))))
+  owed_of (tasks.Clear done) h is at within some up clear area fit = owed_open t.turn fit
+      (in_rings (λ r. action ≡ actions.Write (clear_from p r done) (clear_count p r done)) (IsCalm p.stage t action bytes)
+      p.rings refl (area tt) h (λ r e x. subst (λ a. IsCalm p.stage t a bytes) (sym x) (clear tt, zeros r e, inside r e x)))
+    where
+      zeros : (r : Rings) → p.rings ≡ Some r → bytes ≡ replicate (clear_count p r done) 0
+      zeros r e = is ∙ ap (zeros_out p done) e
+
+      inside : (r : Rings) → p.rings ≡ Some r → action ≡ actions.Write (clear_from p r done) (clear_count p r done)
+          → IsSomeAnd t.rings (λ r'. IsInArea r' (clear_from p r done) (clear_count p r done))
+      inside r e x = subst (λ o. IsSomeAnd o (λ r'. IsInArea r' (clear_from p r done) (clear_count p r done)))
+          (sym names.named_so) (by (subst (λ a. IsWithin p a) x within))
+        where
+          by : IsSomeAnd p.rings (λ r'. IsInArea r' (clear_from p r done) (clear_count p r done))
+              ⊎ IsSomeAnd (in_hand p.task)
+              (λ word. IsInPacket word (clear_from p r done) (clear_count p r done))
+              → IsSomeAnd p.rings (λ r'. IsInArea r' (clear_from p r done) (clear_count p r done))
+          by (inl h) = h
+          by (inr h) = absurd (subst (λ y. IsSomeAnd (in_hand y)
+              (λ word. IsInPacket word (clear_from p r done) (clear_count p r done))) at h)
+  owed_of (tasks.Slot side) h is at within some up clear area fit = owed_open t.turn fit
+      (in_rings (λ r. action ≡ actions.Read (slot_in r side (given_in p side)) 4) (IsCalm p.stage t action bytes) p.rings
+      refl (some tt) h (λ r e x. subst (λ a. IsCalm p.stage t a bytes) (sym x) (up tt, refl, (side, slot_count r side e))))
+  owed_of (tasks.Header slot) h is at within some up clear area fit =
+      owed_at t.turn (Taken (slot_at (look p) Commands slot.word)) fit h
+  owed_of (tasks.Text slot size foreign) h is at within some up clear area fit =
+      owed_at t.turn (Opened (slot_at (look p) Commands slot.word) fit.0) fit.1
+      (h ∙ ap (λ n. actions.Read (text_of slot.word) n) fit.2)
+  owed_of (tasks.Packet slot) h is at within some up clear area fit =
+      owed_at t.turn (Taken (slot_at (look p) Responses slot.word)) fit
+      (h ∙ ap (λ b. actions.Write (text_of slot.word - 4) (length b)) (sym is))
+  owed_of (tasks.Return Responses slot) h is at within some up clear area fit =
+      owed_at t.turn (Written (slot_at (look p) Responses slot.word) fit.0 fit.1) fit.2
+      (back_so Responses slot.word (some tt) is h)
+  owed_of (tasks.Return Commands slot) h is at within some up clear area fit =
+      owed_at t.turn (Read (slot_at (look p) Commands slot.word) fit.0 fit.1) fit.2
+      (inl (back_so Commands slot.word (some tt) is h))
+  owed_of (tasks.Neighbour side) h is at within some up clear area fit = owed_at t.turn (Looks side) fit
+      (in_rings (λ r. action ≡ actions.Read (slot_in r side (given_in p side + 2 * slots_of r side - 2)) 4)
+      (IsLook t.rings t side action) p.rings refl (some tt) h
+      (λ r e x. subst (λ o. IsLook o t side action) (sym (names.named_so ∙ e))
+      (x ∙ ap (λ n. actions.Read (slot_in r side (n + 2 * slots_of r side - 2)) 4) (count_so side)
+      ∙ ap (λ n. actions.Read n 4) (look_count r side (given t side) (subst (λ o. IfSome o IsWide) e names.wide)))))
+  owed_of (tasks.Word side) h is at within some up clear area fit = owed_at t.turn (Marks side) fit (
+    in_rings (λ r. action ≡ actions.Write (word_of r side) 2)
+        (IsSomeAnd t.rings (λ r. action ≡ actions.Write (word_of r side) 2)) p.rings refl (some tt) h
+        (λ r e x. subst (λ o. IsSomeAnd o (λ r. action ≡ actions.Write (word_of r side) 2))
+        (sym (names.named_so ∙ e)) x),
+    is,
+  )
+  owed_of tasks.Interrupt h is at within some up clear area fit = owed_at t.turn Due fit
+      (h ∙ ap (λ n. actions.Interrupt (n % 0x80 * 4)) (sym names.first_so))

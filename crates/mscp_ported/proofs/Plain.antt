@@ -1,0 +1,169 @@
+-- Calls that report no action: what is in step stays so.
+use Rattle.std.proofs.Common.{◌≡◌, ◌⊎◌, ◌∙◌, ◌++◌, [], ℕ, false, map, List, Option, None, Some, IfSome, inl, inr, refl, ap, sym, subst, arith}
+use Rattle.std.specs.Prelude.{option_to_list}
+use Rattle.mscp_port.specs.declared.port.Port.{Port}
+use Rattle.mscp_port.specs.declared.stage.Stage.{Stage}
+use Rattle.mscp_port.specs.declared.stage.Stage.TheVariants as stages
+use Rattle.mscp_port.specs.declared.task.Task.{Task}
+use Rattle.mscp_port.specs.declared.task.Task.TheVariants as tasks
+use Rattle.mscp_port.specs.Calls.{Dies, read_again, step_at}
+use Rattle.mscp_port.specs.Histories.{Call, WriteIp}
+use Rattle.mscp_port.specs.Ports.{IsAsNew, IsOfBlock, aside}
+use Rattle.mscp_ported.specs.Talk.{Wish, Turn, Idle, Talk, is_dead, silence, stepped, talk_after}
+use Rattle.mscp_ported.specs.Told.{Said, message_text, said_in}
+use Rattle.mscp_ported.proofs.After.{After, IsNoReset, IsPlain, ends, unmoved}
+use Rattle.mscp_ported.proofs.Look.{Fits, HasLeft, InStep, IsAsked, IsClear, IsOfRings, IsOpen, IsTelling, IsWide, Look, NeedsOut, has_area, in_hand, look, told_on}
+
+-- ---- all was forgotten
+
+none_asked : (l : Look) (w : Option Wish) → IfSome w (λ x. IsAsked l tasks.Free x)
+none_asked l None = tt
+none_asked l (Some w) = tt
+
+pub anew : {K : Type 0} (s : Stage) (old new : Port K) (v : Option Wish) → IsAsNew s old new → has_area s ≡ false
+    → InStep (look new) silence v [] []
+anew s old new v n no_area = record {
+  names = record {
+    first_so = sym (ap (λ w. w.first) n.words);
+    second_so = sym (ap (λ w. w.second) n.words);
+    answer_so = subst (λ o. IfSome o (λ w. 0 ≡ w)) (sym n.written) tt;
+    named_so = sym n.rings;
+    area = λ h. search (arith, h, no_area, ap has_area n.stage);
+    early = λ h. n.rings;
+    wide = subst (λ o. IfSome o IsWide) (sym n.rings) tt;
+  };
+  counts = record {
+    told_so = n.responses;
+    heard_so = n.commands;
+    packets = tt;
+    messages = tt;
+    none = λ e. (refl, refl);
+  };
+  hand = record {
+    fits = subst (λ t. Fits (look new) t Idle) (sym n.task) tt;
+    asked = subst (λ t. IfSome v (λ x. IsAsked (look new) t x)) (sym n.task) (none_asked (look new) v);
+    up = λ h. absurd (subst (λ t. IsOfRings t) n.task h);
+    step = λ e. search (arith, n.task, e);
+    clear = λ h. absurd (subst (λ t. IsClear t) n.task h);
+    own = tt;
+    idle = λ h. tt;
+    wished = λ e h. absurd (subst (λ t. IsOfBlock t) n.task h);
+  };
+  speech = record {
+    out = λ h. absurd (h n.outgoing);
+    has = λ h. absurd (subst (λ t. NeedsOut t) n.task h);
+    tells = (
+      [],
+      ap (λ o. map said_in (option_to_list o)) n.outgoing,
+      tt,
+      subst (λ x. HasLeft x Idle new.outgoing new.untold new.more) (sym n.task) (n.untold ∙ sym n.more),
+    );
+  };
+  hears = ap (λ t. in_hand t Idle) n.task;
+  ended = λ d. record { talk = refl; none_said = refl; none_accepted = refl };
+}
+
+first_silent : (s : Stage) → stepped s stages.First silence ≡ silence
+first_silent s = grind arith
+
+-- the host wrote IP
+pub writes_ip : {K : Type 0} (old new : Port K) (t : Talk) (w v : Option Wish) (said : List Said)
+    (texts : List (List ℕ)) → IsAsNew stages.First old new → After WriteIp old (look new) t w v said texts
+writes_ip old new t w v said texts n =
+    subst (λ x. InStep (look new) x v [] []) (sym is_silent) (anew stages.First old new v n refl)
+  where
+    is_silent : talk_after old.stage new.stage w WriteIp t ≡ silence
+    is_silent = ap (λ s. talk_after old.stage s w WriteIp t) n.stage ∙ first_silent old.stage
+
+-- or a fatal error came
+pub dies : {K : Type 0} (call : Call) (code : ℕ) (old new : Port K) (t : Talk) (w v : Option Wish) (said : List Said)
+    (texts : List (List ℕ)) → IsNoReset call → IsAsNew (stages.Dead code) old new
+    → After call old (look new) t w v said texts
+dies call code old new t w v said texts calm n =
+    ends call old (look new) t w v said texts calm (ap is_dead n.stage) (anew (stages.Dead code) old new v n refl)
+
+-- ---- what is in hand stays, or is dropped
+
+-- a slot that is being read, or a block
+abbrev pub MayDrop : Task → Type 0
+MayDrop (tasks.Slot side) = Unit {0}
+MayDrop (tasks.Step verdict) = Unit {0}
+MayDrop tasks.Transfer = Unit {0}
+MayDrop task = ⊥
+
+drop_open : (l : Look) (task : Task) (turn : Turn) → MayDrop task → Fits l task turn → IsOpen turn
+drop_open l (tasks.Slot side) turn may fit = fit
+drop_open l (tasks.Step verdict) turn may fit = fit
+drop_open l tasks.Transfer turn may fit = fit
+drop_open l task turn may fit = absurd may
+
+drop_hand : (task : Task) (turn : Turn) → MayDrop task → in_hand task turn ≡ []
+drop_hand (tasks.Slot side) turn may = refl
+drop_hand (tasks.Step verdict) turn may = refl
+drop_hand tasks.Transfer turn may = refl
+drop_hand task turn may = absurd may
+
+drop_calm : (task : Task) → MayDrop task → IsTelling task → ⊥
+drop_calm (tasks.Return side slot) may h = may
+drop_calm task may h = h
+
+abbrev pub StaysOrDrops : Task → Task → Type 0
+StaysOrDrops before after = (after ≡ before) ⊎ ((after ≡ tasks.Free) × MayDrop before)
+
+pub dropped : (l : Look) (t : Talk) (w : Option Wish) (said : List Said) (texts : List (List ℕ)) (after : Task)
+    → StaysOrDrops l.task after → InStep l t w said texts → InStep (record l { task = after }) t w said texts
+dropped l t w said texts after either k = elim either [
+  | inl same ↦ subst (λ x. InStep (record l { task = x }) t w said texts) (sym same) k
+  | inr d ↦ subst (λ x. InStep (record l { task = x }) t w said texts) (sym d.0) (record {
+    names = k.names;
+    counts = k.counts;
+    hand = record {
+      fits = drop_open l l.task t.turn d.1 k.hand.fits;
+      asked = none_asked (record l { task = tasks.Free }) w;
+      up = λ h. absurd h;
+      step = λ e. search (arith, e);
+      clear = λ h. absurd h;
+      own = k.hand.own;
+      idle = k.hand.idle;
+      wished = λ e h. h;
+    };
+    speech = record {
+      out = k.speech.out;
+      has = λ h. absurd h;
+      tells = told_on l.more l.task tasks.Free t.turn t.turn l.outgoing l.untold t.told said (drop_calm l.task d.1)
+          (λ h. h) k.speech.tells;
+    };
+    hears = ap (λ xs. map message_text t.heard ++ xs) (sym (drop_hand l.task t.turn d.1)) ∙ k.hears;
+    ended = k.ended;
+  })
+]
+
+pub again_so : (task : Task) → StaysOrDrops task (read_again task)
+again_so (tasks.Slot side) = inr (refl, tt)
+again_so task = inl refl
+
+pub aside_so : (task : Task) → StaysOrDrops task (aside task)
+aside_so tasks.Transfer = inr (refl, tt)
+aside_so task = inl refl
+
+pub step_so : (o : Option ℕ) (task : Task) → StaysOrDrops task (step_at o task)
+step_so None task = inl refl
+step_so (Some place) (tasks.Step verdict) = inr (refl, tt)
+step_so (Some place) tasks.Transfer = inr (refl, tt)
+step_so (Some place) task = inl refl
+
+module _ {K : Type 0} (call : Call) (old new : Port K) (t : Talk) (w : Option Wish) (said : List Said)
+    (texts : List (List ℕ)) (plain : IsPlain call old) (k : InStep (look old) t w said texts) where
+  -- no more changed than this
+  pub lets_be : (after : Task) → StaysOrDrops old.task after → look new ≡ record (look old) { task = after }
+      → After call old (look new) t w w said texts
+  lets_be after either e =
+      subst (λ l. After call old l t w w said texts) (sym e)
+      (unmoved call old (record (look old) { task = after }) t w w said texts refl refl plain
+      (dropped (look old) t w said texts after either k))
+
+  pub same_port : new ≡ old → After call old (look new) t w w said texts
+  same_port e = lets_be old.task (inl refl) (ap look e)
+
+  pub dies_plain : Dies old new → After call old (look new) t w w said texts
+  dies_plain d = dies call d.0 old new t w w said texts plain.no_reset d.1

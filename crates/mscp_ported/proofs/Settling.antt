@@ -1,0 +1,331 @@
+-- Steps of the initialisation that the host has answered, and the communication area.
+use Rattle.std.proofs.Common.{◌≡◌, ◌≢◌, ◌⊎◌, ◌∙◌, ◌+◌, ◌/◌, ◌%◌, ◌<◌, ◌≤◌, ◌++◌, [], ℕ, true, false, map, List, Option, None, Some, IfSome, MatchOption, inl, inr, refl, ap, sym, subst, arith}
+use Rattle.std.specs.Prelude.{◌==◌, Ok}
+use Rattle.std.proofs.lemmas.Option.{none-some}
+use Rattle.mscp_queue.specs.declared.view.Choice.{Choice}
+use Rattle.mscp_port.specs.declared.action.Outcome.{Outcome}
+use Rattle.mscp_port.specs.declared.port.Port.{Port}
+use Rattle.mscp_port.specs.declared.stage.Stage.{Stage}
+use Rattle.mscp_port.specs.declared.stage.Stage.TheVariants as stages
+use Rattle.mscp_port.specs.declared.task.Task.{Task}
+use Rattle.mscp_port.specs.declared.task.Task.TheVariants as tasks
+use Rattle.mscp_port.specs.Acted.{Clears, step_task}
+use Rattle.mscp_port.specs.Areas.{Rings, end_of, rings_named, start_of}
+use Rattle.mscp_port.specs.Calls.{Goes, TakesStep, step_answered}
+use Rattle.mscp_port.specs.Histories.{Went}
+use Rattle.mscp_port.specs.Ports.{IsAsNew}
+use Rattle.mscp_ported.specs.Talk.{Wish, Idle, Due, Talk, at_step, done_by, is_dead, stepped}
+use Rattle.mscp_ported.specs.Told.{Said, message_text}
+use Rattle.mscp_ported.proofs.After.{After, same_stage}
+use Rattle.mscp_ported.proofs.Look.{Fits, InStep, IsAsked, IsClear, IsElse, IsOfRings, IsOpen, IsTelling, Names, NeedsOut, has_area, in_hand, is_early, is_loud, look}
+use Rattle.mscp_ported.proofs.Counting.{named_wide}
+use Rattle.mscp_ported.proofs.Acting.{alive, dead_so, early_counts, else_deed, freed, goes_on, idle_deed, idle_so, init_step, is_done, quiet_of, same_said, step_cases, told_so}
+
+module _ {K : Type 0} (picks : List Choice → ℕ → Type 0) (old new : Port K) (t : Talk) (w : Wish) (outcome : Outcome)
+    (done : Unit) (said : List Said) (texts : List (List ℕ)) (k : InStep (look old) t (Some w) said texts)
+    (r : Goes picks outcome old (Ok done) new) where
+  abbrev So : Type 0
+  So = After (Went outcome (Ok done)) old (look new) t (Some w) None said texts
+
+  -- ---- steps of the initialisation
+
+  settle_talk : old.task ≡ tasks.Settle → (IsOpen t.turn) × (in_hand old.task t.turn ≡ []) × IsElse w.action
+  settle_talk at = (
+    subst (λ x. Fits (look old) x t.turn) at k.hand.fits,
+    ap (λ x. in_hand x t.turn) at,
+    subst (λ x. IsAsked (look old) x w) at k.hand.asked,
+  )
+
+  step_so : (word : ℕ) → old.task ≡ tasks.Settle → old.written ≡ Some word → TakesStep word old new → So
+  step_so word at some step = by old.stage refl
+    where
+      calm : (IsOpen t.turn) × (in_hand old.task t.turn ≡ []) × IsElse w.action
+      calm = settle_talk at
+
+      answer : t.answer ≡ word
+      answer = subst (λ o. IfSome o (λ x. t.answer ≡ x)) some k.names.answer_so
+
+      deed : done_by w.action w.bytes t ≡ t
+      deed = else_deed w.action w.bytes t calm.2
+
+      idle : old.stage ≢ stages.Up → t.turn ≡ Idle
+      idle h = idle_so t.turn calm.0 (k.hand.idle h)
+
+      none : is_early old.stage ≡ true → old.rings ≡ None
+      none = k.names.early
+
+      -- the talk stays as it was
+      stays : (s : Stage) (word' : Option ℕ) → old.stage ≢ stages.Up → is_dead s ≡ false
+          → stepped old.stage s t ≡ t → has_area s ≡ false → (is_early s ≡ true → old.rings ≡ None)
+          → look new ≡ record (look old) { stage = s; word = None; task = tasks.Free } → So
+      stays s word' not_up lives same no_area early e =
+          (goes_on picks old new t w outcome done said texts k r) (record (look old) { stage = s; word = None; task = tasks.Free }) t said e lives
+          (ap (stepped old.stage s) deed ∙ same) (same_said picks old new t w outcome done said texts k r)
+          (init_step (look old) t (Some w) said texts s old.words.first old.words.second old.rings None tasks.Free t.turn
+          t.rings t.first t.second k not_up calm.0 calm.1 (record {
+            first_so = k.names.first_so;
+            second_so = k.names.second_so;
+            answer_so = tt;
+            named_so = k.names.named_so;
+            area = λ h. absurd (search (arith, h, no_area));
+            early = early;
+            wide = k.names.wide;
+          }) k.counts calm.0 (k.hand.idle not_up) k.hand.own (λ h. h) (λ h. h) (λ x. search (arith, x)) (λ h. absurd h)
+          ((quiet_of picks old new t w outcome done said texts k r) tasks.Settle at (λ h. h)) (λ h. h) refl lives)
+
+      -- the next step begins
+      begins_step : (s : Stage) (first second : ℕ) (said_first said_second : ℕ) → old.stage ≢ stages.Up
+          → is_early old.stage ≡ true → is_dead s ≡ false → is_loud s ≡ true → has_area s ≡ false
+          → stepped old.stage s t
+          ≡ record t { turn = at_step first; first = said_first; second = said_second }
+          → said_first ≡ first → said_second ≡ second
+          → look new ≡ record (look old) {
+            stage = s;
+            first = first;
+            second = second;
+            word = None;
+            task = step_task first tasks.Free;
+          } → So
+      begins_step s first second said_first said_second not_up early lives loud no_area same e1 e2 e =
+          (goes_on picks old new t w outcome done said texts k r) (record (look old) {
+            stage = s;
+            first = first;
+            second = second;
+            word = None;
+            task = step_task first tasks.Free;
+          }) (record t { turn = at_step first; first = said_first; second = said_second }) said e lives
+          (ap (stepped old.stage s) deed ∙ same) (same_said picks old new t w outcome done said texts k r)
+          (step_cases (look old) first (λ task turn. InStep (record (look old) {
+            stage = s;
+            first = first;
+            second = second;
+            word = None;
+            task = task;
+          }) (record t { turn = turn; first = said_first; second = said_second }) None said texts)
+          (init_step (look old) t (Some w) said texts s first second old.rings None tasks.Interrupt Due t.rings said_first
+          said_second k not_up calm.0 calm.1 names k.counts refl tt tt (λ h. h) (λ h. h) (λ x. loud) (λ h. absurd h)
+          ((quiet_of picks old new t w outcome done said texts k r) tasks.Settle at (λ h. h)) (λ h. h) refl lives)
+          (init_step (look old) t (Some w) said texts s first second old.rings None tasks.Free Idle t.rings said_first
+          said_second k not_up calm.0 calm.1 names k.counts tt tt tt (λ h. h) (λ h. h) (λ x. loud) (λ h. absurd h)
+          ((quiet_of picks old new t w outcome done said texts k r) tasks.Settle at (λ h. h)) (λ h. h) refl lives))
+        where
+          names : Names s first second None old.rings said_first said_second t.answer t.rings
+          names = record {
+            first_so = e1;
+            second_so = e2;
+            answer_so = tt;
+            named_so = k.names.named_so;
+            area = λ h. absurd (search (arith, h, no_area));
+            early = λ h. none early;
+            wide = k.names.wide;
+          }
+
+      -- the area is named
+      names_area : (s : Stage) (task : Task) → old.stage ≡ stages.Third → is_dead s ≡ false
+          → stepped stages.Third s t ≡ record t { rings = rings_named t.first t.second t.answer }
+          → is_early s ≡ false
+          → (has_area s ≡ true → rings_named old.words.first old.words.second word ≢ None) → (IsOfRings task → ⊥)
+          → (NeedsOut task → ⊥) → (IsClear task → s ≡ stages.Clearing) → (task ≡ tasks.Interrupt → ⊥)
+          → (IsTelling task → ⊥) → (IsOpen t.turn → Fits (record (look old) {
+            stage = s;
+            word = None;
+            rings = rings_named old.words.first old.words.second word;
+            task = task;
+          }) task t.turn) → in_hand task t.turn ≡ []
+          → look new ≡ record (look old) {
+            stage = s;
+            word = None;
+            rings = rings_named old.words.first old.words.second word;
+            task = task;
+          } → So
+      names_area s task third lives same late area no_rings no_out clear no_step no_tell fits after e =
+          let not_up : old.stage ≢ stages.Up = λ u. search (arith, u, third) in
+          (goes_on picks old new t w outcome done said texts k r) (record (look old) {
+            stage = s;
+            word = None;
+            rings = rings_named old.words.first old.words.second word;
+            task = task;
+          }) (record t { rings = rings_named t.first t.second t.answer }) said e lives
+          (ap (λ x. stepped x s (done_by w.action w.bytes t)) third ∙ ap (stepped stages.Third s) deed ∙ same) (same_said picks old new t w outcome done said texts k r)
+          (init_step (look old) t (Some w) said texts s old.words.first old.words.second
+          (rings_named old.words.first old.words.second word) None task t.turn (rings_named t.first t.second t.answer)
+          t.first t.second k not_up calm.0 calm.1 (record {
+            first_so = k.names.first_so;
+            second_so = k.names.second_so;
+            answer_so = tt;
+            named_so = ap (λ x. rings_named x t.second t.answer) k.names.first_so
+                ∙ ap (λ x. rings_named old.words.first x t.answer) k.names.second_so
+                ∙ ap (rings_named old.words.first old.words.second) answer;
+            area = area;
+            early = λ h. absurd (search (arith, h, late));
+            wide = named_wide old.words.first old.words.second word;
+          })
+          (early_counts (rings_named old.words.first old.words.second word) (look old) t (Some w) said texts k
+          (none (ap is_early third))) (fits calm.0) (k.hand.idle not_up) k.hand.own no_rings no_out
+          (λ x. absurd (no_step x)) clear
+          ((quiet_of picks old new t w outcome done said texts k r) tasks.Settle at (λ h. h)) no_tell after lives)
+
+      is_one : (n : ℕ) → (n ≡ 1) ⊎ (n ≢ 1)
+      is_one n = search arith
+
+      is_low : (n : ℕ) → (0x8000 ≤ n) ⊎ (n < 0x8000)
+      is_low n = search arith
+
+      named_or : (o : Option Rings) → rings_named old.words.first old.words.second word ≡ o → old.stage ≡ stages.Third
+          → word < 0x8000 → So
+      named_or None e third low = (dead_so picks old new t w outcome done said texts k r) 7 (step.nowhere third low e)
+      named_or (Some area) e third low =
+          let is : rings_named old.words.first old.words.second word ≢ None = λ n. none-some area (sym n ∙ e) in
+          names_area stages.Clearing (tasks.Clear 0) third refl refl refl (λ h. is) (λ h. h) (λ h. h) (λ h. refl)
+          (λ x. search (arith, x)) (λ h. h) (λ h. h) refl (ap look (step.clear third low is))
+
+      by : (s : Stage) → old.stage ≡ s → So
+      by stages.First there = elim (is_one (word / 0x4000 % 2)) [
+        | inl wraps ↦ stays (stages.Wrapped word) None (λ u. search (arith, u, there)) refl
+            (ap (λ x. stepped x (stages.Wrapped word) t) there) refl (λ h. none (ap is_early there))
+            (ap look (step.wrap there wraps))
+        | inr plain ↦ begins_step stages.Second word old.words.second t.answer t.second
+            (λ u. search (arith, u, there)) (ap is_early there) refl refl refl
+            (ap (λ x. stepped x stages.Second t) there
+            ∙ ap (λ x. record t { turn = at_step x; first = t.answer }) answer) answer k.names.second_so
+            (ap look (step.first there plain))
+      ]
+      by stages.Second there =
+          begins_step stages.Third old.words.first word t.first t.answer (λ u. search (arith, u, there))
+          (ap is_early there) refl refl refl
+          (ap (λ x. stepped x stages.Third t) there
+          ∙ ap (λ x. record t { turn = at_step x; second = t.answer }) k.names.first_so) k.names.first_so answer
+          (ap look (step.second there))
+      by stages.Third there = elim (is_low word) [
+        | inl high ↦ names_area stages.Purging tasks.Free there refl refl refl (λ h. search (arith, h)) (λ h. h) (λ h. h)
+            (λ h. absurd h) (λ x. search (arith, x)) (λ h. h) (λ h. h) refl (ap look (step.probe there high))
+        | inr low ↦ named_or (rings_named old.words.first old.words.second word) refl there low
+      ]
+      by s there = (goes_on picks old new t w outcome done said texts k r) (record (look old) { word = None; task = tasks.Free }) t said
+          (ap look (step.elsewhere (λ e. search (arith, there, e)) (λ e. search (arith, there, e))
+          (λ e. search (arith, there, e)))) (alive picks old new t w outcome done said texts k r) (same_stage old.stage _ ∙ deed) (same_said picks old new t w outcome done said texts k r) (record {
+            names = record {
+              first_so = k.names.first_so;
+              second_so = k.names.second_so;
+              answer_so = tt;
+              named_so = k.names.named_so;
+              area = k.names.area;
+              early = k.names.early;
+              wide = k.names.wide;
+            };
+            counts = k.counts;
+            hand = record {
+              fits = calm.0;
+              asked = tt;
+              up = λ h. absurd h;
+              step = λ e. search (arith, e);
+              clear = λ h. absurd h;
+              own = k.hand.own;
+              idle = k.hand.idle;
+              wished = λ e h. h;
+            };
+            speech = record { out = k.speech.out; has = λ h. absurd h; tells = (told_so picks old new t w outcome done said texts k r) tasks.Free t.turn ((quiet_of picks old new t w outcome done said texts k r) tasks.Settle at (λ h. h)) (λ h. h) };
+            hears = ap (λ xs. map message_text t.heard ++ xs) (sym calm.1) ∙ k.hears;
+            ended = λ d. absurd (search (arith, d, (alive picks old new t w outcome done said texts k r)));
+          })
+
+  pub settle_so : (o : Option ℕ) → old.written ≡ o → old.task ≡ tasks.Settle → So
+  settle_so None none at =
+      let x = settle_talk at in (freed picks old new t w outcome done said texts k r) x.0 x.1 ((quiet_of picks old new t w outcome done said texts k r) tasks.Settle at (λ h. h)) x.2 (ap look ((r.acts refl).unanswered at none))
+  settle_so (Some word) some at =
+      step_so word at some (subst (λ x. IfSome x (λ v. TakesStep v old new)) (ap (step_answered tasks.Settle) some)
+      (subst (λ x. IfSome (step_answered x old.written) (λ v. TakesStep v old new)) at (r.steps refl)))
+
+  -- ---- the communication area
+
+  pub clear_so : (so_far : ℕ) → old.task ≡ tasks.Clear so_far → So
+  clear_so so_far at = by old.rings ((r.acts refl).clear so_far at)
+    where
+      there : old.stage ≡ stages.Clearing
+      there = k.hand.clear (subst (λ x. IsClear x) (sym at) tt)
+
+      not_up : old.stage ≢ stages.Up
+      not_up u = search (arith, u, there)
+
+      idle : t.turn ≡ Idle
+      idle = idle_so t.turn (subst (λ x. Fits (look old) x t.turn) at k.hand.fits) (k.hand.idle not_up)
+
+      calm : IsOpen t.turn
+      calm = subst (λ x. Fits (look old) x t.turn) at k.hand.fits
+
+      deed : done_by w.action w.bytes t ≡ t
+      deed = idle_deed w.action w.bytes t idle
+
+      quiet : IsTelling old.task → ⊥
+      quiet = (quiet_of picks old new t w outcome done said texts k r) (tasks.Clear so_far) at (λ h. h)
+
+      before : in_hand old.task t.turn ≡ []
+      before = ap (λ x. in_hand x t.turn) at
+
+      some : has_area stages.Clearing ≡ true → old.rings ≢ None
+      some h = k.names.area (ap has_area there)
+
+      names : (s : Stage) → is_early s ≡ false
+          → Names s old.words.first old.words.second old.written old.rings t.first t.second t.answer t.rings
+      names s late = record {
+        first_so = k.names.first_so;
+        second_so = k.names.second_so;
+        answer_so = k.names.answer_so;
+        named_so = k.names.named_so;
+        area = λ h. some refl;
+        early = λ h. absurd (search (arith, h, late));
+        wide = k.names.wide;
+      }
+
+      more_so : look new ≡ record (look old) { task = tasks.Clear (so_far + 64) } → So
+      more_so e = (goes_on picks old new t w outcome done said texts k r) (record (look old) { task = tasks.Clear (so_far + 64) }) t said e (alive picks old new t w outcome done said texts k r)
+          (same_stage old.stage _ ∙ deed) (same_said picks old new t w outcome done said texts k r) (record {
+            names = k.names;
+            counts = k.counts;
+            hand = record {
+              fits = calm;
+              asked = tt;
+              up = λ h. absurd h;
+              step = λ e. search (arith, e);
+              clear = λ h. there;
+              own = k.hand.own;
+              idle = k.hand.idle;
+              wished = λ e h. h;
+            };
+            speech = record { out = k.speech.out; has = λ h. absurd h; tells = (told_so picks old new t w outcome done said texts k r) (tasks.Clear (so_far + 64)) t.turn quiet (λ h. h) };
+            hears = ap (λ xs. map message_text t.heard ++ xs) (sym before) ∙ k.hears;
+            ended = λ d. absurd (search (arith, d, (alive picks old new t w outcome done said texts k r)));
+          })
+
+      last_so : look new ≡ record (look old) { stage = stages.Last; task = step_task old.words.first tasks.Free } → So
+      last_so e = (goes_on picks old new t w outcome done said texts k r) (record (look old) { stage = stages.Last; task = step_task old.words.first tasks.Free })
+          (record t { turn = at_step old.words.first }) said e refl
+          (ap (λ x. stepped x stages.Last (done_by w.action w.bytes t)) there ∙ ap (stepped stages.Clearing stages.Last) deed
+          ∙ ap (λ x. record t { turn = at_step x }) k.names.first_so) (same_said picks old new t w outcome done said texts k r)
+          (step_cases (look old) old.words.first (λ task turn. InStep (record (look old) {
+            stage = stages.Last;
+            task = task;
+          }) (record t { turn = turn }) None said texts)
+          (init_step (look old) t (Some w) said texts stages.Last old.words.first old.words.second old.rings old.written
+          tasks.Interrupt Due t.rings t.first t.second k not_up calm before (names stages.Last refl) k.counts refl tt tt
+          (λ h. h) (λ h. h) (λ x. refl) (λ h. absurd h) quiet (λ h. h) refl refl)
+          (init_step (look old) t (Some w) said texts stages.Last old.words.first old.words.second old.rings old.written
+          tasks.Free Idle t.rings t.first t.second k not_up calm before (names stages.Last refl) k.counts tt tt tt
+          (λ h. h) (λ h. h) (λ x. refl) (λ h. absurd h) quiet (λ h. h) refl refl))
+
+      with_area : (area : Rings) → Clears outcome area so_far old new → So
+      with_area area c = elim (is_done picks old new t w outcome done said texts k r) [
+        | inl is ↦ elim (by_size (end_of area) (start_of area (old.words.second % 2 == 1) + (so_far + 64))) [
+          | inl more ↦ more_so (ap look (c.on is more))
+          | inr last ↦ last_so (ap look (c.last is last))
+        ]
+        | inr never ↦ (dead_so picks old new t w outcome done said texts k r) 7 (c.missing never)
+      ]
+        where
+          by_size : (n m : ℕ) → (m < n) ⊎ (n ≤ m)
+          by_size n m = search arith
+
+      by : (o : Option Rings) → MatchOption o (IsAsNew (stages.Dead 7) old new) (λ x. Clears outcome x so_far old new)
+          → So
+      by None h = (dead_so picks old new t w outcome done said texts k r) 7 h
+      by (Some area) h = with_area area h

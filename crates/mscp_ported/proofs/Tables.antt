@@ -1,0 +1,101 @@
+-- What is decided of an end, and the bytes with which it leaves, by either table.
+use Rattle.std.proofs.Common.{◌≡◌, ◌∙◌, ◌+◌, ℕ, Bool, true, false, cond, List, Option, None, Some, refl, ap}
+use Rattle.std.specs.Prelude.{◌==◌, ◌%◌, Result, Ok, Err}
+use Rattle.mscp_packet.specs.declared.command.MoveKind.{MoveKind}
+use Rattle.mscp_packet.specs.declared.end.End.{End}
+use Rattle.mscp_packet.specs.declared.end.EndBody.{EndBody}
+use Rattle.mscp_packet.specs.declared.end.EndBody.TheVariants as bodies
+use Rattle.mscp_drive.specs.Shape.{Shape}
+use Rattle.mscp_drive.specs.UnitList.{unit_found}
+use Rattle.mscp_drive.specs.declared.block.Block.TheVariants as blocks
+use Rattle.mscp_queue.specs.declared.upcoming.Upcoming.{Upcoming}
+use Rattle.mscp_port.specs.declared.action.Outcome.{Outcome}
+use Rattle.mscp_port.specs.declared.action.Outcome.TheVariants as outcomes
+use Rattle.mscp_port.specs.declared.decided.Decided.{Decided}
+use Rattle.mscp_port.specs.declared.hardware.Hardware.{Hardware}
+use Rattle.mscp_port.specs.declared.port.Port.{Port}
+use Rattle.mscp_port.specs.declared.verdict.Verdict.{Verdict}
+use Rattle.mscp_port.specs.declared.verdict.Verdict.TheVariants as verdicts
+use Rattle.mscp_port.specs.declared.volumes.Volume.{Volume}
+use Rattle.mscp_port.specs.Blocks.{block_of}
+use Rattle.mscp_port.specs.Decided.{answer_of, controller_decided, end_decided, found_decided, status_told}
+use Rattle.mscp_port.specs.Leaving.{end_told, end_with_body}
+use Rattle.mscp_port.specs.Moved.{block_served, part_now, part_served}
+use Rattle.mscp_port.specs.Volumes.{volume_found}
+use Rattle.mscp_ported.specs.Ends.{Fields, answer_left, fields_of_unit, fields_with, status_said, step_left, text_with, verdict_of, verdict_with}
+use Rattle.mscp_ported.specs.Making.{told_as}
+
+-- ---- what is decided
+
+abbrev pub fields_of : Decided → Fields
+fields_of d = record { status = d.status; flags = d.flags; media = d.media; size = d.size }
+
+status_so : (verdict : Verdict) (code status : ℕ) (v : Volume)
+    → status_told verdict code status v ≡ status_said verdict code status v
+status_so verdicts.NoVolume code status v = refl
+status_so verdicts.NotOnline code status v = refl
+status_so (verdicts.Served block) code status v = refl
+
+pub fields_so : (status : ℕ) (e : End) (units : List Shape) (flags : ℕ) (v : Volume)
+    → fields_of (end_decided status e units flags v) ≡ fields_with status e (unit_found units e.unit) flags v
+fields_so status e units flags v = by (e.code == 0x84) (unit_found units e.unit)
+  where
+    by : (b : Bool) (o : Option Shape)
+        → fields_of (cond b (controller_decided status flags) (found_decided status o v))
+        ≡ cond b (record { status = status; flags = 0x8000 + flags % 0x8000; media = 0; size = 0 })
+        (fields_of_unit status o v)
+    by true o = refl
+    by false None = refl
+    by false (Some unit) = refl
+
+pub answer_so : {K : Type 0} (p : Port K) (e : End) → fields_of (answer_of p e) ≡ (answer_left p e).fields
+answer_so p e =
+    let units = p.controller.settings.units in
+    let v = volume_found units p.volumes e.unit in
+    fields_so (status_told (verdicts.Served blocks.Good) e.code e.status v) e units p.flags v
+    ∙ ap (λ n. fields_with n e (unit_found units e.unit) p.flags v)
+    (status_so (verdicts.Served blocks.Good) e.code e.status v)
+
+-- of the end of a step
+pub step_fields : {K : Type 0} (verdict : Verdict) (old new : Port K) (e : End)
+    → fields_of (end_decided (status_told verdict e.code e.status
+    (volume_found old.controller.settings.units old.volumes e.unit)) e new.controller.settings.units new.flags
+    (volume_found new.controller.settings.units new.volumes e.unit)) ≡ (step_left verdict old new e).fields
+step_fields verdict old new e =
+    let units = new.controller.settings.units in
+    let before = volume_found old.controller.settings.units old.volumes e.unit in
+    let v = volume_found units new.volumes e.unit in
+    fields_so (status_told verdict e.code e.status before) e units new.flags v
+    ∙ ap (λ n. fields_with n e (unit_found units e.unit) new.flags v) (status_so verdict e.code e.status before)
+
+outcome_so : (outcome : Outcome) → block_of outcome ≡ told_as outcome
+outcome_so outcomes.Done = refl
+outcome_so outcomes.Missing = refl
+outcome_so outcomes.Parity = refl
+outcome_so outcomes.Unmapped = refl
+outcome_so outcomes.Different = refl
+outcome_so (outcomes.Failed status) = refl
+
+pub verdict_so : {K : Type 0} (old : Port K) (outcome : Outcome) (o : Option (Upcoming × MoveKind × ℕ))
+    → block_served old outcome o ≡ verdict_of old outcome o
+verdict_so old outcome None = refl
+verdict_so old outcome (Some m) = by (part_now old m.0 m.1 m.2)
+  where
+    by : (r : Result (ℕ × ℕ) Verdict) → part_served outcome r ≡ verdict_with outcome r
+    by (Ok part) = ap verdicts.Served (outcome_so outcome)
+    by (Err verdict) = refl
+
+-- ---- bytes
+
+pub text_so : (e : End) (d : Decided) (unit : Option Shape) (h : Hardware)
+    → end_told e d unit h ≡ text_with e.body e (fields_of d) unit h
+text_so e d unit h = by e.body unit
+  where
+    by : (body : EndBody) (o : Option Shape) → end_with_body body e d o h
+        ≡ text_with body e (fields_of d) o h
+    by (bodies.Online id media size serial) None = refl
+    by (bodies.Online id media size serial) (Some unit) = refl
+    by (bodies.UnitStatus id media track group cylinder) None = refl
+    by (bodies.UnitStatus id media track group cylinder) (Some unit) = refl
+    by (bodies.Controller timeout id) o = refl
+    by body o = refl

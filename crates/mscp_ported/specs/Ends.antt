@@ -1,0 +1,223 @@
+-- With which fields an end leaves: they are decided as its command ends, of what its unit has then, also where the end
+-- leaves much later (manual, "End Messages", "Status and Event Codes", "Unit Flags").
+use Rattle.std.specs.Prelude.{◌≡◌, ℕ, Bool, ◌+◌, ◌%◌, ◌==◌, ◌&&◌, ◌||◌, ◌++◌, ◌∷◌, [], not, if◌then◌else◌, List, drop, length, map, replicate, Option, None, Some, Result, Ok, Err}
+use Rattle.byteorder.specs.Endian.{little_bytes}
+use Rattle.mscp_packet.specs.Ends.{end_bytes}
+use Rattle.mscp_packet.specs.declared.command.MoveKind.{MoveKind}
+use Rattle.mscp_packet.specs.declared.end.End.{End}
+use Rattle.mscp_packet.specs.declared.end.EndBody.{EndBody}
+use Rattle.mscp_packet.specs.declared.end.EndBody.TheVariants as bodies
+use Rattle.mscp_drive.specs.Both.{of}
+use Rattle.mscp_drive.specs.Settings.{IsValid, Settings}
+use Rattle.mscp_drive.specs.Shape.{Shape}
+use Rattle.mscp_drive.specs.UnitList.{unit_found}
+use Rattle.mscp_drive.specs.declared.block.Block.TheVariants as blocks
+use Rattle.mscp_drive.specs.declared.connection.Connection.TheVariants.{First}
+use Rattle.mscp_queue.specs.declared.upcoming.Upcoming.{Upcoming}
+use Rattle.mscp_controller.specs.Calls.{AnsweredCalls, Call as Made}
+use Rattle.mscp_controller.specs.Holdings.{Holdings, fresh}
+use Rattle.mscp_port.specs.declared.action.Outcome.{Outcome}
+use Rattle.mscp_port.specs.declared.hardware.Hardware.{Hardware}
+use Rattle.mscp_port.specs.declared.port.Outgoing.{Outgoing}
+use Rattle.mscp_port.specs.declared.port.OutgoingKind.{OutgoingKind}
+use Rattle.mscp_port.specs.declared.port.OutgoingKind.TheVariants as kinds
+use Rattle.mscp_port.specs.declared.port.Port.{Port}
+use Rattle.mscp_port.specs.declared.task.Task.{Task}
+use Rattle.mscp_port.specs.declared.task.Task.TheVariants as tasks
+use Rattle.mscp_port.specs.declared.verdict.Verdict.{Verdict}
+use Rattle.mscp_port.specs.declared.verdict.Verdict.TheVariants as verdicts
+use Rattle.mscp_port.specs.declared.volumes.Volume.{Volume}
+use Rattle.mscp_port.specs.Calls.{IsMadeOf}
+use Rattle.mscp_port.specs.Histories.{Answered, Call, Next, Picking, WasRead, Went}
+use Rattle.mscp_port.specs.Moved.{block_begun, part_now}
+use Rattle.mscp_port.specs.Volumes.{volume_found}
+use Rattle.mscp_ported.specs.Making.{told_as}
+use Rattle.mscp_ported.specs.Talk.{since}
+
+-- ---- what is decided
+
+-- what an end says that only its port knows
+pub record Fields : Type 0 where
+  pub status : ℕ
+  pub flags : ℕ
+  pub media : ℕ
+  pub size : ℕ
+
+-- the controller replaces bad blocks; what is written is protected by the hardware, by the host; the volume can be
+-- taken out
+abbrev pub flags_of_unit : Volume → ℕ
+flags_of_unit v =
+    0x8000 + (if v.is_protected then 0x2000 else 0) + (if v.is_protected_by_host then 0x1000 else 0)
+    + (if v.is_removable then 0x80 else 0)
+
+-- Unit-Offline, no volume; Unit-Available; or Success
+abbrev pub state_of_unit : Volume → ℕ
+state_of_unit v = if not v.is_there then 0x23 else if not v.is_mounted then 4 else 0
+
+-- a step that had no volume is Unit-Offline, one that its unit wasn't online for is Unit-Available; a GET UNIT STATUS
+-- (0x83) says the unit's state, and an ONLINE (0x89) whether it found the unit online already
+abbrev pub status_said : Verdict → ℕ → ℕ → Volume → ℕ
+status_said verdicts.NoVolume code status v = 0x23
+status_said verdicts.NotOnline code status v = 4
+status_said (verdicts.Served block) code status v =
+    if code == 0x83 && (status == 0 || status == 4) then state_of_unit v
+    else if code == 0x89 && (status == 0 || status == 0x0100) then (if v.is_mounted then 0x0100 else 0)
+    else status
+
+-- with this status: of a SET CONTROLLER CHARACTERISTICS (0x84) the host's flags are told, of a command to a unit the
+-- unit's flags, and type and size of its volume, or the unit's if there is none
+abbrev pub fields_of_unit : ℕ → Option Shape → Volume → Fields
+fields_of_unit status None v = record { status = status; flags = 0; media = 0; size = 0 }
+fields_of_unit status (Some unit) v = record {
+  status = status;
+  flags = flags_of_unit v;
+  media = if v.is_there then v.media else unit.media;
+  size = if v.is_there then v.size else unit.size;
+}
+
+abbrev pub fields_with : ℕ → End → Option Shape → ℕ → Volume → Fields
+fields_with status e unit flags v =
+    if e.code == 0x84 then record { status = status; flags = 0x8000 + flags % 0x8000; media = 0; size = 0 }
+    else fields_of_unit status unit v
+
+-- in the port as it is then, where the unit had this volume before
+abbrev pub fields_by : {K : Type 0} → Verdict → Volume → Port K → End → Fields
+fields_by verdict before p e = fields_with (status_said verdict e.code e.status before) e
+    (unit_found p.controller.settings.units e.unit) p.flags (volume_found p.controller.settings.units p.volumes e.unit)
+
+-- ---- when
+
+pub record Leaving : Type 0 where
+  pub end : End
+  pub fields : Fields
+
+-- the ends that came for the host's connection
+abbrev pub come : {K : Type 0} → Port K → Port K → List End
+come old new = drop (length (of First old.controller.untaken)) (of First new.controller.untaken)
+
+-- how a step went whose block's action went so
+abbrev pub verdict_with : Outcome → Result (ℕ × ℕ) Verdict → Verdict
+verdict_with outcome (Ok part) = verdicts.Served (told_as outcome)
+verdict_with outcome (Err verdict) = verdict
+
+abbrev pub verdict_of : {K : Type 0} → Port K → Outcome → Option (Upcoming × MoveKind × ℕ) → Verdict
+verdict_of old outcome None = verdicts.Served (blocks.Bad 0x000B)
+verdict_of old outcome (Some m) = verdict_with outcome (part_now old m.0 m.1 m.2)
+
+abbrev pub verdict_in : {K : Type 0} → Port K → Outcome → Task → Verdict
+verdict_in old outcome (tasks.Step verdict) = verdict
+verdict_in old outcome task = verdict_of old outcome (block_begun old)
+
+abbrev pub answer_left : {K : Type 0} → Port K → End → Leaving
+answer_left new e = record {
+  end = e;
+  fields = fields_by (verdicts.Served blocks.Good)
+      (volume_found new.controller.settings.units new.volumes e.unit) new e;
+}
+
+abbrev pub step_left : {K : Type 0} → Verdict → Port K → Port K → End → Leaving
+step_left verdict old new e = record {
+  end = e;
+  fields = fields_by verdict (volume_found old.controller.settings.units old.volumes e.unit) new e;
+}
+
+-- the ends that came by a call, with what was decided of them: an answer to a message, or the end of a step's command
+abbrev pub came_by : {K : Type 0} → Call → Port K → Port K → List Leaving
+came_by (WasRead bytes (Ok done)) old new = map (answer_left new) (come old new)
+came_by (Went outcome (Ok done)) old new =
+    map (step_left (verdict_in old outcome old.task) old new) (come old new)
+came_by call old new = []
+
+-- since all was forgotten last, the first one first
+abbrev pub came : {K : Type 0} (picks : Picking K) (start p : Port K) (calls : List Call)
+    → Answered picks start calls p → List Leaving
+came picks start p [] a = []
+came picks start p (call ∷ earlier) a = since p.stage call (came picks start a.0 earlier a.1) (came_by call a.0 p)
+
+-- ---- what is said
+
+-- an end of the disk's that begins to go out, as something is wanted, is one of the controller's
+abbrev pub end_said : OutgoingKind → List ℕ → List (List ℕ)
+end_said kinds.Attention text = []
+end_said kinds.End text = text ∷ []
+end_said kinds.UtilitiesEnd text = []
+
+abbrev pub ends_begun : Option Outgoing → Option Outgoing → List (List ℕ)
+ends_begun None (Some o) = end_said o.kind o.bytes.items
+ends_begun before after = []
+
+abbrev pub ends_said_by : {K : Type 0} → Call → Port K → Port K → List (List ℕ)
+ends_said_by (Next blocks action bytes) old new = ends_begun old.outgoing new.outgoing
+ends_said_by call old new = []
+
+abbrev pub ends_said : {K : Type 0} (picks : Picking K) (start p : Port K) (calls : List Call)
+    → Answered picks start calls p → List (List ℕ)
+ends_said picks start p [] a = []
+ends_said picks start p (call ∷ earlier) a =
+    since p.stage call (ends_said picks start a.0 earlier a.1) (ends_said_by call a.0 p)
+
+-- ---- bytes
+
+-- bytes 0 to 11: reference number, unit, endcode and status
+abbrev pub head_text : End → Fields → List ℕ
+head_text e f =
+    little_bytes 4 e.reference ++ little_bytes 2 e.unit ++ (0 ∷ 0 ∷ e.code ∷ 0 ∷ []) ++ little_bytes 2 f.status
+
+-- 12 to 35: multi-unit, unit flags, identifier, type of media, and shadow unit
+abbrev pub unit_text : Fields → Shape → List ℕ
+unit_text f unit =
+    (little_bytes 2 unit.number ++ little_bytes 2 f.flags ++ little_bytes 4 0 ++ little_bytes 8 unit.id
+    ++ little_bytes 4 f.media)
+    ++ (little_bytes 2 unit.number ++ little_bytes 2 0)
+
+-- 36 to 43: the volume's size, and the unit's serial number
+abbrev pub online_text : End → Fields → Shape → List ℕ
+online_text e f unit = (head_text e f ++ unit_text f unit) ++ little_bytes 4 f.size ++ little_bytes 4 unit.serial
+
+-- 36 to 47: track, group and cylinder
+abbrev pub status_text : End → Fields → Shape → List ℕ
+status_text e f unit =
+    (head_text e f ++ unit_text f unit) ++ little_bytes 2 unit.track ++ little_bytes 2 unit.group
+    ++ little_bytes 2 unit.cylinder ++ replicate 6 0
+
+-- 12 to 31: the controller's flags, timeout, versions and identifier
+abbrev pub controller_text : End → Fields → Hardware → ℕ → ℕ → List ℕ
+controller_text e f h timeout id =
+    head_text e f ++ little_bytes 2 0 ++ little_bytes 2 f.flags ++ little_bytes 2 timeout
+    ++ (h.software ∷ h.version ∷ []) ++ little_bytes 8 id ++ little_bytes 4 0
+
+-- any other end leaves as the controller gave it, with that status
+abbrev pub plain_text : End → Fields → List ℕ
+plain_text e f = end_bytes (record e { status = f.status })
+
+-- Success, Unit-Offline and Unit-Available tell of the unit
+abbrev pub is_of_unit : ℕ → Bool
+is_of_unit status = status % 32 == 0 || status % 32 == 3 || status % 32 == 4
+
+abbrev pub text_with : EndBody → End → Fields → Option Shape → Hardware → List ℕ
+text_with (bodies.Online id media size serial) e f (Some unit) h =
+    if is_of_unit f.status then online_text e f unit else plain_text e f
+text_with (bodies.UnitStatus id media track group cylinder) e f (Some unit) h =
+    if is_of_unit f.status then status_text e f unit else plain_text e f
+text_with (bodies.Controller timeout id) e f unit h =
+    if f.status == 0 then controller_text e f h timeout id else plain_text e f
+text_with body e f unit h = plain_text e f
+
+abbrev pub end_text : Hardware → List Shape → Leaving → List ℕ
+end_text h units l = text_with l.end.body l.end l.fields (unit_found units l.end.unit) h
+
+-- ---- the law
+
+-- the law of ends: a port was made over a controller, which had answered some calls before and holds no end of its
+-- host's. Whoever calls the port: since all was forgotten last, the ends that came for its host began to go out in the
+-- order in which they came, each once, with the fields that were decided as it came, but for those that the controller
+-- holds still
+abbrev pub PortsSayWhatWasDecided : {K : Type 0} → Picking K → K → Type 0
+PortsSayWhatWasDecided {K} picks picker =
+    (c : Settings) (before : List Made) (controller : Holdings K) (hardware : Hardware) (credits : ℕ)
+    (start p : Port K) (calls : List Call) → IsValid c
+    → AnsweredCalls (picks picker) (fresh c picker) before controller → of First controller.untaken ≡ []
+    → IsMadeOf hardware credits controller start → (a : Answered picks start calls p)
+    → (gone : List Leaving) × (waits : List Leaving) × (came picks start p calls a ≡ gone ++ waits)
+    × (map (λ l. l.end) waits ≡ of First p.controller.untaken)
+    × (ends_said picks start p calls a ≡ map (end_text hardware c.units) gone)

@@ -1,0 +1,6 @@
+pub mod Talk
+pub mod Owed
+pub mod Told
+pub mod Making
+pub mod Moved
+pub mod Ends

@@ -1,0 +1,73 @@
+// What is true of every port, for its host.
+
+ghost use Rattle.mscp_ported.specs.Ends.{PortsSayWhatWasDecided};
+ghost use Rattle.mscp_ported.specs.Making.{PortsKeepThePromise};
+ghost use Rattle.mscp_ported.specs.Moved.{PortsMoveWhatTheySay};
+ghost use Rattle.mscp_ported.specs.Owed.{PortsDoWhatIsDue};
+ghost use Rattle.mscp_ported.specs.Told.{PortsHearInOrder, PortsTellInOrder};
+
+use mscp_controller::controllers_keep_the_promise;
+use mscp_queue::Picker;
+
+/// Whoever calls a port that was made over a controller, and tells of actions only after they were wanted: what the port wants
+/// next of its host's memory is just what is due by what was read and written there since all was forgotten last. So a slot is
+/// read where the ring goes on, its packet where its descriptor says; it is given back where it lies, with its flag set; and the
+/// interrupt word is written, and the host interrupted, after a slot whose flag was set is given back and the ring was empty or
+/// full before, and at the steps of the initialisation where the host asked for it, once each, and never else. Nothing else is
+/// written but the zeros that clear the area, and the blocks of transfers.
+pub fn ports_do_what_is_due<K: Picker>(picker: &K)
+    ensures { PortsDoWhatIsDue K.picks }
+{
+    let _ = picker;
+}
+
+/// Of such a port: the packets whose slots were given back since all was forgotten last say, one by one and in the same order,
+/// what began to go out, but for what still goes out: none is left out, told twice or exchanged. Each is whole: the length of
+/// its text, its credits, its connection and its text; and all credits that the host may have but the first are told, up to 15
+/// with an end of the disk's. The slots were the port's, and lie in the ring one behind the other.
+pub fn ports_tell_in_order<K: Picker>(picker: &K)
+    ensures { PortsTellInOrder K.picks }
+{
+    let _ = picker;
+}
+
+/// Of such a port: the messages whose slots were given back since then are, one by one and in the same order, those that were
+/// accepted: that the controller took, or that the port answered itself while nothing went out. At most one more is in hand.
+/// Their slots were the port's, and lie in the ring one behind the other: so no message is heard before one in front of it, or
+/// twice.
+pub fn ports_hear_in_order<K: Picker>(picker: &K)
+    ensures { PortsHearInOrder K.picks }
+{
+    let _ = picker;
+}
+
+/// Whoever calls a port, and whatever its host writes: the calls that the port has made of its controller since all was
+/// forgotten last keep the promise: a send of each message that it doesn't answer itself, a take where an end begins to go out,
+/// a begin where a step is taken in hand, and a finish with what came of the step's action. So the figures that it tells fall
+/// and never rise, and each command ends within its bound.
+pub fn ports_keep_the_promise<K: Picker>(picker: &K)
+    ensures { PortsKeepThePromise K.picks picker.now }
+{
+    controllers_keep_the_promise(picker);
+}
+
+/// Whoever calls a port, and tells of actions only after they were wanted: where the controller is told that a block of a
+/// command went well, the block was moved. It was wanted, of the command's unit and of that number, to or from its place of the
+/// buffer: 512 bytes behind the block before, of the last one the bytes that are left; and it was told done. The buffer is that
+/// of a message of the command's number, to its unit. Only where the buffer has no byte for the block nothing is moved.
+pub fn ports_move_what_they_say<K: Picker>(picker: &K)
+    ensures { PortsMoveWhatTheySay K.picks }
+{
+    let _ = picker;
+}
+
+/// Whoever calls a port, whose controller held no end of its host's as the port was made: the ends that came for the host since
+/// all was forgotten last began to go out in the order in which they came, each once, but for those that the controller holds
+/// still. Each has the fields that were decided as its command ended: its status, and of an ONLINE, a SET UNIT CHARACTERISTICS, a
+/// GET UNIT STATUS and a SET CONTROLLER CHARACTERISTICS all that its table says of unit, volume and controller. Any other end
+/// is the controller's, byte by byte, but for its status: so a poll's end has the figure of the moment at which the poll came.
+pub fn ports_say_what_was_decided<K: Picker>(picker: &K)
+    ensures { PortsSayWhatWasDecided K.picks picker.now }
+{
+    controllers_keep_the_promise(picker);
+}
