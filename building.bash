@@ -127,7 +127,7 @@ link_shared() {
     local archive=$1 to=$2 said
     shift 2
     local words=(-shared -fPIC -O2 -std=c99 -I "$top/include" "$top/include/shared.c" -Wl,--whole-archive
-        "$archive" -Wl,--no-whole-archive "-Wl,-soname,$(soname),-z,defs,-z,noexecstack")
+        "$archive" -Wl,--no-whole-archive "-Wl,-soname,$(soname),-z,defs,-z,noexecstack,-z,relro,-z,now")
     said=$("$@" "${words[@]}" -o "$to" 2>&1) || refuse "${to##*/} was not linked: $said"
 }
 
