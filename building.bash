@@ -27,8 +27,10 @@ refuse() {
 without_rt() {
     case $name in
         mscpq) echo '; without it, cc -O2 -Iinclude portable/mscpq.c portable/mscp.c -o mscpq-c builds the same as C' ;;
-        install) echo '; without it, compile portable/mscp.c with yours' ;;
-        mscpjudge) echo '; a release for x86-64 Linux has the judge built' ;;
+        install) echo '; without it, compile portable/mscp.c with yours, or take a release: make install puts its sources in place' ;;
+        mscpjudge) echo '; without it, take the judge from a release for x86-64 Linux: toadnickel-VERSION-x86_64-linux.tar.gz, or the package mscpq' ;;
+        page/build) echo '; without it, take the page from a release: toadnickel-VERSION-page.html' ;;
+        portable/make) echo '; without it, take portable/mscp.c as it stands' ;;
     esac
 }
 
@@ -127,7 +129,7 @@ link_shared() {
     local archive=$1 to=$2 said
     shift 2
     local words=(-shared -fPIC -O2 -std=c99 -I "$top/include" "$top/include/shared.c" -Wl,--whole-archive
-        "$archive" -Wl,--no-whole-archive "-Wl,-soname,$(soname),-z,defs,-z,noexecstack")
+        "$archive" -Wl,--no-whole-archive "-Wl,-soname,$(soname),-z,defs,-z,noexecstack,-z,relro,-z,now")
     said=$("$@" "${words[@]}" -o "$to" 2>&1) || refuse "${to##*/} was not linked: $said"
 }
 

@@ -62,7 +62,7 @@ extern "C" {
 #define MSCP_ALIGNED
 #endif
 
-/* The version of this header, 2.0.0: a byte for each of the three numbers, and that of the library. The two fit if the first
+/* The version of this header, 2.0.0, and that of the library: a byte for each of the three numbers. The two fit if the first
  * number is the same: docs/C.md in the sources says what is the same then. If they don't, an init says MSCP_NO_HANDLE, since
  * a handle that this header makes is none for that library. */
 #define MSCP_VERSION UINT32_C(0x020000)
@@ -443,7 +443,7 @@ MSCP_INLINE struct mscp_port mscp_port_over(void *memory, size_t length)
     return handle;
 }
 
-/* The same with the handle at the head of the memory, whose own pointer then serves each call. A controller takes
+/* A handle at the head of memory that is yours, whose own pointer then serves each call. A controller takes
  * MSCP_HEAD + mscp_size() bytes so. NULL, if the memory is NULL, isn't aligned, or has no room for a handle: mscp_init says
  * MSCP_NO_MEMORY then. A controller that is in the memory already is forgotten: this call takes the memory for room,
  * whatever lies there. */
@@ -614,10 +614,13 @@ MSCP_INLINE int64_t mscp_why(const struct mscp *mscp, uint32_t connection, uint3
  * that number waits. */
 int64_t mscp_figure(const struct mscp *mscp, uint32_t connection, uint32_t reference);
 
-/* How many commands of the connection wait: 0 to 63. How many of its ends weren't taken, and how many of its credits
- * are free: 0 to 64. */
+/* How many commands of the connection wait: 0 to 63. */
 int64_t mscp_waiting(const struct mscp *mscp, uint32_t connection);
+
+/* How many ends of the connection weren't taken: 0 to 64. */
 int64_t mscp_untaken(const struct mscp *mscp, uint32_t connection);
+
+/* How many credits of the connection are free: 0 to 64. */
 int64_t mscp_balance(const struct mscp *mscp, uint32_t connection);
 
 /* Whether the unit of this number is online: 1, or 0 if it isn't, or isn't configured. */
@@ -773,12 +776,12 @@ int32_t mscp_port_write_sa(struct mscp_port *port, uint16_t word);
  * volume changed: the port wants the block once more, or its command ends. */
 MSCP_MUST_USE int32_t mscp_port_next(struct mscp_port *port, struct mscp_action *action);
 
-/* What it wants done next while a block takes its time: polls are answered, messages come and go, and no block is begun. A
- * TRANSFER that was in hand is put aside, and mscp_port_next wants it anew. So an emulator that mscp_port_next asks for a
+/* What the port wants done next while a block takes its time: polls are answered, messages come and go, and no block is
+ * begun. A TRANSFER that was in hand is put aside, and mscp_port_next wants it anew. So an emulator that mscp_port_next asks for a
  * block may go on by this call until the block's time has come, and do it then. As mscp_port_next else. */
 MSCP_MUST_USE int32_t mscp_port_next_message(struct mscp_port *port, struct mscp_action *action);
 
-/* These bytes were read in host memory, as it wanted: just as many. MSCP_DONE, or MSCP_UNASKED. */
+/* These bytes were read in host memory, as the port wanted: just as many. MSCP_DONE, or MSCP_UNASKED. */
 MSCP_MUST_USE
 MSCP_INLINE int32_t mscp_port_was_read(struct mscp_port *port, const uint8_t *bytes, size_t length)
 {
@@ -788,7 +791,7 @@ MSCP_INLINE int32_t mscp_port_was_read(struct mscp_port *port, const uint8_t *by
     return mscp_port_was_read_at(port, length == 0 ? &none : bytes, length);
 }
 
-/* What it wanted went so, by an enum mscp_outcome. The status counts for MSCP_OUTCOME_FAILED alone: low five bits of 5
+/* What the port wanted went so, by an enum mscp_outcome. The status counts for MSCP_OUTCOME_FAILED alone: low five bits of 5
  * to 31. A read that was done is told by mscp_port_was_read. MSCP_DONE, or the first that holds of MSCP_BAD_OUTCOME and
  * MSCP_UNASKED. */
 MSCP_MUST_USE int32_t mscp_port_went(struct mscp_port *port, uint32_t outcome, uint16_t status);

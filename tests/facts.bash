@@ -195,20 +195,9 @@ proved_names_are_there() {
     done
 }
 
-# The headings of a page, as links name them.
-anchors() {
-    sed -E '/^(```|~~~)/,/^(```|~~~)$/d' "$1" | sed -nE 's/^#+ (.*)/\L\1/p' | sed 's/[^[:alnum:]_ -]//g; s/ /-/g'
-}
-
-# Each link of a page leads to a file, and to a heading of it where it names one. What the changes say of older pages aside.
 links_lead_somewhere() {
-    local page link file
-    for page in README.md docs/*.md crates/*/README.md examples/README.md bench/README.md bindings/rust/README.md; do
-        for link in $(grep -oE '\]\([^):]+\)' "$page" | sed 's/^..//; s/.$//'); do
-            file=$(dirname -- "$page")/${link%%#*}
-            [[ $link != '#'* ]] || file=$page
-            [ -e "$file" ] && { [[ $link != *'#'* ]] || anchors "$file" | grep -qxF -- "${link#*#}"; } ||
-                { echo "$page: $link leads nowhere" && return 1; }
-        done
-    done
+    local page
+    for page in README.md CHANGELOG.md docs/*.md crates/*/README.md examples/README.md bench/README.md bindings/rust/README.md; do
+        leads_nowhere "./$page"
+    done | diff /dev/null -
 }

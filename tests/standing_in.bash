@@ -11,8 +11,8 @@ mkdir "$TMPDIR"
 # A tree of four tiny crates with nothing built, and nothing that rt was told or has told.
 plant() {
     rm -rf -- "$tree" "$STAND_IN" "$room/commands"
-    mkdir -p "$STAND_IN" "$tree"/{docs/pictures,include,examples} "$tree"/crates/{low,mscp_c,mscpq,mscpjudge}/{src/out,specs,proofs/main}
-    cp mscpq install building.bash "$tree"
+    mkdir -p "$STAND_IN" "$tree"/{docs/pictures,include,examples,releasing} "$tree"/crates/{low,mscp_c,mscpq,mscpjudge}/{src/out,specs,proofs/main}
+    cp mscpq install building.bash "$tree" && cp -r releasing/{finding,pages} "$tree/releasing"
     echo 'a kit' >"$STAND_IN/kit"
     echo 'Handles allowed: none.' >"$tree/HANDLES"
     printf '%s\n' '# The crates.' 'low: std' 'mscpq: low' 'mscp_c staticlib: low' 'mscpjudge: low' >"$tree/crates.txt"
@@ -23,7 +23,7 @@ plant() {
     echo probe | tee "$tree/crates/mscpq/stdin" >"$tree/crates/mscpjudge/stdin"
     echo page >"$tree/docs/mscpq.1"
     echo judging >"$tree/docs/mscpjudge.1"
-    echo calls >"$tree/docs/mscp.3"
+    printf '%s\n' '.TH MSCP 3 DATE' '.SH SYNOPSIS' '.B "int32_t mscp_it(void);"' '.SH CALLS' .TP '.B mscp_it' 'It is.' >"$tree/docs/mscp.3"
     echo document >"$tree/docs/C.md"
     echo picture >"$tree/docs/pictures/it.svg"
     echo changes >"$tree/CHANGELOG.md"

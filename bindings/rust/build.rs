@@ -108,17 +108,21 @@ fn compile() {
     println!("cargo:include={}", headers.display());
 }
 
-/// Only of the same version, since structs and numbers may be others in another one.
+/// Only of the same version, since structs and numbers may be others in another one. The archive is taken where it is there,
+/// so that a program wants nothing of the machine on which it runs.
 fn take_from_system() {
-    let version = told("CARGO_PKG_VERSION");
     let name = env::var("PKG_CONFIG").unwrap_or_else(|_| "pkg-config".into());
-    let wanted = format!("mscp = {version}");
-    let words = output(Command::new(name).args(["--print-errors", "--libs", &wanted]));
-    for word in words.split_whitespace() {
+    let wanted = format!("mscp = {}", told("CARGO_PKG_VERSION"));
+    let tell = |what| output(Command::new(&name).args(["--print-errors", what, &wanted]));
+    let folder = PathBuf::from(tell("--variable=libdir").trim());
+    if folder.join("libmscp.a").exists() {
+        println!("cargo:rustc-link-search=native={}", folder.display());
+        println!("cargo:rustc-link-lib=static=mscp");
+        return;
+    }
+    for word in tell("--libs").split_whitespace() {
         if let Some(folder) = word.strip_prefix("-L") {
             println!("cargo:rustc-link-search=native={folder}");
-        } else if let Some(file) = word.strip_prefix("-l:lib").and_then(|it| it.strip_suffix(".a")) {
-            println!("cargo:rustc-link-lib=static={file}");
         } else if let Some(library) = word.strip_prefix("-l") {
             println!("cargo:rustc-link-lib={library}");
         }

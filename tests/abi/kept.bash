@@ -19,6 +19,14 @@ broken() {
         END { for (it in kept) if (!(it in today)) print "gone: " it }' "$1" "$2"
 }
 
+# Prints the symbols of the shared object of this table, each with the version from which on a library has it: that of this list, or else
+# this one. A call that is inline in the header is one of its symbols too.
+symbols_of() {
+    awk -v version="$3" 'FILENAME == ARGV[1] { kept[$1] = $2; next }
+        /^(call|inline) / { match($0, /mscp_[a-z_]+\(/); it = substr($0, RSTART, RLENGTH - 1) "@Base"; print " " it, it in kept ? kept[it] : version }' \
+        "$2" "$1" | LC_ALL=C sort
+}
+
 # The names of the kept calls that this kind of library has: call, or inline for those that the shared object alone has.
 kept_calls() { sed -nE "s/^($1) [^(]*[ *](mscp_[a-z_]+)\(.*/\2/p" tests/abi/table | sort; }
 

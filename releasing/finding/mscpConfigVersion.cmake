@@ -1,0 +1,10 @@
+# A library fits what was written for one of the same first number that isn't later.
+set(PACKAGE_VERSION @VERSION@)
+string(REGEX MATCH "^[0-9]+" mscp_first "${PACKAGE_VERSION}")
+if(mscp_first STREQUAL PACKAGE_FIND_VERSION_MAJOR AND NOT PACKAGE_FIND_VERSION VERSION_GREATER PACKAGE_VERSION)
+    set(PACKAGE_VERSION_COMPATIBLE TRUE)
+    if(PACKAGE_FIND_VERSION VERSION_EQUAL PACKAGE_VERSION)
+        set(PACKAGE_VERSION_EXACT TRUE)
+    endif()
+endif()
+unset(mscp_first)
