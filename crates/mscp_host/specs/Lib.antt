@@ -7,3 +7,4 @@ pub mod Watched
 pub mod Histories
 pub mod Law
 pub mod Common
+pub mod Messages

@@ -1,8 +1,10 @@
 //! The host's end of a disk controller: its account of credits, and its watch on the oldest command.
 #![tactic(auto)]
 
+mod envelope;
 mod host;
 mod law;
+mod message;
 mod news;
 mod outstanding;
 mod restoring;
@@ -10,8 +12,10 @@ mod saving;
 mod submission;
 mod watch;
 
+pub use crate::envelope::Envelope;
 pub use crate::host::Host;
 pub use crate::law::hosts_keep_their_history;
+pub use crate::message::HearFault;
 pub use crate::news::{HostFault, News, Poll};
 pub use crate::restoring::RestoreFault;
 pub use crate::saving::ROOM;
