@@ -1,5 +1,6 @@
 pub mod Common
 pub mod Places
+pub mod Removed
 pub mod Hearing
 pub mod Back
 pub mod Heads

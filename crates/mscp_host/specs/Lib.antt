@@ -8,3 +8,5 @@ pub mod Histories
 pub mod Law
 pub mod Common
 pub mod Messages
+pub mod PortAccounts
+pub mod Ported

@@ -43,11 +43,20 @@ impl Host {
         if !(2..=64).contains(&credits) {
             return Err(HostFault::Credits);
         }
-        Ok(Host {
+        Ok(Host::of_credits(credits))
+    }
+
+    /// A host that sent nothing so far.
+    pub(crate) fn of_credits(credits: u32) -> Host
+        requires some { 2 ≤ credits }
+        requires few { credits ≤ 64 }
+        ensures { result ≡ fresh credits }
+    {
+        Host {
             credits,
             outstanding: ArrayVec::new(),
             watch: None,
-        })
+        }
     }
 
     /// How many credits are free: each command whose end wasn't received holds one (manual, "Flow Control").
