@@ -5,8 +5,8 @@
 --
 --     a refusal      it is no message, or the end of no outstanding command          heard_of, ends_of
 --     Credits, Logged, Available, Attention, by the message's type and code          heard_of, attention_of
---     Refused        the end of the poll in flight, and it tells no figure           of_news
---     Late, Reset, Lost, First, Progress, as of every host                           of_news, Accounts.news_with
+--     Refused        the end of the poll in flight, and it tells no figure           news_said
+--     Late, Reset, Lost, First, Progress, as of every host                           news_said, Accounts.news_with
 --     MovedTooMuch   an end that tells more bytes than were asked for                ended_of
 --     Ended          any other end                                                   ended_of
 use Rattle.std.specs.Prelude.{ℕ, ◌+◌, ◌-◌, ◌%◌, min, Bool, false, not, ◌&&◌, ◌||◌, nat_eq, nat_lt, if◌then◌else◌, List, [], ◌∷◌, ◌++◌, find, Option, Some, None, is_none, is_some, Result, Ok, Err}
@@ -144,15 +144,20 @@ is_too_much body bytes = false
 abbrev pub ended_of : End → Asked → Heard
 ended_of e asked = if is_too_much e.body asked.bytes then heards.MovedTooMuch e asked else heards.Ended e asked
 
--- what an end says, of which a host says that
-abbrev pub of_news : PortAccount → End → Asked → News → Heard
-of_news p e asked (news.Ended read) =
-    if is_poll_of p.account.watch e.reference then heards.Refused e else ended_of e asked
-of_news p e asked (news.Progress figure) = heards.Progress figure
-of_news p e asked (news.First figure) = heards.First figure
-of_news p e asked news.Late = heards.Late
-of_news p e asked news.Reset = heards.Reset
-of_news p e asked news.Lost = heards.Lost
+-- what an end says, of which a host says that, and which is or isn't that of the poll in flight
+abbrev pub news_said : Bool → End → Asked → News → Heard
+news_said is_poll e asked (news.Ended read) = if is_poll then heards.Refused e else ended_of e asked
+news_said is_poll e asked (news.Progress figure) = heards.Progress figure
+news_said is_poll e asked (news.First figure) = heards.First figure
+news_said is_poll e asked news.Late = heards.Late
+news_said is_poll e asked news.Reset = heards.Reset
+news_said is_poll e asked news.Lost = heards.Lost
+
+-- what an end says of the command that was asked
+abbrev pub end_says : PortAccount → End → Asked → Heard
+end_says p e asked =
+    news_said (is_poll_of p.account.watch e.reference) e asked
+        (news_with p.account (as_read e) (answered p.account.watch (as_read e)))
 
 -- what is kept once an end was heard: its command is outstanding no more
 abbrev pub ended : PortAccount → End → PortAccount
@@ -177,10 +182,7 @@ may_be_of p e asked =
 abbrev pub ends_of : PortAccount → ℕ → End → Option Asked → Result Heard HearFault × PortAccount
 ends_of p credits e None = (Err faults.Unknown, p)
 ends_of p credits e (Some asked) =
-    if may_be_of p e asked
-    then (Ok (of_news p e asked (news_with p.account (as_read e) (answered p.account.watch (as_read e)))),
-        granted credits (ended p e))
-    else (Err faults.Unknown, p)
+    if may_be_of p e asked then (Ok (end_says p e asked), granted credits (ended p e)) else (Err faults.Unknown, p)
 
 -- what an attention message says (manual, "Attention Messages")
 abbrev pub attention_of : ℕ → ℕ → Heard

@@ -1,9 +1,10 @@
 // What a host says of the messages that a port sends.
 
 ghost use Rattle.std.specs.Prelude.{◌≡◌};
-ghost use Rattle.mscp_host.specs.PortAccounts.{as_read, attention_of, ended_of, is_success, is_too_much};
+ghost use Rattle.mscp_host.specs.PortAccounts.{as_read, attention_of, ended_of, is_success, is_too_much, news_said};
 
 use crate::asked::Asked;
+use crate::news::News;
 use mscp_packet::{End, EndBody};
 
 /// What a message from a port says.
@@ -87,5 +88,20 @@ pub fn attention_of(code: u8, unit: u16) -> Heard
         Heard::Available(unit)
     } else {
         Heard::Attention(code, unit)
+    }
+}
+
+/// What an end says, of which a host says that, and which is or isn't that of the poll in flight.
+pub fn news_said(is_poll: bool, end: &End, asked: &Asked, news: &News) -> Heard
+    ensures { result ≡ news_said is_poll end.now asked.now news.now }
+{
+    match news {
+        News::Ended(_) if is_poll => Heard::Refused(*end),
+        News::Ended(_) => ended_of(end, asked),
+        News::Progress(figure) => Heard::Progress(*figure),
+        News::First(figure) => Heard::First(*figure),
+        News::Late => Heard::Late,
+        News::Reset => Heard::Reset,
+        News::Lost => Heard::Lost,
     }
 }

@@ -9,6 +9,7 @@ mod law;
 mod message;
 mod news;
 mod outstanding;
+mod polling;
 mod port_host;
 mod restoring;
 mod saving;
