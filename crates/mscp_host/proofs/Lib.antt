@@ -2,6 +2,7 @@ pub mod Common
 pub mod Places
 pub mod Removed
 pub mod Ported
+pub mod Counted
 pub mod Hearing
 pub mod Back
 pub mod Heads

@@ -10,3 +10,5 @@ pub mod Common
 pub mod Messages
 pub mod PortAccounts
 pub mod Ported
+pub mod PortHistories
+pub mod PortLaw

@@ -157,7 +157,7 @@ news_said is_poll e asked news.Lost = heards.Lost
 abbrev pub end_says : PortAccount → End → Asked → Heard
 end_says p e asked =
     news_said (is_poll_of p.account.watch e.reference) e asked
-        (news_with p.account (as_read e) (answered p.account.watch (as_read e)))
+    (news_with p.account (as_read e) (answered p.account.watch (as_read e)))
 
 -- what is kept once an end was heard: its command is outstanding no more
 abbrev pub ended : PortAccount → End → PortAccount

@@ -37,7 +37,11 @@ impl Model for PortHost {
     ghost Value = { PortAccount };
 
     ghost view = { λ h. record {
-        account = h.host; asked = h.asked.items; credits = h.credits; is_over = h.is_over } };
+      account = h.host;
+      asked = h.asked.items;
+      credits = h.credits;
+      is_over = h.is_over;
+    } };
 
     ghost invariant = { λ h. IsPorted h.host h.asked.items };
 }

@@ -1,0 +1,63 @@
+-- What a host of a port did and was answered, moment by moment, whoever the port is.
+use Rattle.std.specs.Prelude.{◌≡◌, ℕ, Bool, true, false, not, ◌&&◌, List, [], ◌∷◌, ◌++◌, filter, if◌then◌else◌, nat_eq, Option, Some, None, Result, Ok, Err}
+use Rattle.std.specs.List.{list_any}
+use Rattle.arrayvec.specs.ArrayVec.{ArrayVec}
+use Rattle.mscp_packet.specs.declared.command.Command.{Command}
+use Rattle.mscp_host.specs.declared.asked.Asked.{Asked}
+use Rattle.mscp_host.specs.declared.envelope.Envelope.{Envelope}
+use Rattle.mscp_host.specs.declared.heard.Heard.{Heard}
+use Rattle.mscp_host.specs.declared.heard.Heard.TheVariants as heards
+use Rattle.mscp_host.specs.declared.message.HearFault.{HearFault}
+use Rattle.mscp_host.specs.declared.news.HostFault.{HostFault}
+use Rattle.mscp_host.specs.declared.news.Poll.{Poll}
+use Rattle.mscp_host.specs.declared.news.Poll.TheVariants as polls
+use Rattle.mscp_host.specs.PortAccounts.{PortAccount, hears, port_polls, port_submits}
+
+-- a call and its answer; or something in which the host has no part
+pub data PortMoment : Type 0 where
+  Submit : Command → Result (ArrayVec ℕ) HostFault → PortMoment
+  Ask : ℕ → Result Poll HostFault → PortMoment
+  Hear : Envelope → List ℕ → Result Heard HearFault → PortMoment
+  Other : PortMoment
+
+-- oldest first
+abbrev pub PortHistory : Type 0
+PortHistory = List PortMoment
+
+-- the answer is that of the call, and what is kept then
+abbrev pub PortAnswers : PortAccount → PortMoment → PortAccount → Type 0
+PortAnswers old (Submit command answer) new = port_submits old command ≡ (answer, new)
+PortAnswers old (Ask reference answer) new = port_polls old reference ≡ (answer, new)
+PortAnswers old (Hear v b answer) new = hears old v b ≡ (answer, new)
+PortAnswers old Other new = new ≡ old
+
+-- one after the other
+abbrev pub PortAnswered : PortAccount → PortHistory → PortAccount → Type 0
+PortAnswered old [] new = new ≡ old
+PortAnswered old (m ∷ rest) new = (next : PortAccount) × PortAnswers old m next × PortAnswered next rest new
+
+-- ---- what one moment says
+
+-- the credits that were told: those of an envelope that wasn't refused
+abbrev pub told_in : PortMoment → ℕ
+told_in (Hear v b (Ok heard)) = v.credits
+told_in m = 0
+
+-- how many commands were sent
+abbrev pub sent_in : PortMoment → ℕ
+sent_in (Submit command (Ok message)) = 1
+sent_in (Ask reference (Ok (polls.Ask message))) = 1
+sent_in m = 0
+
+-- how many ends that is
+abbrev pub ends_in : Heard → ℕ
+ends_in (heards.Available unit) = 0
+ends_in (heards.Attention code unit) = 0
+ends_in heards.Logged = 0
+ends_in (heards.Credits credits) = 0
+ends_in heard = 1
+
+-- how many ends were heard
+abbrev pub ended_in : PortMoment → ℕ
+ended_in (Hear v b (Ok heard)) = ends_in heard
+ended_in m = 0
