@@ -3,6 +3,7 @@ pub mod Places
 pub mod Removed
 pub mod Ported
 pub mod Counted
+pub mod Patient
 pub mod Hearing
 pub mod Back
 pub mod Heads

@@ -12,3 +12,4 @@ pub mod PortAccounts
 pub mod Ported
 pub mod PortHistories
 pub mod PortLaw
+pub mod Watching

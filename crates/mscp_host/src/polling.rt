@@ -1,6 +1,6 @@
 // What a host knows of its poll.
 
-ghost use Rattle.std.specs.Prelude.{◌≡◌};
+ghost use Rattle.std.specs.Prelude.{◌≡◌, is_some};
 ghost use Rattle.mscp_host.specs.Common.{answered as answered_by, is_about_polled as about_polled};
 ghost use Rattle.mscp_host.specs.PortAccounts.{is_poll_of, is_to_poll};
 
@@ -31,6 +31,13 @@ impl Host {
             Some(watch) => watch.reference == reference,
             None => false,
         }
+    }
+
+    /// Whether a poll is in flight.
+    pub(crate) fn is_polled(&self) -> bool
+        ensures { result ≡ is_some self.now.watch }
+    {
+        self.watch.is_some()
     }
 
     /// Whether a poll is to be sent: none is in flight, and there is a command that it is about.

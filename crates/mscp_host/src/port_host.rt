@@ -2,6 +2,7 @@
 
 ghost use Rattle.std.specs.Prelude.{◌≡◌, find, true};
 ghost use Rattle.mscp_host.specs.Common.{answered, is_about_polled};
+ghost use Rattle.mscp_host.specs.Watching.{is_owed, is_polled, is_waiting};
 ghost use Rattle.mscp_host.specs.PortAccounts.{as_read, credit_fault, end_says, ended, ends_of, fresh_of_port, granted, hears, is_of, port_polls, port_submits};
 
 use crate::asked::{Asked, find_asked, remove_asked};
@@ -91,6 +92,30 @@ impl PortHost {
         ensures { result.now ≡ self.now.asked }
     {
         self.asked.as_slice()
+    }
+
+    /// Whether a command is outstanding that isn't answered when it arrives.
+    pub fn is_waiting(&self) -> bool
+        ensures { result ≡ is_waiting self.now }
+    {
+        self.host.oldest().is_some()
+    }
+
+    /// Whether the end of a poll is still to come.
+    pub fn is_polled(&self) -> bool
+        ensures { result ≡ is_polled self.now }
+    {
+        self.host.is_polled()
+    }
+
+    /// Whether a command is outstanding that is answered when it arrives.
+    pub fn is_owed(&self) -> bool
+        ensures { result ≡ is_owed self.now }
+    {
+        self.asked
+            .as_slice()
+            .iter()
+            .any(|asked| is_immediate(asked.opcode))
     }
 
     /// The message of a command, which is outstanding from now on; or why it may not be sent, and then nothing changes:

@@ -1,10 +1,18 @@
 // What is true of every host of a port.
 
 ghost use Rattle.mscp_host.specs.PortLaw.{PortHostsKeepCount};
+ghost use Rattle.mscp_host.specs.Watching.{WatchesArePatient};
 
 /// Of every host of a port, whatever it kept before and whatever the port sends: its free credits are those from before
 /// and those that envelopes told, less one for each command that was sent, unless more were told than are kept; they are
 /// never more. And what is outstanding is what was so before and what was sent, less one for each end that it said.
 pub fn port_hosts_keep_count()
     ensures { PortHostsKeepCount }
+{}
+
+/// Of every watch, whatever it saw and heard before: it says Poll only where something waits and no poll is in flight, and
+/// a whole timeout of ticks has gone by without a poll; and Reset only where an answer is owed, and one was owed at each of
+/// a whole timeout of ticks before this one, and none has come since.
+pub fn watches_are_patient()
+    ensures { WatchesArePatient }
 {}
