@@ -1,5 +1,5 @@
 -- Credits and commands are counted.
-use Rattle.mscp_host.proofs.Common.{◌≡◌, ◌≤◌, ◌<◌, ℕ, ◌+◌, ◌-◌, Bool, true, false, ◌&&◌, and-true, if◌then◌else◌, nat_eq, List, [], ◌∷◌, ◌++◌, length, refl, ap, sym, ◌∙◌, arith, find, Option, Some, None, is_ok, is_none, is_some, nat_lt, Result, Ok, Err, false≢true, true≢false, nat_tests, or_parts, ltb-false, length-append, ArrayVec, Command, End, HostFault, Poll, Submission, Account, oldest, opcode_byte}
+use Rattle.mscp_host.proofs.Common.{◌≡◌, ◌≤◌, ℕ, ◌+◌, ◌-◌, Bool, true, false, ◌&&◌, and-true, if◌then◌else◌, nat_eq, List, [], ◌∷◌, ◌++◌, length, refl, ap, sym, ◌∙◌, arith, find, Option, Some, None, is_none, is_some, nat_lt, Result, Ok, Err, false≢true, nat_tests, or_parts, ltb-false, length-append, ArrayVec, Command, End, HostFault, Poll, Submission, Account, oldest, opcode_byte}
 use Rattle.mscp_host.specs.Accounts.{asks, poll_of, polls_oldest, submits}
 use Rattle.std.proofs.lemmas.List.Sums.{sum_by-cons}
 use Rattle.mscp_host.specs.declared.envelope.Envelope.{Envelope}
@@ -8,7 +8,7 @@ use Rattle.mscp_host.specs.declared.message.HearFault.TheVariants as faults
 use Rattle.mscp_host.specs.declared.news.HostFault.TheVariants as refusals
 use Rattle.mscp_host.specs.declared.news.News.{News}
 use Rattle.mscp_host.specs.declared.watch.Watch.{Watch}
-use Rattle.std.specs.Prelude.{min, sum_by}
+use Rattle.std.specs.Prelude.{min}
 use Rattle.mscp_host.specs.declared.news.Poll.TheVariants as polls
 use Rattle.mscp_host.specs.declared.asked.Asked.{Asked}
 use Rattle.mscp_host.specs.declared.heard.Heard.{Heard}
@@ -17,7 +17,7 @@ use Rattle.mscp_host.specs.declared.message.Message.{Message}
 use Rattle.mscp_host.specs.declared.message.Message.TheVariants as messages
 use Rattle.mscp_host.specs.PortAccounts.{PortAccount, asked_of, attention_of, credit_fault, end_says, ended, ended_of, ends_of, granted, heard_of, is_of, is_to_poll, news_said, noted, noted_poll, polled_with, submitted_with, submits_unless_faulty, without_by}
 use Rattle.mscp_host.specs.PortHistories.{Ask, Hear, Other, PortAnswered, PortAnswers, PortHistory, PortMoment, Submit, ended_in, ends_in, sent_in, told_in}
-use Rattle.mscp_host.specs.PortLaw.{KeepsCount, PortHostsKeepCount}
+use Rattle.mscp_host.specs.PortLaw.{PortHostsKeepCount}
 
 -- what one moment changes
 pub record Counts (old : PortAccount) (m : PortMoment) (new : PortAccount) : Type 0 where

@@ -4,6 +4,8 @@ pub mod Removed
 pub mod Ported
 pub mod Counted
 pub mod Patient
+pub mod Moments
+pub mod Seen
 pub mod Hearing
 pub mod Back
 pub mod Heads

@@ -2,7 +2,7 @@
 use Rattle.mscp_host.proofs.Common.{◌≡◌, ℕ, Bool, List, [], ◌∷◌, map, refl, ap, sym, ◌∙◌, arith, nat_eq, Option, End, Submission, Account, answered, outstanding_with, received, with_told, without}
 use Rattle.mscp_host.specs.declared.asked.Asked.{Asked}
 use Rattle.mscp_host.specs.PortAccounts.{as_read, is_of, without_by}
-use Rattle.mscp_host.specs.Ported.{IsPorted, Name, name_of_asked, name_of_submission}
+use Rattle.mscp_host.specs.Ported.{Name, name_of_asked, name_of_submission}
 
 abbrev is_named : ℕ → Name → Bool
 is_named reference n = nat_eq n.reference reference
@@ -32,7 +32,7 @@ same_without a told r xs same =
     asked_without r xs ∙ (ap (without_by (is_named r)) (same ∙ sym (outstanding_named a told))
     ∙ sym (submissions_without r (outstanding_with a told)))
 
-read_reference : (e : End) → (as_read e).reference ≡ e.reference
+pub read_reference : (e : End) → (as_read e).reference ≡ e.reference
 read_reference e = search arith
 
 pub same_ended : (a : Account) (e : End) (xs : List Asked) → map name_of_asked xs ≡ map name_of_submission a.outstanding

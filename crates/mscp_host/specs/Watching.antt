@@ -1,8 +1,7 @@
 -- When a driver is to poll, and when it is to reset (manual, "Host Command Timeouts"). All is counted in ticks of its
 -- timer.
-use Rattle.std.specs.Prelude.{◌≡◌, ◌≤◌, ℕ, ◌+◌, min, Bool, true, false, not, ◌&&◌, nat_lt, nat_le, if◌then◌else◌, cond, List, [], ◌∷◌, ◌++◌, is_some, count_by}
+use Rattle.std.specs.Prelude.{◌≡◌, ◌≤◌, ℕ, ◌+◌, min, Bool, true, false, not, ◌&&◌, nat_lt, nat_le, if◌then◌else◌, List, [], ◌∷◌, ◌++◌, is_some, count_by}
 use Rattle.std.specs.List.{list_all, list_any}
-use Rattle.mscp_host.specs.declared.asked.Asked.{Asked}
 use Rattle.mscp_host.specs.declared.heard.Heard.{Heard}
 use Rattle.mscp_host.specs.declared.heard.Heard.TheVariants as heards
 use Rattle.mscp_host.specs.declared.ticking.Advice.{Advice}

@@ -26,7 +26,9 @@ pub use crate::law::hosts_keep_their_history;
 pub use crate::message::HearFault;
 pub use crate::news::{HostFault, News, Poll};
 pub use crate::port_host::PortHost;
-pub use crate::port_law::{port_hosts_keep_count, watches_are_patient};
+pub use crate::port_law::{
+    port_hosts_keep_count, port_hosts_keep_their_history, watches_are_patient,
+};
 pub use crate::restoring::RestoreFault;
 pub use crate::saving::ROOM;
 pub use crate::submission::Submission;
