@@ -20,9 +20,9 @@ abbrev pub PortHostsKeepCount : Type 0
 PortHostsKeepCount =
     (old : PortAccount) (h : PortHistory) (new : PortAccount) → PortAnswered old h new → KeepsCount old h new
 
--- what is promised of a host of a port and its history: what it keeps and what it says is what is promised of a host of
--- 64 credits that sent these commands and polls, and heard these ends; and the commands whose ends weren't heard, in the
--- order in which they were sent, each with the bytes that it asks for
+-- what is promised of a host of a port and its history: all that is promised of a host of 64 credits that sent these
+-- commands and polls, and heard these ends; and it lists the commands whose ends weren't heard, in the order in which
+-- they were sent, each with the bytes that it asks for
 pub record PortKeepsHistory (h : PortHistory) (new : PortAccount) : Type 0 where
   pub host : KeepsHistory 64 (map seen h) new.account
   pub asked : new.asked ≡ map (asked_at (map seen h)) (outstanding (map seen h) (length h))

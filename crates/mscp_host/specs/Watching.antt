@@ -105,7 +105,7 @@ pub record IsPatient (timeout : ℕ) (before : List WatchMoment) (p : PortAccoun
   -- gone by without a poll, or a reset, or a moment in which nothing waited
   pub polls : answer ≡ advices.Poll → (is_waiting p ≡ true) × (is_polled p ≡ false)
       × ((t : ℕ) × (timeout ≤ t + 1) × Lately is_unpolled t before)
-  -- a reset is said only where an answer is owed, and at a whole timeout of ticks before this one an answer was owed too,
+  -- a reset is said only where an answer is owed, and at a whole timeout of ticks before this one an answer was owed,
   -- and none has come since
   pub resets : answer ≡ advices.Reset → (is_owed p ≡ true) × Lately is_silent timeout before
 
