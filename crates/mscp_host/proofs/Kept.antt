@@ -14,7 +14,8 @@ none_handed h j n = find_none _ (outstanding h j) (out_all _ h j (λ x e. ap (λ
 none_told : (h : History) (j i : ℕ) → NoEnd h j → last_told h (j + 1) i ≡ last_told h j i
 none_told h j i n = search (arith, last_then, none_handed)
 
-pub all_stay : (h : History) (j : ℕ) → NoEnd h j → filter (λ i. not (ends_now h j i)) (outstanding h j) ≡ outstanding h j
+pub all_stay : (h : History) (j : ℕ) → NoEnd h j
+    → filter (λ i. not (ends_now h j i)) (outstanding h j) ≡ outstanding h j
 all_stay h j n = filter_all _ (outstanding h j) (out_all _ h j (λ x e. ap (λ o. not (is_end_of (reference h x) o)) n))
 
 -- whether a command that was found ends now

@@ -114,7 +114,8 @@ changes s j p m new at k (Submits q) =
     let is = at ∙ q.is in
     record {
       answers = subst (λ x. Answers p.account x new.account) (sym is) (λ i. (q.first i, sym q.account i));
-      asked = one_more s j p new (asked_of q.command) k q.asked (ap (asked_in s j) is) (ap is_sent is) (ap end_heard is);
+      asked = one_more s j p new (asked_of q.command) k q.asked (ap (asked_in s j) is) (ap is_sent is)
+          (ap end_heard is);
     }
 changes s j p m new at k (Polls q) =
     let is = at ∙ q.is in
@@ -210,7 +211,8 @@ port_keeps_history h new a =
     let s = map seen h in
     let long : length s ≡ length h = length-map h seen in
     let end = reaches h new a (length h) (omega arith) in
-    let is : new ≡ end.held = subst (λ xs. PortAnswered end.held xs new) (drop_all (length h) h (omega arith)) end.rest in
+    let is : new ≡ end.held =
+    subst (λ xs. PortAnswered end.held xs new) (drop_all (length h) h (omega arith)) end.rest in
     let last = ap (λ (p : PortAccount). p.account) is ∙ (end.knows.account ∙ ap (account_at 64 s) (sym long)) in
     let each = λ (j : ℕ) (l : j < length s). (goes_on h new j (omega (arith, l, long))
     (reaches h new a j (omega (arith, l, long)))).answers in
