@@ -34,11 +34,12 @@ fewer test n k before less l =
     record { lately = l.lately; earlier = l.earlier; is = l.is; all = l.all; many = omega (arith, many, less) }
 
 -- a tick more, if that goes on
-counts_on : (test : WatchMoment → Bool) (n : ℕ) (before : List WatchMoment) (p : PortAccount) (answer : Advice) (b : Bool)
-    → (b ≡ true → test (Tick p answer) ≡ true) → Lately test n before
+counts_on : (test : WatchMoment → Bool) (n : ℕ) (before : List WatchMoment) (p : PortAccount) (answer : Advice)
+    (b : Bool) → (b ≡ true → test (Tick p answer) ≡ true) → Lately test n before
     → Lately test (counted b n) (Tick p answer ∷ before)
 counts_on test n before p answer true t l =
-    fewer test (n + 1) (min (n + 1) 4294967295) _ (omega arith) (one_tick test n before (Tick p answer) 1 refl (t refl) l)
+    fewer test (n + 1) (min (n + 1) 4294967295) _ (omega arith)
+    (one_tick test n before (Tick p answer) 1 refl (t refl) l)
 counts_on test n before p answer false t l = none test _
 
 told_on : (test : WatchMoment → Bool) (n : ℕ) (before : List WatchMoment) (heard : Heard) → test (Told heard) ≡ true
@@ -93,7 +94,8 @@ has timeout (Tick p answer ∷ before) w x =
     let said : advice (ticked x.0 p) p ≡ answer = ap (λ q. q.0) x.1 in
     let kept : advised (ticked x.0 p) answer ≡ w =
     ap (advised (ticked x.0 p)) (sym said) ∙ ap (λ q. q.1) x.1 in
-    subst (Has timeout (Tick p answer ∷ before)) kept (tick_has timeout before x.0 p answer (has timeout before x.0 x.2))
+    subst (Has timeout (Tick p answer ∷ before)) kept
+    (tick_has timeout before x.0 p answer (has timeout before x.0 x.2))
 has timeout (Told heard ∷ before) w x =
     subst (Has timeout (Told heard ∷ before)) (sym x.1)
     (told_has timeout before x.0 heard (is_answer heard) refl (has timeout before x.0 x.2))
