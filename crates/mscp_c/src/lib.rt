@@ -2,8 +2,10 @@
 #![tactic(auto)]
 
 mod controller_saving;
+mod driving;
 mod hearing;
 mod host_saving;
+mod heeding;
 mod hosting;
 mod law;
 mod making;

@@ -7,7 +7,8 @@ ghost use Rattle.mscp_host.specs.PortAccounts.{asked_of, bytes_of, is_of, withou
 use arrayvec::ArrayVec;
 use mscp_packet::{Command, Order};
 
-/// A command whose end wasn't heard.
+/// A command whose end wasn't heard. It lies in memory as C has it.
+#[repr(C)]
 #[derive(Clone, Copy)]
 pub struct Asked {
     /// Its reference number.

@@ -1,6 +1,6 @@
 // A host of a port: its credits come in envelopes.
 
-ghost use Rattle.std.specs.Prelude.{◌≡◌, find, true};
+ghost use Rattle.std.specs.Prelude.{◌≡◌, ◌≤◌, find, length, true};
 ghost use Rattle.mscp_host.specs.Common.{answered, is_about_polled};
 ghost use Rattle.mscp_host.specs.Watching.{is_owed, is_polled, is_waiting};
 ghost use Rattle.mscp_host.specs.PortAccounts.{as_read, credit_fault, end_says, ended, ends_of, fresh_of_port, granted, hears, is_of, port_polls, port_submits};
@@ -87,9 +87,10 @@ impl PortHost {
         self.is_over
     }
 
-    /// The commands whose ends weren't heard, in the order in which they were sent.
+    /// The commands whose ends weren't heard, in the order in which they were sent: at most 64.
     pub fn outstanding(&self) -> &[Asked]
-        ensures { result.now ≡ self.now.asked }
+        ensures all { result.now ≡ self.now.asked }
+        ensures few { length result.now ≤ 64 }
     {
         self.asked.as_slice()
     }

@@ -18,7 +18,9 @@ pub enum Advice {
     Reset,
 }
 
-/// Counts the ticks of a driver's timer between polls, and those for which an answer is owed.
+/// Counts the ticks of a driver's timer between polls, and those for which an answer is owed. It lies in memory as C has
+/// it.
+#[repr(C)]
 #[derive(Clone, Copy)]
 pub struct Watch {
     /// How many ticks the controller timeout has.
