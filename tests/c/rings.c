@@ -83,7 +83,7 @@ static void begin(uint32_t host_credits)
 {
     struct mscp_limits limits = {77, 64, CREDITS, 0, 8, 60};
     struct mscp_unit units[UNITS];
-    struct mscp_hardware hardware = {MSCP_Q_BUS, 19, 3, 1};
+    struct mscp_hardware hardware = {MSCP_BUS_Q, 19, 3, 1};
     for (uint16_t i = 0; i < UNITS; i++) {
         struct mscp_unit unit = {5, BLOCKS, 7, 9, i, 10, 2, 1};
         units[i] = unit;
