@@ -163,53 +163,62 @@ static inline bool ring_ask(struct rings *rings, uint8_t opcode, uint16_t unit, 
 
 /* ---- the port begins */
 
-static inline bool ring_step(struct rings *rings, uint16_t bit, uint16_t word)
+/* Waits until SA shows this step. */
+static inline bool ring_step(struct rings *rings, uint16_t bit)
 {
     const struct ring_machine *machine = &rings->machine;
     for (unsigned i = 0; i < RING_WAITS; i++) {
         uint16_t sa = machine->read_sa(machine->context);
         if (sa & 0x8000)
             return false;
-        if (sa & bit) {
-            machine->write_sa(machine->context, word);
+        if (sa & bit)
             return true;
-        }
         machine->wait(machine->context);
     }
     return false;
 }
 
-/* Resets the port, and begins anew: what was sent is ready again. False: the port is broken. */
-static inline bool ring_reset(struct rings *rings, const char *why)
+/* The four steps. The port clears the area before the last one. */
+static inline bool ring_initialise(struct rings *rings)
 {
-    static const uint8_t SET_CONTROLLER = MSCP_SET_CONTROLLER_CHARACTERISTICS;
-    uint32_t base = rings->machine.at + AREA_RESPONSES;
-    rings->resets++;
-    rings->why = why;
-    rings->is_up = false;
-    for (unsigned i = 0; i < RING_REQUESTS; i++)
-        if (rings->requests[i].state == RING_SENT)
-            rings->requests[i].state = RING_READY;
-    rings->account = mscp_driver_in_memory(rings->memory, sizeof rings->memory);
-    if (mscp_driver_init(rings->account) != MSCP_DONE)
-        return false;
-    struct mscp_watch watch = {60 * rings->ticks_a_second, 0, 0};
-    rings->watch = watch;
-    rings->machine.write_ip(rings->machine.context);
-    if (!ring_step(rings, 0x0800, 0x8000 | RING_LOG << 11 | RING_LOG << 8) || !ring_step(rings, 0x1000, (uint16_t)base) ||
-        !ring_step(rings, 0x2000, (uint16_t)(base >> 16)))
+    const struct ring_machine *machine = &rings->machine;
+    uint32_t base = machine->at + AREA_RESPONSES;
+    const uint16_t words[3] = {0x8000 | RING_LOG << 11 | RING_LOG << 8, (uint16_t)base, (uint16_t)(base >> 16)};
+    machine->write_ip(machine->context);
+    for (unsigned i = 0; i < 3; i++) {
+        if (!ring_step(rings, (uint16_t)(0x0800 << i)))
+            return false;
+        machine->write_sa(machine->context, words[i]);
+    }
+    if (!ring_step(rings, 0x4000))
         return false;
     for (unsigned slot = 0; slot < RING_SLOTS; slot++) {
         ring_give(rings, false, slot, PORTS_OWN);
         ring_give(rings, true, slot, 0);
     }
     rings->next_response = rings->next_command = 0;
-    if (!ring_step(rings, 0x4000, 1))
-        return false;
+    machine->write_sa(machine->context, 1);
+    return true;
+}
+
+/* Resets the port, and begins anew: what was sent is ready again. False: the port is broken. */
+static inline bool ring_reset(struct rings *rings, const char *why)
+{
     uint8_t message[36] = {0};
+    struct mscp_watch watch = {60 * rings->ticks_a_second, 0, 0};
+    rings->resets++;
+    rings->why = why;
+    rings->is_up = false;
+    rings->watch = watch;
+    for (unsigned i = 0; i < RING_REQUESTS; i++)
+        if (rings->requests[i].state == RING_SENT)
+            rings->requests[i].state = RING_READY;
+    rings->account = mscp_driver_in_memory(rings->memory, sizeof rings->memory);
+    if (mscp_driver_init(rings->account) != MSCP_DONE || !ring_initialise(rings))
+        return false;
     rings->first = ++rings->next_number;
     ring_put(message, 4, rings->first);
-    message[8] = SET_CONTROLLER;
+    message[8] = MSCP_SET_CONTROLLER_CHARACTERISTICS;
     message[14] = 0x80; /* attention messages are wanted */
     return ring_send(rings, message, sizeof message);
 }

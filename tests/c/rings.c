@@ -13,7 +13,7 @@ static struct mscp_port *port;
 static struct mscp_host *other; /* what mscp_host makes of the same messages */
 static struct rings rings;
 static uint64_t seed = 1;
-static unsigned long served, ended, forced, came, unread, too_many, since_tick, polls, figures, by_status[64];
+static unsigned long served, ended, forced, came, unread, too_many, since_tick, by_status[64];
 
 static uint32_t any(uint32_t below)
 {
@@ -60,7 +60,7 @@ static uint16_t read_sa(void *context) { (void)context; return (uint16_t)mscp_po
 static void write_sa(void *context, uint16_t word) { (void)context; mscp_port_write_sa(port, word); }
 static void read_ip(void *context) { (void)context; mscp_port_read_ip(port); }
 static void write_ip(void *context) { (void)context; mscp_port_write_ip(port); }
-static void pause(void *context)
+static void a_while(void *context)
 {
     (void)context;
     for (unsigned i = any(20); i > 0; i--)
@@ -73,10 +73,11 @@ static void has_ended(void *context, uint32_t tag, uint16_t status, uint32_t mov
 }
 static void has_come(void *context, uint16_t unit) { (void)context, (void)unit; came++; }
 
-static struct mscp_medium volume(void)
+static void come(uint16_t unit)
 {
     struct mscp_medium medium = {BLOCKS, 7, 0, 1};
-    return medium;
+    if (mscp_port_volume_came(port, unit, &medium) != MSCP_DONE)
+        fail("no volume comes");
 }
 
 static void begin(uint32_t host_credits)
@@ -92,10 +93,9 @@ static void begin(uint32_t host_credits)
     if (mscp_port_init(port, &limits, units, UNITS, MSCP_SWEEP, &hardware, host_credits) != MSCP_DONE)
         fail("no port");
     for (uint16_t i = 0; i < UNITS; i++) {
-        struct mscp_medium medium = volume();
-        mscp_port_volume_came(port, i, &medium);
+        come(i);
     }
-    struct ring_machine machine = {NULL, read_sa, write_sa, read_ip, write_ip, pause, has_ended, has_come,
+    struct ring_machine machine = {NULL, read_sa, write_sa, read_ip, write_ip, a_while, has_ended, has_come,
                                    host_memory + AREA_AT, AREA_AT};
     memset(&rings, 0, sizeof rings);
     rings.machine = machine;
@@ -136,11 +136,10 @@ static void step(unsigned long number)
     case 7:
         if (any(40) == 0) {
             uint16_t unit = (uint16_t)any(UNITS);
-            struct mscp_medium medium = volume();
-            if (any(2))
-                mscp_port_volume_went(port, unit);
-            else
-                mscp_port_volume_came(port, unit, &medium);
+            if (any(2) == 0)
+                come(unit);
+            else if (mscp_port_volume_went(port, unit) != MSCP_DONE)
+                fail("no volume goes");
         }
         break;
     case 8:
@@ -166,7 +165,7 @@ static void step(unsigned long number)
 int main(int words, char **word)
 {
     unsigned long steps = words > 1 ? strtoul(word[1], NULL, 10) : 1000000;
-    uint32_t credits[] = {1, 15, 39};
+    uint32_t credits[] = {2, 15, 39};
     struct mscp_asked list[64];
     for (unsigned round = 0; round < 3; round++) {
         if (words > 2)
@@ -183,6 +182,8 @@ int main(int words, char **word)
                (unsigned)credits[round], served, ended, came, rings.resets, forced, unread, rings.why);
         if (rings.resets != forced || too_many != 0 || ended == 0 || served == 0)
             fail("a reset that nobody forced");
+        if (unread == 0)
+            fail("mscp_host reads all that a port sends");
         for (unsigned i = 0; i < 4000; i++) {
             act(true);
             ring_heed(&rings);

@@ -82,11 +82,7 @@ pub extern "C" fn mscp_driver_submit_at(handle: &mut Handle, message: &[u8]) -> 
 
 /// What there is to do to poll the oldest command that isn't answered when it arrives.
 #[unsafe(no_mangle)]
-pub extern "C" fn mscp_driver_poll(
-    handle: &mut Handle,
-    reference: u32,
-    out: &mut PacketOut,
-) -> i32
+pub extern "C" fn mscp_driver_poll(handle: &mut Handle, reference: u32, out: &mut PacketOut) -> i32
     ensures code { is_made handle.old ≡ true → result ≡ poll_code (port_polls handle.old.held reference).0 }
     ensures told { is_made handle.old ≡ true → PollTold (port_polls handle.old.held reference).0 out.old out.new }
     ensures after { is_made handle.old ≡ true

@@ -6,8 +6,8 @@ ghost use Rattle.mscp_c.specs.Hosted.{moved_in};
 
 use crate::outs::HeardOut;
 use crate::status::{
-    ATTENTION, AVAILABLE, CREDITS, ENDED, FIRST, LATE, LOGGED, LOST, MOVED_TOO_MUCH, NO_PROGRESS,
-    NOTHING, POLL, PROGRESS, REFUSED, SILENT, hear_code,
+    ATTENTION, CREDITS, ENDED, FIRST, LATE, LOGGED, LOST, MOVED_TOO_MUCH, NO_PROGRESS, NOTHING,
+    NOW_AVAILABLE, POLL, PROGRESS, REFUSED, SILENT, hear_code,
 };
 use mscp_host::{Advice, Asked, HearFault, Heard};
 use mscp_packet::{End, EndBody};
@@ -106,7 +106,7 @@ fn code_of(heard: &Heard) -> i32
         Heard::Reset => NO_PROGRESS,
         Heard::Lost => LOST,
         Heard::Refused(_) => REFUSED,
-        Heard::Available(_) => AVAILABLE,
+        Heard::Available(_) => NOW_AVAILABLE,
         Heard::Attention(..) => ATTENTION,
         Heard::Logged => LOGGED,
         Heard::Credits(_) => CREDITS,

@@ -52,7 +52,7 @@ pub fn statuses_are_these()
     ensures lost { LOST ≡ pos 10 }
     ensures moved_too_much { MOVED_TOO_MUCH ≡ pos 11 }
     ensures refused { REFUSED ≡ pos 12 }
-    ensures available { AVAILABLE ≡ pos 13 }
+    ensures now_available { NOW_AVAILABLE ≡ pos 13 }
     ensures attention { ATTENTION ≡ pos 14 }
     ensures logged { LOGGED ≡ pos 15 }
     ensures credits { CREDITS ≡ pos 16 }

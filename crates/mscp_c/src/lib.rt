@@ -4,8 +4,8 @@
 mod controller_saving;
 mod driving;
 mod hearing;
-mod host_saving;
 mod heeding;
+mod host_saving;
 mod hosting;
 mod law;
 mod making;

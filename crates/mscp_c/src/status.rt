@@ -41,7 +41,7 @@ pub(crate) const MOVED_TOO_MUCH: i32 = 11;
 /// The end of a poll tells no figure.
 pub(crate) const REFUSED: i32 = 12;
 /// A unit became available.
-pub(crate) const AVAILABLE: i32 = 13;
+pub(crate) const NOW_AVAILABLE: i32 = 13;
 /// Another attention message.
 pub(crate) const ATTENTION: i32 = 14;
 /// An error log.
