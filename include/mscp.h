@@ -814,8 +814,7 @@ MSCP_INLINE int32_t mscp_host_restore(struct mscp_host *host, const uint8_t *byt
 
 /* ---- a driver's account of a real port. Each call but mscp_driver_init answers MSCP_NOT_MADE if there is none. */
 
-/* Makes an account of one credit in the handle's memory. MSCP_DONE, or a fault of the memory (-11 to -15). Do it anew (in fresh
- * memory, or over a new handle) when the port is reset. */
+/* As mscp_host_init, with one credit. MSCP_DONE, or a fault of the memory (-11 to -15). */
 MSCP_MUST_USE
 MSCP_INLINE int32_t mscp_driver_init(struct mscp_driver *driver)
 {
@@ -840,8 +839,8 @@ MSCP_INLINE int32_t mscp_driver_submit(struct mscp_driver *driver, const uint8_t
 /* As mscp_host_poll. The poll takes a credit. */
 MSCP_MUST_USE int32_t mscp_driver_poll(struct mscp_driver *driver, uint32_t reference, struct mscp_packet *message);
 
-/* The port sent this: four bytes of an envelope, and the text behind them. What it says is MSCP_ENDED to MSCP_CREDITS, and then
- * `heard` is filled, `watch` knows of it, and the credits that the envelope tells are free; or MSCP_CUT, MSCP_OTHER_CONNECTION,
+/* The port sent this: an envelope of four bytes, and its text. MSCP_ENDED to MSCP_CREDITS: `heard` is filled, `watch` knows of it,
+ * and the credits of the envelope are free. Or MSCP_CUT, MSCP_OTHER_CONNECTION,
  * MSCP_BAD_KIND, MSCP_UNREADABLE or MSCP_UNKNOWN. */
 MSCP_MUST_USE
 MSCP_INLINE int32_t mscp_driver_hear(struct mscp_driver *driver, struct mscp_watch *watch, const uint8_t *bytes,

@@ -1,7 +1,7 @@
 /* rings.c: the driver of rings.h beside a port, register accesses, messages, blocks and ticks in random order, with FLUSH,
  * DETERMINE ACCESS PATHS, volumes that come and go, and resets.
  *     rings [STEPS [SEED]] */
-#include "rings.h"
+#include "../../examples/rings.h"
 #include <stdio.h>
 #include <stdlib.h>
 
