@@ -81,8 +81,28 @@ fn errors_are_the_faults_of_c() {
 #[test]
 fn other_statuses_are_those_of_c() {
     use raw::status::*;
-    let ours = [NOTHING, DONE, QUEUED, ANSWERED, BUSY, ENDED, FIRST, PROGRESS, LATE, NO_PROGRESS, LOST, MOVED_TOO_MUCH,
-        REFUSED, NOW_AVAILABLE, ATTENTION, LOGGED, CREDITS, POLL, SILENT].map(i64::from);
+    let ours = [
+        NOTHING,
+        DONE,
+        QUEUED,
+        ANSWERED,
+        BUSY,
+        ENDED,
+        FIRST,
+        PROGRESS,
+        LATE,
+        NO_PROGRESS,
+        LOST,
+        MOVED_TOO_MUCH,
+        REFUSED,
+        NOW_AVAILABLE,
+        ATTENTION,
+        LOGGED,
+        CREDITS,
+        POLL,
+        SILENT,
+    ]
+    .map(i64::from);
     let mut theirs: Vec<_> = enumerators("status").into_values().filter(|it| *it >= 0).collect();
     theirs.sort_unstable();
     assert_eq!(ours.as_slice(), theirs);
