@@ -191,7 +191,7 @@ END {
     for (enum in cases)
         print "int is_" enum "(enum mscp_" enum " it)\n{\n    switch (it) {\n   " cases[enum] \
             "\n        return 1;\n    }\n    return 0;\n}"
-    if (structs < 16 || calls < 45 || marks != 3 || length(cases["picker"]) == 0 || length(cases["opcode"]) == 0 ||
+    if (structs < 16 || calls < 45 || marks != 4 || length(cases["picker"]) == 0 || length(cases["opcode"]) == 0 ||
         length(cases["connection"]) == 0 || length(cases["bus"]) == 0 || length(cases["outcome"]) == 0 ||
         length(cases["action_kind"]) == 0 || length(cases["stage"]) == 0) {
         print "mirror.awk: " structs " structs, " calls " calls, " marks " marks" >"/dev/stderr"
