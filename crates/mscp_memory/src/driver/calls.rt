@@ -5,9 +5,9 @@ ghost use Rattle.std.specs.Borrow.{Lends, sem};
 ghost use Rattle.mscp_memory.specs.contracts.driver.handle.Handle.{the_row};
 ghost use Rattle.mscp_memory.specs.DriverHandles.{is_made, is_room, placed, room_fault, row, with_held};
 
-use crate::fault::{self, RoomFault};
 use crate::driver::handle::Handle;
 use crate::driver::marks::{KIND, MADE};
+use crate::fault::{self, RoomFault};
 use mscp_host::PortHost;
 
 /// Whether its memory holds a driver's account.
