@@ -1,5 +1,6 @@
 /* rings.c: the driver of rings.h beside a port, register accesses, messages, blocks and ticks in random order, with FLUSH,
- * DETERMINE ACCESS PATHS, volumes that come and go, and resets.
+ * DETERMINE ACCESS PATHS, volumes that come and go, and resets. The driver resets the port by itself only in the last round, in
+ * which messages of the port are lost and garbled; and then, too, all that was asked for ends.
  *     rings [STEPS [SEED]] */
 #include "../../examples/rings.h"
 #include <stdio.h>
@@ -13,7 +14,7 @@ static struct mscp_port *port;
 static struct mscp_host *other; /* what mscp_host makes of the same messages */
 static struct rings rings;
 static uint64_t seed = 1;
-static unsigned long served, ended, forced, came, unread, too_many, since_tick, by_status[64];
+static unsigned long served, ended, forced, came, unread, spoiled, too_many, since_tick, by_status[64];
 
 static uint32_t any(uint32_t below)
 {
@@ -124,12 +125,29 @@ static void hear_by_the_other(void)
         unread++;
 }
 
-static void step(unsigned long number)
+/* The next message of the port is lost, or a bit of it is turned. */
+static void spoil(void)
+{
+    unsigned slot = rings.next_response;
+    if (ring_number(ring_descriptor(&rings, false, slot), 4) & PORTS_OWN)
+        return;
+    spoiled++;
+    if (any(2) == 0) {
+        host_memory[AREA_AT + ring_buffer(false, slot) + any(BUFFER)] ^= (uint8_t)(1u << any(8));
+    } else {
+        ring_give(&rings, false, slot, PORTS_OWN);
+        rings.next_response = (slot + 1) % RING_SLOTS;
+    }
+}
+
+static void step(unsigned long number, bool spoils)
 {
     switch (any(24)) {
     case 0: case 1: case 2: ask_any(); break;
     case 3: case 4: case 5: case 6:
         hear_by_the_other();
+        if (spoils && any(100) == 0)
+            spoil();
         if (!ring_heed(&rings))
             fail("the port is broken");
         break;
@@ -162,12 +180,21 @@ static void step(unsigned long number)
         too_many++;
 }
 
+static bool is_all_ended(void)
+{
+    for (unsigned i = 0; i < RING_REQUESTS; i++)
+        if (rings.requests[i].state != RING_FREE)
+            return false;
+    return true;
+}
+
 int main(int words, char **word)
 {
     unsigned long steps = words > 1 ? strtoul(word[1], NULL, 10) : 1000000;
-    uint32_t credits[] = {2, 15, 39};
+    uint32_t credits[] = {2, 15, 39, 30};
     struct mscp_asked list[64];
-    for (unsigned round = 0; round < 3; round++) {
+    for (unsigned round = 0; round < 4; round++) {
+        bool spoils = round == 3;
         if (words > 2)
             seed = strtoull(word[2], NULL, 10) + round;
         other = mscp_host_in_memory(other_memory, sizeof other_memory);
@@ -177,18 +204,24 @@ int main(int words, char **word)
         served = ended = forced = came = unread = 0;
         memset(by_status, 0, sizeof by_status);
         for (unsigned long number = 0; number < steps / 3; number++)
-            step(number);
-        printf("%u credits: %lu blocks, %lu ended, %lu came, %u resets, %lu by chance, unread by mscp_host %lu; the last reset: %s\n",
-               (unsigned)credits[round], served, ended, came, rings.resets, forced, unread, rings.why);
-        if (rings.resets != forced || too_many != 0 || ended == 0 || served == 0)
+            step(number, spoils);
+        printf("%u credits: %lu blocks, %lu ended, %lu came, %u resets, %lu by chance, unread by mscp_host %lu, spoiled %lu; the last reset: %s\n",
+               (unsigned)credits[round], served, ended, came, rings.resets, forced, unread, spoiled,
+               rings.why);
+        if (!spoils && (rings.resets != forced || too_many != 0))
             fail("a reset that nobody forced");
+        if (ended == 0 || served == 0 || (spoils && (spoiled == 0 || rings.resets == forced)))
+            fail("nothing happens");
         if (unread == 0)
             fail("mscp_host reads all that a port sends");
-        for (unsigned i = 0; i < 4000; i++) {
+        for (unsigned i = 0; i < 40000; i++) {
             act(true);
-            ring_heed(&rings);
+            if (!ring_heed(&rings) || (i % 60 == 59 && !ring_tick(&rings)))
+                fail("the port is broken");
         }
-        if (mscp_driver_credits(rings.account) != credits[round] || mscp_driver_outstanding(rings.account, list, 64) != 0)
+        if (mscp_driver_outstanding(rings.account, list, 64) != 0 || !is_all_ended())
+            fail("a command never ends");
+        if (!spoils && mscp_driver_credits(rings.account) != credits[round])
             fail("credits are lost");
     }
     printf("good\n");
