@@ -92,6 +92,14 @@ enum mscp_status {
     MSCP_LATE = 8,      /* the polled command has ended in the meantime */
     MSCP_NO_PROGRESS = 9, /* the polled command's figure hasn't fallen: reset the controller */
     MSCP_LOST = 10,     /* the controller doesn't know the polled command: reset it */
+    MSCP_MOVED_TOO_MUCH = 11, /* mscp_driver_hear: a command ended, and its end tells more bytes than it asked for */
+    MSCP_REFUSED = 12,  /* the end of a poll, which tells no figure */
+    MSCP_NOW_AVAILABLE = 13, /* a unit became available */
+    MSCP_ATTENTION = 14, /* another attention message */
+    MSCP_LOGGED = 15,   /* an error log */
+    MSCP_CREDITS = 16,  /* credits, and nothing else */
+    MSCP_POLL = 17,     /* mscp_driver_tick: poll the oldest command */
+    MSCP_SILENT = 18,   /* no answer came for a timeout: reset the port */
 
     MSCP_SHORT = -1,        /* the message has under 12 bytes */
     MSCP_LONG = -2,         /* it has over 64 bytes */
@@ -109,6 +117,10 @@ enum mscp_status {
     MSCP_NO_MEMORY = -13,   /* an init: the handle or its memory is NULL */
     MSCP_MISALIGNED = -14,  /* an init: its address isn't a multiple of the alignment */
     MSCP_SMALL = -15,       /* it has fewer bytes than what is to be made, saved or written there takes */
+
+    MSCP_CUT = -16,         /* mscp_driver_hear: there are fewer bytes than the envelope tells */
+    MSCP_OTHER_CONNECTION = -17, /* a message of another connection than the disks' */
+    MSCP_BAD_KIND = -18,    /* a message of no known type */
 
     MSCP_BAD_PICKER = -20,    /* mscp_init: no enum mscp_picker */
     MSCP_ZERO_TRACK = -21,    /* the first unit that is refused has a track of no blocks */
@@ -304,6 +316,13 @@ struct mscp_port {
     uint64_t mark;
 };
 
+struct mscp_driver {
+    MSCP_ALIGNED void *at;
+    MSCP_ALIGNED uint64_t address;
+    uint64_t length;
+    uint64_t mark;
+};
+
 /* What calls tell. A flag ("whether ..") is 1 or 0. */
 
 /* What became of a message. */
@@ -371,6 +390,36 @@ struct mscp_news {
     uint8_t code;       /* its endcode */
 };
 
+/* What a message from a port says: of MSCP_ENDED and MSCP_MOVED_TOO_MUCH the end and what was asked, of MSCP_REFUSED the end, of
+ * MSCP_FIRST and MSCP_PROGRESS the figure, of MSCP_NOW_AVAILABLE and MSCP_ATTENTION unit and code, of MSCP_CREDITS the credits. Every
+ * other field is 0. */
+struct mscp_heard {
+    uint32_t figure;
+    uint32_t reference; /* of the command that ended */
+    uint32_t moved;     /* bytes of its good blocks, if it is a transfer */
+    uint32_t asked;     /* bytes that it asked for */
+    uint16_t unit;
+    uint16_t status;
+    uint8_t code;       /* its endcode, or the code of the attention message */
+    uint8_t opcode;     /* of the command */
+    uint8_t credits;
+};
+
+/* A command whose end wasn't heard. */
+struct mscp_asked {
+    uint32_t reference;
+    uint16_t unit;
+    uint8_t opcode;
+    uint32_t bytes; /* that it asks for */
+};
+
+/* Counts the ticks of a driver's timer. Begin with {timeout, 0, 0}, and again after a reset. */
+struct mscp_watch {
+    uint32_t timeout; /* of the controller, in ticks */
+    uint32_t waited;  /* for how many something has waited that wasn't polled */
+    uint32_t silent;  /* for how many an answer is owed and none came */
+};
+
 /* What a port wants done. What its kind doesn't say is 0. */
 struct mscp_action {
     uint32_t address;  /* in host memory, on the bus */
@@ -411,17 +460,21 @@ size_t mscp_host_size(void);
 size_t mscp_host_align(void);
 size_t mscp_port_size(void);
 size_t mscp_port_align(void);
+size_t mscp_driver_size(void);
+size_t mscp_driver_align(void);
 
 /* No library that fits takes more, so memory may be there from the start, as
  * static MSCP_ALIGNED uint64_t memory[(MSCP_HEAD + MSCP_SIZE) / sizeof(uint64_t)]; */
 #define MSCP_SIZE 17920u
 #define MSCP_HOST_SIZE 1536u
 #define MSCP_PORT_SIZE 20480u
+#define MSCP_DRIVER_SIZE 3072u
 
 /* Marks of handles on memory where nothing was made yet. */
 #define MSCP_ROOM UINT64_C(0x4D534350524F4F4D)
 #define MSCP_HOST_ROOM UINT64_C(0x484F5354524F4F4D)
 #define MSCP_PORT_ROOM UINT64_C(0x504F5254524F4F4D)
+#define MSCP_DRIVER_ROOM UINT64_C(0x44525652524F4F4D)
 
 /* A handle on memory that is yours, for an init. The handle lies where you put it. */
 MSCP_INLINE struct mscp mscp_over(void *memory, size_t length)
@@ -439,6 +492,12 @@ MSCP_INLINE struct mscp_host mscp_host_over(void *memory, size_t length)
 MSCP_INLINE struct mscp_port mscp_port_over(void *memory, size_t length)
 {
     struct mscp_port handle = {memory, (uintptr_t)memory, length, MSCP_FITS() ? MSCP_PORT_ROOM : 0};
+    MSCP_HERE();
+    return handle;
+}
+MSCP_INLINE struct mscp_driver mscp_driver_over(void *memory, size_t length)
+{
+    struct mscp_driver handle = {memory, (uintptr_t)memory, length, MSCP_FITS() ? MSCP_DRIVER_ROOM : 0};
     MSCP_HERE();
     return handle;
 }
@@ -468,6 +527,13 @@ MSCP_INLINE struct mscp_port *mscp_port_in_memory(void *memory, size_t length)
     *(struct mscp_port *)memory = mscp_port_over((char *)memory + MSCP_HEAD, length - MSCP_HEAD);
     return (struct mscp_port *)memory;
 }
+MSCP_INLINE struct mscp_driver *mscp_driver_in_memory(void *memory, size_t length)
+{
+    if (memory == NULL || (uintptr_t)memory % MSCP_ALIGN != 0 || length < MSCP_HEAD)
+        return NULL;
+    *(struct mscp_driver *)memory = mscp_driver_over((char *)memory + MSCP_HEAD, length - MSCP_HEAD);
+    return (struct mscp_driver *)memory;
+}
 
 /* The memory with the handle at its head lies here now: whoever moved it calls this before any other call. Its
  * alignment is the same. A controller, a host and a port have no pointer into themselves, and the drive's work goes on:
@@ -494,6 +560,13 @@ MSCP_INLINE struct mscp_port *mscp_port_moved(void *memory)
     handle->address = (uintptr_t)handle->at;
     return handle;
 }
+MSCP_INLINE struct mscp_driver *mscp_driver_moved(void *memory)
+{
+    struct mscp_driver *handle = (struct mscp_driver *)memory;
+    handle->at = (char *)memory + MSCP_HEAD;
+    handle->address = (uintptr_t)handle->at;
+    return handle;
+}
 
 /* The library's own form of the calls that are inline below: neither a handle nor a pointer to a list or to bytes is ever
  * NULL. In C call those without _at. */
@@ -512,6 +585,11 @@ int32_t mscp_host_submit_at(struct mscp_host *host, const uint8_t *message, size
 int32_t mscp_host_receive_at(struct mscp_host *host, const uint8_t *bytes, size_t length, struct mscp_news *news);
 int32_t mscp_host_save_at(const struct mscp_host *host, uint8_t *bytes, size_t room, size_t *length);
 int32_t mscp_host_restore_at(struct mscp_host *host, const uint8_t *bytes, size_t length);
+int32_t mscp_driver_init_at(struct mscp_driver *driver);
+int32_t mscp_driver_submit_at(struct mscp_driver *driver, const uint8_t *message, size_t length);
+int32_t mscp_driver_hear_at(struct mscp_driver *driver, struct mscp_watch *watch, const uint8_t *bytes, size_t length,
+                            struct mscp_heard *heard);
+int32_t mscp_driver_outstanding_at(const struct mscp_driver *driver, struct mscp_asked *list, size_t room);
 int32_t mscp_port_init_at(struct mscp_port *port, const struct mscp_limits *limits, const struct mscp_unit *units,
                           size_t count, uint32_t picker, const struct mscp_hardware *hardware, uint32_t credits);
 int32_t mscp_port_was_read_at(struct mscp_port *port, const uint8_t *bytes, size_t length);
@@ -735,6 +813,59 @@ MSCP_INLINE int32_t mscp_host_restore(struct mscp_host *host, const uint8_t *byt
     if (host == NULL)
         return MSCP_NO_MEMORY;
     return mscp_host_restore_at(host, length == 0 ? &none : bytes, length);
+}
+
+/* ---- a driver's account of a real port. Each call but mscp_driver_init answers MSCP_NOT_MADE if there is none. */
+
+/* As mscp_host_init, with one credit. MSCP_DONE, or a fault of the memory (-11 to -15). */
+MSCP_MUST_USE
+MSCP_INLINE int32_t mscp_driver_init(struct mscp_driver *driver)
+{
+    if (driver == NULL)
+        return MSCP_NO_MEMORY;
+    return mscp_driver_init_at(driver);
+}
+
+/* How many credits are free: 0 to 65535. */
+int64_t mscp_driver_credits(const struct mscp_driver *driver);
+
+/* As mscp_host_submit. The command takes a credit. */
+MSCP_MUST_USE
+MSCP_INLINE int32_t mscp_driver_submit(struct mscp_driver *driver, const uint8_t *message, size_t length)
+{
+    const uint8_t none = 0;
+    if (driver == NULL)
+        return MSCP_NOT_MADE;
+    return mscp_driver_submit_at(driver, length == 0 ? &none : message, length);
+}
+
+/* As mscp_host_poll. The poll takes a credit. */
+MSCP_MUST_USE int32_t mscp_driver_poll(struct mscp_driver *driver, uint32_t reference, struct mscp_packet *message);
+
+/* The port sent this: an envelope of four bytes, and its text. MSCP_ENDED to MSCP_CREDITS: `heard` is filled, `watch` knows of it,
+ * and the credits of the envelope are free. Or MSCP_CUT, MSCP_OTHER_CONNECTION,
+ * MSCP_BAD_KIND, MSCP_UNREADABLE or MSCP_UNKNOWN. */
+MSCP_MUST_USE
+MSCP_INLINE int32_t mscp_driver_hear(struct mscp_driver *driver, struct mscp_watch *watch, const uint8_t *bytes,
+                                     size_t length, struct mscp_heard *heard)
+{
+    const uint8_t none = 0;
+    if (driver == NULL)
+        return MSCP_NOT_MADE;
+    return mscp_driver_hear_at(driver, watch, length == 0 ? &none : bytes, length, heard);
+}
+
+/* A tick of the driver's timer: MSCP_POLL, MSCP_SILENT or MSCP_NOTHING. */
+MSCP_MUST_USE int32_t mscp_driver_tick(const struct mscp_driver *driver, struct mscp_watch *watch);
+
+/* The commands whose ends weren't heard, in the order of sending, as many as there is room for. How many there are: up to 64. */
+MSCP_MUST_USE
+MSCP_INLINE int32_t mscp_driver_outstanding(const struct mscp_driver *driver, struct mscp_asked *list, size_t room)
+{
+    struct mscp_asked none = {0, 0, 0, 0};
+    if (driver == NULL)
+        return MSCP_NOT_MADE;
+    return mscp_driver_outstanding_at(driver, room == 0 ? &none : list, room);
 }
 
 /* ---- a port over a controller of its own. Each call but mscp_port_init and mscp_port_restore answers MSCP_NOT_MADE if
@@ -962,6 +1093,17 @@ MSCP_INLINE const char *mscp_status_text(int64_t status)
     case MSCP_BAD_BOUND: return "a bound of figures that doesn't fit 32 bits";
     case MSCP_BAD_CONNECTION: return "no connection of this number";
     case MSCP_BAD_BUS: return "no bus of this number";
+    case MSCP_MOVED_TOO_MUCH: return "a command ended with more bytes than it asked for";
+    case MSCP_REFUSED: return "a poll that tells no figure";
+    case MSCP_NOW_AVAILABLE: return "a unit became available";
+    case MSCP_ATTENTION: return "an attention message";
+    case MSCP_LOGGED: return "an error log";
+    case MSCP_CREDITS: return "credits";
+    case MSCP_POLL: return "poll the oldest command";
+    case MSCP_SILENT: return "no answer for a timeout: reset the port";
+    case MSCP_CUT: return "fewer bytes than the envelope tells";
+    case MSCP_OTHER_CONNECTION: return "a message of another connection";
+    case MSCP_BAD_KIND: return "a message of no known type";
     case MSCP_BAD_HOST_CREDITS: return "a port's host without credits, or with as many as the first connection";
     case MSCP_BAD_OUTCOME: return "no outcome of an action";
     case MSCP_UNASKED: return "the port didn't want what was told";

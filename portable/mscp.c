@@ -263,7 +263,7 @@ static inline u64 div64(u64 v, u64 by) { if (by == 0) TRAP(); return v / by; }
 
 /* ---- the code */
 
-FIXED(data, 1000) = {
+FIXED(data, 1004) = {
     108, 111, 110, 103, 101, 115, 116, 116, 105, 109, 101, 111, 117, 116, 99, 114, 101, 100, 105, 116, 115, 98, 117,
         100,
     103, 101, 116, 112, 97, 115, 115, 105, 110, 103, 117, 110, 105, 116, 114, 101, 97, 100, 119, 114, 105, 116, 101, 97,
@@ -305,10 +305,9 @@ FIXED(data, 1000) = {
     5, 0, 0, 0, 0, 0, 0, 0, 17, 0, 0, 0, 0, 0, 0, 0, 4, 0, 0, 0, 0, 0, 0, 0,
     5, 0, 0, 0, 0, 0, 0, 0, 146, 2, 0, 0, 0, 0, 0, 0, 152, 2, 0, 0, 0, 0, 0, 0,
     157, 2, 0, 0, 0, 0, 0, 0, 174, 2, 0, 0, 0, 0, 0, 0, 178, 2, 0, 0, 0, 0, 0, 0,
-    228, 255, 255, 255, 253, 255, 255, 255, 252, 255, 255, 255, 251, 255, 255, 255, 248, 255, 255, 255, 247, 255, 255,
-        255,
     0, 0, 0, 0, 0, 0, 144, 0, 0, 0, 0, 0, 0, 0, 146, 0, 0, 0, 0, 0, 0, 0, 160, 0,
-    0, 0, 0, 0, 0, 0, 161, 0, 0, 0, 0, 0, 0, 0, 162, 0,
+    0, 0, 0, 0, 0, 0, 161, 0, 0, 0, 0, 0, 0, 0, 162, 0, 5, 0, 0, 0, 11, 0, 0, 0,
+    6, 0, 0, 0, 7, 0, 0, 0, 8, 0, 0, 0, 9, 0, 0, 0, 10, 0, 0, 0,
 };
 
 /* __rattle_enter, of the kit */
@@ -1083,6 +1082,1757 @@ L1:;
     return v2;
 }
 
+/* mscp_c::mscp_driver_align, crates/mscp_c/src/driving.rt:30 */
+static void export_mscp_driver_align(void)
+{
+    goto L1;
+L1:;
+    return;
+}
+
+static u64 w_mscp_driver_align(void)
+{
+    u32 t0;
+    t0 = rattle_enter();
+    if (t0 == 0) goto L1;
+    rattle_trap();
+    TRAP();
+L1:;
+    export_mscp_driver_align();
+    rattle_leave();
+    return 8ull;
+}
+
+/* mscp_c::mscp_driver_credits, crates/mscp_c/src/driving.rt:50 */
+static u64 export_mscp_driver_credits(u64 v0)
+{
+    u64 v1 = 0;
+    v1 = 0xFFFFFFFFFFFFFFF6ull;
+    if (l8_8(v0 + 24ull) != 0x445256524D414445ull) goto L2;
+    v1 = (u64)l2_2(l8_8(v0) + 1832ull);
+L2:;
+    return v1;
+    TRAP();
+}
+
+static u64 w_mscp_driver_credits(u64 v0)
+{
+    u32 t0;
+    u64 t1;
+    t0 = rattle_enter();
+    if (t0 == 0) goto L1;
+    rattle_trap();
+    TRAP();
+L1:;
+    t1 = export_mscp_driver_credits(v0);
+    v0 = t1;
+    rattle_leave();
+    return v0;
+}
+
+/* mscp_packet::reading::read_end, crates/mscp_packet/src/reading.rt:143 */
+static void reading_read_end(u64 v0, u64 v1, u64 v2)
+{
+    u32 v3 = 0, v4 = 0, v6 = 0, v7 = 0, v8 = 0, v9 = 0, v10 = 0, v11 = 0, v12 = 0, v13 = 0, v14 = 0, v15 = 0, v16 = 0;
+    u64 v5 = 0;
+    if ((v2 + 0xFFFFFFFFFFFFFFBFull) >= 0xFFFFFFFFFFFFFFCBull) goto L5;
+    s2(v0, 1u);
+    s8(v0 + 8ull, 0ull);
+    s8(v0 + 16ull, 0ull);
+    s8(v0 + 24ull, 0ull);
+    s8(v0 + 32ull, 0ull);
+    s8(v0 + 40ull, 0ull);
+    s8(v0 + 48ull, 0ull);
+    return;
+L5:;
+    v3 = (u32)(i32)(i8)l1(v1 + 8);
+    if ((i32)v3 > (i32)0xFFFFFFFFu) goto L3;
+    v4 = v3 & 127u;
+    v5 = 16ull;
+    switch ((u32)(((u64)v3) & 127ull)) {
+    case 0: case 8: goto L12;
+    case 1: goto L6;
+    case 2: goto L11;
+    case 3: goto L10;
+    case 4: goto L9;
+    case 9: case 10: goto L8;
+    case 16: case 18: case 32: case 33: case 34: goto L7;
+    default: goto L3;
+    }
+L12:;
+    v6 = l2(v1 + 10ull);
+    v7 = l2(v1 + 4ull);
+    v8 = l4(v1);
+    v4 = 0u;
+    v2 = 0ull;
+    v9 = 0u;
+    v10 = 0u;
+    v11 = 0u;
+    v12 = 0u;
+    v13 = 0u;
+    v14 = 0u;
+    goto L2;
+L11:;
+    v5 = 20ull;
+    goto L6;
+L10:;
+    v5 = 48ull;
+    goto L6;
+L9:;
+    v5 = 28ull;
+    goto L6;
+L8:;
+    v5 = 44ull;
+    v4 = 5u;
+    goto L6;
+L7:;
+    v5 = 32ull;
+    v4 = 6u;
+L6:;
+    if (v2 >= v5) goto L13;
+    s2(v0, 1u);
+    s8(v0 + 8ull, 0ull);
+    s8(v0 + 16ull, 0ull);
+    s8(v0 + 24ull, 0ull);
+    s8(v0 + 32ull, 0ull);
+    s8(v0 + 40ull, 0ull);
+    s8(v0 + 48ull, 0ull);
+    return;
+L13:;
+    v6 = l2(v1 + 10ull);
+    v7 = l2(v1 + 4ull);
+    v8 = l4(v1);
+    switch (v4 + 0xFFFFFFFFu) {
+    case 1: goto L18;
+    case 2: goto L17;
+    case 3: goto L16;
+    case 4: goto L15;
+    case 5: goto L14;
+    default: goto L19;
+    }
+L19:;
+    v15 = l4(v1 + 12ull);
+    v9 = 0u;
+    v2 = 0ull;
+    v4 = 1u;
+    v10 = 0u;
+    v11 = 0u;
+    v12 = 0u;
+    v13 = 0u;
+    v14 = 0u;
+    v16 = 0u;
+    goto L1;
+L18:;
+    v14 = l4(v1 + 16ull);
+    v15 = l4(v1 + 12ull);
+    v9 = 0u;
+    v2 = 0ull;
+    v4 = 2u;
+    v10 = 0u;
+    v11 = 0u;
+    v12 = 0u;
+    v13 = 0u;
+    v16 = 0u;
+    goto L1;
+L17:;
+    v5 = l8(v1 + 20ull);
+    v2 = v5 & 0xFFFFFFFF00000000ull;
+    v12 = l2(v1 + 40ull);
+    v11 = l2(v1 + 38ull);
+    v10 = l2(v1 + 36ull);
+    v9 = l4(v1 + 28ull);
+    v14 = (u32)v5;
+    v13 = 0u;
+    v4 = 3u;
+    goto L2;
+L16:;
+    v5 = l8(v1 + 20ull);
+    v2 = v5 & 0xFFFFFFFF00000000ull;
+    v16 = l2(v1 + 16ull);
+    v14 = (u32)v5;
+    v9 = 0u;
+    v4 = 4u;
+    v10 = 0u;
+    v11 = 0u;
+    v12 = 0u;
+    v13 = 0u;
+    v15 = 0u;
+    goto L1;
+L15:;
+    v12 = l4(v1 + 40ull);
+    v13 = v12 & 0xFFFF0000u;
+    v10 = l4(v1 + 36ull);
+    v11 = v10 >> 16;
+    v5 = l8(v1 + 20ull);
+    v2 = v5 & 0xFFFFFFFF00000000ull;
+    v9 = l4(v1 + 28ull);
+    v14 = (u32)v5;
+    v15 = 0u;
+    v4 = 5u;
+    v16 = 0u;
+    goto L1;
+L14:;
+    v15 = l4(v1 + 12ull);
+    v16 = 0u;
+    v2 = 0ull;
+    v4 = 6u;
+    v9 = 0u;
+    v10 = 0u;
+    v11 = 0u;
+    v12 = 0u;
+    v13 = 0u;
+    v14 = 0u;
+    goto L1;
+    TRAP();
+L3:;
+    s2(v0, 257u);
+    s8(v0 + 8ull, 0ull);
+    s8(v0 + 16ull, 0ull);
+    s8(v0 + 24ull, 0ull);
+    s8(v0 + 32ull, 0ull);
+    s8(v0 + 40ull, 0ull);
+    s8(v0 + 48ull, 0ull);
+    return;
+L2:;
+    v15 = 0u;
+    v16 = 0u;
+L1:;
+    s2(v0, 0u);
+    s4(v0 + 18ull, 0u);
+    s2(v0 + 16ull, v6);
+    s1(v0 + 15ull, 0u);
+    s1(v0 + 14ull, v3);
+    s2(v0 + 12ull, v7);
+    s4(v0 + 8ull, v8);
+    s2(v0 + 22ull, 0u);
+    s4(v0 + 52ull, 0u);
+    s4(v0 + 40ull, v9);
+    s4(v0 + 28ull, v15);
+    s2(v0 + 26ull, v16);
+    s2(v0 + 24ull, v4);
+    s4(v0 + 48ull, v13 | (v12 & 65535u));
+    s4(v0 + 44ull, (v11 << 16) | (v10 & 65535u));
+    s8(v0 + 32ull, v2 | ((u64)v14));
+    return;
+}
+
+/* mscp_host::host::Host::hear, crates/mscp_host/src/host.rt:171 */
+static void Host_hear(u64 v0, u64 v1, u64 v2, u64 v3)
+{
+    ROOM(frame, 64);
+    u32 v5 = 0, v6 = 0, v7 = 0, v9 = 0, v19 = 0, v20 = 0, v21 = 0, v22 = 0;
+    u64 v4 = 0, v8 = 0, v10 = 0, v11 = 0, v12 = 0, v13 = 0, v14 = 0, v15 = 0, v16 = 0, v17 = 0, v18 = 0;
+    v4 = A(frame);
+    v5 = l1(v3);
+    if (v5) goto L6;
+    s8_8(v4 + 40, l8(v2 + 40));
+    s8_8(v4 + 32, l8(v2 + 32));
+    s8_8(v4 + 24, l8(v2 + 24));
+    s8_8(v4 + 16, l8(v2 + 16));
+    s8_8(v4 + 8, l8(v2 + 8));
+    s8_8(v4, l8(v2));
+    v6 = 0u;
+    v7 = 0u;
+    goto L1;
+L6:;
+    if (l1(v1 + 1040ull) != 1u) goto L8;
+    if (l1(v1 + 1052ull) != 1u) goto L7;
+    v8 = l8_8(v1 + 1032ull) + 1ull;
+    v9 = l4_4(v3 + 4ull);
+    v10 = v1;
+L9:;
+    v8 = v8 + 0xFFFFFFFFFFFFFFFFull;
+    if (v8 != 0ull) goto L10;
+    v7 = l4_4(v3 + 8ull);
+    v9 = 0u;
+    goto L4;
+L10:;
+    v11 = v10 + 8ull;
+    v12 = v10 + 16ull;
+    v10 = v12;
+    if (l4_4(v11) != v9) goto L9;
+    v7 = l4_4(v3 + 8ull);
+    v9 = l1(v12);
+    if (v9 != 1u) goto L4;
+    if (l4(v12 + 4ull) > v7) goto L4;
+    v7 = 0u;
+    v6 = 4u;
+    goto L3;
+L8:;
+    s8_8(v4 + 40, 0ull);
+    s8_8(v4 + 32, 0ull);
+    s8_8(v4 + 24, 0ull);
+    s8_8(v4 + 16, 0ull);
+    s8_8(v4 + 8, 0ull);
+    s8_8(v4, 0ull);
+    v7 = 0u;
+    v6 = 3u;
+    goto L1;
+L7:;
+    s8_8(v4 + 40, 0ull);
+    s8_8(v4 + 32, 0ull);
+    s8_8(v4 + 24, 0ull);
+    s8_8(v4 + 16, 0ull);
+    s8_8(v4 + 8, 0ull);
+    s8_8(v4, 0ull);
+    v7 = 0u;
+    v6 = 3u;
+    if (v5 != 1u) goto L1;
+    goto L2;
+    TRAP();
+L4:;
+    if (v7) goto L11;
+    v7 = 0u;
+    v6 = 5u;
+    goto L3;
+L11:;
+    v6 = (v9 == 1u) ? 1u : 2u;
+L3:;
+    s8_8(v4 + 40, 0ull);
+    s8_8(v4 + 32, 0ull);
+    s8_8(v4 + 24, 0ull);
+    s8_8(v4 + 16, 0ull);
+    s8_8(v4 + 8, 0ull);
+    s8_8(v4, 0ull);
+    if (v5 != 1u) goto L1;
+L2:;
+    if (l1(v1 + 1052ull) != 1u) goto L1;
+    v8 = l8_8(v1 + 1032ull);
+    if (v8 == 0) goto L1;
+    v5 = l4_4(v3 + 8ull);
+    v9 = l4_4(v3 + 4ull);
+    v10 = v1 + 20ull;
+L13:;
+    if (l4_4(v10 + 0xFFFFFFFFFFFFFFF4ull) == v9) goto L12;
+    v10 = v10 + 16ull;
+    v8 = v8 + 0xFFFFFFFFFFFFFFFFull;
+    if ((u32)(v8 == 0) == 0) goto L13;
+    goto L1;
+L12:;
+    s4(v10, v5);
+    s4(v10 + 0xFFFFFFFFFFFFFFFCull, 1u);
+    s1(v10 + 0xFFFFFFFFFFFFFFFBull, 0u);
+L1:;
+    v9 = l4_4(v2);
+    v13 = l8_8(v1 + 1032ull);
+    if (v13 == 0) goto L14;
+    v14 = v1 + 8ull;
+    v15 = v13 + 0xFFFFFFFFFFFFFFFFull;
+    v16 = 0ull;
+L16:;
+    v3 = v1 + v16;
+    v17 = v3 + 8ull;
+    if (l4_4(v17) == v9) goto L15;
+    v16 = v16 + 16ull;
+    v15 = v15 + 0xFFFFFFFFFFFFFFFFull;
+    if (v15 != 0xFFFFFFFFFFFFFFFFull) goto L16;
+    goto L14;
+L15:;
+    if (v15 == 0) goto L17;
+    s8_8(v4 + 56, l8(v17 + 8));
+    s8_8(v4 + 48, l8(v17));
+    v8 = 0ull;
+    v10 = v15;
+    if (v15 < 129ull) goto L18;
+    v18 = 0ull;
+L19:;
+    v8 = 0ull;
+L20:;
+    v10 = v3 + v8;
+    v11 = v10 + 32ull;
+    s8(v10 + 16ull, l8(v11));
+    v12 = v10 + 24ull;
+    s8(v10 + 8ull, l8(v12));
+    s8(v12, l8(v10 + 40ull));
+    s8(v11, l8(v10 + 48ull));
+    v8 = v8 + 32ull;
+    if (v8 != 2048ull) goto L20;
+    v3 = v3 + 2048ull;
+    v10 = v15 - v18;
+    v8 = v18 + 128ull;
+    v18 = v8;
+    if ((v10 + 0xFFFFFFFFFFFFFF80ull) > 128ull) goto L19;
+    v10 = v15 - v8;
+L18:;
+    if (v8 == v15) goto L21;
+    v10 = v10 << 4;
+    if (v10 == 0) goto L21;
+    v8 = (v1 + (v8 << 4)) + v16;
+    copy(v8 + 8ull, v8 + 24ull, v10);
+L21:;
+    v10 = (((v13 << 4) - v16) + v17) + 0xFFFFFFFFFFFFFFF0ull;
+    s8(v10 + 8, l8_8(v4 + 56));
+    s8(v10, l8_8(v4 + 48));
+    v13 = l8_8(v1 + 1032ull);
+L17:;
+    v10 = v13 + 0xFFFFFFFFFFFFFFFFull;
+    s8_8(v1 + 1032ull, v10);
+    v10 = v14 + (v10 << 4);
+    s8(v10 + 8, 0ull);
+    s8(v10, 0ull);
+    v9 = l4_4(v2);
+L14:;
+    v10 = l8(v1 + 1048ull);
+    v19 = l4(v1 + 1044ull);
+    v20 = l1(v1 + 1040ull);
+    if (v20 == 1u) goto L24;
+    v21 = (u32)v10;
+    goto L23;
+L24:;
+    if (v19 != v9) goto L25;
+    v5 = 0u;
+    v20 = 0u;
+    v19 = 0u;
+    v21 = 0u;
+    v22 = 0u;
+    goto L22;
+L25:;
+    v21 = (u32)v10;
+    if (v9 != v21) goto L23;
+    v22 = 0u;
+    v20 = 1u;
+    v5 = 0u;
+    v21 = v9;
+    goto L22;
+L23:;
+    v5 = (u32)(v10 >> 40);
+    v22 = (u32)(v10 >> 32);
+L22:;
+    s1(v1 + 1055ull, v5 >> 16);
+    s2(v1 + 1053ull, v5);
+    s1(v1 + 1052ull, v22);
+    s4(v1 + 1048ull, v21);
+    s4(v1 + 1044ull, v19);
+    s4(v1 + 1040ull, v20);
+    s8(v0 + 48ull, l8_8(v4 + 40));
+    s8(v0 + 40ull, l8_8(v4 + 32));
+    s8(v0 + 32ull, l8_8(v4 + 24));
+    s8(v0 + 24ull, l8_8(v4 + 16));
+    s8(v0 + 16ull, l8_8(v4 + 8));
+    s8(v0 + 8ull, l8_8(v4));
+    s4(v0 + 4ull, v7);
+    s4(v0, v6);
+    return;
+}
+
+/* mscp_c::mscp_driver_hear_at, crates/mscp_c/src/driving.rt:121 */
+static u32 export_mscp_driver_hear_at(u64 v0, u64 v1, u64 v2, u64 v3, u64 v4)
+{
+    ROOM(frame, 160);
+    u32 v6 = 0, v7 = 0, v8 = 0, v9 = 0, v10 = 0, v11 = 0, v12 = 0, v13 = 0, v14 = 0, v16 = 0, v17 = 0, v18 = 0, v19 =
+        0, v20 = 0, v21 = 0, v25 = 0, v26 = 0, v27 = 0, v28 = 0, v29 = 0, v30 = 0, v31 = 0, v32 = 0;
+    u64 v5 = 0, v15 = 0, v22 = 0, v23 = 0, v24 = 0, v33 = 0, v34 = 0, v35 = 0, v36 = 0, t0;
+    v5 = A(frame);
+    v6 = 0xFFFFFFF6u;
+    if (l8_8(v0 + 24ull) != 0x445256524D414445ull) goto L1;
+    if (v3 > 3ull) goto L6;
+    v6 = 0xFFFFFFF0u;
+    goto L1;
+L6:;
+    t0 = v3 + 0xFFFFFFFFFFFFFFFCull;
+    v3 = v2 + ((v2 == 0) ? 4096ull : 0ull);
+    v6 = l2(v3);
+    v2 = ((u64)v6) & 65535ull;
+    if (t0 >= v2) goto L7;
+    v6 = 0xFFFFFFF0u;
+    goto L1;
+L7:;
+    if (l1(v3 + 3)) goto L11;
+    v0 = l8_8(v0);
+    v7 = l1(v3 + 2);
+    v8 = v7 & 15u;
+    switch (v7 >> 4) {
+    case 0: goto L15;
+    case 1: goto L14;
+    case 2: goto L13;
+    default: goto L10;
+    }
+L15:;
+    if ((v6 & 65535u) < 12u) goto L9;
+    v9 = l1(v3 + 12ull);
+    if (v9 < 64u) goto L9;
+    if ((i32)((u32)(i32)(i8)v9) < (i32)0u) goto L16;
+    v7 = l2(v3 + 8ull);
+    v3 = v0 + 1832ull;
+    v6 = l2_2(v3) + v8;
+    s2_2(v3, (v6 < 65535u) ? v6 : 65535u);
+    v0 = v0 + 1834ull;
+    s1(v0, l1(v0) | (u32)(v6 > 65535u));
+    v6 = v9 == 64u;
+    v8 = v6 ? 0u : v9;
+    v6 = v6 ? 8u : 9u;
+    goto L12;
+L16:;
+    s8_8(v5 + 80, 0ull);
+    s8_8(v5 + 88, 0ull);
+    s8_8(v5 + 96, 0ull);
+    s8_8(v5 + 104, 0ull);
+    s8_8(v5 + 112, 0ull);
+    s8_8(v5 + 120, 0ull);
+    s8_8(v5 + 128, 0ull);
+    reading_read_end(v5 + 80ull, v3 + 4ull, v2);
+    if (l1(v5 + 80)) goto L18;
+    s4_4(v5 + 32, l4_2(v5 + 98));
+    s2_2(v5 + 36, l2_2(v5 + 102));
+    v10 = l2_2(v5 + 104);
+    v11 = v10 >> 8;
+    v7 = l4_4(v5 + 132);
+    v12 = l4_4(v5 + 128);
+    v13 = l4_4(v5 + 124);
+    v14 = l4_4(v5 + 120);
+    v15 = l8_8(v5 + 112);
+    v16 = l4_4(v5 + 108);
+    v17 = l2_2(v5 + 106);
+    v18 = l2_2(v5 + 96);
+    v19 = l1(v5 + 95);
+    v9 = l1(v5 + 94);
+    v20 = l2_2(v5 + 92);
+    v21 = l4_4(v5 + 88);
+    goto L17;
+L18:;
+    if (l1(v5 + 81) != 1u) goto L9;
+    v10 = 0u;
+    s4_4(v5 + 32, 0u);
+    s2_2(v5 + 36, 0u);
+    v18 = l2(v3 + 14ull);
+    v20 = l2(v3 + 8ull);
+    v21 = l4(v3 + 4ull);
+    v15 = 0ull;
+    v11 = 0u;
+    v17 = 0u;
+    v16 = 0u;
+    v14 = 0u;
+    v13 = 0u;
+    v12 = 0u;
+    v7 = 0u;
+    v19 = 0u;
+L17:;
+    s2_2(v5 + 4, l2_2(v5 + 36));
+    s4_4(v5, l4_4(v5 + 32));
+    v2 = l8_8(v0 + 1824ull) + 1ull;
+    v22 = v0 + 1056ull;
+    v3 = v22;
+L19:;
+    v2 = v2 + 0xFFFFFFFFFFFFFFFFull;
+    if (v2 == 0) goto L8;
+    v6 = l4_4(v3);
+    v23 = v3 + 12ull;
+    v3 = v23;
+    if (v6 != v21) goto L19;
+    v24 = v23 + 0xFFFFFFFFFFFFFFFCull;
+    v23 = v23 + 0xFFFFFFFFFFFFFFFAull;
+    v3 = 0ull;
+    v6 = 0u;
+    v25 = 0u;
+    v26 = 0u;
+    v27 = 0u;
+    v2 = 0ull;
+    v28 = v18 & 31u;
+    if (v28) goto L20;
+    v26 = (v10 & 255u) == 2u;
+    v25 = (v9 & 255u) == 130u;
+    v27 = v16;
+    v2 = v15;
+L20:;
+    v29 = l4(v24);
+    v30 = l1(v23);
+    s8_4(v5 + 12, v2);
+    s4_4(v5 + 8, v27);
+    v31 = l1(v0 + 1040ull);
+    if (v31 != 1u) goto L21;
+    v6 = ((u32)(l4_4(v0 + 1044ull) == v21) & v25) & v26;
+    v3 = v6 ? l8_8(v5 + 8) : 0ull;
+L21:;
+    s4_4(v5 + 20, v6);
+    s8_4(v5 + 24, v3);
+    v27 = v9 & 255u;
+    if (v27 == 128u) goto L22;
+    if (((v30 & 255u) + 128u) != v27) goto L8;
+L22:;
+    if (v6 == 0) goto L23;
+    if (v31 == 0) goto L8;
+    if (l4_4(v0 + 1048ull) != ((u32)v3)) goto L8;
+L23:;
+    v3 = 0ull;
+    s8_8(v5 + 80, 0ull);
+    s8_8(v5 + 88, 0ull);
+    s8_8(v5 + 96, 0ull);
+    s8_8(v5 + 104, 0ull);
+    s8_8(v5 + 112, 0ull);
+    s8_8(v5 + 120, 0ull);
+    s8_8(v5 + 128, 0ull);
+    v6 = 0u;
+    v32 = 0u;
+    if (v31 != 1u) goto L24;
+    v32 = l4(v0 + 1044ull) == v21;
+L24:;
+    s2_2(v5 + 140, 0u);
+    s4_4(v5 + 136, 0u);
+    if (v28 == 0) goto L26;
+    v27 = 128u;
+    v19 = 0u;
+    v11 = 0u;
+    v17 = 0u;
+    v14 = 0u;
+    v13 = 0u;
+    v12 = 0u;
+    v7 = 0u;
+    goto L25;
+L26:;
+    s2_2(v5 + 140, l2_2(v5 + 4));
+    s4_4(v5 + 136, l4_4(v5));
+    v11 = (v11 << 8) | (v10 & 255u);
+    v6 = v17;
+    v27 = v9;
+    v17 = v16;
+    v3 = v15;
+L25:;
+    s2_2(v5 + 40, v18);
+    s1(v5 + 39, v19);
+    s1(v5 + 38, v27);
+    s2_2(v5 + 36, v20);
+    s4_4(v5 + 32, v21);
+    s4_2(v5 + 42, l4_4(v5 + 136));
+    s2_2(v5 + 46, l2_2(v5 + 140));
+    s4_4(v5 + 76, v7);
+    s4_4(v5 + 72, v12);
+    s4_4(v5 + 68, v13);
+    s4_4(v5 + 64, v14);
+    s8_8(v5 + 56, v3);
+    s4_4(v5 + 52, v17);
+    s2_2(v5 + 50, v6);
+    s2_2(v5 + 48, v11);
+    Host_hear(v5 + 80ull, v0, v5 + 32ull, v5 + 20ull);
+    v25 = l4_4(v5 + 84);
+    v31 = l1(v5 + 80);
+    v3 = l8_8(v0 + 1824ull);
+    if (v3 == 0) goto L27;
+    v33 = v3 + 0xFFFFFFFFFFFFFFFFull;
+    v34 = (v3 * 12ull) + 0xFFFFFFFFFFFFFFF4ull;
+    v35 = v22;
+L29:;
+    if (l4_4(v35) == v21) goto L28;
+    v34 = v34 + 0xFFFFFFFFFFFFFFF4ull;
+    v35 = v35 + 12ull;
+    v33 = v33 + 0xFFFFFFFFFFFFFFFFull;
+    if (v33 != 0xFFFFFFFFFFFFFFFFull) goto L29;
+    goto L27;
+L28:;
+    if (v33 == 0) goto L30;
+    s4_4(v5 + 152, l4(v35 + 8));
+    s8_8(v5 + 144, l8(v35));
+    v2 = 0ull;
+    v3 = v33;
+    if (v33 < 171ull) goto L31;
+    v24 = v35 + 0xFFFFFFFFFFFFFBE0ull;
+    v36 = 0ull;
+L32:;
+    v2 = 0ull;
+L33:;
+    v3 = v24 + v2;
+    v23 = v3 + 1076ull;
+    s4(v3 + 1064ull, l4(v23));
+    v15 = v3 + 1068ull;
+    s8(v3 + 1056ull, l8(v15));
+    s8(v15, l8(v3 + 1080ull));
+    s4(v23, l4(v3 + 1088ull));
+    v2 = v2 + 24ull;
+    if (v2 != 2040ull) goto L33;
+    v24 = v24 + 2040ull;
+    v3 = v33 - v36;
+    v2 = v36 + 170ull;
+    v36 = v2;
+    if ((v3 + 0xFFFFFFFFFFFFFF56ull) > 170ull) goto L32;
+    v3 = v33 - v2;
+L31:;
+    if (v2 == v33) goto L34;
+    v3 = v3 * 12ull;
+    if (v3 == 0) goto L34;
+    v2 = v35 + (v2 * 12ull);
+    copy(v2, v2 + 12ull, v3);
+L34:;
+    v3 = v35 + v34;
+    s4(v3 + 8, l4_4(v5 + 152));
+    s8(v3, l8_8(v5 + 144));
+    v3 = l8_8(v0 + 1824ull);
+L30:;
+    v3 = v3 + 0xFFFFFFFFFFFFFFFFull;
+    s8_8(v0 + 1824ull, v3);
+    v3 = v22 + (v3 * 12ull);
+    s4(v3 + 8, 0u);
+    s8(v3, 0ull);
+L27:;
+    v6 = 3u;
+    v7 = 0u;
+    v14 = 0u;
+    v19 = 0u;
+    v27 = 0u;
+    v11 = 0u;
+    v12 = 0u;
+    v26 = 0u;
+    v13 = 0u;
+    v17 = 0u;
+    switch (v31) {
+    case 1: goto L3;
+    case 2: goto L39;
+    case 3: goto L38;
+    case 4: goto L37;
+    case 5: goto L36;
+    default: goto L40;
+    }
+L40:;
+    v25 = 0u;
+    if (v32 == 0) goto L41;
+    v6 = 7u;
+    v14 = v21;
+    v19 = v20;
+    v27 = v9;
+    v11 = v18;
+    v12 = v10;
+    v26 = v16;
+    goto L4;
+L41:;
+    v6 = (u32)((v10 & 255u) == 6u) & (u32)(v29 < v16);
+    v12 = v6 ? 6u : v10;
+    v14 = v21;
+    v19 = v20;
+    v27 = v9;
+    v11 = v18;
+    v26 = v16;
+    v13 = v30;
+    v17 = v29;
+    goto L3;
+L39:;
+    v6 = 2u;
+    v14 = 0u;
+    v19 = 0u;
+    v27 = 0u;
+    v11 = 0u;
+    v12 = 0u;
+    v26 = 0u;
+    goto L4;
+L38:;
+    v6 = 4u;
+    goto L35;
+L37:;
+    v6 = 5u;
+    goto L35;
+L36:;
+    v6 = 6u;
+L35:;
+    v14 = 0u;
+    v19 = 0u;
+    v27 = 0u;
+    v11 = 0u;
+    v12 = 0u;
+    v26 = 0u;
+    v13 = 0u;
+    v17 = 0u;
+    v25 = 0u;
+    goto L3;
+L14:;
+    v3 = v0 + 1834ull;
+    v0 = v0 + 1832ull;
+    v6 = l2_2(v0) + v8;
+    s1(v3, l1(v3) | (u32)(v6 > 65535u));
+    s2_2(v0, (v6 < 65535u) ? v6 : 65535u);
+    v8 = 0u;
+    v6 = 10u;
+    v7 = 0u;
+    goto L12;
+L13:;
+    v3 = v0 + 1834ull;
+    v0 = v0 + 1832ull;
+    v6 = l2_2(v0) + v8;
+    s1(v3, l1(v3) | (u32)(v6 > 65535u));
+    s2_2(v0, (v6 < 65535u) ? v6 : 65535u);
+    v7 = 0u;
+    v6 = 11u;
+L12:;
+    v17 = 0u;
+    v13 = 0u;
+    v20 = 0u;
+    v11 = 0u;
+    v27 = 0u;
+    v19 = 0u;
+    v14 = 0u;
+    v25 = 0u;
+    goto L2;
+L11:;
+    v6 = 0xFFFFFFEFu;
+    goto L1;
+L10:;
+    v6 = 0xFFFFFFEEu;
+    goto L1;
+L9:;
+    v6 = 0xFFFFFFF8u;
+    goto L1;
+L8:;
+    v6 = 0xFFFFFFF7u;
+    goto L1;
+    TRAP();
+L4:;
+    v13 = 0u;
+    v17 = 0u;
+L3:;
+    v3 = v0 + 1834ull;
+    v0 = v0 + 1832ull;
+    v8 = l2_2(v0) + v8;
+    s1(v3, l1(v3) | (u32)(v8 > 65535u));
+    s2_2(v0, (v8 < 65535u) ? v8 : 65535u);
+    v20 = ((v12 & 255u) == 6u) ? v26 : 0u;
+    v8 = 0u;
+L2:;
+    switch (v6) {
+    case 2: case 3: case 4: case 5: case 6: case 7: goto L50;
+    case 8: goto L48;
+    case 9: goto L47;
+    case 10: goto L42;
+    case 11: goto L46;
+    default: goto L51;
+    }
+L51:;
+    if (((v13 + 0xFFFFFFFFu) & 255u) > 3u) goto L49;
+L50:;
+    s4_4(v1 + 8ull, 0u);
+L49:;
+    v7 = 0u;
+    v8 = 0u;
+    v21 = 0u;
+    v9 = 0u;
+    v18 = 0u;
+    v10 = 0u;
+    v16 = 0u;
+    v12 = 0u;
+    switch (v6) {
+    case 2: case 3: goto L45;
+    case 4: case 5: case 6: goto L43;
+    case 7: goto L52;
+    default: goto L44;
+    }
+L52:;
+    s1(v4 + 23, 0u);
+    s2(v4 + 21, 0u);
+    s1(v4 + 20, v27);
+    s2(v4 + 18, v11);
+    s2(v4 + 16, v19);
+    s4(v4 + 12, 0u);
+    s4(v4 + 8, v20);
+    s4(v4 + 4, v14);
+    s4(v4, 0u);
+    v6 = 12u;
+    goto L1;
+L48:;
+    s8(v4 + 8, 0ull);
+    s8(v4, 0ull);
+    s4(v4 + 20, 64u);
+    s2(v4 + 18, 0u);
+    s2(v4 + 16, v7);
+    v6 = 13u;
+    goto L1;
+L47:;
+    s8(v4 + 8, 0ull);
+    s8(v4, 0ull);
+    s1(v4 + 23, 0u);
+    s2(v4 + 21, 0u);
+    s1(v4 + 20, v8);
+    s2(v4 + 18, 0u);
+    s2(v4 + 16, v7);
+    v6 = 14u;
+    goto L1;
+L46:;
+    s8(v4 + 14, 0ull);
+    s8(v4 + 8, 0ull);
+    s8(v4, 0ull);
+    s1(v4 + 23, 0u);
+    s1(v4 + 22, v8);
+    v6 = 16u;
+    goto L1;
+L45:;
+    v8 = 0u;
+    v7 = v25;
+    v21 = 0u;
+    v9 = 0u;
+    v18 = 0u;
+    v10 = 0u;
+    v16 = 0u;
+    v12 = 0u;
+    goto L43;
+L44:;
+    v7 = 0u;
+    v8 = v14;
+    v21 = v20;
+    v9 = v17;
+    v18 = v19;
+    v10 = v11;
+    v16 = v27;
+    v12 = v13;
+L43:;
+    s2(v4 + 22, 0u);
+    s1(v4 + 21, v12);
+    s1(v4 + 20, v16);
+    s2(v4 + 18, v10);
+    s2(v4 + 16, v18);
+    s4(v4 + 12, v9);
+    s4(v4 + 8, v21);
+    s4(v4 + 4, v8);
+    s4(v4, v7);
+    v6 = l4_4(A(data + 976) + (((u64)v6) << 2));
+    goto L1;
+L42:;
+    s8(v4 + 16, 0ull);
+    s8(v4 + 8, 0ull);
+    s8(v4, 0ull);
+    v6 = 15u;
+L1:;
+    return v6;
+}
+
+static u32 w_mscp_driver_hear_at(u64 v0, u64 v1, u64 v2, u64 v3, u64 v4)
+{
+    u32 v5 = 0, t0, t1;
+    t0 = rattle_enter();
+    if (t0 == 0) goto L1;
+    rattle_trap();
+    TRAP();
+L1:;
+    t1 = export_mscp_driver_hear_at(v0, v1, v2, v3, v4);
+    v5 = t1;
+    rattle_leave();
+    return v5;
+}
+
+/* mscp_c::mscp_driver_init_at, crates/mscp_c/src/driving.rt:38 */
+static u32 export_mscp_driver_init_at(u64 v0)
+{
+    u64 v1 = 0;
+    v1 = l8_8(v0 + 24ull);
+    if (v1 != 0x445256524D414445ull) goto L3;
+    return 0xFFFFFFF5u;
+L3:;
+    if (v1 != 0x44525652524F4F4Dull) goto L1;
+    v1 = l8_8(v0 + 8ull);
+    if ((u32)(v1 == 0) == 0) goto L4;
+    return 0xFFFFFFF3u;
+L4:;
+    if ((v1 & 7ull) == 0) goto L5;
+    return 0xFFFFFFF2u;
+L5:;
+    if (l8_8(v0 + 16ull) >= 1840ull) goto L6;
+    return 0xFFFFFFF1u;
+L6:;
+    v1 = l8_8(v0);
+    s4(v1, 64u);
+    fill(v1 + 4ull, 0u, 1828ull);
+    s4(v1 + 1834, 0u);
+    s2(v1 + 1832, 1u);
+    s2(v1 + 1838, 0u);
+    s8_8(v0 + 24ull, 0x445256524D414445ull);
+    return 1u;
+    TRAP();
+L1:;
+    return 0xFFFFFFF4u;
+}
+
+static u32 w_mscp_driver_init_at(u64 v0)
+{
+    u32 v1 = 0, t0, t1;
+    t0 = rattle_enter();
+    if (t0 == 0) goto L1;
+    rattle_trap();
+    TRAP();
+L1:;
+    t1 = export_mscp_driver_init_at(v0);
+    v1 = t1;
+    rattle_leave();
+    return v1;
+}
+
+/* mscp_c::mscp_driver_outstanding_at, crates/mscp_c/src/driving.rt:162 */
+static u32 export_mscp_driver_outstanding_at(u64 v0, u64 v1, u64 v2)
+{
+    u32 v3 = 0;
+    u64 v4 = 0, v5 = 0, v6 = 0, v7 = 0, v8 = 0, v9 = 0, v10 = 0, v11 = 0, v12 = 0;
+    v3 = 0xFFFFFFF6u;
+    if (l8_8(v0 + 24ull) != 0x445256524D414445ull) goto L2;
+    v4 = (v1 == 0) ? 4096ull : 0ull;
+    v5 = v1 + v4;
+    v6 = l8_8(v0);
+    v7 = v6 + 1056ull;
+    v8 = l8_8(v6 + 1824ull);
+    v0 = (v2 < v8) ? v2 : v8;
+    v2 = v0 * 12ull;
+    if ((v5 - v7) >= v2) goto L4;
+    if (v0 == 0) goto L3;
+    v9 = v0 & 3ull;
+    v10 = 0ull;
+    if (v0 < 4ull) goto L5;
+    v11 = v0 & 0xFFFFFFFFFFFFFFFCull;
+    v7 = 0ull;
+    v10 = 0ull;
+L6:;
+    v0 = v6 + v7;
+    v12 = l8(v0 + 1056ull);
+    v2 = v5 + v7;
+    s4(v2 + 8, l4(v0 + 1064ull));
+    s8(v2, v12);
+    v12 = l8(v0 + 1068ull);
+    s4(v2 + 20ull, l4(v0 + 1076ull));
+    s8(v2 + 12ull, v12);
+    v12 = l8(v0 + 1080ull);
+    s4(v2 + 32ull, l4(v0 + 1088ull));
+    s8(v2 + 24ull, v12);
+    v12 = l8(v0 + 1092ull);
+    s4(v2 + 44ull, l4(v0 + 1100ull));
+    s8(v2 + 36ull, v12);
+    v7 = v7 + 48ull;
+    v10 = v10 + 4ull;
+    if (v11 != v10) goto L6;
+    if (v9 == 0) goto L3;
+L5:;
+    v2 = v10 * 12ull;
+    v0 = v1 + (v4 + v2);
+    v2 = (v2 + v6) + 1056ull;
+L7:;
+    v7 = l8(v2);
+    s4(v0 + 8, l4(v2 + 8));
+    s8(v0, v7);
+    v0 = v0 + 12ull;
+    v2 = v2 + 12ull;
+    v9 = v9 + 0xFFFFFFFFFFFFFFFFull;
+    if (v9 != 0ull) goto L7;
+    goto L3;
+L4:;
+    if (v2 == 0) goto L3;
+    copy(v5, v7, v2);
+L3:;
+    v3 = (u32)v8;
+L2:;
+    return v3;
+    TRAP();
+}
+
+static u32 w_mscp_driver_outstanding_at(u64 v0, u64 v1, u64 v2)
+{
+    u32 v3 = 0, t0, t1;
+    t0 = rattle_enter();
+    if (t0 == 0) goto L1;
+    rattle_trap();
+    TRAP();
+L1:;
+    t1 = export_mscp_driver_outstanding_at(v0, v1, v2);
+    v3 = t1;
+    rattle_leave();
+    return v3;
+}
+
+/* mscp_host::host::Host::send, crates/mscp_host/src/host.rt:100 */
+static void Host_send(u64 v0, u64 v1, u64 v2)
+{
+    ROOM(frame, 32);
+    u32 v6 = 0, v7 = 0, v8 = 0, v9 = 0, v13 = 0, v14 = 0, v15 = 0;
+    u64 v3 = 0, v4 = 0, v5 = 0, v10 = 0, v11 = 0, v12 = 0;
+    v3 = A(frame);
+    v4 = v1 + 8ull;
+    v5 = v2 + 4ull;
+    v6 = l2_2(v5);
+    v7 = l4_4(v2);
+    v8 = 1u;
+    v9 = 1u;
+    v10 = v2 + 8ull;
+    switch ((u32)((u64)l1(v10))) {
+    case 1: goto L13;
+    case 2: goto L12;
+    case 3: goto L11;
+    case 4: goto L10;
+    case 5: goto L9;
+    case 6: goto L8;
+    case 7: goto L7;
+    case 8: goto L6;
+    default: goto L5;
+    }
+L13:;
+    v9 = 2u;
+    goto L5;
+L12:;
+    v9 = 3u;
+    goto L5;
+L11:;
+    v9 = 4u;
+    goto L5;
+L10:;
+    v9 = 8u;
+    goto L5;
+L9:;
+    v9 = 9u;
+    goto L5;
+L8:;
+    v9 = 10u;
+    goto L5;
+L7:;
+    v9 = (u32)(146584637968ull >> ((((u64)l1(v2 + 9ull)) << 3) & 63));
+    goto L5;
+L6:;
+    v9 = l1(v2 + 9ull);
+L5:;
+    v11 = v1 + 1032ull;
+    v12 = l8_8(v11);
+    v1 = v4 + (v12 << 4);
+    s8(v1 + 7, 0ull);
+    s1(v1 + 6, v9);
+    s2(v1 + 4, v6);
+    s4(v1, v7);
+    s1(v1 + 15, 0u);
+    s8_8(v11, v12 + 1ull);
+    s2_2(v3 + 24, 0u);
+    s8_8(v3 + 16, 0ull);
+    v13 = l2_2(v5);
+    v14 = l4_4(v2);
+    v1 = 12ull;
+    v7 = 3u;
+    v9 = 0u;
+    v6 = 0u;
+    v15 = 0u;
+    switch ((u32)((u64)l1(v10))) {
+    case 1: goto L15;
+    case 2: goto L1;
+    case 3: goto L16;
+    case 4: goto L21;
+    case 5: goto L20;
+    case 6: goto L19;
+    case 7: goto L18;
+    case 8: goto L17;
+    default: goto L14;
+    }
+L21:;
+    v7 = 8u;
+    goto L3;
+L20:;
+    v7 = 9u;
+    goto L3;
+L19:;
+    v7 = 10u;
+    goto L3;
+L18:;
+    v9 = l4_4(v2 + 12ull);
+    v6 = v9 & 0xFFFF0000u;
+    v15 = l4_4(v2 + 16ull);
+    v7 = (u32)(146584637968ull >> ((((u64)l1(v2 + 9ull)) << 3) & 63));
+    v1 = 32ull;
+    goto L1;
+L17:;
+    v7 = l1(v2 + 9ull);
+    goto L3;
+L16:;
+    v9 = l2_2(v2 + 10ull);
+    v1 = 18ull;
+    v7 = 4u;
+    v6 = 0u;
+    goto L2;
+L15:;
+    v8 = 2u;
+L14:;
+    v9 = l4_4(v2 + 12ull);
+    v6 = v9 & 0xFFFF0000u;
+    v1 = 16ull;
+    v7 = v8;
+    goto L2;
+    TRAP();
+L3:;
+    v9 = 0u;
+    v6 = 0u;
+L2:;
+    v15 = 0u;
+L1:;
+    v8 = l2_2(v3 + 24);
+    s2_2(v3 + 8, v8);
+    v2 = l8_8(v3 + 16);
+    s8_8(v3, v2);
+    s2(v0 + 16, 0u);
+    s4(v0 + 12, v6 | (v9 & 65535u));
+    s1(v0 + 11, 0u);
+    s2(v0 + 9, 0u);
+    s1(v0 + 8, v7);
+    s2(v0 + 6, 0u);
+    s2(v0 + 4, v13);
+    s4(v0, v14);
+    s8(v0 + 18, v2);
+    s2(v0 + 26, v8);
+    s8(v0 + 32, 0ull);
+    s4(v0 + 28, v15);
+    s8(v0 + 40, 0ull);
+    s8(v0 + 48, v1);
+    return;
+}
+
+/* mscp_c::mscp_driver_poll, crates/mscp_c/src/driving.rt:85 */
+static u32 export_mscp_driver_poll(u64 v0, u32 v1, u64 v2)
+{
+    ROOM(frame, 208);
+    u32 v5 = 0, v9 = 0, v10 = 0, v13 = 0;
+    u64 v3 = 0, v4 = 0, v6 = 0, v7 = 0, v8 = 0, v11 = 0, v12 = 0;
+    v3 = A(frame);
+    v4 = v3;
+    if (l8_8(v0 + 24ull) == 0x445256524D414445ull) goto L4;
+    v5 = 0xFFFFFFF6u;
+    goto L1;
+L4:;
+    v6 = l8_8(v0);
+    if (l2_2(v6 + 1832ull)) goto L5;
+    if (l1(v6 + 1040ull) == 1u) goto L5;
+    v0 = v6 + 14ull;
+    v3 = l8_8(v6 + 1032ull) + 1ull;
+L6:;
+    v3 = v3 + 0xFFFFFFFFFFFFFFFFull;
+    if (v3 == 0) goto L5;
+    v5 = l1(v0);
+    v0 = v0 + 16ull;
+    if (((v5 + 0xFFFFFFFBu) & 255u) >= 252u) goto L6;
+    goto L2;
+L5:;
+    v0 = v6 + 14ull;
+    v7 = v6 + 8ull;
+    v8 = l8_8(v6 + 1032ull);
+    v3 = v8 + 1ull;
+L8:;
+    v3 = v3 + 0xFFFFFFFFFFFFFFFFull;
+    v9 = v3 == 0;
+    if (v9 == 0) goto L9;
+    v10 = 0u;
+    goto L7;
+L9:;
+    v5 = l1(v0);
+    v11 = v0 + 16ull;
+    v0 = v11;
+    if (((v5 + 0xFFFFFFFBu) & 255u) > 251u) goto L8;
+    v10 = l2(v11 + 0xFFFFFFFFFFFFFFEEull);
+L7:;
+    s4_4(v4 + 136, 0u);
+    if (l1(v6 + 1040ull) == 1u) goto L10;
+    v3 = v8 + 1ull;
+    v0 = v6 + 0xFFFFFFFFFFFFFFF8ull;
+L13:;
+    v3 = v3 + 0xFFFFFFFFFFFFFFFFull;
+    if (v3 == 0) goto L12;
+    v11 = v0 + 22ull;
+    v12 = v0 + 16ull;
+    v0 = v12;
+    if (((l1(v11) + 0xFFFFFFFBu) & 255u) > 251u) goto L13;
+    s4_4(v4 + 148, 0u);
+    s4_4(v4 + 140, 1u);
+    s4_4(v4 + 132, v1);
+    v13 = l4(v12);
+    s4_4(v4 + 144, v13);
+    s2_2(v4 + 136, l2(v12 + 4ull));
+    s8_8(v4 + 200, 0ull);
+    s8_8(v4 + 192, 0ull);
+    s8_8(v4 + 184, 0ull);
+    s8_8(v4 + 176, 0ull);
+    s8_8(v4 + 168, 0ull);
+    s8_8(v4 + 160, 0ull);
+    s8_8(v4 + 152, 0ull);
+    if (l4_4(v6) == ((u32)v8)) goto L2;
+    v0 = v8 + 1ull;
+L14:;
+    v0 = v0 + 0xFFFFFFFFFFFFFFFFull;
+    if (v0 == 0) goto L11;
+    v5 = l4_4(v7);
+    v7 = v7 + 16ull;
+    if (v5 != v1) goto L14;
+    v5 = 0xFFFFFFFBu;
+    goto L1;
+L12:;
+    v5 = 0u;
+    goto L1;
+L11:;
+    Host_send(v4 + 152ull, v6, v4 + 132ull);
+    s8_2(v4 + 118, l8_8(v4 + 200));
+    s8_2(v4 + 110, l8_8(v4 + 192));
+    s8_2(v4 + 102, l8_8(v4 + 184));
+    s8_2(v4 + 94, l8_8(v4 + 176));
+    s8_2(v4 + 86, l8_8(v4 + 168));
+    s8_2(v4 + 78, l8_8(v4 + 160));
+    s8_2(v4 + 70, l8_8(v4 + 152));
+    s2(v6 + 1053ull, 0u);
+    s1(v6 + 1052ull, 1u);
+    s4(v6 + 1048ull, v13);
+    s4(v6 + 1044ull, v1);
+    s4(v6 + 1040ull, 1u);
+    s1(v6 + 1055ull, 0u);
+    s8_8(v4 + 56, l8_2(v4 + 118));
+    s8_8(v4 + 48, l8_2(v4 + 110));
+    s8_8(v4 + 40, l8_2(v4 + 102));
+    s8_8(v4 + 32, l8_2(v4 + 94));
+    s8_8(v4 + 24, l8_2(v4 + 86));
+    s8_8(v4 + 16, l8_2(v4 + 78));
+    s8_8(v4 + 8, l8_2(v4 + 70));
+    if (v9) goto L15;
+    v3 = v6 + 1824ull;
+    v11 = l8_8(v3);
+    v0 = v6 + (v11 * 12ull);
+    s4(v0 + 1064ull, 0u);
+    s2(v0 + 1062ull, 2u);
+    s2(v0 + 1060ull, v10);
+    s4(v0 + 1056ull, v1);
+    s8_8(v3, v11 + 1ull);
+    v0 = v6 + 1832ull;
+    s2_2(v0, l2_2(v0) + 0xFFFFFFFFu);
+L15:;
+    v0 = l8_8(v4 + 56);
+    s4_4(v2, (u32)v0);
+    s8_8(v4 + 104, l8_8(v4 + 48));
+    s8_8(v4 + 96, l8_8(v4 + 40));
+    s8_8(v4 + 88, l8_8(v4 + 32));
+    s8_8(v4 + 80, l8_8(v4 + 24));
+    s8_8(v4 + 72, l8_8(v4 + 16));
+    s8_8(v4 + 64, l8_8(v4 + 8));
+    s8_8(v4 + 112, v0);
+    if (v0 == 0) goto L16;
+    copy(v2 + 4ull, v4 + 64ull, v0);
+L16:;
+    v5 = 1u;
+    goto L1;
+L10:;
+    v5 = 4u;
+    goto L1;
+    TRAP();
+L2:;
+    v5 = 0xFFFFFFFDu;
+L1:;
+    return v5;
+}
+
+static u32 w_mscp_driver_poll(u64 v0, u32 v1, u64 v2)
+{
+    u32 t0, t1;
+    t0 = rattle_enter();
+    if (t0 == 0) goto L1;
+    rattle_trap();
+    TRAP();
+L1:;
+    t1 = export_mscp_driver_poll(v0, v1, v2);
+    v1 = t1;
+    rattle_leave();
+    return v1;
+}
+
+/* mscp_c::mscp_driver_size, crates/mscp_c/src/driving.rt:22 */
+static void export_mscp_driver_size(void)
+{
+    goto L1;
+L1:;
+    return;
+}
+
+static u64 w_mscp_driver_size(void)
+{
+    u32 t0;
+    t0 = rattle_enter();
+    if (t0 == 0) goto L1;
+    rattle_trap();
+    TRAP();
+L1:;
+    export_mscp_driver_size();
+    rattle_leave();
+    return 1840ull;
+}
+
+/* mscp_packet::reading::read_command, crates/mscp_packet/src/reading.rt:63 */
+static void reading_read_command(u64 v0, u64 v1, u64 v2)
+{
+    u32 v3 = 0, v4 = 0, v6 = 0, v7 = 0, v8 = 0, v9 = 0, v10 = 0, v11 = 0, v12 = 0;
+    u64 v5 = 0;
+    if (v2 >= 12ull) goto L2;
+    s2(v0, 1u);
+    s8(v0 + 4ull, 0ull);
+    s8(v0 + 12ull, 0ull);
+    s4(v0 + 20ull, 0u);
+    return;
+L2:;
+    if (v2 < 65ull) goto L3;
+    s2(v0, 257u);
+    s8(v0 + 4ull, 0ull);
+    s8(v0 + 12ull, 0ull);
+    s4(v0 + 20ull, 0u);
+    return;
+L3:;
+    v3 = l2(v1 + 4ull);
+    v4 = l4(v1);
+    v5 = 16ull;
+    v6 = 0u;
+    v7 = 2049u;
+    v8 = 8u;
+    v9 = 0u;
+    v10 = 0u;
+    v11 = 0u;
+    v12 = l1(v1 + 8);
+    switch (v12 + 0xFFFFFFFFu) {
+    case 0: goto L9;
+    case 1: goto L18;
+    case 2: goto L8;
+    case 3: goto L17;
+    case 7: goto L16;
+    case 8: goto L15;
+    case 9: goto L14;
+    case 15: goto L19;
+    case 17: goto L13;
+    case 31: goto L12;
+    case 32: goto L11;
+    case 33: goto L10;
+    default: goto L4;
+    }
+L19:;
+    v5 = 32ull;
+    v10 = 7u;
+    v9 = 0u;
+    goto L9;
+L18:;
+    v10 = 1u;
+    v9 = 0u;
+    goto L9;
+L17:;
+    v5 = 14ull;
+    v10 = 3u;
+    v9 = 0u;
+    goto L9;
+L16:;
+    v12 = 0u;
+    v8 = 4u;
+    goto L7;
+L15:;
+    v12 = 0u;
+    v8 = 5u;
+    goto L7;
+L14:;
+    v12 = 0u;
+    v8 = 6u;
+    goto L7;
+L13:;
+    v5 = 32ull;
+    v10 = 7u;
+    v9 = 1u;
+    goto L9;
+L12:;
+    v5 = 32ull;
+    v10 = 7u;
+    v9 = 2u;
+    goto L9;
+L11:;
+    v5 = 32ull;
+    v10 = 7u;
+    v9 = 3u;
+    goto L9;
+L10:;
+    v5 = 32ull;
+    v10 = 7u;
+    v9 = 4u;
+L9:;
+    if (v2 >= v5) goto L20;
+    v7 = 1u;
+    goto L5;
+L20:;
+    switch (v10) {
+    case 1: goto L23;
+    case 2: case 4: case 5: case 6: goto L1;
+    case 3: goto L22;
+    case 7: goto L21;
+    default: goto L24;
+    }
+L24:;
+    v6 = l4(v1 + 12ull);
+    v8 = 0u;
+    v12 = 0u;
+    v7 = 0u;
+    goto L5;
+L23:;
+    v6 = l4(v1 + 12ull);
+    v12 = 0u;
+    v8 = 1u;
+    v7 = 0u;
+    goto L5;
+L22:;
+    v7 = l2(v1 + 12ull);
+    v12 = 0u;
+    v8 = 3u;
+    goto L6;
+L21:;
+    v11 = l4(v1 + 28ull);
+    v6 = l4(v1 + 12ull);
+    v7 = 0u;
+    v8 = 7u;
+    v12 = v9;
+    goto L4;
+L8:;
+    v12 = 0u;
+    v8 = 2u;
+L7:;
+    v7 = 0u;
+L6:;
+    v6 = 0u;
+L5:;
+    v11 = 0u;
+L4:;
+    s2(v0, 0u);
+    s4(v0 + 20ull, v11);
+    s4(v0 + 16ull, v6);
+    s2(v0 + 14ull, v7);
+    s1(v0 + 13ull, v12);
+    s1(v0 + 12ull, v8);
+    s2(v0 + 10ull, 0u);
+    s2(v0 + 8ull, v3);
+    s4(v0 + 4ull, v4);
+    return;
+L1:;
+    TRAP();
+}
+
+/* mscp_c::mscp_driver_submit_at, crates/mscp_c/src/driving.rt:63 */
+static u32 export_mscp_driver_submit_at(u64 v0, u64 v1, u64 v2)
+{
+    ROOM(frame, 112);
+    u32 v4 = 0, v6 = 0, v7 = 0, v8 = 0, v9 = 0;
+    u64 v3 = 0, v5 = 0;
+    v3 = A(frame);
+    v4 = 0xFFFFFFF6u;
+    if (l8_8(v0 + 24ull) != 0x445256524D414445ull) goto L1;
+    s8_8(v3 + 72, 0ull);
+    s8_8(v3 + 64, 0ull);
+    s8_8(v3 + 56, 0ull);
+    reading_read_command(v3 + 56ull, v1 + ((v1 == 0) ? 4096ull : 0ull), v2);
+    s8_2(v3 + 12, l8_4(v3 + 60));
+    s8_2(v3 + 20, l8_4(v3 + 68));
+    s4_2(v3 + 28, l4_4(v3 + 76));
+    if (l1(v3 + 56)) goto L2;
+    v1 = v3 + 12ull;
+    s4_4(v3 + 48, l4_2(v1 + 16));
+    v5 = l8_2(v1 + 8);
+    s8_8(v3 + 40, v5);
+    s8_8(v3 + 32, l8_2(v1));
+    v2 = l8_8(v0);
+    v4 = l2_2(v2 + 1832ull);
+    v6 = 1u;
+    switch ((u32)(v5 & 255ull)) {
+    case 4: case 5: case 6: case 7: goto L6;
+    case 8: goto L5;
+    default: goto L4;
+    }
+L6:;
+    v6 = 0u;
+    goto L4;
+L5:;
+    v6 = ((l1(v3 + 41) + 0xFFFFFFFFu) & 255u) < 4u;
+L4:;
+    switch (v4) {
+    case 0: goto L8;
+    case 1: goto L10;
+    default: goto L9;
+    }
+L10:;
+    if (v6 == 0) goto L7;
+L9:;
+    v4 = 1u;
+    v7 = ((u32)v5) & 255u;
+    switch (v7) {
+    case 4: case 5: case 6: case 7: goto L13;
+    case 8: goto L12;
+    default: goto L11;
+    }
+L13:;
+    v4 = 0u;
+    goto L11;
+L12:;
+    v4 = ((l1(v3 + 41) + 0xFFFFFFFFu) & 255u) < 4u;
+L11:;
+    v6 = l4_4(v3 + 32);
+    v0 = l8_8(v2 + 1032ull);
+    switch (l4_4(v2) - ((u32)v0)) {
+    case 0: goto L8;
+    case 1: goto L15;
+    default: goto L14;
+    }
+L15:;
+    if (v4 == 0) goto L7;
+L14:;
+    v1 = v0 + 1ull;
+    v0 = v2 + 8ull;
+L17:;
+    v1 = v1 + 0xFFFFFFFFFFFFFFFFull;
+    if (v1 == 0) goto L16;
+    v4 = l4_4(v0);
+    v0 = v0 + 16ull;
+    if (v4 != v6) goto L17;
+    v4 = 0xFFFFFFFBu;
+    goto L1;
+L16:;
+    Host_send(v3 + 56ull, v2, v3 + 32ull);
+    v0 = v2 + 1056ull;
+    v4 = 1u;
+    v8 = l2_2(v3 + 36);
+    v9 = 1u;
+    switch (v7) {
+    case 1: goto L26;
+    case 2: goto L25;
+    case 3: goto L24;
+    case 4: goto L23;
+    case 5: goto L22;
+    case 6: goto L21;
+    case 7: goto L20;
+    case 8: goto L19;
+    default: goto L18;
+    }
+L26:;
+    v7 = 0u;
+    v9 = 2u;
+    goto L18;
+L25:;
+    v7 = 0u;
+    v9 = 3u;
+    goto L18;
+L24:;
+    v7 = 0u;
+    v9 = 4u;
+    goto L18;
+L23:;
+    v7 = 0u;
+    v9 = 8u;
+    goto L18;
+L22:;
+    v7 = 0u;
+    v9 = 9u;
+    goto L18;
+L21:;
+    v7 = 0u;
+    v9 = 10u;
+    goto L18;
+L20:;
+    v9 = (u32)(146584637968ull >> ((((u64)l1(v3 + 41)) << 3) & 63));
+    v7 = l4_4(v3 + 44);
+    goto L18;
+L19:;
+    v7 = 0u;
+    v9 = l1(v3 + 41);
+L18:;
+    v1 = v2 + 1824ull;
+    v5 = l8_8(v1);
+    v0 = v0 + (v5 * 12ull);
+    s4(v0 + 8, v7);
+    s1(v0 + 7, 0u);
+    s1(v0 + 6, v9);
+    s2(v0 + 4, v8);
+    s4(v0, v6);
+    s8_8(v1, v5 + 1ull);
+    v0 = v2 + 1832ull;
+    s2_2(v0, l2_2(v0) + 0xFFFFFFFFu);
+    goto L1;
+L8:;
+    v4 = 0xFFFFFFFDu;
+    goto L1;
+L7:;
+    v4 = 0xFFFFFFFCu;
+    goto L1;
+    TRAP();
+L2:;
+    v4 = (l1(v3 + 57) & 255u) ? 0xFFFFFFFEu : 0xFFFFFFFFu;
+L1:;
+    return v4;
+}
+
+static u32 w_mscp_driver_submit_at(u64 v0, u64 v1, u64 v2)
+{
+    u32 v3 = 0, t0, t1;
+    t0 = rattle_enter();
+    if (t0 == 0) goto L1;
+    rattle_trap();
+    TRAP();
+L1:;
+    t1 = export_mscp_driver_submit_at(v0, v1, v2);
+    v3 = t1;
+    rattle_leave();
+    return v3;
+}
+
+/* mscp_c::mscp_driver_tick, crates/mscp_c/src/driving.rt:147 */
+static u32 export_mscp_driver_tick(u64 v0, u64 v1)
+{
+    u32 v2 = 0, v5 = 0, v6 = 0, v7 = 0, v8 = 0;
+    u64 v3 = 0, v4 = 0;
+    v2 = 0xFFFFFFF6u;
+    if (l8_8(v0 + 24ull) != 0x445256524D414445ull) goto L1;
+    v3 = l8_8(v0);
+    v0 = v3 + 14ull;
+    v4 = l8_8(v3 + 1032ull) + 1ull;
+    v5 = l4_4(v1);
+L5:;
+    v4 = v4 + 0xFFFFFFFFFFFFFFFFull;
+    v2 = v4 == 0;
+    if (v2) goto L4;
+    v6 = l1(v0);
+    v0 = v0 + 16ull;
+    if (((v6 + 0xFFFFFFFBu) & 255u) > 251u) goto L5;
+L4:;
+    v0 = v3 + 1062ull;
+    v4 = l8_8(v3 + 1824ull) + 1ull;
+    v7 = l4_4(v1 + 4ull);
+L7:;
+    v4 = v4 + 0xFFFFFFFFFFFFFFFFull;
+    v8 = v4 == 0;
+    if (v8) goto L6;
+    v6 = l1(v0);
+    v0 = v0 + 12ull;
+    if (((v6 + 0xFFFFFFFFu) & 255u) > 3u) goto L7;
+L6:;
+    v6 = v7 + 1u;
+    v7 = v2 ? 0u : (v6 ? v6 : 0xFFFFFFFFu);
+    s4_4(v1 + 4ull, v7);
+    v0 = v1 + 8ull;
+    v6 = l4_4(v0) + 1u;
+    v2 = v8 ? 0u : (v6 ? v6 : 0xFFFFFFFFu);
+    s4_4(v0, v2);
+    v0 = v3 + 1062ull;
+    v4 = l8_8(v3 + 1824ull) + 1ull;
+L9:;
+    v4 = v4 + 0xFFFFFFFFFFFFFFFFull;
+    if (v4 == 0) goto L8;
+    v6 = l1(v0);
+    v0 = v0 + 12ull;
+    if (((v6 + 0xFFFFFFFFu) & 255u) > 3u) goto L9;
+    if (v5 < v2) goto L2;
+L8:;
+    v0 = v3 + 14ull;
+    v4 = l8_8(v3 + 1032ull) + 1ull;
+L10:;
+    v2 = 0u;
+    v4 = v4 + 0xFFFFFFFFFFFFFFFFull;
+    if (v4 == 0) goto L1;
+    v6 = l1(v0);
+    v0 = v0 + 16ull;
+    if (((v6 + 0xFFFFFFFBu) & 255u) > 251u) goto L10;
+    if (l1(v3 + 1040ull) == 1u) goto L1;
+    if (v5 > v7) goto L1;
+    s4_4(v1 + 4ull, 0u);
+    return 17u;
+    TRAP();
+L2:;
+    s8_4(v1 + 4ull, 0ull);
+    v2 = 18u;
+L1:;
+    return v2;
+}
+
+static u32 w_mscp_driver_tick(u64 v0, u64 v1)
+{
+    u32 v2 = 0, t0, t1;
+    t0 = rattle_enter();
+    if (t0 == 0) goto L1;
+    rattle_trap();
+    TRAP();
+L1:;
+    t1 = export_mscp_driver_tick(v0, v1);
+    v2 = t1;
+    rattle_leave();
+    return v2;
+}
+
 /* mscp_c::mscp_figure, crates/mscp_c/src/seeing.rt:56 */
 static u64 export_mscp_figure(u64 v0, u32 v1, u32 v2)
 {
@@ -1682,7 +3432,7 @@ L27:;
     v33 = 0x8A000000000000ull;
     goto L25;
 L26:;
-    v33 = l8_8(A(data + 960) + ((((u64)v28) & 255ull) << 3));
+    v33 = l8_8(A(data + 936) + ((((u64)v28) & 255ull) << 3));
 L25:;
     v2 = v2 & 255u;
     s2_2(v7 + 84, 0u);
@@ -2042,262 +3792,86 @@ L1:;
     return v1;
 }
 
-/* mscp_host::host::Host::submit, crates/mscp_host/src/host.rt:81 */
-static void Host_submit(u64 v0, u64 v1, u64 v2)
-{
-    ROOM(frame, 32);
-    u32 v4 = 0, v6 = 0, v7 = 0, v8 = 0, v9 = 0, v10 = 0, v12 = 0, v13 = 0, v14 = 0, v15 = 0;
-    u64 v3 = 0, v5 = 0, v11 = 0, v16 = 0, v17 = 0, v18 = 0;
-    v3 = A(frame);
-    v4 = 0u;
-    s2_2(v3 + 24, 0u);
-    v5 = 0ull;
-    s8_8(v3 + 16, 0ull);
-    s8_8(v3, 0ull);
-    s8_8(v3 + 8, 0ull);
-    v6 = 1u;
-    v7 = 1u;
-    v8 = l1(v2 + 8ull);
-    switch (v8) {
-    case 4: case 5: case 6: case 7: goto L9;
-    case 8: goto L8;
-    default: goto L7;
-    }
-L9:;
-    v7 = 0u;
-    goto L7;
-L8:;
-    v7 = ((l1(v2 + 9ull) + 0xFFFFFFFFu) & 255u) < 4u;
-L7:;
-    v9 = l4_4(v2);
-    v10 = 0u;
-    v11 = l8_8(v1 + 1032ull);
-    v12 = l4_4(v1) - ((u32)v11);
-    v13 = v12;
-    v14 = v12;
-    v15 = 1u;
-    switch (v12) {
-    case 0: goto L1;
-    case 1: goto L11;
-    default: goto L10;
-    }
-L11:;
-    if (v7) goto L10;
-    v15 = 2u;
-    goto L2;
-L10:;
-    v16 = v11 + 1ull;
-    v17 = v1 + 8ull;
-    v18 = v17;
-L13:;
-    v16 = v16 + 0xFFFFFFFFFFFFFFFFull;
-    if (v16 == 0) goto L12;
-    v12 = l4_4(v18);
-    v18 = v18 + 16ull;
-    if (v12 != v9) goto L13;
-    v15 = 3u;
-    goto L2;
-L12:;
-    v16 = v2 + 4ull;
-    v14 = l2_2(v16);
-    v4 = 1u;
-    v12 = 1u;
-    switch (v8) {
-    case 1: goto L22;
-    case 2: goto L21;
-    case 3: goto L20;
-    case 4: goto L19;
-    case 5: goto L18;
-    case 6: goto L17;
-    case 7: goto L16;
-    case 8: goto L15;
-    default: goto L14;
-    }
-L22:;
-    v12 = 2u;
-    goto L14;
-L21:;
-    v12 = 3u;
-    goto L14;
-L20:;
-    v12 = 4u;
-    goto L14;
-L19:;
-    v12 = 8u;
-    goto L14;
-L18:;
-    v12 = 9u;
-    goto L14;
-L17:;
-    v12 = 10u;
-    goto L14;
-L16:;
-    v12 = (u32)(146584637968ull >> ((((u64)l1(v2 + 9ull)) << 3) & 63));
-    goto L14;
-L15:;
-    v12 = l1(v2 + 9ull);
-L14:;
-    v18 = v17 + (v11 << 4);
-    s8(v18 + 7, 0ull);
-    s1(v18 + 6, v12);
-    s2(v18 + 4, v14);
-    s4(v18, v9);
-    v6 = 0u;
-    s1(v18 + 15, 0u);
-    s8_8(v1 + 1032ull, v11 + 1ull);
-    v5 = 12ull;
-    v10 = 3u;
-    v9 = 0u;
-    v13 = 0u;
-    v14 = 0u;
-    switch ((u32)((u64)l1(v2 + 8ull))) {
-    case 1: goto L24;
-    case 2: goto L3;
-    case 3: goto L25;
-    case 4: goto L30;
-    case 5: goto L29;
-    case 6: goto L28;
-    case 7: goto L27;
-    case 8: goto L26;
-    default: goto L23;
-    }
-L30:;
-    v10 = 8u;
-    goto L5;
-L29:;
-    v10 = 9u;
-    goto L5;
-L28:;
-    v10 = 10u;
-    goto L5;
-L27:;
-    v9 = l4_4(v2 + 12ull);
-    v13 = v9 & 0xFFFF0000u;
-    v14 = l4_4(v2 + 16ull);
-    v10 = (u32)(146584637968ull >> ((((u64)l1(v2 + 9ull)) << 3) & 63));
-    v5 = 32ull;
-    goto L3;
-L26:;
-    v10 = l1(v2 + 9ull);
-    goto L5;
-L25:;
-    v9 = l2_2(v2 + 10ull);
-    v5 = 18ull;
-    v10 = 4u;
-    v13 = 0u;
-    goto L4;
-L24:;
-    v4 = 2u;
-L23:;
-    v9 = l4_4(v2 + 12ull);
-    v13 = v9 & 0xFFFF0000u;
-    v5 = 16ull;
-    v10 = v4;
-    goto L4;
-    TRAP();
-L5:;
-    v9 = 0u;
-    v13 = 0u;
-L4:;
-    v14 = 0u;
-L3:;
-    v4 = l2_2(v16);
-    v12 = l4_4(v2);
-    s2_2(v3 + 24, 0u);
-    s8_8(v3 + 16, 0ull);
-    s8_8(v3, 0ull);
-    s8_8(v3 + 8, 0ull);
-    v13 = v13 | (v9 & 65535u);
-    v15 = 0u;
-    goto L1;
-L2:;
-    v12 = 0u;
-    v4 = 0u;
-    v10 = 0u;
-    v13 = 0u;
-    v14 = 0u;
-L1:;
-    s1(v0, v6);
-    s2(v0 + 24ull, 0u);
-    s4(v0 + 20ull, v13);
-    s1(v0 + 19ull, 0u);
-    s2(v0 + 17ull, 0u);
-    s1(v0 + 16ull, v10);
-    s2(v0 + 14ull, 0u);
-    s2(v0 + 12ull, v4);
-    s4(v0 + 8ull, v12);
-    s1(v0 + 1ull, v15);
-    s8(v0 + 26ull, l8_8(v3 + 16));
-    s2(v0 + 34ull, l2_2(v3 + 24));
-    s4(v0 + 36ull, v14);
-    s8(v0 + 40ull, l8_8(v3));
-    s8(v0 + 48ull, l8_8(v3 + 8));
-    s8(v0 + 56ull, v5);
-    return;
-}
-
 /* mscp_c::mscp_host_poll, crates/mscp_c/src/hosting.rt:93 */
 static u32 export_mscp_host_poll(u64 v0, u32 v1, u64 v2)
 {
     ROOM(frame, 144);
-    u32 v5 = 0, v9 = 0;
-    u64 v3 = 0, v4 = 0, v6 = 0, v7 = 0, v8 = 0;
+    u32 v5 = 0, v11 = 0;
+    u64 v3 = 0, v4 = 0, v6 = 0, v7 = 0, v8 = 0, v9 = 0, v10 = 0;
     v3 = A(frame);
     v4 = v3;
     v5 = 0xFFFFFFF6u;
     if (l8_8(v0 + 24ull) != 0x484F53544D414445ull) goto L1;
     v6 = l8_8(v0);
-    s4_4(v4 + 128, 0u);
-    s8_8(v4 + 56, 0ull);
-    s8_8(v4 + 64, 0ull);
-    s8_8(v4 + 72, 0ull);
-    s8_8(v4 + 80, 0ull);
-    s8_8(v4 + 88, 0ull);
-    s8_8(v4 + 96, 0ull);
-    s8_8(v4 + 104, 0ull);
-    s8_8(v4 + 112, 0ull);
+    s4_4(v4 + 72, 0u);
     if (l1(v6 + 1040ull) == 1u) goto L5;
     v0 = v6 + 0xFFFFFFFFFFFFFFF8ull;
-    v3 = l8_8(v6 + 1032ull) + 1ull;
+    v7 = v6 + 8ull;
+    v8 = l8_8(v6 + 1032ull);
+    v3 = v8 + 1ull;
 L6:;
     v3 = v3 + 0xFFFFFFFFFFFFFFFFull;
     if (v3 == 0) goto L2;
-    v7 = v0 + 22ull;
-    v8 = v0 + 16ull;
-    v0 = v8;
-    if (((l1(v7) + 0xFFFFFFFBu) & 255u) > 251u) goto L6;
-    s4_4(v4 + 140, 0u);
-    v5 = 1u;
-    s4_4(v4 + 132, 1u);
-    s4_4(v4 + 124, v1);
-    v9 = l4(v8);
-    s4_4(v4 + 136, v9);
-    s2_2(v4 + 128, l2(v8 + 4ull));
-    Host_submit(v4 + 56ull, v6, v4 + 124ull);
-    if (l1(v4 + 56)) goto L4;
+    v9 = v0 + 22ull;
+    v10 = v0 + 16ull;
+    v0 = v10;
+    if (((l1(v9) + 0xFFFFFFFBu) & 255u) > 251u) goto L6;
+    s4_4(v4 + 84, 0u);
+    s4_4(v4 + 76, 1u);
+    s4_4(v4 + 68, v1);
+    v11 = l4(v10);
+    s4_4(v4 + 80, v11);
+    s2_2(v4 + 72, l2(v10 + 4ull));
+    s8_8(v4 + 136, 0ull);
+    s8_8(v4 + 128, 0ull);
+    s8_8(v4 + 120, 0ull);
+    s8_8(v4 + 112, 0ull);
+    s8_8(v4 + 104, 0ull);
+    s8_8(v4 + 96, 0ull);
+    s8_8(v4 + 88, 0ull);
+    if (l4_4(v6) == ((u32)v8)) goto L4;
+    v0 = v8 + 1ull;
+L8:;
+    v0 = v0 + 0xFFFFFFFFFFFFFFFFull;
+    if (v0 == 0) goto L7;
+    v5 = l4_4(v7);
+    v7 = v7 + 16ull;
+    if (v5 != v1) goto L8;
+    v5 = 0xFFFFFFFBu;
+    goto L1;
+L7:;
+    Host_send(v4 + 88ull, v6, v4 + 68ull);
+    s8_2(v4 + 60, l8_8(v4 + 136));
+    s8_2(v4 + 52, l8_8(v4 + 128));
+    s8_2(v4 + 44, l8_8(v4 + 120));
+    s8_2(v4 + 36, l8_8(v4 + 112));
+    s8_2(v4 + 28, l8_8(v4 + 104));
+    s8_2(v4 + 20, l8_8(v4 + 96));
+    s8_2(v4 + 12, l8_8(v4 + 88));
     s2(v6 + 1053ull, 0u);
+    v5 = 1u;
     s1(v6 + 1052ull, 1u);
-    s4(v6 + 1048ull, v9);
+    s4(v6 + 1048ull, v11);
     s4(v6 + 1044ull, v1);
     s4(v6 + 1040ull, 1u);
     s1(v6 + 1055ull, 0u);
-    s8_8(v4, l8_8(v4 + 64));
-    s8_8(v4 + 8, l8_8(v4 + 72));
-    s8_8(v4 + 16, l8_8(v4 + 80));
-    s8_8(v4 + 24, l8_8(v4 + 88));
-    s8_8(v4 + 32, l8_8(v4 + 96));
-    s8_8(v4 + 40, l8_8(v4 + 104));
-    s8_8(v4 + 48, l8_8(v4 + 112));
-    v0 = l8_8(v4 + 48);
+    s8_8(v4 + 136, l8_2(v4 + 60));
+    s8_8(v4 + 128, l8_2(v4 + 52));
+    s8_8(v4 + 120, l8_2(v4 + 44));
+    s8_8(v4 + 112, l8_2(v4 + 36));
+    s8_8(v4 + 104, l8_2(v4 + 28));
+    s8_8(v4 + 96, l8_2(v4 + 20));
+    s8_8(v4 + 88, l8_2(v4 + 12));
+    v0 = l8_8(v4 + 136);
     s4_4(v2, (u32)v0);
     if (v0 == 0) goto L1;
-    copy(v2 + 4ull, v4, v0);
+    copy(v2 + 4ull, v4 + 88ull, v0);
     goto L1;
 L5:;
     v5 = 4u;
     goto L1;
 L4:;
-    v5 = l4_4(A(data + 936) + (((u64)l1(v4 + 57)) << 2));
+    v5 = 0xFFFFFFFDu;
     goto L1;
     TRAP();
 L2:;
@@ -2320,450 +3894,156 @@ L1:;
     return v1;
 }
 
-/* mscp_packet::reading::read_end, crates/mscp_packet/src/reading.rt:143 */
-static void reading_read_end(u64 v0, u64 v1, u64 v2)
-{
-    u32 v3 = 0, v4 = 0, v6 = 0, v7 = 0, v8 = 0, v9 = 0, v10 = 0, v11 = 0, v12 = 0, v13 = 0, v14 = 0, v15 = 0, v16 = 0;
-    u64 v5 = 0;
-    if ((v2 + 0xFFFFFFFFFFFFFFBFull) >= 0xFFFFFFFFFFFFFFCBull) goto L5;
-    s2(v0, 1u);
-    s8(v0 + 8ull, 0ull);
-    s8(v0 + 16ull, 0ull);
-    s8(v0 + 24ull, 0ull);
-    s8(v0 + 32ull, 0ull);
-    s8(v0 + 40ull, 0ull);
-    s8(v0 + 48ull, 0ull);
-    return;
-L5:;
-    v3 = (u32)(i32)(i8)l1(v1 + 8);
-    if ((i32)v3 > (i32)0xFFFFFFFFu) goto L3;
-    v4 = v3 & 127u;
-    v5 = 16ull;
-    switch ((u32)(((u64)v3) & 127ull)) {
-    case 0: case 8: goto L12;
-    case 1: goto L6;
-    case 2: goto L11;
-    case 3: goto L10;
-    case 4: goto L9;
-    case 9: case 10: goto L8;
-    case 16: case 18: case 32: case 33: case 34: goto L7;
-    default: goto L3;
-    }
-L12:;
-    v6 = l2(v1 + 10ull);
-    v7 = l2(v1 + 4ull);
-    v8 = l4(v1);
-    v4 = 0u;
-    v2 = 0ull;
-    v9 = 0u;
-    v10 = 0u;
-    v11 = 0u;
-    v12 = 0u;
-    v13 = 0u;
-    v14 = 0u;
-    goto L2;
-L11:;
-    v5 = 20ull;
-    goto L6;
-L10:;
-    v5 = 48ull;
-    goto L6;
-L9:;
-    v5 = 28ull;
-    goto L6;
-L8:;
-    v5 = 44ull;
-    v4 = 5u;
-    goto L6;
-L7:;
-    v5 = 32ull;
-    v4 = 6u;
-L6:;
-    if (v2 >= v5) goto L13;
-    s2(v0, 1u);
-    s8(v0 + 8ull, 0ull);
-    s8(v0 + 16ull, 0ull);
-    s8(v0 + 24ull, 0ull);
-    s8(v0 + 32ull, 0ull);
-    s8(v0 + 40ull, 0ull);
-    s8(v0 + 48ull, 0ull);
-    return;
-L13:;
-    v6 = l2(v1 + 10ull);
-    v7 = l2(v1 + 4ull);
-    v8 = l4(v1);
-    switch (v4 + 0xFFFFFFFFu) {
-    case 1: goto L18;
-    case 2: goto L17;
-    case 3: goto L16;
-    case 4: goto L15;
-    case 5: goto L14;
-    default: goto L19;
-    }
-L19:;
-    v15 = l4(v1 + 12ull);
-    v9 = 0u;
-    v2 = 0ull;
-    v4 = 1u;
-    v10 = 0u;
-    v11 = 0u;
-    v12 = 0u;
-    v13 = 0u;
-    v14 = 0u;
-    v16 = 0u;
-    goto L1;
-L18:;
-    v14 = l4(v1 + 16ull);
-    v15 = l4(v1 + 12ull);
-    v9 = 0u;
-    v2 = 0ull;
-    v4 = 2u;
-    v10 = 0u;
-    v11 = 0u;
-    v12 = 0u;
-    v13 = 0u;
-    v16 = 0u;
-    goto L1;
-L17:;
-    v5 = l8(v1 + 20ull);
-    v2 = v5 & 0xFFFFFFFF00000000ull;
-    v12 = l2(v1 + 40ull);
-    v11 = l2(v1 + 38ull);
-    v10 = l2(v1 + 36ull);
-    v9 = l4(v1 + 28ull);
-    v14 = (u32)v5;
-    v13 = 0u;
-    v4 = 3u;
-    goto L2;
-L16:;
-    v5 = l8(v1 + 20ull);
-    v2 = v5 & 0xFFFFFFFF00000000ull;
-    v16 = l2(v1 + 16ull);
-    v14 = (u32)v5;
-    v9 = 0u;
-    v4 = 4u;
-    v10 = 0u;
-    v11 = 0u;
-    v12 = 0u;
-    v13 = 0u;
-    v15 = 0u;
-    goto L1;
-L15:;
-    v12 = l4(v1 + 40ull);
-    v13 = v12 & 0xFFFF0000u;
-    v10 = l4(v1 + 36ull);
-    v11 = v10 >> 16;
-    v5 = l8(v1 + 20ull);
-    v2 = v5 & 0xFFFFFFFF00000000ull;
-    v9 = l4(v1 + 28ull);
-    v14 = (u32)v5;
-    v15 = 0u;
-    v4 = 5u;
-    v16 = 0u;
-    goto L1;
-L14:;
-    v15 = l4(v1 + 12ull);
-    v16 = 0u;
-    v2 = 0ull;
-    v4 = 6u;
-    v9 = 0u;
-    v10 = 0u;
-    v11 = 0u;
-    v12 = 0u;
-    v13 = 0u;
-    v14 = 0u;
-    goto L1;
-    TRAP();
-L3:;
-    s2(v0, 257u);
-    s8(v0 + 8ull, 0ull);
-    s8(v0 + 16ull, 0ull);
-    s8(v0 + 24ull, 0ull);
-    s8(v0 + 32ull, 0ull);
-    s8(v0 + 40ull, 0ull);
-    s8(v0 + 48ull, 0ull);
-    return;
-L2:;
-    v15 = 0u;
-    v16 = 0u;
-L1:;
-    s2(v0, 0u);
-    s4(v0 + 18ull, 0u);
-    s2(v0 + 16ull, v6);
-    s1(v0 + 15ull, 0u);
-    s1(v0 + 14ull, v3);
-    s2(v0 + 12ull, v7);
-    s4(v0 + 8ull, v8);
-    s2(v0 + 22ull, 0u);
-    s4(v0 + 52ull, 0u);
-    s4(v0 + 40ull, v9);
-    s4(v0 + 28ull, v15);
-    s2(v0 + 26ull, v16);
-    s2(v0 + 24ull, v4);
-    s4(v0 + 48ull, v13 | (v12 & 65535u));
-    s4(v0 + 44ull, (v11 << 16) | (v10 & 65535u));
-    s8(v0 + 32ull, v2 | ((u64)v14));
-    return;
-}
-
 /* mscp_c::mscp_host_receive_at, crates/mscp_c/src/hosting.rt:110 */
 static u32 export_mscp_host_receive_at(u64 v0, u64 v1, u64 v2, u64 v3)
 {
-    ROOM(frame, 64);
-    u32 v6 = 0, v8 = 0, v9 = 0, v10 = 0, v11 = 0, v12 = 0, v15 = 0, v16 = 0, v17 = 0, v19 = 0, v24 = 0, v25 = 0, v26 =
-        0;
-    u64 v4 = 0, v5 = 0, v7 = 0, v13 = 0, v14 = 0, v18 = 0, v20 = 0, v21 = 0, v22 = 0, v23 = 0;
+    ROOM(frame, 240);
+    u32 v5 = 0, v10 = 0, v11 = 0, v12 = 0, v13 = 0, v14 = 0, v15 = 0, v16 = 0;
+    u64 v4 = 0, v6 = 0, v7 = 0, v8 = 0, v9 = 0;
     v4 = A(frame);
-    v5 = v4;
-    v6 = 0xFFFFFFF6u;
+    v5 = 0xFFFFFFF6u;
     if (l8_8(v0 + 24ull) != 0x484F53544D414445ull) goto L1;
-    v7 = l8_8(v0);
-    s8_8(v5 + 56, 0ull);
-    s8_8(v5 + 48, 0ull);
-    s8_8(v5 + 40, 0ull);
-    s8_8(v5 + 32, 0ull);
-    s8_8(v5 + 24, 0ull);
-    s8_8(v5 + 16, 0ull);
-    s8_8(v5 + 8, 0ull);
-    reading_read_end(v5 + 8ull, v1 + ((v1 == 0) ? 4096ull : 0ull), v2);
-    if (l1(v5 + 8)) goto L5;
-    v2 = l8_4(v5 + 36);
-    v8 = l1(v5 + 32);
-    v9 = l2_2(v5 + 24);
-    v10 = l1(v5 + 22);
-    v11 = l2_2(v5 + 20);
-    v12 = l4_4(v5 + 16);
-    v13 = l8_8(v7 + 1032ull);
-    v4 = 0xFFFFFFFFFFFFFFFFull;
-    v14 = v7 + 8ull;
-    v0 = v14;
-L7:;
-    v6 = 0xFFFFFFF7u;
-    v4 = v4 + 1ull;
-    if (v13 == v4) goto L1;
-    v15 = l4_4(v0);
-    v1 = v0 + 16ull;
-    v0 = v1;
-    if (v15 != v12) goto L7;
-    v15 = l1(v1 + 0xFFFFFFFFFFFFFFF6ull);
-    if (l1(v7 + 1040ull) != 1u) goto L10;
-    v16 = l4_4(v7 + 1044ull);
-    v17 = v10 & 255u;
-    if (v17 == 128u) goto L11;
-    if (((v15 & 255u) + 128u) != v17) goto L1;
-L11:;
-    v15 = ((u32)(v16 != v12) | (u32)(v17 != 130u)) | (u32)((v8 & 255u) != 2u);
-    if (v15) goto L9;
-    v18 = v15 ? 0ull : v2;
-    v10 = (u32)v18;
-    if (l4_4(v7 + 1048ull) != v10) goto L1;
-    if (l1(v7 + 1052ull) == 1u) goto L8;
-    v15 = 3u;
-    v9 = 0u;
-    v11 = 0u;
-    v17 = 0u;
-    v10 = 0u;
-    v8 = 0u;
-    v19 = 0u;
-    goto L2;
-L10:;
-    v17 = v10 & 255u;
-    if (v17 == 128u) goto L9;
-    if (((v15 & 255u) + 128u) != v17) goto L1;
-L9:;
-    v15 = 0u;
-    v8 = ((v8 & 255u) == 6u) ? ((u32)v2) : 0u;
-    v17 = v12;
-    v19 = 0u;
-    goto L2;
-L8:;
-    v4 = 0xFFFFFFFFFFFFFFFFull;
-    v0 = v7;
-L12:;
-    v4 = v4 + 1ull;
-    if (v13 != v4) goto L13;
-    v19 = (u32)(v18 >> 32);
-    v15 = 0u;
-    goto L4;
-L13:;
-    v1 = v0 + 8ull;
+    v6 = l8_8(v0);
+    s8_8(v4 + 56, 0ull);
+    s8_8(v4 + 48, 0ull);
+    s8_8(v4 + 40, 0ull);
+    s8_8(v4 + 32, 0ull);
+    s8_8(v4 + 24, 0ull);
+    s8_8(v4 + 16, 0ull);
+    s8_8(v4 + 8, 0ull);
+    s8_8(v4 + 232, 0ull);
+    s8_8(v4 + 224, 0ull);
+    s8_8(v4 + 216, 0ull);
+    s8_8(v4 + 208, 0ull);
+    s8_8(v4 + 200, 0ull);
+    s8_8(v4 + 192, 0ull);
+    s8_8(v4 + 184, 0ull);
+    reading_read_end(v4 + 184ull, v1 + ((v1 == 0) ? 4096ull : 0ull), v2);
+    if (l1(v4 + 184)) goto L2;
+    v0 = l8_8(v4 + 232);
+    s8_2(v4 + 116, v0);
+    v1 = l8_8(v4 + 224);
+    s8_2(v4 + 108, v1);
+    v2 = l8_8(v4 + 216);
+    s8_2(v4 + 100, v2);
+    v7 = l8_8(v4 + 208);
+    s8_2(v4 + 92, v7);
+    v8 = l8_8(v4 + 200);
+    s8_2(v4 + 84, v8);
+    v9 = l8_8(v4 + 192);
+    s8_2(v4 + 76, v9);
+    s8_8(v4 + 136, v9);
+    s8_8(v4 + 144, v8);
+    s8_8(v4 + 152, v7);
+    s8_8(v4 + 160, v2);
+    s8_8(v4 + 168, v1);
+    s8_8(v4 + 176, v0);
+    v0 = v6 + 8ull;
+    v1 = l8_8(v6 + 1032ull) + 1ull;
+    v10 = l4_4(v4 + 136);
+L5:;
+    v1 = v1 + 0xFFFFFFFFFFFFFFFFull;
+    if (v1 == 0) goto L4;
+    v5 = l4_4(v0);
     v2 = v0 + 16ull;
     v0 = v2;
-    if (l4_4(v1) != v10) goto L12;
-    v19 = (u32)(v18 >> 32);
-    v15 = l1(v2);
-    if (v15 != 1u) goto L4;
-    if (l4(v2 + 4ull) > v19) goto L4;
-    v19 = 0u;
-    v15 = 4u;
-    goto L3;
-    TRAP();
-L5:;
-    v6 = 0xFFFFFFF8u;
+    if (v5 != v10) goto L5;
+    v11 = 1u;
+    v1 = v2 + 0xFFFFFFFFFFFFFFF6ull;
+    v12 = l1(v6 + 1040ull);
+    if (v12 == 1u) goto L7;
+    v0 = 0ull;
+    v13 = 0u;
+    v5 = l1(v4 + 142);
+    goto L6;
+L7:;
+    v0 = 0ull;
+    v13 = 0u;
+    v5 = l1(v4 + 142);
+    if (l4_4(v6 + 1044ull) != v10) goto L6;
+    if ((v5 & 255u) != 130u) goto L6;
+    if ((l1(v4 + 152) & 255u) != 2u) goto L6;
+    v13 = 1u;
+    v11 = 0u;
+    v5 = 130u;
+    v0 = l8_4(v4 + 156);
+L6:;
+    v10 = l1(v1);
+    s4_4(v4 + 124, v13);
+    s8_4(v4 + 128, v0);
+    v5 = v5 & 255u;
+    if (v5 == 128u) goto L8;
+    if ((v10 + 128u) != v5) goto L4;
+L8:;
+    if (v11) goto L9;
+    if (v12 == 0) goto L4;
+    if (l4_4(v6 + 1048ull) != ((u32)v0)) goto L4;
+L9:;
+    Host_hear(v4 + 8ull, v6, v4 + 136ull, v4 + 124ull);
+    v10 = (l1(v4 + 32) == 6u) ? l4_4(v4 + 36) : 0u;
+    v13 = l2_2(v4 + 24);
+    v11 = l1(v4 + 22);
+    v12 = l2_2(v4 + 20);
+    v14 = l4_4(v4 + 16);
+    v15 = l4_4(v4 + 12);
+    v5 = 5u;
+    v16 = l1(v4 + 8);
+    switch (v16) {
+    case 1: goto L16;
+    case 2: goto L17;
+    case 3: goto L15;
+    case 4: goto L14;
+    case 5: goto L13;
+    default: goto L10;
+    }
+L17:;
+    v14 = 0u;
+    v16 = v15;
+    v10 = 0u;
+    v12 = 0u;
+    v13 = 0u;
+    v11 = 0u;
+    v5 = 6u;
+    goto L10;
+L16:;
+    v5 = 7u;
+    v14 = 0u;
+    v16 = v15;
+    goto L11;
+L15:;
+    v5 = 8u;
+    goto L12;
+L14:;
+    v5 = 9u;
+    goto L12;
+L13:;
+    v5 = 10u;
+L12:;
+    v16 = 0u;
+    v14 = 0u;
+L11:;
+    v10 = 0u;
+    v12 = 0u;
+    v13 = 0u;
+    v11 = 0u;
+L10:;
+    s2(v3 + 17, 0u);
+    s1(v3 + 16, v11);
+    s2(v3 + 14, v13);
+    s2(v3 + 12, v12);
+    s4(v3 + 8, v10);
+    s4(v3 + 4, v14);
+    s4(v3, v16);
+    s1(v3 + 19, 0u);
     goto L1;
 L4:;
-    if (v19) goto L14;
-    v19 = 0u;
-    v15 = 5u;
-    goto L3;
-L14:;
-    v15 = (v15 == 1u) ? 1u : 2u;
-L3:;
-    v0 = v7 + 20ull;
-    v6 = (u32)(v18 >> 32);
-    v4 = v13;
-L17:;
-    if (l4_4(v0 + 0xFFFFFFFFFFFFFFF4ull) == v10) goto L16;
-    v0 = v0 + 16ull;
-    v4 = v4 + 0xFFFFFFFFFFFFFFFFull;
-    if ((u32)(v4 == 0) == 0) goto L17;
-    v9 = 0u;
-    goto L15;
-L16:;
-    s4(v0, v6);
-    s4(v0 + 0xFFFFFFFFFFFFFFFCull, 1u);
-    v9 = 0u;
-    s1(v0 + 0xFFFFFFFFFFFFFFFBull, 0u);
-    v13 = l8_8(v7 + 1032ull);
-L15:;
-    v11 = 0u;
-    v17 = 0u;
-    v10 = 0u;
-    v8 = 0u;
+    v5 = 0xFFFFFFF7u;
+    goto L1;
+    TRAP();
 L2:;
-    if (v13 == 0) goto L18;
-    v20 = v13 + 0xFFFFFFFFFFFFFFFFull;
-    v21 = 0ull;
-L20:;
-    v18 = v7 + v21;
-    v22 = v18 + 8ull;
-    if (l4_4(v22) == v12) goto L19;
-    v21 = v21 + 16ull;
-    v20 = v20 + 0xFFFFFFFFFFFFFFFFull;
-    if (v20 != 0xFFFFFFFFFFFFFFFFull) goto L20;
-    goto L18;
-L19:;
-    if (v20 == 0) goto L21;
-    s8_8(v5 + 16, l8(v22 + 8));
-    s8_8(v5 + 8, l8(v22));
-    v4 = 0ull;
-    v0 = v20;
-    if (v20 < 129ull) goto L22;
-    v23 = 0ull;
-L23:;
-    v4 = 0ull;
-L24:;
-    v0 = v18 + v4;
-    v1 = v0 + 32ull;
-    s8(v0 + 16ull, l8(v1));
-    v2 = v0 + 24ull;
-    s8(v0 + 8ull, l8(v2));
-    s8(v2, l8(v0 + 40ull));
-    s8(v1, l8(v0 + 48ull));
-    v4 = v4 + 32ull;
-    if (v4 != 2048ull) goto L24;
-    v18 = v18 + 2048ull;
-    v0 = v20 - v23;
-    v4 = v23 + 128ull;
-    v23 = v4;
-    if ((v0 + 0xFFFFFFFFFFFFFF80ull) > 128ull) goto L23;
-    v0 = v20 - v4;
-L22:;
-    if (v4 == v20) goto L25;
-    v0 = v0 << 4;
-    if (v0 == 0) goto L25;
-    v4 = (v7 + (v4 << 4)) + v21;
-    copy(v4 + 8ull, v4 + 24ull, v0);
-L25:;
-    v0 = (((v13 << 4) - v21) + v22) + 0xFFFFFFFFFFFFFFF0ull;
-    s8(v0 + 8, l8_8(v5 + 16));
-    s8(v0, l8_8(v5 + 8));
-    v13 = l8_8(v7 + 1032ull);
-L21:;
-    v0 = v13 + 0xFFFFFFFFFFFFFFFFull;
-    s8_8(v7 + 1032ull, v0);
-    v0 = v14 + (v0 << 4);
-    s8(v0 + 8, 0ull);
-    s8(v0, 0ull);
-L18:;
-    v0 = l8(v7 + 1048ull);
-    v16 = l4(v7 + 1044ull);
-    v24 = l1(v7 + 1040ull);
-    if (v24 == 1u) goto L28;
-    v25 = (u32)v0;
-    goto L27;
-L28:;
-    if (v16 != v12) goto L29;
-    v6 = 0u;
-    v24 = 0u;
-    v16 = 0u;
-    v25 = 0u;
-    v26 = 0u;
-    goto L26;
-L29:;
-    v25 = (u32)v0;
-    if (v12 != v25) goto L27;
-    v26 = 0u;
-    v24 = 1u;
-    v6 = 0u;
-    v25 = v12;
-    goto L26;
-L27:;
-    v6 = (u32)(v0 >> 40);
-    v26 = (u32)(v0 >> 32);
-L26:;
-    s1(v7 + 1055ull, v6 >> 16);
-    s2(v7 + 1053ull, v6);
-    s1(v7 + 1052ull, v26);
-    s4(v7 + 1048ull, v25);
-    s4(v7 + 1044ull, v16);
-    s4(v7 + 1040ull, v24);
-    v6 = 5u;
-    switch (v15) {
-    case 1: goto L37;
-    case 2: goto L38;
-    case 3: goto L36;
-    case 4: goto L35;
-    case 5: goto L34;
-    default: goto L30;
-    }
-L38:;
-    v6 = 6u;
-    goto L32;
-L37:;
-    v6 = 7u;
-    goto L32;
-L36:;
-    v6 = 8u;
-    goto L33;
-L35:;
-    v6 = 9u;
-    goto L33;
-L34:;
-    v6 = 10u;
-L33:;
-    v15 = 0u;
-    v17 = 0u;
-    goto L31;
-L32:;
-    v17 = 0u;
-    v15 = v19;
-L31:;
-    v8 = 0u;
-    v11 = 0u;
-    v9 = 0u;
-    v10 = 0u;
-L30:;
-    s2(v3 + 17, 0u);
-    s1(v3 + 16, v10);
-    s2(v3 + 14, v9);
-    s2(v3 + 12, v11);
-    s4(v3 + 8, v8);
-    s4(v3 + 4, v17);
-    s4(v3, v15);
-    s1(v3 + 19, 0u);
+    v5 = 0xFFFFFFF8u;
 L1:;
-    return v6;
+    return v5;
 }
 
 static u32 w_mscp_host_receive_at(u64 v0, u64 v1, u64 v2, u64 v3)
@@ -3380,196 +4660,74 @@ L1:;
     return 1056ull;
 }
 
-/* mscp_packet::reading::read_command, crates/mscp_packet/src/reading.rt:63 */
-static void reading_read_command(u64 v0, u64 v1, u64 v2)
-{
-    u32 v3 = 0, v4 = 0, v6 = 0, v7 = 0, v8 = 0, v9 = 0, v10 = 0, v11 = 0, v12 = 0;
-    u64 v5 = 0;
-    if (v2 >= 12ull) goto L2;
-    s2(v0, 1u);
-    s8(v0 + 4ull, 0ull);
-    s8(v0 + 12ull, 0ull);
-    s4(v0 + 20ull, 0u);
-    return;
-L2:;
-    if (v2 < 65ull) goto L3;
-    s2(v0, 257u);
-    s8(v0 + 4ull, 0ull);
-    s8(v0 + 12ull, 0ull);
-    s4(v0 + 20ull, 0u);
-    return;
-L3:;
-    v3 = l2(v1 + 4ull);
-    v4 = l4(v1);
-    v5 = 16ull;
-    v6 = 0u;
-    v7 = 2049u;
-    v8 = 8u;
-    v9 = 0u;
-    v10 = 0u;
-    v11 = 0u;
-    v12 = l1(v1 + 8);
-    switch (v12 + 0xFFFFFFFFu) {
-    case 0: goto L9;
-    case 1: goto L18;
-    case 2: goto L8;
-    case 3: goto L17;
-    case 7: goto L16;
-    case 8: goto L15;
-    case 9: goto L14;
-    case 15: goto L19;
-    case 17: goto L13;
-    case 31: goto L12;
-    case 32: goto L11;
-    case 33: goto L10;
-    default: goto L4;
-    }
-L19:;
-    v5 = 32ull;
-    v10 = 7u;
-    v9 = 0u;
-    goto L9;
-L18:;
-    v10 = 1u;
-    v9 = 0u;
-    goto L9;
-L17:;
-    v5 = 14ull;
-    v10 = 3u;
-    v9 = 0u;
-    goto L9;
-L16:;
-    v12 = 0u;
-    v8 = 4u;
-    goto L7;
-L15:;
-    v12 = 0u;
-    v8 = 5u;
-    goto L7;
-L14:;
-    v12 = 0u;
-    v8 = 6u;
-    goto L7;
-L13:;
-    v5 = 32ull;
-    v10 = 7u;
-    v9 = 1u;
-    goto L9;
-L12:;
-    v5 = 32ull;
-    v10 = 7u;
-    v9 = 2u;
-    goto L9;
-L11:;
-    v5 = 32ull;
-    v10 = 7u;
-    v9 = 3u;
-    goto L9;
-L10:;
-    v5 = 32ull;
-    v10 = 7u;
-    v9 = 4u;
-L9:;
-    if (v2 >= v5) goto L20;
-    v7 = 1u;
-    goto L5;
-L20:;
-    switch (v10) {
-    case 1: goto L23;
-    case 2: case 4: case 5: case 6: goto L1;
-    case 3: goto L22;
-    case 7: goto L21;
-    default: goto L24;
-    }
-L24:;
-    v6 = l4(v1 + 12ull);
-    v8 = 0u;
-    v12 = 0u;
-    v7 = 0u;
-    goto L5;
-L23:;
-    v6 = l4(v1 + 12ull);
-    v12 = 0u;
-    v8 = 1u;
-    v7 = 0u;
-    goto L5;
-L22:;
-    v7 = l2(v1 + 12ull);
-    v12 = 0u;
-    v8 = 3u;
-    goto L6;
-L21:;
-    v11 = l4(v1 + 28ull);
-    v6 = l4(v1 + 12ull);
-    v7 = 0u;
-    v8 = 7u;
-    v12 = v9;
-    goto L4;
-L8:;
-    v12 = 0u;
-    v8 = 2u;
-L7:;
-    v7 = 0u;
-L6:;
-    v6 = 0u;
-L5:;
-    v11 = 0u;
-L4:;
-    s2(v0, 0u);
-    s4(v0 + 20ull, v11);
-    s4(v0 + 16ull, v6);
-    s2(v0 + 14ull, v7);
-    s1(v0 + 13ull, v12);
-    s1(v0 + 12ull, v8);
-    s2(v0 + 10ull, 0u);
-    s2(v0 + 8ull, v3);
-    s4(v0 + 4ull, v4);
-    return;
-L1:;
-    TRAP();
-}
-
 /* mscp_c::mscp_host_submit_at, crates/mscp_c/src/hosting.rt:71 */
 static u32 export_mscp_host_submit_at(u64 v0, u64 v1, u64 v2)
 {
     ROOM(frame, 112);
-    u32 v4 = 0;
-    u64 v3 = 0;
+    u32 v4 = 0, v6 = 0;
+    u64 v3 = 0, v5 = 0;
     v3 = A(frame);
-    s8_8(v3 + 56, 0ull);
-    s8_8(v3 + 48, 0ull);
-    s8_8(v3 + 40, 0ull);
-    s8_8(v3 + 32, 0ull);
-    s8_8(v3 + 24, 0ull);
-    s8_8(v3 + 16, 0ull);
-    s8_8(v3 + 8, 0ull);
-    s8_8(v3, 0ull);
-    if (l8_8(v0 + 24ull) == 0x484F53544D414445ull) goto L4;
     v4 = 0xFFFFFFF6u;
-    goto L1;
-L4:;
-    s8_8(v3 + 104, 0ull);
-    s8_8(v3 + 96, 0ull);
-    s8_8(v3 + 88, 0ull);
-    reading_read_command(v3 + 88ull, v1 + ((v1 == 0) ? 4096ull : 0ull), v2);
-    s8_2(v3 + 68, l8_4(v3 + 92));
-    s8_2(v3 + 76, l8_4(v3 + 100));
-    s4_2(v3 + 84, l4_4(v3 + 108));
-    if (l1(v3 + 88)) goto L2;
-    v1 = v3 + 68ull;
-    s4_4(v3 + 104, l4_2(v1 + 16));
-    s8_8(v3 + 96, l8_2(v1 + 8));
-    s8_8(v3 + 88, l8_2(v1));
-    Host_submit(v3, l8_8(v0), v3 + 88ull);
-    if (l1(v3)) goto L5;
+    if (l8_8(v0 + 24ull) != 0x484F53544D414445ull) goto L1;
+    s8_8(v3 + 72, 0ull);
+    s8_8(v3 + 64, 0ull);
+    s8_8(v3 + 56, 0ull);
+    reading_read_command(v3 + 56ull, v1 + ((v1 == 0) ? 4096ull : 0ull), v2);
+    s8_2(v3 + 12, l8_4(v3 + 60));
+    s8_2(v3 + 20, l8_4(v3 + 68));
+    s4_2(v3 + 28, l4_4(v3 + 76));
+    if (l1(v3 + 56)) goto L6;
+    v1 = v3 + 12ull;
+    s4_4(v3 + 48, l4_2(v1 + 16));
+    v5 = l8_2(v1 + 8);
+    s8_8(v3 + 40, v5);
+    s8_8(v3 + 32, l8_2(v1));
+    v2 = l8_8(v0);
     v4 = 1u;
+    switch ((u32)(v5 & 255ull)) {
+    case 4: case 5: case 6: case 7: goto L9;
+    case 8: goto L8;
+    default: goto L7;
+    }
+L9:;
+    v4 = 0u;
+    goto L7;
+L8:;
+    v4 = ((l1(v3 + 41) + 0xFFFFFFFFu) & 255u) < 4u;
+L7:;
+    v6 = l4_4(v3 + 32);
+    v0 = l8_8(v2 + 1032ull);
+    switch (l4_4(v2) - ((u32)v0)) {
+    case 0: goto L5;
+    case 1: goto L11;
+    default: goto L10;
+    }
+L11:;
+    if (v4 == 0) goto L4;
+L10:;
+    v1 = v0 + 1ull;
+    v0 = v2 + 8ull;
+L12:;
+    v1 = v1 + 0xFFFFFFFFFFFFFFFFull;
+    if (v1 == 0) goto L2;
+    v4 = l4_4(v0);
+    v0 = v0 + 16ull;
+    if (v4 != v6) goto L12;
+    v4 = 0xFFFFFFFBu;
+    goto L1;
+L6:;
+    v4 = (l1(v3 + 57) & 255u) ? 0xFFFFFFFEu : 0xFFFFFFFFu;
     goto L1;
 L5:;
-    v4 = l4_4(A(data + 936) + (((u64)l1(v3 + 1)) << 2));
+    v4 = 0xFFFFFFFDu;
+    goto L1;
+L4:;
+    v4 = 0xFFFFFFFCu;
     goto L1;
     TRAP();
 L2:;
-    v4 = (l1(v3 + 89) & 255u) ? 0xFFFFFFFEu : 0xFFFFFFFFu;
+    Host_send(v3 + 56ull, v2, v3 + 32ull);
+    v4 = 1u;
 L1:;
     return v4;
 }
@@ -17243,7 +18401,7 @@ L38:;
     v44 = 0x8A000000000000ull;
     goto L36;
 L37:;
-    v44 = l8_8(A(data + 960) + ((((u64)v25) & 255ull) << 3));
+    v44 = l8_8(A(data + 936) + ((((u64)v25) & 255ull) << 3));
 L36:;
     s4_4(v4 + 48, 0u);
     s2_2(v4 + 52, 0u);
@@ -21967,7 +23125,7 @@ L34:;
     v21 = 0x8A000000000000ull;
     goto L32;
 L33:;
-    v21 = l8_8(A(data + 960) + ((((u64)v11) & 255ull) << 3));
+    v21 = l8_8(A(data + 936) + ((((u64)v11) & 255ull) << 3));
 L32:;
     s4_4(v4 + 20, 0u);
     s2_2(v4 + 24, 0u);
@@ -22654,6 +23812,23 @@ static void give_port(struct mscp_port *it, const u8 *room)
     it->mark = l8(A(room + 24));
 }
 
+#define LIES_driver (LITTLE && sizeof(struct mscp_driver) == 32 && sizeof(void *) == 8)
+static u64 take_driver(const struct mscp_driver *it, u8 *room)
+{
+    s8(A(room + 0), A(it->at));
+    s8(A(room + 8), it->address);
+    s8(A(room + 16), it->length);
+    s8(A(room + 24), it->mark);
+    return A(room);
+}
+static void give_driver(struct mscp_driver *it, const u8 *room)
+{
+    it->at = P(l8(A(room + 0)));
+    it->address = l8(A(room + 8));
+    it->length = l8(A(room + 16));
+    it->mark = l8(A(room + 24));
+}
+
 #define LIES_sent (LITTLE && sizeof(struct mscp_sent) == 12)
 static u64 take_sent(const struct mscp_sent *it, u8 *room)
 {
@@ -22774,6 +23949,57 @@ static void give_news(struct mscp_news *it, const u8 *room)
     it->code = (uint8_t)l1(A(room + 16));
 }
 
+#define LIES_heard (LITTLE && sizeof(struct mscp_heard) == 24)
+static u64 take_heard(const struct mscp_heard *it, u8 *room)
+{
+    s4(A(room + 0), it->figure);
+    s4(A(room + 4), it->reference);
+    s4(A(room + 8), it->moved);
+    s4(A(room + 12), it->asked);
+    s2(A(room + 16), it->unit);
+    s2(A(room + 18), it->status);
+    s1(A(room + 20), it->code);
+    s1(A(room + 21), it->opcode);
+    s1(A(room + 22), it->credits);
+    return A(room);
+}
+static void give_heard(struct mscp_heard *it, const u8 *room)
+{
+    it->figure = l4(A(room + 0));
+    it->reference = l4(A(room + 4));
+    it->moved = l4(A(room + 8));
+    it->asked = l4(A(room + 12));
+    it->unit = (uint16_t)l2(A(room + 16));
+    it->status = (uint16_t)l2(A(room + 18));
+    it->code = (uint8_t)l1(A(room + 20));
+    it->opcode = (uint8_t)l1(A(room + 21));
+    it->credits = (uint8_t)l1(A(room + 22));
+}
+
+#define LIES_asked (LITTLE && sizeof(struct mscp_asked) == 12)
+static void give_asked(struct mscp_asked *it, const u8 *room)
+{
+    it->reference = l4(A(room + 0));
+    it->unit = (uint16_t)l2(A(room + 4));
+    it->opcode = (uint8_t)l1(A(room + 6));
+    it->bytes = l4(A(room + 8));
+}
+
+#define LIES_watch (LITTLE && sizeof(struct mscp_watch) == 12)
+static u64 take_watch(const struct mscp_watch *it, u8 *room)
+{
+    s4(A(room + 0), it->timeout);
+    s4(A(room + 4), it->waited);
+    s4(A(room + 8), it->silent);
+    return A(room);
+}
+static void give_watch(struct mscp_watch *it, const u8 *room)
+{
+    it->timeout = l4(A(room + 0));
+    it->waited = l4(A(room + 4));
+    it->silent = l4(A(room + 8));
+}
+
 #define LIES_action (LITTLE && sizeof(struct mscp_action) == 84)
 static u64 take_action(const struct mscp_action *it, u8 *room)
 {
@@ -22858,6 +24084,96 @@ int32_t mscp_begin(struct mscp *mscp, struct mscp_upcoming *upcoming)
         give_controller(mscp, mscp_room);
     if (!LIES_upcoming)
         give_upcoming(upcoming, upcoming_room);
+    return answer;
+}
+
+size_t mscp_driver_align(void)
+{
+    return (size_t)w_mscp_driver_align();
+}
+
+int64_t mscp_driver_credits(const struct mscp_driver *driver)
+{
+    ROOM(driver_room, LIES_driver ? 1 : 32);
+    return (int64_t)w_mscp_driver_credits(LIES_driver ? A(driver) : take_driver(driver, driver_room));
+}
+
+int32_t mscp_driver_hear_at(struct mscp_driver *driver, struct mscp_watch *watch, const uint8_t *bytes, size_t length,
+        struct mscp_heard *heard)
+{
+    ROOM(driver_room, LIES_driver ? 1 : 32);
+    ROOM(watch_room, LIES_watch ? 1 : 12);
+    ROOM(heard_room, LIES_heard ? 1 : 24);
+    const int32_t answer = (int32_t)w_mscp_driver_hear_at(LIES_driver ? A(driver) : take_driver(driver, driver_room),
+        LIES_watch ? A(watch) : take_watch(watch, watch_room), A(bytes), length, LIES_heard ? A(heard) :
+        take_heard(heard, heard_room));
+    if (!LIES_driver)
+        give_driver(driver, driver_room);
+    if (!LIES_watch)
+        give_watch(watch, watch_room);
+    if (!LIES_heard)
+        give_heard(heard, heard_room);
+    return answer;
+}
+
+int32_t mscp_driver_init_at(struct mscp_driver *driver)
+{
+    ROOM(driver_room, LIES_driver ? 1 : 32);
+    const int32_t answer = (int32_t)w_mscp_driver_init_at(LIES_driver ? A(driver) : take_driver(driver, driver_room));
+    if (!LIES_driver)
+        give_driver(driver, driver_room);
+    return answer;
+}
+
+int32_t mscp_driver_outstanding_at(const struct mscp_driver *driver, struct mscp_asked *list, size_t room)
+{
+    ROOM(driver_room, LIES_driver ? 1 : 32);
+    ROOM(list_room, sizeof *list == 12 ? 1 : 12 * MSCP_CREDITS_MAX);
+    u8 *const list_there = sizeof *list == 12 ? (u8 *)list : list_room;
+    const size_t list_most = sizeof *list == 12 || room < MSCP_CREDITS_MAX ? room : MSCP_CREDITS_MAX;
+    const int32_t answer = (int32_t)w_mscp_driver_outstanding_at(LIES_driver ? A(driver) : take_driver(driver,
+        driver_room), A(list_there), list_most);
+    for (size_t k = 0; !LIES_asked && k < list_most && (i64)k < answer; k++)
+        give_asked(list + k, list_there + 12 * k);
+    return answer;
+}
+
+int32_t mscp_driver_poll(struct mscp_driver *driver, uint32_t reference, struct mscp_packet *message)
+{
+    ROOM(driver_room, LIES_driver ? 1 : 32);
+    ROOM(message_room, LIES_packet ? 1 : 52);
+    const int32_t answer = (int32_t)w_mscp_driver_poll(LIES_driver ? A(driver) : take_driver(driver, driver_room),
+        reference, LIES_packet ? A(message) : take_packet(message, message_room));
+    if (!LIES_driver)
+        give_driver(driver, driver_room);
+    if (!LIES_packet)
+        give_packet(message, message_room);
+    return answer;
+}
+
+size_t mscp_driver_size(void)
+{
+    return (size_t)w_mscp_driver_size();
+}
+
+int32_t mscp_driver_submit_at(struct mscp_driver *driver, const uint8_t *message, size_t length)
+{
+    ROOM(driver_room, LIES_driver ? 1 : 32);
+    const int32_t answer = (int32_t)w_mscp_driver_submit_at(LIES_driver ? A(driver) : take_driver(driver, driver_room),
+        A(message), length);
+    if (!LIES_driver)
+        give_driver(driver, driver_room);
+    return answer;
+}
+
+int32_t mscp_driver_tick(const struct mscp_driver *driver, struct mscp_watch *watch)
+{
+    ROOM(driver_room, LIES_driver ? 1 : 32);
+    ROOM(watch_room, LIES_watch ? 1 : 12);
+    const int32_t answer = (int32_t)w_mscp_driver_tick(LIES_driver ? A(driver) : take_driver(driver, driver_room),
+        LIES_watch ? A(watch) : take_watch(watch, watch_room));
+    if (!LIES_watch)
+        give_watch(watch, watch_room);
     return answer;
 }
 

@@ -52,7 +52,7 @@ is_gone() {
 mirror() {
     local memory=crates/mscp_memory/src
     awk -f tests/c/mirror.awk VERSION crates/mscp_c/src/*.rt crates/mscp_packet/src/class.rt crates/mscp_port/src/stage.rt \
-        "$memory"/{controller,host,port}/{handle,marks}.rt
+        crates/mscp_host/src/{asked,ticking}.rt "$memory"/{controller,driver,host,port}/{handle,marks}.rt
 }
 
 # Builds the C library to this file, with these words of rt more. Another build of it waits, since rt has one place for all.

@@ -9,7 +9,7 @@
 BEGIN {
     split("SentOut sent PacketOut packet UpcomingOut upcoming ReportOut report FigureOut waiting HolderOut holder " \
         "NewsOut news Limits limits UnitIn unit HardwareIn hardware ActionOut action StateOut state VolumeOut volume " \
-        "MediumIn medium", words, " ")
+        "MediumIn medium HeardOut heard Asked asked Watch watch", words, " ")
     for (i = 1; i in words; i += 2)
         name_of[words[i]] = "mscp_" words[i + 1]
     split("u8 uint8_t u16 uint16_t u32 uint32_t u64 uint64_t usize size_t i32 int32_t i64 int64_t", words, " ")
@@ -29,7 +29,7 @@ BEGIN {
 
 # What a file is about: a host, a port, or a controller.
 function kind_of_file() {
-    return FILENAME ~ /\/host/ ? "_host" : FILENAME ~ /\/port/ ? "_port" : ""
+    return FILENAME ~ /\/driv/ ? "_driver" : FILENAME ~ /\/host/ ? "_host" : FILENAME ~ /\/port/ ? "_port" : ""
 }
 
 # The struct of C for one of the sources, by the file for a handle.
@@ -191,7 +191,7 @@ END {
     for (enum in cases)
         print "int is_" enum "(enum mscp_" enum " it)\n{\n    switch (it) {\n   " cases[enum] \
             "\n        return 1;\n    }\n    return 0;\n}"
-    if (structs < 16 || calls < 45 || marks != 3 || length(cases["picker"]) == 0 || length(cases["opcode"]) == 0 ||
+    if (structs < 16 || calls < 45 || marks != 4 || length(cases["picker"]) == 0 || length(cases["opcode"]) == 0 ||
         length(cases["connection"]) == 0 || length(cases["bus"]) == 0 || length(cases["outcome"]) == 0 ||
         length(cases["action_kind"]) == 0 || length(cases["stage"]) == 0) {
         print "mirror.awk: " structs " structs, " calls " calls, " marks " marks" >"/dev/stderr"

@@ -53,6 +53,9 @@ errors! {
     NoMemory = -13, "the handle or its memory is NULL";
     Misaligned = -14, "the memory is misaligned";
     Small = -15, "the memory is too small";
+    Cut = -16, "fewer bytes than the envelope tells";
+    OtherConnection = -17, "a message of another connection";
+    BadKind = -18, "a message of no known type";
     BadPicker = -20, "no picker of this number";
     ZeroTrack = -21, "a track of no blocks";
     ZeroGroup = -22, "a group of no tracks";

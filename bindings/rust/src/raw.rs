@@ -11,7 +11,7 @@ use core::ffi::c_void;
 #[derive(Clone, Copy, Debug)]
 pub struct Aligned<T>(pub T);
 
-/// `struct mscp`, `struct mscp_host` and `struct mscp_port`: where the memory is, and by `mark` what is in it.
+/// `struct mscp`, `struct mscp_host`, `struct mscp_port` and `struct mscp_driver`: where the memory is, and by `mark` what is in it.
 #[repr(C)]
 #[derive(Clone, Copy, Debug)]
 pub struct Handle {
@@ -24,9 +24,11 @@ pub struct Handle {
 pub const ROOM: u64 = 0x4D53_4350_524F_4F4D;
 pub const HOST_ROOM: u64 = 0x484F_5354_524F_4F4D;
 pub const PORT_ROOM: u64 = 0x504F_5254_524F_4F4D;
+pub const DRIVER_ROOM: u64 = 0x4452_5652_524F_4F4D;
 pub const SIZE: usize = 17920;
 pub const HOST_SIZE: usize = 1536;
 pub const PORT_SIZE: usize = 20480;
+pub const DRIVER_SIZE: usize = 3072;
 
 /// The statuses that are no faults.
 pub mod status {
@@ -41,6 +43,14 @@ pub mod status {
     pub const LATE: i32 = 8;
     pub const NO_PROGRESS: i32 = 9;
     pub const LOST: i32 = 10;
+    pub const MOVED_TOO_MUCH: i32 = 11;
+    pub const REFUSED: i32 = 12;
+    pub const NOW_AVAILABLE: i32 = 13;
+    pub const ATTENTION: i32 = 14;
+    pub const LOGGED: i32 = 15;
+    pub const CREDITS: i32 = 16;
+    pub const POLL: i32 = 17;
+    pub const SILENT: i32 = 18;
 }
 
 macro_rules! structs {
@@ -93,6 +103,11 @@ structs! {
     Waiting { reference: u32, figure: u32, connection: u8, }
     Holder { reference: u32, connection: u8, fences: u8, overdrawn: u8, }
     News { figure: u32, reference: u32, moved: u32, unit: u16, status: u16, code: u8, }
+    Heard {
+        figure: u32, reference: u32, moved: u32, asked: u32, unit: u16, status: u16, code: u8, opcode: u8, credits: u8,
+    }
+    Asked { reference: u32, unit: u16, opcode: u8, bytes: u32, }
+    Watch { timeout: u32, waited: u32, silent: u32, }
     Action { address: u32, count: u32, block: u32, unit: u16, vector: u16, kind: u8, opcode: u8, bytes: [u8; 64], }
     State { word: u16, stage: u8, is_held_back: u8, }
     Volume {
@@ -108,6 +123,8 @@ extern "C" {
     pub fn mscp_host_align() -> usize;
     pub fn mscp_port_size() -> usize;
     pub fn mscp_port_align() -> usize;
+    pub fn mscp_driver_size() -> usize;
+    pub fn mscp_driver_align() -> usize;
 
     pub fn mscp_init_at(m: *mut Handle, limits: *const Limits, units: *const Unit, count: usize, picker: u32) -> i32;
     pub fn mscp_reset(m: *mut Handle) -> i32;
@@ -136,6 +153,20 @@ extern "C" {
     pub fn mscp_host_save_size() -> usize;
     pub fn mscp_host_save_at(h: *const Handle, bytes: *mut u8, room: usize, length: *mut usize) -> i32;
     pub fn mscp_host_restore_at(h: *mut Handle, bytes: *const u8, length: usize) -> i32;
+
+    pub fn mscp_driver_init_at(d: *mut Handle) -> i32;
+    pub fn mscp_driver_credits(d: *const Handle) -> i64;
+    pub fn mscp_driver_submit_at(d: *mut Handle, message: *const u8, length: usize) -> i32;
+    pub fn mscp_driver_poll(d: *mut Handle, reference: u32, message: *mut Packet) -> i32;
+    pub fn mscp_driver_hear_at(
+        d: *mut Handle,
+        watch: *mut Watch,
+        bytes: *const u8,
+        length: usize,
+        heard: *mut Heard,
+    ) -> i32;
+    pub fn mscp_driver_tick(d: *const Handle, watch: *mut Watch) -> i32;
+    pub fn mscp_driver_outstanding_at(d: *const Handle, list: *mut Asked, room: usize) -> i32;
 
     pub fn mscp_port_init_at(
         p: *mut Handle,

@@ -81,7 +81,28 @@ fn errors_are_the_faults_of_c() {
 #[test]
 fn other_statuses_are_those_of_c() {
     use raw::status::*;
-    let ours = [NOTHING, DONE, QUEUED, ANSWERED, BUSY, ENDED, FIRST, PROGRESS, LATE, NO_PROGRESS, LOST].map(i64::from);
+    let ours = [
+        NOTHING,
+        DONE,
+        QUEUED,
+        ANSWERED,
+        BUSY,
+        ENDED,
+        FIRST,
+        PROGRESS,
+        LATE,
+        NO_PROGRESS,
+        LOST,
+        MOVED_TOO_MUCH,
+        REFUSED,
+        NOW_AVAILABLE,
+        ATTENTION,
+        LOGGED,
+        CREDITS,
+        POLL,
+        SILENT,
+    ]
+    .map(i64::from);
     let mut theirs: Vec<_> = enumerators("status").into_values().filter(|it| *it >= 0).collect();
     theirs.sort_unstable();
     assert_eq!(ours.as_slice(), theirs);
@@ -117,6 +138,7 @@ fn numbers_are_those_of_c() {
         ("SIZE", raw::SIZE),
         ("HOST_SIZE", raw::HOST_SIZE),
         ("PORT_SIZE", raw::PORT_SIZE),
+        ("DRIVER_SIZE", raw::DRIVER_SIZE),
     ];
     for (name, number) in numbers {
         assert_eq!(defined(name), number as u64, "{name}");
@@ -124,6 +146,7 @@ fn numbers_are_those_of_c() {
     assert_eq!(defined("ROOM"), raw::ROOM);
     assert_eq!(defined("HOST_ROOM"), raw::HOST_ROOM);
     assert_eq!(defined("PORT_ROOM"), raw::PORT_ROOM);
+    assert_eq!(defined("DRIVER_ROOM"), raw::DRIVER_ROOM);
     assert_eq!(defined("HEAD"), size_of::<raw::Handle>() as u64);
     assert_eq!(defined("ALIGN"), align_of::<raw::Handle>() as u64);
     assert_eq!(defined("VERSION"), u64::from(mscp::VERSION));

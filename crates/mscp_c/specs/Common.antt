@@ -13,7 +13,7 @@ pub use Rattle.mscp_c.specs.Restoring.{policy_number}
 pub use Rattle.mscp_c.specs.Running.{HasLine, HasReport, IsNoPacket, TellsFault, cause_code, show_code}
 pub use Rattle.mscp_c.specs.Saving.{length_told, room_after, save_code}
 pub use Rattle.mscp_c.specs.Served.{TellsBegin, TellsFinish, TellsStep}
-pub use Rattle.mscp_c.specs.Statuses.{host_code, host_restore_code, limits_code, minus, port_restore_code, restore_code, room_code, send_fault_code, unit_code, units_code}
+pub use Rattle.mscp_c.specs.Statuses.{hear_code, host_code, host_restore_code, limits_code, minus, port_restore_code, restore_code, room_code, send_fault_code, unit_code, units_code}
 pub use Rattle.mscp_c.specs.Told.{TakeTold, begin_code, block_told, figure_in, figures_in, figures_told, flag, holders_in, holders_told, send_code, sent_told, take_code, upcoming_told}
 pub use Rattle.mscp_controller.specs.Holdings.{after_message, after_take, answer_to_message, balance_of, begun_step, end_taken, fresh, waiting_on}
 pub use Rattle.mscp_drive.specs.Both.{of}

@@ -17,3 +17,4 @@ pub mod Served
 pub mod Statuses
 pub mod Told
 pub mod Common
+pub mod Driven

@@ -10,6 +10,8 @@ use Rattle.mscp_controller.specs.declared.entry.SendFault.{SendFault}
 use Rattle.mscp_controller.specs.declared.entry.SendFault.TheVariants as sends
 use Rattle.mscp_host.specs.declared.news.HostFault.{HostFault}
 use Rattle.mscp_host.specs.declared.news.HostFault.TheVariants as hosts
+use Rattle.mscp_host.specs.declared.message.HearFault.{HearFault}
+use Rattle.mscp_host.specs.declared.message.HearFault.TheVariants as heard
 use Rattle.mscp_host.specs.declared.restoring.RestoreFault as hosted
 use Rattle.mscp_host.specs.declared.restoring.RestoreFault.TheVariants as host_bytes
 use Rattle.mscp_memory.specs.declared.fault.RoomFault.{RoomFault}
@@ -106,3 +108,11 @@ port_restore_code port_bytes.Version = status.SAVED_VERSION
 port_restore_code port_bytes.Size = status.SAVED_SIZE
 port_restore_code (port_bytes.Controller fault) = restore_code fault
 port_restore_code port_bytes.Form = status.SAVED_FORM
+
+-- of what a host of a port refuses
+abbrev pub hear_code : HearFault → ℤ
+hear_code heard.Cut = status.CUT
+hear_code heard.Connection = status.OTHER_CONNECTION
+hear_code heard.Kind = status.BAD_KIND
+hear_code heard.Unreadable = status.UNREADABLE
+hear_code heard.Unknown = status.UNKNOWN

@@ -60,7 +60,7 @@ pub extern "C" fn mscp_host_balance(handle: &mut Handle) -> i64
 }
 
 /// The command that a message is.
-fn message_in(message: &[u8]) -> Result<Command, PacketFault>
+pub(crate) fn message_in(message: &[u8]) -> Result<Command, PacketFault>
     ensures { result ≡ message_read message.now }
 {
     read_command(message)

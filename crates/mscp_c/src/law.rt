@@ -50,6 +50,14 @@ pub fn statuses_are_these()
     ensures late { LATE ≡ pos 8 }
     ensures no_progress { NO_PROGRESS ≡ pos 9 }
     ensures lost { LOST ≡ pos 10 }
+    ensures moved_too_much { MOVED_TOO_MUCH ≡ pos 11 }
+    ensures refused { REFUSED ≡ pos 12 }
+    ensures now_available { NOW_AVAILABLE ≡ pos 13 }
+    ensures attention { ATTENTION ≡ pos 14 }
+    ensures logged { LOGGED ≡ pos 15 }
+    ensures credits { CREDITS ≡ pos 16 }
+    ensures poll { POLL ≡ pos 17 }
+    ensures silent { SILENT ≡ pos 18 }
     ensures short { SHORT ≡ minus 1 }
     ensures long { LONG ≡ minus 2 }
     ensures no_credit { NO_CREDIT ≡ minus 3 }
@@ -65,6 +73,9 @@ pub fn statuses_are_these()
     ensures no_memory { NO_MEMORY ≡ minus 13 }
     ensures misaligned { MISALIGNED ≡ minus 14 }
     ensures small { SMALL ≡ minus 15 }
+    ensures cut { CUT ≡ minus 16 }
+    ensures other_connection { OTHER_CONNECTION ≡ minus 17 }
+    ensures bad_kind { BAD_KIND ≡ minus 18 }
     ensures bad_picker { BAD_PICKER ≡ minus 20 }
     ensures zero_track { ZERO_TRACK ≡ minus 21 }
     ensures zero_group { ZERO_GROUP ≡ minus 22 }

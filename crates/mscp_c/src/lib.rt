@@ -2,7 +2,9 @@
 #![tactic(auto)]
 
 mod controller_saving;
+mod driving;
 mod hearing;
+mod heeding;
 mod host_saving;
 mod hosting;
 mod law;

@@ -79,6 +79,22 @@ pub struct NewsOut {
     pub code: u8,
 }
 
+/// What a message from a port says: of a command that ended its end and what was asked, of a poll the figure, of an
+/// attention message the code and the unit, and how many credits were told alone. The rest is 0.
+#[repr(C)]
+#[derive(Clone, Copy)]
+pub struct HeardOut {
+    pub figure: u32,
+    pub reference: u32,
+    pub moved: u32,
+    pub asked: u32,
+    pub unit: u16,
+    pub status: u16,
+    pub code: u8,
+    pub opcode: u8,
+    pub credits: u8,
+}
+
 /// What a port wants done. What its kind doesn't say is 0, and bytes behind those that it says are what they were.
 #[repr(C)]
 #[derive(Drop)]

@@ -1,13 +1,13 @@
 // What the calls answer: 0 and up what came of a call, below 0 why it was refused.
 
 ghost use Rattle.std.specs.Prelude.{◌≡◌, ◌≢◌};
-ghost use Rattle.mscp_c.specs.Common.{host_code, host_restore_code, limits_code, port_restore_code, restore_code, room_code, send_fault_code, unit_code, units_code, init_code, cause_code, show_code, port_init_code, told_code, volume_code, put_code};
+ghost use Rattle.mscp_c.specs.Common.{hear_code, host_code, host_restore_code, limits_code, port_restore_code, restore_code, room_code, send_fault_code, unit_code, units_code, init_code, cause_code, show_code, port_init_code, told_code, volume_code, put_code};
 
 use crate::port_given::PortInitFault;
 use crate::units::InitFault;
 use mscp_controller::{ConfigFault, SendFault};
 use mscp_drive::{UnitFault, UnitsFault};
-use mscp_host::{HostFault, RestoreFault as HostRestoreFault};
+use mscp_host::{HearFault, HostFault, RestoreFault as HostRestoreFault};
 use mscp_memory::RoomFault;
 use mscp_port::{NoUnit, RestoreFault as PortRestoreFault, Unasked, VolumeFault};
 use mscp_saved::RestoreFault;
@@ -35,6 +35,23 @@ pub(crate) const LATE: i32 = 8;
 pub(crate) const NO_PROGRESS: i32 = 9;
 /// The controller doesn't know the polled command.
 pub(crate) const LOST: i32 = 10;
+
+/// The end tells more bytes than were asked for.
+pub(crate) const MOVED_TOO_MUCH: i32 = 11;
+/// The end of a poll tells no figure.
+pub(crate) const REFUSED: i32 = 12;
+/// A unit became available.
+pub(crate) const NOW_AVAILABLE: i32 = 13;
+/// Another attention message.
+pub(crate) const ATTENTION: i32 = 14;
+/// An error log.
+pub(crate) const LOGGED: i32 = 15;
+/// Credits, and nothing else.
+pub(crate) const CREDITS: i32 = 16;
+/// The oldest command is to be polled.
+pub(crate) const POLL: i32 = 17;
+/// An answer is owed for over a timeout.
+pub(crate) const SILENT: i32 = 18;
 
 pub(crate) const SHORT: i32 = -1;
 
@@ -66,6 +83,13 @@ pub(crate) const NO_MEMORY: i32 = -13;
 pub(crate) const MISALIGNED: i32 = -14;
 
 pub(crate) const SMALL: i32 = -15;
+
+/// The envelope tells more bytes than there are.
+pub(crate) const CUT: i32 = -16;
+/// A message of another connection than the disks'.
+pub(crate) const OTHER_CONNECTION: i32 = -17;
+/// A message of no known type.
+pub(crate) const BAD_KIND: i32 = -18;
 
 /// No picker has this number.
 pub(crate) const BAD_PICKER: i32 = -20;
@@ -279,6 +303,19 @@ pub(crate) fn host_code(fault: HostFault) -> i32
         HostFault::Doubled => DOUBLED,
         HostFault::Unreadable => UNREADABLE,
         HostFault::Unknown => UNKNOWN,
+    }
+}
+
+/// The status of what a host of a port refuses.
+pub(crate) fn hear_code(fault: HearFault) -> i32
+    ensures { result ≡ hear_code fault }
+{
+    match fault {
+        HearFault::Cut => CUT,
+        HearFault::Connection => OTHER_CONNECTION,
+        HearFault::Kind => BAD_KIND,
+        HearFault::Unreadable => UNREADABLE,
+        HearFault::Unknown => UNKNOWN,
     }
 }
 

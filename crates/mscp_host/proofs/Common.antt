@@ -17,9 +17,9 @@ pub use Rattle.std.specs.Str.{bytes_eq}
 pub use Rattle.arrayvec.specs.ArrayVec.{ArrayVec, array_vec_len}
 pub use Rattle.mscp_host.specs.Accounts.{Account, answered, asks, asks_unless, balance, end_in, fresh, has_reference, heard, heard_in, heard_of, is_about_polled, is_code_of, is_immediate, may_end, news_of_figure, news_with, oldest, or_unreadable, outstanding_with, poll_of, polled_is_outstanding, received, refusal, status_end, submission_of, submits_unless, submitted, told_of as told_of_submission, watch_after, watching, with_told, without}
 pub use Rattle.mscp_host.specs.Apart.{are_apart}
-pub use Rattle.mscp_host.specs.Histories.{Ask, History, Moment, Other, Receive, Submit, account_at, asked_for, asks_about, before, end_heard, end_or_none, figure_from, figure_in, found_stands, handed_over, in_flight, is_end_of, is_ended, is_it, is_outstanding, is_poll, is_sent, last_found, last_told, moment, news_at, news_heard, opcode_in, reference, reference_found, says_of, submission_at, told_at, unit_found, unit_in, unit_named, watch_at}
+pub use Rattle.mscp_host.specs.Histories.{Ask, History, Moment, Other, Receive, Settle, Submit, account_at, asked_for, asks_about, before, end_heard, end_or_none, figure_from, figure_in, found_stands, handed_over, in_flight, is_end_of, is_ended, is_it, is_outstanding, is_poll, is_sent, last_found, last_told, moment, news_at, news_heard, opcode_in, reference, reference_found, says_of, submission_at, told_at, unit_found, unit_in, unit_named, watch_at}
 unfoldable pub use Rattle.mscp_host.specs.Histories.{outstanding}
-pub use Rattle.mscp_host.specs.Law.{Answered, Answers, HostsKeepTheirHistory, IsHeard, IsLost, IsTold, Stands}
+pub use Rattle.mscp_host.specs.Law.{Answered, Answers, HostsKeepTheirHistory, IsHeard, IsLost, IsTold, Settles, Stands}
 pub use Rattle.mscp_host.specs.Restored.{account_fault, account_in, count_in, head_fault, restored, submission_in, told_in}
 pub use Rattle.mscp_host.specs.Saved.{HasRange, HasSubmissionRange, saved_bytes, submission_bytes, told_bytes}
 pub use Rattle.mscp_host.specs.Sound.{IsSound, waiting}

@@ -1,5 +1,5 @@
 -- What a host keeps, as the list so far says it, after a moment in which no end is heard.
-use Rattle.mscp_host.proofs.Common.{◌≡◌, ℕ, ◌+◌, ◌<◌, ◌≤◌, Bool, true, false, cond, List, [], ◌∷◌, ◌++◌, map, refl, ap, sym, ◌∙◌, arith, append-nil, ◌&&◌, filter, not, Option, Some, None, option_map, Ok, option_or, and-true, false≢true, map-append, find-append, ArrayVec, Command, Submission, is_immediate, oldest, submitted, watching, Moment, Submit, Ask, History, account_at, asked_for, end_heard, is_end_of, found_stands, handed_over, in_flight, is_poll, is_sent, last_told, moment, opcode_in, outstanding, reference, submission_at, unit_found, unit_in, unit_named, watch_at}
+use Rattle.mscp_host.proofs.Common.{◌≡◌, ℕ, ◌+◌, ◌<◌, ◌≤◌, Bool, true, false, cond, List, [], ◌∷◌, map, refl, ap, sym, ◌∙◌, arith, append-nil, ◌&&◌, filter, not, Option, Some, None, option_map, Ok, option_or, and-true, false≢true, map-append, find-append, ArrayVec, Command, Submission, is_immediate, oldest, submitted, watching, Moment, Submit, Ask, History, account_at, asked_for, end_heard, is_end_of, found_stands, handed_over, in_flight, is_poll, is_sent, last_told, moment, opcode_in, outstanding, reference, submission_at, unit_found, unit_in, unit_named, watch_at}
 use Rattle.mscp_host.specs.declared.news.Poll.TheVariants as polls
 use Rattle.mscp_host.proofs.Collected.{ends_now, found_before, found_out, last_then, out_all, out_old, outstanding_more, untold}
 use Rattle.mscp_host.proofs.Lists.{filter_all, find_map, find_none}
@@ -14,7 +14,8 @@ none_handed h j n = find_none _ (outstanding h j) (out_all _ h j (λ x e. ap (λ
 none_told : (h : History) (j i : ℕ) → NoEnd h j → last_told h (j + 1) i ≡ last_told h j i
 none_told h j i n = search (arith, last_then, none_handed)
 
-all_stay : (h : History) (j : ℕ) → NoEnd h j → filter (λ i. not (ends_now h j i)) (outstanding h j) ≡ outstanding h j
+pub all_stay : (h : History) (j : ℕ) → NoEnd h j
+    → filter (λ i. not (ends_now h j i)) (outstanding h j) ≡ outstanding h j
 all_stay h j n = filter_all _ (outstanding h j) (out_all _ h j (λ x e. ap (λ o. not (is_end_of (reference h x) o)) n))
 
 -- whether a command that was found ends now
@@ -85,6 +86,14 @@ pub polls_of : (credits : ℕ) (h : History) (j : ℕ) (s : Submission)
     → oldest (account_at credits h j) ≡ Some s → Polls credits h j s
 polls_of credits h j s e = polls_when credits h j s (asked_for h j) refl (sym (oldest_is credits h j) ∙ e)
 
+-- the unit that a poll is to
+pub polled_unit : (credits : ℕ) (h : History) (j : ℕ) (s : Submission) → oldest (account_at credits h j) ≡ Some s
+    → unit_found h (asked_for h j) ≡ s.unit
+polled_unit credits h j s o =
+    let p = polls_of credits h j s o in
+    ap (unit_found h) p.found ∙ (unit_same h p.command (moment h p.command) (found_out h j p.command _ p.found).1
+    ∙ sym (ap (λ (x : Submission). x.unit) p.is))
+
 -- that command is outstanding, and stays so
 asked_stands : (h : History) (j i : ℕ) → NoEnd h j → asked_for h j ≡ Some i
     → found_stands h (j + 1) (asked_for h j) ≡ true
@@ -97,6 +106,5 @@ account_asked credits h j r s b m w o =
     let p = polls_of credits h j s o in
     let n : NoEnd h j = ap end_heard m in
     let stands = asked_stands h j p.command n p.found in
-    let unit : unit_found h (asked_for h j) ≡ s.unit = ap (unit_found h) p.found ∙ (unit_same h p.command
-    (moment h p.command) (found_out h j p.command _ p.found).1 ∙ sym (ap (λ (x : Submission). x.unit) p.is)) in
+    let unit = polled_unit credits h j s o in
     search (arith, outstanding_more, all_stay, subs_same, map-append, untold, flight_sent)

@@ -1,5 +1,11 @@
 pub mod Common
 pub mod Places
+pub mod Removed
+pub mod Ported
+pub mod Counted
+pub mod Patient
+pub mod Moments
+pub mod Seen
 pub mod Hearing
 pub mod Back
 pub mod Heads

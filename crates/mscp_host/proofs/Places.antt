@@ -1,5 +1,5 @@
 -- The place of a submission, and the list that is changed there.
-use Rattle.mscp_host.proofs.Common.{◌≡◌, ℕ, ◌+◌, ◌<◌, ◌≤◌, Bool, cond, List, [], ◌∷◌, length, refl, arith, false≢true, true≢false, nat_tests, nat_lt, slice_set, slice_index_or, remove, Some, None, position, position_or_len, Submission, has_reference, with_told, without}
+use Rattle.mscp_host.proofs.Common.{◌≡◌, ℕ, ◌<◌, ◌≤◌, Bool, cond, List, [], ◌∷◌, length, refl, arith, false≢true, true≢false, nat_tests, nat_lt, slice_set, slice_index_or, remove, Some, None, position, position_or_len, Submission, has_reference, with_told, without}
 
 abbrev no_submission : Submission
 no_submission = record { reference = 0; unit = 0; opcode = 0; told = None }

@@ -1,5 +1,5 @@
 -- The whole history: all that is promised of a host.
-use Rattle.mscp_host.proofs.Common.{◌≡◌, ◌↔◌, ℕ, zero, suc, ◌+◌, ◌<◌, ◌≤◌, Bool, true, false, drop, length, refl, ap, sym, ◌∙◌, subst, arith, if◌then◌else◌, Option, Some, None, is_some, IfSome, Ok, and_parts, eqb-true, eq-eqb, false≢true, nat_tests, drop_more, drop_all, News, Account, fresh, news_of_figure, Moment, Other, Receive, History, account_at, asked_for, end_heard, figure_in, found_stands, is_it, is_poll, last_told, moment, news_heard, outstanding, says_of, Answered, Answers, HostsKeepTheirHistory, IsHeard, IsLost, IsTold, Stands}
+use Rattle.mscp_host.proofs.Common.{◌≡◌, ◌↔◌, ℕ, zero, suc, ◌+◌, ◌<◌, ◌≤◌, Bool, true, false, drop, length, refl, ap, sym, ◌∙◌, subst, arith, if◌then◌else◌, Option, Some, None, is_some, IfSome, Ok, and_parts, eqb-true, eq-eqb, false≢true, nat_tests, drop_more, drop_all, News, Account, fresh, news_of_figure, Moment, Other, Receive, Settle, History, account_at, asked_for, end_heard, figure_in, found_stands, is_it, is_poll, last_told, moment, news_heard, outstanding, says_of, Answered, Answers, HostsKeepTheirHistory, IsHeard, IsLost, IsTold, Stands}
 use Rattle.mscp_host.specs.declared.news.News.TheVariants as news
 use Rattle.mscp_host.proofs.Collected.{out_below}
 use Rattle.mscp_host.proofs.Received.{IsApart}
@@ -88,6 +88,7 @@ figure_lost last e = grind (arith, nat_tests)
 
 heard_some : (m : Moment) (figure : ℕ) → figure_in (end_heard m) ≡ Some figure → (n : News) × (news_heard m ≡ Some n)
 heard_some (Receive b (Ok n)) figure e = (n, refl)
+heard_some (Settle end n) figure e = (n, refl)
 heard_some m figure e = absurd (false≢true (ap is_some e))
 
 -- what is heard, if it is a figure

@@ -1,5 +1,5 @@
 -- One moment more: what the list says, and what the host says of an end.
-use Rattle.mscp_host.proofs.Common.{◌≡◌, ℕ, ◌+◌, Bool, true, false, List, [], ◌∷◌, ◌++◌, refl, ap, sym, ◌∙◌, subst, arith, find, nat_eq, if◌then◌else◌, Option, Some, None, is_some, option_map, Result, Ok, Err, is_ok, list_any, eq-eqb, false≢true, true≢false, ArrayVec, Command, End, EndFault, opcode_byte, HostFault, News, Poll, Submission, Account, answered, asks, asks_unless, end_in, has_reference, heard, heard_in, heard_of, is_about_polled, news_with, oldest, poll_of, received, submits_unless, are_apart, Moment, Submit, Ask, Receive, Other, History, account_at, asked_for, end_heard, end_or_none, handed_over, is_end_of, in_flight, is_outstanding, is_poll, is_sent, moment, news_heard, outstanding, reference, submission_at, watch_at, Answers, IsHeard}
+use Rattle.mscp_host.proofs.Common.{◌≡◌, ℕ, ◌+◌, Bool, true, false, List, [], ◌∷◌, ◌++◌, refl, ap, sym, ◌∙◌, subst, arith, find, nat_eq, if◌then◌else◌, Option, Some, None, is_some, option_map, Result, Ok, Err, is_ok, list_any, eq-eqb, false≢true, true≢false, ArrayVec, Command, End, EndFault, opcode_byte, HostFault, News, Poll, Submission, Account, answered, asks, asks_unless, end_in, has_reference, heard, heard_in, heard_of, oldest, poll_of, submits_unless, are_apart, Moment, Submit, Ask, Receive, Settle, Other, History, account_at, asked_for, end_heard, end_or_none, handed_over, is_end_of, in_flight, is_outstanding, is_poll, is_sent, moment, news_heard, outstanding, reference, submission_at, watch_at, Answers, IsHeard, Settles}
 use Rattle.mscp_host.specs.declared.news.Poll.TheVariants as polls
 use Rattle.mscp_host.specs.Accounts as host
 use Rattle.mscp_host.proofs.Apart.{apart_more, apart_without}
@@ -31,12 +31,8 @@ idle_of h j o e = grind (arith, true≢false)
 -- an end that isn't refused
 record Accepts (a : Account) (b : List ℕ) (n : News) (new : Account) : Type 0 where
   end : End
-  submission : Submission
   read : end_in b ≡ Ok end
-  found : find (has_reference end.reference) a.outstanding ≡ Some submission
-  about : is_about_polled a.watch (answered a.watch end) ≡ true
-  says : n ≡ news_with a end (answered a.watch end)
-  kept : new ≡ received a end
+  settles : Settles a end n new
 
 accepts_found : (a : Account) (b : List ℕ) (n : News) (new : Account) (e : End) (o : Option Submission)
     → end_in b ≡ Ok e → find (has_reference e.reference) a.outstanding ≡ o → heard_of a e o ≡ (Ok n, new)
@@ -151,27 +147,28 @@ module _ (credits : ℕ) (h : History) (j : ℕ) (a : IsApart credits h j) where
 
   -- ---- an end
 
-  hear_goes : (b : List ℕ) (n : News) (new : Account) → moment h j ≡ Receive b (Ok n)
-      → Accepts (account_at credits h j) b n new → Goes credits h j new
-  hear_goes b n new m x =
-      let e = x.end in
-      let heard : end_heard (moment h j) ≡ Some e = ap end_heard m ∙ ap end_or_none x.read in
+  hear_goes : (e : End) (n : News) (new : Account) → is_sent (moment h j) ≡ false → end_heard (moment h j) ≡ Some e
+      → news_heard (moment h j) ≡ Some n → Settles (account_at credits h j) e n new → Goes credits h j new
+  hear_goes e n new silent heard said x =
       let p = handed_of h j e x.submission _ refl
       (sym (find_map (submission_at h j) (has_reference e.reference) (outstanding h j)) ∙ x.found) heard in
       let hears : Hears credits h j e p.0 = record {
         apart = a;
-        silent = ap is_sent m;
+        silent = silent;
         heard = heard;
         handed = p.1;
         about = x.about;
       } in
       let after = account_received hears in
-      search (arith, still_apart, apart_without, apart_with, answered, says_is, false≢true)
+      search (arith, still_apart, apart_without, apart_with, answered, says_is, false≢true, no_poll)
 
   pub step : (new : Account) (m : Moment) → moment h j ≡ m
       → Answers (account_at credits h j) m new → Goes credits h j new
   step new (Submit command answer) m e = submit_goes command answer new _ m refl e
   step new (Ask n answer) m e = poll_goes n _ answer new m refl e
-  step new (Receive b (Ok n)) m e = hear_goes b n new m (accepts _ b n new _ refl e)
+  step new (Receive b (Ok n)) m e =
+      let x = accepts _ b n new _ refl e in
+      hear_goes x.end n new (ap is_sent m) (ap end_heard m ∙ ap end_or_none x.read) (ap news_heard m) x.settles
+  step new (Settle end n) m e = hear_goes end n new (ap is_sent m) (ap end_heard m) (ap news_heard m) e
   step new (Receive b (Err fault)) m e = quiet new (ap is_sent m) (ap news_heard m) (refused _ fault new _ e)
   step new Other m e = quiet new (ap is_sent m) (ap news_heard m) e

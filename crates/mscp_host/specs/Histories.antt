@@ -18,11 +18,13 @@ use Rattle.mscp_host.specs.declared.news.Poll.{Poll}
 use Rattle.mscp_host.specs.declared.news.Poll.TheVariants as polls
 use Rattle.mscp_host.specs.Accounts.{Account, end_in, is_immediate, news_of_figure, status_end, told_in}
 
--- a call and its answer; or something in which the host has no part
+-- a call and its answer; an end that was read for the host (by one that hears a port), and what was said of it; or
+-- something in which the host has no part
 pub data Moment : Type 0 where
   Submit : Command → Result (ArrayVec ℕ) HostFault → Moment
   Ask : ℕ → Result Poll HostFault → Moment
   Receive : List ℕ → Result News HostFault → Moment
+  Settle : End → News → Moment
   Other : Moment
 
 -- oldest first
@@ -75,11 +77,13 @@ end_or_none (Err fault) = None
 -- the end that was heard, if the host didn't refuse it
 abbrev pub end_heard : Moment → Option End
 end_heard (Receive bytes (Ok n)) = end_or_none (end_in bytes)
+end_heard (Settle e n) = Some e
 end_heard m = None
 
 -- what was said of it
 abbrev pub news_heard : Moment → Option News
 news_heard (Receive bytes (Ok n)) = Some n
+news_heard (Settle e n) = Some n
 news_heard m = None
 
 -- it has this reference number

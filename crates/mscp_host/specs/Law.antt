@@ -1,16 +1,26 @@
 -- What is promised of every host: its history says all that it keeps, and all that it says of ends.
-use Rattle.std.specs.Prelude.{◌≡◌, ◌↔◌, ℕ, ◌+◌, ◌<◌, ◌≤◌, true, [], ◌∷◌, length, Some, None, IfSome}
+use Rattle.std.specs.Prelude.{◌≡◌, ◌↔◌, ℕ, ◌+◌, ◌<◌, ◌≤◌, true, [], ◌∷◌, length, find, Some, None, IfSome}
 use Rattle.mscp_packet.specs.declared.end.End.{End}
 use Rattle.mscp_host.specs.declared.news.News.{News}
 use Rattle.mscp_host.specs.declared.news.News.TheVariants as news
-use Rattle.mscp_host.specs.Accounts.{Account, fresh, heard, polls_oldest, submits}
-use Rattle.mscp_host.specs.Histories.{Moment, Submit, Ask, Receive, Other, History, account_at, asked_for, asks_about, end_heard, figure_in, handed_over, in_flight, is_outstanding, is_poll, last_told, moment, news_at, news_heard, reference}
+use Rattle.mscp_host.specs.Accounts.{Account, answered, fresh, has_reference, heard, is_about_polled, news_with, polls_oldest, received, submits}
+use Rattle.mscp_host.specs.declared.submission.Submission.{Submission}
+use Rattle.mscp_host.specs.Histories.{Moment, Submit, Ask, Receive, Settle, Other, History, account_at, asked_for, asks_about, end_heard, figure_in, handed_over, in_flight, is_outstanding, is_poll, last_told, moment, news_at, news_heard, reference}
+
+-- the end may be that of an outstanding command, and this is said of it and kept then
+pub record Settles (old : Account) (e : End) (n : News) (new : Account) : Type 0 where
+  pub submission : Submission
+  pub found : find (has_reference e.reference) old.outstanding ≡ Some submission
+  pub about : is_about_polled old.watch (answered old.watch e) ≡ true
+  pub says : n ≡ news_with old e (answered old.watch e)
+  pub kept : new ≡ received old e
 
 -- the answer is that of the call, and what is kept then
 abbrev pub Answers : Account → Moment → Account → Type 0
 Answers old (Submit command answer) new = submits old command ≡ (answer, new)
 Answers old (Ask reference answer) new = polls_oldest old reference ≡ (answer, new)
 Answers old (Receive bytes answer) new = heard old bytes ≡ (answer, new)
+Answers old (Settle e n) new = Settles old e n new
 Answers old Other new = new ≡ old
 
 -- one after the other

@@ -7,3 +7,9 @@ pub mod Watched
 pub mod Histories
 pub mod Law
 pub mod Common
+pub mod Messages
+pub mod PortAccounts
+pub mod Ported
+pub mod PortHistories
+pub mod PortLaw
+pub mod Watching

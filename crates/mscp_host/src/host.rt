@@ -43,11 +43,20 @@ impl Host {
         if !(2..=64).contains(&credits) {
             return Err(HostFault::Credits);
         }
-        Ok(Host {
+        Ok(Host::of_credits(credits))
+    }
+
+    /// A host that sent nothing so far.
+    pub(crate) fn of_credits(credits: u32) -> Host
+        requires some { 2 ≤ credits }
+        requires few { credits ≤ 64 }
+        ensures { result ≡ fresh credits }
+    {
+        Host {
             credits,
             outstanding: ArrayVec::new(),
             watch: None,
-        })
+        }
     }
 
     /// How many credits are free: each command whose end wasn't received holds one (manual, "Flow Control").
@@ -65,7 +74,7 @@ impl Host {
     }
 
     /// Why a command of this opcode byte and reference number may not be sent, if it may not.
-    fn refusal(&self, opcode: u8, reference: u32) -> Option<HostFault>
+    pub(crate) fn refusal(&self, opcode: u8, reference: u32) -> Option<HostFault>
         ensures { result ≡ refusal self.now opcode reference }
     {
         match self.balance() {
@@ -88,7 +97,7 @@ impl Host {
     }
 
     /// Makes a command outstanding, and gives its message.
-    fn send(&mut self, command: &Command) -> ArrayVec<u8, 48>
+    pub(crate) fn send(&mut self, command: &Command) -> ArrayVec<u8, 48>
         requires free { 1 ≤ balance self.old }
         requires spare { immediate (opcode_byte command.now.order) ≡ false → 2 ≤ balance self.old }
         requires new { list_any (has_reference command.now.reference) self.old.outstanding ≡ false }
@@ -159,7 +168,7 @@ impl Host {
     }
 
     /// What an end says that may be that of an outstanding command, and tells this of the polled one.
-    fn hear(&mut self, end: &End, answer: &Option<(u32, u32)>) -> News
+    pub(crate) fn hear(&mut self, end: &End, answer: &Option<(u32, u32)>) -> News
         requires answer { answer.now ≡ answered self.old.watch end.now }
         requires about { about_polled self.old.watch answer.now ≡ true }
         ensures news { result ≡ news_with self.old end.now (answered self.old.watch end.now) }

@@ -1,4 +1,5 @@
 pub mod ControllerHandles
+pub mod DriverHandles
 pub mod HostHandles
 pub mod Policies
 pub mod PortHandles

@@ -1,7 +1,8 @@
-//! A controller, a host, and a port, in memory that the caller owns.
+//! A controller, a host, a port, and a driver's account of its port, in memory that the caller owns.
 #![tactic(auto)]
 
 pub mod controller;
+pub mod driver;
 mod fault;
 pub mod host;
 mod law;

@@ -1,6 +1,7 @@
-// The end of a host, in a driver; tests/c/answers.c has what it makes of each end.
+// The end of a host, in a driver; tests/c/answers.c has what it makes of each end. And a host of a port.
 
 mod driver;
+mod hearing;
 
 use super::values::{command, ended};
 use mscp_packet::{End, EndBody};

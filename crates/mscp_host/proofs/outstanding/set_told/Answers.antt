@@ -1,4 +1,4 @@
-use Rattle.mscp_host.proofs.Common.{arith, ◌∙◌}
+use Rattle.mscp_host.proofs.Common.{arith}
 use Rattle.mscp_host.proofs.Places.{nowhere, told_at}
 use Rattle.mscp_host.proofs.outstanding.set_told.Goals as goal
 

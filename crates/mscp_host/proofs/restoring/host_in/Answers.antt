@@ -1,4 +1,4 @@
-use Rattle.mscp_host.proofs.Common.{List, arith, account_in}
+use Rattle.mscp_host.proofs.Common.{arith, account_in}
 use Rattle.mscp_host.proofs.Heads.{account_tells, head_tells}
 use Rattle.mscp_host.proofs.restoring.host_in.Goals as goal
 

@@ -1,4 +1,4 @@
-use Rattle.mscp_host.proofs.Common.{arith, ℕ, ◌∙◌, from_place}
+use Rattle.mscp_host.proofs.Common.{arith, from_place}
 use Rattle.mscp_host.proofs.restoring.outstanding_in.Goals as goal
 
 pub returns-clause-value : goal.returns-clause-value

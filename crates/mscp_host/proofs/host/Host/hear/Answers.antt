@@ -1,4 +1,4 @@
-use Rattle.mscp_host.proofs.Common.{◌∙◌, arith}
+use Rattle.mscp_host.proofs.Common.{arith}
 use Rattle.mscp_host.proofs.Apart.{apart_without}
 use Rattle.mscp_host.proofs.Told.{told_without, waiting_without}
 use Rattle.mscp_host.proofs.Watched.{watched_without}

@@ -1,4 +1,4 @@
-use Rattle.mscp_host.proofs.Common.{arith, ◌≡◌, ◌≤◌, ◌<◌, ℕ, List, ◌∙◌}
+use Rattle.mscp_host.proofs.Common.{arith}
 use Rattle.mscp_host.proofs.Watched.{watched_told}
 use Rattle.mscp_host.proofs.Told.{polled_oldest, told_told, waiting_told}
 use Rattle.mscp_host.proofs.Apart.{apart_told, refilled, told_long}

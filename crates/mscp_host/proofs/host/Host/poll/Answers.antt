@@ -1,4 +1,4 @@
-use Rattle.mscp_host.proofs.Common.{arith, ℕ, List, ◌∙◌}
+use Rattle.mscp_host.proofs.Common.{arith}
 use Rattle.mscp_host.proofs.Watched.{was_submitted, watched_poll}
 use Rattle.mscp_host.proofs.host.Host.poll.Goals as goal
 

@@ -1,4 +1,4 @@
-use Rattle.mscp_host.proofs.Common.{arith, ◌≡◌, Bool, ◌&&◌, sym, ◌∙◌, answered}
+use Rattle.mscp_host.proofs.Common.{arith, sym, ◌∙◌, answered}
 use Rattle.mscp_host.proofs.Hearing.{heard_ok, heard_other, readable}
 use Rattle.mscp_host.proofs.host.Host.receive.Goals as goal
 

@@ -1,4 +1,4 @@
-use Rattle.mscp_host.proofs.Common.{arith, ◌≡◌, ℕ, List, ap, ◌∙◌, rules, None, account_fault, account_in, head_fault, saved_bytes}
+use Rattle.mscp_host.proofs.Common.{arith, ◌≡◌, ap, ◌∙◌, rules, None, account_fault, account_in, head_fault, saved_bytes}
 use Rattle.mscp_host.proofs.host.Host.restore.Goals as goal
 
 pub returns-else-eq-clause-value : goal.returns-else-eq-clause-value

@@ -1,4 +1,4 @@
-use Rattle.mscp_host.proofs.Common.{arith, ◌≡◌, ◌∙◌, rules, saved_bytes}
+use Rattle.mscp_host.proofs.Common.{arith, ◌≡◌, rules, saved_bytes}
 use Rattle.mscp_host.proofs.Back.{restored_back}
 use Rattle.mscp_host.proofs.host.Host.save.Goals as goal
 

@@ -1,0 +1,265 @@
+-- Credits and commands are counted.
+use Rattle.mscp_host.proofs.Common.{◌≡◌, ◌≤◌, ℕ, ◌+◌, ◌-◌, Bool, true, false, ◌&&◌, and-true, if◌then◌else◌, nat_eq, List, [], ◌∷◌, ◌++◌, length, refl, ap, sym, ◌∙◌, arith, find, Option, Some, None, is_none, is_some, nat_lt, Result, Ok, Err, false≢true, nat_tests, or_parts, ltb-false, length-append, ArrayVec, Command, End, HostFault, Poll, Submission, Account, oldest, opcode_byte}
+use Rattle.mscp_host.specs.Accounts.{asks, poll_of, polls_oldest, submits}
+use Rattle.std.proofs.lemmas.List.Sums.{sum_by-cons}
+use Rattle.mscp_host.specs.declared.envelope.Envelope.{Envelope}
+use Rattle.mscp_host.specs.declared.heard.Heard.TheVariants as heards
+use Rattle.mscp_host.specs.declared.message.HearFault.TheVariants as faults
+use Rattle.mscp_host.specs.declared.news.HostFault.TheVariants as refusals
+use Rattle.mscp_host.specs.declared.news.News.{News}
+use Rattle.mscp_host.specs.declared.watch.Watch.{Watch}
+use Rattle.std.specs.Prelude.{min}
+use Rattle.mscp_host.specs.declared.news.Poll.TheVariants as polls
+use Rattle.mscp_host.specs.declared.asked.Asked.{Asked}
+use Rattle.mscp_host.specs.declared.heard.Heard.{Heard}
+use Rattle.mscp_host.specs.declared.message.HearFault.{HearFault}
+use Rattle.mscp_host.specs.declared.message.Message.{Message}
+use Rattle.mscp_host.specs.declared.message.Message.TheVariants as messages
+use Rattle.mscp_host.specs.PortAccounts.{PortAccount, asked_of, attention_of, credit_fault, end_says, ended, ended_of, ends_of, granted, heard_of, is_of, is_to_poll, news_said, noted, noted_poll, polled_with, submitted_with, submits_unless_faulty, without_by}
+use Rattle.mscp_host.specs.PortHistories.{Ask, Hear, Other, PortAnswered, PortAnswers, PortHistory, PortMoment, Submit, ended_in, ends_in, sent_in, told_in}
+use Rattle.mscp_host.specs.PortLaw.{PortHostsKeepCount}
+
+-- what one moment changes
+pub record Counts (old : PortAccount) (m : PortMoment) (new : PortAccount) : Type 0 where
+  pub over : new.is_over ≡ false → old.is_over ≡ false
+  pub credits : new.is_over ≡ false → new.credits + sent_in m ≡ old.credits + told_in m
+  pub no_more : new.credits + sent_in m ≤ old.credits + told_in m
+  pub commands : length new.asked + ended_in m ≡ length old.asked + sent_in m
+
+without_long : {X : Type 0} (p : X → Bool) (xs : List X) (x : X) → find p xs ≡ Some x
+    → length (without_by p xs) + 1 ≡ length xs
+without_long p [] x e = absurd (false≢true (ap is_some e))
+without_long p (y ∷ ys) x e = search (arith, without_long p ys x)
+
+some_credit : (credits opcode : ℕ) → credit_fault credits opcode ≡ None → 1 ≤ credits
+some_credit credits opcode e = search (arith, false≢true)
+
+noted_long : (xs : List Asked) (a : Asked) → length (xs ++ a ∷ []) ≡ length xs + 1
+noted_long xs a = search (arith, length-append)
+
+-- ---- nothing is sent and nothing is told
+
+quiet : (old : PortAccount) (m : PortMoment) (new : PortAccount) → new ≡ old → told_in m ≡ 0 → sent_in m ≡ 0
+    → ended_in m ≡ 0 → Counts old m new
+quiet old m new e t s d = record {
+  over = λ f. sym (ap (λ (p : PortAccount). p.is_over) e) ∙ f;
+  credits = λ f. let c = ap (λ (p : PortAccount). p.credits) e in omega (arith, c, t, s);
+  no_more = let c = ap (λ (p : PortAccount). p.credits) e in omega (arith, c, t, s);
+  commands = let c = ap (λ (p : PortAccount). length p.asked) e in omega (arith, c, s, d);
+}
+
+-- ---- a command is sent
+
+sent : (old : PortAccount) (m : PortMoment) (new : PortAccount) (a : Account) (asked : Asked) → new ≡ noted old a asked
+    → 1 ≤ old.credits → told_in m ≡ 0 → sent_in m ≡ 1 → ended_in m ≡ 0 → Counts old m new
+sent old m new a asked e some t s d =
+    let c : new.credits ≡ old.credits - 1 = ap (λ (p : PortAccount). p.credits) e in
+    let l : length new.asked ≡ length old.asked + 1 = ap (λ (p : PortAccount). length p.asked) e
+    ∙ noted_long old.asked asked in
+    record {
+      over = λ f. sym (ap (λ (p : PortAccount). p.is_over) e) ∙ f;
+      credits = λ f. omega (arith, c, some, t, s);
+      no_more = omega (arith, c, some, t, s);
+      commands = omega (arith, l, s, d);
+    }
+
+-- ---- credits are told
+
+over_not : (p : PortAccount) (n : ℕ) → (granted n p).is_over ≡ false
+    → (p.is_over ≡ false) × (p.credits + n ≤ 65535)
+over_not p n e =
+    let both = or_parts p.is_over (nat_lt 65535 (p.credits + n)) e in
+    (both.0, ltb-false 65535 (p.credits + n) both.1)
+
+told : (old : PortAccount) (m : PortMoment) (new p : PortAccount) (n : ℕ) → new ≡ granted n p
+    → p.credits ≡ old.credits → p.is_over ≡ old.is_over → told_in m ≡ n → sent_in m ≡ 0
+    → length p.asked + ended_in m ≡ length old.asked → Counts old m new
+told old m new p n e same over t s ends =
+    let c : new.credits ≡ min (p.credits + n) 65535 = ap (λ (q : PortAccount). q.credits) e in
+    let l : length new.asked ≡ length p.asked = ap (λ (q : PortAccount). length q.asked) e in
+    let is : new.is_over ≡ (granted n p).is_over = ap (λ (q : PortAccount). q.is_over) e in
+    record {
+      over = λ f. sym over ∙ (over_not p n (sym is ∙ f)).0;
+      credits = λ f. let few = (over_not p n (sym is ∙ f)).1 in omega (arith, c, few, same, t, s);
+      no_more = omega (arith, c, same, t, s);
+      commands = omega (arith, l, ends, s);
+    }
+
+-- ---- one moment
+
+submit_with : (old : PortAccount) (command : Command) (answer : Result (ArrayVec ℕ) HostFault) (new : PortAccount)
+    (r : Result (ArrayVec ℕ) HostFault) (a : Account) → 1 ≤ old.credits
+    → submitted_with old command (r, a) ≡ (answer, new) → Counts old (Submit command answer) new
+submit_with old command answer new (Err fault) a some e =
+    let err : Err fault ≡ answer = ap (λ p. p.0) e in
+    quiet old (Submit command answer) new (sym (ap (λ p. p.1) e)) refl
+    (ap (λ x. sent_in (Submit command x)) (sym err)) refl
+submit_with old command answer new (Ok message) a some e =
+    let ok : Ok message ≡ answer = ap (λ p. p.0) e in
+    sent old (Submit command answer) new a _ (sym (ap (λ p. p.1) e)) some refl
+    (ap (λ x. sent_in (Submit command x)) (sym ok)) refl
+
+submit_counts : (old : PortAccount) (command : Command) (answer : Result (ArrayVec ℕ) HostFault) (new : PortAccount)
+    (o : Option HostFault) → credit_fault old.credits (opcode_byte command.order) ≡ o
+    → submits_unless_faulty old command o ≡ (answer, new) → Counts old (Submit command answer) new
+submit_counts old command answer new (Some fault) f e =
+    let err : Err fault ≡ answer = ap (λ p. p.0) e in
+    quiet old (Submit command answer) new (sym (ap (λ p. p.1) e)) refl
+    (ap (λ x. sent_in (Submit command x)) (sym err)) refl
+submit_counts old command answer new None f e =
+    submit_with old command answer new (submits old.account command).0 (submits old.account command).1
+    (some_credit old.credits (opcode_byte command.order) f) e
+
+-- a poll is sent only where one is to be sent
+asked_found : (a new : Account) (r : ℕ) (m : ArrayVec ℕ) (o : Option Submission) → asks a r o ≡ (Ok (polls.Ask m), new)
+    → is_some o ≡ true
+asked_found a new r m o e = search (arith, false≢true)
+
+abbrev is_ask : Result Poll HostFault → Bool
+is_ask (Ok (polls.Ask m)) = true
+is_ask answer = false
+
+sent_poll : (a new : Account) (r : ℕ) (m : ArrayVec ℕ) (o : Option Watch) → a.watch ≡ o
+    → (if is_some o then (Ok polls.Busy, a) else asks a r (oldest a)) ≡ (Ok (polls.Ask m), new)
+    → (is_none o ≡ true) × (is_some (oldest a) ≡ true)
+sent_poll a new r m None w e = (refl, asked_found a new r m (oldest a) e)
+sent_poll a new r m (Some x) w e = absurd (false≢true (ap (λ p. is_ask p.0) e))
+
+noted_some : (p : PortAccount) (a : Account) (r : ℕ) (o : Option Submission) → is_some o ≡ true
+    → (asked : Asked) × (noted_poll p a r o ≡ noted p a asked)
+noted_some p a r None e = absurd (false≢true e)
+noted_some p a r (Some s) e = (asked_of (poll_of r s), refl)
+
+poll_with : (old : PortAccount) (n : ℕ) (answer : Result Poll HostFault) (new : PortAccount)
+    (r : Result Poll HostFault) (a : Account) → polls_oldest old.account n ≡ (r, a)
+    → (nat_eq old.credits 0 && is_to_poll old.account) ≡ false
+    → polled_with old n (r, a) ≡ (answer, new) → Counts old (Ask n answer) new
+poll_with old n answer new (Ok (polls.Ask m)) a is free e =
+    let ok : Ok (polls.Ask m) ≡ answer = ap (λ p. p.0) e in
+    let to = sent_poll old.account a n m old.account.watch refl is in
+    let both : is_to_poll old.account ≡ true = λ i. to.0 i && to.1 i in
+    let none : nat_eq old.credits 0 ≡ false =
+    sym (and-true (nat_eq old.credits 0)) ∙ (ap (λ b. nat_eq old.credits 0 && b) (sym both) ∙ free) in
+    let noted = noted_some old a n (oldest old.account) to.1 in
+    sent old (Ask n answer) new a noted.0 (sym (ap (λ p. p.1) e) ∙ noted.1) (positive old.credits none) refl
+    (ap (λ x. sent_in (Ask n x)) (sym ok)) refl
+  where
+    positive : (k : ℕ) → nat_eq k 0 ≡ false → 1 ≤ k
+    positive k e = search (arith, nat_tests)
+poll_with old n answer new (Ok polls.Nothing) a is free e =
+    let ok : Ok polls.Nothing ≡ answer = ap (λ p. p.0) e in
+    quiet old (Ask n answer) new (sym (ap (λ p. p.1) e)) refl (ap (λ x. sent_in (Ask n x)) (sym ok)) refl
+poll_with old n answer new (Ok polls.Busy) a is free e =
+    let ok : Ok polls.Busy ≡ answer = ap (λ p. p.0) e in
+    quiet old (Ask n answer) new (sym (ap (λ p. p.1) e)) refl (ap (λ x. sent_in (Ask n x)) (sym ok)) refl
+poll_with old n answer new (Err fault) a is free e =
+    let err : Err fault ≡ answer = ap (λ p. p.0) e in
+    quiet old (Ask n answer) new (sym (ap (λ p. p.1) e)) refl (ap (λ x. sent_in (Ask n x)) (sym err)) refl
+
+poll_counts : (old : PortAccount) (n : ℕ) (answer : Result Poll HostFault) (new : PortAccount) (b : Bool)
+    → (nat_eq old.credits 0 && is_to_poll old.account) ≡ b
+    → (if b then (Err refusals.NoCredit, old) else polled_with old n (polls_oldest old.account n)) ≡ (answer, new)
+    → Counts old (Ask n answer) new
+poll_counts old n answer new true f e =
+    let err : Err refusals.NoCredit ≡ answer = ap (λ p. p.0) e in
+    quiet old (Ask n answer) new (sym (ap (λ p. p.1) e)) refl (ap (λ x. sent_in (Ask n x)) (sym err)) refl
+poll_counts old n answer new false f e =
+    poll_with old n answer new (polls_oldest old.account n).0 (polls_oldest old.account n).1 refl f e
+
+-- ---- a message is heard
+
+attention_none : (code unit : ℕ) → ends_in (attention_of code unit) ≡ 0
+attention_none code unit = search arith
+
+ended_one : (e : End) (asked : Asked) → ends_in (ended_of e asked) ≡ 1
+ended_one e asked = search arith
+
+said_one : (b : Bool) (e : End) (asked : Asked) (n : News) → ends_in (news_said b e asked n) ≡ 1
+said_one b e asked n = search (arith, ended_one)
+
+abbrev refuses : PortAccount → HearFault → Result Heard HearFault × PortAccount
+refuses old fault = (Err fault, old)
+
+abbrev tells : ℕ → Heard → PortAccount → Result Heard HearFault × PortAccount
+tells credits heard new = (Ok heard, granted credits new)
+
+refused : (old : PortAccount) (v : Envelope) (b : List ℕ) (answer : Result Heard HearFault) (new : PortAccount)
+    (fault : HearFault) → refuses old fault ≡ (answer, new) → Counts old (Hear v b answer) new
+refused old v b answer new fault e =
+    let err : Err fault ≡ answer = ap (λ p. p.0) e in
+    quiet old (Hear v b answer) new (sym (ap (λ p. p.1) e)) (ap (λ x. told_in (Hear v b x)) (sym err)) refl
+    (ap (λ x. ended_in (Hear v b x)) (sym err))
+
+heard_none : (old : PortAccount) (v : Envelope) (b : List ℕ) (answer : Result Heard HearFault) (new : PortAccount)
+    (heard : Heard) → ends_in heard ≡ 0 → tells v.credits heard old ≡ (answer, new)
+    → Counts old (Hear v b answer) new
+heard_none old v b answer new heard none e =
+    let ok : Ok heard ≡ answer = ap (λ p. p.0) e in
+    let zero : ended_in (Hear v b answer) ≡ 0 = ap (λ x. ended_in (Hear v b x)) (sym ok) ∙ none in
+    told old (Hear v b answer) new old v.credits (sym (ap (λ p. p.1) e)) refl refl
+    (ap (λ x. told_in (Hear v b x)) (sym ok)) refl (omega (arith, zero))
+
+end_counts : (old : PortAccount) (v : Envelope) (b : List ℕ) (answer : Result Heard HearFault) (new : PortAccount)
+    (x : End) (asked : Asked) (may : Bool) → find (is_of x.reference) old.asked ≡ Some asked
+    → (if may then tells v.credits (end_says old x asked) (ended old x) else refuses old faults.Unknown)
+    ≡ (answer, new) → Counts old (Hear v b answer) new
+end_counts old v b answer new x asked true found e =
+    let ok : Ok (end_says old x asked) ≡ answer = ap (λ p. p.0) e in
+    let one : ended_in (Hear v b answer) ≡ 1 = ap (λ y. ended_in (Hear v b y)) (sym ok) ∙ said_one _ x asked _ in
+    let long = without_long (is_of x.reference) old.asked asked found in
+    told old (Hear v b answer) new (ended old x) v.credits (sym (ap (λ p. p.1) e)) refl refl
+    (ap (λ y. told_in (Hear v b y)) (sym ok)) refl (omega (arith, one, long))
+end_counts old v b answer new x asked false found e = refused old v b answer new faults.Unknown e
+
+ends_counts : (old : PortAccount) (v : Envelope) (b : List ℕ) (answer : Result Heard HearFault) (new : PortAccount)
+    (x : End) (o : Option Asked) → find (is_of x.reference) old.asked ≡ o → ends_of old v.credits x o ≡ (answer, new)
+    → Counts old (Hear v b answer) new
+ends_counts old v b answer new x None f e = refused old v b answer new faults.Unknown e
+ends_counts old v b answer new x (Some asked) f e = end_counts old v b answer new x asked _ f e
+
+hear_counts : (old : PortAccount) (v : Envelope) (b : List ℕ) (answer : Result Heard HearFault) (new : PortAccount)
+    (r : Result Message HearFault) → heard_of old v.credits r ≡ (answer, new) → Counts old (Hear v b answer) new
+hear_counts old v b answer new (Err fault) e = refused old v b answer new fault e
+hear_counts old v b answer new (Ok (messages.End x)) e = ends_counts old v b answer new x _ refl e
+hear_counts old v b answer new (Ok (messages.Attention code unit)) e =
+    heard_none old v b answer new (attention_of code unit) (attention_none code unit) e
+hear_counts old v b answer new (Ok messages.Datagram) e = heard_none old v b answer new heards.Logged refl e
+hear_counts old v b answer new (Ok messages.Credits) e =
+    heard_none old v b answer new (heards.Credits v.credits) refl e
+
+counts : (old : PortAccount) (m : PortMoment) (new : PortAccount) → PortAnswers old m new → Counts old m new
+counts old (Submit command answer) new e = submit_counts old command answer new _ refl e
+counts old (Ask n answer) new e = poll_counts old n answer new _ refl e
+counts old (Hear v b answer) new e = hear_counts old v b answer new _ e
+counts old Other new e = quiet old Other new e refl refl refl
+
+-- ---- all of them
+
+all_over : (old : PortAccount) (h : PortHistory) (new : PortAccount) → PortAnswered old h new → new.is_over ≡ false
+    → old.is_over ≡ false
+all_over old [] new a f = sym (ap (λ (p : PortAccount). p.is_over) a) ∙ f
+all_over old (m ∷ rest) new a f = (counts old m a.0 a.1).over (all_over a.0 rest new a.2 f)
+
+pub keeps_count : PortHostsKeepCount
+keeps_count old [] new a =
+    let c = ap (λ (p : PortAccount). p.credits) a in
+    let l = ap (λ (p : PortAccount). length p.asked) a in
+    record { credits = λ f. omega (arith, c); no_more = omega (arith, c); commands = omega (arith, l) }
+keeps_count old (m ∷ rest) new a =
+    let one = counts old m a.0 a.1 in
+    let more = keeps_count a.0 rest new a.2 in
+    let s = sum_by-cons sent_in m rest in
+    let t = sum_by-cons told_in m rest in
+    let d = sum_by-cons ended_in m rest in
+    let once = one.no_more in
+    let after = more.no_more in
+    let ends = one.commands in
+    let others = more.commands in
+    record {
+      credits = λ f.
+          let now = one.credits (all_over a.0 rest new a.2 f) in
+          let later = more.credits f in
+          omega (arith, now, later, s, t);
+      no_more = omega (arith, once, after, s, t);
+      commands = omega (arith, ends, others, s, d);
+    }

@@ -1,0 +1,149 @@
+-- A watch waits a whole timeout.
+use Rattle.mscp_host.proofs.Common.{◌≡◌, ◌≤◌, ℕ, ◌+◌, Bool, true, false, ◌&&◌, cond, List, [], ◌∷◌, refl, ap, sym, subst, ◌∙◌, arith, if◌then◌else◌, not, and_parts, ltb-true, leb-true, not-true, false≢true}
+use Rattle.std.specs.Prelude.{min}
+use Rattle.std.proofs.lemmas.List.Sums.{sum_by-cons}
+use Rattle.mscp_host.specs.declared.heard.Heard.{Heard}
+use Rattle.mscp_host.specs.declared.ticking.Advice.{Advice}
+use Rattle.mscp_host.specs.declared.ticking.Advice.TheVariants as advices
+use Rattle.mscp_host.specs.declared.ticking.Watch.{Watch}
+use Rattle.mscp_host.specs.PortAccounts.{PortAccount}
+use Rattle.mscp_host.specs.Watching.{Lately, Tick, Told, WatchMoment, Watched, WatchesArePatient, advice, advised, counted, is_answer, is_owed, is_polled, is_silent, is_tick, is_unpolled, is_waiting, ticked}
+
+-- ---- the newest moments
+
+none : (test : WatchMoment → Bool) (before : List WatchMoment) → Lately test 0 before
+none test before = record { lately = []; earlier = before; is = refl; all = refl; many = omega arith }
+
+one_tick : (test : WatchMoment → Bool) (n : ℕ) (before : List WatchMoment) (m : WatchMoment) (k : ℕ)
+    → cond (is_tick m) 1 0 ≡ k → test m ≡ true → Lately test n before → Lately test (n + k) (m ∷ before)
+one_tick test n before m k t e l =
+    let many = l.many in
+    let more = sum_by-cons (λ x. cond (is_tick x) 1 0) m l.lately in
+    record {
+      lately = m ∷ l.lately;
+      earlier = l.earlier;
+      is = ap (λ (xs : List WatchMoment). m ∷ xs) l.is;
+      all = λ i. e i && l.all i;
+      many = omega (arith, many, more, t);
+    }
+
+fewer : (test : WatchMoment → Bool) (n k : ℕ) (before : List WatchMoment) → k ≤ n → Lately test n before
+    → Lately test k before
+fewer test n k before less l =
+    let many = l.many in
+    record { lately = l.lately; earlier = l.earlier; is = l.is; all = l.all; many = omega (arith, many, less) }
+
+-- a tick more, if that goes on
+counts_on : (test : WatchMoment → Bool) (n : ℕ) (before : List WatchMoment) (p : PortAccount) (answer : Advice)
+    (b : Bool) → (b ≡ true → test (Tick p answer) ≡ true) → Lately test n before
+    → Lately test (counted b n) (Tick p answer ∷ before)
+counts_on test n before p answer true t l =
+    fewer test (n + 1) (min (n + 1) 4294967295) _ (omega arith)
+    (one_tick test n before (Tick p answer) 1 refl (t refl) l)
+counts_on test n before p answer false t l = none test _
+
+told_on : (test : WatchMoment → Bool) (n : ℕ) (before : List WatchMoment) (heard : Heard) → test (Told heard) ≡ true
+    → Lately test n before → Lately test n (Told heard ∷ before)
+told_on test n before heard t l =
+    let same : n ≤ n + 0 = omega arith in
+    fewer test (n + 0) n _ same (one_tick test n before (Told heard) 0 refl t l)
+
+-- ---- what a watch has counted
+
+record Has (timeout : ℕ) (before : List WatchMoment) (w : Watch) : Type 0 where
+  is : w.timeout ≡ timeout
+  waited : Lately is_unpolled w.waited before
+  silent : Lately is_silent w.silent before
+
+tick_has : (timeout : ℕ) (before : List WatchMoment) (old : Watch) (p : PortAccount) (answer : Advice)
+    → Has timeout before old → Has timeout (Tick p answer ∷ before) (advised (ticked old p) answer)
+tick_has timeout before old p advices.Nothing h = record {
+  is = h.is;
+  waited = counts_on is_unpolled old.waited before p advices.Nothing (is_waiting p) (λ e. e) h.waited;
+  silent = counts_on is_silent old.silent before p advices.Nothing (is_owed p) (λ e. e) h.silent;
+}
+tick_has timeout before old p advices.Poll h = record {
+  is = h.is;
+  waited = none is_unpolled _;
+  silent = counts_on is_silent old.silent before p advices.Poll (is_owed p) (λ e. e) h.silent;
+}
+tick_has timeout before old p advices.Reset h = record {
+  is = h.is;
+  waited = none is_unpolled _;
+  silent = none is_silent _;
+}
+
+told_has : (timeout : ℕ) (before : List WatchMoment) (old : Watch) (heard : Heard) (b : Bool) → is_answer heard ≡ b
+    → Has timeout before old
+    → Has timeout (Told heard ∷ before) (if b then record old { silent = 0 } else old)
+told_has timeout before old heard true e h = record {
+  is = h.is;
+  waited = told_on is_unpolled old.waited before heard refl h.waited;
+  silent = none is_silent _;
+}
+told_has timeout before old heard false e h = record {
+  is = h.is;
+  waited = told_on is_unpolled old.waited before heard refl h.waited;
+  silent = told_on is_silent old.silent before heard (ap not e) h.silent;
+}
+
+has : (timeout : ℕ) (before : List WatchMoment) (w : Watch) → Watched timeout before w → Has timeout before w
+has timeout [] w e =
+    subst (Has timeout []) (sym e) (record { is = refl; waited = none is_unpolled []; silent = none is_silent [] })
+has timeout (Tick p answer ∷ before) w x =
+    let said : advice (ticked x.0 p) p ≡ answer = ap (λ q. q.0) x.1 in
+    let kept : advised (ticked x.0 p) answer ≡ w =
+    ap (advised (ticked x.0 p)) (sym said) ∙ ap (λ q. q.1) x.1 in
+    subst (Has timeout (Tick p answer ∷ before)) kept
+    (tick_has timeout before x.0 p answer (has timeout before x.0 x.2))
+has timeout (Told heard ∷ before) w x =
+    subst (Has timeout (Told heard ∷ before)) (sym x.1)
+    (told_has timeout before x.0 heard (is_answer heard) refl (has timeout before x.0 x.2))
+
+-- ---- what it says
+
+-- the reasons
+abbrev is_reset : Advice → Bool
+is_reset advices.Reset = true
+is_reset answer = false
+
+abbrev is_poll : Advice → Bool
+is_poll advices.Poll = true
+is_poll answer = false
+
+resets : (b d : Bool) → (if b then advices.Reset else (if d then advices.Poll else advices.Nothing)) ≡ advices.Reset
+    → b ≡ true
+resets true d e = refl
+resets false true e = absurd (false≢true (ap is_reset e))
+resets false false e = absurd (false≢true (ap is_reset e))
+
+polls : (b d : Bool) → (if b then advices.Reset else (if d then advices.Poll else advices.Nothing)) ≡ advices.Poll
+    → d ≡ true
+polls true d e = absurd (false≢true (ap is_poll e))
+polls false true e = refl
+polls false false e = absurd (false≢true (ap is_poll e))
+
+counted_most : (b : Bool) (n : ℕ) → counted b n ≤ n + 1
+counted_most true n = omega arith
+counted_most false n = let e : 0 ≤ n + 1 = omega arith in e
+
+pub are_patient : WatchesArePatient
+are_patient timeout before w new p answer watched e =
+    let h = has timeout before w watched in
+    let said : advice (ticked w p) p ≡ answer = ap (λ q. q.0) e in
+    let same = h.is in
+    record {
+      polls = λ is.
+          let yes = polls _ _ (said ∙ is) in
+          let one = and_parts (is_waiting p) _ yes in
+          let two = and_parts (not (is_polled p)) _ one.1 in
+          let long = leb-true w.timeout (counted (is_waiting p) w.waited) two.1 in
+          let most = counted_most (is_waiting p) w.waited in
+          (one.0, not-true (is_polled p) two.0, (w.waited, omega (arith, long, most, same), h.waited));
+      resets = λ is.
+          let yes = resets _ _ (said ∙ is) in
+          let one = and_parts (is_owed p) _ yes in
+          let long = ltb-true w.timeout (counted (is_owed p) w.silent) one.1 in
+          let most = counted_most (is_owed p) w.silent in
+          (one.0, fewer is_silent w.silent timeout before (omega (arith, long, most, same)) h.silent);
+    }

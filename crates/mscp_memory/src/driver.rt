@@ -1,0 +1,9 @@
+//! A driver's account of its port in memory.
+
+mod calls;
+mod handle;
+mod marks;
+
+pub use crate::driver::calls::{is_made, lend, place, room_fault};
+pub use crate::driver::handle::Handle;
+pub use crate::driver::marks::{ALIGN, MADE, ROOM, SIZE};

@@ -1,0 +1,45 @@
+// What a handle says of its memory, lends of it, and takes into it.
+
+ghost use Rattle.std.specs.Prelude.{◌≡◌, true};
+ghost use Rattle.std.specs.Borrow.{Lends, sem};
+ghost use Rattle.mscp_memory.specs.contracts.driver.handle.Handle.{the_row};
+ghost use Rattle.mscp_memory.specs.DriverHandles.{is_made, is_room, placed, room_fault, row, with_held};
+
+use crate::driver::handle::Handle;
+use crate::driver::marks::{KIND, MADE};
+use crate::fault::{self, RoomFault};
+use mscp_host::PortHost;
+
+/// Whether its memory holds a driver's account.
+pub fn is_made(handle: &mut Handle) -> bool
+    ensures value { result ≡ is_made handle.old }
+    ensures same { handle.new ≡ handle.old }
+{
+    handle.mark == MADE
+}
+
+/// Why its memory is no room for a driver's account, if it isn't.
+pub fn room_fault(handle: &mut Handle) -> Option<RoomFault>
+    ensures value { result ≡ room_fault handle.old }
+    ensures same { handle.new ≡ handle.old }
+{
+    fault::room_fault(handle.address, handle.length, handle.mark, KIND)
+}
+
+/// The account.
+pub fn lend(handle: &mut Handle) -> &mut PortHost
+    requires { is_made handle.old ≡ true }
+    ensures* writes_back { sem 𝓛 (Lends the_row row handle.entry result (with_held handle.old)) }
+    ensures value { result.now ≡ handle.old.held }
+{
+    unsafe { &mut *(handle.at as *mut PortHost) }
+}
+
+/// Moves a driver's account into the memory.
+pub fn place(handle: &mut Handle, held: PortHost)
+    requires { is_room handle.old ≡ true }
+    ensures { handle.new ≡ placed handle.old held }
+{
+    unsafe { (handle.at as *mut PortHost).write(held) };
+    handle.mark = MADE;
+}
