@@ -45,7 +45,8 @@ tell_more left [] (y ∷ ys) p x h one = absurd h
 tell_more left (q ∷ qs) [] p x h one = absurd h
 tell_more left (q ∷ qs) (y ∷ ys) p x h one = (h.0, tell_more (left_after left y.kind) qs ys p x h.1 one)
 
-pub left_more : (left : ℕ) (xs : List Said) (x : Said) → left_all left (xs ++ x ∷ []) ≡ left_after (left_all left xs) x.kind
+pub left_more : (left : ℕ) (xs : List Said) (x : Said)
+    → left_all left (xs ++ x ∷ []) ≡ left_after (left_all left xs) x.kind
 left_more left [] x = refl
 left_more left (y ∷ ys) x = left_more (left_after left y.kind) ys x
 

@@ -82,7 +82,8 @@ module _ {K : Type 0} (h : Hardware) (units : List Shape) (call : Call) (old new
       (since new.stage call ys (ends_said_by call old new))
 
   became : (xs' : List Leaving) (ys' : List (List ℕ)) → since new.stage call xs (came_by call old new) ≡ xs'
-      → since new.stage call ys (ends_said_by call old new) ≡ ys' → Ends h units new xs' ys' → new.hardware ≡ old.hardware
+      → since new.stage call ys (ends_said_by call old new) ≡ ys' → Ends h units new xs' ys'
+      → new.hardware ≡ old.hardware
       → So
   became xs' ys' e f x hardware = record {
     ends = subst (λ z. Ends h units new z (since new.stage call ys (ends_said_by call old new))) (sym e)
@@ -254,7 +255,8 @@ module _ {K : Type 0} (picks : Picking K) (c : Settings) (picker : K)
 
       others : (IsReadingText a.0.task → ⊥) → Kept p (WasRead bytes (Ok done) ∷ calls) a
       others other = elim (read_stays bytes done a.0 p a.2 other) [
-        | inl same ↦ grows_so hardware c.units (WasRead bytes (Ok done)) a.0 p xs ys k calm (answer_of p) (answer_left p)
+        | inl same ↦ grows_so hardware c.units (WasRead bytes (Ok done)) a.0 p xs ys k calm (answer_of p)
+            (answer_left p)
             (none_come a.0 p (answer_of p) (ap (λ h. ends_of h) same.0) (ap (λ d. d.items) same.1))
             (λ e. ap (λ f. record { end = e; fields = f }) (answer_so p e)) (still same.3) refl refl same.2
         | inr d ↦ dies_so hardware c.units (WasRead bytes (Ok done)) a.0 p xs ys k calm d
@@ -339,12 +341,14 @@ module _ {K : Type 0} (picks : Picking K) (c : Settings) (picker : K)
       by (tasks.Step verdict) at = step_so verdict (ap (verdict_in a.0 outcome) at) ((a.2.moves refl).step verdict at)
       by tasks.Transfer at =
           step_so (block_served a.0 outcome (block_begun a.0))
-          (ap (verdict_in a.0 outcome) at ∙ sym (verdict_so a.0 outcome (block_begun a.0))) ((a.2.moves refl).transfer at)
+          (ap (verdict_in a.0 outcome) at ∙ sym (verdict_so a.0 outcome (block_begun a.0)))
+          ((a.2.moves refl).transfer at)
       by task at = others task at refl
 
   pub kept : (p : Port K) (calls : List Call) (a : Answered picks start calls p) → Kept p calls a
   kept p [] a = record {
-    ends = none_left hardware c.units p (ap (λ (q : Port K). ends_of q.controller) a ∙ ap (λ h. ends_of h) made.over ∙ quiet)
+    ends = none_left hardware c.units p (ap (λ (q : Port K). ends_of q.controller) a
+        ∙ ap (λ h. ends_of h) made.over ∙ quiet)
         (ap (λ (q : Port K). q.decided.items) a ∙ made.decided);
     hardware = ap (λ (q : Port K). q.hardware) a ∙ made.hardware;
   }

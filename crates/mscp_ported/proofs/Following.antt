@@ -170,7 +170,8 @@ module _ {K : Type 0} (picks : Picking K) (hardware : Hardware) (credits : ℕ) 
       → IsOwed p.stage (talk_of picks start a.0 calls a.1) (talk_of picks start a.0 calls a.1).turn action bytes
   owed_so p calls blocks action bytes asks a =
       (follows (picks a.0.controller.picker) blocks a.0 p action bytes (talk_of picks start a.0 calls a.1) (wish calls)
-      (said picks start a.0 calls a.1) (accepted picks start a.0 calls a.1) (in_step a.0 calls asks a.1) a.2.0 a.2.1).owed
+      (said picks start a.0 calls a.1) (accepted picks start a.0 calls a.1)
+      (in_step a.0 calls asks a.1) a.2.0 a.2.1).owed
 
 -- what was accepted, by the message in hand
 pub accepted_so : (task : Task) (turn : Turn) (heard : List Message) (texts : List (List ℕ))

@@ -72,7 +72,8 @@ module _ {K : Type 0} (picks : List Choice → ℕ → Type 0) (old new : Port K
   packet_so slot at = elim (is_done picks old new t w outcome done said texts k r) [
     | inl is ↦ done_so (old.untold - (credits_with old.untold old.outgoing - 1)) refl
         (ap look (((r.acts refl).packet slot at).done is))
-    | inr never ↦ (dead_so picks old new t w outcome done said texts k r) 2 (((r.acts refl).packet slot at).missing never)
+    | inr never ↦ (dead_so picks old new t w outcome done said texts k r) 2
+        (((r.acts refl).packet slot at).missing never)
   ]
     where
       s : Slot
@@ -112,10 +113,14 @@ module _ {K : Type 0} (picks : List Choice → ℕ → Type 0) (old new : Port K
 
       done_so : (u : ℕ) → u ≡ old.untold - (credits_with old.untold old.outgoing - 1)
           → look new ≡ record (look old) { untold = u; task = tasks.Return Responses slot } → So
-      done_so u is e = (goes_on picks old new t w outcome done said texts k r) (record (look old) { untold = u; task = tasks.Return Responses slot })
-          (record t { turn = Written s address w.bytes }) said e (alive picks old new t w outcome done said texts k r) (same_stage old.stage _ ∙ talk) (same_said picks old new t w outcome done said texts k r)
+      done_so u is e = (goes_on picks old new t w outcome done said texts k r) (record
+          (look old) { untold = u; task = tasks.Return Responses slot })
+          (record t { turn = Written s address w.bytes }) said e
+          (alive picks old new t w outcome done said texts k r) (same_stage old.stage _
+          ∙ talk) (same_said picks old new t w outcome done said texts k r)
           (up_step (look old) t (Some w) said said texts texts old.responses old.commands (tasks.Return Responses slot)
-          old.outgoing u (Written s address w.bytes) t.told t.heard k ((up_of picks old new t w outcome done said texts k r) (tasks.Packet slot) at tt) k.counts
+          old.outgoing u (Written s address w.bytes) t.told t.heard k
+          ((up_of picks old new t w outcome done said texts k r) (tasks.Packet slot) at tt) k.counts
           (address, w.bytes, refl) (subst (λ x. IsOwned x) taken k.hand.own)
           (λ h. k.speech.has (subst (λ x. NeedsOut x) (sym at) tt)) (λ h. h) (λ h. h) (tells_so is)
           (ap (λ x. map message_text t.heard ++ in_hand x t.turn) (sym at) ∙ k.hears))
@@ -132,7 +137,8 @@ module _ {K : Type 0} (picks : List Choice → ℕ → Type 0) (old new : Port K
               → (IsOfRings (cond b tasks.Free (cond c (tasks.Word side) (tasks.Neighbour side))) → Unit {0})
               × (NeedsOut (cond b tasks.Free (cond c (tasks.Word side) (tasks.Neighbour side))) → ⊥)
               × (IsClear (cond b tasks.Free (cond c (tasks.Word side) (tasks.Neighbour side))) → ⊥)
-              × ((turn : Turn) → in_hand (cond b tasks.Free (cond c (tasks.Word side) (tasks.Neighbour side))) turn ≡ [])
+              × ((turn : Turn) → in_hand (cond b tasks.Free (cond c (tasks.Word side)
+              (tasks.Neighbour side))) turn ≡ [])
           cases true c = (λ h. tt, λ h. h, λ h. h, λ turn. refl)
           cases false true = (λ h. tt, λ h. h, λ h. h, λ turn. refl)
           cases false false = (λ h. tt, λ h. h, λ h. h, λ turn. refl)
@@ -204,7 +210,8 @@ module _ {K : Type 0} (picks : List Choice → ℕ → Type 0) (old new : Port K
             responses = (old.responses + 1) % 256;
             outgoing = None;
             task = hears_of area Responses slot;
-          }) (record t { turn = given_turn t.rings s; told = t.told ++ packet ∷ [] }) said e (alive picks old new t w outcome done said texts k r)
+          }) (record t { turn = given_turn t.rings s; told = t.told ++ packet ∷ [] }) said e
+          (alive picks old new t w outcome done said texts k r)
           (same_stage old.stage _ ∙ (write_one picks old new t w outcome done said texts k r) (Written s was.0 was.1)
           (record t { turn = given_turn t.rings s; told = t.told ++ packet ∷ [] }) was.2
           (subst (λ x. IsAsked (look old) x w) at k.hand.asked) (λ address. refl))
@@ -219,7 +226,8 @@ module _ {K : Type 0} (picks : List Choice → ℕ → Type 0) (old new : Port K
                 (one_more old.rings Responses 0 (map packet_slot t.told) s k.counts.packets refl
                 (ap (address_in old.rings Responses) k.counts.told_so
                 ∙ address_mod old.rings Responses (length t.told) k.names.wide
-                ∙ ap (address_in old.rings Responses) (place_so (map packet_slot t.told) (length-map t.told packet_slot))) own);
+                ∙ ap (address_in old.rings Responses) (place_so (map packet_slot t.told)
+                (length-map t.told packet_slot))) own);
             messages = k.counts.messages;
             none = λ n. absurd (none-some area (sym n ∙ some));
           }) turn.0 turn.1 (λ h. absurd (calm.1 h)) calm.2 (hears_block area Responses)
@@ -275,12 +283,15 @@ module _ {K : Type 0} (picks : List Choice → ℕ → Type 0) (old new : Port K
           (goes_on picks old new t w outcome done said texts k r) (record (look old) {
             commands = (old.commands + 1) % 256;
             task = hears_of area Commands slot;
-          }) (record t { turn = given_turn t.rings s; heard = t.heard ++ message ∷ [] }) said e (alive picks old new t w outcome done said texts k r)
+          }) (record t { turn = given_turn t.rings s; heard = t.heard ++ message ∷ [] }) said e
+          (alive picks old new t w outcome done said texts k r)
           (same_stage old.stage _ ∙ (write_one picks old new t w outcome done said texts k r) (Read s was.0 was.1)
           (record t { turn = given_turn t.rings s; heard = t.heard ++ message ∷ [] }) was.2
-          (subst (λ x. IsAsked (look old) x w) at k.hand.asked) (λ address. refl)) (same_said picks old new t w outcome done said texts k r)
+          (subst (λ x. IsAsked (look old) x w) at k.hand.asked) (λ address. refl))
+          (same_said picks old new t w outcome done said texts k r)
           (up_step (look old) t (Some w) said said texts texts old.responses ((old.commands + 1) % 256)
-          (hears_of area Commands slot) old.outgoing old.untold (given_turn t.rings s) t.told (t.heard ++ message ∷ []) k
+          (hears_of area Commands slot) old.outgoing old.untold (given_turn t.rings s) t.told
+          (t.heard ++ message ∷ []) k
           ((up_of picks old new t w outcome done said texts k r) (tasks.Return Commands slot) at tt) (record {
             told_so = k.counts.told_so;
             heard_so = counted_so old.commands t.heard message k.counts.heard_so;
@@ -290,11 +301,14 @@ module _ {K : Type 0} (picks : List Choice → ℕ → Type 0) (old new : Port K
                 (one_more old.rings Commands 0 (map message_slot t.heard) s k.counts.messages refl
                 (ap (address_in old.rings Commands) k.counts.heard_so
                 ∙ address_mod old.rings Commands (length t.heard) k.names.wide
-                ∙ ap (address_in old.rings Commands) (place_so (map message_slot t.heard) (length-map t.heard message_slot))) own);
+                ∙ ap (address_in old.rings Commands) (place_so (map message_slot t.heard)
+                (length-map t.heard message_slot))) own);
             none = λ n. absurd (none-some area (sym n ∙ some));
           }) turn.0 turn.1 (λ h. absurd (calm.1 h)) calm.2
-          (hears_block area Commands) ((told_so picks old new t w outcome done said texts k r) (hears_of area Commands slot) (given_turn t.rings s)
-          ((quiet_of picks old new t w outcome done said texts k r) (tasks.Return Commands slot) at (λ h. h)) (hears_quiet area Commands))
+          (hears_block area Commands) ((told_so picks old new t w outcome done said texts k r)
+          (hears_of area Commands slot) (given_turn t.rings s)
+          ((quiet_of picks old new t w outcome done said texts k r) (tasks.Return Commands slot) at (λ h. h))
+          (hears_quiet area Commands))
           (ap (λ xs. map message_text (t.heard ++ message ∷ []) ++ xs) (calm.3 (given_turn t.rings s))
           ∙ append-nil (map message_text (t.heard ++ message ∷ []))
           ∙ map-append message_text t.heard (message ∷ [])

@@ -103,7 +103,8 @@ module _ {K : Type 0} (old new : Port K) (t : Talk) (w : Wish) (bytes : List ℕ
   task_on : (task task' : Task) (turn : Turn) → old.task ≡ task → IsOfRings task
       → look new ≡ record (look old) { task = task' } → read_by w.action bytes t ≡ record t { turn = turn }
       → accepted_by (WasRead bytes (Ok done)) old ≡ [] → Fits (record (look old) { task = task' }) task' turn
-      → IsOwned turn → (NeedsOut task' → old.outgoing ≢ None) → (IsClear task' → ⊥) → (IsOfBlock task' → ⊥) → (IsTelling task → ⊥)
+      → IsOwned turn → (NeedsOut task' → old.outgoing ≢ None) → (IsClear task' → ⊥) → (IsOfBlock task' → ⊥)
+      → (IsTelling task → ⊥)
       → (IsTelling task' → ⊥) → in_hand task t.turn ≡ [] → in_hand task' turn ≡ [] → So
   task_on task task' turn at ring e talk none fits own has clear no_block calm calm' before after =
       let up : old.stage ≡ stages.Up = k.hand.up (subst (λ x. IsOfRings x) (sym at) ring) in
@@ -160,7 +161,8 @@ module _ {K : Type 0} (old new : Port K) (t : Talk) (w : Wish) (bytes : List ℕ
           ≡ record t { turn = cond b (Taken (slot_at (look old) Responses (num bytes 0 4))) Idle } → So
       of_responses e true own h talk =
           task_on (tasks.Slot Responses) (tasks.Packet (record { word = num bytes 0 4 }))
-          (Taken (slot_at (look old) Responses (num bytes 0 4))) e tt (ap look h) talk (not_accepted Responses e) refl own
+          (Taken (slot_at (look old) Responses (num bytes 0 4))) e tt (ap look h) talk
+          (not_accepted Responses e) refl own
           (λ x. k.speech.has (subst (λ x. NeedsOut x) (sym e) tt)) (λ x. x) (λ x. x) (λ x. x) (λ x. x) refl refl
       of_responses e false own h talk =
           task_on (tasks.Slot Responses) tasks.Free Idle e tt (ap look h) talk (not_accepted Responses e) tt tt
@@ -193,7 +195,8 @@ module _ {K : Type 0} (old new : Port K) (t : Talk) (w : Wish) (bytes : List ℕ
     where
       by : (a : Action) → IsRead a → read_by a bytes t ≡ record t { turn = y }
       by (actions.Read address count) is =
-          ap (λ u. record t { turn = read_turn t.rings address bytes u }) e ∙ ap (λ u. record t { turn = u }) (h address)
+          ap (λ u. record t { turn = read_turn t.rings address bytes u }) e
+          ∙ ap (λ u. record t { turn = u }) (h address)
       by a is = absurd is
 
   neighbour_so : (side : Side) → old.task ≡ tasks.Neighbour side → So
@@ -268,7 +271,8 @@ module _ {K : Type 0} (old new : Port K) (t : Talk) (w : Wish) (bytes : List ℕ
           ∙ ap (λ c. cond c (bytes ∷ []) []) e
 
       -- its slot is given back
-      taken_so : (o : Option Outgoing) → accepts (own_end_of old foreign bytes) old.outgoing (answered_to old bytes) ≡ true
+      taken_so : (o : Option Outgoing) → accepts (own_end_of old foreign bytes) old.outgoing
+          (answered_to old bytes) ≡ true
           → look new ≡ record (look old) { outgoing = o; task = tasks.Return Commands slot }
           → (o ≡ old.outgoing) ⊎ (old.outgoing ≡ None) → So
       taken_so o is e either =
@@ -281,7 +285,8 @@ module _ {K : Type 0} (old new : Port K) (t : Talk) (w : Wish) (bytes : List ℕ
           (subst (λ x. IsTelling x → ⊥) (sym at) (λ x. x)) (λ x. x) either k.speech.tells)
           (ap (λ xs. xs ++ bytes ∷ []) (sym (append-nil (map message_text t.heard)) ∙ heard_so)))
 
-      stays_so : accepts (own_end_of old foreign bytes) old.outgoing (answered_to old bytes) ≡ false → stays old new → So
+      stays_so : accepts (own_end_of old foreign bytes) old.outgoing (answered_to old bytes) ≡ false
+          → stays old new → So
       stays_so no_more e = task_on (tasks.Text slot size foreign) tasks.Free turn at tt (ap look e) talk
           (accepted_so false no_more) tt own (λ x. absurd x) (λ x. x) (λ x. x) (λ x. x) (λ x. x) refl refl
 

@@ -123,8 +123,18 @@ step_grows {K} picks verdict old new takes long few = by old.controller.begun ta
             → new.decided.items ≡ decided_ended via verdict o old new
             → ends_of new.controller ≡ ends_of old.controller ++ brought_for via o
             → Grows old new (decided_by verdict old new)
-        of_ended First None is decided ends = record { brought = []; ends = ends; decided = decided ∙ sym (append-nil _) }
-        of_ended Second None is decided ends = record { brought = []; ends = ends; decided = decided ∙ sym (append-nil _) }
+        of_ended First None is decided ends = record {
+          brought = [];
+          ends = ends;
+          decided = decided
+              ∙ sym (append-nil _);
+        }
+        of_ended Second None is decided ends = record {
+          brought = [];
+          ends = ends;
+          decided = decided
+              ∙ sym (append-nil _);
+        }
         of_ended Second (Some e) is decided ends =
             record { brought = []; ends = ends; decided = decided ∙ sym (append-nil _) }
         of_ended First (Some e) is decided ends = record {
@@ -138,7 +148,8 @@ step_grows {K} picks verdict old new takes long few = by old.controller.begun ta
                 ≡ old.decided.items ++ decided_by verdict old new e ∷ []
             room true is = refl
             room false is = absurd (over (length old.decided.items) (length (ends_of old.controller))
-                (length (ends_of new.controller)) is long (ap length ends ∙ length-append (ends_of old.controller) (e ∷ []))
+                (length (ends_of new.controller)) is long (ap length ends
+                ∙ length-append (ends_of old.controller) (e ∷ []))
                 few)
 
 -- ---- what goes out

@@ -18,7 +18,8 @@ makes_none (Went outcome (Ok done)) old new is = absurd is
 makes_none (Went outcome (Err unasked)) old new is = refl
 makes_none call old new is = refl
 
-passive : {K : Type 0} (picks : Picking K) (call : Call) (old new : Port K) → Becomes picks call old new → IsPassive call
+passive : {K : Type 0} (picks : Picking K) (call : Call) (old new : Port K) → Becomes picks call old new
+    → IsPassive call
     → Follows picks call old new
 passive picks call old new r is = elim (passive_stays picks call old new r is) [
   | inl same ↦ inr ([], makes_none call old new is, same.0)

@@ -112,7 +112,8 @@ went picks outcome (Ok done) old new r = by old.task refl
 
     by : (t : Task) → old.task ≡ t → Follows picks (Went outcome (Ok done)) old new
     by (tasks.Step verdict) at =
-        step_so (tasks.Step verdict) verdict (told_of verdict) at refl (verdict_so verdict) ((r.moves refl).step verdict at)
+        step_so (tasks.Step verdict) verdict (told_of verdict) at refl (verdict_so verdict)
+        ((r.moves refl).step verdict at)
     by tasks.Transfer at =
         step_so tasks.Transfer (block_served old outcome (block_begun old))
         (transfer_told old outcome (block_begun old)) at refl (transfer_so old outcome (block_begun old))

@@ -138,7 +138,8 @@ module _ (u : Upcoming) (kind : MoveKind) (block : ℕ) (moves : block_moved u.c
     good_part at b v (Ok part) e h = by (nat_eq part.1 0) refl h
       where
         by : (c : Bool) → nat_eq part.1 0 ≡ c
-            → cond c (tasks.Step (verdicts.Served blocks.Good)) tasks.Transfer ≡ tasks.Step (verdicts.Served blocks.Good)
+            → cond c (tasks.Step (verdicts.Served blocks.Good)) tasks.Transfer ≡ tasks.Step
+            (verdicts.Served blocks.Good)
             → b.count ≤ u.done * 512
         by true is h = none_left b.count (u.done * 512)
             (sym (part_is b u.done part (part_left at.0 at.1 u.done b v part e)).1 ∙ eqb-true part.1 0 is)
@@ -229,7 +230,8 @@ module _ (u : Upcoming) (kind : MoveKind) (block : ℕ) (moves : block_moved u.c
                 (kept_of u.connection u.command.reference old.buffers.items) e (good_verdict verdict h)
               where
                 no_good_now : (o : Option ℕ) (k : Option Buffer)
-                    → part_at o k kind block u.done old.volumes ≡ Err verdict → verdict ≡ verdicts.Served blocks.Good → ⊥
+                    → part_at o k kind block u.done old.volumes ≡ Err verdict
+                    → verdict ≡ verdicts.Served blocks.Good → ⊥
                 no_good_now (Some place) (Some b) e is =
                     no_good_part kind block u.done b (volume_at old.volumes place) verdict e is
                 no_good_now None k e is = search (arith, e, is)
@@ -311,7 +313,8 @@ module _ {K : Type 0} (picks : Picking K) (hardware : Hardware) (credits : ℕ) 
 
       whose : (b : Buffer) → kept_of u.connection u.command.reference old.buffers.items ≡ Some b
           → ((b.count ≤ u.done * 512) ⊎ WasMoved b u kind block outcome (wish calls))
-          → (b : Buffer) × (u.connection ≡ First) × WasSaid picks u.command.reference u.command.unit start a.0 calls a.1 b
+          → (b : Buffer) × (u.connection ≡ First) × WasSaid picks u.command.reference u.command.unit start a.0
+          calls a.1 b
           × ((b.count ≤ u.done * 512) ⊎ WasMoved b u kind block outcome (wish calls))
       whose b kept either =
           let is = kept_said (λ unit x. WasSaid picks x.reference unit start old calls a.1 x) old u b
@@ -319,7 +322,8 @@ module _ {K : Type 0} (picks : Picking K) (hardware : Hardware) (credits : ℕ) 
           (b, is.0, subst (λ n. WasSaid picks n u.command.unit start old calls a.1 b) is.1 is.2, either)
 
       by : (task : Task) → old.task ≡ task → step_told old outcome old.task ≡ Some blocks.Good
-          → (b : Buffer) × (u.connection ≡ First) × WasSaid picks u.command.reference u.command.unit start a.0 calls a.1 b
+          → (b : Buffer) × (u.connection ≡ First) × WasSaid picks u.command.reference u.command.unit start a.0
+          calls a.1 b
           × ((b.count ≤ u.done * 512) ⊎ WasMoved b u kind block outcome (wish calls))
       by (tasks.Step verdict) at told =
           let good = good_verdict verdict (same_Some (told_of verdict) blocks.Good

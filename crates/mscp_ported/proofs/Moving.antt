@@ -74,7 +74,8 @@ keeps {K} old new w k s = record {
   where
     same : begun_task new.controller.settings.units new.buffers.items new.volumes (begun_step new.controller)
         ≡ begun_task old.controller.settings.units old.buffers.items old.volumes (begun_step old.controller)
-    same = ap (λ (c : Holdings K). begun_task c.settings.units new.buffers.items new.volumes (begun_step c)) k.controller
+    same = ap (λ (c : Holdings K). begun_task c.settings.units new.buffers.items new.volumes
+        (begun_step c)) k.controller
         ∙ ap (λ b. begun_task old.controller.settings.units b.items new.volumes (begun_step old.controller)) k.buffers
         ∙ ap (λ v. begun_task old.controller.settings.units old.buffers.items v (begun_step old.controller)) k.volumes
 
@@ -124,9 +125,16 @@ module _ {K : Type 0} (old new : Port K) (w : Option Wish) (s : Steps old w) whe
   }) s
 
   -- what is in hand stays, or is dropped
-  hand_so : (new.controller ≡ old.controller) → (new.volumes ≡ old.volumes) → Leaves old new ⊎ Drops old new → Steps new w
+  hand_so : (new.controller ≡ old.controller) → (new.volumes ≡ old.volumes) → Leaves old new ⊎ Drops old new
+      → Steps new w
   hand_so controller volumes hand = elim hand [
-    | inl l ↦ keeps old new w (record { controller = controller; buffers = l.buffers; volumes = volumes; task = l.task }) s
+    | inl l ↦ keeps old new w (record {
+      controller = controller;
+      buffers = l.buffers;
+      volumes = volumes;
+      task =
+          l.task;
+    }) s
     | inr d ↦ no_steps new w (λ h. elim d.task [
       | inl free ↦ subst (λ x. IsOfBlock x) free h
       | inr clear ↦ subst (λ x. IsOfBlock x) clear h
@@ -159,7 +167,8 @@ module _ {K : Type 0} (old new : Port K) (w : Option Wish) (s : Steps old w) whe
 -- something is wanted
 wants_so : {K : Type 0} (picks : Picking K) (blocks : Bool) (action : Action) (bytes : List ℕ) (old new : Port K)
     (w : Option Wish) → Becomes picks (Next blocks action bytes) old new → Steps old w
-    → ((code : ℕ) → old.stage ≡ stages.Dead code → IsOfBlock old.task → ⊥) → Steps new (Some (record { action = action; bytes = bytes }))
+    → ((code : ℕ) → old.stage ≡ stages.Dead code → IsOfBlock old.task → ⊥)
+    → Steps new (Some (record { action = action; bytes = bytes }))
 wants_so {K} picks blocks action bytes old new w r s calm = elim (alive_or_dead old old.stage refl) [
   | inl alive ↦ record { begun = begun_so alive; wanted = λ e. wanted_so alive e }
   | inr d ↦ no_steps new (Some (record { action = action; bytes = bytes }))
@@ -170,7 +179,8 @@ wants_so {K} picks blocks action bytes old new w r s calm = elim (alive_or_dead 
     begun_so alive h = by old.task refl
       where
         by : (task : Task) → old.task ≡ task
-            → new.task ≡ begun_task new.controller.settings.units new.buffers.items new.volumes (begun_step new.controller)
+            → new.task ≡ begun_task new.controller.settings.units new.buffers.items new.volumes
+            (begun_step new.controller)
         by tasks.Free at =
             let b = (r.0.begins alive at h).begun in
             b.4 ∙ ap (begun_task new.controller.settings.units new.buffers.items new.volumes) (sym b.5)

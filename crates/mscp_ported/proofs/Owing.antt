@@ -63,7 +63,8 @@ module _ {K : Type 0} (p : Port K) (t : Talk) (action : Action) (bytes : List �
   count_so Responses = counts.told_so
   count_so Commands = counts.heard_so
 
-  pub asked_of : (task : Task) → IsWanted p task action → bytes ≡ bytes_wanted p task → (IsOfRings task → p.rings ≢ None)
+  pub asked_of : (task : Task) → IsWanted p task action → bytes ≡ bytes_wanted p task → (IsOfRings task
+      → p.rings ≢ None)
       → (NeedsOut task → p.outgoing ≢ None)
       → IsAsked (look p) task (record { action = action; bytes = bytes })
   asked_of tasks.Free h is some out = tt
@@ -71,8 +72,10 @@ module _ {K : Type 0} (p : Port K) (t : Talk) (action : Action) (bytes : List �
   asked_of (tasks.Clear done) h is some out = tt
   asked_of (tasks.Slot side) h is some out =
       in_rings (λ r. action ≡ actions.Read (slot_in r side (given_in p side)) 4)
-      (IsSomeAnd p.rings (λ r. action ≡ actions.Read (slot_in r side (given_at (look p) side)) 4)) p.rings refl (some tt) h
-      (λ r e x. subst (λ o. IsSomeAnd o (λ y. action ≡ actions.Read (slot_in y side (given_at (look p) side)) 4)) (sym e)
+      (IsSomeAnd p.rings (λ r. action ≡ actions.Read (slot_in r side (given_at
+      (look p) side)) 4)) p.rings refl (some tt) h
+      (λ r e x. subst (λ o. IsSomeAnd o (λ y. action ≡ actions.Read (slot_in y side (given_at
+      (look p) side)) 4)) (sym e)
       (x ∙ ap (λ n. actions.Read (slot_in r side n) 4) (given_same p side)))
   asked_of (tasks.Header slot) h is some out = subst (λ x. IsRead x) (sym h) tt
   asked_of (tasks.Text slot size foreign) h is some out = subst (λ x. IsRead x) (sym h) tt
@@ -87,10 +90,12 @@ module _ {K : Type 0} (p : Port K) (t : Talk) (action : Action) (bytes : List �
       by None e h = h
       by (Some x) e h = is ∙ ap (packet_out p) e ∙ h
   asked_of (tasks.Return side slot) h is some out =
-      in_rings (λ r. action ≡ actions.Write (slot_in r side (given_in p side)) 4) (IsWrite action) p.rings refl (some tt) h
+      in_rings (λ r. action ≡ actions.Write (slot_in r side (given_in p side)) 4)
+      (IsWrite action) p.rings refl (some tt) h
       (λ r e x. subst (λ y. IsWrite y) (sym x) tt)
   asked_of (tasks.Neighbour side) h is some out =
-      in_rings (λ r. action ≡ actions.Read (slot_in r side (given_in p side + 2 * slots_of r side - 2)) 4) (IsRead action)
+      in_rings (λ r. action ≡ actions.Read (slot_in r side (given_in p side + 2 * slots_of r side - 2)) 4)
+      (IsRead action)
       p.rings refl (some tt) h (λ r e x. subst (λ y. IsRead y) (sym x) tt)
   asked_of (tasks.Word side) h is some out =
       in_rings (λ r. action ≡ actions.Write (word_of r side) 2) (IsWrite action) p.rings refl (some tt) h
@@ -157,8 +162,10 @@ module _ {K : Type 0} (p : Port K) (t : Talk) (action : Action) (bytes : List �
   owed_of tasks.Transfer h is at within some up clear area fit = owed_open t.turn fit
       (else_calm p.stage t action bytes (subst (λ x. IsElse x) (sym h) (move_else p (block_begun p))))
   owed_of (tasks.Clear done) h is at within some up clear area fit = owed_open t.turn fit
-      (in_rings (λ r. action ≡ actions.Write (clear_from p r done) (clear_count p r done)) (IsCalm p.stage t action bytes)
-      p.rings refl (area tt) h (λ r e x. subst (λ a. IsCalm p.stage t a bytes) (sym x) (clear tt, zeros r e, inside r e x)))
+      (in_rings (λ r. action ≡ actions.Write (clear_from p r done) (clear_count p r done))
+      (IsCalm p.stage t action bytes)
+      p.rings refl (area tt) h (λ r e x. subst (λ a. IsCalm p.stage t a bytes) (sym x)
+      (clear tt, zeros r e, inside r e x)))
     where
       zeros : (r : Rings) → p.rings ≡ Some r → bytes ≡ replicate (clear_count p r done) 0
       zeros r e = is ∙ ap (zeros_out p done) e
@@ -176,8 +183,13 @@ module _ {K : Type 0} (p : Port K) (t : Talk) (action : Action) (bytes : List �
           by (inr h) = absurd (subst (λ y. IsSomeAnd (in_hand y)
               (λ word. IsInPacket word (clear_from p r done) (clear_count p r done))) at h)
   owed_of (tasks.Slot side) h is at within some up clear area fit = owed_open t.turn fit
-      (in_rings (λ r. action ≡ actions.Read (slot_in r side (given_in p side)) 4) (IsCalm p.stage t action bytes) p.rings
-      refl (some tt) h (λ r e x. subst (λ a. IsCalm p.stage t a bytes) (sym x) (up tt, refl, (side, slot_count r side e))))
+      (in_rings (λ r. action ≡ actions.Read (slot_in r side (given_in p side)) 4)
+      (IsCalm p.stage t action bytes) p.rings
+      refl (some tt) h (λ r e x. subst (λ a. IsCalm p.stage t a bytes) (sym x) (
+        up tt,
+        refl,
+        (side, slot_count r side e),
+      )))
   owed_of (tasks.Header slot) h is at within some up clear area fit =
       owed_at t.turn (Taken (slot_at (look p) Commands slot.word)) fit h
   owed_of (tasks.Text slot size foreign) h is at within some up clear area fit =

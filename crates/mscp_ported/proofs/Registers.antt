@@ -129,7 +129,11 @@ pub reads_ip : {K : Type 0} (old new : Port K) (t : Talk) (w : Option Wish) (sai
 reads_ip {K} old new t w said texts r k = by old.stage refl
   where
     plain : IsPlain ReadIp old
-    plain = record { talk = λ w x. refl; no_reset = record { said = λ s xs ys. refl; texts = λ s xs ys. refl }; accepts = refl }
+    plain = record {
+      talk = λ w x. refl;
+      no_reset = record { said = λ s xs ys. refl; texts = λ s xs ys. refl };
+      accepts = refl;
+    }
 
     probed : old.stage ≡ stages.Probing → (o : Option Rings) → old.rings ≡ o
         → After ReadIp old (look new) t w w said texts

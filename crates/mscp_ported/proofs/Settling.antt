@@ -59,9 +59,11 @@ module _ {K : Type 0} (picks : List Choice → ℕ → Type 0) (old new : Port K
           → stepped old.stage s t ≡ t → has_area s ≡ false → (is_early s ≡ true → old.rings ≡ None)
           → look new ≡ record (look old) { stage = s; word = None; task = tasks.Free } → So
       stays s word' not_up lives same no_area early e =
-          (goes_on picks old new t w outcome done said texts k r) (record (look old) { stage = s; word = None; task = tasks.Free }) t said e lives
+          (goes_on picks old new t w outcome done said texts k r) (record
+          (look old) { stage = s; word = None; task = tasks.Free }) t said e lives
           (ap (stepped old.stage s) deed ∙ same) (same_said picks old new t w outcome done said texts k r)
-          (init_step (look old) t (Some w) said texts s old.words.first old.words.second old.rings None tasks.Free t.turn
+          (init_step (look old) t (Some w) said texts s old.words.first old.words.second old.rings None
+          tasks.Free t.turn
           t.rings t.first t.second k not_up calm.0 calm.1 (record {
             first_so = k.names.first_so;
             second_so = k.names.second_so;
@@ -102,7 +104,8 @@ module _ {K : Type 0} (picks : List Choice → ℕ → Type 0) (old new : Port K
             word = None;
             task = task;
           }) (record t { turn = turn; first = said_first; second = said_second }) None said texts)
-          (init_step (look old) t (Some w) said texts s first second old.rings None tasks.Interrupt Due t.rings said_first
+          (init_step (look old) t (Some w) said texts s first second old.rings None tasks.Interrupt Due t.rings
+          said_first
           said_second k not_up calm.0 calm.1 names k.counts refl tt tt (λ h. h) (λ h. h) (λ x. loud) (λ h. absurd h)
           ((quiet_of picks old new t w outcome done said texts k r) tasks.Settle at (λ h. h)) (λ h. h) refl lives)
           (init_step (look old) t (Some w) said texts s first second old.rings None tasks.Free Idle t.rings said_first
@@ -146,7 +149,8 @@ module _ {K : Type 0} (picks : List Choice → ℕ → Type 0) (old new : Port K
             rings = rings_named old.words.first old.words.second word;
             task = task;
           }) (record t { rings = rings_named t.first t.second t.answer }) said e lives
-          (ap (λ x. stepped x s (done_by w.action w.bytes t)) third ∙ ap (stepped stages.Third s) deed ∙ same) (same_said picks old new t w outcome done said texts k r)
+          (ap (λ x. stepped x s (done_by w.action w.bytes t)) third ∙ ap (stepped stages.Third s) deed
+          ∙ same) (same_said picks old new t w outcome done said texts k r)
           (init_step (look old) t (Some w) said texts s old.words.first old.words.second
           (rings_named old.words.first old.words.second word) None task t.turn (rings_named t.first t.second t.answer)
           t.first t.second k not_up calm.0 calm.1 (record {
@@ -197,13 +201,16 @@ module _ {K : Type 0} (picks : List Choice → ℕ → Type 0) (old new : Port K
           ∙ ap (λ x. record t { turn = at_step x; second = t.answer }) k.names.first_so) k.names.first_so answer
           (ap look (step.second there))
       by stages.Third there = elim (is_low word) [
-        | inl high ↦ names_area stages.Purging tasks.Free there refl refl refl (λ h. search (arith, h)) (λ h. h) (λ h. h)
+        | inl high ↦ names_area stages.Purging tasks.Free there refl refl refl (λ h. search (arith, h))
+            (λ h. h) (λ h. h)
             (λ h. absurd h) (λ x. search (arith, x)) (λ h. h) (λ h. h) refl (ap look (step.probe there high))
         | inr low ↦ named_or (rings_named old.words.first old.words.second word) refl there low
       ]
-      by s there = (goes_on picks old new t w outcome done said texts k r) (record (look old) { word = None; task = tasks.Free }) t said
+      by s there = (goes_on picks old new t w outcome done said texts k r) (record
+          (look old) { word = None; task = tasks.Free }) t said
           (ap look (step.elsewhere (λ e. search (arith, there, e)) (λ e. search (arith, there, e))
-          (λ e. search (arith, there, e)))) (alive picks old new t w outcome done said texts k r) (same_stage old.stage _ ∙ deed) (same_said picks old new t w outcome done said texts k r) (record {
+          (λ e. search (arith, there, e)))) (alive picks old new t w outcome done said texts k r)
+          (same_stage old.stage _ ∙ deed) (same_said picks old new t w outcome done said texts k r) (record {
             names = record {
               first_so = k.names.first_so;
               second_so = k.names.second_so;
@@ -224,14 +231,22 @@ module _ {K : Type 0} (picks : List Choice → ℕ → Type 0) (old new : Port K
               idle = k.hand.idle;
               wished = λ e h. h;
             };
-            speech = record { out = k.speech.out; has = λ h. absurd h; tells = (told_so picks old new t w outcome done said texts k r) tasks.Free t.turn ((quiet_of picks old new t w outcome done said texts k r) tasks.Settle at (λ h. h)) (λ h. h) };
+            speech = record {
+              out = k.speech.out;
+              has = λ h. absurd h;
+              tells =
+                  (told_so picks old new t w outcome done said texts k r) tasks.Free t.turn
+                  ((quiet_of picks old new t w outcome done said texts k r) tasks.Settle at (λ h. h)) (λ h. h);
+            };
             hears = ap (λ xs. map message_text t.heard ++ xs) (sym calm.1) ∙ k.hears;
             ended = λ d. absurd (search (arith, d, (alive picks old new t w outcome done said texts k r)));
           })
 
   pub settle_so : (o : Option ℕ) → old.written ≡ o → old.task ≡ tasks.Settle → So
   settle_so None none at =
-      let x = settle_talk at in (freed picks old new t w outcome done said texts k r) x.0 x.1 ((quiet_of picks old new t w outcome done said texts k r) tasks.Settle at (λ h. h)) x.2 (ap look ((r.acts refl).unanswered at none))
+      let x = settle_talk at in (freed picks old new t w outcome done said texts k r) x.0 x.1
+      ((quiet_of picks old new t w outcome done said texts k r) tasks.Settle at (λ h. h)) x.2 (ap look
+      ((r.acts refl).unanswered at none))
   settle_so (Some word) some at =
       step_so word at some (subst (λ x. IfSome x (λ v. TakesStep v old new)) (ap (step_answered tasks.Settle) some)
       (subst (λ x. IfSome (step_answered x old.written) (λ v. TakesStep v old new)) at (r.steps refl)))
@@ -278,7 +293,9 @@ module _ {K : Type 0} (picks : List Choice → ℕ → Type 0) (old new : Port K
       }
 
       more_so : look new ≡ record (look old) { task = tasks.Clear (so_far + 64) } → So
-      more_so e = (goes_on picks old new t w outcome done said texts k r) (record (look old) { task = tasks.Clear (so_far + 64) }) t said e (alive picks old new t w outcome done said texts k r)
+      more_so e = (goes_on picks old new t w outcome done said texts k r) (record
+          (look old) { task = tasks.Clear (so_far + 64) }) t said e
+          (alive picks old new t w outcome done said texts k r)
           (same_stage old.stage _ ∙ deed) (same_said picks old new t w outcome done said texts k r) (record {
             names = k.names;
             counts = k.counts;
@@ -292,16 +309,25 @@ module _ {K : Type 0} (picks : List Choice → ℕ → Type 0) (old new : Port K
               idle = k.hand.idle;
               wished = λ e h. h;
             };
-            speech = record { out = k.speech.out; has = λ h. absurd h; tells = (told_so picks old new t w outcome done said texts k r) (tasks.Clear (so_far + 64)) t.turn quiet (λ h. h) };
+            speech = record {
+              out = k.speech.out;
+              has = λ h. absurd h;
+              tells =
+                  (told_so picks old new t w outcome done said texts k r) (tasks.Clear
+                  (so_far + 64)) t.turn quiet (λ h. h);
+            };
             hears = ap (λ xs. map message_text t.heard ++ xs) (sym before) ∙ k.hears;
             ended = λ d. absurd (search (arith, d, (alive picks old new t w outcome done said texts k r)));
           })
 
       last_so : look new ≡ record (look old) { stage = stages.Last; task = step_task old.words.first tasks.Free } → So
-      last_so e = (goes_on picks old new t w outcome done said texts k r) (record (look old) { stage = stages.Last; task = step_task old.words.first tasks.Free })
+      last_so e = (goes_on picks old new t w outcome done said texts k r) (record
+          (look old) { stage = stages.Last; task = step_task old.words.first tasks.Free })
           (record t { turn = at_step old.words.first }) said e refl
-          (ap (λ x. stepped x stages.Last (done_by w.action w.bytes t)) there ∙ ap (stepped stages.Clearing stages.Last) deed
-          ∙ ap (λ x. record t { turn = at_step x }) k.names.first_so) (same_said picks old new t w outcome done said texts k r)
+          (ap (λ x. stepped x stages.Last (done_by w.action w.bytes t)) there
+          ∙ ap (stepped stages.Clearing stages.Last) deed
+          ∙ ap (λ x. record t { turn = at_step x }) k.names.first_so)
+          (same_said picks old new t w outcome done said texts k r)
           (step_cases (look old) old.words.first (λ task turn. InStep (record (look old) {
             stage = stages.Last;
             task = task;

@@ -76,7 +76,8 @@ word_stays {K} word old new r = by old.stage refl
     by stages.First at = elim (is_one (word / 0x4000 % 2)) [
       | inl wraps ↦
           let e = r.wrap at wraps in
-          moved_so old new (stages.Wrapped word) (ap (λ (p : Port K). p.controller) e) (ap (λ (p : Port K). p.decided) e)
+          moved_so old new (stages.Wrapped word) (ap (λ (p : Port K). p.controller) e) (ap (λ
+          (p : Port K). p.decided) e)
           (ap (λ (p : Port K). p.hardware) e) (ap (λ (p : Port K). p.stage) e) refl
       | inr plain ↦
           let e = r.first at plain in

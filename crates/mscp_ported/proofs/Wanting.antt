@@ -110,7 +110,8 @@ module _ {K : Type 0} (picks : List Choice → ℕ → Type 0) (blocks : Bool) (
 
   -- and what is in hand tells nothing
   told_now : (task : Task) → old.task ≡ tasks.Free → (IsTelling task → ⊥)
-      → AreTold new.more task t.turn new.outgoing new.untold t.told (said ++ map said_in (begins old.outgoing new.outgoing))
+      → AreTold new.more task t.turn new.outgoing new.untold t.told (said ++ map said_in
+      (begins old.outgoing new.outgoing))
   told_now task at calm =
       subst (λ l. AreTold l.more task t.turn new.outgoing l.untold t.told
       (said ++ map said_in (begins old.outgoing new.outgoing))) (sym framed)
@@ -126,7 +127,8 @@ module _ {K : Type 0} (picks : List Choice → ℕ → Type 0) (blocks : Bool) (
       → (IsOfRings task → new.stage ≡ stages.Up) → (task ≡ tasks.Interrupt → is_loud new.stage ≡ true)
       → (IsClear task → new.stage ≡ stages.Clearing) → (NeedsOut task → new.outgoing ≢ None)
       → in_hand task t.turn ≡ in_hand old.task t.turn
-      → AreTold new.more task t.turn new.outgoing new.untold t.told (said ++ map said_in (begins old.outgoing new.outgoing))
+      → AreTold new.more task t.turn new.outgoing new.untold t.told (said ++ map said_in
+      (begins old.outgoing new.outgoing))
       → Follows
   in_hand_so task alive at fits up step clear out same tells =
       let want = subst (λ x. IsWanted new x action) at (r.wanted alive) in
@@ -135,7 +137,8 @@ module _ {K : Type 0} (picks : List Choice → ℕ → Type 0) (blocks : Bool) (
       let some_clear : IsClear task → new.rings ≢ None = λ h. area_so (ap has_area (clear h)) in
       let own = k.hand.own in
       record {
-        after = alters (Next blocks action bytes) old (look new) t t w (Some (record { action = action; bytes = bytes }))
+        after = alters (Next blocks action bytes) old (look new) t t w (Some
+            (record { action = action; bytes = bytes }))
             said (said ++ map said_in (begins old.outgoing new.outgoing)) texts texts no_reset (lives alive)
             (ap (λ s. stepped old.stage s t) stage_so ∙ same_stage old.stage t) refl (append-nil texts) (record {
               names = names_so;
@@ -160,7 +163,8 @@ module _ {K : Type 0} (picks : List Choice → ℕ → Type 0) (blocks : Bool) (
               hears = ap (λ xs. map message_text t.heard ++ xs) (ap (λ x. in_hand x t.turn) at ∙ same) ∙ k.hears;
               ended = λ d. absurd (search (arith, d, lives alive));
             });
-        owed = owed_of new t action bytes names_so counts_so task want bytes_so at r.within some up clear some_clear fits;
+        owed = owed_of new t action bytes names_so counts_so task want bytes_so at r.within some up clear
+            some_clear fits;
       }
     where
       lives : IsAlive old → is_dead new.stage ≡ false
@@ -214,9 +218,11 @@ module _ {K : Type 0} (picks : List Choice → ℕ → Type 0) (blocks : Bool) (
       let same : look new ≡ look old = ap look e in
       let silent : t ≡ silence = (k.ended (ap is_dead at)).talk in
       record {
-        after = subst (λ l. After (Next blocks action bytes) old l t w (Some (record { action = action; bytes = bytes }))
+        after = subst (λ l. After (Next blocks action bytes) old l t w (Some
+            (record { action = action; bytes = bytes }))
             said texts) (sym same)
-            (unmoved (Next blocks action bytes) old (look old) t w (Some (record { action = action; bytes = bytes })) said
+            (unmoved (Next blocks action bytes) old (look old) t w (Some
+            (record { action = action; bytes = bytes })) said
             texts refl refl (record { talk = λ w t. refl; no_reset = no_reset; accepts = refl }) (record {
               names = k.names;
               counts = k.counts;

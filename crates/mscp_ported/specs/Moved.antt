@@ -1,5 +1,5 @@
--- Where the bytes of a block go: each block of which the controller is told that it went well was moved, at its place of its
--- own command's buffer (manual, "READ", "WRITE", "COMPARE HOST DATA").
+-- Where the bytes of a block go: each block of which the controller is told that it went well was moved, at its
+-- place of its own command's buffer (manual, "READ", "WRITE", "COMPARE HOST DATA").
 use Rattle.std.specs.Prelude.{◌≡◌, ◌⊎◌, ◌≤◌, ◌+◌, ◌-◌, ◌*◌, ℕ, List, [], ◌∷◌, min, Option, None, Some, Result, Ok}
 use Rattle.mscp_packet.specs.declared.command.MoveKind.{MoveKind}
 use Rattle.mscp_packet.specs.declared.command.Order.{Order}
@@ -29,8 +29,8 @@ abbrev pub block_moved : Order → Option ℕ → Option (MoveKind × ℕ)
 block_moved (orders.Move kind count first) (Some block) = Some (kind, block)
 block_moved order lbn = None
 
--- this was wanted: the block of the unit is to be moved so, to or from its place of the buffer, 512 bytes behind that of the
--- block before; of the last one just the bytes that are left
+-- this was wanted: the block of the unit is to be moved so, to or from its place of the buffer, 512 bytes behind
+-- that of the block before; of the last one just the bytes that are left
 pub record IsAtItsPlace (b : Buffer) (u : Upcoming) (kind : MoveKind) (block : ℕ) (w : Wish) : Type 0 where
   pub action : w.action ≡ actions.Transfer kind u.command.unit block (b.address + u.done * 512)
       (min (b.count - u.done * 512) 512)
@@ -41,8 +41,8 @@ WasMoved b u kind block outcome None = ⊥
 WasMoved b u kind block outcome (Some w) = (outcome ≡ outcomes.Done) × IsAtItsPlace b u kind block w
 
 -- the law of blocks: whoever calls a port that was made over a controller, and tells of actions only after they were
--- wanted: where the controller is told that a block of a command went well, that block was moved, at its place of the buffer
--- which a message of the command's number said, to its unit; unless the buffer has no byte for it
+-- wanted: where the controller is told that a block of a command went well, that block was moved, at its place of
+-- the buffer which a message of the command's number said, to its unit; unless the buffer has no byte for it
 abbrev pub PortsMoveWhatTheySay : {K : Type 0} → Picking K → Type 0
 PortsMoveWhatTheySay {K} picks =
     (hardware : Hardware) (credits : ℕ) (controller : Holdings K) (start p : Port K) (calls : List Call)

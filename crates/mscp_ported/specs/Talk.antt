@@ -1,5 +1,5 @@
--- What was done in a host's memory since its port forgot all that it had said, as the port's calls tell it (port: UQSSP,
--- "Communication Area", "Ring Entries", "Initialization").
+-- What was done in a host's memory since its port forgot all that it had said, as the port's calls tell it (port:
+-- UQSSP, "Communication Area", "Ring Entries", "Initialization").
 use Rattle.std.specs.Prelude.{◌≢◌, ◌+◌, ◌*◌, ◌%◌, ◌/◌, ◌==◌, ◌++◌, ℕ, Bool, true, false, not, nat_lt, if◌then◌else◌, List, [], ◌∷◌, length, Option, None, Some, Ok}
 use Rattle.mscp_packet.specs.Number.{num}
 use Rattle.mscp_port.specs.declared.action.Action.{Action}

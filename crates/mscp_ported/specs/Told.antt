@@ -1,5 +1,5 @@
--- What a host was told, and what was heard of it: in order, each once, in the slots of its rings (port: UQSSP, "Envelope
--- Header", "Ring Entries").
+-- What a host was told, and what was heard of it: in order, each once, in the slots of its rings (port: UQSSP,
+-- "Envelope Header", "Ring Entries").
 use Rattle.std.specs.Prelude.{◌≡◌, ◌⊎◌, ◌+◌, ◌-◌, ◌++◌, ℕ, Bool, true, false, if◌then◌else◌, List, [], ◌∷◌, length, map, min, Option, None, Some, Result, Ok, Err, option_to_list}
 use Rattle.byteorder.specs.Endian.{little_bytes}
 use Rattle.mscp_packet.specs.declared.end.End.{End}
@@ -78,7 +78,8 @@ Tells left packet said = (packet.address ≡ text_of packet.slot.word - 4)
 -- packets say these, one by one, where so many credits weren't told before the first of them
 abbrev pub TellAll : ℕ → List Packet → List Said → Type 0
 TellAll left [] [] = Unit {0}
-TellAll left (packet ∷ packets) (said ∷ more) = Tells left packet said × TellAll (left_after left said.kind) packets more
+TellAll left (packet ∷ packets) (said ∷ more) = Tells left packet said
+    × TellAll (left_after left said.kind) packets more
 TellAll left packets said = ⊥
 
 -- ---- what is said

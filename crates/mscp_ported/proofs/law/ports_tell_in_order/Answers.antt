@@ -13,7 +13,8 @@ pub returns : goal.returns
 returns g c = λ hardware credits controller start p calls made asks a.
     let k = in_step g.K.Picker.picks hardware credits controller start made p calls asks a in
     let told = k.speech.tells in
-    let all = but_one p.more credits (all_but_one g.K.Picker.picks hardware credits controller start p calls made a) in (
+    let all = but_one p.more credits (all_but_one g.K.Picker.picks hardware credits controller start p calls made
+    a) in (
       (
         told.0,
         told.1,
