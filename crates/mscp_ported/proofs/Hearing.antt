@@ -232,7 +232,7 @@ module _ {K : Type 0} (old new : Port K) (t : Talk) (w : Wish) (bytes : List ℕ
           (read_one (Taken (slot_at (look old) Commands slot.word))
           (Opened (slot_at (look old) Commands slot.word) (num bytes 0 4)) taken
           (subst (λ x. IsAsked (look old) x w) at k.hand.asked) (λ address. refl))
-          (ap (λ x. accepted_text old x bytes) at) (num bytes 0 4, refl, refl)
+          (ap (λ x. accepted_text old x bytes) at) (num bytes 0 4, refl, refl, refl)
           (subst (λ x. IsOwned x) taken k.hand.own) (λ x. absurd x) (λ x. x) (λ x. x) (λ x. x) (λ x. x) refl refl
       by (Some code) h =
           dies (WasRead bytes (Ok done)) code old new t (Some w) None said texts no_reset h
@@ -250,6 +250,7 @@ module _ {K : Type 0} (old new : Port K) (t : Talk) (w : Wish) (bytes : List ℕ
       up = k.hand.up (subst (λ x. IsOfRings x) (sym at) tt)
 
       was : (header : ℕ) × (t.turn ≡ Opened s header) × (size ≡ bytes_read (length_in header))
+          × (foreign ≡ (connection_in header == 2))
       was = subst (λ x. Fits (look old) x t.turn) at k.hand.fits
 
       turn : Turn

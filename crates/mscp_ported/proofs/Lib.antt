@@ -23,3 +23,4 @@ pub mod Coming
 pub mod Ending
 pub mod Leaving
 pub mod Decided
+pub mod Answering

@@ -1,6 +1,6 @@
 -- What of a port is in step with what was done in its host's memory.
 use Rattle.std.proofs.Common.{◌≡◌, ◌≢◌, ◌+◌, ◌-◌, ◌%◌, ◌^◌, ◌≤◌, ◌++◌, ◌∷◌, [], ℕ, Bool, true, false, length, map, List, Option, None, IfSome, IsSomeAnd}
-use Rattle.std.specs.Prelude.{option_to_list}
+use Rattle.std.specs.Prelude.{◌==◌, option_to_list}
 use Rattle.mscp_port.specs.declared.action.Action.{Action}
 use Rattle.mscp_port.specs.declared.action.Action.TheVariants as actions
 use Rattle.mscp_port.specs.declared.port.Outgoing.{Outgoing}
@@ -14,7 +14,7 @@ use Rattle.mscp_port.specs.declared.task.Task.TheVariants as tasks
 use Rattle.mscp_port.specs.Areas.{Rings, slot_in}
 use Rattle.mscp_port.specs.Packets.{credits_by, packet_of}
 use Rattle.mscp_port.specs.Ports.{IsOfBlock}
-use Rattle.mscp_port.specs.Seen.{bytes_read, length_in}
+use Rattle.mscp_port.specs.Seen.{bytes_read, connection_in, length_in}
 use Rattle.mscp_port.specs.Slots.{is_owned, text_of}
 use Rattle.mscp_ported.specs.Talk.{Wish, Slot, Turn, Idle, Taken, Opened, Read, Written, Looks, Marks, Due, Packet, Message, Talk, address_in, is_dead, silence}
 use Rattle.mscp_ported.specs.Told.{Said, StandInOrder, TellAll, Tells, left_after, message_slot, message_text, packet_slot, said_in}
@@ -118,8 +118,8 @@ GivesBack l Commands word turn =
 
 abbrev pub Fits : Look → Task → Turn → Type 0
 Fits l (tasks.Header slot) turn = turn ≡ Taken (slot_at l Commands slot.word)
-Fits l (tasks.Text slot size foreign) turn =
-    (header : ℕ) × (turn ≡ Opened (slot_at l Commands slot.word) header) × (size ≡ bytes_read (length_in header))
+Fits l (tasks.Text slot size foreign) turn = (header : ℕ) × (turn ≡ Opened (slot_at l Commands slot.word) header)
+    × (size ≡ bytes_read (length_in header)) × (foreign ≡ (connection_in header == 2))
 Fits l (tasks.Packet slot) turn = turn ≡ Taken (slot_at l Responses slot.word)
 Fits l (tasks.Return side slot) turn = GivesBack l side slot.word turn
 Fits l (tasks.Neighbour side) turn = turn ≡ Looks side

@@ -4,3 +4,4 @@ pub mod Told
 pub mod Making
 pub mod Moved
 pub mod Ends
+pub mod Answers

@@ -1,5 +1,6 @@
 // What is true of every port, for its host.
 
+ghost use Rattle.mscp_ported.specs.Answers.{PortsAnswerAsTheyMay};
 ghost use Rattle.mscp_ported.specs.Ends.{PortsSayWhatWasDecided};
 ghost use Rattle.mscp_ported.specs.Making.{PortsKeepThePromise};
 ghost use Rattle.mscp_ported.specs.Moved.{PortsMoveWhatTheySay};
@@ -70,4 +71,14 @@ pub fn ports_say_what_was_decided<K: Picker>(picker: &K)
     ensures { PortsSayWhatWasDecided K.picks picker.now }
 {
     controllers_keep_the_promise(picker);
+}
+
+/// Of such a port, whose holder tells of actions only after they were wanted: what begins to go out as a text is read is an
+/// answer to that message, of its number and unit: to one for the utilities that its opcode is unknown; Success to DETERMINE
+/// ACCESS PATHS, COMPARE CONTROLLER DATA and FLUSH; and to a transfer past the end of its volume that its block isn't there. It
+/// is of the message's connection. To no other message the port gives an answer of its own.
+pub fn ports_answer_as_they_may<K: Picker>(picker: &K)
+    ensures { PortsAnswerAsTheyMay K.picks }
+{
+    let _ = picker;
 }

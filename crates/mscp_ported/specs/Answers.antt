@@ -1,0 +1,91 @@
+-- What a port says of itself: the ends that it makes of messages, and attention messages (manual, "Attention Messages";
+-- port: UQSSP, "Diagnostic and Utilities Protocol").
+use Rattle.std.specs.Prelude.{◌≡◌, ◌+◌, ◌/◌, ◌==◌, ◌&&◌, ◌||◌, ◌++◌, ◌∷◌, [], ℕ, Bool, true, false, nat_le, nat_lt, if◌then◌else◌, List, length, option_map, replicate, slice_index, Option, None, Some, Ok}
+use Rattle.byteorder.specs.Endian.{little_bytes}
+use Rattle.mscp_packet.specs.Number.{num}
+use Rattle.mscp_drive.specs.Extent.{blocks}
+use Rattle.mscp_controller.specs.Holdings.{Holdings}
+use Rattle.mscp_port.specs.declared.hardware.Hardware.{Hardware}
+use Rattle.mscp_port.specs.declared.port.Outgoing.{Outgoing}
+use Rattle.mscp_port.specs.declared.port.OutgoingKind.{OutgoingKind}
+use Rattle.mscp_port.specs.declared.port.OutgoingKind.TheVariants as kinds
+use Rattle.mscp_port.specs.declared.port.Port.{Port}
+use Rattle.mscp_port.specs.declared.volumes.Volume.{Volume}
+use Rattle.mscp_port.specs.Calls.{IsMadeOf}
+use Rattle.mscp_port.specs.Histories.{Answered, Call, Picking, WasRead}
+use Rattle.mscp_port.specs.Volumes.{place_in, volume_at}
+use Rattle.mscp_ported.specs.Talk.{AsksAlways, Opened, Slot, talk_of}
+
+-- ---- messages
+
+-- an end of the port's own: its endcode and status, and whether it tells that no byte was moved
+pub record Own : Type 0 where
+  pub code : ℕ
+  pub status : ℕ
+  pub tells_bytes : Bool
+
+-- DETERMINE ACCESS PATHS, COMPARE CONTROLLER DATA and FLUSH succeed at once
+abbrev pub succeeds : ℕ → Bool
+succeeds opcode = opcode == 11 || opcode == 17 || opcode == 19
+
+-- ACCESS, ERASE, COMPARE HOST DATA, READ and WRITE, with all their fields
+abbrev pub moves_data : List ℕ → Bool
+moves_data b =
+    (slice_index b 8 == 16 || slice_index b 8 == 18 || slice_index b 8 == 32 || slice_index b 8 == 33
+    || slice_index b 8 == 34)
+    && nat_le 32 (length b)
+
+-- a transfer whose first block isn't on the volume (0x1C01), or another one (0x0C01)
+abbrev pub past_end : ℕ → ℕ → ℕ → Option ℕ
+past_end size block count =
+    if nat_le size block then Some 0x1C01 else if nat_lt size (block + blocks count) then Some 0x0C01 else None
+
+abbrev pub own_refusal : List ℕ → Option Volume → Option ℕ
+own_refusal b None = None
+own_refusal b (Some v) = if v.is_there && moves_data b then past_end v.size (num b 28 4) (num b 12 4) else None
+
+-- a message for the utilities has an unknown opcode here
+abbrev pub own_answer : Bool → Option Volume → List ℕ → Option Own
+own_answer foreign v b =
+    if foreign then Some (record { code = 0x80; status = 0x0801; tells_bytes = false })
+    else if succeeds (slice_index b 8) then Some (record {
+      code = slice_index b 8 + 0x80;
+      status = 0;
+      tells_bytes = false;
+    })
+    else option_map (λ status. record { code = slice_index b 8 + 0x80; status = status; tells_bytes = true })
+    (own_refusal b v)
+
+-- the number and the unit are the message's
+abbrev pub own_text : List ℕ → Own → List ℕ
+own_text b own =
+    little_bytes 4 (num b 0 4) ++ little_bytes 2 (num b 4 2) ++ (0 ∷ 0 ∷ own.code ∷ 0 ∷ [])
+    ++ little_bytes 2 own.status ++ (if own.tells_bytes then replicate 20 0 else [])
+
+abbrev pub kind_answered : Bool → OutgoingKind
+kind_answered foreign = if foreign then kinds.UtilitiesEnd else kinds.End
+
+-- the volume of the unit that a message names, if there is such a unit
+abbrev pub volume_named : {K : Type 0} → Port K → List ℕ → Option Volume
+volume_named p b = option_map (volume_at p.volumes) (place_in p.controller.settings.units (num b 4 2))
+
+-- the connection of a message is in the high byte of its header: 2 is that of the utilities
+abbrev pub is_for_utilities : ℕ → Bool
+is_for_utilities header = header / 0x100_0000 == 2
+
+-- it is the answer to a message with this header and text
+pub record IsOwnAnswer {K : Type 0} (p : Port K) (header : ℕ) (text : List ℕ) (o : Outgoing) : Type 0 where
+  pub kind : o.kind ≡ kind_answered (is_for_utilities header)
+  pub own : (own : Own) × (own_answer (is_for_utilities header) (volume_named p text) text ≡ Some own)
+      × (o.bytes.items ≡ own_text text own)
+
+-- the law of answers: whoever calls a port that was made over a controller, and tells of actions only after they were
+-- wanted: what begins to go out as a text is read is the answer to that message, which the port may give itself
+abbrev pub PortsAnswerAsTheyMay : {K : Type 0} → Picking K → Type 0
+PortsAnswerAsTheyMay {K} picks =
+    (hardware : Hardware) (credits : ℕ) (controller : Holdings K) (start p : Port K) (calls : List Call)
+    (bytes : List ℕ) (done : Unit) (o : Outgoing) → IsMadeOf hardware credits controller start
+    → AsksAlways (WasRead bytes (Ok done) ∷ calls) → (a : Answered picks start (WasRead bytes (Ok done) ∷ calls) p)
+    → a.0.outgoing ≡ None → p.outgoing ≡ Some o
+    → (slot : Slot) × (header : ℕ) × ((talk_of picks start a.0 calls a.1).turn ≡ Opened slot header)
+    × IsOwnAnswer a.0 header bytes o
