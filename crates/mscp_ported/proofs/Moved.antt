@@ -1,5 +1,5 @@
 -- A block of which the controller is told that it went well was moved at its place.
-use Rattle.std.proofs.Common.{◌≡◌, ◌≢◌, ◌⊎◌, ◌∙◌, ◌+◌, ◌-◌, ◌*◌, ◌≤◌, ◌||◌, ◌&&◌, ◌∷◌, [], ℕ, All, Bool, true, false, cond, min, nat_eq, nat_lt, List, Option, None, Some, IfSome, inl, inr, refl, ap, sym, subst, arith}
+use Rattle.std.proofs.Common.{◌<◌, ◌≡◌, ◌≢◌, ◌⊎◌, ◌∙◌, ◌+◌, ◌-◌, ◌*◌, ◌≤◌, ◌||◌, ◌&&◌, ◌∷◌, [], ℕ, All, Bool, true, false, cond, min, nat_eq, nat_lt, List, Option, None, Some, IfSome, inl, inr, refl, ap, sym, subst, arith}
 use Rattle.std.specs.Prelude.{Result, Ok, Err, find, option_map}
 use Rattle.std.specs.List.{position}
 use Rattle.std.proofs.lemmas.List.Elements.{All-head, All-tail}
@@ -45,7 +45,7 @@ use Rattle.mscp_port.proofs.Kept.{IsTo}
 use Rattle.mscp_port.proofs.Said.{Keeps, kept_found, of_first}
 use Rattle.mscp_port.proofs.Telling.{kept_was_said}
 use Rattle.mscp_ported.specs.Making.{IsFinish, Makes, step_told, told_as, told_of, told_unless, transfer_told}
-use Rattle.mscp_ported.specs.Moved.{WasMoved, block_moved}
+use Rattle.mscp_ported.specs.Moved.{IsEmpty, WasMoved, block_moved}
 use Rattle.mscp_ported.specs.Talk.{AsksAlways, Wish, wish}
 use Rattle.mscp_ported.proofs.Moving.{Steps, steps}
 
@@ -113,6 +113,9 @@ part_is b at part e = by (nat_lt b.count (at * 512) || nat_lt 0xFFFF_FFFF (b.add
         let same = same_Some (b.address + at * 512, left_of b at) part e in
         (sym (ap (λ x. x.0) same), sym (ap (λ x. x.1) same))
 
+some_left : (n m k : ℕ) → k ≡ min (n - m) 512 → nat_eq k 0 ≡ false → m < n
+some_left n m k e f = search (arith, e, f)
+
 none_left : (n m : ℕ) → min (n - m) 512 ≡ 0 → n ≤ m
 none_left n m e = search (arith, e)
 
@@ -178,6 +181,43 @@ module _ (u : Upcoming) (kind : MoveKind) (block : ℕ) (moves : block_moved u.c
     begun_good None k volumes e = search (arith, e)
     begun_good (Some place) None volumes e = search (arith, e)
 
+    -- and one with a block only where it has some
+    some_part : (at : MoveKind × ℕ) (b : Buffer) (v : Volume) (r : Result (ℕ × ℕ) Verdict)
+        → part_with at.0 at.1 u.done b v ≡ r → part_task r ≡ tasks.Transfer → u.done * 512 < b.count
+    some_part at b v (Ok part) e h = by (nat_eq part.1 0) refl h
+      where
+        by : (c : Bool) → nat_eq part.1 0 ≡ c
+            → cond c (tasks.Step (verdicts.Served blocks.Good)) tasks.Transfer ≡ tasks.Transfer → u.done * 512 < b.count
+        by true is h = search (arith, h)
+        by false is h = some_left b.count (u.done * 512) part.1
+            (part_is b u.done part (part_left at.0 at.1 u.done b v part e)).1 is
+    some_part at b v (Err verdict) e h = search (arith, h)
+
+    some_step : (b : Buffer) (v : Volume) → task_of u b v ≡ tasks.Transfer → u.done * 512 < b.count
+    some_step b v e =
+        let a = is_move u.command.order u.lbn (kind, block) moves in
+        by (is_available u.command.order) (v.is_there && takes_any_volume u.command.order) (has_changed b v) (move_of u)
+        move_so e
+      where
+        good : Task
+        good = tasks.Step (verdicts.Served blocks.Good)
+
+        by : (x y z : Bool) (q : Option (MoveKind × ℕ)) → q ≡ Some (kind, block)
+            → cond x good (cond y good (cond z (tasks.Step verdicts.NoVolume) (move_task u q b v))) ≡ tasks.Transfer
+            → u.done * 512 < b.count
+        by true y z q is h = search (arith, h)
+        by false true z q is h = search (arith, h)
+        by false false true q is h = search (arith, h)
+        by false false false None is h = absurd (none-some (kind, block) is)
+        by false false false (Some at) is h = some_part at b v (part_with at.0 at.1 u.done b v) refl h
+
+    begun_some : (o : Option ℕ) (k : Option Buffer) (volumes : List Volume) → known_task u o k volumes ≡ tasks.Transfer
+        → (b : Buffer) → k ≡ Some b → u.done * 512 < b.count
+    begun_some (Some place) (Some x) volumes e b is =
+        subst (λ y. u.done * 512 < y.count) (same_Some x b is) (some_step x (volume_at volumes place) e)
+    begun_some None k volumes e b is = search (arith, e)
+    begun_some (Some place) None volumes e b is = search (arith, e)
+
     -- a part is known only of a buffer that is kept
     part_of_kept : (o : Option ℕ) (k : Option Buffer) (volumes : List Volume) (part : ℕ × ℕ)
         → part_at o k kind block u.done volumes ≡ Ok part → (b : Buffer) × (k ≡ Some b) × (part_of b u.done ≡ Some part)
@@ -190,9 +230,10 @@ module _ (u : Upcoming) (kind : MoveKind) (block : ℕ) (moves : block_moved u.c
     moved_good : {K : Type 0} (old : Port K) (outcome : Outcome) (w : Option Wish) → begun_step old.controller ≡ Some u
         → transfer_told old outcome (block_begun old) ≡ blocks.Good → w ≢ None
         → IfSome w (λ x. x.action ≡ move_wanted old (block_begun old))
+        → ((b : Buffer) → kept_of u.connection u.command.reference old.buffers.items ≡ Some b → u.done * 512 < b.count)
         → (b : Buffer) × (kept_of u.connection u.command.reference old.buffers.items ≡ Some b)
         × WasMoved b u kind block outcome w
-    moved_good {K} old outcome w begun told some wanted =
+    moved_good {K} old outcome w begun told some wanted long =
         by (part_now old u kind block) refl (told_so) w some (subst (λ o. IfSome w (λ x. x.action
         ≡ move_wanted old o)) at wanted)
       where
@@ -215,6 +256,7 @@ module _ (u : Upcoming) (kind : MoveKind) (block : ℕ) (moves : block_moved u.c
               kept.0,
               kept.1,
               (
+                long kept.0 kept.1,
                 good_outcome outcome (ap (told_unless outcome) (sym e) ∙ told),
                 record {
                   action = wanted ∙ ap (part_wanted u kind block) e
@@ -301,7 +343,7 @@ module _ {K : Type 0} (picks : Picking K) (hardware : Hardware) (credits : ℕ) 
       → Makes (Went outcome (Ok done)) a.0 p (Finish via reference blocks.Good result ∷ [])
       → begun_step a.0.controller ≡ Some u → block_moved u.command.order u.lbn ≡ Some (kind, block)
       → (b : Buffer) × (u.connection ≡ First) × WasSaid picks u.command.reference u.command.unit start a.0 calls a.1 b
-      × ((b.count ≤ u.done * 512) ⊎ WasMoved b u kind block outcome (wish calls))
+      × (IsEmpty b u (wish calls) ⊎ WasMoved b u kind block outcome (wish calls))
   moves_what_it_says p calls outcome done via reference result u kind block asks a makes begun moves =
       by old.task refl (good_told (step_told old outcome old.task) old.controller.begun via reference result makes)
     where
@@ -312,19 +354,24 @@ module _ {K : Type 0} (picks : Picking K) (hardware : Hardware) (credits : ℕ) 
       s = steps picks hardware credits controller start made old calls asks.1 a.1
 
       whose : (b : Buffer) → kept_of u.connection u.command.reference old.buffers.items ≡ Some b
-          → ((b.count ≤ u.done * 512) ⊎ WasMoved b u kind block outcome (wish calls))
+          → (IsEmpty b u (wish calls) ⊎ WasMoved b u kind block outcome (wish calls))
           → (b : Buffer) × (u.connection ≡ First) × WasSaid picks u.command.reference u.command.unit start a.0
           calls a.1 b
-          × ((b.count ≤ u.done * 512) ⊎ WasMoved b u kind block outcome (wish calls))
+          × (IsEmpty b u (wish calls) ⊎ WasMoved b u kind block outcome (wish calls))
       whose b kept either =
           let is = kept_said (λ unit x. WasSaid picks x.reference unit start old calls a.1 x) old u b
           (kept_was_said picks hardware credits controller start old calls made a.1) begun kept in
           (b, is.0, subst (λ n. WasSaid picks n u.command.unit start old calls a.1 b) is.1 is.2, either)
 
+      empty : (b : Buffer) (w : Option Wish) → b.count ≤ u.done * 512 → w ≢ None
+          → IfSome w (λ x. x.action ≡ actions.Pause) → IsEmpty b u w
+      empty b None low some h = absurd (some refl)
+      empty b (Some x) low some h = (low, h)
+
       by : (task : Task) → old.task ≡ task → step_told old outcome old.task ≡ Some blocks.Good
           → (b : Buffer) × (u.connection ≡ First) × WasSaid picks u.command.reference u.command.unit start a.0
           calls a.1 b
-          × ((b.count ≤ u.done * 512) ⊎ WasMoved b u kind block outcome (wish calls))
+          × (IsEmpty b u (wish calls) ⊎ WasMoved b u kind block outcome (wish calls))
       by (tasks.Step verdict) at told =
           let good = good_verdict verdict (same_Some (told_of verdict) blocks.Good
           (sym (ap (step_told old outcome) at) ∙ told)) in
@@ -334,10 +381,14 @@ module _ {K : Type 0} (picks : Picking K) (hardware : Hardware) (credits : ℕ) 
           ∙ sym (s.begun (subst (λ x. IsOfBlock x) (sym at) tt)) ∙ at ∙ ap tasks.Step good in
           let b = begun_good u kind block moves (place_in old.controller.settings.units u.command.unit)
           (kept_of u.connection u.command.reference old.buffers.items) old.volumes is in
-          whose b.0 b.1 (inl b.2)
+          whose b.0 b.1 (inl (empty b.0 (wish calls) b.2 asks.0 (s.paused verdict at)))
       by tasks.Transfer at told =
           let good = same_Some (transfer_told old outcome (block_begun old)) blocks.Good
           (sym (ap (step_told old outcome) at) ∙ told) in
-          let b = moved_good u kind block moves old outcome (wish calls) begun good asks.0 (s.wanted at) in
+          let b = moved_good u kind block moves old outcome (wish calls) begun good asks.0 (s.wanted at)
+          (begun_some u kind block moves (place_in old.controller.settings.units u.command.unit)
+          (kept_of u.connection u.command.reference old.buffers.items) old.volumes
+          (ap (begun_task old.controller.settings.units old.buffers.items old.volumes) (sym begun)
+          ∙ sym (s.begun (subst (λ x. IsOfBlock x) (sym at) tt)) ∙ at)) in
           whose b.0 b.1 (inr b.2)
       by task at told = absurd (none-some blocks.Good (sym (ap (step_told old outcome) at) ∙ told))

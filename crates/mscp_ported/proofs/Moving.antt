@@ -13,6 +13,7 @@ use Rattle.mscp_port.specs.declared.port.Port.{Port}
 use Rattle.mscp_port.specs.declared.stage.Stage.TheVariants as stages
 use Rattle.mscp_port.specs.declared.task.Task.{Task}
 use Rattle.mscp_port.specs.declared.task.Task.TheVariants as tasks
+use Rattle.mscp_port.specs.declared.verdict.Verdict.{Verdict}
 use Rattle.mscp_port.specs.declared.volumes.Volume.{Volume}
 use Rattle.mscp_port.specs.Blocks.{kept_of}
 use Rattle.mscp_port.specs.Calls.{Dies, IsMadeOf, read_again, step_again, step_at}
@@ -37,14 +38,20 @@ IsBegunStep p = IsOfBlock p.task
 abbrev pub IsWishOf : {K : Type 0} → Port K → Option Wish → Type 0
 IsWishOf p w = p.task ≡ tasks.Transfer → IfSome w (λ x. x.action ≡ move_wanted p (block_begun p))
 
+-- for a step without a block a pause was wanted
+abbrev pub IsPaused : {K : Type 0} → Port K → Option Wish → Type 0
+IsPaused p w = (verdict : Verdict) → p.task ≡ tasks.Step verdict → IfSome w (λ x. x.action ≡ actions.Pause)
+
 pub record Steps {K : Type 0} (p : Port K) (w : Option Wish) : Type 0 where
   pub begun : IsBegunStep p
   pub wanted : IsWishOf p w
+  pub paused : IsPaused p w
 
 no_steps : {K : Type 0} (p : Port K) (w : Option Wish) → (IsOfBlock p.task → ⊥) → Steps p w
 no_steps p w never = record {
   begun = λ h. absurd (never h);
   wanted = λ e. absurd (never (subst (λ x. IsOfBlock x) (sym e) tt));
+  paused = λ verdict e. absurd (never (subst (λ x. IsOfBlock x) (sym e) tt));
 }
 
 -- what a call leaves of the port where a step stays in hand
@@ -70,6 +77,7 @@ keeps : {K : Type 0} (old new : Port K) (w : Option Wish) → Keeps old new → 
 keeps {K} old new w k s = record {
   begun = λ h. k.task ∙ s.begun (subst (λ x. IsOfBlock x) k.task h) ∙ sym same;
   wanted = λ e. subst (λ x. IfSome w (λ y. y.action ≡ x)) (sym wish_same) (s.wanted (sym k.task ∙ e));
+  paused = λ verdict e. s.paused verdict (sym k.task ∙ e);
 }
   where
     same : begun_task new.controller.settings.units new.buffers.items new.volumes (begun_step new.controller)
@@ -170,7 +178,11 @@ wants_so : {K : Type 0} (picks : Picking K) (blocks : Bool) (action : Action) (b
     → ((code : ℕ) → old.stage ≡ stages.Dead code → IsOfBlock old.task → ⊥)
     → Steps new (Some (record { action = action; bytes = bytes }))
 wants_so {K} picks blocks action bytes old new w r s calm = elim (alive_or_dead old old.stage refl) [
-  | inl alive ↦ record { begun = begun_so alive; wanted = λ e. wanted_so alive e }
+  | inl alive ↦ record {
+    begun = begun_so alive;
+    wanted = λ e. wanted_so alive e;
+    paused = λ verdict e. subst (λ x. IsWanted new x action) e (r.0.wanted alive);
+  }
   | inr d ↦ no_steps new (Some (record { action = action; bytes = bytes }))
       (λ h. calm d.0 d.1 (subst (λ x. IsOfBlock x) (ap (λ (p : Port K). p.task) (r.0.dead d.0 d.1).1) h))
 ]

@@ -1,6 +1,6 @@
 -- Where the bytes of a block go: each block of which the controller is told that it went well was moved, at its
 -- place of its own command's buffer (manual, "READ", "WRITE", "COMPARE HOST DATA").
-use Rattle.std.specs.Prelude.{◌≡◌, ◌⊎◌, ◌≤◌, ◌+◌, ◌-◌, ◌*◌, ℕ, List, [], ◌∷◌, min, Option, None, Some, Result, Ok}
+use Rattle.std.specs.Prelude.{◌≡◌, ◌⊎◌, ◌≤◌, ◌<◌, ◌+◌, ◌-◌, ◌*◌, ℕ, List, [], ◌∷◌, min, Option, None, Some, Result, Ok}
 use Rattle.mscp_packet.specs.declared.command.MoveKind.{MoveKind}
 use Rattle.mscp_packet.specs.declared.command.Order.{Order}
 use Rattle.mscp_packet.specs.declared.command.Order.TheVariants as orders
@@ -35,10 +35,16 @@ pub record IsAtItsPlace (b : Buffer) (u : Upcoming) (kind : MoveKind) (block : �
   pub action : w.action ≡ actions.Transfer kind u.command.unit block (b.address + u.done * 512)
       (min (b.count - u.done * 512) 512)
 
--- the block was moved: that was wanted, and was done
+-- the buffer has bytes for the block, which was moved: that was wanted, and was done
 abbrev pub WasMoved : Buffer → Upcoming → MoveKind → ℕ → Outcome → Option Wish → Type 0
 WasMoved b u kind block outcome None = ⊥
-WasMoved b u kind block outcome (Some w) = (outcome ≡ outcomes.Done) × IsAtItsPlace b u kind block w
+WasMoved b u kind block outcome (Some w) =
+    (u.done * 512 < b.count) × (outcome ≡ outcomes.Done) × IsAtItsPlace b u kind block w
+
+-- or it has none, and nothing was wanted but a pause
+abbrev pub IsEmpty : Buffer → Upcoming → Option Wish → Type 0
+IsEmpty b u None = ⊥
+IsEmpty b u (Some w) = (b.count ≤ u.done * 512) × (w.action ≡ actions.Pause)
 
 -- the law of blocks: whoever calls a port that was made over a controller, and tells of actions only after they were
 -- wanted: where the controller is told that a block of a command went well, that block was moved, at its place of
@@ -53,4 +59,4 @@ PortsMoveWhatTheySay {K} picks =
     → Makes (Went outcome (Ok done)) a.0 p (Finish via reference blocks.Good result ∷ [])
     → begun_step a.0.controller ≡ Some u → block_moved u.command.order u.lbn ≡ Some (kind, block)
     → (b : Buffer) × (u.connection ≡ First) × WasSaid picks u.command.reference u.command.unit start a.0 calls a.1 b
-    × ((b.count ≤ u.done * 512) ⊎ WasMoved b u kind block outcome (wish calls))
+    × (IsEmpty b u (wish calls) ⊎ WasMoved b u kind block outcome (wish calls))
