@@ -4,7 +4,8 @@ use Rattle.std.proofs.Math.Pow.{mod-mod-pow}
 use Rattle.std.proofs.Common.{mod-lt, pow_pos}
 use Rattle.mscp_port.specs.declared.rings.Side.{Side}
 use Rattle.mscp_port.specs.declared.rings.Side.TheVariants.{Responses, Commands}
-use Rattle.mscp_port.specs.Areas.{Rings, area_named, base_named, rings_named, slot_in}
+use Rattle.mscp_port.specs.Areas.{Rings, area_named, base_named, rings_named, slot_in, slots_of, word_of}
+use Rattle.mscp_ported.specs.Rings.{slot_place, slots_in, word_place}
 use Rattle.mscp_port.specs.Slots.{is_owned}
 use Rattle.mscp_ported.specs.Talk.{Slot, Packet, address_in}
 use Rattle.mscp_ported.specs.Told.{Said, StandInOrder, TellAll, Tells, left_after}
@@ -12,12 +13,25 @@ use Rattle.mscp_ported.proofs.Look.{IsWide, left_all}
 
 -- ---- counts
 
+-- each thing lies where the port has it
+pub place_so : (r : Rings) (side : Side) (n : ℕ) → slot_place r side n ≡ slot_in r side n
+place_so r Responses n = refl
+place_so r Commands n = refl
+
+pub slots_so : (r : Rings) (side : Side) → slots_in r side ≡ slots_of r side
+slots_so r Responses = refl
+slots_so r Commands = refl
+
+pub word_so : (r : Rings) (side : Side) → word_place r side ≡ word_of r side
+word_so r Responses = refl
+word_so r Commands = refl
+
 pub mod_power : (n d : ℕ) → (j : ℕ) × (k : ℕ) × (j + k ≡ 8) × (d ≡ 2 ^ k) → n % 256 % d ≡ n % d
 mod_power n d h =
     ap (λ x. n % 256 % x) h.3 ∙ ap (λ x. n % 2 ^ x % 2 ^ h.1) (sym h.2) ∙ mod-mod-pow n h.0 h.1
     ∙ ap (λ x. n % x) (sym h.3)
 
-count_mod : (r : Rings) (side : Side) (n : ℕ) → IsWide r → slot_in r side (n % 256) ≡ slot_in r side n
+count_mod : (r : Rings) (side : Side) (n : ℕ) → IsWide r → slot_place r side (n % 256) ≡ slot_place r side n
 count_mod r Responses n wide = ap (λ x. r.base + x * 4) (mod_power n r.responses wide.response_log)
 count_mod r Commands n wide = ap (λ x. r.base + (r.responses + x) * 4) (mod_power n r.commands wide.command_log)
 

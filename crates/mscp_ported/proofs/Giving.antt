@@ -29,7 +29,8 @@ use Rattle.mscp_ported.specs.Told.{Said, StandInOrder, Tells, connection_told, c
 use Rattle.mscp_ported.proofs.After.{After, same_stage}
 use Rattle.mscp_ported.proofs.Look.{AreTold, Fits, HasLeft, InStep, IsAsked, IsClear, IsOfRings, IsOwned, IsPacketOut, IsTelling, Look, NeedsOut, in_hand, left_all, left_quiet, look, quiet_left, slot_at}
 use Rattle.mscp_ported.proofs.Hearing.{up_step}
-use Rattle.mscp_ported.proofs.Counting.{address_mod, left_more, one_more, tell_more}
+use Rattle.mscp_ported.specs.Rings.{slots_in}
+use Rattle.mscp_ported.proofs.Counting.{slots_so, address_mod, left_more, one_more, tell_more}
 use Rattle.mscp_ported.proofs.Acting.{alive, dead_so, goes_on, is_done, quiet_of, same_said, told_so, up_of, write_one}
 
 -- ---- packets
@@ -165,9 +166,13 @@ module _ {K : Type 0} (picks : List Choice → ℕ → Type 0) (old new : Port K
       turn_so area s word named l =
           subst (λ o. Fits l (hears_of area s.side slot) (given_turn o s) × IsOwned (given_turn o s)) (sym named)
           (subst (λ n. Fits l (hears_of area s.side slot)
-          (cond (not (is_flagged n)) Idle (cond (slots_of area s.side == 1) (Marks s.side) (Looks s.side)))
-          × IsOwned (cond (not (is_flagged n)) Idle (cond (slots_of area s.side == 1) (Marks s.side) (Looks s.side))))
-          (sym word) (cases (not (is_flagged slot.word)) (slots_of area s.side == 1)))
+          (cond (not (is_flagged n)) Idle (cond (slots_in area s.side == 1) (Marks s.side) (Looks s.side)))
+          × IsOwned (cond (not (is_flagged n)) Idle (cond (slots_in area s.side == 1) (Marks s.side) (Looks s.side))))
+          (sym word)
+          (subst (λ m. Fits l (hears_of area s.side slot)
+          (cond (not (is_flagged slot.word)) Idle (cond (m == 1) (Marks s.side) (Looks s.side)))
+          × IsOwned (cond (not (is_flagged slot.word)) Idle (cond (m == 1) (Marks s.side) (Looks s.side))))
+          (sym (slots_so area s.side)) (cases (not (is_flagged slot.word)) (slots_of area s.side == 1))))
         where
           cases : (b c : Bool) → Fits l (cond b tasks.Free (cond c (tasks.Word s.side) (tasks.Neighbour s.side)))
               (cond b Idle (cond c (Marks s.side) (Looks s.side)))

@@ -28,6 +28,7 @@ use Rattle.mscp_ported.specs.Talk.{Wish, Slot, Turn, Idle, Taken, Opened, Read, 
 use Rattle.mscp_ported.specs.Told.{Said, accepted_by, accepted_text, accepts, message_text, said_in}
 use Rattle.mscp_ported.proofs.After.{After, IsNoReset, alters, none_said, say_on, same_stage}
 use Rattle.mscp_ported.proofs.Look.{AreTold, Counts, Fits, Hears, InStep, IsAsked, IsClear, IsOfRings, IsOpen, IsOwned, IsRead, IsWide, IsTelling, Look, NeedsOut, given_at, in_hand, is_loud, look, slot_at, told_on}
+use Rattle.mscp_ported.proofs.Counting.{place_so}
 use Rattle.mscp_ported.proofs.Plain.{dies}
 
 -- ---- the rings are in use
@@ -142,6 +143,7 @@ module _ {K : Type 0} (old new : Port K) (t : Talk) (w : Wish) (bytes : List ℕ
           ∙ ap (λ o. takes (slot_read o (slot_in area side n) bytes)) named
           ∙ ap (λ s. takes (record { side = s; address = slot_in area side n; word = num bytes 0 4 }))
           (side_of area side n wide.responses)
+          ∙ ap (λ x. takes (record { side = side; address = x; word = num bytes 0 4 })) (sym (place_so area side n))
           ∙ ap (λ o. takes (record {
             side = side;
             address = address_in o side n;

@@ -21,7 +21,8 @@ use Rattle.mscp_port.specs.Slots.{given_back, text_of}
 use Rattle.mscp_port.specs.Wanted.{IsWanted, bytes_wanted, clear_count, clear_from, given_in, packet_out, zeros_out}
 use Rattle.mscp_ported.specs.Owed.{GivesBack, IsCalm, IsLook, IsOwed}
 use Rattle.mscp_ported.specs.Talk.{Turn, Idle, Taken, Opened, Read, Written, Looks, Marks, Due, Talk, address_in, given}
-use Rattle.mscp_ported.proofs.Counting.{address_mod, mod_power}
+use Rattle.mscp_ported.proofs.Counting.{address_mod, mod_power, place_so, slots_so, word_so}
+use Rattle.mscp_ported.specs.Rings.{slot_place, word_place}
 use Rattle.mscp_ported.proofs.Look.{Counts, Fits, IsAsked, IsClear, IsElse, IsOfRings, IsOpen, IsRead, IsWide, IsWrite, IsInterrupt, Names, NeedsOut, given_at, look, slot_at}
 
 -- ---- actions
@@ -116,7 +117,7 @@ module _ {K : Type 0} (p : Port K) (t : Talk) (action : Action) (bytes : List �
   slot_count : (r : Rings) (side : Side) → p.rings ≡ Some r
       → slot_in r side (given_in p side) ≡ address_in t.rings side (given t side)
   slot_count r side e =
-      ap (slot_in r side) (count_so side)
+      ap (slot_in r side) (count_so side) ∙ sym (place_so r side (given t side % 256))
       ∙ address_mod (Some r) side (given t side) (subst (λ o. IfSome o IsWide) e names.wide)
       ∙ ap (λ o. address_in o side (given t side)) (sym (names.named_so ∙ e))
 
@@ -127,6 +128,7 @@ module _ {K : Type 0} (p : Port K) (t : Talk) (action : Action) (bytes : List �
     in_rings (λ r. action ≡ actions.Write (slot_in r side (given_in p side)) 4)
         (action ≡ actions.Write (address_in p.rings side (given_at (look p) side)) 4) p.rings refl some h
         (λ r e x. x ∙ ap (λ n. actions.Write (slot_in r side n) 4) (given_same p side)
+        ∙ ap (λ n. actions.Write n 4) (sym (place_so r side (given_at (look p) side)))
         ∙ ap (λ o. actions.Write (address_in o side (given_at (look p) side)) 4) (sym e)),
     is,
   )
@@ -209,12 +211,14 @@ module _ {K : Type 0} (p : Port K) (t : Talk) (action : Action) (bytes : List �
       (IsLook t.rings t side action) p.rings refl (some tt) h
       (λ r e x. subst (λ o. IsLook o t side action) (sym (names.named_so ∙ e))
       (x ∙ ap (λ n. actions.Read (slot_in r side (n + 2 * slots_of r side - 2)) 4) (count_so side)
-      ∙ ap (λ n. actions.Read n 4) (look_count r side (given t side) (subst (λ o. IfSome o IsWide) e names.wide)))))
+      ∙ ap (λ n. actions.Read n 4) (look_count r side (given t side) (subst (λ o. IfSome o IsWide) e names.wide)
+      ∙ sym (place_so r side (given t side + 2 * slots_of r side - 2))
+      ∙ ap (λ m. slot_place r side (given t side + 2 * m - 2)) (sym (slots_so r side))))))
   owed_of (tasks.Word side) h is at within some up clear area fit = owed_at t.turn (Marks side) fit (
     in_rings (λ r. action ≡ actions.Write (word_of r side) 2)
-        (IsSomeAnd t.rings (λ r. action ≡ actions.Write (word_of r side) 2)) p.rings refl (some tt) h
-        (λ r e x. subst (λ o. IsSomeAnd o (λ r. action ≡ actions.Write (word_of r side) 2))
-        (sym (names.named_so ∙ e)) x),
+        (IsSomeAnd t.rings (λ r. action ≡ actions.Write (word_place r side) 2)) p.rings refl (some tt) h
+        (λ r e x. subst (λ o. IsSomeAnd o (λ r. action ≡ actions.Write (word_place r side) 2))
+        (sym (names.named_so ∙ e)) (x ∙ ap (λ n. actions.Write n 2) (sym (word_so r side)))),
     is,
   )
   owed_of tasks.Interrupt h is at within some up clear area fit = owed_at t.turn Due fit

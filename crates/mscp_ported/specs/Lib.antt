@@ -1,3 +1,4 @@
+pub mod Rings
 pub mod Talk
 pub mod Owed
 pub mod Told

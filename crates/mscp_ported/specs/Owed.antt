@@ -11,11 +11,11 @@ use Rattle.mscp_port.specs.declared.rings.Side.{Side}
 use Rattle.mscp_port.specs.declared.rings.Side.TheVariants.{Responses, Commands}
 use Rattle.mscp_port.specs.declared.stage.Stage.{Stage}
 use Rattle.mscp_port.specs.declared.stage.Stage.TheVariants as stages
-use Rattle.mscp_port.specs.Areas.{Rings, IsInArea, slot_in, slots_of, word_of}
+use Rattle.mscp_port.specs.Areas.{Rings, IsInArea}
 use Rattle.mscp_port.specs.Calls.{IsMadeOf}
 use Rattle.mscp_port.specs.Histories.{Answered, Call, Next, Picking}
-use Rattle.mscp_port.specs.Slots.{text_of}
 use Rattle.mscp_ported.specs.Talk.{AsksAlways, Talk, Turn, Idle, Taken, Opened, Read, Written, Looks, Marks, Due, Slot, address_in, given, talk_of}
+use Rattle.mscp_ported.specs.Rings.{slot_place, slots_in, text_place, word_place}
 
 -- four bytes are read in the slot of a ring that comes next, while the rings are in use
 abbrev pub ReadsSlot : Stage → Talk → ℕ → ℕ → Type 0
@@ -46,8 +46,8 @@ GivesBack slot action bytes =
 -- of a slot for a response a packet is written, whose header stands in the four bytes in front of its text; of one of a
 -- command the header is read
 abbrev pub Opens : Side → ℕ → Action → List ℕ → Type 0
-Opens Responses word action bytes = action ≡ actions.Write (text_of word - 4) (length bytes)
-Opens Commands word action bytes = action ≡ actions.Read (text_of word - 4) 4
+Opens Responses word action bytes = action ≡ actions.Write (text_place word - 4) (length bytes)
+Opens Commands word action bytes = action ≡ actions.Read (text_place word - 4) 4
 
 -- no more of a text than 64 bytes is read
 abbrev pub text_size : ℕ → ℕ
@@ -56,20 +56,20 @@ text_size header = if nat_lt 64 (header % 0x1_0000) then 64 else header % 0x1_00
 -- the slot in front of the one that was given back last is two behind the next one, over the ring's seam
 abbrev pub IsLook : Option Rings → Talk → Side → Action → Type 0
 IsLook rings t side action = IsSomeAnd rings (λ r.
-    action ≡ actions.Read (slot_in r side (given t side + 2 * slots_of r side - 2)) 4)
+    action ≡ actions.Read (slot_place r side (given t side + 2 * slots_in r side - 2)) 4)
 
 -- what is wanted where so much was done
 abbrev pub IsOwed : Stage → Talk → Turn → Action → List ℕ → Type 0
 IsOwed stage t Idle action bytes = IsCalm stage t action bytes
 IsOwed stage t (Taken slot) action bytes = Opens slot.side slot.word action bytes
-IsOwed stage t (Opened slot header) action bytes = action ≡ actions.Read (text_of slot.word) (text_size header)
+IsOwed stage t (Opened slot header) action bytes = action ≡ actions.Read (text_place slot.word) (text_size header)
 -- a command whose text was read may stay in its slot
 IsOwed stage t (Read slot header text) action bytes =
     GivesBack slot action bytes ⊎ IsCalm stage t action bytes
 IsOwed stage t (Written slot address packet) action bytes = GivesBack slot action bytes
 IsOwed stage t (Looks side) action bytes = IsLook t.rings t side action
 IsOwed stage t (Marks side) action bytes =
-    IsSomeAnd t.rings (λ r. action ≡ actions.Write (word_of r side) 2) × (bytes ≡ little_bytes 2 1)
+    IsSomeAnd t.rings (λ r. action ≡ actions.Write (word_place r side) 2) × (bytes ≡ little_bytes 2 1)
 IsOwed stage t Due action bytes = action ≡ actions.Interrupt (t.first % 0x80 * 4)
 
 -- the law of rings: whoever calls a port that was made over a controller, and tells of actions only after they were

@@ -9,9 +9,9 @@ use Rattle.mscp_port.specs.declared.rings.Side.{Side}
 use Rattle.mscp_port.specs.declared.rings.Side.TheVariants.{Responses, Commands}
 use Rattle.mscp_port.specs.declared.stage.Stage.{Stage}
 use Rattle.mscp_port.specs.declared.stage.Stage.TheVariants as stages
-use Rattle.mscp_port.specs.Areas.{Rings, rings_named, slot_in, slots_of}
+use Rattle.mscp_port.specs.Areas.{Rings}
 use Rattle.mscp_port.specs.Histories.{Answered, Call, Next, Picking, WasRead, Went, WriteIp, WriteSa}
-use Rattle.mscp_port.specs.Slots.{is_flagged, is_owned}
+use Rattle.mscp_ported.specs.Rings.{area_by, is_marked, is_ports, slot_place, slots_in}
 
 -- ---- what was asked
 
@@ -107,12 +107,12 @@ interrupted turn = turn
 
 abbrev pub is_single : Option Rings → Side → Bool
 is_single None side = false
-is_single (Some r) side = slots_of r side == 1
+is_single (Some r) side = slots_in r side == 1
 
 -- a slot was given back: the host wants to hear of it if its flag was set; and of one in a ring of one it does
 abbrev pub given_turn : Option Rings → Slot → Turn
 given_turn rings slot =
-    if not (is_flagged slot.word) then Idle
+    if not (is_marked slot.word) then Idle
     else if is_single rings slot.side then Marks slot.side
     else Looks slot.side
 
@@ -125,7 +125,7 @@ side_at (Some r) address = if nat_lt address (r.base + r.responses * 4) then Res
 
 -- a slot that is the port's is taken
 abbrev pub takes : Slot → Turn
-takes slot = if is_owned slot.word then Taken slot else Idle
+takes slot = if is_ports slot.word then Taken slot else Idle
 
 abbrev pub slot_read : Option Rings → ℕ → List ℕ → Slot
 slot_read rings address bytes =
@@ -137,7 +137,7 @@ read_turn rings address bytes Idle = takes (slot_read rings address bytes)
 read_turn rings address bytes (Read slot header text) = takes (slot_read rings address bytes)
 read_turn rings address bytes (Taken slot) = Opened slot (num bytes 0 4)
 read_turn rings address bytes (Opened slot header) = Read slot header bytes
-read_turn rings address bytes (Looks side) = if is_owned (num bytes 0 4) then Marks side else Idle
+read_turn rings address bytes (Looks side) = if is_ports (num bytes 0 4) then Marks side else Idle
 read_turn rings address bytes turn = turn
 
 -- these were written
@@ -185,8 +185,8 @@ answered stage word t = t
 abbrev pub stepped : Stage → Stage → Talk → Talk
 stepped stages.First stages.Second t = record t { first = t.answer; turn = at_step t.answer }
 stepped stages.Second stages.Third t = record t { second = t.answer; turn = at_step t.first }
-stepped stages.Third stages.Purging t = record t { rings = rings_named t.first t.second t.answer }
-stepped stages.Third stages.Clearing t = record t { rings = rings_named t.first t.second t.answer }
+stepped stages.Third stages.Purging t = record t { rings = area_by t.first t.second t.answer }
+stepped stages.Third stages.Clearing t = record t { rings = area_by t.first t.second t.answer }
 stepped stages.Clearing stages.Last t = record t { turn = at_step t.first }
 stepped before after t = t
 
@@ -229,4 +229,4 @@ given t Commands = length t.heard
 -- where the slot of a ring lies that comes after so many others, if the host has named its rings
 abbrev pub address_in : Option Rings → Side → ℕ → ℕ
 address_in None side n = 0
-address_in (Some r) side n = slot_in r side n
+address_in (Some r) side n = slot_place r side n

@@ -21,8 +21,8 @@ use Rattle.mscp_port.specs.Departures.{begins}
 use Rattle.mscp_port.specs.Histories.{Answered, Call, Picking, WasRead}
 use Rattle.mscp_port.specs.Messages.{own_end_of}
 use Rattle.mscp_port.specs.Seen.{answered_to}
-use Rattle.mscp_port.specs.Slots.{is_owned, text_of}
 use Rattle.mscp_ported.specs.Talk.{AsksAlways, Message, Packet, Read, Slot, Turn, address_in, since, talk_of}
+use Rattle.mscp_ported.specs.Rings.{is_ports, text_place}
 
 -- ---- slots
 
@@ -30,7 +30,7 @@ use Rattle.mscp_ported.specs.Talk.{AsksAlways, Message, Packet, Read, Slot, Turn
 abbrev pub StandInOrder : Option Rings → Side → ℕ → List Slot → Type 0
 StandInOrder rings side n [] = Unit {0}
 StandInOrder rings side n (slot ∷ more) = (slot.side ≡ side) × (slot.address ≡ address_in rings side n)
-    × (is_owned slot.word ≡ true) × StandInOrder rings side (n + 1) more
+    × (is_ports slot.word ≡ true) × StandInOrder rings side (n + 1) more
 
 abbrev pub packet_slot : Packet → Slot
 packet_slot packet = packet.slot
@@ -72,7 +72,7 @@ left_after left kinds.UtilitiesEnd = left
 
 -- a packet says this: it stands where its slot's descriptor says, whole
 abbrev pub Tells : ℕ → Packet → Said → Type 0
-Tells left packet said = (packet.address ≡ text_of packet.slot.word - 4)
+Tells left packet said = (packet.address ≡ text_place packet.slot.word - 4)
     × (packet.bytes ≡ packet_with (credits_in left said.kind) (connection_told said.kind) said.text)
 
 -- packets say these, one by one, where so many credits weren't told before the first of them

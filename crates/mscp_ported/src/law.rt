@@ -55,7 +55,8 @@ pub fn ports_keep_the_promise<K: Picker>(picker: &K)
 /// Whoever calls a port, and tells of actions only after they were wanted: where the controller is told that a block of a
 /// command went well, the block was moved. It was wanted, of the command's unit and of that number, to or from its place of the
 /// buffer: 512 bytes behind the block before, of the last one the bytes that are left; and it was told done. The buffer is that
-/// of a message of the command's number, to its unit. Only where the buffer has no byte for the block nothing is moved.
+/// of a message of the command's number, to its unit. Only where the buffer has no byte for the block nothing is moved:
+/// then the wish was a pause.
 pub fn ports_move_what_they_say<K: Picker>(picker: &K)
     ensures { PortsMoveWhatTheySay K.picks }
 {
