@@ -24,3 +24,4 @@ pub mod Ending
 pub mod Leaving
 pub mod Decided
 pub mod Answering
+pub mod News

@@ -6,3 +6,4 @@ pub mod Making
 pub mod Moved
 pub mod Ends
 pub mod Answers
+pub mod News

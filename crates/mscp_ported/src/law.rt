@@ -4,6 +4,7 @@ ghost use Rattle.mscp_ported.specs.Answers.{PortsAnswerAsTheyMay};
 ghost use Rattle.mscp_ported.specs.Ends.{PortsSayWhatWasDecided};
 ghost use Rattle.mscp_ported.specs.Making.{PortsKeepThePromise};
 ghost use Rattle.mscp_ported.specs.Moved.{PortsMoveWhatTheySay};
+ghost use Rattle.mscp_ported.specs.News.{PortsAnnounceAvailableUnits};
 ghost use Rattle.mscp_ported.specs.Owed.{PortsDoWhatIsDue};
 ghost use Rattle.mscp_ported.specs.Told.{PortsHearInOrder, PortsTellInOrder};
 
@@ -80,6 +81,15 @@ pub fn ports_say_what_was_decided<K: Picker>(picker: &K)
 /// is of the message's connection. To no other message the port gives an answer of its own.
 pub fn ports_answer_as_they_may<K: Picker>(picker: &K)
     ensures { PortsAnswerAsTheyMay K.picks }
+{
+    let _ = picker;
+}
+
+/// Of a port over a controller whose list of units is one that is taken: if an attention message begins to go out by a call,
+/// the host has asked for such messages, and the unit of which it tells is available: a volume is in it, and it isn't online.
+/// The message is the one of that unit and of that volume, byte by byte.
+pub fn ports_announce_available_units<K: Picker>(picker: &K)
+    ensures { PortsAnnounceAvailableUnits K.picks }
 {
     let _ = picker;
 }
