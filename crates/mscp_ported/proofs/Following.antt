@@ -95,7 +95,7 @@ module _ {K : Type 0} (picks : Picking K) (old new : Port K) (t : Talk) (said : 
       (record { said = λ s xs ys. refl; texts = λ s xs ys. refl }) refl) k _
       (step_so (place_in old.controller.settings.units unit) old.task) (ap look r.frame)
 
-asked_before : (call : Call) (earlier : List Call) → AsksAlways (call ∷ earlier) → AsksAlways earlier
+pub asked_before : (call : Call) (earlier : List Call) → AsksAlways (call ∷ earlier) → AsksAlways earlier
 asked_before (WasRead bytes (Ok done)) earlier asks = asks.1
 asked_before (Went outcome (Ok done)) earlier asks = asks.1
 asked_before call earlier asks = asks

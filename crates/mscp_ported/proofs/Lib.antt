@@ -25,3 +25,6 @@ pub mod Leaving
 pub mod Decided
 pub mod Answering
 pub mod News
+pub mod Doing
+pub mod Room
+pub mod Soon

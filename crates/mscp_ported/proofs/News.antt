@@ -120,7 +120,7 @@ with_news units vs ws None out h = the_same vs ws h.1
 with_news units vs ws (Some q) out h = λ place low f.
     subst (λ xs. IsFresh (volume_at xs place)) (sym h.1)
     (set_one vs q (record (volume_at vs q) { is_news = false }) (λ was. not_new (record
-        (volume_at vs q) { is_news = false }) refl)
+    (volume_at vs q) { is_news = false }) refl)
     place low f)
 
 said : {K : Type 0} (old new : Port K) → Says old new → KeepsFresh old.volumes new.volumes

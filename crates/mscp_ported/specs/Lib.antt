@@ -7,3 +7,4 @@ pub mod Moved
 pub mod Ends
 pub mod Answers
 pub mod News
+pub mod Soon

@@ -6,6 +6,7 @@ ghost use Rattle.mscp_ported.specs.Making.{PortsKeepThePromise};
 ghost use Rattle.mscp_ported.specs.Moved.{PortsMoveWhatTheySay};
 ghost use Rattle.mscp_ported.specs.News.{PortsAnnounceAvailableUnits};
 ghost use Rattle.mscp_ported.specs.Owed.{PortsDoWhatIsDue};
+ghost use Rattle.mscp_ported.specs.Soon.{PortsTellSoon};
 ghost use Rattle.mscp_ported.specs.Told.{PortsHearInOrder, PortsTellInOrder};
 
 use mscp_controller::controllers_keep_the_promise;
@@ -90,6 +91,15 @@ pub fn ports_answer_as_they_may<K: Picker>(picker: &K)
 /// The message is the one of that unit and of that volume, byte by byte.
 pub fn ports_announce_available_units<K: Picker>(picker: &K)
     ensures { PortsAnnounceAvailableUnits K.picks }
+{
+    let _ = picker;
+}
+
+/// Whoever calls a port, and tells of actions only after they were wanted: where something goes out, and the ring of responses
+/// wasn't found full, it is gone after ten actions that were done, whatever else is called, if each slot of that ring that is read
+/// is the port's: its slot was given back, or a reset or a fatal error made the port forget it.
+pub fn ports_tell_soon<K: Picker>(picker: &K)
+    ensures { PortsTellSoon K.picks }
 {
     let _ = picker;
 }

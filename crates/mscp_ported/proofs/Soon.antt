@@ -1,0 +1,122 @@
+-- What goes out is gone after ten actions.
+use Rattle.std.proofs.Common.{◌≡◌, ◌⊎◌, ◌∙◌, ◌∷◌, ◌++◌, ◌+◌, ◌≤◌, [], ℕ, Bool, true, false, List, Option, None, Some, inl, inr, refl, ap, sym, subst, arith}
+use Rattle.std.specs.Prelude.{Ok, Err}
+use Rattle.mscp_controller.specs.Holdings.{Holdings}
+use Rattle.mscp_port.specs.declared.hardware.Hardware.{Hardware}
+use Rattle.mscp_port.specs.declared.port.Outgoing.{Outgoing}
+use Rattle.mscp_port.specs.declared.port.Port.{Port}
+use Rattle.mscp_port.specs.declared.rings.Side.TheVariants.{Responses, Commands}
+use Rattle.mscp_port.specs.declared.stage.Stage.{Stage}
+use Rattle.mscp_port.specs.declared.stage.Stage.TheVariants as stages
+use Rattle.mscp_port.specs.declared.task.Task.{Task}
+use Rattle.mscp_port.specs.declared.task.Task.TheVariants as tasks
+use Rattle.mscp_port.specs.Calls.{IsMadeOf}
+use Rattle.mscp_port.specs.Departures.{gone, leaves}
+use Rattle.mscp_port.specs.Histories.{Answered, Call, Picking, WasRead, Went}
+use Rattle.mscp_port.proofs.Common.{false≢true}
+use Rattle.mscp_ported.specs.Soon.{AreGiven, HasRoom, acts}
+use Rattle.mscp_ported.specs.Talk.{AsksAlways}
+use Rattle.mscp_ported.proofs.Following.{in_step}
+use Rattle.mscp_ported.proofs.Look.{IsClear}
+use Rattle.mscp_ported.proofs.Doing.{IsSaying, by_call, to_do}
+use Rattle.mscp_ported.proofs.Room.{heard_so, is_late, room}
+
+-- ---- calls
+
+more_acts : (call : Call) (calls : List Call) → acts (call ∷ calls) ≡ acts (call ∷ []) + acts calls
+more_acts (WasRead bytes (Ok done)) calls = search arith
+more_acts (Went outcome (Ok done)) calls = search arith
+more_acts (WasRead bytes (Err unasked)) calls = search arith
+more_acts (Went outcome (Err unasked)) calls = search arith
+more_acts call calls = search arith
+
+abbrev bound_of : {K : Type 0} → Port K → ℕ
+bound_of p = to_do p.task
+
+-- it still goes out, or is the first that is gone
+abbrev Far : {K : Type 0} (picks : Picking K) (o : Outgoing) (p q : Port K) (calls : List Call)
+    → Answered picks p calls q → Type 0
+Far picks o p q calls a =
+    ((gone picks p q calls a ≡ []) × IsSaying q o × (IsClear q.task → ⊥)
+    × (acts calls + to_do q.task ≤ to_do p.task))
+    ⊎ ((more : List Outgoing) × (gone picks p q calls a ≡ o ∷ more))
+
+left_none : (o : Outgoing) (before after : Option Outgoing) → before ≡ Some o → after ≡ None
+    → leaves before after ≡ o ∷ []
+left_none o before after e h = ap (λ x. leaves x after) e ∙ ap (leaves (Some o)) h
+
+left_some : (o : Outgoing) (before after : Option Outgoing) → before ≡ Some o → after ≡ Some o
+    → leaves before after ≡ []
+left_some o before after e h = ap (λ x. leaves x after) e ∙ ap (leaves (Some o)) h
+
+far : {K : Type 0} (picks : Picking K) (o : Outgoing) (p q : Port K) (calls : List Call) → IsSaying p o
+    → (IsClear p.task → ⊥) → (a : Answered picks p calls q) → AreGiven picks p q calls a → Far picks o p q calls a
+far picks o p q [] s clear e given = inl (
+  refl,
+  subst (λ x. IsSaying x o) (sym e) s,
+  subst (λ x. IsClear x.task → ⊥) (sym e) clear,
+  subst (λ x. 0 + to_do x.task ≤ to_do p.task) (sym e) (search arith),
+)
+far picks o p q (call ∷ calls) s clear a given = elim (far picks o p a.0 calls s clear a.1 given.1) [
+  | inl k ↦ elim (by_call o a.0 k.1 k.2 picks q call a.2 given.0).is [
+    | inl on ↦ inl (
+      ap (λ xs. xs ++ leaves a.0.outgoing q.outgoing) k.0
+          ∙ left_some o a.0.outgoing q.outgoing k.1.out on.0.out,
+      on.0,
+      on.1,
+      subst (λ n. n + to_do q.task ≤ to_do p.task) (sym (more_acts call calls)) (search (arith, on.2, k.3)),
+    )
+    | inr none ↦ inr (
+      [],
+      ap (λ xs. xs ++ leaves a.0.outgoing q.outgoing) k.0
+          ∙ left_none o a.0.outgoing q.outgoing k.1.out none,
+    )
+  ]
+  | inr over ↦ inr (
+    over.0 ++ leaves a.0.outgoing q.outgoing,
+    ap (λ xs. xs ++ leaves a.0.outgoing q.outgoing) over.1,
+  )
+]
+
+ten : (t : Task) → to_do t ≤ 10
+ten (tasks.Return Responses slot) = search arith
+ten (tasks.Return Commands slot) = search arith
+ten (tasks.Slot Responses) = search arith
+ten (tasks.Slot Commands) = search arith
+ten t = search arith
+
+one : (t : Task) → 1 ≤ to_do t
+one (tasks.Return Responses slot) = search arith
+one (tasks.Return Commands slot) = search arith
+one (tasks.Slot Responses) = search arith
+one (tasks.Slot Commands) = search arith
+one t = search arith
+
+pub tells_soon : {K : Type 0} (picks : Picking K) (hardware : Hardware) (credits : ℕ) (controller : Holdings K)
+    (start p q : Port K) (before calls : List Call) (o : Outgoing) → IsMadeOf hardware credits controller start
+    → AsksAlways before → (b : Answered picks start before p) → HasRoom picks start p before b → p.stage ≡ stages.Up
+    → p.outgoing ≡ Some o → (a : Answered picks p calls q) → AreGiven picks p q calls a → 10 ≤ acts calls
+    → (more : List Outgoing) × (gone picks p q calls a ≡ o ∷ more)
+tells_soon picks hardware credits controller start p q before calls o made asks b has up out a given long =
+    elim (far picks o p q calls says free a given) [
+      | inl k ↦ absurd (search (arith, k.3, ten p.task, one q.task, long))
+      | inr over ↦ over
+    ]
+  where
+    says : IsSaying p o
+    says = record {
+      up = up;
+      out = out;
+      room = room picks hardware credits controller start made p before b has;
+      heard = heard_so picks hardware credits controller start made p before asks b (ap is_late up);
+    }
+
+    free : IsClear p.task → ⊥
+    free c = never (sym (((in_step picks hardware credits controller start made p before asks b).hand.clear c)) ∙ up)
+      where
+        is_up : Stage → Bool
+        is_up stages.Up = true
+        is_up stage = false
+
+        never : stages.Clearing ≡ stages.Up → ⊥
+        never e = false≢true (ap is_up e)
