@@ -20,6 +20,7 @@ use Rattle.mscp_port.specs.declared.task.Task.{Task}
 use Rattle.mscp_port.specs.declared.task.Task.TheVariants as tasks
 use Rattle.mscp_port.specs.Acted.{GivesBack, WritesOut, counted, hears_of, vector_in}
 use Rattle.mscp_port.specs.Areas.{Rings, slots_of}
+use Rattle.mscp_port.specs.Departures.{IsForgotten}
 use Rattle.mscp_port.specs.Calls.{Goes, Hears, read_again, step_at}
 use Rattle.mscp_port.specs.Histories.{Becomes, Call, Picking, WriteIp, ReadIp, WriteSa, Next, PutAside, WasRead, Went, LookAgain, Tick, VolumeCame, VolumeWent, Protect}
 use Rattle.mscp_port.specs.Messages.{own_end_of}
@@ -59,13 +60,22 @@ pub record IsSaying {K : Type 0} (p : Port K) (o : Outgoing) : Type 0 where
   pub room : p.is_full ≡ false
   pub heard : p.written ≡ None
 
+-- nothing goes out any more
+pub record IsFreed {K : Type 0} (p : Port K) : Type 0 where
+  pub up : p.stage ≡ stages.Up
+  pub out : p.outgoing ≡ None
+  pub room : p.is_full ≡ false
+  pub heard : p.written ≡ None
+  pub clear : IsClear p.task → ⊥
+
 -- by a call that did so many actions what goes out is gone, or so many are left
-pub record Goal {K : Type 0} (o : Outgoing) (done bound : ℕ) (new : Port K) : Type 0 where
-  pub is : (IsSaying new o × (IsClear new.task → ⊥) × (done + to_do new.task ≤ bound)) ⊎ (new.outgoing ≡ None)
+pub record Goal {K : Type 0} (o : Outgoing) (old : Port K) (done bound : ℕ) (new : Port K) : Type 0 where
+  pub is : (IsSaying new o × (IsClear new.task → ⊥) × (done + to_do new.task ≤ bound))
+      ⊎ (IsForgotten old new ⊎ IsFreed new)
 
 -- ---- tasks
 
-again_clear : (t : Task) → (IsClear t → ⊥) → IsClear (read_again t) → ⊥
+pub again_clear : (t : Task) → (IsClear t → ⊥) → IsClear (read_again t) → ⊥
 again_clear (tasks.Slot side) h = λ c. c
 again_clear t h = h
 
@@ -74,7 +84,7 @@ again_less (tasks.Slot Responses) = search arith
 again_less (tasks.Slot Commands) = search arith
 again_less t = search arith
 
-aside_clear : (t : Task) → (IsClear t → ⊥) → IsClear (aside t) → ⊥
+pub aside_clear : (t : Task) → (IsClear t → ⊥) → IsClear (aside t) → ⊥
 aside_clear tasks.Transfer h = λ c. c
 aside_clear t h = h
 
@@ -82,7 +92,7 @@ aside_less : (t : Task) → to_do (aside t) ≤ to_do t
 aside_less tasks.Transfer = search arith
 aside_less t = search arith
 
-step_clear : (o : Option ℕ) (t : Task) → (IsClear t → ⊥) → IsClear (step_at o t) → ⊥
+pub step_clear : (o : Option ℕ) (t : Task) → (IsClear t → ⊥) → IsClear (step_at o t) → ⊥
 step_clear None t h = h
 step_clear (Some place) (tasks.Step verdict) h = λ c. c
 step_clear (Some place) tasks.Transfer h = λ c. c
@@ -94,7 +104,7 @@ step_less (Some place) (tasks.Step verdict) = search arith
 step_less (Some place) tasks.Transfer = search arith
 step_less (Some place) t = search arith
 
-free_or_not : (t : Task) → (t ≡ tasks.Free) ⊎ (t ≢ tasks.Free)
+pub free_or_not : (t : Task) → (t ≡ tasks.Free) ⊎ (t ≢ tasks.Free)
 free_or_not tasks.Free = inl refl
 free_or_not t = inr (λ e. false≢true (ap is_free e))
   where
@@ -102,7 +112,7 @@ free_or_not t = inr (λ e. false≢true (ap is_free e))
     is_free tasks.Free = true
     is_free task = false
 
-done_or_not : (outcome : Outcome) → (outcome ≡ outcomes.Done) ⊎ (outcome ≢ outcomes.Done)
+pub done_or_not : (outcome : Outcome) → (outcome ≡ outcomes.Done) ⊎ (outcome ≢ outcomes.Done)
 done_or_not outcomes.Done = inl refl
 done_or_not outcome = inr (λ e. false≢true (ap is_done e))
   where
@@ -110,32 +120,40 @@ done_or_not outcome = inr (λ e. false≢true (ap is_done e))
     is_done outcomes.Done = true
     is_done outcome = false
 
-up_alive : {K : Type 0} (p : Port K) → p.stage ≡ stages.Up → IsAlive p
+pub up_alive : {K : Type 0} (p : Port K) → p.stage ≡ stages.Up → IsAlive p
 up_alive p up code e = false≢true (ap is_up (sym e ∙ up))
   where
     is_up : Stage → Bool
     is_up stages.Up = true
     is_up stage = false
 
+pub hears_clear : (r : Rings) (side : Side) (slot : Descriptor) → IsClear (hears_of r side slot) → ⊥
+hears_clear r side slot = by (not (is_flagged slot.word)) (slots_of r side == 1)
+  where
+    by : (b c : Bool) → IsClear (cond b tasks.Free (cond c (tasks.Word side) (tasks.Neighbour side))) → ⊥
+    by true c = λ x. x
+    by false true = λ x. x
+    by false false = λ x. x
+
 module _ {K : Type 0} (o : Outgoing) (old : Port K) (s : IsSaying old o) (clear : IsClear old.task → ⊥) where
   on : (done bound : ℕ) (x : Port K) → x.stage ≡ old.stage → x.outgoing ≡ old.outgoing → x.is_full ≡ false
-      → x.written ≡ old.written → (IsClear x.task → ⊥) → done + to_do x.task ≤ bound → Goal o done bound x
+      → x.written ≡ old.written → (IsClear x.task → ⊥) → done + to_do x.task ≤ bound → Goal o old done bound x
   on done bound x stage out room heard free few = record {
     is = inl (record { up = stage ∙ s.up; out = out ∙ s.out; room = room; heard = heard ∙ s.heard }, free, few);
   }
 
-  over : (done bound : ℕ) (x : Port K) → x.outgoing ≡ None → Goal o done bound x
-  over done bound x e = record { is = inr e }
+  lost : (done bound : ℕ) (x : Port K) (stage : Stage) → IsAsNew stage old x → Goal o old done bound x
+  lost done bound x stage e = record { is = inr (inl (stage, e)) }
 
-  kept : (new : Port K) → new ≡ old → Goal o 0 (to_do old.task) new
-  kept new e = subst (Goal o 0 (to_do old.task)) (sym e)
+  kept : (new : Port K) → new ≡ old → Goal o old 0 (to_do old.task) new
+  kept new e = subst (Goal o old 0 (to_do old.task)) (sym e)
       (on 0 (to_do old.task) old refl refl s.room refl clear (search arith))
 
   -- what was answered wasn't taken, or the call does nothing for what is in hand
   by_other : (picks : Picking K) (new : Port K) (call : Call) → Becomes picks call old new → acts (call ∷ []) ≡ 0
-      → Goal o 0 (to_do old.task) new
-  by_other picks new WriteIp r h = over 0 (to_do old.task) new r.outgoing
-  by_other picks new ReadIp r h = subst (Goal o 0 (to_do old.task)) (sym (r.up s.up))
+      → Goal o old 0 (to_do old.task) new
+  by_other picks new WriteIp r h = lost 0 (to_do old.task) new stages.First r
+  by_other picks new ReadIp r h = subst (Goal o old 0 (to_do old.task)) (sym (r.up s.up))
       (on 0 (to_do old.task) (record old { is_polled = true; is_full = false; task = read_again old.task }) refl refl
       refl refl (again_clear old.task clear) (search (arith, again_less old.task)))
   by_other picks new (WriteSa word) r h = kept new (r.up s.up)
@@ -153,97 +171,97 @@ module _ {K : Type 0} (o : Outgoing) (old : Port K) (s : IsSaying old o) (clear 
             let slot : new.task ≡ tasks.Slot Responses = due.goes_out (written ∙ s.heard) (stage ∙ s.up)
             (λ e. none-some o (sym e ∙ (quiet ∙ s.out))) (full ∙ s.room) in
             on 0 (to_do old.task) new stage quiet (full ∙ s.room) written (subst (λ t. IsClear t
-                → ⊥) (sym slot) (λ c. c))
+            → ⊥) (sym slot) (λ c. c))
             (subst (λ t. 0 + to_do new.task ≤ to_do t) (sym free)
             (subst (λ t. 0 + to_do t ≤ 3) (sym slot) (search arith)))
         | inr busy ↦ kept new (r.0.goes_on busy)
       ]
-  by_other picks new PutAside r h = subst (Goal o 0 (to_do old.task)) (sym r)
+  by_other picks new PutAside r h = subst (Goal o old 0 (to_do old.task)) (sym r)
       (on 0 (to_do old.task) (record old { task = aside old.task }) refl refl s.room refl
       (aside_clear old.task clear) (search (arith, aside_less old.task)))
   by_other picks new (WasRead bytes (Ok done)) r h = absurd (search arith)
   by_other picks new (WasRead bytes (Err unasked)) r h = kept new r.unasked
   by_other picks new (Went outcome (Ok done)) r h = absurd (search arith)
   by_other picks new (Went outcome (Err unasked)) r h = kept new r.unasked
-  by_other picks new LookAgain r h = subst (Goal o 0 (to_do old.task)) (sym r)
+  by_other picks new LookAgain r h = subst (Goal o old 0 (to_do old.task)) (sym r)
       (on 0 (to_do old.task) (record old { is_full = false; task = read_again old.task }) refl refl refl refl
       (again_clear old.task clear) (search (arith, again_less old.task)))
   by_other picks new Tick r h = elim r.either [
-    | inl e ↦ subst (Goal o 0 (to_do old.task)) (sym e)
+    | inl e ↦ subst (Goal o old 0 (to_do old.task)) (sym e)
         (on 0 (to_do old.task) (record old { is_full = false; task = read_again old.task; left = new.left }) refl refl
         refl refl (again_clear old.task clear) (search (arith, again_less old.task)))
-    | inr dead ↦ over 0 (to_do old.task) new dead.outgoing
+    | inr dead ↦ lost 0 (to_do old.task) new (stages.Dead 9) dead
   ]
-  by_other picks new (VolumeCame m unit (Ok done)) r h = subst (Goal o 0 (to_do old.task)) (sym (r.came refl))
+  by_other picks new (VolumeCame m unit (Ok done)) r h = subst (Goal o old 0 (to_do old.task)) (sym (r.came refl))
       (on 0 (to_do old.task) _ refl refl s.room refl (step_clear _ old.task clear) (search (arith, step_less)))
   by_other picks new (VolumeCame m unit (Err fault)) r h = kept new r.refused
-  by_other picks new (VolumeWent unit result) r h = subst (Goal o 0 (to_do old.task)) (sym r.frame)
+  by_other picks new (VolumeWent unit result) r h = subst (Goal o old 0 (to_do old.task)) (sym r.frame)
       (on 0 (to_do old.task) _ refl refl s.room refl (step_clear _ old.task clear) (search (arith, step_less)))
-  by_other picks new (Protect protected unit result) r h = subst (Goal o 0 (to_do old.task)) (sym r.frame)
+  by_other picks new (Protect protected unit result) r h = subst (Goal o old 0 (to_do old.task)) (sym r.frame)
       (on 0 (to_do old.task) _ refl refl s.room refl (step_clear _ old.task clear) (search (arith, step_less)))
 
   -- ---- what was read
 
   -- what a text leaves in hand
-  stays_on : (bound : ℕ) (new : Port K) → 4 ≤ bound → stays old new → Goal o 1 bound new
-  stays_on bound new few e = subst (Goal o 1 bound) (sym e)
+  stays_on : (bound : ℕ) (new : Port K) → 4 ≤ bound → stays old new → Goal o old 1 bound new
+  stays_on bound new few e = subst (Goal o old 1 bound) (sym e)
       (on 1 bound (record (heard old) { controller = new.controller; task = tasks.Free; is_stalled = true }) refl refl
       s.room refl (λ c. c) (search (arith, few)))
 
   sends_on : (slot : Descriptor) (t : Sent) (bytes : List ℕ) (new : Port K) → Sends slot t bytes old new
-      → Goal o 1 8 new
-  sends_on slot (sents.Queued reference) bytes new r = subst (Goal o 1 8) (sym r.frame)
+      → Goal o old 1 8 new
+  sends_on slot (sents.Queued reference) bytes new r = subst (Goal o old 1 8) (sym r.frame)
       (on 1 8 _ refl refl s.room refl (λ c. c) (search arith))
-  sends_on slot (sents.Answered reference aborted) bytes new r = subst (Goal o 1 8) (sym r.frame)
+  sends_on slot (sents.Answered reference aborted) bytes new r = subst (Goal o old 1 8) (sym r.frame)
       (on 1 8 _ refl refl s.room refl (λ c. c) (search arith))
 
   text_on : (slot : Descriptor) (foreign : Bool) (bytes : List ℕ) (new : Port K) → SeesText slot foreign bytes old new
-      → Goal o 1 8 new
+      → Goal o old 1 8 new
   text_on slot foreign bytes new r = elim (none_or_not (own_end_of old foreign bytes)) [
     | inl none ↦ by none (answered_to old bytes) refl
     | inr some ↦ stays_on 8 new (search arith) (r.own_waits some (λ e. none-some o (sym e ∙ s.out)))
   ]
     where
       by : own_end_of old foreign bytes ≡ None → (x : Result Sent SendFault) → answered_to old bytes ≡ x
-          → Goal o 1 8 new
+          → Goal o old 1 8 new
       by none (Ok t) e = sends_on slot t bytes new (r.sent t none e)
       by none (Err fault) e = stays_on 8 new (search arith) (r.waits fault none e)
 
-  header_on : (slot : Descriptor) (h : ℕ) (new : Port K) → SeesHeader slot h old new → Goal o 1 9 new
+  header_on : (slot : Descriptor) (h : ℕ) (new : Port K) → SeesHeader slot h old new → Goal o old 1 9 new
   header_on slot h new r = by (header_fault h) r
     where
       by : (x : Option ℕ) → MatchOption x (new ≡ record old {
         task = tasks.Text slot (bytes_read (length_in h)) (connection_in h == 2);
-      }) (λ code. IsAsNew (stages.Dead code) old new) → Goal o 1 9 new
-      by None e = subst (Goal o 1 9) (sym e) (on 1 9 _ refl refl s.room refl (λ c. c) (search arith))
-      by (Some code) dead = over 1 9 new dead.outgoing
+      }) (λ code. IsAsNew (stages.Dead code) old new) → Goal o old 1 9 new
+      by None e = subst (Goal o old 1 9) (sym e) (on 1 9 _ refl refl s.room refl (λ c. c) (search arith))
+      by (Some code) dead = lost 1 9 new (stages.Dead code) dead
 
   -- a slot of the ring of commands
   command_on : (b : Bool) (word : ℕ) (new : Port K)
       → new ≡ cond b (record old { task = tasks.Header (record { word = word }) })
-      (record old { is_polled = false; task = tasks.Free }) → Goal o 1 10 new
+      (record old { is_polled = false; task = tasks.Free }) → Goal o old 1 10 new
   command_on true word new e =
-      subst (Goal o 1 10) (sym e) (on 1 10 _ refl refl s.room refl (λ c. c) (search arith))
+      subst (Goal o old 1 10) (sym e) (on 1 10 _ refl refl s.room refl (λ c. c) (search arith))
   command_on false word new e =
-      subst (Goal o 1 10) (sym e) (on 1 10 _ refl refl s.room refl (λ c. c) (search arith))
+      subst (Goal o old 1 10) (sym e) (on 1 10 _ refl refl s.room refl (λ c. c) (search arith))
 
   -- one of the ring of responses that is the port's
   response_on : (b : Bool) (word : ℕ) (new : Port K) → b ≡ true
       → new ≡ cond b (record old { task = tasks.Packet (record { word = word }) })
-      (record old { is_full = true; task = tasks.Free }) → Goal o 1 3 new
+      (record old { is_full = true; task = tasks.Free }) → Goal o old 1 3 new
   response_on true word new is e =
-      subst (Goal o 1 3) (sym e) (on 1 3 _ refl refl s.room refl (λ c. c) (search arith))
+      subst (Goal o old 1 3) (sym e) (on 1 3 _ refl refl s.room refl (λ c. c) (search arith))
   response_on false word new is e = absurd (false≢true is)
 
   neighbour_on : (b : Bool) (side : Side) (new : Port K)
-      → new ≡ record old { task = cond b (tasks.Word side) tasks.Free } → Goal o 1 6 new
+      → new ≡ record old { task = cond b (tasks.Word side) tasks.Free } → Goal o old 1 6 new
   neighbour_on true side new e =
-      subst (Goal o 1 6) (sym e) (on 1 6 _ refl refl s.room refl (λ c. c) (search arith))
+      subst (Goal o old 1 6) (sym e) (on 1 6 _ refl refl s.room refl (λ c. c) (search arith))
   neighbour_on false side new e =
-      subst (Goal o 1 6) (sym e) (on 1 6 _ refl refl s.room refl (λ c. c) (search arith))
+      subst (Goal o old 1 6) (sym e) (on 1 6 _ refl refl s.room refl (λ c. c) (search arith))
 
   by_read : (bytes : List ℕ) (done : Unit) (new : Port K) → Hears bytes old (Ok done) new → (t : Task)
-      → old.task ≡ t → IsGiven t (WasRead bytes (Ok done)) → Goal o 1 (to_do t) new
+      → old.task ≡ t → IsGiven t (WasRead bytes (Ok done)) → Goal o old 1 (to_do t) new
   by_read bytes done new r (tasks.Slot Responses) e given =
       response_on (is_owned (num bytes 0 4)) (num bytes 0 4) new given ((r.sees refl).slot Responses e)
   by_read bytes done new r (tasks.Slot Commands) e given =
@@ -259,10 +277,11 @@ module _ {K : Type 0} (o : Outgoing) (old : Port K) (s : IsSaying old o) (clear 
 
   -- ---- how an action went
 
-  packet_on : (outcome : Outcome) (slot : Descriptor) (new : Port K) → WritesOut outcome slot old new → Goal o 1 2 new
+  packet_on : (outcome : Outcome) (slot : Descriptor) (new : Port K) → WritesOut outcome slot old new
+      → Goal o old 1 2 new
   packet_on outcome slot new w = elim (done_or_not outcome) [
-    | inl done ↦ subst (Goal o 1 2) (sym (w.done done)) (on 1 2 _ refl refl s.room refl (λ c. c) (search arith))
-    | inr missing ↦ over 1 2 new (w.missing missing).outgoing
+    | inl done ↦ subst (Goal o old 1 2) (sym (w.done done)) (on 1 2 _ refl refl s.room refl (λ c. c) (search arith))
+    | inr missing ↦ lost 1 2 new (stages.Dead 2) (w.missing missing)
   ]
 
   hears_less : (r : Rings) (slot : Descriptor) → to_do (hears_of r Commands slot) ≤ 6
@@ -273,52 +292,50 @@ module _ {K : Type 0} (o : Outgoing) (old : Port K) (s : IsSaying old o) (clear 
       by false true = search arith
       by false false = search arith
 
-  hears_clear : (r : Rings) (slot : Descriptor) → IsClear (hears_of r Commands slot) → ⊥
-  hears_clear r slot = by (not (is_flagged slot.word)) (slots_of r Commands == 1)
-    where
-      by : (b c : Bool) → IsClear (cond b tasks.Free (cond c (tasks.Word Commands) (tasks.Neighbour Commands))) → ⊥
-      by true c = λ x. x
-      by false true = λ x. x
-      by false false = λ x. x
-
   gives_on : (outcome : Outcome) (side : Side) (slot : Descriptor) (new : Port K) → (r : Option Rings)
       → MatchOption r (IsAsNew (stages.Dead 7) old new) (λ r. GivesBack outcome r side slot old new)
-      → Goal o 1 (to_do (tasks.Return side slot)) new
-  gives_on outcome side slot new None dead = over 1 (to_do (tasks.Return side slot)) new dead.outgoing
+      → Goal o old 1 (to_do (tasks.Return side slot)) new
+  gives_on outcome side slot new None dead = lost 1 (to_do (tasks.Return side slot)) new (stages.Dead 7) dead
   gives_on outcome side slot new (Some r) g = elim (done_or_not outcome) [
     | inl done ↦ by side (g.done done)
-    | inr missing ↦ over 1 (to_do (tasks.Return side slot)) new (g.missing missing).outgoing
+    | inr missing ↦ lost 1 (to_do (tasks.Return side slot)) new (stages.Dead 7) (g.missing missing)
   ]
     where
       by : (at : Side) → new ≡ record (counted at old) { task = hears_of r at slot }
-          → Goal o 1 (to_do (tasks.Return at slot)) new
-      by Responses e = over 1 1 new (ap (λ p. p.outgoing) e)
-      by Commands e = subst (Goal o 1 7) (sym e)
-          (on 1 7 _ refl refl s.room refl (hears_clear r slot) (search (arith, hears_less r slot)))
+          → Goal o old 1 (to_do (tasks.Return at slot)) new
+      by Responses e = record {
+        is = inr (inr (subst IsFreed (sym e)
+            (record { up = s.up; out = refl; room = s.room; heard = s.heard; clear = hears_clear r Responses slot })));
+      }
+      by Commands e = subst (Goal o old 1 7) (sym e)
+          (on 1 7 _ refl refl s.room refl (hears_clear r Commands slot) (search (arith, hears_less r slot)))
 
-  word_on : (b : Bool) (new : Port K) → new ≡ record old { task = cond b tasks.Free tasks.Interrupt } → Goal o 1 5 new
-  word_on true new e = subst (Goal o 1 5) (sym e) (on 1 5 _ refl refl s.room refl (λ c. c) (search arith))
-  word_on false new e = subst (Goal o 1 5) (sym e) (on 1 5 _ refl refl s.room refl (λ c. c) (search arith))
+  word_on : (b : Bool) (new : Port K) → new ≡ record old { task = cond b tasks.Free tasks.Interrupt }
+      → Goal o old 1 5 new
+  word_on true new e = subst (Goal o old 1 5) (sym e) (on 1 5 _ refl refl s.room refl (λ c. c) (search arith))
+  word_on false new e = subst (Goal o old 1 5) (sym e) (on 1 5 _ refl refl s.room refl (λ c. c) (search arith))
 
-  free_on : (new : Port K) → new ≡ record old { task = tasks.Free } → Goal o 1 4 new
-  free_on new e = subst (Goal o 1 4) (sym e) (on 1 4 _ refl refl s.room refl (λ c. c) (search arith))
+  free_on : (new : Port K) → new ≡ record old { task = tasks.Free } → Goal o old 1 4 new
+  free_on new e = subst (Goal o old 1 4) (sym e) (on 1 4 _ refl refl s.room refl (λ c. c) (search arith))
 
-  block_on : (picks : List Choice → ℕ → Type 0) (new : Port K) → GoesOnWithBlock picks old new → Goal o 1 4 new
+  block_on : (picks : List Choice → ℕ → Type 0) (new : Port K) → GoesOnWithBlock picks old new → Goal o old 1 4 new
   block_on picks new goes = elim (taken_or_not picks old new goes) [
     | inl e ↦ free_on new e
-    | inr t ↦ subst (Goal o 1 4) (sym t.2.finished.2.frame) (on 1 4 _ refl refl s.room refl (λ c. c) (search arith))
+    | inr t ↦ subst (Goal o old 1 4) (sym t.2.finished.2.frame) (on 1 4 _ refl refl s.room refl (λ c. c) (search arith))
   ]
 
   by_going : (picks : List Choice → ℕ → Type 0) (outcome : Outcome) (done : Unit) (new : Port K)
-      → Goes picks outcome old (Ok done) new → (t : Task) → old.task ≡ t → Goal o 1 (to_do t) new
+      → Goes picks outcome old (Ok done) new → (t : Task) → old.task ≡ t → Goal o old 1 (to_do t) new
   by_going picks outcome done new r tasks.Free e = absurd (subst (λ t. IsOutcomeOf t outcome) e (r.only refl))
   by_going picks outcome done new r (tasks.Slot Responses) e =
-      over 1 3 new ((r.acts refl).slot Responses e).outgoing
-  by_going picks outcome done new r (tasks.Slot Commands) e = over 1 10 new ((r.acts refl).slot Commands e).outgoing
-  by_going picks outcome done new r (tasks.Neighbour side) e = over 1 6 new ((r.acts refl).neighbour side e).outgoing
-  by_going picks outcome done new r (tasks.Header slot) e = over 1 9 new ((r.acts refl).header slot e).outgoing
+      lost 1 3 new (stages.Dead 6) ((r.acts refl).slot Responses e)
+  by_going picks outcome done new r (tasks.Slot Commands) e = lost 1 10 new (stages.Dead 6)
+      ((r.acts refl).slot Commands e)
+  by_going picks outcome done new r (tasks.Neighbour side) e = lost 1 6 new (stages.Dead 6)
+      ((r.acts refl).neighbour side e)
+  by_going picks outcome done new r (tasks.Header slot) e = lost 1 9 new (stages.Dead 1) ((r.acts refl).header slot e)
   by_going picks outcome done new r (tasks.Text slot size foreign) e =
-      over 1 8 new ((r.acts refl).text slot size foreign e).outgoing
+      lost 1 8 new (stages.Dead 1) ((r.acts refl).text slot size foreign e)
   by_going picks outcome done new r (tasks.Clear n) e = absurd (clear (subst IsClear (sym e) tt))
   by_going picks outcome done new r (tasks.Packet slot) e = packet_on outcome slot new ((r.acts refl).packet slot e)
   by_going picks outcome done new r (tasks.Return side slot) e =
@@ -334,7 +351,7 @@ module _ {K : Type 0} (o : Outgoing) (old : Port K) (s : IsSaying old o) (clear 
   -- ---- a call
 
   pub by_call : (picks : Picking K) (new : Port K) (call : Call) → Becomes picks call old new → IsGiven old.task call
-      → Goal o (acts (call ∷ [])) (to_do old.task) new
+      → Goal o old (acts (call ∷ [])) (to_do old.task) new
   by_call picks new (WasRead bytes (Ok done)) r given = by_read bytes done new r old.task refl given
   by_call picks new (Went outcome (Ok done)) r given = by_going _ outcome done new r old.task refl
   by_call picks new (WasRead bytes (Err unasked)) r given = by_other picks new (WasRead bytes (Err unasked)) r refl

@@ -26,5 +26,7 @@ pub mod Decided
 pub mod Answering
 pub mod News
 pub mod Doing
+pub mod Starting
 pub mod Room
 pub mod Soon
+pub mod Telling

@@ -304,3 +304,9 @@ module _ {K : Type 0} (picks : Picking K) (hardware : Hardware) (credits : ℕ) 
   heard_so p (call ∷ calls) asks a late =
       let k = in_step picks hardware credits controller start made a.0 calls (asked_before call calls asks) a.1 in
       heard_by a.0 p k.hand.up k.hand.clear (heard_so a.0 calls (asked_before call calls asks) a.1) late picks call a.2
+
+  -- while the rings are in use the area isn't being cleared
+  pub uncleared : (p : Port K) (calls : List Call) → AsksAlways calls → Answered picks start calls p
+      → p.stage ≡ stages.Up → IsClear p.task → ⊥
+  uncleared p calls asks a up c = false≢true (ap is_up (sym
+      ((in_step picks hardware credits controller start made p calls asks a).hand.clear c) ∙ up))

@@ -1,29 +1,26 @@
 -- What goes out is gone after ten actions.
-use Rattle.std.proofs.Common.{◌≡◌, ◌⊎◌, ◌∙◌, ◌∷◌, ◌++◌, ◌+◌, ◌≤◌, [], ℕ, Bool, true, false, List, Option, None, Some, inl, inr, refl, ap, sym, subst, arith}
+use Rattle.std.proofs.Common.{◌≡◌, ◌⊎◌, ◌∙◌, ◌∷◌, ◌++◌, ◌+◌, ◌≤◌, [], ℕ, List, Option, None, Some, inl, inr, refl, ap, sym, subst, arith}
 use Rattle.std.specs.Prelude.{Ok, Err}
 use Rattle.mscp_controller.specs.Holdings.{Holdings}
 use Rattle.mscp_port.specs.declared.hardware.Hardware.{Hardware}
 use Rattle.mscp_port.specs.declared.port.Outgoing.{Outgoing}
 use Rattle.mscp_port.specs.declared.port.Port.{Port}
 use Rattle.mscp_port.specs.declared.rings.Side.TheVariants.{Responses, Commands}
-use Rattle.mscp_port.specs.declared.stage.Stage.{Stage}
 use Rattle.mscp_port.specs.declared.stage.Stage.TheVariants as stages
 use Rattle.mscp_port.specs.declared.task.Task.{Task}
 use Rattle.mscp_port.specs.declared.task.Task.TheVariants as tasks
 use Rattle.mscp_port.specs.Calls.{IsMadeOf}
-use Rattle.mscp_port.specs.Departures.{gone, leaves}
+use Rattle.mscp_port.specs.Departures.{IsForgotten, gone, leaves}
 use Rattle.mscp_port.specs.Histories.{Answered, Call, Picking, WasRead, Went}
-use Rattle.mscp_port.proofs.Common.{false≢true}
 use Rattle.mscp_ported.specs.Soon.{AreGiven, HasRoom, acts}
 use Rattle.mscp_ported.specs.Talk.{AsksAlways}
-use Rattle.mscp_ported.proofs.Following.{in_step}
 use Rattle.mscp_ported.proofs.Look.{IsClear}
-use Rattle.mscp_ported.proofs.Doing.{IsSaying, by_call, to_do}
-use Rattle.mscp_ported.proofs.Room.{heard_so, is_late, room}
+use Rattle.mscp_ported.proofs.Doing.{IsFreed, IsSaying, by_call, to_do}
+use Rattle.mscp_ported.proofs.Room.{heard_so, is_late, room, uncleared}
 
 -- ---- calls
 
-more_acts : (call : Call) (calls : List Call) → acts (call ∷ calls) ≡ acts (call ∷ []) + acts calls
+pub more_acts : (call : Call) (calls : List Call) → acts (call ∷ calls) ≡ acts (call ∷ []) + acts calls
 more_acts (WasRead bytes (Ok done)) calls = search arith
 more_acts (Went outcome (Ok done)) calls = search arith
 more_acts (WasRead bytes (Err unasked)) calls = search arith
@@ -41,11 +38,15 @@ Far picks o p q calls a =
     × (acts calls + to_do q.task ≤ to_do p.task))
     ⊎ ((more : List Outgoing) × (gone picks p q calls a ≡ o ∷ more))
 
-left_none : (o : Outgoing) (before after : Option Outgoing) → before ≡ Some o → after ≡ None
+-- what was forgotten, or was gone
+gone_out : {K : Type 0} (o : Outgoing) (old new : Port K) → IsForgotten old new ⊎ IsFreed new → new.outgoing ≡ None
+gone_out o old new h = elim h [ inl f ↦ f.1.outgoing | inr d ↦ d.out ]
+
+pub left_none : (o : Outgoing) (before after : Option Outgoing) → before ≡ Some o → after ≡ None
     → leaves before after ≡ o ∷ []
 left_none o before after e h = ap (λ x. leaves x after) e ∙ ap (leaves (Some o)) h
 
-left_some : (o : Outgoing) (before after : Option Outgoing) → before ≡ Some o → after ≡ Some o
+pub left_some : (o : Outgoing) (before after : Option Outgoing) → before ≡ Some o → after ≡ Some o
     → leaves before after ≡ []
 left_some o before after e h = ap (λ x. leaves x after) e ∙ ap (leaves (Some o)) h
 
@@ -69,7 +70,7 @@ far picks o p q (call ∷ calls) s clear a given = elim (far picks o p a.0 calls
     | inr none ↦ inr (
       [],
       ap (λ xs. xs ++ leaves a.0.outgoing q.outgoing) k.0
-          ∙ left_none o a.0.outgoing q.outgoing k.1.out none,
+          ∙ left_none o a.0.outgoing q.outgoing k.1.out (gone_out o a.0 q none),
     )
   ]
   | inr over ↦ inr (
@@ -78,14 +79,14 @@ far picks o p q (call ∷ calls) s clear a given = elim (far picks o p a.0 calls
   )
 ]
 
-ten : (t : Task) → to_do t ≤ 10
+pub ten : (t : Task) → to_do t ≤ 10
 ten (tasks.Return Responses slot) = search arith
 ten (tasks.Return Commands slot) = search arith
 ten (tasks.Slot Responses) = search arith
 ten (tasks.Slot Commands) = search arith
 ten t = search arith
 
-one : (t : Task) → 1 ≤ to_do t
+pub one : (t : Task) → 1 ≤ to_do t
 one (tasks.Return Responses slot) = search arith
 one (tasks.Return Commands slot) = search arith
 one (tasks.Slot Responses) = search arith
@@ -112,11 +113,4 @@ tells_soon picks hardware credits controller start p q before calls o made asks 
     }
 
     free : IsClear p.task → ⊥
-    free c = never (sym (((in_step picks hardware credits controller start made p before asks b).hand.clear c)) ∙ up)
-      where
-        is_up : Stage → Bool
-        is_up stages.Up = true
-        is_up stage = false
-
-        never : stages.Clearing ≡ stages.Up → ⊥
-        never e = false≢true (ap is_up e)
+    free = uncleared picks hardware credits controller start made p before asks b up

@@ -1,6 +1,8 @@
--- That what goes out to a host is told soon.
-use Rattle.std.specs.Prelude.{◌≡◌, ◌⊎◌, ◌≤◌, ◌+◌, ◌∷◌, [], ℕ, true, List, Some, Ok}
+-- That an end begins to go out to a host soon, and that what goes out is told soon.
+use Rattle.std.specs.Prelude.{None, ◌≡◌, ◌≢◌, ◌*◌, ◌⊎◌, ◌≤◌, ◌<◌, ◌+◌, length, ◌∷◌, [], ℕ, true, List, Some, Ok}
 use Rattle.mscp_packet.specs.Number.{num}
+use Rattle.mscp_drive.specs.Both.{of}
+use Rattle.mscp_drive.specs.declared.connection.Connection.TheVariants.{First}
 use Rattle.mscp_controller.specs.Holdings.{Holdings}
 use Rattle.mscp_port.specs.declared.hardware.Hardware.{Hardware}
 use Rattle.mscp_port.specs.declared.port.Outgoing.{Outgoing}
@@ -54,3 +56,24 @@ PortsTellSoon {K} picks =
     → (b : Answered picks start before p) → HasRoom picks start p before b → p.stage ≡ stages.Up → p.outgoing ≡ Some o
     → (a : Answered picks p calls q) → AreGiven picks p q calls a → 10 ≤ acts calls
     → (more : List Outgoing) × (gone picks p q calls a ≡ o ∷ more)
+
+-- ---- what waits
+
+-- something goes out to the host, or an end waits for it
+abbrev pub HasToTell : {K : Type 0} → Port K → Type 0
+HasToTell p = (p.outgoing ≢ None) ⊎ (0 < length (of First p.controller.untaken))
+
+-- so it is before each of these calls, and behind them
+abbrev pub HaveToTell : {K : Type 0} (picks : Picking K) (p q : Port K) (calls : List Call)
+    → Answered picks p calls q → Type 0
+HaveToTell picks p q [] a = HasToTell q
+HaveToTell picks p q (call ∷ earlier) a = HasToTell q × HaveToTell picks p a.0 earlier a.1
+
+-- the law of news: of such a port: while there is something to tell, one thing is gone for each seventeen actions
+abbrev pub PortsKeepTelling : {K : Type 0} → Picking K → Type 0
+PortsKeepTelling {K} picks =
+    (hardware : Hardware) (credits : ℕ) (controller : Holdings K) (start p q : Port K) (before calls : List Call)
+    → IsMadeOf hardware credits controller start → AsksAlways before
+    → (b : Answered picks start before p) → HasRoom picks start p before b → p.stage ≡ stages.Up
+    → (a : Answered picks p calls q) → AreGiven picks p q calls a → HaveToTell picks p q calls a
+    → acts calls ≤ 17 * (length (gone picks p q calls a) + 1)

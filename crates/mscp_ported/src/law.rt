@@ -6,7 +6,7 @@ ghost use Rattle.mscp_ported.specs.Making.{PortsKeepThePromise};
 ghost use Rattle.mscp_ported.specs.Moved.{PortsMoveWhatTheySay};
 ghost use Rattle.mscp_ported.specs.News.{PortsAnnounceAvailableUnits};
 ghost use Rattle.mscp_ported.specs.Owed.{PortsDoWhatIsDue};
-ghost use Rattle.mscp_ported.specs.Soon.{PortsTellSoon};
+ghost use Rattle.mscp_ported.specs.Soon.{PortsKeepTelling, PortsTellSoon};
 ghost use Rattle.mscp_ported.specs.Told.{PortsHearInOrder, PortsTellInOrder};
 
 use mscp_controller::controllers_keep_the_promise;
@@ -100,6 +100,15 @@ pub fn ports_announce_available_units<K: Picker>(picker: &K)
 /// is the port's: its slot was given back, or a reset or a fatal error made the port forget it.
 pub fn ports_tell_soon<K: Picker>(picker: &K)
     ensures { PortsTellSoon K.picks }
+{
+    let _ = picker;
+}
+
+/// Of such a port: while something goes out or an end waits, one thing at least is gone for each seventeen actions that are
+/// done, whatever else is called, if each slot of the ring of responses that is read is the port's. So an end with `n` things in
+/// front of it is gone after more than `17 * (n + 1)` actions.
+pub fn ports_keep_telling<K: Picker>(picker: &K)
+    ensures { PortsKeepTelling K.picks }
 {
     let _ = picker;
 }
