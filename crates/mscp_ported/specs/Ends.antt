@@ -33,6 +33,7 @@ use Rattle.mscp_port.specs.Moved.{block_begun, part_now}
 use Rattle.mscp_port.specs.Volumes.{volume_found}
 use Rattle.mscp_ported.specs.Making.{told_as}
 use Rattle.mscp_ported.specs.Talk.{since}
+use Rattle.mscp_ported.specs.UnitFlags.{flags_of_unit}
 
 -- ---- what is decided
 
@@ -42,13 +43,6 @@ pub record Fields : Type 0 where
   pub flags : ℕ
   pub media : ℕ
   pub size : ℕ
-
--- the controller replaces bad blocks; what is written is protected by the hardware, by the host; the volume can be
--- taken out
-abbrev pub flags_of_unit : Volume → ℕ
-flags_of_unit v =
-    0x8000 + (if v.is_protected then 0x2000 else 0) + (if v.is_protected_by_host then 0x1000 else 0)
-    + (if v.is_removable then 0x80 else 0)
 
 -- Unit-Offline, no volume; Unit-Available; or Success
 abbrev pub state_of_unit : Volume → ℕ

@@ -1,4 +1,5 @@
 pub mod Rings
+pub mod UnitFlags
 pub mod Talk
 pub mod Owed
 pub mod Told

@@ -12,7 +12,7 @@ use Rattle.mscp_port.specs.declared.volumes.Volume.{Volume}
 use Rattle.mscp_port.specs.Calls.{IsMadeOf}
 use Rattle.mscp_port.specs.Histories.{Answered, Call, Picking}
 use Rattle.mscp_port.specs.Volumes.{volume_at}
-use Rattle.mscp_ported.specs.Ends.{flags_of_unit}
+use Rattle.mscp_ported.specs.UnitFlags.{flags_of_unit}
 
 -- the message: no reference number, the unit's number, the code 0x40 and no status; and then the unit's number as that
 -- of its multi-unit, its flags, its identifier, and the type of its volume
