@@ -452,8 +452,8 @@ struct mscp_volume {
 
 /* ---- memory */
 
-/* How many bytes a controller, a host or a port takes in this library, and what its address is a multiple of. malloc aligns
- * so. */
+/* How many bytes a controller, a host, a port or a driver's account takes in this library, and what its address is a multiple
+ * of. malloc aligns so. */
 size_t mscp_size(void);
 size_t mscp_align(void);
 size_t mscp_host_size(void);

@@ -48,6 +48,7 @@ static void sizes(void)
 {
     is("a controller's memory", MSCP_SIZE >= mscp_size(), 1);
     is("a host's memory", MSCP_HOST_SIZE >= mscp_host_size(), 1);
+    is("a driver's memory", MSCP_DRIVER_SIZE >= mscp_driver_size() && MSCP_ALIGN % mscp_driver_align() == 0, 1);
     mscp = mscp_in_memory(memory, sizeof memory);
     is("init", mscp_init(mscp, &LIMITS, UNITS, 2, MSCP_OLDEST), MSCP_DONE);
     host = mscp_host_in_memory(host_memory, sizeof host_memory);

@@ -1,7 +1,7 @@
 # What is kept of the last release, in tests/abi: its header, the table of that by table.awk, and programs that were written for it.
 # tests/abi/keep writes it. What reads this sets `cc`, a compiler and what it is always told, and `room`, a folder for what is made.
 
-kept_programs=(tests/c/{fields.c,trying.h} examples/{toy.c,port.c,port.h,wire.h,toy.out})
+kept_programs=(tests/c/{fields.c,trying.h} examples/{toy.c,port.c,port.h,wire.h,drives.h,toy.out})
 
 # Prints the table of the mscp.h in this folder, in the order of the alphabet.
 table_of() {

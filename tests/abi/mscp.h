@@ -62,7 +62,7 @@ extern "C" {
 #define MSCP_ALIGNED
 #endif
 
-/* The version of this header, 2.0.0: a byte for each of the three numbers, and that of the library. The two fit if the first
+/* The version of this header, 2.0.0, and that of the library: a byte for each of the three numbers. The two fit if the first
  * number is the same: docs/C.md in the sources says what is the same then. If they don't, an init says MSCP_NO_HANDLE, since
  * a handle that this header makes is none for that library. */
 #define MSCP_VERSION UINT32_C(0x020000)
@@ -92,6 +92,14 @@ enum mscp_status {
     MSCP_LATE = 8,      /* the polled command has ended in the meantime */
     MSCP_NO_PROGRESS = 9, /* the polled command's figure hasn't fallen: reset the controller */
     MSCP_LOST = 10,     /* the controller doesn't know the polled command: reset it */
+    MSCP_MOVED_TOO_MUCH = 11, /* mscp_driver_hear: a command ended, and its end tells more bytes than it asked for */
+    MSCP_REFUSED = 12,  /* the end of a poll, which tells no figure */
+    MSCP_NOW_AVAILABLE = 13, /* a unit became available */
+    MSCP_ATTENTION = 14, /* another attention message */
+    MSCP_LOGGED = 15,   /* an error log */
+    MSCP_CREDITS = 16,  /* credits, and nothing else */
+    MSCP_POLL = 17,     /* mscp_driver_tick: poll the oldest command */
+    MSCP_SILENT = 18,   /* no answer came for a timeout: reset the port */
 
     MSCP_SHORT = -1,        /* the message has under 12 bytes */
     MSCP_LONG = -2,         /* it has over 64 bytes */
@@ -109,6 +117,10 @@ enum mscp_status {
     MSCP_NO_MEMORY = -13,   /* an init: the handle or its memory is NULL */
     MSCP_MISALIGNED = -14,  /* an init: its address isn't a multiple of the alignment */
     MSCP_SMALL = -15,       /* it has fewer bytes than what is to be made, saved or written there takes */
+
+    MSCP_CUT = -16,         /* mscp_driver_hear: there are fewer bytes than the envelope tells */
+    MSCP_OTHER_CONNECTION = -17, /* a message of another connection than the disks' */
+    MSCP_BAD_KIND = -18,    /* a message of no known type */
 
     MSCP_BAD_PICKER = -20,    /* mscp_init: no enum mscp_picker */
     MSCP_ZERO_TRACK = -21,    /* the first unit that is refused has a track of no blocks */
@@ -304,6 +316,13 @@ struct mscp_port {
     uint64_t mark;
 };
 
+struct mscp_driver {
+    MSCP_ALIGNED void *at;
+    MSCP_ALIGNED uint64_t address;
+    uint64_t length;
+    uint64_t mark;
+};
+
 /* What calls tell. A flag ("whether ..") is 1 or 0. */
 
 /* What became of a message. */
@@ -371,6 +390,36 @@ struct mscp_news {
     uint8_t code;       /* its endcode */
 };
 
+/* What a message from a port says: of MSCP_ENDED and MSCP_MOVED_TOO_MUCH the end and what was asked, of MSCP_REFUSED the end, of
+ * MSCP_FIRST and MSCP_PROGRESS the figure, of MSCP_NOW_AVAILABLE and MSCP_ATTENTION unit and code, of MSCP_CREDITS the credits. Every
+ * other field is 0. */
+struct mscp_heard {
+    uint32_t figure;
+    uint32_t reference; /* of the command that ended */
+    uint32_t moved;     /* bytes of its good blocks, if it is a transfer */
+    uint32_t asked;     /* bytes that it asked for */
+    uint16_t unit;
+    uint16_t status;
+    uint8_t code;       /* its endcode, or the code of the attention message */
+    uint8_t opcode;     /* of the command */
+    uint8_t credits;
+};
+
+/* A command whose end wasn't heard. */
+struct mscp_asked {
+    uint32_t reference;
+    uint16_t unit;
+    uint8_t opcode;
+    uint32_t bytes; /* that it asks for */
+};
+
+/* Counts the ticks of a driver's timer. Begin with {timeout, 0, 0}, and again after a reset. */
+struct mscp_watch {
+    uint32_t timeout; /* of the controller, in ticks */
+    uint32_t waited;  /* for how many something has waited that wasn't polled */
+    uint32_t silent;  /* for how many an answer is owed and none came */
+};
+
 /* What a port wants done. What its kind doesn't say is 0. */
 struct mscp_action {
     uint32_t address;  /* in host memory, on the bus */
@@ -403,25 +452,29 @@ struct mscp_volume {
 
 /* ---- memory */
 
-/* How many bytes a controller, a host or a port takes in this library, and what its address is a multiple of. malloc aligns
- * so. */
+/* How many bytes a controller, a host, a port or a driver's account takes in this library, and what its address is a multiple
+ * of. malloc aligns so. */
 size_t mscp_size(void);
 size_t mscp_align(void);
 size_t mscp_host_size(void);
 size_t mscp_host_align(void);
 size_t mscp_port_size(void);
 size_t mscp_port_align(void);
+size_t mscp_driver_size(void);
+size_t mscp_driver_align(void);
 
 /* No library that fits takes more, so memory may be there from the start, as
  * static MSCP_ALIGNED uint64_t memory[(MSCP_HEAD + MSCP_SIZE) / sizeof(uint64_t)]; */
 #define MSCP_SIZE 17920u
 #define MSCP_HOST_SIZE 1536u
 #define MSCP_PORT_SIZE 20480u
+#define MSCP_DRIVER_SIZE 3072u
 
 /* Marks of handles on memory where nothing was made yet. */
 #define MSCP_ROOM UINT64_C(0x4D534350524F4F4D)
 #define MSCP_HOST_ROOM UINT64_C(0x484F5354524F4F4D)
 #define MSCP_PORT_ROOM UINT64_C(0x504F5254524F4F4D)
+#define MSCP_DRIVER_ROOM UINT64_C(0x44525652524F4F4D)
 
 /* A handle on memory that is yours, for an init. The handle lies where you put it. */
 MSCP_INLINE struct mscp mscp_over(void *memory, size_t length)
@@ -442,8 +495,14 @@ MSCP_INLINE struct mscp_port mscp_port_over(void *memory, size_t length)
     MSCP_HERE();
     return handle;
 }
+MSCP_INLINE struct mscp_driver mscp_driver_over(void *memory, size_t length)
+{
+    struct mscp_driver handle = {memory, (uintptr_t)memory, length, MSCP_FITS() ? MSCP_DRIVER_ROOM : 0};
+    MSCP_HERE();
+    return handle;
+}
 
-/* The same with the handle at the head of the memory, whose own pointer then serves each call. A controller takes
+/* A handle at the head of memory that is yours, whose own pointer then serves each call. A controller takes
  * MSCP_HEAD + mscp_size() bytes so. NULL, if the memory is NULL, isn't aligned, or has no room for a handle: mscp_init says
  * MSCP_NO_MEMORY then. A controller that is in the memory already is forgotten: this call takes the memory for room,
  * whatever lies there. */
@@ -467,6 +526,13 @@ MSCP_INLINE struct mscp_port *mscp_port_in_memory(void *memory, size_t length)
         return NULL;
     *(struct mscp_port *)memory = mscp_port_over((char *)memory + MSCP_HEAD, length - MSCP_HEAD);
     return (struct mscp_port *)memory;
+}
+MSCP_INLINE struct mscp_driver *mscp_driver_in_memory(void *memory, size_t length)
+{
+    if (memory == NULL || (uintptr_t)memory % MSCP_ALIGN != 0 || length < MSCP_HEAD)
+        return NULL;
+    *(struct mscp_driver *)memory = mscp_driver_over((char *)memory + MSCP_HEAD, length - MSCP_HEAD);
+    return (struct mscp_driver *)memory;
 }
 
 /* The memory with the handle at its head lies here now: whoever moved it calls this before any other call. Its
@@ -494,6 +560,13 @@ MSCP_INLINE struct mscp_port *mscp_port_moved(void *memory)
     handle->address = (uintptr_t)handle->at;
     return handle;
 }
+MSCP_INLINE struct mscp_driver *mscp_driver_moved(void *memory)
+{
+    struct mscp_driver *handle = (struct mscp_driver *)memory;
+    handle->at = (char *)memory + MSCP_HEAD;
+    handle->address = (uintptr_t)handle->at;
+    return handle;
+}
 
 /* The library's own form of the calls that are inline below: neither a handle nor a pointer to a list or to bytes is ever
  * NULL. In C call those without _at. */
@@ -512,6 +585,11 @@ int32_t mscp_host_submit_at(struct mscp_host *host, const uint8_t *message, size
 int32_t mscp_host_receive_at(struct mscp_host *host, const uint8_t *bytes, size_t length, struct mscp_news *news);
 int32_t mscp_host_save_at(const struct mscp_host *host, uint8_t *bytes, size_t room, size_t *length);
 int32_t mscp_host_restore_at(struct mscp_host *host, const uint8_t *bytes, size_t length);
+int32_t mscp_driver_init_at(struct mscp_driver *driver);
+int32_t mscp_driver_submit_at(struct mscp_driver *driver, const uint8_t *message, size_t length);
+int32_t mscp_driver_hear_at(struct mscp_driver *driver, struct mscp_watch *watch, const uint8_t *bytes, size_t length,
+                            struct mscp_heard *heard);
+int32_t mscp_driver_outstanding_at(const struct mscp_driver *driver, struct mscp_asked *list, size_t room);
 int32_t mscp_port_init_at(struct mscp_port *port, const struct mscp_limits *limits, const struct mscp_unit *units,
                           size_t count, uint32_t picker, const struct mscp_hardware *hardware, uint32_t credits);
 int32_t mscp_port_was_read_at(struct mscp_port *port, const uint8_t *bytes, size_t length);
@@ -587,6 +665,7 @@ MSCP_MUST_USE int32_t mscp_step(struct mscp *mscp, uint16_t status, struct mscp_
 
 /* Lists the figures of the waiting commands of both connections, oldest first, as many as there is room for. It answers
  * how many commands wait: 0 to 63. */
+MSCP_MUST_USE
 MSCP_INLINE int64_t mscp_look(const struct mscp *mscp, struct mscp_waiting *list, size_t room)
 {
     struct mscp_waiting none = {0, 0, 0};
@@ -599,6 +678,7 @@ MSCP_INLINE int64_t mscp_look(const struct mscp *mscp, struct mscp_waiting *list
  * there is room for. It answers how many keep it back: 0 to 62, and 0 too if no command of that number waits. While no
  * other command is in service, a command that nobody keeps back may start. For the command in service this lists those
  * that would keep it back if it had still to start. */
+MSCP_MUST_USE
 MSCP_INLINE int64_t mscp_why(const struct mscp *mscp, uint32_t connection, uint32_t reference,
                              struct mscp_holder *list, size_t room)
 {
@@ -612,10 +692,13 @@ MSCP_INLINE int64_t mscp_why(const struct mscp *mscp, uint32_t connection, uint3
  * that number waits. */
 int64_t mscp_figure(const struct mscp *mscp, uint32_t connection, uint32_t reference);
 
-/* How many commands of the connection wait: 0 to 63. How many of its ends weren't taken, and how many of its credits
- * are free: 0 to 64. */
+/* How many commands of the connection wait: 0 to 63. */
 int64_t mscp_waiting(const struct mscp *mscp, uint32_t connection);
+
+/* How many ends of the connection weren't taken: 0 to 64. */
 int64_t mscp_untaken(const struct mscp *mscp, uint32_t connection);
+
+/* How many credits of the connection are free: 0 to 64. */
 int64_t mscp_balance(const struct mscp *mscp, uint32_t connection);
 
 /* Whether the unit of this number is online: 1, or 0 if it isn't, or isn't configured. */
@@ -623,6 +706,7 @@ int32_t mscp_is_online(const struct mscp *mscp, uint16_t unit);
 
 /* The limits of the controller, and its units, as many as there is room for: what it was made of, also if it was restored.
  * It answers how many units there are: 1 to 16. */
+MSCP_MUST_USE
 MSCP_INLINE int64_t mscp_settings(const struct mscp *mscp, struct mscp_limits *limits, struct mscp_unit *units,
                                   size_t room)
 {
@@ -731,6 +815,59 @@ MSCP_INLINE int32_t mscp_host_restore(struct mscp_host *host, const uint8_t *byt
     return mscp_host_restore_at(host, length == 0 ? &none : bytes, length);
 }
 
+/* ---- a driver's account of a real port. Each call but mscp_driver_init answers MSCP_NOT_MADE if there is none. */
+
+/* As mscp_host_init, with one credit. MSCP_DONE, or a fault of the memory (-11 to -15). */
+MSCP_MUST_USE
+MSCP_INLINE int32_t mscp_driver_init(struct mscp_driver *driver)
+{
+    if (driver == NULL)
+        return MSCP_NO_MEMORY;
+    return mscp_driver_init_at(driver);
+}
+
+/* How many credits are free: 0 to 65535. */
+int64_t mscp_driver_credits(const struct mscp_driver *driver);
+
+/* As mscp_host_submit. The command takes a credit. */
+MSCP_MUST_USE
+MSCP_INLINE int32_t mscp_driver_submit(struct mscp_driver *driver, const uint8_t *message, size_t length)
+{
+    const uint8_t none = 0;
+    if (driver == NULL)
+        return MSCP_NOT_MADE;
+    return mscp_driver_submit_at(driver, length == 0 ? &none : message, length);
+}
+
+/* As mscp_host_poll. The poll takes a credit. */
+MSCP_MUST_USE int32_t mscp_driver_poll(struct mscp_driver *driver, uint32_t reference, struct mscp_packet *message);
+
+/* The port sent this: an envelope of four bytes, and its text. MSCP_ENDED to MSCP_CREDITS: `heard` is filled, `watch` knows of it,
+ * and the credits of the envelope are free. Or MSCP_CUT, MSCP_OTHER_CONNECTION,
+ * MSCP_BAD_KIND, MSCP_UNREADABLE or MSCP_UNKNOWN. */
+MSCP_MUST_USE
+MSCP_INLINE int32_t mscp_driver_hear(struct mscp_driver *driver, struct mscp_watch *watch, const uint8_t *bytes,
+                                     size_t length, struct mscp_heard *heard)
+{
+    const uint8_t none = 0;
+    if (driver == NULL)
+        return MSCP_NOT_MADE;
+    return mscp_driver_hear_at(driver, watch, length == 0 ? &none : bytes, length, heard);
+}
+
+/* A tick of the driver's timer: MSCP_POLL, MSCP_SILENT or MSCP_NOTHING. */
+MSCP_MUST_USE int32_t mscp_driver_tick(const struct mscp_driver *driver, struct mscp_watch *watch);
+
+/* The commands whose ends weren't heard, in the order of sending, as many as there is room for. How many there are: up to 64. */
+MSCP_MUST_USE
+MSCP_INLINE int32_t mscp_driver_outstanding(const struct mscp_driver *driver, struct mscp_asked *list, size_t room)
+{
+    struct mscp_asked none = {0, 0, 0, 0};
+    if (driver == NULL)
+        return MSCP_NOT_MADE;
+    return mscp_driver_outstanding_at(driver, room == 0 ? &none : list, room);
+}
+
 /* ---- a port over a controller of its own. Each call but mscp_port_init and mscp_port_restore answers MSCP_NOT_MADE if
  * there is none. docs/PORT.md says how an emulator takes it in. */
 
@@ -765,16 +902,17 @@ int32_t mscp_port_write_sa(struct mscp_port *port, uint16_t word);
 
 /* What the port wants done next. MSCP_DONE, or MSCP_NOTHING until a register is touched, a volume comes or goes, the
  * clock ticks, or it is to look again. Until the port is told how its action went it answers the same, unless a
- * register is touched, or the volume of the action's unit comes or goes: then the port may not want a block any more.
- * So do the action before either. */
+ * register is touched, or a volume comes, goes, or is protected or no more. The processor may run meanwhile: if the port
+ * wants the action no more, what it is told of it is MSCP_UNASKED, and it is asked anew. So it is of a block where a
+ * volume changed: the port wants the block once more, or its command ends. */
 MSCP_MUST_USE int32_t mscp_port_next(struct mscp_port *port, struct mscp_action *action);
 
-/* What it wants done next while a block takes its time: polls are answered, messages come and go, and no block is begun. A
- * TRANSFER that was in hand is put aside, and mscp_port_next wants it anew. So an emulator that mscp_port_next asks for a
+/* What the port wants done next while a block takes its time: polls are answered, messages come and go, and no block is
+ * begun. A TRANSFER that was in hand is put aside, and mscp_port_next wants it anew. So an emulator that mscp_port_next asks for a
  * block may go on by this call until the block's time has come, and do it then. As mscp_port_next else. */
 MSCP_MUST_USE int32_t mscp_port_next_message(struct mscp_port *port, struct mscp_action *action);
 
-/* These bytes were read in host memory, as it wanted: just as many. MSCP_DONE, or MSCP_UNASKED. */
+/* These bytes were read in host memory, as the port wanted: just as many. MSCP_DONE, or MSCP_UNASKED. */
 MSCP_MUST_USE
 MSCP_INLINE int32_t mscp_port_was_read(struct mscp_port *port, const uint8_t *bytes, size_t length)
 {
@@ -784,7 +922,7 @@ MSCP_INLINE int32_t mscp_port_was_read(struct mscp_port *port, const uint8_t *by
     return mscp_port_was_read_at(port, length == 0 ? &none : bytes, length);
 }
 
-/* What it wanted went so, by an enum mscp_outcome. The status counts for MSCP_OUTCOME_FAILED alone: low five bits of 5
+/* What the port wanted went so, by an enum mscp_outcome. The status counts for MSCP_OUTCOME_FAILED alone: low five bits of 5
  * to 31. A read that was done is told by mscp_port_was_read. MSCP_DONE, or the first that holds of MSCP_BAD_OUTCOME and
  * MSCP_UNASKED. */
 MSCP_MUST_USE int32_t mscp_port_went(struct mscp_port *port, uint32_t outcome, uint16_t status);
@@ -810,16 +948,17 @@ MSCP_MUST_USE int32_t mscp_port_protect(struct mscp_port *port, uint16_t unit, u
 
 /* How far the port has come. If it answered MSCP_NOTHING and is held back, it is to look again: its host doesn't say that it
  * has given a slot of the ring of responses back. If it isn't, it waits for a register, a volume or the clock. MSCP_DONE. */
-int32_t mscp_port_state(const struct mscp_port *port, struct mscp_state *state);
+MSCP_MUST_USE int32_t mscp_port_state(const struct mscp_port *port, struct mscp_state *state);
 
 /* What is in a unit. MSCP_DONE, or MSCP_UNKNOWN_UNIT. */
-int32_t mscp_port_volume(const struct mscp_port *port, uint16_t unit, struct mscp_volume *volume);
+MSCP_MUST_USE int32_t mscp_port_volume(const struct mscp_port *port, uint16_t unit, struct mscp_volume *volume);
 
 /* The step that is begun: if the port wants a block moved, its command and its block. Its first block has
  * `done` 0, and its last one `done + 1 == weight`. MSCP_DONE, or MSCP_NOTHING if none is begun. */
-int32_t mscp_port_begun(const struct mscp_port *port, struct mscp_upcoming *upcoming);
+MSCP_MUST_USE int32_t mscp_port_begun(const struct mscp_port *port, struct mscp_upcoming *upcoming);
 
 /* The limits and units of the port's controller, as mscp_settings tells them. */
+MSCP_MUST_USE
 MSCP_INLINE int64_t mscp_port_settings(const struct mscp_port *port, struct mscp_limits *limits,
                                        struct mscp_unit *units, size_t room)
 {
@@ -831,6 +970,7 @@ MSCP_INLINE int64_t mscp_port_settings(const struct mscp_port *port, struct mscp
 
 /* The commands that wait in the port's controller, as mscp_look lists them, and who keeps one of them back, as mscp_why does.
  * The host's are those of the first connection. */
+MSCP_MUST_USE
 MSCP_INLINE int64_t mscp_port_look(const struct mscp_port *port, struct mscp_waiting *list, size_t room)
 {
     struct mscp_waiting none = {0, 0, 0};
@@ -838,6 +978,7 @@ MSCP_INLINE int64_t mscp_port_look(const struct mscp_port *port, struct mscp_wai
         return MSCP_NOT_MADE;
     return mscp_port_look_at(port, room == 0 ? &none : list, room);
 }
+MSCP_MUST_USE
 MSCP_INLINE int64_t mscp_port_why(const struct mscp_port *port, uint32_t connection, uint32_t reference,
                                   struct mscp_holder *list, size_t room)
 {
@@ -952,6 +1093,17 @@ MSCP_INLINE const char *mscp_status_text(int64_t status)
     case MSCP_BAD_BOUND: return "a bound of figures that doesn't fit 32 bits";
     case MSCP_BAD_CONNECTION: return "no connection of this number";
     case MSCP_BAD_BUS: return "no bus of this number";
+    case MSCP_MOVED_TOO_MUCH: return "a command ended with more bytes than it asked for";
+    case MSCP_REFUSED: return "a poll that tells no figure";
+    case MSCP_NOW_AVAILABLE: return "a unit became available";
+    case MSCP_ATTENTION: return "an attention message";
+    case MSCP_LOGGED: return "an error log";
+    case MSCP_CREDITS: return "credits";
+    case MSCP_POLL: return "poll the oldest command";
+    case MSCP_SILENT: return "no answer for a timeout: reset the port";
+    case MSCP_CUT: return "fewer bytes than the envelope tells";
+    case MSCP_OTHER_CONNECTION: return "a message of another connection";
+    case MSCP_BAD_KIND: return "a message of no known type";
     case MSCP_BAD_HOST_CREDITS: return "a port's host without credits, or with as many as the first connection";
     case MSCP_BAD_OUTCOME: return "no outcome of an action";
     case MSCP_UNASKED: return "the port didn't want what was told";

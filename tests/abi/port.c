@@ -14,6 +14,17 @@
 
 enum { DRIVE_ERROR = 0x000B };
 
+/* The memory for a port that isn't made yet. */
+static struct mscp_port *make_room(struct port *port, const struct port_bus *bus, uint8_t lines, uint64_t serial)
+{
+    port->bus = *bus;
+    port->lines = lines;
+    port->ahead.count = 0;
+    port->slow = PORT_IDLE;
+    port->serial = serial;
+    return mscp_port_in_memory(port->memory, sizeof port->memory);
+}
+
 /* One credit more than the host has is for commands that are answered at once. */
 int32_t port_open(struct port *port, const struct port_bus *bus, const struct mscp_hardware *hardware,
                   const struct mscp_unit *units, size_t count)
@@ -25,73 +36,242 @@ int32_t port_open(struct port *port, const struct port_bus *bus, const struct ms
         .longest = 65536,
         .timeout = 120,
     };
-    port->bus = *bus;
-    port->lines = hardware->bus;
-    port->mscp = mscp_port_in_memory(port->memory, sizeof port->memory);
-    return mscp_port_init(port->mscp, &limits, units, count, MSCP_SWEEP, hardware, PORT_COMMANDS);
+    return mscp_port_init(make_room(port, bus, hardware->bus, 0), &limits, units, count, MSCP_SWEEP, hardware, PORT_COMMANDS);
+}
+
+int32_t port_restore(struct port *port, const struct port *running, const uint8_t *bytes, size_t length)
+{
+    return mscp_port_restore(make_room(port, &running->bus, running->lines, running->serial), bytes, length);
+}
+
+/* Its handle has a pointer to what lies behind it, which is set anew: the port may have been copied. */
+struct mscp_port *port_itself(struct port *port)
+{
+    return mscp_port_moved(port->memory);
 }
 
 uint16_t port_read(struct port *port, unsigned offset)
 {
     if (offset != 0)
-        return (uint16_t)mscp_port_read_sa(port->mscp);
-    mscp_port_read_ip(port->mscp);
+        return (uint16_t)mscp_port_read_sa(port_itself(port));
+    mscp_port_read_ip(port_itself(port));
     return 0;
 }
 
 void port_write(struct port *port, unsigned offset, uint16_t word)
 {
     if (offset != 0)
-        mscp_port_write_sa(port->mscp, word);
-    else if (mscp_port_write_ip(port->mscp) == MSCP_DONE)
+        mscp_port_write_sa(port_itself(port), word);
+    else if (mscp_port_write_ip(port_itself(port)) == MSCP_DONE)
         wire_reset();
+}
+
+/* ---- blocks */
+
+/* The step that a block is of. Without one, as in a port that a stranger saved, a block is moved alone. */
+static struct mscp_upcoming step_of(struct port *port)
+{
+    struct mscp_upcoming step;
+    return mscp_port_begun(port_itself(port), &step) == MSCP_DONE ? step : (struct mscp_upcoming){.weight = 1};
+}
+
+/* How many blocks may be moved at once, from that of this step on: those of its command, of this turn, and of a run. */
+static uint32_t run_of(const struct port *port, const struct mscp_upcoming *step)
+{
+    uint32_t count = step->weight - step->done;
+    if (count > port->left)
+        count = port->left;
+    return count > PORT_RUN ? PORT_RUN : count;
+}
+
+/* Whether the block of this step was moved ahead, which is used up then. Another command begins behind no block, and nothing
+ * is ahead of a first one, so it never goes on with a run of the last command. */
+static bool was_ahead(struct port *port, const struct mscp_upcoming *step)
+{
+    if (port->ahead.count == 0 || port->ahead.done != step->done) {
+        port->ahead.count = 0;
+        return false;
+    }
+    port->ahead.done++;
+    port->ahead.count--;
+    return true;
+}
+
+/* So many blocks were moved, from that of this step on, of which it uses the first. */
+static void moved_ahead(struct port *port, const struct mscp_upcoming *step, uint32_t count)
+{
+    port->ahead.first = step->done;
+    port->ahead.done = step->done + 1;
+    port->ahead.count = count - 1;
+}
+
+/* A block that was read ahead, or is at the head of a run that is read now. NULL, if it is to be read alone. */
+static const uint8_t *read_in_run(struct port *port, const struct mscp_action *action)
+{
+    const struct port_bus *bus = &port->bus;
+    const struct mscp_upcoming step = step_of(port);
+    if (was_ahead(port, &step))
+        return port->blocks + (step.done - port->ahead.first) * MSCP_BLOCK;
+    uint32_t count = run_of(port, &step);
+    if (count < 2 || !bus->read_run(bus->machine, action->unit, action->block, count, port->blocks))
+        return NULL;
+    moved_ahead(port, &step, count);
+    return port->blocks;
+}
+
+static bool is_slow(const struct port_bus *bus)
+{
+    return bus->begin_read != NULL;
+}
+
+/* The bytes of a block, or NULL if it can't be read. */
+static const uint8_t *block_read(struct port *port, const struct mscp_action *action)
+{
+    const struct port_bus *bus = &port->bus;
+    if (is_slow(bus))
+        return port->slow == PORT_MOVED ? port->blocks : NULL;
+    const uint8_t *block = bus->read_run == NULL ? NULL : read_in_run(port, action);
+    if (block != NULL)
+        return block;
+    return bus->read_block(bus->machine, action->unit, action->block, port->blocks) ? port->blocks : NULL;
+}
+
+/* Fills the n-th block of a run with so many bytes of the host's memory, and zeros behind them. */
+static enum mscp_outcome fill(struct port *port, const struct mscp_action *action, uint32_t n, uint32_t count)
+{
+    uint8_t *block = port->blocks + n * MSCP_BLOCK;
+    if (count >= MSCP_BLOCK)
+        count = MSCP_BLOCK;
+    else
+        memset(block + count, 0, MSCP_BLOCK - count);
+    return port->bus.read(port->bus.machine, mscp_on_bus(port->lines, action->address + n * MSCP_BLOCK), block, count);
+}
+
+/* Whether a block was written ahead, or is at the head of a run that is written now. If not it is to be written alone. */
+static bool write_in_run(struct port *port, const struct mscp_action *action)
+{
+    const struct port_bus *bus = &port->bus;
+    const struct mscp_upcoming step = step_of(port);
+    if (was_ahead(port, &step))
+        return true;
+    uint32_t count = run_of(port, &step);
+    if (count < 2)
+        return false;
+    for (uint32_t n = 0; n < count; n++)
+        if (fill(port, action, n, step.bytes - (step.done + n) * MSCP_BLOCK) != MSCP_OUTCOME_DONE)
+            return false;
+    if (!bus->write_run(bus->machine, action->unit, action->block, count, port->blocks))
+        return false;
+    moved_ahead(port, &step, count);
+    return true;
 }
 
 /* ---- actions */
 
 /* A block goes to the host's memory: a READ; or it is read alone: an ACCESS. */
-static enum mscp_outcome read_block(const struct port_bus *bus, const struct mscp_action *action)
+static enum mscp_outcome read_block(struct port *port, const struct mscp_action *action)
 {
-    uint8_t block[MSCP_BLOCK];
-    if (!bus->read_block(bus->machine, action->unit, action->block, block))
+    const struct port_bus *bus = &port->bus;
+    const uint8_t *block = block_read(port, action);
+    if (block == NULL)
         return MSCP_OUTCOME_FAILED;
     if (action->opcode == MSCP_ACCESS)
         return MSCP_OUTCOME_DONE;
     return bus->write(bus->machine, action->address, block, action->count);
 }
 
-/* A block comes from the host's memory, with zeros behind its bytes: a WRITE; or it is all zeros: an ERASE. */
-static enum mscp_outcome write_block(const struct port_bus *bus, const struct mscp_action *action)
+/* A block gets these bytes, or has got them if it took its time. */
+static enum mscp_outcome written(struct port *port, const struct mscp_action *action, const uint8_t *bytes)
 {
-    uint8_t block[MSCP_BLOCK] = {0};
-    if (action->opcode == MSCP_WRITE) {
-        enum mscp_outcome outcome = bus->read(bus->machine, action->address, block, action->count);
+    const struct port_bus *bus = &port->bus;
+    bool went_well = is_slow(bus) ? port->slow == PORT_MOVED
+                                  : bus->write_block(bus->machine, action->unit, action->block, bytes);
+    return went_well ? MSCP_OUTCOME_DONE : MSCP_OUTCOME_FAILED;
+}
+
+/* A block comes from the host's memory, with zeros behind its bytes: a WRITE. */
+static enum mscp_outcome write_block(struct port *port, const struct mscp_action *action)
+{
+    if (!is_slow(&port->bus)) {
+        if (port->bus.write_run != NULL && write_in_run(port, action))
+            return MSCP_OUTCOME_DONE;
+        enum mscp_outcome outcome = fill(port, action, 0, action->count);
         if (outcome != MSCP_OUTCOME_DONE)
             return outcome;
     }
-    return bus->write_block(bus->machine, action->unit, action->block, block) ? MSCP_OUTCOME_DONE : MSCP_OUTCOME_FAILED;
+    return written(port, action, port->blocks);
 }
 
+/* A block is all zeros: an ERASE. */
+static const uint8_t zeros[MSCP_BLOCK];
+
 /* The host's bytes are compared with a block: a COMPARE HOST DATA. */
-static enum mscp_outcome compare(const struct port_bus *bus, const struct mscp_action *action)
+static enum mscp_outcome compare(struct port *port, const struct mscp_action *action)
 {
-    uint8_t block[MSCP_BLOCK], bytes[MSCP_BLOCK];
+    const struct port_bus *bus = &port->bus;
+    uint8_t bytes[MSCP_BLOCK];
     enum mscp_outcome outcome = bus->read(bus->machine, action->address, bytes, action->count);
     if (outcome != MSCP_OUTCOME_DONE)
         return outcome;
-    if (!bus->read_block(bus->machine, action->unit, action->block, block))
+    const uint8_t *block = block_read(port, action);
+    if (block == NULL)
         return MSCP_OUTCOME_FAILED;
     return memcmp(block, bytes, action->count) == 0 ? MSCP_OUTCOME_DONE : MSCP_OUTCOME_DIFFERENT;
 }
 
-static enum mscp_outcome transfer(const struct port_bus *bus, const struct mscp_action *action)
+static enum mscp_outcome transfer(struct port *port, const struct mscp_action *action)
 {
     switch (action->opcode) {
-    case MSCP_READ: case MSCP_ACCESS: return read_block(bus, action);
-    case MSCP_WRITE: case MSCP_ERASE: return write_block(bus, action);
-    default: return compare(bus, action);
+    case MSCP_READ: case MSCP_ACCESS: return read_block(port, action);
+    case MSCP_WRITE: return write_block(port, action);
+    case MSCP_ERASE: return written(port, action, zeros);
+    default: return compare(port, action);
     }
 }
+
+/* ---- a block that takes its time */
+
+/* Begins with it, for which a WRITE takes its bytes out of the host's memory. It can't if those aren't there. */
+static enum mscp_outcome begin_block(struct port *port, const struct mscp_action *action)
+{
+    const struct port_bus *bus = &port->bus;
+    if (action->opcode == MSCP_WRITE) {
+        enum mscp_outcome outcome = fill(port, action, 0, action->count);
+        if (outcome != MSCP_OUTCOME_DONE)
+            return outcome;
+    }
+    port->step = step_of(port);
+    port->slow = PORT_BEGUN;
+    port->serial++;
+    if (action->opcode == MSCP_WRITE || action->opcode == MSCP_ERASE)
+        bus->begin_write(bus->machine, action->unit, action->block, action->opcode == MSCP_WRITE ? port->blocks : zeros,
+                         port->serial);
+    else
+        bus->begin_read(bus->machine, action->unit, action->block, port->serial);
+    return MSCP_OUTCOME_DONE;
+}
+
+/* Before an action is asked for: an ABORT, a reset or a new volume may have ended its command, and then another one may begin with
+ * the same number. */
+static void drop_unless_begun(struct port *port)
+{
+    const struct mscp_upcoming *was = &port->step, now = step_of(port);
+    if (now.connection != was->connection || now.reference != was->reference || now.opcode != was->opcode ||
+        now.unit != was->unit || now.lbn != was->lbn || now.done != was->done)
+        port->slow = PORT_IDLE;
+}
+
+bool port_moved(struct port *port, uint64_t serial, bool went_well, const uint8_t *bytes)
+{
+    if (port->slow != PORT_BEGUN || port->serial != serial)
+        return false;
+    port->slow = went_well ? PORT_MOVED : PORT_FAILED;
+    if (went_well && bytes != NULL)
+        memcpy(port->blocks, bytes, MSCP_BLOCK);
+    return true;
+}
+
+/* ---- a turn */
 
 /* Does what the port wants, and tells it how that went. If the host wrote IP in the meantime the port wants that no
  * more, and answers so: then there is nothing to do. */
@@ -104,28 +284,48 @@ static int32_t act(struct port *port, const struct mscp_action *action)
     case MSCP_ACTION_READ:
         outcome = bus->read(bus->machine, action->address, bytes, action->count);
         if (outcome == MSCP_OUTCOME_DONE)
-            return wire_action(mscp_port_was_read(port->mscp, bytes, action->count), action, bytes);
+            return wire_action(mscp_port_was_read(port_itself(port), bytes, action->count), action, bytes);
         break;
     case MSCP_ACTION_WRITE: outcome = bus->write(bus->machine, action->address, action->bytes, action->count); break;
     case MSCP_ACTION_INTERRUPT: bus->interrupt(bus->machine, action->vector); break;
-    case MSCP_ACTION_TRANSFER: outcome = transfer(bus, action); break;
+    case MSCP_ACTION_TRANSFER:
+        if (is_slow(bus) && port->slow == PORT_IDLE) {
+            outcome = begin_block(port, action);
+            if (port->slow != PORT_IDLE)
+                return MSCP_DONE; /* how it went is told later */
+        } else {
+            outcome = transfer(port, action);
+            port->slow = PORT_IDLE;
+        }
+        break;
     default: break; /* PAUSE: the machine went on since the last turn */
     }
-    int32_t status = mscp_port_went(port->mscp, outcome, DRIVE_ERROR);
+    int32_t status = mscp_port_went(port_itself(port), outcome, DRIVE_ERROR);
     return outcome == MSCP_OUTCOME_DONE ? wire_action(status, action, action->bytes) : status;
 }
 
-/* What was wanted is done at once, so that no volume changes in between. */
+/* What it wants next: of messages alone, while a block takes its time. */
+static int32_t next(struct port *port, struct mscp_action *action)
+{
+    if (port->slow != PORT_IDLE)
+        drop_unless_begun(port);
+    return port->slow == PORT_BEGUN ? mscp_port_next_message(port_itself(port), action)
+                                    : mscp_port_next(port_itself(port), action);
+}
+
+/* What was wanted is done at once, so that no volume changes in between. What was moved ahead counts in this turn alone. */
 bool port_turn(struct port *port, unsigned most)
 {
     struct mscp_action action;
-    mscp_port_look_again(port->mscp);
+    port->ahead.count = 0;
+    mscp_port_look_again(port_itself(port));
     for (unsigned done = 0; done < most; done++) {
-        if (mscp_port_next(port->mscp, &action) != MSCP_DONE)
+        if (next(port, &action) != MSCP_DONE)
             return false;
         if (done > 0 && action.kind == MSCP_ACTION_PAUSE)
             return true;
         action.address = mscp_on_bus(port->lines, action.address);
+        port->left = most - done;
         act(port, &action);
     }
     return true;
@@ -135,15 +335,15 @@ bool port_turn(struct port *port, unsigned most)
 
 void port_second(struct port *port)
 {
-    mscp_port_tick(port->mscp);
+    mscp_port_tick(port_itself(port));
 }
 
 bool port_insert(struct port *port, uint16_t unit, const struct mscp_medium *medium)
 {
-    return mscp_port_volume_came(port->mscp, unit, medium) == MSCP_DONE;
+    return mscp_port_volume_came(port_itself(port), unit, medium) == MSCP_DONE;
 }
 
 bool port_eject(struct port *port, uint16_t unit)
 {
-    return mscp_port_volume_went(port->mscp, unit) == MSCP_DONE;
+    return mscp_port_volume_went(port_itself(port), unit) == MSCP_DONE;
 }

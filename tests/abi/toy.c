@@ -4,6 +4,7 @@
  *     ./toy IMAGE
  *
  * The first part is the machine, as an emulator has one, and the second is the firmware. */
+#include "drives.h"
 #include "port.h"
 #include <stdio.h>
 #include <string.h>
@@ -63,14 +64,14 @@ static bool write_block(void *machine, uint16_t unit, uint32_t block, const uint
 /* A port as an RQDX3, with one unit of so many blocks, in which the image is. */
 static bool attach(uint32_t blocks)
 {
-    static const struct port_bus bus = {NULL, read_memory, write_memory, interrupt, read_block, write_block};
+    static const struct port_bus bus = {.read = read_memory, .write = write_memory, .interrupt = interrupt,
+                                        .read_block = read_block, .write_block = write_block};
     static const struct mscp_hardware rqdx3 = {.bus = MSCP_BUS_Q, .model = 19, .software = 3, .version = 1};
-    const struct mscp_unit rd54 = {
-        .id = (uint64_t)2 << 56 | (uint64_t)13 << 48, .size = blocks, .media = 0x25644036, .serial = 1,
-        .track = 17, .group = 15, .cylinder = 1,
-    };
-    const struct mscp_medium medium = {.size = blocks, .media = rd54.media};
-    return port_open(&port, &bus, &rqdx3, &rd54, 1) == MSCP_DONE && port_insert(&port, 0, &medium);
+    const struct drive *rd54 = drive_named("RD54");
+    struct mscp_unit unit = drive_unit(rd54, 0, 0);
+    struct mscp_medium medium = drive_medium(rd54, false);
+    unit.size = medium.size = blocks;
+    return port_open(&port, &bus, &rqdx3, &unit, 1) == MSCP_DONE && port_insert(&port, 0, &medium);
 }
 
 /* The machine goes on by an instruction. */

@@ -25,7 +25,13 @@ static void words_of_handles(void)
     is("its mark", host.mark == MSCP_HOST_ROOM, 1);
     is("a host's head", top->at == memory + 4 && top->address == (uintptr_t)(memory + 4) && top->length == 32, 1);
     is("its mark", top->mark == MSCP_HOST_ROOM, 1);
+    struct mscp_driver driver = mscp_driver_over(memory, 40), *first = mscp_driver_in_memory(memory, sizeof memory);
+    is("a driver's", driver.at == memory && driver.address == (uintptr_t)memory && driver.length == 40, 1);
+    is("its mark", driver.mark == MSCP_DRIVER_ROOM, 1);
+    is("a driver's head", first->at == memory + 4 && first->address == (uintptr_t)(memory + 4) && first->length == 32, 1);
+    is("its mark", first->mark == MSCP_DRIVER_ROOM, 1);
     is("the bytes of a handle", sizeof over == MSCP_HEAD && sizeof host == MSCP_HEAD && sizeof(struct mscp_port) == MSCP_HEAD, 1);
+    is("the bytes of a driver's", sizeof driver == MSCP_HEAD, 1);
 }
 
 /* An init judges what the handle says, with the handle at the head of the memory and beside it. Where that can't be at the head
@@ -58,6 +64,12 @@ static void inits_of_no_room(void)
         is(cases[i].what, top != NULL, is_there);
         is(cases[i].what, mscp_host_init(top, 4), is_there ? MSCP_SMALL : MSCP_NO_MEMORY);
         is(cases[i].what, mscp_host_submit(top, NULL, 0), MSCP_NOT_MADE);
+        struct mscp_driver driver = mscp_driver_over(cases[i].memory, mscp_driver_size() - cases[i].less);
+        is(cases[i].what, mscp_driver_init(&driver), cases[i].status);
+        struct mscp_driver *first = mscp_driver_in_memory(cases[i].memory, MSCP_HEAD + mscp_driver_size() - cases[i].less);
+        is(cases[i].what, first != NULL, is_there);
+        is(cases[i].what, mscp_driver_init(first), is_there ? MSCP_SMALL : MSCP_NO_MEMORY);
+        is(cases[i].what, mscp_driver_outstanding(first, NULL, 0), MSCP_NOT_MADE);
     }
     is("a handle alone", init(mscp_in_memory(memory, MSCP_HEAD)), MSCP_SMALL);
     is("a host's alone", mscp_host_init(mscp_host_in_memory(memory, MSCP_HEAD), 4), MSCP_SMALL);
@@ -92,6 +104,13 @@ static void marks(void)
     is("a host is no controller", mscp_balance(mscp, FIRST), MSCP_NOT_MADE);
     is("a host's handle anew", mscp_host_init(mscp_host_in_memory(memory, size), 3), MSCP_DONE);
     is("it is another", mscp_host_balance(host), 3);
+    struct mscp_driver *driver = (struct mscp_driver *)memory;
+    is("a host for a driver", mscp_driver_init(driver), MSCP_NO_HANDLE);
+    is("a host is no driver", mscp_driver_credits(driver), MSCP_NOT_MADE);
+    driver = mscp_driver_in_memory(memory, size);
+    is("a driver's room for a host", mscp_host_init(host, 4), MSCP_NO_HANDLE);
+    is("init of a driver", mscp_driver_init(driver), MSCP_DONE);
+    is("a driver is no host", mscp_host_balance(host), MSCP_NOT_MADE);
     free(memory);
 }
 
@@ -145,6 +164,19 @@ static void a_host_moves(void)
     free(memory);
 }
 
+static void a_driver_moves(void)
+{
+    size_t size = MSCP_HEAD + mscp_driver_size();
+    void *memory = memory_of(size);
+    is("a driver", mscp_driver_init(mscp_driver_in_memory(memory, size)), MSCP_DONE);
+    memory = move(memory, size);
+    struct mscp_driver *driver = mscp_driver_moved(memory);
+    is("where it is", (void *)driver == memory && driver->at == (char *)memory + MSCP_HEAD, 1);
+    is("its address", driver->address == (uintptr_t)memory + MSCP_HEAD, 1);
+    is("its credits", mscp_driver_credits(driver), 1);
+    free(memory);
+}
+
 int main(void)
 {
     words_of_handles();
@@ -153,5 +185,6 @@ int main(void)
     moves(false);
     moves(true);
     a_host_moves();
+    a_driver_moves();
     return wrong;
 }

@@ -7,6 +7,9 @@
 #define mscp_why_at why_seen
 #define mscp_host_submit_at submit_seen
 #define mscp_host_receive_at receive_seen
+#define mscp_driver_submit_at driver_submit_seen
+#define mscp_driver_hear_at driver_hear_seen
+#define mscp_driver_outstanding_at driver_outstanding_seen
 #define mscp_port_init_at port_init_seen
 #define mscp_port_was_read_at was_read_seen
 #define mscp_port_look_at port_look_seen
@@ -56,6 +59,22 @@ int32_t receive_seen(struct mscp_host *host, const uint8_t *bytes, size_t length
     return host != NULL && news != NULL ? see(bytes, length) : 0;
 }
 
+int32_t driver_submit_seen(struct mscp_driver *driver, const uint8_t *message, size_t length)
+{
+    return driver != NULL ? see(message, length) : 0;
+}
+
+int32_t driver_hear_seen(struct mscp_driver *driver, struct mscp_watch *watch, const uint8_t *bytes, size_t length,
+                         struct mscp_heard *heard)
+{
+    return driver != NULL && watch != NULL && heard != NULL ? see(bytes, length) : 0;
+}
+
+int32_t driver_outstanding_seen(const struct mscp_driver *driver, struct mscp_asked *list, size_t room)
+{
+    return driver != NULL ? see(list, room) : 0;
+}
+
 int32_t port_init_seen(struct mscp_port *port, const struct mscp_limits *limits, const struct mscp_unit *units,
                        size_t count, uint32_t picker, const struct mscp_hardware *hardware, uint32_t credits)
 {
@@ -93,6 +112,7 @@ static void handles(const struct mscp_limits *limits, const struct mscp_unit *un
 {
     uint8_t bytes[2] = {0, 0};
     size_t count;
+    struct mscp_heard heard;
     is("init", mscp_init(NULL, limits, units, 2, 3), MSCP_NO_MEMORY);
     is("restore", mscp_restore(NULL, bytes, 2), MSCP_NO_MEMORY);
     is("init of a host", mscp_host_init(NULL, 4), MSCP_NO_MEMORY);
@@ -107,6 +127,10 @@ static void handles(const struct mscp_limits *limits, const struct mscp_unit *un
     is("submit", mscp_host_submit(NULL, bytes, 2), MSCP_NOT_MADE);
     is("receive", mscp_host_receive(NULL, bytes, 2, &(struct mscp_news){0, 0, 0, 0, 0, 0}), MSCP_NOT_MADE);
     is("save of a host", mscp_host_save(NULL, bytes, 2, &count), MSCP_NOT_MADE);
+    is("init of a driver", mscp_driver_init(NULL), MSCP_NO_MEMORY);
+    is("submit of a driver", mscp_driver_submit(NULL, bytes, 2), MSCP_NOT_MADE);
+    is("hear", mscp_driver_hear(NULL, &(struct mscp_watch){0, 0, 0}, bytes, 2, &heard), MSCP_NOT_MADE);
+    is("outstanding", mscp_driver_outstanding(NULL, NULL, 0), MSCP_NOT_MADE);
     is("was read", mscp_port_was_read(NULL, bytes, 2), MSCP_NOT_MADE);
     is("settings of a port", mscp_port_settings(NULL, &(struct mscp_limits){0, 0, 0, 0, 0, 0}, NULL, 0), MSCP_NOT_MADE);
     is("look into a port", mscp_port_look(NULL, NULL, 0), MSCP_NOT_MADE);
@@ -126,11 +150,15 @@ int main(void)
     static struct mscp mscp;
     static struct mscp_host host;
     static struct mscp_port port;
+    static struct mscp_driver driver;
     static struct mscp_hardware hardware;
     static struct mscp_limits limits;
     static struct mscp_unit units[2];
     static struct mscp_waiting list[2];
     static struct mscp_holder holders[2];
+    static struct mscp_asked asked[2];
+    struct mscp_watch watch = {0, 0, 0};
+    struct mscp_heard heard;
     struct mscp_sent sent;
     struct mscp_news news;
     uint8_t bytes[2] = {0, 0}, out[2];
@@ -142,6 +170,9 @@ int main(void)
     passes("why", mscp_why(&mscp, 7, 9, holders, 2), holders, 2);
     passes("submit", mscp_host_submit(&host, bytes, 2), bytes, 2);
     passes("receive", mscp_host_receive(&host, bytes, 2, &news), bytes, 2);
+    passes("submit of a driver", mscp_driver_submit(&driver, bytes, 2), bytes, 2);
+    passes("hear", mscp_driver_hear(&driver, &watch, bytes, 2, &heard), bytes, 2);
+    passes("outstanding", mscp_driver_outstanding(&driver, asked, 2), asked, 2);
     passes("init of a port", mscp_port_init(&port, &limits, units, 2, 3, &hardware, 4), units, 2);
     passes("was read", mscp_port_was_read(&port, bytes, 2), bytes, 2);
     passes("look into a port", mscp_port_look(&port, list, 2), list, 2);
@@ -154,6 +185,9 @@ int main(void)
     passes("why of none", mscp_why(&mscp, 7, 9, NULL, 0), NULL, 0);
     passes("submit of none", mscp_host_submit(&host, NULL, 0), NULL, 0);
     passes("receive of none", mscp_host_receive(&host, NULL, 0, &news), NULL, 0);
+    passes("submit of none by a driver", mscp_driver_submit(&driver, NULL, 0), NULL, 0);
+    passes("hear none", mscp_driver_hear(&driver, &watch, NULL, 0, &heard), NULL, 0);
+    passes("none outstanding", mscp_driver_outstanding(&driver, NULL, 0), NULL, 0);
     passes("init of a port of none", mscp_port_init(&port, &limits, NULL, 0, 3, &hardware, 4), NULL, 0);
     passes("look into a port at none", mscp_port_look(&port, NULL, 0), NULL, 0);
     passes("why of none in a port", mscp_port_why(&port, 7, 9, NULL, 0), NULL, 0);

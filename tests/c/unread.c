@@ -6,14 +6,16 @@ void calls(struct mscp *mscp, struct mscp_host *host, const struct mscp_limits *
            struct mscp_report *report, struct mscp_news *news, uint8_t *out, size_t *length,
            struct mscp_port *port, const struct mscp_hardware *hardware, struct mscp_action *action,
            const struct mscp_medium *medium, uint32_t *line, struct mscp_limits *told, struct mscp_unit *list,
-           struct mscp_waiting *waiting, struct mscp_holder *holders, struct mscp_state *state, struct mscp_volume *volume);
+           struct mscp_waiting *waiting, struct mscp_holder *holders, struct mscp_state *state, struct mscp_volume *volume,
+           struct mscp_driver *driver, struct mscp_watch *watch, struct mscp_heard *heard, struct mscp_asked *asked);
 
 void calls(struct mscp *mscp, struct mscp_host *host, const struct mscp_limits *limits, const struct mscp_unit *units,
            const uint8_t *bytes, struct mscp_sent *sent, struct mscp_packet *packet, struct mscp_upcoming *upcoming,
            struct mscp_report *report, struct mscp_news *news, uint8_t *out, size_t *length,
            struct mscp_port *port, const struct mscp_hardware *hardware, struct mscp_action *action,
            const struct mscp_medium *medium, uint32_t *line, struct mscp_limits *told, struct mscp_unit *list,
-           struct mscp_waiting *waiting, struct mscp_holder *holders, struct mscp_state *state, struct mscp_volume *volume)
+           struct mscp_waiting *waiting, struct mscp_holder *holders, struct mscp_state *state, struct mscp_volume *volume,
+           struct mscp_driver *driver, struct mscp_watch *watch, struct mscp_heard *heard, struct mscp_asked *asked)
 {
     mscp_init(mscp, limits, units, 1, MSCP_SWEEP);
     mscp_reset(mscp);
@@ -33,6 +35,12 @@ void calls(struct mscp *mscp, struct mscp_host *host, const struct mscp_limits *
     mscp_host_receive(host, bytes, 12, news);
     mscp_host_save(host, out, 1, length);
     mscp_host_restore(host, bytes, 12);
+    mscp_driver_init(driver);
+    mscp_driver_submit(driver, bytes, 12);
+    mscp_driver_poll(driver, 1, packet);
+    mscp_driver_hear(driver, watch, bytes, 12, heard);
+    mscp_driver_tick(driver, watch);
+    mscp_driver_outstanding(driver, asked, 1);
     mscp_port_init(port, limits, units, 1, MSCP_SWEEP, hardware, 2);
     mscp_port_next(port, action);
     mscp_port_next_message(port, action);

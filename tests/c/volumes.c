@@ -177,7 +177,7 @@ static void volumes_change(unsigned times)
 }
 
 /* A volume changes while a block of a WRITE is in hand: none is written to the new one, and the port doesn't want it any more.
- * If the block was written already, its command ends so, too. */
+ * If the block was written already, what is told of it is MSCP_UNASKED, and its command ends so, too. */
 static void volume_changes_amid_a_block(bool is_written)
 {
     struct mscp_action action;
@@ -193,7 +193,7 @@ static void volume_changes_amid_a_block(bool is_written)
         outcome = perform(&action);
     is("another comes", insert(0, 0), MSCP_DONE);
     if (is_written)
-        tell(&action, outcome);
+        is("it is written", mscp_port_went(machine.port, outcome, 0), MSCP_UNASKED);
     expect(2, 0xA2, 0x0023);
     is("blocks that were written", machine.transfers, is_written);
 }
