@@ -7,8 +7,9 @@ ghost use Rattle.mscp_c.specs.HandleCalls as calls;
 ghost use Rattle.mscp_c.specs.Restoring.{policy_named, restored_by, saved_by};
 ghost use Rattle.mscp_c.specs.Saving.{restores};
 
+use crate::restore_status::restore_code;
 use crate::saving::tell_saved;
-use crate::status::{DONE, NOT_MADE, restore_code, room_code};
+use crate::status::{DONE, NOT_MADE, room_code};
 use mscp_controller::{Config, Controller};
 use mscp_memory::Policy;
 use mscp_memory::controller::{Handle, is_made, lend, place, room_fault};

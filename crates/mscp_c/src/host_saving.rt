@@ -5,8 +5,9 @@ ghost use Rattle.mscp_c.specs.Common.{restored, saved_bytes, length_told, room_a
 ghost use Rattle.mscp_memory.specs.HostHandles.{is_made};
 ghost use Rattle.mscp_c.specs.HostSaving.{restores};
 
+use crate::restore_status::host_restore_code;
 use crate::saving::tell_saved;
-use crate::status::{DONE, NOT_MADE, host_restore_code, room_code};
+use crate::status::{DONE, NOT_MADE, room_code};
 use mscp_host::{Host, ROOM};
 use mscp_memory::host::{Handle, is_made, lend, place, room_fault};
 

@@ -18,6 +18,7 @@ mod port_seeing;
 mod port_telling;
 mod port_turning;
 mod port_watching;
+mod restore_status;
 mod running;
 mod saving;
 mod seeing;

@@ -6,8 +6,9 @@ ghost use Rattle.mscp_memory.specs.PortHandles.{is_made, is_room, placed};
 ghost use Rattle.mscp_c.specs.PortSaving.{policy_named, restored_by, restores, saved_by};
 
 use crate::controller_saving::policy_number;
+use crate::restore_status::port_restore_code;
 use crate::saving::tell_saved;
-use crate::status::{DONE, NOT_MADE, port_restore_code, room_code};
+use crate::status::{DONE, NOT_MADE, room_code};
 use mscp_controller::{Config, Controller};
 use mscp_memory::Policy;
 use mscp_memory::port::{Handle, is_made, lend, place, room_fault};

@@ -1,16 +1,15 @@
 // What the calls answer: 0 and up what came of a call, below 0 why it was refused.
 
 ghost use Rattle.std.specs.Prelude.{◌≡◌, ◌≢◌};
-ghost use Rattle.mscp_c.specs.Common.{hear_code, host_code, host_restore_code, limits_code, port_restore_code, restore_code, room_code, send_fault_code, unit_code, units_code, init_code, cause_code, show_code, port_init_code, told_code, volume_code, put_code};
+ghost use Rattle.mscp_c.specs.Common.{hear_code, host_code, limits_code, room_code, send_fault_code, unit_code, units_code, init_code, cause_code, show_code, port_init_code, told_code, volume_code, put_code};
 
 use crate::port_given::PortInitFault;
 use crate::units::InitFault;
 use mscp_controller::{ConfigFault, SendFault};
 use mscp_drive::{UnitFault, UnitsFault};
-use mscp_host::{HearFault, HostFault, RestoreFault as HostRestoreFault};
+use mscp_host::{HearFault, HostFault};
 use mscp_memory::RoomFault;
-use mscp_port::{NoUnit, RestoreFault as PortRestoreFault, Unasked, VolumeFault};
-use mscp_saved::RestoreFault;
+use mscp_port::{NoUnit, Unasked, VolumeFault};
 use mscp_script::{Cause, ShowFault};
 
 /// There is nothing: no command waits, no end was made, no poll is to be sent.
@@ -316,59 +315,6 @@ pub(crate) fn hear_code(fault: HearFault) -> i32
         HearFault::Kind => BAD_KIND,
         HearFault::Unreadable => UNREADABLE,
         HearFault::Unknown => UNKNOWN,
-    }
-}
-
-/// The status of bytes that are no saved controller.
-pub(crate) fn restore_code(fault: RestoreFault) -> i32
-    ensures { result ≡ restore_code fault }
-{
-    match fault {
-        RestoreFault::Length => SAVED_LENGTH,
-        RestoreFault::Magic => SAVED_MAGIC,
-        RestoreFault::Version => SAVED_VERSION,
-        RestoreFault::Units => SAVED_UNITS,
-        RestoreFault::Limits => SAVED_LIMITS,
-        RestoreFault::Heads => SAVED_HEADS,
-        RestoreFault::Credits => SAVED_CREDITS,
-        RestoreFault::Command => SAVED_COMMAND,
-        RestoreFault::Doubled => SAVED_DOUBLED,
-        RestoreFault::Steps => SAVED_STEPS,
-        RestoreFault::Passed => SAVED_PASSED,
-        RestoreFault::Ends => SAVED_ENDS,
-        RestoreFault::Begun => SAVED_BEGUN,
-        RestoreFault::Picker => SAVED_PICKER,
-        RestoreFault::Form => SAVED_FORM,
-    }
-}
-
-/// The status of bytes that are no saved host.
-pub(crate) fn host_restore_code(fault: HostRestoreFault) -> i32
-    ensures { result ≡ host_restore_code fault }
-{
-    match fault {
-        HostRestoreFault::Length => SAVED_LENGTH,
-        HostRestoreFault::Magic => SAVED_MAGIC,
-        HostRestoreFault::Version => SAVED_VERSION,
-        HostRestoreFault::Credits => SAVED_LIMITS,
-        HostRestoreFault::Outstanding => SAVED_CREDITS,
-        HostRestoreFault::Doubled => SAVED_DOUBLED,
-        HostRestoreFault::Poll => SAVED_POLL,
-        HostRestoreFault::Form => SAVED_FORM,
-    }
-}
-
-/// The status of bytes that are no saved port.
-pub(crate) fn port_restore_code(fault: PortRestoreFault) -> i32
-    ensures { result ≡ port_restore_code fault }
-{
-    match fault {
-        PortRestoreFault::Length => SAVED_LENGTH,
-        PortRestoreFault::Magic => SAVED_MAGIC,
-        PortRestoreFault::Version => SAVED_VERSION,
-        PortRestoreFault::Size => SAVED_SIZE,
-        PortRestoreFault::Controller(fault) => restore_code(fault),
-        PortRestoreFault::Form => SAVED_FORM,
     }
 }
 
