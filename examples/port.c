@@ -275,7 +275,7 @@ bool port_moved(struct port *port, uint64_t serial, bool went_well, const uint8_
 
 /* Does what the port wants, and tells it how that went. If the host wrote IP in the meantime the port wants that no
  * more, and answers so: then there is nothing to do. */
-static int32_t act(struct port *port, const struct mscp_action *action)
+static int32_t act(struct port *port, struct mscp_port *itself, const struct mscp_action *action)
 {
     const struct port_bus *bus = &port->bus;
     enum mscp_outcome outcome = MSCP_OUTCOME_DONE;
@@ -284,7 +284,7 @@ static int32_t act(struct port *port, const struct mscp_action *action)
     case MSCP_ACTION_READ:
         outcome = bus->read(bus->machine, action->address, bytes, action->count);
         if (outcome == MSCP_OUTCOME_DONE)
-            return wire_action(mscp_port_was_read(port_itself(port), bytes, action->count), action, bytes);
+            return wire_action(mscp_port_was_read(itself, bytes, action->count), action, bytes);
         break;
     case MSCP_ACTION_WRITE: outcome = bus->write(bus->machine, action->address, action->bytes, action->count); break;
     case MSCP_ACTION_INTERRUPT: bus->interrupt(bus->machine, action->vector); break;
@@ -300,33 +300,33 @@ static int32_t act(struct port *port, const struct mscp_action *action)
         break;
     default: break; /* PAUSE: the machine went on since the last turn */
     }
-    int32_t status = mscp_port_went(port_itself(port), outcome, DRIVE_ERROR);
+    int32_t status = mscp_port_went(itself, outcome, DRIVE_ERROR);
     return outcome == MSCP_OUTCOME_DONE ? wire_action(status, action, action->bytes) : status;
 }
 
 /* What it wants next: of messages alone, while a block takes its time. */
-static int32_t next(struct port *port, struct mscp_action *action)
+static int32_t next(struct port *port, struct mscp_port *itself, struct mscp_action *action)
 {
-    if (port->slow != PORT_IDLE)
-        drop_unless_begun(port);
-    return port->slow == PORT_BEGUN ? mscp_port_next_message(port_itself(port), action)
-                                    : mscp_port_next(port_itself(port), action);
+    if (port->slow == PORT_IDLE)
+        return mscp_port_next(itself, action);
+    drop_unless_begun(port);
+    return port->slow == PORT_BEGUN ? mscp_port_next_message(itself, action) : mscp_port_next(itself, action);
 }
 
 /* What was wanted is done at once, so that no volume changes in between. What was moved ahead counts in this turn alone. */
 bool port_turn(struct port *port, unsigned most)
 {
+    struct mscp_port *itself = port_itself(port);
     struct mscp_action action;
     port->ahead.count = 0;
-    mscp_port_look_again(port_itself(port));
-    for (unsigned done = 0; done < most; done++) {
-        if (next(port, &action) != MSCP_DONE)
+    mscp_port_look_again(itself);
+    for (port->left = most; port->left > 0; port->left--) {
+        if (next(port, itself, &action) != MSCP_DONE)
             return false;
-        if (done > 0 && action.kind == MSCP_ACTION_PAUSE)
+        if (port->left < most && action.kind == MSCP_ACTION_PAUSE)
             return true;
         action.address = mscp_on_bus(port->lines, action.address);
-        port->left = most - done;
-        act(port, &action);
+        act(port, itself, &action);
     }
     return true;
 }

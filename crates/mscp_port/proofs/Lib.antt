@@ -5,6 +5,7 @@ pub mod Comes
 pub mod Coded
 pub mod Among
 pub mod Begun
+pub mod Chosen
 pub mod Credited
 pub mod Credits
 pub mod Deciding

@@ -11,8 +11,10 @@ use Rattle.mscp_port.specs.declared.task.Task.{Task}
 use Rattle.mscp_port.specs.declared.task.Task.TheVariants as tasks
 use Rattle.mscp_port.specs.Acted.{vector_in}
 use Rattle.mscp_port.specs.Areas.{Rings, end_of, slot_in, slots_of, start_of, word_of}
-use Rattle.mscp_port.specs.Moved.{block_begun, move_wanted}
+use Rattle.mscp_packet.specs.declared.command.MoveKind.{MoveKind}
+use Rattle.mscp_port.specs.Moved.{MayMoveOn, block_begun, move_wanted}
 use Rattle.mscp_port.specs.Packets.{credits_told, packet_of}
+use Rattle.mscp_port.specs.Ports.{IsWithin}
 use Rattle.mscp_port.specs.Slots.{given_back, text_of}
 
 -- how many slots of a ring were given back, modulo 256
@@ -76,3 +78,11 @@ IsWanted p (tasks.Word side) action = InRings p action (λ r. action ≡ actions
 IsWanted p (tasks.Clear done) action =
     InRings p action (λ r. action ≡ actions.Write (clear_from p r done) (clear_count p r done))
 IsWanted p tasks.Transfer action = action ≡ move_wanted p (block_begun p)
+
+-- the block that is taken in hand is to be moved by this action
+pub record IsMovedFor {K : Type 0} (p : Port K) (task : Task) (action : Action) : Type 0 where
+  pub taken : task ≡ tasks.Transfer
+  pub wanted : action ≡ move_wanted p (block_begun p)
+  pub within : IsWithin p action
+  pub moves : (kind : MoveKind) (unit block address count : ℕ)
+      → action ≡ actions.Transfer kind unit block address count → MayMoveOn kind unit block p

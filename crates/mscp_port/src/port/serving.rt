@@ -1,15 +1,16 @@
 // How blocks are moved.
 
-ghost use Rattle.std.specs.Prelude.{◌≡◌, ◌≤◌, ◌%◌, ◌⊎◌, [], true, Contains, IfSome, Option, None, Some};
-ghost use Rattle.mscp_port.specs.Common.{ChangesByService, move_of, refusal_of, task_of, Foretells, begun_step, GoesOnWithBlock, TakesBegun, TakesBlock, begun_task, MayBegin, IsOfBlock, in_hand, IsOnVolume, MayMove};
+ghost use Rattle.std.specs.Prelude.{◌≡◌, ◌≢◌, ◌≤◌, ◌%◌, ◌⊎◌, [], true, Contains, IfSome, Option, None, Some};
+ghost use Rattle.mscp_port.specs.Common.{ChangesByService, move_of, refusal_of, task_of, Foretells, begun_step, GoesOnWithBlock, IsMovedFor, TakesBegun, TakesBlock, begun_task, MayBegin, IsOfBlock, in_hand, MayMove};
+ghost use Rattle.mscp_port.specs.declared.action.Action.TheVariants as actions;
 ghost use Rattle.mscp_port.specs.declared.buffers.Buffer.{Buffer as Kept};
 ghost use Rattle.mscp_port.specs.Blocks.{block_of as block_after, has_host_bytes as has_bytes, writes as writes_to};
 ghost use Rattle.mscp_queue.specs.declared.upcoming.Upcoming.{Upcoming as Foretold};
 ghost use Rattle.mscp_port.specs.declared.task.Task.TheVariants as tasks;
 
+use crate::action::Action;
 use crate::buffers::{Buffer, find_buffer};
 use crate::port::Port;
-use crate::port::checking::part_with;
 use crate::task::Task;
 use crate::verdict::{DRIVE_ERROR, ODD_ADDRESS, ODD_COUNT, PROTECTED, PROTECTED_BY_HOST, Verdict};
 use crate::volumes::Volume;
@@ -69,62 +70,92 @@ pub(crate) fn move_of(upcoming: &Upcoming) -> Option<(MoveKind, u32)>
     }
 }
 
-/// What is to be done for a step of a command, of whose message this is kept, and whose unit has this volume.
-fn task_for(upcoming: &Upcoming, buffer: &Buffer, volume: &Volume) -> Task
-    ensures value { result ≡ task_of upcoming.now buffer.now volume.now }
-    ensures packet { in_hand result ≡ None }
-    ensures block { IsOfBlock result }
-    // No block is moved on a volume that came after its command, or that its unit wasn't brought online with.
-    ensures safe { result ≡ tasks.Transfer → IsOnVolume buffer.now volume.now }
+/// How a step goes that moves no block, of a command of whose message this is kept, and whose unit has this volume.
+fn verdict_without_block(upcoming: &Upcoming, buffer: &Buffer, volume: &Volume) -> Verdict
+    ensures { move_of upcoming.now ≡ None → task_of upcoming.now buffer.now volume.now ≡ tasks.Step result }
 {
-    if matches!(upcoming.command.order, Order::Available) {
-        return Task::Step(Verdict::Served(Block::Good));
+    match upcoming.command.order {
+        Order::Available => Verdict::Served(Block::Good),
+        Order::Online | Order::SetUnit if volume.is_there => Verdict::Served(Block::Good),
+        _ if !volume.is_there || buffer.changes != volume.changes => Verdict::NoVolume,
+        _ => Verdict::Served(Block::Good),
     }
-    if volume.is_there && matches!(upcoming.command.order, Order::Online | Order::SetUnit) {
-        return Task::Step(Verdict::Served(Block::Good));
-    }
-    if !volume.is_there || buffer.changes != volume.changes {
-        return Task::Step(Verdict::NoVolume);
-    }
-    let Some((kind, block)) = move_of(upcoming) else {
-        return Task::Step(Verdict::Served(Block::Good));
-    };
-    match part_with(kind, block, upcoming.done, buffer, volume) {
-        Err(verdict) => Task::Step(verdict),
-        // A transfer of no bytes names a block, and moves nothing.
-        Ok((_, 0)) => Task::Step(Verdict::Served(Block::Good)),
-        Ok(_) => Task::Transfer,
+}
+
+/// This block is to be moved so, to this part of its command's buffer or from it.
+pub(crate) fn move_to(upcoming: &Upcoming, kind: MoveKind, block: u32, part: (u32, u32)) -> Action
+    ensures { result ≡ actions.Transfer kind upcoming.now.command.unit block part.0 part.1 }
+{
+    Action::Transfer {
+        kind,
+        unit: upcoming.command.unit,
+        block,
+        address: part.0,
+        count: part.1,
     }
 }
 
 impl<K: Picker> Port<K> {
-    /// What is to be done for the next step of a command, if one waits.
-    pub(crate) fn choose_block(&mut self) -> Task
+    /// What is to be done for the next step of a command, if one waits, and the move of its block, if it moves one.
+    pub(crate) fn choose_block(&mut self) -> (Task, Option<Action>)
         ensures begins { (upcoming : Option Foretold)
             × Foretells (K.picks self.old.controller.picker) self.old.controller upcoming self.new.controller
-            × (result
+            × (result.0
             ≡ begun_task self.new.controller.settings.units self.new.buffers.items self.new.volumes upcoming)
             × (begun_step self.new.controller ≡ upcoming) }
+        ensures moves { IfSome result.1 (IsMovedFor self.new result.0) }
         ensures frame { self.new ≡ record self.old { controller = self.new.controller } }
-        ensures packet { in_hand result ≡ None }
-        ensures block { (result ≡ tasks.Free) ⊎ IsOfBlock result }
-        ensures idle { result ≡ tasks.Free → self.new.controller.waiting ≡ [] }
+        ensures packet { in_hand result.0 ≡ None }
+        ensures block { (result.0 ≡ tasks.Free) ⊎ IsOfBlock result.0 }
+        ensures idle { result.0 ≡ tasks.Free → self.new.controller.waiting ≡ [] }
         ensures controller { MayBegin self.old.controller self.new.controller }
-        ensures begun { (IsOfBlock result → ⊥) → self.new.controller ≡ self.old.controller }
+        ensures begun { (IsOfBlock result.0 → ⊥) → self.new.controller ≡ self.old.controller }
         ensures settings { self.new.controller.settings ≡ self.old.controller.settings }
     {
-        let Some(upcoming) = self.controller.begin() else {
-            return Task::Free;
+        if self.controller.begin().is_none() {
+            return (Task::Free, None);
+        }
+        self.step_chosen()
+    }
+
+    /// What is to be done for the step that is begun, and the move of its block, if it moves one.
+    fn step_chosen(&self) -> (Task, Option<Action>)
+        ensures task { result.0 ≡ begun_task self.now.controller.settings.units self.now.buffers.items self.now.volumes
+            (begun_step self.now.controller) }
+        ensures moves { IfSome result.1 (IsMovedFor self.now result.0) }
+        ensures packet { in_hand result.0 ≡ None }
+        ensures block { begun_step self.now.controller ≢ None → IsOfBlock result.0 }
+    {
+        let Some(upcoming) = self.controller.upcoming() else {
+            return (Task::Free, None);
         };
-        let command = upcoming.command;
+        let Some((kind, block)) = move_of(&upcoming) else {
+            return (Task::Step(self.verdict_of(&upcoming)), None);
+        };
+        match self.part(&upcoming, kind, block) {
+            Err(verdict) => (Task::Step(verdict), None),
+            // A transfer of no bytes names a block, and moves nothing.
+            Ok((_, 0)) => (Task::Step(Verdict::Served(Block::Good)), None),
+            Ok(part) => (Task::Transfer, Some(move_to(&upcoming, kind, block, part))),
+        }
+    }
+
+    /// How a step goes that moves no block.
+    fn verdict_of(&self, upcoming: &Upcoming) -> Verdict
+        ensures { move_of upcoming.now ≡ None → begun_task self.now.controller.settings.units self.now.buffers.items
+            self.now.volumes (Some upcoming.now) ≡ tasks.Step result }
+    {
+        let command = &upcoming.command;
         let buffer = find_buffer(
             self.buffers.as_slice(),
             upcoming.connection,
             command.reference,
         );
         match (self.place_of(command.unit), buffer) {
-            (Some(place), Some(buffer)) => task_for(&upcoming, &buffer, &self.volumes[place]),
-            _ => Task::Step(Verdict::fault(DRIVE_ERROR)),
+            (Some(place), Some(buffer)) => {
+                verdict_without_block(upcoming, &buffer, &self.volumes[place])
+            }
+            _ => Verdict::fault(DRIVE_ERROR),
         }
     }
 

@@ -1,7 +1,7 @@
 // What the port wants done.
 
 ghost use Rattle.std.specs.Prelude.{◌≡◌, ◌≢◌, ◌≤◌, ◌<◌, ◌⊎◌, ◌+◌, ◌-◌, ◌*◌, ◌^◌, ℕ, true, false, length, IfSome, min, replicate, None, Some};
-ghost use Rattle.mscp_port.specs.Common.{ChangesBySaying, little_bytes, Responses, Commands, IsInArea, end_of, slot_in, slots_of, Wants, asked, asks_blocks, block_is_due, HasNothingToHear, HasNothingToSay, IsAlive, IsDue, IsIdleUp, IsOfBlock, IsWithin, in_hand, BeginsBlock, MayMoveOn, block_begun, move_wanted, KeepsSaying, Says, TakesEnd, TellsNews, credits_told, packet_of, text_of, IsWanted, clear_count, clear_from, given_in, packet_out};
+ghost use Rattle.mscp_port.specs.Common.{ChangesBySaying, little_bytes, Responses, Commands, IsInArea, end_of, slot_in, slots_of, Wants, asked, asks_blocks, block_is_due, HasNothingToHear, HasNothingToSay, IsAlive, IsDue, IsIdleUp, IsOfBlock, IsMovedFor, IsWithin, in_hand, BeginsBlock, MayMoveOn, block_begun, move_wanted, KeepsSaying, Says, TakesEnd, TellsNews, credits_told, packet_of, text_of, IsWanted, clear_count, clear_from, given_in, packet_out};
 ghost use Rattle.mscp_port.specs.declared.action.Action.TheVariants as actions;
 ghost use Rattle.mscp_port.specs.declared.stage.Stage.TheVariants as stages;
 ghost use Rattle.mscp_port.specs.declared.task.Task.TheVariants as tasks;
@@ -9,6 +9,7 @@ ghost use Rattle.mscp_packet.specs.declared.command.MoveKind.{MoveKind as Kind};
 
 use crate::action::{Action, Ask};
 use crate::port::Port;
+use crate::port::serving::move_to;
 use crate::rings::{Rings, Side};
 use crate::sizes::ClearSize;
 use crate::slot::Descriptor;
@@ -67,66 +68,86 @@ impl<K: Picker> Port<K> {
         if self.is_dead() {
             return Action::Rest;
         }
+        let mut moved = None;
         if let Task::Free = self.task {
-            self.task = self.choose(ask);
+            let (task, action) = self.choose(ask);
+            self.task = task;
+            moved = action;
         }
-        self.action()
+        self.action_beside(moved)
     }
 
-    /// What it takes in hand.
-    fn choose(&mut self, ask: Ask) -> Task
+    /// What is wanted for what it has in hand, where this move is known to be, if one is.
+    fn action_beside(&self, moved: Option<Action>) -> Action
+        requires { IfSome moved (IsMovedFor self.now self.now.task) }
+        ensures within { IsWithin self.now result }
+        ensures wanted { IsWanted self.now self.now.task result }
+        ensures moves { (kind : Kind) (unit block address count : ℕ)
+            → result ≡ actions.Transfer kind unit block address count → MayMoveOn kind unit block self.now }
+        ensures rests { result ≡ actions.Rest → self.now.task ≡ tasks.Free }
+    {
+        match moved {
+            Some(action) => action,
+            None => self.action(),
+        }
+    }
+
+    /// What it takes in hand, and the move of its block, if it moves one.
+    fn choose(&mut self, ask: Ask) -> (Task, Option<Action>)
         requires { self.old.task ≡ tasks.Free }
         ensures frame { ChangesBySaying self.old self.new }
-        ensures packet { in_hand result ≡ None }
-        ensures due { IsDue (asks_blocks ask) self.new result }
+        ensures packet { in_hand result.0 ≡ None }
+        ensures moves { IfSome result.1 (IsMovedFor self.new result.0) }
+        ensures due { IsDue (asks_blocks ask) self.new result.0 }
         ensures says { Says self.old self.new }
-        ensures begun { (IsOfBlock result → ⊥) → self.new.controller.begun ≡ self.old.controller.begun }
+        ensures begun { (IsOfBlock result.0 → ⊥) → self.new.controller.begun ≡ self.old.controller.begun }
         ensures settings { self.new.controller.settings ≡ self.old.controller.settings }
-        ensures step { result ≡ tasks.Free → self.new.written ≡ None }
-        ensures begins { IsOfBlock result
-            → BeginsBlock (K.picks self.old.controller.picker) result self.old self.new }
-        ensures up { result ≡ tasks.Free → self.new.stage ≡ stages.Up → IsIdleUp (asks_blocks ask) self.new }
+        ensures step { result.0 ≡ tasks.Free → self.new.written ≡ None }
+        ensures begins { IsOfBlock result.0
+            → BeginsBlock (K.picks self.old.controller.picker) result.0 self.old self.new }
+        ensures up { result.0 ≡ tasks.Free → self.new.stage ≡ stages.Up → IsIdleUp (asks_blocks ask) self.new }
     {
         if self.written.is_some() {
-            return Task::Settle;
+            return (Task::Settle, None);
         }
         match self.stage {
             Stage::Up => self.choose_work(ask),
-            _ => Task::Free,
+            _ => (Task::Free, None),
         }
     }
 
     /// What it takes in hand while the rings are in use: what goes out, what comes in, and then a block, if not
     /// messages alone are asked for. Behind a poll comes a block first.
-    fn choose_work(&mut self, ask: Ask) -> Task
+    fn choose_work(&mut self, ask: Ask) -> (Task, Option<Action>)
         ensures frame { ChangesBySaying self.old self.new }
-        ensures packet { in_hand result ≡ None }
-        ensures goes_out { self.new.outgoing ≢ None → self.new.is_full ≡ false → result ≡ tasks.Slot Responses }
+        ensures packet { in_hand result.0 ≡ None }
+        ensures moves { IfSome result.1 (IsMovedFor self.new result.0) }
+        ensures goes_out { self.new.outgoing ≢ None → self.new.is_full ≡ false → result.0 ≡ tasks.Slot Responses }
         ensures comes_in { HasNothingToSay self.new → self.new.is_polled ≡ true → self.new.is_stalled ≡ false
-            → block_is_due (asks_blocks ask) self.new ≡ false → result ≡ tasks.Slot Commands }
-        ensures first { HasNothingToSay self.new → block_is_due (asks_blocks ask) self.new ≡ true → IsOfBlock result }
+            → block_is_due (asks_blocks ask) self.new ≡ false → result.0 ≡ tasks.Slot Commands }
+        ensures first { HasNothingToSay self.new → block_is_due (asks_blocks ask) self.new ≡ true → IsOfBlock result.0 }
         ensures block { HasNothingToSay self.new → HasNothingToHear self.new
-            → (result ≡ tasks.Free) ⊎ IsOfBlock result }
-        ensures message { asks_blocks ask ≡ false → IsOfBlock result → ⊥ }
-        ensures idle { result ≡ tasks.Free → IsIdleUp (asks_blocks ask) self.new }
-        ensures begins { IsOfBlock result
-            → BeginsBlock (K.picks self.old.controller.picker) result self.old self.new }
+            → (result.0 ≡ tasks.Free) ⊎ IsOfBlock result.0 }
+        ensures message { asks_blocks ask ≡ false → IsOfBlock result.0 → ⊥ }
+        ensures idle { result.0 ≡ tasks.Free → IsIdleUp (asks_blocks ask) self.new }
+        ensures begins { IsOfBlock result.0
+            → BeginsBlock (K.picks self.old.controller.picker) result.0 self.old self.new }
         ensures looks { self.old.outgoing ≡ None → TakesEnd self.old self.new ⊎ TellsNews self.old self.new }
         ensures keeps { self.old.outgoing ≢ None → KeepsSaying self.old self.new }
-        ensures begun { (IsOfBlock result → ⊥) → self.new.controller.begun ≡ self.old.controller.begun }
+        ensures begun { (IsOfBlock result.0 → ⊥) → self.new.controller.begun ≡ self.old.controller.begun }
         ensures settings { self.new.controller.settings ≡ self.old.controller.settings }
     {
         if self.outgoing.is_none() {
             self.find_outgoing();
         }
         if self.outgoing.is_some() && !self.is_full {
-            return Task::Slot(Side::Responses);
+            return (Task::Slot(Side::Responses), None);
         }
         if self.is_polled && !self.is_stalled && !self.block_is_due(ask) {
-            return Task::Slot(Side::Commands);
+            return (Task::Slot(Side::Commands), None);
         }
         if let Ask::Messages = ask {
-            return Task::Free;
+            return (Task::Free, None);
         }
         self.choose_block()
     }
@@ -237,13 +258,7 @@ impl<K: Picker> Port<K> {
             return Action::Pause;
         };
         match self.part(&upcoming, kind, block) {
-            Ok((address, count)) => Action::Transfer {
-                kind,
-                unit: upcoming.command.unit,
-                block,
-                address,
-                count,
-            },
+            Ok(part) => move_to(&upcoming, kind, block, part),
             Err(_) => Action::Pause,
         }
     }

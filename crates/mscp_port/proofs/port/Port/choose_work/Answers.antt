@@ -7,7 +7,7 @@ pub returns-clause-begins : goal.returns-clause-begins
 returns-clause-begins g c = λ of_block.
     let old = c.args.self.now in
     let between = c.if-is_none.self in
-    begun_behind g.K.Picker.picks c.choose_block.result old between c.choose_block.new.self
+    begun_behind g.K.Picker.picks c.choose_block.result.0 old between c.choose_block.new.self
     (elim c.if-is_none.branch [
       | then-is_none w ↦ subst
           (λ (p : Port g.row.K.Denot). (p.controller ≡ old.controller)

@@ -6,14 +6,14 @@ use Rattle.mscp_port.proofs.port.Port.want.Goals.{in-Free, in_default}
 pub returns : goal.returns
 returns g c = record {
   frame = search rules;
-  within = c.action.ensures.within;
+  within = c.action_beside.ensures.within;
   packet = search rules;
   dead = search rules;
   rests = search rules;
-  wanted = λ alive. c.action.ensures.wanted;
+  wanted = λ alive. c.action_beside.ensures.wanted;
   due = λ alive free. elim c.match-self.branch [
     | in-Free w ↦
-        let d = w.choose-self.ensures.due in
+        let d = w.choose-task.ensures.due in
         subst (λ (p : Port g.row.K.Denot). IsDue (asks_blocks c.args.ask) p p.task) (sym w.self-is) (record {
           step = d.step;
           still = d.still;
@@ -29,12 +29,12 @@ returns g c = record {
     | in-Free w ↦ subst
         (λ (p : Port g.row.K.Denot). IsOfBlock p.task
         → BeginsBlock (g.K.Picker.picks c.args.self.now.controller.picker) p.task c.args.self.now p)
-        (sym w.self-is) (λ is. record { begun = (w.choose-self.ensures.begins is).begun }) of_block
+        (sym w.self-is) (λ is. record { begun = (w.choose-task.ensures.begins is).begun }) of_block
     | in_default w ↦ absurd (w.in_default.not-Free free)
   ];
   says = elim c.match-self.branch [
     | in-Free w ↦ subst (λ (p : Port g.row.K.Denot). Says c.args.self.now p) (sym w.self-is)
-        (said_on c.args.self.now w.choose-self.new.self w.choose-self.result w.choose-self.ensures.says)
+        (said_on c.args.self.now w.choose-task.new.self w.choose-task.result.0 w.choose-task.ensures.says)
     | in_default w ↦ record {
       looks = λ is. absurd (w.in_default.not-Free is.free);
       keeps = λ no. keeps_the_same c.args.self.now c.match-self.self w.self-is;
@@ -43,10 +43,10 @@ returns g c = record {
   begun = elim c.match-self.branch [
     | in-Free w ↦ subst
         (λ (p : Port g.row.K.Denot). (IsOfBlock p.task → ⊥) → p.controller.begun ≡ c.args.self.now.controller.begun)
-        (sym w.self-is) w.choose-self.ensures.begun
+        (sym w.self-is) w.choose-task.ensures.begun
     | in_default w ↦ λ no. ap (λ p. p.controller.begun) w.self-is
   ];
   settings = search rules;
-  moves = c.action.ensures.moves;
+  moves = c.action_beside.ensures.moves;
   goes_on = search rules;
 }

@@ -1,0 +1,59 @@
+-- What is done for a step that moves a block goes by its part alone.
+use Rattle.mscp_port.proofs.Common.{◌≡◌, ◌∙◌, ℕ, Bool, true, false, List, Option, None, Some, Result, arith, refl, ap, sym, Upcoming, Port, Buffer, Verdict, MoveKind, Order, begun_step, begun_task}
+use Rattle.std.specs.Prelude.{◌&&◌, if◌then◌else◌}
+use Rattle.mscp_port.specs.Blocks.{good_step, has_changed, is_available, kept_of, move_of, move_task, moved_by, part_task, part_with, refusal_of, takes_any_volume, task_of, unless_fault}
+use Rattle.mscp_port.specs.Buffers.{part_of}
+use Rattle.mscp_port.specs.Moved.{known_task, part_at, part_now}
+use Rattle.mscp_port.specs.Volumes.{place_in, volume_at}
+use Rattle.mscp_port.specs.declared.task.Task.{Task}
+use Rattle.mscp_port.specs.declared.task.Task.TheVariants as tasks
+use Rattle.mscp_port.specs.declared.verdict.Verdict.TheVariants as verdicts
+use Rattle.mscp_port.specs.declared.volumes.Volume.{Volume}
+
+-- only a transfer moves a block
+moves_alone : (o : Order) (l : Option ℕ) (move : MoveKind × ℕ) → moved_by o l ≡ Some move
+    → (is_available o ≡ false) × (takes_any_volume o ≡ false)
+moves_alone o l move e = grind arith
+
+-- where a volume has changed that is told by the part, too
+changed_part : (changed : Bool) (r : Option Verdict) (p : Option (ℕ × ℕ))
+    → (if changed then tasks.Step verdicts.NoVolume
+    else part_task (unless_fault (if changed then Some verdicts.NoVolume else r) p))
+    ≡ part_task (unless_fault (if changed then Some verdicts.NoVolume else r) p)
+changed_part true r p = refl
+changed_part false r p = refl
+
+-- what is done neither for AVAILABLE nor for a command that is about any volume
+skip : (available any changed there : Bool) (good none moved : Task) → available ≡ false → any ≡ false
+    → (if available then good else if there && any then good else if changed then none else moved)
+    ≡ (if changed then none else moved)
+skip available any changed there good none moved e1 e2 = grind arith
+
+in_place : (u : Upcoming) (move : MoveKind × ℕ) (b : Buffer) (v : Volume) → move_of u ≡ Some move
+    → task_of u b v ≡ part_task (part_with move.0 move.1 u.done b v)
+in_place u move b v e =
+    let alone = moves_alone u.command.order u.lbn move e in
+    skip (is_available u.command.order) (takes_any_volume u.command.order) (has_changed b v) v.is_there good_step
+    (tasks.Step verdicts.NoVolume) (move_task u (move_of u) b v) alone.0 alone.1
+    ∙ ap (λ (m : Option (MoveKind × ℕ)). if has_changed b v then tasks.Step verdicts.NoVolume else move_task u m b v) e
+    ∙ changed_part (has_changed b v) (refusal_of move.0 move.1 b v) (part_of b u.done)
+
+known : (u : Upcoming) (move : MoveKind × ℕ) (place : Option ℕ) (kept : Option Buffer) (volumes : List Volume)
+    → move_of u ≡ Some move
+    → known_task u place kept volumes ≡ part_task (part_at place kept move.0 move.1 u.done volumes)
+known u move None None volumes e = refl
+known u move None (Some b) volumes e = refl
+known u move (Some place) None volumes e = refl
+known u move (Some place) (Some b) volumes e = in_place u move b (volume_at volumes place) e
+
+-- the step that is begun moves this block so
+pub chosen : {K : Type 0} (p : Port K) (u : Upcoming) (begun : Option Upcoming) (kind : MoveKind) (block : ℕ)
+    (part : Result (ℕ × ℕ) Verdict) → begun ≡ begun_step p.controller → begun ≡ Some u → move_of u ≡ Some (kind, block)
+    → part ≡ part_now p u kind block
+    → part_task part
+    ≡ begun_task p.controller.settings.units p.buffers.items p.volumes (begun_step p.controller)
+chosen p u begun kind block part is some moves now =
+    ap part_task now
+    ∙ sym (known u (kind, block) (place_in p.controller.settings.units u.command.unit)
+    (kept_of u.connection u.command.reference p.buffers.items) p.volumes moves)
+    ∙ ap (begun_task p.controller.settings.units p.buffers.items p.volumes) (sym some ∙ is)
