@@ -317,15 +317,16 @@ static int32_t next(struct port *port, struct mscp_port *itself, struct mscp_act
 bool port_turn(struct port *port, unsigned most)
 {
     struct mscp_port *itself = port_itself(port);
+    const uint32_t lines = mscp_on_bus(port->lines, UINT32_MAX); /* which an address of the bus has */
     struct mscp_action action;
     port->ahead.count = 0;
     mscp_port_look_again(itself);
     for (port->left = most; port->left > 0; port->left--) {
         if (next(port, itself, &action) != MSCP_DONE)
             return false;
-        if (port->left < most && action.kind == MSCP_ACTION_PAUSE)
+        if (action.kind == MSCP_ACTION_PAUSE && port->left < most)
             return true;
-        action.address = mscp_on_bus(port->lines, action.address);
+        action.address &= lines;
         act(port, itself, &action);
     }
     return true;

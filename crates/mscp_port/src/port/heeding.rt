@@ -1,7 +1,7 @@
 // How commands that ended are heeded: what their ends say is decided, and units become what they say.
 
-ghost use Rattle.std.specs.Prelude.{◌≡◌, ◌≤◌, ◌++◌, Contains, map, drop, length, Some};
-ghost use Rattle.mscp_port.specs.Common.{First, answer_decided, decided_answers, decided_step, of, place_in, volume_found, volume_heeded, volumes_after, without};
+ghost use Rattle.std.specs.Prelude.{◌≡◌, ◌≤◌, ◌<◌, ◌++◌, Contains, IfSome, map, drop, length, Option, Some};
+ghost use Rattle.mscp_port.specs.Common.{First, answer_decided, decided_answers, decided_step, of, place_in, volume_found, volume_heeded, volume_in_place, volumes_after, without};
 ghost use Rattle.mscp_port.specs.Decided.{end_decided, status_told as told};
 ghost use Rattle.mscp_port.specs.declared.buffers.Buffer.{Buffer as Kept};
 
@@ -51,11 +51,12 @@ fn answer_decided(end: &End, units: &Units, flags: u16, volume: &Volume) -> Deci
 }
 
 impl<K: Picker> Port<K> {
-    /// The volume of a unit: none where there is no such unit.
-    fn volume_found(&self, unit: u16) -> Volume
-        ensures { result ≡ volume_found self.now.controller.settings.units self.now.volumes unit }
+    /// The volume of the unit at this place: none where there is no such unit.
+    fn volume_in(&self, place: Option<usize>) -> Volume
+        requires { IfSome place (λ p. p < 16) }
+        ensures { result ≡ volume_in_place self.now.volumes place }
     {
-        match self.place_of(unit) {
+        match place {
             Some(place) => self.volumes[place],
             None => Volume::default(),
         }
@@ -66,7 +67,7 @@ impl<K: Picker> Port<K> {
         ensures { result ≡ answer_decided self.now.controller.settings.units self.now.flags
             (volume_found self.now.controller.settings.units self.now.volumes end.now.unit) end.now }
     {
-        let volume = self.volume_found(end.unit);
+        let volume = self.volume_in(self.place_of(end.unit));
         answer_decided(end, self.controller.config().units(), self.flags, &volume)
     }
 
@@ -82,8 +83,17 @@ impl<K: Picker> Port<K> {
         }
     }
 
-    /// Decides what the end of a step says that went so, to whose unit this volume belonged before it was heeded.
-    fn decide_step(&mut self, connection: Connection, end: &End, verdict: &Verdict, before: &Volume)
+    /// Decides what the end of a step says that went so, to whose unit, at this place, this volume belonged before it was heeded.
+    fn decide_step(
+        &mut self,
+        connection: Connection,
+        end: &End,
+        verdict: &Verdict,
+        place: Option<usize>,
+        before: &Volume,
+    )
+        requires at { place ≡ place_in self.old.controller.settings.units end.now.unit }
+        requires low { IfSome place (λ p. p < 16) }
         ensures frame { self.new ≡ record self.old { decided = self.new.decided } }
         ensures value { self.new.decided.items
             ≡ decided_step connection verdict.now before.now end.now self.old.decided.items self.old }
@@ -91,7 +101,7 @@ impl<K: Picker> Port<K> {
         if let (Connection::First, false) = (connection, self.decided.is_full()) {
             let status = status_told(*verdict, end.code, end.status, before);
             let units = self.controller.config().units();
-            let volume = self.volume_found(end.unit);
+            let volume = self.volume_in(place);
             let decided = Decided::of_end(status, end, units, self.flags, &volume);
             self.decided.push(decided);
         }
@@ -112,20 +122,23 @@ impl<K: Picker> Port<K> {
         ensures buffers { self.new.buffers.items ≡ without connection end.now.reference self.old.buffers.items }
         ensures among { (b : Kept) → Contains self.new.buffers.items b → Contains self.old.buffers.items b }
     {
-        let before = self.volume_found(end.unit);
-        self.heed_end(connection, end);
+        let place = self.place_of(end.unit);
+        let before = self.volume_in(place);
+        self.heed_end(connection, end, place);
         forget(&mut self.buffers, connection, end.reference);
-        self.decide_step(connection, end, verdict, &before);
+        self.decide_step(connection, end, verdict, place, &before);
     }
 
-    /// Heeds what is kept of a command that ended, if it had Success.
-    fn heed_end(&mut self, connection: Connection, end: &End)
+    /// Heeds what is kept of a command that ended, if it had Success, of the unit at this place.
+    fn heed_end(&mut self, connection: Connection, end: &End, place: Option<usize>)
+        requires at { place ≡ place_in self.old.controller.settings.units end.now.unit }
+        requires low { IfSome place (λ p. p < 16) }
         ensures { self.new ≡ record self.old {
           volumes = volumes_after self.old.controller.settings.units self.old.buffers.items connection
               (Some end.now) self.old.volumes;
         } }
     {
-        if let (Some(place), 0) = (self.place_of(end.unit), end.status % 32) {
+        if let (Some(place), 0) = (place, end.status % 32) {
             let buffer = find_buffer(self.buffers.as_slice(), connection, end.reference);
             heed_unit(&mut self.volumes[place], end.code, buffer);
         }
