@@ -8,6 +8,8 @@ pub mod Moments
 pub mod Seen
 pub mod Hearing
 pub mod Back
+pub mod PortBack
+pub mod PortHeads
 pub mod Heads
 pub mod Apart
 pub mod Told

@@ -12,4 +12,6 @@ pub mod PortAccounts
 pub mod Ported
 pub mod PortHistories
 pub mod PortLaw
+pub mod PortRestored
+pub mod PortSaved
 pub mod Watching
