@@ -4,6 +4,7 @@ use Rattle.std.proofs.lemmas.List.{drop-drop}
 use Rattle.mscp_host.specs.declared.asked.Asked.{Asked}
 use Rattle.mscp_host.specs.declared.restoring.RestoreFault.TheVariants as faults
 use Rattle.mscp_host.specs.PortAccounts.{PortAccount}
+use Rattle.mscp_host.specs.PortHistories.{IsSavedAs}
 use Rattle.mscp_host.specs.Ported.{IsPorted, Name, name_of_asked, name_of_submission}
 use Rattle.mscp_host.specs.PortRestored.{asked_count, asked_in, asked_with, host_part, port_account_in, port_head_fault, port_restored, port_restored_unless, port_restored_with, port_whose}
 use Rattle.mscp_host.specs.PortSaved.{HasAskedRange, HasPortRange, port_saved_bytes, size_bytes}
@@ -108,3 +109,12 @@ port_restored_back p inner few ported range =
     ∙ (ap (λ t. if t then port_whose b (port_account_in b p.account) else Err faults.Credits) room
     ∙ (ap (port_whose b) account
     ∙ ap (λ t. if t then Ok p else Err faults.Form) (same_bytes b))))
+
+-- ---- a host that goes on as the one that was made of its bytes
+
+abbrev held_or : PortAccount → Result PortAccount RestoreFault → PortAccount
+held_or p (Ok held) = held
+held_or p (Err fault) = p
+
+pub resumed : (old new : PortAccount) (b : List ℕ) → IsSavedAs old b × (port_restored b ≡ Ok new) → new ≡ old
+resumed old new b e = ap (held_or old) (sym e.1 ∙ e.0.back)
