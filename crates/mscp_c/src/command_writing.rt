@@ -1,6 +1,6 @@
 // Commands to messages, from their fields by name.
 
-ghost use Rattle.std.specs.Prelude.{◌≡◌, ◌+◌, ◌≤◌, ◌++◌, take, drop, length};
+ghost use Rattle.std.specs.Prelude.{◌≡◌, ◌+◌, ◌≤◌, ◌<◌, ◌^◌, ◌++◌, take, drop, length};
 ghost use Rattle.arrayvec.specs.ArrayVec.{array_vec_len};
 ghost use Rattle.mscp_packet.specs.Commands.{IsCommand, command_bytes, order_with};
 ghost use Rattle.mscp_packet.specs.Opcodes.{opcode_of};
@@ -55,6 +55,18 @@ fn order_of(given: &CommandIn) -> Order
     }
 }
 
+/// The command that is given.
+fn command_of(given: CommandIn) -> Command
+    ensures value { result ≡ command_given given }
+    ensures range { (given.reference < 2 ^ 32) × (given.unit < 2 ^ 16) }
+{
+    Command {
+        reference: given.reference,
+        unit: given.unit,
+        order: order_of(&given),
+    }
+}
+
 /// Writes bytes over those from a place on.
 fn set_at(message: &mut ArrayVec<u8, 48>, at: usize, part: &[u8])
     requires { at + length part.now ≤ array_vec_len message.old }
@@ -91,11 +103,7 @@ fn message_of(given: &CommandIn) -> ArrayVec<u8, 48>
     ensures bytes { result.items ≡ message_bytes given.now }
     ensures command { IsCommand result.items (command_given given.now) }
 {
-    let command = Command {
-        reference: given.reference,
-        unit: given.unit,
-        order: order_of(given),
-    };
+    let command = command_of(*given);
     let mut message = write_command(&command);
     set_two(&mut message, 10, given.modifiers);
     match command.order {
@@ -105,7 +113,8 @@ fn message_of(given: &CommandIn) -> ArrayVec<u8, 48>
         }
         Order::Move(..) => set_four(&mut message, 16, given.buffer),
         Order::Abort(_) | Order::Status(_) | Order::UnitStatus => {}
-        Order::Available | Order::Online | Order::SetUnit | Order::Invalid { .. } => {}
+        Order::Available | Order::Online | Order::SetUnit => {}
+        Order::Invalid { .. } => {}
     }
     message
 }

@@ -1,8 +1,11 @@
 //! The calls of the C library: a controller, a host, and a port, in memory that a program in C owns.
 #![tactic(auto)]
 
+mod command_writing;
 mod controller_saving;
+mod driver_saving;
 mod driving;
+mod end_reading;
 mod hearing;
 mod heeding;
 mod host_saving;
