@@ -858,8 +858,8 @@ MSCP_INLINE int32_t mscp_host_restore(struct mscp_host *host, const uint8_t *byt
 /* The message of a command, of 12 to 32 bytes: what a controller reads in it is the command. MSCP_DONE. */
 int32_t mscp_write_command(const struct mscp_command *command, struct mscp_packet *message);
 
-/* What an end of 12 to 64 bytes tells. MSCP_DONE; or MSCP_UNREADABLE if they are under the length of its endcode, or that is
- * none of an enum mscp_opcode. */
+/* What an end tells. MSCP_DONE; or MSCP_UNREADABLE if there aren't 12 to 64 bytes, or fewer than its endcode has, or that isn't
+ * 0x80, alone or with an enum mscp_opcode. */
 MSCP_MUST_USE
 MSCP_INLINE int32_t mscp_read_end(const uint8_t *bytes, size_t length, struct mscp_end *end)
 {
@@ -934,8 +934,8 @@ MSCP_INLINE int32_t mscp_driver_save(const struct mscp_driver *driver, uint8_t *
     return mscp_driver_save_at(driver, room == 0 ? &none : bytes, room, length);
 }
 
-/* Makes the account that was saved, in the handle's memory, as mscp_host_restore makes a host. This takes up to STACK_R KiB of
- * the stack, and mscp_driver_save up to STACK_S. */
+/* Makes the account that was saved, in the handle's memory, as mscp_host_restore makes a host. This takes up to 16 KiB of
+ * the stack, and mscp_driver_save up to 6. */
 MSCP_MUST_USE
 MSCP_INLINE int32_t mscp_driver_restore(struct mscp_driver *driver, const uint8_t *bytes, size_t length)
 {
