@@ -1,6 +1,7 @@
 /* rings.c: the driver of examples/driver.c beside a port, register accesses, messages, blocks and ticks in random order, with FLUSH,
  * DETERMINE ACCESS PATHS, volumes that come and go, and resets. The driver resets the port by itself only in the last round, in
- * which messages of the port are lost and garbled; and then, too, all that was asked for ends.
+ * which messages of the port are lost and garbled; and then, too, all that was asked for ends. Its account is saved and restored now
+ * and then.
  *     rings [STEPS [SEED]] */
 #define DRIVER_PART
 #include "../../examples/driver.c"
@@ -142,6 +143,18 @@ static void spoil(void)
     }
 }
 
+/* The driver goes on with an account that is made of the bytes of its own. */
+static void go_on_as_saved(void)
+{
+    static uint8_t bytes[MSCP_DRIVER_SAVED_MAX];
+    size_t length;
+    if (mscp_driver_save(driver.account, bytes, sizeof bytes, &length) != MSCP_DONE)
+        fail("an account isn't saved");
+    driver.account = mscp_driver_in_memory(driver.memory, sizeof driver.memory);
+    if (mscp_driver_restore(driver.account, bytes, length) != MSCP_DONE)
+        fail("an account isn't restored");
+}
+
 static void step(unsigned long number, bool spoils)
 {
     switch (any(24)) {
@@ -171,6 +184,8 @@ static void step(unsigned long number, bool spoils)
         break;
     default: act(any(3) != 0); break;
     }
+    if (any(50) == 0)
+        go_on_as_saved();
     if (number % 60 == 59) { /* a step lies between two ticks, if a command waits */
         for (unsigned i = 0; i < 100 && since_tick == 0; i++)
             act(true);
