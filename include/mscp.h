@@ -6,9 +6,10 @@
  * - No pointer that you pass is NULL, save that of a list or of bytes with a length of 0. Each points to as much as its
  *   type or the length beside it says. Those of one call don't overlap.
  * - A handle is made by mscp_in_memory or mscp_over (of a host by mscp_host_in_memory or mscp_host_over, of a port by
- *   mscp_port_in_memory or mscp_port_over), over memory that is really there and really yours. After that only the calls
- *   write the handle and its memory. Two handles are never over one memory, and no copy of a handle is used beside it.
- *   One that is NULL is MSCP_NO_MEMORY of an init and a restore, and MSCP_NOT_MADE of the calls that are inline here.
+ *   mscp_port_in_memory or mscp_port_over, of a driver's account by mscp_driver_in_memory or mscp_driver_over), over memory
+ *   that is really there and really yours. After that only the calls write the handle and its memory. Two handles are never
+ *   over one memory, and no copy of a handle is used beside it. One that is NULL is MSCP_NO_MEMORY of an init and a restore,
+ *   and MSCP_NOT_MADE of the calls that are inline here.
  * - Memory that moves, as by realloc or to a file and back, moves whole, and mscp_moved says so before the next call.
  *   Only a library of the same version knows what lies in it.
  * - One call at a time on a handle.
