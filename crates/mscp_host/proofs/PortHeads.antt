@@ -59,7 +59,8 @@ one_more_read b ys n d l =
     ∙ ap (λ (k : ℕ). asked_in b (take n ys) ++ asked_with y (num (drop (4 * k) b) 0 4) ∷ []) long)
 
 -- and pushed
-pub one_more_pushed : (b : List ℕ) (ys : List Submission) (n : ℕ) (d : Submission) (k : ℕ) (r : Asked) (out new : List Asked)
+pub one_more_pushed : (b : List ℕ) (ys : List Submission) (n : ℕ) (d : Submission) (k : ℕ) (r : Asked)
+    (out new : List Asked)
     → n < length ys → k ≡ num (drop (4 * n) b) 0 4 → r ≡ asked_with (slice_index_or ys n d) k
     → out ≡ asked_in b (take n ys) → new ≡ out ++ r ∷ [] → new ≡ asked_in b (take (n + 1) ys)
 one_more_pushed b ys n d k r out new l read said before more =

@@ -22,8 +22,8 @@ use Rattle.mscp_host.specs.PortAccounts.{PortAccount, as_read, bytes_of, hears, 
 use Rattle.mscp_host.specs.PortRestored.{port_restored}
 use Rattle.mscp_host.specs.PortSaved.{port_saved_bytes}
 
--- a call and its answer; a host that was saved as these bytes, and goes on as the one that was made of them; or something
--- in which the host has no part
+-- a call and its answer; a host that was saved as these bytes, and goes on as the one that was made of them; or
+-- something in which the host has no part
 pub data PortMoment : Type 0 where
   Submit : Command → Result (ArrayVec ℕ) HostFault → PortMoment
   Ask : ℕ → Result Poll HostFault → PortMoment

@@ -1,4 +1,4 @@
-use Rattle.mscp_host.proofs.Common.{◌≡◌, ℕ, ◌-◌, ◌*◌, ◌≤◌, List, drop, length, map, not, nat_eq, slice_index, ap, sym, ◌∙◌, arith, from_place, Submission, Account}
+use Rattle.mscp_host.proofs.Common.{ℕ, List, drop, length, map, not, nat_eq, slice_index, ap, ◌∙◌, arith, from_place, Submission, Account}
 use Rattle.std.proofs.lemmas.List.{length-drop}
 use Rattle.mscp_host.specs.Ported.{name_of_asked, name_of_submission}
 use Rattle.mscp_host.specs.PortRestored.{asked_in}
