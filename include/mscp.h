@@ -935,8 +935,8 @@ MSCP_INLINE int32_t mscp_driver_save(const struct mscp_driver *driver, uint8_t *
     return mscp_driver_save_at(driver, room == 0 ? &none : bytes, room, length);
 }
 
-/* Makes the account that was saved, in the handle's memory, as mscp_host_restore makes a host. This takes up to 16 KiB of
- * the stack, and mscp_driver_save up to 6. */
+/* Makes the account that was saved, in the handle's memory, as mscp_host_restore makes a host. This takes up to 20 KiB of
+ * the stack, and mscp_driver_save up to 3. */
 MSCP_MUST_USE
 MSCP_INLINE int32_t mscp_driver_restore(struct mscp_driver *driver, const uint8_t *bytes, size_t length)
 {

@@ -281,10 +281,10 @@ static size_t most(int call)
 {
     switch (call) {
     case SAVE: return 12 * 1024;
-    case HOST_SAVE: case WHY: case PORT_WHY: return 3 * 1024;
+    case HOST_SAVE: case DRIVER_SAVE: case WHY: case PORT_WHY: return 3 * 1024;
     case INIT: case PORT_INIT: case RESTORE: case PORT_RESTORE: return 40 * 1024;
-    case HOST_RESTORE: case DRIVER_SAVE: return 6 * 1024;
-    case DRIVER_RESTORE: return 16 * 1024;
+    case HOST_RESTORE: return 6 * 1024;
+    case DRIVER_RESTORE: return 20 * 1024;
     case PORT_SAVE: return 36 * 1024;
     case RUN_SCRIPT: return 60 * 1024;
     default: return 2 * 1024;
