@@ -1,12 +1,12 @@
-/* driver.c: a driver of a real port, over rings in memory: the four steps of its initialisation, messages, polls, resets, and what
- * is sent again after one. Copy the first part, and give it your registers and your memory. The second is a machine in one
- * process, in which the drive hangs, and then the port.
+/* driver.c: a driver of a real port, over rings in memory: the four steps of its initialisation, messages, polls,
+ * resets, and what is sent again after one. Copy the first part, and give it your registers and your memory. The second
+ * is a machine in one process, in which the drive hangs, and then the port.
  *
  *     cc driver.c $(pkg-config --cflags --libs mscp) -o driver
  *     ./driver IMAGE        (which it reads)
  *
- * A request waits in a table until it has ended. A unit is brought online before what needs that is sent. At a reset all that was
- * sent and hasn't ended is ready again, and is sent in the order in which it was asked. */
+ * A request waits in a table until it has ended. A unit is brought online before what needs that is sent. At a reset all
+ * that was sent and hasn't ended is ready again, and is sent in the order in which it was asked. */
 #include "mscp.h"
 #include <stdbool.h>
 #include <string.h>
@@ -15,7 +15,8 @@ enum { SLOTS = 8, SLOTS_LOG = 3, TEXT = 60, REQUESTS = 32, UNITS = 16, WAITS = 1
 /* The area: 8 bytes for interrupts, the descriptors of responses and of commands, and their buffers with envelopes. */
 enum { RESPONSES = 8, COMMANDS = RESPONSES + 4 * SLOTS, BUFFERS = COMMANDS + 4 * SLOTS, BUFFER = 4 + TEXT };
 enum { AREA_SIZE = BUFFERS + 2 * SLOTS * BUFFER };
-enum { UNIT_OFFLINE = 3, UNIT_AVAILABLE = 4, CONTROLLER_ERROR = 10, CODE = 31 }; /* statuses, and what of one is their code */
+/* Statuses, and what of one is its code. */
+enum { UNIT_OFFLINE = 3, UNIT_AVAILABLE = 4, CONTROLLER_ERROR = 10, CODE = 31 };
 enum { WANTS_ATTENTION = 0x80 };
 
 #define PORTS_OWN UINT32_C(0x80000000)  /* the slot is the port's */
@@ -147,7 +148,8 @@ static struct request *next_request(struct driver *driver)
 {
     struct request *oldest = NULL;
     for (struct request *it = driver->requests; it < driver->requests + REQUESTS; it++)
-        if (it->state == READY && (oldest == NULL || (int32_t)(it->age - oldest->age) < 0) && is_unit_ready(driver, &it->command))
+        if (it->state == READY && (oldest == NULL || (int32_t)(it->age - oldest->age) < 0) &&
+            is_unit_ready(driver, &it->command))
             oldest = it;
     return oldest;
 }
@@ -159,8 +161,8 @@ static void send_all(struct driver *driver)
         request->state = SENT;
 }
 
-/* Takes a request, of which `ended` tells by its tag. The command's number is the driver's to choose. False: there is no such unit,
- * or the table is full. */
+/* Takes a request, of which `ended` tells by its tag. The command's number is the driver's to choose. False: there is no
+ * such unit, or the table is full. */
 static bool driver_ask(struct driver *driver, const struct mscp_command *command, uint32_t tag)
 {
     for (unsigned i = 0; command->unit < UNITS && i < REQUESTS; i++) {
@@ -195,8 +197,8 @@ static bool initialise(struct driver *driver)
 {
     const struct machine *machine = &driver->machine;
     uint32_t base = machine->at + RESPONSES;
-    const uint16_t words[3] = {(uint16_t)(0x8080 | SLOTS_LOG << 11 | SLOTS_LOG << 8 | machine->vector / 4), (uint16_t)base,
-                               (uint16_t)(base >> 16)};
+    const uint16_t words[3] = {(uint16_t)(0x8080 | SLOTS_LOG << 11 | SLOTS_LOG << 8 | machine->vector / 4),
+                               (uint16_t)base, (uint16_t)(base >> 16)};
     machine->write_ip(machine->context);
     for (unsigned i = 0; i < 3; i++) {
         if (!wait_for(driver, (uint16_t)(0x0800 << i)))
@@ -380,7 +382,8 @@ static bool begin(void)
     static const struct mscp_unit unit = {.size = IMAGE, .track = 10, .group = 1, .cylinder = 1};
     static const struct mscp_hardware rqdx3 = {.bus = MSCP_BUS_Q, .model = 19};
     static const struct mscp_medium medium = {.size = IMAGE};
-    driver.machine = (struct machine){NULL, read_sa, write_sa, read_ip, write_ip, go_on, read_ended, came, memory + AREA, AREA, 0154, 1};
+    driver.machine = (struct machine){NULL,       read_sa, write_sa,      read_ip, write_ip, go_on,
+                                      read_ended, came,    memory + AREA, AREA,    0154,     1};
     port = mscp_port_in_memory(port_memory, sizeof port_memory);
     return mscp_port_init(port, &limits, &unit, 1, MSCP_SWEEP, &rqdx3, 15) == MSCP_DONE &&
            mscp_port_volume_came(port, 0, &medium) == MSCP_DONE && driver_reset(&driver, "the beginning");
@@ -392,7 +395,8 @@ static bool read_all(enum trouble kind)
     unsigned resets = driver.resets, began = driver.resets, from = steps + 100;
     reads_ended = 0;
     for (uint32_t i = 0; i < READS; i++) {
-        struct mscp_command read = {.opcode = MSCP_READ, .bytes = LENGTH, .lbn = i * 17 % (IMAGE - BLOCKS), .buffer = DATA + i * LENGTH};
+        struct mscp_command read = {
+            .opcode = MSCP_READ, .bytes = LENGTH, .lbn = i * 17 % (IMAGE - BLOCKS), .buffer = DATA + i * LENGTH};
         is_good = driver_ask(&driver, &read, i) && is_good;
     }
     for (unsigned time = 1; is_good && reads_ended < READS && time < 10000; time++) {

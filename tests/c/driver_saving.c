@@ -1,5 +1,5 @@
-/* A driver's account that is saved and restored: one that goes on elsewhere after each call, one whose bytes are written by hand, and
- * bytes that no account has. Prints what is wrong, and ends with 1 where something is. */
+/* A driver's account that is saved and restored: one that goes on elsewhere after each call, one whose bytes are written
+ * by hand, and bytes that no account has. Prints what is wrong, and ends with 1 where something is. */
 #include "trying.h"
 
 enum { LENGTH = 74, HOST = 24 }; /* where the host in it begins */

@@ -1,5 +1,5 @@
-/* mscp_write_command and mscp_read_end, field by field, at the places that docs/FORMATS.md has. Prints what is wrong, and ends with 1
- * where something is. */
+/* mscp_write_command and mscp_read_end, field by field, at the places that docs/FORMATS.md has. Prints what is wrong, and
+ * ends with 1 where something is. */
 #include "trying.h"
 
 enum { WITHOUT_A_ROW = 19 };
@@ -45,7 +45,8 @@ static void commands(void)
         command.opcode = cases[i].opcode;
         is("written", mscp_write_command(&command, &message), MSCP_DONE);
         is("its length", message.length, cases[i].length);
-        has(&message, 0, 4, 0x01020304), has(&message, 4, 2, 0x5152), has(&message, 8, 1, command.opcode), has(&message, 10, 2, 0x6162);
+        has(&message, 0, 4, 0x01020304), has(&message, 4, 2, 0x5152);
+        has(&message, 8, 1, command.opcode), has(&message, 10, 2, 0x6162);
         if (cases[i].length == 16)
             has(&message, 12, 4, 0x11121314);
         if (cases[i].length == 18)

@@ -1,7 +1,7 @@
-/* rings.c: the driver of examples/driver.c beside a port, register accesses, messages, blocks and ticks in random order, with FLUSH,
- * DETERMINE ACCESS PATHS, volumes that come and go, and resets. The driver resets the port by itself only in the last round, in
- * which messages of the port are lost and garbled; and then, too, all that was asked for ends. Its account is saved and restored now
- * and then.
+/* rings.c: the driver of examples/driver.c beside a port, register accesses, messages, blocks and ticks in random order,
+ * with FLUSH, DETERMINE ACCESS PATHS, volumes that come and go, and resets. The driver resets the port by itself only in
+ * the last round, in which messages of the port are lost and garbled; and then, too, all that was asked for ends. Its
+ * account is saved and restored now and then.
  *     rings [STEPS [SEED]] */
 #define DRIVER_PART
 #include "../../examples/driver.c"
@@ -98,8 +98,8 @@ static void begin(uint32_t host_credits)
     for (uint16_t i = 0; i < VOLUMES; i++) {
         come(i);
     }
-    struct machine machine = {NULL, read_sa, write_sa, read_ip, write_ip, a_while, has_ended, has_come, host_memory + AREA_AT, AREA_AT,
-                              VECTOR, 1};
+    struct machine machine = {NULL,      read_sa,  write_sa,              read_ip, write_ip, a_while,
+                              has_ended, has_come, host_memory + AREA_AT, AREA_AT, VECTOR,   1};
     memset(&driver, 0, sizeof driver);
     driver.machine = machine;
     if (!driver_reset(&driver, "the beginning"))
@@ -222,7 +222,8 @@ int main(int words, char **word)
         memset(by_status, 0, sizeof by_status);
         for (unsigned long number = 0; number < steps / 3; number++)
             step(number, spoils);
-        printf("%u credits: %lu blocks, %lu ended, %lu came, %u resets, %lu by chance, unread by mscp_host %lu, spoiled %lu; the last reset: %s\n",
+        printf("%u credits: %lu blocks, %lu ended, %lu came, %u resets, %lu by chance, unread by mscp_host %lu, "
+               "spoiled %lu; the last reset: %s\n",
                (unsigned)credits[round], served, requests_ended, came, driver.resets, forced, unread, spoiled,
                driver.why);
         if (!spoils && (driver.resets != forced || too_many != 0))
