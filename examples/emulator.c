@@ -4,7 +4,7 @@
  *     ./emulator IMAGE                                                  (this writes blocks of the image)
  *     ./emulator --log FILE IMAGE                                       (and a log for ./mscpjudge legal FILE)
  *
- * The first part is the emulator, which examples/driver.c uses too. The second, main and what it calls, is a host that
+ * The first part is the emulator, which examples/suspend.c uses too. The second, main and what it calls, is a host that
  * tries it: it writes blocks in an order that the sweep chooses, reads them back, polls after each step, and aborts a
  * command that the drive has in work.
  *

@@ -39,6 +39,8 @@ def record(*fields):
 
 Unit = record((c_uint64, "id"), (c_uint32, "size media serial"), (c_uint16, "number track group cylinder"))
 Limits = record((c_uint64, "id budget"), (c_uint32, "credits second longest"), (c_uint16, "timeout"))
+Command = record((c_uint32, "reference other bytes lbn buffer"), (c_uint16, "unit modifiers version flags timeout"),
+                 (c_uint8, "opcode"))
 Sent = record((c_uint32, "reference aborted"), (c_uint8, "has_aborted"))
 Packet = record((c_uint32, "length"), (c_uint8 * 48, "bytes"))
 Report = record((c_uint32, "reference lbn seek"), (c_uint16, "unit status"),
@@ -61,14 +63,19 @@ def memory(make, size):
     return room
 
 
+def bytes_of(packet):
+    return bytes(packet.bytes[:packet.length])
+
+
 def send(message):
     call("mscp_send", mscp, FIRST, message, c_size_t(len(message)), byref(Sent()), wanted=(QUEUED, ANSWERED))
 
 
 def submit(reference, opcode, length=0, block=0):
-    message = pack("<IHHBBHI12xI", reference, 0, 0, opcode, 0, 0, length, block)
-    call("mscp_host_submit", host, message, c_size_t(len(message)))
-    send(message)
+    packet = Packet()
+    call("mscp_write_command", byref(Command(reference=reference, opcode=opcode, bytes=length, lbn=block)), byref(packet))
+    call("mscp_host_submit", host, packet.bytes, c_size_t(packet.length))
+    send(bytes_of(packet))
 
 
 def hear():
@@ -86,7 +93,7 @@ def hear():
 def poll(reference):
     message = Packet()
     call("mscp_host_poll", host, reference, byref(message))
-    send(bytes(message.bytes[:message.length]))
+    send(bytes_of(message))
     hear()
 
 

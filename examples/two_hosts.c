@@ -45,12 +45,6 @@ static void must(bool holds, const char *what)
     }
 }
 
-static void put_number(uint8_t *to, unsigned bytes, uint32_t number)
-{
-    for (unsigned i = 0; i < bytes; i++)
-        to[i] = (uint8_t)(number >> (8 * i));
-}
-
 static void put(struct ring *ring, const struct mscp_packet *packet)
 {
     must(ring->count < RING, "the ring has a slot");
@@ -117,13 +111,10 @@ static void serve(void)
 /* ---- the hosts */
 
 /* Sends a command, if the host's account has a credit for it. */
-static void submit(struct port *port, uint32_t reference, uint8_t opcode, uint32_t first, uint32_t lbn)
+static void submit(struct port *port, struct mscp_command command)
 {
-    struct mscp_packet message = {.length = 32};
-    put_number(message.bytes, 4, reference);
-    message.bytes[8] = opcode;
-    put_number(message.bytes + 12, 4, first);
-    put_number(message.bytes + 28, 4, lbn);
+    struct mscp_packet message;
+    mscp_write_command(&command, &message);
     must(mscp_host_submit(port->host, message.bytes, message.length) == MSCP_DONE, "a credit");
     put(&port->commands, &message);
 }
@@ -222,13 +213,15 @@ int main(void)
     make_controller();
     for (unsigned i = 0; i < 2; i++) {
         begin_host(&ports[i]);
-        submit(&ports[i], ONLINE_REFERENCE, MSCP_ONLINE, 0, 0);
+        submit(&ports[i], (struct mscp_command){.reference = ONLINE_REFERENCE, .opcode = MSCP_ONLINE});
     }
     run_until(1, 1);
     for (unsigned i = 0; i < 2; i++)
         for (unsigned j = 0; j < READS; j++)
-            submit(&ports[i], FIRST_READ + j, MSCP_READ, LENGTH, lbn_of(&ports[i], j));
-    submit(&ports[1], ABORT_REFERENCE, MSCP_ABORT, FIRST_READ + ABORTED, 0);
+            submit(&ports[i], (struct mscp_command){.reference = FIRST_READ + j, .opcode = MSCP_READ, .bytes = LENGTH,
+                                                    .lbn = lbn_of(&ports[i], j)});
+    submit(&ports[1],
+           (struct mscp_command){.reference = ABORT_REFERENCE, .opcode = MSCP_ABORT, .other = FIRST_READ + ABORTED});
     run_until(1 + READS, 1 + READS + 1);
     good = is_read(&ports[0]) && is_read(&ports[1]);
     printf("%s\n", good ? "all is read but what was aborted" : "FAILED");

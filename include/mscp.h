@@ -6,9 +6,10 @@
  * - No pointer that you pass is NULL, save that of a list or of bytes with a length of 0. Each points to as much as its
  *   type or the length beside it says. Those of one call don't overlap.
  * - A handle is made by mscp_in_memory or mscp_over (of a host by mscp_host_in_memory or mscp_host_over, of a port by
- *   mscp_port_in_memory or mscp_port_over), over memory that is really there and really yours. After that only the calls
- *   write the handle and its memory. Two handles are never over one memory, and no copy of a handle is used beside it.
- *   One that is NULL is MSCP_NO_MEMORY of an init and a restore, and MSCP_NOT_MADE of the calls that are inline here.
+ *   mscp_port_in_memory or mscp_port_over, of a driver's account by mscp_driver_in_memory or mscp_driver_over), over memory
+ *   that is really there and really yours. After that only the calls write the handle and its memory. Two handles are never
+ *   over one memory, and no copy of a handle is used beside it. One that is NULL is MSCP_NO_MEMORY of an init and a restore,
+ *   and MSCP_NOT_MADE of the calls that are inline here.
  * - Memory that moves, as by realloc or to a file and back, moves whole, and mscp_moved says so before the next call.
  *   Only a library of the same version knows what lies in it.
  * - One call at a time on a handle.
@@ -78,6 +79,7 @@ uint32_t mscp_version(void);
 #define MSCP_SAVED_MAX 4608u  /* bytes that a controller is saved as, at most, by any library that fits */
 #define MSCP_HOST_SAVED_MAX 1024u /* the same of a host */
 #define MSCP_PORT_SAVED_MAX 7168u /* and of a port */
+#define MSCP_DRIVER_SAVED_MAX 1536u /* and of a driver's account */
 
 /* What a call answers: 0 and up what came of it, below 0 why it was refused. */
 enum mscp_status {
@@ -108,7 +110,7 @@ enum mscp_status {
     MSCP_DOUBLED = -5,      /* the reference number is outstanding */
     MSCP_NOT_BEGUN = -6,    /* mscp_finish: the command of that connection and number isn't begun, or not any more */
     MSCP_BAD_STATUS = -7,   /* mscp_finish, mscp_step: the block's is neither 0 nor one of low five bits 5 to 31 */
-    MSCP_UNREADABLE = -8,   /* mscp_host_receive: the bytes are no end */
+    MSCP_UNREADABLE = -8,   /* mscp_host_receive, mscp_read_end: the bytes are no end */
     MSCP_UNKNOWN = -9,      /* mscp_host_receive: the end of no outstanding command */
 
     MSCP_NOT_MADE = -10,    /* nothing was made in the handle's memory: init it first */
@@ -145,7 +147,7 @@ enum mscp_status {
     MSCP_BAD_SIZE = -38,         /* mscp_port_volume_came: a volume without blocks, or with more than its unit has */
 
     MSCP_SAVED_LENGTH = -40,  /* a restore: the bytes aren't as many as they say */
-    MSCP_SAVED_MAGIC = -41,   /* they don't begin with "MSCQ", "MSCH" for a host, or "MSCP" for a port */
+    MSCP_SAVED_MAGIC = -41,   /* they don't begin with "MSCQ", "MSCH" for a host, "MSCP" for a port, "MSCD" for a driver */
     MSCP_SAVED_VERSION = -42, /* they are of a version of the format that isn't known */
     MSCP_SAVED_UNITS = -43,   /* they say units that no controller has */
     MSCP_SAVED_LIMITS = -44,  /* limits that no controller has, or credits that no host has */
@@ -209,6 +211,21 @@ enum mscp_opcode {
     MSCP_COMPARE_HOST_DATA = 32,
     MSCP_READ = 33,
     MSCP_WRITE = 34
+};
+
+/* A command, by its fields. Those that its opcode doesn't have aren't looked at. */
+struct mscp_command {
+    uint32_t reference;
+    uint32_t other;     /* of ABORT and GET COMMAND STATUS: the reference number of the command that it is about */
+    uint32_t bytes;     /* of a transfer: how many, */
+    uint32_t lbn;       /* from this block on, */
+    uint32_t buffer;    /* and where in host memory: the first four bytes of its buffer descriptor */
+    uint16_t unit;
+    uint16_t modifiers;
+    uint16_t version;   /* of SET CONTROLLER CHARACTERISTICS: that of MSCP, which is 0, */
+    uint16_t flags;     /* the controller's, of which 0x80 asks for attention messages, */
+    uint16_t timeout;   /* and the host's, in seconds, or 0 for none */
+    uint8_t opcode;     /* an enum mscp_opcode, or another one that has none of these fields */
 };
 
 /* A unit. No size is 0. Its identifiers are told to the host. */
@@ -336,6 +353,25 @@ struct mscp_sent {
 struct mscp_packet {
     uint32_t length;                /* of its bytes */
     uint8_t bytes[MSCP_PACKET_MAX]; /* those behind them are what they were */
+};
+
+/* An end, by its fields. Those that its endcode doesn't have are 0. */
+struct mscp_end {
+    uint64_t id;        /* of the unit, or of SET CONTROLLER CHARACTERISTICS that of the controller */
+    uint32_t reference; /* of its command */
+    uint32_t other;     /* of ABORT and GET COMMAND STATUS: the reference number of the command that it is about */
+    uint32_t figure;    /* of GET COMMAND STATUS: that command's, in steps */
+    uint32_t moved;     /* of a transfer: bytes of its good blocks */
+    uint32_t media;     /* of GET UNIT STATUS, ONLINE and SET UNIT CHARACTERISTICS: the type of the unit's media */
+    uint32_t size;      /* of the latter two: the unit's, in blocks, */
+    uint32_t serial;    /* and its volume's serial number */
+    uint16_t unit;
+    uint16_t status;
+    uint16_t track;     /* of GET UNIT STATUS: in blocks, */
+    uint16_t group;     /* in tracks, */
+    uint16_t cylinder;  /* and in groups */
+    uint16_t timeout;   /* of SET CONTROLLER CHARACTERISTICS: the controller's, in seconds */
+    uint8_t code;       /* its endcode */
 };
 
 /* What the next step serves. */
@@ -590,6 +626,8 @@ int32_t mscp_driver_submit_at(struct mscp_driver *driver, const uint8_t *message
 int32_t mscp_driver_hear_at(struct mscp_driver *driver, struct mscp_watch *watch, const uint8_t *bytes, size_t length,
                             struct mscp_heard *heard);
 int32_t mscp_driver_outstanding_at(const struct mscp_driver *driver, struct mscp_asked *list, size_t room);
+int32_t mscp_driver_save_at(const struct mscp_driver *driver, uint8_t *bytes, size_t room, size_t *length);
+int32_t mscp_driver_restore_at(struct mscp_driver *driver, const uint8_t *bytes, size_t length);
 int32_t mscp_port_init_at(struct mscp_port *port, const struct mscp_limits *limits, const struct mscp_unit *units,
                           size_t count, uint32_t picker, const struct mscp_hardware *hardware, uint32_t credits);
 int32_t mscp_port_was_read_at(struct mscp_port *port, const uint8_t *bytes, size_t length);
@@ -603,6 +641,7 @@ int32_t mscp_port_restore_at(struct mscp_port *port, const uint8_t *bytes, size_
 int32_t mscp_run_script_at(const uint8_t *script, size_t length, uint8_t *bytes, size_t room, size_t *count,
                            uint32_t *line);
 int32_t mscp_show_packet_at(const uint8_t *word, size_t length, uint8_t *bytes, size_t room, size_t *count);
+int32_t mscp_read_end_at(const uint8_t *bytes, size_t length, struct mscp_end *end);
 
 /* ---- the controller. Each call but mscp_init and mscp_restore answers MSCP_NOT_MADE if there is none. Otherwise a
  * call that takes a connection answers MSCP_BAD_CONNECTION if its number is no enum mscp_connection, and changes
@@ -815,7 +854,22 @@ MSCP_INLINE int32_t mscp_host_restore(struct mscp_host *host, const uint8_t *byt
     return mscp_host_restore_at(host, length == 0 ? &none : bytes, length);
 }
 
-/* ---- a driver's account of a real port. Each call but mscp_driver_init answers MSCP_NOT_MADE if there is none. */
+/* ---- commands and ends, by their fields */
+
+/* The message of a command, of 12 to 32 bytes: what a controller reads in it is the command. MSCP_DONE. */
+int32_t mscp_write_command(const struct mscp_command *command, struct mscp_packet *message);
+
+/* What an end tells. MSCP_DONE; or MSCP_UNREADABLE if there aren't 12 to 64 bytes, or fewer than its endcode has, or that isn't
+ * 0x80, alone or with an enum mscp_opcode. */
+MSCP_MUST_USE
+MSCP_INLINE int32_t mscp_read_end(const uint8_t *bytes, size_t length, struct mscp_end *end)
+{
+    const uint8_t none = 0;
+    return mscp_read_end_at(length == 0 ? &none : bytes, length, end);
+}
+
+/* ---- a driver's account of a real port. Each call but mscp_driver_init and mscp_driver_restore answers MSCP_NOT_MADE if there
+ * is none. */
 
 /* As mscp_host_init, with one credit. MSCP_DONE, or a fault of the memory (-11 to -15). */
 MSCP_MUST_USE
@@ -866,6 +920,30 @@ MSCP_INLINE int32_t mscp_driver_outstanding(const struct mscp_driver *driver, st
     if (driver == NULL)
         return MSCP_NOT_MADE;
     return mscp_driver_outstanding_at(driver, room == 0 ? &none : list, room);
+}
+
+/* As many bytes as this library saves an account as, at most: no more than MSCP_DRIVER_SAVED_MAX. */
+size_t mscp_driver_save_size(void);
+
+/* All that the account keeps, as mscp_save does it of a controller. Its watch is yours: three numbers. */
+MSCP_MUST_USE
+MSCP_INLINE int32_t mscp_driver_save(const struct mscp_driver *driver, uint8_t *bytes, size_t room, size_t *length)
+{
+    uint8_t none = 0;
+    if (driver == NULL)
+        return MSCP_NOT_MADE;
+    return mscp_driver_save_at(driver, room == 0 ? &none : bytes, room, length);
+}
+
+/* Makes the account that was saved, in the handle's memory, as mscp_host_restore makes a host. This takes up to 20 KiB of
+ * the stack, and mscp_driver_save up to 3. */
+MSCP_MUST_USE
+MSCP_INLINE int32_t mscp_driver_restore(struct mscp_driver *driver, const uint8_t *bytes, size_t length)
+{
+    const uint8_t none = 0;
+    if (driver == NULL)
+        return MSCP_NO_MEMORY;
+    return mscp_driver_restore_at(driver, length == 0 ? &none : bytes, length);
 }
 
 /* ---- a port over a controller of its own. Each call but mscp_port_init and mscp_port_restore answers MSCP_NOT_MADE if

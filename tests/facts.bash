@@ -8,7 +8,7 @@ laid_out() {
 }
 
 # The number that a name has in specs/Saved.antt of a crate.
-sized() { sed -nE "s/^$2 = ([0-9]+)$/\1/p" "crates/$1/specs/Saved.antt"; }
+sized() { sed -nE "s/^$2 = ([0-9]+)$/\1/p" "crates/$1/specs/"{,Port}Saved.antt 2>/dev/null; }
 
 places_of_saved_bytes_add_up() {
     local part name crate size
@@ -21,6 +21,8 @@ A controller,A waiting command,mscp_saved,waiting_size
 A controller,An end,mscp_saved,end_size
 A host,The head,mscp_host,head_size
 A host,A submission,mscp_host,submission_size
+A port's host,The head,mscp_host,port_head_size
+A port's host,A command,mscp_host,size_size
 A port,The head,mscp_port,head_size
 A port,A volume,mscp_port,volume_size
 A port,What is kept of a command,mscp_port,buffer_size
@@ -150,8 +152,10 @@ numbers_are_those_of_the_sources() {
 MSCP_SAVED_MAX|docs/C.md docs/SAVED.md
 MSCP_HOST_SAVED_MAX|docs/C.md docs/SAVED.md
 MSCP_PORT_SAVED_MAX|docs/C.md docs/SAVED.md
+MSCP_DRIVER_SAVED_MAX|docs/C.md docs/SAVED.md
 crates/mscp_saved/src/fields.rt:const ROOM: usize = [0-9]+|docs/SAVED.md crates/mscp_saved/README.md
 crates/mscp_host/src/saving.rt:const ROOM: usize = [0-9]+|docs/SAVED.md crates/mscp_host/README.md
+crates/mscp_host/src/port_saving.rt:const PORT_HOST_ROOM: usize = [0-9]+|docs/SAVED.md crates/mscp_host/README.md
 crates/mscp_port/src/port/saving.rt:const ROOM: usize = [0-9]+|docs/SAVED.md crates/mscp_port/README.md
 MSCP_SIZE|docs/SPEED.md
 MSCP_HOST_SIZE|docs/SPEED.md

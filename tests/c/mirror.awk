@@ -9,7 +9,7 @@
 BEGIN {
     split("SentOut sent PacketOut packet UpcomingOut upcoming ReportOut report FigureOut waiting HolderOut holder " \
         "NewsOut news Limits limits UnitIn unit HardwareIn hardware ActionOut action StateOut state VolumeOut volume " \
-        "MediumIn medium HeardOut heard Asked asked Watch watch", words, " ")
+        "MediumIn medium HeardOut heard Asked asked Watch watch CommandIn command EndOut end", words, " ")
     for (i = 1; i in words; i += 2)
         name_of[words[i]] = "mscp_" words[i + 1]
     split("u8 uint8_t u16 uint16_t u32 uint32_t u64 uint64_t usize size_t i32 int32_t i64 int64_t", words, " ")

@@ -10,6 +10,7 @@
 #define mscp_driver_submit_at driver_submit_seen
 #define mscp_driver_hear_at driver_hear_seen
 #define mscp_driver_outstanding_at driver_outstanding_seen
+#define mscp_read_end_at read_end_seen
 #define mscp_port_init_at port_init_seen
 #define mscp_port_was_read_at was_read_seen
 #define mscp_port_look_at port_look_seen
@@ -75,6 +76,11 @@ int32_t driver_outstanding_seen(const struct mscp_driver *driver, struct mscp_as
     return driver != NULL ? see(list, room) : 0;
 }
 
+int32_t read_end_seen(const uint8_t *bytes, size_t length, struct mscp_end *end)
+{
+    return end != NULL ? see(bytes, length) : 0;
+}
+
 int32_t port_init_seen(struct mscp_port *port, const struct mscp_limits *limits, const struct mscp_unit *units,
                        size_t count, uint32_t picker, const struct mscp_hardware *hardware, uint32_t credits)
 {
@@ -131,6 +137,8 @@ static void handles(const struct mscp_limits *limits, const struct mscp_unit *un
     is("submit of a driver", mscp_driver_submit(NULL, bytes, 2), MSCP_NOT_MADE);
     is("hear", mscp_driver_hear(NULL, &(struct mscp_watch){0, 0, 0}, bytes, 2, &heard), MSCP_NOT_MADE);
     is("outstanding", mscp_driver_outstanding(NULL, NULL, 0), MSCP_NOT_MADE);
+    is("save of a driver", mscp_driver_save(NULL, bytes, 2, &count), MSCP_NOT_MADE);
+    is("restore of a driver", mscp_driver_restore(NULL, bytes, 2), MSCP_NO_MEMORY);
     is("was read", mscp_port_was_read(NULL, bytes, 2), MSCP_NOT_MADE);
     is("settings of a port", mscp_port_settings(NULL, &(struct mscp_limits){0, 0, 0, 0, 0, 0}, NULL, 0), MSCP_NOT_MADE);
     is("look into a port", mscp_port_look(NULL, NULL, 0), MSCP_NOT_MADE);
@@ -159,6 +167,7 @@ int main(void)
     static struct mscp_asked asked[2];
     struct mscp_watch watch = {0, 0, 0};
     struct mscp_heard heard;
+    struct mscp_end end;
     struct mscp_sent sent;
     struct mscp_news news;
     uint8_t bytes[2] = {0, 0}, out[2];
@@ -173,6 +182,7 @@ int main(void)
     passes("submit of a driver", mscp_driver_submit(&driver, bytes, 2), bytes, 2);
     passes("hear", mscp_driver_hear(&driver, &watch, bytes, 2, &heard), bytes, 2);
     passes("outstanding", mscp_driver_outstanding(&driver, asked, 2), asked, 2);
+    passes("read end", mscp_read_end(bytes, 2, &end), bytes, 2);
     passes("init of a port", mscp_port_init(&port, &limits, units, 2, 3, &hardware, 4), units, 2);
     passes("was read", mscp_port_was_read(&port, bytes, 2), bytes, 2);
     passes("look into a port", mscp_port_look(&port, list, 2), list, 2);
@@ -188,6 +198,7 @@ int main(void)
     passes("submit of none by a driver", mscp_driver_submit(&driver, NULL, 0), NULL, 0);
     passes("hear none", mscp_driver_hear(&driver, &watch, NULL, 0, &heard), NULL, 0);
     passes("none outstanding", mscp_driver_outstanding(&driver, NULL, 0), NULL, 0);
+    passes("read no end", mscp_read_end(NULL, 0, &end), NULL, 0);
     passes("init of a port of none", mscp_port_init(&port, &limits, NULL, 0, 3, &hardware, 4), NULL, 0);
     passes("look into a port at none", mscp_port_look(&port, NULL, 0), NULL, 0);
     passes("why of none in a port", mscp_port_why(&port, 7, 9, NULL, 0), NULL, 0);

@@ -1,20 +1,22 @@
-/* rings.c: the driver of rings.h beside a port, register accesses, messages, blocks and ticks in random order, with FLUSH,
- * DETERMINE ACCESS PATHS, volumes that come and go, and resets. The driver resets the port by itself only in the last round, in
- * which messages of the port are lost and garbled; and then, too, all that was asked for ends.
+/* rings.c: the driver of examples/driver.c beside a port, register accesses, messages, blocks and ticks in random order,
+ * with FLUSH, DETERMINE ACCESS PATHS, volumes that come and go, and resets. The driver resets the port by itself only in
+ * the last round, in which messages of the port are lost and garbled; and then, too, all that was asked for ends. Its
+ * account is saved and restored now and then.
  *     rings [STEPS [SEED]] */
-#include "../../examples/rings.h"
+#define DRIVER_PART
+#include "../../examples/driver.c"
 #include <stdio.h>
 #include <stdlib.h>
 
-enum { MEMORY = 0x10000, AREA_AT = 0x800, DATA_AT = 0x4000, UNITS = 2, BLOCKS = 2000, CREDITS = 40 };
+enum { MEMORY = 0x10000, AREA_AT = 0x800, DATA_AT = 0x4000, VOLUMES = 2, BLOCKS = 2000, CREDITS = 40, VECTOR = 0154 };
 
 static uint8_t host_memory[MEMORY];
 static MSCP_ALIGNED uint64_t port_memory[(MSCP_HEAD + MSCP_PORT_SIZE) / 8], other_memory[(MSCP_HEAD + MSCP_HOST_SIZE) / 8];
 static struct mscp_port *port;
 static struct mscp_host *other; /* what mscp_host makes of the same messages */
-static struct rings rings;
+static struct driver driver;
 static uint64_t seed = 1;
-static unsigned long served, ended, forced, came, unread, spoiled, too_many, since_tick, by_status[64];
+static unsigned long served, requests_ended, forced, came, unread, spoiled, too_many, since_tick, by_status[64];
 
 static uint32_t any(uint32_t below)
 {
@@ -70,7 +72,7 @@ static void a_while(void *context)
 static void has_ended(void *context, uint32_t tag, uint16_t status, uint32_t moved)
 {
     (void)context, (void)tag, (void)moved;
-    ended++, by_status[status % 32]++;
+    requests_ended++, by_status[status % 32]++;
 }
 static void has_come(void *context, uint16_t unit) { (void)context, (void)unit; came++; }
 
@@ -84,26 +86,25 @@ static void come(uint16_t unit)
 static void begin(uint32_t host_credits)
 {
     struct mscp_limits limits = {77, 64, CREDITS, 0, 8, 60};
-    struct mscp_unit units[UNITS];
+    struct mscp_unit units[VOLUMES];
     struct mscp_hardware hardware = {MSCP_BUS_Q, 19, 3, 1};
-    for (uint16_t i = 0; i < UNITS; i++) {
+    for (uint16_t i = 0; i < VOLUMES; i++) {
         struct mscp_unit unit = {5, BLOCKS, 7, 9, i, 10, 2, 1};
         units[i] = unit;
     }
     port = mscp_port_in_memory(port_memory, sizeof port_memory);
-    if (mscp_port_init(port, &limits, units, UNITS, MSCP_SWEEP, &hardware, host_credits) != MSCP_DONE)
+    if (mscp_port_init(port, &limits, units, VOLUMES, MSCP_SWEEP, &hardware, host_credits) != MSCP_DONE)
         fail("no port");
-    for (uint16_t i = 0; i < UNITS; i++) {
+    for (uint16_t i = 0; i < VOLUMES; i++) {
         come(i);
     }
-    struct ring_machine machine = {NULL, read_sa, write_sa, read_ip, write_ip, a_while, has_ended, has_come,
-                                   host_memory + AREA_AT, AREA_AT};
-    memset(&rings, 0, sizeof rings);
-    rings.machine = machine;
-    rings.ticks_a_second = 1;
-    if (!ring_reset(&rings, "the beginning"))
+    struct machine machine = {NULL,      read_sa,  write_sa,              read_ip, write_ip, a_while,
+                              has_ended, has_come, host_memory + AREA_AT, AREA_AT, VECTOR,   1};
+    memset(&driver, 0, sizeof driver);
+    driver.machine = machine;
+    if (!driver_reset(&driver, "the beginning"))
         fail("the port doesn't begin");
-    rings.resets = 0;
+    driver.resets = 0;
 }
 
 static void ask_any(void)
@@ -111,33 +112,47 @@ static void ask_any(void)
     static const uint8_t OPCODES[] = {19, 11, MSCP_ONLINE, MSCP_ONLINE, MSCP_GET_UNIT_STATUS, MSCP_AVAILABLE, MSCP_READ, MSCP_READ,
                                       MSCP_WRITE, MSCP_WRITE, MSCP_ACCESS, MSCP_ERASE, MSCP_COMPARE_HOST_DATA};
     uint8_t opcode = OPCODES[any(sizeof OPCODES)];
-    ring_ask(&rings, opcode, (uint16_t)any(UNITS), 512 * any(5), any(BLOCKS), DATA_AT, any(1000));
+    struct mscp_command command = {.opcode = opcode, .unit = (uint16_t)any(VOLUMES), .bytes = 512 * any(5), .lbn = any(BLOCKS),
+                                   .buffer = DATA_AT};
+    driver_ask(&driver, &command, any(1000));
 }
 
 /* What mscp_host would make of the next message. */
 static void hear_by_the_other(void)
 {
     struct mscp_news news;
-    const uint8_t *bytes = host_memory + AREA_AT + ring_buffer(false, rings.next_response);
-    if (ring_number(ring_descriptor(&rings, false, rings.next_response), 4) & PORTS_OWN)
+    const uint8_t *bytes = host_memory + AREA_AT + buffer_of(false, driver.next_response);
+    if (number_at(descriptor(&driver, false, driver.next_response)) & PORTS_OWN)
         return;
-    if (mscp_host_receive(other, bytes + 4, ring_number(bytes, 2), &news) == MSCP_UNREADABLE)
+    if (mscp_host_receive(other, bytes + 4, (size_t)(bytes[0] | bytes[1] << 8), &news) == MSCP_UNREADABLE)
         unread++;
 }
 
 /* The next message of the port is lost, or a bit of it is turned. */
 static void spoil(void)
 {
-    unsigned slot = rings.next_response;
-    if (ring_number(ring_descriptor(&rings, false, slot), 4) & PORTS_OWN)
+    unsigned slot = driver.next_response;
+    if (number_at(descriptor(&driver, false, slot)) & PORTS_OWN)
         return;
     spoiled++;
     if (any(2) == 0) {
-        host_memory[AREA_AT + ring_buffer(false, slot) + any(BUFFER)] ^= (uint8_t)(1u << any(8));
+        host_memory[AREA_AT + buffer_of(false, slot) + any(BUFFER)] ^= (uint8_t)(1u << any(8));
     } else {
-        ring_give(&rings, false, slot, PORTS_OWN);
-        rings.next_response = (slot + 1) % RING_SLOTS;
+        give(&driver, false, slot, PORTS_OWN | INTERRUPTS);
+        driver.next_response = (slot + 1) % SLOTS;
     }
+}
+
+/* The driver goes on with an account that is made of the bytes of its own. */
+static void go_on_as_saved(void)
+{
+    static uint8_t bytes[MSCP_DRIVER_SAVED_MAX];
+    size_t length;
+    if (mscp_driver_save(driver.account, bytes, sizeof bytes, &length) != MSCP_DONE)
+        fail("an account isn't saved");
+    driver.account = mscp_driver_in_memory(driver.memory, sizeof driver.memory);
+    if (mscp_driver_restore(driver.account, bytes, length) != MSCP_DONE)
+        fail("an account isn't restored");
 }
 
 static void step(unsigned long number, bool spoils)
@@ -148,12 +163,12 @@ static void step(unsigned long number, bool spoils)
         hear_by_the_other();
         if (spoils && any(100) == 0)
             spoil();
-        if (!ring_heed(&rings))
+        if (!driver_heed(&driver))
             fail("the port is broken");
         break;
     case 7:
         if (any(40) == 0) {
-            uint16_t unit = (uint16_t)any(UNITS);
+            uint16_t unit = (uint16_t)any(VOLUMES);
             if (any(2) == 0)
                 come(unit);
             else if (mscp_port_volume_went(port, unit) != MSCP_DONE)
@@ -163,27 +178,29 @@ static void step(unsigned long number, bool spoils)
     case 8:
         if (any(3000) == 0) {
             forced++;
-            if (!ring_reset(&rings, "by chance"))
+            if (!driver_reset(&driver, "by chance"))
                 fail("the port doesn't begin again");
         }
         break;
     default: act(any(3) != 0); break;
     }
+    if (any(50) == 0)
+        go_on_as_saved();
     if (number % 60 == 59) { /* a step lies between two ticks, if a command waits */
         for (unsigned i = 0; i < 100 && since_tick == 0; i++)
             act(true);
         since_tick = 0;
-        if (!ring_tick(&rings))
+        if (!driver_tick(&driver))
             fail("the port is broken");
     }
-    if (mscp_driver_credits(rings.account) > CREDITS)
+    if (mscp_driver_credits(driver.account) > CREDITS)
         too_many++;
 }
 
 static bool is_all_ended(void)
 {
-    for (unsigned i = 0; i < RING_REQUESTS; i++)
-        if (rings.requests[i].state != RING_FREE)
+    for (unsigned i = 0; i < REQUESTS; i++)
+        if (driver.requests[i].state != FREE)
             return false;
     return true;
 }
@@ -201,27 +218,28 @@ int main(int words, char **word)
         if (mscp_host_init(other, 64) != MSCP_DONE)
             fail("no host");
         begin(credits[round]);
-        served = ended = forced = came = unread = 0;
+        served = requests_ended = forced = came = unread = 0;
         memset(by_status, 0, sizeof by_status);
         for (unsigned long number = 0; number < steps / 3; number++)
             step(number, spoils);
-        printf("%u credits: %lu blocks, %lu ended, %lu came, %u resets, %lu by chance, unread by mscp_host %lu, spoiled %lu; the last reset: %s\n",
-               (unsigned)credits[round], served, ended, came, rings.resets, forced, unread, spoiled,
-               rings.why);
-        if (!spoils && (rings.resets != forced || too_many != 0))
+        printf("%u credits: %lu blocks, %lu ended, %lu came, %u resets, %lu by chance, unread by mscp_host %lu, "
+               "spoiled %lu; the last reset: %s\n",
+               (unsigned)credits[round], served, requests_ended, came, driver.resets, forced, unread, spoiled,
+               driver.why);
+        if (!spoils && (driver.resets != forced || too_many != 0))
             fail("a reset that nobody forced");
-        if (ended == 0 || served == 0 || (spoils && (spoiled == 0 || rings.resets == forced)))
+        if (requests_ended == 0 || served == 0 || (spoils && (spoiled == 0 || driver.resets == forced)))
             fail("nothing happens");
         if (unread == 0)
             fail("mscp_host reads all that a port sends");
         for (unsigned i = 0; i < 40000; i++) {
             act(true);
-            if (!ring_heed(&rings) || (i % 60 == 59 && !ring_tick(&rings)))
+            if (!driver_heed(&driver) || (i % 60 == 59 && !driver_tick(&driver)))
                 fail("the port is broken");
         }
-        if (mscp_driver_outstanding(rings.account, list, 64) != 0 || !is_all_ended())
+        if (mscp_driver_outstanding(driver.account, list, 64) != 0 || !is_all_ended())
             fail("a command never ends");
-        if (!spoils && mscp_driver_credits(rings.account) != credits[round])
+        if (!spoils && mscp_driver_credits(driver.account) != credits[round])
             fail("credits are lost");
     }
     printf("good\n");

@@ -10,7 +10,9 @@ enum {
     NOTHING, SEND, BEGIN, FINISH, STEP, TAKE, LOOK, WHY, FIGURE, BALANCE, WAITING, UNTAKEN, IS_ONLINE, SETTINGS, RESET, SUBMIT,
     POLL, RECEIVE, HOST_BALANCE, SAVE, HOST_SAVE, INIT, HOST_INIT, RESTORE, HOST_RESTORE, PORT_INIT, READ_IP, WRITE_IP, READ_SA,
     WRITE_SA, NEXT, NEXT_MESSAGE, WAS_READ, WENT, LOOK_AGAIN, TICK, VOLUME_CAME, VOLUME_WENT, PROTECT, STATE, VOLUME,
-    BEGUN, PORT_SETTINGS, PORT_LOOK, PORT_WHY, PORT_SAVE, PORT_RESTORE, RUN_SCRIPT, SHOW_PACKET, CALLS
+    BEGUN, PORT_SETTINGS, PORT_LOOK, PORT_WHY, PORT_SAVE, PORT_RESTORE, DRIVER_INIT, DRIVER_CREDITS,
+    DRIVER_SUBMIT, DRIVER_POLL, DRIVER_HEAR, DRIVER_TICK, DRIVER_OUTSTANDING, DRIVER_SAVE, DRIVER_RESTORE, WRITE_COMMAND, READ_END,
+    RUN_SCRIPT, SHOW_PACKET, CALLS
 };
 static const char *const NAMES[CALLS] = {
     "nothing", "send", "begin", "finish", "step", "take", "look", "why", "figure", "balance", "waiting", "untaken",
@@ -19,16 +21,19 @@ static const char *const NAMES[CALLS] = {
     "restore", "host_restore", "port_init", "port_read_ip", "port_write_ip", "port_read_sa", "port_write_sa", "port_next",
     "port_next_message", "port_was_read", "port_went", "port_look_again", "port_tick", "port_volume_came", "port_volume_went",
     "port_protect", "port_state", "port_volume", "port_begun", "port_settings", "port_look", "port_why", "port_save",
-    "port_restore", "run_script", "show_packet",
+    "port_restore", "driver_init", "driver_credits", "driver_submit", "driver_poll", "driver_hear", "driver_tick",
+    "driver_outstanding", "driver_save", "driver_restore", "write_command", "read_end", "run_script", "show_packet",
 };
 
 /* Aligned for anything. */
-static union { long double number; void *pointer; unsigned char bytes[1 << 15]; } room, host_room, port_room, fresh, fresh_host, fresh_port;
+static union { long double number; void *pointer; unsigned char bytes[1 << 15]; } room, host_room, port_room, driver_room, fresh,
+    fresh_host, fresh_port, fresh_driver;
 static unsigned char stack[1 << 18];
 static ucontext_t home, there;
 static struct mscp *mscp;
 static struct mscp_host *host;
 static struct mscp_port *port;
+static struct mscp_driver *driver;
 static struct mscp_action action; /* that the port wants */
 static uint8_t memory[1 << 15];   /* of its host */
 static const struct mscp_hardware HARDWARE = {MSCP_BUS_Q, 19, 3, 1};
@@ -37,8 +42,8 @@ static const struct mscp_limits LIMITS = {1, 16, 64, 0, 8, 60};
 static struct mscp_unit units[16];
 static volatile int64_t answered; /* by the last call */
 static uint8_t bytes[MSCP_SAVED_MAX], host_bytes[MSCP_HOST_SAVED_MAX]; /* as both are saved */
-static uint8_t port_bytes[MSCP_PORT_SAVED_MAX];
-static size_t saved, host_saved, port_saved;
+static uint8_t port_bytes[MSCP_PORT_SAVED_MAX], driver_bytes[MSCP_DRIVER_SAVED_MAX];
+static size_t saved, host_saved, port_saved, driver_saved;
 /* Each kind of line, and a packet. */
 static const char SCRIPT[] = "credits 4 3\nbudget 16\nlongest 8\ntimeout 60\nunit 0 10 2 1 1000\ngo\nonline 9 0\nstep 1\ntake\n"
                              "read 1 0 512 1\nsecond packet 050000000000000013000000\nstatus 2 1\nlook\nbad 0008\n"
@@ -61,6 +66,12 @@ static void run(int call)
     static struct mscp_unit its[16];
     static struct mscp_volume volume;
     static struct mscp_news news;
+    static uint8_t told[24] = {20, 0, 0, 0, 99, 0, 0, 0, 0, 0, 0, 0, 0x82, 0, 0, 0, 1, 0, 0, 0, 5};
+    static struct mscp_watch watch = {60, 0, 0};
+    static struct mscp_heard heard;
+    static struct mscp_asked asked[64];
+    static const struct mscp_command written = {.opcode = MSCP_READ};
+    static struct mscp_end its_end;
     switch (call) {
     case SEND: answered = mscp_send(mscp, MSCP_CONNECTION_FIRST, read, 32, &sent); break;
     case BEGIN: answered = mscp_begin(mscp, &upcoming); break;
@@ -114,6 +125,19 @@ static void run(int call)
     case PORT_RESTORE:
         answered = mscp_port_restore(mscp_port_in_memory(&fresh_port, sizeof fresh_port), port_bytes, port_saved);
         break;
+    case DRIVER_INIT: answered = mscp_driver_init(mscp_driver_in_memory(&fresh_driver, sizeof fresh_driver)); break;
+    case DRIVER_CREDITS: answered = mscp_driver_credits(driver); break;
+    case DRIVER_SUBMIT: answered = mscp_driver_submit(driver, read, 32); break;
+    case DRIVER_POLL: answered = mscp_driver_poll(driver, 99, &packet); break;
+    case DRIVER_HEAR: answered = mscp_driver_hear(driver, &watch, told, sizeof told, &heard); break;
+    case DRIVER_TICK: answered = mscp_driver_tick(driver, &watch); break;
+    case DRIVER_OUTSTANDING: answered = mscp_driver_outstanding(driver, asked, 64); break;
+    case DRIVER_SAVE: answered = mscp_driver_save(driver, driver_bytes, sizeof driver_bytes, &driver_saved); break;
+    case DRIVER_RESTORE:
+        answered = mscp_driver_restore(mscp_driver_in_memory(&fresh_driver, sizeof fresh_driver), driver_bytes, driver_saved);
+        break;
+    case WRITE_COMMAND: answered = mscp_write_command(&written, &packet); break;
+    case READ_END: answered = mscp_read_end(end, sizeof end, &its_end); break;
     case RUN_SCRIPT: {
         static uint32_t line;
         answered = mscp_run_script((const uint8_t *)SCRIPT, sizeof SCRIPT - 1, text, sizeof text, &saved, &line);
@@ -164,6 +188,14 @@ static void prepare(void)
     host = mscp_host_in_memory(&host_room, sizeof host_room);
     must(mscp_init(mscp, &LIMITS, units, 16, MSCP_SWEEP), MSCP_DONE);
     must(mscp_host_init(host, 64), MSCP_DONE);
+    driver = mscp_driver_in_memory(&driver_room, sizeof driver_room);
+    must(mscp_driver_init(driver), MSCP_DONE);
+    for (int i = 0; i < 5; i++) { /* each time 15 credits */
+        static const uint8_t credits[4] = {0, 0, 2 << 4 | 15, 0};
+        struct mscp_watch watch = {60, 0, 0};
+        struct mscp_heard heard;
+        must(mscp_driver_hear(driver, &watch, credits, sizeof credits, &heard), MSCP_CREDITS);
+    }
     port = mscp_port_in_memory(&port_room, sizeof port_room);
     must(mscp_port_init(port, &LIMITS, units, 16, MSCP_SWEEP, &HARDWARE, 63), MSCP_DONE);
     must(mscp_send(mscp, MSCP_CONNECTION_FIRST, message, 32, &sent), MSCP_QUEUED);
@@ -176,6 +208,7 @@ static void prepare(void)
         message[4] = i % 16;
         must(mscp_send(mscp, MSCP_CONNECTION_FIRST, message, 32, &sent), MSCP_QUEUED);
         must(mscp_host_submit(host, message, 32), MSCP_DONE);
+        must(mscp_driver_submit(driver, message, 32), MSCP_DONE);
     }
 }
 
@@ -248,9 +281,10 @@ static size_t most(int call)
 {
     switch (call) {
     case SAVE: return 12 * 1024;
-    case HOST_SAVE: case WHY: case PORT_WHY: return 3 * 1024;
+    case HOST_SAVE: case DRIVER_SAVE: case WHY: case PORT_WHY: return 3 * 1024;
     case INIT: case PORT_INIT: case RESTORE: case PORT_RESTORE: return 40 * 1024;
     case HOST_RESTORE: return 6 * 1024;
+    case DRIVER_RESTORE: return 20 * 1024;
     case PORT_SAVE: return 36 * 1024;
     case RUN_SCRIPT: return 60 * 1024;
     default: return 2 * 1024;

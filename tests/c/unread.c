@@ -7,7 +7,8 @@ void calls(struct mscp *mscp, struct mscp_host *host, const struct mscp_limits *
            struct mscp_port *port, const struct mscp_hardware *hardware, struct mscp_action *action,
            const struct mscp_medium *medium, uint32_t *line, struct mscp_limits *told, struct mscp_unit *list,
            struct mscp_waiting *waiting, struct mscp_holder *holders, struct mscp_state *state, struct mscp_volume *volume,
-           struct mscp_driver *driver, struct mscp_watch *watch, struct mscp_heard *heard, struct mscp_asked *asked);
+           struct mscp_driver *driver, struct mscp_watch *watch, struct mscp_heard *heard, struct mscp_asked *asked,
+           struct mscp_end *end);
 
 void calls(struct mscp *mscp, struct mscp_host *host, const struct mscp_limits *limits, const struct mscp_unit *units,
            const uint8_t *bytes, struct mscp_sent *sent, struct mscp_packet *packet, struct mscp_upcoming *upcoming,
@@ -15,7 +16,8 @@ void calls(struct mscp *mscp, struct mscp_host *host, const struct mscp_limits *
            struct mscp_port *port, const struct mscp_hardware *hardware, struct mscp_action *action,
            const struct mscp_medium *medium, uint32_t *line, struct mscp_limits *told, struct mscp_unit *list,
            struct mscp_waiting *waiting, struct mscp_holder *holders, struct mscp_state *state, struct mscp_volume *volume,
-           struct mscp_driver *driver, struct mscp_watch *watch, struct mscp_heard *heard, struct mscp_asked *asked)
+           struct mscp_driver *driver, struct mscp_watch *watch, struct mscp_heard *heard, struct mscp_asked *asked,
+           struct mscp_end *end)
 {
     mscp_init(mscp, limits, units, 1, MSCP_SWEEP);
     mscp_reset(mscp);
@@ -41,6 +43,9 @@ void calls(struct mscp *mscp, struct mscp_host *host, const struct mscp_limits *
     mscp_driver_hear(driver, watch, bytes, 12, heard);
     mscp_driver_tick(driver, watch);
     mscp_driver_outstanding(driver, asked, 1);
+    mscp_driver_save(driver, out, 1, length);
+    mscp_driver_restore(driver, bytes, 12);
+    mscp_read_end(bytes, 12, end);
     mscp_port_init(port, limits, units, 1, MSCP_SWEEP, hardware, 2);
     mscp_port_next(port, action);
     mscp_port_next_message(port, action);

@@ -2,12 +2,12 @@
 
 use core::fmt;
 
-use crate::error::{checked, Error};
+use crate::error::{checked, never_refused, Error};
 use crate::held::Held;
 use crate::host::Poll;
 use crate::raw::{self, status};
 use crate::values::packet;
-use crate::List;
+use crate::{List, DRIVER_SAVED_MAX};
 
 /// A driver's account of a real port: the credits that the port tells, the commands whose ends weren't heard, its polls, and
 /// the ticks between them.
@@ -191,6 +191,29 @@ impl Driver {
             let raw::Asked { reference, unit, opcode, bytes } = it;
             Asked { reference, unit, opcode, bytes }
         })
+    }
+
+    /// All that the account keeps, as bytes, but for the ticks.
+    #[must_use]
+    pub fn save(&self) -> List<u8, DRIVER_SAVED_MAX> {
+        let (mut bytes, mut length) = ([0; DRIVER_SAVED_MAX], 0);
+        let handle = self.held.fixed();
+        // SAFETY: the handle is that of an account that was made, and the call keeps it; the bytes are that room.
+        let status = unsafe { raw::mscp_driver_save_at(&handle, bytes.as_mut_ptr(), bytes.len(), &mut length) };
+        never_refused(status);
+        List::new(bytes, length)
+    }
+
+    /// The account that was saved, for a controller whose timeout has so many ticks, which are counted anew.
+    ///
+    /// # Errors
+    /// The first fault of the bytes.
+    pub fn restore(bytes: &[u8], timeout: u32) -> Result<Self, Error> {
+        let watch = raw::Watch { timeout, ..raw::Watch::ZERO };
+        let mut it = Self { held: Held::room(raw::DRIVER_ROOM), watch };
+        // SAFETY: the handle is that of memory of ours, in which nothing was made; there are so many bytes.
+        checked(unsafe { raw::mscp_driver_restore_at(it.held.handle(), bytes.as_ptr(), bytes.len()) })?;
+        Ok(it)
     }
 }
 

@@ -14,6 +14,7 @@ mod error;
 mod held;
 mod host;
 mod list;
+mod message;
 mod port;
 pub mod raw;
 mod values;
@@ -25,6 +26,7 @@ pub use driver::{Advice, Asked, Driver, Ended, Heard};
 pub use error::Error;
 pub use host::{Host, News, Poll};
 pub use list::{List, Packet};
+pub use message::{Body, Command, End, Order, Transfer};
 pub use port::Port;
 pub use values::{
     BusKind, Connection, Holder, Limits, Opcode, Picker, Report, Sent, Settings, Unit, Upcoming, Waiting,
@@ -52,6 +54,8 @@ pub const SAVED_MAX: usize = 4608;
 pub const HOST_SAVED_MAX: usize = 1024;
 /// Bytes that a port is saved as, at most, by any library that fits.
 pub const PORT_SAVED_MAX: usize = 7168;
+/// Bytes that a driver's account is saved as, at most, by any library that fits.
+pub const DRIVER_SAVED_MAX: usize = 1536;
 
 /// Whether a library of this version fits: its first number is that of [`VERSION`]. If it doesn't, whatever makes a controller,
 /// a host or a port answers [`Error::NoHandle`].

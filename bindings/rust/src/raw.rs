@@ -108,6 +108,14 @@ structs! {
     }
     Asked { reference: u32, unit: u16, opcode: u8, bytes: u32, }
     Watch { timeout: u32, waited: u32, silent: u32, }
+    Command {
+        reference: u32, other: u32, bytes: u32, lbn: u32, buffer: u32, unit: u16, modifiers: u16, version: u16, flags: u16,
+        timeout: u16, opcode: u8,
+    }
+    End {
+        id: u64, reference: u32, other: u32, figure: u32, moved: u32, media: u32, size: u32, serial: u32, unit: u16,
+        status: u16, track: u16, group: u16, cylinder: u16, timeout: u16, code: u8,
+    }
     Action { address: u32, count: u32, block: u32, unit: u16, vector: u16, kind: u8, opcode: u8, bytes: [u8; 64], }
     State { word: u16, stage: u8, is_held_back: u8, }
     Volume {
@@ -167,6 +175,12 @@ extern "C" {
     ) -> i32;
     pub fn mscp_driver_tick(d: *const Handle, watch: *mut Watch) -> i32;
     pub fn mscp_driver_outstanding_at(d: *const Handle, list: *mut Asked, room: usize) -> i32;
+    pub fn mscp_driver_save_size() -> usize;
+    pub fn mscp_driver_save_at(d: *const Handle, bytes: *mut u8, room: usize, length: *mut usize) -> i32;
+    pub fn mscp_driver_restore_at(d: *mut Handle, bytes: *const u8, length: usize) -> i32;
+
+    pub fn mscp_write_command(command: *const Command, message: *mut Packet) -> i32;
+    pub fn mscp_read_end_at(bytes: *const u8, length: usize, end: *mut End) -> i32;
 
     pub fn mscp_port_init_at(
         p: *mut Handle,

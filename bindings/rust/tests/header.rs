@@ -135,6 +135,7 @@ fn numbers_are_those_of_c() {
         ("SAVED_MAX", mscp::SAVED_MAX),
         ("HOST_SAVED_MAX", mscp::HOST_SAVED_MAX),
         ("PORT_SAVED_MAX", mscp::PORT_SAVED_MAX),
+        ("DRIVER_SAVED_MAX", mscp::DRIVER_SAVED_MAX),
         ("SIZE", raw::SIZE),
         ("HOST_SIZE", raw::HOST_SIZE),
         ("PORT_SIZE", raw::PORT_SIZE),
@@ -166,6 +167,8 @@ fn library_is_of_this_version() {
         assert!(raw::mscp_save_size() <= mscp::SAVED_MAX);
         assert!(raw::mscp_host_save_size() <= mscp::HOST_SAVED_MAX);
         assert!(raw::mscp_port_save_size() <= mscp::PORT_SAVED_MAX);
+        assert!(raw::mscp_driver_size() <= raw::DRIVER_SIZE && raw::mscp_driver_align() <= align_of::<raw::Handle>());
+        assert!(raw::mscp_driver_save_size() <= mscp::DRIVER_SAVED_MAX);
     }
 }
 
@@ -205,6 +208,13 @@ fn structs_are_those_of_c() {
         Waiting "mscp_waiting" { reference figure connection }
         Holder "mscp_holder" { reference connection fences overdrawn }
         News "mscp_news" { figure reference moved unit status code }
+        Heard "mscp_heard" { figure reference moved asked unit status code opcode credits }
+        Asked "mscp_asked" { reference unit opcode bytes }
+        Watch "mscp_watch" { timeout waited silent }
+        Command "mscp_command" { reference other bytes lbn buffer unit modifiers version flags timeout opcode }
+        End "mscp_end" {
+            id reference other figure moved media size serial unit status track group cylinder timeout code
+        }
         Action "mscp_action" { address count block unit vector kind opcode bytes }
         State "mscp_state" { word stage is_held_back }
         Volume "mscp_volume" { size media is_there is_protected is_protected_by_host is_online is_removable }

@@ -7,4 +7,5 @@ pub mod Ascending
 pub mod Configured
 pub mod Handled
 pub mod Reading
+pub mod Written
 pub mod Resumed

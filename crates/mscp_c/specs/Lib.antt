@@ -1,3 +1,6 @@
+pub mod CommandWritten
+pub mod DriverSaving
+pub mod EndRead
 pub mod Given
 pub mod HandleCalls
 pub mod HostSaving

@@ -1,8 +1,12 @@
-//! The calls of the C library: a controller, a host, and a port, in memory that a program in C owns.
+//! The calls of the C library: a controller, a host, a port, and a driver's account of one, in memory that a program in C owns,
+//! and messages by their fields.
 #![tactic(auto)]
 
+mod command_writing;
 mod controller_saving;
+mod driver_saving;
 mod driving;
+mod end_reading;
 mod hearing;
 mod heeding;
 mod host_saving;

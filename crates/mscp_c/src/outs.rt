@@ -18,6 +18,27 @@ pub struct PacketOut {
     pub bytes: [u8; 48],
 }
 
+/// An end, by its fields: those that its endcode doesn't have are 0.
+#[repr(C)]
+#[derive(Clone, Copy)]
+pub struct EndOut {
+    pub id: u64,
+    pub reference: u32,
+    pub other: u32,
+    pub figure: u32,
+    pub moved: u32,
+    pub media: u32,
+    pub size: u32,
+    pub serial: u32,
+    pub unit: u16,
+    pub status: u16,
+    pub track: u16,
+    pub group: u16,
+    pub cylinder: u16,
+    pub timeout: u16,
+    pub code: u8,
+}
+
 /// What the next step serves.
 #[repr(C)]
 #[derive(Clone, Copy)]

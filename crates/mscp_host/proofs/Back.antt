@@ -39,7 +39,7 @@ submissions_long : (xs : List Submission) → length (flat_map submission_bytes 
 submissions_long [] = let e : 0 ≡ 12 * 0 = omega arith in e
 submissions_long (s ∷ xs) = search (arith, submissions_long xs, told_long, length-append)
 
-saved_long : (a : Account) → length (saved_bytes a) ≡ 26 + 12 * length a.outstanding
+pub saved_long : (a : Account) → length (saved_bytes a) ≡ 26 + 12 * length a.outstanding
 saved_long a = search (arith, submissions_long, length-append)
 
 pub head_back : (a : Account) → 2 ≤ a.credits → a.credits ≤ 64 → length a.outstanding ≤ a.credits

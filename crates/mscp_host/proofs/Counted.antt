@@ -16,8 +16,9 @@ use Rattle.mscp_host.specs.declared.message.HearFault.{HearFault}
 use Rattle.mscp_host.specs.declared.message.Message.{Message}
 use Rattle.mscp_host.specs.declared.message.Message.TheVariants as messages
 use Rattle.mscp_host.specs.PortAccounts.{PortAccount, asked_of, attention_of, credit_fault, end_says, ended, ended_of, ends_of, granted, heard_of, is_of, is_to_poll, news_said, noted, noted_poll, polled_with, submitted_with, submits_unless_faulty, without_by}
-use Rattle.mscp_host.specs.PortHistories.{Ask, Hear, Other, PortAnswered, PortAnswers, PortHistory, PortMoment, Submit, ended_in, ends_in, sent_in, told_in}
+use Rattle.mscp_host.specs.PortHistories.{Ask, Hear, Other, Resume, PortAnswered, PortAnswers, PortHistory, PortMoment, Submit, ended_in, ends_in, sent_in, told_in}
 use Rattle.mscp_host.specs.PortLaw.{PortHostsKeepCount}
+use Rattle.mscp_host.proofs.PortBack.{resumed}
 
 -- what one moment changes
 pub record Counts (old : PortAccount) (m : PortMoment) (new : PortAccount) : Type 0 where
@@ -231,6 +232,7 @@ counts : (old : PortAccount) (m : PortMoment) (new : PortAccount) → PortAnswer
 counts old (Submit command answer) new e = submit_counts old command answer new _ refl e
 counts old (Ask n answer) new e = poll_counts old n answer new _ refl e
 counts old (Hear v b answer) new e = hear_counts old v b answer new _ e
+counts old (Resume b) new e = quiet old (Resume b) new (resumed old new b e) refl refl refl
 counts old Other new e = quiet old Other new e refl refl refl
 
 -- ---- all of them

@@ -2,12 +2,14 @@ pub mod Common
 pub mod Places
 pub mod Removed
 pub mod Ported
+pub mod Back
+pub mod PortBack
+pub mod PortHeads
 pub mod Counted
 pub mod Patient
 pub mod Moments
 pub mod Seen
 pub mod Hearing
-pub mod Back
 pub mod Heads
 pub mod Apart
 pub mod Told

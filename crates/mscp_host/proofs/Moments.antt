@@ -15,7 +15,8 @@ use Rattle.mscp_host.specs.declared.news.HostFault.TheVariants as refusals
 use Rattle.mscp_host.specs.declared.message.HearFault.TheVariants as faults
 use Rattle.mscp_host.specs.declared.heard.Heard.TheVariants as heards
 use Rattle.mscp_host.specs.PortAccounts.{PortAccount, as_read, asked_of, attention_of, end_says, ended, ends_of, granted, heard_of, is_of, may_be_of, news_said, noted_poll, polled_with, submitted_with, submits_unless_faulty, without_by}
-use Rattle.mscp_host.specs.PortHistories.{Ask, Hear, Other, PortAnswers, PortMoment, Submit, news_in, seen, seen_message}
+use Rattle.mscp_host.proofs.PortBack.{resumed}
+use Rattle.mscp_host.specs.PortHistories.{Ask, Hear, Other, Resume, PortAnswers, PortMoment, Submit, news_in, seen, seen_message}
 
 -- nothing of its own
 pub record IsQuiet (old : PortAccount) (m : PortMoment) (new : PortAccount) : Type 0 where
@@ -227,4 +228,5 @@ pub kind : (old : PortAccount) (m : PortMoment) (new : PortAccount) → PortAnsw
 kind old (Submit command answer) new e = submit_kind old command answer new _ e
 kind old (Ask n answer) new e = poll_kind old n answer new _ e
 kind old (Hear v b answer) new e = hear_kind old v b answer new _ refl e
+kind old (Resume b) new e = same old (Resume b) new refl (resumed old new b e)
 kind old Other new e = same old Other new refl e

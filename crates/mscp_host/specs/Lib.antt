@@ -10,6 +10,8 @@ pub mod Common
 pub mod Messages
 pub mod PortAccounts
 pub mod Ported
+pub mod PortSaved
+pub mod PortRestored
 pub mod PortHistories
 pub mod PortLaw
 pub mod Watching

@@ -19,23 +19,33 @@ use Rattle.mscp_host.specs.Histories as hosts
 use Rattle.mscp_host.specs.Histories.{History, Moment, moment, opcode_in, reference_in, unit_named}
 use Rattle.mscp_host.specs.Messages.{message_in}
 use Rattle.mscp_host.specs.PortAccounts.{PortAccount, as_read, bytes_of, hears, port_polls, port_submits}
+use Rattle.mscp_host.specs.PortRestored.{port_restored}
+use Rattle.mscp_host.specs.PortSaved.{port_saved_bytes}
 
--- a call and its answer; or something in which the host has no part
+-- a call and its answer; a host that was saved as these bytes, and goes on as the one that was made of them; or
+-- something in which the host has no part
 pub data PortMoment : Type 0 where
   Submit : Command → Result (ArrayVec ℕ) HostFault → PortMoment
   Ask : ℕ → Result Poll HostFault → PortMoment
   Hear : Envelope → List ℕ → Result Heard HearFault → PortMoment
+  Resume : List ℕ → PortMoment
   Other : PortMoment
 
 -- oldest first
 abbrev pub PortHistory : Type 0
 PortHistory = List PortMoment
 
+-- what a save tells of a host
+pub record IsSavedAs (p : PortAccount) (b : List ℕ) : Type 0 where
+  pub bytes : b ≡ port_saved_bytes p
+  pub back : port_restored b ≡ Ok p
+
 -- the answer is that of the call, and what is kept then
 abbrev pub PortAnswers : PortAccount → PortMoment → PortAccount → Type 0
 PortAnswers old (Submit command answer) new = port_submits old command ≡ (answer, new)
 PortAnswers old (Ask reference answer) new = port_polls old reference ≡ (answer, new)
 PortAnswers old (Hear v b answer) new = hears old v b ≡ (answer, new)
+PortAnswers old (Resume b) new = IsSavedAs old b × (port_restored b ≡ Ok new)
 PortAnswers old Other new = new ≡ old
 
 -- one after the other

@@ -27,7 +27,8 @@ pub record PortKeepsHistory (h : PortHistory) (new : PortAccount) : Type 0 where
   pub host : KeepsHistory 64 (map seen h) new.account
   pub asked : new.asked ≡ map (asked_at (map seen h)) (outstanding (map seen h) (length h))
 
--- every list of calls, from a new host on and with the answers of their contracts, whatever the port sent
+-- every list of calls, from a new host on and with the answers of their contracts, whatever the port sent, and however
+-- often the host was saved and restored
 abbrev pub PortHostsKeepTheirHistory : Type 0
 PortHostsKeepTheirHistory =
     (h : PortHistory) (new : PortAccount) → PortAnswered fresh_of_port h new → PortKeepsHistory h new

@@ -12,6 +12,8 @@ mod outstanding;
 mod polling;
 mod port_host;
 mod port_law;
+mod port_restoring;
+mod port_saving;
 mod restoring;
 mod saving;
 mod submission;
@@ -29,6 +31,7 @@ pub use crate::port_host::PortHost;
 pub use crate::port_law::{
     port_hosts_keep_count, port_hosts_keep_their_history, watches_are_patient,
 };
+pub use crate::port_saving::PORT_HOST_ROOM;
 pub use crate::restoring::RestoreFault;
 pub use crate::saving::ROOM;
 pub use crate::submission::Submission;

@@ -23,10 +23,10 @@ const MOST: u32 = 64;
 /// flight. It takes no memory beside its own.
 #[derive(Drop)]
 pub struct PortHost {
-    host: Host,
-    asked: ArrayVec<Asked, 64>,
-    credits: u16,
-    is_over: bool,
+    pub(crate) host: Host,
+    pub(crate) asked: ArrayVec<Asked, 64>,
+    pub(crate) credits: u16,
+    pub(crate) is_over: bool,
 }
 
 // A clause sees what a host of 64 credits keeps, what is outstanding in the order of sending, the credits that are free,

@@ -17,7 +17,7 @@ pub fn watches_are_patient()
     ensures { WatchesArePatient }
 {}
 
-/// Of every host of a port from its beginning on, whatever the port sends: what it keeps and says is what
+/// Of every host of a port from its beginning on, whatever the port sends and however often it is saved and restored: what it keeps and says is what
 /// `hosts_keep_their_history` promises of a host of 64 credits that sent the same and heard the same ends; and it lists the
 /// commands whose ends it hasn't heard, in the order in which they were sent, each with the bytes that it asks for.
 pub fn port_hosts_keep_their_history()

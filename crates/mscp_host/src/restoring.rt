@@ -180,6 +180,7 @@ fn host_in(b: &[u8], outstanding: ArrayVec<Submission, 64>, watch: Option<Watch>
 impl Host {
     /// The host that bytes say, if they are the bytes that it is saved as, or why they aren't. What it heard before is
     /// nobody's to say but theirs who saved it; it is a host whatever the bytes were.
+    #[inline(always)]
     pub fn restore(b: &[u8]) -> Result<Host, RestoreFault>
         ensures value { result ≡ restored b.now }
         ensures only { IfOk result (λ host. saved_bytes host ≡ b.now) }
