@@ -14,15 +14,11 @@
 
 enum { DRIVE_ERROR = 0x000B };
 
-/* The memory for a port that isn't made yet. */
-static struct mscp_port *make_room(struct port *port, const struct port_bus *bus, uint8_t lines, uint64_t serial)
+/* Nothing is moved ahead, and no block takes its time. */
+static void forget_blocks(struct port *port)
 {
-    port->bus = *bus;
-    port->lines = lines;
     port->ahead.count = 0;
     port->slow = PORT_IDLE;
-    port->serial = serial;
-    return mscp_port_in_memory(port->memory, sizeof port->memory);
 }
 
 /* One credit more than the host has is for commands that are answered at once. */
@@ -36,12 +32,20 @@ int32_t port_open(struct port *port, const struct port_bus *bus, const struct ms
         .longest = 65536,
         .timeout = 120,
     };
-    return mscp_port_init(make_room(port, bus, hardware->bus, 0), &limits, units, count, MSCP_SWEEP, hardware, PORT_COMMANDS);
+    port->bus = *bus;
+    port->lines = hardware->bus;
+    port->serial = 0;
+    forget_blocks(port);
+    return mscp_port_init(mscp_port_in_memory(port->memory, sizeof port->memory), &limits, units, count, MSCP_SWEEP, hardware,
+                          PORT_COMMANDS);
 }
 
-int32_t port_restore(struct port *port, const struct port *running, const uint8_t *bytes, size_t length)
+int32_t port_restore(struct port *port, const uint8_t *bytes, size_t length)
 {
-    return mscp_port_restore(make_room(port, &running->bus, running->lines, running->serial), bytes, length);
+    int32_t status = mscp_port_restore(port_itself(port), bytes, length);
+    if (status == MSCP_DONE)
+        forget_blocks(port);
+    return status;
 }
 
 /* Its handle has a pointer to what lies behind it, which is set anew: the port may have been copied. */

@@ -114,7 +114,7 @@ enum mscp_status {
     MSCP_UNKNOWN = -9,      /* mscp_host_receive: the end of no outstanding command */
 
     MSCP_NOT_MADE = -10,    /* nothing was made in the handle's memory: init it first */
-    MSCP_MADE = -11,        /* an init, if something is made: reset a controller, give all else a new handle */
+    MSCP_MADE = -11,        /* an init, if something is made: reset a controller, restore, or take a new handle */
     MSCP_NO_HANDLE = -12,   /* an init of what is no handle, or of one by the header of another version */
     MSCP_NO_MEMORY = -13,   /* an init: the handle or its memory is NULL */
     MSCP_MISALIGNED = -14,  /* an init: its address isn't a multiple of the alignment */
@@ -772,10 +772,11 @@ MSCP_INLINE int32_t mscp_save(const struct mscp *mscp, uint8_t *bytes, size_t ro
     return mscp_save_at(mscp, room == 0 ? &none : bytes, room, length);
 }
 
-/* Makes the controller that was saved, in the handle's memory: whatever is called then answers as if it had been called
- * there. MSCP_DONE, or the first fault of those of the memory (-11 to -15) and those of the bytes (-40 to -54). Bytes
- * of a stranger make a controller with which every call is safe, or none. Only whoever saved a controller knows what
- * came to it before. This takes up to 40 KiB of the stack, and mscp_save up to 12. */
+/* Makes the controller that was saved, in the handle's memory, in place of the one that is made there, if one is: whatever is
+ * called then answers as if it had been called there. MSCP_DONE, or the first fault of those of the memory (-12 to -15)
+ * and those of the bytes (-40 to -54): then the one that is made there goes on. Bytes of a stranger make a controller with
+ * which every call is safe, or none. Only whoever saved a controller knows what came to it before. This takes up to 40 KiB
+ * of the stack, and mscp_save up to 12. */
 MSCP_MUST_USE
 MSCP_INLINE int32_t mscp_restore(struct mscp *mscp, const uint8_t *bytes, size_t length)
 {
@@ -842,9 +843,9 @@ MSCP_INLINE int32_t mscp_host_save(const struct mscp_host *host, uint8_t *bytes,
     return mscp_host_save_at(host, room == 0 ? &none : bytes, room, length);
 }
 
-/* Makes the host that was saved, in the handle's memory. MSCP_DONE, or the first fault of those of the memory (-11 to
- * -15) and MSCP_SAVED_LENGTH, _MAGIC, _VERSION, _LIMITS, _CREDITS, _DOUBLED, _POLL and _FORM. This takes up to 6 KiB
- * of the stack, and mscp_host_save up to 3. */
+/* Makes the host that was saved, as mscp_restore makes a controller. MSCP_DONE, or the first fault of those of the memory
+ * (-12 to -15) and MSCP_SAVED_LENGTH, _MAGIC, _VERSION, _LIMITS, _CREDITS, _DOUBLED, _POLL and _FORM. This takes up to
+ * 6 KiB of the stack, and mscp_host_save up to 3. */
 MSCP_MUST_USE
 MSCP_INLINE int32_t mscp_host_restore(struct mscp_host *host, const uint8_t *bytes, size_t length)
 {
@@ -1087,9 +1088,9 @@ MSCP_INLINE int32_t mscp_port_save(const struct mscp_port *port, uint8_t *bytes,
     return mscp_port_save_at(port, room == 0 ? &none : bytes, room, length);
 }
 
-/* Makes the port that was saved, in the handle's memory: it goes on as it would have there. MSCP_DONE, or the first fault
- * of those of the memory (-11 to -15) and those of the bytes (-40 to -54 and MSCP_SAVED_SIZE), which may be those of its
- * controller's. Bytes of a stranger make a port with which every call is safe, and which moves only blocks that its units
+/* Makes the port that was saved, as mscp_restore makes a controller: it goes on as it would have there. MSCP_DONE, or the
+ * first fault of those of the memory (-12 to -15) and those of the bytes (-40 to -54 and MSCP_SAVED_SIZE), which may be those
+ * of its controller's. Bytes of a stranger make a port with which every call is safe, and which moves only blocks that its units
  * have, or none. This takes up to 40 KiB of the stack, and mscp_port_save up to 36. */
 MSCP_MUST_USE
 MSCP_INLINE int32_t mscp_port_restore(struct mscp_port *port, const uint8_t *bytes, size_t length)

@@ -118,10 +118,28 @@ static void edits(void)
         is("bytes too few", restored(POLLED, length), MSCP_SAVED_LENGTH);
 }
 
+/* Over the account that is made: bytes at fault leave it as it is, and good ones are in its place. */
+static void in_place(void)
+{
+    static MSCP_ALIGNED uint64_t room[(MSCP_HEAD + MSCP_DRIVER_SIZE) / sizeof(uint64_t)];
+    uint8_t before[MSCP_DRIVER_SAVED_MAX], after[MSCP_DRIVER_SAVED_MAX];
+    struct mscp_driver *driver = mscp_driver_in_memory(room, sizeof room);
+    size_t held, length;
+    is("an account", mscp_driver_init(driver), MSCP_DONE);
+    is("which is saved", mscp_driver_save(driver, before, sizeof before, &held), MSCP_DONE);
+    is("a byte too few", mscp_driver_restore(driver, POLLED, LENGTH - 1), MSCP_SAVED_LENGTH);
+    is("saved again", mscp_driver_save(driver, after, sizeof after, &length), MSCP_DONE);
+    is("it goes on", length == held && memcmp(before, after, held) == 0, 1);
+    is("good bytes", mscp_driver_restore(driver, POLLED, LENGTH), MSCP_DONE);
+    is("saved once more", mscp_driver_save(driver, after, sizeof after, &length), MSCP_DONE);
+    is("that one goes on", length == LENGTH && memcmp(after, POLLED, LENGTH) == 0, 1);
+}
+
 int main(void)
 {
     is("most of it", mscp_driver_save_size() <= MSCP_DRIVER_SAVED_MAX, 1);
     goes_on();
     edits();
+    in_place();
     return wrong;
 }

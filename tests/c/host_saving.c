@@ -143,6 +143,23 @@ static void edits(void)
     is("no bytes", restored(NULL, 0), MSCP_SAVED_LENGTH);
 }
 
+/* Over the host that is made: bytes at fault leave it as it is, and good ones are in its place. */
+static void in_place(void)
+{
+    static MSCP_ALIGNED uint64_t room[(MSCP_HEAD + MSCP_HOST_SIZE) / sizeof(uint64_t)];
+    uint8_t before[MSCP_HOST_SAVED_MAX], after[MSCP_HOST_SAVED_MAX];
+    struct mscp_host *host = mscp_host_in_memory(room, sizeof room);
+    size_t held, length;
+    is("a host", mscp_host_init(host, 9), MSCP_DONE);
+    is("which is saved", mscp_host_save(host, before, sizeof before, &held), MSCP_DONE);
+    is("a byte too few", mscp_host_restore(host, POLLED_TWICE, LENGTH - 1), MSCP_SAVED_LENGTH);
+    is("saved again", mscp_host_save(host, after, sizeof after, &length), MSCP_DONE);
+    is("it goes on", length == held && memcmp(before, after, held) == 0, 1);
+    is("good bytes", mscp_host_restore(host, POLLED_TWICE, LENGTH), MSCP_DONE);
+    is("saved once more", mscp_host_save(host, after, sizeof after, &length), MSCP_DONE);
+    is("that one goes on", length == LENGTH && memcmp(after, POLLED_TWICE, LENGTH) == 0, 1);
+}
+
 /* Three submissions: two credits are too few, and three are if none is kept for what is answered when it arrives. */
 static void more_than_credits(void)
 {
@@ -180,6 +197,7 @@ int main(void)
     polls();
     bytes_are_these();
     edits();
+    in_place();
     more_than_credits();
     flipped_bits();
     return wrong;

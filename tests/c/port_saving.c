@@ -259,6 +259,22 @@ static void nothing_is_there(void)
     is("most of a port", mscp_port_save_size() <= MSCP_PORT_SAVED_MAX, 1);
 }
 
+/* Over the port that is made: bytes at fault leave it as it is, and good ones are in its place. */
+static void in_place(void)
+{
+    static uint8_t before[MSCP_PORT_SAVED_MAX], after[MSCP_PORT_SAVED_MAX];
+    size_t held, length;
+    is("another state", mscp_port_write_ip(machine.port), MSCP_DONE);
+    is("which is saved", mscp_port_save(machine.port, before, sizeof before, &held), MSCP_DONE);
+    is("a byte too few", mscp_port_restore(machine.port, bytes, LENGTH - 1), MSCP_SAVED_LENGTH);
+    is("no bytes", mscp_port_restore(machine.port, NULL, 0), MSCP_SAVED_LENGTH);
+    is("saved again", mscp_port_save(machine.port, after, sizeof after, &length), MSCP_DONE);
+    is("it goes on", length == held && memcmp(before, after, held) == 0, 1);
+    is("good bytes", mscp_port_restore(machine.port, bytes, LENGTH), MSCP_DONE);
+    is("saved once more", mscp_port_save(machine.port, after, sizeof after, &length), MSCP_DONE);
+    is("that one goes on", length == LENGTH && memcmp(after, bytes, LENGTH) == 0, 1);
+}
+
 /* What has no room is left, and so is the port that is there. */
 static void no_room(void)
 {
@@ -273,7 +289,7 @@ static void no_room(void)
     is("nothing written", room[0], 0xA5);
     is("just room", mscp_port_save(machine.port, room, LENGTH, &told), MSCP_DONE);
     is("no byte more", room[LENGTH], 0xA5);
-    is("where one is", mscp_port_restore(machine.port, bytes, LENGTH), MSCP_MADE);
+    in_place();
     struct mscp_port *fresh = mscp_port_in_memory(machine.rooms[1], sizeof machine.rooms[1]);
     is("no bytes", mscp_port_restore(fresh, NULL, 0), MSCP_SAVED_LENGTH);
     is("its own bytes", mscp_port_restore(fresh, bytes, LENGTH), MSCP_DONE);

@@ -86,23 +86,19 @@ static void number_is_reused(bool has_runs)
         is("a block of the other unit", in_memory(k, 5), (uint8_t)(5 + k + 2));
 }
 
-/* Amid a WRITE the port is saved, bytes that aren't a port's are refused and it goes on, and what was saved goes on in another
- * struct, which is assigned to it. */
+/* Amid a WRITE the port is saved, bytes that aren't a port's are refused and it goes on, and what was saved goes on in its place. */
 static void is_restored(bool has_runs)
 {
     static uint8_t bytes[MSCP_PORT_SAVED_MAX];
-    static struct port other;
     size_t length = 0;
     begin_host(&RQDX3, has_runs);
     send_command(0, 1, MSCP_WRITE, SIZE, START, DATA);
     port_turn(&port, 7);
     is("it is saved", mscp_port_save(port_itself(&port), bytes, sizeof bytes, &length), MSCP_DONE);
-    is("half of it isn't a port", port_restore(&other, &port, bytes, length / 2), MSCP_SAVED_LENGTH);
+    is("half of it isn't a port", port_restore(&port, bytes, length / 2), MSCP_SAVED_LENGTH);
     port_turn(&port, 2);
     memset(machine.disks[0], 0, sizeof machine.disks[0]);
-    is("all of it is", port_restore(&other, &port, bytes, length), MSCP_DONE);
-    port = other;
-    machine.port = port_itself(&port);
+    is("all of it is", port_restore(&port, bytes, length), MSCP_DONE);
     ends_with(7, 1, 0, SIZE);
     is("the last block is written", on_disk(MANY - 1, 5), of_memory(MANY - 1, 5));
     is("the first was before", on_disk(0, 5), 0);

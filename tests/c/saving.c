@@ -214,6 +214,22 @@ static void tells_what_it_is(const struct mscp *mscp)
     is("no room", mscp_settings(mscp, &limits, NULL, 0), UNITS);
 }
 
+/* Over the controller that is made: bytes at fault leave it as it is, and good ones are in its place. */
+static void in_place(const uint8_t *bytes, size_t length)
+{
+    static uint8_t before[MSCP_SAVED_MAX], after[MSCP_SAVED_MAX];
+    const uint8_t message[12] = {77, [8] = MSCP_GET_UNIT_STATUS};
+    struct mscp_sent sent;
+    is("another message", mscp_send(moving.mscp, FIRST, message, sizeof message, &sent), MSCP_ANSWERED);
+    size_t held = saved(moving.mscp, before);
+    is("a byte too few", mscp_restore(moving.mscp, bytes, length - 1), MSCP_SAVED_LENGTH);
+    is("no bytes", mscp_restore(moving.mscp, NULL, 0), MSCP_SAVED_LENGTH);
+    is("it goes on", saved(moving.mscp, after) == held && memcmp(before, after, held) == 0, 1);
+    is("another one's bytes", held != length || memcmp(before, bytes, length) != 0, 1);
+    is("good bytes", mscp_restore(moving.mscp, bytes, length), MSCP_DONE);
+    is("that one goes on", saved(moving.mscp, after) == length && memcmp(after, bytes, length) == 0, 1);
+}
+
 /* Bytes that aren't the controller's. Each place is one of the format, and each change the least that is refused so. */
 static void other_bytes(void)
 {
@@ -239,7 +255,7 @@ static void other_bytes(void)
     is("nothing written", room[0], 0xA5);
     is("just room", mscp_save(moving.mscp, room, length, &told), MSCP_DONE);
     is("no byte more", room[length], 0xA5);
-    is("where one is", mscp_restore(moving.mscp, bytes, length), MSCP_MADE);
+    in_place(bytes, length);
     for (size_t i = 0; i < COUNT(cases); i++) {
         uint8_t was = bytes[cases[i].place];
         struct mscp *fresh = mscp_in_memory(staying.memory, controller_bytes());

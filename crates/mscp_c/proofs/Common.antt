@@ -48,7 +48,7 @@ pub use Rattle.mscp_drive.specs.declared.block.Block.{Block}
 pub use Rattle.mscp_drive.specs.declared.connection.Connection.{Connection}
 pub use Rattle.mscp_drive.specs.declared.connection.Connection.TheVariants.{First}
 pub use Rattle.mscp_host.specs.Accounts.{Account}
-pub use Rattle.mscp_memory.specs.ControllerHandles.{placed, room_fault}
+pub use Rattle.mscp_memory.specs.ControllerHandles.{memory_fault, placed, room_fault}
 pub use Rattle.mscp_memory.specs.Policies.{PolicyPicks}
 pub use Rattle.mscp_memory.specs.PortHandles.{Handle, Held, with_held}
 pub use Rattle.mscp_memory.specs.Rooms.{HandleOf}

@@ -3,7 +3,7 @@ use Rattle.std.specs.Prelude.{ℕ, ℤ, ◌+◌, nat_eq, if◌then◌else◌, Li
 use Rattle.mscp_memory.specs.declared.fault.RoomFault.{RoomFault}
 use Rattle.mscp_memory.specs.declared.policy.Policy.{Policy}
 use Rattle.mscp_memory.specs.declared.policy.Policy.TheVariants.{Oldest, Sweep}
-use Rattle.mscp_memory.specs.PortHandles.{Handle, Held, placed, room_fault}
+use Rattle.mscp_memory.specs.PortHandles.{Handle, Held, placed, memory_fault}
 use Rattle.mscp_port.specs.declared.port.restoring.RestoreFault.{RestoreFault}
 use Rattle.mscp_port.specs.Restored.{controller_place, restored}
 use Rattle.mscp_port.specs.Saved.{saved_bytes}
@@ -24,7 +24,7 @@ abbrev pub restored_by : List ℕ → Result Held RestoreFault
 restored_by b = restored (policy_number (policy_named b)) (policy_named b) b
 
 -- the status, and the handle after it: the first fault of the memory, that of the bytes, or the port that they say is
--- in the room
+-- there
 abbrev pub placed_or : Handle → Result Held RestoreFault → ℤ × Handle
 placed_or h (Ok held) = (DONE, placed h held)
 placed_or h (Err fault) = (port_restore_code fault, h)
@@ -34,4 +34,4 @@ restores_unless (Some fault) h b = (room_code fault, h)
 restores_unless None h b = placed_or h (restored_by b)
 
 abbrev pub restores : Handle → List ℕ → ℤ × Handle
-restores h b = restores_unless (room_fault h) h b
+restores h b = restores_unless (memory_fault h) h b

@@ -1,7 +1,7 @@
 -- What comes of a save and of a restore of a controller.
 use Rattle.std.specs.Prelude.{ℕ, Bool, nat_le, ℤ, if◌then◌else◌, List, ◌++◌, length, drop, Option, Some, None, Result, Ok, Err}
 use Rattle.mscp_memory.specs.declared.fault.RoomFault.{RoomFault}
-use Rattle.mscp_memory.specs.ControllerHandles.{Handle, Held, placed, room_fault}
+use Rattle.mscp_memory.specs.ControllerHandles.{Handle, Held, placed, memory_fault}
 use Rattle.mscp_saved.specs.declared.fault.RestoreFault.{RestoreFault}
 use Rattle.mscp_c.specs.declared.status.TheConstants.{DONE, SMALL}
 use Rattle.mscp_c.specs.Restoring.{restored_by}
@@ -26,7 +26,7 @@ length_told bytes = length bytes
 -- ---- a restore
 
 -- the status, and the handle after it: the first fault of the memory, that of the bytes, or the controller that they
--- say is in the room
+-- say is there
 abbrev pub placed_or : Handle → Result Held RestoreFault → ℤ × Handle
 placed_or h (Ok held) = (DONE, placed h held)
 placed_or h (Err fault) = (restore_code fault, h)
@@ -36,4 +36,4 @@ restores_unless (Some fault) h b = (room_code fault, h)
 restores_unless None h b = placed_or h (restored_by b)
 
 abbrev pub restores : Handle → List ℕ → ℤ × Handle
-restores h b = restores_unless (room_fault h) h b
+restores h b = restores_unless (memory_fault h) h b

@@ -1,8 +1,8 @@
 // A controller as bytes, and back.
 
-ghost use Rattle.std.specs.Prelude.{◌≡◌, true, false, Ok};
+ghost use Rattle.std.specs.Prelude.{◌≡◌, true, false, None, Ok};
 ghost use Rattle.mscp_c.specs.Common.{fresh, Handle, AnswersHandle, policy_number, length_told, room_after, save_code};
-ghost use Rattle.mscp_memory.specs.ControllerHandles.{is_made, is_room, placed};
+ghost use Rattle.mscp_memory.specs.ControllerHandles.{is_made, memory_fault, placed};
 ghost use Rattle.mscp_c.specs.HandleCalls as calls;
 ghost use Rattle.mscp_c.specs.Restoring.{policy_named, restored_by, saved_by};
 ghost use Rattle.mscp_c.specs.Saving.{restores};
@@ -12,7 +12,7 @@ use crate::saving::tell_saved;
 use crate::status::{DONE, NOT_MADE, room_code};
 use mscp_controller::{Config, Controller};
 use mscp_memory::Policy;
-use mscp_memory::controller::{Handle, is_made, lend, place, room_fault};
+use mscp_memory::controller::{Handle, is_made, lend, memory_fault, replace};
 use mscp_saved::{ROOM, restore_fault, resume, save, saved_settings};
 
 /// The most bytes that a controller is saved as.
@@ -64,24 +64,24 @@ fn policy_named(bytes: &[u8]) -> Policy
     }
 }
 
-/// Makes a new controller in the room that the handle has.
+/// Makes a new controller in the memory of the handle, also in place of one.
 #[inline(never)]
 fn make_new(handle: &mut Handle, settings: Config, policy: Policy)
-    requires { is_room handle.old ≡ true }
+    requires { memory_fault handle.old ≡ None }
     ensures { handle.new ≡ placed handle.old (fresh settings policy) }
 {
-    place(handle, Controller::new(settings, policy));
+    replace(handle, Controller::new(settings, policy));
 }
 
-/// The controller that bytes say is in the room that the handle has. A new one is put there, and resumed where it lies, so
-/// that the stack has no room for a whole one.
+/// The controller that bytes say is in the memory of the handle, in place of the one that was made there, if one was: on a fault
+/// that one goes on. A new one is put there, and resumed where it lies, so that the stack has no room for a whole one.
 #[unsafe(no_mangle)]
 pub extern "C" fn mscp_restore_at(handle: &mut Handle, bytes: &[u8]) -> i32
     ensures value { (result, handle.new) ≡ restores handle.old bytes.now }
-    ensures call { (from : Handle) → restored_by bytes.now ≡ Ok from.held → is_room handle.old ≡ true
+    ensures call { (from : Handle) → restored_by bytes.now ≡ Ok from.held → memory_fault handle.old ≡ None
         → (result ≡ DONE) × AnswersHandle from (calls.Resume bytes.now) handle.new }
 {
-    if let Some(fault) = room_fault(handle) {
+    if let Some(fault) = memory_fault(handle) {
         return room_code(fault);
     }
     let policy = policy_named(bytes);

@@ -11,7 +11,7 @@ use crate::restore_status::host_restore_code;
 use crate::saving::tell_saved;
 use crate::status::{DONE, NOT_MADE, room_code};
 use mscp_host::{PORT_HOST_ROOM, PortHost};
-use mscp_memory::driver::{Handle, is_made, lend, place, room_fault};
+use mscp_memory::driver::{Handle, is_made, lend, memory_fault, replace};
 
 /// The most bytes that a driver's account is saved as.
 #[unsafe(no_mangle)]
@@ -45,17 +45,18 @@ pub extern "C" fn mscp_driver_save_at(
     tell_saved(room, length, bytes.as_slice())
 }
 
-/// The account that bytes say is in the room that the handle has.
+/// The account that bytes say is in the memory of the handle, in place of the one that was made there, if one was: on a fault that
+/// one goes on.
 #[unsafe(no_mangle)]
 pub extern "C" fn mscp_driver_restore_at(handle: &mut Handle, bytes: &[u8]) -> i32
     ensures { (result, handle.new) ≡ driver_restores handle.old bytes.now }
 {
-    if let Some(fault) = room_fault(handle) {
+    if let Some(fault) = memory_fault(handle) {
         return room_code(fault);
     }
     match PortHost::restore(bytes) {
         Ok(account) => {
-            place(handle, account);
+            replace(handle, account);
             DONE
         }
         Err(fault) => host_restore_code(fault),

@@ -9,7 +9,7 @@ use crate::restore_status::host_restore_code;
 use crate::saving::tell_saved;
 use crate::status::{DONE, NOT_MADE, room_code};
 use mscp_host::{Host, ROOM};
-use mscp_memory::host::{Handle, is_made, lend, place, room_fault};
+use mscp_memory::host::{Handle, is_made, lend, memory_fault, replace};
 
 /// The most bytes that a host is saved as.
 #[unsafe(no_mangle)]
@@ -37,17 +37,18 @@ pub extern "C" fn mscp_host_save_at(handle: &mut Handle, room: &mut [u8], length
     tell_saved(room, length, bytes.as_slice())
 }
 
-/// The host that bytes say is in the room that the handle has.
+/// The host that bytes say is in the memory of the handle, in place of the one that was made there, if one was: on a fault that one
+/// goes on.
 #[unsafe(no_mangle)]
 pub extern "C" fn mscp_host_restore_at(handle: &mut Handle, bytes: &[u8]) -> i32
     ensures { (result, handle.new) ≡ restores handle.old bytes.now }
 {
-    if let Some(fault) = room_fault(handle) {
+    if let Some(fault) = memory_fault(handle) {
         return room_code(fault);
     }
     match Host::restore(bytes) {
         Ok(host) => {
-            place(handle, host);
+            replace(handle, host);
             DONE
         }
         Err(fault) => host_restore_code(fault),

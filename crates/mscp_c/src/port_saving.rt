@@ -1,8 +1,8 @@
 // A port as bytes, and back.
 
-ghost use Rattle.std.specs.Prelude.{◌≡◌, true, false, slice_index, Ok};
+ghost use Rattle.std.specs.Prelude.{◌≡◌, true, false, slice_index, None, Ok};
 ghost use Rattle.mscp_c.specs.Common.{fresh, length_told, room_after, save_code};
-ghost use Rattle.mscp_memory.specs.PortHandles.{is_made, is_room, placed};
+ghost use Rattle.mscp_memory.specs.PortHandles.{is_made, memory_fault, placed};
 ghost use Rattle.mscp_c.specs.PortSaving.{policy_named, restored_by, restores, saved_by};
 
 use crate::controller_saving::policy_number;
@@ -11,7 +11,7 @@ use crate::saving::tell_saved;
 use crate::status::{DONE, NOT_MADE, room_code};
 use mscp_controller::{Config, Controller};
 use mscp_memory::Policy;
-use mscp_memory::port::{Handle, is_made, lend, place, room_fault};
+use mscp_memory::port::{Handle, is_made, lend, memory_fault, replace};
 use mscp_port::{Bus, Hardware, Port, ROOM, restore_fault, saved_settings};
 
 /// The most bytes that a port is saved as.
@@ -70,26 +70,26 @@ const HARDWARE: Hardware = Hardware {
     version: 0,
 };
 
-/// Makes a port that is to be resumed in the room that the handle has.
+/// Makes a port that is to be resumed in the memory of the handle, also in place of one.
 #[inline(never)]
 fn make_unresumed(handle: &mut Handle, settings: Config, policy: Policy)
-    requires { is_room handle.old ≡ true }
+    requires { memory_fault handle.old ≡ None }
     ensures controller { handle.new.held.controller ≡ fresh settings policy }
     ensures placed { handle.new ≡ placed handle.old handle.new.held }
 {
     match Port::new(HARDWARE, 1, Controller::new(settings, policy)) {
-        Ok(port) => place(handle, port),
+        Ok(port) => replace(handle, port),
         Err(_) => unreachable!(),
     }
 }
 
-/// The port that bytes say is in the room that the handle has. A new one is put there, and resumed where it lies, so that
-/// the stack has no room for a whole one.
+/// The port that bytes say is in the memory of the handle, in place of the one that was made there, if one was: on a fault that one
+/// goes on. A new one is put there, and resumed where it lies, so that the stack has no room for a whole one.
 #[unsafe(no_mangle)]
 pub extern "C" fn mscp_port_restore_at(handle: &mut Handle, bytes: &[u8]) -> i32
     ensures { (result, handle.new) ≡ restores handle.old bytes.now }
 {
-    if let Some(fault) = room_fault(handle) {
+    if let Some(fault) = memory_fault(handle) {
         return room_code(fault);
     }
     let policy = policy_named(bytes);

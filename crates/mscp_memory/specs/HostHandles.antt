@@ -1,5 +1,5 @@
 -- What a handle on a host's memory is.
-use Rattle.std.specs.Prelude.{ℕ, Bool, nat_eq, Option, is_none}
+use Rattle.std.specs.Prelude.{ℕ, Bool, nat_eq, Option, is_none, if◌then◌else◌, None}
 use Rattle.std.specs.Borrow.{RattleType}
 use Rattle.mscp_host.specs.Accounts.{Account}
 use Rattle.mscp_host.specs.contracts.host.Host as hosts
@@ -38,6 +38,10 @@ is_made h = nat_eq h.mark MADE
 -- why its memory is no room for one, if it isn't
 abbrev pub room_fault : Handle → Option RoomFault
 room_fault h = kind_fault h.address h.length h.mark kind
+
+-- why its memory can't hold one, if it can't: one that is made there already may be replaced
+abbrev pub memory_fault : Handle → Option RoomFault
+memory_fault h = if is_made h then None else room_fault h
 
 -- whether its memory is room for one
 abbrev pub is_room : Handle → Bool

@@ -4,6 +4,6 @@ mod calls;
 mod handle;
 mod marks;
 
-pub use crate::controller::calls::{is_made, lend, place, room_fault};
+pub use crate::controller::calls::{is_made, lend, memory_fault, place, replace, room_fault};
 pub use crate::controller::handle::Handle;
 pub use crate::controller::marks::{ALIGN, MADE, ROOM, SIZE};

@@ -1,9 +1,9 @@
 // What a handle says of its memory, lends of it, and takes into it.
 
-ghost use Rattle.std.specs.Prelude.{◌≡◌, true};
+ghost use Rattle.std.specs.Prelude.{◌≡◌, true, None};
 ghost use Rattle.std.specs.Borrow.{Lends, sem};
 ghost use Rattle.mscp_memory.specs.contracts.host.handle.Handle.{the_row};
-ghost use Rattle.mscp_memory.specs.HostHandles.{is_made, is_room, placed, room_fault, row, with_held};
+ghost use Rattle.mscp_memory.specs.HostHandles.{is_made, is_room, memory_fault, placed, room_fault, row, with_held};
 
 use crate::fault::{self, RoomFault};
 use crate::host::handle::Handle;
@@ -42,4 +42,28 @@ pub fn place(handle: &mut Handle, held: Host)
 {
     unsafe { (handle.at as *mut Host).write(held) };
     handle.mark = MADE;
+}
+
+/// Why its memory can't hold a host, if it can't. One that is made there already may be replaced.
+pub fn memory_fault(handle: &mut Handle) -> Option<RoomFault>
+    ensures value { result ≡ memory_fault handle.old }
+    ensures same { handle.new ≡ handle.old }
+{
+    if is_made(handle) {
+        None
+    } else {
+        room_fault(handle)
+    }
+}
+
+/// Puts a host into the memory: in place of the one that is made there, or into the room.
+pub fn replace(handle: &mut Handle, held: Host)
+    requires { memory_fault handle.old ≡ None }
+    ensures { handle.new ≡ placed handle.old held }
+{
+    if is_made(handle) {
+        *lend(handle) = held;
+    } else {
+        place(handle, held);
+    }
 }
