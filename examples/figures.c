@@ -11,9 +11,9 @@ int main(void)
     const struct mscp_limits limits = {.credits = 4, .budget = 16, .longest = 8, .timeout = 60};
     const struct mscp_unit unit = {.id = 1, .size = 4000, .media = 1, .serial = 1, .track = 20, .group = 1, .cylinder = 1};
     const uint8_t online[36] = {1, [8] = MSCP_ONLINE}, read[36] = {2, [8] = MSCP_READ, [13] = 2048 / 256};
-    struct mscp *mscp = mscp_in_memory(memory, sizeof memory);
     struct mscp_sent sent;
     struct mscp_report report;
+    struct mscp *mscp = mscp_in_memory(memory, sizeof memory);
     if (mscp_init(mscp, &limits, &unit, 1, MSCP_SWEEP) != MSCP_DONE ||
         mscp_send(mscp, MSCP_CONNECTION_FIRST, online, sizeof online, &sent) != MSCP_QUEUED ||
         mscp_send(mscp, MSCP_CONNECTION_FIRST, read, sizeof read, &sent) != MSCP_QUEUED)
