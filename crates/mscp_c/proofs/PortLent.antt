@@ -1,6 +1,5 @@
 -- A port that was lent from a handle and changed by a call: what the call tells.
-use Rattle.mscp_c.proofs.Common.{◌≡◌, ◌∙◌, ℕ, ℤ, List, ap, subst, Result, IsOk, Action, Outcome, Unasked, NoUnit, Changes, Goes, Hears, PutsIn, Wants, BeginsBlock, Moves, IsAlive, IsOfBlock, PolicyPicks, Handle, Held, with_held, ActionOut, TellsHeard, TellsPut, TellsVolume, TellsWanted, TellsWent, put_code, told_code, volume_code, action_told, next_code}
-use Rattle.mscp_port.specs.declared.task.Task.TheVariants as tasks
+use Rattle.mscp_c.proofs.Common.{◌≡◌, ◌∙◌, ℕ, ℤ, List, ap, subst, Result, Action, Outcome, Unasked, NoUnit, Changes, Goes, Hears, PutsIn, Wants, PolicyPicks, Handle, Held, with_held, ActionOut, TellsHeard, TellsPut, TellsVolume, TellsWanted, TellsWent, put_code, told_code, volume_code, action_told, next_code}
 use Rattle.mscp_port.specs.Ports.{asked, asks_blocks}
 use Rattle.mscp_port.specs.Wanted.{bytes_wanted}
 use Rattle.mscp_port.specs.declared.action.Ask.{Ask}

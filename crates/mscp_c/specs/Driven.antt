@@ -1,6 +1,5 @@
 -- What comes of the calls of a driver's account of its port, and how it is told.
 use Rattle.std.specs.Prelude.{ℕ, ℤ, if◌then◌else◌, nat_lt, List, ◌++◌, length, take, drop, Option, Some, None, Result, Ok, Err}
-use Rattle.arrayvec.specs.ArrayVec.{ArrayVec}
 use Rattle.mscp_packet.specs.declared.command.Command.{Command}
 use Rattle.mscp_packet.specs.declared.end.End.{End}
 use Rattle.mscp_packet.specs.declared.reading.PacketFault.{PacketFault}
@@ -10,7 +9,6 @@ use Rattle.mscp_host.specs.declared.heard.Heard.{Heard}
 use Rattle.mscp_host.specs.declared.heard.Heard.TheVariants as heards
 use Rattle.mscp_host.specs.declared.message.HearFault.{HearFault}
 use Rattle.mscp_host.specs.declared.message.HearFault.TheVariants as faults
-use Rattle.mscp_host.specs.declared.news.HostFault.{HostFault}
 use Rattle.mscp_host.specs.declared.ticking.Advice.{Advice}
 use Rattle.mscp_host.specs.declared.ticking.Advice.TheVariants as advices
 use Rattle.mscp_host.specs.declared.ticking.Watch.{Watch}

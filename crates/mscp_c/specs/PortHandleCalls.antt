@@ -1,5 +1,5 @@
 -- What somebody calls from C who holds a handle on a port, what is told, and what is promised of it.
-use Rattle.std.specs.Prelude.{◌≡◌, ◌==◌, not, ℕ, ℤ, pos, Bool, true, false, List, [], ◌∷◌, ◌++◌, length, MatchOption, Option, None, Some, Result, Ok}
+use Rattle.std.specs.Prelude.{◌≡◌, ◌==◌, not, ℕ, ℤ, pos, true, false, List, [], ◌∷◌, ◌++◌, length, MatchOption, Option, None, Some, Result, Ok}
 use Rattle.mscp_port.specs.declared.action.Action.{Action}
 use Rattle.mscp_port.specs.declared.action.Ask.TheVariants as asks
 use Rattle.mscp_port.specs.declared.action.Outcome.{Outcome}

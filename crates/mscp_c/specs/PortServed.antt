@@ -1,5 +1,5 @@
 -- What comes of calls on a port's handle. Much of a port is its own, so each is a relation.
-use Rattle.std.specs.Prelude.{◌≡◌, ℕ, ℤ, true, false, List, unwrap_or, Result, Ok, Err, IfSome, IsOk}
+use Rattle.std.specs.Prelude.{◌≡◌, ℕ, ℤ, List, unwrap_or, Result, Ok, Err, IfSome}
 use Rattle.mscp_controller.specs.Holdings.{fresh}
 use Rattle.mscp_port.specs.declared.action.Action.{Action}
 use Rattle.mscp_port.specs.declared.action.Ask.{Ask}
@@ -10,7 +10,6 @@ use Rattle.mscp_port.specs.declared.volumes.Medium.{Medium}
 use Rattle.mscp_port.specs.declared.volumes.Volume.{Volume}
 use Rattle.mscp_port.specs.declared.volumes.VolumeFault.{VolumeFault}
 use Rattle.mscp_port.specs.declared.volumes.VolumeFault.TheVariants as faults
-use Rattle.mscp_port.specs.declared.task.Task.TheVariants as tasks
 use Rattle.mscp_port.specs.Calls as ports
 use Rattle.mscp_memory.specs.PortHandles.{Handle, Held, placed, with_held}
 use Rattle.mscp_memory.specs.declared.policy.Policy.TheVariants.{Oldest}
