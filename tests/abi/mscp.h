@@ -8,16 +8,16 @@
  * - A handle is made by mscp_in_memory or mscp_over (of a host by mscp_host_in_memory or mscp_host_over, of a port by
  *   mscp_port_in_memory or mscp_port_over, of a driver's account by mscp_driver_in_memory or mscp_driver_over), over memory
  *   that is really there and really yours. After that only the calls write the handle and its memory. Two handles are never
- *   over one memory, and no copy of a handle is used beside it. One that is NULL is MSCP_NO_MEMORY of an init and a restore,
- *   and MSCP_NOT_MADE of the calls that are inline here.
+ *   over one memory, and no copy of a handle is used beside it. For a NULL handle an init or a restore answers
+ *   MSCP_NO_MEMORY, and every other inline call MSCP_NOT_MADE.
  * - Memory that moves, as by realloc or to a file and back, moves whole, and mscp_moved says so before the next call.
  *   Only a library of the same version knows what lies in it.
  * - One call at a time on a handle.
  *
  * Not proved, but tested: a handle may go from one thread to another, if a lock lets one call at a time through.
  *
- * A fault changes nothing: not the handle, not its memory, nor what an out-pointer points to, but for the length that a save
- * tells. Nor do MSCP_NOTHING and MSCP_BUSY write what an out-pointer points to.
+ * A fault changes nothing: not the handle, not its memory, nor any output, except that a save always sets `*length`. Nor do
+ * MSCP_NOTHING and MSCP_BUSY write any output.
  *
  * Numbers are the machine's own. Messages and ends are bytes, as the manual (DEC AA-L619A-TK) has them, and
  * docs/FORMATS.md in the sources. */
@@ -114,7 +114,7 @@ enum mscp_status {
     MSCP_UNKNOWN = -9,      /* mscp_host_receive: the end of no outstanding command */
 
     MSCP_NOT_MADE = -10,    /* nothing was made in the handle's memory: init it first */
-    MSCP_MADE = -11,        /* an init, if something is made: reset a controller, give all else a new handle */
+    MSCP_MADE = -11,        /* an init, if something is made: reset a controller, restore, or take a new handle */
     MSCP_NO_HANDLE = -12,   /* an init of what is no handle, or of one by the header of another version */
     MSCP_NO_MEMORY = -13,   /* an init: the handle or its memory is NULL */
     MSCP_MISALIGNED = -14,  /* an init: its address isn't a multiple of the alignment */
@@ -653,8 +653,7 @@ int32_t mscp_read_end_at(const uint8_t *bytes, size_t length, struct mscp_end *e
  * those of the limits (-28 to -31). The controller is made on the stack, of which this takes up to 40 KiB, and is moved
  * into the memory. No call but mscp_run_script takes more. No other one takes over 2 KiB, but for mscp_why with up to 3, and
  * those that save and restore.
- * Where each function takes much for itself, as on s390x and 32-bit x86, mscp.c takes up to 256 bytes more. The memory may
- * go at any time, without a call. */
+ * On s390x and 32-bit x86 mscp.c may take 256 bytes more. No call is needed before you free the memory. */
 MSCP_MUST_USE
 MSCP_INLINE int32_t mscp_init(struct mscp *mscp, const struct mscp_limits *limits, const struct mscp_unit *units,
                               size_t count, uint32_t picker)
@@ -772,10 +771,11 @@ MSCP_INLINE int32_t mscp_save(const struct mscp *mscp, uint8_t *bytes, size_t ro
     return mscp_save_at(mscp, room == 0 ? &none : bytes, room, length);
 }
 
-/* Makes the controller that was saved, in the handle's memory: whatever is called then answers as if it had been called
- * there. MSCP_DONE, or the first fault of those of the memory (-11 to -15) and those of the bytes (-40 to -54). Bytes
- * of a stranger make a controller with which every call is safe, or none. Only whoever saved a controller knows what
- * came to it before. This takes up to 40 KiB of the stack, and mscp_save up to 12. */
+/* Makes the controller that was saved, in the handle's memory, in place of the one that is made there, if one is: whatever is
+ * called then answers as if it had been called there. MSCP_DONE, or the first fault of those of the memory (-12 to -15)
+ * and those of the bytes (-40 to -54): then the one that is made there goes on. Bytes of a stranger make a controller with
+ * which every call is safe, or none. Only whoever saved a controller knows what came to it before. This takes up to 40 KiB
+ * of the stack, and mscp_save up to 12. */
 MSCP_MUST_USE
 MSCP_INLINE int32_t mscp_restore(struct mscp *mscp, const uint8_t *bytes, size_t length)
 {
@@ -842,9 +842,9 @@ MSCP_INLINE int32_t mscp_host_save(const struct mscp_host *host, uint8_t *bytes,
     return mscp_host_save_at(host, room == 0 ? &none : bytes, room, length);
 }
 
-/* Makes the host that was saved, in the handle's memory. MSCP_DONE, or the first fault of those of the memory (-11 to
- * -15) and MSCP_SAVED_LENGTH, _MAGIC, _VERSION, _LIMITS, _CREDITS, _DOUBLED, _POLL and _FORM. This takes up to 6 KiB
- * of the stack, and mscp_host_save up to 3. */
+/* Makes the host that was saved, as mscp_restore makes a controller. MSCP_DONE, or the first fault of those of the memory
+ * (-12 to -15) and MSCP_SAVED_LENGTH, _MAGIC, _VERSION, _LIMITS, _CREDITS, _DOUBLED, _POLL and _FORM. This takes up to
+ * 6 KiB of the stack, and mscp_host_save up to 3. */
 MSCP_MUST_USE
 MSCP_INLINE int32_t mscp_host_restore(struct mscp_host *host, const uint8_t *bytes, size_t length)
 {
@@ -979,15 +979,15 @@ int32_t mscp_port_read_sa(const struct mscp_port *port);
 int32_t mscp_port_write_sa(struct mscp_port *port, uint16_t word);
 
 /* What the port wants done next. MSCP_DONE, or MSCP_NOTHING until a register is touched, a volume comes or goes, the
- * clock ticks, or it is to look again. Until the port is told how its action went it answers the same, unless a
+ * clock ticks, or it is to look again. Until you report how its action went the port answers the same, unless a
  * register is touched, or a volume comes, goes, or is protected or no more. The processor may run meanwhile: if the port
- * wants the action no more, what it is told of it is MSCP_UNASKED, and it is asked anew. So it is of a block where a
- * volume changed: the port wants the block once more, or its command ends. */
+ * no longer wants the action, a report of it is answered by MSCP_UNASKED: ask again. The same holds of a block if a volume
+ * changed: the port wants the block once more, or its command ends. */
 MSCP_MUST_USE int32_t mscp_port_next(struct mscp_port *port, struct mscp_action *action);
 
 /* What the port wants done next while a block takes its time: polls are answered, messages come and go, and no block is
  * begun. A TRANSFER that was in hand is put aside, and mscp_port_next wants it anew. So an emulator that mscp_port_next asks for a
- * block may go on by this call until the block's time has come, and do it then. As mscp_port_next else. */
+ * block may go on by this call until the block's time has come, and do it then. Otherwise it is like mscp_port_next. */
 MSCP_MUST_USE int32_t mscp_port_next_message(struct mscp_port *port, struct mscp_action *action);
 
 /* These bytes were read in host memory, as the port wanted: just as many. MSCP_DONE, or MSCP_UNASKED. */
@@ -1087,9 +1087,9 @@ MSCP_INLINE int32_t mscp_port_save(const struct mscp_port *port, uint8_t *bytes,
     return mscp_port_save_at(port, room == 0 ? &none : bytes, room, length);
 }
 
-/* Makes the port that was saved, in the handle's memory: it goes on as it would have there. MSCP_DONE, or the first fault
- * of those of the memory (-11 to -15) and those of the bytes (-40 to -54 and MSCP_SAVED_SIZE), which may be those of its
- * controller's. Bytes of a stranger make a port with which every call is safe, and which moves only blocks that its units
+/* Makes the port that was saved, as mscp_restore makes a controller: it goes on as it would have there. MSCP_DONE, or the
+ * first fault of those of the memory (-12 to -15) and those of the bytes (-40 to -54 and MSCP_SAVED_SIZE), which may be those
+ * of its controller's. Bytes of a stranger make a port with which every call is safe, and which moves only blocks that its units
  * have, or none. This takes up to 40 KiB of the stack, and mscp_port_save up to 36. */
 MSCP_MUST_USE
 MSCP_INLINE int32_t mscp_port_restore(struct mscp_port *port, const uint8_t *bytes, size_t length)

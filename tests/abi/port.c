@@ -14,15 +14,11 @@
 
 enum { DRIVE_ERROR = 0x000B };
 
-/* The memory for a port that isn't made yet. */
-static struct mscp_port *make_room(struct port *port, const struct port_bus *bus, uint8_t lines, uint64_t serial)
+/* Nothing is moved ahead, and no block takes its time. */
+static void forget_blocks(struct port *port)
 {
-    port->bus = *bus;
-    port->lines = lines;
     port->ahead.count = 0;
     port->slow = PORT_IDLE;
-    port->serial = serial;
-    return mscp_port_in_memory(port->memory, sizeof port->memory);
 }
 
 /* One credit more than the host has is for commands that are answered at once. */
@@ -36,12 +32,20 @@ int32_t port_open(struct port *port, const struct port_bus *bus, const struct ms
         .longest = 65536,
         .timeout = 120,
     };
-    return mscp_port_init(make_room(port, bus, hardware->bus, 0), &limits, units, count, MSCP_SWEEP, hardware, PORT_COMMANDS);
+    port->bus = *bus;
+    port->lines = hardware->bus;
+    port->serial = 0;
+    forget_blocks(port);
+    return mscp_port_init(mscp_port_in_memory(port->memory, sizeof port->memory), &limits, units, count, MSCP_SWEEP, hardware,
+                          PORT_COMMANDS);
 }
 
-int32_t port_restore(struct port *port, const struct port *running, const uint8_t *bytes, size_t length)
+int32_t port_restore(struct port *port, const uint8_t *bytes, size_t length)
 {
-    return mscp_port_restore(make_room(port, &running->bus, running->lines, running->serial), bytes, length);
+    int32_t status = mscp_port_restore(port_itself(port), bytes, length);
+    if (status == MSCP_DONE)
+        forget_blocks(port);
+    return status;
 }
 
 /* Its handle has a pointer to what lies behind it, which is set anew: the port may have been copied. */
@@ -275,7 +279,7 @@ bool port_moved(struct port *port, uint64_t serial, bool went_well, const uint8_
 
 /* Does what the port wants, and tells it how that went. If the host wrote IP in the meantime the port wants that no
  * more, and answers so: then there is nothing to do. */
-static int32_t act(struct port *port, const struct mscp_action *action)
+static int32_t act(struct port *port, struct mscp_port *itself, const struct mscp_action *action)
 {
     const struct port_bus *bus = &port->bus;
     enum mscp_outcome outcome = MSCP_OUTCOME_DONE;
@@ -284,7 +288,7 @@ static int32_t act(struct port *port, const struct mscp_action *action)
     case MSCP_ACTION_READ:
         outcome = bus->read(bus->machine, action->address, bytes, action->count);
         if (outcome == MSCP_OUTCOME_DONE)
-            return wire_action(mscp_port_was_read(port_itself(port), bytes, action->count), action, bytes);
+            return wire_action(mscp_port_was_read(itself, bytes, action->count), action, bytes);
         break;
     case MSCP_ACTION_WRITE: outcome = bus->write(bus->machine, action->address, action->bytes, action->count); break;
     case MSCP_ACTION_INTERRUPT: bus->interrupt(bus->machine, action->vector); break;
@@ -300,33 +304,34 @@ static int32_t act(struct port *port, const struct mscp_action *action)
         break;
     default: break; /* PAUSE: the machine went on since the last turn */
     }
-    int32_t status = mscp_port_went(port_itself(port), outcome, DRIVE_ERROR);
+    int32_t status = mscp_port_went(itself, outcome, DRIVE_ERROR);
     return outcome == MSCP_OUTCOME_DONE ? wire_action(status, action, action->bytes) : status;
 }
 
 /* What it wants next: of messages alone, while a block takes its time. */
-static int32_t next(struct port *port, struct mscp_action *action)
+static int32_t next(struct port *port, struct mscp_port *itself, struct mscp_action *action)
 {
-    if (port->slow != PORT_IDLE)
-        drop_unless_begun(port);
-    return port->slow == PORT_BEGUN ? mscp_port_next_message(port_itself(port), action)
-                                    : mscp_port_next(port_itself(port), action);
+    if (port->slow == PORT_IDLE)
+        return mscp_port_next(itself, action);
+    drop_unless_begun(port);
+    return port->slow == PORT_BEGUN ? mscp_port_next_message(itself, action) : mscp_port_next(itself, action);
 }
 
 /* What was wanted is done at once, so that no volume changes in between. What was moved ahead counts in this turn alone. */
 bool port_turn(struct port *port, unsigned most)
 {
+    struct mscp_port *itself = port_itself(port);
+    const uint32_t lines = mscp_on_bus(port->lines, UINT32_MAX); /* which an address of the bus has */
     struct mscp_action action;
     port->ahead.count = 0;
-    mscp_port_look_again(port_itself(port));
-    for (unsigned done = 0; done < most; done++) {
-        if (next(port, &action) != MSCP_DONE)
+    mscp_port_look_again(itself);
+    for (port->left = most; port->left > 0; port->left--) {
+        if (next(port, itself, &action) != MSCP_DONE)
             return false;
-        if (done > 0 && action.kind == MSCP_ACTION_PAUSE)
+        if (action.kind == MSCP_ACTION_PAUSE && port->left < most)
             return true;
-        action.address = mscp_on_bus(port->lines, action.address);
-        port->left = most - done;
-        act(port, &action);
+        action.address &= lines;
+        act(port, itself, &action);
     }
     return true;
 }

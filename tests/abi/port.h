@@ -55,10 +55,9 @@ int32_t port_open(struct port *port, const struct port_bus *bus, const struct ms
  * volume answer a status there. */
 struct mscp_port *port_itself(struct port *port);
 
-/* Makes the port that mscp_port_save saved, in a struct that isn't in use, beside one that runs: it gets the machine and the bus
- * of that, and its serials go on. Where this fails that one goes on, and where it doesn't it is assigned this one. A status of
- * mscp_port_restore. */
-int32_t port_restore(struct port *port, const struct port *running, const uint8_t *bytes, size_t length);
+/* Makes the port that mscp_port_save saved, in place of the one that runs, whose machine, bus and serials stay. If this fails, that
+ * one goes on. A status of mscp_port_restore. */
+int32_t port_restore(struct port *port, const uint8_t *bytes, size_t length);
 
 /* The host reads or writes a word at the port's first address (IP, with 0) or the second (SA, with 2). */
 uint16_t port_read(struct port *port, unsigned offset);
