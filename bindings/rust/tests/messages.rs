@@ -24,7 +24,8 @@ fn of_a_command(length: usize, opcode: u8, rows: &[(usize, &[u8])]) -> Vec<u8> {
 fn commands_are_written() {
     let it = Transfer { bytes: 0x1312_1110, lbn: 0x1F1E_1D1C, buffer: 0x1716_1514 };
     let rows: [(usize, &[u8]); 3] = [(12, &[16, 17, 18, 19]), (16, &[20, 21, 22, 23]), (28, &[28, 29, 30, 31])];
-    let transfers = [Order::Access(it), Order::Erase(it), Order::CompareHostData(it), Order::Read(it), Order::Write(it)];
+    let transfers =
+        [Order::Access(it), Order::Erase(it), Order::CompareHostData(it), Order::Read(it), Order::Write(it)];
     for (order, opcode) in transfers.into_iter().zip([16, 18, 32, 33, 34]) {
         assert_eq!(message(order), of_a_command(32, opcode, &rows));
     }
