@@ -17,7 +17,7 @@ pub mod Beginning
 pub mod Made
 pub mod Promised
 pub mod Moving
-mod Moved
+pub mod Moved
 pub mod Tables
 pub mod Coming
 pub mod Ending
@@ -30,3 +30,5 @@ pub mod Starting
 pub mod Room
 pub mod Soon
 pub mod Telling
+pub mod Changing
+pub mod Mounting

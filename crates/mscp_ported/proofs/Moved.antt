@@ -51,7 +51,7 @@ use Rattle.mscp_ported.proofs.Moving.{Steps, steps}
 
 -- ---- what the controller is told
 
-good_told : (o : Option Block) (n : Option Name) (via : Connection) (reference : ℕ) (result : Result Report NotBegun)
+pub good_told : (o : Option Block) (n : Option Name) (via : Connection) (reference : ℕ) (result : Result Report NotBegun)
     → IsFinish o n (Finish via reference blocks.Good result ∷ []) → o ≡ Some blocks.Good
 good_told (Some block) (Some name) via reference result h = ap (λ xs. block_in xs) (sym h.1)
   where
@@ -317,7 +317,7 @@ begun_of {K} P h u all e = by h.begun e
             )
 
 -- what is kept for the step that is begun was said by a message of its number, to its unit
-kept_said : {K : Type 0} (said : ℕ → Buffer → Type 0) (p : Port K) (u : Upcoming) (b : Buffer)
+pub kept_said : {K : Type 0} (said : ℕ → Buffer → Type 0) (p : Port K) (u : Upcoming) (b : Buffer)
     → Keeps said p → begun_step p.controller ≡ Some u
     → kept_of u.connection u.command.reference p.buffers.items ≡ Some b
     → (u.connection ≡ First) × (b.reference ≡ u.command.reference) × said u.command.unit b

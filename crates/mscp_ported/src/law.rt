@@ -3,6 +3,7 @@
 ghost use Rattle.mscp_ported.specs.Answers.{PortsAnswerAsTheyMay};
 ghost use Rattle.mscp_ported.specs.Ends.{PortsSayWhatWasDecided};
 ghost use Rattle.mscp_ported.specs.Making.{PortsKeepThePromise};
+ghost use Rattle.mscp_ported.specs.Mounts.{PortsCountOnTheirVolumes, PortsMoveOnTheirVolumes};
 ghost use Rattle.mscp_ported.specs.Moved.{PortsMoveWhatTheySay};
 ghost use Rattle.mscp_ported.specs.News.{PortsAnnounceAvailableUnits};
 ghost use Rattle.mscp_ported.specs.Owed.{PortsDoWhatIsDue};
@@ -61,6 +62,25 @@ pub fn ports_keep_the_promise<K: Picker>(picker: &K)
 /// then the wish was a pause.
 pub fn ports_move_what_they_say<K: Picker>(picker: &K)
     ensures { PortsMoveWhatTheySay K.picks }
+{
+    let _ = picker;
+}
+
+/// Whoever calls a port, and whatever its host writes: where a block of a command is wanted, the volume in its unit is the one
+/// that was there as the command's message was read, and with which the unit is online: an ONLINE succeeded since the host wrote
+/// IP last, and since then no AVAILABLE did, and no volume came or went. This is said of a unit whose volume changed fewer than
+/// 2^32 times so far.
+pub fn ports_move_on_their_volumes<K: Picker>(picker: &K)
+    ensures { PortsMoveOnTheirVolumes K.picks }
+{
+    let _ = picker;
+}
+
+/// Of such a port, whose holder tells of actions only after they were wanted, and whose list of units is one that is taken: it is
+/// so still where the controller is told that such a block went well. So none counts that was moved on a volume which isn't there
+/// any more.
+pub fn ports_count_on_their_volumes<K: Picker>(picker: &K)
+    ensures { PortsCountOnTheirVolumes K.picks }
 {
     let _ = picker;
 }
