@@ -2,7 +2,6 @@
 use Rattle.std.proofs.Common.{◌≡◌, ◌≢◌, ◌⊎◌, ◌∙◌, ◌+◌, ◌<◌, ◌≤◌, ◌%◌, ◌/◌, ◌||◌, ◌∷◌, ◌++◌, [], ℕ, Bool, true, false, cond, not, drop, length, set, nat_eq, List, MatchOption, Option, None, Some, IfSome, Contains, inl, inr, refl, ap, sym, subst, arith}
 use Rattle.std.specs.Prelude.{◌==◌, Ok, Err, Result, option_map, option_to_list}
 use Rattle.std.specs.List.{position}
-use Rattle.std.proofs.Math.Seq.{drop-append_seam}
 use Rattle.std.proofs.lemmas.List.{append-nil}
 use Rattle.std.proofs.lemmas.Option.{none-some, same_Some}
 use Rattle.mscp_packet.specs.declared.command.MoveKind.{MoveKind}
@@ -54,7 +53,7 @@ use Rattle.mscp_ported.proofs.Changing.{SaidAgo, kept_ago, of_its_volume, same_u
 use Rattle.mscp_ported.proofs.Moving.{Steps, steps}
 use Rattle.mscp_ported.proofs.Moved.{good_told, kept_said}
 use Rattle.mscp_ported.proofs.Wanting.{alive_or_dead}
-use Rattle.mscp_ported.proofs.Coming.{brought_for, ends_of, steps_bring}
+use Rattle.mscp_ported.proofs.Coming.{brought_for, come_so, ends_of, steps_bring}
 
 -- ---- a volume
 
@@ -146,10 +145,6 @@ other_volume why because becomes units unit to place (Some q) vs on off here the
         ∙ there)))
 
 -- ---- a step
-
-come_so : {K : Type 0} (old new : Port K) (xs : List End)
-    → ends_of new.controller ≡ ends_of old.controller ++ xs → come old new ≡ xs
-come_so old new xs e = ap (drop (length (ends_of old.controller))) e ∙ drop-append_seam (ends_of old.controller) xs
 
 -- an end by which the unit goes offline, of those that came
 abbrev Ended : ℕ → ℕ → List End → Type 0

@@ -1,6 +1,6 @@
 // What is true of every port, for its host.
 
-ghost use Rattle.mscp_ported.specs.Answers.{PortsAnswerAsTheyMay};
+ghost use Rattle.mscp_ported.specs.Answers.{PortsAnswerAsTheyMay, PortsAnswerPolls, PortsHandOverTheRest};
 ghost use Rattle.mscp_ported.specs.Ends.{PortsSayWhatWasDecided};
 ghost use Rattle.mscp_ported.specs.Making.{PortsKeepThePromise};
 ghost use Rattle.mscp_ported.specs.Mounts.{PortsCountOnTheirVolumes, PortsMoveOnTheirVolumes};
@@ -102,6 +102,24 @@ pub fn ports_say_what_was_decided<K: Picker>(picker: &K)
 /// is of the message's connection. To no other message the port gives an answer of its own.
 pub fn ports_answer_as_they_may<K: Picker>(picker: &K)
     ensures { PortsAnswerAsTheyMay K.picks }
+{
+    let _ = picker;
+}
+
+/// Of such a port, whose holder tells of actions only after they were wanted: a message that the port may answer itself never
+/// reaches its controller, and any other does, as of the host's connection, byte by byte, but that a GET UNIT STATUS which asks for
+/// the next unit names that one. So nothing of the utilities' connection reaches the controller.
+pub fn ports_hand_over_the_rest<K: Picker>(picker: &K)
+    ensures { PortsHandOverTheRest K.picks }
+{
+    let _ = picker;
+}
+
+/// Of such a port: a poll of the disk's connection that its controller takes brings one end, with the figure of the host's own
+/// command of the number that it names, as it is then, and 0 if none of that number waits; and a poll of the utilities' brings
+/// none. No command of another connection is ever told of.
+pub fn ports_answer_polls<K: Picker>(picker: &K)
+    ensures { PortsAnswerPolls K.picks }
 {
     let _ = picker;
 }
