@@ -34,6 +34,7 @@ use Rattle.mscp_ported.specs.Answers.{IsHandedOver, IsOwnAnswer, Own, asks_next,
 use Rattle.mscp_ported.specs.Talk.{AsksAlways, Opened, Slot, Turn, talk_of}
 use Rattle.mscp_ported.proofs.Coming.{come_so, ends_of}
 use Rattle.mscp_ported.proofs.Following.{in_step}
+use Rattle.mscp_ported.proofs.Silent.{none_waits}
 use Rattle.mscp_ported.proofs.Look.{Fits, Look, look, slot_at}
 
 refusal_so : (o : Option Volume) (b : List ℕ) → volume_refusal o b ≡ own_refusal b o
@@ -142,7 +143,7 @@ module _ {K : Type 0} (picks : Picking K) (hardware : Hardware) (credits : ℕ) 
       → AsksAlways (WasRead bytes (Ok done) ∷ calls)
       → (a : Answered picks start (WasRead bytes (Ok done) ∷ calls) p) → a.0.outgoing ≡ None → p.outgoing ≡ Some o
       → (slot : Slot) × (header : ℕ) × ((talk_of picks start a.0 calls a.1).turn ≡ Opened slot header)
-      × IsOwnAnswer a.0 header bytes o
+      × IsOwnAnswer a.0 header bytes o × (ends_of a.0.controller ≡ [])
   answers p calls bytes done o asks a none some = elim a.2.out [
     | inl e ↦ absurd (none-some o (sym none ∙ (sym e ∙ some)))
     | inr more ↦ elim more [
@@ -153,6 +154,7 @@ module _ {K : Type 0} (picks : Picking K) (hardware : Hardware) (credits : ℕ) 
             fit.0,
             fit.1,
             answer_so own.2 fit.0 fit.3 (own_end_of a.0 own.2 bytes) refl own.4.out,
+            none_waits picks hardware credits controller start made a.0 calls a.1 own.0 own.1 own.2 own.3 none,
           )
       | inr d ↦ absurd (none-some o (sym d.1.outgoing ∙ some))
     ]

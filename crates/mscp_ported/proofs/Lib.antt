@@ -32,3 +32,4 @@ pub mod Soon
 pub mod Telling
 pub mod Changing
 pub mod Mounting
+pub mod Silent

@@ -5,6 +5,7 @@ use Rattle.byteorder.specs.Endian.{little_bytes}
 use Rattle.mscp_packet.specs.Number.{num}
 use Rattle.mscp_packet.specs.declared.end.End.{End}
 use Rattle.mscp_packet.specs.declared.end.EndBody.TheVariants as bodies
+use Rattle.mscp_drive.specs.Both.{of}
 use Rattle.mscp_drive.specs.Extent.{blocks}
 use Rattle.mscp_drive.specs.Shape.{Shape}
 use Rattle.mscp_drive.specs.declared.connection.Connection.TheVariants.{First}
@@ -89,7 +90,8 @@ pub record IsOwnAnswer {K : Type 0} (p : Port K) (header : ℕ) (text : List ℕ
       × (o.bytes.items ≡ own_text text own)
 
 -- the law of answers: whoever calls a port that was made over a controller, and tells of actions only after they were
--- wanted: what begins to go out as a text is read is the answer to that message, which the port may give itself
+-- wanted: what begins to go out as a text is read is the answer to that message, which the port may give itself; and no
+-- end waits then that came for the host before, so that it passes that of no command
 abbrev pub PortsAnswerAsTheyMay : {K : Type 0} → Picking K → Type 0
 PortsAnswerAsTheyMay {K} picks =
     (hardware : Hardware) (credits : ℕ) (controller : Holdings K) (start p : Port K) (calls : List Call)
@@ -97,7 +99,7 @@ PortsAnswerAsTheyMay {K} picks =
     → AsksAlways (WasRead bytes (Ok done) ∷ calls) → (a : Answered picks start (WasRead bytes (Ok done) ∷ calls) p)
     → a.0.outgoing ≡ None → p.outgoing ≡ Some o
     → (slot : Slot) × (header : ℕ) × ((talk_of picks start a.0 calls a.1).turn ≡ Opened slot header)
-    × IsOwnAnswer a.0 header bytes o
+    × IsOwnAnswer a.0 header bytes o × (of First a.0.controller.untaken ≡ [])
 
 -- ---- what the controller gets
 
