@@ -42,7 +42,7 @@ refusal_so None b = refl
 refusal_so (Some x) b = refl
 
 -- the end is that of the table
-own_so : (foreign : Bool) (v : Option Volume) (b : List ℕ) (e : End) → own_end foreign v b ≡ Some e
+pub own_so : (foreign : Bool) (v : Option Volume) (b : List ℕ) (e : End) → own_end foreign v b ≡ Some e
     → (own : Own) × (own_answer foreign v b ≡ Some own) × (end_bytes e ≡ own_text b own)
 own_so true v b e some = (
   record { code = 0x80; status = 0x0801; tells_bytes = false },
@@ -84,7 +84,7 @@ own_so false v b e some = by (is_own_opcode (slice_index b 8)) some
 refusing : List ℕ → ℕ → Own
 refusing b status = record { code = slice_index b 8 + 0x80; status = status; tells_bytes = true }
 
-none_so : (foreign : Bool) (v : Option Volume) (b : List ℕ) → own_end foreign v b ≡ None
+pub none_so : (foreign : Bool) (v : Option Volume) (b : List ℕ) → own_end foreign v b ≡ None
     → own_answer foreign v b ≡ None
 unfolding refusing
 none_so true v b e = absurd (none-some (bare_end b 0x80 0x0801) (sym e))
@@ -102,7 +102,7 @@ none_so false v b e = by (is_own_opcode (slice_index b 8)) e
     by false h = subst (λ o. option_map (refusing b) o ≡ None) (refusal_so v b) (refused (volume_refusal v b) h)
 
 -- the text that is handed over is that of the table
-handed_so : (units : List Shape) (b : List ℕ) → handed units b ≡ text_handed units b
+pub handed_so : (units : List Shape) (b : List ℕ) → handed units b ≡ text_handed units b
 handed_so units b = by (asks_next b) (find (λ unit. nat_le (num b 4 2) unit.number) units)
   where
     by : (c : Bool) (o : Option Shape)

@@ -33,3 +33,8 @@ pub mod Telling
 pub mod Changing
 pub mod Mounting
 pub mod Silent
+pub mod Sole
+pub mod Owning
+pub mod Transferring
+pub mod Keeping
+pub mod Standing

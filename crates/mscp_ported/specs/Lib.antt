@@ -10,3 +10,4 @@ pub mod Ends
 pub mod Answers
 pub mod News
 pub mod Soon
+pub mod Transfers
