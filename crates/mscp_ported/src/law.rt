@@ -8,6 +8,7 @@ ghost use Rattle.mscp_ported.specs.Moved.{PortsMoveWhatTheySay};
 ghost use Rattle.mscp_ported.specs.News.{PortsAnnounceAvailableUnits};
 ghost use Rattle.mscp_ported.specs.Owed.{PortsDoWhatIsDue};
 ghost use Rattle.mscp_ported.specs.Soon.{PortsKeepTelling, PortsTellSoon};
+ghost use Rattle.mscp_ported.specs.Transfers.{PortsMoveEachBlock};
 ghost use Rattle.mscp_ported.specs.Told.{PortsHearInOrder, PortsTellInOrder};
 
 use mscp_controller::controllers_keep_the_promise;
@@ -62,6 +63,16 @@ pub fn ports_keep_the_promise<K: Picker>(picker: &K)
 /// then the wish was a pause.
 pub fn ports_move_what_they_say<K: Picker>(picker: &K)
     ensures { PortsMoveWhatTheySay K.picks }
+{
+    let _ = picker;
+}
+
+/// Of such a port: where the controller is told that a block of a transfer went well, and by that the transfer's end comes, the
+/// end says Success, and counts all bytes that the command asked for. The message by which the command came is one that was read;
+/// and since it came, just the blocks for which it asks were wanted and told done, one behind the other, each at its place of the
+/// buffer that the message named: one for each 512 bytes, and of the last one the bytes that are left.
+pub fn ports_move_each_block<K: Picker>(picker: &K)
+    ensures { PortsMoveEachBlock K.picks }
 {
     let _ = picker;
 }

@@ -1,5 +1,3 @@
-use Rattle.mscp_ported.proofs.Keeping.{are_owned}
-use Rattle.mscp_ported.proofs.Standing.{good_back}
 use Rattle.mscp_ported.proofs.Moved.{moves_what_it_says}
 use Rattle.mscp_ported.proofs.law.ports_move_what_they_say.Goals as goal
 
