@@ -1,7 +1,6 @@
 -- How often the volume of a unit changed, and what is kept of a command of which it is known how often since.
-use Rattle.std.proofs.Common.{◌≡◌, ◌≢◌, ◌⊎◌, ◌∙◌, ◌+◌, ◌<◌, ◌≤◌, ◌%◌, ◌∷◌, [], ℕ, Bool, true, false, cond, length, set, nat_eq, List, Option, None, Some, Contains, inl, inr, refl, ap, sym, subst, arith}
-use Rattle.std.specs.Prelude.{◌==◌, Ok, Err, IsErr, Result}
-use Rattle.std.specs.List.{position}
+use Rattle.std.proofs.Common.{◌≡◌, ◌≢◌, ◌⊎◌, ◌∙◌, ◌+◌, ◌<◌, ◌≤◌, ◌%◌, ◌∷◌, [], ℕ, Bool, true, false, cond, length, set, nat_eq, List, Option, None, Some, inl, inr, refl, ap, sym, subst, arith}
+use Rattle.std.specs.Prelude.{◌==◌, Ok, Err}
 use Rattle.std.proofs.Math.Nat.{mod-add-mod}
 use Rattle.std.proofs.lemmas.Option.{none-some, same_Some}
 use Rattle.mscp_drive.specs.Shape.{Shape, one_block}
@@ -13,10 +12,9 @@ use Rattle.mscp_port.specs.declared.buffers.Buffer.{Buffer}
 use Rattle.mscp_port.specs.declared.hardware.Hardware.{Hardware}
 use Rattle.mscp_port.specs.declared.port.Outgoing.{Outgoing}
 use Rattle.mscp_port.specs.declared.port.Port.{Port}
-use Rattle.mscp_port.specs.declared.port.watching.NoUnit.{NoUnit}
 use Rattle.mscp_port.specs.declared.stage.Stage.TheVariants as stages
 use Rattle.mscp_port.specs.declared.volumes.Volume.{Volume}
-use Rattle.mscp_port.specs.Calls.{Dies, IsMadeOf}
+use Rattle.mscp_port.specs.Calls.{IsMadeOf}
 use Rattle.mscp_port.specs.Departures.{IsForgotten}
 use Rattle.mscp_port.specs.Histories.{Answered, Becomes, Call, Picking, WriteIp, ReadIp, WriteSa, Next, PutAside, WasRead, Went, LookAgain, Tick, VolumeCame, VolumeWent, Protect}
 use Rattle.mscp_port.specs.Kept.{IsSaidBy}
@@ -25,7 +23,7 @@ use Rattle.mscp_port.specs.Outgoings.{IsNews, Says, news_place}
 use Rattle.mscp_port.specs.Seen.{changes_at}
 use Rattle.mscp_port.specs.Volumes.{no_volume, place_in, volume_at, volume_changed, volume_heeded, volume_protected, volume_put, volumes_heeded, volumes_with}
 use Rattle.mscp_port.proofs.Begun.{taken_or_not}
-use Rattle.mscp_port.proofs.Common.{cases_eq, cases_lt, eq-eqb, eqb-true, eqb-false, false≢true, get_or-set_other, get_or-set_same, get_or_past, length-set, position-Some}
+use Rattle.mscp_port.proofs.Common.{cases_eq, cases_lt, eq-eqb, eqb-true, false≢true, get_or-set_other, get_or-set_same, get_or_past, length-set, position-Some}
 use Rattle.mscp_port.proofs.Kept.{weaker_for}
 use Rattle.mscp_port.proofs.Credits.{settings_stay}
 use Rattle.mscp_port.proofs.Loads.{looks_or_not}

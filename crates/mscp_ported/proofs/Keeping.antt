@@ -1,72 +1,55 @@
 -- What is kept of a command after each call: its blocks so far were moved at their places.
-use Rattle.std.proofs.Common.{◌≡◌, ◌≢◌, ◌⊎◌, ◌∙◌, ◌+◌, ◌-◌, ◌*◌, ◌<◌, ◌≤◌, ◌/◌, ◌&&◌, ◌++◌, ◌∷◌, [], ℕ, zero, suc, Bool, true, false, cond, filter, length, max, min, nat_eq, nat_lt, not, List, Contains, MatchOption, Option, None, Some, IfSome, inl, inr, refl, ap, sym, subst, arith}
-use Rattle.std.specs.Prelude.{◌==◌, Result, Ok, Err, find, option_map, slice_index}
-use Rattle.std.specs.List.{position}
+use Rattle.std.proofs.Common.{◌≡◌, ◌≢◌, ◌∙◌, ◌+◌, ◌-◌, ◌*◌, ◌<◌, ◌≤◌, ◌++◌, ◌∷◌, [], ℕ, suc, Bool, true, false, cond, filter, length, min, List, Contains, MatchOption, Option, None, Some, inl, inr, refl, ap, sym, subst, arith}
+use Rattle.std.specs.Prelude.{◌==◌, Result, Ok, Err}
 use Rattle.std.proofs.lemmas.Option.{none-some, same_Some}
 use Rattle.mscp_packet.specs.Number.{num}
 unfoldable use Rattle.mscp_packet.specs.Commands.{command_of}
-use Rattle.mscp_packet.specs.Commands.{order_with, parameters}
-use Rattle.mscp_packet.specs.Opcodes.{least, move_byte, opcode_of}
-use Rattle.mscp_packet.specs.Statuses.{invalid_length}
-use Rattle.mscp_packet.specs.declared.class.Opcode.{Opcode}
-use Rattle.mscp_packet.specs.declared.class.Opcode.TheVariants as codes
-use Rattle.mscp_packet.specs.declared.command.Command.{Command}
 use Rattle.mscp_packet.specs.declared.command.MoveKind.{MoveKind}
 use Rattle.mscp_packet.specs.declared.command.MoveKind.TheVariants as moves
 use Rattle.mscp_packet.specs.declared.command.Order.{Order}
 use Rattle.mscp_packet.specs.declared.command.Order.TheVariants as orders
 use Rattle.mscp_packet.specs.declared.end.End.{End}
 use Rattle.mscp_drive.specs.declared.block.Block.{Block}
-use Rattle.mscp_drive.specs.declared.block.Block.TheVariants as blocks
 use Rattle.mscp_drive.specs.declared.connection.Connection.{Connection}
 use Rattle.mscp_drive.specs.declared.connection.Connection.TheVariants.{First}
 use Rattle.mscp_queue.specs.declared.drive.Drive.{Drive}
 use Rattle.mscp_queue.specs.declared.name.Name.{Name}
 use Rattle.mscp_queue.specs.declared.report.Report.{Report}
 use Rattle.mscp_queue.specs.declared.report.Report.TheVariants as reports
-use Rattle.mscp_queue.specs.declared.upcoming.Upcoming.{Upcoming}
-use Rattle.mscp_queue.specs.declared.view.Choice.{Choice}
-use Rattle.mscp_queue.specs.Drives.{drive_of}
-use Rattle.mscp_queue.specs.Names.{name_on, same_connection, same_name}
-use Rattle.mscp_queue.specs.Outcomes.{block_touched, goes_on, is_good_block, outcome_at, touches}
+use Rattle.mscp_queue.specs.Names.{name_on, same_name}
+use Rattle.mscp_queue.specs.Outcomes.{goes_on, outcome_at}
 use Rattle.mscp_queue.specs.Orders.{order_weight}
-use Rattle.mscp_queue.specs.Records.{Record, advanced, drive_at, has_name, left_of, name_of, record_at}
-use Rattle.mscp_queue.specs.Serving.{end_given, is_begun, touched, upcoming_begun, upcoming_of, waiting_after}
-use Rattle.mscp_queue.proofs.Placed.{found_is}
+use Rattle.mscp_queue.specs.Records.{Record, advanced, drive_at, left_of, name_of, record_at}
+use Rattle.mscp_queue.specs.Serving.{end_given, is_begun, upcoming_begun, waiting_after}
 use Rattle.mscp_queue.proofs.Named.{is_same, same_is}
 use Rattle.mscp_controller.specs.declared.entry.NotBegun.{NotBegun}
 use Rattle.mscp_controller.specs.Holdings.{Finishes, Holdings, begun_step}
 use Rattle.mscp_port.specs.declared.action.Action.{Action}
 use Rattle.mscp_port.specs.declared.action.Action.TheVariants as actions
 use Rattle.mscp_port.specs.declared.action.Outcome.{Outcome}
-use Rattle.mscp_port.specs.declared.action.Outcome.TheVariants as outcomes
 use Rattle.mscp_port.specs.declared.buffers.Buffer.{Buffer}
 use Rattle.mscp_port.specs.declared.hardware.Hardware.{Hardware}
 use Rattle.mscp_port.specs.declared.port.Port.{Port}
 use Rattle.mscp_port.specs.declared.task.Task.{Task}
 use Rattle.mscp_port.specs.declared.task.Task.TheVariants as tasks
 use Rattle.mscp_port.specs.declared.verdict.Verdict.{Verdict}
-use Rattle.mscp_port.specs.Blocks.{block_told, kept_of}
-use Rattle.mscp_port.specs.Buffers.{buffer_in, is_of, without}
-use Rattle.mscp_port.specs.Calls.{Goes, IsMadeOf}
+use Rattle.mscp_port.specs.Blocks.{block_told}
+use Rattle.mscp_port.specs.Buffers.{buffer_in, is_of}
+use Rattle.mscp_port.specs.Calls.{IsMadeOf}
 use Rattle.mscp_port.specs.Histories.{Answered, Call, Picking, WriteIp, ReadIp, WriteSa, Next, PutAside, WasRead, Went, LookAgain, Tick, VolumeCame, VolumeWent, Protect}
 use Rattle.mscp_port.specs.Moved.{HeedsStep, IsStepping, TakesBegun, TakesBlock, block_begun, block_served, end_brought, kept_after}
 use Rattle.mscp_port.specs.Outgoings.{Says}
 use Rattle.mscp_port.specs.Ports.{IsReadingText}
-use Rattle.mscp_port.proofs.Common.{eqb-true, false≢true}
+use Rattle.mscp_port.proofs.Common.{false≢true}
 use Rattle.mscp_port.proofs.Kept.{is_numbered}
 use Rattle.mscp_port.proofs.Loads.{looks_or_not}
-use Rattle.mscp_port.proofs.Said.{kept_found, none_or_some, of_first, served_name, without_among, is_first, not_of}
-use Rattle.mscp_ported.specs.Making.{step_told, told_of}
-use Rattle.mscp_ported.specs.Moved.{IsEmpty, WasMoved, block_moved}
-use Rattle.mscp_ported.specs.Talk.{AsksAlways, Wish, wish}
+use Rattle.mscp_port.proofs.Said.{served_name, without_among, is_first, not_of}
+use Rattle.mscp_ported.specs.Talk.{AsksAlways, wish}
 use Rattle.mscp_ported.specs.Transfers.{asked, comes, done_by, is_done, is_moving, is_queued_text, is_step_of, moved, transfers, wanted}
-use Rattle.mscp_ported.proofs.Making.{transfer_so, verdict_so}
-use Rattle.mscp_ported.proofs.Transferring.{GoesOn, IsHow, goes_on_so, moves_so, no_done, none_moving, other_step, told_so}
-use Rattle.mscp_ported.proofs.Moved.{Either, moved_at}
+use Rattle.mscp_ported.proofs.Transferring.{IsHow, goes_on_so, moves_so, no_done, none_moving, other_step, told_so}
 use Rattle.mscp_ported.proofs.Moving.{Steps, steps}
 use Rattle.mscp_ported.proofs.Owning.{AreOwned, Own, Owned, and_false, carries, nothing_kept, number_of, parts_of, quiet, text_owned}
-use Rattle.mscp_ported.proofs.Sole.{Alike, found_sole, itself, one_of, served_goes_on, served_itself, served_other, sole_passes}
+use Rattle.mscp_ported.proofs.Sole.{served_goes_on, served_itself, served_other}
 
 -- ---- what is kept after a step
 

@@ -1,6 +1,6 @@
 -- Blocks are moved on the volume that was there as their command came, and with which the unit was brought online.
-use Rattle.std.proofs.Common.{◌≡◌, ◌≢◌, ◌⊎◌, ◌∙◌, ◌+◌, ◌<◌, ◌≤◌, ◌%◌, ◌/◌, ◌||◌, ◌∷◌, ◌++◌, [], ℕ, Bool, true, false, cond, not, drop, length, set, nat_eq, List, MatchOption, Option, None, Some, IfSome, Contains, inl, inr, refl, ap, sym, subst, arith}
-use Rattle.std.specs.Prelude.{◌==◌, Ok, Err, Result, option_map, option_to_list}
+use Rattle.std.proofs.Common.{◌≡◌, ◌≢◌, ◌⊎◌, ◌∙◌, ◌<◌, ◌≤◌, ◌%◌, ◌/◌, ◌||◌, ◌∷◌, [], ℕ, Bool, true, false, cond, not, length, set, nat_eq, List, MatchOption, Option, None, Some, IfSome, Contains, inl, inr, refl, ap, sym, subst, arith}
+use Rattle.std.specs.Prelude.{◌==◌, Ok, Err, Result, option_map}
 use Rattle.std.specs.List.{position}
 use Rattle.std.proofs.lemmas.List.{append-nil}
 use Rattle.std.proofs.lemmas.Option.{none-some, same_Some}
@@ -31,14 +31,14 @@ use Rattle.mscp_port.specs.declared.verdict.Verdict.{Verdict}
 use Rattle.mscp_port.specs.declared.volumes.Volume.{Volume}
 use Rattle.mscp_port.specs.declared.verdict.Verdict.TheVariants as verdicts
 use Rattle.mscp_port.specs.Areas.{Rings}
-use Rattle.mscp_port.specs.Blocks.{fault_with, has_changed, kept_of, move_of, part_with, refusal_of, unless_fault}
+use Rattle.mscp_port.specs.Blocks.{has_changed, kept_of, move_of, part_with, refusal_of, unless_fault}
 use Rattle.mscp_port.specs.Buffers.{is_of, part_of}
 use Rattle.mscp_port.specs.Calls.{Goes, IsMadeOf}
-use Rattle.mscp_port.specs.Histories.{Answered, Becomes, Call, Picking, WriteIp, ReadIp, WriteSa, Next, PutAside, WasRead, Went, LookAgain, Tick, VolumeCame, VolumeWent, Protect}
-use Rattle.mscp_port.specs.Moved.{GoesOnWithBlock, HeedsStep, TakesBlock, block_begun, end_brought, move_wanted, moved_step, part_at, part_now, part_wanted, place_heeded, volumes_after}
+use Rattle.mscp_port.specs.Histories.{Answered, Call, Picking, WriteIp, ReadIp, WriteSa, Next, PutAside, WasRead, Went, LookAgain, Tick, VolumeCame, VolumeWent, Protect}
+use Rattle.mscp_port.specs.Moved.{block_begun, end_brought, move_wanted, moved_step, part_at, part_wanted, place_heeded, volumes_after}
 use Rattle.mscp_port.specs.Outgoings.{IsNews, Says, news_place}
-use Rattle.mscp_port.specs.Ports.{IsAlive, IsAsNew}
-use Rattle.mscp_port.specs.Volumes.{no_volume, place_in, brought_online, protected_by, volume_at, volume_changed, volume_heeded, volume_protected, volume_put, volume_reset, volumes_heeded, volumes_with}
+use Rattle.mscp_port.specs.Ports.{IsAsNew}
+use Rattle.mscp_port.specs.Volumes.{no_volume, place_in, brought_online, protected_by, volume_at, volume_changed, volume_heeded, volume_protected, volume_put, volumes_heeded, volumes_with}
 use Rattle.mscp_port.specs.Wanted.{InRings, IsWanted}
 use Rattle.mscp_port.proofs.Begun.{taken_or_not}
 use Rattle.mscp_port.proofs.Common.{cases_eq, cases_lt, eq-eqb, eqb-true, false≢true, get_or-set_other, get_or-set_same, get_or_past, length-set, position-Some}
@@ -47,8 +47,8 @@ use Rattle.mscp_port.proofs.Loads.{looks_or_not}
 use Rattle.mscp_port.proofs.Said.{kept_found, of_first}
 use Rattle.mscp_ported.specs.Ends.{come}
 use Rattle.mscp_ported.specs.Making.{Makes, step_told}
-use Rattle.mscp_ported.specs.Mounts.{IsOfItsVolume, IsOnItsVolume, IsOnline, Succeeds, changed, changed_by}
-use Rattle.mscp_ported.specs.Talk.{AsksAlways, Wish, wish}
+use Rattle.mscp_ported.specs.Mounts.{IsOfItsVolume, IsOnItsVolume, IsOnline, Succeeds, changed}
+use Rattle.mscp_ported.specs.Talk.{AsksAlways, wish}
 use Rattle.mscp_ported.proofs.Changing.{SaidAgo, kept_ago, of_its_volume, same_unit}
 use Rattle.mscp_ported.proofs.Moving.{Steps, steps}
 use Rattle.mscp_ported.proofs.Moved.{good_told, kept_said}

@@ -1,57 +1,41 @@
 -- What is kept of a command was said by its own message, and its blocks so far were moved at their places.
-use Rattle.std.proofs.Common.{◌≡◌, ◌≢◌, ◌⊎◌, ◌∙◌, ◌+◌, ◌-◌, ◌*◌, ◌<◌, ◌≤◌, ◌/◌, ◌&&◌, ◌++◌, ◌∷◌, [], ℕ, zero, suc, Bool, true, false, cond, filter, length, max, min, nat_eq, nat_lt, not, List, Contains, MatchOption, Option, None, Some, IfSome, inl, inr, refl, ap, sym, subst, arith}
-use Rattle.std.specs.Prelude.{◌==◌, Result, Ok, Err, find, is_none, option_map, slice_index}
-use Rattle.std.specs.List.{list_any, position}
+use Rattle.std.proofs.Common.{◌≡◌, ◌≢◌, ◌⊎◌, ◌∙◌, ◌<◌, ◌&&◌, ◌++◌, ◌∷◌, [], ℕ, Bool, true, false, cond, filter, length, nat_eq, nat_lt, not, List, Contains, Option, None, Some, inl, inr, refl, ap, sym, subst, arith}
+use Rattle.std.specs.Prelude.{◌==◌, Ok, find, is_none, option_map}
 use Rattle.std.proofs.lemmas.List.{append-nil}
 use Rattle.std.proofs.lemmas.Option.{none-some, same_Some}
 use Rattle.mscp_packet.specs.Number.{num}
 use Rattle.mscp_packet.specs.declared.command.Command.{Command}
-use Rattle.mscp_packet.specs.declared.command.MoveKind.{MoveKind}
 use Rattle.mscp_packet.specs.declared.command.Order.{Order}
 use Rattle.mscp_packet.specs.declared.command.Order.TheVariants as orders
 use Rattle.mscp_packet.specs.declared.end.End.{End}
 unfoldable use Rattle.mscp_packet.specs.Commands.{command_of}
-use Rattle.mscp_drive.specs.Extent.{blocks as blocks_in, weight}
-use Rattle.mscp_drive.specs.declared.block.Block.{Block}
-use Rattle.mscp_drive.specs.declared.block.Block.TheVariants as blocks
-use Rattle.mscp_drive.specs.declared.connection.Connection.{Connection}
 use Rattle.mscp_drive.specs.declared.connection.Connection.TheVariants.{First}
 use Rattle.mscp_queue.specs.declared.name.Name.{Name}
-use Rattle.mscp_queue.specs.declared.report.Report.{Report}
-use Rattle.mscp_queue.specs.declared.report.Report.TheVariants as reports
-use Rattle.mscp_queue.specs.declared.upcoming.Upcoming.{Upcoming}
-use Rattle.mscp_queue.specs.Names.{name_on, same_connection, same_name}
+use Rattle.mscp_queue.specs.Names.{name_on}
 use Rattle.mscp_queue.specs.Orders.{order_weight}
-use Rattle.mscp_queue.specs.Records.{Record, fresh_record, has_name, name_of, record_at, without as without_name}
-use Rattle.mscp_queue.proofs.Named.{is_same, same_is}
+use Rattle.mscp_queue.specs.Records.{Record, fresh_record, name_of}
+use Rattle.mscp_queue.proofs.Named.{same_is}
 use Rattle.mscp_controller.specs.Arrival.{is_queued, refusal}
 use Rattle.mscp_controller.specs.declared.entry.SendFault.{SendFault}
-use Rattle.mscp_controller.specs.declared.entry.Sent.{Sent}
 use Rattle.mscp_controller.specs.declared.entry.Sent.TheVariants as sents
-use Rattle.mscp_controller.specs.Holdings.{Holdings, aborting, answer_to_message, answered_end, arrives, balance_of, begun_step, held_unless, outstanding_of, queued, record_aborted, reference_aborted, sent_unless, taken_as, unaborted, with_end}
+use Rattle.mscp_controller.specs.Holdings.{Holdings, aborting, answer_to_message, answered_end, arrives, balance_of, held_unless, outstanding_of, queued, reference_aborted, sent_unless, taken_as, unaborted, with_end}
 use Rattle.mscp_port.specs.declared.action.Action.{Action}
-use Rattle.mscp_port.specs.declared.action.Action.TheVariants as actions
-use Rattle.mscp_port.specs.declared.action.Outcome.{Outcome}
 use Rattle.mscp_port.specs.declared.buffers.Buffer.{Buffer}
 use Rattle.mscp_port.specs.declared.port.Port.{Port}
 use Rattle.mscp_port.specs.declared.slot.Descriptor.{Descriptor}
-use Rattle.mscp_port.specs.declared.task.Task.{Task}
 use Rattle.mscp_port.specs.declared.task.Task.TheVariants as tasks
-use Rattle.mscp_port.specs.Buffers.{buffer_in, kept_beside, without, without_aborted}
-use Rattle.mscp_port.specs.Calls.{Hears}
+use Rattle.mscp_port.specs.Buffers.{buffer_in, kept_beside, without_aborted}
 use Rattle.mscp_port.specs.Histories.{Answered, Call, Picking, WasRead}
 use Rattle.mscp_port.specs.Messages.{handed, own_end_of}
-use Rattle.mscp_port.specs.Ports.{IsReadingText}
 use Rattle.mscp_port.specs.Seen.{SeesText, answered_to, changes_at, kept_of_sent}
 use Rattle.mscp_port.specs.Volumes.{place_in}
 use Rattle.mscp_port.proofs.Come.{handed_as_read, long_enough, none_waits, taken_number}
-use Rattle.mscp_port.proofs.Common.{Contains-push_cases, and_parts, eq-eqb, eqb-true, false≢true}
+use Rattle.mscp_port.proofs.Common.{Contains-push_cases, eq-eqb, eqb-true}
 use Rattle.mscp_port.proofs.Among.{none_among}
 use Rattle.mscp_port.proofs.Kept.{is_numbered}
-use Rattle.mscp_port.proofs.Loads.{none_or_not}
 use Rattle.mscp_port.proofs.Said.{is_first, none_or_some, not_of, without_among}
-use Rattle.mscp_ported.specs.Answers.{own_answer, text_handed, volume_named}
-use Rattle.mscp_ported.specs.Talk.{Wish, wish}
+use Rattle.mscp_ported.specs.Answers.{own_answer, volume_named}
+use Rattle.mscp_ported.specs.Talk.{wish}
 use Rattle.mscp_ported.specs.Transfers.{asked, comes, done_by, is_queued_so, is_queued_text, moved, text_of, transfers}
 use Rattle.mscp_ported.proofs.Answering.{handed_so, none_so, own_so}
 use Rattle.mscp_ported.proofs.Sole.{Alike, found_sole, itself, none_passes, sole_beside, sole_comes, sole_left, sole_passes}

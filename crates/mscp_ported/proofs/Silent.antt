@@ -1,5 +1,5 @@
 -- While a message is read and nothing goes out, no end waits for the host.
-use Rattle.std.proofs.Common.{◌≡◌, ◌≢◌, ◌⊎◌, ◌∙◌, ◌≤◌, ◌<◌, ◌+◌, ◌/◌, ◌%◌, ◌&&◌, ◌∷◌, [], ℕ, Bool, true, false, cond, not, List, MatchOption, Option, None, Some, IfSome, inl, inr, refl, ap, sym, subst, arith}
+use Rattle.std.proofs.Common.{◌≡◌, ◌≢◌, ◌⊎◌, ◌∙◌, ◌≤◌, ◌<◌, ◌+◌, ◌/◌, ◌%◌, ◌∷◌, [], ℕ, Bool, true, false, cond, List, MatchOption, Option, None, Some, IfSome, inl, inr, refl, ap, sym, subst, arith}
 use Rattle.std.specs.Prelude.{◌==◌, Result, Ok, Err, slice_get}
 use Rattle.std.proofs.lemmas.Option.{none-some}
 use Rattle.mscp_packet.specs.Number.{num}
@@ -11,10 +11,8 @@ use Rattle.mscp_controller.specs.declared.entry.SendFault.{SendFault}
 use Rattle.mscp_controller.specs.declared.entry.Sent.{Sent}
 use Rattle.mscp_port.specs.declared.action.Action.{Action}
 use Rattle.mscp_port.specs.declared.action.Outcome.{Outcome}
-use Rattle.mscp_port.specs.declared.action.Outcome.TheVariants as outcomes
 use Rattle.mscp_port.specs.declared.hardware.Hardware.{Hardware}
 use Rattle.mscp_port.specs.declared.port.Port.{Port}
-use Rattle.mscp_port.specs.declared.rings.Side.{Side}
 use Rattle.mscp_port.specs.declared.rings.Side.TheVariants.{Responses, Commands}
 use Rattle.mscp_port.specs.declared.slot.Descriptor.{Descriptor}
 use Rattle.mscp_port.specs.declared.stage.Stage.{Stage}
@@ -23,15 +21,15 @@ use Rattle.mscp_port.specs.declared.task.Task.{Task}
 use Rattle.mscp_port.specs.declared.task.Task.TheVariants as tasks
 use Rattle.mscp_port.specs.declared.verdict.Verdict.{Verdict}
 use Rattle.mscp_port.specs.declared.volumes.Volume.{Volume}
-use Rattle.mscp_port.specs.Acted.{Clears, GivesBack, WritesOut, hears_of, step_task, vector_in}
+use Rattle.mscp_port.specs.Acted.{Clears, GivesBack, hears_of, step_task, vector_in}
 use Rattle.mscp_port.specs.Areas.{Rings, end_of, rings_named, start_of}
-use Rattle.mscp_port.specs.Calls.{Goes, Hears, IsMadeOf, TakesStep, Wants, read_again, step_again, step_answered, step_at}
+use Rattle.mscp_port.specs.Calls.{Goes, Hears, IsMadeOf, TakesStep, Wants, read_again, step_answered, step_at}
 use Rattle.mscp_port.specs.Histories.{Answered, Becomes, Call, Picking, WriteIp, ReadIp, WriteSa, Next, PutAside, WasRead, Went, LookAgain, Tick, VolumeCame, VolumeWent, Protect}
 use Rattle.mscp_port.specs.Moved.{TakesBegun, TakesBlock, block_begun, block_served}
 use Rattle.mscp_port.specs.Messages.{own_end_of}
-use Rattle.mscp_port.specs.Outgoings.{LooksForOut, Says}
+use Rattle.mscp_port.specs.Outgoings.{LooksForOut}
 use Rattle.mscp_port.specs.Ports.{Drops, IsAlive, IsAsNew, IsDue, IsOutcomeOf, Leaves, aside, read_size}
-use Rattle.mscp_port.specs.Seen.{SeesText, answered_to, bytes_read, connection_in, header_fault, length_in, neighbour_seen, slot_seen}
+use Rattle.mscp_port.specs.Seen.{SeesText, answered_to, bytes_read, connection_in, header_fault, length_in}
 use Rattle.mscp_port.specs.Slots.{is_owned}
 use Rattle.mscp_port.specs.Volumes.{place_in}
 use Rattle.mscp_port.proofs.Common.{false≢true}

@@ -1,15 +1,12 @@
 -- The one command of a number that waits, by each step.
-use Rattle.std.proofs.Common.{◌≡◌, ◌≢◌, ◌⊎◌, ◌∙◌, ◌+◌, ◌<◌, ◌||◌, ◌++◌, ◌∷◌, [], ℕ, Bool, true, false, cond, drop, filter, length, map, not, take, List, Option, None, Some, inl, inr, refl, ap, sym, subst, arith}
+use Rattle.std.proofs.Common.{◌≡◌, ◌⊎◌, ◌∙◌, ◌+◌, ◌<◌, ◌||◌, ◌++◌, ◌∷◌, [], ℕ, Bool, true, false, cond, drop, filter, length, map, take, List, Option, None, Some, inl, inr, refl, ap, sym, arith}
 use Rattle.std.specs.Prelude.{find}
 use Rattle.std.specs.List.{list_any}
-use Rattle.std.proofs.lemmas.Option.{none-some, same_Some}
 use Rattle.mscp_packet.specs.declared.end.End.{End}
 use Rattle.mscp_drive.specs.declared.block.Block.{Block}
 use Rattle.mscp_queue.specs.declared.drive.Drive.{Drive}
-use Rattle.mscp_queue.specs.Records.{Record, advanced, no_record, passed_by, record_at, remains, step_charge, without}
-use Rattle.mscp_queue.specs.Names.{name_on}
+use Rattle.mscp_queue.specs.Records.{Record, advanced, no_record, passed_by, record_at, remains, step_charge}
 use Rattle.mscp_queue.specs.Serving.{end_given, waiting_after}
-use Rattle.mscp_drive.specs.declared.connection.Connection.TheVariants.{First}
 use Rattle.mscp_port.proofs.Common.{drop_more, false≢true, take-append-drop}
 use Rattle.mscp_port.proofs.Kept.{is_numbered}
 

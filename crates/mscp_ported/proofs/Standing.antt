@@ -1,5 +1,5 @@
 -- The end of a transfer that says Success stands for blocks that were moved, each at its place.
-use Rattle.std.proofs.Common.{◌≡◌, ◌≢◌, ◌⊎◌, ◌∙◌, ◌+◌, ◌-◌, ◌*◌, ◌<◌, ◌≤◌, ◌/◌, ◌&&◌, ◌++◌, ◌∷◌, [], ℕ, suc, Bool, true, false, cond, filter, length, max, min, nat_eq, nat_lt, List, Contains, MatchOption, Option, None, Some, inl, inr, refl, ap, sym, subst, arith}
+use Rattle.std.proofs.Common.{◌≡◌, ◌⊎◌, ◌∙◌, ◌+◌, ◌-◌, ◌*◌, ◌<◌, ◌≤◌, ◌&&◌, ◌++◌, ◌∷◌, [], ℕ, suc, Bool, true, false, cond, filter, length, min, nat_eq, nat_lt, List, Contains, MatchOption, Option, None, Some, inl, inr, refl, ap, sym, subst, arith}
 use Rattle.std.specs.Prelude.{Result, Ok, Err, find, option_map, slice_index}
 use Rattle.std.specs.List.{position}
 use Rattle.std.proofs.lemmas.List.{append-nil}
@@ -7,7 +7,6 @@ use Rattle.std.proofs.lemmas.Option.{none-some, same_Some}
 use Rattle.mscp_packet.specs.Number.{num}
 use Rattle.mscp_packet.specs.Opcodes.{move_byte, opcode_of, opcodes, row_of}
 unfoldable use Rattle.mscp_packet.specs.Commands.{command_of}
-use Rattle.mscp_packet.specs.declared.class.Opcode.{Opcode}
 use Rattle.mscp_packet.specs.declared.class.Opcode.TheVariants as codes
 use Rattle.mscp_packet.specs.declared.command.Command.{Command}
 use Rattle.mscp_packet.specs.declared.command.MoveKind.{MoveKind}
@@ -38,7 +37,6 @@ use Rattle.mscp_queue.proofs.Placed.{found_is}
 use Rattle.mscp_controller.specs.Calls.{Finish, Call as Made}
 use Rattle.mscp_controller.specs.declared.entry.NotBegun.{NotBegun}
 use Rattle.mscp_controller.specs.Holdings.{Finishes, Holdings, begun_step}
-use Rattle.mscp_port.specs.declared.action.Action.{Action}
 use Rattle.mscp_port.specs.declared.action.Action.TheVariants as actions
 use Rattle.mscp_port.specs.declared.action.Outcome.{Outcome}
 use Rattle.mscp_port.specs.declared.buffers.Buffer.{Buffer}
@@ -47,7 +45,7 @@ use Rattle.mscp_port.specs.declared.port.Port.{Port}
 use Rattle.mscp_port.specs.declared.task.Task.{Task}
 use Rattle.mscp_port.specs.declared.task.Task.TheVariants as tasks
 use Rattle.mscp_port.specs.declared.verdict.Verdict.{Verdict}
-use Rattle.mscp_port.specs.Blocks.{block_told, kept_of}
+use Rattle.mscp_port.specs.Blocks.{block_told}
 use Rattle.mscp_port.specs.Buffers.{is_of}
 use Rattle.mscp_port.specs.Calls.{IsMadeOf}
 use Rattle.mscp_port.specs.Histories.{Answered, Call, Picking, Went}
@@ -58,16 +56,16 @@ use Rattle.mscp_port.proofs.Said.{kept_found, of_first, served_name}
 use Rattle.mscp_ported.specs.Ends.{come}
 use Rattle.mscp_ported.specs.Making.{IsFinish, Makes, step_told}
 use Rattle.mscp_ported.specs.Moved.{block_moved}
-use Rattle.mscp_ported.specs.Talk.{AsksAlways, Wish, wish}
+use Rattle.mscp_ported.specs.Talk.{AsksAlways, wish}
 use Rattle.mscp_ported.specs.Transfers.{StandsFor, asked, done_by, moved, transfers}
 use Rattle.mscp_ported.proofs.Coming.{brought_for, come_so, steps_bring}
-use Rattle.mscp_ported.proofs.Keeping.{are_owned, end_number}
+use Rattle.mscp_ported.proofs.Keeping.{are_owned}
 use Rattle.mscp_ported.proofs.Making.{transfer_so, verdict_so}
-use Rattle.mscp_ported.proofs.Moved.{good_told, moved_at}
+use Rattle.mscp_ported.proofs.Moved.{moved_at}
 use Rattle.mscp_ported.proofs.Moving.{Steps, steps}
-use Rattle.mscp_ported.proofs.Owning.{AreOwned, Own, Owned, number_of, parts_of}
-use Rattle.mscp_ported.proofs.Sole.{found_sole, one_of, served_itself, sole_passes}
-use Rattle.mscp_ported.proofs.Transferring.{IsHow, Moves, moves_so, block_so}
+use Rattle.mscp_ported.proofs.Owning.{AreOwned, Own, number_of, parts_of}
+use Rattle.mscp_ported.proofs.Sole.{found_sole, served_itself, sole_passes}
+use Rattle.mscp_ported.proofs.Transferring.{IsHow, moves_so}
 
 -- ---- tables
 
@@ -104,7 +102,7 @@ status_so : (online : Bool) (order : Order) (kind : MoveKind) (count first : ℕ
     → touches online order ≡ true → good_status online order ≡ 0
 status_so true (orders.Move k n f) kind count first e t = refl
 status_so false (orders.Move k n f) kind count first e t = absurd (false≢true t)
-status_so online order kind count first e t = search (arith, e)
+status_so online order kind count first e t = absurd (false≢true t)
 
 body_so : (shape : Shape) (status : ℕ) (online : Bool) (order : Order) (good : ℕ) (kind : MoveKind) (count first : ℕ)
     → order ≡ orders.Move kind count first → touches online order ≡ true

@@ -1,71 +1,57 @@
 -- What a step of a transfer moves that goes well.
-use Rattle.std.proofs.Common.{◌≡◌, ◌≢◌, ◌⊎◌, ◌∙◌, ◌+◌, ◌-◌, ◌*◌, ◌<◌, ◌≤◌, ◌/◌, ◌&&◌, ◌++◌, ◌∷◌, [], ℕ, zero, suc, Bool, true, false, cond, filter, length, max, min, nat_eq, nat_lt, not, List, Contains, MatchOption, Option, None, Some, IfSome, inl, inr, refl, ap, sym, subst, arith}
-use Rattle.std.specs.Prelude.{◌==◌, Result, Ok, Err, find, option_map, slice_index}
+use Rattle.std.proofs.Common.{◌≡◌, ◌≢◌, ◌⊎◌, ◌∙◌, ◌+◌, ◌-◌, ◌*◌, ◌<◌, ◌≤◌, ◌&&◌, ◌∷◌, [], ℕ, Bool, true, false, cond, filter, length, min, nat_lt, List, Option, None, Some, inl, inr, refl, ap, sym, subst, arith}
+use Rattle.std.specs.Prelude.{Ok, find, option_map, slice_index}
 use Rattle.std.specs.List.{position}
-use Rattle.std.proofs.lemmas.Option.{none-some, same_Some}
+use Rattle.std.proofs.lemmas.Option.{none-some}
 use Rattle.mscp_packet.specs.Number.{num}
 unfoldable use Rattle.mscp_packet.specs.Commands.{command_of}
 use Rattle.mscp_packet.specs.Commands.{order_with, parameters}
-use Rattle.mscp_packet.specs.Opcodes.{least, move_byte, opcode_of}
+use Rattle.mscp_packet.specs.Opcodes.{least, opcode_of}
 use Rattle.mscp_packet.specs.Statuses.{invalid_length}
 use Rattle.mscp_packet.specs.declared.class.Opcode.{Opcode}
 use Rattle.mscp_packet.specs.declared.class.Opcode.TheVariants as codes
 use Rattle.mscp_packet.specs.declared.command.Command.{Command}
 use Rattle.mscp_packet.specs.declared.command.MoveKind.{MoveKind}
-use Rattle.mscp_packet.specs.declared.command.MoveKind.TheVariants as moves
 use Rattle.mscp_packet.specs.declared.command.Order.{Order}
 use Rattle.mscp_packet.specs.declared.command.Order.TheVariants as orders
-use Rattle.mscp_packet.specs.declared.end.End.{End}
 use Rattle.mscp_drive.specs.declared.block.Block.{Block}
 use Rattle.mscp_drive.specs.declared.block.Block.TheVariants as blocks
-use Rattle.mscp_drive.specs.declared.connection.Connection.{Connection}
 use Rattle.mscp_drive.specs.declared.connection.Connection.TheVariants.{First}
 use Rattle.mscp_queue.specs.declared.drive.Drive.{Drive}
 use Rattle.mscp_queue.specs.declared.name.Name.{Name}
-use Rattle.mscp_queue.specs.declared.report.Report.{Report}
-use Rattle.mscp_queue.specs.declared.report.Report.TheVariants as reports
 use Rattle.mscp_queue.specs.declared.upcoming.Upcoming.{Upcoming}
-use Rattle.mscp_queue.specs.declared.view.Choice.{Choice}
 use Rattle.mscp_queue.specs.Drives.{drive_of}
-use Rattle.mscp_queue.specs.Names.{name_on, same_connection, same_name}
-use Rattle.mscp_queue.specs.Outcomes.{block_touched, goes_on, is_good_block, outcome_at, touches}
-use Rattle.mscp_queue.specs.Orders.{order_weight}
-use Rattle.mscp_queue.specs.Records.{Record, advanced, drive_at, has_name, left_of, name_of, record_at}
-use Rattle.mscp_queue.specs.Serving.{end_given, is_begun, touched, upcoming_begun, upcoming_of, waiting_after}
+use Rattle.mscp_queue.specs.Names.{name_on, same_name}
+use Rattle.mscp_queue.specs.Outcomes.{block_touched, is_good_block, outcome_at, touches}
+use Rattle.mscp_queue.specs.Records.{Record, has_name, left_of, name_of}
+use Rattle.mscp_queue.specs.Serving.{end_given, upcoming_begun, upcoming_of}
 use Rattle.mscp_queue.proofs.Placed.{found_is}
-use Rattle.mscp_queue.proofs.Named.{is_same, same_is}
-use Rattle.mscp_controller.specs.declared.entry.NotBegun.{NotBegun}
-use Rattle.mscp_controller.specs.Holdings.{Finishes, Holdings, begun_step}
+use Rattle.mscp_queue.proofs.Named.{same_is}
+use Rattle.mscp_controller.specs.Holdings.{Holdings, begun_step}
 use Rattle.mscp_port.specs.declared.action.Action.{Action}
 use Rattle.mscp_port.specs.declared.action.Action.TheVariants as actions
 use Rattle.mscp_port.specs.declared.action.Outcome.{Outcome}
 use Rattle.mscp_port.specs.declared.action.Outcome.TheVariants as outcomes
 use Rattle.mscp_port.specs.declared.buffers.Buffer.{Buffer}
-use Rattle.mscp_port.specs.declared.hardware.Hardware.{Hardware}
 use Rattle.mscp_port.specs.declared.port.Port.{Port}
-use Rattle.mscp_port.specs.declared.task.Task.{Task}
 use Rattle.mscp_port.specs.declared.task.Task.TheVariants as tasks
 use Rattle.mscp_port.specs.declared.verdict.Verdict.{Verdict}
-use Rattle.mscp_port.specs.Blocks.{block_told, kept_of}
-use Rattle.mscp_port.specs.Buffers.{buffer_in, is_of, without}
-use Rattle.mscp_port.specs.Calls.{Goes, IsMadeOf}
-use Rattle.mscp_port.specs.Histories.{Answered, Call, Picking, WriteIp, ReadIp, WriteSa, Next, PutAside, WasRead, Went, LookAgain, Tick, VolumeCame, VolumeWent, Protect}
-use Rattle.mscp_port.specs.Moved.{HeedsStep, IsStepping, TakesBegun, TakesBlock, block_begun, block_served, end_brought, kept_after}
-use Rattle.mscp_port.specs.Outgoings.{Says}
-use Rattle.mscp_port.specs.Ports.{IsReadingText}
-use Rattle.mscp_port.proofs.Common.{eqb-true, false≢true}
+use Rattle.mscp_port.specs.Blocks.{block_told}
+use Rattle.mscp_port.specs.Buffers.{buffer_in, is_of}
+use Rattle.mscp_port.specs.Histories.{Answered, Call, Picking, Went}
+use Rattle.mscp_port.specs.Moved.{block_begun, block_served}
+use Rattle.mscp_port.proofs.Common.{false≢true}
 use Rattle.mscp_port.proofs.Kept.{is_numbered}
-use Rattle.mscp_port.proofs.Loads.{looks_or_not}
-use Rattle.mscp_port.proofs.Said.{kept_found, none_or_some, of_first, served_name, without_among, is_first, not_of}
-use Rattle.mscp_ported.specs.Making.{step_told, told_of}
+use Rattle.mscp_port.proofs.Said.{kept_found, of_first}
+use Rattle.mscp_ported.specs.Making.{step_told}
 use Rattle.mscp_ported.specs.Moved.{IsEmpty, WasMoved, block_moved}
-use Rattle.mscp_ported.specs.Talk.{AsksAlways, Wish, wish}
-use Rattle.mscp_ported.specs.Transfers.{asked, comes, done_by, is_done, is_moving, is_queued_text, is_step_of, moved, transfers, wanted}
+use Rattle.mscp_ported.specs.Talk.{Wish, wish}
+use Rattle.mscp_ported.specs.Transfers.{done_by, is_done, is_moving, is_step_of, wanted}
 use Rattle.mscp_ported.proofs.Making.{transfer_so, verdict_so}
-use Rattle.mscp_ported.proofs.Moved.{Either, moved_at}
-use Rattle.mscp_ported.proofs.Moving.{Steps, steps}
-use Rattle.mscp_ported.proofs.Owning.{AreOwned, Own, Owned, and_false, carries, nothing_kept, number_of, parts_of, quiet, text_owned}
-use Rattle.mscp_ported.proofs.Sole.{Alike, found_sole, itself, one_of, served_goes_on, served_itself, served_other, sole_passes}
+use Rattle.mscp_ported.proofs.Moved.{moved_at}
+use Rattle.mscp_ported.proofs.Moving.{Steps}
+use Rattle.mscp_ported.proofs.Owning.{AreOwned, Own, number_of}
+use Rattle.mscp_ported.proofs.Sole.{found_sole, one_of, sole_passes}
 
 -- ---- the step that is begun
 
@@ -197,6 +183,14 @@ buffer_address b changes h = by (nat_lt (length b) 20) (search (arith, h))
     by false e = refl
     by true e = absurd (false≢true (sym e))
 
+kept_count : (b : Buffer) (bytes : List ℕ) → (changes : ℕ) × (b ≡ buffer_in bytes changes) → 32 ≤ length bytes
+    → b.count ≡ num bytes 12 4
+kept_count b bytes kept long = ap (λ (x : Buffer). x.count) kept.1 ∙ buffer_count bytes kept.0 long
+
+kept_address : (b : Buffer) (bytes : List ℕ) → (changes : ℕ) × (b ≡ buffer_in bytes changes) → 32 ≤ length bytes
+    → b.address ≡ num bytes 16 4
+kept_address b bytes kept long = ap (λ (x : Buffer). x.address) kept.1 ∙ buffer_address bytes kept.0 long
+
 -- ---- a step that goes well
 
 pub no_done : (x y z : Bool) (ws : List Action) → z ≡ false → cond (x && y && z) ws [] ≡ []
@@ -215,6 +209,16 @@ pub none_moving : (x y z : Bool) (ws : List Action) → y ≡ false → cond (x 
 none_moving false y z ws e = refl
 none_moving true false z ws e = refl
 none_moving true true z ws e = absurd (false≢true (sym e))
+
+-- a block at the same place
+transfer_same : (kind : MoveKind) (unit n first other at place count all : ℕ) → first ≡ other → at ≡ place
+    → count ≡ all
+    → actions.Transfer kind unit (first + n) (at + n * 512) (min (count - n * 512) 512)
+    ≡ actions.Transfer kind unit (other + n) (place + n * 512) (min (all - n * 512) 512)
+transfer_same kind unit n first other at place count all e f g =
+    ap (λ x. actions.Transfer kind unit (x + n) (at + n * 512) (min (count - n * 512) 512)) e
+    ∙ ap (λ x. actions.Transfer kind unit (other + n) (x + n * 512) (min (count - n * 512) 512)) f
+    ∙ ap (λ x. actions.Transfer kind unit (other + n) (place + n * 512) (min (x - n * 512) 512)) g
 
 module _ {K : Type 0} (picks : Picking K) (start : Port K) (old : Port K) (calls : List Call)
     (a : Answered picks start calls old) (owned : AreOwned picks start old calls a) (outcome : Outcome)
@@ -253,10 +257,8 @@ module _ {K : Type 0} (picks : Picking K) (start : Port K) (old : Port K) (calls
       (subst (λ m. filter (is_numbered m) old.controller.waiting ≡ o.0 ∷ []) number o.2.sole) in
       let own = subst (λ x. Own picks start old calls a at.0 x o.1) (sym same) o.2 in
       let fields = move_fields o.1 of.0 of.1 of.2 (ap (λ (c : Command). c.order) (sym own.command) ∙ of.3) in
-      let count : at.0.count ≡ num o.1 12 4 =
-      ap (λ (x : Buffer). x.count) own.kept.1 ∙ buffer_count o.1 own.kept.0 fields.2 in
-      let address : at.0.address ≡ num o.1 16 4 =
-      ap (λ (x : Buffer). x.address) own.kept.1 ∙ buffer_address o.1 own.kept.0 fields.2 in (
+      let count = kept_count at.0 o.1 own.kept fields.2 in
+      let address = kept_address at.0 o.1 own.kept fields.2 in (
         at.0,
         o.1,
         of.0,
@@ -272,20 +274,14 @@ module _ {K : Type 0} (picks : Picking K) (start : Port K) (old : Port K) (calls
               none_moving (is_done outcome) (is_moving old.task) (is_step_of n (begun_step old.controller))
                   (wanted (wish calls)) e.0,
             )
-            | inr m ↦ inr (
-              subst (λ x. r.done * 512 < x) count (high_of at.0 u of.0 (of.2 + r.done) (wish calls) m.1).0,
+            | inr m ↦ let high = high_of at.0 u of.0 (of.2 + r.done) (wish calls) m.1 in inr (
+              subst (λ x. r.done * 512 < x) count high.0,
               all_done (is_done outcome) (is_moving old.task) (is_step_of n (begun_step old.controller))
-                  (wanted (wish calls))
-                  (ap is_done (high_of at.0 u of.0 (of.2 + r.done) (wish calls) m.1).1) m.0
-                  (ap (is_step_of n) step
-                  ∙ sole_passes (is_numbered n) old.controller.waiting r sole)
-                  ∙ (high_of at.0 u of.0 (of.2 + r.done) (wish calls) m.1).2
-                  ∙ ap (λ x. actions.Transfer of.0 r.command.unit (x + r.done) (at.0.address + r.done * 512)
-                  (min (at.0.count - r.done * 512) 512) ∷ []) fields.1
-                  ∙ ap (λ x. actions.Transfer of.0 r.command.unit (num o.1 28 4 + r.done) (x + r.done * 512)
-                  (min (at.0.count - r.done * 512) 512) ∷ []) address
-                  ∙ ap (λ x. actions.Transfer of.0 r.command.unit (num o.1 28 4 + r.done)
-                  (num o.1 16 4 + r.done * 512) (min (x - r.done * 512) 512) ∷ []) count,
+                  (wanted (wish calls)) (ap is_done high.1) m.0
+                  (ap (is_step_of n) step ∙ sole_passes (is_numbered n) old.controller.waiting r sole)
+                  ∙ high.2
+                  ∙ ap (λ x. x ∷ []) (transfer_same of.0 r.command.unit r.done of.2 (num o.1 28 4) at.0.address
+                  (num o.1 16 4) at.0.count (num o.1 12 4) fields.1 address count),
             )
           ];
         },

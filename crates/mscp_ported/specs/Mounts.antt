@@ -1,6 +1,6 @@
 -- On which volume blocks are moved: on the one that was in the unit as the command came, and with which the unit was
 -- brought online (manual, "Unit States", "ONLINE").
-use Rattle.std.specs.Prelude.{◌≡◌, ◌⊎◌, ◌<◌, ◌+◌, ◌%◌, ◌==◌, ℕ, Bool, if◌then◌else◌, List, [], ◌∷◌, Contains, Option, Some, Result, Ok}
+use Rattle.std.specs.Prelude.{◌≡◌, ◌⊎◌, ◌<◌, ◌+◌, ◌%◌, ◌==◌, ℕ, Bool, if◌then◌else◌, List, [], ◌∷◌, Contains, Some, Result, Ok}
 use Rattle.mscp_packet.specs.declared.command.MoveKind.{MoveKind}
 use Rattle.mscp_packet.specs.declared.end.End.{End}
 use Rattle.mscp_drive.specs.UnitList.{IsUnitList}
@@ -11,7 +11,6 @@ use Rattle.mscp_queue.specs.declared.upcoming.Upcoming.{Upcoming}
 use Rattle.mscp_controller.specs.declared.entry.NotBegun.{NotBegun}
 use Rattle.mscp_controller.specs.Calls.{Finish}
 use Rattle.mscp_controller.specs.Holdings.{Holdings, begun_step}
-use Rattle.mscp_port.specs.declared.action.Action.{Action}
 use Rattle.mscp_port.specs.declared.action.Action.TheVariants as actions
 use Rattle.mscp_port.specs.declared.action.Outcome.{Outcome}
 use Rattle.mscp_port.specs.declared.buffers.Buffer.{Buffer}
@@ -22,7 +21,7 @@ use Rattle.mscp_port.specs.Histories.{Answered, Call, Next, Picking, VolumeCame,
 use Rattle.mscp_port.specs.Kept.{IsSaidBy}
 use Rattle.mscp_ported.specs.Ends.{come}
 use Rattle.mscp_ported.specs.Making.{Makes}
-use Rattle.mscp_ported.specs.Talk.{AsksAlways, Wish, wish}
+use Rattle.mscp_ported.specs.Talk.{AsksAlways, wish}
 
 -- ---- the volume that was there
 
