@@ -32,6 +32,7 @@ pub mod Soon
 pub mod Telling
 pub mod Changing
 pub mod Mounting
+pub mod Volumed
 pub mod Silent
 pub mod Sole
 pub mod Owning

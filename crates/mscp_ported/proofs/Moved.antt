@@ -182,7 +182,6 @@ module _ (u : Upcoming) (kind : MoveKind) (block : ℕ) (moves : block_moved u.c
     begun_good None k volumes e = search (arith, e)
     begun_good (Some place) None volumes e = search (arith, e)
 
-    -- and one with a block only where it has some
     some_part : (at : MoveKind × ℕ) (b : Buffer) (v : Volume) (r : Result (ℕ × ℕ) Verdict)
         → part_with at.0 at.1 u.done b v ≡ r → part_task r ≡ tasks.Transfer → u.done * 512 < b.count
     some_part at b v (Ok part) e h = by (nat_eq part.1 0) refl h
@@ -219,7 +218,6 @@ module _ (u : Upcoming) (kind : MoveKind) (block : ℕ) (moves : block_moved u.c
     begun_some None k volumes e b is = search (arith, e)
     begun_some (Some place) None volumes e b is = search (arith, e)
 
-    -- a part is known only of a buffer that is kept
     part_of_kept : (o : Option ℕ) (k : Option Buffer) (volumes : List Volume) (part : ℕ × ℕ)
         → part_at o k kind block u.done volumes ≡ Ok part → (b : Buffer) × (k ≡ Some b) × (part_of b u.done ≡ Some part)
     part_of_kept (Some place) (Some b) volumes part e =

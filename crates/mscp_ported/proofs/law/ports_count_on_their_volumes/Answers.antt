@@ -1,4 +1,4 @@
-use Rattle.mscp_ported.proofs.Mounting.{counts_on}
+use Rattle.mscp_ported.proofs.Volumed.{counts_on}
 use Rattle.mscp_ported.proofs.law.ports_count_on_their_volumes.Goals as goal
 
 pub returns : goal.returns

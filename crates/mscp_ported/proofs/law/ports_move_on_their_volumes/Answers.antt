@@ -1,4 +1,4 @@
-use Rattle.mscp_ported.proofs.Mounting.{moves_on}
+use Rattle.mscp_ported.proofs.Volumed.{moves_on}
 use Rattle.mscp_ported.proofs.law.ports_move_on_their_volumes.Goals as goal
 
 pub returns : goal.returns
