@@ -39,3 +39,4 @@ pub mod Owning
 pub mod Transferring
 pub mod Keeping
 pub mod Standing
+pub mod Tallying

@@ -1,23 +1,14 @@
 -- A unit that is online was brought online with the volume that is in it.
-use Rattle.std.proofs.Common.{◌≡◌, ◌≢◌, ◌⊎◌, ◌∙◌, ◌<◌, ◌≤◌, ◌%◌, ◌/◌, ◌||◌, ◌∷◌, [], ℕ, Bool, true, false, cond, not, length, set, nat_eq, List, MatchOption, Option, None, Some, IfSome, Contains, inl, inr, refl, ap, sym, subst, arith}
-use Rattle.std.specs.Prelude.{◌==◌, Ok, Err, Result, option_map}
+use Rattle.std.proofs.Common.{◌≡◌, ◌≢◌, ◌⊎◌, ◌∙◌, ◌<◌, ◌%◌, ◌/◌, ◌∷◌, [], ℕ, Bool, true, false, cond, length, set, List, Option, None, Some, Contains, inl, inr, refl, ap, sym, subst, arith}
+use Rattle.std.specs.Prelude.{◌==◌, Ok, Err}
 use Rattle.std.specs.List.{position}
 use Rattle.std.proofs.lemmas.List.{append-nil}
 use Rattle.std.proofs.lemmas.Option.{none-some, same_Some}
-use Rattle.mscp_packet.specs.declared.command.MoveKind.{MoveKind}
 use Rattle.mscp_packet.specs.declared.end.End.{End}
-use Rattle.mscp_drive.specs.Shape.{Shape, one_block}
-use Rattle.mscp_drive.specs.UnitList.{IsUnitList}
-use Rattle.mscp_drive.specs.declared.block.Block.TheVariants as blocks
+use Rattle.mscp_drive.specs.Shape.{Shape}
 use Rattle.mscp_drive.specs.declared.connection.Connection.{Connection}
 use Rattle.mscp_drive.specs.declared.connection.Connection.TheVariants.{First, Second}
-use Rattle.mscp_queue.specs.declared.report.Report.{Report}
-use Rattle.mscp_queue.specs.declared.upcoming.Upcoming.{Upcoming}
-use Rattle.mscp_controller.specs.declared.entry.NotBegun.{NotBegun}
-use Rattle.mscp_controller.specs.Calls.{Finish}
-use Rattle.mscp_controller.specs.Holdings.{Holdings, begun_step}
-use Rattle.mscp_port.specs.declared.action.Action.{Action}
-use Rattle.mscp_port.specs.declared.action.Action.TheVariants as actions
+use Rattle.mscp_controller.specs.Holdings.{Holdings}
 use Rattle.mscp_port.specs.declared.action.Outcome.{Outcome}
 use Rattle.mscp_port.specs.declared.buffers.Buffer.{Buffer}
 use Rattle.mscp_port.specs.declared.hardware.Hardware.{Hardware}
@@ -25,34 +16,23 @@ use Rattle.mscp_port.specs.declared.port.Outgoing.{Outgoing}
 use Rattle.mscp_port.specs.declared.port.Port.{Port}
 use Rattle.mscp_port.specs.declared.stage.Stage.{Stage}
 use Rattle.mscp_port.specs.declared.stage.Stage.TheVariants as stages
-use Rattle.mscp_port.specs.declared.task.Task.{Task}
-use Rattle.mscp_port.specs.declared.task.Task.TheVariants as tasks
-use Rattle.mscp_port.specs.declared.verdict.Verdict.{Verdict}
 use Rattle.mscp_port.specs.declared.volumes.Volume.{Volume}
-use Rattle.mscp_port.specs.declared.verdict.Verdict.TheVariants as verdicts
-use Rattle.mscp_port.specs.Areas.{Rings}
-use Rattle.mscp_port.specs.Blocks.{has_changed, kept_of, move_of, part_with, refusal_of, unless_fault}
-use Rattle.mscp_port.specs.Buffers.{is_of, part_of}
+use Rattle.mscp_port.specs.Blocks.{kept_of}
+use Rattle.mscp_port.specs.Buffers.{is_of}
 use Rattle.mscp_port.specs.Calls.{Goes, IsMadeOf}
 use Rattle.mscp_port.specs.Histories.{Answered, Call, Picking, WriteIp, ReadIp, WriteSa, Next, PutAside, WasRead, Went, LookAgain, Tick, VolumeCame, VolumeWent, Protect}
-use Rattle.mscp_port.specs.Moved.{block_begun, end_brought, move_wanted, moved_step, part_at, part_wanted, place_heeded, volumes_after}
+use Rattle.mscp_port.specs.Moved.{end_brought, place_heeded, volumes_after}
 use Rattle.mscp_port.specs.Outgoings.{IsNews, Says, news_place}
 use Rattle.mscp_port.specs.Ports.{IsAsNew}
 use Rattle.mscp_port.specs.Volumes.{no_volume, place_in, brought_online, protected_by, volume_at, volume_changed, volume_heeded, volume_protected, volume_put, volumes_heeded, volumes_with}
-use Rattle.mscp_port.specs.Wanted.{InRings, IsWanted}
 use Rattle.mscp_port.proofs.Begun.{taken_or_not}
-use Rattle.mscp_port.proofs.Common.{cases_eq, cases_lt, eq-eqb, eqb-true, false≢true, get_or-set_other, get_or-set_same, get_or_past, length-set, position-Some}
-use Rattle.mscp_port.proofs.Credits.{settings_stay, settings_still}
+use Rattle.mscp_port.proofs.Common.{cases_eq, cases_lt, eq-eqb, eqb-true, false≢true, get_or-set_other, get_or-set_same, get_or_past, length-set}
+use Rattle.mscp_port.proofs.Credits.{settings_stay}
 use Rattle.mscp_port.proofs.Loads.{looks_or_not}
 use Rattle.mscp_port.proofs.Said.{kept_found, of_first}
 use Rattle.mscp_ported.specs.Ends.{come}
-use Rattle.mscp_ported.specs.Making.{Makes, step_told}
-use Rattle.mscp_ported.specs.Mounts.{IsOfItsVolume, IsOnItsVolume, IsOnline, Succeeds, changed}
-use Rattle.mscp_ported.specs.Talk.{AsksAlways, wish}
-use Rattle.mscp_ported.proofs.Changing.{SaidAgo, kept_ago, of_its_volume, same_unit}
-use Rattle.mscp_ported.proofs.Moving.{Steps, steps}
-use Rattle.mscp_ported.proofs.Moved.{good_told, kept_said}
-use Rattle.mscp_ported.proofs.Wanting.{alive_or_dead}
+use Rattle.mscp_ported.specs.Mounts.{IsOnline, Succeeds}
+use Rattle.mscp_ported.proofs.Changing.{same_unit}
 use Rattle.mscp_ported.proofs.Coming.{brought_for, come_so, ends_of, steps_bring}
 
 -- ---- a volume

@@ -90,7 +90,7 @@ record Last (d : Drive) (r : Record) (e : End) (kind : MoveKind) (count : ℕ) :
   body : e.body ≡ bodies.Moved (min count (512 * (r.good + 1)))
 
 -- an end comes where the command doesn't go on
-ended_so : (b : Bool) (x e : End) → cond b None (Some x) ≡ Some e → (b ≡ false) × (x ≡ e)
+pub ended_so : (b : Bool) (x e : End) → cond b None (Some x) ≡ Some e → (b ≡ false) × (x ≡ e)
 ended_so true x e h = absurd (none-some e h)
 ended_so false x e h = (refl, same_Some x e h)
 
@@ -134,7 +134,7 @@ last_so d r e kind count first is online h =
           online;
     }
 
-brought_one : (via : Connection) (o : Option End) (e : End) → Contains (brought_for via o) e
+pub brought_one : (via : Connection) (o : Option End) (e : End) → Contains (brought_for via o) e
     → (via ≡ First) × (o ≡ Some e)
 brought_one First (Some x) e there = (refl, search (arith, there))
 brought_one First None e there = search (arith, there)
@@ -147,7 +147,7 @@ begun_some (Some block) None x xs h = search (arith, h)
 begun_some None n x xs h = search (arith, h)
 
 -- the step that is begun is of the command that waits under its name
-step_name : {K : Type 0} (h : Holdings K) (name : Name) (u : Upcoming) → h.begun ≡ Some name → begun_step h ≡ Some u
+pub step_name : {K : Type 0} (h : Holdings K) (name : Name) (u : Upcoming) → h.begun ≡ Some name → begun_step h ≡ Some u
     → (r : Record) × (find (has_name name) h.waiting ≡ Some r)
     × (u ≡ upcoming_of (drive_of h.drives r.command.unit) r)
 step_name {K} h name u begun step = by (find (has_name name) h.waiting) refl

@@ -187,7 +187,7 @@ kept_count : (b : Buffer) (bytes : List ℕ) → (changes : ℕ) × (b ≡ buffe
     → b.count ≡ num bytes 12 4
 kept_count b bytes kept long = ap (λ (x : Buffer). x.count) kept.1 ∙ buffer_count bytes kept.0 long
 
-kept_address : (b : Buffer) (bytes : List ℕ) → (changes : ℕ) × (b ≡ buffer_in bytes changes) → 32 ≤ length bytes
+pub kept_address : (b : Buffer) (bytes : List ℕ) → (changes : ℕ) × (b ≡ buffer_in bytes changes) → 32 ≤ length bytes
     → b.address ≡ num bytes 16 4
 kept_address b bytes kept long = ap (λ (x : Buffer). x.address) kept.1 ∙ buffer_address bytes kept.0 long
 

@@ -4,6 +4,7 @@ use Rattle.std.specs.Prelude.{◌≡◌, ◌+◌, ◌-◌, ◌*◌, ◌==◌, �
 use Rattle.mscp_packet.specs.Number.{num}
 use Rattle.mscp_packet.specs.Opcodes.{move_byte}
 use Rattle.mscp_packet.specs.declared.command.MoveKind.{MoveKind}
+use Rattle.mscp_packet.specs.declared.command.Order.TheVariants as orders
 use Rattle.mscp_packet.specs.declared.end.End.{End}
 use Rattle.mscp_packet.specs.declared.end.EndBody.TheVariants as bodies
 use Rattle.mscp_drive.specs.Extent.{blocks as blocks_in}
@@ -23,6 +24,7 @@ use Rattle.mscp_port.specs.declared.action.Action.{Action}
 use Rattle.mscp_port.specs.declared.action.Action.TheVariants as actions
 use Rattle.mscp_port.specs.declared.action.Outcome.{Outcome}
 use Rattle.mscp_port.specs.declared.action.Outcome.TheVariants as outcomes
+use Rattle.mscp_port.specs.declared.buffers.Buffer.{Buffer}
 use Rattle.mscp_port.specs.declared.hardware.Hardware.{Hardware}
 use Rattle.mscp_port.specs.declared.port.Port.{Port}
 use Rattle.mscp_port.specs.declared.task.Task.{Task}
@@ -131,3 +133,25 @@ PortsMoveEachBlock {K} picks =
     → Makes (Went outcome (Ok done)) a.0 p (Finish via reference blocks.Good result ∷ [])
     → begun_step a.0.controller ≡ Some u → block_moved u.command.order u.lbn ≡ Some (kind, block)
     → Contains (come a.0 p) e → (b : List ℕ) × StandsFor picks e kind start p (Went outcome (Ok done) ∷ calls) a b
+
+-- ---- the law of ends that don't say Success
+
+-- the end counts just the bytes of these blocks, so many from the first one on, which were moved
+pub record Counts {K : Type 0} (picks : Picking K) (e : End) (kind : MoveKind) (start p : Port K)
+    (calls : List Call) (a : Answered picks start calls p) (b : List ℕ) (n : ℕ) : Type 0 where
+  pub message : asked picks e.reference start p calls a ≡ Some b
+  pub moves : moved picks e.reference start p calls a
+      ≡ transfers kind e.unit (num b 28 4) (num b 16 4) (num b 12 4) n
+  pub count : e.body ≡ bodies.Moved (min (num b 12 4) (512 * n))
+
+-- the law of counts: of such a port: where the end of a transfer comes by a step, of whose message the port keeps where
+-- its data are, it counts just the blocks that were moved
+abbrev pub PortsCountWhatTheyMoved : {K : Type 0} → Picking K → Type 0
+PortsCountWhatTheyMoved {K} picks =
+    (hardware : Hardware) (credits : ℕ) (controller : Holdings K) (start p : Port K) (calls : List Call)
+    (outcome : Outcome) (done : Unit) (u : Upcoming) (kind : MoveKind) (count first : ℕ) (kept : Buffer) (e : End)
+    → IsMadeOf hardware credits controller start → AsksAlways (Went outcome (Ok done) ∷ calls)
+    → (a : Answered picks start (Went outcome (Ok done) ∷ calls) p) → begun_step a.0.controller ≡ Some u
+    → u.command.order ≡ orders.Move kind count first → Contains a.0.buffers.items kept → kept.reference ≡ e.reference
+    → Contains (come a.0 p) e
+    → (b : List ℕ) × (n : ℕ) × Counts picks e kind start p (Went outcome (Ok done) ∷ calls) a b n

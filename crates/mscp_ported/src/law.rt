@@ -8,7 +8,7 @@ ghost use Rattle.mscp_ported.specs.Moved.{PortsMoveWhatTheySay};
 ghost use Rattle.mscp_ported.specs.News.{PortsAnnounceAvailableUnits};
 ghost use Rattle.mscp_ported.specs.Owed.{PortsDoWhatIsDue};
 ghost use Rattle.mscp_ported.specs.Soon.{PortsKeepTelling, PortsTellSoon};
-ghost use Rattle.mscp_ported.specs.Transfers.{PortsMoveEachBlock};
+ghost use Rattle.mscp_ported.specs.Transfers.{PortsCountWhatTheyMoved, PortsMoveEachBlock};
 ghost use Rattle.mscp_ported.specs.Told.{PortsHearInOrder, PortsTellInOrder};
 
 use mscp_controller::controllers_keep_the_promise;
@@ -73,6 +73,15 @@ pub fn ports_move_what_they_say<K: Picker>(picker: &K)
 /// buffer that the message named: one for each 512 bytes, and of the last one the bytes that are left.
 pub fn ports_move_each_block<K: Picker>(picker: &K)
     ensures { PortsMoveEachBlock K.picks }
+{
+    let _ = picker;
+}
+
+/// Of such a port: where the end of a transfer comes as a step was told, and the port keeps where the transfer's data are, the end
+/// counts just the blocks that were wanted and told done since its message came, each at its place, from the first one on. So the
+/// end of a transfer that failed counts those in front of the block that wasn't moved.
+pub fn ports_count_what_they_moved<K: Picker>(picker: &K)
+    ensures { PortsCountWhatTheyMoved K.picks }
 {
     let _ = picker;
 }
