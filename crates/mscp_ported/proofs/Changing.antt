@@ -34,8 +34,8 @@ use Rattle.mscp_ported.specs.Mounts.{IsOfItsVolume, changed, changed_by}
 -- ---- units
 
 -- one place is of one unit
-pub same_unit : (units : List Shape) (place unit to : ℕ) → place_in units unit ≡ Some place → place_in units to ≡ Some place
-    → to ≡ unit
+pub same_unit : (units : List Shape) (place unit to : ℕ) → place_in units unit ≡ Some place
+    → place_in units to ≡ Some place → to ≡ unit
 same_unit units place unit to e f =
     let a = position-Some (λ (u : Shape). nat_eq u.number unit) units place one_block e in
     let b = position-Some (λ (u : Shape). nat_eq u.number to) units place one_block f in
@@ -64,18 +64,21 @@ the_same n place vs ws none e =
 set_one : (n place q : ℕ) (vs : List Volume) (x : Volume)
     → (place ≡ q → After n (volume_at vs place).changes x.changes) → (place ≢ q → n ≡ 0)
     → Counts n place vs (set vs q x)
-set_one n place q vs x here elsewhere = (length-set vs q x, elim (cases_eq place q) [
-  | inl same ↦ elim (cases_lt place (length vs)) [
-    | inl within ↦ inr (subst (λ (v : Volume). After n (volume_at vs place).changes v.changes)
-        (sym (ap (λ i. volume_at (set vs i x) place) (sym same) ∙ get_or-set_same vs place x no_volume within))
-        (here same))
-    | inr past ↦ inl past
-  ]
-  | inr other ↦ inr (inl (
-    elsewhere other,
-    ap (λ (v : Volume). v.changes) (get_or-set_other vs q place x no_volume other),
-  ))
-])
+set_one n place q vs x here elsewhere = (
+  length-set vs q x,
+  elim (cases_eq place q) [
+    | inl same ↦ elim (cases_lt place (length vs)) [
+      | inl within ↦ inr (subst (λ (v : Volume). After n (volume_at vs place).changes v.changes)
+          (sym (ap (λ i. volume_at (set vs i x) place) (sym same) ∙ get_or-set_same vs place x no_volume within))
+          (here same))
+      | inr past ↦ inl past
+    ]
+    | inr other ↦ inr (inl (
+      elsewhere other,
+      ap (λ (v : Volume). v.changes) (get_or-set_other vs q place x no_volume other),
+    ))
+  ],
+)
 
 -- and stays as it was but for other things
 set_alike : (place q : ℕ) (vs : List Volume) (x : Volume) → x.changes ≡ (volume_at vs q).changes
@@ -108,7 +111,8 @@ with_news : (place : ℕ) (units : List Shape) (vs ws : List Volume) (o : Option
     → IsNews units vs o out ws → Counts 0 place vs ws
 with_news place units vs ws None out h = the_same 0 place vs ws refl h.1
 with_news place units vs ws (Some q) out h =
-    subst (λ xs. Counts 0 place vs xs) (sym h.1) (set_alike place q vs (record (volume_at vs q) { is_news = false }) refl)
+    subst (λ xs. Counts 0 place vs xs) (sym h.1)
+    (set_alike place q vs (record (volume_at vs q) { is_news = false }) refl)
 
 said : {K : Type 0} (place : ℕ) (old new : Port K) → Says old new → Counts 0 place old.volumes new.volumes
 said place old new says = elim (looks_or_not old) [
@@ -140,7 +144,8 @@ other_volume becomes units unit to place (Some q) vs one here there =
   where
     by : (b : Bool) → (to == unit) ≡ b → place ≢ q → b ≡ false
     by false e other = refl
-    by true e other = absurd (other (same_Some place q (sym here ∙ ap (place_in units) (sym (eqb-true to unit e)) ∙ there)))
+    by true e other =
+        absurd (other (same_Some place q (sym here ∙ ap (place_in units) (sym (eqb-true to unit e)) ∙ there)))
 
 guards : (protected : Bool) (place : ℕ) (o : Option ℕ) (vs : List Volume)
     → Counts 0 place vs (volumes_with (volume_protected protected) o vs)

@@ -157,7 +157,8 @@ heeded_at units e o h place is = by (e.status % 32 == 0) refl (h ∙ is)
 
 success_at : (units : List Shape) (e : End) (place : ℕ) → e.status % 32 ≡ 0 → place_in units e.unit ≡ Some place
     → place_heeded units e ≡ Some place
-success_at units e place good here = ap (λ b. cond b (place_in units e.unit) None) (eq-eqb (e.status % 32) 0 good) ∙ here
+success_at units e place good here =
+    ap (λ b. cond b (place_in units e.unit) None) (eq-eqb (e.status % 32) 0 good) ∙ here
 
 -- a volume is mounted by an end, or was and stays so
 abbrev Mounts : ℕ → Option Buffer → Volume → Type 0
@@ -357,8 +358,8 @@ module _ {K : Type 0} (picks : Picking K) (start : Port K) where
       a.0.volumes before)
 
   -- a unit that is online was brought online
-  pub online : (hardware : Hardware) (credits : ℕ) (controller : Holdings K) → IsMadeOf hardware credits controller start
-      → (p : Port K) (calls : List Call) (a : Answered picks start calls p) (unit place : ℕ) → place < 16
+  pub online : (hardware : Hardware) (credits : ℕ) (controller : Holdings K)
+      → IsMadeOf hardware credits controller start → (p : Port K) (calls : List Call) (a : Answered picks start calls p) (unit place : ℕ) → place < 16
       → place_in p.controller.settings.units unit ≡ Some place
       → Mounted (IsOnline picks unit start p calls a) (volume_at p.volumes place)
   online hardware credits controller made p [] a unit place low here = not_mounted ⊥ (volume_at p.volumes place)

@@ -52,8 +52,8 @@ use Rattle.mscp_ported.proofs.Moving.{Steps, steps}
 
 -- ---- what the controller is told
 
-pub good_told : (o : Option Block) (n : Option Name) (via : Connection) (reference : ℕ) (result : Result Report NotBegun)
-    → IsFinish o n (Finish via reference blocks.Good result ∷ []) → o ≡ Some blocks.Good
+pub good_told : (o : Option Block) (n : Option Name) (via : Connection) (reference : ℕ)
+    (result : Result Report NotBegun) → IsFinish o n (Finish via reference blocks.Good result ∷ []) → o ≡ Some blocks.Good
 good_told (Some block) (Some name) via reference result h = ap (λ xs. block_in xs) (sym h.1)
   where
     block_in : List Made → Option Block

@@ -36,7 +36,6 @@ use Rattle.mscp_port.proofs.Common.{false≢true}
 use Rattle.mscp_port.proofs.Loads.{looks_or_not, none_or_not}
 use Rattle.mscp_ported.proofs.Coming.{ends_of}
 use Rattle.mscp_ported.proofs.Doing.{done_or_not, free_or_not}
-
 use Rattle.mscp_ported.proofs.Wanting.{alive_or_dead}
 
 -- a slot of a command is read, its header or its text
@@ -235,7 +234,8 @@ module _ {K : Type 0} (old new : Port K) where
     where
       by : (o : Option ℕ) → old.written ≡ o → needs new.task ≡ false
       by None f = ap (λ p. needs p.task) ((r.acts refl).unanswered e f)
-      by (Some word) f = takes word (subst (λ x. IfSome x (λ w. TakesStep w old new)) (ap (step_answered tasks.Settle) f)
+      by (Some word) f = takes word
+          (subst (λ x. IfSome x (λ w. TakesStep w old new)) (ap (step_answered tasks.Settle) f)
           (subst (λ x. IfSome (step_answered x old.written) (λ w. TakesStep w old new)) e (r.steps refl)))
   went picks outcome done r (tasks.Step verdict) e = begun picks verdict ((r.moves refl).step verdict e)
   went picks outcome done r tasks.Transfer e =
@@ -309,7 +309,8 @@ module _ {K : Type 0} (old new : Port K) where
         (ap (λ p. p.outgoing) e) (ap (λ p. ends_of p.controller) e) was
     | inr dead ↦ free dead.task
   ]
-  by_call picks (VolumeCame m unit (Ok done)) r was = moved (place_in old.controller.settings.units unit) _ (r.came refl)
+  by_call picks (VolumeCame m unit (Ok done)) r was =
+      moved (place_in old.controller.settings.units unit) _ (r.came refl)
       was
   by_call picks (VolumeCame m unit (Err fault)) r was = same r.refused was
   by_call picks (VolumeWent unit result) r was = moved (place_in old.controller.settings.units unit) _ r.frame was

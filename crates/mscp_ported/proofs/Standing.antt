@@ -159,8 +159,12 @@ step_name {K} h name u begun step = by (find (has_name name) h.waiting) refl
         × (u ≡ upcoming_of (drive_of h.drives r.command.unit) r)
     by None f g = absurd (none-some u (sym (ap (λ o. option_map (λ r. upcoming_of
         (drive_of h.drives r.command.unit) r) o) f) ∙ g))
-    by (Some r) f g = (r, f, sym (same_Some (upcoming_of (drive_of h.drives r.command.unit) r) u
-        (sym (ap (λ o. option_map (λ r. upcoming_of (drive_of h.drives r.command.unit) r) o) f) ∙ g)))
+    by (Some r) f g = (
+      r,
+      f,
+      sym (same_Some (upcoming_of (drive_of h.drives r.command.unit) r) u
+          (sym (ap (λ o. option_map (λ r. upcoming_of (drive_of h.drives r.command.unit) r) o) f) ∙ g)),
+    )
 
 moved_online : (online : Bool) (order : Order) (n : ℕ) (x : MoveKind × ℕ)
     → block_moved order (block_touched online order n) ≡ Some x → touches online order ≡ true
@@ -246,8 +250,7 @@ module _ {K : Type 0} (picks : Picking K) (hardware : Hardware) (credits : ℕ) 
             (num bytes 16 4 + r.done * 512) (min (num bytes 12 4 - r.done * 512) 512) ∷ []) before
             ∙ ap (transfers other r.command.unit (num bytes 28 4) (num bytes 16 4) (num bytes 12 4))
             (all_blocks (num bytes 12 4) r.done left low more.0)
-      ] in
-      (
+      ] in (
         bytes,
         record {
           message = ap (λ m. asked picks m start a.0 calls a.1) (of ∙ sym number) ∙ own.message;
@@ -332,7 +335,8 @@ module _ {K : Type 0} (picks : Picking K) (hardware : Hardware) (credits : ℕ) 
   pub stands : (via : Connection) (reference : ℕ) (result : Result Report NotBegun)
       → Makes (Went outcome (Ok done)) a.0 p (Finish via reference blocks.Good result ∷ []) → So
   stands via reference result makes =
-      let n = begun_some (step_told a.0 outcome a.0.task) a.0.controller.begun (Finish via reference blocks.Good result) []
+      let n = begun_some (step_told a.0 outcome a.0.task) a.0.controller.begun
+      (Finish via reference blocks.Good result) []
       makes in
       by n.0 n.1 a.0.task refl
     where

@@ -222,7 +222,8 @@ transfer_same kind unit n first other at place count all e f g =
 
 module _ {K : Type 0} (picks : Picking K) (start : Port K) (old : Port K) (calls : List Call)
     (a : Answered picks start calls old) (owned : AreOwned picks start old calls a) (outcome : Outcome)
-    (done : Unit {0}) (some : wish calls ≢ None) (s : Steps old (wish calls)) (name : Name) (begun : old.controller.begun ≡ Some name)
+    (done : Unit {0}) (some : wish calls ≢ None) (s : Steps old (wish calls)) (name : Name)
+    (begun : old.controller.begun ≡ Some name)
     (n : ℕ) (named : name ≡ name_on First n) where
   -- what such a step of the one command of its number moves
   pub record Moves (r : Record) (b : Buffer) (bytes : List ℕ) (kind : MoveKind) : Type 0 where

@@ -178,8 +178,7 @@ module _ {K : Type 0} (picks : Picking K) (hardware : Hardware) (credits : ℕ) 
       (kept_ago picks start hardware credits controller p calls made a) w.begun w.kept in
       let is = of_its_volume picks start p calls a w.u.command.unit w.place w.b said.2
       (ap (place_in p.controller.settings.units) w.of ∙ w.here) w.there w.same
-      (subst (λ n. changed n calls < 0x1_0000_0000) (sym w.of) few) in
-      (
+      (subst (λ n. changed n calls < 0x1_0000_0000) (sym w.of) few) in (
         w.u,
         w.begun,
         w.of,

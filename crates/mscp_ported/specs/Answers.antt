@@ -115,8 +115,8 @@ asks_next b = slice_index b 8 == 3 && num b 10 2 % 2 == 1
 abbrev pub text_handed : List Shape → List ℕ → List ℕ
 text_handed units b =
     if asks_next b
-        then take 4 b
-        ++ little_bytes 2 (number_in (find (λ unit. nat_le (num b 4 2) unit.number) units)) ++ drop 6 b
+    then take 4 b
+    ++ little_bytes 2 (number_in (find (λ unit. nat_le (num b 4 2) unit.number) units)) ++ drop 6 b
     else b
 
 -- what may be answered by the port is never sent to the controller, and anything else is, as of the host's connection

@@ -77,9 +77,9 @@ pub fn ports_move_each_block<K: Picker>(picker: &K)
     let _ = picker;
 }
 
-/// Of such a port: where the end of a transfer comes as a step was told, and the port keeps where the transfer's data are, the end
-/// counts just the blocks that were wanted and told done since its message came, each at its place, from the first one on. So the
-/// end of a transfer that failed counts those in front of the block that wasn't moved.
+/// Of such a port: where the end of a transfer comes as a step was told, and the port keeps where the transfer's data are, the
+/// end counts just the blocks that were wanted and told done since its message came, each at its place, from the first one on.
+/// So the end of a transfer that failed counts those in front of the block that wasn't moved.
 pub fn ports_count_what_they_moved<K: Picker>(picker: &K)
     ensures { PortsCountWhatTheyMoved K.picks }
 {
@@ -127,8 +127,8 @@ pub fn ports_answer_as_they_may<K: Picker>(picker: &K)
 }
 
 /// Of such a port, whose holder tells of actions only after they were wanted: a message that the port may answer itself never
-/// reaches its controller, and any other does, as of the host's connection, byte by byte, but that a GET UNIT STATUS which asks for
-/// the next unit names that one. So nothing of the utilities' connection reaches the controller.
+/// reaches its controller, and any other does, as of the host's connection, byte by byte, but that a GET UNIT STATUS which asks
+/// for the next unit names that one. So nothing of the utilities' connection reaches the controller.
 pub fn ports_hand_over_the_rest<K: Picker>(picker: &K)
     ensures { PortsHandOverTheRest K.picks }
 {
