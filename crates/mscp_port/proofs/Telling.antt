@@ -42,7 +42,7 @@ text_heard said bytes (Ok done) old new t at r k =
       | inr d ↦ dies said old new k d
     ])
 
-keeps_after : {K : Type 0} (picks : Picking K) (said : ℕ → Buffer → Type 0) (call : Call) (old new : Port K)
+pub keeps_after : {K : Type 0} (picks : Picking K) (said : ℕ → Buffer → Type 0) (call : Call) (old new : Port K)
     → Becomes picks call old new
     → Keeps said old → Keeps (More call old said) new
 keeps_after picks said WriteIp old new r k = more said WriteIp old new (keeps_none said new r.buffers)

@@ -1,30 +1,48 @@
 -- What a port answers itself.
-use Rattle.std.proofs.Common.{◌≡◌, ◌∙◌, ◌+◌, ◌∷◌, ℕ, Bool, true, false, cond, List, Option, None, Some, IsSomeAnd, inl, inr, refl, ap, sym, subst}
-use Rattle.std.specs.Prelude.{Ok, option_map, slice_index}
+use Rattle.std.proofs.Common.{◌≡◌, ◌∙◌, ◌+◌, ◌/◌, ◌≤◌, ◌++◌, ◌∷◌, [], drop, find, length, nat_le, nat_lt, take, ℕ, Bool, true, false, cond, List, Option, None, Some, IsSomeAnd, inl, inr, refl, ap, sym, subst, arith}
+use Rattle.std.specs.Prelude.{◌==◌, Ok, option_map, slice_index}
+use Rattle.byteorder.specs.Endian.{little_bytes}
+use Rattle.std.proofs.lemmas.List.{append-nil}
+use Rattle.mscp_packet.specs.Number.{num}
+use Rattle.mscp_packet.specs.Opcodes.{opcode_of}
+use Rattle.mscp_packet.specs.declared.command.Command.{Command}
+use Rattle.mscp_packet.specs.declared.command.Order.TheVariants as orders
+unfoldable use Rattle.mscp_packet.specs.Commands.{command_of}
+use Rattle.mscp_packet.specs.Commands.{order_with}
+use Rattle.mscp_drive.specs.Shape.{Shape}
+use Rattle.mscp_drive.specs.declared.connection.Connection.TheVariants.{First}
+use Rattle.mscp_controller.specs.Arrival.{refusal}
+use Rattle.mscp_controller.specs.declared.entry.SendFault.{SendFault}
 use Rattle.std.proofs.lemmas.Option.{none-some, same_Some}
 use Rattle.mscp_packet.specs.Ends.{end_bytes}
 use Rattle.mscp_packet.specs.declared.end.End.{End}
-use Rattle.mscp_controller.specs.Holdings.{Holdings}
+use Rattle.mscp_controller.specs.Holdings.{Holdings, after_message, answer_to_message, arrives, balance_of, held_unless, outstanding_of, sent_unless}
 use Rattle.mscp_port.specs.declared.hardware.Hardware.{Hardware}
 use Rattle.mscp_port.specs.declared.port.Outgoing.{Outgoing}
 use Rattle.mscp_port.specs.declared.port.Port.{Port}
-use Rattle.mscp_port.specs.declared.rings.Side.TheVariants.{Commands}
+use Rattle.mscp_port.specs.declared.rings.Side.TheVariants.{Commands, Responses}
+use Rattle.mscp_port.specs.declared.slot.Descriptor.{Descriptor}
+use Rattle.mscp_port.specs.declared.task.Task.{Task}
+use Rattle.mscp_port.specs.declared.task.Task.TheVariants as tasks
 use Rattle.mscp_port.specs.declared.volumes.Volume.{Volume}
 use Rattle.mscp_port.specs.Calls.{IsMadeOf}
 use Rattle.mscp_port.specs.Histories.{Answered, Call, Picking, WasRead}
-use Rattle.mscp_port.specs.Messages.{bare_end, is_own_opcode, own_end, own_end_of, refused_end, volume_refusal}
+use Rattle.mscp_port.specs.Messages.{bare_end, handed, is_own_opcode, number_or_zero, own_end, own_end_of, refused_end, volume_refusal}
 use Rattle.mscp_port.specs.Packets.{end_kind}
-use Rattle.mscp_ported.specs.Answers.{IsOwnAnswer, Own, is_for_utilities, kind_answered, own_answer, own_refusal, own_text, volume_named}
-use Rattle.mscp_ported.specs.Talk.{AsksAlways, Opened, Slot, talk_of}
+use Rattle.mscp_ported.specs.Ends.{come}
+use Rattle.mscp_ported.specs.Answers.{IsHandedOver, IsOwnAnswer, Own, asks_next, is_for_utilities, kind_answered, number_in, own_answer, own_refusal, own_text, poll_brings, poll_end, polls_bring, text_handed, volume_named}
+use Rattle.mscp_ported.specs.Talk.{AsksAlways, Opened, Slot, Turn, talk_of}
+use Rattle.mscp_ported.proofs.Coming.{come_so, ends_of}
 use Rattle.mscp_ported.proofs.Following.{in_step}
-use Rattle.mscp_ported.proofs.Look.{Fits, look, slot_at}
+use Rattle.mscp_ported.proofs.Silent.{none_waits}
+use Rattle.mscp_ported.proofs.Look.{Fits, Look, look, slot_at}
 
 refusal_so : (o : Option Volume) (b : List ℕ) → volume_refusal o b ≡ own_refusal b o
 refusal_so None b = refl
 refusal_so (Some x) b = refl
 
 -- the end is that of the table
-own_so : (foreign : Bool) (v : Option Volume) (b : List ℕ) (e : End) → own_end foreign v b ≡ Some e
+pub own_so : (foreign : Bool) (v : Option Volume) (b : List ℕ) (e : End) → own_end foreign v b ≡ Some e
     → (own : Own) × (own_answer foreign v b ≡ Some own) × (end_bytes e ≡ own_text b own)
 own_so true v b e some = (
   record { code = 0x80; status = 0x0801; tells_bytes = false },
@@ -62,13 +80,70 @@ own_so false v b e some = by (is_own_opcode (slice_index b 8)) some
       tells_bytes = true;
     }) o ≡ Some own) × (end_bytes e ≡ own_text b own)) (refusal_so v b) (refused (volume_refusal v b) h)
 
+-- and where the port makes none, the table has none
+refusing : List ℕ → ℕ → Own
+refusing b status = record { code = slice_index b 8 + 0x80; status = status; tells_bytes = true }
+
+pub none_so : (foreign : Bool) (v : Option Volume) (b : List ℕ) → own_end foreign v b ≡ None
+    → own_answer foreign v b ≡ None
+unfolding refusing
+none_so true v b e = absurd (none-some (bare_end b 0x80 0x0801) (sym e))
+none_so false v b e = by (is_own_opcode (slice_index b 8)) e
+  where
+    refused : (o : Option ℕ) → option_map (refused_end b) o ≡ None → option_map (refusing b) o ≡ None
+    refused None h = refl
+    refused (Some status) h = absurd (none-some (refused_end b status) (sym h))
+
+    by : (c : Bool) → cond c (Some (bare_end b (slice_index b 8 + 0x80) 0))
+        (option_map (refused_end b) (volume_refusal v b)) ≡ None
+        → cond c (Some (record { code = slice_index b 8 + 0x80; status = 0; tells_bytes = false }))
+        (option_map (refusing b) (own_refusal b v)) ≡ None
+    by true h = absurd (none-some (bare_end b (slice_index b 8 + 0x80) 0) (sym h))
+    by false h = subst (λ o. option_map (refusing b) o ≡ None) (refusal_so v b) (refused (volume_refusal v b) h)
+
+-- the text that is handed over is that of the table
+pub handed_so : (units : List Shape) (b : List ℕ) → handed units b ≡ text_handed units b
+handed_so units b = by (asks_next b) (find (λ unit. nat_le (num b 4 2) unit.number) units)
+  where
+    by : (c : Bool) (o : Option Shape)
+        → cond c (take 4 b ++ little_bytes 2 (number_or_zero o) ++ drop 6 b) b
+        ≡ cond c (take 4 b ++ little_bytes 2 (number_in o) ++ drop 6 b) b
+    by c None = refl
+    by c (Some unit) = refl
+
+-- where a text is to be read, it is of the connection of its header
+is_text : (l : Look) (task : Task) (slot : Slot) (header : ℕ) → Fits l task (Opened slot header)
+    → (d : Descriptor) × (size : ℕ) × (task ≡ tasks.Text d size (is_for_utilities header))
+is_text l (tasks.Text d size foreign) slot header f =
+    (d, size, ap (tasks.Text d size) (f.3 ∙ ap (λ h. h / 0x100_0000 == 2) (sym (header_same (f.1)))))
+  where
+    header_in : Turn → ℕ
+    header_in (Opened s h) = h
+    header_in turn = header
+
+    header_same : Opened slot header ≡ Opened (slot_at l Commands d.word) f.0 → header ≡ f.0
+    header_same e = ap header_in e
+is_text l tasks.Free slot header f = absurd f
+is_text l tasks.Settle slot header f = absurd f
+is_text l (tasks.Step verdict) slot header f = absurd f
+is_text l tasks.Transfer slot header f = absurd f
+is_text l (tasks.Slot side) slot header f = absurd f
+is_text l (tasks.Clear n) slot header f = absurd f
+is_text l (tasks.Header d) slot header f = search (arith, f)
+is_text l (tasks.Packet d) slot header f = search (arith, f)
+is_text l (tasks.Return Responses d) slot header f = search (arith, f.2)
+is_text l (tasks.Return Commands d) slot header f = search (arith, f.2)
+is_text l (tasks.Neighbour side) slot header f = search (arith, f)
+is_text l (tasks.Word side) slot header f = search (arith, f)
+is_text l tasks.Interrupt slot header f = search (arith, f)
+
 module _ {K : Type 0} (picks : Picking K) (hardware : Hardware) (credits : ℕ) (controller : Holdings K)
     (start : Port K) (made : IsMadeOf hardware credits controller start) where
   pub answers : (p : Port K) (calls : List Call) (bytes : List ℕ) (done : Unit) (o : Outgoing)
       → AsksAlways (WasRead bytes (Ok done) ∷ calls)
       → (a : Answered picks start (WasRead bytes (Ok done) ∷ calls) p) → a.0.outgoing ≡ None → p.outgoing ≡ Some o
       → (slot : Slot) × (header : ℕ) × ((talk_of picks start a.0 calls a.1).turn ≡ Opened slot header)
-      × IsOwnAnswer a.0 header bytes o
+      × IsOwnAnswer a.0 header bytes o × (ends_of a.0.controller ≡ [])
   answers p calls bytes done o asks a none some = elim a.2.out [
     | inl e ↦ absurd (none-some o (sym none ∙ (sym e ∙ some)))
     | inr more ↦ elim more [
@@ -79,6 +154,7 @@ module _ {K : Type 0} (picks : Picking K) (hardware : Hardware) (credits : ℕ) 
             fit.0,
             fit.1,
             answer_so own.2 fit.0 fit.3 (own_end_of a.0 own.2 bytes) refl own.4.out,
+            none_waits picks hardware credits controller start made a.0 calls a.1 own.0 own.1 own.2 own.3 none,
           )
       | inr d ↦ absurd (none-some o (sym d.1.outgoing ∙ some))
     ]
@@ -101,3 +177,83 @@ module _ {K : Type 0} (picks : Picking K) (hardware : Hardware) (credits : ℕ) 
               said.0 ∙ own.2,
             );
           }
+
+  pub hands_over : (p : Port K) (calls : List Call) (bytes : List ℕ) (done : Unit) (slot : Slot) (header : ℕ)
+      → AsksAlways (WasRead bytes (Ok done) ∷ calls)
+      → (a : Answered picks start (WasRead bytes (Ok done) ∷ calls) p)
+      → (talk_of picks start a.0 calls a.1).turn ≡ Opened slot header
+      → IsHandedOver (own_answer (is_for_utilities header) (volume_named a.0 bytes) bytes) bytes a.0 p
+  hands_over p calls bytes done slot header asks a opened = by (own_end_of a.0 foreign bytes) refl
+    where
+      foreign : Bool
+      foreign = is_for_utilities header
+
+      is : (d : Descriptor) × (size : ℕ) × (a.0.task ≡ tasks.Text d size foreign)
+      is = is_text (look a.0) a.0.task slot header (subst (λ t. Fits (look a.0) a.0.task t) opened
+          (in_step picks hardware credits controller start made a.0 calls asks.1 a.1).hand.fits)
+
+      by : (e : Option End) → own_end_of a.0 foreign bytes ≡ e
+          → IsHandedOver (own_answer foreign (volume_named a.0 bytes) bytes) bytes a.0 p
+      by None e = subst (λ o. IsHandedOver o bytes a.0 p) (sym (none_so foreign (volume_named a.0 bytes) bytes e))
+          (a.2.handed is.0 is.1 foreign is.2 refl e
+          ∙ ap (after_message First a.0.controller) (handed_so a.0.controller.settings.units bytes))
+      by (Some x) e =
+          let own = own_so foreign (volume_named a.0 bytes) bytes x e in
+          subst (λ o. IsHandedOver o bytes a.0 p) (sym own.1)
+          (a.2.own is.0 is.1 foreign is.2 (λ none. none-some x (sym none ∙ e)))
+
+-- ---- polls
+
+poll_own : (v : Option Volume) (b : List ℕ) → slice_index b 8 ≡ 2 → own_answer false v b ≡ None
+poll_own v b e = by v
+  where
+    by : (v : Option Volume) → own_answer false v b ≡ None
+    by None = grind (arith, e)
+    by (Some x) = grind (arith, e)
+
+poll_handed : (units : List Shape) (b : List ℕ) → slice_index b 8 ≡ 2 → text_handed units b ≡ b
+poll_handed units b e = grind (arith, e)
+
+-- the command that a poll is
+abbrev polled : List ℕ → Command
+polled b = record { reference = num b 0 4; unit = num b 4 2; order = orders.Status (num b 12 4) }
+
+poll_command : (b : List ℕ) → slice_index b 8 ≡ 2 → 16 ≤ length b → command_of b ≡ polled b
+unfolding command_of
+poll_command b e long = ap (λ o. record { reference = num b 0 4; unit = num b 4 2; order = o })
+    (ap (λ n. order_with (opcode_of n) b) e ∙ by (nat_lt (length b) 16) (search (arith, long)))
+  where
+    by : (c : Bool) → c ≡ false
+        → cond c (orders.Invalid (slice_index b 8) 0x0001) (orders.Status (num b 12 4)) ≡ orders.Status (num b 12 4)
+    by false h = refl
+    by true h = search (arith, h)
+
+poll_comes : {K : Type 0} (h : Holdings K) (b : List ℕ) → slice_index b 8 ≡ 2 → 16 ≤ length b
+    → ends_of (after_message First h b) ≡ ends_of h ++ poll_brings (answer_to_message First h b) h b
+poll_comes {K} h b e long = by (refusal (balance_of First h) (outstanding_of First h) b)
+  where
+    by : (o : Option SendFault) → ends_of (held_unless First h (command_of b) o)
+        ≡ ends_of h ++ poll_brings (sent_unless First h (command_of b) o) h b
+    by (Some fault) = sym (append-nil (ends_of h))
+    by None = ap (λ c. ends_of (arrives First h c)) (poll_command b e long)
+        ∙ ap (λ xs. xs ++ poll_end h b ∷ []) (append-nil (ends_of h))
+
+module _ {K : Type 0} (picks : Picking K) (hardware : Hardware) (credits : ℕ) (controller : Holdings K)
+    (start : Port K) (made : IsMadeOf hardware credits controller start) where
+  pub answers_polls : (p : Port K) (calls : List Call) (bytes : List ℕ) (done : Unit) (slot : Slot) (header : ℕ)
+      → AsksAlways (WasRead bytes (Ok done) ∷ calls)
+      → (a : Answered picks start (WasRead bytes (Ok done) ∷ calls) p)
+      → (talk_of picks start a.0 calls a.1).turn ≡ Opened slot header → slice_index bytes 8 ≡ 2 → 16 ≤ length bytes
+      → come a.0 p ≡ polls_bring (is_for_utilities header) a.0 bytes
+  answers_polls p calls bytes done slot header asks a opened poll long = by (is_for_utilities header)
+      (hands_over picks hardware credits controller start made p calls bytes done slot header asks a opened)
+    where
+      by : (foreign : Bool) → IsHandedOver (own_answer foreign (volume_named a.0 bytes) bytes) bytes a.0 p
+          → come a.0 p ≡ polls_bring foreign a.0 bytes
+      by true h = come_so a.0 p [] (ap ends_of h ∙ sym (append-nil (ends_of a.0.controller)))
+      by false h =
+          let new = subst (λ o. IsHandedOver o bytes a.0 p) (poll_own (volume_named a.0 bytes) bytes poll) h in
+          come_so a.0 p (poll_brings (answer_to_message First a.0.controller bytes) a.0.controller bytes)
+          (ap ends_of (new ∙ ap (after_message First a.0.controller)
+          (poll_handed a.0.controller.settings.units bytes poll))
+          ∙ poll_comes a.0.controller bytes poll long)

@@ -1,9 +1,9 @@
 -- The ends that come for a host by a message or by a step.
-use Rattle.std.proofs.Common.{◌≡◌, ◌∙◌, ◌+◌, ◌≤◌, ◌++◌, ◌∷◌, [], ℕ, Bool, true, false, cond, length, List, Option, None, Some, refl, ap, sym, subst, arith, append_assoc}
+use Rattle.std.proofs.Common.{◌≡◌, ◌∙◌, ◌+◌, ◌≤◌, ◌++◌, ◌∷◌, [], ℕ, Bool, true, false, cond, drop, length, List, Option, None, Some, refl, ap, sym, subst, arith, append_assoc}
 use Rattle.mscp_queue.specs.Records.{aborted_record, record_at}
 use Rattle.std.specs.Prelude.{if◌then◌else◌, Result, Ok, Err, option_map, option_to_list}
 use Rattle.std.proofs.lemmas.List.{append-nil}
-use Rattle.std.proofs.Math.Seq.{take-length}
+use Rattle.std.proofs.Math.Seq.{drop-append_seam, take-length}
 use Rattle.mscp_packet.specs.Commands.{command_of}
 use Rattle.mscp_packet.specs.declared.command.Command.{Command}
 use Rattle.mscp_packet.specs.declared.end.End.{End}
@@ -27,12 +27,19 @@ use Rattle.mscp_controller.specs.declared.entry.NotBegun.{NotBegun}
 use Rattle.mscp_controller.specs.declared.entry.SendFault.{SendFault}
 use Rattle.mscp_controller.specs.declared.entry.Sent.{Sent}
 use Rattle.mscp_controller.specs.declared.entry.Sent.TheVariants as sents
+use Rattle.mscp_port.specs.declared.port.Port.{Port}
 use Rattle.mscp_port.specs.Moved.{end_brought}
 use Rattle.mscp_port.proofs.Said.{served_name}
+use Rattle.mscp_ported.specs.Ends.{come}
 
 -- the ends of the host's connection
 abbrev pub ends_of : {K : Type 0} → Holdings K → List End
 ends_of h = of First h.untaken
+
+-- those that came
+pub come_so : {K : Type 0} (old new : Port K) (xs : List End)
+    → ends_of new.controller ≡ ends_of old.controller ++ xs → come old new ≡ xs
+come_so old new xs e = ap (drop (length (ends_of old.controller))) e ∙ drop-append_seam (ends_of old.controller) xs
 
 -- ---- a message
 

@@ -17,7 +17,7 @@ pub mod Beginning
 pub mod Made
 pub mod Promised
 pub mod Moving
-mod Moved
+pub mod Moved
 pub mod Tables
 pub mod Coming
 pub mod Ending
@@ -30,3 +30,13 @@ pub mod Starting
 pub mod Room
 pub mod Soon
 pub mod Telling
+pub mod Changing
+pub mod Mounting
+pub mod Volumed
+pub mod Silent
+pub mod Sole
+pub mod Owning
+pub mod Transferring
+pub mod Keeping
+pub mod Standing
+pub mod Tallying

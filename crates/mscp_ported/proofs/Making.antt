@@ -49,7 +49,7 @@ Follows picks call old new =
 
 -- ---- how an action went
 
-verdict_so : (verdict : Verdict) → block_told verdict ≡ told_of verdict
+pub verdict_so : (verdict : Verdict) → block_told verdict ≡ told_of verdict
 verdict_so (verdicts.Served block) = refl
 verdict_so verdicts.NoVolume = refl
 verdict_so verdicts.NotOnline = refl
@@ -67,7 +67,7 @@ part_so : (outcome : Outcome) (part : Result (ℕ × ℕ) Verdict)
 part_so outcome (Ok part) = outcome_so outcome
 part_so outcome (Err verdict) = verdict_so verdict
 
-transfer_so : {K : Type 0} (old : Port K) (outcome : Outcome) (o : Option (Upcoming × MoveKind × ℕ))
+pub transfer_so : {K : Type 0} (old : Port K) (outcome : Outcome) (o : Option (Upcoming × MoveKind × ℕ))
     → block_told (block_served old outcome o) ≡ transfer_told old outcome o
 transfer_so old outcome None = refl
 transfer_so old outcome (Some m) = part_so outcome (part_now old m.0 m.1 m.2)

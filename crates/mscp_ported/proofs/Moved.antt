@@ -47,12 +47,13 @@ use Rattle.mscp_port.proofs.Telling.{kept_was_said}
 use Rattle.mscp_ported.specs.Making.{IsFinish, Makes, step_told, told_as, told_of, told_unless, transfer_told}
 use Rattle.mscp_ported.specs.Moved.{IsEmpty, WasMoved, block_moved}
 use Rattle.mscp_ported.specs.Talk.{AsksAlways, Wish, wish}
+use Rattle.mscp_ported.specs.Transfers.{is_moving}
 use Rattle.mscp_ported.proofs.Moving.{Steps, steps}
 
 -- ---- what the controller is told
 
-good_told : (o : Option Block) (n : Option Name) (via : Connection) (reference : ℕ) (result : Result Report NotBegun)
-    → IsFinish o n (Finish via reference blocks.Good result ∷ []) → o ≡ Some blocks.Good
+pub good_told : (o : Option Block) (n : Option Name) (via : Connection) (reference : ℕ)
+    (result : Result Report NotBegun) → IsFinish o n (Finish via reference blocks.Good result ∷ []) → o ≡ Some blocks.Good
 good_told (Some block) (Some name) via reference result h = ap (λ xs. block_in xs) (sym h.1)
   where
     block_in : List Made → Option Block
@@ -181,7 +182,6 @@ module _ (u : Upcoming) (kind : MoveKind) (block : ℕ) (moves : block_moved u.c
     begun_good None k volumes e = search (arith, e)
     begun_good (Some place) None volumes e = search (arith, e)
 
-    -- and one with a block only where it has some
     some_part : (at : MoveKind × ℕ) (b : Buffer) (v : Volume) (r : Result (ℕ × ℕ) Verdict)
         → part_with at.0 at.1 u.done b v ≡ r → part_task r ≡ tasks.Transfer → u.done * 512 < b.count
     some_part at b v (Ok part) e h = by (nat_eq part.1 0) refl h
@@ -218,7 +218,6 @@ module _ (u : Upcoming) (kind : MoveKind) (block : ℕ) (moves : block_moved u.c
     begun_some None k volumes e b is = search (arith, e)
     begun_some (Some place) None volumes e b is = search (arith, e)
 
-    -- a part is known only of a buffer that is kept
     part_of_kept : (o : Option ℕ) (k : Option Buffer) (volumes : List Volume) (part : ℕ × ℕ)
         → part_at o k kind block u.done volumes ≡ Ok part → (b : Buffer) × (k ≡ Some b) × (part_of b u.done ≡ Some part)
     part_of_kept (Some place) (Some b) volumes part e =
@@ -317,7 +316,7 @@ begun_of {K} P h u all e = by h.begun e
             )
 
 -- what is kept for the step that is begun was said by a message of its number, to its unit
-kept_said : {K : Type 0} (said : ℕ → Buffer → Type 0) (p : Port K) (u : Upcoming) (b : Buffer)
+pub kept_said : {K : Type 0} (said : ℕ → Buffer → Type 0) (p : Port K) (u : Upcoming) (b : Buffer)
     → Keeps said p → begun_step p.controller ≡ Some u
     → kept_of u.connection u.command.reference p.buffers.items ≡ Some b
     → (u.connection ≡ First) × (b.reference ≡ u.command.reference) × said u.command.unit b
@@ -335,6 +334,49 @@ kept_said {K} said p u b keeps begun kept =
       subst (λ c. said c.unit b) (sym r.3) (r.1 (is_same (name_of r.0) (name_on First b.reference) name)),
     )
 
+-- ---- the step that is told
+
+-- the block was moved, or there was none to move
+abbrev pub Either : {K : Type 0} → Buffer → Upcoming → MoveKind → ℕ → Outcome → Port K → Option Wish → Type 0
+Either b u kind block outcome old w =
+    ((is_moving old.task ≡ false) × IsEmpty b u w) ⊎ ((is_moving old.task ≡ true) × WasMoved b u kind block outcome w)
+
+pub moved_at : {K : Type 0} (old : Port K) (w : Option Wish) (outcome : Outcome) (u : Upcoming) (kind : MoveKind)
+    (block : ℕ) → w ≢ None → Steps old w → step_told old outcome old.task ≡ Some blocks.Good
+    → begun_step old.controller ≡ Some u → block_moved u.command.order u.lbn ≡ Some (kind, block)
+    → (b : Buffer) × (kept_of u.connection u.command.reference old.buffers.items ≡ Some b)
+    × Either b u kind block outcome old w
+moved_at {K} old w outcome u kind block some s told begun moves = by old.task refl told
+  where
+    empty : (b : Buffer) (w : Option Wish) → b.count ≤ u.done * 512 → w ≢ None
+        → IfSome w (λ x. x.action ≡ actions.Pause) → IsEmpty b u w
+    empty b None low some h = absurd (some refl)
+    empty b (Some x) low some h = (low, h)
+
+    by : (task : Task) → old.task ≡ task → step_told old outcome old.task ≡ Some blocks.Good
+        → (b : Buffer) × (kept_of u.connection u.command.reference old.buffers.items ≡ Some b)
+        × Either b u kind block outcome old w
+    by (tasks.Step verdict) at told =
+        let good = good_verdict verdict (same_Some (told_of verdict) blocks.Good
+        (sym (ap (step_told old outcome) at) ∙ told)) in
+        let is : begun_task old.controller.settings.units old.buffers.items old.volumes (Some u)
+        ≡ tasks.Step (verdicts.Served blocks.Good) =
+        ap (begun_task old.controller.settings.units old.buffers.items old.volumes) (sym begun)
+        ∙ sym (s.begun (subst (λ x. IsOfBlock x) (sym at) tt)) ∙ at ∙ ap tasks.Step good in
+        let b = begun_good u kind block moves (place_in old.controller.settings.units u.command.unit)
+        (kept_of u.connection u.command.reference old.buffers.items) old.volumes is in
+        (b.0, b.1, inl (ap is_moving at, empty b.0 w b.2 some (s.paused verdict at)))
+    by tasks.Transfer at told =
+        let good = same_Some (transfer_told old outcome (block_begun old)) blocks.Good
+        (sym (ap (step_told old outcome) at) ∙ told) in
+        let b = moved_good u kind block moves old outcome w begun good some (s.wanted at)
+        (begun_some u kind block moves (place_in old.controller.settings.units u.command.unit)
+        (kept_of u.connection u.command.reference old.buffers.items) old.volumes
+        (ap (begun_task old.controller.settings.units old.buffers.items old.volumes) (sym begun)
+        ∙ sym (s.begun (subst (λ x. IsOfBlock x) (sym at) tt)) ∙ at)) in
+        (b.0, b.1, inr (ap is_moving at, b.2))
+    by task at told = absurd (none-some blocks.Good (sym (ap (step_told old outcome) at) ∙ told))
+
 module _ {K : Type 0} (picks : Picking K) (hardware : Hardware) (credits : ℕ) (controller : Holdings K)
     (start : Port K) (made : IsMadeOf hardware credits controller start) where
   pub moves_what_it_says : (p : Port K) (calls : List Call) (outcome : Outcome) (done : Unit) (via : Connection)
@@ -345,50 +387,13 @@ module _ {K : Type 0} (picks : Picking K) (hardware : Hardware) (credits : ℕ) 
       → (b : Buffer) × (u.connection ≡ First) × WasSaid picks u.command.reference u.command.unit start a.0 calls a.1 b
       × (IsEmpty b u (wish calls) ⊎ WasMoved b u kind block outcome (wish calls))
   moves_what_it_says p calls outcome done via reference result u kind block asks a makes begun moves =
-      by old.task refl (good_told (step_told old outcome old.task) old.controller.begun via reference result makes)
-    where
-      old : Port K
-      old = a.0
-
-      s : Steps old (wish calls)
-      s = steps picks hardware credits controller start made old calls asks.1 a.1
-
-      whose : (b : Buffer) → kept_of u.connection u.command.reference old.buffers.items ≡ Some b
-          → (IsEmpty b u (wish calls) ⊎ WasMoved b u kind block outcome (wish calls))
-          → (b : Buffer) × (u.connection ≡ First) × WasSaid picks u.command.reference u.command.unit start a.0
-          calls a.1 b
-          × (IsEmpty b u (wish calls) ⊎ WasMoved b u kind block outcome (wish calls))
-      whose b kept either =
-          let is = kept_said (λ unit x. WasSaid picks x.reference unit start old calls a.1 x) old u b
-          (kept_was_said picks hardware credits controller start old calls made a.1) begun kept in
-          (b, is.0, subst (λ n. WasSaid picks n u.command.unit start old calls a.1 b) is.1 is.2, either)
-
-      empty : (b : Buffer) (w : Option Wish) → b.count ≤ u.done * 512 → w ≢ None
-          → IfSome w (λ x. x.action ≡ actions.Pause) → IsEmpty b u w
-      empty b None low some h = absurd (some refl)
-      empty b (Some x) low some h = (low, h)
-
-      by : (task : Task) → old.task ≡ task → step_told old outcome old.task ≡ Some blocks.Good
-          → (b : Buffer) × (u.connection ≡ First) × WasSaid picks u.command.reference u.command.unit start a.0
-          calls a.1 b
-          × (IsEmpty b u (wish calls) ⊎ WasMoved b u kind block outcome (wish calls))
-      by (tasks.Step verdict) at told =
-          let good = good_verdict verdict (same_Some (told_of verdict) blocks.Good
-          (sym (ap (step_told old outcome) at) ∙ told)) in
-          let is : begun_task old.controller.settings.units old.buffers.items old.volumes (Some u)
-          ≡ tasks.Step (verdicts.Served blocks.Good) =
-          ap (begun_task old.controller.settings.units old.buffers.items old.volumes) (sym begun)
-          ∙ sym (s.begun (subst (λ x. IsOfBlock x) (sym at) tt)) ∙ at ∙ ap tasks.Step good in
-          let b = begun_good u kind block moves (place_in old.controller.settings.units u.command.unit)
-          (kept_of u.connection u.command.reference old.buffers.items) old.volumes is in
-          whose b.0 b.1 (inl (empty b.0 (wish calls) b.2 asks.0 (s.paused verdict at)))
-      by tasks.Transfer at told =
-          let good = same_Some (transfer_told old outcome (block_begun old)) blocks.Good
-          (sym (ap (step_told old outcome) at) ∙ told) in
-          let b = moved_good u kind block moves old outcome (wish calls) begun good asks.0 (s.wanted at)
-          (begun_some u kind block moves (place_in old.controller.settings.units u.command.unit)
-          (kept_of u.connection u.command.reference old.buffers.items) old.volumes
-          (ap (begun_task old.controller.settings.units old.buffers.items old.volumes) (sym begun)
-          ∙ sym (s.begun (subst (λ x. IsOfBlock x) (sym at) tt)) ∙ at)) in
-          whose b.0 b.1 (inr b.2)
-      by task at told = absurd (none-some blocks.Good (sym (ap (step_told old outcome) at) ∙ told))
+      let told = good_told (step_told a.0 outcome a.0.task) a.0.controller.begun via reference result makes in
+      let at = moved_at a.0 (wish calls) outcome u kind block asks.0
+      (steps picks hardware credits controller start made a.0 calls asks.1 a.1) told begun moves in
+      let is = kept_said (λ unit x. WasSaid picks x.reference unit start a.0 calls a.1 x) a.0 u at.0
+      (kept_was_said picks hardware credits controller start a.0 calls made a.1) begun at.1 in (
+        at.0,
+        is.0,
+        subst (λ n. WasSaid picks n u.command.unit start a.0 calls a.1 at.0) is.1 is.2,
+        elim at.2 [ inl e ↦ inl e.1 | inr m ↦ inr m.1 ],
+      )

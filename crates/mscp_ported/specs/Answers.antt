@@ -1,10 +1,19 @@
--- What a port says of itself: the ends that it makes of messages, and attention messages (manual, "Attention Messages";
--- port: UQSSP, "Diagnostic and Utilities Protocol").
-use Rattle.std.specs.Prelude.{◌≡◌, ◌+◌, ◌/◌, ◌==◌, ◌&&◌, ◌||◌, ◌++◌, ◌∷◌, [], ℕ, Bool, true, false, nat_le, nat_lt, if◌then◌else◌, List, length, option_map, replicate, slice_index, Option, None, Some, Ok}
+-- Which messages a port answers itself, and with what, and what its controller gets of the others (manual, "Command
+-- Messages", "Host Command Timeouts"; port: UQSSP, "Diagnostic and Utilities Protocol").
+use Rattle.std.specs.Prelude.{◌≡◌, ◌≤◌, ◌+◌, ◌/◌, ◌%◌, ◌==◌, ◌&&◌, ◌||◌, ◌++◌, ◌∷◌, [], ℕ, Bool, true, false, nat_le, nat_lt, if◌then◌else◌, List, drop, find, length, option_map, replicate, slice_index, take, Option, None, Some, Result, Ok, Err}
 use Rattle.byteorder.specs.Endian.{little_bytes}
 use Rattle.mscp_packet.specs.Number.{num}
+use Rattle.mscp_packet.specs.declared.end.End.{End}
+use Rattle.mscp_packet.specs.declared.end.EndBody.TheVariants as bodies
+use Rattle.mscp_drive.specs.Both.{of}
 use Rattle.mscp_drive.specs.Extent.{blocks}
-use Rattle.mscp_controller.specs.Holdings.{Holdings}
+use Rattle.mscp_drive.specs.Shape.{Shape}
+use Rattle.mscp_drive.specs.declared.connection.Connection.TheVariants.{First}
+use Rattle.mscp_queue.specs.Figures.{figure_of_name}
+use Rattle.mscp_queue.specs.Names.{name_on}
+use Rattle.mscp_controller.specs.Holdings.{Holdings, after_message, answer_to_message}
+use Rattle.mscp_controller.specs.declared.entry.SendFault.{SendFault}
+use Rattle.mscp_controller.specs.declared.entry.Sent.{Sent}
 use Rattle.mscp_port.specs.declared.hardware.Hardware.{Hardware}
 use Rattle.mscp_port.specs.declared.port.Outgoing.{Outgoing}
 use Rattle.mscp_port.specs.declared.port.OutgoingKind.{OutgoingKind}
@@ -14,6 +23,7 @@ use Rattle.mscp_port.specs.declared.volumes.Volume.{Volume}
 use Rattle.mscp_port.specs.Calls.{IsMadeOf}
 use Rattle.mscp_port.specs.Histories.{Answered, Call, Picking, WasRead}
 use Rattle.mscp_port.specs.Volumes.{place_in, volume_at}
+use Rattle.mscp_ported.specs.Ends.{come}
 use Rattle.mscp_ported.specs.Talk.{AsksAlways, Opened, Slot, talk_of}
 
 -- ---- messages
@@ -80,7 +90,8 @@ pub record IsOwnAnswer {K : Type 0} (p : Port K) (header : ℕ) (text : List ℕ
       × (o.bytes.items ≡ own_text text own)
 
 -- the law of answers: whoever calls a port that was made over a controller, and tells of actions only after they were
--- wanted: what begins to go out as a text is read is the answer to that message, which the port may give itself
+-- wanted: what begins to go out as a text is read is the answer to that message, which the port may give itself; and no
+-- end waits then that came for the host before, so that it passes that of no command
 abbrev pub PortsAnswerAsTheyMay : {K : Type 0} → Picking K → Type 0
 PortsAnswerAsTheyMay {K} picks =
     (hardware : Hardware) (credits : ℕ) (controller : Holdings K) (start p : Port K) (calls : List Call)
@@ -88,4 +99,71 @@ PortsAnswerAsTheyMay {K} picks =
     → AsksAlways (WasRead bytes (Ok done) ∷ calls) → (a : Answered picks start (WasRead bytes (Ok done) ∷ calls) p)
     → a.0.outgoing ≡ None → p.outgoing ≡ Some o
     → (slot : Slot) × (header : ℕ) × ((talk_of picks start a.0 calls a.1).turn ≡ Opened slot header)
-    × IsOwnAnswer a.0 header bytes o
+    × IsOwnAnswer a.0 header bytes o × (of First a.0.controller.untaken ≡ [])
+
+-- ---- what the controller gets
+
+abbrev pub number_in : Option Shape → ℕ
+number_in None = 0
+number_in (Some unit) = unit.number
+
+-- a GET UNIT STATUS (3) with modifier 1 asks for the first unit whose number isn't below that which it names
+abbrev pub asks_next : List ℕ → Bool
+asks_next b = slice_index b 8 == 3 && num b 10 2 % 2 == 1
+
+-- each byte of the message, but that such a one names that unit, or 0 if there is none
+abbrev pub text_handed : List Shape → List ℕ → List ℕ
+text_handed units b =
+    if asks_next b
+    then take 4 b
+    ++ little_bytes 2 (number_in (find (λ unit. nat_le (num b 4 2) unit.number) units)) ++ drop 6 b
+    else b
+
+-- what may be answered by the port is never sent to the controller, and anything else is, as of the host's connection
+abbrev pub IsHandedOver : {K : Type 0} → Option Own → List ℕ → Port K → Port K → Type 0
+IsHandedOver None text old new =
+    new.controller ≡ after_message First old.controller (text_handed old.controller.settings.units text)
+IsHandedOver (Some own) text old new = new.controller ≡ old.controller
+
+-- the law of what is handed over: whoever calls such a port: a text that was read goes to the controller just if the
+-- port may not answer it itself
+abbrev pub PortsHandOverTheRest : {K : Type 0} → Picking K → Type 0
+PortsHandOverTheRest {K} picks =
+    (hardware : Hardware) (credits : ℕ) (controller : Holdings K) (start p : Port K) (calls : List Call)
+    (bytes : List ℕ) (done : Unit) (slot : Slot) (header : ℕ) → IsMadeOf hardware credits controller start
+    → AsksAlways (WasRead bytes (Ok done) ∷ calls) → (a : Answered picks start (WasRead bytes (Ok done) ∷ calls) p)
+    → (talk_of picks start a.0 calls a.1).turn ≡ Opened slot header
+    → IsHandedOver (own_answer (is_for_utilities header) (volume_named a.0 bytes) bytes) bytes a.0 p
+
+-- ---- polls
+
+-- the end of a GET COMMAND STATUS: the command that it asks for is named in bytes 12 to 15. Its figure is that of the
+-- host's own command of this number, and 0 where none of the host's waits that has it
+abbrev pub poll_end : {K : Type 0} → Holdings K → List ℕ → End
+poll_end h b = record {
+  reference = num b 0 4;
+  unit = num b 4 2;
+  code = 0x82;
+  status = 0;
+  body = bodies.Status (num b 12 4) (figure_of_name h.settings.budget h.waiting (name_on First (num b 12 4)));
+}
+
+-- a poll that the controller takes brings this end alone, and one that it doesn't none
+abbrev pub poll_brings : {K : Type 0} → Result Sent SendFault → Holdings K → List ℕ → List End
+poll_brings (Ok sent) h b = poll_end h b ∷ []
+poll_brings (Err fault) h b = []
+
+-- one of the utilities brings none
+abbrev pub polls_bring : {K : Type 0} → Bool → Port K → List ℕ → List End
+polls_bring foreign p b =
+    if foreign then [] else poll_brings (answer_to_message First p.controller b) p.controller b
+
+-- the law of polls: whoever calls such a port: the text of a poll brings the end with the figure of the command of its
+-- own connection
+abbrev pub PortsAnswerPolls : {K : Type 0} → Picking K → Type 0
+PortsAnswerPolls {K} picks =
+    (hardware : Hardware) (credits : ℕ) (controller : Holdings K) (start p : Port K) (calls : List Call)
+    (bytes : List ℕ) (done : Unit) (slot : Slot) (header : ℕ) → IsMadeOf hardware credits controller start
+    → AsksAlways (WasRead bytes (Ok done) ∷ calls) → (a : Answered picks start (WasRead bytes (Ok done) ∷ calls) p)
+    → (talk_of picks start a.0 calls a.1).turn ≡ Opened slot header → slice_index bytes 8 ≡ 2 → 16 ≤ length bytes
+    → come a.0 p ≡ polls_bring (is_for_utilities header) a.0 bytes

@@ -5,7 +5,9 @@ pub mod Owed
 pub mod Told
 pub mod Making
 pub mod Moved
+pub mod Mounts
 pub mod Ends
 pub mod Answers
 pub mod News
 pub mod Soon
+pub mod Transfers

@@ -1,12 +1,14 @@
 // What is true of every port, for its host.
 
-ghost use Rattle.mscp_ported.specs.Answers.{PortsAnswerAsTheyMay};
+ghost use Rattle.mscp_ported.specs.Answers.{PortsAnswerAsTheyMay, PortsAnswerPolls, PortsHandOverTheRest};
 ghost use Rattle.mscp_ported.specs.Ends.{PortsSayWhatWasDecided};
 ghost use Rattle.mscp_ported.specs.Making.{PortsKeepThePromise};
+ghost use Rattle.mscp_ported.specs.Mounts.{PortsCountOnTheirVolumes, PortsMoveOnTheirVolumes};
 ghost use Rattle.mscp_ported.specs.Moved.{PortsMoveWhatTheySay};
 ghost use Rattle.mscp_ported.specs.News.{PortsAnnounceAvailableUnits};
 ghost use Rattle.mscp_ported.specs.Owed.{PortsDoWhatIsDue};
 ghost use Rattle.mscp_ported.specs.Soon.{PortsKeepTelling, PortsTellSoon};
+ghost use Rattle.mscp_ported.specs.Transfers.{PortsCountWhatTheyMoved, PortsMoveEachBlock};
 ghost use Rattle.mscp_ported.specs.Told.{PortsHearInOrder, PortsTellInOrder};
 
 use mscp_controller::controllers_keep_the_promise;
@@ -65,6 +67,44 @@ pub fn ports_move_what_they_say<K: Picker>(picker: &K)
     let _ = picker;
 }
 
+/// Of such a port: where the controller is told that a block of a transfer went well, and by that the transfer's end comes, the
+/// end says Success, and counts all bytes that the command asked for. The message by which the command came is one that was read;
+/// and since it came, just the blocks for which it asks were wanted and told done, one behind the other, each at its place of the
+/// buffer that the message named: one for each 512 bytes, and of the last one the bytes that are left.
+pub fn ports_move_each_block<K: Picker>(picker: &K)
+    ensures { PortsMoveEachBlock K.picks }
+{
+    let _ = picker;
+}
+
+/// Of such a port: where the end of a transfer comes as a step was told, and the port keeps where the transfer's data are, the
+/// end counts just the blocks that were wanted and told done since its message came, each at its place, from the first one on.
+/// So the end of a transfer that failed counts those in front of the block that wasn't moved.
+pub fn ports_count_what_they_moved<K: Picker>(picker: &K)
+    ensures { PortsCountWhatTheyMoved K.picks }
+{
+    let _ = picker;
+}
+
+/// Whoever calls a port, and whatever its host writes: where a block of a command is wanted, the volume in its unit is the one
+/// that was there as the command's message was read, and with which the unit is online: an ONLINE succeeded since the host wrote
+/// IP last, and since then no AVAILABLE did, and no volume came or went. This is said of a unit whose volume changed fewer than
+/// 2^32 times so far.
+pub fn ports_move_on_their_volumes<K: Picker>(picker: &K)
+    ensures { PortsMoveOnTheirVolumes K.picks }
+{
+    let _ = picker;
+}
+
+/// Of such a port, whose holder tells of actions only after they were wanted, and whose list of units is one that is taken: it is
+/// so still where the controller is told that such a block went well. So none counts that was moved on a volume which isn't there
+/// any more.
+pub fn ports_count_on_their_volumes<K: Picker>(picker: &K)
+    ensures { PortsCountOnTheirVolumes K.picks }
+{
+    let _ = picker;
+}
+
 /// Whoever calls a port, whose controller held no end of its host's as the port was made: the ends that came for the host since
 /// all was forgotten last began to go out in the order in which they came, each once, but for those that the controller holds
 /// still. Each has the fields that were decided as its command ended: its status, and of an ONLINE, a SET UNIT CHARACTERISTICS, a
@@ -82,6 +122,24 @@ pub fn ports_say_what_was_decided<K: Picker>(picker: &K)
 /// is of the message's connection. To no other message the port gives an answer of its own.
 pub fn ports_answer_as_they_may<K: Picker>(picker: &K)
     ensures { PortsAnswerAsTheyMay K.picks }
+{
+    let _ = picker;
+}
+
+/// Of such a port, whose holder tells of actions only after they were wanted: a message that the port may answer itself never
+/// reaches its controller, and any other does, as of the host's connection, byte by byte, but that a GET UNIT STATUS which asks
+/// for the next unit names that one. So nothing of the utilities' connection reaches the controller.
+pub fn ports_hand_over_the_rest<K: Picker>(picker: &K)
+    ensures { PortsHandOverTheRest K.picks }
+{
+    let _ = picker;
+}
+
+/// Of such a port: a poll of the disk's connection that its controller takes brings one end, with the figure of the host's own
+/// command of the number that it names, as it is then, and 0 if none of that number waits; and a poll of the utilities' brings
+/// none. No command of another connection is ever told of.
+pub fn ports_answer_polls<K: Picker>(picker: &K)
+    ensures { PortsAnswerPolls K.picks }
 {
     let _ = picker;
 }

@@ -1,0 +1,355 @@
+-- What is kept of a command was said by its own message, and its blocks so far were moved at their places.
+use Rattle.std.proofs.Common.{◌≡◌, ◌≢◌, ◌⊎◌, ◌∙◌, ◌<◌, ◌&&◌, ◌++◌, ◌∷◌, [], ℕ, Bool, true, false, cond, filter, length, nat_eq, nat_lt, not, List, Contains, Option, None, Some, inl, inr, refl, ap, sym, subst, arith}
+use Rattle.std.specs.Prelude.{◌==◌, Ok, find, is_none, option_map}
+use Rattle.std.proofs.lemmas.List.{append-nil}
+use Rattle.std.proofs.lemmas.Option.{none-some, same_Some}
+use Rattle.mscp_packet.specs.Number.{num}
+use Rattle.mscp_packet.specs.declared.command.Command.{Command}
+use Rattle.mscp_packet.specs.declared.command.Order.{Order}
+use Rattle.mscp_packet.specs.declared.command.Order.TheVariants as orders
+use Rattle.mscp_packet.specs.declared.end.End.{End}
+unfoldable use Rattle.mscp_packet.specs.Commands.{command_of}
+use Rattle.mscp_drive.specs.declared.connection.Connection.TheVariants.{First}
+use Rattle.mscp_queue.specs.declared.name.Name.{Name}
+use Rattle.mscp_queue.specs.Names.{name_on}
+use Rattle.mscp_queue.specs.Orders.{order_weight}
+use Rattle.mscp_queue.specs.Records.{Record, fresh_record, name_of}
+use Rattle.mscp_queue.proofs.Named.{same_is}
+use Rattle.mscp_controller.specs.Arrival.{is_queued, refusal}
+use Rattle.mscp_controller.specs.declared.entry.SendFault.{SendFault}
+use Rattle.mscp_controller.specs.declared.entry.Sent.TheVariants as sents
+use Rattle.mscp_controller.specs.Holdings.{Holdings, aborting, answer_to_message, answered_end, arrives, balance_of, held_unless, outstanding_of, queued, reference_aborted, sent_unless, taken_as, unaborted, with_end}
+use Rattle.mscp_port.specs.declared.action.Action.{Action}
+use Rattle.mscp_port.specs.declared.buffers.Buffer.{Buffer}
+use Rattle.mscp_port.specs.declared.port.Port.{Port}
+use Rattle.mscp_port.specs.declared.slot.Descriptor.{Descriptor}
+use Rattle.mscp_port.specs.declared.task.Task.TheVariants as tasks
+use Rattle.mscp_port.specs.Buffers.{buffer_in, kept_beside, without_aborted}
+use Rattle.mscp_port.specs.Histories.{Answered, Call, Picking, WasRead}
+use Rattle.mscp_port.specs.Messages.{handed, own_end_of}
+use Rattle.mscp_port.specs.Seen.{SeesText, answered_to, changes_at, kept_of_sent}
+use Rattle.mscp_port.specs.Volumes.{place_in}
+use Rattle.mscp_port.proofs.Come.{handed_as_read, long_enough, none_waits, taken_number}
+use Rattle.mscp_port.proofs.Common.{Contains-push_cases, eq-eqb, eqb-true}
+use Rattle.mscp_port.proofs.Among.{none_among}
+use Rattle.mscp_port.proofs.Kept.{is_numbered}
+use Rattle.mscp_port.proofs.Said.{is_first, none_or_some, not_of, without_among}
+use Rattle.mscp_ported.specs.Answers.{own_answer, volume_named}
+use Rattle.mscp_ported.specs.Talk.{wish}
+use Rattle.mscp_ported.specs.Transfers.{asked, comes, done_by, is_queued_so, is_queued_text, moved, text_of, transfers}
+use Rattle.mscp_ported.proofs.Answering.{handed_so, none_so, own_so}
+use Rattle.mscp_ported.proofs.Sole.{Alike, found_sole, itself, none_passes, sole_beside, sole_comes, sole_left, sole_passes}
+
+-- so many blocks of an order
+abbrev pub parts_of : Order → ℕ → ℕ → ℕ → List Action
+parts_of (orders.Move kind count first) unit address n = transfers kind unit first address count n
+parts_of order unit address n = []
+
+no_parts : (order : Order) (unit address : ℕ) → parts_of order unit address 0 ≡ []
+no_parts (orders.Move kind count first) unit address = refl
+no_parts order unit address = refl
+
+some_weight : (order : Order) → 0 < order_weight order
+some_weight (orders.Move kind count first) = search arith
+some_weight order = search arith
+
+module _ {K : Type 0} (picks : Picking K) (start : Port K) where
+  -- this is kept of the one command of its number that waits, whose message this was, and which got so far
+  pub record Own (p : Port K) (calls : List Call) (a : Answered picks start calls p) (b : Buffer) (r : Record)
+      (bytes : List ℕ) : Type 0 where
+    pub sole : filter (is_numbered b.reference) p.controller.waiting ≡ r ∷ []
+    pub message : asked picks b.reference start p calls a ≡ Some bytes
+    pub kept : (changes : ℕ) × (b ≡ buffer_in bytes changes)
+    pub command : r.command ≡ command_of bytes
+    pub whole : r.weight ≡ order_weight r.command.order
+    pub good : r.good ≡ r.done
+    pub low : r.done < r.weight
+    pub parts : moved picks b.reference start p calls a ≡ parts_of r.command.order r.command.unit b.address r.done
+
+  abbrev pub Owned : (p : Port K) (calls : List Call) → Answered picks start calls p → Buffer → Type 0
+  Owned p calls a b = (r : Record) × (bytes : List ℕ) × Own p calls a b r bytes
+
+  abbrev pub AreOwned : (p : Port K) (calls : List Call) → Answered picks start calls p → Type 0
+  AreOwned p calls a = (b : Buffer) → Contains p.buffers.items b → Owned p calls a b
+
+  -- a call by which this command doesn't come, and none of its blocks is told
+  pub carries : (p : Port K) (call : Call) (calls : List Call) (a : Answered picks start (call ∷ calls) p)
+      (b : Buffer) (r s : Record) (bytes : List ℕ) → Own a.0 calls a.1 b r bytes
+      → comes b.reference call a.0 ≡ false → done_by b.reference call (wish calls) a.0 ≡ []
+      → filter (is_numbered b.reference) p.controller.waiting ≡ s ∷ [] → Alike r s → Own p (call ∷ calls) a b s bytes
+  carries p call calls a b r s bytes own other none sole alike = record {
+    sole = sole;
+    message = ap (λ c. cond c (Some (text_of call)) (asked picks b.reference start a.0 calls a.1)) other
+        ∙ own.message;
+    kept = own.kept;
+    command = alike.command ∙ own.command;
+    whole = alike.weight ∙ own.whole ∙ ap (λ (c : Command). order_weight c.order) (sym alike.command);
+    good = alike.good ∙ own.good ∙ sym alike.done;
+    low = subst (λ n. n < s.weight) (sym alike.done) (subst (λ n. r.done < n) (sym alike.weight) own.low);
+    parts = ap (λ c. cond c [] (moved picks b.reference start a.0 calls a.1
+        ++ done_by b.reference call (wish calls) a.0)) other
+        ∙ ap (λ zs. moved picks b.reference start a.0 calls a.1 ++ zs) none
+        ∙ append-nil (moved picks b.reference start a.0 calls a.1) ∙ own.parts
+        ∙ ap (λ (c : Command). parts_of c.order c.unit b.address r.done) (sym alike.command)
+        ∙ ap (parts_of s.command.order s.command.unit b.address) (sym alike.done);
+  }
+
+  pub quiet : (p : Port K) (call : Call) (calls : List Call) (a : Answered picks start (call ∷ calls) p)
+      → ((n : ℕ) → comes n call a.0 ≡ false) → ((n : ℕ) → done_by n call (wish calls) a.0 ≡ [])
+      → p.controller.waiting ≡ a.0.controller.waiting
+      → ((b : Buffer) → Contains p.buffers.items b → Contains a.0.buffers.items b)
+      → AreOwned a.0 calls a.1 → AreOwned p (call ∷ calls) a
+  quiet p call calls a other none same among owned b there =
+      let o = owned b (among b there) in (
+        o.0,
+        o.1,
+        carries p call calls a b o.0 o.0 o.1 o.2 (other b.reference) (none b.reference)
+            (ap (filter (is_numbered b.reference)) same ∙ o.2.sole) (itself o.0),
+      )
+
+  pub nothing_kept : (p : Port K) (calls : List Call) (a : Answered picks start calls p) → p.buffers.items ≡ []
+      → AreOwned p calls a
+  nothing_kept p calls a e b there = absurd (none_among p.buffers.items b e there)
+
+-- ---- a text was read
+
+pub and_false : (x y : Bool) → y ≡ false → (x && y) ≡ false
+and_false true y e = e
+and_false false y e = refl
+
+-- what is kept without that of a record which was found, if one was
+left_among : (o : Option Record) (bs : List Buffer) (b : Buffer)
+    → Contains (without_aborted (option_map (λ r. r.command.reference) o) bs) b → Contains bs b
+left_among None bs b there = there
+left_among (Some r) bs b there = (without_among First r.command.reference bs b there).0
+
+left_other : (o : Option Record) (r : Record) (bs : List Buffer) (b : Buffer) → o ≡ Some r
+    → Contains (without_aborted (option_map (λ r. r.command.reference) o) bs) b → b.reference ≢ r.command.reference
+left_other None r bs b e there = absurd (none-some r e)
+left_other (Some x) r bs b e there = λ same.
+    not_of First x.command.reference b
+    (is_first First x.command.reference b refl
+    (same ∙ ap (λ (y : Record). y.command.reference) (sym (same_Some x r e))))
+    (without_among First x.command.reference bs b there).1
+
+pub number_of : (n : ℕ) (r : Record) → is_numbered n r ≡ true → (r.connection ≡ First) × (r.command.reference ≡ n)
+number_of n r is = let e = same_is (name_of r) (name_on First n) is in
+    (ap (λ (x : Name). x.connection) e, ap (λ (x : Name). x.reference) e)
+
+apart_numbers : (n m : ℕ) (r : Record) → n ≢ m → is_numbered n r ≡ true → not (is_numbered m r) ≡ true
+apart_numbers n m r ne is = by (is_numbered m r) refl
+  where
+    by : (b : Bool) → is_numbered m r ≡ b → not b ≡ true
+    by false e = refl
+    by true e = absurd (ne (sym (number_of n r is).1 ∙ (number_of m r e).1))
+
+beside_cases : (t : Bool) (bs : List Buffer) (x b : Buffer) → Contains (cond t (bs ++ x ∷ []) bs) b
+    → Contains bs b ⊎ (x ≡ b)
+beside_cases true bs x b there = Contains-push_cases bs x b there
+beside_cases false bs x b there = inl there
+
+module _ {K : Type 0} (picks : Picking K) (start : Port K) (p : Port K) (calls : List Call) (bytes : List ℕ)
+    (done : Unit) (a : Answered picks start (WasRead bytes (Ok done) ∷ calls) p) (slot : Descriptor) (size : ℕ)
+    (foreign : Bool) (at : a.0.task ≡ tasks.Text slot size foreign) (owned : AreOwned picks start a.0 calls a.1) where
+  abbrev After : Type 0
+  After = AreOwned picks start p (WasRead bytes (Ok done) ∷ calls) a
+
+  abbrev sent : List ℕ
+  sent = handed a.0.controller.settings.units bytes
+
+  abbrev refused : Option SendFault
+  refused = refusal (balance_of First a.0.controller) (outstanding_of First a.0.controller) sent
+
+  sees : SeesText slot foreign bytes a.0 p
+  sees = (a.2.sees refl).text slot size foreign at
+
+  -- whether it is queued
+  queued_by : is_queued_text a.0 bytes a.0.task
+      ≡ (is_none (own_answer foreign (volume_named a.0 bytes) bytes) && is_queued_so (answered_to a.0 bytes))
+  queued_by = ap (is_queued_text a.0 bytes) at
+      ∙ ap (λ b. is_none (own_answer foreign (volume_named a.0 bytes) bytes)
+      && is_queued_so (answer_to_message First a.0.controller b))
+      (sym (handed_so a.0.controller.settings.units bytes))
+
+  never : is_queued_text a.0 bytes a.0.task ≡ false → (n : ℕ) → comes n (WasRead bytes (Ok done)) a.0 ≡ false
+  never e n = and_false (num bytes 0 4 == n) (is_queued_text a.0 bytes a.0.task) e
+
+  still : is_queued_text a.0 bytes a.0.task ≡ false → p.controller.waiting ≡ a.0.controller.waiting
+      → p.buffers.items ≡ a.0.buffers.items → After
+  still e same buffers = quiet picks start p (WasRead bytes (Ok done)) calls a (never e) (λ n. refl) same
+      (λ b there. subst (λ bs. Contains bs b) buffers there) owned
+
+  answered : (e : End) → own_end_of a.0 foreign bytes ≡ Some e → After
+  answered e own =
+      let some : own_end_of a.0 foreign bytes ≢ None = λ none. none-some e (sym none ∙ own) in
+      let o = own_so foreign (volume_named a.0 bytes) bytes e own in
+      still (queued_by ∙ ap (λ x. is_none x && is_queued_so (answered_to a.0 bytes)) o.1)
+      (ap (λ (h : Holdings K). h.waiting) (a.2.own slot size foreign at some))
+      (elim (none_or_some a.0.outgoing) [
+        | inl nothing ↦ ap (λ (q : Port K). q.buffers.items) (sees.own some nothing).0
+        | inr out ↦ ap (λ (q : Port K). q.buffers.items)
+            (sees.own_waits some (λ nothing. none-some out.0 (sym nothing ∙ out.1)))
+      ])
+
+  waits : (fault : SendFault) → own_end_of a.0 foreign bytes ≡ None → refused ≡ Some fault → After
+  waits fault none e =
+      let answer = ap (sent_unless First a.0.controller (command_of sent)) e in
+      still (queued_by ∙ and_false (is_none (own_answer foreign (volume_named a.0 bytes) bytes))
+      (is_queued_so (answered_to a.0 bytes)) (ap is_queued_so answer))
+      (ap (λ (h : Holdings K). h.waiting) (a.2.handed slot size foreign at refl none
+      ∙ ap (held_unless First a.0.controller (command_of sent)) e))
+      (ap (λ (q : Port K). q.buffers.items) (sees.waits fault none answer))
+
+  -- the controller answers it, and may abort another
+  aborts : (order : Order) → is_queued_text a.0 bytes a.0.task ≡ false
+      → p.controller.waiting ≡ unaborted First a.0.controller.waiting order
+      → p.buffers.items ≡ without_aborted (reference_aborted First a.0.controller.waiting order) a.0.buffers.items
+      → After
+  aborts (orders.Abort m) e waiting kept = λ b there.
+      let rs = a.0.controller.waiting in
+      let o = find (is_numbered m) rs in
+      let left = subst (λ bs. Contains bs b) kept there in
+      let own = owned b (left_among o a.0.buffers.items b left) in
+      let apart : b.reference ≢ m = λ same.
+      let r = own.0 in
+      let found = found_sole (is_numbered m) rs r (subst (λ n. filter (is_numbered n) rs ≡ r ∷ []) same own.2.sole) in
+      left_other o r a.0.buffers.items b found left
+      (same ∙ sym (number_of m r (sole_passes (is_numbered m) rs r
+      (subst (λ n. filter (is_numbered n) rs ≡ r ∷ []) same own.2.sole))).1) in (
+        own.0,
+        own.1,
+        carries picks start p (WasRead bytes (Ok done)) calls a b own.0 own.0 own.1 own.2 (never e b.reference) refl
+            (ap (filter (is_numbered b.reference)) waiting
+            ∙ sole_left (is_numbered b.reference) (λ r. not (is_numbered m r)) rs
+            (λ r is. apart_numbers b.reference m r apart is) ∙ own.2.sole)
+            (itself own.0),
+      )
+  aborts order e waiting kept = still e waiting kept
+
+  -- it is queued
+  comes_in : own_end_of a.0 foreign bytes ≡ None → answered_to a.0 bytes ≡ Ok (sents.Queued (num bytes 0 4))
+      → refusal (balance_of First a.0.controller) (outstanding_of First a.0.controller) bytes ≡ None
+      → p.controller.waiting ≡ a.0.controller.waiting ++ fresh_record First (command_of bytes) ∷ []
+      → p.buffers.items ≡ kept_beside (buffer_in bytes (changes_at a.0.volumes
+      (place_in a.0.controller.settings.units (num bytes 4 2)))) a.0.buffers.items
+      → After
+  unfolding command_of
+  comes_in none answer taken waiting kept = λ b there.
+      let rs = a.0.controller.waiting in
+      let n = num bytes 0 4 in
+      let r = fresh_record First (command_of bytes) in
+      let changes = changes_at a.0.volumes (place_in a.0.controller.settings.units (num bytes 4 2)) in
+      let own = buffer_in bytes changes in
+      let fits = taken_number (balance_of First a.0.controller) (outstanding_of First a.0.controller) bytes taken in
+      let number : own.reference ≡ n = ap (λ t. cond t 0 n) (long_enough bytes fits.0) in
+      let new : filter (is_numbered n) rs ≡ [] =
+      none_passes (is_numbered n) rs (none_waits a.0.controller n fits.1) in
+      let is_it : is_queued_text a.0 bytes a.0.task ≡ true =
+      queued_by ∙ ap (λ x. is_none x && is_queued_so (answered_to a.0 bytes))
+      (none_so foreign (volume_named a.0 bytes) bytes none) ∙ ap is_queued_so answer in
+      elim (beside_cases (nat_lt (length a.0.buffers.items) 64) a.0.buffers.items own b
+      (subst (λ bs. Contains bs b) kept there)) [
+        | inl before ↦
+            let o = owned b before in
+            let apart : nat_eq n b.reference ≡ false = other_number b (nat_eq n b.reference) refl o.0 o.2.sole new in (
+              o.0,
+              o.1,
+              carries picks start p (WasRead bytes (Ok done)) calls a b o.0 o.0 o.1 o.2
+                  (ap (λ c. c && is_queued_text a.0 bytes a.0.task) apart) refl
+                  (ap (filter (is_numbered b.reference)) waiting
+                  ∙ sole_beside (is_numbered b.reference) rs r o.0 o.2.sole apart)
+                  (itself o.0),
+            )
+        | inr e ↦
+            let same : b.reference ≡ n = ap (λ (x : Buffer). x.reference) (sym e) ∙ number in
+            let now : comes b.reference (WasRead bytes (Ok done)) a.0 ≡ true =
+            ap (λ c. c && is_queued_text a.0 bytes a.0.task) (eq-eqb n b.reference (sym same)) ∙ is_it in (
+              r,
+              bytes,
+              record {
+                sole = subst (λ m. filter (is_numbered m) p.controller.waiting ≡ r ∷ []) (sym same)
+                    (ap (filter (is_numbered n)) waiting
+                    ∙ sole_comes (is_numbered n) rs r new (eq-eqb n n refl));
+                message = ap (λ c. cond c (Some bytes) (asked picks b.reference start a.0 calls a.1)) now;
+                kept = (changes, sym e);
+                command = refl;
+                whole = refl;
+                good = refl;
+                low = some_weight (command_of bytes).order;
+                parts = ap (λ c. cond c [] (moved picks b.reference start a.0 calls a.1
+                    ++ [])) now ∙ sym (no_parts (command_of bytes).order (command_of bytes).unit b.address);
+              },
+            )
+      ]
+    where
+      other_number : (b : Buffer) (c : Bool) → nat_eq (num bytes 0 4) b.reference ≡ c → (r : Record)
+          → filter (is_numbered b.reference) a.0.controller.waiting ≡ r ∷ []
+          → filter (is_numbered (num bytes 0 4)) a.0.controller.waiting ≡ [] → c ≡ false
+      other_number b false e r sole new = refl
+      other_number b true e r sole new = search (
+        arith,
+        sym new ∙ subst (λ m. filter (is_numbered m) a.0.controller.waiting ≡ r ∷ [])
+            (sym (eqb-true (num bytes 0 4) b.reference e)) sole,
+      )
+
+  taken : (q : Bool) → is_queued a.0.controller.settings (command_of sent) ≡ q → own_end_of a.0 foreign bytes ≡ None
+      → refused ≡ None → After
+  unfolding command_of
+  taken q e none taken_is =
+      let h = a.0.controller in
+      let command = command_of sent in
+      let answer : answered_to a.0 bytes ≡ Ok (taken_as First h command) =
+      ap (sent_unless First h command) taken_is in
+      let gets : p.controller ≡ arrives First h command =
+      a.2.handed slot size foreign at refl none ∙ ap (held_unless First h command) taken_is in
+      by q e gets answer (sees.sent (taken_as First h command) none answer).kept
+    where
+      by : (q : Bool) → is_queued a.0.controller.settings (command_of sent) ≡ q
+          → p.controller ≡ arrives First a.0.controller (command_of sent)
+          → answered_to a.0 bytes ≡ Ok (taken_as First a.0.controller (command_of sent))
+          → p.buffers.items ≡ kept_of_sent (taken_as First a.0.controller (command_of sent))
+          (buffer_in bytes (changes_at a.0.volumes (place_in a.0.controller.settings.units (num bytes 4 2))))
+          a.0.buffers.items
+          → After
+      by true e gets answer kept =
+          let h = a.0.controller in
+          let command = command_of sent in
+          let own =
+          buffer_in bytes (changes_at a.0.volumes (place_in a.0.controller.settings.units (num bytes 4 2))) in
+          let aborted = reference_aborted First h.waiting command.order in
+          let same = handed_as_read h.settings h.settings.units bytes e in
+          comes_in none
+          (answer ∙ ap (λ t. Ok (cond t (sents.Queued command.reference)
+          (sents.Answered command.reference aborted))) e ∙ ap (λ b. Ok (sents.Queued (num b 0 4))) same)
+          (subst (λ b. refusal (balance_of First h) (outstanding_of First h) b ≡ None) same taken_is)
+          (ap (λ (x : Holdings K). x.waiting) gets
+          ∙ ap (λ t. (cond t (queued First h command)
+          (with_end First (aborting First h command.order) (answered_end First h command))).waiting) e
+          ∙ ap (λ b. h.waiting ++ fresh_record First (command_of b) ∷ []) same)
+          (kept ∙ ap (λ t. kept_of_sent (cond t (sents.Queued command.reference)
+          (sents.Answered command.reference aborted)) own a.0.buffers.items) e)
+      by false e gets answer kept =
+          let h = a.0.controller in
+          let command = command_of sent in
+          let own =
+          buffer_in bytes (changes_at a.0.volumes (place_in a.0.controller.settings.units (num bytes 4 2))) in
+          let aborted = reference_aborted First h.waiting command.order in
+          aborts command.order
+          (queued_by ∙ and_false (is_none (own_answer foreign (volume_named a.0 bytes) bytes))
+          (is_queued_so (answered_to a.0 bytes)) (ap is_queued_so (answer ∙ ap (λ t. Ok (cond t
+          (sents.Queued command.reference) (sents.Answered command.reference aborted))) e)))
+          (ap (λ (x : Holdings K). x.waiting) gets
+          ∙ ap (λ t. (cond t (queued First h command)
+          (with_end First (aborting First h command.order) (answered_end First h command))).waiting) e)
+          (kept ∙ ap (λ t. kept_of_sent (cond t (sents.Queued command.reference)
+          (sents.Answered command.reference aborted)) own a.0.buffers.items) e)
+
+  judged : (o : Option SendFault) → refused ≡ o → own_end_of a.0 foreign bytes ≡ None → After
+  judged None e none = taken (is_queued a.0.controller.settings (command_of sent)) refl none e
+  judged (Some fault) e none = waits fault none e
+
+  pub text_owned : After
+  text_owned = elim (none_or_some (own_end_of a.0 foreign bytes)) [
+    | inr own ↦ answered own.0 own.1
+    | inl none ↦ judged refused refl none
+  ]

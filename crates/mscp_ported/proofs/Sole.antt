@@ -1,0 +1,219 @@
+-- The one command of a number that waits, by each step.
+use Rattle.std.proofs.Common.{◌≡◌, ◌⊎◌, ◌∙◌, ◌+◌, ◌<◌, ◌||◌, ◌++◌, ◌∷◌, [], ℕ, Bool, true, false, cond, drop, filter, length, map, take, List, Option, None, Some, inl, inr, refl, ap, sym, arith}
+use Rattle.std.specs.Prelude.{find}
+use Rattle.std.specs.List.{list_any}
+use Rattle.mscp_packet.specs.declared.end.End.{End}
+use Rattle.mscp_drive.specs.declared.block.Block.{Block}
+use Rattle.mscp_queue.specs.declared.drive.Drive.{Drive}
+use Rattle.mscp_queue.specs.Records.{Record, advanced, no_record, passed_by, record_at, remains, step_charge}
+use Rattle.mscp_queue.specs.Serving.{end_given, waiting_after}
+use Rattle.mscp_port.proofs.Common.{drop_more, false≢true, take-append-drop}
+use Rattle.mscp_port.proofs.Kept.{is_numbered}
+
+module _ {X : Type 0} where
+  abbrev first_in : X → List X → X
+  first_in d [] = d
+  first_in d (x ∷ xs) = x
+
+  abbrev others_in : List X → List X
+  others_in [] = []
+  others_in (x ∷ xs) = xs
+
+  filter_append : (f : X → Bool) (xs ys : List X) → filter f (xs ++ ys) ≡ filter f xs ++ filter f ys
+  filter_append f [] ys = refl
+  filter_append f (x ∷ xs) ys = by (f x) (filter_append f xs ys)
+    where
+      by : (c : Bool) → filter f (xs ++ ys) ≡ filter f xs ++ filter f ys
+          → cond c (x ∷ filter f (xs ++ ys)) (filter f (xs ++ ys))
+          ≡ cond c (x ∷ filter f xs) (filter f xs) ++ filter f ys
+      by true rest = ap (λ zs. x ∷ zs) rest
+      by false rest = rest
+
+  nothing : (xs ys : List X) → xs ++ ys ≡ [] → (xs ≡ []) × (ys ≡ [])
+  nothing [] ys e = (refl, e)
+  nothing (x ∷ xs) ys e = search (arith, e)
+
+  split : (xs ys : List X) (r : X) → xs ++ ys ≡ r ∷ []
+      → ((xs ≡ r ∷ []) × (ys ≡ [])) ⊎ ((xs ≡ []) × (ys ≡ r ∷ []))
+  split [] ys r e = inr (refl, e)
+  split (x ∷ xs) ys r e =
+      let n = nothing xs ys (ap others_in e) in
+      inl (ap (λ zs. x ∷ zs) n.0 ∙ ap (λ z. z ∷ []) (ap (first_in r) e), n.1)
+
+  -- the one that passes is this, or another
+  pub this_one : (f : X → Bool) (xs ys : List X) (y r : X) → filter f (xs ++ y ∷ ys) ≡ r ∷ [] → f y ≡ true
+      → (filter f xs ≡ []) × (y ≡ r) × (filter f ys ≡ [])
+  this_one f xs ys y r e is = by (split (filter f xs) (filter f (y ∷ ys)) r (sym (filter_append f xs (y ∷ ys)) ∙ e))
+    where
+      here : filter f (y ∷ ys) ≡ y ∷ filter f ys
+      here = ap (λ c. cond c (y ∷ filter f ys) (filter f ys)) is
+
+      by : ((filter f xs ≡ r ∷ []) × (filter f (y ∷ ys) ≡ []))
+          ⊎ ((filter f xs ≡ []) × (filter f (y ∷ ys) ≡ r ∷ []))
+          → (filter f xs ≡ []) × (y ≡ r) × (filter f ys ≡ [])
+      by (inl h) = search (arith, sym here ∙ h.1)
+      by (inr h) = let t = sym here ∙ h.1 in (h.0, ap (first_in r) t, ap others_in t)
+
+  pub other_one : (f : X → Bool) (xs ys : List X) (y r : X) → filter f (xs ++ y ∷ ys) ≡ r ∷ [] → f y ≡ false
+      → ((filter f xs ≡ r ∷ []) × (filter f ys ≡ [])) ⊎ ((filter f xs ≡ []) × (filter f ys ≡ r ∷ []))
+  other_one f xs ys y r e not_it = split (filter f xs) (filter f ys) r
+      (ap (λ zs. filter f xs ++ zs) (sym (ap (λ c. cond c (y ∷ filter f ys) (filter f ys)) not_it))
+      ∙ sym (filter_append f xs (y ∷ ys)) ∙ e)
+
+  -- it is found
+  pub found_sole : (f : X → Bool) (xs : List X) (r : X) → filter f xs ≡ r ∷ [] → find f xs ≡ Some r
+  found_sole f [] r e = search (arith, e)
+  found_sole f (x ∷ xs) r e = by (f x) (found_sole f xs r) e
+    where
+      by : (c : Bool) → (filter f xs ≡ r ∷ [] → find f xs ≡ Some r)
+          → cond c (x ∷ filter f xs) (filter f xs) ≡ r ∷ [] → cond c (Some x) (find f xs) ≡ Some r
+      by true rest h = ap Some (ap (first_in r) h)
+      by false rest h = rest h
+
+  pub sole_passes : (f : X → Bool) (xs : List X) (r : X) → filter f xs ≡ r ∷ [] → f r ≡ true
+  sole_passes f [] r e = search (arith, e)
+  sole_passes f (x ∷ xs) r e = by (f x) refl (sole_passes f xs r) e
+    where
+      by : (c : Bool) → f x ≡ c → (filter f xs ≡ r ∷ [] → f r ≡ true)
+          → cond c (x ∷ filter f xs) (filter f xs) ≡ r ∷ [] → f r ≡ true
+      by true is rest h = ap f (sym (ap (first_in r) h)) ∙ is
+      by false is rest h = rest h
+
+  -- none passes
+  pub none_passes : (f : X → Bool) (xs : List X) → list_any f xs ≡ false → filter f xs ≡ []
+  none_passes f [] e = refl
+  none_passes f (x ∷ xs) e = by (f x) (none_passes f xs) e
+    where
+      by : (c : Bool) → (list_any f xs ≡ false → filter f xs ≡ []) → (c || list_any f xs) ≡ false
+          → cond c (x ∷ filter f xs) (filter f xs) ≡ []
+      by true rest h = absurd (false≢true (sym h))
+      by false rest h = rest h
+
+  -- one more that doesn't pass, or does
+  pub sole_beside : (f : X → Bool) (xs : List X) (y r : X) → filter f xs ≡ r ∷ [] → f y ≡ false
+      → filter f (xs ++ y ∷ []) ≡ r ∷ []
+  sole_beside f xs y r e is = filter_append f xs (y ∷ []) ∙ ap (λ zs. zs ++ filter f (y ∷ [])) e
+      ∙ ap (λ c. r ∷ cond c (y ∷ []) []) is
+
+  pub sole_comes : (f : X → Bool) (xs : List X) (y : X) → filter f xs ≡ [] → f y ≡ true
+      → filter f (xs ++ y ∷ []) ≡ y ∷ []
+  sole_comes f xs y e is = filter_append f xs (y ∷ []) ∙ ap (λ zs. zs ++ filter f (y ∷ [])) e
+      ∙ ap (λ c. cond c (y ∷ []) []) is
+
+  -- what else is left out doesn't matter
+  pub sole_left : (f g : X → Bool) (xs : List X) → ((x : X) → f x ≡ true → g x ≡ true)
+      → filter f (filter g xs) ≡ filter f xs
+  sole_left f g [] h = refl
+  sole_left f g (x ∷ xs) h = by (g x) refl (f x) refl (sole_left f g xs h)
+    where
+      by : (c : Bool) → g x ≡ c → (d : Bool) → f x ≡ d → filter f (filter g xs) ≡ filter f xs
+          → filter f (cond c (x ∷ filter g xs) (filter g xs)) ≡ cond d (x ∷ filter f xs) (filter f xs)
+      by true e d k rest = ap (λ b. cond b (x ∷ filter f (filter g xs)) (filter f (filter g xs))) k
+          ∙ ap (λ zs. cond d (x ∷ zs) zs) rest
+      by false e true k rest = absurd (false≢true (sym e ∙ h x k))
+      by false e false k rest = rest
+
+-- ---- a step
+
+-- there is one alone
+pub one_of : (n : ℕ) (rs : List Record) (r s : Record) → filter (is_numbered n) rs ≡ r ∷ []
+    → filter (is_numbered n) rs ≡ s ∷ [] → r ≡ s
+one_of n rs r s e f = ap (first_in r) (sym e ∙ f)
+
+-- but for how often it was passed it is the same
+pub record Alike (r s : Record) : Type 0 where
+  pub connection : s.connection ≡ r.connection
+  pub command : s.command ≡ r.command
+  pub weight : s.weight ≡ r.weight
+  pub done : s.done ≡ r.done
+  pub good : s.good ≡ r.good
+
+pub itself : (r : Record) → Alike r r
+itself r = record { connection = refl; command = refl; weight = refl; done = refl; good = refl }
+
+passed_filter : (n t : ℕ) (rs : List Record)
+    → filter (is_numbered n) (map (passed_by t) rs) ≡ map (passed_by t) (filter (is_numbered n) rs)
+passed_filter n t [] = refl
+passed_filter n t (r ∷ rs) = by (is_numbered n r) (passed_filter n t rs)
+  where
+    by : (c : Bool)
+        → filter (is_numbered n) (map (passed_by t) rs) ≡ map (passed_by t) (filter (is_numbered n) rs)
+        → cond c (passed_by t r ∷ filter (is_numbered n) (map (passed_by t) rs))
+        (filter (is_numbered n) (map (passed_by t) rs))
+        ≡ map (passed_by t) (cond c (r ∷ filter (is_numbered n) rs) (filter (is_numbered n) rs))
+    by true rest = ap (λ zs. passed_by t r ∷ zs) rest
+    by false rest = rest
+
+module _ (n : ℕ) (k : Block) (d : Drive) (rs : List Record) (place : ℕ) (inside : place < length rs) (r : Record)
+    (sole : filter (is_numbered n) rs ≡ r ∷ []) where
+  parts : filter (is_numbered n) (take place rs ++ record_at rs place ∷ drop (place + 1) rs) ≡ r ∷ []
+  parts = ap (filter (is_numbered n)) (ap (λ zs. take place rs ++ zs) (sym (drop_more rs place no_record inside))
+      ∙ take-append-drop place rs) ∙ sole
+
+  after : (o : Option End) → filter (is_numbered n)
+      (map (passed_by (step_charge (record_at rs place))) (take place rs)
+      ++ (remains (record_at rs place) o ++ drop (place + 1) rs))
+      ≡ map (passed_by (step_charge (record_at rs place))) (filter (is_numbered n) (take place rs))
+      ++ (filter (is_numbered n) (remains (record_at rs place) o) ++ filter (is_numbered n) (drop (place + 1) rs))
+  after o = filter_append (is_numbered n) (map (passed_by (step_charge (record_at rs place))) (take place rs))
+      (remains (record_at rs place) o ++ drop (place + 1) rs)
+      ∙ ap (λ zs. zs ++ filter (is_numbered n) (remains (record_at rs place) o ++ drop (place + 1) rs))
+      (passed_filter n (step_charge (record_at rs place)) (take place rs))
+      ∙ ap (λ zs. map (passed_by (step_charge (record_at rs place))) (filter (is_numbered n) (take place rs)) ++ zs)
+      (filter_append (is_numbered n) (remains (record_at rs place) o) (drop (place + 1) rs))
+
+  -- another one was served
+  pub served_other : is_numbered n (record_at rs place) ≡ false
+      → (s : Record) × (filter (is_numbered n) (waiting_after k d rs place) ≡ s ∷ []) × Alike r s
+  served_other not_it = by (end_given k d (record_at rs place)) (other_one (is_numbered n) (take place rs)
+      (drop (place + 1) rs) (record_at rs place) r parts not_it)
+    where
+      left : (o : Option End) → filter (is_numbered n) (remains (record_at rs place) o) ≡ []
+      left None = ap (λ c. cond c (advanced (record_at rs place) ∷ []) []) not_it
+      left (Some e) = refl
+
+      by : (o : Option End) → ((filter (is_numbered n) (take place rs) ≡ r ∷ [])
+          × (filter (is_numbered n) (drop (place + 1) rs) ≡ []))
+          ⊎ ((filter (is_numbered n) (take place rs) ≡ [])
+          × (filter (is_numbered n) (drop (place + 1) rs) ≡ r ∷ []))
+          → (s : Record) × (filter (is_numbered n)
+          (map (passed_by (step_charge (record_at rs place))) (take place rs)
+          ++ (remains (record_at rs place) o ++ drop (place + 1) rs)) ≡ s ∷ []) × Alike r s
+      by o (inl h) = (
+        passed_by (step_charge (record_at rs place)) r,
+        after o ∙ ap (λ zs. map (passed_by (step_charge (record_at rs place))) zs
+            ++ (filter (is_numbered n) (remains (record_at rs place) o)
+            ++ filter (is_numbered n) (drop (place + 1) rs))) h.0
+            ∙ ap (λ zs. passed_by (step_charge (record_at rs place)) r
+            ∷ (zs ++ filter (is_numbered n) (drop (place + 1) rs))) (left o)
+            ∙ ap (λ zs. passed_by (step_charge (record_at rs place)) r ∷ zs) h.1,
+        record { connection = refl; command = refl; weight = refl; done = refl; good = refl },
+      )
+      by o (inr h) = (
+        r,
+        after o ∙ ap (λ zs. map (passed_by (step_charge (record_at rs place))) zs
+            ++ (filter (is_numbered n) (remains (record_at rs place) o)
+            ++ filter (is_numbered n) (drop (place + 1) rs))) h.0
+            ∙ ap (λ zs. zs ++ filter (is_numbered n) (drop (place + 1) rs)) (left o) ∙ h.1,
+        itself r,
+      )
+
+  -- it was served itself
+  pub served_itself : is_numbered n (record_at rs place) ≡ true → record_at rs place ≡ r
+  served_itself is = (this_one (is_numbered n) (take place rs) (drop (place + 1) rs) (record_at rs place) r parts is).1
+
+  pub served_goes_on : is_numbered n (record_at rs place) ≡ true → end_given k d (record_at rs place) ≡ None
+      → filter (is_numbered n) (waiting_after k d rs place) ≡ advanced (record_at rs place) ∷ []
+  served_goes_on is none = ap (λ o. filter (is_numbered n)
+      (map (passed_by (step_charge (record_at rs place))) (take place rs)
+      ++ (remains (record_at rs place) o ++ drop (place + 1) rs))) none ∙ after None
+      ∙ ap (λ zs. map (passed_by (step_charge (record_at rs place))) zs
+      ++ (filter (is_numbered n) (remains (record_at rs place) None)
+      ++ filter (is_numbered n) (drop (place + 1) rs))) h.0
+      ∙ ap (λ c. cond c (advanced (record_at rs place) ∷ []) []
+      ++ filter (is_numbered n) (drop (place + 1) rs)) is
+      ∙ ap (λ zs. advanced (record_at rs place) ∷ zs) h.2
+    where
+      h : (filter (is_numbered n) (take place rs) ≡ []) × (record_at rs place ≡ r)
+          × (filter (is_numbered n) (drop (place + 1) rs) ≡ [])
+      h = this_one (is_numbered n) (take place rs) (drop (place + 1) rs) (record_at rs place) r parts is

@@ -1,0 +1,349 @@
+-- The end of a transfer that says Success stands for blocks that were moved, each at its place.
+use Rattle.std.proofs.Common.{◌≡◌, ◌⊎◌, ◌∙◌, ◌+◌, ◌-◌, ◌*◌, ◌<◌, ◌≤◌, ◌&&◌, ◌++◌, ◌∷◌, [], ℕ, suc, Bool, true, false, cond, filter, length, min, nat_eq, nat_lt, List, Contains, MatchOption, Option, None, Some, inl, inr, refl, ap, sym, subst, arith}
+use Rattle.std.specs.Prelude.{Result, Ok, Err, find, option_map, slice_index}
+use Rattle.std.specs.List.{position}
+use Rattle.std.proofs.lemmas.List.{append-nil}
+use Rattle.std.proofs.lemmas.Option.{none-some, same_Some}
+use Rattle.mscp_packet.specs.Number.{num}
+use Rattle.mscp_packet.specs.Opcodes.{move_byte, opcode_of, opcodes, row_of}
+unfoldable use Rattle.mscp_packet.specs.Commands.{command_of}
+use Rattle.mscp_packet.specs.declared.class.Opcode.TheVariants as codes
+use Rattle.mscp_packet.specs.declared.command.Command.{Command}
+use Rattle.mscp_packet.specs.declared.command.MoveKind.{MoveKind}
+use Rattle.mscp_packet.specs.declared.command.MoveKind.TheVariants as kinds
+use Rattle.mscp_packet.specs.declared.command.Order.{Order}
+use Rattle.mscp_packet.specs.declared.command.Order.TheVariants as orders
+use Rattle.mscp_packet.specs.declared.end.End.{End}
+use Rattle.mscp_packet.specs.declared.end.EndBody.TheVariants as bodies
+use Rattle.mscp_drive.specs.Shape.{Shape}
+use Rattle.mscp_drive.specs.Extent.{blocks as blocks_in}
+use Rattle.mscp_drive.specs.declared.block.Block.{Block}
+use Rattle.mscp_drive.specs.declared.block.Block.TheVariants as blocks
+use Rattle.mscp_drive.specs.declared.connection.Connection.{Connection}
+use Rattle.mscp_drive.specs.declared.connection.Connection.TheVariants.{First, Second}
+use Rattle.mscp_queue.specs.declared.drive.Drive.{Drive}
+use Rattle.mscp_queue.specs.declared.name.Name.{Name}
+use Rattle.mscp_queue.specs.declared.report.Report.{Report}
+use Rattle.mscp_queue.specs.declared.report.Report.TheVariants as reports
+use Rattle.mscp_queue.specs.declared.upcoming.Upcoming.{Upcoming}
+use Rattle.mscp_queue.specs.Drives.{drive_of}
+use Rattle.mscp_queue.specs.Names.{name_on}
+use Rattle.mscp_queue.specs.Orders.{order_weight}
+use Rattle.mscp_queue.specs.Outcomes.{block_touched, goes_on, good_status, outcome_at, outcome_body, outcome_status, touches}
+use Rattle.mscp_queue.specs.Records.{Record, drive_at, has_name, left_of, name_of, record_at}
+use Rattle.mscp_queue.specs.Serving.{end_given, is_begun, upcoming_begun, upcoming_of}
+use Rattle.mscp_queue.proofs.Named.{is_same, same_is}
+use Rattle.mscp_queue.proofs.Placed.{found_is}
+use Rattle.mscp_controller.specs.Calls.{Finish, Call as Made}
+use Rattle.mscp_controller.specs.declared.entry.NotBegun.{NotBegun}
+use Rattle.mscp_controller.specs.Holdings.{Finishes, Holdings, begun_step}
+use Rattle.mscp_port.specs.declared.action.Action.TheVariants as actions
+use Rattle.mscp_port.specs.declared.action.Outcome.{Outcome}
+use Rattle.mscp_port.specs.declared.buffers.Buffer.{Buffer}
+use Rattle.mscp_port.specs.declared.hardware.Hardware.{Hardware}
+use Rattle.mscp_port.specs.declared.port.Port.{Port}
+use Rattle.mscp_port.specs.declared.task.Task.{Task}
+use Rattle.mscp_port.specs.declared.task.Task.TheVariants as tasks
+use Rattle.mscp_port.specs.declared.verdict.Verdict.{Verdict}
+use Rattle.mscp_port.specs.Blocks.{block_told}
+use Rattle.mscp_port.specs.Buffers.{is_of}
+use Rattle.mscp_port.specs.Calls.{IsMadeOf}
+use Rattle.mscp_port.specs.Histories.{Answered, Call, Picking, Went}
+use Rattle.mscp_port.specs.Moved.{TakesBegun, TakesBlock, block_begun, block_served, end_brought}
+use Rattle.mscp_port.proofs.Common.{eqb-true, false≢true}
+use Rattle.mscp_port.proofs.Kept.{is_numbered}
+use Rattle.mscp_port.proofs.Said.{kept_found, of_first, served_name}
+use Rattle.mscp_ported.specs.Ends.{come}
+use Rattle.mscp_ported.specs.Making.{IsFinish, Makes, step_told}
+use Rattle.mscp_ported.specs.Moved.{block_moved}
+use Rattle.mscp_ported.specs.Talk.{AsksAlways, wish}
+use Rattle.mscp_ported.specs.Transfers.{StandsFor, asked, done_by, moved, transfers}
+use Rattle.mscp_ported.proofs.Coming.{brought_for, come_so, steps_bring}
+use Rattle.mscp_ported.proofs.Keeping.{are_owned}
+use Rattle.mscp_ported.proofs.Making.{transfer_so, verdict_so}
+use Rattle.mscp_ported.proofs.Moved.{moved_at}
+use Rattle.mscp_ported.proofs.Moving.{Steps, steps}
+use Rattle.mscp_ported.proofs.Owning.{AreOwned, Own, number_of, parts_of}
+use Rattle.mscp_ported.proofs.Sole.{found_sole, served_itself, sole_passes}
+use Rattle.mscp_ported.proofs.Transferring.{IsHow, moves_so}
+
+-- ---- tables
+
+opcode_is : (byte : ℕ) (kind : MoveKind) → opcode_of byte ≡ Some (codes.Move kind) → byte ≡ move_byte kind
+opcode_is byte kind e = sym (eqb-true (move_byte kind) byte
+    (found_is (λ o. nat_eq (row_of o).byte byte) opcodes (codes.Move kind) e))
+
+-- what is told of a step is what came of it
+pub good_back : {K : Type 0} (old : Port K) (outcome : Outcome) (verdict : Verdict) → IsHow old outcome verdict
+    → step_told old outcome old.task ≡ Some blocks.Good → block_told verdict ≡ blocks.Good
+good_back old outcome verdict (inl h) told = verdict_so verdict
+    ∙ same_Some _ blocks.Good (sym (ap (step_told old outcome) h) ∙ told)
+good_back old outcome verdict (inr h) told = ap block_told h.1 ∙ transfer_so old outcome (block_begun old)
+    ∙ same_Some _ blocks.Good (sym (ap (step_told old outcome) h.0) ∙ told)
+
+-- the end of a transfer whose last block went well
+record Last (d : Drive) (r : Record) (e : End) (kind : MoveKind) (count : ℕ) : Type 0 where
+  left : left_of r ≤ 1
+  reference : e.reference ≡ r.command.reference
+  unit : e.unit ≡ r.command.unit
+  status : e.status ≡ 0
+  body : e.body ≡ bodies.Moved (min count (512 * (r.good + 1)))
+
+-- an end comes where the command doesn't go on
+pub ended_so : (b : Bool) (x e : End) → cond b None (Some x) ≡ Some e → (b ≡ false) × (x ≡ e)
+ended_so true x e h = absurd (none-some e h)
+ended_so false x e h = (refl, same_Some x e h)
+
+left_so : (x y : Bool) → x ≡ true → (x && true && y) ≡ false → y ≡ false
+left_so true y e h = h
+left_so false y e h = absurd (false≢true e)
+
+status_so : (online : Bool) (order : Order) (kind : MoveKind) (count first : ℕ) → order ≡ orders.Move kind count first
+    → touches online order ≡ true → good_status online order ≡ 0
+status_so true (orders.Move k n f) kind count first e t = refl
+status_so false (orders.Move k n f) kind count first e t = absurd (false≢true t)
+status_so online order kind count first e t = absurd (false≢true t)
+
+body_so : (shape : Shape) (status : ℕ) (online : Bool) (order : Order) (good : ℕ) (kind : MoveKind) (count first : ℕ)
+    → order ≡ orders.Move kind count first → touches online order ≡ true
+    → outcome_body shape status order (good + cond (touches online order && true) 1 0)
+    ≡ bodies.Moved (min count (512 * (good + 1)))
+body_so shape status online (orders.Move k n f) good kind count first e t =
+    ap (λ b. bodies.Moved (min n (512 * (good + cond (b && true) 1 0)))) t
+    ∙ ap (λ m. bodies.Moved (min m (512 * (good + 1)))) (ap count_in e)
+  where
+    count_in : Order → ℕ
+    count_in (orders.Move x m y) = m
+    count_in order = count
+body_so shape status online order good kind count first e t = search (arith, e)
+
+last_so : (d : Drive) (r : Record) (e : End) (kind : MoveKind) (count first : ℕ)
+    → r.command.order ≡ orders.Move kind count first → touches d.online r.command.order ≡ true
+    → end_given blocks.Good d r ≡ Some e → Last d r e kind count
+last_so d r e kind count first is online h =
+    let x = ended_so (goes_on d.online r.command.order blocks.Good (left_of r))
+    (outcome_at d.unit d.online r.command r.good blocks.Good) e h in
+    record {
+      left = search (arith, left_so (touches d.online r.command.order) (nat_lt 1 (left_of r)) online x.0);
+      reference = sym (ap (λ (y : End). y.reference) x.1);
+      unit = sym (ap (λ (y : End). y.unit) x.1);
+      status = sym (ap (λ (y : End). y.status) x.1)
+          ∙ status_so d.online r.command.order kind count first is online;
+      body = sym (ap (λ (y : End). y.body) x.1) ∙ body_so d.unit
+          (outcome_status d.online r.command.order blocks.Good) d.online r.command.order r.good kind count first is
+          online;
+    }
+
+pub brought_one : (via : Connection) (o : Option End) (e : End) → Contains (brought_for via o) e
+    → (via ≡ First) × (o ≡ Some e)
+brought_one First (Some x) e there = (refl, search (arith, there))
+brought_one First None e there = search (arith, there)
+brought_one Second o e there = search (arith, there)
+
+begun_some : (o : Option Block) (n : Option Name) (x : Made) (xs : List Made) → IsFinish o n (x ∷ xs)
+    → (name : Name) × (n ≡ Some name)
+begun_some (Some block) (Some name) x xs h = (name, refl)
+begun_some (Some block) None x xs h = search (arith, h)
+begun_some None n x xs h = search (arith, h)
+
+-- the step that is begun is of the command that waits under its name
+pub step_name : {K : Type 0} (h : Holdings K) (name : Name) (u : Upcoming) → h.begun ≡ Some name → begun_step h ≡ Some u
+    → (r : Record) × (find (has_name name) h.waiting ≡ Some r)
+    × (u ≡ upcoming_of (drive_of h.drives r.command.unit) r)
+step_name {K} h name u begun step = by (find (has_name name) h.waiting) refl
+    (sym (ap (upcoming_begun h.drives h.waiting) begun) ∙ step)
+  where
+    by : (o : Option Record) → find (has_name name) h.waiting ≡ o
+        → option_map (λ r. upcoming_of (drive_of h.drives r.command.unit) r) (find (has_name name) h.waiting) ≡ Some u
+        → (r : Record) × (find (has_name name) h.waiting ≡ Some r)
+        × (u ≡ upcoming_of (drive_of h.drives r.command.unit) r)
+    by None f g = absurd (none-some u (sym (ap (λ o. option_map (λ r. upcoming_of
+        (drive_of h.drives r.command.unit) r) o) f) ∙ g))
+    by (Some r) f g = (
+      r,
+      f,
+      sym (same_Some (upcoming_of (drive_of h.drives r.command.unit) r) u
+          (sym (ap (λ o. option_map (λ r. upcoming_of (drive_of h.drives r.command.unit) r) o) f) ∙ g)),
+    )
+
+moved_online : (online : Bool) (order : Order) (n : ℕ) (x : MoveKind × ℕ)
+    → block_moved order (block_touched online order n) ≡ Some x → touches online order ≡ true
+moved_online true (orders.Move kind count first) n x e = refl
+moved_online false (orders.Move kind count first) n x e = absurd (none-some x e)
+moved_online online order n x e = absurd (none-some x e)
+
+kind_same : (lbn : Option ℕ) (order : Order) (kind other : MoveKind) (count first block : ℕ)
+    → order ≡ orders.Move other count first → block_moved order lbn ≡ Some (kind, block) → other ≡ kind
+kind_same lbn order kind other count first block is e = by lbn (sym (ap (λ o. block_moved o lbn) is) ∙ e)
+  where
+    by : (o : Option ℕ) → block_moved (orders.Move other count first) o ≡ Some (kind, block) → other ≡ kind
+    by None h = absurd (none-some (kind, block) h)
+    by (Some x) h = ap (λ y. y.0) (same_Some (other, x) (kind, block) h)
+
+-- ---- how many blocks
+
+all_bytes : (count n : ℕ) → order_weight (orders.Move kinds.Read count 0) - n ≤ 1 → min count (512 * (n + 1)) ≡ count
+all_bytes count n h = search (arith, h)
+
+all_blocks : (count n : ℕ) → order_weight (orders.Move kinds.Read count 0) - n ≤ 1
+    → n < order_weight (orders.Move kinds.Read count 0) → n * 512 < count → suc n ≡ blocks_in count
+all_blocks count n h low more = search (arith, h, low, more)
+
+no_blocks : (count n : ℕ) → order_weight (orders.Move kinds.Read count 0) - n ≤ 1
+    → n < order_weight (orders.Move kinds.Read count 0) → count ≤ n * 512 → (n ≡ 0) × (0 ≡ blocks_in count)
+no_blocks count n h low few = (search (arith, h, low, few), search (arith, h, low, few))
+
+-- ---- the law
+
+module _ {K : Type 0} (picks : Picking K) (hardware : Hardware) (credits : ℕ) (controller : Holdings K)
+    (start : Port K) (made : IsMadeOf hardware credits controller start) (p : Port K) (calls : List Call)
+    (outcome : Outcome) (done : Unit {0}) (u : Upcoming) (kind : MoveKind) (block : ℕ) (e : End)
+    (asks : AsksAlways (Went outcome (Ok done) ∷ calls)) (a : Answered picks start (Went outcome (Ok done) ∷ calls) p)
+    (told : step_told a.0 outcome a.0.task ≡ Some blocks.Good) (step : begun_step a.0.controller ≡ Some u)
+    (is_move : block_moved u.command.order u.lbn ≡ Some (kind, block)) (there : Contains (come a.0 p) e) where
+  abbrev So : Type 0
+  So = (b : List ℕ) × StandsFor picks e kind start p (Went outcome (Ok done) ∷ calls) a b
+
+  s : Steps a.0 (wish calls)
+  s = steps picks hardware credits controller start made a.0 calls asks.1 a.1
+
+  owned : AreOwned picks start a.0 calls a.1
+  owned = are_owned picks hardware credits controller start made a.0 calls asks.1 a.1
+
+  stands_for : (n : ℕ) (d : Drive) (r : Record) (b : Buffer) (bytes : List ℕ) (other : MoveKind)
+      → Own picks start a.0 calls a.1 b r bytes → b.reference ≡ n
+      → r.command.order ≡ orders.Move other (num bytes 12 4) (num bytes 28 4)
+      → opcode_of (slice_index bytes 8) ≡ Some (codes.Move other) → b.address ≡ num bytes 16 4
+      → ((num bytes 12 4 ≤ r.done * 512) × (done_by n (Went outcome (Ok done)) (wish calls) a.0 ≡ []))
+      ⊎ ((r.done * 512 < num bytes 12 4)
+      × (done_by n (Went outcome (Ok done)) (wish calls) a.0
+      ≡ actions.Transfer other r.command.unit (num bytes 28 4 + r.done) (num bytes 16 4 + r.done * 512)
+      (min (num bytes 12 4 - r.done * 512) 512) ∷ []))
+      → other ≡ kind → Last d r e other (num bytes 12 4) → So
+  unfolding command_of
+  stands_for n d r b bytes other own number order opcode address moves same last =
+      let mine : r.command.reference ≡ n =
+      (number_of b.reference r (sole_passes (is_numbered b.reference) a.0.controller.waiting r own.sole)).1
+      ∙ number in
+      let of : e.reference ≡ n = last.reference ∙ mine in
+      let left : order_weight (orders.Move kinds.Read (num bytes 12 4) 0) - r.done ≤ 1 =
+      subst (λ w. w - r.done ≤ 1) (own.whole ∙ ap order_weight order) last.left in
+      let low : r.done < order_weight (orders.Move kinds.Read (num bytes 12 4) 0) =
+      subst (λ w. r.done < w) (own.whole ∙ ap order_weight order) own.low in
+      let before : moved picks n start a.0 calls a.1
+      ≡ transfers other r.command.unit (num bytes 28 4) (num bytes 16 4) (num bytes 12 4) r.done =
+      ap (λ m. moved picks m start a.0 calls a.1) (sym number) ∙ own.parts
+      ∙ ap (λ o. parts_of o r.command.unit b.address r.done) order
+      ∙ ap (λ x. transfers other r.command.unit (num bytes 28 4) x (num bytes 12 4) r.done) address in
+      let now : moved picks n start p (Went outcome (Ok done) ∷ calls) a
+      ≡ transfers other r.command.unit (num bytes 28 4) (num bytes 16 4) (num bytes 12 4)
+      (blocks_in (num bytes 12 4)) =
+      elim moves [
+        | inl none ↦
+            let z = no_blocks (num bytes 12 4) r.done left low none.0 in
+            ap (λ xs. moved picks n start a.0 calls a.1 ++ xs) none.1
+            ∙ append-nil (moved picks n start a.0 calls a.1) ∙ before
+            ∙ ap (transfers other r.command.unit (num bytes 28 4) (num bytes 16 4) (num bytes 12 4)) (z.0 ∙ z.1)
+        | inr more ↦
+            ap (λ xs. moved picks n start a.0 calls a.1 ++ xs) more.1
+            ∙ ap (λ xs. xs ++ actions.Transfer other r.command.unit (num bytes 28 4 + r.done)
+            (num bytes 16 4 + r.done * 512) (min (num bytes 12 4 - r.done * 512) 512) ∷ []) before
+            ∙ ap (transfers other r.command.unit (num bytes 28 4) (num bytes 16 4) (num bytes 12 4))
+            (all_blocks (num bytes 12 4) r.done left low more.0)
+      ] in (
+        bytes,
+        record {
+          message = ap (λ m. asked picks m start a.0 calls a.1) (of ∙ sym number) ∙ own.message;
+          unit = sym (ap (λ (c : Command). c.unit) own.command) ∙ sym last.unit;
+          opcode = opcode_is (slice_index bytes 8) other opcode ∙ ap move_byte same;
+          moves = ap (λ m. moved picks m start p (Went outcome (Ok done) ∷ calls) a) of ∙ now
+              ∙ ap (λ k. transfers k r.command.unit (num bytes 28 4) (num bytes 16 4) (num bytes 12 4)
+              (blocks_in (num bytes 12 4))) same
+              ∙ ap (λ m. transfers kind m (num bytes 28 4) (num bytes 16 4) (num bytes 12 4)
+              (blocks_in (num bytes 12 4))) (sym last.unit);
+          status = last.status;
+          count = last.body ∙ ap (λ m. bodies.Moved (min (num bytes 12 4) (512 * (m + 1)))) own.good
+              ∙ ap bodies.Moved (all_bytes (num bytes 12 4) r.done left);
+        },
+      )
+
+  -- the command was served that the step is of
+  served_so : (name : Name) → a.0.controller.begun ≡ Some name → (place : ℕ) → place < length a.0.controller.waiting
+      → name_of (record_at a.0.controller.waiting place) ≡ name → name.connection ≡ First
+      → end_given blocks.Good (drive_at a.0.controller.drives a.0.controller.waiting place)
+      (record_at a.0.controller.waiting place) ≡ Some e → So
+  served_so name begun place inside named first given =
+      let rs = a.0.controller.waiting in
+      let n = name.reference in
+      let r0 = record_at rs place in
+      let d = drive_at a.0.controller.drives rs place in
+      let same : name ≡ name_on First n = ap (λ c. name_on c n) first in
+      let sn = step_name a.0.controller name u begun step in
+      let at = moved_at a.0 (wish calls) outcome u kind block asks.0 s told step is_move in
+      let found = kept_found (is_of u.connection u.command.reference) a.0.buffers.items at.0
+      (position (is_of u.connection u.command.reference) a.0.buffers.items) refl at.1 in
+      let of = of_first u.connection u.command.reference at.0 found.1 in
+      let o = owned at.0 found.0 in
+      let reference : at.0.reference ≡ n = of.1 ∙ ap (λ (x : Upcoming). x.command.reference) sn.2
+      ∙ ap (λ (x : Name). x.reference) (same_is (name_of sn.0) name (found_is (has_name name) rs sn.0 sn.1)) in
+      let sole : filter (is_numbered n) rs ≡ o.0 ∷ [] =
+      subst (λ m. filter (is_numbered m) rs ≡ o.0 ∷ []) reference o.2.sole in
+      let mine : is_numbered n r0 ≡ true = is_same (name_of r0) (name_on First n) (named ∙ same) in
+      let r_is : r0 ≡ o.0 = served_itself n blocks.Good d rs place inside o.0 sole mine in
+      let sole0 : filter (is_numbered n) rs ≡ r0 ∷ [] = sole ∙ ap (λ x. x ∷ []) (sym r_is) in
+      let found0 : find (has_name name) rs ≡ Some r0 =
+      subst (λ x. find (has_name x) rs ≡ Some r0) (sym same) (found_sole (is_numbered n) rs r0 sole0) in
+      let u_is : u ≡ upcoming_of d r0 =
+      sn.2 ∙ ap (λ x. upcoming_of (drive_of a.0.controller.drives x.command.unit) x)
+      (same_Some sn.0 r0 (sym sn.1 ∙ found0)) in
+      let move0 : block_moved r0.command.order (block_touched d.online r0.command.order r0.done) ≡ Some (kind, block) =
+      subst (λ (x : Upcoming). block_moved x.command.order x.lbn ≡ Some (kind, block)) u_is is_move in
+      let online = moved_online d.online r0.command.order r0.done (kind, block) move0 in
+      let m = moves_so picks start a.0 calls a.1 owned outcome done asks.0 s name begun n same r0 sole0 online told in
+      stands_for n d r0 m.0 m.1 m.2 m.3.own m.3.number m.3.order m.3.opcode m.3.address m.3.moves
+      (kind_same (block_touched d.online r0.command.order r0.done) r0.command.order kind m.2 (num m.1 12 4)
+      (num m.1 28 4) block m.3.order move0)
+      (last_so d r0 e m.2 (num m.1 12 4) (num m.1 28 4) m.3.order online given)
+
+  by_step : (name : Name) → a.0.controller.begun ≡ Some name → (verdict : Verdict) → IsHow a.0 outcome verdict
+      → TakesBegun (picks a.0.controller.picker) verdict a.0 p → So
+  by_step name begun verdict how h =
+      let t = subst (λ o. MatchOption o (p ≡ record a.0 { task = tasks.Free })
+      (λ name. TakesBlock (picks a.0.controller.picker) name.connection name.reference verdict a.0 p)) begun h in
+      by t.finished.0 t.finished.1
+    where
+      by : (result : Result Report NotBegun)
+          → Finishes (picks a.0.controller.picker) (name_on name.connection name.reference) (block_told verdict)
+          a.0.controller result p.controller → So
+      by (Err not_begun) f = absurd (false≢true (sym f.0
+          ∙ (ap (is_begun (name_on name.connection name.reference)) begun ∙ is_same name name refl)))
+      by (Ok reports.Idle) f = absurd (none-some name (sym f.1.serves.1 ∙ begun))
+      by (Ok (reports.Served other number unit lbn started seek ended)) f =
+          let place = f.1.serves.0 in
+          let sv = f.1.serves.1 in
+          let named = served_name a.0.controller.begun (name_on name.connection name.reference)
+          (record_at a.0.controller.waiting place) f.0 sv.next.same in
+          let came = come_so a.0 p (brought_for name.connection ended)
+          (steps_bring (picks a.0.controller.picker) name.connection name.reference (block_told verdict)
+          a.0.controller p.controller (Ok (reports.Served other number unit lbn started seek ended)) f) in
+          let one = brought_one name.connection ended e (subst (λ xs. Contains xs e) came there) in
+          served_so name begun place sv.next.servable.inside named one.0
+          (ap (λ k. end_given k (drive_at a.0.controller.drives a.0.controller.waiting place)
+          (record_at a.0.controller.waiting place)) (sym (good_back a.0 outcome verdict how told))
+          ∙ sym (ap (λ x. end_brought (Ok x)) sv.told) ∙ one.1)
+
+  pub stands : (via : Connection) (reference : ℕ) (result : Result Report NotBegun)
+      → Makes (Went outcome (Ok done)) a.0 p (Finish via reference blocks.Good result ∷ []) → So
+  stands via reference result makes =
+      let n = begun_some (step_told a.0 outcome a.0.task) a.0.controller.begun
+      (Finish via reference blocks.Good result) []
+      makes in
+      by n.0 n.1 a.0.task refl
+    where
+      by : (name : Name) → a.0.controller.begun ≡ Some name → (t : Task) → a.0.task ≡ t → So
+      by name begun (tasks.Step verdict) at =
+          by_step name begun verdict (inl at) ((a.2.moves refl).step verdict at)
+      by name begun tasks.Transfer at =
+          by_step name begun (block_served a.0 outcome (block_begun a.0)) (inr (at, refl))
+          ((a.2.moves refl).transfer at)
+      by name begun t at = absurd (none-some blocks.Good (sym (ap (step_told a.0 outcome) at) ∙ told))

@@ -1,0 +1,301 @@
+-- What a step of a transfer moves that goes well.
+use Rattle.std.proofs.Common.{◌≡◌, ◌≢◌, ◌⊎◌, ◌∙◌, ◌+◌, ◌-◌, ◌*◌, ◌<◌, ◌≤◌, ◌&&◌, ◌∷◌, [], ℕ, Bool, true, false, cond, filter, length, min, nat_lt, List, Option, None, Some, inl, inr, refl, ap, sym, subst, arith}
+use Rattle.std.specs.Prelude.{Ok, find, option_map, slice_index}
+use Rattle.std.specs.List.{position}
+use Rattle.std.proofs.lemmas.Option.{none-some}
+use Rattle.mscp_packet.specs.Number.{num}
+unfoldable use Rattle.mscp_packet.specs.Commands.{command_of}
+use Rattle.mscp_packet.specs.Commands.{order_with, parameters}
+use Rattle.mscp_packet.specs.Opcodes.{least, opcode_of}
+use Rattle.mscp_packet.specs.Statuses.{invalid_length}
+use Rattle.mscp_packet.specs.declared.class.Opcode.{Opcode}
+use Rattle.mscp_packet.specs.declared.class.Opcode.TheVariants as codes
+use Rattle.mscp_packet.specs.declared.command.Command.{Command}
+use Rattle.mscp_packet.specs.declared.command.MoveKind.{MoveKind}
+use Rattle.mscp_packet.specs.declared.command.Order.{Order}
+use Rattle.mscp_packet.specs.declared.command.Order.TheVariants as orders
+use Rattle.mscp_drive.specs.declared.block.Block.{Block}
+use Rattle.mscp_drive.specs.declared.block.Block.TheVariants as blocks
+use Rattle.mscp_drive.specs.declared.connection.Connection.TheVariants.{First}
+use Rattle.mscp_queue.specs.declared.drive.Drive.{Drive}
+use Rattle.mscp_queue.specs.declared.name.Name.{Name}
+use Rattle.mscp_queue.specs.declared.upcoming.Upcoming.{Upcoming}
+use Rattle.mscp_queue.specs.Drives.{drive_of}
+use Rattle.mscp_queue.specs.Names.{name_on, same_name}
+use Rattle.mscp_queue.specs.Outcomes.{block_touched, is_good_block, outcome_at, touches}
+use Rattle.mscp_queue.specs.Records.{Record, has_name, left_of, name_of}
+use Rattle.mscp_queue.specs.Serving.{end_given, upcoming_begun, upcoming_of}
+use Rattle.mscp_queue.proofs.Placed.{found_is}
+use Rattle.mscp_queue.proofs.Named.{same_is}
+use Rattle.mscp_controller.specs.Holdings.{Holdings, begun_step}
+use Rattle.mscp_port.specs.declared.action.Action.{Action}
+use Rattle.mscp_port.specs.declared.action.Action.TheVariants as actions
+use Rattle.mscp_port.specs.declared.action.Outcome.{Outcome}
+use Rattle.mscp_port.specs.declared.action.Outcome.TheVariants as outcomes
+use Rattle.mscp_port.specs.declared.buffers.Buffer.{Buffer}
+use Rattle.mscp_port.specs.declared.port.Port.{Port}
+use Rattle.mscp_port.specs.declared.task.Task.TheVariants as tasks
+use Rattle.mscp_port.specs.declared.verdict.Verdict.{Verdict}
+use Rattle.mscp_port.specs.Blocks.{block_told}
+use Rattle.mscp_port.specs.Buffers.{buffer_in, is_of}
+use Rattle.mscp_port.specs.Histories.{Answered, Call, Picking, Went}
+use Rattle.mscp_port.specs.Moved.{block_begun, block_served}
+use Rattle.mscp_port.proofs.Common.{false≢true}
+use Rattle.mscp_port.proofs.Kept.{is_numbered}
+use Rattle.mscp_port.proofs.Said.{kept_found, of_first}
+use Rattle.mscp_ported.specs.Making.{step_told}
+use Rattle.mscp_ported.specs.Moved.{IsEmpty, WasMoved, block_moved}
+use Rattle.mscp_ported.specs.Talk.{Wish, wish}
+use Rattle.mscp_ported.specs.Transfers.{done_by, is_done, is_moving, is_step_of, wanted}
+use Rattle.mscp_ported.proofs.Making.{transfer_so, verdict_so}
+use Rattle.mscp_ported.proofs.Moved.{moved_at}
+use Rattle.mscp_ported.proofs.Moving.{Steps}
+use Rattle.mscp_ported.proofs.Owning.{AreOwned, Own, number_of}
+use Rattle.mscp_ported.proofs.Sole.{found_sole, one_of, sole_passes}
+
+-- ---- the step that is begun
+
+-- it is told of the record of its name
+pub begun_record : {K : Type 0} (h : Holdings K) (name : Name) (r : Record) → h.begun ≡ Some name
+    → find (has_name name) h.waiting ≡ Some r
+    → begun_step h ≡ Some (upcoming_of (drive_of h.drives r.command.unit) r)
+begun_record {K} h name r begun found = ap (upcoming_begun h.drives h.waiting) begun
+    ∙ ap (λ o. option_map (λ x. upcoming_of (drive_of h.drives x.command.unit) x) o) found
+
+-- and is of no other number
+pub other_step : {K : Type 0} (h : Holdings K) (n : ℕ) (name : Name) → h.begun ≡ Some name
+    → same_name name (name_on First n) ≡ false → is_step_of n (begun_step h) ≡ false
+other_step {K} h n name begun other = by (find (has_name name) h.waiting) refl
+    (ap (upcoming_begun h.drives h.waiting) begun)
+  where
+    by : (o : Option Record) → find (has_name name) h.waiting ≡ o
+        → begun_step h ≡ upcoming_begun h.drives h.waiting (Some name) → is_step_of n (begun_step h) ≡ false
+    by None e is = ap (is_step_of n) (is ∙ ap (λ o. option_map (λ x. upcoming_of
+        (drive_of h.drives x.command.unit) x) o) e)
+    by (Some r) e is = ap (is_step_of n) (is ∙ ap (λ o. option_map (λ x. upcoming_of
+        (drive_of h.drives x.command.unit) x) o) e)
+        ∙ ap (λ (x : Name). same_name x (name_on First n)) (named r e) ∙ other
+      where
+        named : (r : Record) → find (has_name name) h.waiting ≡ Some r → name_of r ≡ name
+        named r e = same_is (name_of r) name (found_is (has_name name) h.waiting r e)
+
+-- ---- blocks
+
+-- a step that doesn't end its command moved a block, and more are to come
+pub record GoesOn (d : Drive) (r : Record) (k : Block) : Type 0 where
+  pub online : touches d.online r.command.order ≡ true
+  pub good : k ≡ blocks.Good
+  pub more : 1 < left_of r
+
+pub goes_on_so : (d : Drive) (r : Record) (k : Block) → end_given k d r ≡ None → GoesOn d r k
+goes_on_so d r k e = by (touches d.online r.command.order) refl k refl (nat_lt 1 (left_of r)) refl e
+  where
+    by : (x : Bool) → touches d.online r.command.order ≡ x → (q : Block) → k ≡ q → (y : Bool)
+        → nat_lt 1 (left_of r) ≡ y
+        → cond (x && is_good_block q && y) None (Some (outcome_at d.unit d.online r.command r.good k)) ≡ None
+        → GoesOn d r k
+    by true f blocks.Good g true h e = record { online = f; good = g; more = search (arith, h) }
+    by true f blocks.Good g false h e = absurd (none-some _ (sym e))
+    by true f (blocks.Bad status) g y h e = absurd (none-some _ (sym e))
+    by false f q g y h e = absurd (none-some _ (sym e))
+
+-- which block such a step moves
+pub block_so : (online : Bool) (order : Order) (done : ℕ) → touches online order ≡ true
+    → (kind : MoveKind) × (count : ℕ) × (first : ℕ) × (order ≡ orders.Move kind count first)
+    × (block_moved order (block_touched online order done) ≡ Some (kind, first + done))
+block_so true (orders.Move kind count first) done e = (kind, count, first, refl, refl)
+block_so false (orders.Move kind count first) done e = absurd (false≢true e)
+block_so online order done e = absurd (false≢true e)
+
+pub is_step_sole : {K : Type 0} (h : Holdings K) (n : ℕ) (name : Name) (r : Record) → h.begun ≡ Some name
+    → name ≡ name_on First n → filter (is_numbered n) h.waiting ≡ r ∷ []
+    → begun_step h ≡ Some (upcoming_of (drive_of h.drives r.command.unit) r)
+is_step_sole h n name r begun named sole = begun_record h name r begun
+    (subst (λ x. find (has_name x) h.waiting ≡ Some r) (sym named) (found_sole (is_numbered n) h.waiting r sole))
+
+pub step_of_number : (n : ℕ) (d : Drive) (r : Record) → is_numbered n r ≡ true
+    → is_step_of n (Some (upcoming_of d r)) ≡ true
+step_of_number n d r is = is
+
+-- how the step in hand went
+abbrev pub IsHow : {K : Type 0} → Port K → Outcome → Verdict → Type 0
+IsHow old outcome verdict = (old.task ≡ tasks.Step verdict)
+    ⊎ ((old.task ≡ tasks.Transfer) × (verdict ≡ block_served old outcome (block_begun old)))
+
+-- what is told of a step
+pub told_so : {K : Type 0} (old : Port K) (outcome : Outcome) (verdict : Verdict) → IsHow old outcome verdict
+    → block_told verdict ≡ blocks.Good → step_told old outcome old.task ≡ Some blocks.Good
+told_so old outcome verdict (inl h) good = ap (step_told old outcome) h ∙ ap Some (sym (verdict_so verdict) ∙ good)
+told_so old outcome verdict (inr h) good = ap (step_told old outcome) h.0
+    ∙ ap Some (sym (transfer_so old outcome (block_begun old)) ∙ ap block_told (sym h.1) ∙ good)
+
+-- ---- what a message of a transfer says
+
+pub move_fields : (b : List ℕ) (kind : MoveKind) (count first : ℕ) → (command_of b).order ≡ orders.Move kind count first
+    → (count ≡ num b 12 4) × (first ≡ num b 28 4) × (32 ≤ length b)
+    × (opcode_of (slice_index b 8) ≡ Some (codes.Move kind))
+unfolding command_of
+move_fields b kind count first e = by (opcode_of (slice_index b 8)) refl e
+  where
+    count_in : Order → ℕ
+    count_in (orders.Move k n f) = n
+    count_in order = count
+
+    first_in : Order → ℕ
+    first_in (orders.Move k n f) = f
+    first_in order = first
+
+    kind_in : Order → MoveKind
+    kind_in (orders.Move k n f) = k
+    kind_in order = kind
+
+    So : Option Opcode → Type 0
+    So o = (count ≡ num b 12 4) × (first ≡ num b 28 4) × (32 ≤ length b) × (o ≡ Some (codes.Move kind))
+
+    long : (o : Opcode) (c : Bool) → nat_lt (length b) (least o) ≡ c
+        → cond c (orders.Invalid (slice_index b 8) invalid_length) (parameters o b) ≡ orders.Move kind count first
+        → So (Some o)
+    long o true f h = search (arith, h)
+    long (codes.Move k) false f h = (
+      sym (ap count_in h),
+      sym (ap first_in h),
+      search (arith, f),
+      ap (λ x. Some (codes.Move x)) (ap kind_in h),
+    )
+    long o false f h = search (arith, h)
+
+    by : (o : Option Opcode) → opcode_of (slice_index b 8) ≡ o → order_with o b ≡ orders.Move kind count first → So o
+    by None f h = search (arith, h)
+    by (Some o) f h = long o (nat_lt (length b) (least o)) refl h
+
+-- the buffer that it names
+buffer_count : (b : List ℕ) (changes : ℕ) → 32 ≤ length b → (buffer_in b changes).count ≡ num b 12 4
+buffer_count b changes h = by (nat_lt (length b) 16) (search (arith, h))
+  where
+    by : (c : Bool) → c ≡ false → cond c 0 (num b 12 4) ≡ num b 12 4
+    by false e = refl
+    by true e = absurd (false≢true (sym e))
+
+buffer_address : (b : List ℕ) (changes : ℕ) → 32 ≤ length b → (buffer_in b changes).address ≡ num b 16 4
+buffer_address b changes h = by (nat_lt (length b) 20) (search (arith, h))
+  where
+    by : (c : Bool) → c ≡ false → cond c 0 (num b 16 4) ≡ num b 16 4
+    by false e = refl
+    by true e = absurd (false≢true (sym e))
+
+kept_count : (b : Buffer) (bytes : List ℕ) → (changes : ℕ) × (b ≡ buffer_in bytes changes) → 32 ≤ length bytes
+    → b.count ≡ num bytes 12 4
+kept_count b bytes kept long = ap (λ (x : Buffer). x.count) kept.1 ∙ buffer_count bytes kept.0 long
+
+pub kept_address : (b : Buffer) (bytes : List ℕ) → (changes : ℕ) × (b ≡ buffer_in bytes changes) → 32 ≤ length bytes
+    → b.address ≡ num bytes 16 4
+kept_address b bytes kept long = ap (λ (x : Buffer). x.address) kept.1 ∙ buffer_address bytes kept.0 long
+
+-- ---- a step that goes well
+
+pub no_done : (x y z : Bool) (ws : List Action) → z ≡ false → cond (x && y && z) ws [] ≡ []
+no_done false y z ws e = refl
+no_done true false z ws e = refl
+no_done true true false ws e = refl
+no_done true true true ws e = absurd (false≢true (sym e))
+
+all_done : (x y z : Bool) (ws : List Action) → x ≡ true → y ≡ true → z ≡ true → cond (x && y && z) ws [] ≡ ws
+all_done true true true ws e f g = refl
+all_done false y z ws e f g = absurd (false≢true e)
+all_done true false z ws e f g = absurd (false≢true f)
+all_done true true false ws e f g = absurd (false≢true g)
+
+pub none_moving : (x y z : Bool) (ws : List Action) → y ≡ false → cond (x && y && z) ws [] ≡ []
+none_moving false y z ws e = refl
+none_moving true false z ws e = refl
+none_moving true true z ws e = absurd (false≢true (sym e))
+
+-- a block at the same place
+transfer_same : (kind : MoveKind) (unit n first other at place count all : ℕ) → first ≡ other → at ≡ place
+    → count ≡ all
+    → actions.Transfer kind unit (first + n) (at + n * 512) (min (count - n * 512) 512)
+    ≡ actions.Transfer kind unit (other + n) (place + n * 512) (min (all - n * 512) 512)
+transfer_same kind unit n first other at place count all e f g =
+    ap (λ x. actions.Transfer kind unit (x + n) (at + n * 512) (min (count - n * 512) 512)) e
+    ∙ ap (λ x. actions.Transfer kind unit (other + n) (x + n * 512) (min (count - n * 512) 512)) f
+    ∙ ap (λ x. actions.Transfer kind unit (other + n) (place + n * 512) (min (x - n * 512) 512)) g
+
+module _ {K : Type 0} (picks : Picking K) (start : Port K) (old : Port K) (calls : List Call)
+    (a : Answered picks start calls old) (owned : AreOwned picks start old calls a) (outcome : Outcome)
+    (done : Unit {0}) (some : wish calls ≢ None) (s : Steps old (wish calls)) (name : Name)
+    (begun : old.controller.begun ≡ Some name)
+    (n : ℕ) (named : name ≡ name_on First n) where
+  -- what such a step of the one command of its number moves
+  pub record Moves (r : Record) (b : Buffer) (bytes : List ℕ) (kind : MoveKind) : Type 0 where
+    pub own : Own picks start old calls a b r bytes
+    pub number : b.reference ≡ n
+    pub order : r.command.order ≡ orders.Move kind (num bytes 12 4) (num bytes 28 4)
+    pub opcode : opcode_of (slice_index bytes 8) ≡ Some (codes.Move kind)
+    pub address : b.address ≡ num bytes 16 4
+    pub moves : ((num bytes 12 4 ≤ r.done * 512) × (done_by n (Went outcome (Ok done)) (wish calls) old ≡ []))
+        ⊎ ((r.done * 512 < num bytes 12 4)
+        × (done_by n (Went outcome (Ok done)) (wish calls) old
+        ≡ actions.Transfer kind r.command.unit (num bytes 28 4 + r.done) (num bytes 16 4 + r.done * 512)
+        (min (num bytes 12 4 - r.done * 512) 512) ∷ []))
+
+  pub moves_so : (r : Record) → filter (is_numbered n) old.controller.waiting ≡ r ∷ []
+      → touches (drive_of old.controller.drives r.command.unit).online r.command.order ≡ true
+      → step_told old outcome old.task ≡ Some blocks.Good
+      → (b : Buffer) × (bytes : List ℕ) × (kind : MoveKind) × Moves r b bytes kind
+  moves_so r sole online told =
+      let d = drive_of old.controller.drives r.command.unit in
+      let u = upcoming_of d r in
+      let step = is_step_sole old.controller n name r begun named sole in
+      let of = block_so d.online r.command.order r.done online in
+      let at = moved_at old (wish calls) outcome u of.0 (of.2 + r.done) some s told step of.4 in
+      let found = kept_found (is_of r.connection r.command.reference) old.buffers.items at.0
+      (position (is_of r.connection r.command.reference) old.buffers.items) refl at.1 in
+      let first = of_first r.connection r.command.reference at.0 found.1 in
+      let is = number_of n r (sole_passes (is_numbered n) old.controller.waiting r sole) in
+      let number : at.0.reference ≡ n = first.1 ∙ is.1 in
+      let o = owned at.0 found.0 in
+      let same : r ≡ o.0 = one_of n old.controller.waiting r o.0 sole
+      (subst (λ m. filter (is_numbered m) old.controller.waiting ≡ o.0 ∷ []) number o.2.sole) in
+      let own = subst (λ x. Own picks start old calls a at.0 x o.1) (sym same) o.2 in
+      let fields = move_fields o.1 of.0 of.1 of.2 (ap (λ (c : Command). c.order) (sym own.command) ∙ of.3) in
+      let count = kept_count at.0 o.1 own.kept fields.2 in
+      let address = kept_address at.0 o.1 own.kept fields.2 in (
+        at.0,
+        o.1,
+        of.0,
+        record {
+          own = own;
+          number = number;
+          order = of.3 ∙ ap (λ m. orders.Move of.0 m of.2) fields.0 ∙ ap (orders.Move of.0 (num o.1 12 4)) fields.1;
+          opcode = fields.3;
+          address = address;
+          moves = elim at.2 [
+            | inl e ↦ inl (
+              subst (λ m. m ≤ r.done * 512) count (low_of at.0 u (wish calls) e.1),
+              none_moving (is_done outcome) (is_moving old.task) (is_step_of n (begun_step old.controller))
+                  (wanted (wish calls)) e.0,
+            )
+            | inr m ↦ let high = high_of at.0 u of.0 (of.2 + r.done) (wish calls) m.1 in inr (
+              subst (λ x. r.done * 512 < x) count high.0,
+              all_done (is_done outcome) (is_moving old.task) (is_step_of n (begun_step old.controller))
+                  (wanted (wish calls)) (ap is_done high.1) m.0
+                  (ap (is_step_of n) step ∙ sole_passes (is_numbered n) old.controller.waiting r sole)
+                  ∙ high.2
+                  ∙ ap (λ x. x ∷ []) (transfer_same of.0 r.command.unit r.done of.2 (num o.1 28 4) at.0.address
+                  (num o.1 16 4) at.0.count (num o.1 12 4) fields.1 address count),
+            )
+          ];
+        },
+      )
+    where
+      low_of : (b : Buffer) (u : Upcoming) (w : Option Wish) → IsEmpty b u w → b.count ≤ u.done * 512
+      low_of b u None e = absurd e
+      low_of b u (Some w) e = e.0
+
+      high_of : (b : Buffer) (u : Upcoming) (kind : MoveKind) (block : ℕ) (w : Option Wish)
+          → WasMoved b u kind block outcome w
+          → (u.done * 512 < b.count) × (outcome ≡ outcomes.Done)
+          × (wanted w ≡ actions.Transfer kind u.command.unit block (b.address + u.done * 512)
+          (min (b.count - u.done * 512) 512) ∷ [])
+      high_of b u kind block None m = absurd m
+      high_of b u kind block (Some w) m = (m.0, m.1, ap (λ x. x ∷ []) m.2.action)
