@@ -128,8 +128,8 @@ static bool is_slow(const struct port_bus *bus)
     return bus->begin_read != NULL;
 }
 
-/* The bytes of a block, or NULL if it can't be read. */
-static const uint8_t *block_read(struct port *port, const struct mscp_action *action)
+/* The bytes of a block, or NULL if it can't be read. Inline, as it is done for each block. */
+static inline const uint8_t *block_read(struct port *port, const struct mscp_action *action)
 {
     const struct port_bus *bus = &port->bus;
     if (is_slow(bus))
