@@ -30,7 +30,8 @@ use Rattle.mscp_port.specs.Histories.{Answered, Call, Picking, WasRead}
 use Rattle.mscp_port.specs.Messages.{bare_end, handed, is_own_opcode, number_or_zero, own_end, own_end_of, refused_end, volume_refusal}
 use Rattle.mscp_port.specs.Packets.{end_kind}
 use Rattle.mscp_ported.specs.Ends.{come}
-use Rattle.mscp_ported.specs.Answers.{IsHandedOver, IsOwnAnswer, Own, asks_next, is_for_utilities, kind_answered, number_in, own_answer, own_refusal, own_text, poll_brings, poll_end, polls_bring, text_handed, volume_named}
+use Rattle.mscp_ported.specs.Answers.{IsHandedOver, IsOwnAnswer, Own, asks_next, is_for_utilities, kind_answered, number_in, own_answer, own_refusal, own_text, text_handed, volume_named}
+use Rattle.mscp_ported.specs.Polls.{poll_brings, poll_end, polls_bring}
 use Rattle.mscp_ported.specs.Talk.{AsksAlways, Opened, Slot, Turn, talk_of}
 use Rattle.mscp_ported.proofs.Coming.{come_so, ends_of}
 use Rattle.mscp_ported.proofs.Following.{in_step}

@@ -359,7 +359,8 @@ module _ {K : Type 0} (picks : Picking K) (start : Port K) where
 
   -- a unit that is online was brought online
   pub online : (hardware : Hardware) (credits : ℕ) (controller : Holdings K)
-      → IsMadeOf hardware credits controller start → (p : Port K) (calls : List Call) (a : Answered picks start calls p) (unit place : ℕ) → place < 16
+      → IsMadeOf hardware credits controller start → (p : Port K) (calls : List Call)
+      (a : Answered picks start calls p) (unit place : ℕ) → place < 16
       → place_in p.controller.settings.units unit ≡ Some place
       → Mounted (IsOnline picks unit start p calls a) (volume_at p.volumes place)
   online hardware credits controller made p [] a unit place low here = not_mounted ⊥ (volume_at p.volumes place)

@@ -2,7 +2,6 @@
 use Rattle.std.proofs.Common.{◌<◌, ◌≡◌, ◌≢◌, ◌⊎◌, ◌∙◌, ◌+◌, ◌-◌, ◌*◌, ◌≤◌, ◌||◌, ◌&&◌, ◌∷◌, [], ℕ, All, Bool, true, false, cond, min, nat_eq, nat_lt, List, Option, None, Some, IfSome, inl, inr, refl, ap, sym, subst, arith}
 use Rattle.std.specs.Prelude.{Result, Ok, Err, find, option_map}
 use Rattle.std.specs.List.{position}
-use Rattle.std.proofs.lemmas.List.Elements.{All-head, All-tail}
 use Rattle.mscp_port.proofs.Common.{eqb-true}
 use Rattle.std.proofs.lemmas.Option.{none-some, same_Some}
 use Rattle.mscp_packet.specs.declared.command.MoveKind.{MoveKind}
@@ -49,11 +48,13 @@ use Rattle.mscp_ported.specs.Moved.{IsEmpty, WasMoved, block_moved}
 use Rattle.mscp_ported.specs.Talk.{AsksAlways, Wish, wish}
 use Rattle.mscp_ported.specs.Transfers.{is_moving}
 use Rattle.mscp_ported.proofs.Moving.{Steps, steps}
+use Rattle.mscp_ported.proofs.Sole.{found_all}
 
 -- ---- what the controller is told
 
 pub good_told : (o : Option Block) (n : Option Name) (via : Connection) (reference : ℕ)
-    (result : Result Report NotBegun) → IsFinish o n (Finish via reference blocks.Good result ∷ []) → o ≡ Some blocks.Good
+    (result : Result Report NotBegun) → IsFinish o n (Finish via reference blocks.Good result ∷ [])
+    → o ≡ Some blocks.Good
 good_told (Some block) (Some name) via reference result h = ap (λ xs. block_in xs) (sym h.1)
   where
     block_in : List Made → Option Block
@@ -182,6 +183,7 @@ module _ (u : Upcoming) (kind : MoveKind) (block : ℕ) (moves : block_moved u.c
     begun_good None k volumes e = search (arith, e)
     begun_good (Some place) None volumes e = search (arith, e)
 
+    -- and one with a block only where it has some
     some_part : (at : MoveKind × ℕ) (b : Buffer) (v : Volume) (r : Result (ℕ × ℕ) Verdict)
         → part_with at.0 at.1 u.done b v ≡ r → part_task r ≡ tasks.Transfer → u.done * 512 < b.count
     some_part at b v (Ok part) e h = by (nat_eq part.1 0) refl h
@@ -218,6 +220,7 @@ module _ (u : Upcoming) (kind : MoveKind) (block : ℕ) (moves : block_moved u.c
     begun_some None k volumes e b is = search (arith, e)
     begun_some (Some place) None volumes e b is = search (arith, e)
 
+    -- a part is known only of a buffer that is kept
     part_of_kept : (o : Option ℕ) (k : Option Buffer) (volumes : List Volume) (part : ℕ × ℕ)
         → part_at o k kind block u.done volumes ≡ Ok part → (b : Buffer) × (k ≡ Some b) × (part_of b u.done ≡ Some part)
     part_of_kept (Some place) (Some b) volumes part e =
@@ -279,18 +282,6 @@ module _ (u : Upcoming) (kind : MoveKind) (block : ℕ) (moves : block_moved u.c
                 no_good_now (Some place) None e is = search (arith, e, is)
 
 -- ---- who said it
-
-found_all : {A : Type 0} (P : A → Type 0) (f : A → Bool) (xs : List A) (x : A) → All P xs → find f xs ≡ Some x
-    → P x × (f x ≡ true)
-found_all P f [] x all e = absurd (none-some x e)
-found_all P f (y ∷ ys) x all e = by (f y) refl e (λ h. found_all P f ys x (All-tail P y ys all) h)
-  where
-    by : (b : Bool) → f y ≡ b → cond b (Some y) (find f ys) ≡ Some x
-        → (find f ys ≡ Some x → P x × (f x ≡ true)) → P x × (f x ≡ true)
-    by true is h rest =
-        let same = same_Some y x h in
-        (subst P same (All-head P y ys all), subst (λ z. f z ≡ true) same is)
-    by false is h rest = rest h
 
 -- the step that is begun is of a command that waits
 begun_of : {K : Type 0} (P : Record → Type 0) (h : Holdings K) (u : Upcoming) → All P h.waiting

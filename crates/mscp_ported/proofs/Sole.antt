@@ -1,5 +1,6 @@
 -- The one command of a number that waits, by each step.
-use Rattle.std.proofs.Common.{◌≡◌, ◌⊎◌, ◌∙◌, ◌+◌, ◌<◌, ◌||◌, ◌++◌, ◌∷◌, [], ℕ, Bool, true, false, cond, drop, filter, length, map, take, List, Option, None, Some, inl, inr, refl, ap, sym, arith}
+use Rattle.std.proofs.lemmas.List.Elements.{All-head, All-tail}
+use Rattle.std.proofs.Common.{All, ◌≡◌, ◌⊎◌, ◌∙◌, ◌+◌, ◌<◌, ◌||◌, ◌++◌, ◌∷◌, [], ℕ, Bool, true, false, cond, drop, filter, length, map, take, List, Option, None, Some, inl, inr, refl, ap, sym, subst, arith}
 use Rattle.std.specs.Prelude.{find}
 use Rattle.std.specs.List.{list_any}
 use Rattle.mscp_packet.specs.declared.end.End.{End}
@@ -7,7 +8,7 @@ use Rattle.mscp_drive.specs.declared.block.Block.{Block}
 use Rattle.mscp_queue.specs.declared.drive.Drive.{Drive}
 use Rattle.mscp_queue.specs.Records.{Record, advanced, no_record, passed_by, record_at, remains, step_charge}
 use Rattle.mscp_queue.specs.Serving.{end_given, waiting_after}
-use Rattle.mscp_port.proofs.Common.{drop_more, false≢true, take-append-drop}
+use Rattle.mscp_port.proofs.Common.{drop_more, false≢true, none-some, same_Some, take-append-drop}
 use Rattle.mscp_port.proofs.Kept.{is_numbered}
 
 module _ {X : Type 0} where
@@ -114,6 +115,19 @@ module _ {X : Type 0} where
       by false e false k rest = rest
 
 -- ---- a step
+
+-- what is found is as all are, and passes
+pub found_all : {A : Type 0} (P : A → Type 0) (f : A → Bool) (xs : List A) (x : A) → All P xs → find f xs ≡ Some x
+    → P x × (f x ≡ true)
+found_all P f [] x all e = absurd (none-some x e)
+found_all P f (y ∷ ys) x all e = by (f y) refl e (λ h. found_all P f ys x (All-tail P y ys all) h)
+  where
+    by : (b : Bool) → f y ≡ b → cond b (Some y) (find f ys) ≡ Some x
+        → (find f ys ≡ Some x → P x × (f x ≡ true)) → P x × (f x ≡ true)
+    by true is h rest =
+        let same = same_Some y x h in
+        (subst P same (All-head P y ys all), subst (λ z. f z ≡ true) same is)
+    by false is h rest = rest h
 
 -- there is one alone
 pub one_of : (n : ℕ) (rs : List Record) (r s : Record) → filter (is_numbered n) rs ≡ r ∷ []

@@ -12,7 +12,6 @@ use Rattle.mscp_packet.specs.declared.command.Order.{Order}
 use Rattle.mscp_packet.specs.declared.command.Order.TheVariants as orders
 use Rattle.mscp_packet.specs.declared.end.End.{End}
 use Rattle.mscp_packet.specs.declared.end.EndBody.TheVariants as bodies
-unfoldable use Rattle.mscp_packet.specs.Commands.{command_of}
 use Rattle.mscp_drive.specs.Shape.{Shape}
 use Rattle.mscp_drive.specs.declared.block.Block.{Block}
 use Rattle.mscp_drive.specs.declared.block.Block.TheVariants as blocks
@@ -88,7 +87,8 @@ task_moves u b v e = by (is_available u.command.order) (v.is_there && takes_any_
     by false false false (Some m) f h = parted m f (part_with m.0 m.1 u.done b v) refl h
 
 known_moves : (u : Upcoming) (o : Option ℕ) (k : Option Buffer) (vs : List Volume)
-    → known_task u o k vs ≡ tasks.Transfer → (m : MoveKind × ℕ) × (part : ℕ × ℕ) × (move_of u ≡ Some m) × (part_at o k m.0 m.1 u.done vs ≡ Ok part)
+    → known_task u o k vs ≡ tasks.Transfer
+    → (m : MoveKind × ℕ) × (part : ℕ × ℕ) × (move_of u ≡ Some m) × (part_at o k m.0 m.1 u.done vs ≡ Ok part)
 known_moves u None k vs e = search (arith, e)
 known_moves u (Some place) None vs e = search (arith, e)
 known_moves u (Some place) (Some b) vs e = task_moves u b (volume_at vs place) e

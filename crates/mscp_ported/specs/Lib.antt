@@ -8,6 +8,7 @@ pub mod Moved
 pub mod Mounts
 pub mod Ends
 pub mod Answers
+pub mod Polls
 pub mod News
 pub mod Soon
 pub mod Transfers

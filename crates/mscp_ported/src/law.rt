@@ -1,12 +1,13 @@
 // What is true of every port, for its host.
 
-ghost use Rattle.mscp_ported.specs.Answers.{PortsAnswerAsTheyMay, PortsAnswerPolls, PortsHandOverTheRest};
+ghost use Rattle.mscp_ported.specs.Answers.{PortsAnswerAsTheyMay, PortsHandOverTheRest};
 ghost use Rattle.mscp_ported.specs.Ends.{PortsSayWhatWasDecided};
 ghost use Rattle.mscp_ported.specs.Making.{PortsKeepThePromise};
 ghost use Rattle.mscp_ported.specs.Mounts.{PortsCountOnTheirVolumes, PortsMoveOnTheirVolumes};
 ghost use Rattle.mscp_ported.specs.Moved.{PortsMoveWhatTheySay};
 ghost use Rattle.mscp_ported.specs.News.{PortsAnnounceAvailableUnits};
 ghost use Rattle.mscp_ported.specs.Owed.{PortsDoWhatIsDue};
+ghost use Rattle.mscp_ported.specs.Polls.{PortsAnswerPolls};
 ghost use Rattle.mscp_ported.specs.Soon.{PortsKeepTelling, PortsTellSoon};
 ghost use Rattle.mscp_ported.specs.Transfers.{PortsCountWhatTheyMoved, PortsMoveEachBlock};
 ghost use Rattle.mscp_ported.specs.Told.{PortsHearInOrder, PortsTellInOrder};
