@@ -134,7 +134,7 @@ PortsMoveEachBlock {K} picks =
     → begun_step a.0.controller ≡ Some u → block_moved u.command.order u.lbn ≡ Some (kind, block)
     → Contains (come a.0 p) e → (b : List ℕ) × StandsFor picks e kind start p (Went outcome (Ok done) ∷ calls) a b
 
--- ---- the law of ends that don't say Success
+-- ---- the law of counts
 
 -- the end counts just the bytes of these blocks, so many from the first one on, which were moved
 pub record Counts {K : Type 0} (picks : Picking K) (e : End) (kind : MoveKind) (start p : Port K)
