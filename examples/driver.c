@@ -416,7 +416,11 @@ static bool read_all(enum trouble kind)
 
 int main(int words, char **word)
 {
-    if (words != 2 || (image = fopen(word[1], "rb")) == NULL || !begin()) {
+    if (words == 2 && (image = fopen(word[1], "rb")) == NULL) {
+        perror(word[1]);
+        return 2;
+    }
+    if (words != 2 || !begin()) {
         fprintf(stderr, "usage: driver IMAGE (of 60 blocks or more)\n");
         return 2;
     }

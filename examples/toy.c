@@ -152,7 +152,11 @@ static bool boot(void)
 int main(int words, char **word)
 {
     long length;
-    if (words != 2 || (image = fopen(word[1], "r+b")) == NULL || fseek(image, 0, SEEK_END) != 0 ||
+    if (words == 2 && (image = fopen(word[1], "r+b")) == NULL) {
+        perror(word[1]);
+        return 2;
+    }
+    if (words != 2 || fseek(image, 0, SEEK_END) != 0 ||
         (length = ftell(image)) < (long)MSCP_BLOCK || !attach((uint32_t)(length / (long)MSCP_BLOCK))) {
         fprintf(stderr, "usage: toy IMAGE (of blocks of 512 bytes)\n");
         return 2;
