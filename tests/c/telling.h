@@ -16,7 +16,8 @@ enum call {
 
 enum { LAST = 127 }; /* behind the statuses of a call */
 #define NUMBER 126, 0, 1 /* it answers a number */
-#define OF_MEMORY -11, -12, -13, -14, -15
+#define OF_PLACE -12, -13, -14, -15
+#define OF_MEMORY -11, OF_PLACE
 #define OF_LIMITS -20, -21, -22, -23, -24, -25, -26, -27, -28, -29, -30, -31
 #define OF_BYTES -40, -41, -42, -43, -44, -45, -46, -47, -48, -49, -50, -51, -52, -53, -54
 
@@ -41,14 +42,14 @@ static const struct {
     [BALANCE] = {"mscp_balance", {NUMBER, -10, -32, LAST}},
     [IS_ONLINE] = {"mscp_is_online", {NUMBER, -10, LAST}},
     [SAVE] = {"mscp_save", {1, -10, -15, LAST}},
-    [RESTORE] = {"mscp_restore", {1, OF_MEMORY, OF_BYTES, LAST}},
+    [RESTORE] = {"mscp_restore", {1, OF_PLACE, OF_BYTES, LAST}},
     [HOST_INIT] = {"mscp_host_init", {1, OF_MEMORY, -28, LAST}},
     [HOST_BALANCE] = {"mscp_host_balance", {NUMBER, -10, LAST}},
     [HOST_SUBMIT] = {"mscp_host_submit", {1, -1, -2, -3, -4, -5, -10, LAST}},
     [HOST_POLL] = {"mscp_host_poll", {0, 1, 4, -3, -5, -10, LAST}},
     [HOST_RECEIVE] = {"mscp_host_receive", {5, 6, 7, 8, 9, 10, -8, -9, -10, LAST}},
     [HOST_SAVE] = {"mscp_host_save", {1, -10, -15, LAST}},
-    [HOST_RESTORE] = {"mscp_host_restore", {1, OF_MEMORY, -40, -41, -42, -44, -46, -48, -54, -55, LAST}},
+    [HOST_RESTORE] = {"mscp_host_restore", {1, OF_PLACE, -40, -41, -42, -44, -46, -48, -54, -55, LAST}},
     [PORT_INIT] = {"mscp_port_init", {1, OF_MEMORY, OF_LIMITS, -33, -34, LAST}},
     [READ_IP] = {"mscp_port_read_ip", {1, -10, LAST}},
     [WRITE_IP] = {"mscp_port_write_ip", {1, -10, LAST}},
@@ -70,7 +71,7 @@ static const struct {
     [PORT_SETTINGS] = {"mscp_port_settings", {126, 1, -10, LAST}},
     [PORT_WHY] = {"mscp_port_why", {NUMBER, -10, -32, LAST}},
     [PORT_SAVE] = {"mscp_port_save", {1, -10, -15, LAST}},
-    [PORT_RESTORE] = {"mscp_port_restore", {1, OF_MEMORY, OF_BYTES, -56, LAST}},
+    [PORT_RESTORE] = {"mscp_port_restore", {1, OF_PLACE, OF_BYTES, -56, LAST}},
     [RUN_SCRIPT] = {"mscp_run_script", {1, -15, -60, -61, -62, -63, -64, -65, -66, -67, -68, -69, -70, -71, -72, LAST}},
     [SHOW_PACKET] = {"mscp_show_packet", {1, -15, -73, -74, -75, -76, -77, LAST}},
 };

@@ -109,7 +109,7 @@ static void try_unmade(void)
     eat(length);
 }
 
-/* What an init and a restore answer where something is made. */
+/* What an init and a restore answer if something is made. */
 static void make_again(void)
 {
     tell(INIT, mscp_init(mscp, &limits, units, count, 0)), tell(RESTORE, mscp_restore(mscp, bytes, 48));
