@@ -936,7 +936,7 @@ MSCP_INLINE int32_t mscp_driver_save(const struct mscp_driver *driver, uint8_t *
 }
 
 /* Makes the account that was saved, in the handle's memory, as mscp_host_restore makes a host. This takes up to 20 KiB of
- * the stack, and mscp_driver_save up to 3. */
+ * the stack, and mscp_driver_save up to 4. */
 MSCP_MUST_USE
 MSCP_INLINE int32_t mscp_driver_restore(struct mscp_driver *driver, const uint8_t *bytes, size_t length)
 {

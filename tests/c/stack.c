@@ -281,7 +281,8 @@ static size_t most(int call)
 {
     switch (call) {
     case SAVE: return 12 * 1024;
-    case HOST_SAVE: case DRIVER_SAVE: case WHY: case PORT_WHY: return 3 * 1024;
+    case HOST_SAVE: case WHY: case PORT_WHY: return 3 * 1024;
+    case DRIVER_SAVE: return 4 * 1024;
     case INIT: case PORT_INIT: case RESTORE: case PORT_RESTORE: return 40 * 1024;
     case HOST_RESTORE: return 6 * 1024;
     case DRIVER_RESTORE: return 20 * 1024;
