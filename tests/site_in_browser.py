@@ -35,8 +35,8 @@ def search(page, words):
 
 def is_seen(name):
     """Whether the element is in the window."""
-    return driver.execute_script(
-        "const it = document.getElementById(arguments[0]).getBoundingClientRect(); return it.top >= 0 && it.top < innerHeight", name)
+    top = driver.execute_script("return document.getElementById(arguments[0]).getBoundingClientRect().top", name)
+    return 0 <= top < driver.execute_script("return innerHeight")
 
 
 try:
@@ -60,10 +60,12 @@ try:
     # No file was missing, and none came from elsewhere.
     names = driver.execute_script("return performance.getEntriesByType('resource').map((it) => it.name)")
     assert all(it.startswith("file:") for it in names), names
-    assert driver.execute_script("return getComputedStyle(document.querySelector('table')).borderCollapse") == "collapse"
+    style = driver.execute_script("return getComputedStyle(document.querySelector('table')).borderCollapse")
+    assert style == "collapse", style
     assert not driver.get_log("browser")
     for width in (390, 1600):
-        driver.execute_cdp_cmd("Emulation.setDeviceMetricsOverride", {"width": width, "height": 900, "deviceScaleFactor": 1, "mobile": False})
+        driver.execute_cdp_cmd("Emulation.setDeviceMetricsOverride", {
+            "width": width, "height": 900, "deviceScaleFactor": 1, "mobile": False})
         for page in ("docs/FORMATS.html", "docs/mscp.3.html", "docs/PROVED.html"):
             driver.get((SITE / page).as_uri())
             wide = driver.execute_script("return document.documentElement.scrollWidth")

@@ -2,8 +2,8 @@
 
     site_links.py FOLDER
 
-A link leads somewhere if it names a file of the folder, and, with an anchor, an element of that. A page may link to an address of a
-network, but takes nothing from there. A call that a page names as code has to be a link as well.
+A link leads somewhere if it names a file of the folder, and, with an anchor, an element of that. A page may link to an
+address of a network, but takes nothing from there. A call that a page names as code has to be a link as well.
 """
 
 import html.parser

@@ -1,5 +1,5 @@
--- A page of the documents, for pandoc: its links lead to pages of the site, each call that it names to the page of that call, and
--- its headings go into the list that is searched. Environment:
+-- A page of the documents, for pandoc: its links lead to pages of the site, each call that it names leads to the page
+-- of that call, and its headings go into the list that is searched. Environment:
 --   PAGE      the file of the page, by the folder of the project
 --   TOP       that folder
 --   CALLS     the names of all calls, divided by spaces
@@ -86,7 +86,9 @@ local function kept(it)
             code.classes = { 'kept' }
             return code
         end,
-        Str = function(text) return is_manual and text.text:match '^mscp_[a-z_]+$' and pandoc.RawInline('html', text.text) or nil end,
+        Str = function(it)
+            return is_manual and it.text:match '^mscp_[a-z_]+$' and pandoc.RawInline('html', it.text) or nil
+        end,
     })
 end
 

@@ -1,5 +1,5 @@
-// Lists the headings that have all the words which were typed. `headings` is the list of headings.js: the words of each, the title
-// of its page, and where it is.
+// Lists the headings that have all the words which were typed. `headings` is the list of headings.js: the words of
+// each, the title of its page, and where it is.
 
 const root = document.currentScript.dataset.root;
 const MOST = 40;
