@@ -420,9 +420,17 @@ int main(int words, char **word)
         perror(word[1]);
         return 2;
     }
-    if (words != 2 || !begin()) {
+    if (words != 2) {
         fprintf(stderr, "usage: driver IMAGE (of 60 blocks or more)\n");
         return 2;
+    }
+    if (fseek(image, (long)IMAGE * (long)MSCP_BLOCK - 1, SEEK_SET) != 0 || fgetc(image) == EOF) {
+        fprintf(stderr, "%s: it has under %d blocks of %d bytes\n", word[1], (int)IMAGE, (int)MSCP_BLOCK);
+        return 2;
+    }
+    if (!begin()) {
+        fprintf(stderr, "driver: no port begins\n");
+        return 1;
     }
     printf("the drive hangs\n");
     if (!read_all(DRIVE_HANGS))

@@ -74,7 +74,8 @@ bool emulator_open(struct emulator *emulator, const char *path, uint8_t *memory,
     }
     emulator->mscp = make_controller(blocks_of(emulator->image));
     if (emulator->mscp == NULL) {
-        fprintf(stderr, "%s: no image of 512-byte blocks, or no memory\n", path);
+        fprintf(stderr, "%s: it has %lu blocks of 512 bytes, and 1 is the least; or there is no memory\n", path,
+                (unsigned long)blocks_of(emulator->image));
         fclose(emulator->image);
         return false;
     }
