@@ -19,7 +19,7 @@ struct port_bus {
     /* A block of 512 bytes of a unit's volume. Whether it could be read or written: a block that was written can be read. */
     bool (*read_block)(void *machine, uint16_t unit, uint32_t block, uint8_t *bytes);
     bool (*write_block)(void *machine, uint16_t unit, uint32_t block, const uint8_t *bytes);
-    /* So many blocks of it at once, from one on, of one command and in one turn; NULL where the machine has no such calls. If one
+    /* So many blocks of it at once, from one on, of one command and in one turn; NULL if the machine has no such calls. If one
      * of the blocks can't be moved the answer is false, and they are moved one by one. */
     bool (*read_run)(void *machine, uint16_t unit, uint32_t block, uint32_t count, uint8_t *bytes);
     bool (*write_run)(void *machine, uint16_t unit, uint32_t block, uint32_t count, const uint8_t *bytes);
