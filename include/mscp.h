@@ -242,9 +242,9 @@ struct mscp_unit {
 
 /* The limits of a controller: no command waits for more than (credits - 1) * longest + budget steps, and with a second
  * connection for no more than (credits - 1 + second - 1) * longest + budget. If a later command of either connection
- * starts before a waiting one, that costs the budget of the waiting one all the steps that the later one takes: one for
- * each of its blocks, and 1 if it has none. It may start only if no budget is overdrawn. With a budget of
- * (uint64_t)times * longest later commands may go first so many times, each time with a longest transfer. */
+ * starts before a waiting one, that takes from the budget of the waiting one all the steps that the later one takes: one
+ * for each of its blocks, and 1 if it has none. It may start only if no budget is overdrawn. With a budget of
+ * (uint64_t)times * longest later commands may go first `times` times, each time with a longest transfer. */
 struct mscp_limits {
     uint64_t id;      /* of the controller, which the host reads */
     uint64_t budget;  /* the blocks that later commands may have in all that start before a waiting command */
