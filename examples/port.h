@@ -23,7 +23,7 @@ struct port_bus {
      * of the blocks can't be moved the answer is false, and they are moved one by one. */
     bool (*read_run)(void *machine, uint16_t unit, uint32_t block, uint32_t count, uint8_t *bytes);
     bool (*write_run)(void *machine, uint16_t unit, uint32_t block, uint32_t count, const uint8_t *bytes);
-    /* In place of those four, for a disk that takes its time: they begin with a block and return, and port_moved tells of it by
+    /* In place of those four, for a disk that takes its time: they begin with a block and return, and port_moved reports it by
      * its serial when it is done. Blocks are done in the order in which they were begun. The bytes are the port's. */
     void (*begin_read)(void *machine, uint16_t unit, uint32_t block, uint64_t serial);
     void (*begin_write)(void *machine, uint16_t unit, uint32_t block, const uint8_t *bytes, uint64_t serial);

@@ -506,7 +506,7 @@ size_t mscp_driver_align(void);
 #define MSCP_PORT_SIZE 20480u
 #define MSCP_DRIVER_SIZE 3072u
 
-/* Marks of handles on memory where nothing was made yet. */
+/* Marks of handles on memory in which nothing was made yet. */
 #define MSCP_ROOM UINT64_C(0x4D534350524F4F4D)
 #define MSCP_HOST_ROOM UINT64_C(0x484F5354524F4F4D)
 #define MSCP_PORT_ROOM UINT64_C(0x504F5254524F4F4D)
