@@ -58,7 +58,7 @@ static void goes_on(void)
 
 /* ---- the bytes of one port, written by hand */
 
-enum { KEPT = 74 + 16 * 18, CONTROLLER = KEPT + 20, LENGTH = CONTROLLER + 48 + 34 * UNITS + 41 };
+enum { KEPT = 74 + 16 * 18, CONTROLLER = KEPT + 21, LENGTH = CONTROLLER + 48 + 34 * UNITS + 41 };
 
 /* Its head. */
 static const uint8_t HEAD[74] = {
@@ -88,8 +88,9 @@ static const uint8_t HEAD[74] = {
  * once, has 311,200 blocks, and media of an RD54; and none. */
 static const uint8_t VOLUMES[36] = {1, 0, 0, 0, 0, 1, 1, 0, 0, 0, 0xA0, 0xBF, 4, 0, 0x36, 0x40, 0x64, 0x25};
 
-/* What is kept of the READ: its number, address and count, no modifiers, no flags, and the volume that changed once. */
-static const uint8_t BUFFER[20] = {2, 0, 0, 0, 0, 4, 0, 0, 0, 8, 0, 0, 0, 0, 0, 0, 1, 0, 0, 0};
+/* What is kept of the READ: its number, address and count, no modifiers, no flags, the volume that changed once, and its
+ * opcode. */
+static const uint8_t BUFFER[21] = {2, 0, 0, 0, 0, 4, 0, 0, 0, 8, 0, 0, 0, 0, 0, 0, 1, 0, 0, 0, MSCP_READ};
 
 static uint8_t bytes[LENGTH];
 
@@ -214,7 +215,7 @@ static void flipped_bits(void)
             taken++;
         bytes[bit / 8] ^= (uint8_t)(1u << bit % 8);
     }
-    is("some are a port's", taken >= 24 + 32 + 48 + 32 + 160 + 64 + 4 * 128, 1);
+    is("some are a port's", taken >= 24 + 32 + 48 + 32 + 168 + 64 + 4 * 128, 1);
 }
 
 /* ---- two connections */

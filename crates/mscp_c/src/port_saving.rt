@@ -17,7 +17,7 @@ use mscp_port::{Bus, Hardware, Port, ROOM, restore_fault, saved_settings};
 /// The most bytes that a port is saved as.
 #[unsafe(no_mangle)]
 pub extern "C" fn mscp_port_save_size() -> usize
-    ensures { result ≡ 6122 }
+    ensures { result ≡ 6250 }
 {
     ROOM
 }
@@ -55,7 +55,7 @@ fn policy_named(bytes: &[u8]) -> Policy
     let text = usize::from(byte_or_zero(bytes, 71));
     let buffers = usize::from(byte_or_zero(bytes, 72));
     let decided = usize::from(byte_or_zero(bytes, 73));
-    if byte_or_zero(bytes, 362 + text + 20 * buffers + 12 * decided + 30) == 1 {
+    if byte_or_zero(bytes, 362 + text + 21 * buffers + 13 * decided + 30) == 1 {
         Policy::Sweep
     } else {
         Policy::Oldest
@@ -83,8 +83,8 @@ fn make_unresumed(handle: &mut Handle, settings: Config, policy: Policy)
     }
 }
 
-/// The port that bytes say is in the memory of the handle, in place of the one that was made there, if one was: on a fault that one
-/// goes on. A new one is put there, and resumed where it lies, so that the stack has no room for a whole one.
+/// The port that bytes say is in the memory of the handle, in place of the one that was made there, if one was: on a fault that
+/// one goes on. A new one is put there, and resumed where it lies, so that the stack has no room for a whole one.
 #[unsafe(no_mangle)]
 pub extern "C" fn mscp_port_restore_at(handle: &mut Handle, bytes: &[u8]) -> i32
     ensures { (result, handle.new) ≡ restores handle.old bytes.now }

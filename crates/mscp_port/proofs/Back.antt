@@ -15,10 +15,10 @@ volume_is_back v h =
       flag_back,
     )
 
-decided_is_back : (d : Decided) → HasDecidedRange d → IsBack decided_in decided_bytes 12 d
+decided_is_back : (d : Decided) → HasDecidedRange d → IsBack decided_in decided_bytes 13 d
 decided_is_back d h = search (arith, four, two)
 
-buffer_is_back : (b : Buffer) → HasBufferRange b → IsBack buffer_in buffer_bytes 20 b
+buffer_is_back : (b : Buffer) → HasBufferRange b → IsBack buffer_in buffer_bytes 21 b
 buffer_is_back b h = search (arith, four, two)
 
 outgoing_back : (o : Option Outgoing) → outgoing_in (outgoing_byte o) (outgoing_text o) ≡ o
@@ -61,10 +61,10 @@ module _ {K : Type 0} (number : ℕ) (p : Port K) where
   volumes_back r = recursion_from_All (IsBack volume_in volume_bytes 18) p.volumes
       (λ k d l. volume_is_back (get_or p.volumes k d) (r.volumes k d l))
 
-  buffers_back : HasRange p → AllByRecursion (IsBack buffer_in buffer_bytes 20) p.buffers.items
+  buffers_back : HasRange p → AllByRecursion (IsBack buffer_in buffer_bytes 21) p.buffers.items
   buffers_back r = search (arith, recursion_from_All, buffer_is_back)
 
-  decided_back : HasRange p → AllByRecursion (IsBack decided_in decided_bytes 12) p.decided.items
+  decided_back : HasRange p → AllByRecursion (IsBack decided_in decided_bytes 13) p.decided.items
   decided_back r = search (arith, recursion_from_All, decided_is_back)
 
   behind_head : drop 74 b ≡ vs ++ (ts ++ (bs ++ (os ++ cs)))
@@ -87,26 +87,26 @@ module _ {K : Type 0} (number : ℕ) (p : Port K) where
   behind_text : HasRange p → drop (362 + length ts) b ≡ bs ++ (os ++ cs)
   behind_text r = search (arith, drop-drop (length ts) 362 b, behind_volumes r, drop-append_seam ts (bs ++ (os ++ cs)))
 
-  behind_buffers : HasRange p → drop (362 + length ts + 20 * length p.buffers.items) b ≡ os ++ cs
+  behind_buffers : HasRange p → drop (362 + length ts + 21 * length p.buffers.items) b ≡ os ++ cs
   behind_buffers r =
       search (
         arith,
-        drop-drop (20 * length p.buffers.items) (362 + length ts) b,
+        drop-drop (21 * length p.buffers.items) (362 + length ts) b,
         behind_text r,
         parts_rest buffer_in
-            buffer_bytes 20 p.buffers.items (os ++ cs) (buffers_back r),
+            buffer_bytes 21 p.buffers.items (os ++ cs) (buffers_back r),
         buffers_back r,
       )
 
   behind_decided : HasRange p
-      → drop (362 + length ts + 20 * length p.buffers.items + 12 * length p.decided.items) b ≡ cs
+      → drop (362 + length ts + 21 * length p.buffers.items + 13 * length p.decided.items) b ≡ cs
   behind_decided r =
       search (
         arith,
-        drop-drop (12 * length p.decided.items) (362 + length ts + 20 * length p.buffers.items) b,
+        drop-drop (13 * length p.decided.items) (362 + length ts + 21 * length p.buffers.items) b,
         behind_buffers r,
         parts_rest decided_in
-            decided_bytes 12 p.decided.items cs (decided_back r),
+            decided_bytes 13 p.decided.items cs (decided_back r),
         decided_back r,
       )
 
@@ -121,13 +121,13 @@ module _ {K : Type 0} (number : ℕ) (p : Port K) where
 
   buffers_said : HasRange p → buffers_in b ≡ p.buffers.items
   buffers_said r =
-      ap (parts_in buffer_in 20 (length p.buffers.items)) (behind_text r)
-      ∙ parts_said buffer_in buffer_bytes 20 p.buffers.items (os ++ cs) (buffers_back r)
+      ap (parts_in buffer_in 21 (length p.buffers.items)) (behind_text r)
+      ∙ parts_said buffer_in buffer_bytes 21 p.buffers.items (os ++ cs) (buffers_back r)
 
   decided_said : HasRange p → all_decided_in b ≡ p.decided.items
   decided_said r =
-      ap (parts_in decided_in 12 (length p.decided.items)) (behind_buffers r)
-      ∙ parts_said decided_in decided_bytes 12 p.decided.items cs (decided_back r)
+      ap (parts_in decided_in 13 (length p.decided.items)) (behind_buffers r)
+      ∙ parts_said decided_in decided_bytes 13 p.decided.items cs (decided_back r)
 
   area_said : HasRange p → area_in b ≡ rings_or_none p.rings
   area_said r = search (arith, small p.rings r.hand.rings, four)
@@ -179,9 +179,9 @@ module _ {K : Type 0} (number : ℕ) (p : Port K) where
         parts_long volume_in volume_bytes 18 p.volumes (volumes_back r),
         volumes_back r,
         parts_long
-            buffer_in buffer_bytes 20 p.buffers.items (buffers_back r),
+            buffer_in buffer_bytes 21 p.buffers.items (buffers_back r),
         buffers_back r,
-        parts_long decided_in decided_bytes 12 p.decided.items (decided_back r),
+        parts_long decided_in decided_bytes 13 p.decided.items (decided_back r),
         decided_back r,
         length-append (vs ++ ts ++ bs ++ os) cs,
         length-append (vs ++ ts ++ bs) os,

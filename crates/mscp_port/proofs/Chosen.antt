@@ -1,10 +1,11 @@
 -- What is done for a step that moves a block goes by its part alone.
-use Rattle.mscp_port.proofs.Common.{◌≡◌, ◌∙◌, ℕ, Bool, true, false, List, Option, None, Some, Result, arith, refl, ap, sym, Upcoming, Port, Buffer, Verdict, MoveKind, Order, begun_step, begun_task}
+use Rattle.mscp_port.proofs.Common.{◌≡◌, ◌∙◌, ℕ, Bool, true, false, List, Option, None, Some, Result, Ok, Err, arith, refl, ap, sym, Upcoming, Port, Buffer, Verdict, MoveKind, Order, begun_step, begun_task}
 use Rattle.std.specs.Prelude.{◌&&◌, if◌then◌else◌}
 use Rattle.mscp_port.specs.Blocks.{good_step, has_changed, is_available, kept_of, move_of, move_task, moved_by, part_task, part_with, refusal_of, takes_any_volume, task_of, unless_fault}
 use Rattle.mscp_port.specs.Buffers.{part_of}
-use Rattle.mscp_port.specs.Moved.{known_task, part_at, part_now}
+use Rattle.mscp_port.specs.Moved.{known_task, move_wanted, part_at, part_now, part_wanted}
 use Rattle.mscp_port.specs.Volumes.{place_in, volume_at}
+use Rattle.mscp_port.specs.declared.action.Action.TheVariants as actions
 use Rattle.mscp_port.specs.declared.task.Task.{Task}
 use Rattle.mscp_port.specs.declared.task.Task.TheVariants as tasks
 use Rattle.mscp_port.specs.declared.verdict.Verdict.TheVariants as verdicts
@@ -57,3 +58,12 @@ chosen p u begun kind block part is some moves now =
     ∙ sym (known u (kind, block) (place_in p.controller.settings.units u.command.unit)
     (kept_of u.connection u.command.reference p.buffers.items) p.volumes moves)
     ∙ ap (begun_task p.controller.settings.units p.buffers.items p.volumes) (sym some ∙ is)
+
+-- what is wanted for a block isn't nothing
+pub no_rest : {K : Type 0} (p : Port K) (o : Option (Upcoming × MoveKind × ℕ)) → move_wanted p o ≡ actions.Rest → ⊥
+no_rest p None e = search (arith, e)
+no_rest p (Some m) e = by (part_now p m.0 m.1 m.2) e
+  where
+    by : (r : Result (ℕ × ℕ) Verdict) → part_wanted m.0 m.1 m.2 r ≡ actions.Rest → ⊥
+    by (Ok part) h = search (arith, h)
+    by (Err verdict) h = search (arith, h)

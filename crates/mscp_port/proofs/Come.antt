@@ -1,6 +1,9 @@
 -- A message by which a command comes: its number is new, and the controller gets it as it was read.
-use Rattle.mscp_port.proofs.Common.{◌≡◌, ◌&&◌, ℕ, Bool, true, false, cond, not, List, [], ◌∷◌, None, Some, refl, length, arith, nat_eq, nat_lt, slice_index, list_any, and_parts, eqb-true, false≢true, le-ltb, ltb-false, or_parts, list_any-append, none-some, command_of, num, class, is_immediate_class, Shape, First, Settings, Record, holds, is_queued, refusal, Holdings, numbers, outstanding_of, waiting_on, handed}
+use Rattle.mscp_port.proofs.Common.{◌≡◌, ◌&&◌, ℕ, Bool, true, false, cond, not, List, [], ◌∷◌, ◌++◌, ◌≤◌, ap, sym, subst, None, Some, refl, length, arith, nat_eq, nat_lt, slice_index, list_any, and_parts, eqb-true, false≢true, le-ltb, ltb-false, or_parts, list_any-append, none-some, command_of, num, class, is_immediate_class, Shape, First, Settings, Record, holds, is_queued, refusal, Holdings, numbers, outstanding_of, waiting_on, handed}
+use Rattle.std.specs.Prelude.{replicate, take}
 use Rattle.mscp_controller.specs.declared.entry.SendFault.TheVariants as faults
+use Rattle.mscp_port.specs.Formalities.{is_formality, stand_in}
+use Rattle.mscp_port.specs.Messages.{next_named}
 use Rattle.mscp_port.proofs.Kept.{is_numbered}
 
 -- ---- its number is new
@@ -29,9 +32,27 @@ taken_number balance os b e = not_refused (nat_lt (length b) 12) (nat_lt 64 (len
 pub long_enough : (b : List ℕ) → nat_lt (length b) 12 ≡ false → nat_lt (length b) 4 ≡ false
 long_enough b e = search (arith, ltb-false (length b) 12 e, le-ltb)
 
--- ---- a command that is queued is the one that was read
+-- ---- a command that is queued is the one that was read, but that a formality has its stand-in
 
-pub handed_as_read : (c : Settings) (units : List Shape) (b : List ℕ)
+pub handed_as_read : (c : Settings) (units : List Shape) (b : List ℕ) → is_formality (slice_index b 8) ≡ false
     → is_queued c (command_of (handed units b)) ≡ true → handed units b ≡ b
 unfolding command_of
-handed_as_read c units b q = search (arith, and_parts, eqb-true, false≢true)
+handed_as_read c units b plain q = search (arith, and_parts, eqb-true, false≢true, plain)
+
+-- which is of the same number and unit
+abbrev pub IsLike : List ℕ → List ℕ → Type 0
+IsLike sent b = (num sent 0 4 ≡ num b 0 4) × (num sent 4 2 ≡ num b 4 2)
+
+first_bytes : (b xs : List ℕ) → 8 ≤ length b → IsLike (take 8 b ++ xs) b
+first_bytes (a ∷ b ∷ c ∷ d ∷ e ∷ f ∷ g ∷ h ∷ rest) xs long = (refl, refl)
+first_bytes b xs long = search (arith, long)
+
+pub handed_like : (c : Settings) (units : List Shape) (b : List ℕ) → 12 ≤ length b
+    → is_queued c (command_of (handed units b)) ≡ true → IsLike (handed units b) b
+handed_like c units b long q = by (is_formality (slice_index b 8)) refl
+  where
+    by : (x : Bool) → is_formality (slice_index b 8) ≡ x → IsLike (handed units b) b
+    by true e = subst (λ s. IsLike s b)
+        (sym (ap (λ y. cond y (stand_in b) (next_named units b)) e))
+        (first_bytes b (16 ∷ replicate 23 0) (search (arith, long)))
+    by false e = subst (λ s. IsLike s b) (sym (handed_as_read c units b e q)) (refl, refl)

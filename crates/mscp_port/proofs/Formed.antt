@@ -8,8 +8,8 @@ pub total_is : (b : List ℕ) → IsFramed b
 total_is b f =
     search (
       arith,
-      parts_long buffer_in 20 (buffer_count b) (drop (buffer_place b) b),
-      parts_long decided_in 12 (decided_count b) (drop (decided_place b) b),
+      parts_long buffer_in 21 (buffer_count b) (drop (buffer_place b) b),
+      parts_long decided_in 13 (decided_count b) (drop (decided_place b) b),
     )
 
 pub text_told : (b : List ℕ) → IsFramed b → length (outgoing_text (front_in b).outgoing) ≤ text_count b

@@ -1,10 +1,10 @@
 -- What is kept once the text of a command was read.
-use Rattle.mscp_port.proofs.Common.{◌≡◌, ◌≢◌, ◌⊎◌, ◌∙◌, ℕ, Bool, true, false, cond, List, [], ◌∷◌, ◌++◌, Option, None, Some, Contains, inl, inr, refl, ap, sym, subst, length, Result, Ok, IsOk, find, nat_eq, nat_lt, option_map, list_any, and_parts, eq-eqb, eqb-true, false≢true, Contains-push_cases, none-some, same_Some, command_of, num, Order, First, same_connection, Record, fresh_record, SendFault, is_queued, refusal, Holdings, aborting, answered_end, arrives, balance_of, held_unless, outstanding_of, queued, reference_aborted, sent_unless, taken_as, unaborted, with_end, Unasked, Buffer, Port, Descriptor, kept_beside, without_aborted, Hears, WasRead, handed, own_end_of, IsReadingText, SeesText, answered_to, changes_at, kept_of_sent, place_in}
+use Rattle.mscp_port.proofs.Common.{◌≡◌, ◌≢◌, ◌⊎◌, ◌∙◌, ℕ, Bool, true, false, cond, List, [], ◌∷◌, ◌++◌, Option, None, Some, Contains, inl, inr, refl, ap, sym, subst, arith, ◌≤◌, length, Result, Ok, IsOk, find, nat_eq, nat_lt, option_map, list_any, and_parts, eq-eqb, eqb-true, false≢true, Contains-push_cases, none-some, same_Some, command_of, num, Order, First, same_connection, Record, fresh_record, SendFault, is_queued, refusal, Holdings, aborting, answered_end, arrives, balance_of, held_unless, outstanding_of, queued, reference_aborted, sent_unless, taken_as, unaborted, with_end, Unasked, Buffer, Port, Descriptor, kept_beside, without_aborted, Hears, WasRead, handed, own_end_of, IsReadingText, SeesText, answered_to, changes_at, kept_of_sent, place_in}
 use Rattle.mscp_port.specs.Buffers.{buffer_in}
 use Rattle.mscp_packet.specs.declared.command.Order.TheVariants as orders
 use Rattle.mscp_controller.specs.declared.entry.Sent.TheVariants as sents
 use Rattle.mscp_port.specs.declared.task.Task.TheVariants as tasks
-use Rattle.mscp_port.proofs.Come.{handed_as_read, long_enough, none_waits, taken_number}
+use Rattle.mscp_port.proofs.Come.{IsLike, handed_like, none_waits, taken_number}
 use Rattle.mscp_port.proofs.Kept.{IsFor, aborted_for, beside_for, come_for, found_numbered, is_numbered}
 use Rattle.mscp_port.proofs.Said.{Keeps, More, is_first, keeps_same, more, none_or_some, not_of, without_among}
 
@@ -64,21 +64,23 @@ beside_cases true bs x b there = Contains-push_cases bs x b there
 beside_cases false bs x b there = inl there
 
 module _ {K : Type 0} (said : ℕ → Buffer → Type 0) (bytes : List ℕ) (result : Result Unit Unasked) where
-  queued_keeps : (old new : Port K) → IsReadingText old.task
-      → refusal (balance_of First old.controller) (outstanding_of First old.controller) bytes ≡ None
-      → new.controller.waiting ≡ old.controller.waiting ++ fresh_record First (command_of bytes) ∷ []
+  queued_keeps : (old new : Port K) (sent : List ℕ) → IsReadingText old.task → 12 ≤ length bytes
+      → IsLike sent bytes
+      → refusal (balance_of First old.controller) (outstanding_of First old.controller) sent ≡ None
+      → new.controller.waiting ≡ old.controller.waiting ++ fresh_record First (command_of sent) ∷ []
       → new.buffers.items ≡ kept_beside (buffer_in bytes (changes_at old.volumes
       (place_in old.controller.settings.units (num bytes 4 2)))) old.buffers.items
       → Keeps said old → Keeps (More (WasRead bytes result) old said) new
   unfolding command_of
-  queued_keeps old new text taken waiting kept k = λ b there.
+  queued_keeps old new sent text long like taken waiting kept k = λ b there.
       let rs = old.controller.waiting in
       let n = num bytes 0 4 in
-      let r = fresh_record First (command_of bytes) in
+      let r = fresh_record First (command_of sent) in
       let own = buffer_in bytes (changes_at old.volumes (place_in old.controller.settings.units (num bytes 4 2))) in
-      let fits = taken_number (balance_of First old.controller) (outstanding_of First old.controller) bytes taken in
-      let number : own.reference ≡ n = ap (λ t. cond t 0 n) (long_enough bytes fits.0) in
-      let none = none_waits old.controller n fits.1 in
+      let fits = taken_number (balance_of First old.controller) (outstanding_of First old.controller) sent taken in
+      let number : own.reference ≡ n = ap (λ t. cond t 0 n) {y = false} (search (arith, long)) in
+      let none = subst (λ m. list_any (is_numbered m) rs ≡ false) like.0
+      (none_waits old.controller (num sent 0 4) fits.1) in
       let P : ℕ → Type 0 = λ u. More (WasRead bytes result) old said u b in
       subst (λ xs. IsFor P b.reference xs) (sym waiting)
       (elim (beside_cases (nat_lt (length old.buffers.items) 64) old.buffers.items own b
@@ -86,14 +88,21 @@ module _ {K : Type 0} (said : ℕ → Buffer → Type 0) (bytes : List ℕ) (res
         | inl before ↦
             let is = more said (WasRead bytes result) old old k b before in
             beside_for P b.reference rs r (λ mine.
-            let p = and_parts (same_connection First First) (nat_eq n b.reference) mine in
+            let p = and_parts (same_connection First First) (nat_eq (num sent 0 4) b.reference) mine in
             absurd (false≢true (sym none
-            ∙ subst (λ m. list_any (is_numbered m) rs ≡ true) (sym (eqb-true n b.reference p.1)) is.waits))) is
+            ∙ subst (λ m. list_any (is_numbered m) rs ≡ true)
+            (sym (sym like.0 ∙ eqb-true (num sent 0 4) b.reference p.1)) is.waits))) is
         | inr e ↦
             let same : b.reference ≡ n = ap (λ (x : Buffer). x.reference) (sym e) ∙ number in
             come_for P b.reference rs r (subst (λ m. list_any (is_numbered m) rs ≡ false) (sym same) none)
-            (eq-eqb n b.reference (sym same))
-            (inl (record { text = text; reference = sym same; unit = refl; kept = sym e }))
+            (eq-eqb (num sent 0 4) b.reference (like.0 ∙ sym same))
+            (inl (record {
+              text = text;
+              reference = sym same;
+              unit = sym like.1;
+              kept = sym e ∙ ap (λ u. buffer_in bytes
+                  (changes_at old.volumes (place_in old.controller.settings.units u))) (sym like.1);
+            }))
       ])
 
 -- ---- a text was read
@@ -158,13 +167,11 @@ module _ {K : Type 0} (said : ℕ → Buffer → Type 0) (bytes : List ℕ) (res
           let own =
           buffer_in bytes (changes_at old.volumes (place_in old.controller.settings.units (num bytes 4 2))) in
           let aborted = reference_aborted First h.waiting command.order in
-          let same = handed_as_read h.settings h.settings.units bytes e in
-          queued_keeps said bytes result old new (subst (λ t. IsReadingText t) (sym at) tt)
-          (subst (λ b. refusal (balance_of First h) (outstanding_of First h) b ≡ None) same taken_is)
+          queued_keeps said bytes result old new sent (subst (λ t. IsReadingText t) (sym at) tt) sees.long
+          (handed_like h.settings h.settings.units bytes sees.long e) taken_is
           (ap (λ (x : Holdings K). x.waiting) gets
           ∙ ap (λ t. (cond t (queued First h command)
-          (with_end First (aborting First h command.order) (answered_end First h command))).waiting) e
-          ∙ ap (λ b. h.waiting ++ fresh_record First (command_of b) ∷ []) same)
+          (with_end First (aborting First h command.order) (answered_end First h command))).waiting) e)
           (kept ∙ ap (λ t. kept_of_sent (cond t (sents.Queued command.reference)
           (sents.Answered command.reference aborted)) own old.buffers.items) e)
           k

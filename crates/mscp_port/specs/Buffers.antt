@@ -1,9 +1,10 @@
 -- Where the data of a transfer are in host memory (port).
-use Rattle.std.specs.Prelude.{ℕ, ◌+◌, ◌-◌, ◌*◌, ◌≤◌, ◌||◌, ◌++◌, ◌∷◌, [], min, nat_eq, nat_lt, not, Bool, false, List, length, filter, if◌then◌else◌, Option, None, Some}
+use Rattle.std.specs.Prelude.{ℕ, ◌+◌, ◌-◌, ◌*◌, ◌≤◌, ◌||◌, ◌++◌, ◌∷◌, [], min, nat_eq, nat_lt, not, Bool, false, List, length, filter, slice_index, if◌then◌else◌, Option, None, Some}
 use Rattle.mscp_packet.specs.Number.{num}
 use Rattle.mscp_drive.specs.declared.connection.Connection.{Connection}
 use Rattle.mscp_drive.specs.declared.connection.Connection.TheVariants.{First, Second}
 use Rattle.mscp_port.specs.declared.buffers.Buffer.{Buffer}
+use Rattle.mscp_port.specs.Formalities.{is_formality}
 
 -- the number in so many bytes from a place on, or 0 where the message is shorter
 abbrev pub num_or_zero : List ℕ → ℕ → ℕ → ℕ
@@ -15,12 +16,16 @@ four_or_zero b at = num_or_zero b at 4
 abbrev pub two_or_zero : List ℕ → ℕ → ℕ
 two_or_zero b at = num_or_zero b at 2
 
--- what is kept of a message, whose unit's volume had changed so often: its reference number, in bytes 16 to 19 the
--- address of its data and in 12 to 15 how many bytes they have (manual), in 10 and 11 its modifiers, and in 14 and
--- 15 its unit flags
+abbrev pub byte_or_zero : List ℕ → ℕ → ℕ
+byte_or_zero b at = if nat_lt (length b) (at + 1) then 0 else slice_index b at
+
+-- what is kept of a message, whose unit's volume had changed so often: its reference number, in byte 8 its opcode, in
+-- bytes 16 to 19 the address of its data and in 12 to 15 how many bytes they have (manual), in 10 and 11 its modifiers,
+-- and in 14 and 15 its unit flags
 abbrev pub buffer_in : List ℕ → ℕ → Buffer
 buffer_in b changes = record {
   reference = four_or_zero b 0;
+  opcode = byte_or_zero b 8;
   address = four_or_zero b 16;
   count = four_or_zero b 12;
   modifiers = two_or_zero b 10;
@@ -51,10 +56,11 @@ abbrev pub left_of : Buffer → ℕ → ℕ
 left_of b done = min (b.count - done * 512) 512
 
 -- where they are: 512 bytes behind those of the step before. None past the end of the buffer, or where they reach
--- the end of 32 bits
+-- the end of 32 bits, and none of a formality
 abbrev pub part_of : Buffer → ℕ → Option (ℕ × ℕ)
 part_of b done =
-    if nat_lt b.count (done * 512) || nat_lt 0xFFFF_FFFF (b.address + done * 512 + left_of b done) then None
+    if is_formality b.opcode || nat_lt b.count (done * 512)
+    || nat_lt 0xFFFF_FFFF (b.address + done * 512 + left_of b done) then None
     else Some (b.address + done * 512, left_of b done)
 
 -- so many bytes from an address on lie in the buffer

@@ -1,6 +1,6 @@
 -- What an end says that only its port knows: it is decided as its command ends, also where the end leaves much later
 -- (manual, "Status and Event Codes", "Unit Flags").
-use Rattle.std.specs.Prelude.{ℕ, ◌+◌, ◌%◌, ◌==◌, ◌&&◌, ◌||◌, ◌++◌, ◌∷◌, [], not, nat_lt, if◌then◌else◌, List, length, map, drop, Option, None, Some}
+use Rattle.std.specs.Prelude.{ℕ, ◌+◌, ◌%◌, ◌==◌, ◌&&◌, ◌||◌, ◌++◌, ◌∷◌, [], not, nat_lt, if◌then◌else◌, List, length, map, drop, slice_index, Option, None, Some}
 use Rattle.mscp_drive.specs.Both.{of}
 use Rattle.mscp_drive.specs.Shape.{Shape}
 use Rattle.mscp_drive.specs.UnitList.{unit_found}
@@ -16,6 +16,8 @@ use Rattle.mscp_port.specs.declared.port.Port.{Port}
 use Rattle.mscp_port.specs.declared.verdict.Verdict.{Verdict}
 use Rattle.mscp_port.specs.declared.verdict.Verdict.TheVariants as verdicts
 use Rattle.mscp_port.specs.declared.volumes.Volume.{Volume}
+use Rattle.mscp_port.specs.Blocks.{kept_of}
+use Rattle.mscp_port.specs.Formalities.{code_told, ends_formality, formal_status}
 use Rattle.mscp_port.specs.Volumes.{volume_found}
 
 -- ---- a unit
@@ -31,22 +33,29 @@ unit_flags v =
 abbrev pub unit_state : Volume → ℕ
 unit_state v = if not v.is_there then 0x23 else if not v.is_mounted then 4 else 0
 
--- the status that is told of a step which went so, with the endcode and the status of its end, while the unit had this
--- volume: a step that had no volume is Unit-Offline, one that its unit wasn't online for is Unit-Available; a GET UNIT
--- STATUS (0x83) says the unit's state, and the Success of an ONLINE (0x89) whether it found its unit online already
-abbrev pub status_told : Verdict → ℕ → ℕ → Volume → ℕ
-status_told verdicts.NoVolume code status v = 0x23
-status_told verdicts.NotOnline code status v = 4
-status_told (verdicts.Served block) code status v =
+-- the status that is told of a step of a command which is no formality, and which went so, with the endcode and the
+-- status of its end, while the unit had this volume: a step that had no volume is Unit-Offline, one that its unit wasn't
+-- online for is Unit-Available; a GET UNIT STATUS (0x83) says the unit's state, and the Success of an ONLINE (0x89)
+-- whether it found its unit online already
+abbrev pub status_after : Verdict → ℕ → ℕ → Volume → ℕ
+status_after verdicts.NoVolume code status v = 0x23
+status_after verdicts.NotOnline code status v = 4
+status_after (verdicts.Served block) code status v =
     if code == 0x83 && (status == 0 || status == 4) then unit_state v
     else if code == 0x89 && (status == 0 || status == 0x0100) then (if v.is_mounted then 0x0100 else 0)
     else status
 
+-- of an end that is told with this endcode
+abbrev pub status_told : Verdict → ℕ → ℕ → Volume → ℕ
+status_told verdict code status v =
+    if ends_formality code then formal_status status else status_after verdict code status v
+
 -- ---- an end
 
--- with this status, of a unit with this volume: media and size are the unit's if there is none
-abbrev pub unit_decided : ℕ → Shape → Volume → Decided
-unit_decided status unit v = record {
+-- with this endcode and status, of a unit with this volume: media and size are the unit's if there is none
+abbrev pub unit_decided : ℕ → ℕ → Shape → Volume → Decided
+unit_decided code status unit v = record {
+  code = code;
   status = status;
   flags = unit_flags v;
   media = if v.is_there then v.media else unit.media;
@@ -54,51 +63,64 @@ unit_decided status unit v = record {
 }
 
 -- of a SET CONTROLLER CHARACTERISTICS: the host's flags, beside that of a controller which replaces bad blocks
-abbrev pub controller_decided : ℕ → ℕ → Decided
-controller_decided status flags = record { status = status; flags = 0x8000 + flags % 0x8000; media = 0; size = 0 }
+abbrev pub controller_decided : ℕ → ℕ → ℕ → Decided
+controller_decided code status flags = record {
+  code = code;
+  status = status;
+  flags = 0x8000 + flags % 0x8000;
+  media = 0;
+  size = 0;
+}
 
 -- of a command to this unit, or to none that is there
-abbrev pub found_decided : ℕ → Option Shape → Volume → Decided
-found_decided status None v = record { status = status; flags = 0; media = 0; size = 0 }
-found_decided status (Some unit) v = unit_decided status unit v
+abbrev pub found_decided : ℕ → ℕ → Option Shape → Volume → Decided
+found_decided code status None v = record { code = code; status = status; flags = 0; media = 0; size = 0 }
+found_decided code status (Some unit) v = unit_decided code status unit v
 
--- of an end that is told with this status, where the host has set these flags and the end's unit has this volume
-abbrev pub end_decided : ℕ → End → List Shape → ℕ → Volume → Decided
-end_decided status e units flags v =
-    if e.code == 0x84 then controller_decided status flags else found_decided status (unit_found units e.unit) v
+-- of an end that is told with this endcode and status, where the host has set these flags and the end's unit has this
+-- volume
+abbrev pub end_decided : ℕ → ℕ → End → List Shape → ℕ → Volume → Decided
+end_decided code status e units flags v =
+    if e.code == 0x84 then controller_decided code status flags
+    else found_decided code status (unit_found units e.unit) v
 
--- of one that was made as its message came
-abbrev pub answer_decided : List Shape → ℕ → Volume → End → Decided
-answer_decided units flags v e =
-    end_decided (status_told (verdicts.Served blocks.Good) e.code e.status v) e units flags v
+-- of one that was made as a message came
+abbrev pub answer_decided : ℕ → List Shape → ℕ → Volume → End → Decided
+answer_decided code units flags v e =
+    end_decided code (status_told (verdicts.Served blocks.Good) code e.status v) e units flags v
 
 -- ---- the ends that wait
 
 abbrev pub answer_of : {K : Type 0} → Port K → End → Decided
 answer_of p e =
-    answer_decided p.controller.settings.units p.flags (volume_found p.controller.settings.units p.volumes e.unit) e
+    answer_decided (code_told (kept_of First e.reference p.buffers.items) e.code) p.controller.settings.units p.flags
+    (volume_found p.controller.settings.units p.volumes e.unit) e
 
 -- once a message was answered, whose ends are those of which nothing was decided yet
 abbrev pub decided_answers : {K : Type 0} → List Decided → Port K → List Decided
 decided_answers all p = all ++ map (answer_of p) (drop (length all) (of First p.controller.untaken))
 
-abbrev pub decided_after : {K : Type 0} → Sent → List Decided → Port K → List Decided
-decided_after (sents.Queued reference) all p = all
-decided_after (sents.Answered reference aborted) all p = decided_answers all p
+-- what is kept of commands is what was kept before
+abbrev pub decided_after : {K : Type 0} → Sent → Port K → Port K → List Decided
+decided_after (sents.Queued reference) old new = old.decided.items
+decided_after (sents.Answered reference aborted) old new =
+    decided_answers old.decided.items (record new { buffers = old.buffers })
 
 -- one more, behind the others. There is room for 64
 abbrev pub decided_beside : Decided → List Decided → List Decided
 decided_beside d all = if nat_lt (length all) 64 then all ++ d ∷ [] else all
 
--- once a step of a command of a connection went so, which brought this end, and before which its unit had this volume
-abbrev pub decided_step : {K : Type 0} → Connection → Verdict → Volume → End → List Decided → Port K → List Decided
-decided_step First verdict before e all p =
-    decided_beside (end_decided (status_told verdict e.code e.status before) e p.controller.settings.units p.flags
+-- once a step of a command of a connection went so, which brought this end, which is told with this endcode, and before
+-- which its unit had this volume
+abbrev pub decided_step : {K : Type 0} → Connection → Verdict → Volume → ℕ → End → List Decided → Port K
+    → List Decided
+decided_step First verdict before code e all p =
+    decided_beside (end_decided code (status_told verdict code e.status before) e p.controller.settings.units p.flags
     (volume_found p.controller.settings.units p.volumes e.unit)) all
-decided_step Second verdict before e all p = all
+decided_step Second verdict before code e all p = all
 
 -- ---- saved
 
 -- what an end says, in the bytes of that
 abbrev pub decided_in : List ℕ → Decided
-decided_in b = record { status = num b 0 2; flags = num b 2 2; media = num b 4 4; size = num b 8 4 }
+decided_in b = record { status = num b 0 2; flags = num b 2 2; media = num b 4 4; size = num b 8 4; code = slice_index b 12 }

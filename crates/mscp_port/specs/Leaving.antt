@@ -15,6 +15,7 @@ use Rattle.mscp_port.specs.declared.port.OutgoingKind.TheVariants as kinds
 use Rattle.mscp_port.specs.declared.port.Port.{Port}
 use Rattle.mscp_port.specs.declared.volumes.Volume.{Volume}
 use Rattle.mscp_port.specs.Decided.{unit_flags}
+use Rattle.mscp_port.specs.Formalities.{ends_formality}
 use Rattle.mscp_port.specs.Volumes.{volume_at}
 
 -- ---- parts
@@ -75,8 +76,11 @@ end_with_body (bodies.Controller timeout id) e told unit h =
     if told.status == 0 then controller_end e told h timeout id else plain_end e told
 end_with_body body e told unit h = plain_end e told
 
+-- that of a formality has no more than a head
 abbrev pub end_told : End → Decided → Option Shape → Hardware → List ℕ
-end_told e told unit h = end_with_body e.body e told unit h
+end_told e told unit h =
+    if ends_formality told.code then head e.reference e.unit told.code told.status
+    else end_with_body e.body e told unit h
 
 abbrev pub end_left : End → Option Decided → Option Shape → Hardware → List ℕ
 end_left e None unit h = end_bytes e

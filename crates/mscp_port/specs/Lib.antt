@@ -7,6 +7,7 @@ pub mod Codes
 pub mod Decided
 pub mod Departures
 pub mod Fair
+pub mod Formalities
 pub mod Histories
 pub mod Kept
 pub mod Leaving

@@ -1,5 +1,5 @@
 -- A host's messages, as the port sees them.
-use Rattle.std.specs.Prelude.{ℕ, ◌+◌, ◌%◌, ◌==◌, ◌&&◌, ◌||◌, ◌++◌, Bool, nat_le, nat_lt, length, option_map, List, take, drop, find, slice_index, if◌then◌else◌, Option, None, Some}
+use Rattle.std.specs.Prelude.{ℕ, ◌+◌, ◌%◌, ◌==◌, ◌&&◌, ◌||◌, ◌++◌, Bool, nat_le, nat_lt, length, option_map, List, take, drop, find, slice_index, if◌then◌else◌, Option, None, Some, is_none}
 use Rattle.byteorder.specs.Endian.{little_bytes}
 use Rattle.mscp_drive.specs.Shape.{Shape}
 use Rattle.mscp_packet.specs.Number.{num}
@@ -8,11 +8,8 @@ use Rattle.mscp_packet.specs.declared.end.EndBody.TheVariants.{Bare, Moved}
 use Rattle.mscp_drive.specs.Extent.{blocks}
 use Rattle.mscp_port.specs.declared.port.Port.{Port}
 use Rattle.mscp_port.specs.declared.volumes.Volume.{Volume}
+use Rattle.mscp_port.specs.Formalities.{is_formality, stand_in}
 use Rattle.mscp_port.specs.Volumes.{place_in, volume_at}
-
--- DETERMINE ACCESS PATHS, COMPARE CONTROLLER DATA and FLUSH succeed at once (manual)
-abbrev pub is_own_opcode : ℕ → Bool
-is_own_opcode opcode = opcode == 11 || opcode == 17 || opcode == 19
 
 -- the end of a message with this code and status
 abbrev pub bare_end : List ℕ → ℕ → ℕ → End
@@ -44,11 +41,12 @@ abbrev pub refused_end : List ℕ → ℕ → End
 refused_end b status = record (bare_end b (slice_index b 8 + 0x80) status) { body = Moved 0 }
 
 -- the end of a message to a unit with this volume that the port answers itself, if it does: one for a connection that
--- isn't there has an unknown opcode, those opcodes have Success, and transfers past their volume are refused
+-- isn't there has an unknown opcode, a formality of a unit that isn't there has Success, and transfers past their
+-- volume are refused
 abbrev pub own_end : Bool → Option Volume → List ℕ → Option End
 own_end foreign v b =
     if foreign then Some (bare_end b 0x80 0x0801)
-    else if is_own_opcode (slice_index b 8) then Some (bare_end b (slice_index b 8 + 0x80) 0)
+    else if is_none v && is_formality (slice_index b 8) then Some (bare_end b (slice_index b 8 + 0x80) 0)
     else option_map (refused_end b) (volume_refusal v b)
 
 -- the volume of the unit of a number, if there is such a unit
@@ -70,7 +68,11 @@ next_unit units n = number_or_zero (find (λ unit. nat_le n unit.number) units)
 abbrev pub asks_for_next : List ℕ → Bool
 asks_for_next b = slice_index b 8 == 3 && num b 10 2 % 2 == 1
 
--- what the controller gets of a message: each byte of it, but that one which asks for the next unit names that
-abbrev pub handed : List Shape → List ℕ → List ℕ
-handed units b =
+-- one which asks for the next unit names that
+abbrev pub next_named : List Shape → List ℕ → List ℕ
+next_named units b =
     if asks_for_next b then take 4 b ++ little_bytes 2 (next_unit units (num b 4 2)) ++ drop 6 b else b
+
+-- what the controller gets of a message: each byte of it but for that, and the stand-in of a formality
+abbrev pub handed : List Shape → List ℕ → List ℕ
+handed units b = if is_formality (slice_index b 8) then stand_in b else next_named units b

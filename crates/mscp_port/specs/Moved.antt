@@ -27,6 +27,7 @@ use Rattle.mscp_port.specs.declared.volumes.Volume.{Volume}
 use Rattle.mscp_port.specs.Blocks.{block_of, block_told, faulted, kept_of, move_of, part_with, task_of}
 use Rattle.mscp_port.specs.Buffers.{without}
 use Rattle.mscp_port.specs.Decided.{decided_step}
+use Rattle.mscp_port.specs.Formalities.{code_told}
 use Rattle.mscp_port.specs.Volumes.{MayMove, place_in, volume_at, volume_found, volumes_heeded}
 
 -- ---- which step is taken
@@ -132,7 +133,8 @@ volumes_after units buffers via (Some e) volumes =
 abbrev pub decided_ended : {K : Type 0} → Connection → Verdict → Option End → Port K → Port K → List Decided
 decided_ended via verdict None old new = old.decided.items
 decided_ended via verdict (Some e) old new =
-    decided_step via verdict (volume_found old.controller.settings.units old.volumes e.unit) e old.decided.items new
+    decided_step via verdict (volume_found old.controller.settings.units old.volumes e.unit)
+    (code_told (kept_of via e.reference old.buffers.items) e.code) e old.decided.items new
 
 -- the controller has taken a step of a command of a connection that went so, which brought this end, if it brought one:
 -- nothing is in hand, a poll may be heard again, and the end is heeded, and what it says is decided

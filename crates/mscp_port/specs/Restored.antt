@@ -84,6 +84,7 @@ buffer_in b = record {
   modifiers = num b 12 2;
   flags = num b 14 2;
   changes = num b 16 4;
+  opcode = slice_index b 20;
 }
 
 -- ---- where the parts are

@@ -27,10 +27,10 @@ abbrev pub volume_size : ℕ
 volume_size = 18
 
 abbrev pub buffer_size : ℕ
-buffer_size = 20
+buffer_size = 21
 
 abbrev pub decided_size : ℕ
-decided_size = 12
+decided_size = 13
 
 -- the head and the 16 volumes
 abbrev pub front_size : ℕ
@@ -129,11 +129,13 @@ buffer_bytes b =
     ++ little_bytes 2 b.modifiers
     ++ little_bytes 2 b.flags
     ++ little_bytes 4 b.changes
+    ++ (b.opcode ∷ [])
 
 -- what an end says that waits
 abbrev pub decided_bytes : Decided → List ℕ
 decided_bytes d =
     little_bytes 2 d.status ++ little_bytes 2 d.flags ++ little_bytes 4 d.media ++ little_bytes 4 d.size
+    ++ (d.code ∷ [])
 
 -- ---- all
 

@@ -1,5 +1,5 @@
 -- What follows what was read in host memory (port: UQSSP, "Ring Entries", "Envelope Header").
-use Rattle.std.specs.Prelude.{◌≡◌, ◌≢◌, ℕ, ◌/◌, ◌%◌, ◌==◌, ◌&&◌, ◌||◌, not, Bool, true, false, nat_lt, slice_index, if◌then◌else◌, List, length, MatchOption, Result, Option, None, Some, Ok, Err}
+use Rattle.std.specs.Prelude.{◌≡◌, ◌≢◌, ◌≤◌, ℕ, ◌/◌, ◌%◌, ◌==◌, ◌&&◌, ◌||◌, not, Bool, true, false, nat_lt, slice_index, if◌then◌else◌, List, length, MatchOption, Result, Option, None, Some, Ok, Err}
 use Rattle.mscp_packet.specs.Number.{num}
 use Rattle.mscp_drive.specs.declared.connection.Connection.TheVariants.{First}
 use Rattle.mscp_controller.specs.Holdings.{answer_to_message}
@@ -124,13 +124,15 @@ pub record Sends {K : Type 0} (slot : Descriptor) (s : Sent) (bytes : List ℕ) 
     buffers = new.buffers;
     decided = new.decided;
   }
-  pub decided : new.decided.items ≡ decided_after s old.decided.items new
+  pub decided : new.decided.items ≡ decided_after s old new
   pub kept : new.buffers.items ≡ kept_of_sent s
       (buffer_in bytes (changes_at old.volumes (place_in old.controller.settings.units (num bytes 4 2))))
       old.buffers.items
 
 -- the text of a command was read
 pub record SeesText {K : Type 0} (slot : Descriptor) (foreign : Bool) (bytes : List ℕ) (old new : Port K) : Type 0 where
+  -- no text has fewer bytes
+  pub long : 12 ≤ length bytes
   -- the port answers it itself, if nothing goes out yet: else it stays in its slot
   pub own : own_end_of old foreign bytes ≢ None → old.outgoing ≡ None
       → (new ≡ record (heard old) { outgoing = new.outgoing; task = tasks.Return Commands slot })

@@ -3,8 +3,9 @@
 ghost use Rattle.std.specs.Prelude.{◌≡◌, ◌<◌, ◌⊎◌, true, Contains, IfSome};
 ghost use Rattle.mscp_port.specs.Common.{position, kept_of, IsInBuffer, is_of, kept_beside, part_of, without, without_aborted};
 ghost use Rattle.mscp_port.specs.declared.buffers.Buffer.{Buffer as Kept};
-ghost use Rattle.mscp_port.specs.Buffers.{buffer_in, four_or_zero as four_of, two_or_zero as two_of};
+ghost use Rattle.mscp_port.specs.Buffers.{buffer_in, byte_or_zero as byte_of, four_or_zero as four_of, two_or_zero as two_of};
 
+use crate::formality::is_formality;
 use arrayvec::ArrayVec;
 use mscp_packet::fields::{four_at, two_at};
 use mscp_queue::Connection;
@@ -13,6 +14,7 @@ use mscp_queue::Connection;
 #[derive(Clone, Copy, Default)]
 pub(crate) struct Buffer {
     pub reference: u32,
+    pub opcode: u8,
     /// Where a transfer's data are in host memory, and how many bytes they have.
     pub address: u32,
     pub count: u32,
@@ -45,6 +47,17 @@ fn two_or_zero(message: &[u8], at: usize) -> u16
     two_at(message, at)
 }
 
+/// The byte at a place, or 0 where the message is shorter.
+fn byte_or_zero(message: &[u8], at: usize) -> u8
+    requires { at < 64 }
+    ensures { result ≡ byte_of message.now at }
+{
+    if message.len() < at + 1 {
+        return 0;
+    }
+    message[at]
+}
+
 impl Buffer {
     /// What is kept of a message, whose unit's volume had changed so often.
     pub fn of(message: &[u8], changes: u32) -> Buffer
@@ -52,6 +65,7 @@ impl Buffer {
     {
         Buffer {
             reference: four_or_zero(message, 0),
+            opcode: byte_or_zero(message, 8),
             address: four_or_zero(message, 16),
             count: four_or_zero(message, 12),
             modifiers: two_or_zero(message, 10),
@@ -71,7 +85,7 @@ impl Buffer {
     }
 
     /// Where the data of the step that comes after so many others are in host memory, and how many bytes they have. None
-    /// past the end of the buffer, or where they reach the end of 32 bits.
+    /// past the end of the buffer, or where they reach the end of 32 bits. A formality has no data.
     pub fn part(&self, done: u32) -> Option<(u32, u32)>
         ensures value { result ≡ part_of self.now done }
         ensures inside { IfSome result (λ part. IsInBuffer self.now part.0 part.1) }
@@ -79,7 +93,10 @@ impl Buffer {
         let before = u64::from(done) * 512;
         let address = u64::from(self.address) + before;
         let count = u64::from(self.count).saturating_sub(before).min(512);
-        if before > u64::from(self.count) || address + count > 0xFFFF_FFFF {
+        if is_formality(self.opcode)
+            || before > u64::from(self.count)
+            || address + count > 0xFFFF_FFFF
+        {
             return None;
         }
         Some((address as u32, count as u32))

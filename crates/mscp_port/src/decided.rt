@@ -4,6 +4,7 @@
 ghost use Rattle.std.specs.Prelude.{◌≡◌, length};
 ghost use Rattle.mscp_port.specs.Decided.{controller_decided, decided_in, end_decided, status_told as told, unit_decided, unit_flags as flags_of};
 
+use crate::formality::{ends_formality, formal_status};
 use crate::verdict::Verdict;
 use crate::volumes::Volume;
 use mscp_drive::{Unit, Units};
@@ -28,6 +29,7 @@ const REMOVABLE: u16 = 0x0080;
 /// What an end says beside what the controller says.
 #[derive(Clone, Copy, Default)]
 pub(crate) struct Decided {
+    pub code: u8,
     pub status: u16,
     /// The flags of its unit, or of the controller.
     pub flags: u16,
@@ -36,11 +38,14 @@ pub(crate) struct Decided {
     pub size: u32,
 }
 
-/// The status of an end with this endcode, which the controller gave this status, whose step went so, if it had one, and whose
-/// unit had this volume then.
+/// The status of an end that is told with this endcode, which the controller gave this status, whose step went so, if it had
+/// one, and whose unit had this volume then.
 pub(crate) fn status_told(verdict: Verdict, code: u8, status: u16, volume: &Volume) -> u16
     ensures { result ≡ told verdict code status volume.now }
 {
+    if ends_formality(code) {
+        return formal_status(status);
+    }
     match (verdict, code, status) {
         (Verdict::NoVolume, ..) => NO_VOLUME,
         (Verdict::NotOnline, ..) => UNIT_AVAILABLE,
@@ -69,8 +74,8 @@ pub(crate) fn unit_flags(volume: &Volume) -> u16
 
 impl Decided {
     /// Of the end of a command to this unit, whose volume is this.
-    fn of_unit(status: u16, unit: &Unit, volume: &Volume) -> Decided
-        ensures { result ≡ unit_decided status unit.now volume.now }
+    fn of_unit(code: u8, status: u16, unit: &Unit, volume: &Volume) -> Decided
+        ensures { result ≡ unit_decided code status unit.now volume.now }
     {
         let (media, size) = if volume.is_there {
             (volume.media, volume.size)
@@ -78,6 +83,7 @@ impl Decided {
             (unit.media(), unit.size())
         };
         Decided {
+            code,
             status,
             flags: unit_flags(volume),
             media,
@@ -86,10 +92,11 @@ impl Decided {
     }
 
     /// Of the end of a SET CONTROLLER CHARACTERISTICS: the host's flags beside the controller's own.
-    fn of_controller(status: u16, flags: u16) -> Decided
-        ensures { result ≡ controller_decided status flags }
+    fn of_controller(code: u8, status: u16, flags: u16) -> Decided
+        ensures { result ≡ controller_decided code status flags }
     {
         Decided {
+            code,
             status,
             flags: REPLACES + flags % REPLACES,
             media: 0,
@@ -97,15 +104,23 @@ impl Decided {
         }
     }
 
-    /// Of an end which is told with this status, where the host has set these flags of its controller, and the end's unit has this
-    /// volume.
-    pub fn of_end(status: u16, end: &End, units: &Units, flags: u16, volume: &Volume) -> Decided
-        ensures { result ≡ end_decided status end.now units.now flags volume.now }
+    /// Of an end which is told with this endcode and status, where the host has set these flags of its controller, and the end's
+    /// unit has this volume.
+    pub fn of_end(
+        code: u8,
+        status: u16,
+        end: &End,
+        units: &Units,
+        flags: u16,
+        volume: &Volume,
+    ) -> Decided
+        ensures { result ≡ end_decided code status end.now units.now flags volume.now }
     {
         match (end.code, units.find(end.unit)) {
-            (0x84, _) => Decided::of_controller(status, flags),
-            (_, Some(unit)) => Decided::of_unit(status, unit, volume),
+            (0x84, _) => Decided::of_controller(code, status, flags),
+            (_, Some(unit)) => Decided::of_unit(code, status, unit, volume),
             (_, None) => Decided {
+                code,
                 status,
                 ..Decided::default()
             },
@@ -114,7 +129,7 @@ impl Decided {
 
     /// What such an end says, in the bytes of that.
     pub fn read(b: &[u8]) -> Decided
-        requires { length b.now ≡ 12 }
+        requires { length b.now ≡ 13 }
         ensures { result ≡ decided_in b.now }
     {
         Decided {
@@ -122,6 +137,7 @@ impl Decided {
             flags: two_at(b, 2),
             media: four_at(b, 4),
             size: four_at(b, 8),
+            code: b[12],
         }
     }
 }

@@ -5,6 +5,7 @@ ghost use Rattle.mscp_port.specs.Common.{array_vec_len, option_copied};
 ghost use Rattle.mscp_port.specs.Leaving.{attention as attention_of, controller_end, end_told, head, online_end, shadow_part, tells_unit as has_unit, unit_part, unit_status_end};
 
 use crate::decided::{Decided, unit_flags};
+use crate::formality::ends_formality;
 use crate::hardware::Hardware;
 use crate::volumes::Volume;
 use arrayvec::ArrayVec;
@@ -113,6 +114,9 @@ pub(crate) fn end_told(
 ) -> ArrayVec<u8, 48>
     ensures { result.items ≡ end_told end.now told.now (option_copied unit.entry) hardware.now }
 {
+    if ends_formality(told.code) {
+        return head(end.reference, end.unit, told.code, told.status);
+    }
     match (end.body, unit) {
         (EndBody::Online { .. }, Some(unit)) if tells_unit(told.status) => {
             online_end(end, told, unit)

@@ -6,6 +6,7 @@ mod action;
 mod buffers;
 mod codes;
 mod decided;
+mod formality;
 mod hardware;
 mod law;
 mod leaving;

@@ -4,19 +4,13 @@ ghost use Rattle.std.specs.Prelude.{◌≡◌, ◌≤◌, true, find, length, na
 ghost use Rattle.mscp_port.specs.Common.{option_copied, bare_end, handed, next_unit};
 ghost use Rattle.mscp_port.specs.Messages.{own_end as end_of_own, is_transfer, past_volume, refused_end, volume_refusal};
 
+use crate::formality::{is_formality, stand_in};
 use crate::volumes::Volume;
 use arrayvec::ArrayVec;
 use mscp_drive::{INVALID_BLOCK, INVALID_BYTE_COUNT, Unit, Units};
 use mscp_packet::fields::{four_at, put, put_two, two_at};
 use mscp_packet::status::{INVALID_OPCODE, SUCCESS};
 use mscp_packet::{End, EndBody};
-
-/// The opcodes of commands that end at once, with Success: DETERMINE ACCESS PATHS, COMPARE CONTROLLER DATA, and FLUSH.
-const DETERMINE_ACCESS_PATHS: u8 = 11;
-
-const COMPARE_CONTROLLER_DATA: u8 = 17;
-
-const FLUSH: u8 = 19;
 
 /// The bytes of a block.
 const BLOCK_BYTES: u32 = 512;
@@ -32,7 +26,7 @@ pub(crate) const SET_CONTROLLER: u8 = 4;
 const NEXT_UNIT: u16 = 0x0001;
 
 /// The end of a message to a unit with this volume that the port answers itself, if it does: one for a connection that isn't
-/// there, one that succeeds at once, or a transfer past the end of the volume.
+/// there, a formality of a unit that isn't there, or a transfer past the end of the volume.
 pub(crate) fn own_end(message: &[u8], is_foreign: bool, volume: Option<Volume>) -> Option<End>
     requires { 12 ≤ length message.now }
     ensures { result ≡ end_of_own is_foreign volume message.now }
@@ -40,12 +34,10 @@ pub(crate) fn own_end(message: &[u8], is_foreign: bool, volume: Option<Volume>) 
     if is_foreign {
         return Some(bare_end(message, 0x80, INVALID_OPCODE));
     }
-    match message[8] {
-        opcode @ (DETERMINE_ACCESS_PATHS | COMPARE_CONTROLLER_DATA | FLUSH) => {
-            Some(bare_end(message, opcode + 0x80, SUCCESS))
-        }
-        _ => Some(refused_end(message, refusal(message, volume)?)),
+    if volume.is_none() && is_formality(message[8]) {
+        return Some(bare_end(message, message[8] + 0x80, SUCCESS));
     }
+    Some(refused_end(message, refusal(message, volume)?))
 }
 
 /// Whether it is a transfer that has all its fields: ACCESS, ERASE, COMPARE HOST DATA, READ or WRITE.
@@ -125,13 +117,16 @@ fn next_unit(units: &Units, number: u16) -> u16
     }
 }
 
-/// The message that the controller gets: just this one, but that a GET UNIT STATUS which asks for the next unit gets its
-/// number.
+/// The message that the controller gets: just this one, but that a formality has its stand-in, and a GET UNIT STATUS which asks
+/// for the next unit gets its number.
 pub(crate) fn message_for_controller(message: &[u8], units: &Units) -> ArrayVec<u8, 64>
     requires short { 12 ≤ length message.now }
     requires long { length message.now ≤ 64 }
     ensures { result.items ≡ handed units.now message.now }
 {
+    if is_formality(message[8]) {
+        return stand_in(message);
+    }
     let mut bytes = ArrayVec::new();
     if message[8] == GET_UNIT_STATUS && two_at(message, 10) % 2 == NEXT_UNIT {
         put(&mut bytes, &message[..4]);

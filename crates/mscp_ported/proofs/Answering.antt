@@ -1,6 +1,6 @@
 -- What a port answers itself.
 use Rattle.std.proofs.Common.{◌≡◌, ◌∙◌, ◌+◌, ◌/◌, ◌≤◌, ◌++◌, ◌∷◌, [], drop, find, length, nat_le, nat_lt, take, ℕ, Bool, true, false, cond, List, Option, None, Some, IsSomeAnd, inl, inr, refl, ap, sym, subst, arith}
-use Rattle.std.specs.Prelude.{◌==◌, Ok, option_map, slice_index}
+use Rattle.std.specs.Prelude.{◌==◌, ◌&&◌, Ok, is_none, option_map, slice_index}
 use Rattle.byteorder.specs.Endian.{little_bytes}
 use Rattle.std.proofs.lemmas.List.{append-nil}
 use Rattle.mscp_packet.specs.Number.{num}
@@ -27,10 +27,10 @@ use Rattle.mscp_port.specs.declared.task.Task.TheVariants as tasks
 use Rattle.mscp_port.specs.declared.volumes.Volume.{Volume}
 use Rattle.mscp_port.specs.Calls.{IsMadeOf}
 use Rattle.mscp_port.specs.Histories.{Answered, Call, Picking, WasRead}
-use Rattle.mscp_port.specs.Messages.{bare_end, handed, is_own_opcode, number_or_zero, own_end, own_end_of, refused_end, volume_refusal}
+use Rattle.mscp_port.specs.Messages.{bare_end, handed, number_or_zero, own_end, own_end_of, refused_end, volume_refusal}
 use Rattle.mscp_port.specs.Packets.{end_kind}
 use Rattle.mscp_ported.specs.Ends.{come}
-use Rattle.mscp_ported.specs.Answers.{IsHandedOver, IsOwnAnswer, Own, asks_next, is_for_utilities, kind_answered, number_in, own_answer, own_refusal, own_text, text_handed, volume_named}
+use Rattle.mscp_ported.specs.Answers.{IsHandedOver, IsOwnAnswer, Own, access_of_nothing, asks_next, asks_nothing, is_for_utilities, kind_answered, number_in, own_answer, own_refusal, own_text, text_handed, volume_named}
 use Rattle.mscp_ported.specs.Polls.{poll_brings, poll_end, polls_bring}
 use Rattle.mscp_ported.specs.Talk.{AsksAlways, Opened, Slot, Turn, talk_of}
 use Rattle.mscp_ported.proofs.Coming.{come_so, ends_of}
@@ -50,7 +50,7 @@ own_so true v b e some = (
   refl,
   ap end_bytes (sym (same_Some (bare_end b 0x80 0x0801) e some)),
 )
-own_so false v b e some = by (is_own_opcode (slice_index b 8)) some
+own_so false v b e some = by (is_none v && asks_nothing (slice_index b 8)) some
   where
     refused : (o : Option ℕ) → option_map (refused_end b) o ≡ Some e
         → (own : Own) × (option_map (λ status. record {
@@ -89,7 +89,7 @@ pub none_so : (foreign : Bool) (v : Option Volume) (b : List ℕ) → own_end fo
     → own_answer foreign v b ≡ None
 unfolding refusing
 none_so true v b e = absurd (none-some (bare_end b 0x80 0x0801) (sym e))
-none_so false v b e = by (is_own_opcode (slice_index b 8)) e
+none_so false v b e = by (is_none v && asks_nothing (slice_index b 8)) e
   where
     refused : (o : Option ℕ) → option_map (refused_end b) o ≡ None → option_map (refusing b) o ≡ None
     refused None h = refl
@@ -104,7 +104,8 @@ none_so false v b e = by (is_own_opcode (slice_index b 8)) e
 
 -- the text that is handed over is that of the table
 pub handed_so : (units : List Shape) (b : List ℕ) → handed units b ≡ text_handed units b
-handed_so units b = by (asks_next b) (find (λ unit. nat_le (num b 4 2) unit.number) units)
+handed_so units b = ap (λ xs. cond (asks_nothing (slice_index b 8)) (access_of_nothing b) xs)
+    (by (asks_next b) (find (λ unit. nat_le (num b 4 2) unit.number) units))
   where
     by : (c : Bool) (o : Option Shape)
         → cond c (take 4 b ++ little_bytes 2 (number_or_zero o) ++ drop 6 b) b

@@ -26,7 +26,6 @@ use Rattle.mscp_port.specs.declared.task.Task.TheVariants as tasks
 use Rattle.mscp_port.specs.declared.verdict.Verdict.{Verdict}
 use Rattle.mscp_port.specs.Calls.{Dies, Hears, IsMadeOf}
 use Rattle.mscp_port.specs.Histories.{Answered, Call, Picking, WriteIp, Next, WasRead, Went}
-use Rattle.mscp_port.specs.Decided.{answer_of}
 use Rattle.mscp_port.specs.Moved.{TakesBegun, TakesBlock, block_begun, block_served}
 use Rattle.mscp_port.specs.Ports.{IsAlive, IsAsNew, IsReadingText, read_size}
 use Rattle.mscp_port.specs.Seen.{header_fault}
@@ -36,10 +35,10 @@ use Rattle.mscp_ported.specs.Making.{step_told}
 use Rattle.mscp_ported.specs.Talk.{is_dead, since}
 use Rattle.mscp_ported.proofs.Coming.{ends_of, few_ends}
 use Rattle.mscp_ported.proofs.Ending.{Ends, Grows, grows, left_with, none_come, none_left, stays, zip_ends, zipped}
-use Rattle.mscp_ported.proofs.Leaving.{decided_by, goes_out, step_grows, text_grows}
+use Rattle.mscp_ported.proofs.Leaving.{goes_out, step_grows, text_grows}
 use Rattle.mscp_ported.proofs.Promised.{Knows, knows}
 use Rattle.mscp_ported.proofs.Staying.{IsPassive, Stays, passive_stays, went_stays}
-use Rattle.mscp_ported.proofs.Tables.{answer_so, step_fields, verdict_so}
+use Rattle.mscp_ported.proofs.Tables.{answer_by, answer_so, decided_by, step_fields, verdict_so}
 use Rattle.mscp_ported.proofs.Wanting.{alive_or_dead}
 
 -- a call is no write of IP
@@ -123,7 +122,7 @@ module _ {K : Type 0} (h : Hardware) (units : List Shape) (call : Call) (old new
 -- ---- what was read
 
 -- a slot, the slot in front, or a header
-read_stays : {K : Type 0} (bytes : List ℕ) (done : Unit) (old new : Port K) → Hears bytes old (Ok done) new
+pub read_stays : {K : Type 0} (bytes : List ℕ) (done : Unit) (old new : Port K) → Hears bytes old (Ok done) new
     → (IsReadingText old.task → ⊥) → Stays old new
 read_stays {K} bytes done old new r other = by old.task refl
   where
@@ -255,10 +254,10 @@ module _ {K : Type 0} (picks : Picking K) (c : Settings) (picker : K)
 
       others : (IsReadingText a.0.task → ⊥) → Kept p (WasRead bytes (Ok done) ∷ calls) a
       others other = elim (read_stays bytes done a.0 p a.2 other) [
-        | inl same ↦ grows_so hardware c.units (WasRead bytes (Ok done)) a.0 p xs ys k calm (answer_of p)
-            (answer_left p)
-            (none_come a.0 p (answer_of p) (ap (λ h. ends_of h) same.0) (ap (λ d. d.items) same.1))
-            (λ e. ap (λ f. record { end = e; fields = f }) (answer_so p e)) (still same.3) refl refl same.2
+        | inl same ↦ grows_so hardware c.units (WasRead bytes (Ok done)) a.0 p xs ys k calm (answer_by a.0 p)
+            (answer_left a.0 p)
+            (none_come a.0 p (answer_by a.0 p) (ap (λ h. ends_of h) same.0) (ap (λ d. d.items) same.1))
+            (λ e. ap (λ f. record { end = e; fields = f }) (answer_so a.0 p e)) (still same.3) refl refl same.2
         | inr d ↦ dies_so hardware c.units (WasRead bytes (Ok done)) a.0 p xs ys k calm d
       ]
         where
@@ -271,9 +270,10 @@ module _ {K : Type 0} (picks : Picking K) (c : Settings) (picker : K)
 
       by : (task : Task) → a.0.task ≡ task → Kept p (WasRead bytes (Ok done) ∷ calls) a
       by (tasks.Text slot size foreign) at = elim a.2.frame [
-        | inl e ↦ grows_so hardware c.units (WasRead bytes (Ok done)) a.0 p xs ys k calm (answer_of p) (answer_left p)
+        | inl e ↦ grows_so hardware c.units (WasRead bytes (Ok done)) a.0 p xs ys k calm (answer_by a.0 p)
+            (answer_left a.0 p)
             (text_grows slot size foreign bytes done a.0 p at a.2 k.ends.long)
-            (λ e. ap (λ f. record { end = e; fields = f }) (answer_so p e))
+            (λ e. ap (λ f. record { end = e; fields = f }) (answer_so a.0 p e))
             (ap is_dead (ap (λ (q : Port K). q.stage) e) ∙ lives) refl refl (ap (λ (q : Port K). q.hardware) e)
         | inr d ↦ dies_so hardware c.units (WasRead bytes (Ok done)) a.0 p xs ys k calm d
       ]

@@ -106,9 +106,9 @@ module _ {K : Type 0} (picks : Picking K) (start p : Port K) (calls : List Call)
       → (ended : Option End) → ended ≡ end_given (block_told verdict)
       (drive_at a.0.controller.drives a.0.controller.waiting place) (record_at a.0.controller.waiting place)
       → p.buffers.items ≡ kept_after name.connection ended a.0.buffers.items → After
-  served name begun verdict how place inside named waiting ended told kept = λ b there.
+  served name begun verdict how place inside named waiting ended told kept = λ b there asks.
       let left = subst (λ bs. Contains bs b) kept there in
-      let o = owned b (among_after name.connection ended a.0.buffers.items b left) in
+      let o = owned b (among_after name.connection ended a.0.buffers.items b left) asks in
       by b left o.0 o.1 o.2 (is_numbered b.reference r0) refl
     where
       rs : List Record

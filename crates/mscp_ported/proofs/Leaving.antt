@@ -21,19 +21,17 @@ use Rattle.mscp_port.specs.declared.task.Task.TheVariants as tasks
 use Rattle.mscp_port.specs.declared.verdict.Verdict.{Verdict}
 use Rattle.mscp_port.specs.Blocks.{block_told}
 use Rattle.mscp_port.specs.Calls.{Hears}
-use Rattle.mscp_port.specs.Decided.{answer_of, end_decided, status_told}
 use Rattle.mscp_port.specs.Leaving.{end_left, end_told, told_end}
 use Rattle.mscp_port.specs.Messages.{handed, own_end_of}
 use Rattle.mscp_port.specs.Moved.{TakesBegun, TakesBlock, decided_ended, end_brought}
 use Rattle.mscp_port.specs.Outgoings.{IsNews, MayBegin, Says, news_place}
 use Rattle.mscp_port.specs.Seen.{SeesText, answered_to}
-use Rattle.mscp_port.specs.Volumes.{volume_found}
 use Rattle.mscp_port.proofs.Loads.{looks_or_not}
 use Rattle.mscp_ported.specs.Ends.{Leaving, end_text, ends_begun}
 use Rattle.mscp_ported.specs.Talk.{is_dead}
 use Rattle.mscp_ported.proofs.Coming.{brings, brought_for, ends_of, steps_bring}
 use Rattle.mscp_ported.proofs.Ending.{Ends, Grows, left_with, none_come, zipped}
-use Rattle.mscp_ported.proofs.Tables.{text_so}
+use Rattle.mscp_ported.proofs.Tables.{answer_by, decided_by, text_so}
 
 -- ---- a message
 
@@ -42,10 +40,10 @@ module _ {K : Type 0} (slot : Descriptor) (size : ℕ) (foreign : Bool) (bytes :
     (at : old.task ≡ tasks.Text slot size foreign) (r : Hears bytes old (Ok done) new)
     (long : length (ends_of old.controller) ≡ length old.decided.items) where
   abbrev Grown : Type 0
-  Grown = Grows old new (answer_of new)
+  Grown = Grows old new (answer_by old new)
 
   same_so : new.controller ≡ old.controller → new.decided ≡ old.decided → Grown
-  same_so controller decided = none_come old new (answer_of new) (ap (λ h. ends_of h) controller)
+  same_so controller decided = none_come old new (answer_by old new) (ap (λ h. ends_of h) controller)
       (ap (λ d. d.items) decided)
 
   sees : SeesText slot foreign bytes old new
@@ -59,7 +57,7 @@ module _ {K : Type 0} (slot : Descriptor) (size : ℕ) (foreign : Bool) (bytes :
   sent_so none (Ok (sents.Queued reference)) ok =
       let s = sees.sent (sents.Queued reference) none ok in
       let b = brings old.controller (handed old.controller.settings.units bytes) in
-      none_come old new (answer_of new)
+      none_come old new (answer_by old new)
       (ap (λ h. ends_of h) (r.handed slot size foreign at refl none) ∙ b.queued reference ok) s.decided
   sent_so none (Ok (sents.Answered reference aborted)) ok =
       let s = sees.sent (sents.Answered reference aborted) none ok in
@@ -69,7 +67,7 @@ module _ {K : Type 0} (slot : Descriptor) (size : ℕ) (foreign : Bool) (bytes :
       record {
         brought = b.ends;
         ends = ends;
-        decided = s.decided ∙ ap (λ xs. old.decided.items ++ map (answer_of new) xs)
+        decided = s.decided ∙ ap (λ xs. old.decided.items ++ map (answer_by old new) xs)
             (ap (λ n. drop n (ends_of new.controller)) (sym long) ∙ ap (drop (length (ends_of old.controller))) ends
             ∙ drop-append_seam (ends_of old.controller) b.ends);
       }
@@ -95,12 +93,6 @@ module _ {K : Type 0} (slot : Descriptor) (size : ℕ) (foreign : Bool) (bytes :
       by (Some e) some = out_or e some old.outgoing refl
 
 -- ---- a step
-
--- of the end of a step that went so
-abbrev pub decided_by : {K : Type 0} → Verdict → Port K → Port K → End → Decided
-decided_by verdict old new e =
-    end_decided (status_told verdict e.code e.status (volume_found old.controller.settings.units old.volumes e.unit)) e
-    new.controller.settings.units new.flags (volume_found new.controller.settings.units new.volumes e.unit)
 
 over : (n m k : ℕ) → nat_lt n 64 ≡ false → m ≡ n → k ≡ m + 1 → k ≤ 64 → ⊥
 over n m k e f g few = search (arith, e, f, g)

@@ -17,6 +17,7 @@ pub mod Beginning
 pub mod Made
 pub mod Promised
 pub mod Moving
+pub mod Parts
 pub mod Moved
 pub mod Tables
 pub mod Coming
@@ -40,3 +41,4 @@ pub mod Transferring
 pub mod Keeping
 pub mod Standing
 pub mod Tallying
+pub mod Aborted

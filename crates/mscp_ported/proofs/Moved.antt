@@ -1,5 +1,5 @@
 -- A block of which the controller is told that it went well was moved at its place.
-use Rattle.std.proofs.Common.{◌<◌, ◌≡◌, ◌≢◌, ◌⊎◌, ◌∙◌, ◌+◌, ◌-◌, ◌*◌, ◌≤◌, ◌||◌, ◌&&◌, ◌∷◌, [], ℕ, All, Bool, true, false, cond, min, nat_eq, nat_lt, List, Option, None, Some, IfSome, inl, inr, refl, ap, sym, subst, arith}
+use Rattle.std.proofs.Common.{◌<◌, ◌≡◌, ◌≢◌, ◌⊎◌, ◌∙◌, ◌+◌, ◌*◌, ◌≤◌, ◌&&◌, ◌∷◌, [], ℕ, All, Bool, true, false, cond, nat_eq, List, Option, None, Some, IfSome, inl, inr, refl, ap, sym, subst, arith}
 use Rattle.std.specs.Prelude.{Result, Ok, Err, find, option_map}
 use Rattle.std.specs.List.{position}
 use Rattle.mscp_port.proofs.Common.{eqb-true}
@@ -32,8 +32,8 @@ use Rattle.mscp_port.specs.declared.task.Task.TheVariants as tasks
 use Rattle.mscp_port.specs.declared.verdict.Verdict.{Verdict}
 use Rattle.mscp_port.specs.declared.verdict.Verdict.TheVariants as verdicts
 use Rattle.mscp_port.specs.declared.volumes.Volume.{Volume}
-use Rattle.mscp_port.specs.Blocks.{fault_with, has_changed, is_available, kept_of, move_of, move_task, moved_by, part_task, part_with, refusal_of, takes_any_volume, task_of, unless_fault}
-use Rattle.mscp_port.specs.Buffers.{is_of, left_of, part_of}
+use Rattle.mscp_port.specs.Blocks.{has_changed, is_available, kept_of, move_of, move_task, moved_by, part_task, part_with, takes_any_volume, task_of}
+use Rattle.mscp_port.specs.Buffers.{is_of, part_of}
 use Rattle.mscp_port.specs.Calls.{IsMadeOf}
 use Rattle.mscp_port.specs.Histories.{Answered, Call, Picking, Went}
 use Rattle.mscp_port.specs.Kept.{WasSaid}
@@ -43,11 +43,13 @@ use Rattle.mscp_port.specs.Volumes.{place_in, volume_at}
 use Rattle.mscp_port.proofs.Kept.{IsTo}
 use Rattle.mscp_port.proofs.Said.{Keeps, kept_found, of_first}
 use Rattle.mscp_port.proofs.Telling.{kept_was_said}
+use Rattle.mscp_ported.specs.Answers.{asks_nothing}
 use Rattle.mscp_ported.specs.Making.{IsFinish, Makes, step_told, told_as, told_of, told_unless, transfer_told}
 use Rattle.mscp_ported.specs.Moved.{IsEmpty, WasMoved, block_moved}
 use Rattle.mscp_ported.specs.Talk.{AsksAlways, Wish, wish}
 use Rattle.mscp_ported.specs.Transfers.{is_moving}
 use Rattle.mscp_ported.proofs.Moving.{Steps, steps}
+use Rattle.mscp_ported.proofs.Parts.{has_data, no_good_part, none_left, part_is, part_left, some_left}
 use Rattle.mscp_ported.proofs.Sole.{found_all}
 
 -- ---- what the controller is told
@@ -72,55 +74,6 @@ good_outcome : (outcome : Outcome) → told_as outcome ≡ blocks.Good → outco
 good_outcome outcomes.Done e = refl
 good_outcome outcome e = search (arith, e)
 
--- ---- parts of buffers
-
--- no step goes well that may not go on
-abbrev IsNoGood : Verdict → Type 0
-IsNoGood verdict = verdict ≢ verdicts.Served blocks.Good
-
-refused : (kind : MoveKind) (block : ℕ) (b : Buffer) (v : Volume) → IfSome (refusal_of kind block b v) IsNoGood
-refused kind block b v = grind arith
-
-faulty : (kind : MoveKind) (block : ℕ) (b : Buffer) (v : Volume) → IfSome (fault_with kind block b v) IsNoGood
-faulty kind block b v = grind (arith, refused)
-
--- this part of a buffer is left, where a step may go on
-part_left : (kind : MoveKind) (block at : ℕ) (b : Buffer) (v : Volume) (part : ℕ × ℕ)
-    → part_with kind block at b v ≡ Ok part → part_of b at ≡ Some part
-part_left kind block at b v part e = by (fault_with kind block b v) (part_of b at) e
-  where
-    by : (o : Option Verdict) (q : Option (ℕ × ℕ)) → unless_fault o q ≡ Ok part → q ≡ Some part
-    by (Some verdict) q e = search (arith, e)
-    by None None e = search (arith, e)
-    by None (Some x) e = search (arith, e)
-
-no_good_part : (kind : MoveKind) (block at : ℕ) (b : Buffer) (v : Volume) (verdict : Verdict)
-    → part_with kind block at b v ≡ Err verdict → IsNoGood verdict
-no_good_part kind block at b v verdict e = by (fault_with kind block b v) (part_of b at) (faulty kind block b v) e
-  where
-    by : (o : Option Verdict) (q : Option (ℕ × ℕ)) → IfSome o IsNoGood → unless_fault o q ≡ Err verdict
-        → verdict ≢ verdicts.Served blocks.Good
-    by (Some x) q h e = search (arith, e, h)
-    by None None h e = search (arith, e)
-    by None (Some x) h e = search (arith, e)
-
-part_is : (b : Buffer) (at : ℕ) (part : ℕ × ℕ) → part_of b at ≡ Some part
-    → (part.0 ≡ b.address + at * 512) × (part.1 ≡ min (b.count - at * 512) 512)
-part_is b at part e = by (nat_lt b.count (at * 512) || nat_lt 0xFFFF_FFFF (b.address + at * 512 + left_of b at)) e
-  where
-    by : (c : Bool) → cond c None (Some (b.address + at * 512, left_of b at)) ≡ Some part
-        → (part.0 ≡ b.address + at * 512) × (part.1 ≡ min (b.count - at * 512) 512)
-    by true e = absurd (none-some part e)
-    by false e =
-        let same = same_Some (b.address + at * 512, left_of b at) part e in
-        (sym (ap (λ x. x.0) same), sym (ap (λ x. x.1) same))
-
-some_left : (n m k : ℕ) → k ≡ min (n - m) 512 → nat_eq k 0 ≡ false → m < n
-some_left n m k e f = search (arith, e, f)
-
-none_left : (n m : ℕ) → min (n - m) 512 ≡ 0 → n ≤ m
-none_left n m e = search (arith, e)
-
 -- ---- the step that is begun
 
 moved_so : (order : Order) (lbn : Option ℕ) → moved_by order lbn ≡ block_moved order lbn
@@ -137,17 +90,23 @@ module _ (u : Upcoming) (kind : MoveKind) (block : ℕ) (moves : block_moved u.c
     move_so = moved_so u.command.order u.lbn ∙ moves
 
     -- a step without a block goes well only where the buffer has no byte for it
+    abbrev Low : Buffer → Type 0
+    Low b = (b.count ≤ u.done * 512) × (asks_nothing b.opcode ≡ false)
+
     good_part : (at : MoveKind × ℕ) (b : Buffer) (v : Volume) (r : Result (ℕ × ℕ) Verdict)
         → part_with at.0 at.1 u.done b v ≡ r → part_task r ≡ tasks.Step (verdicts.Served blocks.Good)
-        → b.count ≤ u.done * 512
+        → Low b
     good_part at b v (Ok part) e h = by (nat_eq part.1 0) refl h
       where
         by : (c : Bool) → nat_eq part.1 0 ≡ c
             → cond c (tasks.Step (verdicts.Served blocks.Good)) tasks.Transfer ≡ tasks.Step
             (verdicts.Served blocks.Good)
-            → b.count ≤ u.done * 512
-        by true is h = none_left b.count (u.done * 512)
-            (sym (part_is b u.done part (part_left at.0 at.1 u.done b v part e)).1 ∙ eqb-true part.1 0 is)
+            → Low b
+        by true is h =
+            let left = part_left at.0 at.1 u.done b v part e in (
+              none_left b.count (u.done * 512) (sym (part_is b u.done part left).1 ∙ eqb-true part.1 0 is),
+              has_data b u.done part left,
+            )
         by false is h = search (arith, h)
     good_part at b v (Err verdict) e h =
         absurd (no_good_part at.0 at.1 u.done b v verdict e (ap (λ x. verdict_in x) h))
@@ -157,7 +116,7 @@ module _ (u : Upcoming) (kind : MoveKind) (block : ℕ) (moves : block_moved u.c
         verdict_in task = verdict
 
     good_step : (b : Buffer) (v : Volume) → task_of u b v ≡ tasks.Step (verdicts.Served blocks.Good)
-        → b.count ≤ u.done * 512
+        → Low b
     good_step b v e =
         let a = is_move u.command.order u.lbn (kind, block) moves in
         by (is_available u.command.order) (v.is_there && takes_any_volume u.command.order) (has_changed b v) (move_of u)
@@ -168,7 +127,7 @@ module _ (u : Upcoming) (kind : MoveKind) (block : ℕ) (moves : block_moved u.c
 
         by : (x y z : Bool) (q : Option (MoveKind × ℕ)) → x ≡ false → y ≡ false → q ≡ Some (kind, block)
             → cond x good (cond y good (cond z (tasks.Step verdicts.NoVolume) (move_task u q b v))) ≡ good
-            → b.count ≤ u.done * 512
+            → Low b
         by true y z q f g is h = search (arith, f)
         by false true z q f g is h = search (arith, g)
         by false false true q f g is h = search (arith, h)
@@ -178,7 +137,7 @@ module _ (u : Upcoming) (kind : MoveKind) (block : ℕ) (moves : block_moved u.c
     -- of the buffer that is kept
     begun_good : (o : Option ℕ) (k : Option Buffer) (volumes : List Volume)
         → known_task u o k volumes ≡ tasks.Step (verdicts.Served blocks.Good)
-        → (b : Buffer) × (k ≡ Some b) × (b.count ≤ u.done * 512)
+        → (b : Buffer) × (k ≡ Some b) × Low b
     begun_good (Some place) (Some b) volumes e = (b, refl, good_step b (volume_at volumes place) e)
     begun_good None k volumes e = search (arith, e)
     begun_good (Some place) None volumes e = search (arith, e)
@@ -234,7 +193,7 @@ module _ (u : Upcoming) (kind : MoveKind) (block : ℕ) (moves : block_moved u.c
         → IfSome w (λ x. x.action ≡ move_wanted old (block_begun old))
         → ((b : Buffer) → kept_of u.connection u.command.reference old.buffers.items ≡ Some b → u.done * 512 < b.count)
         → (b : Buffer) × (kept_of u.connection u.command.reference old.buffers.items ≡ Some b)
-        × WasMoved b u kind block outcome w
+        × (asks_nothing b.opcode ≡ false) × WasMoved b u kind block outcome w
     moved_good {K} old outcome w begun told some wanted long =
         by (part_now old u kind block) refl (told_so) w some (subst (λ o. IfSome w (λ x. x.action
         ≡ move_wanted old o)) at wanted)
@@ -249,7 +208,7 @@ module _ (u : Upcoming) (kind : MoveKind) (block : ℕ) (moves : block_moved u.c
             → told_unless outcome (part_now old u kind block) ≡ blocks.Good → (o : Option Wish) → o ≢ None
             → IfSome o (λ x. x.action ≡ move_wanted old (Some (u, kind, block)))
             → (b : Buffer) × (kept_of u.connection u.command.reference old.buffers.items ≡ Some b)
-            × WasMoved b u kind block outcome o
+            × (asks_nothing b.opcode ≡ false) × WasMoved b u kind block outcome o
         by r e told None some wanted = absurd (some refl)
         by (Ok part) e told (Some x) some wanted =
             let kept = part_of_kept (place_in old.controller.settings.units u.command.unit)
@@ -257,6 +216,7 @@ module _ (u : Upcoming) (kind : MoveKind) (block : ℕ) (moves : block_moved u.c
             let is = part_is kept.0 u.done part kept.2 in (
               kept.0,
               kept.1,
+              has_data kept.0 u.done part kept.2,
               (
                 long kept.0 kept.1,
                 good_outcome outcome (ap (told_unless outcome) (sym e) ∙ told),
@@ -336,7 +296,7 @@ pub moved_at : {K : Type 0} (old : Port K) (w : Option Wish) (outcome : Outcome)
     (block : ℕ) → w ≢ None → Steps old w → step_told old outcome old.task ≡ Some blocks.Good
     → begun_step old.controller ≡ Some u → block_moved u.command.order u.lbn ≡ Some (kind, block)
     → (b : Buffer) × (kept_of u.connection u.command.reference old.buffers.items ≡ Some b)
-    × Either b u kind block outcome old w
+    × (asks_nothing b.opcode ≡ false) × Either b u kind block outcome old w
 moved_at {K} old w outcome u kind block some s told begun moves = by old.task refl told
   where
     empty : (b : Buffer) (w : Option Wish) → b.count ≤ u.done * 512 → w ≢ None
@@ -346,7 +306,7 @@ moved_at {K} old w outcome u kind block some s told begun moves = by old.task re
 
     by : (task : Task) → old.task ≡ task → step_told old outcome old.task ≡ Some blocks.Good
         → (b : Buffer) × (kept_of u.connection u.command.reference old.buffers.items ≡ Some b)
-        × Either b u kind block outcome old w
+        × (asks_nothing b.opcode ≡ false) × Either b u kind block outcome old w
     by (tasks.Step verdict) at told =
         let good = good_verdict verdict (same_Some (told_of verdict) blocks.Good
         (sym (ap (step_told old outcome) at) ∙ told)) in
@@ -356,7 +316,7 @@ moved_at {K} old w outcome u kind block some s told begun moves = by old.task re
         ∙ sym (s.begun (subst (λ x. IsOfBlock x) (sym at) tt)) ∙ at ∙ ap tasks.Step good in
         let b = begun_good u kind block moves (place_in old.controller.settings.units u.command.unit)
         (kept_of u.connection u.command.reference old.buffers.items) old.volumes is in
-        (b.0, b.1, inl (ap is_moving at, empty b.0 w b.2 some (s.paused verdict at)))
+        (b.0, b.1, b.2.1, inl (ap is_moving at, empty b.0 w b.2.0 some (s.paused verdict at)))
     by tasks.Transfer at told =
         let good = same_Some (transfer_told old outcome (block_begun old)) blocks.Good
         (sym (ap (step_told old outcome) at) ∙ told) in
@@ -365,7 +325,7 @@ moved_at {K} old w outcome u kind block some s told begun moves = by old.task re
         (kept_of u.connection u.command.reference old.buffers.items) old.volumes
         (ap (begun_task old.controller.settings.units old.buffers.items old.volumes) (sym begun)
         ∙ sym (s.begun (subst (λ x. IsOfBlock x) (sym at) tt)) ∙ at)) in
-        (b.0, b.1, inr (ap is_moving at, b.2))
+        (b.0, b.1, b.2, inr (ap is_moving at, b.3))
     by task at told = absurd (none-some blocks.Good (sym (ap (step_told old outcome) at) ∙ told))
 
 module _ {K : Type 0} (picks : Picking K) (hardware : Hardware) (credits : ℕ) (controller : Holdings K)
@@ -386,5 +346,5 @@ module _ {K : Type 0} (picks : Picking K) (hardware : Hardware) (credits : ℕ) 
         at.0,
         is.0,
         subst (λ n. WasSaid picks n u.command.unit start a.0 calls a.1 at.0) is.1 is.2,
-        elim at.2 [ inl e ↦ inl e.1 | inr m ↦ inr m.1 ],
+        elim at.3 [ inl e ↦ inl e.1 | inr m ↦ inr m.1 ],
       )

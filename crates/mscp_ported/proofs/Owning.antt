@@ -1,6 +1,6 @@
 -- What is kept of a command was said by its own message, and its blocks so far were moved at their places.
 use Rattle.std.proofs.Common.{◌≡◌, ◌≢◌, ◌⊎◌, ◌∙◌, ◌<◌, ◌&&◌, ◌++◌, ◌∷◌, [], ℕ, Bool, true, false, cond, filter, length, nat_eq, nat_lt, not, List, Contains, Option, None, Some, inl, inr, refl, ap, sym, subst, arith}
-use Rattle.std.specs.Prelude.{◌==◌, Ok, find, is_none, option_map}
+use Rattle.std.specs.Prelude.{◌==◌, Ok, find, is_none, option_map, slice_index}
 use Rattle.std.proofs.lemmas.List.{append-nil}
 use Rattle.std.proofs.lemmas.Option.{none-some, same_Some}
 use Rattle.mscp_packet.specs.Number.{num}
@@ -26,15 +26,16 @@ use Rattle.mscp_port.specs.declared.slot.Descriptor.{Descriptor}
 use Rattle.mscp_port.specs.declared.task.Task.TheVariants as tasks
 use Rattle.mscp_port.specs.Buffers.{buffer_in, kept_beside, without_aborted}
 use Rattle.mscp_port.specs.Histories.{Answered, Call, Picking, WasRead}
+use Rattle.mscp_port.specs.Formalities.{is_formality}
 use Rattle.mscp_port.specs.Messages.{handed, own_end_of}
 use Rattle.mscp_port.specs.Seen.{SeesText, answered_to, changes_at, kept_of_sent}
 use Rattle.mscp_port.specs.Volumes.{place_in}
-use Rattle.mscp_port.proofs.Come.{handed_as_read, long_enough, none_waits, taken_number}
+use Rattle.mscp_port.proofs.Come.{IsLike, handed_as_read, handed_like, none_waits, taken_number}
 use Rattle.mscp_port.proofs.Common.{Contains-push_cases, eq-eqb, eqb-true}
 use Rattle.mscp_port.proofs.Among.{none_among}
 use Rattle.mscp_port.proofs.Kept.{is_numbered}
 use Rattle.mscp_port.proofs.Said.{is_first, none_or_some, not_of, without_among}
-use Rattle.mscp_ported.specs.Answers.{own_answer, volume_named}
+use Rattle.mscp_ported.specs.Answers.{asks_nothing, own_answer, volume_named}
 use Rattle.mscp_ported.specs.Talk.{wish}
 use Rattle.mscp_ported.specs.Transfers.{asked, comes, done_by, is_queued_so, is_queued_text, moved, text_of, transfers}
 use Rattle.mscp_ported.proofs.Answering.{handed_so, none_so, own_so}
@@ -70,7 +71,7 @@ module _ {K : Type 0} (picks : Picking K) (start : Port K) where
   Owned p calls a b = (r : Record) × (bytes : List ℕ) × Own p calls a b r bytes
 
   abbrev pub AreOwned : (p : Port K) (calls : List Call) → Answered picks start calls p → Type 0
-  AreOwned p calls a = (b : Buffer) → Contains p.buffers.items b → Owned p calls a b
+  AreOwned p calls a = (b : Buffer) → Contains p.buffers.items b → asks_nothing b.opcode ≡ false → Owned p calls a b
 
   -- a call by which this command doesn't come, and none of its blocks is told
   pub carries : (p : Port K) (call : Call) (calls : List Call) (a : Answered picks start (call ∷ calls) p)
@@ -99,8 +100,8 @@ module _ {K : Type 0} (picks : Picking K) (start : Port K) where
       → p.controller.waiting ≡ a.0.controller.waiting
       → ((b : Buffer) → Contains p.buffers.items b → Contains a.0.buffers.items b)
       → AreOwned a.0 calls a.1 → AreOwned p (call ∷ calls) a
-  quiet p call calls a other none same among owned b there =
-      let o = owned b (among b there) in (
+  quiet p call calls a other none same among owned b there asks =
+      let o = owned b (among b there) asks in (
         o.0,
         o.1,
         carries p call calls a b o.0 o.0 o.1 o.2 (other b.reference) (none b.reference)
@@ -109,7 +110,7 @@ module _ {K : Type 0} (picks : Picking K) (start : Port K) where
 
   pub nothing_kept : (p : Port K) (calls : List Call) (a : Answered picks start calls p) → p.buffers.items ≡ []
       → AreOwned p calls a
-  nothing_kept p calls a e b there = absurd (none_among p.buffers.items b e there)
+  nothing_kept p calls a e b there asks = absurd (none_among p.buffers.items b e there)
 
 -- ---- a text was read
 
@@ -205,11 +206,11 @@ module _ {K : Type 0} (picks : Picking K) (start : Port K) (p : Port K) (calls :
       → p.controller.waiting ≡ unaborted First a.0.controller.waiting order
       → p.buffers.items ≡ without_aborted (reference_aborted First a.0.controller.waiting order) a.0.buffers.items
       → After
-  aborts (orders.Abort m) e waiting kept = λ b there.
+  aborts (orders.Abort m) e waiting kept = λ b there asks.
       let rs = a.0.controller.waiting in
       let o = find (is_numbered m) rs in
       let left = subst (λ bs. Contains bs b) kept there in
-      let own = owned b (left_among o a.0.buffers.items b left) in
+      let own = owned b (left_among o a.0.buffers.items b left) asks in
       let apart : b.reference ≢ m = λ same.
       let r = own.0 in
       let found = found_sole (is_numbered m) rs r (subst (λ n. filter (is_numbered n) rs ≡ r ∷ []) same own.2.sole) in
@@ -226,42 +227,44 @@ module _ {K : Type 0} (picks : Picking K) (start : Port K) (p : Port K) (calls :
       )
   aborts order e waiting kept = still e waiting kept
 
-  -- it is queued
-  comes_in : own_end_of a.0 foreign bytes ≡ None → answered_to a.0 bytes ≡ Ok (sents.Queued (num bytes 0 4))
-      → refusal (balance_of First a.0.controller) (outstanding_of First a.0.controller) bytes ≡ None
-      → p.controller.waiting ≡ a.0.controller.waiting ++ fresh_record First (command_of bytes) ∷ []
+  -- it is queued, or its stand-in is
+  comes_in : own_end_of a.0 foreign bytes ≡ None → answered_to a.0 bytes ≡ Ok (sents.Queued (num sent 0 4))
+      → IsLike sent bytes → (is_formality (slice_index bytes 8) ≡ false → sent ≡ bytes) → refused ≡ None
+      → p.controller.waiting ≡ a.0.controller.waiting ++ fresh_record First (command_of sent) ∷ []
       → p.buffers.items ≡ kept_beside (buffer_in bytes (changes_at a.0.volumes
       (place_in a.0.controller.settings.units (num bytes 4 2)))) a.0.buffers.items
       → After
   unfolding command_of
-  comes_in none answer taken waiting kept = λ b there.
+  comes_in none answer like plain taken waiting kept = λ b there asks.
       let rs = a.0.controller.waiting in
       let n = num bytes 0 4 in
-      let r = fresh_record First (command_of bytes) in
+      let r = fresh_record First (command_of sent) in
       let changes = changes_at a.0.volumes (place_in a.0.controller.settings.units (num bytes 4 2)) in
       let own = buffer_in bytes changes in
-      let fits = taken_number (balance_of First a.0.controller) (outstanding_of First a.0.controller) bytes taken in
-      let number : own.reference ≡ n = ap (λ t. cond t 0 n) (long_enough bytes fits.0) in
-      let new : filter (is_numbered n) rs ≡ [] =
-      none_passes (is_numbered n) rs (none_waits a.0.controller n fits.1) in
+      let fits = taken_number (balance_of First a.0.controller) (outstanding_of First a.0.controller) sent taken in
+      let number : own.reference ≡ n = ap (λ t. cond t 0 n) {y = false} (search (arith, sees.long)) in
+      let new : filter (is_numbered n) rs ≡ [] = subst (λ m. filter (is_numbered m) rs ≡ []) like.0
+      (none_passes (is_numbered (num sent 0 4)) rs (none_waits a.0.controller (num sent 0 4) fits.1)) in
       let is_it : is_queued_text a.0 bytes a.0.task ≡ true =
       queued_by ∙ ap (λ x. is_none x && is_queued_so (answered_to a.0 bytes))
       (none_so foreign (volume_named a.0 bytes) bytes none) ∙ ap is_queued_so answer in
       elim (beside_cases (nat_lt (length a.0.buffers.items) 64) a.0.buffers.items own b
       (subst (λ bs. Contains bs b) kept there)) [
         | inl before ↦
-            let o = owned b before in
+            let o = owned b before asks in
             let apart : nat_eq n b.reference ≡ false = other_number b (nat_eq n b.reference) refl o.0 o.2.sole new in (
               o.0,
               o.1,
               carries picks start p (WasRead bytes (Ok done)) calls a b o.0 o.0 o.1 o.2
                   (ap (λ c. c && is_queued_text a.0 bytes a.0.task) apart) refl
                   (ap (filter (is_numbered b.reference)) waiting
-                  ∙ sole_beside (is_numbered b.reference) rs r o.0 o.2.sole apart)
+                  ∙ sole_beside (is_numbered b.reference) rs r o.0 o.2.sole
+                  (ap (λ m. nat_eq m b.reference) like.0 ∙ apart))
                   (itself o.0),
             )
         | inr e ↦
             let same : b.reference ≡ n = ap (λ (x : Buffer). x.reference) (sym e) ∙ number in
+            let as_read : sent ≡ bytes = plain (opcode_kept b e asks) in
             let now : comes b.reference (WasRead bytes (Ok done)) a.0 ≡ true =
             ap (λ c. c && is_queued_text a.0 bytes a.0.task) (eq-eqb n b.reference (sym same)) ∙ is_it in (
               r,
@@ -269,19 +272,27 @@ module _ {K : Type 0} (picks : Picking K) (start : Port K) (p : Port K) (calls :
               record {
                 sole = subst (λ m. filter (is_numbered m) p.controller.waiting ≡ r ∷ []) (sym same)
                     (ap (filter (is_numbered n)) waiting
-                    ∙ sole_comes (is_numbered n) rs r new (eq-eqb n n refl));
+                    ∙ sole_comes (is_numbered n) rs r new (eq-eqb (num sent 0 4) n like.0));
                 message = ap (λ c. cond c (Some bytes) (asked picks b.reference start a.0 calls a.1)) now;
                 kept = (changes, sym e);
-                command = refl;
+                command = ap command_of as_read;
                 whole = refl;
                 good = refl;
-                low = some_weight (command_of bytes).order;
+                low = some_weight (command_of sent).order;
                 parts = ap (λ c. cond c [] (moved picks b.reference start a.0 calls a.1
-                    ++ [])) now ∙ sym (no_parts (command_of bytes).order (command_of bytes).unit b.address);
+                    ++ [])) now ∙ sym (no_parts (command_of sent).order (command_of sent).unit b.address);
               },
             )
       ]
     where
+      opcode_kept : (b : Buffer) → buffer_in bytes (changes_at a.0.volumes
+          (place_in a.0.controller.settings.units (num bytes 4 2))) ≡ b
+          → asks_nothing b.opcode ≡ false → is_formality (slice_index bytes 8) ≡ false
+      opcode_kept b e asks =
+          sym (ap (λ t. is_formality (cond t 0 (slice_index bytes 8))) {x = nat_lt (length bytes) 9} {y = false}
+          (search (arith, sees.long)))
+          ∙ ap (λ (x : Buffer). is_formality x.opcode) e ∙ asks
+
       other_number : (b : Buffer) (c : Bool) → nat_eq (num bytes 0 4) b.reference ≡ c → (r : Record)
           → filter (is_numbered b.reference) a.0.controller.waiting ≡ r ∷ []
           → filter (is_numbered (num bytes 0 4)) a.0.controller.waiting ≡ [] → c ≡ false
@@ -317,15 +328,14 @@ module _ {K : Type 0} (picks : Picking K) (start : Port K) (p : Port K) (calls :
           let own =
           buffer_in bytes (changes_at a.0.volumes (place_in a.0.controller.settings.units (num bytes 4 2))) in
           let aborted = reference_aborted First h.waiting command.order in
-          let same = handed_as_read h.settings h.settings.units bytes e in
           comes_in none
           (answer ∙ ap (λ t. Ok (cond t (sents.Queued command.reference)
-          (sents.Answered command.reference aborted))) e ∙ ap (λ b. Ok (sents.Queued (num b 0 4))) same)
-          (subst (λ b. refusal (balance_of First h) (outstanding_of First h) b ≡ None) same taken_is)
+          (sents.Answered command.reference aborted))) e)
+          (handed_like h.settings h.settings.units bytes sees.long e)
+          (λ plain. handed_as_read h.settings h.settings.units bytes plain e) taken_is
           (ap (λ (x : Holdings K). x.waiting) gets
           ∙ ap (λ t. (cond t (queued First h command)
-          (with_end First (aborting First h command.order) (answered_end First h command))).waiting) e
-          ∙ ap (λ b. h.waiting ++ fresh_record First (command_of b) ∷ []) same)
+          (with_end First (aborting First h command.order) (answered_end First h command))).waiting) e)
           (kept ∙ ap (λ t. kept_of_sent (cond t (sents.Queued command.reference)
           (sents.Answered command.reference aborted)) own a.0.buffers.items) e)
       by false e gets answer kept =

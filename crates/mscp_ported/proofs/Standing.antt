@@ -283,7 +283,7 @@ module _ {K : Type 0} (picks : Picking K) (hardware : Hardware) (credits : ℕ) 
       let found = kept_found (is_of u.connection u.command.reference) a.0.buffers.items at.0
       (position (is_of u.connection u.command.reference) a.0.buffers.items) refl at.1 in
       let of = of_first u.connection u.command.reference at.0 found.1 in
-      let o = owned at.0 found.0 in
+      let o = owned at.0 found.0 at.2 in
       let reference : at.0.reference ≡ n = of.1 ∙ ap (λ (x : Upcoming). x.command.reference) sn.2
       ∙ ap (λ (x : Name). x.reference) (same_is (name_of sn.0) name (found_is (has_name name) rs sn.0 sn.1)) in
       let sole : filter (is_numbered n) rs ≡ o.0 ∷ [] =

@@ -8,65 +8,98 @@ use Rattle.mscp_packet.specs.declared.end.EndBody.TheVariants as bodies
 use Rattle.mscp_drive.specs.Shape.{Shape}
 use Rattle.mscp_drive.specs.UnitList.{unit_found}
 use Rattle.mscp_drive.specs.declared.block.Block.TheVariants as blocks
+use Rattle.mscp_drive.specs.declared.connection.Connection.TheVariants.{First}
 use Rattle.mscp_queue.specs.declared.upcoming.Upcoming.{Upcoming}
 use Rattle.mscp_port.specs.declared.action.Outcome.{Outcome}
 use Rattle.mscp_port.specs.declared.action.Outcome.TheVariants as outcomes
+use Rattle.mscp_port.specs.declared.buffers.Buffer.{Buffer}
 use Rattle.mscp_port.specs.declared.decided.Decided.{Decided}
 use Rattle.mscp_port.specs.declared.hardware.Hardware.{Hardware}
 use Rattle.mscp_port.specs.declared.port.Port.{Port}
 use Rattle.mscp_port.specs.declared.verdict.Verdict.{Verdict}
 use Rattle.mscp_port.specs.declared.verdict.Verdict.TheVariants as verdicts
 use Rattle.mscp_port.specs.declared.volumes.Volume.{Volume}
-use Rattle.mscp_port.specs.Blocks.{block_of}
-use Rattle.mscp_port.specs.Decided.{answer_of, controller_decided, end_decided, found_decided, status_told}
+use Rattle.mscp_port.specs.Blocks.{block_of, kept_of}
+use Rattle.mscp_port.specs.Decided.{answer_of, controller_decided, end_decided, found_decided, status_after, status_told}
+use Rattle.mscp_port.specs.Formalities.{code_told, formal_status}
 use Rattle.mscp_port.specs.Leaving.{end_told, end_with_body}
 use Rattle.mscp_port.specs.Moved.{block_served, part_now, part_served}
 use Rattle.mscp_port.specs.Volumes.{volume_found}
-use Rattle.mscp_ported.specs.Ends.{Fields, answer_left, fields_of_unit, fields_with, status_said, step_left, text_with, verdict_of, verdict_with}
+use Rattle.mscp_ported.specs.Ends.{Fields, answer_left, code_said, code_with, ends_nothing, fields_of_unit, fields_with, short_text, status_by, status_said, step_left, text_left, text_with, verdict_of, verdict_with}
 use Rattle.mscp_ported.specs.Making.{told_as}
 
 -- ---- what is decided
 
 abbrev pub fields_of : Decided → Fields
-fields_of d = record { status = d.status; flags = d.flags; media = d.media; size = d.size }
+fields_of d = record { code = d.code; status = d.status; flags = d.flags; media = d.media; size = d.size }
 
 status_so : (verdict : Verdict) (code status : ℕ) (v : Volume)
     → status_told verdict code status v ≡ status_said verdict code status v
-status_so verdicts.NoVolume code status v = refl
-status_so verdicts.NotOnline code status v = refl
-status_so (verdicts.Served block) code status v = refl
+status_so verdict code status v = by verdict (ends_nothing code)
+  where
+    by : (w : Verdict) (c : Bool) → cond c (formal_status status) (status_after w code status v)
+        ≡ cond c (formal_status status) (status_by w code status v)
+    by w true = refl
+    by verdicts.NoVolume false = refl
+    by verdicts.NotOnline false = refl
+    by (verdicts.Served block) false = refl
 
-pub fields_so : (status : ℕ) (e : End) (units : List Shape) (flags : ℕ) (v : Volume)
-    → fields_of (end_decided status e units flags v) ≡ fields_with status e (unit_found units e.unit) flags v
-fields_so status e units flags v = by (e.code == 0x84) (unit_found units e.unit)
+code_so : {K : Type 0} (old : Port K) (e : End)
+    → code_told (kept_of First e.reference old.buffers.items) e.code ≡ code_said old e
+code_so old e = by (kept_of First e.reference old.buffers.items)
+  where
+    by : (o : Option Buffer) → code_told o e.code ≡ code_with o e.code
+    by None = refl
+    by (Some b) = refl
+
+pub fields_so : (code status : ℕ) (e : End) (units : List Shape) (flags : ℕ) (v : Volume)
+    → fields_of (end_decided code status e units flags v)
+    ≡ fields_with code status e (unit_found units e.unit) flags v
+fields_so code status e units flags v = by (e.code == 0x84) (unit_found units e.unit)
   where
     by : (b : Bool) (o : Option Shape)
-        → fields_of (cond b (controller_decided status flags) (found_decided status o v))
-        ≡ cond b (record { status = status; flags = 0x8000 + flags % 0x8000; media = 0; size = 0 })
-        (fields_of_unit status o v)
+        → fields_of (cond b (controller_decided code status flags) (found_decided code status o v))
+        ≡ cond b (record { code = code; status = status; flags = 0x8000 + flags % 0x8000; media = 0; size = 0 })
+        (fields_of_unit code status o v)
     by true o = refl
     by false None = refl
     by false (Some unit) = refl
 
-pub answer_so : {K : Type 0} (p : Port K) (e : End) → fields_of (answer_of p e) ≡ (answer_left p e).fields
-answer_so p e =
-    let units = p.controller.settings.units in
-    let v = volume_found units p.volumes e.unit in
-    fields_so (status_told (verdicts.Served blocks.Good) e.code e.status v) e units p.flags v
-    ∙ ap (λ n. fields_with n e (unit_found units e.unit) p.flags v)
-    (status_so (verdicts.Served blocks.Good) e.code e.status v)
+-- of an end that was made as a message came, which may be one's of which the port kept something before
+abbrev pub answer_by : {K : Type 0} → Port K → Port K → End → Decided
+answer_by old new = answer_of (record new { buffers = old.buffers })
 
--- of the end of a step
+pub answer_so : {K : Type 0} (old new : Port K) (e : End)
+    → fields_of (answer_by old new e) ≡ (answer_left old new e).fields
+answer_so old new e =
+    let units = new.controller.settings.units in
+    let v = volume_found units new.volumes e.unit in
+    let code = code_told (kept_of First e.reference old.buffers.items) e.code in
+    fields_so code (status_told (verdicts.Served blocks.Good) code e.status v) e units new.flags v
+    ∙ ap (λ n. fields_with code n e (unit_found units e.unit) new.flags v)
+    (status_so (verdicts.Served blocks.Good) code e.status v)
+    ∙ ap (λ c. fields_with c (status_said (verdicts.Served blocks.Good) c e.status v) e (unit_found units e.unit)
+    new.flags v) (code_so old e)
+
+-- of the end of a step that went so
+abbrev pub decided_by : {K : Type 0} → Verdict → Port K → Port K → End → Decided
+decided_by verdict old new e =
+    end_decided (code_told (kept_of First e.reference old.buffers.items) e.code)
+    (status_told verdict (code_told (kept_of First e.reference old.buffers.items) e.code) e.status
+    (volume_found old.controller.settings.units old.volumes e.unit)) e
+    new.controller.settings.units new.flags (volume_found new.controller.settings.units new.volumes e.unit)
+
 pub step_fields : {K : Type 0} (verdict : Verdict) (old new : Port K) (e : End)
-    → fields_of (end_decided (status_told verdict e.code e.status
-    (volume_found old.controller.settings.units old.volumes e.unit)) e new.controller.settings.units new.flags
-    (volume_found new.controller.settings.units new.volumes e.unit)) ≡ (step_left verdict old new e).fields
+    → fields_of (decided_by verdict old new e) ≡ (step_left verdict old new e).fields
 step_fields verdict old new e =
     let units = new.controller.settings.units in
     let before = volume_found old.controller.settings.units old.volumes e.unit in
     let v = volume_found units new.volumes e.unit in
-    fields_so (status_told verdict e.code e.status before) e units new.flags v
-    ∙ ap (λ n. fields_with n e (unit_found units e.unit) new.flags v) (status_so verdict e.code e.status before)
+    let code = code_told (kept_of First e.reference old.buffers.items) e.code in
+    fields_so code (status_told verdict code e.status before) e units new.flags v
+    ∙ ap (λ n. fields_with code n e (unit_found units e.unit) new.flags v) (status_so verdict code e.status before)
+    ∙ ap (λ c. fields_with c (status_said verdict c e.status before) e (unit_found units e.unit) new.flags v)
+    (code_so old e)
 
 outcome_so : (outcome : Outcome) → block_of outcome ≡ told_as outcome
 outcome_so outcomes.Done = refl
@@ -88,8 +121,9 @@ verdict_so old outcome (Some m) = by (part_now old m.0 m.1 m.2)
 -- ---- bytes
 
 pub text_so : (e : End) (d : Decided) (unit : Option Shape) (h : Hardware)
-    → end_told e d unit h ≡ text_with e.body e (fields_of d) unit h
-text_so e d unit h = by e.body unit
+    → end_told e d unit h ≡ text_left e (fields_of d) unit h
+text_so e d unit h =
+    ap (λ xs. cond (ends_nothing d.code) (short_text e (fields_of d)) xs) (by e.body unit)
   where
     by : (body : EndBody) (o : Option Shape) → end_with_body body e d o h
         ≡ text_with body e (fields_of d) o h

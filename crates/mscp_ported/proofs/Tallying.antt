@@ -49,6 +49,7 @@ use Rattle.mscp_port.specs.Volumes.{place_in, volume_at}
 use Rattle.mscp_port.proofs.Common.{and_parts, false≢true}
 use Rattle.mscp_port.proofs.Kept.{is_numbered}
 use Rattle.mscp_port.proofs.Said.{served_name}
+use Rattle.mscp_ported.specs.Answers.{asks_nothing}
 use Rattle.mscp_ported.specs.Ends.{come}
 use Rattle.mscp_ported.specs.Talk.{AsksAlways, Wish, wish}
 use Rattle.mscp_ported.specs.Transfers.{Counts, asked, done_by, is_done, is_moving, is_step_of, moved, transfers, wanted}
@@ -153,7 +154,8 @@ module _ {K : Type 0} (picks : Picking K) (hardware : Hardware) (credits : ℕ) 
     (outcome : Outcome) (done : Unit {0}) (u : Upcoming) (kind : MoveKind) (count first : ℕ) (kept : Buffer) (e : End)
     (asks : AsksAlways (Went outcome (Ok done) ∷ calls)) (a : Answered picks start (Went outcome (Ok done) ∷ calls) p)
     (step : begun_step a.0.controller ≡ Some u) (is : u.command.order ≡ orders.Move kind count first)
-    (among : Contains a.0.buffers.items kept) (mine : kept.reference ≡ e.reference) (there : Contains (come a.0 p) e)
+    (among : Contains a.0.buffers.items kept) (asking : asks_nothing kept.opcode ≡ false)
+    (mine : kept.reference ≡ e.reference) (there : Contains (come a.0 p) e)
   where
     abbrev So : Type 0
     So = (b : List ℕ) × (n : ℕ) × Counts picks e kind start p (Went outcome (Ok done) ∷ calls) a b n
@@ -292,7 +294,7 @@ module _ {K : Type 0} (picks : Picking K) (hardware : Hardware) (credits : ℕ) 
         let d = drive_at a.0.controller.drives rs place in
         let same : name ≡ name_on First n = ap (λ c. name_on c n) first_is in
         let sn = step_name a.0.controller name u begun step in
-        let o = owned kept among in
+        let o = owned kept among asking in
         let of : e.reference ≡ n = end_number (block_told verdict) d r0 e given
         ∙ ap (λ (x : Name). x.reference) named in
         let number : kept.reference ≡ n = mine ∙ of in

@@ -253,7 +253,7 @@ module _ {K : Type 0} (picks : Picking K) (start : Port K) (old : Port K) (calls
       let first = of_first r.connection r.command.reference at.0 found.1 in
       let is = number_of n r (sole_passes (is_numbered n) old.controller.waiting r sole) in
       let number : at.0.reference ≡ n = first.1 ∙ is.1 in
-      let o = owned at.0 found.0 in
+      let o = owned at.0 found.0 at.2 in
       let same : r ≡ o.0 = one_of n old.controller.waiting r o.0 sole
       (subst (λ m. filter (is_numbered m) old.controller.waiting ≡ o.0 ∷ []) number o.2.sole) in
       let own = subst (λ x. Own picks start old calls a at.0 x o.1) (sym same) o.2 in
@@ -269,7 +269,7 @@ module _ {K : Type 0} (picks : Picking K) (start : Port K) (old : Port K) (calls
           order = of.3 ∙ ap (λ m. orders.Move of.0 m of.2) fields.0 ∙ ap (orders.Move of.0 (num o.1 12 4)) fields.1;
           opcode = fields.3;
           address = address;
-          moves = elim at.2 [
+          moves = elim at.3 [
             | inl e ↦ inl (
               subst (λ m. m ≤ r.done * 512) count (low_of at.0 u (wish calls) e.1),
               none_moving (is_done outcome) (is_moving old.task) (is_step_of n (begun_step old.controller))

@@ -1,6 +1,6 @@
 -- Which messages a port answers itself, and with what, and what its controller gets of the others (manual, "Command
 -- Messages"; port: UQSSP, "Diagnostic and Utilities Protocol").
-use Rattle.std.specs.Prelude.{◌≡◌, ◌+◌, ◌/◌, ◌%◌, ◌==◌, ◌&&◌, ◌||◌, ◌++◌, ◌∷◌, [], ℕ, Bool, true, false, nat_le, nat_lt, if◌then◌else◌, List, drop, find, length, option_map, replicate, slice_index, take, Option, None, Some, Ok}
+use Rattle.std.specs.Prelude.{◌≡◌, ◌+◌, ◌/◌, ◌%◌, ◌==◌, ◌&&◌, ◌||◌, ◌++◌, ◌∷◌, [], ℕ, Bool, true, false, nat_le, nat_lt, if◌then◌else◌, List, drop, find, is_none, length, option_map, replicate, slice_index, take, Option, None, Some, Ok}
 use Rattle.byteorder.specs.Endian.{little_bytes}
 use Rattle.mscp_packet.specs.Number.{num}
 use Rattle.mscp_drive.specs.Both.{of}
@@ -27,9 +27,9 @@ pub record Own : Type 0 where
   pub status : ℕ
   pub tells_bytes : Bool
 
--- DETERMINE ACCESS PATHS, COMPARE CONTROLLER DATA and FLUSH succeed at once
-abbrev pub succeeds : ℕ → Bool
-succeeds opcode = opcode == 11 || opcode == 17 || opcode == 19
+-- DETERMINE ACCESS PATHS, COMPARE CONTROLLER DATA and FLUSH ask nothing of a disk
+abbrev pub asks_nothing : ℕ → Bool
+asks_nothing opcode = opcode == 11 || opcode == 17 || opcode == 19
 
 -- ACCESS, ERASE, COMPARE HOST DATA, READ and WRITE, with all their fields
 abbrev pub moves_data : List ℕ → Bool
@@ -47,11 +47,12 @@ abbrev pub own_refusal : List ℕ → Option Volume → Option ℕ
 own_refusal b None = None
 own_refusal b (Some v) = if v.is_there && moves_data b then past_end v.size (num b 28 4) (num b 12 4) else None
 
--- a message for the utilities has an unknown opcode here
+-- a message for the utilities has an unknown opcode here, and one that asks nothing, of a unit which isn't there,
+-- succeeds
 abbrev pub own_answer : Bool → Option Volume → List ℕ → Option Own
 own_answer foreign v b =
     if foreign then Some (record { code = 0x80; status = 0x0801; tells_bytes = false })
-    else if succeeds (slice_index b 8) then Some (record {
+    else if is_none v && asks_nothing (slice_index b 8) then Some (record {
       code = slice_index b 8 + 0x80;
       status = 0;
       tells_bytes = false;
@@ -104,10 +105,16 @@ number_in (Some unit) = unit.number
 abbrev pub asks_next : List ℕ → Bool
 asks_next b = slice_index b 8 == 3 && num b 10 2 % 2 == 1
 
--- each byte of the message, but that such a one names that unit, or 0 if there is none
+-- in the place of one that asks nothing of a disk comes an ACCESS (16) of no bytes, with its number and unit: so it
+-- passes no command that a transfer may not pass (manual, "Command Categories and Execution Order")
+abbrev pub access_of_nothing : List ℕ → List ℕ
+access_of_nothing b = take 8 b ++ 16 ∷ replicate 23 0
+
+-- each byte of any other message, but that such a one names that unit, or 0 if there is none
 abbrev pub text_handed : List Shape → List ℕ → List ℕ
 text_handed units b =
-    if asks_next b
+    if asks_nothing (slice_index b 8) then access_of_nothing b
+    else if asks_next b
     then take 4 b
     ++ little_bytes 2 (number_in (find (λ unit. nat_le (num b 4 2) unit.number) units)) ++ drop 6 b
     else b

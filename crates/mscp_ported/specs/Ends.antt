@@ -17,6 +17,7 @@ use Rattle.mscp_queue.specs.declared.upcoming.Upcoming.{Upcoming}
 use Rattle.mscp_controller.specs.Calls.{AnsweredCalls, Call as Made}
 use Rattle.mscp_controller.specs.Holdings.{Holdings, fresh}
 use Rattle.mscp_port.specs.declared.action.Outcome.{Outcome}
+use Rattle.mscp_port.specs.declared.buffers.Buffer.{Buffer}
 use Rattle.mscp_port.specs.declared.hardware.Hardware.{Hardware}
 use Rattle.mscp_port.specs.declared.port.Outgoing.{Outgoing}
 use Rattle.mscp_port.specs.declared.port.OutgoingKind.{OutgoingKind}
@@ -27,10 +28,12 @@ use Rattle.mscp_port.specs.declared.task.Task.TheVariants as tasks
 use Rattle.mscp_port.specs.declared.verdict.Verdict.{Verdict}
 use Rattle.mscp_port.specs.declared.verdict.Verdict.TheVariants as verdicts
 use Rattle.mscp_port.specs.declared.volumes.Volume.{Volume}
+use Rattle.mscp_port.specs.Blocks.{kept_of}
 use Rattle.mscp_port.specs.Calls.{IsMadeOf}
 use Rattle.mscp_port.specs.Histories.{Answered, Call, Next, Picking, WasRead, Went}
 use Rattle.mscp_port.specs.Moved.{block_begun, part_now}
 use Rattle.mscp_port.specs.Volumes.{volume_found}
+use Rattle.mscp_ported.specs.Answers.{asks_nothing}
 use Rattle.mscp_ported.specs.Making.{told_as}
 use Rattle.mscp_ported.specs.Talk.{since}
 use Rattle.mscp_ported.specs.UnitFlags.{flags_of_unit}
@@ -39,6 +42,7 @@ use Rattle.mscp_ported.specs.UnitFlags.{flags_of_unit}
 
 -- what an end says that only its port knows
 pub record Fields : Type 0 where
+  pub code : ℕ
   pub status : ℕ
   pub flags : ℕ
   pub media : ℕ
@@ -48,35 +52,60 @@ pub record Fields : Type 0 where
 abbrev pub state_of_unit : Volume → ℕ
 state_of_unit v = if not v.is_there then 0x23 else if not v.is_mounted then 4 else 0
 
--- a step that had no volume is Unit-Offline, one that its unit wasn't online for is Unit-Available; a GET UNIT STATUS
--- (0x83) says the unit's state, and an ONLINE (0x89) whether it found the unit online already
-abbrev pub status_said : Verdict → ℕ → ℕ → Volume → ℕ
-status_said verdicts.NoVolume code status v = 0x23
-status_said verdicts.NotOnline code status v = 4
-status_said (verdicts.Served block) code status v =
+-- an end's code is its command's opcode and 0x80: that which the controller gives it, but of a command that asks
+-- nothing of a disk, of which the controller got an ACCESS
+abbrev pub code_with : Option Buffer → ℕ → ℕ
+code_with None code = code
+code_with (Some b) code = if asks_nothing b.opcode then b.opcode + 0x80 else code
+
+-- by what the port keeps of its command
+abbrev pub code_said : {K : Type 0} → Port K → End → ℕ
+code_said old e = code_with (kept_of First e.reference old.buffers.items) e.code
+
+abbrev pub ends_nothing : ℕ → Bool
+ends_nothing code = code == 0x8B || code == 0x91 || code == 0x93
+
+-- such a command succeeds, unless it was aborted (2). Of any other a step that had no volume is Unit-Offline, one that its
+-- unit wasn't online for is Unit-Available; a GET UNIT STATUS (0x83) says the unit's state, and an ONLINE (0x89) whether
+-- it found the unit online already
+abbrev pub status_by : Verdict → ℕ → ℕ → Volume → ℕ
+status_by verdicts.NoVolume code status v = 0x23
+status_by verdicts.NotOnline code status v = 4
+status_by (verdicts.Served block) code status v =
     if code == 0x83 && (status == 0 || status == 4) then state_of_unit v
     else if code == 0x89 && (status == 0 || status == 0x0100) then (if v.is_mounted then 0x0100 else 0)
     else status
 
--- with this status: of a SET CONTROLLER CHARACTERISTICS (0x84) the host's flags are told, of a command to a unit the
--- unit's flags, and type and size of its volume, or the unit's if there is none
-abbrev pub fields_of_unit : ℕ → Option Shape → Volume → Fields
-fields_of_unit status None v = record { status = status; flags = 0; media = 0; size = 0 }
-fields_of_unit status (Some unit) v = record {
+abbrev pub status_said : Verdict → ℕ → ℕ → Volume → ℕ
+status_said verdict code status v =
+    if ends_nothing code then (if status == 2 then 2 else 0) else status_by verdict code status v
+
+-- with this code and status: of a SET CONTROLLER CHARACTERISTICS (0x84) the host's flags are told, of a command to a
+-- unit the unit's flags, and type and size of its volume, or the unit's if there is none
+abbrev pub fields_of_unit : ℕ → ℕ → Option Shape → Volume → Fields
+fields_of_unit code status None v = record { code = code; status = status; flags = 0; media = 0; size = 0 }
+fields_of_unit code status (Some unit) v = record {
+  code = code;
   status = status;
   flags = flags_of_unit v;
   media = if v.is_there then v.media else unit.media;
   size = if v.is_there then v.size else unit.size;
 }
 
-abbrev pub fields_with : ℕ → End → Option Shape → ℕ → Volume → Fields
-fields_with status e unit flags v =
-    if e.code == 0x84 then record { status = status; flags = 0x8000 + flags % 0x8000; media = 0; size = 0 }
-    else fields_of_unit status unit v
+abbrev pub fields_with : ℕ → ℕ → End → Option Shape → ℕ → Volume → Fields
+fields_with code status e unit flags v =
+    if e.code == 0x84 then record {
+      code = code;
+      status = status;
+      flags = 0x8000 + flags % 0x8000;
+      media = 0;
+      size = 0;
+    }
+    else fields_of_unit code status unit v
 
 -- in the port as it is then, where the unit had this volume before
-abbrev pub fields_by : {K : Type 0} → Verdict → Volume → Port K → End → Fields
-fields_by verdict before p e = fields_with (status_said verdict e.code e.status before) e
+abbrev pub fields_by : {K : Type 0} → Verdict → Volume → ℕ → Port K → End → Fields
+fields_by verdict before code p e = fields_with code (status_said verdict code e.status before) e
     (unit_found p.controller.settings.units e.unit) p.flags (volume_found p.controller.settings.units p.volumes e.unit)
 
 -- ---- when
@@ -102,22 +131,22 @@ abbrev pub verdict_in : {K : Type 0} → Port K → Outcome → Task → Verdict
 verdict_in old outcome (tasks.Step verdict) = verdict
 verdict_in old outcome task = verdict_of old outcome (block_begun old)
 
-abbrev pub answer_left : {K : Type 0} → Port K → End → Leaving
-answer_left new e = record {
+abbrev pub answer_left : {K : Type 0} → Port K → Port K → End → Leaving
+answer_left old new e = record {
   end = e;
   fields = fields_by (verdicts.Served blocks.Good)
-      (volume_found new.controller.settings.units new.volumes e.unit) new e;
+      (volume_found new.controller.settings.units new.volumes e.unit) (code_said old e) new e;
 }
 
 abbrev pub step_left : {K : Type 0} → Verdict → Port K → Port K → End → Leaving
 step_left verdict old new e = record {
   end = e;
-  fields = fields_by verdict (volume_found old.controller.settings.units old.volumes e.unit) new e;
+  fields = fields_by verdict (volume_found old.controller.settings.units old.volumes e.unit) (code_said old e) new e;
 }
 
--- the ends that came by a call, with what was decided of them: an answer to a message, or the end of a step's command
+-- the ends that came by a call, with what was decided of them: answers to a message, or the end of a step's command
 abbrev pub came_by : {K : Type 0} → Call → Port K → Port K → List Leaving
-came_by (WasRead bytes (Ok done)) old new = map (answer_left new) (come old new)
+came_by (WasRead bytes (Ok done)) old new = map (answer_left old new) (come old new)
 came_by (Went outcome (Ok done)) old new =
     map (step_left (verdict_in old outcome old.task) old new) (come old new)
 came_by call old new = []
@@ -197,8 +226,16 @@ text_with (bodies.Controller timeout id) e f unit h =
     if f.status == 0 then controller_text e f h timeout id else plain_text e f
 text_with body e f unit h = plain_text e f
 
+-- that of a command which asks nothing has just 12 bytes
+abbrev pub short_text : End → Fields → List ℕ
+short_text e f =
+    little_bytes 4 e.reference ++ little_bytes 2 e.unit ++ (0 ∷ 0 ∷ f.code ∷ 0 ∷ []) ++ little_bytes 2 f.status
+
+abbrev pub text_left : End → Fields → Option Shape → Hardware → List ℕ
+text_left e f unit h = if ends_nothing f.code then short_text e f else text_with e.body e f unit h
+
 abbrev pub end_text : Hardware → List Shape → Leaving → List ℕ
-end_text h units l = text_with l.end.body l.end l.fields (unit_found units l.end.unit) h
+end_text h units l = text_left l.end l.fields (unit_found units l.end.unit) h
 
 -- ---- the law
 

@@ -1,6 +1,6 @@
 -- For which blocks the end of a transfer stands: each was wanted and told done, one behind the other, at its place of
 -- the buffer that the command's own message named (manual, "READ", "WRITE", "COMPARE HOST DATA").
-use Rattle.std.specs.Prelude.{◌≡◌, ◌+◌, ◌-◌, ◌*◌, ◌==◌, ◌&&◌, ◌++◌, ◌∷◌, [], ℕ, zero, suc, Bool, true, false, if◌then◌else◌, is_none, min, slice_index, List, Contains, Option, None, Some, Result, Ok, Err}
+use Rattle.std.specs.Prelude.{◌≡◌, ◌+◌, ◌-◌, ◌*◌, ◌==◌, ◌&&◌, ◌++◌, ◌∷◌, [], ℕ, zero, suc, Bool, true, false, if◌then◌else◌, find, is_none, min, slice_index, List, Contains, Option, None, Some, Result, Ok, Err}
 use Rattle.mscp_packet.specs.Number.{num}
 use Rattle.mscp_packet.specs.Opcodes.{move_byte}
 use Rattle.mscp_packet.specs.declared.command.MoveKind.{MoveKind}
@@ -11,7 +11,8 @@ use Rattle.mscp_drive.specs.Extent.{blocks as blocks_in}
 use Rattle.mscp_drive.specs.declared.block.Block.TheVariants as blocks
 use Rattle.mscp_drive.specs.declared.connection.Connection.{Connection}
 use Rattle.mscp_drive.specs.declared.connection.Connection.TheVariants.{First}
-use Rattle.mscp_queue.specs.Names.{same_connection}
+use Rattle.mscp_queue.specs.Names.{name_on, same_connection}
+use Rattle.mscp_queue.specs.Records.{Record, has_name}
 use Rattle.mscp_queue.specs.declared.report.Report.{Report}
 use Rattle.mscp_queue.specs.declared.upcoming.Upcoming.{Upcoming}
 use Rattle.mscp_controller.specs.Calls.{Finish}
@@ -31,7 +32,7 @@ use Rattle.mscp_port.specs.declared.task.Task.{Task}
 use Rattle.mscp_port.specs.declared.task.Task.TheVariants as tasks
 use Rattle.mscp_port.specs.Calls.{IsMadeOf}
 use Rattle.mscp_port.specs.Histories.{Answered, Call, Picking, WasRead, Went}
-use Rattle.mscp_ported.specs.Answers.{own_answer, text_handed, volume_named}
+use Rattle.mscp_ported.specs.Answers.{asks_nothing, own_answer, text_handed, volume_named}
 use Rattle.mscp_ported.specs.Ends.{come}
 use Rattle.mscp_ported.specs.Making.{Makes}
 use Rattle.mscp_ported.specs.Moved.{block_moved}
@@ -145,13 +146,29 @@ pub record Counts {K : Type 0} (picks : Picking K) (e : End) (kind : MoveKind) (
   pub count : e.body ≡ bodies.Moved (min (num b 12 4) (512 * n))
 
 -- the law of counts: of such a port: where the end of a transfer comes by a step, of whose message the port keeps where
--- its data are, it counts just the blocks that were moved
+-- its data are, it counts just the blocks that were moved. A command that asks nothing of a disk is no transfer
 abbrev pub PortsCountWhatTheyMoved : {K : Type 0} → Picking K → Type 0
 PortsCountWhatTheyMoved {K} picks =
     (hardware : Hardware) (credits : ℕ) (controller : Holdings K) (start p : Port K) (calls : List Call)
     (outcome : Outcome) (done : Unit) (u : Upcoming) (kind : MoveKind) (count first : ℕ) (kept : Buffer) (e : End)
     → IsMadeOf hardware credits controller start → AsksAlways (Went outcome (Ok done) ∷ calls)
     → (a : Answered picks start (Went outcome (Ok done) ∷ calls) p) → begun_step a.0.controller ≡ Some u
-    → u.command.order ≡ orders.Move kind count first → Contains a.0.buffers.items kept → kept.reference ≡ e.reference
+    → u.command.order ≡ orders.Move kind count first → Contains a.0.buffers.items kept
+    → asks_nothing kept.opcode ≡ false → kept.reference ≡ e.reference
     → Contains (come a.0 p) e
     → (b : List ℕ) × (n : ℕ) × Counts picks e kind start p (Went outcome (Ok done) ∷ calls) a b n
+
+-- ---- the law of aborts
+
+-- of such a port: where the end of a transfer that waits comes by a message, which aborted it, it counts just the blocks
+-- that were moved, if the port keeps where its data are
+abbrev pub PortsCountWhatWasAborted : {K : Type 0} → Picking K → Type 0
+PortsCountWhatWasAborted {K} picks =
+    (hardware : Hardware) (credits : ℕ) (controller : Holdings K) (start p : Port K) (calls : List Call)
+    (bytes : List ℕ) (done : Unit) (r : Record) (kind : MoveKind) (count first : ℕ) (kept : Buffer) (e : End)
+    → IsMadeOf hardware credits controller start → AsksAlways (WasRead bytes (Ok done) ∷ calls)
+    → (a : Answered picks start (WasRead bytes (Ok done) ∷ calls) p)
+    → find (has_name (name_on First e.reference)) a.0.controller.waiting ≡ Some r
+    → r.command.order ≡ orders.Move kind count first → Contains a.0.buffers.items kept
+    → asks_nothing kept.opcode ≡ false → kept.reference ≡ e.reference → Contains (come a.0 p) e
+    → (b : List ℕ) × (n : ℕ) × Counts picks e kind start p (WasRead bytes (Ok done) ∷ calls) a b n

@@ -9,7 +9,7 @@ ghost use Rattle.mscp_ported.specs.News.{PortsAnnounceAvailableUnits};
 ghost use Rattle.mscp_ported.specs.Owed.{PortsDoWhatIsDue};
 ghost use Rattle.mscp_ported.specs.Polls.{PortsAnswerPolls};
 ghost use Rattle.mscp_ported.specs.Soon.{PortsKeepTelling, PortsTellSoon};
-ghost use Rattle.mscp_ported.specs.Transfers.{PortsCountWhatTheyMoved, PortsMoveEachBlock};
+ghost use Rattle.mscp_ported.specs.Transfers.{PortsCountWhatTheyMoved, PortsCountWhatWasAborted, PortsMoveEachBlock};
 ghost use Rattle.mscp_ported.specs.Told.{PortsHearInOrder, PortsTellInOrder};
 
 use mscp_controller::controllers_keep_the_promise;
@@ -87,6 +87,14 @@ pub fn ports_count_what_they_moved<K: Picker>(picker: &K)
     let _ = picker;
 }
 
+/// Of such a port: where a message brings the end of a transfer that waits, since it aborts it, the end counts just the blocks that
+/// were moved, if the port keeps where the transfer's data are.
+pub fn ports_count_what_was_aborted<K: Picker>(picker: &K)
+    ensures { PortsCountWhatWasAborted K.picks }
+{
+    let _ = picker;
+}
+
 /// Whoever calls a port, and whatever its host writes: where a block of a command is wanted, the volume in its unit is the one
 /// that was there as the command's message was read, and with which the unit is online: an ONLINE succeeded since the host wrote
 /// IP last, and since then no AVAILABLE did, and no volume came or went. This is said of a unit whose volume changed fewer than
@@ -119,8 +127,9 @@ pub fn ports_say_what_was_decided<K: Picker>(picker: &K)
 
 /// Of such a port, whose holder tells of actions only after they were wanted: what begins to go out as a text is read is an
 /// answer to that message, of its number and unit: to one for the utilities that its opcode is unknown; Success to DETERMINE
-/// ACCESS PATHS, COMPARE CONTROLLER DATA and FLUSH; and to a transfer past the end of its volume that its block isn't there. It
-/// is of the message's connection. To no other message the port gives an answer of its own.
+/// ACCESS PATHS, COMPARE CONTROLLER DATA and FLUSH, if their unit isn't there; and to a transfer past the end of its volume that
+/// its block isn't there. It is of the message's connection. To no other message the port gives an answer of its own. So no answer
+/// of the port's passes a sequential command but Invalid Command.
 pub fn ports_answer_as_they_may<K: Picker>(picker: &K)
     ensures { PortsAnswerAsTheyMay K.picks }
 {
@@ -129,7 +138,8 @@ pub fn ports_answer_as_they_may<K: Picker>(picker: &K)
 
 /// Of such a port, whose holder tells of actions only after they were wanted: a message that the port may answer itself never
 /// reaches its controller, and any other does, as of the host's connection, byte by byte, but that a GET UNIT STATUS which asks
-/// for the next unit names that one. So nothing of the utilities' connection reaches the controller.
+/// for the next unit names that one, and in the place of DETERMINE ACCESS PATHS, COMPARE CONTROLLER DATA and FLUSH comes an ACCESS
+/// of no bytes: so that these wait in the controller's order. Nothing of the utilities' connection reaches the controller.
 pub fn ports_hand_over_the_rest<K: Picker>(picker: &K)
     ensures { PortsHandOverTheRest K.picks }
 {

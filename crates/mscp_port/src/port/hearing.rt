@@ -208,7 +208,7 @@ impl<K: Picker> Port<K> {
               decided = self.new.decided;
             } }
         ensures decides { (s : Told) → answered_to self.old message.now ≡ Ok s
-            → self.new.decided.items ≡ decided_after s self.old.decided.items self.new }
+            → self.new.decided.items ≡ decided_after s self.old self.new }
         ensures queued { (reference : ℕ) → answered_to self.old message.now ≡ Ok (sents.Queued reference)
             → self.new.buffers.items ≡ kept_beside (buffer_in message.now (changes_at self.old.volumes
             (place_in self.old.controller.settings.units (num message.now 4 2)))) self.old.buffers.items }
@@ -224,9 +224,9 @@ impl<K: Picker> Port<K> {
         match self.controller.send(Connection::First, &sent) {
             Ok(Sent::Queued(_)) => self.keep(message),
             Ok(Sent::Answered { aborted, .. }) => {
-                forget_aborted(&mut self.buffers, aborted);
                 self.heed(message);
                 self.decide_answers();
+                forget_aborted(&mut self.buffers, aborted);
             }
             // Its length was judged by its header, so a credit is wanting, or its number is in use.
             Err(_) => self.stall(),

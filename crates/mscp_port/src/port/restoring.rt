@@ -174,7 +174,7 @@ fn volumes_in(b: &[u8]) -> [Volume; 16]
 
 /// What is kept of a command, in the bytes of that.
 fn buffer_in(b: &[u8]) -> Buffer
-    requires { length b.now ≡ 20 }
+    requires { length b.now ≡ 21 }
     ensures { result ≡ buffer_in b.now }
 {
     Buffer {
@@ -184,18 +184,19 @@ fn buffer_in(b: &[u8]) -> Buffer
         modifiers: two_at(b, 12),
         flags: two_at(b, 14),
         changes: four_at(b, 16),
+        opcode: b[20],
     }
 }
 
 /// What is kept of so many commands, behind one another from the first byte on.
 fn buffers_in(b: &[u8], count: usize) -> ArrayVec<Buffer, 64>
     requires few { count ≤ 64 }
-    requires long { 20 * count ≤ length b.now }
-    ensures { result.items ≡ parts_in buffer_in 20 count b.now }
+    requires long { 21 * count ≤ length b.now }
+    ensures { result.items ≡ parts_in buffer_in 21 count b.now }
 {
     let mut buffers = ArrayVec::new();
     for place in 0..count {
-        buffers.push(buffer_in(part(b, 20, place)));
+        buffers.push(buffer_in(part(b, 21, place)));
     }
     buffers
 }
@@ -203,12 +204,12 @@ fn buffers_in(b: &[u8], count: usize) -> ArrayVec<Buffer, 64>
 /// What so many ends say, behind one another from the first byte on.
 fn all_decided_in(b: &[u8], count: usize) -> ArrayVec<Decided, 64>
     requires few { count ≤ 64 }
-    requires long { 12 * count ≤ length b.now }
-    ensures { result.items ≡ parts_in decided_in 12 count b.now }
+    requires long { 13 * count ≤ length b.now }
+    ensures { result.items ≡ parts_in decided_in 13 count b.now }
 {
     let mut all = ArrayVec::new();
     for place in 0..count {
-        all.push(Decided::read(part(b, 12, place)));
+        all.push(Decided::read(part(b, 13, place)));
     }
     all
 }
@@ -228,7 +229,7 @@ fn is_framed(b: &[u8]) -> bool
         && text <= 48
         && buffers <= 64
         && decided <= 64
-        && 362 + text + 20 * buffers + 12 * decided <= b.len()
+        && 362 + text + 21 * buffers + 13 * decided <= b.len()
 }
 
 /// Why no parts are read: the first fault that holds.
@@ -281,7 +282,7 @@ fn all_decided_of(b: &[u8]) -> ArrayVec<Decided, 64>
     ensures { result.items ≡ all_decided_in b.now }
 {
     all_decided_in(
-        &b[362 + usize::from(b[71]) + 20 * usize::from(b[72])..],
+        &b[362 + usize::from(b[71]) + 21 * usize::from(b[72])..],
         usize::from(b[73]),
     )
 }
@@ -291,7 +292,7 @@ fn controller_bytes(b: &[u8]) -> &[u8]
     requires { IsFramed b.now }
     ensures { result.now ≡ drop (controller_place b.now) b.now }
 {
-    &b[362 + usize::from(b[71]) + 20 * usize::from(b[72]) + 12 * usize::from(b[73])..]
+    &b[362 + usize::from(b[71]) + 21 * usize::from(b[72]) + 13 * usize::from(b[73])..]
 }
 
 /// Whether the bytes in front of the controller's are those that the port is saved as that they say.

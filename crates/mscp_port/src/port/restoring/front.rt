@@ -18,7 +18,7 @@ use mscp_packet::fields::{put, put_two, two_at};
 
 /// Appends what bytes say that a port counts, and whether something is so.
 fn put_told_counts(out: &mut ArrayVec<u8, ROOM>, b: &[u8])
-    requires room { array_vec_len out.old + 8 ≤ 6122 }
+    requires room { array_vec_len out.old + 8 ≤ 6250 }
     requires long { 362 ≤ length b.now }
     ensures items { out.new.items ≡ out.old.items ++ counts_bytes (front_in b.now) }
     ensures len { array_vec_len out.new ≡ array_vec_len out.old + 8 }
@@ -35,7 +35,7 @@ fn put_told_counts(out: &mut ArrayVec<u8, ROOM>, b: &[u8])
 
 /// Appends what kind of port they say, what it counts, and what its host has set.
 fn put_told_state(out: &mut ArrayVec<u8, ROOM>, b: &[u8])
-    requires room { array_vec_len out.old + 22 ≤ 6122 }
+    requires room { array_vec_len out.old + 22 ≤ 6250 }
     requires long { 362 ≤ length b.now }
     ensures items { out.new.items ≡ out.old.items ++ state_bytes (front_in b.now) }
     ensures len { array_vec_len out.new ≡ array_vec_len out.old + 22 }
@@ -50,7 +50,7 @@ fn put_told_state(out: &mut ArrayVec<u8, ROOM>, b: &[u8])
 
 /// Appends how far they say that it has come, and what it has in hand, with what goes out.
 fn put_told_hand(out: &mut ArrayVec<u8, ROOM>, b: &[u8], outgoing: &Option<Outgoing>)
-    requires room { array_vec_len out.old + 40 ≤ 6122 }
+    requires room { array_vec_len out.old + 40 ≤ 6250 }
     requires framed { IsFramed b.now }
     requires told { outgoing.now ≡ (front_in b.now).outgoing }
     ensures items { out.new.items ≡ out.old.items ++ hand_bytes (front_in b.now) }

@@ -4,6 +4,7 @@ use Rattle.mscp_port.proofs.port.Port.see_text.Goals as goal
 
 pub returns-in-None-clause-sees : goal.returns-in-None-clause-sees
 returns-in-None-clause-sees g c = record {
+  long = c.requires.short;
   own = search rules;
   own_waits = search rules;
   sent = λ s none. elim s as (λ (s : Sent). answered_to c.args.self.now c.args.message.now ≡ Ok s

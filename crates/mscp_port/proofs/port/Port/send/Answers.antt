@@ -1,4 +1,4 @@
-use Rattle.mscp_port.proofs.Common.{arith}
+use Rattle.mscp_port.proofs.Common.{◌∙◌, arith, ap, inl, subst, List, Contains, Buffer}
 use Rattle.mscp_port.proofs.Settings.{settings_after}
 use Rattle.mscp_port.proofs.port.Port.send.Goals as goal
 
@@ -19,3 +19,9 @@ returns-in-Ok-Answered-clause-settings g c =
 pub returns-in-Ok-Queued-clause-queued : goal.returns-in-Ok-Queued-clause-queued
 returns-in-Ok-Queued-clause-queued g c =
     search (arith, settings_after, c.keep.ensures.value, c.send.ensures.after)
+
+pub returns-in-Ok-Answered-clause-among : goal.returns-in-Ok-Answered-clause-among
+returns-in-Ok-Answered-clause-among g c = λ b there.
+    inl (subst (λ (bs : List Buffer). Contains bs b)
+    (ap (λ p. p.buffers.items) c.decide_answers.ensures.frame ∙ ap (λ p. p.buffers.items) c.heed.ensures.frame)
+    (c.forget_aborted.ensures.left b there))

@@ -5,6 +5,6 @@ abbrev pub invariant-loop-decided : goal.invariant-loop-decided
 invariant-loop-decided l =
     record {
       items : l.out.items ≡ l.fn.out.items ++ flat_map decided_bytes (take l.decided-index l.all);
-      len : array_vec_len l.out ≡ array_vec_len l.fn.out + 12 * l.decided-index;
+      len : array_vec_len l.out ≡ array_vec_len l.fn.out + 13 * l.decided-index;
       range : All HasDecidedRange (take l.decided-index l.all);
     }

@@ -15,6 +15,6 @@ returns-clause-items c =
     let text = more xs _ _ _ kind c.push-2.ensures.items
     (ap (λ (l : List ℕ). length l ∷ []) (c.text_of.ensures.value ∙ ap outgoing_text c.requires.told)) in
     let buffers = more xs _ _ _ text c.push-3.ensures.items
-    (ap (λ (n : ℕ). n ∷ []) (sym (parts_long buffer_in 20 (buffer_count b) (drop (buffer_place b) b)))) in
+    (ap (λ (n : ℕ). n ∷ []) (sym (parts_long buffer_in 21 (buffer_count b) (drop (buffer_place b) b)))) in
     more xs _ _ _ buffers c.push-4.ensures.items
-    (ap (λ (n : ℕ). n ∷ []) (sym (parts_long decided_in 12 (decided_count b) (drop (decided_place b) b))))
+    (ap (λ (n : ℕ). n ∷ []) (sym (parts_long decided_in 13 (decided_count b) (drop (decided_place b) b))))

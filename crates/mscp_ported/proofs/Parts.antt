@@ -1,0 +1,73 @@
+-- A part of what is kept of a command, where its block may be moved.
+use Rattle.std.proofs.Common.{◌<◌, ◌≡◌, ◌≢◌, ◌+◌, ◌-◌, ◌*◌, ◌≤◌, ◌||◌, ℕ, Bool, true, false, cond, min, nat_eq, nat_lt, Option, None, Some, IfSome, refl, ap, sym, arith}
+use Rattle.std.specs.Prelude.{Ok, Err}
+use Rattle.std.proofs.lemmas.Option.{none-some, same_Some}
+use Rattle.mscp_packet.specs.declared.command.MoveKind.{MoveKind}
+use Rattle.mscp_drive.specs.declared.block.Block.TheVariants as blocks
+use Rattle.mscp_port.specs.declared.buffers.Buffer.{Buffer}
+use Rattle.mscp_port.specs.declared.verdict.Verdict.{Verdict}
+use Rattle.mscp_port.specs.declared.verdict.Verdict.TheVariants as verdicts
+use Rattle.mscp_port.specs.declared.volumes.Volume.{Volume}
+use Rattle.mscp_port.specs.Blocks.{fault_with, part_with, refusal_of, unless_fault}
+use Rattle.mscp_port.specs.Buffers.{left_of, part_of}
+use Rattle.mscp_port.specs.Formalities.{is_formality}
+use Rattle.mscp_ported.specs.Answers.{asks_nothing}
+
+-- ---- parts of buffers
+
+-- no step goes well that may not go on
+abbrev IsNoGood : Verdict → Type 0
+IsNoGood verdict = verdict ≢ verdicts.Served blocks.Good
+
+refused : (kind : MoveKind) (block : ℕ) (b : Buffer) (v : Volume) → IfSome (refusal_of kind block b v) IsNoGood
+refused kind block b v = grind arith
+
+faulty : (kind : MoveKind) (block : ℕ) (b : Buffer) (v : Volume) → IfSome (fault_with kind block b v) IsNoGood
+faulty kind block b v = grind (arith, refused)
+
+-- this part of a buffer is left, where a step may go on
+pub part_left : (kind : MoveKind) (block at : ℕ) (b : Buffer) (v : Volume) (part : ℕ × ℕ)
+    → part_with kind block at b v ≡ Ok part → part_of b at ≡ Some part
+part_left kind block at b v part e = by (fault_with kind block b v) (part_of b at) e
+  where
+    by : (o : Option Verdict) (q : Option (ℕ × ℕ)) → unless_fault o q ≡ Ok part → q ≡ Some part
+    by (Some verdict) q e = search (arith, e)
+    by None None e = search (arith, e)
+    by None (Some x) e = search (arith, e)
+
+pub no_good_part : (kind : MoveKind) (block at : ℕ) (b : Buffer) (v : Volume) (verdict : Verdict)
+    → part_with kind block at b v ≡ Err verdict → IsNoGood verdict
+no_good_part kind block at b v verdict e = by (fault_with kind block b v) (part_of b at) (faulty kind block b v) e
+  where
+    by : (o : Option Verdict) (q : Option (ℕ × ℕ)) → IfSome o IsNoGood → unless_fault o q ≡ Err verdict
+        → verdict ≢ verdicts.Served blocks.Good
+    by (Some x) q h e = search (arith, e, h)
+    by None None h e = search (arith, e)
+    by None (Some x) h e = search (arith, e)
+
+pub part_is : (b : Buffer) (at : ℕ) (part : ℕ × ℕ) → part_of b at ≡ Some part
+    → (part.0 ≡ b.address + at * 512) × (part.1 ≡ min (b.count - at * 512) 512)
+part_is b at part e = by (is_formality b.opcode || nat_lt b.count (at * 512)
+    || nat_lt 0xFFFF_FFFF (b.address + at * 512 + left_of b at)) e
+  where
+    by : (c : Bool) → cond c None (Some (b.address + at * 512, left_of b at)) ≡ Some part
+        → (part.0 ≡ b.address + at * 512) × (part.1 ≡ min (b.count - at * 512) 512)
+    by true e = absurd (none-some part e)
+    by false e =
+        let same = same_Some (b.address + at * 512, left_of b at) part e in
+        (sym (ap (λ x. x.0) same), sym (ap (λ x. x.1) same))
+
+-- and its command asks something of the disk
+pub has_data : (b : Buffer) (at : ℕ) (part : ℕ × ℕ) → part_of b at ≡ Some part → asks_nothing b.opcode ≡ false
+has_data b at part e = by (is_formality b.opcode) (nat_lt b.count (at * 512))
+    (nat_lt 0xFFFF_FFFF (b.address + at * 512 + left_of b at)) e
+  where
+    by : (x y z : Bool) → cond (x || y || z) None (Some (b.address + at * 512, left_of b at)) ≡ Some part → x ≡ false
+    by true y z h = absurd (none-some part h)
+    by false y z h = refl
+
+pub some_left : (n m k : ℕ) → k ≡ min (n - m) 512 → nat_eq k 0 ≡ false → m < n
+some_left n m k e f = search (arith, e, f)
+
+pub none_left : (n m : ℕ) → min (n - m) 512 ≡ 0 → n ≤ m
+none_left n m e = search (arith, e)
