@@ -152,7 +152,7 @@ stamp() (
 is_touched_since() {
     local found
     found=$(cd -- "$top" && find crates.txt HANDLES crates -regex 'crates/[^/]*/out' -prune -o \
-        '(' -type f -o -type l ! -xtype l ')' -cnewer "$1" -print -quit) || refuse "what stands here can't be read"
+        '(' -type f -o -type l ! -xtype l ')' -cnewer "$1" -print -quit) || refuse "the sources can't be read"
     [ -n "$found" ]
 }
 
@@ -300,7 +300,7 @@ build_libraries() {
 ended_well() {
     [ "$1" -ne 0 ] || return 0
     printf %s "$said" >&2
-    refuse "what stands here isn't proved and built, as rt ended with status $1"
+    refuse "the sources aren't proved and built, as rt ended with status $1"
 }
 
 # Proves and builds by rt: the libraries side by side if nothing of them is there, and then what is wanted, which takes them.
@@ -335,7 +335,7 @@ keep() {
 
 # Tells whether it is kept what rt would build of what stands here.
 is_kept() {
-    wanted=$(stamp) || refuse "what stands here can't be read"
+    wanted=$(stamp) || refuse "the sources can't be read"
     [ -e "$kept-$wanted" ]
 }
 

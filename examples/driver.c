@@ -161,7 +161,7 @@ static void send_all(struct driver *driver)
         request->state = SENT;
 }
 
-/* Takes a request, of which `ended` tells by its tag. The command's number is the driver's to choose. False: there is no
+/* Takes a request, of which `ended` reports by its tag. The command's number is the driver's to choose. False: there is no
  * such unit, or the table is full. */
 static bool driver_ask(struct driver *driver, const struct mscp_command *command, uint32_t tag)
 {
@@ -314,7 +314,7 @@ static bool driver_tick(struct driver *driver)
     }
 }
 
-/* ---- a machine with a port, of which something stands still for a while */
+/* ---- a machine with a port, of which something stops for a while */
 #ifndef DRIVER_PART
 #include <stdio.h>
 

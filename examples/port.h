@@ -6,7 +6,7 @@
 
 #define PORT_COMMANDS 16u /* that a host may have outstanding */
 #ifndef PORT_RUN
-#define PORT_RUN 64u /* blocks that are moved at once, for which a port has room: 1 where memory is short */
+#define PORT_RUN 64u /* blocks that are moved at once, for which a port has room: 1 if memory is short */
 #endif
 
 /* What the machine does for its port. Each callback gets `machine` as it is here. Addresses are those of the bus, of 22 bits or
@@ -32,13 +32,13 @@ struct port_bus {
 /* A block that takes its time: none is begun, one is, or it was moved, or it couldn't be. */
 enum port_slow { PORT_IDLE, PORT_BEGUN, PORT_MOVED, PORT_FAILED };
 
-/* A port, with a controller. It holds no pointer but those of its bus: it may be copied, and saved as the bytes behind `bus`. */
+/* A port, with a controller. It holds no pointer but those of its bus: it may be copied, and saved as the bytes after `bus`. */
 struct port {
     struct port_bus bus;
     uint8_t lines; /* of the bus, an enum mscp_bus */
     struct {
-        uint32_t first, done, count; /* of its command: behind how many blocks the run and the next of it are, and how many wait */
-    } ahead;                         /* blocks that were moved in this turn, and not told yet */
+        uint32_t first, done, count; /* of its command: after how many blocks the run and the next of it are, and how many wait */
+    } ahead;                         /* blocks that were moved in this turn, and not reported yet */
     uint32_t left; /* actions in this turn */
     enum port_slow slow;
     struct mscp_upcoming step; /* that the block is of */
@@ -68,7 +68,7 @@ void port_write(struct port *port, unsigned offset, uint16_t word);
 bool port_turn(struct port *port, unsigned most);
 
 /* The block of this serial was moved, with the bytes that were read, or it couldn't be. Whether the port still wants it: if not it
- * is dropped, as after an ABORT or a reset. Then it is time for a turn. To be called where no other call is under way. */
+ * is dropped, as after an ABORT or a reset. Then it is time for a turn. To be called while no other call is under way. */
 bool port_moved(struct port *port, uint64_t serial, bool went_well, const uint8_t *bytes);
 
 /* A second of the machine went by. */
