@@ -109,6 +109,11 @@ local fourth = {
         return calls[name] and it.classes[1] ~= 'kept' and to_call(name, { it }) or nil
     end,
     Str = function(it) return is_manual and linked(it.text) or nil end,
+    -- Of the blanks that a line of a synopsis begins with one is left.
+    CodeBlock = function(it)
+        it.text = is_manual and it.text:gsub('\n ', '\n        ') or it.text
+        return it
+    end,
 }
 
 -- The terms of a list of the library's page are its calls, each with an anchor.
