@@ -3,6 +3,7 @@
 #![tactic(auto)]
 
 mod ending;
+mod explaining;
 mod fault;
 mod hearing;
 mod judging;
@@ -11,12 +12,14 @@ mod totals;
 mod wire;
 
 use crate::ending::Ending;
+use crate::explaining::{limit_of, line_of};
 use crate::fault::Fault;
 use crate::hearing::hear;
 use crate::judging::{Outcome, judge};
 use crate::showing::show_captured;
 use crate::wire::judge_captured;
-use mscp_script::Stream;
+use mscp_reader::ScriptFault;
+use mscp_script::{Stream, read_all};
 use std::fs::File;
 use std::io;
 use std::io::{ErrorKind, Read};
@@ -66,10 +69,9 @@ fn answer<R: Read + Drop>(rt: &HostRuntime, call: Call, reader: R) -> Result<Out
     }
 }
 
-/// Does what the words of the command line ask for.
-fn act(rt: &HostRuntime) -> Result<Outcome, Fault> {
-    let words = words_of(rt)?;
-    let (call, file) = match words.as_slice() {
+/// What the words of the command line ask for, and of which file.
+fn asked(words: &[String]) -> Result<(Call, &str), Fault> {
+    Ok(match words {
         [] => (Call::Legal, "-"),
         [word] => (call_of(word.as_str())?, "-"),
         [word, show] if word.as_str() == "wire" && show.as_str() == "--show" => (Call::Show, "-"),
@@ -78,7 +80,34 @@ fn act(rt: &HostRuntime) -> Result<Outcome, Fault> {
             (Call::Show, file.as_str())
         }
         _ => return Err(Fault::Usage),
+    })
+}
+
+/// Says what would be right in place of a fault, and which line was read, if that is in a file and is text.
+fn explain(rt: &HostRuntime, words: &[String], fault: ScriptFault) {
+    let _ = eprint!(rt; "limit: {}\n", limit_of(fault.cause));
+    let Ok((_, file)) = asked(words) else {
+        return;
     };
+    if file == "-" {
+        return;
+    }
+    let Ok(reader) = File::open(rt, file) else {
+        return;
+    };
+    let Ok(log) = read_all(rt.alloc(), &mut Stream::new(reader)) else {
+        return;
+    };
+    if let Some(line) = line_of(&log, fault) {
+        if let Ok(text) = std::str::from_utf8(line) {
+            let _ = eprint!(rt; "read: {}\n", text);
+        }
+    }
+}
+
+/// Does what the words of the command line ask for.
+fn act(rt: &HostRuntime, words: &[String]) -> Result<Outcome, Fault> {
+    let (call, file) = asked(words)?;
     match file {
         "-" => answer(rt, call, rt.reader()),
         file => match File::open(rt, file) {
@@ -89,8 +118,20 @@ fn act(rt: &HostRuntime) -> Result<Outcome, Fault> {
 }
 
 fn main(rt: HostRuntime) -> ExitCode {
-    let ending = Ending::of(act(&rt));
+    let words = words_of(&rt);
+    let outcome = match &words {
+        Ok(words) => act(&rt, words.as_slice()),
+        Err(fault) => Err(*fault),
+    };
+    let fault = match &outcome {
+        Err(Fault::Log(fault)) => Some(*fault),
+        _ => None,
+    };
+    let ending = Ending::of(outcome);
     // There is nobody to tell where standard error can't be written.
     let _ = eprint!(rt; "{}", ending.line.as_str());
+    if let (Ok(words), Some(fault)) = (&words, fault) {
+        explain(&rt, words.as_slice(), fault);
+    }
     ExitCode::from(ending.status)
 }
