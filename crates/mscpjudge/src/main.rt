@@ -2,6 +2,7 @@
 //! over the wire keeps the manual's rules. Shows a log of the wire in words.
 #![tactic(auto)]
 
+mod choosing;
 mod ending;
 mod fault;
 mod hearing;
@@ -10,8 +11,9 @@ mod showing;
 mod totals;
 mod wire;
 
+use crate::choosing::{Call, choose};
 use crate::ending::Ending;
-use crate::fault::Fault;
+use crate::fault::{Fault, words_fault};
 use crate::hearing::hear;
 use crate::judging::{Outcome, judge};
 use crate::showing::show_captured;
@@ -19,39 +21,13 @@ use crate::wire::judge_captured;
 use mscp_script::Stream;
 use std::fs::File;
 use std::io;
-use std::io::{ErrorKind, Read};
+use std::io::Read;
 use std::process::ExitCode;
 
 /// The words of the command line, without the program's name. One that is no text is a wrong word.
 fn words_of(rt: &HostRuntime) -> Result<Vec<String>, Fault> {
-    let words = std::env::args(rt).map_err(|refusal| match refusal.kind() {
-        ErrorKind::OutOfMemory => Fault::OutOfMemory,
-        _ => Fault::Usage,
-    })?;
+    let words = std::env::args(rt).map_err(|refusal| words_fault(refusal.kind()))?;
     Ok(words.skip(1).collect(rt.alloc())?)
-}
-
-/// What is asked of a log.
-#[derive(Clone, Copy)]
-enum Call {
-    /// Whether it is legal.
-    Legal,
-    /// What hosts would have heard.
-    Host,
-    /// Whether what went over the wire keeps the manual's rules.
-    Wire,
-    /// What went over the wire, in words.
-    Show,
-}
-
-/// What a word asks for.
-fn call_of(word: &str) -> Result<Call, Fault> {
-    match word {
-        "legal" => Ok(Call::Legal),
-        "host" => Ok(Call::Host),
-        "wire" => Ok(Call::Wire),
-        _ => Err(Fault::Usage),
-    }
 }
 
 /// Answers a call about the log that a reader gives, on standard output.
@@ -69,20 +45,11 @@ fn answer<R: Read + Drop>(rt: &HostRuntime, call: Call, reader: R) -> Result<Out
 /// Does what the words of the command line ask for.
 fn act(rt: &HostRuntime) -> Result<Outcome, Fault> {
     let words = words_of(rt)?;
-    let (call, file) = match words.as_slice() {
-        [] => (Call::Legal, "-"),
-        [word] => (call_of(word.as_str())?, "-"),
-        [word, show] if word.as_str() == "wire" && show.as_str() == "--show" => (Call::Show, "-"),
-        [word, file] => (call_of(word.as_str())?, file.as_str()),
-        [word, show, file] if word.as_str() == "wire" && show.as_str() == "--show" => {
-            (Call::Show, file.as_str())
-        }
-        _ => return Err(Fault::Usage),
-    };
-    match file {
-        "-" => answer(rt, call, rt.reader()),
+    let asked = choose(&words)?;
+    match asked.file {
+        "-" => answer(rt, asked.call, rt.reader()),
         file => match File::open(rt, file) {
-            Ok(reader) => answer(rt, call, reader),
+            Ok(reader) => answer(rt, asked.call, reader),
             Err(_) => Err(Fault::Read),
         },
     }
