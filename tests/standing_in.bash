@@ -12,7 +12,7 @@ mkdir "$TMPDIR"
 plant() {
     rm -rf -- "$tree" "$STAND_IN" "$room/commands"
     mkdir -p "$STAND_IN" "$tree"/{docs/pictures,include,examples,releasing} "$tree"/crates/{low,mscp_c,mscpq,mscpjudge}/{src/out,specs,proofs/main}
-    cp mscpq install building.bash "$tree" && cp -r releasing/{finding,pages} "$tree/releasing"
+    cp mscpq mscpjudge install building.bash "$tree" && cp -r releasing/{finding,pages} "$tree/releasing"
     echo 'a kit' >"$STAND_IN/kit"
     echo 'Handles allowed: none.' >"$tree/HANDLES"
     printf '%s\n' '# The crates.' 'low: std' 'mscpq: low' 'mscp_c staticlib: low' 'mscpjudge: low' >"$tree/crates.txt"

@@ -5,14 +5,24 @@
 #define mscp_send_at send_seen
 #define mscp_look_at look_seen
 #define mscp_why_at why_seen
+#define mscp_settings_at settings_seen
+#define mscp_save_at save_seen
+#define mscp_restore_at restore_seen
 #define mscp_host_submit_at submit_seen
 #define mscp_host_receive_at receive_seen
+#define mscp_host_save_at host_save_seen
+#define mscp_host_restore_at host_restore_seen
 #define mscp_driver_submit_at driver_submit_seen
 #define mscp_driver_hear_at driver_hear_seen
 #define mscp_driver_outstanding_at driver_outstanding_seen
+#define mscp_driver_save_at driver_save_seen
+#define mscp_driver_restore_at driver_restore_seen
 #define mscp_read_end_at read_end_seen
 #define mscp_port_init_at port_init_seen
 #define mscp_port_was_read_at was_read_seen
+#define mscp_port_settings_at port_settings_seen
+#define mscp_port_save_at port_save_seen
+#define mscp_port_restore_at port_restore_seen
 #define mscp_port_look_at port_look_seen
 #define mscp_port_why_at port_why_seen
 #define mscp_run_script_at script_seen
@@ -108,10 +118,39 @@ int32_t script_seen(const uint8_t *script, size_t length, uint8_t *bytes, size_t
     return count != NULL && line != NULL && (room > 0 || bytes != NULL) ? see(script, length) : 0;
 }
 
+/* A packet's room is seen, or if that has two bytes its word. */
 int32_t packet_seen(const uint8_t *word, size_t length, uint8_t *bytes, size_t room, size_t *count)
 {
-    return word != NULL && length == 2 && count != NULL ? see(bytes, room) : 0;
+    if (word == NULL || bytes == NULL || count == NULL)
+        return 0;
+    return room == 2 ? see(word, length) : see(bytes, room);
 }
+
+int32_t settings_seen(const struct mscp *mscp, struct mscp_limits *limits, struct mscp_unit *units, size_t room)
+{
+    return mscp != NULL && limits != NULL ? see(units, room) : 0;
+}
+
+int32_t port_settings_seen(const struct mscp_port *port, struct mscp_limits *limits, struct mscp_unit *units, size_t room)
+{
+    return port != NULL && limits != NULL ? see(units, room) : 0;
+}
+
+/* A save and a restore of each. */
+#define SAVES(name, type)                                                                          \
+    int32_t name##save_seen(const struct type *it, uint8_t *bytes, size_t room, size_t *length)    \
+    {                                                                                              \
+        return it != NULL && length != NULL ? see(bytes, room) : 0;                                \
+    }                                                                                              \
+    int32_t name##restore_seen(struct type *it, const uint8_t *bytes, size_t length)               \
+    {                                                                                              \
+        return it != NULL ? see(bytes, length) : 0;                                                \
+    }
+
+SAVES(, mscp)
+SAVES(host_, mscp_host)
+SAVES(driver_, mscp_driver)
+SAVES(port_, mscp_port)
 
 /* No handle: an init and a restore say that there is no memory, and all others that nothing was made. */
 static void handles(const struct mscp_limits *limits, const struct mscp_unit *units, const struct mscp_hardware *hardware)
@@ -153,6 +192,28 @@ static void passes(const char *what, int64_t answer, const void *pointer, size_t
     is(what, length_seen == length, 1);
 }
 
+static void saves(struct mscp *mscp, struct mscp_host *host, struct mscp_driver *driver, struct mscp_port *port)
+{
+    uint8_t bytes[2] = {0, 0};
+    size_t count;
+    passes("save", mscp_save(mscp, bytes, 2, &count), bytes, 2);
+    passes("save in no room", mscp_save(mscp, NULL, 0, &count), NULL, 0);
+    passes("restore", mscp_restore(mscp, bytes, 2), bytes, 2);
+    passes("restore of no byte", mscp_restore(mscp, NULL, 0), NULL, 0);
+    passes("save of a host", mscp_host_save(host, bytes, 2, &count), bytes, 2);
+    passes("save of a host in no room", mscp_host_save(host, NULL, 0, &count), NULL, 0);
+    passes("restore of a host", mscp_host_restore(host, bytes, 2), bytes, 2);
+    passes("restore of a host of no byte", mscp_host_restore(host, NULL, 0), NULL, 0);
+    passes("save of a driver", mscp_driver_save(driver, bytes, 2, &count), bytes, 2);
+    passes("save of a driver in no room", mscp_driver_save(driver, NULL, 0, &count), NULL, 0);
+    passes("restore of a driver", mscp_driver_restore(driver, bytes, 2), bytes, 2);
+    passes("restore of a driver of no byte", mscp_driver_restore(driver, NULL, 0), NULL, 0);
+    passes("save of a port", mscp_port_save(port, bytes, 2, &count), bytes, 2);
+    passes("save of a port in no room", mscp_port_save(port, NULL, 0, &count), NULL, 0);
+    passes("restore of a port", mscp_port_restore(port, bytes, 2), bytes, 2);
+    passes("restore of a port of no byte", mscp_port_restore(port, NULL, 0), NULL, 0);
+}
+
 int main(void)
 {
     static struct mscp mscp;
@@ -188,7 +249,14 @@ int main(void)
     passes("look into a port", mscp_port_look(&port, list, 2), list, 2);
     passes("why in a port", mscp_port_why(&port, 7, 9, holders, 2), holders, 2);
     passes("script", mscp_run_script(bytes, 2, out, 2, &count, &line), bytes, 2);
-    passes("packet", mscp_show_packet(bytes, 2, out, 2, &count), out, 2);
+    passes("packet", mscp_show_packet(bytes, 2, out, 1, &count), out, 1);
+    passes("packet's word", mscp_show_packet(bytes, 2, out, 2, &count), bytes, 2);
+    passes("packet of no word", mscp_show_packet(NULL, 0, out, 2, &count), NULL, 0);
+    passes("settings", mscp_settings(&mscp, &limits, units, 2), units, 2);
+    passes("settings of no unit", mscp_settings(&mscp, &limits, NULL, 0), NULL, 0);
+    passes("settings of a port", mscp_port_settings(&port, &limits, units, 2), units, 2);
+    passes("settings of no unit of a port", mscp_port_settings(&port, &limits, NULL, 0), NULL, 0);
+    saves(&mscp, &host, &driver, &port);
     passes("init of none", mscp_init(&mscp, &limits, NULL, 0, 3), NULL, 0);
     passes("send of none", mscp_send(&mscp, 7, NULL, 0, &sent), NULL, 0);
     passes("look at none", mscp_look(&mscp, NULL, 0), NULL, 0);

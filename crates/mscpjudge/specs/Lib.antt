@@ -1,4 +1,5 @@
 pub mod Said
+pub mod Chosen
 pub mod Endings
 pub mod Heard
 pub mod Counted

@@ -1,12 +1,13 @@
 // What can go wrong in a call of the program.
 
-ghost use Rattle.std.specs.Prelude.{◌≡◌};
+ghost use Rattle.std.specs.Prelude.{◌≡◌, ◌↔◌, ◌⊎◌};
 ghost use Rattle.mscpjudge.specs.Said.{fault_of_reading, fault_of_log};
 ghost use Rattle.mscpjudge.specs.declared.fault.Fault.TheVariants as faults;
 
 use mscp_reader::{ReadFault, ScriptFault};
 use mscp_script::{Failed, ReadAllFault};
 use std::alloc::AllocError;
+use std::io::ErrorKind;
 
 /// Why a log isn't judged.
 #[derive(Clone, Copy)]
@@ -58,5 +59,16 @@ impl From<AllocError> for Fault {
 
     fn from(_refusal: AllocError) -> Fault {
         Fault::OutOfMemory
+    }
+}
+
+/// Why the words of the command line aren't read. A word that is no text is a wrong word.
+pub fn words_fault(kind: ErrorKind) -> Fault
+    ensures memory { (result ≡ faults.OutOfMemory) ↔ (kind ≡ ErrorKind.OutOfMemory) }
+    ensures usage { (result ≡ faults.OutOfMemory) ⊎ (result ≡ faults.Usage) }
+{
+    match kind {
+        ErrorKind::OutOfMemory => Fault::OutOfMemory,
+        _ => Fault::Usage,
     }
 }

@@ -2,6 +2,7 @@
 //! over the wire keeps the manual's rules. Shows a log of the wire in words.
 #![tactic(auto)]
 
+mod choosing;
 mod ending;
 mod explaining;
 mod fault;
@@ -11,9 +12,10 @@ mod showing;
 mod totals;
 mod wire;
 
+use crate::choosing::{Call, choose};
 use crate::ending::Ending;
 use crate::explaining::{limit_of, line_of};
-use crate::fault::Fault;
+use crate::fault::{Fault, words_fault};
 use crate::hearing::hear;
 use crate::judging::{Outcome, judge};
 use crate::showing::show_captured;
@@ -22,39 +24,13 @@ use mscp_reader::ScriptFault;
 use mscp_script::{Stream, read_all};
 use std::fs::File;
 use std::io;
-use std::io::{ErrorKind, Read};
+use std::io::Read;
 use std::process::ExitCode;
 
 /// The words of the command line, without the program's name. One that is no text is a wrong word.
 fn words_of(rt: &HostRuntime) -> Result<Vec<String>, Fault> {
-    let words = std::env::args(rt).map_err(|refusal| match refusal.kind() {
-        ErrorKind::OutOfMemory => Fault::OutOfMemory,
-        _ => Fault::Usage,
-    })?;
+    let words = std::env::args(rt).map_err(|refusal| words_fault(refusal.kind()))?;
     Ok(words.skip(1).collect(rt.alloc())?)
-}
-
-/// What is asked of a log.
-#[derive(Clone, Copy)]
-enum Call {
-    /// Whether it is legal.
-    Legal,
-    /// What hosts would have heard.
-    Host,
-    /// Whether what went over the wire keeps the manual's rules.
-    Wire,
-    /// What went over the wire, in words.
-    Show,
-}
-
-/// What a word asks for.
-fn call_of(word: &str) -> Result<Call, Fault> {
-    match word {
-        "legal" => Ok(Call::Legal),
-        "host" => Ok(Call::Host),
-        "wire" => Ok(Call::Wire),
-        _ => Err(Fault::Usage),
-    }
 }
 
 /// Answers a call about the log that a reader gives, on standard output.
@@ -69,30 +45,16 @@ fn answer<R: Read + Drop>(rt: &HostRuntime, call: Call, reader: R) -> Result<Out
     }
 }
 
-/// What the words of the command line ask for, and of which file.
-fn asked(words: &[String]) -> Result<(Call, &str), Fault> {
-    Ok(match words {
-        [] => (Call::Legal, "-"),
-        [word] => (call_of(word.as_str())?, "-"),
-        [word, show] if word.as_str() == "wire" && show.as_str() == "--show" => (Call::Show, "-"),
-        [word, file] => (call_of(word.as_str())?, file.as_str()),
-        [word, show, file] if word.as_str() == "wire" && show.as_str() == "--show" => {
-            (Call::Show, file.as_str())
-        }
-        _ => return Err(Fault::Usage),
-    })
-}
-
-/// Says what would be right in place of a fault, and which line was read, if that is in a file and is text.
+/// Says what would be right in place of a fault, and which line was read, if that is in a file and is plain text.
 fn explain(rt: &HostRuntime, words: &[String], fault: ScriptFault) {
     let _ = eprint!(rt; "limit: {}\n", limit_of(fault.cause));
-    let Ok((_, file)) = asked(words) else {
+    let Ok(asked) = choose(words) else {
         return;
     };
-    if file == "-" {
+    if asked.file == "-" {
         return;
     }
-    let Ok(reader) = File::open(rt, file) else {
+    let Ok(reader) = File::open(rt, asked.file) else {
         return;
     };
     let Ok(log) = read_all(rt.alloc(), &mut Stream::new(reader)) else {
@@ -105,13 +67,13 @@ fn explain(rt: &HostRuntime, words: &[String], fault: ScriptFault) {
     }
 }
 
-/// Does what the words of the command line ask for.
+/// Does what these words of the command line ask for.
 fn act(rt: &HostRuntime, words: &[String]) -> Result<Outcome, Fault> {
-    let (call, file) = asked(words)?;
-    match file {
-        "-" => answer(rt, call, rt.reader()),
+    let asked = choose(words)?;
+    match asked.file {
+        "-" => answer(rt, asked.call, rt.reader()),
         file => match File::open(rt, file) {
-            Ok(reader) => answer(rt, call, reader),
+            Ok(reader) => answer(rt, asked.call, reader),
             Err(_) => Err(Fault::Read),
         },
     }
@@ -128,7 +90,7 @@ fn main(rt: HostRuntime) -> ExitCode {
         _ => None,
     };
     let ending = Ending::of(outcome);
-    // There is nobody to tell where standard error can't be written.
+    // There is nobody to say it to if standard error can't be written.
     let _ = eprint!(rt; "{}", ending.line.as_str());
     if let (Ok(words), Some(fault)) = (&words, fault) {
         explain(&rt, words.as_slice(), fault);
