@@ -34,9 +34,11 @@ halts_with() { grep -qxP "R0:\t$1" "$room/said" || { cat "$room/said" && return 
 # Words for copy.s, of commands of so many blocks. By 127 each of the four has 64 KiB of memory.
 of_32=(chunks=400) of_127=(chunks=100 blocks=177 bytes=177000 apart=0 wide=1)
 
-# The seconds of the processor, user and system together, of a machine that copies.
+# Copies by this machine, with memory for commands of 127 blocks.
+copies() { machine "$1" 'set cpu 11/83 1m' "${both_disks[@]}" "${booted[@]}" && halts_with 012345; }
+
+# The seconds of the processor for that, user and system together.
 seconds_of() {
-    local TIMEFORMAT='%U %S'
-    { time machine "$1" 'set cpu 11/83 1m' "${both_disks[@]}" "${booted[@]}"; } 2>&1 | awk '{ print $1 + $2 }' &&
-        halts_with 012345 >&2
+    local TIMEFORMAT='%U %S' both
+    { both=$({ time copies "$1" >&3; } 2>&1) && awk -v both="$both" 'BEGIN { split(both, it, " "); printf "%.3f\n", it[1] + it[2] }'; } 3>&2
 }
