@@ -43,10 +43,19 @@ int32_t port_open(struct port *port, const struct port_bus *bus, const struct ms
 
 int32_t port_restore(struct port *port, const uint8_t *bytes, size_t length)
 {
-    int32_t status = mscp_port_restore(port_itself(port), bytes, length);
+    struct mscp_port *itself = port_itself(port);
+    struct mscp_hardware hardware = {0};
+    uint8_t before[MSCP_PORT_SAVED_MAX];
+    size_t count;
+    int32_t status = mscp_port_save(itself, before, sizeof before, &count);
     if (status == MSCP_DONE)
-        forget(port);
-    return status;
+        status = mscp_port_restore(itself, bytes, length);
+    if (status != MSCP_DONE || mscp_port_hardware(itself, &hardware) != MSCP_DONE)
+        return status;
+    if (hardware.bus != port->lines)
+        return mscp_port_restore(itself, before, count) == MSCP_DONE ? MSCP_BAD_BUS : MSCP_NOT_MADE;
+    forget(port);
+    return MSCP_DONE;
 }
 
 /* Its handle has a pointer to what lies behind it, which is set anew: the port may have been copied. */

@@ -63,7 +63,7 @@ int32_t port_open(struct port *port, const struct port_bus *bus, const struct ms
 struct mscp_port *port_itself(struct port *port);
 
 /* Makes the port that mscp_port_save saved, in place of the one that runs, whose machine, bus and serials stay. If this fails, that
- * one goes on. A status of mscp_port_restore. */
+ * one goes on. A status of mscp_port_restore, or MSCP_BAD_BUS if it is a port on another bus. */
 int32_t port_restore(struct port *port, const uint8_t *bytes, size_t length);
 
 /* The host reads or writes a word at the port's first address (IP, with 0) or the second (SA, with 2). */
