@@ -267,7 +267,8 @@ fn faults_are_those_of_c() {
 /// A port that was saved on one bus isn't made on the other.
 #[test]
 fn other_buses_are_refused() {
-    for (hardware, other) in [(Hardware::RQDX3, BusKind::Uni), (Hardware { model: 77, ..Hardware::UDA50 }, BusKind::Q)] {
+    for (hardware, other) in [(Hardware::RQDX3, BusKind::Uni), (Hardware { model: 77, ..Hardware::UDA50 }, BusKind::Q)]
+    {
         let port = Port::new(&LIMITS, &[UNIT], Picker::Sweep, hardware, 8).unwrap();
         assert_eq!(port.hardware(), hardware);
         assert_eq!(Port::restore(&port.save(), other).err(), Some(Error::BadBus));
