@@ -42,12 +42,12 @@ int main(void)
     for (size_t i = 0; i < sizeof drives / sizeof *drives; i++) {
         const struct drive *it = &drives[i];
         printf("| %s | %u | %u, %u, %u | %u | 0x%08X | %s |\n", it->name, (unsigned)it->blocks, it->track, it->group, it->cylinder,
-               it->model, (unsigned)drive_media(it), it->is_removable ? "yes" : "no");
+               it->model, (unsigned)drive_media(it), it->is_read_only ? "yes; read only" : it->is_removable ? "yes" : "no");
     }
     return 0;
 }
 END
-    cc -Iinclude -Iexamples "$program/drives.c" -o "$program/drives" && same "$("$program/drives")" "$(grep -E '^\| R[ADX][0-9]+ \|' docs/PORT.md)"
+    cc -Iinclude -Iexamples "$program/drives.c" -o "$program/drives" && same "$("$program/drives")" "$(grep -E '^\| RR?[ADX][0-9]+ \|' docs/PORT.md)"
     local status=$?
     rm -r -- "$program"
     return "$status"
