@@ -294,9 +294,9 @@ static void keep_message(struct port *port, bool is_to_host, const uint8_t *byte
     memcpy(port->passing.bytes, bytes, length);
 }
 
-/* An action was done with these bytes. What was read or written last has gone by when its slot is given back, by a WRITE of four
- * bytes: a command that has no credit stays in its slot, and is read again. A text has 12 bytes at least, behind an envelope of
- * four as it goes out; a slot has four, and an interrupt word two. */
+/* An action was done with these bytes. What was read or written last has gone by when its slot is given back, by a WRITE
+ * of four bytes: a command that has no credit stays in its slot, and is read again. A text has 12 bytes at least, behind
+ * an envelope of four as it goes out; a slot has four, and an interrupt word two. */
 static void see(struct port *port, const struct mscp_action *action, const uint8_t *bytes)
 {
     enum { ENVELOPE = 4, SLOT = 4 };

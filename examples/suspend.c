@@ -61,8 +61,8 @@ static bool save(const char *path)
     return (file == NULL || fclose(file) == 0) && saved;
 }
 
-/* In place of the controller that the emulator was opened with comes the one that was saved. If the bytes aren't one, it goes on as
- * it was: a restore looks at all of them first. */
+/* In place of the controller that the emulator was opened with comes the one that was saved. If the bytes aren't one, it
+ * goes on as it was: a restore looks at all of them first. */
 static bool restore_controller(const uint8_t *bytes, size_t length)
 {
     int32_t status = mscp_restore(disk.mscp, bytes, length);

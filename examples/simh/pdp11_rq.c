@@ -250,9 +250,9 @@ static t_stat reset (DEVICE *device)
 {
     static const struct mscp_hardware uda50 = {MSCP_BUS_UNI, 6, 3, 1}, rqdx3 = {MSCP_BUS_Q, 19, 3, 1};
     struct controller *it = controller_of (device->units);
-    const struct port_bus bus = {.machine = it, .read = rq_read_memory, .write = rq_write_memory, .interrupt = interrupt,
-                                 .read_block = read_block, .write_block = write_block, .read_run = read_run,
-                                 .write_run = write_run, .see_message = see_message};
+    const struct port_bus bus = {.machine = it, .read = rq_read_memory, .write = rq_write_memory,
+                                 .interrupt = interrupt, .read_block = read_block, .write_block = write_block,
+                                 .read_run = read_run, .write_run = write_run, .see_message = see_message};
     struct mscp_unit told[DRIVES];
     size_t count = 0;
     for (uint16_t i = 0; i < DRIVES; i++) {
@@ -288,9 +288,8 @@ static t_stat attach (UNIT *unit, char *name)
 
 static t_stat detach (UNIT *unit)
 {
-    struct controller *it = controller_of (unit);
     if (unit->flags & UNIT_ATT)
-        port_eject (&it->port, number_of (it, unit));
+        port_eject (&controller_of (unit)->port, number_of (controller_of (unit), unit));
     return detach_unit (unit);
 }
 
@@ -327,11 +326,11 @@ enum { SHOW_TYPE, SHOW_WRITE, SHOW_QUEUE, SHOW_VECTOR };
 static t_stat show (FILE *to, UNIT *unit, int32 value, void *nothing)
 {
     struct controller *it = controller_of (unit);
-    bool is_locked = (unit->flags & (UNIT_RO | UNIT_LOCKED)) != 0;
+    const char *writes = unit->flags & (UNIT_RO | UNIT_LOCKED) ? "write locked" : "write enabled";
     check_build (it);
     switch (value) {
     case SHOW_TYPE: fputs (unit->DRIVE == RAUSER ? "RAUSER" : drive_of (unit).name, to); break;
-    case SHOW_WRITE: fputs (drive_of (unit).is_read_only ? "read only" : is_locked ? "write locked" : "write enabled", to); break;
+    case SHOW_WRITE: fputs (drive_of (unit).is_read_only ? "read only" : writes, to); break;
     case SHOW_QUEUE: rq_show_queue (to, port_itself (&it->port), it->device->name, first_number (it)); break;
     default: rq_show_vector (to, port_itself (&it->port));
     }
@@ -376,13 +375,14 @@ static DIB dibs[CONTROLLERS] = {A_DIB (RQ), A_DIB (RQB), A_DIB (RQC), A_DIB (RQD
 static REG registers[CONTROLLERS][9] = {REGISTERS (0), REGISTERS (1), REGISTERS (2), REGISTERS (3)};
 
 #define SET_TO(number, name) {MTAB_XTD | MTAB_VUN, number, NULL, name, set_drive, NULL, NULL}
+#define SHOWN(part, name) {MTAB_XTD | MTAB_VUN, part, name, NULL, NULL, show, NULL}
 static MTAB modifiers[] = {
     SET_TO (0, "RX33"), SET_TO (1, "RX50"), SET_TO (2, "RD31"), SET_TO (3, "RD51"), SET_TO (4, "RD52"),
     SET_TO (5, "RD53"), SET_TO (6, "RD54"), SET_TO (7, "RA60"), SET_TO (8, "RA71"), SET_TO (9, "RA72"),
     SET_TO (10, "RA80"), SET_TO (11, "RA81"), SET_TO (12, "RA82"), SET_TO (13, "RA90"), SET_TO (14, "RA92"),
     SET_TO (RRD40, "RRD40"), SET_TO (RRD40, "CDROM"),
     {MTAB_XTD | MTAB_VUN, RAUSER, NULL, "RAUSER", set_user, NULL, NULL},
-    {MTAB_XTD | MTAB_VUN, SHOW_WRITE, "WRITE", NULL, NULL, show, NULL}, {MTAB_XTD | MTAB_VUN, SHOW_TYPE, "TYPE", NULL, NULL, show, NULL},
+    SHOWN (SHOW_WRITE, "WRITE"), SHOWN (SHOW_TYPE, "TYPE"),
     {UNIT_LOCKED, 0, NULL, "WRITEENABLED", lock}, {UNIT_LOCKED, UNIT_LOCKED, NULL, "LOCKED", lock},
     {MTAB_XTD | MTAB_VDV, 4, "ADDRESS", "ADDRESS", set_addr, show_addr, NULL},
     {MTAB_XTD | MTAB_VDV, 0, NULL, "AUTOCONFIGURE", set_addr_flt, NULL, NULL},

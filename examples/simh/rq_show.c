@@ -1,5 +1,5 @@
-/* rq_show.c: what SHOW RQ QUEUE and SHOW RQ VECTOR say, by the calls of mscp.h that look into a port, and what SET RQ DEBUG
- * has said. */
+/* rq_show.c: what SHOW RQ QUEUE and SHOW RQ VECTOR say, by the calls of mscp.h that look into a port, and what SET RQ
+ * DEBUG has said. */
 #include "rq.h"
 
 /* Where something stands in the bytes of a saved port, and how long the parts are: docs/SAVED.md has them. */

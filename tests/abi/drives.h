@@ -1,6 +1,6 @@
-/* drives.h: DEC's drives behind MSCP controllers, as a host is told of them. Take it into an emulator as it is. docs/PORT.md has
- * the same as a table. The figures are written from memory, and all but those of the RA80 were compared with SIMH's list, from which
- * those of the RRD40 are. The blocks of an RA drive other than the RA80 fill whole cylinders. */
+/* drives.h: DEC's drives behind MSCP controllers, as a host is told of them. Take it into an emulator as it is.
+ * docs/PORT.md has the same as a table. The figures are written from memory, and all but those of the RA80 were compared
+ * with SIMH's list, from which those of the RRD40 are. The blocks of an RA drive other than the RA80 fill whole cylinders. */
 #ifndef DRIVES_H
 #define DRIVES_H
 #include "mscp.h"
@@ -39,7 +39,8 @@ static inline const struct drive *drive_named(const char *name)
  * driver, DU, or DJ for the pack of an RA60, and those of the name, of which most have two. */
 static inline uint32_t drive_media(const struct drive *drive)
 {
-    uint32_t all = (uint32_t)('D' - '@') << 5 | (uint32_t)((drive->is_removable && drive->name[1] == 'A' ? 'J' : 'U') - '@');
+    char second = drive->is_removable && drive->name[1] == 'A' ? 'J' : 'U';
+    uint32_t all = (uint32_t)('D' - '@') << 5 | (uint32_t)(second - '@');
     bool is_letter = true;
     for (size_t i = 0; i < 3; i++) {
         is_letter = is_letter && drive->name[i] >= 'A';

@@ -129,7 +129,8 @@ static void volumes_are_seen(void)
 /* A port tells the hardware that it was made of, also where it was restored. */
 static void hardware_is_seen(void)
 {
-    static const struct mscp_hardware kinds[] = {{MSCP_BUS_Q, 19, 3, 1}, {MSCP_BUS_UNI, 6, 3, 1}, {MSCP_BUS_UNI, 255, 254, 253}};
+    static const struct mscp_hardware kinds[] = {
+        {MSCP_BUS_Q, 19, 3, 1}, {MSCP_BUS_UNI, 6, 3, 1}, {MSCP_BUS_UNI, 255, 254, 253}};
     for (unsigned i = 0; i < 2 * COUNT(kinds); i++) {
         struct mscp_hardware it = {7, 77, 77, 77};
         build(&kinds[i / 2]);

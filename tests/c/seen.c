@@ -1,5 +1,5 @@
-/* What examples/port.c shows its machine of messages: each once, whole, as it goes by. A command that stays in its slot isn't shown
- * before it leaves it, and none that a reset took away ever is.
+/* What examples/port.c shows its machine of messages: each once, whole, as it goes by. A command that stays in its slot
+ * isn't shown before it leaves it, and none that a reset took away ever is.
  *
  * Prints what is wrong, and ends with 1 where something is. */
 #include "callbacks.h"
@@ -25,7 +25,8 @@ static void see_message(void *it, bool is_to_host, const uint8_t *bytes, uint32_
 /* Rings of so many slots, whose host wants to hear of each that comes back. */
 static void initialise_rings(unsigned slots)
 {
-    const struct asked asked = {.base = AREA, .responses = slots, .commands = slots, .bits = 0x80 | 0x2D, .go = 1, .flag = 1u << 30};
+    const struct asked asked = {
+        .base = AREA, .responses = slots, .commands = slots, .bits = 0x80 | 0x2D, .go = 1, .flag = 1u << 30};
     initialise_as(&asked);
 }
 
@@ -63,7 +64,7 @@ static void turns(void)
         port_turn(&port, 7);
 }
 
-/* Of two commands of one number the second stays in its slot, and is read again and again, until the first has ended. */
+/* Of two commands of one number the second stays in its slot, and is read again, until the first has ended. */
 static void each_is_seen_once(void)
 {
     uint8_t first[32], second[32];

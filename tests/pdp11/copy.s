@@ -1,5 +1,5 @@
-; Copies the first blocks of unit 0 to unit 1, by READs and WRITEs of `blocks` blocks of which four are outstanding, and compares.
-; Block 0 is booted, and reads the blocks behind it. It halts with 12345 in R0 if all was as it must be, and else with the
+; Copies the first blocks of unit 0 to unit 1, by READs and WRITEs of `blocks` blocks of which four are outstanding, and
+; compares. Block 0 is booted, and reads the blocks behind it. It halts with 12345 in R0 if all was as it must be, and else with the
 ; number of what wasn't (see `jsr r5, failed`).
 ;
 ; With `polls` it asks for the status of its oldest command again and again, and sends an ABORT of a queued READ and one of
@@ -9,7 +9,7 @@ rounds = 1              ; how often it copies
 blocks = 32.
 bytes = 40000           ; of these blocks
 chunks = 4              ; how many times so many blocks
-apart = 40000           ; the data of the four places are that far apart, or with 0, and 1 for `wide`, each has 200000 of its own
+apart = 40000           ; the data of the four places are that far apart; with 0, and 1 for `wide`, they are 200000 apart
 wide = 0
 polls = 0
 compares = 1

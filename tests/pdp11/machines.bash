@@ -1,12 +1,14 @@
-# Read by tests/simh and bench/simh, which copy disks by SIMH's PDP-11: with the port as its RQ and with its own. $source has
-# SIMH's sources, and $room is the folder of all that is made.
+# Read by tests/simh and bench/simh, which copy disks by SIMH's PDP-11: with the port as its RQ and with its own. $source
+# has SIMH's sources, and $room is the folder of all that is made.
 ours=$room/simh/pdp11 theirs=$room/simh/pdp11-simh
 
 # Builds the machine with what was in the place of our file, in the folder of ours.
 build_theirs() (
     cd -- "$room/simh" &&
-        gcc -O2 -std=gnu99 -fcommon -fno-strict-aliasing -w -DVM_PDP11 -D_GNU_SOURCE -I. -IPDP11 -x c -c PDP11/pdp11_rq.c.simh -o theirs.o &&
-        gcc $(find objects -name '*.o' ! -name pdp11_rq.o ! -name 'rq_*.o' ! -name port.o ! -name mscp.o) theirs.o -o pdp11-simh -lm -lrt
+        gcc -O2 -std=gnu99 -fcommon -fno-strict-aliasing -w -DVM_PDP11 -D_GNU_SOURCE -I. -IPDP11 \
+            -x c -c PDP11/pdp11_rq.c.simh -o theirs.o &&
+        gcc $(find objects -name '*.o' ! -name pdp11_rq.o ! -name 'rq_*.o' ! -name port.o ! -name mscp.o) theirs.o \
+            -o pdp11-simh -lm -lrt
 )
 
 # Makes the disks a.dsk, of so many blocks, of which the first have a program that is assembled with these words, and no b.dsk.
@@ -40,5 +42,6 @@ copies() { machine "$1" 'set cpu 11/83 1m' "${both_disks[@]}" "${booted[@]}" && 
 # The seconds of the processor for that, user and system together.
 seconds_of() {
     local TIMEFORMAT='%U %S' both
-    { both=$({ time copies "$1" >&3; } 2>&1) && awk -v both="$both" 'BEGIN { split(both, it, " "); printf "%.3f\n", it[1] + it[2] }'; } 3>&2
+    { both=$({ time copies "$1" >&3; } 2>&1); } 3>&2 || return
+    awk -v both="$both" 'BEGIN { split(both, it, " "); printf "%.3f\n", it[1] + it[2] }'
 }

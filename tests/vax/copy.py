@@ -1,25 +1,25 @@
 #!/usr/bin/env python3
 """Writes a VAX's program that copies blocks of one disk to another: copy.py FILE BLOCKS
 
-It lies in physical memory from 10000 hexadecimal on, where it begins. It maps the first pages of the Q-bus to the same pages of
-memory, initialises the first RQDX3, brings its units 0 and 1 online, and copies eight blocks at a time, with rings of one
-slot, which it looks at again and again. It halts with 12345 hexadecimal in R0 if all ended with Success, else with the status
-that it got, or with FFFF after a fatal error of the port. R9 counts the blocks."""
+It lies in physical memory from 10000 hexadecimal on, where it begins. It maps the first pages of the Q-bus to the same
+pages of memory, initialises the first RQDX3, brings its units 0 and 1 online, and copies eight blocks at a time, with
+rings of one slot, which it looks at again and again. It halts with 12345 hexadecimal in R0 if all ended with Success,
+else with the status that it got, or with FFFF after a fatal error of the port. R9 counts the blocks."""
 import struct
 import sys
 
 START, RINGS, RESPONSE, COMMAND, DATA = 0x10000, 0x12008, 0x12104, 0x12204, 0x14000
 MAP, IP, SA = 0x20088000, 0x20001468, 0x2000146A
 PAGES, AT_ONCE = 1024, 8
-OPCODES = {'bisl3': 0xC9, 'movl': 0xD0, 'movw': 0xB0, 'movb': 0x90, 'clrl': 0xD4, 'clrq': 0x7C, 'movzwl': 0x3C, 'tstl': 0xD5,
-           'tstw': 0xB5, 'bitw': 0xB3, 'addl2': 0xC0, 'cmpl': 0xD1, 'aoblss': 0xF2, 'bsbw': 0x30, 'brw': 0x31, 'rsb': 0x05,
-           'halt': 0x00, 'beql': 0x13, 'bneq': 0x12, 'bgeq': 0x18, 'blss': 0x19}
-SIZES = {'movw': 2, 'tstw': 2, 'bitw': 2, 'movb': 1, 'movzwl': 2}
-BRANCHES = {'bsbw': 2, 'brw': 2, 'beql': 1, 'bneq': 1, 'bgeq': 1, 'blss': 1}
+OPCODES = {'bisl3': 0xC9, 'movl': 0xD0, 'movw': 0xB0, 'clrl': 0xD4, 'movzwl': 0x3C, 'tstl': 0xD5, 'tstw': 0xB5,
+           'bitw': 0xB3, 'addl2': 0xC0, 'cmpl': 0xD1, 'aoblss': 0xF2, 'bsbw': 0x30, 'rsb': 0x05, 'halt': 0x00,
+           'beql': 0x13, 'bneq': 0x12, 'blss': 0x19}
+SIZES = {'movw': 2, 'tstw': 2, 'bitw': 2, 'movzwl': 2}
+BRANCHES = {'bsbw': 2, 'beql': 1, 'bneq': 1, 'blss': 1}
 
 
 def operand(it, size):
-    """A register as 'r0', memory that one points to as '(r0)' or '(r0)+', memory at an address as ['address'], or a number."""
+    """A register as 'r0', memory behind one as '(r0)' or '(r0)+', memory at an address as [address], or a number."""
     if isinstance(it, list):
         return b'\x9F' + struct.pack('<I', it[0])
     if isinstance(it, int):
