@@ -27,10 +27,10 @@ refuse() {
 without_rt() {
     case $name in
         mscpq) echo '; without it, cc -O2 -Iinclude portable/mscpq.c portable/mscp.c -o mscpq-c builds the same as C' ;;
-        install) echo '; without it, compile portable/mscp.c with yours, or take a release: make install puts its sources in place' ;;
+        install) echo '; without it, compile portable/mscp.c with your program, or take a release: make install puts its sources in place' ;;
         mscpjudge) echo '; without it, take the judge from a release for x86-64 Linux: toadnickel-VERSION-x86_64-linux.tar.gz, or the package mscpq' ;;
-        page/build) echo '; without it, take the page from a release: toadnickel-VERSION-page.html' ;;
-        portable/make) echo '; without it, take portable/mscp.c as it stands' ;;
+        page/build) echo '; without it, take the page from a release: toadnickel-VERSION-page.html, or toadnickel-VERSION-site.tar.gz with all documents' ;;
+        portable/make) echo '; without it, take portable/mscp.c as it is' ;;
     esac
 }
 
@@ -152,7 +152,7 @@ stamp() (
 is_touched_since() {
     local found
     found=$(cd -- "$top" && find crates.txt HANDLES crates -regex 'crates/[^/]*/out' -prune -o \
-        '(' -type f -o -type l ! -xtype l ')' -cnewer "$1" -print -quit) || refuse "what stands here can't be read"
+        '(' -type f -o -type l ! -xtype l ')' -cnewer "$1" -print -quit) || refuse "the sources can't be read"
     [ -n "$found" ]
 }
 
@@ -300,7 +300,7 @@ build_libraries() {
 ended_well() {
     [ "$1" -ne 0 ] || return 0
     printf %s "$said" >&2
-    refuse "what stands here isn't proved and built, as rt ended with status $1"
+    refuse "the sources aren't proved and built, as rt ended with status $1"
 }
 
 # Proves and builds by rt: the libraries side by side if nothing of them is there, and then what is wanted, which takes them.
@@ -335,7 +335,7 @@ keep() {
 
 # Tells whether it is kept what rt would build of what stands here.
 is_kept() {
-    wanted=$(stamp) || refuse "what stands here can't be read"
+    wanted=$(stamp) || refuse "the sources can't be read"
     [ -e "$kept-$wanted" ]
 }
 
@@ -366,7 +366,7 @@ if [ "$0" = "${BASH_SOURCE[0]}" ]; then
     "$role" "$@"
     ended=$?
     [[ $role != build_* ]] || exit "$ended"
-    command -v rt >/dev/null || refuse "the Rattle kit's command rt is wanted on the path$(without_rt)"
+    command -v rt >/dev/null || refuse "the Rattle kit's command rt is wanted on the path (README.md says where to get the kit)$(without_rt)"
     is_kept || build
     echo "$wanted"
 fi

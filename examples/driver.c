@@ -161,7 +161,7 @@ static void send_all(struct driver *driver)
         request->state = SENT;
 }
 
-/* Takes a request, of which `ended` tells by its tag. The command's number is the driver's to choose. False: there is no
+/* Takes a request, of which `ended` reports by its tag. The command's number is the driver's to choose. False: there is no
  * such unit, or the table is full. */
 static bool driver_ask(struct driver *driver, const struct mscp_command *command, uint32_t tag)
 {
@@ -314,7 +314,7 @@ static bool driver_tick(struct driver *driver)
     }
 }
 
-/* ---- a machine with a port, of which something stands still for a while */
+/* ---- a machine with a port, of which something stops for a while */
 #ifndef DRIVER_PART
 #include <stdio.h>
 
@@ -420,9 +420,17 @@ int main(int words, char **word)
         perror(word[1]);
         return 2;
     }
-    if (words != 2 || !begin()) {
+    if (words != 2) {
         fprintf(stderr, "usage: driver IMAGE (of 60 blocks or more)\n");
         return 2;
+    }
+    if (fseek(image, (long)IMAGE * (long)MSCP_BLOCK - 1, SEEK_SET) != 0 || fgetc(image) == EOF) {
+        fprintf(stderr, "%s: it has under %d blocks of %d bytes\n", word[1], (int)IMAGE, (int)MSCP_BLOCK);
+        return 2;
+    }
+    if (!begin()) {
+        fprintf(stderr, "driver: no port begins\n");
+        return 1;
     }
     printf("the drive hangs\n");
     if (!read_all(DRIVE_HANGS))

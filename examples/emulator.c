@@ -32,7 +32,7 @@ uint32_t get_number(const uint8_t *from, unsigned bytes)
 
 /* ---- the controller's memory, and the image */
 
-/* The whole blocks of an image, 0 where it has none or too many, or can't be asked. */
+/* The whole blocks of an image, 0 if it has none or too many, or can't be asked. */
 static uint32_t blocks_of(FILE *image)
 {
     long bytes;
@@ -74,7 +74,8 @@ bool emulator_open(struct emulator *emulator, const char *path, uint8_t *memory,
     }
     emulator->mscp = make_controller(blocks_of(emulator->image));
     if (emulator->mscp == NULL) {
-        fprintf(stderr, "%s: no image of 512-byte blocks, or no memory\n", path);
+        fprintf(stderr, "%s: it has %lu blocks of 512 bytes, and 1 is the least; or there is no memory\n", path,
+                (unsigned long)blocks_of(emulator->image));
         fclose(emulator->image);
         return false;
     }
@@ -187,7 +188,7 @@ void emulator_deliver(struct emulator *emulator)
 
 /* ---- the drive */
 
-/* The host's memory for a job's block: how many bytes of the block it has, and where. NULL where it reaches out of the
+/* The host's memory for a job's block: how many bytes of the block it has, and where. NULL if it reaches out of the
  * memory. */
 static uint8_t *part_of(struct emulator *emulator, const struct mscp_upcoming *next, size_t *bytes)
 {
@@ -302,7 +303,7 @@ static struct emulator disk;
 static uint8_t memory[MEMORY];
 static bool failed;
 
-/* Whether something holds; if not, it is told. */
+/* Whether something holds; if not, it is printed. */
 static void check(bool holds, const char *what)
 {
     if (!holds)

@@ -40,7 +40,7 @@ struct emulator {
     unsigned commands_count;
     struct mscp_packet ends[EMULATOR_RING];
     unsigned ends_count;
-    FILE *log; /* where it is written what the controller is told and answers, or NULL */
+    FILE *log; /* for what the controller gets and answers, or NULL */
     unsigned port_errors; /* messages that are no command messages, or have a number that is in use */
 };
 

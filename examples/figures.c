@@ -1,4 +1,4 @@
-/* A READ of four blocks waits behind an ONLINE, and its figure falls at each step. README.md shows the heart of this file.
+/* A READ of four blocks waits after an ONLINE, and its figure falls at each step. README.md shows the heart of this file.
  *
  *     cc figures.c $(pkg-config --cflags --libs mscp) -o figures */
 #include "mscp.h"

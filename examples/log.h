@@ -1,5 +1,5 @@
-/* log.h: what a controller is told and what it answers, as a log for ./mscpjudge (docs/FORMATS.md, Logs). Call each of
- * these beside the call of the controller that it names, with what that was told and what it answered. Any controller
+/* log.h: what a controller gets and what it answers, as a log for ./mscpjudge (docs/FORMATS.md, Logs). Call each of
+ * these beside the call of the controller that it names, with what that got and what it answered. Any controller
  * that counts and answers as mscp.h says can be logged so, also one that isn't ours.
  *
  * With -DLOG_WIRE the same calls write what goes over the wire, for ./mscpjudge wire (docs/JUDGE.md). */
@@ -71,7 +71,7 @@ static inline void log_send(FILE *log, uint32_t connection, const uint8_t *messa
                                                                             : "doubled");
 }
 
-/* Beside mscp_step and mscp_finish, where they answer MSCP_DONE: the block had this status. */
+/* Beside mscp_step and mscp_finish, if they answer MSCP_DONE: the block had this status. */
 static inline void log_step(FILE *log, uint16_t block, const struct mscp_report *report)
 {
     if (LOG_IS_OF_WIRE)
@@ -91,7 +91,7 @@ static inline void log_step(FILE *log, uint16_t block, const struct mscp_report 
     fputc('\n', log);
 }
 
-/* Beside mscp_take, where it answers MSCP_DONE. */
+/* Beside mscp_take, if it answers MSCP_DONE. */
 static inline void log_take(FILE *log, uint32_t connection, const struct mscp_packet *end)
 {
     if (!LOG_IS_OF_WIRE)

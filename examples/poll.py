@@ -32,7 +32,7 @@ library.mscp_status_text.argtypes, library.mscp_status_text.restype = [c_int64],
 
 
 def record(*fields):
-    """A struct of these fields: the names of each type stand in one text."""
+    """A struct of these fields: the names of each type are one text."""
     named = [(name, kind) for kind, names in fields for name in names.split()]
     return type("Record", (Structure,), {"_fields_": named})
 

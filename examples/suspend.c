@@ -2,11 +2,11 @@
  *
  *     cc -DEMULATOR_PART suspend.c emulator.c $(pkg-config --cflags --libs mscp) -o suspend    (with emulator.h)
  *     ./suspend IMAGE STATE           (goes on from STATE, if that is there, or else begins)
- *     ./suspend IMAGE STATE BLOCKS    (and after so many blocks saves to STATE, and ends)
+ *     ./suspend IMAGE STATE BLOCKS    (and after this many blocks saves to STATE, and ends)
  *
  * Its host sends five READs and prints each end. Whenever it is saved, the ends are those of a run that never was. What
  * an emulator saves: the controller by mscp_save, and what is its own, that is the rings, whose buffer is whose, and the
- * host's memory. A block that the drive has in work is begun anew: mscp_begin tells it again. */
+ * host's memory. A block that the drive has in work is begun anew: mscp_begin answers it again. */
 #include "emulator.h"
 #include <stdlib.h>
 #include <string.h>

@@ -1,4 +1,4 @@
-/* threaded.c: a disk on a thread of its own, behind port.c. The machine goes on while a block is moved:
+/* threaded.c: a disk on a thread of its own, for port.c. The machine goes on while a block is moved:
  *
  *     static void begin_read(void *machine, uint16_t unit, uint32_t block, uint64_t serial)
  *     {
@@ -44,7 +44,7 @@ bool disk_open(struct disk *disk, bool (*move)(struct disk_job *job))
            pthread_create(&disk->thread, NULL, work, disk) == 0;
 }
 
-/* Where there is no room, the oldest job is waited for and forgotten: its port has begun others since. */
+/* If there is no room, the oldest job is waited for and forgotten: its port has begun others since. */
 void disk_begin(struct disk *disk, void *volume, uint32_t block, const uint8_t *bytes, uint64_t serial)
 {
     pthread_mutex_lock(&disk->lock);

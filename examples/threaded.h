@@ -4,7 +4,7 @@
 #include "port.h"
 #include <pthread.h>
 
-#define DISK_JOBS 16u /* blocks that are begun and not told yet, of which the port wants the last at most */
+#define DISK_JOBS 16u /* blocks that are begun and not reported yet, of which the port wants the last at most */
 
 /* A block that is to be moved: of what volume is the machine's to say. */
 struct disk_job {
@@ -31,7 +31,7 @@ bool disk_open(struct disk *disk, bool (*move)(struct disk_job *job));
 /* A block is begun, for the machine's begin_read, or with bytes for its begin_write. */
 void disk_begin(struct disk *disk, void *volume, uint32_t block, const uint8_t *bytes, uint64_t serial);
 
-/* The port is told of each block that was moved. Before each turn of it, in the machine's own thread. */
+/* Each block that was moved is reported to the port. Before each turn of it, in the machine's own thread. */
 void disk_collect(struct disk *disk, struct port *port);
 
 /* Waits until all that was begun is moved, and for the end of the thread. */

@@ -21,7 +21,7 @@ struct ring {
     unsigned count;
 };
 
-/* A connection: its rings, and behind them a host with its account and its memory. READ number i of the host goes to the
+/* A connection: its rings, and after them a host with its account and its memory. READ number i of the host goes to the
  * i-th part of that memory. */
 struct port {
     uint32_t connection;
@@ -171,7 +171,7 @@ static void begin_host(struct port *port)
 
 /* ---- both */
 
-/* Commands in, a block, ends out, until so many commands of each host have ended. Each polls at each turn. */
+/* Commands in, a block, ends out, until this many commands of each host have ended. Each polls at each turn. */
 static void run_until(unsigned first, unsigned second)
 {
     while (ports[0].ended < first || ports[1].ended < second) {

@@ -6,9 +6,11 @@ What is wanted is taken from the examples and their reports, and from docs/MODEL
 """
 
 import pathlib
+import struct
 import sys
 import time
 import traceback
+import zlib
 
 from selenium import webdriver
 from selenium.webdriver.chrome.options import Options
@@ -19,6 +21,7 @@ from selenium.webdriver.support.ui import Select
 
 BROWSER, DRIVER, PAGE, EXAMPLES, PICTURES = sys.argv[1:]
 SIZES = {"small": (390, 844), "middle": (1024, 768), "large": (1600, 1000)}
+VERSION = pathlib.Path("VERSION").read_text().strip()
 HEADER = "credits 4\nbudget 16\nlongest 8\ntimeout 60\nunit 0 10 2 1 1000\ngo\n"
 
 
@@ -147,6 +150,81 @@ def faults_are_told():
                           (HEADER.replace("go", "unit 0 1 1 1 1\ngo"), "line 6: unit")):
         run_script(script)
         assert fault in said(), said()
+
+
+# Each cause with a script that has it, and what is right, as DIAGNOSTICS of docs/mscpq.1 says it.
+MEANINGS = (
+    ("credits 400", "line 6: config", "The credits are 400: they are 2 to 64."),
+    ("credits 4 1", "line 6: config", "The credits of the second host are 1: they are 2 to 62, or 0."),
+    ("credits 40 30", "line 6: config", "The credits of both hosts are 70: together they are at most 64."),
+    ("longest 8388609", "line 6: config", "The longest transfer is 8388609: it is 1 to 8388608 blocks."),
+    ("timeout 6000", "line 6: config", "The timeout is 6000: it is 1 to 255 seconds."),
+    ("budget 4294967295", "line 6: config", "The bound is 4294967319: it is under 4294967296."),
+    ("timeout 65536", "line 4: number", "a unit is 0 to 65535"),
+    ("unit 0 0 2 1 1000", "line 5: unit", "The four sizes of a unit are at least 1"),
+    ("reed 1 0 1024 40", "line 7: word", "The line is: reed 1 0 1024 40"),
+    ("read 1 0 1024", "line 7: count", "a READ is read 1 0 1024 40"),
+    ("bad 8", "line 7: hex", "a status has 4 digits"),
+    ("bad 0004", "line 7: status", "5 or more"),
+    ("look\t", "line 7: byte", "a tab, for example"),
+    ("#" + "x" * 200, "line 7: long", "over 200 bytes"),
+    ("step 1000\n" * 6, "line 12: events", "the page plays 5,000"),
+)
+
+
+def with_line(line):
+    """The header with this line in place of the one with its word, or behind it."""
+    lines, word = HEADER.split("\n"), line.split(" ")[0]
+    found = [it for it in lines if it.split(" ")[0] == word]
+    return HEADER.replace(found[0], line) if found else HEADER + line + "\n"
+
+
+def faults_say_what_is_right():
+    open_page()
+    for line, fault, meaning in MEANINGS:
+        script = with_line(line)
+        run_script(script)
+        assert text("fault").startswith(f"{fault}. ") and meaning in text("fault"), (line, text("fault"))
+        assert value("script") == script, "the script is in its box still"
+        assert at("script").get_attribute("aria-invalid") == "true"
+    box, fault = at("script").rect, at("fault").rect
+    assert 0 <= fault["y"] - box["y"] - box["height"] < 40 and abs(fault["x"] - box["x"]) < 10, (box, fault)
+
+
+def faulty_scripts_stay():
+    open_page()
+    run_script(HEADER + "online 9 0\n")
+    shown, wrong = value("script"), with_line("credits 400")
+    run_script(wrong)
+    click("step")
+    assert said().startswith("serve 9") and value("script") == wrong and "config" in text("fault")
+    click("restore")
+    assert value("script") == shown + "step 1\n" and text("fault") == "" and not at("restore").is_displayed()
+    at("script").send_keys("lo")
+    click("look")
+    assert value("script").endswith("lo") and at("restore").is_displayed(), "what is written stays too"
+    run_script(HEADER)
+    assert value("script") == HEADER and text("fault") == "" and not at("restore").is_displayed()
+    assert "jump" in add("jump") and "line 7: word" in said() and value("line") == "jump"
+    open_page("#script=" + wrong.replace(" ", "+").replace("\n", "%0A"))
+    assert value("script") == wrong and text("fault").startswith("line 6: config") and len(items()) == 6
+
+
+# Without a scroll: which version it is, what a figure is, what to press first, and what the patterns mean.
+def first_screen_tells():
+    for width, height in SIZES.values():
+        resize(width, height)
+        open_page()
+        head = driver.find_element(By.TAG_NAME, "header").text
+        for words in (f"version {VERSION}.", "how many steps it may still wait, at most", "Press Run first"):
+            assert words in head, head
+        key = [it.split(":")[0] for it in text("legend").split("\n")]
+        assert key == ["earlier", "service", "budget", "own"], key
+        for name in ("legend", "run"):
+            place = "return document.getElementById(arguments[0]).getBoundingClientRect().bottom"
+            low = driver.execute_script(place, name)
+            assert low <= height, (name, width, low)
+    driver.execute_cdp_cmd("Emulation.clearDeviceMetricsOverride", {})
 
 
 # docs/MODEL.md has these figures, in "An example".
@@ -410,6 +488,23 @@ def all_has_a_name():
     assert not nameless, nameless
 
 
+def resize(width, height):
+    driver.execute_cdp_cmd("Emulation.setDeviceMetricsOverride", {
+        "width": width, "height": height, "deviceScaleFactor": 1, "mobile": False})
+    for _ in range(100):
+        if driver.execute_script("return innerWidth") == width:
+            break
+        time.sleep(0.1)
+
+
+def save_picture(name):
+    """Saves what the window shows, with the version in a chunk of its own, before the last one, which has 12 bytes."""
+    picture = driver.get_screenshot_as_png()
+    chunk = b"tEXt" + b"Software\0Toadnickel " + VERSION.encode()
+    chunk = struct.pack(">I", len(chunk) - 4) + chunk + struct.pack(">I", zlib.crc32(chunk))
+    pathlib.Path(PICTURES, name).write_bytes(picture[:-12] + chunk + picture[-12:])
+
+
 def sizes_have_room():
     for dark in (False, True):
         driver.execute_cdp_cmd("Emulation.setEmulatedMedia", {
@@ -417,21 +512,17 @@ def sizes_have_room():
         open_page()
         go_to(17)
         for name, (width, height) in SIZES.items():
-            driver.execute_cdp_cmd("Emulation.setDeviceMetricsOverride", {
-                "width": width, "height": height, "deviceScaleFactor": 1, "mobile": False})
-            for _ in range(100):
-                if driver.execute_script("return innerWidth") == width:
-                    break
-                time.sleep(0.1)
+            resize(width, height)
             wide = driver.execute_script("return document.documentElement.scrollWidth")
             assert wide <= width, (name, wide)
-            driver.save_screenshot(f"{PICTURES}/{name}{'_dark' if dark else ''}.png")
+            save_picture(f"{name}{'_dark' if dark else ''}.png")
         paper = driver.execute_script("return getComputedStyle(document.body).backgroundColor")
         assert paper == ("rgb(20, 23, 27)" if dark else "rgb(246, 247, 249)"), paper
     driver.execute_cdp_cmd("Emulation.clearDeviceMetricsOverride", {})
 
 
-TESTS = (loads_as_a_file, examples_give_their_reports, faults_are_told, figures_are_those_of_the_model,
+TESTS = (loads_as_a_file, examples_give_their_reports, faults_are_told, faults_say_what_is_right, faulty_scripts_stay,
+         first_screen_tells, figures_are_those_of_the_model,
          figures_are_those_of_look, table_has_the_figures, reasons_are_told, time_buttons_move, run_runs_and_stops,
          commands_are_sent, steps_takes_and_looks, polls_and_aborts, lines_come_and_go, random_read_is_one,
          controllers_are_made, pickers_pick, second_hosts_are_there, links_hold_the_state, moments_are_chosen,

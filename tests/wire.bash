@@ -249,7 +249,7 @@ wire_refuses() {
     printf '%s\n' "${@:2}" >"$room/log"
     "$program" wire "$room/log" </dev/null >"$room/out" 2>"$room/err"
     status=$?
-    [ "$status" = 1 ] && cmp -- "$room/out" /dev/null && cmp -- "$room/err" <(printf '%s\n' "$1")
+    [ "$status" = 1 ] && cmp -- "$room/out" /dev/null && fault_is_explained "$1" "$room/log"
 }
 
 no_log_of_the_wire() {
@@ -291,7 +291,7 @@ line 3: controller: code
 END
     printf '%s\n' reset 'send 0' >"$room/log"
     "$program" wire --show "$room/log" >"$room/out" 2>"$room/err"
-    [ $? = 1 ] && cmp -- "$room/out" /dev/null && cmp -- "$room/err" <(echo 'line 2: hex')
+    [ $? = 1 ] && cmp -- "$room/out" /dev/null && fault_is_explained 'line 2: hex' "$room/log"
 }
 
 wire_without_lines() {

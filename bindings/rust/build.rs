@@ -80,7 +80,7 @@ fn tool(kind: &str, usual: &str) -> Command {
     }
 }
 
-/// The folders of `mscp.c` and `mscp.h`: `c`, where a release has copies of both, or else those of the project around.
+/// The folders of `mscp.c` and `mscp.h`: `c`, in which a release has copies of both, or else those of the project around.
 fn folders() -> (PathBuf, PathBuf) {
     let top = PathBuf::from(told("CARGO_MANIFEST_DIR"));
     match top.join("c") {
@@ -108,7 +108,7 @@ fn compile() {
     println!("cargo:include={}", headers.display());
 }
 
-/// Only of the same version, since structs and numbers may be others in another one. The archive is taken where it is there,
+/// Only of the same version, since structs and numbers may be others in another one. The archive is taken if it is there,
 /// so that a program wants nothing of the machine on which it runs.
 fn take_from_system() {
     let name = env::var("PKG_CONFIG").unwrap_or_else(|_| "pkg-config".into());

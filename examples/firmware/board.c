@@ -102,7 +102,7 @@ __attribute__((noinline)) uint32_t stack_taken(void)
     return (uint32_t)(top - at);
 }
 
-/* ---- interrupts: PendSV stands for the line of a bus */
+/* ---- interrupts: PendSV is the line of a bus */
 
 void raise_bus_interrupt(void)
 {

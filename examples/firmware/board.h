@@ -10,7 +10,7 @@ void say(const char *text);
 void say_number(uint32_t number);
 void say_hex(uint32_t number, unsigned digits);
 
-/* The instructions since the last call, in steps of 40 where qemu counts them (-icount shift=0). */
+/* The instructions since the last call, in steps of 40 if qemu counts them (-icount shift=0). */
 uint32_t instructions(void);
 
 /* Paints what lies below the caller's frame, down to the end of the stack; and the bytes of it that were written since. */

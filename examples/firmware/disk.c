@@ -1,4 +1,4 @@
-/* disk.c: a disk port in firmware, over examples/port.c as it is. Its registers stand on a bus, and the bus interrupts the
+/* disk.c: a disk port in firmware, over examples/port.c as it is. Its registers are on a bus, and the bus interrupts the
  * processor for each access. Whatever the main program is at, the interrupt routine calls nothing of the library: it answers
  * SA from a copy, and puts what the host wrote, and that it read IP, in a queue. The main program takes that to the port
  * between two calls, and copies SA again.
@@ -19,13 +19,13 @@ static struct measured init = {"an init", STACK_OF_INIT, 0, 0}, reading = {"read
 
 /* The lines of the bus: what its host does, and the word that it writes or is shown. */
 static volatile struct { bool is_write; uint8_t offset; uint16_t word; } lines;
-/* What the host did, and the port isn't told yet; and what SA shows meanwhile. */
+/* What the host did, and the port doesn't know yet; and what SA shows meanwhile. */
 static volatile struct { bool is_write; uint8_t offset; uint16_t word; } queue[WAITING];
 static volatile unsigned first, behind; /* both only grow */
 static volatile uint16_t shown;
 
 /* A host waits for the port's steps, so it never does more at once than the queue has room for. From a write of IP on SA
- * shows 0 until the port is told. */
+ * shows 0 until the port knows. */
 void bus_interrupt(void)
 {
     const bool is_look = lines.offset == SA && !lines.is_write;
@@ -44,7 +44,7 @@ void bus_interrupt(void)
     }
 }
 
-/* The oldest of what the host did is told to the port. */
+/* The oldest of what the host did goes to the port. */
 static void tell_port(void)
 {
     const unsigned at = first % WAITING, offset = queue[at].offset;
@@ -219,7 +219,7 @@ static bool begin(void)
     return step(1, 0x8000) && step(2, RINGS) && step(3, 0);
 }
 
-/* The host writes IP in the middle of a turn: SA shows 0 when that has ended, though the port isn't told yet. */
+/* The host writes IP in the middle of a turn: SA shows 0 when that has ended, though the port doesn't know yet. */
 static bool is_interrupted(void)
 {
     changes_its_mind = true;

@@ -1,4 +1,4 @@
-/* measure.h: how a call's stack is held against what mscp.h says of it. With -DFIGURES its bytes and instructions are told. */
+/* measure.h: compares a call's stack with what mscp.h says of it. With -DFIGURES it prints its bytes and instructions. */
 #ifndef MEASURE_H
 #define MEASURE_H
 #include "board.h"

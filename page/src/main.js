@@ -1,6 +1,7 @@
 // The page: a script, who picks, and how many of its moments are shown. All else is made anew from these.
 
 import { byId, make } from './document.js';
+import { faultText } from './faults.js';
 import { commandLine, configOfForm, fillCommands, hostWord, randomRead, showConfig, showFields, showUnits,
     unitsOfForm } from './forms.js';
 import { readLink, writeLink } from './link.js';
@@ -24,9 +25,35 @@ const program = await Library.load(byId('module').textContent);
 let page;
 /** @type {number | undefined} */
 let ticking;
+let isDraft = false; // whether the box has a script that isn't the one which is shown
 
-/** Plays a script, and shows it up to a moment: its end where that is null. A fault changes nothing. */
-function playText(/** @type {string} */ text, /** @type {string} */ picker, /** @type {number | null} */ at) {
+/** Puts the script that is shown into the box, if there is no draft in it. */
+function showScript() {
+    if (!isDraft) {
+        byId('script').value = page.text;
+        byId('fault').textContent = '';
+        byId('script').removeAttribute('aria-invalid');
+    }
+    byId('restore').hidden = !isDraft;
+}
+
+/** Leaves a script with a fault in the box, with what the fault means beside it. */
+function showFault(/** @type {string} */ text, /** @type {Fault} */ fault) {
+    isDraft = true;
+    const before = text.split('\n').slice(0, Math.max(0, fault.line - 1)).join('\n').length;
+    byId('script').value = text;
+    byId('script').setSelectionRange(before, before);
+    byId('script').setAttribute('aria-invalid', 'true');
+    byId('fault').textContent = `${fault.message}. ${faultText(text, fault)}`;
+    byId('restore').hidden = false;
+}
+
+/**
+ * Plays a script, and shows it up to a moment: its end if that is null. A fault changes nothing, and if the script came
+ * from the box or the address it stays in the box.
+ */
+function playText(/** @type {string} */ text, /** @type {string} */ picker, /** @type {number | null} */ at,
+    /** @type {boolean} */ isOfBox = false) {
     try {
         const report = runScript(program, text);
         const script = readScript(text);
@@ -36,14 +63,17 @@ function playText(/** @type {string} */ text, /** @type {string} */ picker, /** 
             text, picker, at: Math.min(at ?? end, end), played, header: script.header,
             report: picker === 'sweep' ? report : reportText(played),
         };
-        byId('script').value = text;
+        if (isOfBox) isDraft = false;
+        showScript();
         showConfig(script.config, picker);
         byId('reference').value = freshReference();
         refresh();
         return true;
     } catch (fault) {
         if (!(fault instanceof Fault)) throw fault;
-        say(`The script has a fault at ${fault.message}. Nothing was changed.`, true);
+        if (isOfBox) showFault(text, fault);
+        const meaning = isOfBox ? '' : `${faultText(text, fault)} `;
+        say(`The script has a fault at ${fault.message}. ${meaning}Nothing was changed.`, true);
         return false;
     }
 }
@@ -130,9 +160,17 @@ async function copyLink() {
     }
 }
 
-function openExample() {
+function openExample(keepsDraft = false) {
     const example = /** @type {any} */ (document.querySelector(`.example[data-name="${byId('examples').value}"]`));
-    if (playText(example.textContent.replace(/^\n/, ''), 'sweep', null)) say(`The example ${byId('examples').value}.`);
+    const text = example.textContent.replace(/^\n/, '');
+    if (playText(text, 'sweep', null, !keepsDraft)) say(`The example ${byId('examples').value}.`);
+}
+
+/** Drops what was written in the box. */
+function restore() {
+    isDraft = false;
+    showScript();
+    byId('script').focus();
 }
 
 /** @type {Record<string, () => void>} */
@@ -149,8 +187,9 @@ const CLICKS = {
     look: () => addLine('look'),
     undo: removeLast,
     clear: () => makeController(false),
-    open: openExample,
-    'run-script': () => playText(byId('script').value, page.picker, null) && say('The script is run.'),
+    open: () => openExample(),
+    'run-script': () => playText(byId('script').value, page.picker, null, true) && say('The script is run.'),
+    restore,
     copy: copyLink,
 };
 
@@ -170,6 +209,10 @@ function listen() {
         });
     }
     byId('at').addEventListener('input', () => goTo(Number(byId('at').value)));
+    byId('script').addEventListener('input', () => {
+        isDraft = true;
+        byId('restore').hidden = false;
+    });
     byId('command').addEventListener('change', showFields);
     byId('count').addEventListener('change', () => showUnits(Number(byId('count').value), unitsOfForm()));
     window.addEventListener('resize', refresh);
@@ -179,7 +222,7 @@ function listen() {
 /** Opens what the address has. @returns {boolean} whether it has a script that is one */
 function openLink() {
     const link = readLink(location.hash);
-    return link !== null && playText(link.script, link.picker, link.at);
+    return link !== null && playText(link.script, link.picker, link.at, true);
 }
 
 function begin() {
@@ -189,8 +232,8 @@ function begin() {
     byId('examples').value = FIRST_EXAMPLE;
     listen();
     if (openLink()) return;
-    const fault = location.hash.includes('script=') ? byId('said').textContent : '';
-    openExample();
+    const fault = isDraft ? byId('said').textContent : '';
+    openExample(isDraft);
     goTo(page.played.moments.findIndex(({ state }) => state.waiting.length >= 6) + 3);
     if (fault) say(fault, true);
 }

@@ -13,6 +13,8 @@ export class Fault extends Error {
     /** @param {number} line @param {string} cause a word of docs/FORMATS.md, or of the page's own */
     constructor(line, cause) {
         super(`line ${line}: ${cause}`);
+        this.line = line;
+        this.cause = cause;
     }
 }
 

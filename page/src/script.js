@@ -67,7 +67,7 @@ export function readScript(text) {
     const events = [];
     for (const { line, text, words } of lines.slice(go + 1)) {
         for (const action of actionsOf(words)) events.push({ line, text, action });
-        if (events.length > MOST_EVENTS) throw new Fault(line, `more than the ${MOST_EVENTS} events of a page`);
+        if (events.length > MOST_EVENTS) throw new Fault(line, 'events');
     }
     return { config: configOf(lines.slice(0, go)), header: lines[go].line, events };
 }

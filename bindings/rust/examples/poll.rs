@@ -70,7 +70,7 @@ impl Ends {
         self.poll(100)
     }
 
-    /// Both ends, the first behind its length.
+    /// Both ends, the first after its length.
     fn save(&self) -> Vec<u8> {
         let (first, second) = (self.controller.save(), self.host.save());
         [&(first.len() as u32).to_le_bytes(), &*first, &*second].concat()

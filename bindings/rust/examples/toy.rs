@@ -132,14 +132,14 @@ impl Machine {
     /// Sends a command of unit 0, and waits for its end. Whether it is Success.
     fn command(&mut self, opcode: Opcode, bytes: u32, block: u32) -> bool {
         let opcode = u32::from(opcode.number());
-        let words = [32, 0, 0, opcode, bytes, BUFFER as u32, 0, 0, block]; // behind the length: type and connection are 0
+        let words = [32, 0, 0, opcode, bytes, BUFFER as u32, 0, 0, block]; // after the length: type and connection are 0
         words.iter().enumerate().for_each(|(i, word)| self.put(COMMAND - 4 + 4 * i, *word));
         self.put(RINGS, 0x8000_0000 | RESPONSE as u32); // both slots are the port's now
         self.put(RINGS + 4, 0x8000_0000 | COMMAND as u32);
         self.port.read_ip();
         for _ in 0..100_000 {
             if self.get(RINGS) < 0x8000_0000 {
-                return self.get(RESPONSE + 8) == 0x80 | opcode; // the endcode, and behind it a status of 0
+                return self.get(RESPONSE + 8) == 0x80 | opcode; // the endcode, and after it a status of 0
             }
             self.go_on();
         }

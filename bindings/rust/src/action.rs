@@ -1,4 +1,4 @@
-//! What a port wants, and what it tells.
+//! What a port wants, and what it says.
 
 use crate::bus::{BadBlock, BusFault};
 use crate::raw;
@@ -10,7 +10,7 @@ use crate::List;
 pub enum Action {
     /// Nothing, but the host is to go on a little: some hundred instructions.
     Pause,
-    /// Hand so many bytes of host memory to [`Port::was_read`](crate::Port::was_read).
+    /// Give `count` bytes of host memory to [`Port::was_read`](crate::Port::was_read).
     Read {
         /// Where they are.
         address: u32,
@@ -49,7 +49,7 @@ pub enum Action {
 pub enum Way {
     /// Its first bytes are written to host memory.
     Read,
-    /// The bytes of host memory are written to it, with zeros behind them.
+    /// The bytes of host memory are written to it, and zeros after them.
     Write,
     /// Zeros are written to it. Host memory isn't touched.
     Erase,
@@ -60,7 +60,7 @@ pub enum Way {
 }
 
 impl Action {
-    /// Of what C tells, for this bus.
+    /// Of what C answers, for this bus.
     pub(crate) fn told(it: &raw::Action, bus: BusKind) -> Self {
         let (address, count) = (bus.address(it.address), it.count as usize);
         match it.kind {
@@ -124,14 +124,14 @@ impl From<Result<(), Outcome>> for Outcome {
     }
 }
 
-/// What a port tells of itself.
+/// What a port says of itself.
 #[derive(Clone, Copy, Debug, PartialEq, Eq, Hash)]
 pub struct Hardware {
     /// The bus of its host.
     pub bus: BusKind,
-    /// Its low seven bits are told: 19 is an RQDX3, 6 a UDA50.
+    /// The host reads its low seven bits: 19 is an RQDX3, 6 a UDA50.
     pub model: u8,
-    /// The version of its software, of which the low four bits are told.
+    /// The version of its software, of which the host reads the low four bits.
     pub software: u8,
     /// That of its hardware.
     pub version: u8,
@@ -161,11 +161,11 @@ impl From<raw::Hardware> for Hardware {
 pub struct Medium {
     /// In blocks: 1 to those of the unit.
     pub size: u32,
-    /// The type of its media, which the host is told.
+    /// The type of its media, which the host reads.
     pub media: u32,
     /// Whether nothing may be written on it.
     pub is_protected: bool,
-    /// Whether it can be taken out, which the host is told.
+    /// Whether it can be taken out, which the host reads.
     pub is_removable: bool,
 }
 

@@ -10,7 +10,7 @@ use crate::raw;
 use crate::values::{packet, Connection, Holder, Limits, Picker, Report, Sent, Settings, Unit, Upcoming, Waiting};
 use crate::{List, Packet, COMMANDS_MAX, SAVED_MAX, UNITS_MAX};
 
-/// A controller: it takes its hosts' messages in, tells which block is served next, and gives their ends.
+/// A controller: it takes its hosts' messages in, says which block is served next, and gives their ends.
 ///
 /// It lies in place, in some 18 KiB, and may move: box it, or make it where it is to stay ([`Controller::new_in`]). It may go
 /// to another thread, but two have none in common:
@@ -27,7 +27,7 @@ impl Controller {
     /// # Errors
     /// [`Error::ManyUnits`], those of the first unit that has one ([`Error::ZeroTrack`] to [`Error::ZeroSize`]),
     /// [`Error::UnitsFall`], [`Error::NoUnits`], and those of the limits ([`Error::BadCredits`] to [`Error::BadBound`]). Or
-    /// [`Error::NoHandle`] where the library doesn't fit.
+    /// [`Error::NoHandle`] if the library doesn't fit.
     pub fn new(limits: &Limits, units: &[Unit], picker: Picker) -> Result<Self, Error> {
         let mut it = Self(Held::room(raw::ROOM));
         it.init(limits, units, picker)?;
@@ -35,7 +35,7 @@ impl Controller {
     }
 
     /// The same where it is to stay, as in a `static`: nothing of its size is moved here. What the library moves while it makes
-    /// one is told in `mscp.h`, at `mscp_init`.
+    /// one is said in `mscp.h`, at `mscp_init`.
     ///
     /// # Errors
     /// As [`Controller::new`].
@@ -188,7 +188,7 @@ impl Controller {
         Settings { limits: limits.into(), units: List::of(&units, never_refused(count) as usize, Unit::from) }
     }
 
-    /// All that the calls tell of it, with limits, units and picker, as bytes: the same state has the same bytes on every
+    /// All that the calls answer of it, with limits, units and picker, as bytes: the same state has the same bytes on every
     /// machine.
     #[must_use]
     pub fn save(&self) -> List<u8, SAVED_MAX> {

@@ -9,7 +9,7 @@ use crate::raw::{self, status};
 use crate::values::packet;
 use crate::{List, DRIVER_SAVED_MAX};
 
-/// A driver's account of a real port: the credits that the port tells, the commands whose ends weren't heard, its polls, and
+/// A driver's account of a real port: the credits that the port grants, the commands whose ends weren't heard, its polls, and
 /// the ticks between them.
 pub struct Driver {
     held: Held<{ raw::DRIVER_SIZE / 8 }>,
@@ -53,9 +53,9 @@ pub struct Ended {
 pub enum Heard {
     /// A command ended.
     Ended(Ended),
-    /// A command ended, and its end tells more bytes than it asked for.
+    /// A command ended, and its end says that more bytes moved than it asked for.
     MovedTooMuch(Ended),
-    /// The polled command's figure, the first that was told of it.
+    /// The polled command's first figure.
     First(u32),
     /// The polled command's figure, which has fallen.
     Progress(u32),
@@ -65,7 +65,7 @@ pub enum Heard {
     NoProgress,
     /// The controller doesn't know the polled command: reset the port.
     Lost,
-    /// The end of a poll, which tells no figure.
+    /// The end of a poll, without a figure.
     Refused(Ended),
     /// A unit became available.
     Available(u16),
@@ -94,10 +94,10 @@ pub enum Advice {
 }
 
 impl Driver {
-    /// An account of one credit, for a controller whose timeout has so many ticks. Make it anew when the port is reset.
+    /// An account of one credit, for a controller whose timeout has this many ticks. Make it anew when the port is reset.
     ///
     /// # Errors
-    /// [`Error::NoHandle`] where the library doesn't fit.
+    /// [`Error::NoHandle`] if the library doesn't fit.
     pub fn new(timeout: u32) -> Result<Self, Error> {
         let watch = raw::Watch { timeout, ..raw::Watch::ZERO };
         let mut it = Self { held: Held::room(raw::DRIVER_ROOM), watch };
@@ -106,7 +106,7 @@ impl Driver {
         Ok(it)
     }
 
-    /// The controller's timeout has so many ticks.
+    /// The controller's timeout has this many ticks.
     pub fn set_timeout(&mut self, timeout: u32) {
         self.watch.timeout = timeout;
     }
@@ -204,7 +204,7 @@ impl Driver {
         List::new(bytes, length)
     }
 
-    /// The account that was saved, for a controller whose timeout has so many ticks, which are counted anew.
+    /// The account that was saved, for a controller whose timeout has this many ticks, which are counted anew.
     ///
     /// # Errors
     /// The first fault of the bytes.

@@ -53,7 +53,7 @@ errors! {
     NoMemory = -13, "the handle or its memory is NULL";
     Misaligned = -14, "the memory is misaligned";
     Small = -15, "the memory is too small";
-    Cut = -16, "fewer bytes than the envelope tells";
+    Cut = -16, "fewer bytes than the envelope says";
     OtherConnection = -17, "a message of another connection";
     BadKind = -18, "a message of no known type";
     BadPicker = -20, "no picker of this number";
@@ -72,7 +72,7 @@ errors! {
     BadBus = -33, "no bus of this number, or another one";
     BadHostCredits = -34, "a port's host without credits, or with as many as the first connection";
     BadOutcome = -35, "no outcome of an action";
-    Unasked = -36, "the port didn't want what was told";
+    Unasked = -36, "the port didn't want what was reported";
     UnknownUnit = -37, "no unit of this number";
     BadSize = -38, "a volume without blocks, or with more than its unit";
     SavedLength = -40, "saved bytes that aren't as many as they say";

@@ -54,7 +54,7 @@ impl<const WORDS: usize> Held<WORDS> {
         addr_of_mut!(self.handle)
     }
 
-    /// The same for a call that takes a `const` handle: what it tells of the memory is the same before and after it. It gets a
+    /// The same for a call that takes a `const` handle: what it answers of the memory is the same before and after it. It gets a
     /// copy of the handle, and nobody uses the first one meanwhile, since `self` is borrowed and isn't `Sync`. The pointer to
     /// the memory is that of a cell, so that it is good for whatever the call does there.
     pub(crate) fn fixed(&self) -> Handle {

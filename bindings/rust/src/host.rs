@@ -40,7 +40,7 @@ pub enum News {
         /// Its endcode.
         code: u8,
     },
-    /// The polled command's figure, the first that was told of it.
+    /// The polled command's first figure.
     First(u32),
     /// The polled command's figure, which has fallen.
     Progress(u32),
@@ -53,10 +53,10 @@ pub enum News {
 }
 
 impl Host {
-    /// A host of a connection with so many credits: 2 to 64. Make it anew when its port is reset.
+    /// A host of a connection with this many credits: 2 to 64. Make it anew when its port is reset.
     ///
     /// # Errors
-    /// [`Error::BadCredits`], or [`Error::NoHandle`] where the library doesn't fit.
+    /// [`Error::BadCredits`], or [`Error::NoHandle`] if the library doesn't fit.
     pub fn new(credits: u32) -> Result<Self, Error> {
         let mut it = Self(Held::room(raw::HOST_ROOM));
         it.init(credits)?;

@@ -44,7 +44,7 @@ pub const UNITS_MAX: usize = 16;
 pub const MESSAGE_MIN: usize = 12;
 /// Bytes of a message, at most.
 pub const MESSAGE_MAX: usize = 64;
-/// Bytes of a message or an end that is told, at most.
+/// Bytes of a message or an end, at most.
 pub const PACKET_MAX: usize = 48;
 /// Bytes of a block.
 pub const BLOCK: usize = 512;

@@ -25,7 +25,7 @@ pub enum Order {
     GetCommandStatus(u32),
     /// It asks what a unit is.
     GetUnitStatus,
-    /// It tells the controller what its host wants, and asks what the controller is.
+    /// It says to the controller what its host wants, and asks what the controller is.
     SetControllerCharacteristics {
         /// That of MSCP, which is 0.
         version: u16,
@@ -38,7 +38,7 @@ pub enum Order {
     Available,
     /// It brings a unit online.
     Online,
-    /// It tells a unit what its host wants.
+    /// It says to a unit what its host wants.
     SetUnitCharacteristics,
     /// It reads blocks, and drops them.
     Access(Transfer),
@@ -67,7 +67,7 @@ pub struct Command {
     pub order: Order,
 }
 
-/// What an end tells beside its status.
+/// What an end says beside its status.
 #[derive(Clone, Copy, Debug, PartialEq, Eq, Hash)]
 pub enum Body {
     /// Nothing: an unknown opcode, AVAILABLE.
@@ -127,7 +127,7 @@ pub struct End {
     pub code: u8,
     /// How the command went.
     pub status: u16,
-    /// What it tells beside that.
+    /// What it says beside that.
     pub body: Body,
 }
 

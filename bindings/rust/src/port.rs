@@ -40,14 +40,14 @@ fn transfer<B: Bus + ?Sized>(
 /// A port between a host's bus and a controller of its own: two registers, rings, credits, and volumes.
 ///
 /// It does no input or output. [`Port::turn`] has a [`Bus`] do what it wants. Who gives a transfer its time asks by
-/// [`Port::next`] and [`Port::next_message`], and tells how it went by [`Port::went`].
+/// [`Port::next`] and [`Port::next_message`], and reports how it went by [`Port::went`].
 pub struct Port {
     held: Held<{ raw::PORT_SIZE / 8 }>,
     bus: BusKind,
 }
 
 impl Port {
-    /// A port over a controller as [`Controller::new`](crate::Controller::new) makes one. Its host may have so many commands
+    /// A port over a controller as [`Controller::new`](crate::Controller::new) makes one. Its host may have `credits` commands
     /// outstanding: 1 to one fewer than the first connection has credits. Its units have no volumes yet.
     ///
     /// # Errors
@@ -138,7 +138,7 @@ impl Port {
 
     // ---- actions
 
-    /// Has the machine do what the port wants: from the machine's clock, every few hundred instructions, so many actions at
+    /// Has the machine do what the port wants: from the machine's clock, every few hundred instructions, `most` actions at
     /// most, or as many as there are until the host has to go on a little. Whether more is to be done.
     pub fn turn<B: Bus + ?Sized>(&mut self, bus: &mut B, most: u32) -> bool {
         self.look_again();
@@ -154,7 +154,7 @@ impl Port {
     }
 
     /// What the port wants done next, or `None` until a register is touched, a volume comes or goes, the clock ticks, or it is
-    /// to look again. Until the port is told how it went it answers the same, unless a register is touched, or the volume of
+    /// to look again. Until you report how it went the port answers the same, unless a register is touched, or the volume of
     /// the action's unit comes or goes.
     #[allow(clippy::should_implement_trait)] // it is no end if this answers None
     pub fn next(&mut self) -> Option<Action> {
@@ -173,10 +173,10 @@ impl Port {
         (never_refused(status) == status::DONE).then(|| Action::told(&action, self.bus))
     }
 
-    /// Does an action on a bus, and tells how it went.
+    /// Does an action on a bus, and reports how it went.
     ///
     /// # Errors
-    /// [`Error::Unasked`], if the port doesn't want it any more: nothing was told then.
+    /// [`Error::Unasked`], if the port doesn't want it any more: nothing was reported then.
     pub fn perform<B: Bus + ?Sized>(&mut self, bus: &mut B, action: &Action) -> Result<(), Error> {
         let mut bytes = [0; 64];
         let outcome = match *action {
@@ -209,7 +209,7 @@ impl Port {
         checked(unsafe { raw::mscp_port_was_read_at(self.held.handle(), bytes.as_ptr(), bytes.len()) }).map(drop)
     }
 
-    /// What it wanted went so. A read that was done is told by [`Port::was_read`].
+    /// What it wanted went so. A read that was done is reported by [`Port::was_read`].
     ///
     /// # Errors
     /// [`Error::BadOutcome`] or [`Error::Unasked`].
@@ -219,7 +219,7 @@ impl Port {
         checked(unsafe { raw::mscp_port_went(self.held.handle(), number, status) }).map(drop)
     }
 
-    /// The port looks again whether its host has given slots for ends back, since nothing else tells it so. [`Port::turn`] does
+    /// The port looks again whether its host has given slots for ends back, since the host doesn't say so. [`Port::turn`] does
     /// it.
     pub fn look_again(&mut self) {
         // SAFETY: the handle is that of a port that was made.

@@ -1,7 +1,7 @@
 //! The calls of `mscp.h` as they are, for what the safe types don't have: scripts, and memory that is moved by others.
 //!
 //! `mscp.h` says what each means, and what you owe. The structs are those of C, field by field, and so are the numbers.
-//! Where C has an inline form that takes NULL for no bytes, this is the form with `_at`, which doesn't.
+//! If C has an inline form that takes NULL for no bytes, this is the form with `_at`, which doesn't.
 #![allow(missing_docs)]
 
 use core::ffi::c_void;

@@ -1,9 +1,9 @@
-//! What calls take and tell.
+//! What calls take and answer.
 
 use crate::raw;
 use crate::List;
 
-/// Reads what a library of this version tells by a number of an enumeration: there is no other.
+/// Reads what a library of this version answers by a number of an enumeration: there is no other.
 macro_rules! numbered {
     ($(#[$meta:meta])* $name:ident: $type:ty { $($(#[$doc:meta])* $variant:ident = $number:literal,)* }) => {
         $(#[$meta])*
@@ -37,7 +37,7 @@ numbered! {
     Connection: u32 {
         /// The first, which each controller has.
         First = 0,
-        /// The second, where the limits give it credits.
+        /// The second, if the limits give it credits.
         Second = 1,
     }
 }
@@ -61,13 +61,13 @@ numbered! {
         GetCommandStatus = 2,
         /// It asks what a unit is.
         GetUnitStatus = 3,
-        /// It tells the controller what its host wants, and asks what the controller is.
+        /// It says to the controller what its host wants, and asks what the controller is.
         SetControllerCharacteristics = 4,
         /// It takes a unit offline.
         Available = 8,
         /// It brings a unit online.
         Online = 9,
-        /// It tells a unit what its host wants.
+        /// It says to a unit what its host wants.
         SetUnitCharacteristics = 10,
         /// It reads blocks, and drops them.
         Access = 16,
@@ -115,7 +115,7 @@ impl BusKind {
     }
 }
 
-/// A unit. No size is 0. Its identifiers are told to the host.
+/// A unit. No size is 0. The host reads its identifiers.
 #[derive(Clone, Copy, Debug, Default, PartialEq, Eq, Hash)]
 pub struct Unit {
     /// Of the unit.
@@ -140,17 +140,17 @@ pub struct Unit {
 /// connection for no more than `(credits - 1 + second - 1) * longest + budget`.
 #[derive(Clone, Copy, Debug, PartialEq, Eq, Hash)]
 pub struct Limits {
-    /// Of the controller, which the host is told.
+    /// Of the controller, which the host reads.
     pub id: u64,
     /// The blocks that later commands may have in all that start before a waiting command.
     pub budget: u64,
     /// Of the first connection: commands that wait and ends that weren't taken, together. 2 to 64.
     pub credits: u32,
-    /// Of the second: 2 to 62, or 0 where there is none. Both together have up to 64.
+    /// Of the second: 2 to 62, or 0 if there is none. Both together have up to 64.
     pub second: u32,
     /// The longest transfer in blocks: 1 to 8,388,608.
     pub longest: u32,
-    /// In seconds, which the host is told: 1 to 255.
+    /// In seconds, which the host reads: 1 to 255.
     pub timeout: u16,
 }
 
@@ -209,7 +209,7 @@ pub enum Sent {
 }
 
 impl Sent {
-    /// Of what C tells with this status.
+    /// Of what C answers with this status.
     pub(crate) fn told(status: i32, it: raw::Sent) -> Self {
         if status == raw::status::QUEUED {
             return Sent::Queued { reference: it.reference };

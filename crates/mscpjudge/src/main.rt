@@ -4,6 +4,7 @@
 
 mod choosing;
 mod ending;
+mod explaining;
 mod fault;
 mod hearing;
 mod judging;
@@ -13,12 +14,14 @@ mod wire;
 
 use crate::choosing::{Call, choose};
 use crate::ending::Ending;
+use crate::explaining::{limit_of, line_of};
 use crate::fault::{Fault, words_fault};
 use crate::hearing::hear;
 use crate::judging::{Outcome, judge};
 use crate::showing::show_captured;
 use crate::wire::judge_captured;
-use mscp_script::Stream;
+use mscp_reader::ScriptFault;
+use mscp_script::{Stream, read_all};
 use std::fs::File;
 use std::io;
 use std::io::Read;
@@ -42,10 +45,31 @@ fn answer<R: Read + Drop>(rt: &HostRuntime, call: Call, reader: R) -> Result<Out
     }
 }
 
-/// Does what the words of the command line ask for.
-fn act(rt: &HostRuntime) -> Result<Outcome, Fault> {
-    let words = words_of(rt)?;
-    let asked = choose(&words)?;
+/// Says what would be right in place of a fault, and which line was read, if that is in a file and is plain text.
+fn explain(rt: &HostRuntime, words: &[String], fault: ScriptFault) {
+    let _ = eprint!(rt; "limit: {}\n", limit_of(fault.cause));
+    let Ok(asked) = choose(words) else {
+        return;
+    };
+    if asked.file == "-" {
+        return;
+    }
+    let Ok(reader) = File::open(rt, asked.file) else {
+        return;
+    };
+    let Ok(log) = read_all(rt.alloc(), &mut Stream::new(reader)) else {
+        return;
+    };
+    if let Some(line) = line_of(&log, fault) {
+        if let Ok(text) = std::str::from_utf8(line) {
+            let _ = eprint!(rt; "read: {}\n", text);
+        }
+    }
+}
+
+/// Does what these words of the command line ask for.
+fn act(rt: &HostRuntime, words: &[String]) -> Result<Outcome, Fault> {
+    let asked = choose(words)?;
     match asked.file {
         "-" => answer(rt, asked.call, rt.reader()),
         file => match File::open(rt, file) {
@@ -56,8 +80,20 @@ fn act(rt: &HostRuntime) -> Result<Outcome, Fault> {
 }
 
 fn main(rt: HostRuntime) -> ExitCode {
-    let ending = Ending::of(act(&rt));
-    // There is nobody to tell where standard error can't be written.
+    let words = words_of(&rt);
+    let outcome = match &words {
+        Ok(words) => act(&rt, words.as_slice()),
+        Err(fault) => Err(*fault),
+    };
+    let fault = match &outcome {
+        Err(Fault::Log(fault)) => Some(*fault),
+        _ => None,
+    };
+    let ending = Ending::of(outcome);
+    // There is nobody to say it to if standard error can't be written.
     let _ = eprint!(rt; "{}", ending.line.as_str());
+    if let (Ok(words), Some(fault)) = (&words, fault) {
+        explain(&rt, words.as_slice(), fault);
+    }
     ExitCode::from(ending.status)
 }

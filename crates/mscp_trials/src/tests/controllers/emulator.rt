@@ -117,7 +117,7 @@ impl<K: Picker> Machine<K> {
         Some(Job { upcoming, bytes })
     }
 
-    /// The drive does its work on the file, and tells how it went.
+    /// The drive does its work on the file, and reports how it went.
     fn work(&mut self, job: &mut Job) -> Block {
         let upcoming = job.upcoming;
         let (Order::Move(kind, bytes, _), Some(lbn)) = (upcoming.command.order, upcoming.lbn) else {

@@ -32,7 +32,7 @@ impl Driver {
         self.last
     }
 
-    /// The message of a READ, for the port; or none, where it has to wait for a credit.
+    /// The message of a READ, for the port; or none, if it has to wait for a credit.
     fn read(&mut self, count: u32, block: u32) -> Option<ArrayVec<u8, 48>> {
         let command = Command {
             reference: self.number(),
