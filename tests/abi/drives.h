@@ -1,6 +1,6 @@
-/* drives.h: DEC's drives behind MSCP controllers, as a host is told of them. Take it into an emulator as it is.
- * docs/PORT.md has the same as a table. The figures are written from memory, and all but those of the RA80 were compared
- * with SIMH's list, from which those of the RRD40 are. The blocks of an RA drive other than the RA80 fill whole cylinders. */
+/* drives.h: DEC's drives of MSCP controllers, as a host reads of them. Take it into an emulator as it is. docs/PORT.md has
+ * the same as a table. The figures are written from memory, and all but those of the RA80 were compared with SIMH's list, from
+ * which those of the RRD40 are. The blocks of an RA drive other than the RA80 fill whole cylinders. */
 #ifndef DRIVES_H
 #define DRIVES_H
 #include "mscp.h"
@@ -9,7 +9,7 @@
 
 struct drive {
     const char *name;
-    uint8_t model, number; /* the model is told in a unit's identifier, the number in the type of its media */
+    uint8_t model, number; /* the model is in a unit's identifier, the number in the type of its media */
     bool is_removable, is_read_only;
     uint32_t blocks;
     uint16_t track, group, cylinder; /* blocks of a track, tracks of a group, groups of a cylinder */
@@ -49,7 +49,7 @@ static inline uint32_t drive_media(const struct drive *drive)
     return all << 7 | drive->number;
 }
 
-/* A unit of such a drive. Its identifier has the class of a disk, 2, in its highest byte, the model in the next one, and behind
+/* A unit of such a drive. Its identifier has the class of a disk, 2, in its highest byte, the model in the next one, and after
  * them what no other unit has. */
 static inline struct mscp_unit drive_unit(const struct drive *drive, uint16_t number, uint64_t unique)
 {

@@ -58,7 +58,7 @@ int32_t port_restore(struct port *port, const uint8_t *bytes, size_t length)
     return MSCP_DONE;
 }
 
-/* Its handle has a pointer to what lies behind it, which is set anew: the port may have been copied. */
+/* Its handle has a pointer to what comes after it, which is set anew: the port may have been copied. */
 struct mscp_port *port_itself(struct port *port)
 {
     return mscp_port_moved(port->memory);
@@ -98,7 +98,7 @@ static uint32_t run_of(const struct port *port, const struct mscp_upcoming *step
     return count > PORT_RUN ? PORT_RUN : count;
 }
 
-/* Whether the block of this step was moved ahead, which is used up then. Another command begins behind no block, and nothing
+/* Whether the block of this step was moved ahead, which is used up then. Another command begins after no block, and nothing
  * is ahead of a first one, so it never goes on with a run of the last command. */
 static bool was_ahead(struct port *port, const struct mscp_upcoming *step)
 {
@@ -150,7 +150,7 @@ static inline const uint8_t *block_read(struct port *port, const struct mscp_act
     return bus->read_block(bus->machine, action->unit, action->block, port->blocks) ? port->blocks : NULL;
 }
 
-/* Fills the n-th block of a run with so many bytes of the host's memory, and zeros behind them. */
+/* Fills the n-th block of a run with this many bytes of the host's memory, and zeros after them. */
 static enum mscp_outcome fill(struct port *port, const struct mscp_action *action, uint32_t n, uint32_t count)
 {
     uint8_t *block = port->blocks + n * MSCP_BLOCK;
@@ -203,7 +203,7 @@ static enum mscp_outcome written(struct port *port, const struct mscp_action *ac
     return went_well ? MSCP_OUTCOME_DONE : MSCP_OUTCOME_FAILED;
 }
 
-/* A block comes from the host's memory, with zeros behind its bytes: a WRITE. */
+/* A block comes from the host's memory, with zeros after its bytes: a WRITE. */
 static enum mscp_outcome write_block(struct port *port, const struct mscp_action *action)
 {
     if (!is_slow(&port->bus)) {
@@ -310,7 +310,7 @@ static void see(struct port *port, const struct mscp_action *action, const uint8
 
 /* ---- a turn */
 
-/* The host's memory was read or written, and the port was told so. What it answered. */
+/* The host's memory was read or written, and the port got the report. What it answered. */
 static inline int32_t told(struct port *port, int32_t status, const struct mscp_action *action, const uint8_t *bytes)
 {
     if (wire_action(status, action, bytes) == MSCP_DONE && port->bus.see_message != NULL)
@@ -318,7 +318,7 @@ static inline int32_t told(struct port *port, int32_t status, const struct mscp_
     return status;
 }
 
-/* Does what the port wants, and tells it how that went. If the host wrote IP in the meantime the port wants that no
+/* Does what the port wants, and reports how that went. If the host wrote IP in the meantime the port wants that no
  * more, and answers so: then there is nothing to do. */
 static int32_t act(struct port *port, struct mscp_port *itself, const struct mscp_action *action)
 {
@@ -341,7 +341,7 @@ static int32_t act(struct port *port, struct mscp_port *itself, const struct msc
         if (is_slow(bus) && port->slow == PORT_IDLE) {
             outcome = begin_block(port, action);
             if (port->slow != PORT_IDLE)
-                return MSCP_DONE; /* how it went is told later */
+                return MSCP_DONE; /* how it went is reported later */
         } else {
             outcome = transfer(port, action);
             port->slow = PORT_IDLE;
