@@ -14,11 +14,12 @@
 
 enum { DRIVE_ERROR = 0x000B };
 
-/* Nothing is moved ahead, and no block takes its time. */
-static void forget_blocks(struct port *port)
+/* Nothing is moved ahead, no block takes its time, and no message is on its way. */
+static void forget(struct port *port)
 {
     port->ahead.count = 0;
     port->slow = PORT_IDLE;
+    port->passing.length = 0;
 }
 
 /* One credit more than the host has is for commands that are answered at once. */
@@ -35,17 +36,26 @@ int32_t port_open(struct port *port, const struct port_bus *bus, const struct ms
     port->bus = *bus;
     port->lines = hardware->bus;
     port->serial = 0;
-    forget_blocks(port);
+    forget(port);
     return mscp_port_init(mscp_port_in_memory(port->memory, sizeof port->memory), &limits, units, count, MSCP_SWEEP, hardware,
                           PORT_COMMANDS);
 }
 
 int32_t port_restore(struct port *port, const uint8_t *bytes, size_t length)
 {
-    int32_t status = mscp_port_restore(port_itself(port), bytes, length);
+    struct mscp_port *itself = port_itself(port);
+    struct mscp_hardware hardware = {0};
+    uint8_t before[MSCP_PORT_SAVED_MAX];
+    size_t count;
+    int32_t status = mscp_port_save(itself, before, sizeof before, &count);
     if (status == MSCP_DONE)
-        forget_blocks(port);
-    return status;
+        status = mscp_port_restore(itself, bytes, length);
+    if (status != MSCP_DONE || mscp_port_hardware(itself, &hardware) != MSCP_DONE)
+        return status;
+    if (hardware.bus != port->lines)
+        return mscp_port_restore(itself, before, count) == MSCP_DONE ? MSCP_BAD_BUS : MSCP_NOT_MADE;
+    forget(port);
+    return MSCP_DONE;
 }
 
 /* Its handle has a pointer to what comes after it, which is set anew: the port may have been copied. */
@@ -275,7 +285,38 @@ bool port_moved(struct port *port, uint64_t serial, bool went_well, const uint8_
     return true;
 }
 
+/* ---- messages that the machine wants to see */
+
+static void keep_message(struct port *port, bool is_to_host, const uint8_t *bytes, uint32_t length)
+{
+    port->passing.is_to_host = is_to_host;
+    port->passing.length = (uint8_t)length;
+    memcpy(port->passing.bytes, bytes, length);
+}
+
+/* An action was done with these bytes. What was read or written last has gone by when its slot is given back, by a WRITE
+ * of four bytes: a command that has no credit stays in its slot, and is read again. A text has 12 bytes at least, behind
+ * an envelope of four as it goes out; a slot has four, and an interrupt word two. */
+static void see(struct port *port, const struct mscp_action *action, const uint8_t *bytes)
+{
+    enum { ENVELOPE = 4, SLOT = 4 };
+    if (action->count > ENVELOPE && action->kind == MSCP_ACTION_READ)
+        keep_message(port, false, bytes, action->count);
+    else if (action->count > ENVELOPE)
+        keep_message(port, true, bytes + ENVELOPE, action->count - ENVELOPE);
+    else if (action->count == SLOT && action->kind == MSCP_ACTION_WRITE && port->passing.length > 0)
+        port->bus.see_message(port->bus.machine, port->passing.is_to_host, port->passing.bytes, port->passing.length);
+}
+
 /* ---- a turn */
+
+/* The host's memory was read or written, and the port got the report. What it answered. */
+static inline int32_t told(struct port *port, int32_t status, const struct mscp_action *action, const uint8_t *bytes)
+{
+    if (wire_action(status, action, bytes) == MSCP_DONE && port->bus.see_message != NULL)
+        see(port, action, bytes);
+    return status;
+}
 
 /* Does what the port wants, and reports how that went. If the host wrote IP in the meantime the port wants that no
  * more, and answers so: then there is nothing to do. */
@@ -288,9 +329,13 @@ static int32_t act(struct port *port, struct mscp_port *itself, const struct msc
     case MSCP_ACTION_READ:
         outcome = bus->read(bus->machine, action->address, bytes, action->count);
         if (outcome == MSCP_OUTCOME_DONE)
-            return wire_action(mscp_port_was_read(itself, bytes, action->count), action, bytes);
+            return told(port, mscp_port_was_read(itself, bytes, action->count), action, bytes);
         break;
-    case MSCP_ACTION_WRITE: outcome = bus->write(bus->machine, action->address, action->bytes, action->count); break;
+    case MSCP_ACTION_WRITE:
+        outcome = bus->write(bus->machine, action->address, action->bytes, action->count);
+        if (outcome == MSCP_OUTCOME_DONE)
+            return told(port, mscp_port_went(itself, outcome, 0), action, action->bytes);
+        break;
     case MSCP_ACTION_INTERRUPT: bus->interrupt(bus->machine, action->vector); break;
     case MSCP_ACTION_TRANSFER:
         if (is_slow(bus) && port->slow == PORT_IDLE) {
@@ -304,8 +349,7 @@ static int32_t act(struct port *port, struct mscp_port *itself, const struct msc
         break;
     default: break; /* PAUSE: the machine went on since the last turn */
     }
-    int32_t status = mscp_port_went(itself, outcome, DRIVE_ERROR);
-    return outcome == MSCP_OUTCOME_DONE ? wire_action(status, action, action->bytes) : status;
+    return mscp_port_went(itself, outcome, DRIVE_ERROR);
 }
 
 /* What it wants next: of messages alone, while a block takes its time. */

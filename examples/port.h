@@ -27,6 +27,8 @@ struct port_bus {
      * its serial when it is done. Blocks are done in the order in which they were begun. The bytes are the port's. */
     void (*begin_read)(void *machine, uint16_t unit, uint32_t block, uint64_t serial);
     void (*begin_write)(void *machine, uint16_t unit, uint32_t block, const uint8_t *bytes, uint64_t serial);
+    /* A command came from the host, or an end or an attention message is there for it: for logs, NULL where there is none. */
+    void (*see_message)(void *machine, bool is_to_host, const uint8_t *bytes, uint32_t length);
 };
 
 /* A block that takes its time: none is begun, one is, or it was moved, or it couldn't be. */
@@ -43,6 +45,11 @@ struct port {
     enum port_slow slow;
     struct mscp_upcoming step; /* that the block is of */
     uint64_t serial;           /* of the last block that was begun; they only grow */
+    struct {
+        uint8_t bytes[MSCP_MESSAGE_MAX];
+        uint8_t length; /* 0 if there is none */
+        bool is_to_host;
+    } passing; /* a message whose slot wasn't given back yet */
     uint8_t blocks[PORT_RUN * MSCP_BLOCK];
     MSCP_ALIGNED uint64_t memory[(MSCP_HEAD + MSCP_PORT_SIZE) / sizeof(uint64_t)];
 };
@@ -56,7 +63,7 @@ int32_t port_open(struct port *port, const struct port_bus *bus, const struct ms
 struct mscp_port *port_itself(struct port *port);
 
 /* Makes the port that mscp_port_save saved, in place of the one that runs, whose machine, bus and serials stay. If this fails, that
- * one goes on. A status of mscp_port_restore. */
+ * one goes on. A status of mscp_port_restore, or MSCP_BAD_BUS if it is a port on another bus. */
 int32_t port_restore(struct port *port, const uint8_t *bytes, size_t length);
 
 /* The host reads or writes a word at the port's first address (IP, with 0) or the second (SA, with 2). */

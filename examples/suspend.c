@@ -61,20 +61,14 @@ static bool save(const char *path)
     return (file == NULL || fclose(file) == 0) && saved;
 }
 
-/* In place of the controller that the emulator was opened with comes the one that was saved. */
+/* In place of the controller that the emulator was opened with comes the one that was saved. If the bytes aren't one, it
+ * goes on as it was: a restore looks at all of them first. */
 static bool restore_controller(const uint8_t *bytes, size_t length)
 {
-    size_t size = MSCP_HEAD + mscp_size();
-    void *room = malloc(size);
-    int32_t status = mscp_restore(mscp_in_memory(room, size), bytes, length);
-    if (status != MSCP_DONE) {
+    int32_t status = mscp_restore(disk.mscp, bytes, length);
+    if (status != MSCP_DONE)
         fprintf(stderr, "suspend: %s\n", mscp_status_text(status));
-        free(room);
-        return false;
-    }
-    free(disk.mscp);
-    disk.mscp = (struct mscp *)room;
-    return true;
+    return status == MSCP_DONE;
 }
 
 static bool restore(FILE *file)

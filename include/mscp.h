@@ -1024,6 +1024,9 @@ MSCP_MUST_USE int32_t mscp_port_volume_went(struct mscp_port *port, uint16_t uni
  * its host. Of a unit without a volume nothing is kept. MSCP_DONE, or MSCP_UNKNOWN_UNIT. */
 MSCP_MUST_USE int32_t mscp_port_protect(struct mscp_port *port, uint16_t unit, uint32_t is_protected);
 
+/* What kind of port it is, as it was told as it was made, also if it was restored. MSCP_DONE. */
+MSCP_MUST_USE int32_t mscp_port_hardware(const struct mscp_port *port, struct mscp_hardware *hardware);
+
 /* How far the port has come. If it answered MSCP_NOTHING and is held back, it is to look again: its host doesn't say that it
  * has given a slot of the ring of responses back. If it isn't, it waits for a register, a volume or the clock. MSCP_DONE. */
 MSCP_MUST_USE int32_t mscp_port_state(const struct mscp_port *port, struct mscp_state *state);
@@ -1170,7 +1173,7 @@ MSCP_INLINE const char *mscp_status_text(int64_t status)
     case MSCP_BAD_TIMEOUT: return "a timeout that isn't 1 to 255 seconds";
     case MSCP_BAD_BOUND: return "a bound of figures that doesn't fit 32 bits";
     case MSCP_BAD_CONNECTION: return "no connection of this number";
-    case MSCP_BAD_BUS: return "no bus of this number";
+    case MSCP_BAD_BUS: return "no bus of this number, or another one";
     case MSCP_MOVED_TOO_MUCH: return "a command ended with more bytes than it asked for";
     case MSCP_REFUSED: return "the end of a poll without a figure";
     case MSCP_NOW_AVAILABLE: return "a unit became available";

@@ -6675,7 +6675,7 @@ L1:;
     return 8ull;
 }
 
-/* mscp_c::mscp_port_begun, crates/mscp_c/src/port_seeing.rt:72 */
+/* mscp_c::mscp_port_begun, crates/mscp_c/src/port_seeing.rt:88 */
 static u32 export_mscp_port_begun(u64 v0, u64 v1)
 {
     u32 v4 = 0, v5 = 0, v7 = 0, v8 = 0, v9 = 0, v10 = 0, v11 = 0, v12 = 0, v13 = 0, v14 = 0;
@@ -6792,6 +6792,33 @@ static u32 w_mscp_port_begun(u64 v0, u64 v1)
     TRAP();
 L1:;
     t1 = export_mscp_port_begun(v0, v1);
+    v2 = t1;
+    rattle_leave();
+    return v2;
+}
+
+/* mscp_c::mscp_port_hardware, crates/mscp_c/src/port_seeing.rt:17 */
+static u32 export_mscp_port_hardware(u64 v0, u64 v1)
+{
+    u32 v2 = 0;
+    v2 = 0xFFFFFFF6u;
+    if (l8_8(v0 + 24ull) != 0x504F52544D414445ull) goto L2;
+    s4(v1, l4(l8_8(v0)));
+    v2 = 1u;
+L2:;
+    return v2;
+    TRAP();
+}
+
+static u32 w_mscp_port_hardware(u64 v0, u64 v1)
+{
+    u32 v2 = 0, t0, t1;
+    t0 = rattle_enter();
+    if (t0 == 0) goto L1;
+    rattle_trap();
+    TRAP();
+L1:;
+    t1 = export_mscp_port_hardware(v0, v1);
     v2 = t1;
     rattle_leave();
     return v2;
@@ -7096,7 +7123,7 @@ L1:;
     return v1;
 }
 
-/* mscp_c::mscp_port_look_at, crates/mscp_c/src/port_seeing.rt:88 */
+/* mscp_c::mscp_port_look_at, crates/mscp_c/src/port_seeing.rt:104 */
 APART u32 export_mscp_port_look_at(u64 v0, u64 v1, u64 v2)
 {
     ROOM(frame, 784);
@@ -12436,7 +12463,7 @@ L1:;
     return 6250ull;
 }
 
-/* mscp_c::mscp_port_settings_at, crates/mscp_c/src/port_seeing.rt:36 */
+/* mscp_c::mscp_port_settings_at, crates/mscp_c/src/port_seeing.rt:52 */
 static u32 export_mscp_port_settings_at(u64 v0, u64 v1, u64 v2, u64 v3)
 {
     u32 v4 = 0, v7 = 0;
@@ -12513,7 +12540,7 @@ L1:;
     return 17272ull;
 }
 
-/* mscp_c::mscp_port_state, crates/mscp_c/src/port_seeing.rt:16 */
+/* mscp_c::mscp_port_state, crates/mscp_c/src/port_seeing.rt:32 */
 static u32 export_mscp_port_state(u64 v0, u64 v1)
 {
     u32 v2 = 0, v3 = 0, v4 = 0, v5 = 0;
@@ -12617,7 +12644,7 @@ L1:;
     return v1;
 }
 
-/* mscp_c::mscp_port_volume, crates/mscp_c/src/port_seeing.rt:57 */
+/* mscp_c::mscp_port_volume, crates/mscp_c/src/port_seeing.rt:73 */
 static u32 export_mscp_port_volume(u64 v0, u32 v1, u64 v2)
 {
     u32 v3 = 0, v7 = 0;
@@ -15025,7 +15052,7 @@ L2:;
     TRAP();
 }
 
-/* mscp_c::mscp_port_why_at, crates/mscp_c/src/port_seeing.rt:105 */
+/* mscp_c::mscp_port_why_at, crates/mscp_c/src/port_seeing.rt:121 */
 APART u32 export_mscp_port_why_at(u64 v0, u32 v1, u32 v2, u64 v3, u64 v4)
 {
     ROOM(frame, 1552);
@@ -24749,6 +24776,13 @@ static u64 take_hardware(const struct mscp_hardware *it, u8 *room)
     s1(A(room + 3), it->version);
     return A(room);
 }
+static void give_hardware(struct mscp_hardware *it, const u8 *room)
+{
+    it->bus = (uint8_t)l1(A(room + 0));
+    it->model = (uint8_t)l1(A(room + 1));
+    it->software = (uint8_t)l1(A(room + 2));
+    it->version = (uint8_t)l1(A(room + 3));
+}
 
 #define LIES_medium (LITTLE && sizeof(struct mscp_medium) == 12)
 static u64 take_medium(const struct mscp_medium *it, u8 *room)
@@ -25396,6 +25430,17 @@ int32_t mscp_port_begun(const struct mscp_port *port, struct mscp_upcoming *upco
         A(upcoming) : take_upcoming(upcoming, upcoming_room));
     if (!LIES_upcoming)
         give_upcoming(upcoming, upcoming_room);
+    return answer;
+}
+
+int32_t mscp_port_hardware(const struct mscp_port *port, struct mscp_hardware *hardware)
+{
+    ROOM(port_room, LIES_port ? 1 : 32);
+    ROOM(hardware_room, LIES_hardware ? 1 : 4);
+    const int32_t answer = (int32_t)w_mscp_port_hardware(LIES_port ? A(port) : take_port(port, port_room),
+        LIES_hardware ? A(hardware) : take_hardware(hardware, hardware_room));
+    if (!LIES_hardware)
+        give_hardware(hardware, hardware_room);
     return answer;
 }
 

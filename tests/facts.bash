@@ -30,6 +30,53 @@ A port,What an end says,mscp_port,decided_size
 END
 }
 
+# The fields of a definition of bytes in specs/Saved.antt of a crate, in order; those of the definitions that it names in their
+# places.
+saved_fields() {
+    awk -v wanted="$2" '
+        function fields(name, text, piece) {
+            text = body[name]
+            while (match(text, /[a-z_]+_bytes|[a-z]+(\.[a-z_]+)+/)) {
+                piece = substr(text, RSTART, RLENGTH)
+                text = substr(text, RSTART + RLENGTH)
+                if (piece in body) { sub(/^ +[a-z.]+/, "", text); fields(piece) }
+                else if (piece ~ /\./) { sub(/.*\./, "", piece); print piece }
+            }
+        }
+        /^abbrev |^--/ { name = "" }
+        /^[a-z_]+_bytes / && !/ : / { name = $1; sub(/^[^=]*=/, "") }
+        name != "" { body[name] = body[name] " " $0 }
+        END { fields(wanted) }' "crates/$1/specs/Saved.antt"
+}
+
+# The words of the rows of a part of docs/SAVED.md, behind so many.
+saved_rows() {
+    awk -v part="## $1" -v name="$2:" -v skipped="$3" '/^## / { inside = $0 == part } !inside { next } !/^    / && NF { rows = $0 == name }
+        rows && /^    / && row++ >= skipped { sub(/^ *[0-9]+ +[0-9]+ +/, ""); print }' docs/SAVED.md
+}
+
+# A row says what its field is: rows of one size can't be exchanged.
+rows_of_saved_bytes_are_their_fields() {
+    local part name skipped crate definition pairs pair fields row
+    while IFS='|' read -r part name skipped crate definition pairs; do
+        fields=$(saved_fields "$crate" "$definition" | tr '\n' ' ') || return
+        same "$(sed -E 's/=[^;]*(;|$)/ /g; s/ +/ /g' <<<"$pairs")" "${fields}" || { echo "$definition" && return 1; }
+        exec {rows}< <(saved_rows "$part" "$name" "$skipped")
+        while IFS= read -r -d ';' pair; do
+            IFS= read -r row <&"$rows" && [[ $row == "${pair#*=}"* ]] || { echo "$part, $name: '$row' isn't '${pair#*=}'" && return 1; }
+        done <<<"$pairs;"
+        exec {rows}<&-
+    done <<'END'
+A controller|The head|3|mscp_saved|limits_bytes|credits=credits of the first;second=credits of the second;budget=budget;longest=longest transfer
+A controller|A drive|0|mscp_saved|drive_bytes|number=unit number;track=blocks of a track;group=tracks of a group;cylinder=groups of a cylinder;size=blocks of the unit;id=unit identifier;media=media type;serial=volume serial;online=whether it is online;up=whether its head goes up;cylinder=the cylinder
+A controller|A waiting command|0|mscp_saved|waiting_bytes|command=its message;done=how many steps it had;passed=by how many blocks;connection=its connection
+A host|A submission|0|mscp_host|submission_bytes|reference=reference number;unit=unit number;opcode=opcode
+A port|A volume|0|mscp_port|volume_bytes|is_there=whether there is one;is_protected=whether nothing may be written;is_protected_by_host=whether its host said so;is_news=whether its host is to hear;is_removable=whether it can be taken out;is_mounted=whether the unit is online;changes=how often;size=its blocks;media=the type
+A port|What is kept of a command|0|mscp_port|buffer_bytes|reference=reference number;address=where its data;count=how many bytes;modifiers=modifiers;flags=unit flags;changes=how often;opcode=opcode
+A port|What an end says|0|mscp_port|decided_bytes|status=status;flags=the flags;media=the type;size=its blocks;code=endcode
+END
+}
+
 # The drives of docs/PORT.md are those of examples/drives.h.
 drives_are_those_of_the_header() {
     local program
@@ -42,12 +89,12 @@ int main(void)
     for (size_t i = 0; i < sizeof drives / sizeof *drives; i++) {
         const struct drive *it = &drives[i];
         printf("| %s | %u | %u, %u, %u | %u | 0x%08X | %s |\n", it->name, (unsigned)it->blocks, it->track, it->group, it->cylinder,
-               it->model, (unsigned)drive_media(it), it->is_removable ? "yes" : "no");
+               it->model, (unsigned)drive_media(it), it->is_read_only ? "yes; read only" : it->is_removable ? "yes" : "no");
     }
     return 0;
 }
 END
-    cc -Iinclude -Iexamples "$program/drives.c" -o "$program/drives" && same "$("$program/drives")" "$(grep -E '^\| R[ADX][0-9]+ \|' docs/PORT.md)"
+    cc -Iinclude -Iexamples "$program/drives.c" -o "$program/drives" && same "$("$program/drives")" "$(grep -E '^\| RR?[ADX][0-9]+ \|' docs/PORT.md)"
     local status=$?
     rm -r -- "$program"
     return "$status"
@@ -99,12 +146,25 @@ actions_are_told() {
         same "$(enumerated MSCP_OUTCOME_ | sort)" "$(awk -F '|' '{ print $4 }' <<<"$table" | grep -oE '`[A-Z]+`' | tr -d '`' | sort -u)"
 }
 
-# Each status with which a port ends a transfer stands in docs/PORT.md, and each code of a fatal error.
+# Each status with which a port ends a transfer stands in docs/PORT.md, behind what it means, and each code of a fatal error.
 statuses_of_a_port_are_told() {
-    local source=crates/mscp_port/src number
-    for number in $(sed -nE '/DRIVE_ERROR/d; s/^(pub.*)?const [A-Z_]+: u16 = (0x[0-9A-F]{4});.*/\2/p' $source/port/serving.rt); do
-        grep -qwF -- "$number" docs/PORT.md || { echo "docs/PORT.md hasn't $number" && return 1; }
-    done
+    local source=crates/mscp_port/src page words name number
+    page=$(tr -s '\n ' ' ' <docs/PORT.md)
+    same "$(sed -nE '/DRIVE_ERROR/d; s/^(pub.*)?const ([A-Z_]+): u16 = 0x[0-9A-F]{4};.*/\2/p' $source/verdict.rt | sort | tr '\n' ' ')" \
+        'DIFFERENT MISSING ODD_ADDRESS ODD_COUNT PARITY PROTECTED PROTECTED_BY_HOST UNMAPPED ' || return
+    while IFS='|' read -r words name; do
+        number=$(sed -nE "s/.*const $name: u16 = (0x[0-9A-F]{4});.*/\1/p" $source/verdict.rt)
+        [ -n "$number" ] && [[ $page == *"$words ($number)"* ]] || { echo "docs/PORT.md hasn't '$words ($number)'" && return 1; }
+    done <<'END'
+odd addresses|ODD_ADDRESS
+counts|ODD_COUNT
+write protection by host|PROTECTED_BY_HOST
+hardware|PROTECTED
+missing memory|MISSING
+a parity error|PARITY
+no mapping|UNMAPPED
+a difference|DIFFERENT
+END
     same "$(grep -rhoE 'self\.die\([0-9]+' $source | grep -oE '[0-9]+' | sort -nu)" \
         "$(awk -F '|' '/^[|] Code/ { inside = 1 } inside && !/^[|]/ { exit } inside { print $2 }' docs/PORT.md | grep -oE '[0-9]+')"
 }
@@ -166,6 +226,37 @@ mscp_port_size|docs/SPEED.md
 crates/mscp_drive/specs/Settings.antt:c\.longest ≤ [0-9]+|docs/FORMATS.md docs/USING.md docs/mscpq.1 include/mscp.h
 crates/mscp_reader/specs/Grammar.antt:length bytes ≤ [0-9]+|docs/FORMATS.md docs/mscpq.1 include/mscp.h
 crates/mscp_reader/specs/Grammar.antt:length new\) [0-9]+|docs/FORMATS.md docs/mscpq.1 include/mscp.h
+END
+}
+
+# The statuses of a program's specification, in order.
+exit_numbers() { sed -nE '/^(exit|fault)_status .*= [0-9]+$/s/.* = //p' "crates/$1/specs/Endings.antt" | sort -nu; }
+
+# Those that a man page has, in order.
+listed_numbers() { awk '/^[.]SH / { inside = $0 == ".SH EXIT STATUS" } inside && /^[.]B [0-9]+$/ { print $2 }' "docs/$1.1"; }
+
+exit_statuses_are_told() {
+    same "$(exit_numbers mscp_script)" "$(listed_numbers mscpq)" && same "$(exit_numbers mscpjudge)" "$(listed_numbers mscpjudge)"
+}
+
+# A page says this sentence with the number of the sources that the expression finds, in place of N.
+sentences_have_the_numbers_of_the_sources() {
+    local page sentence source number text
+    while IFS='|' read -r page sentence source; do
+        number=$(grep -hoE -- "${source#*:}" "${source%%:*}" | head -n 1 | grep -oE '(0x)?[0-9A-F]+$')
+        text=$(tr -s '\n ' ' ' <"$page")
+        [ -n "$number" ] && [[ $text == *"${sentence//N/$number}"* ]] || { echo "$page hasn't '${sentence//N/$number}'" && return 1; }
+    done <<'END'
+docs/C.md|beside the one that each returns: up to N in each.|crates/mscp_port/specs/Packets.antt:1 \+ min untold [0-9]+
+docs/C.md|Longer ones end with `N`|crates/mscp_drive/src/unit.rt:const INVALID_BYTE_COUNT: u16 = 0x[0-9A-F]+
+docs/TUNING.md|A longer one ends with N.|crates/mscp_drive/src/unit.rt:const INVALID_BYTE_COUNT: u16 = 0x[0-9A-F]+
+docs/PORT.md|a transfer past the end of its volume, with N or|crates/mscp_drive/src/unit.rt:const INVALID_BLOCK: u16 = 0x[0-9A-F]+
+docs/PORT.md|0x1C01 or N.|crates/mscp_drive/src/unit.rt:const INVALID_BYTE_COUNT: u16 = 0x[0-9A-F]+
+docs/USING.md|N to 64 on the first connection|crates/mscp_drive/specs/Settings.antt:some_credits : [0-9]+
+docs/USING.md|at most N on both|crates/mscp_drive/specs/Settings.antt:few_credits : c.credits \+ c.second ≤ [0-9]+
+include/mscp.h|the first's credits aren't N to 64|crates/mscp_drive/specs/Settings.antt:some_credits : [0-9]+
+include/mscp.h|or both have over N */|crates/mscp_drive/specs/Settings.antt:few_credits : c.credits \+ c.second ≤ [0-9]+
+include/mscp.h|the longest transfer isn't 1 to N blocks */|crates/mscp_drive/specs/Settings.antt:c\.longest ≤ [0-9]+
 END
 }
 

@@ -13,7 +13,7 @@
 #endif
 #include <unistd.h>
 
-enum { CONTROLLERS = 4, DRIVES = 4, WORK = DRIVES, SECOND, UNITS, RD54 = 6, RA82 = 12, RAUSER = 15 };
+enum { CONTROLLERS = 4, DRIVES = 4, WORK = DRIVES, SECOND, UNITS, RD54 = 6, RA82 = 12, RRD40 = 15, RAUSER };
 
 #define UNIT_LOCKED (1u << UNIT_V_UF) /* a flag of a unit: the host may not write on it */
 #define DRIVE u3                      /* in a unit: which drive of drives.h it is, or RAUSER */
@@ -29,6 +29,7 @@ struct controller {
 
 extern int32 int_req[IPL_HLVL];
 extern int32 cpu_opt, sim_switches, tmr_poll, clk_tps;
+extern FILE *sim_deb;
 extern DEVICE rq_dev, rqb_dev, rqc_dev, rqd_dev;
 
 static UNIT units[CONTROLLERS][UNITS];
@@ -36,7 +37,7 @@ static struct controller controllers[CONTROLLERS] = {
     {.device = &rq_dev}, {.device = &rqb_dev}, {.device = &rqc_dev}, {.device = &rqd_dev}};
 
 /* How many actions a turn of the port has at most, and how many instructions go by before each turn. A block is one action. */
-static int32 actions = 50, slack = 200;
+static int32 actions = 150, slack = 200;
 
 /* ---- what the port wants of the machine */
 
@@ -96,6 +97,14 @@ static bool write_run (void *machine, uint16_t number, uint32_t block, uint32_t 
 static bool write_block (void *machine, uint16_t number, uint32_t block, const uint8_t *bytes)
 {
     return write_run (machine, number, block, 1, bytes);
+}
+
+/* With SET RQ DEBUG the file of SET DEBUG gets a line for each message. */
+static void see_message (void *machine, bool is_to_host, const uint8_t *bytes, uint32_t length)
+{
+    struct controller *it = machine;
+    if (DEBUG_PRD (it->device))
+        rq_show_message (sim_deb, it->device->name, is_to_host, bytes, length);
 }
 
 /* ---- the controller's two registers, its interrupt and its time */
@@ -183,6 +192,8 @@ static t_stat write_register (int32 data, int32 address, int32 access)
     port_write (&it->port, address & 2, (uint16_t)data);
     show_sa (it);
     if (!(address & 2)) {
+        if (DEBUG_PRD (it->device))
+            fprintf (sim_deb, "%s host: reset\n", it->device->name);
         withdraw (it);
         sim_activate_abs (&it->device->units[SECOND], tmr_poll * clk_tps);
     }
@@ -199,9 +210,8 @@ static struct controller *controller_of (const UNIT *unit)
  * at first soon, and at last with each tick of the clock. */
 static t_stat work (UNIT *unit)
 {
-    t_bool has_more = port_turn (&controller_of (unit)->port, actions);
+    unit->wait = port_turn (&controller_of (unit)->port, actions) ? slack : unit->wait * 2;
     show_sa (controller_of (unit));
-    unit->wait = has_more ? slack : unit->wait * 2;
     if (unit->wait < tmr_poll)
         return sim_activate (unit, unit->wait);
     unit->wait = tmr_poll;
@@ -221,10 +231,8 @@ static t_stat second (UNIT *unit)
 static struct drive drive_of (const UNIT *unit)
 {
     struct drive drive = drives[unit->DRIVE == RAUSER ? RA82 : unit->DRIVE];
-    if (unit->DRIVE == RAUSER) {
-        drive.name = "RAUSER";
+    if (unit->DRIVE == RAUSER)
         drive.blocks = (uint32_t)(unit->capac / MSCP_BLOCK);
-    }
     return drive;
 }
 
@@ -242,7 +250,9 @@ static t_stat reset (DEVICE *device)
 {
     static const struct mscp_hardware uda50 = {MSCP_BUS_UNI, 6, 3, 1}, rqdx3 = {MSCP_BUS_Q, 19, 3, 1};
     struct controller *it = controller_of (device->units);
-    const struct port_bus bus = {it, rq_read_memory, rq_write_memory, interrupt, read_block, write_block, read_run, write_run};
+    const struct port_bus bus = {.machine = it, .read = rq_read_memory, .write = rq_write_memory,
+                                 .interrupt = interrupt, .read_block = read_block, .write_block = write_block,
+                                 .read_run = read_run, .write_run = write_run, .see_message = see_message};
     struct mscp_unit told[DRIVES];
     size_t count = 0;
     for (uint16_t i = 0; i < DRIVES; i++) {
@@ -278,9 +288,8 @@ static t_stat attach (UNIT *unit, char *name)
 
 static t_stat detach (UNIT *unit)
 {
-    struct controller *it = controller_of (unit);
     if (unit->flags & UNIT_ATT)
-        port_eject (&it->port, number_of (it, unit));
+        port_eject (&controller_of (unit)->port, number_of (controller_of (unit), unit));
     return detach_unit (unit);
 }
 
@@ -311,25 +320,20 @@ static t_stat set_user (UNIT *unit, int32 value, char *text, void *nothing)
     return status != SCPE_OK || blocks < LEAST ? SCPE_ARG : change (unit, RAUSER, blocks);
 }
 
-static t_stat show_drive (FILE *to, UNIT *unit, int32 value, void *nothing)
-{
-    fprintf (to, "%s", drive_of (unit).name);
-    return SCPE_OK;
-}
+enum { SHOW_TYPE, SHOW_WRITE, SHOW_QUEUE, SHOW_VECTOR };
 
-static t_stat show_queue (FILE *to, UNIT *unit, int32 value, void *nothing)
+/* A part of what SHOW says of a unit or a device. Whether one may write is told as of SIMH's own disks. */
+static t_stat show (FILE *to, UNIT *unit, int32 value, void *nothing)
 {
     struct controller *it = controller_of (unit);
+    const char *writes = unit->flags & (UNIT_RO | UNIT_LOCKED) ? "write locked" : "write enabled";
     check_build (it);
-    rq_show_queue (to, port_itself (&it->port), it->device->name, first_number (it));
-    return SCPE_OK;
-}
-
-static t_stat show_vector (FILE *to, UNIT *unit, int32 value, void *nothing)
-{
-    struct controller *it = controller_of (unit);
-    check_build (it);
-    rq_show_vector (to, port_itself (&it->port));
+    switch (value) {
+    case SHOW_TYPE: fputs (unit->DRIVE == RAUSER ? "RAUSER" : drive_of (unit).name, to); break;
+    case SHOW_WRITE: fputs (drive_of (unit).is_read_only ? "read only" : writes, to); break;
+    case SHOW_QUEUE: rq_show_queue (to, port_itself (&it->port), it->device->name, first_number (it)); break;
+    default: rq_show_vector (to, port_itself (&it->port));
+    }
     return SCPE_OK;
 }
 
@@ -337,8 +341,10 @@ static t_stat show_vector (FILE *to, UNIT *unit, int32 value, void *nothing)
 static t_stat lock (UNIT *unit, int32 value, char *text, void *nothing)
 {
     struct controller *it = controller_of (unit);
+    if (drive_of (unit).is_read_only)
+        return SCPE_NOFNC;
     if (unit->flags & UNIT_ATT)
-        mscp_port_protect (port_itself (&it->port), number_of (it, unit), value != 0 || (unit->flags & UNIT_RO) != 0);
+        mscp_port_protect (port_itself (&it->port), number_of (it, unit), value != 0 || unit->flags & UNIT_RO);
     return SCPE_OK;
 }
 
@@ -369,22 +375,24 @@ static DIB dibs[CONTROLLERS] = {A_DIB (RQ), A_DIB (RQB), A_DIB (RQC), A_DIB (RQD
 static REG registers[CONTROLLERS][9] = {REGISTERS (0), REGISTERS (1), REGISTERS (2), REGISTERS (3)};
 
 #define SET_TO(number, name) {MTAB_XTD | MTAB_VUN, number, NULL, name, set_drive, NULL, NULL}
+#define SHOWN(part, name) {MTAB_XTD | MTAB_VUN, part, name, NULL, NULL, show, NULL}
 static MTAB modifiers[] = {
     SET_TO (0, "RX33"), SET_TO (1, "RX50"), SET_TO (2, "RD31"), SET_TO (3, "RD51"), SET_TO (4, "RD52"),
     SET_TO (5, "RD53"), SET_TO (6, "RD54"), SET_TO (7, "RA60"), SET_TO (8, "RA71"), SET_TO (9, "RA72"),
     SET_TO (10, "RA80"), SET_TO (11, "RA81"), SET_TO (12, "RA82"), SET_TO (13, "RA90"), SET_TO (14, "RA92"),
+    SET_TO (RRD40, "RRD40"), SET_TO (RRD40, "CDROM"),
     {MTAB_XTD | MTAB_VUN, RAUSER, NULL, "RAUSER", set_user, NULL, NULL},
-    {MTAB_XTD | MTAB_VUN, 0, "TYPE", NULL, NULL, show_drive, NULL},
-    {UNIT_LOCKED, 0, "write enabled", "WRITEENABLED", lock}, {UNIT_LOCKED, UNIT_LOCKED, "write locked", "LOCKED", lock},
+    SHOWN (SHOW_WRITE, "WRITE"), SHOWN (SHOW_TYPE, "TYPE"),
+    {UNIT_LOCKED, 0, NULL, "WRITEENABLED", lock}, {UNIT_LOCKED, UNIT_LOCKED, NULL, "LOCKED", lock},
     {MTAB_XTD | MTAB_VDV, 4, "ADDRESS", "ADDRESS", set_addr, show_addr, NULL},
     {MTAB_XTD | MTAB_VDV, 0, NULL, "AUTOCONFIGURE", set_addr_flt, NULL, NULL},
-    {MTAB_XTD | MTAB_VDV, 0, "VECTOR", NULL, NULL, show_vector, NULL},
-    {MTAB_XTD | MTAB_VDV | MTAB_NMO, 0, "QUEUE", NULL, NULL, show_queue, NULL},
+    {MTAB_XTD | MTAB_VDV, SHOW_VECTOR, "VECTOR", NULL, NULL, show, NULL},
+    {MTAB_XTD | MTAB_VDV | MTAB_NMO, SHOW_QUEUE, "QUEUE", NULL, NULL, show, NULL},
     {0}};
 
 #define A_DEVICE(name, number, flags) \
     {name, units[number], registers[number], modifiers, UNITS, DEV_RDX, 31, 2, DEV_RDX, 16, NULL, NULL, reset, boot, \
-     attach, detach, &dibs[number], (flags) | DEV_DISABLE | DEV_UBUS | DEV_QBUS}
+     attach, detach, &dibs[number], (flags) | DEV_DISABLE | DEV_UBUS | DEV_QBUS | DEV_DEBUG}
 DEVICE rq_dev = A_DEVICE ("RQ", 0, DEV_FLTA);
 DEVICE rqb_dev = A_DEVICE ("RQB", 1, DEV_FLTA | DEV_DIS);
 DEVICE rqc_dev = A_DEVICE ("RQC", 2, DEV_FLTA | DEV_DIS);

@@ -12,6 +12,9 @@ void rq_show_queue (FILE *to, const struct mscp_port *port, const char *name, ui
 /* The vector by which a port interrupts its host, in octal. */
 void rq_show_vector (FILE *to, const struct mscp_port *port);
 
+/* A line that says what a message from the host or to it is, of the device of this name. */
+void rq_show_message (FILE *to, const char *name, bool is_to_host, const uint8_t *bytes, uint32_t length);
+
 /* rq_pdp11.c or rq_vax.c: the machine's memory, by addresses of the bus. */
 enum mscp_outcome rq_read_memory (void *machine, uint32_t address, uint8_t *bytes, uint32_t count);
 enum mscp_outcome rq_write_memory (void *machine, uint32_t address, const uint8_t *bytes, uint32_t count);

@@ -1,4 +1,5 @@
-/* rq_show.c: what SHOW RQ QUEUE and SHOW RQ VECTOR say, by the calls of mscp.h that look into a port. */
+/* rq_show.c: what SHOW RQ QUEUE and SHOW RQ VECTOR say, by the calls of mscp.h that look into a port, and what SET RQ
+ * DEBUG has said. */
 #include "rq.h"
 
 /* Where something stands in the bytes of a saved port, and how long the parts are: docs/SAVED.md has them. */
@@ -82,4 +83,27 @@ void rq_show_vector (FILE *to, const struct mscp_port *port)
         fputs ("no vector", to);
     else
         fprintf (to, "vector=%o", vector);
+}
+
+/* In the words of mscp_show_packet, or by its bytes. It takes room for twice the line, which is shorter than 200. */
+static void show_packet (FILE *to, const uint8_t *bytes, uint32_t length)
+{
+    uint8_t word[2 * MSCP_MESSAGE_MAX + 1], text[400];
+    size_t count;
+    for (uint32_t i = 0; i < length; i++)
+        sprintf ((char *)word + 2 * i, "%02x", bytes[i]);
+    if (mscp_show_packet (word, 2 * length, text, sizeof text, &count) == MSCP_DONE)
+        fprintf (to, "%.*s", (int)count, (const char *)text);
+    else
+        fprintf (to, "%.*s\n", (int)(2 * length), (const char *)word);
+}
+
+void rq_show_message (FILE *to, const char *name, bool is_to_host, const uint8_t *bytes, uint32_t length)
+{
+    enum { ATTENTION = 0x40 };
+    fprintf (to, "%s %s: ", name, is_to_host ? "controller" : "host");
+    if (is_to_host && bytes[OPCODE] == ATTENTION)
+        fprintf (to, "unit %d is available\n", word_at (bytes + UNIT));
+    else
+        show_packet (to, bytes, length);
 }

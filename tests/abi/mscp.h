@@ -50,7 +50,7 @@ extern "C" {
 #endif
 
 /* What a handle, and memory for what it is on, is aligned to, in bytes; and the bytes of a handle. Both are so on every
- * machine: if 64 bits would be aligned to fewer, MSCP_ALIGNED stands before what is to be aligned. */
+ * machine: put MSCP_ALIGNED before memory of 64-bit numbers, which may be aligned to fewer. */
 #define MSCP_ALIGN 8u
 #define MSCP_HEAD 32u
 #if defined(__GNUC__)
@@ -89,13 +89,13 @@ enum mscp_status {
     MSCP_ANSWERED = 3,  /* mscp_send: its end was made at once: take it */
     MSCP_BUSY = 4,      /* mscp_host_poll: the end of the last poll is still to come */
     MSCP_ENDED = 5,     /* mscp_host_receive: a command ended, or a poll was refused */
-    MSCP_FIRST = 6,     /* the polled command's figure, the first that was told of it */
+    MSCP_FIRST = 6,     /* the polled command's first figure */
     MSCP_PROGRESS = 7,  /* the polled command's figure, which has fallen */
     MSCP_LATE = 8,      /* the polled command has ended in the meantime */
     MSCP_NO_PROGRESS = 9, /* the polled command's figure hasn't fallen: reset the controller */
     MSCP_LOST = 10,     /* the controller doesn't know the polled command: reset it */
-    MSCP_MOVED_TOO_MUCH = 11, /* mscp_driver_hear: a command ended, and its end tells more bytes than it asked for */
-    MSCP_REFUSED = 12,  /* the end of a poll, which tells no figure */
+    MSCP_MOVED_TOO_MUCH = 11, /* mscp_driver_hear: a command ended, and its end says that more bytes moved than it asked for */
+    MSCP_REFUSED = 12,  /* the end of a poll, without a figure */
     MSCP_NOW_AVAILABLE = 13, /* a unit became available */
     MSCP_ATTENTION = 14, /* another attention message */
     MSCP_LOGGED = 15,   /* an error log */
@@ -120,7 +120,7 @@ enum mscp_status {
     MSCP_MISALIGNED = -14,  /* an init: its address isn't a multiple of the alignment */
     MSCP_SMALL = -15,       /* it has fewer bytes than what is to be made, saved or written there takes */
 
-    MSCP_CUT = -16,         /* mscp_driver_hear: there are fewer bytes than the envelope tells */
+    MSCP_CUT = -16,         /* mscp_driver_hear: there are fewer bytes than the envelope says */
     MSCP_OTHER_CONNECTION = -17, /* a message of another connection than the disks' */
     MSCP_BAD_KIND = -18,    /* a message of no known type */
 
@@ -142,7 +142,7 @@ enum mscp_status {
     MSCP_BAD_BUS = -33,          /* mscp_port_init: no enum mscp_bus */
     MSCP_BAD_HOST_CREDITS = -34, /* mscp_port_init: the host's are 0, or not below those of the first connection */
     MSCP_BAD_OUTCOME = -35,      /* mscp_port_went: no enum mscp_outcome, or a block's status of low five bits 0 to 4 */
-    MSCP_UNASKED = -36,          /* the port didn't want what was told */
+    MSCP_UNASKED = -36,          /* the port didn't want what was reported */
     MSCP_UNKNOWN_UNIT = -37,     /* no unit has this number */
     MSCP_BAD_SIZE = -38,         /* mscp_port_volume_came: a volume without blocks, or with more than its unit has */
 
@@ -161,14 +161,14 @@ enum mscp_status {
     MSCP_SAVED_BEGUN = -52,   /* that a command is begun which doesn't wait, or may not be served */
     MSCP_SAVED_PICKER = -53,  /* no enum mscp_picker */
     MSCP_SAVED_FORM = -54,    /* they say what may be, but not as it is saved */
-    MSCP_SAVED_POLL = -55,    /* a poll in flight, or a figure that a poll told, which no host has */
+    MSCP_SAVED_POLL = -55,    /* a poll in flight, or a polled figure, that no host has */
     MSCP_SAVED_SIZE = -56,    /* what a port has in hand has a size that nothing in hand has */
 
     MSCP_SCRIPT_SIZE = -60,   /* mscp_run_script: the script has over 16777216 bytes */
     MSCP_SCRIPT_LINES = -61,  /* it is line 1000001 */
     MSCP_SCRIPT_LONG = -62,   /* the line has over 200 bytes */
     MSCP_SCRIPT_BYTE = -63,   /* a byte that is neither a space nor a printed ASCII character */
-    MSCP_SCRIPT_WORD = -64,   /* its first word isn't one that may stand there */
+    MSCP_SCRIPT_WORD = -64,   /* its first word isn't one that may be there */
     MSCP_SCRIPT_COUNT = -65,  /* it has too few or too many words */
     MSCP_SCRIPT_NUMBER = -66, /* a number that isn't one of 1 to 10 digits, or out of its range */
     MSCP_SCRIPT_HEX = -67,    /* digits that aren't hexadecimal, or not as many as there may be */
@@ -228,7 +228,7 @@ struct mscp_command {
     uint8_t opcode;     /* an enum mscp_opcode, or another one that has none of these fields */
 };
 
-/* A unit. No size is 0. Its identifiers are told to the host. */
+/* A unit. No size is 0. The host reads its identifiers. */
 struct mscp_unit {
     uint64_t id;       /* of the unit */
     uint32_t size;     /* in blocks */
@@ -242,16 +242,16 @@ struct mscp_unit {
 
 /* The limits of a controller: no command waits for more than (credits - 1) * longest + budget steps, and with a second
  * connection for no more than (credits - 1 + second - 1) * longest + budget. If a later command of either connection
- * starts before a waiting one, that costs the budget of the waiting one all the steps that the later one takes: one for
- * each of its blocks, and 1 if it has none. It may start only if no budget is overdrawn. With a budget of
- * (uint64_t)times * longest later commands may go first so many times, each time with a longest transfer. */
+ * starts before a waiting one, that takes from the budget of the waiting one all the steps that the later one takes: one
+ * for each of its blocks, and 1 if it has none. It may start only if no budget is overdrawn. With a budget of
+ * (uint64_t)times * longest later commands may go first `times` times, each time with a longest transfer. */
 struct mscp_limits {
-    uint64_t id;      /* of the controller, which the host is told */
+    uint64_t id;      /* of the controller, which the host reads */
     uint64_t budget;  /* the blocks that later commands may have in all that start before a waiting command */
     uint32_t credits; /* of the first connection: commands that wait and ends that weren't taken, together: 2 to 64 */
     uint32_t second;  /* of the second: 2 to 62, or 0 if there is none. Both together have up to 64 */
     uint32_t longest; /* the longest transfer in blocks: 1 to 8388608 */
-    uint16_t timeout; /* in seconds, which the host is told: 1 to 255 */
+    uint16_t timeout; /* in seconds, which the host reads: 1 to 255 */
 };
 
 /* The bus of a port's host. */
@@ -260,30 +260,30 @@ enum mscp_bus {
     MSCP_BUS_UNI = 1 /* the Unibus, with addresses of 18 bits: drop all other bits of what a port names */
 };
 
-/* What a port tells of itself. */
+/* What a port says of itself. */
 struct mscp_hardware {
     uint8_t bus;      /* an enum mscp_bus */
-    uint8_t model;    /* its low seven bits are told: 19 is an RQDX3, 6 a UDA50 */
-    uint8_t software; /* the version of its software, of which the low four bits are told */
+    uint8_t model;    /* the host reads its low seven bits: 19 is an RQDX3, 6 a UDA50 */
+    uint8_t software; /* the version of its software, of which the host reads the low four bits */
     uint8_t version;  /* that of its hardware */
 };
 
 /* What is put into a unit. */
 struct mscp_medium {
     uint32_t size;        /* in blocks: 1 to those of the unit */
-    uint32_t media;       /* the type of its media, which the host is told */
+    uint32_t media;       /* the type of its media, which the host reads */
     uint8_t is_protected; /* whether nothing may be written on it */
-    uint8_t is_removable; /* whether it can be taken out, which the host is told */
+    uint8_t is_removable; /* whether it can be taken out, which the host reads */
 };
 
-/* What a port wants done. Its `address` and `count` are of host memory: so many bytes from there on. */
+/* What a port wants done. Its `address` and `count` are of host memory: `count` bytes from `address` on. */
 enum mscp_action_kind {
     MSCP_ACTION_PAUSE = 1,     /* nothing, but the host is to go on a little: some hundred instructions */
     MSCP_ACTION_READ = 2,      /* hand those bytes to mscp_port_was_read */
     MSCP_ACTION_WRITE = 3,     /* write `bytes` there */
     MSCP_ACTION_INTERRUPT = 4, /* interrupt the host by `vector` */
     MSCP_ACTION_TRANSFER = 5   /* what `opcode` says with `block` of `unit`: MSCP_READ writes its first `count` bytes
-                                * there, MSCP_WRITE writes those bytes to it, with zeros behind them, and
+                                * there, MSCP_WRITE writes those bytes to it, and zeros after them, and
                                 * MSCP_COMPARE_HOST_DATA compares them with its first. MSCP_ACCESS reads the block,
                                 * MSCP_ERASE writes zeros to it, and both touch no memory */
 };
@@ -309,7 +309,7 @@ enum mscp_outcome {
     MSCP_OUTCOME_PARITY = 2,    /* it has a parity error */
     MSCP_OUTCOME_UNMAPPED = 3,  /* the bus maps no memory there */
     MSCP_OUTCOME_DIFFERENT = 4, /* the bytes that were compared differ */
-    MSCP_OUTCOME_FAILED = 5     /* the block couldn't be moved: its command ends with the status told beside it */
+    MSCP_OUTCOME_FAILED = 5     /* the block couldn't be moved: its command ends with the status reported beside it */
 };
 
 /* A handle on memory of yours: where it is, and what is in it. Nothing in it is for you, save if the memory moves:
@@ -340,7 +340,7 @@ struct mscp_driver {
     uint64_t mark;
 };
 
-/* What calls tell. A flag ("whether ..") is 1 or 0. */
+/* What calls answer. A flag ("whether ..") is 1 or 0. */
 
 /* What became of a message. */
 struct mscp_sent {
@@ -352,7 +352,7 @@ struct mscp_sent {
 /* A message or an end. */
 struct mscp_packet {
     uint32_t length;                /* of its bytes */
-    uint8_t bytes[MSCP_PACKET_MAX]; /* those behind them are what they were */
+    uint8_t bytes[MSCP_PACKET_MAX]; /* those after `length` are what they were */
 };
 
 /* An end, by its fields. Those that its endcode doesn't have are 0. */
@@ -465,7 +465,7 @@ struct mscp_action {
     uint16_t vector;   /* of INTERRUPT */
     uint8_t kind;      /* an enum mscp_action_kind */
     uint8_t opcode;    /* of TRANSFER, an enum mscp_opcode */
-    uint8_t bytes[64]; /* of WRITE `count`, and those behind them are what they were */
+    uint8_t bytes[64]; /* of WRITE `count`, and those after them are what they were */
 };
 
 /* What a port is. */
@@ -506,7 +506,7 @@ size_t mscp_driver_align(void);
 #define MSCP_PORT_SIZE 20480u
 #define MSCP_DRIVER_SIZE 3072u
 
-/* Marks of handles on memory where nothing was made yet. */
+/* Marks of handles on memory in which nothing was made yet. */
 #define MSCP_ROOM UINT64_C(0x4D534350524F4F4D)
 #define MSCP_HOST_ROOM UINT64_C(0x484F5354524F4F4D)
 #define MSCP_PORT_ROOM UINT64_C(0x504F5254524F4F4D)
@@ -573,7 +573,7 @@ MSCP_INLINE struct mscp_driver *mscp_driver_in_memory(void *memory, size_t lengt
 
 /* The memory with the handle at its head lies here now: whoever moved it calls this before any other call. Its
  * alignment is the same. A controller, a host and a port have no pointer into themselves, and the drive's work goes on:
- * mscp_begin or mscp_port_next tells it again. The first two fields of a handle that mscp_over made say where its
+ * mscp_begin or mscp_port_next answers it again. The first two fields of a handle that mscp_over made say where its
  * memory is. If you move that memory, set these two fields, and no other. */
 MSCP_INLINE struct mscp *mscp_moved(void *memory)
 {
@@ -647,7 +647,7 @@ int32_t mscp_read_end_at(const uint8_t *bytes, size_t length, struct mscp_end *e
  * call that takes a connection answers MSCP_BAD_CONNECTION if its number is no enum mscp_connection, and changes
  * nothing. A second connection that has no credits takes no message in, and has no ends. */
 
-/* Makes a controller in the handle's memory: of these limits, of so many units in rising order of their numbers, served
+/* Makes a controller in the handle's memory: of these limits, of `count` units in rising order of their numbers, served
  * by a picker of enum mscp_picker. MSCP_DONE, or the first fault in this order: those of the memory (-11 to -15),
  * MSCP_BAD_PICKER, MSCP_MANY_UNITS, those of the first unit that has one (-21 to -24), MSCP_UNITS_FALL, MSCP_NO_UNITS,
  * those of the limits (-28 to -31). The controller is made on the stack, of which this takes up to 40 KiB, and is moved
@@ -687,7 +687,7 @@ MSCP_INLINE int32_t mscp_send(struct mscp *mscp, uint32_t connection, const uint
 MSCP_MUST_USE int32_t mscp_take(struct mscp *mscp, uint32_t connection, struct mscp_packet *end);
 
 /* What the next step serves. MSCP_DONE, or MSCP_NOTHING if no command waits. The choice is kept: until a step, an
- * ABORT of that command or a reset this answers the same. It changes nothing that any other call tells. */
+ * ABORT of that command or a reset this answers the same. It changes nothing that any other call answers. */
 MSCP_MUST_USE int32_t mscp_begin(struct mscp *mscp, struct mscp_upcoming *upcoming);
 
 /* The step of the command that is begun, if that is of this connection and has this reference number. Its block had
@@ -759,7 +759,7 @@ MSCP_INLINE int64_t mscp_settings(const struct mscp *mscp, struct mscp_limits *l
 /* As many bytes as this library saves a controller as, at most: no more than MSCP_SAVED_MAX. */
 size_t mscp_save_size(void);
 
-/* Writes all that the calls tell of the controller, and its limits, units and picker, as `*length` bytes to the front
+/* Writes all that the calls answer of the controller, and its limits, units and picker, as `*length` bytes to the front
  * of the room. docs/SAVED.md has their layout. MSCP_DONE, or MSCP_SMALL if the room has fewer bytes: `*length` is how many
  * they are then too, and nothing is written. The same state has the same bytes, on every machine. */
 MSCP_MUST_USE
@@ -859,7 +859,7 @@ MSCP_INLINE int32_t mscp_host_restore(struct mscp_host *host, const uint8_t *byt
 /* The message of a command, of 12 to 32 bytes: what a controller reads in it is the command. MSCP_DONE. */
 int32_t mscp_write_command(const struct mscp_command *command, struct mscp_packet *message);
 
-/* What an end tells. MSCP_DONE; or MSCP_UNREADABLE if there aren't 12 to 64 bytes, or fewer than its endcode has, or that isn't
+/* What an end says. MSCP_DONE; or MSCP_UNREADABLE if there aren't 12 to 64 bytes, or fewer than its endcode has, or that isn't
  * 0x80, alone or with an enum mscp_opcode. */
 MSCP_MUST_USE
 MSCP_INLINE int32_t mscp_read_end(const uint8_t *bytes, size_t length, struct mscp_end *end)
@@ -949,8 +949,8 @@ MSCP_INLINE int32_t mscp_driver_restore(struct mscp_driver *driver, const uint8_
 /* ---- a port over a controller of its own. Each call but mscp_port_init and mscp_port_restore answers MSCP_NOT_MADE if
  * there is none. docs/PORT.md says how an emulator takes it in. */
 
-/* Makes a port in the handle's memory, over a controller as mscp_init makes one. Its host may have so many commands
- * outstanding: 1 to one fewer than the first connection has credits. Its units have no volumes yet. MSCP_DONE, or the
+/* Makes a port in the handle's memory, over a controller as mscp_init makes one. Its host may have `credits`
+ * commands outstanding: 1 to one fewer than the first connection has. Its units have no volumes yet. MSCP_DONE, or the
  * first fault of those of mscp_init (-11 to -15 and -20 to -31), MSCP_BAD_BUS and MSCP_BAD_HOST_CREDITS. This takes up
  * to 40 KiB of the stack. No other call of a port takes over 2, but for mscp_port_why with up to 3, and those that save and
  * restore. */
@@ -1001,11 +1001,11 @@ MSCP_INLINE int32_t mscp_port_was_read(struct mscp_port *port, const uint8_t *by
 }
 
 /* What the port wanted went so, by an enum mscp_outcome. The status counts for MSCP_OUTCOME_FAILED alone: low five bits of 5
- * to 31. A read that was done is told by mscp_port_was_read. MSCP_DONE, or the first that holds of MSCP_BAD_OUTCOME and
+ * to 31. A read that was done is reported by mscp_port_was_read. MSCP_DONE, or the first that holds of MSCP_BAD_OUTCOME and
  * MSCP_UNASKED. */
 MSCP_MUST_USE int32_t mscp_port_went(struct mscp_port *port, uint32_t outcome, uint16_t status);
 
-/* The port looks again whether its host has given slots for ends back, since nothing else tells it so. Call this when
+/* The port looks again whether its host has given slots for ends back, since the host doesn't say so. Call this when
  * the machine has time for the disk. MSCP_DONE. */
 int32_t mscp_port_look_again(struct mscp_port *port);
 
@@ -1013,7 +1013,7 @@ int32_t mscp_port_look_again(struct mscp_port *port);
 int32_t mscp_port_tick(struct mscp_port *port);
 
 /* A volume came into a unit, in place of one that was there. It may have fewer blocks than the unit, and media of another
- * type. The host is told the volume's, and transfers past its end are refused. MSCP_DONE, MSCP_UNKNOWN_UNIT or
+ * type. The host reads the volume's, and transfers past its end are refused. MSCP_DONE, MSCP_UNKNOWN_UNIT or
  * MSCP_BAD_SIZE. */
 MSCP_MUST_USE int32_t mscp_port_volume_came(struct mscp_port *port, uint16_t unit, const struct mscp_medium *medium);
 
@@ -1023,6 +1023,9 @@ MSCP_MUST_USE int32_t mscp_port_volume_went(struct mscp_port *port, uint16_t uni
 /* Nothing may be written on the volume of a unit from now on, or with 0 something may again. It stays the same volume to
  * its host. Of a unit without a volume nothing is kept. MSCP_DONE, or MSCP_UNKNOWN_UNIT. */
 MSCP_MUST_USE int32_t mscp_port_protect(struct mscp_port *port, uint16_t unit, uint32_t is_protected);
+
+/* What kind of port it is, as it was told as it was made, also if it was restored. MSCP_DONE. */
+MSCP_MUST_USE int32_t mscp_port_hardware(const struct mscp_port *port, struct mscp_hardware *hardware);
 
 /* How far the port has come. If it answered MSCP_NOTHING and is held back, it is to look again: its host doesn't say that it
  * has given a slot of the ring of responses back. If it isn't, it waits for a register, a volume or the clock. MSCP_DONE. */
@@ -1035,7 +1038,7 @@ MSCP_MUST_USE int32_t mscp_port_volume(const struct mscp_port *port, uint16_t un
  * `done` 0, and its last one `done + 1 == weight`. MSCP_DONE, or MSCP_NOTHING if none is begun. */
 MSCP_MUST_USE int32_t mscp_port_begun(const struct mscp_port *port, struct mscp_upcoming *upcoming);
 
-/* The limits and units of the port's controller, as mscp_settings tells them. */
+/* The limits and units of the port's controller, as mscp_settings writes them. */
 MSCP_MUST_USE
 MSCP_INLINE int64_t mscp_port_settings(const struct mscp_port *port, struct mscp_limits *limits,
                                        struct mscp_unit *units, size_t room)
@@ -1076,7 +1079,7 @@ MSCP_INLINE uint32_t mscp_on_bus(uint8_t bus, uint32_t address)
 /* As many bytes as this library saves a port as, at most: no more than MSCP_PORT_SAVED_MAX. */
 size_t mscp_port_save_size(void);
 
-/* All of the port, as mscp_save does it of a controller, which is in it. What it wants stays wanted: tell how that went
+/* All of the port, as mscp_save does it of a controller, which is in it. What it wants stays wanted: report how that went
  * after a restore, or ask again. */
 MSCP_MUST_USE
 MSCP_INLINE int32_t mscp_port_save(const struct mscp_port *port, uint8_t *bytes, size_t room, size_t *length)
@@ -1100,11 +1103,11 @@ MSCP_INLINE int32_t mscp_port_restore(struct mscp_port *port, const uint8_t *byt
     return mscp_port_restore_at(port, length == 0 ? &none : bytes, length);
 }
 
-/* ---- scripts. docs/FORMATS.md says what stands in one, and what its report has. */
+/* ---- scripts. docs/FORMATS.md says what is in one, and what its report has. */
 
-/* Runs a script of so many bytes through a controller of its own, as the program mscpq does, and writes the report to the
+/* Runs a script of `length` bytes through a controller of its own, as the program mscpq does, and writes the report to the
  * front of the room, of `*count` bytes. MSCP_DONE; MSCP_SMALL, if the room has fewer than twice as many bytes as the
- * report, or of a faulty script as the report of the lines in front of the fault; or MSCP_SCRIPT_SIZE to _EVENTS, what is
+ * report, or of a faulty script as the report of the lines before the fault; or MSCP_SCRIPT_SIZE to _EVENTS, what is
  * wrong in line `*line`, the first in which something is. Whatever it answers, all of the room may be written over. This
  * takes up to 60 KiB of the stack. */
 MSCP_MUST_USE
@@ -1115,7 +1118,7 @@ MSCP_INLINE int32_t mscp_run_script(const uint8_t *script, size_t length, uint8_
     return mscp_run_script_at(length == 0 ? &none : script, length, room == 0 ? &none : bytes, room, count, line);
 }
 
-/* Writes what a message says, which a word of so many bytes is the hexadecimal digits of, as `mscpq packet` does: a line of
+/* Writes what a message says, whose hexadecimal digits are a word of `length` bytes, as `mscpq packet` does: a line of
  * `*count` bytes at the front of the room. MSCP_DONE; MSCP_SMALL, if the room has fewer than twice as many bytes as the
  * line; or MSCP_WORD_HEX to _LENGTH. Whatever it answers, all of the room may be written over. */
 MSCP_MUST_USE
@@ -1170,21 +1173,21 @@ MSCP_INLINE const char *mscp_status_text(int64_t status)
     case MSCP_BAD_TIMEOUT: return "a timeout that isn't 1 to 255 seconds";
     case MSCP_BAD_BOUND: return "a bound of figures that doesn't fit 32 bits";
     case MSCP_BAD_CONNECTION: return "no connection of this number";
-    case MSCP_BAD_BUS: return "no bus of this number";
+    case MSCP_BAD_BUS: return "no bus of this number, or another one";
     case MSCP_MOVED_TOO_MUCH: return "a command ended with more bytes than it asked for";
-    case MSCP_REFUSED: return "a poll that tells no figure";
+    case MSCP_REFUSED: return "the end of a poll without a figure";
     case MSCP_NOW_AVAILABLE: return "a unit became available";
     case MSCP_ATTENTION: return "an attention message";
     case MSCP_LOGGED: return "an error log";
     case MSCP_CREDITS: return "credits";
     case MSCP_POLL: return "poll the oldest command";
     case MSCP_SILENT: return "no answer for a timeout: reset the port";
-    case MSCP_CUT: return "fewer bytes than the envelope tells";
+    case MSCP_CUT: return "fewer bytes than the envelope says";
     case MSCP_OTHER_CONNECTION: return "a message of another connection";
     case MSCP_BAD_KIND: return "a message of no known type";
     case MSCP_BAD_HOST_CREDITS: return "a port's host without credits, or with as many as the first connection";
     case MSCP_BAD_OUTCOME: return "no outcome of an action";
-    case MSCP_UNASKED: return "the port didn't want what was told";
+    case MSCP_UNASKED: return "the port didn't want what was reported";
     case MSCP_UNKNOWN_UNIT: return "no unit of this number";
     case MSCP_BAD_SIZE: return "a volume without blocks, or with more than its unit";
     case MSCP_SAVED_LENGTH: return "saved bytes that aren't as many as they say";
@@ -1207,8 +1210,8 @@ MSCP_INLINE const char *mscp_status_text(int64_t status)
     case MSCP_SCRIPT_SIZE: return "a script of over 16777216 bytes";
     case MSCP_SCRIPT_LINES: return "over 1000000 lines";
     case MSCP_SCRIPT_LONG: return "a line of over 200 bytes";
-    case MSCP_SCRIPT_BYTE: return "a byte that may not stand in a line";
-    case MSCP_SCRIPT_WORD: return "a first word that may not stand there";
+    case MSCP_SCRIPT_BYTE: return "a byte that may not be in a line";
+    case MSCP_SCRIPT_WORD: return "a first word that may not be there";
     case MSCP_SCRIPT_COUNT: return "too few or too many words";
     case MSCP_SCRIPT_NUMBER: return "a number that isn't one, or out of its range";
     case MSCP_SCRIPT_HEX: return "no hexadecimal digits, or not as many as may be";

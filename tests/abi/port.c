@@ -14,11 +14,12 @@
 
 enum { DRIVE_ERROR = 0x000B };
 
-/* Nothing is moved ahead, and no block takes its time. */
-static void forget_blocks(struct port *port)
+/* Nothing is moved ahead, no block takes its time, and no message is on its way. */
+static void forget(struct port *port)
 {
     port->ahead.count = 0;
     port->slow = PORT_IDLE;
+    port->passing.length = 0;
 }
 
 /* One credit more than the host has is for commands that are answered at once. */
@@ -35,20 +36,29 @@ int32_t port_open(struct port *port, const struct port_bus *bus, const struct ms
     port->bus = *bus;
     port->lines = hardware->bus;
     port->serial = 0;
-    forget_blocks(port);
+    forget(port);
     return mscp_port_init(mscp_port_in_memory(port->memory, sizeof port->memory), &limits, units, count, MSCP_SWEEP, hardware,
                           PORT_COMMANDS);
 }
 
 int32_t port_restore(struct port *port, const uint8_t *bytes, size_t length)
 {
-    int32_t status = mscp_port_restore(port_itself(port), bytes, length);
+    struct mscp_port *itself = port_itself(port);
+    struct mscp_hardware hardware = {0};
+    uint8_t before[MSCP_PORT_SAVED_MAX];
+    size_t count;
+    int32_t status = mscp_port_save(itself, before, sizeof before, &count);
     if (status == MSCP_DONE)
-        forget_blocks(port);
-    return status;
+        status = mscp_port_restore(itself, bytes, length);
+    if (status != MSCP_DONE || mscp_port_hardware(itself, &hardware) != MSCP_DONE)
+        return status;
+    if (hardware.bus != port->lines)
+        return mscp_port_restore(itself, before, count) == MSCP_DONE ? MSCP_BAD_BUS : MSCP_NOT_MADE;
+    forget(port);
+    return MSCP_DONE;
 }
 
-/* Its handle has a pointer to what lies behind it, which is set anew: the port may have been copied. */
+/* Its handle has a pointer to what comes after it, which is set anew: the port may have been copied. */
 struct mscp_port *port_itself(struct port *port)
 {
     return mscp_port_moved(port->memory);
@@ -88,7 +98,7 @@ static uint32_t run_of(const struct port *port, const struct mscp_upcoming *step
     return count > PORT_RUN ? PORT_RUN : count;
 }
 
-/* Whether the block of this step was moved ahead, which is used up then. Another command begins behind no block, and nothing
+/* Whether the block of this step was moved ahead, which is used up then. Another command begins after no block, and nothing
  * is ahead of a first one, so it never goes on with a run of the last command. */
 static bool was_ahead(struct port *port, const struct mscp_upcoming *step)
 {
@@ -140,7 +150,7 @@ static inline const uint8_t *block_read(struct port *port, const struct mscp_act
     return bus->read_block(bus->machine, action->unit, action->block, port->blocks) ? port->blocks : NULL;
 }
 
-/* Fills the n-th block of a run with so many bytes of the host's memory, and zeros behind them. */
+/* Fills the n-th block of a run with this many bytes of the host's memory, and zeros after them. */
 static enum mscp_outcome fill(struct port *port, const struct mscp_action *action, uint32_t n, uint32_t count)
 {
     uint8_t *block = port->blocks + n * MSCP_BLOCK;
@@ -193,7 +203,7 @@ static enum mscp_outcome written(struct port *port, const struct mscp_action *ac
     return went_well ? MSCP_OUTCOME_DONE : MSCP_OUTCOME_FAILED;
 }
 
-/* A block comes from the host's memory, with zeros behind its bytes: a WRITE. */
+/* A block comes from the host's memory, with zeros after its bytes: a WRITE. */
 static enum mscp_outcome write_block(struct port *port, const struct mscp_action *action)
 {
     if (!is_slow(&port->bus)) {
@@ -275,9 +285,40 @@ bool port_moved(struct port *port, uint64_t serial, bool went_well, const uint8_
     return true;
 }
 
+/* ---- messages that the machine wants to see */
+
+static void keep_message(struct port *port, bool is_to_host, const uint8_t *bytes, uint32_t length)
+{
+    port->passing.is_to_host = is_to_host;
+    port->passing.length = (uint8_t)length;
+    memcpy(port->passing.bytes, bytes, length);
+}
+
+/* An action was done with these bytes. What was read or written last has gone by when its slot is given back, by a WRITE
+ * of four bytes: a command that has no credit stays in its slot, and is read again. A text has 12 bytes at least, behind
+ * an envelope of four as it goes out; a slot has four, and an interrupt word two. */
+static void see(struct port *port, const struct mscp_action *action, const uint8_t *bytes)
+{
+    enum { ENVELOPE = 4, SLOT = 4 };
+    if (action->count > ENVELOPE && action->kind == MSCP_ACTION_READ)
+        keep_message(port, false, bytes, action->count);
+    else if (action->count > ENVELOPE)
+        keep_message(port, true, bytes + ENVELOPE, action->count - ENVELOPE);
+    else if (action->count == SLOT && action->kind == MSCP_ACTION_WRITE && port->passing.length > 0)
+        port->bus.see_message(port->bus.machine, port->passing.is_to_host, port->passing.bytes, port->passing.length);
+}
+
 /* ---- a turn */
 
-/* Does what the port wants, and tells it how that went. If the host wrote IP in the meantime the port wants that no
+/* The host's memory was read or written, and the port got the report. What it answered. */
+static inline int32_t told(struct port *port, int32_t status, const struct mscp_action *action, const uint8_t *bytes)
+{
+    if (wire_action(status, action, bytes) == MSCP_DONE && port->bus.see_message != NULL)
+        see(port, action, bytes);
+    return status;
+}
+
+/* Does what the port wants, and reports how that went. If the host wrote IP in the meantime the port wants that no
  * more, and answers so: then there is nothing to do. */
 static int32_t act(struct port *port, struct mscp_port *itself, const struct mscp_action *action)
 {
@@ -288,15 +329,19 @@ static int32_t act(struct port *port, struct mscp_port *itself, const struct msc
     case MSCP_ACTION_READ:
         outcome = bus->read(bus->machine, action->address, bytes, action->count);
         if (outcome == MSCP_OUTCOME_DONE)
-            return wire_action(mscp_port_was_read(itself, bytes, action->count), action, bytes);
+            return told(port, mscp_port_was_read(itself, bytes, action->count), action, bytes);
         break;
-    case MSCP_ACTION_WRITE: outcome = bus->write(bus->machine, action->address, action->bytes, action->count); break;
+    case MSCP_ACTION_WRITE:
+        outcome = bus->write(bus->machine, action->address, action->bytes, action->count);
+        if (outcome == MSCP_OUTCOME_DONE)
+            return told(port, mscp_port_went(itself, outcome, 0), action, action->bytes);
+        break;
     case MSCP_ACTION_INTERRUPT: bus->interrupt(bus->machine, action->vector); break;
     case MSCP_ACTION_TRANSFER:
         if (is_slow(bus) && port->slow == PORT_IDLE) {
             outcome = begin_block(port, action);
             if (port->slow != PORT_IDLE)
-                return MSCP_DONE; /* how it went is told later */
+                return MSCP_DONE; /* how it went is reported later */
         } else {
             outcome = transfer(port, action);
             port->slow = PORT_IDLE;
@@ -304,8 +349,7 @@ static int32_t act(struct port *port, struct mscp_port *itself, const struct msc
         break;
     default: break; /* PAUSE: the machine went on since the last turn */
     }
-    int32_t status = mscp_port_went(itself, outcome, DRIVE_ERROR);
-    return outcome == MSCP_OUTCOME_DONE ? wire_action(status, action, action->bytes) : status;
+    return mscp_port_went(itself, outcome, DRIVE_ERROR);
 }
 
 /* What it wants next: of messages alone, while a block takes its time. */

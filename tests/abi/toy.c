@@ -156,9 +156,13 @@ int main(int words, char **word)
         perror(word[1]);
         return 2;
     }
-    if (words != 2 || fseek(image, 0, SEEK_END) != 0 ||
-        (length = ftell(image)) < (long)MSCP_BLOCK || !attach((uint32_t)(length / (long)MSCP_BLOCK))) {
+    if (words != 2) {
         fprintf(stderr, "usage: toy IMAGE (of blocks of 512 bytes)\n");
+        return 2;
+    }
+    length = fseek(image, 0, SEEK_END) == 0 ? ftell(image) : 0;
+    if (length < (long)MSCP_BLOCK || !attach((uint32_t)(length / (long)MSCP_BLOCK))) {
+        fprintf(stderr, "%s: it has %ld bytes, and a block is %d\n", word[1], length, (int)MSCP_BLOCK);
         return 2;
     }
     if (!boot()) {

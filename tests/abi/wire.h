@@ -10,7 +10,7 @@ enum { WIRE_ENVELOPE = 4, WIRE_CODE = WIRE_ENVELOPE + 8, WIRE_IS_END = 0x80 };
 
 static struct {
     FILE *log;
-    const char *word; /* what a slot that is given back tells: a `send` or an `end` of these bytes, or NULL */
+    const char *word; /* what a slot that is given back says: a `send` or an `end` of these bytes, or NULL */
     uint8_t bytes[64];
     size_t length;
 } wire;
@@ -36,7 +36,7 @@ static inline void wire_tell(const char *word, size_t length)
     fflush(wire.log); /* the machine may stop at any time */
 }
 
-/* Behind mscp_port_write_ip, where it answers MSCP_DONE. */
+/* After mscp_port_write_ip, if it answers MSCP_DONE. */
 static inline void wire_reset(void)
 {
     wire_tell("reset", 0);

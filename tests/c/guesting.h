@@ -50,6 +50,7 @@ static uint16_t status_of(const struct mscp_action *action) { return (uint16_t)(
 static void look_into(void)
 {
     uint16_t unit = (uint16_t)(3 * any((uint32_t)count + 1));
+    struct mscp_hardware kind = {0, 0, 0, 0};
     struct mscp_state state = {0, 0, 0};
     struct mscp_volume volume;
     struct mscp_upcoming begun = {0, 0, 0, 0, 0, 0, 0, 0, 0};
@@ -58,6 +59,8 @@ static void look_into(void)
     size_t room = any(5) ? 64 : any(8);
     uint32_t via = any(9) ? 0 : any(3);
     memset(&volume, 0, sizeof volume);
+    tell(HARDWARE, mscp_port_hardware(port, &kind));
+    eat(kind.bus), eat(kind.model), eat(kind.software), eat(kind.version);
     tell(STATE, mscp_port_state(port, &state)), tell(VOLUME, mscp_port_volume(port, unit, &volume));
     eat(state.word), eat(state.stage), eat(state.is_held_back);
     eat(volume.size), eat(volume.media), eat(volume.is_removable), eat(volume.is_there), eat(volume.is_protected), eat(volume.is_protected_by_host), eat(volume.is_online);

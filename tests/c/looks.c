@@ -126,6 +126,24 @@ static void volumes_are_seen(void)
     is("no unit", mscp_port_volume(machine.port, 9, &none), MSCP_UNKNOWN_UNIT);
 }
 
+/* A port tells the hardware that it was made of, also where it was restored. */
+static void hardware_is_seen(void)
+{
+    static const struct mscp_hardware kinds[] = {
+        {MSCP_BUS_Q, 19, 3, 1}, {MSCP_BUS_UNI, 6, 3, 1}, {MSCP_BUS_UNI, 255, 254, 253}};
+    for (unsigned i = 0; i < 2 * COUNT(kinds); i++) {
+        struct mscp_hardware it = {7, 77, 77, 77};
+        build(&kinds[i / 2]);
+        if (i % 2 == 1)
+            restore_port();
+        is("hardware", mscp_port_hardware(machine.port, &it), MSCP_DONE);
+        is("its bus", it.bus, kinds[i / 2].bus);
+        is("its model", it.model, kinds[i / 2].model);
+        is("its software", it.software, kinds[i / 2].software);
+        is("its hardware", it.version, kinds[i / 2].version);
+    }
+}
+
 static void state_is(uint8_t stage, uint16_t word, uint8_t is_held_back)
 {
     struct mscp_state it = {7, 77, 7};
@@ -233,6 +251,7 @@ int main(void)
     protection_is_switched();
     pauses_are_no_blocks();
     volumes_are_seen();
+    hardware_is_seen();
     stages_are_seen();
     held_back_is_seen();
     waiting_is_seen();

@@ -45,6 +45,7 @@ static void calls_before_init(void)
     struct mscp_port *port = mscp_port_in_memory(memory, size);
     struct mscp_action out, before;
     struct mscp_state state = {7, 7, 7};
+    struct mscp_hardware hardware = {7, 7, 7, 7};
     struct mscp_volume volume;
     const struct mscp_medium medium = {0};
     struct mscp_upcoming begun;
@@ -67,13 +68,14 @@ static void calls_before_init(void)
     is("volume_came", mscp_port_volume_came(port, 0, &medium), MSCP_NOT_MADE);
     is("volume_went", mscp_port_volume_went(port, 0), MSCP_NOT_MADE);
     is("protect", mscp_port_protect(port, 0, 1), MSCP_NOT_MADE);
+    is("hardware", mscp_port_hardware(port, &hardware), MSCP_NOT_MADE);
     is("state", mscp_port_state(port, &state), MSCP_NOT_MADE);
     is("volume", mscp_port_volume(port, 0, &volume), MSCP_NOT_MADE);
     is("begun", mscp_port_begun(port, &begun), MSCP_NOT_MADE);
     is("look", mscp_port_look(port, NULL, 0), MSCP_NOT_MADE);
     is("why", mscp_port_why(port, FIRST, 1, NULL, 0), MSCP_NOT_MADE);
     is("what is told", memcmp(&out, &before, sizeof out), 0);
-    is("what is seen", state.stage == 7 && volume.is_there == 7 && begun.opcode == 7, 1);
+    is("what is seen", state.stage == 7 && hardware.bus == 7 && volume.is_there == 7 && begun.opcode == 7, 1);
     is("the memory", memcmp(memory, same, size), 0);
     free(memory);
     free(same);

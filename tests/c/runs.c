@@ -104,6 +104,22 @@ static void is_restored(bool has_runs)
     is("the first was before", on_disk(0, 5), 0);
 }
 
+/* A port on another bus is refused, and that which runs goes on amid its READ. */
+static void other_bus_is_refused(bool has_runs)
+{
+    static uint8_t bytes[MSCP_PORT_SAVED_MAX];
+    size_t length = 0;
+    begin_host(&UDA50, has_runs);
+    is("it is saved", mscp_port_save(port_itself(&port), bytes, sizeof bytes, &length), MSCP_DONE);
+    is("it is restored", port_restore(&port, bytes, length), MSCP_DONE);
+    begin_host(&RQDX3, has_runs);
+    send_command(0, 1, MSCP_READ, SIZE, START, DATA);
+    port_turn(&port, 7);
+    is("another is restored", port_restore(&port, bytes, length), MSCP_BAD_BUS);
+    ends_with(7, 1, 0, SIZE);
+    are_moved("a block in memory", MANY, in_memory, of_disk, of_memory);
+}
+
 int main(void)
 {
     static const uint8_t opcodes[] = {MSCP_READ, MSCP_WRITE, MSCP_ERASE, MSCP_ACCESS};
@@ -119,6 +135,7 @@ int main(void)
         }
         number_is_reused(runs != 0);
         is_restored(runs != 0);
+        other_bus_is_refused(runs != 0);
     }
     return wrong;
 }

@@ -9,7 +9,7 @@
 enum {
     NOTHING, SEND, BEGIN, FINISH, STEP, TAKE, LOOK, WHY, FIGURE, BALANCE, WAITING, UNTAKEN, IS_ONLINE, SETTINGS, RESET, SUBMIT,
     POLL, RECEIVE, HOST_BALANCE, SAVE, HOST_SAVE, INIT, HOST_INIT, RESTORE, HOST_RESTORE, PORT_INIT, READ_IP, WRITE_IP, READ_SA,
-    WRITE_SA, NEXT, NEXT_MESSAGE, WAS_READ, WENT, LOOK_AGAIN, TICK, VOLUME_CAME, VOLUME_WENT, PROTECT, STATE, VOLUME,
+    WRITE_SA, NEXT, NEXT_MESSAGE, WAS_READ, WENT, LOOK_AGAIN, TICK, VOLUME_CAME, VOLUME_WENT, PROTECT, HARDWARE_OF, STATE, VOLUME,
     BEGUN, PORT_SETTINGS, PORT_LOOK, PORT_WHY, PORT_SAVE, PORT_RESTORE, DRIVER_INIT, DRIVER_CREDITS,
     DRIVER_SUBMIT, DRIVER_POLL, DRIVER_HEAR, DRIVER_TICK, DRIVER_OUTSTANDING, DRIVER_SAVE, DRIVER_RESTORE, WRITE_COMMAND, READ_END,
     RUN_SCRIPT, SHOW_PACKET, CALLS
@@ -20,7 +20,7 @@ static const char *const NAMES[CALLS] = {
     "host_init",
     "restore", "host_restore", "port_init", "port_read_ip", "port_write_ip", "port_read_sa", "port_write_sa", "port_next",
     "port_next_message", "port_was_read", "port_went", "port_look_again", "port_tick", "port_volume_came", "port_volume_went",
-    "port_protect", "port_state", "port_volume", "port_begun", "port_settings", "port_look", "port_why", "port_save",
+    "port_protect", "port_hardware", "port_state", "port_volume", "port_begun", "port_settings", "port_look", "port_why", "port_save",
     "port_restore", "driver_init", "driver_credits", "driver_submit", "driver_poll", "driver_hear", "driver_tick",
     "driver_outstanding", "driver_save", "driver_restore", "write_command", "read_end", "run_script", "show_packet",
 };
@@ -62,6 +62,7 @@ static void run(int call)
     static struct mscp_waiting figures[64];
     static struct mscp_holder holders[64];
     static struct mscp_state state;
+    static struct mscp_hardware hardware;
     static struct mscp_limits limits;
     static struct mscp_unit its[16];
     static struct mscp_volume volume;
@@ -115,6 +116,7 @@ static void run(int call)
     case VOLUME_CAME: answered = mscp_port_volume_came(port, 15, &MEDIUM); break;
     case VOLUME_WENT: answered = mscp_port_volume_went(port, 15); break;
     case PROTECT: answered = mscp_port_protect(port, 15, 1); break;
+    case HARDWARE_OF: answered = mscp_port_hardware(port, &hardware); break;
     case STATE: answered = mscp_port_state(port, &state); break;
     case VOLUME: answered = mscp_port_volume(port, 15, &volume); break;
     case BEGUN: answered = mscp_port_begun(port, &upcoming); break;

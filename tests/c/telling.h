@@ -10,7 +10,7 @@
 enum call {
     INIT, RESET, SEND, TAKE, BEGIN, FINISH, STEP, LOOK, WHY, FIGURE, WAITING, UNTAKEN, BALANCE, IS_ONLINE, SETTINGS, SAVE,
     RESTORE, HOST_INIT, HOST_BALANCE, HOST_SUBMIT, HOST_POLL, HOST_RECEIVE, HOST_SAVE, HOST_RESTORE, PORT_INIT, READ_IP, WRITE_IP,
-    READ_SA, WRITE_SA, NEXT, NEXT_MESSAGE, WAS_READ, WENT, LOOK_AGAIN, TICK, CAME, GONE, PROTECT, STATE, VOLUME, BEGUN,
+    READ_SA, WRITE_SA, NEXT, NEXT_MESSAGE, WAS_READ, WENT, LOOK_AGAIN, TICK, CAME, GONE, PROTECT, HARDWARE, STATE, VOLUME, BEGUN,
     PORT_LOOK, PORT_WHY, PORT_SETTINGS, PORT_SAVE, PORT_RESTORE, RUN_SCRIPT, SHOW_PACKET, CALLS
 };
 
@@ -64,6 +64,7 @@ static const struct {
     [CAME] = {"mscp_port_volume_came", {1, -10, -37, -38, LAST}},
     [GONE] = {"mscp_port_volume_went", {1, -10, -37, LAST}},
     [PROTECT] = {"mscp_port_protect", {1, -10, -37, LAST}},
+    [HARDWARE] = {"mscp_port_hardware", {1, -10, LAST}},
     [STATE] = {"mscp_port_state", {1, -10, LAST}},
     [VOLUME] = {"mscp_port_volume", {1, -10, -37, LAST}},
     [BEGUN] = {"mscp_port_begun", {0, 1, -10, LAST}},

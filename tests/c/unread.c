@@ -8,7 +8,7 @@ void calls(struct mscp *mscp, struct mscp_host *host, const struct mscp_limits *
            const struct mscp_medium *medium, uint32_t *line, struct mscp_limits *told, struct mscp_unit *list,
            struct mscp_waiting *waiting, struct mscp_holder *holders, struct mscp_state *state, struct mscp_volume *volume,
            struct mscp_driver *driver, struct mscp_watch *watch, struct mscp_heard *heard, struct mscp_asked *asked,
-           struct mscp_end *end);
+           struct mscp_end *end, struct mscp_hardware *kind);
 
 void calls(struct mscp *mscp, struct mscp_host *host, const struct mscp_limits *limits, const struct mscp_unit *units,
            const uint8_t *bytes, struct mscp_sent *sent, struct mscp_packet *packet, struct mscp_upcoming *upcoming,
@@ -17,7 +17,7 @@ void calls(struct mscp *mscp, struct mscp_host *host, const struct mscp_limits *
            const struct mscp_medium *medium, uint32_t *line, struct mscp_limits *told, struct mscp_unit *list,
            struct mscp_waiting *waiting, struct mscp_holder *holders, struct mscp_state *state, struct mscp_volume *volume,
            struct mscp_driver *driver, struct mscp_watch *watch, struct mscp_heard *heard, struct mscp_asked *asked,
-           struct mscp_end *end)
+           struct mscp_end *end, struct mscp_hardware *kind)
 {
     mscp_init(mscp, limits, units, 1, MSCP_SWEEP);
     mscp_reset(mscp);
@@ -54,6 +54,7 @@ void calls(struct mscp *mscp, struct mscp_host *host, const struct mscp_limits *
     mscp_port_volume_came(port, 0, medium);
     mscp_port_volume_went(port, 0);
     mscp_port_protect(port, 0, 1);
+    mscp_port_hardware(port, kind);
     mscp_port_state(port, state);
     mscp_port_volume(port, 0, volume);
     mscp_port_begun(port, upcoming);

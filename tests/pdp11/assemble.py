@@ -82,6 +82,8 @@ class Assembly:
             self.emit(NONE[plain])
         elif name == 'jsr':
             self.emit(0o4000 | fields[0] << 6 | fields[1])
+        elif name == 'mul':
+            self.emit(0o70000 | fields[1] << 6 | fields[0])
         elif plain in TWO:
             self.emit(byte | TWO[plain] | fields[0] << 6 | fields[1])
         else:

@@ -1,12 +1,16 @@
-; Copies the first blocks of unit 0 to unit 1, by READs and WRITEs of 32 blocks of which four are outstanding, and compares.
-; Block 0 is booted, and reads the blocks behind it. It halts with 12345 in R0 if all was as it must be, and else with the
+; Copies the first blocks of unit 0 to unit 1, by READs and WRITEs of `blocks` blocks of which four are outstanding, and
+; compares. Block 0 is booted, and reads the blocks behind it. It halts with 12345 in R0 if all was as it must be, and else with the
 ; number of what wasn't (see `jsr r5, failed`).
 ;
 ; With `polls` it asks for the status of its oldest command again and again, and sends an ABORT of a queued READ and one of
 ; a number that nobody has.
 
 rounds = 1              ; how often it copies
-chunks = 4              ; how many times 32 blocks
+blocks = 32.
+bytes = 40000           ; of these blocks
+chunks = 4              ; how many times so many blocks
+apart = 40000           ; the data of the four places are that far apart; with 0, and 1 for `wide`, they are 200000 apart
+wide = 0
 polls = 0
 compares = 1
 maps = 0                ; whether the Unibus map moves all above 40000 up by 400000
@@ -214,15 +218,11 @@ transfer: jsr pc, command
         cmp #42, r0
         bne 1$
         inc 4(r4)
-1$:     mov #40000, 14(r4)
+1$:     mov #bytes, 14(r4)
         mov low(r1), 20(r4)
         mov high(r1), 22(r4)
         mov chunk(r1), r3
-        asl r3
-        asl r3
-        asl r3
-        asl r3
-        asl r3
+        mul #blocks, r3
         mov r3, 34(r4)
         jmp @#post
 
@@ -389,15 +389,12 @@ compare: clr next
         jsr pc, command
         inc 4(r4)
         movb #40, 10(r4)        ; COMPARE HOST DATA
-        mov #40000, 14(r4)
+        mov #bytes, 14(r4)
         clr r1
         mov low(r1), 20(r4)
+        mov high(r1), 22(r4)
         mov chunk(r1), r3
-        asl r3
-        asl r3
-        asl r3
-        asl r3
-        asl r3
+        mul #blocks, r3
         mov r3, 34(r4)
         jsr pc, post
         jsr pc, await
@@ -420,5 +417,5 @@ sent:   .word 0
 answered: .word 0
 number: .word 0, 0, 0, 0        ; of each place: the upper word of the command that is outstanding, and its chunk
 chunk:  .word 0, 0, 0, 0
-low:    .word 40000, 100000, 140000, 0  ; where its data are
-high:   .word more, more, more, more+1
+low:    .word apart, apart+apart, apart+apart+apart, 0  ; where its data are
+high:   .word more+wide, more+wide+wide, more+wide+wide+wide, more+wide+wide+wide+1

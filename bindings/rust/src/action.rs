@@ -150,6 +150,12 @@ impl From<Hardware> for raw::Hardware {
     }
 }
 
+impl From<raw::Hardware> for Hardware {
+    fn from(it: raw::Hardware) -> Self {
+        Self { bus: BusKind::told(it.bus), model: it.model, software: it.software, version: it.version }
+    }
+}
+
 /// What is put into a unit.
 #[derive(Clone, Copy, Debug, Default, PartialEq, Eq, Hash)]
 pub struct Medium {

@@ -69,7 +69,7 @@ errors! {
     BadTimeout = -30, "a timeout that isn't 1 to 255 seconds";
     BadBound = -31, "a bound of figures that doesn't fit 32 bits";
     BadConnection = -32, "no connection of this number";
-    BadBus = -33, "no bus of this number";
+    BadBus = -33, "no bus of this number, or another one";
     BadHostCredits = -34, "a port's host without credits, or with as many as the first connection";
     BadOutcome = -35, "no outcome of an action";
     Unasked = -36, "the port didn't want what was reported";

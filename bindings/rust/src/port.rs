@@ -264,6 +264,15 @@ impl Port {
 
     // ---- looks
 
+    /// What kind of port it is, also of one that was restored.
+    #[must_use]
+    pub fn hardware(&self) -> Hardware {
+        let mut hardware = raw::Hardware::ZERO;
+        // SAFETY: the handle is that of a port that was made, and the call keeps it; `hardware` is ours.
+        never_refused(unsafe { raw::mscp_port_hardware(&self.held.fixed(), &mut hardware) });
+        hardware.into()
+    }
+
     /// How far the port has come.
     #[must_use]
     pub fn state(&self) -> State {
@@ -337,11 +346,14 @@ impl Port {
     /// The port that was saved, on a bus of this kind: it wants again what it wanted.
     ///
     /// # Errors
-    /// The first fault of the bytes.
+    /// The first fault of the bytes; or [`Error::BadBus`], if the port was on another bus.
     pub fn restore(bytes: &[u8], bus: BusKind) -> Result<Self, Error> {
         let mut it = Self::room(bus);
         // SAFETY: the handle is that of memory of ours, in which nothing was made; there are so many bytes.
         checked(unsafe { raw::mscp_port_restore_at(it.held.handle(), bytes.as_ptr(), bytes.len()) })?;
+        if it.hardware().bus != bus {
+            return Err(Error::BadBus);
+        }
         Ok(it)
     }
 }

@@ -204,6 +204,7 @@ extern "C" {
     pub fn mscp_port_volume_came(p: *mut Handle, unit: u16, medium: *const Medium) -> i32;
     pub fn mscp_port_volume_went(p: *mut Handle, unit: u16) -> i32;
     pub fn mscp_port_protect(p: *mut Handle, unit: u16, is_protected: u32) -> i32;
+    pub fn mscp_port_hardware(p: *const Handle, hardware: *mut Hardware) -> i32;
     pub fn mscp_port_state(p: *const Handle, state: *mut State) -> i32;
     pub fn mscp_port_volume(p: *const Handle, unit: u16, volume: *mut Volume) -> i32;
     pub fn mscp_port_begun(p: *const Handle, upcoming: *mut Upcoming) -> i32;

@@ -100,6 +100,11 @@ impl Connection {
 }
 
 impl BusKind {
+    /// Of a library of this version.
+    pub(crate) fn told(number: u8) -> Self {
+        Self::of_number(number).unwrap_or(BusKind::Q)
+    }
+
     /// The bits of an address that the bus has.
     #[must_use]
     pub const fn address(self, address: u32) -> u32 {

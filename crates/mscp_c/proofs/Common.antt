@@ -10,7 +10,7 @@ pub use Rattle.mscp_c.specs.HandleCalls.{AnsweredByHandle, AnswersFinish, Answer
 pub use Rattle.mscp_c.specs.Hosted.{message_read, submits_read}
 pub use Rattle.mscp_c.specs.Made.{config_fault, config_unless}
 pub use Rattle.mscp_c.specs.PortGiven.{outcome_given}
-pub use Rattle.mscp_c.specs.PortHandleCalls.{Begun, Configured, KeepsPortPromise, Look, LookAgain, Next, NextMessage, Protect, ReadIp, ReadSa, Resume, State, TellsOutcome, Tick, Volume, VolumeCame, VolumeWent, WasRead, Went, Why, WriteIp, WriteSa}
+pub use Rattle.mscp_c.specs.PortHandleCalls.{Begun, Configured, Hardware, KeepsPortPromise, Look, LookAgain, Next, NextMessage, Protect, ReadIp, ReadSa, Resume, State, TellsOutcome, Tick, Volume, VolumeCame, VolumeWent, WasRead, Went, Why, WriteIp, WriteSa}
 pub use Rattle.mscp_c.specs.PortMade.{port_init_answer, port_init_fault}
 pub use Rattle.mscp_c.specs.PortServed.{TellsHeard, TellsPut, TellsVolume, put_code, TellsWanted, TellsWent, told_code, volume_code}
 pub use Rattle.mscp_c.specs.PortTold.{action_told, next_code}

@@ -1,5 +1,5 @@
 -- Calls on a port's handle are calls of the port.
-use Rattle.mscp_c.proofs.Common.{◌≡◌, ◌++◌, ◌∷◌, [], ℕ, ℤ, true, false, List, Option, None, Some, refl, ap, sym, subst, MatchOption, Outcome, Answered, Becomes, Handle, Held, BAD_OUTCOME, outcome_given, KeepsPortPromise, Begun, Configured, Look, LookAgain, Next, NextMessage, Protect, ReadIp, ReadSa, Resume, State, TellsOutcome, Tick, Volume, VolumeCame, VolumeWent, WasRead, Went, Why, WriteIp, WriteSa, TellsWent, PolicyPicks}
+use Rattle.mscp_c.proofs.Common.{◌≡◌, ◌++◌, ◌∷◌, [], ℕ, ℤ, true, false, List, Option, None, Some, refl, ap, sym, subst, MatchOption, Outcome, Answered, Becomes, Handle, Held, BAD_OUTCOME, outcome_given, KeepsPortPromise, Begun, Configured, Hardware, Look, LookAgain, Next, NextMessage, Protect, ReadIp, ReadSa, Resume, State, TellsOutcome, Tick, Volume, VolumeCame, VolumeWent, WasRead, Went, Why, WriteIp, WriteSa, TellsWent, PolicyPicks}
 use Rattle.mscp_port.specs.Histories.{Call}
 use Rattle.mscp_port.specs.Ports.{put_aside}
 use Rattle.mscp_port.specs.Wanted.{bytes_wanted}
@@ -72,6 +72,8 @@ call_is (Protect unit flag status) old new r =
     one (Protect unit flag status) (calls.Protect _ unit r.answer) old.held new.held (r.answer, refl, r.code) r.changes
 call_is (Configured limits units answer limits' units') old new r =
     none (Configured limits units answer limits' units') old.held new.held refl (ap (λ h. h.held) r.1)
+call_is (Hardware before status after) old new r =
+    none (Hardware before status after) old.held new.held refl (ap (λ h. h.held) r.2)
 call_is (State before status after) old new r =
     none (State before status after) old.held new.held refl (ap (λ h. h.held) r.2)
 call_is (Volume unit before status after) old new r =

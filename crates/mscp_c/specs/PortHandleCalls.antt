@@ -20,13 +20,14 @@ use Rattle.mscp_c.specs.declared.status.TheConstants.{BAD_CONNECTION, BAD_OUTCOM
 use Rattle.mscp_c.specs.declared.units.Limits.{Limits}
 use Rattle.mscp_c.specs.declared.units.UnitIn.{UnitIn}
 use Rattle.mscp_c.specs.Given.{TellsSettings, connection_given}
-use Rattle.mscp_c.specs.PortSeen.{seen_code, state_told, volume_told}
+use Rattle.mscp_c.specs.PortSeen.{hardware_told, seen_code, state_told, volume_told}
 use Rattle.mscp_port.specs.Messages.{volume_of}
 use Rattle.mscp_port.specs.Volumes.{volume_changed, volume_protected}
 use Rattle.mscp_port.specs.declared.volumes.VolumeFault.{VolumeFault}
 use Rattle.mscp_c.specs.Told.{begin_code, figures_in, figures_told, holders_in, holders_told, upcoming_told}
 use Rattle.mscp_controller.specs.Holdings.{begun_step}
 use Rattle.mscp_drive.specs.declared.connection.Connection.{Connection}
+use Rattle.mscp_c.specs.declared.port_given.HardwareIn.{HardwareIn}
 use Rattle.mscp_c.specs.declared.port_given.MediumIn.{MediumIn}
 use Rattle.mscp_c.specs.PortGiven.{medium_given, outcome_given}
 use Rattle.mscp_c.specs.PortSaving.{restored_by}
@@ -58,6 +59,7 @@ pub data HandleCall : Type 0 where
   Protect : ℕ → ℕ → ℤ → HandleCall
   -- looks, which change nothing: what each out-pointer pointed to, what was answered, and what it points to then
   Configured : Limits → List UnitIn → ℤ → Limits → List UnitIn → HandleCall
+  Hardware : HardwareIn → ℤ → HardwareIn → HandleCall
   State : StateOut → ℤ → StateOut → HandleCall
   Volume : ℕ → VolumeOut → ℤ → VolumeOut → HandleCall
   Begun : UpcomingOut → ℤ → UpcomingOut → HandleCall
@@ -94,6 +96,8 @@ AnswersHandle old (Protect unit flag status) new =
     TellsVolume (volume_protected (not (flag == 0))) unit old status new
 AnswersHandle old (Configured limits units answer limits' units') new =
     TellsSettings old.held.controller.settings units answer limits' units' × (new ≡ old)
+AnswersHandle old (Hardware before status after) new =
+    (after ≡ hardware_told old.held.hardware) × (status ≡ DONE) × (new ≡ old)
 AnswersHandle old (State before status after) new = (after ≡ state_told old.held) × (status ≡ DONE) × (new ≡ old)
 AnswersHandle old (Volume unit before status after) new =
     (after ≡ volume_told (volume_of old.held unit) before) × (status ≡ seen_code (volume_of old.held unit))
@@ -149,6 +153,7 @@ Tells (Protect unit flag status) next =
     (answer : Result (Unit {0}) NoUnit) × (next ≡ calls.Protect (not (flag == 0)) unit answer ∷ [])
     × (status ≡ volume_code answer)
 Tells (Configured limits units answer limits' units') next = next ≡ []
+Tells (Hardware before status after) next = next ≡ []
 Tells (State before status after) next = next ≡ []
 Tells (Volume unit before status after) next = next ≡ []
 Tells (Begun before status after) next = next ≡ []

@@ -1,10 +1,14 @@
 -- How what a port is is told.
-use Rattle.std.specs.Prelude.{ℤ, ◌&&◌, is_some, Option, None, Some}
+use Rattle.std.specs.Prelude.{ℕ, ℤ, ◌&&◌, is_some, Option, None, Some}
 use Rattle.mscp_memory.specs.PortHandles.{Held}
 use Rattle.mscp_port.specs.Codes.{stage_byte, stage_word}
+use Rattle.mscp_port.specs.declared.hardware.Bus.{Bus}
+use Rattle.mscp_port.specs.declared.hardware.Bus.TheVariants.{Q, Uni}
+use Rattle.mscp_port.specs.declared.hardware.Hardware.{Hardware}
 use Rattle.mscp_port.specs.declared.volumes.Volume.{Volume}
 use Rattle.mscp_c.specs.declared.outs.StateOut.{StateOut}
 use Rattle.mscp_c.specs.declared.outs.VolumeOut.{VolumeOut}
+use Rattle.mscp_c.specs.declared.port_given.HardwareIn.{HardwareIn}
 use Rattle.mscp_c.specs.declared.status.TheConstants as status
 use Rattle.mscp_c.specs.Told.{flag}
 
@@ -15,6 +19,14 @@ state_told p = record {
   stage = stage_byte p.stage;
   is_held_back = flag (is_some p.outgoing && p.is_full);
 }
+
+-- the number of a bus, which an init takes for it, and the hardware by such numbers
+abbrev pub bus_told : Bus → ℕ
+bus_told Q = 0
+bus_told Uni = 1
+
+abbrev pub hardware_told : Hardware → HardwareIn
+hardware_told h = record { bus = bus_told h.bus; model = h.model; software = h.software; version = h.version }
 
 -- the status: whether there is such a unit
 abbrev pub seen_code : Option Volume → ℤ

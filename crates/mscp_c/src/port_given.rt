@@ -1,6 +1,7 @@
-// What a program in C gives for a port.
+// What a program in C gives for a port, and hardware as it was given.
 
 ghost use Rattle.std.specs.Prelude.{◌≡◌};
+ghost use Rattle.mscp_c.specs.PortSeen.{bus_told, hardware_told};
 ghost use Rattle.mscp_c.specs.PortGiven.{bus_given, fault_given, hardware_given, medium_given, outcome_given};
 
 use crate::units::InitFault;
@@ -46,6 +47,28 @@ fn bus_of(number: u8) -> Option<Bus>
         0 => Some(Bus::Q),
         1 => Some(Bus::Uni),
         _ => None,
+    }
+}
+
+/// The number of this bus.
+fn bus_number(bus: Bus) -> u8
+    ensures { result ≡ bus_told bus }
+{
+    match bus {
+        Bus::Q => 0,
+        Bus::Uni => 1,
+    }
+}
+
+/// The numbers of this hardware.
+pub(crate) fn tell_hardware(hardware: Hardware) -> HardwareIn
+    ensures { result ≡ hardware_told hardware }
+{
+    HardwareIn {
+        bus: bus_number(hardware.bus),
+        model: hardware.model,
+        software: hardware.software,
+        version: hardware.version,
     }
 }
 

@@ -2,14 +2,30 @@
 #![tactic(auto, using(crate::proofs::Lent::lent_back))]
 
 ghost use Rattle.std.specs.Prelude.{◌≡◌, true, false, pos, length, IfSome, None};
-ghost use Rattle.mscp_c.specs.Common.{begin_code, begun_step, connection_given, figures_in, figures_told, holders_in, holders_told, limits_told, seen_code, state_told, units_told, upcoming_told, volume_of, volume_told};
+ghost use Rattle.mscp_c.specs.Common.{begin_code, begun_step, connection_given, figures_in, figures_told, hardware_told, holders_in, holders_told, limits_told, seen_code, state_told, units_told, upcoming_told, volume_of, volume_told};
 ghost use Rattle.mscp_memory.specs.PortHandles.{is_made};
 
 use crate::outs::{FigureOut, HolderOut, StateOut, UpcomingOut, VolumeOut};
+use crate::port_given::{HardwareIn, tell_hardware};
 use crate::status::{BAD_CONNECTION, DONE, NOT_MADE};
 use crate::telling::{flag, tell_figures, tell_holders, tell_upcoming, tell_volume};
 use crate::units::{Limits, UnitIn, connection_of, tell_settings};
 use mscp_memory::port::{Handle, is_made, lend};
+
+/// What kind of port it is.
+#[unsafe(no_mangle)]
+pub extern "C" fn mscp_port_hardware(handle: &mut Handle, out: &mut HardwareIn) -> i32
+    ensures told { is_made handle.old ≡ true → out.new ≡ hardware_told handle.old.held.hardware }
+    ensures done { is_made handle.old ≡ true → result ≡ DONE }
+    ensures same { handle.new ≡ handle.old }
+    ensures unmade { is_made handle.old ≡ false → (result ≡ NOT_MADE) × (out.new ≡ out.old) }
+{
+    if !is_made(handle) {
+        return NOT_MADE;
+    }
+    *out = tell_hardware(lend(handle).hardware());
+    DONE
+}
 
 /// How far the port has come.
 #[unsafe(no_mangle)]

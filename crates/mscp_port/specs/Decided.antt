@@ -34,9 +34,9 @@ abbrev pub unit_state : Volume → ℕ
 unit_state v = if not v.is_there then 0x23 else if not v.is_mounted then 4 else 0
 
 -- the status that is told of a step of a command which is no formality, and which went so, with the endcode and the
--- status of its end, while the unit had this volume: a step that had no volume is Unit-Offline, one that its unit wasn't
--- online for is Unit-Available; a GET UNIT STATUS (0x83) says the unit's state, and the Success of an ONLINE (0x89)
--- whether it found its unit online already
+-- status of its end, while the unit had this volume: a step that had no volume is Unit-Offline, one that its unit
+-- wasn't online for is Unit-Available; a GET UNIT STATUS (0x83) says the unit's state, and the Success of an ONLINE
+-- (0x89) whether it found its unit online already
 abbrev pub status_after : Verdict → ℕ → ℕ → Volume → ℕ
 status_after verdicts.NoVolume code status v = 0x23
 status_after verdicts.NotOnline code status v = 4
@@ -123,4 +123,10 @@ decided_step Second verdict before code e all p = all
 
 -- what an end says, in the bytes of that
 abbrev pub decided_in : List ℕ → Decided
-decided_in b = record { status = num b 0 2; flags = num b 2 2; media = num b 4 4; size = num b 8 4; code = slice_index b 12 }
+decided_in b = record {
+  status = num b 0 2;
+  flags = num b 2 2;
+  media = num b 4 4;
+  size = num b 8 4;
+  code = slice_index b 12;
+}

@@ -128,7 +128,8 @@ module _ {K : Type 0} (picks : Picking K) (hardware : Hardware) (credits : ℕ) 
         (kept_address kept own.1 own.2.kept fields.2)
 
     -- the end of that one
-    counted : is_queued_text a.0 bytes a.0.task ≡ false → (m : ℕ) → (x : Record) → find (is_numbered m) h.waiting ≡ Some x
+    counted : is_queued_text a.0 bytes a.0.task ≡ false → (m : ℕ) → (x : Record)
+        → find (is_numbered m) h.waiting ≡ Some x
         → e ≡ aborted_record x → So
     counted quiet m x found ends = (
       own.1,
@@ -168,7 +169,8 @@ module _ {K : Type 0} (picks : Picking K) (hardware : Hardware) (credits : ℕ) 
       command = command_of sent
 
       answered_so : (fault : Option SendFault)
-          → refusal (balance_of First h) (outstanding_of First h) sent ≡ fault → own_end_of a.0 foreign bytes ≡ None → So
+          → refusal (balance_of First h) (outstanding_of First h) sent ≡ fault → own_end_of a.0 foreign bytes ≡ None
+          → So
       unfolding command_of
       answered_so (Some fault) f none = none_came (ap (λ (x : Holdings K). ends_of x)
           (a.2.handed slot size foreign at refl none ∙ ap (held_unless First h command) f))

@@ -65,9 +65,9 @@ code_said old e = code_with (kept_of First e.reference old.buffers.items) e.code
 abbrev pub ends_nothing : ℕ → Bool
 ends_nothing code = code == 0x8B || code == 0x91 || code == 0x93
 
--- such a command succeeds, unless it was aborted (2). Of any other a step that had no volume is Unit-Offline, one that its
--- unit wasn't online for is Unit-Available; a GET UNIT STATUS (0x83) says the unit's state, and an ONLINE (0x89) whether
--- it found the unit online already
+-- such a command succeeds, unless it was aborted (2). Of any other a step that had no volume is Unit-Offline, one that
+-- its unit wasn't online for is Unit-Available; a GET UNIT STATUS (0x83) says the unit's state, and an ONLINE (0x89)
+-- whether it found the unit online already
 abbrev pub status_by : Verdict → ℕ → ℕ → Volume → ℕ
 status_by verdicts.NoVolume code status v = 0x23
 status_by verdicts.NotOnline code status v = 4

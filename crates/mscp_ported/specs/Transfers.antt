@@ -160,8 +160,8 @@ PortsCountWhatTheyMoved {K} picks =
 
 -- ---- the law of aborts
 
--- of such a port: where the end of a transfer that waits comes by a message, which aborted it, it counts just the blocks
--- that were moved, if the port keeps where its data are
+-- of such a port: where the end of a transfer that waits comes by a message, which aborted it, it counts just the
+-- blocks that were moved, if the port keeps where its data are
 abbrev pub PortsCountWhatWasAborted : {K : Type 0} → Picking K → Type 0
 PortsCountWhatWasAborted {K} picks =
     (hardware : Hardware) (credits : ℕ) (controller : Holdings K) (start p : Port K) (calls : List Call)

@@ -140,6 +140,7 @@ impl Both {
 
     /// All that is told of both without a change.
     fn look(&mut self, random: &mut Random) {
+        let mut hardware = raw::Hardware::ZERO;
         let (mut state, mut volume, mut begun) = (raw::State::ZERO, raw::Volume::ZERO, raw::Upcoming::ZERO);
         let (mut limits, mut unit) = (raw::Limits::ZERO, raw::Unit::ZERO);
         let (mut list, mut holders) = ([raw::Waiting::ZERO; 63], [raw::Holder::ZERO; 63]);
@@ -147,6 +148,7 @@ impl Both {
         // SAFETY: the handle is that of a port that was made; all else is there.
         let (is_begun, waiting, held) = unsafe {
             assert_eq!(i32::from(self.safe.read_sa()), raw::mscp_port_read_sa(c));
+            assert_eq!(raw::mscp_port_hardware(c, &mut hardware), status::DONE);
             assert_eq!(raw::mscp_port_state(c, &mut state), status::DONE);
             assert_eq!(raw::mscp_port_volume(c, 0, &mut volume), status::DONE);
             assert_eq!(raw::mscp_port_volume(c, 1, &mut volume), Error::UnknownUnit.status());
@@ -155,6 +157,7 @@ impl Both {
             let held = raw::mscp_port_why_at(c, 0, reference, holders.as_mut_ptr(), 63);
             (raw::mscp_port_begun(c, &mut begun) == status::DONE, waiting as usize, held as usize)
         };
+        assert_eq!((self.safe.hardware(), Hardware::RQDX3), (hardware.into(), hardware.into()));
         assert_eq!(self.safe.state(), state.into());
         assert_eq!((self.safe.volume(0), self.safe.volume(1)), (Ok(volume.into()), Err(Error::UnknownUnit)));
         assert_eq!(self.safe.begun(), is_begun.then(|| begun.into()));
@@ -259,6 +262,18 @@ fn faults_are_those_of_c() {
     assert_eq!(port.volume(0).map(|it| it.is_there), Ok(false));
     assert_eq!(port.volume_came(0, &DISK), Ok(()));
     assert_eq!(port.volume(0).map(|it| (it.is_there, it.size, it.is_removable)), Ok((true, 48, true)));
+}
+
+/// A port that was saved on one bus isn't made on the other.
+#[test]
+fn other_buses_are_refused() {
+    for (hardware, other) in [(Hardware::RQDX3, BusKind::Uni), (Hardware { model: 77, ..Hardware::UDA50 }, BusKind::Q)]
+    {
+        let port = Port::new(&LIMITS, &[UNIT], Picker::Sweep, hardware, 8).unwrap();
+        assert_eq!(port.hardware(), hardware);
+        assert_eq!(Port::restore(&port.save(), other).err(), Some(Error::BadBus));
+        assert_eq!(Port::restore(&port.save(), hardware.bus).map(|it| it.hardware()).ok(), Some(hardware));
+    }
 }
 
 /// Addresses have the bits of the bus, and a status of no bad block can't be told.

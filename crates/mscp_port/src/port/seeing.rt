@@ -3,6 +3,7 @@
 ghost use Rattle.std.specs.Prelude.{◌≡◌, ◌≢◌, ◌↔◌, true, None, IsTrue};
 ghost use Rattle.mscp_port.specs.Common.{volume_of};
 
+use crate::hardware::Hardware;
 use crate::port::Port;
 use crate::stage::Stage;
 use crate::volumes::Volume;
@@ -16,6 +17,13 @@ impl<K: Picker> Port<K> {
         ensures { result.now ≡ self.now.controller }
     {
         &self.controller
+    }
+
+    /// What kind of port it is: the bus of its host, and what it tells that of itself.
+    pub fn hardware(&self) -> Hardware
+        ensures { result ≡ self.now.hardware }
+    {
+        self.hardware
     }
 
     /// How far it has come since its host wrote IP.
