@@ -69,7 +69,7 @@ fn one_or_two<'a>(word: &str, second: &'a str) -> Result<Asked<'a>, Fault>
 
 /// What the words of a command line ask for, without the program's name: `legal`, `host`, `wire` or `wire --show`, and a file or
 /// none. It is `legal` if there are none. It takes no memory.
-pub fn choose(words: &[String]) -> Result<Asked<'_>, Fault>
+pub fn asking_of(words: &[String]) -> Result<Asked<'_>, Fault>
     ensures { Gives seen result (chosen (map string_bytes words.now)) }
 {
     match words {

@@ -12,7 +12,7 @@ mod showing;
 mod totals;
 mod wire;
 
-use crate::choosing::{Call, choose};
+use crate::choosing::{Call, asking_of};
 use crate::ending::Ending;
 use crate::explaining::{limit_of, line_of};
 use crate::fault::{Fault, words_fault};
@@ -48,7 +48,7 @@ fn answer<R: Read + Drop>(rt: &HostRuntime, call: Call, reader: R) -> Result<Out
 /// Says what would be right in place of a fault, and which line was read, if that is in a file and is plain text.
 fn explain(rt: &HostRuntime, words: &[String], fault: ScriptFault) {
     let _ = eprint!(rt; "limit: {}\n", limit_of(fault.cause));
-    let Ok(asked) = choose(words) else {
+    let Ok(asked) = asking_of(words) else {
         return;
     };
     if asked.file == "-" {
@@ -69,7 +69,7 @@ fn explain(rt: &HostRuntime, words: &[String], fault: ScriptFault) {
 
 /// Does what these words of the command line ask for.
 fn act(rt: &HostRuntime, words: &[String]) -> Result<Outcome, Fault> {
-    let asked = choose(words)?;
+    let asked = asking_of(words)?;
     match asked.file {
         "-" => answer(rt, asked.call, rt.reader()),
         file => match File::open(rt, file) {
