@@ -254,6 +254,8 @@ docs/PORT.md|a transfer past the end of its volume, with N or|crates/mscp_drive/
 docs/PORT.md|0x1C01 or N.|crates/mscp_drive/src/unit.rt:const INVALID_BYTE_COUNT: u16 = 0x[0-9A-F]+
 docs/USING.md|N to 64 on the first connection|crates/mscp_drive/specs/Settings.antt:some_credits : [0-9]+
 docs/USING.md|at most N on both|crates/mscp_drive/specs/Settings.antt:few_credits : c.credits \+ c.second ≤ [0-9]+
+examples/simh/rq_show.c|A_KEPT = N,|crates/mscp_port/specs/Saved.antt:buffer_size = [0-9]+
+examples/simh/rq_show.c|AN_END = N,|crates/mscp_port/specs/Saved.antt:decided_size = [0-9]+
 include/mscp.h|the first's credits aren't N to 64|crates/mscp_drive/specs/Settings.antt:some_credits : [0-9]+
 include/mscp.h|or both have over N */|crates/mscp_drive/specs/Settings.antt:few_credits : c.credits \+ c.second ≤ [0-9]+
 include/mscp.h|the longest transfer isn't 1 to N blocks */|crates/mscp_drive/specs/Settings.antt:c\.longest ≤ [0-9]+

@@ -4,7 +4,7 @@
 
 /* Where something stands in the bytes of a saved port, and how long the parts are: docs/SAVED.md has them. */
 enum {
-    VERSION = 4, HOST_WORD = 30, TEXT = 71, KEPT = 72, ENDS = 73, HEAD = 74 + 16 * 18, A_KEPT = 20, AN_END = 12,
+    VERSION = 4, HOST_WORD = 30, TEXT = 71, KEPT = 72, ENDS = 73, HEAD = 74 + 16 * 18, A_KEPT = 21, AN_END = 13,
     DRIVES = 31, CONTROLLER_HEAD = 48, A_DRIVE = 34, A_COMMAND = 41, UNIT = 4, OPCODE = 8, STEPS = 32
 };
 
