@@ -239,26 +239,26 @@ exit_statuses_are_told() {
     same "$(exit_numbers mscp_script)" "$(listed_numbers mscpq)" && same "$(exit_numbers mscpjudge)" "$(listed_numbers mscpjudge)"
 }
 
-# A page says this sentence with the number of the sources that the expression finds, in place of N.
+# A page says this sentence with the number of the sources that the expression finds, in place of %.
 sentences_have_the_numbers_of_the_sources() {
     local page sentence source number text
     while IFS='|' read -r page sentence source; do
         number=$(grep -hoE -- "${source#*:}" "${source%%:*}" | head -n 1 | grep -oE '(0x)?[0-9A-F]+$')
         text=$(tr -s '\n ' ' ' <"$page")
-        [ -n "$number" ] && [[ $text == *"${sentence//N/$number}"* ]] || { echo "$page hasn't '${sentence//N/$number}'" && return 1; }
+        [ -n "$number" ] && [[ $text == *"${sentence//%/$number}"* ]] || { echo "$page hasn't '${sentence//%/$number}'" && return 1; }
     done <<'END'
-docs/C.md|beside the one that each returns: up to N in each.|crates/mscp_port/specs/Packets.antt:1 \+ min untold [0-9]+
-docs/C.md|Longer ones end with `N`|crates/mscp_drive/src/unit.rt:const INVALID_BYTE_COUNT: u16 = 0x[0-9A-F]+
-docs/TUNING.md|A longer one ends with N.|crates/mscp_drive/src/unit.rt:const INVALID_BYTE_COUNT: u16 = 0x[0-9A-F]+
-docs/PORT.md|a transfer past the end of its volume, with N or|crates/mscp_drive/src/unit.rt:const INVALID_BLOCK: u16 = 0x[0-9A-F]+
-docs/PORT.md|0x1C01 or N.|crates/mscp_drive/src/unit.rt:const INVALID_BYTE_COUNT: u16 = 0x[0-9A-F]+
-docs/USING.md|N to 64 on the first connection|crates/mscp_drive/specs/Settings.antt:some_credits : [0-9]+
-docs/USING.md|at most N on both|crates/mscp_drive/specs/Settings.antt:few_credits : c.credits \+ c.second ≤ [0-9]+
-examples/simh/rq_show.c|A_KEPT = N,|crates/mscp_port/specs/Saved.antt:buffer_size = [0-9]+
-examples/simh/rq_show.c|AN_END = N,|crates/mscp_port/specs/Saved.antt:decided_size = [0-9]+
-include/mscp.h|the first's credits aren't N to 64|crates/mscp_drive/specs/Settings.antt:some_credits : [0-9]+
-include/mscp.h|or both have over N */|crates/mscp_drive/specs/Settings.antt:few_credits : c.credits \+ c.second ≤ [0-9]+
-include/mscp.h|the longest transfer isn't 1 to N blocks */|crates/mscp_drive/specs/Settings.antt:c\.longest ≤ [0-9]+
+docs/C.md|beside the one that each returns: up to % in each.|crates/mscp_port/specs/Packets.antt:1 \+ min untold [0-9]+
+docs/C.md|Longer ones end with `%`|crates/mscp_drive/src/unit.rt:const INVALID_BYTE_COUNT: u16 = 0x[0-9A-F]+
+docs/TUNING.md|A longer one ends with %.|crates/mscp_drive/src/unit.rt:const INVALID_BYTE_COUNT: u16 = 0x[0-9A-F]+
+docs/PORT.md|a transfer past the end of its volume, with % or|crates/mscp_drive/src/unit.rt:const INVALID_BLOCK: u16 = 0x[0-9A-F]+
+docs/PORT.md|0x1C01 or %.|crates/mscp_drive/src/unit.rt:const INVALID_BYTE_COUNT: u16 = 0x[0-9A-F]+
+docs/USING.md|% to 64 on the first connection|crates/mscp_drive/specs/Settings.antt:some_credits : [0-9]+
+docs/USING.md|at most % on both|crates/mscp_drive/specs/Settings.antt:few_credits : c.credits \+ c.second ≤ [0-9]+
+examples/simh/rq_show.c|A_KEPT = %,|crates/mscp_port/specs/Saved.antt:buffer_size = [0-9]+
+examples/simh/rq_show.c|AN_END = %,|crates/mscp_port/specs/Saved.antt:decided_size = [0-9]+
+include/mscp.h|the first's credits aren't % to 64|crates/mscp_drive/specs/Settings.antt:some_credits : [0-9]+
+include/mscp.h|or both have over % */|crates/mscp_drive/specs/Settings.antt:few_credits : c.credits \+ c.second ≤ [0-9]+
+include/mscp.h|the longest transfer isn't 1 to % blocks */|crates/mscp_drive/specs/Settings.antt:c\.longest ≤ [0-9]+
 END
 }
 
