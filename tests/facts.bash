@@ -247,7 +247,7 @@ sentences_have_the_numbers_of_the_sources() {
         text=$(tr -s '\n ' ' ' <"$page")
         [ -n "$number" ] && [[ $text == *"${sentence//%/$number}"* ]] || { echo "$page hasn't '${sentence//%/$number}'" && return 1; }
     done <<'END'
-docs/C.md|beside the one that each returns: up to % in each.|crates/mscp_port/specs/Packets.antt:1 \+ min untold [0-9]+
+docs/C.md|of the first ends: up to % in each, beside|crates/mscp_port/specs/Packets.antt:1 \+ min untold [0-9]+
 docs/C.md|Longer ones end with `%`|crates/mscp_drive/src/unit.rt:const INVALID_BYTE_COUNT: u16 = 0x[0-9A-F]+
 docs/TUNING.md|A longer one ends with %.|crates/mscp_drive/src/unit.rt:const INVALID_BYTE_COUNT: u16 = 0x[0-9A-F]+
 docs/PORT.md|a transfer past the end of its volume, with % or|crates/mscp_drive/src/unit.rt:const INVALID_BLOCK: u16 = 0x[0-9A-F]+
