@@ -136,7 +136,7 @@ fn saved(c: &mut Raw) -> Vec<u8> {
 #[test]
 fn controllers_answer_as_c_does() {
     let mut random = Random(1);
-    for round in 0..40 {
+    for round in 0..200 {
         let picker = Picker::ALL[round % 2];
         let mut safe = Box::new(Controller::new(&LIMITS, &UNITS, picker).unwrap());
         let (limits, units) = (LIMITS.in_c(), UNITS.map(InC::in_c));
@@ -170,7 +170,7 @@ fn controllers_answer_as_c_does() {
 #[test]
 fn hosts_answer_as_c_does() {
     let mut random = Random(2);
-    for _ in 0..40 {
+    for _ in 0..200 {
         let mut controller = Controller::new(&LIMITS, &UNITS, Picker::Sweep).unwrap();
         let mut safe = Box::new(Host::new(6).unwrap());
         let mut c = Raw::new(raw::HOST_SIZE, raw::HOST_ROOM);

@@ -201,7 +201,7 @@ impl InC for Asked {
 fn drivers_answer_as_c_does() {
     let mut random = Random(6);
     let mut counts = BTreeMap::new();
-    for round in 0..60 {
+    for round in 0..200 {
         let mut both = Both::new(round % 5);
         for _ in 0..400 {
             match random.below(12) {

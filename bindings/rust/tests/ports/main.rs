@@ -19,7 +19,7 @@ fn ports_answer_as_c_does() {
     let mut random = Random(3);
     for kind in 0..8 {
         let mut both = Both::new(KINDS[kind % 4], Picker::ALL[kind / 4]);
-        for _ in 0..12 {
+        for _ in 0..50 {
             both.start(&mut random);
             for _ in 0..60 {
                 match random.below(16) {
