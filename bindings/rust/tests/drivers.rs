@@ -127,7 +127,10 @@ impl Both {
         let mut text = vec![0; 48];
         let mut kind = 0;
         match random.below(12) {
-            0 => text[8] = [0x40, 0x41, 0x42][random.below(3)],
+            0 => {
+                text[4..6].copy_from_slice(&[random.below(256) as u8, random.below(256) as u8]);
+                text[8] = [0x40, 0x41, 0x42][random.below(3)];
+            }
             1 => kind = 1,
             2 => kind = 2,
             _ if self.sent.is_empty() => text[8] = 0xA1,
@@ -219,5 +222,18 @@ fn drivers_answer_as_c_does() {
     }
     for status in status::ENDED..=status::SILENT {
         assert!(counts.get(&status).map_or(false, |it| *it > 3), "{status} of {counts:?}");
+    }
+}
+
+/// Each envelope's credits are free, up to 65535 of them.
+#[test]
+fn credits_are_counted() {
+    let (mut driver, mut credits) = (Driver::new(5).unwrap(), 1);
+    for _ in 0..4500 {
+        assert_eq!(
+            (driver.hear(&[0, 0, 0x2F, 0]), driver.credits()),
+            (Ok(Heard::Credits(15)), (credits + 15).min(65535))
+        );
+        credits += 15;
     }
 }

@@ -191,12 +191,16 @@ fn limits_end_where_they_say() {
     let made = |it: Limits| Controller::new(&it, &[UNIT], Picker::Oldest).err();
     let alone = Limits { second: 0, ..LIMITS };
     for credits in 0..70 {
-        assert_eq!(made(Limits { credits, ..alone }).is_none(), (2..=64).contains(&credits));
-        assert_eq!(Host::new(credits).err(), Some(Error::BadCredits).filter(|_| !(2..=64).contains(&credits)));
+        let told = if (2..=64).contains(&credits) { Ok(credits) } else { Err(Error::BadCredits) };
+        assert_eq!(Host::new(credits).map(|it| it.balance()), told);
+        let it = Controller::new(&Limits { credits, ..alone }, &[UNIT], Picker::Oldest);
+        assert_eq!(it.map(|it| it.balance(Connection::First)), told);
         for second in 0..70 {
             let is_good = second == 0 || second >= 2 && credits + second <= 64;
             let fault = Some(Error::BadCredits).filter(|_| !is_good || !(2..=64).contains(&credits));
-            assert_eq!(made(Limits { credits, second, ..LIMITS }), fault, "{credits} and {second}");
+            let it = Controller::new(&Limits { credits, second, ..LIMITS }, &[UNIT], Picker::Oldest);
+            assert_eq!(it.as_ref().err(), fault.as_ref(), "{credits} and {second}");
+            it.into_iter().for_each(|it| assert_eq!(it.balance(Connection::Second), second));
         }
     }
     for timeout in [0, 1, 255, 256, u16::MAX] {
