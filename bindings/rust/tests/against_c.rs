@@ -68,7 +68,7 @@ fn take(safe: &mut Controller, c: &mut Raw, connection: Connection) {
 
 fn serve(safe: &mut Controller, c: &mut Raw, random: &mut Random) {
     let (mut upcoming, mut report) = (raw::Upcoming::ZERO, raw::Report::ZERO);
-    let block = [0, 0, 0, 8, 3][random.below(5)];
+    let block = [0, 0, 0, 8, 3, 0x0125, 0xFFFF][random.below(7)];
     if random.below(2) == 0 {
         let told = safe.step(block);
         // SAFETY: the handle is that of a controller that was made; `report` is there.

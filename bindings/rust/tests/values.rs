@@ -227,6 +227,19 @@ fn limits_end_where_they_say() {
     }
 }
 
+/// A volume has 1 block to those of its unit.
+#[test]
+fn volumes_fit_their_units() {
+    for size in [1, 64, 0x1_0000, u32::MAX - 1, u32::MAX] {
+        let mut port = Port::new(&LIMITS, &[Unit { size, ..UNIT }], Picker::Sweep, Hardware::UDA50, 5).unwrap();
+        for it in [0, 1, size - 1, size, size.saturating_add(1)] {
+            let told = port.volume_came(1, &Medium { size: it, ..Medium::default() });
+            assert_eq!(told, if (1..=size).contains(&it) { Ok(()) } else { Err(Error::BadSize) });
+            assert!(told.is_err() || port.volume(1).map(|it| it.size) == Ok(it));
+        }
+    }
+}
+
 /// The statuses of the manual: Data Error is 8, and Drive Error 11.
 #[test]
 fn bad_blocks_have_their_statuses() {

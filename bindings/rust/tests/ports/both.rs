@@ -121,7 +121,8 @@ impl Both {
         if opcode == 32 && unit != 1 {
             self.put_blocks(random, unit, lbn as usize);
         }
-        let words = [32, word(random), unit.into(), opcode, bytes, buffer, 0, 0, lbn];
+        let length = if random.below(60) == 0 { random.below(70) as u32 } else { [32, 32, 48, 64][random.below(4)] };
+        let words = [length, word(random), unit.into(), opcode, bytes, buffer, 0, 0, lbn];
         words.iter().enumerate().for_each(|(i, word)| self.put(0x1000 + 0x80 * slot + 4 * i, *word));
         for slot in 0..4 {
             self.put(RINGS + 4 * slot, 0xC000_0804 + 0x80 * slot as u32);

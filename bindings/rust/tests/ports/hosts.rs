@@ -4,7 +4,8 @@ use mscp::{Hardware, Medium, Opcode, Picker, Port};
 
 use crate::machine::{Machine, Touch, DISK, LIMITS, UNITS};
 
-const RINGS: usize = 0x100; // a response, and a command
+/// A slot of a response, and one of a command.
+pub const RINGS: usize = 0x100;
 const RESPONSE: usize = 0x204;
 const COMMAND: usize = 0x304;
 /// Where its transfers have their bytes.

@@ -2,7 +2,7 @@
 
 use mscp::{BusKind, Hardware, Medium, Opcode, Port, Stage, Volume};
 
-use crate::hosts::{Asked, Host, Way, BUFFER};
+use crate::hosts::{Asked, Host, Way, BUFFER, RINGS};
 use crate::machine::{Touch, BAD, BAD_TO_READ, BAD_TO_WRITE, DISK, FAULTS, KINDS};
 
 /// The host gives the slot for an end back without a word: a turn sees it.
@@ -129,6 +129,31 @@ fn faults_have_their_statuses() {
     assert_eq!(host.transfer(Asked::moves(Opcode::Read, 1024, BAD_TO_READ.0 - 1)), (BAD_TO_READ.1, 512));
     assert_eq!(host.transfer(Asked::moves(Opcode::Read, 1025, 3)), (0x0049, 0));
     assert_eq!(host.transfer(Asked { buffer: 0x4001, ..Asked::moves(Opcode::Read, 512, 3) }), (0x0029, 0));
+}
+
+/// Where no memory is, the port stops with the code of what isn't there: the packet of a command, that of an end, a slot, or
+/// the area of the rings.
+#[test]
+fn missing_rings_are_fatal() {
+    let it = Asked::moves(Opcode::Read, 512, 3);
+    for (address, _) in FAULTS {
+        for (slot, code) in [(RINGS + 4, 1), (RINGS, 2)] {
+            let mut host = Host::online(Hardware::UDA50);
+            host.give();
+            host.ask(it);
+            host.machine.put(slot, 0x8000_0000 | address);
+            host.turn();
+            assert_eq!((host.port.state().stage, host.port.read_sa()), (Stage::Dead(code), 0x8000 | code));
+        }
+    }
+    let mut host = Host::online(Hardware::UDA50);
+    host.ask(it);
+    host.machine.memory.clear();
+    host.turn();
+    assert_eq!((host.port.state().stage, host.port.read_sa()), (Stage::Dead(6), 0x8006));
+    host.start(0);
+    host.turn();
+    assert_eq!((host.port.state().stage, host.port.read_sa()), (Stage::Dead(7), 0x8007));
 }
 
 /// Whichever way a port is made, it says of what it was made, to its program and to its host.
