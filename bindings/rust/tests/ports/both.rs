@@ -115,7 +115,7 @@ impl Both {
 
     fn order(&mut self, random: &mut Random, unit: u16, opcode: u32) {
         let (slot, lbn) = (random.below(4), random.below(50) as u32);
-        let buffer = [0x4000, 0x4000, 0x5000, 0x4001, 0xFFC0_4000, 0x7FFC_4000, 0x1_0000, 0x2_0000, 0xF003_0000];
+        let buffer = [0x4000, 0x4000, 0x5000, 0x4001, 0xFFC0_4000, 0x7FFC_4000, 0x1D_0000, 0x3FFE_0000, 0xFFF3_0000];
         let buffer = buffer[random.below(buffer.len())];
         let bytes = [512, 512, 1024, 2000, 0, 33][random.below(6)];
         if opcode == 32 && unit != 1 {

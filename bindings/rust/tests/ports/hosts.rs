@@ -91,8 +91,9 @@ impl Host {
         })
     }
 
+    /// Turns, as long as there is more to be done. That is soon over.
     pub fn turn(&mut self) {
-        while self.port.turn(&mut self.machine, 1000) {}
+        assert!((0..20).any(|_| !self.port.turn(&mut self.machine, 1000)));
     }
 
     /// Writes a command into its slot, and says so.
