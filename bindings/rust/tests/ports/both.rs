@@ -3,7 +3,7 @@
 use std::mem::MaybeUninit;
 
 use mscp::raw::{self, status};
-use mscp::{Action, Connection, Hardware, Medium, Picker, Port, Way};
+use mscp::{Action, Connection, Hardware, Medium, Picker, Port, Stage, Way};
 
 use crate::common::{moved, status_of, InC as _, Random};
 use crate::in_c::InC;
@@ -26,6 +26,8 @@ pub struct Both {
     /// Of both in all.
     pub pauses: u32,
     pub interrupts: usize,
+    /// How often both were found up.
+    pub ups: u32,
 }
 
 impl Both {
@@ -37,7 +39,9 @@ impl Both {
         // SAFETY: a port was made in the place.
         let safe = unsafe { Box::from_raw(Box::into_raw(place).cast::<Port>()) };
         let c = InC::new(machine.clone(), hardware, picker);
-        Self { safe, machine, c, hardware, pauses: 0, interrupts: 0 }
+        let mut it = Self { safe, machine, c, hardware, pauses: 0, interrupts: 0, ups: 0 };
+        (0..4).for_each(|slot| it.put_command(slot, [32, 0, 0, 3, 0, 0, 0, 0, 0]));
+        it
     }
 
     fn put(&mut self, address: usize, word: u32) {
@@ -123,13 +127,17 @@ impl Both {
         }
         let length = if random.below(60) == 0 { random.below(70) as u32 } else { [32, 32, 48, 64][random.below(4)] };
         let words = [length, word(random), unit.into(), opcode, bytes, buffer, 0, 0, lbn];
-        words.iter().enumerate().for_each(|(i, word)| self.put(0x1000 + 0x80 * slot + 4 * i, *word));
+        self.put_command(slot, words);
         for slot in 0..4 {
             self.put(RINGS + 4 * slot, 0xC000_0804 + 0x80 * slot as u32);
             self.put(0x800 + 0x80 * slot, 48);
             self.put(RINGS + 16 + 4 * slot, 0xC000_1004 + 0x80 * slot as u32);
         }
         self.read_ip();
+    }
+
+    fn put_command(&mut self, slot: usize, words: [u32; 9]) {
+        words.iter().enumerate().for_each(|(i, word)| self.put(0x1000 + 0x80 * slot + 4 * i, *word));
     }
 
     /// The buffers of both have what is on the disk from a block on, or all but a bit of it.
@@ -217,6 +225,7 @@ impl Both {
         assert!(self.machine == self.c.machine);
         assert_eq!(&*self.safe.save(), self.c.saved());
         self.interrupts += self.machine.touches.iter().filter(|it| matches!(it, Touch::Interrupt(_))).count();
+        self.ups += u32::from(self.safe.state().stage == Stage::Up);
         self.machine.touches.clear();
         self.c.machine.touches.clear();
     }

@@ -36,7 +36,7 @@ fn ports_answer_as_c_does() {
                 both.agree();
             }
         }
-        assert!(both.interrupts > 200 && both.pauses > 10 && both.has_written());
+        assert!(both.ups > 2000 && both.interrupts > 500 && both.pauses > 300 && both.has_written());
     }
 }
 
