@@ -3,7 +3,7 @@
 
 mod common;
 
-use common::{moved, Random, Raw};
+use common::{moved, status_of, InC, Random, Raw};
 use mscp::raw::{self, status};
 use mscp::{Connection, Controller, Error, Host, Limits, News, Picker, Poll, Sent, Unit};
 
@@ -41,13 +41,6 @@ fn same<T>(told: &Option<T>, number: i32) -> bool {
     told.is_some()
 }
 
-fn status_of<T>(it: &Result<T, Error>, good: impl Fn(&T) -> i32) -> i32 {
-    match it {
-        Ok(it) => good(it),
-        Err(error) => error.status(),
-    }
-}
-
 fn send(safe: &mut Controller, c: &mut Raw, random: &mut Random, connection: Connection) {
     let (bytes, mut sent) = (message(random), raw::Sent::ZERO);
     let told = safe.send(connection, &bytes);
@@ -73,22 +66,15 @@ fn take(safe: &mut Controller, c: &mut Raw, connection: Connection) {
     }
 }
 
-fn is_report(told: mscp::Report, it: raw::Report) {
-    assert_eq!((told.connection.number(), told.reference, told.unit), (it.connection.into(), it.reference, it.unit));
-    assert_eq!((told.block.is_some(), told.has_started), (it.touched == 1, it.started == 1));
-    assert_eq!((told.block.unwrap_or(it.lbn), told.seek), (it.lbn, it.seek));
-    assert_eq!((told.ended.is_some(), told.ended.unwrap_or(it.status)), (it.ended == 1, it.status));
-}
-
 fn serve(safe: &mut Controller, c: &mut Raw, random: &mut Random) {
     let (mut upcoming, mut report) = (raw::Upcoming::ZERO, raw::Report::ZERO);
-    let block = [0, 0, 0, 8, 3][random.below(5)];
+    let block = [0, 0, 0, 8, 3, 0x0125, 0xFFFF][random.below(7)];
     if random.below(2) == 0 {
         let told = safe.step(block);
         // SAFETY: the handle is that of a controller that was made; `report` is there.
         let number = unsafe { raw::mscp_step(c.handle(), block, &mut report) };
         assert_eq!(status_of(&told, |it| i32::from(it.is_some())), number);
-        told.ok().flatten().into_iter().for_each(|it| is_report(it, report));
+        told.ok().flatten().into_iter().for_each(|it| assert_eq!(it.in_c(), report));
         return;
     }
     let told = safe.begin();
@@ -97,19 +83,14 @@ fn serve(safe: &mut Controller, c: &mut Raw, random: &mut Random) {
     if !same(&told, number) {
         return;
     }
-    let (it, c_it) = (told.unwrap(), upcoming);
-    assert_eq!((it.connection.number(), it.reference), (c_it.connection.into(), c_it.reference));
-    assert_eq!(
-        (it.unit, it.opcode, it.bytes, it.done, it.weight),
-        (c_it.unit, c_it.opcode, c_it.bytes, c_it.done, c_it.weight)
-    );
-    assert_eq!((it.block.is_some(), it.block.unwrap_or(c_it.lbn)), (c_it.touches == 1, c_it.lbn));
+    let it = told.unwrap();
+    assert_eq!(it.in_c(), upcoming);
     let reference = if random.below(6) == 0 { 99 } else { it.reference };
     let told = safe.finish(it.connection, reference, block);
     // SAFETY: the handle is that of a controller that was made; `report` is there.
     let number = unsafe { raw::mscp_finish(c.handle(), it.connection.number(), reference, block, &mut report) };
     assert_eq!(status_of(&told, |_| status::DONE), number);
-    told.into_iter().for_each(|it| is_report(it, report));
+    told.into_iter().for_each(|it| assert_eq!(it.in_c(), report));
 }
 
 /// All that is told of it without a change.
@@ -126,24 +107,22 @@ fn looks(safe: &Controller, c: &mut Raw, random: &mut Random, connection: Connec
             safe.why(connection, reference).len() as i32,
             raw::mscp_why_at(c, number, reference, holders.as_mut_ptr(), 63)
         );
-        assert_eq!(i64::from(safe.figure(connection, reference).unwrap_or(0)), raw::mscp_figure(c, number, reference));
+        let figure = raw::mscp_figure(c, number, reference);
+        assert_eq!(safe.figure(connection, reference).map(i64::from), Some(figure).filter(|it| *it > 0));
         assert_eq!(i64::from(safe.waiting(connection)), raw::mscp_waiting(c, number));
         assert_eq!(i64::from(safe.untaken(connection)), raw::mscp_untaken(c, number));
         assert_eq!(i64::from(safe.balance(connection)), raw::mscp_balance(c, number));
         assert_eq!(i32::from(safe.is_online(unit)), raw::mscp_is_online(c, unit));
         assert_eq!(safe.settings().units.len() as i32, raw::mscp_settings_at(c, &mut limits, units.as_mut_ptr(), 16));
     }
-    for (it, c_it) in safe.look().iter().zip(list) {
-        assert_eq!(
-            (it.connection.number(), it.reference, it.figure),
-            (c_it.connection.into(), c_it.reference, c_it.figure)
-        );
-    }
-    for (it, c_it) in safe.why(connection, reference).iter().zip(holders) {
-        assert_eq!((it.connection.number(), it.reference), (c_it.connection.into(), c_it.reference));
-        assert_eq!((it.fences, it.is_overdrawn), (c_it.fences == 1, c_it.overdrawn == 1));
-    }
-    assert_eq!((safe.settings().limits, &*safe.settings().units), (limits.into(), units.map(Unit::from)[..2].as_ref()));
+    assert!(safe.look().into_iter().zip(list).all(|(it, c_it)| it.in_c() == c_it));
+    assert!(safe.why(connection, reference).into_iter().zip(holders).all(|(it, c_it)| it.in_c() == c_it));
+    let told = safe.settings();
+    assert_eq!((told.limits, &*told.units), (LIMITS, UNITS.as_ref()));
+    assert_eq!(
+        (told.limits.in_c(), told.units.into_iter().map(InC::in_c).collect::<Vec<_>>()),
+        (limits, units[..2].to_vec())
+    );
 }
 
 fn saved(c: &mut Raw) -> Vec<u8> {
@@ -157,10 +136,10 @@ fn saved(c: &mut Raw) -> Vec<u8> {
 #[test]
 fn controllers_answer_as_c_does() {
     let mut random = Random(1);
-    for round in 0..40 {
+    for round in 0..200 {
         let picker = Picker::ALL[round % 2];
         let mut safe = Box::new(Controller::new(&LIMITS, &UNITS, picker).unwrap());
-        let (limits, units) = (raw::Limits::from(LIMITS), UNITS.map(raw::Unit::from));
+        let (limits, units) = (LIMITS.in_c(), UNITS.map(InC::in_c));
         let mut c = Raw::new(raw::SIZE, raw::ROOM);
         // SAFETY: the handle is that of memory of its own, in which nothing was made; all else is there.
         let number = unsafe { raw::mscp_init_at(c.handle(), &limits, units.as_ptr(), 2, picker.number()) };
@@ -191,7 +170,7 @@ fn controllers_answer_as_c_does() {
 #[test]
 fn hosts_answer_as_c_does() {
     let mut random = Random(2);
-    for _ in 0..40 {
+    for _ in 0..200 {
         let mut controller = Controller::new(&LIMITS, &UNITS, Picker::Sweep).unwrap();
         let mut safe = Box::new(Host::new(6).unwrap());
         let mut c = Raw::new(raw::HOST_SIZE, raw::HOST_ROOM);

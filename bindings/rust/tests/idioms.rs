@@ -3,7 +3,8 @@
 use std::error;
 use std::mem::MaybeUninit;
 
-use mscp::{raw, Connection, Controller, Error, Hardware, Host, Limits, Opcode, Picker, Port, Stage, Unit, Waiting};
+use mscp::{raw, Command, Connection, Controller, Driver, Error, Hardware, Host, Limits};
+use mscp::{Opcode, Order, Picker, Port, Stage, Unit, Waiting};
 
 const LIMITS: Limits = Limits { id: 7, budget: 20, credits: 6, second: 4, longest: 8, timeout: 60 };
 const UNIT: Unit = Unit { id: 3, number: 1, size: 64, media: 5, serial: 9, track: 4, group: 2, cylinder: 1 };
@@ -22,6 +23,7 @@ fn handles_print_what_they_hold() {
     let waiting = Waiting { connection: Connection::First, reference: 9, figure: 21 }; // its step, and the budget
     assert_eq!(format!("{:?}", controller()), format!("Controller {{ waiting: [{waiting:?}], untaken: [0, 0], .. }}"));
     assert_eq!(format!("{:?}", Host::new(5).unwrap()), "Host { balance: 5, .. }");
+    assert_eq!(format!("{:?}", Driver::new(5).unwrap()), "Driver { credits: 1, .. }");
     let port = Port::new(&LIMITS, &[UNIT], Picker::Oldest, Hardware::UDA50, 4).unwrap();
     let state = port.state();
     assert_eq!(state.stage, Stage::First);
@@ -61,6 +63,11 @@ fn lists_give_what_is_in_them() {
     let bytes: Vec<u8> = end.into_iter().collect();
     assert_eq!((bytes.len(), bytes[8]), (44, 0x80 | Opcode::Online.number()));
     assert_eq!(bytes, &*end);
+    assert_eq!(((&end).into_iter().count(), end.as_ref().len(), end.len()), (44, 44, 44));
+    assert_eq!(format!("{end:?}"), format!("{bytes:?}"));
+    let packet = |order| Command { reference: 9, unit: 1, modifiers: 0, order }.message();
+    let (bare, other) = (packet(Order::Online), packet(Order::Available));
+    assert!(bare == packet(Order::Online) && bare != other && bare != packet(Order::Abort(0)));
 }
 
 /// Whatever stood in a place behind what the library takes of it stands there still: nothing of its size is moved there.

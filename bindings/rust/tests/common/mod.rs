@@ -1,6 +1,9 @@
 //! What the tests share.
 
-use mscp::raw::{Aligned, Handle};
+use mscp::raw::{self, Aligned, Handle};
+use mscp::{
+    BusKind, Connection, Error, Hardware, Holder, Limits, Medium, Report, Stage, State, Unit, Upcoming, Volume, Waiting,
+};
 
 /// Random numbers, the same in each run.
 pub struct Random(pub u64);
@@ -33,5 +36,153 @@ impl Raw {
 
     pub fn handle(&mut self) -> *mut Handle {
         &mut *self.handle
+    }
+}
+
+/// What a safe value is in C, field by field as `mscp.h` has them, without the crate's own conversions.
+pub trait InC {
+    type It;
+
+    fn in_c(self) -> Self::It;
+}
+
+impl InC for Volume {
+    type It = raw::Volume;
+
+    fn in_c(self) -> raw::Volume {
+        let Volume { size, media, is_there, is_protected, is_protected_by_host, is_online, is_removable } = self;
+        raw::Volume {
+            size,
+            media,
+            is_there: is_there.into(),
+            is_protected: is_protected.into(),
+            is_protected_by_host: is_protected_by_host.into(),
+            is_online: is_online.into(),
+            is_removable: is_removable.into(),
+        }
+    }
+}
+
+impl InC for State {
+    type It = raw::State;
+
+    fn in_c(self) -> raw::State {
+        let (stage, word) = match self.stage {
+            Stage::First => (0, 0),
+            Stage::Wrapped(word) => (1, word),
+            Stage::Second => (2, 0),
+            Stage::Third => (3, 0),
+            Stage::Purging => (4, 0),
+            Stage::Probing => (5, 0),
+            Stage::Clearing => (6, 0),
+            Stage::Last => (7, 0),
+            Stage::Up => (8, 0),
+            Stage::Dead(code) => (9, code),
+        };
+        raw::State { word, stage, is_held_back: self.is_held_back.into() }
+    }
+}
+
+impl InC for Hardware {
+    type It = raw::Hardware;
+
+    fn in_c(self) -> raw::Hardware {
+        let bus = match self.bus {
+            BusKind::Q => 0,
+            BusKind::Uni => 1,
+        };
+        raw::Hardware { bus, model: self.model, software: self.software, version: self.version }
+    }
+}
+
+impl InC for Connection {
+    type It = u8;
+
+    fn in_c(self) -> u8 {
+        match self {
+            Connection::First => 0,
+            Connection::Second => 1,
+        }
+    }
+}
+
+impl InC for Upcoming {
+    type It = raw::Upcoming;
+
+    fn in_c(self) -> raw::Upcoming {
+        let Upcoming { connection, reference, unit, opcode, block, bytes, done, weight } = self;
+        let (lbn, touches) = (block.unwrap_or(0), block.is_some().into());
+        raw::Upcoming { reference, bytes, lbn, done, weight, unit, opcode, touches, connection: connection.in_c() }
+    }
+}
+
+impl InC for Report {
+    type It = raw::Report;
+
+    fn in_c(self) -> raw::Report {
+        let Report { connection, reference, unit, block, seek, has_started, ended } = self;
+        raw::Report {
+            reference,
+            lbn: block.unwrap_or(0),
+            seek,
+            unit,
+            status: ended.unwrap_or(0),
+            touched: block.is_some().into(),
+            started: has_started.into(),
+            ended: ended.is_some().into(),
+            connection: connection.in_c(),
+        }
+    }
+}
+
+impl InC for Waiting {
+    type It = raw::Waiting;
+
+    fn in_c(self) -> raw::Waiting {
+        raw::Waiting { reference: self.reference, figure: self.figure, connection: self.connection.in_c() }
+    }
+}
+
+impl InC for Holder {
+    type It = raw::Holder;
+
+    fn in_c(self) -> raw::Holder {
+        let Holder { connection, reference, fences, is_overdrawn } = self;
+        raw::Holder { reference, connection: connection.in_c(), fences: fences.into(), overdrawn: is_overdrawn.into() }
+    }
+}
+
+impl InC for Medium {
+    type It = raw::Medium;
+
+    fn in_c(self) -> raw::Medium {
+        let Medium { size, media, is_protected, is_removable } = self;
+        raw::Medium { size, media, is_protected: is_protected.into(), is_removable: is_removable.into() }
+    }
+}
+
+impl InC for Unit {
+    type It = raw::Unit;
+
+    fn in_c(self) -> raw::Unit {
+        let Unit { id, number, size, media, serial, track, group, cylinder } = self;
+        raw::Unit { id, size, media, serial, number, track, group, cylinder }
+    }
+}
+
+impl InC for Limits {
+    type It = raw::Limits;
+
+    fn in_c(self) -> raw::Limits {
+        let Limits { id, budget, credits, second, longest, timeout } = self;
+        raw::Limits { id, budget, credits, second, longest, timeout }
+    }
+}
+
+/// The status of C's that a call answers which was done or refused.
+pub fn status_of<T>(it: &Result<T, Error>, good: impl Fn(&T) -> i32) -> i32 {
+    match it {
+        Ok(it) => good(it),
+        Err(error) => error.status(),
     }
 }

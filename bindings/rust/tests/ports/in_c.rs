@@ -1,25 +1,32 @@
 //! A port of C's, called directly.
 
 use mscp::raw::{self, status};
-use mscp::{Bus, BusFault, Hardware, BLOCK};
+use mscp::{Bus, BusFault, BusKind, Hardware, Picker, BLOCK};
 
-use crate::common::Raw;
-use crate::machine::{Machine, LIMITS, UNIT};
+use crate::common::{InC as _, Raw};
+use crate::machine::{Machine, LIMITS, UNITS};
 
 /// C's port, and what port.c does for one.
 pub struct InC {
     pub port: Raw,
     pub machine: Machine,
+    /// The bits that an address of its bus has.
+    pub lines: u32,
 }
 
 impl InC {
-    pub fn new(machine: Machine) -> Self {
+    pub fn new(machine: Machine, hardware: Hardware, picker: Picker) -> Self {
         let mut port = Raw::new(raw::PORT_SIZE, raw::PORT_ROOM);
-        let (limits, unit, hardware) = (LIMITS.into(), UNIT.into(), Hardware::RQDX3.into());
+        let (limits, units, kind) = (LIMITS.in_c(), UNITS.map(|it| it.in_c()), hardware.in_c());
+        let (handle, list, picker) = (port.handle(), units.as_ptr(), picker as u32);
         // SAFETY: the handle is that of memory of its own, in which nothing was made; all else is there.
-        let status = unsafe { raw::mscp_port_init_at(port.handle(), &limits, &unit, 1, 1, &hardware, 8) };
+        let status = unsafe { raw::mscp_port_init_at(handle, &limits, list, units.len(), picker, &kind, 8) };
         assert_eq!(status, status::DONE);
-        Self { port, machine }
+        let lines = match hardware.bus {
+            BusKind::Q => 0x3F_FFFF,
+            BusKind::Uni => 0x3_FFFF,
+        };
+        Self { port, machine, lines }
     }
 
     /// The next action, of messages alone or of all, or nothing.
@@ -51,9 +58,25 @@ impl InC {
         unsafe { raw::mscp_port_went(self.port.handle(), outcome, block) }
     }
 
+    /// Does actions as port.c does in a turn.
+    pub fn turn(&mut self, most: u32) -> bool {
+        // SAFETY: the handle is that of a port that was made.
+        assert_eq!(unsafe { raw::mscp_port_look_again(self.port.handle()) }, status::DONE);
+        for done in 0..most {
+            match self.next(false) {
+                None => return false,
+                Some(it) if it.kind == 1 && done > 0 => return true,
+                Some(it) => {
+                    let _ = self.perform(&it);
+                }
+            }
+        }
+        true
+    }
+
     /// Does an action, and tells how it went.
     pub fn perform(&mut self, it: &raw::Action) -> i32 {
-        let (address, count) = (it.address & 0x3F_FFFF, it.count as usize);
+        let (address, count) = (it.address & self.lines, it.count as usize);
         let mut bytes = [0; BLOCK];
         match it.kind {
             2 => match self.machine.read(address, &mut bytes[..count]) {
