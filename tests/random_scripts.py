@@ -11,6 +11,8 @@ import pathlib
 import random
 import sys
 
+# A message of each fault that `mscpq packet` tells: no digit, under 12 bytes, over 64, no opcode's end, an end cut short.
+FAULTY = "0g", "00" * 11, "00" * 65, "00" * 8 + "ff000000", "00" * 8 + "a1000000"
 TRANSFERS = "read", "write", "access", "erase", "compare"
 LATER = "online", "available", "setunit", "unitstatus"
 OPCODES = 0, 1, 2, 3, 4, 8, 9, 10, 16, 18, 32, 33, 34, 0x7F, 0xA1
@@ -155,7 +157,8 @@ def main():
     dice = random.Random(seed)
     for number in range(count):
         (folder / str(number)).write_bytes(Script(dice).text().encode("latin-1"))
-    (folder / "packets").write_text("".join(packet(dice) + "\n" for _ in range(count // 4)), encoding="ascii")
+    packets = (FAULTY + tuple(packet(dice) for _ in range(count // 4)))[: count // 4]
+    (folder / "packets").write_text("".join(it + "\n" for it in packets), encoding="ascii")
 
 
 main()
