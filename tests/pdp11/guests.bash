@@ -58,12 +58,11 @@ disk_is_examined() {
         'examine rq1 144000' && has_copied 128 && [ "$(sed -nE 's/^144000:\t([0-7]+).*/\1/p' "$room/said" | tr '\n' ' ')" = '000000 123456 ' ]
 }
 
-# A host that may be silent for a second is dead after the next one, when its clock has ticked some 120 times, and not before the
-# first. SA is 8009 hexadecimal.
+# A host that may be silent for a second is dead after the next one: when its clock has ticked some 120 times. SA is 8009 hexadecimal.
 silent_host_is_dead() {
     local ticks
     make_disks silent 1 && machine "$ours" 'attach rq0 a.dsk' "${booted[@]}" 'examine -o r1' && halts_with 100011 &&
-        ticks=$((8#$(sed -nE 's/^R1:\t([0-7]+).*/\1/p' "$room/said"))) && [ "$ticks" -gt 60 ] && [ "$ticks" -lt 180 ]
+        ticks=$((8#$(sed -nE 's/^R1:\t([0-7]+).*/\1/p' "$room/said"))) && [ "$ticks" -gt 90 ] && [ "$ticks" -lt 150 ]
 }
 
 # In place of a READ (see shows_who_waits) a host asks for attention messages, and hears of each disk that comes into unit 2 within
