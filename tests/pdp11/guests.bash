@@ -37,11 +37,12 @@ detached_disk_is_gone() {
             'examine -o r0' && halts_with 000006 && is_said '^RQ controller: end [0-9]* unit 1 code a2 status 0023 bytes 0$'
 }
 
-# What can't be written on isn't unlocked by SET RQ1 WRITEENABLED: its status stays 2006 hexadecimal.
+# What can't be written on isn't unlocked by SET RQ1 WRITEENABLED: its status stays 2006 hexadecimal. At 1000 both units are online.
 read_only_file_stays_locked() {
     rm -f -- "$room/messages" && make_disks copy 128 chunks=4 && touch "$room/b.dsk" &&
-        machine "$ours" "${said_of_messages[@]}" 'attach rq0 a.dsk' 'attach -r rq1 b.dsk' 'set rq1 locked' 'set rq1 writeenabled' \
-            "${booted[@]}" 'show rq1' && halts_with 000006 && is_said ' unit 1 code a2 status 2006 ' && grep -q 'write locked' "$room/said"
+        machine "$ours" "${said_of_messages[@]}" 'attach rq0 a.dsk' 'attach -r rq1 b.dsk' 'break 1000' 'boot rq0' 'set rq1 locked' \
+            'set rq1 writeenabled' 'show rq1' 'nobreak all' 'cont' 'examine -o r0' && halts_with 000006 &&
+        is_said ' unit 1 code a2 status 2006 ' && grep -q 'write locked' "$room/said"
 }
 
 # A READ to where there is no memory has a status of its own, 69 hexadecimal. With 64 KiB for each command the third has none here.
@@ -87,4 +88,22 @@ copies_by_the_second_controller() {
 two_controllers_interrupt() {
     make_disks two 1 && machine "$ours" 'set rqb enabled' 'attach rq0 a.dsk' 'boot rq0' 'examine r2' 'examine r3' &&
         grep -qxP 'R2:\t000001' "$room/said" && grep -qxP 'R3:\t000002' "$room/said" || { cat "$room/said" && return 1; }
+}
+
+# No two units have one identifier, of whichever controllers they are. BOOT brings its unit online.
+identifiers_are_of_one_unit() {
+    local name
+    rm -f -- "$room/messages" && make_disks halt 1 || return
+    for name in rq0 rq1 rqb0 rqb1 rqc0 rqd3; do
+        machine "$ours" 'set rqb enabled' 'set rqc enabled' 'set rqd enabled' 'set debug messages' "set ${name%?} debug" \
+            "attach $name a.dsk" "boot $name" || return
+    done
+    sed -nE 's/.* code 89 status 0000 id ([0-9]+) .*/\1/p' "$room/messages" >"$room/ids" && [ "$(wc -l <"$room/ids")" -eq 6 ] &&
+        [ -z "$(sort "$room/ids" | uniq -d)" ] || { cat "$room/ids" && return 1; }
+}
+
+# Where the first controller is away the second one may have its address, and has its registers then.
+disabled_controller_is_away() {
+    make_disks copy 128 chunks=4 first=4 && machine "$ours" 'set rq disabled' 'set rqb enabled' 'set rqb address=17772150' \
+        'attach rqb0 a.dsk' 'attach -q rqb1 b.dsk' 'boot rqb0' 'examine -o r0' && has_copied 128
 }
