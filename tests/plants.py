@@ -313,6 +313,17 @@ def is_refused(kind, change, said, tree):
     return any(owner[1] <= it < end for it in at) or re.search(proof, said, re.M) is not None
 
 
+def not_compiled(kind, changes, said):
+    """The changes that rt can't read: those on a line that it names as wrong, or else in a file of such a line."""
+    errors = re.findall(r'^(src/\S+?):(\d+):\d+: error', said, re.M)
+    places = [os.path.relpath(it[0], f'crates/{kind}') for it in changes]
+    wrong = [it for it, file in zip(changes, places) if (file, str(it[1] + 1)) in errors]
+    wrong = wrong or [it for it, file in zip(changes, places) if file in {where for where, _ in errors}]
+    if errors and not wrong:
+        raise SystemExit(f'{kind}: no change is where rt has an error:\n{said[-2000:]}')
+    return wrong
+
+
 def try_together(kind, count, by, tree):
     """So many changes of a crate, each of another function, in one check: how many are refused."""
     changes = []
@@ -322,10 +333,7 @@ def try_together(kind, count, by, tree):
             if all(it[4] != other[4] or it[0] != other[0] for other in changes):
                 changes.append(it)
         said = checked(kind, changes, tree)
-        errors = set(re.findall(rf'^(src/\S+?):(\d+):\d+: error', said, re.M))
-        wrong = [it for it in changes if (os.path.relpath(it[0], f'crates/{kind}'), str(it[1] + 1)) in errors]
-        if errors and not wrong:
-            raise SystemExit(f'{kind}: no change is where rt has an error:\n{said[-2000:]}')
+        wrong = not_compiled(kind, changes, said)
         if not wrong:
             break
         for it in wrong:
