@@ -36,7 +36,7 @@ KINDS = {
     'rust': (['bindings/rust/src/*.rs'], 'rust', ['tests/rust']),
     'header': (['include/mscp.h'], 'c', ['tests/library', 'tests/kept', 'tests/rust', f'tests/manual {PROGRAM}']),
     'shell': (['building.bash', 'install', 'mscpq', 'mscpjudge', 'check', 'tests/part', 'tests/parts'], 'shell',
-              ['tests/launcher', 'tests/install', 'tests/gate']),
+              ['tests/launcher', 'tests/install', 'tests/gate', 'tests/page']),
     'pages': ([*(f'docs/{it}.md' for it in ('C', 'FORMATS', 'HOST', 'JUDGE', 'PORT', 'SAVED', 'TUNING', 'USING')), 'docs/*.[13]',
                'include/mscp.h'], 'page',
               [f'tests/manual {PROGRAM}', 'tests/using', f'tests/program {PROGRAM}', 'tests/library']),
