@@ -1,4 +1,4 @@
-// A run of three events, and the memory that it asks for.
+// Runs of three events and of many, and the memory that they ask for.
 
 use crate::tests::moments::Moments;
 use crate::tests::values::{FIRST, config};
@@ -13,5 +13,15 @@ fn run_finds_memory(rt: HostRuntime) {
     moments.takes_nothing(rt, FIRST);
     moments.steps(rt, Block::Good, Report::Idle);
     moments.push(rt, Event::Look, Entry::Looked(ArrayVec::new()));
+    moments.are_run(rt, config(rt, 4, 16), Oldest);
+}
+
+#[test]
+fn long_run_finds_memory(rt: HostRuntime) {
+    let rt = &rt;
+    let mut moments = Moments::new(rt);
+    for _moment in 0..100_000 {
+        moments.takes_nothing(rt, FIRST);
+    }
     moments.are_run(rt, config(rt, 4, 16), Oldest);
 }
