@@ -2,10 +2,15 @@
 //!
 //!     rustc -O -C panic=abort --edition 2021 --crate-type staticlib bench/plain/calls.rs -o libplain.a
 
+mod drive;
 mod end;
+mod picker;
 mod queue;
+mod slot;
 
-use queue::{Command, Limits, Queue, Refused, Sent, Unit};
+use drive::Unit;
+use queue::{Limits, Queue, Refused, Sent};
+use slot::{Body, Command};
 
 const NOTHING: i32 = 0;
 const DONE: i32 = 1;
@@ -87,8 +92,8 @@ pub unsafe extern "C" fn mscp_init_at(
     let units: Vec<Unit> = std::slice::from_raw_parts(units, count).iter().map(unit).collect();
     let limits = Limits {
         id: limits.id,
-        budget: limits.budget,
-        credits: limits.credits as usize,
+        budget: limits.budget as u32,
+        credits: limits.credits,
         longest: limits.longest,
         timeout: limits.timeout,
     };
@@ -110,19 +115,21 @@ fn unit(it: &CUnit) -> Unit {
     }
 }
 
+#[inline]
 fn four(bytes: &[u8], at: usize) -> u32 {
     bytes
         .get(at..at + 4)
         .map_or(0, |it| u32::from_le_bytes(it.try_into().unwrap()))
 }
 
+#[inline]
 fn command(bytes: &[u8]) -> Command {
     Command {
         reference: four(bytes, 0),
-        unit: u16::from_le_bytes([bytes[4], bytes[5]]),
-        opcode: bytes[8],
         parameter: four(bytes, 12),
         block: four(bytes, 28),
+        unit: four(bytes, 4) as u16,
+        opcode: bytes[8],
     }
 }
 
@@ -143,7 +150,7 @@ pub unsafe extern "C" fn mscp_send_at(
     let sent = (*(*handle).queue).send(command);
     (out.reference, out.aborted, out.has_aborted) = (command.reference, 0, 0);
     match sent {
-        Ok(Sent::Queued) => QUEUED,
+        Ok(Sent::Queued(_)) => QUEUED,
         Ok(Sent::Answered) => ANSWERED,
         Ok(Sent::Aborted(other)) => {
             (out.aborted, out.has_aborted) = (other, 1);
@@ -160,15 +167,16 @@ pub unsafe extern "C" fn mscp_send_at(
 #[no_mangle]
 pub unsafe extern "C" fn mscp_step(handle: *mut Handle, block: u32, out: &mut CReport) -> i32 {
     let bad = if block == 0 { None } else { Some(block as u16) };
-    let Some(it) = (*(*handle).queue).step(bad) else {
+    let queue = &mut *(*handle).queue;
+    let Some(it) = queue.step(bad) else {
         return NOTHING;
     };
     *out = CReport {
-        reference: it.reference,
+        reference: queue.slots[it.slot].command.reference,
         lbn: it.block.unwrap_or(0),
         seek: it.seek,
-        unit: it.unit,
-        status: it.ended.map_or(0, |end| end.status),
+        unit: queue.drives[it.place].unit.number,
+        status: it.ended.unwrap_or(0),
         touched: it.block.is_some().into(),
         started: it.has_started.into(),
         ended: it.ended.is_some().into(),
@@ -181,11 +189,17 @@ pub unsafe extern "C" fn mscp_step(handle: *mut Handle, block: u32, out: &mut CR
 /// As `mscp.h` says.
 #[no_mangle]
 pub unsafe extern "C" fn mscp_take(handle: *mut Handle, _via: u32, out: &mut CPacket) -> i32 {
-    let Some(end) = (*(*handle).queue).take() else {
+    let queue = &mut *(*handle).queue;
+    let Some(it) = queue.take() else {
         return NOTHING;
     };
-    let (bytes, length) = end.bytes();
-    out.length = length as u32;
-    out.bytes[..length].copy_from_slice(&bytes[..length]);
+    let it = *it;
+    out.length = end::length(it.body) as u32;
+    out.bytes[..16].copy_from_slice(&end::head(&it));
+    if it.body == Body::Moved {
+        out.bytes[16..32].fill(0);
+    } else {
+        out.bytes[16..48].copy_from_slice(&end::tail(&it, || queue.unit(&it), &queue.limits));
+    }
     DONE
 }

@@ -1,0 +1,205 @@
+//! Which command starts, by the sweep: a choice for each unit, which is kept until the unit's head moves or its free
+//! commands change, and the cheapest of these.
+//!
+//! A free transfer is one before the unit's oldest sequential command, its fence. Those behind the fence stand in a
+//! list until it opens. The cylinders of a unit are cut into 64 ranges, each with the set of its free transfers, and a
+//! word says in which ranges there are any. So the nearest one is found by counting zeros of a word.
+
+use crate::drive::Drive;
+use crate::slot::{Bits, Chains, Slot, NONE, SLOTS};
+
+const NOTHING: u64 = u64::MAX;
+/// The list behind the first unit's fence.
+const BEHIND: u8 = 64;
+
+/// The free transfers of a unit.
+struct Ranges {
+    shift: u32, // of a cylinder's number
+    taken: u64,
+    slots: [u64; 64],
+}
+
+impl Ranges {
+    fn new(last: u32) -> Self {
+        Self {
+            shift: (32 - last.leading_zeros()).saturating_sub(6),
+            taken: 0,
+            slots: [0; 64],
+        }
+    }
+
+    #[inline]
+    fn of(&self, cylinder: u32) -> usize {
+        (cylinder >> self.shift & 63) as usize
+    }
+
+    #[inline]
+    fn insert(&mut self, cylinder: u32, slot: usize) {
+        let range = self.of(cylinder);
+        self.slots[range] |= 1 << slot;
+        self.taken |= 1 << range;
+    }
+
+    #[inline]
+    fn remove(&mut self, cylinder: u32, slot: usize) {
+        let range = self.of(cylinder);
+        self.slots[range] &= !(1 << slot);
+        if self.slots[range] == 0 {
+            self.taken &= !(1 << range);
+        }
+    }
+
+    /// The one that the sweep chooses.
+    fn nearest(&self, drive: &Drive, slots: &[Slot; SLOTS]) -> (usize, u64) {
+        let at = self.of(drive.head);
+        let mut ahead = self.taken & if drive.is_up { !0 << at } else { !0 >> (63 - at) };
+        while ahead != 0 {
+            let range = first(ahead, drive.is_up);
+            let (slot, cost) = least(Bits(self.slots[range]), drive, slots);
+            // In the range of the head all may be behind it.
+            if drive.is_ahead(slots[slot].cylinder) {
+                return (slot, cost);
+            }
+            ahead &= !(1 << range);
+        }
+        least(Bits(self.slots[first(self.taken, !drive.is_up)]), drive, slots)
+    }
+
+    /// The same of those that have no more blocks than these, or are this one.
+    fn nearest_within(&self, drive: &Drive, slots: &[Slot; SLOTS], room: u32, oldest: usize) -> (usize, u64) {
+        let all = Bits(self.taken).flat_map(|range| Bits(self.slots[range]));
+        least(all.filter(|it| slots[*it].weight <= room || *it == oldest), drive, slots)
+    }
+}
+
+/// The lowest or the highest bit.
+#[inline]
+fn first(bits: u64, is_lowest: bool) -> usize {
+    (if is_lowest { bits.trailing_zeros() } else { 63 - bits.leading_zeros() } & 63) as usize
+}
+
+/// Of some transfers of a unit the one with the least cost, of one cost the oldest.
+#[inline]
+fn least(some: impl Iterator<Item = usize>, drive: &Drive, slots: &[Slot; SLOTS]) -> (usize, u64) {
+    let (mut best, mut least) = (0, NOTHING);
+    for slot in some {
+        let cost = drive.cost(slots[slot].cylinder);
+        if cost < least || cost == least && slots[slot].arrival < slots[best].arrival {
+            (best, least) = (slot, cost);
+        }
+    }
+    (best, least)
+}
+
+pub struct Picker {
+    units: Vec<Ranges>,
+    fences: [u8; 16],
+    lists: Chains,
+    behind: u64,        // those in the lists
+    stale: u64,         // units that have to choose anew
+    choices: [u8; 16],
+    costs: [u64; 16],   // of the choices
+}
+
+impl Picker {
+    pub fn new(drives: &[Drive]) -> Self {
+        Self {
+            units: drives.iter().map(|it| Ranges::new(it.last)).collect(),
+            fences: [NONE; 16],
+            lists: Chains::new(),
+            behind: 0,
+            stale: 0,
+            choices: [0; 16],
+            costs: [NOTHING; 16],
+        }
+    }
+
+    /// A command comes.
+    #[inline]
+    pub fn insert(&mut self, slot: usize, slots: &[Slot; SLOTS], drives: &[Drive]) {
+        let it = &slots[slot];
+        let place = usize::from(it.place & 15);
+        if self.fences[place] != NONE {
+            self.lists.push(BEHIND + it.place, slot as u8);
+            self.behind |= 1 << slot;
+        } else if it.is_transfer {
+            self.units[place].insert(it.cylinder, slot);
+            let cost = drives[place].cost(it.cylinder);
+            if cost < self.costs[place] {
+                (self.choices[place], self.costs[place]) = (slot as u8, cost);
+            }
+        } else {
+            self.fences[place] = slot as u8;
+            self.stale |= 1 << place;
+        }
+    }
+
+    /// A command goes.
+    #[inline]
+    pub fn remove(&mut self, slot: usize, slots: &[Slot; SLOTS]) {
+        let it = &slots[slot];
+        let place = usize::from(it.place & 15);
+        self.stale |= 1 << place;
+        if it.is_transfer && self.behind >> slot & 1 == 0 {
+            self.units[place].remove(it.cylinder, slot);
+        } else if usize::from(self.fences[place]) == slot {
+            self.open(place, slots);
+        } else {
+            self.lists.remove(slot as u8);
+            self.behind &= !(1 << slot);
+        }
+    }
+
+    /// The fence of a unit has gone: what was behind it is free up to the next.
+    fn open(&mut self, place: usize, slots: &[Slot; SLOTS]) {
+        let list = BEHIND + place as u8;
+        self.fences[place] = NONE;
+        while self.fences[place] == NONE && !self.lists.is_empty(list) {
+            let slot = self.lists.next(list);
+            self.lists.remove(slot);
+            self.behind &= !(1 << slot);
+            let it = &slots[usize::from(slot) & 63];
+            if it.is_transfer {
+                self.units[place].insert(it.cylinder, slot.into());
+            } else {
+                self.fences[place] = slot;
+            }
+        }
+    }
+
+    /// A unit's choice of those that have no more blocks than these, or are this one.
+    fn choose(&self, place: usize, slots: &[Slot; SLOTS], drives: &[Drive]) -> (usize, u64) {
+        let unit = &self.units[place];
+        if unit.taken != 0 {
+            unit.nearest(&drives[place], slots)
+        } else if self.fences[place] != NONE {
+            (self.fences[place].into(), 0)
+        } else {
+            (0, NOTHING)
+        }
+    }
+
+    /// The command that starts, where the oldest may be passed by so many blocks.
+    #[inline]
+    pub fn pick(&mut self, slots: &[Slot; SLOTS], drives: &[Drive], oldest: usize, room: u32, longest: u32) -> usize {
+        if room == 0 {
+            return oldest;
+        }
+        for place in Bits(self.stale) {
+            let (slot, cost) = self.choose(place, slots, drives);
+            (self.choices[place & 15], self.costs[place & 15]) = (slot as u8, cost);
+        }
+        self.stale = 0;
+        let (mut best, mut least) = (0, NOTHING);
+        for place in 0..self.units.len().min(16) {
+            let (mut slot, mut cost) = (usize::from(self.choices[place]), self.costs[place]);
+            if room < longest && slots[slot & 63].weight > room && slot != oldest && cost != NOTHING {
+                (slot, cost) = self.units[place].nearest_within(&drives[place], slots, room, oldest);
+            }
+            if cost < least || cost == least && cost != NOTHING && slots[slot & 63].arrival < slots[best].arrival {
+                (best, least) = (slot & 63, cost);
+            }
+        }
+        best
+    }
+}
