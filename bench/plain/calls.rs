@@ -190,16 +190,16 @@ pub unsafe extern "C" fn mscp_step(handle: *mut Handle, block: u32, out: &mut CR
 #[no_mangle]
 pub unsafe extern "C" fn mscp_take(handle: *mut Handle, _via: u32, out: &mut CPacket) -> i32 {
     let queue = &mut *(*handle).queue;
-    let Some(it) = queue.take() else {
+    let Some(slot) = queue.take() else {
         return NOTHING;
     };
-    let it = *it;
+    let it = &queue.slots[slot];
     out.length = end::length(it.body) as u32;
-    out.bytes[..16].copy_from_slice(&end::head(&it));
+    out.bytes[..16].copy_from_slice(&end::head(it));
     if it.body == Body::Moved {
         out.bytes[16..32].fill(0);
     } else {
-        out.bytes[16..48].copy_from_slice(&end::tail(&it, || queue.unit(&it), &queue.limits));
+        out.bytes[16..48].copy_from_slice(&end::tail(it, queue));
     }
     DONE
 }

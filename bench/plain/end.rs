@@ -1,7 +1,6 @@
 //! End messages.
 
-use crate::drive::Unit;
-use crate::queue::{Limits, INVALID_OPCODE};
+use crate::queue::{Queue, INVALID_OPCODE};
 use crate::slot::{Body, Slot};
 
 /// The first sixteen bytes of an end.
@@ -34,17 +33,17 @@ pub fn length(body: Body) -> usize {
 
 /// Its bytes from 16 on.
 #[inline]
-pub fn tail(it: &Slot, unit: impl FnOnce() -> Unit, limits: &Limits) -> [u8; 32] {
+pub fn tail(it: &Slot, queue: &Queue) -> [u8; 32] {
     let mut b = [0; 32];
     match it.body {
         Body::Bare | Body::Abort | Body::Moved => {}
         Body::Status => b[..4].copy_from_slice(&it.figure.to_le_bytes()),
         Body::Controller => {
-            b[..2].copy_from_slice(&limits.timeout.to_le_bytes());
-            b[4..12].copy_from_slice(&limits.id.to_le_bytes());
+            b[..2].copy_from_slice(&queue.limits.timeout.to_le_bytes());
+            b[4..12].copy_from_slice(&queue.limits.id.to_le_bytes());
         }
         Body::Unit => {
-            let unit = unit();
+            let unit = queue.unit(it);
             b[4..12].copy_from_slice(&unit.id.to_le_bytes());
             b[12..16].copy_from_slice(&unit.media.to_le_bytes());
             b[20..22].copy_from_slice(&unit.track.to_le_bytes());
@@ -52,7 +51,7 @@ pub fn tail(it: &Slot, unit: impl FnOnce() -> Unit, limits: &Limits) -> [u8; 32]
             b[24..26].copy_from_slice(&unit.cylinder.to_le_bytes());
         }
         Body::Online => {
-            let unit = unit();
+            let unit = queue.unit(it);
             b[4..12].copy_from_slice(&unit.id.to_le_bytes());
             b[12..16].copy_from_slice(&unit.media.to_le_bytes());
             b[20..24].copy_from_slice(&unit.size.to_le_bytes());

@@ -190,14 +190,29 @@ impl Picker {
             (self.choices[place & 15], self.costs[place & 15]) = (slot as u8, cost);
         }
         self.stale = 0;
+        if room < longest {
+            return self.pick_within(slots, drives, oldest, room);
+        }
+        let (mut best, mut least) = (0, NOTHING);
+        for (slot, cost) in self.choices.iter().zip(self.costs).take(self.units.len()) {
+            let slot = usize::from(*slot & 63);
+            if cost < least || cost == least && slots[slot].arrival < slots[best].arrival && cost != NOTHING {
+                (best, least) = (slot, cost);
+            }
+        }
+        best
+    }
+
+    /// The same where the oldest may not be passed by all of them.
+    fn pick_within(&self, slots: &[Slot; SLOTS], drives: &[Drive], oldest: usize, room: u32) -> usize {
         let (mut best, mut least) = (0, NOTHING);
         for place in 0..self.units.len().min(16) {
-            let (mut slot, mut cost) = (usize::from(self.choices[place]), self.costs[place]);
-            if room < longest && slots[slot & 63].weight > room && slot != oldest && cost != NOTHING {
+            let (mut slot, mut cost) = (usize::from(self.choices[place] & 63), self.costs[place]);
+            if cost != NOTHING && slots[slot].weight > room && slot != oldest {
                 (slot, cost) = self.units[place].nearest_within(&drives[place], slots, room, oldest);
             }
-            if cost < least || cost == least && cost != NOTHING && slots[slot & 63].arrival < slots[best].arrival {
-                (best, least) = (slot & 63, cost);
+            if cost < least || cost == least && slots[slot].arrival < slots[best].arrival && cost != NOTHING {
+                (best, least) = (slot, cost);
             }
         }
         best

@@ -395,7 +395,7 @@ impl Queue {
 
     /// The oldest end is taken: its slot is free then, and tells of the end until the next message.
     #[inline]
-    pub fn take(&mut self) -> Option<&Slot> {
+    pub fn take(&mut self) -> Option<usize> {
         if self.oldest_end == self.next_end {
             return None;
         }
@@ -404,7 +404,7 @@ impl Queue {
         self.free |= 1 << slot;
         self.credits += 1;
         self.names.turn(self.slots[slot].command.reference, slot);
-        Some(&self.slots[slot])
+        Some(slot)
     }
 
     /// What an end tells of its unit.

@@ -37,6 +37,91 @@ const ONLINES: u64 = word(b"online ");
 const COMPARES: u64 = word(b"compare ");
 const SET_UNITS: u64 = word(b"setunit ");
 
+/// The text from a line's first byte on, more than an event takes in the usual way.
+struct Text<'a> {
+    bytes: &'a [u8; 72],
+    at: usize,
+}
+
+impl Text<'_> {
+    #[inline]
+    fn eight(&self) -> u64 {
+        let at = self.at & 63; // it stays below: the compiler doesn't know
+        u64::from_le_bytes(self.bytes[at..at + 8].try_into().expect("they are eight"))
+    }
+
+    /// A number of at most seven digits, and the byte behind it.
+    #[inline]
+    fn number(&mut self, end: u8) -> Option<u32> {
+        let text = self.eight();
+        let (length, number) = text::read(text);
+        if length == 0 || (text >> (8 * length)) as u8 != end {
+            return None;
+        }
+        self.at += length as usize + 1;
+        Some(number)
+    }
+
+    /// The same of a number that has most often one digit.
+    #[inline]
+    fn small(&mut self, end: u8) -> Option<u32> {
+        let text = self.eight();
+        let first = (text as u8).wrapping_sub(b'0');
+        if first >= 10 || (text >> 8) as u8 != end {
+            return self.number(end);
+        }
+        self.at += 2;
+        Some(first.into())
+    }
+
+    #[inline]
+    fn event(&mut self) -> Option<Event> {
+        let text = self.eight();
+        let begins = |length: u32| text & !0 >> (64 - 8 * length);
+        let (opcode, length) = match (begins(5), begins(6), begins(7), text) {
+            (TAKE, ..) => return self.bare(Event::Take),
+            (STEP, ..) => return self.steps(),
+            (READS, ..) => (READ, 5),
+            (LOOK, ..) => return self.bare(Event::Look),
+            (_, WRITES, ..) => (WRITE, 6),
+            (_, ERASES, ..) => (ERASE, 6),
+            (_, ABORTS, ..) => (ABORT, 6),
+            (_, _, ACCESSES, _) => (ACCESS, 7),
+            (_, _, POLLS, _) => (GET_COMMAND_STATUS, 7),
+            (_, _, ONLINES, _) => (ONLINE, 7),
+            (.., COMPARES) => (COMPARE, 8),
+            (.., SET_UNITS) => (SET_UNIT, 8),
+            _ => return None,
+        };
+        self.at = length;
+        let reference = self.number(b' ')?;
+        let mut it = Command { reference, opcode, ..Command::default() };
+        if it.is_transfer() {
+            it.unit = self.small(b' ')?.try_into().ok()?;
+            it.parameter = self.number(b' ')?;
+            it.block = self.number(b'\n')?;
+        } else if it.is_immediate() {
+            it.parameter = self.number(b'\n')?;
+        } else {
+            it.unit = self.small(b'\n')?.try_into().ok()?;
+        }
+        Some(Event::Send(it))
+    }
+
+    #[inline]
+    fn bare(&mut self, event: Event) -> Option<Event> {
+        self.at = 5;
+        Some(event)
+    }
+
+    #[inline]
+    fn steps(&mut self) -> Option<Event> {
+        self.at = 5;
+        let steps = self.small(b'\n')?;
+        (1..=1000).contains(&steps).then_some(Event::Step(steps))
+    }
+}
+
 /// A script, and where the reader stands.
 struct Reader<'a> {
     script: &'a [u8],
@@ -53,111 +138,22 @@ impl<'a> Reader<'a> {
         Some(&rest[..length])
     }
 
-    #[inline]
-    fn eight(&self) -> Option<u64> {
-        let bytes = self.script.get(self.at..)?.first_chunk()?;
-        Some(u64::from_le_bytes(*bytes))
-    }
-
-    /// A number, and the byte behind it.
-    #[inline]
-    fn number(&mut self, end: u8) -> Option<u32> {
-        let text = self.eight()?;
-        let first = (text as u8).wrapping_sub(b'0');
-        if first < 10 && (text >> 8) as u8 == end {
-            self.at += 2;
-            return Some(first.into());
-        }
-        let (length, number) = text::read(text);
-        if length == 0 || (text >> (8 * length)) as u8 != end {
-            return None;
-        }
-        self.at += length as usize + 1;
-        Some(number)
-    }
-
-    #[inline]
-    fn short(&mut self, end: u8) -> Option<u16> {
-        u16::try_from(self.number(end)?).ok()
-    }
-
     /// An event that is written in the usual way.
     #[inline]
-    fn event(&mut self) -> Option<Event> {
-        let text = self.eight()?;
-        let begins = |length: u32| text & !0 >> (64 - 8 * length);
-        match (begins(5), begins(6), begins(7), text) {
-            (TAKE, ..) => self.bare(Event::Take),
-            (STEP, ..) => self.steps(),
-            (READS, ..) => self.transfer(READ, 5),
-            (LOOK, ..) => self.bare(Event::Look),
-            (_, WRITES, ..) => self.transfer(WRITE, 6),
-            (_, ERASES, ..) => self.transfer(ERASE, 6),
-            (_, ABORTS, ..) => self.of_other(ABORT, 6),
-            (_, _, ACCESSES, _) => self.transfer(ACCESS, 7),
-            (_, _, POLLS, _) => self.of_other(GET_COMMAND_STATUS, 7),
-            (_, _, ONLINES, _) => self.of_unit(ONLINE, 7),
-            (.., COMPARES) => self.transfer(COMPARE, 8),
-            (.., SET_UNITS) => self.of_unit(SET_UNIT, 8),
-            _ => None,
-        }
-    }
-
-    #[inline]
-    fn bare(&mut self, event: Event) -> Option<Event> {
-        self.at += 5;
+    fn usual(&mut self) -> Option<Event> {
+        let bytes = self.script.get(self.at..)?.first_chunk()?;
+        let mut text = Text { bytes, at: 0 };
+        let event = text.event()?;
+        self.at += text.at;
         Some(event)
     }
 
-    #[inline]
-    fn steps(&mut self) -> Option<Event> {
-        self.at += 5;
-        let steps = self.number(b'\n')?;
-        (1..=1000).contains(&steps).then_some(Event::Step(steps))
-    }
-
-    #[inline]
-    fn transfer(&mut self, opcode: u8, length: usize) -> Option<Event> {
-        self.at += length;
-        let (reference, unit) = (self.number(b' ')?, self.short(b' ')?);
-        let (parameter, block) = (self.number(b' ')?, self.number(b'\n')?);
-        Some(Event::Send(Command { reference, parameter, block, unit, opcode }))
-    }
-
-    #[inline]
-    fn of_other(&mut self, opcode: u8, length: usize) -> Option<Event> {
-        self.at += length;
-        let (reference, parameter) = (self.number(b' ')?, self.number(b'\n')?);
-        Some(Event::Send(Command { reference, parameter, block: 0, unit: 0, opcode }))
-    }
-
-    #[inline]
-    fn of_unit(&mut self, opcode: u8, length: usize) -> Option<Event> {
-        self.at += length;
-        let (reference, unit) = (self.number(b' ')?, self.short(b'\n')?);
-        Some(Event::Send(Command { reference, parameter: 0, block: 0, unit, opcode }))
-    }
-
     /// An event that is written in any way, or nothing if the line is skipped.
-    #[cold]
-    fn careful_event(&mut self) -> Result<Option<Event>, Cause> {
+    #[inline(never)]
+    fn unusual(&mut self) -> Result<Option<Event>, Cause> {
         let line = self.line().unwrap_or(&[]);
         let mut words = Words::of(line)?;
         words.next().map(|word| words.event(word)).transpose()
-    }
-
-    /// The next event, if its line has one.
-    #[inline]
-    fn next(&mut self) -> Result<Option<Event>, Cause> {
-        if self.line > LINES {
-            return Err("lines");
-        }
-        let begin = self.at;
-        if let Some(event) = self.event() {
-            return Ok(Some(event));
-        }
-        self.at = begin;
-        self.careful_event()
     }
 }
 
@@ -179,23 +175,47 @@ fn header(reader: &mut Reader) -> Result<Queue, Cause> {
     }
 }
 
-fn events(reader: &mut Reader, queue: &mut Queue, report: &mut Report) -> Result<(), Cause> {
-    let mut left = EVENTS;
-    while reader.at < reader.script.len() {
-        reader.line += 1;
-        let Some(event) = reader.next()? else { continue };
+/// What a script does to the queue.
+struct Run {
+    queue: Queue,
+    report: Report,
+    left: u32, // of the events that may come
+}
+
+impl Run {
+    #[inline(always)]
+    fn act(&mut self, event: Event) -> Result<(), Cause> {
         let count = if let Event::Step(steps) = event { steps } else { 1 };
-        left = left.checked_sub(count).ok_or("events")?;
+        self.left = self.left.checked_sub(count).ok_or("events")?;
         match event {
-            Event::Step(steps) => report.steps(queue, steps),
-            Event::Bad(status) => report.bad(queue, status),
-            Event::Take => report.take(queue),
-            Event::Look => report.look(queue),
-            Event::Send(command) => report.sent(command.reference, &queue.send(command)),
+            Event::Step(steps) => self.report.steps(&mut self.queue, steps, None),
+            Event::Bad(status) => self.report.steps(&mut self.queue, 1, Some(status)),
+            Event::Take => self.report.take(&mut self.queue),
+            Event::Look => self.report.look(&self.queue),
+            Event::Send(command) => self.report.sent(command.reference, &self.queue.send(command)),
         }
+        Ok(())
     }
-    report.totals(queue.waiting());
-    Ok(())
+
+    #[inline(never)]
+    fn act_on_unusual(&mut self, reader: &mut Reader) -> Result<(), Cause> {
+        reader.unusual()?.map_or(Ok(()), |event| self.act(event))
+    }
+
+    fn events(&mut self, reader: &mut Reader) -> Result<(), Cause> {
+        while reader.at < reader.script.len() {
+            reader.line += 1;
+            if reader.line > LINES {
+                return Err("lines");
+            }
+            match reader.usual() {
+                Some(event) => self.act(event)?,
+                None => self.act_on_unusual(reader)?,
+            }
+        }
+        self.report.totals(self.queue.waiting());
+        Ok(())
+    }
 }
 
 /// The report of a script, or its first fault.
@@ -204,10 +224,10 @@ pub fn run(script: &[u8]) -> Result<Report, Fault> {
         return Err((0, "size"));
     }
     let mut reader = Reader { script, at: 0, line: 0 };
-    let mut queue = header(&mut reader).map_err(|cause| (reader.line, cause))?;
-    let mut report = Report::new(&queue);
-    match events(&mut reader, &mut queue, &mut report) {
-        Ok(()) => Ok(report),
+    let queue = header(&mut reader).map_err(|cause| (reader.line, cause))?;
+    let mut run = Run { report: Report::new(&queue), queue, left: EVENTS };
+    match run.events(&mut reader) {
+        Ok(()) => Ok(run.report),
         Err(cause) => Err((reader.line, cause)),
     }
 }
