@@ -55,15 +55,6 @@ impl Drive {
         (if ahead >= 0 { ahead } else { 2 * rest - ahead }) as u64
     }
 
-    #[inline]
-    pub fn is_ahead(&self, cylinder: u32) -> bool {
-        if self.is_up {
-            cylinder >= self.head
-        } else {
-            cylinder <= self.head
-        }
-    }
-
     /// The head goes to the first block of a transfer, which may turn it. How many cylinders that crosses.
     #[inline]
     pub fn start(&mut self, cylinder: u32) -> u32 {

@@ -8,6 +8,7 @@
 use crate::drive::Drive;
 use crate::slot::{Bits, Chains, Slot, NONE, SLOTS};
 
+/// The cost where there is no command.
 const NOTHING: u64 = u64::MAX;
 /// The list behind the first unit's fence.
 const BEHIND: u8 = 64;
@@ -49,26 +50,38 @@ impl Ranges {
         }
     }
 
-    /// The one that the sweep chooses.
-    fn nearest(&self, drive: &Drive, slots: &[Slot; SLOTS]) -> (usize, u64) {
-        let at = self.of(drive.head);
-        let mut ahead = self.taken & if drive.is_up { !0 << at } else { !0 >> (63 - at) };
+    /// The one that the sweep chooses, if there is any, and its cost. In the range of the head all may be behind it, so two
+    /// ranges are looked at; or the farthest, if none is ahead.
+    #[inline(always)]
+    fn nearest(&self, drive: &Drive, is_up: bool, slots: &[Slot; SLOTS]) -> (usize, u64) {
+        let (head, at) = (drive.head, self.of(drive.head));
+        let ahead_by = |to: u32| if is_up { to.wrapping_sub(head) } else { head.wrapping_sub(to) };
+        let mut ahead = self.taken & if is_up { !0 << at } else { !0 >> (63 - at) };
         while ahead != 0 {
-            let range = first(ahead, drive.is_up);
-            let (slot, cost) = least(Bits(self.slots[range]), drive, slots);
-            // In the range of the head all may be behind it.
-            if drive.is_ahead(slots[slot].cylinder) {
-                return (slot, cost);
+            let range = first(ahead, is_up);
+            let slot = least(self.slots[range], ahead_by, slots);
+            let to = slots[slot].cylinder;
+            if if is_up { to >= head } else { to <= head } {
+                return (slot, ahead_by(to).into());
             }
-            ahead &= !(1 << range);
+            ahead ^= 1 << range;
         }
-        least(Bits(self.slots[first(self.taken, !drive.is_up)]), drive, slots)
+        let slot = least(self.slots[first(self.taken, !is_up)], |to| ahead_by(to).wrapping_neg(), slots);
+        (slot, drive.cost(slots[slot].cylinder))
     }
 
     /// The same of those that have no more blocks than these, or are this one.
     fn nearest_within(&self, drive: &Drive, slots: &[Slot; SLOTS], room: u32, oldest: usize) -> (usize, u64) {
-        let all = Bits(self.taken).flat_map(|range| Bits(self.slots[range]));
-        least(all.filter(|it| slots[*it].weight <= room || *it == oldest), drive, slots)
+        let (mut best, mut least) = (0, NOTHING);
+        for slot in Bits(self.taken).flat_map(|range| Bits(self.slots[range])) {
+            let it = &slots[slot];
+            let cost = drive.cost(it.cylinder);
+            let is_better = cost < least || cost == least && it.arrival < slots[best].arrival;
+            if is_better && (it.weight <= room || slot == oldest) {
+                (best, least) = (slot, cost);
+            }
+        }
+        (best, least)
     }
 }
 
@@ -78,27 +91,28 @@ fn first(bits: u64, is_lowest: bool) -> usize {
     (if is_lowest { bits.trailing_zeros() } else { 63 - bits.leading_zeros() } & 63) as usize
 }
 
-/// Of some transfers of a unit the one with the least cost, of one cost the oldest.
-#[inline]
-fn least(some: impl Iterator<Item = usize>, drive: &Drive, slots: &[Slot; SLOTS]) -> (usize, u64) {
-    let (mut best, mut least) = (0, NOTHING);
-    for slot in some {
-        let cost = drive.cost(slots[slot].cylinder);
-        if cost < least || cost == least && slots[slot].arrival < slots[best].arrival {
-            (best, least) = (slot, cost);
+/// Of some transfers that with the least measure of its cylinder, of equal ones the oldest.
+#[inline(always)]
+fn least(some: u64, measure: impl Fn(u32) -> u32, slots: &[Slot; SLOTS]) -> usize {
+    let mut best = first(some, true);
+    let mut least = measure(slots[best].cylinder);
+    for slot in Bits(some & some.wrapping_sub(1)) {
+        let it = measure(slots[slot].cylinder);
+        if it < least || it == least && slots[slot].arrival < slots[best].arrival {
+            (best, least) = (slot, it);
         }
     }
-    (best, least)
+    best
 }
 
 pub struct Picker {
     units: Vec<Ranges>,
     fences: [u8; 16],
     lists: Chains,
-    behind: u64,        // those in the lists
-    stale: u64,         // units that have to choose anew
+    behind: u64, // those in the lists
+    stale: u64,  // units that have to choose anew
     choices: [u8; 16],
-    costs: [u64; 16],   // of the choices
+    costs: [u64; 16], // of the choices
 }
 
 impl Picker {
@@ -122,15 +136,23 @@ impl Picker {
         if self.fences[place] != NONE {
             self.lists.push(BEHIND + it.place, slot as u8);
             self.behind |= 1 << slot;
-        } else if it.is_transfer {
-            self.units[place].insert(it.cylinder, slot);
-            let cost = drives[place].cost(it.cylinder);
-            if cost < self.costs[place] {
-                (self.choices[place], self.costs[place]) = (slot as u8, cost);
-            }
-        } else {
+        } else if !it.is_transfer {
             self.fences[place] = slot as u8;
             self.stale |= 1 << place;
+        } else {
+            self.units[place].insert(it.cylinder, slot);
+            if self.stale >> place & 1 == 0 {
+                self.compare(slot, it.cylinder, place, &drives[place]);
+            }
+        }
+    }
+
+    /// A free transfer is its unit's choice if it is cheaper.
+    #[inline]
+    fn compare(&mut self, slot: usize, cylinder: u32, place: usize, drive: &Drive) {
+        let cost = drive.cost(cylinder);
+        if cost < self.costs[place] {
+            (self.choices[place], self.costs[place]) = (slot as u8, cost);
         }
     }
 
@@ -140,13 +162,13 @@ impl Picker {
         let it = &slots[slot];
         let place = usize::from(it.place & 15);
         self.stale |= 1 << place;
-        if it.is_transfer && self.behind >> slot & 1 == 0 {
-            self.units[place].remove(it.cylinder, slot);
-        } else if usize::from(self.fences[place]) == slot {
-            self.open(place, slots);
-        } else {
+        if self.behind >> slot & 1 == 1 {
             self.lists.remove(slot as u8);
             self.behind &= !(1 << slot);
+        } else if it.is_transfer {
+            self.units[place].remove(it.cylinder, slot);
+        } else {
+            self.open(place, slots);
         }
     }
 
@@ -158,7 +180,7 @@ impl Picker {
             let slot = self.lists.next(list);
             self.lists.remove(slot);
             self.behind &= !(1 << slot);
-            let it = &slots[usize::from(slot) & 63];
+            let it = &slots[usize::from(slot & 63)];
             if it.is_transfer {
                 self.units[place].insert(it.cylinder, slot.into());
             } else {
@@ -167,16 +189,16 @@ impl Picker {
         }
     }
 
-    /// A unit's choice of those that have no more blocks than these, or are this one.
-    fn choose(&self, place: usize, slots: &[Slot; SLOTS], drives: &[Drive]) -> (usize, u64) {
+    /// A unit chooses anew: the nearest of its free transfers, or its fence if there are none.
+    fn choose(&mut self, place: usize, slots: &[Slot; SLOTS], drive: &Drive) {
         let unit = &self.units[place];
-        if unit.taken != 0 {
-            unit.nearest(&drives[place], slots)
-        } else if self.fences[place] != NONE {
-            (self.fences[place].into(), 0)
-        } else {
-            (0, NOTHING)
-        }
+        let (slot, cost) = match (unit.taken, drive.is_up) {
+            (0, _) if self.fences[place] == NONE => (0, NOTHING),
+            (0, _) => (self.fences[place].into(), 0),
+            (_, true) => unit.nearest(drive, true, slots),
+            (_, false) => unit.nearest(drive, false, slots),
+        };
+        (self.choices[place], self.costs[place]) = (slot as u8, cost);
     }
 
     /// The command that starts, where the oldest may be passed by so many blocks.
@@ -186,17 +208,16 @@ impl Picker {
             return oldest;
         }
         for place in Bits(self.stale) {
-            let (slot, cost) = self.choose(place, slots, drives);
-            (self.choices[place & 15], self.costs[place & 15]) = (slot as u8, cost);
+            self.choose(place & 15, slots, &drives[place]);
         }
         self.stale = 0;
         if room < longest {
             return self.pick_within(slots, drives, oldest, room);
         }
-        let (mut best, mut least) = (0, NOTHING);
-        for (slot, cost) in self.choices.iter().zip(self.costs).take(self.units.len()) {
-            let slot = usize::from(*slot & 63);
-            if cost < least || cost == least && slots[slot].arrival < slots[best].arrival && cost != NOTHING {
+        let (mut best, mut least) = (0, NOTHING - 1);
+        for place in 0..self.units.len() {
+            let (slot, cost) = (usize::from(self.choices[place & 15] & 63), self.costs[place & 15]);
+            if cost <= least && (cost < least || slots[slot].arrival < slots[best].arrival) {
                 (best, least) = (slot, cost);
             }
         }
@@ -205,13 +226,13 @@ impl Picker {
 
     /// The same where the oldest may not be passed by all of them.
     fn pick_within(&self, slots: &[Slot; SLOTS], drives: &[Drive], oldest: usize, room: u32) -> usize {
-        let (mut best, mut least) = (0, NOTHING);
-        for place in 0..self.units.len().min(16) {
-            let (mut slot, mut cost) = (usize::from(self.choices[place] & 63), self.costs[place]);
+        let (mut best, mut least) = (0, NOTHING - 1);
+        for place in 0..self.units.len() {
+            let (mut slot, mut cost) = (usize::from(self.choices[place & 15] & 63), self.costs[place & 15]);
             if cost != NOTHING && slots[slot].weight > room && slot != oldest {
                 (slot, cost) = self.units[place].nearest_within(&drives[place], slots, room, oldest);
             }
-            if cost < least || cost == least && slots[slot].arrival < slots[best].arrival && cost != NOTHING {
+            if cost <= least && (cost < least || slots[slot].arrival < slots[best].arrival) {
                 (best, least) = (slot, cost);
             }
         }

@@ -316,13 +316,14 @@ impl Queue {
     #[inline]
     fn start(&mut self) -> usize {
         let oldest = usize::from(self.order.next(ORDER) & 63);
-        let Some(picker) = &mut self.sweep else {
-            self.slots[oldest].stamp = self.clock.wrapping_add(self.slots[oldest].weight);
-            return oldest;
+        let slot = match &mut self.sweep {
+            Some(picker) if self.waiting & (self.waiting - 1) != 0 => {
+                let it = &self.slots[oldest];
+                let room = it.stamp.wrapping_sub(self.clock) - it.weight;
+                picker.pick(&self.slots, &self.drives, oldest, room, self.limits.longest)
+            }
+            _ => oldest,
         };
-        let it = &self.slots[oldest];
-        let room = it.stamp.wrapping_sub(self.clock) - it.weight;
-        let slot = picker.pick(&self.slots, &self.drives, oldest, room, self.limits.longest);
         self.slots[slot].stamp = self.clock.wrapping_add(self.slots[slot].weight);
         slot
     }

@@ -7,7 +7,7 @@ use crate::text::{hex, Line, Pieces};
 
 pub struct Report {
     text: Pieces,
-    names: [([u8; 16], usize); SLOTS], // the numbers of the commands that wait, as text
+    names: [([u8; 16], usize); SLOTS], // the numbers of the commands that wait, as text with a space
     units: Vec<([u8; 32], usize)>,     // what stands between a command's number and its block
     steps: u32,
     seeks: u64,
@@ -16,7 +16,7 @@ pub struct Report {
 impl Report {
     pub fn new(queue: &Queue) -> Self {
         let unit = |number: u16| {
-            let (text, mut bytes) = (format!(" unit {number} block "), [0; 32]);
+            let (text, mut bytes) = (format!("unit {number} block "), [0; 32]);
             bytes[..text.len()].copy_from_slice(text.as_bytes());
             (bytes, text.len())
         };
@@ -47,7 +47,9 @@ impl Report {
                 let mut line = self.text.line();
                 line.put(b"queued  ", 7);
                 line.number(reference);
+                line.put(b" ", 1);
                 self.names[*slot & 63] = line.since(7);
+                line.shorten(1);
                 line.end();
             }
             Ok(Sent::Answered) => {
@@ -139,7 +141,7 @@ impl Report {
             let (halves, _) = tail.as_chunks::<16>();
             line.put(&hex(&halves[0]), 32);
             line.put(&hex(&halves[1]), 32);
-            line.set_length(4 + 2 * end::length(it.body));
+            line.shorten(96 - 2 * end::length(it.body));
         }
         line.end();
     }
@@ -150,7 +152,6 @@ impl Report {
             line.put(b"figure  ", 7);
             let (name, length) = &self.names[slot & 63];
             line.put(name, *length);
-            line.put(b" ", 1);
             line.number(figure);
             line.end();
         }

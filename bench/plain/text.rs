@@ -25,9 +25,9 @@ pub fn read(text: u64) -> (u32, u32) {
 fn split(number: u32) -> u64 {
     let halves = u64::from(number / 10000) | u64::from(number % 10000) << 32;
     let hundreds = (halves * 10486 >> 20) & 0x0000_007F_0000_007F;
-    let pairs = hundreds + ((halves - hundreds * 100) << 16);
+    let pairs = (halves << 16) - hundreds * ((100 << 16) - 1);
     let tens = (pairs * 103 >> 10) & 0x000F_000F_000F_000F;
-    tens + ((pairs - tens * 10) << 8)
+    (pairs << 8).wrapping_sub(tens * ((10 << 8) - 1))
 }
 
 /// The text of a number from 1 to 99,999,999, and how long that is.
@@ -142,10 +142,10 @@ impl Line<'_> {
         (*bytes, self.at - begin)
     }
 
-    /// It has so many bytes in all.
+    /// So many bytes at its end don't count.
     #[inline]
-    pub fn set_length(&mut self, length: usize) {
-        self.at = length;
+    pub fn shorten(&mut self, by: usize) {
+        self.at -= by;
     }
 
     #[inline]
