@@ -48,8 +48,9 @@ impl Report {
                 line.put(b"queued  ", 7);
                 line.number(reference);
                 line.put(b" ", 1);
-                self.names[*slot & 63] = line.since(7);
-                line.shorten(1);
+                let name = line.since(7);
+                line.cut(6 + name.1);
+                self.names[*slot & 63] = name;
                 line.end();
             }
             Ok(Sent::Answered) => {
@@ -134,15 +135,18 @@ impl Report {
         let mut line = self.text.line();
         line.put(b"end ", 4);
         line.put(&hex(&end::head(it)), 32);
+        let length = end::length(it.body);
         if it.body == Body::Moved {
             line.put(&[b'0'; 32], 32);
-        } else {
+        } else if length > 16 {
             let tail = end::tail(it, queue);
-            let (halves, _) = tail.as_chunks::<16>();
-            line.put(&hex(&halves[0]), 32);
-            line.put(&hex(&halves[1]), 32);
-            line.shorten(96 - 2 * end::length(it.body));
+            let (tail, _) = tail.as_chunks::<16>();
+            line.put(&hex(&tail[0]), 32);
+            if length > 32 {
+                line.put(&hex(&tail[1]), 32);
+            }
         }
+        line.cut(4 + 2 * length);
         line.end();
     }
 

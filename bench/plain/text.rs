@@ -142,10 +142,10 @@ impl Line<'_> {
         (*bytes, self.at - begin)
     }
 
-    /// So many bytes at its end don't count.
+    /// No more than so many bytes count.
     #[inline]
-    pub fn shorten(&mut self, by: usize) {
-        self.at -= by;
+    pub fn cut(&mut self, length: usize) {
+        self.at = length;
     }
 
     #[inline]
