@@ -214,14 +214,20 @@ impl Picker {
         if room < longest {
             return self.pick_within(slots, drives, oldest, room);
         }
-        let (mut best, mut least) = (0, NOTHING - 1);
-        for place in 0..self.units.len() {
-            let (slot, cost) = (usize::from(self.choices[place & 15] & 63), self.costs[place & 15]);
-            if cost <= least && (cost < least || slots[slot].arrival < slots[best].arrival) {
-                (best, least) = (slot, cost);
+        let (mut best, mut least) = (0, NOTHING);
+        for place in 0..self.units.len().min(16) {
+            let cost = self.costs[place];
+            if cost < least || cost == least && cost != NOTHING && self.is_older(place, best, slots) {
+                (best, least) = (place, cost);
             }
         }
-        best
+        usize::from(self.choices[best] & 63)
+    }
+
+    /// The choice of a unit came before that of another.
+    fn is_older(&self, place: usize, other: usize, slots: &[Slot; SLOTS]) -> bool {
+        let arrival = |it: usize| slots[usize::from(self.choices[it & 15] & 63)].arrival;
+        arrival(place) < arrival(other)
     }
 
     /// The same where the oldest may not be passed by all of them.

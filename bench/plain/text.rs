@@ -42,12 +42,15 @@ fn decimal(number: u32) -> ([u8; 8], usize) {
 /// The hexadecimal digits of sixteen bytes.
 #[inline]
 pub fn hex(bytes: &[u8; 16]) -> [u8; 32] {
+    const LETTERS: u16 = (b'a' - b'9' - 1) as u16;
     let mut digits = [0; 32];
-    for at in 0..16 {
-        digits[2 * at] = bytes[at] >> 4;
-        digits[2 * at + 1] = bytes[at] & 15;
+    for (to, it) in digits.as_chunks_mut::<2>().0.iter_mut().zip(bytes) {
+        let it = u16::from(*it);
+        let pair = (it >> 4 | it << 8) & 0x0F0F;
+        let is_letter = (pair + 0x0606) >> 4 & 0x0101;
+        *to = (pair + 0x3030 + is_letter * LETTERS).to_le_bytes();
     }
-    digits.map(|it| it + b'0' + if it > 9 { b'a' - b'0' - 10 } else { 0 })
+    digits
 }
 
 /// A piece of a report has so many bytes.
