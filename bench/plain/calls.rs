@@ -1,6 +1,6 @@
 //! The calls of `mscp.h` that `bench/rounds.c` makes, over the plain queue, as a static library.
 //!
-//!     rustc -O -C panic=abort --edition 2021 --crate-type staticlib bench/plain/calls.rs -o libplain.a
+//!     bench/plain/build .
 
 mod drive;
 mod end;

@@ -1,6 +1,6 @@
 //! Runs a script as `mscpq run FILE` does: plain Rust of the same behaviour, to be measured against.
 //!
-//!     rustc -O --edition 2021 bench/plain/main.rs -o plain && ./plain run FILE
+//!     bench/plain/build . && ./plain run FILE
 
 #![forbid(unsafe_code)]
 
