@@ -103,23 +103,12 @@ pub unsafe extern "C" fn mscp_init_at(
 
 fn unit(it: &CUnit) -> Unit {
     let (id, number, track, group, cylinder) = (it.id, it.number, it.track, it.group, it.cylinder);
-    Unit {
-        id,
-        number,
-        track,
-        group,
-        cylinder,
-        size: it.size,
-        media: it.media,
-        serial: it.serial,
-    }
+    Unit { id, number, track, group, cylinder, size: it.size, media: it.media, serial: it.serial }
 }
 
 #[inline]
 fn four(bytes: &[u8], at: usize) -> u32 {
-    bytes
-        .get(at..at + 4)
-        .map_or(0, |it| u32::from_le_bytes(it.try_into().unwrap()))
+    bytes.get(at..at + 4).map_or(0, |it| u32::from_le_bytes(it.try_into().unwrap()))
 }
 
 #[inline]

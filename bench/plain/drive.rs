@@ -27,15 +27,7 @@ impl Drive {
         let blocks = u64::from(unit.track) * u64::from(unit.group) * u64::from(unit.cylinder);
         // With so many or more all blocks are on one cylinder.
         let blocks = u32::try_from(blocks).unwrap_or(u32::MAX);
-        Self {
-            unit,
-            is_online: false,
-            is_up: true,
-            head: 0,
-            last: (unit.size - 1) / blocks,
-            blocks,
-            edge: 0,
-        }
+        Self { unit, is_online: false, is_up: true, head: 0, last: (unit.size - 1) / blocks, blocks, edge: 0 }
     }
 
     #[inline]
@@ -47,11 +39,7 @@ impl Drive {
     #[inline]
     pub fn cost(&self, cylinder: u32) -> u64 {
         let (head, to) = (i64::from(self.head), i64::from(cylinder));
-        let (ahead, rest) = if self.is_up {
-            (to - head, i64::from(self.last) - head)
-        } else {
-            (head - to, head)
-        };
+        let (ahead, rest) = if self.is_up { (to - head, i64::from(self.last) - head) } else { (head - to, head) };
         (if ahead >= 0 { ahead } else { 2 * rest - ahead }) as u64
     }
 

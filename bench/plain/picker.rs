@@ -22,11 +22,7 @@ struct Ranges {
 
 impl Ranges {
     fn new(last: u32) -> Self {
-        Self {
-            shift: (32 - last.leading_zeros()).saturating_sub(6),
-            taken: 0,
-            slots: [0; 64],
-        }
+        Self { shift: (32 - last.leading_zeros()).saturating_sub(6), taken: 0, slots: [0; 64] }
     }
 
     #[inline]

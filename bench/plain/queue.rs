@@ -3,11 +3,13 @@
 //!
 //! A step takes as much from the figure of each command but that in service. So a clock counts what was taken, a command
 //! keeps the sum of its figure and of the clock when it came, and no figure is written anew but at an abort. What is
-//! left of the oldest one's budget is its figure less its own blocks; all others have more.
+//! left of the oldest one's budget is its figure less its own blocks, and no other one has less left.
 
 use crate::drive::{Drive, Unit};
 use crate::picker::Picker;
 use crate::slot::*;
+
+mod serving;
 
 const SUCCESS: u16 = 0;
 const ALREADY_ONLINE: u16 = 0x0100;
@@ -41,17 +43,6 @@ pub enum Refused {
     NoCredit,
     LastCredit,
     Doubled,
-}
-
-/// What a step did.
-pub struct Served {
-    pub slot: usize,
-    pub place: usize, // of its unit
-    pub block: Option<u32>,
-    #[allow(dead_code)] // C is told it, and no report
-    pub has_started: bool,
-    pub seek: u32,
-    pub ended: Option<u16>,
 }
 
 pub struct Queue {
@@ -312,88 +303,6 @@ impl Queue {
         }
     }
 
-    /// A command starts. Its slot.
-    #[inline]
-    fn start(&mut self) -> usize {
-        let oldest = usize::from(self.order.next(ORDER) & 63);
-        let slot = match &mut self.sweep {
-            Some(picker) if self.waiting & (self.waiting - 1) != 0 => {
-                let it = &self.slots[oldest];
-                let room = it.stamp.wrapping_sub(self.clock) - it.weight;
-                picker.pick(&self.slots, &self.drives, oldest, room, self.limits.longest)
-            }
-            _ => oldest,
-        };
-        self.slots[slot].stamp = self.clock.wrapping_add(self.slots[slot].weight);
-        slot
-    }
-
-    /// A step, whose block is good if it has no status.
-    #[inline]
-    pub fn step(&mut self, bad: Option<u16>) -> Option<Served> {
-        if self.waiting == 0 {
-            return None;
-        }
-        let slot = match self.serving {
-            NONE => self.start(),
-            it => usize::from(it & 63),
-        };
-        let it = &mut self.slots[slot];
-        let place = usize::from(it.place);
-        let drive = &mut self.drives[place];
-        if !it.is_transfer || !drive.is_online {
-            return Some(self.step_aside(slot, bad));
-        }
-        let (block, done) = (it.command.block + it.done, it.done);
-        let seek = if done == 0 { drive.start(it.cylinder) } else { drive.go_on(block) };
-        let ended = match bad {
-            None => {
-                it.done += 1;
-                self.clock = self.clock.wrapping_add(1);
-                self.left -= 1;
-                (it.done == it.weight).then_some(SUCCESS)
-            }
-            Some(_) => {
-                it.command.parameter = done * 512;
-                bad
-            }
-        };
-        self.serving = slot as u8;
-        if let Some(status) = ended {
-            self.finish(slot, status, Body::Moved);
-        }
-        Some(Served { slot, place, block: Some(block), has_started: done == 0, seek, ended })
-    }
-
-    /// The command in service ends.
-    #[inline]
-    fn finish(&mut self, slot: usize, status: u16, body: Body) {
-        self.serving = NONE;
-        let left = self.slots[slot].left();
-        self.clock = self.clock.wrapping_add(left);
-        self.leave(slot, left);
-        self.end(slot, status, body);
-    }
-
-    /// A step of a command that touches no block.
-    fn step_aside(&mut self, slot: usize, bad: Option<u16>) -> Served {
-        let it = &mut self.slots[slot];
-        let place = usize::from(it.place);
-        let drive = &mut self.drives[place];
-        let opcode = it.command.opcode;
-        let status = if it.is_transfer {
-            it.command.parameter = 0;
-            UNIT_AVAILABLE
-        } else {
-            bad.unwrap_or_else(|| follow(drive, opcode))
-        };
-        self.finish(slot, status, body(opcode));
-        if bad.is_some() {
-            self.slots[slot].place = NOWHERE;
-        }
-        Served { slot, place, block: None, has_started: true, seek: 0, ended: Some(status) }
-    }
-
     /// The oldest end is taken: its slot is free then, and tells of the end until the next message.
     #[inline]
     pub fn take(&mut self) -> Option<usize> {
@@ -411,17 +320,6 @@ impl Queue {
     /// What an end tells of its unit.
     pub fn unit(&self, it: &Slot) -> Unit {
         self.drives.get(usize::from(it.place)).map_or(Unit::default(), |drive| drive.unit)
-    }
-}
-
-/// A command with a good step that isn't a transfer: what becomes of its unit, and its status.
-fn follow(drive: &mut Drive, opcode: u8) -> u16 {
-    let was_online = drive.is_online;
-    drive.is_online = opcode != AVAILABLE && (was_online || opcode == ONLINE);
-    if opcode == ONLINE && was_online {
-        ALREADY_ONLINE
-    } else {
-        SUCCESS
     }
 }
 

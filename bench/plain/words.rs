@@ -66,7 +66,11 @@ impl<'a> Words<'a> {
         match word {
             b"step" => {
                 let [steps] = self.numbers()?;
-                if (1..=1000).contains(&steps) { Ok(Event::Step(steps)) } else { Err("number") }
+                if (1..=1000).contains(&steps) {
+                    Ok(Event::Step(steps))
+                } else {
+                    Err("number")
+                }
             }
             b"bad" => self.bad(),
             b"take" => self.numbers::<0>().map(|_| Event::Take),
@@ -84,7 +88,11 @@ impl<'a> Words<'a> {
             return Err("hex");
         }
         let status = word.iter().fold(0, |sum, it| sum << 4 | (*it as char).to_digit(16).unwrap_or(0));
-        if status % 32 < 5 { Err("status") } else { Ok(Event::Bad(status as u16)) }
+        if status % 32 < 5 {
+            Err("status")
+        } else {
+            Ok(Event::Bad(status as u16))
+        }
     }
 
     fn command(&mut self, word: &[u8]) -> Result<Command, Cause> {
