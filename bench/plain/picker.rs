@@ -72,7 +72,7 @@ impl Ranges {
         for slot in Bits(self.taken).flat_map(|range| Bits(self.slots[range])) {
             let it = &slots[slot];
             let cost = drive.cost(it.cylinder);
-            let is_better = cost < least || cost == least && it.arrival < slots[best].arrival;
+            let is_better = cost < least || cost == least && it.is_older(&slots[best]);
             if is_better && (it.weight <= room || slot == oldest) {
                 (best, least) = (slot, cost);
             }
@@ -94,7 +94,7 @@ fn least(some: u64, measure: impl Fn(u32) -> u32, slots: &[Slot; SLOTS]) -> usiz
     let mut least = measure(slots[best].cylinder);
     for slot in Bits(some & some.wrapping_sub(1)) {
         let it = measure(slots[slot].cylinder);
-        if it < least || it == least && slots[slot].arrival < slots[best].arrival {
+        if it < least || it == least && slots[slot].is_older(&slots[best]) {
             (best, least) = (slot, it);
         }
     }
@@ -222,8 +222,8 @@ impl Picker {
 
     /// The choice of a unit came before that of another.
     fn is_older(&self, place: usize, other: usize, slots: &[Slot; SLOTS]) -> bool {
-        let arrival = |it: usize| slots[usize::from(self.choices[it & 15] & 63)].arrival;
-        arrival(place) < arrival(other)
+        let choice = |it: usize| &slots[usize::from(self.choices[it & 15] & 63)];
+        choice(place).is_older(choice(other))
     }
 
     /// The same where the oldest may not be passed by all of them.
@@ -234,7 +234,7 @@ impl Picker {
             if cost != NOTHING && slots[slot].weight > room && slot != oldest {
                 (slot, cost) = self.units[place].nearest_within(&drives[place], slots, room, oldest);
             }
-            if cost <= least && (cost < least || slots[slot].arrival < slots[best].arrival) {
+            if cost <= least && (cost < least || slots[slot].is_older(&slots[best])) {
                 (best, least) = (slot, cost);
             }
         }

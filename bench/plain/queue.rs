@@ -57,7 +57,9 @@ pub struct Queue {
     order: Chains,
     sweep: Option<Box<Picker>>, // or the oldest starts
     serving: u8,
-    arrivals: u64,
+    stamps: [u32; SLOTS],   // of each that waits its figure and the clock, when it came
+    arrivals: [u32; SLOTS], // as the slots have them
+    last_arrival: u32,
     clock: u32,
     left: u32, // of all that wait
     ends: [u8; SLOTS],
@@ -86,7 +88,9 @@ impl Queue {
             waiting: 0,
             order: Chains::new(),
             serving: NONE,
-            arrivals: 0,
+            stamps: [0; SLOTS],
+            arrivals: [0; SLOTS],
+            last_arrival: 0,
             clock: 0,
             left: 0,
             ends: [0; SLOTS],
@@ -182,12 +186,13 @@ impl Queue {
     fn wait(&mut self, command: Command, place: usize, weight: u32, cylinder: u32, is_transfer: bool) -> Sent {
         let slot = self.enter(&command);
         self.waiting |= 1 << slot;
-        self.arrivals += 1;
+        self.last_arrival = self.last_arrival.wrapping_add(1);
         self.left += weight;
+        self.stamps[slot] = (self.left + self.limits.budget).wrapping_add(self.clock);
+        self.arrivals[slot] = self.last_arrival;
         let it = &mut self.slots[slot];
         it.command = command;
-        it.arrival = self.arrivals;
-        it.stamp = (self.left + self.limits.budget).wrapping_add(self.clock);
+        it.arrival = self.last_arrival;
         it.cylinder = cylinder;
         it.weight = weight;
         it.done = 0;
@@ -242,7 +247,7 @@ impl Queue {
 
     #[inline]
     fn figure(&self, slot: usize) -> u32 {
-        self.slots[slot].stamp.wrapping_sub(self.clock)
+        self.stamps[slot].wrapping_sub(self.clock)
     }
 
     /// The slot and the figure of each waiting command, oldest first.
@@ -279,14 +284,13 @@ impl Queue {
             self.serving = NONE;
             self.clock = self.clock.wrapping_add(left);
         } else {
-            let mut later = self.order.next(slot as u8);
-            while later != ORDER {
-                let it = &mut self.slots[usize::from(later & 63)];
-                it.stamp = it.stamp.wrapping_sub(left);
-                later = self.order.next(later);
+            let since = self.arrivals[slot];
+            // Of slots that have no command it does no harm, and four go at once.
+            for (stamp, arrival) in self.stamps.iter_mut().zip(&self.arrivals) {
+                *stamp = stamp.wrapping_sub(if is_later(*arrival, since) { left } else { 0 });
             }
-            if let Some(it) = self.slots.get_mut(usize::from(self.serving)) {
-                it.stamp = self.clock.wrapping_add(it.left());
+            if let Some(it) = self.slots.get(usize::from(self.serving)) {
+                self.stamps[usize::from(self.serving)] = self.clock.wrapping_add(it.left());
             }
         }
         self.leave(slot, left);

@@ -73,8 +73,7 @@ pub enum Body {
 #[repr(align(64))]
 pub struct Slot {
     pub command: Command, // at the end of a transfer its parameter is the bytes that were moved
-    pub arrival: u64,     // the later, the larger
-    pub stamp: u32,       // its figure, and what all had done when it had that
+    pub arrival: u32,     // how many came before, of which the high bits are lost
     pub cylinder: u32,
     pub weight: u32,
     pub done: u32,
@@ -86,10 +85,22 @@ pub struct Slot {
 }
 
 impl Slot {
+    /// It came before another that waits, if fewer than 2^31 have come since.
+    #[inline]
+    pub fn is_older(&self, other: &Self) -> bool {
+        is_later(other.arrival, self.arrival)
+    }
+
     #[inline]
     pub fn left(&self) -> u32 {
         self.weight - self.done
     }
+}
+
+/// One arrival is after another.
+#[inline]
+pub fn is_later(arrival: u32, other: u32) -> bool {
+    arrival.wrapping_sub(other) as i32 > 0
 }
 
 /// The slots of the bits of a word, from the lowest on.

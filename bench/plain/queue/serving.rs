@@ -18,15 +18,14 @@ impl Queue {
     #[inline]
     fn start(&mut self) -> usize {
         let oldest = usize::from(self.order.next(ORDER) & 63);
+        let room = self.figure(oldest) - self.slots[oldest].weight;
         let slot = match &mut self.sweep {
             Some(picker) if self.waiting & (self.waiting - 1) != 0 => {
-                let it = &self.slots[oldest];
-                let room = it.stamp.wrapping_sub(self.clock) - it.weight;
                 picker.pick(&self.slots, &self.drives, oldest, room, self.limits.longest)
             }
             _ => oldest,
         };
-        self.slots[slot].stamp = self.clock.wrapping_add(self.slots[slot].weight);
+        self.stamps[slot & 63] = self.clock.wrapping_add(self.slots[slot & 63].weight);
         slot
     }
 
