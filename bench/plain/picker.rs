@@ -46,8 +46,8 @@ impl Ranges {
         }
     }
 
-    /// The one that the sweep chooses, if there is any, and its cost. In the range of the head all may be behind it, so two
-    /// ranges are looked at; or the farthest, if none is ahead.
+    /// The one that the sweep chooses, of one or more, and its cost. In the range of the head all may be behind it, so
+    /// two ranges are looked at; or the farthest, if none is ahead.
     #[inline(always)]
     fn nearest(&self, drive: &Drive, is_up: bool, slots: &[Slot; SLOTS]) -> (usize, u64) {
         let (head, at) = (drive.head, self.of(drive.head));

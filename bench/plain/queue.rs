@@ -1,9 +1,9 @@
-//! The queue as one writes it by hand for speed. It keeps the same rules as the proved one, and nothing says so but that
-//! the reports are the same.
+//! The queue as one writes it by hand for speed. It keeps the same rules as the proved one, and nothing says so but
+//! that the reports are the same.
 //!
-//! A step takes as much from the figure of each command but that in service. So a clock counts what was taken, a command
-//! keeps the sum of its figure and of the clock when it came, and no figure is written anew but at an abort. What is
-//! left of the oldest one's budget is its figure less its own blocks, and no other one has less left.
+//! A step takes as much from the figure of each command but that in service. So a clock counts what was taken, and of
+//! each command the sum of its figure and of the clock is kept, which changes at aborts alone. What is left of the
+//! oldest one's budget is its figure less its own blocks, and no other one has less left.
 
 use crate::drive::{Drive, Unit};
 use crate::picker::Picker;

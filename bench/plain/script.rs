@@ -1,5 +1,5 @@
-//! Runs scripts. The lines are those of one connection, without `packet` and `second`. A line of an event that is written
-//! in the usual way, its words one space apart, is read where it stands; any other is left to `words`.
+//! Runs scripts. The lines are those of one connection, without `packet` and `second`. A line of an event that is
+//! written in the usual way, its words one space apart, is read where it stands; any other is left to `words`.
 
 use crate::queue::Queue;
 use crate::report::Report;

@@ -100,8 +100,8 @@ impl Pieces {
     }
 }
 
-/// A line that is being written. What is put is stored whole, and as much of it counts as is said; the next comes over the
-/// rest. So all stores have lengths that the compiler knows.
+/// A line that is being written. What is put is stored whole, and as much of it counts as is said; the next comes over
+/// the rest. So all stores have lengths that the compiler knows.
 pub struct Line<'a> {
     room: &'a mut [u8; ROOM],
     at: usize,
