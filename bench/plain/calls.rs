@@ -106,20 +106,21 @@ fn unit(it: &CUnit) -> Unit {
     Unit { id, number, track, group, cylinder, size: it.size, media: it.media, serial: it.serial }
 }
 
+/// The command of a message, whose bytes past the end count as zero.
 #[inline]
-fn four(bytes: &[u8], at: usize) -> u32 {
-    bytes.get(at..at + 4).map_or(0, |it| u32::from_le_bytes(it.try_into().unwrap()))
+fn command(bytes: &[u8]) -> Command {
+    if let Some(whole) = bytes.first_chunk::<32>() {
+        return whole_command(whole);
+    }
+    let mut whole = [0; 32];
+    whole[..bytes.len()].copy_from_slice(bytes);
+    whole_command(&whole)
 }
 
 #[inline]
-fn command(bytes: &[u8]) -> Command {
-    Command {
-        reference: four(bytes, 0),
-        parameter: four(bytes, 12),
-        block: four(bytes, 28),
-        unit: four(bytes, 4) as u16,
-        opcode: bytes[8],
-    }
+fn whole_command(bytes: &[u8; 32]) -> Command {
+    let four = |at: usize| u32::from_le_bytes([bytes[at], bytes[at + 1], bytes[at + 2], bytes[at + 3]]);
+    Command { reference: four(0), parameter: four(12), block: four(28), unit: four(4) as u16, opcode: bytes[8] }
 }
 
 /// # Safety
