@@ -305,11 +305,11 @@ enum mscp_stage {
 /* How an action went. */
 enum mscp_outcome {
     MSCP_OUTCOME_DONE = 0,
-    MSCP_OUTCOME_MISSING = 1,   /* not all of that memory is there */
-    MSCP_OUTCOME_PARITY = 2,    /* it has a parity error */
+    MSCP_OUTCOME_MISSING = 1,   /* not all of the host's memory is there */
+    MSCP_OUTCOME_PARITY = 2,    /* the host's memory has a parity error */
     MSCP_OUTCOME_UNMAPPED = 3,  /* the bus maps no memory there */
     MSCP_OUTCOME_DIFFERENT = 4, /* the bytes that were compared differ */
-    MSCP_OUTCOME_FAILED = 5     /* the block couldn't be moved: its command ends with the status reported beside it */
+    MSCP_OUTCOME_FAILED = 5     /* the block couldn't be read or written, and its command ends with the status beside it */
 };
 
 /* A handle on memory of yours: where it is, and what is in it. Nothing in it is for you, save if the memory moves:

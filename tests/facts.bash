@@ -188,6 +188,42 @@ rules_of_the_judge_are_told() {
         same "$(sort <<<"$legal")" "$(rules_below '## Logs' docs/JUDGE.md | grep -vE '^(legal|.*not legal)$' | sort)"
 }
 
+# What specs/ say of each rule above its name, as 'NAME: WHAT', and what a part of docs/JUDGE.md says of these.
+explained() {
+    awk -v definition="$1" '/^-- / { said = said (said == "" ? "" : " ") substr($0, 4); next }
+        index($0, definition " rules.") == 1 { split($0, part, "\""); print part[2] ": " said } { said = "" }' "crates/mscpjudge/specs/$2.antt"
+}
+explained_below() {
+    awk -F '|' -v heading="$1" '/^## / { inside = $0 == heading } inside && /^[|].*`.*[|]/ {
+        name = $2; gsub(/^[^`]*`|`.*/, "", name); gsub(/^ | $/, "", $3); print name ": " $3 }' docs/JUDGE.md
+}
+
+rules_of_the_judge_are_explained() {
+    same "$(explained rule_name Wired)" "$(explained_below '## The rules')" &&
+        same "$(explained rule_text Said)" "$(explained_below '## Logs' | grep -v 'not legal' | grep -E "^($(explained rule_text Said | sed 's/: .*//' | paste -sd '|')): ")"
+}
+
+# What the header says of each outcome of an action is what the port's sources say of it, but for where the status is.
+outcomes_are_told() {
+    same "$(awk '/^pub enum Outcome/ { inside = 1; next } inside && /^}/ { exit }
+            inside && /[/][/][/]/ { sub(/^ *[/]+ /, ""); sub(/[.]$/, ""); said = tolower(substr($0, 1, 1)) substr($0, 2) }
+            inside && /^    [A-Z]/ { sub(/[(,].*/, ""); if (n++ > 0) print "MSCP_OUTCOME_" toupper($1) " = " n - 1 ": " said }' \
+        crates/mscp_port/src/action.rt | sed 's/ with this status$/ with the status beside it/')" \
+        "$(sed -nE 's!^ +(MSCP_OUTCOME_[A-Z]+ = [0-9]),? +/\* (.*) \*/$!\1: \2!p' include/mscp.h)"
+}
+
+# No two names of one list of the header mean the same.
+names_of_the_header_differ() {
+    awk '/^enum / { split("", seen) }
+        match($0, /[/][*] .* [*][/]$/) && /^    MSCP_[A-Z_]+ = / {
+            said = substr($0, RSTART)
+            if (said in seen) { print seen[said] " and " $1 ": " said; wrong = 1 }
+            seen[said] = $1
+            n++
+        }
+        END { exit wrong || n < 100 }' include/mscp.h
+}
+
 # The number of a name of the header, that a call of the C file answers, or of a line of the sources that this expression finds.
 number_of() {
     case $1 in
@@ -239,20 +275,24 @@ exit_statuses_are_told() {
     same "$(exit_numbers mscp_script)" "$(listed_numbers mscpq)" && same "$(exit_numbers mscpjudge)" "$(listed_numbers mscpjudge)"
 }
 
-# A page says this sentence with the number of the sources that the expression finds, in place of %.
+# A page says this sentence with the number of the sources that the expression finds, in place of %, or with so many less.
 sentences_have_the_numbers_of_the_sources() {
-    local page sentence source number text
-    while IFS='|' read -r page sentence source; do
+    local page sentence source number text less
+    while IFS='|' read -r page sentence source less; do
         number=$(grep -hoE -- "${source#*:}" "${source%%:*}" | head -n 1 | grep -oE '(0x)?[0-9A-F]+$')
+        [ -z "$less" ] || number=$((number - less))
         text=$(tr -s '\n ' ' ' <"$page")
         [ -n "$number" ] && [[ $text == *"${sentence//%/$number}"* ]] || { echo "$page hasn't '${sentence//%/$number}'" && return 1; }
     done <<'END'
 docs/C.md|of the first ends: up to % in each, beside|crates/mscp_port/specs/Packets.antt:1 \+ min untold [0-9]+
+docs/C.md|Bytes % to 27 of a transfer's message|crates/mscp_port/specs/Buffers.antt:address = four_or_zero b [0-9]+
 docs/C.md|Longer ones end with `%`|crates/mscp_drive/src/unit.rt:const INVALID_BYTE_COUNT: u16 = 0x[0-9A-F]+
 docs/TUNING.md|A longer one ends with %.|crates/mscp_drive/src/unit.rt:const INVALID_BYTE_COUNT: u16 = 0x[0-9A-F]+
 docs/PORT.md|a transfer past the end of its volume, with % or|crates/mscp_drive/src/unit.rt:const INVALID_BLOCK: u16 = 0x[0-9A-F]+
 docs/PORT.md|0x1C01 or %.|crates/mscp_drive/src/unit.rt:const INVALID_BYTE_COUNT: u16 = 0x[0-9A-F]+
 docs/USING.md|% to 64 on the first connection|crates/mscp_drive/specs/Settings.antt:some_credits : [0-9]+
+docs/USING.md|none or 2 to % on the second|crates/mscp_drive/specs/Settings.antt:few_credits : c.credits \+ c.second ≤ [0-9]+|2
+docs/USING.md|none or % to|crates/mscp_drive/specs/Settings.antt:second_credits : \(c.second ≡ 0\) ⊎ \([0-9]+
 docs/USING.md|at most % on both|crates/mscp_drive/specs/Settings.antt:few_credits : c.credits \+ c.second ≤ [0-9]+
 examples/simh/rq_show.c|A_KEPT = %,|crates/mscp_port/specs/Saved.antt:buffer_size = [0-9]+
 examples/simh/rq_show.c|AN_END = %,|crates/mscp_port/specs/Saved.antt:decided_size = [0-9]+

@@ -405,3 +405,12 @@ random_hosts_are_right() {
 # Nine hosts, most like the drivers of known systems, each six times, which begin anew amid it. In 24 passes they
 # copy 16 groups of blocks by three commands.
 drivers_are_right() { logs_its_wire drivers && logged_is_right $((9 * 6 * 24 * 16 * 3)) $((9 * 6 * 2)); }
+
+# Of so many lines each is shown.
+many_lines_of_the_wire_in_words() {
+    { yes "$(reading 1; moved 1 0 1024)" | head -n 200000; } >"$room/log" &&
+        shows < <(seq 1 2 200000 | awk '{
+            print "line " $1 ": host: command 1 unit 0 READ bytes 1024 block 0"
+            print "line " $1 + 1 ": controller: end 1 unit 0 code a1 status 0000 bytes 1024"
+        }')
+}

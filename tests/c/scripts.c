@@ -1,5 +1,5 @@
-/* Scripts and packets in lent memory: a report that just fits and one that doesn't, each fault with its line, and lines of
- * packets. Prints what is wrong, and ends with 1 where something is. */
+/* Scripts and packets in lent memory: reports and lines that just fit and those that don't, and each fault, with its line.
+ * Prints what is wrong, and ends with 1 where something is. */
 #include "scripting.h"
 #include "trying.h"
 
@@ -27,25 +27,44 @@ static void fits_just(const char *script, const char *report)
     is("no bytes", (int64_t)count, 77);
 }
 
-static void fails(const char *script, size_t length, int32_t fault, uint32_t where)
+/* A script whose lines before its fault have so many bytes of a report. In room for twice as many its fault is told. */
+static void fails_in(size_t size, const char *script, size_t length, int32_t fault, uint32_t where)
 {
     size_t count;
     uint32_t line;
-    is("fault", run(script, length, ROOM, &count, &line), fault);
-    is("its line", line, where);
+    is("fault", run(script, length, size, &count, &line), fault);
+    is("its line", line, fault == MSCP_SMALL ? 77 : where);
     is("no report", (int64_t)count, 77);
+}
+
+static void fails(const char *script, size_t length, int32_t fault, uint32_t where)
+{
+    fails_in(ROOM, script, length, fault, where);
+}
+
+/* The longest run of idle steps, whose report has 5,000,032 bytes. */
+static void much_fits_just(void)
+{
+    static char script[sizeof HEADER + 10000], report[5000100];
+    char *end = script + sprintf(script, HEADER), *last = report;
+    for (int i = 0; i < 1000; i++)
+        end += sprintf(end, "step 1000\n");
+    for (int i = 0; i < 1000000; i++, last += 5)
+        memcpy(last, "idle\n", 5);
+    sprintf(last, "steps 1000000 seeks 0 pending 0\n");
+    fits_just(script, report);
 }
 
 static void packets_are_shown(void)
 {
     size_t count;
-    for (size_t i = 0; i < COUNT(PACKETS); i++) {
-        const uint8_t *word = (const uint8_t *)PACKETS[i].word;
-        size_t length = strlen(PACKETS[i].text);
+    for (size_t i = 0; i < 2 * COUNT(PACKETS); i++) {
+        const size_t n = i / 2, length = strlen(PACKETS[n].text), size = i % 2 == 0 ? 1024 : 2 * length;
+        const uint8_t *word = (const uint8_t *)PACKETS[n].word;
         count = 77;
-        is("packet", mscp_show_packet(word, strlen(PACKETS[i].word), room, 1024, &count), PACKETS[i].status);
-        is("its bytes", (int64_t)count, PACKETS[i].status == MSCP_DONE ? (int64_t)length : 77);
-        is("its text", memcmp(room, PACKETS[i].text, length), 0);
+        is("packet", mscp_show_packet(word, strlen(PACKETS[n].word), room, size, &count), PACKETS[n].status);
+        is("its bytes", (int64_t)count, PACKETS[n].status == MSCP_DONE ? (int64_t)length : 77);
+        is("its text", memcmp(room, PACKETS[n].text, length), 0);
     }
     count = 77;
     is("less room", mscp_show_packet((const uint8_t *)PACKETS[0].word, 24, room, 2 * strlen(PACKETS[0].text) - 1, &count),
@@ -60,8 +79,14 @@ int main(void)
               "queued 9\nserve 9 unit 0 block none seek 0 ended 0000\n"
               "end 090000000000000089000000000000000000000001000000000000000000000000000000e803000001000000\n"
               "steps 1 seeks 0 pending 0\n");
-    for (size_t i = 0; i < COUNT(SCRIPTS); i++)
+    much_fits_just();
+    for (size_t i = 0; i < COUNT(SCRIPTS); i++) {
         fails(SCRIPTS[i].text, strlen(SCRIPTS[i].text), SCRIPTS[i].fault, SCRIPTS[i].line);
+        fails_in(0, SCRIPTS[i].text, strlen(SCRIPTS[i].text), SCRIPTS[i].fault, SCRIPTS[i].line);
+    }
+    const char behind[] = HEADER "online 9 0\njump\n"; /* behind "queued 9\n" */
+    fails_in(18, behind, strlen(behind), MSCP_SCRIPT_WORD, 8);
+    fails_in(16, behind, strlen(behind), MSCP_SMALL, 8);
     fails(large, make_large(MSCP_SCRIPT_LINES), MSCP_SCRIPT_LINES, 1000001);
     fails(large, make_large(MSCP_SCRIPT_SIZE), MSCP_SCRIPT_SIZE, 0);
     fails(large, make_large(MSCP_SCRIPT_EVENTS), MSCP_SCRIPT_EVENTS, 1007);

@@ -16,9 +16,11 @@ compares = 1
 maps = 0                ; whether the Unibus map moves all above 40000 up by 400000
 more = 0                ; bits that are set in the upper words of addresses
 between = 24.          ; how many looks at the ring go by between two polls
+first = 0               ; the number of the first unit of the two
+above = 0               ; the upper word of the blocks' numbers
 
-ip = 172150
-sa = 172152
+ip = 172150             ; of the controller, and SA behind it
+sa = ip+2
 rsprings = 10010        ; eight slots each
 cmdrings = 10050
 responses = 12004       ; texts, 200 apart
@@ -70,7 +72,7 @@ answers: .word 115633, rsprings, 0, 1  ; slots, interrupts by vector 154; where;
 online: mov r0, -(sp)
         mov #11, r0
         jsr pc, command
-        mov (sp)+, 4(r4)
+        add (sp)+, 4(r4)
         jsr pc, post
 ; Waits for a response, which must be of success.
 await:  jsr pc, response
@@ -109,6 +111,7 @@ command: mov cmdtext, r4
 1$:     clr (r2)+
         sob r3, 1$
         mov r0, 10(r4)
+        mov #first, 4(r4)
         inc counter
         mov counter, 2(r4)      ; the upper word of its number
         rts pc
@@ -224,6 +227,7 @@ transfer: jsr pc, command
         mov chunk(r1), r3
         mul #blocks, r3
         mov r3, 34(r4)
+        mov #above, 36(r4)
         jmp @#post
 
 ; The response at R4 is of a transfer, or of what `poll` sends.
@@ -396,6 +400,7 @@ compare: clr next
         mov chunk(r1), r3
         mul #blocks, r3
         mov r3, 34(r4)
+        mov #above, 36(r4)
         jsr pc, post
         jsr pc, await
         cmp next, #chunks

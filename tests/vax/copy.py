@@ -1,8 +1,8 @@
 #!/usr/bin/env python3
-"""Writes a VAX's program that copies blocks of one disk to another: copy.py FILE BLOCKS
+"""Writes a VAX's program that copies blocks of one disk to another: copy.py FILE BLOCKS [PAGES]
 
-It lies in physical memory from 10000 hexadecimal on, where it begins. It maps the first pages of the Q-bus to the same
-pages of memory, initialises the first RQDX3, brings its units 0 and 1 online, and copies eight blocks at a time, with
+It lies in physical memory from 10000 hexadecimal on, where it begins. It maps the first pages of the Q-bus, 1024 or as many as
+PAGES says, to the same pages of memory, initialises the first RQDX3, brings its units 0 and 1 online, and copies eight blocks at a time, with
 rings of one slot, which it looks at again and again. It halts with 12345 hexadecimal in R0 if all ended with Success,
 else with the status that it got, or with FFFF after a fatal error of the port. R9 counts the blocks."""
 import struct
@@ -10,7 +10,7 @@ import sys
 
 START, RINGS, RESPONSE, COMMAND, DATA = 0x10000, 0x12008, 0x12104, 0x12204, 0x14000
 MAP, IP, SA = 0x20088000, 0x20001468, 0x2000146A
-PAGES, AT_ONCE = 1024, 8
+AT_ONCE = 8
 OPCODES = {'bisl3': 0xC9, 'movl': 0xD0, 'movw': 0xB0, 'clrl': 0xD4, 'movzwl': 0x3C, 'tstl': 0xD5, 'tstw': 0xB5,
            'bitw': 0xB3, 'addl2': 0xC0, 'cmpl': 0xD1, 'aoblss': 0xF2, 'bsbw': 0x30, 'rsb': 0x05, 'halt': 0x00,
            'beql': 0x13, 'bneq': 0x12, 'blss': 0x19}
@@ -28,11 +28,11 @@ def operand(it, size):
     return bytes([mode | int(it.strip('(+)r'))])
 
 
-def program(blocks):
+def program(blocks, pages):
     """Each line is a label, or an instruction with its operands."""
     lines = [
         ('movl', START, 'r14'), ('clrl', 'r0'), ('movl', MAP, 'r1'),
-        'map', ('bisl3', 0x80000000, 'r0', '(r1)+'), ('aoblss', PAGES, 'r0', 'map'),
+        'map', ('bisl3', 0x80000000, 'r0', '(r1)+'), ('aoblss', pages, 'r0', 'map'),
         ('movw', 0, [IP])]
     for bit, word in ((0x800, 0x8000), (0x1000, RINGS & 0xFFFF), (0x2000, RINGS >> 16), (0x4000, 1)):
         lines += [f'step{bit}', ('bitw', bit, [SA]), ('beql', f'step{bit}'), ('movw', word, [SA])]
@@ -74,9 +74,9 @@ def assemble(lines):
     return code
 
 
-def main(target, blocks):
+def main(target, blocks, pages=1024):
     with open(target, 'wb') as out:
-        out.write(assemble(program(int(blocks))))
+        out.write(assemble(program(int(blocks), int(pages))))
 
 
 if __name__ == '__main__':

@@ -1,5 +1,5 @@
 -- What the calls that run a script and show a packet tell.
-use Rattle.std.specs.Prelude.{◌≡◌, ◌≤◌, ℕ, ℤ, List, length, take, Ok, Err}
+use Rattle.std.specs.Prelude.{◌≡◌, ◌*◌, ◌<◌, ◌≤◌, ℕ, ℤ, List, length, take, Ok, Err}
 use Rattle.mscp_reader.specs.Grammar.{IsFault}
 use Rattle.mscp_reader.specs.declared.fault.Cause.{Cause}
 use Rattle.mscp_reader.specs.declared.fault.Cause.TheVariants as causes
@@ -35,9 +35,9 @@ show_code words.Code = status.WORD_CODE
 show_code words.Length = status.WORD_LENGTH
 show_code words.OutOfMemory = status.SMALL
 
--- so many bytes at the front of a room are the report of this script
+-- so many bytes at the front of a room, which has room for twice as many, are the report of this script
 pub record HasReport (script room : List ℕ) (count : ℕ) : Type 0 where
-  pub inside : count ≤ length room
+  pub inside : 2 * count ≤ length room
   pub report : IsReport script (take count room)
 
 -- the script's first fault is in this line, and this is the status of its cause
@@ -47,10 +47,16 @@ pub record TellsFault (script : List ℕ) (code : ℤ) (line : ℕ) : Type 0 whe
   pub line_is : fault.line ≡ line
   pub cause : cause_code fault.cause ≡ code
 
--- so many bytes at the front of a room are the line of the packet that a word is
+-- so many bytes at the front of a room, which has room for twice as many, are the line of the packet that a word is
 pub record HasLine (word room : List ℕ) (count : ℕ) : Type 0 where
-  pub inside : count ≤ length room
+  pub inside : 2 * count ≤ length room
   pub shown : shown word ≡ Ok (take count room)
+
+-- the word is a packet, and a room hasn't room for twice its line
+pub record IsShort (word room : List ℕ) : Type 0 where
+  pub line : List ℕ
+  pub shown : shown word ≡ Ok line
+  pub short : length room < 2 * length line
 
 -- the word is no packet, and this is the status of why
 pub record IsNoPacket (word : List ℕ) (code : ℤ) : Type 0 where

@@ -1,8 +1,8 @@
 // A whole script and a packet's line, in memory that a program in C lends. Each is written behind the front of the room, and
 // then moved there: so the room has twice its bytes.
 
-ghost use Rattle.std.specs.Prelude.{◌≡◌, ◌≢◌, ◌⊎◌, ◌≤◌, length, take, Err, IfOk, IfSome};
-ghost use Rattle.mscp_c.specs.Common.{IsFault, shown, HasLine, HasReport, IsNoPacket, TellsFault};
+ghost use Rattle.std.specs.Prelude.{◌≡◌, ◌≢◌, ◌⊎◌, ◌*◌, ◌<◌, ◌≤◌, length, take, Err, IfNone, IfOk, IfSome};
+ghost use Rattle.mscp_c.specs.Common.{IsFault, shown, HasLine, HasReport, IsNoPacket, IsShort, TellsFault};
 
 use crate::status::{DONE, SMALL, cause_code, show_code};
 use mscp_script::{Lent, Out, ReadFault, ScriptFault, ShowFault, report_script, show_packet_to};
@@ -11,6 +11,7 @@ use mscp_script::{Lent, Out, ReadFault, ScriptFault, ShowFault, report_script, s
 fn put_front(front: &mut [u8], text: &[u8]) -> Option<usize>
     ensures length { length front.new ≡ length front.old }
     ensures text { IfSome result (λ n. (n ≤ length front.new) × (take n front.new ≡ text.now)) }
+    ensures short { IfNone result (length front.old < length text.now) }
 {
     if text.len() > front.len() {
         return None;
@@ -63,6 +64,7 @@ pub extern "C" fn mscp_run_script_at(
 fn show(word: &[u8], room: &mut [u8]) -> Result<usize, ShowFault>
     ensures length { length room.new ≡ length room.old }
     ensures line { IfOk result (λ n. HasLine word.now room.new n) }
+    ensures short { result ≡ Err ShowFault.OutOfMemory → IsShort word.now room.old }
     ensures fault { (fault : ShowFault) → result ≡ Err fault → fault ≢ ShowFault.OutOfMemory → shown word.now ≡ Err fault }
 {
     let half = room.len() / 2;
@@ -76,6 +78,7 @@ fn show(word: &[u8], room: &mut [u8]) -> Result<usize, ShowFault>
 #[unsafe(no_mangle)]
 pub extern "C" fn mscp_show_packet_at(word: &[u8], room: &mut [u8], count: &mut usize) -> i32
     ensures done { result ≡ DONE → HasLine word.now room.new count.new }
+    ensures short { result ≡ SMALL → IsShort word.now room.old }
     ensures fault { (result ≡ DONE) ⊎ (result ≡ SMALL) ⊎ IsNoPacket word.now result }
     ensures count { result ≢ DONE → count.new ≡ count.old }
     ensures room { length room.new ≡ length room.old }

@@ -1,6 +1,6 @@
 // A packet as a line of text: a message that is written as hexadecimal digits.
 
-ghost use Rattle.std.specs.Prelude.{◌≡◌, ◌≤◌, ◌%◌, ◌==◌, ◌&&◌, [], length, IfOk};
+ghost use Rattle.std.specs.Prelude.{◌≡◌, ◌≤◌, ◌%◌, ◌==◌, ◌&&◌, [], length, Err, IfOk};
 ghost use Rattle.mscp_text.specs.Common.{is_ascii_hexdigit, list_all, Gives, message_of, of_end, of_message, packet_of, shown, Shows};
 ghost use Rattle.mscp_text.specs.declared.packet.ShowFault.TheVariants as faults;
 
@@ -135,7 +135,8 @@ fn packet_in(message: &[u8]) -> Result<Packet, ShowFault>
 #[tactic(auto, unfolding(crate::specs::Shown::shown))]
 pub fn show_packet_to<O: Out>(mut out: O, word: &[u8]) -> Result<O, ShowFault>
     requires { O.text out ≡ [] }
-    ensures { Shows O.text result (shown word.now) }
+    ensures shows { Shows O.text result (shown word.now) }
+    ensures refused { result ≡ Err ShowFault.OutOfMemory → IfOk (shown word.now) (λ line. O.least out ≤ length line) }
 {
     let message = message_of(word)?;
     let packet = packet_in(&message)?;

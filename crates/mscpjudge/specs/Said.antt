@@ -72,16 +72,25 @@ served_text named = codes "in service is " ++ name_text named.connection named.r
 
 -- the words of a rule
 abbrev pub rule_text : Rule → List ℕ
+-- it answers, and every event before it has its answer
 rule_text rules.Unasked = codes "no event"
+-- it asks for events, and some event before it has no answer
 rule_text rules.Missing = codes "answer missing"
+-- a message is queued, answered or refused, and the line says something else of it
 rule_text rules.Message = codes "message"
+-- the figure of a poll or a look is another, and nothing else of a poll is
 rule_text rules.Figure = codes "figure"
+-- another end is the oldest, or there is none, or there is one
 rule_text rules.Order = codes "order of ends"
+-- the oldest end has the line's reference number, and says something else
 rule_text rules.End = codes "end"
+-- a step is to be answered, and the line says `idle` or is none of a step
 rule_text rules.Idle = codes "step"
+-- it serves a command of which none waits, or names none, while none is in service
 rule_text rules.NotWaiting = codes "not waiting"
 rule_text (rules.InService named) = served_text named
 rule_text (rules.KeptBack holder) = holder_text holder
+-- it serves a command that may be served, and says something else of it
 rule_text rules.Service = codes "service"
 
 -- the lines of a line that isn't legal, for this rule

@@ -38,20 +38,38 @@ outstanding_text s = codes "outstanding: " ++ command_text s
 
 -- what a rule is called
 abbrev pub rule_name : Rule → List ℕ
+-- a command message has 12 bytes at least
 rule_name rules.Message = codes "message"
+-- no outstanding command of a host has the reference number of another
 rule_name rules.Number = codes "reference number"
+-- a host needs a credit for each command, and keeps the last one for immediate commands
 rule_name rules.Credits = codes "credits"
+-- an end is as long as its endcode asks: 12 bytes, 16 of an ABORT, 20 of a GET COMMAND STATUS, 28 of a SET CONTROLLER
+-- CHARACTERISTICS, 32 of a transfer, 44 of an ONLINE and a SET UNIT CHARACTERISTICS, 48 of a GET UNIT STATUS
 rule_name rules.Length = codes "length"
+-- an end answers a command that is outstanding, and each once
 rule_name rules.Outstanding = codes "outstanding"
+-- it names the unit of its command, or any if that is a GET UNIT STATUS which asks for the next unit (modifier 1)
 rule_name rules.Unit = codes "unit"
+-- its endcode is the opcode and 0x80, or 0x80 alone
 rule_name rules.Endcode = codes "endcode"
+-- its status has a code that such a command may have. With 0x80 alone it is Invalid Command
 rule_name rules.Status = codes "status"
+-- a command is aborted by an ABORT, and ends before that does
 rule_name rules.Aborted = codes "aborted"
+-- of a unit no command passes a sequential one, and a sequential one passes none; Invalid Command, Command Aborted and
+-- Unit-Offline may come at once
 rule_name rules.Order = codes "order"
+-- an ABORT and a GET COMMAND STATUS succeed, also of a command that isn't outstanding
 rule_name rules.Success = codes "success"
+-- their ends name the command that they are about
 rule_name rules.About = codes "about"
+-- the status of an outstanding command is at least 1 and falls from poll to poll. It is 0 of a command that isn't
+-- outstanding
 rule_name rules.Figure = codes "figure"
+-- as many bytes are moved as were asked for, and fewer only if the status isn't Success
 rule_name rules.Count = codes "byte count"
+-- a unit's identifier, media type and size stay the same while it is online
 rule_name rules.Identity = codes "identity"
 
 -- whose rule it is
