@@ -3,6 +3,7 @@
  *
  *     cc -O2 -Iinclude bench/rounds.c libmscp.a -o rounds && ./rounds
  *     cc -O2 -Iinclude bench/rounds.c portable/mscp.c -o rounds && ./rounds
+ *     bench/plain/build . && cc -O2 -Iinclude bench/rounds.c libplain.a -lpthread -ldl -o rounds && ./rounds
  *
  * With numbers it does so many rounds once, for a count of instructions (bench/ratios has them): where so many READs wait, of so
  * many units, of one block or of one to eight, by a picker (0 is the oldest, 1 the sweep); with blocks 0 a round is a poll:

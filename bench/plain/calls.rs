@@ -1,11 +1,16 @@
 //! The calls of `mscp.h` that `bench/rounds.c` makes, over the plain queue, as a static library.
 //!
-//!     rustc -O -C panic=abort --edition 2021 --crate-type staticlib bench/plain/calls.rs -o libplain.a
+//!     bench/plain/build .
 
+mod drive;
 mod end;
+mod picker;
 mod queue;
+mod slot;
 
-use queue::{Command, Limits, Queue, Refused, Sent, Unit};
+use drive::Unit;
+use queue::{Limits, Queue, Refused, Sent};
+use slot::{Body, Command};
 
 const NOTHING: i32 = 0;
 const DONE: i32 = 1;
@@ -87,8 +92,8 @@ pub unsafe extern "C" fn mscp_init_at(
     let units: Vec<Unit> = std::slice::from_raw_parts(units, count).iter().map(unit).collect();
     let limits = Limits {
         id: limits.id,
-        budget: limits.budget,
-        credits: limits.credits as usize,
+        budget: limits.budget as u32,
+        credits: limits.credits,
         longest: limits.longest,
         timeout: limits.timeout,
     };
@@ -98,32 +103,24 @@ pub unsafe extern "C" fn mscp_init_at(
 
 fn unit(it: &CUnit) -> Unit {
     let (id, number, track, group, cylinder) = (it.id, it.number, it.track, it.group, it.cylinder);
-    Unit {
-        id,
-        number,
-        track,
-        group,
-        cylinder,
-        size: it.size,
-        media: it.media,
-        serial: it.serial,
-    }
+    Unit { id, number, track, group, cylinder, size: it.size, media: it.media, serial: it.serial }
 }
 
-fn four(bytes: &[u8], at: usize) -> u32 {
-    bytes
-        .get(at..at + 4)
-        .map_or(0, |it| u32::from_le_bytes(it.try_into().unwrap()))
-}
-
+/// The command of a message, whose bytes past the end count as zero.
+#[inline]
 fn command(bytes: &[u8]) -> Command {
-    Command {
-        reference: four(bytes, 0),
-        unit: u16::from_le_bytes([bytes[4], bytes[5]]),
-        opcode: bytes[8],
-        parameter: four(bytes, 12),
-        block: four(bytes, 28),
+    if let Some(whole) = bytes.first_chunk::<32>() {
+        return whole_command(whole);
     }
+    let mut whole = [0; 32];
+    whole[..bytes.len()].copy_from_slice(bytes);
+    whole_command(&whole)
+}
+
+#[inline]
+fn whole_command(bytes: &[u8; 32]) -> Command {
+    let four = |at: usize| u32::from_le_bytes([bytes[at], bytes[at + 1], bytes[at + 2], bytes[at + 3]]);
+    Command { reference: four(0), parameter: four(12), block: four(28), unit: four(4) as u16, opcode: bytes[8] }
 }
 
 /// # Safety
@@ -143,7 +140,7 @@ pub unsafe extern "C" fn mscp_send_at(
     let sent = (*(*handle).queue).send(command);
     (out.reference, out.aborted, out.has_aborted) = (command.reference, 0, 0);
     match sent {
-        Ok(Sent::Queued) => QUEUED,
+        Ok(Sent::Queued(_)) => QUEUED,
         Ok(Sent::Answered) => ANSWERED,
         Ok(Sent::Aborted(other)) => {
             (out.aborted, out.has_aborted) = (other, 1);
@@ -160,15 +157,16 @@ pub unsafe extern "C" fn mscp_send_at(
 #[no_mangle]
 pub unsafe extern "C" fn mscp_step(handle: *mut Handle, block: u32, out: &mut CReport) -> i32 {
     let bad = if block == 0 { None } else { Some(block as u16) };
-    let Some(it) = (*(*handle).queue).step(bad) else {
+    let queue = &mut *(*handle).queue;
+    let Some(it) = queue.step(bad) else {
         return NOTHING;
     };
     *out = CReport {
-        reference: it.reference,
+        reference: queue.slots[it.slot].command.reference,
         lbn: it.block.unwrap_or(0),
         seek: it.seek,
-        unit: it.unit,
-        status: it.ended.map_or(0, |end| end.status),
+        unit: queue.drives[it.place].unit.number,
+        status: it.ended.unwrap_or(0),
         touched: it.block.is_some().into(),
         started: it.has_started.into(),
         ended: it.ended.is_some().into(),
@@ -181,11 +179,17 @@ pub unsafe extern "C" fn mscp_step(handle: *mut Handle, block: u32, out: &mut CR
 /// As `mscp.h` says.
 #[no_mangle]
 pub unsafe extern "C" fn mscp_take(handle: *mut Handle, _via: u32, out: &mut CPacket) -> i32 {
-    let Some(end) = (*(*handle).queue).take() else {
+    let queue = &mut *(*handle).queue;
+    let Some(slot) = queue.take() else {
         return NOTHING;
     };
-    let (bytes, length) = end.bytes();
-    out.length = length as u32;
-    out.bytes[..length].copy_from_slice(&bytes[..length]);
+    let it = &queue.slots[slot];
+    out.length = end::length(it.body) as u32;
+    out.bytes[..16].copy_from_slice(&end::head(it));
+    if it.body == Body::Moved {
+        out.bytes[16..32].fill(0);
+    } else {
+        out.bytes[16..48].copy_from_slice(&end::tail(it, queue));
+    }
     DONE
 }

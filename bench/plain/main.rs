@@ -1,12 +1,18 @@
 //! Runs a script as `mscpq run FILE` does: plain Rust of the same behaviour, to be measured against.
 //!
-//!     rustc -O --edition 2021 bench/plain/main.rs -o plain && ./plain run FILE
+//!     bench/plain/build . && ./plain run FILE
 
 #![forbid(unsafe_code)]
 
+mod drive;
 mod end;
+mod picker;
 mod queue;
+mod report;
 mod script;
+mod slot;
+mod text;
+mod words;
 
 use std::io::Write;
 use std::process::ExitCode;
@@ -21,13 +27,12 @@ fn main() -> ExitCode {
         Ok(script) if word == "run" => script,
         _ => return ExitCode::from(2),
     };
-    let mut report = script::Report::default();
-    let result = script::run(&script, &mut report);
-    if std::io::stdout().write_all(&report.bytes).is_err() {
-        return ExitCode::from(1);
-    }
-    match result {
-        Ok(()) => ExitCode::SUCCESS,
+    match script::run(&script) {
+        Ok(report) => {
+            let mut out = std::io::stdout().lock();
+            let is_written = report.pieces().all(|it| out.write_all(it).is_ok());
+            ExitCode::from(u8::from(!is_written))
+        }
         Err((line, cause)) => {
             eprintln!("line {line}: {cause}");
             ExitCode::from(1)

@@ -1,9 +1,15 @@
-//! The queue as one writes it by hand, for speed and plainness: commands in a list, the oldest first, and one pass over it for
-//! each start. It keeps the same rules as the proved one, and nothing says so but that the reports are the same.
+//! The queue as one writes it by hand for speed. It keeps the same rules as the proved one, and nothing says so but
+//! that the reports are the same.
+//!
+//! A step takes as much from the figure of each command but that in service. So a clock counts what was taken, and of
+//! each command the sum of its figure and of the clock is kept, which changes at aborts alone. What is left of the
+//! oldest one's budget is its figure less its own blocks, and no other one has less left.
 
-use std::collections::VecDeque;
+use crate::drive::{Drive, Unit};
+use crate::picker::Picker;
+use crate::slot::*;
 
-use crate::end::{Body, End};
+mod serving;
 
 const SUCCESS: u16 = 0;
 const ALREADY_ONLINE: u16 = 0x0100;
@@ -14,111 +20,20 @@ const ABORTED: u16 = 2;
 const UNIT_OFFLINE: u16 = 3;
 const UNIT_AVAILABLE: u16 = 4;
 
-pub const ABORT: u8 = 1;
-pub const GET_COMMAND_STATUS: u8 = 2;
-pub const GET_UNIT_STATUS: u8 = 3;
-pub const SET_CONTROLLER: u8 = 4;
-pub const AVAILABLE: u8 = 8;
-pub const ONLINE: u8 = 9;
-pub const SET_UNIT: u8 = 10;
+/// The list of those that wait.
+const ORDER: u8 = 64;
+const NOWHERE: u8 = 255;
 
 pub struct Limits {
     pub id: u64,
-    pub budget: u64,
-    pub credits: usize,
+    pub budget: u32,
+    pub credits: u32,
     pub longest: u32,
     pub timeout: u16,
 }
 
-#[derive(Clone, Copy, Default)]
-pub struct Unit {
-    pub id: u64,
-    pub number: u16,
-    pub track: u16,
-    pub group: u16,
-    pub cylinder: u16,
-    pub size: u32,
-    pub media: u32,
-    pub serial: u32,
-}
-
-struct Drive {
-    unit: Unit,
-    blocks: u64, // of a cylinder
-    last: u32,   // its last cylinder
-    head: u32,
-    is_up: bool,
-    is_online: bool,
-}
-
-impl Drive {
-    fn cylinder(&self, block: u32) -> u32 {
-        (u64::from(block) / self.blocks) as u32
-    }
-
-    /// The cylinders that the head crosses to this one, if it goes on its way and turns at an end of the unit.
-    fn cost(&self, cylinder: u32) -> u64 {
-        let (head, to, last) = (u64::from(self.head), u64::from(cylinder), u64::from(self.last));
-        match (self.is_up, to >= head, to <= head) {
-            (true, true, _) => to - head,
-            (true, ..) => (last - head) + (last - to),
-            (_, _, true) => head - to,
-            _ => head + to,
-        }
-    }
-
-    /// The head goes to a block, which a first step may turn it for. How many cylinders that crosses.
-    fn seek(&mut self, block: u32, is_first: bool) -> u32 {
-        let to = self.cylinder(block);
-        let crossed = to.abs_diff(self.head);
-        if is_first && crossed > 0 {
-            self.is_up = to > self.head;
-        }
-        self.head = to;
-        crossed
-    }
-}
-
-/// What a message asks for.
-#[derive(Clone, Copy, Default)]
-pub struct Command {
-    pub reference: u32,
-    pub unit: u16,
-    pub opcode: u8,
-    pub parameter: u32, // bytes of a transfer, or another command's number
-    pub block: u32,
-}
-
-impl Command {
-    /// Those that are neither immediate nor sequential.
-    fn is_transfer(&self) -> bool {
-        matches!(self.opcode, 16 | 18 | 32..=34)
-    }
-
-    fn is_immediate(&self) -> bool {
-        matches!(self.opcode, ABORT..=SET_CONTROLLER)
-    }
-}
-
-struct Waiting {
-    command: Command,
-    drive: usize,
-    unit: u16, // a bit
-    is_transfer: bool,
-    cylinder: u32,
-    weight: u32,
-    done: u32,
-    room: u64, // what is left of the budget
-}
-
-impl Waiting {
-    fn left(&self) -> u64 {
-        u64::from(self.weight - self.done)
-    }
-}
-
 pub enum Sent {
-    Queued,
+    Queued(#[allow(dead_code)] usize), // reports have its slot
     Answered,
     Aborted(u32),
 }
@@ -130,299 +45,294 @@ pub enum Refused {
     Doubled,
 }
 
-/// What a step did.
-pub struct Served {
-    pub reference: u32,
-    pub unit: u16,
-    pub block: Option<u32>,
-    #[allow(dead_code)] // C is told it, and no report
-    pub has_started: bool,
-    pub seek: u32,
-    pub ended: Option<End>,
-}
-
 pub struct Queue {
-    limits: Limits,
-    sweeps: bool,
-    drives: Vec<Drive>,
-    waiting: Vec<Waiting>,
-    serving: Option<usize>,
-    ends: VecDeque<End>,
+    pub limits: Limits,
+    pub drives: Vec<Drive>,
+    pub slots: [Slot; SLOTS],
+    places: [u8; 256], // of units, by the low byte of their numbers
+    names: Names,
+    free: u64,    // the slots of no command
+    waiting: u64, // those whose command waits
+    credits: u32, // that are free
+    order: Chains,
+    sweep: Option<Box<Picker>>, // or the oldest starts
+    serving: u8,
+    stamps: [u32; SLOTS],   // of each that waits its figure and the clock, when it came
+    arrivals: [u32; SLOTS], // as the slots have them
+    last_arrival: u32,
+    clock: u32,
+    left: u32, // of all that wait
+    ends: [u8; SLOTS],
+    oldest_end: u8,
+    next_end: u8,
 }
 
 impl Queue {
     pub fn new(limits: Limits, units: &[Unit], sweeps: bool) -> Self {
-        let drive = |unit: &Unit| {
-            let blocks = u64::from(unit.track) * u64::from(unit.group) * u64::from(unit.cylinder);
-            let last = (u64::from(unit.size - 1) / blocks) as u32;
-            Drive {
-                unit: *unit,
-                blocks,
-                last,
-                head: 0,
-                is_up: true,
-                is_online: false,
-            }
-        };
-        let drives = units.iter().map(drive).collect();
+        let drives: Vec<Drive> = units.iter().map(|it| Drive::new(*it)).collect();
+        let mut places = [NOWHERE; 256];
+        for (place, unit) in units.iter().enumerate() {
+            places[usize::from(unit.number as u8)] = place as u8;
+        }
+        // Without a budget the sweep has no choice.
+        let sweeps = sweeps && limits.budget > 0;
         Self {
+            credits: limits.credits,
             limits,
-            sweeps,
+            sweep: sweeps.then(|| Box::new(Picker::new(&drives))),
             drives,
-            waiting: Vec::with_capacity(64),
-            serving: None,
-            ends: VecDeque::with_capacity(64),
+            slots: [Slot::default(); SLOTS],
+            places,
+            names: Names::new(),
+            free: !0,
+            waiting: 0,
+            order: Chains::new(),
+            serving: NONE,
+            stamps: [0; SLOTS],
+            arrivals: [0; SLOTS],
+            last_arrival: 0,
+            clock: 0,
+            left: 0,
+            ends: [0; SLOTS],
+            oldest_end: 0,
+            next_end: 0,
         }
     }
 
     #[allow(dead_code)] // a report's last line has it
-    pub fn waiting(&self) -> usize {
-        self.waiting.len()
+    pub fn waiting(&self) -> u32 {
+        self.waiting.count_ones()
     }
 
+    #[inline]
     fn refused(&self, command: &Command) -> Option<Refused> {
-        let free = self.limits.credits - self.waiting.len() - self.ends.len();
-        let reference = command.reference;
-        if free == 0 {
+        if self.credits == 0 {
             Some(Refused::NoCredit)
-        } else if free == 1 && !command.is_immediate() {
+        } else if self.credits == 1 && !command.is_immediate() {
             Some(Refused::LastCredit)
-        } else if self.waiting.iter().any(|it| it.command.reference == reference)
-            || self.ends.iter().any(|it| it.command.reference == reference)
-        {
-            Some(Refused::Doubled)
         } else {
-            None
+            self.names.find(command.reference, &self.slots).map(|_| Refused::Doubled)
         }
     }
 
+    #[inline]
     pub fn send(&mut self, command: Command) -> Result<Sent, Refused> {
-        if let Some(why) = self.refused(&command) {
-            return Err(why);
+        match self.refused(&command) {
+            Some(why) => Err(why),
+            None if command.is_transfer() => Ok(self.send_transfer(command)),
+            None => Ok(self.send_other(command)),
         }
-        let drive = match command.opcode {
-            ABORT => return Ok(self.abort(command)),
-            GET_COMMAND_STATUS => {
-                let figure = self.figure_of(command.parameter);
-                return Ok(self.answer(command, SUCCESS, Body::Status(command.parameter, figure)));
-            }
-            SET_CONTROLLER => {
-                let body = Body::Controller(self.limits.timeout, self.limits.id);
-                return Ok(self.answer(command, SUCCESS, body));
-            }
-            GET_UNIT_STATUS | AVAILABLE..=SET_UNIT | 16 | 18 | 32..=34 => {
-                self.drives.iter().position(|it| it.unit.number == command.unit)
-            }
-            _ => return Ok(self.answer(command, INVALID_OPCODE, Body::Bare)),
-        };
-        let Some(at) = drive else {
-            let body = empty(&command);
-            return Ok(self.answer(command, UNIT_OFFLINE, body));
-        };
-        let drive = &self.drives[at];
-        if command.opcode == GET_UNIT_STATUS {
-            let (status, body) = (
-                if drive.is_online { SUCCESS } else { UNIT_AVAILABLE },
-                Body::Unit(drive.unit),
-            );
-            return Ok(self.answer(command, status, body));
-        }
-        let blocks = command.parameter.div_ceil(512);
-        if command.is_transfer() {
-            if command.block >= drive.unit.size {
-                return Ok(self.answer(command, INVALID_BLOCK, Body::Moved(0)));
-            }
-            if blocks > drive.unit.size - command.block || blocks > self.limits.longest {
-                return Ok(self.answer(command, INVALID_BYTE_COUNT, Body::Moved(0)));
-            }
-        }
-        let is_transfer = command.is_transfer();
-        let (weight, cylinder) = if is_transfer {
-            (blocks.max(1), drive.cylinder(command.block))
-        } else {
-            (1, 0)
-        };
-        let room = self.limits.budget;
-        self.waiting.push(Waiting {
-            command,
-            drive: at,
-            unit: 1 << at,
-            is_transfer,
-            cylinder,
-            weight,
-            done: 0,
-            room,
-        });
-        Ok(Sent::Queued)
     }
 
-    fn answer(&mut self, command: Command, status: u16, body: Body) -> Sent {
-        self.ends.push_back(End { command, status, body });
+    /// Where a unit stands.
+    #[inline]
+    fn place(&self, number: u16) -> Option<usize> {
+        let place = usize::from(self.places[usize::from(number as u8)]);
+        match self.drives.get(place) {
+            Some(it) if it.unit.number == number => Some(place),
+            Some(_) => self.drives.iter().position(|it| it.unit.number == number),
+            None => None,
+        }
+    }
+
+    #[inline]
+    fn send_transfer(&mut self, command: Command) -> Sent {
+        let Some(place) = self.place(command.unit) else {
+            return self.answer(command, UNIT_OFFLINE, Body::Moved, 0);
+        };
+        let drive = &self.drives[place];
+        let weight = command.parameter.div_ceil(512).max(1);
+        if command.block >= drive.unit.size {
+            return self.answer(command, INVALID_BLOCK, Body::Moved, 0);
+        }
+        if weight > drive.unit.size - command.block || weight > self.limits.longest {
+            return self.answer(command, INVALID_BYTE_COUNT, Body::Moved, 0);
+        }
+        let cylinder = drive.cylinder(command.block);
+        self.wait(command, place, weight, cylinder, true)
+    }
+
+    fn send_other(&mut self, command: Command) -> Sent {
+        match command.opcode {
+            ABORT => return self.abort(command),
+            GET_COMMAND_STATUS => return self.poll(command),
+            SET_CONTROLLER => return self.answer(command, SUCCESS, Body::Controller, 0),
+            GET_UNIT_STATUS | AVAILABLE | ONLINE | SET_UNIT => {}
+            _ => return self.answer(command, INVALID_OPCODE, Body::Bare, 0),
+        }
+        let Some(place) = self.place(command.unit) else {
+            return self.answer(command, UNIT_OFFLINE, body(command.opcode), 0);
+        };
+        if command.opcode != GET_UNIT_STATUS {
+            return self.wait(command, place, 1, 0, false);
+        }
+        let status = if self.drives[place].is_online { SUCCESS } else { UNIT_AVAILABLE };
+        let slot = self.end_at_once(command, status, Body::Unit, 0);
+        self.slots[slot].place = place as u8;
         Sent::Answered
     }
 
-    fn abort(&mut self, command: Command) -> Sent {
-        let place = self
-            .waiting
-            .iter()
-            .position(|it| it.command.reference == command.parameter);
-        if let Some(place) = place {
-            let it = self.waiting.remove(place);
-            self.serving = match self.serving {
-                Some(at) if at == place => None,
-                Some(at) if at > place => Some(at - 1),
-                other => other,
-            };
-            let body = if it.command.is_transfer() {
-                Body::Moved(it.done * 512)
-            } else {
-                empty(&it.command)
-            };
-            self.ends.push_back(End {
-                command: it.command,
-                status: ABORTED,
-                body,
-            });
-        }
-        self.answer(command, SUCCESS, Body::Abort(command.parameter));
-        place.map_or(Sent::Answered, |_| Sent::Aborted(command.parameter))
+    /// A command takes a free slot.
+    #[inline]
+    fn enter(&mut self, command: &Command) -> usize {
+        let slot = self.free.trailing_zeros() as usize & 63;
+        self.free &= self.free - 1;
+        self.credits -= 1;
+        self.names.turn(command.reference, slot);
+        slot
     }
 
-    /// The figure of each waiting command, oldest first.
-    pub fn figures(&self) -> impl Iterator<Item = (u32, u64)> + '_ {
-        let mut before = 0;
-        let served = self.serving.map_or(0, |at| self.waiting[at].left());
-        self.waiting.iter().enumerate().map(move |(place, it)| {
-            let later = if self.serving.is_some_and(|at| at > place) {
-                served
-            } else {
-                0
-            };
-            let figure = match self.serving {
-                Some(at) if at == place => it.left(),
-                _ => before + later + it.room + it.left(),
-            };
-            before += it.left();
-            (it.command.reference, figure)
+    #[inline]
+    fn wait(&mut self, command: Command, place: usize, weight: u32, cylinder: u32, is_transfer: bool) -> Sent {
+        let slot = self.enter(&command);
+        self.waiting |= 1 << slot;
+        self.last_arrival = self.last_arrival.wrapping_add(1);
+        self.left += weight;
+        self.stamps[slot] = (self.left + self.limits.budget).wrapping_add(self.clock);
+        self.arrivals[slot] = self.last_arrival;
+        let it = &mut self.slots[slot];
+        it.command = command;
+        it.arrival = self.last_arrival;
+        it.cylinder = cylinder;
+        it.weight = weight;
+        it.done = 0;
+        it.place = place as u8;
+        it.is_transfer = is_transfer;
+        self.order.push(ORDER, slot as u8);
+        if let Some(picker) = &mut self.sweep {
+            picker.insert(slot, &self.slots, &self.drives);
+        }
+        Sent::Queued(slot)
+    }
+
+    #[inline]
+    fn end_at_once(&mut self, command: Command, status: u16, body: Body, figure: u32) -> usize {
+        let slot = self.enter(&command);
+        let it = &mut self.slots[slot];
+        (it.command, it.figure, it.place) = (command, figure, NOWHERE);
+        if body == Body::Moved {
+            it.command.parameter = 0;
+        }
+        self.end(slot, status, body);
+        slot
+    }
+
+    #[inline]
+    fn answer(&mut self, command: Command, status: u16, body: Body, figure: u32) -> Sent {
+        self.end_at_once(command, status, body, figure);
+        Sent::Answered
+    }
+
+    /// The end of a slot's command stands behind all others.
+    #[inline]
+    fn end(&mut self, slot: usize, status: u16, body: Body) {
+        let it = &mut self.slots[slot];
+        (it.status, it.body) = (status, body);
+        self.ends[usize::from(self.next_end & 63)] = slot as u8;
+        self.next_end = self.next_end.wrapping_add(1);
+    }
+
+    /// The slot of a command that waits.
+    #[inline]
+    fn find(&self, reference: u32) -> Option<usize> {
+        let slot = self.names.find(reference, &self.slots)?;
+        (self.waiting >> slot & 1 == 1).then_some(slot)
+    }
+
+    #[inline]
+    fn poll(&mut self, command: Command) -> Sent {
+        let figure = self.find(command.parameter).map_or(0, |it| self.figure(it));
+        self.answer(command, SUCCESS, Body::Status, figure)
+    }
+
+    #[inline]
+    fn figure(&self, slot: usize) -> u32 {
+        self.stamps[slot].wrapping_sub(self.clock)
+    }
+
+    /// The slot and the figure of each waiting command, oldest first.
+    #[allow(dead_code)] // reports have it
+    #[inline]
+    pub fn figures(&self) -> impl Iterator<Item = (usize, u32)> + '_ {
+        let mut at = ORDER;
+        std::iter::from_fn(move || {
+            at = self.order.next(at);
+            (at != ORDER).then(|| (usize::from(at & 63), self.figure(usize::from(at & 63))))
         })
     }
 
-    fn figure_of(&self, reference: u32) -> u32 {
-        self.figures().find(|it| it.0 == reference).map_or(0, |it| it.1 as u32)
+    fn abort(&mut self, command: Command) -> Sent {
+        let Some(slot) = self.find(command.parameter) else {
+            return self.answer(command, SUCCESS, Body::Abort, 0);
+        };
+        self.take_back(slot);
+        let it = &mut self.slots[slot];
+        if it.is_transfer {
+            it.command.parameter = it.done * 512;
+        }
+        it.place = NOWHERE;
+        let body = body(it.command.opcode);
+        self.end(slot, ABORTED, body);
+        self.answer(command, SUCCESS, Body::Abort, 0);
+        Sent::Aborted(command.parameter)
     }
 
-    /// The place of the command that starts: of those that may, the one with the least cost, or the oldest.
-    fn pick(&self) -> usize {
-        let (mut sequential, mut any) = (0u16, 0u16);
-        let (mut room, mut best, mut least) = (u64::MAX, 0, u64::MAX);
-        for (place, it) in self.waiting.iter().enumerate() {
-            let fence = if it.is_transfer { sequential } else { any };
-            if fence & it.unit == 0 && u64::from(it.weight) <= room {
-                if !self.sweeps {
-                    return place;
-                }
-                let cost = if it.is_transfer {
-                    self.drives[it.drive].cost(it.cylinder)
-                } else {
-                    0
-                };
-                if cost < least {
-                    (best, least) = (place, cost);
-                }
+    /// What an aborted command had left goes from the figures: of all if it was in service, or of those after it.
+    fn take_back(&mut self, slot: usize) {
+        let left = self.slots[slot].left();
+        if usize::from(self.serving) == slot {
+            self.serving = NONE;
+            self.clock = self.clock.wrapping_add(left);
+        } else {
+            let since = self.arrivals[slot];
+            // Of slots that have no command it does no harm, and four go at once.
+            for (stamp, arrival) in self.stamps.iter_mut().zip(&self.arrivals) {
+                *stamp = stamp.wrapping_sub(if is_later(*arrival, since) { left } else { 0 });
             }
-            room = room.min(it.room);
-            any |= it.unit;
-            if !it.is_transfer {
-                sequential |= it.unit;
+            if let Some(it) = self.slots.get(usize::from(self.serving)) {
+                self.stamps[usize::from(self.serving)] = self.clock.wrapping_add(it.left());
             }
         }
-        best
+        self.leave(slot, left);
     }
 
-    /// A step, whose block is good if it has no status.
-    pub fn step(&mut self, bad: Option<u16>) -> Option<Served> {
-        if self.waiting.is_empty() {
+    /// A command waits no longer, and had so much left.
+    #[inline]
+    fn leave(&mut self, slot: usize, left: u32) {
+        self.waiting &= !(1 << slot);
+        self.left -= left;
+        self.order.remove(slot as u8);
+        if let Some(picker) = &mut self.sweep {
+            picker.remove(slot, &self.slots);
+        }
+    }
+
+    /// The oldest end is taken: its slot is free then, and tells of the end until the next message.
+    #[inline]
+    pub fn take(&mut self) -> Option<usize> {
+        if self.oldest_end == self.next_end {
             return None;
         }
-        let place = match self.serving {
-            Some(place) => place,
-            None => self.start(),
-        };
-        let it = &mut self.waiting[place];
-        let (command, drive) = (it.command, &mut self.drives[it.drive]);
-        let (has_started, touches) = (it.done == 0, command.is_transfer() && drive.is_online);
-        let block = touches.then(|| command.block + it.done);
-        let seek = block.map_or(0, |block| drive.seek(block, has_started));
-        let ended = if touches && bad.is_none() {
-            it.done += 1;
-            let body = Body::Moved(command.parameter);
-            (it.done == it.weight).then_some((SUCCESS, body))
-        } else if command.is_transfer() {
-            let status = if touches {
-                bad.unwrap_or(SUCCESS)
-            } else {
-                UNIT_AVAILABLE
-            };
-            Some((status, Body::Moved(it.done * 512)))
-        } else {
-            Some(bad.map_or_else(|| follow(drive, command.opcode), |status| (status, empty(&command))))
-        };
-        let ended = ended.map(|(status, body)| End { command, status, body });
-        self.serving = if ended.is_some() { None } else { Some(place) };
-        if let Some(end) = ended {
-            self.waiting.remove(place);
-            self.ends.push_back(end);
-        }
-        Some(Served {
-            reference: command.reference,
-            unit: command.unit,
-            block,
-            has_started,
-            seek,
-            ended,
-        })
+        let slot = usize::from(self.ends[usize::from(self.oldest_end & 63)] & 63);
+        self.oldest_end = self.oldest_end.wrapping_add(1);
+        self.free |= 1 << slot;
+        self.credits += 1;
+        self.names.turn(self.slots[slot].command.reference, slot);
+        Some(slot)
     }
 
-    /// A command starts, and passes each earlier one. Its place.
-    fn start(&mut self) -> usize {
-        let place = self.pick();
-        let weight = u64::from(self.waiting[place].weight);
-        for earlier in &mut self.waiting[..place] {
-            earlier.room -= weight;
-        }
-        place
-    }
-
-    pub fn take(&mut self) -> Option<End> {
-        self.ends.pop_front()
+    /// What an end tells of its unit.
+    pub fn unit(&self, it: &Slot) -> Unit {
+        self.drives.get(usize::from(it.place)).map_or(Unit::default(), |drive| drive.unit)
     }
 }
 
-/// A command with a good step that isn't a transfer: what becomes of its unit, and its end.
-fn follow(drive: &mut Drive, opcode: u8) -> (u16, Body) {
-    let was_online = drive.is_online;
+/// What an end of this opcode has.
+fn body(opcode: u8) -> Body {
     match opcode {
-        AVAILABLE => {
-            drive.is_online = false;
-            (SUCCESS, Body::Bare)
-        }
-        ONLINE => {
-            drive.is_online = true;
-            (
-                if was_online { ALREADY_ONLINE } else { SUCCESS },
-                Body::Online(drive.unit),
-            )
-        }
-        _ => (SUCCESS, Body::Online(drive.unit)),
-    }
-}
-
-/// The body of a command that failed.
-fn empty(command: &Command) -> Body {
-    match command.opcode {
-        GET_UNIT_STATUS => Body::Unit(Unit::default()),
-        ONLINE | SET_UNIT => Body::Online(Unit::default()),
+        GET_UNIT_STATUS => Body::Unit,
+        ONLINE | SET_UNIT => Body::Online,
         AVAILABLE => Body::Bare,
-        _ => Body::Moved(0),
+        _ => Body::Moved,
     }
 }

@@ -1,343 +1,233 @@
-//! Scripts and reports, as one writes them by hand. The lines are those of one connection, without `packet` and `second`.
+//! Runs scripts. The lines are those of one connection, without `packet` and `second`. A line of an event that is
+//! written in the usual way, its words one space apart, is read where it stands; any other is left to `words`.
 
-use crate::queue::{self, Command, Limits, Queue, Refused, Sent, Unit};
+use crate::queue::Queue;
+use crate::report::Report;
+use crate::slot::*;
+use crate::text;
+use crate::words::{Cause, Event, Header, Words};
 
+const SIZE: usize = 16 << 20;
 const LINES: usize = 1_000_000;
 const EVENTS: u32 = 1_000_000;
-const LONGEST_LINE: usize = 200;
 
 /// A line, and what is wrong with it.
-pub type Fault = (usize, &'static str);
+pub type Fault = (usize, Cause);
 
-struct Words<'a> {
-    rest: &'a [u8],
+/// The first bytes of a line as a number.
+const fn word(text: &[u8]) -> u64 {
+    let (mut word, mut at) = (0, 0);
+    while at < text.len() {
+        word |= (text[at] as u64) << (8 * at);
+        at += 1;
+    }
+    word
 }
 
-impl<'a> Words<'a> {
-    fn next(&mut self) -> Option<&'a [u8]> {
-        let begin = self.rest.iter().position(|b| *b != b' ')?;
-        let rest = &self.rest[begin..];
-        let end = rest.iter().position(|b| *b == b' ').unwrap_or(rest.len());
-        let (word, rest) = rest.split_at(end);
-        self.rest = rest;
-        Some(word)
+const TAKE: u64 = word(b"take\n");
+const STEP: u64 = word(b"step ");
+const LOOK: u64 = word(b"look\n");
+const READS: u64 = word(b"read ");
+const WRITES: u64 = word(b"write ");
+const ERASES: u64 = word(b"erase ");
+const ABORTS: u64 = word(b"abort ");
+const ACCESSES: u64 = word(b"access ");
+const POLLS: u64 = word(b"status ");
+const ONLINES: u64 = word(b"online ");
+const COMPARES: u64 = word(b"compare ");
+const SET_UNITS: u64 = word(b"setunit ");
+
+/// The text from a line's first byte on, more than an event takes in the usual way.
+struct Text<'a> {
+    bytes: &'a [u8; 72],
+    at: usize,
+}
+
+impl Text<'_> {
+    #[inline]
+    fn eight(&self) -> u64 {
+        let at = self.at & 63; // it stays below: the compiler doesn't know
+        u64::from_le_bytes(self.bytes[at..at + 8].try_into().expect("they are eight"))
     }
 
-    fn number(&mut self) -> Result<u32, &'static str> {
-        let word = self.next().ok_or("count")?;
-        if word.len() > 10 || !word.iter().all(u8::is_ascii_digit) {
-            return Err("number");
+    /// A number of at most seven digits, and the byte behind it.
+    #[inline]
+    fn number(&mut self, end: u8) -> Option<u32> {
+        let text = self.eight();
+        let (length, number) = text::read(text);
+        if length == 0 || (text >> (8 * length)) as u8 != end {
+            return None;
         }
-        let number = word.iter().fold(0u64, |sum, b| sum * 10 + u64::from(b - b'0'));
-        u32::try_from(number).map_err(|_| "number")
+        self.at += length as usize + 1;
+        Some(number)
     }
 
-    fn short(&mut self) -> Result<u16, &'static str> {
-        u16::try_from(self.number()?).map_err(|_| "number")
+    /// The same of a number that has most often one digit.
+    #[inline]
+    fn small(&mut self, end: u8) -> Option<u32> {
+        let text = self.eight();
+        let first = (text as u8).wrapping_sub(b'0');
+        if first >= 10 || (text >> 8) as u8 != end {
+            return self.number(end);
+        }
+        self.at += 2;
+        Some(first.into())
     }
 
-    fn end(&mut self) -> Result<(), &'static str> {
-        if self.next().is_none() {
-            Ok(())
+    #[inline]
+    fn event(&mut self) -> Option<Event> {
+        let text = self.eight();
+        let begins = |length: u32| text & !0 >> (64 - 8 * length);
+        let (opcode, length) = match (begins(5), begins(6), begins(7), text) {
+            (TAKE, ..) => return self.bare(Event::Take),
+            (STEP, ..) => return self.steps(),
+            (READS, ..) => (READ, 5),
+            (LOOK, ..) => return self.bare(Event::Look),
+            (_, WRITES, ..) => (WRITE, 6),
+            (_, ERASES, ..) => (ERASE, 6),
+            (_, ABORTS, ..) => (ABORT, 6),
+            (_, _, ACCESSES, _) => (ACCESS, 7),
+            (_, _, POLLS, _) => (GET_COMMAND_STATUS, 7),
+            (_, _, ONLINES, _) => (ONLINE, 7),
+            (.., COMPARES) => (COMPARE, 8),
+            (.., SET_UNITS) => (SET_UNIT, 8),
+            _ => return None,
+        };
+        self.at = length;
+        let reference = self.number(b' ')?;
+        let mut it = Command { reference, opcode, ..Command::default() };
+        if it.is_transfer() {
+            it.unit = self.small(b' ')?.try_into().ok()?;
+            it.parameter = self.number(b' ')?;
+            it.block = self.number(b'\n')?;
+        } else if it.is_immediate() {
+            it.parameter = self.number(b'\n')?;
         } else {
-            Err("count")
+            it.unit = self.small(b'\n')?.try_into().ok()?;
         }
+        Some(Event::Send(it))
+    }
+
+    #[inline]
+    fn bare(&mut self, event: Event) -> Option<Event> {
+        self.at = 5;
+        Some(event)
+    }
+
+    #[inline]
+    fn steps(&mut self) -> Option<Event> {
+        self.at = 5;
+        let steps = self.small(b'\n')?;
+        (1..=1000).contains(&steps).then_some(Event::Step(steps))
     }
 }
 
-struct Header {
-    numbers: [u64; 4],
-    is_times: bool,
-    units: Vec<Unit>,
+/// A script, and where the reader stands.
+struct Reader<'a> {
+    script: &'a [u8],
+    at: usize,
+    line: usize,
 }
 
-impl Header {
-    /// A line of the header. Whether it was the last one.
-    fn line(&mut self, step: usize, word: &[u8], words: &mut Words) -> Result<bool, &'static str> {
-        match (step, word) {
-            (0, b"credits") | (1, b"budget" | b"passing") | (2, b"longest") => {
-                self.numbers[step] = words.number()?.into();
-                self.is_times |= word == b"passing";
+impl<'a> Reader<'a> {
+    /// The next line, if there is one.
+    fn line(&mut self) -> Option<&'a [u8]> {
+        let rest = self.script.get(self.at..).filter(|it| !it.is_empty())?;
+        let length = rest.iter().position(|it| *it == b'\n').unwrap_or(rest.len());
+        self.at += length + 1;
+        Some(&rest[..length])
+    }
+
+    /// An event that is written in the usual way.
+    #[inline]
+    fn usual(&mut self) -> Option<Event> {
+        let bytes = self.script.get(self.at..)?.first_chunk()?;
+        let mut text = Text { bytes, at: 0 };
+        let event = text.event()?;
+        self.at += text.at;
+        Some(event)
+    }
+
+    /// An event that is written in any way, or nothing if the line is skipped.
+    #[inline(never)]
+    fn unusual(&mut self) -> Result<Option<Event>, Cause> {
+        let line = self.line().unwrap_or(&[]);
+        let mut words = Words::of(line)?;
+        words.next().map(|word| words.event(word)).transpose()
+    }
+}
+
+/// The lines up to `go`.
+fn header(reader: &mut Reader) -> Result<Queue, Cause> {
+    let mut header = Header::default();
+    loop {
+        reader.line += 1;
+        let line = reader.line().ok_or("header")?;
+        if reader.line > LINES {
+            return Err("lines");
+        }
+        let mut words = Words::of(line)?;
+        if let Some(word) = words.next() {
+            if let Some(queue) = header.line(word, &mut words)? {
+                return Ok(queue);
             }
-            (3, b"timeout") => self.numbers[3] = words.short()?.into(),
-            (4.., b"unit") => self.unit(words)?,
-            (5.., b"go") => return words.end().map(|()| true),
-            _ => return Err("word"),
         }
-        words.end().map(|()| false)
     }
+}
 
-    fn unit(&mut self, words: &mut Words) -> Result<(), &'static str> {
-        let number = words.short()?;
-        let (track, group, cylinder, size) = (words.short()?, words.short()?, words.short()?, words.number()?);
-        let is_behind = self.units.last().map_or(true, |it| it.number < number);
-        if track == 0 || group == 0 || cylinder == 0 || size == 0 || !is_behind || self.units.len() == 16 {
-            return Err("unit");
+/// What a script does to the queue.
+struct Run {
+    queue: Queue,
+    report: Report,
+    left: u32, // of the events that may come
+}
+
+impl Run {
+    #[inline(always)]
+    fn act(&mut self, event: Event) -> Result<(), Cause> {
+        let count = if let Event::Step(steps) = event { steps } else { 1 };
+        self.left = self.left.checked_sub(count).ok_or("events")?;
+        match event {
+            Event::Step(steps) => self.report.steps(&mut self.queue, steps, None),
+            Event::Bad(status) => self.report.steps(&mut self.queue, 1, Some(status)),
+            Event::Take => self.report.take(&mut self.queue),
+            Event::Look => self.report.look(&self.queue),
+            Event::Send(command) => self.report.sent(command.reference, &self.queue.send(command)),
         }
-        let id = u64::from(number) + 1;
-        self.units.push(Unit {
-            id,
-            number,
-            track,
-            group,
-            cylinder,
-            size,
-            media: 0,
-            serial: id as u32,
-        });
         Ok(())
     }
 
-    fn queue(&self) -> Result<Queue, &'static str> {
-        let [credits, budget, longest, timeout] = self.numbers;
-        let budget = if self.is_times { budget * longest } else { budget };
-        let is_lawful = (2..=64).contains(&credits)
-            && (1..=8_388_608).contains(&longest)
-            && (1..=255).contains(&timeout)
-            && (credits - 1) * longest + budget < 1 << 32;
-        if !is_lawful {
-            return Err("config");
-        }
-        let limits = Limits {
-            id: 1,
-            budget,
-            credits: credits as usize,
-            longest: longest as u32,
-            timeout: timeout as u16,
-        };
-        Ok(Queue::new(limits, &self.units, true))
-    }
-}
-
-/// A report that grows.
-#[derive(Default)]
-pub struct Report {
-    pub bytes: Vec<u8>,
-    steps: u32,
-    seeks: u64,
-    events: u32,
-}
-
-impl Report {
-    fn text(&mut self, text: &str) {
-        self.bytes.extend_from_slice(text.as_bytes());
+    #[inline(never)]
+    fn act_on_unusual(&mut self, reader: &mut Reader) -> Result<(), Cause> {
+        reader.unusual()?.map_or(Ok(()), |event| self.act(event))
     }
 
-    fn number(&mut self, mut number: u64) {
-        let (mut digits, mut at) = ([0; 20], 20);
-        loop {
-            at -= 1;
-            digits[at] = b'0' + (number % 10) as u8;
-            number /= 10;
-            if number == 0 {
-                break;
+    fn events(&mut self, reader: &mut Reader) -> Result<(), Cause> {
+        while reader.at < reader.script.len() {
+            reader.line += 1;
+            if reader.line > LINES {
+                return Err("lines");
+            }
+            match reader.usual() {
+                Some(event) => self.act(event)?,
+                None => self.act_on_unusual(reader)?,
             }
         }
-        self.bytes.extend_from_slice(&digits[at..]);
-    }
-
-    fn hex(&mut self, bytes: &[u8]) {
-        const DIGITS: &[u8; 16] = b"0123456789abcdef";
-        self.bytes.extend(
-            bytes
-                .iter()
-                .flat_map(|b| [DIGITS[usize::from(b >> 4)], DIGITS[usize::from(b & 15)]]),
-        );
-    }
-
-    fn sent(&mut self, reference: u32, sent: Result<Sent, Refused>) {
-        match sent {
-            Ok(Sent::Queued) => self.text("queued "),
-            Ok(_) => self.text("answered "),
-            Err(Refused::NoCredit) => return self.text("refused no-credit\n"),
-            Err(Refused::LastCredit) => return self.text("refused last-credit\n"),
-            Err(Refused::Doubled) => return self.text("refused doubled\n"),
-        }
-        self.number(reference.into());
-        if let Ok(Sent::Aborted(other)) = sent {
-            self.text(" aborted ");
-            self.number(other.into());
-        }
-        self.text("\n");
-    }
-
-    fn step(&mut self, queue: &mut Queue, bad: Option<u16>) {
-        self.steps += 1;
-        let Some(served) = queue.step(bad) else {
-            return self.text("idle\n");
-        };
-        self.seeks += u64::from(served.seek);
-        self.text("serve ");
-        self.number(served.reference.into());
-        self.text(" unit ");
-        self.number(served.unit.into());
-        self.text(" block ");
-        match served.block {
-            Some(block) => self.number(block.into()),
-            None => self.text("none"),
-        }
-        self.text(" seek ");
-        self.number(served.seek.into());
-        if let Some(end) = served.ended {
-            self.text(" ended ");
-            self.hex(&end.status.to_be_bytes());
-        }
-        self.text("\n");
-    }
-
-    fn take(&mut self, queue: &mut Queue) {
-        let Some(end) = queue.take() else {
-            return self.text("none\n");
-        };
-        let (bytes, length) = end.bytes();
-        self.text("end ");
-        self.hex(&bytes[..length]);
-        self.text("\n");
-    }
-
-    fn look(&mut self, queue: &Queue) {
-        for (reference, figure) in queue.figures() {
-            self.text("figure ");
-            self.number(reference.into());
-            self.text(" ");
-            self.number(figure);
-            self.text("\n");
-        }
-    }
-
-    /// So many events more, if they aren't too many.
-    fn count(&mut self, events: u32) -> Result<(), &'static str> {
-        self.events += events;
-        if self.events > EVENTS {
-            Err("events")
-        } else {
-            Ok(())
-        }
-    }
-
-    fn event(&mut self, queue: &mut Queue, word: &[u8], words: &mut Words) -> Result<(), &'static str> {
-        match word {
-            b"step" => {
-                let steps = words.number()?;
-                words.end()?;
-                if !(1..=1000).contains(&steps) {
-                    return Err("number");
-                }
-                self.count(steps)?;
-                (0..steps).for_each(|_| self.step(queue, None));
-            }
-            b"bad" => {
-                let word = words.next().ok_or("count")?;
-                words.end()?;
-                let digits = std::str::from_utf8(word).ok().filter(|it| it.len() == 4).ok_or("hex")?;
-                let status = u16::from_str_radix(digits, 16).map_err(|_| "hex")?;
-                if status % 32 < 5 {
-                    return Err("status");
-                }
-                self.count(1)?;
-                self.step(queue, Some(status));
-            }
-            b"take" => {
-                words.end()?;
-                self.count(1)?;
-                self.take(queue);
-            }
-            b"look" => {
-                words.end()?;
-                self.count(1)?;
-                self.look(queue);
-            }
-            _ => {
-                let command = command(word, words)?;
-                self.count(1)?;
-                let sent = queue.send(command);
-                self.sent(command.reference, sent);
-            }
-        }
+        self.report.totals(self.queue.waiting());
         Ok(())
     }
 }
 
-/// The command of a line.
-fn command(word: &[u8], words: &mut Words) -> Result<Command, &'static str> {
-    let opcode = match word {
-        b"abort" => queue::ABORT,
-        b"status" => queue::GET_COMMAND_STATUS,
-        b"unitstatus" => queue::GET_UNIT_STATUS,
-        b"setcontroller" => queue::SET_CONTROLLER,
-        b"available" => queue::AVAILABLE,
-        b"online" => queue::ONLINE,
-        b"setunit" => queue::SET_UNIT,
-        b"access" => 16,
-        b"erase" => 18,
-        b"compare" => 32,
-        b"read" => 33,
-        b"write" => 34,
-        _ => return Err("word"),
-    };
-    let mut it = Command {
-        reference: words.number()?,
-        opcode,
-        ..Command::default()
-    };
-    match opcode {
-        queue::ABORT | queue::GET_COMMAND_STATUS => it.parameter = words.number()?,
-        queue::SET_CONTROLLER => {}
-        queue::GET_UNIT_STATUS..=queue::SET_UNIT => it.unit = words.short()?,
-        _ => (it.unit, it.parameter, it.block) = (words.short()?, words.number()?, words.number()?),
+/// The report of a script, or its first fault.
+pub fn run(script: &[u8]) -> Result<Report, Fault> {
+    if script.len() > SIZE {
+        return Err((0, "size"));
     }
-    words.end().map(|()| it)
-}
-
-/// The report of a script, up to its first fault.
-pub fn run(script: &[u8], report: &mut Report) -> Result<(), Fault> {
-    let mut header = Header {
-        numbers: [0; 4],
-        is_times: false,
-        units: Vec::new(),
-    };
-    let (mut queue, mut step, mut count) = (None, 0, 0);
-    for (at, line) in script.split(|b| *b == b'\n').enumerate() {
-        let number = at + 1;
-        count = number;
-        if at + 1 > LINES && at * 2 < script.len() {
-            return Err((number, "lines"));
-        }
-        let line = line.strip_suffix(b"\r").unwrap_or(line);
-        if line.len() > LONGEST_LINE {
-            return Err((number, "long"));
-        }
-        if line.first() == Some(&b'#') {
-            continue;
-        }
-        if !line.iter().all(|b| (b' '..=b'~').contains(b)) {
-            return Err((number, "byte"));
-        }
-        let mut words = Words { rest: line };
-        let Some(word) = words.next() else { continue };
-        match &mut queue {
-            Some(queue) => report.event(queue, word, &mut words).map_err(|cause| (number, cause))?,
-            None => {
-                if header.line(step, word, &mut words).map_err(|cause| (number, cause))? {
-                    queue = Some(header.queue().map_err(|cause| (number, cause))?);
-                }
-                step += 1;
-            }
-        }
-    }
-    let queue = queue.ok_or((count, "header"))?;
-    report.totals(&queue);
-    Ok(())
-}
-
-impl Report {
-    fn totals(&mut self, queue: &Queue) {
-        self.text("steps ");
-        self.number(self.steps.into());
-        self.text(" seeks ");
-        self.number(self.seeks);
-        self.text(" pending ");
-        self.number(queue.waiting() as u64);
-        self.text("\n");
+    let mut reader = Reader { script, at: 0, line: 0 };
+    let queue = header(&mut reader).map_err(|cause| (reader.line, cause))?;
+    let mut run = Run { report: Report::new(&queue), queue, left: EVENTS };
+    match run.events(&mut reader) {
+        Ok(()) => Ok(run.report),
+        Err(cause) => Err((reader.line, cause)),
     }
 }
