@@ -305,11 +305,11 @@ enum mscp_stage {
 /* How an action went. */
 enum mscp_outcome {
     MSCP_OUTCOME_DONE = 0,
-    MSCP_OUTCOME_MISSING = 1,   /* not all of that memory is there */
-    MSCP_OUTCOME_PARITY = 2,    /* it has a parity error */
+    MSCP_OUTCOME_MISSING = 1,   /* not all of the host's memory is there */
+    MSCP_OUTCOME_PARITY = 2,    /* the host's memory has a parity error */
     MSCP_OUTCOME_UNMAPPED = 3,  /* the bus maps no memory there */
     MSCP_OUTCOME_DIFFERENT = 4, /* the bytes that were compared differ */
-    MSCP_OUTCOME_FAILED = 5     /* the block couldn't be moved: its command ends with the status reported beside it */
+    MSCP_OUTCOME_FAILED = 5     /* the block couldn't be read or written, and its command ends with the status beside it */
 };
 
 /* A handle on memory of yours: where it is, and what is in it. Nothing in it is for you, save if the memory moves:
@@ -1107,9 +1107,9 @@ MSCP_INLINE int32_t mscp_port_restore(struct mscp_port *port, const uint8_t *byt
 
 /* Runs a script of `length` bytes through a controller of its own, as the program mscpq does, and writes the report to the
  * front of the room, of `*count` bytes. MSCP_DONE; MSCP_SMALL, if the room has fewer than twice as many bytes as the
- * report, or of a faulty script as the report of the lines before the fault; or MSCP_SCRIPT_SIZE to _EVENTS, what is
- * wrong in line `*line`, the first in which something is. Whatever it answers, all of the room may be written over. This
- * takes up to 60 KiB of the stack. */
+ * report, or if half of the room, rounded up, has fewer than the report of the lines before a fault; or MSCP_SCRIPT_SIZE
+ * to _EVENTS, what is wrong in line `*line`, the first in which something is. Whatever it answers, all of the room may be
+ * written over. This takes up to 60 KiB of the stack. */
 MSCP_MUST_USE
 MSCP_INLINE int32_t mscp_run_script(const uint8_t *script, size_t length, uint8_t *bytes, size_t room, size_t *count,
                                     uint32_t *line)
