@@ -143,7 +143,7 @@ static void keep(struct emulator *emulator, uint32_t reference, uint32_t address
     emulator->buffers[emulator->buffers_count++] = buffer;
 }
 
-/* Takes the oldest command in. Whether its slot is free then: one without a credit waits in the ring for one. */
+/* Takes the oldest command in. True if its slot is free then: without a credit the command waits there. */
 static bool receive_one(struct emulator *emulator)
 {
     const struct posted *slot = &emulator->commands[0];

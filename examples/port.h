@@ -16,7 +16,7 @@ struct port_bus {
     enum mscp_outcome (*read)(void *machine, uint32_t address, uint8_t *bytes, uint32_t count);
     enum mscp_outcome (*write)(void *machine, uint32_t address, const uint8_t *bytes, uint32_t count);
     void (*interrupt)(void *machine, uint16_t vector);
-    /* A block of 512 bytes of a unit's volume. Whether it could be read or written: a block that was written can be read. */
+    /* A block of 512 bytes of a unit's volume. True if it was read or written; what was written can be read then. */
     bool (*read_block)(void *machine, uint16_t unit, uint32_t block, uint8_t *bytes);
     bool (*write_block)(void *machine, uint16_t unit, uint32_t block, const uint8_t *bytes);
     /* So many blocks of it at once, from one on, of one command and in one turn; NULL if the machine has no such calls. If one
