@@ -21562,7 +21562,7 @@ L1:;
     return;
 }
 
-/* mscp_c::mscp_run_script_at, crates/mscp_c/src/running.rt:37 */
+/* mscp_c::mscp_run_script_at, crates/mscp_c/src/running.rt:38 */
 APART u32 export_mscp_run_script_at(u64 v0, u64 v1, u64 v2, u64 v3, u64 v4, u64 v5)
 {
     ROOM(frame, 40352);
@@ -22849,7 +22849,7 @@ L1:;
     return v4;
 }
 
-/* mscp_text::words::put_two, crates/mscp_text/src/words.rt:34 */
+/* mscp_text::words::put_two, crates/mscp_text/src/words.rt:40 */
 static u32 words_put_two(u64 v0, u64 v1, u64 v2, u32 v3, u32 v4)
 {
     ROOM(frame, 48);
@@ -22926,7 +22926,7 @@ L2:;
     TRAP();
 }
 
-/* mscp_text::words::put_two, crates/mscp_text/src/words.rt:34 */
+/* mscp_text::words::put_two, crates/mscp_text/src/words.rt:40 */
 static u32 words_put_two_2(u64 v0, u64 v1, u64 v2, u32 v3, u64 v4, u64 v5, u32 v6)
 {
     ROOM(frame, 48);
@@ -23008,7 +23008,7 @@ L2:;
     TRAP();
 }
 
-/* mscp_text::words::put_two, crates/mscp_text/src/words.rt:34 */
+/* mscp_text::words::put_two, crates/mscp_text/src/words.rt:40 */
 static u32 words_put_two_3(u64 v0, u64 v1, u32 v2)
 {
     ROOM(frame, 48);
@@ -23074,7 +23074,7 @@ L2:;
     TRAP();
 }
 
-/* mscp_c::mscp_show_packet_at, crates/mscp_c/src/running.rt:77 */
+/* mscp_c::mscp_show_packet_at, crates/mscp_c/src/running.rt:79 */
 APART u32 export_mscp_show_packet_at(u64 v0, u64 v1, u64 v2, u64 v3, u64 v4)
 {
     ROOM(frame, 288);
