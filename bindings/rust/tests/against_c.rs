@@ -219,12 +219,7 @@ fn poll(safe: &mut Host, c: &mut Raw, controller: &mut Controller, reference: u3
     let told = safe.poll(reference);
     // SAFETY: the handle is that of a host that was made; `message` is there.
     let number = unsafe { raw::mscp_host_poll(c.handle(), reference, &mut message) };
-    let in_c = |it: &Poll| match it {
-        Poll::Send(_) => status::DONE,
-        Poll::Busy => status::BUSY,
-        Poll::Nothing => status::NOTHING,
-    };
-    assert_eq!(status_of(&told, in_c), number);
+    assert_eq!(status_of(&told, |it| it.in_c()), number);
     if let Ok(Poll::Send(bytes)) = told {
         assert_eq!(&*bytes, &message.bytes[..message.length as usize]);
         let _ = controller.send(Connection::First, &bytes);

@@ -60,12 +60,7 @@ impl Both {
         let told = self.safe.poll(reference);
         // SAFETY: the handle is that of an account that was made; `message` is there.
         let number = unsafe { raw::mscp_driver_poll(self.c.handle(), reference, &mut message) };
-        let in_c = |it: &Poll| match it {
-            Poll::Send(_) => status::DONE,
-            Poll::Busy => status::BUSY,
-            Poll::Nothing => status::NOTHING,
-        };
-        assert_eq!(status_of(&told, in_c), number);
+        assert_eq!(status_of(&told, |it| it.in_c()), number);
         if let Ok(Poll::Send(bytes)) = told {
             assert_eq!(&*bytes, &message.bytes[..message.length as usize]);
             self.sent.push(bytes.to_vec());

@@ -1,8 +1,9 @@
 //! What the tests share.
 
-use mscp::raw::{self, Aligned, Handle};
+use mscp::raw::{self, status, Aligned, Handle};
 use mscp::{
-    BusKind, Connection, Error, Hardware, Holder, Limits, Medium, Report, Stage, State, Unit, Upcoming, Volume, Waiting,
+    BusKind, Connection, Error, Hardware, Holder, Limits, Medium, Poll, Report, Stage, State, Unit, Upcoming, Volume,
+    Waiting,
 };
 
 /// Random numbers, the same in each run.
@@ -176,6 +177,19 @@ impl InC for Limits {
     fn in_c(self) -> raw::Limits {
         let Limits { id, budget, credits, second, longest, timeout } = self;
         raw::Limits { id, budget, credits, second, longest, timeout }
+    }
+}
+
+/// The status of a poll, which is sent or isn't.
+impl InC for &Poll {
+    type It = i32;
+
+    fn in_c(self) -> i32 {
+        match self {
+            Poll::Send(_) => status::DONE,
+            Poll::Busy => status::BUSY,
+            Poll::Nothing => status::NOTHING,
+        }
     }
 }
 
