@@ -114,7 +114,7 @@ seen_behind {X} f n ss ss' new place xs same l view fell gone = ap (map f) (gone
         one false = same z
 
 -- ---- who keeps whom back
-kinds_are : (ss : List Slot) → kinds_of (items ss) (targets ss) ≡ map kind_of ss
+pub kinds_are : (ss : List Slot) → kinds_of (items ss) (targets ss) ≡ map kind_of ss
 kinds_are [] = refl
 kinds_are (s ∷ ss) = ap (λ ks. kind_of s ∷ ks) (kinds_are ss)
 

@@ -121,13 +121,3 @@ free_tells kinds front s back m masks small = by (kinds s).sequential refl
         (masks.of_units (kinds s).drive) (λ k. refl))
         masks.of_sequential
         (λ k. for_transfer (has k front) (has k (front ++ s ∷ back)) _ _ _ (has_front k front (s ∷ back)) e))
-
--- no command is sequential where that mask is 0
-pub none_tells : (kinds : ℕ → Kind) (order : List ℕ) (m : Masks) → AreMasks kinds order m → m.sequential < 2 ^ 64
-    → nat_eq m.sequential 0 ≡ list_all (λ t. not (kinds t).sequential) order
-none_tells kinds order m masks small =
-    let low : (k : ℕ) → has k order ≡ true → k < 64 =
-    λ k e. below_64 k order [] (subst AreSlots (sym (append-nil order)) masks.apart) e in
-    tested m.sequential (list_all (λ t. not (kinds t).sequential) order)
-    (zero_from m.sequential order (λ k. (kinds k).sequential) small low masks.of_sequential)
-    (zero_to m.sequential order (λ k. (kinds k).sequential) small low masks.of_sequential)

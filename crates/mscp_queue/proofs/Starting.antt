@@ -9,14 +9,14 @@ all_on p q [] h = refl
 all_on p q (x ∷ xs) h = ap (λ b. b && list_all p xs) h.0 ∙ ap (λ b. q x && b) (all_on p q xs h.1)
 
 -- what masks tell of a record
-abbrev kind_in : List Shape → Record → Kind
+abbrev pub kind_in : List Shape → Record → Kind
 kind_in us r = record {
   drive = unit_place us r.command.unit;
   sequential = is_sequential r.command.order;
   serving = is_in_service r;
 }
 
-kinds_targeted : (us : List Shape) (rs : List Record) → kinds_of rs (targets_of us rs) ≡ map (kind_in us) rs
+pub kinds_targeted : (us : List Shape) (rs : List Record) → kinds_of rs (targets_of us rs) ≡ map (kind_in us) rs
 kinds_targeted us [] = refl
 kinds_targeted us (r ∷ rs) = ap (λ ks. kind_in us r ∷ ks) (kinds_targeted us rs)
 

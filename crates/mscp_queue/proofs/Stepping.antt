@@ -1,6 +1,11 @@
 -- A step of the record at a place, as it is planned and written.
-use Rattle.mscp_queue.proofs.Basics.{◌≡◌, ℕ, ◌+◌, ◌<◌, Bool, true, cond, List, [], ◌∷◌, ◌++◌, map, take, drop, set, get_or, length, refl, ap, sym, ◌∙◌, subst, arith, is_some, Option, Some, refill, length-set, Order, Block, Drive, Name, Plan, Choice, IsOnUnit, IsHeld, AreCandidates, Line, IsSet, Record, advanced, drive_at, no_record, passed_by, record_at, step_charge, IsNext, IsServable, drive_after, plan_of, state_left, touched, cylinder_within, place_same, known_at, set_replaced, candidates_served, refilled, StepMade, head_kept, touched_inside, units_step}
+use Rattle.mscp_queue.proofs.Basics.{◌≡◌, ℕ, ◌+◌, ◌<◌, Bool, true, false, cond, List, [], ◌∷◌, ◌++◌, map, take, drop, set, get_or, length, refl, ap, sym, ◌∙◌, subst, arith, is_some, Option, Some, refill, length-set, Order, Block, Drive, Name, Plan, Choice, Command, IsOnUnit, IsHeld, Line, IsSet, fresh_drive, get_or-set_other, length-map, drive_place, names_served, Record, advanced, drive_at, no_record, passed_by, record_at, step_charge, IsNext, IsServable, drive_after, plan_of, state_left, touched, cylinder_within, place_same, known_at, set_replaced, refilled, StepMade, head_kept, touched_inside, units_step}
+use Rattle.mscp_queue.proofs.Common.{AreFavored, AreListed, commands, drive_in, one_block, place_closed}
+use Rattle.mscp_queue.specs.declared.favorites.Favorites.{Favorites}
+use Rattle.mscp_queue.proofs.Favored.{command_is}
+use Rattle.mscp_queue.proofs.Gone.{favored_served}
 use Rattle.mscp_queue.proofs.Ready.{IsDriveOf}
+use Rattle.mscp_queue.proofs.Unmoved.{made_served}
 
 -- the record at a place may be served next
 abbrev pub NextIn : {K : Type 0} → (K → List Choice → ℕ → Type 0) → Line K → ℕ → Type 0
@@ -49,15 +54,33 @@ step_made {room} {budget} {longest} {place} {at} {rs} {new} {ds} {ls} {begun} {s
           ∙ set_replaced ds at r.command.unit d' d held.units kept.waitable.known found.placed);
     }
 
--- and what a picker would see is kept
-pub listed_step : {room budget longest place at dirty dirty' : ℕ} {rs new : List Record}
-    {ds ds' : List Drive} {begun : Option Name} {serving ends : Bool} {k : Block} {cs cs' : List Choice}
-    → IsHeld room budget longest rs ds begun serving → IsServable budget rs place → IsDriveOf ds rs place at
-    → StepMade k place rs new ds ds' ends → AreCandidates dirty ds rs cs → IsSet true at dirty dirty'
-    → cs' ≡ cond ends (take place cs ++ drop (place + 1) cs) cs → AreCandidates dirty' ds' new cs'
-listed_step {place = place} {at = at} {rs = rs} {ds = ds} {ends = ends} held servable found m listed dirty view =
-    let number = (record_at rs place).command.unit in
-    let there = known_at ds number (drive_at ds rs place) (held.each place no_record servable.inside).waitable.known in
-    candidates_served at number (step_charge (record_at rs place)) m.d' ends listed held.units.few
-    dirty (found.placed ∙ place_same ds number) (ap (λ (z : Drive). z.unit.number) m.after ∙ (ap (λ (z : Drive).
-    z.unit.number) (sym there.drive) ∙ there.number)) m.drives (units_step m held.units) servable.inside m.records view
+-- and what is known of names and best starts is kept
+pub listed_step : {room budget longest place : ℕ} {rs new : List Record} {ds ds' : List Drive} {begun : Option Name}
+    {serving ends : Bool} {k : Block} {named named' : List Name} → IsHeld room budget longest rs ds begun serving
+    → IsServable budget rs place → StepMade k place rs new ds ds' ends → AreListed rs named
+    → named' ≡ cond ends (take place named ++ drop (place + 1) named) named → AreListed new named'
+listed_step {place = place} {rs = rs} {ends = ends} held servable m listed e =
+    names_served place (step_charge (record_at rs place)) ends listed servable.inside m.records e
+
+pub favored_step : {room budget longest place at : ℕ} {rs new : List Record} {ds ds' : List Drive} {begun : Option Name}
+    {serving ends : Bool} {k : Block} {f g : Favorites} → IsHeld room budget longest rs ds begun serving
+    → IsServable budget rs place → IsDriveOf ds rs place at → StepMade k place rs new ds ds' ends
+    → AreFavored ds (commands rs) f → IsSet false at f.known g.known → g.costs ≡ f.costs → ((k : ℕ) → k < 16
+    → get_or g.places k 0 ≡ cond ends (place_closed place (get_or f.places k 0)) (get_or f.places k 0))
+    → AreFavored ds' (commands new) g
+favored_step {place = place} {at = at} {rs = rs} {new = new} {ds = ds} {ds' = ds'} {ends = ends} held servable found m
+    favored known costs places =
+    let r = record_at rs place in
+    let set_at : ds' ≡ set ds at m.d' = m.drives ∙ sym (set_replaced ds at r.command.unit m.d' (drive_at ds rs place)
+    held.units (held.each place no_record servable.inside).waitable.known found.placed) in
+    let most = held.units.few in
+    let fits = held.fits in
+    let few = held.few in
+    let many = length-map rs (λ (r : Record). r.command) in
+    favored_served held.units place at (let l = servable.inside in omega (arith, l, many))
+    (omega (arith, many, fits, few))
+    (found.placed ∙ ap (λ (c : Command). drive_place ds c.unit) (sym (command_is rs place servable.inside))) ends
+    favored (omega (arith, most, length-map ds (λ (d : Drive). d.unit))) (ap length set_at ∙ length-set ds at m.d')
+    (λ k d. ap (λ ds. drive_in ds k) set_at ∙ get_or-set_other ds at k m.d' (fresh_drive one_block) d)
+    (sym (made_served (λ by command. command) rs new place (step_charge r) ends servable.inside m.records))
+    known costs places

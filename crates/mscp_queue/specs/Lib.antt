@@ -10,8 +10,7 @@ pub mod Pickers
 pub mod Serving
 pub mod Figures
 pub mod Lines
-pub mod Candidates
-pub mod CountedViews
+pub mod Counts
 pub mod Kept
 pub mod Targets
 pub mod Lanes
@@ -19,4 +18,5 @@ pub mod Masks
 pub mod Slots
 pub mod Waiters
 pub mod Dues
+pub mod Favorites
 pub mod Common

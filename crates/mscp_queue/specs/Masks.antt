@@ -1,5 +1,5 @@
 -- Masks of slots, and the order of arrival as a list of slot numbers. Bit k of a mask stands for slot k.
-use Rattle.std.specs.Prelude.{◌≡◌, ◌≢◌, ℕ, slice_index_or, ◌<◌, ◌-◌, min, ◌&&◌, ◌||◌, if◌then◌else◌, bit_and, cond, nat_eq, Bool, true, false, List, [], ◌∷◌, ◌++◌}
+use Rattle.std.specs.Prelude.{◌≡◌, ◌≢◌, ◌⊎◌, ℕ, slice_index_or, ◌<◌, ◌-◌, min, ◌&&◌, ◌||◌, if◌then◌else◌, bit_and, cond, nat_eq, Bool, true, false, List, [], ◌∷◌, ◌++◌}
 use Rattle.std.specs.Int.{bit_at}
 use Rattle.mscp_queue.specs.declared.masks.Masks.{Masks}
 
@@ -90,3 +90,23 @@ abbrev pub IsBehind : ℕ → Masks → ℕ → Type 0
 IsBehind n m behind = (k : ℕ) → k < 64 → bit_at behind k
     ≡ cond (nat_eq k n) 0 (min (min (bit_at m.waiting k) (1 - bit_at (slice_index_or m.earlier n 0) k))
     (1 - bit_at m.serving k))
+
+-- the command of slot k is to the unit of this drive, and came before each sequential one of the unit, or is it
+pub record IsInFront (drive : ℕ) (m : Masks) (k : ℕ) : Type 0 where
+  pub unit : bit_at (slice_index_or m.units drive 0) k ≡ 1
+  pub each : (s : ℕ) → s < 64 → bit_at (slice_index_or m.units drive 0) s ≡ 1 → bit_at m.sequential s ≡ 1 → s ≢ k
+      → bit_at (slice_index_or m.earlier s 0) k ≡ 1
+
+-- the bits of the mask are those of such slots
+pub record IsNarrowed (drive : ℕ) (m : Masks) (mask : ℕ) : Type 0 where
+  pub to : (k : ℕ) → k < 64 → bit_at mask k ≡ 1 → IsInFront drive m k
+  pub from : (k : ℕ) → k < 64 → IsInFront drive m k → bit_at mask k ≡ 1
+
+-- each such slot is of a sequential command
+abbrev pub IsFence : ℕ → Masks → Type 0
+IsFence drive m = (j : ℕ) → j < 64 → IsInFront drive m j → bit_at m.sequential j ≡ 1
+
+-- the bits of the mask are those of such slots, and of these the transfers, if there is one
+pub record IsFront (drive : ℕ) (m : Masks) (mask : ℕ) : Type 0 where
+  pub to : (k : ℕ) → k < 64 → bit_at mask k ≡ 1 → IsInFront drive m k × (bit_at m.sequential k ≡ 1 → IsFence drive m)
+  pub from : (k : ℕ) → k < 64 → IsInFront drive m k → (bit_at m.sequential k ≡ 0) ⊎ IsFence drive m → bit_at mask k ≡ 1

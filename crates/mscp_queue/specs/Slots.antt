@@ -68,6 +68,10 @@ kind_of s = record {
   serving = is_in_service s.item;
 }
 
+-- what the masks tell of each slot
+abbrev pub kinds : List Slot → List Kind
+kinds slots = map kind_of slots
+
 -- no slot in front keeps its command back
 abbrev pub is_unfenced : Slot → List Slot → Bool
 is_unfenced s front = list_all (λ z. not (keeps_back (kind_of z) (kind_of s))) front

@@ -34,10 +34,10 @@ is_open_at budget rs place = is_open budget (record_at rs place) (take place rs)
 abbrev pub open_places : ℕ → List Record → List ℕ
 open_places budget rs = filter (is_open_at budget rs) (range_with_len 0 (length rs))
 
--- each is a transfer, and may start where nothing is in service
-pub record AllMayStart (budget : ℕ) (rs : List Record) : Type 0 where
-  pub transfers : All (λ r. is_move r.command.order ≡ true) rs
-  pub places : open_places budget rs ≡ range_with_len 0 (length rs)
+-- each may pass those in front of it
+abbrev pub MayAllPass : ℕ → List Record → Type 0
+MayAllPass budget rs =
+    (place : ℕ) → place < length rs → is_affordable budget (record_at rs place) (take place rs) ≡ true
 
 -- the name of a choice's command
 abbrev pub choice_name : Choice → Name

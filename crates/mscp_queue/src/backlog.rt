@@ -1,13 +1,12 @@
 // The waiting commands, and how long each may still wait.
 
 ghost use Rattle.std.specs.Prelude.{◌≡◌, ◌+◌, ◌-◌, ◌<◌, ◌≤◌, ◌^◌, ◌++◌, ◌∷◌, [], true, false, cond, length, map, not, take, drop, slice_index_or, sum_by, All};
-ghost use Rattle.mscp_queue.specs.Common.{clock_end, started, list_all, figure_at, figures, is_sequential, advanced, is_in_service, is_unstarted, left_of, passed_by, record_at, step_charge, no_target, IsOnUnit, AreOnDrive, IsRecosted, is_unfenced_at, kinds_of, lowered_by, slot_at};
+ghost use Rattle.mscp_queue.specs.Common.{clock_end, started, list_all, figure_at, figures, is_sequential, advanced, is_in_service, is_unstarted, left_of, passed_by, record_at, step_charge, no_target, IsOnUnit, AreOnDrive, IsBest, IsOpenOn, cost_there, is_unfenced_at, kinds_of, lowered_by, slot_at};
 
 mod restoring;
 
-use crate::counted_view::CountedView;
 use crate::drive::Drive;
-use crate::name::Name;
+use crate::favorites::Start;
 use crate::record::Record;
 use crate::slots::{Content, Slots};
 use crate::target::Target;
@@ -161,15 +160,17 @@ impl Backlog {
         self.budget.saturating_sub(self.slots.item(0).passed())
     }
 
-    /// Finds anew what the starts on the drive at a place cost, in a list of the commands.
-    pub fn renew(&self, view: &mut CountedView, drive: &Drive, at: usize)
+    /// The best start on the drive at a place: of the commands to its unit that nobody in front keeps back, the first of the
+    /// cheapest.
+    pub fn favorite(&self, drive: &Drive, at: usize) -> Start
+        requires few { length self.now.waiting ≤ 64 }
         requires drive { at < 16 }
-        requires long { length view.old ≡ length self.now.waiting }
         requires head { IsOnUnit drive.now }
         requires to { AreOnDrive at drive.now self.now.targets }
-        ensures { IsRecosted at drive.now self.now.targets view.old view.new }
+        ensures { IsBest (IsOpenOn (kinds_of self.now.waiting self.now.targets) at)
+            (cost_there drive.now (kinds_of self.now.waiting self.now.targets) self.now.targets) result }
     {
-        self.slots.renew(view, drive, at);
+        self.slots.favorite(drive, at)
     }
 
     /// Whether no command that came earlier keeps the one at the place back.
@@ -178,13 +179,6 @@ impl Backlog {
         ensures { result ≡ is_unfenced_at (kinds_of self.now.waiting self.now.targets) place }
     {
         self.slots.is_free(place)
-    }
-
-    /// Whether no command is sequential.
-    pub fn none_is_sequential(&self) -> bool
-        ensures { result ≡ list_all (λ r. not (is_sequential r.command.order)) self.now.waiting }
-    {
-        self.slots.none_is_sequential()
     }
 
     /// Whether each command takes so many steps at the most.

@@ -18,6 +18,8 @@ pub struct Drive {
 }
 
 impl Drive {
+    ghost use Rattle.std.specs.Prelude.{false};
+    ghost use Rattle.mscp_queue.specs.Common.{IsOnUnit, cost_on, last_cylinder};
     ghost use Rattle.mscp_queue.specs.Drives.{fresh_drive};
 
     /// The drive of a unit to which nothing came so far: the unit is available, and its head is on cylinder 0
@@ -29,6 +31,20 @@ impl Drive {
             unit,
             online: false,
             head: Head::default(),
+        }
+    }
+
+    /// What a start here costs whose first block is on this cylinder: nothing, if the command is sequential.
+    #[inline(always)]
+    pub(crate) fn cost(&self, sequential: bool, cylinder: u32) -> u64
+        requires head { IsOnUnit self.now }
+        requires target { sequential ≡ false → cylinder ≤ last_cylinder self.now.unit }
+        ensures { result ≡ cost_on self.now sequential cylinder }
+    {
+        if sequential {
+            0
+        } else {
+            self.head.cost(&self.unit, cylinder)
         }
     }
 

@@ -1,7 +1,7 @@
 // Masks of slots. Bit k of a mask stands for slot k.
 
-ghost use Rattle.std.specs.Prelude.{◌≡◌, ◌≢◌, ◌<◌, ◌≤◌, ◌^◌, ◌-◌, ℕ, count_ones, min, true, false, length, nat_eq, slice_index_or, IfNone, IfSome};
-ghost use Rattle.mscp_queue.specs.Common.{bit_at, HasCome, HasLeft, IsBehind, IsLowestFree, IsSet};
+ghost use Rattle.std.specs.Prelude.{◌≡◌, ◌≢◌, ◌<◌, ◌≤◌, ◌^◌, ◌-◌, ◌&&◌, ◌||◌, ℕ, count_ones, min, true, false, length, nat_eq, nat_lt, slice_index_or, IfNone, IfSome};
+ghost use Rattle.mscp_queue.specs.Common.{bit_at, HasCome, HasLeft, IsBehind, IsFront, IsLowestFree, IsNarrowed, IsSet};
 ghost use Rattle.mscp_queue.specs.Masks.{fences};
 
 /// Which slots are taken, and what is known of their commands: one bit a slot.
@@ -30,6 +30,14 @@ pub(crate) fn with_bit(mask: u64, slot: usize, on: bool) -> u64
     } else {
         mask & !(1 << slot)
     }
+}
+
+/// Whether the bit of a slot is set.
+pub(crate) fn has_bit(mask: u64, slot: usize) -> bool
+    requires { slot < 64 }
+    ensures { result ≡ nat_eq (bit_at mask slot) 1 }
+{
+    (mask >> slot) & 1 == 1
 }
 
 /// The mask without the bits of another.
@@ -122,14 +130,6 @@ impl Masks {
         self.earlier[slot].count_ones() as usize
     }
 
-    /// Whether no command is sequential.
-    pub fn none_is_sequential(&self) -> bool
-        ensures value { result ≡ nat_eq self.now.sequential 0 }
-        ensures small { self.now.sequential < 2 ^ 64 }
-    {
-        self.sequential == 0
-    }
-
     /// Whether no command that came earlier keeps that of the slot back, whose unit's drive stands at this place, and which
     /// is sequential or not: of its unit none is in front of a sequential one, and no sequential one in front of a transfer.
     pub fn is_free(&self, slot: usize, drive: usize, sequential: bool) -> bool
@@ -144,6 +144,44 @@ impl Masks {
         } else {
             fences & self.sequential == 0
         }
+    }
+
+    /// Of the slots of a drive's unit those whose commands came before each sequential one of the unit, or are that.
+    fn narrowed(&self, drive: usize) -> u64
+        requires { drive < 16 }
+        ensures { IsNarrowed drive self.now result }
+    {
+        let unit = self.units[drive];
+        let mut left = unit & self.sequential;
+        let mut narrowed = unit;
+        while let Some(slot) = lowest_set(left, 64) {
+            left = with_bit(left, slot, false);
+            narrowed &= with_bit(self.earlier[slot], slot, true);
+        }
+        narrowed
+    }
+
+    /// Of the slots of a drive's unit those whose commands no command that came earlier keeps back: the transfers in front of
+    /// its oldest sequential one, or that one alone if there is none.
+    pub fn front(&self, drive: usize) -> u64
+        requires { drive < 16 }
+        ensures { IsFront drive self.now result }
+    {
+        let narrowed = self.narrowed(drive);
+        let transfers = without(narrowed, self.sequential);
+        if transfers == 0 { narrowed } else { transfers }
+    }
+
+    /// Whether the start of a slot's command, at this cost, costs less than that of the other, or as much, where the other came
+    /// later.
+    #[inline(always)]
+    pub fn starts_before(&self, slot: usize, cost: u64, other: usize, least: u64) -> bool
+        requires slot { slot < 64 }
+        requires other { other < 64 }
+        ensures { result ≡ nat_lt cost least
+            || (nat_eq cost least && nat_eq (bit_at (slice_index_or self.now.earlier other 0) slot) 1) }
+    {
+        cost < least || (cost == least && has_bit(self.earlier[other], slot))
     }
 
     /// Whether each command that came later than that of the slot is to the unit of this drive.

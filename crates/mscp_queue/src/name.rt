@@ -6,7 +6,7 @@ ghost use Rattle.mscp_queue.specs.Names.{same_name};
 use mscp_drive::Connection;
 
 /// The name of a command that waits: the connection that it came by, and its reference number.
-#[derive(Clone, Copy)]
+#[derive(Clone, Copy, Default)]
 pub struct Name {
     pub connection: Connection,
     pub reference: u32,

@@ -7,13 +7,14 @@ mod restoring;
 mod stepping;
 
 use crate::backlog::Backlog;
-use crate::candidates::Candidates;
 use crate::drive::{Drive, drive_of, drives_of, renew_drives};
+use crate::favorites::Favorites;
 use crate::name::Name;
+use crate::names::Names;
 use crate::outcome::aborted_end;
 use crate::picker::Picker;
 use crate::record::Record;
-use crate::start::choice_in;
+use crate::start::favor_last;
 use crate::target::Target;
 use crate::view::View;
 use crate::why::{Holder, holders_at};
@@ -49,7 +50,8 @@ pub struct Queue<K> {
     begun: Option<usize>,
     serving: Option<usize>,
     picker: K,
-    candidates: Candidates,
+    names: Names,
+    favorites: Favorites,
     // What the picker saw last, where some may not start. It is kept for its room alone, since a new one would have to be
     // cleared at each start.
     view: View,
@@ -74,7 +76,7 @@ impl<K> Model for Queue<K> {
         } };
 
     ghost invariant = { λ q.
-        IsPrepared q.room q.longest q.backlog q.drives.items q.begun q.serving q.candidates.dirty q.candidates.view };
+        IsPrepared q.room q.longest q.backlog q.drives.items q.begun q.serving q.names q.favorites };
 }
 
 /// A place that is known, once the command at the place `gone` left: none where it was that.
@@ -110,7 +112,8 @@ impl<K: Picker> Queue<K> {
             begun: None,
             serving: None,
             picker,
-            candidates: Candidates::new(),
+            names: Names::new(),
+            favorites: Favorites::new(),
             view: View::empty(),
         }
     }
@@ -121,7 +124,8 @@ impl<K: Picker> Queue<K> {
             ≡ fresh (units_of self.old.drives) self.old.room self.old.budget self.old.longest self.old.picker }
     {
         self.backlog.clear();
-        self.candidates.clear();
+        self.names.clear();
+        self.favorites.clear();
         renew_drives(self.drives.as_mut_slice());
         self.begun = None;
         self.serving = None;
@@ -150,7 +154,7 @@ impl<K: Picker> Queue<K> {
             connection,
             reference,
         };
-        self.candidates.has_any(name)
+        self.names.contains(name)
     }
 
     /// The place of the waiting command of the connection with the reference number, in order of arrival, if it waits. No
@@ -164,7 +168,7 @@ impl<K: Picker> Queue<K> {
             connection,
             reference,
         };
-        self.candidates.place_of(name)
+        self.names.place_of(name)
     }
 
     /// Whether the unit of this number is online: false where it isn't configured.
@@ -191,9 +195,9 @@ impl<K: Picker> Queue<K> {
         };
         let target = Target::of(&command, self.drives.as_slice());
         let record = Record::new(new.connection, command, new.weight);
-        self.candidates
-            .come(choice_in(self.drives.as_slice(), &record, target));
+        self.names.push(record.name());
         self.backlog.push(record, target);
+        favor_last(&self.backlog, self.drives.as_slice(), &mut self.favorites);
     }
 
     /// The figure of the waiting command of the connection with the reference number, 0 if there is none: how many steps it
@@ -205,7 +209,7 @@ impl<K: Picker> Queue<K> {
             connection,
             reference,
         };
-        match self.candidates.place_of(name) {
+        match self.names.place_of(name) {
             Some(place) => self.backlog.figure(place),
             None => 0,
         }
@@ -230,7 +234,7 @@ impl<K: Picker> Queue<K> {
             connection,
             reference,
         };
-        let place = self.candidates.place_of(name);
+        let place = self.names.place_of(name);
         match place {
             Some(place) => holders_at(&self.backlog, self.backlog.budget(), place),
             None => ArrayVec::new(),
@@ -272,7 +276,7 @@ impl<K: Picker> Queue<K> {
             connection,
             reference,
         };
-        let place = self.candidates.place_of(name)?;
+        let place = self.names.place_of(name)?;
         Some(self.abort_at(place))
     }
 
@@ -285,8 +289,10 @@ impl<K: Picker> Queue<K> {
         ensures count { length self.new.waiting + 1 ≡ length self.old.waiting }
     {
         let record = *self.backlog.record(place);
+        let at = usize::from(self.backlog.target(place).drive);
         self.backlog.take_out(place);
-        self.candidates.remove(place);
+        self.names.remove(place);
+        self.favorites.serve(place, at, true);
         self.begun = without_place(self.begun, place);
         self.serving = without_place(self.serving, place);
         aborted_end(&record.command(), record.done())

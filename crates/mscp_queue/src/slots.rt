@@ -2,12 +2,12 @@
 // keeps whom back.
 
 ghost use Rattle.std.specs.Prelude.{◌≡◌, ◌+◌, ◌<◌, ◌≤◌, ◌^◌, ◌++◌, ◌∷◌, true, false, [], List, length, map, not, take, drop, slice_set, All};
-ghost use Rattle.mscp_queue.specs.Common.{list_all, is_sequential, advanced, is_in_service, passed_by, IsOnUnit, AreOnDrive, IsLowestUntaken, IsRecosted, targets, dues, filled, is_unfenced, items, lowered_by, lowered_unless_serving, shown, slot_at, with_due, with_item};
+ghost use Rattle.mscp_queue.specs.Common.{list_all, is_sequential, advanced, is_in_service, passed_by, IsOnUnit, AreOnDrive, IsBest, IsLowestUntaken, IsOpenOn, cost_there, kinds, targets, dues, filled, is_unfenced, items, lowered_by, lowered_unless_serving, shown, slot_at, with_due, with_item};
 
-use crate::counted_view::CountedView;
 use crate::drive::Drive;
+use crate::favorites::Start;
 use crate::lowering::lower;
-use crate::masks::{Masks, lowest_free, lowest_set, with_bit};
+use crate::masks::{Masks, has_bit, lowest_free, lowest_set, with_bit};
 use crate::record::Record;
 use crate::target::Target;
 use arrayvec::ArrayVec;
@@ -191,21 +191,34 @@ impl Slots {
         self.dues[usize::from(self.order[place])]
     }
 
-    /// Finds anew what the starts on the drive at a place cost, in a list of the commands. It looks at no command whose target is
-    /// elsewhere.
-    pub fn renew(&self, view: &mut CountedView, drive: &Drive, at: usize)
+    /// The best start on the drive at a place: of the commands to its unit that nobody in front keeps back, the first of the
+    /// cheapest.
+    pub fn favorite(&self, drive: &Drive, at: usize) -> Start
+        requires few { length self.now ≤ 64 }
         requires drive { at < 16 }
-        requires long { length view.old ≡ length self.now }
         requires head { IsOnUnit drive.now }
         requires to { AreOnDrive at drive.now (targets self.now) }
-        ensures { IsRecosted at drive.now (targets self.now) view.old view.new }
+        ensures { IsBest (IsOpenOn (kinds self.now) at) (cost_there drive.now (kinds self.now) (targets self.now)) result }
     {
         let drive = *drive;
-        let mut left = self.masks.units[at];
+        let front = self.masks.front(at);
+        let Some(first) = lowest_set(front, 64) else {
+            return Start::none();
+        };
+        let mut best = first;
+        let mut least = drive.cost(has_bit(self.masks.sequential, first), self.targets[first].cylinder);
+        let mut left = with_bit(front, first, false);
         while let Some(slot) = lowest_set(left, 64) {
             left = with_bit(left, slot, false);
-            let to = self.targets[slot].cylinder;
-            view.set_cost(self.masks.place(slot), drive.head.cost(&drive.unit, to));
+            let cost = drive.cost(has_bit(self.masks.sequential, slot), self.targets[slot].cylinder);
+            if self.masks.starts_before(slot, cost, best, least) {
+                best = slot;
+                least = cost;
+            }
+        }
+        Start {
+            cost: least,
+            place: self.masks.place(best) as u8,
         }
     }
 
@@ -218,13 +231,6 @@ impl Slots {
         let drive = usize::from(self.targets[slot].drive);
         self.masks
             .is_free(slot, drive, self.records[slot].is_sequential())
-    }
-
-    /// Whether no command is sequential.
-    pub fn none_is_sequential(&self) -> bool
-        ensures { result ≡ list_all (λ s. not (is_sequential s.item.command.order)) self.now }
-    {
-        self.masks.none_is_sequential()
     }
 
     /// Whether each command behind the place is of the unit of the one there.

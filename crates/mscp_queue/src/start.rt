@@ -1,50 +1,40 @@
 // Which command starts, where nothing is in service.
 
-ghost use Rattle.std.specs.Prelude.{◌≡◌, ◌++◌, ◌||◌, ◌+◌, ◌∷◌, ◌<◌, ◌≤◌, [], true, cond, length, All};
-ghost use Rattle.mscp_queue.specs.Common.{IsUnitList, IsTargeted, target_of, IsOnUnit, ArePassedInOrder, CanBeShown, HasBlocks, IsShut, units_of, AreCandidates, choice_in, is_move, is_sequential, drive_at, record_at, AllMayStart, IsPick, choice_of, is_open_at, open_places, view_of};
+ghost use Rattle.std.specs.Prelude.{◌≡◌, ◌++◌, ◌||◌, ◌+◌, ◌∷◌, ◌<◌, ◌≤◌, ◌-◌, [], true, cond, length, take, All};
+ghost use Rattle.mscp_queue.specs.Common.{IsUnitList, IsTargeted, ArePassedInOrder, AreFavored, CanBeShown, IsBest, IsClearOn, IsFirstOf, IsShut, MayAllPass, order_cost, commands, cost_at, drive_in, units_of, is_move, is_sequential, drive_at, record_at, IsPick, choice_of, is_open_at, open_places, view_of};
 
 use crate::backlog::Backlog;
-use crate::candidates::Candidates;
 use crate::drive::Drive;
-use crate::picker::{Picker, cheapest};
+use crate::favorites::{Favorites, Start};
+use crate::picker::Picker;
 use crate::record::Record;
-use crate::target::Target;
 use crate::view::{Choice, View};
 use arrayvec::ArrayVec;
-use mscp_packet::Class;
 
-/// What a picker sees of a record, whose unit's drive is this, and whose first block is on this cylinder. A start that is
-/// no transfer's costs nothing.
-#[tactic(auto, using(crate::proofs::Targets::cylinder_within))]
+/// What the start of a record costs, whose unit's drive is this, and whose first block is on this cylinder.
+#[tactic(auto, using(crate::proofs::Targets::cylinder_within, crate::proofs::Favored::cost_is))]
+fn cost_of(record: &Record, drive: &Drive, cylinder: u32) -> u64
+    requires waitable { (is_sequential «record».now.command.order || is_move «record».now.command.order) ≡ true }
+    requires targeted { IsTargeted drive.now cylinder «record».now }
+    ensures { result ≡ order_cost drive.now.unit drive.now.head «record».now.command.order }
+{
+    drive.cost(record.is_sequential(), cylinder)
+}
+
+/// What a picker sees of a record, whose unit's drive is this, and whose first block is on this cylinder.
 fn choice_of(record: &Record, drive: &Drive, cylinder: u32) -> Choice
     requires waitable { (is_sequential «record».now.command.order || is_move «record».now.command.order) ≡ true }
     requires targeted { IsTargeted drive.now cylinder «record».now }
     ensures { result ≡ choice_of drive.now «record».now }
 {
     let command = record.command();
-    let class = command.order.class();
-    let cost = match class {
-        Class::Free => drive.head.cost(&drive.unit, cylinder),
-        _ => 0,
-    };
     Choice {
         reference: command.reference,
         unit: command.unit,
         connection: record.connection(),
-        class,
-        cost,
+        class: command.order.class(),
+        cost: cost_of(record, drive, cylinder),
     }
-}
-
-/// What a picker sees of a record with that target.
-pub(crate) fn choice_in(drives: &[Drive], record: &Record, target: Target) -> Choice
-    requires waitable { (is_sequential «record».now.command.order || is_move «record».now.command.order) ≡ true }
-    requires blocks { HasBlocks (units_of drives.now) «record».now.command }
-    requires heads { All IsOnUnit drives.now }
-    requires target { target ≡ target_of (units_of drives.now) «record».now.command }
-    ensures { result ≡ choice_in drives.now «record».now }
-{
-    choice_of(record, &drives[usize::from(target.drive)], target.cylinder)
 }
 
 /// The record at a place, the drive of its unit, and the cylinder of its first block.
@@ -149,41 +139,83 @@ fn show_oldest(view: &mut View, backlog: &Backlog, drives: &[Drive])
     view.push(choice_of(record, drive, cylinder));
 }
 
-/// Whether each that waits is a transfer that each may still pass: the longest that may come, or else the longest of them.
-/// Who came earlier was passed by at least as many blocks, so that the oldest tells it for all. Then each may start.
-fn may_all_start(backlog: &Backlog, longest: u32) -> bool
+/// Whether each that waits may still be passed by each: by the longest that may come, or else by the longest of them. Who came
+/// earlier was passed by at least as many blocks, so that the oldest tells it for all.
+fn may_all_pass(backlog: &Backlog, longest: u32) -> bool
     requires some { 0 < length backlog.now.waiting }
     requires order { ArePassedInOrder backlog.now.waiting }
     requires passed { (record_at backlog.now.waiting 0).passed ≤ backlog.now.budget }
-    requires waitable { All (λ r. (is_sequential r.command.order || is_move r.command.order) ≡ true) backlog.now.waiting }
     requires short { All (λ r. r.weight ≤ longest) backlog.now.waiting }
-    ensures { result ≡ true → AllMayStart backlog.now.budget backlog.now.waiting }
+    ensures { result ≡ true → MayAllPass backlog.now.budget backlog.now.waiting }
 {
     let unspent = backlog.unspent();
-    backlog.none_is_sequential() && (longest <= unspent || backlog.are_light(unspent))
+    longest <= unspent || backlog.are_light(unspent)
 }
 
-/// The place that the picker picks of the candidates, or that of the cheapest, if it may pick that.
-fn picked_of<K: Picker>(picker: &K, shown: &View) -> usize
-    ensures place { 0 < length shown.now → result < length shown.now }
-    ensures allowed { 0 < length shown.now → K.picks picker.now shown.now result }
+/// The best start on the drive at a place. If it isn't known it is found now, and known from then on.
+#[inline(always)]
+fn favorite_on(backlog: &Backlog, drives: &[Drive], at: usize, favorites: &mut Favorites) -> Start
+    requires waiting { CanBeShown drives.now backlog.now.waiting backlog.now.targets }
+    requires units { IsUnitList (units_of drives.now) }
+    requires drive { at < length drives.now }
+    requires favored { AreFavored drives.now (commands backlog.now.waiting) favorites.old }
+    ensures best { IsBest (IsClearOn (commands backlog.now.waiting) (drive_in drives.now at).unit.number)
+        (cost_at (drive_in drives.now at) (commands backlog.now.waiting)) result }
+    ensures favored { AreFavored drives.now (commands backlog.now.waiting) favorites.new }
 {
-    if picker.takes_cheapest() {
-        cheapest(shown.choices())
-    } else {
-        picker.pick(shown)
+    if favorites.knows(at) {
+        return favorites.start(at);
+    }
+    let start = backlog.favorite(&drives[at], at);
+    favorites.learn(at, start);
+    start
+}
+
+/// The command that came last may have the best start on its drive.
+pub(crate) fn favor_last(backlog: &Backlog, drives: &[Drive], favorites: &mut Favorites)
+    requires some { 0 < length backlog.now.waiting }
+    requires waiting { CanBeShown drives.now backlog.now.waiting backlog.now.targets }
+    requires units { IsUnitList (units_of drives.now) }
+    requires favored { AreFavored drives.now
+        (take (length backlog.now.waiting - 1) (commands backlog.now.waiting)) favorites.old }
+    ensures { AreFavored drives.now (commands backlog.now.waiting) favorites.new }
+{
+    let place = backlog.len() - 1;
+    if backlog.is_free(place) {
+        let (record, drive, cylinder) = targeted_at(backlog, drives, place);
+        let start = Start {
+            cost: cost_of(record, drive, cylinder),
+            place: place as u8,
+        };
+        favorites.come(usize::from(backlog.target(place).drive), start);
     }
 }
 
-/// The place of the record that the picker picks, of those that may start: the view is made anew, and shows these. Where
-/// all may start it is the candidates, in which a record has its place.
+/// The place of the first of the cheapest starts on all drives, of those that nobody in front keeps back.
+fn best_place(backlog: &Backlog, drives: &[Drive], favorites: &mut Favorites) -> usize
+    requires some { 0 < length backlog.now.waiting }
+    requires waiting { CanBeShown drives.now backlog.now.waiting backlog.now.targets }
+    requires units { IsUnitList (units_of drives.now) }
+    requires favored { AreFavored drives.now (commands backlog.now.waiting) favorites.old }
+    ensures first { IsFirstOf drives.now (commands backlog.now.waiting) result }
+    ensures favored { AreFavored drives.now (commands backlog.now.waiting) favorites.new }
+{
+    let mut first = Start::none();
+    for at in 0..drives.len() {
+        first = favorite_on(backlog, drives, at, favorites).or_earlier(first);
+    }
+    usize::from(first.place)
+}
+
+/// The place of the record that the picker picks, of those that may start. If the budget keeps nobody back, and the picker may
+/// take the first of the cheapest, that is found of the best starts. Else a view is made that shows all that may start.
 #[inline(never)]
 pub(crate) fn picked_place<K: Picker>(
     backlog: &Backlog,
     drives: &[Drive],
     longest: u32,
     picker: &K,
-    candidates: &mut Candidates,
+    favorites: &mut Favorites,
     view: &mut View,
 ) -> usize
     requires some { 0 < length backlog.now.waiting }
@@ -192,14 +224,13 @@ pub(crate) fn picked_place<K: Picker>(
     requires passed { (record_at backlog.now.waiting 0).passed ≤ backlog.now.budget }
     requires short { All (λ r. r.weight ≤ longest) backlog.now.waiting }
     requires units { IsUnitList (units_of drives.now) }
-    requires listed { AreCandidates candidates.old.dirty drives.now backlog.now.waiting candidates.old.view }
+    requires favored { AreFavored drives.now (commands backlog.now.waiting) favorites.old }
     ensures inside { result < length backlog.now.waiting }
     ensures picked { IsPick (K.picks picker.now) backlog.now.budget drives.now backlog.now.waiting result }
-    ensures listed { AreCandidates candidates.new.dirty drives.now backlog.now.waiting candidates.new.view }
+    ensures favored { AreFavored drives.now (commands backlog.now.waiting) favorites.new }
 {
-    if may_all_start(backlog, longest) {
-        candidates.renew_all(backlog, drives);
-        return picked_of(picker, candidates.view.shown());
+    if picker.takes_cheapest() && may_all_pass(backlog, longest) {
+        return best_place(backlog, drives, favorites);
     }
     view.clear();
     if backlog.unspent() == 0 {

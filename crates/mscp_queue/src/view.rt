@@ -1,9 +1,7 @@
 // What a picker sees.
 
-ghost use Rattle.std.specs.Prelude.{◌≡◌, ◌↔◌, ◌<◌, ◌≤◌, ◌+◌, ◌∷◌, ◌++◌, [], length, take, drop, slice_index_or, slice_set, IsSome, IfSome};
-ghost use Rattle.mscp_queue.specs.Common.{costing, no_choice, choice_name};
+ghost use Rattle.std.specs.Prelude.{◌≡◌, ◌↔◌, ◌<◌, ◌≤◌, ◌∷◌, ◌++◌, [], length, IsSome, IfSome};
 
-use crate::name::Name;
 use arrayvec::ArrayVec;
 use mscp_drive::Connection;
 use mscp_packet::Class;
@@ -23,18 +21,6 @@ pub struct Choice {
     /// How many cylinders the head of its unit crosses to its first block if it goes on the way it goes, and turns only
     /// at the ends (profile). A sequential command costs 0.
     pub cost: u64,
-}
-
-impl Choice {
-    /// The name of the command.
-    pub(crate) fn name(&self) -> Name
-        ensures { result ≡ choice_name self.now }
-    {
-        Name {
-            connection: self.connection,
-            reference: self.reference,
-        }
-    }
 }
 
 /// A choice of nothing, which fills the places of a list that isn't full.
@@ -108,22 +94,6 @@ impl View {
         ensures { self.new ≡ self.old ++ choice ∷ [] }
     {
         self.choices.push(choice);
-    }
-
-    /// Takes the choice at a place out.
-    pub(crate) fn remove(&mut self, place: usize)
-        requires { place < length self.old }
-        ensures { self.new ≡ take place self.old ++ drop (place + 1) self.old }
-    {
-        self.choices.remove(place);
-    }
-
-    /// Sets what the choice at a place costs.
-    pub(crate) fn set_cost(&mut self, place: usize, cost: u64)
-        requires { place < length self.old }
-        ensures { self.new ≡ slice_set self.old place (costing cost (slice_index_or self.old place no_choice)) }
-    {
-        self.choices[place].cost = cost;
     }
 
     /// The choices, in their order.

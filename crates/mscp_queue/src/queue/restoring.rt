@@ -1,35 +1,27 @@
 // A queue as it was, and what is to be kept of one so that it can be again.
 
-ghost use Rattle.std.specs.Prelude.{◌≡◌, ◌<◌, ◌≤◌, ◌||◌, true, All, length, map, IfNone, IfSome, None};
-ghost use Rattle.mscp_queue.specs.Common.{position, ArePassedInOrder, HasBlocks, IsHeld, units_of, IsOnUnit, choice_in, has_choice_name, is_move, is_sequential, is_in_service, record_at};
+ghost use Rattle.std.specs.Prelude.{◌≡◌, ◌<◌, ◌≤◌, true, length, IfNone, IfSome, None};
+ghost use Rattle.mscp_queue.specs.Common.{position, ArePassedInOrder, IsHeld, is_named, names, is_in_service, record_at};
 
 use crate::backlog::Backlog;
-use crate::candidates::Candidates;
 use crate::drive::Drive;
 use crate::name::Name;
+use crate::names::Names;
 use crate::picker::Picker;
 use crate::queue::Queue;
 use crate::record::Record;
-use crate::start::choice_in;
-use crate::target::Target;
 use arrayvec::ArrayVec;
 
-/// What a picker would see of each of the records, if each might start.
-fn candidates_of(drives: &[Drive], records: &[Record]) -> Candidates
+/// The names of the records' commands.
+fn names_of(records: &[Record]) -> Names
     requires few { length records.now ≤ 64 }
-    requires drives { length drives.now ≤ 16 }
-    requires waitable { All (λ r. (is_sequential r.command.order || is_move r.command.order) ≡ true) records.now }
-    requires blocks { All (λ r. HasBlocks (units_of drives.now) r.command) records.now }
-    requires heads { All IsOnUnit drives.now }
-    ensures { result.view ≡ map (choice_in drives.now) records.now }
+    ensures { result ≡ names records.now }
 {
-    let mut candidates = Candidates::new();
+    let mut names = Names::new();
     for place in 0..records.len() {
-        let record = &records[place];
-        let target = Target::of(&record.command(), drives);
-        candidates.come(choice_in(drives, record, target));
+        names.push(records[place].name());
     }
-    candidates
+    names
 }
 
 /// The place of the command in service, if one is.
@@ -40,11 +32,11 @@ fn place_served(records: &[Record]) -> Option<usize>
 }
 
 /// The place of what was begun, if something was.
-fn place_begun(candidates: &Candidates, begun: Option<Name>) -> Option<usize>
-    ensures some { IfSome begun (λ name. result ≡ position (has_choice_name name) candidates.now.view) }
+fn place_begun(names: &Names, begun: Option<Name>) -> Option<usize>
+    ensures some { IfSome begun (λ name. result ≡ position (is_named name) names.now) }
     ensures none { IfNone begun (result ≡ None) }
 {
-    candidates.place_of(begun?)
+    names.place_of(begun?)
 }
 
 impl<K: Picker> Queue<K> {
@@ -60,11 +52,12 @@ impl<K: Picker> Queue<K> {
           begun = begun;
         } }
     {
-        let candidates = candidates_of(drives.as_slice(), records);
-        self.begun = place_begun(&candidates, begun);
+        let names = names_of(records);
+        self.begun = place_begun(&names, begun);
         self.serving = place_served(records);
         self.backlog = Backlog::restored(self.backlog.budget(), records, drives.as_slice());
-        self.candidates = candidates;
+        self.names = names;
+        self.favorites.clear();
         self.drives = drives;
     }
 

@@ -47,7 +47,7 @@ impl<K: Picker> Queue<K> {
             self.drives.as_slice(),
             self.longest,
             &self.picker,
-            &mut self.candidates,
+            &mut self.favorites,
             &mut self.view,
         ))
     }
@@ -108,7 +108,8 @@ impl<K: Picker> Queue<K> {
         let ends = plan.ended.is_some();
         self.drives[at].follow(&record.command().order, &plan);
         self.backlog.serve(place, ends);
-        self.candidates.serve(place, at, ends);
+        self.names.serve(place, ends);
+        self.favorites.serve(place, at, ends);
         self.begun = None;
         self.serving = place_served(place, ends);
         plan.report(&record)

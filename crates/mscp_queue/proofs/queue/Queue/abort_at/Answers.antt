@@ -1,7 +1,11 @@
-use Rattle.mscp_queue.proofs.Basics.{suc, ◌++◌, arith, ◌≡◌, ◌+◌, ◌<◌, length, take, drop, ap, sym, subst, ◌∙◌, refl, position, begun_name, Line, aborting, has_name, name_of, record_at, line_without}
+use Rattle.mscp_queue.proofs.Basics.{suc, ◌++◌, arith, ◌≡◌, ◌+◌, ◌<◌, length, take, drop, ap, sym, subst, ◌∙◌, refl, position, begun_name, Line, aborting, has_name, name_of, record_at, true, length-map, Command, Drive, Record, Target, drive_place, names_left}
+use Rattle.mscp_queue.proofs.Common.{commands}
+use Rattle.mscp_queue.proofs.Favored.{command_is}
+use Rattle.mscp_queue.proofs.Gone.{favored_served}
+use Rattle.mscp_queue.proofs.Unmoved.{map_cut}
 use Rattle.mscp_queue.proofs.Aborts.{aborts_at}
 use Rattle.mscp_queue.proofs.Nexts.{begun_left, name_found}
-use Rattle.mscp_queue.proofs.Ready.{others_at, ready_left}
+use Rattle.mscp_queue.proofs.Ready.{drive_found, others_at, ready_left}
 use Rattle.mscp_queue.proofs.queue.Queue.abort_at.Goals as goal
 
 pub take_out-requires-clause-front : goal.take_out-requires-clause-front
@@ -21,10 +25,26 @@ invariant_of-self g c =
     let K = g.row.K.Denot in
     let inside = subst (λ (l : Line K). c.args.place < length l.waiting) (sym c.self.view_is) c.requires in
     let e = c.take_out.ensures in
+    let q = c.self.inside in
+    let ready = c.self.invariant.ready in
+    let rs = q.backlog.waiting in
+    let place = c.args.place in
+    let found = drive_found q.backlog.targets place _ ready.held ready.targeted inside
+    (c.from-at.ensures ∙ ap (λ (a : Target). a.drive) c.target.ensures) in
+    let most = ready.held.units.few in
+    let fits = ready.held.fits in
+    let few = ready.held.few in
+    let many = length-map rs (λ (r : Record). r.command) in
     record {
-      ready = ready_left c.args.place c.self.invariant.ready
+      ready = ready_left place ready
           inside e.budget e.waiting e.targets c.without_place-self-inside.ensures c.without_place-self-inside-2.ensures;
-      listed = line_without c.args.place c.self.invariant.listed c.remove.ensures.view c.remove.ensures.dirty e.waiting;
+      listed = names_left place c.self.invariant.listed c.remove.ensures e.waiting;
+      favored = favored_served ready.held.units place c.from-at.result (omega (arith, inside, many))
+          (omega (arith, many, fits, few))
+          (found.placed ∙ ap (λ (c : Command). drive_place q.drives.items c.unit) (sym (command_is rs place inside))) true
+          c.self.invariant.favored (omega (arith, most, length-map q.drives.items (λ (d : Drive). d.unit))) refl
+          (λ k d. refl) (ap commands e.waiting ∙ sym (map_cut (λ (r : Record). r.command) rs place))
+          c.serve.ensures.known c.serve.ensures.costs c.serve.ensures.places;
     }
 
 pub returns-clause-after : goal.returns-clause-after
@@ -49,3 +69,29 @@ returns-clause-after g c =
           c.take_out.new.self.waiting q.begun place apart inside e.waiting c.self.invariant.ready.waits)) i;
       picker = q.picker;
     }) ∙ ap (λ (l : Line K). aborting (name_of (record_at l.waiting place)) l) c.self.view_is
+
+pub remove-requires : goal.remove-requires
+remove-requires g c =
+    let K = g.row.K.Denot in
+    let inside = subst (λ (l : Line K). c.args.place < length l.waiting) (sym c.self.view_is) c.requires in
+    omega (arith, inside, ap length c.self.invariant.listed.are, length-map c.self.inside.backlog.waiting name_of)
+
+pub serve-requires-clause-place : goal.serve-requires-clause-place
+serve-requires-clause-place g c =
+    let K = g.row.K.Denot in
+    let inside = subst (λ (l : Line K). c.args.place < length l.waiting) (sym c.self.view_is) c.requires in
+    let held = c.self.invariant.ready.held in
+    let fits = held.fits in
+    let few = held.few in
+    omega (arith, inside, fits, few)
+
+pub serve-requires-clause-drive : goal.serve-requires-clause-drive
+serve-requires-clause-drive g c =
+    let K = g.row.K.Denot in
+    let ready = c.self.invariant.ready in
+    let inside = subst (λ (l : Line K). c.args.place < length l.waiting) (sym c.self.view_is) c.requires in
+    let found = drive_found c.self.inside.backlog.targets c.args.place _ ready.held ready.targeted inside
+    (c.from-at.ensures ∙ ap (λ (a : Target). a.drive) c.target.ensures) in
+    let below = found.inside in
+    let few = ready.held.units.few in
+    omega (arith, below, few, length-map c.self.inside.drives.items (λ (d : Drive). d.unit))

@@ -1,4 +1,5 @@
 use Rattle.mscp_queue.proofs.Basics.{refl, ap, subst, sym, ◌∙◌, is_some, map, None, false≢true, fresh_drive, Waiters, IsReady, none_listed, held_fresh}
+use Rattle.mscp_queue.proofs.Favored.{none_known}
 use Rattle.mscp_queue.proofs.queue.Queue.new.Goals as goal
 
 pub invariant_of-result : goal.invariant_of-result
@@ -13,4 +14,8 @@ invariant_of-result g c =
       served = λ place e. absurd (false≢true (ap is_some e));
       waits = λ place e. absurd (false≢true (ap is_some e));
     }) in
-    record { ready = ready; listed = none_listed (ap (λ (w : Waiters). w.waiting) c.new.ensures) c.new-2.ensures }
+    record {
+      ready = ready;
+      listed = none_listed (ap (λ (w : Waiters). w.waiting) c.new.ensures) c.new-2.ensures;
+      favored = none_known ds _ c.new-3.result c.new-3.ensures;
+    }

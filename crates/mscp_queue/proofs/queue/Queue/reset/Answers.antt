@@ -1,4 +1,5 @@
 use Rattle.mscp_queue.proofs.Basics.{length, refl, ap, subst, sym, ◌∙◌, arith, is_some, map, None, refill, false≢true, Drive, fresh_drive, Waiters, IsReady, begun_name, none_listed, held_renewed, renewed}
+use Rattle.mscp_queue.proofs.Favored.{none_known}
 use Rattle.mscp_queue.proofs.queue.Queue.reset.Goals as goal
 
 pub invariant_of-self : goal.invariant_of-self
@@ -15,7 +16,11 @@ invariant_of-self g c =
       served = λ place e. absurd (false≢true (ap is_some e));
       waits = λ place e. absurd (false≢true (ap is_some e));
     }) in
-    record { ready = ready; listed = none_listed (ap (λ (w : Waiters). w.waiting) c.clear.ensures) c.clear-2.ensures }
+    record {
+      ready = ready;
+      listed = none_listed (ap (λ (w : Waiters). w.waiting) c.clear.ensures) c.clear-2.ensures;
+      favored = none_known _ _ c.clear-3.new.self c.clear-3.ensures;
+    }
 
 pub returns : goal.returns
 returns g c = search (arith, renewed)

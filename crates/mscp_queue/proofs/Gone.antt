@@ -1,0 +1,247 @@
+-- The best starts once a drive served a command, or one was aborted.
+use Rattle.mscp_queue.proofs.Basics.{◌≡◌, ◌≢◌, ◌⊎◌, inl, inr, ⊎_elim, ℕ, ◌+◌, ◌-◌, ◌<◌, ◌≤◌, Bool, true, false, not, cond, if◌then◌else◌, ◌&&◌, ◌||◌, ◌++◌, List, take, drop, length, get_or, refl, ap, sym, ◌∙◌, subst, arith, nat_eq, nat_lt, bit_at, list_all, eq-eqb, ne_eqb, false≢true, eqb-false, get_or-drop, get_or-take, get_or_append_left, get_or_default, length-take-le, length-append, length-drop, Command, Drive, IsSet, IsUnitList, units_of, is_sequential, no_record, drive_place, fresh_drive, pairs_rise, place_is, same_or, order_cost}
+use Rattle.mscp_queue.proofs.Common.{AreFavored, IsAhead, IsBest, IsClearOn, bars, command_at, cost_at, drive_in, is_clear, lt-ltb, le-ltb, get_or-append_right, one_block, place_closed, start_in}
+use Rattle.mscp_queue.specs.declared.favorites.Favorites.{Favorites}
+use Rattle.mscp_queue.specs.declared.favorites.Start.{Start}
+use Rattle.mscp_queue.proofs.Opens.{all_at, at_all}
+
+lt_or : (a b : ℕ) → (a < b) ⊎ (b ≤ a)
+lt_or a b = grind arith
+
+-- the place that a place had before the command at the place `gone` left
+abbrev up : ℕ → ℕ → ℕ
+up gone q = if nat_lt q gone then q else q + 1
+
+up_below : (gone q : ℕ) → q < gone → up gone q ≡ q
+up_below gone q l = ap (λ b. if b then q else q + 1) (lt-ltb q gone l)
+
+up_above : (gone q : ℕ) → gone ≤ q → up gone q ≡ q + 1
+up_above gone q l = ap (λ b. if b then q else q + 1) (le-ltb q gone l)
+
+closed_none : (gone : ℕ) → place_closed gone 64 ≡ 64
+closed_none gone = by (nat_lt gone 64)
+  where
+    by : (b : Bool) → (if b && false then 64 - 1 else 64) ≡ 64
+    by true = refl
+    by false = refl
+
+closed_below : (gone p : ℕ) → p ≤ gone → place_closed gone p ≡ p
+closed_below gone p l = ap (λ b. if b && not (nat_eq p 64) then p - 1 else p) (le-ltb gone p l)
+
+closed_above : (gone p : ℕ) → gone < p → p < 64 → place_closed gone p ≡ p - 1
+closed_above gone p l few = ap (λ b. if b && not (nat_eq p 64) then p - 1 else p) (lt-ltb gone p l)
+    ∙ ap (λ b. if not b then p - 1 else p) (ne_eqb p 64 (λ e. omega (arith, e, few)))
+
+-- those places are each other's
+up_closed : (gone p : ℕ) → p ≢ gone → p < 64 → up gone (place_closed gone p) ≡ p
+up_closed gone p d few = by (lt_or p gone)
+  where
+    by : (p < gone) ⊎ (gone ≤ p) → up gone (place_closed gone p) ≡ p
+    by (inl l) = ap (up gone) (closed_below gone p (omega (arith, l))) ∙ up_below gone p l
+    by (inr l) = ap (up gone) (closed_above gone p (omega (arith, l, d)) few)
+        ∙ (up_above gone (p - 1) (omega (arith, l, d)) ∙ omega (arith, l, d))
+
+closed_least : (gone p q : ℕ) → p ≢ gone → p < 64 → p ≤ up gone q → place_closed gone p ≤ q
+closed_least gone p q d few l = by (lt_or p gone) (lt_or q gone)
+  where
+    by : (p < gone) ⊎ (gone ≤ p) → (q < gone) ⊎ (gone ≤ q) → place_closed gone p ≤ q
+    by (inl a) (inl b) = omega (arith, closed_below gone p (omega (arith, a)), l, up_below gone q b)
+    by (inl a) (inr b) = omega (arith, closed_below gone p (omega (arith, a)), a, b)
+    by (inr a) (inl b) = absurd (omega (arith, a, b, l, up_below gone q b))
+    by (inr a) (inr b) = omega (arith, closed_above gone p (omega (arith, a, d)) few, l, up_above gone q b)
+
+up_more : (gone z q : ℕ) → z < q → up gone z < up gone q
+up_more gone z q l = by (lt_or z gone) (lt_or q gone)
+  where
+    by : (z < gone) ⊎ (gone ≤ z) → (q < gone) ⊎ (gone ≤ q) → up gone z < up gone q
+    by (inl a) (inl b) = omega (arith, up_below gone z a, up_below gone q b, l)
+    by (inl a) (inr b) = omega (arith, up_below gone z a, up_above gone q b, l)
+    by (inr a) (inl b) = absurd (omega (arith, a, b, l))
+    by (inr a) (inr b) = omega (arith, up_above gone z a, up_above gone q b, l)
+
+-- ---- the commands without that at a place
+module _ (cs : List Command) (gone : ℕ) (l : gone < length cs) (few : length cs ≤ 64) where
+  abbrev left : List Command
+  left = take gone cs ++ drop (gone + 1) cs
+
+  front_long : length (take gone cs) ≡ gone
+  front_long = length-take-le gone cs (omega (arith, l))
+
+  long : length left + 1 ≡ length cs
+  long = omega (arith, length-append (take gone cs) (drop (gone + 1) cs), front_long, length-drop (gone + 1) cs, l)
+
+  left_at : (q : ℕ) → command_at left q ≡ command_at cs (up gone q)
+  left_at q = by (lt_or q gone)
+    where
+      by : (q < gone) ⊎ (gone ≤ q) → command_at left q ≡ command_at cs (up gone q)
+      by (inl b) = get_or_append_left (take gone cs) (drop (gone + 1) cs) no_record.command q (omega (arith, b, front_long))
+          ∙ (get_or-take gone cs q no_record.command b ∙ ap (command_at cs) (sym (up_below gone q b)))
+      by (inr b) = get_or-append_right (take gone cs) (drop (gone + 1) cs) gone q no_record.command front_long b
+          ∙ (get_or-drop (gone + 1) cs (q - gone) no_record.command
+          ∙ ap (command_at cs) (there ∙ sym (up_above gone q b)))
+        where
+          there : gone + 1 + (q - gone) ≡ q + 1
+          there = omega (arith, b)
+
+  up_inside : (q : ℕ) → q < length left → up gone q < length cs
+  up_inside q k = by (lt_or q gone)
+    where
+      by : (q < gone) ⊎ (gone ≤ q) → up gone q < length cs
+      by (inl b) = omega (arith, up_below gone q b, b, l)
+      by (inr b) = omega (arith, up_above gone q b, k, long)
+
+  -- those to another unit than it
+  module _ (number : ℕ) (other : (command_at cs gone).unit ≢ number) where
+    not_gone : (p : ℕ) → IsClearOn cs number p → p ≢ gone
+    not_gone p h e = other (ap (λ k. (command_at cs k).unit) (sym e) ∙ h.unit)
+
+    free_of : (q : ℕ) → (command_at cs q).unit ≡ number → not (bars (command_at cs gone) (command_at cs q)) ≡ true
+    free_of q e = ap (λ b. not (b && (is_sequential (command_at cs gone).order || is_sequential (command_at cs q).order)))
+        (ne_eqb (command_at cs gone).unit (command_at cs q).unit (λ f. other (f ∙ e)))
+
+    from_left : (q : ℕ) → IsClearOn left number q → IsClearOn cs number (up gone q)
+    from_left q h = record {
+      inside = up_inside q h.inside;
+      unit = ap (λ (c : Command). c.unit) (sym (left_at q)) ∙ h.unit;
+      clear = at_all (λ one. not (bars one (command_at cs (up gone q)))) (take (up gone q) cs) no_record.command
+          (λ y b. by y (omega (arith, b, length-take-le (up gone q) cs (let k = up_inside q h.inside in omega (arith, k))))
+          (same_or y gone));
+    }
+      where
+        by : (y : ℕ) → y < up gone q → (y ≡ gone) ⊎ (y ≢ gone)
+            → not (bars (command_at (take (up gone q) cs) y) (command_at cs (up gone q))) ≡ true
+        by y b (inl e) =
+            ap (λ c. not (bars c (command_at cs (up gone q)))) (get_or-take (up gone q) cs y no_record.command b
+            ∙ ap (command_at cs) e)
+            ∙ free_of (up gone q) (ap (λ (c : Command). c.unit) (sym (left_at q)) ∙ h.unit)
+        by y b (inr d) =
+            let k = up_inside q h.inside in
+            let small : y < 64 = omega (arith, b, k, few) in
+            let z = place_closed gone y in
+            let is : up gone z ≡ y = up_closed gone y d small in
+            let under : z < q = less z (subst (λ n. n < up gone q) (sym is) b) in
+            let inside = h.inside in
+            let there : z < length (take q left) =
+            omega (arith, under, length-take-le q left (omega (arith, inside))) in
+            ap (λ c. not (bars c (command_at cs (up gone q)))) (get_or-take (up gone q) cs y no_record.command b
+            ∙ (ap (command_at cs) (sym is) ∙ sym (left_at z)))
+            ∙ ((λ i. not (bars (sym (get_or-take q left z no_record.command under) i) (sym (left_at q) i)))
+            ∙ all_at (λ one. not (bars one (command_at left q))) (take q left) z no_record.command h.clear there)
+          where
+            less : (z : ℕ) → up gone z < up gone q → z < q
+            less z a = less_by (lt_or z q)
+              where
+                less_by : (z < q) ⊎ (q ≤ z) → z < q
+                less_by (inl b) = b
+                less_by (inr b) = absurd (at_most b (same_or q z))
+                  where
+                    at_most : q ≤ z → (q ≡ z) ⊎ (q ≢ z) → ⊥
+                    at_most b (inl e) = (let f = ap (up gone) e in omega (arith, f, a))
+                    at_most b (inr d) = (let f = up_more gone q z (omega (arith, b, d)) in omega (arith, f, a))
+
+    to_left : (q : ℕ) → q < length left → IsClearOn cs number (up gone q) → IsClearOn left number q
+    to_left q k h = record {
+      inside = k;
+      unit = ap (λ (c : Command). c.unit) (left_at q) ∙ h.unit;
+      clear = at_all (λ one. not (bars one (command_at left q))) (take q left) no_record.command
+          (λ z b. by z (omega (arith, b, length-take-le q left (omega (arith, k)))));
+    }
+      where
+        by : (z : ℕ) → z < q → not (bars (command_at (take q left) z) (command_at left q)) ≡ true
+        by z b =
+            let more = up_more gone z q b in
+            let inside = h.inside in
+            let there : up gone z < length (take (up gone q) cs) =
+            omega (arith, more, length-take-le (up gone q) cs (omega (arith, inside))) in
+            (λ i. not (bars ((get_or-take q left z no_record.command b ∙ (left_at z
+            ∙ sym (get_or-take (up gone q) cs (up gone z) no_record.command more))) i) (left_at q i)))
+            ∙ all_at (λ one. not (bars one (command_at cs (up gone q)))) (take (up gone q) cs) (up gone z)
+            no_record.command h.clear there
+
+    -- the best of them stays the best, and its place follows
+    pub best_gone : (d : Drive) (s t : Start) → IsBest (IsClearOn cs number) (cost_at d cs) s → t.cost ≡ s.cost
+        → t.place ≡ place_closed gone s.place → IsBest (IsClearOn left number) (cost_at d left) t
+    best_gone d s t h cost place = record {
+      is = ⊎_elim (λ e. inl (place ∙ (ap (place_closed gone) e ∙ closed_none gone)))
+          (λ x. inr (subst (IsClearOn left number) (sym place) (there x.0),
+          cost ∙ (x.1 ∙ (costs (place_closed gone s.place) (sym (back x.0)) ∙ ap (cost_at d left) (sym place))))) h.is;
+      each = λ q o.
+          let a = h.each (up gone q) (from_left q o) in
+          (omega (arith, place, small s.place a.0), ahead q a);
+    }
+      where
+        costs : (q : ℕ) {p : ℕ} → p ≡ up gone q → cost_at d cs p ≡ cost_at d left q
+        costs q e = ap (cost_at d cs) e ∙ ap (λ (c : Command). order_cost d.unit d.head c.order) (sym (left_at q))
+
+        back : IsClearOn cs number s.place → up gone (place_closed gone s.place) ≡ s.place
+        back x = up_closed gone s.place (not_gone s.place x) (h.each s.place x).0
+
+        small : (p : ℕ) → p < 64 → place_closed gone p < 64
+        small p a = by (lt_or gone p)
+          where
+            by : (gone < p) ⊎ (p ≤ gone) → place_closed gone p < 64
+            by (inl b) = omega (arith, closed_above gone p b a, a)
+            by (inr b) = omega (arith, closed_below gone p b, a)
+
+        there : IsClearOn cs number s.place → IsClearOn left number (place_closed gone s.place)
+        there x = to_left (place_closed gone s.place) (by (lt_or gone s.place))
+            (subst (IsClearOn cs number) (sym (back x)) x)
+          where
+            by : (gone < s.place) ⊎ (s.place ≤ gone) → place_closed gone s.place < length left
+            by (inl b) = (let i = x.inside in
+                omega (arith, closed_above gone s.place b (h.each s.place x).0, i, long, b))
+            by (inr b) = omega (arith, closed_below gone s.place b, not_gone s.place x, b, long, l)
+
+        ahead : (q : ℕ) → (s.place < 64) × IsAhead s (cost_at d cs (up gone q)) (up gone q) → IsAhead t (cost_at d left q) q
+        ahead q a = ⊎_elim
+            (λ e. inl (let f = costs q refl in omega (arith, e, cost, f)))
+            (λ e. ⊎_elim (λ z. absurd (let b = a.0 in omega (arith, z, b)))
+            (λ x. inr (cost ∙ (e.0 ∙ costs q refl),
+            (let f = closed_least gone s.place q (not_gone s.place x.0) a.0 e.1 in omega (arith, place, f)))) h.is) a.1
+
+-- ---- of all drives
+-- a command to the unit of another drive isn't that which leaves
+other_unit : (ds : List Drive) (cs : List Command) (gone at k : ℕ) → IsUnitList (units_of ds)
+    → at ≡ drive_place ds (command_at cs gone).unit → k < length ds → k ≢ at
+    → (command_at cs gone).unit ≢ (drive_in ds k).unit.number
+other_unit ds cs gone at k units placed b d e = d (sym (place_is ds k (command_at cs gone).unit (drive_in ds k)
+    (pairs_rise (units_of ds) units.rising) b (get_or_default ds k (fresh_drive one_block) (drive_in ds k) b) (sym e))
+    ∙ sym placed)
+
+-- what is known then was known, and is another drive's
+known_was : (at k was now : ℕ) → k < 64 → IsSet false at was now → bit_at now k ≡ 1 → (k ≢ at) × (bit_at was k ≡ 1)
+known_was at k was now b set on = by (same_or k at)
+  where
+    by : (k ≡ at) ⊎ (k ≢ at) → (k ≢ at) × (bit_at was k ≡ 1)
+    by (inl e) =
+        let zero = set k b ∙ ap (λ b. cond b 0 (bit_at was k)) (eq-eqb k at e) in absurd (omega (arith, zero, on))
+    by (inr d) = (d, sym (ap (λ b. cond b 0 (bit_at was k)) (ne_eqb k at d)) ∙ (sym (set k b) ∙ on))
+
+module _ {ds : List Drive} {cs : List Command} (units : IsUnitList (units_of ds)) (gone at : ℕ) (l : gone < length cs)
+    (few : length cs ≤ 64) (placed : at ≡ drive_place ds (command_at cs gone).unit) where
+  -- a command is served, or leaves, on the drive at a place
+  pub favored_served : {ds' : List Drive} {cs' : List Command} {f g : Favorites} (ends : Bool) → AreFavored ds cs f
+      → length ds ≤ 16 → length ds' ≡ length ds → ((k : ℕ) → k ≢ at → drive_in ds' k ≡ drive_in ds k)
+      → cs' ≡ cond ends (take gone cs ++ drop (gone + 1) cs) cs → IsSet false at f.known g.known → g.costs ≡ f.costs
+      → ((k : ℕ) → k < 16
+      → get_or g.places k 0 ≡ cond ends (place_closed gone (get_or f.places k 0)) (get_or f.places k 0))
+      → AreFavored ds' cs' g
+  favored_served {ds'} {cs'} {f} {g} ends h most same drives left set costs places = record {
+    each = λ k b on.
+        let inside : k < length ds = omega (arith, b, same) in
+        let was = known_was at k f.known g.known (omega (arith, inside, most)) set on in
+        subst (λ d. IsBest (IsClearOn cs' d.unit.number) (cost_at d cs') (start_in g k)) (sym (drives k was.0))
+        (subst (λ cs'. IsBest (IsClearOn cs' (drive_in ds k).unit.number) (cost_at (drive_in ds k) cs') (start_in g k))
+        (sym left) (by ends k inside was.0 (h.each k inside was.1) (places k (omega (arith, inside, most)))));
+  }
+    where
+      by : (ends : Bool) (k : ℕ) → k < length ds → k ≢ at
+          → IsBest (IsClearOn cs (drive_in ds k).unit.number) (cost_at (drive_in ds k) cs) (start_in f k)
+          → get_or g.places k 0 ≡ cond ends (place_closed gone (get_or f.places k 0)) (get_or f.places k 0)
+          → IsBest (IsClearOn (cond ends (take gone cs ++ drop (gone + 1) cs) cs) (drive_in ds k).unit.number)
+          (cost_at (drive_in ds k) (cond ends (take gone cs ++ drop (gone + 1) cs) cs)) (start_in g k)
+      by true k b d best place = best_gone cs gone l few (drive_in ds k).unit.number (other_unit ds cs gone at k units placed b d) (drive_in ds k)
+          (start_in f k) (start_in g k) best (ap (λ cs. get_or cs k 0) costs) place
+      by false k b d best place = subst
+          (IsBest (IsClearOn cs (drive_in ds k).unit.number) (cost_at (drive_in ds k) cs))
+          (sym (λ i. record { cost = get_or (costs i) k 0; place = place i })) best

@@ -1,0 +1,203 @@
+-- The first of the cheapest starts on a drive, slot by slot.
+use Rattle.mscp_queue.proofs.Basics.{◌≡◌, ◌≢◌, ◌⊎◌, inl, inr, ⊎_elim, ℕ, ◌+◌, ◌<◌, ◌≤◌, Bool, true, false, cond, ◌&&◌, ◌||◌, List, Drive, Kind, Masks, Record, Slot, Target, map, nat_eq, nat_lt, last_cylinder, get_or, length, refl, ap, sym, ◌∙◌, subst, arith, bit, bit_at, has, eq-eqb, eqb-true, eqb-false, ltb-true, get_or-map, length-map, map_map, ne_eqb, no_target, same_or, held, kind_of, kind_at, long_shown, no_kind, shown, slot_has, slot_is, slot_low, targets, AreKept, AreOnDrive, IsSet}
+use Rattle.mscp_queue.proofs.Common.{IsAhead, IsBest, IsFront, IsOpenOn, cost_on, cost_there, kind_there, kinds, ltb-false, no_slot}
+use Rattle.mscp_queue.proofs.Counted.{one_place, placed}
+use Rattle.mscp_queue.specs.declared.favorites.Start.{Start}
+use Rattle.mscp_queue.proofs.Opens.{early_bit, front_open, open_front}
+
+-- the slots of a mask are left of those of the front: of the others this one's start is the first of the cheapest
+pub record Seeks (at : ℕ) (d : Drive) (order : List ℕ) (ks : List Kind) (own : List Target)
+    (front left best least : ℕ) : Type 0 where
+  pub of_left : (n : ℕ) → n < 64 → bit_at left n ≡ 1 → bit_at front n ≡ 1
+  pub place : ℕ
+  pub inside : place < length order
+  pub number : best ≡ get_or order place 0
+  pub on : bit_at front best ≡ 1
+  pub cost : least ≡ cost_there d ks own place
+  pub done : (p : ℕ) → p < length order → bit_at front (get_or order p 0) ≡ 1 → bit_at left (get_or order p 0) ≡ 0
+      → (least < cost_there d ks own p) ⊎ ((least ≡ cost_there d ks own p) × (place ≤ p))
+
+-- at first the first slot is looked at
+pub seeks_first : {at : ℕ} {d : Drive} {order : List ℕ} {ks : List Kind} {own : List Target} {front : ℕ}
+    (left best least p : ℕ) → p < length order → best ≡ get_or order p 0 → best < 64 → bit_at front best ≡ 1
+    → IsSet false best front left → least ≡ cost_there d ks own p
+    → ((q : ℕ) → q < length order → get_or order q 0 < 64)
+    → ((a b : ℕ) → a < length order → b < length order → get_or order a 0 ≡ get_or order b 0 → a ≡ b)
+    → Seeks at d order ks own front left best least
+seeks_first {at} {d} {order} {ks} {own} {front} left best least p l is low on set cost lows one =
+    record {
+      of_left = λ n b e. ⊎_elim (λ f. ap (bit_at front) f ∙ on) (λ f. sym (kept n b f) ∙ e) (same_or n best);
+      place = p;
+      inside = l;
+      number = is;
+      on = on;
+      cost = cost;
+      done = λ q k f off. ⊎_elim
+          (λ e. let r = one q p k l (e ∙ is) in
+          inr (cost ∙ ap (cost_there d ks own) (sym r), omega (arith, r)))
+          (λ e. let was = kept (get_or order q 0) (lows q k) e in absurd (omega (arith, was, f, off)))
+          (same_or (get_or order q 0) best);
+    }
+  where
+    kept : (n : ℕ) → n < 64 → n ≢ best → bit_at left n ≡ bit_at front n
+    kept n b e = set n b ∙ ap (λ b. cond b 0 (bit_at front n)) (ne_eqb n best e)
+
+-- one more is looked at, which stands at a place
+module _ {at : ℕ} {d : Drive} {order : List ℕ} {ks : List Kind} {own : List Target} {front left best least : ℕ}
+    (slot left' cost q : ℕ) (h : Seeks at d order ks own front left best least) (k : q < length order)
+    (is : slot ≡ get_or order q 0) (low : slot < 64) (on : bit_at left slot ≡ 1) (set : IsSet false slot left left')
+    (costs : cost ≡ cost_there d ks own q) (lows : (q : ℕ) → q < length order → get_or order q 0 < 64)
+    (one : (a b : ℕ) → a < length order → b < length order → get_or order a 0 ≡ get_or order b 0 → a ≡ b) where
+  kept : (n : ℕ) → n < 64 → n ≢ slot → bit_at left' n ≡ bit_at left n
+  kept n b e = set n b ∙ ap (λ b. cond b 0 (bit_at left n)) (ne_eqb n slot e)
+
+  was : (n : ℕ) → n < 64 → bit_at left' n ≡ 1 → bit_at front n ≡ 1
+  was n b e = h.of_left n b (⊎_elim (λ f. ap (bit_at left) f ∙ on) (λ f. sym (kept n b f) ∙ e) (same_or n slot))
+
+  -- what is done now was, or is that
+  done_or : (p : ℕ) → p < length order → bit_at left' (get_or order p 0) ≡ 0
+      → (p ≡ q) ⊎ (bit_at left (get_or order p 0) ≡ 0)
+  done_or p l off = ⊎_elim (λ e. inl (one p q l k (e ∙ is)))
+      (λ e. inr (sym (kept (get_or order p 0) (lows p l) e) ∙ off)) (same_or (get_or order p 0) slot)
+
+  -- it comes first
+  pub seeks_better : (cost < least) ⊎ ((cost ≡ least) × (q < h.place)) → Seeks at d order ks own front left' slot cost
+  seeks_better better = record {
+    of_left = was;
+    place = q;
+    inside = k;
+    number = is;
+    on = h.of_left slot low on;
+    cost = costs;
+    done = λ p l f off. ⊎_elim
+        (λ e. inr (costs ∙ ap (cost_there d ks own) (sym e), omega (arith, e)))
+        (λ e. by (cost_there d ks own p) p (h.done p l f e)) (done_or p l off);
+  }
+    where
+      by : (c p : ℕ) → (least < c) ⊎ ((least ≡ c) × (h.place ≤ p)) → (cost < c) ⊎ ((cost ≡ c) × (q ≤ p))
+      by c p o = grind (arith, better)
+
+  -- or not
+  pub seeks_on : (least < cost) ⊎ ((least ≡ cost) × (h.place ≤ q)) → Seeks at d order ks own front left' best least
+  seeks_on worse = record {
+    of_left = was;
+    place = h.place;
+    inside = h.inside;
+    number = h.number;
+    on = h.on;
+    cost = h.cost;
+    done = λ p l f off. ⊎_elim
+        (λ e. subst (λ c. (least < c) ⊎ ((least ≡ c) × (h.place ≤ p))) (costs ∙ ap (cost_there d ks own) (sym e))
+        (subst (λ r. (least < cost) ⊎ ((least ≡ cost) × (h.place ≤ r))) (sym e) worse))
+        (λ e. h.done p l f e) (done_or p l off);
+  }
+
+-- whether it comes first is told by its cost, and by who came earlier
+pub is_better : (cost least b p q : ℕ) → b ≡ bit (nat_lt q p) → (nat_lt cost least || (nat_eq cost least && nat_eq b 1))
+    ≡ true → (cost < least) ⊎ ((cost ≡ least) × (q < p))
+is_better cost least b p q e h = grind (arith, ltb-true, eqb-true)
+
+pub is_worse : (cost least b p q : ℕ) → b ≡ bit (nat_lt q p) → (nat_lt cost least || (nat_eq cost least && nat_eq b 1))
+    ≡ false → (least < cost) ⊎ ((least ≡ cost) × (p ≤ q))
+is_worse cost least b p q e h = grind (arith, ltb-false, eqb-false, eq-eqb)
+
+-- ---- the slots as they are kept
+-- a slot of the front stands at a place, and its command is open on the drive
+pub record IsFound (order : List ℕ) (ks : List Kind) (at n : ℕ) : Type 0 where
+  pub place : ℕ
+  pub inside : place < length order
+  pub number : n ≡ get_or order place 0
+  pub opens : IsOpenOn ks at place
+
+module _ {rs : List Record} {own : List Target} {order : List ℕ} {m : Masks} (ds : List ℕ) (now : List Slot)
+    (kept : AreKept rs own order m) (view : shown rs own ds order ≡ now) where
+  kinds_are : map (kind_at rs own) order ≡ kinds now
+  kinds_are = sym (map_map (held rs own ds) kind_of order) ∙ ap kinds view
+
+  pub lows : (q : ℕ) → q < length order → get_or order q 0 < 64
+  lows q l = slot_low order q kept.masks.apart l
+
+  pub ones : (a b : ℕ) → a < length order → b < length order → get_or order a 0 ≡ get_or order b 0 → a ≡ b
+  ones a b l k e = one_place order a b kept.masks.apart l k e
+
+  pub early : (p q : ℕ) → p < length order → q < length order
+      → bit_at (get_or m.earlier (get_or order p 0) 0) (get_or order q 0) ≡ bit (nat_lt q p)
+  early p q l k = early_bit (kind_at rs own) order m kept.masks 0 p q l k
+
+  pub found : {at front : ℕ} (n : ℕ) → IsFront at m front → n < 64 → bit_at front n ≡ 1 → IsFound order (kinds now) at n
+  found {at} {front} n h low on =
+      let t = placed order n (has_it (has n order) (sym (kept.masks.of_units at n low) ∙ (h.to n low on).0.unit)) in
+      record {
+        place = t.0;
+        inside = t.1;
+        number = t.2;
+        opens = subst (λ ks. IsOpenOn ks at t.0) kinds_are
+            (front_open (kind_at rs own) order m kept.masks at front t.0 h t.1 (ap (bit_at front) (sym t.2) ∙ on));
+      }
+    where
+      has_it : (b : Bool) → bit (b && nat_eq (kind_at rs own n).drive at) ≡ 1 → b ≡ true
+      has_it true e = refl
+      has_it false e = absurd (omega (arith, e))
+
+  pub opens_front : {at front : ℕ} (p : ℕ) → IsFront at m front → IsOpenOn (kinds now) at p
+      → bit_at front (get_or order p 0) ≡ 1
+  opens_front {at} {front} p h o = open_front (kind_at rs own) order m kept.masks at front p h
+      (subst (λ ks. IsOpenOn ks at p) (sym kinds_are) o)
+
+  target_is : (q n : ℕ) → q < length order → n ≡ get_or order q 0
+      → get_or own n no_target ≡ get_or (targets now) q no_target
+  target_is q n l e =
+      let inside : q < length now = omega (arith, l, long_shown rs own ds order now view) in
+      ap (λ (s : Slot). s.target) (slot_is rs own ds order now q n view inside e)
+      ∙ sym (get_or-map (λ (s : Slot). s.target) now q no_slot no_target inside)
+
+  kind_is : (q n : ℕ) → q < length order → n ≡ get_or order q 0 → kind_there (kinds now) q ≡ kind_at rs own n
+  kind_is q n l e = ap (λ ks. kind_there ks q) (sym kinds_are)
+      ∙ (get_or-map (kind_at rs own) order q 0 no_kind l ∙ ap (kind_at rs own) (sym e))
+
+  -- the cylinder of its first block is one of the unit's
+  pub within : {at : ℕ} (d : Drive) (n : ℕ) → AreOnDrive at d (targets now) → (f : IsFound order (kinds now) at n)
+      → (get_or own n no_target).cylinder ≤ last_cylinder d.unit
+  within {at} d n on f =
+      let inside : f.place < length (targets now) =
+      omega (arith, f.inside, long_shown rs own ds order now view, length-map now (λ (s : Slot). s.target)) in
+      let t = target_is f.place n f.inside f.number in
+      subst (λ (a : Target). a.cylinder ≤ last_cylinder d.unit) (sym t) (on f.place no_target inside
+      (ap (λ (a : Target). a.drive) (sym t) ∙ (ap (λ (k : Kind). k.drive) (sym (kind_is f.place n f.inside f.number))
+      ∙ f.opens.drive)))
+
+  -- and what its start costs
+  pub cost_found : {at : ℕ} (d : Drive) (n cost : ℕ) (sequential : Bool) → (f : IsFound order (kinds now) at n) → n < 64
+      → sequential ≡ nat_eq (bit_at m.sequential n) 1 → cost ≡ cost_on d sequential (get_or own n no_target).cylinder
+      → cost ≡ cost_there d (kinds now) (targets now) f.place
+  cost_found {at} d n cost sequential f low told is =
+      let t = target_is f.place n f.inside f.number in
+      let k = kind_is f.place n f.inside f.number in
+      let taken : has n order ≡ true = ap (λ k. has k order) f.number ∙ slot_has order f.place f.inside in
+      let bits : bit_at m.sequential n ≡ bit (kind_at rs own n).sequential =
+      kept.masks.of_sequential n low ∙ ap (λ b. bit (b && (kind_at rs own n).sequential)) taken in
+      let same : sequential ≡ (kind_there (kinds now) f.place).sequential =
+      told ∙ (ap (λ b. nat_eq b 1) bits ∙ (of_bit (kind_at rs own n).sequential
+      ∙ ap (λ (k : Kind). k.sequential) (sym k))) in
+      is ∙ (λ i. cost_on d (same i) (t i).cylinder)
+    where
+      of_bit : (b : Bool) → nat_eq (bit b) 1 ≡ b
+      of_bit true = refl
+      of_bit false = refl
+
+-- none is left: it is the best
+pub sought : {at : ℕ} {d : Drive} {order : List ℕ} {ks : List Kind} {own : List Target} {front left best least : ℕ}
+    (s : Start) (h : Seeks at d order ks own front left best least) → length order ≤ 64 → IsOpenOn ks at h.place
+    → ((p : ℕ) → IsOpenOn ks at p → (p < length order) × (bit_at front (get_or order p 0) ≡ 1))
+    → ((q : ℕ) → q < length order → get_or order q 0 < 64) → ((n : ℕ) → n < 64 → bit_at left n ≡ 0)
+    → s.place ≡ h.place → s.cost ≡ least → IsBest (IsOpenOn ks at) (cost_there d ks own) s
+sought {at} {d} {order} {ks} {own} {front} {left} {best} {least} s h few opens on lows none place cost = record {
+  is = inr (subst (IsOpenOn ks at) (sym place) opens, cost ∙ (h.cost ∙ ap (cost_there d ks own) (sym place)));
+  each = λ p o.
+      let t = on p o in
+      let done = h.done p t.0 t.1 (none (get_or order p 0) (lows p t.0)) in (
+        (let inside = h.inside in omega (arith, place, inside, few)),
+        ⊎_elim (λ e. inl (omega (arith, e, cost)))
+            (λ e. inr (cost ∙ e.0, (let r = e.1 in omega (arith, r, place)))) done,
+      );
+}

@@ -1,0 +1,47 @@
+use Rattle.mscp_queue.proofs.Basics.{◌≡◌, ◌+◌, ◌-◌, ◌<◌, ℕ, false, true, take, length, refl, ap, sym, subst, ◌∙◌, arith, get_or_default, Drive, Target, no_record, no_target, record_at, has_drive, order_cost}
+use Rattle.mscp_queue.proofs.Common.{AreFavored, commands, is_clear}
+use Rattle.mscp_queue.proofs.Favored.{clear_is}
+use Rattle.mscp_queue.proofs.Starting.{free_is}
+use Rattle.mscp_queue.proofs.Arrived.{arrived, still}
+use Rattle.mscp_queue.proofs.start.favor_last.Goals as goal
+
+pub come-requires : goal.come-requires
+come-requires c =
+    let rs = c.args.backlog.now.waiting in
+    let n = c.len-place.result - 1 in
+    let inside : n < length rs = (let some = c.requires.some in omega (arith, some, c.len-place.ensures.waiting)) in
+    (has_drive c.args.drives.now rs c.args.backlog.now.targets n (record_at rs n) c.from.result no_target
+    c.requires.waiting inside (sym (get_or_default rs n (record_at rs n) no_record inside))
+    (c.from.ensures ∙ ap (λ (a : Target). a.drive) c.target.ensures)).few
+
+pub returns-then-is_free : goal.returns-then-is_free
+returns-then-is_free c =
+    let rs = c.args.backlog.now.waiting in
+    let n = c.len-place.result - 1 in
+    let long : length rs ≡ n + 1 =
+    (let some = c.requires.some in omega (arith, some, c.len-place.ensures.waiting)) in
+    let clear = clear_is rs n (omega (arith, long))
+    ∙ (sym (free_is c.args.drives.now rs c.args.backlog.now.targets n c.requires.waiting (omega (arith, long)))
+    ∙ (sym c.is_free.ensures ∙ c.if-is_free.true)) in
+    arrived c.requires.waiting c.requires.units n long c.from.result _
+    (subst (λ k. AreFavored c.args.drives.now (take (k - 1) (commands rs)) c.args.favorites.now)
+    (sym c.len-place.ensures.waiting) c.requires.favored) clear
+    (has_drive c.args.drives.now rs c.args.backlog.now.targets n (record_at rs n) c.from.result no_target
+    c.requires.waiting (omega (arith, long)) (sym (get_or_default rs n (record_at rs n) no_record (omega (arith, long))))
+    (c.from.ensures ∙ ap (λ (a : Target). a.drive) c.target.ensures)).place
+    refl
+    (c.cost_of.ensures ∙ (λ i. order_cost (c.targeted_at-cylinder.ensures.drive i).unit
+    (c.targeted_at-cylinder.ensures.drive i).head (c.targeted_at-cylinder.ensures.record i).command.order))
+    c.come.ensures.known c.come.ensures.starts
+
+pub returns-else-is_free : goal.returns-else-is_free
+returns-else-is_free c =
+    let rs = c.args.backlog.now.waiting in
+    let n = c.len-place.result - 1 in
+    let long : length rs ≡ n + 1 =
+    (let some = c.requires.some in omega (arith, some, c.len-place.ensures.waiting)) in
+    still c.requires.waiting c.requires.units n long c.args.favorites.now
+    (subst (λ k. AreFavored c.args.drives.now (take (k - 1) (commands rs)) c.args.favorites.now)
+    (sym c.len-place.ensures.waiting) c.requires.favored) (clear_is rs n (omega (arith, long))
+    ∙ (sym (free_is c.args.drives.now rs c.args.backlog.now.targets n c.requires.waiting (omega (arith, long)))
+    ∙ (sym c.is_free.ensures ∙ c.if-is_free.false)))
