@@ -1,5 +1,5 @@
 -- The best starts once a command came, behind all that wait.
-use Rattle.mscp_queue.proofs.Basics.{◌≡◌, ◌≢◌, ◌⊎◌, inl, inr, ⊎_elim, ℕ, ◌+◌, ◌<◌, ◌≤◌, Bool, true, false, List, take, length, get_or, refl, ap, sym, ◌∙◌, subst, arith, ext_get_or, false≢true, get_or-map, get_or-take, get_or_default, length-map, length-take-le, Command, Drive, Target, IsUnitList, CanBeShown, is_known, units_of, drive_place, fresh_drive, known_at, place_is, pairs_rise, place_same, same_or, Record, no_record, no_target, record_at, drive_at, drive_of, order_cost}
+use Rattle.mscp_queue.proofs.Basics.{◌≡◌, ◌≢◌, ◌⊎◌, inl, inr, ⊎_elim, ℕ, ◌+◌, ◌<◌, ◌≤◌, true, false, List, take, length, get_or, refl, ap, sym, ◌∙◌, subst, arith, ext_get_or, false≢true, get_or-take, get_or_default, length-map, length-take-le, Command, Drive, Target, IsUnitList, CanBeShown, is_known, units_of, drive_place, fresh_drive, known_at, place_is, pairs_rise, same_or, Record, no_record, record_at, drive_at, order_cost}
 use Rattle.mscp_queue.proofs.Common.{AreFavored, IsBest, IsClearOn, IsLearned, bars, bit_at, cheaper, command_at, commands, cost_at, drive_in, is_clear, list_all, not, one_block, start_in}
 use Rattle.mscp_queue.specs.declared.favorites.Favorites.{Favorites}
 use Rattle.mscp_queue.specs.declared.favorites.Start.{Start}

@@ -17,4 +17,4 @@ pub use Rattle.mscp_queue.proofs.Held.{AreIdle, held_fresh, held_pushed, held_re
 pub use Rattle.mscp_queue.proofs.Turns.{StepMade, head_kept, held_step, inside_of, next_turn, pairs_rise, touched_inside, units_step}
 pub use Rattle.mscp_queue.proofs.Dues.{abort_enough, due_aborted, due_ended, due_pushed, due_set_back, due_started, due_stepped, due_tells, end_enough, item_there, items_append, items_fallen, items_unless, late, lowered_none}
 pub use Rattle.mscp_queue.proofs.Drives.{apart_by_place, drive_place, known_at, place_is, set_replaced}
-pub use Rattle.mscp_queue.proofs.Targets.{LeadsTo, cylinder_within, has_drive, leads_to, led, led_inside, own_blocks, own_target, place_inside, place_same, target_made, targets_cut, targets_kept, targets_pushed}
+pub use Rattle.mscp_queue.proofs.Targets.{LeadsTo, cylinder_within, has_drive, leads_to, led, led_inside, own_blocks, own_target, place_inside, place_same, range_low, target_made, targets_cut, targets_kept, targets_pushed}

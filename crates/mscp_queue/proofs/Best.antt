@@ -1,5 +1,5 @@
 -- The first of the cheapest of some starts.
-use Rattle.mscp_queue.proofs.Common.{◌≡◌, ◌⊎◌, inl, inr, ⊎_elim, ℕ, ◌<◌, ◌≤◌, Bool, true, false, cond, not, ◌&&◌, ◌||◌, nat_eq, nat_lt, refl, ap, sym, ◌∙◌, subst, arith, eq-eqb, eqb-true, eqb-false, ltb-true, ltb-false, IsAhead, IsBest, cheaper, comes_before, is_none}
+use Rattle.mscp_queue.proofs.Common.{◌≡◌, ◌⊎◌, inl, inr, ⊎_elim, ℕ, ◌<◌, ◌≤◌, Bool, true, false, cond, ◌||◌, nat_lt, refl, ap, sym, ◌∙◌, subst, arith, eq-eqb, eqb-true, eqb-false, ltb-true, ltb-false, IsAhead, IsBest, cheaper, comes_before, is_none}
 use Rattle.mscp_queue.specs.declared.favorites.Start.{Start}
 
 -- the same places at the same costs
@@ -33,8 +33,11 @@ best_of_two {P} {Q} {c} {one} {other} s true h k e f =
     subst (IsBest (λ p. P p ⊎ Q p) c) (sym f) (record {
       is = ⊎_elim (λ x. absurd (t.0 x)) (λ x. inr (inr x.0, x.1)) k.is;
       each = λ p x. ⊎_elim
-          (λ y. let a = h.each p y in (below k.is t.0, ⊎_elim (λ z. absurd (omega (arith, z, a.0)))
-          (λ z. ahead_of other one (c p) p z a.1) t.1))
+          (λ y. let a = h.each p y in (
+            below k.is t.0,
+            ⊎_elim (λ z. absurd (omega (arith, z, a.0)))
+                (λ z. ahead_of other one (c p) p z a.1) t.1,
+          ))
           (λ y. k.each p y) x;
     })
   where
@@ -76,18 +79,23 @@ best_come {P} {c} {s} t n h below low place cost = by (is_none s || nat_lt t.cos
     by : (b : Bool) → (is_none s || nat_lt t.cost s.cost) ≡ b → IsBest (λ p. P p ⊎ (p ≡ n)) c (cond b t s)
     by true e = record {
       is = inr (inr place, cost ∙ ap c (sym place));
-      each = λ p x. (omega (arith, place, low), ⊎_elim
-          (λ y. let a = h.each p y in ⊎_elim (λ z. absurd (let l = a.0 in omega (arith, z, l)))
-          (λ z. least p z a.1) (is_cheaper t s e))
-          (λ y. inr (cost ∙ ap c (sym y), omega (arith, place, y))) x);
+      each = λ p x. (
+        omega (arith, place, low),
+        ⊎_elim
+            (λ y. let a = h.each p y in ⊎_elim (λ z. absurd (let l = a.0 in omega (arith, z, l)))
+            (λ z. least p z a.1) (is_cheaper t s e))
+            (λ y. inr (cost ∙ ap c (sym y), omega (arith, place, y))) x,
+      );
     }
     by false e =
         let f = not_cheaper t s e in
         record {
           is = ⊎_elim (λ z. absurd (f.0 z)) (λ z. inr (inl z.0, z.1)) h.is;
           each = λ p x. ⊎_elim (λ y. h.each p y)
-              (λ y. let l = there f.0 in
-              (omega (arith, l, low), subst (λ k. IsAhead s (c k) k) (sym y)
-              (⊎_elim (λ z. inl (omega (arith, z, cost))) (λ z. inr (z ∙ cost, omega (arith, l)))
-              (less_or s.cost t.cost f.1)))) x;
+              (λ y. let l = there f.0 in (
+                omega (arith, l, low),
+                subst (λ k. IsAhead s (c k) k) (sym y)
+                    (⊎_elim (λ z. inl (omega (arith, z, cost))) (λ z. inr (z ∙ cost, omega (arith, l)))
+                    (less_or s.cost t.cost f.1)),
+              )) x;
         }

@@ -1,6 +1,7 @@
 -- The best starts that a queue keeps are those that the slots tell.
-use Rattle.mscp_queue.proofs.Basics.{◌≡◌, ◌≢◌, ◌⊎◌, inl, inr, ⊎_elim, ℕ, ◌+◌, ◌<◌, ◌≤◌, Bool, true, false, not, ◌&&◌, ◌||◌, List, [], ◌∷◌, map, take, get_or, length, refl, ap, sym, ◌∙◌, subst, arith, list_all, nat_eq, false≢true, get_or-map, get_or_default, length-map, take-map, all_shown, Command, Order, Shape, cylinder_of, first_block, is_move, is_sequential, order_cost, Drive, Kind, Record, Target, CanBeShown, IsUnitList, is_known, units_of, no_record, no_target, record_at, target_of, targets_of, unit_place, AreOnDrive, IsSet, bit_at, bit_at-zero, cond, ne_eqb, same_or, drive_of, drive_place, fresh_drive, known_at, place_is, pairs_rise, place_same, cylinder_within, is_free, leads_to, LeadsTo, kinds_of, no_kind, is_unfenced_at, own_target}
-use Rattle.mscp_queue.proofs.Common.{AreFavored, IsBest, IsClearOn, IsLearned, IsOpenOn, bars, command_at, commands, cost_at, cost_on, cost_of, cost_there, drive_in, is_clear, kind_there, last_cylinder, one_block, start_in}
+use Rattle.mscp_queue.proofs.Basics.{◌≡◌, ⊎_elim, ℕ, ◌<◌, ◌≤◌, Bool, true, false, not, ◌||◌, List, map, take, get_or, length, refl, ap, sym, ◌∙◌, subst, arith, list_all, false≢true, get_or-map, get_or_default, length-map, take-map, all_shown, Command, Order, cylinder_of, first_block, is_move, is_sequential, order_cost, Drive, Kind, Record, Target, CanBeShown, IsUnitList, is_known, units_of, no_record, no_target, record_at, target_of, unit_place, AreOnDrive, IsSet, bit_at, bit_at-zero, cond, ne_eqb, same_or, drive_of, fresh_drive, known_at, place_is, pairs_rise, place_same, cylinder_within, is_free, leads_to, LeadsTo, kinds_of, no_kind, own_target}
+use Rattle.mscp_queue.proofs.Common.{AreFavored, IsBest, IsClearOn, IsLearned, IsOpenOn, bars, command_at, commands, cost_at, cost_on, cost_there, drive_in, is_clear, kind_there, last_cylinder, one_block, range_of, start_in}
+use Rattle.mscp_queue.proofs.Turns.{found_unit}
 use Rattle.mscp_queue.specs.declared.favorites.Start.{Start}
 use Rattle.mscp_queue.specs.declared.favorites.Favorites.{Favorites}
 use Rattle.std.proofs.Math.Nat.{zero-div}
@@ -64,14 +65,28 @@ module _ {ds : List Drive} {rs : List Record} {own : List Target} (shown : CanBe
   -- each first block there is on a cylinder of it
   pub all_on_drive : AreOnDrive at d own
   all_on_drive place other l e =
-      let below : place < length rs = omega (arith, l, ap length shown.targeted,
-      length-map rs (λ (r : Record). target_of (units_of ds) r.command)) in
+      let below : place < length rs = omega (
+        arith,
+        l,
+        ap length shown.targeted,
+        length-map rs (λ (r : Record). target_of (units_of ds) r.command),
+      ) in
       let a = get_or_default own place other no_target l in
       let t = (leads place below (ap (λ (a : Target). a.drive) (sym a) ∙ e)).targeted in
-      subst (λ (a : Target). a.cylinder ≤ last_cylinder d.unit) (sym a)
-      (subst (λ k. k ≤ last_cylinder d.unit) (sym t.cylinder_is)
-      (by (is_move (record_at rs place).command.order) refl t.block))
+      subst (λ (a : Target). (a.cylinder ≤ last_cylinder d.unit) × (a.range ≡ range_of d.unit a.cylinder)) (sym a) (
+        subst (λ k. k ≤ last_cylinder d.unit) (sym t.cylinder_is)
+            (by (is_move (record_at rs place).command.order) refl t.block),
+        in_range place below ((leads place below (ap (λ (a : Target). a.drive) (sym a) ∙ e)).drive),
+      )
     where
+      in_range : (place : ℕ) → place < length rs → d ≡ drive_of ds (number place)
+          → (get_or own place no_target).range ≡ range_of d.unit (get_or own place no_target).cylinder
+      in_range place l e =
+          let made = own_target ds rs own place (record_at rs place) no_target shown l
+          (sym (get_or_default rs place (record_at rs place) no_record l)) in
+          ap (λ (a : Target). a.range) made ∙ (λ i. range_of
+          ((found_unit (number place) ds ∙ ap (λ (q : Drive). q.unit) (sym e)) i) (sym made i).cylinder)
+
       by : (b : Bool) → is_move (record_at rs place).command.order ≡ b
           → (is_move (record_at rs place).command.order ≡ true
           → first_block (record_at rs place).command.order < d.unit.size)
@@ -127,12 +142,14 @@ module _ {ds : List Drive} {rs : List Record} {own : List Target} (shown : CanBe
 pub favored_more : {ds : List Drive} {cs : List Command} {f g : Favorites} (at : ℕ) (s : Start) → AreFavored ds cs f
     → length ds ≤ 16 → IsBest (IsClearOn cs (drive_in ds at).unit.number) (cost_at (drive_in ds at) cs) s
     → IsSet true at f.known g.known → IsLearned at s f g → AreFavored ds cs g
-favored_more {ds} {cs} {f} {g} at s h few best set learned = record { each = λ k l on. ⊎_elim
-    (λ e. subst (λ k. IsBest (IsClearOn cs (drive_in ds k).unit.number) (cost_at (drive_in ds k) cs) (start_in g k)) (sym e)
-    (subst (IsBest (IsClearOn cs (drive_in ds at).unit.number) (cost_at (drive_in ds at) cs)) (sym learned.own) best))
-    (λ d. subst (IsBest (IsClearOn cs (drive_in ds k).unit.number) (cost_at (drive_in ds k) cs)) (sym (learned.other k d))
-    (h.each k l (sym (set k (omega (arith, l, few)) ∙ ap (λ b. cond b 1 (bit_at f.known k)) (ne_eqb k at d)) ∙ on)))
-    (same_or k at) }
+favored_more {ds} {cs} {f} {g} at s h few best set learned = record {
+  each = λ k l on. ⊎_elim
+      (λ e. subst (λ k. IsBest (IsClearOn cs (drive_in ds k).unit.number) (cost_at (drive_in ds k) cs) (start_in g k)) (sym e)
+      (subst (IsBest (IsClearOn cs (drive_in ds at).unit.number) (cost_at (drive_in ds at) cs)) (sym learned.own) best))
+      (λ d. subst (IsBest (IsClearOn cs (drive_in ds k).unit.number) (cost_at (drive_in ds k) cs)) (sym (learned.other k d))
+      (h.each k l (sym (set k (omega (arith, l, few)) ∙ ap (λ b. cond b 1 (bit_at f.known k)) (ne_eqb k at d)) ∙ on)))
+      (same_or k at);
+}
 
 -- nothing is known
 pub none_known : (ds : List Drive) (cs : List Command) (f : Favorites) → f.known ≡ 0 → AreFavored ds cs f

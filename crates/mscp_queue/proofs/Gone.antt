@@ -1,6 +1,6 @@
 -- The best starts once a drive served a command, or one was aborted.
-use Rattle.mscp_queue.proofs.Basics.{◌≡◌, ◌≢◌, ◌⊎◌, inl, inr, ⊎_elim, ℕ, ◌+◌, ◌-◌, ◌<◌, ◌≤◌, Bool, true, false, not, cond, if◌then◌else◌, ◌&&◌, ◌||◌, ◌++◌, List, take, drop, length, get_or, refl, ap, sym, ◌∙◌, subst, arith, nat_eq, nat_lt, bit_at, list_all, eq-eqb, ne_eqb, false≢true, eqb-false, get_or-drop, get_or-take, get_or_append_left, get_or_default, length-take-le, length-append, length-drop, Command, Drive, IsSet, IsUnitList, units_of, is_sequential, no_record, drive_place, fresh_drive, pairs_rise, place_is, same_or, order_cost}
-use Rattle.mscp_queue.proofs.Common.{AreFavored, IsAhead, IsBest, IsClearOn, bars, command_at, cost_at, drive_in, is_clear, lt-ltb, le-ltb, get_or-append_right, one_block, place_closed, start_in}
+use Rattle.mscp_queue.proofs.Basics.{◌≡◌, ◌≢◌, ◌⊎◌, inl, inr, ⊎_elim, ℕ, ◌+◌, ◌-◌, ◌<◌, ◌≤◌, Bool, true, false, not, cond, if◌then◌else◌, ◌&&◌, ◌||◌, ◌++◌, List, take, drop, length, get_or, refl, ap, sym, ◌∙◌, subst, arith, nat_eq, nat_lt, bit_at, eq-eqb, ne_eqb, get_or-drop, get_or-take, get_or_append_left, get_or_default, length-take-le, length-append, length-drop, Command, Drive, IsSet, IsUnitList, units_of, is_sequential, no_record, drive_place, fresh_drive, pairs_rise, place_is, same_or, order_cost}
+use Rattle.mscp_queue.proofs.Common.{AreFavored, IsAhead, IsBest, IsClearOn, bars, command_at, cost_at, drive_in, lt-ltb, le-ltb, get_or-append_right, one_block, place_closed, start_in}
 use Rattle.mscp_queue.specs.declared.favorites.Favorites.{Favorites}
 use Rattle.mscp_queue.specs.declared.favorites.Start.{Start}
 use Rattle.mscp_queue.proofs.Opens.{all_at, at_all}
@@ -163,8 +163,10 @@ module _ (cs : List Command) (gone : ℕ) (l : gone < length cs) (few : length c
         → t.place ≡ place_closed gone s.place → IsBest (IsClearOn left number) (cost_at d left) t
     best_gone d s t h cost place = record {
       is = ⊎_elim (λ e. inl (place ∙ (ap (place_closed gone) e ∙ closed_none gone)))
-          (λ x. inr (subst (IsClearOn left number) (sym place) (there x.0),
-          cost ∙ (x.1 ∙ (costs (place_closed gone s.place) (sym (back x.0)) ∙ ap (cost_at d left) (sym place))))) h.is;
+          (λ x. inr (
+            subst (IsClearOn left number) (sym place) (there x.0),
+            cost ∙ (x.1 ∙ (costs (place_closed gone s.place) (sym (back x.0)) ∙ ap (cost_at d left) (sym place))),
+          )) h.is;
       each = λ q o.
           let a = h.each (up gone q) (from_left q o) in
           (omega (arith, place, small s.place a.0), ahead q a);
@@ -196,8 +198,10 @@ module _ (cs : List Command) (gone : ℕ) (l : gone < length cs) (few : length c
         ahead q a = ⊎_elim
             (λ e. inl (let f = costs q refl in omega (arith, e, cost, f)))
             (λ e. ⊎_elim (λ z. absurd (let b = a.0 in omega (arith, z, b)))
-            (λ x. inr (cost ∙ (e.0 ∙ costs q refl),
-            (let f = closed_least gone s.place q (not_gone s.place x.0) a.0 e.1 in omega (arith, place, f)))) h.is) a.1
+            (λ x. inr (
+              cost ∙ (e.0 ∙ costs q refl),
+              (let f = closed_least gone s.place q (not_gone s.place x.0) a.0 e.1 in omega (arith, place, f)),
+            )) h.is) a.1
 
 -- ---- of all drives
 -- a command to the unit of another drive isn't that which leaves

@@ -28,6 +28,7 @@ pub mod Listed
 pub mod Best
 pub mod Fronts
 pub mod Opens
+pub mod Ranging
 pub mod Seeking
 pub mod Dues
 pub mod BacklogSteps

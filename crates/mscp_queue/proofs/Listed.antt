@@ -1,5 +1,5 @@
 -- A command is looked for among the names of those that wait.
-use Rattle.mscp_queue.proofs.Common.{◌≡◌, ℕ, ◌+◌, ◌<◌, Bool, true, false, cond, not, ◌||◌, List, [], ◌∷◌, ◌++◌, map, take, drop, length, refl, ap, sym, ◌∙◌, arith, nat_lt, Some, None, list_any, position, position_or_len, length-map, map-append, Name, AreListed, is_named, name_on, names, Record, advanced, has_name, name_of, passed_by, record_at}
+use Rattle.mscp_queue.proofs.Common.{◌≡◌, ℕ, ◌+◌, ◌<◌, Bool, cond, not, ◌||◌, List, [], ◌∷◌, ◌++◌, map, take, drop, length, refl, ap, sym, ◌∙◌, arith, nat_lt, Some, None, list_any, position, position_or_len, length-map, map-append, Name, AreListed, is_named, name_on, names, Record, advanced, has_name, name_of, passed_by, record_at}
 use Rattle.mscp_queue.proofs.Unmoved.{made_served, map_cut}
 
 module _ {X Y : Type 0} (p : Y → Bool) (f : X → Y) where

@@ -1,5 +1,5 @@
 -- A slot in front of the sequential commands of its unit is that of a command that nobody keeps back.
-use Rattle.mscp_queue.proofs.Basics.{◌≡◌, ◌≢◌, ◌⊎◌, inl, inr, ⊎_elim, ℕ, zero, suc, ◌+◌, ◌<◌, ◌≤◌, Bool, true, false, not, cond, ◌&&◌, ◌||◌, nat_eq, nat_lt, List, [], ◌∷◌, map, take, get_or, length, refl, ap, sym, ◌∙◌, subst, arith, slice_index_or, bit_at, list_all, AllByRecursion, All-from_recursion, eq-eqb, eqb-true, lt-ltb, false≢true, get_or-map, get_or-take, length-map, length-take-le, every_of, Masks, AreMasks, AreSlots, AreEarlier, IsMaskOf, Kind, bit, has, keeps_back, no_kind, is_unfenced_at, cut_order, earlier_at, IsNumber, one_bit, slot_has, slot_low}
+use Rattle.mscp_queue.proofs.Basics.{◌≡◌, ◌≢◌, ◌⊎◌, inl, inr, ⊎_elim, ℕ, suc, ◌<◌, ◌≤◌, Bool, true, false, not, ◌&&◌, ◌||◌, nat_eq, nat_lt, List, [], ◌∷◌, map, take, get_or, length, refl, ap, sym, ◌∙◌, subst, arith, slice_index_or, bit_at, list_all, All-from_recursion, eq-eqb, eqb-true, lt-ltb, false≢true, get_or-map, get_or-take, length-map, length-take-le, every_of, Masks, AreMasks, AreEarlier, IsMaskOf, Kind, bit, has, keeps_back, no_kind, is_unfenced_at, cut_order, earlier_at, IsNumber, one_bit, slot_has, slot_low}
 use Rattle.mscp_queue.proofs.Common.{IsFence, IsFront, IsInFront, IsOpenOn, le-ltb}
 use Rattle.mscp_queue.proofs.Counted.{one_place, placed}
 use Rattle.mscp_queue.proofs.Masked.{same_or}

@@ -1,5 +1,5 @@
 -- Where the oldest may still be passed by each, each may pass those in front of it.
-use Rattle.mscp_queue.proofs.Basics.{◌≡◌, ℕ, ◌+◌, ◌<◌, ◌≤◌, true, List, [], ◌∷◌, take, length, refl, ap, sym, ◌∙◌, arith, All, AllByRecursion, le-leb, All-from_recursion, All-take, recursion_from_All, ArePassedInOrder, Record, no_record, record_at, is_affordable, every_weaker}
+use Rattle.mscp_queue.proofs.Basics.{◌≡◌, ℕ, ◌+◌, ◌≤◌, true, List, [], ◌∷◌, take, refl, arith, All, AllByRecursion, le-leb, All-from_recursion, All-take, recursion_from_All, ArePassedInOrder, Record, no_record, record_at, is_affordable, every_weaker}
 use Rattle.mscp_queue.proofs.Common.{MayAllPass}
 
 module _ (budget most : ℕ) where

@@ -1,6 +1,7 @@
 -- The first of the cheapest starts on a drive, slot by slot.
-use Rattle.mscp_queue.proofs.Basics.{◌≡◌, ◌≢◌, ◌⊎◌, inl, inr, ⊎_elim, ℕ, ◌+◌, ◌<◌, ◌≤◌, Bool, true, false, cond, ◌&&◌, ◌||◌, List, Drive, Kind, Masks, Record, Slot, Target, map, nat_eq, nat_lt, last_cylinder, get_or, length, refl, ap, sym, ◌∙◌, subst, arith, bit, bit_at, has, eq-eqb, eqb-true, eqb-false, ltb-true, get_or-map, length-map, map_map, ne_eqb, no_target, same_or, held, kind_of, kind_at, long_shown, no_kind, shown, slot_has, slot_is, slot_low, targets, AreKept, AreOnDrive, IsSet}
-use Rattle.mscp_queue.proofs.Common.{IsAhead, IsBest, IsFront, IsOpenOn, cost_on, cost_there, kind_there, kinds, ltb-false, no_slot}
+use Rattle.mscp_queue.proofs.Basics.{◌≡◌, ◌≢◌, ◌⊎◌, inl, inr, ⊎_elim, ℕ, ◌+◌, ◌/◌, ◌<◌, ◌≤◌, Bool, true, false, cond, ◌&&◌, ◌||◌, List, Drive, Kind, Masks, Record, Slot, Target, map, nat_eq, nat_lt, last_cylinder, get_or, length, refl, ap, sym, ◌∙◌, subst, arith, bit, bit_at, has, eq-eqb, eqb-true, eqb-false, ltb-true, get_or-map, length-map, map_map, ne_eqb, no_target, same_or, held, kind_of, kind_at, long_shown, no_kind, shown, slot_has, slot_is, slot_low, targets, AreKept, AreOnDrive, IsSet}
+use Rattle.std.specs.Prelude.{min}
+use Rattle.mscp_queue.proofs.Common.{AreSlotted, IsAhead, IsBest, IsFront, IsIn, IsNearOf, IsOpenOn, IsSooner, bit_and, bit_at-zero, bit_at_and, bit_at-lt, cost_on, cost_there, div-mul-le_self, kind_there, kinds, le-div, ltb-false, no_slot, range_of, Shape, sweep_cost}
 use Rattle.mscp_queue.proofs.Counted.{one_place, placed}
 use Rattle.mscp_queue.specs.declared.favorites.Start.{Start}
 use Rattle.mscp_queue.proofs.Opens.{early_bit, front_open, open_front}
@@ -16,6 +17,11 @@ pub record Seeks (at : ℕ) (d : Drive) (order : List ℕ) (ks : List Kind) (own
   pub cost : least ≡ cost_there d ks own place
   pub done : (p : ℕ) → p < length order → bit_at front (get_or order p 0) ≡ 1 → bit_at left (get_or order p 0) ≡ 0
       → (least < cost_there d ks own p) ⊎ ((least ≡ cost_there d ks own p) × (place ≤ p))
+
+-- a place is that of a slot of the mask, or costs more than one that is
+abbrev pub IsAmong : Drive → List ℕ → List Kind → List Target → ℕ → ℕ → Type 0
+IsAmong d order ks own near p = (bit_at near (get_or order p 0) ≡ 1) ⊎ ((q : ℕ) × (q < length order)
+    × (bit_at near (get_or order q 0) ≡ 1) × (cost_there d ks own q < cost_there d ks own p))
 
 -- at first the first slot is looked at
 pub seeks_first : {at : ℕ} {d : Drive} {order : List ℕ} {ks : List Kind} {own : List Target} {front : ℕ}
@@ -162,9 +168,9 @@ module _ {rs : List Record} {own : List Target} {order : List ℕ} {m : Masks} (
       let inside : f.place < length (targets now) =
       omega (arith, f.inside, long_shown rs own ds order now view, length-map now (λ (s : Slot). s.target)) in
       let t = target_is f.place n f.inside f.number in
-      subst (λ (a : Target). a.cylinder ≤ last_cylinder d.unit) (sym t) (on f.place no_target inside
+      subst (λ (a : Target). a.cylinder ≤ last_cylinder d.unit) (sym t) ((on f.place no_target inside
       (ap (λ (a : Target). a.drive) (sym t) ∙ (ap (λ (k : Kind). k.drive) (sym (kind_is f.place n f.inside f.number))
-      ∙ f.opens.drive)))
+      ∙ f.opens.drive))).0)
 
   -- and what its start costs
   pub cost_found : {at : ℕ} (d : Drive) (n cost : ℕ) (sequential : Bool) → (f : IsFound order (kinds now) at n) → n < 64
@@ -185,19 +191,133 @@ module _ {rs : List Record} {own : List Target} {order : List ℕ} {m : Masks} (
       of_bit true = refl
       of_bit false = refl
 
+-- ---- a range that the head comes to sooner costs less
+range_rises : (a b w : ℕ) → a ≤ b → min (a / (w + 1)) 63 ≤ min (b / (w + 1)) 63
+range_rises a b w l = least (a / (w + 1)) (b / (w + 1))
+    (le-div (a / (w + 1)) b (w + 1) (omega arith) (omega (arith, l, div-mul-le_self a (w + 1))))
+  where
+    least : (p q : ℕ) → p ≤ q → min p 63 ≤ min q 63
+    least p q l = omega (arith, l)
+
+range_less : (u : Shape) (a b : ℕ) → range_of u a < range_of u b → a < b
+range_less u a b l = by (lt_or a b)
+  where
+    lt_or : (a b : ℕ) → (a < b) ⊎ (b ≤ a)
+    lt_or a b = grind arith
+
+    by : (a < b) ⊎ (b ≤ a) → a < b
+    by (inl m) = m
+    by (inr m) = absurd (let r = range_rises b a (last_cylinder u / 64) m in omega (arith, r, l))
+
+costs_less : (last head a b : ℕ) (up : Bool) → head ≤ last → a ≤ last → b ≤ last → IsSooner up head a b
+    → sweep_cost last head up a < sweep_cost last head up b
+costs_less last head a b true h l m s = grind (arith, s)
+costs_less last head a b false h l m s = grind (arith, s)
+
+sooner_there : (u : Shape) (head a b : ℕ) (up : Bool)
+    → IsSooner up (range_of u head) (range_of u a) (range_of u b) → IsSooner up head a b
+sooner_there u head a b true s = ⊎_elim (λ e. inl (range_less u head a e.0, range_less u a b e.1))
+    (λ e. inr (range_less u b head e.0, range_less u b a e.1)) s
+sooner_there u head a b false s = ⊎_elim (λ e. inl (range_less u a head e.0, range_less u b a e.1))
+    (λ e. inr (range_less u head b e.0, range_less u a b e.1)) s
+
+-- so what is open is among the nearest, or costs more than one of them
+module _ {rs : List Record} {own : List Target} {order : List ℕ} {m : Masks} {ranges : List ℕ} (ds : List ℕ)
+    (now : List Slot) (slotted : AreSlotted rs own order m ranges) (view : shown rs own ds order ≡ now) where
+  abbrev kept_are : AreKept rs own order m
+  kept_are = slotted.kept
+
+  -- a transfer in front, as it is kept
+  record Lies (d : Drive) (at k : ℕ) : Type 0 where
+    place : ℕ
+    inside : place < length order
+    number : k ≡ get_or order place 0
+    within : (get_or own k no_target).cylinder ≤ last_cylinder d.unit
+    range : get_or ranges k 0 ≡ range_of d.unit (get_or own k no_target).cylinder
+    cost : sweep_cost (last_cylinder d.unit) d.head.cylinder d.head.up (get_or own k no_target).cylinder
+        ≡ cost_there d (kinds now) (targets now) place
+
+  lies : {at front : ℕ} (d : Drive) (k : ℕ) → IsFront at m front → AreOnDrive at d (targets now)
+      → bit_and front m.sequential ≡ 0 → IsIn front k → Lies d at k
+  lies {at} {front} d k h on none x =
+      let f = found ds now kept_are view k h x.0 x.1 in
+      let t = target_is ds now kept_are view f.place k f.inside f.number in
+      let there : f.place < length (targets now) =
+      omega (arith, f.inside, long_shown rs own ds order now view, length-map now (λ (s : Slot). s.target)) in
+      let drive : (get_or (targets now) f.place no_target).drive ≡ at = ap (λ (a : Target). a.drive) (sym t)
+      ∙ (ap (λ (k : Kind). k.drive) (sym (kind_is ds now kept_are view f.place k f.inside f.number)) ∙ f.opens.drive) in
+      let both = on f.place no_target there drive in
+      let zero : bit_at m.sequential k ≡ 0 = off (ap (λ n. bit_at n k) (sym none)) in
+      record {
+        place = f.place;
+        inside = f.inside;
+        number = f.number;
+        within = subst (λ (a : Target). a.cylinder ≤ last_cylinder d.unit) (sym t) both.0;
+        range = slotted.ranged k x.0 ∙ subst (λ (a : Target). a.range ≡ range_of d.unit a.cylinder) (sym t) both.1;
+        cost = cost_found ds now kept_are view d k _ false f x.0
+            (sym (ne_eqb (bit_at m.sequential k) 1 (λ e. omega (arith, e, zero)))) refl;
+      }
+    where
+      off : bit_at 0 k ≡ bit_at (bit_and front m.sequential) k → bit_at m.sequential k ≡ 0
+      off e = zero (bit_at front k) (bit_at m.sequential k) (x.1) (bit_at-lt m.sequential k)
+          (sym (e ∙ bit_at_and front m.sequential k) ∙ bit_at-zero k)
+        where
+          zero : (a b : ℕ) → a ≡ 1 → b < 2 → min a b ≡ 0 → b ≡ 0
+          zero a b e l f = omega (arith, e, l, f)
+
+  pub among : {at front near : ℕ} (d : Drive) (p : ℕ) → IsFront at m front → IsNearOf m.sequential d ranges front near
+      → AreOnDrive at d (targets now) → d.head.cylinder ≤ last_cylinder d.unit → IsOpenOn (kinds now) at p
+      → p < length order → IsAmong d order (kinds now) (targets now) near p
+  among {at} {front} {near} d p h n on head o l =
+      ⊎_elim (λ y. inl y.1) (λ y. inr (further y.0 y.1.0 y.1.1 y.1.2))
+      (n.from (get_or order p 0) (lows ds now kept_are view p l, opens_front ds now kept_are view p h o))
+    where
+      further : bit_and front m.sequential ≡ 0 → (j : ℕ) → IsIn near j
+          → IsSooner d.head.up (range_of d.unit d.head.cylinder) (get_or ranges j 0)
+          (get_or ranges (get_or order p 0) 0) → (q : ℕ) × (q < length order) × (bit_at near (get_or order q 0) ≡ 1)
+          × (cost_there d (kinds now) (targets now) q < cost_there d (kinds now) (targets now) p)
+      further none j x s =
+          let a = lies d j h on none (n.to j x) in
+          let b = lies d (get_or order p 0) h on none
+          (lows ds now kept_are view p l, opens_front ds now kept_are view p h o) in
+          let same : b.place ≡ p = ones ds now kept_are view b.place p b.inside l (sym b.number) in
+          let less = costs_less (last_cylinder d.unit) d.head.cylinder
+          (get_or own j no_target).cylinder (get_or own (get_or order p 0) no_target).cylinder d.head.up head a.within
+          b.within (sooner_there d.unit d.head.cylinder (get_or own j no_target).cylinder
+          (get_or own (get_or order p 0) no_target).cylinder d.head.up
+          (subst (λ r. IsSooner d.head.up (range_of d.unit d.head.cylinder) r
+          (range_of d.unit (get_or own (get_or order p 0) no_target).cylinder)) a.range
+          (subst (λ r. IsSooner d.head.up (range_of d.unit d.head.cylinder) (get_or ranges j 0) r) b.range s))) in (
+            a.place,
+            a.inside,
+            ap (bit_at near) (sym a.number) ∙ x.1,
+            omega (arith, less, a.cost, b.cost, ap (cost_there d (kinds now) (targets now)) same),
+          )
+
 -- none is left: it is the best
 pub sought : {at : ℕ} {d : Drive} {order : List ℕ} {ks : List Kind} {own : List Target} {front left best least : ℕ}
     (s : Start) (h : Seeks at d order ks own front left best least) → length order ≤ 64 → IsOpenOn ks at h.place
-    → ((p : ℕ) → IsOpenOn ks at p → (p < length order) × (bit_at front (get_or order p 0) ≡ 1))
+    → ((p : ℕ) → IsOpenOn ks at p → (p < length order) × IsAmong d order ks own front p)
     → ((q : ℕ) → q < length order → get_or order q 0 < 64) → ((n : ℕ) → n < 64 → bit_at left n ≡ 0)
     → s.place ≡ h.place → s.cost ≡ least → IsBest (IsOpenOn ks at) (cost_there d ks own) s
 sought {at} {d} {order} {ks} {own} {front} {left} {best} {least} s h few opens on lows none place cost = record {
   is = inr (subst (IsOpenOn ks at) (sym place) opens, cost ∙ (h.cost ∙ ap (cost_there d ks own) (sym place)));
   each = λ p o.
       let t = on p o in
-      let done = h.done p t.0 t.1 (none (get_or order p 0) (lows p t.0)) in (
-        (let inside = h.inside in omega (arith, place, inside, few)),
-        ⊎_elim (λ e. inl (omega (arith, e, cost)))
-            (λ e. inr (cost ∙ e.0, (let r = e.1 in omega (arith, r, place)))) done,
+      let inside = h.inside in (
+        omega (arith, place, inside, few),
+        ⊎_elim (λ e. ahead p (h.done p t.0 e (none (get_or order p 0) (lows p t.0))))
+            (λ e. further p e.0 e.3 (h.done e.0 e.1 e.2 (none (get_or order e.0 0) (lows e.0 e.1)))) t.1,
       );
 }
+  where
+    ahead : (p : ℕ) → (least < cost_there d ks own p) ⊎ ((least ≡ cost_there d ks own p) × (h.place ≤ p))
+        → IsAhead s (cost_there d ks own p) p
+    ahead p done = ⊎_elim (λ e. inl (omega (arith, e, cost)))
+        (λ e. inr (cost ∙ e.0, (let r = e.1 in omega (arith, r, place)))) done
+
+    further : (p q : ℕ) → cost_there d ks own q < cost_there d ks own p
+        → (least < cost_there d ks own q) ⊎ ((least ≡ cost_there d ks own q) × (h.place ≤ q))
+        → IsAhead s (cost_there d ks own p) p
+    further p q l done = ⊎_elim (λ e. inl (omega (arith, e, cost, l)))
+        (λ e. inl (let f = e.0 in omega (arith, f, cost, l))) done

@@ -1,5 +1,6 @@
 -- The target of a command is where its drive and its first block are found.
-use Rattle.mscp_queue.proofs.Common.{◌≡◌, ℕ, ◌+◌, ◌<◌, ◌≤◌, true, cond, not, List, [], ◌∷◌, ◌++◌, map, take, drop, get_or, length, refl, ap, sym, ◌∙◌, subst, arith, All, nat_eq, unwrap_or, position, div-mul-le_self, le-div, drop-map, get_or-map, get_or_default, map-append, take-map, Command, Shape, cylinder_of, last_cylinder, Target, Drive, Connection, IsTargeted, target_of, targets_of, unit_place, IsOnUnit, drive_of, has_number, CanBeShown, HasBlocks, is_known, units_of, first_block, Record, advanced, drive_at, fresh_record, no_record, passed_by, record_at}
+use Rattle.mscp_queue.proofs.Common.{◌≡◌, ℕ, ◌+◌, ◌<◌, ◌≤◌, true, cond, not, List, [], ◌∷◌, ◌++◌, map, take, drop, get_or, length, refl, ap, sym, ◌∙◌, subst, arith, All, nat_eq, unwrap_or, position, div-mul-le_self, le-div, drop-map, get_or-map, get_or_default, map-append, take-map, Command, Shape, cylinder_of, last_cylinder, Target, Drive, Connection, IsTargeted, range_of, target_of, targets_of, unit_place, IsOnUnit, drive_of, has_number, CanBeShown, HasBlocks, is_known, units_of, first_block, Record, advanced, drive_at, fresh_record, no_record, passed_by, record_at}
+use Rattle.std.specs.Prelude.{min}
 use Rattle.mscp_queue.proofs.Drives.{drive_place, known_at, known_inside}
 use Rattle.mscp_queue.proofs.Placed.{cut_at, map_map}
 use Rattle.mscp_queue.proofs.Held.{some_steps}
@@ -22,13 +23,21 @@ place_inside ds n h = subst (λ k. k < length ds) (place_same ds n) (known_insid
 pub cylinder_within : (u : Shape) (block : ℕ) → block < u.size → cylinder_of u block ≤ last_cylinder u
 cylinder_within u block h = search (arith, le-div, div-mul-le_self)
 
+-- the range of a target is one of 64
+pub range_low : (units : List Shape) (command : Command) (a : Target) → a ≡ target_of units command → a.range < 64
+range_low units command a e = subst (λ (a : Target). a.range < 64) (sym e) (low _)
+  where
+    low : (n : ℕ) → min n 63 < 64
+    low n = omega arith
+
 -- ---- a target
 -- a target as it is found
-pub target_made : (ds : List Drive) (command : Command) (place block cylinder : ℕ) (d : Drive)
+pub target_made : (ds : List Drive) (command : Command) (place block cylinder range : ℕ) (d : Drive)
     → is_known (units_of ds) command.unit ≡ true → place ≡ unit_place (units_of ds) command.unit
     → block ≡ first_block command.order → cylinder ≡ cylinder_of (get_or ds place d).unit block
-    → record { drive = place; cylinder = cylinder } ≡ target_of (units_of ds) command
-target_made ds command place block cylinder d known at first is =
+    → range ≡ range_of (get_or ds place d).unit cylinder
+    → record { drive = place; cylinder = cylinder; range = range } ≡ target_of (units_of ds) command
+target_made ds command place block cylinder range d known at first is in_range =
     search (arith, place_same ds command.unit, known_at ds command.unit d known, found_unit command.unit ds)
 
 -- ---- the target of a waiting command that can be shown

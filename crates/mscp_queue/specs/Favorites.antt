@@ -1,5 +1,5 @@
 -- The best start of each drive, which a queue keeps from pick to pick.
-use Rattle.std.specs.Prelude.{◌≡◌, ◌≢◌, ◌⊎◌, ℕ, ◌<◌, ◌≤◌, ◌-◌, Bool, true, not, ◌&&◌, ◌||◌, if◌then◌else◌, nat_eq, nat_lt, List, Option, length, map, take, slice_index_or, All}
+use Rattle.std.specs.Prelude.{◌≡◌, ◌≢◌, ◌⊎◌, ℕ, ◌<◌, ◌≤◌, ◌-◌, Bool, true, not, ◌&&◌, ◌||◌, if◌then◌else◌, bit_and, nat_eq, nat_lt, List, Option, length, map, take, slice_index_or, All}
 use Rattle.std.specs.Int.{bit_at}
 use Rattle.std.specs.List.{list_all}
 use Rattle.mscp_packet.specs.declared.command.Command.{Command}
@@ -16,7 +16,8 @@ use Rattle.mscp_queue.specs.Masks.{Kind}
 use Rattle.mscp_queue.specs.Orders.{is_sequential, order_cost}
 use Rattle.mscp_queue.specs.Records.{Record, no_record}
 use Rattle.mscp_queue.specs.Slots.{is_unfenced_at, no_kind}
-use Rattle.mscp_queue.specs.Targets.{no_target}
+use Rattle.mscp_queue.specs.Ranges.{IsIn, IsSooner, range_at}
+use Rattle.mscp_queue.specs.Targets.{no_target, range_of}
 use Rattle.mscp_queue.specs.Waiters.{Waiters}
 
 -- the start is that of no command
@@ -61,9 +62,18 @@ abbrev pub cost_there : Drive → List Kind → List Target → ℕ → ℕ
 cost_there d ks own place =
     cost_on d (kind_there ks place).sequential (slice_index_or own place no_target).cylinder
 
--- each command whose target is the drive at a place has its first block on a cylinder of it
+-- each command whose target is the drive at a place has its first block on a cylinder of it, whose range is known
 abbrev pub AreOnDrive : ℕ → Drive → List Target → Type 0
-AreOnDrive at d own = All (λ a. a.drive ≡ at → a.cylinder ≤ last_cylinder d.unit) own
+AreOnDrive at d own =
+    All (λ a. a.drive ≡ at → (a.cylinder ≤ last_cylinder d.unit) × (a.range ≡ range_of d.unit a.cylinder)) own
+
+-- the slots found are of those in front, and where there is another, all in front are transfers, and the drive's head comes
+-- to it later than to one of them
+pub record IsNearOf (sequential : ℕ) (d : Drive) (ranges : List ℕ) (front found : ℕ) : Type 0 where
+  pub to : (k : ℕ) → IsIn found k → IsIn front k
+  pub from : (k : ℕ) → IsIn front k → IsIn found k ⊎ ((bit_and front sequential ≡ 0)
+      × ((j : ℕ) × IsIn found j × IsSooner d.head.up (range_of d.unit d.head.cylinder) (range_at ranges j)
+      (range_at ranges k)))
 
 -- ---- as a queue keeps it
 abbrev pub commands : List Record → List Command

@@ -18,5 +18,6 @@ pub mod Masks
 pub mod Slots
 pub mod Waiters
 pub mod Dues
+pub mod Ranges
 pub mod Favorites
 pub mod Common

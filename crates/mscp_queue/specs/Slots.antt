@@ -118,6 +118,10 @@ kind_at records own k = record {
   serving = is_in_service (slice_index_or records k no_record);
 }
 
+-- the range of each slot is that of its target
+abbrev pub AreRanges : List Target → List ℕ → Type 0
+AreRanges own ranges = (k : ℕ) → k < 64 → slice_index_or ranges k 0 ≡ (slice_index_or own k no_target).range
+
 -- there are 64 slots, and the masks are theirs
 pub record AreKept (records : List Record) (own : List Target) (order : List ℕ) (m : Masks) : Type 0 where
   pub records_64 : length records ≡ 64
@@ -125,3 +129,10 @@ pub record AreKept (records : List Record) (own : List Target) (order : List ℕ
   -- the target of each waiting command is one of 16 drives
   pub drives : (k : ℕ) → has k order ≡ true → (slice_index_or own k no_target).drive < 16
   pub masks : AreMasks (kind_at records own) order m
+
+-- and their ranges are known
+pub record AreSlotted (records : List Record) (own : List Target) (order : List ℕ) (m : Masks) (ranges : List ℕ) :
+    Type 0 where
+  pub kept : AreKept records own order m
+  pub ranges_64 : length ranges ≡ 64
+  pub ranged : AreRanges own ranges

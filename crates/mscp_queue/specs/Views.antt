@@ -1,12 +1,12 @@
 -- What may start, and what a picker sees of it.
-use Rattle.std.specs.Prelude.{All, ◌≡◌, ℕ, ◌+◌, ◌<◌, Bool, true, not, ◌&&◌, ◌||◌, nat_eq, nat_le, List, length, map, take, filter, slice_index_or}
+use Rattle.std.specs.Prelude.{◌≡◌, ℕ, ◌+◌, ◌<◌, Bool, true, not, ◌&&◌, ◌||◌, nat_eq, nat_le, List, length, map, take, filter, slice_index_or}
 use Rattle.std.specs.List.{list_all, range_with_len}
 use Rattle.mscp_queue.specs.declared.drive.Drive.{Drive}
 use Rattle.mscp_queue.specs.declared.view.Choice.{Choice}
 use Rattle.mscp_queue.specs.declared.name.Name.{Name}
 use Rattle.mscp_queue.specs.Names.{name_on}
 use Rattle.mscp_packet.specs.Commands.{order_class}
-use Rattle.mscp_queue.specs.Orders.{is_move, is_sequential, order_cost}
+use Rattle.mscp_queue.specs.Orders.{is_sequential, order_cost}
 use Rattle.mscp_queue.specs.Records.{Record, drive_at, record_at, charge}
 
 -- r has to stay behind z: both are of one unit, and one of them is sequential (manual, "Command Categories and

@@ -1,7 +1,7 @@
 // The waiting commands, and how long each may still wait.
 
-ghost use Rattle.std.specs.Prelude.{◌≡◌, ◌+◌, ◌-◌, ◌<◌, ◌≤◌, ◌^◌, ◌++◌, ◌∷◌, [], true, false, cond, length, map, not, take, drop, slice_index_or, sum_by, All};
-ghost use Rattle.mscp_queue.specs.Common.{clock_end, started, list_all, figure_at, figures, is_sequential, advanced, is_in_service, is_unstarted, left_of, passed_by, record_at, step_charge, no_target, IsOnUnit, AreOnDrive, IsBest, IsOpenOn, cost_there, is_unfenced_at, kinds_of, lowered_by, slot_at};
+ghost use Rattle.std.specs.Prelude.{◌≡◌, ◌+◌, ◌-◌, ◌<◌, ◌≤◌, ◌^◌, ◌++◌, ◌∷◌, [], true, false, cond, length, map, take, drop, slice_index_or, sum_by, All};
+ghost use Rattle.mscp_queue.specs.Common.{clock_end, started, figure_at, figures, advanced, is_in_service, is_unstarted, left_of, passed_by, record_at, step_charge, no_target, IsOnUnit, AreOnDrive, IsBest, IsOpenOn, cost_there, is_unfenced_at, kinds_of, lowered_by, slot_at};
 
 mod restoring;
 
@@ -226,6 +226,7 @@ impl Backlog {
     pub fn push(&mut self, new: Record, target: Target)
         requires room { length self.old.waiting < 64 }
         requires drive { target.drive < 16 }
+        requires range { target.range < 64 }
         requires fresh { new.done ≡ 0 }
         requires unpassed { new.passed ≡ 0 }
         requires small { sum_by left_of self.old.waiting + self.old.budget < 2 ^ 32 }

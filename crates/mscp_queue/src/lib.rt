@@ -13,6 +13,7 @@ mod outcome;
 mod picker;
 mod plan;
 mod queue;
+mod ranges;
 mod record;
 mod report;
 mod slots;

@@ -1,13 +1,14 @@
 // The slots of the waiting commands. A command keeps its slot as long as it waits, and masks of slots tell at once who
 // keeps whom back.
 
-ghost use Rattle.std.specs.Prelude.{◌≡◌, ◌+◌, ◌<◌, ◌≤◌, ◌^◌, ◌++◌, ◌∷◌, true, false, [], List, length, map, not, take, drop, slice_set, All};
-ghost use Rattle.mscp_queue.specs.Common.{list_all, is_sequential, advanced, is_in_service, passed_by, IsOnUnit, AreOnDrive, IsBest, IsLowestUntaken, IsOpenOn, cost_there, kinds, targets, dues, filled, is_unfenced, items, lowered_by, lowered_unless_serving, shown, slot_at, with_due, with_item};
+ghost use Rattle.std.specs.Prelude.{◌≡◌, ◌+◌, ◌<◌, ◌≤◌, ◌^◌, ◌++◌, ◌∷◌, true, false, [], List, length, map, take, drop, slice_set, All};
+ghost use Rattle.mscp_queue.specs.Common.{is_sequential, advanced, is_in_service, passed_by, IsOnUnit, AreOnDrive, IsBest, IsLowestUntaken, IsNearOf, IsOpenOn, cost_there, kinds, targets, dues, filled, is_unfenced, items, lowered_by, lowered_unless_serving, shown, slot_at, with_due, with_item};
 
 use crate::drive::Drive;
 use crate::favorites::Start;
 use crate::lowering::lower;
 use crate::masks::{Masks, has_bit, lowest_free, lowest_set, with_bit};
+use crate::ranges::{Ranges, range_of};
 use crate::record::Record;
 use crate::target::Target;
 use arrayvec::ArrayVec;
@@ -30,18 +31,33 @@ pub(crate) struct Slots {
     // The slots that are taken, in order of arrival.
     order: ArrayVec<u8, 64>,
     masks: Masks,
+    ranges: Ranges,
 }
 
 // A clause sees the slots that are taken, with their numbers, in order of arrival.
 impl Model for Slots {
-    ghost use Rattle.mscp_queue.specs.Common.{List, AreKept, shown};
+    ghost use Rattle.mscp_queue.specs.Common.{List, AreSlotted, shown};
     ghost use Rattle.mscp_queue.specs.Slots.{Slot as Shown};
 
     ghost Value = { List Shown };
 
     ghost view = { λ s. shown s.records s.targets s.dues s.order.items };
 
-    ghost invariant = { λ s. AreKept s.records s.targets s.order.items s.masks };
+    ghost invariant = { λ s. AreSlotted s.records s.targets s.order.items s.masks s.ranges };
+}
+
+/// From so many commands on a look at ranges is quicker than a look at each.
+const MANY: u32 = 6;
+
+/// Of the slots in front those among which the best start on this drive is.
+fn near_of(masks: &Masks, ranges: &Ranges, front: u64, drive: &Drive) -> u64
+    ensures { IsNearOf masks.now.sequential drive.now ranges.now front result }
+{
+    if front & masks.sequential != 0 || front.count_ones() < MANY {
+        return front;
+    }
+    let range = range_of(&drive.unit, drive.head.cylinder);
+    ranges.nearest(front, usize::from(range), drive.head.up)
 }
 
 impl Slots {
@@ -55,6 +71,7 @@ impl Slots {
             dues: [0; 64],
             order: ArrayVec::new(),
             masks: Masks::new(),
+            ranges: Ranges::new(),
         }
     }
 
@@ -77,12 +94,14 @@ impl Slots {
     pub fn push(&mut self, new: Content) -> usize
         requires room { length self.old < 64 }
         requires drive { new.target.drive < 16 }
+        requires range { new.target.range < 64 }
         ensures lowest { IsLowestUntaken result self.old }
         ensures after { self.new ≡ self.old ++ filled result new ∷ [] }
     {
         let slot = lowest_free(self.masks.waiting);
         self.records[slot] = new.item;
         self.targets[slot] = new.target;
+        self.ranges.set(slot, new.target.range);
         self.dues[slot] = new.due;
         self.masks.come(
             slot,
@@ -201,16 +220,22 @@ impl Slots {
         ensures { IsBest (IsOpenOn (kinds self.now) at) (cost_there drive.now (kinds self.now) (targets self.now)) result }
     {
         let drive = *drive;
-        let front = self.masks.front(at);
-        let Some(first) = lowest_set(front, 64) else {
+        let near = near_of(&self.masks, &self.ranges, self.masks.front(at), &drive);
+        let Some(first) = lowest_set(near, 64) else {
             return Start::none();
         };
         let mut best = first;
-        let mut least = drive.cost(has_bit(self.masks.sequential, first), self.targets[first].cylinder);
-        let mut left = with_bit(front, first, false);
+        let mut least = drive.cost(
+            has_bit(self.masks.sequential, first),
+            self.targets[first].cylinder,
+        );
+        let mut left = with_bit(near, first, false);
         while let Some(slot) = lowest_set(left, 64) {
             left = with_bit(left, slot, false);
-            let cost = drive.cost(has_bit(self.masks.sequential, slot), self.targets[slot].cylinder);
+            let cost = drive.cost(
+                has_bit(self.masks.sequential, slot),
+                self.targets[slot].cylinder,
+            );
             if self.masks.starts_before(slot, cost, best, least) {
                 best = slot;
                 least = cost;

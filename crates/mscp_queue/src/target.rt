@@ -4,14 +4,16 @@ ghost use Rattle.std.specs.Prelude.{◌≡◌, ◌<◌, ◌≤◌, true, length}
 ghost use Rattle.mscp_queue.specs.Common.{position, target_of, unit_place, has_number, is_known, units_of, first_block};
 
 use crate::drive::Drive;
+use crate::ranges::range_of;
 use mscp_packet::{Command, Order};
 
-/// The place of the drive of a command's unit, and the cylinder of its first block, 0 where it has none. Neither changes
-/// while the command waits, and each start asks for both.
+/// The place of the drive of a command's unit, and the cylinder of its first block, 0 where it has none, with its range. They
+/// stay while the command waits, and each start asks for them.
 #[derive(Clone, Copy, Default)]
 pub(crate) struct Target {
     pub drive: u8,
     pub cylinder: u32,
+    pub range: u8,
 }
 
 /// The place of the drive of the unit with this number, if there is one.
@@ -51,9 +53,12 @@ impl Target {
         ensures { result ≡ target_of (units_of drives.now) command.now }
     {
         let place = place_of_drive(drives, command.unit);
+        let unit = &drives[place].unit;
+        let cylinder = unit.cylinder(first_block(&command.order));
         Target {
             drive: place as u8,
-            cylinder: drives[place].unit.cylinder(first_block(&command.order)),
+            cylinder,
+            range: range_of(unit, cylinder),
         }
     }
 }

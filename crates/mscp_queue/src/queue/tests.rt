@@ -33,7 +33,8 @@ fn queue(rt: &impl Abort, clock: u64) -> Queue<Sweep>
         begun: None,
         serving: None,
         picker: Sweep,
-        candidates: Candidates::new(),
+        names: Names::new(),
+        favorites: Favorites::new(),
         view: View::empty(),
     }
 }

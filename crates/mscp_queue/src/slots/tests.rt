@@ -8,7 +8,8 @@ use mscp_packet::{Command, MoveKind, Order};
 
 /// A READ of a block with this reference number.
 fn content(reference: u32) -> Content
-    ensures { result.target.drive < 16 }
+    ensures drive { result.target.drive < 16 }
+    ensures range { result.target.range < 64 }
 {
     let command = Command {
         reference,
@@ -20,6 +21,7 @@ fn content(reference: u32) -> Content
         target: Target {
             drive: 0,
             cylinder: 0,
+            range: 0,
         },
         due: 0,
     }

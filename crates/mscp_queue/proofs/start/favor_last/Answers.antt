@@ -1,5 +1,5 @@
-use Rattle.mscp_queue.proofs.Basics.{◌≡◌, ◌+◌, ◌-◌, ◌<◌, ℕ, false, true, take, length, refl, ap, sym, subst, ◌∙◌, arith, get_or_default, Drive, Target, no_record, no_target, record_at, has_drive, order_cost}
-use Rattle.mscp_queue.proofs.Common.{AreFavored, commands, is_clear}
+use Rattle.mscp_queue.proofs.Basics.{◌≡◌, ◌+◌, ◌-◌, ◌<◌, take, length, refl, ap, sym, subst, ◌∙◌, arith, get_or_default, Target, no_record, no_target, record_at, has_drive, order_cost}
+use Rattle.mscp_queue.proofs.Common.{AreFavored, commands}
 use Rattle.mscp_queue.proofs.Favored.{clear_is}
 use Rattle.mscp_queue.proofs.Starting.{free_is}
 use Rattle.mscp_queue.proofs.Arrived.{arrived, still}

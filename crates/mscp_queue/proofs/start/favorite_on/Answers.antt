@@ -1,4 +1,4 @@
-use Rattle.mscp_queue.proofs.Common.{arith, eqb-true, sym, ◌∙◌, ap, subst, IsBest, IsClearOn, commands, cost_at, drive_in, bit_at}
+use Rattle.mscp_queue.proofs.Common.{eqb-true, sym, ◌∙◌, subst, IsBest, IsClearOn, commands, cost_at, drive_in, bit_at}
 use Rattle.mscp_queue.proofs.Favored.{all_on_drive, favored, favored_more}
 use Rattle.mscp_queue.proofs.start.favorite_on.Goals as goal
 

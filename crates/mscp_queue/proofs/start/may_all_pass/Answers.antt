@@ -1,4 +1,4 @@
-use Rattle.mscp_queue.proofs.Common.{arith, leb-true}
+use Rattle.mscp_queue.proofs.Common.{arith}
 use Rattle.mscp_queue.proofs.Passable.{may_all_pass}
 use Rattle.mscp_queue.proofs.start.may_all_pass.Goals as goal
 

@@ -1,4 +1,4 @@
-use Rattle.mscp_queue.proofs.Common.{◌≡◌, ℕ, ◌∙◌, ◌+◌, ◌<◌, List, ap, subst, sym, length, get_or, arith, length-map, Drive, Choice, Record, open_places, view_of}
+use Rattle.mscp_queue.proofs.Common.{◌≡◌, ℕ, ◌∙◌, ◌<◌, List, ap, subst, sym, length, get_or, arith, length-map, Drive, Choice, Record, open_places, view_of}
 use Rattle.mscp_queue.proofs.Picked.{picked, place_inside}
 use Rattle.mscp_queue.proofs.Starting.{places_inside, some_place}
 use Rattle.mscp_queue.proofs.start.picked_place.Goals as goal

@@ -1,4 +1,4 @@
-use Rattle.mscp_queue.proofs.Common.{length, ap, sym, subst, ◌∙◌, arith, length-map, Slot, Waiters, AreOnDrive, IsBest, IsOpenOn, cost_there, items, kinds_of, targets}
+use Rattle.mscp_queue.proofs.Common.{length, ap, sym, subst, arith, length-map, Slot, Waiters, AreOnDrive, IsBest, IsOpenOn, cost_there, kinds_of, targets}
 use Rattle.mscp_queue.proofs.Backlogs.{kinds_are}
 use Rattle.mscp_queue.proofs.backlog.Backlog.favorite.Goals as goal
 

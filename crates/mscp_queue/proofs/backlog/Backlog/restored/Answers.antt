@@ -1,9 +1,12 @@
-use Rattle.mscp_queue.proofs.Basics.{ap, ◌∙◌, arith, sum_by, take_all, units_of, left_of, place_inside}
+use Rattle.mscp_queue.proofs.Basics.{ap, ◌∙◌, arith, sum_by, take_all, units_of, left_of, place_inside, range_low}
 use Rattle.mscp_queue.proofs.Restored.{contents, contents_all, shown, timed}
 use Rattle.mscp_queue.proofs.backlog.Backlog.restored.Goals as goal
 
 pub push-requires-clause-drive : goal.push-requires-clause-drive
 push-requires-clause-drive c = search (arith, place_inside)
+
+pub push-requires-clause-range : goal.push-requires-clause-range
+push-requires-clause-range c = search (arith, range_low)
 
 pub invariant_of-result : goal.invariant_of-result
 invariant_of-result c =

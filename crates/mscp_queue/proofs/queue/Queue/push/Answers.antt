@@ -1,4 +1,4 @@
-use Rattle.mscp_queue.proofs.Basics.{◌≡◌, ◌+◌, ◌-◌, ◌<◌, ◌≤◌, ◌++◌, ◌∷◌, [], false, length, take, ap, subst, sym, ◌∙◌, arith, list_any, length-append, length-map, map-append, Command, Drive, IsUnitList, target_of, CanBeShown, IsWaitable, units_of, Line, name_on, names_with, Record, has_name, name_of, place_inside, held_small}
+use Rattle.mscp_queue.proofs.Basics.{◌≡◌, ◌-◌, ◌<◌, ◌++◌, ◌∷◌, [], false, length, take, ap, subst, sym, ◌∙◌, arith, list_any, length-append, length-map, map-append, Command, IsUnitList, target_of, CanBeShown, IsWaitable, units_of, Line, name_on, names_with, Record, has_name, name_of, place_inside, range_low, held_small}
 use Rattle.mscp_queue.proofs.Common.{AreFavored, commands, take_at}
 use Rattle.mscp_queue.proofs.Ready.{can_be_shown, ready_pushed}
 use Rattle.mscp_queue.proofs.queue.Queue.push.Goals as goal
@@ -12,6 +12,11 @@ push-requires g c =
 
 pub push-requires-2-clause-drive : goal.push-requires-2-clause-drive
 push-requires-2-clause-drive g c = search (arith, place_inside, length-map)
+
+pub push-requires-2-clause-range : goal.push-requires-2-clause-range
+push-requires-2-clause-range g c = range_low (units_of c.as_slice.result.now)
+    (record { reference = c.args.new.reference; unit = c.args.new.unit; order = c.args.new.order }) c.of-target.result
+    c.of-target.ensures
 
 pub push-requires-2-clause-small : goal.push-requires-2-clause-small
 push-requires-2-clause-small g c = held_small c.self.invariant.ready.held
@@ -74,15 +79,15 @@ invariant_of-self g c =
     let e = c.push-2.ensures in
     record {
       ready = ready_pushed c.args.new.connection command c.of-target.result c.self.invariant.ready
-              (subst (λ (l : Line K). length l.waiting < l.room) seen c.requires.room)
-              (subst (λ (l : Line K). IsWaitable l.longest (units_of l.drives) command) seen c.requires.waitable)
-              (subst (λ (l : Line K). list_any (has_name (name_on c.args.new.connection c.args.new.reference)) l.waiting ≡ false)
-              seen c.requires.apart)
-              (c.of-target.ensures ∙ ap (λ ds. target_of (units_of ds) command) c.as_slice.ensures.value) (λ i. record {
-                budget = e.budget i;
-                waiting = (e.waiting ∙ ap (λ (r : Record). c.self.inside.backlog.waiting ++ r ∷ []) c.new-record.ensures) i;
-                targets = e.targets i;
-              });
+          (subst (λ (l : Line K). length l.waiting < l.room) seen c.requires.room)
+          (subst (λ (l : Line K). IsWaitable l.longest (units_of l.drives) command) seen c.requires.waitable)
+          (subst (λ (l : Line K). list_any (has_name (name_on c.args.new.connection c.args.new.reference)) l.waiting ≡ false)
+          seen c.requires.apart)
+          (c.of-target.ensures ∙ ap (λ ds. target_of (units_of ds) command) c.as_slice.ensures.value) (λ i. record {
+            budget = e.budget i;
+            waiting = (e.waiting ∙ ap (λ (r : Record). c.self.inside.backlog.waiting ++ r ∷ []) c.new-record.ensures) i;
+            targets = e.targets i;
+          });
       listed = names_with c.new-record.result c.name.result c.self.invariant.listed c.name.ensures c.push.ensures e.waiting;
       favored = subst (λ ds. AreFavored ds (commands c.push-2.new.self.waiting) c.favor_last.new.favorites)
           c.as_slice-2.ensures.value c.favor_last.ensures;

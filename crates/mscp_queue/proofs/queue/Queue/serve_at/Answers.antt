@@ -36,8 +36,12 @@ pub serve-requires-2 : goal.serve-requires-2
 serve-requires-2 g c =
     let servable = (next_in g.K.Picker.picks c.self.view_is c.requires).servable in
     let inside = servable.inside in
-    omega (arith, inside, ap length c.self.invariant.listed.are,
-    length-map c.self.inside.backlog.waiting name_of)
+    omega (
+      arith,
+      inside,
+      ap length c.self.invariant.listed.are,
+      length-map c.self.inside.backlog.waiting name_of,
+    )
 
 pub serve-requires-3-clause-place : goal.serve-requires-3-clause-place
 serve-requires-3-clause-place g c =

@@ -4,29 +4,29 @@ use Rattle.mscp_queue.proofs.slots.Slots.advance.Goals as goal
 pub listed : goal.listed
 listed c =
     let n = number_of c.self.inside.dues
-    c.args.self.now c.self.invariant c.self.view_is c.requires.place c.from-slot.ensures c.deref.ensures.0 in
-    omega (arith, n.low, c.self.invariant.records_64)
+    c.args.self.now c.self.invariant.kept c.self.view_is c.requires.place c.from-slot.ensures c.deref.ensures.0 in
+    omega (arith, n.low, c.self.invariant.kept.records_64)
 
 pub bounds-self-inside-slot : goal.bounds-self-inside-slot
 bounds-self-inside-slot c = (number_of c.self.inside.dues
-    c.args.self.now c.self.invariant c.self.view_is c.requires.place c.from-slot.ensures c.deref.ensures.0).low
+    c.args.self.now c.self.invariant.kept c.self.view_is c.requires.place c.from-slot.ensures c.deref.ensures.0).low
 
 pub listed-2 : goal.listed-2
 listed-2 c =
     let n = number_of c.self.inside.dues
-    c.args.self.now c.self.invariant c.self.view_is c.requires.place c.from-slot.ensures c.deref.ensures.0 in
-    omega (arith, n.low, c.self.invariant.records_64)
+    c.args.self.now c.self.invariant.kept c.self.view_is c.requires.place c.from-slot.ensures c.deref.ensures.0 in
+    omega (arith, n.low, c.self.invariant.kept.records_64)
 
 pub bounds-self-inside-slot-2 : goal.bounds-self-inside-slot-2
 bounds-self-inside-slot-2 c = (number_of c.self.inside.dues
-    c.args.self.now c.self.invariant c.self.view_is c.requires.place c.from-slot.ensures c.deref.ensures.0).low
+    c.args.self.now c.self.invariant.kept c.self.view_is c.requires.place c.from-slot.ensures c.deref.ensures.0).low
 
 pub advance-requires : goal.advance-requires
 advance-requires c = search (arith, number_of, item_at)
 
 pub serve-requires-clause-slot : goal.serve-requires-clause-slot
 serve-requires-clause-slot c = (number_of c.self.inside.dues
-    c.args.self.now c.self.invariant c.self.view_is c.requires.place c.from-slot.ensures c.deref.ensures.0).low
+    c.args.self.now c.self.invariant.kept c.self.view_is c.requires.place c.from-slot.ensures c.deref.ensures.0).low
 
 pub serve-requires-clause-since : goal.serve-requires-clause-since
 serve-requires-clause-since c = search (arith, number_of, serves_since)
@@ -34,9 +34,13 @@ serve-requires-clause-since c = search (arith, number_of, serves_since)
 pub invariant_of-self : goal.invariant_of-self
 invariant_of-self c =
     let n = number_of c.self.inside.dues
-    c.args.self.now c.self.invariant c.self.view_is c.requires.place c.from-slot.ensures c.deref.ensures.0 in
-    kept_advanced c.index-self-slot-2.result
-    c.self.invariant n.low n.taken c.advance.ensures c.serve.ensures.others c.serve.ensures.set
+    c.args.self.now c.self.invariant.kept c.self.view_is c.requires.place c.from-slot.ensures c.deref.ensures.0 in
+    record {
+      ranges_64 = c.self.invariant.ranges_64;
+      ranged = c.self.invariant.ranged;
+      kept = kept_advanced c.index-self-slot-2.result
+          c.self.invariant.kept n.low n.taken c.advance.ensures c.serve.ensures.others c.serve.ensures.set;
+    }
 
 pub returns : goal.returns
 returns c = search (arith, number_of, item_set)

@@ -4,7 +4,7 @@ use Rattle.mscp_queue.proofs.slots.Slots.are_of_its_unit.Goals as goal
 
 pub bounds-self-inside-slot : goal.bounds-self-inside-slot
 bounds-self-inside-slot c = (number_of c.self.inside.dues
-    c.args.self.now c.self.invariant c.self.view_is c.requires c.from-slot.ensures c.deref.ensures.0).low
+    c.args.self.now c.self.invariant.kept c.self.view_is c.requires c.from-slot.ensures c.deref.ensures.0).low
 
 pub is_last_unit-requires-clause-slot : goal.is_last_unit-requires-clause-slot
 is_last_unit-requires-clause-slot c = search (arith, number_of)

@@ -1,9 +1,9 @@
-use Rattle.mscp_queue.proofs.Basics.{◌≡◌, ◌≢◌, ◌<◌, ◌*◌, ℕ, get_or, length, arith, ap, sym, ◌∙◌, subst, refl, length-map, long_shown, Slot, shown, kind_of, IsNumber, has, slot_has}
-use Rattle.mscp_queue.proofs.Common.{IsOpenOn, kinds, targets, bit_at}
+use Rattle.mscp_queue.proofs.Basics.{◌<◌, get_or, length, ⊎_elim, arith, ap, sym, ◌∙◌, subst, refl, length-map, long_shown, kind_of, IsNumber, has, slot_has}
+use Rattle.mscp_queue.proofs.Common.{IsOpenOn, kinds, bit_at}
 use Rattle.mscp_queue.proofs.Counted.{place_counted}
 use Rattle.mscp_queue.proofs.Best.{best_none}
 use Rattle.mscp_queue.proofs.Fronts.{less_left}
-use Rattle.mscp_queue.proofs.Seeking.{IsFound, cost_found, early, found, is_better, is_worse, lows, ones, opens_front, seeks_better, seeks_first, seeks_on, sought, within}
+use Rattle.mscp_queue.proofs.Seeking.{among, cost_found, early, found, is_better, is_worse, lows, ones, seeks_better, seeks_first, seeks_on, sought, within}
 use Rattle.mscp_queue.proofs.slots.Slots.favorite.Goals as goal
 
 -- where no bit of the front is set no command is open
@@ -15,43 +15,50 @@ returns-in_default c =
     best_none c.none.result c.none.ensures (λ p o.
     let inside : p < length s.order.items =
     (let l = o.inside in omega (arith, l, long, length-map now kind_of)) in
-    let on = opens_front s.dues now c.self.invariant c.self.view_is p c.front-front.ensures o in
-    let off = c.in_default.ensures.none (get_or s.order.items p 0)
-    (lows s.dues now c.self.invariant c.self.view_is p inside) in
+    let lows = lows s.dues now c.self.invariant.kept c.self.view_is in
+    ⊎_elim (λ on. let off = c.in_default.ensures.none (get_or s.order.items p 0) (lows p inside) in
     omega (arith, on, off))
+    (λ x. let on = x.2 in let off = c.in_default.ensures.none (get_or s.order.items x.0 0) (lows x.0 x.1) in
+    omega (arith, on, off))
+    (among s.dues now c.self.invariant c.self.view_is c.args.drive.now p c.front.ensures c.near_of-near.ensures
+    c.requires.to c.requires.head o inside))
 
 pub cost-least-requires-clause-target : goal.cost-least-requires-clause-target
 cost-least-requires-clause-target c = λ e.
     let s = c.self.inside in
     let first = c.in-Some.ensures.some in
-    within s.dues c.args.self.now c.self.invariant c.self.view_is c.args.drive.now c.in-Some.first c.requires.to
-    (found s.dues c.args.self.now c.self.invariant c.self.view_is c.in-Some.first c.front-front.ensures first.0 first.1)
+    within s.dues c.args.self.now c.self.invariant.kept c.self.view_is c.args.drive.now c.in-Some.first c.requires.to
+    (found s.dues c.args.self.now c.self.invariant.kept c.self.view_is c.in-Some.first c.front.ensures first.0 (c.near_of-near.ensures.to c.in-Some.first first).1)
 
 pub loop-slot-init : goal.loop-slot-init
 loop-slot-init c =
     let s = c.self.inside in
     let now = c.args.self.now in
     let first = c.in-Some.ensures.some in
-    let f = found s.dues now c.self.invariant c.self.view_is c.in-Some.first c.front-front.ensures first.0 first.1 in
+    let f = found s.dues now c.self.invariant.kept c.self.view_is c.in-Some.first c.front.ensures first.0 (c.near_of-near.ensures.to c.in-Some.first first).1 in
     seeks_first c.with_bit-left.result c.in-Some.first c.cost-least.result
     f.place f.inside f.number first.0 first.1 c.with_bit-left.ensures.set
-    (cost_found s.dues now c.self.invariant c.self.view_is c.args.drive.now c.in-Some.first c.cost-least.result
+    (cost_found s.dues now c.self.invariant.kept c.self.view_is c.args.drive.now c.in-Some.first c.cost-least.result
     c.has_bit.result f first.0 c.has_bit.ensures c.cost-least.ensures)
-    (lows s.dues now c.self.invariant c.self.view_is) (ones s.dues now c.self.invariant c.self.view_is)
+    (lows s.dues now c.self.invariant.kept c.self.view_is) (ones s.dues now c.self.invariant.kept c.self.view_is)
 
 pub cost-cost-requires-clause-target : goal.cost-cost-requires-clause-target
 cost-cost-requires-clause-target c = λ e.
     let s = c.self.inside in
     let slot = c.in-Some-lowest_set.ensures.some in
-    within s.dues c.args.self.now c.self.invariant c.self.view_is c.args.drive.now c.in-Some-lowest_set.slot c.requires.to
-    (found s.dues c.args.self.now c.self.invariant c.self.view_is c.in-Some-lowest_set.slot c.front-front.ensures slot.0
-    (c.loop-slot.invariant.of_left c.in-Some-lowest_set.slot slot.0 slot.1))
+    within s.dues c.args.self.now c.self.invariant.kept c.self.view_is c.args.drive.now c.in-Some-lowest_set.slot c.requires.to
+    (found s.dues c.args.self.now c.self.invariant.kept c.self.view_is c.in-Some-lowest_set.slot c.front.ensures slot.0
+    (c.near_of-near.ensures.to c.in-Some-lowest_set.slot (
+      slot.0,
+      c.loop-slot.invariant.of_left c.in-Some-lowest_set.slot
+          slot.0 slot.1,
+    )).1)
 
 pub starts_before-requires-clause-other : goal.starts_before-requires-clause-other
 starts_before-requires-clause-other c =
     let s = c.self.inside in
     let h = c.loop-slot.invariant in
-    subst (λ n. n < 64) (sym h.number) (lows s.dues c.args.self.now c.self.invariant c.self.view_is h.place h.inside)
+    subst (λ n. n < 64) (sym h.number) (lows s.dues c.args.self.now c.self.invariant.kept c.self.view_is h.place h.inside)
 
 pub loop-slot-smaller-then-starts_before : goal.loop-slot-smaller-then-starts_before
 loop-slot-smaller-then-starts_before c = less_left c.loop-slot.left _ c.in-Some-lowest_set.slot
@@ -69,16 +76,16 @@ loop-slot-preserved-then-starts_before c =
     let now = c.args.self.now in
     let h = c.loop-slot.invariant in
     let slot = c.in-Some-lowest_set.ensures.some in
-    let f = found s.dues now c.self.invariant c.self.view_is c.in-Some-lowest_set.slot c.front-front.ensures slot.0
-    (h.of_left c.in-Some-lowest_set.slot slot.0 slot.1) in
+    let f = found s.dues now c.self.invariant.kept c.self.view_is c.in-Some-lowest_set.slot c.front.ensures slot.0
+    (c.near_of-near.ensures.to c.in-Some-lowest_set.slot (slot.0, h.of_left c.in-Some-lowest_set.slot slot.0 slot.1)).1 in
     let bits = ap (λ n. bit_at (get_or s.masks.earlier n 0) c.in-Some-lowest_set.slot) h.number
     ∙ (ap (bit_at (get_or s.masks.earlier (get_or s.order.items h.place 0) 0)) f.number
-    ∙ early s.dues now c.self.invariant c.self.view_is h.place f.place h.inside f.inside) in
+    ∙ early s.dues now c.self.invariant.kept c.self.view_is h.place f.place h.inside f.inside) in
     seeks_better c.in-Some-lowest_set.slot c.with_bit-left-in-Some-lowest_set.result c.cost-cost.result f.place h
     f.inside f.number slot.0 slot.1 c.with_bit-left-in-Some-lowest_set.ensures.set
-    (cost_found s.dues now c.self.invariant c.self.view_is c.args.drive.now c.in-Some-lowest_set.slot c.cost-cost.result
+    (cost_found s.dues now c.self.invariant.kept c.self.view_is c.args.drive.now c.in-Some-lowest_set.slot c.cost-cost.result
     c.has_bit-in-Some-lowest_set.result f slot.0 c.has_bit-in-Some-lowest_set.ensures c.cost-cost.ensures)
-    (lows s.dues now c.self.invariant c.self.view_is) (ones s.dues now c.self.invariant c.self.view_is)
+    (lows s.dues now c.self.invariant.kept c.self.view_is) (ones s.dues now c.self.invariant.kept c.self.view_is)
     (is_better c.cost-cost.result c.loop-slot.least _ h.place f.place bits
     (sym c.starts_before.ensures ∙ c.if-starts_before.true))
 
@@ -88,16 +95,16 @@ loop-slot-preserved c =
     let now = c.args.self.now in
     let h = c.loop-slot.invariant in
     let slot = c.in-Some-lowest_set.ensures.some in
-    let f = found s.dues now c.self.invariant c.self.view_is c.in-Some-lowest_set.slot c.front-front.ensures slot.0
-    (h.of_left c.in-Some-lowest_set.slot slot.0 slot.1) in
+    let f = found s.dues now c.self.invariant.kept c.self.view_is c.in-Some-lowest_set.slot c.front.ensures slot.0
+    (c.near_of-near.ensures.to c.in-Some-lowest_set.slot (slot.0, h.of_left c.in-Some-lowest_set.slot slot.0 slot.1)).1 in
     let bits = ap (λ n. bit_at (get_or s.masks.earlier n 0) c.in-Some-lowest_set.slot) h.number
     ∙ (ap (bit_at (get_or s.masks.earlier (get_or s.order.items h.place 0) 0)) f.number
-    ∙ early s.dues now c.self.invariant c.self.view_is h.place f.place h.inside f.inside) in
+    ∙ early s.dues now c.self.invariant.kept c.self.view_is h.place f.place h.inside f.inside) in
     seeks_on c.in-Some-lowest_set.slot c.with_bit-left-in-Some-lowest_set.result c.cost-cost.result f.place h
     f.inside f.number slot.0 slot.1 c.with_bit-left-in-Some-lowest_set.ensures.set
-    (cost_found s.dues now c.self.invariant c.self.view_is c.args.drive.now c.in-Some-lowest_set.slot c.cost-cost.result
+    (cost_found s.dues now c.self.invariant.kept c.self.view_is c.args.drive.now c.in-Some-lowest_set.slot c.cost-cost.result
     c.has_bit-in-Some-lowest_set.result f slot.0 c.has_bit-in-Some-lowest_set.ensures c.cost-cost.ensures)
-    (lows s.dues now c.self.invariant c.self.view_is) (ones s.dues now c.self.invariant c.self.view_is)
+    (lows s.dues now c.self.invariant.kept c.self.view_is) (ones s.dues now c.self.invariant.kept c.self.view_is)
     (is_worse c.cost-cost.result c.loop-slot.least _ h.place f.place bits
     (sym c.starts_before.ensures ∙ c.if-starts_before.false))
 
@@ -105,7 +112,7 @@ pub place-requires : goal.place-requires
 place-requires c =
     let s = c.self.inside in
     let h = c.loop-slot.invariant in
-    subst (λ n. n < 64) (sym h.number) (lows s.dues c.args.self.now c.self.invariant c.self.view_is h.place h.inside)
+    subst (λ n. n < 64) (sym h.number) (lows s.dues c.args.self.now c.self.invariant.kept c.self.view_is h.place h.inside)
 
 pub returns : goal.returns
 returns c =
@@ -115,17 +122,19 @@ returns c =
     let h = c.loop-slot.invariant in
     let long = long_shown s.records s.targets s.dues order now c.self.view_is in
     let number : IsNumber order h.place c.loop-slot.best = record {
-      low = subst (λ n. n < 64) (sym h.number) (lows s.dues now c.self.invariant c.self.view_is h.place h.inside);
+      low = subst (λ n. n < 64) (sym h.number) (lows s.dues now c.self.invariant.kept c.self.view_is h.place h.inside);
       taken = ap (λ n. has n order) h.number ∙ slot_has order h.place h.inside;
       inside = h.inside;
       is = h.number;
     } in
-    let place = c.place.ensures.value ∙ place_counted c.self.invariant.masks number c.place.ensures.small in
-    let f = found s.dues now c.self.invariant c.self.view_is c.loop-slot.best c.front-front.ensures number.low h.on in
-    let same = ones s.dues now c.self.invariant c.self.view_is f.place h.place f.inside h.inside
+    let place = c.place.ensures.value ∙ place_counted c.self.invariant.kept.masks number c.place.ensures.small in
+    let f = found s.dues now c.self.invariant.kept c.self.view_is c.loop-slot.best c.front.ensures number.low
+    (c.near_of-near.ensures.to c.loop-slot.best (number.low, h.on)).1 in
+    let same = ones s.dues now c.self.invariant.kept c.self.view_is f.place h.place f.inside h.inside
     (sym f.number ∙ h.number) in
     sought _ h (let few = c.requires.few in omega (arith, long, few))
     (subst (IsOpenOn (kinds now) c.args.at) same f.opens) (λ p o. (
       (let l = o.inside in omega (arith, l, long, length-map now kind_of)),
-      opens_front s.dues now c.self.invariant c.self.view_is p c.front-front.ensures o,
-    )) (lows s.dues now c.self.invariant c.self.view_is) c.in_default-lowest_set.ensures.none place refl
+      among s.dues now c.self.invariant c.self.view_is c.args.drive.now p c.front.ensures c.near_of-near.ensures
+          c.requires.to c.requires.head o (let l = o.inside in omega (arith, l, long, length-map now kind_of)),
+    )) (lows s.dues now c.self.invariant.kept c.self.view_is) c.in_default-lowest_set.ensures.none place refl

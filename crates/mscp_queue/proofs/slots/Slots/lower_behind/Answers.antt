@@ -4,7 +4,7 @@ use Rattle.mscp_queue.proofs.slots.Slots.lower_behind.Goals as goal
 
 pub behind-requires : goal.behind-requires
 behind-requires c = (number_of c.self.inside.dues
-    c.args.self.now c.self.invariant c.self.view_is c.requires.place c.from-slot.ensures c.deref.ensures.0).low
+    c.args.self.now c.self.invariant.kept c.self.view_is c.requires.place c.from-slot.ensures c.deref.ensures.0).low
 
 pub lower-requires : goal.lower-requires
 lower-requires c = search (arith, number_of, enough_behind)

@@ -4,20 +4,23 @@ use Rattle.mscp_queue.proofs.slots.Slots.pass.Goals as goal
 pub listed : goal.listed
 listed c =
     let n = number_of c.self.inside.dues
-    c.args.self.now c.self.invariant c.self.view_is c.requires.place c.from-slot.ensures c.deref.ensures.0 in
-    omega (arith, n.low, c.self.invariant.records_64)
+    c.args.self.now c.self.invariant.kept c.self.view_is c.requires.place c.from-slot.ensures c.deref.ensures.0 in
+    omega (arith, n.low, c.self.invariant.kept.records_64)
 
 pub bounds-self-inside-slot : goal.bounds-self-inside-slot
 bounds-self-inside-slot c = (number_of c.self.inside.dues
-    c.args.self.now c.self.invariant c.self.view_is c.requires.place c.from-slot.ensures c.deref.ensures.0).low
+    c.args.self.now c.self.invariant.kept c.self.view_is c.requires.place c.from-slot.ensures c.deref.ensures.0).low
 
 pub pass-requires : goal.pass-requires
 pass-requires c = search (arith, number_of, item_at)
 
 pub invariant_of-self : goal.invariant_of-self
-invariant_of-self c =
-    kept_passed c.args.charge c.index-self-slot.result c.self.invariant (number_of c.self.inside.dues c.args.self.now
-    c.self.invariant c.self.view_is c.requires.place c.from-slot.ensures c.deref.ensures.0).low c.pass.ensures
+invariant_of-self c = record {
+  ranges_64 = c.self.invariant.ranges_64;
+  ranged = c.self.invariant.ranged;
+  kept = kept_passed c.args.charge c.index-self-slot.result c.self.invariant.kept (number_of c.self.inside.dues c.args.self.now
+      c.self.invariant.kept c.self.view_is c.requires.place c.from-slot.ensures c.deref.ensures.0).low c.pass.ensures;
+}
 
 pub returns : goal.returns
 returns c = search (arith, number_of, item_set)

@@ -1,21 +1,29 @@
-use Rattle.mscp_queue.proofs.Basics.{not, ap, ◌∙◌, arith, some_free, kept_pushed, long_shown, serves_if, shown_pushed}
+use Rattle.mscp_queue.proofs.Basics.{length, length-set, not, ap, ◌∙◌, arith, some_free, kept_pushed, long_shown, serves_if, shown_pushed}
 use Rattle.mscp_queue.proofs.Shown.{lowest_untaken}
+use Rattle.mscp_queue.proofs.Ranging.{ranges_pushed}
 use Rattle.mscp_queue.proofs.slots.Slots.push.Goals as goal
 
 pub lowest_free-slot-requires : goal.lowest_free-slot-requires
 lowest_free-slot-requires c =
     let s = c.self.inside in
-    some_free s.masks.waiting s.order.items c.self.invariant.masks.of_waiting
+    some_free s.masks.waiting s.order.items c.self.invariant.kept.masks.of_waiting
     (omega (arith, c.requires.room, long_shown s.records s.targets s.dues s.order.items c.args.self.now c.self.view_is))
 
 pub invariant_of-self : goal.invariant_of-self
-invariant_of-self c = kept_pushed c.args.new.item c.args.new.target
-    c.self.invariant c.lowest_free-slot.ensures c.requires.drive c.from.ensures c.is_sequential.ensures
-    (ap not c.is_unstarted.ensures ∙ serves_if c.args.new.item.done) c.come.ensures c.push.ensures.items
+invariant_of-self c = record {
+  ranges_64 = ap length c.set.ensures ∙ (length-set c.self.inside.ranges c.lowest_free-slot.result c.args.new.target.range
+      ∙ c.self.invariant.ranges_64);
+  ranged = ranges_pushed c.self.inside.targets c.self.inside.ranges c.set.new.self c.lowest_free-slot.result
+      c.args.new.target c.self.invariant.kept.targets_64 c.self.invariant.ranges_64 c.lowest_free-slot.ensures.low
+      c.self.invariant.ranged c.set.ensures;
+  kept = kept_pushed c.args.new.item c.args.new.target
+      c.self.invariant.kept c.lowest_free-slot.ensures c.requires.drive c.from.ensures c.is_sequential.ensures
+      (ap not c.is_unstarted.ensures ∙ serves_if c.args.new.item.done) c.come.ensures c.push.ensures.items;
+}
 
 pub returns-clause-lowest : goal.returns-clause-lowest
 returns-clause-lowest c = lowest_untaken
-    c.self.inside.dues c.args.self.now c.self.invariant c.lowest_free-slot.ensures c.self.view_is
+    c.self.inside.dues c.args.self.now c.self.invariant.kept c.lowest_free-slot.ensures c.self.view_is
 
 pub returns-clause-after : goal.returns-clause-after
 returns-clause-after c = search (arith, shown_pushed)
