@@ -1107,9 +1107,8 @@ MSCP_INLINE int32_t mscp_port_restore(struct mscp_port *port, const uint8_t *byt
 
 /* Runs a script of `length` bytes through a controller of its own, as the program mscpq does, and writes the report to the
  * front of the room, of `*count` bytes. MSCP_DONE; MSCP_SMALL, if the room has fewer than twice as many bytes as the
- * report, or if half of the room, rounded up, has fewer than the report of the lines before a fault; or MSCP_SCRIPT_SIZE
- * to _EVENTS, what is wrong in line `*line`, the first in which something is. Whatever it answers, all of the room may be
- * written over. This takes up to 60 KiB of the stack. */
+ * report; or, in any room, MSCP_SCRIPT_SIZE to _EVENTS, what is wrong in line `*line`, the first in which something is.
+ * Whatever it answers, all of the room may be written over. This takes up to 60 KiB of the stack. */
 MSCP_MUST_USE
 MSCP_INLINE int32_t mscp_run_script(const uint8_t *script, size_t length, uint8_t *bytes, size_t room, size_t *count,
                                     uint32_t *line)

@@ -27,13 +27,13 @@ static void fits_just(const char *script, const char *report)
     is("no bytes", (int64_t)count, 77);
 }
 
-/* A script whose lines before its fault have so many bytes of a report. In room for twice as many its fault is told. */
+/* A script's fault is told in any room, however much the lines before it report. */
 static void fails_in(size_t size, const char *script, size_t length, int32_t fault, uint32_t where)
 {
     size_t count;
     uint32_t line;
     is("fault", run(script, length, size, &count, &line), fault);
-    is("its line", line, fault == MSCP_SMALL ? 77 : where);
+    is("its line", line, where);
     is("no report", (int64_t)count, 77);
 }
 
@@ -84,12 +84,14 @@ int main(void)
         fails(SCRIPTS[i].text, strlen(SCRIPTS[i].text), SCRIPTS[i].fault, SCRIPTS[i].line);
         fails_in(0, SCRIPTS[i].text, strlen(SCRIPTS[i].text), SCRIPTS[i].fault, SCRIPTS[i].line);
     }
-    const char behind[] = HEADER "online 9 0\njump\n"; /* behind "queued 9\n" */
-    fails_in(18, behind, strlen(behind), MSCP_SCRIPT_WORD, 8);
-    fails_in(16, behind, strlen(behind), MSCP_SMALL, 8);
+    const char behind[] = HEADER "online 9 0\njump\n"; /* behind "queued 9\n", of 9 bytes */
+    const size_t sizes[] = {0, 1, 16, 17, 18};
+    for (size_t i = 0; i < COUNT(sizes); i++)
+        fails_in(sizes[i], behind, strlen(behind), MSCP_SCRIPT_WORD, 8);
     fails(large, make_large(MSCP_SCRIPT_LINES), MSCP_SCRIPT_LINES, 1000001);
     fails(large, make_large(MSCP_SCRIPT_SIZE), MSCP_SCRIPT_SIZE, 0);
     fails(large, make_large(MSCP_SCRIPT_EVENTS), MSCP_SCRIPT_EVENTS, 1007);
+    fails_in(ROOM / 2, large, make_large(MSCP_SCRIPT_EVENTS), MSCP_SCRIPT_EVENTS, 1007); /* behind 5,000,000 bytes */
     packets_are_shown();
     return wrong;
 }

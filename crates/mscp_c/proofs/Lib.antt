@@ -9,3 +9,4 @@ pub mod Handled
 pub mod Reading
 pub mod Written
 pub mod Resumed
+pub mod Rooms

@@ -10,7 +10,7 @@ pub use Rattle.mscp_c.specs.PortSeen.{bus_told, hardware_told, seen_code, state_
 pub use Rattle.mscp_c.specs.PortServed.{Holds, MakesPort, TellsHeard, TellsPut, TellsVolume, TellsWanted, TellsWent, put_code, told_code, volume_code}
 pub use Rattle.mscp_c.specs.PortTold.{action_told, next_code, of_kind, of_memory, of_transfer, with_bytes}
 pub use Rattle.mscp_c.specs.Restoring.{policy_number}
-pub use Rattle.mscp_c.specs.Running.{HasLine, HasReport, IsNoPacket, IsShort, TellsFault, cause_code, show_code}
+pub use Rattle.mscp_c.specs.Running.{HasText, IsLine, IsNoPacket, IsShort, TellsFault, cause_code, show_code}
 pub use Rattle.mscp_c.specs.Saving.{length_told, room_after, save_code}
 pub use Rattle.mscp_c.specs.Served.{TellsBegin, TellsFinish, TellsStep}
 pub use Rattle.mscp_c.specs.Statuses.{hear_code, host_code, host_restore_code, limits_code, minus, port_restore_code, restore_code, room_code, send_fault_code, unit_code, units_code}
@@ -29,4 +29,5 @@ pub use Rattle.mscp_port.specs.Wanted.{bytes_wanted}
 pub use Rattle.mscp_port.specs.Calls.{LooksAgain, ReadsIp, Ticks, WritesIp, WritesSa, sa_of}
 pub use Rattle.mscp_queue.specs.Drives.{is_online_in}
 pub use Rattle.mscp_reader.specs.Grammar.{IsFault}
+pub use Rattle.mscp_script.specs.Simulated.{IsReport}
 pub use Rattle.mscp_text.specs.Shown.{shown}

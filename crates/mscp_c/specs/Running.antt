@@ -4,7 +4,6 @@ use Rattle.mscp_reader.specs.Grammar.{IsFault}
 use Rattle.mscp_reader.specs.declared.fault.Cause.{Cause}
 use Rattle.mscp_reader.specs.declared.fault.Cause.TheVariants as causes
 use Rattle.mscp_reader.specs.declared.fault.ScriptFault.{ScriptFault}
-use Rattle.mscp_script.specs.Simulated.{IsReport}
 use Rattle.mscp_text.specs.Shown.{shown}
 use Rattle.mscp_text.specs.declared.packet.ShowFault.{ShowFault}
 use Rattle.mscp_text.specs.declared.packet.ShowFault.TheVariants as words
@@ -35,10 +34,16 @@ show_code words.Code = status.WORD_CODE
 show_code words.Length = status.WORD_LENGTH
 show_code words.OutOfMemory = status.SMALL
 
--- so many bytes at the front of a room, which has room for twice as many, are the report of this script
-pub record HasReport (script room : List ℕ) (count : ℕ) : Type 0 where
+-- so many bytes at the front of a room, which has room for twice as many, are such a text
+pub record HasText (Is : List ℕ → Type 0) (room : List ℕ) (count : ℕ) : Type 0 where
   pub inside : 2 * count ≤ length room
-  pub report : IsReport script (take count room)
+  pub text : Is (take count room)
+
+-- there is such a text, and a room hasn't room for it twice
+pub record IsShort (Is : List ℕ → Type 0) (room : List ℕ) : Type 0 where
+  pub text : List ℕ
+  pub is : Is text
+  pub short : length room < 2 * length text
 
 -- the script's first fault is in this line, and this is the status of its cause
 pub record TellsFault (script : List ℕ) (code : ℤ) (line : ℕ) : Type 0 where
@@ -47,16 +52,9 @@ pub record TellsFault (script : List ℕ) (code : ℤ) (line : ℕ) : Type 0 whe
   pub line_is : fault.line ≡ line
   pub cause : cause_code fault.cause ≡ code
 
--- so many bytes at the front of a room, which has room for twice as many, are the line of the packet that a word is
-pub record HasLine (word room : List ℕ) (count : ℕ) : Type 0 where
-  pub inside : 2 * count ≤ length room
-  pub shown : shown word ≡ Ok (take count room)
-
--- the word is a packet, and a room hasn't room for twice its line
-pub record IsShort (word room : List ℕ) : Type 0 where
-  pub line : List ℕ
-  pub shown : shown word ≡ Ok line
-  pub short : length room < 2 * length line
+-- the bytes are the line of the packet that a word is
+abbrev pub IsLine : List ℕ → List ℕ → Type 0
+IsLine word line = shown word ≡ Ok line
 
 -- the word is no packet, and this is the status of why
 pub record IsNoPacket (word : List ℕ) (code : ℤ) : Type 0 where

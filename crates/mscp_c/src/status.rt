@@ -347,6 +347,7 @@ pub(crate) fn put_code(answer: Result<(), VolumeFault>) -> i32
 pub(crate) fn cause_code(cause: Cause) -> i32
     ensures value { result ≡ cause_code cause }
     ensures below { result ≢ DONE }
+    ensures told { result ≢ SMALL }
 {
     match cause {
         Cause::Size => SCRIPT_SIZE,

@@ -24,4 +24,4 @@ pub use crate::reporting::Reporter;
 pub use crate::simulation::{SimFault, simulate, simulate_in};
 pub use crate::stream::{Failed, Sink, Source, Stream};
 pub use mscp_reader::{Cause, ReadFault, ScriptFault, scripts_have_one_meaning};
-pub use mscp_text::{Lent, Out, ShowFault, show_packet, show_packet_to};
+pub use mscp_text::{Lent, Out, Room, ShowFault, show_packet, show_packet_to};

@@ -1,6 +1,6 @@
 // The report of a script in one pass: what a line asks for comes to a controller as soon as the line is read.
 
-ghost use Rattle.std.specs.Prelude.{◌≡◌, [], IfOk};
+ghost use Rattle.std.specs.Prelude.{◌≡◌, [], Err, IfOk};
 ghost use Rattle.mscp_script.specs.Common.{Settings, Begins, HasGone, IsFault, rest_outcome, Runs, RunsTo, TellsReport, IsReport};
 
 use crate::running::Run;
@@ -16,6 +16,7 @@ pub fn report_script<O: Out>(out: O, bytes: &[u8]) -> Result<O, ReadFault>
     requires { O.text out ≡ [] }
     ensures report { IfOk result (λ report. IsReport bytes.now (O.text report)) }
     ensures fault { (fault : ScriptFault) → result ≡ Err (ReadFault.Script fault) → IsFault bytes.now fault }
+    ensures refused { result ≡ Err ReadFault.OutOfMemory → O.refuses }
 {
     report_lines(out, &mut lines_of(bytes)?)
 }
@@ -23,7 +24,8 @@ pub fn report_script<O: Out>(out: O, bytes: &[u8]) -> Result<O, ReadFault>
 /// The report of what lines stand for, or the first fault.
 fn report_lines<O: Out>(out: O, lines: &mut Lines<'_>) -> Result<O, ReadFault>
     requires { O.text out ≡ [] }
-    ensures { TellsReport O.text result (rest_outcome lines.old.number Begins lines.old.rest.now) }
+    ensures told { TellsReport O.text result (rest_outcome lines.old.number Begins lines.old.rest.now) }
+    ensures refused { result ≡ Err ReadFault.OutOfMemory → O.refuses }
 {
     runs_keep_the_promise(&Sweep);
     let mut run = Run::new(out, read_header(lines)?);
@@ -37,8 +39,9 @@ fn report_lines<O: Out>(out: O, lines: &mut Lines<'_>) -> Result<O, ReadFault>
 #[inline(never)]
 fn run_events<O: Out>(lines: &mut Lines<'_>, run: &mut Run<O>) -> Result<(), ReadFault>
     requires { run.old.reporter.count ≡ 0 }
-    ensures { (c : Settings) → Runs c [] run.old → RunsTo c result run.new
+    ensures ran { (c : Settings) → Runs c [] run.old → RunsTo c result run.new
         (rest_outcome lines.old.number (HasGone c []) lines.old.rest.now) }
+    ensures refused { result ≡ Err ReadFault.OutOfMemory → O.refuses }
 {
     loop {
         match lines.next_request(run.count() as usize) {

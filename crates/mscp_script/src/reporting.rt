@@ -1,6 +1,6 @@
 // A report, which grows by the lines of each entry, and ends with the totals.
 
-ghost use Rattle.std.specs.Prelude.{◌≡◌, ◌+◌, ◌<◌, ◌≤◌, ◌^◌, [], IfOk, OnOk, length};
+ghost use Rattle.std.specs.Prelude.{◌≡◌, ◌+◌, ◌<◌, ◌≤◌, ◌^◌, [], IfOk, OnErr, OnOk, length};
 ghost use Rattle.mscp_controller.specs.declared.entry.Entry.TheVariants as entries;
 ghost use Rattle.mscp_queue.specs.declared.report.Report.TheVariants as reports;
 ghost use Rattle.mscp_script.specs.Text.{finished, reported, step_line, with_entry};
@@ -14,6 +14,7 @@ use crate::totals::Totals;
 use arrayvec::ArrayVec;
 use mscp_controller::{Connection, OutOfMemory, Report, SendFault, Sent};
 use mscp_text::{Out, put};
+use std::alloc::Allocator;
 use std::marker::Model;
 
 /// The lines of the entries so far, and their totals.
@@ -69,28 +70,6 @@ impl<O: Out> Reporter<O> {
         self.totals.steps
     }
 
-    /// The lines, but for those that were forgotten.
-    pub fn lines(&self) -> &[u8]
-        ensures { result.now ≡ self.now.lines }
-    {
-        self.out.appended()
-    }
-
-    /// Forgets the lines. How many entries were reported, and their totals, stay.
-    pub fn forget_lines(&mut self)
-        ensures { self.new ≡ record self.old { lines = [] } }
-    {
-        self.out.forget();
-    }
-
-    /// Forgets all entries.
-    pub fn restart(&mut self)
-        ensures { self.new ≡ reported [] }
-    {
-        self.out.forget();
-        self.totals = Totals::new();
-    }
-
     /// Reports what became of a message of the connection.
     pub fn sent(
         &mut self,
@@ -98,7 +77,8 @@ impl<O: Out> Reporter<O> {
         sent: &Result<Sent, SendFault>,
     ) -> Result<(), OutOfMemory>
         requires { self.old.count + 1 < 2 ^ 64 }
-        ensures { OnOk result (self.new ≡ with_entry self.old (entries.Sent connection sent.now)) }
+        ensures value { OnOk result (self.new ≡ with_entry self.old (entries.Sent connection sent.now)) }
+        ensures refused { OnErr result O.refuses }
     {
         put_sent(&mut self.out, &mut self.line, connection, sent)?;
         self.totals.add_sent(sent);
@@ -112,7 +92,8 @@ impl<O: Out> Reporter<O> {
         end: &Option<ArrayVec<u8, 48>>,
     ) -> Result<(), OutOfMemory>
         requires { self.old.count + 1 < 2 ^ 64 }
-        ensures { OnOk result (self.new ≡ with_entry self.old (entries.Taken connection end.now)) }
+        ensures value { OnOk result (self.new ≡ with_entry self.old (entries.Taken connection end.now)) }
+        ensures refused { OnErr result O.refuses }
     {
         put_taken(&mut self.out, &mut self.line, connection, end)?;
         self.totals.add_other();
@@ -124,6 +105,7 @@ impl<O: Out> Reporter<O> {
         requires { self.old.count + 1 < 2 ^ 64 }
         ensures value { OnOk result (self.new ≡ with_entry self.old (entries.Stepped report.now)) }
         ensures short { OnOk result (length (step_line report.now) ≤ 108) }
+        ensures refused { OnErr result O.refuses }
     {
         put_step(&mut self.out, &mut self.line, report)?;
         self.totals.add_step(report);
@@ -134,7 +116,8 @@ impl<O: Out> Reporter<O> {
     #[inline(always)]
     pub fn idled(&mut self) -> Result<(), OutOfMemory>
         requires { self.old.count + 1 < 2 ^ 64 }
-        ensures { OnOk result (self.new ≡ with_entry self.old (entries.Stepped reports.Idle)) }
+        ensures value { OnOk result (self.new ≡ with_entry self.old (entries.Stepped reports.Idle)) }
+        ensures refused { OnErr result O.refuses }
     {
         put(&mut self.out, "idle\n")?;
         self.totals.add_step(&Report::Idle);
@@ -147,7 +130,8 @@ impl<O: Out> Reporter<O> {
         shown: &ArrayVec<(Connection, u32, u32), 64>,
     ) -> Result<(), OutOfMemory>
         requires { self.old.count + 1 < 2 ^ 64 }
-        ensures { OnOk result (self.new ≡ with_entry self.old (entries.Looked shown.now)) }
+        ensures value { OnOk result (self.new ≡ with_entry self.old (entries.Looked shown.now)) }
+        ensures refused { OnErr result O.refuses }
     {
         put_figures(&mut self.out, &mut self.line, shown.as_slice())?;
         self.totals.add_other();
@@ -156,9 +140,34 @@ impl<O: Out> Reporter<O> {
 
     /// The text, with the line of the totals.
     pub fn finish(mut self) -> Result<O, OutOfMemory>
-        ensures { IfOk result (λ out. O.text out ≡ finished self) }
+        ensures value { IfOk result (λ out. O.text out ≡ finished self) }
+        ensures refused { OnErr result O.refuses }
     {
         put_totals(&mut self.out, &self.totals)?;
         Ok(self.out)
+    }
+}
+
+impl<A: Allocator> Reporter<Vec<u8, A>> {
+    /// The lines, but for those that were forgotten.
+    pub fn lines(&self) -> &[u8]
+        ensures { result.now ≡ self.now.lines }
+    {
+        &self.out
+    }
+
+    /// Forgets the lines. How many entries were reported, and their totals, stay.
+    pub fn forget_lines(&mut self)
+        ensures { self.new ≡ record self.old { lines = [] } }
+    {
+        self.out.clear();
+    }
+
+    /// Forgets all entries.
+    pub fn restart(&mut self)
+        ensures { self.new ≡ reported [] }
+    {
+        self.out.clear();
+        self.totals = Totals::new();
     }
 }

@@ -1,6 +1,6 @@
 // A controller that is driven event by event, and the report of what it answers.
 
-ghost use Rattle.std.specs.Prelude.{◌≡◌, ◌+◌, ◌<◌, ◌^◌, [], length, replicate, OnOk};
+ghost use Rattle.std.specs.Prelude.{◌≡◌, ◌+◌, ◌<◌, ◌^◌, [], length, replicate, OnErr, OnOk};
 ghost use Rattle.mscp_controller.specs.Holdings.{fresh};
 ghost use Rattle.mscp_drive.specs.Settings.{IsValid};
 ghost use Rattle.mscp_drive.specs.declared.event.Event.TheVariants as events;
@@ -45,7 +45,8 @@ impl<O: Out> Run<O> {
     /// The connection's host sends this message.
     fn send(&mut self, connection: Connection, message: &[u8]) -> Result<(), OutOfMemory>
         requires { self.old.reporter.count + 1 < 2 ^ 64 }
-        ensures { OnOk result (Ran self.old self.new (events.Send connection (record { items = message.now }))) }
+        ensures ran { OnOk result (Ran self.old self.new (events.Send connection (record { items = message.now }))) }
+        ensures refused { OnErr result O.refuses }
     {
         let sent = self.controller.send(connection, message);
         self.reporter.sent(connection, &sent)
@@ -56,7 +57,8 @@ impl<O: Out> Run<O> {
     #[inline(never)]
     fn take(&mut self, connection: Connection) -> Result<(), OutOfMemory>
         requires { self.old.reporter.count + 1 < 2 ^ 64 }
-        ensures { OnOk result (Ran self.old self.new (events.Take connection)) }
+        ensures ran { OnOk result (Ran self.old self.new (events.Take connection)) }
+        ensures refused { OnErr result O.refuses }
     {
         let end = self.controller.take(connection);
         self.reporter.taken(connection, &end)
@@ -65,7 +67,8 @@ impl<O: Out> Run<O> {
     /// The drive serves one block, with this outcome.
     fn step(&mut self, block: Block) -> Result<(), OutOfMemory>
         requires { self.old.reporter.count + 1 < 2 ^ 64 }
-        ensures { OnOk result (Ran self.old self.new (events.Step block)) }
+        ensures ran { OnOk result (Ran self.old self.new (events.Step block)) }
+        ensures refused { OnErr result O.refuses }
     {
         let report = self.controller.step(block);
         self.reporter.stepped(&report)
@@ -74,7 +77,8 @@ impl<O: Out> Run<O> {
     /// The figures of all waiting commands are asked for.
     fn look(&mut self) -> Result<(), OutOfMemory>
         requires { self.old.reporter.count + 1 < 2 ^ 64 }
-        ensures { OnOk result (Ran self.old self.new events.Look) }
+        ensures ran { OnOk result (Ran self.old self.new events.Look) }
+        ensures refused { OnErr result O.refuses }
     {
         let shown = self.controller.look();
         self.reporter.looked(&shown)
@@ -86,6 +90,7 @@ impl<O: Out> Run<O> {
         requires { self.old.reporter.count + count < 2 ^ 64 }
         ensures met { OnOk result (Meets self.old self.new (replicate count (events.Step block.now))) }
         ensures count { OnOk result (self.new.reporter.count ≡ self.old.reporter.count + count) }
+        ensures refused { OnErr result O.refuses }
     {
         for _step in 0..count {
             self.step(*block)?;
@@ -99,6 +104,7 @@ impl<O: Out> Run<O> {
         ensures met { OnOk result (Meets self.old self.new (events_of request.now)) }
         ensures count { OnOk result (self.new.reporter.count
             ≡ self.old.reporter.count + length (events_of request.now)) }
+        ensures refused { OnErr result O.refuses }
     {
         match request {
             Request::Send(connection, command) => {

@@ -1,2 +1,4 @@
 pub mod Hexadecimal
 pub mod Packets
+pub mod Pasts
+pub mod Longer

@@ -136,7 +136,7 @@ fn packet_in(message: &[u8]) -> Result<Packet, ShowFault>
 pub fn show_packet_to<O: Out>(mut out: O, word: &[u8]) -> Result<O, ShowFault>
     requires { O.text out ≡ [] }
     ensures shows { Shows O.text result (shown word.now) }
-    ensures refused { result ≡ Err ShowFault.OutOfMemory → IfOk (shown word.now) (λ line. O.least out ≤ length line) }
+    ensures refused { result ≡ Err ShowFault.OutOfMemory → O.refuses }
 {
     let message = message_of(word)?;
     let packet = packet_in(&message)?;

@@ -1,6 +1,6 @@
 // Text that grows: words, numbers and hexadecimal digits.
 
-ghost use Rattle.std.specs.Prelude.{◌≡◌, ◌≤◌, ◌+◌, ◌++◌, length, OnErr, OnOk};
+ghost use Rattle.std.specs.Prelude.{◌≡◌, ◌≤◌, ◌++◌, length, OnErr, OnOk};
 ghost use Rattle.hex.specs.Hex.{encode_lower};
 
 use crate::out::Out;
@@ -11,8 +11,7 @@ use std::alloc::AllocError;
 /// Appends words.
 pub fn put<O: Out>(out: &mut O, words: &str) -> Result<(), AllocError>
     ensures text { OnOk result (O.text out.new ≡ O.text out.old ++ words.now) }
-    ensures refused { OnErr result (O.least out.old ≤ length (O.text out.old) + length words.now) }
-    ensures least { O.least out.new ≡ O.least out.old }
+    ensures refused { OnErr result O.refuses }
 {
     out.append(words.as_bytes())
 }
@@ -20,8 +19,7 @@ pub fn put<O: Out>(out: &mut O, words: &str) -> Result<(), AllocError>
 /// Appends a number, in decimal digits.
 pub fn put_number<N: Integer, O: Out>(out: &mut O, number: N) -> Result<(), AllocError>
     ensures text { OnOk result (O.text out.new ≡ O.text out.old ++ N.text number) }
-    ensures refused { OnErr result (O.least out.old ≤ length (O.text out.old) + length (N.text number)) }
-    ensures least { O.least out.new ≡ O.least out.old }
+    ensures refused { OnErr result O.refuses }
 {
     put(out, Buffer::new().format(number))
 }
@@ -29,8 +27,7 @@ pub fn put_number<N: Integer, O: Out>(out: &mut O, number: N) -> Result<(), Allo
 /// Appends words and then a number.
 pub fn put_field<N: Integer, O: Out>(out: &mut O, words: &str, number: N) -> Result<(), AllocError>
     ensures text { OnOk result (O.text out.new ≡ O.text out.old ++ (words.now ++ N.text number)) }
-    ensures refused { OnErr result (O.least out.old ≤ length (O.text out.old) + length (words.now ++ N.text number)) }
-    ensures least { O.least out.new ≡ O.least out.old }
+    ensures refused { OnErr result O.refuses }
 {
     put(out, words)?;
     put_number(out, number)
@@ -46,9 +43,7 @@ pub fn put_two<N: Integer, M: Integer, O: Out>(
 ) -> Result<(), AllocError>
     ensures text { OnOk result (O.text out.new
         ≡ O.text out.old ++ (words.now ++ N.text number) ++ (more.now ++ M.text other)) }
-    ensures refused { OnErr result (O.least out.old
-        ≤ length (O.text out.old) + length ((words.now ++ N.text number) ++ (more.now ++ M.text other))) }
-    ensures least { O.least out.new ≡ O.least out.old }
+    ensures refused { OnErr result O.refuses }
 {
     put_field(out, words, number)?;
     put_field(out, more, other)
@@ -58,8 +53,7 @@ pub fn put_two<N: Integer, M: Integer, O: Out>(
 pub fn put_hex<O: Out>(out: &mut O, bytes: &[u8]) -> Result<(), AllocError>
     requires { length bytes.now ≤ 48 }
     ensures text { OnOk result (O.text out.new ≡ O.text out.old ++ encode_lower bytes.now) }
-    ensures refused { OnErr result (O.least out.old ≤ length (O.text out.old) + length (encode_lower bytes.now)) }
-    ensures least { O.least out.new ≡ O.least out.old }
+    ensures refused { OnErr result O.refuses }
 {
     let mut room = [0u8; 96];
     let digits = &mut room[..2 * bytes.len()];

@@ -1,7 +1,7 @@
 // The lines of a report. But for the last, and for those that are always the same, each is written from its end to its
 // start, and appended in one piece.
 
-ghost use Rattle.std.specs.Prelude.{◌≡◌, ◌+◌, ◌≤◌, ◌++◌, length, codes, OnOk};
+ghost use Rattle.std.specs.Prelude.{◌≡◌, ◌+◌, ◌≤◌, ◌++◌, length, codes, OnErr, OnOk};
 ghost use Rattle.mscp_script.specs.Common.{flat_map, aborted_part, block_word, connection_word, ended_part, entry_lines, figure_line, last_line, refusal_word, sent_line, step_line};
 ghost use Rattle.mscp_controller.specs.declared.entry.Entry.TheVariants as entries;
 
@@ -69,7 +69,8 @@ pub fn put_sent<O: Out>(
     connection: Connection,
     sent: &Result<Sent, SendFault>,
 ) -> Result<(), AllocError>
-    ensures { OnOk result (O.text out.new ≡ O.text out.old ++ entry_lines (entries.Sent connection sent.now)) }
+    ensures value { OnOk result (O.text out.new ≡ O.text out.old ++ entry_lines (entries.Sent connection sent.now)) }
+    ensures refused { OnErr result O.refuses }
 {
     line.begin();
     match sent {
@@ -90,7 +91,8 @@ pub fn put_taken<O: Out>(
     connection: Connection,
     end: &Option<ArrayVec<u8, 48>>,
 ) -> Result<(), AllocError>
-    ensures { OnOk result (O.text out.new ≡ O.text out.old ++ entry_lines (entries.Taken connection end.now)) }
+    ensures value { OnOk result (O.text out.new ≡ O.text out.old ++ entry_lines (entries.Taken connection end.now)) }
+    ensures refused { OnErr result O.refuses }
 {
     line.begin();
     match end {
@@ -132,6 +134,7 @@ fn put_ended(line: &mut Tail, ended: &Option<End>)
 pub fn put_step<O: Out>(out: &mut O, line: &mut Tail, report: &Report) -> Result<(), AllocError>
     ensures value { OnOk result (O.text out.new ≡ O.text out.old ++ step_line report.now) }
     ensures short { OnOk result (length (step_line report.now) ≤ 108) }
+    ensures refused { OnErr result O.refuses }
 {
     match report {
         Report::Idle => put(out, "idle\n"),
@@ -163,7 +166,8 @@ fn put_figure<O: Out>(
     line: &mut Tail,
     shown: &(Connection, u32, u32),
 ) -> Result<(), AllocError>
-    ensures { OnOk result (O.text out.new ≡ O.text out.old ++ figure_line shown.now) }
+    ensures value { OnOk result (O.text out.new ≡ O.text out.old ++ figure_line shown.now) }
+    ensures refused { OnErr result O.refuses }
 {
     line.begin();
     line.field(" ", shown.2);
@@ -178,7 +182,8 @@ pub fn put_figures<O: Out>(
     line: &mut Tail,
     shown: &[(Connection, u32, u32)],
 ) -> Result<(), AllocError>
-    ensures { OnOk result (O.text out.new ≡ O.text out.old ++ flat_map figure_line shown.now) }
+    ensures value { OnOk result (O.text out.new ≡ O.text out.old ++ flat_map figure_line shown.now) }
+    ensures refused { OnErr result O.refuses }
 {
     for command in shown {
         put_figure(out, line, command)?;
@@ -188,8 +193,9 @@ pub fn put_figures<O: Out>(
 
 /// Appends the last line.
 pub fn put_totals<O: Out>(out: &mut O, totals: &Totals) -> Result<(), AllocError>
-    ensures { OnOk result (O.text out.new ≡ O.text out.old
+    ensures value { OnOk result (O.text out.new ≡ O.text out.old
         ++ last_line totals.now.steps totals.now.seeks totals.now.queued totals.now.ended) }
+    ensures refused { OnErr result O.refuses }
 {
     put_field(out, "steps ", totals.steps)?;
     put_field(out, " seeks ", totals.seeks)?;

@@ -37,8 +37,7 @@ fn invalid_name(status: u16) -> &'static str
 /// Appends what a command asks for.
 fn put_order<O: Out>(out: &mut O, order: Order) -> Result<(), AllocError>
     ensures text { OnOk result (O.text out.new ≡ O.text out.old ++ order_text order) }
-    ensures refused { OnErr result (O.least out.old ≤ length (O.text out.old) + length (order_text order)) }
-    ensures least { O.least out.new ≡ O.least out.old }
+    ensures refused { OnErr result O.refuses }
 {
     match order {
         Order::Abort(other) => put_field(out, "ABORT of ", other),
@@ -64,8 +63,7 @@ fn put_order<O: Out>(out: &mut O, order: Order) -> Result<(), AllocError>
 /// Appends a command.
 fn put_command<O: Out>(out: &mut O, command: Command) -> Result<(), AllocError>
     ensures text { OnOk result (O.text out.new ≡ O.text out.old ++ command_text command) }
-    ensures refused { OnErr result (O.least out.old ≤ length (O.text out.old) + length (command_text command)) }
-    ensures least { O.least out.new ≡ O.least out.old }
+    ensures refused { OnErr result O.refuses }
 {
     put_two(out, "command ", command.reference, " unit ", command.unit)?;
     put(out, " ")?;
@@ -75,8 +73,7 @@ fn put_command<O: Out>(out: &mut O, command: Command) -> Result<(), AllocError>
 /// Appends what an end tells beside its status.
 fn put_body<O: Out>(out: &mut O, body: EndBody) -> Result<(), AllocError>
     ensures text { OnOk result (O.text out.new ≡ O.text out.old ++ body_text body) }
-    ensures refused { OnErr result (O.least out.old ≤ length (O.text out.old) + length (body_text body)) }
-    ensures least { O.least out.new ≡ O.least out.old }
+    ensures refused { OnErr result O.refuses }
 {
     match body {
         EndBody::Bare => Ok(()),
@@ -110,9 +107,7 @@ fn put_body<O: Out>(out: &mut O, body: EndBody) -> Result<(), AllocError>
 /// Appends the endcode of an end.
 fn put_code<O: Out>(out: &mut O, code: u8) -> Result<(), AllocError>
     ensures text { OnOk result (O.text out.new ≡ O.text out.old ++ (codes " code " ++ code_text code)) }
-    ensures refused { OnErr result (O.least out.old
-        ≤ length (O.text out.old) + length (codes " code " ++ code_text code)) }
-    ensures least { O.least out.new ≡ O.least out.old }
+    ensures refused { OnErr result O.refuses }
 {
     put(out, " code ")?;
     put_hex(out, &[code])
@@ -121,9 +116,7 @@ fn put_code<O: Out>(out: &mut O, code: u8) -> Result<(), AllocError>
 /// Appends the status of an end.
 fn put_status<O: Out>(out: &mut O, status: u16) -> Result<(), AllocError>
     ensures text { OnOk result (O.text out.new ≡ O.text out.old ++ (codes " status " ++ status_text status)) }
-    ensures refused { OnErr result (O.least out.old
-        ≤ length (O.text out.old) + length (codes " status " ++ status_text status)) }
-    ensures least { O.least out.new ≡ O.least out.old }
+    ensures refused { OnErr result O.refuses }
 {
     put(out, " status ")?;
     put_hex(out, &status.to_be_bytes())
@@ -132,8 +125,7 @@ fn put_status<O: Out>(out: &mut O, status: u16) -> Result<(), AllocError>
 /// Appends an end.
 fn put_end<O: Out>(out: &mut O, end: End) -> Result<(), AllocError>
     ensures text { OnOk result (O.text out.new ≡ O.text out.old ++ end_text end) }
-    ensures refused { OnErr result (O.least out.old ≤ length (O.text out.old) + length (end_text end)) }
-    ensures least { O.least out.new ≡ O.least out.old }
+    ensures refused { OnErr result O.refuses }
 {
     put_two(out, "end ", end.reference, " unit ", end.unit)?;
     put_code(out, end.code)?;
@@ -144,8 +136,7 @@ fn put_end<O: Out>(out: &mut O, end: End) -> Result<(), AllocError>
 /// Appends the line of a packet.
 pub fn put_packet<O: Out>(out: &mut O, packet: Packet) -> Result<(), AllocError>
     ensures text { OnOk result (O.text out.new ≡ O.text out.old ++ packet_line packet) }
-    ensures refused { OnErr result (O.least out.old ≤ length (O.text out.old) + length (packet_line packet)) }
-    ensures least { O.least out.new ≡ O.least out.old }
+    ensures refused { OnErr result O.refuses }
 {
     match packet {
         Packet::Command(command) => put_command(out, command)?,

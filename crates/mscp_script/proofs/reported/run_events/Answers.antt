@@ -20,13 +20,13 @@ loop-request-preserved g c =
       few = omega (arith, c.in_ok-meet-in-Ok-Some.ensures.count, few, c.count.ensures);
     }
 
-pub returns-in-Err : goal.returns-in-Err
-returns-in-Err g c = λ d begun.
+pub returns-in-Err-clause-ran : goal.returns-in-Err-clause-ran
+returns-in-Err-clause-ran g c = λ d begun.
     let so_far = c.loop-request.invariant.going d begun in
     search (arith, goes_wrong)
 
-pub returns-in-Ok-None : goal.returns-in-Ok-None
-returns-in-Ok-None g c = λ d begun.
+pub returns-in-Ok-None-clause-ran : goal.returns-in-Ok-None-clause-ran
+returns-in-Ok-None-clause-ran g c = λ d begun.
     let so_far = c.loop-request.invariant.going d begun in (
       so_far.0,
       so_far.1,

@@ -9,7 +9,7 @@ use Rattle.mscp_judge.proofs.judge.Judge.look.Goals as goal
 pub returns-clause-came : goal.returns-clause-came
 returns-clause-came g c = came_on (Ok tt) c.args.self.now _ c.args.self.now.controller.picker.named events.Look
     (entries.Looked c.look-shown.result) c.forget_lines.new.self (c.look-shown.ensures.value, refl)
-    c.forget_lines.ensures c.in_ok-looked.ensures refl 0 _ refl c.most_passed.ensures.oldest c.rise.ensures.figure
+    c.forget_lines.ensures c.in_ok-looked.ensures.value refl 0 _ refl c.most_passed.ensures.oldest c.rise.ensures.figure
     c.rise.ensures.passed c.most_passed.ensures.most
 
 pub returns-clause-answers : goal.returns-clause-answers

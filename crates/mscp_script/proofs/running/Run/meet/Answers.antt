@@ -7,14 +7,14 @@ pub returns-in-Send-clause-met : goal.returns-in-Send-clause-met
 returns-in-Send-clause-met g c =
     let sent = subst (λ b. OnOk c.send.result (Ran c.args.self.now c.send.new.self
     (events.Send c.in-Send.connection (record { items = b }))))
-    (c.as_slice.ensures.value ∙ c.write_command.ensures.bytes) c.send.ensures in
+    (c.as_slice.ensures.value ∙ c.write_command.ensures.bytes) c.send.ensures.ran in
     rw c.in-Send.is (meets_ok c.send.result _ _ _ sent)
 
 pub returns-in-Packet-clause-met : goal.returns-in-Packet-clause-met
 returns-in-Packet-clause-met g c = search (arith, meets_ok)
 
 pub returns-in-Take-clause-met : goal.returns-in-Take-clause-met
-returns-in-Take-clause-met g c = rw c.in-Take.is (meets_ok c.take.result _ _ _ c.take.ensures)
+returns-in-Take-clause-met g c = rw c.in-Take.is (meets_ok c.take.result _ _ _ c.take.ensures.ran)
 
 pub returns-in-Look-clause-met : goal.returns-in-Look-clause-met
-returns-in-Look-clause-met g c = rw c.in-Look.is (meets_ok c.look.result _ _ _ c.look.ensures)
+returns-in-Look-clause-met g c = rw c.in-Look.is (meets_ok c.look.result _ _ _ c.look.ensures.ran)

@@ -2,5 +2,5 @@ use Rattle.mscp_script.proofs.Common.{arith}
 use Rattle.mscp_script.proofs.Growing.{ran_on}
 use Rattle.mscp_script.proofs.running.Run.take.Goals as goal
 
-pub returns : goal.returns
-returns g c = search (arith, ran_on)
+pub returns-clause-ran : goal.returns-clause-ran
+returns-clause-ran g c = search (arith, ran_on)
