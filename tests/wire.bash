@@ -24,7 +24,7 @@ packet() {
 online() { echo "send $(packet 12 "$1" "${2-0}" 9 0)"; }
 available() { echo "send $(packet 12 "$1" "${2-0}" 8 0)"; }
 reading() { echo "send $(packet 32 "$1" "${2-0}" 33 0 1024)"; }
-poll() { echo "send $(packet 16 "$1" 0 2 0 "$2")"; }
+poll() { echo "send $(packet 16 "$1" "${3-0}" 2 0 "$2")"; }
 unit_status() { echo "send $(packet 12 "$1" "$2" 3 "$3")"; } # with these modifiers
 abort() { echo "send $(packet 16 "$1" 0 1 0 "$2")"; }
 
@@ -33,7 +33,7 @@ onlined() { echo "end $(packet 44 "$1" "${3-0}" 137 "$2")"; }
 availed() { echo "end $(packet 12 "$1" 0 136 "$2")"; }
 moved() { echo "end $(packet 32 "$1" "${4-0}" 161 "$2" "$3")"; }
 unit_told() { echo "end $(packet 48 "$1" "$2" 131 0)"; }
-polled() { echo "end $(packet 20 "$1" 0 130 0 "$2" "$3")"; }
+polled() { echo "end $(packet 20 "$1" "${4-0}" 130 0 "$2" "$3")"; }
 aborted() { echo "end $(packet 16 "$1" 0 129 "$2" "$3")"; }
 
 # A log of examples/, by its name and on standard input.
@@ -167,7 +167,8 @@ statuses() {
     wire_breaks 'controller: status' 'READ 1 of unit 0' "$(reading 1)" "end $(packet 12 1 0 128 0)" &&
         wire_breaks 'controller: status' 'READ 1 of unit 0' "$(reading 1)" "$(moved 1 12 0)" &&
         wire_breaks 'controller: status' 'ONLINE 1 of unit 0' "$(online 1)" "$(onlined 1 4)" &&
-        wire_breaks 'controller: status' 'ABORT 1 of unit 0' "$(abort 1 9)" "$(aborted 1 3 9)"
+        wire_breaks 'controller: status' 'ABORT 1 of unit 0' "$(abort 1 9)" "$(aborted 1 3 9)" &&
+        wire_is_right '2 1 0 1 0' '' "send $(packet 12 1 0 47 0)" "end $(packet 12 1 0 175 12)" # FORMAT
 }
 
 aborts_without_an_abort() {
@@ -191,6 +192,16 @@ successes() {
         wire_is_right '2 1 0 1 0' '' "send $(packet 12 1 0 1 0)" "$(aborted 1 1 0)"
 }
 
+# A command that has no modifier may be refused for one, but not as if it were answered.
+refused_modifiers() {
+    wire_is_right '2 1 0 1 0' '' "send $(packet 16 1 0 1 16384 7)" "$(aborted 1 2561 7)" &&
+        wire_is_right '3 2 1 1 0' 'outstanding: READ 1 of unit 0' "$(reading 1)" "send $(packet 16 2 0 2 16384 1)" \
+            "end $(packet 20 2 0 130 2561)" &&
+        wire_breaks 'controller: success' 'GET COMMAND STATUS 2 of unit 0' "$(reading 1)" "$(poll 2 1)" \
+            "end $(packet 20 2 0 130 2561 1 5)" &&
+        wire_breaks 'controller: about' 'ABORT 1 of unit 0' "send $(packet 16 1 0 1 16384 7)" "$(aborted 1 0 8)"
+}
+
 abouts() {
     wire_breaks 'controller: about' 'GET COMMAND STATUS 2 of unit 0' "$(reading 1)" "$(poll 2 1)" "$(polled 2 3 5)" &&
         wire_breaks 'controller: about' 'ABORT 2 of unit 0' "$(reading 1)" "$(abort 2 1)" "$(aborted 2 0 0)"
@@ -200,12 +211,54 @@ wire_figures() {
     local told=("$(reading 1)" "$(poll 2 1)" "$(polled 2 1 5)" "$(poll 3 1)")
     wire_breaks 'controller: figure' 'GET COMMAND STATUS 3 of unit 0' "${told[@]}" "$(polled 3 1 5)" &&
         wire_breaks 'controller: figure' 'GET COMMAND STATUS 3 of unit 0' "${told[@]}" "$(polled 3 1 6)" &&
-        wire_breaks 'controller: figure' 'GET COMMAND STATUS 3 of unit 0' "${told[@]}" "$(polled 3 1 0)" &&
-        wire_breaks 'controller: figure' 'GET COMMAND STATUS 3 of unit 0' "${told[@]}" "$(moved 1 0 1024)" "$(polled 3 1 4)" &&
+        wire_breaks 'controller: figure' 'GET COMMAND STATUS 4 of unit 0' "${told[@]}" "$(polled 3 1 0)" "$(poll 4 1)" \
+            "$(polled 4 1 4)" &&
         wire_breaks 'controller: figure' 'GET COMMAND STATUS 2 of unit 0' "$(reading 1)" "$(poll 2 9)" "$(polled 2 9 1)" &&
         wire_is_right '5 3 2 2 0' 'outstanding: READ 1 of unit 0' "${told[@]}" "$(polled 3 1 4)" &&
         wire_is_right '6 3 1 3 0' '' "$(reading 1)" "$(poll 2 1)" "$(moved 1 0 1024)" "$(reading 1)" "$(polled 2 1 7)" \
             "$(moved 1 0 1024)"
+}
+
+# A poll tells what is right at any time until it is answered: 0 once the command ended, whose end may come later, and else a
+# figure lower than the last one told before the poll.
+figures_meanwhile() {
+    local told=("$(reading 1)" "$(poll 2 1)" "$(polled 2 1 5)" "$(poll 3 1)")
+    wire_is_right '6 3 2 3 0' '' "${told[@]}" "$(moved 1 0 1024)" "$(polled 3 1 4)" &&
+        wire_is_right '6 3 2 3 0' '' "${told[@]}" "$(moved 1 0 1024)" "$(polled 3 1 0)" &&
+        wire_is_right '6 3 2 3 0' '' "${told[@]}" "$(polled 3 1 0)" "$(moved 1 0 1024)" &&
+        wire_breaks 'controller: figure' 'GET COMMAND STATUS 3 of unit 0' "${told[@]}" "$(moved 1 0 1024)" "$(polled 3 1 5)" &&
+        wire_is_right '5 3 2 2 0' 'outstanding: READ 1 of unit 0' "$(reading 1)" "$(poll 2 1)" "$(poll 3 1)" "$(polled 3 1 4)" \
+            "$(polled 2 1 5)" &&
+        wire_is_right '4 2 1 2 0' '' "$(poll 2 1)" "$(reading 1)" "$(moved 1 0 1024)" "$(polled 2 1 9)" &&
+        wire_breaks 'controller: figure' 'GET COMMAND STATUS 2 of unit 0' "$(poll 2 1)" "$(reading 3)" "$(moved 3 0 1024)" \
+            "$(polled 2 1 9)" &&
+        wire_is_right '8 4 2 4 0' '' "${told[@]}" "$(moved 1 0 1024)" "$(reading 1)" "$(polled 3 1 9)" "$(moved 1 0 1024)"
+}
+
+# Only the oldest command of a host has to go on, and what was told of it before it was the oldest isn't compared. A command
+# that is answered when it arrives isn't waited for.
+figures_of_the_oldest() {
+    local two=("$(reading 1)" "$(reading 2)" "$(poll 3 2)" "$(polled 3 2 5)")
+    wire_is_right '6 4 2 2 0' $'outstanding: READ 1 of unit 0\noutstanding: READ 2 of unit 0' "${two[@]}" "$(poll 4 2)" \
+        "$(polled 4 2 5)" &&
+        wire_is_right '7 4 2 3 0' 'outstanding: READ 2 of unit 0' "${two[@]}" "$(moved 1 0 1024)" "$(poll 4 2)" \
+            "$(polled 4 2 5)" &&
+        wire_breaks 'controller: figure' 'GET COMMAND STATUS 5 of unit 0' "${two[@]}" "$(moved 1 0 1024)" "$(poll 4 2)" \
+            "$(polled 4 2 5)" "$(poll 5 2)" "$(polled 5 2 5)" &&
+        wire_breaks 'controller: figure' 'GET COMMAND STATUS 5 of unit 0' "$(unit_status 1 0 0)" "$(reading 2)" "$(poll 4 2)" \
+            "$(polled 4 2 5)" "$(poll 5 2)" "$(polled 5 2 5)" &&
+        wire_breaks 'controller: figure' 'GET COMMAND STATUS 5 of unit 0' "second $(reading 1)" "$(reading 2)" "$(poll 4 2)" \
+            "$(polled 4 2 5)" "$(poll 5 2)" "$(polled 5 2 5)"
+}
+
+# If a poll names another unit than its command's, any figure is right, and none is compared with it.
+figures_of_another_unit() {
+    local told=("$(reading 1)" "$(poll 2 1)" "$(polled 2 1 5)")
+    wire_is_right '5 3 2 2 0' 'outstanding: READ 1 of unit 0' "${told[@]}" "$(poll 3 1 7)" "$(polled 3 1 9 7)" &&
+        wire_is_right '7 4 3 3 0' 'outstanding: READ 1 of unit 0' "${told[@]}" "$(poll 3 1 7)" "$(polled 3 1 0 7)" \
+            "$(poll 4 1)" "$(polled 4 1 4)" &&
+        wire_breaks 'controller: figure' 'GET COMMAND STATUS 4 of unit 0' "${told[@]}" "$(poll 3 1 7)" "$(polled 3 1 9 7)" \
+            "$(poll 4 1)" "$(polled 4 1 5)"
 }
 
 byte_counts() {
@@ -238,6 +291,13 @@ identities_end() {
         wire_is_right '6 3 0 3 0' '' "${online[@]}" "$(reading 3 5)" "$(moved 3 4 0 5)" "${other[@]}" &&
         wire_is_right '5 2 0 2 1' '' "${online[@]}" reset "${other[@]}" &&
         wire_is_right '4 2 0 2 0' '' "${online[@]}" "${other[0]}" "$(tells_online 2 0 9 9 9)" &&
+        wire_is_right '4 2 0 2 0' '' "${online[@]}" "${other[0]}" "$(tells_online 2 1024 9 9 9)" &&
+        wire_is_right '4 2 0 2 0' '' "${online[@]}" "${other[0]}" "$(tells_online 2 128 9 9 9)" &&
+        wire_breaks 'controller: identity' 'ONLINE 2 of unit 5' "${online[@]}" "${other[0]}" "$(tells_online 2 1280 9 9 9)" &&
+        wire_is_right '6 3 0 3 0' '' "${online[@]}" "second ${other[0]}" "second $(tells_online 2 0 9 9 9)" \
+            "$(unit_status 3 5 0)" "$(tells_status 3 0 9 9 0)" &&
+        wire_breaks 'controller: identity' 'GET UNIT STATUS 3 of unit 5' "${online[@]}" "second ${other[0]}" \
+            "second $(tells_online 2 256 9 9 9)" "$(unit_status 3 5 0)" "$(tells_status 3 0 9 9 0)" &&
         wire_is_right '4 2 0 2 0' '' "${online[@]}" "second ${other[0]}" "second ${other[1]}" &&
         wire_breaks 'controller: identity' 'ONLINE 2 of unit 5' "${online[@]}" "$(available 3 5)" \
             "end $(packet 12 3 5 136 1)" "${other[@]}"

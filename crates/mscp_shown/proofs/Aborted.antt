@@ -5,9 +5,10 @@ use Rattle.std.specs.Prelude.{◌%◌}
 use Rattle.mscp_packet.specs.declared.command.Order.TheVariants as orders
 use Rattle.mscp_queue.specs.Outcomes.{outcome_status}
 use Rattle.mscp_controller.specs.Outcomes.{answer_status, own_end_with}
-use Rattle.mscp_wire.specs.Wire.{after_end, is_named}
+use Rattle.mscp_wire.specs.Wire.{is_named}
 use Rattle.mscp_wire.specs.declared.answer.Answer.{Answer}
 use Rattle.mscp_wire.specs.declared.sent.Sent.{Sent}
+use Rattle.mscp_shown.proofs.Strict.{after_end}
 use Rattle.mscp_shown.proofs.Owners.{IsOnly, only_after, only_push}
 use Rattle.mscp_shown.proofs.Saying.{Says}
 use Rattle.mscp_shown.proofs.Suiting.{IsFault, refused_apart}

@@ -5,13 +5,14 @@ use Rattle.std.specs.List.{position}
 use Rattle.std.proofs.lemmas.List.Quantifiers.{position-Some}
 use Rattle.mscp_controller.proofs.Promise.Known.{Known}
 use Rattle.mscp_packet.specs.Number.{num}
-use Rattle.mscp_wire.specs.Wire.{History, after, after_end, answer_by, command_at, has_abort, is_it, is_long, is_named, moment_at, outstanding, place_of, sent_by, status_code}
+use Rattle.mscp_wire.specs.Wire.{History, answer_by, command_at, has_abort, is_it, is_long, is_named, moment_at, place_of, sent_by, status_code}
 use Rattle.mscp_wire.specs.Wire as wire
 use Rattle.mscp_wire.specs.declared.sent.Sent.{Sent as Out}
 use Rattle.std.specs.Prelude.{◌%◌, ◌||◌}
 use Rattle.mscp_wire.specs.declared.answer.Answer.{Answer as Answered}
 use Rattle.mscp_wire.specs.declared.moment.Moment.TheVariants as moments
 use Rattle.mscp_shown.specs.Shown.{shown}
+use Rattle.mscp_shown.proofs.Strict.{after_end, outstanding}
 use Rattle.mscp_shown.proofs.Aborted.{Aborts, EndsAbort, IsAbort, aborts_after, aborts_rest, any_at, any_out}
 use Rattle.mscp_shown.proofs.Counts.{each_counted, some_place}
 use Rattle.mscp_shown.proofs.Owed.{one_if, owed, owed_took, untaken_took}

@@ -3,7 +3,7 @@ use Rattle.mscp_controller.proofs.Basics.{◌≡◌, ◌⊎◌, inl, ⊎_elim, �
 use Rattle.std.proofs.Common.{inr}
 use Rattle.std.proofs.lemmas.List.{length_push}
 use Rattle.mscp_controller.proofs.Promise.Grows.{moment_before}
-use Rattle.mscp_wire.specs.Wire.{after_end, command_at, hears, is_below, is_it, is_named, polled_by}
+use Rattle.mscp_wire.specs.Wire.{command_at, is_below, is_it, is_named, polled_by}
 use Rattle.mscp_wire.specs.Wire as wire
 use Rattle.mscp_wire.specs.declared.sent.Sent.{Sent}
 use Rattle.mscp_shown.specs.Keeping.{Polls}

@@ -3,10 +3,11 @@ use Rattle.mscp_controller.proofs.Basics.{◌≡◌, ⊎_elim, ℕ, suc, ◌+◌
 use Rattle.mscp_controller.proofs.Promise.Grows.{name_before}
 use Rattle.mscp_drive.specs.declared.connection.Connection.TheVariants.{First}
 use Rattle.mscp_queue.proofs.Placed.{find_cases, find_first, find_none}
-use Rattle.mscp_wire.specs.Wire.{after_end, command_at, has_figure, hears, is_below, is_it, is_named, may_tell, place_of, polled_by, sent_by}
+use Rattle.mscp_wire.specs.Wire.{command_at, is_below, is_it, is_named, place_of, polled_by, sent_by}
 use Rattle.mscp_wire.specs.Wire as wire
 use Rattle.mscp_wire.specs.declared.answer.Answer.{Answer}
 use Rattle.mscp_wire.specs.declared.sent.Sent.{Sent}
+use Rattle.mscp_shown.proofs.Strict.{after_end, has_figure, hears, may_tell}
 use Rattle.mscp_shown.proofs.Chaining.{goes_told, heard, tells}
 use Rattle.mscp_shown.proofs.Counts.{none_passes}
 use Rattle.mscp_shown.proofs.Hearing.{Chains, IsLast, Lasts, Stands, chains_at, last_more}

@@ -13,7 +13,7 @@ use Rattle.mscp_packet.specs.declared.end.EndBody.TheVariants as bodies
 use Rattle.mscp_drive.specs.Shape.{Shape}
 use Rattle.mscp_drive.specs.Settings.{Settings, unit_shape}
 use Rattle.mscp_drive.specs.declared.connection.Connection.{Connection}
-use Rattle.mscp_wire.specs.Wire.{History, agrees, answer_by, brings, is_same_unit, known, known_after_end, leaves, same_connection, status_code, tells_unit}
+use Rattle.mscp_wire.specs.Wire.{History, agrees, answer_by, brings, is_same_unit, known, known_after_end, leaves, same_connection, status_code, tells_unit, was_online}
 use Rattle.mscp_wire.specs.declared.answer.Answer.{Answer}
 use Rattle.mscp_wire.specs.declared.identity.Identity.{Identity}
 
@@ -101,7 +101,7 @@ module _ (c : Settings) (via : Connection) (e : End) (kind : IsOfKind e) (tells 
   pub told_right : a.status ≡ e.status → tells_unit a ≡ true
       → agrees a.code a.identity (unit_identity c e.unit) ≡ true
   told_right st h =
-      let brought = nat_eq a.code 0x89 && not (nat_eq a.status 0) in
+      let brought = nat_eq a.code 0x89 && was_online a in
       let p = and_parts (nat_eq (status_code a) 0) (nat_eq a.code 0x83 || brought || nat_eq a.code 0x8A) h in
       let zero : e.status % 32 ≡ 0 = ap (λ n. n % 32) (sym st) ∙ eqb-true (status_code a) 0 p.0 in
       let s = unit_shape c e.unit in
@@ -115,7 +115,7 @@ module _ (c : Settings) (via : Connection) (e : End) (kind : IsOfKind e) (tells 
       ap (λ n. agrees n a.identity (unit_identity c e.unit)) code
       ∙ status_read via e.reference e.unit e.code e.status s e.body (of_code 0x83 kinds.UnitStatus code refl)
       (tells zero))
-      (λ q. online 0x89 (eqb-true e.code 0x89 (and_parts (nat_eq e.code 0x89) (not (nat_eq a.status 0)) q).0) refl)
+      (λ q. online 0x89 (eqb-true e.code 0x89 (and_parts (nat_eq e.code 0x89) (was_online a) q).0) refl)
       (λ q. online 0x8A (eqb-true e.code 0x8A q) refl)
     where
       by_code : {P : Type 0} (x y z : Bool) → (x || y || z) ≡ true → (x ≡ true → P) → (y ≡ true → P)
@@ -159,18 +159,20 @@ pub told_more : (c : Settings) (h : History) (a : Answer) → AreTold c h
     → (brings a ≡ true → a.identity ≡ Some (unit_identity c a.unit)) → (via : Connection) (unit : ℕ) (i : Identity)
     → known_after_end via unit (known h via unit) a ≡ Some i → i ≡ unit_identity c unit
 told_more c h a told brought via unit i =
-    by_cases (nat_eq a.unit unit) (leaves a) (brings a) (same_connection a.connection via) (known h via unit)
-    a.identity i (unit_identity c unit) (told via unit i)
+    by_cases (nat_eq a.unit unit) (leaves a) (brings a) (same_connection a.connection via) (was_online a)
+    (known h via unit) a.identity i (unit_identity c unit) (told via unit i)
     (λ q b. brought b ∙ ap (λ n. Some (unit_identity c n)) (eqb-true a.unit unit q))
   where
-    by_cases : (here gone on side : Bool) (old new : Option Identity) (i j : Identity) → (old ≡ Some i → i ≡ j)
+    by_cases : (here gone on side was : Bool) (old new : Option Identity) (i j : Identity) → (old ≡ Some i → i ≡ j)
         → (here ≡ true → on ≡ true → new ≡ Some j)
-        → (if not here then old else (if gone then None else (if on && side then new else old))) ≡ Some i → i ≡ j
-    by_cases false gone on side old new i j k n h = k h
-    by_cases true true on side old new i j k n h = cc
-    by_cases true false false side old new i j k n h = k h
-    by_cases true false true false old new i j k n h = k h
-    by_cases true false true true old new i j k n h = let e : new ≡ Some j = n refl refl in cc
+        → (if not here then old else (if gone then None
+        else (if on then (if side then new else (if was then old else None)) else old))) ≡ Some i → i ≡ j
+    by_cases false gone on side was old new i j k n h = k h
+    by_cases true true on side was old new i j k n h = cc
+    by_cases true false false side was old new i j k n h = k h
+    by_cases true false true false true old new i j k n h = k h
+    by_cases true false true false false old new i j k n h = cc
+    by_cases true false true true was old new i j k n h = let e : new ≡ Some j = n refl refl in cc
 
 -- and an end of it says the same
 pub same_right : (o : Option Identity) (a : Answer) (j : Identity) → ((i : Identity) → o ≡ Some i → i ≡ j)

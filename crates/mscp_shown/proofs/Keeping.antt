@@ -12,7 +12,7 @@ use Rattle.mscp_packet.specs.declared.command.Order.TheVariants as orders
 use Rattle.mscp_packet.specs.declared.end.EndBody.{EndBody}
 use Rattle.mscp_packet.specs.declared.end.EndBody.TheVariants as bodies
 use Rattle.mscp_queue.specs.Orders.{endcode}
-use Rattle.mscp_wire.specs.Wire.{count_of, has_count, has_endcode, has_status, is_about, is_about_another, is_it, is_known, is_transfer, may_have, moves, names_unit, other_of, status_code, succeeds}
+use Rattle.mscp_wire.specs.Wire.{count_of, has_count, has_endcode, has_status, is_about, is_about_another, is_it, is_known, is_refused, is_transfer, is_unknown, may_have, moves, names_unit, other_of, status_code, succeeds}
 use Rattle.mscp_wire.specs.declared.answer.Answer.{Answer}
 use Rattle.mscp_wire.specs.declared.sent.Sent.{Sent}
 use Rattle.mscp_shown.proofs.Reading.{BodyReads}
@@ -46,6 +46,10 @@ Suits (orders.Invalid byte fault) status body =
 abbrev asked : ℕ → Sent → Option ℕ
 asked op s = if is_about_another op then s.parameter else None
 
+-- unless a modifier is why it is refused
+abbrev other_when : Bool → Bool → Bool → Option ℕ → Option ℕ
+other_when known about refused p = if known && about && not refused then p else None
+
 -- and of the bytes of a transfer
 abbrev wanted : ℕ → Sent → Option ℕ
 wanted op s = if is_transfer op then s.parameter else None
@@ -58,14 +62,33 @@ module _ (s : Sent) (a : Answer) where
       or_true : (b : Bool) → (b || true) ≡ true
       or_true b = grind arith
 
+  -- an end that keeps a rule of the command that its command is about, if it isn't refused
+  unless_refused : (P : Option ℕ → Bool) (k about : Bool) → k ≡ true → P None ≡ true
+      → P (if about then s.parameter else None) ≡ true → P (other_when k about (is_refused s a) s.parameter) ≡ true
+  unless_refused P k about e none some =
+      ap (λ b. P (other_when b about (is_refused s a) s.parameter)) e
+      ∙ by_refused about (is_refused s a) some
+    where
+      by_refused : (about refused : Bool) → P (if about then s.parameter else None) ≡ true
+          → P (other_when true about refused s.parameter) ≡ true
+      by_refused false refused h = none
+      by_refused true true h = none
+      by_refused true false h = h
+
+  -- and one of an opcode that isn't known keeps it
+  by_nobody : (P : Option ℕ → Bool) (k about refused : Bool) → k ≡ false → P None ≡ true
+      → P (other_when k about refused s.parameter) ≡ true
+  by_nobody P k about refused e none = ap (λ b. P (other_when b about refused s.parameter)) e ∙ none
+
+  may_too : (b c : Bool) → c ≡ true → (b || c) ≡ true
+  may_too b c h = grind arith
+
   -- an opcode that is known
   known : (op : ℕ) → s.opcode ≡ op → a.unit ≡ s.unit → is_known a ≡ true → nat_eq a.code (op + 0x80) ≡ true
       → may_have op (status_code a) ≡ true → succeeds a (asked op s) ≡ true → is_about a (asked op s) ≡ true
       → has_count a (wanted op s) ≡ true → Keeps s a
   known op e unit k code status success about count =
-      let other : other_of s a ≡ asked op s =
-      ap (λ b. if b && is_about_another s.opcode then s.parameter else None) k
-      ∙ ap (λ o. if is_about_another o then s.parameter else None) e in
+      let other : asked s.opcode s ≡ asked op s = ap (λ o. asked o s) e in
       let whole : count_of s a ≡ wanted op s =
       ap (λ b. if b && is_transfer s.opcode then s.parameter else None) k
       ∙ ap (λ o. if is_transfer o then s.parameter else None) e in
@@ -73,10 +96,14 @@ module _ (s : Sent) (a : Answer) where
         unit = its_unit unit;
         endcode = ap (λ b. not b || nat_eq a.code (s.opcode + 0x80)) k
             ∙ (ap (λ o. nat_eq a.code (o + 0x80)) e ∙ code);
-        status = ap (λ b. if b then may_have s.opcode (status_code a) else nat_eq (status_code a) 1) k
-            ∙ (ap (λ o. may_have o (status_code a)) e ∙ status);
-        success = ap (succeeds a) other ∙ success;
-        about = ap (is_about a) other ∙ about;
+        status =
+            ap (λ b. if b then is_unknown s.opcode || may_have s.opcode (status_code a) else nat_eq (status_code a) 1) k
+            ∙ may_too (is_unknown s.opcode) (may_have s.opcode (status_code a))
+            (ap (λ o. may_have o (status_code a)) e ∙ status);
+        success = unless_refused (succeeds a) (is_known a) (is_about_another s.opcode) k refl
+            (ap (succeeds a) other ∙ success);
+        about = unless_refused (is_about a) (is_known a) (is_about_another s.opcode) k refl
+            (ap (is_about a) other ∙ about);
         count = ap (has_count a) whole ∙ count;
       }
 
@@ -85,10 +112,12 @@ module _ (s : Sent) (a : Answer) where
   unknown unit k one = record {
     unit = its_unit unit;
     endcode = ap (λ b. not b || nat_eq a.code (s.opcode + 0x80)) k;
-    status = ap (λ b. if b then may_have s.opcode (status_code a) else nat_eq (status_code a) 1) k
+    status =
+        ap (λ b. if b then is_unknown s.opcode || may_have s.opcode (status_code a) else nat_eq (status_code a) 1) k
         ∙ eq-eqb (status_code a) 1 one;
-    success = ap (λ b. succeeds a (if b && is_about_another s.opcode then s.parameter else None)) k;
-    about = ap (λ b. is_about a (if b && is_about_another s.opcode then s.parameter else None)) k;
+    success =
+        by_nobody (succeeds a) (is_known a) (is_about_another s.opcode) (is_refused s a) k refl;
+    about = by_nobody (is_about a) (is_known a) (is_about_another s.opcode) (is_refused s a) k refl;
     count = ap (λ b. has_count a (if b && is_transfer s.opcode then s.parameter else None)) k;
   }
 

@@ -4,12 +4,14 @@ use Rattle.mscp_controller.proofs.Basics.{◌≡◌, ℕ, ◌+◌, ◌<◌, Bool
 use Rattle.mscp_controller.specs.declared.entry.Sent.{Sent}
 use Rattle.mscp_controller.proofs.Promise.Known.{Known}
 use Rattle.mscp_controller.specs.Credits.{aborted_reference}
-use Rattle.mscp_wire.specs.Wire.{History, after, after_end, answer_by, command_at, has_abort, is_it, is_long, is_named, moment_at, outstanding, place_of, sent_by, status_code}
+use Rattle.mscp_wire.specs.Wire.{History, answer_by, command_at, has_abort, is_it, is_long, is_named, moment_at, place_of, sent_by, status_code}
 use Rattle.mscp_wire.specs.Wire as wire
 use Rattle.mscp_wire.specs.declared.moment.Moment.{Moment as Wired}
 use Rattle.mscp_wire.specs.declared.moment.Moment.TheVariants as moments
+use Rattle.mscp_shown.proofs.Strict as strict
+use Rattle.mscp_shown.proofs.Strict.{AreRight, after, after_end, outstanding}
 use Rattle.mscp_shown.proofs.Messages.{HasRoom}
-use Rattle.mscp_wire.specs.Wire.{AreRight, known, known_after}
+use Rattle.mscp_wire.specs.Wire.{known, known_after}
 use Rattle.mscp_wire.specs.declared.identity.Identity.{Identity}
 use Rattle.std.proofs.lemmas.List.Sums.{fold_push}
 use Rattle.mscp_shown.proofs.Identity.{AreTold, unit_identity}
@@ -81,9 +83,9 @@ unfolding is_answer
 isnt_queued c via t command true r a h = absurd (true≢false (ap is_answer h))
 isnt_queued c via t command false r a h = refl
 
-kept_more : (credits : Option ℕ) (h : History) (m : Wired) → AreRight credits h → wire.IsRight credits h m
+kept_more : (credits : Option ℕ) (h : History) (m : Wired) → AreRight credits h → strict.IsRight credits h m
     → AreRight credits (h ++ m ∷ [])
-kept_more credits h m all last = each_push moments.Reset (wire.IsRight credits) h m all last
+kept_more credits h m all last = each_push moments.Reset (strict.IsRight credits) h m all last
 
 module _ (c : Settings) (t : Trace) (m : Moment) (h : Inv c t) where
   -- a moment that shows nothing
@@ -108,7 +110,7 @@ module _ (c : Settings) (t : Trace) (m : Moment) (h : Inv c t) where
   pub shows_one : (w : Wired) → shown_by m.0 m.1 ≡ w ∷ []
       → ((via : Connection) (p : ℕ → Bool)
       → tally via p (after (outstanding (shown t)) w) ≡ owed c via (t ++ m ∷ []) p)
-      → ((credits : Option ℕ) → HasRoom credits c → wire.IsRight credits (shown t) w)
+      → ((credits : Option ℕ) → HasRoom credits c → strict.IsRight credits (shown t) w)
       → Owners c (t ++ m ∷ []) (after (outstanding (shown t)) w)
       → Orders c (t ++ m ∷ []) (after (outstanding (shown t)) w)
       → Heard c (t ++ m ∷ []) (after (outstanding (shown t)) w)

@@ -34,3 +34,8 @@ mod Heeding
 mod Falling
 mod Listening
 mod Heeded
+mod Strict
+mod Alike
+mod Linking
+mod Lenient
+mod Judged

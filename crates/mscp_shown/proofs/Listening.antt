@@ -6,7 +6,7 @@ use Rattle.mscp_controller.proofs.Promise.Apart.{name_last, queued_name}
 use Rattle.mscp_controller.proofs.Promise.Grows.{moment_before, moment_last, name_before}
 use Rattle.mscp_controller.proofs.Promise.Progress.{waits_in}
 use Rattle.mscp_controller.specs.Figures.{figure_found}
-use Rattle.mscp_wire.specs.Wire.{after_end, command_at, is_below, is_it, is_named, place_of, polled_by, sent_by}
+use Rattle.mscp_wire.specs.Wire.{command_at, is_below, is_it, is_named, place_of, polled_by, sent_by}
 use Rattle.mscp_wire.specs.Wire as wire
 use Rattle.mscp_wire.specs.declared.sent.Sent.{Sent}
 use Rattle.mscp_shown.specs.Keeping.{IsPatient, Polls}

@@ -1,5 +1,5 @@
 -- Each moment of a legal trace keeps what its parts keep, so that the whole trace does.
-use Rattle.mscp_controller.proofs.Basics.{◌≡◌, ℕ, zero, suc, ◌+◌, ◌<◌, ◌≤◌, true, [], ◌∷◌, ◌++◌, length, take, drop, refl, ap, sym, ◌∙◌, subst, arith, count_by, Option, Some, None, Ok, Err, AllByRecursion, recursion_from_All, Connection, End, IsOfKind, Settings, IsValid, Trace, Moment, moment, Service, takes, collect, ends, ends_at, untaken, waiting, every_append, every_parts, Event, Report, First, IsRight, IsLegal, ends_more, ArrayVec, Block, Command, Name, name, same_name, figure, figure_of, bound, find, is_queued, each_queued, waits_below, is_step, is_waiting, connection, reference}
+use Rattle.mscp_controller.proofs.Basics.{◌≡◌, ℕ, All, zero, suc, ◌+◌, ◌<◌, ◌≤◌, true, [], ◌∷◌, ◌++◌, length, take, drop, refl, ap, sym, ◌∙◌, subst, arith, count_by, Option, Some, None, Ok, Err, AllByRecursion, recursion_from_All, Connection, End, IsOfKind, Settings, IsValid, Trace, Moment, moment, Service, takes, collect, ends, ends_at, untaken, waiting, every_append, every_parts, Event, Report, First, IsRight, IsLegal, ends_more, ArrayVec, Block, Command, Name, name, same_name, figure, figure_of, bound, find, is_queued, each_queued, waits_below, is_step, is_waiting, connection, reference}
 use Rattle.std.specs.Prelude.{◌^◌}
 use Rattle.mscp_controller.specs.Figures.{figure_found}
 use Rattle.mscp_controller.proofs.Promise.Progress.{progress}
@@ -9,9 +9,10 @@ use Rattle.std.proofs.lemmas.List.{get_or-take, length-take-le, take-append-drop
 use Rattle.mscp_controller.proofs.Promise.Known.{Known, known, more_at}
 use Rattle.mscp_controller.proofs.Promise.Shaped.{shaped}
 use Rattle.mscp_drive.specs.declared.block.Block.TheVariants.{Bad, Good}
-use Rattle.mscp_shown.specs.Keeping.{IsPatient, IsPossible, LegalTracesAreRight, Polls}
+use Rattle.mscp_shown.specs.Keeping.{Covers, IsPatient, IsPossible, LegalTracesAreRight, Polls}
+use Rattle.mscp_shown.proofs.Judged.{lenient}
+use Rattle.mscp_shown.proofs.Strict.{AreRight}
 use Rattle.mscp_shown.proofs.Messages.{has_room}
-use Rattle.mscp_wire.specs.Wire.{AreRight}
 use Rattle.mscp_shown.specs.Shown.{shown}
 use Rattle.mscp_shown.proofs.Ending.{took_more}
 use Rattle.mscp_shown.proofs.Kept.{Inv, More, stills}
@@ -201,9 +202,15 @@ module _ (c : Settings) (t : Trace) (valid : IsValid c) (legal : IsLegal c t)
       (inv_more c (take i t) (moment t i) before kinds facts parts.1
       (subst IsPatient e (patient_part (suc i) h)) (legal i low) there)
 
-pub are_right : LegalTracesAreRight
-are_right c t credits valid legal may patient covers =
+-- the stricter rules are kept
+strictly_right : (c : Settings) (t : Trace) (credits : Option ℕ) → IsValid c → IsLegal c t
+    → All (λ m. IsPossible m.0) t → IsPatient t → Covers credits c → AreRight credits (shown t)
+strictly_right c t credits valid legal may patient covers =
     let all = inv_at c t valid legal (recursion_from_All (λ (m : Moment). IsPossible m.0) t may) patient (length t)
     (omega arith) in
     subst (λ s. AreRight credits (shown s)) (take_all (length t) t (omega arith))
     (all.kept credits (has_room credits c valid covers))
+
+pub are_right : LegalTracesAreRight
+are_right c t credits valid legal may patient covers =
+    lenient credits (shown t) (strictly_right c t credits valid legal may patient covers)

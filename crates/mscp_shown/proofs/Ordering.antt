@@ -4,10 +4,11 @@ use Rattle.std.proofs.Common.{inr}
 use Rattle.std.specs.Prelude.{◌%◌}
 use Rattle.mscp_queue.proofs.Lists.{pairs_append}
 use Rattle.mscp_queue.specs.Pairs.{Pairs}
-use Rattle.mscp_wire.specs.Wire.{after_end, command_at, hears, is_apart, is_named, keeps_back, polled_by}
+use Rattle.mscp_wire.specs.Wire.{command_at, is_apart, is_named, keeps_back, polled_by}
 use Rattle.mscp_wire.specs.Wire as wire
 use Rattle.mscp_wire.specs.declared.answer.Answer.{Answer}
 use Rattle.mscp_wire.specs.declared.sent.Sent.{Sent}
+use Rattle.mscp_shown.proofs.Strict.{after_end, hears}
 use Rattle.mscp_shown.proofs.Pairing.{pairs_first, pairs_out, pairs_weaker}
 use Rattle.mscp_shown.proofs.Shown.{one_side as side_of}
 

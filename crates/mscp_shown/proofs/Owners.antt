@@ -2,10 +2,11 @@
 use Rattle.mscp_controller.proofs.Basics.{◌≡◌, ℕ, zero, suc, ◌+◌, Bool, true, false, cond, List, [], ◌∷◌, ◌++◌, map, take, drop, refl, ap, sym, ◌∙◌, arith, filter, if◌then◌else◌, count_by, nat_eq, Option, Some, None, AllByRecursion, true≢false, and_parts, eqb-true, eq-eqb, Connection, End, Settings, Trace, moment, sent_bytes, connection, reference, waiting, waiting_by, untaken, end_bytes, every_append, every_weaker, same_connection, own_side, balance, outstanding, sum_by-cons}
 use Rattle.mscp_controller.proofs.Promise.Arrivals.{IsTaken}
 use Rattle.mscp_packet.specs.Number.{num}
-use Rattle.mscp_wire.specs.Wire.{after_end, answer_by, command_at, hears, is_named, polled_by, sent_by}
+use Rattle.mscp_wire.specs.Wire.{answer_by, command_at, is_named, polled_by, sent_by}
 use Rattle.mscp_wire.specs.Wire as wire
 use Rattle.mscp_wire.specs.declared.answer.Answer.{Answer}
 use Rattle.mscp_wire.specs.declared.sent.Sent.{Sent}
+use Rattle.mscp_shown.proofs.Strict.{after_end, hears}
 use Rattle.mscp_shown.proofs.Keeping.{Keeps}
 use Rattle.mscp_shown.proofs.Polling.{poll_of}
 use Rattle.mscp_shown.proofs.Messages.{IsTallied, new_number, owed_is}
@@ -58,7 +59,8 @@ every_map : {X : Type 0} (P : X → Type 0) (f : X → X) → ((x : X) → P x �
 every_map P f g [] h = tt
 every_map P f g (x ∷ xs) h = (g x h.0, every_map P f g xs h.1)
 
-every_take : {X : Type 0} (P : X → Type 0) (n : ℕ) (xs : List X) → AllByRecursion P xs → AllByRecursion P (take n xs)
+pub every_take : {X : Type 0} (P : X → Type 0) (n : ℕ) (xs : List X) → AllByRecursion P xs
+    → AllByRecursion P (take n xs)
 every_take P zero xs h = tt
 every_take P (suc n) [] h = tt
 every_take P (suc n) (x ∷ xs) h = (h.0, every_take P n xs h.1)

@@ -21,7 +21,8 @@ fits c via b e h f poll =
     record {
       keeps = keeps (sent_by via b) a (command_of b).order e.status e.body (sent_says via b) h.suits (r.unit ∙ h.unit)
           (r.code ∙ h.code) r.status r.body;
-      poll = polled_says (command_of b).order (sent_by via b) a (sent_says via b) (r.code ∙ h.code) ∙ sym poll;
+      poll = polled_says (command_of b).order (sent_by via b) a e.status e.body (sent_says via b) h.suits r.status
+          (r.code ∙ h.code) ∙ sym poll;
     }
 
 -- whose the names are

@@ -13,9 +13,10 @@ use Rattle.mscp_queue.specs.Orders.{endcode}
 use Rattle.mscp_queue.specs.Outcomes.{is_good_block, is_success, moved_body, outcome_body, outcome_status, touches}
 use Rattle.mscp_controller.specs.Arrival.{is_immediate, order_fault}
 use Rattle.mscp_controller.specs.Outcomes.{answer_body, answer_status, outcome_of, own_end_with}
-use Rattle.mscp_wire.specs.Wire.{is_known, polled_by}
+use Rattle.mscp_wire.specs.Wire.{is_known, is_refused, polled_by}
 use Rattle.mscp_wire.specs.declared.answer.Answer.{Answer}
 use Rattle.mscp_wire.specs.declared.sent.Sent.{Sent}
+use Rattle.mscp_shown.proofs.Keeping.{Suits}
 use Rattle.mscp_shown.proofs.Saying.{IsShort, Says}
 use Rattle.mscp_shown.proofs.Suiting.{refused_apart, valid_order}
 
@@ -41,48 +42,60 @@ asked_by (orders.Status other) = Some other
 asked_by order = None
 
 -- ---- what the wire says
-no_poll : (a : Bool) (op : ℕ) (p : Option ℕ) → nat_eq op 2 ≡ false → (if a && nat_eq op 2 then p else None) ≡ None
-no_poll a op p e = ap (λ b. if a && b then p else None) e ∙ never a
-  where
-    never : (a : Bool) → (if a && false then p else None) ≡ None
-    never a = grind arith
+abbrev polled_when : Bool → Bool → Bool → Option ℕ → Option ℕ
+polled_when known poll refused p = if known && poll && not refused then p else None
 
-pub polled_says : (o : Order) (s : Sent) (a : Answer) → Says o s → a.code ≡ endcode o → polled_by s a ≡ asked_by o
-polled_says (orders.Abort other) s a says c = no_poll (is_known a) s.opcode s.parameter (ap (λ n. nat_eq n 2) says.0)
-polled_says (orders.Status other) s a says c =
-    ap (λ n. if not (nat_eq n 0x80) && nat_eq s.opcode 2 then s.parameter else None) c
-    ∙ (ap (λ n. if nat_eq n 2 then s.parameter else None) says.0 ∙ says.1)
-polled_says orders.UnitStatus s a says c = no_poll (is_known a) s.opcode s.parameter (ap (λ n. nat_eq n 2) says)
-polled_says (orders.SetController version) s a says c =
-    no_poll (is_known a) s.opcode s.parameter (ap (λ n. nat_eq n 2) says)
-polled_says orders.Available s a says c = no_poll (is_known a) s.opcode s.parameter (ap (λ n. nat_eq n 2) says)
-polled_says orders.Online s a says c = no_poll (is_known a) s.opcode s.parameter (ap (λ n. nat_eq n 2) says)
-polled_says orders.SetUnit s a says c = no_poll (is_known a) s.opcode s.parameter (ap (λ n. nat_eq n 2) says)
-polled_says (orders.Move kind count block) s a says c =
-    no_poll (is_known a) s.opcode s.parameter (ap (λ n. nat_eq n 2) says.0 ∙ isnt kind)
+no_poll : (s : Sent) (a : Answer) (op : ℕ) → s.opcode ≡ op → nat_eq op 2 ≡ false → polled_by s a ≡ None
+no_poll s a op e n =
+    ap (λ b. polled_when (is_known a) b (is_refused s a) s.parameter) (ap (λ o. nat_eq o 2) e ∙ n)
+    ∙ never (is_known a) (is_refused s a)
+  where
+    never : (known refused : Bool) → polled_when known false refused s.parameter ≡ None
+    never known refused = grind arith
+
+-- the end of an order says what it asks about as a poll
+pub polled_says : (o : Order) (s : Sent) (a : Answer) (status : ℕ) (body : EndBody) → Says o s → Suits o status body
+    → a.status ≡ status → a.code ≡ endcode o → polled_by s a ≡ asked_by o
+polled_says (orders.Abort other) s a status body says suits st c = no_poll s a 1 says.0 refl
+polled_says (orders.Status other) s a status body says suits st c =
+    let answered : is_refused s a ≡ false =
+    ap (λ n. s.modified && nat_eq (n % 32) 1) st ∙ (ap (λ n. s.modified && nat_eq n 1) suits.0 ∙ never s.modified) in
+    ap (λ n. polled_when (not (nat_eq n 0x80)) (nat_eq s.opcode 2) (is_refused s a) s.parameter) c
+    ∙ (ap (λ n. polled_when true (nat_eq n 2) (is_refused s a) s.parameter) says.0
+    ∙ (ap (λ b. polled_when true true b s.parameter) answered ∙ says.1))
+  where
+    never : (b : Bool) → (b && false) ≡ false
+    never b = grind arith
+polled_says orders.UnitStatus s a status body says suits st c = no_poll s a 3 says refl
+polled_says (orders.SetController version) s a status body says suits st c = no_poll s a 4 says refl
+polled_says orders.Available s a status body says suits st c = no_poll s a 8 says refl
+polled_says orders.Online s a status body says suits st c = no_poll s a 9 says refl
+polled_says orders.SetUnit s a status body says suits st c = no_poll s a 10 says refl
+polled_says (orders.Move kind count block) s a status body says suits st c =
+    no_poll s a (move_byte kind) says.0 (isnt kind)
   where
     isnt : (kind : MoveKind) → nat_eq (move_byte kind) 2 ≡ false
     isnt kind = grind arith
-polled_says (orders.Invalid byte fault) s a says c = ⊎_elim
-    (λ e. ap (λ n. if not (nat_eq n 0x80) && nat_eq s.opcode 2 then s.parameter else None)
+polled_says (orders.Invalid byte fault) s a status body says suits st c = ⊎_elim
+    (λ e. ap (λ n. polled_when (not (nat_eq n 0x80)) (nat_eq s.opcode 2) (is_refused s a) s.parameter)
     (c ∙ ap (λ f. endcode (orders.Invalid byte f)) e))
     (λ short. none_short short.0 short.1)
     says
   where
     none_short : (o : Opcode) → IsShort o byte fault s → polled_by s a ≡ None
-    none_short codes.Status h = ap (λ p. if is_known a && nat_eq s.opcode 2 then p else None) (h.about refl)
-        ∙ either (is_known a && nat_eq s.opcode 2) None
+    none_short codes.Status h =
+        ap (λ p. polled_when (is_known a) (nat_eq s.opcode 2) (is_refused s a) p) (h.about refl)
+        ∙ either (is_known a) (nat_eq s.opcode 2) (is_refused s a)
       where
-        either : (b : Bool) (p : Option ℕ) → (if b then p else p) ≡ p
-        either b p = grind arith
-    none_short codes.Abort h = no_poll (is_known a) s.opcode s.parameter (ap (λ n. nat_eq n 2) h.opcode)
-    none_short codes.UnitStatus h = no_poll (is_known a) s.opcode s.parameter (ap (λ n. nat_eq n 2) h.opcode)
-    none_short codes.SetController h = no_poll (is_known a) s.opcode s.parameter (ap (λ n. nat_eq n 2) h.opcode)
-    none_short codes.Available h = no_poll (is_known a) s.opcode s.parameter (ap (λ n. nat_eq n 2) h.opcode)
-    none_short codes.Online h = no_poll (is_known a) s.opcode s.parameter (ap (λ n. nat_eq n 2) h.opcode)
-    none_short codes.SetUnit h = no_poll (is_known a) s.opcode s.parameter (ap (λ n. nat_eq n 2) h.opcode)
-    none_short (codes.Move kind) h =
-        no_poll (is_known a) s.opcode s.parameter (ap (λ n. nat_eq n 2) h.opcode ∙ isnt kind)
+        either : (a b c : Bool) → polled_when a b c None ≡ None
+        either a b c = grind arith
+    none_short codes.Abort h = no_poll s a 1 h.opcode refl
+    none_short codes.UnitStatus h = no_poll s a 3 h.opcode refl
+    none_short codes.SetController h = no_poll s a 4 h.opcode refl
+    none_short codes.Available h = no_poll s a 8 h.opcode refl
+    none_short codes.Online h = no_poll s a 9 h.opcode refl
+    none_short codes.SetUnit h = no_poll s a 10 h.opcode refl
+    none_short (codes.Move kind) h = no_poll s a (move_byte kind) h.opcode (isnt kind)
       where
         isnt : (kind : MoveKind) → nat_eq (move_byte kind) 2 ≡ false
         isnt kind = grind arith

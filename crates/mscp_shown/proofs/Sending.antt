@@ -7,12 +7,12 @@ use Rattle.mscp_controller.proofs.Promise.Arrivals.{IsTaken}
 use Rattle.mscp_controller.specs.Account.{balance, outstanding as outstanding_in}
 use Rattle.mscp_controller.specs.Credits.{aborted_reference}
 use Rattle.mscp_packet.specs.Number.{num}
-use Rattle.mscp_wire.specs.Wire.{History, after, after_end, answer_by, command_at, has_abort, is_it, is_long, is_named, moment_at, outstanding, place_of, sent_by, status_code}
+use Rattle.mscp_wire.specs.Wire.{History, answer_by, command_at, has_abort, is_it, is_long, is_named, moment_at, place_of, sent_by, status_code}
 use Rattle.mscp_wire.specs.Wire as wire
 use Rattle.mscp_wire.specs.declared.moment.Moment.TheVariants as moments
 use Rattle.mscp_shown.specs.Keeping.{AreBytes}
-use Rattle.mscp_wire.specs.Wire.{AreRight}
 use Rattle.mscp_shown.specs.Shown.{shown}
+use Rattle.mscp_shown.proofs.Strict.{outstanding}
 use Rattle.mscp_shown.proofs.Aborted.{Aborts}
 use Rattle.mscp_shown.proofs.Answering.{Answer, answered}
 use Rattle.mscp_shown.proofs.Messages.{message_right}

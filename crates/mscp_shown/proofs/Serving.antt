@@ -3,10 +3,10 @@ use Rattle.mscp_controller.proofs.Basics.{◌≡◌, ◌≢◌, ℕ, Bool, true,
 use Rattle.mscp_controller.specs.declared.entry.Entry.{Entry}
 use Rattle.mscp_controller.proofs.Promise.Served.{ends_served}
 use Rattle.mscp_controller.proofs.Promise.Known.{Known}
-use Rattle.mscp_wire.specs.Wire.{outstanding}
 use Rattle.mscp_wire.specs.declared.sent.Sent.{Sent as Out}
 use Rattle.std.specs.Prelude.{◌%◌}
 use Rattle.mscp_shown.specs.Shown.{shown, shown_by}
+use Rattle.mscp_shown.proofs.Strict.{outstanding}
 use Rattle.mscp_shown.proofs.Aborted.{Aborts, one_aborts}
 use Rattle.mscp_shown.proofs.Answering.{goes}
 use Rattle.mscp_shown.proofs.Owed.{owed, owed_more}

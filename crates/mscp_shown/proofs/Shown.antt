@@ -9,11 +9,12 @@ use Rattle.mscp_packet.specs.Number.{num}
 use Rattle.mscp_drive.specs.declared.connection.Connection.{Connection}
 use Rattle.mscp_drive.specs.declared.connection.Connection.TheVariants.{First}
 use Rattle.mscp_controller.specs.History.{Moment, Trace}
-use Rattle.mscp_wire.specs.Wire.{History, after, after_end, command_at, hears, is_named, outstanding, place_of, polled_by, same_connection, sent_by}
+use Rattle.mscp_wire.specs.Wire.{History, command_at, is_named, place_of, polled_by, same_connection, sent_by}
 use Rattle.mscp_wire.specs.declared.answer.Answer.{Answer}
 use Rattle.mscp_wire.specs.declared.moment.Moment.{Moment as Wired}
 use Rattle.mscp_wire.specs.declared.sent.Sent.{Sent}
 use Rattle.mscp_shown.specs.Shown.{shown, shown_by}
+use Rattle.mscp_shown.proofs.Strict.{after, after_end, hears, outstanding}
 use Rattle.mscp_shown.proofs.Counts.{removed}
 
 pub shown_more : (t : Trace) (m : Moment) → shown (t ++ m ∷ []) ≡ shown t ++ shown_by m.0 m.1

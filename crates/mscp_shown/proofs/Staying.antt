@@ -6,10 +6,11 @@ use Rattle.mscp_controller.proofs.Promise.Grows.{name_before}
 use Rattle.mscp_packet.specs.Number.{num}
 use Rattle.mscp_queue.proofs.Lists.{pairs_append}
 use Rattle.mscp_queue.specs.Pairs.{Pairs}
-use Rattle.mscp_wire.specs.Wire.{after_end, is_named, keeps_back, place_of, sent_by}
+use Rattle.mscp_wire.specs.Wire.{is_named, keeps_back, place_of, sent_by}
 use Rattle.mscp_wire.specs.Wire as wire
 use Rattle.mscp_wire.specs.declared.answer.Answer.{Answer}
 use Rattle.mscp_wire.specs.declared.sent.Sent.{Sent}
+use Rattle.mscp_shown.proofs.Strict.{after_end}
 use Rattle.mscp_shown.proofs.Counts.{none_passes}
 use Rattle.mscp_shown.proofs.Ordering.{Ordered, ordered_after, ordered_append, ordered_gone, ordered_push, pairs_after}
 use Rattle.mscp_shown.proofs.Owed.{one_if, untaken_took}

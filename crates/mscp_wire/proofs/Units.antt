@@ -6,7 +6,7 @@ use Rattle.std.specs.Result.{OnOk}
 use Rattle.std.proofs.lemmas.Bool.{and_parts, eqb-true, eq-eqb, false≢true}
 use Rattle.std.proofs.lemmas.List.Folds.{find-append}
 use Rattle.mscp_drive.specs.declared.connection.Connection.{Connection}
-use Rattle.mscp_wire.specs.Units.{brings, is_unit, kept, known_after_end, leaves, told_of, with_unit, without}
+use Rattle.mscp_wire.specs.Units.{brings, is_unit, kept, known_after_end, known_brought, leaves, told_of, was_online, with_new, with_unit, without}
 use Rattle.mscp_wire.specs.Messages.{same_connection}
 use Rattle.mscp_wire.specs.declared.answer.Answer.{Answer}
 use Rattle.mscp_wire.specs.declared.identity.Online.{Online}
@@ -62,6 +62,28 @@ forgotten units number via unit =
     other : (a b : ℕ) → nat_eq a b ≡ false → nat_eq b a ≡ false
     other a b h = grind arith
 
+-- none of two
+nothing_more : (o : Option Online) → option_or o None ≡ o
+nothing_more None = refl
+nothing_more (Some u) = refl
+
+-- what is kept once this came online
+kept_new : (units : List Online) (new : Online) (via : Connection) (unit : ℕ)
+    → kept (with_new new units) via unit
+    ≡ (if is_unit via unit new then new.identity else (if nat_eq new.unit unit then None else kept units via unit))
+kept_new units new via unit =
+    let p : Online → Bool = is_unit via unit in
+    let rest : List Online = without new.unit units in
+    ap told_of (find-append p rest (new ∷ []))
+    ∙ (elim (is_unit via unit new) as (λ b. is_unit via unit new ≡ b
+    → told_of (option_or (find p rest) (cond b (Some new) None))
+    ≡ (if b then new.identity else (if nat_eq new.unit unit then None else kept units via unit))) [
+      | true ↦ λ e. ap (λ o. told_of (option_or o (Some new)))
+          (find_gone p (λ u. not (nat_eq u.unit new.unit))
+          (λ u h. ap not (eq-eqb u.unit new.unit (numbered via unit u h ∙ sym (numbered via unit new e)))) units)
+      | false ↦ λ e. ap told_of (nothing_more (find p rest)) ∙ forgotten units new.unit via unit
+    ] refl)
+
 -- what is kept once this was told of a unit
 pub kept_with : (units : List Online) (new : Online) (via : Connection) (unit : ℕ)
     → kept (with_unit new units) via unit
@@ -81,10 +103,6 @@ kept_with units new via unit =
           (λ u h. ap not (differ via unit new u e h)) units)
     ] refl)
   where
-    nothing_more : (o : Option Online) → option_or o None ≡ o
-    nothing_more None = refl
-    nothing_more (Some u) = refl
-
     same_side : (a b c : Connection) → same_connection a c ≡ true → same_connection b c ≡ true
         → same_connection a b ≡ true
     same_side a b c h k = grind arith
@@ -122,42 +140,67 @@ pub known_left : (units : List Online) (e : Answer) (via : Connection) (unit : �
 known_left units e via unit h =
     forgotten units e.unit via unit
     ∙ turned (nat_eq e.unit unit) (leaves e) (kept units via unit)
-    (if brings e && same_connection e.connection via then e.identity else kept units via unit) h
+    (if brings e then known_brought via (kept units via unit) e else kept units via unit) h
   where
     turned : {X : Type 0} (b l : Bool) (x y : Option X) → l ≡ true
         → (if b then None else x) ≡ (if not b then x else (if l then None else y))
     turned b l x y h = grind arith
 
--- which brings it online
-pub known_brought : (units : List Online) (e : Answer) (via : Connection) (unit : ℕ) → leaves e ≡ false
-    → brings e ≡ true
-    → kept (with_unit (record { connection = e.connection; unit = e.unit; identity = e.identity }) units) via unit
-    ≡ known_after_end via unit (kept units via unit) e
-known_brought units e via unit h k =
-    kept_with units (record { connection = e.connection; unit = e.unit; identity = e.identity }) via unit
-    ∙ turned (same_connection e.connection via) (nat_eq e.unit unit) (leaves e) (brings e) e.identity
-    (kept units via unit) h k
+-- what an end that brings its unit online tells
+abbrev pub brought : Answer → Online
+brought e = record { connection = e.connection; unit = e.unit; identity = e.identity }
+
+-- which brings it online, where it was online already
+known_already : (units : List Online) (e : Answer) (via : Connection) (unit : ℕ) → leaves e ≡ false
+    → brings e ≡ true → was_online e ≡ true
+    → kept (with_unit (brought e) units) via unit ≡ known_after_end via unit (kept units via unit) e
+known_already units e via unit h k w =
+    kept_with units (brought e) via unit
+    ∙ turned (same_connection e.connection via) (nat_eq e.unit unit) (leaves e) (brings e) (was_online e) e.identity
+    (kept units via unit) h k w
   where
-    turned : {X : Type 0} (s b l g : Bool) (x y : Option X) → l ≡ false → g ≡ true
-        → (if s && b then x else y) ≡ (if not b then y else (if l then None else (if g && s then x else y)))
-    turned s b l g x y h k = grind arith
+    turned : {X : Type 0} (s b l g w : Bool) (x y : Option X) → l ≡ false → g ≡ true → w ≡ true
+        → (if s && b then x else y)
+        ≡ (if not b then y else (if l then None else (if g then (if s then x else (if w then y else None)) else y)))
+    turned s b l g w x y h k v = grind arith
+
+-- and where it wasn't
+known_new : (units : List Online) (e : Answer) (via : Connection) (unit : ℕ) → leaves e ≡ false
+    → brings e ≡ true → was_online e ≡ false
+    → kept (with_new (brought e) units) via unit ≡ known_after_end via unit (kept units via unit) e
+known_new units e via unit h k w =
+    kept_new units (brought e) via unit
+    ∙ turned (same_connection e.connection via) (nat_eq e.unit unit) (leaves e) (brings e) (was_online e) e.identity
+    (kept units via unit) h k w
+  where
+    turned : {X : Type 0} (s b l g w : Bool) (x y : Option X) → l ≡ false → g ≡ true → w ≡ false
+        → (if s && b then x else (if b then None else y))
+        ≡ (if not b then y else (if l then None else (if g then (if s then x else (if w then y else None)) else y)))
+    turned s b l g w x y h k v = grind arith
 
 -- any other
 pub known_still : (units : List Online) (e : Answer) (via : Connection) (unit : ℕ) → leaves e ≡ false
     → brings e ≡ false → kept units via unit ≡ known_after_end via unit (kept units via unit) e
 known_still units e via unit h k =
-    turned (same_connection e.connection via) (nat_eq e.unit unit) (leaves e) (brings e) e.identity
+    turned (nat_eq e.unit unit) (leaves e) (brings e) (known_brought via (kept units via unit) e)
     (kept units via unit) h k
   where
-    turned : {X : Type 0} (s b l g : Bool) (x y : Option X) → l ≡ false → g ≡ false
-        → y ≡ (if not b then y else (if l then None else (if g && s then x else y)))
-    turned s b l g x y h k = grind arith
+    turned : {X : Type 0} (b l g : Bool) (x y : Option X) → l ≡ false → g ≡ false
+        → y ≡ (if not b then y else (if l then None else (if g then x else y)))
+    turned b l g x y h k = grind arith
 
 -- if memory sufficed
-pub known_when : {T E : Type 0} (r : Result T E) (old new : List Online) (e : Answer) → leaves e ≡ false
-    → brings e ≡ true
-    → OnOk r (new ≡ with_unit (record { connection = e.connection; unit = e.unit; identity = e.identity }) old)
-    → OnOk r ((via : Connection) (unit : ℕ) → kept new via unit ≡ known_after_end via unit (kept old via unit) e)
-known_when (Ok x) old new e h k is =
-    λ via unit. ap (λ us. kept us via unit) is ∙ known_brought old e via unit h k
-known_when (Err x) old new e h k is = is
+abbrev IsKnown : List Online → List Online → Answer → Type 0
+IsKnown old new e = (via : Connection) (unit : ℕ) → kept new via unit ≡ known_after_end via unit (kept old via unit) e
+
+pub already_when : {T E : Type 0} (r : Result T E) (old new : List Online) (e : Answer) → leaves e ≡ false
+    → brings e ≡ true → was_online e ≡ true → OnOk r (new ≡ with_unit (brought e) old) → OnOk r (IsKnown old new e)
+already_when (Ok x) old new e h k w is =
+    λ via unit. ap (λ us. kept us via unit) is ∙ known_already old e via unit h k w
+already_when (Err x) old new e h k w is = is
+
+pub new_when : {T E : Type 0} (r : Result T E) (old new : List Online) (e : Answer) → leaves e ≡ false
+    → brings e ≡ true → was_online e ≡ false → OnOk r (new ≡ with_new (brought e) old) → OnOk r (IsKnown old new e)
+new_when (Ok x) old new e h k w is =
+    λ via unit. ap (λ us. kept us via unit) is ∙ known_new old e via unit h k w
+new_when (Err x) old new e h k w is = is

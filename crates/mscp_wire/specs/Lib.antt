@@ -1,4 +1,5 @@
 pub mod Messages
+pub mod Polls
 pub mod Units
 pub mod Wire
 pub mod Totals

@@ -9,6 +9,7 @@ use Rattle.mscp_drive.specs.declared.connection.Connection.TheVariants.{First, S
 use Rattle.mscp_wire.specs.declared.answer.Answer.{Answer}
 use Rattle.mscp_wire.specs.declared.identity.Identity.{Identity}
 use Rattle.mscp_wire.specs.declared.moment.Moment.{Moment}
+use Rattle.mscp_wire.specs.declared.sent.Asked.TheVariants.{Nothing}
 use Rattle.mscp_wire.specs.declared.sent.Sent.{Sent}
 
 -- what went over the wire, the first moment first
@@ -25,6 +26,10 @@ four_in b at = if nat_le (at + 4) (length b) then Some (num b at 4) else None
 abbrev pub asks_for_next : List ℕ → Bool
 asks_for_next b = nat_eq (slice_index b 8) 3 && nat_eq (num b 10 2 % 2) 1
 
+-- a message sets a modifier
+abbrev pub is_modified : List ℕ → Bool
+is_modified b = not (nat_eq (num b 10 2) 0)
+
 -- the command of a message, of which nothing was told yet (manual, "Command Messages"). Its parameter is the number in
 -- bytes 12 to 15: of an ABORT and a GET COMMAND STATUS the reference number of the command that they are about, of a
 -- transfer how many bytes are to be moved
@@ -35,8 +40,10 @@ sent_by via b = record {
   unit = num b 4 2;
   opcode = slice_index b 8;
   next = asks_for_next b;
+  modified = is_modified b;
   parameter = four_in b 12;
   told = None;
+  asked = Nothing;
 }
 
 -- what an end of 44 bytes at least says of its unit, if it is one of ONLINE or SET UNIT CHARACTERISTICS (manual, "End
@@ -92,6 +99,14 @@ is_transfer_class other = false
 
 abbrev pub is_transfer : ℕ → Bool
 is_transfer opcode = is_transfer_class (class opcode)
+
+-- no row of the table of opcodes has it
+abbrev pub is_unknown_class : Class → Bool
+is_unknown_class classes.Unknown = true
+is_unknown_class other = false
+
+abbrev pub is_unknown : ℕ → Bool
+is_unknown opcode = is_unknown_class (class opcode)
 
 -- it is an ABORT or a GET COMMAND STATUS, which are about another command
 abbrev pub is_about_another : ℕ → Bool

@@ -1,11 +1,13 @@
 -- The totals of what went over the wire: each a count of its moments, or the most or the least at any time.
-use Rattle.std.specs.Prelude.{ℕ, zero, suc, ◌+◌, ◌-◌, ◌<◌, ◌%◌, Bool, true, false, nat_eq, nat_le, if◌then◌else◌, List, [], ◌∷◌, ◌++◌, length, count_by, max, min, find, take, slice_index, slice_index_or, slice_set, Option, Some, None}
+use Rattle.std.specs.Prelude.{ℕ, zero, suc, ◌+◌, ◌-◌, ◌<◌, ◌%◌, Bool, true, false, nat_eq, nat_le, if◌then◌else◌, List, [], ◌∷◌, ◌++◌, length, count_by, max, min, take, slice_index, slice_index_or, slice_set, Option, Some, None}
 use Rattle.mscp_packet.specs.Number.{num}
-use Rattle.mscp_wire.specs.Wire.{History, answer_by, command_at, is_immediate, is_it, is_long, is_named, outstanding, place_of, polled_by}
+use Rattle.mscp_wire.specs.Wire.{History, answer_by, command_at, is_it, is_long, outstanding, place_of, polled_by}
 use Rattle.mscp_wire.specs.declared.answer.Answer.{Answer}
 use Rattle.mscp_wire.specs.declared.falls.Falls.{Falls}
 use Rattle.mscp_wire.specs.declared.moment.Moment.{Moment}
 use Rattle.mscp_wire.specs.declared.moment.Moment.TheVariants as moments
+use Rattle.mscp_wire.specs.declared.sent.Asked.{Asked}
+use Rattle.mscp_wire.specs.declared.sent.Asked.TheVariants.{Oldest}
 use Rattle.mscp_wire.specs.declared.sent.Sent.{Sent}
 use Rattle.mscp_wire.specs.declared.totals.Counts.{Counts}
 use Rattle.mscp_wire.specs.declared.totals.Totals.{Totals}
@@ -65,25 +67,25 @@ longest h = greatest (λ i. length (outstanding (take i h))) (length h + 1)
 
 -- ---- falls of a figure
 
--- how far a figure is below the last one, if both are there
+-- how far a figure is below the last one, if both are there. 0 says that the command isn't outstanding, and is no fall
 abbrev pub fall_below : Option ℕ → Option ℕ → ℕ
-fall_below (Some last) (Some figure) = last - figure
+fall_below (Some last) (Some figure) = if nat_eq figure 0 then 0 else last - figure
 fall_below last figure = 0
 
--- how far the figure of this command fell. That of one which is answered when it arrives needn't fall
-abbrev pub fall_of : Option Sent → Option ℕ → ℕ
-fall_of None figure = 0
-fall_of (Some x) figure = if is_immediate x.opcode then 0 else fall_below x.told figure
+-- how far the figure of the oldest command fell
+abbrev pub fall_of : Asked → Option ℕ → ℕ
+fall_of (Oldest last) figure = fall_below last figure
+fall_of asked figure = 0
 
--- by the end of a poll of this command, before which these came
-abbrev pub fall_polled : List Sent → Answer → Option ℕ → ℕ
-fall_polled earlier e None = 0
-fall_polled earlier e (Some other) = fall_of (find (is_named e.connection other) earlier) e.figure
+-- by the end of this command, if it is a poll
+abbrev pub fall_polled : Sent → Answer → Option ℕ → ℕ
+fall_polled y e None = 0
+fall_polled y e (Some other) = fall_of y.asked e.figure
 
 -- by the end of the command at a place, if it is there
 abbrev pub fall_at : List Sent → Answer → Option ℕ → ℕ
 fall_at xs e None = 0
-fall_at xs e (Some i) = fall_polled (take i xs) e (polled_by (command_at xs i) e)
+fall_at xs e (Some i) = fall_polled (command_at xs i) e (polled_by (command_at xs i) e)
 
 -- by a moment, before which these are outstanding: 0 if it tells no figure, or the first of its command
 abbrev pub fall_after : List Sent → Moment → ℕ

@@ -18,18 +18,19 @@
 --                                 passes none                                                 passes_none
 --                    Success      an ABORT and a GET COMMAND STATUS succeed                   succeeds
 --                    About        their ends name the command that they are about             is_about
---                    Figure       the figure of a command is at least 1 and falls from poll
---                                 to poll; it is 0 if no such command is outstanding          has_figure
+--                    Figure       the figure of the oldest command falls from poll to poll;
+--                                 it is 0 if no such command is outstanding                   has_figure
 --                    Count        no more bytes are moved than were asked for, and all of
 --                                 them if the status is Success                               has_count
 --                    Identity     while a unit is online its identifier, media type and size
 --                                 stay as they are                                            is_same_unit
-use Rattle.std.specs.Prelude.{◌≡◌, ℕ, ◌+◌, ◌<◌, Bool, true, false, not, ◌&&◌, ◌||◌, nat_eq, nat_le, nat_lt, if◌then◌else◌, List, [], ◌∷◌, ◌++◌, length, map, find, take, drop, position, count_by, fold, slice_index, slice_index_or, Option, Some, None}
+use Rattle.std.specs.Prelude.{◌≡◌, ℕ, ◌+◌, ◌<◌, Bool, true, false, not, ◌&&◌, ◌||◌, nat_eq, nat_le, nat_lt, if◌then◌else◌, List, [], ◌∷◌, ◌++◌, length, map, take, drop, position, count_by, fold, slice_index, slice_index_or, Option, Some, None}
 use Rattle.std.specs.List.{list_any}
 use Rattle.mscp_drive.specs.declared.connection.Connection.{Connection}
 use Rattle.mscp_drive.specs.declared.connection.Connection.TheVariants.{First}
-pub use Rattle.mscp_wire.specs.Messages.{History, answer_by, asks_for_next, four_in, identity_in, is_about_another, is_immediate, is_known, is_named, is_sequential, is_sequential_class, is_transfer, is_transfer_class, least_length, same_connection, sent_by, status_code}
-pub use Rattle.mscp_wire.specs.Units.{agrees, brings, is_same_unit, is_unit, kept, known, known_after, known_after_end, known_of, leaves, tells_unit, with_unit, without}
+pub use Rattle.mscp_wire.specs.Messages.{History, answer_by, asks_for_next, four_in, identity_in, is_about_another, is_immediate, is_known, is_named, is_sequential, is_modified, is_sequential_class, is_transfer, is_transfer_class, is_unknown, is_unknown_class, least_length, same_connection, sent_by, status_code}
+pub use Rattle.mscp_wire.specs.Polls.{asked_about, asked_by, asking, asks_oldest, has_figure, has_number, hears, is_below, is_it, is_oldest, is_polled, is_refused, left, may_be, may_tell, polled_by, polls, tells, waits_on}
+pub use Rattle.mscp_wire.specs.Units.{agrees, brings, is_same_unit, is_unit, kept, known, known_after, known_after_end, known_brought, known_of, leaves, tells_unit, was_online, with_new, with_unit, without}
 use Rattle.mscp_wire.specs.declared.answer.Answer.{Answer}
 use Rattle.mscp_wire.specs.declared.identity.Identity.{Identity}
 use Rattle.mscp_wire.specs.declared.moment.Moment.{Moment}
@@ -94,14 +95,11 @@ may_have opcode code =
     && not (nat_eq opcode 3 && nat_eq code 2)
     && not ((nat_eq opcode 8 || nat_eq opcode 9) && nat_eq code 4))
 
--- its status has a code that its command may have: Invalid Command where the controller doesn't know the opcode
+-- its status has a code that its command may have: any if no row of the table of opcodes has that, and Invalid Command
+-- where the controller doesn't know it
 abbrev pub has_status : Sent → Answer → Bool
-has_status y e = if is_known e then may_have y.opcode (status_code e) else nat_eq (status_code e) 1
-
--- a number is there, and is this
-abbrev pub is_it : Option ℕ → ℕ → Bool
-is_it None number = false
-is_it (Some found) number = nat_eq found number
+has_status y e =
+    if is_known e then is_unknown y.opcode || may_have y.opcode (status_code e) else nat_eq (status_code e) 1
 
 -- s is an ABORT of the command y
 abbrev pub aborts : Sent → Sent → Bool
@@ -133,13 +131,10 @@ passes_none earlier y e = is_apart (status_code e) || not (list_any (keeps_back 
 
 -- ---- the rules of its body
 
--- the command that its command is about, if it is an ABORT or a GET COMMAND STATUS that names one
+-- the command that its command is about, if it is an ABORT or a GET COMMAND STATUS that names one. Neither has a
+-- modifier, so with one it may be refused
 abbrev pub other_of : Sent → Answer → Option ℕ
-other_of y e = if is_known e && is_about_another y.opcode then y.parameter else None
-
--- the command that a poll is about, if its command is one
-abbrev pub polled_by : Sent → Answer → Option ℕ
-polled_by y e = if is_known e && nat_eq y.opcode 2 then y.parameter else None
+other_of y e = if is_known e && is_about_another y.opcode && not (is_refused y e) then y.parameter else None
 
 -- how many bytes were to be moved, if its command is a transfer
 abbrev pub count_of : Sent → Answer → Option ℕ
@@ -154,25 +149,6 @@ succeeds e (Some other) = nat_eq (status_code e) 0
 abbrev pub is_about : Answer → Option ℕ → Bool
 is_about e None = true
 is_about e (Some other) = is_it e.parameter other
-
--- a figure is lower than the last one, if there is one
-abbrev pub is_below : Option ℕ → ℕ → Bool
-is_below None figure = true
-is_below (Some last) figure = nat_lt figure last
-
--- a figure is right that is told of this command, if it came before the poll: it is at least 1, and falls from poll to
--- poll (manual, "Host Command Timeouts"), unless the command is answered when it arrives. Where no command of that
--- number came before, it is 0, unless one came since
-abbrev pub may_tell : Option ℕ → Bool → Option Sent → Bool
-may_tell None stands asked = false
-may_tell (Some figure) stands None = stands || nat_eq figure 0
-may_tell (Some figure) stands (Some x) = is_immediate x.opcode || (nat_lt 0 figure && is_below x.told figure)
-
--- the figure that it tells is right, where its command is a poll
-abbrev pub has_figure : List Sent → List Sent → Answer → Option ℕ → Bool
-has_figure xs earlier e None = true
-has_figure xs earlier e (Some other) =
-    may_tell e.figure (list_any (is_named e.connection other) xs) (find (is_named e.connection other) earlier)
 
 -- no more bytes were moved than were asked for, and all of them if the status is Success (manual, "End Messages")
 abbrev pub moves : Answer → Option ℕ → ℕ → Bool
@@ -189,20 +165,14 @@ has_count e (Some count) = moves e e.parameter count
 abbrev pub command_at : List Sent → ℕ → Sent
 command_at xs i = slice_index_or xs i (sent_by First [])
 
--- a command, once a figure was told of it, if it is the one that the poll is about
-abbrev pub hears : Answer → Option ℕ → Sent → Sent
-hears e None s = s
-hears e (Some other) s = if is_named e.connection other s then record s { told = e.figure } else s
-
--- what is outstanding once the end of the command at a place came: those that came before it hear the figure that it
--- tells of them
+-- what is outstanding once the end of the command at a place came: the others hear it
 abbrev pub after_end : List Sent → Answer → Option ℕ → List Sent
 after_end xs e None = xs
-after_end xs e (Some i) = map (hears e (polled_by (command_at xs i) e)) (take i xs) ++ drop (i + 1) xs
+after_end xs e (Some i) = map (hears (command_at xs i) e) (take i xs ++ drop (i + 1) xs)
 
 -- what is outstanding once a moment more came: a message adds its command, an end takes its own away, and a reset all
 abbrev pub after : List Sent → Moment → List Sent
-after xs (moments.Message via b) = xs ++ sent_by via b.items ∷ []
+after xs (moments.Message via b) = xs ++ asking xs (sent_by via b.items) ∷ []
 after xs (moments.End via b) = after_end xs (answer_by via b.items) (place_of xs (answer_by via b.items))
 after xs moments.Reset = []
 
@@ -220,28 +190,28 @@ unless false rule rest = Some rule
 abbrev pub broken_message : Option ℕ → List Sent → Sent → Option Rule
 broken_message credits xs s = unless (is_new xs s) rules.Number (unless (has_credit credits xs s) rules.Credits None)
 
--- by the body of an end of this command, before which these came
-abbrev pub broken_body : List Sent → List Sent → Sent → Option Identity → Answer → Option Rule
-broken_body xs earlier y unit e =
+-- by the body of an end of this command, after which these came
+abbrev pub broken_body : List Sent → Sent → Option Identity → Answer → Option Rule
+broken_body later y unit e =
     unless (succeeds e (other_of y e)) rules.Success
     (unless (is_about e (other_of y e)) rules.About
-    (unless (has_figure xs earlier e (polled_by y e)) rules.Figure
+    (unless (has_figure later y e (polled_by y e)) rules.Figure
     (unless (has_count e (count_of y e)) rules.Count
     (unless (is_same_unit unit e) rules.Identity None))))
 
--- by an end of this command
-abbrev pub broken_end : List Sent → List Sent → Sent → Option Identity → Answer → Option Rule
-broken_end xs earlier y unit e =
+-- by an end of this command, before and after which these came
+abbrev pub broken_end : List Sent → List Sent → List Sent → Sent → Option Identity → Answer → Option Rule
+broken_end xs earlier later y unit e =
     unless (names_unit y e) rules.Unit
     (unless (has_endcode y e) rules.Endcode
     (unless (has_status y e) rules.Status
     (unless (has_abort xs y e) rules.Aborted
-    (unless (passes_none earlier y e) rules.Order (broken_body xs earlier y unit e)))))
+    (unless (passes_none earlier y e) rules.Order (broken_body later y unit e)))))
 
 -- by an end of the command at a place, if it is there
 abbrev pub broken_at : List Sent → Option Identity → Answer → Option ℕ → Option Rule
 broken_at xs unit e None = Some rules.Outstanding
-broken_at xs unit e (Some i) = broken_end xs (take i xs) (command_at xs i) unit e
+broken_at xs unit e (Some i) = broken_end xs (take i xs) (drop (i + 1) xs) (command_at xs i) unit e
 
 -- by a moment, before which these are outstanding and this is known of its unit, where each host has so many credits
 abbrev pub broken : Option ℕ → List Sent → Option Identity → Moment → Option Rule
@@ -275,7 +245,7 @@ pub record IsRightEnd (xs : List Sent) (was : Option Identity) (b : List ℕ) (e
   pub order : passes_none (take i xs) (command_at xs i) e ≡ true
   pub success : succeeds e (other_of (command_at xs i) e) ≡ true
   pub about : is_about e (other_of (command_at xs i) e) ≡ true
-  pub figure : has_figure xs (take i xs) e (polled_by (command_at xs i) e) ≡ true
+  pub figure : has_figure (drop (i + 1) xs) (command_at xs i) e (polled_by (command_at xs i) e) ≡ true
   pub count : has_count e (count_of (command_at xs i) e) ≡ true
   pub identity : is_same_unit was e ≡ true
 

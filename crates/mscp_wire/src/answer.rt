@@ -4,7 +4,7 @@ ghost use Rattle.std.specs.Prelude.{◌≡◌, ◌≤◌, ◌<◌, ◌^◌, leng
 ghost use Rattle.mscp_wire.specs.Wire as wire;
 
 use crate::identity::Identity;
-use crate::sent::{Sent, four_in, is_transfer};
+use crate::sent::{Sent, four_in, is_transfer, is_unknown};
 use mscp_drive::Connection;
 use mscp_packet::fields::{four_at, two_at};
 
@@ -141,17 +141,27 @@ impl Answer {
         ensures { result ≡ wire.has_status command.now self.now }
     {
         if self.is_known() {
-            may_have(command.opcode, self.status_code())
+            is_unknown(command.opcode) || may_have(command.opcode, self.status_code())
         } else {
             self.status_code() == 1
         }
+    }
+
+    /// Whether its command, which has a modifier, is refused as an Invalid Command.
+    fn is_refused(&self, command: &Sent) -> bool
+        ensures { result ≡ wire.is_refused command.now self.now }
+    {
+        command.modified && self.status_code() == 1
     }
 
     /// The command that its command is about, if it is an ABORT or a GET COMMAND STATUS that names one.
     pub fn other_of(&self, command: &Sent) -> Option<u32>
         ensures { result ≡ wire.other_of command.now self.now }
     {
-        if self.is_known() && (command.opcode == ABORT || command.opcode == STATUS) {
+        if self.is_known()
+            && (command.opcode == ABORT || command.opcode == STATUS)
+            && !self.is_refused(command)
+        {
             command.parameter
         } else {
             None
@@ -162,7 +172,7 @@ impl Answer {
     pub fn polled_by(&self, command: &Sent) -> Option<u32>
         ensures { result ≡ wire.polled_by command.now self.now }
     {
-        if self.is_known() && command.opcode == STATUS {
+        if self.is_known() && command.opcode == STATUS && !self.is_refused(command) {
             command.parameter
         } else {
             None
@@ -210,12 +220,19 @@ impl Answer {
         }
     }
 
-    /// Whether it tells what a unit is that was online before: with Success alone an ONLINE brought it online.
+    /// Whether the sub-code of an ONLINE's Success says that the unit was online already.
+    pub fn was_online(&self) -> bool
+        ensures { result ≡ wire.was_online self.now }
+    {
+        self.status / 256 % 2 == 1
+    }
+
+    /// Whether it tells what a unit is that was online before: any other Success of an ONLINE brought it online.
     fn tells_unit(&self) -> bool
         ensures { result ≡ wire.tells_unit self.now }
     {
         self.status_code() == 0
-            && (self.code == 0x83 || (self.code == 0x89 && self.status != 0) || self.code == 0x8A)
+            && (self.code == 0x83 || (self.code == 0x89 && self.was_online()) || self.code == 0x8A)
     }
 
     /// Whether its unit is what it was when it came online, if it is known to be online.

@@ -8,8 +8,8 @@ ghost use Rattle.mscp_wire.specs.Totals as total;
 use crate::answer::{Answer, is_long};
 use crate::judge::command_at;
 use crate::moment::Moment;
-use crate::outstanding::{find_named, place_of};
-use crate::sent::{Sent, is_immediate};
+use crate::outstanding::place_of;
+use crate::sent::{Asked, Sent};
 
 /// How far the figure of a command fell from poll to poll (manual, "Host Command Timeouts").
 #[derive(Clone, Copy, Default)]
@@ -20,35 +20,32 @@ pub struct Falls {
     pub greatest: u32,
 }
 
-/// How far a figure is below the last one, if both are there.
+/// How far a figure is below the last one, if both are there. 0 is no fall.
 fn fall_below(last: Option<u32>, figure: Option<u32>) -> u32
     ensures { result ≡ total.fall_below last figure }
 {
     match (last, figure) {
-        (Some(last), Some(figure)) => last.saturating_sub(figure),
+        (Some(last), Some(figure)) if figure != 0 => last.saturating_sub(figure),
         _ => 0,
     }
 }
 
-/// How far the figure of this command fell. That of one which is answered when it arrives needn't fall.
-fn fall_of(asked: Option<Sent>, figure: Option<u32>) -> u32
+/// How far the figure of the oldest command fell.
+fn fall_of(asked: Asked, figure: Option<u32>) -> u32
     ensures { result ≡ total.fall_of asked figure }
 {
     match asked {
-        Some(command) if !is_immediate(command.opcode) => fall_below(command.told, figure),
+        Asked::Oldest(last) => fall_below(last, figure),
         _ => 0,
     }
 }
 
-/// The same by the end of a poll of this command, before which these came.
-fn fall_polled(earlier: &[Sent], answer: &Answer, polled: Option<u32>) -> u32
-    ensures { result ≡ total.fall_polled earlier.now answer.now polled }
+/// The same by the end of this command, if it is a poll.
+fn fall_polled(command: &Sent, answer: &Answer, polled: Option<u32>) -> u32
+    ensures { result ≡ total.fall_polled command.now answer.now polled }
 {
     match polled {
-        Some(other) => {
-            let asked = find_named(earlier, answer.connection, other).copied();
-            fall_of(asked, answer.figure)
-        }
+        Some(_) => fall_of(command.asked, answer.figure),
         None => 0,
     }
 }
@@ -59,8 +56,8 @@ fn fall_at(commands: &[Sent], answer: &Answer) -> u32
 {
     match place_of(commands, answer) {
         Some(place) => {
-            let polled = answer.polled_by(&command_at(commands, place));
-            fall_polled(&commands[..place], answer, polled)
+            let command = command_at(commands, place);
+            fall_polled(&command, answer, answer.polled_by(&command))
         }
         None => 0,
     }

@@ -1,7 +1,7 @@
 // What ends tell of units, and what is kept of those that are online.
 
 ghost use Rattle.std.specs.Prelude.{◌≡◌, ℕ, find, option_copied, OnOk};
-ghost use Rattle.mscp_wire.specs.Wire.{identity_in, is_unit, kept, known_after_end, with_unit, without};
+ghost use Rattle.mscp_wire.specs.Wire.{identity_in, is_unit, kept, known_after_end, with_new, with_unit, without};
 ghost use Rattle.mscp_drive.specs.declared.connection.Connection as connections;
 
 use crate::answer::Answer;
@@ -87,6 +87,15 @@ fn keep<A: Allocator>(units: &mut Vec<Online, A>, new: Online) -> Result<(), Out
     Ok(())
 }
 
+/// Keeps what was told of a unit that came online, in place of what is kept of it, to either host.
+fn bring<A: Allocator>(units: &mut Vec<Online, A>, new: Online) -> Result<(), OutOfMemory>
+    ensures { OnOk result (units.new.items ≡ with_new new units.old.items) }
+{
+    units.retain(|online| online.unit != new.unit);
+    units.push(new)?;
+    Ok(())
+}
+
 /// What is known of units once an end came.
 pub fn hear<A: Allocator>(units: &mut Vec<Online, A>, answer: &Answer) -> Result<(), OutOfMemory>
     ensures { OnOk result ((via : connections.Connection) (unit : ℕ) → kept units.new.items via unit
@@ -96,15 +105,16 @@ pub fn hear<A: Allocator>(units: &mut Vec<Online, A>, answer: &Answer) -> Result
         forget(units, answer.unit);
         return Ok(());
     }
-    if answer.brings() {
-        return keep(
-            units,
-            Online {
-                connection: answer.connection,
-                unit: answer.unit,
-                identity: answer.identity,
-            },
-        );
+    if !answer.brings() {
+        return Ok(());
     }
-    Ok(())
+    let online = Online {
+        connection: answer.connection,
+        unit: answer.unit,
+        identity: answer.identity,
+    };
+    if answer.was_online() {
+        return keep(units, online);
+    }
+    bring(units, online)
 }

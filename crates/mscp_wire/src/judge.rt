@@ -8,7 +8,8 @@ ghost use Rattle.mscp_wire.specs.Wire as wire;
 use crate::answer::{Answer, is_long};
 use crate::identity::{Identity, Online, hear, known};
 use crate::moment::Moment;
-use crate::outstanding::{count_on, has_abort, has_figure, has_named, passes_none, place_of, tell};
+use crate::outstanding::{count_on, has_abort, has_named, passes_none, place_of};
+use crate::polls::{asking, has_figure, hear_end};
 use crate::rule::Rule;
 use crate::sent::{Sent, is_immediate};
 use mscp_drive::{Connection, OutOfMemory};
@@ -42,15 +43,14 @@ fn broken_message(credits: Option<u32>, commands: &[Sent], sent: &Sent) -> Optio
     None
 }
 
-/// The first rule that the body of an end of this command breaks, before which these came.
+/// The first rule that the body of an end of this command breaks, after which these came.
 fn broken_body(
-    commands: &[Sent],
-    earlier: &[Sent],
+    later: &[Sent],
     command: &Sent,
     unit: Option<Identity>,
     answer: &Answer,
 ) -> Option<Rule>
-    ensures { result ≡ wire.broken_body commands.now earlier.now command.now unit answer.now }
+    ensures { result ≡ wire.broken_body later.now command.now unit answer.now }
 {
     if !answer.succeeds(answer.other_of(command)) {
         return Some(Rule::Success);
@@ -58,7 +58,7 @@ fn broken_body(
     if !answer.is_about(answer.other_of(command)) {
         return Some(Rule::About);
     }
-    if !has_figure(commands, earlier, answer, answer.polled_by(command)) {
+    if !has_figure(later, command, answer, answer.polled_by(command)) {
         return Some(Rule::Figure);
     }
     if !answer.has_count(answer.count_of(command)) {
@@ -70,15 +70,16 @@ fn broken_body(
     None
 }
 
-/// The first rule that an end of this command breaks, before which these came.
+/// The first rule that an end of this command breaks, before and after which these came.
 fn broken_end(
     commands: &[Sent],
     earlier: &[Sent],
+    later: &[Sent],
     command: &Sent,
     unit: Option<Identity>,
     answer: &Answer,
 ) -> Option<Rule>
-    ensures { result ≡ wire.broken_end commands.now earlier.now command.now unit answer.now }
+    ensures { result ≡ wire.broken_end commands.now earlier.now later.now command.now unit answer.now }
 {
     if !answer.names_unit(command) {
         return Some(Rule::Unit);
@@ -95,7 +96,7 @@ fn broken_end(
     if !passes_none(earlier, command, answer) {
         return Some(Rule::Order);
     }
-    broken_body(commands, earlier, command, unit, answer)
+    broken_body(later, command, unit, answer)
 }
 
 /// The command at a place.
@@ -114,6 +115,7 @@ fn broken_answer(commands: &[Sent], unit: Option<Identity>, answer: &Answer) -> 
         Some(place) => broken_end(
             commands,
             &commands[..place],
+            &commands[place + 1..],
             &command_at(commands, place),
             unit,
             answer,
@@ -149,7 +151,8 @@ impl<A: Allocator + Copy> Judge<A> {
         ensures rule { IfOk result (λ rule. rule ≡ wire.unless (wire.is_message bytes.now) Rule.Message
             (wire.broken_message self.old.credits self.old.commands.items (wire.sent_by connection bytes.now))) }
         ensures after { IfOk result (λ rule. rule ≡ None → self.new.commands.items
-            ≡ self.old.commands.items ++ wire.sent_by connection bytes.now ∷ []) }
+            ≡ self.old.commands.items
+            ++ wire.asking self.old.commands.items (wire.sent_by connection bytes.now) ∷ []) }
         ensures units { self.new.units ≡ self.old.units }
         ensures credits { self.new.credits ≡ self.old.credits }
     {
@@ -159,21 +162,21 @@ impl<A: Allocator + Copy> Judge<A> {
         let sent = Sent::of(connection, bytes);
         let broken = broken_message(self.credits, self.commands.as_slice(), &sent);
         if broken.is_none() {
-            self.commands.push(sent)?;
+            let command = asking(self.commands.as_slice(), &sent);
+            self.commands.push(command)?;
         }
         Ok(broken)
     }
 
-    /// The end of the command at a place came: that isn't outstanding any more, and those before it hear what the end tells.
+    /// The end of the command at a place came: that isn't outstanding any more, and the others hear it.
     fn take(&mut self, place: usize, answer: &Answer)
         requires { place < length self.old.commands.items }
         ensures after { self.new.commands.items ≡ wire.after_end self.old.commands.items answer.now (Some place) }
         ensures units { self.new.units ≡ self.old.units }
         ensures credits { self.new.credits ≡ self.old.credits }
     {
-        let polled = answer.polled_by(&command_at(self.commands.as_slice(), place));
-        tell(&mut self.commands, place, answer, polled);
-        let _ = self.commands.remove(place);
+        let command = self.commands.remove(place);
+        hear_end(&mut self.commands, &command, answer);
     }
 
     /// An end came that breaks no rule: its command isn't outstanding any more, and what it tells of its unit is known.

@@ -1,13 +1,12 @@
 // The commands that are outstanding, oldest first, and what an end owes to them.
 
-ghost use Rattle.std.specs.Prelude.{◌≡◌, ◌<◌, ◌≤◌, ◌++◌, length, find, map, take, drop, IfSome, option_copied};
+ghost use Rattle.std.specs.Prelude.{◌≡◌, ◌<◌, ◌≤◌, length, find, IfSome, option_copied};
 ghost use Rattle.std.specs.List.{list_any};
 ghost use Rattle.mscp_wire.specs.Wire as wire;
 
 use crate::answer::{ABORT, Answer, is_it};
-use crate::sent::{Sent, is_immediate, is_sequential, is_transfer};
+use crate::sent::{Sent, is_sequential, is_transfer};
 use mscp_drive::Connection;
-use std::alloc::Allocator;
 
 /// Whether one of the commands has this reference number on this connection.
 pub fn has_named(commands: &[Sent], connection: Connection, reference: u32) -> bool
@@ -101,69 +100,4 @@ pub fn passes_none(earlier: &[Sent], command: &Sent, answer: &Answer) -> bool
     ensures { result ≡ wire.passes_none earlier.now command.now answer.now }
 {
     is_apart(answer.status_code()) || !is_kept_back(earlier, command)
-}
-
-/// Whether a figure is lower than the last one, if there is one.
-fn is_below(last: Option<u32>, figure: u32) -> bool
-    ensures { result ≡ wire.is_below last figure }
-{
-    match last {
-        Some(last) => figure < last,
-        None => true,
-    }
-}
-
-/// Whether a figure may be told of this command, if it came before the poll. Else whether one of its number is outstanding
-/// is said.
-fn may_tell(figure: Option<u32>, stands: bool, asked: Option<Sent>) -> bool
-    ensures { result ≡ wire.may_tell figure stands asked }
-{
-    match (figure, asked) {
-        (None, _) => false,
-        (Some(figure), None) => stands || figure == 0,
-        (Some(figure), Some(command)) => {
-            is_immediate(command.opcode) || (0 < figure && is_below(command.told, figure))
-        }
-    }
-}
-
-/// Whether the figure that an end tells is right, if its command is a poll of this other one.
-pub fn has_figure(commands: &[Sent], earlier: &[Sent], answer: &Answer, polled: Option<u32>) -> bool
-    ensures { result ≡ wire.has_figure commands.now earlier.now answer.now polled }
-{
-    let Some(other) = polled else {
-        return true;
-    };
-    let stands = has_named(commands, answer.connection, other);
-    let asked = find_named(earlier, answer.connection, other).copied();
-    may_tell(answer.figure, stands, asked)
-}
-
-/// A command, once a figure was told of it, if it is the one that a poll is about.
-fn heard(command: &Sent, answer: &Answer, polled: Option<u32>) -> Sent
-    ensures { result ≡ wire.hears answer.now polled command.now }
-{
-    match polled {
-        Some(other) if command.is_named(answer.connection, other) => Sent {
-            told: answer.figure,
-            ..*command
-        },
-        _ => *command,
-    }
-}
-
-/// The commands before this place hear the figure that an end tells of the one that its poll is about.
-pub fn tell<A: Allocator>(
-    commands: &mut Vec<Sent, A>,
-    place: usize,
-    answer: &Answer,
-    polled: Option<u32>,
-)
-    requires { place ≤ length commands.old.items }
-    ensures { commands.new.items
-        ≡ map (wire.hears answer.now polled) (take place commands.old.items) ++ drop place commands.old.items }
-{
-    for at in 0..place {
-        commands[at] = heard(&commands[at], answer, polled);
-    }
 }

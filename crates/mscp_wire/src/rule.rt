@@ -27,7 +27,7 @@ pub enum Rule {
     Success,
     /// The end of an ABORT or of a GET COMMAND STATUS names the command that it is about.
     About,
-    /// The figure of a command is at least 1 and falls from poll to poll. It is 0 if no such command is outstanding.
+    /// The figure of the oldest command falls from poll to poll. It is 0 if no such command is outstanding.
     Figure,
     /// No more bytes are moved than were asked for, and all of them if the status is Success.
     Count,

@@ -1,13 +1,24 @@
 // A command that is outstanding.
 
 ghost use Rattle.std.specs.Prelude.{◌≡◌, ◌≤◌, length};
-ghost use Rattle.mscp_wire.specs.Wire.{asks_for_next, four_in, is_named, is_immediate, is_sequential, is_transfer, sent_by};
+ghost use Rattle.mscp_wire.specs.Wire.{asks_for_next, four_in, is_modified, is_named, is_immediate, is_sequential, is_transfer, is_unknown, sent_by};
 
 use mscp_drive::Connection;
 use mscp_packet::fields::{four_at, two_at};
 use mscp_packet::{Class, class_of};
 
-/// A command that is outstanding: what its message says, and the figure that was last told of it.
+/// What a poll asks of the command that it names.
+#[derive(Clone, Copy)]
+pub enum Asked {
+    /// Nothing: any figure is right.
+    Nothing,
+    /// It was the oldest that its host waits for when the poll came. This figure was last told of it, if one was.
+    Oldest(Option<u32>),
+    /// The same of one that ended since. If none was outstanding when the poll came, it is 0.
+    Gone(Option<u32>),
+}
+
+/// A command that is outstanding: what its message says, and what hosts were told of it.
 #[derive(Clone, Copy)]
 pub struct Sent {
     pub connection: Connection,
@@ -16,11 +27,15 @@ pub struct Sent {
     pub opcode: u8,
     /// Whether it asks for the next unit, so that its end may name another one.
     pub next: bool,
+    /// Whether it has a modifier.
+    pub modified: bool,
     /// The number in bytes 12 to 15, if the message has them: of an ABORT and a GET COMMAND STATUS the reference number of the
     /// command that they are about, of a transfer how many bytes are to be moved.
     pub parameter: Option<u32>,
-    /// The figure that was last told of it, if one was.
+    /// The figure that was last told of it by a poll of the oldest command, if one was.
     pub told: Option<u32>,
+    /// What it asks of another command, if it is a poll.
+    pub asked: Asked,
 }
 
 /// The number in the four bytes from a place on, if there are so many.
@@ -43,6 +58,14 @@ fn asks_for_next(b: &[u8]) -> bool
     b[8] == 3 && two_at(b, 10) % 2 == 1
 }
 
+/// Whether a message sets a modifier.
+fn is_modified(b: &[u8]) -> bool
+    requires { 12 ≤ length b.now }
+    ensures { result ≡ is_modified b.now }
+{
+    two_at(b, 10) != 0
+}
+
 impl Sent {
     /// The command of a message (manual, "Command Messages").
     pub fn of(connection: Connection, b: &[u8]) -> Sent
@@ -55,8 +78,10 @@ impl Sent {
             unit: two_at(b, 4),
             opcode: b[8],
             next: asks_for_next(b),
+            modified: is_modified(b),
             parameter: four_in(b, 12),
             told: None,
+            asked: Asked::Nothing,
         }
     }
 
@@ -80,6 +105,13 @@ pub fn is_sequential(opcode: u8) -> bool
     ensures { result ≡ is_sequential opcode }
 {
     matches!(class_of(opcode), Class::Sequential)
+}
+
+/// Whether no row of the table of opcodes has it.
+pub fn is_unknown(opcode: u8) -> bool
+    ensures { result ≡ is_unknown opcode }
+{
+    matches!(class_of(opcode), Class::Unknown)
 }
 
 /// Whether it is a transfer.

@@ -64,8 +64,7 @@ rule_name rules.Order = codes "order"
 rule_name rules.Success = codes "success"
 -- their ends name the command that they are about
 rule_name rules.About = codes "about"
--- the status of an outstanding command is at least 1 and falls from poll to poll. It is 0 of a command that isn't
--- outstanding
+-- the status of the oldest command falls from poll to poll. It is 0 of a command that isn't outstanding
 rule_name rules.Figure = codes "figure"
 -- as many bytes are moved as were asked for, and fewer only if the status isn't Success
 rule_name rules.Count = codes "byte count"
@@ -93,7 +92,8 @@ rule_text rules.Aborted = codes "a command is aborted by an ABORT, and ends befo
 rule_text rules.Order = codes "a sequential command of a unit passes no earlier one, and is passed by none"
 rule_text rules.Success = codes "an ABORT and a GET COMMAND STATUS succeed"
 rule_text rules.About = codes "the end of an ABORT or a GET COMMAND STATUS names the command that it is about"
-rule_text rules.Figure = codes "a command status is at least 1 and falls from poll to poll, and is 0 of no command"
+rule_text rules.Figure =
+    codes "the status of the oldest command falls from poll to poll, and is 0 of one that isn't outstanding"
 rule_text rules.Count = codes "as many bytes are moved as were asked for, and fewer only if the status isn't Success"
 rule_text rules.Identity = codes "the identifier, media type and size of a unit stay the same while it is online"
 

@@ -101,7 +101,7 @@ fn rule_text(rule: Rule) -> &'static str
             "the end of an ABORT or a GET COMMAND STATUS names the command that it is about"
         }
         Rule::Figure => {
-            "a command status is at least 1 and falls from poll to poll, and is 0 of no command"
+            "the status of the oldest command falls from poll to poll, and is 0 of one that isn't outstanding"
         }
         Rule::Count => {
             "as many bytes are moved as were asked for, and fewer only if the status isn't Success"

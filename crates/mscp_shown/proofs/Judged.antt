@@ -1,0 +1,323 @@
+-- All that keeps the stricter rules of figures is right to the judge of the wire.
+use Rattle.std.proofs.Common.{◌≡◌, ℕ, zero, suc, ◌+◌, ◌<◌, ◌≤◌, Bool, true, false, cond, not, ◌&&◌, ◌||◌, List, [], ◌∷◌, ◌++◌, length, get_or, take, drop, map, refl, ap, sym, ◌∙◌, subst, arith, Option, Some, None}
+use Rattle.std.specs.Prelude.{find, if◌then◌else◌, nat_eq, nat_lt}
+use Rattle.std.specs.List.{AllByRecursion, list_any}
+use Rattle.std.proofs.lemmas.Bool.{false≢true, or_parts}
+use Rattle.std.proofs.lemmas.List.Sums.{fold_push}
+use Rattle.mscp_queue.proofs.Lists.{every_from, every_weaker, pairs_append}
+use Rattle.mscp_queue.proofs.Placed.{find_none}
+use Rattle.mscp_wire.specs.Wire as wire
+use Rattle.mscp_wire.specs.Wire.{History, IsRightMessage, answer_by, command_at, has_credit, has_one_of, is_below, is_immediate, is_named, is_polled, moment_at, place_of, polled_by, same_connection, sent_by}
+use Rattle.mscp_wire.specs.declared.answer.Answer.{Answer}
+use Rattle.mscp_wire.specs.declared.identity.Identity.{Identity}
+use Rattle.mscp_wire.specs.declared.moment.Moment.{Moment}
+use Rattle.mscp_wire.specs.declared.moment.Moment.TheVariants as moments
+use Rattle.mscp_wire.specs.declared.sent.Asked.{Asked}
+use Rattle.mscp_wire.specs.declared.sent.Asked.TheVariants.{Gone, Nothing, Oldest}
+use Rattle.mscp_wire.specs.declared.sent.Sent.{Sent}
+use Rattle.mscp_shown.proofs.Alike.{Alike, alike_any, alike_at, alike_count, alike_drop, alike_position, alike_take, bare}
+use Rattle.mscp_shown.proofs.Lenient.{Falls, apart_at, apart_from, falls_found, falls_one, hears_bare, linked_end, named_turned, pairs_take}
+use Rattle.mscp_shown.proofs.Linking.{Alone, AsksOf, IsLow, Linked, asks_at, below_lower, linked_alike, linked_sent, nobody}
+use Rattle.mscp_shown.proofs.Pairing.{pairs_out}
+use Rattle.mscp_shown.proofs.Shown.{placed}
+use Rattle.mscp_shown.proofs.Strict as strict
+use Rattle.mscp_shown.proofs.Strict.{hears, may_tell}
+
+-- ---- lists
+every_none : (q : Sent → Bool) (xs : List Sent) → list_any q xs ≡ false → AllByRecursion (λ x. q x ≡ false) xs
+every_none q [] h = tt
+every_none q (x ∷ xs) h =
+    let p = or_parts (q x) (list_any q xs) h in
+    (p.0, every_none q xs p.1)
+
+every_both : (P Q : Sent → Type 0) (xs : List Sent) → AllByRecursion P xs → AllByRecursion Q xs
+    → AllByRecursion (λ x. P x × Q x) xs
+every_both P Q [] h k = tt
+every_both P Q (x ∷ xs) h k = ((h.0, k.0), every_both P Q xs h.1 k.1)
+
+any_split : (q : Sent → Bool) (i : ℕ) (xs : List Sent) (d : Sent) → i < length xs
+    → list_any q xs ≡ (list_any q (take i xs) || (q (get_or xs i d) || list_any q (drop (suc i) xs)))
+any_split q i [] d l = absurd (omega (arith, l))
+any_split q zero (x ∷ xs) d l = refl
+any_split q (suc i) (x ∷ xs) d l =
+    ap (λ b. q x || b) (any_split q i xs d (omega (arith, l)))
+    ∙ regrouped (q x) (list_any q (take i xs)) (q (get_or xs i d) || list_any q (drop (suc i) xs))
+  where
+    regrouped : (a b c : Bool) → (a || (b || c)) ≡ ((a || b) || c)
+    regrouped a b c = grind arith
+
+found_first : (q : Sent → Bool) (P : Sent → Type 0) (xs : List Sent) → list_any q xs ≡ true → AllByRecursion P xs
+    → (x : Sent) × (find q xs ≡ Some x) × (q x ≡ true) × P x
+found_first q P [] h all = absurd (false≢true h)
+found_first q P (x ∷ xs) h all =
+    let R : Bool → Type 0 = λ b. q x ≡ b → (b || list_any q xs) ≡ true
+    → (z : Sent) × (cond b (Some x) (find q xs) ≡ Some z) × (q z ≡ true) × P z in
+    elim (q x) as R [
+      | true ↦ λ e k. (x, refl, e, all.0)
+      | false ↦ λ e k. found_first q P xs k all.1
+    ] refl h
+
+more_taken : (h : History) (n : ℕ) → n < length h → take (suc n) h ≡ take n h ++ moment_at h n ∷ []
+more_taken [] n l = absurd (omega (arith, l))
+more_taken (m ∷ h) zero l = refl
+more_taken (m ∷ h) (suc n) l = ap (λ t. m ∷ t) (more_taken h n (omega (arith, l)))
+
+-- ---- what is kept
+record State (xs ys : List Sent) : Type 0 where
+  link : Linked [] xs ys
+  alone : Alone xs
+
+-- ---- a message
+module _ (credits : Option ℕ) (xs ys : List Sent) (h : State xs ys) where
+  alike : Alike xs ys
+  alike = linked_alike [] xs ys h.link
+
+  credit_same : (c : Option ℕ) (s : Sent) → has_credit c xs s ≡ has_credit c ys s
+  credit_same c s = by_credits c
+    where
+      count : wire.count_on s.connection xs ≡ wire.count_on s.connection ys
+      count =
+          alike_count (λ z. same_connection z.connection s.connection)
+          (λ x y k. ap (λ (z : Sent). same_connection z.connection s.connection) k) xs ys alike
+
+      one : (n : ℕ) → has_one_of n xs s ≡ has_one_of n ys s
+      one n = ap (λ k. nat_lt (k + 1) n || (nat_eq (k + 1) n && is_immediate s.opcode)) count
+
+      by_credits : (c : Option ℕ) → has_credit c xs s ≡ has_credit c ys s
+      by_credits None = one 1024
+      by_credits (Some n) = one n
+
+  new_same : (s : Sent) → list_any (is_named s.connection s.reference) xs
+      ≡ list_any (is_named s.connection s.reference) ys
+  new_same s =
+      alike_any (is_named s.connection s.reference) (λ x y k. ap (is_named s.connection s.reference) k) xs ys alike
+
+  sent_right : (b : List ℕ) (s : Sent) → IsRightMessage credits xs b s → IsRightMessage credits ys b s
+  sent_right b s r = record {
+    message = r.message;
+    number = ap not (sym (new_same s)) ∙ r.number;
+    credit = sym (credit_same credits s) ∙ r.credit;
+  }
+
+  sent_kept : (b : List ℕ) (s : Sent) → IsRightMessage credits xs b s
+      → State (xs ++ s ∷ []) (ys ++ wire.asking ys s ∷ [])
+  sent_kept b s r =
+      let q = is_named s.connection s.reference in
+      let none : list_any q xs ≡ false = isnt (list_any q xs) r.number in
+      record {
+        link = linked_sent xs ys s h.link h.alone;
+        alone = pairs_append (λ x y. is_named x.connection x.reference y ≡ false) xs s h.alone
+            (every_weaker (λ x. q x ≡ false) (λ x. is_named x.connection x.reference s ≡ false)
+            (λ x k. named_turned s x k) xs (every_none q xs none));
+      }
+    where
+      isnt : (b : Bool) → not b ≡ true → b ≡ false
+      isnt b k = grind arith
+
+-- ---- an end
+polled_parameter : (y : Sent) (e : Answer) (n : ℕ) → polled_by y e ≡ Some n → y.parameter ≡ Some n
+polled_parameter y e n h =
+    by_bool (wire.is_known e && nat_eq y.opcode 2 && not (wire.is_refused y e)) y.parameter h
+  where
+    by_bool : (b : Bool) (o : Option ℕ) → (if b then o else None) ≡ Some n → o ≡ Some n
+    by_bool true o k = k
+    by_bool false o k = cc
+
+module _ (xs ys : List Sent) (h : State xs ys) (u : Option Identity) (b : List ℕ) (e : Answer) (i : ℕ)
+    (r : strict.IsRightEnd xs u b e i) where
+  abbrev x : Sent
+  x = command_at xs i
+
+  abbrev y : Sent
+  y = command_at ys i
+
+  abbrev p : Option ℕ
+  p = polled_by x e
+
+  both : Alike xs ys
+  both = linked_alike [] xs ys h.link
+
+  same : bare x ≡ bare y
+  same = alike_at i xs ys nobody both
+
+  asks : polled_by y e ≡ p
+  asks = ap (λ s. polled_by s e) (sym same)
+
+  low : i < length xs
+  low = (placed xs e i r.outstanding).low
+
+  side : y.connection ≡ e.connection
+  side = ap (λ (s : Sent). s.connection) (sym same) ∙ (placed xs e i r.outstanding).connection
+
+  asked_here : AsksOf (take i xs) y y.asked
+  asked_here = asks_at [] xs ys i h.link
+
+  -- those before it
+  falls_all : (o : Option ℕ) → strict.has_figure xs (take i xs) e o ≡ true → AllByRecursion (Falls e o) (take i xs)
+  falls_all None k = every_from (Falls e None) (λ t q. absurd (false≢true q)) (take i xs)
+  falls_all (Some n) k =
+      falls_found e n (list_any (is_named e.connection n) xs) (take i xs)
+      (pairs_take (λ s t. is_named s.connection s.reference t ≡ false) i xs h.alone) k
+
+  -- those behind it
+  abbrev IsSilent : Asked → Option ℕ → Sent → Type 0
+  IsSilent a o t = (wire.asks_oldest a && is_polled e.connection o t) ≡ false
+
+  silent_all : (a : Asked) (o : Option ℕ) → AsksOf (take i xs) y a → ((n : ℕ) → o ≡ Some n → y.parameter ≡ Some n)
+      → AllByRecursion (IsSilent a o) (drop (suc i) xs)
+  silent_all Nothing o k q = every_from (IsSilent Nothing o) (λ t. refl) (drop (suc i) xs)
+  silent_all (Gone last) o k q = every_from (IsSilent (Gone last) o) (λ t. refl) (drop (suc i) xs)
+  silent_all (Oldest last) None k q = every_from (IsSilent (Oldest last) None) (λ t. refl) (drop (suc i) xs)
+  silent_all (Oldest last) (Some n) k q =
+      let there = (k n (q n refl)).1.0 in
+      subst (λ v. AllByRecursion (λ t. is_named v n t ≡ false) (drop (suc i) xs)) side
+      (apart_from y.connection n i xs h.alone there)
+
+  end_kept : State (map (hears e p) (take i xs) ++ drop (i + 1) xs)
+      (map (wire.hears y e) (take i ys ++ drop (i + 1) ys))
+  end_kept =
+      let apart = apart_at i xs nobody low h.alone in
+      let one : suc i ≡ i + 1 = omega arith in
+      let silent = silent_all y.asked p asked_here (λ n q. polled_parameter y e n (asks ∙ q)) in
+      let link = linked_end e p x y same asks i xs ys nobody low refl h.link
+      (every_both (λ t. is_named x.connection x.reference t ≡ false) (Falls e p) (take i xs) apart.0
+      (falls_all p r.figure))
+      (every_both (λ t. is_named x.connection x.reference t ≡ false) (IsSilent y.asked p) (drop (suc i) xs) apart.1
+      silent) in
+      record {
+        link = subst (λ n. Linked [] (map (hears e p) (take i xs) ++ drop n xs)
+            (map (wire.hears y e) (take i ys ++ drop n ys))) one link;
+        alone = pairs_out (hears e p) (λ s t. is_named s.connection s.reference t ≡ false)
+            (λ s t k. ap (λ (z : Sent). is_named z.connection z.reference t) (hears_bare e p s) ∙ k)
+            (λ s t k. ap (λ z. is_named s.connection s.reference z) (hears_bare e p t) ∙ k) i xs h.alone;
+      }
+
+  -- the figure that is told
+  module _ (n : ℕ) (here : y.parameter ≡ Some n) where
+    abbrev q : Sent → Bool
+    q = is_named e.connection n
+
+    came_same : list_any q (drop (suc i) xs) ≡ list_any q (drop (i + 1) ys)
+    came_same =
+        let one : suc i ≡ i + 1 = omega arith in
+        ap (λ k. list_any q (drop k xs)) one
+        ∙ alike_any q (λ s t k. ap q k) (drop (i + 1) xs) (drop (i + 1) ys) (alike_drop (i + 1) xs ys both)
+
+    gone_tells : (figure : ℕ) (last : Option ℕ) → list_any q (take i xs) ≡ false → q y ≡ false
+        → (list_any q xs || nat_eq figure 0) ≡ true
+        → (nat_eq figure 0 || (list_any q (drop (i + 1) ys) || is_below last figure)) ≡ true
+    gone_tells figure last before itself k =
+        let own : q x ≡ false = ap q same ∙ itself in
+        let all : list_any q xs ≡ list_any q (drop (i + 1) ys) =
+        any_split q i xs nobody low
+        ∙ (ap (λ b. b || (q x || list_any q (drop (suc i) xs))) before
+        ∙ (ap (λ b. b || list_any q (drop (suc i) xs)) own ∙ came_same)) in
+        turned (list_any q (drop (i + 1) ys)) (nat_eq figure 0) (is_below last figure)
+        (sym (ap (λ b. b || nat_eq figure 0) all) ∙ k)
+      where
+        turned : (c z b : Bool) → (c || z) ≡ true → (z || (c || b)) ≡ true
+        turned c z b k = grind arith
+
+    oldest_tells : (figure : Option ℕ) (last : Option ℕ) → list_any q (take i xs) ≡ true
+        → AllByRecursion (IsLow e.connection n last) (take i xs)
+        → may_tell figure (list_any q xs) (find q (take i xs)) ≡ true
+        → wire.may_tell (Oldest last) (list_any q (drop (i + 1) ys)) figure ≡ true
+    oldest_tells figure last some all k =
+        let t = found_first q (IsLow e.connection n last) (take i xs) some all in
+        let is_low = t.3 t.2 in
+        let f = falls_one figure (list_any q xs) t.0 (sym (ap (may_tell figure (list_any q xs)) t.1) ∙ k) is_low.0 in
+        ap (wire.may_tell (Oldest last) (list_any q (drop (i + 1) ys))) f.1
+        ∙ (ap (λ b. nat_eq f.0 0 || b) (below_lower t.0.told last f.0 is_low.1 f.2) ∙ or_true (nat_eq f.0 0))
+      where
+        or_true : (b : Bool) → (b || true) ≡ true
+        or_true b = grind arith
+
+    tells_right : (figure : Option ℕ) (a : Asked) → AsksOf (take i xs) y a
+        → may_tell figure (list_any q xs) (find q (take i xs)) ≡ true
+        → wire.may_tell a (list_any q (drop (i + 1) ys)) figure ≡ true
+    tells_right None a asked k = cc
+    tells_right (Some figure) Nothing asked k = or_true (nat_eq figure 0)
+      where
+        or_true : (b : Bool) → (b || true) ≡ true
+        or_true b = grind arith
+    tells_right (Some figure) (Gone last) asked k =
+        let s = asked n here in
+        let before : list_any q (take i xs) ≡ false =
+        subst (λ v. list_any (is_named v n) (take i xs) ≡ false) side s.1 in
+        let itself : q y ≡ false = subst (λ v. is_named v n y ≡ false) side s.0 in
+        let none : find q (take i xs) ≡ None = find_none q (take i xs) (every_none q (take i xs) before) in
+        gone_tells figure last before itself
+        (sym (ap (may_tell (Some figure) (list_any q xs)) none) ∙ k)
+    tells_right (Some figure) (Oldest last) asked k =
+        let s = asked n here in
+        oldest_tells (Some figure) last (subst (λ v. list_any (is_named v n) (take i xs) ≡ true) side s.1.0)
+        (subst (λ v. AllByRecursion (IsLow v n last) (take i xs)) side s.1.1) k
+
+  figure_right : (o : Option ℕ) → p ≡ o → strict.has_figure xs (take i xs) e o ≡ true
+      → wire.has_figure (drop (i + 1) ys) y e o ≡ true
+  figure_right None q k = refl
+  figure_right (Some n) q k = tells_right n (polled_parameter y e n (asks ∙ q)) e.figure y.asked asked_here k
+
+  end_right : wire.IsRightEnd ys u b e i
+  end_right = record {
+    length = r.length;
+    outstanding =
+        sym (alike_position (is_named e.connection e.reference)
+        (λ s t k. ap (is_named e.connection e.reference) k) xs ys both) ∙ r.outstanding;
+    unit = ap (λ s. wire.names_unit s e) (sym same) ∙ r.unit;
+    endcode = ap (λ s. wire.has_endcode s e) (sym same) ∙ r.endcode;
+    status = ap (λ s. wire.has_status s e) (sym same) ∙ r.status;
+    aborted =
+        ap (λ k. not (nat_eq (wire.status_code e) 2) || k)
+        (sym (alike_any (wire.aborts y) (λ s t k. ap (wire.aborts y) k) xs ys both))
+        ∙ (ap (λ s. wire.has_abort xs s e) (sym same) ∙ r.aborted);
+    order =
+        ap (λ k. wire.is_apart (wire.status_code e) || not k)
+        (sym (alike_any (wire.keeps_back y) (λ s t k. ap (wire.keeps_back y) k) (take i xs) (take i ys)
+        (alike_take i xs ys both)))
+        ∙ (ap (λ s. wire.passes_none (take i xs) s e) (sym same) ∙ r.order);
+    success = ap (λ s. wire.succeeds e (wire.other_of s e)) (sym same) ∙ r.success;
+    about = ap (λ s. wire.is_about e (wire.other_of s e)) (sym same) ∙ r.about;
+    figure =
+        ap (wire.has_figure (drop (i + 1) ys) y e) asks ∙ figure_right p refl r.figure;
+    count = ap (λ s. wire.has_count e (wire.count_of s e)) (sym same) ∙ r.count;
+    identity = r.identity;
+  }
+
+-- ---- a moment
+step : (credits : Option ℕ) (xs ys : List Sent) (u : Option Identity) (m : Moment) → State xs ys
+    → strict.IsRightAfter credits xs u m
+    → wire.IsRightAfter credits ys u m × State (strict.after xs m) (wire.after ys m)
+step credits xs ys u (moments.Message via b) h r = (
+  sent_right credits xs ys h b.items (sent_by via b.items) r,
+  sent_kept credits xs ys h b.items (sent_by via b.items) r,
+)
+step credits xs ys u (moments.End via b) h r =
+    let e = answer_by via b.items in
+    let right = end_right xs ys h u b.items e r.0 r.1 in (
+      (r.0, right),
+      subst (λ o. State (strict.after_end xs e o) (wire.after_end ys e (place_of ys e))) (sym r.1.outstanding)
+          (subst (λ o. State (strict.after_end xs e (Some r.0)) (wire.after_end ys e o)) (sym right.outstanding)
+          (end_kept xs ys h u b.items e r.0 r.1)),
+    )
+step credits xs ys u moments.Reset h r = (tt, record { link = tt; alone = tt })
+
+states : (credits : Option ℕ) (h : History) → strict.AreRight credits h → (n : ℕ) → n ≤ length h
+    → State (strict.outstanding (take n h)) (wire.outstanding (take n h))
+states credits h r zero l = record { link = tt; alone = tt }
+states credits h r (suc n) l =
+    let low : n < length h = omega (arith, l) in
+    let before = take n h in
+    let m = moment_at h n in
+    let more = (step credits (strict.outstanding before) (wire.outstanding before) (wire.known_of (wire.known before) m)
+    m (states credits h r n (omega (arith, l))) (r n low)).1 in
+    subst (λ t. State (strict.outstanding t) (wire.outstanding t)) (sym (more_taken h n low))
+    (subst (λ xs. State xs (wire.outstanding (before ++ m ∷ []))) (sym (fold_push strict.after [] before m))
+    (subst (λ ys. State (strict.after (strict.outstanding before) m) ys) (sym (fold_push wire.after [] before m)) more))
+
+pub lenient : (credits : Option ℕ) (h : History) → strict.AreRight credits h → wire.AreRight credits h
+lenient credits h r i l =
+    let before = take i h in
+    (step credits (strict.outstanding before) (wire.outstanding before)
+    (wire.known_of (wire.known before) (moment_at h i)) (moment_at h i) (states credits h r i (omega (arith, l)))
+    (r i l)).0

@@ -1,0 +1,109 @@
+-- What a poll may tell: by what is outstanding when it comes, and by what comes and ends until it is answered.
+use Rattle.std.specs.Prelude.{ℕ, Bool, true, false, not, ◌&&◌, ◌||◌, nat_eq, nat_lt, if◌then◌else◌, List, find, Option, Some, None}
+use Rattle.std.specs.List.{list_any}
+use Rattle.mscp_drive.specs.declared.connection.Connection.{Connection}
+use Rattle.mscp_wire.specs.Messages.{is_immediate, is_known, is_named, same_connection, status_code}
+use Rattle.mscp_wire.specs.declared.answer.Answer.{Answer}
+use Rattle.mscp_wire.specs.declared.sent.Asked.{Asked}
+use Rattle.mscp_wire.specs.declared.sent.Asked.TheVariants.{Gone, Nothing, Oldest}
+use Rattle.mscp_wire.specs.declared.sent.Sent.{Sent}
+
+-- a number is there, and is this
+abbrev pub is_it : Option ℕ → ℕ → Bool
+is_it None number = false
+is_it (Some found) number = nat_eq found number
+
+-- ---- when a poll comes
+
+-- a command of this connection isn't answered when it arrives, so that its host waits for it
+abbrev pub waits_on : Connection → Sent → Bool
+waits_on via s = same_connection s.connection via && not (is_immediate s.opcode)
+
+abbrev pub has_number : Option Sent → ℕ → Bool
+has_number None number = false
+has_number (Some s) number = nat_eq s.reference number
+
+-- a host polls the oldest of those (manual, "Host Command Timeouts"), and x is the oldest
+abbrev pub is_oldest : List Sent → Sent → Bool
+is_oldest xs x = not (is_immediate x.opcode) && has_number (find (waits_on x.connection) xs) x.reference
+
+-- what a poll asks of the command that has the number which it names. If there is none the figure is 0. If it names
+-- another unit than that command, any is right
+abbrev pub asked_about : List Sent → Sent → Option Sent → Asked
+asked_about xs y None = Gone (Some 0)
+asked_about xs y (Some x) = if nat_eq x.unit y.unit && is_oldest xs x then Oldest x.told else Nothing
+
+-- the same by that number. Of itself a poll may tell any
+abbrev pub asked_by : List Sent → Sent → Option ℕ → Asked
+asked_by xs y None = Nothing
+asked_by xs y (Some other) =
+    if nat_eq other y.reference then Nothing else asked_about xs y (find (is_named y.connection other) xs)
+
+-- a command, once it is known what it asks as a poll of those that are outstanding
+abbrev pub asking : List Sent → Sent → Sent
+asking xs y = record y { asked = if nat_eq y.opcode 2 then asked_by xs y y.parameter else Nothing }
+
+-- ---- when it is answered
+
+-- its command, which has a modifier, is refused as an Invalid Command (1)
+abbrev pub is_refused : Sent → Answer → Bool
+is_refused y e = y.modified && nat_eq (status_code e) 1
+
+-- the command that a poll is about, if its command is one and isn't refused
+abbrev pub polled_by : Sent → Answer → Option ℕ
+polled_by y e = if is_known e && nat_eq y.opcode 2 && not (is_refused y e) then y.parameter else None
+
+-- a figure is lower than the last one, if there is one
+abbrev pub is_below : Option ℕ → ℕ → Bool
+is_below None figure = true
+is_below (Some last) figure = nat_lt figure last
+
+-- a figure may be told that isn't 0: of the oldest command one that is lower than the last (manual, "Host Command
+-- Timeouts"). So it may of one that was the oldest and ended since, and then any if another came that has its number
+abbrev pub may_be : Asked → Bool → ℕ → Bool
+may_be Nothing came figure = true
+may_be (Oldest last) came figure = is_below last figure
+may_be (Gone last) came figure = came || is_below last figure
+
+-- a figure may be told. 0 says that the command isn't outstanding: its end may be on the way
+abbrev pub may_tell : Asked → Bool → Option ℕ → Bool
+may_tell asked came None = false
+may_tell asked came (Some figure) = nat_eq figure 0 || may_be asked came figure
+
+-- the figure that it tells is right, where its command y is a poll, and these came after y
+abbrev pub has_figure : List Sent → Sent → Answer → Option ℕ → Bool
+has_figure later y e None = true
+has_figure later y e (Some other) = may_tell y.asked (list_any (is_named e.connection other) later) e.figure
+
+-- ---- what the others hear of it
+
+-- it tells the figure of the oldest command
+abbrev pub asks_oldest : Asked → Bool
+asks_oldest Nothing = false
+asks_oldest (Oldest last) = true
+asks_oldest (Gone last) = false
+
+abbrev pub is_polled : Connection → Option ℕ → Sent → Bool
+is_polled via None s = false
+is_polled via (Some other) s = is_named via other s
+
+-- the end e of y tells the figure of s
+abbrev pub tells : Sent → Answer → Sent → Bool
+tells y e s = asks_oldest y.asked && is_polled e.connection (polled_by y e) s
+
+-- s is a poll of y
+abbrev pub polls : Sent → Sent → Bool
+polls y s = same_connection s.connection y.connection && nat_eq s.opcode 2 && is_it s.parameter y.reference
+
+-- what a poll asks once the command that it names ended. If that came after the poll, any figure was right meanwhile
+abbrev pub left : Asked → Asked
+left (Oldest last) = Gone last
+left asked = Nothing
+
+-- a command that is outstanding, once the end e of y came: it hears the figure that is told of it, and to a poll of y
+-- that is gone
+abbrev pub hears : Sent → Answer → Sent → Sent
+hears y e s = record s {
+  told = if tells y e s then e.figure else s.told;
+  asked = if polls y s then left s.asked else s.asked;
+}
