@@ -133,6 +133,7 @@ host_credits() {
     mapfile -t many < <(for ((n = 1; n < 1024; n++)); do reading "$n"; done)
     wire_breaks 'host: credits' 'READ 1024 of unit 0' "${many[@]}" "$(reading 1024)" &&
         wire_breaks 'host: credits' 'GET COMMAND STATUS 1025 of unit 0' "${many[@]}" "$(poll 1024 1)" "$(poll 1025 1)" &&
+        wire_breaks 'host: credits' 'READ 1024 of unit 0' 'credits 4294967295' "${many[@]}" "$(reading 1024)" &&
         wire_breaks 'host: credits' 'READ 2 of unit 0' 'credits 2' "$(reading 1)" "$(reading 2)" &&
         wire_breaks 'host: credits' 'GET COMMAND STATUS 3 of unit 0' 'credits 2' "$(reading 1)" "$(poll 2 1)" "$(poll 3 1)" &&
         wire_is_right '2 2 0 0 0' $'outstanding: READ 1 of unit 0\noutstanding: second READ 1 of unit 0' 'credits 2' \
@@ -148,6 +149,13 @@ ends_of_nobody() {
     wire_breaks 'controller: outstanding' '' "$(reading 1)" "$(moved 1 0 1024)" "$(moved 1 0 1024)" &&
         wire_breaks 'controller: outstanding' '' "$(reading 1)" "second $(moved 1 0 1024)" &&
         wire_breaks 'controller: outstanding' '' "$(reading 1)" reset "$(moved 1 0 1024)"
+}
+
+# What the controller tells unasked is no end.
+attention_messages() {
+    wire_is_right '2 1 0 1 0' '' "$(online 1)" "$(onlined 1 0)" "end $(packet 44 0 0 64 0)" "second end $(packet 12 1 3 64 0)" &&
+        wire_is_right '1 1 0 0 0' 'outstanding: ONLINE 0 of unit 0' "$(online 0)" "end $(packet 44 0 0 64 0)" &&
+        wire_breaks 'controller: outstanding' '' "end $(packet 12 0 0 65 0)" && wire_breaks 'controller: length' '' 'end 0000000000000000'
 }
 
 end_units() {

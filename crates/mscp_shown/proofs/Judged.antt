@@ -7,7 +7,7 @@ use Rattle.std.proofs.lemmas.List.Sums.{fold_push}
 use Rattle.mscp_queue.proofs.Lists.{every_from, every_weaker, pairs_append}
 use Rattle.mscp_queue.proofs.Placed.{find_none}
 use Rattle.mscp_wire.specs.Wire as wire
-use Rattle.mscp_wire.specs.Wire.{History, IsRightMessage, answer_by, command_at, has_credit, has_one_of, is_below, is_immediate, is_named, is_polled, moment_at, place_of, polled_by, same_connection, sent_by}
+use Rattle.mscp_wire.specs.Wire.{History, IsRightMessage, answer_by, command_at, has_credit, is_below, is_immediate, is_named, is_polled, limit_of, moment_at, place_of, polled_by, same_connection, sent_by}
 use Rattle.mscp_wire.specs.declared.answer.Answer.{Answer}
 use Rattle.mscp_wire.specs.declared.identity.Identity.{Identity}
 use Rattle.mscp_wire.specs.declared.moment.Moment.{Moment}
@@ -73,19 +73,13 @@ module _ (credits : Option ℕ) (xs ys : List Sent) (h : State xs ys) where
   alike = linked_alike [] xs ys h.link
 
   credit_same : (c : Option ℕ) (s : Sent) → has_credit c xs s ≡ has_credit c ys s
-  credit_same c s = by_credits c
+  credit_same c s =
+      ap (λ k. nat_lt (k + 1) (limit_of c) || (nat_eq (k + 1) (limit_of c) && is_immediate s.opcode)) count
     where
       count : wire.count_on s.connection xs ≡ wire.count_on s.connection ys
       count =
           alike_count (λ z. same_connection z.connection s.connection)
           (λ x y k. ap (λ (z : Sent). same_connection z.connection s.connection) k) xs ys alike
-
-      one : (n : ℕ) → has_one_of n xs s ≡ has_one_of n ys s
-      one n = ap (λ k. nat_lt (k + 1) n || (nat_eq (k + 1) n && is_immediate s.opcode)) count
-
-      by_credits : (c : Option ℕ) → has_credit c xs s ≡ has_credit c ys s
-      by_credits None = one 1024
-      by_credits (Some n) = one n
 
   new_same : (s : Sent) → list_any (is_named s.connection s.reference) xs
       ≡ list_any (is_named s.connection s.reference) ys

@@ -4,7 +4,7 @@ use Rattle.std.proofs.lemmas.Bool.{le-leb}
 use Rattle.mscp_queue.proofs.Placed.{sum_by_map}
 use Rattle.mscp_controller.proofs.Promise.Arrivals.{IsTaken}
 use Rattle.mscp_packet.specs.Number.{num}
-use Rattle.mscp_wire.specs.Wire.{IsRightMessage, count_on, has_credit, has_one_of, is_immediate, is_named, same_connection, sent_by}
+use Rattle.mscp_wire.specs.Wire.{IsRightMessage, count_on, has_credit, has_one_of, is_immediate, is_named, limit_of, same_connection, sent_by}
 use Rattle.mscp_wire.specs.declared.sent.Sent.{Sent}
 use Rattle.mscp_drive.specs.Settings.{IsValid}
 use Rattle.mscp_drive.specs.declared.connection.Connection.TheVariants.{First, Second}
@@ -76,16 +76,18 @@ credit_of n all waits ended false few some last =
 
 -- no connection has more credits than its host is told, or is taken to have
 abbrev pub HasRoom : Option ℕ → Settings → Type 0
-HasRoom None c = (via : Connection) → credits_of c via ≤ 1024
-HasRoom (Some n) c = (via : Connection) → credits_of c via ≤ n
+HasRoom credits c = (via : Connection) → credits_of c via ≤ limit_of credits
 
 pub has_room : (credits : Option ℕ) (c : Settings) → IsValid c → Covers credits c → HasRoom credits c
-has_room None c valid covers = few
+has_room credits c valid covers = by_credits credits covers
   where
     few : (via : Connection) → credits_of c via ≤ 1024
     few First = omega (arith, valid.few_credits)
     few Second = omega (arith, valid.few_credits)
-has_room (Some n) c valid covers = covers
+
+    by_credits : (credits : Option ℕ) → Covers credits c → HasRoom credits c
+    by_credits None k = few
+    by_credits (Some n) k = λ via. omega (arith, k via, few via)
 
 one_kept : (n : ℕ) (c : Settings) (via : Connection) (t : Trace) (b : List ℕ) (xs : List Sent) → credits_of c via ≤ n
     → IsTaken (balance c via t) (outstanding c via t) b → IsTallied c via t xs
@@ -101,8 +103,7 @@ one_kept n c via t b xs few taken same =
 credit_kept : (credits : Option ℕ) (c : Settings) (via : Connection) (t : Trace) (b : List ℕ) (xs : List Sent)
     → HasRoom credits c → IsTaken (balance c via t) (outstanding c via t) b → IsTallied c via t xs
     → has_credit credits xs (sent_by via b) ≡ true
-credit_kept None c via t b xs room taken same = one_kept 1024 c via t b xs (room via) taken same
-credit_kept (Some n) c via t b xs room taken same = one_kept n c via t b xs (room via) taken same
+credit_kept credits c via t b xs room taken same = one_kept (limit_of credits) c via t b xs (room via) taken same
 
 pub message_right : (credits : Option ℕ) (c : Settings) (via : Connection) (t : Trace) (b : List ℕ) (xs : List Sent)
     → HasRoom credits c → IsTaken (balance c via t) (outstanding c via t) b → IsTallied c via t xs

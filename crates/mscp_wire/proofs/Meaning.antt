@@ -86,6 +86,8 @@ moment_kept n log next m (Some rule) b h = cc
 pub kept : (n : ℕ) (log next : Log) (said : Said) → after_said n log said ≡ Ok (Ok next) → Kept log next said
 kept n log next says.Nothing h =
     let e : log ≡ next = cc in record { told_is = ap Ok e; right = same_kept log next e }
+kept n log next (says.Attention via b) h =
+    let e : log ≡ next = cc in record { told_is = ap Ok e; right = same_kept log next e }
 kept n log next (says.Credits c) h = credits_kept (is_fresh log) log next c refl h
 kept n log next (says.Happens m) h =
     moment_kept n log next m (broken_by log.credits log.moments m) refl h
@@ -179,6 +181,7 @@ fresh_extends false log next c f h = cc
 
 said_extends : (log next : Log) (said : Said) → told log said ≡ Ok next → Extends log next
 said_extends log next says.Nothing h = extends_same log next cc
+said_extends log next (says.Attention via b) h = extends_same log next cc
 said_extends log next (says.Credits c) h = fresh_extends (is_fresh log) log next c refl h
 said_extends log next (says.Happens m) h =
     let e : record log { moments = log.moments ++ m ∷ [] } ≡ next = cc in
@@ -198,6 +201,7 @@ fresh_right false log next c h = cc
 said_right : (n : ℕ) (log next final : Log) (said : Said) → told log said ≡ Ok next → Extends next final
     → AreRight final.credits final.moments → after_said n log said ≡ Ok (Ok next)
 said_right n log next final says.Nothing h x r = let e : log ≡ next = cc in ap (λ l. Ok (Ok l)) e
+said_right n log next final (says.Attention via b) h x r = let e : log ≡ next = cc in ap (λ l. Ok (Ok l)) e
 said_right n log next final (says.Credits c) h x r = fresh_right (is_fresh log) log next c h
 said_right n log next final (says.Happens m) h x r =
     let e : record log { moments = log.moments ++ m ∷ [] } ≡ next = cc in

@@ -53,6 +53,7 @@ moment_wrong (Some rule) n log m wrong b h =
 said_wrong : (said : Said) (n : ℕ) (log : Log) (wrong : Wrong) → after_said n log said ≡ Ok (Err wrong)
     → IsWrong n log said wrong
 said_wrong says.Nothing n log wrong h = cc
+said_wrong (says.Attention via b) n log wrong h = cc
 said_wrong (says.Credits c) n log wrong h = credits_wrong (is_fresh log) n log c wrong h
 said_wrong (says.Happens m) n log wrong h =
     moment_wrong (broken_by log.credits log.moments m) n log m wrong refl h

@@ -1,5 +1,5 @@
 -- A log of the wire: what its lines say, and what is judged of them.
-use Rattle.std.specs.Prelude.{◌≡◌, ℕ, ◌+◌, ◌==◌, Bool, false, nat_eq, nat_lt, ◌&&◌, if◌then◌else◌, List, [], ◌∷◌, ◌++◌, length, codes, Option, Some, None, is_none, Result, Ok, Err}
+use Rattle.std.specs.Prelude.{◌≡◌, ℕ, ◌+◌, ◌==◌, Bool, false, nat_eq, nat_lt, ◌&&◌, if◌then◌else◌, List, [], ◌∷◌, ◌++◌, length, codes, slice_index, Option, Some, None, is_none, Result, Ok, Err}
 use Rattle.std.specs.Str.{bytes_eq}
 use Rattle.arrayvec.specs.ArrayVec.{ArrayVec}
 use Rattle.mscp_drive.specs.declared.connection.Connection.{Connection}
@@ -49,12 +49,20 @@ packet_of (b ∷ bytes) = Ok (record { items = b ∷ bytes })
 unfoldable pub packet : List (List ℕ) → Result (ArrayVec ℕ) Cause
 packet fields = one fields >>= λ digits. packet_of (bytes_in digits)
 
+-- what the controller sends is an attention message (0x40), which answers no command (manual, "Attention Messages")
+abbrev pub is_attention : List ℕ → Bool
+is_attention b = nat_eq (slice_index b 8) 0x40
+
+-- it sends one, or an end
+abbrev pub sends : Connection → ArrayVec ℕ → Said
+sends via b = if is_attention b.items then says.Attention via b else says.Happens (moments.End via b)
+
 -- a message or an end of a connection, by the first word
 unfoldable pub happens_on : Connection → List (List ℕ) → Result Said Cause
 happens_on via [] = Err causes.Count
 happens_on via (word ∷ fields) =
     if bytes_eq word (codes "send") then (packet fields >>= λ b. Ok (says.Happens (moments.Message via b))) else (
-    if bytes_eq word (codes "end") then (packet fields >>= λ b. Ok (says.Happens (moments.End via b)))
+    if bytes_eq word (codes "end") then (packet fields >>= λ b. Ok (sends via b))
     else Err causes.Word)
 
 -- what the words of a line say, behind its time
@@ -112,6 +120,7 @@ with_moment number log m (Some rule) = Err (record {
 -- what comes of what the line of this number says: the log, or the moment that isn't right
 abbrev pub after_said : ℕ → Log → Said → Result (Result Log Wrong) Cause
 after_said number log says.Nothing = Ok (Ok log)
+after_said number log (says.Attention via b) = Ok (Ok log)
 after_said number log (says.Credits c) =
     if is_fresh log then Ok (Ok (record log { credits = Some c })) else Err causes.Word
 after_said number log (says.Happens m) =

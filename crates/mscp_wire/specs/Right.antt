@@ -20,6 +20,7 @@ use Rattle.mscp_wire.specs.declared.wrong.Wrong.{Wrong}
 -- a log to which a line added what it says, right or not
 abbrev pub told : Log → Said → Result Log Cause
 told log says.Nothing = Ok log
+told log (says.Attention via b) = Ok log
 told log (says.Credits c) = if is_fresh log then Ok (record log { credits = Some c }) else Err causes.Word
 told log (says.Happens m) = Ok (record log { moments = log.moments ++ m ∷ [] })
 

@@ -24,7 +24,7 @@
 --                                 them if the status is Success                               has_count
 --                    Identity     while a unit is online its identifier, media type and size
 --                                 stay as they are                                            is_same_unit
-use Rattle.std.specs.Prelude.{◌≡◌, ℕ, ◌+◌, ◌<◌, Bool, true, false, not, ◌&&◌, ◌||◌, nat_eq, nat_le, nat_lt, if◌then◌else◌, List, [], ◌∷◌, ◌++◌, length, map, take, drop, position, count_by, fold, slice_index, slice_index_or, Option, Some, None}
+use Rattle.std.specs.Prelude.{◌≡◌, ℕ, ◌+◌, ◌<◌, Bool, true, false, not, ◌&&◌, ◌||◌, nat_eq, nat_le, nat_lt, if◌then◌else◌, List, [], ◌∷◌, ◌++◌, length, map, take, drop, position, count_by, fold, min, slice_index, slice_index_or, Option, Some, None}
 use Rattle.std.specs.List.{list_any}
 use Rattle.mscp_drive.specs.declared.connection.Connection.{Connection}
 use Rattle.mscp_drive.specs.declared.connection.Connection.TheVariants.{First}
@@ -60,10 +60,14 @@ has_one_of credits xs s =
     nat_lt (count_on s.connection xs + 1) credits
     || (nat_eq (count_on s.connection xs + 1) credits && is_immediate s.opcode)
 
--- its host has a credit for it. If the log tells none it has 1024, which is more than any controller gives
+-- how many credits each host has at most: 1024, which is more than any controller gives, unless the log tells fewer
+abbrev pub limit_of : Option ℕ → ℕ
+limit_of None = 1024
+limit_of (Some credits) = min credits 1024
+
+-- its host has a credit for it
 abbrev pub has_credit : Option ℕ → List Sent → Sent → Bool
-has_credit None xs s = has_one_of 1024 xs s
-has_credit (Some credits) xs s = has_one_of credits xs s
+has_credit credits xs s = has_one_of (limit_of credits) xs s
 
 -- ---- the rules of an end
 

@@ -15,17 +15,24 @@ use crate::sent::{Sent, is_immediate};
 use mscp_drive::{Connection, OutOfMemory};
 use std::alloc::Allocator;
 
-/// The credits of a host in a log that tells none: more than any controller gives, and few enough to be looked through.
-const UNTOLD_CREDITS: u64 = 1024;
+/// The most credits of a host: more than any controller gives, and few enough to be looked through.
+const MOST_CREDITS: u32 = 1024;
+
+/// How many credits each host has at most.
+fn limit_of(credits: Option<u32>) -> u32
+    ensures { result ≡ wire.limit_of credits }
+{
+    match credits {
+        Some(credits) => credits.min(MOST_CREDITS),
+        None => MOST_CREDITS,
+    }
+}
 
 /// Whether a host has a credit for a command.
 fn has_credit(credits: Option<u32>, commands: &[Sent], sent: &Sent) -> bool
     ensures { result ≡ wire.has_credit credits commands.now sent.now }
 {
-    let credits = match credits {
-        Some(credits) => u64::from(credits),
-        None => UNTOLD_CREDITS,
-    };
+    let credits = u64::from(limit_of(credits));
     let needed = count_on(commands, sent.connection) as u64 + 1;
     needed < credits || (needed == credits && is_immediate(sent.opcode))
 }

@@ -20,6 +20,8 @@ pub enum Said {
     Credits(u32),
     /// What happened.
     Happens(Moment),
+    /// The controller sends the host of a connection an attention message.
+    Attention(Connection, ArrayVec<u8, 64>),
 }
 
 /// Whether a word is a time.
@@ -53,6 +55,24 @@ fn packet(words: Words<'_>) -> Result<ArrayVec<u8, 64>, Cause>
     Ok(bytes)
 }
 
+/// Whether what the controller sends is an attention message.
+fn is_attention(b: &[u8]) -> bool
+    ensures { result ≡ log.is_attention b.now }
+{
+    b.len() > 8 && b[8] == 0x40
+}
+
+/// What the controller sends: an attention message, or an end.
+fn sends(connection: Connection, message: ArrayVec<u8, 64>) -> Said
+    ensures { result ≡ log.sends connection message }
+{
+    if is_attention(message.as_slice()) {
+        Said::Attention(connection, message)
+    } else {
+        Said::Happens(Moment::End(connection, message))
+    }
+}
+
 /// A message or an end of a connection.
 #[tactic(auto, unfolding(crate::specs::Log::happens_on))]
 fn happens_on(connection: Connection, mut words: Words<'_>) -> Result<Said, Cause>
@@ -62,7 +82,7 @@ fn happens_on(connection: Connection, mut words: Words<'_>) -> Result<Said, Caus
     if word == b"send".as_slice() {
         Ok(Said::Happens(Moment::Message(connection, packet(words)?)))
     } else if word == b"end".as_slice() {
-        Ok(Said::Happens(Moment::End(connection, packet(words)?)))
+        Ok(sends(connection, packet(words)?))
     } else {
         Err(Cause::Word)
     }

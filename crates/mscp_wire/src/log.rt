@@ -119,7 +119,7 @@ impl<A: Allocator + Copy> Reading<A> {
         ensures few { OnOk result (IsFew self.new.totals (number + 1)) }
     {
         match said {
-            Said::Nothing => Ok(None),
+            Said::Nothing | Said::Attention(..) => Ok(None),
             Said::Credits(credits) => self.credits(number, credits),
             Said::Happens(moment) => self.moment(number, moment),
         }

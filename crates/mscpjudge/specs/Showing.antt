@@ -18,6 +18,7 @@ use Rattle.mscp_wire.specs.declared.line.Said.{Said}
 use Rattle.mscp_wire.specs.declared.line.Said.TheVariants as says
 use Rattle.mscp_wire.specs.declared.moment.Moment.{Moment}
 use Rattle.mscp_wire.specs.declared.moment.Moment.TheVariants as moments
+use Rattle.mscp_drive.specs.declared.connection.Connection.{Connection}
 use Rattle.mscpjudge.specs.Wired.{connection_name}
 use Rattle.mscpjudge.specs.declared.fault.Fault.{Fault}
 use Rattle.mscpjudge.specs.declared.fault.Fault.TheVariants as faults
@@ -38,10 +39,14 @@ packet_text (Err faults_of_text.OutOfMemory) = []
 unfoldable pub bytes_text : List ℕ → List ℕ
 bytes_text b = packet_text (shown (encode_lower b))
 
+-- what the controller sent a connection's host
+abbrev pub sent_text : Connection → List ℕ → List ℕ
+sent_text via b = connection_name via ++ codes "controller: " ++ bytes_text b
+
 -- what happened: what a host or the controller sent, or a reset
 abbrev pub moment_text : Moment → List ℕ
 moment_text (moments.Message via b) = connection_name via ++ codes "host: " ++ bytes_text b.items
-moment_text (moments.End via b) = connection_name via ++ codes "controller: " ++ bytes_text b.items
+moment_text (moments.End via b) = sent_text via b.items
 moment_text moments.Reset = codes "reset\n"
 
 -- what the line of this number says
@@ -50,6 +55,7 @@ said_text number says.Nothing = []
 said_text number (says.Credits c) =
     codes "line " ++ decimal number ++ codes ": credits " ++ decimal c ++ codes "\n"
 said_text number (says.Happens m) = codes "line " ++ decimal number ++ codes ": " ++ moment_text m
+said_text number (says.Attention via b) = codes "line " ++ decimal number ++ codes ": " ++ sent_text via b.items
 
 -- the same, or its fault
 unfoldable pub line_shown : ℕ → List ℕ → Result (List ℕ) ScriptFault

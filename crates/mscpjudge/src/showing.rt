@@ -4,11 +4,12 @@ ghost use Rattle.std.specs.Prelude.{◌≡◌, ◌≤◌, ◌++◌, [], false, O
 ghost use Rattle.mscp_reader.specs.Lexical as lexical;
 ghost use Rattle.mscp_reader.specs.Outcome.{Tells};
 ghost use Rattle.mscpjudge.specs.Common.{WritesOnce};
-ghost use Rattle.mscpjudge.specs.Showing.{ShowsLine, TellsShown, bytes_text, line_shown, lines_shown, log_shown, moment_text, said_text};
+ghost use Rattle.mscpjudge.specs.Showing.{ShowsLine, TellsShown, bytes_text, line_shown, lines_shown, log_shown, moment_text, said_text, sent_text};
 
 use crate::fault::Fault;
 use crate::judging::Outcome;
 use crate::wire::connection_name;
+use mscp_controller::Connection;
 use mscp_reader::{Lines, ReadFault, lines_of};
 use mscp_script::{Sink, Source, read_all};
 use mscp_text::{ShowFault, put, put_field, show_packet};
@@ -32,6 +33,20 @@ fn put_packet(alloc: Global, text: &mut Vec<u8>, bytes: &[u8]) -> Result<(), All
     }
 }
 
+/// Appends what the controller sends a connection's host.
+fn put_sent(
+    alloc: Global,
+    text: &mut Vec<u8>,
+    connection: Connection,
+    bytes: &[u8],
+) -> Result<(), AllocError>
+    ensures { OnOk result (text.new.items ≡ text.old.items ++ sent_text connection bytes.now) }
+{
+    put(text, connection_name(connection))?;
+    put(text, "controller: ")?;
+    put_packet(alloc, text, bytes)
+}
+
 /// Appends what happened.
 fn put_moment(alloc: Global, text: &mut Vec<u8>, moment: &Moment) -> Result<(), AllocError>
     ensures { OnOk result (text.new.items ≡ text.old.items ++ moment_text moment.now) }
@@ -43,9 +58,7 @@ fn put_moment(alloc: Global, text: &mut Vec<u8>, moment: &Moment) -> Result<(), 
             put_packet(alloc, text, message.as_slice())
         }
         Moment::End(connection, message) => {
-            put(text, connection_name(*connection))?;
-            put(text, "controller: ")?;
-            put_packet(alloc, text, message.as_slice())
+            put_sent(alloc, text, *connection, message.as_slice())
         }
         Moment::Reset => put(text, "reset\n"),
     }
@@ -66,6 +79,11 @@ fn put_said(alloc: Global, text: &mut Vec<u8>, number: u32, said: &Said) -> Resu
             put_field(text, "line ", number)?;
             put(text, ": ")?;
             put_moment(alloc, text, moment)
+        }
+        Said::Attention(connection, message) => {
+            put_field(text, "line ", number)?;
+            put(text, ": ")?;
+            put_sent(alloc, text, *connection, message.as_slice())
         }
     }
 }
