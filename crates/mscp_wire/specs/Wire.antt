@@ -29,7 +29,7 @@ use Rattle.std.specs.List.{list_any}
 use Rattle.mscp_drive.specs.declared.connection.Connection.{Connection}
 use Rattle.mscp_drive.specs.declared.connection.Connection.TheVariants.{First}
 pub use Rattle.mscp_wire.specs.Messages.{History, answer_by, asks_for_next, four_in, identity_in, is_about_another, is_immediate, is_known, is_named, is_sequential, is_modified, is_sequential_class, is_transfer, is_transfer_class, is_unknown, is_unknown_class, least_length, same_connection, sent_by, status_code}
-pub use Rattle.mscp_wire.specs.Polls.{asked_about, asked_by, asking, asks_oldest, has_figure, has_number, hears, is_below, is_it, is_oldest, is_polled, is_refused, left, may_be, may_tell, polled_by, polls, tells, waits_on}
+pub use Rattle.mscp_wire.specs.Polls.{asked_about, asked_by, asking, asks_oldest, has_figure, has_number, hears, is_below, is_hearing, is_it, is_oldest, is_polled, is_refused, left, may_be, may_tell, polled_by, polls, tells, waits_on}
 pub use Rattle.mscp_wire.specs.Units.{agrees, brings, is_same_unit, is_unit, kept, known, known_after, known_after_end, known_brought, known_of, leaves, tells_unit, was_online, with_new, with_unit, without}
 use Rattle.mscp_wire.specs.declared.answer.Answer.{Answer}
 use Rattle.mscp_wire.specs.declared.identity.Identity.{Identity}

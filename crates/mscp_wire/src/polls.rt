@@ -1,6 +1,7 @@
 // What polls ask of commands that are outstanding, and what those hear of them.
 
 ghost use Rattle.std.specs.Prelude.{◌≡◌, ◌+◌, ◌<◌, map, find, option_copied};
+ghost use Rattle.std.specs.List.{list_any};
 ghost use Rattle.mscp_wire.specs.Wire as wire;
 
 use crate::answer::{Answer, STATUS, is_it};
@@ -195,10 +196,30 @@ fn heard(ended: &Sent, answer: &Answer, other: &Sent) -> Sent
     }
 }
 
+/// Whether another command hears the end of one.
+fn is_hearing(ended: &Sent, answer: &Answer, other: &Sent) -> bool
+    ensures { result ≡ wire.is_hearing ended.now answer.now other.now }
+{
+    tells(ended, answer, other) || polls(ended, other)
+}
+
+/// Whether one of the other commands does.
+fn is_heard(commands: &[Sent], ended: &Sent, answer: &Answer) -> bool
+    ensures { result ≡ list_any (wire.is_hearing ended.now answer.now) commands.now }
+{
+    commands
+        .iter()
+        .any(|other| is_hearing(ended, answer, other))
+}
+
 /// The other commands hear the end of one.
 pub fn hear_end<A: Allocator>(commands: &mut Vec<Sent, A>, ended: &Sent, answer: &Answer)
     ensures { commands.new.items ≡ map (wire.hears ended.now answer.now) commands.old.items }
 {
+    // Mostly there is none, and looking is much quicker than writing.
+    if !is_heard(commands.as_slice(), ended, answer) {
+        return;
+    }
     for at in 0..commands.len() {
         commands[at] = heard(ended, answer, &commands[at]);
     }
