@@ -11,7 +11,8 @@ pub record IsBelow (ds : List Drive) (cs : List Command) (n place : ℕ) : Type 
   pub below : drive < n
   pub clear : IsClearOn cs (drive_in ds drive).unit.number place
 
-pub none_below : {ds : List Drive} {cs : List Command} {c : ℕ → ℕ} (s : Start) → s.place ≡ 64 → IsBest (IsBelow ds cs 0) c s
+pub none_below : {ds : List Drive} {cs : List Command} {c : ℕ → ℕ} (s : Start) → s.place ≡ 64 → IsBest
+    (IsBelow ds cs 0) c s
 none_below {ds} {cs} {c} s e = best_none s e (λ p h. let l = h.below in omega (arith, l))
 
 module _ {ds : List Drive} {rs : List Record} {own : List Target} (shown : CanBeShown ds rs own)

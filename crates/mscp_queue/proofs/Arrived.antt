@@ -25,7 +25,8 @@ module _ (cs : List Command) (n : ℕ) (long : length cs ≡ n + 1) where
 
   front_clear : (p : ℕ) → p < n → is_clear (take n cs) p ≡ is_clear cs p
   front_clear p l =
-      λ i. list_all (λ one. not (bars one (front_at p l i))) (take_take no_record.command p n cs (omega (arith, l)) (omega (arith, long)) i)
+      λ i. list_all (λ one. not (bars one (front_at p l i))) (take_take no_record.command p n cs (omega (arith, l))
+      (omega (arith, long)) i)
 
   to_all : (number p : ℕ) → IsClearOn (take n cs) number p → IsClearOn cs number p
   to_all number p h =
@@ -132,14 +133,16 @@ module _ {ds : List Drive} {rs : List Record} {own : List Target} (shown : CanBe
       by : (k : ℕ) → k < length ds → bit_at g.known k ≡ 1 → (k ≡ at) ⊎ (k ≢ at)
           → IsBest (IsClearOn cs (drive_in ds k).unit.number) (cost_at (drive_in ds k) cs) (start_in g k)
       by k l on (inl e) =
-          subst (λ k. IsBest (IsClearOn cs (drive_in ds k).unit.number) (cost_at (drive_in ds k) cs) (start_in g k)) (sym e)
+          subst (λ k. IsBest (IsClearOn cs (drive_in ds k).unit.number) (cost_at (drive_in ds k) cs) (start_in g k))
+          (sym e)
           (subst (IsBest (IsClearOn cs (drive_in ds at).unit.number) (cost_at (drive_in ds at) cs)) (sym learned.own)
           (best_last cs n many (drive_in ds at).unit.number (drive_in ds at) (start_in f at) t own_clear
           (let few = shown.few in omega (arith, few, long)) place costs
           (h.each at (subst (λ i. i < length ds) e l)
           (ap (λ m. bit_at m at) (sym same) ∙ (ap (bit_at g.known) (sym e) ∙ on)))))
       by k l on (inr d) =
-          subst (IsBest (IsClearOn cs (drive_in ds k).unit.number) (cost_at (drive_in ds k) cs)) (sym (learned.other k d))
+          subst (IsBest (IsClearOn cs (drive_in ds k).unit.number) (cost_at (drive_in ds k) cs)) (sym
+          (learned.other k d))
           (best_still cs n many (drive_in ds k).unit.number (drive_in ds k) (start_in f k)
           (λ x. d (sym (only k l (ap (λ (c : Command). c.unit) (sym c) ∙ x.unit)) ∙ sym is))
           (h.each k l (ap (λ m. bit_at m k) (sym same) ∙ on)))

@@ -144,9 +144,11 @@ pub favored_more : {ds : List Drive} {cs : List Command} {f g : Favorites} (at :
     → IsSet true at f.known g.known → IsLearned at s f g → AreFavored ds cs g
 favored_more {ds} {cs} {f} {g} at s h few best set learned = record {
   each = λ k l on. ⊎_elim
-      (λ e. subst (λ k. IsBest (IsClearOn cs (drive_in ds k).unit.number) (cost_at (drive_in ds k) cs) (start_in g k)) (sym e)
+      (λ e. subst (λ k. IsBest (IsClearOn cs (drive_in ds k).unit.number) (cost_at (drive_in ds k) cs)
+      (start_in g k)) (sym e)
       (subst (IsBest (IsClearOn cs (drive_in ds at).unit.number) (cost_at (drive_in ds at) cs)) (sym learned.own) best))
-      (λ d. subst (IsBest (IsClearOn cs (drive_in ds k).unit.number) (cost_at (drive_in ds k) cs)) (sym (learned.other k d))
+      (λ d. subst (IsBest (IsClearOn cs (drive_in ds k).unit.number) (cost_at (drive_in ds k) cs)) (sym
+      (learned.other k d))
       (h.each k l (sym (set k (omega (arith, l, few)) ∙ ap (λ b. cond b 1 (bit_at f.known k)) (ne_eqb k at d)) ∙ on)))
       (same_or k at);
 }

@@ -74,7 +74,8 @@ module _ (cs : List Command) (gone : ℕ) (l : gone < length cs) (few : length c
   left_at q = by (lt_or q gone)
     where
       by : (q < gone) ⊎ (gone ≤ q) → command_at left q ≡ command_at cs (up gone q)
-      by (inl b) = get_or_append_left (take gone cs) (drop (gone + 1) cs) no_record.command q (omega (arith, b, front_long))
+      by (inl b) = get_or_append_left (take gone cs) (drop (gone + 1) cs) no_record.command q (omega
+          (arith, b, front_long))
           ∙ (get_or-take gone cs q no_record.command b ∙ ap (command_at cs) (sym (up_below gone q b)))
       by (inr b) = get_or-append_right (take gone cs) (drop (gone + 1) cs) gone q no_record.command front_long b
           ∙ (get_or-drop (gone + 1) cs (q - gone) no_record.command
@@ -96,7 +97,8 @@ module _ (cs : List Command) (gone : ℕ) (l : gone < length cs) (few : length c
     not_gone p h e = other (ap (λ k. (command_at cs k).unit) (sym e) ∙ h.unit)
 
     free_of : (q : ℕ) → (command_at cs q).unit ≡ number → not (bars (command_at cs gone) (command_at cs q)) ≡ true
-    free_of q e = ap (λ b. not (b && (is_sequential (command_at cs gone).order || is_sequential (command_at cs q).order)))
+    free_of q e = ap (λ b. not (b && (is_sequential (command_at cs gone).order || is_sequential
+        (command_at cs q).order)))
         (ne_eqb (command_at cs gone).unit (command_at cs q).unit (λ f. other (f ∙ e)))
 
     from_left : (q : ℕ) → IsClearOn left number q → IsClearOn cs number (up gone q)
@@ -104,7 +106,12 @@ module _ (cs : List Command) (gone : ℕ) (l : gone < length cs) (few : length c
       inside = up_inside q h.inside;
       unit = ap (λ (c : Command). c.unit) (sym (left_at q)) ∙ h.unit;
       clear = at_all (λ one. not (bars one (command_at cs (up gone q)))) (take (up gone q) cs) no_record.command
-          (λ y b. by y (omega (arith, b, length-take-le (up gone q) cs (let k = up_inside q h.inside in omega (arith, k))))
+          (λ y b. by y (omega (
+            arith,
+            b,
+            length-take-le (up gone q) cs (let k = up_inside q h.inside in omega
+                (arith, k)),
+          ))
           (same_or y gone));
     }
       where
@@ -194,7 +201,8 @@ module _ (cs : List Command) (gone : ℕ) (l : gone < length cs) (few : length c
                 omega (arith, closed_above gone s.place b (h.each s.place x).0, i, long, b))
             by (inr b) = omega (arith, closed_below gone s.place b, not_gone s.place x, b, long, l)
 
-        ahead : (q : ℕ) → (s.place < 64) × IsAhead s (cost_at d cs (up gone q)) (up gone q) → IsAhead t (cost_at d left q) q
+        ahead : (q : ℕ) → (s.place < 64) × IsAhead s (cost_at d cs (up gone q)) (up gone q) → IsAhead t
+            (cost_at d left q) q
         ahead q a = ⊎_elim
             (λ e. inl (let f = costs q refl in omega (arith, e, cost, f)))
             (λ e. ⊎_elim (λ z. absurd (let b = a.0 in omega (arith, z, b)))
@@ -244,7 +252,8 @@ module _ {ds : List Drive} {cs : List Command} (units : IsUnitList (units_of ds)
           → get_or g.places k 0 ≡ cond ends (place_closed gone (get_or f.places k 0)) (get_or f.places k 0)
           → IsBest (IsClearOn (cond ends (take gone cs ++ drop (gone + 1) cs) cs) (drive_in ds k).unit.number)
           (cost_at (drive_in ds k) (cond ends (take gone cs ++ drop (gone + 1) cs) cs)) (start_in g k)
-      by true k b d best place = best_gone cs gone l few (drive_in ds k).unit.number (other_unit ds cs gone at k units placed b d) (drive_in ds k)
+      by true k b d best place = best_gone cs gone l few (drive_in ds k).unit.number (other_unit ds cs gone at k
+          units placed b d) (drive_in ds k)
           (start_in f k) (start_in g k) best (ap (λ cs. get_or cs k 0) costs) place
       by false k b d best place = subst
           (IsBest (IsClearOn cs (drive_in ds k).unit.number) (cost_at (drive_in ds k) cs))

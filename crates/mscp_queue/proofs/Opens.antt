@@ -117,7 +117,8 @@ module _ (kinds : ℕ → Kind) (order : List ℕ) (m : Masks) (masks : AreMasks
 
       is : IsMaskOf (slice_index_or m.earlier (number p) 0) (λ k. has k (take p order))
       is = earlier_at (λ k. slice_index_or m.earlier k 0) [] (take p order) (number p) _
-          (subst (AreEarlier (λ k. slice_index_or m.earlier k 0) []) (cut_order order p (number p) here) masks.of_earlier)
+          (subst (AreEarlier (λ k. slice_index_or m.earlier k 0) []) (cut_order order p
+          (number p) here) masks.of_earlier)
 
       lt_or : (a b : ℕ) → (a < b) ⊎ (b ≤ a)
       lt_or a b = grind arith

@@ -45,7 +45,8 @@ ranged_set {ranges} {masks} slot range v w h long many low few off on = record {
         ∙ (off k b ∙ ap (λ i. cond (nat_eq k slot) 0 (bit_at (get_or masks i 0) k)) (sym e))
     gone r k a b (inr d) = ap (λ n. bit_at n k) (get_or-set_other masks old r v 0 d) ∙ none (same_or k slot)
       where
-        none : (k ≡ slot) ⊎ (k ≢ slot) → bit_at (get_or masks r 0) k ≡ cond (nat_eq k slot) 0 (bit_at (get_or masks r 0) k)
+        none : (k ≡ slot) ⊎ (k ≢ slot) → bit_at (get_or masks r 0) k ≡ cond (nat_eq k slot) 0 (bit_at
+            (get_or masks r 0) k)
         none (inl e) = h.each r k a b ∙ (ap bit (ne_eqb (range_at ranges k) r
             (λ f. d (sym f ∙ ap (range_at ranges) e)))
             ∙ ap (λ b. cond b 0 (bit_at (get_or masks r 0) k)) (sym (eq-eqb k slot e)))
@@ -309,7 +310,8 @@ ranged_none ranges masks none first rest = record {
         ∙ (bit_at-zero k ∙ ap bit (sym (ne_eqb (range_at ranges k) r (λ e. d (sym e ∙ none k)))))
 
 -- a slot has another target, and its range
-pub ranges_pushed : (own : List Target) (ranges new : List ℕ) (n : ℕ) (a : Target) → length own ≡ 64 → length ranges ≡ 64
+pub ranges_pushed : (own : List Target) (ranges new : List ℕ) (n : ℕ) (a : Target) → length own ≡ 64
+    → length ranges ≡ 64
     → n < 64 → AreRanges own ranges → new ≡ set ranges n a.range → AreRanges (set own n a) new
 ranges_pushed own ranges new n a long many low h e k l = by (same_or k n)
   where

@@ -67,8 +67,8 @@ abbrev pub AreOnDrive : ℕ → Drive → List Target → Type 0
 AreOnDrive at d own =
     All (λ a. a.drive ≡ at → (a.cylinder ≤ last_cylinder d.unit) × (a.range ≡ range_of d.unit a.cylinder)) own
 
--- the slots found are of those in front, and where there is another, all in front are transfers, and the drive's head comes
--- to it later than to one of them
+-- the slots found are of those in front; and where there is another, all in front are transfers, and the head comes to
+-- it later than to one of them
 pub record IsNearOf (sequential : ℕ) (d : Drive) (ranges : List ℕ) (front found : ℕ) : Type 0 where
   pub to : (k : ℕ) → IsIn found k → IsIn front k
   pub from : (k : ℕ) → IsIn front k → IsIn found k ⊎ ((bit_and front sequential ≡ 0)
@@ -136,7 +136,7 @@ pub record IsPrepared (room longest : ℕ) (w : Waiters) (ds : List Drive) (begu
   pub favored : AreFavored ds (commands w.waiting) f
 
 -- ---- what is picked
--- the command at a place, past no drive's: what its start costs on the drive of its unit (profile)
+-- what the start of the command at a place costs on the drive of its unit (profile)
 abbrev pub cost_of : List Drive → List Command → ℕ → ℕ
 cost_of ds cs place = cost_at (drive_of ds (command_at cs place).unit) cs place
 

@@ -12,7 +12,8 @@ returns c =
         (
           y.0,
           y.1,
-          subst (λ r. IsSooner c.args.drive.now.head.up r (range_at c.args.ranges.now y.0) (range_at c.args.ranges.now k))
+          subst (λ r. IsSooner c.args.drive.now.head.up r (range_at c.args.ranges.now y.0)
+              (range_at c.args.ranges.now k))
               range y.2,
         ),
       )) (h.from k x);

@@ -27,7 +27,8 @@ returns-then-is_free c =
     (subst (λ k. AreFavored c.args.drives.now (take (k - 1) (commands rs)) c.args.favorites.now)
     (sym c.len-place.ensures.waiting) c.requires.favored) clear
     (has_drive c.args.drives.now rs c.args.backlog.now.targets n (record_at rs n) c.from.result no_target
-    c.requires.waiting (omega (arith, long)) (sym (get_or_default rs n (record_at rs n) no_record (omega (arith, long))))
+    c.requires.waiting (omega (arith, long)) (sym (get_or_default rs n (record_at rs n) no_record (omega
+    (arith, long))))
     (c.from.ensures ∙ ap (λ (a : Target). a.drive) c.target.ensures)).place
     refl
     (c.cost_of.ensures ∙ (λ i. order_cost (c.targeted_at-cylinder.ensures.drive i).unit

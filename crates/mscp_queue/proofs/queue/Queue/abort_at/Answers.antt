@@ -41,7 +41,8 @@ invariant_of-self g c =
       listed = names_left place c.self.invariant.listed c.remove.ensures e.waiting;
       favored = favored_served ready.held.units place c.from-at.result (omega (arith, inside, many))
           (omega (arith, many, fits, few))
-          (found.placed ∙ ap (λ (c : Command). drive_place q.drives.items c.unit) (sym (command_is rs place inside))) true
+          (found.placed ∙ ap (λ (c : Command). drive_place q.drives.items c.unit) (sym
+          (command_is rs place inside))) true
           c.self.invariant.favored (omega (arith, most, length-map q.drives.items (λ (d : Drive). d.unit))) refl
           (λ k d. refl) (ap commands e.waiting ∙ sym (map_cut (λ (r : Record). r.command) rs place))
           c.serve.ensures.known c.serve.ensures.costs c.serve.ensures.places;

@@ -68,7 +68,8 @@ favor_last-requires-clause-favored g c =
     ∙ take_at (commands rs) (r.command ∷ []) (length c.push-2.new.self.waiting - 1) many) in
     subst (λ ds. AreFavored ds (take (length c.push-2.new.self.waiting - 1) (commands c.push-2.new.self.waiting))
     c.self.inside.favorites) (sym c.as_slice-2.ensures.value)
-    (subst (λ cs. AreFavored c.self.inside.drives.items cs c.self.inside.favorites) (sym front) c.self.invariant.favored)
+    (subst (λ cs. AreFavored c.self.inside.drives.items cs c.self.inside.favorites)
+    (sym front) c.self.invariant.favored)
 
 pub invariant_of-self : goal.invariant_of-self
 invariant_of-self g c =
@@ -81,14 +82,16 @@ invariant_of-self g c =
       ready = ready_pushed c.args.new.connection command c.of-target.result c.self.invariant.ready
           (subst (λ (l : Line K). length l.waiting < l.room) seen c.requires.room)
           (subst (λ (l : Line K). IsWaitable l.longest (units_of l.drives) command) seen c.requires.waitable)
-          (subst (λ (l : Line K). list_any (has_name (name_on c.args.new.connection c.args.new.reference)) l.waiting ≡ false)
+          (subst (λ (l : Line K). list_any (has_name (name_on c.args.new.connection c.args.new.reference)) l.waiting
+          ≡ false)
           seen c.requires.apart)
           (c.of-target.ensures ∙ ap (λ ds. target_of (units_of ds) command) c.as_slice.ensures.value) (λ i. record {
             budget = e.budget i;
             waiting = (e.waiting ∙ ap (λ (r : Record). c.self.inside.backlog.waiting ++ r ∷ []) c.new-record.ensures) i;
             targets = e.targets i;
           });
-      listed = names_with c.new-record.result c.name.result c.self.invariant.listed c.name.ensures c.push.ensures e.waiting;
+      listed = names_with c.new-record.result c.name.result c.self.invariant.listed c.name.ensures c.push.ensures
+          e.waiting;
       favored = subst (λ ds. AreFavored ds (commands c.push-2.new.self.waiting) c.favor_last.new.favorites)
           c.as_slice-2.ensures.value c.favor_last.ensures;
     }

@@ -28,14 +28,16 @@ cost-least-requires-clause-target c = λ e.
     let s = c.self.inside in
     let first = c.in-Some.ensures.some in
     within s.dues c.args.self.now c.self.invariant.kept c.self.view_is c.args.drive.now c.in-Some.first c.requires.to
-    (found s.dues c.args.self.now c.self.invariant.kept c.self.view_is c.in-Some.first c.front.ensures first.0 (c.near_of-near.ensures.to c.in-Some.first first).1)
+    (found s.dues c.args.self.now c.self.invariant.kept c.self.view_is c.in-Some.first c.front.ensures first.0
+    (c.near_of-near.ensures.to c.in-Some.first first).1)
 
 pub loop-slot-init : goal.loop-slot-init
 loop-slot-init c =
     let s = c.self.inside in
     let now = c.args.self.now in
     let first = c.in-Some.ensures.some in
-    let f = found s.dues now c.self.invariant.kept c.self.view_is c.in-Some.first c.front.ensures first.0 (c.near_of-near.ensures.to c.in-Some.first first).1 in
+    let f = found s.dues now c.self.invariant.kept c.self.view_is c.in-Some.first c.front.ensures first.0
+    (c.near_of-near.ensures.to c.in-Some.first first).1 in
     seeks_first c.with_bit-left.result c.in-Some.first c.cost-least.result
     f.place f.inside f.number first.0 first.1 c.with_bit-left.ensures.set
     (cost_found s.dues now c.self.invariant.kept c.self.view_is c.args.drive.now c.in-Some.first c.cost-least.result
@@ -46,7 +48,8 @@ pub cost-cost-requires-clause-target : goal.cost-cost-requires-clause-target
 cost-cost-requires-clause-target c = λ e.
     let s = c.self.inside in
     let slot = c.in-Some-lowest_set.ensures.some in
-    within s.dues c.args.self.now c.self.invariant.kept c.self.view_is c.args.drive.now c.in-Some-lowest_set.slot c.requires.to
+    within s.dues c.args.self.now c.self.invariant.kept c.self.view_is c.args.drive.now c.in-Some-lowest_set.slot
+    c.requires.to
     (found s.dues c.args.self.now c.self.invariant.kept c.self.view_is c.in-Some-lowest_set.slot c.front.ensures slot.0
     (c.near_of-near.ensures.to c.in-Some-lowest_set.slot (
       slot.0,
@@ -58,7 +61,8 @@ pub starts_before-requires-clause-other : goal.starts_before-requires-clause-oth
 starts_before-requires-clause-other c =
     let s = c.self.inside in
     let h = c.loop-slot.invariant in
-    subst (λ n. n < 64) (sym h.number) (lows s.dues c.args.self.now c.self.invariant.kept c.self.view_is h.place h.inside)
+    subst (λ n. n < 64) (sym h.number) (lows s.dues c.args.self.now c.self.invariant.kept c.self.view_is h.place
+    h.inside)
 
 pub loop-slot-smaller-then-starts_before : goal.loop-slot-smaller-then-starts_before
 loop-slot-smaller-then-starts_before c = less_left c.loop-slot.left _ c.in-Some-lowest_set.slot
@@ -77,13 +81,18 @@ loop-slot-preserved-then-starts_before c =
     let h = c.loop-slot.invariant in
     let slot = c.in-Some-lowest_set.ensures.some in
     let f = found s.dues now c.self.invariant.kept c.self.view_is c.in-Some-lowest_set.slot c.front.ensures slot.0
-    (c.near_of-near.ensures.to c.in-Some-lowest_set.slot (slot.0, h.of_left c.in-Some-lowest_set.slot slot.0 slot.1)).1 in
+    (c.near_of-near.ensures.to c.in-Some-lowest_set.slot (
+      slot.0,
+      h.of_left c.in-Some-lowest_set.slot slot.0
+          slot.1,
+    )).1 in
     let bits = ap (λ n. bit_at (get_or s.masks.earlier n 0) c.in-Some-lowest_set.slot) h.number
     ∙ (ap (bit_at (get_or s.masks.earlier (get_or s.order.items h.place 0) 0)) f.number
     ∙ early s.dues now c.self.invariant.kept c.self.view_is h.place f.place h.inside f.inside) in
     seeks_better c.in-Some-lowest_set.slot c.with_bit-left-in-Some-lowest_set.result c.cost-cost.result f.place h
     f.inside f.number slot.0 slot.1 c.with_bit-left-in-Some-lowest_set.ensures.set
-    (cost_found s.dues now c.self.invariant.kept c.self.view_is c.args.drive.now c.in-Some-lowest_set.slot c.cost-cost.result
+    (cost_found s.dues now c.self.invariant.kept c.self.view_is c.args.drive.now c.in-Some-lowest_set.slot
+    c.cost-cost.result
     c.has_bit-in-Some-lowest_set.result f slot.0 c.has_bit-in-Some-lowest_set.ensures c.cost-cost.ensures)
     (lows s.dues now c.self.invariant.kept c.self.view_is) (ones s.dues now c.self.invariant.kept c.self.view_is)
     (is_better c.cost-cost.result c.loop-slot.least _ h.place f.place bits
@@ -96,13 +105,18 @@ loop-slot-preserved c =
     let h = c.loop-slot.invariant in
     let slot = c.in-Some-lowest_set.ensures.some in
     let f = found s.dues now c.self.invariant.kept c.self.view_is c.in-Some-lowest_set.slot c.front.ensures slot.0
-    (c.near_of-near.ensures.to c.in-Some-lowest_set.slot (slot.0, h.of_left c.in-Some-lowest_set.slot slot.0 slot.1)).1 in
+    (c.near_of-near.ensures.to c.in-Some-lowest_set.slot (
+      slot.0,
+      h.of_left c.in-Some-lowest_set.slot slot.0
+          slot.1,
+    )).1 in
     let bits = ap (λ n. bit_at (get_or s.masks.earlier n 0) c.in-Some-lowest_set.slot) h.number
     ∙ (ap (bit_at (get_or s.masks.earlier (get_or s.order.items h.place 0) 0)) f.number
     ∙ early s.dues now c.self.invariant.kept c.self.view_is h.place f.place h.inside f.inside) in
     seeks_on c.in-Some-lowest_set.slot c.with_bit-left-in-Some-lowest_set.result c.cost-cost.result f.place h
     f.inside f.number slot.0 slot.1 c.with_bit-left-in-Some-lowest_set.ensures.set
-    (cost_found s.dues now c.self.invariant.kept c.self.view_is c.args.drive.now c.in-Some-lowest_set.slot c.cost-cost.result
+    (cost_found s.dues now c.self.invariant.kept c.self.view_is c.args.drive.now c.in-Some-lowest_set.slot
+    c.cost-cost.result
     c.has_bit-in-Some-lowest_set.result f slot.0 c.has_bit-in-Some-lowest_set.ensures c.cost-cost.ensures)
     (lows s.dues now c.self.invariant.kept c.self.view_is) (ones s.dues now c.self.invariant.kept c.self.view_is)
     (is_worse c.cost-cost.result c.loop-slot.least _ h.place f.place bits
@@ -112,7 +126,8 @@ pub place-requires : goal.place-requires
 place-requires c =
     let s = c.self.inside in
     let h = c.loop-slot.invariant in
-    subst (λ n. n < 64) (sym h.number) (lows s.dues c.args.self.now c.self.invariant.kept c.self.view_is h.place h.inside)
+    subst (λ n. n < 64) (sym h.number) (lows s.dues c.args.self.now c.self.invariant.kept c.self.view_is h.place
+    h.inside)
 
 pub returns : goal.returns
 returns c =

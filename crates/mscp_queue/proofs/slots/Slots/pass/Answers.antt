@@ -18,7 +18,8 @@ pub invariant_of-self : goal.invariant_of-self
 invariant_of-self c = record {
   ranges_64 = c.self.invariant.ranges_64;
   ranged = c.self.invariant.ranged;
-  kept = kept_passed c.args.charge c.index-self-slot.result c.self.invariant.kept (number_of c.self.inside.dues c.args.self.now
+  kept = kept_passed c.args.charge c.index-self-slot.result c.self.invariant.kept (number_of c.self.inside.dues
+      c.args.self.now
       c.self.invariant.kept c.self.view_is c.requires.place c.from-slot.ensures c.deref.ensures.0).low c.pass.ensures;
 }
 

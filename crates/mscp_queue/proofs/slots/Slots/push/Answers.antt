@@ -11,7 +11,8 @@ lowest_free-slot-requires c =
 
 pub invariant_of-self : goal.invariant_of-self
 invariant_of-self c = record {
-  ranges_64 = ap length c.set.ensures ∙ (length-set c.self.inside.ranges c.lowest_free-slot.result c.args.new.target.range
+  ranges_64 = ap length c.set.ensures ∙ (length-set c.self.inside.ranges c.lowest_free-slot.result
+      c.args.new.target.range
       ∙ c.self.invariant.ranges_64);
   ranged = ranges_pushed c.self.inside.targets c.self.inside.ranges c.set.new.self c.lowest_free-slot.result
       c.args.new.target c.self.invariant.kept.targets_64 c.self.invariant.ranges_64 c.lowest_free-slot.ensures.low
