@@ -2,6 +2,7 @@
  * of instructions, and how deep the stack went. Of qemu are the addresses of the serial line, and how a run ends. */
 #include "board.h"
 #include "string.h"
+#include <stdbool.h>
 
 #define REGISTER(address) (*(volatile uint32_t *)(address))
 #define SERIAL_DATA REGISTER(0x40004000)
@@ -19,30 +20,55 @@ extern uint8_t data_begin[], data_end[], data_in_flash[], zeros_begin[], zeros_e
 
 /* ---- what mscp.c, port.c and the compiler want of a C library */
 
+/* A word of memory, of whatever type: these move words, where the processor may. */
+#ifdef ALIGNED_ALONE
+typedef uint32_t __attribute__((may_alias)) word;
+#define IN_WORDS(bits) (((bits) & 3) == 0)
+#else
+typedef uint32_t __attribute__((may_alias, aligned(1))) word;
+#define IN_WORDS(bits) true
+#endif
+
 void *memcpy(void *to, const void *from, size_t count)
 {
     uint8_t *put = to;
-    const uint8_t *get = from;
-    while (count-- > 0)
+    const uint8_t *get = from, *const end = get + count;
+    if (IN_WORDS((uintptr_t)put | (uintptr_t)get)) {
+        for (; end - get >= 16; put += 16, get += 16) {
+            const word *const in = (const word *)get, one = in[0], two = in[1], three = in[2], four = in[3];
+            word *const out = (word *)put;
+            out[0] = one, out[1] = two, out[2] = three, out[3] = four;
+        }
+        for (; end - get >= 4; put += 4, get += 4)
+            *(word *)put = *(const word *)get;
+    }
+    while (get != end)
         *put++ = *get++;
     return to;
 }
 
 void *memmove(void *to, const void *from, size_t count)
 {
-    uint8_t *put = to;
-    const uint8_t *get = from;
-    if (put <= get)
+    uint8_t *put = (uint8_t *)to + count;
+    const uint8_t *get = (const uint8_t *)from + count;
+    if ((uintptr_t)to <= (uintptr_t)from)
         return memcpy(to, from, count);
-    while (count-- > 0)
-        put[count] = get[count];
+    while (get != from)
+        *--put = *--get;
     return to;
 }
 
 void *memset(void *to, int byte, size_t count)
 {
-    uint8_t *put = to;
-    while (count-- > 0)
+    const word all = (uint8_t)byte * 0x01010101u;
+    uint8_t *put = to, *const end = put + count;
+    if (IN_WORDS((uintptr_t)put)) {
+        for (; end - put >= 16; put += 16)
+            ((word *)put)[0] = all, ((word *)put)[1] = all, ((word *)put)[2] = all, ((word *)put)[3] = all;
+        for (; end - put >= 4; put += 4)
+            *(word *)put = all;
+    }
+    while (put != end)
         *put++ = (uint8_t)byte;
     return to;
 }

@@ -28,15 +28,15 @@ pub use Rattle.mscp_packet.specs.declared.command.Command.{Command}
 pub use Rattle.mscp_packet.specs.declared.command.Order.{Order}
 pub use Rattle.mscp_packet.specs.declared.end.BodyKind.{BodyKind}
 pub use Rattle.mscp_packet.specs.declared.end.End.{End}
-pub use Rattle.mscp_queue.specs.Counts.{IsCounted, has_byte, is_named, low_byte}
-pub use Rattle.mscp_queue.specs.Favorites.{AreFavored, AreListed, AreOnDrive, IsAhead, IsBest, IsClear, IsClearOn, IsFirstOf, IsLearned, IsNearOf, IsOpenOn, bars, cheaper, command_at, comes_before, commands, cost_at, cost_of, cost_on, cost_there, drive_in, is_clear, is_none, kind_there, place_closed, start_in}
+pub use Rattle.mscp_queue.specs.Buckets.{AreBuckets, IsPut, bucket_at, bucket_of}
+pub use Rattle.mscp_queue.specs.Favorites.{AreFavored, AreOnDrive, IsAhead, IsBest, IsClear, IsClearOn, IsFirstOf, IsLearned, IsNearOf, IsOpenOn, bars, cheaper, command_at, comes_before, commands, cost_at, cost_of, cost_on, cost_there, drive_in, is_clear, is_none, kind_there, place_closed, start_in}
 pub use Rattle.mscp_queue.specs.Drives.{IsOnUnit, drive_of, fresh_drive, has_number, replaced}
 pub use Rattle.mscp_queue.specs.Dues.{AreDue, AreTimed, figure_in, started}
 pub use Rattle.mscp_queue.specs.Figures.{figure_at, figures_from, looked_at}
 pub use Rattle.mscp_queue.specs.Kept.{AreApart, ArePassedInOrder, CanBeShown, HasBlocks, IsHeld, IsInside, IsKept, IsOfUnit, IsReady, IsShut, IsStillServable, IsWaitable, begun_name, is_known, names, place_served, place_without, units_of}
 pub use Rattle.mscp_queue.specs.Lanes.{HasLanes, IsCost, IsFirst, IsLane, IsLeast, IsLow, lowered}
 pub use Rattle.mscp_queue.specs.Lines.{Line, aborting, served}
-pub use Rattle.mscp_queue.specs.Masks.{AreEarlier, AreMasks, AreSlots, HasCome, HasLeft, IsBehind, IsFence, IsFront, IsInFront, IsLowestFree, IsMaskOf, IsNarrowed, IsSet, Kind, bit, fences, has, keeps_back}
+pub use Rattle.mscp_queue.specs.Masks.{AreClasses, AreEarlier, AreMasks, AreSlots, HasCome, HasLeft, IsBehind, IsFence, IsFront, IsInFront, IsLowestFree, IsMaskOf, IsNarrowed, IsSet, Kind, bit, fences, has, keeps_back}
 pub use Rattle.mscp_queue.specs.Names.{name_on, same_connection, same_name}
 pub use Rattle.mscp_queue.specs.Orders.{endcode, first_block, is_move, is_sequential, order_cost, order_weight}
 pub use Rattle.mscp_queue.specs.Outcomes.{IsCoded, aborted_end, moved_body, outcome_at, outcome_body, touches}

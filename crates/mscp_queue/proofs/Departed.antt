@@ -1,5 +1,5 @@
 -- The masks stay those of the slots where a command leaves: at an end or an abort.
-use Rattle.mscp_queue.proofs.Common.{◌≡◌, ◌≢◌, ◌<◌, ◌⊎◌, inl, inr, ℕ, Bool, true, false, ◌&&◌, ◌||◌, nat_eq, List, [], ◌∷◌, ◌++◌, sym, subst, ap, ◌∙◌, refl, arith, eqb-true, slice_index_or, append-nil, Masks, AreEarlier, AreMasks, AreSlots, HasLeft, IsMaskOf, IsSet, Kind, bit, has}
+use Rattle.mscp_queue.proofs.Common.{◌≡◌, ◌≢◌, ◌<◌, ◌⊎◌, inl, inr, ℕ, Bool, true, false, ◌&&◌, ◌||◌, nat_eq, List, [], ◌∷◌, ◌++◌, sym, subst, ap, ◌∙◌, refl, arith, eqb-true, slice_index_or, append-nil, Masks, AreClasses, AreEarlier, AreMasks, AreSlots, HasLeft, IsMaskOf, IsSet, Kind, bit, has}
 use Rattle.mscp_queue.proofs.Masked.{eq_false, eq_true, has_gone, has_kept, if_not, not_behind, not_here, off, same_or, set_mask, unit_set, without, without_append}
 
 slots_left : (order : List ℕ) (n : ℕ) → AreSlots order → AreSlots (without n order)
@@ -56,6 +56,26 @@ earlier_kept : (kinds : ℕ → Kind) (order : List ℕ) (m m' : Masks) (n drive
 earlier_kept kinds order m m' n drive masks l waits = earlier_left _ _ n [] order (λ s there d. l.earlier s
     (waits s (slot_low order s masks.apart there) ∙ ap bit (has_kept s n order d ∙ there))) masks.of_earlier
 
+-- the mask of a class has one slot less
+pub classes_without : (f : ℕ → ℕ) (order old new : List ℕ) (n : ℕ) → AreClasses f order old → n < 64
+    → IsSet false n (slice_index_or old (f n) 0) (slice_index_or new (f n) 0)
+    → ((u : ℕ) → u ≢ f n → slice_index_or new u 0 ≡ slice_index_or old u 0) → AreClasses f (without n order) new
+classes_without f order old new n h low own others u =
+    set_mask (slice_index_or old u 0) (slice_index_or new u 0) n false _ _ (cleared_at (same_or (f n) u)) (h u)
+    (ap (λ b. b && nat_eq (f n) u) (has_gone n order))
+    (λ k d. ap (λ b. b && nat_eq (f k) u) (has_kept k n order d))
+  where
+    both_false : (b : Bool) → (b && false) ≡ false
+    both_false true = refl
+    both_false false = refl
+
+    cleared_at : (f n ≡ u) ⊎ (f n ≢ u) → IsSet false n (slice_index_or old u 0) (slice_index_or new u 0)
+    cleared_at (inl e) = subst (λ v. IsSet false n (slice_index_or old v 0) (slice_index_or new v 0)) e own
+    cleared_at (inr d) =
+        unit_set _ _ n false (λ e. let bad = ap bit e in absurd (omega (arith, bad)))
+        (λ e. others u (λ f. d (sym f)))
+        (h u n low ∙ ap (λ b. bit (has n order && b)) (eq_false (f n) u d) ∙ ap bit (both_false (has n order)))
+
 masks_without : (kinds : ℕ → Kind) (order : List ℕ) (m m' : Masks) (n : ℕ) → AreMasks kinds order m → n < 64
     → HasLeft n (kinds n).drive m m' → AreMasks kinds (without n order) m'
 masks_without kinds order m m' n masks low l = record {
@@ -69,24 +89,11 @@ masks_without kinds order m m' n masks low l = record {
       set_mask m.serving m'.serving n false _ _ l.served masks.of_serving
       (ap (λ b. b && (kinds n).serving) (has_gone n order))
       (λ k d. ap (λ b. b && (kinds k).serving) (has_kept k n order d));
-  of_units = search (arith, set_mask, same_or, has_gone, has_kept);
+  of_units = classes_without (λ k. (kinds k).drive) order m.units m'.units n masks.of_units low l.own l.units;
   of_earlier = earlier_kept kinds order m m' n (kinds n).drive masks l
       (set_mask m.waiting m'.waiting n false _ _ l.waits masks.of_waiting (has_gone n order)
       (λ k d. has_kept k n order d));
 }
-  where
-    both_false : (b : Bool) → (b && false) ≡ false
-    both_false true = refl
-    both_false false = refl
-
-    own_set : (u : ℕ) → ((kinds n).drive ≡ u) ⊎ ((kinds n).drive ≢ u)
-        → IsSet false n (slice_index_or m.units u 0) (slice_index_or m'.units u 0)
-    own_set u (inl e) = subst (λ v. IsSet false n (slice_index_or m.units v 0) (slice_index_or m'.units v 0)) e l.own
-    own_set u (inr d) =
-        unit_set _ _ n false (λ e. let bad = ap bit e in absurd (omega (arith, bad)))
-        (λ e. l.units u (λ f. d (sym f)))
-        (masks.of_units u n low ∙ ap (λ b. bit (has n order && b)) (eq_false (kinds n).drive u d)
-        ∙ ap bit (both_false (has n order)))
 
 -- ---- the order without a slot
 without_none : (n : ℕ) (xs : List ℕ) → has n xs ≡ false → without n xs ≡ xs
@@ -108,17 +115,18 @@ once_in (s ∷ front) n back a =
     not_first s n [] back e = λ f. not_here s n back e (sym f)
     not_first s n (x ∷ front) back e = not_first s n front back (off (nat_eq s x) (has s (front ++ n ∷ back)) e).1
 
+-- without a slot that stands once
+pub order_left : (front back : List ℕ) (n : ℕ) → AreSlots (front ++ n ∷ back)
+    → without n (front ++ n ∷ back) ≡ front ++ back
+order_left front back n apart =
+    let once = once_in front n back apart in
+    without_append n front (n ∷ back)
+    ∙ ((λ i. without_none n front once.0 i ++ if_not (eq_true n n refl i) n (without n back))
+    ∙ ap (λ ys. front ++ ys) (without_none n back once.1))
+
 pub masks_left : (kinds : ℕ → Kind) (front back : List ℕ) (m m' : Masks) (n : ℕ)
     → AreMasks kinds (front ++ n ∷ back) m → n < 64 → HasLeft n (kinds n).drive m m'
     → AreMasks kinds (front ++ back) m'
 masks_left kinds front back m m' n masks low l =
-    search (
-      arith,
-      once_in front n back masks.apart,
-      masks_without kinds (front ++ n ∷ back) m m' n masks low l,
-      without_append,
-      without,
-      without_none,
-      eq_true,
-      if_not,
-    )
+    subst (λ o. AreMasks kinds o m') (order_left front back n masks.apart)
+    (masks_without kinds (front ++ n ∷ back) m m' n masks low l)

@@ -18,13 +18,12 @@ pub mod Whys
 pub mod Shaped
 pub mod Masked
 pub mod Departed
+pub mod Bucketed
 pub mod Cleared
 pub mod Freed
 pub mod Shown
 pub mod Fallen
 pub mod Counted
-pub mod Counts
-pub mod Listed
 pub mod Best
 pub mod Fronts
 pub mod Opens

@@ -1,5 +1,5 @@
 -- The masks stay those of the slots: where a command comes, leaves, or has a step.
-use Rattle.mscp_queue.proofs.Common.{◌≡◌, ◌≢◌, ◌<◌, ◌≤◌, ◌+◌, zero, suc, length, get_or, ◌⊎◌, inl, inr, ℕ, Bool, true, false, cond, ◌&&◌, ◌||◌, nat_eq, List, [], ◌∷◌, ◌++◌, sym, subst, ap, ◌∙◌, refl, arith, slice_index_or, bit_at, bit_at_ones, eq-eqb, eqb-false, eqb-true, ne_eqb, append_assoc, append-nil, Masks, AreEarlier, AreMasks, AreSlots, HasCome, IsMaskOf, IsSet, Kind, bit, has}
+use Rattle.mscp_queue.proofs.Common.{◌≡◌, ◌≢◌, ◌<◌, ◌≤◌, ◌+◌, zero, suc, length, get_or, ◌⊎◌, inl, inr, ℕ, Bool, true, false, cond, ◌&&◌, ◌||◌, nat_eq, List, [], ◌∷◌, ◌++◌, sym, subst, ap, ◌∙◌, refl, arith, slice_index_or, bit_at, bit_at_ones, eq-eqb, eqb-false, eqb-true, ne_eqb, append_assoc, append-nil, Masks, AreClasses, AreEarlier, AreMasks, AreSlots, HasCome, IsMaskOf, IsSet, Kind, bit, has}
 
 -- the slots without one
 abbrev pub if_not : Bool → ℕ → List ℕ → List ℕ
@@ -24,7 +24,7 @@ pub has_other : (k n : ℕ) (xs : List ℕ) → k ≢ n → has k (xs ++ n ∷ [
 has_other k n [] e = ap (λ b. b || false) (eq_false k n e)
 has_other k n (x ∷ xs) e = ap (λ b. nat_eq k x || b) (has_other k n xs e)
 
-has_last : (n : ℕ) (xs : List ℕ) → has n (xs ++ n ∷ []) ≡ true
+pub has_last : (n : ℕ) (xs : List ℕ) → has n (xs ++ n ∷ []) ≡ true
 has_last n [] = ap (λ b. b || false) (eq_true n n refl)
 has_last n (x ∷ xs) = search (arith, nat_eq n x, has_last n xs)
 
@@ -114,6 +114,20 @@ pub unit_set : (m m' n : ℕ) (on : Bool) → (on ≡ true → IsSet true n m m'
     → IsSet on n m m'
 unit_set m m' n on h4 h5 h6 = grind (arith, same_or, nat_eq, eq_true, eq_false)
 
+-- the mask of a class has one slot more
+pub classes_pushed : (f f' : ℕ → ℕ) (order old new : List ℕ) (n : ℕ) → AreClasses f order old → has n order ≡ false
+    → n < 64 → ((k : ℕ) → k ≢ n → f' k ≡ f k)
+    → IsSet true n (slice_index_or old (f' n) 0) (slice_index_or new (f' n) 0)
+    → ((u : ℕ) → u ≢ f' n → slice_index_or new u 0 ≡ slice_index_or old u 0) → AreClasses f' (order ++ n ∷ []) new
+classes_pushed f f' order old new n h free low same own others u =
+    set_mask (slice_index_or old u 0) (slice_index_or new u 0) n (nat_eq (f' n) u) _ _
+    (unit_set _ _ n (nat_eq (f' n) u)
+    (λ e. subst (λ v. IsSet true n (slice_index_or old v 0) (slice_index_or new v 0)) (eqb-true (f' n) u e) own)
+    (λ e. others u (λ f. let d = eqb-false (f' n) u e in d (sym f)))
+    (h u n low ∙ ap (λ b. bit (b && nat_eq (f n) u)) free)) (h u)
+    (ap (λ b. b && nat_eq (f' n) u) (has_last n order))
+    (λ k d. and_same _ _ _ _ (has_other k n order d) (ap (λ c. nat_eq c u) (same k d)))
+
 pub masks_pushed : (kinds kinds' : ℕ → Kind) (order : List ℕ) (m m' : Masks) (n : ℕ)
     → AreMasks kinds order m → Comes kinds kinds' order n
     → HasCome n (kinds' n).drive (kinds' n).sequential (kinds' n).serving m m' → AreMasks kinds' (order ++ n ∷ []) m'
@@ -129,15 +143,8 @@ masks_pushed kinds kinds' order m m' n masks c h = record {
       set_mask m.serving m'.serving n (kinds' n).serving _ _ h.served masks.of_serving
       (ap (λ b. b && (kinds' n).serving) (has_last n order))
       (λ k d. and_same _ _ _ _ (has_other k n order d) (ap (λ s. s.serving) (c.same k d)));
-  of_units = λ u.
-      set_mask (slice_index_or m.units u 0) (slice_index_or m'.units u 0) n (nat_eq (kinds' n).drive u) _ _
-      (unit_set _ _ n (nat_eq (kinds' n).drive u)
-      (λ e. subst (λ v. IsSet true n (slice_index_or m.units v 0) (slice_index_or m'.units v 0))
-      (eqb-true (kinds' n).drive u e) h.own)
-      (λ e. h.units u (λ f. let d = eqb-false (kinds' n).drive u e in d (sym f)))
-      (masks.of_units u n c.low ∙ ap (λ b. bit (b && nat_eq (kinds n).drive u)) c.free)) (masks.of_units u)
-      (ap (λ b. b && nat_eq (kinds' n).drive u) (has_last n order))
-      (λ k d. and_same _ _ _ _ (has_other k n order d) (ap (λ s. nat_eq s.drive u) (c.same k d)));
+  of_units = classes_pushed (λ k. (kinds k).drive) (λ k. (kinds' k).drive) order m.units m'.units n masks.of_units c.free
+      c.low (λ k d. ap (λ s. s.drive) (c.same k d)) h.own h.units;
   of_earlier = earlier_pushed _ _ n m.waiting h.others h.earlier [] order c.free masks.of_waiting masks.of_earlier;
 }
 

@@ -1,5 +1,5 @@
 -- Names are the same exactly where both of their parts are.
-use Rattle.mscp_queue.proofs.Common.{◌≡◌, ◌≢◌, true, false, ◌&&◌, ◌||◌, List, [], ◌∷◌, refl, ap, sym, ◌∙◌, subst, arith, nat_eq, and_parts, and_right, eq-eqb, eqb-true, false≢true, ne_eqb, or_parts, true≢false, list_any, Connection, Name, same_connection, same_name, has_byte, is_named, low_byte}
+use Rattle.mscp_queue.proofs.Common.{◌≡◌, ◌≢◌, true, false, ◌&&◌, ◌||◌, List, [], ◌∷◌, refl, ap, sym, ◌∙◌, subst, arith, nat_eq, and_parts, and_right, eq-eqb, eqb-true, false≢true, ne_eqb, or_parts, true≢false, list_any, Connection, Name, same_connection, same_name}
 
 pub one_side : (a b : Connection) → same_connection a b ≡ true → a ≡ b
 one_side a b h2 = grind (arith, false≢true)
@@ -21,17 +21,6 @@ differ_is x y h = λ e. true≢false (sym (is_same x y e) ∙ h)
 
 pub is_differ : (x y : Name) → x ≢ y → same_name x y ≡ false
 is_differ x y d = search (arith, same_is)
-
--- where none has the low byte none has the name
-pub unnumbered : (name : Name) (ns : List Name)
-    → list_any (has_byte (low_byte name.reference)) ns ≡ false → list_any (is_named name) ns ≡ false
-unnumbered name [] h = refl
-unnumbered name (n ∷ ns) h =
-    let byte = low_byte name.reference in
-    let p = or_parts (has_byte byte n) (list_any (has_byte byte) ns) h in
-    ap (λ b. b || list_any (is_named name) ns) (and_right (same_connection n.connection name.connection)
-    (nat_eq n.reference name.reference) (ne_eqb n.reference name.reference
-    (λ e. true≢false (sym (eq-eqb (low_byte n.reference) byte (ap low_byte e)) ∙ p.0)))) ∙ unnumbered name ns p.1
 
 pub other_side : (a b : Connection) → same_connection a b ≡ false → same_connection b a ≡ false
 other_side a b h2 = grind arith

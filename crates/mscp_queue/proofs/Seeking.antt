@@ -222,8 +222,8 @@ sooner_there u head a b false s = ⊎_elim (λ e. inl (range_less u a head e.0, 
     (λ e. inr (range_less u head b e.0, range_less u a b e.1)) s
 
 -- so what is open is among the nearest, or costs more than one of them
-module _ {rs : List Record} {own : List Target} {order : List ℕ} {m : Masks} {ranges : List ℕ} (ds : List ℕ)
-    (now : List Slot) (slotted : AreSlotted rs own order m ranges) (view : shown rs own ds order ≡ now) where
+module _ {rs : List Record} {own : List Target} {order : List ℕ} {m : Masks} {ranges buckets : List ℕ} (ds : List ℕ)
+    (now : List Slot) (slotted : AreSlotted rs own order m ranges buckets) (view : shown rs own ds order ≡ now) where
   abbrev kept_are : AreKept rs own order m
   kept_are = slotted.kept
 

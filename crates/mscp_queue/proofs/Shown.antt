@@ -108,6 +108,11 @@ shown_left f order new now place view e = grind (arith, map-append, take-map, dr
 pub serves_if : (n : ℕ) → not (nat_eq n 0) ≡ nat_lt 0 n
 serves_if n = grind (arith, not, nat_eq, eq-eqb, le-ltb, ne_eqb, lt-ltb)
 
+-- the slot whose bit isn't set isn't taken
+pub untaken : {rs : List Record} {own : List Target} {order : List ℕ} {m : Masks} {n : ℕ} → AreKept rs own order m
+    → IsLowestFree m.waiting n → has n order ≡ false
+untaken {order = order} {n = n} kept free = off_bit (has n order) (sym (kept.masks.of_waiting n free.low) ∙ free.free)
+
 pub kept_pushed : {rs : List Record} {own : List Target} {order new : List ℕ} {m m' : Masks} {n drive : ℕ}
     {sequential serving : Bool} (r : Record) (a : Target) → AreKept rs own order m → IsLowestFree m.waiting n
     → a.drive < 16 → drive ≡ a.drive → sequential ≡ is_sequential r.command.order → serving ≡ is_in_service r
@@ -122,7 +127,7 @@ kept_pushed {rs}
     let item : get_or rs' n no_record ≡ r = get_or-set_same rs n r no_record (omega (arith, low, kept.records_64)) in
     let target : get_or own' n no_target
     ≡ a = get_or-set_same own n a no_target (omega (arith, low, kept.targets_64)) in
-    let none : has n order ≡ false = off_bit (has n order) (sym (kept.masks.of_waiting n low) ∙ free.free) in
+    let none = untaken kept free in
     let others : (k : ℕ) → k ≢ n → kinds' k ≡ kinds k = search (arith, get_or-set_other) in
     let came : HasCome n (kinds' n).drive (kinds' n).sequential (kinds' n).serving m m' = search arith in
     subst (λ o. AreKept rs' own' o m') (sym e) (record {
@@ -156,7 +161,7 @@ pub lowest_untaken : {rs : List Record} {own : List Target} {order : List ℕ} {
     → IsLowestUntaken n now
 lowest_untaken {rs} {own} {order} {m} {n} ds now kept free view = subst (IsLowestUntaken n) view (record {
   untaken = ap (has n) (shown_numbers rs own ds order)
-      ∙ off_bit (has n order) (sym (kept.masks.of_waiting n free.low) ∙ free.free);
+      ∙ untaken kept free;
   below = λ k l. ap (has k) (shown_numbers rs own ds order)
       ∙ one_bit (has k order) (sym (kept.masks.of_waiting k (omega (arith, l, free.low))) ∙ free.taken k l);
 })

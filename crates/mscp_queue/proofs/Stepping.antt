@@ -1,6 +1,6 @@
 -- A step of the record at a place, as it is planned and written.
-use Rattle.mscp_queue.proofs.Basics.{◌≡◌, ℕ, ◌+◌, ◌<◌, Bool, false, cond, List, [], ◌∷◌, ◌++◌, map, take, drop, set, get_or, length, refl, ap, sym, ◌∙◌, subst, arith, is_some, Option, Some, refill, length-set, Order, Block, Drive, Name, Plan, Choice, Command, IsOnUnit, IsHeld, Line, IsSet, fresh_drive, get_or-set_other, length-map, drive_place, names_served, Record, advanced, drive_at, no_record, passed_by, record_at, step_charge, IsNext, IsServable, drive_after, plan_of, state_left, touched, cylinder_within, set_replaced, refilled, StepMade, head_kept, touched_inside}
-use Rattle.mscp_queue.proofs.Common.{AreFavored, AreListed, commands, drive_in, one_block, place_closed}
+use Rattle.mscp_queue.proofs.Basics.{◌≡◌, ℕ, ◌+◌, ◌<◌, Bool, false, cond, List, [], ◌∷◌, ◌++◌, map, take, drop, set, get_or, length, refl, ap, sym, ◌∙◌, subst, arith, is_some, Option, Some, refill, length-set, Order, Block, Drive, Name, Plan, Choice, Command, IsOnUnit, IsHeld, Line, IsSet, fresh_drive, get_or-set_other, length-map, drive_place, Record, advanced, drive_at, no_record, passed_by, record_at, step_charge, IsNext, IsServable, drive_after, plan_of, state_left, touched, cylinder_within, set_replaced, refilled, StepMade, head_kept, touched_inside}
+use Rattle.mscp_queue.proofs.Common.{AreFavored, commands, drive_in, one_block, place_closed}
 use Rattle.mscp_queue.specs.declared.favorites.Favorites.{Favorites}
 use Rattle.mscp_queue.proofs.Favored.{command_is}
 use Rattle.mscp_queue.proofs.Gone.{favored_served}
@@ -54,14 +54,7 @@ step_made {room} {budget} {longest} {place} {at} {rs} {new} {ds} {ls} {begun} {s
           ∙ set_replaced ds at r.command.unit d' d held.units kept.waitable.known found.placed);
     }
 
--- and what is known of names and best starts is kept
-pub listed_step : {room budget longest place : ℕ} {rs new : List Record} {ds ds' : List Drive} {begun : Option Name}
-    {serving ends : Bool} {k : Block} {named named' : List Name} → IsHeld room budget longest rs ds begun serving
-    → IsServable budget rs place → StepMade k place rs new ds ds' ends → AreListed rs named
-    → named' ≡ cond ends (take place named ++ drop (place + 1) named) named → AreListed new named'
-listed_step {place = place} {rs = rs} {ends = ends} held servable m listed e =
-    names_served place (step_charge (record_at rs place)) ends listed servable.inside m.records e
-
+-- and the best starts that are known stay so
 pub favored_step : {room budget longest place at : ℕ} {rs new : List Record} {ds ds' : List Drive} {begun : Option Name}
     {serving ends : Bool} {k : Block} {f g : Favorites} → IsHeld room budget longest rs ds begun serving
     → IsServable budget rs place → IsDriveOf ds rs place at → StepMade k place rs new ds ds' ends

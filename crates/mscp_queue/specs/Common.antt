@@ -5,12 +5,12 @@ pub use Rattle.mscp_drive.specs.UnitList.{IsUnitList}
 pub use Rattle.mscp_drive.specs.declared.connection.Connection.TheVariants.{First}
 pub use Rattle.mscp_packet.specs.Ends.{IsOfKind}
 pub use Rattle.mscp_packet.specs.declared.class.Class.TheVariants.{Unknown}
-pub use Rattle.mscp_queue.specs.Counts.{IsCounted, has_byte, is_named, low_byte}
+pub use Rattle.mscp_queue.specs.Buckets.{IsPut, bucket_of}
 pub use Rattle.mscp_queue.specs.Favorites.{AreFavored, AreOnDrive, IsBest, IsClearOn, IsFirstOf, IsLearned, IsNearOf, IsOpenOn, IsPrepared, cheaper, comes_before, commands, cost_at, cost_on, cost_there, drive_in, place_closed, start_in}
 pub use Rattle.mscp_queue.specs.Drives.{IsOnUnit, drive_of, fresh_drive, has_number, is_online_in}
 pub use Rattle.mscp_queue.specs.Dues.{AreTimed, clock_end, figure_in, started}
 pub use Rattle.mscp_queue.specs.Figures.{figure_at, figure_of_name, figures}
-pub use Rattle.mscp_queue.specs.Kept.{ArePassedInOrder, CanBeShown, IsHeld, IsOfUnit, IsShut, IsWaitable, begun_name, is_known, names, place_served, place_without, units_of}
+pub use Rattle.mscp_queue.specs.Kept.{AreApart, ArePassedInOrder, CanBeShown, IsHeld, IsOfUnit, IsShut, IsWaitable, begun_name, is_known, names, place_served, place_without, units_of}
 pub use Rattle.mscp_queue.specs.Lanes.{HasLanes, IsCost, IsFirst, IsLane, IsLeast, lowered}
 pub use Rattle.mscp_queue.specs.Lines.{Begins, BeginsAt, Line, Serves, ServesAt, aborting, fresh, pushed}
 pub use Rattle.mscp_queue.specs.Masks.{HasCome, HasLeft, IsBehind, IsFront, IsLowestFree, IsNarrowed, IsSet}

@@ -8,10 +8,9 @@ use Rattle.mscp_drive.specs.Shape.{last_cylinder, one_block}
 use Rattle.mscp_queue.specs.declared.drive.Drive.{Drive}
 use Rattle.mscp_queue.specs.declared.favorites.Favorites.{Favorites}
 use Rattle.mscp_queue.specs.declared.favorites.Start.{Start}
-use Rattle.mscp_queue.specs.declared.name.Name.{Name}
 use Rattle.mscp_queue.specs.declared.target.Target.{Target}
 use Rattle.mscp_queue.specs.Drives.{drive_of, fresh_drive}
-use Rattle.mscp_queue.specs.Kept.{IsReady, names}
+use Rattle.mscp_queue.specs.Kept.{IsReady}
 use Rattle.mscp_queue.specs.Masks.{Kind}
 use Rattle.mscp_queue.specs.Orders.{is_sequential, order_cost}
 use Rattle.mscp_queue.specs.Records.{Record, no_record}
@@ -124,15 +123,10 @@ pub record AreFavored (ds : List Drive) (cs : List Command) (f : Favorites) : Ty
   pub each : (k : ℕ) → k < length ds → bit_at f.known k ≡ 1
       → IsBest (IsClearOn cs (drive_in ds k).unit.number) (cost_at (drive_in ds k) cs) (start_in f k)
 
--- these are the names of the records' commands
-pub record AreListed (rs : List Record) (named : List Name) : Type 0 where
-  pub are : named ≡ names rs
-
--- a queue is ready, and it knows the names and the best starts of its waiting commands
+-- a queue is ready, and it knows the best starts of its waiting commands
 pub record IsPrepared (room longest : ℕ) (w : Waiters) (ds : List Drive) (begun serving : Option ℕ)
-    (named : List Name) (f : Favorites) : Type 0 where
+    (f : Favorites) : Type 0 where
   pub ready : IsReady room longest w ds begun serving
-  pub listed : AreListed w.waiting named
   pub favored : AreFavored ds (commands w.waiting) f
 
 -- ---- what is picked

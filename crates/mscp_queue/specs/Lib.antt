@@ -10,11 +10,11 @@ pub mod Pickers
 pub mod Serving
 pub mod Figures
 pub mod Lines
-pub mod Counts
 pub mod Kept
 pub mod Targets
 pub mod Lanes
 pub mod Masks
+pub mod Buckets
 pub mod Slots
 pub mod Waiters
 pub mod Dues

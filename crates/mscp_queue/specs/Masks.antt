@@ -37,6 +37,10 @@ abbrev pub AreSlots : List ℕ → Type 0
 AreSlots [] = Unit {0}
 AreSlots (s ∷ order) = (s < 64) × (has s order ≡ false) × AreSlots order
 
+-- mask u has the slots whose commands are of class u
+abbrev pub AreClasses : (ℕ → ℕ) → List ℕ → List ℕ → Type 0
+AreClasses class order masks = (u : ℕ) → IsMaskOf (slice_index_or masks u 0) (λ k. has k order && nat_eq (class k) u)
+
 -- what masks tell of a slot: the place of its command's drive, whether the command is sequential, and whether it is in
 -- service
 pub record Kind : Type 0 where
@@ -50,7 +54,7 @@ pub record AreMasks (kinds : ℕ → Kind) (order : List ℕ) (m : Masks) : Type
   pub of_waiting : IsMaskOf m.waiting (λ k. has k order)
   pub of_sequential : IsMaskOf m.sequential (λ k. has k order && (kinds k).sequential)
   pub of_serving : IsMaskOf m.serving (λ k. has k order && (kinds k).serving)
-  pub of_units : (u : ℕ) → IsMaskOf (slice_index_or m.units u 0) (λ k. has k order && nat_eq (kinds k).drive u)
+  pub of_units : AreClasses (λ k. (kinds k).drive) order m.units
   pub of_earlier : AreEarlier (λ k. slice_index_or m.earlier k 0) [] order
 
 -- the bits of slot n are set in the masks that a command belongs to, and all that wait are in front of it

@@ -4,6 +4,7 @@ use Rattle.std.specs.List.{list_all}
 use Rattle.mscp_queue.specs.declared.target.Target.{Target}
 use Rattle.mscp_queue.specs.declared.masks.Masks.{Masks}
 use Rattle.mscp_queue.specs.declared.slots.Content.{Content}
+use Rattle.mscp_queue.specs.Buckets.{AreBuckets}
 use Rattle.mscp_queue.specs.Targets.{no_target}
 use Rattle.mscp_queue.specs.Masks.{AreMasks, Kind, has, keeps_back}
 use Rattle.mscp_queue.specs.Orders.{is_sequential}
@@ -130,9 +131,10 @@ pub record AreKept (records : List Record) (own : List Target) (order : List ℕ
   pub drives : (k : ℕ) → has k order ≡ true → (slice_index_or own k no_target).drive < 16
   pub masks : AreMasks (kind_at records own) order m
 
--- and their ranges are known
-pub record AreSlotted (records : List Record) (own : List Target) (order : List ℕ) (m : Masks) (ranges : List ℕ) :
-    Type 0 where
+-- and their ranges and buckets are known
+pub record AreSlotted (records : List Record) (own : List Target) (order : List ℕ) (m : Masks) (ranges buckets : List ℕ)
+    : Type 0 where
   pub kept : AreKept records own order m
   pub ranges_64 : length ranges ≡ 64
   pub ranged : AreRanges own ranges
+  pub bucketed : AreBuckets records order buckets

@@ -1,12 +1,13 @@
 // The waiting commands, and how long each may still wait.
 
 ghost use Rattle.std.specs.Prelude.{◌≡◌, ◌+◌, ◌-◌, ◌<◌, ◌≤◌, ◌^◌, ◌++◌, ◌∷◌, [], true, false, cond, length, map, take, drop, slice_index_or, sum_by, All};
-ghost use Rattle.mscp_queue.specs.Common.{clock_end, started, figure_at, figures, advanced, is_in_service, is_unstarted, left_of, passed_by, record_at, step_charge, no_target, IsOnUnit, AreOnDrive, IsBest, IsOpenOn, cost_there, is_unfenced_at, kinds_of, lowered_by, slot_at};
+ghost use Rattle.mscp_queue.specs.Common.{position, AreApart, has_name, names, clock_end, started, figure_at, figures, advanced, is_in_service, is_unstarted, left_of, passed_by, record_at, step_charge, no_target, IsOnUnit, AreOnDrive, IsBest, IsOpenOn, cost_there, is_unfenced_at, kinds_of, lowered_by, slot_at};
 
 mod restoring;
 
 use crate::drive::Drive;
 use crate::favorites::Start;
+use crate::name::Name;
 use crate::record::Record;
 use crate::slots::{Content, Slots};
 use crate::target::Target;
@@ -132,6 +133,14 @@ impl Backlog {
         ensures { result.now ≡ record_at self.now.waiting place }
     {
         self.slots.item(place)
+    }
+
+    /// The place of the command of this name, in order of arrival, if it waits.
+    pub fn place_of(&self, name: Name) -> Option<usize>
+        requires apart { AreApart (names self.now.waiting) }
+        ensures { result ≡ position (has_name name) self.now.waiting }
+    {
+        self.slots.place_of(name)
     }
 
     /// The target of the command at the place.

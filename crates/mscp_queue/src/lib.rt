@@ -2,13 +2,13 @@
 #![tactic(auto)]
 
 mod backlog;
+mod buckets;
 mod drive;
 mod favorites;
 pub mod lanes;
 mod lowering;
 mod masks;
 mod name;
-mod names;
 mod outcome;
 mod picker;
 mod plan;

@@ -12,7 +12,7 @@ fn lower_each(dues: &mut [u64; 64], mask: u64, by: u64)
     ensures { (k : ℕ) → k < 64 → slice_index dues.new k ≡ lowered mask by k (slice_index dues.old k) }
 {
     let mut left = mask;
-    while let Some(slot) = lowest_set(left, 64) {
+    while let Some(slot) = lowest_set(left) {
         left = with_bit(left, slot, false);
         dues[slot] -= by;
     }

@@ -67,15 +67,14 @@ pub(crate) fn lowest_free(mask: u64) -> usize
     mask.trailing_ones() as usize
 }
 
-/// The lowest of the first so many bits that is set, if one is.
+/// A slot whose bit is set, the lowest one, if there is one.
 #[inline(always)]
-pub(crate) fn lowest_set(mask: u64, count: usize) -> Option<usize>
-    requires { count ≤ 64 }
-    ensures some { IfSome result (λ k. (k < count) × (bit_at mask k ≡ 1)) }
-    ensures none { IfNone result ((k : ℕ) → k < count → bit_at mask k ≡ 0) }
+pub(crate) fn lowest_set(mask: u64) -> Option<usize>
+    ensures some { IfSome result (λ k. (k < 64) × (bit_at mask k ≡ 1)) }
+    ensures none { IfNone result ((k : ℕ) → k < 64 → bit_at mask k ≡ 0) }
 {
     let lowest = mask.trailing_zeros() as usize;
-    if lowest < count { Some(lowest) } else { None }
+    if lowest < 64 { Some(lowest) } else { None }
 }
 
 impl Masks {
@@ -154,7 +153,7 @@ impl Masks {
         let unit = self.units[drive];
         let mut left = unit & self.sequential;
         let mut narrowed = unit;
-        while let Some(slot) = lowest_set(left, 64) {
+        while let Some(slot) = lowest_set(left) {
             left = with_bit(left, slot, false);
             narrowed &= with_bit(self.earlier[slot], slot, true);
         }

@@ -10,7 +10,6 @@ use crate::backlog::Backlog;
 use crate::drive::{Drive, drive_of, drives_of, renew_drives};
 use crate::favorites::Favorites;
 use crate::name::Name;
-use crate::names::Names;
 use crate::outcome::aborted_end;
 use crate::picker::Picker;
 use crate::record::Record;
@@ -50,7 +49,6 @@ pub struct Queue<K> {
     begun: Option<usize>,
     serving: Option<usize>,
     picker: K,
-    names: Names,
     favorites: Favorites,
     // What the picker saw last, where some may not start. It is kept for its room alone, since a new one would have to be
     // cleared at each start.
@@ -76,7 +74,7 @@ impl<K> Model for Queue<K> {
         } };
 
     ghost invariant = { λ q.
-        IsPrepared q.room q.longest q.backlog q.drives.items q.begun q.serving q.names q.favorites };
+        IsPrepared q.room q.longest q.backlog q.drives.items q.begun q.serving q.favorites };
 }
 
 /// A place that is known, once the command at the place `gone` left: none where it was that.
@@ -112,7 +110,6 @@ impl<K: Picker> Queue<K> {
             begun: None,
             serving: None,
             picker,
-            names: Names::new(),
             favorites: Favorites::new(),
             view: View::empty(),
         }
@@ -124,7 +121,6 @@ impl<K: Picker> Queue<K> {
             ≡ fresh (units_of self.old.drives) self.old.room self.old.budget self.old.longest self.old.picker }
     {
         self.backlog.clear();
-        self.names.clear();
         self.favorites.clear();
         renew_drives(self.drives.as_mut_slice());
         self.begun = None;
@@ -154,7 +150,7 @@ impl<K: Picker> Queue<K> {
             connection,
             reference,
         };
-        self.names.contains(name)
+        self.backlog.place_of(name).is_some()
     }
 
     /// The place of the waiting command of the connection with the reference number, in order of arrival, if it waits. No
@@ -168,7 +164,7 @@ impl<K: Picker> Queue<K> {
             connection,
             reference,
         };
-        self.names.place_of(name)
+        self.backlog.place_of(name)
     }
 
     /// Whether the unit of this number is online: false where it isn't configured.
@@ -195,7 +191,6 @@ impl<K: Picker> Queue<K> {
         };
         let target = Target::of(&command, self.drives.as_slice());
         let record = Record::new(new.connection, command, new.weight);
-        self.names.push(record.name());
         self.backlog.push(record, target);
         favor_last(&self.backlog, self.drives.as_slice(), &mut self.favorites);
     }
@@ -209,7 +204,7 @@ impl<K: Picker> Queue<K> {
             connection,
             reference,
         };
-        match self.names.place_of(name) {
+        match self.backlog.place_of(name) {
             Some(place) => self.backlog.figure(place),
             None => 0,
         }
@@ -234,7 +229,7 @@ impl<K: Picker> Queue<K> {
             connection,
             reference,
         };
-        let place = self.names.place_of(name);
+        let place = self.backlog.place_of(name);
         match place {
             Some(place) => holders_at(&self.backlog, self.backlog.budget(), place),
             None => ArrayVec::new(),
@@ -276,7 +271,7 @@ impl<K: Picker> Queue<K> {
             connection,
             reference,
         };
-        let place = self.names.place_of(name)?;
+        let place = self.backlog.place_of(name)?;
         Some(self.abort_at(place))
     }
 
@@ -291,7 +286,6 @@ impl<K: Picker> Queue<K> {
         let record = *self.backlog.record(place);
         let at = usize::from(self.backlog.target(place).drive);
         self.backlog.take_out(place);
-        self.names.remove(place);
         self.favorites.serve(place, at, true);
         self.begun = without_place(self.begun, place);
         self.serving = without_place(self.serving, place);

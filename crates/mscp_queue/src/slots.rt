@@ -1,13 +1,15 @@
 // The slots of the waiting commands. A command keeps its slot as long as it waits, and masks of slots tell at once who
 // keeps whom back.
 
-ghost use Rattle.std.specs.Prelude.{◌≡◌, ◌+◌, ◌<◌, ◌≤◌, ◌^◌, ◌++◌, ◌∷◌, true, false, [], List, length, map, take, drop, slice_set, All};
-ghost use Rattle.mscp_queue.specs.Common.{is_sequential, advanced, is_in_service, passed_by, IsOnUnit, AreOnDrive, IsBest, IsLowestUntaken, IsNearOf, IsOpenOn, cost_there, kinds, targets, dues, filled, is_unfenced, items, lowered_by, lowered_unless_serving, shown, slot_at, with_due, with_item};
+ghost use Rattle.std.specs.Prelude.{◌≡◌, ◌+◌, ◌<◌, ◌≤◌, ◌^◌, ◌++◌, ◌∷◌, true, false, [], List, length, map, take, drop, slice_set, All, IfNone, IfSome};
+ghost use Rattle.mscp_queue.specs.Common.{list_any, is_sequential, advanced, has_name, is_in_service, passed_by, IsOnUnit, AreOnDrive, IsBest, IsLowestUntaken, IsNearOf, IsOpenOn, cost_there, kinds, targets, dues, filled, is_unfenced, items, lowered_by, lowered_unless_serving, shown, slot_at, with_due, with_item};
 
+use crate::buckets::Buckets;
 use crate::drive::Drive;
 use crate::favorites::Start;
 use crate::lowering::lower;
 use crate::masks::{Masks, has_bit, lowest_free, lowest_set, with_bit};
+use crate::name::Name;
 use crate::ranges::{Ranges, range_of};
 use crate::record::Record;
 use crate::target::Target;
@@ -32,6 +34,7 @@ pub(crate) struct Slots {
     order: ArrayVec<u8, 64>,
     masks: Masks,
     ranges: Ranges,
+    buckets: Buckets,
 }
 
 // A clause sees the slots that are taken, with their numbers, in order of arrival.
@@ -43,7 +46,7 @@ impl Model for Slots {
 
     ghost view = { λ s. shown s.records s.targets s.dues s.order.items };
 
-    ghost invariant = { λ s. AreSlotted s.records s.targets s.order.items s.masks s.ranges };
+    ghost invariant = { λ s. AreSlotted s.records s.targets s.order.items s.masks s.ranges s.buckets.slots };
 }
 
 /// From so many commands on a look at ranges is quicker than a look at each.
@@ -72,6 +75,7 @@ impl Slots {
             order: ArrayVec::new(),
             masks: Masks::new(),
             ranges: Ranges::new(),
+            buckets: Buckets::new(),
         }
     }
 
@@ -81,6 +85,7 @@ impl Slots {
     {
         self.order.clear();
         self.masks = Masks::new();
+        self.buckets = Buckets::new();
     }
 
     /// How many slots are taken.
@@ -103,6 +108,7 @@ impl Slots {
         self.targets[slot] = new.target;
         self.ranges.set(slot, new.target.range);
         self.dues[slot] = new.due;
+        self.buckets.come(slot, new.item.command().reference);
         self.masks.come(
             slot,
             usize::from(new.target.drive),
@@ -121,6 +127,8 @@ impl Slots {
     {
         let slot = usize::from(self.order[place]);
         self.order.remove(place);
+        let reference = self.records[slot].command().reference;
+        self.buckets.leave(slot, reference);
         self.masks
             .leave(slot, usize::from(self.targets[slot].drive));
     }
@@ -194,6 +202,22 @@ impl Slots {
         &self.records[usize::from(self.order[place])]
     }
 
+    /// The place of a command of this name, if one waits.
+    pub fn place_of(&self, name: Name) -> Option<usize>
+        ensures some { IfSome result (λ place.
+            (place < length self.now) × (has_name name (slot_at self.now place).item ≡ true)) }
+        ensures none { IfNone result (list_any (has_name name) (items self.now) ≡ false) }
+    {
+        let mut left = self.buckets.slots_of(name.reference);
+        while let Some(slot) = lowest_set(left) {
+            left = with_bit(left, slot, false);
+            if self.records[slot].has_name(name) {
+                return Some(self.masks.place(slot));
+            }
+        }
+        None
+    }
+
     /// The target of the command at the place.
     pub fn target(&self, place: usize) -> Target
         requires { place < length self.now }
@@ -221,7 +245,7 @@ impl Slots {
     {
         let drive = *drive;
         let near = near_of(&self.masks, &self.ranges, self.masks.front(at), &drive);
-        let Some(first) = lowest_set(near, 64) else {
+        let Some(first) = lowest_set(near) else {
             return Start::none();
         };
         let mut best = first;
@@ -230,7 +254,7 @@ impl Slots {
             self.targets[first].cylinder,
         );
         let mut left = with_bit(near, first, false);
-        while let Some(slot) = lowest_set(left, 64) {
+        while let Some(slot) = lowest_set(left) {
             left = with_bit(left, slot, false);
             let cost = drive.cost(
                 has_bit(self.masks.sequential, slot),

@@ -1,28 +1,15 @@
 // A queue as it was, and what is to be kept of one so that it can be again.
 
 ghost use Rattle.std.specs.Prelude.{◌≡◌, ◌<◌, ◌≤◌, true, length, IfNone, IfSome, None};
-ghost use Rattle.mscp_queue.specs.Common.{position, ArePassedInOrder, IsHeld, is_named, names, is_in_service, record_at};
+ghost use Rattle.mscp_queue.specs.Common.{position, AreApart, ArePassedInOrder, IsHeld, has_name, names, is_in_service, record_at};
 
 use crate::backlog::Backlog;
 use crate::drive::Drive;
 use crate::name::Name;
-use crate::names::Names;
 use crate::picker::Picker;
 use crate::queue::Queue;
 use crate::record::Record;
 use arrayvec::ArrayVec;
-
-/// The names of the records' commands.
-fn names_of(records: &[Record]) -> Names
-    requires few { length records.now ≤ 64 }
-    ensures { result ≡ names records.now }
-{
-    let mut names = Names::new();
-    for place in 0..records.len() {
-        names.push(records[place].name());
-    }
-    names
-}
 
 /// The place of the command in service, if one is.
 fn place_served(records: &[Record]) -> Option<usize>
@@ -32,11 +19,12 @@ fn place_served(records: &[Record]) -> Option<usize>
 }
 
 /// The place of what was begun, if something was.
-fn place_begun(names: &Names, begun: Option<Name>) -> Option<usize>
-    ensures some { IfSome begun (λ name. result ≡ position (is_named name) names.now) }
+fn place_begun(backlog: &Backlog, begun: Option<Name>) -> Option<usize>
+    requires apart { AreApart (names backlog.now.waiting) }
+    ensures some { IfSome begun (λ name. result ≡ position (has_name name) backlog.now.waiting) }
     ensures none { IfNone begun (result ≡ None) }
 {
-    names.place_of(begun?)
+    backlog.place_of(begun?)
 }
 
 impl<K: Picker> Queue<K> {
@@ -52,11 +40,9 @@ impl<K: Picker> Queue<K> {
           begun = begun;
         } }
     {
-        let names = names_of(records);
-        self.begun = place_begun(&names, begun);
-        self.serving = place_served(records);
         self.backlog = Backlog::restored(self.backlog.budget(), records, drives.as_slice());
-        self.names = names;
+        self.begun = place_begun(&self.backlog, begun);
+        self.serving = place_served(records);
         self.favorites.clear();
         self.drives = drives;
     }

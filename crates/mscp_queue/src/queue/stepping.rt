@@ -108,7 +108,6 @@ impl<K: Picker> Queue<K> {
         let ends = plan.ended.is_some();
         self.drives[at].follow(&record.command().order, &plan);
         self.backlog.serve(place, ends);
-        self.names.serve(place, ends);
         self.favorites.serve(place, at, ends);
         self.begun = None;
         self.serving = place_served(place, ends);

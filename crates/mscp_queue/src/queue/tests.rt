@@ -33,7 +33,6 @@ fn queue(rt: &impl Abort, clock: u64) -> Queue<Sweep>
         begun: None,
         serving: None,
         picker: Sweep,
-        names: Names::new(),
         favorites: Favorites::new(),
         view: View::empty(),
     }

@@ -13,8 +13,8 @@ lowest m small (inr f) =
     positive : (m : ℕ) → m ≢ 0 → 0 < m
     positive m h = grind (arith, h)
 
-pub returns-then-lowest-count-clause-some : goal.returns-then-lowest-count-clause-some
-returns-then-lowest-count-clause-some c = search (arith, lowest, same_or)
+pub returns-then-lowest-lt64-clause-some : goal.returns-then-lowest-lt64-clause-some
+returns-then-lowest-lt64-clause-some c = search (arith, lowest, same_or)
 
-pub returns-else-lowest-count-clause-none : goal.returns-else-lowest-count-clause-none
-returns-else-lowest-count-clause-none c = search (arith, lowest, same_or)
+pub returns-else-lowest-lt64-clause-none : goal.returns-else-lowest-lt64-clause-none
+returns-else-lowest-lt64-clause-none c = search (arith, lowest, same_or)

@@ -1,10 +1,10 @@
-use Rattle.mscp_queue.proofs.Basics.{◌≡◌, ◌<◌, length, ap, sym, subst, ◌∙◌, arith, begun_name, Line, aborting, name_on, name_of, record_at, place_of}
+use Rattle.mscp_queue.proofs.Basics.{◌≡◌, ◌<◌, length, ap, sym, subst, ◌∙◌, arith, begun_name, Line, aborting, name_on, name_of, record_at}
 use Rattle.mscp_queue.proofs.Aborts.{aborts_at, aborts_none, none_aborted}
 use Rattle.mscp_queue.proofs.Nexts.{named_at}
 use Rattle.mscp_queue.proofs.queue.Queue.abort.Goals as goal
 
 pub returns-in_err-place-clause-end : goal.returns-in_err-place-clause-end
-returns-in_err-place-clause-end g c = search (arith, aborts_none, place_of)
+returns-in_err-place-clause-end g c = search (arith, aborts_none)
 
 pub returns-in_err-place-clause-after : goal.returns-in_err-place-clause-after
 returns-in_err-place-clause-after g c =
@@ -13,7 +13,7 @@ returns-in_err-place-clause-after g c =
     let rs = q.backlog.waiting in
     let name = name_on c.args.connection c.args.reference in
     let none =
-    aborts_none name rs (sym (c.place_of.ensures ∙ place_of name c.self.invariant.listed) ∙ c.in_err-place.was) in
+    aborts_none name rs (sym (c.place_of.ensures) ∙ c.in_err-place.was) in
     sym c.self.view_is ∙ ((λ i. record {
       room = q.room;
       budget = q.backlog.budget;
@@ -29,12 +29,11 @@ pub abort_at-requires : goal.abort_at-requires
 abort_at-requires g c =
     let K = g.row.K.Denot in
     let at = aborts_at (name_on c.args.connection c.args.reference) c.self.inside.backlog.waiting c.in_ok-place.place
-    c.self.invariant.ready.held.apart (sym (c.place_of.ensures
-    ∙ place_of (name_on c.args.connection c.args.reference) c.self.invariant.listed) ∙ c.in_ok-place.was) in
+    c.self.invariant.ready.held.apart (sym (c.place_of.ensures) ∙ c.in_ok-place.was) in
     subst (λ (l : Line K). c.in_ok-place.place < length l.waiting) c.self.view_is at.inside
 
 pub returns-clause-end : goal.returns-clause-end
-returns-clause-end g c = search (arith, aborts_at, place_of)
+returns-clause-end g c = search (arith, aborts_at)
 
 pub returns-clause-after : goal.returns-clause-after
 returns-clause-after g c =
@@ -42,4 +41,4 @@ returns-clause-after g c =
     let name = name_on c.args.connection c.args.reference in
     c.abort_at.ensures.after ∙ ap (λ n. aborting n c.args.self.now) (subst (λ (l : Line K). name_of
     (record_at l.waiting c.in_ok-place.place) ≡ name) c.self.view_is (named_at name c.self.inside.backlog.waiting
-    c.in_ok-place.place (sym (c.place_of.ensures ∙ place_of name c.self.invariant.listed) ∙ c.in_ok-place.was)))
+    c.in_ok-place.place (sym (c.place_of.ensures) ∙ c.in_ok-place.was)))

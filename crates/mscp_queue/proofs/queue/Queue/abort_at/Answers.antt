@@ -1,4 +1,4 @@
-use Rattle.mscp_queue.proofs.Basics.{suc, ◌++◌, arith, ◌≡◌, ◌+◌, ◌<◌, length, take, drop, ap, sym, subst, ◌∙◌, refl, position, begun_name, Line, aborting, has_name, name_of, record_at, true, length-map, Command, Drive, Record, Target, drive_place, names_left}
+use Rattle.mscp_queue.proofs.Basics.{suc, ◌++◌, arith, ◌≡◌, ◌+◌, ◌<◌, length, take, drop, ap, sym, subst, ◌∙◌, refl, position, begun_name, Line, aborting, has_name, name_of, record_at, true, length-map, Command, Drive, Record, Target, drive_place}
 use Rattle.mscp_queue.proofs.Common.{commands}
 use Rattle.mscp_queue.proofs.Favored.{command_is}
 use Rattle.mscp_queue.proofs.Gone.{favored_served}
@@ -38,7 +38,6 @@ invariant_of-self g c =
     record {
       ready = ready_left place ready
           inside e.budget e.waiting e.targets c.without_place-self-inside.ensures c.without_place-self-inside-2.ensures;
-      listed = names_left place c.self.invariant.listed c.remove.ensures e.waiting;
       favored = favored_served ready.held.units place c.from-at.result (omega (arith, inside, many))
           (omega (arith, many, fits, few))
           (found.placed ∙ ap (λ (c : Command). drive_place q.drives.items c.unit) (sym
@@ -70,12 +69,6 @@ returns-clause-after g c =
           c.take_out.new.self.waiting q.begun place apart inside e.waiting c.self.invariant.ready.waits)) i;
       picker = q.picker;
     }) ∙ ap (λ (l : Line K). aborting (name_of (record_at l.waiting place)) l) c.self.view_is
-
-pub remove-requires : goal.remove-requires
-remove-requires g c =
-    let K = g.row.K.Denot in
-    let inside = subst (λ (l : Line K). c.args.place < length l.waiting) (sym c.self.view_is) c.requires in
-    omega (arith, inside, ap length c.self.invariant.listed.are, length-map c.self.inside.backlog.waiting name_of)
 
 pub serve-requires-clause-place : goal.serve-requires-clause-place
 serve-requires-clause-place g c =

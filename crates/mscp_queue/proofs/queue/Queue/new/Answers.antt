@@ -1,4 +1,4 @@
-use Rattle.mscp_queue.proofs.Basics.{refl, ap, subst, sym, ◌∙◌, is_some, map, None, false≢true, fresh_drive, Waiters, IsReady, none_listed, held_fresh}
+use Rattle.mscp_queue.proofs.Basics.{refl, ap, subst, sym, ◌∙◌, is_some, map, None, false≢true, fresh_drive, Waiters, IsReady, held_fresh}
 use Rattle.mscp_queue.proofs.Favored.{none_known}
 use Rattle.mscp_queue.proofs.queue.Queue.new.Goals as goal
 
@@ -16,6 +16,5 @@ invariant_of-result g c =
     }) in
     record {
       ready = ready;
-      listed = none_listed (ap (λ (w : Waiters). w.waiting) c.new.ensures) c.new-2.ensures;
-      favored = none_known ds _ c.new-3.result c.new-3.ensures;
+      favored = none_known ds _ c.new-2.result c.new-2.ensures;
     }

@@ -1,4 +1,4 @@
-use Rattle.mscp_queue.proofs.Basics.{length, refl, ap, subst, sym, ◌∙◌, arith, is_some, map, None, refill, false≢true, Drive, fresh_drive, Waiters, IsReady, begun_name, none_listed, held_renewed, renewed}
+use Rattle.mscp_queue.proofs.Basics.{length, refl, ap, subst, sym, ◌∙◌, arith, is_some, map, None, refill, false≢true, Drive, fresh_drive, Waiters, IsReady, begun_name, held_renewed, renewed}
 use Rattle.mscp_queue.proofs.Favored.{none_known}
 use Rattle.mscp_queue.proofs.queue.Queue.reset.Goals as goal
 
@@ -18,8 +18,7 @@ invariant_of-self g c =
     }) in
     record {
       ready = ready;
-      listed = none_listed (ap (λ (w : Waiters). w.waiting) c.clear.ensures) c.clear-2.ensures;
-      favored = none_known _ _ c.clear-3.new.self c.clear-3.ensures;
+      favored = none_known _ _ c.clear-2.new.self c.clear-2.ensures;
     }
 
 pub returns : goal.returns

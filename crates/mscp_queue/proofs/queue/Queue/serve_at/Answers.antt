@@ -1,7 +1,7 @@
 use Rattle.mscp_queue.proofs.Basics.{arith, ◌<◌, length, get_or, ap, subst, sym, ◌∙◌, None, length-map, Command, Target, Drive, Served, replaced, units_of, Line, served, Record, drive_at, is_unstarted, record_at, plan_of, report_of, name_of, units_step}
 use Rattle.mscp_queue.proofs.Ready.{can_serve, drive_found, left_is, ready_step}
 use Rattle.mscp_queue.proofs.Shaped.{given_kind}
-use Rattle.mscp_queue.proofs.Stepping.{favored_step, listed_step, next_in, step_made}
+use Rattle.mscp_queue.proofs.Stepping.{favored_step, next_in, step_made}
 use Rattle.mscp_queue.proofs.queue.Queue.serve_at.Goals as goal
 
 pub bounds-deref-at : goal.bounds-deref-at
@@ -32,27 +32,16 @@ pub serve-requires-clause-affordable : goal.serve-requires-clause-affordable
 serve-requires-clause-affordable g c = (can_serve c.args.block.now
     c.self.invariant.ready.held ((next_in g.K.Picker.picks c.self.view_is c.requires).servable)).affordable
 
-pub serve-requires-2 : goal.serve-requires-2
-serve-requires-2 g c =
-    let servable = (next_in g.K.Picker.picks c.self.view_is c.requires).servable in
-    let inside = servable.inside in
-    omega (
-      arith,
-      inside,
-      ap length c.self.invariant.listed.are,
-      length-map c.self.inside.backlog.waiting name_of,
-    )
-
-pub serve-requires-3-clause-place : goal.serve-requires-3-clause-place
-serve-requires-3-clause-place g c =
+pub serve-requires-2-clause-place : goal.serve-requires-2-clause-place
+serve-requires-2-clause-place g c =
     let inside = ((next_in g.K.Picker.picks c.self.view_is c.requires).servable).inside in
     let held = c.self.invariant.ready.held in
     let fits = held.fits in
     let few = held.few in
     omega (arith, inside, fits, few)
 
-pub serve-requires-3-clause-drive : goal.serve-requires-3-clause-drive
-serve-requires-3-clause-drive g c =
+pub serve-requires-2-clause-drive : goal.serve-requires-2-clause-drive
+serve-requires-2-clause-drive g c =
     let ready = c.self.invariant.ready in
     let servable = (next_in g.K.Picker.picks c.self.view_is c.requires).servable in
     let found = drive_found c.self.inside.backlog.targets c.args.place
@@ -76,9 +65,8 @@ invariant_of-self g c =
     record {
       ready = ready_step {new = c.serve.new.self}
           ready servable made c.serve.ensures.budget c.serve.ensures.targets c.place_served-self-inside.ensures;
-      listed = listed_step ready.held servable made c.self.invariant.listed c.serve-2.ensures;
       favored = favored_step ready.held servable found made
-          c.self.invariant.favored c.serve-3.ensures.known c.serve-3.ensures.costs c.serve-3.ensures.places;
+          c.self.invariant.favored c.serve-2.ensures.known c.serve-2.ensures.costs c.serve-2.ensures.places;
     }
 
 pub returns-clause-units : goal.returns-clause-units

@@ -1,4 +1,5 @@
-use Rattle.mscp_queue.proofs.Basics.{arith, item_at, item_set, kept_passed, number_of}
+use Rattle.mscp_queue.proofs.Basics.{◌∙◌, ap, arith, get_or_default, Record, passed_by, no_record, item_at, item_set, kept_passed, number_of}
+use Rattle.mscp_queue.proofs.Bucketed.{buckets_kept}
 use Rattle.mscp_queue.proofs.slots.Slots.pass.Goals as goal
 
 pub listed : goal.listed
@@ -15,13 +16,19 @@ pub pass-requires : goal.pass-requires
 pass-requires c = search (arith, number_of, item_at)
 
 pub invariant_of-self : goal.invariant_of-self
-invariant_of-self c = record {
-  ranges_64 = c.self.invariant.ranges_64;
-  ranged = c.self.invariant.ranged;
-  kept = kept_passed c.args.charge c.index-self-slot.result c.self.invariant.kept (number_of c.self.inside.dues
-      c.args.self.now
-      c.self.invariant.kept c.self.view_is c.requires.place c.from-slot.ensures c.deref.ensures.0).low c.pass.ensures;
-}
+invariant_of-self c =
+    let low = (number_of c.self.inside.dues
+    c.args.self.now c.self.invariant.kept c.self.view_is c.requires.place c.from-slot.ensures c.deref.ensures.0).low in
+    record {
+      ranges_64 = c.self.invariant.ranges_64;
+      ranged = c.self.invariant.ranged;
+      bucketed = buckets_kept c.self.inside.records c.self.inside.order.items c.self.inside.buckets.slots
+          c.from-slot.result _ c.self.invariant.bucketed low c.self.invariant.kept.records_64
+          (ap (λ (r : Record). r.command.reference) (c.pass.ensures
+          ∙ ap (passed_by c.args.charge) (get_or_default c.self.inside.records c.from-slot.result
+          c.index-self-slot.result no_record (omega (arith, low, c.self.invariant.kept.records_64)))));
+      kept = kept_passed c.args.charge c.index-self-slot.result c.self.invariant.kept low c.pass.ensures;
+    }
 
 pub returns : goal.returns
 returns c = search (arith, number_of, item_set)

@@ -1,5 +1,6 @@
-use Rattle.mscp_queue.proofs.Basics.{length, length-set, not, ap, ◌∙◌, arith, some_free, kept_pushed, long_shown, serves_if, shown_pushed}
-use Rattle.mscp_queue.proofs.Shown.{lowest_untaken}
+use Rattle.mscp_queue.proofs.Basics.{length, length-set, not, ap, Command, ◌∙◌, arith, some_free, kept_pushed, long_shown, serves_if, shown_pushed}
+use Rattle.mscp_queue.proofs.Bucketed.{buckets_pushed}
+use Rattle.mscp_queue.proofs.Shown.{lowest_untaken, untaken}
 use Rattle.mscp_queue.proofs.Ranging.{ranges_pushed}
 use Rattle.mscp_queue.proofs.slots.Slots.push.Goals as goal
 
@@ -11,6 +12,11 @@ lowest_free-slot-requires c =
 
 pub invariant_of-self : goal.invariant_of-self
 invariant_of-self c = record {
+  bucketed = buckets_pushed c.self.inside.records c.self.inside.order.items c.self.inside.buckets.slots _ _
+      c.lowest_free-slot.result c.command.result.reference c.args.new.item c.self.invariant.bucketed
+      (untaken c.self.invariant.kept c.lowest_free-slot.ensures) c.lowest_free-slot.ensures.low
+      c.self.invariant.kept.records_64 (ap (λ (k : Command). k.reference) c.command.ensures) c.come.ensures
+      c.push.ensures.items;
   ranges_64 = ap length c.set.ensures ∙ (length-set c.self.inside.ranges c.lowest_free-slot.result
       c.args.new.target.range
       ∙ c.self.invariant.ranges_64);
@@ -19,7 +25,7 @@ invariant_of-self c = record {
       c.self.invariant.ranged c.set.ensures;
   kept = kept_pushed c.args.new.item c.args.new.target
       c.self.invariant.kept c.lowest_free-slot.ensures c.requires.drive c.from.ensures c.is_sequential.ensures
-      (ap not c.is_unstarted.ensures ∙ serves_if c.args.new.item.done) c.come.ensures c.push.ensures.items;
+      (ap not c.is_unstarted.ensures ∙ serves_if c.args.new.item.done) c.come-2.ensures c.push.ensures.items;
 }
 
 pub returns-clause-lowest : goal.returns-clause-lowest

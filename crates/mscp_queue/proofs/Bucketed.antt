@@ -1,0 +1,130 @@
+-- The buckets stay those of the waiting commands, and a command is found by its number.
+use Rattle.mscp_queue.proofs.Basics.{◌≡◌, ◌≢◌, ◌<◌, ◌+◌, ◌^◌, ◌⊎◌, ⊎_elim, inl, inr, ℕ, suc, Bool, true, false, cond, ◌&&◌, ◌||◌, nat_eq, List, [], ◌∷◌, ◌++◌, map, set, take, drop, remove, get_or, length, sym, subst, ap, ◌∙◌, refl, arith, bit_at, slice_index_or, eq-eqb, get_or-set_other, get_or-set_same, list_any, count_ones, one_bit, same_or, true≢false, Masks, AreSlots, Record, and_parts, ne_eqb, slot_low, has_name, AreApart, IfSome, item_there, length-map, Option, Some, None, is_some, name_of, names, no_record, position, position_any, record_at, Slot, slot_at, shown, IsNumber, cut_order, number_of, slot_is, same_is}
+use Rattle.mscp_queue.proofs.Common.{and_right, IfNone, AreBuckets, AreClasses, AreKept, AreSlotted, IsPut, IsSet, Name, Target, bit, bucket_at, bucket_of, has, items}
+use Rattle.mscp_queue.proofs.Masked.{classes_pushed}
+use Rattle.mscp_queue.proofs.Departed.{classes_without, order_left}
+use Rattle.mscp_queue.proofs.Nexts.{name_found}
+use Rattle.mscp_queue.proofs.Counted.{place_counted, placed}
+
+pub buckets_pushed : (rs : List Record) (order old new next : List ℕ) (n reference : ℕ) (r : Record)
+    → AreBuckets rs order old → has n order ≡ false → n < 64 → length rs ≡ 64 → reference ≡ r.command.reference
+    → IsPut true n reference old new → next ≡ order ++ n ∷ [] → AreBuckets (set rs n r) next new
+buckets_pushed rs order old new next n reference r h free low long is put e =
+    let item : get_or (set rs n r) n no_record ≡ r = get_or-set_same rs n r no_record (omega (arith, low, long)) in
+    let own : bucket_of reference ≡ bucket_at (set rs n r) n =
+    ap bucket_of (is ∙ sym (ap (λ (q : Record). q.command.reference) item)) in
+    subst (λ o. AreBuckets (set rs n r) o new) (sym e)
+    (classes_pushed (bucket_at rs) (bucket_at (set rs n r)) order old new n h free low
+    (λ k d. ap (λ (q : Record). bucket_of q.command.reference) (get_or-set_other rs n k r no_record d))
+    (subst (λ b. IsSet true n (get_or old b 0) (get_or new b 0)) own put.own)
+    (λ u d. put.others u (λ f. d (f ∙ own))))
+
+pub buckets_left : (rs : List Record) (order old new next : List ℕ) (place n reference : ℕ)
+    → AreBuckets rs order old → AreSlots order → IsNumber order place n
+    → reference ≡ (get_or rs n no_record).command.reference
+    → IsPut false n reference old new → next ≡ remove order place → AreBuckets rs next new
+buckets_left rs order old new rest place n reference h apart at is put e =
+    let cut = cut_order order place n at in
+    let own = ap bucket_of is in
+    let next : suc place ≡ place + 1 = omega arith in
+    subst (λ o. AreBuckets rs o new) (order_left (take place order) (drop (place + 1) order) n
+    (subst AreSlots cut apart) ∙ (ap (λ k. take place order ++ drop k order) (sym next) ∙ sym e))
+    (classes_without (bucket_at rs) (take place order ++ n ∷ drop (place + 1) order) old new n
+    (subst (λ o. AreBuckets rs o old) cut h) at.low
+    (subst (λ b. IsSet false n (get_or old b 0) (get_or new b 0)) own put.own)
+    (λ u d. put.others u (λ f. d (f ∙ own))))
+
+-- where a record keeps its number
+pub buckets_kept : (rs : List Record) (order buckets : List ℕ) (n : ℕ) (r : Record) → AreBuckets rs order buckets
+    → n < 64 → length rs ≡ 64 → r.command.reference ≡ (get_or rs n no_record).command.reference
+    → AreBuckets (set rs n r) order buckets
+buckets_kept rs order buckets n r h low long same u k l =
+    h u k l ∙ ap (λ c. bit (has k order && nat_eq c u)) (by (same_or k n))
+  where
+    by : (k ≡ n) ⊎ (k ≢ n) → bucket_at rs k ≡ bucket_at (set rs n r) k
+    by (inl e) = ap (bucket_at rs) e ∙ (ap bucket_of (sym same)
+        ∙ (ap (λ (q : Record). bucket_of q.command.reference)
+        (sym (get_or-set_same rs n r no_record (omega (arith, low, long)))) ∙ ap (bucket_at (set rs n r)) (sym e)))
+    by (inr d) = ap (λ (q : Record). bucket_of q.command.reference) (sym (get_or-set_other rs n k r no_record d))
+
+-- ---- a search
+-- what is left of a bucket has slots of it, and of the others none has a command of this name
+pub record Searches (name : Name) (rs : List Record) (bucket left : ℕ) : Type 0 where
+  pub of_bucket : (k : ℕ) → k < 64 → bit_at left k ≡ 1 → bit_at bucket k ≡ 1
+  pub seen : (k : ℕ) → k < 64 → bit_at bucket k ≡ 1 → bit_at left k ≡ 0 → has_name name (get_or rs k no_record) ≡ false
+
+pub searches_first : (name : Name) (rs : List Record) (bucket : ℕ) → Searches name rs bucket bucket
+searches_first name rs bucket = record {
+  of_bucket = λ k l on. on;
+  seen = λ k l on off. absurd (omega (arith, on, off));
+}
+
+pub searches_on : {name : Name} {rs : List Record} {bucket left : ℕ} (slot left' : ℕ) → Searches name rs bucket left
+    → slot < 64 → IsSet false slot left left' → has_name name (get_or rs slot no_record) ≡ false
+    → Searches name rs bucket left'
+searches_on {name} {rs} {bucket} {left} slot left' h low set miss = record {
+  of_bucket = λ k l on. ⊎_elim (λ e. let off = here k l e in absurd (omega (arith, on, off)))
+      (λ d. h.of_bucket k l (sym (kept k l d) ∙ on)) (same_or k slot);
+  seen = λ k l on off. ⊎_elim (λ e. ap (λ k. has_name name (get_or rs k no_record)) e ∙ miss)
+      (λ d. h.seen k l on (sym (kept k l d) ∙ off)) (same_or k slot);
+}
+  where
+    kept : (k : ℕ) → k < 64 → k ≢ slot → bit_at left' k ≡ bit_at left k
+    kept k l d = set k l ∙ ap (λ b. cond b 0 (bit_at left k)) (ne_eqb k slot d)
+
+    here : (k : ℕ) → k < 64 → k ≡ slot → bit_at left' k ≡ 0
+    here k l e = set k l ∙ ap (λ b. cond b 0 (bit_at left k)) (eq-eqb k slot e)
+
+module _ {rs : List Record} {own : List Target} {order : List ℕ} {m : Masks} {ranges buckets : List ℕ} (ds : List ℕ)
+    (now : List Slot) (slotted : AreSlotted rs own order m ranges buckets) (view : shown rs own ds order ≡ now)
+    (name : Name) (left : ℕ) (h : Searches name rs (get_or buckets (bucket_of name.reference) 0) left) where
+  -- a slot that is left stands at a place
+  pub number_in : (slot : ℕ) → slot < 64 → bit_at left slot ≡ 1 → (place : ℕ) × IsNumber order place slot
+  number_in slot low on =
+      let bits = sym (slotted.bucketed (bucket_of name.reference) slot low) ∙ h.of_bucket slot low on in
+      let taken = and_parts (has slot order) (nat_eq (bucket_at rs slot) (bucket_of name.reference)) (one_bit _ bits) in
+      let at = placed order slot taken.0 in
+      (at.0, record { low = low; taken = taken.0; inside = at.1; is = at.2 })
+
+  -- in the end no command has the name
+  pub none_named : ((k : ℕ) → k < 64 → bit_at left k ≡ 0) → list_any (has_name name) (items now) ≡ false
+  none_named off = ap (λ s. list_any (has_name name) (items s)) (sym view) ∙ any_off order each
+    where
+      any_off : (xs : List ℕ) → ((k : ℕ) → has k xs ≡ true → has_name name (get_or rs k no_record) ≡ false)
+          → list_any (has_name name) (items (shown rs own ds xs)) ≡ false
+      any_off [] e = refl
+      any_off (s ∷ xs) e =
+          ap (λ b. b || list_any (has_name name) (items (shown rs own ds xs)))
+          (e s (ap (λ b. b || has s xs) (eq-eqb s s refl)))
+          ∙ any_off xs (λ k there. e k (ap (λ b. nat_eq k s || b) there ∙ or_true (nat_eq k s)))
+        where
+          or_true : (b : Bool) → (b || true) ≡ true
+          or_true true = refl
+          or_true false = refl
+
+      each : (k : ℕ) → has k order ≡ true → has_name name (get_or rs k no_record) ≡ false
+      each k there =
+          let at = placed order k there in
+          let low : k < 64 = subst (λ k. k < 64) (sym at.2) (slot_low order at.0 slotted.kept.masks.apart at.1) in
+          ⊎_elim
+          (λ e. h.seen k low (slotted.bucketed (bucket_of name.reference) k low
+          ∙ ap bit ((λ i. there i && eq-eqb (bucket_at rs k) (bucket_of name.reference) e i))) (off k low))
+          (λ d. and_right _ _ (ne_eqb (get_or rs k no_record).command.reference name.reference (λ f. d (ap bucket_of f))))
+          (same_or (bucket_at rs k) (bucket_of name.reference))
+
+-- ---- among names that stand once
+-- a place of a command of this name is that of the first one, and where there is none there is no first
+pub found_place : (name : Name) (now : List Slot) (o : Option ℕ) → AreApart (names (items now))
+    → IfSome o (λ place. (place < length now) × (has_name name (slot_at now place).item ≡ true))
+    → IfNone o (list_any (has_name name) (items now) ≡ false) → o ≡ position (has_name name) (items now)
+found_place name now (Some place) apart some none =
+    let named = ap (has_name name) (sym (item_there now place some.0)) ∙ some.1 in
+    sym (name_found (items now) name place (position (has_name name) (items now)) apart
+    (let l = some.0 in omega (arith, l, length-map now (λ (s : Slot). s.item)))
+    (same_is (name_of (record_at (items now) place)) name named) refl)
+found_place name now None apart some none =
+    sym (no_place (position (has_name name) (items now)) (position_any (has_name name) (items now) ∙ none))
+  where
+    no_place : (o : Option ℕ) → is_some o ≡ false → o ≡ None
+    no_place None e = refl
+    no_place (Some place) e = absurd (true≢false e)
