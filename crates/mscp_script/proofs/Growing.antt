@@ -1,5 +1,15 @@
 -- A report grows by an entry as the run does.
 use Rattle.mscp_script.proofs.Common.{arith, ◌≡◌, ℕ, ◌+◌, List, [], ◌∷◌, ◌++◌, length-append, replicate, Result, OnOk, ap, subst, ◌∙◌, refl, flat_map, sum_by_push, append_assoc, flat_map_more, replicate_more, Choice, IsSweep, OutOfMemory, Event, Entry, Settings, Answered, Answers, Holdings, fresh, Meets, Ran, Runs, Run, Reported, entry_lines, reported, with_entry}
+use Rattle.mscp_drive.specs.Both.{Both}
+use Rattle.mscp_drive.specs.declared.block.Block.{Block}
+use Rattle.mscp_packet.specs.declared.end.End.{End}
+use Rattle.mscp_queue.specs.Lines.{Line}
+use Rattle.mscp_queue.specs.declared.report.Report.TheVariants.{Idle}
+use Rattle.mscp_controller.specs.Holdings.{Steps, ends_after}
+use Rattle.mscp_drive.specs.declared.event.Event.TheVariants as events
+use Rattle.mscp_script.proofs.Common.{Sweep, Err}
+use Rattle.std.specs.Prelude.{Ok}
+use Rattle.std.proofs.Common.{append-nil, suc, sym, zero}
 
 pub reported_more : (all : List Entry) (entry : Entry) → with_entry (reported all) entry ≡ reported (all ++ entry ∷ [])
 reported_more all entry =
@@ -57,3 +67,53 @@ pub meets_more : {A : Type 0} (a b d : Run A) (n : ℕ) (e : Event) → Meets a 
 meets_more a b d n e m ran = λ c es runs.
     let more : Runs c ((es ++ replicate n e) ++ e ∷ []) d = runs_more c (es ++ replicate n e) b d e (m c es runs) ran in
     search (arith, append_assoc, replicate_more)
+
+-- ---- an idle step
+no_ends : (ends : Both (List End)) → ends_after ends Idle ≡ ends
+no_ends ends = λ i. record { first = append-nil ends.first i; second = append-nil ends.second i }
+
+-- it leaves all as it is
+pub idle_same : {K : Type 0} (picks : List Choice → ℕ → Type 0) (k : Block) (old new : Holdings K)
+    → Steps picks k old Idle new → new ≡ old
+idle_same {K} picks k old new s =
+    let line = s.serves.2 in
+    λ i. record {
+      settings = s.settings i;
+      waiting = ap (λ (l : Line K). l.waiting) line i;
+      untaken = (s.ends ∙ no_ends old.untaken) i;
+      drives = ap (λ (l : Line K). l.drives) line i;
+      begun = ap (λ (l : Line K). l.begun) line i;
+      picker = ap (λ (l : Line K). l.picker) line i;
+    }
+
+-- so whatever block is served next, that step is idle, too
+pub idle_again : {K : Type 0} (picks : List Choice → ℕ → Type 0) (k : Block) (old new : Holdings K)
+    → Steps picks k old Idle new → (j : Block) → Steps picks j new Idle new
+idle_again {K} picks k old new s j =
+    let line = s.serves.2 in
+    record {
+      serves = (ap (λ (l : Line K). l.waiting) line ∙ s.serves.0, ap (λ (l : Line K). l.begun) line ∙ s.serves.1, refl);
+      ends = sym (no_ends new.untaken);
+      settings = refl;
+    }
+
+many_more : {X : Type 0} (n m : ℕ) (x : X) → replicate n x ++ replicate m x ≡ replicate (n + m) x
+many_more zero m x = let none : m ≡ zero + m = omega arith in ap (λ k. replicate k x) none
+many_more (suc n) m x =
+    let more : suc (n + m) ≡ suc n + m = omega arith in
+    ap (λ xs. x ∷ xs) (many_more n m x) ∙ ap (λ k. replicate k x) more
+
+-- the same event so many times, and then as often as is left, of idle steps
+pub meets_idle : {A : Type 0} (r : Result (Unit {0}) OutOfMemory) (a b new : Run A) (mid : Holdings Sweep) (k : Block)
+    (n m count : ℕ) → Meets a b (replicate n (events.Step k)) → mid ≡ b.controller
+    → OnOk r ((j : Block) → Meets (record { controller = mid; reporter = b.reporter }) new (replicate m (events.Step j)))
+    → n + m ≡ count → OnOk r (Meets a new (replicate count (events.Step k)))
+meets_idle (Err fault) a b new mid k n m count before same after all = tt
+meets_idle {A} (Ok done) a b new mid k n m count before same after all = λ c es runs.
+    let whole : replicate n (events.Step k) ++ replicate m (events.Step k) ≡ replicate count (events.Step k) =
+    many_more n m (events.Step k) ∙ ap (λ i. replicate i (events.Step k)) all in
+    let next : Meets b new (replicate m (events.Step k)) =
+    subst (λ (h : Holdings Sweep). Meets (record { controller = h; reporter = b.reporter }) new
+    (replicate m (events.Step k))) same (after k) in
+    subst (λ xs. Runs c xs new) (append_assoc es (replicate n (events.Step k)) (replicate m (events.Step k))
+    ∙ ap (λ xs. es ++ xs) whole) (next c (es ++ replicate n (events.Step k)) (before c es runs))

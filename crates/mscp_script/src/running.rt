@@ -1,7 +1,9 @@
 // A controller that is driven event by event, and the report of what it answers.
 
 ghost use Rattle.std.specs.Prelude.{◌≡◌, ◌+◌, ◌<◌, ◌^◌, [], length, replicate, OnErr, OnOk};
-ghost use Rattle.mscp_controller.specs.Holdings.{fresh};
+ghost use Rattle.mscp_controller.specs.Holdings.{Steps, fresh};
+ghost use Rattle.mscp_queue.specs.Pickers.{IsSweep};
+ghost use Rattle.mscp_queue.specs.declared.report.Report.TheVariants.{Idle};
 ghost use Rattle.mscp_drive.specs.Settings.{IsValid};
 ghost use Rattle.mscp_drive.specs.declared.event.Event.TheVariants as events;
 ghost use Rattle.mscp_reader.specs.Requests.{events_of};
@@ -9,7 +11,7 @@ ghost use Rattle.mscp_script.specs.Running.{Meets, Ran};
 ghost use Rattle.mscp_script.specs.Text.{reported};
 
 use crate::reporting::Reporter;
-use mscp_controller::{Block, Config, Connection, Controller, OutOfMemory, Sweep};
+use mscp_controller::{Block, Config, Connection, Controller, OutOfMemory, Report, Sweep};
 use mscp_packet::write_command;
 use mscp_reader::{Request, bytes_in};
 use mscp_text::Out;
@@ -64,14 +66,19 @@ impl<O: Out> Run<O> {
         self.reporter.taken(connection, &end)
     }
 
-    /// The drive serves one block, with this outcome.
-    fn step(&mut self, block: Block) -> Result<(), OutOfMemory>
-        requires { self.old.reporter.count + 1 < 2 ^ 64 }
-        ensures ran { OnOk result (Ran self.old self.new (events.Step block)) }
+    /// So many idle steps, where nothing waits: the controller isn't asked, since each would leave it as it is.
+    fn idle(&mut self, count: u32)
+        -> Result<(), OutOfMemory>
+        requires room { self.old.reporter.count + count < 2 ^ 64 }
+        requires idle { (k : Block) → Steps IsSweep k self.old.controller Idle self.old.controller }
+        ensures met { OnOk result ((k : Block) → Meets self.old self.new (replicate count (events.Step k))) }
+        ensures count { OnOk result (self.new.reporter.count ≡ self.old.reporter.count + count) }
         ensures refused { OnErr result O.refuses }
     {
-        let report = self.controller.step(block);
-        self.reporter.stepped(&report)
+        for _step in 0..count {
+            self.reporter.idled()?;
+        }
+        Ok(())
     }
 
     /// The figures of all waiting commands are asked for.
@@ -92,8 +99,12 @@ impl<O: Out> Run<O> {
         ensures count { OnOk result (self.new.reporter.count ≡ self.old.reporter.count + count) }
         ensures refused { OnErr result O.refuses }
     {
-        for _step in 0..count {
-            self.step(*block)?;
+        for step in 0..count {
+            let report = self.controller.step(*block);
+            if let Report::Idle = report {
+                return self.idle(count - step);
+            }
+            self.reporter.stepped(&report)?;
         }
         Ok(())
     }
