@@ -23,6 +23,7 @@ pub use Rattle.mscp_queue.specs.Figures.{figure_of_name, figures}
 pub use Rattle.mscp_queue.specs.Kept.{IsOfUnit, begun_name}
 pub use Rattle.mscp_queue.specs.Names.{name_on}
 pub use Rattle.mscp_queue.specs.Orders.{first_block, order_weight}
+pub use Rattle.mscp_packet.specs.Commands.{IsCommand}
 pub use Rattle.mscp_queue.specs.Outcomes.{IsCoded, end_with}
 pub use Rattle.mscp_queue.specs.Records.{IsAlone, IsServing, has_name, record_at, without}
 pub use Rattle.mscp_queue.specs.Serving.{place_begun}

@@ -1,7 +1,7 @@
 // A controller: its queue, and the account of each connection's host.
 
-ghost use Rattle.std.specs.Prelude.{◌≡◌, ◌+◌, ◌≤◌, ◌^◌, true, false, slice_get, IfErr, IfSome, None, Some};
-ghost use Rattle.mscp_controller.specs.Common.{IsEnd, IsOfKind, first_block, order_weight, name_on, IsCoded, credit_fault, fault_of, holds, is_queued, CanEnd, reported, of, IsValid, Answers, Finishes, Foretells, IsBalanced, Steps, aborting, after_message, after_take, answer_to_message, answered_end, arrives, balance_of, begun_step, end_taken, with_end, outstanding_of, queued, reference_aborted, taken_as};
+ghost use Rattle.std.specs.Prelude.{◌≡◌, ◌+◌, ◌≤◌, ◌^◌, ℕ, List, true, false, slice_get, IfErr, IfSome, None, Some};
+ghost use Rattle.mscp_controller.specs.Common.{IsCommand, IsEnd, IsOfKind, first_block, order_weight, name_on, IsCoded, credit_fault, fault_of, holds, is_queued, CanEnd, reported, of, IsValid, Answers, Finishes, Foretells, IsBalanced, Steps, aborting, after_message, after_take, answer_to_message, answered_end, arrives, balance_of, begun_step, end_taken, with_end, outstanding_of, queued, reference_aborted, taken_as};
 ghost use Rattle.mscp_controller.specs.Holdings.{fresh};
 
 mod restoring;
@@ -267,6 +267,23 @@ impl<K: Picker> Controller<K> {
         // The account is known only where a field is used, and a message may be refused for its size before that.
         let _ = &self.config;
         let command = read_command(b)?;
+        self.send_command(connection, command)
+    }
+
+    /// Takes a command of the connection's host in, as `send` takes each message that is this command: who has the command
+    /// needs no bytes of it. A refusal changes nothing.
+    #[inline(always)]
+    pub fn send_command(
+        &mut self,
+        connection: Connection,
+        command: Command,
+    ) -> Result<Sent, SendFault>
+        requires coded { IsCoded command.order }
+        ensures answer { (b : List ℕ) → IsCommand b command → result ≡ answer_to_message connection self.old b }
+        ensures after { (b : List ℕ) → IsCommand b command → self.new ≡ after_message connection self.old b }
+        ensures unchanged { IfErr result (λ fault. self.new ≡ self.old) }
+        ensures account { IsBalanced self.new }
+    {
         match self.credit_fault(connection, command.opcode(), command.reference) {
             Some(fault) => Err(fault),
             None => Ok(self.arrive(connection, command)),

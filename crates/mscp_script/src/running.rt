@@ -2,6 +2,7 @@
 
 ghost use Rattle.std.specs.Prelude.{◌≡◌, ◌+◌, ◌<◌, ◌^◌, [], length, replicate, OnErr, OnOk};
 ghost use Rattle.mscp_controller.specs.Holdings.{Steps, fresh};
+ghost use Rattle.mscp_packet.specs.Commands.{IsValidOrder, command_bytes};
 ghost use Rattle.mscp_queue.specs.Pickers.{IsSweep};
 ghost use Rattle.mscp_queue.specs.declared.report.Report.TheVariants.{Idle};
 ghost use Rattle.mscp_drive.specs.Settings.{IsValid};
@@ -12,7 +13,7 @@ ghost use Rattle.mscp_script.specs.Text.{reported};
 
 use crate::reporting::Reporter;
 use mscp_controller::{Block, Config, Connection, Controller, OutOfMemory, Report, Sweep};
-use mscp_packet::write_command;
+use mscp_packet::{Command, Order, write_command};
 use mscp_reader::{Request, bytes_in};
 use mscp_text::Out;
 
@@ -51,6 +52,18 @@ impl<O: Out> Run<O> {
         ensures refused { OnErr result O.refuses }
     {
         let sent = self.controller.send(connection, message);
+        self.reporter.sent(connection, &sent)
+    }
+
+    /// The connection's host sends the message of this command. Its bytes aren't written, only to be read again.
+    fn send_command(&mut self, connection: Connection, command: Command) -> Result<(), OutOfMemory>
+        requires room { self.old.reporter.count + 1 < 2 ^ 64 }
+        requires valid { IsValidOrder command.order }
+        ensures ran { OnOk result
+            (Ran self.old self.new (events.Send connection (record { items = command_bytes command }))) }
+        ensures refused { OnErr result O.refuses }
+    {
+        let sent = self.controller.send_command(connection, command);
         self.reporter.sent(connection, &sent)
     }
 
@@ -118,9 +131,12 @@ impl<O: Out> Run<O> {
         ensures refused { OnErr result O.refuses }
     {
         match request {
-            Request::Send(connection, command) => {
-                self.send(*connection, write_command(command).as_slice())
-            }
+            Request::Send(connection, command) => match command.order {
+                Order::Invalid { .. } => {
+                    self.send(*connection, write_command(command).as_slice())
+                }
+                _ => self.send_command(*connection, *command),
+            },
             Request::Packet(connection, digits) => {
                 self.send(*connection, bytes_in(digits).as_slice())
             }

@@ -1,5 +1,8 @@
 -- What is known of a message that isn't refused.
-use Rattle.mscp_controller.proofs.Common.{◌≡◌, ℕ, Bool, true, false, ◌&&◌, ◌||◌, List, [], ◌∷◌, ◌++◌, refl, ap, arith, cond, nat_eq, slice_index, None, list_any, list_any-append, le-ltb, true≢false, Connection, name_on, same_connection, Record, has_name, Command, IsCommand, command_of, End, numbers, numbers_ended, waiting_on, credit_fault, holds, refusal}
+use Rattle.mscp_controller.proofs.Common.{◌≡◌, ℕ, Bool, true, false, ◌&&◌, ◌||◌, List, [], ◌∷◌, ◌++◌, refl, ap, arith, cond, nat_eq, slice_index, None, list_any, list_any-append, le-ltb, true≢false, Connection, name_on, same_connection, Record, has_name, Command, IsCommand, Option, subst, sym, ◌∙◌, command_of, End, numbers, numbers_ended, waiting_on, credit_fault, holds, refusal}
+use Rattle.mscp_packet.proofs.Kept.{opcode_kept}
+use Rattle.mscp_packet.specs.Commands.{opcode_byte}
+use Rattle.mscp_controller.specs.declared.entry.SendFault.{SendFault}
 
 -- a message is the command that it is read as
 pub command_is : (b : List ℕ) (c : Command) → IsCommand b c → c ≡ command_of b
@@ -31,6 +34,15 @@ holds_either rs via es reference =
 pub taken : (balance : ℕ) (outstanding b : List ℕ) (command : Command) → IsCommand b command
     → credit_fault balance outstanding (slice_index b 8) command.reference ≡ None → refusal balance outstanding b ≡ None
 taken balance outstanding b command h e = search (arith, le-ltb)
+
+-- whatever message it is
+pub free_of : (balance : ℕ) (outstanding b : List ℕ) (command : Command) (opcode : ℕ) (fault : Option SendFault)
+    → opcode ≡ opcode_byte command.order → fault ≡ credit_fault balance outstanding opcode command.reference
+    → fault ≡ None → IsCommand b command → refusal balance outstanding b ≡ None
+free_of balance outstanding b command opcode fault byte is none h =
+    let there : opcode ≡ slice_index b 8 = byte ∙ opcode_kept b command.order h.order in
+    taken balance outstanding b command h (subst (λ n. credit_fault balance outstanding n command.reference ≡ None) there
+    (sym is ∙ none))
 
 -- no command that waits has a reference number that isn't outstanding
 or_left : (a b : Bool) → (a || b) ≡ false → a ≡ false
