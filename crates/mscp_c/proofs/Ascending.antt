@@ -1,7 +1,8 @@
 -- What becomes of units, of which each is good by itself.
 --     rises, steps      the test tells whether the numbers rise
---     taken, refused    what is answered, by what `Units::new` answers
+--     taken, refused    what is answered, by what `Units::of` answers
 use Rattle.mscp_c.proofs.Common.{◌≡◌, ℕ, zero, suc, ◌+◌, ◌<◌, ◌≤◌, List, [], ◌∷◌, length, map, Bool, true, false, nat_lt, ◌&&◌, refl, slice_index_or, add-one, None, Result, Ok, Err, subst, sym, ◌∙◌, ◌↔◌, length-map, false_from_ne_true, false≢true, Shape, IsUnitList, NumbersRise, UnitsFault, TooMany, NotAscending, Empty, UnitIn, first_fault, numbers_rise, rises_above, unit_given, units_answer}
+use Rattle.std.specs.Prelude.{◌≢◌}
 use native.Mathlib.Omega.{arith}
 use Rattle.mscp_c.specs.declared.units.InitFault.TheVariants as faults
 
@@ -55,12 +56,11 @@ none (u ∷ us) e = cc
 
 pub refused : (us : List UnitIn) (xs : List Shape) (r : Result (List Shape) UnitsFault) (fault : UnitsFault)
     → r ≡ Err fault → xs ≡ map unit_given us → length us ≤ 16 → first_fault us ≡ None
-    → ((r ≡ Err TooMany) ↔ (16 < length xs))
-    → ((r ≡ Err NotAscending) ↔ ((length xs ≤ 16) × ¬ NumbersRise xs))
+    → r ≢ Err TooMany
+    → ((r ≡ Err NotAscending) ↔ ¬ NumbersRise xs)
     → ((r ≡ Err Empty) ↔ (xs ≡ []))
     → Err (faults.Units fault) ≡ units_answer us
 refused us xs r TooMany e x l n many falls empty =
-    let m : 16 < length (map unit_given us) = subst (λ ys. 16 < length ys) x (many.0 e) in
-    absurd (omega (arith, length-map us unit_given))
-refused us xs r NotAscending e x l n many falls empty = fall us l n (subst (λ ys. ¬ NumbersRise ys) x (falls.0 e).1)
+    absurd (many e)
+refused us xs r NotAscending e x l n many falls empty = fall us l n (subst (λ ys. ¬ NumbersRise ys) x (falls.0 e))
 refused us xs r Empty e x l n many falls empty = none us (sym x ∙ empty.0 e)

@@ -101,7 +101,7 @@ pub(crate) fn units_of(given: &[UnitIn]) -> Result<Units, InitFault>
             Err(fault) => return Err(InitFault::Unit(fault)),
         }
     }
-    match Units::new(list.as_slice()) {
+    match Units::of(list) {
         Ok(units) => Ok(units),
         Err(fault) => Err(InitFault::Units(fault)),
     }

@@ -1,6 +1,6 @@
 // The units of a controller.
 
-ghost use Rattle.std.specs.Prelude.{◌≡◌, ◌↔◌, ◌<◌, ◌≤◌, [], length, IsTrue, IfOk};
+ghost use Rattle.std.specs.Prelude.{◌≡◌, ◌≢◌, ◌↔◌, ◌<◌, ◌≤◌, [], length, IsTrue, IfOk};
 ghost use Rattle.mscp_drive.specs.Common.{option_copied, IsUnitList, NumbersRise, unit_found};
 
 use crate::unit::Unit;
@@ -52,14 +52,26 @@ impl Units {
         if units.len() > MOST_UNITS {
             return Err(UnitsFault::TooMany);
         }
-        if !numbers_rise(units) {
-            return Err(UnitsFault::NotAscending);
-        }
-        if units.is_empty() {
-            return Err(UnitsFault::Empty);
-        }
         let mut list = ArrayVec::new();
         let _ = list.try_extend_from_slice(units);
+        Units::of(list)
+    }
+
+    /// The units of a list that has room for no more than 16: it becomes theirs, and no other is made.
+    #[inline(always)]
+    pub fn of(list: ArrayVec<Unit, 16>) -> Result<Units, UnitsFault>
+        ensures many { result ≢ Err UnitsFault.TooMany }
+        ensures ascending { (result ≡ Err UnitsFault.NotAscending) ↔ ¬ NumbersRise list.items }
+        ensures empty { (result ≡ Err UnitsFault.Empty) ↔ (list.items ≡ []) }
+        ensures taken { (result ≡ Ok list.items) ↔ IsUnitList list.items }
+        ensures same { IfOk result (λ units. units ≡ list.items) }
+    {
+        if !numbers_rise(list.as_slice()) {
+            return Err(UnitsFault::NotAscending);
+        }
+        if list.is_empty() {
+            return Err(UnitsFault::Empty);
+        }
         Ok(Units { list })
     }
 
