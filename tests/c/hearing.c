@@ -34,14 +34,41 @@ static uint8_t *envelope(unsigned kind, unsigned credits, uint32_t length)
     return bytes;
 }
 
-/* The port sends what stands in `bytes`, and that comes of it. If it is refused, nothing is told and no credit comes. */
-static void hears(const char *what, int32_t wanted)
+static void tells(const struct mscp_heard *wanted)
 {
-    int64_t before = mscp_driver_credits(driver), after = before + (wanted < 0 ? 0 : bytes[2] & 15);
+    is("figure", heard.figure, wanted->figure);
+    is("reference", heard.reference, wanted->reference);
+    is("moved", heard.moved, wanted->moved);
+    is("asked", heard.asked, wanted->asked);
+    is("unit", heard.unit, wanted->unit);
+    is("status", heard.status, wanted->status);
+    is("code", heard.code, wanted->code);
+    is("opcode", heard.opcode, wanted->opcode);
+    is("credits", heard.credits, wanted->credits);
+}
+
+/* The port sends what stands in `bytes`. This comes of it, and is told. */
+static void hears(const char *what, int32_t wanted, struct mscp_heard told)
+{
+    int64_t before = mscp_driver_credits(driver);
     memset(&heard, 0x5A, sizeof heard);
     is(what, mscp_driver_hear(driver, &watch, bytes, 4 + number(bytes, 2), &heard), wanted);
-    is("its credits", mscp_driver_credits(driver), after);
-    is("it is told", heard.credits, wanted < 0 ? 0x5A : wanted == MSCP_CREDITS ? bytes[2] & 15 : 0);
+    is("its credits", mscp_driver_credits(driver), before + (bytes[2] & 15));
+    tells(&told);
+}
+
+static void says_nothing(const char *what, int32_t wanted) { hears(what, wanted, (struct mscp_heard){0}); }
+
+/* It is refused: nothing is told, and no credit comes. */
+static void refuses(const char *what, int32_t wanted)
+{
+    struct mscp_heard untold;
+    int64_t before = mscp_driver_credits(driver);
+    memset(&untold, 0x5A, sizeof untold);
+    heard = untold;
+    is(what, mscp_driver_hear(driver, &watch, bytes, 4 + number(bytes, 2), &heard), wanted);
+    is("its credits", mscp_driver_credits(driver), before);
+    tells(&untold);
 }
 
 /* An end of a command to unit 3, of so many bytes. */
@@ -78,9 +105,10 @@ static void answers(uint32_t reference, uint32_t about, uint32_t figure, int32_t
     end(reference, 0x82, 0, 20);
     put(bytes + 16, 4, about);
     put(bytes + 20, 4, figure);
-    hears("a figure", wanted);
-    if (wanted == MSCP_FIRST || wanted == MSCP_PROGRESS)
-        is("it is told", heard.figure, figure);
+    if (wanted < 0)
+        refuses("a figure", wanted);
+    else
+        hears("a figure", wanted, (struct mscp_heard){.figure = wanted == MSCP_FIRST || wanted == MSCP_PROGRESS ? figure : 0});
 }
 
 static void messages_are_told_apart(void)
@@ -90,26 +118,28 @@ static void messages_are_told_apart(void)
         is("no envelope", mscp_driver_hear(driver, &watch, bytes, length, &heard), MSCP_CUT);
     envelope(DATAGRAM, 1, 13);
     is("cut", mscp_driver_hear(driver, &watch, bytes, 16, &heard), MSCP_CUT);
-    hears("an error log", MSCP_LOGGED);
+    says_nothing("an error log", MSCP_LOGGED);
     bytes[3] = 1;
-    hears("another connection", MSCP_OTHER_CONNECTION);
+    refuses("another connection", MSCP_OTHER_CONNECTION);
     is("cut before", mscp_driver_hear(driver, &watch, bytes, 16, &heard), MSCP_CUT);
     for (unsigned kind = 3; kind < 16; kind++) {
         envelope(kind, 1, 12);
-        hears("no kind", MSCP_BAD_KIND);
+        refuses("no kind", MSCP_BAD_KIND);
     }
     envelope(CREDITS, 3, 20);
-    hears("credits, and a text", MSCP_CREDITS);
+    hears("credits, and a text", MSCP_CREDITS, (struct mscp_heard){.credits = 3});
     for (uint32_t length = 0; length < 12; length++) {
         envelope(SEQUENTIAL, 1, length);
         bytes[12] = 0x40;
-        hears("a short text", MSCP_UNREADABLE);
+        refuses("a short text", MSCP_UNREADABLE);
     }
     for (unsigned code = 0; code < 0x80; code++) {
         end(7, (uint8_t)code, 0, 12);
-        hears("an attention message", code < 0x40 ? MSCP_UNREADABLE : code == 0x40 ? MSCP_NOW_AVAILABLE : MSCP_ATTENTION);
-        if (code >= 0x40)
-            is("its unit and code", heard.unit == 3 && heard.code == code, 1);
+        if (code < 0x40)
+            refuses("no end", MSCP_UNREADABLE);
+        else
+            hears("an attention message", code == 0x40 ? MSCP_NOW_AVAILABLE : MSCP_ATTENTION,
+                  (struct mscp_heard){.unit = 3, .code = (uint8_t)code});
     }
 }
 
@@ -135,33 +165,29 @@ static void ends_are_told(void)
         bool is_known = COMMANDS[n].opcode != 0x13;
         uint8_t code = is_known ? COMMANDS[n].opcode | 0x80 : 0x80;
         end(n, code == 0xA1 ? 0xA2 : 0xA1, 0, MSCP_MESSAGE_MAX);
-        hears("another's code", MSCP_UNKNOWN);
+        refuses("another's code", MSCP_UNKNOWN);
         end(99, code, 0, COMMANDS[n].length);
-        hears("another's number", MSCP_UNKNOWN);
+        refuses("another's number", MSCP_UNKNOWN);
         if (COMMANDS[n].length > 12) {
             end(n, code, 0, COMMANDS[n].length - 1);
-            hears("a short end", MSCP_UNREADABLE);
+            refuses("a short end", MSCP_UNREADABLE);
         }
         end(n, code, 0x0003, COMMANDS[n].length);
         put(bytes + 16, 4, COMMANDS[n].first);
-        hears("its end", MSCP_ENDED);
-        is("its number", heard.reference, n);
-        is("its status", heard.status, 3);
-        is("its code", heard.code, code);
-        is("its opcode", heard.opcode, COMMANDS[n].opcode);
-        is("it moved", heard.moved, COMMANDS[n].bytes);
-        is("it asked for", heard.asked, COMMANDS[n].bytes);
-        hears("no more", MSCP_UNKNOWN);
+        hears("its end", MSCP_ENDED,
+              (struct mscp_heard){.reference = n, .moved = COMMANDS[n].bytes, .asked = COMMANDS[n].bytes, .unit = 3, .status = 3,
+                                  .code = code, .opcode = COMMANDS[n].opcode});
+        refuses("no more", MSCP_UNKNOWN);
     }
     submits(1, MSCP_READ, 1024, MSCP_DONE);
     end(1, 0xA1, 0, 32);
     put(bytes + 16, 4, 1025);
-    hears("a byte too much", MSCP_MOVED_TOO_MUCH);
-    is("it moved", heard.moved == 1025 && heard.asked == 1024, 1);
+    hears("a byte too much", MSCP_MOVED_TOO_MUCH,
+          (struct mscp_heard){.reference = 1, .moved = 1025, .asked = 1024, .unit = 3, .code = 0xA1, .opcode = MSCP_READ});
     submits(1, MSCP_READ, 1024, MSCP_DONE);
     end(1, 0x80, 0x0801, 12);
-    hears("refused", MSCP_ENDED);
-    is("nothing moved", heard.moved, 0);
+    hears("refused", MSCP_ENDED,
+          (struct mscp_heard){.reference = 1, .asked = 1024, .unit = 3, .status = 0x0801, .code = 0x80, .opcode = MSCP_READ});
 }
 
 static void polls_are_answered(void)
@@ -180,15 +206,15 @@ static void polls_are_answered(void)
     answers(10, 1, 17, MSCP_NO_PROGRESS);
     polls(11, MSCP_DONE);
     end(11, 0x82, 0x0801, 20);
-    hears("no figure", MSCP_REFUSED);
+    hears("no figure", MSCP_REFUSED, (struct mscp_heard){.reference = 11, .unit = 3, .status = 0x0801, .code = 0x82});
     polls(12, MSCP_DONE);
     end(12, 0x80, 0x0801, 12);
-    hears("no valid poll", MSCP_REFUSED);
+    hears("no valid poll", MSCP_REFUSED, (struct mscp_heard){.reference = 12, .unit = 3, .status = 0x0801, .code = 0x80});
     polls(13, MSCP_DONE);
     answers(13, 1, 0, MSCP_LOST);
     polls(14, MSCP_DONE);
     end(1, 0xA1, 0, 32);
-    hears("its end", MSCP_ENDED);
+    hears("its end", MSCP_ENDED, (struct mscp_heard){.reference = 1, .asked = 1024, .unit = 3, .code = 0xA1, .opcode = MSCP_READ});
     answers(14, 1, 0, MSCP_LATE);
     submits(2, MSCP_WRITE, 512, MSCP_DONE);
     polls(15, MSCP_DONE);
@@ -197,7 +223,8 @@ static void polls_are_answered(void)
     submits(4, MSCP_GET_COMMAND_STATUS, 2, MSCP_DONE); /* no poll of the account's own */
     end(4, 0x82, 0, 20);
     put(bytes + 16, 4, 2), put(bytes + 20, 4, 5);
-    hears("its end", MSCP_ENDED);
+    hears("its end", MSCP_ENDED,
+          (struct mscp_heard){.reference = 4, .unit = 3, .code = 0x82, .opcode = MSCP_GET_COMMAND_STATUS});
 }
 
 static void commands_are_refused(void)
@@ -234,6 +261,8 @@ static void credits_are_cut(void)
         int64_t wanted = 1 + 15 * (int64_t)(times + 1);
         is("credits", mscp_driver_hear(driver, &watch, bytes, 4, &heard), MSCP_CREDITS);
         is("how many", mscp_driver_credits(driver), wanted < 65535 ? wanted : 65535);
+        is("save", mscp_driver_save(driver, saved, sizeof saved, &length), MSCP_DONE);
+        is("whether more came", saved[14], wanted > 65535);
     }
     is("save", mscp_driver_save(driver, saved, sizeof saved, &length), MSCP_DONE);
     is("restore", mscp_driver_restore(driver, saved, length), MSCP_DONE);

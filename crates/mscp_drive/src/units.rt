@@ -1,6 +1,6 @@
 // The units of a controller.
 
-ghost use Rattle.std.specs.Prelude.{◌≡◌, ◌≢◌, ◌↔◌, ◌<◌, ◌≤◌, [], length, IsTrue, IfOk};
+ghost use Rattle.std.specs.Prelude.{◌≡◌, ◌↔◌, ◌<◌, ◌≤◌, [], length, IsTrue, IfOk, None, Some};
 ghost use Rattle.mscp_drive.specs.Common.{option_copied, IsUnitList, NumbersRise, unit_found};
 
 use crate::unit::Unit;
@@ -49,30 +49,41 @@ impl Units {
         ensures taken { (result ≡ Ok units.now) ↔ IsUnitList units.now }
         ensures same { IfOk result (λ list. list ≡ units.now) }
     {
-        if units.len() > MOST_UNITS {
-            return Err(UnitsFault::TooMany);
+        if let Some(fault) = Units::fault(units) {
+            return Err(fault);
         }
         let mut list = ArrayVec::new();
         let _ = list.try_extend_from_slice(units);
-        Units::of(list)
+        Ok(Units::of(list))
     }
 
-    /// The units of a list that has room for no more than 16: it becomes theirs, and no other is made.
-    #[inline(always)]
-    pub fn of(list: ArrayVec<Unit, 16>) -> Result<Units, UnitsFault>
-        ensures many { result ≢ Err UnitsFault.TooMany }
-        ensures ascending { (result ≡ Err UnitsFault.NotAscending) ↔ ¬ NumbersRise list.items }
-        ensures empty { (result ≡ Err UnitsFault.Empty) ↔ (list.items ≡ []) }
-        ensures taken { (result ≡ Ok list.items) ↔ IsUnitList list.items }
-        ensures same { IfOk result (λ units. units ≡ list.items) }
+    /// Why a list of units is refused, if it is.
+    pub fn fault(units: &[Unit]) -> Option<UnitsFault>
+        ensures many { (result ≡ Some UnitsFault.TooMany) ↔ (16 < length units.now) }
+        ensures ascending { (result ≡ Some UnitsFault.NotAscending)
+            ↔ ((length units.now ≤ 16) × ¬ NumbersRise units.now) }
+        ensures empty { (result ≡ Some UnitsFault.Empty) ↔ (units.now ≡ []) }
+        ensures none { (result ≡ None) ↔ IsUnitList units.now }
     {
-        if !numbers_rise(list.as_slice()) {
-            return Err(UnitsFault::NotAscending);
+        if units.len() > MOST_UNITS {
+            return Some(UnitsFault::TooMany);
         }
-        if list.is_empty() {
-            return Err(UnitsFault::Empty);
+        if !numbers_rise(units) {
+            return Some(UnitsFault::NotAscending);
         }
-        Ok(Units { list })
+        if units.is_empty() {
+            return Some(UnitsFault::Empty);
+        }
+        None
+    }
+
+    /// The units of a list that isn't refused. It becomes theirs where it lies: no other is made.
+    #[inline(always)]
+    pub fn of(list: ArrayVec<Unit, 16>) -> Units
+        requires { IsUnitList list.items }
+        ensures { result ≡ list.items }
+    {
+        Units { list }
     }
 
     /// The units, in rising order of their numbers.

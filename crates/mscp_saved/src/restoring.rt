@@ -33,7 +33,7 @@ fn settings_in(b: &[u8], drives: &[Drive]) -> Result<Config, RestoreFault>
     ensures { result ≡
         unless (settings_in b.now drives.now) (settings_fault (settings_in b.now drives.now)) }
 {
-    let Ok(units) = Units::of(units_of(drives)) else {
+    let Ok(units) = Units::new(units_of(drives).as_slice()) else {
         return Err(RestoreFault::Units);
     };
     let (credits, second) = (four_at(b, 12), four_at(b, 16));
