@@ -105,8 +105,8 @@ fn gather(list: &mut ArrayVec<Unit, 16>, given: &[UnitIn]) -> Option<UnitFault>
     None
 }
 
-/// Puts the units of these numbers into a list that has none, or says why there are none: too many, one of them is refused, or all
-/// together.
+/// Puts the units of these numbers into a list that has none, or says why there are none: too many, one of them is
+/// refused, or all together.
 pub(crate) fn read_units(list: &mut ArrayVec<Unit, 16>, given: &[UnitIn]) -> Option<InitFault>
     requires { list.old.items ≡ [] }
     ensures fault { result ≡ units_fault given.now }

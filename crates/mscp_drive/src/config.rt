@@ -98,9 +98,7 @@ impl Config {
         if let Some(fault) = Config::fault(credits, second, budget, longest, timeout) {
             return Err(fault);
         }
-        Ok(Config::of(
-            credits, second, budget, longest, timeout, id, units,
-        ))
+        Ok(Config::of(credits, second, budget, longest, timeout, id, units))
     }
 
     /// Why a controller can't keep these limits, if it can't, whatever its identifier and its units are.
