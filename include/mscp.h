@@ -650,9 +650,8 @@ int32_t mscp_read_end_at(const uint8_t *bytes, size_t length, struct mscp_end *e
 /* Makes a controller in the handle's memory: of these limits, of `count` units in rising order of their numbers, served
  * by a picker of enum mscp_picker. MSCP_DONE, or the first fault in this order: those of the memory (-11 to -15),
  * MSCP_BAD_PICKER, MSCP_MANY_UNITS, those of the first unit that has one (-21 to -24), MSCP_UNITS_FALL, MSCP_NO_UNITS,
- * those of the limits (-28 to -31). The controller is made on the stack, of which this takes up to 40 KiB, and is moved
- * into the memory. No call but mscp_run_script takes more. No other one takes over 2 KiB, but for mscp_why with up to 3, and
- * those that save and restore.
+ * those of the limits (-28 to -31). This takes up to 8 KiB of the stack. No other call takes over 2, but for mscp_why with
+ * up to 3, those that save and restore, and mscp_run_script.
  * On s390x and 32-bit x86 mscp.c may take 256 bytes more. No call is needed before you free the memory. */
 MSCP_MUST_USE
 MSCP_INLINE int32_t mscp_init(struct mscp *mscp, const struct mscp_limits *limits, const struct mscp_unit *units,
@@ -952,7 +951,7 @@ MSCP_INLINE int32_t mscp_driver_restore(struct mscp_driver *driver, const uint8_
 /* Makes a port in the handle's memory, over a controller as mscp_init makes one. Its host may have `credits`
  * commands outstanding: 1 to one fewer than the first connection has. Its units have no volumes yet. MSCP_DONE, or the
  * first fault of those of mscp_init (-11 to -15 and -20 to -31), MSCP_BAD_BUS and MSCP_BAD_HOST_CREDITS. This takes up
- * to 40 KiB of the stack. No other call of a port takes over 2, but for mscp_port_why with up to 3, and those that save and
+ * to 8 KiB of the stack. No other call of a port takes over 2, but for mscp_port_why with up to 3, and those that save and
  * restore. */
 MSCP_MUST_USE
 MSCP_INLINE int32_t mscp_port_init(struct mscp_port *port, const struct mscp_limits *limits,
@@ -1108,7 +1107,7 @@ MSCP_INLINE int32_t mscp_port_restore(struct mscp_port *port, const uint8_t *byt
 /* Runs a script of `length` bytes through a controller of its own, as the program mscpq does, and writes the report to the
  * front of the room, of `*count` bytes. MSCP_DONE; MSCP_SMALL, if the room has fewer than twice as many bytes as the
  * report; or, in any room, MSCP_SCRIPT_SIZE to _EVENTS, what is wrong in line `*line`, the first in which something is.
- * Whatever it answers, all of the room may be written over. This takes up to 60 KiB of the stack. */
+ * Whatever it answers, all of the room may be written over. This takes up to 40 KiB of the stack. */
 MSCP_MUST_USE
 MSCP_INLINE int32_t mscp_run_script(const uint8_t *script, size_t length, uint8_t *bytes, size_t room, size_t *count,
                                     uint32_t *line)

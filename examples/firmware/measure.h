@@ -5,7 +5,7 @@
 #include <stdbool.h>
 
 /* What mscp.h says of an init, and of any other call that firmware makes here, in bytes. */
-enum { STACK_OF_INIT = 40 * 1024, STACK_OF_CALLS = 2 * 1024 };
+enum { STACK_OF_INIT = 8 * 1024, STACK_OF_CALLS = 2 * 1024 };
 
 /* The deepest and the dearest of some calls of one kind. */
 struct measured {

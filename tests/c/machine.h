@@ -1,4 +1,5 @@
-/* machine.h: a machine for those that try a port: memory, four units of an RQDX3, and a host that talks to their port. */
+/* machine.h: a machine for those that try a port: memory, four units of an RQDX3 (or MACHINE_UNITS), and a host that talks to
+ * their port. */
 #ifndef MACHINE_H
 #define MACHINE_H
 #include "trying.h"
@@ -10,7 +11,10 @@
 #define wire_action(status, action, bytes) (status)
 #endif
 
-enum { MEMORY = 1 << 16, UNITS = 4, BLOCKS = 64, HOST_CREDITS = 16, MOST_ACTIONS = 100000 };
+#ifndef MACHINE_UNITS
+#define MACHINE_UNITS 4
+#endif
+enum { MEMORY = 1 << 16, UNITS = MACHINE_UNITS, BLOCKS = 64, HOST_CREDITS = 16, MOST_ACTIONS = 100000 };
 
 static struct {
     const struct mscp_hardware *hardware;
@@ -31,7 +35,7 @@ static uint32_t policy = MSCP_OLDEST; /* of the machine that is built */
 static const struct mscp_hardware RQDX3 = {.bus = MSCP_BUS_Q, .model = 19, .software = 3, .version = 1};
 static const struct mscp_hardware UDA50 = {.bus = MSCP_BUS_UNI, .model = 6, .software = 3, .version = 1};
 
-/* Four units as RD54s, of the size that one really has. */
+/* Units as RD54s, of the size that one really has. */
 static inline struct mscp_unit rd54(uint16_t unit)
 {
     const struct mscp_unit it = {

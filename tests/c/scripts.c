@@ -55,6 +55,144 @@ static void much_fits_just(void)
     fits_just(script, report);
 }
 
+/* A line of each kind, what is answered, refused, aborted and served, of both connections. */
+static const char EACH_KIND[] =
+    "credits 14 4\nbudget 16\nlongest 8\ntimeout 60\nunit 0 10 2 1 1000\nunit 3 10 2 1 1000\ngo\n"
+    "online 1 0\nonline 2 3\nstep 2\ntake\ntake\ntake\nread 3 0 1024 0\nwrite 4 0 512 40\naccess 5 3 512 40\n"
+    "erase 6 3 512 50\ncompare 7 0 512 60\nread 7 0 512 1\nread 8 9 512 0\nread 8 0 511 1000\nabort 8 4\nabort 9 4\n"
+    "take\ntake\ntake\ntake\nstatus 10 3\nunitstatus 11 0\nsetcontroller 12\ntake\ntake\ntake\npacket 0400\n"
+    "packet 0D000000000000007F000000\npacket 0E0000000000000021000000\ntake\ntake\nstep 1\nlook\navailable 13 3\n"
+    "setunit 14 3\nsecond read 3 0 512 7\nsecond read 4 0 512 8\nsecond read 5 0 512 9\nsecond abort 6 3\nlook\n"
+    "bad 0008\nsecond take\nsecond take\nstep 20\ntake\ntake\ntake\ntake\nread 20 3 512 0\nstep 1\ntake\n";
+
+/* Wherever its report may be cut, there is too little room, and nothing is told. */
+static void each_smaller_room_is_small(void)
+{
+    static uint8_t report[sizeof room / 1000];
+    size_t count, length;
+    uint32_t line;
+    is("report", run(EACH_KIND, sizeof EACH_KIND - 1, ROOM, &length, &line), MSCP_DONE);
+    is("its bytes", length > 1000 && length < sizeof report, 1);
+    memcpy(report, room, length);
+    for (size_t size = 0; size < 2 * length; size += 2) {
+        is("less room", run(EACH_KIND, sizeof EACH_KIND - 1, size, &count, &line), MSCP_SMALL);
+        is("no bytes", (int64_t)count, 77);
+    }
+    is("just room", run(EACH_KIND, sizeof EACH_KIND - 1, 2 * length, &count, &line), MSCP_DONE);
+    is("all bytes", (int64_t)count, (int64_t)length);
+    is("the same", memcmp(room, report, length), 0);
+}
+
+/* This is no word that may stand on this line of a script. */
+static void is_no_word(const char *before, const char *word, size_t length, const char *behind, uint32_t line)
+{
+    static char script[256];
+    fails(script, (size_t)sprintf(script, "%s%.*s%s\n", before, (int)length, word, behind), MSCP_SCRIPT_WORD, line);
+}
+
+/* A word is none with a letter less, one more, or another one, wherever that is. */
+static void letters_count(const char *before, const char *word, uint32_t line)
+{
+    size_t length = strlen(word);
+    char other[16];
+    for (size_t at = 0; at < length; at++) {
+        memcpy(other, word, length + 1);
+        other[at] = 'q';
+        is_no_word(before, other, length, "", line);
+        other[at] = (char)(word[at] + 1);
+        is_no_word(before, other, length, "", line);
+        is_no_word(before, word, length, word + at, line);
+        if (at > 0)
+            is_no_word(before, word, at, "", line);
+    }
+    is_no_word(before, word, length, "q", line);
+}
+
+static void words_are_exact(void)
+{
+    static const char *const LINES[] = {
+        "read", "write", "access", "erase", "compare", "online", "available", "setunit", "unitstatus", "setcontroller", "status",
+        "abort", "packet", "take", "second", "step", "bad", "look"};
+    letters_count("", "credits", 1);
+    letters_count("credits 4\n", "budget", 2);
+    letters_count("credits 4\n", "passing", 2);
+    letters_count("credits 4\nbudget 16\n", "longest", 3);
+    letters_count("credits 4\nbudget 16\nlongest 8\n", "timeout", 4);
+    letters_count("credits 4\nbudget 16\nlongest 8\ntimeout 60\n", "unit", 5);
+    letters_count("credits 4\nbudget 16\nlongest 8\ntimeout 60\nunit 0 10 2 1 1000\n", "unit", 6);
+    letters_count("credits 4\nbudget 16\nlongest 8\ntimeout 60\nunit 0 10 2 1 1000\n", "go", 6);
+    for (size_t i = 0; i < COUNT(LINES); i++) {
+        letters_count(HEADER, LINES[i], 7);
+        letters_count(HEADER "second ", LINES[i], 7);
+    }
+    is_no_word(HEADER "second ", "step", 4, " 1", 7);
+    is_no_word(HEADER "second ", "bad", 3, " 0008", 7);
+    is_no_word(HEADER "second ", "look", 4, "", 7);
+    is_no_word(HEADER "second ", "second", 6, " take", 7);
+}
+
+/* Blanks around words, comments of each length and empty lines change nothing. */
+static void blanks_say_nothing(void)
+{
+    static char script[60000];
+    static uint8_t report[8192];
+    size_t length, count;
+    uint32_t line;
+    is("report", run(EACH_KIND, sizeof EACH_KIND - 1, ROOM, &length, &line), MSCP_DONE);
+    memcpy(report, room, length);
+    for (unsigned blanks = 1; blanks < 20; blanks += 3) {
+        char *end = script;
+        for (const char *at = EACH_KIND; *at != 0; at++) {
+            if (*at == '\n')
+                end += sprintf(end, "%*s\n#%.*s\n\n", (int)(blanks % 7), "", (int)((at - EACH_KIND) % 200),
+                               FIFTY FIFTY FIFTY FIFTY);
+            else if (*at == ' ')
+                end += sprintf(end, "%*s", (int)blanks, "");
+            else
+                *end++ = *at;
+            if (*at == '\n' && at[1] != 0)
+                end += sprintf(end, "%*s", (int)(blanks % 5), "");
+        }
+        is("with blanks", run(script, (size_t)(end - script), ROOM, &count, &line), MSCP_DONE);
+        is("its bytes", (int64_t)count, (int64_t)length);
+        is("the same", memcmp(room, report, length), 0);
+    }
+    for (int last = 0; last < 200; last++) { /* bytes of the last line, which no line feed ends */
+        const char *end = script + sprintf(script, "%s#%.*s", EACH_KIND, last, FIFTY FIFTY FIFTY FIFTY);
+        is("with a last line", run(script, (size_t)(end - script), ROOM, &count, &line), MSCP_DONE);
+        is("its bytes", (int64_t)count, (int64_t)length);
+    }
+}
+
+/* A line has as many words as its kind has, however many blanks are around them. */
+static void words_are_counted(void)
+{
+    static const struct { const char *before, *line, *cut, *more; uint32_t at; } LINES[] = {
+        {"", "credits", "", " 4 0 1", 1}, {"credits 4\n", "budget", "", " 1 2", 2}, {"credits 4\n", "passing", "", " 1 2", 2},
+        {"credits 4\nbudget 16\n", "longest", "", " 8 8", 3}, {"credits 4\nbudget 16\nlongest 8\n", "timeout", "", " 60 1", 4},
+        {"credits 4\nbudget 16\nlongest 8\ntimeout 60\n", "unit", " 0 10 2 1", " 0 10 2 1 1000 1", 5},
+        {"credits 4\nbudget 16\nlongest 8\ntimeout 60\nunit 0 10 2 1 1000\n", "go", NULL, " 1", 6},
+        {HEADER, "read", " 1 0 512", " 1 0 512 1 1", 7}, {HEADER, "write", " 1 0 512", " 1 0 512 1 1", 7},
+        {HEADER, "access", " 1 0 512", " 1 0 512 1 1", 7}, {HEADER, "erase", " 1 0 512", " 1 0 512 1 1", 7},
+        {HEADER, "compare", " 1 0 512", " 1 0 512 1 1", 7}, {HEADER, "online", " 1", " 1 0 1", 7},
+        {HEADER, "available", " 1", " 1 0 1", 7}, {HEADER, "setunit", " 1", " 1 0 1", 7}, {HEADER, "unitstatus", " 1", " 1 0 1", 7},
+        {HEADER, "setcontroller", "", " 1 1", 7}, {HEADER, "status", " 1", " 1 2 3", 7}, {HEADER, "abort", " 1", " 1 2 3", 7},
+        {HEADER, "packet", "", " 00 00", 7}, {HEADER, "step", "", " 1 1", 7}, {HEADER, "bad", "", " 0008 1", 7},
+        {HEADER, "take", NULL, " 1", 7}, {HEADER, "look", NULL, " 1", 7}, {HEADER "second ", "take", NULL, " 1", 7},
+        {HEADER "second ", "read", " 1 0 512", " 1 0 512 1 1", 7}, {HEADER "second ", "online", " 1", " 1 0 1", 7},
+        {HEADER "second ", "packet", "", " 00 00", 7}, {HEADER "second ", "setcontroller", "", " 1 1", 7},
+        {HEADER "second ", "status", " 1", " 1 2 3", 7}, {HEADER, "second", "", NULL, 7}};
+    static char script[512];
+    for (size_t i = 0; i < COUNT(LINES); i++)
+        for (unsigned blanks = 0; blanks < 4; blanks++)
+            for (unsigned more = 0; more < 2; more++) {
+                const char *words = more ? LINES[i].more : LINES[i].cut;
+                if (words != NULL)
+                    fails(script, (size_t)sprintf(script, "%s%s%s%*s\n", LINES[i].before, LINES[i].line, words, (int)blanks, ""),
+                          MSCP_SCRIPT_COUNT, LINES[i].at);
+            }
+}
+
 static void packets_are_shown(void)
 {
     size_t count;
@@ -66,10 +204,13 @@ static void packets_are_shown(void)
         is("its bytes", (int64_t)count, PACKETS[n].status == MSCP_DONE ? (int64_t)length : 77);
         is("its text", memcmp(room, PACKETS[n].text, length), 0);
     }
-    count = 77;
-    is("less room", mscp_show_packet((const uint8_t *)PACKETS[0].word, 24, room, 2 * strlen(PACKETS[0].text) - 1, &count),
-       MSCP_SMALL);
-    is("no bytes", (int64_t)count, 77);
+    for (size_t n = 0; n < COUNT(PACKETS); n++)
+        for (size_t size = 0; size < 2 * strlen(PACKETS[n].text); size++) {
+            count = 77;
+            is("less room", mscp_show_packet((const uint8_t *)PACKETS[n].word, strlen(PACKETS[n].word), room, size, &count),
+               MSCP_SMALL);
+            is("no bytes", (int64_t)count, 77);
+        }
 }
 
 int main(void)
@@ -93,5 +234,9 @@ int main(void)
     fails(large, make_large(MSCP_SCRIPT_EVENTS), MSCP_SCRIPT_EVENTS, 1007);
     fails_in(ROOM / 2, large, make_large(MSCP_SCRIPT_EVENTS), MSCP_SCRIPT_EVENTS, 1007); /* behind 5,000,000 bytes */
     packets_are_shown();
+    each_smaller_room_is_small();
+    words_are_exact();
+    blanks_say_nothing();
+    words_are_counted();
     return wrong;
 }

@@ -1,7 +1,7 @@
 -- What becomes of units, of which each is good by itself.
 --     rises, steps      the test tells whether the numbers rise
---     taken, refused    what is answered, by what `Units::new` answers
-use Rattle.mscp_c.proofs.Common.{◌≡◌, ℕ, zero, suc, ◌+◌, ◌<◌, ◌≤◌, List, [], ◌∷◌, length, map, Bool, true, false, nat_lt, ◌&&◌, refl, slice_index_or, add-one, None, Result, Ok, Err, subst, sym, ◌∙◌, ◌↔◌, length-map, false_from_ne_true, false≢true, Shape, IsUnitList, NumbersRise, UnitsFault, TooMany, NotAscending, Empty, UnitIn, first_fault, numbers_rise, rises_above, unit_given, units_answer}
+--     taken, refused    why they are refused, by what `Units::fault` answers
+use Rattle.mscp_c.proofs.Common.{◌≡◌, ℕ, zero, suc, ◌+◌, ◌<◌, ◌≤◌, List, [], ◌∷◌, length, map, Bool, true, false, nat_lt, ◌&&◌, refl, slice_index_or, add-one, None, Option, Some, subst, sym, ◌∙◌, ◌↔◌, length-map, false_from_ne_true, false≢true, Shape, IsUnitList, NumbersRise, UnitsFault, TooMany, NotAscending, Empty, UnitIn, first_fault, numbers_rise, rises_above, unit_given, units_fault}
 use native.Mathlib.Omega.{arith}
 use Rattle.mscp_c.specs.declared.units.InitFault.TheVariants as faults
 
@@ -42,23 +42,23 @@ steps [] t = λ i u l. absurd (omega arith)
 steps (v ∷ us) t = λ i u l. step v us t i u l
 
 pub taken : (us : List UnitIn) → length us ≤ 16 → first_fault us ≡ None → IsUnitList (map unit_given us)
-    → Ok (map unit_given us) ≡ units_answer us
+    → None ≡ units_fault us
 taken us l n s = let r = rises us s.rising in let some = s.some in grind arith
 
 fall : (us : List UnitIn) → length us ≤ 16 → first_fault us ≡ None → ¬ NumbersRise (map unit_given us)
-    → Err (faults.Units NotAscending) ≡ units_answer us
+    → Some (faults.Units NotAscending) ≡ units_fault us
 fall us l n s = let r = false_from_ne_true (numbers_rise us) (λ t. s (steps us t)) in grind arith
 
-none : (us : List UnitIn) → map unit_given us ≡ [] → Err (faults.Units Empty) ≡ units_answer us
+none : (us : List UnitIn) → map unit_given us ≡ [] → Some (faults.Units Empty) ≡ units_fault us
 none [] e = refl
 none (u ∷ us) e = cc
 
-pub refused : (us : List UnitIn) (xs : List Shape) (r : Result (List Shape) UnitsFault) (fault : UnitsFault)
-    → r ≡ Err fault → xs ≡ map unit_given us → length us ≤ 16 → first_fault us ≡ None
-    → ((r ≡ Err TooMany) ↔ (16 < length xs))
-    → ((r ≡ Err NotAscending) ↔ ((length xs ≤ 16) × ¬ NumbersRise xs))
-    → ((r ≡ Err Empty) ↔ (xs ≡ []))
-    → Err (faults.Units fault) ≡ units_answer us
+pub refused : (us : List UnitIn) (xs : List Shape) (r : Option UnitsFault) (fault : UnitsFault)
+    → r ≡ Some fault → xs ≡ map unit_given us → length us ≤ 16 → first_fault us ≡ None
+    → ((r ≡ Some TooMany) ↔ (16 < length xs))
+    → ((r ≡ Some NotAscending) ↔ ((length xs ≤ 16) × ¬ NumbersRise xs))
+    → ((r ≡ Some Empty) ↔ (xs ≡ []))
+    → Some (faults.Units fault) ≡ units_fault us
 refused us xs r TooMany e x l n many falls empty =
     let m : 16 < length (map unit_given us) = subst (λ ys. 16 < length ys) x (many.0 e) in
     absurd (omega (arith, length-map us unit_given))

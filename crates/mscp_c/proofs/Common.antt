@@ -5,10 +5,10 @@ pub use Rattle.std.proofs.lemmas.Grind.{common_steps}
 pub use Rattle.std.proofs.lemmas.List.{length-map}
 pub use Rattle.std.specs.Prelude.{IfSome, IsOk, IsSome, MatchOption, OnErr, filter, if◌then◌else◌, ◌↔◌}
 pub use Rattle.arrayvec.specs.ArrayVec.{ArrayVec}
-pub use Rattle.mscp_c.specs.Given.{connection_given, first_fault, numbers_rise, rises_above, settings_given, unit_given, units_answer}
+pub use Rattle.mscp_c.specs.Given.{connection_given, first_fault, numbers_rise, rises_above, settings_given, unit_given, units_fault}
 pub use Rattle.mscp_c.specs.HandleCalls.{AnsweredByHandle, AnswersFinish, AnswersHandle, AnswersOf, AnswersSend, AnswersTake, AnswersWhy, HandleCall, HandlesKeepThePromise, Refuses, Tells, TellsAll, TellsBlock, TellsFinished, TellsRefused, TellsSent, TellsStepped, TellsTaken, TellsWhy}
 pub use Rattle.mscp_c.specs.Hosted.{message_read, submits_read}
-pub use Rattle.mscp_c.specs.Made.{config_fault, config_unless}
+pub use Rattle.mscp_c.specs.Made.{config_fault}
 pub use Rattle.mscp_c.specs.PortGiven.{outcome_given}
 pub use Rattle.mscp_c.specs.PortHandleCalls.{Begun, Configured, Hardware, KeepsPortPromise, Look, LookAgain, Next, NextMessage, Protect, ReadIp, ReadSa, Resume, State, TellsOutcome, Tick, Volume, VolumeCame, VolumeWent, WasRead, Went, Why, WriteIp, WriteSa}
 pub use Rattle.mscp_c.specs.PortMade.{port_init_answer, port_init_fault}

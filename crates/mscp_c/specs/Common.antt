@@ -2,7 +2,7 @@
 pub use Rattle.mscp_c.specs.Given.{connection_given, limits_told, units_told}
 pub use Rattle.mscp_c.specs.HandleCalls.{AnswersHandle, HandlesKeepThePromise}
 pub use Rattle.mscp_c.specs.Hosted.{PollTold, message_read, news_code, news_told, poll_code, submits_message}
-pub use Rattle.mscp_c.specs.Made.{config_answer, init_answer, init_code, init_fault, made_unless}
+pub use Rattle.mscp_c.specs.Made.{init_answer, init_code, init_fault, made_unless}
 pub use Rattle.mscp_c.specs.PortGiven.{medium_given, outcome_given}
 pub use Rattle.mscp_c.specs.PortHandleCalls.{PortHandlesKeepThePromise}
 pub use Rattle.mscp_c.specs.PortMade.{port_init_answer, port_init_code, port_init_fault}

@@ -126,11 +126,3 @@ units_fault us =
     first_of (option_map faults.Unit (first_fault us)) (
     first_of (fault_if (not (numbers_rise us)) (faults.Units NotAscending))
     (fault_if (nat_eq (length us) 0) (faults.Units Empty))))
-
--- what becomes of all
-abbrev pub units_unless : Option InitFault → List UnitIn → Result (List Shape) InitFault
-units_unless (Some fault) us = Err fault
-units_unless None us = Ok (map unit_given us)
-
-abbrev pub units_answer : List UnitIn → Result (List Shape) InitFault
-units_answer us = units_unless (units_fault us) us

@@ -20,14 +20,6 @@ picker_fault picker = fault_if (is_none (policy_given picker)) faults.Picker
 abbrev pub config_fault : Limits → List UnitIn → Option InitFault
 config_fault l us = first_of (units_fault us) (option_map faults.Limits (limit_fault (settings_given l us)))
 
--- what becomes of them
-abbrev pub config_unless : Option InitFault → Limits → List UnitIn → Result Settings InitFault
-config_unless (Some fault) l us = Err fault
-config_unless None l us = Ok (settings_given l us)
-
-abbrev pub config_answer : Limits → List UnitIn → Result Settings InitFault
-config_answer l us = config_unless (config_fault l us) l us
-
 -- why no controller is made, if none is: the first that holds, in this order
 abbrev pub init_fault : Handle → Limits → List UnitIn → ℕ → Option InitFault
 init_fault h l us picker =

@@ -1,13 +1,19 @@
 // The calls before a controller is there.
 
-ghost use Rattle.std.specs.Prelude.{◌≡◌, true, false};
-ghost use Rattle.mscp_c.specs.Common.{fresh, config_answer, init_answer, init_fault, made_unless};
+ghost use Rattle.std.specs.Prelude.{◌≡◌, true, false, [], None, map};
+ghost use Rattle.mscp_c.specs.Common.{fresh, init_answer, init_fault, made_unless};
+ghost use Rattle.mscp_c.specs.Made.{config_fault};
+ghost use Rattle.mscp_c.specs.Given.{settings_given, unit_given};
+ghost use Rattle.mscp_drive.specs.Settings.{limit_fault};
+ghost use Rattle.mscp_drive.specs.UnitList.{IsUnitList};
 ghost use Rattle.mscp_memory.specs.ControllerHandles.{is_made, row_alignment, row_size, with_held};
 ghost use Rattle.mscp_c.specs.Made.{inits};
 
 use crate::status::{DONE, NOT_MADE, init_code};
-use crate::units::{InitFault, Limits, UnitIn, policy_of, units_of};
+use crate::units::{InitFault, Limits, UnitIn, policy_of, read_units};
+use arrayvec::ArrayVec;
 use mscp_controller::{Config, Controller};
+use mscp_drive::{Unit, Units};
 use mscp_memory::controller::{ALIGN, Handle, SIZE, is_made, lend, place, room_fault};
 
 /// The version of the library, 2.0.0: a byte for each of the three numbers.
@@ -34,23 +40,49 @@ pub extern "C" fn mscp_align() -> usize
     ALIGN
 }
 
-/// The configuration of these limits and units, or why there is none.
-pub(crate) fn config_of(limits: &Limits, units: &[UnitIn]) -> Result<Config, InitFault>
-    ensures { result ≡ config_answer limits.now units.now }
+/// Puts these units into a list that has none, or says why there is no configuration of them and these limits.
+pub(crate) fn read_config(
+    list: &mut ArrayVec<Unit, 16>,
+    limits: &Limits,
+    units: &[UnitIn],
+) -> Option<InitFault>
+    requires { list.old.items ≡ [] }
+    ensures fault { result ≡ config_fault limits.now units.now }
+    ensures list { config_fault limits.now units.now ≡ None → IsUnitList list.new.items }
+    ensures taken { config_fault limits.now units.now ≡ None → list.new.items ≡ map unit_given units.now }
+    ensures limits { config_fault limits.now units.now ≡ None → limit_fault (settings_given limits.now []) ≡ None }
 {
-    let units = units_of(units)?;
-    match Config::new(
+    if let Some(fault) = read_units(list, units) {
+        return Some(fault);
+    }
+    match Config::fault(
+        limits.credits,
+        limits.second,
+        limits.budget,
+        limits.longest,
+        limits.timeout,
+    ) {
+        Some(fault) => Some(InitFault::Limits(fault)),
+        None => None,
+    }
+}
+
+/// The configuration of these limits and of the units of a list, which become its own where they lie.
+#[inline(always)]
+pub(crate) fn config_of(limits: &Limits, list: ArrayVec<Unit, 16>) -> Config
+    requires list { IsUnitList list.items }
+    requires limits { limit_fault (settings_given limits.now []) ≡ None }
+    ensures { result ≡ record (settings_given limits.now []) { units = list.items } }
+{
+    Config::of(
         limits.credits,
         limits.second,
         limits.budget,
         limits.longest,
         limits.timeout,
         limits.id,
-        units,
-    ) {
-        Ok(config) => Ok(config),
-        Err(fault) => Err(InitFault::Limits(fault)),
-    }
+        Units::of(list),
+    )
 }
 
 /// Makes a controller in the room that the handle has, or says why not, and then nothing changes.
@@ -70,13 +102,12 @@ fn init(
     let Some(policy) = policy_of(picker) else {
         return Err(InitFault::Picker);
     };
-    match config_of(limits, units) {
-        Ok(config) => {
-            place(handle, Controller::new(config, policy));
-            Ok(())
-        }
-        Err(fault) => Err(fault),
+    let mut list = ArrayVec::new();
+    if let Some(fault) = read_config(&mut list, limits, units) {
+        return Err(fault);
     }
+    place(handle, Controller::new(config_of(limits, list), policy));
+    Ok(())
 }
 
 /// Makes a controller of these limits and units in the room that the handle has.

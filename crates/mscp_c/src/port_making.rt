@@ -4,10 +4,11 @@ ghost use Rattle.std.specs.Prelude.{◌≡◌, None, IsSome, OnErr, OnOk};
 ghost use Rattle.mscp_c.specs.Common.{port_init_answer, port_init_code, port_init_fault, MakesPort};
 ghost use Rattle.mscp_memory.specs.PortHandles.{row_alignment, row_size};
 
-use crate::making::config_of;
+use crate::making::{config_of, read_config};
 use crate::port_given::{HardwareIn, PortInitFault, hardware_of};
 use crate::status::port_init_code;
 use crate::units::{InitFault, Limits, UnitIn, policy_of};
+use arrayvec::ArrayVec;
 use mscp_controller::Controller;
 use mscp_memory::port::{ALIGN, Handle, SIZE, place, room_fault};
 use mscp_port::Port;
@@ -48,17 +49,21 @@ fn init(
     let Some(policy) = policy_of(picker) else {
         return Err(PortInitFault::Controller(InitFault::Picker));
     };
-    let config = match config_of(limits, units) {
-        Ok(config) => config,
-        Err(fault) => return Err(PortInitFault::Controller(fault)),
-    };
+    let mut list = ArrayVec::new();
+    if let Some(fault) = read_config(&mut list, limits, units) {
+        return Err(PortInitFault::Controller(fault));
+    }
     let Some(hardware) = hardware_of(hardware) else {
         return Err(PortInitFault::Bus);
     };
     if credits > 63 {
         return Err(PortInitFault::Credits);
     }
-    match Port::new(hardware, credits as u8, Controller::new(config, policy)) {
+    match Port::new(
+        hardware,
+        credits as u8,
+        Controller::new(config_of(limits, list), policy),
+    ) {
         Ok(port) => {
             place(handle, port);
             Ok(())

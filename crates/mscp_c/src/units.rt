@@ -1,7 +1,8 @@
 // What a program in C gives for a controller.
 
-ghost use Rattle.std.specs.Prelude.{◌≡◌, pos, length};
-ghost use Rattle.mscp_c.specs.Given.{UnitAnswers, connection_given, limits_told, policy_given, unit_told, units_answer, units_told};
+ghost use Rattle.std.specs.Prelude.{◌≡◌, ◌≤◌, [], None, pos, length, map};
+ghost use Rattle.mscp_c.specs.Given.{UnitAnswers, connection_given, first_fault, limits_told, policy_given, unit_given, unit_told, units_fault, units_told};
+ghost use Rattle.mscp_drive.specs.UnitList.{IsUnitList};
 
 use arrayvec::ArrayVec;
 use mscp_controller::{Config, ConfigFault, Connection};
@@ -87,24 +88,41 @@ fn unit_of(given: &UnitIn) -> Result<Unit, UnitFault>
     )
 }
 
-/// The units of these numbers, or why there are none: too many, one of them is refused, or all together.
-pub(crate) fn units_of(given: &[UnitIn]) -> Result<Units, InitFault>
-    ensures { result ≡ units_answer given.now }
+/// Puts the units of these numbers into a list that has none, up to the first that is refused.
+#[inline(never)]
+fn gather(list: &mut ArrayVec<Unit, 16>, given: &[UnitIn]) -> Option<UnitFault>
+    requires empty { list.old.items ≡ [] }
+    requires few { length given.now ≤ 16 }
+    ensures fault { result ≡ first_fault given.now }
+    ensures taken { first_fault given.now ≡ None → list.new.items ≡ map unit_given given.now }
 {
-    if given.len() > 16 {
-        return Err(InitFault::Units(UnitsFault::TooMany));
-    }
-    let mut list: ArrayVec<Unit, 16> = ArrayVec::new();
     for i in 0..given.len() {
         match unit_of(&given[i]) {
             Ok(unit) => list.push(unit),
-            Err(fault) => return Err(InitFault::Unit(fault)),
+            Err(fault) => return Some(fault),
         }
     }
-    match Units::new(list.as_slice()) {
-        Ok(units) => Ok(units),
-        Err(fault) => Err(InitFault::Units(fault)),
+    None
+}
+
+/// Puts the units of these numbers into a list that has none, or says why there are none: too many, one of them is
+/// refused, or all together.
+pub(crate) fn read_units(list: &mut ArrayVec<Unit, 16>, given: &[UnitIn]) -> Option<InitFault>
+    requires { list.old.items ≡ [] }
+    ensures fault { result ≡ units_fault given.now }
+    ensures list { units_fault given.now ≡ None → IsUnitList list.new.items }
+    ensures taken { units_fault given.now ≡ None → list.new.items ≡ map unit_given given.now }
+{
+    if given.len() > 16 {
+        return Some(InitFault::Units(UnitsFault::TooMany));
     }
+    if let Some(fault) = gather(list, given) {
+        return Some(InitFault::Unit(fault));
+    }
+    if let Some(fault) = Units::fault(list.as_slice()) {
+        return Some(InitFault::Units(fault));
+    }
+    None
 }
 
 /// The numbers of a unit.

@@ -12,7 +12,7 @@ use crate::answer::{controller_end, refused_end, unit_status_end};
 use crate::arrival::{judge, may_take_last_credit};
 use crate::entry::{Entry, NotBegun, SendFault, Sent};
 use arrayvec::ArrayVec;
-use mscp_drive::{Block, Config, Connection, Event, Units};
+use mscp_drive::{Block, Config, Connection, Event};
 use mscp_packet::status::SUCCESS;
 use mscp_packet::{Command, End, EndBody, Order, read_command, write_end};
 use mscp_queue::{Picker, Queue, Report, Upcoming, Waiting, end_with};
@@ -70,11 +70,8 @@ impl<K: Picker> Controller<K> {
         ensures account { IsBalanced result }
         ensures valid { IsValid config }
     {
-        let Ok(units) = Units::new(config.units().list()) else {
-            unreachable!();
-        };
         let queue = Queue::new(
-            units,
+            config.units(),
             config.room(),
             config.budget(),
             config.longest(),

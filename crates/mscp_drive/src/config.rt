@@ -1,6 +1,6 @@
 // The limits of a controller, and its units.
 
-ghost use Rattle.std.specs.Prelude.{◌≡◌, ◌-◌};
+ghost use Rattle.std.specs.Prelude.{◌≡◌, ◌-◌, [], None};
 
 use crate::connection::Connection;
 use crate::units::Units;
@@ -68,7 +68,7 @@ fn room_for(credits: u32) -> u32
 }
 
 impl Config {
-    ghost use Rattle.mscp_drive.specs.Settings.{configured, credits_of, room, IsValid, Settings};
+    ghost use Rattle.mscp_drive.specs.Settings.{configured, credits_of, limit_fault, room, IsValid, Settings};
 
     /// The limits, if a controller can keep them: `credits` commands and untaken ends of the first connection at most, and
     /// `second` of the second, each waiting command passed by at most `budget` blocks, transfers of at most `longest`
@@ -95,34 +95,95 @@ impl Config {
             } in
             result ≡ configured s }
     {
-        // The list of the units tells that it is one.
-        let _units = units.list();
+        if let Some(fault) = Config::fault(credits, second, budget, longest, timeout) {
+            return Err(fault);
+        }
+        Ok(Config::of(credits, second, budget, longest, timeout, id, units))
+    }
+
+    /// Why a controller can't keep these limits, if it can't, whatever its identifier and its units are.
+    pub fn fault(
+        credits: u32,
+        second: u32,
+        budget: u64,
+        longest: u32,
+        timeout: u16,
+    ) -> Option<ConfigFault>
+        ensures { let s : Settings =
+            record {
+              credits = credits;
+              second = second;
+              budget = budget;
+              longest = longest;
+              timeout = timeout;
+              id = 0;
+              units = [];
+            } in
+            result ≡ limit_fault s }
+    {
         if !(2..=64).contains(&credits) || second == 1 || second > 64 - credits {
-            return Err(ConfigFault::Credits);
+            return Some(ConfigFault::Credits);
         }
         if !(1..=8_388_608).contains(&longest) {
-            return Err(ConfigFault::Longest);
+            return Some(ConfigFault::Longest);
         }
         if !(1..=255).contains(&timeout) {
-            return Err(ConfigFault::Timeout);
+            return Some(ConfigFault::Timeout);
         }
         let Ok(budget) = u32::try_from(budget) else {
-            return Err(ConfigFault::Figure);
+            return Some(ConfigFault::Figure);
         };
         let room = room_for(credits) + room_for(second);
         let bound = u64::from(room) * u64::from(longest) + u64::from(budget);
         if bound > u64::from(u32::MAX) {
-            return Err(ConfigFault::Figure);
+            return Some(ConfigFault::Figure);
         }
-        Ok(Config {
+        None
+    }
+
+    /// These limits and units, which a controller can keep. The units become its own where they lie: no others are made.
+    #[inline(always)]
+    pub fn of(
+        credits: u32,
+        second: u32,
+        budget: u64,
+        longest: u32,
+        timeout: u16,
+        id: u64,
+        units: Units,
+    ) -> Config
+        requires { let s : Settings =
+            record {
+              credits = credits;
+              second = second;
+              budget = budget;
+              longest = longest;
+              timeout = timeout;
+              id = id;
+              units = units;
+            } in
+            limit_fault s ≡ None }
+        ensures { result ≡ record {
+          credits = credits;
+          second = second;
+          budget = budget;
+          longest = longest;
+          timeout = timeout;
+          id = id;
+          units = units;
+        } }
+    {
+        // The list of the units tells that it is one.
+        let _units = units.list();
+        Config {
             credits,
             second,
-            budget,
+            budget: budget as u32,
             longest,
             timeout,
             id,
             units,
-        })
+        }
     }
 
     /// How many commands and untaken ends of the first connection there may be at once.

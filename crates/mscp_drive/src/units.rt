@@ -1,6 +1,6 @@
 // The units of a controller.
 
-ghost use Rattle.std.specs.Prelude.{◌≡◌, ◌↔◌, ◌<◌, ◌≤◌, [], length, IsTrue, IfOk};
+ghost use Rattle.std.specs.Prelude.{◌≡◌, ◌↔◌, ◌<◌, ◌≤◌, [], length, IsTrue, IfOk, None, Some};
 ghost use Rattle.mscp_drive.specs.Common.{option_copied, IsUnitList, NumbersRise, unit_found};
 
 use crate::unit::Unit;
@@ -49,18 +49,41 @@ impl Units {
         ensures taken { (result ≡ Ok units.now) ↔ IsUnitList units.now }
         ensures same { IfOk result (λ list. list ≡ units.now) }
     {
-        if units.len() > MOST_UNITS {
-            return Err(UnitsFault::TooMany);
-        }
-        if !numbers_rise(units) {
-            return Err(UnitsFault::NotAscending);
-        }
-        if units.is_empty() {
-            return Err(UnitsFault::Empty);
+        if let Some(fault) = Units::fault(units) {
+            return Err(fault);
         }
         let mut list = ArrayVec::new();
         let _ = list.try_extend_from_slice(units);
-        Ok(Units { list })
+        Ok(Units::of(list))
+    }
+
+    /// Why a list of units is refused, if it is.
+    pub fn fault(units: &[Unit]) -> Option<UnitsFault>
+        ensures many { (result ≡ Some UnitsFault.TooMany) ↔ (16 < length units.now) }
+        ensures ascending { (result ≡ Some UnitsFault.NotAscending)
+            ↔ ((length units.now ≤ 16) × ¬ NumbersRise units.now) }
+        ensures empty { (result ≡ Some UnitsFault.Empty) ↔ (units.now ≡ []) }
+        ensures none { (result ≡ None) ↔ IsUnitList units.now }
+    {
+        if units.len() > MOST_UNITS {
+            return Some(UnitsFault::TooMany);
+        }
+        if !numbers_rise(units) {
+            return Some(UnitsFault::NotAscending);
+        }
+        if units.is_empty() {
+            return Some(UnitsFault::Empty);
+        }
+        None
+    }
+
+    /// The units of a list that isn't refused. It becomes theirs where it lies: no other is made.
+    #[inline(always)]
+    pub fn of(list: ArrayVec<Unit, 16>) -> Units
+        requires { IsUnitList list.items }
+        ensures { result ≡ list.items }
+    {
+        Units { list }
     }
 
     /// The units, in rising order of their numbers.

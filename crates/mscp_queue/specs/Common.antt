@@ -4,7 +4,7 @@ pub use Rattle.mscp_drive.specs.Shape.{last_cylinder, one_block}
 pub use Rattle.mscp_drive.specs.UnitList.{IsUnitList}
 pub use Rattle.mscp_drive.specs.declared.connection.Connection.TheVariants.{First}
 pub use Rattle.mscp_packet.specs.Ends.{IsOfKind}
-pub use Rattle.mscp_packet.specs.declared.class.Class.TheVariants.{Unknown}
+pub use Rattle.mscp_packet.specs.declared.class.Class.TheVariants.{Immediate}
 pub use Rattle.mscp_queue.specs.Buckets.{IsPut, bucket_of}
 pub use Rattle.mscp_queue.specs.Favorites.{AreFavored, AreOnDrive, IsBest, IsClearOn, IsFirstOf, IsLearned, IsNearOf, IsOpenOn, IsPrepared, cheaper, comes_before, commands, cost_at, cost_on, cost_there, drive_in, place_closed, start_in}
 pub use Rattle.mscp_queue.specs.Drives.{IsOnUnit, drive_of, fresh_drive, has_number, is_online_in}

@@ -39,7 +39,7 @@ abbrev pub no_record : Record
 no_record =
     record {
       connection = First;
-      command = record { reference = 0; unit = 0; order = orders.Online };
+      command = record { reference = 0; unit = 0; order = orders.Abort 0 };
       weight = 0;
       done = 0;
       good = 0;

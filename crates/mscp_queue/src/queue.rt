@@ -47,8 +47,9 @@ pub struct Queue<K> {
     drives: ArrayVec<Drive, 16>,
     // The places of what was begun, and of the command in service: nobody looks for them.
     begun: Option<usize>,
-    serving: Option<usize>,
+    // It stands here, with its padding, so that each list is of whole words, and is cleared where it lies.
     picker: K,
+    serving: Option<usize>,
     favorites: Favorites,
     // What the picker saw last, where some may not start. It is kept for its room alone, since a new one would have to be
     // cleared at each start.
@@ -93,13 +94,13 @@ impl<K: Picker> Queue<K> {
     /// transfer is longer than `longest` blocks. It is built into its caller: each call on the way would have room for a
     /// queue of its own on the stack.
     #[inline(always)]
-    pub fn new(units: Units, room: u32, budget: u32, longest: u32, picker: K) -> Queue<K>
+    pub fn new(units: &Units, room: u32, budget: u32, longest: u32, picker: K) -> Queue<K>
         requires some_room { 1 ≤ room }
         requires few { room ≤ 63 }
         requires some_blocks { 1 ≤ longest }
         requires short { longest ≤ 8388608 }
         requires small { room * longest + budget ≤ 4294967295 }
-        ensures { result ≡ fresh units room budget longest picker }
+        ensures { result ≡ fresh units.now room budget longest picker }
     {
         let drives = drives_of(units.list());
         Queue {

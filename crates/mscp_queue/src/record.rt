@@ -179,7 +179,8 @@ impl Record {
     }
 }
 
-/// A record of nothing, which fills the places of a list that isn't full.
+/// A record of nothing, which fills the places of a list that isn't full. All its bytes are 0, so 64 of them are cleared
+/// where they lie, and the stack has none.
 impl Default for Record {
     fn default() -> Record
         ensures { result ≡ no_record }
@@ -188,7 +189,7 @@ impl Default for Record {
             reference: 0,
             unit: 0,
             connection: Connection::First,
-            order: Order::Online,
+            order: Order::Abort(0),
             weight: 0,
             done: 0,
             passed: 0,

@@ -23,18 +23,19 @@ pub struct Choice {
     pub cost: u64,
 }
 
-/// A choice of nothing, which fills the places of a list that isn't full.
+/// A choice of nothing, which fills the places of a list that isn't full. All its bytes are 0, so 64 of them are cleared
+/// where they lie, and the stack has none.
 impl Default for Choice {
-    ghost use Rattle.mscp_queue.specs.Common.{Unknown, First};
+    ghost use Rattle.mscp_queue.specs.Common.{Immediate, First};
 
     fn default() -> Choice
-        ensures { result ≡ record { connection = First; reference = 0; unit = 0; class = Unknown; cost = 0 } }
+        ensures { result ≡ record { connection = First; reference = 0; unit = 0; class = Immediate; cost = 0 } }
     {
         Choice {
             reference: 0,
             unit: 0,
             connection: Connection::First,
-            class: Class::Unknown,
+            class: Class::Immediate,
             cost: 0,
         }
     }

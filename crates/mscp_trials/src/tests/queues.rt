@@ -24,7 +24,7 @@ fn queue(rt: &impl Abort, budget: u32) -> Queue<Newest>
         .ok()
         .expect(rt, "no size is zero");
     let units = Units::new(&[unit]).ok().expect(rt, "a list of units");
-    Queue::new(units, 4, budget, 8, Newest)
+    Queue::new(&units, 4, budget, 8, Newest)
 }
 
 /// A transfer of block 0.

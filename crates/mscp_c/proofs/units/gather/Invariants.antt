@@ -1,5 +1,5 @@
 use Rattle.mscp_c.proofs.Common.{◌≡◌, map, take, drop, first_fault, unit_given}
-use Rattle.mscp_c.proofs.units.units_of.Given as goal
+use Rattle.mscp_c.proofs.units.gather.Given as goal
 
 abbrev pub invariant-loop-i : goal.invariant-loop-i
 invariant-loop-i l = record {
