@@ -1,10 +1,10 @@
 -- The buckets stay those of the waiting commands, and a command is found by its number.
-use Rattle.mscp_queue.proofs.Basics.{◌≡◌, ◌≢◌, ◌<◌, ◌+◌, ◌^◌, ◌⊎◌, ⊎_elim, inl, inr, ℕ, suc, Bool, true, false, cond, ◌&&◌, ◌||◌, nat_eq, List, [], ◌∷◌, ◌++◌, map, set, take, drop, remove, get_or, length, sym, subst, ap, ◌∙◌, refl, arith, bit_at, slice_index_or, eq-eqb, get_or-set_other, get_or-set_same, list_any, count_ones, one_bit, same_or, true≢false, Masks, AreSlots, Record, and_parts, ne_eqb, slot_low, has_name, AreApart, IfSome, item_there, length-map, Option, Some, None, is_some, name_of, names, no_record, position, position_any, record_at, Slot, slot_at, shown, IsNumber, cut_order, number_of, slot_is, same_is}
-use Rattle.mscp_queue.proofs.Common.{and_right, IfNone, AreBuckets, AreClasses, AreKept, AreSlotted, IsPut, IsSet, Name, Target, bit, bucket_at, bucket_of, has, items}
+use Rattle.mscp_queue.proofs.Basics.{◌≡◌, ◌≢◌, ◌<◌, ◌+◌, ◌⊎◌, ⊎_elim, inl, inr, ℕ, suc, Bool, true, false, cond, ◌&&◌, ◌||◌, nat_eq, List, [], ◌∷◌, ◌++◌, set, take, drop, remove, get_or, length, sym, subst, ap, ◌∙◌, refl, arith, bit_at, eq-eqb, get_or-set_other, get_or-set_same, list_any, one_bit, same_or, true≢false, Masks, AreSlots, Record, and_parts, ne_eqb, slot_low, has_name, AreApart, IfSome, item_there, length-map, Option, Some, None, is_some, name_of, names, no_record, position, position_any, record_at, Slot, slot_at, shown, IsNumber, cut_order, same_is}
+use Rattle.mscp_queue.proofs.Common.{and_right, IfNone, AreBuckets, AreSlotted, IsPut, IsSet, Name, Target, bit, bucket_at, bucket_of, has, items}
 use Rattle.mscp_queue.proofs.Masked.{classes_pushed}
 use Rattle.mscp_queue.proofs.Departed.{classes_without, order_left}
 use Rattle.mscp_queue.proofs.Nexts.{name_found}
-use Rattle.mscp_queue.proofs.Counted.{place_counted, placed}
+use Rattle.mscp_queue.proofs.Counted.{placed}
 
 pub buckets_pushed : (rs : List Record) (order old new next : List ℕ) (n reference : ℕ) (r : Record)
     → AreBuckets rs order old → has n order ≡ false → n < 64 → length rs ≡ 64 → reference ≡ r.command.reference
@@ -109,7 +109,8 @@ module _ {rs : List Record} {own : List Target} {order : List ℕ} {m : Masks} {
           ⊎_elim
           (λ e. h.seen k low (slotted.bucketed (bucket_of name.reference) k low
           ∙ ap bit ((λ i. there i && eq-eqb (bucket_at rs k) (bucket_of name.reference) e i))) (off k low))
-          (λ d. and_right _ _ (ne_eqb (get_or rs k no_record).command.reference name.reference (λ f. d (ap bucket_of f))))
+          (λ d. and_right _ _ (ne_eqb (get_or rs k no_record).command.reference name.reference
+          (λ f. d (ap bucket_of f))))
           (same_or (bucket_at rs k) (bucket_of name.reference))
 
 -- ---- among names that stand once

@@ -143,8 +143,8 @@ masks_pushed kinds kinds' order m m' n masks c h = record {
       set_mask m.serving m'.serving n (kinds' n).serving _ _ h.served masks.of_serving
       (ap (λ b. b && (kinds' n).serving) (has_last n order))
       (λ k d. and_same _ _ _ _ (has_other k n order d) (ap (λ s. s.serving) (c.same k d)));
-  of_units = classes_pushed (λ k. (kinds k).drive) (λ k. (kinds' k).drive) order m.units m'.units n masks.of_units c.free
-      c.low (λ k d. ap (λ s. s.drive) (c.same k d)) h.own h.units;
+  of_units = classes_pushed (λ k. (kinds k).drive) (λ k. (kinds' k).drive) order m.units m'.units n masks.of_units
+      c.free c.low (λ k d. ap (λ s. s.drive) (c.same k d)) h.own h.units;
   of_earlier = earlier_pushed _ _ n m.waiting h.others h.earlier [] order c.free masks.of_waiting masks.of_earlier;
 }
 

@@ -1,5 +1,5 @@
 -- Names are the same exactly where both of their parts are.
-use Rattle.mscp_queue.proofs.Common.{◌≡◌, ◌≢◌, true, false, ◌&&◌, ◌||◌, List, [], ◌∷◌, refl, ap, sym, ◌∙◌, subst, arith, nat_eq, and_parts, and_right, eq-eqb, eqb-true, false≢true, ne_eqb, or_parts, true≢false, list_any, Connection, Name, same_connection, same_name}
+use Rattle.mscp_queue.proofs.Common.{◌≡◌, ◌≢◌, true, false, ◌&&◌, refl, ap, sym, ◌∙◌, subst, arith, nat_eq, and_parts, eq-eqb, eqb-true, false≢true, true≢false, Connection, Name, same_connection, same_name}
 
 pub one_side : (a b : Connection) → same_connection a b ≡ true → a ≡ b
 one_side a b h2 = grind (arith, false≢true)

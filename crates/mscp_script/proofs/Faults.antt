@@ -1,5 +1,5 @@
 -- What a script's fault comes from, where a simulation ends with one.
-use Rattle.mscp_script.proofs.Common.{arith, ◌≡◌, Bool, ◌∙◌, IsErrAnd, Result, Err, true≢false, ReadAllFault, ReadFault, ScriptFault, SimFault, sim_of_reading, sim_of_script}
+use Rattle.mscp_script.proofs.Common.{arith, ◌≡◌, IsErrAnd, Result, Err, true≢false, ReadAllFault, ReadFault, ScriptFault, SimFault, sim_of_reading, sim_of_script}
 use Rattle.mscp_reader.specs.declared.fault.ReadFault.TheVariants as scripts
 use Rattle.mscp_script.specs.declared.simulation.SimFault.TheVariants as faults
 

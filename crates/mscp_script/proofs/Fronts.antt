@@ -1,5 +1,5 @@
 -- When the bytes that were read are the front of all, and the rest is what is left.
-use Rattle.mscp_script.proofs.Common.{◌≡◌, ◌<◌, ◌≤◌, ℕ, List, [], ◌++◌, length, take, drop, Option, subst, ◌∙◌, arith, take-append-le, common_steps, Consumes, IsAtEnd, IsFront, IsRest}
+use Rattle.mscp_script.proofs.Common.{◌≡◌, ◌<◌, ◌≤◌, ℕ, List, [], ◌++◌, length, take, drop, Option, subst, arith, take-append-le, common_steps, Consumes, IsAtEnd, IsFront, IsRest}
 
 -- as many bytes were read as are wanted
 pub front_full : (old new : Option (List ℕ)) (all : List ℕ) (n : ℕ) → length all ≡ n → Consumes old new all

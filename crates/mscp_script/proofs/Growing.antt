@@ -106,7 +106,8 @@ many_more (suc n) m x =
 -- the same event so many times, and then as often as is left, of idle steps
 pub meets_idle : {A : Type 0} (r : Result (Unit {0}) OutOfMemory) (a b new : Run A) (mid : Holdings Sweep) (k : Block)
     (n m count : ℕ) → Meets a b (replicate n (events.Step k)) → mid ≡ b.controller
-    → OnOk r ((j : Block) → Meets (record { controller = mid; reporter = b.reporter }) new (replicate m (events.Step j)))
+    → OnOk r ((j : Block)
+    → Meets (record { controller = mid; reporter = b.reporter }) new (replicate m (events.Step j)))
     → n + m ≡ count → OnOk r (Meets a new (replicate count (events.Step k)))
 meets_idle (Err fault) a b new mid k n m count before same after all = tt
 meets_idle {A} (Ok done) a b new mid k n m count before same after all = λ c es runs.

@@ -1,5 +1,5 @@
 -- The words of a command line.
-use Rattle.mscp_script.proofs.Common.{◌≡◌, ◌<◌, ◌≤◌, ℕ, Bool, List, [], ◌∷◌, length, map, get_or, refl, arith, Err, codes, bytes_eq-Decides, chosen}
+use Rattle.mscp_script.proofs.Common.{◌≡◌, ◌<◌, ◌≤◌, ℕ, List, [], ◌∷◌, length, map, get_or, refl, arith, Err, codes, bytes_eq-Decides, chosen}
 use Rattle.mscp_script.specs.declared.choosing.LineFault.TheVariants as faults
 
 -- a list of two words

@@ -80,8 +80,7 @@ impl<O: Out> Run<O> {
     }
 
     /// So many idle steps, where nothing waits: the controller isn't asked, since each would leave it as it is.
-    fn idle(&mut self, count: u32)
-        -> Result<(), OutOfMemory>
+    fn idle(&mut self, count: u32) -> Result<(), OutOfMemory>
         requires room { self.old.reporter.count + count < 2 ^ 64 }
         requires idle { (k : Block) → Steps IsSweep k self.old.controller Idle self.old.controller }
         ensures met { OnOk result ((k : Block) → Meets self.old self.new (replicate count (events.Step k))) }

@@ -41,8 +41,8 @@ pub free_of : (balance : ℕ) (outstanding b : List ℕ) (command : Command) (op
     → fault ≡ None → IsCommand b command → refusal balance outstanding b ≡ None
 free_of balance outstanding b command opcode fault byte is none h =
     let there : opcode ≡ slice_index b 8 = byte ∙ opcode_kept b command.order h.order in
-    taken balance outstanding b command h (subst (λ n. credit_fault balance outstanding n command.reference ≡ None) there
-    (sym is ∙ none))
+    taken balance outstanding b command h
+    (subst (λ n. credit_fault balance outstanding n command.reference ≡ None) there (sym is ∙ none))
 
 -- no command that waits has a reference number that isn't outstanding
 or_left : (a b : Bool) → (a || b) ≡ false → a ≡ false

@@ -1,4 +1,4 @@
-use Rattle.mscp_script.proofs.Common.{arith, ◌∙◌}
+use Rattle.mscp_script.proofs.Common.{arith}
 use Rattle.mscp_script.proofs.Words.{neither, two_words}
 use Rattle.mscp_script.proofs.choosing.choose.Goals as goal
 

@@ -1,4 +1,4 @@
-use Rattle.mscp_queue.proofs.Basics.{◌≡◌, ◌∙◌, arith, subst, remove, IfSome, Line, name_on, without}
+use Rattle.mscp_queue.proofs.Basics.{◌≡◌, subst, remove, IfSome, Line, name_on, without}
 use Rattle.mscp_queue.proofs.Aborts.{others_left}
 use Rattle.mscp_queue.proofs.queue.Queue.place_of.Goals as goal
 

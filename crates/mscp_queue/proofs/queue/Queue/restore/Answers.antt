@@ -1,4 +1,4 @@
-use Rattle.mscp_queue.proofs.Basics.{◌≡◌, ℕ, List, ap, subst, sym, true, ◌∙◌, Option, Some, None, IfSome, position, Name, targets_of, IsHeld, begun_name, units_of, Line, Record, AreApart, names, has_name, Waiters, Drive, begun_back, ready_restored}
+use Rattle.mscp_queue.proofs.Basics.{◌≡◌, ℕ, List, ap, subst, sym, true, ◌∙◌, Option, IfSome, position, Name, targets_of, IsHeld, begun_name, units_of, Line, Record, AreApart, names, has_name, Waiters, Drive, begun_back, ready_restored}
 use Rattle.mscp_queue.proofs.Favored.{none_known}
 use Rattle.mscp_queue.proofs.queue.Queue.restore.Goals as goal
 
@@ -21,7 +21,9 @@ place_begun-self-inside-requires g c =
     let rs = c.args.records.now in
     let held = subst (λ (l : Line K). IsHeld l.room l.budget l.longest rs c.args.drives.items c.args.begun true)
     (sym c.self.view_is) c.requires.held in
-    record { apart = subst (λ (v : Waiters). AreApart (names v.waiting)) (sym c.restored-self-inside.ensures) held.apart }
+    record {
+      apart = subst (λ (v : Waiters). AreApart (names v.waiting)) (sym c.restored-self-inside.ensures) held.apart;
+    }
 
 pub invariant_of-self : goal.invariant_of-self
 invariant_of-self g c =

@@ -1,4 +1,4 @@
-use Rattle.mscp_queue.proofs.Basics.{arith, ◌<◌, length, get_or, ap, subst, sym, ◌∙◌, None, length-map, Command, Target, Drive, Served, replaced, units_of, Line, served, Record, drive_at, is_unstarted, record_at, plan_of, report_of, name_of, units_step}
+use Rattle.mscp_queue.proofs.Basics.{arith, ◌<◌, length, get_or, ap, subst, sym, ◌∙◌, None, length-map, Command, Target, Drive, Served, replaced, units_of, Line, served, Record, drive_at, is_unstarted, record_at, plan_of, report_of, units_step}
 use Rattle.mscp_queue.proofs.Ready.{can_serve, drive_found, left_is, ready_step}
 use Rattle.mscp_queue.proofs.Shaped.{given_kind}
 use Rattle.mscp_queue.proofs.Stepping.{favored_step, next_in, step_made}

@@ -1,7 +1,7 @@
 use Rattle.std.specs.Prelude.{replicate}
 use Rattle.mscp_queue.proofs.Basics.{◌≡◌, get_or, arith, ap, sym, ◌∙◌, Target, no_target}
 use Rattle.mscp_queue.proofs.Ranging.{alike}
-use Rattle.mscp_queue.proofs.Common.{bit_at, bit_at-zero}
+use Rattle.mscp_queue.proofs.Common.{bit_at-zero}
 use Rattle.mscp_queue.proofs.slots.Slots.new.Goals as goal
 
 pub invariant_of-result : goal.invariant_of-result

@@ -2,7 +2,6 @@ use Rattle.mscp_queue.proofs.Basics.{◌≡◌, ◌<◌, true, length, ap, sym, 
 use Rattle.mscp_queue.proofs.Common.{has_name}
 use Rattle.mscp_queue.proofs.Bucketed.{none_named, number_in, searches_on}
 use Rattle.mscp_queue.proofs.Counted.{place_counted}
-use Rattle.mscp_queue.proofs.Fronts.{less_left}
 use Rattle.mscp_queue.proofs.slots.Slots.place_of.Goals as goal
 
 pub returns-then-has_name-clause-some : goal.returns-then-has_name-clause-some

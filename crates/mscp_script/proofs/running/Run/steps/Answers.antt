@@ -11,8 +11,9 @@ returns-in-Idle-clause-met g c =
     let same = idle_same IsSweep c.args.block.now old.controller c.step-report.new.self c.in-Idle.ensures.step in
     let all : c.loop-step.step + (c.args.count - c.loop-step.step) ≡ c.args.count =
     omega (arith, c.loop-step-test.true) in
-    meets_idle c.idle.result c.args.self.now old c.idle.new.self c.step-report.new.self c.args.block.now c.loop-step.step
-    (c.args.count - c.loop-step.step) c.args.count c.loop-step.invariant.met same c.idle.ensures.met all
+    meets_idle c.idle.result c.args.self.now old c.idle.new.self c.step-report.new.self c.args.block.now
+    c.loop-step.step (c.args.count - c.loop-step.step) c.args.count c.loop-step.invariant.met same c.idle.ensures.met
+    all
 
 pub loop-step-preserved : goal.loop-step-preserved
 loop-step-preserved g c =
