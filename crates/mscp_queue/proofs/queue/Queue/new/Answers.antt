@@ -7,8 +7,9 @@ invariant_of-result g c =
     let ds = c.drives_of-drives.result.items in
     let ready = subst (λ (w : Waiters). IsReady c.args.room c.args.longest w ds None None) (sym c.new.ensures) (record {
       held = held_fresh c.args.room c.args.budget c.args.longest
-          c.args.units.now _ ds c.requires.some_room c.requires.few c.requires.some_blocks c.requires.short c.requires.small
-          c.list.ensures.valid refl (c.drives_of-drives.ensures ∙ ap (map fresh_drive) c.list.ensures.value);
+          c.args.units.now _ ds c.requires.some_room c.requires.few c.requires.some_blocks c.requires.short
+          c.requires.small c.list.ensures.valid refl
+          (c.drives_of-drives.ensures ∙ ap (map fresh_drive) c.list.ensures.value);
       targeted = refl;
       order = tt;
       served = λ place e. absurd (false≢true (ap is_some e));
