@@ -3,4 +3,5 @@ pub mod Fronts
 pub mod Growing
 pub mod Faults
 pub mod Words
+pub mod Zeros
 mod Told

@@ -7,7 +7,7 @@ ghost use Rattle.mscp_queue.specs.Pickers.{IsSweep};
 ghost use Rattle.mscp_queue.specs.declared.report.Report.TheVariants.{Idle};
 ghost use Rattle.mscp_drive.specs.Settings.{IsValid};
 ghost use Rattle.mscp_drive.specs.declared.event.Event.TheVariants as events;
-ghost use Rattle.mscp_reader.specs.Requests.{events_of};
+ghost use Rattle.mscp_reader.specs.Requests.{bytes_in, events_of};
 ghost use Rattle.mscp_script.specs.Running.{Meets, Ran};
 ghost use Rattle.mscp_script.specs.Text.{reported};
 
@@ -53,6 +53,29 @@ impl<O: Out> Run<O> {
     {
         let sent = self.controller.send(connection, message);
         self.reporter.sent(connection, &sent)
+    }
+
+    /// The connection's host sends the message of these digits. Neither this nor what sends an invalid command is made part
+    /// of the loop over all lines, which would clear the room of their bytes for each.
+    #[inline(never)]
+    fn send_packet(&mut self, connection: Connection, digits: &[u8]) -> Result<(), OutOfMemory>
+        requires room { self.old.reporter.count + 1 < 2 ^ 64 }
+        ensures ran { OnOk result
+            (Ran self.old self.new (events.Send connection (record { items = bytes_in digits.now }))) }
+        ensures refused { OnErr result O.refuses }
+    {
+        self.send(connection, bytes_in(digits).as_slice())
+    }
+
+    /// The connection's host sends the message that is written of an invalid command.
+    #[inline(never)]
+    fn send_invalid(&mut self, connection: Connection, command: &Command) -> Result<(), OutOfMemory>
+        requires room { self.old.reporter.count + 1 < 2 ^ 64 }
+        ensures ran { OnOk result
+            (Ran self.old self.new (events.Send connection (record { items = command_bytes command.now }))) }
+        ensures refused { OnErr result O.refuses }
+    {
+        self.send(connection, write_command(command).as_slice())
     }
 
     /// The connection's host sends the message of this command. Its bytes aren't written, only to be read again.
@@ -131,14 +154,10 @@ impl<O: Out> Run<O> {
     {
         match request {
             Request::Send(connection, command) => match command.order {
-                Order::Invalid { .. } => {
-                    self.send(*connection, write_command(command).as_slice())
-                }
+                Order::Invalid { .. } => self.send_invalid(*connection, command),
                 _ => self.send_command(*connection, *command),
             },
-            Request::Packet(connection, digits) => {
-                self.send(*connection, bytes_in(digits).as_slice())
-            }
+            Request::Packet(connection, digits) => self.send_packet(*connection, digits),
             Request::Take(connection) => self.take(*connection),
             Request::Steps(count, block) => self.steps(*count, block),
             Request::Look => self.look(),

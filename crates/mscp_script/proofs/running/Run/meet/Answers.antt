@@ -1,14 +1,9 @@
-use Rattle.mscp_script.proofs.Common.{arith, OnOk, ◌∙◌, subst, Ran}
-use Rattle.mscp_drive.specs.declared.event.Event.TheVariants as events
+use Rattle.mscp_script.proofs.Common.{arith}
 use Rattle.mscp_script.proofs.Growing.{meets_ok}
 use Rattle.mscp_script.proofs.running.Run.meet.Goals as goal
 
 pub returns-in-Invalid-clause-met : goal.returns-in-Invalid-clause-met
-returns-in-Invalid-clause-met g c =
-    let sent = subst (λ b. OnOk c.send.result (Ran c.args.self.now c.send.new.self
-    (events.Send c.in-Send.connection (record { items = b }))))
-    (c.as_slice.ensures.value ∙ c.write_command.ensures.bytes) c.send.ensures.ran in
-    rw c.in-Send.is (meets_ok c.send.result _ _ _ sent)
+returns-in-Invalid-clause-met g c = rw c.in-Send.is (meets_ok c.send_invalid.result _ _ _ c.send_invalid.ensures.ran)
 
 pub returns-in_default-clause-met : goal.returns-in_default-clause-met
 returns-in_default-clause-met g c = rw c.in-Send.is (meets_ok c.send_command.result _ _ _ c.send_command.ensures.ran)
