@@ -1,11 +1,11 @@
 -- By which slots a reference number is looked up. Bit k of a bucket stands for slot k.
-use Rattle.std.specs.Prelude.{◌≢◌, ◌≡◌, ℕ, ◌%◌, Bool, List, slice_index_or}
+use Rattle.std.specs.Prelude.{◌≢◌, ◌≡◌, ℕ, ◌%◌, ◌/◌, ◌+◌, Bool, List, slice_index_or}
 use Rattle.mscp_queue.specs.Masks.{AreClasses, IsSet}
 use Rattle.mscp_queue.specs.Records.{Record, no_record}
 
--- the bucket of a reference number: its low six bits
+-- the bucket of a reference number
 abbrev pub bucket_of : ℕ → ℕ
-bucket_of reference = reference % 64
+bucket_of reference = (reference % 64 + reference / 64 + reference / 4096) % 64
 
 -- the bit of slot n is set, or cleared, in the bucket of a number, and nothing else changes
 pub record IsPut (on : Bool) (n reference : ℕ) (old new : List ℕ) : Type 0 where

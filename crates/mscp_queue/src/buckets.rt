@@ -5,19 +5,19 @@ ghost use Rattle.mscp_queue.specs.Common.{IsPut, bucket_of};
 
 use crate::masks::with_bit;
 
-/// Of each low six bits of a reference number the slots of the waiting commands whose numbers have them: bit k is that of
-/// slot k.
+/// Of each bucket the slots of the waiting commands whose reference numbers are of it: bit k is that of slot k.
 #[derive(Clone, Copy)]
 pub(crate) struct Buckets {
     pub slots: [u64; 64],
 }
 
-/// The bucket of a reference number: its low six bits.
+/// The bucket of a reference number, in which no six bits of it are overlooked: many a driver numbers a command by the
+/// address of what it keeps of it, and the low bits of these are the same.
 fn bucket_of(reference: u32) -> usize
     ensures value { result ≡ bucket_of reference }
     ensures small { result < 64 }
 {
-    (reference % 64) as usize
+    ((reference % 64 + reference / 64 + reference / 4096) % 64) as usize
 }
 
 impl Buckets {
@@ -46,7 +46,7 @@ impl Buckets {
         self.slots[bucket] = with_bit(self.slots[bucket], slot, false);
     }
 
-    /// The slots of the commands whose numbers have the low bits of this one.
+    /// The slots of the commands whose numbers are of the bucket of this one.
     pub fn slots_of(&self, reference: u32) -> u64
         ensures { result ≡ slice_index_or self.now.slots (bucket_of reference) 0 }
     {
