@@ -167,16 +167,63 @@ end_units() {
 }
 
 endcodes() {
-    wire_breaks 'controller: endcode' 'READ 1 of unit 0' "$(reading 1)" "end $(packet 32 1 0 162 0 1024)" &&
-        wire_is_right '2 1 0 1 0' '' "$(reading 1)" "end $(packet 12 1 0 128 2049)"
+    local opcode
+    wire_breaks 'controller: endcode' 'READ 1 of unit 0' "$(reading 1)" "end $(packet 32 1 0 162 0 1024)" || return
+    for opcode in 1 2 3 4 8 9 10 33 34; do
+        wire_breaks 'controller: endcode' "$(opcode_named "$opcode") 1 of unit 0" "send $(packet 32 1 0 "$opcode" 0)" \
+            "end $(packet 12 1 0 128 2049)" || return
+    done
+    for opcode in 11 16 17 18 19 20 32 47; do
+        wire_is_right '2 1 0 1 0' '' "send $(packet 32 1 0 "$opcode" 0)" "end $(packet 12 1 0 128 2049)" || return
+    done
+}
+
+# What the judge calls an opcode that no controller may leave out.
+opcode_named() {
+    case $1 in
+        1) echo ABORT ;;
+        2) echo GET COMMAND STATUS ;;
+        3) echo GET UNIT STATUS ;;
+        4) echo SET CONTROLLER CHARACTERISTICS ;;
+        8) echo AVAILABLE ;;
+        9) echo ONLINE ;;
+        10) echo SET UNIT CHARACTERISTICS ;;
+        33) echo READ ;;
+        34) echo WRITE ;;
+    esac
 }
 
 statuses() {
-    wire_breaks 'controller: status' 'READ 1 of unit 0' "$(reading 1)" "end $(packet 12 1 0 128 0)" &&
+    wire_breaks 'controller: status' 'ERASE 1 of unit 0' "send $(packet 32 1 0 18 0)" "end $(packet 12 1 0 128 0)" &&
+        wire_breaks 'controller: status' 'GET UNIT STATUS 1 of unit 3' "$(unit_status 1 3 0)" "end $(packet 48 1 3 131 6)" &&
+        wire_is_right '4 2 0 2 0' '' "$(unit_status 1 3 0)" "end $(packet 48 1 3 131 4)" "$(unit_status 2 3 0)" \
+            "end $(packet 48 2 3 131 11)" &&
         wire_breaks 'controller: status' 'READ 1 of unit 0' "$(reading 1)" "$(moved 1 12 0)" &&
         wire_breaks 'controller: status' 'ONLINE 1 of unit 0' "$(online 1)" "$(onlined 1 4)" &&
         wire_breaks 'controller: status' 'ABORT 1 of unit 0' "$(abort 1 9)" "$(aborted 1 3 9)" &&
         wire_is_right '2 1 0 1 0' '' "send $(packet 12 1 0 47 0)" "end $(packet 12 1 0 175 12)" # FORMAT
+}
+
+# What a message is too short for doesn't succeed.
+short_messages() {
+    wire_breaks 'controller: status' 'READ 1 of unit 0' "send $(packet 31 1 0 33 0 0)" "$(moved 1 0 0)" &&
+        wire_breaks 'controller: status' 'ABORT 1 of unit 0' "send $(packet 15 1 0 1 0)" "$(aborted 1 0 0)" &&
+        wire_breaks 'controller: status' 'SET CONTROLLER CHARACTERISTICS 1 of unit 0' "send $(packet 13 1 0 4 0)" \
+            "end $(packet 28 1 0 132 0)" &&
+        wire_is_right '2 1 0 1 0' '' "send $(packet 31 1 0 33 0)" "$(moved 1 1 0)" &&
+        wire_is_right '2 1 0 1 0' '' "send $(packet 14 1 0 4 0)" "end $(packet 28 1 0 132 0)" &&
+        wire_is_right '2 1 0 1 0' '' "send $(packet 12 1 0 47 0)" "end $(packet 12 1 0 175 0)"
+}
+
+# Only an ONLINE tells that its unit was online already, and Invalid Command names a byte of its message.
+subcodes() {
+    wire_breaks 'controller: status' 'READ 1 of unit 0' "$(reading 1)" "$(moved 1 256 1024)" &&
+        wire_breaks 'controller: status' 'AVAILABLE 1 of unit 0' "$(available 1)" "$(availed 1 256)" &&
+        wire_is_right '2 1 0 1 0' '' "$(available 1)" "$(availed 1 512)" &&
+        wire_is_right '2 1 0 1 0' '' "send $(packet 12 1 0 47 0)" "end $(packet 12 1 0 175 256)" &&
+        wire_breaks 'controller: status' 'AVAILABLE 1 of unit 0' "$(available 1)" "$(availed 1 $((12 * 256 + 1)))" &&
+        wire_is_right '2 1 0 1 0' '' "$(available 1)" "$(availed 1 $((11 * 256 + 1)))" &&
+        wire_is_right '2 1 0 1 0' '' "send $(packet 12 1 0 33 0)" "$(moved 1 $((12 * 256 + 1)) 0)"
 }
 
 aborts_without_an_abort() {
@@ -193,6 +240,21 @@ orders() {
         wire_is_right '5 3 0 2 0' 'outstanding: ONLINE 1 of unit 0' "$(online 1)" "$(reading 2 1)" "$(moved 2 0 1024 1)" \
             "$(reading 3)" "$(moved 3 1 0)" &&
         wire_is_right '3 2 0 1 0' 'outstanding: READ 1 of unit 0' "$(reading 1)" "$(reading 2)" "$(moved 2 0 1024)"
+}
+
+# Commands that ask nothing of a disk, and that this project doesn't know, keep their place too, and others don't.
+orders_of_others() {
+    local opcode
+    for opcode in 11 17 19 20; do
+        wire_breaks 'controller: order' "command of an unknown opcode 2 of unit 0" "$(online 1)" \
+            "send $(packet 32 2 0 "$opcode" 0)" "end $(packet 32 2 0 $((opcode + 128)) 0)" &&
+            wire_breaks 'controller: order' 'AVAILABLE 2 of unit 0' "send $(packet 32 1 0 "$opcode" 0)" "$(available 2)" \
+                "$(availed 2 0)" &&
+            wire_is_right '3 2 0 1 0' 'outstanding: READ 1 of unit 0' "$(reading 1)" "send $(packet 32 2 0 "$opcode" 0)" \
+                "end $(packet 32 2 0 $((opcode + 128)) 0)" || return
+    done
+    wire_is_right '3 2 0 1 0' 'outstanding: ONLINE 1 of unit 0' "$(online 1)" "send $(packet 12 2 0 47 0)" \
+        "end $(packet 12 2 0 175 0)"
 }
 
 successes() {

@@ -12,23 +12,25 @@
 --                    Unit         it names the unit of that command, unless that asks for
 --                                 the next unit                                               names_unit
 --                    Endcode      it has the endcode of that command                          has_endcode
---                    Status       its status has a code that such a command may have          has_status
+--                    Status       its status is one that such a command may have              has_status
 --                    Aborted      a command is aborted only while its ABORT is outstanding    has_abort
 --                    Order        of a unit no command passes a sequential one, and that
 --                                 passes none                                                 passes_none
---                    Success      an ABORT and a GET COMMAND STATUS succeed                   succeeds
+--                    Success      an ABORT and a GET COMMAND STATUS succeed, unless they are
+--                                 refused for a modifier                                      succeeds
 --                    About        their ends name the command that they are about             is_about
 --                    Figure       the figure of the oldest command falls from poll to poll;
---                                 it is 0 if no such command is outstanding                   has_figure
+--                                 it is 0 if no such command is outstanding, and may be 0
+--                                 if its end is on the way                                    has_figure
 --                    Count        no more bytes are moved than were asked for, and all of
 --                                 them if the status is Success                               has_count
 --                    Identity     while a unit is online its identifier, media type and size
 --                                 stay as they are                                            is_same_unit
-use Rattle.std.specs.Prelude.{◌≡◌, ℕ, ◌+◌, ◌<◌, Bool, true, false, not, ◌&&◌, ◌||◌, nat_eq, nat_le, nat_lt, if◌then◌else◌, List, [], ◌∷◌, ◌++◌, length, map, take, drop, position, count_by, fold, min, slice_index, slice_index_or, Option, Some, None}
+use Rattle.std.specs.Prelude.{◌≡◌, ℕ, ◌+◌, ◌/◌, ◌<◌, Bool, true, false, not, ◌&&◌, ◌||◌, nat_eq, nat_le, nat_lt, if◌then◌else◌, List, [], ◌∷◌, ◌++◌, length, map, take, drop, position, count_by, fold, min, slice_index, slice_index_or, Option, Some, None}
 use Rattle.std.specs.List.{list_any}
 use Rattle.mscp_drive.specs.declared.connection.Connection.{Connection}
 use Rattle.mscp_drive.specs.declared.connection.Connection.TheVariants.{First}
-pub use Rattle.mscp_wire.specs.Messages.{History, answer_by, asks_for_next, four_in, identity_in, is_about_another, is_immediate, is_known, is_named, is_sequential, is_modified, is_sequential_class, is_transfer, is_transfer_class, is_unknown, is_unknown_class, least_length, same_connection, sent_by, status_code}
+pub use Rattle.mscp_wire.specs.Messages.{History, answer_by, asks_for_next, four_in, identity_in, is_about_another, is_immediate, is_known, is_named, is_ordered, is_required, is_sequential, is_short, is_modified, is_sequential_class, is_transfer, is_transfer_class, is_unknown, is_unknown_class, least_length, least_message, same_connection, sent_by, status_code}
 pub use Rattle.mscp_wire.specs.Polls.{asked_about, asked_by, asking, asks_oldest, has_figure, has_number, hears, is_below, is_hearing, is_it, is_oldest, is_polled, is_refused, left, may_be, may_tell, polled_by, polls, tells, waits_on}
 pub use Rattle.mscp_wire.specs.Units.{agrees, brings, is_same_unit, is_unit, kept, known, known_after, known_after_end, known_brought, known_of, leaves, tells_unit, was_online, with_new, with_unit, without}
 use Rattle.mscp_wire.specs.declared.answer.Answer.{Answer}
@@ -83,27 +85,46 @@ place_of xs e = position (is_named e.connection e.reference) xs
 abbrev pub names_unit : Sent → Answer → Bool
 names_unit y e = y.next || nat_eq e.unit y.unit
 
--- its endcode is the opcode of its command and 0x80 (manual, "End Messages"), or 0x80 alone
+-- its endcode is the opcode of its command and 0x80 (manual, "End Messages"), or 0x80 alone if a controller may leave
+-- that opcode out
 abbrev pub has_endcode : Sent → Answer → Bool
-has_endcode y e = not (is_known e) || nat_eq e.code (y.opcode + 0x80)
+has_endcode y e = if is_known e then nat_eq e.code (y.opcode + 0x80) else not (is_required y.opcode)
 
 -- a command of this opcode may have a status of this code (manual, "Status and Event Codes"): Success (0) or Invalid
 -- Command (1), and any other of 2 to 11 where it isn't an ABORT, a GET COMMAND STATUS or a SET CONTROLLER
--- CHARACTERISTICS. A GET UNIT STATUS isn't aborted (2), and no AVAILABLE or ONLINE is told that its unit is available
--- (4)
+-- CHARACTERISTICS. A GET UNIT STATUS isn't aborted (2), and has no code of a medium, of data or of a buffer (5 to 9); no
+-- AVAILABLE or ONLINE is told that its unit is available (4)
 abbrev pub may_have : ℕ → ℕ → Bool
 may_have opcode code =
     nat_le code 1
     || (nat_le code 11
     && not (nat_eq opcode 1 || nat_eq opcode 2 || nat_eq opcode 4)
-    && not (nat_eq opcode 3 && nat_eq code 2)
+    && not (nat_eq opcode 3 && (nat_eq code 2 || (nat_le 5 code && nat_le code 9)))
     && not ((nat_eq opcode 8 || nat_eq opcode 9) && nat_eq code 4))
 
 -- its status has a code that its command may have: any if no row of the table of opcodes has that, and Invalid Command
 -- where the controller doesn't know it
-abbrev pub has_status : Sent → Answer → Bool
-has_status y e =
+abbrev pub has_code : Sent → Answer → Bool
+has_code y e =
     if is_known e then is_unknown y.opcode || may_have y.opcode (status_code e) else nat_eq (status_code e) 1
+
+-- a command whose message is too short for its opcode doesn't succeed
+abbrev pub is_whole : Sent → Answer → Bool
+is_whole y e = not (is_short y) || not (nat_eq (status_code e) 0)
+
+-- of those that have a row only an ONLINE (9) succeeds with the sub-code that says that its unit was online already
+abbrev pub is_plain : Sent → Answer → Bool
+is_plain y e =
+    not (nat_eq (status_code e) 0) || not (was_online e) || nat_eq y.opcode 9 || is_unknown y.opcode
+
+-- the sub-code of Invalid Command is the offset of a byte that the message has (manual, "Status and Event Codes"),
+-- unless that is too short
+abbrev pub points_into : Sent → Answer → Bool
+points_into y e = not (nat_eq (status_code e) 1) || is_short y || nat_lt (e.status / 256) y.bytes
+
+-- its status is one that its command may have
+abbrev pub has_status : Sent → Answer → Bool
+has_status y e = has_code y e && is_whole y e && is_plain y e && points_into y e
 
 -- s is an ABORT of the command y
 abbrev pub aborts : Sent → Sent → Bool
@@ -115,14 +136,15 @@ aborts y s =
 abbrev pub has_abort : List Sent → Sent → Answer → Bool
 has_abort xs y e = not (nat_eq (status_code e) 2) || list_any (aborts y) xs
 
--- the earlier command s keeps y back: both are of one unit, and one of them is sequential while the other waits in a
--- queue (manual, "Command Categories and Execution Order"). Of two connections nothing is said: each takes its own ends
+-- the earlier command s keeps y back: both are of one unit, and one of them is sequential while the other has its place
+-- in a queue (manual, "Command Categories and Execution Order"). Of two connections nothing is said: each takes its own
+-- ends
 abbrev pub keeps_back : Sent → Sent → Bool
 keeps_back y s =
     same_connection s.connection y.connection
     && nat_eq s.unit y.unit
-    && ((is_sequential s.opcode && (is_sequential y.opcode || is_transfer y.opcode))
-    || (is_transfer s.opcode && is_sequential y.opcode))
+    && ((is_sequential s.opcode && (is_sequential y.opcode || is_ordered y.opcode))
+    || (is_ordered s.opcode && is_sequential y.opcode))
 
 -- a status of this code may come at once, before earlier commands of the unit end: Invalid Command (1), Command
 -- Aborted (2) and Unit-Offline (3)
@@ -144,7 +166,8 @@ other_of y e = if is_known e && is_about_another y.opcode && not (is_refused y e
 abbrev pub count_of : Sent → Answer → Option ℕ
 count_of y e = if is_known e && is_transfer y.opcode then y.parameter else None
 
--- an ABORT and a GET COMMAND STATUS succeed, also of a command that isn't outstanding
+-- an ABORT and a GET COMMAND STATUS succeed, also of a command that isn't outstanding, unless they are refused for a
+-- modifier
 abbrev pub succeeds : Answer → Option ℕ → Bool
 succeeds e None = true
 succeeds e (Some other) = nat_eq (status_code e) 0

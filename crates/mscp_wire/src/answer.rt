@@ -4,7 +4,7 @@ ghost use Rattle.std.specs.Prelude.{◌≡◌, ◌≤◌, ◌<◌, ◌^◌, leng
 ghost use Rattle.mscp_wire.specs.Wire as wire;
 
 use crate::identity::Identity;
-use crate::sent::{Sent, four_in, is_transfer, is_unknown};
+use crate::sent::{Sent, four_in, is_required, is_transfer, is_unknown};
 use mscp_drive::Connection;
 use mscp_packet::fields::{four_at, two_at};
 
@@ -62,7 +62,7 @@ fn may_have(opcode: u8, code: u16) -> bool
     }
     code <= 11
         && !(opcode == 1 || opcode == 2 || opcode == 4)
-        && !(opcode == 3 && code == 2)
+        && !(opcode == 3 && (code == 2 || (code >= 5 && code <= 9)))
         && !((opcode == 8 || opcode == 9) && code == 4)
 }
 
@@ -133,18 +133,58 @@ impl Answer {
     pub fn has_endcode(&self, command: &Sent) -> bool
         ensures { result ≡ wire.has_endcode command.now self.now }
     {
-        !self.is_known() || u16::from(self.code) == u16::from(command.opcode) + 0x80
+        if self.is_known() {
+            u16::from(self.code) == u16::from(command.opcode) + 0x80
+        } else {
+            !is_required(command.opcode)
+        }
     }
 
     /// Whether its status has a code that its command may have.
-    pub fn has_status(&self, command: &Sent) -> bool
-        ensures { result ≡ wire.has_status command.now self.now }
+    fn has_code(&self, command: &Sent) -> bool
+        ensures { result ≡ wire.has_code command.now self.now }
     {
         if self.is_known() {
             is_unknown(command.opcode) || may_have(command.opcode, self.status_code())
         } else {
             self.status_code() == 1
         }
+    }
+
+    /// Whether it doesn't succeed if its command's message is too short.
+    fn is_whole(&self, command: &Sent) -> bool
+        ensures { result ≡ wire.is_whole command.now self.now }
+    {
+        !command.is_short() || self.status_code() != 0
+    }
+
+    /// Whether it doesn't say that its unit was online already, unless its command is an ONLINE or has no row.
+    fn is_plain(&self, command: &Sent) -> bool
+        ensures { result ≡ wire.is_plain command.now self.now }
+    {
+        self.status_code() != 0
+            || !self.was_online()
+            || command.opcode == 9
+            || is_unknown(command.opcode)
+    }
+
+    /// Whether the sub-code of Invalid Command is the offset of a byte of the message, unless that is too short.
+    fn points_into(&self, command: &Sent) -> bool
+        ensures { result ≡ wire.points_into command.now self.now }
+    {
+        self.status_code() != 1
+            || command.is_short()
+            || usize::from(self.status / 256) < command.bytes
+    }
+
+    /// Whether its status is one that its command may have.
+    pub fn has_status(&self, command: &Sent) -> bool
+        ensures { result ≡ wire.has_status command.now self.now }
+    {
+        self.has_code(command)
+            && self.is_whole(command)
+            && self.is_plain(command)
+            && self.points_into(command)
     }
 
     /// Whether its command, which has a modifier, is refused as an Invalid Command.

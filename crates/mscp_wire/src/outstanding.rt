@@ -5,7 +5,7 @@ ghost use Rattle.std.specs.List.{list_any};
 ghost use Rattle.mscp_wire.specs.Wire as wire;
 
 use crate::answer::{ABORT, Answer, is_it};
-use crate::sent::{Sent, is_sequential, is_transfer};
+use crate::sent::{Sent, is_ordered, is_sequential};
 use mscp_drive::Connection;
 
 /// Whether one of the commands has this reference number on this connection.
@@ -76,9 +76,9 @@ fn keeps_back(command: &Sent, earlier: &Sent) -> bool
         return false;
     }
     if is_sequential(earlier.opcode) {
-        return is_sequential(command.opcode) || is_transfer(command.opcode);
+        return is_sequential(command.opcode) || is_ordered(command.opcode);
     }
-    is_transfer(earlier.opcode) && is_sequential(command.opcode)
+    is_ordered(earlier.opcode) && is_sequential(command.opcode)
 }
 
 /// Whether a status of this code may come before earlier commands of the unit end.

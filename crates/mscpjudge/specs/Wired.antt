@@ -51,20 +51,21 @@ rule_name rules.Length = codes "length"
 rule_name rules.Outstanding = codes "outstanding"
 -- it names the unit of its command, or any if that is a GET UNIT STATUS which asks for the next unit (modifier 1)
 rule_name rules.Unit = codes "unit"
--- its endcode is the opcode and 0x80, or 0x80 alone
+-- its endcode is the opcode and 0x80, or 0x80 alone if a controller may leave that opcode out
 rule_name rules.Endcode = codes "endcode"
--- its status has a code that such a command may have. With 0x80 alone it is Invalid Command
+-- its status is one that such a command may have. With 0x80 alone it is Invalid Command
 rule_name rules.Status = codes "status"
 -- a command is aborted by an ABORT, and ends before that does
 rule_name rules.Aborted = codes "aborted"
 -- of a unit no command passes a sequential one, and a sequential one passes none; Invalid Command, Command Aborted and
 -- Unit-Offline may come at once
 rule_name rules.Order = codes "order"
--- an ABORT and a GET COMMAND STATUS succeed, also of a command that isn't outstanding
+-- an ABORT and a GET COMMAND STATUS succeed, unless a modifier is refused
 rule_name rules.Success = codes "success"
 -- their ends name the command that they are about
 rule_name rules.About = codes "about"
--- the status of the oldest command falls from poll to poll. It is 0 of a command that isn't outstanding
+-- the status of the oldest command falls from poll to poll. It is 0 of a command that isn't outstanding, or whose end
+-- is on the way
 rule_name rules.Figure = codes "figure"
 -- as many bytes are moved as were asked for, and fewer only if the status isn't Success
 rule_name rules.Count = codes "byte count"
@@ -87,7 +88,7 @@ rule_text rules.Length = codes "an end message is as long as its endcode asks"
 rule_text rules.Outstanding = codes "an end message answers a command that is outstanding, and each once"
 rule_text rules.Unit = codes "an end message names the unit of its command, unless that asks for the next one"
 rule_text rules.Endcode = codes "the endcode is the opcode of the command and 0x80"
-rule_text rules.Status = codes "the status has a code that such a command may have"
+rule_text rules.Status = codes "the status is one that such a command may have"
 rule_text rules.Aborted = codes "a command is aborted by an ABORT, and ends before that does"
 rule_text rules.Order = codes "a sequential command of a unit passes no earlier one, and is passed by none"
 rule_text rules.Success = codes "an ABORT and a GET COMMAND STATUS succeed"
