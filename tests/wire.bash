@@ -356,10 +356,11 @@ identities() {
 # Where a unit isn't online any more, or to another host, it may be another.
 identities_end() {
     local online=("$(online 1 5)" "$(tells_online 1 0 3 4 800)") other=("$(online 2 5)" "$(tells_online 2 256 9 9 9)")
-    wire_is_right '6 3 0 3 0' '' "${online[@]}" "$(available 3 5)" "end $(packet 12 3 5 136 0)" "${other[@]}" &&
-        wire_is_right '6 3 0 3 0' '' "${online[@]}" "$(reading 3 5)" "$(moved 3 3 0 5)" "${other[@]}" &&
-        wire_is_right '6 3 0 3 0' '' "${online[@]}" "$(reading 3 5)" "$(moved 3 4 0 5)" "${other[@]}" &&
-        wire_is_right '5 2 0 2 1' '' "${online[@]}" reset "${other[@]}" &&
+    local set=("send $(packet 36 2 5 10 0)" "$(tells_set 2 0 9 9 9)")
+    wire_is_right '6 3 0 3 0' '' "${online[@]}" "$(available 3 5)" "end $(packet 12 3 5 136 0)" "${set[@]}" &&
+        wire_is_right '6 3 0 3 0' '' "${online[@]}" "$(reading 3 5)" "$(moved 3 3 0 5)" "${set[@]}" &&
+        wire_is_right '6 3 0 3 0' '' "${online[@]}" "$(reading 3 5)" "$(moved 3 4 0 5)" "${set[@]}" &&
+        wire_is_right '5 2 0 2 1' '' "${online[@]}" reset "${set[@]}" &&
         wire_is_right '4 2 0 2 0' '' "${online[@]}" "${other[0]}" "$(tells_online 2 0 9 9 9)" &&
         wire_is_right '4 2 0 2 0' '' "${online[@]}" "${other[0]}" "$(tells_online 2 1024 9 9 9)" &&
         wire_is_right '4 2 0 2 0' '' "${online[@]}" "${other[0]}" "$(tells_online 2 128 9 9 9)" &&
@@ -371,6 +372,47 @@ identities_end() {
         wire_is_right '4 2 0 2 0' '' "${online[@]}" "second ${other[0]}" "second ${other[1]}" &&
         wire_breaks 'controller: identity' 'ONLINE 2 of unit 5' "${online[@]}" "$(available 3 5)" \
             "end $(packet 12 3 5 136 1)" "${other[@]}"
+}
+
+# A unit isn't online after a reset, or once it is told to be available or offline, until an ONLINE of its host succeeds.
+# Nothing is known before.
+unit_states() {
+    local away up=("$(online 1 5)" "$(tells_online 1 0 3 4 800)") read=("$(reading 9 5)" "$(moved 9 0 1024 5)")
+    wire_breaks 'controller: state' 'READ 9 of unit 5' reset "${read[@]}" &&
+        wire_breaks 'controller: state' 'ONLINE 1 of unit 5' reset "$(online 1 5)" "$(tells_online 1 256 3 4 800)" &&
+        wire_breaks 'controller: state' 'GET UNIT STATUS 1 of unit 5' reset "$(unit_status 1 5 0)" \
+            "$(tells_status 1 0 3 4 0)" &&
+        wire_breaks 'controller: state' 'WRITE 2 of unit 5' reset "send $(packet 32 2 5 34 0 512)" \
+            "end $(packet 32 2 5 162 0 512)" &&
+        wire_is_right '5 2 0 2 1' '' reset "${up[@]}" "${read[@]}" &&
+        wire_is_right '3 1 0 1 1' '' reset "$(reading 9 5)" "$(moved 9 4 0 5)" &&
+        wire_is_right '3 1 0 1 1' '' reset "send $(packet 36 2 5 10 0)" "$(tells_set 2 0 3 4 800)" &&
+        wire_breaks 'controller: state' 'READ 9 of unit 5' reset "${up[@]}" reset "${read[@]}" &&
+        wire_is_right '5 2 0 2 1' '' reset "$(online 1)" "$(onlined 1 0)" "$(reading 2)" "$(moved 2 0 1024)" &&
+        wire_breaks 'controller: state' 'READ 2 of unit 5' reset "$(online 1)" "$(onlined 1 0)" "$(reading 2 5)" \
+            "$(moved 2 0 1024 5)" || return
+    # Each of these ends says that unit 5 isn't online.
+    for away in "$(available 3 5)"$'\n'"end $(packet 12 3 5 136 0)" "$(reading 3 5)"$'\n'"$(moved 3 4 0 5)" \
+        "$(reading 3 5)"$'\n'"$(moved 3 3 0 5)" "$(unit_status 3 5 0)"$'\n'"$(tells_status 3 4 3 4 0)"; do
+        wire_breaks 'controller: state' 'READ 9 of unit 5' "${up[@]}" "$away" "${read[@]}" &&
+            wire_breaks 'controller: state' 'ONLINE 4 of unit 5' "${up[@]}" "$away" "$(online 4 5)" \
+                "$(tells_online 4 256 3 4 800)" &&
+            wire_is_right '8 4 0 4 0' '' "${up[@]}" "$away" "$(online 4 5)" "$(tells_online 4 0 3 4 800)" "${read[@]}" || return
+    done
+    wire_is_right '6 3 0 3 0' '' "${up[@]}" "$(available 3 5)" "end $(packet 12 3 5 136 1)" "${read[@]}" &&
+        wire_is_right '6 3 0 3 0' '' "$(online 1)" "$(onlined 1 0)" "$(unit_status 3 7 1)" "end $(packet 48 3 0 131 3)" \
+            "$(reading 2)" "$(moved 2 0 1024)"
+}
+
+# If the other host brings the unit online, its end may be told late.
+units_of_two_hosts() {
+    local read=("second $(reading 9 5)" "second $(moved 9 0 1024 5)")
+    wire_is_right '4 2 0 1 1' 'outstanding: ONLINE 1 of unit 5' reset "$(online 1 5)" "${read[@]}" &&
+        wire_is_right '6 3 0 2 1' 'outstanding: ONLINE 1 of unit 5' reset "$(online 1 5)" "second $(available 2 5)" \
+            "second end $(packet 12 2 5 136 0)" "${read[@]}" &&
+        wire_breaks 'controller: state' 'second READ 9 of unit 5' reset "$(online 1 6)" "${read[@]}" &&
+        wire_breaks 'controller: state' 'second READ 9 of unit 5' reset "$(available 1 5)" "${read[@]}" &&
+        wire_breaks 'controller: state' 'READ 9 of unit 5' reset "$(online 1 5)" reset "$(reading 9 5)" "$(moved 9 0 1024 5)"
 }
 
 # The lines are no log of the wire, for this reason.

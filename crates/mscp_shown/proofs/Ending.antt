@@ -285,7 +285,8 @@ module _ (c : Settings) (t : Trace) (own : Connection) (b : ArrayVec ℕ) (known
               h.tallied
               h.heard left;
           count = here.count;
-          identity = same_right (wire.known (shown t) own (num b.items 4 2)) a (unit_identity c (num b.items 4 2))
+          identity = same_right (wire.told (shown t) own (num b.items 4 2)).identity a
+              (unit_identity c (num b.items 4 2))
               (h.units own (num b.items 4 2)) told.0;
         },
       ))

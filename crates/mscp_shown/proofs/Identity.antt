@@ -13,9 +13,13 @@ use Rattle.mscp_packet.specs.declared.end.EndBody.TheVariants as bodies
 use Rattle.mscp_drive.specs.Shape.{Shape}
 use Rattle.mscp_drive.specs.Settings.{Settings, unit_shape}
 use Rattle.mscp_drive.specs.declared.connection.Connection.{Connection}
-use Rattle.mscp_wire.specs.Wire.{History, agrees, answer_by, brings, is_same_unit, known, known_after_end, leaves, same_connection, status_code, tells_unit, was_online}
+use Rattle.mscp_wire.specs.Wire.{History, agrees, answer_by, brings, is_same_unit, leaves, same_connection, says_away, shares, status_code, tells_unit, told, told_after_end, told_after_message, turned, was_online}
 use Rattle.mscp_wire.specs.declared.answer.Answer.{Answer}
 use Rattle.mscp_wire.specs.declared.identity.Identity.{Identity}
+use Rattle.mscp_wire.specs.declared.sent.Sent.{Sent}
+use Rattle.mscp_wire.specs.declared.told.State.{State}
+use Rattle.mscp_wire.specs.declared.told.State.TheVariants.{Away, Open, Shared}
+use Rattle.mscp_wire.specs.declared.told.Told.{Told}
 
 -- a body tells of a unit what it is
 abbrev pub BodyTells : Shape → EndBody → Type 0
@@ -152,27 +156,44 @@ is_told c via b e is kind tells st unit =
 -- ---- what is known of units
 -- what is known of each unit is what it is
 abbrev pub AreTold : Settings → History → Type 0
-AreTold c h = (via : Connection) (unit : ℕ) (i : Identity) → known h via unit ≡ Some i → i ≡ unit_identity c unit
+AreTold c h =
+    (via : Connection) (unit : ℕ) (i : Identity) → (told h via unit).identity ≡ Some i → i ≡ unit_identity c unit
 
 -- an end of a unit keeps that
 pub told_more : (c : Settings) (h : History) (a : Answer) → AreTold c h
     → (brings a ≡ true → a.identity ≡ Some (unit_identity c a.unit)) → (via : Connection) (unit : ℕ) (i : Identity)
-    → known_after_end via unit (known h via unit) a ≡ Some i → i ≡ unit_identity c unit
-told_more c h a told brought via unit i =
+    → (told_after_end via unit (told h via unit) a).identity ≡ Some i → i ≡ unit_identity c unit
+told_more c h a known brought via unit i =
     by_cases (nat_eq a.unit unit) (leaves a) (brings a) (same_connection a.connection via) (was_online a)
-    (known h via unit) a.identity i (unit_identity c unit) (told via unit i)
+    (told h via unit) a.identity i (unit_identity c unit)
+    (if says_away a then turned (told h via unit).state Away else (
+    if brings a then turned (told h via unit).state Open else (told h via unit).state)) (known via unit i)
     (λ q b. brought b ∙ ap (λ n. Some (unit_identity c n)) (eqb-true a.unit unit q))
   where
-    by_cases : (here gone on side was : Bool) (old new : Option Identity) (i j : Identity) → (old ≡ Some i → i ≡ j)
-        → (here ≡ true → on ≡ true → new ≡ Some j)
-        → (if not here then old else (if gone then None
-        else (if on then (if side then new else (if was then old else None)) else old))) ≡ Some i → i ≡ j
-    by_cases false gone on side was old new i j k n h = k h
-    by_cases true true on side was old new i j k n h = cc
-    by_cases true false false side was old new i j k n h = k h
-    by_cases true false true false true old new i j k n h = k h
-    by_cases true false true false false old new i j k n h = cc
-    by_cases true false true true was old new i j k n h = let e : new ≡ Some j = n refl refl in cc
+    by_cases : (here gone on side was : Bool) (old : Told) (new : Option Identity) (i j : Identity) (s : State)
+        → (old.identity ≡ Some i → i ≡ j) → (here ≡ true → on ≡ true → new ≡ Some j)
+        → (if not here then old else (if side then record {
+          identity = if gone then None else (if on then new else old.identity);
+          state = s;
+        } else record old { identity = if gone || (on && not was) then None else old.identity })).identity ≡ Some i
+        → i ≡ j
+    by_cases false gone on side was old new i j s k n h = k h
+    by_cases true true on true was old new i j s k n h = cc
+    by_cases true true on false was old new i j s k n h = cc
+    by_cases true false false true was old new i j s k n h = k h
+    by_cases true false false false was old new i j s k n h = k h
+    by_cases true false true false true old new i j s k n h = k h
+    by_cases true false true false false old new i j s k n h = cc
+    by_cases true false true true was old new i j s k n h = let e : new ≡ Some j = n refl refl in cc
+
+-- and a command does
+pub told_sent : (t : Told) (via : Connection) (unit : ℕ) (s : Sent)
+    → (told_after_message via unit t s).identity ≡ t.identity
+told_sent t via unit s = by_bool (shares via unit s)
+  where
+    by_bool : (b : Bool) → (if b then record t { state = Shared } else t).identity ≡ t.identity
+    by_bool true = refl
+    by_bool false = refl
 
 -- and an end of it says the same
 pub same_right : (o : Option Identity) (a : Answer) (j : Identity) → ((i : Identity) → o ≡ Some i → i ≡ j)

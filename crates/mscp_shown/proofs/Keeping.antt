@@ -48,8 +48,8 @@ Suits (orders.Move kind count block) status body =
 Suits (orders.Invalid byte fault) status body =
     (status ≡ fault) × (body ≡ refused_body (endcode (orders.Invalid byte fault)))
 
--- its sub-code suits the order: that of Success is 0, but for an ONLINE's, and that of Invalid Command is the offset of a
--- byte that its message has
+-- its sub-code suits the order: that of Success is 0, but for an ONLINE's, and that of Invalid Command is the offset of
+-- a byte that its message has
 abbrev pub IsFine : Order → ℕ → Type 0
 IsFine orders.Online status = status % 32 ≢ 1
 IsFine (orders.Move kind count block) status =

@@ -1,5 +1,5 @@
 -- What a message says on the wire, by what it asks for.
-use Rattle.std.proofs.Common.{◌≡◌, ◌⊎◌, inl, inr, ⊎_elim, ℕ, ◌<◌, ◌≤◌, Bool, true, false, ◌||◌, List, length, refl, ap, sym, ◌∙◌, subst, arith, Option, Some, None}
+use Rattle.std.proofs.Common.{◌≡◌, ◌⊎◌, inl, inr, ℕ, ◌<◌, ◌≤◌, Bool, true, false, List, length, refl, ap, sym, ◌∙◌, subst, arith, Option, Some, None}
 use Rattle.std.proofs.lemmas.Bool.{eqb-true, false≢true, le-leb, le-ltb, lt-ltb, ltb-false, ltb-true}
 use Rattle.std.specs.Prelude.{find, if◌then◌else◌, nat_eq, nat_le, nat_lt, slice_index}
 use Rattle.mscp_packet.specs.Commands.{command_of, order_with, parameters}

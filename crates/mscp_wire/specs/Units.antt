@@ -1,13 +1,22 @@
--- What is known of units that are online: what the ends of a history told of them.
-use Rattle.std.specs.Prelude.{ℕ, ◌/◌, ◌%◌, Bool, true, false, not, ◌&&◌, ◌||◌, nat_eq, if◌then◌else◌, List, [], ◌++◌, ◌∷◌, filter, find, fold, Option, Some, None}
+-- What a host was told of units: by its own ends, and of whether they are online by the other host's, too.
+use Rattle.std.specs.Prelude.{◌≡◌, ℕ, ◌+◌, ◌*◌, ◌/◌, ◌%◌, Bool, true, false, not, ◌&&◌, ◌||◌, nat_eq, if◌then◌else◌, fold, Option, Some, None}
+use Rattle.std.specs.Ordering.{nat_cmp}
+use Rattle.std.specs.BTreeMap as tree
 use Rattle.mscp_packet.specs.Number.{num}
 use Rattle.mscp_drive.specs.declared.connection.Connection.{Connection}
-use Rattle.mscp_wire.specs.Messages.{History, answer_by, same_connection, status_code}
+use Rattle.mscp_drive.specs.declared.connection.Connection.TheVariants.{First, Second}
+use Rattle.mscp_wire.specs.Messages.{History, answer_by, same_connection, sent_by, status_code}
 use Rattle.mscp_wire.specs.declared.answer.Answer.{Answer}
 use Rattle.mscp_wire.specs.declared.identity.Identity.{Identity}
-use Rattle.mscp_wire.specs.declared.identity.Online.{Online}
 use Rattle.mscp_wire.specs.declared.moment.Moment.{Moment}
 use Rattle.mscp_wire.specs.declared.moment.Moment.TheVariants as moments
+use Rattle.mscp_wire.specs.declared.sent.Sent.{Sent}
+use Rattle.mscp_wire.specs.declared.told.State.{State}
+use Rattle.mscp_wire.specs.declared.told.State.TheVariants.{Away, Open, Shared}
+use Rattle.mscp_wire.specs.declared.told.Told.{Told}
+use Rattle.mscp_wire.specs.declared.units.Units.{Units}
+
+-- ---- what an end says of its unit
 
 -- the sub-code of an ONLINE's Success says that the unit was online already: its bit 0x0100 is set (manual, "Status and
 -- Event Codes")
@@ -34,69 +43,121 @@ abbrev pub is_same_unit : Option Identity → Answer → Bool
 is_same_unit None e = true
 is_same_unit (Some known) e = not (tells_unit e) || agrees e.code e.identity known
 
--- ---- units that are online
-
 -- an end brings its unit online: one of ONLINE that succeeded
 abbrev pub brings : Answer → Bool
 brings e = nat_eq e.code 0x89 && nat_eq (status_code e) 0
 
--- an end shows that its unit isn't online any more: one of AVAILABLE that succeeded, or a status Unit-Offline (3) or
--- Unit-Available (4)
+-- an end says that its unit isn't online: one of AVAILABLE that succeeded, or a status Unit-Available (4) or
+-- Unit-Offline (3). That of a GET UNIT STATUS may name unit 0, as there is no unit
+abbrev pub says_away : Answer → Bool
+says_away e =
+    (nat_eq (status_code e) 0 && nat_eq e.code 0x88) || nat_eq (status_code e) 4
+    || (nat_eq (status_code e) 3 && not (nat_eq e.code 0x83))
+
+-- after an end nothing is known of what its unit is
 abbrev pub leaves : Answer → Bool
-leaves e =
-    (nat_eq e.code 0x88 && nat_eq (status_code e) 0) || nat_eq (status_code e) 3 || nat_eq (status_code e) 4
+leaves e = says_away e || nat_eq (status_code e) 3
 
--- what is known of a unit of a connection once an end brought that unit online. If it wasn't online already, it may be
--- another one to the other host, too
-abbrev pub known_brought : Connection → Option Identity → Answer → Option Identity
-known_brought via known e =
-    if same_connection e.connection via then e.identity else (if was_online e then known else None)
+-- an end with this endcode is one of a transfer
+abbrev pub is_moved : ℕ → Bool
+is_moved code = nat_eq code 0x90 || nat_eq code 0x92 || nat_eq code 0xA0 || nat_eq code 0xA1 || nat_eq code 0xA2
 
--- what is known of a unit of a connection once an end came
-abbrev pub known_after_end : Connection → ℕ → Option Identity → Answer → Option Identity
-known_after_end via unit known e =
-    if not (nat_eq e.unit unit) then known else (
-    if leaves e then None else (
-    if brings e then known_brought via known e else known))
+-- an end says that its unit is online: one of a transfer or a GET UNIT STATUS that succeeded, or one of ONLINE that
+-- says that it was (manual, "Unit States")
+abbrev pub says_online : Answer → Bool
+says_online e =
+    nat_eq (status_code e) 0 && (is_moved e.code || nat_eq e.code 0x83 || (nat_eq e.code 0x89 && was_online e))
+
+-- ---- whether it is online
+
+-- an end suits the state of its unit: of one that isn't online it doesn't say that it is
+abbrev pub suits_state : State → Answer → Bool
+suits_state Away e = not (says_online e)
+suits_state state e = true
+
+-- the state once an end told another. If the other host brings the unit online, too, nothing is known: its end may be
+-- told late
+abbrev pub turned : State → State → State
+turned Shared new = Shared
+turned old new = new
+
+-- ---- what a host was told of a unit
+
+-- nothing yet
+abbrev pub told_nothing : Told
+told_nothing = record { identity = None; state = Open }
+
+-- that it isn't online, as the controller was initialised
+abbrev pub told_reset : Told
+told_reset = record { identity = None; state = Away }
+
+-- once an end of its own came, which names the unit
+abbrev pub after_own : Told → Answer → Told
+after_own told e = record {
+  identity = if leaves e then None else (if brings e then e.identity else told.identity);
+  state =
+      if says_away e then turned told.state Away else (
+      if brings e then turned told.state Open else told.state);
+}
+
+-- and once one of the other host did. If that brought the unit online, it may be another one
+abbrev pub after_other : Told → Answer → Told
+after_other told e = record told {
+  identity = if leaves e || (brings e && not (was_online e)) then None else told.identity;
+}
+
+-- what the host of a connection was told of a unit once an end came
+abbrev pub told_after_end : Connection → ℕ → Told → Answer → Told
+told_after_end via unit told e =
+    if not (nat_eq e.unit unit) then told else (
+    if same_connection e.connection via then after_own told e else after_other told e)
+
+-- the other host's command is an ONLINE (9) of the unit
+abbrev pub shares : Connection → ℕ → Sent → Bool
+shares via unit s = nat_eq s.opcode 9 && nat_eq s.unit unit && not (same_connection s.connection via)
+
+-- the same once a command came
+abbrev pub told_after_message : Connection → ℕ → Told → Sent → Told
+told_after_message via unit told s = if shares via unit s then record told { state = Shared } else told
 
 -- the same once a moment more came
-abbrev pub known_after : Connection → ℕ → Option Identity → Moment → Option Identity
-known_after via unit known (moments.Message other b) = known
-known_after via unit known (moments.End other b) = known_after_end via unit known (answer_by other b.items)
-known_after via unit known moments.Reset = None
+abbrev pub told_after : Connection → ℕ → Told → Moment → Told
+told_after via unit told (moments.Message other b) = told_after_message via unit told (sent_by other b.items)
+told_after via unit told (moments.End other b) = told_after_end via unit told (answer_by other b.items)
+told_after via unit told moments.Reset = told_reset
 
--- what a connection's host was told, after a history, of a unit that came online and still is
-abbrev pub known : History → Connection → ℕ → Option Identity
-known h via unit = fold (known_after via unit) None h
+-- what the host of a connection was told of a unit after a history
+abbrev pub told : History → Connection → ℕ → Told
+told h via unit = fold (told_after via unit) told_nothing h
 
--- what is known of the unit that a moment's end names
-abbrev pub known_of : (Connection → ℕ → Option Identity) → Moment → Option Identity
-known_of units (moments.Message via b) = None
-known_of units (moments.End via b) = units via (num b.items 4 2)
-known_of units moments.Reset = None
+-- what was told of the unit that a moment's end names
+abbrev pub told_of : (Connection → ℕ → Told) → Moment → Told
+told_of units (moments.Message via b) = told_nothing
+told_of units (moments.End via b) = units via (num b.items 4 2)
+told_of units moments.Reset = told_nothing
 
 -- ---- the units that are kept
 
--- it is this unit of this connection
-abbrev pub is_unit : Connection → ℕ → Online → Bool
-is_unit via unit u = same_connection u.connection via && nat_eq u.unit unit
+-- the other connection
+abbrev pub other_side : Connection → Connection
+other_side First = Second
+other_side Second = First
+
+-- the number of a unit of a connection
+abbrev pub key : Connection → ℕ → ℕ
+key First unit = 2 * unit
+key Second unit = 2 * unit + 1
+
+abbrev pub told_or : Told → Option Told → Told
+told_or others None = others
+told_or others (Some told) = told
 
 -- what is kept of a unit of a connection
-abbrev pub told_of : Option Online → Option Identity
-told_of None = None
-told_of (Some u) = u.identity
+abbrev pub kept : {A : Type 0} → Units A → Connection → ℕ → Told
+kept units via unit = told_or units.others (tree.get nat_cmp units.kept (key via unit))
 
-abbrev pub kept : List Online → Connection → ℕ → Option Identity
-kept units via unit = told_of (find (is_unit via unit) units)
-
--- the units without those of a number
-abbrev pub without : ℕ → List Online → List Online
-without unit units = filter (λ u. not (nat_eq u.unit unit)) units
-
--- the units with this one in place of all of its number
-abbrev pub with_new : Online → List Online → List Online
-with_new new units = without new.unit units ++ new ∷ []
-
--- the units with this one in place of what is kept of it
-abbrev pub with_unit : Online → List Online → List Online
-with_unit new units = filter (λ u. not (is_unit new.connection new.unit u)) units ++ new ∷ []
+-- this is kept of a unit of a connection, and of each other as before
+abbrev pub Puts : {A : Type 0} → Units A → Units A → Connection → ℕ → Told → Type 0
+Puts old new via unit told =
+    (own : Connection) (number : ℕ) → kept new own number
+    ≡ (if same_connection via own && nat_eq unit number then told else kept old own number)

@@ -26,20 +26,22 @@
 --                                 them if the status is Success                               has_count
 --                    Identity     while a unit is online its identifier, media type and size
 --                                 stay as they are                                            is_same_unit
+--                    State        a transfer and a GET UNIT STATUS succeed, and an ONLINE
+--                                 says that its unit was online, only if the unit is online   suits_state
 use Rattle.std.specs.Prelude.{◌≡◌, ℕ, ◌+◌, ◌/◌, ◌<◌, Bool, true, false, not, ◌&&◌, ◌||◌, nat_eq, nat_le, nat_lt, if◌then◌else◌, List, [], ◌∷◌, ◌++◌, length, map, take, drop, position, count_by, fold, min, slice_index, slice_index_or, Option, Some, None}
 use Rattle.std.specs.List.{list_any}
 use Rattle.mscp_drive.specs.declared.connection.Connection.{Connection}
 use Rattle.mscp_drive.specs.declared.connection.Connection.TheVariants.{First}
 pub use Rattle.mscp_wire.specs.Messages.{History, answer_by, asks_for_next, four_in, identity_in, is_about_another, is_immediate, is_known, is_named, is_ordered, is_required, is_sequential, is_short, is_modified, is_sequential_class, is_transfer, is_transfer_class, is_unknown, is_unknown_class, least_length, least_message, same_connection, sent_by, status_code}
 pub use Rattle.mscp_wire.specs.Polls.{asked_about, asked_by, asking, asks_oldest, has_figure, has_number, hears, is_below, is_hearing, is_it, is_oldest, is_polled, is_refused, left, may_be, may_tell, polled_by, polls, tells, waits_on}
-pub use Rattle.mscp_wire.specs.Units.{agrees, brings, is_same_unit, is_unit, kept, known, known_after, known_after_end, known_brought, known_of, leaves, tells_unit, was_online, with_new, with_unit, without}
+pub use Rattle.mscp_wire.specs.Units.{Puts, after_other, after_own, agrees, brings, is_moved, is_same_unit, kept, key, leaves, other_side, says_away, says_online, shares, suits_state, tells_unit, told, told_after, told_after_end, told_after_message, told_nothing, told_of, told_or, told_reset, turned, was_online}
 use Rattle.mscp_wire.specs.declared.answer.Answer.{Answer}
-use Rattle.mscp_wire.specs.declared.identity.Identity.{Identity}
 use Rattle.mscp_wire.specs.declared.moment.Moment.{Moment}
 use Rattle.mscp_wire.specs.declared.moment.Moment.TheVariants as moments
 use Rattle.mscp_wire.specs.declared.rule.Rule.{Rule}
 use Rattle.mscp_wire.specs.declared.rule.Rule.TheVariants as rules
 use Rattle.mscp_wire.specs.declared.sent.Sent.{Sent}
+use Rattle.mscp_wire.specs.declared.told.Told.{Told}
 
 -- ---- the rules of a host
 
@@ -92,8 +94,8 @@ has_endcode y e = if is_known e then nat_eq e.code (y.opcode + 0x80) else not (i
 
 -- a command of this opcode may have a status of this code (manual, "Status and Event Codes"): Success (0) or Invalid
 -- Command (1), and any other of 2 to 11 where it isn't an ABORT, a GET COMMAND STATUS or a SET CONTROLLER
--- CHARACTERISTICS. A GET UNIT STATUS isn't aborted (2), and has no code of a medium, of data or of a buffer (5 to 9); no
--- AVAILABLE or ONLINE is told that its unit is available (4)
+-- CHARACTERISTICS. A GET UNIT STATUS isn't aborted (2), and has no code of a medium, of data or of a buffer (5 to 9);
+-- no AVAILABLE or ONLINE is told that its unit is available (4)
 abbrev pub may_have : ℕ → ℕ → Bool
 may_have opcode code =
     nat_le code 1
@@ -218,16 +220,17 @@ abbrev pub broken_message : Option ℕ → List Sent → Sent → Option Rule
 broken_message credits xs s = unless (is_new xs s) rules.Number (unless (has_credit credits xs s) rules.Credits None)
 
 -- by the body of an end of this command, after which these came
-abbrev pub broken_body : List Sent → Sent → Option Identity → Answer → Option Rule
+abbrev pub broken_body : List Sent → Sent → Told → Answer → Option Rule
 broken_body later y unit e =
     unless (succeeds e (other_of y e)) rules.Success
     (unless (is_about e (other_of y e)) rules.About
     (unless (has_figure later y e (polled_by y e)) rules.Figure
     (unless (has_count e (count_of y e)) rules.Count
-    (unless (is_same_unit unit e) rules.Identity None))))
+    (unless (is_same_unit unit.identity e) rules.Identity
+    (unless (suits_state unit.state e) rules.State None)))))
 
 -- by an end of this command, before and after which these came
-abbrev pub broken_end : List Sent → List Sent → List Sent → Sent → Option Identity → Answer → Option Rule
+abbrev pub broken_end : List Sent → List Sent → List Sent → Sent → Told → Answer → Option Rule
 broken_end xs earlier later y unit e =
     unless (names_unit y e) rules.Unit
     (unless (has_endcode y e) rules.Endcode
@@ -236,12 +239,12 @@ broken_end xs earlier later y unit e =
     (unless (passes_none earlier y e) rules.Order (broken_body later y unit e)))))
 
 -- by an end of the command at a place, if it is there
-abbrev pub broken_at : List Sent → Option Identity → Answer → Option ℕ → Option Rule
+abbrev pub broken_at : List Sent → Told → Answer → Option ℕ → Option Rule
 broken_at xs unit e None = Some rules.Outstanding
 broken_at xs unit e (Some i) = broken_end xs (take i xs) (drop (i + 1) xs) (command_at xs i) unit e
 
--- by a moment, before which these are outstanding and this is known of its unit, where each host has so many credits
-abbrev pub broken : Option ℕ → List Sent → Option Identity → Moment → Option Rule
+-- by a moment, before which these are outstanding and this was told of its unit, where each host has so many credits
+abbrev pub broken : Option ℕ → List Sent → Told → Moment → Option Rule
 broken credits xs unit (moments.Message via b) =
     unless (is_message b.items) rules.Message (broken_message credits xs (sent_by via b.items))
 broken credits xs unit (moments.End via b) =
@@ -251,7 +254,7 @@ broken credits xs unit moments.Reset = None
 
 -- by a moment after a history
 abbrev pub broken_by : Option ℕ → History → Moment → Option Rule
-broken_by credits h m = broken credits (outstanding h) (known_of (known h) m) m
+broken_by credits h m = broken credits (outstanding h) (told_of (told h) m) m
 
 -- ---- a moment that is right
 
@@ -262,7 +265,7 @@ pub record IsRightMessage (credits : Option ℕ) (xs : List Sent) (b : List ℕ)
   pub credit : has_credit credits xs s ≡ true
 
 -- an end keeps its rules: its command is at place i of those that are outstanding, and this is known of its unit
-pub record IsRightEnd (xs : List Sent) (was : Option Identity) (b : List ℕ) (e : Answer) (i : ℕ) : Type 0 where
+pub record IsRightEnd (xs : List Sent) (was : Told) (b : List ℕ) (e : Answer) (i : ℕ) : Type 0 where
   pub length : is_long b ≡ true
   pub outstanding : place_of xs e ≡ Some i
   pub unit : names_unit (command_at xs i) e ≡ true
@@ -274,17 +277,18 @@ pub record IsRightEnd (xs : List Sent) (was : Option Identity) (b : List ℕ) (e
   pub about : is_about e (other_of (command_at xs i) e) ≡ true
   pub figure : has_figure (drop (i + 1) xs) (command_at xs i) e (polled_by (command_at xs i) e) ≡ true
   pub count : has_count e (count_of (command_at xs i) e) ≡ true
-  pub identity : is_same_unit was e ≡ true
+  pub identity : is_same_unit was.identity e ≡ true
+  pub state : suits_state was.state e ≡ true
 
--- a moment is right, before which these are outstanding and this is known of its unit
-abbrev pub IsRightAfter : Option ℕ → List Sent → Option Identity → Moment → Type 0
+-- a moment is right, before which these are outstanding and this was told of its unit
+abbrev pub IsRightAfter : Option ℕ → List Sent → Told → Moment → Type 0
 IsRightAfter credits xs unit (moments.Message via b) = IsRightMessage credits xs b.items (sent_by via b.items)
 IsRightAfter credits xs unit (moments.End via b) = (i : ℕ) × IsRightEnd xs unit b.items (answer_by via b.items) i
 IsRightAfter credits xs unit moments.Reset = Unit {0}
 
 -- a moment is right after a history
 abbrev pub IsRight : Option ℕ → History → Moment → Type 0
-IsRight credits h m = IsRightAfter credits (outstanding h) (known_of (known h) m) m
+IsRight credits h m = IsRightAfter credits (outstanding h) (told_of (told h) m) m
 
 -- the moment at a position. Past the end there is none that asks for anything
 abbrev pub moment_at : History → ℕ → Moment

@@ -292,12 +292,38 @@ impl Answer {
         self.code == 0x89 && self.status_code() == 0
     }
 
-    /// Whether it shows that its unit isn't online any more.
+    /// Whether it says that its unit isn't online.
+    pub fn says_away(&self) -> bool
+        ensures { result ≡ wire.says_away self.now }
+    {
+        (self.status_code() == 0 && self.code == 0x88)
+            || self.status_code() == 4
+            || (self.status_code() == 3 && self.code != 0x83)
+    }
+
+    /// Whether nothing is known after it of what its unit is.
     pub fn leaves(&self) -> bool
         ensures { result ≡ wire.leaves self.now }
     {
-        (self.code == 0x88 && self.status_code() == 0)
-            || self.status_code() == 3
-            || self.status_code() == 4
+        self.says_away() || self.status_code() == 3
+    }
+
+    /// Whether it is one of a transfer.
+    fn is_moved(&self) -> bool
+        ensures { result ≡ wire.is_moved self.now.code }
+    {
+        self.code == 0x90
+            || self.code == 0x92
+            || self.code == 0xA0
+            || self.code == 0xA1
+            || self.code == 0xA2
+    }
+
+    /// Whether it says that its unit is online.
+    pub fn says_online(&self) -> bool
+        ensures { result ≡ wire.says_online self.now }
+    {
+        self.status_code() == 0
+            && (self.is_moved() || self.code == 0x83 || (self.code == 0x89 && self.was_online()))
     }
 }

@@ -71,6 +71,8 @@ rule_name rules.Figure = codes "figure"
 rule_name rules.Count = codes "byte count"
 -- a unit's identifier, media type and size stay the same while it is online
 rule_name rules.Identity = codes "identity"
+-- a transfer and a GET UNIT STATUS succeed, and an ONLINE has 0x0100, only if the unit is online
+rule_name rules.State = codes "state"
 
 -- whose rule it is
 abbrev pub breaker_name : Rule → List ℕ
@@ -97,6 +99,8 @@ rule_text rules.Figure =
     codes "the status of the oldest command falls from poll to poll, and is 0 of one that isn't outstanding"
 rule_text rules.Count = codes "as many bytes are moved as were asked for, and fewer only if the status isn't Success"
 rule_text rules.Identity = codes "the identifier, media type and size of a unit stay the same while it is online"
+rule_text rules.State =
+    codes "a transfer and a GET UNIT STATUS succeed, and an ONLINE has 0x0100, only if the unit is online"
 
 -- the line of the command that is meant, if there is one
 abbrev pub meant_text : Option Sent → List ℕ

@@ -64,6 +64,7 @@ fn rule_name(rule: Rule) -> &'static str
         Rule::Figure => "figure",
         Rule::Count => "byte count",
         Rule::Identity => "identity",
+        Rule::State => "state",
     }
 }
 
@@ -108,6 +109,9 @@ fn rule_text(rule: Rule) -> &'static str
         }
         Rule::Identity => {
             "the identifier, media type and size of a unit stay the same while it is online"
+        }
+        Rule::State => {
+            "a transfer and a GET UNIT STATUS succeed, and an ONLINE has 0x0100, only if the unit is online"
         }
     }
 }

@@ -1,6 +1,6 @@
 use Rattle.std.proofs.Common.{[], ◌∷◌, ◌++◌, Ok, length, ap, sym, ◌∙◌}
 use Rattle.mscp_wire.specs.Totals.{fall_after}
-use Rattle.mscp_wire.proofs.Passing.{known_more, pushed, taken, told_wrong}
+use Rattle.mscp_wire.proofs.Passing.{told_more, pushed, taken, told_wrong}
 use Rattle.mscp_wire.proofs.log.Reading.moment.Goals as goal
 
 pub returns-in-Some-clause-after : goal.returns-in-Some-clause-after
@@ -17,7 +17,7 @@ returns-in-None-clause-after g c = λ log s.
       record {
         credits = c.in_ok-rule.ensures.credits ∙ s.credits;
         commands = after;
-        units = known_more log.moments c.args.moment _ _ s.units (c.in_ok-rule.ensures.units c.in-None.is);
+        units = told_more log.moments c.args.moment _ _ s.units (c.in_ok-rule.ensures.units c.in-None.is);
         totals = c.add.ensures.totals log.moments s.totals
             (ap length (c.as_slice-queue.ensures.value ∙ after))
             (c.fall_after-fall.ensures
