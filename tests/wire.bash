@@ -230,7 +230,9 @@ aborts_without_an_abort() {
     wire_breaks 'controller: aborted' 'READ 1 of unit 0' "$(reading 1)" "$(moved 1 2 0)" &&
         wire_breaks 'controller: aborted' 'READ 1 of unit 0' "$(reading 1)" "$(abort 2 1)" "$(aborted 2 0 1)" "$(moved 1 2 0)" &&
         wire_breaks 'controller: aborted' 'READ 1 of unit 0' "$(reading 1)" "$(abort 2 3)" "$(moved 1 2 0)" &&
-        wire_breaks 'controller: aborted' 'READ 1 of unit 0' "$(reading 1)" "second $(abort 2 1)" "$(moved 1 2 0)"
+        wire_breaks 'controller: aborted' 'READ 1 of unit 0' "$(reading 1)" "second $(abort 2 1)" "$(moved 1 2 0)" &&
+        wire_breaks 'controller: aborted' 'READ 1 of unit 0' "$(abort 2 1)" "$(reading 1)" "$(moved 1 2 0)" &&
+        wire_is_right '4 2 0 2 0' '' "$(reading 1)" "$(abort 2 1)" "$(moved 1 2 0)" "$(aborted 2 0 1)"
 }
 
 orders() {

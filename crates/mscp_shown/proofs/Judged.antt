@@ -263,8 +263,9 @@ module _ (xs ys : List Sent) (h : State xs ys) (u : Told) (b : List ℕ) (e : An
     status = ap (λ s. wire.has_status s e) (sym same) ∙ r.status;
     aborted =
         ap (λ k. not (nat_eq (wire.status_code e) 2) || k)
-        (sym (alike_any (wire.aborts y) (λ s t k. ap (wire.aborts y) k) xs ys both))
-        ∙ (ap (λ s. wire.has_abort xs s e) (sym same) ∙ r.aborted);
+        (sym (alike_any (wire.aborts y) (λ s t k. ap (wire.aborts y) k) (drop (i + 1) xs) (drop (i + 1) ys)
+        (alike_drop (i + 1) xs ys both)))
+        ∙ (ap (λ s. wire.has_abort (drop (i + 1) xs) s e) (sym same) ∙ r.aborted);
     order =
         ap (λ k. wire.is_apart (wire.status_code e) || not k)
         (sym (alike_any (wire.keeps_back y) (λ s t k. ap (wire.keeps_back y) k) (take i xs) (take i ys)

@@ -51,7 +51,7 @@ pub record IsRightEnd (xs : List Sent) (was : Told) (b : List ℕ) (e : Answer) 
   pub unit : wire.names_unit (command_at xs i) e ≡ true
   pub endcode : wire.has_endcode (command_at xs i) e ≡ true
   pub status : wire.has_status (command_at xs i) e ≡ true
-  pub aborted : wire.has_abort xs (command_at xs i) e ≡ true
+  pub aborted : wire.has_abort (drop (i + 1) xs) (command_at xs i) e ≡ true
   pub order : wire.passes_none (take i xs) (command_at xs i) e ≡ true
   pub success : wire.succeeds e (wire.other_of (command_at xs i) e) ≡ true
   pub about : wire.is_about e (wire.other_of (command_at xs i) e) ≡ true

@@ -50,26 +50,26 @@ about_on later y u e = unless (is_about e (other_of y e)) rules.About (figure_on
 abbrev order_on : List Sent → List Sent → Sent → Told → Answer → Option Rule
 order_on earlier later y u e = unless (passes_none earlier y e) rules.Order (broken_body later y u e)
 
-abbrev aborted_on : List Sent → List Sent → List Sent → Sent → Told → Answer → Option Rule
-aborted_on xs earlier later y u e = unless (has_abort xs y e) rules.Aborted (order_on earlier later y u e)
+abbrev aborted_on : List Sent → List Sent → Sent → Told → Answer → Option Rule
+aborted_on earlier later y u e = unless (has_abort later y e) rules.Aborted (order_on earlier later y u e)
 
-abbrev status_on : List Sent → List Sent → List Sent → Sent → Told → Answer → Option Rule
-status_on xs earlier later y u e = unless (has_status y e) rules.Status (aborted_on xs earlier later y u e)
+abbrev status_on : List Sent → List Sent → Sent → Told → Answer → Option Rule
+status_on earlier later y u e = unless (has_status y e) rules.Status (aborted_on earlier later y u e)
 
-abbrev endcode_on : List Sent → List Sent → List Sent → Sent → Told → Answer → Option Rule
-endcode_on xs earlier later y u e = unless (has_endcode y e) rules.Endcode (status_on xs earlier later y u e)
+abbrev endcode_on : List Sent → List Sent → Sent → Told → Answer → Option Rule
+endcode_on earlier later y u e = unless (has_endcode y e) rules.Endcode (status_on earlier later y u e)
 
 right_at : (xs : List Sent) (u : Told) (b : List ℕ) (e : Answer) (i : ℕ) → is_long b ≡ true
-    → place_of xs e ≡ Some i → broken_end xs (take i xs) (drop (i + 1) xs) (command_at xs i) u e ≡ None
+    → place_of xs e ≡ Some i → broken_end (take i xs) (drop (i + 1) xs) (command_at xs i) u e ≡ None
     → IsRightEnd xs u b e i
 right_at xs u b e i long found h =
     let z = take i xs in
     let l = drop (i + 1) xs in
     let y = command_at xs i in
-    let unit = parts (names_unit y e) rules.Unit (endcode_on xs z l y u e) h in
-    let endcode = parts (has_endcode y e) rules.Endcode (status_on xs z l y u e) unit.1 in
-    let status = parts (has_status y e) rules.Status (aborted_on xs z l y u e) endcode.1 in
-    let aborted = parts (has_abort xs y e) rules.Aborted (order_on z l y u e) status.1 in
+    let unit = parts (names_unit y e) rules.Unit (endcode_on z l y u e) h in
+    let endcode = parts (has_endcode y e) rules.Endcode (status_on z l y u e) unit.1 in
+    let status = parts (has_status y e) rules.Status (aborted_on z l y u e) endcode.1 in
+    let aborted = parts (has_abort l y e) rules.Aborted (order_on z l y u e) status.1 in
     let order = parts (passes_none z y e) rules.Order (broken_body l y u e) aborted.1 in
     let success = parts (succeeds e (other_of y e)) rules.Success (about_on l y u e) order.1 in
     let about = parts (is_about e (other_of y e)) rules.About (figure_on l y u e) success.1 in
@@ -103,7 +103,7 @@ right_end xs u b e None found h =
     let never : ⊥ = cc p.1 in
     absurd never
 right_end xs u b e (Some i) found h =
-    let p = parts (is_long b) rules.Length (broken_end xs (take i xs) (drop (i + 1) xs) (command_at xs i) u e) h in
+    let p = parts (is_long b) rules.Length (broken_end (take i xs) (drop (i + 1) xs) (command_at xs i) u e) h in
     (i, right_at xs u b e i p.0 found p.1)
 
 unbroken_end : (xs : List Sent) (u : Told) (b : List ℕ) (e : Answer) (i : ℕ) → IsRightEnd xs u b e i
@@ -112,11 +112,11 @@ unbroken_end xs u b e i r =
     let z = take i xs in
     let l = drop (i + 1) xs in
     let y = command_at xs i in
-    both (is_long b) rules.Length (broken_end xs z l y u e) r.length
-    (both (names_unit y e) rules.Unit (endcode_on xs z l y u e) r.unit
-    (both (has_endcode y e) rules.Endcode (status_on xs z l y u e) r.endcode
-    (both (has_status y e) rules.Status (aborted_on xs z l y u e) r.status
-    (both (has_abort xs y e) rules.Aborted (order_on z l y u e) r.aborted
+    both (is_long b) rules.Length (broken_end z l y u e) r.length
+    (both (names_unit y e) rules.Unit (endcode_on z l y u e) r.unit
+    (both (has_endcode y e) rules.Endcode (status_on z l y u e) r.endcode
+    (both (has_status y e) rules.Status (aborted_on z l y u e) r.status
+    (both (has_abort l y e) rules.Aborted (order_on z l y u e) r.aborted
     (both (passes_none z y e) rules.Order (broken_body l y u e) r.order
     (both (succeeds e (other_of y e)) rules.Success (about_on l y u e) r.success
     (both (is_about e (other_of y e)) rules.About (figure_on l y u e) r.about

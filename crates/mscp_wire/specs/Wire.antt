@@ -13,7 +13,8 @@
 --                                 the next unit                                               names_unit
 --                    Endcode      it has the endcode of that command                          has_endcode
 --                    Status       its status is one that such a command may have              has_status
---                    Aborted      a command is aborted only while its ABORT is outstanding    has_abort
+--                    Aborted      a command is aborted only while a later ABORT of it is
+--                                 outstanding                                                 has_abort
 --                    Order        of a unit no command passes a sequential one, and that
 --                                 passes none                                                 passes_none
 --                    Success      an ABORT and a GET COMMAND STATUS succeed, unless they are
@@ -133,10 +134,10 @@ abbrev pub aborts : Sent → Sent → Bool
 aborts y s =
     same_connection s.connection y.connection && nat_eq s.opcode 1 && is_it s.parameter y.reference
 
--- a command is aborted (2) only while an ABORT of it is outstanding, so its end stands before that of its ABORT
--- (manual, "Command Messages")
+-- a command is aborted (2) only while an ABORT of it is outstanding that came after it, so its end stands before that of
+-- its ABORT (manual, "Command Messages")
 abbrev pub has_abort : List Sent → Sent → Answer → Bool
-has_abort xs y e = not (nat_eq (status_code e) 2) || list_any (aborts y) xs
+has_abort later y e = not (nat_eq (status_code e) 2) || list_any (aborts y) later
 
 -- the earlier command s keeps y back: both are of one unit, and one of them is sequential while the other has its place
 -- in a queue (manual, "Command Categories and Execution Order"). Of two connections nothing is said: each takes its own
@@ -230,18 +231,18 @@ broken_body later y unit e =
     (unless (suits_state unit.state e) rules.State None)))))
 
 -- by an end of this command, before and after which these came
-abbrev pub broken_end : List Sent → List Sent → List Sent → Sent → Told → Answer → Option Rule
-broken_end xs earlier later y unit e =
+abbrev pub broken_end : List Sent → List Sent → Sent → Told → Answer → Option Rule
+broken_end earlier later y unit e =
     unless (names_unit y e) rules.Unit
     (unless (has_endcode y e) rules.Endcode
     (unless (has_status y e) rules.Status
-    (unless (has_abort xs y e) rules.Aborted
+    (unless (has_abort later y e) rules.Aborted
     (unless (passes_none earlier y e) rules.Order (broken_body later y unit e)))))
 
 -- by an end of the command at a place, if it is there
 abbrev pub broken_at : List Sent → Told → Answer → Option ℕ → Option Rule
 broken_at xs unit e None = Some rules.Outstanding
-broken_at xs unit e (Some i) = broken_end xs (take i xs) (drop (i + 1) xs) (command_at xs i) unit e
+broken_at xs unit e (Some i) = broken_end (take i xs) (drop (i + 1) xs) (command_at xs i) unit e
 
 -- by a moment, before which these are outstanding and this was told of its unit, where each host has so many credits
 abbrev pub broken : Option ℕ → List Sent → Told → Moment → Option Rule
@@ -271,7 +272,7 @@ pub record IsRightEnd (xs : List Sent) (was : Told) (b : List ℕ) (e : Answer) 
   pub unit : names_unit (command_at xs i) e ≡ true
   pub endcode : has_endcode (command_at xs i) e ≡ true
   pub status : has_status (command_at xs i) e ≡ true
-  pub aborted : has_abort xs (command_at xs i) e ≡ true
+  pub aborted : has_abort (drop (i + 1) xs) (command_at xs i) e ≡ true
   pub order : passes_none (take i xs) (command_at xs i) e ≡ true
   pub success : succeeds e (other_of (command_at xs i) e) ≡ true
   pub about : is_about e (other_of (command_at xs i) e) ≡ true

@@ -78,14 +78,13 @@ fn broken_body(later: &[Sent], command: &Sent, unit: &Told, answer: &Answer) -> 
 
 /// The first rule that an end of this command breaks, before and after which these came.
 fn broken_end(
-    commands: &[Sent],
     earlier: &[Sent],
     later: &[Sent],
     command: &Sent,
     unit: &Told,
     answer: &Answer,
 ) -> Option<Rule>
-    ensures { result ≡ wire.broken_end commands.now earlier.now later.now command.now unit.now answer.now }
+    ensures { result ≡ wire.broken_end earlier.now later.now command.now unit.now answer.now }
 {
     if !answer.names_unit(command) {
         return Some(Rule::Unit);
@@ -96,7 +95,7 @@ fn broken_end(
     if !answer.has_status(command) {
         return Some(Rule::Status);
     }
-    if !has_abort(commands, command, answer) {
+    if !has_abort(later, command, answer) {
         return Some(Rule::Aborted);
     }
     if !passes_none(earlier, command, answer) {
@@ -119,7 +118,6 @@ fn broken_answer(commands: &[Sent], unit: &Told, answer: &Answer) -> Option<Rule
 {
     match place_of(commands, answer) {
         Some(place) => broken_end(
-            commands,
             &commands[..place],
             &commands[place + 1..],
             &command_at(commands, place),

@@ -61,11 +61,11 @@ fn is_aborted(commands: &[Sent], command: &Sent) -> bool
     commands.iter().any(|abort| aborts(command, abort))
 }
 
-/// Whether a command is aborted only while an ABORT of it is outstanding.
-pub fn has_abort(commands: &[Sent], command: &Sent, answer: &Answer) -> bool
-    ensures { result ≡ wire.has_abort commands.now command.now answer.now }
+/// Whether a command, after which these came, is aborted only while an ABORT of it is outstanding.
+pub fn has_abort(later: &[Sent], command: &Sent, answer: &Answer) -> bool
+    ensures { result ≡ wire.has_abort later.now command.now answer.now }
 {
-    answer.status_code() != 2 || is_aborted(commands, command)
+    answer.status_code() != 2 || is_aborted(later, command)
 }
 
 /// Whether an earlier command keeps another back: both are of one unit, and one of them is sequential.

@@ -19,7 +19,7 @@ pub enum Rule {
     Endcode,
     /// A status is one that such a command may have.
     Status,
-    /// A command is aborted only while an ABORT of it is outstanding.
+    /// A command is aborted only while an ABORT of it is outstanding that came after it.
     Aborted,
     /// Of a unit no command passes a sequential one, and that passes none.
     Order,

@@ -55,7 +55,7 @@ rule_name rules.Unit = codes "unit"
 rule_name rules.Endcode = codes "endcode"
 -- its status is one that such a command may have. With 0x80 alone it is Invalid Command
 rule_name rules.Status = codes "status"
--- a command is aborted by an ABORT, and ends before that does
+-- a command is aborted by a later ABORT, and ends before that does
 rule_name rules.Aborted = codes "aborted"
 -- of a unit no command passes a sequential one, and a sequential one passes none; Invalid Command, Command Aborted and
 -- Unit-Offline may come at once
@@ -91,7 +91,7 @@ rule_text rules.Outstanding = codes "an end message answers a command that is ou
 rule_text rules.Unit = codes "an end message names the unit of its command, unless that asks for the next one"
 rule_text rules.Endcode = codes "the endcode is the opcode of the command and 0x80"
 rule_text rules.Status = codes "the status is one that such a command may have"
-rule_text rules.Aborted = codes "a command is aborted by an ABORT, and ends before that does"
+rule_text rules.Aborted = codes "a command is aborted by a later ABORT, and ends before that does"
 rule_text rules.Order = codes "a sequential command of a unit passes no earlier one, and is passed by none"
 rule_text rules.Success = codes "an ABORT and a GET COMMAND STATUS succeed"
 rule_text rules.About = codes "the end of an ABORT or a GET COMMAND STATUS names the command that it is about"

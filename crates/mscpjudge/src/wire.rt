@@ -94,7 +94,7 @@ fn rule_text(rule: Rule) -> &'static str
             "an end message names the unit of its command, unless that asks for the next one",
         Rule::Endcode => "the endcode is the opcode of the command and 0x80",
         Rule::Status => "the status is one that such a command may have",
-        Rule::Aborted => "a command is aborted by an ABORT, and ends before that does",
+        Rule::Aborted => "a command is aborted by a later ABORT, and ends before that does",
         Rule::Order =>
             "a sequential command of a unit passes no earlier one, and is passed by none",
         Rule::Success => "an ABORT and a GET COMMAND STATUS succeed",
