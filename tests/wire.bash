@@ -355,6 +355,28 @@ identities() {
         wire_is_right '4 2 0 2 0' '' "${online[@]}" "$set" "$(tells_set 2 1 0 0 0)"
 }
 
+# A GET UNIT STATUS tells it too, but no size, and so does a SET UNIT CHARACTERISTICS to what comes behind it, unless that is
+# another one: the unit may be available.
+identities_by_others() {
+    local set asks told
+    set="send $(packet 36 2 5 10 0)" asks=$(unit_status 3 5 0)
+    told=("$(unit_status 1 5 0)" "$(tells_status 1 0 3 4 0)")
+    wire_breaks 'controller: identity' 'GET UNIT STATUS 3 of unit 5' "${told[@]}" "$asks" "$(tells_status 3 0 3 5 0)" &&
+        wire_breaks 'controller: identity' 'SET UNIT CHARACTERISTICS 2 of unit 5' "${told[@]}" "$set" "$(tells_set 2 0 2 4 800)" &&
+        wire_breaks 'controller: identity' 'ONLINE 4 of unit 5' "${told[@]}" "$(online 4 5)" "$(tells_online 4 256 2 4 800)" &&
+        wire_is_right '4 2 0 2 0' '' "${told[@]}" "$set" "$(tells_set 2 0 3 4 800)" &&
+        wire_is_right '4 2 0 2 0' '' "${told[@]}" "$(online 4 5)" "$(tells_online 4 0 9 9 9)" &&
+        wire_breaks 'controller: identity' 'GET UNIT STATUS 3 of unit 5' "$set" "$(tells_set 2 0 3 4 800)" "$asks" \
+            "$(tells_status 3 0 3 5 0)" &&
+        wire_breaks 'controller: identity' 'ONLINE 4 of unit 5' "$set" "$(tells_set 2 0 3 4 800)" "$(online 4 5)" \
+            "$(tells_online 4 256 3 4 801)" &&
+        wire_is_right '4 2 0 2 0' '' "$set" "$(tells_set 2 0 3 4 800)" "$set" "$(tells_set 2 0 9 9 9)" &&
+        wire_is_right '8 4 0 4 0' '' "$set" "$(tells_set 2 0 3 4 800)" "$set" "$(tells_set 2 0 9 9 9)" "$asks" \
+            "$(tells_status 3 0 9 9 0)" "$set" "$(tells_set 2 0 9 9 1)" &&
+        wire_is_right '5 3 0 2 0' 'outstanding: second ONLINE 4 of unit 5' "second $(online 4 5)" "${told[@]}" "$asks" \
+            "$(tells_status 3 0 9 9 0)"
+}
+
 # Where a unit isn't online any more, or to another host, it may be another.
 identities_end() {
     local online=("$(online 1 5)" "$(tells_online 1 0 3 4 800)") other=("$(online 2 5)" "$(tells_online 2 256 9 9 9)")

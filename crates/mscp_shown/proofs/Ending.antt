@@ -16,7 +16,8 @@ use Rattle.mscp_shown.proofs.Strict.{after_end, outstanding}
 use Rattle.mscp_shown.proofs.Aborted.{Aborts, EndsAbort, IsAbort, IsBehind, aborts_after, aborts_rest, any_behind, any_out}
 use Rattle.mscp_shown.proofs.Counts.{each_counted, some_place}
 use Rattle.mscp_shown.proofs.Owed.{one_if, owed, owed_took, untaken_took}
-use Rattle.mscp_shown.proofs.Identity.{IsTold, is_told, same_right, told_more, unit_identity}
+use Rattle.mscp_drive.specs.Settings.{unit_shape}
+use Rattle.mscp_shown.proofs.Identity.{IsTold, is_told, same_right, told_more}
 use Rattle.mscp_shown.proofs.Keeping.{Keeps}
 use Rattle.mscp_shown.proofs.Owners.{Fits, IsOwed, IsOwn, every_drop, message, only_after, untold}
 use Rattle.mscp_shown.proofs.Owning.{Owners, waits_more}
@@ -321,8 +322,7 @@ module _ (c : Settings) (t : Trace) (own : Connection) (b : ArrayVec ℕ) (known
               h.tallied
               h.heard left;
           count = here.count;
-          identity = same_right (wire.told (shown t) own (num b.items 4 2)).identity a
-              (unit_identity c (num b.items 4 2))
+          identity = same_right (unit_shape c (num b.items 4 2)) (wire.told (shown t) own (num b.items 4 2)) a
               (h.units own (num b.items 4 2)) told.0;
         },
       ))
@@ -333,7 +333,7 @@ module _ (c : Settings) (t : Trace) (own : Connection) (b : ArrayVec ℕ) (known
       (subst (λ o. Heard c (t ++ taking ∷ []) (after_end xs a o)) (sym at)
       (heard_took c own t taking xs a i e rest took.is at refl number asks figure h.orders.single h.tallied h.heard left
       refl (λ via. refl) (λ via. refl) (λ via. known.room.taken via)))
-      (λ via. tt) (told_more c (shown t) a h.units told.1)
+      (λ via. tt) (told_more c (shown t) a h.units told)
     where
       by_side : (via : Connection) (passes : Bool)
           → one_if (wire.same_connection own via && passes) ≡ cond (same_connection own via) (one_if passes) 0

@@ -15,7 +15,8 @@ use Rattle.mscp_wire.specs.Wire.{told, told_after, told_nothing}
 use Rattle.mscp_wire.specs.declared.identity.Identity.{Identity}
 use Rattle.mscp_wire.specs.declared.told.Told.{Told}
 use Rattle.std.proofs.lemmas.List.Sums.{fold_push}
-use Rattle.mscp_shown.proofs.Identity.{AreTold, unit_identity}
+use Rattle.mscp_drive.specs.Settings.{unit_shape}
+use Rattle.mscp_shown.proofs.Identity.{AreTold, IsOf}
 use Rattle.mscp_shown.specs.Shown.{shown, shown_by}
 use Rattle.mscp_shown.proofs.Aborted.{Aborts}
 use Rattle.mscp_shown.proofs.Owed.{came, owed, owed_more, quiet}
@@ -117,7 +118,7 @@ module _ (c : Settings) (t : Trace) (m : Moment) (h : Inv c t) where
       → Heard c (t ++ m ∷ []) (after (outstanding (shown t)) w)
       → ((via : Connection) → AllByRecursion (IsFit c) (ends_at c via t m))
       → ((via : Connection) (unit : ℕ) (i : Identity)
-      → (told_after via unit (told (shown t) via unit) w).identity ≡ Some i → i ≡ unit_identity c unit)
+      → (told_after via unit (told (shown t) via unit) w).identity ≡ Some i → IsOf (unit_shape c unit) i)
       → More c t m
   shows_one w e same right owners orders heard fit units =
       let is : shown (t ++ m ∷ []) ≡ shown t ++ w ∷ [] = shown_more t m ∙ ap (λ l. shown t ++ l) e in

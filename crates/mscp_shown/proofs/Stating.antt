@@ -1,5 +1,5 @@
 -- What hosts are told of the states of units suits what the ends that they haven't taken yet say.
-use Rattle.mscp_controller.proofs.Basics.{◌≡◌, ◌⊎◌, inl, ⊎_elim, ℕ, Bool, true, false, not, List, [], ◌∷◌, ◌++◌, refl, ap, sym, ◌∙◌, subst, append-nil, append_assoc, arith, if◌then◌else◌, nat_eq, None, AllByRecursion, true≢false, false≢true, Connection, End, Settings, unit, end_bytes, same_connection, own_side}
+use Rattle.mscp_controller.proofs.Basics.{◌≡◌, ◌||◌, ◌&&◌, ◌⊎◌, inl, ⊎_elim, ℕ, Bool, true, false, not, List, [], ◌∷◌, ◌++◌, refl, ap, sym, ◌∙◌, subst, append-nil, append_assoc, arith, if◌then◌else◌, nat_eq, None, AllByRecursion, true≢false, false≢true, Connection, End, Settings, unit, end_bytes, same_connection, own_side}
 use Rattle.std.proofs.Common.{inr}
 use Rattle.std.proofs.lemmas.List.Sums.{fold_push}
 use Rattle.mscp_wire.specs.Wire as wire
@@ -206,7 +206,9 @@ shared_end via unit t a h =
 
     by_bools : (here side w b : Bool)
         → (if not here then t else (if side then record {
-          identity = if wire.leaves a then None else (if brings a then a.identity else t.identity);
+          identity = if wire.leaves a then None else (
+              if brings a || wire.learns t a then a.identity else t.identity);
+          sure = not (wire.leaves a) && (brings a || t.sure || (wire.learns t a && nat_eq a.code 0x83));
           state = if w then turned t.state Away else (if b then turned t.state Open else t.state);
         } else after_other t a)).state ≡ Shared
     by_bools false side w b = h

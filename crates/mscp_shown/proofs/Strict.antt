@@ -57,7 +57,7 @@ pub record IsRightEnd (xs : List Sent) (was : Told) (b : List ℕ) (e : Answer) 
   pub about : wire.is_about e (wire.other_of (command_at xs i) e) ≡ true
   pub figure : has_figure xs (take i xs) e (polled_by (command_at xs i) e) ≡ true
   pub count : wire.has_count e (wire.count_of (command_at xs i) e) ≡ true
-  pub identity : wire.is_same_unit was.identity e ≡ true
+  pub identity : wire.is_same_unit was e ≡ true
 
 -- a moment is right, before which these are outstanding and this was told of its unit
 abbrev pub IsRightAfter : Option ℕ → List Sent → Told → Moment → Type 0

@@ -36,7 +36,7 @@ unbroken_message credits xs b s r =
 -- the rules of a body
 abbrev unit_on : Told → Answer → Option Rule
 unit_on u e =
-    unless (is_same_unit u.identity e) rules.Identity (unless (suits_state u.state e) rules.State None)
+    unless (is_same_unit u e) rules.Identity (unless (suits_state u.state e) rules.State None)
 
 abbrev count_on : Sent → Told → Answer → Option Rule
 count_on y u e = unless (has_count e (count_of y e)) rules.Count (unit_on u e)
@@ -77,7 +77,7 @@ right_at xs u b e i long found h =
     parts (has_figure l y e (polled_by y e)) rules.Figure (count_on y u e) about.1 in
     let count =
     parts (has_count e (count_of y e)) rules.Count (unit_on u e) figure.1 in
-    let identity = parts (is_same_unit u.identity e) rules.Identity (unless (suits_state u.state e) rules.State None)
+    let identity = parts (is_same_unit u e) rules.Identity (unless (suits_state u.state e) rules.State None)
     count.1 in
     let state = parts (suits_state u.state e) rules.State None identity.1 in
     record {
@@ -122,7 +122,7 @@ unbroken_end xs u b e i r =
     (both (is_about e (other_of y e)) rules.About (figure_on l y u e) r.about
     (both (has_figure l y e (polled_by y e)) rules.Figure (count_on y u e) r.figure
     (both (has_count e (count_of y e)) rules.Count (unit_on u e) r.count
-    (both (is_same_unit u.identity e) rules.Identity (unless (suits_state u.state e) rules.State None) r.identity
+    (both (is_same_unit u e) rules.Identity (unless (suits_state u.state e) rules.State None) r.identity
     (both (suits_state u.state e) rules.State None r.state refl)))))))))))
 
 -- a moment that breaks no rule is right

@@ -47,12 +47,16 @@ sent_by via b = record {
   asked = Nothing;
 }
 
--- what an end of 44 bytes at least says of its unit, if it is one of ONLINE or SET UNIT CHARACTERISTICS (manual, "End
--- Messages"). One of GET UNIT STATUS says the same but the size
+-- what an end of 44 bytes at least says of its unit, if it is one of ONLINE, SET UNIT CHARACTERISTICS or GET UNIT STATUS
+-- (0x83), which says no size (manual, "End Messages")
 abbrev pub identity_in : List ℕ → Option Identity
 identity_in b =
     if nat_le 44 (length b)
-    then Some (record { identifier = num b 20 8; media = num b 28 4; size = num b 36 4 })
+    then Some (record {
+      identifier = num b 20 8;
+      media = num b 28 4;
+      size = if nat_eq (slice_index b 8) 0x83 then None else Some (num b 36 4);
+    })
     else None
 
 -- the end in a message (manual, "End Messages"). Its parameter is that number of its command's, or how many bytes were

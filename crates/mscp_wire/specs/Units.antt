@@ -31,17 +31,29 @@ tells_unit e =
     nat_eq (status_code e) 0
     && (nat_eq e.code 0x83 || (nat_eq e.code 0x89 && was_online e) || nat_eq e.code 0x8A)
 
--- an end with this endcode tells of a unit what is known of it: one of GET UNIT STATUS tells no size
-abbrev pub agrees : ℕ → Option Identity → Identity → Bool
-agrees code None known = false
-agrees code (Some told) known =
-    nat_eq told.identifier known.identifier && nat_eq told.media known.media
-    && (nat_eq code 0x83 || nat_eq told.size known.size)
+-- two sizes are the same, if both are there
+abbrev pub fits_size : Option ℕ → Option ℕ → Bool
+fits_size (Some one) (Some other) = nat_eq one other
+fits_size one other = true
 
--- its unit is what it was when it came online, if it is known to be online (manual, "ONLINE Command")
-abbrev pub is_same_unit : Option Identity → Answer → Bool
-is_same_unit None e = true
-is_same_unit (Some known) e = not (tells_unit e) || agrees e.code e.identity known
+-- an end tells of a unit what is known of it
+abbrev pub agrees : Option Identity → Identity → Bool
+agrees None known = false
+agrees (Some told) known =
+    nat_eq told.identifier known.identifier && nat_eq told.media known.media && fits_size told.size known.size
+
+-- what is known of a unit was told by an end of SET UNIT CHARACTERISTICS alone, and so is this: the unit may not be
+-- online, and another one each time
+abbrev pub is_unsure : Told → Answer → Bool
+is_unsure told e = not told.sure && nat_eq e.code 0x8A
+
+-- its unit is what is known of it, if anything is (manual, "ONLINE Command")
+abbrev pub is_known_unit : Told → Option Identity → Answer → Bool
+is_known_unit told None e = true
+is_known_unit told (Some known) e = not (tells_unit e) || is_unsure told e || agrees e.identity known
+
+abbrev pub is_same_unit : Told → Answer → Bool
+is_same_unit told e = is_known_unit told told.identity e
 
 -- an end brings its unit online: one of ONLINE that succeeded
 abbrev pub brings : Answer → Bool
@@ -85,16 +97,26 @@ turned old new = new
 
 -- nothing yet
 abbrev pub told_nothing : Told
-told_nothing = record { identity = None; state = Open }
+told_nothing = record { identity = None; sure = false; state = Open }
 
 -- that it isn't online, as the controller was initialised
 abbrev pub told_reset : Told
-told_reset = record { identity = None; state = Away }
+told_reset = record { identity = None; sure = false; state = Away }
+
+-- it isn't known to be shared to the other host
+abbrev pub is_single : State → Bool
+is_single Shared = false
+is_single state = true
+
+-- an end tells something of a unit of which nothing was known for sure
+abbrev pub learns : Told → Answer → Bool
+learns told e = tells_unit e && not told.sure && is_single told.state
 
 -- once an end of its own came, which names the unit
 abbrev pub after_own : Told → Answer → Told
 after_own told e = record {
-  identity = if leaves e then None else (if brings e then e.identity else told.identity);
+  identity = if leaves e then None else (if brings e || learns told e then e.identity else told.identity);
+  sure = not (leaves e) && (brings e || told.sure || (learns told e && nat_eq e.code 0x83));
   state =
       if says_away e then turned told.state Away else (
       if brings e then turned told.state Open else told.state);
@@ -104,6 +126,7 @@ after_own told e = record {
 abbrev pub after_other : Told → Answer → Told
 after_other told e = record told {
   identity = if leaves e || (brings e && not (was_online e)) then None else told.identity;
+  sure = not (leaves e || (brings e && not (was_online e))) && told.sure;
 }
 
 -- what the host of a connection was told of a unit once an end came

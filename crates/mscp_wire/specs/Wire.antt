@@ -35,7 +35,7 @@ use Rattle.mscp_drive.specs.declared.connection.Connection.{Connection}
 use Rattle.mscp_drive.specs.declared.connection.Connection.TheVariants.{First}
 pub use Rattle.mscp_wire.specs.Messages.{History, answer_by, asks_for_next, four_in, identity_in, is_about_another, is_immediate, is_known, is_named, is_ordered, is_required, is_sequential, is_short, is_modified, is_sequential_class, is_transfer, is_transfer_class, is_unknown, is_unknown_class, least_length, least_message, same_connection, sent_by, status_code}
 pub use Rattle.mscp_wire.specs.Polls.{asked_about, asked_by, asking, asks_oldest, has_figure, has_number, hears, is_below, is_hearing, is_it, is_oldest, is_polled, is_refused, left, may_be, may_tell, polled_by, polls, tells, waits_on}
-pub use Rattle.mscp_wire.specs.Units.{Puts, after_other, after_own, agrees, brings, is_moved, is_same_unit, kept, key, leaves, other_side, says_away, says_online, shares, suits_state, tells_unit, told, told_after, told_after_end, told_after_message, told_nothing, told_of, told_or, told_reset, turned, was_online}
+pub use Rattle.mscp_wire.specs.Units.{Puts, after_other, after_own, agrees, brings, fits_size, is_known_unit, is_moved, is_same_unit, is_single, is_unsure, learns, kept, key, leaves, other_side, says_away, says_online, shares, suits_state, tells_unit, told, told_after, told_after_end, told_after_message, told_nothing, told_of, told_or, told_reset, turned, was_online}
 use Rattle.mscp_wire.specs.declared.answer.Answer.{Answer}
 use Rattle.mscp_wire.specs.declared.moment.Moment.{Moment}
 use Rattle.mscp_wire.specs.declared.moment.Moment.TheVariants as moments
@@ -227,7 +227,7 @@ broken_body later y unit e =
     (unless (is_about e (other_of y e)) rules.About
     (unless (has_figure later y e (polled_by y e)) rules.Figure
     (unless (has_count e (count_of y e)) rules.Count
-    (unless (is_same_unit unit.identity e) rules.Identity
+    (unless (is_same_unit unit e) rules.Identity
     (unless (suits_state unit.state e) rules.State None)))))
 
 -- by an end of this command, before and after which these came
@@ -278,7 +278,7 @@ pub record IsRightEnd (xs : List Sent) (was : Told) (b : List ℕ) (e : Answer) 
   pub about : is_about e (other_of (command_at xs i) e) ≡ true
   pub figure : has_figure (drop (i + 1) xs) (command_at xs i) e (polled_by (command_at xs i) e) ≡ true
   pub count : has_count e (count_of (command_at xs i) e) ≡ true
-  pub identity : is_same_unit was.identity e ≡ true
+  pub identity : is_same_unit was e ≡ true
   pub state : suits_state was.state e ≡ true
 
 -- a moment is right, before which these are outstanding and this was told of its unit

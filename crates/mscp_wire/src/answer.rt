@@ -66,15 +66,25 @@ fn may_have(opcode: u8, code: u16) -> bool
         && !((opcode == 8 || opcode == 9) && code == 4)
 }
 
-/// Whether an end with this endcode tells of a unit what is known of it.
-fn agrees(code: u8, told: Option<Identity>, known: &Identity) -> bool
-    ensures { result ≡ wire.agrees code told known.now }
+/// Whether two sizes are the same, if both are there.
+fn fits_size(one: Option<u32>, other: Option<u32>) -> bool
+    ensures { result ≡ wire.fits_size one other }
+{
+    match (one, other) {
+        (Some(one), Some(other)) => one == other,
+        _ => true,
+    }
+}
+
+/// Whether an end tells of a unit what is known of it.
+pub fn agrees(told: Option<Identity>, known: &Identity) -> bool
+    ensures { result ≡ wire.agrees told known.now }
 {
     match told {
         Some(told) => {
             told.identifier == known.identifier
                 && told.media == known.media
-                && (code == 0x83 || told.size == known.size)
+                && fits_size(told.size, known.size)
         }
         None => false,
     }
@@ -268,21 +278,11 @@ impl Answer {
     }
 
     /// Whether it tells what a unit is that was online before: any other Success of an ONLINE brought it online.
-    fn tells_unit(&self) -> bool
+    pub fn tells_unit(&self) -> bool
         ensures { result ≡ wire.tells_unit self.now }
     {
         self.status_code() == 0
             && (self.code == 0x83 || (self.code == 0x89 && self.was_online()) || self.code == 0x8A)
-    }
-
-    /// Whether its unit is what it was when it came online, if it is known to be online.
-    pub fn is_same_unit(&self, known: Option<Identity>) -> bool
-        ensures { result ≡ wire.is_same_unit known self.now }
-    {
-        match known {
-            Some(known) => !self.tells_unit() || agrees(self.code, self.identity, &known),
-            None => true,
-        }
     }
 
     /// Whether it brings its unit online.

@@ -12,8 +12,8 @@ pub struct Identity {
     pub identifier: u64,
     /// The media type identifier.
     pub media: u32,
-    /// The unit size in blocks. The end of a GET UNIT STATUS has something else there.
-    pub size: u32,
+    /// The unit size in blocks, but for the end of a GET UNIT STATUS, which has something else there.
+    pub size: Option<u32>,
 }
 
 impl Identity {
@@ -27,7 +27,11 @@ impl Identity {
         Some(Identity {
             identifier: eight_at(b, 20),
             media: four_at(b, 28),
-            size: four_at(b, 36),
+            size: if b[8] == 0x83 {
+                None
+            } else {
+                Some(four_at(b, 36))
+            },
         })
     }
 }

@@ -67,7 +67,7 @@ fn broken_body(later: &[Sent], command: &Sent, unit: &Told, answer: &Answer) -> 
     if !answer.has_count(answer.count_of(command)) {
         return Some(Rule::Count);
     }
-    if !answer.is_same_unit(unit.identity) {
+    if !unit.is_same_unit(answer) {
         return Some(Rule::Identity);
     }
     if !unit.state.suits(answer) {

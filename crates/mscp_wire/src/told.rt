@@ -3,7 +3,7 @@
 ghost use Rattle.std.specs.Prelude.{◌≡◌};
 ghost use Rattle.mscp_wire.specs.Wire as wire;
 
-use crate::answer::Answer;
+use crate::answer::{Answer, agrees};
 use crate::identity::Identity;
 
 /// What a host was told of whether a unit is online.
@@ -20,8 +20,10 @@ pub enum State {
 /// What a host was told of a unit.
 #[derive(Clone, Copy)]
 pub struct Told {
-    /// What the end of its ONLINE said of it, if it is known to be online.
+    /// What an end said of it, if it is known to be online, or may be.
     pub identity: Option<Identity>,
+    /// Whether it was online then, and still is.
+    pub sure: bool,
     pub state: State,
 }
 
@@ -34,6 +36,13 @@ impl State {
             State::Shared => State::Shared,
             _ => new,
         }
+    }
+
+    /// Whether it isn't known to be shared to the other host.
+    fn is_single(self) -> bool
+        ensures { result ≡ wire.is_single self }
+    {
+        !matches!(self, State::Shared)
     }
 
     /// Whether an end suits it: of a unit that isn't online it doesn't say that it is.
@@ -54,6 +63,7 @@ impl Told {
     {
         Told {
             identity: None,
+            sure: false,
             state: State::Open,
         }
     }
@@ -64,8 +74,35 @@ impl Told {
     {
         Told {
             identity: None,
+            sure: false,
             state: State::Away,
         }
+    }
+
+    /// Whether what is known of it, and an end, are only of SET UNIT CHARACTERISTICS.
+    fn is_unsure(&self, answer: &Answer) -> bool
+        ensures { result ≡ wire.is_unsure self.now answer.now }
+    {
+        !self.sure && answer.code == 0x8A
+    }
+
+    /// Whether it is to an end what is known of it.
+    pub fn is_same_unit(&self, answer: &Answer) -> bool
+        ensures { result ≡ wire.is_same_unit self.now answer.now }
+    {
+        match self.identity {
+            Some(known) => {
+                !answer.tells_unit() || self.is_unsure(answer) || agrees(answer.identity, &known)
+            }
+            None => true,
+        }
+    }
+
+    /// Whether an end tells something of it, and nothing was known for sure.
+    fn learns(&self, answer: &Answer) -> bool
+        ensures { result ≡ wire.learns self.now answer.now }
+    {
+        answer.tells_unit() && !self.sure && self.state.is_single()
     }
 
     /// What is known of it once an end of its own came.
@@ -74,11 +111,19 @@ impl Told {
     {
         if answer.leaves() {
             None
-        } else if answer.brings() {
+        } else if answer.brings() || self.learns(answer) {
             answer.identity
         } else {
             self.identity
         }
+    }
+
+    /// Whether that is sure.
+    fn sure_told(&self, answer: &Answer) -> bool
+        ensures { result ≡ (wire.after_own self.now answer.now).sure }
+    {
+        !answer.leaves()
+            && (answer.brings() || self.sure || (self.learns(answer) && answer.code == 0x83))
     }
 
     /// Whether it is online then.
@@ -100,6 +145,7 @@ impl Told {
     {
         Told {
             identity: self.identity_told(answer),
+            sure: self.sure_told(answer),
             state: self.state_told(answer),
         }
     }
@@ -108,11 +154,12 @@ impl Told {
     pub fn after_other(&self, answer: &Answer) -> Told
         ensures { result ≡ wire.after_other self.now answer.now }
     {
-        let identity = if answer.leaves() || (answer.brings() && !answer.was_online()) {
-            None
-        } else {
-            self.identity
-        };
-        Told { identity, ..*self }
+        let is_new = answer.leaves() || (answer.brings() && !answer.was_online());
+        let identity = if is_new { None } else { self.identity };
+        Told {
+            identity,
+            sure: !is_new && self.sure,
+            ..*self
+        }
     }
 }

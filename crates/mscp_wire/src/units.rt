@@ -81,7 +81,7 @@ impl<A: Allocator + Copy> Units<A> {
         ensures { OnOk result ((via : connections.Connection) (unit : ℕ) → wire.kept self.new via unit
             ≡ wire.told_after_end via unit (wire.kept self.old via unit) answer.now) }
     {
-        if !answer.leaves() && !answer.brings() {
+        if !answer.leaves() && !answer.brings() && !answer.tells_unit() {
             return Ok(());
         }
         let other = other_side(answer.connection);
