@@ -398,6 +398,18 @@ identities_end() {
             "end $(packet 12 3 5 136 1)" "${other[@]}"
 }
 
+# A SET CONTROLLER CHARACTERISTICS that succeeds tells the controller's identifier, of low and high words, to both hosts.
+controllers() {
+    local set="send $(packet 32 2 0 4 0)" told=("send $(packet 32 1 0 4 0)" "end $(packet 28 1 0 132 0 0 60 7 5)")
+    wire_breaks 'controller: controller' 'SET CONTROLLER CHARACTERISTICS 2 of unit 0' "${told[@]}" "$set" \
+        "end $(packet 28 2 0 132 0 0 60 8 5)" &&
+        wire_breaks 'controller: controller' 'second SET CONTROLLER CHARACTERISTICS 2 of unit 0' "${told[@]}" "second $set" \
+            "second end $(packet 28 2 0 132 0 0 60 7 6)" &&
+        wire_is_right '4 2 0 2 0' '' "${told[@]}" "$set" "end $(packet 28 2 0 132 0 0 61 7 5)" &&
+        wire_is_right '4 2 0 2 0' '' "${told[@]}" "$set" "end $(packet 28 2 0 132 3073)" &&
+        wire_is_right '5 2 0 2 1' '' "${told[@]}" reset "$set" "end $(packet 28 2 0 132 0 0 60 8 5)"
+}
+
 # A unit isn't online after a reset, or once it is told to be available or offline, until an ONLINE of its host succeeds.
 # Nothing is known before.
 unit_states() {

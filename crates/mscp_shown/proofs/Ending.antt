@@ -224,8 +224,8 @@ module _ (c : Settings) (t : Trace) (own : Connection) (b : ArrayVec ℕ) (known
           ∙ (ap (λ b. b && nat_eq y.reference e.reference) (same_sides own own ∙ own_side own)
           ∙ eq-eqb y.reference e.reference number) in
           ⊎_elim
-          (λ before. absurd (false≢true (sym (index_pairs (IsBehind own e.reference k) xs (sent_by First []) is.1 place.0
-          i before low found.1) ∙ named_y)))
+          (λ before. absurd (false≢true (sym (index_pairs (IsBehind own e.reference k) xs (sent_by First []) is.1
+          place.0 i before low found.1) ∙ named_y)))
           (λ rest. ⊎_elim
           (λ behind. any_behind (wire.aborts y) xs i place.0 (sent_by First []) behind found.0 one)
           (λ same. absurd (apart (ap (λ n. (command_at xs n).opcode) same ∙ it.0)))

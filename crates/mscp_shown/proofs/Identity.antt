@@ -1,6 +1,6 @@
 -- What an end tells of its unit, and how the rules of the wire read it.
-use Rattle.std.proofs.Common.{◌≡◌, ℕ, ◌%◌, arith, Bool, true, false, not, ◌&&◌, ◌||◌, refl, ap, sym, ◌∙◌, subst, List, Option, Some, None}
-use Rattle.std.specs.Prelude.{if◌then◌else◌, nat_eq}
+use Rattle.std.proofs.Common.{◌≡◌, ℕ, ◌%◌, arith, Bool, true, false, not, ◌&&◌, ◌||◌, refl, ap, sym, ◌∙◌, subst, List, length, Option, Some, None}
+use Rattle.std.specs.Prelude.{if◌then◌else◌, nat_eq, nat_le}
 use Rattle.std.proofs.lemmas.Bool.{and_parts, eq-eqb, eqb-true, false≢true}
 use Rattle.mscp_packet.specs.Common.{little_bytes}
 use Rattle.mscp_packet.specs.Ends.{IsOfKind, end_bytes, kind_of_body, kind_of_code}
@@ -13,7 +13,7 @@ use Rattle.mscp_packet.specs.declared.end.EndBody.TheVariants as bodies
 use Rattle.mscp_drive.specs.Shape.{Shape}
 use Rattle.mscp_drive.specs.Settings.{Settings, unit_shape}
 use Rattle.mscp_drive.specs.declared.connection.Connection.{Connection}
-use Rattle.mscp_wire.specs.Wire.{History, agrees, answer_by, brings, fits_size, is_known_unit, is_same_unit, is_single, is_unsure, learns, leaves, same_connection, says_away, shares, status_code, tells_unit, told, told_after_end, told_after_message, turned, was_online}
+use Rattle.mscp_wire.specs.Wire.{History, agrees, answer_by, brings, fits, is_known_unit, is_same_unit, is_single, is_unsure, later_of, learns, leaves, same_connection, says_away, shares, status_code, tells_unit, told, told_after_end, told_after_message, turned, was_online}
 use Rattle.mscp_wire.specs.declared.answer.Answer.{Answer}
 use Rattle.mscp_wire.specs.declared.identity.Identity.{Identity}
 use Rattle.mscp_wire.specs.declared.sent.Sent.{Sent}
@@ -30,6 +30,14 @@ BodyTells s body = Unit {0}
 -- an end that succeeded does
 abbrev pub Tells : Settings → End → Type 0
 Tells c e = e.status % 32 ≡ 0 → BodyTells (unit_shape c e.unit) e.body
+
+-- a body tells of the controller what it is, and so does an end that succeeded
+abbrev pub BodyControls : Settings → EndBody → Type 0
+BodyControls c (bodies.Controller timeout id) = id ≡ c.id
+BodyControls c body = Unit {0}
+
+abbrev pub Controls : Settings → End → Type 0
+Controls c e = e.status % 32 ≡ 0 → BodyControls c e.body
 
 -- ---- as it is read
 abbrev identity : ℕ → ℕ → Option ℕ → Identity
@@ -112,7 +120,7 @@ module _ (via : Connection) (r u code status : ℕ) (s : Shape) where
 -- two that are told of a unit agree
 agrees_same : (s : Shape) (i j : Identity) → IsOf s i → IsOf s j → agrees (Some i) j ≡ true
 agrees_same s i j h k =
-    all (nat_eq i.identifier j.identifier) (nat_eq i.media j.media) (fits_size i.size j.size)
+    all (nat_eq i.identifier j.identifier) (nat_eq i.media j.media) (fits i.size j.size)
     (eq-eqb i.identifier j.identifier (h.0 ∙ sym k.0)) (eq-eqb i.media j.media (h.1 ∙ sym k.1))
     (by_sizes i.size j.size h.2 k.2)
   where
@@ -120,7 +128,7 @@ agrees_same s i j h k =
     all a b d p q r = grind arith
 
     by_sizes : (a b : Option ℕ) → ((n : ℕ) → a ≡ Some n → n ≡ num (little_bytes 4 s.size) 0 4)
-        → ((n : ℕ) → b ≡ Some n → n ≡ num (little_bytes 4 s.size) 0 4) → fits_size a b ≡ true
+        → ((n : ℕ) → b ≡ Some n → n ≡ num (little_bytes 4 s.size) 0 4) → fits a b ≡ true
     by_sizes None b p q = refl
     by_sizes (Some m) None p q = refl
     by_sizes (Some m) (Some n) p q = eq-eqb m n (p m refl ∙ sym (q n refl))
@@ -182,6 +190,59 @@ is_told c via b e is kind tells st unit =
       λ h. subst (λ n. HasOf (unit_shape c n) a.identity) (sym unit) (told_right c via e kind tells st h),
       λ h. subst (λ n. HasOf (unit_shape c n) a.identity) (sym unit) (brought_right c via e kind tells st h),
     )
+
+-- ---- what is known of the controller
+abbrev pub own_identifier : Settings → ℕ
+own_identifier c = num (little_bytes 8 c.id) 0 8
+
+-- what an end tells of it is what it is
+pub controller_read : (c : Settings) (via : Connection) (e : End) → IsOfKind e → Controls c e
+    → (answer_by via (end_bytes e)).status ≡ e.status → (n : ℕ)
+    → (answer_by via (end_bytes e)).controller ≡ Some n → n ≡ own_identifier c
+controller_read c via e kind controls st n h =
+    let a = answer_by via (end_bytes e) in
+    by_test (nat_eq e.code 0x84) (nat_eq (a.status % 32) 0) (nat_le 28 (length (end_bytes e)))
+    (num (end_bytes e) 20 8) h
+    (λ q z. of_body e.body (some_kind kinds.Controller (kind_of_body e.body)
+    (sym (ap kind_of_code (eqb-true e.code 0x84 q)) ∙ kind))
+    (controls (ap (λ n. n % 32) (sym st) ∙ eqb-true (a.status % 32) 0 z)))
+  where
+    of_body : (body : EndBody) → kinds.Controller ≡ kind_of_body body → BodyControls c body
+        → num (end_bytes (record {
+          reference = e.reference;
+          unit = e.unit;
+          code = e.code;
+          status = e.status;
+          body = body;
+        })) 20 8 ≡ own_identifier c
+    of_body (bodies.Controller timeout id) k t = ap (λ n. num (little_bytes 8 n) 0 8) t
+    of_body bodies.Bare k t = cc
+    of_body (bodies.Abort other) k t = cc
+    of_body (bodies.Status other figure) k t = cc
+    of_body (bodies.UnitStatus id media track group cylinder) k t = cc
+    of_body (bodies.Online id media size serial) k t = cc
+    of_body (bodies.Moved count) k t = cc
+
+    by_test : (x y z : Bool) (m : ℕ) → (if x && y && z then Some m else None) ≡ Some n
+        → (x ≡ true → y ≡ true → m ≡ own_identifier c) → n ≡ own_identifier c
+    by_test true true true m h f = let e : n ≡ m = cc in e ∙ f refl refl
+    by_test true true false m h f = cc
+    by_test true false z m h f = cc
+    by_test false y z m h f = cc
+
+-- what is known of it fits that
+pub fits_controller : (c : Settings) (known told : Option ℕ)
+    → ((n : ℕ) → known ≡ Some n → n ≡ own_identifier c) → ((n : ℕ) → told ≡ Some n → n ≡ own_identifier c)
+    → fits known told ≡ true
+fits_controller c None told p q = refl
+fits_controller c (Some m) None p q = refl
+fits_controller c (Some m) (Some n) p q = eq-eqb m n (p m refl ∙ sym (q n refl))
+
+pub later_controller : (c : Settings) (told known : Option ℕ)
+    → ((n : ℕ) → told ≡ Some n → n ≡ own_identifier c) → ((n : ℕ) → known ≡ Some n → n ≡ own_identifier c)
+    → (n : ℕ) → later_of told known ≡ Some n → n ≡ own_identifier c
+later_controller c None known p q n h = q n h
+later_controller c (Some m) known p q n h = p n h
 
 -- ---- what is known of units
 -- what is known of each unit is what it is

@@ -14,7 +14,7 @@ use Rattle.mscp_wire.specs.declared.moment.Moment.TheVariants as moments
 use Rattle.mscp_wire.specs.declared.sent.Asked.{Asked}
 use Rattle.mscp_wire.specs.declared.sent.Asked.TheVariants.{Gone, Nothing, Oldest}
 use Rattle.mscp_wire.specs.declared.sent.Sent.{Sent}
-use Rattle.mscp_wire.specs.declared.told.Told.{Told}
+use Rattle.mscp_wire.specs.declared.told.Seen.{Seen}
 use Rattle.mscp_shown.proofs.Alike.{Alike, alike_any, alike_at, alike_count, alike_drop, alike_position, alike_take, bare}
 use Rattle.mscp_shown.proofs.Lenient.{Falls, apart_at, apart_from, falls_found, falls_one, hears_bare, linked_end, named_turned, pairs_take}
 use Rattle.mscp_shown.proofs.Linking.{Alone, AsksOf, IsLow, Linked, asks_at, below_lower, linked_alike, linked_sent, nobody}
@@ -117,7 +117,7 @@ polled_parameter y e n h =
     by_bool true o k = k
     by_bool false o k = cc
 
-module _ (xs ys : List Sent) (h : State xs ys) (u : Told) (b : List ℕ) (e : Answer) (i : ℕ)
+module _ (xs ys : List Sent) (h : State xs ys) (u : Seen) (b : List ℕ) (e : Answer) (i : ℕ)
     (r : strict.IsRightEnd xs u b e i) where
   abbrev x : Sent
   x = command_at xs i
@@ -252,8 +252,9 @@ module _ (xs ys : List Sent) (h : State xs ys) (u : Told) (b : List ℕ) (e : An
   figure_right None q k = refl
   figure_right (Some n) q k = tells_right n (polled_parameter y e n (asks ∙ q)) e.figure y.asked asked_here k
 
-  end_right : wire.suits_state u.state e ≡ true → wire.IsRightEnd ys u b e i
-  end_right stated = record {
+  end_right : wire.suits_state u.unit.state e ≡ true → wire.fits u.controller e.controller ≡ true
+      → wire.IsRightEnd ys u b e i
+  end_right stated known = record {
     length = r.length;
     outstanding =
         sym (alike_position (is_named e.connection e.reference)
@@ -278,10 +279,11 @@ module _ (xs ys : List Sent) (h : State xs ys) (u : Told) (b : List ℕ) (e : An
     count = ap (λ s. wire.has_count e (wire.count_of s e)) (sym same) ∙ r.count;
     identity = r.identity;
     state = stated;
+    controller = known;
   }
 
 -- ---- a moment
-step : (credits : Option ℕ) (xs ys : List Sent) (u : Told) (m : Moment) → State xs ys
+step : (credits : Option ℕ) (xs ys : List Sent) (u : Seen) (m : Moment) → State xs ys
     → strict.IsRightAfter credits xs u m → strict.IsStated u m
     → wire.IsRightAfter credits ys u m × State (strict.after xs m) (wire.after ys m)
 step credits xs ys u (moments.Message via b) h r stated = (
@@ -290,7 +292,7 @@ step credits xs ys u (moments.Message via b) h r stated = (
 )
 step credits xs ys u (moments.End via b) h r stated =
     let e = answer_by via b.items in
-    let right = end_right xs ys h u b.items e r.0 r.1 stated in (
+    let right = end_right xs ys h u b.items e r.0 r.1 stated.0 stated.1 in (
       (r.0, right),
       subst (λ o. State (strict.after_end xs e o) (wire.after_end ys e (place_of ys e))) (sym r.1.outstanding)
           (subst (λ o. State (strict.after_end xs e (Some r.0)) (wire.after_end ys e o)) (sym right.outstanding)
@@ -305,7 +307,8 @@ states credits h r d (suc n) l =
     let low : n < length h = omega (arith, l) in
     let before = take n h in
     let m = moment_at h n in
-    let more = (step credits (strict.outstanding before) (wire.outstanding before) (wire.told_of (wire.told before) m)
+    let more = (step credits (strict.outstanding before) (wire.outstanding before)
+    (wire.seen_of (wire.told before) (wire.controller before) m)
     m (states credits h r d n (omega (arith, l))) (r n low) (d n low)).1 in
     subst (λ t. State (strict.outstanding t) (wire.outstanding t)) (sym (more_taken h n low))
     (subst (λ xs. State xs (wire.outstanding (before ++ m ∷ []))) (sym (fold_push strict.after [] before m))
@@ -316,5 +319,6 @@ pub lenient : (credits : Option ℕ) (h : History) → strict.AreRight credits h
 lenient credits h r d i l =
     let before = take i h in
     (step credits (strict.outstanding before) (wire.outstanding before)
-    (wire.told_of (wire.told before) (moment_at h i)) (moment_at h i) (states credits h r d i (omega (arith, l)))
+    (wire.seen_of (wire.told before) (wire.controller before) (moment_at h i)) (moment_at h i)
+    (states credits h r d i (omega (arith, l)))
     (r i l) (d i l)).0

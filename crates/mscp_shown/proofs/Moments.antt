@@ -100,8 +100,9 @@ module _ (c : Settings) (t : Trace) (k : Known c t)
       let first = first_taken (untaken c own t) b r.1 in
       let e = first.0 in
       let is = first.2.is in
+      let kind = subst (AllByRecursion IsOfKind) is (untaken_all IsOfKind c own t (kinds own)) in
       let fit = subst (AllByRecursion (IsFit c)) is (untaken_all (IsFit c) c own t (h.fit own)) in
-      take_stands c t own b k s e first.1 is (ap (λ (v : ArrayVec ℕ). v.items) first.2.bytes) fit.0
+      take_stands c t own b k s e first.1 is (ap (λ (v : ArrayVec ℕ). v.items) first.2.bytes) kind.0 fit.0
 
   answer_told : (own : Connection) (b : ArrayVec ℕ) (q : ℕ) (a : Option ℕ)
       → Ok (Sent.Answered q a) ≡ arrival c own t b.items
@@ -160,6 +161,7 @@ stands_empty c = record {
   stated = λ via unit e. cc;
   there = λ unit e. absurd (false≢true (sym (is_online_empty unit) ∙ e));
   shared = tt;
+  controller = λ n e. cc;
   are = λ i low. absurd (omega (arith, low));
 }
 

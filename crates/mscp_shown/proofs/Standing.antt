@@ -1,5 +1,6 @@
 -- Each moment of a legal trace keeps it that what hosts are told of the states of units suits how they are.
-use Rattle.mscp_controller.proofs.Basics.{◌≡◌, ⊎_elim, ℕ, ◌<◌, Bool, true, false, cond, not, ◌&&◌, [], ◌∷◌, ◌++◌, length, filter, refl, ap, sym, ◌∙◌, subst, append-nil, if◌then◌else◌, nat_eq, None, AllByRecursion, false≢true, eqb-true, eq-eqb, ArrayVec, Connection, End, Event, Settings, Trace, Moment, moment, sent_bytes, connection_of, service_in, command_of, name, order, unit, waiting, queues, ends_in, ends_at, untaken, takes, every_append, every_both, every_kept, every_weaker, same_connection, waiting_below, waiting_more, unit_found, each_push, untaken_more}
+use Rattle.mscp_controller.proofs.Basics.{Some, ◌≡◌, ⊎_elim, ℕ, ◌<◌, Bool, true, false, cond, not, ◌&&◌, [], ◌∷◌, ◌++◌, length, filter, refl, ap, sym, ◌∙◌, subst, append-nil, if◌then◌else◌, nat_eq, None, AllByRecursion, false≢true, eqb-true, eq-eqb, ArrayVec, Connection, End, Event, Settings, Trace, Moment, moment, sent_bytes, connection_of, service_in, command_of, name, order, unit, waiting, queues, ends_in, ends_at, untaken, takes, every_append, every_both, every_kept, every_weaker, same_connection, waiting_below, waiting_more, unit_found, each_push, untaken_more}
+use Rattle.std.proofs.lemmas.List.Sums.{fold_push}
 use Rattle.mscp_controller.proofs.Promise.Grows.{moment_before, moment_last}
 use Rattle.mscp_controller.proofs.Promise.Known.{Known}
 use Rattle.mscp_controller.proofs.Promise.States.{is_online_kept}
@@ -9,13 +10,14 @@ use Rattle.mscp_packet.specs.Number.{num}
 use Rattle.mscp_packet.specs.declared.command.Order.{Order}
 use Rattle.mscp_packet.specs.declared.command.Order.TheVariants as orders
 use Rattle.mscp_wire.specs.Wire as wire
-use Rattle.mscp_wire.specs.Wire.{History, answer_by, sent_by, shares, suits_state, told, told_after, told_after_end, told_after_message, told_of}
+use Rattle.mscp_wire.specs.Wire.{History, answer_by, sent_by, shares, suits_state, told, told_after, told_after_end, told_after_message, seen_of, controller as controller_of, controller_after}
 use Rattle.mscp_wire.specs.declared.moment.Moment.{Moment as Wired}
 use Rattle.mscp_wire.specs.declared.moment.Moment.TheVariants as moments
 use Rattle.mscp_wire.specs.declared.told.State.TheVariants.{Shared}
 use Rattle.mscp_wire.specs.declared.told.Told.{Told}
 use Rattle.mscp_shown.specs.Shown.{shown, shown_by}
 use Rattle.mscp_shown.proofs.Effects.{Effects}
+use Rattle.mscp_shown.proofs.Identity.{own_identifier}
 use Rattle.mscp_shown.proofs.Kept.{same_sides}
 use Rattle.mscp_shown.proofs.Saying.{Says, sent_says}
 use Rattle.mscp_shown.proofs.Shown.{shown_more}
@@ -33,6 +35,7 @@ pub record Stands (c : Settings) (t : Trace) : Type 0 where
       → Stated unit (is_online t unit) (told (shown t) via unit).state (untaken c via t)
   pub there : (unit : ℕ) → is_online t unit ≡ true → unit_fault (unit_found c unit) ≡ None
   pub shared : AllByRecursion (λ x. Shares (shown t) (moment t x)) (waiting t)
+  pub controller : (n : ℕ) → controller_of (shown t) ≡ Some n → n ≡ own_identifier c
   pub are : AreStated (shown t)
 
 -- what waits after a moment: what did, and the last one if it is queued
@@ -85,6 +88,7 @@ module _ (c : Settings) (t : Trace) (m : Moment) (known : Known c t) (h : Stands
         there = same_there same;
         shared = subst (λ w. AllByRecursion (λ x. Shares w (moment t' x)) (waiting t')) (sym is)
             (waits_more t m (shown t) h.shared (λ e. absurd (false≢true (sym late ∙ e))));
+        controller = λ n e. h.controller n (sym (ap controller_of is) ∙ e);
         are = subst AreStated (sym is) h.are;
       }
 
@@ -134,8 +138,10 @@ module _ (c : Settings) (t : Trace) (m : Moment) (known : Known c t) (h : Stands
             ∙ shared_message via own u (told (shown t) via u) b.items (k o via e))
             (waiting t) h.shared)
             (λ e. new_shares (last e)));
+        controller = λ n e. h.controller n
+            (sym (fold_push controller_after None (shown t) w) ∙ (sym (ap controller_of is) ∙ e));
         are = subst AreStated (sym is)
-            (each_push moments.Reset (λ h w. IsStated (told_of (told h) w) w) (shown t) w h.are tt);
+            (each_push moments.Reset (λ h w. IsStated (seen_of (told h) (controller_of h) w) w) (shown t) w h.are tt);
       }
     where
       brings_there : (via : Connection) → same_connection own via ≡ false → Says orders.Online (sent_by own b.items)

@@ -9,7 +9,7 @@ use Rattle.mscp_controller.specs.Units.{is_online}
 use Rattle.mscp_packet.specs.declared.command.Order.{Order}
 use Rattle.mscp_packet.specs.declared.command.Order.TheVariants as orders
 use Rattle.mscp_queue.specs.Outcomes.{goes_on, is_success}
-use Rattle.mscp_wire.specs.Wire.{told}
+use Rattle.mscp_wire.specs.Wire.{controller as controller_of, told}
 use Rattle.mscp_shown.specs.Shown.{shown, shown_by}
 use Rattle.mscp_shown.proofs.Effects.{Effects, served_effects}
 use Rattle.mscp_shown.proofs.Placing.{at_waiting}
@@ -240,5 +240,6 @@ module _ (c : Settings) (t : Trace) (m : Moment) (known : Known c t) (h : Stands
         there = still_there s k y (step_of s k y e v).0 (step_of s k y e v).1 st end ended fault;
         shared = subst (λ w. AllByRecursion (λ x. Shares w (moment after x)) (waiting after)) (sym is)
             (waits_more t m (shown t) h.shared (λ e. absurd (false≢true (sym late ∙ e))));
+        controller = λ n e'. h.controller n (sym (ap controller_of is) ∙ e');
         are = subst AreStated (sym is) h.are;
       }

@@ -1,17 +1,19 @@
 -- So does an answer, and what a host takes.
-use Rattle.mscp_controller.proofs.Basics.{◌≡◌, ℕ, Bool, true, false, List, [], ◌∷◌, ◌++◌, map, refl, ap, sym, ◌∙◌, subst, append-nil, Some, AllByRecursion, false≢true, eq-eqb, ArrayVec, Connection, End, Event, Settings, Trace, Moment, moment, sent_bytes, command, command_of, unit, waiting, untaken, answer, aborted_end, good, own_end, end_bytes, every_append, every_weaker, same_connection, one_side, own_side, is_queued, each_push, aborted, untaken_more, drop}
+use Rattle.mscp_controller.proofs.Basics.{◌≡◌, ℕ, Bool, true, false, List, [], ◌∷◌, ◌++◌, map, refl, ap, sym, ◌∙◌, subst, append-nil, Some, None, IsOfKind, AllByRecursion, false≢true, eq-eqb, ArrayVec, Connection, End, Event, Settings, Trace, Moment, moment, sent_bytes, command, command_of, unit, waiting, untaken, answer, aborted_end, good, own_end, end_bytes, every_append, every_weaker, same_connection, one_side, own_side, is_queued, each_push, aborted, untaken_more, drop}
+use Rattle.std.proofs.lemmas.List.Sums.{fold_push}
 use Rattle.mscp_controller.proofs.Promise.Known.{Known}
 use Rattle.mscp_controller.proofs.Promise.States.{is_online_kept}
 use Rattle.mscp_controller.specs.Ends.{figure_asked}
 use Rattle.mscp_controller.specs.Units.{is_online}
 use Rattle.mscp_controller.specs.declared.entry.Entry.{Entry}
 use Rattle.mscp_packet.specs.Number.{num}
-use Rattle.mscp_wire.specs.Wire.{answer_by, sent_by, suits_state, told, told_after_end, told_of}
+use Rattle.mscp_wire.specs.Wire.{answer_by, sent_by, suits_state, told, told_after_end, seen_of, controller as controller_of, controller_after}
 use Rattle.mscp_wire.specs.declared.moment.Moment.{Moment as Wired}
 use Rattle.mscp_wire.specs.declared.moment.Moment.TheVariants as moments
 use Rattle.mscp_wire.specs.declared.told.Told.{Told}
 use Rattle.mscp_shown.specs.Shown.{shown}
 use Rattle.mscp_shown.proofs.Effects.{Effects, aborted_effects, own_effects}
+use Rattle.mscp_shown.proofs.Identity.{controller_read, fits_controller, later_controller, own_identifier}
 use Rattle.mscp_shown.proofs.Owed.{untaken_took}
 use Rattle.mscp_shown.proofs.Reading.{IsFit, reads}
 use Rattle.mscp_shown.proofs.Saying.{sent_says}
@@ -51,7 +53,7 @@ module _ (c : Settings) (own : Connection) (t : Trace) (b : List ℕ) (h : Stand
 -- ---- a take
 module _ (c : Settings) (t : Trace) (own : Connection) (b : ArrayVec ℕ) (known : Known c t) (h : Stands c t)
     (e : End) (rest : List End) (us : untaken c own t ≡ e ∷ rest) (bytes : b.items ≡ end_bytes e)
-    (fit : IsFit c e) where
+    (kind : IsOfKind e) (fit : IsFit c e) where
   abbrev taking : Moment
   taking = (Event.Take own, Entry.Taken own (Some b))
 
@@ -74,6 +76,11 @@ module _ (c : Settings) (t : Trace) (own : Connection) (b : ArrayVec ℕ) (known
       (eq-eqb e.unit e.unit refl) in
       ap (λ u. suits_state (told (shown t) own u).state (answer_by own b.items)) unit
       ∙ (ap (λ l. suits_state t0.state (answer_by own l)) bytes ∙ fits_read c own e fit t0 first)
+
+  controller_told : (n : ℕ) → (answer_by own b.items).controller ≡ Some n → n ≡ own_identifier c
+  controller_told n q =
+      controller_read c own e kind fit.controls (reads c own e fit).status n
+      (sym (ap (λ l. (answer_by own l).controller) bytes) ∙ q)
 
   pub take_stands : Stands c (t ++ taking ∷ [])
   take_stands =
@@ -99,8 +106,15 @@ module _ (c : Settings) (t : Trace) (own : Connection) (b : ArrayVec ℕ) (known
             ∙ shared_end via u (told (shown t) via u) (answer_by own b.items) (k o via s))
             (waiting t) h.shared)
             (λ q. absurd (false≢true q)));
+        controller = λ n q.
+            later_controller c (answer_by own b.items).controller (controller_of (shown t)) controller_told h.controller
+            n (sym (fold_push controller_after None (shown t) w) ∙ (sym (ap controller_of is) ∙ q));
         are = subst AreStated (sym is)
-            (each_push moments.Reset (λ h w. IsStated (told_of (told h) w) w) (shown t) w h.are head_fits);
+            (each_push moments.Reset (λ h w. IsStated (seen_of (told h) (controller_of h) w) w) (shown t) w h.are (
+              head_fits,
+              fits_controller c (controller_of (shown t)) (answer_by own b.items).controller h.controller
+                  controller_told,
+            ));
       }
     where
       by_side : (via : Connection) (unit : ℕ) (here : Bool) → same_connection own via ≡ here

@@ -1,13 +1,13 @@
 -- A moment is right exactly if it breaks no rule.
 use Rattle.std.proofs.Common.{◌≡◌, ℕ, ◌+◌, Bool, true, false, List, take, drop, refl, Option, Some, None}
-use Rattle.mscp_wire.specs.Wire.{IsRightAfter, IsRightEnd, IsRightMessage, answer_by, broken, broken_at, broken_body, broken_end, broken_message, command_at, count_of, has_abort, has_count, has_credit, has_endcode, has_figure, has_status, is_about, is_long, is_message, is_new, is_same_unit, names_unit, other_of, passes_none, place_of, polled_by, sent_by, succeeds, suits_state, unless}
+use Rattle.mscp_wire.specs.Wire.{IsRightAfter, IsRightEnd, IsRightMessage, answer_by, broken, broken_at, broken_body, broken_end, broken_message, command_at, count_of, fits, has_abort, has_count, has_credit, has_endcode, has_figure, has_status, is_about, is_long, is_message, is_new, is_same_unit, names_unit, other_of, passes_none, place_of, polled_by, sent_by, succeeds, suits_state, unless}
 use Rattle.mscp_wire.specs.declared.answer.Answer.{Answer}
 use Rattle.mscp_wire.specs.declared.moment.Moment.{Moment}
 use Rattle.mscp_wire.specs.declared.moment.Moment.TheVariants as moments
 use Rattle.mscp_wire.specs.declared.rule.Rule.{Rule}
 use Rattle.mscp_wire.specs.declared.rule.Rule.TheVariants as rules
 use Rattle.mscp_wire.specs.declared.sent.Sent.{Sent}
-use Rattle.mscp_wire.specs.declared.told.Told.{Told}
+use Rattle.mscp_wire.specs.declared.told.Seen.{Seen}
 
 -- no rule is broken: this one is kept, and none of the rest is broken
 parts : (b : Bool) (rule : Rule) (rest : Option Rule) → unless b rule rest ≡ None → (b ≡ true) × (rest ≡ None)
@@ -34,32 +34,33 @@ unbroken_message credits xs b s r =
     (both (has_credit credits xs s) rules.Credits None r.credit refl))
 
 -- the rules of a body
-abbrev unit_on : Told → Answer → Option Rule
+abbrev unit_on : Seen → Answer → Option Rule
 unit_on u e =
-    unless (is_same_unit u e) rules.Identity (unless (suits_state u.state e) rules.State None)
+    unless (is_same_unit u.unit e) rules.Identity
+    (unless (suits_state u.unit.state e) rules.State (unless (fits u.controller e.controller) rules.Controller None))
 
-abbrev count_on : Sent → Told → Answer → Option Rule
+abbrev count_on : Sent → Seen → Answer → Option Rule
 count_on y u e = unless (has_count e (count_of y e)) rules.Count (unit_on u e)
 
-abbrev figure_on : List Sent → Sent → Told → Answer → Option Rule
+abbrev figure_on : List Sent → Sent → Seen → Answer → Option Rule
 figure_on later y u e = unless (has_figure later y e (polled_by y e)) rules.Figure (count_on y u e)
 
-abbrev about_on : List Sent → Sent → Told → Answer → Option Rule
+abbrev about_on : List Sent → Sent → Seen → Answer → Option Rule
 about_on later y u e = unless (is_about e (other_of y e)) rules.About (figure_on later y u e)
 
-abbrev order_on : List Sent → List Sent → Sent → Told → Answer → Option Rule
+abbrev order_on : List Sent → List Sent → Sent → Seen → Answer → Option Rule
 order_on earlier later y u e = unless (passes_none earlier y e) rules.Order (broken_body later y u e)
 
-abbrev aborted_on : List Sent → List Sent → Sent → Told → Answer → Option Rule
+abbrev aborted_on : List Sent → List Sent → Sent → Seen → Answer → Option Rule
 aborted_on earlier later y u e = unless (has_abort later y e) rules.Aborted (order_on earlier later y u e)
 
-abbrev status_on : List Sent → List Sent → Sent → Told → Answer → Option Rule
+abbrev status_on : List Sent → List Sent → Sent → Seen → Answer → Option Rule
 status_on earlier later y u e = unless (has_status y e) rules.Status (aborted_on earlier later y u e)
 
-abbrev endcode_on : List Sent → List Sent → Sent → Told → Answer → Option Rule
+abbrev endcode_on : List Sent → List Sent → Sent → Seen → Answer → Option Rule
 endcode_on earlier later y u e = unless (has_endcode y e) rules.Endcode (status_on earlier later y u e)
 
-right_at : (xs : List Sent) (u : Told) (b : List ℕ) (e : Answer) (i : ℕ) → is_long b ≡ true
+right_at : (xs : List Sent) (u : Seen) (b : List ℕ) (e : Answer) (i : ℕ) → is_long b ≡ true
     → place_of xs e ≡ Some i → broken_end (take i xs) (drop (i + 1) xs) (command_at xs i) u e ≡ None
     → IsRightEnd xs u b e i
 right_at xs u b e i long found h =
@@ -77,9 +78,11 @@ right_at xs u b e i long found h =
     parts (has_figure l y e (polled_by y e)) rules.Figure (count_on y u e) about.1 in
     let count =
     parts (has_count e (count_of y e)) rules.Count (unit_on u e) figure.1 in
-    let identity = parts (is_same_unit u e) rules.Identity (unless (suits_state u.state e) rules.State None)
+    let rest = unless (fits u.controller e.controller) rules.Controller None in
+    let identity = parts (is_same_unit u.unit e) rules.Identity (unless (suits_state u.unit.state e) rules.State rest)
     count.1 in
-    let state = parts (suits_state u.state e) rules.State None identity.1 in
+    let state = parts (suits_state u.unit.state e) rules.State rest identity.1 in
+    let controller = parts (fits u.controller e.controller) rules.Controller None state.1 in
     record {
       length = long;
       outstanding = found;
@@ -94,9 +97,10 @@ right_at xs u b e i long found h =
       count = count.0;
       identity = identity.0;
       state = state.0;
+      controller = controller.0;
     }
 
-right_end : (xs : List Sent) (u : Told) (b : List ℕ) (e : Answer) (p : Option ℕ) → place_of xs e ≡ p
+right_end : (xs : List Sent) (u : Seen) (b : List ℕ) (e : Answer) (p : Option ℕ) → place_of xs e ≡ p
     → unless (is_long b) rules.Length (broken_at xs u e p) ≡ None → (i : ℕ) × IsRightEnd xs u b e i
 right_end xs u b e None found h =
     let p = parts (is_long b) rules.Length (Some rules.Outstanding) h in
@@ -106,7 +110,7 @@ right_end xs u b e (Some i) found h =
     let p = parts (is_long b) rules.Length (broken_end (take i xs) (drop (i + 1) xs) (command_at xs i) u e) h in
     (i, right_at xs u b e i p.0 found p.1)
 
-unbroken_end : (xs : List Sent) (u : Told) (b : List ℕ) (e : Answer) (i : ℕ) → IsRightEnd xs u b e i
+unbroken_end : (xs : List Sent) (u : Seen) (b : List ℕ) (e : Answer) (i : ℕ) → IsRightEnd xs u b e i
     → unless (is_long b) rules.Length (broken_at xs u e (Some i)) ≡ None
 unbroken_end xs u b e i r =
     let z = take i xs in
@@ -122,11 +126,14 @@ unbroken_end xs u b e i r =
     (both (is_about e (other_of y e)) rules.About (figure_on l y u e) r.about
     (both (has_figure l y e (polled_by y e)) rules.Figure (count_on y u e) r.figure
     (both (has_count e (count_of y e)) rules.Count (unit_on u e) r.count
-    (both (is_same_unit u e) rules.Identity (unless (suits_state u.state e) rules.State None) r.identity
-    (both (suits_state u.state e) rules.State None r.state refl)))))))))))
+    (both (is_same_unit u.unit e) rules.Identity (unless (suits_state u.unit.state e) rules.State
+    (unless (fits u.controller e.controller) rules.Controller None)) r.identity
+    (both (suits_state u.unit.state e) rules.State (unless (fits u.controller e.controller) rules.Controller None)
+    r.state
+    (both (fits u.controller e.controller) rules.Controller None r.controller refl))))))))))))
 
 -- a moment that breaks no rule is right
-pub right_from_unbroken : (credits : Option ℕ) (xs : List Sent) (u : Told) (m : Moment)
+pub right_from_unbroken : (credits : Option ℕ) (xs : List Sent) (u : Seen) (m : Moment)
     → broken credits xs u m ≡ None → IsRightAfter credits xs u m
 right_from_unbroken credits xs u (moments.Message via b) h =
     right_message credits xs b.items (sent_by via b.items) h
@@ -135,7 +142,7 @@ right_from_unbroken credits xs u (moments.End via b) h =
 right_from_unbroken credits xs u moments.Reset h = tt
 
 -- and one that is right breaks none
-pub unbroken_from_right : (credits : Option ℕ) (xs : List Sent) (u : Told) (m : Moment)
+pub unbroken_from_right : (credits : Option ℕ) (xs : List Sent) (u : Seen) (m : Moment)
     → IsRightAfter credits xs u m → broken credits xs u m ≡ None
 unbroken_from_right credits xs u (moments.Message via b) r =
     unbroken_message credits xs b.items (sent_by via b.items) r

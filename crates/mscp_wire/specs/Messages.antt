@@ -47,8 +47,8 @@ sent_by via b = record {
   asked = Nothing;
 }
 
--- what an end of 44 bytes at least says of its unit, if it is one of ONLINE, SET UNIT CHARACTERISTICS or GET UNIT STATUS
--- (0x83), which says no size (manual, "End Messages")
+-- what an end of 44 bytes at least says of its unit, if it is one of ONLINE, SET UNIT CHARACTERISTICS or GET UNIT
+-- STATUS (0x83), which says no size (manual, "End Messages")
 abbrev pub identity_in : List ℕ → Option Identity
 identity_in b =
     if nat_le 44 (length b)
@@ -57,6 +57,14 @@ identity_in b =
       media = num b 28 4;
       size = if nat_eq (slice_index b 8) 0x83 then None else Some (num b 36 4);
     })
+    else None
+
+-- the identifier of the controller, if an end of SET CONTROLLER CHARACTERISTICS (0x84) that succeeded tells it (manual,
+-- "SET CONTROLLER CHARACTERISTICS Command")
+abbrev pub controller_in : List ℕ → Option ℕ
+controller_in b =
+    if nat_eq (slice_index b 8) 0x84 && nat_eq (num b 10 2 % 32) 0 && nat_le 28 (length b)
+    then Some (num b 20 8)
     else None
 
 -- the end in a message (manual, "End Messages"). Its parameter is that number of its command's, or how many bytes were
@@ -71,6 +79,7 @@ answer_by via b = record {
   parameter = four_in b 12;
   figure = four_in b 16;
   identity = identity_in b;
+  controller = controller_in b;
 }
 
 -- both are the same connection

@@ -5,12 +5,13 @@ use Rattle.std.specs.BTreeMap as tree
 use Rattle.mscp_packet.specs.Number.{num}
 use Rattle.mscp_drive.specs.declared.connection.Connection.{Connection}
 use Rattle.mscp_drive.specs.declared.connection.Connection.TheVariants.{First, Second}
-use Rattle.mscp_wire.specs.Messages.{History, answer_by, same_connection, sent_by, status_code}
+use Rattle.mscp_wire.specs.Messages.{History, answer_by, controller_in, same_connection, sent_by, status_code}
 use Rattle.mscp_wire.specs.declared.answer.Answer.{Answer}
 use Rattle.mscp_wire.specs.declared.identity.Identity.{Identity}
 use Rattle.mscp_wire.specs.declared.moment.Moment.{Moment}
 use Rattle.mscp_wire.specs.declared.moment.Moment.TheVariants as moments
 use Rattle.mscp_wire.specs.declared.sent.Sent.{Sent}
+use Rattle.mscp_wire.specs.declared.told.Seen.{Seen}
 use Rattle.mscp_wire.specs.declared.told.State.{State}
 use Rattle.mscp_wire.specs.declared.told.State.TheVariants.{Away, Open, Shared}
 use Rattle.mscp_wire.specs.declared.told.Told.{Told}
@@ -31,16 +32,16 @@ tells_unit e =
     nat_eq (status_code e) 0
     && (nat_eq e.code 0x83 || (nat_eq e.code 0x89 && was_online e) || nat_eq e.code 0x8A)
 
--- two sizes are the same, if both are there
-abbrev pub fits_size : Option ℕ → Option ℕ → Bool
-fits_size (Some one) (Some other) = nat_eq one other
-fits_size one other = true
+-- two numbers are the same, if both are there
+abbrev pub fits : Option ℕ → Option ℕ → Bool
+fits (Some one) (Some other) = nat_eq one other
+fits one other = true
 
 -- an end tells of a unit what is known of it
 abbrev pub agrees : Option Identity → Identity → Bool
 agrees None known = false
 agrees (Some told) known =
-    nat_eq told.identifier known.identifier && nat_eq told.media known.media && fits_size told.size known.size
+    nat_eq told.identifier known.identifier && nat_eq told.media known.media && fits told.size known.size
 
 -- what is known of a unit was told by an end of SET UNIT CHARACTERISTICS alone, and so is this: the unit may not be
 -- online, and another one each time
@@ -153,11 +154,28 @@ told_after via unit told moments.Reset = told_reset
 abbrev pub told : History → Connection → ℕ → Told
 told h via unit = fold (told_after via unit) told_nothing h
 
--- what was told of the unit that a moment's end names
-abbrev pub told_of : (Connection → ℕ → Told) → Moment → Told
-told_of units (moments.Message via b) = told_nothing
-told_of units (moments.End via b) = units via (num b.items 4 2)
-told_of units moments.Reset = told_nothing
+-- ---- what was told of the controller
+
+-- the later of two numbers, if it is there
+abbrev pub later_of : Option ℕ → Option ℕ → Option ℕ
+later_of None known = known
+later_of (Some number) known = Some number
+
+-- its identifier, once a moment more came
+abbrev pub controller_after : Option ℕ → Moment → Option ℕ
+controller_after known (moments.Message via b) = known
+controller_after known (moments.End via b) = later_of (controller_in b.items) known
+controller_after known moments.Reset = None
+
+-- what either host was told of it after a history
+abbrev pub controller : History → Option ℕ
+controller h = fold controller_after None h
+
+-- what was told of the unit that a moment's end names, and of the controller
+abbrev pub seen_of : (Connection → ℕ → Told) → Option ℕ → Moment → Seen
+seen_of units known (moments.Message via b) = record { unit = told_nothing; controller = None }
+seen_of units known (moments.End via b) = record { unit = units via (num b.items 4 2); controller = known }
+seen_of units known moments.Reset = record { unit = told_nothing; controller = None }
 
 -- ---- the units that are kept
 

@@ -29,20 +29,21 @@
 --                                 stay as they are                                            is_same_unit
 --                    State        a transfer and a GET UNIT STATUS succeed, and an ONLINE
 --                                 says that its unit was online, only if the unit is online   suits_state
+--                    Controller   the identifier of the controller stays as it is             fits
 use Rattle.std.specs.Prelude.{◌≡◌, ℕ, ◌+◌, ◌/◌, ◌<◌, Bool, true, false, not, ◌&&◌, ◌||◌, nat_eq, nat_le, nat_lt, if◌then◌else◌, List, [], ◌∷◌, ◌++◌, length, map, take, drop, position, count_by, fold, min, slice_index, slice_index_or, Option, Some, None}
 use Rattle.std.specs.List.{list_any}
 use Rattle.mscp_drive.specs.declared.connection.Connection.{Connection}
 use Rattle.mscp_drive.specs.declared.connection.Connection.TheVariants.{First}
-pub use Rattle.mscp_wire.specs.Messages.{History, answer_by, asks_for_next, four_in, identity_in, is_about_another, is_immediate, is_known, is_named, is_ordered, is_required, is_sequential, is_short, is_modified, is_sequential_class, is_transfer, is_transfer_class, is_unknown, is_unknown_class, least_length, least_message, same_connection, sent_by, status_code}
+pub use Rattle.mscp_wire.specs.Messages.{History, answer_by, asks_for_next, controller_in, four_in, identity_in, is_about_another, is_immediate, is_known, is_named, is_ordered, is_required, is_sequential, is_short, is_modified, is_sequential_class, is_transfer, is_transfer_class, is_unknown, is_unknown_class, least_length, least_message, same_connection, sent_by, status_code}
 pub use Rattle.mscp_wire.specs.Polls.{asked_about, asked_by, asking, asks_oldest, has_figure, has_number, hears, is_below, is_hearing, is_it, is_oldest, is_polled, is_refused, left, may_be, may_tell, polled_by, polls, tells, waits_on}
-pub use Rattle.mscp_wire.specs.Units.{Puts, after_other, after_own, agrees, brings, fits_size, is_known_unit, is_moved, is_same_unit, is_single, is_unsure, learns, kept, key, leaves, other_side, says_away, says_online, shares, suits_state, tells_unit, told, told_after, told_after_end, told_after_message, told_nothing, told_of, told_or, told_reset, turned, was_online}
+pub use Rattle.mscp_wire.specs.Units.{Puts, after_other, after_own, agrees, brings, controller, controller_after, fits, is_known_unit, is_moved, is_same_unit, is_single, is_unsure, learns, kept, key, later_of, leaves, other_side, says_away, says_online, seen_of, shares, suits_state, tells_unit, told, told_after, told_after_end, told_after_message, told_nothing, told_or, told_reset, turned, was_online}
 use Rattle.mscp_wire.specs.declared.answer.Answer.{Answer}
 use Rattle.mscp_wire.specs.declared.moment.Moment.{Moment}
 use Rattle.mscp_wire.specs.declared.moment.Moment.TheVariants as moments
 use Rattle.mscp_wire.specs.declared.rule.Rule.{Rule}
 use Rattle.mscp_wire.specs.declared.rule.Rule.TheVariants as rules
 use Rattle.mscp_wire.specs.declared.sent.Sent.{Sent}
-use Rattle.mscp_wire.specs.declared.told.Told.{Told}
+use Rattle.mscp_wire.specs.declared.told.Seen.{Seen}
 
 -- ---- the rules of a host
 
@@ -134,8 +135,8 @@ abbrev pub aborts : Sent → Sent → Bool
 aborts y s =
     same_connection s.connection y.connection && nat_eq s.opcode 1 && is_it s.parameter y.reference
 
--- a command is aborted (2) only while an ABORT of it is outstanding that came after it, so its end stands before that of
--- its ABORT (manual, "Command Messages")
+-- a command is aborted (2) only while an ABORT of it is outstanding that came after it, so its end stands before that
+-- of its ABORT (manual, "Command Messages")
 abbrev pub has_abort : List Sent → Sent → Answer → Bool
 has_abort later y e = not (nat_eq (status_code e) 2) || list_any (aborts y) later
 
@@ -221,17 +222,18 @@ abbrev pub broken_message : Option ℕ → List Sent → Sent → Option Rule
 broken_message credits xs s = unless (is_new xs s) rules.Number (unless (has_credit credits xs s) rules.Credits None)
 
 -- by the body of an end of this command, after which these came
-abbrev pub broken_body : List Sent → Sent → Told → Answer → Option Rule
+abbrev pub broken_body : List Sent → Sent → Seen → Answer → Option Rule
 broken_body later y unit e =
     unless (succeeds e (other_of y e)) rules.Success
     (unless (is_about e (other_of y e)) rules.About
     (unless (has_figure later y e (polled_by y e)) rules.Figure
     (unless (has_count e (count_of y e)) rules.Count
-    (unless (is_same_unit unit e) rules.Identity
-    (unless (suits_state unit.state e) rules.State None)))))
+    (unless (is_same_unit unit.unit e) rules.Identity
+    (unless (suits_state unit.unit.state e) rules.State
+    (unless (fits unit.controller e.controller) rules.Controller None))))))
 
 -- by an end of this command, before and after which these came
-abbrev pub broken_end : List Sent → List Sent → Sent → Told → Answer → Option Rule
+abbrev pub broken_end : List Sent → List Sent → Sent → Seen → Answer → Option Rule
 broken_end earlier later y unit e =
     unless (names_unit y e) rules.Unit
     (unless (has_endcode y e) rules.Endcode
@@ -240,12 +242,13 @@ broken_end earlier later y unit e =
     (unless (passes_none earlier y e) rules.Order (broken_body later y unit e)))))
 
 -- by an end of the command at a place, if it is there
-abbrev pub broken_at : List Sent → Told → Answer → Option ℕ → Option Rule
+abbrev pub broken_at : List Sent → Seen → Answer → Option ℕ → Option Rule
 broken_at xs unit e None = Some rules.Outstanding
 broken_at xs unit e (Some i) = broken_end (take i xs) (drop (i + 1) xs) (command_at xs i) unit e
 
--- by a moment, before which these are outstanding and this was told of its unit, where each host has so many credits
-abbrev pub broken : Option ℕ → List Sent → Told → Moment → Option Rule
+-- by a moment, before which these are outstanding and this was told of its unit and the controller, where each host has
+-- so many credits
+abbrev pub broken : Option ℕ → List Sent → Seen → Moment → Option Rule
 broken credits xs unit (moments.Message via b) =
     unless (is_message b.items) rules.Message (broken_message credits xs (sent_by via b.items))
 broken credits xs unit (moments.End via b) =
@@ -255,7 +258,7 @@ broken credits xs unit moments.Reset = None
 
 -- by a moment after a history
 abbrev pub broken_by : Option ℕ → History → Moment → Option Rule
-broken_by credits h m = broken credits (outstanding h) (told_of (told h) m) m
+broken_by credits h m = broken credits (outstanding h) (seen_of (told h) (controller h) m) m
 
 -- ---- a moment that is right
 
@@ -266,7 +269,7 @@ pub record IsRightMessage (credits : Option ℕ) (xs : List Sent) (b : List ℕ)
   pub credit : has_credit credits xs s ≡ true
 
 -- an end keeps its rules: its command is at place i of those that are outstanding, and this is known of its unit
-pub record IsRightEnd (xs : List Sent) (was : Told) (b : List ℕ) (e : Answer) (i : ℕ) : Type 0 where
+pub record IsRightEnd (xs : List Sent) (was : Seen) (b : List ℕ) (e : Answer) (i : ℕ) : Type 0 where
   pub length : is_long b ≡ true
   pub outstanding : place_of xs e ≡ Some i
   pub unit : names_unit (command_at xs i) e ≡ true
@@ -278,18 +281,19 @@ pub record IsRightEnd (xs : List Sent) (was : Told) (b : List ℕ) (e : Answer) 
   pub about : is_about e (other_of (command_at xs i) e) ≡ true
   pub figure : has_figure (drop (i + 1) xs) (command_at xs i) e (polled_by (command_at xs i) e) ≡ true
   pub count : has_count e (count_of (command_at xs i) e) ≡ true
-  pub identity : is_same_unit was e ≡ true
-  pub state : suits_state was.state e ≡ true
+  pub identity : is_same_unit was.unit e ≡ true
+  pub state : suits_state was.unit.state e ≡ true
+  pub controller : fits was.controller e.controller ≡ true
 
--- a moment is right, before which these are outstanding and this was told of its unit
-abbrev pub IsRightAfter : Option ℕ → List Sent → Told → Moment → Type 0
+-- a moment is right, before which these are outstanding and this was told of its unit and the controller
+abbrev pub IsRightAfter : Option ℕ → List Sent → Seen → Moment → Type 0
 IsRightAfter credits xs unit (moments.Message via b) = IsRightMessage credits xs b.items (sent_by via b.items)
 IsRightAfter credits xs unit (moments.End via b) = (i : ℕ) × IsRightEnd xs unit b.items (answer_by via b.items) i
 IsRightAfter credits xs unit moments.Reset = Unit {0}
 
 -- a moment is right after a history
 abbrev pub IsRight : Option ℕ → History → Moment → Type 0
-IsRight credits h m = IsRightAfter credits (outstanding h) (told_of (told h) m) m
+IsRight credits h m = IsRightAfter credits (outstanding h) (seen_of (told h) (controller h) m) m
 
 -- the moment at a position. Past the end there is none that asks for anything
 abbrev pub moment_at : History → ℕ → Moment

@@ -6,7 +6,7 @@ ghost use Rattle.mscp_wire.specs.Wire as wire;
 use crate::identity::Identity;
 use crate::sent::{Sent, four_in, is_required, is_transfer, is_unknown};
 use mscp_drive::Connection;
-use mscp_packet::fields::{four_at, two_at};
+use mscp_packet::fields::{eight_at, four_at, two_at};
 
 /// The opcode of an ABORT.
 pub const ABORT: u8 = 1;
@@ -29,6 +29,8 @@ pub struct Answer {
     /// What it says of its unit, if it has 44 bytes at least: only an end of GET UNIT STATUS, ONLINE or SET UNIT CHARACTERISTICS
     /// does.
     pub identity: Option<Identity>,
+    /// The identifier of the controller, if a SET CONTROLLER CHARACTERISTICS succeeded.
+    pub controller: Option<u64>,
 }
 
 /// The fewest bytes of an end with this endcode (manual, "End Messages").
@@ -66,9 +68,21 @@ fn may_have(opcode: u8, code: u16) -> bool
         && !((opcode == 8 || opcode == 9) && code == 4)
 }
 
+/// The identifier of the controller, if the end of a SET CONTROLLER CHARACTERISTICS tells it.
+fn controller_in(b: &[u8]) -> Option<u64>
+    requires { 12 ≤ length b.now }
+    ensures { result ≡ wire.controller_in b.now }
+{
+    if b[8] == 0x84 && two_at(b, 10) % 32 == 0 && b.len() >= 28 {
+        Some(eight_at(b, 20))
+    } else {
+        None
+    }
+}
+
 /// Whether two sizes are the same, if both are there.
 fn fits_size(one: Option<u32>, other: Option<u32>) -> bool
-    ensures { result ≡ wire.fits_size one other }
+    ensures { result ≡ wire.fits one other }
 {
     match (one, other) {
         (Some(one), Some(other)) => one == other,
@@ -115,6 +129,7 @@ impl Answer {
             parameter: four_in(b, 12),
             figure: four_in(b, 16),
             identity: Identity::of(b),
+            controller: controller_in(b),
         }
     }
 

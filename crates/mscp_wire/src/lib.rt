@@ -28,7 +28,7 @@ pub use crate::log::{Reading, Verdict, judge_wire};
 pub use crate::moment::Moment;
 pub use crate::rule::Rule;
 pub use crate::sent::{Asked, Sent};
-pub use crate::told::{State, Told};
+pub use crate::told::{Seen, State, Told};
 pub use crate::totals::{Counts, Totals};
 pub use crate::units::Units;
 pub use crate::wrong::Wrong;

@@ -27,14 +27,16 @@ pub enum Rule {
     Success,
     /// The end of an ABORT or of a GET COMMAND STATUS names the command that it is about.
     About,
-    /// The figure of the oldest command falls from poll to poll. It is 0 if no such command is outstanding, and may be if
-    /// its end is on the way.
+    /// The figure of the oldest command falls from poll to poll. It is 0 if no such command is outstanding, and may be
+    /// if its end is on the way.
     Figure,
     /// No more bytes are moved than were asked for, and all of them if the status is Success.
     Count,
     /// While a unit is online its identifier, media type and size stay as they are.
     Identity,
-    /// A transfer and a GET UNIT STATUS succeed, and an ONLINE says that its unit was online already, only if the unit is
-    /// online.
+    /// A transfer and a GET UNIT STATUS succeed, and an ONLINE says that its unit was online already, only if the unit
+    /// is online.
     State,
+    /// The identifier of the controller stays as it is.
+    Controller,
 }

@@ -27,6 +27,37 @@ pub struct Told {
     pub state: State,
 }
 
+/// What was told before an end came.
+#[derive(Clone, Copy)]
+pub struct Seen {
+    /// Of the unit that it names.
+    pub unit: Told,
+    /// The identifier of the controller, if that was told.
+    pub controller: Option<u64>,
+}
+
+/// The later of two numbers, if it is there.
+pub fn later_of(new: Option<u64>, known: Option<u64>) -> Option<u64>
+    ensures { result ≡ wire.later_of new known }
+{
+    match new {
+        Some(new) => Some(new),
+        None => known,
+    }
+}
+
+impl Seen {
+    /// Whether an end tells the identifier of the controller that was told.
+    pub fn is_same_controller(&self, answer: &Answer) -> bool
+        ensures { result ≡ wire.fits self.now.controller answer.now.controller }
+    {
+        match (self.controller, answer.controller) {
+            (Some(known), Some(told)) => known == told,
+            _ => true,
+        }
+    }
+}
+
 impl State {
     /// The state once an end told another.
     fn turned(self, new: State) -> State

@@ -73,6 +73,8 @@ rule_name rules.Count = codes "byte count"
 rule_name rules.Identity = codes "identity"
 -- a transfer and a GET UNIT STATUS succeed, and an ONLINE has 0x0100, only if the unit is online
 rule_name rules.State = codes "state"
+-- the controller's identifier stays the same
+rule_name rules.Controller = codes "controller"
 
 -- whose rule it is
 abbrev pub breaker_name : Rule → List ℕ
@@ -101,6 +103,7 @@ rule_text rules.Count = codes "as many bytes are moved as were asked for, and fe
 rule_text rules.Identity = codes "the identifier, media type and size of a unit stay the same while it is online"
 rule_text rules.State =
     codes "a transfer and a GET UNIT STATUS succeed, and an ONLINE has 0x0100, only if the unit is online"
+rule_text rules.Controller = codes "the identifier of the controller stays the same"
 
 -- the line of the command that is meant, if there is one
 abbrev pub meant_text : Option Sent → List ℕ

@@ -65,6 +65,7 @@ fn rule_name(rule: Rule) -> &'static str
         Rule::Count => "byte count",
         Rule::Identity => "identity",
         Rule::State => "state",
+        Rule::Controller => "controller",
     }
 }
 
@@ -113,6 +114,7 @@ fn rule_text(rule: Rule) -> &'static str
         Rule::State => {
             "a transfer and a GET UNIT STATUS succeed, and an ONLINE has 0x0100, only if the unit is online"
         }
+        Rule::Controller => "the identifier of the controller stays the same",
     }
 }
 
