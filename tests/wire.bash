@@ -436,6 +436,8 @@ unit_states() {
             wire_is_right '8 4 0 4 0' '' "${up[@]}" "$away" "$(online 4 5)" "$(tells_online 4 0 3 4 800)" "${read[@]}" || return
     done
     wire_is_right '6 3 0 3 0' '' "${up[@]}" "$(available 3 5)" "end $(packet 12 3 5 136 1)" "${read[@]}" &&
+        wire_is_right '6 3 0 3 0' '' "${up[@]}" "$(available 3 5)" "end $(packet 12 3 5 136 512)" "${read[@]}" &&
+        wire_is_right '6 3 0 3 0' '' "${up[@]}" "send $(packet 12 3 5 47 0)" "end $(packet 12 3 5 175 4)" "${read[@]}" &&
         wire_is_right '6 3 0 3 0' '' "$(online 1)" "$(onlined 1 0)" "$(unit_status 3 7 1)" "end $(packet 48 3 0 131 3)" \
             "$(reading 2)" "$(moved 2 0 1024)"
 }

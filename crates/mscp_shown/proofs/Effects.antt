@@ -10,7 +10,7 @@ use Rattle.mscp_queue.specs.Orders.{endcode}
 use Rattle.mscp_queue.specs.Outcomes.{outcome_status}
 use Rattle.mscp_controller.specs.Arrival.{is_immediate, move_fault, order_fault, unit_fault}
 use Rattle.mscp_controller.specs.Outcomes.{answer_status, outcome_of, own_end_with}
-use Rattle.mscp_wire.specs.Wire.{is_moved}
+use Rattle.mscp_wire.specs.Wire.{is_moved, is_of_unit}
 use Rattle.mscp_wire.specs.declared.sent.Sent.{Sent}
 use Rattle.mscp_shown.proofs.Saying.{Says}
 use Rattle.mscp_shown.proofs.Suiting.{IsFault, refused_apart, valid_order}
@@ -25,8 +25,9 @@ online_of code status =
 -- or that it isn't
 abbrev pub away_of : ℕ → ℕ → Bool
 away_of code status =
-    (nat_eq (status % 32) 0 && nat_eq code 0x88) || nat_eq (status % 32) 4
-    || (nat_eq (status % 32) 3 && not (nat_eq code 0x83))
+    (nat_eq (status % 32) 0 && (nat_eq code 0x88 && nat_eq (status / 512 % 2) 0))
+    || (nat_eq (status % 32) 4 && (is_of_unit code || nat_eq code 0x83))
+    || (nat_eq (status % 32) 3 && is_of_unit code)
 
 -- or it brings it online
 abbrev pub brings_of : ℕ → ℕ → Bool
@@ -57,11 +58,15 @@ no_success code status n e z =
 not_away : (code status n : ℕ) → status % 32 ≡ n → nat_eq n 0 ≡ false → nat_eq n 4 ≡ false → nat_eq n 3 ≡ false
     → away_of code status ≡ false
 not_away code status n e z f t =
-    ap (λ k. (nat_eq k 0 && nat_eq code 0x88) || nat_eq k 4 || (nat_eq k 3 && not (nat_eq code 0x83))) e
-    ∙ all_false (nat_eq n 0) (nat_eq n 4) (nat_eq n 3) (nat_eq code 0x88) (not (nat_eq code 0x83)) z f t
+    ap (λ k. (nat_eq k 0 && (nat_eq code 0x88 && nat_eq (status / 512 % 2) 0)) || (nat_eq k 4 && (is_of_unit code || nat_eq code 0x83))
+    || (nat_eq k 3 && is_of_unit code)) e
+    ∙ all_false (nat_eq n 0) (nat_eq n 4) (nat_eq n 3) (nat_eq code 0x88 && nat_eq (status / 512 % 2) 0)
+    (is_of_unit code || nat_eq code 0x83)
+    (is_of_unit code) z f t
   where
-    all_false : (a b c x y : Bool) → a ≡ false → b ≡ false → c ≡ false → ((a && x) || b || (c && y)) ≡ false
-    all_false a b c x y h k l = grind arith
+    all_false : (a b c x w y : Bool) → a ≡ false → b ≡ false → c ≡ false
+        → ((a && x) || (b && w) || (c && y)) ≡ false
+    all_false a b c x w y h k l = grind arith
 
 pub quiet_effects : (online : Bool) (code status n : ℕ) → status % 32 ≡ n → nat_eq n 0 ≡ false → nat_eq n 4 ≡ false
     → nat_eq n 3 ≡ false → Effects online online code status
@@ -170,19 +175,19 @@ bad_effects online new code status h same = record {
     eqb-true (status % 32) 0 (and_parts (nat_eq (status % 32) 0)
         (is_moved code || nat_eq code 0x83 || (nat_eq code 0x89 && nat_eq (status / 256 % 2) 1)) e).0,
   ));
-  away = λ e. absurd (which (nat_eq (status % 32) 0) (nat_eq code 0x88) (nat_eq (status % 32) 4)
-      (nat_eq (status % 32) 3) (not (nat_eq code 0x83)) e
+  away = λ e. absurd (which (nat_eq (status % 32) 0) (nat_eq code 0x88 && nat_eq (status / 512 % 2) 0) (nat_eq (status % 32) 4)
+      (is_of_unit code || nat_eq code 0x83) (nat_eq (status % 32) 3) (is_of_unit code) e
       (λ z. omega (arith, h, eqb-true (status % 32) 0 z)) (λ z. omega (arith, h, eqb-true (status % 32) 4 z))
       (λ z. omega (arith, h, eqb-true (status % 32) 3 z)));
   stays = λ n e. same ∙ e;
 }
   where
-    which : (a x b c y : Bool) → ((a && x) || b || (c && y)) ≡ true → (a ≡ true → ⊥) → (b ≡ true → ⊥)
+    which : (a x b w c y : Bool) → ((a && x) || (b && w) || (c && y)) ≡ true → (a ≡ true → ⊥) → (b ≡ true → ⊥)
         → (c ≡ true → ⊥) → ⊥
-    which true x b c y e p q r = p refl
-    which false x true c y e p q r = q refl
-    which false x false true y e p q r = r refl
-    which false x false false y e p q r = absurd (false≢true e)
+    which true x b w c y e p q r = p refl
+    which false x true w c y e p q r = q refl
+    which false x false w true y e p q r = r refl
+    which false x false w false y e p q r = absurd (false≢true e)
 
 moved_code : (kind : MoveKind) → away_of (bit_or (move_byte kind) 0x80) 0 ≡ false
 moved_code kind = grind arith

@@ -60,20 +60,28 @@ is_same_unit told e = is_known_unit told told.identity e
 abbrev pub brings : Answer → Bool
 brings e = nat_eq e.code 0x89 && nat_eq (status_code e) 0
 
--- an end says that its unit isn't online: one of AVAILABLE that succeeded, or a status Unit-Available (4) or
--- Unit-Offline (3). That of a GET UNIT STATUS may name unit 0, as there is no unit
-abbrev pub says_away : Answer → Bool
-says_away e =
-    (nat_eq (status_code e) 0 && nat_eq e.code 0x88) || nat_eq (status_code e) 4
-    || (nat_eq (status_code e) 3 && not (nat_eq e.code 0x83))
-
--- after an end nothing is known of what its unit is
-abbrev pub leaves : Answer → Bool
-leaves e = says_away e || nat_eq (status_code e) 3
-
 -- an end with this endcode is one of a transfer
 abbrev pub is_moved : ℕ → Bool
 is_moved code = nat_eq code 0x90 || nat_eq code 0x92 || nat_eq code 0xA0 || nat_eq code 0xA1 || nat_eq code 0xA2
+
+-- or of another command that waits for its unit: AVAILABLE, ONLINE or SET UNIT CHARACTERISTICS
+abbrev pub is_of_unit : ℕ → Bool
+is_of_unit code = is_moved code || nat_eq code 0x88 || nat_eq code 0x89 || nat_eq code 0x8A
+
+-- an end of such a command, or of a GET UNIT STATUS, says that its unit isn't online: one of AVAILABLE that succeeded,
+-- without the sub-code that says that the unit is still online (0x0200), or a status Unit-Available (4) or Unit-Offline
+-- (3). That of a GET UNIT STATUS may name unit 0, as there is no unit
+abbrev pub says_away : Answer → Bool
+says_away e =
+    (nat_eq (status_code e) 0 && (nat_eq e.code 0x88 && nat_eq (e.status / 512 % 2) 0))
+    || (nat_eq (status_code e) 4 && (is_of_unit e.code || nat_eq e.code 0x83))
+    || (nat_eq (status_code e) 3 && is_of_unit e.code)
+
+-- after an end nothing is known of what its unit is
+abbrev pub leaves : Answer → Bool
+leaves e =
+    says_away e || nat_eq (status_code e) 4 || nat_eq (status_code e) 3
+    || (nat_eq (status_code e) 0 && nat_eq e.code 0x88)
 
 -- an end says that its unit is online: one of a transfer or a GET UNIT STATUS that succeeded, or one of ONLINE that
 -- says that it was (manual, "Unit States")

@@ -307,22 +307,6 @@ impl Answer {
         self.code == 0x89 && self.status_code() == 0
     }
 
-    /// Whether it says that its unit isn't online.
-    pub fn says_away(&self) -> bool
-        ensures { result ≡ wire.says_away self.now }
-    {
-        (self.status_code() == 0 && self.code == 0x88)
-            || self.status_code() == 4
-            || (self.status_code() == 3 && self.code != 0x83)
-    }
-
-    /// Whether nothing is known after it of what its unit is.
-    pub fn leaves(&self) -> bool
-        ensures { result ≡ wire.leaves self.now }
-    {
-        self.says_away() || self.status_code() == 3
-    }
-
     /// Whether it is one of a transfer.
     fn is_moved(&self) -> bool
         ensures { result ≡ wire.is_moved self.now.code }
@@ -332,6 +316,32 @@ impl Answer {
             || self.code == 0xA0
             || self.code == 0xA1
             || self.code == 0xA2
+    }
+
+    /// Whether it is one of a command that waits for its unit.
+    fn is_of_unit(&self) -> bool
+        ensures { result ≡ wire.is_of_unit self.now.code }
+    {
+        self.is_moved() || self.code == 0x88 || self.code == 0x89 || self.code == 0x8A
+    }
+
+    /// Whether it says that its unit isn't online.
+    pub fn says_away(&self) -> bool
+        ensures { result ≡ wire.says_away self.now }
+    {
+        (self.status_code() == 0 && (self.code == 0x88 && self.status / 512 % 2 == 0))
+            || (self.status_code() == 4 && (self.is_of_unit() || self.code == 0x83))
+            || (self.status_code() == 3 && self.is_of_unit())
+    }
+
+    /// Whether nothing is known after it of what its unit is.
+    pub fn leaves(&self) -> bool
+        ensures { result ≡ wire.leaves self.now }
+    {
+        self.says_away()
+            || self.status_code() == 4
+            || self.status_code() == 3
+            || (self.status_code() == 0 && self.code == 0x88)
     }
 
     /// Whether it says that its unit is online.
