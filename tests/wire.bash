@@ -167,23 +167,72 @@ end_units() {
 }
 
 endcodes() {
-    wire_breaks 'controller: endcode' 'READ 1 of unit 0' "$(reading 1)" "end $(packet 32 1 0 162 0 1024)" &&
-        wire_is_right '2 1 0 1 0' '' "$(reading 1)" "end $(packet 12 1 0 128 2049)"
+    local opcode
+    wire_breaks 'controller: endcode' 'READ 1 of unit 0' "$(reading 1)" "end $(packet 32 1 0 162 0 1024)" || return
+    for opcode in 1 2 3 4 8 9 10 33 34; do
+        wire_breaks 'controller: endcode' "$(opcode_named "$opcode") 1 of unit 0" "send $(packet 32 1 0 "$opcode" 0)" \
+            "end $(packet 12 1 0 128 2049)" || return
+    done
+    for opcode in 11 16 17 18 19 20 32 47; do
+        wire_is_right '2 1 0 1 0' '' "send $(packet 32 1 0 "$opcode" 0)" "end $(packet 12 1 0 128 2049)" || return
+    done
+}
+
+# What the judge calls an opcode that no controller may leave out.
+opcode_named() {
+    case $1 in
+        1) echo ABORT ;;
+        2) echo GET COMMAND STATUS ;;
+        3) echo GET UNIT STATUS ;;
+        4) echo SET CONTROLLER CHARACTERISTICS ;;
+        8) echo AVAILABLE ;;
+        9) echo ONLINE ;;
+        10) echo SET UNIT CHARACTERISTICS ;;
+        33) echo READ ;;
+        34) echo WRITE ;;
+    esac
 }
 
 statuses() {
-    wire_breaks 'controller: status' 'READ 1 of unit 0' "$(reading 1)" "end $(packet 12 1 0 128 0)" &&
+    wire_breaks 'controller: status' 'ERASE 1 of unit 0' "send $(packet 32 1 0 18 0)" "end $(packet 12 1 0 128 0)" &&
+        wire_breaks 'controller: status' 'GET UNIT STATUS 1 of unit 3' "$(unit_status 1 3 0)" "end $(packet 48 1 3 131 6)" &&
+        wire_is_right '4 2 0 2 0' '' "$(unit_status 1 3 0)" "end $(packet 48 1 3 131 4)" "$(unit_status 2 3 0)" \
+            "end $(packet 48 2 3 131 11)" &&
         wire_breaks 'controller: status' 'READ 1 of unit 0' "$(reading 1)" "$(moved 1 12 0)" &&
         wire_breaks 'controller: status' 'ONLINE 1 of unit 0' "$(online 1)" "$(onlined 1 4)" &&
         wire_breaks 'controller: status' 'ABORT 1 of unit 0' "$(abort 1 9)" "$(aborted 1 3 9)" &&
         wire_is_right '2 1 0 1 0' '' "send $(packet 12 1 0 47 0)" "end $(packet 12 1 0 175 12)" # FORMAT
 }
 
+# What a message is too short for doesn't succeed.
+short_messages() {
+    wire_breaks 'controller: status' 'READ 1 of unit 0' "send $(packet 31 1 0 33 0 0)" "$(moved 1 0 0)" &&
+        wire_breaks 'controller: status' 'ABORT 1 of unit 0' "send $(packet 15 1 0 1 0)" "$(aborted 1 0 0)" &&
+        wire_breaks 'controller: status' 'SET CONTROLLER CHARACTERISTICS 1 of unit 0' "send $(packet 13 1 0 4 0)" \
+            "end $(packet 28 1 0 132 0)" &&
+        wire_is_right '2 1 0 1 0' '' "send $(packet 31 1 0 33 0)" "$(moved 1 1 0)" &&
+        wire_is_right '2 1 0 1 0' '' "send $(packet 14 1 0 4 0)" "end $(packet 28 1 0 132 0)" &&
+        wire_is_right '2 1 0 1 0' '' "send $(packet 12 1 0 47 0)" "end $(packet 12 1 0 175 0)"
+}
+
+# Only an ONLINE tells that its unit was online already, and Invalid Command names a byte of its message.
+subcodes() {
+    wire_breaks 'controller: status' 'READ 1 of unit 0' "$(reading 1)" "$(moved 1 256 1024)" &&
+        wire_breaks 'controller: status' 'AVAILABLE 1 of unit 0' "$(available 1)" "$(availed 1 256)" &&
+        wire_is_right '2 1 0 1 0' '' "$(available 1)" "$(availed 1 512)" &&
+        wire_is_right '2 1 0 1 0' '' "send $(packet 12 1 0 47 0)" "end $(packet 12 1 0 175 256)" &&
+        wire_breaks 'controller: status' 'AVAILABLE 1 of unit 0' "$(available 1)" "$(availed 1 $((12 * 256 + 1)))" &&
+        wire_is_right '2 1 0 1 0' '' "$(available 1)" "$(availed 1 $((11 * 256 + 1)))" &&
+        wire_is_right '2 1 0 1 0' '' "send $(packet 12 1 0 33 0)" "$(moved 1 $((12 * 256 + 1)) 0)"
+}
+
 aborts_without_an_abort() {
     wire_breaks 'controller: aborted' 'READ 1 of unit 0' "$(reading 1)" "$(moved 1 2 0)" &&
         wire_breaks 'controller: aborted' 'READ 1 of unit 0' "$(reading 1)" "$(abort 2 1)" "$(aborted 2 0 1)" "$(moved 1 2 0)" &&
         wire_breaks 'controller: aborted' 'READ 1 of unit 0' "$(reading 1)" "$(abort 2 3)" "$(moved 1 2 0)" &&
-        wire_breaks 'controller: aborted' 'READ 1 of unit 0' "$(reading 1)" "second $(abort 2 1)" "$(moved 1 2 0)"
+        wire_breaks 'controller: aborted' 'READ 1 of unit 0' "$(reading 1)" "second $(abort 2 1)" "$(moved 1 2 0)" &&
+        wire_breaks 'controller: aborted' 'READ 1 of unit 0' "$(abort 2 1)" "$(reading 1)" "$(moved 1 2 0)" &&
+        wire_is_right '4 2 0 2 0' '' "$(reading 1)" "$(abort 2 1)" "$(moved 1 2 0)" "$(aborted 2 0 1)"
 }
 
 orders() {
@@ -193,6 +242,21 @@ orders() {
         wire_is_right '5 3 0 2 0' 'outstanding: ONLINE 1 of unit 0' "$(online 1)" "$(reading 2 1)" "$(moved 2 0 1024 1)" \
             "$(reading 3)" "$(moved 3 1 0)" &&
         wire_is_right '3 2 0 1 0' 'outstanding: READ 1 of unit 0' "$(reading 1)" "$(reading 2)" "$(moved 2 0 1024)"
+}
+
+# Commands that ask nothing of a disk, and that this project doesn't know, keep their place too, and others don't.
+orders_of_others() {
+    local opcode
+    for opcode in 11 17 19 20; do
+        wire_breaks 'controller: order' "command of an unknown opcode 2 of unit 0" "$(online 1)" \
+            "send $(packet 32 2 0 "$opcode" 0)" "end $(packet 32 2 0 $((opcode + 128)) 0)" &&
+            wire_breaks 'controller: order' 'AVAILABLE 2 of unit 0' "send $(packet 32 1 0 "$opcode" 0)" "$(available 2)" \
+                "$(availed 2 0)" &&
+            wire_is_right '3 2 0 1 0' 'outstanding: READ 1 of unit 0' "$(reading 1)" "send $(packet 32 2 0 "$opcode" 0)" \
+                "end $(packet 32 2 0 $((opcode + 128)) 0)" || return
+    done
+    wire_is_right '3 2 0 1 0' 'outstanding: ONLINE 1 of unit 0' "$(online 1)" "send $(packet 12 2 0 47 0)" \
+        "end $(packet 12 2 0 175 0)"
 }
 
 successes() {
@@ -291,13 +355,36 @@ identities() {
         wire_is_right '4 2 0 2 0' '' "${online[@]}" "$set" "$(tells_set 2 1 0 0 0)"
 }
 
+# A GET UNIT STATUS tells it too, but no size, and so does a SET UNIT CHARACTERISTICS to what comes behind it, unless that is
+# another one: the unit may be available.
+identities_by_others() {
+    local set asks told
+    set="send $(packet 36 2 5 10 0)" asks=$(unit_status 3 5 0)
+    told=("$(unit_status 1 5 0)" "$(tells_status 1 0 3 4 0)")
+    wire_breaks 'controller: identity' 'GET UNIT STATUS 3 of unit 5' "${told[@]}" "$asks" "$(tells_status 3 0 3 5 0)" &&
+        wire_breaks 'controller: identity' 'SET UNIT CHARACTERISTICS 2 of unit 5' "${told[@]}" "$set" "$(tells_set 2 0 2 4 800)" &&
+        wire_breaks 'controller: identity' 'ONLINE 4 of unit 5' "${told[@]}" "$(online 4 5)" "$(tells_online 4 256 2 4 800)" &&
+        wire_is_right '4 2 0 2 0' '' "${told[@]}" "$set" "$(tells_set 2 0 3 4 800)" &&
+        wire_is_right '4 2 0 2 0' '' "${told[@]}" "$(online 4 5)" "$(tells_online 4 0 9 9 9)" &&
+        wire_breaks 'controller: identity' 'GET UNIT STATUS 3 of unit 5' "$set" "$(tells_set 2 0 3 4 800)" "$asks" \
+            "$(tells_status 3 0 3 5 0)" &&
+        wire_breaks 'controller: identity' 'ONLINE 4 of unit 5' "$set" "$(tells_set 2 0 3 4 800)" "$(online 4 5)" \
+            "$(tells_online 4 256 3 4 801)" &&
+        wire_is_right '4 2 0 2 0' '' "$set" "$(tells_set 2 0 3 4 800)" "$set" "$(tells_set 2 0 9 9 9)" &&
+        wire_is_right '8 4 0 4 0' '' "$set" "$(tells_set 2 0 3 4 800)" "$set" "$(tells_set 2 0 9 9 9)" "$asks" \
+            "$(tells_status 3 0 9 9 0)" "$set" "$(tells_set 2 0 9 9 1)" &&
+        wire_is_right '5 3 0 2 0' 'outstanding: second ONLINE 4 of unit 5' "second $(online 4 5)" "${told[@]}" "$asks" \
+            "$(tells_status 3 0 9 9 0)"
+}
+
 # Where a unit isn't online any more, or to another host, it may be another.
 identities_end() {
     local online=("$(online 1 5)" "$(tells_online 1 0 3 4 800)") other=("$(online 2 5)" "$(tells_online 2 256 9 9 9)")
-    wire_is_right '6 3 0 3 0' '' "${online[@]}" "$(available 3 5)" "end $(packet 12 3 5 136 0)" "${other[@]}" &&
-        wire_is_right '6 3 0 3 0' '' "${online[@]}" "$(reading 3 5)" "$(moved 3 3 0 5)" "${other[@]}" &&
-        wire_is_right '6 3 0 3 0' '' "${online[@]}" "$(reading 3 5)" "$(moved 3 4 0 5)" "${other[@]}" &&
-        wire_is_right '5 2 0 2 1' '' "${online[@]}" reset "${other[@]}" &&
+    local set=("send $(packet 36 2 5 10 0)" "$(tells_set 2 0 9 9 9)")
+    wire_is_right '6 3 0 3 0' '' "${online[@]}" "$(available 3 5)" "end $(packet 12 3 5 136 0)" "${set[@]}" &&
+        wire_is_right '6 3 0 3 0' '' "${online[@]}" "$(reading 3 5)" "$(moved 3 3 0 5)" "${set[@]}" &&
+        wire_is_right '6 3 0 3 0' '' "${online[@]}" "$(reading 3 5)" "$(moved 3 4 0 5)" "${set[@]}" &&
+        wire_is_right '5 2 0 2 1' '' "${online[@]}" reset "${set[@]}" &&
         wire_is_right '4 2 0 2 0' '' "${online[@]}" "${other[0]}" "$(tells_online 2 0 9 9 9)" &&
         wire_is_right '4 2 0 2 0' '' "${online[@]}" "${other[0]}" "$(tells_online 2 1024 9 9 9)" &&
         wire_is_right '4 2 0 2 0' '' "${online[@]}" "${other[0]}" "$(tells_online 2 128 9 9 9)" &&
@@ -309,6 +396,61 @@ identities_end() {
         wire_is_right '4 2 0 2 0' '' "${online[@]}" "second ${other[0]}" "second ${other[1]}" &&
         wire_breaks 'controller: identity' 'ONLINE 2 of unit 5' "${online[@]}" "$(available 3 5)" \
             "end $(packet 12 3 5 136 1)" "${other[@]}"
+}
+
+# A SET CONTROLLER CHARACTERISTICS that succeeds tells the controller's identifier, of low and high words, to both hosts.
+controllers() {
+    local set="send $(packet 32 2 0 4 0)" told=("send $(packet 32 1 0 4 0)" "end $(packet 28 1 0 132 0 0 60 7 5)")
+    wire_breaks 'controller: controller' 'SET CONTROLLER CHARACTERISTICS 2 of unit 0' "${told[@]}" "$set" \
+        "end $(packet 28 2 0 132 0 0 60 8 5)" &&
+        wire_breaks 'controller: controller' 'second SET CONTROLLER CHARACTERISTICS 2 of unit 0' "${told[@]}" "second $set" \
+            "second end $(packet 28 2 0 132 0 0 60 7 6)" &&
+        wire_is_right '4 2 0 2 0' '' "${told[@]}" "$set" "end $(packet 28 2 0 132 0 0 61 7 5)" &&
+        wire_is_right '4 2 0 2 0' '' "${told[@]}" "$set" "end $(packet 28 2 0 132 3073)" &&
+        wire_is_right '5 2 0 2 1' '' "${told[@]}" reset "$set" "end $(packet 28 2 0 132 0 0 60 8 5)"
+}
+
+# A unit isn't online after a reset, or once it is told to be available or offline, until an ONLINE of its host succeeds.
+# Nothing is known before.
+unit_states() {
+    local away up=("$(online 1 5)" "$(tells_online 1 0 3 4 800)") read=("$(reading 9 5)" "$(moved 9 0 1024 5)")
+    wire_breaks 'controller: state' 'READ 9 of unit 5' reset "${read[@]}" &&
+        wire_breaks 'controller: state' 'ONLINE 1 of unit 5' reset "$(online 1 5)" "$(tells_online 1 256 3 4 800)" &&
+        wire_breaks 'controller: state' 'GET UNIT STATUS 1 of unit 5' reset "$(unit_status 1 5 0)" \
+            "$(tells_status 1 0 3 4 0)" &&
+        wire_breaks 'controller: state' 'WRITE 2 of unit 5' reset "send $(packet 32 2 5 34 0 512)" \
+            "end $(packet 32 2 5 162 0 512)" &&
+        wire_is_right '5 2 0 2 1' '' reset "${up[@]}" "${read[@]}" &&
+        wire_is_right '3 1 0 1 1' '' reset "$(reading 9 5)" "$(moved 9 4 0 5)" &&
+        wire_is_right '3 1 0 1 1' '' reset "send $(packet 36 2 5 10 0)" "$(tells_set 2 0 3 4 800)" &&
+        wire_breaks 'controller: state' 'READ 9 of unit 5' reset "${up[@]}" reset "${read[@]}" &&
+        wire_is_right '5 2 0 2 1' '' reset "$(online 1)" "$(onlined 1 0)" "$(reading 2)" "$(moved 2 0 1024)" &&
+        wire_breaks 'controller: state' 'READ 2 of unit 5' reset "$(online 1)" "$(onlined 1 0)" "$(reading 2 5)" \
+            "$(moved 2 0 1024 5)" || return
+    # Each of these ends says that unit 5 isn't online.
+    for away in "$(available 3 5)"$'\n'"end $(packet 12 3 5 136 0)" "$(reading 3 5)"$'\n'"$(moved 3 4 0 5)" \
+        "$(reading 3 5)"$'\n'"$(moved 3 3 0 5)" "$(unit_status 3 5 0)"$'\n'"$(tells_status 3 4 3 4 0)"; do
+        wire_breaks 'controller: state' 'READ 9 of unit 5' "${up[@]}" "$away" "${read[@]}" &&
+            wire_breaks 'controller: state' 'ONLINE 4 of unit 5' "${up[@]}" "$away" "$(online 4 5)" \
+                "$(tells_online 4 256 3 4 800)" &&
+            wire_is_right '8 4 0 4 0' '' "${up[@]}" "$away" "$(online 4 5)" "$(tells_online 4 0 3 4 800)" "${read[@]}" || return
+    done
+    wire_is_right '6 3 0 3 0' '' "${up[@]}" "$(available 3 5)" "end $(packet 12 3 5 136 1)" "${read[@]}" &&
+        wire_is_right '6 3 0 3 0' '' "${up[@]}" "$(available 3 5)" "end $(packet 12 3 5 136 512)" "${read[@]}" &&
+        wire_is_right '6 3 0 3 0' '' "${up[@]}" "send $(packet 12 3 5 47 0)" "end $(packet 12 3 5 175 4)" "${read[@]}" &&
+        wire_is_right '6 3 0 3 0' '' "$(online 1)" "$(onlined 1 0)" "$(unit_status 3 7 1)" "end $(packet 48 3 0 131 3)" \
+            "$(reading 2)" "$(moved 2 0 1024)"
+}
+
+# If the other host brings the unit online, its end may be told late.
+units_of_two_hosts() {
+    local read=("second $(reading 9 5)" "second $(moved 9 0 1024 5)")
+    wire_is_right '4 2 0 1 1' 'outstanding: ONLINE 1 of unit 5' reset "$(online 1 5)" "${read[@]}" &&
+        wire_is_right '6 3 0 2 1' 'outstanding: ONLINE 1 of unit 5' reset "$(online 1 5)" "second $(available 2 5)" \
+            "second end $(packet 12 2 5 136 0)" "${read[@]}" &&
+        wire_breaks 'controller: state' 'second READ 9 of unit 5' reset "$(online 1 6)" "${read[@]}" &&
+        wire_breaks 'controller: state' 'second READ 9 of unit 5' reset "$(available 1 5)" "${read[@]}" &&
+        wire_breaks 'controller: state' 'READ 9 of unit 5' reset "$(online 1 5)" reset "$(reading 9 5)" "$(moved 9 0 1024 5)"
 }
 
 # The lines are no log of the wire, for this reason.

@@ -3,12 +3,15 @@ use Rattle.mscp_controller.proofs.Basics.{◌≡◌, ◌≢◌, ◌⊎◌, inl, 
 use Rattle.std.proofs.Common.{inr}
 use Rattle.std.specs.Prelude.{◌%◌}
 use Rattle.mscp_packet.specs.declared.command.Order.TheVariants as orders
+use Rattle.mscp_queue.proofs.Lists.{pairs_append}
 use Rattle.mscp_queue.specs.Outcomes.{outcome_status}
+use Rattle.mscp_queue.specs.Pairs.{Pairs}
 use Rattle.mscp_controller.specs.Outcomes.{answer_status, own_end_with}
 use Rattle.mscp_wire.specs.Wire.{is_named}
 use Rattle.mscp_wire.specs.declared.answer.Answer.{Answer}
 use Rattle.mscp_wire.specs.declared.sent.Sent.{Sent}
 use Rattle.mscp_shown.proofs.Strict.{after_end}
+use Rattle.mscp_shown.proofs.Ordering.{pairs_after}
 use Rattle.mscp_shown.proofs.Owners.{IsOnly, only_after, only_push}
 use Rattle.mscp_shown.proofs.Saying.{Says}
 use Rattle.mscp_shown.proofs.Suiting.{IsFault, refused_apart}
@@ -22,9 +25,13 @@ AnyBy P (x ∷ xs) = P x ⊎ AnyBy P xs
 abbrev pub IsAbort : ℕ → Sent → Type 0
 IsAbort n s = (s.opcode ≡ 1) × (s.parameter ≡ Some n)
 
--- an end is that of such a command
+-- behind the command of an end there is none of this reference number
+abbrev pub IsBehind : Connection → ℕ → End → Sent → Sent → Type 0
+IsBehind via n e earlier s = is_named via e.reference earlier ≡ true → is_named via n s ≡ false
+
+-- an end is that of such a command, which came after the one that it names
 abbrev pub EndsAbort : Connection → List Sent → ℕ → End → Type 0
-EndsAbort via xs n e = IsOnly via e.reference xs (IsAbort n)
+EndsAbort via xs n e = IsOnly via e.reference xs (IsAbort n) × Pairs (IsBehind via n e) xs
 
 -- behind each end of an aborted command stands that of its ABORT
 abbrev pub Aborts : Connection → List Sent → List End → Type 0
@@ -58,6 +65,14 @@ any_at p (x ∷ xs) (suc i) d l h = ap (λ b. p x || b) (any_at p xs i d (omega 
     or_true : (b : Bool) → (b || true) ≡ true
     or_true b = grind arith
 
+-- one that stands behind a place
+pub any_behind : {X : Type 0} (p : X → Bool) (xs : List X) (i j : ℕ) (d : X) → i < j → j < length xs
+    → p (get_or xs j d) ≡ true → list_any p (drop (suc i) xs) ≡ true
+any_behind p [] i j d l m h = absurd (omega (arith, m))
+any_behind p (x ∷ xs) i zero d l m h = absurd (omega (arith, l))
+any_behind p (x ∷ xs) zero (suc j) d l m h = any_at p xs j d (omega (arith, m)) h
+any_behind p (x ∷ xs) (suc i) (suc j) d l m h = any_behind p xs i j d (omega (arith, l)) (omega (arith, m)) h
+
 -- ---- from one list of ends, or of commands, to the next
 pub aborts_append : (via : Connection) (xs : List Sent) (us vs : List End) → Aborts via xs us → Aborts via xs vs
     → Aborts via xs (us ++ vs)
@@ -65,32 +80,37 @@ aborts_append via xs [] vs h k = k
 aborts_append via xs (e ∷ us) vs h k =
     ((λ z. any_front (EndsAbort via xs e.reference) us vs (h.0 z)), aborts_append via xs us vs h.1 k)
 
--- no end under such a number is lost
-abbrev IsKeptEnd : Connection → List Sent → List Sent → End → Type 0
-IsKeptEnd via xs ys e = (n : ℕ) → EndsAbort via xs n e → EndsAbort via ys n e
-
-aborts_weaker : (via : Connection) (xs ys : List Sent) (us : List End) → AllByRecursion (IsKeptEnd via xs ys) us
-    → Aborts via xs us → Aborts via ys us
-aborts_weaker via xs ys [] f h = tt
-aborts_weaker via xs ys (e ∷ us) f h = (
+-- none of these ends is lost
+aborts_weaker : (via : Connection) (xs ys : List Sent) (P : End → Type 0) (us : List End)
+    → ((e k : End) → P e → P k → EndsAbort via xs e.reference k → EndsAbort via ys e.reference k)
+    → AllByRecursion P us → Aborts via xs us → Aborts via ys us
+aborts_weaker via xs ys P [] g f h = tt
+aborts_weaker via xs ys P (e ∷ us) g f h = (
   λ z. any_weaker (EndsAbort via xs e.reference) (EndsAbort via ys e.reference) us
-      (every_weaker (IsKeptEnd via xs ys) (λ k. EndsAbort via xs e.reference k → EndsAbort via ys e.reference k)
-      (λ k g. g e.reference) us f.1) (h.0 z),
-  aborts_weaker via xs ys us f.1 h.1,
+      (every_weaker P (λ k. EndsAbort via xs e.reference k → EndsAbort via ys e.reference k)
+      (λ k p. g e k f.0 p) us f.1) (h.0 z),
+  aborts_weaker via xs ys P us g f.1 h.1,
 )
 
 pub aborts_push : (via : Connection) (xs : List Sent) (z : Sent) (us : List End)
     → AllByRecursion (λ (e : End). is_named via e.reference z ≡ false) us → Aborts via xs us
     → Aborts via (xs ++ z ∷ []) us
-aborts_push via xs z us f h = aborts_weaker via xs (xs ++ z ∷ []) us
-    (every_weaker (λ (e : End). is_named via e.reference z ≡ false) (IsKeptEnd via xs (xs ++ z ∷ []))
-    (λ e n k g. only_push via e.reference xs z (IsAbort k) g (λ q. absurd (true≢false (sym q ∙ n)))) us f) h
+aborts_push via xs z us f h =
+    aborts_weaker via xs (xs ++ z ∷ []) (λ (e : End). is_named via e.reference z ≡ false) us
+    (λ e k p q g. (
+      only_push via k.reference xs z (IsAbort e.reference) g.0 (λ w. absurd (true≢false (sym w ∙ q))),
+      pairs_append (IsBehind via e.reference k) xs z g.1
+          (every_from (λ s. IsBehind via e.reference k s z) (λ s w. p) xs),
+    )) f h
 
 pub aborts_after : (via : Connection) (xs : List Sent) (a : Answer) (i : ℕ) (us : List End) → Aborts via xs us
     → Aborts via (after_end xs a (Some i)) us
-aborts_after via xs a i us h = aborts_weaker via xs (after_end xs a (Some i)) us
-    (every_from (IsKeptEnd via xs (after_end xs a (Some i)))
-    (λ e n g. only_after via e.reference xs (IsAbort n) a i g) us) h
+aborts_after via xs a i us h =
+    aborts_weaker via xs (after_end xs a (Some i)) (λ e. Unit {0}) us
+    (λ e k p q g. (
+      only_after via k.reference xs (IsAbort e.reference) a i g.0,
+      pairs_after (IsBehind via e.reference k) (λ s z f r. r) (λ s z f r. r) xs a i g.1,
+    )) (every_from (λ e. Unit {0}) (λ e. tt) us) h
 
 pub aborts_rest : (via : Connection) (xs : List Sent) (us : List End) → Aborts via xs us → Aborts via xs (drop 1 us)
 aborts_rest via xs [] h = tt

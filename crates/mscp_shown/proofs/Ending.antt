@@ -8,22 +8,24 @@ use Rattle.mscp_packet.specs.Number.{num}
 use Rattle.mscp_wire.specs.Wire.{History, answer_by, command_at, has_abort, is_it, is_long, is_named, moment_at, place_of, sent_by, status_code}
 use Rattle.mscp_wire.specs.Wire as wire
 use Rattle.mscp_wire.specs.declared.sent.Sent.{Sent as Out}
-use Rattle.std.specs.Prelude.{◌%◌, ◌||◌}
+use Rattle.std.specs.Prelude.{◌%◌, ◌||◌, if◌then◌else◌}
 use Rattle.mscp_wire.specs.declared.answer.Answer.{Answer as Answered}
 use Rattle.mscp_wire.specs.declared.moment.Moment.TheVariants as moments
 use Rattle.mscp_shown.specs.Shown.{shown}
 use Rattle.mscp_shown.proofs.Strict.{after_end, outstanding}
-use Rattle.mscp_shown.proofs.Aborted.{Aborts, EndsAbort, IsAbort, aborts_after, aborts_rest, any_at, any_out}
+use Rattle.mscp_shown.proofs.Aborted.{Aborts, EndsAbort, IsAbort, IsBehind, aborts_after, aborts_rest, any_behind, any_out}
 use Rattle.mscp_shown.proofs.Counts.{each_counted, some_place}
 use Rattle.mscp_shown.proofs.Owed.{one_if, owed, owed_took, untaken_took}
-use Rattle.mscp_shown.proofs.Identity.{IsTold, is_told, same_right, told_more, unit_identity}
+use Rattle.mscp_drive.specs.Settings.{unit_shape}
+use Rattle.mscp_shown.proofs.Identity.{IsTold, is_told, same_right, told_more}
 use Rattle.mscp_shown.proofs.Keeping.{Keeps}
 use Rattle.mscp_shown.proofs.Owners.{Fits, IsOwed, IsOwn, every_drop, message, only_after, untold}
 use Rattle.mscp_shown.proofs.Owning.{Owners, waits_more}
 use Rattle.mscp_shown.proofs.Reading.{IsFit, reads}
 use Rattle.mscp_shown.proofs.Shown.{placed, tally, tally_end}
 use Rattle.mscp_shown.proofs.Taking.{Takes, long_end, reference_read}
-use Rattle.std.proofs.Common.{⊎_elim}
+use Rattle.std.proofs.Common.{⊎_elim, ◌⊎◌, inl, inr, suc}
+use Rattle.std.proofs.lemmas.Bool.{cases_lt}
 use Rattle.std.proofs.lemmas.List.{get_or-take, length-take-le}
 use Rattle.mscp_packet.specs.declared.end.EndBody.{EndBody}
 use Rattle.mscp_packet.specs.declared.end.EndBody.TheVariants as bodies
@@ -39,6 +41,24 @@ use Rattle.mscp_shown.proofs.Staying.{orders_took}
 use Rattle.mscp_shown.proofs.Waiting.{Orders}
 use Rattle.mscp_shown.proofs.Pairing.{index_pairs, every_index, none_of}
 use Rattle.mscp_wire.specs.Wire.{is_apart, keeps_back, passes_none}
+
+-- an ABORT isn't aborted
+abort_apart : (y : Out) (a : Answered) → y.opcode ≡ 1 → status_code a ≡ 2 → wire.has_status y a ≡ true → ⊥
+abort_apart y a op code h =
+    absurd (false≢true (sym (none (wire.is_known a)) ∙ first_of (wire.has_code y a) (wire.is_whole y a)
+    (wire.is_plain y a) (wire.points_into y a) h))
+  where
+    first_of : (a b c d : Bool) → (a && b && c && d) ≡ true → a ≡ true
+    first_of a b c d h = grind (arith, false≢true)
+
+    none : (k : Bool) → (if k then wire.is_unknown y.opcode || wire.may_have y.opcode (status_code a)
+        else nat_eq (status_code a) 1) ≡ false
+    none true =
+        ap (λ o. wire.is_unknown o || wire.may_have o (status_code a)) op ∙ ap (λ n. wire.may_have 1 n) code
+    none false = ap (λ n. nat_eq n 1) code
+
+above : (m n : ℕ) → m ≤ n → (m < n) ⊎ (m ≡ n)
+above m n h = ⊎_elim (λ l. inl l) (λ l. inr (omega (arith, h, l))) (cases_lt m n)
 
 -- ---- a take
 module _ (c : Settings) (t : Trace) (own : Connection) (b : ArrayVec ℕ) (known : Known c t) (h : Inv c t) where
@@ -140,14 +160,16 @@ module _ (c : Settings) (t : Trace) (own : Connection) (b : ArrayVec ℕ) (known
 
   -- an aborted command has its ABORT
   abort_there : (e : End) (rest : List End) → untaken c own t ≡ e ∷ rest → (a : Answered) (i : ℕ)
-      → (command_at (outstanding (shown t)) i).connection ≡ own
+      → i < length (outstanding (shown t)) → (command_at (outstanding (shown t)) i).connection ≡ own
       → (command_at (outstanding (shown t)) i).reference ≡ e.reference → a.status ≡ e.status
-      → has_abort (outstanding (shown t)) (command_at (outstanding (shown t)) i) a ≡ true
-  abort_there e rest us a i side number status =
+      → wire.has_status (command_at (outstanding (shown t)) i) a ≡ true
+      → has_abort (drop (i + 1) (outstanding (shown t))) (command_at (outstanding (shown t)) i) a ≡ true
+  abort_there e rest us a i low side number status fits =
       let xs = outstanding (shown t) in
       let y = command_at xs i in
       let behind = subst (Aborts own xs) us (h.owners.aborts own) in
-      let P : Bool → Type 0 = λ b. nat_eq (status_code a) 2 ≡ b → (not b || list_any (wire.aborts y) xs) ≡ true in
+      let P : Bool → Type 0 = λ b. nat_eq (status_code a) 2 ≡ b
+      → (not b || list_any (wire.aborts y) (drop (i + 1) xs)) ≡ true in
       elim (nat_eq (status_code a) 2) as P [
         | true ↦ λ q.
             let code : e.status % 32 ≡ 2 = ap (λ n. n % 32) (sym status) ∙ eqb-true (status_code a) 2 q in
@@ -155,7 +177,9 @@ module _ (c : Settings) (t : Trace) (own : Connection) (b : ArrayVec ℕ) (known
             (all_there (untaken c own t) refl)).1 in
             let found = any_out (EndsAbort own xs e.reference)
             (λ (k : End). 1 ≤ tally own (λ n. nat_eq n k.reference) xs) rest rests (behind.0 code) in
-            abort_at y e found.0 side number found.1 found.2
+            let one : suc i ≡ i + 1 = omega arith in
+            subst (λ n. list_any (wire.aborts y) (drop n xs) ≡ true) one
+            (abort_at found.0 (λ apart. abort_apart y a apart (eqb-true (status_code a) 2 q) fits) found.1 found.2)
         | false ↦ λ q. refl
       ] refl
     where
@@ -176,17 +200,18 @@ module _ (c : Settings) (t : Trace) (own : Connection) (b : ArrayVec ℕ) (known
           (each_counted (λ (o k : End). nat_eq o.reference k.reference)
           (λ (k : End). eq-eqb k.reference k.reference refl) vs)
 
-      -- the ABORT itself
-      abort_at : (y : Out) (e k : End) → y.connection ≡ own → y.reference ≡ e.reference
+      -- the ABORT itself, which isn't the command that is aborted
+      abort_at : (k : End) → ((command_at (outstanding (shown t)) i).opcode ≡ 1 → ⊥)
           → 1 ≤ tally own (λ n. nat_eq n k.reference) (outstanding (shown t))
-          → EndsAbort own (outstanding (shown t)) e.reference k → list_any (wire.aborts y)
-          (outstanding (shown t)) ≡ true
-      abort_at y e k side number some is =
+          → EndsAbort own (outstanding (shown t)) e.reference k
+          → list_any (wire.aborts (command_at (outstanding (shown t)) i)) (drop (suc i) (outstanding (shown t))) ≡ true
+      abort_at k apart some is =
           let xs = outstanding (shown t) in
+          let y = command_at xs i in
           let place = some_place (is_named own k.reference) xs some in
           let found = position-Some (is_named own k.reference) xs place.0 (sent_by First []) place.1 in
           let z = command_at xs place.0 in
-          let it = every_at (λ s. is_named own k.reference s ≡ true → IsAbort e.reference (untold s)) xs is place.0
+          let it = every_at (λ s. is_named own k.reference s ≡ true → IsAbort e.reference (untold s)) xs is.0 place.0
           (sent_by First []) found.0 found.1 in
           let named = and_parts (wire.same_connection z.connection own) (nat_eq z.reference k.reference) found.1 in
           let one : wire.aborts y z ≡ true =
@@ -194,7 +219,18 @@ module _ (c : Settings) (t : Trace) (own : Connection) (b : ArrayVec ℕ) (known
           ∙ (ap (λ s. s && nat_eq z.opcode 1 && is_it z.parameter y.reference) named.0
           ∙ (ap (λ o. nat_eq o 1 && is_it z.parameter y.reference) it.0
           ∙ (ap (λ o. is_it o y.reference) it.1 ∙ eq-eqb e.reference y.reference (sym number)))) in
-          any_at (wire.aborts y) xs place.0 (sent_by First []) found.0 one
+          let named_y : is_named own e.reference y ≡ true =
+          ap (λ v. wire.same_connection v own && nat_eq y.reference e.reference) side
+          ∙ (ap (λ b. b && nat_eq y.reference e.reference) (same_sides own own ∙ own_side own)
+          ∙ eq-eqb y.reference e.reference number) in
+          ⊎_elim
+          (λ before. absurd (false≢true (sym (index_pairs (IsBehind own e.reference k) xs (sent_by First []) is.1
+          place.0 i before low found.1) ∙ named_y)))
+          (λ rest. ⊎_elim
+          (λ behind. any_behind (wire.aborts y) xs i place.0 (sent_by First []) behind found.0 one)
+          (λ same. absurd (apart (ap (λ n. (command_at xs n).opcode) same ∙ it.0)))
+          (above i place.0 rest))
+          (cases_lt place.0 i)
 
   -- its command waits for none before it
   waits_for_none : (e : End) (rest : List End) → untaken c own t ≡ e ∷ rest → (a : Answered) (i : ℕ)
@@ -277,7 +313,8 @@ module _ (c : Settings) (t : Trace) (own : Connection) (b : ArrayVec ℕ) (known
           unit = here.unit;
           endcode = here.endcode;
           status = here.status;
-          aborted = abort_there e rest took.is a i there.connection (there.reference ∙ number) status;
+          aborted = abort_there e rest took.is a i there.low there.connection (there.reference ∙ number) status
+              here.status;
           order = waits_for_none e rest took.is a i there.low there.connection (there.reference ∙ number) status;
           success = here.success;
           about = here.about;
@@ -285,7 +322,7 @@ module _ (c : Settings) (t : Trace) (own : Connection) (b : ArrayVec ℕ) (known
               h.tallied
               h.heard left;
           count = here.count;
-          identity = same_right (wire.known (shown t) own (num b.items 4 2)) a (unit_identity c (num b.items 4 2))
+          identity = same_right (unit_shape c (num b.items 4 2)) (wire.told (shown t) own (num b.items 4 2)) a
               (h.units own (num b.items 4 2)) told.0;
         },
       ))
@@ -296,7 +333,7 @@ module _ (c : Settings) (t : Trace) (own : Connection) (b : ArrayVec ℕ) (known
       (subst (λ o. Heard c (t ++ taking ∷ []) (after_end xs a o)) (sym at)
       (heard_took c own t taking xs a i e rest took.is at refl number asks figure h.orders.single h.tallied h.heard left
       refl (λ via. refl) (λ via. refl) (λ via. known.room.taken via)))
-      (λ via. tt) (told_more c (shown t) a h.units told.1)
+      (λ via. tt) (told_more c (shown t) a h.units told)
     where
       by_side : (via : Connection) (passes : Bool)
           → one_if (wire.same_connection own via && passes) ≡ cond (same_connection own via) (one_if passes) 0

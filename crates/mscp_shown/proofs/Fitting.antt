@@ -17,7 +17,7 @@ use Rattle.mscp_controller.specs.Outcomes.{answer_body, answer_status, outcome_o
 use Rattle.mscp_shown.specs.Keeping.{AreBytes}
 use Rattle.mscp_shown.proofs.Reading.{IsBodyFit, IsFit}
 use Rattle.mscp_shown.proofs.Suiting.{IsFault, valid_order}
-use Rattle.mscp_shown.proofs.Telling.{answer_tells, immediate, never_success, outcome_tells}
+use Rattle.mscp_shown.proofs.Telling.{answer_controls, answer_tells, immediate, never_success, outcome_controls, outcome_tells}
 use Rattle.mscp_shown.proofs.Taking.{four_small, two_small}
 
 -- ---- what a message asks for
@@ -156,6 +156,7 @@ own_fit_with c online figure k None e q h l = record {
   status = answered_small online k.order;
   body = answer_fit c figure k.unit k.order h.order l;
   tells = λ z. answer_tells c figure k.unit k.order (immediate c k q e);
+  controls = λ z. answer_controls c figure k.unit k.order (immediate c k q e);
 }
 own_fit_with c online figure k (Some status) e q h l = record {
   reference = h.reference;
@@ -163,6 +164,7 @@ own_fit_with c online figure k (Some status) e q h l = record {
   status = fault_small c k.unit status k.order h.order e;
   body = refused_fit (endcode k.order);
   tells = λ z. absurd (never_success c k.unit status k.order (fault_fails k.order h.order) e z);
+  controls = λ z. absurd (never_success c k.unit status k.order (fault_fails k.order h.order) e z);
 }
 
 pub own_fit : (c : Settings) (online : Bool) (figure : ℕ) (k : Command) → is_queued c k ≡ false → IsSmallCommand k
@@ -176,6 +178,7 @@ aborted_fit c k good h = record {
   status = omega arith;
   body = moved_fit k.order good h.order;
   tells = λ z. absurd (omega (arith, z));
+  controls = λ z. absurd (omega (arith, z));
 }
 
 pub served_fit : (c : Settings) (online : Bool) (k : Command) (good : ℕ) (block : Block) → is_queued c k ≡ true
@@ -188,6 +191,10 @@ served_fit c online k good block q h fault = record {
       (good + cond (touches online k.order && is_good_block block) 1 0) h.order;
   tells = let sound = queued_open c k q in
       outcome_tells (unit_shape c k.unit) (outcome_status online k.order block) k.order
+      (good + cond (touches online k.order && is_good_block block) 1 0) sound.waits
+      (valid_order c k.unit k.order sound.sound);
+  controls = λ z. let sound = queued_open c k q in
+      outcome_controls c (unit_shape c k.unit) (outcome_status online k.order block) k.order
       (good + cond (touches online k.order && is_good_block block) 1 0) sound.waits
       (valid_order c k.unit k.order sound.sound);
 }

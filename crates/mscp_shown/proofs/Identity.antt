@@ -1,7 +1,7 @@
 -- What an end tells of its unit, and how the rules of the wire read it.
-use Rattle.std.proofs.Common.{◌≡◌, ℕ, ◌%◌, arith, Bool, true, false, not, ◌&&◌, ◌||◌, refl, ap, sym, ◌∙◌, subst, List, Option, Some, None}
-use Rattle.std.specs.Prelude.{if◌then◌else◌, nat_eq}
-use Rattle.std.proofs.lemmas.Bool.{and_parts, eq-eqb, eqb-true}
+use Rattle.std.proofs.Common.{◌≡◌, ℕ, ◌%◌, arith, Bool, true, false, not, ◌&&◌, ◌||◌, refl, ap, sym, ◌∙◌, subst, List, length, Option, Some, None}
+use Rattle.std.specs.Prelude.{if◌then◌else◌, nat_eq, nat_le}
+use Rattle.std.proofs.lemmas.Bool.{and_parts, eq-eqb, eqb-true, false≢true}
 use Rattle.mscp_packet.specs.Common.{little_bytes}
 use Rattle.mscp_packet.specs.Ends.{IsOfKind, end_bytes, kind_of_body, kind_of_code}
 use Rattle.mscp_packet.specs.Number.{num}
@@ -13,9 +13,13 @@ use Rattle.mscp_packet.specs.declared.end.EndBody.TheVariants as bodies
 use Rattle.mscp_drive.specs.Shape.{Shape}
 use Rattle.mscp_drive.specs.Settings.{Settings, unit_shape}
 use Rattle.mscp_drive.specs.declared.connection.Connection.{Connection}
-use Rattle.mscp_wire.specs.Wire.{History, agrees, answer_by, brings, is_same_unit, known, known_after_end, leaves, same_connection, status_code, tells_unit, was_online}
+use Rattle.mscp_wire.specs.Wire.{History, agrees, answer_by, brings, fits, is_known_unit, is_same_unit, is_single, is_unsure, later_of, learns, leaves, same_connection, says_away, shares, status_code, tells_unit, told, told_after_end, told_after_message, turned, was_online}
 use Rattle.mscp_wire.specs.declared.answer.Answer.{Answer}
 use Rattle.mscp_wire.specs.declared.identity.Identity.{Identity}
+use Rattle.mscp_wire.specs.declared.sent.Sent.{Sent}
+use Rattle.mscp_wire.specs.declared.told.State.{State}
+use Rattle.mscp_wire.specs.declared.told.State.TheVariants.{Away, Open, Shared}
+use Rattle.mscp_wire.specs.declared.told.Told.{Told}
 
 -- a body tells of a unit what it is
 abbrev pub BodyTells : Shape → EndBody → Type 0
@@ -27,30 +31,58 @@ BodyTells s body = Unit {0}
 abbrev pub Tells : Settings → End → Type 0
 Tells c e = e.status % 32 ≡ 0 → BodyTells (unit_shape c e.unit) e.body
 
+-- a body tells of the controller what it is, and so does an end that succeeded
+abbrev pub BodyControls : Settings → EndBody → Type 0
+BodyControls c (bodies.Controller timeout id) = id ≡ c.id
+BodyControls c body = Unit {0}
+
+abbrev pub Controls : Settings → End → Type 0
+Controls c e = e.status % 32 ≡ 0 → BodyControls c e.body
+
 -- ---- as it is read
-abbrev identity : ℕ → ℕ → ℕ → Identity
+abbrev identity : ℕ → ℕ → Option ℕ → Identity
 identity id media size = record {
   identifier = num (little_bytes 8 id) 0 8;
   media = num (little_bytes 4 media) 0 4;
-  size = num (little_bytes 4 size) 0 4;
+  size = size;
 }
 
--- what is told of a unit
-abbrev pub unit_identity : Settings → ℕ → Identity
-unit_identity c unit =
-    let s = unit_shape c unit in identity s.id s.media s.size
+-- this is what a unit of this shape is, as far as it says
+abbrev pub IsOf : Shape → Identity → Type 0
+IsOf s i =
+    (i.identifier ≡ num (little_bytes 8 s.id) 0 8) × (i.media ≡ num (little_bytes 4 s.media) 0 4)
+    × ((n : ℕ) → i.size ≡ Some n → n ≡ num (little_bytes 4 s.size) 0 4)
+
+-- and it is there
+abbrev pub HasOf : Shape → Option Identity → Type 0
+HasOf s o = (i : Identity) × (o ≡ Some i) × IsOf s i
 
 module _ (via : Connection) (r u code status : ℕ) (s : Shape) where
   abbrev read : EndBody → Answer
   read body =
       answer_by via (end_bytes (record { reference = r; unit = u; code = code; status = status; body = body }))
 
+  size_read : (b : Bool) (m n : ℕ) → (if b then None else Some m) ≡ Some n → n ≡ m
+  size_read true m n h = cc
+  size_read false m n h = cc
+
+  no_size : (b : Bool) (m n : ℕ) → b ≡ true → (if b then None else Some m) ≡ Some n → ⊥
+  no_size true m n e h = cc
+  no_size false m n e h = absurd (false≢true e)
+
   -- what an end of ONLINE or SET UNIT CHARACTERISTICS tells
   online_read : (body : EndBody) → kinds.Online ≡ kind_of_body body → BodyTells s body
-      → (read body).identity ≡ Some (identity s.id s.media s.size)
-  online_read (bodies.Online id media size serial) k t =
-      ap (λ n. Some (identity n media size)) t.0 ∙ ap (λ n. Some (identity s.id n size)) t.1
-      ∙ ap (λ n. Some (identity s.id s.media n)) t.2
+      → HasOf s (read body).identity
+  online_read (bodies.Online id media size serial) k t = (
+    identity id media (if nat_eq code 0x83 then None else Some (num (little_bytes 4 size) 0 4)),
+    refl,
+    (
+      ap (λ n. num (little_bytes 8 n) 0 8) t.0,
+      ap (λ n. num (little_bytes 4 n) 0 4) t.1,
+      λ n e. size_read (nat_eq code 0x83) (num (little_bytes 4 size) 0 4) n e
+          ∙ ap (λ z. num (little_bytes 4 z) 0 4) t.2,
+    ),
+  )
   online_read bodies.Bare k t = cc
   online_read (bodies.Abort other) k t = cc
   online_read (bodies.Status other figure) k t = cc
@@ -59,32 +91,47 @@ module _ (via : Connection) (r u code status : ℕ) (s : Shape) where
   online_read (bodies.Moved count) k t = cc
 
   -- and one of GET UNIT STATUS
-  status_read : (body : EndBody) → kinds.UnitStatus ≡ kind_of_body body → BodyTells s body
-      → agrees 0x83 (read body).identity (identity s.id s.media s.size) ≡ true
-  status_read (bodies.UnitStatus id media track group cylinder) k t =
-      both (num (little_bytes 8 id) 0 8) (num (little_bytes 8 s.id) 0 8) (num (little_bytes 4 media) 0 4)
-      (num (little_bytes 4 s.media) 0 4) (ap (λ n. num (little_bytes 8 n) 0 8) t.0)
-      (ap (λ n. num (little_bytes 4 n) 0 4) t.1)
-    where
-      both : (a b x y : ℕ) → a ≡ b → x ≡ y → (nat_eq a b && nat_eq x y && true) ≡ true
-      both a b x y h k =
-          ap (λ n. n && nat_eq x y && true) (eq-eqb a b h) ∙ ap (λ n. n && true) (eq-eqb x y k)
-  status_read bodies.Bare k t = cc
-  status_read (bodies.Abort other) k t = cc
-  status_read (bodies.Status other figure) k t = cc
-  status_read (bodies.Online id media size serial) k t = cc
-  status_read (bodies.Controller timeout id) k t = cc
-  status_read (bodies.Moved count) k t = cc
+  status_read : nat_eq code 0x83 ≡ true → (body : EndBody) → kinds.UnitStatus ≡ kind_of_body body → BodyTells s body
+      → HasOf s (read body).identity
+  status_read q (bodies.UnitStatus id media track group cylinder) k t =
+      let own = read (bodies.UnitStatus id media track group cylinder) in (
+        identity id media (if nat_eq code 0x83 then None
+            else Some (num (end_bytes (record {
+              reference = r;
+              unit = u;
+              code = code;
+              status = status;
+              body = bodies.UnitStatus id media track group cylinder;
+            })) 36 4)),
+        refl,
+        (
+          ap (λ n. num (little_bytes 8 n) 0 8) t.0,
+          ap (λ n. num (little_bytes 4 n) 0 4) t.1,
+          λ n e. absurd (no_size (nat_eq code 0x83) _ n q e),
+        ),
+      )
+  status_read q bodies.Bare k t = cc
+  status_read q (bodies.Abort other) k t = cc
+  status_read q (bodies.Status other figure) k t = cc
+  status_read q (bodies.Online id media size serial) k t = cc
+  status_read q (bodies.Controller timeout id) k t = cc
+  status_read q (bodies.Moved count) k t = cc
 
-agrees_same : (code : ℕ) (i : Identity) → agrees code (Some i) i ≡ true
-agrees_same code i =
-    ap (λ b. b && nat_eq i.media i.media && (nat_eq code 0x83 || nat_eq i.size i.size))
-    (eq-eqb i.identifier i.identifier refl)
-    ∙ ap (λ b. b && (nat_eq code 0x83 || nat_eq i.size i.size)) (eq-eqb i.media i.media refl)
-    ∙ ap (λ b. nat_eq code 0x83 || b) (eq-eqb i.size i.size refl) ∙ or_true (nat_eq code 0x83)
+-- two that are told of a unit agree
+agrees_same : (s : Shape) (i j : Identity) → IsOf s i → IsOf s j → agrees (Some i) j ≡ true
+agrees_same s i j h k =
+    all (nat_eq i.identifier j.identifier) (nat_eq i.media j.media) (fits i.size j.size)
+    (eq-eqb i.identifier j.identifier (h.0 ∙ sym k.0)) (eq-eqb i.media j.media (h.1 ∙ sym k.1))
+    (by_sizes i.size j.size h.2 k.2)
   where
-    or_true : (b : Bool) → (b || true) ≡ true
-    or_true b = grind arith
+    all : (a b d : Bool) → a ≡ true → b ≡ true → d ≡ true → (a && b && d) ≡ true
+    all a b d p q r = grind arith
+
+    by_sizes : (a b : Option ℕ) → ((n : ℕ) → a ≡ Some n → n ≡ num (little_bytes 4 s.size) 0 4)
+        → ((n : ℕ) → b ≡ Some n → n ≡ num (little_bytes 4 s.size) 0 4) → fits a b ≡ true
+    by_sizes None b p q = refl
+    by_sizes (Some m) None p q = refl
+    by_sizes (Some m) (Some n) p q = eq-eqb m n (p m refl ∙ sym (q n refl))
 
 some_kind : (a b : BodyKind) → Some a ≡ Some b → a ≡ b
 some_kind a b h = cc
@@ -98,23 +145,18 @@ module _ (c : Settings) (via : Connection) (e : End) (kind : IsOfKind e) (tells 
   of_code code k h is = some_kind k (kind_of_body e.body) (sym is ∙ ap kind_of_code (sym h) ∙ kind)
 
   -- it says what its unit is
-  pub told_right : a.status ≡ e.status → tells_unit a ≡ true
-      → agrees a.code a.identity (unit_identity c e.unit) ≡ true
+  pub told_right : a.status ≡ e.status → tells_unit a ≡ true → HasOf (unit_shape c e.unit) a.identity
   told_right st h =
       let brought = nat_eq a.code 0x89 && was_online a in
       let p = and_parts (nat_eq (status_code a) 0) (nat_eq a.code 0x83 || brought || nat_eq a.code 0x8A) h in
       let zero : e.status % 32 ≡ 0 = ap (λ n. n % 32) (sym st) ∙ eqb-true (status_code a) 0 p.0 in
       let s = unit_shape c e.unit in
-      let online : (code : ℕ) → e.code ≡ code → kind_of_code code ≡ Some kinds.Online
-      → agrees a.code a.identity (unit_identity c e.unit) ≡ true =
-      λ code q is. ap (λ o. agrees a.code o (unit_identity c e.unit))
-      (online_read via e.reference e.unit e.code e.status s e.body (of_code code kinds.Online q is) (tells zero))
-      ∙ agrees_same a.code (unit_identity c e.unit) in
+      let online : (code : ℕ) → e.code ≡ code → kind_of_code code ≡ Some kinds.Online → HasOf s a.identity =
+      λ code q is.
+      online_read via e.reference e.unit e.code e.status s e.body (of_code code kinds.Online q is) (tells zero) in
       by_code (nat_eq e.code 0x83) brought (nat_eq e.code 0x8A) p.1
-      (λ q. let code = eqb-true e.code 0x83 q in
-      ap (λ n. agrees n a.identity (unit_identity c e.unit)) code
-      ∙ status_read via e.reference e.unit e.code e.status s e.body (of_code 0x83 kinds.UnitStatus code refl)
-      (tells zero))
+      (λ q. status_read via e.reference e.unit e.code e.status s q e.body
+      (of_code 0x83 kinds.UnitStatus (eqb-true e.code 0x83 q) refl) (tells zero))
       (λ q. online 0x89 (eqb-true e.code 0x89 (and_parts (nat_eq e.code 0x89) (was_online a) q).0) refl)
       (λ q. online 0x8A (eqb-true e.code 0x8A q) refl)
     where
@@ -126,7 +168,7 @@ module _ (c : Settings) (via : Connection) (e : End) (kind : IsOfKind e) (tells 
       by_code false false false h p q r = cc
 
   -- and so does what brings it online
-  pub brought_right : a.status ≡ e.status → brings a ≡ true → a.identity ≡ Some (unit_identity c e.unit)
+  pub brought_right : a.status ≡ e.status → brings a ≡ true → HasOf (unit_shape c e.unit) a.identity
   brought_right st h =
       let p = and_parts (nat_eq a.code 0x89) (nat_eq (status_code a) 0) h in
       let zero : e.status % 32 ≡ 0 = ap (λ n. n % 32) (sym st) ∙ eqb-true (status_code a) 0 p.1 in
@@ -136,8 +178,8 @@ module _ (c : Settings) (via : Connection) (e : End) (kind : IsOfKind e) (tells 
 -- what an end says of its unit is what that is
 abbrev pub IsTold : Settings → Answer → Type 0
 IsTold c a =
-    (tells_unit a ≡ true → agrees a.code a.identity (unit_identity c a.unit) ≡ true)
-    × (brings a ≡ true → a.identity ≡ Some (unit_identity c a.unit))
+    (tells_unit a ≡ true → HasOf (unit_shape c a.unit) a.identity)
+    × (brings a ≡ true → HasOf (unit_shape c a.unit) a.identity)
 
 pub is_told : (c : Settings) (via : Connection) (b : List ℕ) (e : End) → b ≡ end_bytes e → IsOfKind e → Tells c e
     → (answer_by via (end_bytes e)).status ≡ e.status → (answer_by via (end_bytes e)).unit ≡ e.unit
@@ -145,42 +187,144 @@ pub is_told : (c : Settings) (via : Connection) (b : List ℕ) (e : End) → b �
 is_told c via b e is kind tells st unit =
     let a = answer_by via (end_bytes e) in
     subst (λ l. IsTold c (answer_by via l)) (sym is) (
-      λ h. ap (λ n. agrees a.code a.identity (unit_identity c n)) unit ∙ told_right c via e kind tells st h,
-      λ h. brought_right c via e kind tells st h ∙ ap (λ n. Some (unit_identity c n)) (sym unit),
+      λ h. subst (λ n. HasOf (unit_shape c n) a.identity) (sym unit) (told_right c via e kind tells st h),
+      λ h. subst (λ n. HasOf (unit_shape c n) a.identity) (sym unit) (brought_right c via e kind tells st h),
     )
+
+-- ---- what is known of the controller
+abbrev pub own_identifier : Settings → ℕ
+own_identifier c = num (little_bytes 8 c.id) 0 8
+
+-- what an end tells of it is what it is
+pub controller_read : (c : Settings) (via : Connection) (e : End) → IsOfKind e → Controls c e
+    → (answer_by via (end_bytes e)).status ≡ e.status → (n : ℕ)
+    → (answer_by via (end_bytes e)).controller ≡ Some n → n ≡ own_identifier c
+controller_read c via e kind controls st n h =
+    let a = answer_by via (end_bytes e) in
+    by_test (nat_eq e.code 0x84) (nat_eq (a.status % 32) 0) (nat_le 28 (length (end_bytes e)))
+    (num (end_bytes e) 20 8) h
+    (λ q z. of_body e.body (some_kind kinds.Controller (kind_of_body e.body)
+    (sym (ap kind_of_code (eqb-true e.code 0x84 q)) ∙ kind))
+    (controls (ap (λ n. n % 32) (sym st) ∙ eqb-true (a.status % 32) 0 z)))
+  where
+    of_body : (body : EndBody) → kinds.Controller ≡ kind_of_body body → BodyControls c body
+        → num (end_bytes (record {
+          reference = e.reference;
+          unit = e.unit;
+          code = e.code;
+          status = e.status;
+          body = body;
+        })) 20 8 ≡ own_identifier c
+    of_body (bodies.Controller timeout id) k t = ap (λ n. num (little_bytes 8 n) 0 8) t
+    of_body bodies.Bare k t = cc
+    of_body (bodies.Abort other) k t = cc
+    of_body (bodies.Status other figure) k t = cc
+    of_body (bodies.UnitStatus id media track group cylinder) k t = cc
+    of_body (bodies.Online id media size serial) k t = cc
+    of_body (bodies.Moved count) k t = cc
+
+    by_test : (x y z : Bool) (m : ℕ) → (if x && y && z then Some m else None) ≡ Some n
+        → (x ≡ true → y ≡ true → m ≡ own_identifier c) → n ≡ own_identifier c
+    by_test true true true m h f = let e : n ≡ m = cc in e ∙ f refl refl
+    by_test true true false m h f = cc
+    by_test true false z m h f = cc
+    by_test false y z m h f = cc
+
+-- what is known of it fits that
+pub fits_controller : (c : Settings) (known told : Option ℕ)
+    → ((n : ℕ) → known ≡ Some n → n ≡ own_identifier c) → ((n : ℕ) → told ≡ Some n → n ≡ own_identifier c)
+    → fits known told ≡ true
+fits_controller c None told p q = refl
+fits_controller c (Some m) None p q = refl
+fits_controller c (Some m) (Some n) p q = eq-eqb m n (p m refl ∙ sym (q n refl))
+
+pub later_controller : (c : Settings) (told known : Option ℕ)
+    → ((n : ℕ) → told ≡ Some n → n ≡ own_identifier c) → ((n : ℕ) → known ≡ Some n → n ≡ own_identifier c)
+    → (n : ℕ) → later_of told known ≡ Some n → n ≡ own_identifier c
+later_controller c None known p q n h = q n h
+later_controller c (Some m) known p q n h = p n h
 
 -- ---- what is known of units
 -- what is known of each unit is what it is
 abbrev pub AreTold : Settings → History → Type 0
-AreTold c h = (via : Connection) (unit : ℕ) (i : Identity) → known h via unit ≡ Some i → i ≡ unit_identity c unit
+AreTold c h =
+    (via : Connection) (unit : ℕ) (i : Identity) → (told h via unit).identity ≡ Some i → IsOf (unit_shape c unit) i
 
 -- an end of a unit keeps that
-pub told_more : (c : Settings) (h : History) (a : Answer) → AreTold c h
-    → (brings a ≡ true → a.identity ≡ Some (unit_identity c a.unit)) → (via : Connection) (unit : ℕ) (i : Identity)
-    → known_after_end via unit (known h via unit) a ≡ Some i → i ≡ unit_identity c unit
-told_more c h a told brought via unit i =
-    by_cases (nat_eq a.unit unit) (leaves a) (brings a) (same_connection a.connection via) (was_online a)
-    (known h via unit) a.identity i (unit_identity c unit) (told via unit i)
-    (λ q b. brought b ∙ ap (λ n. Some (unit_identity c n)) (eqb-true a.unit unit q))
+pub told_more : (c : Settings) (h : History) (a : Answer) → AreTold c h → IsTold c a → (via : Connection) (unit : ℕ)
+    (i : Identity) → (told_after_end via unit (told h via unit) a).identity ≡ Some i → IsOf (unit_shape c unit) i
+told_more c h a known is via unit i =
+    let t = told h via unit in
+    by_cases (nat_eq a.unit unit) (leaves a) (brings a) (learns t a) (same_connection a.connection via)
+    (was_online a) t a.identity
+    (not (leaves a) && (brings a || t.sure || (learns t a && nat_eq a.code 0x83)))
+    (if says_away a then turned t.state Away else (if brings a then turned t.state Open else t.state))
+    (known via unit i)
+    (λ q. subst (λ n. HasOf (unit_shape c n) a.identity) (eqb-true a.unit unit q))
+    is.1 (λ l. is.0 (and_parts (tells_unit a) (not t.sure && is_single t.state) (grouped (tells_unit a) (not t.sure)
+    (is_single t.state) l)).0)
   where
-    by_cases : (here gone on side was : Bool) (old new : Option Identity) (i j : Identity) → (old ≡ Some i → i ≡ j)
-        → (here ≡ true → on ≡ true → new ≡ Some j)
-        → (if not here then old else (if gone then None
-        else (if on then (if side then new else (if was then old else None)) else old))) ≡ Some i → i ≡ j
-    by_cases false gone on side was old new i j k n h = k h
-    by_cases true true on side was old new i j k n h = cc
-    by_cases true false false side was old new i j k n h = k h
-    by_cases true false true false true old new i j k n h = k h
-    by_cases true false true false false old new i j k n h = cc
-    by_cases true false true true was old new i j k n h = let e : new ≡ Some j = n refl refl in cc
+    grouped : (x y z : Bool) → (x && y && z) ≡ true → (x && (y && z)) ≡ true
+    grouped x y z h = grind arith
+
+    there : (o : Option Identity) → HasOf (unit_shape c unit) o → o ≡ Some i → IsOf (unit_shape c unit) i
+    there o has e = subst (IsOf (unit_shape c unit)) (same_identity has.0 i (sym has.1 ∙ e)) has.2
+      where
+        same_identity : (x y : Identity) → Some x ≡ Some y → x ≡ y
+        same_identity x y h = cc
+
+    by_cases : (here gone on learn side was : Bool) (old : Told) (new : Option Identity) (sure : Bool) (s : State)
+        → (old.identity ≡ Some i → IsOf (unit_shape c unit) i)
+        → (here ≡ true → HasOf (unit_shape c a.unit) new → HasOf (unit_shape c unit) new)
+        → (on ≡ true → HasOf (unit_shape c a.unit) new) → (learn ≡ true → HasOf (unit_shape c a.unit) new)
+        → (if not here then old else (if side then record {
+          identity = if gone then None else (if on || learn then new else old.identity);
+          sure = sure;
+          state = s;
+        } else record old {
+          identity = if gone || (on && not was) then None else old.identity;
+          sure = not (gone || (on && not was)) && old.sure;
+        })).identity ≡ Some i
+        → IsOf (unit_shape c unit) i
+    by_cases false gone on learn side was old new sure s k f n l h = k h
+    by_cases true true on learn true was old new sure s k f n l h = cc
+    by_cases true true on learn false was old new sure s k f n l h = cc
+    by_cases true false true learn true was old new sure s k f n l h = there new (f refl (n refl)) h
+    by_cases true false false true true was old new sure s k f n l h = there new (f refl (l refl)) h
+    by_cases true false false false true was old new sure s k f n l h = k h
+    by_cases true false false learn false was old new sure s k f n l h = k h
+    by_cases true false true learn false true old new sure s k f n l h = k h
+    by_cases true false true learn false false old new sure s k f n l h = cc
+
+-- and a command does
+pub told_sent : (t : Told) (via : Connection) (unit : ℕ) (s : Sent)
+    → (told_after_message via unit t s).identity ≡ t.identity
+told_sent t via unit s = by_bool (shares via unit s)
+  where
+    by_bool : (b : Bool) → (if b then record t { state = Shared } else t).identity ≡ t.identity
+    by_bool true = refl
+    by_bool false = refl
 
 -- and an end of it says the same
-pub same_right : (o : Option Identity) (a : Answer) (j : Identity) → ((i : Identity) → o ≡ Some i → i ≡ j)
-    → (tells_unit a ≡ true → agrees a.code a.identity j ≡ true) → is_same_unit o a ≡ true
-same_right None a j k h = refl
-same_right (Some i) a j k h =
-    ap (λ z. not (tells_unit a) || agrees a.code a.identity z) (k i refl)
-    ∙ (elim (tells_unit a) as (λ b. tells_unit a ≡ b → (not b || agrees a.code a.identity j) ≡ true) [
-      | true ↦ h
-      | false ↦ λ e. refl
-    ] refl)
+pub same_right : (s : Shape) (was : Told) (a : Answer) → ((i : Identity) → was.identity ≡ Some i → IsOf s i)
+    → (tells_unit a ≡ true → HasOf s a.identity) → is_same_unit was a ≡ true
+same_right s was a known tells = by_identity was.identity known
+  where
+    by_identity : (o : Option Identity) → ((i : Identity) → o ≡ Some i → IsOf s i) → is_known_unit was o a ≡ true
+    by_identity None k = refl
+    by_identity (Some j) k = by_tells (tells_unit a) tells
+      where
+        by_tells : (b : Bool) → (b ≡ true → HasOf s a.identity)
+            → (not b || is_unsure was a || agrees a.identity j) ≡ true
+        by_tells false f = first (is_unsure was a) (agrees a.identity j)
+          where
+            first : (x y : Bool) → (true || x || y) ≡ true
+            first x y = grind arith
+        by_tells true f =
+            let has = f refl in
+            ap (λ o. false || is_unsure was a || agrees o j) has.1
+            ∙ (ap (λ b. false || is_unsure was a || b) (agrees_same s has.0 j has.2 (k j refl))
+            ∙ last (is_unsure was a))
+          where
+            last : (x : Bool) → (false || x || true) ≡ true
+            last x = grind arith

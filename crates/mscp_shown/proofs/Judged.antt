@@ -9,12 +9,12 @@ use Rattle.mscp_queue.proofs.Placed.{find_none}
 use Rattle.mscp_wire.specs.Wire as wire
 use Rattle.mscp_wire.specs.Wire.{History, IsRightMessage, answer_by, command_at, has_credit, is_below, is_immediate, is_named, is_polled, limit_of, moment_at, place_of, polled_by, same_connection, sent_by}
 use Rattle.mscp_wire.specs.declared.answer.Answer.{Answer}
-use Rattle.mscp_wire.specs.declared.identity.Identity.{Identity}
 use Rattle.mscp_wire.specs.declared.moment.Moment.{Moment}
 use Rattle.mscp_wire.specs.declared.moment.Moment.TheVariants as moments
 use Rattle.mscp_wire.specs.declared.sent.Asked.{Asked}
 use Rattle.mscp_wire.specs.declared.sent.Asked.TheVariants.{Gone, Nothing, Oldest}
 use Rattle.mscp_wire.specs.declared.sent.Sent.{Sent}
+use Rattle.mscp_wire.specs.declared.told.Seen.{Seen}
 use Rattle.mscp_shown.proofs.Alike.{Alike, alike_any, alike_at, alike_count, alike_drop, alike_position, alike_take, bare}
 use Rattle.mscp_shown.proofs.Lenient.{Falls, apart_at, apart_from, falls_found, falls_one, hears_bare, linked_end, named_turned, pairs_take}
 use Rattle.mscp_shown.proofs.Linking.{Alone, AsksOf, IsLow, Linked, asks_at, below_lower, linked_alike, linked_sent, nobody}
@@ -117,7 +117,7 @@ polled_parameter y e n h =
     by_bool true o k = k
     by_bool false o k = cc
 
-module _ (xs ys : List Sent) (h : State xs ys) (u : Option Identity) (b : List ℕ) (e : Answer) (i : ℕ)
+module _ (xs ys : List Sent) (h : State xs ys) (u : Seen) (b : List ℕ) (e : Answer) (i : ℕ)
     (r : strict.IsRightEnd xs u b e i) where
   abbrev x : Sent
   x = command_at xs i
@@ -252,8 +252,9 @@ module _ (xs ys : List Sent) (h : State xs ys) (u : Option Identity) (b : List �
   figure_right None q k = refl
   figure_right (Some n) q k = tells_right n (polled_parameter y e n (asks ∙ q)) e.figure y.asked asked_here k
 
-  end_right : wire.IsRightEnd ys u b e i
-  end_right = record {
+  end_right : wire.suits_state u.unit.state e ≡ true → wire.fits u.controller e.controller ≡ true
+      → wire.IsRightEnd ys u b e i
+  end_right stated known = record {
     length = r.length;
     outstanding =
         sym (alike_position (is_named e.connection e.reference)
@@ -263,8 +264,9 @@ module _ (xs ys : List Sent) (h : State xs ys) (u : Option Identity) (b : List �
     status = ap (λ s. wire.has_status s e) (sym same) ∙ r.status;
     aborted =
         ap (λ k. not (nat_eq (wire.status_code e) 2) || k)
-        (sym (alike_any (wire.aborts y) (λ s t k. ap (wire.aborts y) k) xs ys both))
-        ∙ (ap (λ s. wire.has_abort xs s e) (sym same) ∙ r.aborted);
+        (sym (alike_any (wire.aborts y) (λ s t k. ap (wire.aborts y) k) (drop (i + 1) xs) (drop (i + 1) ys)
+        (alike_drop (i + 1) xs ys both)))
+        ∙ (ap (λ s. wire.has_abort (drop (i + 1) xs) s e) (sym same) ∙ r.aborted);
     order =
         ap (λ k. wire.is_apart (wire.status_code e) || not k)
         (sym (alike_any (wire.keeps_back y) (λ s t k. ap (wire.keeps_back y) k) (take i xs) (take i ys)
@@ -276,42 +278,47 @@ module _ (xs ys : List Sent) (h : State xs ys) (u : Option Identity) (b : List �
         ap (wire.has_figure (drop (i + 1) ys) y e) asks ∙ figure_right p refl r.figure;
     count = ap (λ s. wire.has_count e (wire.count_of s e)) (sym same) ∙ r.count;
     identity = r.identity;
+    state = stated;
+    controller = known;
   }
 
 -- ---- a moment
-step : (credits : Option ℕ) (xs ys : List Sent) (u : Option Identity) (m : Moment) → State xs ys
-    → strict.IsRightAfter credits xs u m
+step : (credits : Option ℕ) (xs ys : List Sent) (u : Seen) (m : Moment) → State xs ys
+    → strict.IsRightAfter credits xs u m → strict.IsStated u m
     → wire.IsRightAfter credits ys u m × State (strict.after xs m) (wire.after ys m)
-step credits xs ys u (moments.Message via b) h r = (
+step credits xs ys u (moments.Message via b) h r stated = (
   sent_right credits xs ys h b.items (sent_by via b.items) r,
   sent_kept credits xs ys h b.items (sent_by via b.items) r,
 )
-step credits xs ys u (moments.End via b) h r =
+step credits xs ys u (moments.End via b) h r stated =
     let e = answer_by via b.items in
-    let right = end_right xs ys h u b.items e r.0 r.1 in (
+    let right = end_right xs ys h u b.items e r.0 r.1 stated.0 stated.1 in (
       (r.0, right),
       subst (λ o. State (strict.after_end xs e o) (wire.after_end ys e (place_of ys e))) (sym r.1.outstanding)
           (subst (λ o. State (strict.after_end xs e (Some r.0)) (wire.after_end ys e o)) (sym right.outstanding)
           (end_kept xs ys h u b.items e r.0 r.1)),
     )
-step credits xs ys u moments.Reset h r = (tt, record { link = tt; alone = tt })
+step credits xs ys u moments.Reset h r stated = (tt, record { link = tt; alone = tt })
 
-states : (credits : Option ℕ) (h : History) → strict.AreRight credits h → (n : ℕ) → n ≤ length h
+states : (credits : Option ℕ) (h : History) → strict.AreRight credits h → strict.AreStated h → (n : ℕ) → n ≤ length h
     → State (strict.outstanding (take n h)) (wire.outstanding (take n h))
-states credits h r zero l = record { link = tt; alone = tt }
-states credits h r (suc n) l =
+states credits h r d zero l = record { link = tt; alone = tt }
+states credits h r d (suc n) l =
     let low : n < length h = omega (arith, l) in
     let before = take n h in
     let m = moment_at h n in
-    let more = (step credits (strict.outstanding before) (wire.outstanding before) (wire.known_of (wire.known before) m)
-    m (states credits h r n (omega (arith, l))) (r n low)).1 in
+    let more = (step credits (strict.outstanding before) (wire.outstanding before)
+    (wire.seen_of (wire.told before) (wire.controller before) m)
+    m (states credits h r d n (omega (arith, l))) (r n low) (d n low)).1 in
     subst (λ t. State (strict.outstanding t) (wire.outstanding t)) (sym (more_taken h n low))
     (subst (λ xs. State xs (wire.outstanding (before ++ m ∷ []))) (sym (fold_push strict.after [] before m))
     (subst (λ ys. State (strict.after (strict.outstanding before) m) ys) (sym (fold_push wire.after [] before m)) more))
 
-pub lenient : (credits : Option ℕ) (h : History) → strict.AreRight credits h → wire.AreRight credits h
-lenient credits h r i l =
+pub lenient : (credits : Option ℕ) (h : History) → strict.AreRight credits h → strict.AreStated h
+    → wire.AreRight credits h
+lenient credits h r d i l =
     let before = take i h in
     (step credits (strict.outstanding before) (wire.outstanding before)
-    (wire.known_of (wire.known before) (moment_at h i)) (moment_at h i) (states credits h r i (omega (arith, l)))
-    (r i l)).0
+    (wire.seen_of (wire.told before) (wire.controller before) (moment_at h i)) (moment_at h i)
+    (states credits h r d i (omega (arith, l)))
+    (r i l) (d i l)).0

@@ -1,7 +1,7 @@
 -- An end that suits what a command asks for keeps the rules that look at that command alone.
-use Rattle.std.proofs.Common.{◌≡◌, ⊎_elim, ℕ, ◌+◌, ◌%◌, ◌≤◌, Bool, true, false, not, ◌&&◌, ◌||◌, refl, ap, sym, ◌∙◌, subst, arith, Option, Some, None}
-use Rattle.std.proofs.lemmas.Bool.{eq-eqb, eqb-true, le-leb}
-use Rattle.std.specs.Prelude.{bit_or, if◌then◌else◌, nat_eq, nat_le}
+use Rattle.std.proofs.Common.{◌≡◌, ◌≢◌, ◌⊎◌, inl, inr, ⊎_elim, ℕ, ◌+◌, ◌/◌, ◌%◌, ◌<◌, ◌≤◌, Bool, true, false, not, ◌&&◌, ◌||◌, refl, ap, sym, ◌∙◌, subst, arith, Option, Some, None}
+use Rattle.std.proofs.lemmas.Bool.{cases_lt, eq-eqb, eqb-true, le-leb, lt-ltb}
+use Rattle.std.specs.Prelude.{bit_or, if◌then◌else◌, nat_eq, nat_le, nat_lt}
 use Rattle.mscp_packet.specs.Ends.{refused_body}
 use Rattle.mscp_packet.specs.Opcodes.{move_byte, row_of}
 use Rattle.mscp_packet.specs.declared.class.Opcode.{Opcode}
@@ -12,11 +12,11 @@ use Rattle.mscp_packet.specs.declared.command.Order.TheVariants as orders
 use Rattle.mscp_packet.specs.declared.end.EndBody.{EndBody}
 use Rattle.mscp_packet.specs.declared.end.EndBody.TheVariants as bodies
 use Rattle.mscp_queue.specs.Orders.{endcode}
-use Rattle.mscp_wire.specs.Wire.{count_of, has_count, has_endcode, has_status, is_about, is_about_another, is_it, is_known, is_refused, is_transfer, is_unknown, may_have, moves, names_unit, other_of, status_code, succeeds}
+use Rattle.mscp_wire.specs.Wire.{count_of, has_code, has_count, has_endcode, has_status, is_about, is_about_another, is_it, is_known, is_plain, is_refused, is_required, is_short, is_transfer, is_unknown, is_whole, least_message, may_have, moves, names_unit, other_of, points_into, status_code, succeeds, was_online}
 use Rattle.mscp_wire.specs.declared.answer.Answer.{Answer}
 use Rattle.mscp_wire.specs.declared.sent.Sent.{Sent}
 use Rattle.mscp_shown.proofs.Reading.{BodyReads}
-use Rattle.mscp_shown.proofs.Saying.{IsShort, Says}
+use Rattle.mscp_shown.proofs.Saying.{IsLong, IsShort, Says}
 
 -- the rules that look at the end and its command alone
 pub record Keeps (s : Sent) (a : Answer) : Type 0 where
@@ -26,6 +26,12 @@ pub record Keeps (s : Sent) (a : Answer) : Type 0 where
   pub success : succeeds a (other_of s a) ≡ true
   pub about : is_about a (other_of s a) ≡ true
   pub count : has_count a (count_of s a) ≡ true
+
+-- the rules of a status beside its code
+pub record IsApt (s : Sent) (a : Answer) : Type 0 where
+  pub whole : is_whole s a ≡ true
+  pub plain : is_plain s a ≡ true
+  pub points : points_into s a ≡ true
 
 -- a status and a body suit an order
 abbrev pub Suits : Order → ℕ → EndBody → Type 0
@@ -42,6 +48,17 @@ Suits (orders.Move kind count block) status body =
 Suits (orders.Invalid byte fault) status body =
     (status ≡ fault) × (body ≡ refused_body (endcode (orders.Invalid byte fault)))
 
+-- its sub-code suits the order: that of Success is 0, but for an ONLINE's, and that of Invalid Command is the offset of
+-- a byte that its message has
+abbrev pub IsFine : Order → ℕ → Type 0
+IsFine orders.Online status = status % 32 ≢ 1
+IsFine (orders.Move kind count block) status =
+    (status % 32 ≡ 0 → status ≡ 0) × (status % 32 ≡ 1 → status / 256 < 32)
+IsFine (orders.SetController version) status =
+    (status % 32 ≡ 0 → status ≡ 0) × (status % 32 ≡ 1 → status / 256 < 14)
+IsFine (orders.Invalid byte fault) status = Unit {0}
+IsFine order status = (status % 32 ≡ 0 → status ≡ 0) × (status % 32 ≢ 1)
+
 -- what is told of the command that a command is about, if it is about one
 abbrev asked : ℕ → Sent → Option ℕ
 asked op s = if is_about_another op then s.parameter else None
@@ -53,6 +70,19 @@ other_when known about refused p = if known && about && not refused then p else 
 -- and of the bytes of a transfer
 abbrev wanted : ℕ → Sent → Option ℕ
 wanted op s = if is_transfer op then s.parameter else None
+
+-- the opcode of a transfer
+move_of_none : (kind : MoveKind) → is_about_another (move_byte kind) ≡ false
+move_of_none kind = grind arith
+
+move_is : (kind : MoveKind) → is_transfer (move_byte kind) ≡ true
+move_is kind = grind arith
+
+move_top : (kind : MoveKind) → not (nat_eq (bit_or (move_byte kind) 0x80) 0x80) ≡ true
+move_top kind = grind arith
+
+move_code : (kind : MoveKind) → nat_eq (bit_or (move_byte kind) 0x80) (move_byte kind + 0x80) ≡ true
+move_code kind = grind arith
 
 module _ (s : Sent) (a : Answer) where
   -- an end of its command's unit
@@ -83,23 +113,113 @@ module _ (s : Sent) (a : Answer) where
   may_too : (b c : Bool) → c ≡ true → (b || c) ≡ true
   may_too b c h = grind arith
 
+  -- what is asked of a status beside its code
+  has_all : has_code s a ≡ true → IsApt s a → has_status s a ≡ true
+  has_all code apt = all_four (has_code s a) (is_whole s a) (is_plain s a) (points_into s a) code apt.whole apt.plain
+      apt.points
+    where
+      all_four : (a b c d : Bool) → a ≡ true → b ≡ true → c ≡ true → d ≡ true → (a && b && c && d) ≡ true
+      all_four a b c d h k l m = grind arith
+
+  or_true : (b : Bool) → (b || true) ≡ true
+  or_true b = grind arith
+
+  -- of a message that is long enough: its Success has no sub-code, or is an ONLINE's
+  long_apt : (n : ℕ) → is_short s ≡ false → n ≤ s.bytes
+      → ((a.status % 32 ≡ 0 → a.status ≡ 0) ⊎ (s.opcode ≡ 9)) → (a.status % 32 ≡ 1 → a.status / 256 < n) → IsApt s a
+  long_apt n long span plain points = record {
+    whole = ap (λ b. not b || not (nat_eq (status_code a) 0)) long;
+    plain = ⊎_elim
+        (λ f. plain_zero (nat_eq (status_code a) 0) refl f)
+        (λ e. ap (λ o. not (nat_eq (status_code a) 0) || not (was_online a) || nat_eq o 9 || is_unknown o) e
+        ∙ late (not (nat_eq (status_code a) 0)) (not (was_online a)) (is_unknown 9)) plain;
+    points =
+        let P : Bool → Type 0 = λ b. nat_eq (status_code a) 1 ≡ b
+        → (not b || is_short s || nat_lt (a.status / 256) s.bytes) ≡ true in
+        elim (nat_eq (status_code a) 1) as P [
+          | true ↦ λ e.
+              ap (λ b. is_short s || b) (lt-ltb (a.status / 256) s.bytes
+              (omega (arith, span, points (eqb-true (status_code a) 1 e)))) ∙ or_true (is_short s)
+          | false ↦ λ e. refl
+        ] refl;
+  }
+    where
+      late : (x y z : Bool) → (x || y || true || z) ≡ true
+      late x y z = grind arith
+
+      plain_zero : (b : Bool) → nat_eq (status_code a) 0 ≡ b → (a.status % 32 ≡ 0 → a.status ≡ 0)
+          → is_plain s a ≡ true
+      plain_zero true e f =
+          let none : was_online a ≡ false =
+          ap (λ n. nat_eq (n / 256 % 2) 1) (f (eqb-true (status_code a) 0 e)) in
+          ap (λ b. not (nat_eq (status_code a) 0) || not b || nat_eq s.opcode 9 || is_unknown s.opcode) none
+          ∙ last (not (nat_eq (status_code a) 0)) (nat_eq s.opcode 9) (is_unknown s.opcode)
+        where
+          last : (x y z : Bool) → (x || true || y || z) ≡ true
+          last x y z = grind arith
+      plain_zero false e f =
+          ap (λ b. not b || not (was_online a) || nat_eq s.opcode 9 || is_unknown s.opcode) e
+          ∙ first (not (was_online a)) (nat_eq s.opcode 9) (is_unknown s.opcode)
+        where
+          first : (x y z : Bool) → (true || x || y || z) ≡ true
+          first x y z = grind arith
+
+  -- of one that is too short
+  short_apt : is_short s ≡ true → status_code a ≡ 1 → IsApt s a
+  short_apt short one = record {
+    whole = ap (λ n. not (is_short s) || not (nat_eq n 0)) one ∙ or_true (not (is_short s));
+    plain = ap (λ n. not (nat_eq n 0) || not (was_online a) || nat_eq s.opcode 9 || is_unknown s.opcode) one
+        ∙ first (not (was_online a)) (nat_eq s.opcode 9) (is_unknown s.opcode);
+    points = ap (λ b. not (nat_eq (status_code a) 1) || b || nat_lt (a.status / 256) s.bytes) short
+        ∙ middle (not (nat_eq (status_code a) 1)) (nat_lt (a.status / 256) s.bytes);
+  }
+    where
+      first : (x y z : Bool) → (true || x || y || z) ≡ true
+      first x y z = grind arith
+
+      middle : (x y : Bool) → (x || true || y) ≡ true
+      middle x y = grind arith
+
+  -- and of one whose opcode isn't known: the sub-code is that of its byte 8
+  unknown_apt : a.status ≡ 0x0801 → IsApt s a
+  unknown_apt is = record {
+    whole = ap (λ n. not (is_short s) || not (nat_eq (n % 32) 0)) is ∙ or_true (not (is_short s));
+    plain = ap (λ n. not (nat_eq (n % 32) 0) || not (was_online a) || nat_eq s.opcode 9 || is_unknown s.opcode) is
+        ∙ first (not (was_online a)) (nat_eq s.opcode 9) (is_unknown s.opcode);
+    points = ap (λ n. not (nat_eq (n % 32) 1) || is_short s || nat_lt (n / 256) s.bytes) is
+        ∙ short_or (least_message s.opcode) s.bytes (least_low s.opcode);
+  }
+    where
+      first : (x y z : Bool) → (true || x || y || z) ≡ true
+      first x y z = grind arith
+
+      least_low : (op : ℕ) → 12 ≤ least_message op
+      least_low op = grind arith
+
+      short_or : (least n : ℕ) → 12 ≤ least → (nat_lt n least || nat_lt 8 n) ≡ true
+      short_or least n h = ⊎_elim
+          (λ low. ap (λ b. b || nat_lt 8 n) (lt-ltb n least (omega (arith, low, h))))
+          (λ high. ap (λ b. nat_lt n least || b) (lt-ltb 8 n (omega (arith, high))) ∙ or_true (nat_lt n least))
+          (cases_lt n 12)
+
   -- an opcode that is known
   known : (op : ℕ) → s.opcode ≡ op → a.unit ≡ s.unit → is_known a ≡ true → nat_eq a.code (op + 0x80) ≡ true
-      → may_have op (status_code a) ≡ true → succeeds a (asked op s) ≡ true → is_about a (asked op s) ≡ true
-      → has_count a (wanted op s) ≡ true → Keeps s a
-  known op e unit k code status success about count =
+      → may_have op (status_code a) ≡ true → IsApt s a → succeeds a (asked op s) ≡ true
+      → is_about a (asked op s) ≡ true → has_count a (wanted op s) ≡ true → Keeps s a
+  known op e unit k code status apt success about count =
       let other : asked s.opcode s ≡ asked op s = ap (λ o. asked o s) e in
       let whole : count_of s a ≡ wanted op s =
       ap (λ b. if b && is_transfer s.opcode then s.parameter else None) k
       ∙ ap (λ o. if is_transfer o then s.parameter else None) e in
       record {
         unit = its_unit unit;
-        endcode = ap (λ b. not b || nat_eq a.code (s.opcode + 0x80)) k
+        endcode = ap (λ b. if b then nat_eq a.code (s.opcode + 0x80) else not (is_required s.opcode)) k
             ∙ (ap (λ o. nat_eq a.code (o + 0x80)) e ∙ code);
-        status =
-            ap (λ b. if b then is_unknown s.opcode || may_have s.opcode (status_code a) else nat_eq (status_code a) 1) k
+        status = has_all
+            (ap (λ b. if b then is_unknown s.opcode || may_have s.opcode (status_code a)
+            else nat_eq (status_code a) 1) k
             ∙ may_too (is_unknown s.opcode) (may_have s.opcode (status_code a))
-            (ap (λ o. may_have o (status_code a)) e ∙ status);
+            (ap (λ o. may_have o (status_code a)) e ∙ status)) apt;
         success = unless_refused (succeeds a) (is_known a) (is_about_another s.opcode) k refl
             (ap (succeeds a) other ∙ success);
         about = unless_refused (is_about a) (is_known a) (is_about_another s.opcode) k refl
@@ -108,13 +228,13 @@ module _ (s : Sent) (a : Answer) where
       }
 
   -- one that isn't
-  unknown : a.unit ≡ s.unit → is_known a ≡ false → status_code a ≡ 1 → Keeps s a
-  unknown unit k one = record {
+  unknown : a.unit ≡ s.unit → is_known a ≡ false → a.status ≡ 0x0801 → is_required s.opcode ≡ false → Keeps s a
+  unknown unit k is apart = record {
     unit = its_unit unit;
-    endcode = ap (λ b. not b || nat_eq a.code (s.opcode + 0x80)) k;
-    status =
-        ap (λ b. if b then is_unknown s.opcode || may_have s.opcode (status_code a) else nat_eq (status_code a) 1) k
-        ∙ eq-eqb (status_code a) 1 one;
+    endcode = ap (λ b. if b then nat_eq a.code (s.opcode + 0x80) else not (is_required s.opcode)) k ∙ ap not apart;
+    status = has_all
+        (ap (λ b. if b then is_unknown s.opcode || may_have s.opcode (status_code a) else nat_eq (status_code a) 1) k
+        ∙ ap (λ n. nat_eq (n % 32) 1) is) (unknown_apt is);
     success =
         by_nobody (succeeds a) (is_known a) (is_about_another s.opcode) (is_refused s a) k refl;
     about = by_nobody (is_about a) (is_known a) (is_about_another s.opcode) (is_refused s a) k refl;
@@ -124,22 +244,23 @@ module _ (s : Sent) (a : Answer) where
   -- an opcode that is about no command and moves nothing
   plain : (op code : ℕ) → s.opcode ≡ op → a.unit ≡ s.unit → a.code ≡ code → nat_eq code 0x80 ≡ false
       → nat_eq code (op + 0x80) ≡ true → is_about_another op ≡ false → is_transfer op ≡ false
-      → may_have op (status_code a) ≡ true → Keeps s a
-  plain op code e unit c k right none moves_none status =
+      → may_have op (status_code a) ≡ true → IsApt s a → Keeps s a
+  plain op code e unit c k right none moves_none status apt =
       let o : asked op s ≡ None = ap (λ b. if b then s.parameter else None) none in
       let w : wanted op s ≡ None = ap (λ b. if b then s.parameter else None) moves_none in
       known op e unit (ap (λ n. not (nat_eq n 0x80)) c ∙ ap not k) (ap (λ n. nat_eq n (op + 0x80)) c ∙ right) status
-      (ap (succeeds a) o) (ap (is_about a) o) (ap (has_count a) w)
+      apt (ap (succeeds a) o) (ap (is_about a) o) (ap (has_count a) w)
 
   -- one about another command
   about_other : (op code other : ℕ) → s.opcode ≡ op → a.unit ≡ s.unit → a.code ≡ code → nat_eq code 0x80 ≡ false
       → nat_eq code (op + 0x80) ≡ true → is_about_another op ≡ true → is_transfer op ≡ false
-      → s.parameter ≡ Some other → a.parameter ≡ Some other → may_have op 0 ≡ true → status_code a ≡ 0 → Keeps s a
-  about_other op code other e unit c k right some moves_none p q status zero =
+      → s.parameter ≡ Some other → a.parameter ≡ Some other → may_have op 0 ≡ true → status_code a ≡ 0 → IsApt s a
+      → Keeps s a
+  about_other op code other e unit c k right some moves_none p q status zero apt =
       let o : asked op s ≡ Some other = ap (λ b. if b then s.parameter else None) some ∙ p in
       let w : wanted op s ≡ None = ap (λ b. if b then s.parameter else None) moves_none in
       known op e unit (ap (λ n. not (nat_eq n 0x80)) c ∙ ap not k) (ap (λ n. nat_eq n (op + 0x80)) c ∙ right)
-      (ap (may_have op) zero ∙ status) (ap (succeeds a) o ∙ eq-eqb (status_code a) 0 zero)
+      (ap (may_have op) zero ∙ status) apt (ap (succeeds a) o ∙ eq-eqb (status_code a) 0 zero)
       (ap (is_about a) o ∙ (ap (λ f. is_it f other) q ∙ eq-eqb other other refl))
       (ap (has_count a) w)
 
@@ -159,35 +280,23 @@ module _ (s : Sent) (a : Answer) where
   -- a transfer, of which so many bytes were to be moved
   transfer : (kind : MoveKind) (moved count : ℕ) → s.opcode ≡ move_byte kind → a.unit ≡ s.unit
       → a.code ≡ bit_or (move_byte kind) 0x80 → s.parameter ≡ Some count → a.parameter ≡ Some moved
-      → may_have (move_byte kind) (status_code a) ≡ true → moved ≤ count → (status_code a ≡ 0 → moved ≡ count)
-      → Keeps s a
-  transfer kind moved count e unit c p q status few all =
+      → may_have (move_byte kind) (status_code a) ≡ true → IsApt s a → moved ≤ count
+      → (status_code a ≡ 0 → moved ≡ count) → Keeps s a
+  transfer kind moved count e unit c p q status apt few all =
       let op = move_byte kind in
       let code = bit_or op 0x80 in
-      let o : asked op s ≡ None = ap (λ b. if b then s.parameter else None) (none kind) in
-      let w : wanted op s ≡ Some count = ap (λ b. if b then s.parameter else None) (some kind) ∙ p in
-      known op e unit (ap (λ n. not (nat_eq n 0x80)) c ∙ top kind)
-      (ap (λ n. nat_eq n (op + 0x80)) c ∙ right kind) status
+      let o : asked op s ≡ None = ap (λ b. if b then s.parameter else None) (move_of_none kind) in
+      let w : wanted op s ≡ Some count = ap (λ b. if b then s.parameter else None) (move_is kind) ∙ p in
+      known op e unit (ap (λ n. not (nat_eq n 0x80)) c ∙ move_top kind)
+      (ap (λ n. nat_eq n (op + 0x80)) c ∙ move_code kind) status apt
       (ap (succeeds a) o) (ap (is_about a) o)
       (ap (has_count a) w ∙ ap (λ f. moves a f count) q ∙ moved_right moved count (status_code a) few all)
-    where
-      none : (kind : MoveKind) → is_about_another (move_byte kind) ≡ false
-      none kind = grind arith
-
-      some : (kind : MoveKind) → is_transfer (move_byte kind) ≡ true
-      some kind = grind arith
-
-      top : (kind : MoveKind) → not (nat_eq (bit_or (move_byte kind) 0x80) 0x80) ≡ true
-      top kind = grind arith
-
-      right : (kind : MoveKind) → nat_eq (bit_or (move_byte kind) 0x80) (move_byte kind + 0x80) ≡ true
-      right kind = grind arith
 
   -- a command that is shorter than its opcode asks
   short_about : (o : Opcode) (code : ℕ) → s.opcode ≡ (row_of o).byte → a.unit ≡ s.unit → status_code a ≡ 1
       → (is_about_another (row_of o).byte ≡ true → s.parameter ≡ None) → a.code ≡ bit_or (row_of o).byte 0x80
-      → has_count a (wanted (row_of o).byte s) ≡ true → Keeps s a
-  short_about o code e unit one none c count =
+      → has_count a (wanted (row_of o).byte s) ≡ true → is_short s ≡ true → Keeps s a
+  short_about o code e unit one none c count short =
       let op = (row_of o).byte in
       let P : Bool → Type 0 = λ b. is_about_another op ≡ b → (if b then s.parameter else None) ≡ None in
       let nobody : asked op s ≡ None = elim (is_about_another op) as P [
@@ -195,7 +304,7 @@ module _ (s : Sent) (a : Answer) where
         | false ↦ λ h. refl
       ] refl in
       known op e unit (ap (λ n. not (nat_eq n 0x80)) c ∙ top o) (ap (λ n. nat_eq n (op + 0x80)) c ∙ right o)
-      (ap (may_have op) one) (ap (succeeds a) nobody) (ap (is_about a) nobody) count
+      (ap (may_have op) one) (short_apt short one) (ap (succeeds a) nobody) (ap (is_about a) nobody) count
     where
       top : (o : Opcode) → not (nat_eq (bit_or (row_of o).byte 0x80) 0x80) ≡ true
       top o = grind arith
@@ -236,33 +345,51 @@ module _ (s : Sent) (a : Answer) where
       let one : status_code a ≡ 1 = ap (λ n. n % 32) (st ∙ is ∙ h.why) in
       let read = subst (λ b. BodyReads b a) (whole ∙ ap refused_body code) q in
       short_about o (bit_or (row_of o).byte 0x80) h.opcode unit one h.about (c ∙ code) (none_moved o one read)
+      h.short
+
+  -- the sub-codes of those that suit an order
+  abbrev Fine : ℕ → ℕ → Type 0
+  Fine n status = (status % 32 ≡ 0 → status ≡ 0) × (status % 32 ≡ 1 → status / 256 < n)
+
+  apt_by : (n status : ℕ) → a.status ≡ status → (is_short s ≡ false) × (n ≤ s.bytes) → Fine n status → IsApt s a
+  apt_by n status st long fine =
+      let own = subst (Fine n) (sym st) fine in long_apt n long.0 long.1 (inl own.0) own.1
+
+  apt_never : (n status : ℕ) → a.status ≡ status → (is_short s ≡ false) × (n ≤ s.bytes)
+      → (status % 32 ≡ 0 → status ≡ 0) × (status % 32 ≢ 1) → IsApt s a
+  apt_never n status st long fine = apt_by n status st long (fine.0, λ z. absurd (fine.1 z))
 
   -- an end that suits the order of a command keeps its rules
-  pub keeps : (o : Order) (status : ℕ) (body : EndBody) → Says o s → Suits o status body → a.unit ≡ s.unit
-      → a.code ≡ endcode o → a.status ≡ status → BodyReads body a → Keeps s a
-  keeps (orders.Abort other) status body says suits unit c st q =
+  pub keeps : (o : Order) (status : ℕ) (body : EndBody) → Says o s → IsLong o s → Suits o status body
+      → IsFine o status → a.unit ≡ s.unit → a.code ≡ endcode o → a.status ≡ status → BodyReads body a → Keeps s a
+  keeps (orders.Abort other) status body says long suits fine unit c st q =
       about_other 1 129 other says.0 unit c refl refl refl refl says.1 (subst (λ b. BodyReads b a) suits.1 q) refl
-      (ap (λ n. n % 32) st ∙ suits.0)
-  keeps (orders.Status other) status body says suits unit c st q =
+      (ap (λ n. n % 32) st ∙ suits.0) (apt_never 16 status st long fine)
+  keeps (orders.Status other) status body says long suits fine unit c st q =
       about_other 2 130 other says.0 unit c refl refl refl refl says.1 (subst (λ b. BodyReads b a) suits.2 q).0 refl
-      (ap (λ n. n % 32) st ∙ suits.0)
-  keeps orders.UnitStatus status body says suits unit c st q =
+      (ap (λ n. n % 32) st ∙ suits.0) (apt_never 16 status st long fine)
+  keeps orders.UnitStatus status body says long suits fine unit c st q =
       plain 3 131 says unit c refl refl refl refl (ap (λ n. may_have 3 (n % 32)) st ∙ suits)
-  keeps (orders.SetController version) status body says suits unit c st q =
+      (apt_never 12 status st long fine)
+  keeps (orders.SetController version) status body says long suits fine unit c st q =
       plain 4 132 says unit c refl refl refl refl (ap (λ n. may_have 4 (n % 32)) st ∙ suits)
-  keeps orders.Available status body says suits unit c st q =
+      (apt_by 14 status st long fine)
+  keeps orders.Available status body says long suits fine unit c st q =
       plain 8 136 says unit c refl refl refl refl (ap (λ n. may_have 8 (n % 32)) st ∙ suits)
-  keeps orders.Online status body says suits unit c st q =
+      (apt_never 12 status st long fine)
+  keeps orders.Online status body says long suits fine unit c st q =
       plain 9 137 says unit c refl refl refl refl (ap (λ n. may_have 9 (n % 32)) st ∙ suits)
-  keeps orders.SetUnit status body says suits unit c st q =
+      (long_apt 12 long.0 long.1 (inr says) (λ z. absurd (fine (ap (λ n. n % 32) (sym st) ∙ z))))
+  keeps orders.SetUnit status body says long suits fine unit c st q =
       plain 10 138 says unit c refl refl refl refl (ap (λ n. may_have 10 (n % 32)) st ∙ suits)
-  keeps (orders.Move kind count block) status body says suits unit c st q =
+      (apt_never 12 status st long fine)
+  keeps (orders.Move kind count block) status body says long suits fine unit c st q =
       transfer kind suits.1 count says.0 unit c says.1 (subst (λ b. BodyReads b a) suits.2 q)
-      (ap (λ n. may_have (move_byte kind) (n % 32)) st ∙ suits.0) suits.3
+      (ap (λ n. may_have (move_byte kind) (n % 32)) st ∙ suits.0) (apt_by 32 status st long fine) suits.3
       (λ z. suits.4 (ap (λ n. n % 32) (sym st) ∙ z))
-  keeps (orders.Invalid byte fault) status body says suits unit c st q = ⊎_elim
+  keeps (orders.Invalid byte fault) status body says long suits fine unit c st q = ⊎_elim
       (λ e. unknown unit
-      (ap (λ n. not (nat_eq n 0x80)) (c ∙ ap (λ f. endcode (orders.Invalid byte f)) e))
-      (ap (λ n. n % 32) (st ∙ suits.0 ∙ e)))
+      (ap (λ n. not (nat_eq n 0x80)) (c ∙ ap (λ f. endcode (orders.Invalid byte f)) e.0))
+      (st ∙ (suits.0 ∙ e.0)) e.1)
       (λ short. short_keeps short.0 byte fault status body short.1 unit suits.0 suits.1 c st q)
       says

@@ -11,10 +11,12 @@ use Rattle.mscp_wire.specs.declared.moment.Moment.TheVariants as moments
 use Rattle.mscp_shown.proofs.Strict as strict
 use Rattle.mscp_shown.proofs.Strict.{AreRight, after, after_end, outstanding}
 use Rattle.mscp_shown.proofs.Messages.{HasRoom}
-use Rattle.mscp_wire.specs.Wire.{known, known_after}
+use Rattle.mscp_wire.specs.Wire.{told, told_after, told_nothing}
 use Rattle.mscp_wire.specs.declared.identity.Identity.{Identity}
+use Rattle.mscp_wire.specs.declared.told.Told.{Told}
 use Rattle.std.proofs.lemmas.List.Sums.{fold_push}
-use Rattle.mscp_shown.proofs.Identity.{AreTold, unit_identity}
+use Rattle.mscp_drive.specs.Settings.{unit_shape}
+use Rattle.mscp_shown.proofs.Identity.{AreTold, IsOf}
 use Rattle.mscp_shown.specs.Shown.{shown, shown_by}
 use Rattle.mscp_shown.proofs.Aborted.{Aborts}
 use Rattle.mscp_shown.proofs.Owed.{came, owed, owed_more, quiet}
@@ -115,8 +117,8 @@ module _ (c : Settings) (t : Trace) (m : Moment) (h : Inv c t) where
       → Orders c (t ++ m ∷ []) (after (outstanding (shown t)) w)
       → Heard c (t ++ m ∷ []) (after (outstanding (shown t)) w)
       → ((via : Connection) → AllByRecursion (IsFit c) (ends_at c via t m))
-      → ((via : Connection) (unit : ℕ) (i : Identity) → known_after via unit (known (shown t) via unit) w ≡ Some i
-      → i ≡ unit_identity c unit)
+      → ((via : Connection) (unit : ℕ) (i : Identity)
+      → (told_after via unit (told (shown t) via unit) w).identity ≡ Some i → IsOf (unit_shape c unit) i)
       → More c t m
   shows_one w e same right owners orders heard fit units =
       let is : shown (t ++ m ∷ []) ≡ shown t ++ w ∷ [] = shown_more t m ∙ ap (λ l. shown t ++ l) e in
@@ -129,7 +131,8 @@ module _ (c : Settings) (t : Trace) (m : Moment) (h : Inv c t) where
         heard = subst (Heard c (t ++ m ∷ [])) (sym there) heard;
         fit = fit;
         units = subst (AreTold c) (sym is)
-            (λ via unit i k. units via unit i (sym (fold_push (known_after via unit) None (shown t) w) ∙ k));
+            (λ via unit i k. units via unit i
+            (ap (λ (z : Told). z.identity) (sym (fold_push (told_after via unit) told_nothing (shown t) w)) ∙ k));
         kept = λ credits covers. subst (AreRight credits) (sym is)
             (kept_more credits (shown t) w (h.kept credits covers) (right credits covers));
       }

@@ -39,3 +39,8 @@ mod Alike
 mod Linking
 mod Lenient
 mod Judged
+mod Effects
+mod Stating
+mod Standing
+mod Stepping
+mod Taken

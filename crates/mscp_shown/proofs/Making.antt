@@ -1,21 +1,24 @@
 -- The ends that a moment makes: each fits the command that is outstanding under its name.
-use Rattle.mscp_controller.proofs.Basics.{Promise, ◌≡◌, ◌≢◌, ℕ, ◌+◌, ◌<◌, Bool, true, false, cond, not, ◌&&◌, List, [], ◌∷◌, ◌++◌, length, map, refl, ap, sym, ◌∙◌, subst, arith, filter, if◌then◌else◌, count_by, Option, Some, None, is_some, AllByRecursion, false≢true, and-false, Block, Connection, Order, End, Report, Event, Settings, Trace, Moment, moment, Service, sent_bytes, command_of, command, connection, name, name_on, unit, order, reference, waiting, queues, ends_in, answer, aborted, aborted_unless, aborted_end, good, done, left, serves_in, is_good, own_end, fault_of, is_queued, end_of, outcome, every_append, every_both, every_weaker, every_filter, every_parts, same_name, same_is, waiting_more, waiting_below, good_before, done_before, done_last, drop_last, IsRight, IsServed, cut, waits_below, some_same, Name, figure_of}
+use Rattle.mscp_controller.proofs.Basics.{Promise, ◌≡◌, ◌≢◌, ℕ, ◌+◌, ◌<◌, Bool, true, false, cond, not, ◌&&◌, List, [], ◌∷◌, ◌++◌, length, map, refl, ap, sym, ◌∙◌, subst, arith, filter, if◌then◌else◌, count_by, Option, Some, None, is_some, AllByRecursion, false≢true, and-false, Block, Connection, Order, End, Report, Event, Settings, Trace, Moment, moment, Service, sent_bytes, command_of, command, connection, name, name_on, unit, order, reference, waiting, queues, ends_in, answer, aborted, aborted_unless, aborted_end, good, done, left, serves_in, is_good, own_end, fault_of, is_queued, end_of, outcome, every_append, every_both, every_weaker, get_or, First, every_filter, every_parts, same_name, same_is, waiting_more, waiting_below, good_before, done_before, done_last, drop_last, IsRight, IsServed, cut, waits_below, some_same, Name, figure_of}
 use Rattle.std.specs.Prelude.{◌%◌, ◌^◌}
 use Rattle.mscp_controller.specs.declared.entry.Entry.{Entry}
 use Rattle.mscp_controller.specs.Ends.{figure_asked}
 use Rattle.mscp_controller.specs.Units.{is_online}
 use Rattle.mscp_drive.specs.declared.block.Block.TheVariants.{Bad, Good}
+use Rattle.mscp_queue.proofs.Lists.{pairs_append}
 use Rattle.mscp_queue.specs.Outcomes.{goes_on}
+use Rattle.mscp_queue.specs.Pairs.{Pairs}
 use Rattle.mscp_wire.specs.Wire.{is_named, sent_by}
 use Rattle.mscp_wire.specs.declared.sent.Sent.{Sent}
 use Rattle.mscp_shown.specs.Keeping.{AreBytes}
-use Rattle.mscp_shown.proofs.Aborted.{Aborts, EndsAbort, IsAbort, aborts_answer, named_each, outcome_apart, own_apart}
+use Rattle.mscp_shown.proofs.Aborted.{Aborts, EndsAbort, IsAbort, IsBehind, aborts_answer, named_each, outcome_apart, own_apart}
 use Rattle.mscp_shown.proofs.Answering.{own_number}
 use Rattle.mscp_shown.proofs.Fitting.{IsSmallCommand, aborted_fit, own_fit, served_fit, small_command}
 use Rattle.mscp_shown.proofs.Ordering.{Ordered, ordered_answer}
 use Rattle.mscp_shown.proofs.Waiting.{own_order}
 use Rattle.mscp_shown.proofs.Owners.{Fits, IsNew, IsOnly, IsOwed, IsOwn, message, untold}
 use Rattle.mscp_shown.proofs.Owning.{Owners, fits, only_new, still_own}
+use Rattle.mscp_shown.proofs.Pairing.{index_every, pairs_index}
 use Rattle.mscp_shown.proofs.Polling.{aborted_polls, asked_by, own_polls, poll_of, served_polls}
 use Rattle.mscp_shown.proofs.Reading.{IsFit}
 use Rattle.mscp_shown.proofs.Saying.{sent_says}
@@ -170,6 +173,21 @@ module _ (c : Settings) (own : Connection) (t : Trace) (xs : List Sent) (b : Lis
       (aborted c own t k) (aborted_each own t Q k.order (fault_of c k) all)))
       ((owed, fit), tt)
 
+  -- the last command has a number of its own
+  behind_last : (n : ℕ) (e : End) → e.reference ≡ (sent_by own b).reference
+      → Pairs (IsBehind own n e) (xs ++ sent_by own b ∷ [])
+  behind_last n e numbered =
+      let z = sent_by own b in
+      let none : (s : Sent) → is_named own z.reference s ≡ false → is_named own e.reference s ≡ false =
+      λ s q. ap (λ r. is_named own r s) numbered ∙ q in
+      pairs_append (IsBehind own n e) xs z
+      (pairs_index (IsBehind own n e) xs (sent_by First [])
+      (λ i j l m w. absurd (false≢true (sym (none (get_or xs i (sent_by First []))
+      (index_every (λ s. is_named own z.reference s ≡ false) xs (sent_by First []) new.outstanding i
+      (omega (arith, l, m)))) ∙ w))))
+      (every_weaker (λ s. is_named own z.reference s ≡ false) (λ s. IsBehind own n e s z)
+      (λ s q w. absurd (false≢true (sym (none s q) ∙ w))) xs new.outstanding)
+
   -- behind an aborted command's end stands that of the ABORT
   pub answer_aborts : Aborts own (xs ++ sent_by own b ∷ []) (answer c own t b)
   unfolding answer command_of
@@ -184,8 +202,11 @@ module _ (c : Settings) (own : Connection) (t : Trace) (xs : List Sent) (b : Lis
       aborts_answer own t (xs ++ sent_by own b ∷ []) e ys
       (every_weaker (λ x. IsAbort (reference t x) (sent_by own b))
       (λ x. EndsAbort own (xs ++ sent_by own b ∷ []) (reference t x) e)
-      (λ x h. subst (λ n. IsOnly own n (xs ++ sent_by own b ∷ []) (IsAbort (reference t x))) (sym numbered)
-      (only_new c own t xs b new owners (IsAbort (reference t x)) h)) ys
+      (λ x h. (
+        subst (λ n. IsOnly own n (xs ++ sent_by own b ∷ []) (IsAbort (reference t x))) (sym numbered)
+            (only_new c own t xs b new owners (IsAbort (reference t x)) h),
+        behind_last (reference t x) e numbered,
+      )) ys
       (named_each own t (sent_by own b) k.order (fault_of c k) says))
       (own_apart c online figure k (sent_by own b) says)
 

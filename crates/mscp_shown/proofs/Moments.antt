@@ -1,5 +1,5 @@
 -- Each moment of a legal trace keeps what its parts keep, so that the whole trace does.
-use Rattle.mscp_controller.proofs.Basics.{◌≡◌, ℕ, All, zero, suc, ◌+◌, ◌<◌, ◌≤◌, true, [], ◌∷◌, ◌++◌, length, take, drop, refl, ap, sym, ◌∙◌, subst, arith, count_by, Option, Some, None, Ok, Err, AllByRecursion, recursion_from_All, Connection, End, IsOfKind, Settings, IsValid, Trace, Moment, moment, Service, takes, collect, ends, ends_at, untaken, waiting, every_append, every_parts, Event, Report, First, IsRight, IsLegal, ends_more, ArrayVec, Block, Command, Name, name, same_name, figure, figure_of, bound, find, is_queued, each_queued, waits_below, is_step, is_waiting, connection, reference}
+use Rattle.mscp_controller.proofs.Basics.{◌≡◌, ℕ, All, zero, suc, ◌+◌, ◌<◌, ◌≤◌, true, [], ◌∷◌, ◌++◌, length, take, drop, refl, ap, sym, ◌∙◌, subst, arith, count_by, Option, Some, None, Ok, Err, AllByRecursion, recursion_from_All, Connection, End, IsOfKind, Settings, IsValid, Trace, Moment, moment, Service, takes, collect, ends, ends_at, untaken, waiting, every_append, every_parts, Event, Report, First, IsRight, IsLegal, ends_more, ArrayVec, Block, Command, Name, name, same_name, figure, figure_of, bound, find, is_queued, each_queued, waits_below, is_step, is_waiting, connection, reference, Bool, true, false, false≢true, if◌then◌else◌, append-nil, answer, arrival, arrives, command_of, one_side, same_connection}
 use Rattle.std.specs.Prelude.{◌^◌}
 use Rattle.mscp_controller.specs.Figures.{figure_found}
 use Rattle.mscp_controller.proofs.Promise.Progress.{progress}
@@ -8,14 +8,18 @@ use Rattle.mscp_controller.specs.declared.entry.Entry.{Entry}
 use Rattle.std.proofs.lemmas.List.{get_or-take, length-take-le, take-append-drop, take-take, take_all}
 use Rattle.mscp_controller.proofs.Promise.Known.{Known, known, more_at}
 use Rattle.mscp_controller.proofs.Promise.Shaped.{shaped}
+use Rattle.mscp_controller.proofs.Promise.States.{is_online_empty}
 use Rattle.mscp_drive.specs.declared.block.Block.TheVariants.{Bad, Good}
 use Rattle.mscp_shown.specs.Keeping.{Covers, IsPatient, IsPossible, LegalTracesAreRight, Polls}
 use Rattle.mscp_shown.proofs.Judged.{lenient}
-use Rattle.mscp_shown.proofs.Strict.{AreRight}
+use Rattle.mscp_shown.proofs.Standing.{Stands, message_stands, quiet_stands}
+use Rattle.mscp_shown.proofs.Stepping.{step_stands}
+use Rattle.mscp_shown.proofs.Strict.{AreRight, AreStated}
+use Rattle.mscp_shown.proofs.Taken.{Holds, answer_effects, take_stands}
 use Rattle.mscp_shown.proofs.Messages.{has_room}
 use Rattle.mscp_shown.specs.Shown.{shown}
 use Rattle.mscp_shown.proofs.Ending.{took_more}
-use Rattle.mscp_shown.proofs.Kept.{Inv, More, stills}
+use Rattle.mscp_shown.proofs.Kept.{Inv, More, isnt_queued, stills}
 use Rattle.mscp_shown.proofs.Sending.{answered_more, queued_more}
 use Rattle.mscp_shown.proofs.Serving.{served_more}
 use Rattle.mscp_shown.proofs.Making.{Facts, even_more}
@@ -86,6 +90,80 @@ module _ (c : Settings) (t : Trace) (k : Known c t)
   more Event.Look (Entry.Looked list) may patient r =
       stills c t (Event.Look, Entry.Looked list) h k r refl (λ via p. (refl, refl)) (λ n. refl) refl (λ via. refl)
   more event entry may patient r = absurd r
+
+-- what is told of the states of units
+module _ (c : Settings) (t : Trace) (k : Known c t)
+    (kinds : (via : Connection) → AllByRecursion IsOfKind (ends c via t)) (h : Inv c t) (s : Stands c t) where
+  take_told : (own : Connection) (b : ArrayVec ℕ) → IsRight c t (Event.Take own) (Entry.Taken own (Some b))
+      → Stands c (t ++ (Event.Take own, Entry.Taken own (Some b)) ∷ [])
+  take_told own b r =
+      let first = first_taken (untaken c own t) b r.1 in
+      let e = first.0 in
+      let is = first.2.is in
+      let kind = subst (AllByRecursion IsOfKind) is (untaken_all IsOfKind c own t (kinds own)) in
+      let fit = subst (AllByRecursion (IsFit c)) is (untaken_all (IsFit c) c own t (h.fit own)) in
+      take_stands c t own b k s e first.1 is (ap (λ (v : ArrayVec ℕ). v.items) first.2.bytes) kind.0 fit.0
+
+  answer_told : (own : Connection) (b : ArrayVec ℕ) (q : ℕ) (a : Option ℕ)
+      → Ok (Sent.Answered q a) ≡ arrival c own t b.items
+      → Stands c (t ++ (Event.Send own b, Entry.Sent own (Ok (Sent.Answered q a))) ∷ [])
+  answer_told own b q a r =
+      let m : Moment = (Event.Send own b, Entry.Sent own (Ok (Sent.Answered q a))) in
+      let z = arrives c own t b.items (Sent.Answered q a) r in
+      let isnt = isnt_queued c own t (command_of b.items) (is_queued c (command_of b.items)) q a z.is in
+      let effects = answer_effects c own t b.items s isnt in
+      message_stands c t m k s own b refl refl (λ via. refl)
+      (λ via. by_side via (same_connection own via) refl effects) (λ e. refl)
+    where
+      by_side : (via : Connection) (here : Bool) → same_connection own via ≡ here
+          → AllByRecursion (Holds c own t b.items s) (answer c own t b.items)
+          → AllByRecursion (Holds c own t b.items s) ((if here then answer c via t b.items else []) ++ [])
+      by_side via true e all =
+          subst (λ v. AllByRecursion (Holds c own t b.items s) (answer c v t b.items ++ [])) (one_side own via e)
+          (subst (AllByRecursion (Holds c own t b.items s)) (sym (append-nil (answer c own t b.items))) all)
+      by_side via false e all = tt
+
+  stands_more : (event : Event) (entry : Entry) → IsPossible event → IsRight c t event entry
+      → Stands c (t ++ (event, entry) ∷ [])
+  stands_more (Event.Send own b) (Entry.Sent other (Err fault)) may r =
+      quiet_stands c t (Event.Send own b, Entry.Sent other (Err fault)) k s refl refl (λ via. refl) (λ via. refl) refl
+  stands_more (Event.Send own b) (Entry.Sent other (Ok (Sent.Queued q))) may r =
+      message_stands c t (Event.Send own b, Entry.Sent other (Ok (Sent.Queued q))) k s own b refl refl (λ via. refl)
+      (λ via. tt) (λ e. refl)
+  stands_more (Event.Send own b) (Entry.Sent other (Ok (Sent.Answered q a))) may r =
+      subst (λ o. Stands c (t ++ (Event.Send own b, Entry.Sent o (Ok (Sent.Answered q a))) ∷ [])) (sym r.0)
+      (answer_told own b q a r.1)
+  stands_more (Event.Step block) (Entry.Stepped Report.Idle) may r =
+      quiet_stands c t (Event.Step block, Entry.Stepped Report.Idle) k s refl refl (λ via. refl) (λ via. refl) refl
+  stands_more (Event.Step block) (Entry.Stepped (Report.Served other reference unit lbn started seek ended)) may r =
+      let z : Service = record {
+        connection = other;
+        reference = reference;
+        unit = unit;
+        lbn = lbn;
+        started = started;
+        seek = seek;
+        ended = ended;
+      } in
+      step_stands c t (Event.Step block, Entry.Stepped (Report.Served other reference unit lbn started seek ended)) k s
+      h.queued z block r.0 refl r.1 (fault_of block may) refl (λ via. refl) (λ via. refl) refl
+  stands_more (Event.Take own) (Entry.Taken other None) may r =
+      quiet_stands c t (Event.Take own, Entry.Taken other None) k s refl refl (λ via. refl) (λ via. refl) refl
+  stands_more (Event.Take own) (Entry.Taken other (Some b)) may r =
+      subst (λ o. Stands c (t ++ (Event.Take own, Entry.Taken o (Some b)) ∷ [])) (sym r.0) (take_told own b (refl, r.1))
+  stands_more Event.Look (Entry.Looked list) may r =
+      quiet_stands c t (Event.Look, Entry.Looked list) k s refl refl (λ via. refl) (λ via. refl) refl
+  stands_more event entry may r = absurd r
+
+stands_empty : (c : Settings) → Stands c []
+unfolding shown waiting ends untaken collect
+stands_empty c = record {
+  stated = λ via unit e. cc;
+  there = λ unit e. absurd (false≢true (sym (is_online_empty unit) ∙ e));
+  shared = tt;
+  controller = λ n e. cc;
+  are = λ i low. absurd (omega (arith, low));
+}
 
 inv_more : (c : Settings) (t : Trace) (m : Moment) → Known c t
     → ((via : Connection) → AllByRecursion IsOfKind (ends c via t)) → Facts c t → IsPossible m.0
@@ -202,6 +280,20 @@ module _ (c : Settings) (t : Trace) (valid : IsValid c) (legal : IsLegal c t)
       (inv_more c (take i t) (moment t i) before kinds facts parts.1
       (subst IsPatient e (patient_part (suc i) h)) (legal i low) there)
 
+  stands_at : (i : ℕ) → i ≤ length t → Stands c (take i t)
+  stands_at zero h = stands_empty c
+  stands_at (suc i) h =
+      let low : i < length t = omega (arith, h) in
+      let before = known c valid.some_blocks t legal i (omega (arith, h)) in
+      let kinds = λ (via : Connection). recursion_from_All IsOfKind (ends c via (take i t))
+      (shaped c via (take i t) (legal_part c t i (omega (arith, h)) legal)) in
+      let one : suc i ≡ i + 1 = omega arith in
+      let e : take (suc i) t ≡ take i t ++ moment t i ∷ [] =
+      ap (λ n. take n t) one ∙ more_at t i low in
+      subst (Stands c) (sym e)
+      (stands_more c (take i t) before kinds (inv_at i (omega (arith, h))) (stands_at i (omega (arith, h)))
+      (moment t i).0 (moment t i).1 (may_part i low).1 (legal i low))
+
 -- the stricter rules are kept
 strictly_right : (c : Settings) (t : Trace) (credits : Option ℕ) → IsValid c → IsLegal c t
     → All (λ m. IsPossible m.0) t → IsPatient t → Covers credits c → AreRight credits (shown t)
@@ -213,4 +305,7 @@ strictly_right c t credits valid legal may patient covers =
 
 pub are_right : LegalTracesAreRight
 are_right c t credits valid legal may patient covers =
+    let all = stands_at c t valid legal (recursion_from_All (λ (m : Moment). IsPossible m.0) t may) patient (length t)
+    (omega arith) in
     lenient credits (shown t) (strictly_right c t credits valid legal may patient covers)
+    (subst (λ s. AreStated (shown s)) (take_all (length t) t (omega arith)) all.are)

@@ -78,8 +78,8 @@ ordered_after via xs a i before (e ∷ us) h = (
 -- one of the two keeps its place, and the other may wait for it
 abbrev pub fences : Sent → Sent → Bool
 fences y s =
-    (wire.is_sequential s.opcode && (wire.is_sequential y.opcode || wire.is_transfer y.opcode))
-    || (wire.is_transfer s.opcode && wire.is_sequential y.opcode)
+    (wire.is_sequential s.opcode && (wire.is_sequential y.opcode || wire.is_ordered y.opcode))
+    || (wire.is_ordered s.opcode && wire.is_sequential y.opcode)
 
 first_of : (a b c : Bool) → (a && b && c) ≡ true → a ≡ true
 first_of a b c h = grind (arith, false≢true)

@@ -8,7 +8,7 @@ use Rattle.mscp_shown.proofs.Keeping.{keeps}
 use Rattle.mscp_shown.proofs.Owners.{Fits, IsNew, IsOnly, IsOwed, IsOwn, message, only_push, same_sides, untold}
 use Rattle.mscp_shown.proofs.Polling.{asked_by, poll_of, polled_says}
 use Rattle.mscp_shown.proofs.Reading.{IsFit, reads}
-use Rattle.mscp_shown.proofs.Saying.{sent_says}
+use Rattle.mscp_shown.proofs.Saying.{sent_long, sent_says}
 use Rattle.mscp_shown.proofs.Suiting.{Ends}
 
 -- an end that suits its command keeps the rules that look at both alone
@@ -19,8 +19,8 @@ fits c via b e h f poll =
     let a = answer_by via (end_bytes e) in
     let r = reads c via e f in
     record {
-      keeps = keeps (sent_by via b) a (command_of b).order e.status e.body (sent_says via b) h.suits (r.unit ∙ h.unit)
-          (r.code ∙ h.code) r.status r.body;
+      keeps = keeps (sent_by via b) a (command_of b).order e.status e.body (sent_says via b) (sent_long via b) h.suits
+          h.fine (r.unit ∙ h.unit) (r.code ∙ h.code) r.status r.body;
       poll = polled_says (command_of b).order (sent_by via b) a e.status e.body (sent_says via b) h.suits r.status
           (r.code ∙ h.code) ∙ sym poll;
     }

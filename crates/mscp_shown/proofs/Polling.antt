@@ -78,7 +78,7 @@ polled_says (orders.Move kind count block) s a status body says suits st c =
     isnt kind = grind arith
 polled_says (orders.Invalid byte fault) s a status body says suits st c = ⊎_elim
     (λ e. ap (λ n. polled_when (not (nat_eq n 0x80)) (nat_eq s.opcode 2) (is_refused s a) s.parameter)
-    (c ∙ ap (λ f. endcode (orders.Invalid byte f)) e))
+    (c ∙ ap (λ f. endcode (orders.Invalid byte f)) e.0))
     (λ short. none_short short.0 short.1)
     says
   where

@@ -9,7 +9,7 @@ use Rattle.mscp_drive.specs.declared.connection.Connection.{Connection}
 use Rattle.mscp_drive.specs.Settings.{Settings}
 use Rattle.mscp_wire.specs.Wire.{answer_by}
 use Rattle.mscp_wire.specs.declared.answer.Answer.{Answer}
-use Rattle.mscp_shown.proofs.Identity.{Tells}
+use Rattle.mscp_shown.proofs.Identity.{Controls, Tells}
 
 -- the numbers of a body that the rules read fit their places
 abbrev pub IsBodyFit : EndBody → Type 0
@@ -25,6 +25,7 @@ pub record IsFit (c : Settings) (e : End) : Type 0 where
   pub status : e.status < 2 ^ 16
   pub body : IsBodyFit e.body
   pub tells : Tells c e
+  pub controls : Controls c e
 
 -- what is read of a body
 abbrev pub BodyReads : EndBody → Answer → Type 0

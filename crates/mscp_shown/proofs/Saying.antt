@@ -1,6 +1,6 @@
 -- What a message says on the wire, by what it asks for.
-use Rattle.std.proofs.Common.{◌≡◌, ◌⊎◌, inl, inr, ℕ, ◌<◌, ◌≤◌, Bool, true, false, List, length, refl, ap, sym, subst, arith, Option, Some, None}
-use Rattle.std.proofs.lemmas.Bool.{eqb-true, false≢true, le-leb, le-ltb, ltb-false, ltb-true}
+use Rattle.std.proofs.Common.{◌≡◌, ◌⊎◌, inl, inr, ℕ, ◌<◌, ◌≤◌, Bool, true, false, List, length, refl, ap, sym, ◌∙◌, subst, arith, Option, Some, None}
+use Rattle.std.proofs.lemmas.Bool.{eqb-true, false≢true, le-leb, le-ltb, lt-ltb, ltb-false, ltb-true}
 use Rattle.std.specs.Prelude.{find, if◌then◌else◌, nat_eq, nat_le, nat_lt, slice_index}
 use Rattle.mscp_packet.specs.Commands.{command_of, order_with, parameters}
 use Rattle.mscp_packet.specs.Number.{num}
@@ -12,7 +12,7 @@ use Rattle.mscp_packet.specs.declared.command.Order.{Order}
 use Rattle.mscp_packet.specs.declared.command.Order.TheVariants as orders
 use Rattle.mscp_drive.specs.declared.connection.Connection.{Connection}
 use Rattle.mscp_queue.proofs.Placed.{found_is}
-use Rattle.mscp_wire.specs.Wire.{is_about_another, sent_by}
+use Rattle.mscp_wire.specs.Wire.{is_about_another, is_required, is_short, least_message, sent_by}
 use Rattle.mscp_wire.specs.declared.sent.Sent.{Sent}
 
 -- it is shorter than its opcode asks
@@ -21,6 +21,7 @@ pub record IsShort (o : Opcode) (number fault : ℕ) (s : Sent) : Type 0 where
   pub byte : number ≡ (row_of o).byte
   pub opcode : s.opcode ≡ (row_of o).byte
   pub about : is_about_another (row_of o).byte ≡ true → s.parameter ≡ None
+  pub short : is_short s ≡ true
 
 -- the command asks for this
 abbrev pub Says : Order → Sent → Type 0
@@ -32,7 +33,22 @@ Says orders.Available s = s.opcode ≡ 8
 Says orders.Online s = s.opcode ≡ 9
 Says orders.SetUnit s = s.opcode ≡ 10
 Says (orders.Move kind count block) s = (s.opcode ≡ move_byte kind) × (s.parameter ≡ Some count)
-Says (orders.Invalid byte status) s = (status ≡ invalid_opcode) ⊎ ((o : Opcode) × IsShort o byte status s)
+Says (orders.Invalid byte status) s =
+    ((status ≡ invalid_opcode) × (is_required s.opcode ≡ false)) ⊎ ((o : Opcode) × IsShort o byte status s)
+
+-- how many bytes a message that asks for this has at least
+abbrev pub span : Order → ℕ
+span (orders.Abort other) = 16
+span (orders.Status other) = 16
+span (orders.SetController version) = 14
+span (orders.Move kind count block) = 32
+span (orders.Invalid byte status) = 0
+span order = 12
+
+-- the message isn't too short for what it asks
+abbrev pub IsLong : Order → Sent → Type 0
+IsLong (orders.Invalid byte status) s = Unit {0}
+IsLong order s = (is_short s ≡ false) × (span order ≤ s.bytes)
 
 -- a message that is long enough has its parameter
 there : (b : List ℕ) (n : ℕ) → 16 ≤ n → n ≤ length b
@@ -42,7 +58,35 @@ there b n l h = ap (λ t. if t then Some (num b 12 4) else None) (le-leb 16 (len
 short_about : (o : Opcode) → is_about_another (row_of o).byte ≡ true → least o ≡ 16
 short_about o h = grind (arith, false≢true)
 
+-- the judge's least lengths are those of the table
+least_same : (o : Opcode) → least_message (row_of o).byte ≡ least o
+least_same o = grind arith
+
+-- a byte that a controller may not leave out is in the table
+required_found : (b : ℕ) → find (λ o. nat_eq (row_of o).byte b) opcodes ≡ None → is_required b ≡ false
+required_found b h = grind (arith, false≢true)
+
 module _ (via : Connection) (b : List ℕ) where
+  short_is : (o : Opcode) → (row_of o).byte ≡ slice_index b 8
+      → is_short (sent_by via b) ≡ nat_lt (length b) (least o)
+  short_is o e =
+      ap (λ n. nat_lt (length b) (least_message n)) (sym e) ∙ ap (nat_lt (length b)) (least_same o)
+
+  is_long : (o : Opcode) → (row_of o).byte ≡ slice_index b 8 → least o ≤ length b
+      → IsLong (parameters o b) (sent_by via b)
+  is_long o e h = of_row o (short_is o e ∙ le-ltb (length b) (least o) h, h)
+    where
+      of_row : (o : Opcode) → (is_short (sent_by via b) ≡ false) × (least o ≤ length b)
+          → IsLong (parameters o b) (sent_by via b)
+      of_row codes.Abort h = h
+      of_row codes.Status h = h
+      of_row codes.UnitStatus h = h
+      of_row codes.SetController h = h
+      of_row codes.Available h = h
+      of_row codes.Online h = h
+      of_row codes.SetUnit h = h
+      of_row (codes.Move kind) h = h
+
   says_long : (o : Opcode) → (row_of o).byte ≡ slice_index b 8 → least o ≤ length b
       → Says (parameters o b) (sent_by via b)
   says_long codes.Abort e h = (sym e, there b 16 (omega arith) h)
@@ -63,6 +107,7 @@ module _ (via : Connection) (b : List ℕ) where
     about = λ a.
         let low : length b < 16 = subst (λ n. length b < n) (short_about o a) h in
         ap (λ t. if t then Some (num b 12 4) else None) (below low);
+    short = short_is o e ∙ lt-ltb (length b) (least o) h;
   }
     where
       below : length b < 16 → nat_le 16 (length b) ≡ false
@@ -70,7 +115,7 @@ module _ (via : Connection) (b : List ℕ) where
 
   says_found : (found : Option Opcode) → find (λ o. nat_eq (row_of o).byte (slice_index b 8)) opcodes ≡ found
       → Says (order_with found b) (sent_by via b)
-  says_found None e = inl refl
+  says_found None e = inl (refl, required_found (slice_index b 8) e)
   says_found (Some o) e =
       let byte : (row_of o).byte ≡ slice_index b 8 = eqb-true (row_of o).byte (slice_index b 8)
       (found_is (λ o. nat_eq (row_of o).byte (slice_index b 8)) opcodes o e) in
@@ -80,6 +125,23 @@ module _ (via : Connection) (b : List ℕ) where
         | true ↦ λ h. inr (o, says_short o byte (ltb-true (length b) (least o) h))
         | false ↦ λ h. says_long o byte (ltb-false (length b) (least o) h)
       ] refl
+
+  long_found : (found : Option Opcode) → find (λ o. nat_eq (row_of o).byte (slice_index b 8)) opcodes ≡ found
+      → IsLong (order_with found b) (sent_by via b)
+  long_found None e = tt
+  long_found (Some o) e =
+      let byte : (row_of o).byte ≡ slice_index b 8 = eqb-true (row_of o).byte (slice_index b 8)
+      (found_is (λ o. nat_eq (row_of o).byte (slice_index b 8)) opcodes o e) in
+      let P : Bool → Type 0 = λ short. nat_lt (length b) (least o) ≡ short
+      → IsLong (if short then orders.Invalid (slice_index b 8) invalid_length else parameters o b) (sent_by via b) in
+      elim (nat_lt (length b) (least o)) as P [
+        | true ↦ λ h. tt
+        | false ↦ λ h. is_long o byte (ltb-false (length b) (least o) h)
+      ] refl
+
+  pub sent_long : IsLong (command_of b).order (sent_by via b)
+  unfolding command_of
+  sent_long = long_found (opcode_of (slice_index b 8)) refl
 
   pub sent_says : Says (command_of b).order (sent_by via b)
   unfolding command_of

@@ -15,6 +15,7 @@ use Rattle.mscp_shown.specs.Shown.{shown}
 use Rattle.mscp_shown.proofs.Strict.{outstanding}
 use Rattle.mscp_shown.proofs.Aborted.{Aborts}
 use Rattle.mscp_shown.proofs.Answering.{Answer, answered}
+use Rattle.mscp_shown.proofs.Identity.{told_sent}
 use Rattle.mscp_shown.proofs.Messages.{message_right}
 use Rattle.mscp_shown.proofs.Owed.{kept, one_if, owed, owed_more, quiet}
 use Rattle.mscp_shown.proofs.Making.{Facts, answer_aborts, answer_made, answer_ordered}
@@ -69,7 +70,9 @@ module _ (c : Settings) (t : Trace) (own : Connection) (b : ArrayVec ℕ) (k : K
       ∙ ap (λ n. n + cond (wire.same_connection own via && p (num b.items 0 4)) 1 0) (h.tallied via p)
       ∙ ap (λ n. owed c via t p + n) (sym (sent_side via p)) ∙ sym (opens via p))
       (λ credits covers. message_right credits c own t b.items (outstanding (shown t)) covers z.taken (h.tallied own))
-      owners orders heard fit h.units
+      owners orders heard fit
+      (λ via unit i k. h.units via unit i (sym (told_sent (wire.told (shown t) via unit) via unit
+      (sent_by own b.items)) ∙ k))
 
   queued_own : (h : Inv c t) → IsNew c own t (outstanding (shown t)) (sent_by own b.items)
       → IsOnly own (command_of b.items).reference (outstanding (shown t) ++ sent_by own b.items ∷ [])

@@ -1,15 +1,15 @@
 -- Stricter rules of figures than the manual's, which a legal trace keeps: the figure of each command that a poll finds
 -- is at least 1, and falls from poll to poll, whichever is the oldest and whatever unit is named. All else is as the
--- judge of the wire has it.
+-- judge of the wire has it, but that nothing is asked of the states of units and of the controller.
 use Rattle.std.specs.Prelude.{◌≡◌, ℕ, ◌+◌, ◌<◌, Bool, true, false, nat_eq, nat_lt, ◌&&◌, ◌||◌, if◌then◌else◌, List, [], ◌∷◌, ◌++◌, length, map, find, take, drop, fold, Option, Some, None}
 use Rattle.std.specs.List.{list_any}
 use Rattle.mscp_wire.specs.Wire as wire
 use Rattle.mscp_wire.specs.Wire.{History, IsRightMessage, answer_by, command_at, is_below, is_immediate, is_named, place_of, polled_by, sent_by}
 use Rattle.mscp_wire.specs.declared.answer.Answer.{Answer}
-use Rattle.mscp_wire.specs.declared.identity.Identity.{Identity}
 use Rattle.mscp_wire.specs.declared.moment.Moment.{Moment}
 use Rattle.mscp_wire.specs.declared.moment.Moment.TheVariants as moments
 use Rattle.mscp_wire.specs.declared.sent.Sent.{Sent}
+use Rattle.mscp_wire.specs.declared.told.Seen.{Seen}
 
 -- a command, once a figure was told of it, if it is the one that the poll is about
 abbrev pub hears : Answer → Option ℕ → Sent → Sent
@@ -44,29 +44,42 @@ has_figure xs earlier e None = true
 has_figure xs earlier e (Some other) =
     may_tell e.figure (list_any (is_named e.connection other) xs) (find (is_named e.connection other) earlier)
 
--- an end keeps the rules: its command is at place i of those that are outstanding, and this is known of its unit
-pub record IsRightEnd (xs : List Sent) (was : Option Identity) (b : List ℕ) (e : Answer) (i : ℕ) : Type 0 where
+-- an end keeps the rules: its command is at place i of those that are outstanding, and this was told of its unit
+pub record IsRightEnd (xs : List Sent) (was : Seen) (b : List ℕ) (e : Answer) (i : ℕ) : Type 0 where
   pub length : wire.is_long b ≡ true
   pub outstanding : place_of xs e ≡ Some i
   pub unit : wire.names_unit (command_at xs i) e ≡ true
   pub endcode : wire.has_endcode (command_at xs i) e ≡ true
   pub status : wire.has_status (command_at xs i) e ≡ true
-  pub aborted : wire.has_abort xs (command_at xs i) e ≡ true
+  pub aborted : wire.has_abort (drop (i + 1) xs) (command_at xs i) e ≡ true
   pub order : wire.passes_none (take i xs) (command_at xs i) e ≡ true
   pub success : wire.succeeds e (wire.other_of (command_at xs i) e) ≡ true
   pub about : wire.is_about e (wire.other_of (command_at xs i) e) ≡ true
   pub figure : has_figure xs (take i xs) e (polled_by (command_at xs i) e) ≡ true
   pub count : wire.has_count e (wire.count_of (command_at xs i) e) ≡ true
-  pub identity : wire.is_same_unit was e ≡ true
+  pub identity : wire.is_same_unit was.unit e ≡ true
 
--- a moment is right, before which these are outstanding and this is known of its unit
-abbrev pub IsRightAfter : Option ℕ → List Sent → Option Identity → Moment → Type 0
+-- a moment is right, before which these are outstanding and this was told of its unit
+abbrev pub IsRightAfter : Option ℕ → List Sent → Seen → Moment → Type 0
 IsRightAfter credits xs unit (moments.Message via b) = IsRightMessage credits xs b.items (sent_by via b.items)
 IsRightAfter credits xs unit (moments.End via b) = (i : ℕ) × IsRightEnd xs unit b.items (answer_by via b.items) i
 IsRightAfter credits xs unit moments.Reset = Unit {0}
 
 abbrev pub IsRight : Option ℕ → History → Moment → Type 0
-IsRight credits h m = IsRightAfter credits (outstanding h) (wire.known_of (wire.known h) m) m
+IsRight credits h m = IsRightAfter credits (outstanding h) (wire.seen_of (wire.told h) (wire.controller h) m) m
 
 abbrev pub AreRight : Option ℕ → History → Type 0
 AreRight credits h = (i : ℕ) → i < length h → IsRight credits (take i h) (wire.moment_at h i)
+
+-- what an end says suits the state of its unit, and the controller
+abbrev pub IsStated : Seen → Moment → Type 0
+IsStated seen (moments.End via b) =
+    (wire.suits_state seen.unit.state (answer_by via b.items) ≡ true)
+    × (wire.fits seen.controller (answer_by via b.items).controller ≡ true)
+IsStated seen m = Unit {0}
+
+abbrev pub AreStated : History → Type 0
+AreStated h =
+    (i : ℕ) → i < length h
+    → IsStated (wire.seen_of (wire.told (take i h)) (wire.controller (take i h)) (wire.moment_at h i))
+    (wire.moment_at h i)

@@ -1,8 +1,8 @@
 -- The ends that a controller makes suit their commands.
-use Rattle.mscp_controller.proofs.Basics.{◌≡◌, ◌≢◌, ◌⊎◌, ⊎_elim, ℕ, ◌+◌, ◌-◌, ◌*◌, ◌<◌, ◌≤◌, Bool, true, false, cond, ◌&&◌, refl, ap, sym, ◌∙◌, arith, Option, Some, None, true≢false, Command, Order, Block, Settings, Shape, End, unit_found, unit_shape, fault_of, is_queued, own_end, aborted_end, queued_open, some_same}
+use Rattle.mscp_controller.proofs.Basics.{◌≡◌, ◌≢◌, ◌⊎◌, ⊎_elim, ℕ, ◌+◌, ◌-◌, ◌*◌, ◌<◌, ◌≤◌, Bool, true, false, cond, ◌&&◌, refl, ap, sym, ◌∙◌, arith, Option, Some, None, subst, true≢false, Command, Order, Block, Settings, Shape, End, unit_found, unit_shape, fault_of, is_queued, own_end, aborted_end, queued_open, some_same}
 use Rattle.std.proofs.lemmas.Bool.{ltb-false}
 use Rattle.std.proofs.lemmas.Bool.Decides.{nat_tests}
-use Rattle.std.specs.Prelude.{◌%◌, ◌^◌, min, nat_lt}
+use Rattle.std.specs.Prelude.{◌/◌, ◌%◌, ◌^◌, min, nat_lt}
 use Rattle.mscp_packet.specs.Opcodes.{move_byte}
 use Rattle.mscp_packet.specs.declared.command.MoveKind.{MoveKind}
 use Rattle.mscp_packet.specs.declared.command.Order.TheVariants as orders
@@ -19,7 +19,7 @@ use Rattle.mscp_wire.specs.Wire.{may_have}
 use Rattle.std.proofs.Common.{inl, inr}
 use Rattle.mscp_wire.specs.declared.sent.Sent.{Sent}
 use Rattle.mscp_shown.proofs.Saying.{Says}
-use Rattle.mscp_shown.proofs.Keeping.{Suits}
+use Rattle.mscp_shown.proofs.Keeping.{IsFine, Suits}
 
 -- an end suits the command that it ends
 pub record Ends (k : Command) (e : End) : Type 0 where
@@ -27,6 +27,7 @@ pub record Ends (k : Command) (e : End) : Type 0 where
   pub unit : e.unit ≡ k.unit
   pub code : e.code ≡ endcode k.order
   pub suits : Suits k.order e.status e.body
+  pub fine : IsFine k.order e.status
 
 -- ---- refused
 abbrev refused : Order → EndBody
@@ -56,6 +57,18 @@ move_suits kind count block status h =
 pub unit_refused : (status : ℕ) (u : Option Shape) → unit_fault u ≡ Some status → status ≡ 3
 unit_refused status u h = grind arith
 
+move_refused_fine : (c : Settings) (count block status : ℕ) (u : Option Shape)
+    → move_fault c count block u ≡ Some status → (status ≡ 0x0C01) ⊎ ((status ≡ 0x1C01) ⊎ (status ≡ 3))
+move_refused_fine c count block status u h = grind arith
+
+move_fine : (status : ℕ) → (status ≡ 0x0C01) ⊎ ((status ≡ 0x1C01) ⊎ (status ≡ 3))
+    → (status % 32 ≡ 0 → status ≡ 0) × (status % 32 ≡ 1 → status / 256 < 32)
+move_fine status h =
+    let Q : ℕ → Type 0 = λ n. (n % 32 ≡ 0 → n ≡ 0) × (n % 32 ≡ 1 → n / 256 < 32) in
+    ⊎_elim (λ e. subst Q (sym e) ((λ z. absurd (omega (arith, z))), λ z. omega arith))
+    (λ k. ⊎_elim (λ e. subst Q (sym e) ((λ z. absurd (omega (arith, z))), λ z. omega arith))
+    (λ e. subst Q (sym e) ((λ z. absurd (omega (arith, z))), λ z. absurd (omega (arith, z)))) k) h
+
 pub version_refused : (status version : ℕ) → version_fault version ≡ Some status → status ≡ 0x0C01
 version_refused status version h = grind arith
 
@@ -77,7 +90,46 @@ refused_suits c unit status orders.SetUnit h =
 refused_suits c unit status (orders.SetController version) h =
     ap (λ n. may_have 4 (n % 32)) (version_refused status version h)
 
+offline_fine : (status : ℕ) → status ≡ 3 → (status % 32 ≡ 0 → status ≡ 0) × (status % 32 ≢ 1)
+offline_fine status e =
+    subst (λ n. (n % 32 ≡ 0 → n ≡ 0) × (n % 32 ≢ 1)) (sym e)
+    ((λ z. absurd (omega (arith, z))), λ z. omega (arith, z))
+
+version_fine : (status : ℕ) → status ≡ 0x0C01
+    → (status % 32 ≡ 0 → status ≡ 0) × (status % 32 ≡ 1 → status / 256 < 14)
+version_fine status e =
+    subst (λ n. (n % 32 ≡ 0 → n ≡ 0) × (n % 32 ≡ 1 → n / 256 < 14)) (sym e)
+    ((λ z. absurd (omega (arith, z))), λ z. omega arith)
+
+refused_fine : (c : Settings) (unit status : ℕ) (o : Order) → order_fault c unit o ≡ Some status → IsFine o status
+refused_fine c unit status (orders.Invalid byte fault) h = tt
+refused_fine c unit status (orders.Abort other) h = cc
+refused_fine c unit status (orders.Status other) h = cc
+refused_fine c unit status (orders.Move kind count block) h =
+    move_fine status (move_refused_fine c count block status (unit_found c unit) h)
+refused_fine c unit status orders.UnitStatus h = offline_fine status (unit_refused status (unit_found c unit) h)
+refused_fine c unit status orders.Available h = offline_fine status (unit_refused status (unit_found c unit) h)
+refused_fine c unit status orders.Online h =
+    λ z. omega (arith, z, unit_refused status (unit_found c unit) h)
+refused_fine c unit status orders.SetUnit h = offline_fine status (unit_refused status (unit_found c unit) h)
+refused_fine c unit status (orders.SetController version) h = version_fine status (version_refused status version h)
+
 -- ---- answered when it comes
+-- Success without a sub-code
+zero_fine : IsFine orders.Available 0
+zero_fine = ((λ z. refl), λ z. omega (arith, z))
+
+unit_fine : (online : Bool) → IsFine orders.UnitStatus (answer_status online orders.UnitStatus)
+unit_fine true = zero_fine
+unit_fine false = ((λ z. absurd (omega (arith, z))), λ z. omega (arith, z))
+
+answer_fine : (online : Bool) (o : Order) → is_immediate o ≡ true → IsFine o (answer_status online o)
+answer_fine online (orders.Abort other) h = zero_fine
+answer_fine online (orders.Status other) h = zero_fine
+answer_fine online orders.UnitStatus h = unit_fine online
+answer_fine online (orders.SetController version) h = ((λ z. refl), λ z. absurd (omega (arith, z)))
+answer_fine online o h = cc
+
 unit_answer : (online : Bool) → may_have 3 (answer_status online orders.UnitStatus % 32) ≡ true
 unit_answer online = grind arith
 
@@ -97,12 +149,14 @@ own_with c online figure k None e h = record {
   unit = refl;
   code = refl;
   suits = answer_suits c online figure k.unit k.order (h refl);
+  fine = answer_fine online k.order (h refl);
 }
 own_with c online figure k (Some status) e h = record {
   reference = refl;
   unit = refl;
   code = refl;
   suits = refused_suits c k.unit status k.order e;
+  fine = refused_fine c k.unit status k.order e;
 }
 
 -- the end of a command that isn't queued
@@ -126,6 +180,15 @@ aborted_suits orders.Online good h n = refl
 aborted_suits orders.SetUnit good h n = refl
 aborted_suits (orders.Invalid byte fault) good h n = absurd (n byte fault refl)
 aborted_suits o good h n = cc
+
+aborted_fine : (o : Order) → is_immediate o ≡ false → ((byte fault : ℕ) → o ≢ orders.Invalid byte fault) → IsFine o 2
+aborted_fine (orders.Move kind count block) h n =
+    ((λ z. absurd (omega (arith, z))), λ z. absurd (omega (arith, z)))
+aborted_fine orders.Available h n = ((λ z. absurd (omega (arith, z))), λ z. omega (arith, z))
+aborted_fine orders.Online h n = λ z. omega (arith, z)
+aborted_fine orders.SetUnit h n = ((λ z. absurd (omega (arith, z))), λ z. omega (arith, z))
+aborted_fine (orders.Invalid byte fault) h n = absurd (n byte fault refl)
+aborted_fine o h n = cc
 
 -- ---- served
 -- the status of a bad block is one that a drive or a medium may have (manual)
@@ -193,6 +256,32 @@ module _ (shape : Shape) (good done : ℕ) (same : good ≡ done) where
   outcome_suits online (orders.Invalid byte why) k fault h n last = absurd (n byte why refl)
   outcome_suits online o k fault h n last = cc
 
+-- a status that a drive or a medium may have is neither Success nor Invalid Command
+bad_fine : (status n : ℕ) → 5 ≤ status % 32
+    → (status % 32 ≡ 0 → status ≡ 0) × (status % 32 ≡ 1 → status / 256 < n)
+bad_fine status n h = ((λ z. absurd (omega (arith, h, z))), λ z. absurd (omega (arith, h, z)))
+
+bad_apart : (status : ℕ) → 5 ≤ status % 32 → (status % 32 ≡ 0 → status ≡ 0) × (status % 32 ≢ 1)
+bad_apart status h = ((λ z. absurd (omega (arith, h, z))), λ z. omega (arith, h, z))
+
+outcome_fine : (online : Bool) (o : Order) (k : Block) → IsFault k → is_immediate o ≡ false
+    → ((byte why : ℕ) → o ≢ orders.Invalid byte why) → IsFine o (outcome_status online o k)
+outcome_fine true (orders.Move kind count block) Good fault h n = ((λ z. refl), λ z. absurd (omega (arith, z)))
+outcome_fine false (orders.Move kind count block) Good fault h n =
+    ((λ z. absurd (omega (arith, z))), λ z. absurd (omega (arith, z)))
+outcome_fine true (orders.Move kind count block) (Bad status) fault h n = bad_fine status 32 fault.1
+outcome_fine false (orders.Move kind count block) (Bad status) fault h n =
+    ((λ z. absurd (omega (arith, z))), λ z. absurd (omega (arith, z)))
+outcome_fine online orders.Available Good fault h n = zero_fine
+outcome_fine online orders.Available (Bad status) fault h n = bad_apart status fault.1
+outcome_fine true orders.Online Good fault h n = λ z. omega (arith, z)
+outcome_fine false orders.Online Good fault h n = λ z. omega (arith, z)
+outcome_fine online orders.Online (Bad status) fault h n = λ z. omega (arith, z, fault.1)
+outcome_fine online orders.SetUnit Good fault h n = zero_fine
+outcome_fine online orders.SetUnit (Bad status) fault h n = bad_apart status fault.1
+outcome_fine online (orders.Invalid byte why) k fault h n = absurd (n byte why refl)
+outcome_fine online o k fault h n = cc
+
 -- ---- the ends of commands that were queued
 -- a command that is queued is none that a message can't ask for
 pub valid_order : (c : Settings) (unit : ℕ) (o : Order) → order_fault c unit o ≡ None → (byte why : ℕ)
@@ -208,6 +297,7 @@ aborted_ends c k good q =
       unit = refl;
       code = refl;
       suits = aborted_suits k.order good sound.waits (valid_order c k.unit k.order sound.sound);
+      fine = aborted_fine k.order sound.waits (valid_order c k.unit k.order sound.sound);
     }
 
 pub outcome_ends : (c : Settings) (online : Bool) (k : Command) (good done : ℕ) (block : Block)
@@ -222,6 +312,7 @@ outcome_ends c online k good done block q fault same last =
       code = refl;
       suits = outcome_suits (unit_shape c k.unit) good done same online k.order block fault sound.waits
           (valid_order c k.unit k.order sound.sound) last;
+      fine = outcome_fine online k.order block fault sound.waits (valid_order c k.unit k.order sound.sound);
     }
 
 -- a refused command has Invalid Command or Unit-Offline
@@ -230,7 +321,7 @@ pub refused_apart : (c : Settings) (unit status : ℕ) (o : Order) (s : Sent) �
     → (status % 32 ≡ 1) ⊎ (status % 32 ≡ 3)
 refused_apart c unit status (orders.Invalid byte fault) s says h =
     let same : fault ≡ status = some_same fault status h in
-    inl (ap (λ n. n % 32) (sym same) ∙ ⊎_elim (λ e. ap (λ n. n % 32) e) (λ short. ap (λ n. n % 32) short.1.why) says)
+    inl (ap (λ n. n % 32) (sym same) ∙ ⊎_elim (λ e. ap (λ n. n % 32) e.0) (λ short. ap (λ n. n % 32) short.1.why) says)
 refused_apart c unit status (orders.Abort other) s says h = cc
 refused_apart c unit status (orders.Status other) s says h = cc
 refused_apart c unit status (orders.Move kind count block) s says h =

@@ -7,7 +7,7 @@ use Rattle.mscp_packet.specs.declared.end.EndBody.TheVariants as bodies
 use Rattle.mscp_queue.specs.Outcomes.{is_success, outcome_body}
 use Rattle.mscp_controller.specs.Arrival.{is_immediate, order_fault}
 use Rattle.mscp_controller.specs.Outcomes.{answer_body}
-use Rattle.mscp_shown.proofs.Identity.{BodyTells}
+use Rattle.mscp_shown.proofs.Identity.{BodyControls, BodyTells}
 use Rattle.mscp_shown.proofs.Suiting.{move_refused, unit_refused, version_refused}
 
 -- what is answered when it comes
@@ -18,6 +18,14 @@ answer_tells c figure unit (orders.Status other) h = tt
 answer_tells c figure unit orders.UnitStatus h = (refl, refl)
 answer_tells c figure unit (orders.SetController version) h = tt
 answer_tells c figure unit o h = cc
+
+pub answer_controls : (c : Settings) (figure unit : ℕ) (o : Order) → is_immediate o ≡ true
+    → BodyControls c (answer_body c figure unit o)
+answer_controls c figure unit (orders.Abort other) h = tt
+answer_controls c figure unit (orders.Status other) h = tt
+answer_controls c figure unit orders.UnitStatus h = tt
+answer_controls c figure unit (orders.SetController version) h = refl
+answer_controls c figure unit o h = cc
 
 -- what isn't queued and isn't refused is answered when it comes
 pub immediate : (c : Settings) (k : Command) → is_queued c k ≡ false → fault_of c k ≡ None
@@ -56,3 +64,18 @@ outcome_tells s status orders.Online good h n z = online_tells s (is_success sta
 outcome_tells s status orders.SetUnit good h n z = online_tells s (is_success status) (eq-eqb (status % 32) 0 z)
 outcome_tells s status (orders.Invalid byte why) good h n z = absurd (n byte why refl)
 outcome_tells s status o good h n z = cc
+
+-- nor does it tell anything of the controller
+online_controls : (c : Settings) (s : Shape) (success : Bool)
+    → BodyControls c (if success then bodies.Online s.id s.media s.size s.serial else bodies.Online 0 0 0 0)
+online_controls c s true = tt
+online_controls c s false = tt
+
+pub outcome_controls : (c : Settings) (s : Shape) (status : ℕ) (o : Order) (good : ℕ) → is_immediate o ≡ false
+    → ((byte why : ℕ) → o ≢ orders.Invalid byte why) → BodyControls c (outcome_body s status o good)
+outcome_controls c s status (orders.Move kind count block) good h n = tt
+outcome_controls c s status orders.Available good h n = tt
+outcome_controls c s status orders.Online good h n = online_controls c s (is_success status)
+outcome_controls c s status orders.SetUnit good h n = online_controls c s (is_success status)
+outcome_controls c s status (orders.Invalid byte why) good h n = absurd (n byte why refl)
+outcome_controls c s status o good h n = cc

@@ -81,7 +81,7 @@ module _ (c : Settings) (t : Trace) where
       let p = three_parts (wire.same_connection (connection t x) (connection t y))
       (nat_eq (message t x).unit (message t y).unit) (fences (message t y) (message t x)) k in
       let either = fence_of (wire.is_sequential (message t x).opcode) (wire.is_sequential (message t y).opcode)
-      (wire.is_transfer (message t y).opcode) (wire.is_transfer (message t x).opcode) p.2 in
+      (wire.is_ordered (message t y).opcode) (wire.is_ordered (message t x).opcode) p.2 in
       ap (λ b. b && (queue.is_sequential (order t x) || queue.is_sequential (order t y))) (sym (same_unit x y) ∙ p.1)
       ∙ (ap (λ b. b || queue.is_sequential (order t y)) (sym (queued_sequential x qx))
       ∙ (ap (λ b. wire.is_sequential (message t x).opcode || b) (sym (queued_sequential y qy)) ∙ either))
@@ -188,11 +188,11 @@ module _ (c : Settings) (t : Trace) (xs : List Sent) (tallied : (via : Connectio
 
 -- ---- the end of an answer
 immediate_apart : (o : Order) (s : Sent) → Says o s → is_immediate o ≡ true
-    → (wire.is_sequential s.opcode ≡ false) × (wire.is_transfer s.opcode ≡ false)
-immediate_apart (orders.Abort other) s says h = (ap wire.is_sequential says.0, ap wire.is_transfer says.0)
-immediate_apart (orders.Status other) s says h = (ap wire.is_sequential says.0, ap wire.is_transfer says.0)
-immediate_apart orders.UnitStatus s says h = (ap wire.is_sequential says, ap wire.is_transfer says)
-immediate_apart (orders.SetController version) s says h = (ap wire.is_sequential says, ap wire.is_transfer says)
+    → (wire.is_sequential s.opcode ≡ false) × (wire.is_ordered s.opcode ≡ false)
+immediate_apart (orders.Abort other) s says h = (ap wire.is_sequential says.0, ap wire.is_ordered says.0)
+immediate_apart (orders.Status other) s says h = (ap wire.is_sequential says.0, ap wire.is_ordered says.0)
+immediate_apart orders.UnitStatus s says h = (ap wire.is_sequential says, ap wire.is_ordered says)
+immediate_apart (orders.SetController version) s says h = (ap wire.is_sequential says, ap wire.is_ordered says)
 immediate_apart o s says h = cc
 
 keeps_none : (a b seq tr : Bool) (y : Bool) (z : Bool) → y ≡ false → z ≡ false
@@ -214,8 +214,8 @@ clear_answer own xs b e before o new number says h =
     absurd (true≢false (sym q ∙ (ap (λ n. is_named own n (get_or xs j (sent_by First []))) number ∙ no)))))
     (every_from (λ s. IsClearOf own before e s z)
     (λ s q k. absurd (true≢false (sym k ∙ keeps_none (wire.same_connection s.connection z.connection)
-    (nat_eq s.unit z.unit) (wire.is_sequential s.opcode) (wire.is_transfer s.opcode) (wire.is_sequential z.opcode)
-    (wire.is_transfer z.opcode) free.0 free.1))) xs)
+    (nat_eq s.unit z.unit) (wire.is_sequential s.opcode) (wire.is_ordered s.opcode) (wire.is_sequential z.opcode)
+    (wire.is_ordered z.opcode) free.0 free.1))) xs)
 
 apart_of : (status : ℕ) → (status % 32 ≡ 1) ⊎ (status % 32 ≡ 3) → is_apart (status % 32) ≡ true
 apart_of status h = ⊎_elim (λ e. ap is_apart e) (λ e. ap is_apart e) h

@@ -1,13 +1,20 @@
 -- What is outstanding once an end came, and which rule a message breaks.
-use Rattle.std.proofs.Common.{◌≡◌, ℕ, suc, ◌+◌, ◌≤◌, false, List, [], ◌∷◌, ◌++◌, refl, if◌then◌else◌, length, map, take, drop, add-one, sym, ap, ◌∙◌, Option}
+use Rattle.std.proofs.Common.{◌≡◌, ℕ, suc, ◌+◌, ◌≤◌, false, List, [], ◌∷◌, ◌++◌, refl, if◌then◌else◌, length, map, take, drop, add-one, sym, ap, ◌∙◌, Option, Result, Ok, Err, true}
 use Rattle.std.proofs.lemmas.Bool.{le-leb, or_parts}
+use Rattle.arrayvec.specs.ArrayVec.{ArrayVec}
 use Rattle.std.specs.List.{list_any}
+use Rattle.std.specs.Result.{IfOk}
 use Rattle.mscp_drive.specs.declared.connection.Connection.{Connection}
-use Rattle.mscp_wire.specs.Wire.{broken_message, command_at, hears, is_hearing, is_message, left, polls, sent_by, tells, unless}
+use Rattle.mscp_packet.specs.Number.{num}
+use Rattle.mscp_wire.specs.Wire.{answer_by, broken, broken_at, broken_message, command_at, hears, is_hearing, is_long, is_message, left, place_of, polls, sent_by, seen_of, tells, unless}
+use Rattle.mscp_wire.specs.declared.moment.Moment.{Moment}
+use Rattle.mscp_wire.specs.declared.moment.Moment.TheVariants as moments
 use Rattle.mscp_wire.specs.declared.rule.Rule.{Rule}
 use Rattle.mscp_wire.specs.declared.rule.Rule.TheVariants as rules
 use Rattle.mscp_wire.specs.declared.answer.Answer.{Answer}
 use Rattle.mscp_wire.specs.declared.sent.Sent.{Sent}
+use Rattle.mscp_wire.specs.declared.told.Seen.{Seen}
+use Rattle.mscp_wire.specs.declared.told.Told.{Told}
 
 -- the others heard it
 pub after_taken : (xs rest new : List Sent) (e : Answer) (i : ℕ) (y : Sent) → y ≡ command_at xs i
@@ -41,3 +48,36 @@ unheard y e [] h = refl
 unheard y e (x ∷ xs) h =
     let p = or_parts (is_hearing y e x) (list_any (is_hearing y e) xs) h in
     ap (λ z. z ∷ xs) (sym (still y x e p.0)) ∙ ap (λ zs. hears y e x ∷ zs) (unheard y e xs p.1)
+
+-- the rule that an end breaks, as long as its endcode asks
+pub ended_rule : (b : List ℕ) (xs ys : List Sent) (units : Connection → ℕ → Told) (known : Option ℕ)
+    (via : Connection) (a : Answer) (t : Told) (r : Option Rule) → is_long b ≡ true → a ≡ answer_by via b
+    → t ≡ units via a.unit → ys ≡ xs
+    → r ≡ broken_at ys (record { unit = t; controller = known }) a (place_of ys a)
+    → r ≡ unless (is_long b) rules.Length (broken_at xs (record { unit = units via (num b 4 2); controller = known })
+    (answer_by via b) (place_of xs (answer_by via b)))
+ended_rule b xs ys units known via a t r long is here same h =
+    let seen : Seen = record { unit = units via (num b 4 2); controller = known } in
+    h
+    ∙ (ap (λ zs. broken_at zs (record { unit = t; controller = known }) a (place_of zs a)) same
+    ∙ (ap (λ z. broken_at xs (record { unit = z; controller = known }) a (place_of xs a))
+    (here ∙ ap (λ (z : Answer). units via z.unit) is)
+    ∙ (ap (λ z. broken_at xs seen z (place_of xs z)) is
+    ∙ sym (ap (λ q. unless q rules.Length (broken_at xs seen (answer_by via b) (place_of xs (answer_by via b))))
+    long))))
+
+-- the same by its moment
+pub stepped_end : {E : Type 0} (r : Result (Option Rule) E) (credits : Option ℕ) (xs : List Sent)
+    (units : Connection → ℕ → Told) (known : Option ℕ) (via : Connection) (b : ArrayVec ℕ) (bytes : List ℕ) (m : Moment)
+    → m ≡ moments.End via b → bytes ≡ b.items
+    → IfOk r (λ rule. rule ≡ unless (is_long bytes) rules.Length (broken_at xs
+    (record { unit = units via (num bytes 4 2); controller = known }) (answer_by via bytes)
+    (place_of xs (answer_by via bytes))))
+    → IfOk r (λ rule. rule ≡ broken credits xs (seen_of units known m) m)
+stepped_end (Ok rule) credits xs units known via b bytes m is same h =
+    h
+    ∙ (ap (λ l. unless (is_long l) rules.Length (broken_at xs
+    (record { unit = units via (num l 4 2); controller = known }) (answer_by via l) (place_of xs (answer_by via l))))
+    same
+    ∙ sym (ap (λ z. broken credits xs (seen_of units known z) z) is))
+stepped_end (Err e) credits xs units known via b bytes m is same h = h

@@ -1,5 +1,5 @@
 pub mod Counting
-pub mod Units
+pub mod Keys
 pub mod Hearing
 pub mod Rights
 pub mod Passing

@@ -9,10 +9,9 @@ use Rattle.mscp_reader.specs.declared.fault.Cause.{Cause}
 use Rattle.mscp_reader.specs.declared.fault.Cause.TheVariants as causes
 use Rattle.mscp_reader.specs.declared.fault.ReadFault.{ReadFault}
 use Rattle.mscp_reader.specs.declared.fault.ScriptFault.{ScriptFault}
-use Rattle.mscp_wire.specs.Wire.{History, after, broken, broken_by, kept, known, known_after, known_of, outstanding}
+use Rattle.mscp_wire.specs.Wire.{History, after, broken, broken_by, controller, controller_after, outstanding, seen_of, told, told_after, told_nothing}
 use Rattle.mscp_packet.specs.Number.{num}
 use Rattle.mscp_drive.specs.declared.connection.Connection.{Connection}
-use Rattle.mscp_wire.specs.declared.identity.Online.{Online}
 use Rattle.mscp_wire.specs.declared.moment.Moment.TheVariants as moments
 use Rattle.mscp_wire.specs.declared.rule.Rule.{Rule}
 use Rattle.mscp_wire.specs.Log.{FailsLine, Log, after_line, after_lines, after_said, command_of, line_says, with_moment}
@@ -21,12 +20,13 @@ use Rattle.mscp_wire.specs.declared.line.Said.{Said}
 use Rattle.mscp_wire.specs.declared.line.Said.TheVariants as says
 use Rattle.mscp_wire.specs.declared.moment.Moment.{Moment}
 use Rattle.mscp_wire.specs.declared.sent.Sent.{Sent}
+use Rattle.mscp_wire.specs.declared.told.Told.{Told}
 use Rattle.mscp_wire.specs.declared.totals.Totals.{Totals}
 use Rattle.mscp_wire.specs.declared.wrong.Wrong.{Wrong}
 
--- what is kept of units is what is known after a history
-abbrev pub AreKnown : List Online → History → Type 0
-AreKnown units h = (via : Connection) (unit : ℕ) → kept units via unit ≡ known h via unit
+-- what is kept of units is what was told after a history
+abbrev pub AreTold : (Connection → ℕ → Told) → History → Type 0
+AreTold units h = (via : Connection) (unit : ℕ) → units via unit ≡ told h via unit
 
 -- ---- a line
 
@@ -62,52 +62,65 @@ pub credits_late : (n c : ℕ) (log : Log) (t : Totals) (b : Bool) → t ≡ tot
     → after_said n log (says.Credits c) ≡ Err causes.Word
 credits_late n c log t b p q h = grind (arith, nat_tests)
 
--- the same is known of a moment's unit
-pub known_same : (units : List Online) (h : History) (m : Moment) → AreKnown units h
-    → known_of (kept units) m ≡ known_of (known h) m
-known_same units h (moments.Message via b) u = refl
-known_same units h (moments.End via b) u = u via (num b.items 4 2)
-known_same units h moments.Reset u = refl
+-- the same was told of a moment's unit, and of the controller
+pub seen_same : (units : Connection → ℕ → Told) (known : Option ℕ) (h : History) (m : Moment) → AreTold units h
+    → known ≡ controller h → seen_of units known m ≡ seen_of (told h) (controller h) m
+seen_same units known h (moments.Message via b) u k = refl
+seen_same units known h (moments.End via b) u k =
+    ap (λ z. record { unit = z; controller = known }) (u via (num b.items 4 2))
+    ∙ ap (λ z. record { unit = told h via (num b.items 4 2); controller = z }) k
+seen_same units known h moments.Reset u k = refl
 
--- what is known after one moment more
-pub known_more : (h : History) (m : Moment) (old new : List Online) → AreKnown old h
-    → ((via : Connection) (unit : ℕ) → kept new via unit ≡ known_after via unit (kept old via unit) m)
-    → AreKnown new (h ++ m ∷ [])
-known_more h m old new u k via unit =
-    k via unit ∙ ap (λ o. known_after via unit o m) (u via unit) ∙ sym (fold_push (known_after via unit) None h m)
+-- the controller after one moment more
+pub controller_more : (h : History) (m : Moment) (old new : Option ℕ) → old ≡ controller h
+    → new ≡ controller_after old m → new ≡ controller (h ++ m ∷ [])
+controller_more h m old new p q =
+    q ∙ ap (λ o. controller_after o m) p ∙ sym (fold_push controller_after None h m)
+
+-- what was told after one moment more
+pub told_more : (h : History) (m : Moment) (old new : Connection → ℕ → Told) → AreTold old h
+    → ((via : Connection) (unit : ℕ) → new via unit ≡ told_after via unit (old via unit) m)
+    → AreTold new (h ++ m ∷ [])
+told_more h m old new u k via unit =
+    k via unit ∙ ap (λ o. told_after via unit o m) (u via unit)
+    ∙ sym (fold_push (told_after via unit) told_nothing h m)
 
 -- a moment that breaks a rule
-pub refused : (n : ℕ) (log : Log) (m : Moment) (credits : Option ℕ) (xs : List Sent) (units : List Online) (rule : Rule)
-    → credits ≡ log.credits → xs ≡ outstanding log.moments → AreKnown units log.moments
-    → Some rule ≡ broken credits xs (known_of (kept units) m) m
+pub refused : (n : ℕ) (log : Log) (m : Moment) (credits : Option ℕ) (xs : List Sent)
+    (units : Connection → ℕ → Told) (known : Option ℕ)
+    (rule : Rule)
+    → credits ≡ log.credits → xs ≡ outstanding log.moments → AreTold units log.moments
+    → known ≡ controller log.moments → Some rule ≡ broken credits xs (seen_of units known m) m
     → broken_by log.credits log.moments m ≡ Some rule
-refused n log m credits xs units rule p q u h =
-    let was = known_of (known log.moments) m in
+refused n log m credits xs units known rule p q u w h =
+    let was = seen_of (told log.moments) (controller log.moments) m in
     ap (λ c. broken c (outstanding log.moments) was m) (sym p) ∙ ap (λ ys. broken credits ys was m) (sym q)
-    ∙ ap (λ o. broken credits xs o m) (sym (known_same units log.moments m u)) ∙ sym h
+    ∙ ap (λ o. broken credits xs o m) (sym (seen_same units known log.moments m u w)) ∙ sym h
 
 -- what is said of it
-pub told_wrong : (n : ℕ) (log : Log) (m : Moment) (credits : Option ℕ) (xs ys : List Sent) (units : List Online)
-    (rule : Rule) (command : Option Sent) → credits ≡ log.credits → xs ≡ outstanding log.moments
-    → AreKnown units log.moments → Some rule ≡ broken credits xs (known_of (kept units) m) m → ys ≡ xs
+pub told_wrong : (n : ℕ) (log : Log) (m : Moment) (credits : Option ℕ) (xs ys : List Sent)
+    (units : Connection → ℕ → Told) (known : Option ℕ) (rule : Rule) (command : Option Sent)
+    → credits ≡ log.credits → xs ≡ outstanding log.moments → AreTold units log.moments
+    → known ≡ controller log.moments → Some rule ≡ broken credits xs (seen_of units known m) m → ys ≡ xs
     → command ≡ command_of ys m
     → with_moment n log m (broken_by log.credits log.moments m)
     ≡ Err (record { line = n; rule = rule; moment = m; command = command })
-told_wrong n log m credits xs ys units rule command p q u h e k =
-    ap (with_moment n log m) (refused n log m credits xs units rule p q u h)
+told_wrong n log m credits xs ys units known rule command p q u w h e k =
+    ap (with_moment n log m) (refused n log m credits xs units known rule p q u w h)
     ∙ ap (λ z. Err (record { line = n; rule = rule; moment = m; command = z }))
     (sym (k ∙ ap (λ z. command_of z m) (e ∙ q)))
 
 -- a moment that breaks no rule
-pub taken : (n : ℕ) (log : Log) (m : Moment) (credits : Option ℕ) (xs : List Sent) (units : List Online)
-    → credits ≡ log.credits → xs ≡ outstanding log.moments → AreKnown units log.moments
-    → None ≡ broken credits xs (known_of (kept units) m) m
+pub taken : (n : ℕ) (log : Log) (m : Moment) (credits : Option ℕ) (xs : List Sent)
+    (units : Connection → ℕ → Told) (known : Option ℕ) → credits ≡ log.credits → xs ≡ outstanding log.moments
+    → AreTold units log.moments
+    → known ≡ controller log.moments → None ≡ broken credits xs (seen_of units known m) m
     → with_moment n log m (broken_by log.credits log.moments m) ≡ Ok (record log { moments = log.moments ++ m ∷ [] })
-taken n log m credits xs units p q u h =
-    let was = known_of (known log.moments) m in
+taken n log m credits xs units known p q u w h =
+    let was = seen_of (told log.moments) (controller log.moments) m in
     ap (with_moment n log m)
     (ap (λ c. broken c (outstanding log.moments) was m) (sym p) ∙ ap (λ ys. broken credits ys was m) (sym q)
-    ∙ ap (λ o. broken credits xs o m) (sym (known_same units log.moments m u)) ∙ sym h)
+    ∙ ap (λ o. broken credits xs o m) (sym (seen_same units known log.moments m u w)) ∙ sym h)
 
 -- what is outstanding after one moment more
 pub pushed : (h : History) (m : Moment) (xs ys : List Sent) → xs ≡ outstanding h → ys ≡ after xs m

@@ -14,7 +14,7 @@ use Rattle.mscp_reader.specs.declared.fault.Cause.TheVariants as causes
 use Rattle.mscp_reader.specs.declared.fault.ReadFault.{ReadFault}
 use Rattle.mscp_reader.specs.declared.fault.ReadFault.TheVariants as reads
 use Rattle.mscp_reader.specs.declared.fault.ScriptFault.{ScriptFault}
-use Rattle.mscp_wire.specs.Wire.{History, answer_by, broken_by, command_at, is_long, is_message, kept, known, outstanding, place_of, sent_by}
+use Rattle.mscp_wire.specs.Wire.{History, answer_by, broken_by, command_at, controller, is_long, is_message, kept, outstanding, place_of, sent_by, told}
 use Rattle.mscp_wire.specs.Totals.{totals_of}
 use Rattle.mscp_wire.specs.declared.answer.Answer.{Answer}
 use Rattle.mscp_wire.specs.declared.line.Said.{Said}
@@ -154,7 +154,8 @@ after_log bytes =
 pub record IsAfter {A : Type 0} (log : Log) (reading : Reading A) : Type 0 where
   pub credits : reading.judge.credits ≡ log.credits
   pub commands : reading.judge.commands.items ≡ outstanding log.moments
-  pub units : (via : Connection) (unit : ℕ) → kept reading.judge.units.items via unit ≡ known log.moments via unit
+  pub units : (via : Connection) (unit : ℕ) → kept reading.judge.units via unit ≡ told log.moments via unit
+  pub controller : reading.judge.controller ≡ controller log.moments
   pub totals : reading.totals ≡ totals_of log.moments
 
 -- the fault of a line of this number is that of its definition, unless memory ran out

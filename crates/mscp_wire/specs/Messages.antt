@@ -1,5 +1,5 @@
 -- What messages and ends say, as far as the rules of the wire ask for it.
-use Rattle.std.specs.Prelude.{ℕ, ◌+◌, ◌%◌, Bool, true, false, not, ◌&&◌, ◌||◌, nat_eq, nat_le, if◌then◌else◌, List, length, slice_index, Option, Some, None}
+use Rattle.std.specs.Prelude.{ℕ, ◌+◌, ◌%◌, Bool, true, false, not, ◌&&◌, ◌||◌, nat_eq, nat_le, nat_lt, if◌then◌else◌, List, length, slice_index, Option, Some, None}
 use Rattle.mscp_packet.specs.Number.{num}
 use Rattle.mscp_packet.specs.Opcodes.{class, is_immediate_class}
 use Rattle.mscp_packet.specs.declared.class.Class.{Class}
@@ -39,6 +39,7 @@ sent_by via b = record {
   reference = num b 0 4;
   unit = num b 4 2;
   opcode = slice_index b 8;
+  bytes = length b;
   next = asks_for_next b;
   modified = is_modified b;
   parameter = four_in b 12;
@@ -46,12 +47,24 @@ sent_by via b = record {
   asked = Nothing;
 }
 
--- what an end of 44 bytes at least says of its unit, if it is one of ONLINE or SET UNIT CHARACTERISTICS (manual, "End
--- Messages"). One of GET UNIT STATUS says the same but the size
+-- what an end of 44 bytes at least says of its unit, if it is one of ONLINE, SET UNIT CHARACTERISTICS or GET UNIT
+-- STATUS (0x83), which says no size (manual, "End Messages")
 abbrev pub identity_in : List ℕ → Option Identity
 identity_in b =
     if nat_le 44 (length b)
-    then Some (record { identifier = num b 20 8; media = num b 28 4; size = num b 36 4 })
+    then Some (record {
+      identifier = num b 20 8;
+      media = num b 28 4;
+      size = if nat_eq (slice_index b 8) 0x83 then None else Some (num b 36 4);
+    })
+    else None
+
+-- the identifier of the controller, if an end of SET CONTROLLER CHARACTERISTICS (0x84) that succeeded tells it (manual,
+-- "SET CONTROLLER CHARACTERISTICS Command")
+abbrev pub controller_in : List ℕ → Option ℕ
+controller_in b =
+    if nat_eq (slice_index b 8) 0x84 && nat_eq (num b 10 2 % 32) 0 && nat_le 28 (length b)
+    then Some (num b 20 8)
     else None
 
 -- the end in a message (manual, "End Messages"). Its parameter is that number of its command's, or how many bytes were
@@ -66,6 +79,7 @@ answer_by via b = record {
   parameter = four_in b 12;
   figure = four_in b 16;
   identity = identity_in b;
+  controller = controller_in b;
 }
 
 -- both are the same connection
@@ -108,9 +122,35 @@ is_unknown_class other = false
 abbrev pub is_unknown : ℕ → Bool
 is_unknown opcode = is_unknown_class (class opcode)
 
+-- it has its place among the commands of its unit, too: a transfer, or one of DETERMINE ACCESS PATHS (11), COMPARE
+-- CONTROLLER DATA (17), FLUSH (19) and REPLACE (20), which no row of the table has (manual, "Command Categories and
+-- Execution Order")
+abbrev pub is_ordered : ℕ → Bool
+is_ordered opcode =
+    is_transfer opcode || nat_eq opcode 11 || nat_eq opcode 17 || nat_eq opcode 19 || nat_eq opcode 20
+
+-- no controller may leave it out (manual, "Minimal Disk Subset"): an ABORT, a GET COMMAND STATUS, a GET UNIT STATUS, a
+-- SET CONTROLLER CHARACTERISTICS, an AVAILABLE, an ONLINE, a SET UNIT CHARACTERISTICS, a READ and a WRITE
+abbrev pub is_required : ℕ → Bool
+is_required opcode =
+    nat_eq opcode 1 || nat_eq opcode 2 || nat_eq opcode 3 || nat_eq opcode 4 || nat_eq opcode 8 || nat_eq opcode 9
+    || nat_eq opcode 10 || nat_eq opcode 33 || nat_eq opcode 34
+
 -- it is an ABORT or a GET COMMAND STATUS, which are about another command
 abbrev pub is_about_another : ℕ → Bool
 is_about_another opcode = nat_eq opcode 1 || nat_eq opcode 2
+
+-- the fewest bytes of a command of this opcode, so that what it asks for is there (manual, "Command Messages")
+abbrev pub least_message : ℕ → ℕ
+least_message opcode =
+    if is_about_another opcode then 16 else (
+    if nat_eq opcode 4 then 14 else (
+    if is_transfer opcode then 32
+    else 12))
+
+-- its message is shorter
+abbrev pub is_short : Sent → Bool
+is_short s = nat_lt s.bytes (least_message s.opcode)
 
 -- the fewest bytes of an end with this endcode (manual, "End Messages")
 abbrev pub least_length : ℕ → ℕ

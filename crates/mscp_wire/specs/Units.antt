@@ -1,13 +1,23 @@
--- What is known of units that are online: what the ends of a history told of them.
-use Rattle.std.specs.Prelude.{ℕ, ◌/◌, ◌%◌, Bool, true, false, not, ◌&&◌, ◌||◌, nat_eq, if◌then◌else◌, List, [], ◌++◌, ◌∷◌, filter, find, fold, Option, Some, None}
+-- What a host was told of units: by its own ends, and of whether they are online by the other host's, too.
+use Rattle.std.specs.Prelude.{◌≡◌, ℕ, ◌+◌, ◌*◌, ◌/◌, ◌%◌, Bool, true, false, not, ◌&&◌, ◌||◌, nat_eq, if◌then◌else◌, fold, Option, Some, None}
+use Rattle.std.specs.Ordering.{nat_cmp}
+use Rattle.std.specs.BTreeMap as tree
 use Rattle.mscp_packet.specs.Number.{num}
 use Rattle.mscp_drive.specs.declared.connection.Connection.{Connection}
-use Rattle.mscp_wire.specs.Messages.{History, answer_by, same_connection, status_code}
+use Rattle.mscp_drive.specs.declared.connection.Connection.TheVariants.{First, Second}
+use Rattle.mscp_wire.specs.Messages.{History, answer_by, controller_in, same_connection, sent_by, status_code}
 use Rattle.mscp_wire.specs.declared.answer.Answer.{Answer}
 use Rattle.mscp_wire.specs.declared.identity.Identity.{Identity}
-use Rattle.mscp_wire.specs.declared.identity.Online.{Online}
 use Rattle.mscp_wire.specs.declared.moment.Moment.{Moment}
 use Rattle.mscp_wire.specs.declared.moment.Moment.TheVariants as moments
+use Rattle.mscp_wire.specs.declared.sent.Sent.{Sent}
+use Rattle.mscp_wire.specs.declared.told.Seen.{Seen}
+use Rattle.mscp_wire.specs.declared.told.State.{State}
+use Rattle.mscp_wire.specs.declared.told.State.TheVariants.{Away, Open, Shared}
+use Rattle.mscp_wire.specs.declared.told.Told.{Told}
+use Rattle.mscp_wire.specs.declared.units.Units.{Units}
+
+-- ---- what an end says of its unit
 
 -- the sub-code of an ONLINE's Success says that the unit was online already: its bit 0x0100 is set (manual, "Status and
 -- Event Codes")
@@ -22,81 +32,181 @@ tells_unit e =
     nat_eq (status_code e) 0
     && (nat_eq e.code 0x83 || (nat_eq e.code 0x89 && was_online e) || nat_eq e.code 0x8A)
 
--- an end with this endcode tells of a unit what is known of it: one of GET UNIT STATUS tells no size
-abbrev pub agrees : ℕ → Option Identity → Identity → Bool
-agrees code None known = false
-agrees code (Some told) known =
-    nat_eq told.identifier known.identifier && nat_eq told.media known.media
-    && (nat_eq code 0x83 || nat_eq told.size known.size)
+-- two numbers are the same, if both are there
+abbrev pub fits : Option ℕ → Option ℕ → Bool
+fits (Some one) (Some other) = nat_eq one other
+fits one other = true
 
--- its unit is what it was when it came online, if it is known to be online (manual, "ONLINE Command")
-abbrev pub is_same_unit : Option Identity → Answer → Bool
-is_same_unit None e = true
-is_same_unit (Some known) e = not (tells_unit e) || agrees e.code e.identity known
+-- an end tells of a unit what is known of it
+abbrev pub agrees : Option Identity → Identity → Bool
+agrees None known = false
+agrees (Some told) known =
+    nat_eq told.identifier known.identifier && nat_eq told.media known.media && fits told.size known.size
 
--- ---- units that are online
+-- what is known of a unit was told by an end of SET UNIT CHARACTERISTICS alone, and so is this: the unit may not be
+-- online, and another one each time
+abbrev pub is_unsure : Told → Answer → Bool
+is_unsure told e = not told.sure && nat_eq e.code 0x8A
+
+-- its unit is what is known of it, if anything is (manual, "ONLINE Command")
+abbrev pub is_known_unit : Told → Option Identity → Answer → Bool
+is_known_unit told None e = true
+is_known_unit told (Some known) e = not (tells_unit e) || is_unsure told e || agrees e.identity known
+
+abbrev pub is_same_unit : Told → Answer → Bool
+is_same_unit told e = is_known_unit told told.identity e
 
 -- an end brings its unit online: one of ONLINE that succeeded
 abbrev pub brings : Answer → Bool
 brings e = nat_eq e.code 0x89 && nat_eq (status_code e) 0
 
--- an end shows that its unit isn't online any more: one of AVAILABLE that succeeded, or a status Unit-Offline (3) or
--- Unit-Available (4)
+-- an end with this endcode is one of a transfer
+abbrev pub is_moved : ℕ → Bool
+is_moved code = nat_eq code 0x90 || nat_eq code 0x92 || nat_eq code 0xA0 || nat_eq code 0xA1 || nat_eq code 0xA2
+
+-- or of another command that waits for its unit: AVAILABLE, ONLINE or SET UNIT CHARACTERISTICS
+abbrev pub is_of_unit : ℕ → Bool
+is_of_unit code = is_moved code || nat_eq code 0x88 || nat_eq code 0x89 || nat_eq code 0x8A
+
+-- an end of such a command, or of a GET UNIT STATUS, says that its unit isn't online: one of AVAILABLE that succeeded,
+-- without the sub-code that says that the unit is still online (0x0200), or a status Unit-Available (4) or Unit-Offline
+-- (3). That of a GET UNIT STATUS may name unit 0, as there is no unit
+abbrev pub says_away : Answer → Bool
+says_away e =
+    (nat_eq (status_code e) 0 && (nat_eq e.code 0x88 && nat_eq (e.status / 512 % 2) 0))
+    || (nat_eq (status_code e) 4 && (is_of_unit e.code || nat_eq e.code 0x83))
+    || (nat_eq (status_code e) 3 && is_of_unit e.code)
+
+-- after an end nothing is known of what its unit is
 abbrev pub leaves : Answer → Bool
 leaves e =
-    (nat_eq e.code 0x88 && nat_eq (status_code e) 0) || nat_eq (status_code e) 3 || nat_eq (status_code e) 4
+    says_away e || nat_eq (status_code e) 4 || nat_eq (status_code e) 3
+    || (nat_eq (status_code e) 0 && nat_eq e.code 0x88)
 
--- what is known of a unit of a connection once an end brought that unit online. If it wasn't online already, it may be
--- another one to the other host, too
-abbrev pub known_brought : Connection → Option Identity → Answer → Option Identity
-known_brought via known e =
-    if same_connection e.connection via then e.identity else (if was_online e then known else None)
+-- an end says that its unit is online: one of a transfer or a GET UNIT STATUS that succeeded, or one of ONLINE that
+-- says that it was (manual, "Unit States")
+abbrev pub says_online : Answer → Bool
+says_online e =
+    nat_eq (status_code e) 0 && (is_moved e.code || nat_eq e.code 0x83 || (nat_eq e.code 0x89 && was_online e))
 
--- what is known of a unit of a connection once an end came
-abbrev pub known_after_end : Connection → ℕ → Option Identity → Answer → Option Identity
-known_after_end via unit known e =
-    if not (nat_eq e.unit unit) then known else (
-    if leaves e then None else (
-    if brings e then known_brought via known e else known))
+-- ---- whether it is online
+
+-- an end suits the state of its unit: of one that isn't online it doesn't say that it is
+abbrev pub suits_state : State → Answer → Bool
+suits_state Away e = not (says_online e)
+suits_state state e = true
+
+-- the state once an end told another. If the other host brings the unit online, too, nothing is known: its end may be
+-- told late
+abbrev pub turned : State → State → State
+turned Shared new = Shared
+turned old new = new
+
+-- ---- what a host was told of a unit
+
+-- nothing yet
+abbrev pub told_nothing : Told
+told_nothing = record { identity = None; sure = false; state = Open }
+
+-- that it isn't online, as the controller was initialised
+abbrev pub told_reset : Told
+told_reset = record { identity = None; sure = false; state = Away }
+
+-- it isn't known to be shared to the other host
+abbrev pub is_single : State → Bool
+is_single Shared = false
+is_single state = true
+
+-- an end tells something of a unit of which nothing was known for sure
+abbrev pub learns : Told → Answer → Bool
+learns told e = tells_unit e && not told.sure && is_single told.state
+
+-- once an end of its own came, which names the unit
+abbrev pub after_own : Told → Answer → Told
+after_own told e = record {
+  identity = if leaves e then None else (if brings e || learns told e then e.identity else told.identity);
+  sure = not (leaves e) && (brings e || told.sure || (learns told e && nat_eq e.code 0x83));
+  state =
+      if says_away e then turned told.state Away else (
+      if brings e then turned told.state Open else told.state);
+}
+
+-- and once one of the other host did. If that brought the unit online, it may be another one
+abbrev pub after_other : Told → Answer → Told
+after_other told e = record told {
+  identity = if leaves e || (brings e && not (was_online e)) then None else told.identity;
+  sure = not (leaves e || (brings e && not (was_online e))) && told.sure;
+}
+
+-- what the host of a connection was told of a unit once an end came
+abbrev pub told_after_end : Connection → ℕ → Told → Answer → Told
+told_after_end via unit told e =
+    if not (nat_eq e.unit unit) then told else (
+    if same_connection e.connection via then after_own told e else after_other told e)
+
+-- the other host's command is an ONLINE (9) of the unit
+abbrev pub shares : Connection → ℕ → Sent → Bool
+shares via unit s = nat_eq s.opcode 9 && nat_eq s.unit unit && not (same_connection s.connection via)
+
+-- the same once a command came
+abbrev pub told_after_message : Connection → ℕ → Told → Sent → Told
+told_after_message via unit told s = if shares via unit s then record told { state = Shared } else told
 
 -- the same once a moment more came
-abbrev pub known_after : Connection → ℕ → Option Identity → Moment → Option Identity
-known_after via unit known (moments.Message other b) = known
-known_after via unit known (moments.End other b) = known_after_end via unit known (answer_by other b.items)
-known_after via unit known moments.Reset = None
+abbrev pub told_after : Connection → ℕ → Told → Moment → Told
+told_after via unit told (moments.Message other b) = told_after_message via unit told (sent_by other b.items)
+told_after via unit told (moments.End other b) = told_after_end via unit told (answer_by other b.items)
+told_after via unit told moments.Reset = told_reset
 
--- what a connection's host was told, after a history, of a unit that came online and still is
-abbrev pub known : History → Connection → ℕ → Option Identity
-known h via unit = fold (known_after via unit) None h
+-- what the host of a connection was told of a unit after a history
+abbrev pub told : History → Connection → ℕ → Told
+told h via unit = fold (told_after via unit) told_nothing h
 
--- what is known of the unit that a moment's end names
-abbrev pub known_of : (Connection → ℕ → Option Identity) → Moment → Option Identity
-known_of units (moments.Message via b) = None
-known_of units (moments.End via b) = units via (num b.items 4 2)
-known_of units moments.Reset = None
+-- ---- what was told of the controller
+
+-- the later of two numbers, if it is there
+abbrev pub later_of : Option ℕ → Option ℕ → Option ℕ
+later_of None known = known
+later_of (Some number) known = Some number
+
+-- its identifier, once a moment more came
+abbrev pub controller_after : Option ℕ → Moment → Option ℕ
+controller_after known (moments.Message via b) = known
+controller_after known (moments.End via b) = later_of (controller_in b.items) known
+controller_after known moments.Reset = None
+
+-- what either host was told of it after a history
+abbrev pub controller : History → Option ℕ
+controller h = fold controller_after None h
+
+-- what was told of the unit that a moment's end names, and of the controller
+abbrev pub seen_of : (Connection → ℕ → Told) → Option ℕ → Moment → Seen
+seen_of units known (moments.Message via b) = record { unit = told_nothing; controller = None }
+seen_of units known (moments.End via b) = record { unit = units via (num b.items 4 2); controller = known }
+seen_of units known moments.Reset = record { unit = told_nothing; controller = None }
 
 -- ---- the units that are kept
 
--- it is this unit of this connection
-abbrev pub is_unit : Connection → ℕ → Online → Bool
-is_unit via unit u = same_connection u.connection via && nat_eq u.unit unit
+-- the other connection
+abbrev pub other_side : Connection → Connection
+other_side First = Second
+other_side Second = First
+
+-- the number of a unit of a connection
+abbrev pub key : Connection → ℕ → ℕ
+key First unit = 2 * unit
+key Second unit = 2 * unit + 1
+
+abbrev pub told_or : Told → Option Told → Told
+told_or others None = others
+told_or others (Some told) = told
 
 -- what is kept of a unit of a connection
-abbrev pub told_of : Option Online → Option Identity
-told_of None = None
-told_of (Some u) = u.identity
+abbrev pub kept : {A : Type 0} → Units A → Connection → ℕ → Told
+kept units via unit = told_or units.others (tree.get nat_cmp units.kept (key via unit))
 
-abbrev pub kept : List Online → Connection → ℕ → Option Identity
-kept units via unit = told_of (find (is_unit via unit) units)
-
--- the units without those of a number
-abbrev pub without : ℕ → List Online → List Online
-without unit units = filter (λ u. not (nat_eq u.unit unit)) units
-
--- the units with this one in place of all of its number
-abbrev pub with_new : Online → List Online → List Online
-with_new new units = without new.unit units ++ new ∷ []
-
--- the units with this one in place of what is kept of it
-abbrev pub with_unit : Online → List Online → List Online
-with_unit new units = filter (λ u. not (is_unit new.connection new.unit u)) units ++ new ∷ []
+-- this is kept of a unit of a connection, and of each other as before
+abbrev pub Puts : {A : Type 0} → Units A → Units A → Connection → ℕ → Told → Type 0
+Puts old new via unit told =
+    (own : Connection) (number : ℕ) → kept new own number
+    ≡ (if same_connection via own && nat_eq unit number then told else kept old own number)

@@ -12,32 +12,38 @@
 --                    Unit         it names the unit of that command, unless that asks for
 --                                 the next unit                                               names_unit
 --                    Endcode      it has the endcode of that command                          has_endcode
---                    Status       its status has a code that such a command may have          has_status
---                    Aborted      a command is aborted only while its ABORT is outstanding    has_abort
+--                    Status       its status is one that such a command may have              has_status
+--                    Aborted      a command is aborted only while a later ABORT of it is
+--                                 outstanding                                                 has_abort
 --                    Order        of a unit no command passes a sequential one, and that
 --                                 passes none                                                 passes_none
---                    Success      an ABORT and a GET COMMAND STATUS succeed                   succeeds
+--                    Success      an ABORT and a GET COMMAND STATUS succeed, unless they are
+--                                 refused for a modifier                                      succeeds
 --                    About        their ends name the command that they are about             is_about
 --                    Figure       the figure of the oldest command falls from poll to poll;
---                                 it is 0 if no such command is outstanding                   has_figure
+--                                 it is 0 if no such command is outstanding, and may be 0
+--                                 if its end is on the way                                    has_figure
 --                    Count        no more bytes are moved than were asked for, and all of
 --                                 them if the status is Success                               has_count
 --                    Identity     while a unit is online its identifier, media type and size
 --                                 stay as they are                                            is_same_unit
-use Rattle.std.specs.Prelude.{◌≡◌, ℕ, ◌+◌, ◌<◌, Bool, true, false, not, ◌&&◌, ◌||◌, nat_eq, nat_le, nat_lt, if◌then◌else◌, List, [], ◌∷◌, ◌++◌, length, map, take, drop, position, count_by, fold, min, slice_index, slice_index_or, Option, Some, None}
+--                    State        a transfer and a GET UNIT STATUS succeed, and an ONLINE
+--                                 says that its unit was online, only if the unit is online   suits_state
+--                    Controller   the identifier of the controller stays as it is             fits
+use Rattle.std.specs.Prelude.{◌≡◌, ℕ, ◌+◌, ◌/◌, ◌<◌, Bool, true, false, not, ◌&&◌, ◌||◌, nat_eq, nat_le, nat_lt, if◌then◌else◌, List, [], ◌∷◌, ◌++◌, length, map, take, drop, position, count_by, fold, min, slice_index, slice_index_or, Option, Some, None}
 use Rattle.std.specs.List.{list_any}
 use Rattle.mscp_drive.specs.declared.connection.Connection.{Connection}
 use Rattle.mscp_drive.specs.declared.connection.Connection.TheVariants.{First}
-pub use Rattle.mscp_wire.specs.Messages.{History, answer_by, asks_for_next, four_in, identity_in, is_about_another, is_immediate, is_known, is_named, is_sequential, is_modified, is_sequential_class, is_transfer, is_transfer_class, is_unknown, is_unknown_class, least_length, same_connection, sent_by, status_code}
+pub use Rattle.mscp_wire.specs.Messages.{History, answer_by, asks_for_next, controller_in, four_in, identity_in, is_about_another, is_immediate, is_known, is_named, is_ordered, is_required, is_sequential, is_short, is_modified, is_sequential_class, is_transfer, is_transfer_class, is_unknown, is_unknown_class, least_length, least_message, same_connection, sent_by, status_code}
 pub use Rattle.mscp_wire.specs.Polls.{asked_about, asked_by, asking, asks_oldest, has_figure, has_number, hears, is_below, is_hearing, is_it, is_oldest, is_polled, is_refused, left, may_be, may_tell, polled_by, polls, tells, waits_on}
-pub use Rattle.mscp_wire.specs.Units.{agrees, brings, is_same_unit, is_unit, kept, known, known_after, known_after_end, known_brought, known_of, leaves, tells_unit, was_online, with_new, with_unit, without}
+pub use Rattle.mscp_wire.specs.Units.{Puts, after_other, after_own, agrees, brings, controller, controller_after, fits, is_known_unit, is_moved, is_of_unit, is_same_unit, is_single, is_unsure, learns, kept, key, later_of, leaves, other_side, says_away, says_online, seen_of, shares, suits_state, tells_unit, told, told_after, told_after_end, told_after_message, told_nothing, told_or, told_reset, turned, was_online}
 use Rattle.mscp_wire.specs.declared.answer.Answer.{Answer}
-use Rattle.mscp_wire.specs.declared.identity.Identity.{Identity}
 use Rattle.mscp_wire.specs.declared.moment.Moment.{Moment}
 use Rattle.mscp_wire.specs.declared.moment.Moment.TheVariants as moments
 use Rattle.mscp_wire.specs.declared.rule.Rule.{Rule}
 use Rattle.mscp_wire.specs.declared.rule.Rule.TheVariants as rules
 use Rattle.mscp_wire.specs.declared.sent.Sent.{Sent}
+use Rattle.mscp_wire.specs.declared.told.Seen.{Seen}
 
 -- ---- the rules of a host
 
@@ -83,46 +89,66 @@ place_of xs e = position (is_named e.connection e.reference) xs
 abbrev pub names_unit : Sent → Answer → Bool
 names_unit y e = y.next || nat_eq e.unit y.unit
 
--- its endcode is the opcode of its command and 0x80 (manual, "End Messages"), or 0x80 alone
+-- its endcode is the opcode of its command and 0x80 (manual, "End Messages"), or 0x80 alone if a controller may leave
+-- that opcode out
 abbrev pub has_endcode : Sent → Answer → Bool
-has_endcode y e = not (is_known e) || nat_eq e.code (y.opcode + 0x80)
+has_endcode y e = if is_known e then nat_eq e.code (y.opcode + 0x80) else not (is_required y.opcode)
 
 -- a command of this opcode may have a status of this code (manual, "Status and Event Codes"): Success (0) or Invalid
 -- Command (1), and any other of 2 to 11 where it isn't an ABORT, a GET COMMAND STATUS or a SET CONTROLLER
--- CHARACTERISTICS. A GET UNIT STATUS isn't aborted (2), and no AVAILABLE or ONLINE is told that its unit is available
--- (4)
+-- CHARACTERISTICS. A GET UNIT STATUS isn't aborted (2), and has no code of a medium, of data or of a buffer (5 to 9);
+-- no AVAILABLE or ONLINE is told that its unit is available (4)
 abbrev pub may_have : ℕ → ℕ → Bool
 may_have opcode code =
     nat_le code 1
     || (nat_le code 11
     && not (nat_eq opcode 1 || nat_eq opcode 2 || nat_eq opcode 4)
-    && not (nat_eq opcode 3 && nat_eq code 2)
+    && not (nat_eq opcode 3 && (nat_eq code 2 || (nat_le 5 code && nat_le code 9)))
     && not ((nat_eq opcode 8 || nat_eq opcode 9) && nat_eq code 4))
 
 -- its status has a code that its command may have: any if no row of the table of opcodes has that, and Invalid Command
 -- where the controller doesn't know it
-abbrev pub has_status : Sent → Answer → Bool
-has_status y e =
+abbrev pub has_code : Sent → Answer → Bool
+has_code y e =
     if is_known e then is_unknown y.opcode || may_have y.opcode (status_code e) else nat_eq (status_code e) 1
+
+-- a command whose message is too short for its opcode doesn't succeed
+abbrev pub is_whole : Sent → Answer → Bool
+is_whole y e = not (is_short y) || not (nat_eq (status_code e) 0)
+
+-- of those that have a row only an ONLINE (9) succeeds with the sub-code that says that its unit was online already
+abbrev pub is_plain : Sent → Answer → Bool
+is_plain y e =
+    not (nat_eq (status_code e) 0) || not (was_online e) || nat_eq y.opcode 9 || is_unknown y.opcode
+
+-- the sub-code of Invalid Command is the offset of a byte that the message has (manual, "Status and Event Codes"),
+-- unless that is too short
+abbrev pub points_into : Sent → Answer → Bool
+points_into y e = not (nat_eq (status_code e) 1) || is_short y || nat_lt (e.status / 256) y.bytes
+
+-- its status is one that its command may have
+abbrev pub has_status : Sent → Answer → Bool
+has_status y e = has_code y e && is_whole y e && is_plain y e && points_into y e
 
 -- s is an ABORT of the command y
 abbrev pub aborts : Sent → Sent → Bool
 aborts y s =
     same_connection s.connection y.connection && nat_eq s.opcode 1 && is_it s.parameter y.reference
 
--- a command is aborted (2) only while an ABORT of it is outstanding, so its end stands before that of its ABORT
--- (manual, "Command Messages")
+-- a command is aborted (2) only while an ABORT of it is outstanding that came after it, so its end stands before that
+-- of its ABORT (manual, "Command Messages")
 abbrev pub has_abort : List Sent → Sent → Answer → Bool
-has_abort xs y e = not (nat_eq (status_code e) 2) || list_any (aborts y) xs
+has_abort later y e = not (nat_eq (status_code e) 2) || list_any (aborts y) later
 
--- the earlier command s keeps y back: both are of one unit, and one of them is sequential while the other waits in a
--- queue (manual, "Command Categories and Execution Order"). Of two connections nothing is said: each takes its own ends
+-- the earlier command s keeps y back: both are of one unit, and one of them is sequential while the other has its place
+-- in a queue (manual, "Command Categories and Execution Order"). Of two connections nothing is said: each takes its own
+-- ends
 abbrev pub keeps_back : Sent → Sent → Bool
 keeps_back y s =
     same_connection s.connection y.connection
     && nat_eq s.unit y.unit
-    && ((is_sequential s.opcode && (is_sequential y.opcode || is_transfer y.opcode))
-    || (is_transfer s.opcode && is_sequential y.opcode))
+    && ((is_sequential s.opcode && (is_sequential y.opcode || is_ordered y.opcode))
+    || (is_ordered s.opcode && is_sequential y.opcode))
 
 -- a status of this code may come at once, before earlier commands of the unit end: Invalid Command (1), Command
 -- Aborted (2) and Unit-Offline (3)
@@ -144,7 +170,8 @@ other_of y e = if is_known e && is_about_another y.opcode && not (is_refused y e
 abbrev pub count_of : Sent → Answer → Option ℕ
 count_of y e = if is_known e && is_transfer y.opcode then y.parameter else None
 
--- an ABORT and a GET COMMAND STATUS succeed, also of a command that isn't outstanding
+-- an ABORT and a GET COMMAND STATUS succeed, also of a command that isn't outstanding, unless they are refused for a
+-- modifier
 abbrev pub succeeds : Answer → Option ℕ → Bool
 succeeds e None = true
 succeeds e (Some other) = nat_eq (status_code e) 0
@@ -195,30 +222,33 @@ abbrev pub broken_message : Option ℕ → List Sent → Sent → Option Rule
 broken_message credits xs s = unless (is_new xs s) rules.Number (unless (has_credit credits xs s) rules.Credits None)
 
 -- by the body of an end of this command, after which these came
-abbrev pub broken_body : List Sent → Sent → Option Identity → Answer → Option Rule
+abbrev pub broken_body : List Sent → Sent → Seen → Answer → Option Rule
 broken_body later y unit e =
     unless (succeeds e (other_of y e)) rules.Success
     (unless (is_about e (other_of y e)) rules.About
     (unless (has_figure later y e (polled_by y e)) rules.Figure
     (unless (has_count e (count_of y e)) rules.Count
-    (unless (is_same_unit unit e) rules.Identity None))))
+    (unless (is_same_unit unit.unit e) rules.Identity
+    (unless (suits_state unit.unit.state e) rules.State
+    (unless (fits unit.controller e.controller) rules.Controller None))))))
 
 -- by an end of this command, before and after which these came
-abbrev pub broken_end : List Sent → List Sent → List Sent → Sent → Option Identity → Answer → Option Rule
-broken_end xs earlier later y unit e =
+abbrev pub broken_end : List Sent → List Sent → Sent → Seen → Answer → Option Rule
+broken_end earlier later y unit e =
     unless (names_unit y e) rules.Unit
     (unless (has_endcode y e) rules.Endcode
     (unless (has_status y e) rules.Status
-    (unless (has_abort xs y e) rules.Aborted
+    (unless (has_abort later y e) rules.Aborted
     (unless (passes_none earlier y e) rules.Order (broken_body later y unit e)))))
 
 -- by an end of the command at a place, if it is there
-abbrev pub broken_at : List Sent → Option Identity → Answer → Option ℕ → Option Rule
+abbrev pub broken_at : List Sent → Seen → Answer → Option ℕ → Option Rule
 broken_at xs unit e None = Some rules.Outstanding
-broken_at xs unit e (Some i) = broken_end xs (take i xs) (drop (i + 1) xs) (command_at xs i) unit e
+broken_at xs unit e (Some i) = broken_end (take i xs) (drop (i + 1) xs) (command_at xs i) unit e
 
--- by a moment, before which these are outstanding and this is known of its unit, where each host has so many credits
-abbrev pub broken : Option ℕ → List Sent → Option Identity → Moment → Option Rule
+-- by a moment, before which these are outstanding and this was told of its unit and the controller, where each host has
+-- so many credits
+abbrev pub broken : Option ℕ → List Sent → Seen → Moment → Option Rule
 broken credits xs unit (moments.Message via b) =
     unless (is_message b.items) rules.Message (broken_message credits xs (sent_by via b.items))
 broken credits xs unit (moments.End via b) =
@@ -228,7 +258,7 @@ broken credits xs unit moments.Reset = None
 
 -- by a moment after a history
 abbrev pub broken_by : Option ℕ → History → Moment → Option Rule
-broken_by credits h m = broken credits (outstanding h) (known_of (known h) m) m
+broken_by credits h m = broken credits (outstanding h) (seen_of (told h) (controller h) m) m
 
 -- ---- a moment that is right
 
@@ -239,29 +269,31 @@ pub record IsRightMessage (credits : Option ℕ) (xs : List Sent) (b : List ℕ)
   pub credit : has_credit credits xs s ≡ true
 
 -- an end keeps its rules: its command is at place i of those that are outstanding, and this is known of its unit
-pub record IsRightEnd (xs : List Sent) (was : Option Identity) (b : List ℕ) (e : Answer) (i : ℕ) : Type 0 where
+pub record IsRightEnd (xs : List Sent) (was : Seen) (b : List ℕ) (e : Answer) (i : ℕ) : Type 0 where
   pub length : is_long b ≡ true
   pub outstanding : place_of xs e ≡ Some i
   pub unit : names_unit (command_at xs i) e ≡ true
   pub endcode : has_endcode (command_at xs i) e ≡ true
   pub status : has_status (command_at xs i) e ≡ true
-  pub aborted : has_abort xs (command_at xs i) e ≡ true
+  pub aborted : has_abort (drop (i + 1) xs) (command_at xs i) e ≡ true
   pub order : passes_none (take i xs) (command_at xs i) e ≡ true
   pub success : succeeds e (other_of (command_at xs i) e) ≡ true
   pub about : is_about e (other_of (command_at xs i) e) ≡ true
   pub figure : has_figure (drop (i + 1) xs) (command_at xs i) e (polled_by (command_at xs i) e) ≡ true
   pub count : has_count e (count_of (command_at xs i) e) ≡ true
-  pub identity : is_same_unit was e ≡ true
+  pub identity : is_same_unit was.unit e ≡ true
+  pub state : suits_state was.unit.state e ≡ true
+  pub controller : fits was.controller e.controller ≡ true
 
--- a moment is right, before which these are outstanding and this is known of its unit
-abbrev pub IsRightAfter : Option ℕ → List Sent → Option Identity → Moment → Type 0
+-- a moment is right, before which these are outstanding and this was told of its unit and the controller
+abbrev pub IsRightAfter : Option ℕ → List Sent → Seen → Moment → Type 0
 IsRightAfter credits xs unit (moments.Message via b) = IsRightMessage credits xs b.items (sent_by via b.items)
 IsRightAfter credits xs unit (moments.End via b) = (i : ℕ) × IsRightEnd xs unit b.items (answer_by via b.items) i
 IsRightAfter credits xs unit moments.Reset = Unit {0}
 
 -- a moment is right after a history
 abbrev pub IsRight : Option ℕ → History → Moment → Type 0
-IsRight credits h m = IsRightAfter credits (outstanding h) (known_of (known h) m) m
+IsRight credits h m = IsRightAfter credits (outstanding h) (seen_of (told h) (controller h) m) m
 
 -- the moment at a position. Past the end there is none that asks for anything
 abbrev pub moment_at : History → ℕ → Moment

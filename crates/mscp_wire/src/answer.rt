@@ -4,9 +4,9 @@ ghost use Rattle.std.specs.Prelude.{◌≡◌, ◌≤◌, ◌<◌, ◌^◌, leng
 ghost use Rattle.mscp_wire.specs.Wire as wire;
 
 use crate::identity::Identity;
-use crate::sent::{Sent, four_in, is_transfer, is_unknown};
+use crate::sent::{Sent, four_in, is_required, is_transfer, is_unknown};
 use mscp_drive::Connection;
-use mscp_packet::fields::{four_at, two_at};
+use mscp_packet::fields::{eight_at, four_at, two_at};
 
 /// The opcode of an ABORT.
 pub const ABORT: u8 = 1;
@@ -29,6 +29,8 @@ pub struct Answer {
     /// What it says of its unit, if it has 44 bytes at least: only an end of GET UNIT STATUS, ONLINE or SET UNIT CHARACTERISTICS
     /// does.
     pub identity: Option<Identity>,
+    /// The identifier of the controller, if a SET CONTROLLER CHARACTERISTICS succeeded.
+    pub controller: Option<u64>,
 }
 
 /// The fewest bytes of an end with this endcode (manual, "End Messages").
@@ -62,19 +64,41 @@ fn may_have(opcode: u8, code: u16) -> bool
     }
     code <= 11
         && !(opcode == 1 || opcode == 2 || opcode == 4)
-        && !(opcode == 3 && code == 2)
+        && !(opcode == 3 && (code == 2 || (code >= 5 && code <= 9)))
         && !((opcode == 8 || opcode == 9) && code == 4)
 }
 
-/// Whether an end with this endcode tells of a unit what is known of it.
-fn agrees(code: u8, told: Option<Identity>, known: &Identity) -> bool
-    ensures { result ≡ wire.agrees code told known.now }
+/// The identifier of the controller, if the end of a SET CONTROLLER CHARACTERISTICS tells it.
+fn controller_in(b: &[u8]) -> Option<u64>
+    requires { 12 ≤ length b.now }
+    ensures { result ≡ wire.controller_in b.now }
+{
+    if b[8] == 0x84 && two_at(b, 10) % 32 == 0 && b.len() >= 28 {
+        Some(eight_at(b, 20))
+    } else {
+        None
+    }
+}
+
+/// Whether two sizes are the same, if both are there.
+fn fits_size(one: Option<u32>, other: Option<u32>) -> bool
+    ensures { result ≡ wire.fits one other }
+{
+    match (one, other) {
+        (Some(one), Some(other)) => one == other,
+        _ => true,
+    }
+}
+
+/// Whether an end tells of a unit what is known of it.
+pub fn agrees(told: Option<Identity>, known: &Identity) -> bool
+    ensures { result ≡ wire.agrees told known.now }
 {
     match told {
         Some(told) => {
             told.identifier == known.identifier
                 && told.media == known.media
-                && (code == 0x83 || told.size == known.size)
+                && fits_size(told.size, known.size)
         }
         None => false,
     }
@@ -105,6 +129,7 @@ impl Answer {
             parameter: four_in(b, 12),
             figure: four_in(b, 16),
             identity: Identity::of(b),
+            controller: controller_in(b),
         }
     }
 
@@ -133,18 +158,58 @@ impl Answer {
     pub fn has_endcode(&self, command: &Sent) -> bool
         ensures { result ≡ wire.has_endcode command.now self.now }
     {
-        !self.is_known() || u16::from(self.code) == u16::from(command.opcode) + 0x80
+        if self.is_known() {
+            u16::from(self.code) == u16::from(command.opcode) + 0x80
+        } else {
+            !is_required(command.opcode)
+        }
     }
 
     /// Whether its status has a code that its command may have.
-    pub fn has_status(&self, command: &Sent) -> bool
-        ensures { result ≡ wire.has_status command.now self.now }
+    fn has_code(&self, command: &Sent) -> bool
+        ensures { result ≡ wire.has_code command.now self.now }
     {
         if self.is_known() {
             is_unknown(command.opcode) || may_have(command.opcode, self.status_code())
         } else {
             self.status_code() == 1
         }
+    }
+
+    /// Whether it doesn't succeed if its command's message is too short.
+    fn is_whole(&self, command: &Sent) -> bool
+        ensures { result ≡ wire.is_whole command.now self.now }
+    {
+        !command.is_short() || self.status_code() != 0
+    }
+
+    /// Whether it doesn't say that its unit was online already, unless its command is an ONLINE or has no row.
+    fn is_plain(&self, command: &Sent) -> bool
+        ensures { result ≡ wire.is_plain command.now self.now }
+    {
+        self.status_code() != 0
+            || !self.was_online()
+            || command.opcode == 9
+            || is_unknown(command.opcode)
+    }
+
+    /// Whether the sub-code of Invalid Command is the offset of a byte of the message, unless that is too short.
+    fn points_into(&self, command: &Sent) -> bool
+        ensures { result ≡ wire.points_into command.now self.now }
+    {
+        self.status_code() != 1
+            || command.is_short()
+            || usize::from(self.status / 256) < command.bytes
+    }
+
+    /// Whether its status is one that its command may have.
+    pub fn has_status(&self, command: &Sent) -> bool
+        ensures { result ≡ wire.has_status command.now self.now }
+    {
+        self.has_code(command)
+            && self.is_whole(command)
+            && self.is_plain(command)
+            && self.points_into(command)
     }
 
     /// Whether its command, which has a modifier, is refused as an Invalid Command.
@@ -228,21 +293,11 @@ impl Answer {
     }
 
     /// Whether it tells what a unit is that was online before: any other Success of an ONLINE brought it online.
-    fn tells_unit(&self) -> bool
+    pub fn tells_unit(&self) -> bool
         ensures { result ≡ wire.tells_unit self.now }
     {
         self.status_code() == 0
             && (self.code == 0x83 || (self.code == 0x89 && self.was_online()) || self.code == 0x8A)
-    }
-
-    /// Whether its unit is what it was when it came online, if it is known to be online.
-    pub fn is_same_unit(&self, known: Option<Identity>) -> bool
-        ensures { result ≡ wire.is_same_unit known self.now }
-    {
-        match known {
-            Some(known) => !self.tells_unit() || agrees(self.code, self.identity, &known),
-            None => true,
-        }
     }
 
     /// Whether it brings its unit online.
@@ -252,12 +307,48 @@ impl Answer {
         self.code == 0x89 && self.status_code() == 0
     }
 
-    /// Whether it shows that its unit isn't online any more.
+    /// Whether it is one of a transfer.
+    fn is_moved(&self) -> bool
+        ensures { result ≡ wire.is_moved self.now.code }
+    {
+        self.code == 0x90
+            || self.code == 0x92
+            || self.code == 0xA0
+            || self.code == 0xA1
+            || self.code == 0xA2
+    }
+
+    /// Whether it is one of a command that waits for its unit.
+    fn is_of_unit(&self) -> bool
+        ensures { result ≡ wire.is_of_unit self.now.code }
+    {
+        self.is_moved() || self.code == 0x88 || self.code == 0x89 || self.code == 0x8A
+    }
+
+    /// Whether it says that its unit isn't online.
+    pub fn says_away(&self) -> bool
+        ensures { result ≡ wire.says_away self.now }
+    {
+        (self.status_code() == 0 && (self.code == 0x88 && self.status / 512 % 2 == 0))
+            || (self.status_code() == 4 && (self.is_of_unit() || self.code == 0x83))
+            || (self.status_code() == 3 && self.is_of_unit())
+    }
+
+    /// Whether nothing is known after it of what its unit is.
     pub fn leaves(&self) -> bool
         ensures { result ≡ wire.leaves self.now }
     {
-        (self.code == 0x88 && self.status_code() == 0)
-            || self.status_code() == 3
+        self.says_away()
             || self.status_code() == 4
+            || self.status_code() == 3
+            || (self.status_code() == 0 && self.code == 0x88)
+    }
+
+    /// Whether it says that its unit is online.
+    pub fn says_online(&self) -> bool
+        ensures { result ≡ wire.says_online self.now }
+    {
+        self.status_code() == 0
+            && (self.is_moved() || self.code == 0x83 || (self.code == 0x89 && self.was_online()))
     }
 }

@@ -6,12 +6,13 @@ ghost use Rattle.mscp_drive.specs.declared.connection.Connection as connections;
 ghost use Rattle.mscp_wire.specs.Wire as wire;
 
 use crate::answer::{Answer, is_long};
-use crate::identity::{Identity, Online, hear, known};
 use crate::moment::Moment;
 use crate::outstanding::{count_on, has_abort, has_named, passes_none, place_of};
 use crate::polls::{asking, has_figure, hear_end};
 use crate::rule::Rule;
 use crate::sent::{Sent, is_immediate};
+use crate::told::{Seen, later_of};
+use crate::units::Units;
 use mscp_drive::{Connection, OutOfMemory};
 use std::alloc::Allocator;
 
@@ -51,13 +52,8 @@ fn broken_message(credits: Option<u32>, commands: &[Sent], sent: &Sent) -> Optio
 }
 
 /// The first rule that the body of an end of this command breaks, after which these came.
-fn broken_body(
-    later: &[Sent],
-    command: &Sent,
-    unit: Option<Identity>,
-    answer: &Answer,
-) -> Option<Rule>
-    ensures { result ≡ wire.broken_body later.now command.now unit answer.now }
+fn broken_body(later: &[Sent], command: &Sent, seen: &Seen, answer: &Answer) -> Option<Rule>
+    ensures { result ≡ wire.broken_body later.now command.now seen.now answer.now }
 {
     if !answer.succeeds(answer.other_of(command)) {
         return Some(Rule::Success);
@@ -71,22 +67,27 @@ fn broken_body(
     if !answer.has_count(answer.count_of(command)) {
         return Some(Rule::Count);
     }
-    if !answer.is_same_unit(unit) {
+    if !seen.unit.is_same_unit(answer) {
         return Some(Rule::Identity);
+    }
+    if !seen.unit.state.suits(answer) {
+        return Some(Rule::State);
+    }
+    if !seen.is_same_controller(answer) {
+        return Some(Rule::Controller);
     }
     None
 }
 
 /// The first rule that an end of this command breaks, before and after which these came.
 fn broken_end(
-    commands: &[Sent],
     earlier: &[Sent],
     later: &[Sent],
     command: &Sent,
-    unit: Option<Identity>,
+    seen: &Seen,
     answer: &Answer,
 ) -> Option<Rule>
-    ensures { result ≡ wire.broken_end commands.now earlier.now later.now command.now unit answer.now }
+    ensures { result ≡ wire.broken_end earlier.now later.now command.now seen.now answer.now }
 {
     if !answer.names_unit(command) {
         return Some(Rule::Unit);
@@ -97,13 +98,13 @@ fn broken_end(
     if !answer.has_status(command) {
         return Some(Rule::Status);
     }
-    if !has_abort(commands, command, answer) {
+    if !has_abort(later, command, answer) {
         return Some(Rule::Aborted);
     }
     if !passes_none(earlier, command, answer) {
         return Some(Rule::Order);
     }
-    broken_body(later, command, unit, answer)
+    broken_body(later, command, seen, answer)
 }
 
 /// The command at a place.
@@ -115,16 +116,15 @@ pub fn command_at(commands: &[Sent], place: usize) -> Sent
 }
 
 /// The first rule that an end breaks, as long as its endcode asks.
-fn broken_answer(commands: &[Sent], unit: Option<Identity>, answer: &Answer) -> Option<Rule>
-    ensures { result ≡ wire.broken_at commands.now unit answer.now (wire.place_of commands.now answer.now) }
+fn broken_answer(commands: &[Sent], seen: &Seen, answer: &Answer) -> Option<Rule>
+    ensures { result ≡ wire.broken_at commands.now seen.now answer.now (wire.place_of commands.now answer.now) }
 {
     match place_of(commands, answer) {
         Some(place) => broken_end(
-            commands,
             &commands[..place],
             &commands[place + 1..],
             &command_at(commands, place),
-            unit,
+            seen,
             answer,
         ),
         None => Some(Rule::Outstanding),
@@ -135,21 +135,26 @@ fn broken_answer(commands: &[Sent], unit: Option<Identity>, answer: &Answer) -> 
 #[derive(Drop)]
 pub struct Judge<A: Allocator> {
     pub credits: Option<u32>,
+    /// The identifier of the controller, if that was told.
+    pub controller: Option<u64>,
     pub commands: Vec<Sent, A>,
-    pub units: Vec<Online, A>,
+    pub units: Units<A>,
 }
 
 impl<A: Allocator + Copy> Judge<A> {
     /// Of no moment.
     pub fn new(alloc: A, credits: Option<u32>) -> Judge<A>
         ensures credits { result.credits ≡ credits }
+        ensures controller { result.controller ≡ None }
         ensures commands { result.commands.items ≡ [] }
-        ensures units { result.units.items ≡ [] }
+        ensures units { (via : connections.Connection) (unit : ℕ)
+            → wire.kept result.units via unit ≡ wire.told_nothing }
     {
         Judge {
             credits,
+            controller: None,
             commands: Vec::new(alloc),
-            units: Vec::new(alloc),
+            units: Units::new(alloc),
         }
     }
 
@@ -160,7 +165,10 @@ impl<A: Allocator + Copy> Judge<A> {
         ensures after { IfOk result (λ rule. rule ≡ None → self.new.commands.items
             ≡ self.old.commands.items
             ++ wire.asking self.old.commands.items (wire.sent_by connection bytes.now) ∷ []) }
-        ensures units { self.new.units ≡ self.old.units }
+        ensures units { IfOk result (λ rule. rule ≡ None → (via : connections.Connection) (unit : ℕ)
+            → wire.kept self.new.units via unit ≡ wire.told_after_message via unit
+            (wire.kept self.old.units via unit) (wire.sent_by connection bytes.now)) }
+        ensures controller { self.new.controller ≡ self.old.controller }
         ensures credits { self.new.credits ≡ self.old.credits }
     {
         if bytes.len() < 12 {
@@ -171,6 +179,7 @@ impl<A: Allocator + Copy> Judge<A> {
         if broken.is_none() {
             let command = asking(self.commands.as_slice(), &sent);
             self.commands.push(command)?;
+            self.units.hear_command(&sent)?;
         }
         Ok(broken)
     }
@@ -180,6 +189,7 @@ impl<A: Allocator + Copy> Judge<A> {
         requires { place < length self.old.commands.items }
         ensures after { self.new.commands.items ≡ wire.after_end self.old.commands.items answer.now (Some place) }
         ensures units { self.new.units ≡ self.old.units }
+        ensures controller { self.new.controller ≡ self.old.controller }
         ensures credits { self.new.credits ≡ self.old.credits }
     {
         let command = self.commands.remove(place);
@@ -190,11 +200,14 @@ impl<A: Allocator + Copy> Judge<A> {
     fn ended(&mut self, answer: &Answer) -> Result<(), OutOfMemory>
         ensures after { OnOk result (self.new.commands.items
             ≡ wire.after_end self.old.commands.items answer.now (wire.place_of self.old.commands.items answer.now)) }
-        ensures units { OnOk result ((via : connections.Connection) (unit : ℕ) → wire.kept self.new.units.items via unit
-            ≡ wire.known_after_end via unit (wire.kept self.old.units.items via unit) answer.now) }
+        ensures units { OnOk result ((via : connections.Connection) (unit : ℕ) → wire.kept self.new.units via unit
+            ≡ wire.told_after_end via unit (wire.kept self.old.units via unit) answer.now) }
+        ensures controller { OnOk result (self.new.controller
+            ≡ wire.later_of answer.now.controller self.old.controller) }
         ensures credits { self.new.credits ≡ self.old.credits }
     {
-        hear(&mut self.units, answer)?;
+        self.units.hear_end(answer)?;
+        self.controller = later_of(answer.controller, self.controller);
         if let Some(place) = place_of(self.commands.as_slice(), answer) {
             self.take(place, answer);
         }
@@ -204,23 +217,31 @@ impl<A: Allocator + Copy> Judge<A> {
     /// The first rule that an end breaks. If it breaks none its command isn't outstanding any more.
     fn end(&mut self, connection: Connection, bytes: &[u8]) -> Result<Option<Rule>, OutOfMemory>
         ensures rule { IfOk result (λ rule. rule ≡ wire.unless (wire.is_long bytes.now) Rule.Length
-            (wire.broken_at self.old.commands.items (wire.kept self.old.units.items connection (num bytes.now 4 2))
+            (wire.broken_at self.old.commands.items (record {
+              unit = wire.kept self.old.units connection (num bytes.now 4 2);
+              controller = self.old.controller;
+            })
             (wire.answer_by connection bytes.now)
             (wire.place_of self.old.commands.items (wire.answer_by connection bytes.now)))) }
         ensures after { IfOk result (λ rule. rule ≡ None → self.new.commands.items
             ≡ wire.after_end self.old.commands.items (wire.answer_by connection bytes.now)
             (wire.place_of self.old.commands.items (wire.answer_by connection bytes.now))) }
         ensures units { IfOk result (λ rule. rule ≡ None → (via : connections.Connection) (unit : ℕ)
-            → wire.kept self.new.units.items via unit ≡ wire.known_after_end via unit
-            (wire.kept self.old.units.items via unit) (wire.answer_by connection bytes.now)) }
+            → wire.kept self.new.units via unit ≡ wire.told_after_end via unit
+            (wire.kept self.old.units via unit) (wire.answer_by connection bytes.now)) }
+        ensures controller { IfOk result (λ rule. rule ≡ None → self.new.controller
+            ≡ wire.later_of (wire.controller_in bytes.now) self.old.controller) }
         ensures credits { self.new.credits ≡ self.old.credits }
     {
         if !is_long(bytes) {
             return Ok(Some(Rule::Length));
         }
         let answer = Answer::of(connection, bytes);
-        let unit = known(self.units.as_slice(), connection, answer.unit);
-        let broken = broken_answer(self.commands.as_slice(), unit, &answer);
+        let seen = Seen {
+            unit: self.units.told(connection, answer.unit),
+            controller: self.controller,
+        };
+        let broken = broken_answer(self.commands.as_slice(), &seen, &answer);
         if broken.is_none() {
             self.ended(&answer)?;
         }
@@ -230,12 +251,14 @@ impl<A: Allocator + Copy> Judge<A> {
     /// The first rule that a moment breaks. If it breaks none it is added to those before it.
     pub fn step(&mut self, moment: &Moment) -> Result<Option<Rule>, OutOfMemory>
         ensures rule { IfOk result (λ rule. rule ≡ wire.broken self.old.credits self.old.commands.items
-            (wire.known_of (wire.kept self.old.units.items) moment.now) moment.now) }
+            (wire.seen_of (wire.kept self.old.units) self.old.controller moment.now) moment.now) }
         ensures after { IfOk result (λ rule. rule ≡ None → self.new.commands.items
             ≡ wire.after self.old.commands.items moment.now) }
         ensures units { IfOk result (λ rule. rule ≡ None → (via : connections.Connection) (unit : ℕ)
-            → wire.kept self.new.units.items via unit
-            ≡ wire.known_after via unit (wire.kept self.old.units.items via unit) moment.now) }
+            → wire.kept self.new.units via unit
+            ≡ wire.told_after via unit (wire.kept self.old.units via unit) moment.now) }
+        ensures controller { IfOk result (λ rule. rule ≡ None → self.new.controller
+            ≡ wire.controller_after self.old.controller moment.now) }
         ensures credits { self.new.credits ≡ self.old.credits }
     {
         match moment {
@@ -244,6 +267,7 @@ impl<A: Allocator + Copy> Judge<A> {
             Moment::Reset => {
                 self.commands.clear();
                 self.units.clear();
+                self.controller = None;
                 Ok(None)
             }
         }

@@ -154,6 +154,7 @@ fn judge_lines<A: Allocator + Copy>(
     let Reading { judge, totals } = reading;
     let Judge {
         credits: _,
+        controller: _,
         units: _,
         commands,
     } = judge;

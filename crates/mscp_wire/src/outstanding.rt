@@ -5,7 +5,7 @@ ghost use Rattle.std.specs.List.{list_any};
 ghost use Rattle.mscp_wire.specs.Wire as wire;
 
 use crate::answer::{ABORT, Answer, is_it};
-use crate::sent::{Sent, is_sequential, is_transfer};
+use crate::sent::{Sent, is_ordered, is_sequential};
 use mscp_drive::Connection;
 
 /// Whether one of the commands has this reference number on this connection.
@@ -61,11 +61,11 @@ fn is_aborted(commands: &[Sent], command: &Sent) -> bool
     commands.iter().any(|abort| aborts(command, abort))
 }
 
-/// Whether a command is aborted only while an ABORT of it is outstanding.
-pub fn has_abort(commands: &[Sent], command: &Sent, answer: &Answer) -> bool
-    ensures { result ≡ wire.has_abort commands.now command.now answer.now }
+/// Whether a command, after which these came, is aborted only while an ABORT of it is outstanding.
+pub fn has_abort(later: &[Sent], command: &Sent, answer: &Answer) -> bool
+    ensures { result ≡ wire.has_abort later.now command.now answer.now }
 {
-    answer.status_code() != 2 || is_aborted(commands, command)
+    answer.status_code() != 2 || is_aborted(later, command)
 }
 
 /// Whether an earlier command keeps another back: both are of one unit, and one of them is sequential.
@@ -76,9 +76,9 @@ fn keeps_back(command: &Sent, earlier: &Sent) -> bool
         return false;
     }
     if is_sequential(earlier.opcode) {
-        return is_sequential(command.opcode) || is_transfer(command.opcode);
+        return is_sequential(command.opcode) || is_ordered(command.opcode);
     }
-    is_transfer(earlier.opcode) && is_sequential(command.opcode)
+    is_ordered(earlier.opcode) && is_sequential(command.opcode)
 }
 
 /// Whether a status of this code may come before earlier commands of the unit end.

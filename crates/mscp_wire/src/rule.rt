@@ -17,20 +17,26 @@ pub enum Rule {
     Unit,
     /// An end has the endcode of its command.
     Endcode,
-    /// A status has a code that such a command may have.
+    /// A status is one that such a command may have.
     Status,
-    /// A command is aborted only while an ABORT of it is outstanding.
+    /// A command is aborted only while an ABORT of it is outstanding that came after it.
     Aborted,
     /// Of a unit no command passes a sequential one, and that passes none.
     Order,
-    /// An ABORT and a GET COMMAND STATUS succeed.
+    /// An ABORT and a GET COMMAND STATUS succeed, unless they are refused for a modifier.
     Success,
     /// The end of an ABORT or of a GET COMMAND STATUS names the command that it is about.
     About,
-    /// The figure of the oldest command falls from poll to poll. It is 0 if no such command is outstanding.
+    /// The figure of the oldest command falls from poll to poll. It is 0 if no such command is outstanding, and may be
+    /// if its end is on the way.
     Figure,
     /// No more bytes are moved than were asked for, and all of them if the status is Success.
     Count,
     /// While a unit is online its identifier, media type and size stay as they are.
     Identity,
+    /// A transfer and a GET UNIT STATUS succeed, and an ONLINE says that its unit was online already, only if the unit
+    /// is online.
+    State,
+    /// The identifier of the controller stays as it is.
+    Controller,
 }

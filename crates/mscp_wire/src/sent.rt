@@ -1,7 +1,7 @@
 // A command that is outstanding.
 
 ghost use Rattle.std.specs.Prelude.{◌≡◌, ◌≤◌, length};
-ghost use Rattle.mscp_wire.specs.Wire.{asks_for_next, four_in, is_modified, is_named, is_immediate, is_sequential, is_transfer, is_unknown, sent_by};
+ghost use Rattle.mscp_wire.specs.Wire.{asks_for_next, four_in, is_modified, is_named, is_immediate, is_ordered, is_required, is_sequential, is_short, is_transfer, is_unknown, least_message, sent_by};
 
 use mscp_drive::Connection;
 use mscp_packet::fields::{four_at, two_at};
@@ -25,6 +25,8 @@ pub struct Sent {
     pub reference: u32,
     pub unit: u16,
     pub opcode: u8,
+    /// How many bytes its message has.
+    pub bytes: usize,
     /// Whether it asks for the next unit, so that its end may name another one.
     pub next: bool,
     /// Whether it has a modifier.
@@ -77,12 +79,20 @@ impl Sent {
             reference: four_at(b, 0),
             unit: two_at(b, 4),
             opcode: b[8],
+            bytes: b.len(),
             next: asks_for_next(b),
             modified: is_modified(b),
             parameter: four_in(b, 12),
             told: None,
             asked: Asked::Nothing,
         }
+    }
+
+    /// Whether its message is too short for its opcode.
+    pub fn is_short(&self) -> bool
+        ensures { result ≡ is_short self.now }
+    {
+        self.bytes < least_message(self.opcode)
     }
 
     /// Whether it has this reference number on this connection.
@@ -119,4 +129,40 @@ pub fn is_transfer(opcode: u8) -> bool
     ensures { result ≡ is_transfer opcode }
 {
     matches!(class_of(opcode), Class::Free)
+}
+
+/// Whether it has its place among the commands of its unit, too: a transfer, or one of DETERMINE ACCESS PATHS, COMPARE
+/// CONTROLLER DATA, FLUSH and REPLACE.
+pub fn is_ordered(opcode: u8) -> bool
+    ensures { result ≡ is_ordered opcode }
+{
+    is_transfer(opcode) || opcode == 11 || opcode == 17 || opcode == 19 || opcode == 20
+}
+
+/// Whether no controller may leave it out.
+pub fn is_required(opcode: u8) -> bool
+    ensures { result ≡ is_required opcode }
+{
+    opcode == 1
+        || opcode == 2
+        || opcode == 3
+        || opcode == 4
+        || opcode == 8
+        || opcode == 9
+        || opcode == 10
+        || opcode == 33
+        || opcode == 34
+}
+
+/// The fewest bytes of a command of this opcode (manual, "Command Messages").
+fn least_message(opcode: u8) -> usize
+    ensures { result ≡ least_message opcode }
+{
+    if opcode == 1 || opcode == 2 {
+        return 16;
+    }
+    if opcode == 4 {
+        return 14;
+    }
+    if is_transfer(opcode) { 32 } else { 12 }
 }

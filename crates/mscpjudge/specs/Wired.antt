@@ -51,25 +51,30 @@ rule_name rules.Length = codes "length"
 rule_name rules.Outstanding = codes "outstanding"
 -- it names the unit of its command, or any if that is a GET UNIT STATUS which asks for the next unit (modifier 1)
 rule_name rules.Unit = codes "unit"
--- its endcode is the opcode and 0x80, or 0x80 alone
+-- its endcode is the opcode and 0x80, or 0x80 alone if a controller may leave that opcode out
 rule_name rules.Endcode = codes "endcode"
--- its status has a code that such a command may have. With 0x80 alone it is Invalid Command
+-- its status is one that such a command may have. With 0x80 alone it is Invalid Command
 rule_name rules.Status = codes "status"
--- a command is aborted by an ABORT, and ends before that does
+-- a command is aborted by a later ABORT, and ends before that does
 rule_name rules.Aborted = codes "aborted"
 -- of a unit no command passes a sequential one, and a sequential one passes none; Invalid Command, Command Aborted and
 -- Unit-Offline may come at once
 rule_name rules.Order = codes "order"
--- an ABORT and a GET COMMAND STATUS succeed, also of a command that isn't outstanding
+-- an ABORT and a GET COMMAND STATUS succeed, unless a modifier is refused
 rule_name rules.Success = codes "success"
 -- their ends name the command that they are about
 rule_name rules.About = codes "about"
--- the status of the oldest command falls from poll to poll. It is 0 of a command that isn't outstanding
+-- the status of the oldest command falls from poll to poll. It is 0 of a command that isn't outstanding, or whose end
+-- is on the way
 rule_name rules.Figure = codes "figure"
 -- as many bytes are moved as were asked for, and fewer only if the status isn't Success
 rule_name rules.Count = codes "byte count"
 -- a unit's identifier, media type and size stay the same while it is online
 rule_name rules.Identity = codes "identity"
+-- a transfer and a GET UNIT STATUS succeed, and an ONLINE has 0x0100, only if the unit is online
+rule_name rules.State = codes "state"
+-- the controller's identifier stays the same
+rule_name rules.Controller = codes "controller"
 
 -- whose rule it is
 abbrev pub breaker_name : Rule → List ℕ
@@ -87,8 +92,8 @@ rule_text rules.Length = codes "an end message is as long as its endcode asks"
 rule_text rules.Outstanding = codes "an end message answers a command that is outstanding, and each once"
 rule_text rules.Unit = codes "an end message names the unit of its command, unless that asks for the next one"
 rule_text rules.Endcode = codes "the endcode is the opcode of the command and 0x80"
-rule_text rules.Status = codes "the status has a code that such a command may have"
-rule_text rules.Aborted = codes "a command is aborted by an ABORT, and ends before that does"
+rule_text rules.Status = codes "the status is one that such a command may have"
+rule_text rules.Aborted = codes "a command is aborted by a later ABORT, and ends before that does"
 rule_text rules.Order = codes "a sequential command of a unit passes no earlier one, and is passed by none"
 rule_text rules.Success = codes "an ABORT and a GET COMMAND STATUS succeed"
 rule_text rules.About = codes "the end of an ABORT or a GET COMMAND STATUS names the command that it is about"
@@ -96,6 +101,9 @@ rule_text rules.Figure =
     codes "the status of the oldest command falls from poll to poll, and is 0 of one that isn't outstanding"
 rule_text rules.Count = codes "as many bytes are moved as were asked for, and fewer only if the status isn't Success"
 rule_text rules.Identity = codes "the identifier, media type and size of a unit stay the same while it is online"
+rule_text rules.State =
+    codes "a transfer and a GET UNIT STATUS succeed, and an ONLINE has 0x0100, only if the unit is online"
+rule_text rules.Controller = codes "the identifier of the controller stays the same"
 
 -- the line of the command that is meant, if there is one
 abbrev pub meant_text : Option Sent → List ℕ

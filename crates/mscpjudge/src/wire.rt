@@ -64,6 +64,8 @@ fn rule_name(rule: Rule) -> &'static str
         Rule::Figure => "figure",
         Rule::Count => "byte count",
         Rule::Identity => "identity",
+        Rule::State => "state",
+        Rule::Controller => "controller",
     }
 }
 
@@ -92,8 +94,8 @@ fn rule_text(rule: Rule) -> &'static str
         Rule::Unit =>
             "an end message names the unit of its command, unless that asks for the next one",
         Rule::Endcode => "the endcode is the opcode of the command and 0x80",
-        Rule::Status => "the status has a code that such a command may have",
-        Rule::Aborted => "a command is aborted by an ABORT, and ends before that does",
+        Rule::Status => "the status is one that such a command may have",
+        Rule::Aborted => "a command is aborted by a later ABORT, and ends before that does",
         Rule::Order =>
             "a sequential command of a unit passes no earlier one, and is passed by none",
         Rule::Success => "an ABORT and a GET COMMAND STATUS succeed",
@@ -109,6 +111,10 @@ fn rule_text(rule: Rule) -> &'static str
         Rule::Identity => {
             "the identifier, media type and size of a unit stay the same while it is online"
         }
+        Rule::State => {
+            "a transfer and a GET UNIT STATUS succeed, and an ONLINE has 0x0100, only if the unit is online"
+        }
+        Rule::Controller => "the identifier of the controller stays the same",
     }
 }
 

@@ -1,0 +1,216 @@
+-- What hosts are told of the states of units suits what the ends that they haven't taken yet say.
+use Rattle.mscp_controller.proofs.Basics.{◌≡◌, ◌||◌, ◌&&◌, ◌⊎◌, inl, ⊎_elim, ℕ, Bool, true, false, not, List, [], ◌∷◌, ◌++◌, refl, ap, sym, ◌∙◌, subst, append-nil, append_assoc, arith, if◌then◌else◌, nat_eq, None, AllByRecursion, true≢false, false≢true, Connection, End, Settings, unit, end_bytes, same_connection, own_side}
+use Rattle.std.proofs.Common.{inr}
+use Rattle.std.proofs.lemmas.List.Sums.{fold_push}
+use Rattle.mscp_wire.specs.Wire as wire
+use Rattle.mscp_wire.specs.Wire.{History, after_own, after_other, answer_by, brings, says_away, says_online, sent_by, shares, suits_state, told, told_after, told_after_end, told_after_message, told_nothing, turned}
+use Rattle.mscp_wire.specs.declared.answer.Answer.{Answer}
+use Rattle.mscp_wire.specs.declared.moment.Moment.{Moment as Wired}
+use Rattle.mscp_wire.specs.declared.told.State.{State}
+use Rattle.mscp_wire.specs.declared.told.State.TheVariants.{Away, Open, Shared}
+use Rattle.mscp_wire.specs.declared.told.Told.{Told}
+use Rattle.mscp_shown.proofs.Effects.{Effects, away_of, brings_of, online_of}
+use Rattle.mscp_shown.proofs.Kept.{same_sides}
+use Rattle.mscp_shown.proofs.Reading.{IsFit, reads}
+
+-- ---- ends
+-- the state of a unit once an end of its own was told
+abbrev pub own_state : State → ℕ → ℕ → State
+own_state s code status =
+    if away_of code status then turned s Away else (if brings_of code status then turned s Open else s)
+
+abbrev pub state_then : ℕ → State → End → State
+state_then unit s e = if nat_eq e.unit unit then own_state s e.code e.status else s
+
+-- what an end says suits this state
+abbrev pub fits_state : State → Bool → Bool
+fits_state Away online = not online
+fits_state s online = true
+
+-- what ends that are told one after the other say of a unit suits what was told before each, and what is told then
+-- isn't that it is away while it is online
+abbrev pub Stated : ℕ → Bool → State → List End → Type 0
+Stated unit online s [] = s ≡ Away → online ≡ false
+Stated unit online s (e ∷ es) =
+    (nat_eq e.unit unit ≡ true → fits_state s (online_of e.code e.status) ≡ true)
+    × Stated unit online (state_then unit s e) es
+
+own_shared : (code status : ℕ) → own_state Shared code status ≡ Shared
+own_shared code status = by_bools (away_of code status) (brings_of code status)
+  where
+    by_bools : (a b : Bool) → (if a then turned Shared Away else (if b then turned Shared Open else Shared)) ≡ Shared
+    by_bools a b = grind arith
+
+then_shared : (unit : ℕ) (e : End) → state_then unit Shared e ≡ Shared
+then_shared unit e =
+    ap (λ s. if nat_eq e.unit unit then s else Shared) (own_shared e.code e.status) ∙ by_bool (nat_eq e.unit unit)
+  where
+    by_bool : (b : Bool) → (if b then Shared else Shared) ≡ Shared
+    by_bool b = grind arith
+
+-- of a unit that the other host brings online nothing is asked
+pub shared_stated : (unit : ℕ) (online : Bool) (es : List End) → Stated unit online Shared es
+shared_stated unit online [] = λ e. cc
+shared_stated unit online (e ∷ es) =
+    ((λ h. refl), subst (λ s. Stated unit online s es) (sym (then_shared unit e)) (shared_stated unit online es))
+
+-- a unit that was online or not, and isn't any more
+pub stated_change : (unit : ℕ) (old new : Bool) (s : State) (es : List End) → (old ≡ false → new ≡ false)
+    → Stated unit old s es → Stated unit new s es
+stated_change unit old new s [] f h = λ e. f (h e)
+stated_change unit old new s (e ∷ es) f h = (h.0, stated_change unit old new (state_then unit s e) es f h.1)
+
+-- one end more
+last_fits : (old new : Bool) (s : State) (code status : ℕ) → Effects old new code status → (s ≡ Away → old ≡ false)
+    → fits_state s (online_of code status) ≡ true
+last_fits old new Open code status f h = refl
+last_fits old new Shared code status f h = refl
+last_fits old new Away code status f h = by_bool (online_of code status) f.says
+  where
+    by_bool : (b : Bool) → (b ≡ true → old ≡ true) → not b ≡ true
+    by_bool true g = absurd (true≢false (sym (g refl) ∙ h refl))
+    by_bool false g = refl
+
+last_state : (old new : Bool) (s : State) (code status : ℕ) → Effects old new code status → (s ≡ Away → old ≡ false)
+    → own_state s code status ≡ Away → new ≡ false
+last_state old new s code status f h =
+    by_bools (away_of code status) (brings_of code status) s f.away f.stays h
+  where
+    by_bools : (a b : Bool) (s : State) → (a ≡ true → new ≡ false) → (b ≡ false → old ≡ false → new ≡ false)
+        → (s ≡ Away → old ≡ false)
+        → (if a then turned s Away else (if b then turned s Open else s)) ≡ Away → new ≡ false
+    by_bools true b s away stays h e = away refl
+    by_bools false true Open away stays h e = cc
+    by_bools false true Away away stays h e = cc
+    by_bools false true Shared away stays h e = cc
+    by_bools false false s away stays h e = stays refl (h e)
+
+last_one : (unit : ℕ) (old new : Bool) (s : State) (e : End)
+    → (nat_eq e.unit unit ≡ true → Effects old new e.code e.status)
+    → (nat_eq e.unit unit ≡ false → old ≡ false → new ≡ false) → (s ≡ Away → old ≡ false)
+    → Stated unit new s (e ∷ [])
+last_one unit old new s e f g h = (
+  λ q. last_fits old new s e.code e.status (f q) h,
+  by_bool (nat_eq e.unit unit) f g,
+)
+  where
+    by_bool : (b : Bool) → (b ≡ true → Effects old new e.code e.status) → (b ≡ false → old ≡ false → new ≡ false)
+        → (if b then own_state s e.code e.status else s) ≡ Away → new ≡ false
+    by_bool true f g q = last_state old new s e.code e.status (f refl) h q
+    by_bool false f g q = g refl (h q)
+
+pub stated_push : (unit : ℕ) (old new : Bool) (s : State) (es : List End) (e : End)
+    → (nat_eq e.unit unit ≡ true → Effects old new e.code e.status)
+    → (nat_eq e.unit unit ≡ false → old ≡ false → new ≡ false) → Stated unit old s es
+    → Stated unit new s (es ++ e ∷ [])
+stated_push unit old new s [] e f g h = last_one unit old new s e f g h
+stated_push unit old new s (d ∷ es) e f g h = (h.0, stated_push unit old new (state_then unit s d) es e f g h.1)
+
+-- more of them, of units that stay as they are
+pub stated_append : (unit : ℕ) (online : Bool) (s : State) (es ns : List End)
+    → AllByRecursion (λ (e : End). nat_eq e.unit unit ≡ true → Effects online online e.code e.status) ns
+    → Stated unit online s es → Stated unit online s (es ++ ns)
+stated_append unit online s es [] f h = subst (Stated unit online s) (sym (append-nil es)) h
+stated_append unit online s es (e ∷ ns) f h =
+    subst (Stated unit online s) (append_assoc es (e ∷ []) ns)
+    (stated_append unit online s (es ++ e ∷ []) ns f.1
+    (stated_push unit online online s es e f.0 (λ q z. z) h))
+
+-- ---- what is told
+-- an end, as it is read
+module _ (c : Settings) (own : Connection) (e : End) (fit : IsFit c e) where
+  abbrev a : Answer
+  a = answer_by own (end_bytes e)
+
+  own_read : (s : State) → (if says_away a then turned s Away else (if brings a then turned s Open else s))
+      ≡ own_state s e.code e.status
+  own_read s =
+      let r = reads c own e fit in
+      ap (λ k. own_state s k a.status) r.code ∙ ap (own_state s e.code) r.status
+
+  -- of its own host's unit
+  pub state_read : (unit : ℕ) (t : Told) → (told_after_end own unit t a).state ≡ state_then unit t.state e
+  state_read unit t =
+      let r = reads c own e fit in
+      by_side (nat_eq a.unit unit) (wire.same_connection own own) (same_sides own own ∙ own_side own)
+      ∙ (ap (λ n. if nat_eq n unit then (after_own t a).state else t.state) r.unit
+      ∙ ap (λ s. if nat_eq e.unit unit then s else t.state) (own_read t.state))
+    where
+      by_side : (b s : Bool) → s ≡ true
+          → (if not b then t else (if s then after_own t a else after_other t a)).state
+          ≡ (if b then (after_own t a).state else t.state)
+      by_side true true h = refl
+      by_side false true h = refl
+      by_side b false h = absurd (false≢true h)
+
+  -- and of the other's
+  pub state_other : (via : Connection) (unit : ℕ) (t : Told) → same_connection own via ≡ false
+      → (told_after_end via unit t a).state ≡ t.state
+  state_other via unit t h =
+      by_side (nat_eq a.unit unit) (wire.same_connection own via) (same_sides own via ∙ h)
+    where
+      by_side : (b s : Bool) → s ≡ false
+          → (if not b then t else (if s then after_own t a else after_other t a)).state ≡ t.state
+      by_side true false h = refl
+      by_side false false h = refl
+      by_side b true h = absurd (true≢false h)
+
+  -- what it says suits the state that was told
+  pub fits_read : (t : Told) → fits_state t.state (online_of e.code e.status) ≡ true
+      → suits_state t.state a ≡ true
+  fits_read t h =
+      let r = reads c own e fit in
+      by_state t.state (ap (λ k. online_of k a.status) r.code ∙ ap (online_of e.code) r.status) h
+    where
+      by_state : (s : State) → says_online a ≡ online_of e.code e.status
+          → fits_state s (online_of e.code e.status) ≡ true → suits_state s a ≡ true
+      by_state Away same h = ap not same ∙ h
+      by_state Open same h = refl
+      by_state Shared same h = refl
+
+-- what a host was told of a unit is that it is shared
+abbrev pub IsShared : History → Connection → ℕ → Type 0
+IsShared h via unit = (told h via unit).state ≡ Shared
+
+pub told_push : (h : History) (w : Wired) (via : Connection) (unit : ℕ)
+    → told (h ++ w ∷ []) via unit ≡ told_after via unit (told h via unit) w
+told_push h w via unit = fold_push (told_after via unit) told_nothing h w
+
+-- a message
+pub message_state : (via own : Connection) (unit : ℕ) (t : Told) (b : List ℕ)
+    → ((told_after_message via unit t (sent_by own b)).state ≡ t.state)
+    ⊎ ((told_after_message via unit t (sent_by own b)).state ≡ Shared)
+message_state via own unit t b = by_bool (shares via unit (sent_by own b))
+  where
+    by_bool : (b : Bool) → ((if b then record t { state = Shared } else t).state ≡ t.state)
+        ⊎ ((if b then record t { state = Shared } else t).state ≡ Shared)
+    by_bool true = inr refl
+    by_bool false = inl refl
+
+-- it stays so
+pub shared_message : (via own : Connection) (unit : ℕ) (t : Told) (b : List ℕ) → t.state ≡ Shared
+    → (told_after_message via unit t (sent_by own b)).state ≡ Shared
+shared_message via own unit t b h = ⊎_elim (λ e. e ∙ h) (λ e. e) (message_state via own unit t b)
+
+pub shared_end : (via : Connection) (unit : ℕ) (t : Told) (a : Answer) → t.state ≡ Shared
+    → (told_after_end via unit t a).state ≡ Shared
+shared_end via unit t a h =
+    by_bools (nat_eq a.unit unit) (wire.same_connection a.connection via) (says_away a) (brings a)
+  where
+    own : (w b : Bool) → (if w then turned t.state Away else (if b then turned t.state Open else t.state)) ≡ Shared
+    own w b =
+        ap (λ s. if w then turned s Away else (if b then turned s Open else s)) h ∙ by_two w b
+      where
+        by_two : (w b : Bool) → (if w then turned Shared Away else (if b then turned Shared Open else Shared)) ≡ Shared
+        by_two w b = grind arith
+
+    by_bools : (here side w b : Bool)
+        → (if not here then t else (if side then record {
+          identity = if wire.leaves a then None else (
+              if brings a || wire.learns t a then a.identity else t.identity);
+          sure = not (wire.leaves a) && (brings a || t.sure || (wire.learns t a && nat_eq a.code 0x83));
+          state = if w then turned t.state Away else (if b then turned t.state Open else t.state);
+        } else after_other t a)).state ≡ Shared
+    by_bools false side w b = h
+    by_bools true true w b = own w b
+    by_bools true false w b = h

@@ -1,0 +1,23 @@
+use Rattle.std.proofs.Common.{sym, ap, ◌∙◌}
+use Rattle.mscp_wire.specs.Wire.{kept, told_after_end}
+use Rattle.mscp_wire.proofs.Hearing.{ended_rule}
+use Rattle.mscp_wire.proofs.judge.Judge.end.Goals as goal
+
+pub returns-in_ok-ended-clause-rule : goal.returns-in_ok-ended-clause-rule
+returns-in_ok-ended-clause-rule g c =
+    ended_rule c.args.bytes.now c.args.self.now.commands.items _ (kept c.args.self.now.units)
+    c.args.self.now.controller c.args.connection _ _ _
+    (sym c.is_long.ensures ∙ c.if-not-is_long.false) c.of-answer.ensures c.told.ensures c.as_slice.ensures.value
+    c.broken_answer-broken.ensures
+
+pub returns-in_ok-ended-clause-units : goal.returns-in_ok-ended-clause-units
+returns-in_ok-ended-clause-units g c = λ none via unit.
+    c.in_ok-ended.ensures.units via unit
+    ∙ ap (told_after_end via unit (kept c.args.self.now.units via unit)) c.of-answer.ensures
+
+pub returns-else-is_none-clause-rule : goal.returns-else-is_none-clause-rule
+returns-else-is_none-clause-rule g c =
+    ended_rule c.args.bytes.now c.args.self.now.commands.items _ (kept c.args.self.now.units)
+    c.args.self.now.controller c.args.connection _ _ _
+    (sym c.is_long.ensures ∙ c.if-not-is_long.false) c.of-answer.ensures c.told.ensures c.as_slice.ensures.value
+    c.broken_answer-broken.ensures
