@@ -58,8 +58,8 @@ no_success code status n e z =
 not_away : (code status n : ℕ) → status % 32 ≡ n → nat_eq n 0 ≡ false → nat_eq n 4 ≡ false → nat_eq n 3 ≡ false
     → away_of code status ≡ false
 not_away code status n e z f t =
-    ap (λ k. (nat_eq k 0 && (nat_eq code 0x88 && nat_eq (status / 512 % 2) 0)) || (nat_eq k 4 && (is_of_unit code || nat_eq code 0x83))
-    || (nat_eq k 3 && is_of_unit code)) e
+    ap (λ k. (nat_eq k 0 && (nat_eq code 0x88 && nat_eq (status / 512 % 2) 0))
+    || (nat_eq k 4 && (is_of_unit code || nat_eq code 0x83)) || (nat_eq k 3 && is_of_unit code)) e
     ∙ all_false (nat_eq n 0) (nat_eq n 4) (nat_eq n 3) (nat_eq code 0x88 && nat_eq (status / 512 % 2) 0)
     (is_of_unit code || nat_eq code 0x83)
     (is_of_unit code) z f t
@@ -175,8 +175,8 @@ bad_effects online new code status h same = record {
     eqb-true (status % 32) 0 (and_parts (nat_eq (status % 32) 0)
         (is_moved code || nat_eq code 0x83 || (nat_eq code 0x89 && nat_eq (status / 256 % 2) 1)) e).0,
   ));
-  away = λ e. absurd (which (nat_eq (status % 32) 0) (nat_eq code 0x88 && nat_eq (status / 512 % 2) 0) (nat_eq (status % 32) 4)
-      (is_of_unit code || nat_eq code 0x83) (nat_eq (status % 32) 3) (is_of_unit code) e
+  away = λ e. absurd (which (nat_eq (status % 32) 0) (nat_eq code 0x88 && nat_eq (status / 512 % 2) 0)
+      (nat_eq (status % 32) 4) (is_of_unit code || nat_eq code 0x83) (nat_eq (status % 32) 3) (is_of_unit code) e
       (λ z. omega (arith, h, eqb-true (status % 32) 0 z)) (λ z. omega (arith, h, eqb-true (status % 32) 4 z))
       (λ z. omega (arith, h, eqb-true (status % 32) 3 z)));
   stays = λ n e. same ∙ e;
