@@ -39,7 +39,8 @@ module _ (b : List ℕ) where
     ends_many = search (arith, length-append (first_in b) (second_in b), first_long)
 
     pub ends_first : take n seen ≡ first_in b
-    ends_first = (λ i. take ((count ∙ sym first_long) i) ((same ∙ both) i)) ∙ take-append_seam (first_in b) (second_in b)
+    ends_first = (λ i. take ((count ∙ sym first_long) i) ((same ∙ both) i))
+        ∙ take-append_seam (first_in b) (second_in b)
 
     pub ends_second : take (length seen - n) (drop n seen) ≡ second_in b
     ends_second = take_rest seen n
