@@ -773,7 +773,7 @@ MSCP_INLINE int32_t mscp_save(const struct mscp *mscp, uint8_t *bytes, size_t ro
 /* Makes the controller that was saved, in the handle's memory, in place of the one that is made there, if one is: whatever is
  * called then answers as if it had been called there. MSCP_DONE, or the first fault of those of the memory (-12 to -15)
  * and those of the bytes (-40 to -54): then the one that is made there goes on. Bytes of a stranger make a controller with
- * which every call is safe, or none. Only whoever saved a controller knows what came to it before. This takes up to 40 KiB
+ * which every call is safe, or none. Only whoever saved a controller knows what came to it before. This takes up to 18 KiB
  * of the stack, and mscp_save up to 12. */
 MSCP_MUST_USE
 MSCP_INLINE int32_t mscp_restore(struct mscp *mscp, const uint8_t *bytes, size_t length)
@@ -1092,7 +1092,7 @@ MSCP_INLINE int32_t mscp_port_save(const struct mscp_port *port, uint8_t *bytes,
 /* Makes the port that was saved, as mscp_restore makes a controller: it goes on as it would have there. MSCP_DONE, or the
  * first fault of those of the memory (-12 to -15) and those of the bytes (-40 to -54 and MSCP_SAVED_SIZE), which may be those
  * of its controller's. Bytes of a stranger make a port with which every call is safe, and which moves only blocks that its units
- * have, or none. This takes up to 40 KiB of the stack, and mscp_port_save up to 36. */
+ * have, or none. This takes up to 18 KiB of the stack, and mscp_port_save up to 36. */
 MSCP_MUST_USE
 MSCP_INLINE int32_t mscp_port_restore(struct mscp_port *port, const uint8_t *bytes, size_t length)
 {

@@ -286,7 +286,8 @@ static size_t most(int call)
     case HOST_SAVE: case WHY: case PORT_WHY: return 3 * 1024;
     case DRIVER_SAVE: return 4 * 1024;
     case INIT: case PORT_INIT: return 8 * 1024;
-    case RESTORE: case PORT_RESTORE: case RUN_SCRIPT: return 40 * 1024;
+    case RESTORE: case PORT_RESTORE: return 18 * 1024;
+    case RUN_SCRIPT: return 40 * 1024;
     case HOST_RESTORE: return 6 * 1024;
     case DRIVER_RESTORE: return 20 * 1024;
     case PORT_SAVE: return 36 * 1024;

@@ -45,7 +45,7 @@ pub contents_more : (ss : List Slot) (n : ℕ) (c : Content) → contents (ss ++
 contents_more ss n c = map-append content ss (filled n c ∷ [])
 
 module _ (budget : ℕ) (us : List Shape) where
-  items_of : (before : ℕ) (ss : List Slot) (rs : List Record) → contents ss ≡ contents_of budget us before rs
+  pub items_of : (before : ℕ) (ss : List Slot) (rs : List Record) → contents ss ≡ contents_of budget us before rs
       → items ss ≡ rs
   items_of before [] [] e = refl
   items_of before [] (r ∷ rs) e = absurd (nil_not_cons e)
@@ -53,7 +53,7 @@ module _ (budget : ℕ) (us : List Shape) where
   items_of before (s ∷ ss) (r ∷ rs) e =
       λ i. (head_same e i).item ∷ items_of (before + left_of r) ss rs (tail_same e) i
 
-  targets_are : (before : ℕ) (ss : List Slot) (rs : List Record) → contents ss ≡ contents_of budget us before rs
+  pub targets_are : (before : ℕ) (ss : List Slot) (rs : List Record) → contents ss ≡ contents_of budget us before rs
       → targets ss ≡ targets_of us rs
   targets_are before [] [] e = refl
   targets_are before [] (r ∷ rs) e = absurd (nil_not_cons e)

@@ -13,3 +13,4 @@ pub mod HeldBack
 pub mod Complete
 pub mod Faithful
 pub mod Parted
+mod Gathered

@@ -1,7 +1,7 @@
 // The head of a saved controller, and where its parts lie.
 
-ghost use Rattle.std.specs.Prelude.{◌≡◌, ◌+◌, ◌*◌, ◌≤◌, true, length};
-ghost use Rattle.mscp_saved.specs.Common.{all_waiting_in, drives_in, first_count, first_in, first_place, second_count, second_in, second_place, waiting_count, waiting_place, frame_fault, is_framed};
+ghost use Rattle.std.specs.Prelude.{◌≡◌, ◌+◌, ◌*◌, ◌≤◌, ◌++◌, [], true, length};
+ghost use Rattle.mscp_saved.specs.Common.{array_vec_len, all_waiting_in, drives_in, first_count, first_in, first_place, second_count, second_in, second_place, waiting_count, waiting_place, frame_fault, is_framed};
 
 use crate::fault::RestoreFault;
 use crate::reading::{read_drives, read_ends, read_waiting};
@@ -70,38 +70,40 @@ fn second_place(b: &[u8]) -> usize
     first_place(b) + 48 * usize::from(b[41])
 }
 
-/// The drives.
-pub(crate) fn drives_in(b: &[u8]) -> ArrayVec<Drive, 16>
-    requires { is_framed b.now ≡ true }
-    ensures value { result.items ≡ drives_in b.now }
-    ensures few { length result.items ≤ 16 }
+/// Reads the drives into a list that has none.
+pub(crate) fn read_all_drives(drives: &mut ArrayVec<Drive, 16>, b: &[u8])
+    requires framed { is_framed b.now ≡ true }
+    requires none { drives.old.items ≡ [] }
+    ensures value { drives.new.items ≡ drives_in b.now }
+    ensures few { length drives.new.items ≤ 16 }
 {
-    read_drives(&b[48..], usize::from(b[31]))
+    read_drives(drives, &b[48..], usize::from(b[31]));
 }
 
-/// The waiting commands.
-pub(crate) fn all_waiting_in(b: &[u8]) -> ArrayVec<Record, 64>
-    requires { is_framed b.now ≡ true }
-    ensures value { result.items ≡ all_waiting_in b.now }
-    ensures few { length result.items ≤ 64 }
+/// Reads the waiting commands into a list that has none.
+pub(crate) fn read_all_waiting(waiting: &mut ArrayVec<Record, 64>, b: &[u8])
+    requires framed { is_framed b.now ≡ true }
+    requires none { waiting.old.items ≡ [] }
+    ensures value { waiting.new.items ≡ all_waiting_in b.now }
+    ensures few { length waiting.new.items ≤ 64 }
 {
-    read_waiting(&b[waiting_place(b)..], usize::from(b[40]))
+    read_waiting(waiting, &b[waiting_place(b)..], usize::from(b[40]));
 }
 
-/// The ends of the first connection.
-pub(crate) fn first_in(b: &[u8]) -> ArrayVec<End, 64>
-    requires { is_framed b.now ≡ true }
-    ensures value { result.items ≡ first_in b.now }
-    ensures few { length result.items ≤ 64 }
+/// Appends the ends of the first connection.
+pub(crate) fn read_first(ends: &mut ArrayVec<End, 64>, b: &[u8])
+    requires framed { is_framed b.now ≡ true }
+    requires room { array_vec_len ends.old + first_count b.now ≤ 64 }
+    ensures { ends.new.items ≡ ends.old.items ++ first_in b.now }
 {
-    read_ends(&b[first_place(b)..], usize::from(b[41]))
+    read_ends(ends, &b[first_place(b)..], usize::from(b[41]));
 }
 
-/// The ends of the second.
-pub(crate) fn second_in(b: &[u8]) -> ArrayVec<End, 64>
-    requires { is_framed b.now ≡ true }
-    ensures value { result.items ≡ second_in b.now }
-    ensures few { length result.items ≤ 64 }
+/// Appends the ends of the second.
+pub(crate) fn read_second(ends: &mut ArrayVec<End, 64>, b: &[u8])
+    requires framed { is_framed b.now ≡ true }
+    requires room { array_vec_len ends.old + second_count b.now ≤ 64 }
+    ensures { ends.new.items ≡ ends.old.items ++ second_in b.now }
 {
-    read_ends(&b[second_place(b)..], usize::from(b[42]))
+    read_ends(ends, &b[second_place(b)..], usize::from(b[42]));
 }

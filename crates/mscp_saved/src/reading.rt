@@ -1,7 +1,7 @@
-// The parts of a saved controller from bytes.
+// The parts of a saved controller from bytes. They are read into lists where those lie: none is made and then moved.
 
-ghost use Rattle.std.specs.Prelude.{◌≡◌, ◌+◌, ◌*◌, ◌≤◌, length};
-ghost use Rattle.mscp_saved.specs.Common.{command_of, order_weight, begun_in, connection_in, drive_in, end_in, part, parts_in, sized, unit_in, waiting_in, shape};
+ghost use Rattle.std.specs.Prelude.{◌≡◌, ◌+◌, ◌*◌, ◌≤◌, ◌++◌, length};
+ghost use Rattle.mscp_saved.specs.Common.{array_vec_len, command_of, order_weight, begun_in, connection_in, drive_in, end_in, part, parts_in, sized, unit_in, waiting_in, shape};
 
 use arrayvec::ArrayVec;
 use mscp_controller::{Connection, Drive, Name, Record};
@@ -81,17 +81,16 @@ fn drive_in(b: &[u8]) -> Drive
     }
 }
 
-/// So many drives, behind one another from the first byte on.
-pub(crate) fn read_drives(b: &[u8], count: usize) -> ArrayVec<Drive, 16>
-    requires few { count ≤ 16 }
+/// Appends so many drives, behind one another from the first byte on.
+pub(crate) fn read_drives(drives: &mut ArrayVec<Drive, 16>, b: &[u8], count: usize)
+    requires few { array_vec_len drives.old + count ≤ 16 }
     requires long { 34 * count ≤ length b.now }
-    ensures { result.items ≡ parts_in drive_in 34 count b.now }
+    ensures items { drives.new.items ≡ drives.old.items ++ parts_in drive_in 34 count b.now }
+    ensures len { array_vec_len drives.new ≡ array_vec_len drives.old + count }
 {
-    let mut drives = ArrayVec::new();
     for place in 0..count {
         drives.push(drive_in(part(b, 34, place)));
     }
-    drives
 }
 
 /// The command in the bytes of a message.
@@ -125,17 +124,16 @@ fn waiting_in(b: &[u8]) -> Record
     record.resumed(four_at(b, 32), four_at(b, 36))
 }
 
-/// So many waiting commands, behind one another from the first byte on.
-pub(crate) fn read_waiting(b: &[u8], count: usize) -> ArrayVec<Record, 64>
-    requires few { count ≤ 64 }
+/// Appends so many waiting commands, behind one another from the first byte on.
+pub(crate) fn read_waiting(waiting: &mut ArrayVec<Record, 64>, b: &[u8], count: usize)
+    requires few { array_vec_len waiting.old + count ≤ 64 }
     requires long { 41 * count ≤ length b.now }
-    ensures { result.items ≡ parts_in waiting_in 41 count b.now }
+    ensures items { waiting.new.items ≡ waiting.old.items ++ parts_in waiting_in 41 count b.now }
+    ensures len { array_vec_len waiting.new ≡ array_vec_len waiting.old + count }
 {
-    let mut waiting = ArrayVec::new();
     for place in 0..count {
         waiting.push(waiting_in(part(b, 41, place)));
     }
-    waiting
 }
 
 /// The end in the bytes of one, or what is read as one and is none.
@@ -155,17 +153,16 @@ fn end_in(b: &[u8]) -> End
     }
 }
 
-/// So many ends, behind one another from the first byte on.
-pub(crate) fn read_ends(b: &[u8], count: usize) -> ArrayVec<End, 64>
-    requires few { count ≤ 64 }
+/// Appends so many ends, behind one another from the first byte on.
+pub(crate) fn read_ends(ends: &mut ArrayVec<End, 64>, b: &[u8], count: usize)
+    requires few { array_vec_len ends.old + count ≤ 64 }
     requires long { 48 * count ≤ length b.now }
-    ensures { result.items ≡ parts_in end_in 48 count b.now }
+    ensures items { ends.new.items ≡ ends.old.items ++ parts_in end_in 48 count b.now }
+    ensures len { array_vec_len ends.new ≡ array_vec_len ends.old + count }
 {
-    let mut ends = ArrayVec::new();
     for place in 0..count {
         ends.push(end_in(part(b, 48, place)));
     }
-    ends
 }
 
 /// What was begun, by the head, if something was.

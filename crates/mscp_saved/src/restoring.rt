@@ -1,11 +1,11 @@
 // A controller from bytes.
 
-ghost use Rattle.std.specs.Prelude.{◌≡◌, ◌+◌, ◌≤◌, All, IfNone, IfOk, length};
+ghost use Rattle.std.specs.Prelude.{◌≡◌, ◌+◌, ◌≤◌, [], None, All, IfNone, IfOk, length};
 ghost use Rattle.mscp_saved.specs.Common.{IsWaitable, units_of, IsSound, made_of, IsValid, begun_in, held_in, settings_in, IsSaved, first_of, form_fault, form_unless, parts_fault, restored, settings_fault, unless, saved_bytes};
 
 use crate::checking::parts_fault;
 use crate::fault::RestoreFault;
-use crate::framing::{all_waiting_in, drives_in, first_in, frame_fault, second_in};
+use crate::framing::{frame_fault, read_all_drives, read_all_waiting, read_first, read_second};
 use crate::reading::begun_in;
 use crate::writing::save_parts;
 use arrayvec::ArrayVec;
@@ -14,35 +14,52 @@ use mscp_drive::{Unit, Units};
 use mscp_packet::End;
 use mscp_packet::fields::{eight_at, four_at, two_at};
 
-/// The units of drives.
-fn units_of(drives: &[Drive]) -> ArrayVec<Unit, 16>
-    requires { length drives.now ≤ 16 }
-    ensures { result.items ≡ units_of drives.now }
+/// Puts the units of drives into a list that has none.
+fn put_units(units: &mut ArrayVec<Unit, 16>, drives: &[Drive])
+    requires few { length drives.now ≤ 16 }
+    requires none { units.old.items ≡ [] }
+    ensures { units.new.items ≡ units_of drives.now }
 {
-    let mut units = ArrayVec::new();
     for drive in drives {
         units.push(drive.unit);
     }
-    units
 }
 
-/// The settings that the head tells, with the units of these drives.
-fn settings_in(b: &[u8], drives: &[Drive]) -> Result<Config, RestoreFault>
-    requires long { 48 ≤ length b.now }
-    requires few { length drives.now ≤ 16 }
-    ensures { result ≡
-        unless (settings_in b.now drives.now) (settings_fault (settings_in b.now drives.now)) }
+/// Why no controller has the settings that the head tells, with these units: the first fault, if there is one.
+fn settings_fault(b: &[u8], units: &[Unit]) -> Option<RestoreFault>
+    requires { 48 ≤ length b.now }
+    ensures { result ≡ settings_fault (record (settings_in b.now []) { units = units.now }) }
 {
-    let Ok(units) = Units::new(units_of(drives).as_slice()) else {
-        return Err(RestoreFault::Units);
-    };
+    if Units::fault(units).is_some() {
+        return Some(RestoreFault::Units);
+    }
+    let (credits, second) = (four_at(b, 12), four_at(b, 16));
+    let (budget, longest) = (u64::from(four_at(b, 20)), four_at(b, 24));
+    if Config::fault(credits, second, budget, longest, two_at(b, 28)).is_some() {
+        return Some(RestoreFault::Limits);
+    }
+    None
+}
+
+/// The settings that the head tells, and the units of a list, which become theirs where they lie.
+#[inline(always)]
+fn config_of(b: &[u8], units: ArrayVec<Unit, 16>) -> Config
+    requires long { 48 ≤ length b.now }
+    requires none { settings_fault (record (settings_in b.now []) { units = units.items }) ≡ None }
+    ensures { result ≡ record (settings_in b.now []) { units = units.items } }
+{
     let (credits, second) = (four_at(b, 12), four_at(b, 16));
     let (budget, longest) = (u64::from(four_at(b, 20)), four_at(b, 24));
     let (timeout, id) = (two_at(b, 28), eight_at(b, 32));
-    match Config::new(credits, second, budget, longest, timeout, id, units) {
-        Ok(config) => Ok(config),
-        Err(_) => Err(RestoreFault::Limits),
-    }
+    Config::of(
+        credits,
+        second,
+        budget,
+        longest,
+        timeout,
+        id,
+        Units::of(units),
+    )
 }
 
 /// Why these bytes aren't those that were saved, with a picker of this number: the first fault, if there is one.
@@ -84,11 +101,11 @@ fn parts_or_form_fault(
     if let Some(fault) = parts_fault(config, drives, waiting, first, second, begun) {
         return Some(fault);
     }
-    form_fault(
-        number,
-        b,
-        save_parts(config, drives, waiting, first, second, begun, number).as_slice(),
-    )
+    let mut saved = ArrayVec::new();
+    save_parts(
+        &mut saved, config, drives, waiting, first, second, begun, number,
+    );
+    form_fault(number, b, saved.as_slice())
 }
 
 /// Why these bytes are no saved controller, with a picker of this number: the first fault, if there is one.
@@ -100,19 +117,28 @@ pub fn restore_fault<K: Picker>(bytes: &[u8], number: u8, picker: &K) -> Option<
     if let Some(fault) = frame_fault(bytes) {
         return Some(fault);
     }
-    let drives = drives_in(bytes);
-    match settings_in(bytes, drives.as_slice()) {
-        Ok(config) => parts_or_form_fault(
-            number,
-            bytes,
-            &config,
-            drives.as_slice(),
-            all_waiting_in(bytes).as_slice(),
-            first_in(bytes).as_slice(),
-            second_in(bytes).as_slice(),
-        ),
-        Err(fault) => Some(fault),
+    let mut drives = ArrayVec::new();
+    read_all_drives(&mut drives, bytes);
+    let mut units = ArrayVec::new();
+    put_units(&mut units, drives.as_slice());
+    if let Some(fault) = settings_fault(bytes, units.as_slice()) {
+        return Some(fault);
     }
+    let mut waiting = ArrayVec::new();
+    read_all_waiting(&mut waiting, bytes);
+    let mut ends = ArrayVec::new();
+    read_first(&mut ends, bytes);
+    read_second(&mut ends, bytes);
+    let first = usize::from(bytes[41]);
+    parts_or_form_fault(
+        number,
+        bytes,
+        &config_of(bytes, units),
+        drives.as_slice(),
+        waiting.as_slice(),
+        &ends.as_slice()[..first],
+        &ends.as_slice()[first..],
+    )
 }
 
 /// The settings that a saved controller has.
@@ -121,10 +147,11 @@ pub fn saved_settings<K: Picker>(bytes: &[u8], picker: &K) -> Config
     requires { IsSaved picker.now bytes.now }
     ensures { result ≡ (held_in picker.now bytes.now).settings }
 {
-    let Ok(config) = settings_in(bytes, drives_in(bytes).as_slice()) else {
-        unreachable!();
-    };
-    config
+    let mut drives = ArrayVec::new();
+    read_all_drives(&mut drives, bytes);
+    let mut units = ArrayVec::new();
+    put_units(&mut units, drives.as_slice());
+    config_of(bytes, units)
 }
 
 /// Lets a controller that has the settings of a saved one be that one.
@@ -134,13 +161,15 @@ pub fn resume<K: Picker>(controller: &mut Controller<K>, bytes: &[u8])
     requires settings { controller.old.settings ≡ (held_in controller.old.picker bytes.now).settings }
     ensures { controller.new ≡ held_in controller.old.picker bytes.now }
 {
-    controller.restore(
-        all_waiting_in(bytes).as_slice(),
-        first_in(bytes),
-        second_in(bytes),
-        drives_in(bytes),
-        begun_in(bytes),
-    );
+    let mut waiting = ArrayVec::new();
+    read_all_waiting(&mut waiting, bytes);
+    let mut first = ArrayVec::new();
+    read_first(&mut first, bytes);
+    let mut second = ArrayVec::new();
+    read_second(&mut second, bytes);
+    let mut drives = ArrayVec::new();
+    read_all_drives(&mut drives, bytes);
+    controller.restore(waiting.as_slice(), first, second, drives, begun_in(bytes));
 }
 
 /// The controller that was saved as these bytes, with this picker, whose number has to be that which it was saved with; or

@@ -275,9 +275,10 @@ fn counts_of<K: Picker>(controller: &Controller<K>) -> Counts
     }
 }
 
-/// The bytes that a controller of these parts is saved as.
+/// Writes the bytes that a controller of these parts is saved as into a list that has none.
 #[inline(never)]
 pub(crate) fn save_parts(
+    out: &mut ArrayVec<u8, ROOM>,
     config: &Config,
     drives: &[Drive],
     waiting: &[Record],
@@ -285,10 +286,11 @@ pub(crate) fn save_parts(
     second: &[End],
     begun: Option<Name>,
     picker: u8,
-) -> ArrayVec<u8, ROOM>
+)
+    requires none { out.old.items ≡ [] }
     requires drives { length drives.now ≤ 16 }
     requires parts { length waiting.now + length first.now + length second.now ≤ 64 }
-    ensures { result.items
+    ensures { out.new.items
         ≡ saved_bytes picker (made_of config.now waiting.now first.now second.now drives.now begun (tt {0})) }
 {
     let counts = Counts {
@@ -297,13 +299,11 @@ pub(crate) fn save_parts(
         first: first.len() as u8,
         second: second.len() as u8,
     };
-    let mut out = ArrayVec::new();
-    put_head(&mut out, config, counts, begun, picker);
-    put_drives(&mut out, drives);
-    put_records(&mut out, waiting);
-    put_ends(&mut out, first);
-    put_ends(&mut out, second);
-    out
+    put_head(out, config, counts, begun, picker);
+    put_drives(out, drives);
+    put_records(out, waiting);
+    put_ends(out, first);
+    put_ends(out, second);
 }
 
 /// All that callers see of a controller, as bytes, at most `ROOM`. The picker is told by a number, which is the caller's.

@@ -3,8 +3,7 @@
 ghost use Rattle.std.specs.Prelude.{◌≡◌, ◌≤◌, length};
 ghost use Rattle.mscp_controller.specs.Common.{First, Second, account, waiting_on};
 
-use crate::account::Accounts;
-use arrayvec::ArrayVec;
+use crate::account::{Account, Accounts};
 use mscp_drive::Connection;
 use mscp_packet::End;
 use mscp_queue::Record;
@@ -23,25 +22,34 @@ fn count_on(connection: Connection, records: &[Record]) -> u32
     count
 }
 
+impl Account {
+    /// So many commands of the host wait from now on, and these ends weren't taken.
+    fn restore(&mut self, waiting: u32, ends: &[End])
+        requires { length ends.now ≤ 64 }
+        ensures { self.new ≡ record { waiting = waiting; untaken = record { items = ends.now } } }
+    {
+        self.waiting = waiting;
+        self.untaken.clear();
+        let _ = self.untaken.try_extend_from_slice(ends);
+    }
+}
+
 impl Accounts {
     /// These commands wait from now on, and these ends of each connection weren't taken. What was there before is forgotten.
     #[inline(never)]
-    pub(crate) fn restore(
-        &mut self,
-        waiting: &[Record],
-        first: ArrayVec<End, 64>,
-        second: ArrayVec<End, 64>,
-    )
-        requires { length waiting.now ≤ 64 }
+    pub(crate) fn restore(&mut self, waiting: &[Record], first: &[End], second: &[End])
+        requires waiting { length waiting.now ≤ 64 }
+        requires first { length first.now ≤ 64 }
+        requires second { length second.now ≤ 64 }
         ensures { self.new ≡ record {
-          first = record { waiting = length (waiting_on First waiting.now); untaken = first };
-          second = record { waiting = length (waiting_on Second waiting.now); untaken = second };
+          first = record { waiting = length (waiting_on First waiting.now); untaken = record { items = first.now } };
+          second = record { waiting = length (waiting_on Second waiting.now); untaken = record { items = second.now } };
         } }
     {
-        self.first.waiting = count_on(Connection::First, waiting);
-        self.first.untaken = first;
-        self.second.waiting = count_on(Connection::Second, waiting);
-        self.second.untaken = second;
+        self.first
+            .restore(count_on(Connection::First, waiting), first);
+        self.second
+            .restore(count_on(Connection::Second, waiting), second);
     }
 
     /// The ends of the connection that weren't taken, oldest first.

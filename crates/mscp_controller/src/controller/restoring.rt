@@ -27,7 +27,8 @@ impl<K: Picker> Controller<K> {
             self.old.picker }
     {
         self.queue.restore(waiting, drives, begun);
-        self.accounts.restore(waiting, first, second);
+        self.accounts
+            .restore(waiting, first.as_slice(), second.as_slice());
     }
 
     /// How many commands wait, of both connections.

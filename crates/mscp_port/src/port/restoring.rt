@@ -11,7 +11,7 @@ use crate::buffers::Buffer;
 use crate::codes::{Coded, bus_in, has_size, kind_in, stage_in, task_in};
 use crate::decided::Decided;
 use crate::hardware::Hardware;
-use crate::port::restoring::front::saved_front;
+use crate::port::restoring::front::save_front;
 use crate::port::saving::{MAGIC, VERSION};
 use crate::port::{Outgoing, Port, Words};
 use crate::rings::Rings;
@@ -301,7 +301,9 @@ fn is_front(b: &[u8]) -> bool
     requires { IsFramed b.now }
     ensures { result ≡ bytes_eq (told_front b.now) (take (controller_place b.now) b.now) }
 {
-    saved_front(b).as_slice() == &b[..b.len() - controller_bytes(b).len()]
+    let mut front = ArrayVec::new();
+    save_front(&mut front, b);
+    front.as_slice() == &b[..b.len() - controller_bytes(b).len()]
 }
 
 /// Why these bytes are no saved port, with a picker of this number: the first fault, if there is one.
@@ -334,6 +336,7 @@ pub fn saved_settings<K: Picker>(bytes: &[u8], picker: &K) -> Config
 
 impl<K: Picker> Port<K> {
     /// All that bytes say of a port is so from now on, but for its controller.
+    #[inline(never)]
     fn fill(&mut self, b: &[u8])
         requires { IsFramed b.now }
         ensures { self.new ≡ port_in b.now self.old.controller }

@@ -1,7 +1,7 @@
 // Waiting commands as they were, and how long each may still wait.
 
-ghost use Rattle.std.specs.Prelude.{◌≡◌, ◌*◌, ◌<◌, ◌≤◌, ◌^◌, true, All, length, sum_by};
-ghost use Rattle.mscp_queue.specs.Common.{targets_of, figure_in, is_known, units_of, left_if_serving};
+ghost use Rattle.std.specs.Prelude.{◌≡◌, ◌*◌, ◌<◌, ◌≤◌, ◌^◌, [], true, All, length, sum_by};
+ghost use Rattle.mscp_queue.specs.Common.{AreTimed, items, targets, targets_of, figure_in, is_known, units_of, left_if_serving};
 
 use crate::backlog::Backlog;
 use crate::drive::Drive;
@@ -48,36 +48,47 @@ fn figure_in(budget: u32, before: u64, behind: u64, record: &Record) -> u64
     }
 }
 
+/// The commands of these records wait from now on, each as it stands there, in slots none of which was taken, where each
+/// may be passed by `budget` blocks and the clock stands at 0. How many steps are left of all.
+fn fill(slots: &mut Slots, budget: u32, records: &[Record], drives: &[Drive]) -> u64
+    requires free { slots.old ≡ [] }
+    requires few { length records.now ≤ 64 }
+    requires drives { length drives.now ≤ 16 }
+    requires known { All (λ r. is_known (units_of drives.now) r.command.unit ≡ true) records.now }
+    ensures timed { AreTimed budget 0 result slots.new }
+    ensures items { items slots.new ≡ records.now }
+    ensures targets { targets slots.new ≡ targets_of (units_of drives.now) records.now }
+{
+    let mut before = 0;
+    let mut behind = left_in_service(records);
+    for place in 0..records.len() {
+        let item = records[place];
+        behind -= left_if_serving(&item);
+        slots.push(Content {
+            item,
+            target: Target::of(&item.command(), drives),
+            due: figure_in(budget, before, behind, &item),
+        });
+        before += u64::from(item.left());
+    }
+    before
+}
+
 impl Backlog {
-    /// The commands of these records wait, each as it stands there, and each may be passed by `budget` blocks.
-    pub fn restored(budget: u32, records: &[Record], drives: &[Drive]) -> Backlog
+    /// The commands of these records wait from now on, each as it stands there, in the slots where they lie: no others are
+    /// made.
+    pub fn restore(&mut self, records: &[Record], drives: &[Drive])
         requires few { length records.now ≤ 64 }
         requires drives { length drives.now ≤ 16 }
         requires known { All (λ r. is_known (units_of drives.now) r.command.unit ≡ true) records.now }
-        ensures { result ≡ record {
-          budget = budget;
+        ensures { self.new ≡ record {
+          budget = self.old.budget;
           waiting = records.now;
           targets = targets_of (units_of drives.now) records.now;
         } }
     {
-        let mut slots = Slots::new();
-        let mut before = 0;
-        let mut behind = left_in_service(records);
-        for place in 0..records.len() {
-            let item = records[place];
-            behind -= left_if_serving(&item);
-            slots.push(Content {
-                item,
-                target: Target::of(&item.command(), drives),
-                due: figure_in(budget, before, behind, &item),
-            });
-            before += u64::from(item.left());
-        }
-        Backlog {
-            slots,
-            budget,
-            clock: 0,
-            total: before,
-        }
+        self.slots.clear();
+        self.clock = 0;
+        self.total = fill(&mut self.slots, self.budget, records, drives);
     }
 }

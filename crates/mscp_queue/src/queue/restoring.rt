@@ -40,7 +40,7 @@ impl<K: Picker> Queue<K> {
           begun = begun;
         } }
     {
-        self.backlog = Backlog::restored(self.backlog.budget(), records, drives.as_slice());
+        self.backlog.restore(records, drives.as_slice());
         self.begun = place_begun(&self.backlog, begun);
         self.serving = place_served(records);
         self.favorites.clear();

@@ -1,6 +1,6 @@
 // What a port is saved as that bytes say, up to its controller: bytes that are a port's are these.
 
-ghost use Rattle.std.specs.Prelude.{◌≡◌, ◌+◌, ◌≤◌, ◌++◌, length};
+ghost use Rattle.std.specs.Prelude.{◌≡◌, ◌+◌, ◌≤◌, ◌++◌, [], length};
 ghost use Rattle.mscp_port.specs.Common.{array_vec_len, IsFramed, front_in, told_front, counts_bytes, hand_bytes, state_bytes};
 
 use crate::codes::{coded_task, task_in};
@@ -66,22 +66,21 @@ fn put_told_hand(out: &mut ArrayVec<u8, ROOM>, b: &[u8], outgoing: &Option<Outgo
     out.push(b[73]);
 }
 
-/// The bytes in front of its controller that the port is saved as that bytes say.
+/// Writes the bytes in front of its controller that the port is saved as that bytes say, into a list that has none.
 #[inline(never)]
-pub(super) fn saved_front(b: &[u8]) -> ArrayVec<u8, ROOM>
-    requires { IsFramed b.now }
-    ensures { result.items ≡ told_front b.now }
+pub(super) fn save_front(out: &mut ArrayVec<u8, ROOM>, b: &[u8])
+    requires none { out.old.items ≡ [] }
+    requires framed { IsFramed b.now }
+    ensures { out.new.items ≡ told_front b.now }
 {
     let outgoing = outgoing_of(b);
     let text = text_of(&outgoing);
     let total = text.len() + (b.len() - usize::from(b[71]));
-    let mut out = ArrayVec::new();
-    put_frame(&mut out, total as u32);
-    put_told_state(&mut out, b);
-    put_told_hand(&mut out, b, &outgoing);
-    put_volumes(&mut out, &volumes_of(b));
-    put(&mut out, text);
-    put_buffers(&mut out, buffers_of(b).as_slice());
-    put_all_decided(&mut out, all_decided_of(b).as_slice());
-    out
+    put_frame(out, total as u32);
+    put_told_state(out, b);
+    put_told_hand(out, b, &outgoing);
+    put_volumes(out, &volumes_of(b));
+    put(out, text);
+    put_buffers(out, buffers_of(b).as_slice());
+    put_all_decided(out, all_decided_of(b).as_slice());
 }

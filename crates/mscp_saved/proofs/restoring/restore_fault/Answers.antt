@@ -1,38 +1,70 @@
-use Rattle.mscp_saved.proofs.Common.{◌∙◌, ap, sym, refl, settings_in, settings_fault}
-use Rattle.mscp_saved.proofs.Outcomes.{err_is, frame_none, read_of, settings_good}
+use Rattle.mscp_saved.proofs.Common.{◌∙◌, sym, length-take-le}
+use Rattle.mscp_saved.proofs.Gathered.{both_of, ends_first, ends_fit, ends_many, ends_second, read_is, told_good}
+use Rattle.mscp_saved.proofs.Outcomes.{frame_none}
 use Rattle.mscp_saved.proofs.Parted.{parted, parts_few, saved_if, settings_refused}
 use Rattle.mscp_saved.proofs.restoring.restore_fault.Goals as goal
 
+pub read_second-requires-clause-room : goal.read_second-requires-clause-room
+read_second-requires-clause-room g c = ends_fit c.args.bytes.now (frame_none c.args.bytes.now
+    (sym c.frame_fault.ensures ∙ c.in_default.is)) c.new-ends.ensures c.read_first.ensures
+
+pub slice_bounds-parts_or_form_fault-end : goal.slice_bounds-parts_or_form_fault-end
+slice_bounds-parts_or_form_fault-end g c =
+    let b = c.args.bytes.now in
+    let both = both_of b c.new-ends.ensures c.read_first.ensures c.read_second.ensures in
+    sym (length-take-le c.from-first.result c.as_slice-5.result.now
+    (ends_many b both c.as_slice-5.ensures.value c.from-first.ensures))
+
+pub slice_bounds-parts_or_form_fault-count : goal.slice_bounds-parts_or_form_fault-count
+slice_bounds-parts_or_form_fault-count g c =
+    let b = c.args.bytes.now in
+    let both = both_of b c.new-ends.ensures c.read_first.ensures c.read_second.ensures in
+    ends_many b both c.as_slice-6.ensures.value c.from-first.ensures
+
+pub slice_bounds-parts_or_form_fault-start : goal.slice_bounds-parts_or_form_fault-start
+slice_bounds-parts_or_form_fault-start g c =
+    let b = c.args.bytes.now in
+    let both = both_of b c.new-ends.ensures c.read_first.ensures c.read_second.ensures in
+    ends_many b both c.as_slice-6.ensures.value c.from-first.ensures
+
 pub parts_or_form_fault-requires-clause-parts : goal.parts_or_form_fault-requires-clause-parts
-parts_or_form_fault-requires-clause-parts g c = parts_few c.args.bytes.now (frame_none c.args.bytes.now
-    (sym c.frame_fault.ensures ∙ c.in_default.is)) (c.as_slice-in-Ok-2.ensures.value ∙ c.all_waiting_in.ensures.value)
-    (c.as_slice-in-Ok-3.ensures.value ∙ c.first_in.ensures.value)
-    (c.as_slice-in-Ok-4.ensures.value ∙ c.second_in.ensures.value)
-
-pub returns-in-Ok-clause-value : goal.returns-in-Ok-clause-value
-returns-in-Ok-clause-value g c =
+parts_or_form_fault-requires-clause-parts g c =
     let b = c.args.bytes.now in
-    let made = sym c.in-Ok.is ∙ c.settings_in.ensures in
-    let read = read_of b c.drives_in-drives.ensures.value c.as_slice.ensures.value made c.as_slice-in-Ok.ensures.value
-    c.all_waiting_in.ensures.value c.as_slice-in-Ok-2.ensures.value c.first_in.ensures.value
-    c.as_slice-in-Ok-3.ensures.value c.second_in.ensures.value c.as_slice-in-Ok-4.ensures.value refl in
+    let both = both_of b c.new-ends.ensures c.read_first.ensures c.read_second.ensures in
+    parts_few b (frame_none b (sym c.frame_fault.ensures ∙ c.in_default.is))
+    (c.as_slice-4.ensures.value ∙ c.read_all_waiting.ensures.value)
+    (ends_first b both c.as_slice-5.ensures.value c.from-first.ensures)
+    (ends_second b both c.as_slice-6.ensures.value c.from-first.ensures)
+
+pub returns-in-Some-settings_fault-clause-value : goal.returns-in-Some-settings_fault-clause-value
+returns-in-Some-settings_fault-clause-value g c =
+    let b = c.args.bytes.now in
+    settings_refused c.args.number c.args.picker.now b (sym c.frame_fault.ensures ∙ c.in_default.is)
+    (told_good b c.read_all_drives.ensures.value c.as_slice.ensures.value
+    (c.as_slice-2.ensures.value ∙ c.put_units.ensures) c.settings_fault.ensures ∙ c.in-Some-settings_fault.is)
+
+pub returns-clause-value : goal.returns-clause-value
+returns-clause-value g c =
+    let b = c.args.bytes.now in
+    let both = both_of b c.new-ends.ensures c.read_first.ensures c.read_second.ensures in
+    let read = read_is b c.read_all_drives.ensures.value c.as_slice.ensures.value c.put_units.ensures
+    c.config_of.ensures c.as_slice-3.ensures.value c.read_all_waiting.ensures.value c.as_slice-4.ensures.value
+    (ends_first b both c.as_slice-5.ensures.value c.from-first.ensures)
+    (ends_second b both c.as_slice-6.ensures.value c.from-first.ensures) in
     parted c.args.number c.args.picker.now read (sym c.frame_fault.ensures ∙ c.in_default.is)
-    (settings_good b c.drives_in-drives.ensures.value c.as_slice.ensures.value made) c.parts_or_form_fault.ensures.fault
+    (told_good b c.read_all_drives.ensures.value c.as_slice.ensures.value
+    (c.as_slice-2.ensures.value ∙ c.put_units.ensures) c.settings_fault.ensures ∙ c.in_default-settings_fault.is)
+    c.parts_or_form_fault.ensures.fault
 
-pub returns-in-Ok-clause-saved : goal.returns-in-Ok-clause-saved
-returns-in-Ok-clause-saved g c =
+pub returns-clause-saved : goal.returns-clause-saved
+returns-clause-saved g c =
     let b = c.args.bytes.now in
-    let frame = sym c.frame_fault.ensures ∙ c.in_default.is in
-    let made = sym c.in-Ok.is ∙ c.settings_in.ensures in
-    saved_if c.args.number c.args.picker.now (read_of b c.drives_in-drives.ensures.value c.as_slice.ensures.value
-    made c.as_slice-in-Ok.ensures.value c.all_waiting_in.ensures.value c.as_slice-in-Ok-2.ensures.value
-    c.first_in.ensures.value c.as_slice-in-Ok-3.ensures.value c.second_in.ensures.value c.as_slice-in-Ok-4.ensures.value
-    refl) frame (settings_good b c.drives_in-drives.ensures.value c.as_slice.ensures.value made)
+    let both = both_of b c.new-ends.ensures c.read_first.ensures c.read_second.ensures in
+    let read = read_is b c.read_all_drives.ensures.value c.as_slice.ensures.value c.put_units.ensures
+    c.config_of.ensures c.as_slice-3.ensures.value c.read_all_waiting.ensures.value c.as_slice-4.ensures.value
+    (ends_first b both c.as_slice-5.ensures.value c.from-first.ensures)
+    (ends_second b both c.as_slice-6.ensures.value c.from-first.ensures) in
+    saved_if c.args.number c.args.picker.now read (sym c.frame_fault.ensures ∙ c.in_default.is)
+    (told_good b c.read_all_drives.ensures.value c.as_slice.ensures.value
+    (c.as_slice-2.ensures.value ∙ c.put_units.ensures) c.settings_fault.ensures ∙ c.in_default-settings_fault.is)
     c.parts_or_form_fault.ensures.fault c.parts_or_form_fault.ensures.valid c.parts_or_form_fault.ensures.waitable
-
-pub returns-in-Err-clause-value : goal.returns-in-Err-clause-value
-returns-in-Err-clause-value g c =
-    let b = c.args.bytes.now in
-    let fault = err_is (settings_in b c.as_slice.result.now) (sym c.in-Err.is ∙ c.settings_in.ensures) in
-    settings_refused c.args.number c.args.picker.now b (sym c.frame_fault.ensures ∙ c.in_default.is) (sym (ap (λ d.
-    settings_fault (settings_in b d)) (c.as_slice.ensures.value ∙ c.drives_in-drives.ensures.value)) ∙ fault)

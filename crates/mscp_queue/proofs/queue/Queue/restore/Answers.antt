@@ -3,10 +3,11 @@ use Rattle.mscp_queue.proofs.Favored.{none_known}
 use Rattle.mscp_queue.proofs.queue.Queue.restore.Goals as goal
 
 -- the waiting commands as the backlog shows them
-waiters : {w : Waiters} {budget budget' : ℕ} {rs : List Record} {ds ds' : List Drive} → ds' ≡ ds → budget' ≡ budget
-    → w ≡ record { budget = budget'; waiting = rs; targets = targets_of (units_of ds') rs }
+waiters : {w : Waiters} {budget : ℕ} {rs : List Record} {ds ds' : List Drive} → ds' ≡ ds
+    → w ≡ record { budget = budget; waiting = rs; targets = targets_of (units_of ds') rs }
     → w ≡ record { budget = budget; waiting = rs; targets = targets_of (units_of ds) rs }
-waiters {rs = rs} e b f = f ∙ λ i. record { budget = b i; waiting = rs; targets = targets_of (units_of (e i)) rs }
+waiters {budget = budget} {rs} e f =
+    f ∙ λ i. record { budget = budget; waiting = rs; targets = targets_of (units_of (e i)) rs }
 
 -- the place of what was begun, among the waiting commands that are restored
 seen_as : {w v : Waiters} (place : Option ℕ) (begun : Option Name) → w ≡ v
@@ -22,7 +23,7 @@ place_begun-self-inside-requires g c =
     let held = subst (λ (l : Line K). IsHeld l.room l.budget l.longest rs c.args.drives.items c.args.begun true)
     (sym c.self.view_is) c.requires.held in
     record {
-      apart = subst (λ (v : Waiters). AreApart (names v.waiting)) (sym c.restored-self-inside.ensures) held.apart;
+      apart = subst (λ (v : Waiters). AreApart (names v.waiting)) (sym c.restore.ensures) held.apart;
     }
 
 pub invariant_of-self : goal.invariant_of-self
@@ -32,7 +33,7 @@ invariant_of-self g c =
     let rs = c.args.records.now in
     let held = subst (λ (l : Line K). IsHeld l.room l.budget l.longest rs ds c.args.begun true) (sym c.self.view_is)
     c.requires.held in
-    let w = waiters c.as_slice.ensures.value c.budget.ensures c.restored-self-inside.ensures in
+    let w = waiters c.as_slice.ensures.value c.restore.ensures in
     let begun = begun_back c.self.inside.backlog.budget rs c.args.begun c.place_begun-self-inside.result held.still
     (seen_as c.place_begun-self-inside.result c.args.begun w c.place_begun-self-inside.ensures.some)
     c.place_begun-self-inside.ensures.none in
@@ -48,7 +49,7 @@ returns g c =
     let rs = c.args.records.now in
     let held = subst (λ (l : Line K). IsHeld l.room l.budget l.longest rs ds c.args.begun true)
     (sym c.self.view_is) c.requires.held in
-    let w = waiters c.as_slice.ensures.value c.budget.ensures c.restored-self-inside.ensures in
+    let w = waiters c.as_slice.ensures.value c.restore.ensures in
     let begun = begun_back c.self.inside.backlog.budget rs c.args.begun c.place_begun-self-inside.result
     held.still (seen_as c.place_begun-self-inside.result c.args.begun w c.place_begun-self-inside.ensures.some)
     c.place_begun-self-inside.ensures.none in

@@ -1,6 +1,6 @@
 use Rattle.mscp_port.proofs.Common.{◌+◌, ◌-◌, ◌++◌, length, ap, ◌∙◌, arith, flat_map, front_in, decided_bytes, buffer_bytes, frame_bytes, hand_bytes, outgoing_text, state_bytes, volume_bytes}
 use Rattle.mscp_port.proofs.Formed.{text_told, total_is}
-use Rattle.mscp_port.proofs.port.restoring.front.saved_front.Goals as goal
+use Rattle.mscp_port.proofs.port.restoring.front.save_front.Goals as goal
 
 pub overflow_cast-total : goal.overflow_cast-total
 overflow_cast-total c = search (arith, text_told)
@@ -10,7 +10,7 @@ returns c =
     let b = c.args.b.now in
     let p = front_in b in
     let text = c.text_of-text.ensures.value ∙ ap outgoing_text c.outgoing_of-outgoing.ensures in
-    let total = (λ i. length (text i) + (length b - c.from.ensures i)) ∙ total_is b c.requires in
+    let total = (λ i. length (text i) + (length b - c.from.ensures i)) ∙ total_is b c.requires.framed in
     let head = c.put_told_hand.ensures.items
     ∙ ap (λ l. l ++ hand_bytes p) (c.put_told_state.ensures.items
     ∙ ap (λ l. l ++ state_bytes p) (c.put_frame.ensures.items ∙ ap frame_bytes total)) in

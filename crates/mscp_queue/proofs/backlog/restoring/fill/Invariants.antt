@@ -1,6 +1,6 @@
 use Rattle.mscp_queue.proofs.Basics.{◌≡◌, ◌++◌, ◌*◌, ◌≤◌, ◌^◌, drop, length, take, sum_by, units_of, left_if_serving, left_of}
 use Rattle.mscp_queue.proofs.Restored.{contents, contents_of}
-use Rattle.mscp_queue.proofs.backlog.Backlog.restored.Given as goal
+use Rattle.mscp_queue.proofs.backlog.restoring.fill.Given as goal
 
 abbrev pub invariant-loop-place : goal.invariant-loop-place
 invariant-loop-place l = record {

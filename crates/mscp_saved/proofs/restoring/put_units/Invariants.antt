@@ -1,5 +1,5 @@
 use Rattle.mscp_saved.proofs.Common.{◌≡◌, take, array_vec_len, units_of}
-use Rattle.mscp_saved.proofs.restoring.units_of.Given as goal
+use Rattle.mscp_saved.proofs.restoring.put_units.Given as goal
 
 abbrev pub invariant-loop-drive : goal.invariant-loop-drive
 invariant-loop-drive l = record {

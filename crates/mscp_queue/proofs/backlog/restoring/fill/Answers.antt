@@ -1,6 +1,6 @@
 use Rattle.mscp_queue.proofs.Basics.{ap, ◌∙◌, arith, sum_by, take_all, units_of, left_of, place_inside, range_low}
-use Rattle.mscp_queue.proofs.Restored.{contents, contents_all, shown, timed}
-use Rattle.mscp_queue.proofs.backlog.Backlog.restored.Goals as goal
+use Rattle.mscp_queue.proofs.Restored.{contents, contents_all, items_of, targets_are, timed}
+use Rattle.mscp_queue.proofs.backlog.restoring.fill.Goals as goal
 
 pub push-requires-clause-drive : goal.push-requires-clause-drive
 push-requires-clause-drive c = search (arith, place_inside)
@@ -8,13 +8,16 @@ push-requires-clause-drive c = search (arith, place_inside)
 pub push-requires-clause-range : goal.push-requires-clause-range
 push-requires-clause-range c = search (arith, range_low)
 
-pub invariant_of-result : goal.invariant_of-result
-invariant_of-result c =
+pub returns-clause-timed : goal.returns-clause-timed
+returns-clause-timed c =
     let us = units_of c.args.drives.now in
     timed c.args.budget us c.loop-place.slots c.loop-place.before c.args.records.now (omega arith)
     (contents_all c.args.budget us (contents c.loop-place.slots) c.loop-place.before c.loop-place.place
     c.args.records.now c.loop-place-test.false c.loop-place.invariant.slots) (c.loop-place.invariant.before ∙ ap
     (sum_by left_of) (take_all c.loop-place.place c.args.records.now c.loop-place-test.false))
 
-pub returns : goal.returns
-returns c = search (arith, shown, contents_all)
+pub returns-clause-items : goal.returns-clause-items
+returns-clause-items c = search (arith, items_of, contents_all)
+
+pub returns-clause-targets : goal.returns-clause-targets
+returns-clause-targets c = search (arith, targets_are, contents_all)
