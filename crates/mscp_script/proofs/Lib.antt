@@ -3,5 +3,4 @@ pub mod Fronts
 pub mod Growing
 pub mod Faults
 pub mod Words
-pub mod Zeros
 mod Told

@@ -45,7 +45,9 @@ impl<O: Out> Run<O> {
         self.reporter.count()
     }
 
-    /// The connection's host sends this message.
+    /// The connection's host sends this message. Few lines have bytes: it isn't made part of the loop over all, which would
+    /// clear room for them at each.
+    #[inline(never)]
     fn send(&mut self, connection: Connection, message: &[u8]) -> Result<(), OutOfMemory>
         requires { self.old.reporter.count + 1 < 2 ^ 64 }
         ensures ran { OnOk result (Ran self.old self.new (events.Send connection (record { items = message.now }))) }
@@ -55,8 +57,7 @@ impl<O: Out> Run<O> {
         self.reporter.sent(connection, &sent)
     }
 
-    /// The connection's host sends the message of these digits. Neither this nor what sends an invalid command is made part
-    /// of the loop over all lines, which would clear the room of their bytes for each.
+    /// The connection's host sends the message of these digits.
     #[inline(never)]
     fn send_packet(&mut self, connection: Connection, digits: &[u8]) -> Result<(), OutOfMemory>
         requires room { self.old.reporter.count + 1 < 2 ^ 64 }

@@ -1,13 +1,11 @@
 // A line that is written from its end to its start.
 
-ghost use Rattle.std.specs.Prelude.{◌≡◌, ◌+◌, ◌-◌, ◌*◌, ◌≤◌, ◌++◌, drop, length, replicate, codes};
+ghost use Rattle.std.specs.Prelude.{◌≡◌, ◌+◌, ◌*◌, ◌≤◌, ◌++◌, length, codes};
 ghost use Rattle.std.specs.Fmt.{decimal};
 ghost use Rattle.hex.specs.Hex.{encode_lower};
-ghost use Rattle.mscp_script.specs.Text.{digit_0};
 
 use hex::encode_to_slice;
 use itoa::write_digits;
-use mscp_packet::fields::four_at;
 use std::marker::Model;
 
 /// How many bytes the longest line has: that of an end of 48 bytes of the second connection.
@@ -30,18 +28,6 @@ impl Model for Tail {
     ghost view = { λ t. drop t.start t.room };
 
     ghost invariant = { λ t. t.start ≤ 108 };
-}
-
-/// How many bytes stand in front of the zeros at the end, which are counted in fours.
-fn front_of(bytes: &[u8]) -> usize
-    ensures inside { result ≤ length bytes.now }
-    ensures zeros { drop result bytes.now ≡ replicate (length bytes.now - result) 0 }
-{
-    let mut front = bytes.len();
-    while front >= 4 && four_at(bytes, front - 4) == 0 {
-        front -= 4;
-    }
-    front
 }
 
 impl Tail {
@@ -97,32 +83,9 @@ impl Tail {
         self.words(words);
     }
 
-    /// Puts so many digits 0 in front.
-    #[inline]
-    fn zeros(&mut self, count: usize)
-        requires { count + length self.old ≤ 108 }
-        ensures { self.new ≡ replicate count digit_0 ++ self.old }
-    {
-        let end = self.start;
-        self.start = end - count;
-        self.room[self.start..end].fill(b'0');
-    }
-
-    /// Puts bytes in front, each as two lower case hexadecimal digits. Many ends have zeros behind, which are written at once.
+    /// Puts bytes in front, each as two lower case hexadecimal digits.
     #[inline]
     pub fn hex(&mut self, bytes: &[u8])
-        requires { 2 * length bytes.now + length self.old ≤ 108 }
-        ensures value { self.new ≡ encode_lower bytes.now ++ self.old }
-        ensures long { length self.new ≡ 2 * length bytes.now + length self.old }
-    {
-        let front = front_of(bytes);
-        self.zeros(2 * (bytes.len() - front));
-        self.digits(&bytes[..front]);
-    }
-
-    /// Puts bytes in front, each as two lower case hexadecimal digits, one by one.
-    #[inline]
-    fn digits(&mut self, bytes: &[u8])
         requires { 2 * length bytes.now + length self.old ≤ 108 }
         ensures value { self.new ≡ encode_lower bytes.now ++ self.old }
         ensures long { length self.new ≡ 2 * length bytes.now + length self.old }
