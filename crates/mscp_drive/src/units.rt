@@ -40,7 +40,8 @@ pub enum UnitsFault {
 
 impl Units {
     /// The units of a list. An error where there are more than 16, where their numbers don't rise, or where
-    /// there is none.
+    /// there is none. It isn't made part of its caller, in which each number of each unit would be moved by itself.
+    #[inline(never)]
     pub fn new(units: &[Unit]) -> Result<Units, UnitsFault>
         ensures many { (result ≡ Err UnitsFault.TooMany) ↔ (16 < length units.now) }
         ensures ascending { (result ≡ Err UnitsFault.NotAscending)
