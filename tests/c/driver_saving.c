@@ -118,6 +118,24 @@ static void edits(void)
         is("bytes too few", restored(POLLED, length), MSCP_SAVED_LENGTH);
 }
 
+/* Three commands, one of which is a poll: the host in it has 64 credits, and other faults if it has fewer than these or than 64. */
+static void fewer_credits_than_commands(void)
+{
+    enum { THREE = LENGTH + 16 };
+    static const uint8_t THIRD[12] = {2, 0, 0, 0, 0, 0, MSCP_WRITE};
+    uint8_t more[THREE];
+    memcpy(more, POLLED, HOST);
+    memcpy(more + HOST + 4, POLLED + HOST, LENGTH - HOST);
+    memcpy(more + THREE - sizeof THIRD, THIRD, sizeof THIRD);
+    memset(more + HOST, 0, 4);
+    more[8] = THREE, more[15] = 3, more[HOST + 4 + 8] = THREE - HOST - 4, more[HOST + 4 + 16] = 3;
+    is("three", restored(more, THREE), MSCP_DONE);
+    more[HOST + 4 + 12] = 2;
+    is("2 credits", restored(more, THREE), MSCP_SAVED_CREDITS);
+    more[HOST + 4 + 12] = 3; /* one of them is kept for the poll */
+    is("3 credits", restored(more, THREE), MSCP_SAVED_LIMITS);
+}
+
 /* Over the account that is made: bytes at fault leave it as it is, and good ones are in its place. */
 static void in_place(void)
 {
@@ -140,6 +158,7 @@ int main(void)
     is("most of it", mscp_driver_save_size() <= MSCP_DRIVER_SAVED_MAX, 1);
     goes_on();
     edits();
+    fewer_credits_than_commands();
     in_place();
     return wrong;
 }

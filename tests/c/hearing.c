@@ -271,9 +271,45 @@ static void credits_are_cut(void)
     is("one is taken", mscp_driver_credits(driver), 65534);
 }
 
+/* With each kind of message that has an envelope: credits up to 65,535 are kept, and where one more comes it is known ever after,
+ * in the account's saved byte 14. */
+static void credits_are_cut_of_each_kind(void)
+{
+    static const struct { unsigned kind; uint8_t code; int32_t wanted; } KINDS[] = {
+        {CREDITS, 0, MSCP_CREDITS},          {DATAGRAM, 0, MSCP_LOGGED},          {SEQUENTIAL, 0x40, MSCP_NOW_AVAILABLE},
+        {SEQUENTIAL, 0x41, MSCP_ATTENTION},  {SEQUENTIAL, 0xA1, MSCP_ENDED},      {SEQUENTIAL, 0x82, MSCP_FIRST},
+        {SEQUENTIAL, 0x80, MSCP_REFUSED}};
+    static uint8_t near[MSCP_DRIVER_SAVED_MAX], saved[MSCP_DRIVER_SAVED_MAX];
+    size_t length = 0, again = 0;
+    begin(3);
+    submits(1, MSCP_READ, 1024, MSCP_DONE);
+    polls(8, MSCP_DONE);
+    is("save", mscp_driver_save(driver, near, sizeof near, &length), MSCP_DONE);
+    put(near + 12, 2, 65521);
+    for (size_t i = 0; i < COUNT(KINDS); i++)
+        for (unsigned more = 14; more < 16; more++) {
+            is("restore", mscp_driver_restore(driver, near, length), MSCP_DONE);
+            end(KINDS[i].wanted == MSCP_ENDED ? 1 : 8, KINDS[i].code, KINDS[i].wanted == MSCP_REFUSED ? 0x0801 : 0, 32);
+            bytes[2] = (uint8_t)(KINDS[i].kind << 4 | more);
+            if (KINDS[i].code == 0x82)
+                put(bytes, 2, 20), put(bytes + 16, 4, 1), put(bytes + 20, 4, 5);
+            for (unsigned times = 0; times < 2; times++) {
+                is("what came", mscp_driver_hear(driver, &watch, bytes, 4 + number(bytes, 2), &heard), KINDS[i].wanted);
+                is("how many", mscp_driver_credits(driver), 65535);
+                is("save", mscp_driver_save(driver, saved, sizeof saved, &again), MSCP_DONE);
+                is("whether more came", saved[14], more == 15);
+                envelope(KINDS[i].kind, 0, 12);
+                bytes[12] = 0x40;
+                if (KINDS[i].kind == SEQUENTIAL && KINDS[i].wanted != MSCP_NOW_AVAILABLE)
+                    break;
+            }
+        }
+}
+
 /* Where no account fits none is restored. */
 static void memory_is_judged(void)
 {
+    static MSCP_ALIGNED uint8_t odd[MSCP_DRIVER_SIZE + 8];
     static uint8_t saved[MSCP_DRIVER_SAVED_MAX];
     struct mscp_driver none = {0};
     size_t length = 0, size = MSCP_HEAD + mscp_driver_size();
@@ -281,9 +317,54 @@ static void memory_is_judged(void)
     is("save", mscp_driver_save(driver, saved, sizeof saved, &length), MSCP_DONE);
     is("no handle", mscp_driver_restore(&none, saved, length), MSCP_NO_HANDLE);
     is("null", mscp_driver_restore(mscp_driver_in_memory(NULL, size), saved, length), MSCP_NO_MEMORY);
+    none = mscp_driver_over(NULL, mscp_driver_size());
+    is("null beside", mscp_driver_restore(&none, saved, length), MSCP_NO_MEMORY);
+    for (size_t at = 0; at <= 8; at++) {
+        none = mscp_driver_over(odd + at, mscp_driver_size());
+        is("at an odd place", mscp_driver_restore(&none, saved, length), at % 8 == 0 ? MSCP_DONE : MSCP_MISALIGNED);
+    }
     is("small", mscp_driver_restore(mscp_driver_in_memory(room, size - 1), saved, length), MSCP_SMALL);
     is("just large", mscp_driver_restore(mscp_driver_in_memory(room, size), saved, length), MSCP_DONE);
     is("cut", mscp_driver_restore(driver, saved, length - 1), MSCP_SAVED_LENGTH);
+    is("one is made", mscp_driver_init(driver), MSCP_MADE);
+    none = mscp_driver_over(room, mscp_driver_size());
+    length = 7;
+    is("none is saved", mscp_driver_save(&none, saved, sizeof saved, &length), MSCP_NOT_MADE);
+    is("no length", (int64_t)length, 7);
+}
+
+/* Ticks of a timer of so many, each of which comes to nothing, and one more that comes to this. */
+static void ticks(uint32_t count, int32_t wanted, uint32_t waited, uint32_t silent)
+{
+    for (uint32_t n = 0; n < count; n++)
+        is("a tick", mscp_driver_tick(driver, &watch), MSCP_NOTHING);
+    is("the tick", mscp_driver_tick(driver, &watch), wanted);
+    is("waited", watch.waited, waited);
+    is("silent", watch.silent, silent);
+}
+
+/* A READ that wasn't polled for a timeout is to be polled, and a command that is answered at once and had no answer for over one
+ * is a reason to reset. */
+static void ticks_are_counted(void)
+{
+    begin(8);
+    watch.timeout = 5;
+    ticks(20, MSCP_NOTHING, 0, 0);
+    submits(1, MSCP_READ, 1024, MSCP_DONE);
+    ticks(4, MSCP_POLL, 0, 0);
+    ticks(4, MSCP_POLL, 0, 0);
+    submits(2, MSCP_GET_UNIT_STATUS, 0, MSCP_DONE);
+    ticks(4, MSCP_POLL, 0, 5);
+    ticks(0, MSCP_SILENT, 0, 0);
+    polls(8, MSCP_DONE);
+    ticks(5, MSCP_SILENT, 0, 0);
+    end(2, 0x83, 3, 48);
+    hears("its end", MSCP_ENDED, (struct mscp_heard){.reference = 2, .unit = 3, .status = 3, .code = 0x83,
+                                                     .opcode = MSCP_GET_UNIT_STATUS});
+    ticks(4, MSCP_NOTHING, 5, 5);
+    answers(8, 1, 18, MSCP_FIRST);
+    is("silent no more", watch.silent, 0);
+    ticks(0, MSCP_POLL, 0, 0);
 }
 
 int main(void)
@@ -293,6 +374,8 @@ int main(void)
     polls_are_answered();
     commands_are_refused();
     credits_are_cut();
+    credits_are_cut_of_each_kind();
+    ticks_are_counted();
     memory_is_judged();
     return wrong;
 }

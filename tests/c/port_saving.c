@@ -186,7 +186,8 @@ static void edits(void)
         is("a transfer's block", restored(LENGTH), MSCP_SAVED_FORM);
         bytes[place] = 0;
     }
-    is("a byte too few", restored(LENGTH - 1), MSCP_SAVED_LENGTH);
+    for (size_t length = 0; length < LENGTH; length++)
+        is("bytes too few", restored(length), MSCP_SAVED_LENGTH);
 }
 
 /* If the controller has begun nothing, a transfer in hand moves nothing, and the block is begun again. */
@@ -202,6 +203,77 @@ static void nothing_is_begun(void)
     tell(&action, MSCP_OUTCOME_DONE);
     is("the next", mscp_port_next(machine.port, &action), MSCP_DONE);
     is("is its block", action.kind == MSCP_ACTION_TRANSFER && action.block == 4, 1);
+}
+
+/* Bytes may say that a volume ends before a command's blocks: no block past it is moved, and the command ends with a drive error. */
+static void volume_is_short(void)
+{
+    struct mscp_action action;
+    save_in_the_middle();
+    put(bytes + 74 + 10, 4, 4);
+    machine.port = mscp_port_in_memory(machine.rooms[0], sizeof machine.rooms[0]);
+    is("restore", mscp_port_restore(machine.port, bytes, LENGTH), MSCP_DONE);
+    is("an action", mscp_port_next(machine.port, &action), MSCP_DONE);
+    is("that moves nothing", action.kind, MSCP_ACTION_PAUSE);
+    machine.transfers = 0;
+    expect(2, 0xA1, 0x0B);
+    is("nothing was moved", machine.transfers, 0);
+    save_in_the_middle();
+    put(bytes + 74 + 10, 4, 5);
+    machine.port = mscp_port_in_memory(machine.rooms[0], sizeof machine.rooms[0]);
+    is("restore", mscp_port_restore(machine.port, bytes, LENGTH), MSCP_DONE);
+    is("an action", mscp_port_next(machine.port, &action), MSCP_DONE);
+    is("that moves its last block", action.kind == MSCP_ACTION_TRANSFER && action.block == 4, 1);
+    save_in_the_middle();
+}
+
+/* Bytes may say that rings aren't known, of which the area is being cleared or a slot is given back: the port dies of that. */
+static void no_rings(void)
+{
+    static const uint8_t IN_HAND[] = {2, 7};
+    struct mscp_action action;
+    struct mscp_state state;
+    for (size_t i = 0; i < sizeof IN_HAND; i++) {
+        save_in_the_middle();
+        memset(bytes + 40, 0, 30);
+        bytes[53] = IN_HAND[i];
+        if (IN_HAND[i] == 2)
+            bytes[34] = 6;
+        else
+            bytes[54] = 2;
+        machine.port = mscp_port_in_memory(machine.rooms[0], sizeof machine.rooms[0]);
+        is("restore", mscp_port_restore(machine.port, bytes, LENGTH), MSCP_DONE);
+        is("an action", mscp_port_next(machine.port, &action), MSCP_DONE);
+        is("it went", mscp_port_went(machine.port, MSCP_OUTCOME_DONE, 0), MSCP_DONE);
+        is("its state", mscp_port_state(machine.port, &state), MSCP_DONE);
+        is("it is dead", state.stage, 9);
+        is("of that", state.word, 7);
+    }
+    save_in_the_middle();
+}
+
+/* Bytes may say an end of a second connection, which nobody takes: it is gone with all else when the host writes IP. */
+static void second_end(void)
+{
+    enum { ALL = LENGTH + 48 };
+    static uint8_t two[ALL], after[MSCP_PORT_SAVED_MAX];
+    size_t length = 0, held = 0;
+    memcpy(two, bytes, LENGTH);
+    two[CONTROLLER + 16] = 2;
+    machine.port = mscp_port_in_memory(machine.rooms[1], sizeof machine.rooms[1]);
+    is("without it", mscp_port_restore(machine.port, two, LENGTH), MSCP_DONE);
+    is("it begins anew", mscp_port_write_ip(machine.port), MSCP_DONE);
+    is("save", mscp_port_save(machine.port, after, sizeof after, &held), MSCP_DONE);
+    put(two + 8, 4, ALL);
+    put(two + CONTROLLER + 8, 4, ALL - CONTROLLER);
+    two[CONTROLLER + 42] = 1;
+    put(two + LENGTH, 4, 7);
+    two[LENGTH + 8] = 0x88;
+    machine.port = mscp_port_in_memory(machine.rooms[1], sizeof machine.rooms[1]);
+    is("with it", mscp_port_restore(machine.port, two, ALL), MSCP_DONE);
+    is("it begins anew", mscp_port_write_ip(machine.port), MSCP_DONE);
+    is("save", mscp_port_save(machine.port, two, sizeof two, &length), MSCP_DONE);
+    is("as without it", length == held && memcmp(two, after, held) == 0, 1);
 }
 
 /* Each flipped bit. Any number may stand for model and versions, credits and slots, what the host has set, its words, what
@@ -305,6 +377,9 @@ int main(void)
     no_room();
     edits();
     flipped_bits();
+    volume_is_short();
+    no_rings();
+    second_end();
     nothing_is_begun();
     other_connection();
     return wrong;

@@ -193,6 +193,87 @@ static void words_are_counted(void)
             }
 }
 
+/* A line feed after each count of bytes, behind which so many more come: lines are cut there, and one of over 200 bytes is at
+ * fault. The lines are comments, or empty. */
+static void lines_end_anywhere(void)
+{
+    static char script[1024];
+    size_t count;
+    uint32_t line;
+    for (size_t rest = 1; rest < 560; rest += rest < 300 ? 1 : 7)
+        for (size_t at = 0; at <= rest; at += at < 200 ? 3 : 1) { /* at the end there is none */
+            size_t length = (size_t)sprintf(script, HEADER);
+            const int is_first_long = at > 200, is_second_long = at < rest && rest - at - 1 > 200;
+            memset(script + length, '#', rest);
+            if (at < rest)
+                script[length + at] = '\n';
+            int32_t status = run(script, length + rest, ROOM, &count, &line);
+            is("lines", status, is_first_long || is_second_long ? MSCP_SCRIPT_LONG : MSCP_DONE);
+            is("the long one", line, is_first_long ? 7 : is_second_long ? 8 : 77);
+        }
+}
+
+/* A line of a header is the last one that a script may have, or one more. */
+static void headers_have_lines(void)
+{
+    memset(large, '\n', 1000001);
+    fails(large, 1000000, MSCP_SCRIPT_HEADER, 1000001);
+    fails(large, 1000001, MSCP_SCRIPT_LINES, 1000001);
+    memcpy(large + 999999, HEADER, sizeof HEADER - 1);
+    fails(large, 999999 + sizeof HEADER - 1, MSCP_SCRIPT_LINES, 1000001);
+}
+
+/* Where a number stands it has 1 to 10 digits, and is at most so much. */
+static void numbers_have_bounds(void)
+{
+    static const struct { const char *before, *behind; uint32_t most, line; } PLACES[] = {
+        {HEADER "read ", " 0 512 1", UINT32_MAX, 7}, {HEADER "read 1 ", " 512 1", 65535, 7},
+        {HEADER "read 1 0 ", " 1", UINT32_MAX, 7}, {HEADER "read 1 0 512 ", "", UINT32_MAX, 7},
+        {HEADER "online ", " 0", UINT32_MAX, 7}, {HEADER "online 1 ", "", 65535, 7}, {HEADER "setcontroller ", "", UINT32_MAX, 7},
+        {HEADER "abort ", " 1", UINT32_MAX, 7}, {HEADER "abort 1 ", "", UINT32_MAX, 7}, {HEADER "status ", " 1", UINT32_MAX, 7},
+        {HEADER "status 1 ", "", UINT32_MAX, 7}, {HEADER "second read 1 ", " 512 1", 65535, 7},
+        {HEADER "second read ", " 0 512 1", UINT32_MAX, 7}, {HEADER "step ", "", 1000, 7}};
+    static const char *const BAD[] = {"99999999999", "00000000001", "4294967296", "9999999999", "x", "1x", "1/", "1:", "/1", ":1", "-1"};
+    static char script[512];
+    size_t count;
+    uint32_t line;
+    for (size_t i = 0; i < COUNT(PLACES); i++) {
+        size_t length = (size_t)sprintf(script, "%s%010lu%s\n", PLACES[i].before, (unsigned long)PLACES[i].most, PLACES[i].behind);
+        is("the most", run(script, length, ROOM, &count, &line), MSCP_DONE);
+        length = (size_t)sprintf(script, "%s0000000001%s\n", PLACES[i].before, PLACES[i].behind);
+        is("ten digits", run(script, length, ROOM, &count, &line), MSCP_DONE);
+        if (PLACES[i].most != UINT32_MAX) {
+            length = (size_t)sprintf(script, "%s%lu%s\n", PLACES[i].before, (unsigned long)PLACES[i].most + 1, PLACES[i].behind);
+            fails(script, length, MSCP_SCRIPT_NUMBER, PLACES[i].line);
+        }
+        for (size_t k = 0; k < COUNT(BAD); k++) {
+            length = (size_t)sprintf(script, "%s%s%s\n", PLACES[i].before, BAD[k], PLACES[i].behind);
+            fails(script, length, MSCP_SCRIPT_NUMBER, PLACES[i].line);
+        }
+    }
+    is("zero steps", run(HEADER "step 0\n", sizeof HEADER + 6, ROOM, &count, &line), MSCP_SCRIPT_NUMBER);
+}
+
+/* A byte that is no digit is told wherever it stands, in a packet and in a script that may have it there. */
+static void digits_are_judged(void)
+{
+    static char script[256];
+    char word[] = "050000000000000013000000";
+    size_t count = 77;
+    for (unsigned byte = 1; byte < 256; byte++)
+        for (size_t at = 0; at < 24; at += at == 1 ? 21 : 1) {
+            const int is_digit = strchr("0123456789abcdefABCDEF", (int)byte) != NULL;
+            const char was = word[at];
+            word[at] = (char)byte;
+            if (!is_digit)
+                is("no digit", mscp_show_packet((const uint8_t *)word, 24, room, 1024, &count), MSCP_WORD_HEX);
+            is("a digit", mscp_show_packet((const uint8_t *)word, 24, room, 1024, &count) != MSCP_WORD_HEX, is_digit);
+            if (byte > 32 && byte < 127 && !is_digit)
+                fails(script, (size_t)sprintf(script, HEADER "packet %s\n", word), MSCP_SCRIPT_HEX, 7);
+            word[at] = was;
+        }
+}
+
 static void packets_are_shown(void)
 {
     size_t count;
@@ -238,5 +319,9 @@ int main(void)
     words_are_exact();
     blanks_say_nothing();
     words_are_counted();
+    lines_end_anywhere();
+    headers_have_lines();
+    numbers_have_bounds();
+    digits_are_judged();
     return wrong;
 }
