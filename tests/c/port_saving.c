@@ -227,29 +227,122 @@ static void volume_is_short(void)
     save_in_the_middle();
 }
 
-/* Bytes may say that rings aren't known, of which the area is being cleared or a slot is given back: the port dies of that. */
+/* Bytes may say that rings aren't known, whose area is cleared or one of whose slots or words is in hand: nothing is touched, and
+ * the port dies of it where it would count. */
 static void no_rings(void)
 {
-    static const uint8_t IN_HAND[] = {2, 7};
+    static const struct { uint8_t in_hand, ring; bool dies; } CASES[] = {
+        {2, 0, true},   {3, 1, false}, {3, 2, false}, {7, 1, true}, {7, 2, true},
+        {8, 1, false},  {8, 2, false}, {9, 1, false}, {9, 2, false}};
     struct mscp_action action;
     struct mscp_state state;
-    for (size_t i = 0; i < sizeof IN_HAND; i++) {
+    for (size_t i = 0; i < COUNT(CASES); i++) {
         save_in_the_middle();
         memset(bytes + 40, 0, 30);
-        bytes[53] = IN_HAND[i];
-        if (IN_HAND[i] == 2)
-            bytes[34] = 6;
-        else
-            bytes[54] = 2;
+        bytes[53] = CASES[i].in_hand;
+        bytes[54] = CASES[i].ring;
         machine.port = mscp_port_in_memory(machine.rooms[0], sizeof machine.rooms[0]);
         is("restore", mscp_port_restore(machine.port, bytes, LENGTH), MSCP_DONE);
         is("an action", mscp_port_next(machine.port, &action), MSCP_DONE);
+        is("that touches nothing", action.kind, MSCP_ACTION_PAUSE);
+        is("its state", mscp_port_state(machine.port, &state), MSCP_DONE);
+        is("it is up", state.stage, 8);
+        if (!CASES[i].dies)
+            continue;
         is("it went", mscp_port_went(machine.port, MSCP_OUTCOME_DONE, 0), MSCP_DONE);
         is("its state", mscp_port_state(machine.port, &state), MSCP_DONE);
         is("it is dead", state.stage, 9);
         is("of that", state.word, 7);
     }
     save_in_the_middle();
+}
+
+/* Bytes may say that a packet is in hand where nothing goes out: no byte is written, and the slot is given back. */
+static void no_packet(void)
+{
+    struct mscp_action action;
+    save_in_the_middle();
+    memset(bytes + 53, 0, 17);
+    bytes[53] = 6;
+    put(bytes + 55, 4, 0x80002004);
+    machine.port = mscp_port_in_memory(machine.rooms[0], sizeof machine.rooms[0]);
+    is("restore", mscp_port_restore(machine.port, bytes, LENGTH), MSCP_DONE);
+    is("an action", mscp_port_next(machine.port, &action), MSCP_DONE);
+    is("a write", action.kind, MSCP_ACTION_WRITE);
+    is("where", action.address, 0x2000);
+    is("of no byte", action.count, 0);
+    is("it went", mscp_port_went(machine.port, MSCP_OUTCOME_DONE, 0), MSCP_DONE);
+    is("an action", mscp_port_next(machine.port, &action), MSCP_DONE);
+    is("the slot is written", action.kind == MSCP_ACTION_WRITE && action.address == slot_of(true, 1 % host.responses), 1);
+    is("and is its host's", number(action.bytes, 4), 0x40002004);
+    save_in_the_middle();
+}
+
+/* The bytes of a port at rest with which its unit 0 is online, of a host that wants attention messages if that says so. They end
+ * with the controller's head and drives, to which an end may come. */
+enum { REST = KEPT + 48 + 34 * UNITS };
+static uint8_t rest[REST + 48];
+
+static void save_at_rest(uint16_t flags)
+{
+    size_t length = 0;
+    build(&RQDX3);
+    initialise(0x1000, 0, 0, 0);
+    send_command(0, 1, MSCP_ONLINE, 0, 0, 0);
+    expect(1, 0x89, 0);
+    is("save", mscp_port_save(machine.port, rest, sizeof rest, &length), MSCP_DONE);
+    is("its length", (int64_t)length, REST);
+    put(rest + 24, 2, flags);
+}
+
+static void go_on(size_t length)
+{
+    machine.port = mscp_port_in_memory(machine.rooms[1], sizeof machine.rooms[1]);
+    is("restore", mscp_port_restore(machine.port, rest, length), MSCP_DONE);
+    run(MOST_ACTIONS);
+}
+
+/* Bytes may say ends of which it isn't decided what they tell: each goes out as the controller made it. */
+static void undecided_ends(void)
+{
+    static const struct { uint8_t code, length; } ENDS[] = {
+        {0x80, 12}, {0x81, 16}, {0x82, 20}, {0x83, 48}, {0x84, 28}, {0x88, 12}, {0x89, 44}, {0x8A, 44}, {0x90, 32}, {0xA1, 32}};
+    static const struct { uint8_t code, from, to; } FIELDS[] = {
+        {0x81, 12, 16}, {0x82, 12, 20}, {0x83, 20, 32}, {0x83, 36, 42}, {0x84, 16, 18}, {0x84, 20, 28},
+        {0x89, 20, 32}, {0x89, 36, 44}, {0x8A, 20, 32}, {0x8A, 36, 44}, {0x90, 12, 16}, {0xA1, 12, 16}};
+    for (size_t i = 0; i < COUNT(ENDS); i++) {
+        uint8_t packet[68] = {0}, *end = rest + REST;
+        save_at_rest(0);
+        put(rest + 8, 4, REST + 48);
+        put(rest + KEPT + 8, 4, REST + 48 - KEPT);
+        rest[KEPT + 41] = 1;
+        memset(end, 0, 48);
+        put(end, 4, 77), put(end + 4, 2, 2), put(end + 10, 2, 0x0123);
+        end[8] = ENDS[i].code;
+        for (size_t k = 0; k < COUNT(FIELDS); k++)
+            for (unsigned at = FIELDS[k].from; FIELDS[k].code == ENDS[i].code && at < FIELDS[k].to; at++)
+                end[at] = (uint8_t)(0x31 + 3 * at);
+        go_on(REST + 48);
+        is("an end", take(packet), 1);
+        is("its length", number(packet, 2), ENDS[i].length);
+        is("its bytes", memcmp(packet + 4, end, ENDS[i].length), 0);
+        is("no other", look() == NULL, 1);
+    }
+}
+
+/* Bytes may say news of a volume where no unit is: of that the host hears nothing. */
+static void news_of_no_unit(void)
+{
+    for (size_t place = 0; place < 16; place++) {
+        uint8_t packet[68] = {0};
+        save_at_rest(0x80);
+        rest[74 + 18 * place + 3] = 1;
+        go_on(REST);
+        is("a message", take(packet), place < UNITS);
+        if (place < UNITS)
+            is("that it is available", packet[12] == 0x40 && number(packet + 8, 2) == place, 1);
+        is("no other", look() == NULL, 1);
+    }
 }
 
 /* Bytes may say an end of a second connection, which nobody takes: it is gone with all else when the host writes IP. */
@@ -379,7 +472,11 @@ int main(void)
     flipped_bits();
     volume_is_short();
     no_rings();
+    no_packet();
     second_end();
+    undecided_ends();
+    news_of_no_unit();
+    save_in_the_middle();
     nothing_is_begun();
     other_connection();
     return wrong;
