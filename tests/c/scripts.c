@@ -108,6 +108,18 @@ static void letters_count(const char *before, const char *word, uint32_t line)
     is_no_word(before, word, length, "q", line);
 }
 
+/* Nor is it one with some of its letters, and others up to each length. */
+static void beginnings_count(const char *before, const char *word, uint32_t line)
+{
+    char other[16];
+    for (size_t length = 1; length < 16; length++)
+        for (size_t same = 0; same < length && same < strlen(word); same++) {
+            memset(other, 'q', sizeof other);
+            memcpy(other, word, same);
+            is_no_word(before, other, length, "", line);
+        }
+}
+
 static void words_are_exact(void)
 {
     static const char *const LINES[] = {
@@ -124,6 +136,8 @@ static void words_are_exact(void)
     for (size_t i = 0; i < COUNT(LINES); i++) {
         letters_count(HEADER, LINES[i], 7);
         letters_count(HEADER "second ", LINES[i], 7);
+        beginnings_count(HEADER, LINES[i], 7);
+        beginnings_count(HEADER "second ", LINES[i], 7);
     }
     is_no_word(HEADER "second ", "step", 4, " 1", 7);
     is_no_word(HEADER "second ", "bad", 3, " 0008", 7);
@@ -190,6 +204,11 @@ static void words_are_counted(void)
                 if (words != NULL)
                     fails(script, (size_t)sprintf(script, "%s%s%s%*s\n", LINES[i].before, LINES[i].line, words, (int)blanks, ""),
                           MSCP_SCRIPT_COUNT, LINES[i].at);
+                for (int cut = 0; !more && words != NULL && words[cut] != 0; cut++)
+                    if (words[cut] == ' ')
+                        fails(script,
+                              (size_t)sprintf(script, "%s%s%.*s%*s\n", LINES[i].before, LINES[i].line, cut, words, (int)blanks, ""),
+                              MSCP_SCRIPT_COUNT, LINES[i].at);
             }
 }
 
@@ -223,6 +242,8 @@ static void headers_have_lines(void)
     fails(large, 999999 + sizeof HEADER - 1, MSCP_SCRIPT_LINES, 1000001);
 }
 
+#define UNITS "credits 4\nbudget 16\nlongest 8\ntimeout 60\nunit "
+
 /* Where a number stands it has 1 to 10 digits, and is at most so much. */
 static void numbers_have_bounds(void)
 {
@@ -233,6 +254,18 @@ static void numbers_have_bounds(void)
         {HEADER "abort ", " 1", UINT32_MAX, 7}, {HEADER "abort 1 ", "", UINT32_MAX, 7}, {HEADER "status ", " 1", UINT32_MAX, 7},
         {HEADER "status 1 ", "", UINT32_MAX, 7}, {HEADER "second read 1 ", " 512 1", 65535, 7},
         {HEADER "second read ", " 0 512 1", UINT32_MAX, 7}, {HEADER "step ", "", 1000, 7}};
+    static const struct { const char *before, *behind; uint32_t most, line; } HEADERS[] = {
+        {"credits ", "\nbudget 16\n", UINT32_MAX, 1}, {"credits ", " 4\nbudget 16\n", UINT32_MAX, 1},
+        {"credits 4 ", "\nbudget 16\n", UINT32_MAX, 1}, {"credits 4\nbudget ", "\n", UINT32_MAX, 2},
+        {"credits 4\npassing ", "\n", UINT32_MAX, 2}, {"credits 4\nbudget 16\nlongest ", "\n", UINT32_MAX, 3},
+        {"credits 4\nbudget 16\nlongest 8\ntimeout ", "\n", 65535, 4},
+        {UNITS, " 10 2 1 1000\ngo\n", 65535, 5}, {UNITS "0 ", " 2 1 1000\ngo\n", 65535, 5},
+        {UNITS "0 10 ", " 1 1000\ngo\n", 65535, 5}, {UNITS "0 10 2 ", " 1000\ngo\n", 65535, 5},
+        {UNITS "0 10 2 1 ", "\ngo\n", UINT32_MAX, 5}, {UNITS "0 10 2 1 1000\nunit ", " 10 2 1 1000\ngo\n", 65535, 6},
+        {UNITS "0 10 2 1 1000\nunit 1 ", " 2 1 1000\ngo\n", 65535, 6},
+        {UNITS "0 10 2 1 1000\nunit 1 10 ", " 1 1000\ngo\n", 65535, 6},
+        {UNITS "0 10 2 1 1000\nunit 1 10 2 ", " 1000\ngo\n", 65535, 6},
+        {UNITS "0 10 2 1 1000\nunit 1 10 2 1 ", "\ngo\n", UINT32_MAX, 6}};
     static const char *const BAD[] = {"99999999999", "00000000001", "4294967296", "9999999999", "x", "1x", "1/", "1:", "/1", ":1", "-1"};
     static char script[512];
     size_t count;
@@ -251,7 +284,33 @@ static void numbers_have_bounds(void)
             fails(script, length, MSCP_SCRIPT_NUMBER, PLACES[i].line);
         }
     }
+    for (size_t i = 0; i < COUNT(HEADERS); i++) {
+        size_t length = (size_t)sprintf(script, "%s%010lu%s", HEADERS[i].before, (unsigned long)HEADERS[i].most, HEADERS[i].behind);
+        is("the most", run(script, length, ROOM, &count, &line) != MSCP_SCRIPT_NUMBER, 1);
+        if (HEADERS[i].most != UINT32_MAX) {
+            length = (size_t)sprintf(script, "%s65536%s", HEADERS[i].before, HEADERS[i].behind);
+            fails(script, length, MSCP_SCRIPT_NUMBER, HEADERS[i].line);
+        }
+        for (size_t k = 0; k < COUNT(BAD); k++) {
+            length = (size_t)sprintf(script, "%s%s%s", HEADERS[i].before, BAD[k], HEADERS[i].behind);
+            fails(script, length, MSCP_SCRIPT_NUMBER, HEADERS[i].line);
+        }
+    }
     is("zero steps", run(HEADER "step 0\n", sizeof HEADER + 6, ROOM, &count, &line), MSCP_SCRIPT_NUMBER);
+}
+
+/* Numbers of each count of digits are written, also where one begins with a zero. */
+static void numbers_are_written(void)
+{
+    static char script[512], report[512];
+    for (unsigned long border = 1; border <= 1000000000; border *= 10)
+        for (unsigned long n = border - 1; n <= border + 1; n++) {
+            sprintf(script, HEADER "read %010lu 0 512 1\nabort %lu 7\nlook\nstep 1\n", n, n + 7);
+            sprintf(report, "queued %lu\nanswered %lu\nfigure %lu 17\nserve %lu unit 0 block none seek 0 ended 0004\n"
+                            "steps 1 seeks 0 pending 0\n", n, n + 7, n, n);
+            if (n != 7)
+                fits_just(script, report);
+        }
 }
 
 /* A byte that is no digit is told wherever it stands, in a packet and in a script that may have it there. */
@@ -322,6 +381,7 @@ int main(void)
     lines_end_anywhere();
     headers_have_lines();
     numbers_have_bounds();
+    numbers_are_written();
     digits_are_judged();
     return wrong;
 }
