@@ -20,6 +20,9 @@ KINDS = {
     "clock": "a controller that was not idle for 2^40 blocks",
     "wide": "numbers of over 64 bits in a report",
     "order": "what a command asks for, where commands of that kind never are",
+    "found": "a search that finds nothing, of what is there",
+    "again": "what was asked before, answered otherwise",
+    "begun": "a block that a script's controller has begun and not ended",
 }
 FUNCTION = re.compile(r"^(static|APART|u?int[0-9]+_t|size_t) .*\(.*[^;]$")
 LABEL = re.compile(r"^(L[0-9]+):;?$")
@@ -30,8 +33,64 @@ GUARDS = (
     ("clock", re.compile(r"< 1099511627776ull\) goto")),
     ("long", re.compile(r"< (129|171|257|2049)ull\) goto")),
     ("room", re.compile(r"^if \(\(v[0-9]+ \+ 0xFFFFFFFFFFFF[0-9A-F]+ull\) >= [0-9]ull\) goto")),
-    ("order", re.compile(r"^(case [0-9]+: goto L[0-9]+;|default: goto L[0-9]+;|switch .*)$")),
+    ("order", re.compile(r"^((case [0-9]+: )+goto L[0-9]+;|default: goto L[0-9]+;|switch .*)$")),
 )
+# The same in these functions alone, and where that is said behind one of so many lines that it matches.
+ONLY = tuple(
+    (kind, re.compile(f"^({names})$"), re.compile(guard), re.compile(before), lines)
+    for kind, names, guard, before, lines in (
+        # No unit of a port, of which each has one.
+        ("found", "Port_part|Port_finish", r"\(v\d+ == 0\) == 0\) goto", r"= l8_8\(v\d+ \+ 808ull\)", 1),
+        ("found", "Port_finish", r"^if \(v\d+\) goto", r"^L\d+:;$", 1),
+        # No unit of the end of a command that was served, which is no SET CONTROLLER CHARACTERISTICS either.
+        ("found", "Port_finish", r"^if \(v\d+ == 0\) goto", r"^v\d+ = v\d+ \+ 0xFFFFFFFFFFFFFFFFull;$", 1),
+        # Bytes one of which was seen to be a line feed.
+        ("found", "Lines_cut", r"^if \(v\d+ != 0ull\) goto", r"<< 48\);$", 1),
+        ("found", "Lines_cut", r"== 10u\) goto", r"^v\d+ = v\d+ \+ v\d+;$", 1),
+        # The cheapest of some costs, and the nearest of some commands.
+        ("found", "SweepPicker_pick", r"== 0\) goto", r">> 56\)", 3),
+        ("found", "start_best_place", r"^if \((v\d+ < v\d+|v\d+ != 512ull|\(u32\)\(v\d+ == 0\) == 0)\) goto", "", 0),
+        # How long a word is whose form is looked for by its length, and whose letters were compared one by one.
+        ("again", "events_read_request", r"^if \((v\d+ (> 3|<= [47]|!= 13)ull|t\d+|v\d+ == 0)\) goto", "", 0),
+        # How long a message is: 12 to 64 bytes.
+        ("again", "Port_see_text", r"^if \(v\d+ (<= (58|64)|>= (4|9|12))ull\) goto", "", 0),
+        ("again", "export_mscp_(write_command|show_packet_at)", r"^if \(l1\(v\d+ \+ \d+\) == 0\) goto", r"^reading_read_command\(", 1),
+        # Whether a place in a list is behind another one.
+        ("again", "Port_(finish|see_text)", r"^if \(v\d+ >= v\d+\) goto", r"^if \(v\d+ < v\d+\) goto", 1),
+        # The size of a text that is restored; the digits and the units of a script; the head of a saved account.
+        ("again", "codes_task_in", r"\(v\d+ \+ 0xFFFFFFF4u\) <= 52u\) goto", "", 0),
+        ("again", "reported_run_events", r"^if \(l1\(v\d+ \+ \d+\)\) goto", r"^decoding_decode\(", 1),
+        ("again", "export_mscp_run_script_at", r"^if \(l1\(v\d+ \+ \d+\)\) goto", r"^Units_new\(", 1),
+        ("again", "export_mscp_driver_restore_at", r"^if \(l1\(v\d+ \+ \d+\) != \(v\d+ & 255u\)\) goto", "", 0),
+        # Whether a poll is in flight, where its end was heard; which picker it is that is shown all; which command is answered.
+        ("again", "Host_hear", r"^if \(l1\(v\d+ \+ \d+ull\) != 1u\) goto", r"^L\d+:;$", 1),
+        ("again", "start_picked_place", r"^if \(l1\(v\d+\)\) goto", r"^copy\(", 1),
+        ("again", "(Run|Controller)_send", r"^if \(v\d+\) goto", r"^s4_4\(v\d+ \+ 180, l4_4\(v\d+ \+ 120\)\);$", 2),
+        # Which stage of a port it is that has a word.
+        ("again", "export_mscp_port_(save_at|state)", r"^case 1: case 9: goto", "", 0),
+        # An ONLINE that was answered at once, and so was refused.
+        ("order", "Port_see_text", r"\| 256u\) != 256u\) goto", "", 0),
+        ("begun", "Run_(send|steps)", r"^if \(l1\(v\d+\) != 1u\) goto", "", 0),
+        ("room", "Host_save", r"^if \(v\d+ >= 4ull\) goto", r"^v\d+ = v\d+ \+ 0xFFFFFFFFFFFFF[0-9A-F]{3}ull;$", 16),
+    )
+)
+# What a loop looks for in these functions, which is there.
+SOUGHT = tuple(
+    (re.compile(f"^({names})$"), re.compile(what))
+    for names, what in (
+        # A unit that the controller has.
+        ("(Run|Controller)_send|Queue_restore|Port_(part|finish|see_text)|port_turning_tell_next|export_mscp_port_volume_came",
+         r"^if \(l2_2\(v\d+( \+ v\d+)?\) [!=]= \(v\d+ & 65535u\)\) goto"),
+        # A command that is outstanding, and one that waits.
+        ("Host_hear|export_mscp_driver_hear_at", r"^if \(l4_4\(v\d+( \+ 0x[0-9A-F]+ull)?\) [!=]= v\d+\) goto"),
+        ("Queue_restore", r"^if \(l4\(v\d+ \+ 4ull\) != v\d+\) goto"),
+        # A word of a line that has one.
+        ("export_mscp_run_script_at|header_(add_unit|read_setting)", r" == 32u\) goto"),
+    )
+)
+# How far what is copied lies from where it goes, or whether that is enough.
+APART = re.compile(r"^(v\d+) = (v\d+ - A\(data \+ \d+\)|\(v\d+ \+ \d+ull\) - \(v\d+ \+ \d+ull\));$")
+ENOUGH = re.compile(r"^(v\d+) = (v\d+) > \d+ull;$")
 
 
 class Line:
@@ -78,14 +137,61 @@ def pieces(lines):
     return found
 
 
+def said_before(lines, at, what, count):
+    """Whether one of so many lines before this one says that; with none nothing needs to."""
+    return count == 0 or any(what.search(lines[it].text) for it in range(max(0, at - count), at))
+
+
+def only_here(name, lines, guards):
+    for kind, names, guard, before, count in ONLY:
+        if names.match(name) and any(guard.search(lines[at].text) and said_before(lines, at, before, count) for at in guards):
+            return kind
+    return None
+
+
+def loop_at(lines, at):
+    """The loop that ends where this line doesn't jump: to its front, or on in it."""
+    label = re.search(r"goto (L[0-9]+);$", lines[at].text)
+    to = [it for it, line in enumerate(lines) if label and line.text == f"{label.group(1)}:;"]
+    if not to:
+        return []
+    if to[0] <= at:
+        return lines[to[0] : at + 1]
+    fronts = {line.text[:-2] for line in lines[max(0, at - 4) : at] if LABEL.match(line.text)}
+    ends = [it for it in range(to[0], min(len(lines), to[0] + 8)) if any(lines[it].text.endswith(f"goto {front};") for front in fronts)]
+    return lines[to[0] : ends[0] + 1] if ends else []
+
+
+def is_found(name, lines, guards):
+    """Whether a loop that looks for what is there has ended where one of these is."""
+    wanted = [what for names, what in SOUGHT if names.match(name)]
+    return any(what.search(line.text) for at in guards for line in loop_at(lines, at) for what in wanted)
+
+
+def is_overlap(lines, guards):
+    """Whether one of these asks how far two addresses are apart."""
+    apart = set()
+    for line in lines:
+        if found := APART.match(line.text) or ENOUGH.match(line.text):
+            if found.re is APART or found.group(2) in apart:
+                apart.add(found.group(1))
+    asked = (re.match(r"^if \((v\d+)( > \d+ull)?\) goto", lines[at].text) for at in guards)
+    return any(found is not None and found.group(1) in apart for found in asked)
+
+
 def kind_of(name, lines, piece, guards):
     texts = [lines[at].text for at in piece]
     if name.startswith(("give_", "take_")):
         return "layout"
     if name.startswith("w_") or name == "rattle_trap" or all(LABEL.match(it) or "TRAP();" in it for it in texts):
         return "inside"
-    if name.endswith("ti3") or any("ti3(" in it for it in texts):
+    if name == "clz64" or name.endswith("ti3") or any("ti3(" in it for it in texts):
         return "wide"
+    kind = only_here(name, lines, guards)
+    if kind is not None or is_found(name, lines, guards):
+        return kind or "found"
+    if is_overlap(lines, guards):
+        return "overlap"
     for kind, guard in GUARDS:
         if any(guard.search(lines[at].text) for at in guards):
             return kind
