@@ -231,6 +231,32 @@ static void an_abort_in_between(void)
     free(mscp);
 }
 
+/* Each command that waits is aborted before it had a step: its end has its own endcode, and no byte was moved. */
+static void each_is_aborted(void)
+{
+    static const struct { uint8_t opcode, length; } COMMANDS[] = {
+        {MSCP_AVAILABLE, 12}, {MSCP_ONLINE, 44}, {MSCP_SET_UNIT_CHARACTERISTICS, 44}, {MSCP_ACCESS, 32}, {MSCP_ERASE, 32},
+        {MSCP_COMPARE_HOST_DATA, 32}, {MSCP_READ, 32}, {MSCP_WRITE, 32}};
+    for (size_t i = 0; i < COUNT(COMMANDS); i++) {
+        struct mscp *mscp = controller();
+        struct mscp_sent sent;
+        struct mscp_packet end;
+        struct mscp_report report;
+        bring_online(mscp);
+        is("send", mscp_send(mscp, FIRST, command(2, COMMANDS[i].opcode, 512, 40), 32, &sent), MSCP_QUEUED);
+        is("abort", mscp_send(mscp, FIRST, command(3, MSCP_ABORT, 2, 0), 16, &sent), MSCP_ANSWERED);
+        is("of it", sent.has_aborted && sent.aborted == 2 && sent.reference == 3, 1);
+        is("none waits", mscp_step(mscp, 0, &report), MSCP_NOTHING);
+        is("its end", mscp_take(mscp, FIRST, &end) == MSCP_DONE && number(end.bytes, 4) == 2, 1);
+        is("its code", end.bytes[8], COMMANDS[i].opcode | 0x80);
+        is("its length", end.length, COMMANDS[i].length);
+        is("aborted", number(end.bytes + 10, 2), 2);
+        is("no bytes", COMMANDS[i].length == 32 && number(end.bytes + 12, 4) != 0, 0);
+        is("that of the abort", mscp_take(mscp, FIRST, &end) == MSCP_DONE && number(end.bytes, 4) == 3 && end.bytes[8] == 0x81, 1);
+        free(mscp);
+    }
+}
+
 /* Which of two READs starts, by the picker: the oldest is far, the newer near. */
 static void pickers(void)
 {
@@ -322,6 +348,7 @@ int main(void)
     messages_that_are_refused();
     a_read_that_is_polled();
     an_abort_in_between();
+    each_is_aborted();
     pickers();
     host();
     host_without_a_credit();

@@ -250,6 +250,26 @@ static void commands_are_refused(void)
     is("none is made", mscp_driver_credits(driver), MSCP_NOT_MADE);
 }
 
+/* However many credits came, 64 commands are outstanding at most, and of those one is answered at once. */
+static void commands_are_few(void)
+{
+    begin(15);
+    for (unsigned times = 0; times < 6; times++) {
+        envelope(CREDITS, 15, 0);
+        hears("credits", MSCP_CREDITS, (struct mscp_heard){.credits = 15});
+    }
+    for (uint32_t n = 1; n < 64; n++)
+        submits(n, MSCP_READ, 512, MSCP_DONE);
+    is("credits", mscp_driver_credits(driver), 15 + 6 * 15 - 63);
+    submits(64, MSCP_READ, 512, MSCP_LAST_CREDIT);
+    submits(64, MSCP_GET_UNIT_STATUS, 0, MSCP_DONE);
+    submits(65, MSCP_GET_UNIT_STATUS, 0, MSCP_NO_CREDIT);
+    submits(65, MSCP_READ, 512, MSCP_NO_CREDIT);
+    polls(65, MSCP_NO_CREDIT);
+    is("outstanding", mscp_driver_outstanding(driver, NULL, 0), 64);
+    is("credits", mscp_driver_credits(driver), 15 + 6 * 15 - 64);
+}
+
 /* 65,535 credits are the most that are counted, and such an account is saved and restored. */
 static void credits_are_cut(void)
 {
@@ -373,6 +393,7 @@ int main(void)
     ends_are_told();
     polls_are_answered();
     commands_are_refused();
+    commands_are_few();
     credits_are_cut();
     credits_are_cut_of_each_kind();
     ticks_are_counted();

@@ -164,6 +164,10 @@ static void edits(void)
         /* a text of no bytes, of 11, 12, 64 and 65 */
         {{{53, 5}}, MSCP_SAVED_SIZE}, {{{53, 5}, {59, 11}}, MSCP_SAVED_SIZE}, {{{53, 5}, {59, 12}}, MSCP_DONE},
         {{{53, 5}, {59, 64}}, MSCP_DONE}, {{{53, 5}, {59, 65}}, MSCP_SAVED_SIZE},
+        /* a step that moves no block, and how it went: good, a bad block of status 8 and of no status, no volume, not online */
+        {{{53, 11}}, MSCP_DONE}, {{{53, 11}, {69, 1}, {67, 8}}, MSCP_DONE}, {{{53, 11}, {69, 1}, {67, 5}}, MSCP_DONE},
+        {{{53, 11}, {69, 1}, {67, 4}}, MSCP_SAVED_FORM}, {{{53, 11}, {69, 1}}, MSCP_SAVED_FORM},
+        {{{53, 11}, {69, 2}}, MSCP_DONE}, {{{53, 11}, {69, 3}}, MSCP_DONE}, {{{53, 11}, {69, 4}}, MSCP_SAVED_FORM},
         /* 2 bytes of the area that are clear, 64, 1,024 and 1,088 */
         {{{53, 2}, {55, 2}}, MSCP_SAVED_SIZE}, {{{53, 2}, {55, 64}}, MSCP_DONE}, {{{53, 2}, {56, 4}}, MSCP_DONE},
         {{{53, 2}, {56, 4}, {55, 64}}, MSCP_SAVED_SIZE},
@@ -253,6 +257,30 @@ static void no_rings(void)
         is("its state", mscp_port_state(machine.port, &state), MSCP_DONE);
         is("it is dead", state.stage, 9);
         is("of that", state.word, 7);
+    }
+    save_in_the_middle();
+}
+
+/* Bytes may say that the host has answered a step in a stage that asks for none: it is taken, and nothing comes of it. */
+static void no_step(void)
+{
+    static const uint8_t STAGES[] = {1, 4, 5, 6, 7, 8};
+    struct mscp_action action;
+    struct mscp_state state;
+    for (size_t i = 0; i < sizeof STAGES; i++) {
+        save_in_the_middle();
+        bytes[34] = STAGES[i];
+        bytes[37] = 1;
+        put(bytes + 38, 2, 0x8123);
+        memset(bytes + 53, 0, 17);
+        bytes[53] = 1;
+        machine.port = mscp_port_in_memory(machine.rooms[0], sizeof machine.rooms[0]);
+        is("restore", mscp_port_restore(machine.port, bytes, LENGTH), MSCP_DONE);
+        is("an action", mscp_port_next(machine.port, &action), MSCP_DONE);
+        is("that does nothing", action.kind, MSCP_ACTION_PAUSE);
+        is("it went", mscp_port_went(machine.port, MSCP_OUTCOME_DONE, 0), MSCP_DONE);
+        is("its state", mscp_port_state(machine.port, &state) == MSCP_DONE && state.stage == STAGES[i] && state.word == 0, 1);
+        is("what is next", mscp_port_next(machine.port, &action), STAGES[i] == 8 ? MSCP_DONE : MSCP_NOTHING);
     }
     save_in_the_middle();
 }
@@ -473,6 +501,7 @@ int main(void)
     volume_is_short();
     no_rings();
     no_packet();
+    no_step();
     second_end();
     undecided_ends();
     news_of_no_unit();
