@@ -299,16 +299,16 @@ static void credits_are_cut_of_each_kind(void)
         {CREDITS, 0, MSCP_CREDITS},          {DATAGRAM, 0, MSCP_LOGGED},          {SEQUENTIAL, 0x40, MSCP_NOW_AVAILABLE},
         {SEQUENTIAL, 0x41, MSCP_ATTENTION},  {SEQUENTIAL, 0xA1, MSCP_ENDED},      {SEQUENTIAL, 0x82, MSCP_FIRST},
         {SEQUENTIAL, 0x80, MSCP_REFUSED}};
-    static uint8_t near[MSCP_DRIVER_SAVED_MAX], saved[MSCP_DRIVER_SAVED_MAX];
+    static uint8_t almost[MSCP_DRIVER_SAVED_MAX], saved[MSCP_DRIVER_SAVED_MAX];
     size_t length = 0, again = 0;
     begin(3);
     submits(1, MSCP_READ, 1024, MSCP_DONE);
     polls(8, MSCP_DONE);
-    is("save", mscp_driver_save(driver, near, sizeof near, &length), MSCP_DONE);
-    put(near + 12, 2, 65521);
+    is("save", mscp_driver_save(driver, almost, sizeof almost, &length), MSCP_DONE);
+    put(almost + 12, 2, 65521);
     for (size_t i = 0; i < COUNT(KINDS); i++)
         for (unsigned more = 14; more < 16; more++) {
-            is("restore", mscp_driver_restore(driver, near, length), MSCP_DONE);
+            is("restore", mscp_driver_restore(driver, almost, length), MSCP_DONE);
             end(KINDS[i].wanted == MSCP_ENDED ? 1 : 8, KINDS[i].code, KINDS[i].wanted == MSCP_REFUSED ? 0x0801 : 0, 32);
             bytes[2] = (uint8_t)(KINDS[i].kind << 4 | more);
             if (KINDS[i].code == 0x82)

@@ -295,7 +295,10 @@ static void no_packet(void)
     put(bytes + 55, 4, 0x80002004);
     machine.port = mscp_port_in_memory(machine.rooms[0], sizeof machine.rooms[0]);
     is("restore", mscp_port_restore(machine.port, bytes, LENGTH), MSCP_DONE);
+    memset(&action, 0x5A, sizeof action);
     is("an action", mscp_port_next(machine.port, &action), MSCP_DONE);
+    for (size_t at = 0; at < sizeof action.bytes; at++)
+        is("a byte that isn't written", action.bytes[at], 0x5A);
     is("a write", action.kind, MSCP_ACTION_WRITE);
     is("where", action.address, 0x2000);
     is("of no byte", action.count, 0);

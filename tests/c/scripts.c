@@ -212,23 +212,24 @@ static void words_are_counted(void)
             }
 }
 
-/* A line feed after each count of bytes, behind which so many more come: lines are cut there, and one of over 200 bytes is at
- * fault. The lines are comments, or empty. */
+/* A line feed behind a comment of each count of bytes, and then so many more that are no word: the line is cut there, and one of
+ * over 200 bytes is at fault before its word is. What is behind the script is none of it. */
 static void lines_end_anywhere(void)
 {
-    static char script[1024];
+    static char room_of_it[1024];
     size_t count;
     uint32_t line;
     for (size_t rest = 1; rest < 560; rest += rest < 300 ? 1 : 7)
-        for (size_t at = 0; at <= rest; at += at < 200 ? 3 : 1) { /* at the end there is none */
-            size_t length = (size_t)sprintf(script, HEADER);
-            const int is_first_long = at > 200, is_second_long = at < rest && rest - at - 1 > 200;
-            memset(script + length, '#', rest);
-            if (at < rest)
-                script[length + at] = '\n';
-            int32_t status = run(script, length + rest, ROOM, &count, &line);
-            is("lines", status, is_first_long || is_second_long ? MSCP_SCRIPT_LONG : MSCP_DONE);
-            is("the long one", line, is_first_long ? 7 : is_second_long ? 8 : 77);
+        for (size_t at = 0; at <= rest && at < 300; at += at < 206 ? 1 : 5) { /* at the end there is none */
+            char *script = room_of_it + rest % 33; /* at addresses of each kind */
+            memset(room_of_it, '\n', sizeof room_of_it);
+            size_t length = (size_t)sprintf(script, HEADER), more = at < rest ? rest - at - 1 : 0;
+            script[length] = '\n';
+            memset(script + length, '#', at);
+            memset(script + length + (rest - more), 'q', more);
+            int32_t wanted = at > 200 || more > 200 ? MSCP_SCRIPT_LONG : more > 0 ? MSCP_SCRIPT_WORD : MSCP_DONE;
+            is("lines", run(script, length + rest, ROOM, &count, &line), wanted);
+            is("the line at fault", line, wanted == MSCP_DONE ? 77 : at > 200 ? 7 : 8);
         }
 }
 
