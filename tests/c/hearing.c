@@ -1,6 +1,6 @@
 /* What a driver's account takes and hears: each kind of message that a port sends, cut and spoiled ones, each answer to a poll,
- * each refusal of a command, more credits than are counted, ticks of a timer, and memory in which none can be restored. What is wanted is what
- * mscp.h says. Prints what is wrong, and ends with 1 where something is. */
+ * each refusal of a command, more credits than are counted, ticks of a timer, and memory in which none can be restored. What is
+ * wanted is what mscp.h says. Prints what is wrong, and ends with 1 where something is. */
 #include "trying.h"
 #include <stdbool.h>
 

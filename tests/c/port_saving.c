@@ -1,5 +1,6 @@
 /* A port that is saved and restored: in a whole run it goes on after each action in fresh memory, from what was saved, and
- * all is as with a port that stays. Bytes that no run has are refused, or do no harm. Prints what is wrong, and ends with 1 where something is. */
+ * all is as with a port that stays. Bytes that no run has are refused, or do no harm. Prints what is wrong, and ends with 1
+ * where something is. */
 #include "machine.h"
 
 /* What a machine is left with. */
