@@ -3,8 +3,8 @@
 ghost use Rattle.std.specs.Prelude.{◌≡◌, ◌≤◌, ◌++◌, length, OnErr, OnOk};
 ghost use Rattle.hex.specs.Hex.{encode_lower};
 
+use crate::digits::write_hex;
 use crate::out::Out;
-use hex::encode_to_slice;
 use itoa::{Buffer, Integer};
 use std::alloc::AllocError;
 
@@ -57,8 +57,6 @@ pub fn put_hex<O: Out>(out: &mut O, bytes: &[u8]) -> Result<(), AllocError>
 {
     let mut room = [0u8; 96];
     let digits = &mut room[..2 * bytes.len()];
-    if encode_to_slice(bytes, digits).is_err() {
-        unreachable!();
-    }
+    write_hex(bytes, digits);
     out.append(digits)
 }
