@@ -1,6 +1,6 @@
 // The head of a unit: where it is, which way it goes, and what the way to a cylinder costs.
 
-ghost use Rattle.std.specs.Prelude.{◌≡◌, ◌≤◌, true};
+ghost use Rattle.std.specs.Prelude.{◌≡◌, ◌^◌, ◌<◌, ◌≤◌, true};
 ghost use Rattle.mscp_drive.specs.Common.{last_cylinder, carried, distance, moved, sweep_cost};
 
 use crate::unit::Unit;
@@ -32,7 +32,8 @@ impl Head {
     pub fn cost(&self, unit: &Unit, to: u32) -> u64
         requires head { self.now.cylinder ≤ last_cylinder unit.now }
         requires target { to ≤ last_cylinder unit.now }
-        ensures { result ≡ sweep_cost (last_cylinder unit.now) self.now.cylinder self.now.up to }
+        ensures value { result ≡ sweep_cost (last_cylinder unit.now) self.now.cylinder self.now.up to }
+        ensures small { result < 2 ^ 33 }
     {
         let from = u64::from(self.cylinder);
         let to = u64::from(to);

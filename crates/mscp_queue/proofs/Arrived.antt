@@ -1,8 +1,8 @@
 -- The best starts once a command came, behind all that wait.
 use Rattle.mscp_queue.proofs.Basics.{◌≡◌, ◌≢◌, ◌⊎◌, inl, inr, ⊎_elim, ℕ, ◌+◌, ◌<◌, ◌≤◌, true, false, List, take, length, get_or, refl, ap, sym, ◌∙◌, subst, arith, ext_get_or, false≢true, get_or-take, get_or_default, length-map, length-take-le, Command, Drive, Target, IsUnitList, CanBeShown, is_known, units_of, drive_place, fresh_drive, known_at, place_is, pairs_rise, same_or, Record, no_record, record_at, drive_at, order_cost}
-use Rattle.mscp_queue.proofs.Common.{AreFavored, IsBest, IsClearOn, IsLearned, bars, bit_at, cheaper, command_at, commands, cost_at, drive_in, is_clear, list_all, not, one_block, start_in}
+use Rattle.mscp_queue.proofs.Common.{AreFavored, IsBest, IsClearOn, IsLearned, bars, cheaper, command_at, commands, cost_at, drive_in, is_clear, knows, list_all, not, one_block, start_in}
 use Rattle.mscp_queue.specs.declared.favorites.Favorites.{Favorites}
-use Rattle.mscp_queue.specs.declared.favorites.Start.{Start}
+use Rattle.mscp_queue.specs.Starts.{Start}
 use Rattle.mscp_queue.proofs.Best.{best_come, best_same}
 use Rattle.mscp_queue.proofs.Favored.{command_is}
 
@@ -130,7 +130,7 @@ module _ {ds : List Drive} {rs : List Record} {own : List Target} (shown : CanBe
       costs : t.cost ≡ cost_at (drive_in ds at) cs n
       costs = cost ∙ (λ i. order_cost (sym there i).unit (sym there i).head (sym c i).order)
 
-      by : (k : ℕ) → k < length ds → bit_at g.known k ≡ 1 → (k ≡ at) ⊎ (k ≢ at)
+      by : (k : ℕ) → k < length ds → knows g k ≡ true → (k ≡ at) ⊎ (k ≢ at)
           → IsBest (IsClearOn cs (drive_in ds k).unit.number) (cost_at (drive_in ds k) cs) (start_in g k)
       by k l on (inl e) =
           subst (λ k. IsBest (IsClearOn cs (drive_in ds k).unit.number) (cost_at (drive_in ds k) cs) (start_in g k))
@@ -139,10 +139,10 @@ module _ {ds : List Drive} {rs : List Record} {own : List Target} (shown : CanBe
           (best_last cs n many (drive_in ds at).unit.number (drive_in ds at) (start_in f at) t own_clear
           (let few = shown.few in omega (arith, few, long)) place costs
           (h.each at (subst (λ i. i < length ds) e l)
-          (ap (λ m. bit_at m at) (sym same) ∙ (ap (bit_at g.known) (sym e) ∙ on)))))
+          (ap (λ m. get_or m at false) (sym same) ∙ (ap (knows g) (sym e) ∙ on)))))
       by k l on (inr d) =
           subst (IsBest (IsClearOn cs (drive_in ds k).unit.number) (cost_at (drive_in ds k) cs)) (sym
           (learned.other k d))
           (best_still cs n many (drive_in ds k).unit.number (drive_in ds k) (start_in f k)
           (λ x. d (sym (only k l (ap (λ (c : Command). c.unit) (sym c) ∙ x.unit)) ∙ sym is))
-          (h.each k l (ap (λ m. bit_at m k) (sym same) ∙ on)))
+          (h.each k l (ap (λ m. get_or m k false) (sym same) ∙ on)))

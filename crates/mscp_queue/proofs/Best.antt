@@ -1,6 +1,6 @@
 -- The first of the cheapest of some starts.
 use Rattle.mscp_queue.proofs.Common.{◌≡◌, ◌⊎◌, inl, inr, ⊎_elim, ℕ, ◌<◌, ◌≤◌, Bool, true, false, cond, ◌||◌, nat_lt, refl, ap, sym, ◌∙◌, subst, arith, eq-eqb, eqb-true, eqb-false, ltb-true, ltb-false, IsAhead, IsBest, cheaper, comes_before, is_none}
-use Rattle.mscp_queue.specs.declared.favorites.Start.{Start}
+use Rattle.mscp_queue.specs.Starts.{Start}
 
 -- the same places at the same costs
 pub best_same : {P Q : ℕ → Type 0} {c d : ℕ → ℕ} {s : Start} → ((p : ℕ) → P p → Q p × (c p ≡ d p))

@@ -1,8 +1,8 @@
 -- The best starts that a queue keeps are those that the slots tell.
-use Rattle.mscp_queue.proofs.Basics.{◌≡◌, ⊎_elim, ℕ, ◌<◌, ◌≤◌, Bool, true, false, not, ◌||◌, List, map, take, get_or, length, refl, ap, sym, ◌∙◌, subst, arith, list_all, false≢true, get_or-map, get_or_default, length-map, take-map, all_shown, Command, Order, cylinder_of, first_block, is_move, is_sequential, order_cost, Drive, Kind, Record, Target, CanBeShown, IsUnitList, is_known, units_of, no_record, no_target, record_at, target_of, unit_place, AreOnDrive, IsSet, bit_at, bit_at-zero, cond, ne_eqb, same_or, drive_of, fresh_drive, known_at, place_is, pairs_rise, place_same, cylinder_within, is_free, leads_to, LeadsTo, kinds_of, no_kind, own_target}
-use Rattle.mscp_queue.proofs.Common.{AreFavored, IsBest, IsClearOn, IsLearned, IsOpenOn, bars, command_at, commands, cost_at, cost_on, cost_there, drive_in, is_clear, kind_there, last_cylinder, one_block, range_of, start_in}
+use Rattle.mscp_queue.proofs.Basics.{◌≡◌, ⊎_elim, ℕ, ◌<◌, ◌≤◌, Bool, true, false, not, ◌||◌, List, map, take, get_or, length, refl, ap, sym, ◌∙◌, subst, arith, list_all, false≢true, get_or-map, get_or_default, length-map, take-map, all_shown, Command, Order, cylinder_of, first_block, is_move, is_sequential, order_cost, Drive, Kind, Record, Target, CanBeShown, IsUnitList, is_known, units_of, no_record, no_target, record_at, target_of, unit_place, AreOnDrive, cond, ne_eqb, same_or, drive_of, fresh_drive, known_at, place_is, pairs_rise, place_same, cylinder_within, is_free, leads_to, LeadsTo, kinds_of, no_kind, own_target}
+use Rattle.mscp_queue.proofs.Common.{AreFavored, IsBest, IsClearOn, IsLearned, IsMarked, IsOpenOn, KnowsNothing, bars, command_at, commands, cost_at, cost_on, cost_there, drive_in, is_clear, kind_there, knows, last_cylinder, one_block, range_of, start_in}
 use Rattle.mscp_queue.proofs.Turns.{found_unit}
-use Rattle.mscp_queue.specs.declared.favorites.Start.{Start}
+use Rattle.mscp_queue.specs.Starts.{Start}
 use Rattle.mscp_queue.specs.declared.favorites.Favorites.{Favorites}
 use Rattle.std.proofs.Math.Nat.{zero-div}
 use Rattle.mscp_drive.specs.Shape.{cylinder_blocks}
@@ -141,7 +141,7 @@ module _ {ds : List Drive} {rs : List Record} {own : List Target} (shown : CanBe
 -- ---- a start is learned
 pub favored_more : {ds : List Drive} {cs : List Command} {f g : Favorites} (at : ℕ) (s : Start) → AreFavored ds cs f
     → length ds ≤ 16 → IsBest (IsClearOn cs (drive_in ds at).unit.number) (cost_at (drive_in ds at) cs) s
-    → IsSet true at f.known g.known → IsLearned at s f g → AreFavored ds cs g
+    → IsMarked true at f g → IsLearned at s f g → AreFavored ds cs g
 favored_more {ds} {cs} {f} {g} at s h few best set learned = record {
   each = λ k l on. ⊎_elim
       (λ e. subst (λ k. IsBest (IsClearOn cs (drive_in ds k).unit.number) (cost_at (drive_in ds k) cs)
@@ -149,12 +149,12 @@ favored_more {ds} {cs} {f} {g} at s h few best set learned = record {
       (subst (IsBest (IsClearOn cs (drive_in ds at).unit.number) (cost_at (drive_in ds at) cs)) (sym learned.own) best))
       (λ d. subst (IsBest (IsClearOn cs (drive_in ds k).unit.number) (cost_at (drive_in ds k) cs)) (sym
       (learned.other k d))
-      (h.each k l (sym (set k (omega (arith, l, few)) ∙ ap (λ b. cond b 1 (bit_at f.known k)) (ne_eqb k at d)) ∙ on)))
+      (h.each k l (sym (set k (omega (arith, l, few)) ∙ ap (λ b. cond b true (knows f k)) (ne_eqb k at d)) ∙ on)))
       (same_or k at);
 }
 
 -- nothing is known
-pub none_known : (ds : List Drive) (cs : List Command) (f : Favorites) → f.known ≡ 0 → AreFavored ds cs f
+pub none_known : (ds : List Drive) (cs : List Command) (f : Favorites) → KnowsNothing f → AreFavored ds cs f
 none_known ds cs f e = record {
-  each = λ k l on. absurd (let zero = ap (λ m. bit_at m k) (sym e) ∙ on in omega (arith, zero, bit_at-zero k));
+  each = λ k l on. absurd (false≢true (sym (e k) ∙ on));
 }

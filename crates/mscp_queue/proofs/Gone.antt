@@ -1,8 +1,8 @@
 -- The best starts once a drive served a command, or one was aborted.
-use Rattle.mscp_queue.proofs.Basics.{◌≡◌, ◌≢◌, ◌⊎◌, inl, inr, ⊎_elim, ℕ, ◌+◌, ◌-◌, ◌<◌, ◌≤◌, Bool, true, false, not, cond, if◌then◌else◌, ◌&&◌, ◌||◌, ◌++◌, List, take, drop, length, get_or, refl, ap, sym, ◌∙◌, subst, arith, nat_eq, nat_lt, bit_at, eq-eqb, ne_eqb, get_or-drop, get_or-take, get_or_append_left, get_or_default, length-take-le, length-append, length-drop, Command, Drive, IsSet, IsUnitList, units_of, is_sequential, no_record, drive_place, fresh_drive, pairs_rise, place_is, same_or, order_cost}
-use Rattle.mscp_queue.proofs.Common.{AreFavored, IsAhead, IsBest, IsClearOn, bars, command_at, cost_at, drive_in, lt-ltb, le-ltb, get_or-append_right, one_block, place_closed, start_in}
+use Rattle.mscp_queue.proofs.Basics.{◌≡◌, ◌≢◌, ◌⊎◌, inl, inr, ⊎_elim, ℕ, ◌+◌, ◌-◌, ◌<◌, ◌≤◌, Bool, true, false, false≢true, not, cond, if◌then◌else◌, ◌&&◌, ◌||◌, ◌++◌, List, take, drop, length, refl, ap, sym, ◌∙◌, subst, arith, nat_eq, nat_lt, eq-eqb, ne_eqb, get_or-drop, get_or-take, get_or_append_left, get_or_default, length-take-le, length-append, length-drop, Command, Drive, IsUnitList, units_of, is_sequential, no_record, drive_place, fresh_drive, pairs_rise, place_is, same_or, order_cost}
+use Rattle.mscp_queue.proofs.Common.{AreFavored, IsAhead, IsBest, IsClearOn, IsMarked, bars, command_at, cost_at, drive_in, lt-ltb, le-ltb, get_or-append_right, knows, closed, one_block, place_closed, start_in}
 use Rattle.mscp_queue.specs.declared.favorites.Favorites.{Favorites}
-use Rattle.mscp_queue.specs.declared.favorites.Start.{Start}
+use Rattle.mscp_queue.specs.Starts.{Start}
 use Rattle.mscp_queue.proofs.Opens.{all_at, at_all}
 
 lt_or : (a b : ℕ) → (a < b) ⊎ (b ≤ a)
@@ -221,40 +221,41 @@ other_unit ds cs gone at k units placed b d e = d (sym (place_is ds k (command_a
     ∙ sym placed)
 
 -- what is known then was known, and is another drive's
-known_was : (at k was now : ℕ) → k < 64 → IsSet false at was now → bit_at now k ≡ 1 → (k ≢ at) × (bit_at was k ≡ 1)
+known_was : (at k : ℕ) (was now : Favorites) → k < 16 → IsMarked false at was now → knows now k ≡ true
+    → (k ≢ at) × (knows was k ≡ true)
 known_was at k was now b set on = by (same_or k at)
   where
-    by : (k ≡ at) ⊎ (k ≢ at) → (k ≢ at) × (bit_at was k ≡ 1)
+    by : (k ≡ at) ⊎ (k ≢ at) → (k ≢ at) × (knows was k ≡ true)
     by (inl e) =
-        let zero = set k b ∙ ap (λ b. cond b 0 (bit_at was k)) (eq-eqb k at e) in absurd (omega (arith, zero, on))
-    by (inr d) = (d, sym (ap (λ b. cond b 0 (bit_at was k)) (ne_eqb k at d)) ∙ (sym (set k b) ∙ on))
+        absurd (false≢true (sym (set k b ∙ ap (λ b. cond b false (knows was k)) (eq-eqb k at e)) ∙ on))
+    by (inr d) = (d, sym (ap (λ b. cond b false (knows was k)) (ne_eqb k at d)) ∙ (sym (set k b) ∙ on))
 
 module _ {ds : List Drive} {cs : List Command} (units : IsUnitList (units_of ds)) (gone at : ℕ) (l : gone < length cs)
     (few : length cs ≤ 64) (placed : at ≡ drive_place ds (command_at cs gone).unit) where
   -- a command is served, or leaves, on the drive at a place
   pub favored_served : {ds' : List Drive} {cs' : List Command} {f g : Favorites} (ends : Bool) → AreFavored ds cs f
       → length ds ≤ 16 → length ds' ≡ length ds → ((k : ℕ) → k ≢ at → drive_in ds' k ≡ drive_in ds k)
-      → cs' ≡ cond ends (take gone cs ++ drop (gone + 1) cs) cs → IsSet false at f.known g.known → g.costs ≡ f.costs
-      → ((k : ℕ) → k < 16
-      → get_or g.places k 0 ≡ cond ends (place_closed gone (get_or f.places k 0)) (get_or f.places k 0))
+      → cs' ≡ cond ends (take gone cs ++ drop (gone + 1) cs) cs → IsMarked false at f g
+      → ((k : ℕ) → k < length ds
+      → start_in g k ≡ cond ends (closed gone (start_in f k)) (start_in f k))
       → AreFavored ds' cs' g
-  favored_served {ds'} {cs'} {f} {g} ends h most same drives left set costs places = record {
+  favored_served {ds'} {cs'} {f} {g} ends h most same drives left set starts = record {
     each = λ k b on.
         let inside : k < length ds = omega (arith, b, same) in
-        let was = known_was at k f.known g.known (omega (arith, inside, most)) set on in
+        let was = known_was at k f g (omega (arith, inside, most)) set on in
         subst (λ d. IsBest (IsClearOn cs' d.unit.number) (cost_at d cs') (start_in g k)) (sym (drives k was.0))
         (subst (λ cs'. IsBest (IsClearOn cs' (drive_in ds k).unit.number) (cost_at (drive_in ds k) cs') (start_in g k))
-        (sym left) (by ends k inside was.0 (h.each k inside was.1) (places k (omega (arith, inside, most)))));
+        (sym left) (by ends k inside was.0 (h.each k inside was.1) (starts k inside)));
   }
     where
       by : (ends : Bool) (k : ℕ) → k < length ds → k ≢ at
           → IsBest (IsClearOn cs (drive_in ds k).unit.number) (cost_at (drive_in ds k) cs) (start_in f k)
-          → get_or g.places k 0 ≡ cond ends (place_closed gone (get_or f.places k 0)) (get_or f.places k 0)
+          → start_in g k ≡ cond ends (closed gone (start_in f k)) (start_in f k)
           → IsBest (IsClearOn (cond ends (take gone cs ++ drop (gone + 1) cs) cs) (drive_in ds k).unit.number)
           (cost_at (drive_in ds k) (cond ends (take gone cs ++ drop (gone + 1) cs) cs)) (start_in g k)
-      by true k b d best place = best_gone cs gone l few (drive_in ds k).unit.number (other_unit ds cs gone at k
+      by true k b d best is = best_gone cs gone l few (drive_in ds k).unit.number (other_unit ds cs gone at k
           units placed b d) (drive_in ds k)
-          (start_in f k) (start_in g k) best (ap (λ cs. get_or cs k 0) costs) place
-      by false k b d best place = subst
+          (start_in f k) (start_in g k) best (ap (λ (s : Start). s.cost) is) (ap (λ (s : Start). s.place) is)
+      by false k b d best is = subst
           (IsBest (IsClearOn cs (drive_in ds k).unit.number) (cost_at (drive_in ds k) cs))
-          (sym (λ i. record { cost = get_or (costs i) k 0; place = place i })) best
+          (sym is) best

@@ -1,9 +1,9 @@
 -- The first of the cheapest starts on a drive, slot by slot.
-use Rattle.mscp_queue.proofs.Basics.{◌≡◌, ◌≢◌, ◌⊎◌, inl, inr, ⊎_elim, ℕ, ◌+◌, ◌/◌, ◌<◌, ◌≤◌, Bool, true, false, cond, ◌&&◌, ◌||◌, List, Drive, Kind, Masks, Record, Slot, Target, map, nat_eq, nat_lt, last_cylinder, get_or, length, refl, ap, sym, ◌∙◌, subst, arith, bit, bit_at, has, eq-eqb, eqb-true, eqb-false, ltb-true, get_or-map, length-map, map_map, ne_eqb, no_target, same_or, held, kind_of, kind_at, long_shown, no_kind, shown, slot_has, slot_is, slot_low, targets, AreKept, AreOnDrive, IsSet}
+use Rattle.mscp_queue.proofs.Basics.{◌≡◌, ◌≢◌, ◌⊎◌, inl, inr, ⊎_elim, ℕ, ◌+◌, ◌/◌, ◌<◌, ◌≤◌, ◌^◌, Bool, true, false, cond, ◌&&◌, ◌||◌, List, Drive, Kind, Masks, Record, Slot, Target, map, nat_eq, nat_lt, last_cylinder, get_or, length, refl, ap, sym, ◌∙◌, subst, arith, bit, bit_at, has, eq-eqb, eqb-true, eqb-false, ltb-true, get_or-map, length-map, map_map, ne_eqb, no_target, same_or, held, kind_of, kind_at, long_shown, no_kind, shown, slot_has, slot_is, slot_low, targets, AreKept, AreOnDrive, IsNumber, IsSet}
 use Rattle.std.specs.Prelude.{min}
 use Rattle.mscp_queue.proofs.Common.{AreSlotted, IsAhead, IsBest, IsFront, IsIn, IsNearOf, IsOpenOn, IsSooner, bit_and, bit_at-zero, bit_at_and, bit_at-lt, cost_on, cost_there, div-mul-le_self, kind_there, kinds, le-div, ltb-false, no_slot, range_of, Shape, sweep_cost}
 use Rattle.mscp_queue.proofs.Counted.{one_place, placed}
-use Rattle.mscp_queue.specs.declared.favorites.Start.{Start}
+use Rattle.mscp_queue.specs.Starts.{Start}
 use Rattle.mscp_queue.proofs.Opens.{early_bit, front_open, open_front}
 
 -- the slots of a mask are left of those of the front: of the others this one's start is the first of the cheapest
@@ -15,6 +15,7 @@ pub record Seeks (at : ℕ) (d : Drive) (order : List ℕ) (ks : List Kind) (own
   pub number : best ≡ get_or order place 0
   pub on : bit_at front best ≡ 1
   pub cost : least ≡ cost_there d ks own place
+  pub small : least < 2 ^ 33
   pub done : (p : ℕ) → p < length order → bit_at front (get_or order p 0) ≡ 1 → bit_at left (get_or order p 0) ≡ 0
       → (least < cost_there d ks own p) ⊎ ((least ≡ cost_there d ks own p) × (place ≤ p))
 
@@ -26,11 +27,11 @@ IsAmong d order ks own near p = (bit_at near (get_or order p 0) ≡ 1) ⊎ ((q :
 -- at first the first slot is looked at
 pub seeks_first : {at : ℕ} {d : Drive} {order : List ℕ} {ks : List Kind} {own : List Target} {front : ℕ}
     (left best least p : ℕ) → p < length order → best ≡ get_or order p 0 → best < 64 → bit_at front best ≡ 1
-    → IsSet false best front left → least ≡ cost_there d ks own p
+    → IsSet false best front left → least ≡ cost_there d ks own p → least < 2 ^ 33
     → ((q : ℕ) → q < length order → get_or order q 0 < 64)
     → ((a b : ℕ) → a < length order → b < length order → get_or order a 0 ≡ get_or order b 0 → a ≡ b)
     → Seeks at d order ks own front left best least
-seeks_first {at} {d} {order} {ks} {own} {front} left best least p l is low on set cost lows one =
+seeks_first {at} {d} {order} {ks} {own} {front} left best least p l is low on set cost small lows one =
     record {
       of_left = λ n b e. ⊎_elim (λ f. ap (bit_at front) f ∙ on) (λ f. sym (kept n b f) ∙ e) (same_or n best);
       place = p;
@@ -38,6 +39,7 @@ seeks_first {at} {d} {order} {ks} {own} {front} left best least p l is low on se
       number = is;
       on = on;
       cost = cost;
+      small = small;
       done = λ q k f off. ⊎_elim
           (λ e. let r = one q p k l (e ∙ is) in
           inr (cost ∙ ap (cost_there d ks own) (sym r), omega (arith, r)))
@@ -67,14 +69,16 @@ module _ {at : ℕ} {d : Drive} {order : List ℕ} {ks : List Kind} {own : List 
       (λ e. inr (sym (kept (get_or order p 0) (lows p l) e) ∙ off)) (same_or (get_or order p 0) slot)
 
   -- it comes first
-  pub seeks_better : (cost < least) ⊎ ((cost ≡ least) × (q < h.place)) → Seeks at d order ks own front left' slot cost
-  seeks_better better = record {
+  pub seeks_better : (cost < least) ⊎ ((cost ≡ least) × (q < h.place)) → cost < 2 ^ 33
+      → Seeks at d order ks own front left' slot cost
+  seeks_better better small = record {
     of_left = was;
     place = q;
     inside = k;
     number = is;
     on = h.of_left slot low on;
     cost = costs;
+    small = small;
     done = λ p l f off. ⊎_elim
         (λ e. inr (costs ∙ ap (cost_there d ks own) (sym e), omega (arith, e)))
         (λ e. by (cost_there d ks own p) p (h.done p l f e)) (done_or p l off);
@@ -92,6 +96,7 @@ module _ {at : ℕ} {d : Drive} {order : List ℕ} {ks : List Kind} {own : List 
     number = h.number;
     on = h.on;
     cost = h.cost;
+    small = h.small;
     done = λ p l f off. ⊎_elim
         (λ e. subst (λ c. (least < c) ⊎ ((least ≡ c) × (h.place ≤ p))) (costs ∙ ap (cost_there d ks own) (sym e))
         (subst (λ r. (least < cost) ⊎ ((least ≡ cost) × (h.place ≤ r))) (sym e) worse))
@@ -293,6 +298,17 @@ module _ {rs : List Record} {own : List Target} {order : List ℕ} {m : Masks} {
             ap (bit_at near) (sym a.number) ∙ x.1,
             omega (arith, less, a.cost, b.cost, ap (cost_there d (kinds now) (targets now)) same),
           )
+
+-- the slot that is found is that of its place
+pub number_sought : {at : ℕ} {d : Drive} {order : List ℕ} {ks : List Kind} {own : List Target}
+    {front left best least : ℕ} (h : Seeks at d order ks own front left best least)
+    → ((q : ℕ) → q < length order → get_or order q 0 < 64) → IsNumber order h.place best
+number_sought {order = order} h lows = record {
+  low = subst (λ n. n < 64) (sym h.number) (lows h.place h.inside);
+  taken = ap (λ n. has n order) h.number ∙ slot_has order h.place h.inside;
+  inside = h.inside;
+  is = h.number;
+}
 
 -- none is left: it is the best
 pub sought : {at : ℕ} {d : Drive} {order : List ℕ} {ks : List Kind} {own : List Target} {front left best least : ℕ}

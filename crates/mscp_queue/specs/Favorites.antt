@@ -1,13 +1,11 @@
 -- The best start of each drive, which a queue keeps from pick to pick.
-use Rattle.std.specs.Prelude.{◌≡◌, ◌≢◌, ◌⊎◌, ℕ, ◌<◌, ◌≤◌, ◌-◌, Bool, true, not, ◌&&◌, ◌||◌, if◌then◌else◌, bit_and, nat_eq, nat_lt, List, Option, length, map, take, slice_index_or, All}
-use Rattle.std.specs.Int.{bit_at}
+use Rattle.std.specs.Prelude.{◌≡◌, ◌≢◌, ◌⊎◌, ℕ, ◌<◌, ◌≤◌, Bool, true, false, not, ◌&&◌, ◌||◌, if◌then◌else◌, bit_and, nat_eq, List, Option, length, map, take, slice_index_or, All}
 use Rattle.std.specs.List.{list_all}
 use Rattle.mscp_packet.specs.declared.command.Command.{Command}
 use Rattle.mscp_drive.specs.Heads.{sweep_cost}
 use Rattle.mscp_drive.specs.Shape.{last_cylinder, one_block}
 use Rattle.mscp_queue.specs.declared.drive.Drive.{Drive}
 use Rattle.mscp_queue.specs.declared.favorites.Favorites.{Favorites}
-use Rattle.mscp_queue.specs.declared.favorites.Start.{Start}
 use Rattle.mscp_queue.specs.declared.target.Target.{Target}
 use Rattle.mscp_queue.specs.Drives.{drive_of, fresh_drive}
 use Rattle.mscp_queue.specs.Kept.{IsReady}
@@ -15,22 +13,10 @@ use Rattle.mscp_queue.specs.Masks.{Kind}
 use Rattle.mscp_queue.specs.Orders.{is_sequential, order_cost}
 use Rattle.mscp_queue.specs.Records.{Record, no_record}
 use Rattle.mscp_queue.specs.Slots.{is_unfenced_at, no_kind}
+use Rattle.mscp_queue.specs.Starts.{Start, start_of}
 use Rattle.mscp_queue.specs.Ranges.{IsIn, IsSooner, range_at}
 use Rattle.mscp_queue.specs.Targets.{no_target, range_of}
 use Rattle.mscp_queue.specs.Waiters.{Waiters}
-
--- the start is that of no command
-abbrev pub is_none : Start → Bool
-is_none s = nat_eq s.place 64
-
--- a start is one, and the other is none, or costs more, or as much where its command came later
-abbrev pub comes_before : Start → Start → Bool
-comes_before one other = not (is_none one) && (is_none other || (nat_lt one.cost other.cost
-    || (nat_eq one.cost other.cost && nat_lt one.place other.place)))
-
--- the first of two starts, if it costs less or the other is none, or else the other
-abbrev pub cheaper : Start → Start → Start
-cheaper one other = if is_none other || nat_lt one.cost other.cost then one else other
 
 -- no start at this cost and place comes before this one
 abbrev pub IsAhead : Start → ℕ → ℕ → Type 0
@@ -105,22 +91,30 @@ cost_at d cs place = order_cost d.unit d.head (command_at cs place).order
 abbrev pub drive_in : List Drive → ℕ → Drive
 drive_in ds at = slice_index_or ds at (fresh_drive one_block)
 
+-- whether the best start of a drive is known
+abbrev pub knows : Favorites → ℕ → Bool
+knows f k = slice_index_or f.known k false
+
+-- that of none is
+abbrev pub KnowsNothing : Favorites → Type 0
+KnowsNothing f = (k : ℕ) → knows f k ≡ false
+
+-- which are known is as before, but for that of one drive
+abbrev pub IsMarked : Bool → ℕ → Favorites → Favorites → Type 0
+IsMarked on drive old new = (k : ℕ) → k < 16 → knows new k ≡ (if nat_eq k drive then on else knows old k)
+
 -- the start that is kept for a drive
 abbrev pub start_in : Favorites → ℕ → Start
-start_in f k = record { cost = slice_index_or f.costs k 0; place = slice_index_or f.places k 0 }
+start_in f k = slice_index_or f.starts k (start_of 0)
 
 -- the starts are as before but for one
 pub record IsLearned (drive : ℕ) (start : Start) (old new : Favorites) : Type 0 where
   pub own : start_in new drive ≡ start
   pub other : (k : ℕ) → k ≢ drive → start_in new k ≡ start_in old k
 
--- a place, once the command at the place `gone` left: that of no command stays
-abbrev pub place_closed : ℕ → ℕ → ℕ
-place_closed gone place = if nat_lt gone place && not (nat_eq place 64) then place - 1 else place
-
 -- each start that is known is the best of its drive
 pub record AreFavored (ds : List Drive) (cs : List Command) (f : Favorites) : Type 0 where
-  pub each : (k : ℕ) → k < length ds → bit_at f.known k ≡ 1
+  pub each : (k : ℕ) → k < length ds → knows f k ≡ true
       → IsBest (IsClearOn cs (drive_in ds k).unit.number) (cost_at (drive_in ds k) cs) (start_in f k)
 
 -- a queue is ready, and it knows the best starts of its waiting commands

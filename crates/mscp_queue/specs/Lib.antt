@@ -19,5 +19,6 @@ pub mod Slots
 pub mod Waiters
 pub mod Dues
 pub mod Ranges
+pub mod Starts
 pub mod Favorites
 pub mod Common

@@ -6,10 +6,10 @@ ghost use Rattle.mscp_queue.specs.Common.{position, AreApart, has_name, names, c
 mod restoring;
 
 use crate::drive::Drive;
-use crate::favorites::Start;
 use crate::name::Name;
 use crate::record::Record;
 use crate::slots::{Content, Slots};
+use crate::start_key::Start;
 use crate::target::Target;
 use arrayvec::ArrayVec;
 use mscp_drive::Connection;

@@ -1,6 +1,6 @@
 // A unit with its state and its head.
 
-ghost use Rattle.std.specs.Prelude.{◌≡◌, ◌≤◌, find, length, map};
+ghost use Rattle.std.specs.Prelude.{◌≡◌, ◌<◌, ◌≤◌, ◌^◌, find, length, map};
 ghost use Rattle.mscp_queue.specs.Common.{option_copied, one_block, drive_of, fresh_drive, has_number, state_after, state_left};
 
 use crate::outcome::is_success;
@@ -39,7 +39,8 @@ impl Drive {
     pub(crate) fn cost(&self, sequential: bool, cylinder: u32) -> u64
         requires head { IsOnUnit self.now }
         requires target { sequential ≡ false → cylinder ≤ last_cylinder self.now.unit }
-        ensures { result ≡ cost_on self.now sequential cylinder }
+        ensures value { result ≡ cost_on self.now sequential cylinder }
+        ensures small { result < 2 ^ 33 }
     {
         if sequential {
             0

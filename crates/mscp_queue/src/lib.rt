@@ -18,6 +18,7 @@ mod record;
 mod report;
 mod slots;
 mod start;
+mod start_key;
 mod target;
 mod upcoming;
 mod view;

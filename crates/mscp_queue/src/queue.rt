@@ -287,7 +287,7 @@ impl<K: Picker> Queue<K> {
         let record = *self.backlog.record(place);
         let at = usize::from(self.backlog.target(place).drive);
         self.backlog.take_out(place);
-        self.favorites.serve(place, at, true);
+        self.favorites.serve(place, at, self.drives.len(), true);
         self.begun = without_place(self.begun, place);
         self.serving = without_place(self.serving, place);
         aborted_end(&record.command(), record.done())

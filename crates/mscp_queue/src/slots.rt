@@ -6,12 +6,12 @@ ghost use Rattle.mscp_queue.specs.Common.{list_any, is_sequential, advanced, has
 
 use crate::buckets::Buckets;
 use crate::drive::Drive;
-use crate::favorites::Start;
 use crate::lowering::lower;
 use crate::masks::{Masks, has_bit, lowest_free, lowest_set, with_bit};
 use crate::name::Name;
 use crate::ranges::{Ranges, range_of};
 use crate::record::Record;
+use crate::start_key::Start;
 use crate::target::Target;
 use arrayvec::ArrayVec;
 use std::marker::Model;
@@ -265,10 +265,7 @@ impl Slots {
                 least = cost;
             }
         }
-        Start {
-            cost: least,
-            place: self.masks.place(best) as u8,
-        }
+        Start::of(least, self.masks.place(best))
     }
 
     /// Whether no command that came earlier keeps the one at the place back.

@@ -1,13 +1,14 @@
 // Which command starts, where nothing is in service.
 
-ghost use Rattle.std.specs.Prelude.{◌≡◌, ◌++◌, ◌||◌, ◌+◌, ◌∷◌, ◌<◌, ◌≤◌, ◌-◌, [], true, cond, length, take, All};
+ghost use Rattle.std.specs.Prelude.{◌≡◌, ◌++◌, ◌||◌, ◌+◌, ◌∷◌, ◌<◌, ◌≤◌, ◌-◌, ◌^◌, [], true, cond, length, take, All};
 ghost use Rattle.mscp_queue.specs.Common.{IsUnitList, IsTargeted, ArePassedInOrder, AreFavored, CanBeShown, IsBest, IsClearOn, IsFirstOf, IsShut, MayAllPass, order_cost, commands, cost_at, drive_in, units_of, is_move, is_sequential, drive_at, record_at, IsPick, choice_of, is_open_at, open_places, view_of};
 
 use crate::backlog::Backlog;
 use crate::drive::Drive;
-use crate::favorites::{Favorites, Start};
+use crate::favorites::Favorites;
 use crate::picker::Picker;
 use crate::record::Record;
+use crate::start_key::Start;
 use crate::view::{Choice, View};
 use arrayvec::ArrayVec;
 
@@ -16,7 +17,8 @@ use arrayvec::ArrayVec;
 fn cost_of(record: &Record, drive: &Drive, cylinder: u32) -> u64
     requires waitable { (is_sequential «record».now.command.order || is_move «record».now.command.order) ≡ true }
     requires targeted { IsTargeted drive.now cylinder «record».now }
-    ensures { result ≡ order_cost drive.now.unit drive.now.head «record».now.command.order }
+    ensures value { result ≡ order_cost drive.now.unit drive.now.head «record».now.command.order }
+    ensures small { result < 2 ^ 33 }
 {
     drive.cost(record.is_sequential(), cylinder)
 }
@@ -183,10 +185,7 @@ pub(crate) fn favor_last(backlog: &Backlog, drives: &[Drive], favorites: &mut Fa
     let place = backlog.len() - 1;
     if backlog.is_free(place) {
         let (record, drive, cylinder) = targeted_at(backlog, drives, place);
-        let start = Start {
-            cost: cost_of(record, drive, cylinder),
-            place: place as u8,
-        };
+        let start = Start::of(cost_of(record, drive, cylinder), place);
         favorites.come(usize::from(backlog.target(place).drive), start);
     }
 }
@@ -204,7 +203,7 @@ fn best_place(backlog: &Backlog, drives: &[Drive], favorites: &mut Favorites) ->
     for at in 0..drives.len() {
         first = favorite_on(backlog, drives, at, favorites).or_earlier(first);
     }
-    usize::from(first.place)
+    usize::from(first.place())
 }
 
 /// The place of the record that the picker picks, of those that may start. If the budget keeps nobody back, and the picker may

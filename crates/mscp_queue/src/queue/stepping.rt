@@ -104,11 +104,12 @@ impl<K: Picker> Queue<K> {
     {
         let record = *self.backlog.record(place);
         let at = usize::from(self.backlog.target(place).drive);
+        let drives = self.drives.len();
         let plan = Plan::of(&self.drives[at], &record, block);
         let ends = plan.ended.is_some();
         self.drives[at].follow(&record.command().order, &plan);
         self.backlog.serve(place, ends);
-        self.favorites.serve(place, at, ends);
+        self.favorites.serve(place, at, drives, ends);
         self.begun = None;
         self.serving = place_served(place, ends);
         plan.report(&record)

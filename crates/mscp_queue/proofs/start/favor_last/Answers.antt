@@ -1,8 +1,9 @@
-use Rattle.mscp_queue.proofs.Basics.{◌≡◌, ◌+◌, ◌-◌, ◌<◌, take, length, refl, ap, sym, subst, ◌∙◌, arith, get_or_default, Target, no_record, no_target, record_at, has_drive, order_cost}
+use Rattle.mscp_queue.proofs.Basics.{◌≡◌, ◌+◌, ◌-◌, ◌<◌, take, length, ap, sym, subst, ◌∙◌, arith, get_or_default, Target, no_record, no_target, record_at, has_drive, order_cost}
 use Rattle.mscp_queue.proofs.Common.{AreFavored, commands}
 use Rattle.mscp_queue.proofs.Favored.{clear_is}
 use Rattle.mscp_queue.proofs.Starting.{free_is}
 use Rattle.mscp_queue.proofs.Arrived.{arrived, still}
+use Rattle.mscp_queue.specs.Starts.{Start}
 use Rattle.mscp_queue.proofs.start.favor_last.Goals as goal
 
 pub come-requires : goal.come-requires
@@ -30,8 +31,9 @@ returns-then-is_free c =
     c.requires.waiting (omega (arith, long)) (sym (get_or_default rs n (record_at rs n) no_record (omega
     (arith, long))))
     (c.from.ensures ∙ ap (λ (a : Target). a.drive) c.target.ensures)).place
-    refl
-    (c.cost_of.ensures ∙ (λ i. order_cost (c.targeted_at-cylinder.ensures.drive i).unit
+    (ap (λ (s : Start). s.place) c.of-start.ensures)
+    (ap (λ (s : Start). s.cost) c.of-start.ensures ∙ c.cost_of.ensures.value
+    ∙ (λ i. order_cost (c.targeted_at-cylinder.ensures.drive i).unit
     (c.targeted_at-cylinder.ensures.drive i).head (c.targeted_at-cylinder.ensures.record i).command.order))
     c.come.ensures.known c.come.ensures.starts
 

@@ -1,4 +1,4 @@
-use Rattle.mscp_queue.proofs.Common.{eqb-true, sym, ◌∙◌, subst, IsBest, IsClearOn, commands, cost_at, drive_in, bit_at}
+use Rattle.mscp_queue.proofs.Common.{sym, ◌∙◌, subst, IsBest, IsClearOn, commands, cost_at, drive_in}
 use Rattle.mscp_queue.proofs.Favored.{all_on_drive, favored, favored_more}
 use Rattle.mscp_queue.proofs.start.favorite_on.Goals as goal
 
@@ -6,8 +6,7 @@ pub returns-then-knows-clause-best : goal.returns-then-knows-clause-best
 returns-then-knows-clause-best c =
     subst (IsBest (IsClearOn (commands c.args.backlog.now.waiting) (drive_in c.args.drives.now c.args.at).unit.number)
     (cost_at (drive_in c.args.drives.now c.args.at) (commands c.args.backlog.now.waiting))) (sym c.start.ensures)
-    (c.requires.favored.each c.args.at c.requires.drive
-    (eqb-true (bit_at c.args.favorites.now.known c.args.at) 1 (sym c.knows.ensures ∙ c.if-knows.true)))
+    (c.requires.favored.each c.args.at c.requires.drive (sym c.knows.ensures ∙ c.if-knows.true))
 
 pub favorite-start-requires-clause-to : goal.favorite-start-requires-clause-to
 favorite-start-requires-clause-to c = all_on_drive c.requires.waiting c.requires.units

@@ -44,7 +44,8 @@ invariant_of-self g c =
           (command_is rs place inside))) true
           c.self.invariant.favored (omega (arith, most, length-map q.drives.items (λ (d : Drive). d.unit))) refl
           (λ k d. refl) (ap commands e.waiting ∙ sym (map_cut (λ (r : Record). r.command) rs place))
-          c.serve.ensures.known c.serve.ensures.costs c.serve.ensures.places;
+          c.serve.ensures.known
+          (λ k l. c.serve.ensures.starts k (omega (arith, l, c.len.ensures)));
     }
 
 pub returns-clause-after : goal.returns-clause-after

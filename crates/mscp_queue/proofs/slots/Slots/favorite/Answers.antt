@@ -1,9 +1,10 @@
-use Rattle.mscp_queue.proofs.Basics.{◌<◌, get_or, length, ⊎_elim, arith, ap, sym, ◌∙◌, subst, refl, length-map, long_shown, kind_of, IsNumber, has, slot_has}
+use Rattle.mscp_queue.proofs.Basics.{◌<◌, get_or, length, ⊎_elim, arith, ap, sym, ◌∙◌, subst, refl, length-map, long_shown, kind_of}
 use Rattle.mscp_queue.proofs.Common.{IsOpenOn, kinds, bit_at}
 use Rattle.mscp_queue.proofs.Counted.{place_counted}
 use Rattle.mscp_queue.proofs.Best.{best_none}
 use Rattle.mscp_queue.proofs.Fronts.{less_left}
-use Rattle.mscp_queue.proofs.Seeking.{among, cost_found, early, found, is_better, is_worse, lows, ones, seeks_better, seeks_first, seeks_on, sought, within}
+use Rattle.mscp_queue.proofs.Seeking.{among, cost_found, early, found, is_better, is_worse, lows, ones, number_sought, seeks_better, seeks_first, seeks_on, sought, within}
+use Rattle.mscp_queue.specs.Starts.{Start}
 use Rattle.mscp_queue.proofs.slots.Slots.favorite.Goals as goal
 
 -- where no bit of the front is set no command is open
@@ -41,7 +42,7 @@ loop-slot-init c =
     seeks_first c.with_bit-left.result c.in-Some.first c.cost-least.result
     f.place f.inside f.number first.0 first.1 c.with_bit-left.ensures.set
     (cost_found s.dues now c.self.invariant.kept c.self.view_is c.args.drive.now c.in-Some.first c.cost-least.result
-    c.has_bit.result f first.0 c.has_bit.ensures c.cost-least.ensures)
+    c.has_bit.result f first.0 c.has_bit.ensures c.cost-least.ensures.value) c.cost-least.ensures.small
     (lows s.dues now c.self.invariant.kept c.self.view_is) (ones s.dues now c.self.invariant.kept c.self.view_is)
 
 pub cost-cost-requires-clause-target : goal.cost-cost-requires-clause-target
@@ -93,10 +94,10 @@ loop-slot-preserved-then-starts_before c =
     f.inside f.number slot.0 slot.1 c.with_bit-left-in-Some-lowest_set.ensures.set
     (cost_found s.dues now c.self.invariant.kept c.self.view_is c.args.drive.now c.in-Some-lowest_set.slot
     c.cost-cost.result
-    c.has_bit-in-Some-lowest_set.result f slot.0 c.has_bit-in-Some-lowest_set.ensures c.cost-cost.ensures)
+    c.has_bit-in-Some-lowest_set.result f slot.0 c.has_bit-in-Some-lowest_set.ensures c.cost-cost.ensures.value)
     (lows s.dues now c.self.invariant.kept c.self.view_is) (ones s.dues now c.self.invariant.kept c.self.view_is)
     (is_better c.cost-cost.result c.loop-slot.least _ h.place f.place bits
-    (sym c.starts_before.ensures ∙ c.if-starts_before.true))
+    (sym c.starts_before.ensures ∙ c.if-starts_before.true)) c.cost-cost.ensures.small
 
 pub loop-slot-preserved : goal.loop-slot-preserved
 loop-slot-preserved c =
@@ -117,7 +118,7 @@ loop-slot-preserved c =
     f.inside f.number slot.0 slot.1 c.with_bit-left-in-Some-lowest_set.ensures.set
     (cost_found s.dues now c.self.invariant.kept c.self.view_is c.args.drive.now c.in-Some-lowest_set.slot
     c.cost-cost.result
-    c.has_bit-in-Some-lowest_set.result f slot.0 c.has_bit-in-Some-lowest_set.ensures c.cost-cost.ensures)
+    c.has_bit-in-Some-lowest_set.result f slot.0 c.has_bit-in-Some-lowest_set.ensures c.cost-cost.ensures.value)
     (lows s.dues now c.self.invariant.kept c.self.view_is) (ones s.dues now c.self.invariant.kept c.self.view_is)
     (is_worse c.cost-cost.result c.loop-slot.least _ h.place f.place bits
     (sym c.starts_before.ensures ∙ c.if-starts_before.false))
@@ -129,6 +130,20 @@ place-requires c =
     subst (λ n. n < 64) (sym h.number) (lows s.dues c.args.self.now c.self.invariant.kept c.self.view_is h.place
     h.inside)
 
+pub of-requires-clause-cost : goal.of-requires-clause-cost
+of-requires-clause-cost c = (let small = c.loop-slot.invariant.small in omega (arith, small))
+
+pub of-requires-clause-place : goal.of-requires-clause-place
+of-requires-clause-place c =
+    let s = c.self.inside in
+    let h = c.loop-slot.invariant in
+    let number = number_sought h (lows s.dues c.args.self.now c.self.invariant.kept c.self.view_is) in
+    let place = c.place.ensures.value ∙ place_counted c.self.invariant.kept.masks number c.place.ensures.small in
+    let inside = h.inside in
+    let few = c.requires.few in
+    let long = long_shown s.records s.targets s.dues s.order.items c.args.self.now c.self.view_is in
+    omega (arith, place, inside, few, long)
+
 pub returns : goal.returns
 returns c =
     let s = c.self.inside in
@@ -136,12 +151,7 @@ returns c =
     let order = s.order.items in
     let h = c.loop-slot.invariant in
     let long = long_shown s.records s.targets s.dues order now c.self.view_is in
-    let number : IsNumber order h.place c.loop-slot.best = record {
-      low = subst (λ n. n < 64) (sym h.number) (lows s.dues now c.self.invariant.kept c.self.view_is h.place h.inside);
-      taken = ap (λ n. has n order) h.number ∙ slot_has order h.place h.inside;
-      inside = h.inside;
-      is = h.number;
-    } in
+    let number = number_sought h (lows s.dues now c.self.invariant.kept c.self.view_is) in
     let place = c.place.ensures.value ∙ place_counted c.self.invariant.kept.masks number c.place.ensures.small in
     let f = found s.dues now c.self.invariant.kept c.self.view_is c.loop-slot.best c.front.ensures number.low
     (c.near_of-near.ensures.to c.loop-slot.best (number.low, h.on)).1 in
@@ -152,4 +162,5 @@ returns c =
       (let l = o.inside in omega (arith, l, long, length-map now kind_of)),
       among s.dues now c.self.invariant c.self.view_is c.args.drive.now p c.front.ensures c.near_of-near.ensures
           c.requires.to c.requires.head o (let l = o.inside in omega (arith, l, long, length-map now kind_of)),
-    )) (lows s.dues now c.self.invariant.kept c.self.view_is) c.in_default-lowest_set.ensures.none place refl
+    )) (lows s.dues now c.self.invariant.kept c.self.view_is) c.in_default-lowest_set.ensures.none
+    (ap (λ (s : Start). s.place) c.of.ensures ∙ place) (ap (λ (s : Start). s.cost) c.of.ensures)
