@@ -33,7 +33,7 @@ unfoldable pub use Rattle.mscp_reader.specs.Lexical.{lines, number, said, words}
 pub use Rattle.mscp_reader.specs.Outcome.{Heads, Leads, Sets, Tells, all_read, asked_next, both_of, budget_of, gone_or, in_line, limited, rest_headed, rest_outcome, script_outcome, settled}
 unfoldable pub use Rattle.mscp_reader.specs.Outcome.{headed, headed_on, lines_outcome}
 pub use Rattle.mscp_reader.specs.Plain.{Asks, Cuts, CutsWord, Ends, IsApart, IsNumeral, IsPlain, is_letter}
-pub use Rattle.mscp_reader.specs.Requests.{five, four, sent, two}
+pub use Rattle.mscp_reader.specs.Requests.{IsValidForm, five, four, sent, two}
 unfoldable pub use Rattle.mscp_reader.specs.Requests.{asked, event_form, form_of, message_form, plain_form, request}
 pub use Rattle.mscp_reader.specs.declared.events.Form.{Form}
 pub use Rattle.mscp_reader.specs.declared.fault.Cause.{Cause}

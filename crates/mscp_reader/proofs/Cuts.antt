@@ -1,5 +1,5 @@
 -- The first line of a text, and the first word of a line.
-use Rattle.mscp_reader.proofs.Common.{◌≡◌, ◌≢◌, get_or, ◌==◌, ◌<◌, ◌≤◌, ◌+◌, suc, ℕ, Bool, false, cond, List, [], ◌∷◌, length, take, drop, refl, ◌∙◌, arith, nat_lt, position, unwrap_or, nat_tests, filter, slice_split, position_or_len, strip_carriage_return, common_steps, lines, words, without_empty_last, is_some_word}
+use Rattle.mscp_reader.proofs.Common.{◌≡◌, ◌≢◌, get_or, ◌==◌, ◌<◌, ◌≤◌, suc, ℕ, Bool, false, cond, List, [], ◌∷◌, length, take, drop, refl, arith, nat_lt, position, unwrap_or, nat_tests, filter, slice_split, position_or_len, strip_carriage_return, common_steps, lines, words, without_empty_last, is_some_word}
 
 -- how many stand before the first that passes, or all
 abbrev pub front_len : (ℕ → Bool) → List ℕ → ℕ

@@ -1,5 +1,5 @@
 -- What a line does to a header.
-use Rattle.mscp_reader.proofs.Common.{arith, ◌≡◌, ◌+◌, ◌⊎◌, ℕ, List, [], ◌∷◌, refl, ◌∙◌, Result, Ok, Err, ◌>>=◌, Gives, Settings, Event, lines, Cause, ScriptFault, Place, HasGone, IsInHeader, after_line, next, said_at, Heads, Leads, gone_or, headed, headed_on, in_line, lines_outcome, rest_headed, rest_outcome}
+use Rattle.mscp_reader.proofs.Common.{arith, ◌≡◌, ◌+◌, ◌⊎◌, ℕ, List, [], ◌∷◌, refl, Result, Ok, Err, ◌>>=◌, Gives, Settings, Event, lines, Cause, ScriptFault, Place, HasGone, IsInHeader, after_line, next, said_at, Heads, Leads, gone_or, headed, headed_on, in_line, lines_outcome, rest_headed, rest_outcome}
 use Rattle.mscp_reader.specs.declared.fault.Cause.TheVariants as causes
 use Rattle.mscp_reader.proofs.Outcomes.{ended_early, from_ok}
 

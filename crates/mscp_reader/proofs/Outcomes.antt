@@ -1,5 +1,5 @@
 -- What a line does to the outcome.
-use Rattle.mscp_reader.proofs.Common.{◌≡◌, ◌+◌, ◌≤◌, ◌++◌, ℕ, List, [], ◌∷◌, length, drop, refl, ◌∙◌, arith, codes, Option, Some, None, Result, Ok, Err, nat_tests, append-nil, ◌>>=◌, Gives, Cause, ScriptFault, Both, Settings, Event, lines, request, Place, next_unless_skipped, Begins, HasCredits, HasLongest, HasTimeout, HasUnits, HasGone, IsInHeader, asked_after, next, after_line, credits, limit, limits, first_units, unit_or_go, Sets, all_read, asked_next, budget_of, in_line, limited, lines_outcome, rest_outcome, Limit}
+use Rattle.mscp_reader.proofs.Common.{◌≡◌, ◌+◌, ◌≤◌, ◌++◌, ℕ, List, [], length, drop, refl, arith, codes, Option, Some, None, Result, Ok, Err, nat_tests, append-nil, ◌>>=◌, Gives, Cause, ScriptFault, Both, Settings, Event, lines, request, Place, next_unless_skipped, Begins, HasCredits, HasLongest, HasTimeout, HasUnits, HasGone, IsInHeader, asked_after, next, after_line, credits, limit, limits, first_units, unit_or_go, Sets, all_read, asked_next, budget_of, in_line, limited, lines_outcome, rest_outcome, Limit}
 use Rattle.mscp_reader.specs.declared.fault.Cause.TheVariants as causes
 use Rattle.mscp_reader.specs.declared.header.Limit.TheVariants as ways
 

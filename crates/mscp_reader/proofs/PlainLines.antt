@@ -1,5 +1,5 @@
 -- Plain lines: what is cut off them, and what they say.
-use Rattle.mscp_reader.proofs.Common.{◌≡◌, ◌<◌, ◌≤◌, ◌+◌, ◌-◌, ◌==◌, ◌&&◌, ◌∙◌, ℕ, Bool, true, false, not, suc, zero, subst, List, [], ◌∷◌, ◌++◌, length, take, drop, get_or, refl, sym, ap, arith, Ok, Err, position, unwrap_or, nat_le, nat_lt, if◌then◌else◌, replicate, Some, Result, filter, list_all, slice_split, strip_carriage_return, and_parts, and_from, nat_tests, append_assoc, append-nil, length-append, length-drop, length-take-le, take-append-drop, take_all, digits_value, Order, MoveKind, is_comment, is_digit, is_numeral, is_printed, is_some_word, lines, narrow, number, said, steps_in, wide, words, Asks, Cuts, CutsWord, Ends, IsApart, IsNumeral, IsPlain, is_letter, asked, event_form, form_of, message_form, plain_form, request, sent, said_at, asked_next, Form, Cause, Good, First, Event}
+use Rattle.mscp_reader.proofs.Common.{◌≡◌, ◌<◌, ◌≤◌, ◌+◌, ◌-◌, ◌==◌, ◌&&◌, ◌∙◌, ℕ, Bool, true, false, not, suc, zero, subst, List, [], ◌∷◌, ◌++◌, length, take, drop, get_or, refl, sym, ap, arith, Ok, Err, position, unwrap_or, nat_le, nat_lt, if◌then◌else◌, replicate, Some, Result, filter, list_all, slice_split, strip_carriage_return, and_parts, and_from, nat_tests, append_assoc, append-nil, length-append, length-drop, length-take-le, take-append-drop, take_all, digits_value, Order, MoveKind, is_comment, is_digit, is_numeral, is_printed, is_some_word, lines, narrow, number, said, steps_in, wide, words, Asks, Cuts, CutsWord, Ends, IsApart, IsNumeral, IsPlain, is_letter, asked, event_form, form_of, message_form, plain_form, IsValidForm, request, sent, said_at, asked_next, Form, Cause, Good, First, Event}
 use Rattle.mscp_packet.specs.declared.command.Order.TheVariants as orders
 use Rattle.mscp_reader.specs.declared.events.Form.TheVariants as forms
 use Rattle.mscp_reader.specs.declared.fault.Cause.TheVariants as causes
@@ -184,6 +184,11 @@ some_word : (w : List ℕ) (form : Form) → form_of w ≡ Some form → 0 < len
 unfolding form_of plain_form message_form event_form
 some_word [] form h = cc
 some_word (b ∷ w) form h = omega arith
+
+-- the order that a line's first word names is a valid command's
+pub is_valid : (w : List ℕ) (form : Form) → form_of w ≡ Some form → IsValidForm form
+unfolding form_of event_form message_form plain_form
+is_valid w form h = grind arith
 
 letter_first : (b : ℕ) → is_letter b ≡ true → (b == 35) ≡ false
 letter_first b h = grind (arith, nat_tests)

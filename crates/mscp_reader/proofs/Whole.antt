@@ -1,5 +1,5 @@
 -- A script is read, or has its first fault, just where its outcome says so. So it has one meaning.
-use Rattle.mscp_reader.proofs.Common.{◌≡◌, ◌<◌, ◌≤◌, ◌+◌, ◌++◌, ℕ, List, [], ◌∷◌, length, Bool, true, false, cond, refl, sym, ap, ◌∙◌, arith, ⊎_elim, nat_lt, Result, Ok, Err, nat_tests, Settings, Event, ◌>>=◌, lines, Cause, ScriptFault, ReadFault, Place, Begins, HasGone, IsInHeader, after_line, after_lines, Reads, IsAtFault, HasNoGo, IsFault, in_line, lines_outcome, script_outcome, Tells}
+use Rattle.mscp_reader.proofs.Common.{◌≡◌, ◌<◌, ◌≤◌, ◌+◌, ◌++◌, ℕ, List, [], ◌∷◌, length, append-nil, Bool, true, false, cond, refl, sym, ap, ◌∙◌, arith, ⊎_elim, nat_lt, Result, Ok, Err, nat_tests, Settings, Event, ◌>>=◌, lines, Cause, ScriptFault, ReadFault, Place, Begins, HasGone, IsInHeader, after_line, after_lines, Reads, IsAtFault, HasNoGo, IsFault, in_line, lines_outcome, script_outcome, Tells}
 use Rattle.mscp_reader.specs.declared.fault.Cause.TheVariants as causes
 use Rattle.mscp_reader.proofs.Outcomes.{ended_early}
 use Rattle.mscp_reader.proofs.Sound.{is_read, is_fault}
@@ -33,14 +33,10 @@ at_gone : (k : ℕ) (s : Settings) (es : List Event) → lines_outcome k (HasGon
 unfolding lines_outcome
 at_gone k s es = refl
 
-appended : (xs : List (List ℕ)) → xs ++ [] ≡ xs
-appended [] = refl
-appended (x ∷ xs) = ap (λ ys. x ∷ ys) (appended xs)
-
 pub outcome_of_read : (bytes : List ℕ) (s : Settings) (es : List Event) → Reads bytes s es
     → script_outcome bytes ≡ Ok (s, es)
 outcome_of_read bytes s es h =
-    small_outcome bytes h.small ∙ (ap (lines_outcome 0 Begins) (sym (appended (lines bytes)))
+    small_outcome bytes h.small ∙ (ap (lines_outcome 0 Begins) (sym (append-nil (lines bytes)))
     ∙ (along 0 (length (lines bytes)) Begins (HasGone s es) (lines bytes) [] (omega arith) h.right ∙ at_gone _ s es))
 
 wrong_here : (k : ℕ) (p : Place) (line : List ℕ) (after : List (List ℕ)) (fault : ScriptFault)
@@ -62,7 +58,7 @@ of_line bytes fault h =
 of_header : (bytes : List ℕ) (fault : ScriptFault) → HasNoGo (lines bytes) fault
     → lines_outcome 0 Begins (lines bytes) ≡ Err fault
 of_header bytes fault h =
-    ap (lines_outcome 0 Begins) (sym (appended (lines bytes))) ∙ (along 0 (length (lines bytes)) Begins h.place
+    ap (lines_outcome 0 Begins) (sym (append-nil (lines bytes))) ∙ (along 0 (length (lines bytes)) Begins h.place
     (lines bytes) [] (omega arith) h.right ∙ no_go_here _ h.place fault h.early h.cause h.number)
 
 pub outcome_of_fault : (bytes : List ℕ) (fault : ScriptFault) → IsFault bytes fault → script_outcome bytes ≡ Err fault

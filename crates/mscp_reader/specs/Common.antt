@@ -10,7 +10,7 @@ pub use Rattle.mscp_reader.specs.Causes.{cause_word}
 pub use Rattle.mscp_reader.specs.Grammar.{Begins, HasCredits, HasGone, HasTimeout, HasUnits, IsFault, IsInHeader, Place, Reads, asked_after, said_at}
 pub use Rattle.mscp_reader.specs.Outcome.{Heads, Leads, Sets, asked_next, both_of, budget_of, headed_on, in_line, limited, place_after, rest_headed, rest_outcome, script_outcome, settled}
 pub use Rattle.mscp_reader.specs.Plain.{Asks, CutsWord, Ends, IsNumeral, IsPlain, is_letter}
-pub use Rattle.mscp_reader.specs.Requests.{bytes_in, events_of, sent}
+pub use Rattle.mscp_reader.specs.Requests.{IsValidForm, bytes_in, events_of, sent}
 pub use Rattle.mscp_reader.specs.declared.events.TheConstants.{MOST_EVENTS, MOST_STEPS}
 pub use Rattle.mscp_reader.specs.declared.fault.ScriptFault.{ScriptFault}
 pub use Rattle.mscp_reader.specs.declared.script.TheConstants.{MOST_BYTES}

@@ -1,7 +1,7 @@
 -- What a line after the header asks for: these events, one after the other.
-use Rattle.std.specs.Prelude.{ℕ, Bool, true, false, if◌then◌else◌, List, [], ◌∷◌, replicate, codes, Option, Some, None, Result, Ok, Err}
+use Rattle.std.specs.Prelude.{◌≡◌, ℕ, is_some, Bool, true, false, if◌then◌else◌, List, [], ◌∷◌, replicate, codes, Option, Some, None, Result, Ok, Err}
 use Rattle.std.specs.Str.{bytes_eq}
-use Rattle.mscp_packet.specs.Commands.{command_bytes}
+use Rattle.mscp_packet.specs.Commands.{command_bytes, order_opcode}
 use Rattle.mscp_packet.specs.declared.command.Command.{Command}
 use Rattle.mscp_packet.specs.declared.command.Order.TheVariants as orders
 use Rattle.mscp_packet.specs.declared.command.MoveKind.TheVariants as moves
@@ -75,6 +75,11 @@ form_of word =
     if bytes_eq word (codes "access") then Some (forms.Transfer moves.Access) else (
     if bytes_eq word (codes "erase") then Some (forms.Transfer moves.Erase) else (
     if bytes_eq word (codes "compare") then Some (forms.Transfer moves.Compare) else event_form word))))
+
+-- the order that a form names is a valid command's
+abbrev pub IsValidForm : Form → Type 0
+IsValidForm (forms.Plain order) = is_some (order_opcode order) ≡ true
+IsValidForm form = Unit {0}
 
 -- ---- the fields
 
@@ -174,7 +179,7 @@ bytes_in digits = or_none (message digits)
 
 -- its events
 abbrev pub events_of : Request → List Event
-events_of (requests.Send via command) = sent via command
+events_of (requests.Send via valid) = sent via valid.command
 events_of (requests.Packet via digits) = events.Send via (record { items = bytes_in digits.now }) ∷ []
 events_of (requests.Take via) = events.Take via ∷ []
 events_of (requests.Steps count block) = replicate count (events.Step block)

@@ -8,10 +8,10 @@ ghost use Rattle.mscp_reader.specs.Requests as requests;
 use crate::fault::{Cause, ScriptFault};
 use crate::lines::Line;
 use crate::numbers::{message, narrow, status, wide};
-use crate::request::Request;
+use crate::request::{Request, ValidCommand};
 use crate::words::Words;
 use mscp_drive::{Block, Connection, FaultStatus};
-use mscp_packet::{Command, MoveKind, Order};
+use mscp_packet::{MoveKind, Order};
 
 /// The most events of a script.
 pub const MOST_EVENTS: usize = 1_000_000;
@@ -77,7 +77,7 @@ pub fn request_after(line: Line<'_>, count: usize) -> Result<Request<'_>, Script
 /// What the line of these words asks for. It isn't made part of its caller, where a request would be moved piece by piece
 /// from each way in which a line is read.
 #[inline(never)]
-#[tactic(auto, unfolding(crate::specs::Requests::request))]
+#[tactic(auto, using(crate::proofs::PlainLines::is_valid), unfolding(crate::specs::Requests::request))]
 fn read_request(mut words: Words<'_>) -> Result<Request<'_>, Cause>
     ensures { Gives events_of result (requests.request (lexical.words words.entry.rest.now)) }
 {
@@ -92,7 +92,7 @@ fn read_request(mut words: Words<'_>) -> Result<Request<'_>, Cause>
 }
 
 /// What the line asks for in which these words stand behind the word `second`.
-#[tactic(auto, unfolding(crate::specs::Requests::second_request))]
+#[tactic(auto, using(crate::proofs::PlainLines::is_valid), unfolding(crate::specs::Requests::second_request))]
 fn read_second(mut words: Words<'_>) -> Result<Request<'_>, Cause>
     ensures { Gives events_of result (requests.second_request (lexical.words words.entry.rest.now)) }
 {
@@ -184,6 +184,7 @@ fn plain_form(word: &[u8]) -> Option<Form>
 /// What a line of this form asks for by these fields. If it is of a host, it is the connection's.
 #[tactic(auto, unfolding(crate::specs::Requests::asked))]
 fn read_fields(connection: Connection, form: Form, words: Words<'_>) -> Result<Request<'_>, Cause>
+    requires { requests.IsValidForm form }
     ensures { Gives events_of result (requests.asked connection form (lexical.words words.entry.rest.now)) }
 {
     match form {
@@ -228,25 +229,22 @@ fn read_transfer(
     ensures { Gives events_of result (requests.asked connection (Form.Transfer kind) (lexical.words words.entry.rest.now)) }
 {
     let (reference, unit, count, block) = words.four()?;
-    let command = Command {
-        reference: wide(reference)?,
-        unit: narrow(unit)?,
-        order: Order::Move(kind, wide(count)?, wide(block)?),
-    };
+    let command = ValidCommand::new(
+        wide(reference)?,
+        narrow(unit)?,
+        Order::Move(kind, wide(count)?, wide(block)?),
+    );
     Ok(Request::Send(connection, command))
 }
 
 /// Another command to a unit: its reference number, and its unit.
 #[tactic(auto, unfolding(crate::specs::Requests::asked))]
 fn read_plain(connection: Connection, order: Order, words: Words<'_>) -> Result<Request<'_>, Cause>
+    requires { requests.IsValidForm (Form.Plain order) }
     ensures { Gives events_of result (requests.asked connection (Form.Plain order) (lexical.words words.entry.rest.now)) }
 {
     let (reference, unit) = words.two()?;
-    let command = Command {
-        reference: wide(reference)?,
-        unit: narrow(unit)?,
-        order,
-    };
+    let command = ValidCommand::new(wide(reference)?, narrow(unit)?, order);
     Ok(Request::Send(connection, command))
 }
 
@@ -256,11 +254,7 @@ fn read_controller(connection: Connection, words: Words<'_>) -> Result<Request<'
     ensures { Gives events_of result (requests.asked connection Form.SetController (lexical.words words.entry.rest.now)) }
 {
     let reference = words.one()?;
-    let command = Command {
-        reference: wide(reference)?,
-        unit: 0,
-        order: Order::SetController(0),
-    };
+    let command = ValidCommand::new(wide(reference)?, 0, Order::SetController(0));
     Ok(Request::Send(connection, command))
 }
 
@@ -270,11 +264,7 @@ fn read_abort(connection: Connection, words: Words<'_>) -> Result<Request<'_>, C
     ensures { Gives events_of result (requests.asked connection Form.Abort (lexical.words words.entry.rest.now)) }
 {
     let (reference, other) = words.two()?;
-    let command = Command {
-        reference: wide(reference)?,
-        unit: 0,
-        order: Order::Abort(wide(other)?),
-    };
+    let command = ValidCommand::new(wide(reference)?, 0, Order::Abort(wide(other)?));
     Ok(Request::Send(connection, command))
 }
 
@@ -284,11 +274,7 @@ fn read_status(connection: Connection, words: Words<'_>) -> Result<Request<'_>, 
     ensures { Gives events_of result (requests.asked connection Form.Status (lexical.words words.entry.rest.now)) }
 {
     let (reference, other) = words.two()?;
-    let command = Command {
-        reference: wide(reference)?,
-        unit: 0,
-        order: Order::Status(wide(other)?),
-    };
+    let command = ValidCommand::new(wide(reference)?, 0, Order::Status(wide(other)?));
     Ok(Request::Send(connection, command))
 }
 

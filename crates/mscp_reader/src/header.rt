@@ -332,6 +332,7 @@ fn configured(limits: Limits, units: &ArrayVec<Unit, 16>) -> Result<Config, Caus
     requires { IsUnitList units.now.items }
     ensures { result ≡ grammar.valid (settings.configured (settled limits units.now.items)) }
 {
+    // Each was judged as it was read. Moved here by `Units::of`, each number of each unit would be moved by itself.
     let Ok(units) = Units::new(units.as_slice()) else {
         return Err(Cause::Unit);
     };

@@ -19,6 +19,6 @@ pub use crate::header::read_header;
 pub use crate::law::scripts_have_one_meaning;
 pub use crate::lines::{LONGEST_LINE, Line, Lines, MOST_LINES, words_of};
 pub use crate::numbers::{bytes_in, wide};
-pub use crate::request::Request;
+pub use crate::request::{Request, ValidCommand};
 pub use crate::script::{MOST_BYTES, lines_of};
 pub use crate::words::Words;

@@ -2,18 +2,19 @@
 // one pass over their bytes. Any other line is left to the reader of all lines, which finds the faults, too.
 
 ghost use Rattle.std.specs.Prelude.{◌≡◌, ◌≤◌, [], true, not, position, take, length, replicate, IfSome};
-ghost use Rattle.mscp_reader.specs.Common.{list_all, Good, First, MOST_STEPS, Asks, CutsWord, Ends, IsNumeral, IsPlain, is_letter, events_of, sent};
+ghost use Rattle.mscp_reader.specs.Common.{list_all, Good, First, MOST_STEPS, Asks, CutsWord, Ends, IsNumeral, IsPlain, is_letter, IsValidForm, events_of, sent};
 ghost use Rattle.mscp_drive.specs.declared.event.Event.TheVariants as events;
 ghost use Rattle.mscp_reader.specs.Lexical as lexical;
 
 use crate::events::{Form, MOST_STEPS, form_of};
 use crate::numbers::MOST_DIGITS;
-use crate::request::Request;
+use crate::request::{Request, ValidCommand};
 use mscp_drive::{Block, Connection};
-use mscp_packet::{Command, MoveKind, Order};
+use mscp_packet::{MoveKind, Order};
 
 /// What the first line of these bytes asks for, and what stands behind it, if that line is found to be plain. Nothing is
 /// said of any other: the reader of all lines reads those.
+#[tactic(auto, using(crate::proofs::PlainLines::is_valid))]
 pub fn read_plain(bytes: &[u8]) -> Option<(Request<'_>, &[u8])>
     ensures plain { IfSome result (λ read. IsPlain bytes.now (events_of read.0) read.1.now) }
     ensures few { IfSome result (λ read. length (events_of read.0) ≤ MOST_STEPS) }
@@ -78,6 +79,7 @@ struct Fields<'a> {
 impl<'a> Fields<'a> {
     /// Cuts off what a line of this form asks for by its fields.
     fn request(&mut self, form: Form) -> Option<Request<'a>>
+        requires { IsValidForm form }
         ensures asks { IfSome result (λ request. Asks form (events_of request) self.old.rest.now self.new.rest.now) }
         ensures few { IfSome result (λ request. length (events_of request) ≤ MOST_STEPS) }
     {
@@ -94,61 +96,46 @@ impl<'a> Fields<'a> {
     }
 
     /// Cuts off the fields of a transfer.
-    fn transfer(&mut self, kind: MoveKind) -> Option<Command>
-        ensures { IfSome result (λ command. Asks (Form.Transfer kind) (sent First command) self.old.rest.now
+    fn transfer(&mut self, kind: MoveKind) -> Option<ValidCommand>
+        ensures { IfSome result (λ valid. Asks (Form.Transfer kind) (sent First valid.command) self.old.rest.now
             self.new.rest.now) }
     {
         let reference = self.wide()?;
         let unit = self.narrow()?;
         let count = self.wide()?;
         let block = self.wide()?;
-        Some(Command {
-            reference,
-            unit,
-            order: Order::Move(kind, count, block),
-        })
+        Some(ValidCommand::new(reference, unit, Order::Move(kind, count, block)))
     }
 
     /// Cuts off the fields of another command to a unit.
-    fn other(&mut self, order: Order) -> Option<Command>
-        ensures { IfSome result (λ command. Asks (Form.Plain order) (sent First command) self.old.rest.now
+    fn other(&mut self, order: Order) -> Option<ValidCommand>
+        requires { IsValidForm (Form.Plain order) }
+        ensures { IfSome result (λ valid. Asks (Form.Plain order) (sent First valid.command) self.old.rest.now
             self.new.rest.now) }
     {
         let reference = self.wide()?;
         let unit = self.narrow()?;
-        Some(Command {
-            reference,
-            unit,
-            order,
-        })
+        Some(ValidCommand::new(reference, unit, order))
     }
 
     /// Cuts off the fields of a poll.
-    fn poll(&mut self) -> Option<Command>
-        ensures { IfSome result (λ command. Asks Form.Status (sent First command) self.old.rest.now
+    fn poll(&mut self) -> Option<ValidCommand>
+        ensures { IfSome result (λ valid. Asks Form.Status (sent First valid.command) self.old.rest.now
             self.new.rest.now) }
     {
         let reference = self.wide()?;
         let other = self.wide()?;
-        Some(Command {
-            reference,
-            unit: 0,
-            order: Order::Status(other),
-        })
+        Some(ValidCommand::new(reference, 0, Order::Status(other)))
     }
 
     /// Cuts off the fields of an abort.
-    fn abort(&mut self) -> Option<Command>
-        ensures { IfSome result (λ command. Asks Form.Abort (sent First command) self.old.rest.now
+    fn abort(&mut self) -> Option<ValidCommand>
+        ensures { IfSome result (λ valid. Asks Form.Abort (sent First valid.command) self.old.rest.now
             self.new.rest.now) }
     {
         let reference = self.wide()?;
         let other = self.wide()?;
-        Some(Command {
-            reference,
-            unit: 0,
-            order: Order::Abort(other),
-        })
+        Some(ValidCommand::new(reference, 0, Order::Abort(other)))
     }
 
     /// Cuts off how many steps there are.

@@ -37,7 +37,9 @@ fn add_events<A: Allocator>(
     ensures { OnOk result (events.new.items ≡ events.old.items ++ events_of request.now) }
 {
     let event = match request {
-        Request::Send(connection, command) => { Event::Send(*connection, command_message(command)) }
+        Request::Send(connection, valid) => {
+            Event::Send(*connection, command_message(&valid.command))
+        }
         Request::Packet(connection, digits) => Event::Send(*connection, bytes_in(digits)),
         Request::Take(connection) => Event::Take(*connection),
         Request::Steps(count, block) => return add_steps(events, *count, block),

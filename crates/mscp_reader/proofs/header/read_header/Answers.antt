@@ -1,4 +1,4 @@
-use Rattle.mscp_reader.proofs.Common.{arith, [], ◌∙◌, err_from_is_err_and}
+use Rattle.mscp_reader.proofs.Common.{arith, err_from_is_err_and}
 use Rattle.mscp_reader.proofs.Headers.{heads_lead}
 use Rattle.mscp_reader.proofs.header.read_header.Goals as goal
 

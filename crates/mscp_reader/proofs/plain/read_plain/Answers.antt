@@ -1,4 +1,4 @@
-use Rattle.mscp_reader.proofs.Common.{arith, ◌≡◌, ◌++◌, ◌∙◌, sym, take-append-drop}
+use Rattle.mscp_reader.proofs.Common.{arith, ◌≡◌, ◌++◌, sym, take-append-drop}
 use Rattle.mscp_reader.proofs.PlainLines.{plain_is}
 use Rattle.mscp_reader.proofs.plain.read_plain.Goals as goal
 

@@ -1,4 +1,4 @@
-use Rattle.mscp_reader.proofs.Common.{◌≡◌, ◌+◌, ◌∙◌, arith, common_steps, err_from_is_err_and}
+use Rattle.mscp_reader.proofs.Common.{arith, common_steps, err_from_is_err_and}
 use Rattle.mscp_reader.proofs.Headers.{header_ends, header_skips, header_speaks, header_wrong}
 use Rattle.mscp_reader.proofs.lines.Lines.header_line.Goals as goal
 

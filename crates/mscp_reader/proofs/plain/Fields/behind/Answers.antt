@@ -1,4 +1,4 @@
-use Rattle.mscp_reader.proofs.Common.{◌≡◌, arith}
+use Rattle.mscp_reader.proofs.Common.{arith}
 use Rattle.mscp_reader.proofs.PlainLines.{at_feed, seen}
 use Rattle.mscp_reader.proofs.plain.Fields.behind.Goals as goal
 

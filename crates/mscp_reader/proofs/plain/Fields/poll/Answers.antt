@@ -2,4 +2,4 @@ use Rattle.mscp_reader.proofs.PlainLines.{poll_asks}
 use Rattle.mscp_reader.proofs.plain.Fields.poll.Goals as goal
 
 pub returns : goal.returns
-returns c = poll_asks _ _ _ _ _ c.in_ok-reference.ensures c.in_ok-other.ensures
+returns c = rw c.new.ensures (poll_asks _ _ _ _ _ c.in_ok-reference.ensures c.in_ok-other.ensures)

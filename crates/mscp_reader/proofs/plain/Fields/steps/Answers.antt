@@ -1,4 +1,4 @@
-use Rattle.mscp_reader.proofs.Common.{arith, ◌≤◌}
+use Rattle.mscp_reader.proofs.Common.{arith}
 use Rattle.mscp_reader.proofs.PlainLines.{steps_asks}
 use Rattle.mscp_reader.proofs.plain.Fields.steps.Goals as goal
 

@@ -1,4 +1,4 @@
-use Rattle.mscp_reader.proofs.Common.{◌≢◌, ◌<◌, ◌∙◌, arith, common_steps}
+use Rattle.mscp_reader.proofs.Common.{arith, common_steps}
 use Rattle.mscp_reader.proofs.Cuts.{word_ahead}
 use Rattle.mscp_reader.proofs.words.Words.next_word.Goals as goal
 
