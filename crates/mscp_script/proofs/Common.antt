@@ -1,5 +1,5 @@
 -- What the lemmas of this crate take from elsewhere.
-pub use Rattle.std.proofs.Common.{Bool, Err, IfOk, List, OnOk, Option, Result, [], ap, arith, drop, false, get_or, length, length-append, map, refl, replicate, subst, take, vec_len, ℕ, ◌++◌, ◌+◌, ◌-◌, ◌<◌, ◌∙◌, ◌∷◌, ◌≡◌, ◌≤◌}
+pub use Rattle.std.proofs.Common.{Err, IfOk, List, OnOk, Option, Result, [], ap, arith, drop, false, get_or, is_some, length, length-append, map, refl, replicate, subst, take, true, vec_len, ℕ, ◌++◌, ◌+◌, ◌-◌, ◌<◌, ◌∙◌, ◌∷◌, ◌≡◌, ◌≤◌}
 pub use Rattle.std.proofs.Math.ListN.{drop_of_length-le}
 pub use Rattle.std.proofs.lemmas.Bool.{true≢false}
 pub use Rattle.std.proofs.lemmas.Grind.{common_steps}

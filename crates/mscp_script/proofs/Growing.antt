@@ -9,7 +9,8 @@ use Rattle.mscp_controller.specs.Holdings.{Steps, ends_after}
 use Rattle.mscp_drive.specs.declared.event.Event.TheVariants as events
 use Rattle.mscp_script.proofs.Common.{Sweep, Err}
 use Rattle.std.specs.Prelude.{Ok}
-use Rattle.std.proofs.Common.{append-nil, suc, sym, zero}
+use Rattle.std.proofs.Common.{append-nil}
+use Rattle.std.proofs.lemmas.List.{replicate-append-replicate}
 
 pub reported_more : (all : List Entry) (entry : Entry) → with_entry (reported all) entry ≡ reported (all ++ entry ∷ [])
 reported_more all entry =
@@ -53,9 +54,6 @@ ran_on r old new event entry h1 h2 = search arith
 meets_one : {A : Type 0} (old new : Run A) (e : Event) → Ran old new e → Meets old new (e ∷ [])
 meets_one old new e ran = λ c es runs. runs_more c es old new e runs ran
 
-pub ran_count : {A : Type 0} (old new : Run A) (e : Event) → Ran old new e → new.reporter.count ≡ old.reporter.count + 1
-ran_count old new e ran = ap (λ (r : Reported). r.count) ran.report_is
-
 -- the same where memory may have been wanted
 pub meets_ok : {A : Type 0} (r : Result (Unit {0}) OutOfMemory) (old new : Run A) (e : Event) → OnOk r (Ran old new e)
     → OnOk r (Meets old new (e ∷ []))
@@ -86,23 +84,6 @@ idle_same {K} picks k old new s =
       picker = ap (λ (l : Line K). l.picker) line i;
     }
 
--- so whatever block is served next, that step is idle, too
-pub idle_again : {K : Type 0} (picks : List Choice → ℕ → Type 0) (k : Block) (old new : Holdings K)
-    → Steps picks k old Idle new → (j : Block) → Steps picks j new Idle new
-idle_again {K} picks k old new s j =
-    let line = s.serves.2 in
-    record {
-      serves = (ap (λ (l : Line K). l.waiting) line ∙ s.serves.0, ap (λ (l : Line K). l.begun) line ∙ s.serves.1, refl);
-      ends = sym (no_ends new.untaken);
-      settings = refl;
-    }
-
-many_more : {X : Type 0} (n m : ℕ) (x : X) → replicate n x ++ replicate m x ≡ replicate (n + m) x
-many_more zero m x = let none : m ≡ zero + m = omega arith in ap (λ k. replicate k x) none
-many_more (suc n) m x =
-    let more : suc (n + m) ≡ suc n + m = omega arith in
-    ap (λ xs. x ∷ xs) (many_more n m x) ∙ ap (λ k. replicate k x) more
-
 -- the same event so many times, and then as often as is left, of idle steps
 pub meets_idle : {A : Type 0} (r : Result (Unit {0}) OutOfMemory) (a b new : Run A) (mid : Holdings Sweep) (k : Block)
     (n m count : ℕ) → Meets a b (replicate n (events.Step k)) → mid ≡ b.controller
@@ -112,7 +93,7 @@ pub meets_idle : {A : Type 0} (r : Result (Unit {0}) OutOfMemory) (a b new : Run
 meets_idle (Err fault) a b new mid k n m count before same after all = tt
 meets_idle {A} (Ok done) a b new mid k n m count before same after all = λ c es runs.
     let whole : replicate n (events.Step k) ++ replicate m (events.Step k) ≡ replicate count (events.Step k) =
-    many_more n m (events.Step k) ∙ ap (λ i. replicate i (events.Step k)) all in
+    replicate-append-replicate n m (events.Step k) ∙ ap (λ i. replicate i (events.Step k)) all in
     let next : Meets b new (replicate m (events.Step k)) =
     subst (λ (h : Holdings Sweep). Meets (record { controller = h; reporter = b.reporter }) new
     (replicate m (events.Step k))) same (after k) in

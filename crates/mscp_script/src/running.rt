@@ -2,7 +2,7 @@
 
 ghost use Rattle.std.specs.Prelude.{◌≡◌, ◌+◌, ◌<◌, ◌^◌, [], length, replicate, OnErr, OnOk};
 ghost use Rattle.mscp_controller.specs.Holdings.{Steps, fresh};
-ghost use Rattle.mscp_packet.specs.Commands.{IsValidOrder, command_bytes};
+ghost use Rattle.mscp_packet.specs.Commands.{command_bytes};
 ghost use Rattle.mscp_queue.specs.Pickers.{IsSweep};
 ghost use Rattle.mscp_queue.specs.declared.report.Report.TheVariants.{Idle};
 ghost use Rattle.mscp_drive.specs.Settings.{IsValid};
@@ -13,8 +13,7 @@ ghost use Rattle.mscp_script.specs.Text.{reported};
 
 use crate::reporting::Reporter;
 use mscp_controller::{Block, Config, Connection, Controller, OutOfMemory, Report, Sweep};
-use mscp_packet::{Command, Order, write_command};
-use mscp_reader::{Request, bytes_in};
+use mscp_reader::{Request, ValidCommand, bytes_in};
 use mscp_text::Out;
 
 /// A controller whose picker sweeps, and the report of what it answered so far. No entry is kept.
@@ -68,26 +67,18 @@ impl<O: Out> Run<O> {
         self.send(connection, bytes_in(digits).as_slice())
     }
 
-    /// The connection's host sends the message that is written of an invalid command.
-    #[inline(never)]
-    fn send_invalid(&mut self, connection: Connection, command: &Command) -> Result<(), OutOfMemory>
-        requires room { self.old.reporter.count + 1 < 2 ^ 64 }
-        ensures ran { OnOk result
-            (Ran self.old self.new (events.Send connection (record { items = command_bytes command.now }))) }
-        ensures refused { OnErr result O.refuses }
-    {
-        self.send(connection, write_command(command).as_slice())
-    }
-
     /// The connection's host sends the message of this command. Its bytes aren't written, only to be read again.
-    fn send_command(&mut self, connection: Connection, command: Command) -> Result<(), OutOfMemory>
-        requires room { self.old.reporter.count + 1 < 2 ^ 64 }
-        requires valid { IsValidOrder command.order }
+    fn send_command(
+        &mut self,
+        connection: Connection,
+        valid: ValidCommand,
+    ) -> Result<(), OutOfMemory>
+        requires { self.old.reporter.count + 1 < 2 ^ 64 }
         ensures ran { OnOk result
-            (Ran self.old self.new (events.Send connection (record { items = command_bytes command }))) }
+            (Ran self.old self.new (events.Send connection (record { items = command_bytes valid.command }))) }
         ensures refused { OnErr result O.refuses }
     {
-        let sent = self.controller.send_command(connection, command);
+        let sent = self.controller.send_command(connection, valid.command);
         self.reporter.sent(connection, &sent)
     }
 
@@ -154,10 +145,7 @@ impl<O: Out> Run<O> {
         ensures refused { OnErr result O.refuses }
     {
         match request {
-            Request::Send(connection, command) => match command.order {
-                Order::Invalid { .. } => self.send_invalid(*connection, command),
-                _ => self.send_command(*connection, *command),
-            },
+            Request::Send(connection, valid) => self.send_command(*connection, *valid),
             Request::Packet(connection, digits) => self.send_packet(*connection, digits),
             Request::Take(connection) => self.take(*connection),
             Request::Steps(count, block) => self.steps(*count, block),

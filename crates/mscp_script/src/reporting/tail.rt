@@ -4,8 +4,8 @@ ghost use Rattle.std.specs.Prelude.{◌≡◌, ◌+◌, ◌*◌, ◌≤◌, ◌+
 ghost use Rattle.std.specs.Fmt.{decimal};
 ghost use Rattle.hex.specs.Hex.{encode_lower};
 
-use hex::encode_to_slice;
 use itoa::write_digits;
+use mscp_text::write_hex;
 use std::marker::Model;
 
 /// How many bytes the longest line has: that of an end of 48 bytes of the second connection.
@@ -57,9 +57,11 @@ impl Tail {
         requires { length words.now + length self.old ≤ 108 }
         ensures { self.new ≡ words.now ++ self.old }
     {
-        let end = self.start;
-        self.start = end - words.len();
-        self.room[self.start..end].copy_from_slice(words.as_bytes());
+        let (bytes, end) = (words.as_bytes(), self.start);
+        for i in 0..bytes.len() {
+            self.room[end - 1 - i] = bytes[bytes.len() - 1 - i];
+        }
+        self.start = end - bytes.len();
     }
 
     /// Puts the decimal digits of a number in front.
@@ -92,9 +94,7 @@ impl Tail {
     {
         let end = self.start;
         self.start = end - 2 * bytes.len();
-        if encode_to_slice(bytes, &mut self.room[self.start..end]).is_err() {
-            unreachable!();
-        }
+        write_hex(bytes, &mut self.room[self.start..end]);
     }
 
     /// The line, from what was put last on.

@@ -2,11 +2,8 @@ use Rattle.mscp_script.proofs.Common.{arith}
 use Rattle.mscp_script.proofs.Growing.{meets_ok}
 use Rattle.mscp_script.proofs.running.Run.meet.Goals as goal
 
-pub returns-in-Invalid-clause-met : goal.returns-in-Invalid-clause-met
-returns-in-Invalid-clause-met g c = rw c.in-Send.is (meets_ok c.send_invalid.result _ _ _ c.send_invalid.ensures.ran)
-
-pub returns-in_default-clause-met : goal.returns-in_default-clause-met
-returns-in_default-clause-met g c = rw c.in-Send.is (meets_ok c.send_command.result _ _ _ c.send_command.ensures.ran)
+pub returns-in-Send-clause-met : goal.returns-in-Send-clause-met
+returns-in-Send-clause-met g c = rw c.in-Send.is (meets_ok c.send_command.result _ _ _ c.send_command.ensures.ran)
 
 pub returns-in-Packet-clause-met : goal.returns-in-Packet-clause-met
 returns-in-Packet-clause-met g c = search (arith, meets_ok)
