@@ -1,10 +1,5 @@
 -- Bytes that grow at their end.
-use Rattle.mscp_saved.proofs.Common.{◌≡◌, ℕ, suc, ◌≤◌, List, ◌∷◌, ◌++◌, take, append_assoc, ap, ◌∙◌, arith, replicate, little_bytes}
-
--- the first of many zeros are zeros
-pub first_zeros : (n k : ℕ) → k ≤ n → take {A = ℕ} k (replicate n 0) ≡ replicate k 0
-first_zeros (suc n) (suc k) l = ap (λ xs. 0 ∷ xs) (first_zeros n k (omega (arith, l)))
-first_zeros n k h2 = grind arith
+use Rattle.mscp_saved.proofs.Common.{◌≡◌, ℕ, List, ◌++◌, append_assoc, ap, ◌∙◌, arith, little_bytes}
 
 -- a number of so many bytes behind others
 pub grow : (xs a : List ℕ) (n x x' : ℕ) {ys zs : List ℕ} → ys ≡ xs ++ a → zs ≡ ys ++ little_bytes n x → x ≡ x'

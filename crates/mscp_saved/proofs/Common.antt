@@ -7,7 +7,7 @@ pub use Rattle.std.proofs.lemmas.List.Folds.{list_all_more}
 pub use Rattle.std.proofs.lemmas.List.Quantifiers.{position-Some}
 pub use Rattle.std.proofs.lemmas.Slice.Eq.{bytes_eq-Decides}
 pub use Rattle.std.specs.List.{AllByRecursion, list_all, position}
-pub use Rattle.std.specs.Prelude.{Err, IfNone, IfSome, None, Ok, Option, Some, filter, flat_map, if◌then◌else◌, is_none, is_some, nat_eq, nat_le, nat_lt, not, replicate, slice_index, unwrap_or, ◌==◌, ◌⊎◌}
+pub use Rattle.std.specs.Prelude.{Err, IfNone, IfSome, None, Ok, Option, Some, filter, flat_map, if◌then◌else◌, is_none, is_some, nat_eq, nat_le, nat_lt, not, slice_index, unwrap_or, ◌==◌, ◌⊎◌}
 pub use Rattle.arrayvec.specs.ArrayVec.{array_vec_len}
 pub use Rattle.byteorder.specs.Endian.{little_bytes}
 pub use Rattle.mscp_controller.proofs.Bridge.Judging.{command_is}
@@ -18,7 +18,7 @@ pub use Rattle.mscp_controller.specs.Restored.{IsCovered, IsSound, made_of}
 pub use Rattle.mscp_drive.specs.Extent.{weight}
 pub use Rattle.mscp_drive.specs.Shape.{Shape, one_block}
 pub use Rattle.mscp_drive.specs.UnitList.{IsUnitList, NumbersRise}
-pub use Rattle.mscp_drive.specs.Settings.{IsValid, Settings, configured, configured_unless, credits_of, limit_fault, room_of}
+pub use Rattle.mscp_drive.specs.Settings.{IsValid, Settings, credits_of, limit_fault, room_of}
 pub use Rattle.mscp_drive.specs.declared.config.ConfigFault.{ConfigFault}
 pub use Rattle.mscp_drive.specs.declared.connection.Connection.{Connection}
 pub use Rattle.mscp_drive.specs.declared.connection.Connection.TheVariants.{First, Second}

@@ -30,24 +30,14 @@ limits_good c e = by (limit_fault c) refl
 pub none_of : {X : Type 0} {o : Option X} → is_some o ≡ false → o ≡ None
 none_of {o = o} e = grind arith
 
+-- settings of these limits alone
+abbrev pub limits : (credits second budget longest timeout : ℕ) → Settings
+limits c s g l t =
+    record { credits = c; second = s; budget = g; longest = l; timeout = t; id = 0; units = [] }
+
 -- limits that were read are those that the head tells, whatever the identifier and the units are
 pub limits_told : (b : List ℕ) (us : List Shape) {credits second budget longest timeout : ℕ} → credits ≡ num b 12 4
     → second ≡ num b 16 4 → budget ≡ num b 20 4 → longest ≡ num b 24 4 → timeout ≡ num b 28 2
-    → limit_fault (record {
-      credits = credits;
-      second = second;
-      budget = budget;
-      longest = longest;
-      timeout = timeout;
-      id = 0;
-      units = [];
-    }) ≡ limit_fault (record (settings_in b []) { units = us })
-limits_told b us c s g l t = λ i. limit_fault (record {
-  credits = c i;
-  second = s i;
-  budget = g i;
-  longest = l i;
-  timeout = t i;
-  id = 0;
-  units = [];
-})
+    → limit_fault (limits credits second budget longest timeout)
+    ≡ limit_fault (record (settings_in b []) { units = us })
+limits_told b us c s g l t = λ i. limit_fault (limits (c i) (s i) (g i) (l i) (t i))

@@ -1,5 +1,5 @@
 -- Parts that were read into lists that were empty.
-use Rattle.mscp_saved.proofs.Common.{◌≡◌, ℕ, ◌+◌, ◌≤◌, List, [], ◌++◌, take, drop, length, length-append, take_rest, refl, ap, sym, ◌∙◌, arith, true, Option, None, End, Drive, Record, Settings, Shape, units_of, RestoreFault, all_waiting_in, begun_in, drives_in, end_in, first_count, first_in, first_place, second_count, second_in, second_place, settings_in, waiting_count, waiting_in, waiting_place, is_framed, settings_fault}
+use Rattle.mscp_saved.proofs.Common.{◌≡◌, ℕ, ◌+◌, ◌≤◌, List, [], ◌++◌, take, drop, length, length-append, take_rest, refl, ap, sym, ◌∙◌, arith, true, Option, End, Drive, Record, Settings, Shape, units_of, RestoreFault, all_waiting_in, begun_in, drives_in, end_in, first_count, first_in, first_place, second_count, second_in, settings_in, is_framed, settings_fault}
 use Rattle.std.specs.Prelude.{◌-◌}
 use Rattle.std.proofs.Math.Seq.{drop-append_seam, take-append_seam}
 use Rattle.mscp_saved.proofs.Framed.{framed_of}

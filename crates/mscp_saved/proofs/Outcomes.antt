@@ -1,5 +1,5 @@
 -- What comes of bytes, step by step.
-use Rattle.mscp_saved.proofs.Common.{All, ◌≡◌, ℕ, zero, suc, List, true, drop, refl, ap, sym, subst, ◌∙◌, arith, Option, Some, None, slice_index, Ok, Err, All-nil, All-push, BodyKind, End, body_at, kind_of_body, kind_of_code, Drive, Name, IsWaitable, Record, IsSound, made_of, IsValid, Settings, RestoreFault, all_waiting_in, begun_in, drives_in, end_in, end_with, first_count, first_in, first_place, held_in, part, parts_in, second_count, second_in, second_place, settings_in, waiting_count, waiting_in, waiting_place, end_size, waiting_size, first_of, form_fault, frame_fault, is_framed, parts_fault, restored, settings_fault, unless}
+use Rattle.mscp_saved.proofs.Common.{All, ◌≡◌, ℕ, zero, suc, List, true, drop, refl, ap, sym, subst, arith, Option, Some, None, slice_index, Ok, All-nil, All-push, BodyKind, End, body_at, kind_of_body, kind_of_code, Drive, Name, IsWaitable, Record, IsSound, made_of, IsValid, Settings, RestoreFault, all_waiting_in, begun_in, drives_in, end_in, end_with, first_count, first_in, first_place, held_in, part, parts_in, second_count, second_in, second_place, settings_in, waiting_count, waiting_in, waiting_place, end_size, waiting_size, first_of, form_fault, frame_fault, is_framed, parts_fault, restored, settings_fault, unless}
 use Rattle.mscp_saved.proofs.Sound.{IsReadWaiting, IsShapedIf, next, sound_of}
 
 -- ---- what is read
@@ -50,22 +50,6 @@ module _ {K : Type 0} (picker : K) {b : List ℕ} {c : Settings} {ds : List Driv
 -- a fault, or what there is where there is none
 pub ok_is : {X : Type 0} {x y : X} {o : Option RestoreFault} → Ok y ≡ unless x o → (o ≡ None) × (y ≡ x)
 ok_is {x = x} {y} {o} e = search arith
-
-pub err_is : {X : Type 0} (x : X) {o : Option RestoreFault} {fault : RestoreFault} → Err fault ≡ unless x o
-    → o ≡ Some fault
-err_is x {o} {fault} e = search arith
-
-module _ (b : List ℕ) {c : Settings} {d d1 : List Drive} where
-  -- what was read is what is said
-  pub read_of : {d2 : List Drive} {w w2 : List Record} {f f2 s s2 : List End} {g : Option Name} → d ≡ drives_in b
-      → d1 ≡ d → Ok c ≡ unless (settings_in b d1) (settings_fault (settings_in b d1)) → d2 ≡ d → w ≡ all_waiting_in b
-      → w2 ≡ w → f ≡ first_in b → f2 ≡ f → s ≡ second_in b → s2 ≡ s → g ≡ begun_in b → IsRead b c d2 w2 f2 s2 g
-  read_of {d2} ds one made two ws w fs f ss s g = search (arith, ok_is made)
-
-  -- the settings have no fault
-  pub settings_good : d ≡ drives_in b → d1 ≡ d → Ok c ≡ unless (settings_in b d1) (settings_fault (settings_in b d1))
-      → settings_fault (settings_in b (drives_in b)) ≡ None
-  settings_good ds one made = sym (ap (λ d. settings_fault (settings_in b d)) (one ∙ ds)) ∙ (ok_is made).0
 
 pub parts_back : {b : List ℕ} {c : Settings} {ds : List Drive} {rs : List Record} {first second : List End}
     {begun : Option Name} → IsRead b c ds rs first second begun → parts_fault (settings_in b (drives_in b))

@@ -1,5 +1,5 @@
 -- Parts that are read one after the other.
-use Rattle.mscp_saved.proofs.Common.{◌≡◌, ℕ, ◌+◌, List, [], ◌∷◌, ◌++◌, add-one, ap, ◌∙◌, sym, append_assoc, arith, part, parts_in}
+use Rattle.mscp_saved.proofs.Common.{◌≡◌, ℕ, ◌+◌, List, [], ◌∷◌, ◌++◌, add-one, append_assoc, arith, part, parts_in}
 
 -- one more is read, behind what was there before
 pub part_more : {X : Type 0} (f : List ℕ → X) (size n : ℕ) (b : List ℕ) (ws : List X) {xs ys : List X}

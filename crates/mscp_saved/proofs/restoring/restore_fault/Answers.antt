@@ -10,22 +10,19 @@ read_second-requires-clause-room g c = ends_fit c.args.bytes.now (frame_none c.a
 
 pub slice_bounds-parts_or_form_fault-end : goal.slice_bounds-parts_or_form_fault-end
 slice_bounds-parts_or_form_fault-end g c =
-    let b = c.args.bytes.now in
-    let both = both_of b c.new-ends.ensures c.read_first.ensures c.read_second.ensures in
+    let both = both_of c.args.bytes.now c.new-ends.ensures c.read_first.ensures c.read_second.ensures in
     sym (length-take-le c.from-first.result c.as_slice-5.result.now
-    (ends_many b both c.as_slice-5.ensures.value c.from-first.ensures))
+    (ends_many c.args.bytes.now both c.as_slice-5.ensures.value c.from-first.ensures))
 
 pub slice_bounds-parts_or_form_fault-count : goal.slice_bounds-parts_or_form_fault-count
 slice_bounds-parts_or_form_fault-count g c =
-    let b = c.args.bytes.now in
-    let both = both_of b c.new-ends.ensures c.read_first.ensures c.read_second.ensures in
-    ends_many b both c.as_slice-6.ensures.value c.from-first.ensures
+    let both = both_of c.args.bytes.now c.new-ends.ensures c.read_first.ensures c.read_second.ensures in
+    ends_many c.args.bytes.now both c.as_slice-6.ensures.value c.from-first.ensures
 
 pub slice_bounds-parts_or_form_fault-start : goal.slice_bounds-parts_or_form_fault-start
 slice_bounds-parts_or_form_fault-start g c =
-    let b = c.args.bytes.now in
-    let both = both_of b c.new-ends.ensures c.read_first.ensures c.read_second.ensures in
-    ends_many b both c.as_slice-6.ensures.value c.from-first.ensures
+    let both = both_of c.args.bytes.now c.new-ends.ensures c.read_first.ensures c.read_second.ensures in
+    ends_many c.args.bytes.now both c.as_slice-6.ensures.value c.from-first.ensures
 
 pub parts_or_form_fault-requires-clause-parts : goal.parts_or_form_fault-requires-clause-parts
 parts_or_form_fault-requires-clause-parts g c =
@@ -43,28 +40,19 @@ returns-in-Some-settings_fault-clause-value g c =
     (told_good b c.read_all_drives.ensures.value c.as_slice.ensures.value
     (c.as_slice-2.ensures.value ∙ c.put_units.ensures) c.settings_fault.ensures ∙ c.in-Some-settings_fault.is)
 
-pub returns-clause-value : goal.returns-clause-value
-returns-clause-value g c =
+pub returns : goal.returns
+returns g c =
     let b = c.args.bytes.now in
     let both = both_of b c.new-ends.ensures c.read_first.ensures c.read_second.ensures in
     let read = read_is b c.read_all_drives.ensures.value c.as_slice.ensures.value c.put_units.ensures
     c.config_of.ensures c.as_slice-3.ensures.value c.read_all_waiting.ensures.value c.as_slice-4.ensures.value
     (ends_first b both c.as_slice-5.ensures.value c.from-first.ensures)
     (ends_second b both c.as_slice-6.ensures.value c.from-first.ensures) in
-    parted c.args.number c.args.picker.now read (sym c.frame_fault.ensures ∙ c.in_default.is)
-    (told_good b c.read_all_drives.ensures.value c.as_slice.ensures.value
-    (c.as_slice-2.ensures.value ∙ c.put_units.ensures) c.settings_fault.ensures ∙ c.in_default-settings_fault.is)
-    c.parts_or_form_fault.ensures.fault
-
-pub returns-clause-saved : goal.returns-clause-saved
-returns-clause-saved g c =
-    let b = c.args.bytes.now in
-    let both = both_of b c.new-ends.ensures c.read_first.ensures c.read_second.ensures in
-    let read = read_is b c.read_all_drives.ensures.value c.as_slice.ensures.value c.put_units.ensures
-    c.config_of.ensures c.as_slice-3.ensures.value c.read_all_waiting.ensures.value c.as_slice-4.ensures.value
-    (ends_first b both c.as_slice-5.ensures.value c.from-first.ensures)
-    (ends_second b both c.as_slice-6.ensures.value c.from-first.ensures) in
-    saved_if c.args.number c.args.picker.now read (sym c.frame_fault.ensures ∙ c.in_default.is)
-    (told_good b c.read_all_drives.ensures.value c.as_slice.ensures.value
-    (c.as_slice-2.ensures.value ∙ c.put_units.ensures) c.settings_fault.ensures ∙ c.in_default-settings_fault.is)
-    c.parts_or_form_fault.ensures.fault c.parts_or_form_fault.ensures.valid c.parts_or_form_fault.ensures.waitable
+    let frame = sym c.frame_fault.ensures ∙ c.in_default.is in
+    let good = told_good b c.read_all_drives.ensures.value c.as_slice.ensures.value
+    (c.as_slice-2.ensures.value ∙ c.put_units.ensures) c.settings_fault.ensures ∙ c.in_default-settings_fault.is in
+    let told = c.parts_or_form_fault.ensures in
+    record {
+      value = parted c.args.number c.args.picker.now read frame good told.fault;
+      saved = saved_if c.args.number c.args.picker.now read frame good told.fault told.valid told.waitable;
+    }
