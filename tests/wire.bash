@@ -210,6 +210,9 @@ short_messages() {
         wire_breaks 'controller: status' 'ABORT 1 of unit 0' "send $(packet 15 1 0 1 0)" "$(aborted 1 0 0)" &&
         wire_breaks 'controller: status' 'SET CONTROLLER CHARACTERISTICS 1 of unit 0' "send $(packet 13 1 0 4 0)" \
             "end $(packet 28 1 0 132 0)" &&
+        wire_breaks 'controller: status' 'command of an unknown opcode 1 of unit 0' "send $(packet 31 1 0 20 0)" \
+            "end $(packet 12 1 0 148 0)" &&
+        wire_is_right '2 1 0 1 0' '' "send $(packet 32 1 0 20 0)" "end $(packet 12 1 0 148 0)" &&
         wire_is_right '2 1 0 1 0' '' "send $(packet 31 1 0 33 0)" "$(moved 1 1 0)" &&
         wire_is_right '2 1 0 1 0' '' "send $(packet 14 1 0 4 0)" "end $(packet 28 1 0 132 0)" &&
         wire_is_right '2 1 0 1 0' '' "send $(packet 12 1 0 47 0)" "end $(packet 12 1 0 175 0)"
@@ -333,10 +336,71 @@ figures_of_another_unit() {
             "$(poll 4 1)" "$(polled 4 1 5)"
 }
 
+# A poll that comes sooner than the controller timeout after the last one is the host's haste, if the log tells that
+# timeout and both times: any figure is right, and it isn't compared with a later one.
+hasty_polls() {
+    local set=("send $(packet 32 9 0 4 0)" "end $(packet 28 9 0 132 0 0 60 7 5)") read breaks
+    read=("@0.5 $(reading 1)" "@1.000000001 $(poll 2 1)" "$(polled 2 1 5)")
+    breaks=(wire_breaks 'controller: figure' 'GET COMMAND STATUS 3 of unit 0')
+    local is_right=(wire_is_right '7 4 2 3 0' 'outstanding: READ 1 of unit 0')
+    "${is_right[@]}" "${set[@]}" "${read[@]}" "@61 $(poll 3 1)" "$(polled 3 1 5)" &&
+        "${is_right[@]}" "${set[@]}" "${read[@]}" "@1.0 $(poll 3 1)" "$(polled 3 1 6)" &&
+        "${breaks[@]}" "${set[@]}" "${read[@]}" "@61.000000001 $(poll 3 1)" "$(polled 3 1 5)" &&
+        "${breaks[@]}" "${set[@]}" "${read[@]}" "@61.1 $(poll 3 1)" "$(polled 3 1 6)" &&
+        "${breaks[@]}" "${read[@]}" "@2 $(poll 3 1)" "$(polled 3 1 5)" &&
+        "${breaks[@]}" "${set[@]}" "${read[@]}" "$(poll 3 1)" "$(polled 3 1 5)" &&
+        "${breaks[@]}" "${set[@]}" "${read[@]/@1.000000001 /}" "@2 $(poll 3 1)" "$(polled 3 1 5)" || return
+    wire_is_right '9 5 3 4 0' 'outstanding: READ 1 of unit 0' "${set[@]}" "${read[@]}" "@30 $(poll 3 1)" "$(polled 3 1 2)" \
+        "@70 $(poll 4 1)" "$(polled 4 1 4)" &&
+        wire_breaks 'controller: figure' 'GET COMMAND STATUS 4 of unit 0' "${set[@]}" "${read[@]}" "@30 $(poll 3 1)" \
+            "$(polled 3 1 9)" "@70 $(poll 4 1)" "$(polled 4 1 5)"
+}
+
+# The timeout is that which was told last, by either host's command, and none is known once the controller was
+# initialised.
+told_timeouts() {
+    local set="send $(packet 32 9 0 4 0)" read breaks right
+    read=("@1 $(reading 1)" "@1 $(poll 2 1)" "$(polled 2 1 5)" "@30 $(poll 3 1)" "$(polled 3 1 5)")
+    breaks=(wire_breaks 'controller: figure' 'GET COMMAND STATUS 3 of unit 0') right='outstanding: READ 1 of unit 0'
+    "${breaks[@]}" "$set" "end $(packet 28 9 0 132 0 0 0 7 5)" "${read[@]}" &&
+        "${breaks[@]}" "$set" "end $(packet 28 9 0 132 0 0 29 7 5)" "${read[@]}" &&
+        wire_is_right '7 4 2 3 0' "$right" "$set" "end $(packet 28 9 0 132 0 0 30 7 5)" "${read[@]}" &&
+        wire_is_right '7 4 2 3 0' "$right" "second $set" "second end $(packet 28 9 0 132 0 0 60 7 5)" "${read[@]}" &&
+        "${breaks[@]}" "$set" "end $(packet 28 9 0 132 0 0 60 7 5)" "$set" "end $(packet 28 9 0 132 0 0 29 7 5)" "${read[@]}" &&
+        wire_is_right '9 5 2 4 0' "$right" "$set" "end $(packet 28 9 0 132 0 0 60 7 5)" "$set" "end $(packet 28 9 0 132 3073)" \
+            "${read[@]}" &&
+        "${breaks[@]}" "$set" "end $(packet 28 9 0 132 0 0 60 7 5)" reset "${read[@]}"
+}
+
+# A time has seconds of up to ten digits, and then maybe a point with one to nine. Any other word tells none.
+times_of_lines() {
+    local set=("send $(packet 32 9 0 4 0)" "end $(packet 28 9 0 132 0 0 60 7 5)") word
+    local read=("$(reading 1)" "@4294967290.5 $(poll 2 1)" "$(polled 2 1 5)")
+    for word in @4294967290.500000001 @4294967295 @4294967290.9 @0; do
+        wire_is_right '7 4 2 3 0' 'outstanding: READ 1 of unit 0' "${set[@]}" "${read[@]}" "$word $(poll 3 1)" "$(polled 3 1 5)" ||
+            return
+    done
+    for word in @ @. @4294967291. @.5 @4294967296 @04294967291 @4294967291.1234567890 @4294967291.5.5 @4294967291,5 @12:30; do
+        wire_breaks 'controller: figure' 'GET COMMAND STATUS 3 of unit 0' "${set[@]}" "${read[@]}" "$word $(poll 3 1)" \
+            "$(polled 3 1 5)" || return
+    done
+}
+
 byte_counts() {
     wire_breaks 'controller: byte count' 'READ 1 of unit 0' "$(reading 1)" "$(moved 1 0 512)" &&
         wire_breaks 'controller: byte count' 'READ 1 of unit 0' "$(reading 1)" "$(moved 1 8 1025)" &&
         wire_is_right '2 1 0 1 0' '' "$(reading 1)" "$(moved 1 232 512)"
+}
+
+# Those of a COMPARE CONTROLLER DATA are counted if its end tells a number.
+compared_bytes() {
+    local send end who='command of an unknown opcode 1 of unit 0'
+    send="send $(packet 32 1 0 17 0 1024)"
+    wire_breaks 'controller: byte count' "$who" "$send" "end $(packet 32 1 0 145 0 512)" &&
+        wire_breaks 'controller: byte count' "$who" "$send" "end $(packet 16 1 0 145 7 1025)" || return
+    for end in "$(packet 12 1 0 145 0)" "$(packet 15 1 0 145 0)" "$(packet 32 1 0 145 0 1024)" "$(packet 32 1 0 145 7 512)"; do
+        wire_is_right '2 1 0 1 0' '' "$send" "end $end" || return
+    done
 }
 
 # Ends of a unit's ONLINE, SET UNIT CHARACTERISTICS and GET UNIT STATUS: each with an identifier, a media type, and the size

@@ -73,8 +73,8 @@ impl<A: Allocator> Hearing<A> {
         ensures resets { self.new.resets ≡ self.old.resets }
     {
         match request {
-            Request::Send(connection, command) => {
-                self.send(*connection, write_command(command).as_slice());
+            Request::Send(connection, valid) => {
+                self.send(*connection, write_command(&valid.command).as_slice());
             }
             Request::Packet(connection, digits) => {
                 self.send(*connection, bytes_in(digits).as_slice());

@@ -252,8 +252,8 @@ impl<A: Allocator> Judge<A> {
             ≡ self.old.reporter.count + length (events_of request.now)) }
     {
         match request {
-            Request::Send(connection, command) => {
-                self.send(*connection, write_command(command).as_slice())
+            Request::Send(connection, valid) => {
+                self.send(*connection, write_command(&valid.command).as_slice())
             }
             Request::Packet(connection, digits) => {
                 self.send(*connection, bytes_in(digits).as_slice())

@@ -1,5 +1,5 @@
--- Lists of outstanding commands that differ only in what was told of them, and in what is asked of polls, keep the same
--- rules.
+-- Lists of outstanding commands that differ only in times, in what was told of them, and in what polls ask, keep the
+-- same rules.
 use Rattle.std.proofs.Common.{◌≡◌, ℕ, zero, suc, ◌+◌, Bool, cond, not, ◌||◌, List, [], ◌∷◌, length, get_or, take, drop, refl, ap, sym, ◌∙◌, Some, None}
 use Rattle.std.specs.Prelude.{count_by, nat_lt}
 use Rattle.std.specs.List.{list_any, position}
@@ -8,9 +8,9 @@ use Rattle.std.specs.List.{position_or_len}
 use Rattle.mscp_wire.specs.declared.sent.Asked.TheVariants.{Nothing}
 use Rattle.mscp_wire.specs.declared.sent.Sent.{Sent}
 
--- a command, without what was told of it and what it asks
+-- a command, without what was told of it, what it asks, and times
 abbrev pub bare : Sent → Sent
-bare s = record s { told = None; asked = Nothing }
+bare s = record s { time = None; told = None; polled = None; asked = Nothing }
 
 abbrev pub Alike : List Sent → List Sent → Type 0
 Alike [] [] = Unit {0}

@@ -1,5 +1,5 @@
 -- What the ends that a controller makes say of the states of their units.
-use Rattle.mscp_controller.proofs.Basics.{◌≡◌, ◌≢◌, ⊎_elim, ℕ, ◌≤◌, Bool, true, false, not, ◌&&◌, ◌||◌, refl, ap, sym, ◌∙◌, arith, if◌then◌else◌, nat_eq, Option, Some, None, is_some, true≢false, false≢true, Command, Order, Block, Settings, Shape, unit_found, fault_of, is_queued, queued_open, own_end, aborted_end, some_same, state_after}
+use Rattle.mscp_controller.proofs.Basics.{◌≡◌, ◌≢◌, ⊎_elim, ℕ, ◌≤◌, Bool, true, false, ◌&&◌, ◌||◌, refl, ap, sym, ◌∙◌, arith, if◌then◌else◌, nat_eq, Option, Some, None, is_some, true≢false, false≢true, Command, Order, Block, Settings, Shape, unit_found, fault_of, is_queued, queued_open, own_end, aborted_end, some_same, state_after}
 use Rattle.std.proofs.lemmas.Bool.{and_parts, eqb-true}
 use Rattle.std.specs.Prelude.{◌/◌, ◌%◌, bit_or}
 use Rattle.mscp_packet.specs.Opcodes.{move_byte}

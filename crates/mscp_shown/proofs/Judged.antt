@@ -7,7 +7,7 @@ use Rattle.std.proofs.lemmas.List.Sums.{fold_push}
 use Rattle.mscp_queue.proofs.Lists.{every_from, every_weaker, pairs_append}
 use Rattle.mscp_queue.proofs.Placed.{find_none}
 use Rattle.mscp_wire.specs.Wire as wire
-use Rattle.mscp_wire.specs.Wire.{History, IsRightMessage, answer_by, command_at, has_credit, is_below, is_immediate, is_named, is_polled, limit_of, moment_at, place_of, polled_by, same_connection, sent_by}
+use Rattle.mscp_wire.specs.Wire.{History, IsRightMessage, Standing, answer_by, command_at, has_credit, is_below, is_immediate, is_named, is_polled, limit_of, moment_at, place_of, polled_by, same_connection, sent_by}
 use Rattle.mscp_wire.specs.declared.answer.Answer.{Answer}
 use Rattle.mscp_wire.specs.declared.moment.Moment.{Moment}
 use Rattle.mscp_wire.specs.declared.moment.Moment.TheVariants as moments
@@ -93,13 +93,13 @@ module _ (credits : Option ℕ) (xs ys : List Sent) (h : State xs ys) where
     credit = sym (credit_same credits s) ∙ r.credit;
   }
 
-  sent_kept : (b : List ℕ) (s : Sent) → IsRightMessage credits xs b s
-      → State (xs ++ s ∷ []) (ys ++ wire.asking ys s ∷ [])
-  sent_kept b s r =
+  sent_kept : (timeout time : Option ℕ) (b : List ℕ) (s : Sent) → IsRightMessage credits xs b s
+      → State (xs ++ s ∷ []) (ys ++ wire.asking timeout ys (wire.timed time s) ∷ [])
+  sent_kept timeout time b s r =
       let q = is_named s.connection s.reference in
       let none : list_any q xs ≡ false = isnt (list_any q xs) r.number in
       record {
-        link = linked_sent xs ys s h.link h.alone;
+        link = linked_sent timeout time xs ys s h.link h.alone;
         alone = pairs_append (λ x y. is_named x.connection x.reference y ≡ false) xs s h.alone
             (every_weaker (λ x. q x ≡ false) (λ x. is_named x.connection x.reference s ≡ false)
             (λ x k. named_turned s x k) xs (every_none q xs none));
@@ -283,14 +283,14 @@ module _ (xs ys : List Sent) (h : State xs ys) (u : Seen) (b : List ℕ) (e : An
   }
 
 -- ---- a moment
-step : (credits : Option ℕ) (xs ys : List Sent) (u : Seen) (m : Moment) → State xs ys
+step : (credits timeout : Option ℕ) (xs ys : List Sent) (u : Seen) (m : Moment) → State xs ys
     → strict.IsRightAfter credits xs u m → strict.IsStated u m
-    → wire.IsRightAfter credits ys u m × State (strict.after xs m) (wire.after ys m)
-step credits xs ys u (moments.Message via b) h r stated = (
+    → wire.IsRightAfter credits ys u m × State (strict.after xs m) (wire.after timeout ys m)
+step credits timeout xs ys u (moments.Message via b time) h r stated = (
   sent_right credits xs ys h b.items (sent_by via b.items) r,
-  sent_kept credits xs ys h b.items (sent_by via b.items) r,
+  sent_kept credits xs ys h timeout time b.items (sent_by via b.items) r,
 )
-step credits xs ys u (moments.End via b) h r stated =
+step credits timeout xs ys u (moments.End via b) h r stated =
     let e = answer_by via b.items in
     let right = end_right xs ys h u b.items e r.0 r.1 stated.0 stated.1 in (
       (r.0, right),
@@ -298,7 +298,7 @@ step credits xs ys u (moments.End via b) h r stated =
           (subst (λ o. State (strict.after_end xs e (Some r.0)) (wire.after_end ys e o)) (sym right.outstanding)
           (end_kept xs ys h u b.items e r.0 r.1)),
     )
-step credits xs ys u moments.Reset h r stated = (tt, record { link = tt; alone = tt })
+step credits timeout xs ys u moments.Reset h r stated = (tt, record { link = tt; alone = tt })
 
 states : (credits : Option ℕ) (h : History) → strict.AreRight credits h → strict.AreStated h → (n : ℕ) → n ≤ length h
     → State (strict.outstanding (take n h)) (wire.outstanding (take n h))
@@ -307,18 +307,19 @@ states credits h r d (suc n) l =
     let low : n < length h = omega (arith, l) in
     let before = take n h in
     let m = moment_at h n in
-    let more = (step credits (strict.outstanding before) (wire.outstanding before)
+    let more = (step credits (wire.timeout before) (strict.outstanding before) (wire.outstanding before)
     (wire.seen_of (wire.told before) (wire.controller before) m)
     m (states credits h r d n (omega (arith, l))) (r n low) (d n low)).1 in
     subst (λ t. State (strict.outstanding t) (wire.outstanding t)) (sym (more_taken h n low))
     (subst (λ xs. State xs (wire.outstanding (before ++ m ∷ []))) (sym (fold_push strict.after [] before m))
-    (subst (λ ys. State (strict.after (strict.outstanding before) m) ys) (sym (fold_push wire.after [] before m)) more))
+    (subst (λ (s : Standing). State (strict.after (strict.outstanding before) m) s.commands)
+    (sym (fold_push wire.standing_after wire.standing_first before m)) more))
 
 pub lenient : (credits : Option ℕ) (h : History) → strict.AreRight credits h → strict.AreStated h
     → wire.AreRight credits h
 lenient credits h r d i l =
     let before = take i h in
-    (step credits (strict.outstanding before) (wire.outstanding before)
+    (step credits (wire.timeout before) (strict.outstanding before) (wire.outstanding before)
     (wire.seen_of (wire.told before) (wire.controller before) (moment_at h i)) (moment_at h i)
     (states credits h r d i (omega (arith, l)))
     (r i l) (d i l)).0

@@ -1,7 +1,7 @@
 -- An end that suits what a command asks for keeps the rules that look at that command alone.
 use Rattle.std.proofs.Common.{◌≡◌, ◌≢◌, ◌⊎◌, inl, inr, ⊎_elim, ℕ, ◌+◌, ◌/◌, ◌%◌, ◌<◌, ◌≤◌, Bool, true, false, not, ◌&&◌, ◌||◌, refl, ap, sym, ◌∙◌, subst, arith, Option, Some, None}
 use Rattle.std.proofs.lemmas.Bool.{cases_lt, eq-eqb, eqb-true, le-leb, lt-ltb}
-use Rattle.std.specs.Prelude.{bit_or, if◌then◌else◌, nat_eq, nat_le, nat_lt}
+use Rattle.std.specs.Prelude.{bit_or, is_some, if◌then◌else◌, nat_eq, nat_le, nat_lt}
 use Rattle.mscp_packet.specs.Ends.{refused_body}
 use Rattle.mscp_packet.specs.Opcodes.{move_byte, row_of}
 use Rattle.mscp_packet.specs.declared.class.Opcode.{Opcode}
@@ -12,7 +12,7 @@ use Rattle.mscp_packet.specs.declared.command.Order.TheVariants as orders
 use Rattle.mscp_packet.specs.declared.end.EndBody.{EndBody}
 use Rattle.mscp_packet.specs.declared.end.EndBody.TheVariants as bodies
 use Rattle.mscp_queue.specs.Orders.{endcode}
-use Rattle.mscp_wire.specs.Wire.{count_of, has_code, has_count, has_endcode, has_status, is_about, is_about_another, is_it, is_known, is_plain, is_refused, is_required, is_short, is_transfer, is_unknown, is_whole, least_message, may_have, moves, names_unit, other_of, points_into, status_code, succeeds, was_online}
+use Rattle.mscp_wire.specs.Wire.{count_of, is_counted, has_code, has_count, has_endcode, has_status, is_about, is_about_another, is_it, is_known, is_plain, is_refused, is_required, is_short, is_transfer, is_unknown, is_whole, least_message, may_have, moves, names_unit, other_of, points_into, status_code, succeeds, was_online}
 use Rattle.mscp_wire.specs.declared.answer.Answer.{Answer}
 use Rattle.mscp_wire.specs.declared.sent.Sent.{Sent}
 use Rattle.mscp_shown.proofs.Reading.{BodyReads}
@@ -78,6 +78,9 @@ move_of_none kind = grind arith
 move_is : (kind : MoveKind) → is_transfer (move_byte kind) ≡ true
 move_is kind = grind arith
 
+move_apart : (kind : MoveKind) → nat_eq (move_byte kind) 17 ≡ false
+move_apart kind = grind arith
+
 move_top : (kind : MoveKind) → not (nat_eq (bit_or (move_byte kind) 0x80) 0x80) ≡ true
 move_top kind = grind arith
 
@@ -109,6 +112,9 @@ module _ (s : Sent) (a : Answer) where
   by_nobody : (P : Option ℕ → Bool) (k about refused : Bool) → k ≡ false → P None ≡ true
       → P (other_when k about refused s.parameter) ≡ true
   by_nobody P k about refused e none = ap (λ b. P (other_when b about refused s.parameter)) e ∙ none
+
+  or_false : (b : Bool) → (b || false) ≡ b
+  or_false b = grind arith
 
   may_too : (b c : Bool) → c ≡ true → (b || c) ≡ true
   may_too b c h = grind arith
@@ -205,12 +211,14 @@ module _ (s : Sent) (a : Answer) where
   -- an opcode that is known
   known : (op : ℕ) → s.opcode ≡ op → a.unit ≡ s.unit → is_known a ≡ true → nat_eq a.code (op + 0x80) ≡ true
       → may_have op (status_code a) ≡ true → IsApt s a → succeeds a (asked op s) ≡ true
-      → is_about a (asked op s) ≡ true → has_count a (wanted op s) ≡ true → Keeps s a
-  known op e unit k code status apt success about count =
+      → is_about a (asked op s) ≡ true → has_count a (wanted op s) ≡ true → nat_eq op 17 ≡ false → Keeps s a
+  known op e unit k code status apt success about count apart =
       let other : asked s.opcode s ≡ asked op s = ap (λ o. asked o s) e in
       let whole : count_of s a ≡ wanted op s =
-      ap (λ b. if b && is_transfer s.opcode then s.parameter else None) k
-      ∙ ap (λ o. if is_transfer o then s.parameter else None) e in
+      ap (λ b. if b && is_counted s.opcode a.parameter then s.parameter else None) k
+      ∙ (ap (λ o. if is_counted o a.parameter then s.parameter else None) e
+      ∙ (ap (λ b. if is_transfer op || (b && is_some a.parameter) then s.parameter else None) apart
+      ∙ ap (λ b. if b then s.parameter else None) (or_false (is_transfer op)))) in
       record {
         unit = its_unit unit;
         endcode = ap (λ b. if b then nat_eq a.code (s.opcode + 0x80) else not (is_required s.opcode)) k
@@ -238,31 +246,33 @@ module _ (s : Sent) (a : Answer) where
     success =
         by_nobody (succeeds a) (is_known a) (is_about_another s.opcode) (is_refused s a) k refl;
     about = by_nobody (is_about a) (is_known a) (is_about_another s.opcode) (is_refused s a) k refl;
-    count = ap (λ b. has_count a (if b && is_transfer s.opcode then s.parameter else None)) k;
+    count = ap (λ b. has_count a (if b && is_counted s.opcode a.parameter then s.parameter else None)) k;
   }
 
   -- an opcode that is about no command and moves nothing
   plain : (op code : ℕ) → s.opcode ≡ op → a.unit ≡ s.unit → a.code ≡ code → nat_eq code 0x80 ≡ false
       → nat_eq code (op + 0x80) ≡ true → is_about_another op ≡ false → is_transfer op ≡ false
+      → nat_eq op 17 ≡ false
       → may_have op (status_code a) ≡ true → IsApt s a → Keeps s a
-  plain op code e unit c k right none moves_none status apt =
+  plain op code e unit c k right none moves_none apart status apt =
       let o : asked op s ≡ None = ap (λ b. if b then s.parameter else None) none in
       let w : wanted op s ≡ None = ap (λ b. if b then s.parameter else None) moves_none in
       known op e unit (ap (λ n. not (nat_eq n 0x80)) c ∙ ap not k) (ap (λ n. nat_eq n (op + 0x80)) c ∙ right) status
-      apt (ap (succeeds a) o) (ap (is_about a) o) (ap (has_count a) w)
+      apt (ap (succeeds a) o) (ap (is_about a) o) (ap (has_count a) w) apart
 
   -- one about another command
   about_other : (op code other : ℕ) → s.opcode ≡ op → a.unit ≡ s.unit → a.code ≡ code → nat_eq code 0x80 ≡ false
       → nat_eq code (op + 0x80) ≡ true → is_about_another op ≡ true → is_transfer op ≡ false
+      → nat_eq op 17 ≡ false
       → s.parameter ≡ Some other → a.parameter ≡ Some other → may_have op 0 ≡ true → status_code a ≡ 0 → IsApt s a
       → Keeps s a
-  about_other op code other e unit c k right some moves_none p q status zero apt =
+  about_other op code other e unit c k right some moves_none apart p q status zero apt =
       let o : asked op s ≡ Some other = ap (λ b. if b then s.parameter else None) some ∙ p in
       let w : wanted op s ≡ None = ap (λ b. if b then s.parameter else None) moves_none in
       known op e unit (ap (λ n. not (nat_eq n 0x80)) c ∙ ap not k) (ap (λ n. nat_eq n (op + 0x80)) c ∙ right)
       (ap (may_have op) zero ∙ status) apt (ap (succeeds a) o ∙ eq-eqb (status_code a) 0 zero)
       (ap (is_about a) o ∙ (ap (λ f. is_it f other) q ∙ eq-eqb other other refl))
-      (ap (has_count a) w)
+      (ap (has_count a) w) apart
 
   moved_right : (moved count code : ℕ) → moved ≤ count → (code ≡ 0 → moved ≡ count)
       → (nat_le moved count && (nat_eq moved count || not (nat_eq code 0))) ≡ true
@@ -291,6 +301,7 @@ module _ (s : Sent) (a : Answer) where
       (ap (λ n. nat_eq n (op + 0x80)) c ∙ move_code kind) status apt
       (ap (succeeds a) o) (ap (is_about a) o)
       (ap (has_count a) w ∙ ap (λ f. moves a f count) q ∙ moved_right moved count (status_code a) few all)
+      (move_apart kind)
 
   -- a command that is shorter than its opcode asks
   short_about : (o : Opcode) (code : ℕ) → s.opcode ≡ (row_of o).byte → a.unit ≡ s.unit → status_code a ≡ 1
@@ -304,13 +315,16 @@ module _ (s : Sent) (a : Answer) where
         | false ↦ λ h. refl
       ] refl in
       known op e unit (ap (λ n. not (nat_eq n 0x80)) c ∙ top o) (ap (λ n. nat_eq n (op + 0x80)) c ∙ right o)
-      (ap (may_have op) one) (short_apt short one) (ap (succeeds a) nobody) (ap (is_about a) nobody) count
+      (ap (may_have op) one) (short_apt short one) (ap (succeeds a) nobody) (ap (is_about a) nobody) count (apart o)
     where
       top : (o : Opcode) → not (nat_eq (bit_or (row_of o).byte 0x80) 0x80) ≡ true
       top o = grind arith
 
       right : (o : Opcode) → nat_eq (bit_or (row_of o).byte 0x80) ((row_of o).byte + 0x80) ≡ true
       right o = grind arith
+
+      apart : (o : Opcode) → nat_eq (row_of o).byte 17 ≡ false
+      apart o = grind arith
 
   -- none of its bytes were moved
   none_moved : (o : Opcode) → status_code a ≡ 1
@@ -363,25 +377,26 @@ module _ (s : Sent) (a : Answer) where
   pub keeps : (o : Order) (status : ℕ) (body : EndBody) → Says o s → IsLong o s → Suits o status body
       → IsFine o status → a.unit ≡ s.unit → a.code ≡ endcode o → a.status ≡ status → BodyReads body a → Keeps s a
   keeps (orders.Abort other) status body says long suits fine unit c st q =
-      about_other 1 129 other says.0 unit c refl refl refl refl says.1 (subst (λ b. BodyReads b a) suits.1 q) refl
+      about_other 1 129 other says.0 unit c refl refl refl refl refl says.1 (subst (λ b. BodyReads b a) suits.1 q) refl
       (ap (λ n. n % 32) st ∙ suits.0) (apt_never 16 status st long fine)
   keeps (orders.Status other) status body says long suits fine unit c st q =
-      about_other 2 130 other says.0 unit c refl refl refl refl says.1 (subst (λ b. BodyReads b a) suits.2 q).0 refl
+      about_other 2 130 other says.0 unit c refl refl refl refl refl says.1 (subst (λ b. BodyReads b a) suits.2 q).0
+      refl
       (ap (λ n. n % 32) st ∙ suits.0) (apt_never 16 status st long fine)
   keeps orders.UnitStatus status body says long suits fine unit c st q =
-      plain 3 131 says unit c refl refl refl refl (ap (λ n. may_have 3 (n % 32)) st ∙ suits)
+      plain 3 131 says unit c refl refl refl refl refl (ap (λ n. may_have 3 (n % 32)) st ∙ suits)
       (apt_never 12 status st long fine)
   keeps (orders.SetController version) status body says long suits fine unit c st q =
-      plain 4 132 says unit c refl refl refl refl (ap (λ n. may_have 4 (n % 32)) st ∙ suits)
+      plain 4 132 says unit c refl refl refl refl refl (ap (λ n. may_have 4 (n % 32)) st ∙ suits)
       (apt_by 14 status st long fine)
   keeps orders.Available status body says long suits fine unit c st q =
-      plain 8 136 says unit c refl refl refl refl (ap (λ n. may_have 8 (n % 32)) st ∙ suits)
+      plain 8 136 says unit c refl refl refl refl refl (ap (λ n. may_have 8 (n % 32)) st ∙ suits)
       (apt_never 12 status st long fine)
   keeps orders.Online status body says long suits fine unit c st q =
-      plain 9 137 says unit c refl refl refl refl (ap (λ n. may_have 9 (n % 32)) st ∙ suits)
+      plain 9 137 says unit c refl refl refl refl refl (ap (λ n. may_have 9 (n % 32)) st ∙ suits)
       (long_apt 12 long.0 long.1 (inr says) (λ z. absurd (fine (ap (λ n. n % 32) (sym st) ∙ z))))
   keeps orders.SetUnit status body says long suits fine unit c st q =
-      plain 10 138 says unit c refl refl refl refl (ap (λ n. may_have 10 (n % 32)) st ∙ suits)
+      plain 10 138 says unit c refl refl refl refl refl (ap (λ n. may_have 10 (n % 32)) st ∙ suits)
       (apt_never 12 status st long fine)
   keeps (orders.Move kind count block) status body says long suits fine unit c st q =
       transfer kind suits.1 count says.0 unit c says.1 (subst (λ b. BodyReads b a) suits.2 q)

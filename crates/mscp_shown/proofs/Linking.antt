@@ -7,7 +7,7 @@ use Rattle.mscp_queue.proofs.Lists.{every_weaker}
 use Rattle.mscp_queue.specs.Pairs.{Pairs}
 use Rattle.mscp_drive.specs.declared.connection.Connection.{Connection}
 use Rattle.mscp_drive.specs.declared.connection.Connection.TheVariants.{First}
-use Rattle.mscp_wire.specs.Wire.{asked_about, asked_by, asking, has_number, is_below, is_immediate, is_named, is_oldest, same_connection, sent_by, waits_on}
+use Rattle.mscp_wire.specs.Wire.{asked_about, asked_by, asking, has_number, is_below, is_hasty, is_immediate, is_named, is_oldest, may_ask, same_connection, sent_by, timed, waits_on}
 use Rattle.mscp_wire.specs.declared.sent.Asked.{Asked}
 use Rattle.mscp_wire.specs.declared.sent.Asked.TheVariants.{Gone, Nothing, Oldest}
 use Rattle.mscp_wire.specs.declared.sent.Sent.{Sent}
@@ -176,12 +176,16 @@ some_number m n h = cc
 never : (b : Bool) → (b && false) ≡ false
 never b = grind arith
 
-module _ (xs ys : List Sent) (z : Sent) (link : Linked [] xs ys) (alone : Alone xs) where
+module _ (timeout time : Option ℕ) (xs ys : List Sent) (s : Sent) (link : Linked [] xs ys) (alone : Alone xs) where
+  -- the command with its time
+  abbrev z : Sent
+  z = timed time s
+
   abbrev New : Asked → Type 0
-  New = AsksOf xs (asking ys z)
+  New = AsksOf xs (asking timeout ys z)
 
   about_named : (other : ℕ) (o : Option Sent) → nat_eq z.opcode 2 ≡ true → z.parameter ≡ Some other
-      → nat_eq other z.reference ≡ false → find (is_named z.connection other) ys ≡ o → New (asked_about ys z o)
+      → nat_eq other z.reference ≡ false → find (is_named z.connection other) ys ≡ o → New (asked_about timeout ys z o)
   about_named other None poll p apart f = λ n q.
       let same : other ≡ n = some_number other n (sym p ∙ q) in
       let none : list_any (is_named z.connection other) xs ≡ false =
@@ -193,14 +197,14 @@ module _ (xs ys : List Sent) (z : Sent) (link : Linked [] xs ys) (alone : Alone 
         subst (λ k. list_any (is_named z.connection k) xs ≡ false) same none,
       )
   about_named other (Some x) poll p apart f =
-      let fits = nat_eq x.unit z.unit && is_oldest ys x in
+      let fits = may_ask timeout ys z x in
       let P : Bool → Type 0 = λ b. fits ≡ b → New (if b then Oldest x.told else Nothing) in
       elim fits as P [
         | true ↦ λ e n q.
             let same : other ≡ n = some_number other n (sym p ∙ q) in
             let oldest = and_parts (not (is_immediate x.opcode))
             (has_number (find (waits_on x.connection) ys) x.reference)
-            (and_parts (nat_eq x.unit z.unit) (is_oldest ys x) e).1 in
+            (second (nat_eq x.unit z.unit) (is_oldest ys x) (not (is_hasty timeout x.polled z.time)) e) in
             let low = found_low [] xs ys z.connection other x link alone f (waits (is_immediate x.opcode) oldest.0) in (
               (
                 ap (λ b. same_connection z.connection z.connection && b)
@@ -217,25 +221,29 @@ module _ (xs ys : List Sent) (z : Sent) (link : Linked [] xs ys) (alone : Alone 
       waits : (b : Bool) → not b ≡ true → b ≡ false
       waits b h = grind arith
 
-  about_parameter : (p : Option ℕ) → nat_eq z.opcode 2 ≡ true → z.parameter ≡ p → New (asked_by ys z p)
+      second : (a b c : Bool) → (a && b && c) ≡ true → b ≡ true
+      second a b c h = grind arith
+
+  about_parameter : (p : Option ℕ) → nat_eq z.opcode 2 ≡ true → z.parameter ≡ p → New (asked_by timeout ys z p)
   about_parameter None poll e = tt
   about_parameter (Some other) poll e =
       let P : Bool → Type 0 = λ b. nat_eq other z.reference ≡ b
-      → New (if b then Nothing else asked_about ys z (find (is_named z.connection other) ys)) in
+      → New (if b then Nothing else asked_about timeout ys z (find (is_named z.connection other) ys)) in
       elim (nat_eq other z.reference) as P [
         | true ↦ λ q. tt
         | false ↦ λ q. about_named other (find (is_named z.connection other) ys) poll e q refl
       ] refl
 
-  pub asks_new : AsksOf xs (asking ys z) (asking ys z).asked
+  pub asks_new : AsksOf xs (asking timeout ys z) (asking timeout ys z).asked
   asks_new =
       let P : Bool → Type 0 = λ b. nat_eq z.opcode 2 ≡ b
-      → New (if b then asked_by ys z z.parameter else Nothing) in
+      → New (if b then asked_by timeout ys z z.parameter else Nothing) in
       elim (nat_eq z.opcode 2) as P [
         | true ↦ λ q. about_parameter z.parameter q refl
         | false ↦ λ q. tt
       ] refl
 
-  pub linked_sent : Linked [] (xs ++ z ∷ []) (ys ++ asking ys z ∷ [])
+  pub linked_sent : Linked [] (xs ++ s ∷ []) (ys ++ asking timeout ys z ∷ [])
   linked_sent =
-      linked_push [] xs ys z (asking ys z) link (record { alike = refl; lower = λ h. lower_same z.told }) asks_new
+      linked_push [] xs ys s (asking timeout ys z) link (record { alike = refl; lower = λ h. lower_same s.told })
+      asks_new

@@ -1,5 +1,5 @@
 -- Each moment of a legal trace keeps what its parts keep, so that the whole trace does.
-use Rattle.mscp_controller.proofs.Basics.{◌≡◌, ℕ, All, zero, suc, ◌+◌, ◌<◌, ◌≤◌, true, [], ◌∷◌, ◌++◌, length, take, drop, refl, ap, sym, ◌∙◌, subst, arith, count_by, Option, Some, None, Ok, Err, AllByRecursion, recursion_from_All, Connection, End, IsOfKind, Settings, IsValid, Trace, Moment, moment, Service, takes, collect, ends, ends_at, untaken, waiting, every_append, every_parts, Event, Report, First, IsRight, IsLegal, ends_more, ArrayVec, Block, Command, Name, name, same_name, figure, figure_of, bound, find, is_queued, each_queued, waits_below, is_step, is_waiting, connection, reference, Bool, true, false, false≢true, if◌then◌else◌, append-nil, answer, arrival, arrives, command_of, one_side, same_connection}
+use Rattle.mscp_controller.proofs.Basics.{◌≡◌, ℕ, All, zero, suc, ◌+◌, ◌<◌, ◌≤◌, true, [], ◌∷◌, ◌++◌, length, take, drop, refl, ap, sym, ◌∙◌, subst, arith, count_by, Option, Some, None, Ok, Err, AllByRecursion, recursion_from_All, Connection, End, IsOfKind, Settings, IsValid, Trace, Moment, moment, takes, collect, ends, ends_at, untaken, waiting, every_append, every_parts, Event, Report, First, IsRight, IsLegal, ends_more, ArrayVec, Block, Command, Name, name, same_name, figure, figure_of, bound, find, is_queued, each_queued, waits_below, is_step, is_waiting, connection, reference, Bool, true, false, false≢true, if◌then◌else◌, append-nil, answer, arrival, arrives, command_of, one_side, same_connection}
 use Rattle.std.specs.Prelude.{◌^◌}
 use Rattle.mscp_controller.specs.Figures.{figure_found}
 use Rattle.mscp_controller.proofs.Promise.Progress.{progress}
@@ -72,16 +72,7 @@ module _ (c : Settings) (t : Trace) (k : Known c t)
       (λ via. refl)
   more (Event.Step block) (Entry.Stepped (Report.Served other reference unit lbn started seek ended)) may patient r =
       let report = Report.Served other reference unit lbn started seek ended in
-      let s : Service = record {
-        connection = other;
-        reference = reference;
-        unit = unit;
-        lbn = lbn;
-        started = started;
-        seek = seek;
-        ended = ended;
-      } in
-      served_more c t block k h s report refl r ended refl r.0 r.1 (fault_of block may) facts refl (λ via. refl)
+      served_more c t block k h _ report refl r ended refl r.0 r.1 (fault_of block may) facts refl (λ via. refl)
   more (Event.Take own) (Entry.Taken other None) may patient r =
       stills c t (Event.Take own, Entry.Taken other None) h k r refl (λ via p. (refl, refl)) (λ n. refl) refl
       (λ via. refl)
@@ -136,17 +127,8 @@ module _ (c : Settings) (t : Trace) (k : Known c t)
   stands_more (Event.Step block) (Entry.Stepped Report.Idle) may r =
       quiet_stands c t (Event.Step block, Entry.Stepped Report.Idle) k s refl refl (λ via. refl) (λ via. refl) refl
   stands_more (Event.Step block) (Entry.Stepped (Report.Served other reference unit lbn started seek ended)) may r =
-      let z : Service = record {
-        connection = other;
-        reference = reference;
-        unit = unit;
-        lbn = lbn;
-        started = started;
-        seek = seek;
-        ended = ended;
-      } in
       step_stands c t (Event.Step block, Entry.Stepped (Report.Served other reference unit lbn started seek ended)) k s
-      h.queued z block r.0 refl r.1 (fault_of block may) refl (λ via. refl) (λ via. refl) refl
+      h.queued _ block r.0 refl r.1 (fault_of block may) refl (λ via. refl) (λ via. refl) refl
   stands_more (Event.Take own) (Entry.Taken other None) may r =
       quiet_stands c t (Event.Take own, Entry.Taken other None) k s refl refl (λ via. refl) (λ via. refl) refl
   stands_more (Event.Take own) (Entry.Taken other (Some b)) may r =

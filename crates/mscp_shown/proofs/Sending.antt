@@ -65,7 +65,7 @@ module _ (c : Settings) (t : Trace) (own : Connection) (b : ArrayVec ℕ) (k : K
       → More c t (Event.Send own b, Entry.Sent own (Ok sent))
   sent_more sent h r opens owners orders heard fit =
       let z = arrives c own t b.items sent r in
-      shows_one c t (Event.Send own b, Entry.Sent own (Ok sent)) h (moments.Message own b) refl
+      shows_one c t (Event.Send own b, Entry.Sent own (Ok sent)) h (moments.Message own b None) refl
       (λ via p. tally_sent via own p (outstanding (shown t)) b.items
       ∙ ap (λ n. n + cond (wire.same_connection own via && p (num b.items 0 4)) 1 0) (h.tallied via p)
       ∙ ap (λ n. owed c via t p + n) (sym (sent_side via p)) ∙ sym (opens via p))

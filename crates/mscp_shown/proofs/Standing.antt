@@ -98,14 +98,14 @@ module _ (c : Settings) (t : Trace) (m : Moment) (known : Known c t) (h : Stands
   quiet_stands n = nothing_stands (still_online n)
 
   -- a message
-  pub message_stands : (own : Connection) (b : ArrayVec ℕ) → shown_by m.0 m.1 ≡ moments.Message own b ∷ []
+  pub message_stands : (own : Connection) (b : ArrayVec ℕ) → shown_by m.0 m.1 ≡ moments.Message own b None ∷ []
       → service_in m.1 ≡ None → ((via : Connection) → takes via m.1 ≡ false)
       → ((via : Connection) → AllByRecursion (λ (e : End).
       Effects (is_online t e.unit) (is_online t e.unit) e.code e.status) (ends_at c via t m))
       → (queues m.1 ≡ true → m.0 ≡ Event.Send own b) → Stands c t'
   unfolding command_of
   message_stands own b s n q effects last =
-      let w : Wired = moments.Message own b in
+      let w : Wired = moments.Message own b None in
       let is : shown t' ≡ shown t ++ w ∷ [] = shown_more t m ∙ ap (λ l. shown t ++ l) s in
       let then_told : (via : Connection) (unit : ℕ) → told (shown t ++ w ∷ []) via unit
       ≡ told_after_message via unit (told (shown t) via unit) (sent_by own b.items) =
@@ -155,12 +155,12 @@ module _ (c : Settings) (t : Trace) (m : Moment) (known : Known c t) (h : Stands
           → Says orders.Online (sent_by own b.items)
       of_event order e says = subst (λ o. Says o (sent_by own b.items)) e says
 
-      sent_shares : Shares (shown t ++ moments.Message own b ∷ []) (Event.Send own b, m.1)
+      sent_shares : Shares (shown t ++ moments.Message own b None ∷ []) (Event.Send own b, m.1)
       sent_shares o via e =
           let u = num b.items 4 2 in
-          ap (λ (z : Told). z.state) (told_push (shown t) (moments.Message own b) via u)
+          ap (λ (z : Told). z.state) (told_push (shown t) (moments.Message own b None) via u)
           ∙ ap (λ q. (if q then record (told (shown t) via u) { state = Shared } else told (shown t) via u).state)
           (brings_there via e (of_event (command_of b.items).order o (sent_says own b.items)))
 
-      new_shares : m.0 ≡ Event.Send own b → Shares (shown t ++ moments.Message own b ∷ []) m
-      new_shares e = subst (λ v. Shares (shown t ++ moments.Message own b ∷ []) (v, m.1)) (sym e) sent_shares
+      new_shares : m.0 ≡ Event.Send own b → Shares (shown t ++ moments.Message own b None ∷ []) m
+      new_shares e = subst (λ v. Shares (shown t ++ moments.Message own b None ∷ []) (v, m.1)) (sym e) sent_shares

@@ -24,7 +24,7 @@ after_end xs e (Some i) = map (hears e (polled_by (command_at xs i) e)) (take i 
 
 -- what is outstanding once a moment more came
 abbrev pub after : List Sent → Moment → List Sent
-after xs (moments.Message via b) = xs ++ sent_by via b.items ∷ []
+after xs (moments.Message via b time) = xs ++ sent_by via b.items ∷ []
 after xs (moments.End via b) = after_end xs (answer_by via b.items) (place_of xs (answer_by via b.items))
 after xs moments.Reset = []
 
@@ -61,7 +61,7 @@ pub record IsRightEnd (xs : List Sent) (was : Seen) (b : List ℕ) (e : Answer) 
 
 -- a moment is right, before which these are outstanding and this was told of its unit
 abbrev pub IsRightAfter : Option ℕ → List Sent → Seen → Moment → Type 0
-IsRightAfter credits xs unit (moments.Message via b) = IsRightMessage credits xs b.items (sent_by via b.items)
+IsRightAfter credits xs unit (moments.Message via b time) = IsRightMessage credits xs b.items (sent_by via b.items)
 IsRightAfter credits xs unit (moments.End via b) = (i : ℕ) × IsRightEnd xs unit b.items (answer_by via b.items) i
 IsRightAfter credits xs unit moments.Reset = Unit {0}
 

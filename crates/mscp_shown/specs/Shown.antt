@@ -2,7 +2,7 @@
 -- that is
 -- refused for want of a credit, for its size or for its number is none that a host may send. An end is there where its
 -- host takes it.
-use Rattle.std.specs.Prelude.{[], ◌∷◌, flat_map, Some, Ok}
+use Rattle.std.specs.Prelude.{[], ◌∷◌, flat_map, None, Some, Ok}
 use Rattle.mscp_drive.specs.declared.event.Event.{Event}
 use Rattle.mscp_drive.specs.declared.event.Event.TheVariants as events
 use Rattle.mscp_controller.specs.History.{Trace}
@@ -13,7 +13,7 @@ use Rattle.mscp_wire.specs.declared.moment.Moment.TheVariants as wire
 
 -- what an event and its answer show on the wire
 abbrev pub shown_by : Event → Entry → History
-shown_by (events.Send via b) (entries.Sent other (Ok sent)) = wire.Message via b ∷ []
+shown_by (events.Send via b) (entries.Sent other (Ok sent)) = wire.Message via b None ∷ []
 shown_by (events.Take via) (entries.Taken other (Some b)) = wire.End via b ∷ []
 shown_by event entry = []
 

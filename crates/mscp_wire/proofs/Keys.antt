@@ -1,5 +1,5 @@
 -- What is kept of units is what was told of them once an end or a command came.
-use Rattle.std.proofs.Common.{◌≡◌, ℕ, ◌+◌, ◌*◌, Bool, true, false, cond, not, ◌&&◌, refl, sym, ap, ◌∙◌, arith, if◌then◌else◌, Option, Some, None, Result, Ok, Err}
+use Rattle.std.proofs.Common.{◌≡◌, ℕ, Bool, true, false, cond, not, ◌&&◌, refl, ap, ◌∙◌, arith, if◌then◌else◌, Option, Some}
 use Rattle.std.specs.Prelude.{nat_eq}
 use Rattle.std.specs.Ordering.{is_eq, nat_cmp}
 use Rattle.std.proofs.lemmas.Bool.{eqb-true}
@@ -12,7 +12,7 @@ use Rattle.mscp_wire.specs.declared.answer.Answer.{Answer}
 use Rattle.mscp_wire.specs.declared.told.Told.{Told}
 
 -- ---- numbers of units of connections
-same_key : (a b : Connection) (m n : ℕ) → nat_eq (key a m) (key b n) ≡ (same_connection a b && nat_eq m n)
+pub same_key : (a b : Connection) (m n : ℕ) → nat_eq (key a m) (key b n) ≡ (same_connection a b && nat_eq m n)
 same_key First First m n = grind (arith, nat_tests)
 same_key First Second m n = grind (arith, nat_tests)
 same_key Second First m n = grind (arith, nat_tests)

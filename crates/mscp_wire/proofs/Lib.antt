@@ -5,3 +5,4 @@ pub mod Rights
 pub mod Passing
 pub mod Meaning
 pub mod Wrongs
+mod Names

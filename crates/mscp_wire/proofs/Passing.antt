@@ -9,12 +9,12 @@ use Rattle.mscp_reader.specs.declared.fault.Cause.{Cause}
 use Rattle.mscp_reader.specs.declared.fault.Cause.TheVariants as causes
 use Rattle.mscp_reader.specs.declared.fault.ReadFault.{ReadFault}
 use Rattle.mscp_reader.specs.declared.fault.ScriptFault.{ScriptFault}
-use Rattle.mscp_wire.specs.Wire.{History, after, broken, broken_by, controller, controller_after, outstanding, seen_of, told, told_after, told_nothing}
+use Rattle.mscp_wire.specs.Wire.{History, Standing, after, broken, broken_by, command_of, controller, controller_after, outstanding, seen_of, standing_after, standing_first, timeout, timeout_after, told, told_after, told_nothing}
 use Rattle.mscp_packet.specs.Number.{num}
 use Rattle.mscp_drive.specs.declared.connection.Connection.{Connection}
 use Rattle.mscp_wire.specs.declared.moment.Moment.TheVariants as moments
 use Rattle.mscp_wire.specs.declared.rule.Rule.{Rule}
-use Rattle.mscp_wire.specs.Log.{FailsLine, Log, after_line, after_lines, after_said, command_of, line_says, with_moment}
+use Rattle.mscp_wire.specs.Log.{FailsLine, Log, after_line, after_lines, after_said, line_says, with_moment}
 use Rattle.mscp_wire.specs.Totals.{totals_of}
 use Rattle.mscp_wire.specs.declared.line.Said.{Said}
 use Rattle.mscp_wire.specs.declared.line.Said.TheVariants as says
@@ -65,7 +65,7 @@ credits_late n c log t b p q h = grind (arith, nat_tests)
 -- the same was told of a moment's unit, and of the controller
 pub seen_same : (units : Connection → ℕ → Told) (known : Option ℕ) (h : History) (m : Moment) → AreTold units h
     → known ≡ controller h → seen_of units known m ≡ seen_of (told h) (controller h) m
-seen_same units known h (moments.Message via b) u k = refl
+seen_same units known h (moments.Message via b time) u k = refl
 seen_same units known h (moments.End via b) u k =
     ap (λ z. record { unit = z; controller = known }) (u via (num b.items 4 2))
     ∙ ap (λ z. record { unit = told h via (num b.items 4 2); controller = z }) k
@@ -76,6 +76,13 @@ pub controller_more : (h : History) (m : Moment) (old new : Option ℕ) → old 
     → new ≡ controller_after old m → new ≡ controller (h ++ m ∷ [])
 controller_more h m old new p q =
     q ∙ ap (λ o. controller_after o m) p ∙ sym (fold_push controller_after None h m)
+
+-- and its timeout
+pub timeout_more : (h : History) (m : Moment) (old new : Option ℕ) → old ≡ timeout h → new ≡ timeout_after old m
+    → new ≡ timeout (h ++ m ∷ [])
+timeout_more h m old new p q =
+    q ∙ ap (λ o. timeout_after o m) p
+    ∙ sym (ap (λ (s : Standing). s.timeout) (fold_push standing_after standing_first h m))
 
 -- what was told after one moment more
 pub told_more : (h : History) (m : Moment) (old new : Connection → ℕ → Told) → AreTold old h
@@ -98,17 +105,17 @@ refused n log m credits xs units known rule p q u w h =
     ∙ ap (λ o. broken credits xs o m) (sym (seen_same units known log.moments m u w)) ∙ sym h
 
 -- what is said of it
-pub told_wrong : (n : ℕ) (log : Log) (m : Moment) (credits : Option ℕ) (xs ys : List Sent)
+pub told_wrong : (n : ℕ) (log : Log) (m : Moment) (credits : Option ℕ) (xs : List Sent)
     (units : Connection → ℕ → Told) (known : Option ℕ) (rule : Rule) (command : Option Sent)
     → credits ≡ log.credits → xs ≡ outstanding log.moments → AreTold units log.moments
-    → known ≡ controller log.moments → Some rule ≡ broken credits xs (seen_of units known m) m → ys ≡ xs
-    → command ≡ command_of ys m
+    → known ≡ controller log.moments → Some rule ≡ broken credits xs (seen_of units known m) m
+    → command ≡ command_of xs m
     → with_moment n log m (broken_by log.credits log.moments m)
     ≡ Err (record { line = n; rule = rule; moment = m; command = command })
-told_wrong n log m credits xs ys units known rule command p q u w h e k =
+told_wrong n log m credits xs units known rule command p q u w h k =
     ap (with_moment n log m) (refused n log m credits xs units known rule p q u w h)
     ∙ ap (λ z. Err (record { line = n; rule = rule; moment = m; command = z }))
-    (sym (k ∙ ap (λ z. command_of z m) (e ∙ q)))
+    (sym (k ∙ ap (λ z. command_of z m) q))
 
 -- a moment that breaks no rule
 pub taken : (n : ℕ) (log : Log) (m : Moment) (credits : Option ℕ) (xs : List Sent)
@@ -123,9 +130,11 @@ taken n log m credits xs units known p q u w h =
     ∙ ap (λ o. broken credits xs o m) (sym (seen_same units known log.moments m u w)) ∙ sym h)
 
 -- what is outstanding after one moment more
-pub pushed : (h : History) (m : Moment) (xs ys : List Sent) → xs ≡ outstanding h → ys ≡ after xs m
-    → ys ≡ outstanding (h ++ m ∷ [])
-pushed h m xs ys p q = q ∙ ap (λ zs. after zs m) p ∙ sym (fold_push after [] h m)
+pub pushed : (h : History) (m : Moment) (known : Option ℕ) (xs ys : List Sent) → known ≡ timeout h
+    → xs ≡ outstanding h → ys ≡ after known xs m → ys ≡ outstanding (h ++ m ∷ [])
+pushed h m known xs ys k p q =
+    q ∙ ap (λ o. after o xs m) k ∙ ap (λ zs. after (timeout h) zs m) p
+    ∙ sym (ap (λ (s : Standing). s.commands) (fold_push standing_after standing_first h m))
 
 -- ---- lines
 

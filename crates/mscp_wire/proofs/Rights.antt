@@ -135,7 +135,7 @@ unbroken_end xs u b e i r =
 -- a moment that breaks no rule is right
 pub right_from_unbroken : (credits : Option ℕ) (xs : List Sent) (u : Seen) (m : Moment)
     → broken credits xs u m ≡ None → IsRightAfter credits xs u m
-right_from_unbroken credits xs u (moments.Message via b) h =
+right_from_unbroken credits xs u (moments.Message via b time) h =
     right_message credits xs b.items (sent_by via b.items) h
 right_from_unbroken credits xs u (moments.End via b) h =
     right_end xs u b.items (answer_by via b.items) (place_of xs (answer_by via b.items)) refl h
@@ -144,7 +144,7 @@ right_from_unbroken credits xs u moments.Reset h = tt
 -- and one that is right breaks none
 pub unbroken_from_right : (credits : Option ℕ) (xs : List Sent) (u : Seen) (m : Moment)
     → IsRightAfter credits xs u m → broken credits xs u m ≡ None
-unbroken_from_right credits xs u (moments.Message via b) r =
+unbroken_from_right credits xs u (moments.Message via b time) r =
     unbroken_message credits xs b.items (sent_by via b.items) r
 unbroken_from_right credits xs u (moments.End via b) r =
     rw r.1.outstanding (unbroken_end xs u b.items (answer_by via b.items) r.0 r.1)

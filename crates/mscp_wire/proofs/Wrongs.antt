@@ -8,8 +8,8 @@ use Rattle.mscp_reader.specs.declared.fault.Cause.TheVariants as causes
 use Rattle.mscp_reader.specs.declared.fault.ReadFault.{ReadFault}
 use Rattle.mscp_reader.specs.declared.fault.ReadFault.TheVariants as reads
 use Rattle.mscp_reader.specs.declared.fault.ScriptFault.{ScriptFault}
-use Rattle.mscp_wire.specs.Wire.{AreRight, broken_by, outstanding}
-use Rattle.mscp_wire.specs.Log.{Judges, Log, after_line, after_lines, after_log, after_said, command_of, is_fresh, line_says, nothing}
+use Rattle.mscp_wire.specs.Wire.{AreRight, broken_by, command_of, outstanding}
+use Rattle.mscp_wire.specs.Log.{Judges, Log, after_line, after_lines, after_log, after_said, is_fresh, line_says, nothing}
 use Rattle.mscp_wire.specs.Right.{IsRightLog, IsRightVerdict, Means, told, told_line, told_lines}
 use Rattle.mscp_wire.specs.declared.line.Said.{Said}
 use Rattle.mscp_wire.specs.declared.line.Said.TheVariants as says

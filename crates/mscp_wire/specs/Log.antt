@@ -1,12 +1,12 @@
 -- A log of the wire: what its lines say, and what is judged of them.
-use Rattle.std.specs.Prelude.{◌≡◌, ℕ, ◌+◌, ◌==◌, Bool, false, nat_eq, nat_lt, ◌&&◌, if◌then◌else◌, List, [], ◌∷◌, ◌++◌, length, codes, slice_index, Option, Some, None, is_none, Result, Ok, Err}
+use Rattle.std.specs.Prelude.{◌≡◌, ℕ, ◌+◌, ◌-◌, ◌*◌, ◌^◌, ◌==◌, Bool, false, nat_eq, nat_lt, ◌&&◌, if◌then◌else◌, List, [], ◌∷◌, ◌++◌, length, take, drop, position, codes, slice_index, Option, Some, None, is_none, Result, Ok, Err}
 use Rattle.std.specs.Str.{bytes_eq}
 use Rattle.arrayvec.specs.ArrayVec.{ArrayVec}
 use Rattle.mscp_drive.specs.declared.connection.Connection.{Connection}
 use Rattle.mscp_drive.specs.declared.connection.Connection.TheVariants.{First, Second}
 use Rattle.mscp_packet.specs.Steps.{◌>>=◌}
 use Rattle.mscp_reader.specs.Grammar.{only_number, said_at}
-use Rattle.mscp_reader.specs.Lexical.{lines}
+use Rattle.mscp_reader.specs.Lexical.{lines, wide}
 use Rattle.mscp_reader.specs.Outcome.{Fails, in_line}
 use Rattle.mscp_reader.specs.Requests.{bytes_in, none, one}
 use Rattle.mscp_reader.specs.declared.fault.Cause.{Cause}
@@ -14,19 +14,46 @@ use Rattle.mscp_reader.specs.declared.fault.Cause.TheVariants as causes
 use Rattle.mscp_reader.specs.declared.fault.ReadFault.{ReadFault}
 use Rattle.mscp_reader.specs.declared.fault.ReadFault.TheVariants as reads
 use Rattle.mscp_reader.specs.declared.fault.ScriptFault.{ScriptFault}
-use Rattle.mscp_wire.specs.Wire.{History, answer_by, broken_by, command_at, controller, is_long, is_message, kept, outstanding, place_of, sent_by, told}
+use Rattle.mscp_wire.specs.Wire.{History, broken_by, command_of, controller, kept, outstanding, timeout, told}
 use Rattle.mscp_wire.specs.Totals.{totals_of}
-use Rattle.mscp_wire.specs.declared.answer.Answer.{Answer}
 use Rattle.mscp_wire.specs.declared.line.Said.{Said}
 use Rattle.mscp_wire.specs.declared.line.Said.TheVariants as says
 use Rattle.mscp_wire.specs.declared.moment.Moment.{Moment}
 use Rattle.mscp_wire.specs.declared.moment.Moment.TheVariants as moments
 use Rattle.mscp_wire.specs.declared.rule.Rule.{Rule}
-use Rattle.mscp_wire.specs.declared.sent.Sent.{Sent}
 use Rattle.mscp_wire.specs.declared.wrong.Wrong.{Wrong}
 use Rattle.mscp_wire.specs.declared.log.Reading.{Reading}
 use Rattle.mscp_wire.specs.declared.log.Verdict.{Verdict}
 use Rattle.mscp_wire.specs.declared.log.Verdict.TheVariants as verdicts
+
+-- ---- when it happened
+
+-- a number of digits that stand behind a point, in the last of nine places
+abbrev pub scaled : ℕ → Result ℕ Cause → Option ℕ
+scaled places (Ok n) = Some (n * 10 ^ places)
+scaled places (Err cause) = None
+
+-- a fraction of a second, in nanoseconds, by its 1 to 9 digits
+abbrev pub fraction_of : List ℕ → Option ℕ
+fraction_of digits = if nat_lt 9 (length digits) then None else scaled (9 - length digits) (wide digits)
+
+-- whole seconds and a fraction, in nanoseconds
+abbrev pub seconds_of : Result ℕ Cause → Option ℕ → Option ℕ
+seconds_of (Ok seconds) (Some fraction) = Some (seconds * 1000000000 + fraction)
+seconds_of seconds fraction = None
+
+-- a time in nanoseconds, by its digits, in which a point stands at this place, if one does
+abbrev pub time_by : List ℕ → Option ℕ → Option ℕ
+time_by digits None = seconds_of (wide digits) (Some 0)
+time_by digits (Some i) = seconds_of (wide (take i digits)) (fraction_of (drop (i + 1) digits))
+
+-- a byte is a point
+abbrev pub is_point : ℕ → Bool
+is_point b = nat_eq b 46
+
+-- the time in nanoseconds that digits tell: of seconds, and of a fraction behind a point. Any other word tells none
+abbrev pub time_of : List ℕ → Option ℕ
+time_of digits = time_by digits (position is_point digits)
 
 -- ---- a line
 
@@ -39,6 +66,11 @@ is_time (b ∷ bytes) = b == 64
 unfoldable pub without_time : List (List ℕ) → List (List ℕ)
 without_time [] = []
 without_time (word ∷ rest) = if is_time word then rest else word ∷ rest
+
+-- the time that a line tells, if its first word is one
+unfoldable pub time_in : List (List ℕ) → Option ℕ
+time_in [] = None
+time_in (word ∷ rest) = if is_time word then time_of (drop 1 word) else None
 
 -- the bytes of these digits: 1 to 64 of them
 abbrev pub packet_of : List ℕ → Result (ArrayVec ℕ) Cause
@@ -57,26 +89,26 @@ is_attention b = nat_eq (slice_index b 8) 0x40
 abbrev pub sends : Connection → ArrayVec ℕ → Said
 sends via b = if is_attention b.items then says.Attention via b else says.Happens (moments.End via b)
 
--- a message or an end of a connection, by the first word
-unfoldable pub happens_on : Connection → List (List ℕ) → Result Said Cause
-happens_on via [] = Err causes.Count
-happens_on via (word ∷ fields) =
-    if bytes_eq word (codes "send") then (packet fields >>= λ b. Ok (says.Happens (moments.Message via b))) else (
+-- a message or an end of a connection at this time, by the first word
+unfoldable pub happens_on : Option ℕ → Connection → List (List ℕ) → Result Said Cause
+happens_on time via [] = Err causes.Count
+happens_on time via (word ∷ fields) =
+    if bytes_eq word (codes "send") then (packet fields >>= λ b. Ok (says.Happens (moments.Message via b time))) else (
     if bytes_eq word (codes "end") then (packet fields >>= λ b. Ok (sends via b))
     else Err causes.Word)
 
 -- what the words of a line say, behind its time
-unfoldable pub said_by : List (List ℕ) → Result Said Cause
-said_by [] = Ok says.Nothing
-said_by (word ∷ fields) =
-    if bytes_eq word (codes "second") then happens_on Second fields else (
+unfoldable pub said_by : Option ℕ → List (List ℕ) → Result Said Cause
+said_by time [] = Ok says.Nothing
+said_by time (word ∷ fields) =
+    if bytes_eq word (codes "second") then happens_on time Second fields else (
     if bytes_eq word (codes "reset") then (none fields >>= λ f. Ok (says.Happens moments.Reset)) else (
     if bytes_eq word (codes "credits") then (only_number fields >>= λ c. Ok (says.Credits c))
-    else happens_on First (word ∷ fields)))
+    else happens_on time First (word ∷ fields)))
 
 -- what the line of this number says
 unfoldable pub line_says : ℕ → List ℕ → Result Said Cause
-line_says number line = said_at number line >>= λ words. said_by (without_time words)
+line_says number line = said_at number line >>= λ words. said_by (time_in words) (without_time words)
 
 -- ---- a log
 
@@ -91,21 +123,6 @@ nothing = record { credits = None; moments = [] }
 -- nothing was said so far: the credits may be told
 abbrev pub is_fresh : Log → Bool
 is_fresh log = is_none log.credits && nat_eq (length log.moments) 0
-
--- the outstanding command that an end answers, if there is one
-abbrev pub command_at_place : List Sent → Option ℕ → Option Sent
-command_at_place xs None = None
-command_at_place xs (Some i) = Some (command_at xs i)
-
-abbrev pub answered_by : List Sent → Answer → Option Sent
-answered_by xs e = command_at_place xs (place_of xs e)
-
--- the command that a moment is about: that which it sends, or which it answers, if it is outstanding
-abbrev pub command_of : List Sent → Moment → Option Sent
-command_of xs (moments.Message via b) = if is_message b.items then Some (sent_by via b.items) else None
-command_of xs (moments.End via b) =
-    if is_long b.items then answered_by xs (answer_by via b.items) else None
-command_of xs moments.Reset = None
 
 -- a log in which a moment more came, or the rule that it breaks in the line of this number
 abbrev pub with_moment : ℕ → Log → Moment → Option Rule → Result Log Wrong
@@ -153,9 +170,10 @@ after_log bytes =
 -- this came of the lines so far
 pub record IsAfter {A : Type 0} (log : Log) (reading : Reading A) : Type 0 where
   pub credits : reading.judge.credits ≡ log.credits
-  pub commands : reading.judge.commands.items ≡ outstanding log.moments
+  pub commands : reading.judge.commands ≡ outstanding log.moments
   pub units : (via : Connection) (unit : ℕ) → kept reading.judge.units via unit ≡ told log.moments via unit
   pub controller : reading.judge.controller ≡ controller log.moments
+  pub timeout : reading.judge.timeout ≡ timeout log.moments
   pub totals : reading.totals ≡ totals_of log.moments
 
 -- the fault of a line of this number is that of its definition, unless memory ran out

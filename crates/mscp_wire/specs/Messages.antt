@@ -43,7 +43,9 @@ sent_by via b = record {
   next = asks_for_next b;
   modified = is_modified b;
   parameter = four_in b 12;
+  time = None;
   told = None;
+  polled = None;
   asked = Nothing;
 }
 
@@ -59,13 +61,18 @@ identity_in b =
     })
     else None
 
--- the identifier of the controller, if an end of SET CONTROLLER CHARACTERISTICS (0x84) that succeeded tells it (manual,
--- "SET CONTROLLER CHARACTERISTICS Command")
+-- an end tells of the controller: one of SET CONTROLLER CHARACTERISTICS (0x84) that succeeded (manual, "SET CONTROLLER
+-- CHARACTERISTICS Command")
+abbrev pub tells_controller : List ℕ → Bool
+tells_controller b = nat_eq (slice_index b 8) 0x84 && nat_eq (num b 10 2 % 32) 0 && nat_le 28 (length b)
+
+-- the identifier of the controller, if an end tells it
 abbrev pub controller_in : List ℕ → Option ℕ
-controller_in b =
-    if nat_eq (slice_index b 8) 0x84 && nat_eq (num b 10 2 % 32) 0 && nat_le 28 (length b)
-    then Some (num b 20 8)
-    else None
+controller_in b = if tells_controller b then Some (num b 20 8) else None
+
+-- and the controller timeout in seconds
+abbrev pub timeout_in : List ℕ → Option ℕ
+timeout_in b = if tells_controller b then Some (num b 16 2) else None
 
 -- the end in a message (manual, "End Messages"). Its parameter is that number of its command's, or how many bytes were
 -- moved; the figure is that of a GET COMMAND STATUS
@@ -80,6 +87,7 @@ answer_by via b = record {
   figure = four_in b 16;
   identity = identity_in b;
   controller = controller_in b;
+  timeout = timeout_in b;
 }
 
 -- both are the same connection
@@ -145,7 +153,7 @@ abbrev pub least_message : ℕ → ℕ
 least_message opcode =
     if is_about_another opcode then 16 else (
     if nat_eq opcode 4 then 14 else (
-    if is_transfer opcode then 32
+    if is_transfer opcode || nat_eq opcode 20 then 32
     else 12))
 
 -- its message is shorter

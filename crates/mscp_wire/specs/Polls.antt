@@ -1,5 +1,5 @@
 -- What a poll may tell: by what is outstanding when it comes, and by what comes and ends until it is answered.
-use Rattle.std.specs.Prelude.{ℕ, Bool, true, false, not, ◌&&◌, ◌||◌, nat_eq, nat_lt, if◌then◌else◌, List, find, Option, Some, None}
+use Rattle.std.specs.Prelude.{ℕ, ◌-◌, ◌*◌, Bool, true, false, not, ◌&&◌, ◌||◌, nat_eq, nat_lt, if◌then◌else◌, List, find, Option, Some, None}
 use Rattle.std.specs.List.{list_any}
 use Rattle.mscp_drive.specs.declared.connection.Connection.{Connection}
 use Rattle.mscp_wire.specs.Messages.{is_immediate, is_known, is_named, same_connection, status_code}
@@ -27,21 +27,33 @@ has_number (Some s) number = nat_eq s.reference number
 abbrev pub is_oldest : List Sent → Sent → Bool
 is_oldest xs x = not (is_immediate x.opcode) && has_number (find (waits_on x.connection) xs) x.reference
 
--- what a poll asks of the command that has the number which it names. If there is none the figure is 0. If it names
--- another unit than that command, any is right
-abbrev pub asked_about : List Sent → Sent → Option Sent → Asked
-asked_about xs y None = Gone (Some 0)
-asked_about xs y (Some x) = if nat_eq x.unit y.unit && is_oldest xs x then Oldest x.told else Nothing
+-- a poll of this time comes sooner than a controller timeout of so many seconds after one of that time: the host's own
+-- haste (manual, "Host Command Timeouts"). It isn't known if a time isn't, or if no timeout was told
+abbrev pub is_hasty : Option ℕ → Option ℕ → Option ℕ → Bool
+is_hasty (Some timeout) (Some last) (Some time) = nat_lt (time - last) (timeout * 1000000000)
+is_hasty timeout last time = false
+
+-- a poll of this command may ask it for its figure: it names its unit and the oldest of its host, and isn't hasty after
+-- the poll that was last told one
+abbrev pub may_ask : Option ℕ → List Sent → Sent → Sent → Bool
+may_ask timeout xs y x = nat_eq x.unit y.unit && is_oldest xs x && not (is_hasty timeout x.polled y.time)
+
+-- what a poll asks of the command that has the number which it names. If there is none the figure is 0. If it may not
+-- ask that, any is right
+abbrev pub asked_about : Option ℕ → List Sent → Sent → Option Sent → Asked
+asked_about timeout xs y None = Gone (Some 0)
+asked_about timeout xs y (Some x) = if may_ask timeout xs y x then Oldest x.told else Nothing
 
 -- the same by that number. Of itself a poll may tell any
-abbrev pub asked_by : List Sent → Sent → Option ℕ → Asked
-asked_by xs y None = Nothing
-asked_by xs y (Some other) =
-    if nat_eq other y.reference then Nothing else asked_about xs y (find (is_named y.connection other) xs)
+abbrev pub asked_by : Option ℕ → List Sent → Sent → Option ℕ → Asked
+asked_by timeout xs y None = Nothing
+asked_by timeout xs y (Some other) =
+    if nat_eq other y.reference then Nothing else asked_about timeout xs y (find (is_named y.connection other) xs)
 
--- a command, once it is known what it asks as a poll of those that are outstanding
-abbrev pub asking : List Sent → Sent → Sent
-asking xs y = record y { asked = if nat_eq y.opcode 2 then asked_by xs y y.parameter else Nothing }
+-- a command, once it is known what it asks as a poll of those that are outstanding, by the controller timeout
+abbrev pub asking : Option ℕ → List Sent → Sent → Sent
+asking timeout xs y =
+    record y { asked = if nat_eq y.opcode 2 then asked_by timeout xs y y.parameter else Nothing }
 
 -- ---- when it is answered
 
@@ -104,10 +116,11 @@ abbrev pub left : Asked → Asked
 left (Oldest last) = Gone last
 left asked = Nothing
 
--- a command that is outstanding, once the end e of y came: it hears the figure that is told of it, and to a poll of y
--- that is gone
+-- a command that is outstanding, once the end e of y came: it hears the figure that is told of it, and when y was sent,
+-- and to a poll of y that is gone
 abbrev pub hears : Sent → Answer → Sent → Sent
 hears y e s = record s {
   told = if tells y e s then e.figure else s.told;
+  polled = if tells y e s then y.time else s.polled;
   asked = if polls y s then left s.asked else s.asked;
 }

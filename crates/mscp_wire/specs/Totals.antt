@@ -1,7 +1,7 @@
 -- The totals of what went over the wire: each a count of its moments, or the most or the least at any time.
 use Rattle.std.specs.Prelude.{ℕ, zero, suc, ◌+◌, ◌-◌, ◌<◌, ◌%◌, Bool, true, false, nat_eq, nat_le, if◌then◌else◌, List, [], ◌∷◌, ◌++◌, length, count_by, max, min, take, slice_index, slice_index_or, slice_set, Option, Some, None}
 use Rattle.mscp_packet.specs.Number.{num}
-use Rattle.mscp_wire.specs.Wire.{History, answer_by, command_at, is_it, is_long, outstanding, place_of, polled_by}
+use Rattle.mscp_wire.specs.Wire.{History, answer_by, answered_by, is_it, is_long, outstanding, polled_by}
 use Rattle.mscp_wire.specs.declared.answer.Answer.{Answer}
 use Rattle.mscp_wire.specs.declared.falls.Falls.{Falls}
 use Rattle.mscp_wire.specs.declared.moment.Moment.{Moment}
@@ -16,12 +16,12 @@ use Rattle.mscp_wire.specs.declared.totals.Totals.{Totals}
 
 -- a host sends a message
 abbrev pub is_sent : Moment → Bool
-is_sent (moments.Message via b) = true
+is_sent (moments.Message via b time) = true
 is_sent m = false
 
 -- it is a GET COMMAND STATUS
 abbrev pub is_poll : Moment → Bool
-is_poll (moments.Message via b) = nat_eq (slice_index b.items 8) 2
+is_poll (moments.Message via b time) = nat_eq (slice_index b.items 8) 2
 is_poll m = false
 
 -- the controller answers
@@ -36,7 +36,7 @@ is_reset m = false
 
 -- the opcode of the command that a host sends
 abbrev pub opcode_sent : Moment → Option ℕ
-opcode_sent (moments.Message via b) = if nat_le 12 (length b.items) then Some (slice_index b.items 8) else None
+opcode_sent (moments.Message via b time) = if nat_le 12 (length b.items) then Some (slice_index b.items 8) else None
 opcode_sent m = None
 
 -- the code of the status that the controller ends a command with
@@ -82,15 +82,15 @@ abbrev pub fall_polled : Sent → Answer → Option ℕ → ℕ
 fall_polled y e None = 0
 fall_polled y e (Some other) = fall_of y.asked e.figure
 
--- by the end of the command at a place, if it is there
-abbrev pub fall_at : List Sent → Answer → Option ℕ → ℕ
-fall_at xs e None = 0
-fall_at xs e (Some i) = fall_polled (command_at xs i) e (polled_by (command_at xs i) e)
+-- by the end of this command, if there is one
+abbrev pub fall_found : Answer → Option Sent → ℕ
+fall_found e None = 0
+fall_found e (Some y) = fall_polled y e (polled_by y e)
 
 -- by a moment, before which these are outstanding: 0 if it tells no figure, or the first of its command
 abbrev pub fall_after : List Sent → Moment → ℕ
 fall_after xs (moments.End via b) =
-    if is_long b.items then fall_at xs (answer_by via b.items) (place_of xs (answer_by via b.items)) else 0
+    if is_long b.items then fall_found (answer_by via b.items) (answered_by xs (answer_by via b.items)) else 0
 fall_after xs m = 0
 
 -- by the moment at a place of a history

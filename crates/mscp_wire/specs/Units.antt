@@ -5,7 +5,7 @@ use Rattle.std.specs.BTreeMap as tree
 use Rattle.mscp_packet.specs.Number.{num}
 use Rattle.mscp_drive.specs.declared.connection.Connection.{Connection}
 use Rattle.mscp_drive.specs.declared.connection.Connection.TheVariants.{First, Second}
-use Rattle.mscp_wire.specs.Messages.{History, answer_by, controller_in, same_connection, sent_by, status_code}
+use Rattle.mscp_wire.specs.Messages.{History, answer_by, controller_in, same_connection, timeout_in, sent_by, status_code}
 use Rattle.mscp_wire.specs.declared.answer.Answer.{Answer}
 use Rattle.mscp_wire.specs.declared.identity.Identity.{Identity}
 use Rattle.mscp_wire.specs.declared.moment.Moment.{Moment}
@@ -154,7 +154,7 @@ told_after_message via unit told s = if shares via unit s then record told { sta
 
 -- the same once a moment more came
 abbrev pub told_after : Connection → ℕ → Told → Moment → Told
-told_after via unit told (moments.Message other b) = told_after_message via unit told (sent_by other b.items)
+told_after via unit told (moments.Message other b time) = told_after_message via unit told (sent_by other b.items)
 told_after via unit told (moments.End other b) = told_after_end via unit told (answer_by other b.items)
 told_after via unit told moments.Reset = told_reset
 
@@ -171,17 +171,23 @@ later_of (Some number) known = Some number
 
 -- its identifier, once a moment more came
 abbrev pub controller_after : Option ℕ → Moment → Option ℕ
-controller_after known (moments.Message via b) = known
+controller_after known (moments.Message via b time) = known
 controller_after known (moments.End via b) = later_of (controller_in b.items) known
 controller_after known moments.Reset = None
 
--- what either host was told of it after a history
+-- its timeout in seconds, once a moment more came. Before that is told it is the host's own
+abbrev pub timeout_after : Option ℕ → Moment → Option ℕ
+timeout_after known (moments.Message via b time) = known
+timeout_after known (moments.End via b) = later_of (timeout_in b.items) known
+timeout_after known moments.Reset = None
+
+-- what either host was told of its identifier after a history
 abbrev pub controller : History → Option ℕ
 controller h = fold controller_after None h
 
 -- what was told of the unit that a moment's end names, and of the controller
 abbrev pub seen_of : (Connection → ℕ → Told) → Option ℕ → Moment → Seen
-seen_of units known (moments.Message via b) = record { unit = told_nothing; controller = None }
+seen_of units known (moments.Message via b time) = record { unit = told_nothing; controller = None }
 seen_of units known (moments.End via b) = record { unit = units via (num b.items 4 2); controller = known }
 seen_of units known moments.Reset = record { unit = told_nothing; controller = None }
 

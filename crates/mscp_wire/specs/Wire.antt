@@ -20,7 +20,8 @@
 --                    Success      an ABORT and a GET COMMAND STATUS succeed, unless they are
 --                                 refused for a modifier                                      succeeds
 --                    About        their ends name the command that they are about             is_about
---                    Figure       the figure of the oldest command falls from poll to poll;
+--                    Figure       the figure of the oldest command falls from poll to poll,
+--                                 unless that comes sooner than the controller timeout;
 --                                 it is 0 if no such command is outstanding, and may be 0
 --                                 if its end is on the way                                    has_figure
 --                    Count        no more bytes are moved than were asked for, and all of
@@ -30,13 +31,13 @@
 --                    State        a transfer and a GET UNIT STATUS succeed, and an ONLINE
 --                                 says that its unit was online, only if the unit is online   suits_state
 --                    Controller   the identifier of the controller stays as it is             fits
-use Rattle.std.specs.Prelude.{◌≡◌, ℕ, ◌+◌, ◌/◌, ◌<◌, Bool, true, false, not, ◌&&◌, ◌||◌, nat_eq, nat_le, nat_lt, if◌then◌else◌, List, [], ◌∷◌, ◌++◌, length, map, take, drop, position, count_by, fold, min, slice_index, slice_index_or, Option, Some, None}
+use Rattle.std.specs.Prelude.{◌≡◌, ℕ, ◌+◌, ◌/◌, ◌<◌, Bool, true, false, not, ◌&&◌, ◌||◌, nat_eq, nat_le, nat_lt, if◌then◌else◌, List, [], ◌∷◌, ◌++◌, length, map, take, drop, position, count_by, fold, min, slice_index, slice_index_or, Option, Some, None, is_some}
 use Rattle.std.specs.List.{list_any}
 use Rattle.mscp_drive.specs.declared.connection.Connection.{Connection}
 use Rattle.mscp_drive.specs.declared.connection.Connection.TheVariants.{First}
-pub use Rattle.mscp_wire.specs.Messages.{History, answer_by, asks_for_next, controller_in, four_in, identity_in, is_about_another, is_immediate, is_known, is_named, is_ordered, is_required, is_sequential, is_short, is_modified, is_sequential_class, is_transfer, is_transfer_class, is_unknown, is_unknown_class, least_length, least_message, same_connection, sent_by, status_code}
-pub use Rattle.mscp_wire.specs.Polls.{asked_about, asked_by, asking, asks_oldest, has_figure, has_number, hears, is_below, is_hearing, is_it, is_oldest, is_polled, is_refused, left, may_be, may_tell, polled_by, polls, tells, waits_on}
-pub use Rattle.mscp_wire.specs.Units.{Puts, after_other, after_own, agrees, brings, controller, controller_after, fits, is_known_unit, is_moved, is_of_unit, is_same_unit, is_single, is_unsure, learns, kept, key, later_of, leaves, other_side, says_away, says_online, seen_of, shares, suits_state, tells_unit, told, told_after, told_after_end, told_after_message, told_nothing, told_or, told_reset, turned, was_online}
+pub use Rattle.mscp_wire.specs.Messages.{History, answer_by, asks_for_next, controller_in, four_in, identity_in, is_about_another, is_immediate, is_known, is_named, is_ordered, is_required, is_sequential, is_short, is_modified, is_sequential_class, is_transfer, is_transfer_class, is_unknown, is_unknown_class, least_length, least_message, same_connection, sent_by, status_code, timeout_in}
+pub use Rattle.mscp_wire.specs.Polls.{asked_about, asked_by, asking, asks_oldest, has_figure, has_number, hears, is_below, is_hasty, is_hearing, is_it, is_oldest, is_polled, is_refused, left, may_ask, may_be, may_tell, polled_by, polls, tells, waits_on}
+pub use Rattle.mscp_wire.specs.Units.{Puts, after_other, after_own, agrees, brings, controller, controller_after, fits, is_known_unit, is_moved, is_of_unit, is_same_unit, is_single, is_unsure, learns, kept, key, later_of, leaves, other_side, says_away, says_online, seen_of, shares, suits_state, tells_unit, timeout_after, told, told_after, told_after_end, told_after_message, told_nothing, told_or, told_reset, turned, was_online}
 use Rattle.mscp_wire.specs.declared.answer.Answer.{Answer}
 use Rattle.mscp_wire.specs.declared.moment.Moment.{Moment}
 use Rattle.mscp_wire.specs.declared.moment.Moment.TheVariants as moments
@@ -166,9 +167,14 @@ passes_none earlier y e = is_apart (status_code e) || not (list_any (keeps_back 
 abbrev pub other_of : Sent → Answer → Option ℕ
 other_of y e = if is_known e && is_about_another y.opcode && not (is_refused y e) then y.parameter else None
 
--- how many bytes were to be moved, if its command is a transfer
+-- a command of this opcode has its bytes counted: a transfer, or a COMPARE CONTROLLER DATA (17) whose end tells a
+-- number
+abbrev pub is_counted : ℕ → Option ℕ → Bool
+is_counted opcode parameter = is_transfer opcode || (nat_eq opcode 17 && is_some parameter)
+
+-- how many bytes were to be moved, if that is counted
 abbrev pub count_of : Sent → Answer → Option ℕ
-count_of y e = if is_known e && is_transfer y.opcode then y.parameter else None
+count_of y e = if is_known e && is_counted y.opcode e.parameter then y.parameter else None
 
 -- an ABORT and a GET COMMAND STATUS succeed, also of a command that isn't outstanding, unless they are refused for a
 -- modifier
@@ -196,20 +202,58 @@ has_count e (Some count) = moves e e.parameter count
 abbrev pub command_at : List Sent → ℕ → Sent
 command_at xs i = slice_index_or xs i (sent_by First [])
 
+-- the same, if there is one
+abbrev pub command_at_place : List Sent → Option ℕ → Option Sent
+command_at_place xs None = None
+command_at_place xs (Some i) = Some (command_at xs i)
+
+-- the outstanding command that an end answers, if there is one
+abbrev pub answered_by : List Sent → Answer → Option Sent
+answered_by xs e = command_at_place xs (place_of xs e)
+
+-- the command that a moment is about: that which it sends, or which it answers, if it is outstanding
+abbrev pub command_of : List Sent → Moment → Option Sent
+command_of xs (moments.Message via b time) = if is_message b.items then Some (sent_by via b.items) else None
+command_of xs (moments.End via b) =
+    if is_long b.items then answered_by xs (answer_by via b.items) else None
+command_of xs moments.Reset = None
+
 -- what is outstanding once the end of the command at a place came: the others hear it
 abbrev pub after_end : List Sent → Answer → Option ℕ → List Sent
 after_end xs e None = xs
 after_end xs e (Some i) = map (hears (command_at xs i) e) (take i xs ++ drop (i + 1) xs)
 
--- what is outstanding once a moment more came: a message adds its command, an end takes its own away, and a reset all
-abbrev pub after : List Sent → Moment → List Sent
-after xs (moments.Message via b) = xs ++ asking xs (sent_by via b.items) ∷ []
-after xs (moments.End via b) = after_end xs (answer_by via b.items) (place_of xs (answer_by via b.items))
-after xs moments.Reset = []
+-- a command that was sent at this time
+abbrev pub timed : Option ℕ → Sent → Sent
+timed time s = record s { time = time }
 
--- the commands that are outstanding after a history, oldest first (manual, "Flow Control")
+-- what is outstanding once a moment more came, where this is the controller timeout: a message adds its command, an end
+-- takes its own away, and a reset all
+abbrev pub after : Option ℕ → List Sent → Moment → List Sent
+after timeout xs (moments.Message via b time) = xs ++ asking timeout xs (timed time (sent_by via b.items)) ∷ []
+after timeout xs (moments.End via b) = after_end xs (answer_by via b.items) (place_of xs (answer_by via b.items))
+after timeout xs moments.Reset = []
+
+-- what stands after a history: the controller timeout, if it was told, and the commands that are outstanding, oldest
+-- first (manual, "Flow Control")
+pub record Standing : Type 0 where
+  pub timeout : Option ℕ
+  pub commands : List Sent
+
+abbrev pub standing_after : Standing → Moment → Standing
+standing_after s m = record { timeout = timeout_after s.timeout m; commands = after s.timeout s.commands m }
+
+abbrev pub standing_first : Standing
+standing_first = record { timeout = None; commands = [] }
+
+abbrev pub standing : History → Standing
+standing h = fold standing_after standing_first h
+
+abbrev pub timeout : History → Option ℕ
+timeout h = (standing h).timeout
+
 abbrev pub outstanding : History → List Sent
-outstanding h = fold after [] h
+outstanding h = (standing h).commands
 
 -- ---- the first rule that is broken
 
@@ -249,7 +293,7 @@ broken_at xs unit e (Some i) = broken_end (take i xs) (drop (i + 1) xs) (command
 -- by a moment, before which these are outstanding and this was told of its unit and the controller, where each host has
 -- so many credits
 abbrev pub broken : Option ℕ → List Sent → Seen → Moment → Option Rule
-broken credits xs unit (moments.Message via b) =
+broken credits xs unit (moments.Message via b time) =
     unless (is_message b.items) rules.Message (broken_message credits xs (sent_by via b.items))
 broken credits xs unit (moments.End via b) =
     unless (is_long b.items) rules.Length
@@ -287,7 +331,7 @@ pub record IsRightEnd (xs : List Sent) (was : Seen) (b : List ℕ) (e : Answer) 
 
 -- a moment is right, before which these are outstanding and this was told of its unit and the controller
 abbrev pub IsRightAfter : Option ℕ → List Sent → Seen → Moment → Type 0
-IsRightAfter credits xs unit (moments.Message via b) = IsRightMessage credits xs b.items (sent_by via b.items)
+IsRightAfter credits xs unit (moments.Message via b time) = IsRightMessage credits xs b.items (sent_by via b.items)
 IsRightAfter credits xs unit (moments.End via b) = (i : ℕ) × IsRightEnd xs unit b.items (answer_by via b.items) i
 IsRightAfter credits xs unit moments.Reset = Unit {0}
 

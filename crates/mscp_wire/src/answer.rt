@@ -2,6 +2,7 @@
 
 ghost use Rattle.std.specs.Prelude.{◌≡◌, ◌≤◌, ◌<◌, ◌^◌, length};
 ghost use Rattle.mscp_wire.specs.Wire as wire;
+ghost use Rattle.mscp_wire.specs.Messages.{tells_controller};
 
 use crate::identity::Identity;
 use crate::sent::{Sent, four_in, is_required, is_transfer, is_unknown};
@@ -31,6 +32,8 @@ pub struct Answer {
     pub identity: Option<Identity>,
     /// The identifier of the controller, if a SET CONTROLLER CHARACTERISTICS succeeded.
     pub controller: Option<u64>,
+    /// The controller timeout in seconds, if such an end tells it.
+    pub timeout: Option<u16>,
 }
 
 /// The fewest bytes of an end with this endcode (manual, "End Messages").
@@ -68,13 +71,33 @@ fn may_have(opcode: u8, code: u16) -> bool
         && !((opcode == 8 || opcode == 9) && code == 4)
 }
 
-/// The identifier of the controller, if the end of a SET CONTROLLER CHARACTERISTICS tells it.
+/// Whether an end tells of the controller: one of a SET CONTROLLER CHARACTERISTICS that succeeded.
+fn tells_controller(b: &[u8]) -> bool
+    requires { 12 ≤ length b.now }
+    ensures { result ≡ tells_controller b.now }
+{
+    b[8] == 0x84 && two_at(b, 10) % 32 == 0 && b.len() >= 28
+}
+
+/// The identifier of the controller, if an end tells it.
 fn controller_in(b: &[u8]) -> Option<u64>
     requires { 12 ≤ length b.now }
     ensures { result ≡ wire.controller_in b.now }
 {
-    if b[8] == 0x84 && two_at(b, 10) % 32 == 0 && b.len() >= 28 {
+    if tells_controller(b) {
         Some(eight_at(b, 20))
+    } else {
+        None
+    }
+}
+
+/// The controller timeout in seconds, if an end tells it.
+fn timeout_in(b: &[u8]) -> Option<u16>
+    requires { 12 ≤ length b.now }
+    ensures { result ≡ wire.timeout_in b.now }
+{
+    if tells_controller(b) {
+        Some(two_at(b, 16))
     } else {
         None
     }
@@ -130,6 +153,7 @@ impl Answer {
             figure: four_in(b, 16),
             identity: Identity::of(b),
             controller: controller_in(b),
+            timeout: timeout_in(b),
         }
     }
 
@@ -244,11 +268,19 @@ impl Answer {
         }
     }
 
-    /// How many bytes were to be moved, if its command is a transfer.
+    /// Whether the bytes of its command are counted: those of a transfer, or of a COMPARE CONTROLLER DATA if it tells
+    /// a number.
+    fn is_counted(&self, command: &Sent) -> bool
+        ensures { result ≡ wire.is_counted command.now.opcode self.now.parameter }
+    {
+        is_transfer(command.opcode) || (command.opcode == 17 && self.parameter.is_some())
+    }
+
+    /// How many bytes were to be moved, if that is counted.
     pub fn count_of(&self, command: &Sent) -> Option<u32>
         ensures { result ≡ wire.count_of command.now self.now }
     {
-        if self.is_known() && is_transfer(command.opcode) {
+        if self.is_known() && self.is_counted(command) {
             command.parameter
         } else {
             None

@@ -1,14 +1,11 @@
 // How far the figure of a command falls from poll to poll.
 
 ghost use Rattle.std.specs.Prelude.{◌≡◌, ◌++◌, ◌∷◌, []};
-ghost use Rattle.mscp_wire.specs.Wire.{History, outstanding, place_of};
+ghost use Rattle.mscp_wire.specs.Wire.{History, outstanding};
 ghost use Rattle.mscp_wire.specs.declared.moment.Moment as moments;
 ghost use Rattle.mscp_wire.specs.Totals as total;
 
-use crate::answer::{Answer, is_long};
-use crate::judge::command_at;
-use crate::moment::Moment;
-use crate::outstanding::place_of;
+use crate::answer::Answer;
 use crate::sent::{Asked, Sent};
 
 /// How far the figure of a command fell from poll to poll (manual, "Host Command Timeouts").
@@ -50,29 +47,13 @@ fn fall_polled(command: &Sent, answer: &Answer, polled: Option<u32>) -> u32
     }
 }
 
-/// The same by the end of one of the commands, if it is there.
-fn fall_at(commands: &[Sent], answer: &Answer) -> u32
-    ensures { result ≡ total.fall_at commands.now answer.now (place_of commands.now answer.now) }
+/// The same by the end of this command, if there is one.
+pub fn fall_found(answer: &Answer, command: Option<Sent>) -> u32
+    ensures { result ≡ total.fall_found answer.now command }
 {
-    match place_of(commands, answer) {
-        Some(place) => {
-            let command = command_at(commands, place);
-            fall_polled(&command, answer, answer.polled_by(&command))
-        }
+    match command {
+        Some(command) => fall_polled(&command, answer, answer.polled_by(&command)),
         None => 0,
-    }
-}
-
-/// How far a moment says that a figure fell, before which these commands are outstanding: 0 if it tells no figure, or the
-/// first of its command.
-pub fn fall_after(commands: &[Sent], moment: &Moment) -> u32
-    ensures { result ≡ total.fall_after commands.now moment.now }
-{
-    match moment {
-        Moment::End(connection, message) if is_long(message.as_slice()) => {
-            fall_at(commands, &Answer::of(*connection, message.as_slice()))
-        }
-        _ => 0,
     }
 }
 

@@ -1,17 +1,20 @@
 // What is outstanding after the moments so far, and which rule the next one breaks.
 
-ghost use Rattle.std.specs.Prelude.{◌≡◌, ℕ, ◌<◌, ◌++◌, ◌∷◌, [], length, take, OnOk, IfOk, None};
+ghost use Rattle.std.specs.Prelude.{◌≡◌, ℕ, ◌<◌, ◌++◌, ◌∷◌, [], length, if◌then◌else◌, OnOk, IfOk, IfSome, Some, None};
 ghost use Rattle.mscp_packet.specs.Number.{num};
 ghost use Rattle.mscp_drive.specs.declared.connection.Connection as connections;
 ghost use Rattle.mscp_wire.specs.Wire as wire;
+ghost use Rattle.mscp_wire.specs.Totals as total;
 
 use crate::answer::{Answer, is_long};
+use crate::commands::Commands;
+use crate::falls::fall_found;
 use crate::moment::Moment;
-use crate::outstanding::{count_on, has_abort, has_named, passes_none, place_of};
-use crate::polls::{asking, has_figure, hear_end};
+use crate::outstanding::{command_at, command_at_place, count_on, has_abort, passes_none};
+use crate::polls::{asking, has_figure};
 use crate::rule::Rule;
 use crate::sent::{Sent, is_immediate};
-use crate::told::{Seen, later_of};
+use crate::told::{Seen, later_of, later_time};
 use crate::units::Units;
 use mscp_drive::{Connection, OutOfMemory};
 use std::alloc::Allocator;
@@ -30,22 +33,30 @@ fn limit_of(credits: Option<u32>) -> u32
 }
 
 /// Whether a host has a credit for a command.
+#[tactic(auto, using(crate::proofs::Names::few_on))]
 fn has_credit(credits: Option<u32>, commands: &[Sent], sent: &Sent) -> bool
     ensures { result ≡ wire.has_credit credits commands.now sent.now }
 {
     let credits = u64::from(limit_of(credits));
+    if (commands.len() as u64) + 1 < credits {
+        return true;
+    }
     let needed = count_on(commands, sent.connection) as u64 + 1;
     needed < credits || (needed == credits && is_immediate(sent.opcode))
 }
 
 /// The first rule of a host that a command breaks.
-fn broken_message(credits: Option<u32>, commands: &[Sent], sent: &Sent) -> Option<Rule>
+fn broken_message<A: Allocator + Copy>(
+    credits: Option<u32>,
+    commands: &Commands<A>,
+    sent: &Sent,
+) -> Option<Rule>
     ensures { result ≡ wire.broken_message credits commands.now sent.now }
 {
-    if has_named(commands, sent.connection, sent.reference) {
+    if commands.has_named(sent.connection, sent.reference) {
         return Some(Rule::Number);
     }
-    if !has_credit(credits, commands, sent) {
+    if !has_credit(credits, commands.as_slice(), sent) {
         return Some(Rule::Credits);
     }
     None
@@ -107,19 +118,17 @@ fn broken_end(
     broken_body(later, command, seen, answer)
 }
 
-/// The command at a place.
-pub fn command_at(commands: &[Sent], place: usize) -> Sent
-    requires { place < length commands.now }
-    ensures { result ≡ wire.command_at commands.now place }
+/// The first rule that an end of the command at a place breaks, if there is one.
+fn broken_answer(
+    commands: &[Sent],
+    seen: &Seen,
+    answer: &Answer,
+    place: Option<usize>,
+) -> Option<Rule>
+    requires { IfSome place (λ i. i < length commands.now) }
+    ensures { result ≡ wire.broken_at commands.now seen.now answer.now place }
 {
-    commands[place]
-}
-
-/// The first rule that an end breaks, as long as its endcode asks.
-fn broken_answer(commands: &[Sent], seen: &Seen, answer: &Answer) -> Option<Rule>
-    ensures { result ≡ wire.broken_at commands.now seen.now answer.now (wire.place_of commands.now answer.now) }
-{
-    match place_of(commands, answer) {
+    match place {
         Some(place) => broken_end(
             &commands[..place],
             &commands[place + 1..],
@@ -131,13 +140,39 @@ fn broken_answer(commands: &[Sent], seen: &Seen, answer: &Answer) -> Option<Rule
     }
 }
 
+/// What comes of a moment.
+#[derive(Clone, Copy)]
+pub struct Stepped {
+    /// The first rule that it breaks, if it breaks one.
+    pub rule: Option<Rule>,
+    /// The command that it sends, or the outstanding one that it answers, if there is one.
+    pub command: Option<Sent>,
+    /// How far it says that a figure fell.
+    pub fall: u32,
+}
+
+impl Stepped {
+    /// Of a moment that breaks this rule, and is about no command.
+    fn broken(rule: Rule) -> Stepped
+        ensures { result ≡ record { rule = Some rule; command = None; fall = 0 } }
+    {
+        Stepped {
+            rule: Some(rule),
+            command: None,
+            fall: 0,
+        }
+    }
+}
+
 /// What is outstanding on the wire and known of units that are online, where each host has so many credits.
 #[derive(Drop)]
 pub struct Judge<A: Allocator> {
     pub credits: Option<u32>,
     /// The identifier of the controller, if that was told.
     pub controller: Option<u64>,
-    pub commands: Vec<Sent, A>,
+    /// The controller timeout in seconds, if that was told.
+    pub timeout: Option<u16>,
+    pub commands: Commands<A>,
     pub units: Units<A>,
 }
 
@@ -146,129 +181,162 @@ impl<A: Allocator + Copy> Judge<A> {
     pub fn new(alloc: A, credits: Option<u32>) -> Judge<A>
         ensures credits { result.credits ≡ credits }
         ensures controller { result.controller ≡ None }
-        ensures commands { result.commands.items ≡ [] }
+        ensures timeout { result.timeout ≡ None }
+        ensures commands { result.commands ≡ [] }
         ensures units { (via : connections.Connection) (unit : ℕ)
             → wire.kept result.units via unit ≡ wire.told_nothing }
     {
         Judge {
             credits,
             controller: None,
-            commands: Vec::new(alloc),
+            timeout: None,
+            commands: Commands::new(alloc),
             units: Units::new(alloc),
         }
     }
 
-    /// The first rule that a host's message breaks. If it breaks none it is outstanding.
-    fn message(&mut self, connection: Connection, bytes: &[u8]) -> Result<Option<Rule>, OutOfMemory>
-        ensures rule { IfOk result (λ rule. rule ≡ wire.unless (wire.is_message bytes.now) Rule.Message
-            (wire.broken_message self.old.credits self.old.commands.items (wire.sent_by connection bytes.now))) }
-        ensures after { IfOk result (λ rule. rule ≡ None → self.new.commands.items
-            ≡ self.old.commands.items
-            ++ wire.asking self.old.commands.items (wire.sent_by connection bytes.now) ∷ []) }
-        ensures units { IfOk result (λ rule. rule ≡ None → (via : connections.Connection) (unit : ℕ)
+    /// What comes of a host's message. If it breaks no rule its command is outstanding.
+    fn message(
+        &mut self,
+        connection: Connection,
+        bytes: &[u8],
+        time: Option<u64>,
+    ) -> Result<Stepped, OutOfMemory>
+        ensures rule { IfOk result (λ o. o.rule ≡ wire.unless (wire.is_message bytes.now) Rule.Message
+            (wire.broken_message self.old.credits self.old.commands (wire.sent_by connection bytes.now))) }
+        ensures command { IfOk result (λ o. o.command
+            ≡ (if wire.is_message bytes.now then Some (wire.sent_by connection bytes.now) else None)) }
+        ensures fall { IfOk result (λ o. o.fall ≡ 0) }
+        ensures after { IfOk result (λ o. o.rule ≡ None → self.new.commands
+            ≡ self.old.commands
+            ++ wire.asking self.old.timeout self.old.commands
+            (wire.timed time (wire.sent_by connection bytes.now)) ∷ []) }
+        ensures units { IfOk result (λ o. o.rule ≡ None → (via : connections.Connection) (unit : ℕ)
             → wire.kept self.new.units via unit ≡ wire.told_after_message via unit
             (wire.kept self.old.units via unit) (wire.sent_by connection bytes.now)) }
         ensures controller { self.new.controller ≡ self.old.controller }
+        ensures timeout { self.new.timeout ≡ self.old.timeout }
         ensures credits { self.new.credits ≡ self.old.credits }
     {
         if bytes.len() < 12 {
-            return Ok(Some(Rule::Message));
+            return Ok(Stepped::broken(Rule::Message));
         }
         let sent = Sent::of(connection, bytes);
-        let broken = broken_message(self.credits, self.commands.as_slice(), &sent);
-        if broken.is_none() {
-            let command = asking(self.commands.as_slice(), &sent);
+        let rule = broken_message(self.credits, &self.commands, &sent);
+        if rule.is_none() {
+            let timed = Sent { time, ..sent };
+            let command = asking(self.timeout, &self.commands, &timed);
             self.commands.push(command)?;
             self.units.hear_command(&sent)?;
         }
-        Ok(broken)
+        Ok(Stepped {
+            rule,
+            command: Some(sent),
+            fall: 0,
+        })
     }
 
-    /// The end of the command at a place came: that isn't outstanding any more, and the others hear it.
-    fn take(&mut self, place: usize, answer: &Answer)
-        requires { place < length self.old.commands.items }
-        ensures after { self.new.commands.items ≡ wire.after_end self.old.commands.items answer.now (Some place) }
-        ensures units { self.new.units ≡ self.old.units }
-        ensures controller { self.new.controller ≡ self.old.controller }
-        ensures credits { self.new.credits ≡ self.old.credits }
-    {
-        let command = self.commands.remove(place);
-        hear_end(&mut self.commands, &command, answer);
-    }
-
-    /// An end came that breaks no rule: its command isn't outstanding any more, and what it tells of its unit is known.
-    fn ended(&mut self, answer: &Answer) -> Result<(), OutOfMemory>
-        ensures after { OnOk result (self.new.commands.items
-            ≡ wire.after_end self.old.commands.items answer.now (wire.place_of self.old.commands.items answer.now)) }
+    /// An end came that breaks no rule: the command at its place isn't outstanding any more, and what it tells is
+    /// known.
+    fn ended(&mut self, answer: &Answer, place: Option<usize>) -> Result<(), OutOfMemory>
+        requires { IfSome place (λ i. i < length self.old.commands) }
+        ensures after { OnOk result (self.new.commands ≡ wire.after_end self.old.commands answer.now place) }
         ensures units { OnOk result ((via : connections.Connection) (unit : ℕ) → wire.kept self.new.units via unit
             ≡ wire.told_after_end via unit (wire.kept self.old.units via unit) answer.now) }
         ensures controller { OnOk result (self.new.controller
             ≡ wire.later_of answer.now.controller self.old.controller) }
+        ensures timeout { OnOk result (self.new.timeout ≡ wire.later_of answer.now.timeout self.old.timeout) }
         ensures credits { self.new.credits ≡ self.old.credits }
     {
         self.units.hear_end(answer)?;
         self.controller = later_of(answer.controller, self.controller);
-        if let Some(place) = place_of(self.commands.as_slice(), answer) {
-            self.take(place, answer);
+        self.timeout = later_time(answer.timeout, self.timeout);
+        if let Some(place) = place {
+            self.commands.take(place, answer);
         }
         Ok(())
     }
 
-    /// The first rule that an end breaks. If it breaks none its command isn't outstanding any more.
-    fn end(&mut self, connection: Connection, bytes: &[u8]) -> Result<Option<Rule>, OutOfMemory>
-        ensures rule { IfOk result (λ rule. rule ≡ wire.unless (wire.is_long bytes.now) Rule.Length
-            (wire.broken_at self.old.commands.items (record {
+    /// What comes of an end. If it breaks no rule its command isn't outstanding any more.
+    fn end(&mut self, connection: Connection, bytes: &[u8]) -> Result<Stepped, OutOfMemory>
+        ensures rule { IfOk result (λ o. o.rule ≡ wire.unless (wire.is_long bytes.now) Rule.Length
+            (wire.broken_at self.old.commands (record {
               unit = wire.kept self.old.units connection (num bytes.now 4 2);
               controller = self.old.controller;
             })
             (wire.answer_by connection bytes.now)
-            (wire.place_of self.old.commands.items (wire.answer_by connection bytes.now)))) }
-        ensures after { IfOk result (λ rule. rule ≡ None → self.new.commands.items
-            ≡ wire.after_end self.old.commands.items (wire.answer_by connection bytes.now)
-            (wire.place_of self.old.commands.items (wire.answer_by connection bytes.now))) }
-        ensures units { IfOk result (λ rule. rule ≡ None → (via : connections.Connection) (unit : ℕ)
+            (wire.place_of self.old.commands (wire.answer_by connection bytes.now)))) }
+        ensures command { IfOk result (λ o. o.command ≡ (if wire.is_long bytes.now
+            then wire.answered_by self.old.commands (wire.answer_by connection bytes.now) else None)) }
+        ensures fall { IfOk result (λ o. o.fall ≡ (if wire.is_long bytes.now
+            then total.fall_found (wire.answer_by connection bytes.now)
+            (wire.answered_by self.old.commands (wire.answer_by connection bytes.now)) else 0)) }
+        ensures after { IfOk result (λ o. o.rule ≡ None → self.new.commands
+            ≡ wire.after_end self.old.commands (wire.answer_by connection bytes.now)
+            (wire.place_of self.old.commands (wire.answer_by connection bytes.now))) }
+        ensures units { IfOk result (λ o. o.rule ≡ None → (via : connections.Connection) (unit : ℕ)
             → wire.kept self.new.units via unit ≡ wire.told_after_end via unit
             (wire.kept self.old.units via unit) (wire.answer_by connection bytes.now)) }
-        ensures controller { IfOk result (λ rule. rule ≡ None → self.new.controller
+        ensures controller { IfOk result (λ o. o.rule ≡ None → self.new.controller
             ≡ wire.later_of (wire.controller_in bytes.now) self.old.controller) }
+        ensures timeout { IfOk result (λ o. o.rule ≡ None → self.new.timeout
+            ≡ wire.later_of (wire.timeout_in bytes.now) self.old.timeout) }
         ensures credits { self.new.credits ≡ self.old.credits }
     {
         if !is_long(bytes) {
-            return Ok(Some(Rule::Length));
+            return Ok(Stepped::broken(Rule::Length));
         }
         let answer = Answer::of(connection, bytes);
+        let place = self.commands.place_of(&answer);
+        let command = command_at_place(self.commands.as_slice(), place);
         let seen = Seen {
             unit: self.units.told(connection, answer.unit),
             controller: self.controller,
         };
-        let broken = broken_answer(self.commands.as_slice(), &seen, &answer);
-        if broken.is_none() {
-            self.ended(&answer)?;
+        let rule = broken_answer(self.commands.as_slice(), &seen, &answer, place);
+        let fall = fall_found(&answer, command);
+        if rule.is_none() {
+            self.ended(&answer, place)?;
         }
-        Ok(broken)
+        Ok(Stepped {
+            rule,
+            command,
+            fall,
+        })
     }
 
-    /// The first rule that a moment breaks. If it breaks none it is added to those before it.
-    pub fn step(&mut self, moment: &Moment) -> Result<Option<Rule>, OutOfMemory>
-        ensures rule { IfOk result (λ rule. rule ≡ wire.broken self.old.credits self.old.commands.items
+    /// What comes of a moment. If it breaks no rule it is added to those before it.
+    pub fn step(&mut self, moment: &Moment) -> Result<Stepped, OutOfMemory>
+        ensures rule { IfOk result (λ o. o.rule ≡ wire.broken self.old.credits self.old.commands
             (wire.seen_of (wire.kept self.old.units) self.old.controller moment.now) moment.now) }
-        ensures after { IfOk result (λ rule. rule ≡ None → self.new.commands.items
-            ≡ wire.after self.old.commands.items moment.now) }
-        ensures units { IfOk result (λ rule. rule ≡ None → (via : connections.Connection) (unit : ℕ)
+        ensures command { IfOk result (λ o. o.command ≡ wire.command_of self.old.commands moment.now) }
+        ensures fall { IfOk result (λ o. o.fall ≡ total.fall_after self.old.commands moment.now) }
+        ensures after { IfOk result (λ o. o.rule ≡ None → self.new.commands
+            ≡ wire.after self.old.timeout self.old.commands moment.now) }
+        ensures units { IfOk result (λ o. o.rule ≡ None → (via : connections.Connection) (unit : ℕ)
             → wire.kept self.new.units via unit
             ≡ wire.told_after via unit (wire.kept self.old.units via unit) moment.now) }
-        ensures controller { IfOk result (λ rule. rule ≡ None → self.new.controller
+        ensures controller { IfOk result (λ o. o.rule ≡ None → self.new.controller
             ≡ wire.controller_after self.old.controller moment.now) }
+        ensures timeout { IfOk result (λ o. o.rule ≡ None → self.new.timeout
+            ≡ wire.timeout_after self.old.timeout moment.now) }
         ensures credits { self.new.credits ≡ self.old.credits }
     {
         match moment {
-            Moment::Message(connection, message) => self.message(*connection, message.as_slice()),
+            Moment::Message(connection, message, time) => {
+                self.message(*connection, message.as_slice(), *time)
+            }
             Moment::End(connection, message) => self.end(*connection, message.as_slice()),
             Moment::Reset => {
                 self.commands.clear();
                 self.units.clear();
                 self.controller = None;
-                Ok(None)
+                self.timeout = None;
+                Ok(Stepped {
+                    rule: None,
+                    command: None,
+                    fall: 0,
+                })
             }
         }
     }

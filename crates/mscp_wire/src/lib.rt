@@ -2,6 +2,7 @@
 #![tactic(auto)]
 
 mod answer;
+mod commands;
 mod falls;
 mod identity;
 mod judge;
@@ -19,9 +20,10 @@ mod units;
 mod wrong;
 
 pub use crate::answer::Answer;
+pub use crate::commands::Commands;
 pub use crate::falls::Falls;
 pub use crate::identity::Identity;
-pub use crate::judge::Judge;
+pub use crate::judge::{Judge, Stepped};
 pub use crate::law::right_breaks_no_rule;
 pub use crate::line::{Said, line_says};
 pub use crate::log::{Reading, Verdict, judge_wire};

@@ -1,6 +1,6 @@
 // What a line of a log says.
 
-ghost use Rattle.std.specs.Prelude.{◌≡◌, ◌≤◌};
+ghost use Rattle.std.specs.Prelude.{◌≡◌, ◌≤◌, ◌<◌, ◌^◌, IfSome, length, position};
 ghost use Rattle.mscp_reader.specs.Common.{Gives, in_line};
 ghost use Rattle.mscp_reader.specs.Lexical as lexical;
 ghost use Rattle.mscp_reader.specs.Grammar.{only_number};
@@ -24,11 +24,93 @@ pub enum Said {
     Attention(Connection, ArrayVec<u8, 64>),
 }
 
+/// Ten to the power of at most nine.
+fn power_of_ten(power: usize) -> u64
+    requires { power ≤ 9 }
+    ensures { result ≡ 10 ^ power }
+{
+    match power {
+        0 => 1,
+        1 => 10,
+        2 => 100,
+        3 => 1_000,
+        4 => 10_000,
+        5 => 100_000,
+        6 => 1_000_000,
+        7 => 10_000_000,
+        8 => 100_000_000,
+        _ => 1_000_000_000,
+    }
+}
+
 /// Whether a word is a time.
 fn is_time(word: &[u8]) -> bool
     ensures { result ≡ log.is_time word.now }
 {
     matches!(word, [b'@', ..])
+}
+
+/// The number of a fraction's digits in the last of nine places.
+fn scaled(places: usize, number: Result<u32, Cause>) -> Option<u64>
+    requires { places ≤ 9 }
+    ensures { result ≡ log.scaled places number }
+{
+    match number {
+        Ok(number) => Some(u64::from(number) * power_of_ten(places)),
+        Err(_) => None,
+    }
+}
+
+/// A fraction of a second, in nanoseconds, by its 1 to 9 digits.
+fn fraction_of(digits: &[u8]) -> Option<u64>
+    ensures value { result ≡ log.fraction_of digits.now }
+    ensures bound { IfSome result (λ n. n < 2 ^ 62) }
+{
+    if digits.len() > 9 {
+        return None;
+    }
+    scaled(9 - digits.len(), wide(digits))
+}
+
+/// Whole seconds and a fraction, in nanoseconds.
+fn seconds_of(seconds: Result<u32, Cause>, fraction: Option<u64>) -> Option<u64>
+    requires { IfSome fraction (λ n. n < 2 ^ 62) }
+    ensures { result ≡ log.seconds_of seconds fraction }
+{
+    match (seconds, fraction) {
+        (Ok(seconds), Some(fraction)) => Some(u64::from(seconds) * 1_000_000_000 + fraction),
+        _ => None,
+    }
+}
+
+/// Where a point stands in digits, if one does.
+fn point_in(digits: &[u8]) -> Option<usize>
+    ensures place { result ≡ position log.is_point digits.now }
+    ensures bound { IfSome result (λ i. i < length digits.now) }
+{
+    digits.iter().position(|byte| *byte == b'.')
+}
+
+/// The time in nanoseconds that digits tell: of seconds, and of a fraction behind a point.
+fn time_of(digits: &[u8]) -> Option<u64>
+    ensures { result ≡ log.time_of digits.now }
+{
+    match point_in(digits) {
+        Some(place) => seconds_of(wide(&digits[..place]), fraction_of(&digits[place + 1..])),
+        None => seconds_of(wide(digits), Some(0)),
+    }
+}
+
+/// The time that a line tells, if its first word is one.
+#[tactic(auto, unfolding(crate::specs::Log::time_in))]
+fn time_in(words: Words<'_>) -> Option<u64>
+    ensures { result ≡ log.time_in (lexical.words words.entry.rest.now) }
+{
+    let mut rest = words;
+    match rest.next_word() {
+        Some(word) if is_time(word) => time_of(&word[1..]),
+        _ => None,
+    }
 }
 
 /// The words of a line without its time, which may stand first.
@@ -73,14 +155,19 @@ fn sends(connection: Connection, message: ArrayVec<u8, 64>) -> Said
     }
 }
 
-/// A message or an end of a connection.
+/// A message or an end of a connection at this time.
 #[tactic(auto, unfolding(crate::specs::Log::happens_on))]
-fn happens_on(connection: Connection, mut words: Words<'_>) -> Result<Said, Cause>
-    ensures { result ≡ log.happens_on connection (lexical.words words.entry.rest.now) }
+fn happens_on(
+    time: Option<u64>,
+    connection: Connection,
+    mut words: Words<'_>,
+) -> Result<Said, Cause>
+    ensures { result ≡ log.happens_on time connection (lexical.words words.entry.rest.now) }
 {
     let word = words.next_field()?;
     if word == b"send".as_slice() {
-        Ok(Said::Happens(Moment::Message(connection, packet(words)?)))
+        let message = packet(words)?;
+        Ok(Said::Happens(Moment::Message(connection, message, time)))
     } else if word == b"end".as_slice() {
         Ok(sends(connection, packet(words)?))
     } else {
@@ -97,22 +184,22 @@ fn only_number(words: Words<'_>) -> Result<u32, Cause>
 
 /// What the words of a line say, behind its time.
 #[tactic(auto, unfolding(crate::specs::Log::said_by))]
-fn said_by(words: Words<'_>) -> Result<Said, Cause>
-    ensures { result ≡ log.said_by (lexical.words words.entry.rest.now) }
+fn said_by(time: Option<u64>, words: Words<'_>) -> Result<Said, Cause>
+    ensures { result ≡ log.said_by time (lexical.words words.entry.rest.now) }
 {
     let mut rest = words;
     let Some(word) = rest.next_word() else {
         return Ok(Said::Nothing);
     };
     if word == b"second".as_slice() {
-        happens_on(Connection::Second, rest)
+        happens_on(time, Connection::Second, rest)
     } else if word == b"reset".as_slice() {
         rest.none()?;
         Ok(Said::Happens(Moment::Reset))
     } else if word == b"credits".as_slice() {
         Ok(Said::Credits(only_number(rest)?))
     } else {
-        happens_on(Connection::First, words)
+        happens_on(time, Connection::First, words)
     }
 }
 
@@ -123,7 +210,7 @@ pub fn line_says(number: u32, line: &[u8]) -> Result<Said, ScriptFault>
     ensures { result ≡ in_line number (log.line_says number line.now) }
 {
     let words = words_of(number, line)?;
-    match said_by(without_time(words)) {
+    match said_by(time_in(words), without_time(words)) {
         Ok(said) => Ok(said),
         Err(cause) => Err(ScriptFault {
             line: number,

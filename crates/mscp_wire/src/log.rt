@@ -4,14 +4,11 @@ ghost use Rattle.std.specs.Prelude.{◌≡◌, ◌≤◌, ◌<◌, ◌+◌, OnOk
 ghost use Rattle.mscp_reader.specs.Lexical as lexical;
 ghost use Rattle.mscp_wire.specs.Right.{IsRightLog, IsRightVerdict, Means};
 ghost use Rattle.mscp_wire.specs.Totals.{IsFew};
-ghost use Rattle.mscp_wire.specs.Log.{Log, Goes, IsAfter, Judges, after_line, after_lines, after_log, after_said, answered_by, command_of, nothing};
+ghost use Rattle.mscp_wire.specs.Log.{Log, Goes, IsAfter, Judges, after_line, after_lines, after_log, after_said, nothing};
 
-use crate::answer::{Answer, is_long};
-use crate::falls::fall_after;
-use crate::judge::{Judge, command_at};
+use crate::judge::{Judge, Stepped};
 use crate::line::{Said, line_says};
 use crate::moment::Moment;
-use crate::outstanding::place_of;
 use crate::sent::Sent;
 use crate::totals::Totals;
 use crate::wrong::Wrong;
@@ -32,31 +29,6 @@ pub enum Verdict<A: Allocator> {
 pub struct Reading<A: Allocator> {
     pub judge: Judge<A>,
     pub totals: Totals,
-}
-
-/// The outstanding command that an end in these bytes answers, if there is one.
-fn answered_by(commands: &[Sent], answer: &Answer) -> Option<Sent>
-    ensures { result ≡ answered_by commands.now answer.now }
-{
-    match place_of(commands, answer) {
-        Some(place) => Some(command_at(commands, place)),
-        None => None,
-    }
-}
-
-/// The command that a moment sends, or the outstanding one that it answers, if there is one.
-fn command_of(commands: &[Sent], moment: &Moment) -> Option<Sent>
-    ensures { result ≡ command_of commands.now moment.now }
-{
-    match moment {
-        Moment::Message(connection, message) if message.len() >= 12 => {
-            Some(Sent::of(*connection, message.as_slice()))
-        }
-        Moment::End(connection, message) if is_long(message.as_slice()) => {
-            answered_by(commands, &Answer::of(*connection, message.as_slice()))
-        }
-        _ => None,
-    }
 }
 
 impl<A: Allocator + Copy> Reading<A> {
@@ -94,9 +66,12 @@ impl<A: Allocator + Copy> Reading<A> {
             → Goes number (after_said number log (Said.Happens moment)) result self.new }
         ensures few { OnOk result (IsFew self.new.totals (number + 1)) }
     {
-        let command = command_of(self.judge.commands.as_slice(), &moment);
-        let fall = fall_after(self.judge.commands.as_slice(), &moment);
-        match self.judge.step(&moment)? {
+        let Stepped {
+            rule,
+            command,
+            fall,
+        } = self.judge.step(&moment)?;
+        match rule {
             Some(rule) => Ok(Some(Wrong {
                 line: number,
                 rule,
@@ -155,10 +130,11 @@ fn judge_lines<A: Allocator + Copy>(
     let Judge {
         credits: _,
         controller: _,
+        timeout: _,
         units: _,
         commands,
     } = judge;
-    Ok(Verdict::Right(totals, commands))
+    Ok(Verdict::Right(totals, commands.into_list()))
 }
 
 /// What is said of a log.

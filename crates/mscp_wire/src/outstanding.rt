@@ -1,6 +1,6 @@
 // The commands that are outstanding, oldest first, and what an end owes to them.
 
-ghost use Rattle.std.specs.Prelude.{◌≡◌, ◌<◌, ◌≤◌, length, find, IfSome, option_copied};
+ghost use Rattle.std.specs.Prelude.{◌≡◌, ◌<◌, ◌≤◌, length, IfSome};
 ghost use Rattle.std.specs.List.{list_any};
 ghost use Rattle.mscp_wire.specs.Wire as wire;
 
@@ -17,21 +17,23 @@ pub fn has_named(commands: &[Sent], connection: Connection, reference: u32) -> b
         .any(|command| command.is_named(connection, reference))
 }
 
-/// The first of the commands that has this reference number on this connection.
-pub fn find_named(commands: &[Sent], connection: Connection, reference: u32) -> Option<&Sent>
-    ensures { option_copied result ≡ find (wire.is_named connection reference) commands.now }
+/// The command at a place.
+pub fn command_at(commands: &[Sent], place: usize) -> Sent
+    requires { place < length commands.now }
+    ensures { result ≡ wire.command_at commands.now place }
 {
-    commands
-        .iter()
-        .find(|command| command.is_named(connection, reference))
+    commands[place]
 }
 
-/// Where the command that an end answers stands, if it does.
-pub fn place_of(commands: &[Sent], answer: &Answer) -> Option<usize>
-    ensures place { result ≡ wire.place_of commands.now answer.now }
-    ensures bound { IfSome result (λ i. i < length commands.now) }
+/// The same, if there is one.
+pub fn command_at_place(commands: &[Sent], place: Option<usize>) -> Option<Sent>
+    requires { IfSome place (λ i. i < length commands.now) }
+    ensures { result ≡ wire.command_at_place commands.now place }
 {
-    commands.iter().position(|command| command.is_named(answer.connection, answer.reference))
+    match place {
+        Some(place) => Some(command_at(commands, place)),
+        None => None,
+    }
 }
 
 /// How many of the commands are of a connection.
@@ -89,9 +91,13 @@ fn is_apart(code: u16) -> bool
 }
 
 /// Whether one of the earlier commands keeps this one back.
+#[tactic(auto, using(crate::proofs::Names::none_kept_back))]
 fn is_kept_back(earlier: &[Sent], command: &Sent) -> bool
     ensures { result ≡ list_any (wire.keeps_back command.now) earlier.now }
 {
+    if !is_sequential(command.opcode) && !is_ordered(command.opcode) {
+        return false;
+    }
     earlier.iter().any(|other| keeps_back(command, other))
 }
 

@@ -5,7 +5,8 @@ ghost use Rattle.std.specs.List.{list_any};
 ghost use Rattle.mscp_wire.specs.Wire as wire;
 
 use crate::answer::{Answer, STATUS, is_it};
-use crate::outstanding::{find_named, has_named};
+use crate::commands::Commands;
+use crate::outstanding::has_named;
 use crate::sent::{Asked, Sent, is_immediate};
 use mscp_drive::Connection;
 use std::alloc::Allocator;
@@ -47,14 +48,36 @@ fn is_oldest(commands: &[Sent], command: &Sent) -> bool
         )
 }
 
+/// Whether a poll of this time comes sooner than a controller timeout of so many seconds after one of that time. It
+/// isn't known if a time isn't, or if no timeout was told.
+fn is_hasty(timeout: Option<u16>, last: Option<u64>, time: Option<u64>) -> bool
+    ensures { result ≡ wire.is_hasty timeout last time }
+{
+    match (timeout, last, time) {
+        (Some(timeout), Some(last), Some(time)) => {
+            time.saturating_sub(last) < u64::from(timeout) * 1_000_000_000
+        }
+        _ => false,
+    }
+}
+
+/// Whether a poll of a command may ask it for its figure.
+fn may_ask(timeout: Option<u16>, commands: &[Sent], poll: &Sent, command: &Sent) -> bool
+    ensures { result ≡ wire.may_ask timeout commands.now poll.now command.now }
+{
+    command.unit == poll.unit
+        && is_oldest(commands, command)
+        && !is_hasty(timeout, command.polled, poll.time)
+}
+
 /// What a poll asks of the command that has the number which it names, if there is one.
-fn asked_about(commands: &[Sent], poll: &Sent, named: Option<Sent>) -> Asked
-    ensures { result ≡ wire.asked_about commands.now poll.now named }
+fn asked_about(timeout: Option<u16>, commands: &[Sent], poll: &Sent, named: Option<Sent>) -> Asked
+    ensures { result ≡ wire.asked_about timeout commands.now poll.now named }
 {
     match named {
         None => Asked::Gone(Some(0)),
         Some(command) => {
-            if command.unit == poll.unit && is_oldest(commands, &command) {
+            if may_ask(timeout, commands, poll, &command) {
                 Asked::Oldest(command.told)
             } else {
                 Asked::Nothing
@@ -64,24 +87,33 @@ fn asked_about(commands: &[Sent], poll: &Sent, named: Option<Sent>) -> Asked
 }
 
 /// The same by that number. Of itself a poll may tell any.
-fn asked_by(commands: &[Sent], poll: &Sent, named: Option<u32>) -> Asked
-    ensures { result ≡ wire.asked_by commands.now poll.now named }
+fn asked_by<A: Allocator + Copy>(
+    timeout: Option<u16>,
+    commands: &Commands<A>,
+    poll: &Sent,
+    named: Option<u32>,
+) -> Asked
+    ensures { result ≡ wire.asked_by timeout commands.now poll.now named }
 {
     match named {
         Some(other) if other != poll.reference => {
-            let command = find_named(commands, poll.connection, other).copied();
-            asked_about(commands, poll, command)
+            let command = commands.find_named(poll.connection, other);
+            asked_about(timeout, commands.as_slice(), poll, command)
         }
         _ => Asked::Nothing,
     }
 }
 
-/// A command, once it is known what it asks as a poll of those that are outstanding.
-pub fn asking(commands: &[Sent], command: &Sent) -> Sent
-    ensures { result ≡ wire.asking commands.now command.now }
+/// A command, once it is known what it asks as a poll of those that are outstanding, by the controller timeout.
+pub fn asking<A: Allocator + Copy>(
+    timeout: Option<u16>,
+    commands: &Commands<A>,
+    command: &Sent,
+) -> Sent
+    ensures { result ≡ wire.asking timeout commands.now command.now }
 {
     let asked = if command.opcode == STATUS {
-        asked_by(commands, command, command.parameter)
+        asked_by(timeout, commands, command, command.parameter)
     } else {
         Asked::Nothing
     };
@@ -133,7 +165,7 @@ pub fn has_figure(later: &[Sent], poll: &Sent, answer: &Answer, polled: Option<u
 }
 
 /// Whether a poll asks of the oldest command.
-fn asks_oldest(asked: Asked) -> bool
+pub fn asks_oldest(asked: Asked) -> bool
     ensures { result ≡ wire.asks_oldest asked }
 {
     matches!(asked, Asked::Oldest(_))
@@ -179,10 +211,10 @@ fn left(asked: Asked) -> Asked
 fn heard(ended: &Sent, answer: &Answer, other: &Sent) -> Sent
     ensures { result ≡ wire.hears ended.now answer.now other.now }
 {
-    let told = if tells(ended, answer, other) {
-        answer.figure
+    let (told, polled) = if tells(ended, answer, other) {
+        (answer.figure, ended.time)
     } else {
-        other.told
+        (other.told, other.polled)
     };
     let asked = if polls(ended, other) {
         left(other.asked)
@@ -191,6 +223,7 @@ fn heard(ended: &Sent, answer: &Answer, other: &Sent) -> Sent
     };
     Sent {
         told,
+        polled,
         asked,
         ..*other
     }

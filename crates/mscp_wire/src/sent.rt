@@ -34,8 +34,12 @@ pub struct Sent {
     /// The number in bytes 12 to 15, if the message has them: of an ABORT and a GET COMMAND STATUS the reference number of the
     /// command that they are about, of a transfer how many bytes are to be moved.
     pub parameter: Option<u32>,
+    /// When it was sent, in nanoseconds, if that is told.
+    pub time: Option<u64>,
     /// The figure that was last told of it by a poll of the oldest command, if one was.
     pub told: Option<u32>,
+    /// When that poll was sent, if that is told.
+    pub polled: Option<u64>,
     /// What it asks of another command, if it is a poll.
     pub asked: Asked,
 }
@@ -83,7 +87,9 @@ impl Sent {
             next: asks_for_next(b),
             modified: is_modified(b),
             parameter: four_in(b, 12),
+            time: None,
             told: None,
+            polled: None,
             asked: Asked::Nothing,
         }
     }
@@ -164,5 +170,9 @@ fn least_message(opcode: u8) -> usize
     if opcode == 4 {
         return 14;
     }
-    if is_transfer(opcode) { 32 } else { 12 }
+    if is_transfer(opcode) || opcode == 20 {
+        32
+    } else {
+        12
+    }
 }

@@ -46,6 +46,16 @@ pub fn later_of(new: Option<u64>, known: Option<u64>) -> Option<u64>
     }
 }
 
+/// The same of two timeouts.
+pub fn later_time(new: Option<u16>, known: Option<u16>) -> Option<u16>
+    ensures { result ≡ wire.later_of new known }
+{
+    match new {
+        Some(new) => Some(new),
+        None => known,
+    }
+}
+
 impl Seen {
     /// Whether an end tells the identifier of the controller that was told.
     pub fn is_same_controller(&self, answer: &Answer) -> bool

@@ -56,7 +56,7 @@ fn is_poll(moment: &Moment) -> bool
     ensures { result ≡ total.is_poll moment.now }
 {
     match moment {
-        Moment::Message(_, message) => message.len() > 8 && message.as_slice()[8] == 2,
+        Moment::Message(_, message, _) => message.len() > 8 && message.as_slice()[8] == 2,
         _ => false,
     }
 }
@@ -99,7 +99,7 @@ fn opcode_sent(moment: &Moment) -> Option<usize>
     ensures bound { IfSome result (λ opcode. opcode < 256) }
 {
     match moment {
-        Moment::Message(_, message) if message.len() >= 12 => {
+        Moment::Message(_, message, _) if message.len() >= 12 => {
             Some(usize::from(message.as_slice()[8]))
         }
         _ => None,

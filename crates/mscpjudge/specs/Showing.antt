@@ -45,7 +45,7 @@ sent_text via b = connection_name via ++ codes "controller: " ++ bytes_text b
 
 -- what happened: what a host or the controller sent, or a reset
 abbrev pub moment_text : Moment → List ℕ
-moment_text (moments.Message via b) = connection_name via ++ codes "host: " ++ bytes_text b.items
+moment_text (moments.Message via b time) = connection_name via ++ codes "host: " ++ bytes_text b.items
 moment_text (moments.End via b) = sent_text via b.items
 moment_text moments.Reset = codes "reset\n"
 

@@ -52,7 +52,7 @@ fn put_moment(alloc: Global, text: &mut Vec<u8>, moment: &Moment) -> Result<(), 
     ensures { OnOk result (text.new.items ≡ text.old.items ++ moment_text moment.now) }
 {
     match moment {
-        Moment::Message(connection, message) => {
+        Moment::Message(connection, message, _) => {
             put(text, connection_name(*connection))?;
             put(text, "host: ")?;
             put_packet(alloc, text, message.as_slice())

@@ -5,10 +5,10 @@ use Rattle.mscp_wire.proofs.judge.Judge.end.Goals as goal
 
 pub returns-in_ok-ended-clause-rule : goal.returns-in_ok-ended-clause-rule
 returns-in_ok-ended-clause-rule g c =
-    ended_rule c.args.bytes.now c.args.self.now.commands.items _ (kept c.args.self.now.units)
-    c.args.self.now.controller c.args.connection _ _ _
-    (sym c.is_long.ensures ∙ c.if-not-is_long.false) c.of-answer.ensures c.told.ensures c.as_slice.ensures.value
-    c.broken_answer-broken.ensures
+    ended_rule c.args.bytes.now c.args.self.now.commands _ (kept c.args.self.now.units)
+    c.args.self.now.controller c.args.connection _ _ _ _
+    (sym c.is_long.ensures ∙ c.if-not-is_long.false) c.of-answer.ensures c.told.ensures c.as_slice-2.ensures
+    c.place_of-place.ensures.place c.broken_answer-rule.ensures
 
 pub returns-in_ok-ended-clause-units : goal.returns-in_ok-ended-clause-units
 returns-in_ok-ended-clause-units g c = λ none via unit.
@@ -17,7 +17,7 @@ returns-in_ok-ended-clause-units g c = λ none via unit.
 
 pub returns-else-is_none-clause-rule : goal.returns-else-is_none-clause-rule
 returns-else-is_none-clause-rule g c =
-    ended_rule c.args.bytes.now c.args.self.now.commands.items _ (kept c.args.self.now.units)
-    c.args.self.now.controller c.args.connection _ _ _
-    (sym c.is_long.ensures ∙ c.if-not-is_long.false) c.of-answer.ensures c.told.ensures c.as_slice.ensures.value
-    c.broken_answer-broken.ensures
+    ended_rule c.args.bytes.now c.args.self.now.commands _ (kept c.args.self.now.units)
+    c.args.self.now.controller c.args.connection _ _ _ _
+    (sym c.is_long.ensures ∙ c.if-not-is_long.false) c.of-answer.ensures c.told.ensures c.as_slice-2.ensures
+    c.place_of-place.ensures.place c.broken_answer-rule.ensures

@@ -7,5 +7,12 @@ returns-clause-after g c = λ log s. (
   record log { credits = Some c.args.credits },
   credits_told c.args.number c.args.credits log _ _ _ s.credits c.is_some.ensures c.if-is_some.false s.totals
       c.if-self-ne0.false,
-  record { credits = refl; commands = s.commands; units = s.units; controller = s.controller; totals = s.totals },
+  record {
+    credits = refl;
+    commands = s.commands;
+    units = s.units;
+    controller = s.controller;
+    timeout = s.timeout;
+    totals = s.totals;
+  },
 )

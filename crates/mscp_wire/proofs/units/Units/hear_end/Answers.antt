@@ -1,4 +1,4 @@
-use Rattle.std.proofs.Common.{sym, ap, ◌∙◌}
+use Rattle.std.proofs.Common.{ap, ◌∙◌}
 use Rattle.mscp_wire.specs.Wire.{after_other, after_own, kept}
 use Rattle.mscp_wire.proofs.Keys.{heard_end}
 use Rattle.mscp_wire.proofs.units.Units.hear_end.Goals as goal
