@@ -28,6 +28,7 @@ impl Controller {
     /// [`Error::ManyUnits`], those of the first unit that has one ([`Error::ZeroTrack`] to [`Error::ZeroSize`]),
     /// [`Error::UnitsFall`], [`Error::NoUnits`], and those of the limits ([`Error::BadCredits`] to [`Error::BadBound`]). Or
     /// [`Error::NoHandle`] if the library doesn't fit.
+    #[inline] // else it would be moved once more, on the stack
     pub fn new(limits: &Limits, units: &[Unit], picker: Picker) -> Result<Self, Error> {
         let mut it = Self(Held::room(raw::ROOM));
         it.init(limits, units, picker)?;

@@ -52,6 +52,7 @@ impl Port {
     ///
     /// # Errors
     /// Those of a controller, and [`Error::BadHostCredits`].
+    #[inline] // else it would be moved once more, on the stack
     pub fn new(
         limits: &Limits,
         units: &[Unit],
