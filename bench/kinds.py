@@ -23,6 +23,7 @@ KINDS = {
     "found": "a search that finds nothing, of what is there",
     "again": "what was asked before, answered otherwise",
     "begun": "a block that a script's controller has begun and not ended",
+    "fresh": "what a controller had before it is restored, which is new",
 }
 FUNCTION = re.compile(r"^(static|APART|u?int[0-9]+_t|size_t) .*\(.*[^;]$")
 LABEL = re.compile(r"^(L[0-9]+):;?$")
@@ -47,7 +48,11 @@ ONLY = tuple(
         # Bytes one of which was seen to be a line feed.
         ("found", "Lines_cut", r"^if \(v\d+ != 0ull\) goto", r"<< 48\);$", 1),
         ("found", "Lines_cut", r"== 10u\) goto", r"^v\d+ = v\d+ \+ v\d+;$", 1),
+        # No drive, of which there is at least that of the command that leaves.
+        ("found", "Controller_finish|Run_steps|export_mscp_step", r"^if \(\(u32\)\(v\d+ == 0\) == 0\) goto", r"^s1\(.*, 0u\);$", 1),
         # The cheapest of some costs, and the nearest of some commands.
+        # What was begun, which waits.
+        ("found", "Queue_restore", r"<= 63ull\) goto", r"= ctz64\(", 1),
         ("found", "SweepPicker_pick", r"== 0\) goto", r">> 56\)", 3),
         ("found", "start_best_place", r"^if \((v\d+ < v\d+|v\d+ != 512ull|\(u32\)\(v\d+ == 0\) == 0)\) goto", "", 0),
         # How long a word is whose form is looked for by its length, and whose letters were compared one by one.
@@ -59,18 +64,24 @@ ONLY = tuple(
         ("again", "Port_(finish|see_text)", r"^if \(v\d+ >= v\d+\) goto", r"^if \(v\d+ < v\d+\) goto", 1),
         # The size of a text that is restored; the digits and the units of a script; the head of a saved account.
         ("again", "codes_task_in", r"\(v\d+ \+ 0xFFFFFFF4u\) <= 52u\) goto", "", 0),
-        ("again", "reported_run_events", r"^if \(l1\(v\d+ \+ \d+\)\) goto", r"^decoding_decode\(", 1),
+        ("again", "Run_send_packet", r"^if \(l1\(v\d+ \+ \d+\)\) goto", r"^decoding_decode\(", 1),
         ("again", "export_mscp_run_script_at", r"^if \(l1\(v\d+ \+ \d+\)\) goto", r"^Units_new\(", 1),
         ("again", "export_mscp_driver_restore_at", r"^if \(l1\(v\d+ \+ \d+\) != \(v\d+ & 255u\)\) goto", "", 0),
         # Whether a poll is in flight, where its end was heard; which picker it is that is shown all; which command is answered.
         ("again", "Host_hear", r"^if \(l1\(v\d+ \+ \d+ull\) != 1u\) goto", r"^L\d+:;$", 1),
         ("again", "start_picked_place", r"^if \(l1\(v\d+\)\) goto", r"^copy\(", 1),
-        ("again", "(Run|Controller)_send", r"^if \(v\d+\) goto", r"^s4_4\(v\d+ \+ 180, l4_4\(v\d+ \+ 120\)\);$", 2),
+        ("again", "Controller_(send|arrive)", r"^if \((v\d+|\(v\d+ & 255u\)) == 0\) goto", r"^s4_4\(v\d+ \+ \d+, l4_4\(v\d+ \+ \d+\)\);$", 1),
+        # A script's units, each of which was judged as it was read.
+        ("again", "Units_new", r"^if \((l2_2\(v\d+\) <= l2_2\(v\d+\)|\(u32\)\(v\d+ == 0\) == 0|v\d+ > 16ull)\) goto", "", 0),
         # Which stage of a port it is that has a word.
         ("again", "export_mscp_port_(save_at|state)", r"^case 1: case 9: goto", "", 0),
         # An ONLINE that was answered at once, and so was refused.
         ("order", "Port_see_text", r"\| 256u\) != 256u\) goto", "", 0),
-        ("begun", "Run_(send|steps)", r"^if \(l1\(v\d+\) != 1u\) goto", "", 0),
+        # How many units bytes have that were judged before.
+        ("again", "restoring_saved_settings", r"^if \(\(u32\)\(v\d+ == 0\) == 0\) goto", r"^v\d+ = l8_8\(", 1),
+        ("fresh", "Queue_restore", r"^if \(v\d+\) goto", r"^v\d+ = v\d+ == 0;$", 1),
+        ("fresh", "Accounts_restore", r"^if \(v\d+ == 0\) goto", r"^v\d+ = l8_8\(v0 \+ \d+ull\);$", 1),
+        ("begun", "Run_steps|Controller_arrive", r"^if \(l1\(v\d+\) != 1u\) goto", "", 0),
         ("room", "Host_save", r"^if \(v\d+ >= 4ull\) goto", r"^v\d+ = v\d+ \+ 0xFFFFFFFFFFFFF[0-9A-F]{3}ull;$", 16),
     )
 )
@@ -79,11 +90,10 @@ SOUGHT = tuple(
     (re.compile(f"^({names})$"), re.compile(what))
     for names, what in (
         # A unit that the controller has.
-        ("(Run|Controller)_send|Queue_restore|Port_(part|finish|see_text)|port_turning_tell_next|export_mscp_port_volume_came",
+        ("Controller_(send|arrive)|Queue_restore|Port_(part|finish|see_text)|port_turning_tell_next|export_mscp_port_volume_came",
          r"^if \(l2_2\(v\d+( \+ v\d+)?\) [!=]= \(v\d+ & 65535u\)\) goto"),
         # A command that is outstanding, and one that waits.
         ("Host_hear|export_mscp_driver_hear_at", r"^if \(l4_4\(v\d+( \+ 0x[0-9A-F]+ull)?\) [!=]= v\d+\) goto"),
-        ("Queue_restore", r"^if \(l4\(v\d+ \+ 4ull\) != v\d+\) goto"),
         # A word of a line that has one.
         ("export_mscp_run_script_at|header_(add_unit|read_setting)", r" == 32u\) goto"),
     )
