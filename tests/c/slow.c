@@ -4,12 +4,14 @@
  *
  *     slow [BLOCKS [SEED]]
  *
- * Prints what is wrong, and ends with 1 where something is. */
+ * Prints what is wrong, and ends with 1 where something is. It moves 100,000 blocks if none are said, and fewer if 20 seconds go
+ * by: on a busy machine each block waits for a processor. */
 #include "machine.h"
 #include "../../examples/threaded.h"
 #include <sched.h>
+#include <time.h>
 
-enum { AREA = 0x1000, DATA = 0x4000, SLOTS = 12, MOST = 3, VOLUMES = 2, MAYBE = 6, ABORT_NUMBER = 200, WORDS = MSCP_BLOCK / 4 };
+enum { AREA = 0x1000, DATA = 0x4000, SLOTS = 12, MOST = 3, VOLUMES = 2, MAYBE = 6, ABORT_NUMBER = 200, WORDS = MSCP_BLOCK / 4, SECONDS = 20 };
 
 static struct port port;
 static struct disk disk;
@@ -268,7 +270,7 @@ int main(int words, char **word)
     is("a volume", insert(0, 0), MSCP_DONE);
     is("another", insert(2, 0), MSCP_DONE);
     begin_anew();
-    while (machine.transfers < most && wrong == 0) {
+    for (time_t begun = time(NULL); machine.transfers < most && time(NULL) - begun < SECONDS && wrong == 0;) {
         switch (below(2000)) {
         case 0: begin_anew(); break;
         case 1: exchange((uint16_t)(2 * below(2))); break;
