@@ -18,7 +18,7 @@ use Rattle.mscp_shown.proofs.Counts.{each_counted, some_place}
 use Rattle.mscp_shown.proofs.Owed.{one_if, owed, owed_took, untaken_took}
 use Rattle.mscp_drive.specs.Settings.{unit_shape}
 use Rattle.mscp_shown.proofs.Identity.{IsTold, is_told, same_right, told_more}
-use Rattle.mscp_shown.proofs.Keeping.{Keeps}
+use Rattle.mscp_shown.proofs.Suited.{Keeps}
 use Rattle.mscp_shown.proofs.Owners.{Fits, IsOwed, IsOwn, every_drop, message, only_after, untold}
 use Rattle.mscp_shown.proofs.Owning.{Owners, waits_more}
 use Rattle.mscp_shown.proofs.Reading.{IsFit, reads}

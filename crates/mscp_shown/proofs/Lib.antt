@@ -11,6 +11,7 @@ mod Saying
 mod Identity
 mod Telling
 mod Reading
+mod Suited
 mod Keeping
 mod Suiting
 mod Owners

@@ -7,7 +7,7 @@ use Rattle.mscp_wire.specs.Wire as wire
 use Rattle.mscp_wire.specs.declared.answer.Answer.{Answer}
 use Rattle.mscp_wire.specs.declared.sent.Sent.{Sent}
 use Rattle.mscp_shown.proofs.Strict.{after_end, hears}
-use Rattle.mscp_shown.proofs.Keeping.{Keeps}
+use Rattle.mscp_shown.proofs.Suited.{Keeps}
 use Rattle.mscp_shown.proofs.Polling.{poll_of}
 use Rattle.mscp_shown.proofs.Messages.{IsTallied, new_number, owed_is}
 use Rattle.mscp_shown.proofs.Counts.{none_passes}

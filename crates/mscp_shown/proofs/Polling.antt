@@ -16,7 +16,7 @@ use Rattle.mscp_controller.specs.Outcomes.{answer_body, answer_status, outcome_o
 use Rattle.mscp_wire.specs.Wire.{is_known, is_refused, polled_by}
 use Rattle.mscp_wire.specs.declared.answer.Answer.{Answer}
 use Rattle.mscp_wire.specs.declared.sent.Sent.{Sent}
-use Rattle.mscp_shown.proofs.Keeping.{Suits}
+use Rattle.mscp_shown.proofs.Suited.{Suits}
 use Rattle.mscp_shown.proofs.Saying.{IsShort, Says}
 use Rattle.mscp_shown.proofs.Suiting.{refused_apart, valid_order}
 

@@ -19,7 +19,7 @@ use Rattle.mscp_wire.specs.Wire.{may_have}
 use Rattle.std.proofs.Common.{inl, inr}
 use Rattle.mscp_wire.specs.declared.sent.Sent.{Sent}
 use Rattle.mscp_shown.proofs.Saying.{Says}
-use Rattle.mscp_shown.proofs.Keeping.{IsFine, Suits}
+use Rattle.mscp_shown.proofs.Suited.{IsFine, Suits}
 
 -- an end suits the command that it ends
 pub record Ends (k : Command) (e : End) : Type 0 where
