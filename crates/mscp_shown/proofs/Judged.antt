@@ -7,10 +7,11 @@ use Rattle.std.proofs.lemmas.List.Sums.{fold_push}
 use Rattle.mscp_queue.proofs.Lists.{every_from, every_weaker, pairs_append}
 use Rattle.mscp_queue.proofs.Placed.{find_none}
 use Rattle.mscp_wire.specs.Wire as wire
-use Rattle.mscp_wire.specs.Wire.{History, IsRightMessage, Standing, answer_by, command_at, has_credit, is_below, is_immediate, is_named, is_polled, limit_of, moment_at, place_of, polled_by, same_connection, sent_by}
+use Rattle.mscp_wire.specs.Wire.{History, Standing, answer_by, command_at, has_credit, is_below, is_immediate, is_named, is_polled, limit_of, moment_at, place_of, polled_by, same_connection, sent_by}
 use Rattle.mscp_wire.specs.declared.answer.Answer.{Answer}
 use Rattle.mscp_wire.specs.declared.moment.Moment.{Moment}
 use Rattle.mscp_wire.specs.declared.moment.Moment.TheVariants as moments
+use Rattle.mscp_wire.specs.declared.rule.Rule.TheVariants as rules
 use Rattle.mscp_wire.specs.declared.sent.Asked.{Asked}
 use Rattle.mscp_wire.specs.declared.sent.Asked.TheVariants.{Gone, Nothing, Oldest}
 use Rattle.mscp_wire.specs.declared.sent.Sent.{Sent}
@@ -21,7 +22,7 @@ use Rattle.mscp_shown.proofs.Linking.{Alone, AsksOf, IsLow, Linked, asks_at, bel
 use Rattle.mscp_shown.proofs.Pairing.{pairs_out}
 use Rattle.mscp_shown.proofs.Shown.{placed}
 use Rattle.mscp_shown.proofs.Strict as strict
-use Rattle.mscp_shown.proofs.Strict.{hears, may_tell}
+use Rattle.mscp_shown.proofs.Strict.{IsRightMessage, hears, may_tell}
 
 -- ---- lists
 every_none : (q : Sent → Bool) (xs : List Sent) → list_any q xs ≡ false → AllByRecursion (λ x. q x ≡ false) xs
@@ -86,12 +87,10 @@ module _ (credits : Option ℕ) (xs ys : List Sent) (h : State xs ys) where
   new_same s =
       alike_any (is_named s.connection s.reference) (λ x y k. ap (is_named s.connection s.reference) k) xs ys alike
 
-  sent_right : (b : List ℕ) (s : Sent) → IsRightMessage credits xs b s → IsRightMessage credits ys b s
-  sent_right b s r = record {
-    message = r.message;
-    number = ap not (sym (new_same s)) ∙ r.number;
-    credit = sym (credit_same credits s) ∙ r.credit;
-  }
+  sent_right : (b : List ℕ) (s : Sent) → IsRightMessage credits xs b s
+      → wire.unless (wire.is_message b) rules.Message (wire.broken_message credits ys s) ≡ None
+  sent_right b s r =
+      rw (r.message, ap not (sym (new_same s)) ∙ r.number, sym (credit_same credits s) ∙ r.credit) refl
 
   sent_kept : (timeout time : Option ℕ) (b : List ℕ) (s : Sent) → IsRightMessage credits xs b s
       → State (xs ++ s ∷ []) (ys ++ wire.asking timeout ys (wire.timed time s) ∷ [])
@@ -252,53 +251,62 @@ module _ (xs ys : List Sent) (h : State xs ys) (u : Seen) (b : List ℕ) (e : An
   figure_right None q k = refl
   figure_right (Some n) q k = tells_right n (polled_parameter y e n (asks ∙ q)) e.figure y.asked asked_here k
 
+  place_same : place_of ys e ≡ Some i
+  place_same =
+      sym (alike_position (is_named e.connection e.reference)
+      (λ s t k. ap (is_named e.connection e.reference) k) xs ys both) ∙ r.outstanding
+
+  aborted_right : wire.has_abort (drop (i + 1) ys) y e ≡ true
+  aborted_right =
+      ap (λ k. not (nat_eq (wire.status_code e) 2) || k)
+      (sym (alike_any (wire.aborts y) (λ s t k. ap (wire.aborts y) k) (drop (i + 1) xs) (drop (i + 1) ys)
+      (alike_drop (i + 1) xs ys both)))
+      ∙ (ap (λ s. wire.has_abort (drop (i + 1) xs) s e) (sym same) ∙ r.aborted)
+
+  order_right : wire.passes_none (take i ys) y e ≡ true
+  order_right =
+      ap (λ k. wire.is_apart (wire.status_code e) || not k)
+      (sym (alike_any (wire.keeps_back y) (λ s t k. ap (wire.keeps_back y) k) (take i xs) (take i ys)
+      (alike_take i xs ys both)))
+      ∙ (ap (λ s. wire.passes_none (take i xs) s e) (sym same) ∙ r.order)
+
   end_right : wire.suits_state u.unit.state e ≡ true → wire.fits u.controller e.controller ≡ true
-      → wire.IsRightEnd ys u b e i
-  end_right stated known = record {
-    length = r.length;
-    outstanding =
-        sym (alike_position (is_named e.connection e.reference)
-        (λ s t k. ap (is_named e.connection e.reference) k) xs ys both) ∙ r.outstanding;
-    unit = ap (λ s. wire.names_unit s e) (sym same) ∙ r.unit;
-    endcode = ap (λ s. wire.has_endcode s e) (sym same) ∙ r.endcode;
-    status = ap (λ s. wire.has_status s e) (sym same) ∙ r.status;
-    aborted =
-        ap (λ k. not (nat_eq (wire.status_code e) 2) || k)
-        (sym (alike_any (wire.aborts y) (λ s t k. ap (wire.aborts y) k) (drop (i + 1) xs) (drop (i + 1) ys)
-        (alike_drop (i + 1) xs ys both)))
-        ∙ (ap (λ s. wire.has_abort (drop (i + 1) xs) s e) (sym same) ∙ r.aborted);
-    order =
-        ap (λ k. wire.is_apart (wire.status_code e) || not k)
-        (sym (alike_any (wire.keeps_back y) (λ s t k. ap (wire.keeps_back y) k) (take i xs) (take i ys)
-        (alike_take i xs ys both)))
-        ∙ (ap (λ s. wire.passes_none (take i xs) s e) (sym same) ∙ r.order);
-    success = ap (λ s. wire.succeeds e (wire.other_of s e)) (sym same) ∙ r.success;
-    about = ap (λ s. wire.is_about e (wire.other_of s e)) (sym same) ∙ r.about;
-    figure =
-        ap (wire.has_figure (drop (i + 1) ys) y e) asks ∙ figure_right p refl r.figure;
-    count = ap (λ s. wire.has_count e (wire.count_of s e)) (sym same) ∙ r.count;
-    identity = r.identity;
-    state = stated;
-    controller = known;
-  }
+      → wire.unless (wire.is_long b) rules.Length (wire.broken_at ys u e (place_of ys e)) ≡ None
+  end_right stated known =
+      rw (
+        place_same,
+        r.length,
+        ap (λ s. wire.names_unit s e) (sym same) ∙ r.unit,
+        ap (λ s. wire.has_endcode s e) (sym same) ∙ r.endcode,
+        ap (λ s. wire.has_status s e) (sym same) ∙ r.status,
+        aborted_right,
+        order_right,
+        ap (λ s. wire.succeeds e (wire.other_of s e)) (sym same) ∙ r.success,
+        ap (λ s. wire.is_about e (wire.other_of s e)) (sym same) ∙ r.about,
+        ap (wire.has_figure (drop (i + 1) ys) y e) asks ∙ figure_right p refl r.figure,
+        ap (λ s. wire.has_count e (wire.count_of s e)) (sym same) ∙ r.count,
+        r.identity,
+        stated,
+        known,
+      ) refl
 
 -- ---- a moment
 step : (credits timeout : Option ℕ) (xs ys : List Sent) (u : Seen) (m : Moment) → State xs ys
     → strict.IsRightAfter credits xs u m → strict.IsStated u m
-    → wire.IsRightAfter credits ys u m × State (strict.after xs m) (wire.after timeout ys m)
+    → (wire.broken credits ys u m ≡ None) × State (strict.after xs m) (wire.after timeout ys m)
 step credits timeout xs ys u (moments.Message via b time) h r stated = (
   sent_right credits xs ys h b.items (sent_by via b.items) r,
   sent_kept credits xs ys h timeout time b.items (sent_by via b.items) r,
 )
 step credits timeout xs ys u (moments.End via b) h r stated =
     let e = answer_by via b.items in
-    let right = end_right xs ys h u b.items e r.0 r.1 stated.0 stated.1 in (
-      (r.0, right),
+    let found = place_same xs ys h u b.items e r.0 r.1 in (
+      end_right xs ys h u b.items e r.0 r.1 stated.0 stated.1,
       subst (λ o. State (strict.after_end xs e o) (wire.after_end ys e (place_of ys e))) (sym r.1.outstanding)
-          (subst (λ o. State (strict.after_end xs e (Some r.0)) (wire.after_end ys e o)) (sym right.outstanding)
+          (subst (λ o. State (strict.after_end xs e (Some r.0)) (wire.after_end ys e o)) (sym found)
           (end_kept xs ys h u b.items e r.0 r.1)),
     )
-step credits timeout xs ys u moments.Reset h r stated = (tt, record { link = tt; alone = tt })
+step credits timeout xs ys u moments.Reset h r stated = (refl, record { link = tt; alone = tt })
 
 states : (credits : Option ℕ) (h : History) → strict.AreRight credits h → strict.AreStated h → (n : ℕ) → n ≤ length h
     → State (strict.outstanding (take n h)) (wire.outstanding (take n h))

@@ -4,7 +4,7 @@ use Rattle.std.proofs.lemmas.Bool.{le-leb}
 use Rattle.mscp_queue.proofs.Placed.{sum_by_map}
 use Rattle.mscp_controller.proofs.Promise.Arrivals.{IsTaken}
 use Rattle.mscp_packet.specs.Number.{num}
-use Rattle.mscp_wire.specs.Wire.{IsRightMessage, count_on, has_credit, has_one_of, is_immediate, is_named, limit_of, same_connection, sent_by}
+use Rattle.mscp_wire.specs.Wire.{count_on, has_credit, has_one_of, is_immediate, is_named, limit_of, same_connection, sent_by}
 use Rattle.mscp_wire.specs.declared.sent.Sent.{Sent}
 use Rattle.mscp_drive.specs.Settings.{IsValid}
 use Rattle.mscp_drive.specs.declared.connection.Connection.TheVariants.{First, Second}
@@ -12,6 +12,7 @@ use Rattle.mscp_shown.specs.Keeping.{Covers}
 use Rattle.mscp_shown.proofs.Counts.{all_pass, none_any, none_passes}
 use Rattle.mscp_shown.proofs.Owed.{owed}
 use Rattle.mscp_shown.proofs.Shown.{tally}
+use Rattle.mscp_shown.proofs.Strict.{IsRightMessage}
 
 -- the same commands are outstanding on the wire and in the trace, as far as their numbers tell
 abbrev pub IsTallied : Settings → Connection → Trace → List Sent → Type 0

@@ -4,7 +4,7 @@
 use Rattle.std.specs.Prelude.{◌≡◌, ℕ, ◌+◌, ◌<◌, Bool, true, false, nat_eq, nat_lt, ◌&&◌, ◌||◌, if◌then◌else◌, List, [], ◌∷◌, ◌++◌, length, map, find, take, drop, fold, Option, Some, None}
 use Rattle.std.specs.List.{list_any}
 use Rattle.mscp_wire.specs.Wire as wire
-use Rattle.mscp_wire.specs.Wire.{History, IsRightMessage, answer_by, command_at, is_below, is_immediate, is_named, place_of, polled_by, sent_by}
+use Rattle.mscp_wire.specs.Wire.{History, answer_by, command_at, is_below, is_immediate, is_named, place_of, polled_by, sent_by}
 use Rattle.mscp_wire.specs.declared.answer.Answer.{Answer}
 use Rattle.mscp_wire.specs.declared.moment.Moment.{Moment}
 use Rattle.mscp_wire.specs.declared.moment.Moment.TheVariants as moments
@@ -43,6 +43,12 @@ abbrev pub has_figure : List Sent → List Sent → Answer → Option ℕ → Bo
 has_figure xs earlier e None = true
 has_figure xs earlier e (Some other) =
     may_tell e.figure (list_any (is_named e.connection other) xs) (find (is_named e.connection other) earlier)
+
+-- a host's message keeps its rules
+pub record IsRightMessage (credits : Option ℕ) (xs : List Sent) (b : List ℕ) (s : Sent) : Type 0 where
+  pub message : wire.is_message b ≡ true
+  pub number : wire.is_new xs s ≡ true
+  pub credit : wire.has_credit credits xs s ≡ true
 
 -- an end keeps the rules: its command is at place i of those that are outstanding, and this was told of its unit
 pub record IsRightEnd (xs : List Sent) (was : Seen) (b : List ℕ) (e : Answer) (i : ℕ) : Type 0 where

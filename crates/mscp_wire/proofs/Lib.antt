@@ -1,7 +1,6 @@
 pub mod Counting
 pub mod Keys
 pub mod Hearing
-pub mod Rights
 pub mod Passing
 pub mod Meaning
 pub mod Wrongs

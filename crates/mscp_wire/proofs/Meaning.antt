@@ -10,7 +10,7 @@ use Rattle.mscp_reader.specs.Outcome.{in_line}
 use Rattle.mscp_reader.specs.declared.fault.Cause.{Cause}
 use Rattle.mscp_reader.specs.declared.fault.Cause.TheVariants as causes
 use Rattle.mscp_reader.specs.declared.fault.ScriptFault.{ScriptFault}
-use Rattle.mscp_wire.specs.Wire.{AreRight, History, IsRight, broken_by, controller, outstanding, seen_of, told as told_by}
+use Rattle.mscp_wire.specs.Wire.{AreRight, History, IsRight, broken_by}
 use Rattle.mscp_wire.specs.Log.{Log, after_line, after_lines, after_said, goes_on, is_fresh, line_says, with_moment}
 use Rattle.mscp_wire.specs.Right.{told, told_line, told_lines}
 use Rattle.mscp_wire.specs.declared.line.Said.{Said}
@@ -19,7 +19,6 @@ use Rattle.mscp_wire.specs.declared.moment.Moment.{Moment}
 use Rattle.mscp_wire.specs.declared.moment.Moment.TheVariants as moments
 use Rattle.mscp_wire.specs.declared.rule.Rule.{Rule}
 use Rattle.mscp_wire.specs.declared.wrong.Wrong.{Wrong}
-use Rattle.mscp_wire.proofs.Rights.{right_from_unbroken, unbroken_from_right}
 
 -- ---- histories
 
@@ -78,8 +77,7 @@ moment_kept n log next m None b h =
     record {
       told_is = ap Ok e;
       right = λ r. same_kept (record log { moments = log.moments ++ m ∷ [] }) next e
-          (right_more log.credits log.moments m r (right_from_unbroken log.credits (outstanding log.moments)
-          (seen_of (told_by log.moments) (controller log.moments) m) m b));
+          (right_more log.credits log.moments m r b);
     }
 moment_kept n log next m (Some rule) b h = cc
 
@@ -212,11 +210,7 @@ said_right n log next final (says.Happens m) h x r =
     x.moments ∙ ap (λ l. l.moments ++ x.rest) (sym e) ∙ append_assoc log.moments (m ∷ []) x.rest in
     let all : AreRight log.credits (log.moments ++ m ∷ x.rest) =
     subst (λ k. AreRight k (log.moments ++ m ∷ x.rest)) c (subst (λ t. AreRight final.credits t) h r) in
-    ap (λ p. Ok (with_moment n log m p))
-    (unbroken_from_right log.credits (outstanding log.moments)
-    (seen_of (told_by log.moments) (controller log.moments) m) m
-    (right_there log.credits log.moments m x.rest all))
-    ∙ ap (λ l. Ok (Ok l)) e
+    ap (λ p. Ok (with_moment n log m p)) (right_there log.credits log.moments m x.rest all) ∙ ap (λ l. Ok (Ok l)) e
 
 told_extends : (read : Result Log Cause) (n : ℕ) (log final : Log) (said : Said)
     (tell : Log → Result Log ScriptFault) → ((next : Log) → tell next ≡ Ok final → Extends next final)

@@ -306,38 +306,9 @@ broken_by credits h m = broken credits (outstanding h) (seen_of (told h) (contro
 
 -- ---- a moment that is right
 
--- a host's message keeps its rules
-pub record IsRightMessage (credits : Option ℕ) (xs : List Sent) (b : List ℕ) (s : Sent) : Type 0 where
-  pub message : is_message b ≡ true
-  pub number : is_new xs s ≡ true
-  pub credit : has_credit credits xs s ≡ true
-
--- an end keeps its rules: its command is at place i of those that are outstanding, and this is known of its unit
-pub record IsRightEnd (xs : List Sent) (was : Seen) (b : List ℕ) (e : Answer) (i : ℕ) : Type 0 where
-  pub length : is_long b ≡ true
-  pub outstanding : place_of xs e ≡ Some i
-  pub unit : names_unit (command_at xs i) e ≡ true
-  pub endcode : has_endcode (command_at xs i) e ≡ true
-  pub status : has_status (command_at xs i) e ≡ true
-  pub aborted : has_abort (drop (i + 1) xs) (command_at xs i) e ≡ true
-  pub order : passes_none (take i xs) (command_at xs i) e ≡ true
-  pub success : succeeds e (other_of (command_at xs i) e) ≡ true
-  pub about : is_about e (other_of (command_at xs i) e) ≡ true
-  pub figure : has_figure (drop (i + 1) xs) (command_at xs i) e (polled_by (command_at xs i) e) ≡ true
-  pub count : has_count e (count_of (command_at xs i) e) ≡ true
-  pub identity : is_same_unit was.unit e ≡ true
-  pub state : suits_state was.unit.state e ≡ true
-  pub controller : fits was.controller e.controller ≡ true
-
--- a moment is right, before which these are outstanding and this was told of its unit and the controller
-abbrev pub IsRightAfter : Option ℕ → List Sent → Seen → Moment → Type 0
-IsRightAfter credits xs unit (moments.Message via b time) = IsRightMessage credits xs b.items (sent_by via b.items)
-IsRightAfter credits xs unit (moments.End via b) = (i : ℕ) × IsRightEnd xs unit b.items (answer_by via b.items) i
-IsRightAfter credits xs unit moments.Reset = Unit {0}
-
--- a moment is right after a history
+-- a moment is right after a history: it breaks no rule
 abbrev pub IsRight : Option ℕ → History → Moment → Type 0
-IsRight credits h m = IsRightAfter credits (outstanding h) (seen_of (told h) (controller h) m) m
+IsRight credits h m = broken_by credits h m ≡ None
 
 -- the moment at a position. Past the end there is none that asks for anything
 abbrev pub moment_at : History → ℕ → Moment
